@@ -1,0 +1,46 @@
+-- Laws of the words for devices, for the crates above.
+use Rattle.std.specs.Prelude.{◌≡◌, ℕ, List, [], ◌++◌, Option, None, Some, refl}
+use Rattle.std.specs.Io.KnownBytes.{IsAtEnd, prepend_known, append_known, Appends, Keeps}
+use Rattle.std.proofs.Common.{sym, ◌∙◌, ap, append-nil, append_assoc}
+use Rattle.bk_base.specs.Devices.{NothingLeft, Begins}
+
+pub NothingLeft-at_end : (known : Option (List ℕ)) → IsAtEnd known → NothingLeft known
+NothingLeft-at_end None end bytes is = nothing bytes is
+  where
+    nothing : (bytes : List ℕ) → None ≡ Some bytes → bytes ≡ []
+    nothing bytes is = cc
+NothingLeft-at_end (Some all) end bytes is = cc
+
+-- where nothing stands in front
+pub NothingLeft-prepended : (known : Option (List ℕ)) (front : List ℕ) → front ≡ [] → NothingLeft known → NothingLeft (prepend_known front known)
+NothingLeft-prepended None front none left bytes is = cc
+NothingLeft-prepended (Some all) front none left bytes is = let same : all ≡ [] = left all refl in cc
+
+pub Begins-refl : (known : Option (List ℕ)) → Begins known known
+Begins-refl None = tt
+Begins-refl (Some bytes) = ([], sym (append-nil bytes))
+
+pub Begins-trans : (a b c : Option (List ℕ)) → Begins a b → Begins b c → Begins a c
+Begins-trans None b c p q = tt
+Begins-trans (Some x) None c p q = absurd p
+Begins-trans (Some x) (Some y) None p q = absurd q
+Begins-trans (Some x) (Some y) (Some z) p q = (p.0 ++ q.0, q.1 ∙ ap (λ l. l ++ q.0) p.1 ∙ append_assoc x p.0 q.0)
+
+pub Begins-Appends : (a b : Option (List ℕ)) (bytes : List ℕ) → Appends a b bytes → Begins a b
+Begins-Appends None b bytes p = tt
+Begins-Appends (Some x) None bytes p = absurd p
+Begins-Appends (Some x) (Some y) bytes p = (bytes, p)
+
+pub Begins-Keeps : (a b : Option (List ℕ)) → Keeps a b → Begins a b
+Begins-Keeps None b p = tt
+Begins-Keeps (Some x) None p = absurd p
+Begins-Keeps (Some x) (Some y) p = ([], p ∙ sym (append-nil x))
+
+pub Begins-append_known : (known : Option (List ℕ)) (bytes : List ℕ) → Begins known (append_known known bytes)
+Begins-append_known None bytes = tt
+Begins-append_known (Some all) bytes = (bytes, refl)
+
+-- what stands in front begins the whole
+pub Begins-prepend_known : (known : Option (List ℕ)) (front all : List ℕ) → prepend_known front known ≡ Some all → Begins (Some front) (Some all)
+Begins-prepend_known None front all is = cc
+Begins-prepend_known (Some bytes) front all is = let same : front ++ bytes ≡ all = cc in (bytes, sym same)

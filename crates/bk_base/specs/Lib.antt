@@ -1,0 +1,11 @@
+pub mod Word
+pub mod WordLaws
+pub mod Bounds
+pub mod SourceFault
+pub mod OcodeFault
+pub mod IntcodeFault
+pub mod Devices
+pub mod DeviceLaws
+pub mod BufferLaws
+pub mod Decimal
+pub mod DecimalLaws

@@ -1,0 +1,255 @@
+-- Settings of globals, and segments that are placed one after another.
+use Rattle.std.proofs.Common.{◌≡◌, ℕ, suc, ◌+◌, ◌-◌, ◌<◌, ◌≤◌, List, [], ◌∷◌, ◌++◌, length, get_or, set, take, drop, refl, sym, ap, ◌∙◌, arith, Some, map, length-append, append_assoc}
+use Rattle.std.specs.Prelude.{fold, slice_get, replicate}
+use Rattle.std.proofs.Math.Logic.{∥∥₁_elim}
+use Rattle.std.proofs.Math.Path.{fun_ext}
+use Rattle.std.proofs.Math.Bridge.{le_prop}
+use Rattle.std.proofs.lemmas.List.{take_more, drop_more, map_more, append-nil, drop_all, take_all, length-set, set-append_left, length-replicate}
+use Rattle.std.proofs.lemmas.List.Sums.{fold-append, fold_push}
+use Rattle.bk_intcode.specs.declared.item.Item.{Item}
+use Rattle.bk_intcode.specs.declared.item.Item.TheVariants.{Instruction, SetLabel, Byte, Word, LabelWord, SetGlobal, Frame, End}
+use Rattle.bk_intcode.specs.declared.segment.Intcode.{Intcode}
+use Rattle.bk_intcode.specs.Segment.{IsSegment}
+use Rattle.bk_intcode.specs.SegmentItems.{items_of}
+use Rattle.bk_intcode.specs.Placement.{Setting, SEGMENTS, start_words, library_words, library_settings, item_settings, segment_settings, all_settings, all_words, with_setting, segment_size, segment_words, label_number, stack_start, loaded_store}
+use Rattle.bk_intcode.specs.Placed.{placed}
+use Rattle.bk_intcode.proofs.Places.{got}
+use Rattle.bk_intcode.proofs.Reaching.{length-segment_words}
+
+segment_settings-append : (labels : ℕ → ℕ) (xs ys : List Item) → segment_settings labels (xs ++ ys) ≡ segment_settings labels xs ++ segment_settings labels ys
+segment_settings-append labels [] ys = refl
+segment_settings-append labels (x ∷ xs) ys =
+    ap (λ l. item_settings labels x ++ l) (segment_settings-append labels xs ys)
+    ∙ sym (append_assoc (item_settings labels x) (segment_settings labels xs) (segment_settings labels ys))
+
+-- one more item
+pub settings-more : (labels : ℕ → ℕ) (store : List ℕ) (items : List Item) (i : ℕ) (d : Item) → i < length items
+    → fold with_setting store (segment_settings labels (take (i + 1) items))
+    ≡ fold with_setting (fold with_setting store (segment_settings labels (take i items))) (item_settings labels (get_or items i d))
+settings-more labels store items i d within =
+    ap (λ l. fold with_setting store (segment_settings labels l)) (take_more items i d within)
+    ∙ ap (λ l. fold with_setting store l) (segment_settings-append labels (take i items) (get_or items i d ∷ []))
+    ∙ fold-append with_setting store (segment_settings labels (take i items)) (segment_settings labels (get_or items i d ∷ []))
+    ∙ ap (λ l. fold with_setting (fold with_setting store (segment_settings labels (take i items))) l) (append-nil (item_settings labels (get_or items i d)))
+
+pub length-settings : (store : List ℕ) (settings : List Setting) → length (fold with_setting store settings) ≡ length store
+length-settings store [] = refl
+length-settings store (s ∷ settings) = length-settings (with_setting store s) settings ∙ length-set store (16 + s.global) s.value
+
+-- the globals are in their range
+abbrev Bounded : List Setting → Type 0
+Bounded [] = Unit {0}
+Bounded (s ∷ settings) = (s.global ≤ 999) × Bounded settings
+
+bounded-append : (xs ys : List Setting) → Bounded xs → Bounded ys → Bounded (xs ++ ys)
+bounded-append [] ys hx hy = hy
+bounded-append (x ∷ xs) ys hx hy = (hx.0, bounded-append xs ys hx.1 hy)
+
+abbrev SetsGlobals : List Item → Type 0
+SetsGlobals items = (k number label : ℕ) → slice_get items k ≡ Some (SetGlobal number label) → number ≤ 999
+
+sets_globals : (segment : Intcode) → SetsGlobals (items_of segment)
+sets_globals segment = ∥∥₁_elim segment.whole (hlevel le_prop) (λ whole k number label at. (whole.in_range k (SetGlobal number label) at).0)
+
+bounded-segment : (labels : ℕ → ℕ) (items : List Item) → SetsGlobals items → Bounded (segment_settings labels items)
+bounded-segment labels [] within = tt
+bounded-segment labels (SetGlobal number l ∷ items) within = (within 0 number l refl, bounded-segment labels items (λ k. within (suc k)))
+bounded-segment labels (Instruction f i operand ∷ items) within = bounded-segment labels items (λ k. within (suc k))
+bounded-segment labels (SetLabel l ∷ items) within = bounded-segment labels items (λ k. within (suc k))
+bounded-segment labels (Byte b ∷ items) within = bounded-segment labels items (λ k. within (suc k))
+bounded-segment labels (Word w ∷ items) within = bounded-segment labels items (λ k. within (suc k))
+bounded-segment labels (LabelWord l ∷ items) within = bounded-segment labels items (λ k. within (suc k))
+bounded-segment labels (Frame n ∷ items) within = bounded-segment labels items (λ k. within (suc k))
+bounded-segment labels (End ∷ items) within = bounded-segment labels items (λ k. within (suc k))
+
+bounded-all : (start : ℕ) (segments : List Intcode) → Bounded (all_settings start (map items_of segments))
+bounded-all start [] = tt
+bounded-all start (s ∷ segments) =
+    bounded-append (segment_settings (label_number start (items_of s)) (items_of s)) (all_settings (start + segment_size (items_of s)) (map items_of segments))
+    (bounded-segment (label_number start (items_of s)) (items_of s) (sets_globals s))
+    (bounded-all (start + segment_size (items_of s)) segments)
+
+-- what lies behind the globals stays
+settings-behind : (store rest : List ℕ) (settings : List Setting) → 1016 ≤ length store → Bounded settings
+    → fold with_setting (store ++ rest) settings ≡ fold with_setting store settings ++ rest
+settings-behind store rest [] long within = refl
+settings-behind store rest (s ∷ settings) long within =
+    let bound : s.global ≤ 999 = within.0 in
+    let first : set (store ++ rest) (16 + s.global) s.value ≡ set store (16 + s.global) s.value ++ rest =
+    set-append_left store rest (16 + s.global) s.value (omega arith) in
+    ap (λ l. fold with_setting l settings) first
+    ∙ settings-behind (set store (16 + s.global) s.value) rest settings (omega (arith, length-set store (16 + s.global) s.value)) within.1
+
+pub length-placed : (store : List ℕ) (items : List Item) → length (placed store items) ≡ length store + segment_size items
+length-placed store items =
+    let labels = label_number (length store) items in
+    length-settings (store ++ segment_words labels items) (segment_settings labels items)
+    ∙ length-append store (segment_words labels items)
+    ∙ ap (λ n. length store + n) (length-segment_words labels items)
+
+-- placing segments one after another puts all their words behind the store, and sets all their globals
+placed-all : (store : List ℕ) (segments : List Intcode) → 1016 ≤ length store
+    → fold placed store (map items_of segments)
+    ≡ fold with_setting (store ++ all_words (length store) (map items_of segments)) (all_settings (length store) (map items_of segments))
+placed-all store [] long = sym (append-nil store)
+placed-all store (s ∷ segments) long =
+    let items = items_of s in
+    let labels = label_number (length store) items in
+    let words = segment_words labels items in
+    let settings = segment_settings labels items in
+    let after = length store + segment_size items in
+    let rest = all_words after (map items_of segments) in
+    let others = all_settings after (map items_of segments) in
+    let size : length (placed store items) ≡ after = length-placed store items in
+    let longer : 1016 ≤ length (placed store items) = omega arith in
+    let long_words : 1016 ≤ length (store ++ words) = omega (arith, length-append store words) in
+    placed-all (placed store items) segments longer
+    ∙ ap (λ n. fold with_setting (placed store items ++ all_words n (map items_of segments)) (all_settings n (map items_of segments))) size
+    ∙ ap (λ l. fold with_setting l others)
+    (sym (settings-behind (store ++ words) rest settings long_words (bounded-segment labels items (sets_globals s)))
+    ∙ ap (λ l. fold with_setting l settings) (append_assoc store words rest))
+    ∙ sym (fold-append with_setting (store ++ (words ++ rest)) settings others)
+
+-- the store below the segments
+abbrev pub below : List ℕ
+below = start_words ++ replicate 1000 0 ++ library_words
+
+length-below : length below ≡ 1034
+length-below =
+    length-append (start_words ++ replicate 1000 0) library_words
+    ∙ ap (λ n. n + 18) (length-append start_words (replicate 1000 0) ∙ ap (λ n. 16 + n) (length-replicate {A = ℕ} 1000 0))
+
+bounded-library : Bounded library_settings
+bounded-library =
+    (omega arith, (omega arith, (omega arith, (omega arith, (omega arith, (omega arith, (omega arith, (omega arith, (omega arith, (omega arith, tt))))))))))
+
+pub length-library : length (fold with_setting below library_settings) ≡ 1034
+length-library = length-settings below library_settings ∙ length-below
+
+pub loaded-is : (words : ℕ) (segments : List Intcode)
+    → fold placed (fold with_setting below library_settings) (map items_of segments) ++ replicate (words - stack_start SEGMENTS (map items_of segments)) 0
+    ≡ loaded_store words (map items_of segments)
+loaded-is words segments =
+    let base = fold with_setting below library_settings in
+    let all = all_words SEGMENTS (map items_of segments) in
+    let settings = all_settings SEGMENTS (map items_of segments) in
+    let zeros : List ℕ = replicate (words - stack_start SEGMENTS (map items_of segments)) 0 in
+    let long : 1016 ≤ length below = omega (arith, length-below) in
+    let long_base : 1016 ≤ length base = omega (arith, length-library) in
+    let long_all : 1016 ≤ length (base ++ all) = omega (arith, length-append base all) in
+    let placed_words : fold placed base (map items_of segments) ≡ fold with_setting (base ++ all) settings =
+    placed-all base segments long_base
+    ∙ ap (λ n. fold with_setting (base ++ all_words n (map items_of segments)) (all_settings n (map items_of segments))) length-library in
+    let library : fold with_setting ((below ++ all) ++ zeros) library_settings ≡ (base ++ all) ++ zeros =
+    ap (λ l. fold with_setting l library_settings) (append_assoc below all zeros)
+    ∙ settings-behind below (all ++ zeros) library_settings long bounded-library
+    ∙ sym (append_assoc base all zeros) in
+    ap (λ l. l ++ zeros) placed_words
+    ∙ sym (settings-behind (base ++ all) zeros settings long_all (bounded-all SEGMENTS segments))
+    ∙ ap (λ l. fold with_setting l settings) (sym library)
+    ∙ sym (fold-append with_setting ((below ++ all) ++ zeros) library_settings settings)
+
+-- the stack starts behind every segment
+pub stack-least : (start : ℕ) (segments : List (List Item)) → start ≤ stack_start start segments
+stack-least start [] = omega arith
+stack-least start (items ∷ segments) = omega (arith, stack-least (start + segment_size items) segments)
+
+-- the first segment of those that are left fits where all do
+pub stack-part : (start : ℕ) (segments : List Intcode) (i : ℕ) (d : Intcode) → i < length segments
+    → start + segment_size (items_of (get_or segments i d)) ≤ stack_start start (map items_of (drop i segments))
+stack-part start segments i d within =
+    rw (drop_more segments i d within) (stack-least (start + segment_size (items_of (get_or segments i d))) (map items_of (drop (i + 1) segments)))
+
+pub stack-more : (start : ℕ) (segments : List Intcode) (i : ℕ) (d : Intcode) → i < length segments
+    → stack_start start (map items_of (drop i segments))
+    ≡ stack_start (start + segment_size (items_of (get_or segments i d))) (map items_of (drop (i + 1) segments))
+stack-more start segments i d within = ap (λ l. stack_start start (map items_of l)) (drop_more segments i d within)
+
+-- one more segment
+pub placed-more : (store : List ℕ) (segments : List Intcode) (i : ℕ) (d : Intcode) → i < length segments
+    → fold placed store (map items_of (take (i + 1) segments)) ≡ placed (fold placed store (map items_of (take i segments))) (items_of (get_or segments i d))
+placed-more store segments i d within =
+    ap (λ l. fold placed store l) (map_more items_of segments i d within)
+    ∙ fold_push placed store (map items_of (take i segments)) (items_of (get_or segments i d))
+
+-- a global that a segment sets is in its range
+pub global-within : (items : List Item) (i number label : ℕ) (d : Item) → IsSegment items → i < length items
+    → get_or items i d ≡ SetGlobal number label → number ≤ 999
+global-within items i number label d whole within is = (whole.in_range i (SetGlobal number label) (got items i d (SetGlobal number label) within is)).0
+
+-- an item that sets no global leaves the settings
+pub settings-none : (labels : ℕ → ℕ) (item : Item) → ((number label : ℕ) → item ≡ SetGlobal number label → ⊥) → item_settings labels item ≡ []
+settings-none labels (SetGlobal number l) not = absurd (not number l refl)
+settings-none labels (Instruction f i operand) not = refl
+settings-none labels (SetLabel l) not = refl
+settings-none labels (Byte b) not = refl
+settings-none labels (Word w) not = refl
+settings-none labels (LabelWord l) not = refl
+settings-none labels (Frame n) not = refl
+settings-none labels End not = refl
+
+-- a segment that is read from those that are left
+pub stack-item : (start : ℕ) (segments : List Intcode) (i : ℕ) (s : Intcode) (items : List Item) → i < length segments
+    → s ≡ get_or segments i s → items ≡ items_of s → start + segment_size items ≤ stack_start start (map items_of (drop i segments))
+stack-item start segments i s items within read shown =
+    let e : items ≡ items_of (get_or segments i s) = shown ∙ ap (λ (x : Intcode). items_of x) read in
+    rw e (stack-part start segments i s within)
+
+pub stack-next : (start next : ℕ) (segments : List Intcode) (i : ℕ) (s : Intcode) (items : List Item) → i < length segments
+    → s ≡ get_or segments i s → items ≡ items_of s → next ≡ start + segment_size items
+    → stack_start next (map items_of (drop (i + 1) segments)) ≡ stack_start start (map items_of (drop i segments))
+stack-next start next segments i s items within read shown is =
+    let e : items ≡ items_of (get_or segments i s) = shown ∙ ap (λ (x : Intcode). items_of x) read in
+    ap (λ n. stack_start n (map items_of (drop (i + 1) segments))) (is ∙ ap (λ l. start + segment_size l) e)
+    ∙ sym (stack-more start segments i s within)
+
+pub placed-next : (base store next : List ℕ) (segments : List Intcode) (i : ℕ) (s : Intcode) (items : List Item) → i < length segments
+    → s ≡ get_or segments i s → items ≡ items_of s → store ≡ fold placed base (map items_of (take i segments)) → next ≡ placed store items
+    → next ≡ fold placed base (map items_of (take (i + 1) segments))
+placed-next base store next segments i s items within read shown known is =
+    let e : items ≡ items_of (get_or segments i s) = shown ∙ ap (λ (x : Intcode). items_of x) read in
+    is ∙ ap (λ l. placed store l) e ∙ ap (λ l. placed l (items_of (get_or segments i s))) known ∙ sym (placed-more base segments i s within)
+
+-- the store, filled up with zeros
+pub store-whole : (words count i : ℕ) (segments : List Intcode) (base store filled : List ℕ) → base ≡ fold with_setting below library_settings
+    → store ≡ fold placed base (map items_of (take i segments)) → length segments ≤ i
+    → stack_start (length store) (map items_of (drop i segments)) ≡ stack_start SEGMENTS (map items_of segments)
+    → stack_start SEGMENTS (map items_of segments) ≤ words → count ≡ length store → filled ≡ take words store ++ replicate (words - count) 0
+    → filled ≡ loaded_store words (map items_of segments)
+store-whole words count i segments base store filled library known all rest room counted is =
+    let size : length store ≡ stack_start SEGMENTS (map items_of segments) =
+    sym (ap (λ l. stack_start (length store) (map items_of l)) (drop_all i segments all)) ∙ rest in
+    let short : length store ≤ words = omega arith in
+    is ∙ ap (λ l. l ++ replicate (words - count) 0)
+    (take_all words store short ∙ known ∙ ap (λ l. fold placed base (map items_of l)) (take_all i segments all)
+    ∙ ap (λ l. fold placed l (map items_of segments)) library)
+    ∙ ap (λ n. fold placed (fold with_setting below library_settings) (map items_of segments) ++ replicate (words - n) 0) (counted ∙ size)
+    ∙ loaded-is words segments
+
+-- a global is set
+pub settings-set : (labels : ℕ → ℕ) (store now : List ℕ) (items : List Item) (i number label value : ℕ) (d : Item) → i < length items
+    → get_or items i d ≡ SetGlobal number label → now ≡ fold with_setting store (segment_settings labels (take i items)) → value ≡ labels label
+    → set now (16 + number) value ≡ fold with_setting store (segment_settings labels (take (i + 1) items))
+settings-set labels store now items i number label value d within is known gives =
+    ap (λ l. set l (16 + number) value) known
+    ∙ ap (λ v. set (fold with_setting store (segment_settings labels (take i items))) (16 + number) v) gives
+    ∙ sym (settings-more labels store items i d within
+    ∙ ap (λ x. fold with_setting (fold with_setting store (segment_settings labels (take i items))) (item_settings labels x)) is)
+
+pub settings-kept : (labels : ℕ → ℕ) (store now : List ℕ) (items : List Item) (i : ℕ) (d : Item) → i < length items
+    → ((number label : ℕ) → get_or items i d ≡ SetGlobal number label → ⊥) → now ≡ fold with_setting store (segment_settings labels (take i items))
+    → now ≡ fold with_setting store (segment_settings labels (take (i + 1) items))
+settings-kept labels store now items i d within not known =
+    known
+    ∙ sym (settings-more labels store items i d within
+    ∙ ap (λ l. fold with_setting (fold with_setting store (segment_settings labels (take i items))) l) (settings-none labels (get_or items i d) not))
+
+-- a segment is placed by its words and its settings
+pub placed-is : (labels : ℕ → ℕ) (start : ℕ) (store words changed : List ℕ) (items : List Item) → start ≡ length store
+    → ((label : ℕ) → labels label ≡ label_number start items label) → words ≡ store ++ segment_words labels items
+    → changed ≡ fold with_setting words (segment_settings labels items) → changed ≡ placed store items
+placed-is labels start store words changed items at numbered filled set_all =
+    let same : labels ≡ label_number start items = fun_ext numbered in
+    set_all
+    ∙ ap (λ l. fold with_setting l (segment_settings labels items)) filled
+    ∙ ap (λ f. fold with_setting (store ++ segment_words f items) (segment_settings f items)) (same ∙ ap (λ n. label_number n items) at)

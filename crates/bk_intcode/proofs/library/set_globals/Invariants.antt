@@ -1,0 +1,10 @@
+use Rattle.std.proofs.Common.{◌≡◌, ◌-◌, take, length}
+use Rattle.std.specs.Prelude.{fold}
+use Rattle.bk_intcode.specs.Placement.{library_settings, with_setting}
+use Rattle.bk_intcode.proofs.library.set_globals.Given as goal
+
+abbrev pub invariant-loop-global : goal.invariant-loop-global
+invariant-loop-global l = record {
+  set : l.words.items ≡ fold with_setting l.initial.words.items (take (l.global - 2) library_settings);
+  length : length l.words.items ≡ length l.initial.words.items;
+}

@@ -1,0 +1,13 @@
+use Rattle.std.proofs.Common.{◌≡◌, take}
+use Rattle.std.specs.Prelude.{fold}
+use Rattle.bk_intcode.specs.Placement.{grown}
+use Rattle.bk_intcode.specs.LabelNumbers.{number_of}
+use Rattle.bk_intcode.specs.Packing.{IsFilled}
+use Rattle.bk_intcode.proofs.Growing.{growth_of}
+use Rattle.bk_intcode.proofs.packing.push_items.Given as goal
+
+abbrev pub invariant-loop-item : goal.invariant-loop-item
+invariant-loop-item l = record {
+  grown : growth_of l.words.items l.filled ≡ fold (grown (number_of l.labels)) (growth_of l.initial.words.items 0) (take l.item-index l.items);
+  filled : IsFilled l.words.items l.filled;
+}

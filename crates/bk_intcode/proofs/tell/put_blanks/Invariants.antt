@@ -1,0 +1,6 @@
+use Rattle.std.proofs.Common.{replicate}
+use Rattle.std.specs.Io.KnownBytes.{Appends}
+use Rattle.bk_intcode.proofs.tell.put_blanks.Given as goal
+
+abbrev pub invariant-loop-i : goal.invariant-loop-i
+invariant-loop-i g l = Appends (g.O.ByteOut.taken l.initial.out) (g.O.ByteOut.taken l.out) (replicate l.i 32)

@@ -1,0 +1,17 @@
+pub mod Segment
+pub mod SegmentItems
+pub mod Instructions
+pub mod Placement
+pub mod Reach
+pub mod LabelNumbers
+pub mod Packing
+pub mod Placed
+pub mod Decoding
+pub mod Operations
+pub mod Output
+pub mod Step
+pub mod Effects
+pub mod Runs
+pub mod RunLaws
+pub mod Telling
+pub mod State

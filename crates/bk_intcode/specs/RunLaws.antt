@@ -1,0 +1,87 @@
+-- Laws of runs: steps one after another, and what is written only grows.
+use Rattle.std.specs.Prelude.{◌≡◌, ℕ, zero, suc, ◌+◌, Bool, true, false, List, [], ◌++◌, refl, if◌then◌else◌}
+use Rattle.std.proofs.Common.{sym, ap, ◌∙◌, arith, append_assoc, append-nil}
+use Rattle.bk_base.specs.declared.run_end.End.TheVariants.{StoreLimit}
+use Rattle.bk_intcode.specs.declared.registers.Registers.{Registers}
+use Rattle.bk_intcode.specs.Output.{Text, output_text}
+use Rattle.bk_intcode.specs.Step.{Turn, Goes, Tells, Asks, Ends, step}
+use Rattle.bk_intcode.specs.Runs.{Standing, Going, Over, next_byte, behind_next, after, run, output_of}
+
+-- where a run stands after m steps more
+abbrev pub onwards : ℕ → Standing → Standing
+onwards m (Going store r input written) = run m store r input written
+onwards m (Over e input written) = Over e input written
+
+-- a run of k steps, and then of m more
+AddsAt : ℕ → ℕ → Type 0
+AddsAt k m = (store : List ℕ) (r : Registers) (input written : List ℕ) → run (k + m) store r input written ≡ onwards m (run k store r input written)
+
+tells_on : (k m : ℕ) → AddsAt k m → (text : Text) (store : List ℕ) (r : Registers) (input written : List ℕ)
+    → (if text.whole then run (k + m) store r input (written ++ text.bytes) else Over StoreLimit input (written ++ text.bytes))
+    ≡ onwards m (if text.whole then run k store r input (written ++ text.bytes) else Over StoreLimit input (written ++ text.bytes))
+unfolding AddsAt
+tells_on k m more text store r input written = by_whole text.whole
+  where
+    by_whole : (whole : Bool) → (if whole then run (k + m) store r input (written ++ text.bytes) else Over StoreLimit input (written ++ text.bytes))
+        ≡ onwards m (if whole then run k store r input (written ++ text.bytes) else Over StoreLimit input (written ++ text.bytes))
+    by_whole true = more store r input (written ++ text.bytes)
+    by_whole false = refl
+
+after_on : (k m : ℕ) → AddsAt k m → (turn : Turn) (input written : List ℕ)
+    → after (run (k + m)) turn input written ≡ onwards m (after (run k) turn input written)
+unfolding AddsAt
+after_on k m more (Goes store r) input written = more store r input written
+after_on k m more (Tells what store r) input written = tells_on k m more (output_text store what) store r input written
+after_on k m more (Asks store r) input written = more store (record r { a = next_byte input }) (behind_next input) written
+after_on k m more (Ends e) input written = refl
+
+adds : (k m : ℕ) → AddsAt k m
+unfolding AddsAt
+adds zero m store r input written = ap (λ n. run n store r input written) (omega arith)
+adds (suc k) m store r input written =
+    let count : suc k + m ≡ suc (k + m) = omega arith in
+    ap (λ n. run n store r input written) count ∙ after_on k m (adds k m) (step store r) input written
+
+pub run-add : (k m : ℕ) (store : List ℕ) (r : Registers) (input written : List ℕ)
+    → run (k + m) store r input written ≡ onwards m (run k store r input written)
+unfolding AddsAt
+run-add k m store r input written = adds k m store r input written
+
+-- what was written before a run begins its output
+BeginsAt : ℕ → Type 0
+BeginsAt n = (store : List ℕ) (r : Registers) (input written : List ℕ) → (more : List ℕ) × (output_of (run n store r input written) ≡ written ++ more)
+
+behind : (written bytes : List ℕ) (s : Standing) → (more : List ℕ) × (output_of s ≡ (written ++ bytes) ++ more) → (more : List ℕ) × (output_of s ≡ written ++ more)
+behind written bytes s grown = (bytes ++ grown.0, grown.1 ∙ append_assoc written bytes grown.0)
+
+tells_begins : (n : ℕ) → BeginsAt n → (text : Text) (store : List ℕ) (r : Registers) (input written : List ℕ)
+    → (more : List ℕ) × (output_of (if text.whole then run n store r input (written ++ text.bytes) else Over StoreLimit input (written ++ text.bytes)) ≡ (written ++ text.bytes) ++ more)
+unfolding BeginsAt
+tells_begins n begins text store r input written = by_whole text.whole
+  where
+    by_whole : (whole : Bool) → (more : List ℕ) × (output_of (if whole then run n store r input (written ++ text.bytes) else Over StoreLimit input (written ++ text.bytes)) ≡ (written ++ text.bytes) ++ more)
+    by_whole true = begins store r input (written ++ text.bytes)
+    by_whole false = ([], sym (append-nil (written ++ text.bytes)))
+
+after_begins : (n : ℕ) → BeginsAt n → (turn : Turn) (input written : List ℕ) → (more : List ℕ) × (output_of (after (run n) turn input written) ≡ written ++ more)
+unfolding BeginsAt
+after_begins n begins (Goes store r) input written = begins store r input written
+after_begins n begins (Tells what store r) input written =
+    behind written (output_text store what).bytes (after (run n) (Tells what store r) input written)
+    (tells_begins n begins (output_text store what) store r input written)
+after_begins n begins (Asks store r) input written = begins store (record r { a = next_byte input }) (behind_next input) written
+after_begins n begins (Ends e) input written = ([], sym (append-nil written))
+
+run_begins : (n : ℕ) → BeginsAt n
+unfolding BeginsAt
+run_begins zero store r input written = ([], sym (append-nil written))
+run_begins (suc n) store r input written = after_begins n (run_begins n) (step store r) input written
+
+pub run-begins : (n : ℕ) (store : List ℕ) (r : Registers) (input written : List ℕ) → (more : List ℕ) × (output_of (run n store r input written) ≡ written ++ more)
+unfolding BeginsAt
+run-begins n store r input written = run_begins n store r input written
+
+-- and what was written so far begins what is written onwards
+pub onwards-begins : (m : ℕ) (s : Standing) → (more : List ℕ) × (output_of (onwards m s) ≡ output_of s ++ more)
+onwards-begins m (Going store r input written) = run-begins m store r input written
+onwards-begins m (Over e input written) = ([], sym (append-nil written))

@@ -1,0 +1,135 @@
+-- Runs of the machine, one step after another, with the bytes that they read and write.
+use Rattle.std.specs.Prelude.{◌≡◌, ℕ, zero, suc, ◌<◌, ◌^◌, ◌-◌, List, [], ◌∷◌, ◌++◌, Option, Bool, IsTrue, ⊤, if◌then◌else◌}
+use Rattle.std.specs.Io.KnownBytes.{Consumes, Appends}
+use Rattle.bk_base.specs.declared.run_end.End.{End}
+use Rattle.bk_base.specs.declared.run_end.End.TheVariants.{Status, DivideByZero, StoreLimit, StepLimit, BadOperation, ReadFault, WriteFault}
+use Rattle.bk_intcode.specs.declared.registers.Registers.{Registers}
+use Rattle.bk_intcode.specs.Output.{output_text}
+use Rattle.bk_intcode.specs.Step.{Turn, Goes, Tells, Asks, Ends, step}
+
+-- Where a run stands: the machine, the input left and the output so far; or its end.
+pub data Standing : Type 0 where
+  Going : (store : List ℕ) (r : Registers) (input output : List ℕ) → Standing
+  Over : (e : End) (input output : List ℕ) → Standing
+
+-- RDCH gives the next byte, or -1 at the end.
+abbrev pub next_byte : List ℕ → ℕ
+next_byte [] = 2 ^ 32 - 1
+next_byte (b ∷ rest) = b
+
+abbrev pub behind_next : List ℕ → List ℕ
+behind_next [] = []
+behind_next (b ∷ rest) = rest
+
+-- Where a run goes on from a turn. What a routine wrote before it led outside the store stands.
+abbrev pub after : (List ℕ → Registers → List ℕ → List ℕ → Standing) → Turn → List ℕ → List ℕ → Standing
+after go (Goes store r) input written = go store r input written
+after go (Tells what store r) input written =
+    let text = output_text store what in
+    if text.whole then go store r input (written ++ text.bytes) else Over StoreLimit input (written ++ text.bytes)
+after go (Asks store r) input written = go store (record r { a = next_byte input }) (behind_next input) written
+after go (Ends e) input written = Over e input written
+
+-- n steps, or fewer where the run ends
+abbrev pub run : ℕ → List ℕ → Registers → List ℕ → List ℕ → Standing
+run zero store r input written = Going store r input written
+run (suc n) store r input written = after (run n) (step store r) input written
+
+-- what was written
+abbrev pub output_of : Standing → List ℕ
+output_of (Going store r input written) = written
+output_of (Over e input written) = written
+
+-- What devices tell at a moment: the bytes left, and whether the end was told; the bytes taken.
+pub record Told : Type 0 where
+  pub left : Option (List ℕ)
+  pub ended : Bool
+  pub taken : Option (List ℕ)
+
+-- Between two moments these bytes were delivered and these taken. Once the end was told nothing more is delivered.
+pub record Exchanged (old new : Told) (read written : List ℕ) : Type 0 where
+  pub delivered : Consumes old.left new.left read
+  pub took : Appends old.taken new.taken written
+  pub stays : IsTrue old.ended → (read ≡ []) × IsTrue new.ended
+
+-- Whatever may follow the bytes delivered: nothing, where the end was told.
+abbrev pub Follows : Told → List ℕ → Type 0
+Follows new rest = IsTrue new.ended → rest ≡ []
+
+-- n steps lead from one machine to another by these bytes, whatever input follows and whatever was written before
+abbrev pub Leads : ℕ → List ℕ → Registers → List ℕ → Registers → Told → List ℕ → List ℕ → Type 0
+Leads n store r store' r' new read written =
+    (rest before : List ℕ) → Follows new rest → run n store r (read ++ rest) before ≡ Going store' r' rest (before ++ written)
+
+-- all steps were done
+pub record Paused (n : ℕ) (store : List ℕ) (r : Registers) (store' : List ℕ) (r' : Registers) (old new : Told) : Type 0 where
+  pub read : List ℕ
+  pub written : List ℕ
+  pub exchanged : Exchanged old new read written
+  pub leads : Leads n store r store' r' new read written
+
+-- the run ended of itself, within n steps
+pub record Finished (e : End) (n : ℕ) (store : List ℕ) (r : Registers) (old new : Told) : Type 0 where
+  pub read : List ℕ
+  pub written : List ℕ
+  pub exchanged : Exchanged old new read written
+  pub ends : (rest before : List ℕ) → Follows new rest → run n store r (read ++ rest) before ≡ Over e rest (before ++ written)
+
+-- A device failed: what was written begins what the n steps write, whatever input follows.
+pub record Broken (n : ℕ) (store : List ℕ) (r : Registers) (old new : Told) : Type 0 where
+  pub read : List ℕ
+  pub written : List ℕ
+  pub exchanged : Exchanged old new read written
+  pub begins : (rest before : List ℕ) → Follows new rest
+      → (more : List ℕ) × (output_of (run n store r (read ++ rest) before) ≡ (before ++ written) ++ more)
+
+-- The input failed: the run came to a step that asks for a byte.
+pub record Waiting (n : ℕ) (store : List ℕ) (r : Registers) (old new : Told) : Type 0 where
+  pub broken : Broken n store r old new
+  pub steps : ℕ
+  pub store' : List ℕ
+  pub r' : Registers
+  pub within : steps < n
+  pub leads : Leads steps store r store' r' new broken.read broken.written
+  pub store'' : List ℕ
+  pub r'' : Registers
+  pub asks : step store' r' ≡ Asks store'' r''
+
+-- an answer to a step that asks: a word for the bytes delivered and what follows them
+pub record Answered (word : ℕ) (old new : Told) : Type 0 where
+  pub read : List ℕ
+  pub exchanged : Exchanged old new read []
+  pub word_is : (rest : List ℕ) → Follows new rest → next_byte (read ++ rest) ≡ word
+  pub behind_is : (rest : List ℕ) → Follows new rest → behind_next (read ++ rest) ≡ rest
+
+-- a call that asks fails by the input, or by the flush of the output before it
+abbrev pub AskFails : End → ℕ → ℕ → Type 0
+AskFails ReadFault reads writes = reads ≡ 1
+AskFails WriteFault reads writes = writes ≡ 1
+AskFails e reads writes = ⊥
+
+-- the ends that a run comes to of itself
+abbrev pub IsOwn : End → Type 0
+IsOwn (Status v) = ⊤
+IsOwn DivideByZero = ⊤
+IsOwn StoreLimit = ⊤
+IsOwn BadOperation = ⊤
+IsOwn StepLimit = ⊥
+IsOwn ReadFault = ⊥
+IsOwn WriteFault = ⊥
+
+-- how a run of at most n steps went, by its end
+abbrev pub Ran : End → ℕ → List ℕ → Registers → List ℕ → Registers → Told → Told → Type 0
+Ran StepLimit n store r store' r' old new = Paused n store r store' r' old new
+Ran ReadFault n store r store' r' old new = Waiting n store r old new
+Ran WriteFault n store r store' r' old new = Broken n store r old new
+Ran (Status v) n store r store' r' old new = Finished (Status v) n store r old new
+Ran DivideByZero n store r store' r' old new = Finished DivideByZero n store r old new
+Ran StoreLimit n store r store' r' old new = Finished StoreLimit n store r old new
+Ran BadOperation n store r store' r' old new = Finished BadOperation n store r old new
+
+-- a fault of a device comes only where that device failed
+abbrev pub Blames : End → ℕ → ℕ → Type 0
+Blames ReadFault reads writes = reads ≡ 1
+Blames WriteFault reads writes = writes ≡ 1
+Blames e reads writes = ⊤

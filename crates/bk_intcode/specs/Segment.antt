@@ -1,0 +1,79 @@
+-- Segments: which lists of items are whole.
+use Rattle.std.specs.Prelude.{◌≡◌, ℕ, suc, ◌-◌, ◌≤◌, ◌==◌, Bool, false, IsTrue, ◌||◌, List, [], ◌∷◌, Some, length, slice_get, ⊤}
+use Rattle.bk_base.specs.declared.limit.TheConstants.{GLOBAL_NUMBER, FRAME_WORDS, FRAME_WORDS_LEAST, INTCODE_ITEMS, INTCODE_LABEL}
+use Rattle.bk_intcode.specs.declared.item.Operand.{Operand}
+use Rattle.bk_intcode.specs.declared.item.Operand.TheVariants.{Number, Local, Global, Label}
+use Rattle.bk_intcode.specs.declared.item.Item.{Item}
+use Rattle.bk_intcode.specs.declared.item.Item.TheVariants.{Instruction, SetLabel, Byte, Word, LabelWord, SetGlobal, Frame, End}
+
+-- the item uses the label
+abbrev pub operand_uses : ℕ → Operand → Bool
+operand_uses label (Label l) = l == label
+operand_uses label (Number n) = false
+operand_uses label (Local n) = false
+operand_uses label (Global n) = false
+
+abbrev pub item_uses : ℕ → Item → Bool
+item_uses label (Instruction function indirect operand) = operand_uses label operand
+item_uses label (LabelWord l) = l == label
+item_uses label (SetGlobal number l) = l == label
+item_uses label (SetLabel l) = false
+item_uses label (Byte b) = false
+item_uses label (Word w) = false
+item_uses label (Frame n) = false
+item_uses label End = false
+
+-- an item of these sets the label
+abbrev pub item_sets : ℕ → Item → Bool
+item_sets label (SetLabel l) = l == label
+item_sets label (Instruction function indirect operand) = false
+item_sets label (LabelWord l) = false
+item_sets label (SetGlobal number l) = false
+item_sets label (Byte b) = false
+item_sets label (Word w) = false
+item_sets label (Frame n) = false
+item_sets label End = false
+
+abbrev pub sets : ℕ → List Item → Bool
+sets label [] = false
+sets label (item ∷ rest) = item_sets label item || sets label rest
+
+-- labels, globals and frames are in their ranges
+abbrev pub IsLabel : ℕ → Type 0
+IsLabel label = (1 ≤ label) × (label ≤ INTCODE_LABEL)
+
+abbrev pub OperandInRange : Operand → Type 0
+OperandInRange (Label l) = IsLabel l
+OperandInRange (Number n) = ⊤
+OperandInRange (Local n) = ⊤
+OperandInRange (Global n) = ⊤
+
+abbrev pub InRange : Item → Type 0
+InRange (Instruction function indirect operand) = OperandInRange operand
+InRange (SetLabel l) = IsLabel l
+InRange (LabelWord l) = IsLabel l
+InRange (SetGlobal number l) = (number ≤ GLOBAL_NUMBER) × IsLabel l
+InRange (Frame n) = (FRAME_WORDS_LEAST ≤ n) × (n ≤ FRAME_WORDS)
+InRange (Byte b) = ⊤
+InRange (Word w) = ⊤
+InRange End = ⊤
+
+-- What each segment keeps.
+pub record IsSegment (items : List Item) : Type 0 where
+  -- the end stands last, and nowhere else
+  pub ends : (k : ℕ) → slice_get items k ≡ Some End → suc k ≡ length items
+  pub ended : slice_get items (length items - 1) ≡ Some End
+  -- no label is set twice
+  pub set_once : (j k label : ℕ) → slice_get items j ≡ Some (SetLabel label) → slice_get items k ≡ Some (SetLabel label) → j ≡ k
+  -- each label that is used is set
+  pub used_set : (k label : ℕ) (item : Item) → slice_get items k ≡ Some item → IsTrue (item_uses label item) → IsTrue (sets label items)
+  -- the largest frame is given once at most
+  pub one_frame : (j k m n : ℕ) → slice_get items j ≡ Some (Frame m) → slice_get items k ≡ Some (Frame n) → j ≡ k
+  pub in_range : (k : ℕ) (item : Item) → slice_get items k ≡ Some item → InRange item
+  pub counted : length items ≤ INTCODE_ITEMS
+
+-- the largest frame that a segment gives, or the largest that there is
+abbrev pub frame_of : List Item → ℕ
+frame_of [] = FRAME_WORDS
+frame_of (Frame n ∷ rest) = n
+frame_of (item ∷ rest) = frame_of rest

@@ -1,0 +1,26 @@
+#![tactic(auto)]
+
+mod extent;
+mod item;
+mod labels;
+mod library;
+mod load_fault;
+mod loader;
+mod machine;
+mod operation;
+mod output;
+mod packing;
+mod registers;
+mod run;
+mod segment;
+mod step;
+mod store;
+mod tell;
+#[cfg(test)]
+mod tests;
+
+pub use item::{Function, Item, Operand};
+pub use load_fault::LoadFault;
+pub use machine::{Machine, Sizes};
+pub use registers::Registers;
+pub use segment::Intcode;

@@ -1,0 +1,93 @@
+//! Runs of the machine over devices.
+ghost use Rattle.std.specs.Prelude.{◌≡◌, ◌≢◌, false, [], IfOk, IfErr, IfSome, OnErr, unwrap_or};
+ghost use Rattle.std.specs.Io.KnownBytes.{Keeps};
+ghost use Rattle.bk_base.specs.declared.run_end.End.TheVariants.{ReadFault, WriteFault, StepLimit};
+ghost use Rattle.bk_intcode.specs.Runs.{Answered, AskFails, Ran, Blames};
+
+use crate::registers::Registers;
+use crate::step::{Effect, step};
+use crate::tell::tell;
+use bk_base::{ByteIn, ByteOut, End};
+
+/// The next byte, or -1 at the end. Where the input is not ready, the output is flushed first; if that fails, the input
+/// is not asked.
+#[cold]
+#[inline(never)]
+fn ask<I: ByteIn, O: ByteOut>(input: &mut I, out: &mut O) -> Result<u32, End>
+    ensures answered { IfOk result (λ word. Answered word
+        (record { left = I.left input.old; ended = I.ended input.old; taken = O.taken out.old })
+        (record { left = I.left input.new; ended = I.ended input.new; taken = O.taken out.new })) }
+    ensures still { OnErr result (Keeps (I.left input.old) (I.left input.new) × (I.ended input.new ≡ I.ended input.old)
+        × Keeps (O.taken out.old) (O.taken out.new)) }
+
+    ensures flushed { I.held input.old ≡ [] → I.ended input.old ≡ false → I.faults input.old ≡ 0
+        → result ≢ Err WriteFault → O.passed out.new ≡ O.taken out.new }
+    ensures not_asked { result ≡ Err WriteFault → input.new ≡ input.old }
+    ensures cause { IfErr result (λ e. AskFails e (I.faults input.new) (O.faults out.new)) }
+{
+    if !input.ready() && out.flush().is_err() {
+        return Err(End::WriteFault);
+    }
+    match input.next() {
+        Err(_) => Err(End::ReadFault),
+        Ok(None) => Ok(0xFFFF_FFFF),
+        Ok(Some(byte)) => Ok(u32::from(byte)),
+    }
+}
+
+/// One step, with what it leaves to do to the devices. None where the run goes on.
+#[inline(always)]
+fn turn<I: ByteIn, O: ByteOut>(
+    store: &mut [u32],
+    r: &mut Registers,
+    input: &mut I,
+    out: &mut O,
+) -> Option<End>
+    ensures ran { Ran (unwrap_or result StepLimit) 1 store.old r.old store.new r.new
+        (record { left = I.left input.old; ended = I.ended input.old; taken = O.taken out.old })
+        (record { left = I.left input.new; ended = I.ended input.new; taken = O.taken out.new }) }
+    ensures over { IfSome result (λ e. e ≢ StepLimit) }
+    ensures cause { IfSome result (λ e. Blames e (I.faults input.new) (O.faults out.new)) }
+{
+    let Some(effect) = step(store, r) else {
+        return Some(End::StoreLimit);
+    };
+    match effect {
+        Effect::Goes => None,
+        Effect::Ends(end) => Some(end),
+        Effect::Tells(what) => match tell(store, what, out) {
+            Ok(true) => None,
+            Ok(false) => Some(End::StoreLimit),
+            Err(_) => Some(End::WriteFault),
+        },
+        Effect::Asks => match ask(input, out) {
+            Ok(word) => {
+                r.a = word;
+                None
+            }
+            Err(end) => Some(end),
+        },
+    }
+}
+
+/// Up to this many steps.
+#[inline(always)]
+pub fn go<I: ByteIn, O: ByteOut>(
+    store: &mut [u32],
+    r: &mut Registers,
+    steps: u64,
+    input: &mut I,
+    out: &mut O,
+) -> End
+    ensures ran { Ran result steps store.old r.old store.new r.new
+        (record { left = I.left input.old; ended = I.ended input.old; taken = O.taken out.old })
+        (record { left = I.left input.new; ended = I.ended input.new; taken = O.taken out.new }) }
+    ensures cause { Blames result (I.faults input.new) (O.faults out.new) }
+{
+    for i in 0..steps {
+        if let Some(end) = turn(store, r, input, out) {
+            return end;
+        }
+    }
+    End::StepLimit
+}
