@@ -46,7 +46,8 @@ segment_words labels items = (growth labels items).words
 abbrev pub segment_size : List Item → ℕ
 segment_size items = length (segment_words (λ label. 0) items)
 
--- The number of a label: where the segment starts, and the sizes of the items before the label is set.
+-- The number of a label: where the segment starts, and the sizes of the items before the label is set. A label that is not
+-- set, which no segment uses, has the place behind the segment.
 abbrev pub label_place : ℕ → List Item → ℕ
 label_place label [] = 0
 label_place label (item ∷ rest) = if item_sets label item then 0 else suc (label_place label rest)

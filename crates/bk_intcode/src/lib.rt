@@ -12,6 +12,8 @@ mod output;
 mod packing;
 mod registers;
 mod run;
+#[cfg(test)]
+mod run_tests;
 mod segment;
 mod step;
 mod store;

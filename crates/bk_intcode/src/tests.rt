@@ -2,16 +2,14 @@
 use crate::item::{Function, Item, Operand};
 use crate::machine::Machine;
 use crate::segment::Intcode;
-use bk_base::{ByteIn, ByteOut, End, Reader512, Writer512};
+use bk_base::{End, Reader512, Writer512};
 use std::alloc::Global;
-use std::io;
-use std::io::{ErrorKind, Read, Write};
 use std::process::Abort;
 use std::test::Fail;
 
-const WORDS: u32 = 4_096;
+pub(crate) const WORDS: u32 = 4_096;
 
-const MANY: u64 = 1_000_000;
+pub(crate) const MANY: u64 = 1_000_000;
 
 /// An instruction: `code!(Load Local 4)`, or `code!(I Load Global 4)` if it is indirect.
 macro_rules! code {
@@ -34,7 +32,7 @@ fn ran(alloc: Global, program: Intcode, steps: u64, input: &[u8]) -> Result<(End
     Ok((end, bytes))
 }
 
-fn check(
+pub(crate) fn check(
     rt: &impl Abort,
     alloc: Global,
     program: Intcode,
@@ -298,7 +296,7 @@ fn a_write_far_out(rt: HostRuntime) -> Result<(), Fail> {
 }
 
 /// Two numbers, an operation on them, and WRITEN of the result.
-fn computes(alloc: Global, b: i32, a: i32, operation: i32) -> Result<Intcode, Fail> {
+pub(crate) fn computes(alloc: Global, b: i32, a: i32, operation: i32) -> Result<Intcode, Fail> {
     let items = vec![in alloc;
         Item::SetLabel(1),
         code!(Load Number b),
@@ -315,125 +313,6 @@ fn computes(alloc: Global, b: i32, a: i32, operation: i32) -> Result<Intcode, Fa
         Item::End,
     ]?;
     Ok(Intcode::new(items))
-}
-
-#[test]
-fn operators(rt: HostRuntime) -> Result<(), Fail> {
-    check(
-        &rt,
-        rt.alloc(),
-        computes(rt.alloc(), 7, 0, 6)?,
-        MANY,
-        b"",
-        End::DivideByZero,
-        b"",
-    )?;
-    check(
-        &rt,
-        rt.alloc(),
-        computes(rt.alloc(), 7, 0, 7)?,
-        MANY,
-        b"",
-        End::DivideByZero,
-        b"",
-    )?;
-    check(
-        &rt,
-        rt.alloc(),
-        computes(rt.alloc(), i32::MIN, -1, 6)?,
-        MANY,
-        b"",
-        End::Status(0),
-        b"-2147483648",
-    )?;
-    check(
-        &rt,
-        rt.alloc(),
-        computes(rt.alloc(), i32::MIN, -1, 7)?,
-        MANY,
-        b"",
-        End::Status(0),
-        b"0",
-    )?;
-    let rows: [(i32, &[u8]); 17] = [
-        (5, b"-14"),
-        (6, b"-3"),
-        (7, b"-1"),
-        (8, b"-5"),
-        (9, b"-9"),
-        (10, b"0"),
-        (11, b"-1"),
-        (12, b"-1"),
-        (13, b"0"),
-        (14, b"0"),
-        (15, b"-1"),
-        (16, b"-28"),
-        (17, b"1073741822"),
-        (18, b"0"),
-        (19, b"-5"),
-        (20, b"-5"),
-        (21, b"4"),
-    ];
-    // of -7 and 2
-    for (operation, output) in rows {
-        check(
-            &rt,
-            rt.alloc(),
-            computes(rt.alloc(), -7, 2, operation)?,
-            MANY,
-            b"",
-            End::Status(0),
-            output,
-        )?;
-    }
-    check(
-        &rt,
-        rt.alloc(),
-        computes(rt.alloc(), 0, 5, 2)?,
-        MANY,
-        b"",
-        End::Status(0),
-        b"-5",
-    )?;
-    check(
-        &rt,
-        rt.alloc(),
-        computes(rt.alloc(), 0, 5, 3)?,
-        MANY,
-        b"",
-        End::Status(0),
-        b"-6",
-    )?;
-    check(
-        &rt,
-        rt.alloc(),
-        computes(rt.alloc(), 0, 3, 1)?,
-        MANY,
-        b"",
-        End::Status(0),
-        b"-536870890",
-    )?;
-    check(
-        &rt,
-        rt.alloc(),
-        computes(rt.alloc(), 0, 5, 22)?,
-        MANY,
-        b"",
-        End::Status(0),
-        b"",
-    )?;
-    for operation in [0, 34, 39, 42, 99] {
-        check(
-            &rt,
-            rt.alloc(),
-            computes(rt.alloc(), 1, 1, operation)?,
-            MANY,
-            b"",
-            End::BadOperation,
-            b"",
-        )?;
-    }
-    Ok(())
 }
 
 #[test]
@@ -571,7 +450,7 @@ fn routines_at_the_end_of_the_store(rt: HostRuntime) -> Result<(), Fail> {
 }
 
 /// `WRITEN(RDCH())` twice.
-fn reads_twice(alloc: Global) -> Result<Intcode, Fail> {
+pub(crate) fn reads_twice(alloc: Global) -> Result<Intcode, Fail> {
     let items = vec![in alloc;
         Item::SetLabel(1),
         code!(I Load Global 3),
@@ -858,73 +737,4 @@ fn bytes_got_and_set(rt: HostRuntime) -> Result<(), Fail> {
         End::Status(0),
         b"aZYcdc",
     )
-}
-
-/// Takes so many bytes, and then fails.
-#[derive(Drop)]
-struct Narrow {
-    room: usize,
-    taken: usize,
-}
-
-impl Write for Narrow {
-    fn write(&mut self, buf: &[u8]) -> io::Result<usize> {
-        let count = buf.len().min(self.room);
-        self.room -= count;
-        self.taken = self.taken.saturating_add(count);
-        Ok(count)
-    }
-
-    fn flush(&mut self) -> io::Result<()> {
-        Ok(())
-    }
-}
-
-#[test]
-fn a_writer_that_takes_three_bytes(rt: HostRuntime) -> Result<(), Fail> {
-    let segments = vec![in rt.alloc(); computes(rt.alloc(), i32::MIN, -1, 6)?]?;
-    let mut machine = Machine::load(rt.alloc(), &segments, WORDS)?;
-    let none: &[u8] = &[];
-    let mut input = Reader512::new(none);
-    let mut narrow = Narrow { room: 3, taken: 0 };
-    let mut out = Writer512::new(&mut narrow);
-    assert_eq!(rt; machine.run(MANY, &mut input, &mut out), End::WriteFault);
-    assert_eq!(rt; machine.run(MANY, &mut input, &mut out), End::WriteFault);
-    assert_eq!(rt; out.failures(), 1);
-    assert_eq!(rt; narrow.taken, 3);
-    Ok(())
-}
-
-/// Gives one byte, and then fails.
-#[derive(Drop)]
-struct Broken {
-    calls: u32,
-}
-
-impl Read for Broken {
-    fn read(&mut self, buf: &mut [u8]) -> io::Result<usize> {
-        let call = self.calls;
-        self.calls = call.saturating_add(1);
-        if call > 0 || buf.is_empty() {
-            return Err(io::Error::from(ErrorKind::Interrupted));
-        }
-        buf[0] = 65;
-        Ok(1)
-    }
-}
-
-#[test]
-fn a_reader_that_fails_after_a_byte(rt: HostRuntime) -> Result<(), Fail> {
-    let segments = vec![in rt.alloc(); reads_twice(rt.alloc())?]?;
-    let mut machine = Machine::load(rt.alloc(), &segments, WORDS)?;
-    let mut broken = Broken { calls: 0 };
-    let mut input = Reader512::new(&mut broken);
-    let mut bytes = Vec::new(rt.alloc());
-    let mut out = Writer512::new(&mut bytes);
-    assert_eq!(rt; machine.run(MANY, &mut input, &mut out), End::ReadFault);
-    assert_eq!(rt; machine.run(MANY, &mut input, &mut out), End::ReadFault);
-    assert_eq!(rt; input.failures(), 1);
-    assert_eq!(rt; broken.calls, 2);
-    assert_eq!(rt; bytes.as_slice(), b"65".as_slice());
-    Ok(())
 }

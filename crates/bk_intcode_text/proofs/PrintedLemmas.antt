@@ -1,0 +1,85 @@
+-- The words of what is printed.
+use Rattle.std.proofs.Common.{◌≡◌, ◌≢◌, ℕ, suc, ◌<◌, ◌≤◌, ◌^◌, ◌++◌, Bool, true, false, pos, negsuc, ℤ, FitsSigned, w32, List, [], ◌∷◌, length, get_or, map, arith, refl, ap, ◌∙◌, append_assoc}
+use Rattle.std.specs.Fmt.{decimal}
+use Rattle.std.specs.Int.{IsInRange}
+use Rattle.bk_base.specs.Decimal.{spelling}
+use Rattle.bk_intcode.specs.declared.item.Function.{Function}
+use Rattle.bk_intcode.specs.declared.item.Function.TheVariants.{Load, Store, Add, Jump, JumpTrue, JumpFalse, Call, Operate}
+use Rattle.bk_intcode.specs.declared.item.Operand.{Operand}
+use Rattle.bk_intcode.specs.declared.item.Operand.TheVariants.{Number, Local, Global, Label}
+use Rattle.bk_intcode.specs.declared.item.Item.{Item}
+use Rattle.bk_intcode.specs.declared.item.Item.TheVariants.{Instruction, SetLabel, Byte, Word, LabelWord, SetGlobal, Frame, End}
+use Rattle.bk_intcode_text.specs.ItemText.{letter, indirect_text, operand_text, item_text}
+use Rattle.bk_intcode_text.specs.ItemRange.{IsOperand, IsItem}
+use Rattle.bk_intcode_text.specs.SegmentText.{segment_text}
+use Rattle.bk_intcode_text.specs.Words.{is_blank, words_of, AreInWord}
+use Rattle.bk_intcode_text.specs.FirstSaying.{PrintedSaysAgain}
+use Rattle.bk_intcode_text.specs.ItemRange.{AreItems}
+use Rattle.bk_intcode_text.proofs.Takes.{AreInWord-append}
+use Rattle.bk_intcode_text.proofs.Numerals.{mag-fits, digit-at}
+use Rattle.bk_intcode_text.proofs.WordLemmas.{each_digit, nothing-empty}
+use Rattle.bk_intcode_text.proofs.WordsLemmas.{words_of-word}
+
+digit-inside : (b : ℕ) → 48 ≤ b → b ≤ 57 → is_blank b ≡ false
+digit-inside b low high = each_digit (λ n. is_blank n ≡ false) refl refl refl refl refl refl refl refl refl refl b low high
+
+digits-inside : (ds : List ℕ) → ((i : ℕ) → i < length ds → IsInRange 48 57 (get_or ds i 0)) → AreInWord ds
+digits-inside [] digits = tt
+digits-inside (d ∷ ds) digits =
+    let first : IsInRange 48 57 d = digits 0 (omega arith) in
+    (digit-inside d first.0 first.1, digits-inside ds (λ i low. digits (suc i) (omega arith)))
+
+numeral-inside : (n : ℕ) → n < 2 ^ 64 → AreInWord (decimal n)
+numeral-inside n small = digits-inside (decimal n) (digit-at n small)
+
+spelling-inside : (z : ℤ) → FitsSigned w32 z → AreInWord (spelling z)
+spelling-inside (pos n) fits = let h = mag-fits (pos n) fits in numeral-inside n (omega (arith, h))
+spelling-inside (negsuc n) fits = let h = mag-fits (negsuc n) fits in (refl, numeral-inside (suc n) (omega (arith, h)))
+
+operand-inside : (o : Operand) → IsOperand o → AreInWord (operand_text o)
+operand-inside (Number n) fits = spelling-inside n fits
+operand-inside (Local n) fits = (refl, spelling-inside n fits)
+operand-inside (Global n) fits = (refl, spelling-inside n fits)
+operand-inside (Label l) fits = (refl, numeral-inside l (omega (arith, fits.0, fits.1)))
+
+indirect-inside : (i : Bool) → AreInWord (indirect_text i)
+indirect-inside true = (refl, tt)
+indirect-inside false = tt
+
+letter-inside : (f : Function) → is_blank (letter f) ≡ false
+letter-inside Load = refl
+letter-inside Store = refl
+letter-inside Add = refl
+letter-inside Jump = refl
+letter-inside JumpTrue = refl
+letter-inside JumpFalse = refl
+letter-inside Call = refl
+letter-inside Operate = refl
+
+-- no item's word has a blank
+pub item-inside : (item : Item) → IsItem item → AreInWord (item_text item)
+item-inside (Instruction f i o) fits = (letter-inside f, AreInWord-append (indirect_text i) (operand_text o) (indirect-inside i) (operand-inside o fits))
+item-inside (SetLabel l) fits = numeral-inside l (omega (arith, fits.0, fits.1))
+item-inside (Byte b) fits = (refl, numeral-inside b (omega arith))
+item-inside (Word w) fits = (refl, spelling-inside w fits)
+item-inside (LabelWord l) fits = (refl, (refl, numeral-inside l (omega (arith, fits.0, fits.1))))
+item-inside (SetGlobal n l) fits = (refl, AreInWord-append (spelling (pos n)) (76 ∷ spelling (pos l)) (numeral-inside n (omega (arith, fits.0))) (refl, numeral-inside l (omega (arith, fits.1.0, fits.1.1))))
+item-inside (Frame n) fits = (refl, numeral-inside n (omega (arith, fits.0, fits.1)))
+item-inside End fits = (refl, tt)
+
+-- a word in front of a line feed
+word_of-line : (word more : List ℕ) → word ≢ [] → AreInWord word → words_of (word ++ 10 ∷ more) ≡ word ∷ words_of more
+word_of-line [] more some in_word = absurd (some refl)
+word_of-line (b ∷ word) more some in_word = words_of-word b word (10 ∷ more) in_word refl
+
+-- the words of what is printed are those of the items, and then those of what follows
+pub words_of-printed : (items : List Item) (more : List ℕ) → AreItems items → words_of (segment_text items ++ more) ≡ map item_text items ++ words_of more
+words_of-printed [] more are = refl
+words_of-printed (i ∷ items) more are =
+    let fits : IsItem i = are 0 i refl in
+    ap words_of (append_assoc (item_text i ++ 10 ∷ []) (segment_text items) more ∙ append_assoc (item_text i) (10 ∷ []) (segment_text items ++ more))
+    ∙ word_of-line (item_text i) (segment_text items ++ more) (nothing-empty i fits) (item-inside i fits)
+    ∙ ap (λ (w : List (List ℕ)). item_text i ∷ w) (words_of-printed items more (λ k item is. are (suc k) item is))
+
+pub printed_again : PrintedSaysAgain
+printed_again items more whole are = (words_of more, whole, are, words_of-printed items more are)

@@ -1,0 +1,70 @@
+-- Facts on the items of segments.
+use Rattle.std.proofs.Common.{◌≡◌, ℕ, ◌+◌, ◌<◌, List, [], ◌∷◌, ◌++◌, Some, length, take, drop, get_or, slice_get, refl, sym, ◌∙◌, ap, append_assoc, append-nil, subst, Option}
+use Rattle.std.specs.Io.KnownBytes.{Appends}
+use Rattle.bk_base.specs.Devices.{AppendsPart}
+use Rattle.bk_intcode_text.proofs.Parts.{Appends-trans, AppendsPart-behind, AppendsPart-front}
+use mathlib.Core.Logic.{∥∥₁_elim}
+use Rattle.std.proofs.Props.{props}
+use Rattle.std.proofs.lemmas.List.{take_more, take-append-drop}
+use Rattle.bk_intcode.specs.declared.item.Operand.{Operand}
+use Rattle.bk_intcode.specs.declared.item.Operand.TheVariants.{Number, Local, Global, Label}
+use Rattle.bk_intcode.specs.declared.item.Item.{Item}
+use Rattle.bk_intcode.specs.declared.item.Item.TheVariants.{Instruction, SetLabel, Byte, Word, LabelWord, SetGlobal, Frame, End}
+use Rattle.bk_intcode.specs.Segment.{InRange, OperandInRange, IsSegment}
+use Rattle.bk_intcode_text.specs.ItemText.{item_text}
+use Rattle.bk_intcode_text.specs.SegmentText.{segment_text}
+
+OperandInRange-prop : (operand : Operand) → IsProp (OperandInRange operand)
+OperandInRange-prop (Number n) = hlevel props
+OperandInRange-prop (Local n) = hlevel props
+OperandInRange-prop (Global n) = hlevel props
+OperandInRange-prop (Label l) = hlevel props
+
+InRange-prop : (item : Item) → IsProp (InRange item)
+InRange-prop (Instruction function indirect operand) = OperandInRange-prop operand
+InRange-prop (SetLabel l) = hlevel props
+InRange-prop (Byte b) = hlevel props
+InRange-prop (Word w) = hlevel props
+InRange-prop (LabelWord l) = hlevel props
+InRange-prop (SetGlobal number l) = hlevel props
+InRange-prop (Frame n) = hlevel props
+InRange-prop End = hlevel props
+
+-- each item of a segment is in its range
+pub InRange-of_segment : (items : List Item) → ∥ IsSegment items ∥₁ → (k : ℕ) (item : Item) → slice_get items k ≡ Some item → InRange item
+InRange-of_segment items whole k item is = ∥∥₁_elim whole (InRange-prop item) (λ s. s.in_range k item is)
+
+pub segment_text-append : (a b : List Item) → segment_text (a ++ b) ≡ segment_text a ++ segment_text b
+segment_text-append [] b = refl
+segment_text-append (i ∷ a) b = ap (λ t. (item_text i ++ 10 ∷ []) ++ t) (segment_text-append a b) ∙ sym (append_assoc (item_text i ++ 10 ∷ []) (segment_text a) (segment_text b))
+
+-- the text so far, the next line, and the others
+pub segment_text-at : (items : List Item) (k : ℕ) (d : Item) → k < length items →
+    segment_text items ≡ segment_text (take k items) ++ ((item_text (get_or items k d) ++ 10 ∷ []) ++ segment_text (drop (k + 1) items))
+segment_text-at items k d low =
+    let line = item_text (get_or items k d) ++ 10 ∷ [] in
+    ap segment_text (sym (take-append-drop (k + 1) items))
+    ∙ segment_text-append (take (k + 1) items) (drop (k + 1) items)
+    ∙ ap (λ t. segment_text t ++ segment_text (drop (k + 1) items)) (take_more items k d low)
+    ∙ ap (λ t. t ++ segment_text (drop (k + 1) items)) (segment_text-append (take k items) (get_or items k d ∷ []) ∙ ap (λ t. segment_text (take k items) ++ t) (append-nil line))
+    ∙ append_assoc (segment_text (take k items)) line (segment_text (drop (k + 1) items))
+
+pub segment_text-more : (items : List Item) (k : ℕ) (d : Item) → k < length items →
+    segment_text (take (k + 1) items) ≡ segment_text (take k items) ++ (item_text (get_or items k d) ++ 10 ∷ [])
+segment_text-more items k d low =
+    ap segment_text (take_more items k d low) ∙ segment_text-append (take k items) (get_or items k d ∷ [])
+    ∙ ap (λ t. segment_text (take k items) ++ t) (append-nil (item_text (get_or items k d) ++ 10 ∷ []))
+
+-- a part of the next line is a part of the text
+pub AppendsPart-line : (a b c : Option (List ℕ)) (items : List Item) (k : ℕ) (d : Item) → k < length items →
+    Appends a b (segment_text (take k items)) → AppendsPart b c (item_text (get_or items k d) ++ 10 ∷ []) → AppendsPart a c (segment_text items)
+AppendsPart-line a b c items k d low taken part =
+    let line = item_text (get_or items k d) ++ 10 ∷ [] in
+    AppendsPart-behind a b c (segment_text (take k items)) (line ++ segment_text (drop (k + 1) items)) (segment_text items) (segment_text-at items k d low) taken
+    (AppendsPart-front b c line (segment_text (drop (k + 1) items)) (line ++ segment_text (drop (k + 1) items)) refl part)
+
+pub Appends-line : (a b c : Option (List ℕ)) (items : List Item) (k : ℕ) (d : Item) → k < length items →
+    Appends a b (segment_text (take k items)) → Appends b c (item_text (get_or items k d) ++ 10 ∷ []) → Appends a c (segment_text (take (k + 1) items))
+Appends-line a b c items k d low taken more =
+    subst (λ t. Appends a c t) (sym (segment_text-more items k d low))
+    (Appends-trans a b c (segment_text (take k items)) (item_text (get_or items k d) ++ 10 ∷ []) taken more)

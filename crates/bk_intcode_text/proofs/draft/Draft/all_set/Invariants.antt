@@ -1,0 +1,7 @@
+use Rattle.std.proofs.Common.{◌≡◌, true, take}
+use Rattle.std.specs.List.{list_all}
+use Rattle.bk_intcode_text.specs.ItemFault.{use_is_set}
+use Rattle.bk_intcode_text.proofs.draft.Draft.all_set.Given as goal
+
+abbrev pub invariant-loop-item : goal.invariant-loop-item
+invariant-loop-item l = list_all (use_is_set l.self.items.items) (take l.item-index l.item-items) ≡ true

@@ -1,0 +1,13 @@
+pub mod ItemText
+pub mod SegmentText
+pub mod ItemRange
+pub mod WordMeaning
+pub mod Words
+pub mod TextEnd
+pub mod ItemFault
+pub mod SegmentReading
+pub mod Gathering
+pub mod Next
+pub mod Drafts
+pub mod SegmentAnswer
+pub mod FirstSaying

@@ -1,0 +1,55 @@
+-- What a call that reads a segment answers.
+use Rattle.std.specs.Prelude.{◌≡◌, ◌++◌, ℕ, Bool, true, false, List, length, Option, None, Some, Result, Ok, Err, ⊤}
+use Rattle.std.specs.Io.KnownBytes.{Consumes}
+use Rattle.bk_base.specs.declared.intcode_fault.IntcodeFault.{IntcodeFault}
+use Rattle.bk_base.specs.declared.refused.Refused.{Refused}
+use Rattle.bk_base.specs.declared.refused.Refused.TheVariants.{Fault, Memory, Device}
+use Rattle.bk_intcode.specs.declared.segment.Intcode.{Intcode}
+use Rattle.bk_intcode.specs.Segment.{IsSegment}
+use Rattle.bk_intcode.specs.declared.item.Item.{Item}
+use Rattle.bk_intcode.specs.SegmentItems.{items_of}
+use Rattle.bk_intcode_text.specs.ItemRange.{AreItems}
+use Rattle.bk_intcode_text.specs.SegmentText.{segment_text}
+use Rattle.bk_intcode_text.specs.Words.{words_of}
+use Rattle.bk_intcode_text.specs.TextEnd.{AtEnd}
+use Rattle.bk_intcode_text.specs.FirstSaying.{Says, segment, nothing, fault}
+use Rattle.bk_intcode_text.specs.SegmentReading.{GivesSegment, GivesNothing, GivesFault}
+
+-- Known bytes that were left lost these, of which this holds, given that the text ends there.
+abbrev pub Takes : Option (List ℕ) → Option (List ℕ) → Bool → (List ℕ → Type 0 → Type 0) → Type 0
+Takes old new ended what = (taken : List ℕ) × Consumes old new taken × what taken (AtEnd ended (length taken))
+
+-- The answer is what the bytes taken say, unless memory was refused or the device failed.
+abbrev pub Answers : Result (Option Intcode) (Refused IntcodeFault) → Option (List ℕ) → Option (List ℕ) → Bool → Type 0
+Answers (Ok (Some read)) old new ended = Takes old new ended (λ taken end. GivesSegment taken end (items_of read))
+Answers (Ok None) old new ended = Takes old new ended GivesNothing
+Answers (Err (Fault told)) old new ended = Takes old new ended (λ taken end. GivesFault taken end told.item told.kind)
+Answers (Err Memory) old new ended = ⊤
+Answers (Err Device) old new ended = ⊤
+
+abbrev pub is_device : Result (Option Intcode) (Refused IntcodeFault) → Bool
+is_device (Ok read) = false
+is_device (Err (Fault told)) = false
+is_device (Err Memory) = false
+is_device (Err Device) = true
+
+-- The answer is what these words say, unless memory was refused or the device failed.
+abbrev pub AnswersWords : Result (Option Intcode) (Refused IntcodeFault) → List (List ℕ) → Type 0
+AnswersWords (Ok (Some read)) words = Says (segment (items_of read)) words
+AnswersWords (Ok None) words = Says nothing words
+AnswersWords (Err (Fault told)) words = Says (fault told.item told.kind) words
+AnswersWords (Err Memory) words = ⊤
+AnswersWords (Err Device) words = ⊤
+
+-- The answer is these items' segment, unless memory was refused or the device failed.
+abbrev pub ReadsAgain : Result (Option Intcode) (Refused IntcodeFault) → List Item → Type 0
+ReadsAgain (Ok (Some read)) items = items_of read ≡ items
+ReadsAgain (Ok None) items = ⊥
+ReadsAgain (Err (Fault told)) items = ⊥
+ReadsAgain (Err Memory) items = ⊤
+ReadsAgain (Err Device) items = ⊤
+
+-- What is printed is read again as the same segment, whatever follows.
+abbrev pub PrintedIsReadAgain : Type 0
+PrintedIsReadAgain = (items : List Item) (more : List ℕ) (answer : Result (Option Intcode) (Refused IntcodeFault)) →
+    IsSegment items → AreItems items → AnswersWords answer (words_of (segment_text items ++ more)) → ReadsAgain answer items

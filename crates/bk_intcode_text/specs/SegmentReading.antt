@@ -1,0 +1,63 @@
+-- What a text says where a segment is due: a segment, nothing, or its first fault.
+use Rattle.std.specs.Prelude.{◌≡◌, ◌≢◌, ◌⊎◌, ℕ, ◌+◌, ◌<◌, List, [], ◌∷◌, ◌++◌, Some, None, length, take, map, slice_get}
+use Rattle.bk_base.specs.declared.intcode_fault.IntcodeKind.{IntcodeKind}
+use Rattle.bk_base.specs.declared.intcode_fault.IntcodeKind.TheVariants.{Truncated}
+use Rattle.bk_intcode.specs.Segment.{IsSegment}
+use Rattle.bk_intcode.specs.declared.item.Item.{Item}
+use Rattle.bk_intcode.specs.declared.item.Item.TheVariants.{End}
+use Rattle.bk_intcode_text.specs.ItemText.{item_text}
+use Rattle.bk_intcode_text.specs.ItemRange.{AreItems}
+use Rattle.bk_intcode_text.specs.ItemFault.{item_fault}
+use Rattle.bk_intcode_text.specs.WordMeaning.{Means, WordFault}
+use Rattle.bk_intcode_text.specs.Words.{words_of, EndsInWord, IsBehind}
+
+-- Items of a segment that goes on: none has a fault behind those before it, and none is the end.
+pub record IsBegun (items : List Item) : Type 0 where
+  pub in_range : AreItems items
+  pub faultless : (k : ℕ) (item : Item) → slice_get items k ≡ Some item → item_fault (take k items) item ≡ None
+  pub no_end : (k : ℕ) → slice_get items k ≢ Some End
+
+-- The word has the fault where these items stand before it. A word that stands for no item has its own fault, and an item
+-- the first of those that it has behind the others.
+abbrev pub FaultBehind : List Item → List ℕ → IntcodeKind → Type 0
+FaultBehind before word kind = WordFault word kind ⊎ ((item : Item) × Means word item × (item_fault before item ≡ Some kind))
+
+-- The words are those of items without a fault, and the last word has this one. Items are counted from 1.
+pub record FaultAt (words : List (List ℕ)) (number : ℕ) (kind : IntcodeKind) : Type 0 where
+  pub before : List Item
+  pub begun : IsBegun before
+  pub word : List ℕ
+  pub are : words ≡ map item_text before ++ word ∷ []
+  pub place : number ≡ length before + 1
+  pub fault : FaultBehind before word kind
+
+-- The words are those of items without a fault, and a further item is due.
+pub record CutAt (words : List (List ℕ)) (number : ℕ) : Type 0 where
+  pub before : List Item
+  pub begun : IsBegun before
+  pub some : 0 < length before
+  pub are : words ≡ map item_text before
+  pub place : number ≡ length before + 1
+
+-- What was taken of a text ends with these words: it goes up to the end of the last, and a blank more if there is one.
+pub record TakesWords (taken : List ℕ) (end : Type 0) (words : List (List ℕ)) : Type 0 where
+  pub text : List ℕ
+  pub behind : List ℕ
+  pub whole : taken ≡ text ++ behind
+  pub are : words_of text ≡ words
+  pub ends : EndsInWord text
+  pub past : IsBehind behind end
+
+-- The bytes that were taken are the words of this segment.
+abbrev pub GivesSegment : List ℕ → Type 0 → List Item → Type 0
+GivesSegment taken end items = IsSegment items × AreItems items × TakesWords taken end (map item_text items)
+
+-- Only blanks were left.
+abbrev pub GivesNothing : List ℕ → Type 0 → Type 0
+GivesNothing taken end = (words_of taken ≡ []) × end
+
+-- The bytes that were taken have this first fault.
+abbrev pub GivesFault : List ℕ → Type 0 → ℕ → IntcodeKind → Type 0
+GivesFault taken end number kind =
+    ((words : List (List ℕ)) × TakesWords taken end words × FaultAt words number kind)
+    ⊎ ((kind ≡ Truncated) × end × CutAt (words_of taken) number)

@@ -1,0 +1,21 @@
+//! Laws of texts, which calls of the crates above rest on.
+ghost use Rattle.bk_intcode_text.specs.SegmentAnswer.{PrintedIsReadAgain};
+ghost use Rattle.bk_intcode_text.specs.FirstSaying.{PrintedSaysAgain, SayOneThing};
+
+/// What is printed says the segment again, whatever follows.
+#[tactic(auto, using(crate::proofs::PrintedLemmas::printed_again))]
+pub fn printed_again()
+    ensures { PrintedSaysAgain }
+{}
+
+/// The words of a text say one thing at most where a segment is due.
+#[tactic(auto, using(crate::proofs::OneSaying::one_saying))]
+pub fn one_saying()
+    ensures { SayOneThing }
+{}
+
+/// What `print` writes is read again by `read_segment` as the same segment, whatever follows.
+#[tactic(auto, using(crate::proofs::ReadAgain::read_again))]
+pub fn read_again()
+    ensures { PrintedIsReadAgain }
+{}

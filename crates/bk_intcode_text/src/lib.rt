@@ -1,0 +1,17 @@
+//! Texts of INTCODE segments: printing and reading.
+#![tactic(auto)]
+
+mod draft;
+mod item_word;
+mod laws;
+mod meaning;
+mod printing;
+mod reading;
+#[cfg(test)]
+mod tests;
+mod word_buffer;
+mod words;
+
+pub use laws::{one_saying, printed_again, read_again};
+pub use printing::print;
+pub use reading::read_segment;
