@@ -102,6 +102,7 @@ pub fn put_all<O: ByteOut>(out: &mut O, bytes: &[u8]) -> Result<(), Failed>
     ensures passes { Begins (O.passed out.old) (O.passed out.new) }
     ensures same_failures { OnOk result (O.faults out.new ≡ O.faults out.old) }
     ensures failed { OnErr result (O.faults out.new ≡ 1) }
+    ensures failed_again { O.faults out.old ≡ 1 → Keeps (O.taken out.old) (O.taken out.new) × Keeps (O.passed out.old) (O.passed out.new) }
 {
     for byte in bytes {
         out.put(*byte)?;

@@ -1,13 +1,14 @@
 -- A test of segments that computes, for lists that are written out.
-use Rattle.std.proofs.Common.{◌≡◌, ℕ, zero, suc, ◌-◌, Bool, true, false, List, [], ◌∷◌, length, Some, refl, ap, sym, ◌∙◌, subst, arith}
+use Rattle.std.proofs.Common.{◌≡◌, ◌^◌, ℕ, ℤ, nat_lt, FitsSigned, w32, zero, suc, ◌-◌, Bool, true, false, List, [], ◌∷◌, length, Some, refl, ap, sym, ◌∙◌, subst, arith}
+use lib.Signed.{mag}
 use Rattle.std.specs.Prelude.{slice_get, nat_le, not, ◌&&◌, ◌||◌, ◌==◌}
-use Rattle.std.proofs.lemmas.Bool.{or_right, eq-eqb, eqb-true, leb-true}
+use Rattle.std.proofs.lemmas.Bool.{or_right, eq-eqb, eqb-true, leb-true, ltb-true, lt-ltb}
 use Rattle.bk_base.specs.declared.limit.TheConstants.{GLOBAL_NUMBER, FRAME_WORDS, FRAME_WORDS_LEAST, INTCODE_ITEMS, INTCODE_LABEL}
 use Rattle.bk_intcode.specs.declared.item.Operand.{Operand}
 use Rattle.bk_intcode.specs.declared.item.Operand.TheVariants.{Number, Local, Global, Label}
 use Rattle.bk_intcode.specs.declared.item.Item.{Item}
 use Rattle.bk_intcode.specs.declared.item.Item.TheVariants.{Instruction, SetLabel, Byte, Word, LabelWord, SetGlobal, Frame, End}
-use Rattle.bk_intcode.specs.Segment.{IsSegment, IsLabel, InRange, OperandInRange, item_uses, operand_uses, item_sets, sets}
+use Rattle.bk_intcode.specs.Segment.{IsSegment, IsLabel, IsItem, IsOperand, item_uses, operand_uses, item_sets, sets}
 
 both : (a b : Bool) → (a && b) ≡ true → (a ≡ true) × (b ≡ true)
 both true b e = (refl, e)
@@ -189,17 +190,23 @@ is_label l = nat_le 1 l && nat_le l INTCODE_LABEL
 label_in_range : (l : ℕ) → is_label l ≡ true → IsLabel l
 label_in_range l e = let parts = both (nat_le 1 l) (nat_le l INTCODE_LABEL) e in (leb-true 1 l parts.0, leb-true l INTCODE_LABEL parts.1)
 
+abbrev pub is_word : ℤ → Bool
+is_word z = nat_lt (mag z) (2 ^ 31)
+
+word_in_range : (z : ℤ) → is_word z ≡ true → FitsSigned w32 z
+word_in_range z e = record { sfits = ltb-true (mag z) (2 ^ 31) e }
+
 abbrev pub operand_is_in_range : Operand → Bool
 operand_is_in_range (Label l) = is_label l
-operand_is_in_range (Number n) = true
-operand_is_in_range (Local n) = true
-operand_is_in_range (Global n) = true
+operand_is_in_range (Number n) = is_word n
+operand_is_in_range (Local n) = is_word n
+operand_is_in_range (Global n) = is_word n
 
-operand_in_range : (operand : Operand) → operand_is_in_range operand ≡ true → OperandInRange operand
+operand_in_range : (operand : Operand) → operand_is_in_range operand ≡ true → IsOperand operand
 operand_in_range (Label l) e = label_in_range l e
-operand_in_range (Number n) e = tt
-operand_in_range (Local n) e = tt
-operand_in_range (Global n) e = tt
+operand_in_range (Number n) e = word_in_range n e
+operand_in_range (Local n) e = word_in_range n e
+operand_in_range (Global n) e = word_in_range n e
 
 abbrev pub is_in_range : Item → Bool
 is_in_range (Instruction f i operand) = operand_is_in_range operand
@@ -207,18 +214,18 @@ is_in_range (SetLabel l) = is_label l
 is_in_range (LabelWord l) = is_label l
 is_in_range (SetGlobal n l) = nat_le n GLOBAL_NUMBER && is_label l
 is_in_range (Frame n) = nat_le FRAME_WORDS_LEAST n && nat_le n FRAME_WORDS
-is_in_range (Byte b) = true
-is_in_range (Word w) = true
+is_in_range (Byte b) = nat_lt b 256
+is_in_range (Word w) = is_word w
 is_in_range End = true
 
-in_range : (item : Item) → is_in_range item ≡ true → InRange item
+in_range : (item : Item) → is_in_range item ≡ true → IsItem item
 in_range (Instruction f i operand) e = operand_in_range operand e
 in_range (SetLabel l) e = label_in_range l e
 in_range (LabelWord l) e = label_in_range l e
 in_range (SetGlobal n l) e = let parts = both (nat_le n GLOBAL_NUMBER) (is_label l) e in (leb-true n GLOBAL_NUMBER parts.0, label_in_range l parts.1)
 in_range (Frame n) e = let parts = both (nat_le FRAME_WORDS_LEAST n) (nat_le n FRAME_WORDS) e in (leb-true FRAME_WORDS_LEAST n parts.0, leb-true n FRAME_WORDS parts.1)
-in_range (Byte b) e = tt
-in_range (Word w) e = tt
+in_range (Byte b) e = ltb-true b 256 e
+in_range (Word w) e = word_in_range w e
 in_range End e = tt
 
 -- ---- a test of each item
@@ -254,3 +261,7 @@ checked items e =
       in_range = λ k item at. in_range item (each is_in_range items range.0 k item at);
       counted = leb-true (length items) INTCODE_ITEMS range.1;
     }
+
+-- a word of 32 bits passes its test
+pub word_is : (z : ℤ) → FitsSigned w32 z → is_word z ≡ true
+word_is z fits = lt-ltb (mag z) (2 ^ 31) fits.sfits

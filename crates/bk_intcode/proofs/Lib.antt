@@ -5,6 +5,5 @@ mod Places
 mod Reaching
 mod Routines
 pub mod RunSteps
-mod SegmentOnce
 mod Settings
 pub mod TellSteps

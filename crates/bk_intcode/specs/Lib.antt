@@ -1,5 +1,6 @@
 pub mod Segment
 pub mod SegmentItems
+pub mod SegmentLaws
 pub mod Instructions
 pub mod Placement
 pub mod Reach

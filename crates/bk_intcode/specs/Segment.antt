@@ -1,5 +1,6 @@
 -- Segments: which lists of items are whole.
-use Rattle.std.specs.Prelude.{◌≡◌, ℕ, suc, ◌-◌, ◌≤◌, ◌==◌, Bool, false, IsTrue, ◌||◌, List, [], ◌∷◌, Some, length, slice_get, ⊤}
+use Rattle.std.specs.Prelude.{◌≡◌, ℕ, suc, ◌-◌, ◌<◌, ◌≤◌, ◌==◌, Bool, false, IsTrue, ◌||◌, List, [], ◌∷◌, Some, length, slice_get, FitsSigned, ⊤}
+use Rattle.std.specs.Int.{w32}
 use Rattle.bk_base.specs.declared.limit.TheConstants.{GLOBAL_NUMBER, FRAME_WORDS, FRAME_WORDS_LEAST, INTCODE_ITEMS, INTCODE_LABEL}
 use Rattle.bk_intcode.specs.declared.item.Operand.{Operand}
 use Rattle.bk_intcode.specs.declared.item.Operand.TheVariants.{Number, Local, Global, Label}
@@ -38,25 +39,28 @@ abbrev pub sets : ℕ → List Item → Bool
 sets label [] = false
 sets label (item ∷ rest) = item_sets label item || sets label rest
 
--- labels, globals and frames are in their ranges
+-- the numbers of an item are in their ranges: words of 32 bits, bytes, labels, globals and frames
 abbrev pub IsLabel : ℕ → Type 0
 IsLabel label = (1 ≤ label) × (label ≤ INTCODE_LABEL)
 
-abbrev pub OperandInRange : Operand → Type 0
-OperandInRange (Label l) = IsLabel l
-OperandInRange (Number n) = ⊤
-OperandInRange (Local n) = ⊤
-OperandInRange (Global n) = ⊤
+abbrev pub IsOperand : Operand → Type 0
+IsOperand (Number n) = FitsSigned w32 n
+IsOperand (Local n) = FitsSigned w32 n
+IsOperand (Global n) = FitsSigned w32 n
+IsOperand (Label l) = IsLabel l
 
-abbrev pub InRange : Item → Type 0
-InRange (Instruction function indirect operand) = OperandInRange operand
-InRange (SetLabel l) = IsLabel l
-InRange (LabelWord l) = IsLabel l
-InRange (SetGlobal number l) = (number ≤ GLOBAL_NUMBER) × IsLabel l
-InRange (Frame n) = (FRAME_WORDS_LEAST ≤ n) × (n ≤ FRAME_WORDS)
-InRange (Byte b) = ⊤
-InRange (Word w) = ⊤
-InRange End = ⊤
+abbrev pub IsItem : Item → Type 0
+IsItem (Instruction function indirect operand) = IsOperand operand
+IsItem (SetLabel l) = IsLabel l
+IsItem (Byte b) = b < 256
+IsItem (Word w) = FitsSigned w32 w
+IsItem (LabelWord l) = IsLabel l
+IsItem (SetGlobal number l) = (number ≤ GLOBAL_NUMBER) × IsLabel l
+IsItem (Frame n) = (FRAME_WORDS_LEAST ≤ n) × (n ≤ FRAME_WORDS)
+IsItem End = ⊤
+
+abbrev pub AreItems : List Item → Type 0
+AreItems items = (k : ℕ) (item : Item) → slice_get items k ≡ Some item → IsItem item
 
 -- What each segment keeps.
 pub record IsSegment (items : List Item) : Type 0 where
@@ -69,7 +73,8 @@ pub record IsSegment (items : List Item) : Type 0 where
   pub used_set : (k label : ℕ) (item : Item) → slice_get items k ≡ Some item → IsTrue (item_uses label item) → IsTrue (sets label items)
   -- the largest frame is given once at most
   pub one_frame : (j k m n : ℕ) → slice_get items j ≡ Some (Frame m) → slice_get items k ≡ Some (Frame n) → j ≡ k
-  pub in_range : (k : ℕ) (item : Item) → slice_get items k ≡ Some item → InRange item
+  -- each number is in its range
+  pub in_range : AreItems items
   pub counted : length items ≤ INTCODE_ITEMS
 
 -- the largest frame that a segment gives, or the largest that there is

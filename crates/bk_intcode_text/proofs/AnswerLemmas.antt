@@ -15,7 +15,7 @@ use Rattle.bk_intcode_text.specs.TextEnd.{AtEnd}
 use Rattle.bk_intcode_text.specs.Words.{is_blank, at_gap, onto_first, words_of, IsBehind}
 use Rattle.bk_intcode_text.specs.SegmentReading.{TakesWords, GivesSegment, GivesNothing, GivesFault, CutAt}
 use Rattle.bk_intcode_text.specs.FirstSaying.{Saying, segment, nothing, fault, Says}
-use Rattle.bk_intcode_text.specs.SegmentAnswer.{Takes, Answers, AnswersWords}
+use Rattle.bk_intcode_text.specs.SegmentAnswer.{Takes, Answers, AnswersWords, Stands, StandsFor}
 use Rattle.bk_intcode_text.proofs.WordsLemmas.{chosen-true, chosen-false}
 
 bool_cases : (b : Bool) → (b ≡ true) ⊎ (b ≡ false)
@@ -72,7 +72,7 @@ words_of-ended all taken left is none = ap words_of (is ∙ ap (λ (l : List ℕ
 
 -- what a text says, from what was taken of it
 segment_says : (all taken left : List ℕ) (end : Type 0) (items : List Item) → all ≡ taken ++ left → GivesSegment taken end items → (end → left ≡ []) → Says (segment items) (words_of all)
-segment_says all taken left end items is s over = (words_of left, s.0, s.1, words_of-all all taken left end (map item_text items) is s.2 over)
+segment_says all taken left end items is s over = (words_of left, s.0, words_of-all all taken left end (map item_text items) is s.1 over)
 
 nothing_says : (all taken left : List ℕ) (end : Type 0) → all ≡ taken ++ left → GivesNothing taken end → (end → left ≡ []) → Says nothing (words_of all)
 nothing_says all taken left end is s over = words_of-ended all taken left is (over s.1) ∙ s.0
@@ -80,6 +80,22 @@ nothing_says all taken left end is s over = words_of-ended all taken left is (ov
 fault_says : (all taken left : List ℕ) (end : Type 0) (number : ℕ) (kind : IntcodeKind) → all ≡ taken ++ left → GivesFault taken end number kind → (end → left ≡ []) → Says (fault number kind) (words_of all)
 fault_says all taken left end number kind is (inl s) over = inl (s.0, words_of left, s.2, words_of-all all taken left end s.0 is s.1 over)
 fault_says all taken left end number kind is (inr s) over = inr (s.0, subst (λ (w : List (List ℕ)). CutAt w number) (sym (words_of-ended all taken left is (over s.1))) s.2)
+
+-- what the bytes taken say stands whatever follows
+stands_for : (old new : Option (List ℕ)) (ended : Bool) (what : List ℕ → Type 0 → Type 0) (so : List ℕ → List ℕ → Type 0) →
+    ((taken more : List ℕ) (end : Type 0) → what taken end → (end → more ≡ []) → so taken more) → Takes old new ended what →
+    Takes old new ended (λ taken end. (more : List ℕ) → (end → more ≡ []) → so taken more)
+stands_for old new ended what so each t = (t.0, t.1, λ more over. each t.0 more (AtEnd ended (length t.0)) t.2 over)
+
+pub answer_stands : (old new : Option (List ℕ)) (ended : Bool) (result : Result (Option Intcode) (Refused IntcodeFault)) → Answers result old new ended → StandsFor result old new ended
+answer_stands old new ended (Ok (Some read)) t = stands_for old new ended (λ taken end. GivesSegment taken end (items_of read)) (Stands (Ok (Some read)))
+    (λ taken more end given over. words_of-all (taken ++ more) taken more end (map item_text (items_of read)) refl given.1 over) t
+answer_stands old new ended (Ok None) t = stands_for old new ended GivesNothing (Stands (Ok None))
+    (λ taken more end given over. nothing_says (taken ++ more) taken more end refl given over) t
+answer_stands old new ended (Err (Fault f)) t = stands_for old new ended (λ taken end. GivesFault taken end f.item f.kind) (Stands (Err (Fault f)))
+    (λ taken more end given over. fault_says (taken ++ more) taken more end f.item f.kind refl given over) t
+answer_stands old new ended (Err Memory) t = tt
+answer_stands old new ended (Err Device) t = tt
 
 -- the bytes taken and those left
 known : (all : List ℕ) (new : Option (List ℕ)) (taken : List ℕ) → Consumes (Some all) new taken → (left : List ℕ) × (new ≡ Some left) × (all ≡ taken ++ left)

@@ -7,12 +7,11 @@ use Rattle.std.proofs.lemmas.List.{take-append-le}
 use Rattle.std.proofs.Math.Seq.{take-append_seam}
 use Rattle.bk_base.specs.declared.limit.TheConstants.{INTCODE_ITEMS}
 use Rattle.bk_base.specs.declared.intcode_fault.IntcodeKind.TheVariants.{LabelNotSet, LabelSetTwice, TooLong, FrameGivenTwice}
-use Rattle.bk_intcode.specs.Segment.{sets, item_sets, item_uses, operand_uses, IsSegment, InRange, OperandInRange}
+use Rattle.bk_intcode.specs.Segment.{sets, item_sets, item_uses, operand_uses, IsSegment, IsItem, AreItems}
 use Rattle.bk_intcode.specs.declared.item.Operand.{Operand}
 use Rattle.bk_intcode.specs.declared.item.Operand.TheVariants.{Number, Local, Global, Label}
 use Rattle.bk_intcode.specs.declared.item.Item.{Item}
 use Rattle.bk_intcode.specs.declared.item.Item.TheVariants.{Instruction, SetLabel, Byte, Word, LabelWord, SetGlobal, Frame, End}
-use Rattle.bk_intcode_text.specs.ItemRange.{IsItem, IsOperand, AreItems}
 use Rattle.bk_intcode_text.specs.ItemFault.{operand_is_set, use_is_set, all_set, is_frame, gives_frame, label_not_set, label_set_twice, too_long, frame_given_twice, item_fault}
 use Rattle.bk_intcode_text.specs.SegmentReading.{IsBegun}
 
@@ -173,22 +172,6 @@ sets-more : (label : ℕ) (items more : List Item) → IsTrue (sets label items)
 sets-more label [] more set = absurd (let h : false ≡ true = set in cc)
 sets-more label (i ∷ items) more set = more_or (item_sets label i) (sets label items) (sets label (items ++ more)) (sets-more label items more) set
 
-OperandInRange-of : (o : Operand) → IsOperand o → OperandInRange o
-OperandInRange-of (Number n) fits = tt
-OperandInRange-of (Local n) fits = tt
-OperandInRange-of (Global n) fits = tt
-OperandInRange-of (Label l) fits = fits
-
-pub InRange-of : (item : Item) → IsItem item → InRange item
-InRange-of (Instruction f i o) fits = OperandInRange-of o fits
-InRange-of (SetLabel l) fits = fits
-InRange-of (Byte b) fits = tt
-InRange-of (Word w) fits = tt
-InRange-of (LabelWord l) fits = fits
-InRange-of (SetGlobal n l) fits = fits
-InRange-of (Frame n) fits = fits
-InRange-of End fits = tt
-
 -- With the end behind them, without a fault, they are a segment.
 pub IsSegment-of : (items all : List Item) → all ≡ items ++ End ∷ [] → IsBegun items → item_fault items End ≡ None → IsSegment all
 IsSegment-of items all is begun faultless = subst IsSegment (sym is) (record {
@@ -206,6 +189,6 @@ IsSegment-of items all is begun faultless = subst IsSegment (sym is) (record {
       let a = before_end items j (Frame m) at_j (λ e. cc) in
       let b = before_end items k (Frame n) at_k (λ e. cc) in
       same_place j k (frame-before items begun j k m n a b) (frame-before items begun k j n m b a);
-  in_range = λ k item at. elim (at_push items End k item at) [ inl p ↦ InRange-of item (begun.in_range k item p.1) | inr p ↦ subst InRange p.1 tt ];
+  in_range = λ k item at. elim (at_push items End k item at) [ inl p ↦ begun.in_range k item p.1 | inr p ↦ subst IsItem p.1 tt ];
   counted = omega (arith, length-append items (End ∷ []), no_fault-few items End faultless);
 })

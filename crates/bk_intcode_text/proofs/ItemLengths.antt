@@ -9,7 +9,7 @@ use Rattle.bk_intcode.specs.declared.item.Operand.TheVariants.{Number, Local, Gl
 use Rattle.bk_intcode.specs.declared.item.Item.{Item}
 use Rattle.bk_intcode.specs.declared.item.Item.TheVariants.{Instruction, SetLabel, Byte, Word, LabelWord, SetGlobal, Frame, End}
 use Rattle.bk_intcode_text.specs.ItemText.{indirect_text, operand_text, item_text}
-use Rattle.bk_intcode_text.specs.ItemRange.{IsOperand, IsItem}
+use Rattle.bk_intcode.specs.Segment.{IsOperand, IsItem}
 use Rattle.bk_intcode_text.proofs.Numerals.{length-global}
 use Rattle.bk_intcode_text.specs.WordMeaning.{WordFault, begins_item}
 

@@ -9,7 +9,7 @@ use Rattle.bk_base.specs.Decimal.{spelling}
 use Rattle.bk_base.specs.declared.limit.TheConstants.{INTCODE_ITEMS}
 use Rattle.bk_base.specs.declared.intcode_fault.IntcodeKind.{IntcodeKind}
 use Rattle.bk_base.specs.declared.intcode_fault.IntcodeKind.TheVariants.{BadLetter, BadNumber, ByteOver255, LabelNotSet, LabelSetTwice, Truncated, TooLong, FrameGivenTwice}
-use Rattle.bk_intcode.specs.Segment.{sets, item_uses, operand_uses, IsSegment}
+use Rattle.bk_intcode.specs.Segment.{sets, item_uses, operand_uses, IsSegment, IsItem, AreItems}
 use Rattle.bk_intcode.specs.declared.item.Function.{Function}
 use Rattle.bk_intcode.specs.declared.item.Function.TheVariants.{Load, Store, Add, Jump, JumpTrue, JumpFalse, Call, Operate}
 use Rattle.bk_intcode.specs.declared.item.Operand.{Operand}
@@ -17,7 +17,6 @@ use Rattle.bk_intcode.specs.declared.item.Operand.TheVariants.{Number, Local, Gl
 use Rattle.bk_intcode.specs.declared.item.Item.{Item}
 use Rattle.bk_intcode.specs.declared.item.Item.TheVariants.{Instruction, SetLabel, Byte, Word, LabelWord, SetGlobal, Frame, End}
 use Rattle.bk_intcode_text.specs.ItemText.{letter, item_text}
-use Rattle.bk_intcode_text.specs.ItemRange.{IsItem, AreItems}
 use Rattle.bk_intcode_text.specs.ItemFault.{operand_is_set, use_is_set, all_set, gives_frame, item_fault}
 use Rattle.bk_intcode_text.specs.WordMeaning.{Means, WordFault, begins_item, IsByteOver255}
 use Rattle.bk_intcode_text.specs.SegmentReading.{IsBegun, FaultBehind, FaultAt, CutAt}
@@ -342,9 +341,9 @@ no_more : (c : List Item) → length c ≡ 0 → c ≡ []
 no_more [] is = refl
 no_more (i ∷ c) is = absurd (omega arith)
 
-segments_same : (a b : List Item) (x y : List (List ℕ)) → IsSegment a → IsSegment b → AreItems a → AreItems b → map item_text a ++ x ≡ map item_text b ++ y → length a ≤ length b → a ≡ b
-segments_same a b x y whole_a whole_b p q is short =
-    let r = same_front a b x y p q is short in
+segments_same : (a b : List Item) (x y : List (List ℕ)) → IsSegment a → IsSegment b → map item_text a ++ x ≡ map item_text b ++ y → length a ≤ length b → a ≡ b
+segments_same a b x y whole_a whole_b is short =
+    let r = same_front a b x y whole_a.in_range whole_b.in_range is short in
     let low : length a - 1 < length a = get_low a (length a - 1) End whole_a.ended in
     let last : suc (length a - 1) ≡ length b = whole_b.ends (length a - 1) (ap (λ (l : List Item). slice_get l (length a - 1)) r.1 ∙ get-append a r.0 (length a - 1) End whole_a.ended) in
     let none : r.0 ≡ [] = no_more r.0 (omega (arith, low, last, ap (λ (l : List Item). length l) r.1, length-append a r.0)) in
@@ -390,17 +389,17 @@ cut_not_empty (i ∷ before) some is = cc
 segment_fault : (items : List Item) (number : ℕ) (kind : IntcodeKind) (words : List (List ℕ)) → Says (segment items) words → Says (fault number kind) words → ⊥
 segment_fault items number kind words s (inl f) =
     let told = f.2 in
-    let is : map item_text told.before ++ told.word ∷ f.1 ≡ map item_text items ++ s.0 = sym (all_words told.before told.word f.0 f.1 words told.are f.3) ∙ s.3 in
+    let is : map item_text told.before ++ told.word ∷ f.1 ≡ map item_text items ++ s.0 = sym (all_words told.before told.word f.0 f.1 words told.are f.3) ∙ s.2 in
     elim (cases_lt (length told.before) (length items)) [
-      | inl short ↦ clash told.before items told.word kind f.1 s.0 told.begun.in_range s.2 (segment_faultless items s.1) told.fault is short
-      | inr long ↦ let r = same_front items told.before s.0 (told.word ∷ f.1) s.2 told.begun.in_range (sym is) long in begun_no_segment items told.before r.0 s.1 told.begun r.1
+      | inl short ↦ clash told.before items told.word kind f.1 s.0 told.begun.in_range s.1.in_range (segment_faultless items s.1) told.fault is short
+      | inr long ↦ let r = same_front items told.before s.0 (told.word ∷ f.1) s.1.in_range told.begun.in_range (sym is) long in begun_no_segment items told.before r.0 s.1 told.begun r.1
     ]
 segment_fault items number kind words s (inr f) =
     let told = f.1 in
-    let is : map item_text items ++ s.0 ≡ map item_text told.before ++ [] = sym s.3 ∙ told.are ∙ sym (append-nil (map item_text told.before)) in
+    let is : map item_text items ++ s.0 ≡ map item_text told.before ++ [] = sym s.2 ∙ told.are ∙ sym (append-nil (map item_text told.before)) in
     elim (cases_lt (length told.before) (length items)) [
       | inl short ↦ absurd (omega (arith, short, ap (λ (l : List (List ℕ)). length l) is, length-append (map item_text items) s.0, length-append (map item_text told.before) [], length-map items item_text, length-map told.before item_text))
-      | inr long ↦ let r = same_front items told.before s.0 [] s.2 told.begun.in_range is long in begun_no_segment items told.before r.0 s.1 told.begun r.1
+      | inr long ↦ let r = same_front items told.before s.0 [] s.1.in_range told.begun.in_range is long in begun_no_segment items told.before r.0 s.1 told.begun r.1
     ]
 
 nothing_fault : (number : ℕ) (kind : IntcodeKind) (words : List (List ℕ)) → words ≡ [] → Says (fault number kind) words → ⊥
@@ -449,12 +448,12 @@ one_fault m n j k words (inr f) (inr g) = (cuts_same words m n f.1 g.1, f.0 ∙ 
 
 pub one_saying : SayOneThing
 one_saying words (segment a) (segment b) s t = elim (cases_lt (length a) (length b)) [
-  | inl short ↦ ap segment (segments_same a b s.0 t.0 s.1 t.1 s.2 t.2 (sym s.3 ∙ t.3) (omega arith))
-  | inr long ↦ ap segment (sym (segments_same b a t.0 s.0 t.1 s.1 t.2 s.2 (sym t.3 ∙ s.3) long))
+  | inl short ↦ ap segment (segments_same a b s.0 t.0 s.1 t.1 (sym s.2 ∙ t.2) (omega arith))
+  | inr long ↦ ap segment (sym (segments_same b a t.0 s.0 t.1 s.1 (sym t.2 ∙ s.2) long))
 ]
-one_saying words (segment a) nothing s t = absurd (segment_not_empty a s.0 s.1 (sym t ∙ s.3))
+one_saying words (segment a) nothing s t = absurd (segment_not_empty a s.0 s.1 (sym t ∙ s.2))
 one_saying words (segment a) (fault n k) s t = absurd (segment_fault a n k words s t)
-one_saying words nothing (segment b) s t = absurd (segment_not_empty b t.0 t.1 (sym s ∙ t.3))
+one_saying words nothing (segment b) s t = absurd (segment_not_empty b t.0 t.1 (sym s ∙ t.2))
 one_saying words nothing nothing s t = refl
 one_saying words nothing (fault n k) s t = absurd (nothing_fault n k words s t)
 one_saying words (fault m j) (segment b) s t = absurd (segment_fault b m j words t s)

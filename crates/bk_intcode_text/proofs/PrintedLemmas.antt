@@ -10,11 +10,12 @@ use Rattle.bk_intcode.specs.declared.item.Operand.TheVariants.{Number, Local, Gl
 use Rattle.bk_intcode.specs.declared.item.Item.{Item}
 use Rattle.bk_intcode.specs.declared.item.Item.TheVariants.{Instruction, SetLabel, Byte, Word, LabelWord, SetGlobal, Frame, End}
 use Rattle.bk_intcode_text.specs.ItemText.{letter, indirect_text, operand_text, item_text}
-use Rattle.bk_intcode_text.specs.ItemRange.{IsOperand, IsItem}
+use Rattle.bk_intcode.specs.Segment.{IsOperand, IsItem, AreItems}
+use Rattle.bk_intcode.specs.SegmentItems.{items_of}
+use Rattle.bk_intcode.specs.SegmentLaws.{segment_whole}
 use Rattle.bk_intcode_text.specs.SegmentText.{segment_text}
 use Rattle.bk_intcode_text.specs.Words.{is_blank, words_of, AreInWord}
 use Rattle.bk_intcode_text.specs.FirstSaying.{PrintedSaysAgain}
-use Rattle.bk_intcode_text.specs.ItemRange.{AreItems}
 use Rattle.bk_intcode_text.proofs.Takes.{AreInWord-append}
 use Rattle.bk_intcode_text.proofs.Numerals.{mag-fits, digit-at}
 use Rattle.bk_intcode_text.proofs.WordLemmas.{each_digit, nothing-empty}
@@ -82,4 +83,4 @@ words_of-printed (i ∷ items) more are =
     ∙ ap (λ (w : List (List ℕ)). item_text i ∷ w) (words_of-printed items more (λ k item is. are (suc k) item is))
 
 pub printed_again : PrintedSaysAgain
-printed_again items more whole are = (words_of more, whole, are, words_of-printed items more are)
+printed_again printed more = let whole = segment_whole printed in (words_of more, whole, words_of-printed (items_of printed) more whole.in_range)

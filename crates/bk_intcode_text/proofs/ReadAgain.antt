@@ -21,11 +21,11 @@ segment_fault : (a : List Item) (n : ℕ) (k : IntcodeKind) → segment a ≡ fa
 segment_fault a n k is = cc
 
 pub read_again : PrintedIsReadAgain
-read_again items more (Ok (Some read)) whole are says =
-    items_same (items_of read) items (one_saying (words_of (segment_text items ++ more)) (segment (items_of read)) (segment items) says (printed_again items more whole are))
-read_again items more (Ok None) whole are says =
-    segment_nothing items (one_saying (words_of (segment_text items ++ more)) (segment items) nothing (printed_again items more whole are) says)
-read_again items more (Err (Fault told)) whole are says =
-    segment_fault items told.item told.kind (one_saying (words_of (segment_text items ++ more)) (segment items) (fault told.item told.kind) (printed_again items more whole are) says)
-read_again items more (Err Memory) whole are says = tt
-read_again items more (Err Device) whole are says = tt
+read_again printed more (Ok (Some read)) says =
+    items_same (items_of read) (items_of printed) (one_saying (words_of (segment_text (items_of printed) ++ more)) (segment (items_of read)) (segment (items_of printed)) says (printed_again printed more))
+read_again printed more (Ok None) says =
+    segment_nothing (items_of printed) (one_saying (words_of (segment_text (items_of printed) ++ more)) (segment (items_of printed)) nothing (printed_again printed more) says)
+read_again printed more (Err (Fault told)) says =
+    segment_fault (items_of printed) told.item told.kind (one_saying (words_of (segment_text (items_of printed) ++ more)) (segment (items_of printed)) (fault told.item told.kind) (printed_again printed more) says)
+read_again printed more (Err Memory) says = tt
+read_again printed more (Err Device) says = tt

@@ -10,16 +10,15 @@ use Rattle.bk_intcode_text.specs.declared.words.Found.{Found}
 use Rattle.bk_intcode_text.specs.declared.words.Found.TheVariants.{Fault, Nothing}
 use Rattle.bk_intcode_text.specs.declared.words.Found.TheVariants as founds
 use Rattle.bk_intcode_text.specs.ItemText.{item_text}
-use Rattle.bk_intcode_text.specs.ItemRange.{AreItems}
 use Rattle.bk_intcode_text.specs.ItemFault.{item_fault}
 use Rattle.bk_intcode_text.specs.TextEnd.{AtEnd}
 use Rattle.bk_intcode_text.specs.Words.{words_of}
 use Rattle.bk_intcode_text.specs.Next.{IsNext, TakesWord}
 use Rattle.bk_intcode_text.specs.SegmentReading.{IsBegun, FaultBehind, TakesWords, GivesSegment, GivesNothing, GivesFault}
 use Rattle.bk_intcode_text.specs.SegmentAnswer.{Takes}
-use Rattle.bk_intcode_text.proofs.Takes.{Consumes-nothing, Consumes-trans}
+use Rattle.bk_base.specs.DeviceLaws.{Consumes-nothing, Consumes-trans}
 use Rattle.bk_intcode_text.proofs.WordsLemmas.{IsParted, IsParted-empty, IsParted-word, TakesWords-word, words_of-last, words_of-more_blanks}
-use Rattle.bk_intcode_text.proofs.BegunLemmas.{AreItems-push, IsBegun-push, IsSegment-of}
+use Rattle.bk_intcode_text.proofs.BegunLemmas.{IsBegun-push, IsSegment-of}
 
 -- what was taken so far: the words of these items, parted from those that follow
 abbrev pub Read : Option (List ℕ) → Option (List ℕ) → ℕ → List Item → Type 0
@@ -90,7 +89,6 @@ pub segment_here : (a b c : Option (List ℕ)) (m k : ℕ) (ended : Bool) (items
 segment_here a b c m k ended items all last s n begun faultless is =
     gives a b c s.0 n.0 m k ended (λ taken end. GivesSegment taken end all) s.1 n.1 s.2 n.2 (
       IsSegment-of items all is begun faultless,
-      subst AreItems (sym is) (AreItems-push items End begun.in_range tt),
       subst (λ (w : List (List ℕ)). TakesWords (s.0 ++ n.0) (AtEnd ended k) w) (words-push items all End (n.3.0.first ∷ n.3.0.rest) is n.3.1.text)
           (TakesWords-word s.0 n.0 last (AtEnd ended k) (map item_text items) n.3.0 s.4 s.3),
     )

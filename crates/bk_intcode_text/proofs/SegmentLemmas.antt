@@ -1,38 +1,12 @@
 -- Facts on the items of segments.
-use Rattle.std.proofs.Common.{◌≡◌, ℕ, ◌+◌, ◌<◌, List, [], ◌∷◌, ◌++◌, Some, length, take, drop, get_or, slice_get, refl, sym, ◌∙◌, ap, append_assoc, append-nil, subst, Option}
+use Rattle.std.proofs.Common.{◌≡◌, ℕ, ◌+◌, ◌<◌, List, [], ◌∷◌, ◌++◌, length, take, drop, get_or, refl, sym, ◌∙◌, ap, append_assoc, append-nil, subst, Option}
 use Rattle.std.specs.Io.KnownBytes.{Appends}
 use Rattle.bk_base.specs.Devices.{AppendsPart}
-use Rattle.bk_intcode_text.proofs.Parts.{Appends-trans, AppendsPart-behind, AppendsPart-front}
-use mathlib.Core.Logic.{∥∥₁_elim}
-use Rattle.std.proofs.Props.{props}
+use Rattle.bk_base.specs.DeviceLaws.{Appends-trans, AppendsPart-behind, AppendsPart-front}
 use Rattle.std.proofs.lemmas.List.{take_more, take-append-drop}
-use Rattle.bk_intcode.specs.declared.item.Operand.{Operand}
-use Rattle.bk_intcode.specs.declared.item.Operand.TheVariants.{Number, Local, Global, Label}
 use Rattle.bk_intcode.specs.declared.item.Item.{Item}
-use Rattle.bk_intcode.specs.declared.item.Item.TheVariants.{Instruction, SetLabel, Byte, Word, LabelWord, SetGlobal, Frame, End}
-use Rattle.bk_intcode.specs.Segment.{InRange, OperandInRange, IsSegment}
 use Rattle.bk_intcode_text.specs.ItemText.{item_text}
 use Rattle.bk_intcode_text.specs.SegmentText.{segment_text}
-
-OperandInRange-prop : (operand : Operand) → IsProp (OperandInRange operand)
-OperandInRange-prop (Number n) = hlevel props
-OperandInRange-prop (Local n) = hlevel props
-OperandInRange-prop (Global n) = hlevel props
-OperandInRange-prop (Label l) = hlevel props
-
-InRange-prop : (item : Item) → IsProp (InRange item)
-InRange-prop (Instruction function indirect operand) = OperandInRange-prop operand
-InRange-prop (SetLabel l) = hlevel props
-InRange-prop (Byte b) = hlevel props
-InRange-prop (Word w) = hlevel props
-InRange-prop (LabelWord l) = hlevel props
-InRange-prop (SetGlobal number l) = hlevel props
-InRange-prop (Frame n) = hlevel props
-InRange-prop End = hlevel props
-
--- each item of a segment is in its range
-pub InRange-of_segment : (items : List Item) → ∥ IsSegment items ∥₁ → (k : ℕ) (item : Item) → slice_get items k ≡ Some item → InRange item
-InRange-of_segment items whole k item is = ∥∥₁_elim whole (InRange-prop item) (λ s. s.in_range k item is)
 
 pub segment_text-append : (a b : List Item) → segment_text (a ++ b) ≡ segment_text a ++ segment_text b
 segment_text-append [] b = refl

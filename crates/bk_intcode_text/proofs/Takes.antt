@@ -1,19 +1,10 @@
 -- Bytes that are taken one part after another.
-use Rattle.std.proofs.Common.{◌≡◌, ◌+◌, ◌<◌, ◌≤◌, Bool, true, false, length, length-append, arith, ℕ, List, [], ◌∷◌, ◌++◌, Option, None, Some, refl, sym, ◌∙◌, ap, append_assoc}
+use Rattle.std.proofs.Common.{◌≡◌, ◌+◌, ◌<◌, ◌≤◌, Bool, true, false, length, length-append, arith, ℕ, List, [], ◌∷◌, ◌++◌, Option, refl, ◌∙◌, ap}
 use Rattle.std.specs.Io.KnownBytes.{Consumes}
+use Rattle.bk_base.specs.DeviceLaws.{Consumes-trans}
 use Rattle.bk_intcode_text.specs.declared.word_buffer.TheConstants.{SIZE}
 use Rattle.bk_intcode_text.specs.Words.{is_blank, AreBlank, AreInWord}
 use Rattle.bk_intcode_text.specs.Gathering.{Holds}
-
-pub Consumes-nothing : (known : Option (List ℕ)) → Consumes known known []
-Consumes-nothing None = tt
-Consumes-nothing (Some x) = refl
-
-pub Consumes-trans : (a b c : Option (List ℕ)) (x y : List ℕ) → Consumes a b x → Consumes b c y → Consumes a c (x ++ y)
-Consumes-trans None b c x y p q = tt
-Consumes-trans (Some k) None c x y p q = absurd p
-Consumes-trans (Some k) (Some l) None x y p q = absurd q
-Consumes-trans (Some k) (Some l) (Some m) x y p q = p ∙ ap (λ z. x ++ z) q ∙ sym (append_assoc x y m)
 
 pub AreBlank-append : (x y : List ℕ) → AreBlank x → AreBlank y → AreBlank (x ++ y)
 AreBlank-append [] y p q = q

@@ -5,7 +5,8 @@ use Rattle.bk_base.specs.declared.intcode_fault.IntcodeKind.TheVariants.{Truncat
 use Rattle.bk_intcode.specs.Segment.{IsSegment}
 use Rattle.bk_intcode.specs.declared.item.Item.{Item}
 use Rattle.bk_intcode_text.specs.ItemText.{item_text}
-use Rattle.bk_intcode_text.specs.ItemRange.{AreItems}
+use Rattle.bk_intcode.specs.SegmentItems.{items_of}
+use Rattle.bk_intcode.specs.declared.segment.Intcode.{Intcode}
 use Rattle.bk_intcode_text.specs.SegmentText.{segment_text}
 use Rattle.bk_intcode_text.specs.SegmentReading.{FaultAt, CutAt}
 use Rattle.bk_intcode_text.specs.Words.{words_of}
@@ -19,7 +20,7 @@ pub data Saying : Type 0 where
 -- The first words are those of a segment, or none is left, or the first words have a fault, or the words end where an item
 -- is due.
 abbrev pub Says : Saying → List (List ℕ) → Type 0
-Says (segment items) words = (rest : List (List ℕ)) × IsSegment items × AreItems items × (words ≡ map item_text items ++ rest)
+Says (segment items) words = (rest : List (List ℕ)) × IsSegment items × (words ≡ map item_text items ++ rest)
 Says nothing words = words ≡ []
 Says (fault number kind) words =
     ((first rest : List (List ℕ)) × FaultAt first number kind × (words ≡ first ++ rest)) ⊎ ((kind ≡ Truncated) × CutAt words number)
@@ -30,4 +31,4 @@ SayOneThing = (words : List (List ℕ)) (a b : Saying) → Says a words → Says
 
 -- What is printed says the segment again, whatever follows.
 abbrev pub PrintedSaysAgain : Type 0
-PrintedSaysAgain = (items : List Item) (more : List ℕ) → IsSegment items → AreItems items → Says (segment items) (words_of (segment_text items ++ more))
+PrintedSaysAgain = (printed : Intcode) (more : List ℕ) → Says (segment (items_of printed)) (words_of (segment_text (items_of printed) ++ more))

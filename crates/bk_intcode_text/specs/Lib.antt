@@ -1,6 +1,5 @@
 pub mod ItemText
 pub mod SegmentText
-pub mod ItemRange
 pub mod WordMeaning
 pub mod Words
 pub mod TextEnd

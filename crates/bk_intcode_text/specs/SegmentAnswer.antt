@@ -1,14 +1,13 @@
 -- What a call that reads a segment answers.
-use Rattle.std.specs.Prelude.{◌≡◌, ◌++◌, ℕ, Bool, true, false, List, length, Option, None, Some, Result, Ok, Err, ⊤}
+use Rattle.std.specs.Prelude.{◌≡◌, ◌++◌, ℕ, Bool, true, false, List, [], length, map, Option, None, Some, Result, Ok, Err, ⊤}
 use Rattle.std.specs.Io.KnownBytes.{Consumes}
 use Rattle.bk_base.specs.declared.intcode_fault.IntcodeFault.{IntcodeFault}
 use Rattle.bk_base.specs.declared.refused.Refused.{Refused}
 use Rattle.bk_base.specs.declared.refused.Refused.TheVariants.{Fault, Memory, Device}
 use Rattle.bk_intcode.specs.declared.segment.Intcode.{Intcode}
-use Rattle.bk_intcode.specs.Segment.{IsSegment}
 use Rattle.bk_intcode.specs.declared.item.Item.{Item}
 use Rattle.bk_intcode.specs.SegmentItems.{items_of}
-use Rattle.bk_intcode_text.specs.ItemRange.{AreItems}
+use Rattle.bk_intcode_text.specs.ItemText.{item_text}
 use Rattle.bk_intcode_text.specs.SegmentText.{segment_text}
 use Rattle.bk_intcode_text.specs.Words.{words_of}
 use Rattle.bk_intcode_text.specs.TextEnd.{AtEnd}
@@ -26,6 +25,21 @@ Answers (Ok None) old new ended = Takes old new ended GivesNothing
 Answers (Err (Fault told)) old new ended = Takes old new ended (λ taken end. GivesFault taken end told.item told.kind)
 Answers (Err Memory) old new ended = ⊤
 Answers (Err Device) old new ended = ⊤
+
+-- What the answer says of a text that begins with these bytes, which were taken, unless memory was refused or the device
+-- failed.
+abbrev pub Stands : Result (Option Intcode) (Refused IntcodeFault) → List ℕ → List ℕ → Type 0
+Stands (Ok (Some read)) taken more = words_of (taken ++ more) ≡ map item_text (items_of read) ++ words_of more
+Stands (Ok None) taken more = words_of (taken ++ more) ≡ []
+Stands (Err (Fault told)) taken more = Says (fault told.item told.kind) (words_of (taken ++ more))
+Stands (Err Memory) taken more = ⊤
+Stands (Err Device) taken more = ⊤
+
+-- That stands whatever follows: nothing, where the text ends.
+abbrev pub StandsFor : Result (Option Intcode) (Refused IntcodeFault) → Option (List ℕ) → Option (List ℕ) → Bool → Type 0
+StandsFor (Err Memory) old new ended = ⊤
+StandsFor (Err Device) old new ended = ⊤
+StandsFor answer old new ended = Takes old new ended (λ taken end. (more : List ℕ) → (end → more ≡ []) → Stands answer taken more)
 
 abbrev pub is_device : Result (Option Intcode) (Refused IntcodeFault) → Bool
 is_device (Ok read) = false
@@ -51,5 +65,5 @@ ReadsAgain (Err Device) items = ⊤
 
 -- What is printed is read again as the same segment, whatever follows.
 abbrev pub PrintedIsReadAgain : Type 0
-PrintedIsReadAgain = (items : List Item) (more : List ℕ) (answer : Result (Option Intcode) (Refused IntcodeFault)) →
-    IsSegment items → AreItems items → AnswersWords answer (words_of (segment_text items ++ more)) → ReadsAgain answer items
+PrintedIsReadAgain = (printed : Intcode) (more : List ℕ) (answer : Result (Option Intcode) (Refused IntcodeFault)) →
+    AnswersWords answer (words_of (segment_text (items_of printed) ++ more)) → ReadsAgain answer (items_of printed)

@@ -2,11 +2,10 @@
 use Rattle.std.specs.Prelude.{◌≡◌, ◌≢◌, ◌⊎◌, ℕ, ◌+◌, ◌<◌, List, [], ◌∷◌, ◌++◌, Some, None, length, take, map, slice_get}
 use Rattle.bk_base.specs.declared.intcode_fault.IntcodeKind.{IntcodeKind}
 use Rattle.bk_base.specs.declared.intcode_fault.IntcodeKind.TheVariants.{Truncated}
-use Rattle.bk_intcode.specs.Segment.{IsSegment}
 use Rattle.bk_intcode.specs.declared.item.Item.{Item}
 use Rattle.bk_intcode.specs.declared.item.Item.TheVariants.{End}
 use Rattle.bk_intcode_text.specs.ItemText.{item_text}
-use Rattle.bk_intcode_text.specs.ItemRange.{AreItems}
+use Rattle.bk_intcode.specs.Segment.{IsSegment, AreItems}
 use Rattle.bk_intcode_text.specs.ItemFault.{item_fault}
 use Rattle.bk_intcode_text.specs.WordMeaning.{Means, WordFault}
 use Rattle.bk_intcode_text.specs.Words.{words_of, EndsInWord, IsBehind}
@@ -50,7 +49,7 @@ pub record TakesWords (taken : List ℕ) (end : Type 0) (words : List (List ℕ)
 
 -- The bytes that were taken are the words of this segment.
 abbrev pub GivesSegment : List ℕ → Type 0 → List Item → Type 0
-GivesSegment taken end items = IsSegment items × AreItems items × TakesWords taken end (map item_text items)
+GivesSegment taken end items = IsSegment items × TakesWords taken end (map item_text items)
 
 -- Only blanks were left.
 abbrev pub GivesNothing : List ℕ → Type 0 → Type 0

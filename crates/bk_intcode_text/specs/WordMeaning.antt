@@ -5,7 +5,7 @@ use Rattle.bk_base.specs.declared.intcode_fault.IntcodeKind.{IntcodeKind}
 use Rattle.bk_base.specs.declared.intcode_fault.IntcodeKind.TheVariants.{BadLetter, BadNumber, ByteOver255, LabelNotSet, LabelSetTwice, Truncated, TooLong, FrameGivenTwice}
 use Rattle.bk_intcode.specs.declared.item.Item.{Item}
 use Rattle.bk_intcode_text.specs.ItemText.{item_text}
-use Rattle.bk_intcode_text.specs.ItemRange.{IsItem}
+use Rattle.bk_intcode.specs.Segment.{IsItem}
 
 -- the word stands for the item
 pub record Means (word : List ℕ) (item : Item) : Type 0 where

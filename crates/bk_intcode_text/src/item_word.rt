@@ -1,7 +1,7 @@
 //! The word of an item.
 ghost use Rattle.std.specs.Prelude.{◌≡◌, ◌+◌, ◌≤◌, ◌++◌, length, pos};
 ghost use Rattle.bk_base.specs.Decimal.{spelling};
-ghost use Rattle.bk_intcode.specs.Segment.{IsLabel, OperandInRange, InRange};
+ghost use Rattle.bk_intcode.specs.Segment.{IsLabel, IsOperand, IsItem};
 ghost use Rattle.bk_intcode_text.specs.ItemText.{letter, operand_text, item_text};
 
 use crate::word_buffer::WordBuffer;
@@ -56,7 +56,7 @@ fn add_global(word: &mut WordBuffer, number: u32)
 /// Adds an operand to a word.
 fn add_operand(word: &mut WordBuffer, operand: Operand)
     requires short { length word.old ≤ 4 }
-    requires in_range { OperandInRange operand }
+    requires in_range { IsOperand operand }
     ensures { word.new ≡ word.old ++ operand_text operand }
 {
     match operand {
@@ -78,7 +78,7 @@ fn add_operand(word: &mut WordBuffer, operand: Operand)
 
 /// The word that stands for an item.
 pub fn item_word(item: Item) -> WordBuffer
-    requires { InRange item }
+    requires { IsItem item }
     ensures { result ≡ item_text item }
 {
     let mut word = WordBuffer::new();

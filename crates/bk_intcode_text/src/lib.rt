@@ -6,6 +6,8 @@ mod item_word;
 mod laws;
 mod meaning;
 mod printing;
+#[cfg(test)]
+mod program_tests;
 mod reading;
 #[cfg(test)]
 mod tests;

@@ -4,7 +4,7 @@ ghost use Rattle.std.specs.Int.{w32};
 ghost use Rattle.bk_base.specs.Decimal.{spelling};
 ghost use Rattle.bk_intcode.specs.Segment.{IsLabel};
 ghost use Rattle.bk_intcode_text.specs.ItemText.{letter, indirect_text, operand_text};
-ghost use Rattle.bk_intcode_text.specs.ItemRange.{IsOperand};
+ghost use Rattle.bk_intcode.specs.Segment.{IsOperand};
 ghost use Rattle.bk_intcode_text.specs.WordMeaning.{Means, MeansNothing, WordFault, is_digit, is_function, begins_item};
 
 use bk_base::limit::{FRAME_WORDS, FRAME_WORDS_LEAST, GLOBAL_NUMBER, INTCODE_LABEL};

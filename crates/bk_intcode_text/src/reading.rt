@@ -1,6 +1,7 @@
 //! Reading segments.
-ghost use Rattle.std.specs.Prelude.{◌≡◌, ℕ, ◌+◌, ◌<◌, ◌≤◌, List, Some, length, if◌then◌else◌};
-ghost use Rattle.bk_intcode_text.specs.SegmentAnswer.{Answers, AnswersWords, is_device};
+ghost use Rattle.std.specs.Prelude.{◌≡◌, ℕ, ◌+◌, ◌<◌, ◌≤◌, List, Some, None, Ok, Err, IsTrue, length, if◌then◌else◌};
+ghost use Rattle.std.specs.Io.KnownBytes.{Keeps};
+ghost use Rattle.bk_intcode_text.specs.SegmentAnswer.{Answers, StandsFor, AnswersWords, is_device};
 ghost use Rattle.bk_intcode_text.specs.Words.{words_of};
 
 use crate::draft::Draft;
@@ -31,10 +32,14 @@ pub fn read_segment<I: ByteIn>(
 ) -> Result<Option<Intcode>, Refused<IntcodeFault>>
     // What was taken is the text of the segment, or blanks, or a text up to its first fault.
     ensures answers { Answers result (I.left input.old) (I.left input.new) (I.ended input.new) }
+    // That stands whatever follows the bytes taken.
+    ensures stands { StandsFor result (I.left input.old) (I.left input.new) (I.ended input.new) }
     // The same of the whole text, whose words say one thing.
     ensures says { (all : List ℕ) → I.left input.old ≡ Some all → length all < INPUT_BYTES → AnswersWords result (words_of all) }
-    // It fails exactly where the device does.
+    // It fails exactly where the device does, and at once where that failed before. Where the end was told, nothing is left.
     ensures failures { I.faults input.new ≡ (if is_device result then 1 else 0) }
+    ensures failed_again { I.faults input.old ≡ 1 → (result ≡ Err Refused.Device) × Keeps (I.left input.old) (I.left input.new) }
+    ensures ended_again { IsTrue (I.ended input.old) → (result ≡ Ok None) × IsTrue (I.ended input.new) }
 {
     next_segment(alloc, input)
 }
@@ -46,6 +51,8 @@ fn next_segment<I: ByteIn>(
 ) -> Result<Option<Intcode>, Refused<IntcodeFault>>
     ensures answers { Answers result (I.left input.old) (I.left input.new) (I.ended input.new) }
     ensures failures { I.faults input.new ≡ (if is_device result then 1 else 0) }
+    ensures failed_again { I.faults input.old ≡ 1 → (result ≡ Err Refused.Device) × Keeps (I.left input.old) (I.left input.new) }
+    ensures ended_again { IsTrue (I.ended input.old) → (result ≡ Ok None) × IsTrue (I.ended input.new) }
 {
     let mut draft = Draft::new(alloc);
     let mut taken = 0;

@@ -1,6 +1,6 @@
 //! Taking words from a device.
-ghost use Rattle.std.specs.Prelude.{◌≡◌, ◌≢◌, ℕ, ◌+◌, ◌<◌, ◌≤◌, false, true, IsTrue, List, [], ◌∷◌, ◌++◌, length, Option, Some, None, IfSome, IfNone, IfOk, IfErr, OnOk, OnErr};
-ghost use Rattle.std.specs.Io.KnownBytes.{Consumes};
+ghost use Rattle.std.specs.Prelude.{◌≡◌, ◌≢◌, ℕ, ◌+◌, ◌<◌, ◌≤◌, false, true, IsTrue, List, [], ◌∷◌, ◌++◌, length, Option, Some, None, Ok, IfSome, IfNone, IfOk, IfErr, OnOk, OnErr, IsErr};
+ghost use Rattle.std.specs.Io.KnownBytes.{Consumes, Keeps};
 ghost use Rattle.bk_base.specs.Devices.{byte_list};
 ghost use Rattle.bk_intcode_text.specs.TextEnd.{AtEnd};
 ghost use Rattle.bk_intcode_text.specs.Words.{is_blank, AreBlank, AreInWord};
@@ -30,6 +30,8 @@ fn next_byte<I: ByteIn>(input: &mut I, taken: &mut u64) -> Result<Option<u8>, Fa
     ensures within { taken.new ≤ INPUT_BYTES }
     ensures clear { OnOk result (I.faults input.new ≡ 0) }
     ensures failed { OnErr result (I.faults input.new ≡ 1) }
+    ensures failed_again { I.faults input.old ≡ 1 → IsErr result × Keeps (I.left input.old) (I.left input.new) }
+    ensures ended_again { IsTrue (I.ended input.old) → (result ≡ Ok None) × IsTrue (I.ended input.new) }
 {
     if *taken == INPUT_BYTES {
         return Ok(None);
@@ -52,6 +54,8 @@ fn first_byte<I: ByteIn>(input: &mut I, taken: &mut u64) -> Result<Option<u8>, F
     ensures within { OnOk result (taken.new ≤ INPUT_BYTES) }
     ensures clear { OnOk result (I.faults input.new ≡ 0) }
     ensures failed { OnErr result (I.faults input.new ≡ 1) }
+    ensures failed_again { I.faults input.old ≡ 1 → IsErr result × Keeps (I.left input.old) (I.left input.new) }
+    ensures ended_again { IsTrue (I.ended input.old) → (result ≡ Ok None) × IsTrue (I.ended input.new) }
 {
     loop {
         let byte = next_byte(input, taken)?;
@@ -138,6 +142,8 @@ pub fn next_item<I: ByteIn>(input: &mut I, taken: &mut u64) -> Result<Found, Fai
     ensures within { OnOk result (taken.new ≤ INPUT_BYTES) }
     ensures clear { OnOk result (I.faults input.new ≡ 0) }
     ensures failed { OnErr result (I.faults input.new ≡ 1) }
+    ensures failed_again { I.faults input.old ≡ 1 → IsErr result × Keeps (I.left input.old) (I.left input.new) }
+    ensures ended_again { IsTrue (I.ended input.old) → (result ≡ Ok Found.Nothing) × IsTrue (I.ended input.new) }
 {
     let Some(first) = first_byte(input, taken)? else {
         return Ok(Found::Nothing);

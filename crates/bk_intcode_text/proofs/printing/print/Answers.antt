@@ -1,3 +1,4 @@
+use Rattle.std.proofs.Common.{rules}
 use Rattle.bk_base.specs.DeviceLaws.{Begins-trans}
 use Rattle.bk_intcode_text.proofs.Parts.{on_err}
 use Rattle.bk_intcode_text.proofs.SegmentLemmas.{AppendsPart-line, Appends-line}
@@ -12,5 +13,6 @@ pub loop-item-preserved : goal.loop-item-preserved
 loop-item-preserved g c = record {
   taken = Appends-line _ _ _ c.items-item-items.result.now c.loop-item.item-index _ c.loop-item-test.true c.loop-item.invariant.taken c.in_ok-put_item.ensures.takes;
   passed = Begins-trans _ _ _ c.loop-item.invariant.passed c.in_ok-put_item.ensures.passes;
+  again = λ was. let stays = c.loop-item.invariant.again was in search rules;
   clear = λ _. c.in_ok-put_item.ensures.failures;
 }

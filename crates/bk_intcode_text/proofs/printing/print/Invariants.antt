@@ -1,5 +1,5 @@
 use Rattle.std.proofs.Common.{◌≡◌, ◌<◌, take}
-use Rattle.std.specs.Io.KnownBytes.{Appends}
+use Rattle.std.specs.Io.KnownBytes.{Appends, Keeps}
 use Rattle.bk_base.specs.Devices.{Begins}
 use Rattle.bk_intcode_text.specs.SegmentText.{segment_text}
 use Rattle.bk_intcode_text.proofs.printing.print.Given as goal
@@ -8,5 +8,6 @@ abbrev pub invariant-loop-item : goal.invariant-loop-item
 invariant-loop-item g l = record {
   taken : Appends (g.O.ByteOut.taken l.initial.out) (g.O.ByteOut.taken l.out) (segment_text (take l.item-index l.item-items));
   passed : Begins (g.O.ByteOut.passed l.initial.out) (g.O.ByteOut.passed l.out);
+  again : g.O.ByteOut.faults l.initial.out ≡ 1 → (l.item-index ≡ 0) × (g.O.ByteOut.faults l.out ≡ 1) × Keeps (g.O.ByteOut.taken l.initial.out) (g.O.ByteOut.taken l.out) × Keeps (g.O.ByteOut.passed l.initial.out) (g.O.ByteOut.passed l.out);
   clear : 0 < l.item-index → g.O.ByteOut.faults l.out ≡ 0;
 }

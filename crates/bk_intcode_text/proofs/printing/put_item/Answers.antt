@@ -1,6 +1,7 @@
 use Rattle.std.proofs.Common.{sym, ap, ◌∙◌, ◌++◌, ◌≡◌, ◌∷◌, [], List, ℕ}
 use Rattle.bk_intcode_text.specs.ItemText.{item_text}
-use Rattle.bk_intcode_text.proofs.Parts.{on_err, AppendsPart-kept, AppendsPart-front}
+use Rattle.bk_base.specs.DeviceLaws.{AppendsPart-kept, AppendsPart-front}
+use Rattle.bk_intcode_text.proofs.Parts.{on_err}
 use Rattle.bk_intcode_text.proofs.printing.put_item.Goals as goal
 
 pub returns-in_err-put_all-clause-part : goal.returns-in_err-put_all-clause-part

@@ -1,4 +1,4 @@
-use Rattle.std.proofs.Common.{◌≡◌, ◌+◌, ◌++◌, ◌∷◌, [], List, length, Err, sym, subst, ap, ◌∙◌, arith, None, length-append}
+use Rattle.std.proofs.Common.{◌≡◌, ◌+◌, ◌++◌, ◌∷◌, [], List, length, Err, sym, subst, ap, ◌∙◌, arith, rules, None, length-append}
 use Rattle.bk_base.specs.declared.intcode_fault.IntcodeFault.{IntcodeFault}
 use Rattle.bk_base.specs.declared.refused.Refused.{Refused}
 use Rattle.bk_intcode.specs.declared.item.Item.{Item}
@@ -68,4 +68,6 @@ loop-found-preserved g c =
       begun = IsBegun-more _ _ c.loop-found.taken c.next_item.new.taken _ items all c.in-Item.item c.in-Item.last comes c.loop-found.invariant.begun faultless c.in_default-item.not-End c.in-Ok-add.ensures.added;
       few = omega (arith, no_fault-few items c.in-Item.item faultless, ap (λ (l : List Item). length l) c.in-Ok-add.ensures.added, length-append items (c.in-Item.item ∷ []));
       clear = λ _. c.in-Ok.ensures.clear;
+      over = λ was. let stays = c.loop-found.invariant.over was in search rules;
+      again = λ was. let stays = c.loop-found.invariant.again was in search rules;
     }

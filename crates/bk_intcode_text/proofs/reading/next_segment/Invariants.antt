@@ -1,5 +1,5 @@
-use Rattle.std.proofs.Common.{◌≡◌, ◌-◌, ◌<◌, ◌≤◌, ℕ, List, length, map}
-use Rattle.std.specs.Io.KnownBytes.{Consumes}
+use Rattle.std.proofs.Common.{◌≡◌, ◌-◌, ◌<◌, ◌≤◌, ℕ, List, [], IsTrue, length, map}
+use Rattle.std.specs.Io.KnownBytes.{Consumes, Keeps}
 use Rattle.bk_base.specs.declared.limit.TheConstants.{INPUT_BYTES, INTCODE_ITEMS}
 use Rattle.bk_intcode_text.specs.ItemText.{item_text}
 use Rattle.bk_intcode_text.specs.Words.{words_of}
@@ -16,6 +16,8 @@ invariant-loop-found g l = record {
   begun : IsBegun l.draft.items.items;
   few : length l.draft.items.items ≤ INTCODE_ITEMS;
   clear : 0 < l.taken → g.I.ByteIn.faults l.input ≡ 0;
+  over : IsTrue (g.I.ByteIn.ended l.initial.input) → IsTrue (g.I.ByteIn.ended l.input) × (l.draft.items.items ≡ []);
+  again : g.I.ByteIn.faults l.initial.input ≡ 1 → (g.I.ByteIn.faults l.input ≡ 1) × Keeps (g.I.ByteIn.left l.initial.input) (g.I.ByteIn.left l.input);
 }
 
 abbrev pub decreases-loop-found : goal.decreases-loop-found

@@ -1,5 +1,8 @@
-use Rattle.bk_intcode_text.proofs.AnswerLemmas.{answer_says}
+use Rattle.bk_intcode_text.proofs.AnswerLemmas.{answer_says, answer_stands}
 use Rattle.bk_intcode_text.proofs.reading.read_segment.Goals as goal
+
+pub returns-clause-stands : goal.returns-clause-stands
+returns-clause-stands g c = answer_stands _ _ _ c.next_segment.result c.next_segment.ensures.answers
 
 pub returns-clause-says : goal.returns-clause-says
 returns-clause-says g c = λ all is short.

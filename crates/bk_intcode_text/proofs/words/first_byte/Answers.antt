@@ -1,4 +1,4 @@
-use Rattle.std.proofs.Common.{◌≡◌, ◌+◌, ◌∙◌, sym, arith, true}
+use Rattle.std.proofs.Common.{◌≡◌, ◌+◌, ◌∙◌, sym, arith, rules, true}
 use Rattle.bk_intcode_text.specs.Words.{is_blank}
 use Rattle.bk_intcode_text.proofs.Takes.{blanks-more}
 use Rattle.bk_intcode_text.proofs.words.first_byte.Goals as goal
@@ -15,4 +15,6 @@ loop-byte-preserved g c =
     record {
       taken = blanks-more _ _ _ c.args.taken.now c.loop-byte.taken c.next_byte.new.taken c.in-Some.b c.loop-byte.invariant.taken blank (rw c.in-Some.is at c.in_ok-byte.ensures.gives) count;
       clear = λ _. c.in_ok-byte.ensures.clear;
+      over = λ was. let stays = c.loop-byte.invariant.over was in search rules;
+      again = λ was. let stays = c.loop-byte.invariant.again was in search rules;
     }

@@ -1,6 +1,6 @@
 use Rattle.std.proofs.Common.{◌≡◌, ◌++◌, ◌∷◌, [], false}
 use Rattle.bk_intcode_text.specs.Words.{is_blank}
-use Rattle.bk_intcode_text.proofs.Takes.{Consumes-trans}
+use Rattle.bk_base.specs.DeviceLaws.{Consumes-trans}
 use Rattle.bk_intcode_text.proofs.NextWord.{the_word, count-both}
 use Rattle.bk_intcode_text.proofs.words.next_item.Goals as goal
 

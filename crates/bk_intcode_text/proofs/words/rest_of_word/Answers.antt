@@ -1,6 +1,7 @@
 use Rattle.std.proofs.Common.{◌≡◌, ◌+◌, ◌∙◌, ◌∷◌, ◌++◌, [], sym, arith, true, false, refl}
 use Rattle.bk_intcode_text.specs.Words.{is_blank}
-use Rattle.bk_intcode_text.proofs.Takes.{Consumes-trans, count-more, AreInWord-append, Holds-push, Holds-long}
+use Rattle.bk_base.specs.DeviceLaws.{Consumes-trans}
+use Rattle.bk_intcode_text.proofs.Takes.{count-more, AreInWord-append, Holds-push, Holds-long}
 use Rattle.bk_intcode_text.proofs.words.rest_of_word.Goals as goal
 
 pub returns-then-is_blank_byte-clause-gives : goal.returns-then-is_blank_byte-clause-gives

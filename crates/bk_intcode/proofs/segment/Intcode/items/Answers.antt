@@ -1,5 +1,5 @@
 use Rattle.std.proofs.Math.Logic.{∥∥₁_elim}
-use Rattle.bk_intcode.proofs.SegmentOnce.{IsSegment-prop}
+use Rattle.bk_intcode.specs.SegmentLaws.{IsSegment-prop}
 use Rattle.bk_intcode.proofs.segment.Intcode.items.Goals as goal
 
 pub returns-clause-whole : goal.returns-clause-whole

@@ -1,0 +1,34 @@
+//! The program: it makes the devices, opens FILE, prints help, and leaves the rest to the library.
+#![tactic(auto)]
+
+mod opened;
+
+use bk_base::{Reader512, Writer512};
+use bk_kit::{LineFault, order, refuse, serve};
+use opened::Opened;
+use std::process::ExitCode;
+use std::{env, fs};
+
+fn main(rt: HostRuntime) -> ExitCode {
+    let alloc = rt.alloc();
+    let mut input = Reader512::new(rt.stdin());
+    let mut out = Writer512::new(rt.stdout());
+    let mut err = Writer512::new(rt.stderr());
+    let Ok(args) = env::args(&rt) else {
+        return ExitCode::from(refuse(&LineFault::Memory, &mut err));
+    };
+    let Ok(words) = args.collect::<Vec<String>>(alloc) else {
+        return ExitCode::from(refuse(&LineFault::Memory, &mut err));
+    };
+    let order = match order(alloc, words.as_slice()) {
+        Ok(order) => order,
+        Err(fault) => {
+            if let LineFault::Help(help) = &fault {
+                let _printed = help.print(&rt);
+            }
+            return ExitCode::from(refuse(&fault, &mut err));
+        }
+    };
+    let mut file = Reader512::new(Opened::new(fs::open(&rt, order.file()).ok()));
+    ExitCode::from(serve(alloc, &order, &mut file, &mut input, &mut out, &mut err))
+}

@@ -1,0 +1,5 @@
+mod PieceLemmas
+mod CodeLemmas
+mod LoadLemmas
+mod TellLemmas
+mod LineLemmas

@@ -1,0 +1,12 @@
+use Rattle.std.proofs.Common.{◌≡◌, take}
+use Rattle.std.specs.Io.KnownBytes.{Appends}
+use Rattle.bk_base.specs.Devices.{Begins}
+use Rattle.bk_kit.specs.Pieces.{joined}
+use Rattle.bk_kit.proofs.pieces.put_pieces.Given as goal
+
+abbrev pub invariant-loop-piece : goal.invariant-loop-piece
+invariant-loop-piece g l = record {
+  taken : Appends (g.O.ByteOut.taken l.initial.out) (g.O.ByteOut.taken l.out) (joined (take l.piece-index l.pieces));
+  passed : Begins (g.O.ByteOut.passed l.initial.out) (g.O.ByteOut.passed l.out);
+  same : g.O.ByteOut.faults l.out ≡ g.O.ByteOut.faults l.initial.out;
+}

@@ -1,0 +1,10 @@
+use Rattle.std.proofs.Common.{[], sym, append-nil}
+use Rattle.bk_base.specs.DeviceLaws.{AppendsPart-kept}
+use Rattle.bk_kit.specs.Sizes.{sizes_line}
+use Rattle.bk_kit.proofs.TellLemmas.{on_err}
+use Rattle.bk_kit.proofs.runner.report.Goals as goal
+
+pub returns-clause-part : goal.returns-clause-part
+returns-clause-part g c =
+    let line = sizes_line c.args.sizes in
+    on_err c.flush.result (AppendsPart-kept _ _ _ line [] line (sym (append-nil line)) c.in_ok-put_sizes.ensures.takes c.flush.ensures.keeps)

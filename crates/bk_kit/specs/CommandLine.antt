@@ -1,0 +1,67 @@
+-- The command line: its subcommands with their options, and what an order reads of the words.
+use Rattle.std.specs.Prelude.{◌≡◌, ℕ, pos, Bool, true, false, List, [], ◌∷◌, Option, None, Some, codes, string_bytes}
+use Rattle.std.specs.Str.Parse.{IsNumeral, digits_value, without_leading_plus}
+use Rattle.clap.specs.Words.{App, Row, Rule, Text, new_app, new_rule, one_of, first_of, with_rule, with_subcommand}
+use Rattle.clap.specs.declared.builder.ArgAction.TheVariants.{Set, SetTrue}
+use Rattle.clap.specs.declared.builder.ValueParser.TheVariants as vp
+use Rattle.bk_base.specs.Bounds.{Bounds}
+use Rattle.bk_kit.specs.declared.orders.Order.{Order}
+use Rattle.bk_kit.specs.declared.orders.Order.TheVariants.{Interpret, Sizes}
+
+-- `-s WORDS`, from 4096 to 4194304, 262144 unless it is given
+abbrev pub store_rule : Rule
+store_rule = record (new_rule (codes "words")) {
+  short = Some 115;
+  value_names = 1;
+  parser = Some (vp.Signed (pos 4096) (pos 4194304));
+  defaults = codes "262144" ∷ [];
+}
+
+-- `-t STEPS`, from 1 to 10 ^ 12, 10 ^ 9 unless it is given
+abbrev pub steps_rule : Rule
+steps_rule = record (new_rule (codes "steps")) {
+  short = Some 116;
+  value_names = 1;
+  parser = Some (vp.Unsigned 1 1000000000000);
+  defaults = codes "1000000000" ∷ [];
+}
+
+-- `--sizes`
+abbrev pub sizes_rule : Rule
+sizes_rule = record (new_rule (codes "sizes")) { long = Some (codes "sizes"); action = Some SetTrue }
+
+-- FILE
+abbrev pub file_rule : Rule
+file_rule = record (new_rule (codes "file")) { required = true; value_names = 1; action = Some Set }
+
+-- `interpret [-s WORDS] [-t STEPS] [--sizes] FILE`
+abbrev pub interpret_command : App
+interpret_command = with_rule (with_rule (with_rule (with_rule (new_app (codes "interpret")) store_rule) steps_rule) sizes_rule) file_rule
+
+-- `bcpl`
+abbrev pub kit_command : App
+kit_command = with_subcommand (new_app (codes "bcpl")) interpret_command.top
+
+-- the text of a truth value
+abbrev pub truth_text : Bool → Text
+truth_text true = codes "true"
+truth_text false = codes "false"
+
+-- the number that a text spells in decimal digits
+abbrev pub ReadsNumber : Option Text → ℕ → Type 0
+ReadsNumber None number = ⊥
+ReadsNumber (Some text) number =
+    IsNumeral 10 (without_leading_plus text) × (number ≡ digits_value 10 (without_leading_plus text))
+
+abbrev pub ReadsLimits : List Row → Bounds → Type 0
+ReadsLimits rows limits = ReadsNumber (one_of (codes "words") rows) limits.words × ReadsNumber (one_of (codes "steps") rows) limits.steps
+
+-- An order is read from the subcommand that the words name, and the values that they give it.
+abbrev pub Reads : Option (Text × List Row) → Order → Type 0
+Reads None order = ⊥
+Reads (Some found) (Interpret limits file) =
+    (found.0 ≡ codes "interpret") × (one_of (codes "sizes") found.1 ≡ Some (truth_text false))
+    × ReadsLimits found.1 limits × (first_of (codes "file") found.1 ≡ Some (string_bytes file))
+Reads (Some found) (Sizes limits file) =
+    (found.0 ≡ codes "interpret") × (one_of (codes "sizes") found.1 ≡ Some (truth_text true))
+    × ReadsLimits found.1 limits × (first_of (codes "file") found.1 ≡ Some (string_bytes file))

@@ -1,0 +1,90 @@
+-- What interpreting a text of segments comes to.
+use Rattle.std.specs.Prelude.{◌≡◌, ◌≢◌, ℕ, ◌+◌, ◌<◌, ◌≤◌, Bool, true, false, ⊤, List, Option, None, Result, Ok, Err}
+use Rattle.bk_base.specs.declared.run_end.End.{End}
+use Rattle.bk_intcode.specs.declared.item.Item.{Item}
+use Rattle.bk_intcode.specs.declared.registers.Registers.{Registers}
+use Rattle.bk_intcode.specs.declared.machine.Machine.{Machine}
+use Rattle.bk_intcode.specs.State.{store_of, registers_of, end_of, sizes_of}
+use Rattle.bk_intcode.specs.Placement.{SEGMENTS, stack_start, loaded_store, greatest_frame, any_starts}
+use Rattle.bk_base.specs.declared.run_end.End.TheVariants.{WriteFault}
+use Rattle.bk_intcode.specs.Runs.{Told, Ran, Blames}
+use Rattle.bk_kit.specs.declared.kit_fault.KitFault.{KitFault}
+use Rattle.bk_kit.specs.declared.kit_fault.KitFault.TheVariants.{Source, Ocode, Intcode, TooSmall, NoStart, Read, Write, Memory}
+use Rattle.bk_kit.specs.Code.{CodeStands, segments, refused}
+
+-- at least 16 words of the store are left for the stack
+abbrev pub HasRoom : ℕ → List (List Item) → Type 0
+HasRoom words all = stack_start SEGMENTS all + 16 ≤ words
+
+-- the registers before a run
+abbrev pub first_registers : List (List Item) → Registers
+first_registers all = record { c = 1; p = stack_start SEGMENTS all; a = 0; b = 0 }
+
+-- What refuses a text as it is read.
+abbrev pub TextRefused : KitFault → Option (List ℕ) → Option (List ℕ) → Bool → Type 0
+TextRefused (Intcode number fault) old new ended = CodeStands (refused number fault.item fault.kind) old new ended
+TextRefused Read old new ended = ⊤
+TextRefused Memory old new ended = ⊤
+TextRefused (Source fault) old new ended = ⊥
+TextRefused (Ocode number fault) old new ended = ⊥
+TextRefused TooSmall old new ended = ⊥
+TextRefused NoStart old new ended = ⊥
+TextRefused Write old new ended = ⊥
+
+-- What refuses a text before anything runs, given the words of the store.
+abbrev pub CodeRefused : KitFault → ℕ → Option (List ℕ) → Option (List ℕ) → Bool → Type 0
+CodeRefused TooSmall words old new ended =
+    (all : List (List Item)) × CodeStands (segments all) old new ended × (words < stack_start SEGMENTS all + 16)
+CodeRefused NoStart words old new ended =
+    (all : List (List Item)) × CodeStands (segments all) old new ended × HasRoom words all × (any_starts all ≡ false)
+CodeRefused fault words old new ended = TextRefused fault old new ended
+
+-- The text is of segments that can be loaded.
+pub record Loadable (all : List (List Item)) (words : ℕ) (old new : Option (List ℕ)) (ended : Bool) : Type 0 where
+  pub stands : CodeStands (segments all) old new ended
+  pub room : HasRoom words all
+  pub starts : any_starts all ≡ true
+
+-- A machine before a run of the segments of the text.
+pub record Loads (machine : Machine) (words : ℕ) (old new : Option (List ℕ)) (ended : Bool) : Type 0 where
+  pub all : List (List Item)
+  pub loadable : Loadable all words old new ended
+  pub store : store_of machine ≡ loaded_store words all
+  pub registers : registers_of machine ≡ first_registers all
+  pub fresh : end_of machine ≡ None
+  pub sizes : sizes_of machine ≡ record { image = stack_start SEGMENTS all; frame = greatest_frame all }
+
+-- The segments of the text were loaded and run, and the run ended so.
+pub record Interprets (end : End) (steps words : ℕ) (old new : Option (List ℕ)) (ended : Bool) (before after : Told) : Type 0 where
+  pub all : List (List Item)
+  pub loadable : Loadable all words old new ended
+  pub store : List ℕ
+  pub registers : Registers
+  pub ran : Ran end steps (loaded_store words all) (first_registers all) store registers before after
+
+-- What input and output tell at a moment: the bytes left, and whether the end was told; the bytes taken, and those passed
+-- on; how often each failed.
+pub record Streams : Type 0 where
+  pub left : Option (List ℕ)
+  pub ended : Bool
+  pub taken : Option (List ℕ)
+  pub passed : Option (List ℕ)
+  pub reads : ℕ
+  pub writes : ℕ
+
+abbrev pub told : Streams → Told
+told streams = record { left = streams.left; ended = streams.ended; taken = streams.taken }
+
+-- What interpreting answers: the end of the run, which flushed unless the output failed, or the fault of a text of which
+-- nothing was run.
+abbrev pub Interpreted : Result End KitFault → ℕ → ℕ → Option (List ℕ) → Option (List ℕ) → Bool → Streams → Streams → Type 0
+Interpreted (Ok end) steps words old new ended before after =
+    Interprets end steps words old new ended (told before) (told after)
+    × (end ≢ WriteFault → after.passed ≡ after.taken) × Blames end after.reads after.writes
+Interpreted (Err fault) steps words old new ended before after = CodeRefused fault words old new ended × (after ≡ before)
+
+-- the fault of a read
+abbrev pub is_read : {T : Type 0} → Result T KitFault → Bool
+is_read (Ok value) = false
+is_read (Err Read) = true
+is_read (Err fault) = false

@@ -1,0 +1,10 @@
+pub mod Pieces
+pub mod FaultLine
+pub mod Loading
+pub mod Code
+pub mod Interpreting
+pub mod Statuses
+pub mod Telling
+pub mod Sizes
+pub mod Serving
+pub mod CommandLine

@@ -1,0 +1,56 @@
+//! Reading and loading texts of segments.
+ghost use Rattle.std.specs.Prelude.{◌≡◌, ◌≤◌, IfOk, IfErr, map, if◌then◌else◌};
+ghost use Rattle.bk_base.specs.declared.limit.TheConstants.{STORE_LEAST, STORE_MOST};
+ghost use Rattle.bk_intcode.specs.SegmentItems.{items_of};
+ghost use Rattle.bk_kit.specs.Code.{segment_number, segments, CodeStands};
+ghost use Rattle.bk_kit.specs.Interpreting.{TextRefused, CodeRefused, Loads, is_read};
+
+use crate::kit_fault::KitFault;
+use bk_base::limit::{STORE_LEAST, STORE_MOST};
+use bk_base::{ByteIn, Refused};
+use bk_intcode::{Intcode, Machine};
+use bk_intcode_text::read_segment;
+use std::alloc::Global;
+
+/// The number of the segment behind so many others.
+fn number_behind(before: usize) -> u32
+    ensures { result ≡ segment_number before }
+{
+    before.min(u32::MAX as usize - 1) as u32 + 1
+}
+
+/// Reads all segments of a text.
+pub fn read_code<C: ByteIn>(alloc: Global, code: &mut C) -> Result<Vec<Intcode>, KitFault>
+    ensures read { IfOk result (λ list. CodeStands (segments (map items_of list.items)) (C.left code.old) (C.left code.new) (C.ended code.new)) }
+    ensures refused { IfErr result (λ fault. TextRefused fault (C.left code.old) (C.left code.new) (C.ended code.new)) }
+    ensures failures { C.faults code.new ≡ (if is_read result then 1 else 0) }
+{
+    let mut list = Vec::new(alloc);
+    loop {
+        match read_segment(alloc, code) {
+            Ok(Some(segment)) => {
+                let Ok(()) = list.push(segment) else {
+                    return Err(KitFault::Memory);
+                };
+            }
+            Ok(None) => return Ok(list),
+            Err(Refused::Fault(fault)) => {
+                return Err(KitFault::Intcode(number_behind(list.len()), fault));
+            }
+            Err(Refused::Memory) => return Err(KitFault::Memory),
+            Err(Refused::Device) => return Err(KitFault::Read),
+        }
+    }
+}
+
+/// Reads all segments of a text and loads them into a store of so many words.
+pub fn load_code<C: ByteIn>(alloc: Global, code: &mut C, words: u32) -> Result<Machine, KitFault>
+    requires least { STORE_LEAST ≤ words }
+    requires most { words ≤ STORE_MOST }
+    ensures loaded { IfOk result (λ machine. Loads machine words (C.left code.old) (C.left code.new) (C.ended code.new)) }
+    ensures refused { IfErr result (λ fault. CodeRefused fault words (C.left code.old) (C.left code.new) (C.ended code.new)) }
+    ensures failures { C.faults code.new ≡ (if is_read result then 1 else 0) }
+{
+    let segments = read_code(alloc, code)?;
+    Ok(Machine::load(alloc, segments.as_slice(), words)?)
+}

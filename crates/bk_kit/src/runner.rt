@@ -1,0 +1,84 @@
+//! The runner of INTCODE.
+ghost use Rattle.std.specs.Prelude.{◌≡◌, OnErr, OnOk, if◌then◌else◌};
+ghost use Rattle.std.specs.Io.KnownBytes.{Appends};
+ghost use Rattle.bk_base.specs.Devices.{AppendsPart};
+ghost use Rattle.bk_kit.specs.Interpreting.{Interpreted, is_read};
+ghost use Rattle.bk_kit.specs.Sizes.{sizes_line, Reports};
+
+use crate::code::load_code;
+use crate::kit_fault::KitFault;
+use crate::pieces::put_pieces;
+use bk_base::{ByteIn, ByteOut, End, Failed, Limits};
+use bk_intcode::Sizes;
+use itoa::Buffer;
+use std::alloc::Global;
+
+/// Reads all segments of a text of INTCODE, loads them and runs them with this input and output.
+///
+/// Where the text is refused, cannot be read or cannot be loaded, nothing is run, and neither input nor output is touched.
+pub fn interpret<C: ByteIn, I: ByteIn, O: ByteOut>(
+    alloc: Global,
+    code: &mut C,
+    limits: Limits,
+    input: &mut I,
+    out: &mut O,
+) -> Result<End, KitFault>
+    ensures interpreted { Interpreted result limits.steps limits.words (C.left code.old) (C.left code.new) (C.ended code.new)
+        (record { left = I.left input.old; ended = I.ended input.old; taken = O.taken out.old; passed = O.passed out.old; reads = I.faults input.old; writes = O.faults out.old })
+        (record { left = I.left input.new; ended = I.ended input.new; taken = O.taken out.new; passed = O.passed out.new; reads = I.faults input.new; writes = O.faults out.new }) }
+    ensures runs_nothing { OnErr result ((input.new ≡ input.old) × (out.new ≡ out.old)) }
+    ensures read_fails { C.faults code.new ≡ (if is_read result then 1 else 0) }
+{
+    let mut machine = load_code(alloc, code, limits.words())?;
+    Ok(machine.run(limits.steps(), input, out))
+}
+
+/// Writes the line of what segments need.
+fn put_sizes<O: ByteOut>(sizes: Sizes, out: &mut O) -> Result<(), Failed>
+    ensures takes { OnOk result (Appends (O.taken out.old) (O.taken out.new) (sizes_line sizes)) }
+    ensures part { OnErr result (AppendsPart (O.taken out.old) (O.taken out.new) (sizes_line sizes)) }
+    ensures failed { OnErr result (O.faults out.new ≡ 1) }
+{
+    let mut image = Buffer::new();
+    let mut frame = Buffer::new();
+    put_pieces(
+        out,
+        &[
+            b"image ",
+            image.format(sizes.image).as_bytes(),
+            b", frame ",
+            frame.format(sizes.frame).as_bytes(),
+            b"\n",
+        ],
+    )
+}
+
+/// Writes the line of what segments need, and passes it on.
+fn report<O: ByteOut>(sizes: Sizes, out: &mut O) -> Result<(), Failed>
+    ensures takes { OnOk result (Appends (O.taken out.old) (O.taken out.new) (sizes_line sizes) × (O.passed out.new ≡ O.taken out.new)) }
+    ensures part { OnErr result (AppendsPart (O.taken out.old) (O.taken out.new) (sizes_line sizes)) }
+    ensures failed { OnErr result (O.faults out.new ≡ 1) }
+{
+    put_sizes(sizes, out)?;
+    out.flush()
+}
+
+/// Reads and loads a text of INTCODE as `interpret` does, runs nothing, and writes what its segments need as a line, as
+/// `image 1039, frame 16`: the first word of the stack, and the greatest depth of a frame, in words.
+pub fn sizes<C: ByteIn, O: ByteOut>(
+    alloc: Global,
+    code: &mut C,
+    limits: Limits,
+    out: &mut O,
+) -> Result<(), KitFault>
+    ensures reports { Reports result limits.words (C.left code.old) (C.left code.new) (C.ended code.new)
+        (record { taken = O.taken out.old; passed = O.passed out.old; faults = O.faults out.old })
+        (record { taken = O.taken out.new; passed = O.passed out.new; faults = O.faults out.new }) }
+    ensures read_fails { C.faults code.new ≡ (if is_read result then 1 else 0) }
+{
+    let machine = load_code(alloc, code, limits.words())?;
+    if report(machine.sizes(), out).is_err() {
+        return Err(KitFault::Write);
+    }
+    Ok(())
+}

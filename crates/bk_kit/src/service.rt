@@ -1,0 +1,57 @@
+//! Serving an order.
+ghost use Rattle.std.specs.Prelude.{◌≡◌};
+ghost use Rattle.bk_kit.specs.Serving.{Serves};
+ghost use Rattle.bk_kit.specs.Statuses.{refusal_status, refusal_line};
+ghost use Rattle.bk_kit.specs.Telling.{Tells};
+
+use crate::command_line::LineFault;
+use crate::orders::Order;
+use crate::runner::{interpret, sizes};
+use crate::status::{tell_done, tell_run, tell_text};
+use bk_base::{ByteIn, ByteOut};
+use std::alloc::Global;
+
+/// Does what an order asks for, where `file` gives the bytes of FILE, and answers the exit status.
+///
+/// A fault or an abnormal end writes one line on the error stream, which is passed on; a failure of that stream changes
+/// nothing.
+pub fn serve<F: ByteIn, I: ByteIn, O: ByteOut, E: ByteOut>(
+    alloc: Global,
+    order: &Order,
+    file: &mut F,
+    input: &mut I,
+    out: &mut O,
+    err: &mut E,
+) -> u8
+    ensures { Serves order.now result (F.left file.old) (F.left file.new) (F.ended file.new)
+        (record { left = I.left input.old; ended = I.ended input.old; taken = O.taken out.old; passed = O.passed out.old; reads = I.faults input.old; writes = O.faults out.old })
+        (record { left = I.left input.new; ended = I.ended input.new; taken = O.taken out.new; passed = O.passed out.new; reads = I.faults input.new; writes = O.faults out.new })
+        (record { taken = E.taken err.old; passed = E.passed err.old; faults = E.faults err.old })
+        (record { taken = E.taken err.new; passed = E.passed err.new; faults = E.faults err.new }) }
+{
+    match order {
+        Order::Interpret(limits, _) => {
+            let answer = interpret(alloc, file, *limits, input, out);
+            tell_run(&answer, err)
+        }
+        Order::Sizes(limits, _) => {
+            let answer = sizes(alloc, file, *limits, out);
+            tell_done(&answer, err)
+        }
+    }
+}
+
+/// Writes the line for a command line that gives no order, and answers the exit status. For help it writes nothing, since
+/// that goes to the output.
+pub fn refuse<E: ByteOut>(fault: &LineFault, err: &mut E) -> u8
+    ensures status { result ≡ refusal_status fault.now }
+    ensures line { Tells (refusal_line fault.now)
+        (record { taken = E.taken err.old; passed = E.passed err.old; faults = E.faults err.old })
+        (record { taken = E.taken err.new; passed = E.passed err.new; faults = E.faults err.new }) }
+{
+    match fault {
+        LineFault::Help(_) => 0,
+        LineFault::Bad => tell_text("bad command line", 112, err),
+        LineFault::Memory => tell_text("no memory", 111, err),
+    }
+}

@@ -1,0 +1,123 @@
+//! Exit statuses, and the lines that tell of them.
+ghost use Rattle.std.specs.Prelude.{◌≡◌};
+ghost use Rattle.bk_kit.specs.FaultLine.{fault_text, line_of};
+ghost use Rattle.bk_kit.specs.Statuses.{stop_status, end_status, end_line, fault_status, run_status, run_line, done_status, done_line};
+ghost use Rattle.bk_kit.specs.Telling.{TellsLine, Tells};
+
+use crate::kit_fault::{KitFault, put_text};
+use bk_base::{ByteOut, End};
+
+/// The status for STOP of a number.
+fn status_of_stop(number: i32) -> u8
+    ensures { result ≡ stop_status number }
+{
+    if number >= 0 && number < 100 {
+        number as u8
+    } else {
+        100
+    }
+}
+
+/// The status for a fault.
+fn status_of_fault(fault: &KitFault) -> u8
+    ensures { result ≡ fault_status fault.now }
+{
+    match fault {
+        KitFault::Source(_) => 101,
+        KitFault::Ocode(_, _) => 102,
+        KitFault::Intcode(_, _) => 103,
+        KitFault::TooSmall => 105,
+        KitFault::NoStart => 108,
+        KitFault::Read => 109,
+        KitFault::Write => 110,
+        KitFault::Memory => 111,
+    }
+}
+
+/// Writes a line on the error stream and passes it on. A failure of that stream changes nothing.
+fn tell_line<E: ByteOut>(text: &str, err: &mut E)
+    ensures { TellsLine (line_of text.now)
+        (record { taken = E.taken err.old; passed = E.passed err.old; faults = E.faults err.old })
+        (record { taken = E.taken err.new; passed = E.passed err.new; faults = E.faults err.new }) }
+{
+    if put_text(text, err).is_ok() {
+        let _passed = err.flush();
+    }
+}
+
+/// Writes a line on the error stream, and answers the status.
+pub fn tell_text<E: ByteOut>(text: &str, status: u8, err: &mut E) -> u8
+    ensures status { result ≡ status }
+    ensures line { TellsLine (line_of text.now)
+        (record { taken = E.taken err.old; passed = E.passed err.old; faults = E.faults err.old })
+        (record { taken = E.taken err.new; passed = E.passed err.new; faults = E.faults err.new }) }
+{
+    tell_line(text, err);
+    status
+}
+
+/// Writes the line of a fault on the error stream and passes it on.
+fn tell_fault_line<E: ByteOut>(fault: &KitFault, err: &mut E)
+    ensures { TellsLine (line_of (fault_text fault.now))
+        (record { taken = E.taken err.old; passed = E.passed err.old; faults = E.faults err.old })
+        (record { taken = E.taken err.new; passed = E.passed err.new; faults = E.faults err.new }) }
+{
+    if fault.put_line(err).is_ok() {
+        let _passed = err.flush();
+    }
+}
+
+/// Writes the line of a fault on the error stream, and answers the status.
+fn tell_fault<E: ByteOut>(fault: &KitFault, err: &mut E) -> u8
+    ensures status { result ≡ fault_status fault.now }
+    ensures line { TellsLine (line_of (fault_text fault.now))
+        (record { taken = E.taken err.old; passed = E.passed err.old; faults = E.faults err.old })
+        (record { taken = E.taken err.new; passed = E.passed err.new; faults = E.faults err.new }) }
+{
+    tell_fault_line(fault, err);
+    status_of_fault(fault)
+}
+
+/// Writes the line of an end on the error stream if it has one, and answers the status.
+fn tell_end<E: ByteOut>(end: End, err: &mut E) -> u8
+    ensures status { result ≡ end_status end }
+    ensures line { Tells (end_line end)
+        (record { taken = E.taken err.old; passed = E.passed err.old; faults = E.faults err.old })
+        (record { taken = E.taken err.new; passed = E.passed err.new; faults = E.faults err.new }) }
+{
+    match end {
+        End::Status(number) => status_of_stop(number),
+        End::DivideByZero => tell_text("division by zero", 104, err),
+        End::StoreLimit => tell_text("store limit", 105, err),
+        End::StepLimit => tell_text("step limit", 106, err),
+        End::BadOperation => tell_text("bad operation", 107, err),
+        End::ReadFault => tell_text("read fault", 109, err),
+        End::WriteFault => tell_text("write fault", 110, err),
+    }
+}
+
+/// Writes the line for the answer of a run on the error stream if it has one, and answers the status.
+pub fn tell_run<E: ByteOut>(answer: &Result<End, KitFault>, err: &mut E) -> u8
+    ensures status { result ≡ run_status answer.now }
+    ensures line { Tells (run_line answer.now)
+        (record { taken = E.taken err.old; passed = E.passed err.old; faults = E.faults err.old })
+        (record { taken = E.taken err.new; passed = E.passed err.new; faults = E.faults err.new }) }
+{
+    match answer {
+        Ok(end) => tell_end(*end, err),
+        Err(fault) => tell_fault(fault, err),
+    }
+}
+
+/// Writes the line for the answer of a call that only writes on the error stream if it has one, and answers the status.
+pub fn tell_done<E: ByteOut>(answer: &Result<(), KitFault>, err: &mut E) -> u8
+    ensures status { result ≡ done_status answer.now }
+    ensures line { Tells (done_line answer.now)
+        (record { taken = E.taken err.old; passed = E.passed err.old; faults = E.faults err.old })
+        (record { taken = E.taken err.new; passed = E.passed err.new; faults = E.faults err.new }) }
+{
+    match answer {
+        Ok(()) => 0,
+        Err(fault) => tell_fault(fault, err),
+    }
+}
