@@ -1,0 +1,10 @@
+pub mod Steps
+pub mod Cuts
+pub mod SignLemmas
+pub mod Walk
+pub mod Modes
+pub mod Goings
+pub mod Wholes
+pub mod Soundness
+pub mod Naming
+pub mod Sound

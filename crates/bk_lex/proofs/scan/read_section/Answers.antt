@@ -1,0 +1,46 @@
+use Rattle.std.proofs.Common.{◌≡◌, ◌+◌, length, slice_range, arith}
+use Rattle.bk_lex.specs.Symbol.{symbols_of}
+use Rattle.bk_lex.specs.Lexing.{reading, lexed}
+use Rattle.bk_lex.proofs.Steps.{bad, stops, goes_on, end_bad, end_good, joined_goes, joined_begins, joined_names, Joined, Before}
+use Rattle.bk_lex.proofs.scan.read_section.Goals as goal
+use Rattle.bk_lex.proofs.scan.read_section.Goals.{in-Goes, in-Begins+in_ok-put-in-Begins, in-Names+in_ok-put_header-in-Names}
+
+pub returns-in-Err : goal.returns-in-Err
+returns-in-Err c =
+    let e = c.told.ensures in
+    rw e (bad (reading _ _ _ _ _) c.args.text.now c.loop-i.i c.in-Err.fault _ c.loop-i-test.true c.loop-i.invariant.same c.in-Err.ensures)
+
+pub returns-then-is_dot : goal.returns-then-is_dot
+returns-then-is_dot c =
+    let text = c.args.text.now in
+    let i = c.loop-i.i in
+    let before : Before text i (symbols_of c.loop-i.tokens.items) c.loop-i.state c.loop-i.start c.loop-i.place c.in-Ok.next (lexed text c.args.from) = (c.loop-i.invariant.order, c.loop-i-test.true, c.loop-i.invariant.same, c.in-Ok.ensures) in
+    let j : Joined text i (symbols_of c.match-next.tokens.items) c.match-next.start c.match-next.place c.in-Ok.next (lexed text c.args.from) = elim c.match-next.branch [
+      | in-Goes w ↦ rw (w.tokens-is, w.start-is, w.place-is) (joined_goes text i (symbols_of c.loop-i.tokens.items) c.loop-i.state c.loop-i.start c.loop-i.place c.in-Ok.next (lexed text c.args.from) before w.in-Goes.is)
+      | in-Begins+in_ok-put-in-Begins w ↦ rw (w.tokens-is, w.start-is, w.place-is, w.in_ok-put-in-Begins.ensures, w.place_after-place.ensures) (joined_begins text i (symbols_of c.loop-i.tokens.items) c.loop-i.state c.loop-i.start c.loop-i.place c.in-Ok.next (lexed text c.args.from) w.in-Begins.given before w.in-Begins.is)
+      | in-Names+in_ok-put_header-in-Names w ↦ rw (w.tokens-is, w.start-is, w.place-is, w.in_ok-put_header-in-Names.ensures) (joined_names text i (symbols_of c.loop-i.tokens.items) c.loop-i.state c.loop-i.start c.loop-i.place c.in-Ok.next (lexed text c.args.from) w.in-Names.header before w.in-Names.is)
+    ] in
+    stops (reading (symbols_of c.match-next.tokens.items) c.in-Ok.next.state (slice_range text c.match-next.start (i + 1)) c.match-next.place (i + 1)) _ _ c.if-is_dot.ensures j.1
+
+pub loop-i-preserved : goal.loop-i-preserved
+loop-i-preserved c =
+    let text = c.args.text.now in
+    let i = c.loop-i.i in
+    let before : Before text i (symbols_of c.loop-i.tokens.items) c.loop-i.state c.loop-i.start c.loop-i.place c.in-Ok.next (lexed text c.args.from) = (c.loop-i.invariant.order, c.loop-i-test.true, c.loop-i.invariant.same, c.in-Ok.ensures) in
+    let j : Joined text i (symbols_of c.match-next.tokens.items) c.match-next.start c.match-next.place c.in-Ok.next (lexed text c.args.from) = elim c.match-next.branch [
+      | in-Goes w ↦ rw (w.tokens-is, w.start-is, w.place-is) (joined_goes text i (symbols_of c.loop-i.tokens.items) c.loop-i.state c.loop-i.start c.loop-i.place c.in-Ok.next (lexed text c.args.from) before w.in-Goes.is)
+      | in-Begins+in_ok-put-in-Begins w ↦ rw (w.tokens-is, w.start-is, w.place-is, w.in_ok-put-in-Begins.ensures, w.place_after-place.ensures) (joined_begins text i (symbols_of c.loop-i.tokens.items) c.loop-i.state c.loop-i.start c.loop-i.place c.in-Ok.next (lexed text c.args.from) w.in-Begins.given before w.in-Begins.is)
+      | in-Names+in_ok-put_header-in-Names w ↦ rw (w.tokens-is, w.start-is, w.place-is, w.in_ok-put_header-in-Names.ensures) (joined_names text i (symbols_of c.loop-i.tokens.items) c.loop-i.state c.loop-i.start c.loop-i.place c.in-Ok.next (lexed text c.args.from) w.in-Names.header before w.in-Names.is)
+    ] in
+    record { order = j.0; same = goes_on (reading (symbols_of c.match-next.tokens.items) c.in-Ok.next.state (slice_range text c.match-next.start (i + 1)) c.match-next.place (i + 1)) _ _ c.if-is_dot.ensures j.1 }
+
+pub returns-in-Err-finished : goal.returns-in-Err-finished
+returns-in-Err-finished c =
+    let e = c.told-in-Err-finished.ensures in
+    rw e (end_bad (reading _ _ _ _ _) c.args.text.now c.loop-i.i c.in-Err-finished.fault _ c.loop-i-test.false c.loop-i.invariant.same c.in-Err-finished.ensures)
+
+pub returns : goal.returns
+returns c =
+    let k : length c.args.text.now ≡ c.loop-i.i = omega arith in
+    let p = c.in_ok-put.ensures in
+    rw (p, k) (end_good (reading _ _ _ _ _) c.args.text.now c.loop-i.i c.in-Ok-finished.given _ c.loop-i-test.false c.loop-i.invariant.same c.in-Ok-finished.ensures)

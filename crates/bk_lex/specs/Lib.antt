@@ -1,0 +1,13 @@
+pub mod Symbol
+pub mod Bytes
+pub mod Signs
+pub mod Reserved
+pub mod Machine
+pub mod Header
+pub mod Insertion
+pub mod Counting
+pub mod Lexing
+pub mod Cutting
+pub mod Pieces
+pub mod Tokens
+pub mod Values

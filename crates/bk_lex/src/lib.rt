@@ -1,0 +1,20 @@
+//! From bytes to tokens: the symbols of a section of source, or the one fault that is told.
+#![tactic(auto)]
+
+mod adding;
+mod counting;
+mod cutter;
+mod header;
+mod machine;
+mod reserved;
+mod scan;
+mod sign;
+#[cfg(test)]
+mod tests;
+mod token;
+mod values;
+
+pub use cutter::{Cut, Cutter};
+pub use scan::{Lexed, lex};
+pub use token::{Kind, Token};
+pub use values::{character_byte, number_word, string_bytes};

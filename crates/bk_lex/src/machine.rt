@@ -1,0 +1,415 @@
+//! The machine that cuts a text into pieces, byte after byte: blanks, comments and symbols, each the longest there.
+ghost use Rattle.std.specs.Prelude.{◌≡◌, ◌<◌, ◌≤◌, true};
+ghost use Rattle.bk_lex.specs.Bytes.{is_escape, is_hexadecimal, digit_value, is_name_byte, is_feed};
+ghost use Rattle.bk_lex.specs.Machine.{fresh, next, piece, end_fault, is_digit_of, digits_in, digits_with, one_more, word_next, hash_next, first_digit, tag_next, text_next, star_next, quote_next, name_next, sign_next};
+
+use crate::reserved::{What, longer_code, what_of_word};
+use crate::sign::{Sign, grown, kind_of, sign_of};
+use crate::token::Kind;
+
+/// What is wrong in a text. `HeaderTooLong` is a section too long by the symbols that stand in GET's place.
+#[derive(Clone, Copy, Debug, PartialEq, Eq)]
+pub enum Fault {
+    BadByte,
+    BadString,
+    BadEscape,
+    NumberOver32Bits,
+    NameTooLong,
+    TagTooLong,
+    SectionTooLong,
+    HeaderTooLong,
+    BadGet,
+}
+
+/// The base of a number.
+#[derive(Clone, Copy, Debug, PartialEq, Eq)]
+pub enum Base {
+    Octal,
+    Decimal,
+    Hexadecimal,
+}
+
+/// Which of the section brackets.
+#[derive(Clone, Copy, Debug, PartialEq, Eq)]
+pub enum Side {
+    Opening,
+    Closing,
+}
+
+/// The headers that a GET may name.
+#[derive(Clone, Copy, Debug, PartialEq, Eq)]
+pub enum Header {
+    /// LIBHDR
+    Plain,
+    /// LIBHDR2, which has WRITEF too.
+    Formatted,
+}
+
+/// What the bytes are that belong to no whole piece yet.
+#[derive(Clone, Copy, Debug, PartialEq, Eq)]
+pub enum Mode {
+    /// A blank, or the text's beginning.
+    Blank,
+    /// A comment, from its `//` on.
+    Comment,
+    /// The `.` that ends the section.
+    Dot,
+    /// A word: its bytes, and the code of its letters.
+    Word(u32, u64),
+    /// `#`
+    Hash,
+    /// `#X`
+    HashX,
+    /// A number with digits: its value so far.
+    Number(Base, u32),
+    /// `$`
+    Dollar,
+    /// A section bracket: the bytes of its tag so far.
+    Bracket(Side, u32),
+    /// A string without its end: the bytes that it holds so far.
+    Text(u32),
+    /// The same, behind a `*`.
+    TextEscape(u32),
+    /// A whole string.
+    TextEnd,
+    /// `'`
+    Quote,
+    /// The same, behind a `*`.
+    QuoteEscape,
+    /// A character constant that has its byte.
+    QuoteFull,
+    /// A whole character constant.
+    QuoteEnd,
+    /// A sign.
+    Mark(Sign),
+    /// The string of a GET without its end: how many bytes of LIBHDR2 it has so far.
+    Name(u32),
+}
+
+/// What a byte does to them.
+#[derive(Clone, Copy, Debug, PartialEq, Eq)]
+pub enum Next {
+    /// It goes on with the piece.
+    Goes(Mode),
+    /// The piece ends before it.
+    Ends,
+    /// With it the string of a GET is whole.
+    Names(Header),
+    /// It is a fault.
+    Bad(Fault),
+}
+
+/// The longest name and tag, and the most bytes in a string.
+const LONGEST: u32 = 255;
+
+/// What behind the quote of a GET's string names the header with WRITEF. Without its last byte it names the other.
+static HEADER_NAME: [u8; 7] = *b"LIBHDR2";
+
+/// Whether a byte is a digit of a base.
+#[inline(always)]
+fn is_digit_of(base: Base, byte: u8) -> bool
+    ensures { result ≡ is_digit_of base byte }
+{
+    match base {
+        Base::Octal => matches!(byte, b'0'..=b'7'),
+        Base::Decimal => byte.is_ascii_digit(),
+        Base::Hexadecimal => byte.is_ascii_hexdigit(),
+    }
+}
+
+/// The number that a digit stands for.
+#[inline(always)]
+fn digit_value(byte: u8) -> u32
+    requires { is_hexadecimal byte ≡ true }
+    ensures value { result ≡ digit_value byte }
+    ensures small { result < 16 }
+{
+    match byte {
+        b'0'..=b'9' => u32::from(byte - b'0'),
+        b'A'..=b'F' => u32::from(byte - b'A' + 10),
+        _ => u32::from(byte - b'a' + 10),
+    }
+}
+
+/// How many digits a base has.
+#[inline(always)]
+pub fn digits_in(base: Base) -> u64
+    ensures number { result ≡ digits_in base }
+    ensures small { result ≤ 16 }
+{
+    match base {
+        Base::Octal => 8,
+        Base::Decimal => 10,
+        Base::Hexadecimal => 16,
+    }
+}
+
+/// A number with one digit more.
+#[inline(always)]
+fn with_digit(base: Base, value: u32, byte: u8) -> Next
+    requires { is_digit_of base byte ≡ true }
+    ensures { result ≡ digits_with base value byte }
+{
+    let sum = u64::from(value) * digits_in(base) + u64::from(digit_value(byte));
+    if sum > 4_294_967_295 {
+        Next::Bad(Fault::NumberOver32Bits)
+    } else {
+        Next::Goes(Mode::Number(base, sum as u32))
+    }
+}
+
+/// Whether a byte may stand behind a `*`.
+fn is_escape(byte: u8) -> bool
+    ensures { result ≡ is_escape byte }
+{
+    matches!(
+        byte,
+        b'N' | b'n'
+            | b'T'
+            | b't'
+            | b'S'
+            | b's'
+            | b'B'
+            | b'b'
+            | b'P'
+            | b'p'
+            | b'C'
+            | b'c'
+            | b'*'
+            | b'\''
+            | b'"'
+    )
+}
+
+/// Whether a byte is a letter, a digit or a dot.
+#[inline(always)]
+fn is_name_byte(byte: u8) -> bool
+    ensures { result ≡ is_name_byte byte }
+{
+    byte.is_ascii_alphanumeric() || byte == b'.'
+}
+
+/// Whether a byte ends the line.
+#[inline(always)]
+fn is_feed(byte: u8) -> bool
+    ensures { result ≡ is_feed byte }
+{
+    byte == b'\n' || byte == b'\r'
+}
+
+/// A string that holds one byte more.
+#[inline(always)]
+fn one_more(held: u32) -> Next
+    ensures { result ≡ one_more held }
+{
+    if held >= LONGEST {
+        Next::Bad(Fault::BadString)
+    } else {
+        Next::Goes(Mode::Text(held + 1))
+    }
+}
+
+/// The piece that a byte begins. A byte that begins none is `None`.
+#[inline(always)]
+pub fn begin(byte: u8) -> Option<Mode>
+    ensures { result ≡ fresh byte }
+{
+    match byte {
+        b'A'..=b'Z' | b'a'..=b'z' => Some(Mode::Word(1, u64::from(byte % 32))),
+        b'0'..=b'9' => Some(Mode::Number(Base::Decimal, u32::from(byte - b'0'))),
+        b' ' | b'\t' | b'\n' | 12 | b'\r' => Some(Mode::Blank),
+        b'"' => Some(Mode::Text(0)),
+        b'\'' => Some(Mode::Quote),
+        b'#' => Some(Mode::Hash),
+        b'$' => Some(Mode::Dollar),
+        b'.' => Some(Mode::Dot),
+        _ => match sign_of(byte) {
+            Some(sign) => Some(Mode::Mark(sign)),
+            None => None,
+        },
+    }
+}
+
+/// A byte behind a word.
+#[inline(always)]
+fn behind_word(length: u32, code: u64, byte: u8) -> Next
+    ensures { result ≡ word_next length code byte }
+{
+    if !is_name_byte(byte) {
+        Next::Ends
+    } else if length >= LONGEST {
+        Next::Bad(Fault::NameTooLong)
+    } else {
+        Next::Goes(Mode::Word(length + 1, longer_code(code, byte)))
+    }
+}
+
+/// A byte behind `#`.
+fn behind_hash(byte: u8) -> Next
+    ensures { result ≡ hash_next byte }
+{
+    if byte == b'X' || byte == b'x' {
+        Next::Goes(Mode::HashX)
+    } else {
+        first_digit(Base::Octal, byte)
+    }
+}
+
+/// A byte where the first digit of a number is due.
+fn first_digit(base: Base, byte: u8) -> Next
+    ensures { result ≡ first_digit base byte }
+{
+    if is_digit_of(base, byte) {
+        with_digit(base, 0, byte)
+    } else {
+        Next::Bad(Fault::BadByte)
+    }
+}
+
+/// A byte behind a section bracket and a part of its tag.
+#[inline(always)]
+fn behind_tag(side: Side, length: u32, byte: u8) -> Next
+    ensures { result ≡ tag_next side length byte }
+{
+    if !is_name_byte(byte) || (length == 0 && byte == b'.') {
+        Next::Ends
+    } else if length >= LONGEST {
+        Next::Bad(Fault::TagTooLong)
+    } else {
+        Next::Goes(Mode::Bracket(side, length + 1))
+    }
+}
+
+/// A byte in a string.
+#[inline(always)]
+fn in_text(held: u32, byte: u8) -> Next
+    ensures { result ≡ text_next held byte }
+{
+    if is_feed(byte) {
+        return Next::Bad(Fault::BadString);
+    }
+    match byte {
+        b'"' => Next::Goes(Mode::TextEnd),
+        b'*' => Next::Goes(Mode::TextEscape(held)),
+        _ => one_more(held),
+    }
+}
+
+/// What a byte behind a `*` does: what the escape gives, or a fault.
+fn behind_star(byte: u8, whole: Next) -> Next
+    ensures { result ≡ star_next byte whole }
+{
+    if is_feed(byte) {
+        Next::Bad(Fault::BadString)
+    } else if is_escape(byte) {
+        whole
+    } else {
+        Next::Bad(Fault::BadEscape)
+    }
+}
+
+/// A byte behind the first quote of a character constant.
+fn behind_quote(byte: u8) -> Next
+    ensures { result ≡ quote_next byte }
+{
+    if is_feed(byte) || byte == b'\'' {
+        Next::Bad(Fault::BadString)
+    } else if byte == b'*' {
+        Next::Goes(Mode::QuoteEscape)
+    } else {
+        Next::Goes(Mode::QuoteFull)
+    }
+}
+
+/// A byte in the string of a GET.
+fn in_name(length: u32, byte: u8) -> Next
+    ensures { result ≡ name_next length byte }
+{
+    if is_feed(byte) {
+        Next::Bad(Fault::BadString)
+    } else if byte == b'"' && length == 6 {
+        Next::Names(Header::Plain)
+    } else if byte == b'"' && length == 7 {
+        Next::Names(Header::Formatted)
+    } else if length < 7 && byte.to_ascii_uppercase() == HEADER_NAME[length as usize] {
+        Next::Goes(Mode::Name(length + 1))
+    } else {
+        Next::Bad(Fault::BadGet)
+    }
+}
+
+/// A byte behind a sign.
+#[inline(always)]
+fn behind_sign(sign: Sign, byte: u8) -> Next
+    ensures { result ≡ sign_next sign byte }
+{
+    if sign == Sign::Slash && byte == b'/' {
+        return Next::Goes(Mode::Comment);
+    }
+    match grown(sign, byte) {
+        Some(longer) => Next::Goes(Mode::Mark(longer)),
+        None => Next::Ends,
+    }
+}
+
+/// What a byte does to the bytes before it.
+#[inline(always)]
+pub fn follow(mode: Mode, byte: u8) -> Next
+    ensures { result ≡ next mode byte }
+{
+    match mode {
+        Mode::Blank | Mode::Dot | Mode::TextEnd | Mode::QuoteEnd => Next::Ends,
+        Mode::Comment if byte == b'\n' => Next::Ends,
+        Mode::Comment => Next::Goes(Mode::Comment),
+        Mode::Word(length, code) => behind_word(length, code, byte),
+        Mode::Hash => behind_hash(byte),
+        Mode::HashX => first_digit(Base::Hexadecimal, byte),
+        Mode::Number(base, value) if is_digit_of(base, byte) => with_digit(base, value, byte),
+        Mode::Number(_, _) => Next::Ends,
+        Mode::Dollar if byte == b'(' => Next::Goes(Mode::Bracket(Side::Opening, 0)),
+        Mode::Dollar if byte == b')' => Next::Goes(Mode::Bracket(Side::Closing, 0)),
+        Mode::Dollar => Next::Bad(Fault::BadByte),
+        Mode::Bracket(side, length) => behind_tag(side, length, byte),
+        Mode::Text(held) => in_text(held, byte),
+        Mode::TextEscape(held) => behind_star(byte, one_more(held)),
+        Mode::Quote => behind_quote(byte),
+        Mode::QuoteEscape => behind_star(byte, Next::Goes(Mode::QuoteFull)),
+        Mode::QuoteFull if byte == b'\'' => Next::Goes(Mode::QuoteEnd),
+        Mode::QuoteFull => Next::Bad(Fault::BadString),
+        Mode::Mark(sign) => behind_sign(sign, byte),
+        Mode::Name(length) => in_name(length, byte),
+    }
+}
+
+/// What a whole piece is.
+#[inline(always)]
+pub fn what_of(mode: Mode) -> What
+    ensures { result ≡ piece mode }
+{
+    match mode {
+        Mode::Word(_, code) => what_of_word(code),
+        Mode::Number(_, _) => What::Symbol(Kind::Number),
+        Mode::Bracket(Side::Opening, _) => What::Symbol(Kind::SectionOpen),
+        Mode::Bracket(Side::Closing, _) => What::Symbol(Kind::SectionClose),
+        Mode::TextEnd => What::Symbol(Kind::Text),
+        Mode::QuoteEnd => What::Symbol(Kind::Character),
+        Mode::Mark(sign) => What::Symbol(kind_of(sign)),
+        _ => What::Gap,
+    }
+}
+
+/// The fault of a text that ends here, where the bytes are no whole piece.
+pub fn end_fault(mode: Mode) -> Option<Fault>
+    ensures { result ≡ end_fault mode }
+{
+    match mode {
+        Mode::Hash | Mode::HashX | Mode::Dollar => Some(Fault::BadByte),
+        Mode::Text(_)
+        | Mode::TextEscape(_)
+        | Mode::Quote
+        | Mode::QuoteEscape
+        | Mode::QuoteFull
+        | Mode::Name(_) => Some(Fault::BadString),
+        _ => None,
+    }
+}

@@ -1,0 +1,84 @@
+-- Depths on the way through a section.
+use Rattle.std.proofs.Common.{◌≡◌, ℕ, ◌+◌, ◌<◌, ◌≤◌, max, Bool, true, false, ◌||◌, nat_lt, nat_le, List, [], ◌∷◌, ◌++◌, Option, Some, None, length, take, slice_get, get_or, refl, ◌∙◌, ap, subst, arith, ltb-false, if◌then◌else◌}
+use Rattle.std.proofs.lemmas.List.{take_more}
+use Rattle.std.proofs.lemmas.Option.{slice_get-get_or}
+use Rattle.bk_base.specs.declared.limit.TheConstants.{FRAME_WORDS, OCODE_STATEMENTS, OCODE_WORDS}
+use Rattle.bk_base.specs.declared.ocode_fault.OcodeKind.{OcodeKind}
+use Rattle.bk_base.specs.declared.ocode_fault.OcodeKind.TheVariants.{BadWord, LabelNotSet, LabelSetTwice, DepthsDisagree, SlotAboveDepth, TooLong}
+use Rattle.bk_ocode.specs.StmtText.{stmt_words}
+use Rattle.bk_ocode.specs.Depth.{next_depth, depth_behind, largest_behind}
+use Rattle.bk_ocode.specs.Context.{Context, at_start, after, after_all, context_of}
+use Rattle.bk_ocode.specs.Faults.{misplaced, label_not_set, label_set_twice, depths_disagree, slot_above, too_long, fault_in}
+use Rattle.bk_ocode.specs.Section.{AreFaultless}
+use Rattle.bk_ocode.specs.declared.stmt.Stmt.{Stmt}
+
+pub depth_behind-append : (k : ℕ) (a b : List Stmt) → depth_behind k (a ++ b) ≡ depth_behind (depth_behind k a) b
+depth_behind-append k [] b = refl
+depth_behind-append k (s ∷ a) b = depth_behind-append (next_depth k s) a b
+
+pub depth_behind-more : (k : ℕ) (stmts : List Stmt) (i : ℕ) (d : Stmt) → i < length stmts →
+    depth_behind k (take (i + 1) stmts) ≡ next_depth (depth_behind k (take i stmts)) (get_or stmts i d)
+depth_behind-more k stmts i d low = ap (λ (t : List Stmt). depth_behind k t) (take_more stmts i d low) ∙ depth_behind-append k (take i stmts) (get_or stmts i d ∷ [])
+
+max_assoc : (a b c : ℕ) → max a (max b c) ≡ max (max a b) c
+max_assoc a b c = omega arith
+
+max_zero : (a : ℕ) → max a 0 ≡ max 0 a
+max_zero a = omega arith
+
+largest_behind-one : (k : ℕ) (a : List Stmt) (s : Stmt) → largest_behind k (a ++ s ∷ []) ≡ max (largest_behind k a) (next_depth (depth_behind k a) s)
+largest_behind-one k [] s = max_zero (next_depth k s)
+largest_behind-one k (t ∷ a) s =
+    ap (λ (n : ℕ). max (next_depth k t) n) (largest_behind-one (next_depth k t) a s)
+    ∙ max_assoc (next_depth k t) (largest_behind (next_depth k t) a) (next_depth (depth_behind (next_depth k t) a) s)
+
+pub largest_behind-more : (k : ℕ) (stmts : List Stmt) (i : ℕ) (d : Stmt) → i < length stmts →
+    largest_behind k (take (i + 1) stmts) ≡ max (largest_behind k (take i stmts)) (next_depth (depth_behind k (take i stmts)) (get_or stmts i d))
+largest_behind-more k stmts i d low = ap (λ (t : List Stmt). largest_behind k t) (take_more stmts i d low) ∙ largest_behind-one k (take i stmts) (get_or stmts i d)
+
+-- the depth of the context is that of the text
+after_all-depth : (c : Context) (stmts : List Stmt) → (after_all c stmts).depth ≡ depth_behind c.depth stmts
+after_all-depth c [] = refl
+after_all-depth c (s ∷ rest) = after_all-depth (after c s) rest
+
+pub context-depth : (stmts : List Stmt) → (context_of stmts).depth ≡ depth_behind 0 stmts
+context-depth stmts = after_all-depth at_start stmts
+
+-- what a statement without a fault keeps
+pub record Keeps (before : List Stmt) (c : Context) (s : Stmt) : Type 0 where
+  pub place : misplaced c s ≡ false
+  pub set : label_not_set before c s ≡ false
+  pub once : label_set_twice c s ≡ false
+  pub agree : depths_disagree c s ≡ false
+  pub below : slot_above c s ≡ false
+  pub short : too_long c s ≡ false
+
+none_if : (b : Bool) (x : OcodeKind) (r : Option OcodeKind) → (if b then Some x else r) ≡ None → (b ≡ false) × (r ≡ None)
+none_if true x r e = absurd (let h : Some x ≡ None = e in cc)
+none_if false x r e = (refl, e)
+
+pub keeps_in : (before : List Stmt) (c : Context) (s : Stmt) → fault_in before c s ≡ None → Keeps before c s
+keeps_in before c s none =
+    let p1 = none_if (misplaced c s) BadWord _ none in
+    let p2 = none_if (label_not_set before c s) LabelNotSet _ p1.1 in
+    let p3 = none_if (label_set_twice c s) LabelSetTwice _ p2.1 in
+    let p4 = none_if (depths_disagree c s) DepthsDisagree _ p3.1 in
+    let p5 = none_if (slot_above c s) SlotAboveDepth _ p4.1 in
+    let p6 = none_if (too_long c s) TooLong _ p5.1 in
+    record { place = p1.0; set = p2.0; once = p3.0; agree = p4.0; below = p5.0; short = p6.0 }
+
+pub or_false : (a b : Bool) → (a || b) ≡ false → (a ≡ false) × (b ≡ false)
+or_false true b e = absurd (let h : true ≡ false = e in cc)
+or_false false b e = (refl, e)
+
+-- the depth behind a statement of a section is within the limit of frames
+pub depth_within : (stmts : List Stmt) → AreFaultless stmts → (i : ℕ) (s : Stmt) → slice_get stmts i ≡ Some s → next_depth (depth_behind 0 (take i stmts)) s ≤ FRAME_WORDS
+depth_within stmts are i s is =
+    let c = context_of (take i stmts) in
+    let k = keeps_in (take i stmts) c s (are.faultless i s is) in
+    let long : Bool = nat_lt OCODE_WORDS (c.words + length (stmt_words s)) in
+    let low = (or_false long (nat_lt FRAME_WORDS (next_depth c.depth s)) (or_false (nat_le OCODE_STATEMENTS c.count) (long || nat_lt FRAME_WORDS (next_depth c.depth s)) k.short).1).1 in
+    subst (λ (d : ℕ). next_depth d s ≤ FRAME_WORDS) (context-depth (take i stmts)) (ltb-false FRAME_WORDS (next_depth c.depth s) low)
+
+pub depth_within-at : (stmts : List Stmt) → AreFaultless stmts → (i : ℕ) (d : Stmt) → i < length stmts → next_depth (depth_behind 0 (take i stmts)) (get_or stmts i d) ≤ FRAME_WORDS
+depth_within-at stmts are i d low = depth_within stmts are i (get_or stmts i d) (slice_get-get_or stmts i d low)

@@ -1,0 +1,10 @@
+pub mod Parts
+pub mod Rows
+pub mod SectionProp
+pub mod Depths
+pub mod StepKeeps
+pub mod LabelsOnce
+pub mod JumpDepths
+pub mod JumpPlaces
+mod Examples
+mod Programs

@@ -1,0 +1,73 @@
+-- Being a section is a proposition.
+use Rattle.std.proofs.Common.{List, Option}
+use Rattle.std.proofs.Props.{props}
+use mathlib.Core.Sum.{⊎_set}
+use Rattle.std.proofs.Math.Nat.{ℕ_set}
+use Rattle.bk_base.specs.declared.ocode_fault.OcodeKind.{OcodeKind}
+use Rattle.bk_ocode.specs.Section.{IsSection}
+use Rattle.bk_ocode.specs.StmtRange.{InRange, IsVariable, AreCases, AreEntries}
+use Rattle.bk_ocode.specs.declared.standing.Position.{Position}
+use Rattle.bk_ocode.specs.declared.stmt.Variable.{Variable}
+use Rattle.bk_ocode.specs.declared.stmt.Variable.TheVariants.{Local, Global, Static}
+use Rattle.bk_ocode.specs.declared.stmt.Case.{Case}
+use Rattle.bk_ocode.specs.declared.stmt.GlobalEntry.{GlobalEntry}
+use Rattle.bk_ocode.specs.declared.stmt.Stmt.{Stmt}
+use Rattle.bk_ocode.specs.declared.stmt.Stmt.TheVariants.{Number, True, False, Query, Load, Address, Text, Monadic, Dyadic, LoadByte, Assign, AssignAt, AssignByte, Jump, JumpIf, Label, GiveResult, TakeResult, Stack, Store, Entry, Save, CallFunction, CallRoutine, ReturnItem, Return, EndProcedure, Switch, Finish, DataLabel, DataNumber, DataAddress, Globals}
+
+Kind-set : IsSet OcodeKind
+Kind-set = hlevel (⊎_set, props)
+
+Position-set : IsSet Position
+Position-set = hlevel (⊎_set, ℕ_set, props)
+
+IsVariable-prop : (variable : Variable) → IsProp (IsVariable variable)
+IsVariable-prop (Local n) = hlevel props
+IsVariable-prop (Global n) = hlevel props
+IsVariable-prop (Static l) = hlevel props
+
+AreCases-prop : (cases : List Case) → IsProp (AreCases cases)
+AreCases-prop cases = hlevel (ℕ_set, props)
+
+AreEntries-prop : (entries : List GlobalEntry) → IsProp (AreEntries entries)
+AreEntries-prop entries = hlevel (ℕ_set, props)
+
+InRange-prop : (s : Stmt) → IsProp (InRange s)
+InRange-prop (Load from) = IsVariable-prop from
+InRange-prop (Address of) = IsVariable-prop of
+InRange-prop (Assign to) = IsVariable-prop to
+InRange-prop (Switch default cases) = hlevel (AreCases-prop cases, props)
+InRange-prop (Globals entries) = AreEntries-prop entries
+InRange-prop (Number value) = hlevel props
+InRange-prop True = hlevel props
+InRange-prop False = hlevel props
+InRange-prop Query = hlevel props
+InRange-prop (Text bytes) = hlevel props
+InRange-prop (Monadic operator) = hlevel props
+InRange-prop (Dyadic operator) = hlevel props
+InRange-prop LoadByte = hlevel props
+InRange-prop AssignAt = hlevel props
+InRange-prop AssignByte = hlevel props
+InRange-prop (Jump label) = hlevel props
+InRange-prop (JumpIf truth label) = hlevel props
+InRange-prop (Label label) = hlevel props
+InRange-prop (GiveResult label) = hlevel props
+InRange-prop (TakeResult depth) = hlevel props
+InRange-prop (Stack depth) = hlevel props
+InRange-prop Store = hlevel props
+InRange-prop (Entry label name) = hlevel props
+InRange-prop (Save depth) = hlevel props
+InRange-prop (CallFunction frame) = hlevel props
+InRange-prop (CallRoutine frame) = hlevel props
+InRange-prop ReturnItem = hlevel props
+InRange-prop Return = hlevel props
+InRange-prop EndProcedure = hlevel props
+InRange-prop Finish = hlevel props
+InRange-prop (DataLabel label) = hlevel props
+InRange-prop (DataNumber value) = hlevel props
+InRange-prop (DataAddress label) = hlevel props
+
+Option_Kind-set : IsSet (Option OcodeKind)
+Option_Kind-set = hlevel (⊎_set, Kind-set, props)
+
+pub IsSection-prop : (stmts : List Stmt) → IsProp (IsSection stmts)
+IsSection-prop stmts = hlevel (InRange-prop, Option_Kind-set, Position-set, ℕ_set, props)

@@ -1,0 +1,11 @@
+use Rattle.std.proofs.Common.{take}
+use Rattle.std.specs.Io.KnownBytes.{Appends}
+use Rattle.bk_base.specs.Devices.{Begins}
+use Rattle.bk_ocode.specs.StmtText.{spaced, case_words}
+use Rattle.bk_ocode.proofs.printing.put_cases.Given as goal
+
+abbrev pub invariant-loop-case : goal.invariant-loop-case
+invariant-loop-case g l = record {
+  taken : Appends (g.O.ByteOut.taken l.initial.out) (g.O.ByteOut.taken l.out) (spaced (case_words (take l.case-index l.cases)));
+  passed : Begins (g.O.ByteOut.passed l.initial.out) (g.O.ByteOut.passed l.out);
+}

@@ -1,0 +1,13 @@
+use Rattle.std.proofs.Common.{◌∷◌, length, refl}
+use Rattle.bk_ocode.specs.StmtText.{natural_word, byte_words, spaced}
+use Rattle.bk_base.specs.DeviceLaws.{AppendsPart-front, AppendsPart-behind}
+use Rattle.bk_ocode.proofs.Parts.{on_err}
+use Rattle.bk_ocode.proofs.printing.put_counted.Goals as goal
+
+pub returns-in_err-put_natural-clause-part : goal.returns-in_err-put_natural-clause-part
+returns-in_err-put_natural-clause-part g c = on_err c.from_residual.result
+    (AppendsPart-front _ _ (32 ∷ natural_word (length c.args.bytes.now)) (spaced (byte_words c.args.bytes.now)) _ refl c.in_err-put_natural.ensures.part)
+
+pub returns-in_err-put_bytes-clause-part : goal.returns-in_err-put_bytes-clause-part
+returns-in_err-put_bytes-clause-part g c = on_err c.from_residual-in_err-put_bytes.result
+    (AppendsPart-behind _ _ _ (32 ∷ natural_word (length c.args.bytes.now)) (spaced (byte_words c.args.bytes.now)) _ refl c.in_ok-put_natural.ensures.takes c.in_err-put_bytes.ensures.part)

@@ -1,0 +1,19 @@
+use Rattle.std.proofs.Common.{rules, ◌++◌, [], ◌∷◌, List, ℕ, ap, refl, append-nil}
+use Rattle.std.specs.Io.KnownBytes.{Appends}
+use Rattle.bk_base.specs.Devices.{AppendsPart}
+use Rattle.bk_ocode.specs.StmtText.{natural_word, label_word}
+use Rattle.bk_base.specs.DeviceLaws.{AppendsPart-front, AppendsPart-behind}
+use Rattle.bk_ocode.proofs.Parts.{on_err}
+use Rattle.bk_ocode.proofs.printing.put_entry.Goals as goal
+
+pub returns-in_err-put_natural-clause-part : goal.returns-in_err-put_natural-clause-part
+returns-in_err-put_natural-clause-part g c =
+    let part : AppendsPart (g.O.ByteOut.taken c.args.out.now) (g.O.ByteOut.taken c.put_natural.new.out) (32 ∷ natural_word c.args.entry.number) = search rules in
+    on_err c.from_residual.result (AppendsPart-front _ _ (32 ∷ natural_word c.args.entry.number) (32 ∷ (label_word c.args.entry.label ++ [])) _ refl part)
+
+pub returns-in_err-put_label-clause-part : goal.returns-in_err-put_label-clause-part
+returns-in_err-put_label-clause-part g c =
+    let front : Appends (g.O.ByteOut.taken c.args.out.now) (g.O.ByteOut.taken c.put_natural.new.out) (32 ∷ natural_word c.args.entry.number) = search rules in
+    let part : AppendsPart (g.O.ByteOut.taken c.put_natural.new.out) (g.O.ByteOut.taken c.put_label.new.out) (32 ∷ label_word c.args.entry.label) = search rules in
+    on_err c.from_residual-in_err-put_label.result
+    (AppendsPart-behind _ _ _ (32 ∷ natural_word c.args.entry.number) (32 ∷ label_word c.args.entry.label) _ (ap (λ (t : List ℕ). (32 ∷ natural_word c.args.entry.number) ++ t) (append-nil (32 ∷ label_word c.args.entry.label))) front part)

@@ -1,0 +1,19 @@
+use Rattle.std.proofs.Common.{rules, ◌∷◌, length, refl}
+use Rattle.std.specs.Io.KnownBytes.{Appends}
+use Rattle.bk_base.specs.Devices.{AppendsPart}
+use Rattle.bk_ocode.specs.StmtText.{natural_word, spaced, global_words}
+use Rattle.bk_base.specs.DeviceLaws.{AppendsPart-front, AppendsPart-behind}
+use Rattle.bk_ocode.proofs.Parts.{on_err}
+use Rattle.bk_ocode.proofs.printing.put_globals.Goals as goal
+
+pub returns-in_err-put_natural-clause-part : goal.returns-in_err-put_natural-clause-part
+returns-in_err-put_natural-clause-part g c =
+    let part : AppendsPart (g.O.ByteOut.taken c.args.out.now) (g.O.ByteOut.taken c.put_natural.new.out) (32 ∷ natural_word (length c.args.entries.now)) = search rules in
+    on_err c.from_residual.result
+    (AppendsPart-front _ _ (32 ∷ natural_word (length c.args.entries.now)) (spaced (global_words c.args.entries.now)) _ refl part)
+
+pub returns-in_err-put_entries-clause-part : goal.returns-in_err-put_entries-clause-part
+returns-in_err-put_entries-clause-part g c =
+    let front : Appends (g.O.ByteOut.taken c.args.out.now) (g.O.ByteOut.taken c.put_natural.new.out) (32 ∷ natural_word (length c.args.entries.now)) = search rules in
+    on_err c.from_residual-in_err-put_entries.result
+    (AppendsPart-behind _ _ _ (32 ∷ natural_word (length c.args.entries.now)) (spaced (global_words c.args.entries.now)) _ refl front c.in_err-put_entries.ensures.part)

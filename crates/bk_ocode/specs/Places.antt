@@ -1,0 +1,45 @@
+-- Which statements may stand where: procedures and data in any order, and the end behind them.
+use Rattle.std.specs.Prelude.{Bool, true, false}
+use Rattle.bk_ocode.specs.declared.standing.Position.{Position}
+use Rattle.bk_ocode.specs.declared.standing.Position.TheVariants as position
+use Rattle.bk_ocode.specs.declared.standing.Role.{Role}
+use Rattle.bk_ocode.specs.declared.standing.Role.TheVariants.{Outer, First, Body, Taker, Last, Datum}
+use Rattle.bk_ocode.specs.declared.stmt.Stmt.{Stmt}
+use Rattle.bk_ocode.specs.declared.stmt.Stmt.TheVariants.{Label, TakeResult, Entry, Save, ReturnItem, Return, EndProcedure, DataLabel, DataNumber, DataAddress, Globals}
+
+-- the place that a statement may have
+abbrev pub role : Stmt → Role
+role (Entry label name) = Outer
+role (DataLabel label) = Outer
+role (Globals entries) = Outer
+role (Save depth) = First
+role (TakeResult depth) = Taker
+role EndProcedure = Last
+role (DataNumber value) = Datum
+role (DataAddress label) = Datum
+role _ = Body
+
+abbrev pub may_stand : Position → Role → Bool
+may_stand position.Outside Outer = true
+may_stand position.InData Outer = true
+may_stand position.InData Datum = true
+may_stand position.Opened First = true
+may_stand (position.BehindLabel label) Body = true
+may_stand (position.BehindLabel label) Taker = true
+may_stand position.BehindReturn Body = true
+may_stand position.BehindReturn Last = true
+may_stand position.Inside Body = true
+may_stand _ _ = false
+
+-- where the next statement stands
+abbrev pub position_behind : Stmt → Position
+position_behind (Entry label name) = position.Opened
+position_behind (Label label) = position.BehindLabel label
+position_behind ReturnItem = position.BehindReturn
+position_behind Return = position.BehindReturn
+position_behind EndProcedure = position.Outside
+position_behind (DataLabel label) = position.InData
+position_behind (DataNumber value) = position.InData
+position_behind (DataAddress label) = position.InData
+position_behind (Globals entries) = position.Ended
+position_behind _ = position.Inside

@@ -1,0 +1,38 @@
+-- Laws of accepted sections, for the layers above.
+use Rattle.std.specs.Prelude.{◌≡◌, ◌⊎◌, ℕ, ◌-◌, List, [], ◌∷◌, Some, slice_get, take, drop}
+use Rattle.bk_ocode.specs.Depth.{depth_behind}
+use Rattle.bk_ocode.specs.Labels.{label_set, jump_labels}
+use Rattle.bk_ocode.specs.Section.{AreFaultless, IsSection}
+use Rattle.bk_ocode.specs.OcodeStep.{from_label}
+use Rattle.bk_ocode.specs.declared.stmt.Stmt.{Stmt}
+use Rattle.bk_ocode.specs.declared.stmt.Stmt.TheVariants.{Label, Jump, JumpIf, Switch}
+
+-- No label is set twice.
+abbrev pub LabelsAreSetOnce : Type 0
+LabelsAreSetOnce = (stmts : List Stmt) (i j label : ℕ) (s t : Stmt) → AreFaultless stmts → slice_get stmts i ≡ Some s → slice_get stmts j ≡ Some t →
+    label_set s ≡ Some label → label_set t ≡ Some label → i ≡ j
+
+-- So a jump goes on at the one LAB of its label.
+abbrev pub LabelHasOnePlace : Type 0
+LabelHasOnePlace = (stmts : List Stmt) (i label : ℕ) → AreFaultless stmts → slice_get stmts i ≡ Some (Label label) → from_label stmts label ≡ Some (drop i stmts)
+
+-- the depth with which a jump goes to its labels, k being the depth before it
+abbrev pub jump_depth : ℕ → Stmt → ℕ
+jump_depth k (Jump label) = k
+jump_depth k (JumpIf truth label) = k - 1
+jump_depth k (Switch default cases) = k - 1
+jump_depth k _ = k
+
+abbrev pub IsAmong : ℕ → List ℕ → Type 0
+IsAmong label [] = ⊥
+IsAmong label (l ∷ rest) = (l ≡ label) ⊎ IsAmong label rest
+
+-- A jump and the LAB of one of its labels have one depth, whichever comes first.
+abbrev pub JumpHasItsLabelsDepth : Type 0
+JumpHasItsLabelsDepth = (stmts : List Stmt) (i j label : ℕ) (s : Stmt) → AreFaultless stmts → slice_get stmts i ≡ Some s → IsAmong label (jump_labels s) →
+    slice_get stmts j ≡ Some (Label label) → jump_depth (depth_behind 0 (take i stmts)) s ≡ depth_behind 0 (take j stmts)
+
+-- Each label of a jump is set by a LAB of the section.
+abbrev pub JumpFindsItsLabel : Type 0
+JumpFindsItsLabel = (stmts : List Stmt) (i label : ℕ) (s : Stmt) → IsSection stmts → slice_get stmts i ≡ Some s → IsAmong label (jump_labels s) →
+    (place : ℕ) × (slice_get stmts place ≡ Some (Label label))

@@ -1,0 +1,33 @@
+//! Laws of sections and of the step, which the crates above rest on.
+ghost use Rattle.bk_ocode.specs.StepLaws.{StepKeepsBelow};
+ghost use Rattle.bk_ocode.specs.SectionLaws.{LabelsAreSetOnce, LabelHasOnePlace, JumpFindsItsLabel, JumpHasItsLabelsDepth};
+
+/// No label of a section is set twice.
+#[tactic(auto, using(crate::proofs::LabelsOnce::labels_are_set_once))]
+pub fn labels_are_set_once()
+    ensures { LabelsAreSetOnce }
+{}
+
+/// A jump goes on at the one LAB of its label.
+#[tactic(auto, using(crate::proofs::LabelsOnce::label_has_one_place))]
+pub fn label_has_one_place()
+    ensures { LabelHasOnePlace }
+{}
+
+/// A step of a procedure keeps what lies below its frame, save the words that it writes.
+#[tactic(auto, using(crate::proofs::StepKeeps::step_keeps_below))]
+pub fn step_keeps_below()
+    ensures { StepKeepsBelow }
+{}
+
+/// A jump and the LAB of one of its labels have one depth, whichever comes first.
+#[tactic(auto, using(crate::proofs::JumpDepths::jump_has_its_labels_depth))]
+pub fn jump_has_its_labels_depth()
+    ensures { JumpHasItsLabelsDepth }
+{}
+
+/// Each label of a jump is set by a LAB of the section.
+#[tactic(auto, using(crate::proofs::JumpPlaces::jump_finds_its_label))]
+pub fn jump_finds_its_label()
+    ensures { JumpFindsItsLabel }
+{}

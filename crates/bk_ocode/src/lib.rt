@@ -1,0 +1,24 @@
+//! Statements of OCODE, sections, and their texts.
+#![tactic(auto)]
+
+mod arguments;
+mod byte_string;
+mod case_list;
+mod depth;
+mod global_list;
+mod laws;
+mod printing;
+mod section;
+mod standing;
+mod stmt;
+
+pub use byte_string::ByteString;
+pub use case_list::CaseList;
+pub use global_list::GlobalList;
+pub use laws::{
+    jump_finds_its_label, jump_has_its_labels_depth, label_has_one_place, labels_are_set_once,
+    step_keeps_below,
+};
+pub use printing::print;
+pub use section::Ocode;
+pub use stmt::{Case, Dyadic, GlobalEntry, Monadic, Stmt, Variable};
