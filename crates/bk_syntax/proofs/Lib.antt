@@ -1,0 +1,12 @@
+pub mod Steps
+pub mod Begin
+pub mod Complete
+pub mod Stands
+pub mod Tags
+pub mod Examples
+pub mod Before
+pub mod Lists
+pub mod Moves
+pub mod Sound
+pub mod StepsSound
+pub mod Exact

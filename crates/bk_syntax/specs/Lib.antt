@@ -1,0 +1,9 @@
+pub mod Tree
+pub mod Spelling
+pub mod Rows
+pub mod Brackets
+pub mod Grammar
+pub mod Limits
+pub mod SyntaxFault
+pub mod Machine
+pub mod SyntaxLaws

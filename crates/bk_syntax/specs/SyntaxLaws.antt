@@ -1,0 +1,33 @@
+-- Laws of the grammar, and of the machine that reads it symbol after symbol.
+use Rattle.std.specs.Prelude.{◌≡◌, List, [], ◌∷◌, ◌++◌, None, Some, Result, Ok, Err}
+use Rattle.bk_lex.specs.Symbol.{Symbol}
+use Rattle.bk_syntax.specs.Tree.{Declarations, no_declarations}
+use Rattle.bk_syntax.specs.Grammar.{Section}
+use Rattle.bk_syntax.specs.Brackets.{plain}
+use Rattle.bk_syntax.specs.SyntaxFault.{IsSection}
+use Rattle.bk_syntax.specs.Machine.{due, in_section, run}
+
+-- what the machine reads of plain symbols: their tree, or the symbols from the first on with which it does not go on
+abbrev pub reading : List Symbol → Result Declarations (List Symbol)
+reading ts = run ts (due (in_section no_declarations))
+
+-- The machine reads just the trees of the grammar.
+abbrev pub ReadsTheGrammar : Type 0
+ReadsTheGrammar = (ds : Declarations) (ts : List Symbol) → (Section ds ts → reading ts ≡ Ok ds) × (reading ts ≡ Ok ds → Section ds ts)
+
+-- Symbols have at most one tree.
+abbrev pub HaveOneTree : Type 0
+HaveOneTree = (ds es : Declarations) (ts : List Symbol) → IsSection ds ts → IsSection es ts → ds ≡ es
+
+-- Where the tag clause fails, no section goes on.
+abbrev pub TagFaultStands : Type 0
+TagFaultStands = (ts us : List Symbol) (ds : Declarations) → plain ts [] ≡ None → IsSection ds (ts ++ us) → ⊥
+
+-- Where the machine stops at a symbol, no section goes on.
+abbrev pub SymbolFaultStands : Type 0
+SymbolFaultStands = (ts u : List Symbol) (t : Symbol) (v : List Symbol) → plain ts [] ≡ Some (u ++ t ∷ v) → reading (u ++ t ∷ v) ≡ Err (t ∷ v)
+    → (us : List Symbol) (ds : Declarations) → IsSection ds (ts ++ us) → ⊥
+
+-- Where it stops at the end, the symbols are no section.
+abbrev pub EndFaultStands : Type 0
+EndFaultStands = (ts rest : List Symbol) → reading ts ≡ Err rest → (ds : Declarations) → Section ds ts → ⊥

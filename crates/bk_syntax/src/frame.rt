@@ -1,0 +1,185 @@
+//! What was begun and is not yet complete.
+
+use crate::symbols::Guard;
+use crate::tree::{Command, Decl, Def, Expr, Init, Item, Name, Operator, Prefix, Sort};
+use bk_base::Line;
+use std::alloc::{AllocError, AllocFailed};
+
+/// How deep and how large a part of a tree is.
+#[derive(Clone, Copy, Debug, PartialEq, Eq)]
+pub struct Size {
+    /// The greatest number of nodes inside one another.
+    pub depth: u32,
+    /// The number of nodes.
+    pub nodes: u32,
+}
+
+/// How a whole depends on a part of it: it is at least `floor` deep, at least `rise` deeper than the part, and has
+/// `nodes` nodes more.
+#[derive(Clone, Copy, Debug, PartialEq, Eq)]
+pub struct Lift {
+    pub floor: u32,
+    pub rise: u32,
+    pub nodes: u32,
+}
+
+/// An expression that was begun; an operand of it is read now.
+#[derive(Drop)]
+pub enum Operand {
+    Parens(Line),
+    Unary(Line, Prefix),
+    /// The operator, its line and the left operand.
+    Binary(Operator, Line, Box<Expr>),
+    /// The same with the copy of the operand that two relations share.
+    Chain(Operator, Line, Box<Expr>, Box<Expr>),
+    /// The line of the arrow and the condition.
+    Then(Line, Box<Expr>),
+    Else(Line, Box<Expr>, Box<Expr>),
+    /// The line of the parenthesis, the procedure and the arguments so far.
+    Args(Line, Box<Expr>, Vec<Expr>),
+    Table(Line, Vec<Expr>),
+}
+
+/// A command, item or definition that was begun; an expression of it is read now.
+#[derive(Drop)]
+pub enum Phrase {
+    /// The first expression of a command.
+    Start,
+    /// A destination behind these.
+    Dests(Vec<Expr>),
+    /// A value behind these, for the destinations.
+    Values(Vec<Expr>, Vec<Expr>),
+    Guard(Guard, Line),
+    Test(Line),
+    ResultIs(Line),
+    /// The condition of REPEATWHILE (true) or REPEATUNTIL (false).
+    RepeatWhile(bool, Box<Command>),
+    /// The start, the limit and the step of FOR.
+    From(Line, Name),
+    To(Line, Name, Box<Expr>),
+    By(Line, Name, Box<Expr>, Box<Expr>),
+    /// The constant of an item behind the items so far.
+    Item(Line, Sort, Vec<Item>, Name),
+    Function(Name, Vec<Name>),
+    /// An item of a LET behind these, a VEC with its line.
+    Value(Vec<Name>, Vec<Init>),
+    Vector(Line, Vec<Name>, Vec<Init>),
+}
+
+/// A command or definition that was begun; a command of it is read now.
+#[derive(Drop)]
+pub enum Clause {
+    Valof(Line),
+    Label(Line, Vec<u8>),
+    Guarded(Guard, Line, Box<Expr>),
+    Default(Line),
+    Then(Line, Box<Expr>),
+    Else(Line, Box<Expr>, Box<Command>),
+    For(Line, Name, Box<Expr>, Box<Expr>, Option<Box<Expr>>),
+    Routine(Name, Vec<Name>),
+}
+
+/// A place where a symbol is due.
+#[derive(Drop)]
+pub enum Place {
+    /// Between the declarations of a section.
+    Section(Vec<Decl>),
+    /// In a block; whether a command may come.
+    Block(Line, bool, Vec<Decl>, Vec<Command>),
+    /// The name of a definition, behind these.
+    Let(Line, Vec<Def>),
+    /// Behind that name.
+    Named(Name),
+    /// Behind the `(` of a procedure.
+    Formals(Name),
+    /// Behind a `,` between formals, and behind a formal.
+    Formal(Name, Vec<Name>),
+    FormalEnd(Name, Vec<Name>),
+    /// Behind the `)`.
+    Headed(Name, Vec<Name>),
+    /// Behind a `,` between the names of variables, and behind a further name.
+    Variable(Vec<Name>),
+    VariableEnd(Vec<Name>),
+    /// Behind the `=` or a `,` between the items of a LET.
+    Inits(Vec<Name>, Vec<Init>),
+    /// Behind MANIFEST, STATIC or GLOBAL.
+    Opening(Line, Sort),
+    /// Between the items, and behind the name of one.
+    Items(Line, Sort, Vec<Item>),
+    Signed(Line, Sort, Vec<Item>, Name),
+    Goto(Line),
+    For(Line),
+    Forward(Line, Name),
+    Default(Line),
+}
+
+/// What was begun, by what is read now.
+#[derive(Drop)]
+pub enum Begun {
+    Operand(Operand),
+    Phrase(Phrase),
+    Clause(Clause),
+    Place(Place),
+}
+
+/// What was begun, with the depth and the nodes of the parts that it holds, and how the whole depends on it.
+#[derive(Drop)]
+pub struct Frame {
+    pub begun: Begun,
+    pub held: Size,
+    pub below: Lift,
+}
+
+/// An expression that is complete so far, with its size and, if it is a relation, that of its right operand.
+#[derive(Drop)]
+pub struct Sized {
+    pub expr: Expr,
+    pub size: Size,
+    pub right: Size,
+}
+
+/// What stands on the frames.
+#[derive(Drop)]
+pub enum Now {
+    /// An operand is due.
+    Want,
+    /// An expression that may go on.
+    Have(Sized),
+    /// A command is due.
+    Begin,
+    /// A command may come.
+    Maybe,
+    /// A command that may go on.
+    Did(Command, Size),
+    /// A symbol is due, as the last frame says.
+    Due,
+}
+
+/// Why a symbol is refused.
+#[derive(Debug, Drop)]
+pub enum Stop {
+    Memory,
+    Unexpected,
+}
+
+impl From<AllocError> for Stop {
+    ghost use Rattle.std.specs.Prelude.{◌≡◌};
+    ghost use Rattle.bk_syntax.specs.declared.frame.Stop.TheVariants.{Memory};
+
+    ghost from_gives = { λ _ stop. stop ≡ Memory };
+
+    fn from(_error: AllocError) -> Stop {
+        Stop::Memory
+    }
+}
+
+impl<T: Drop> From<AllocFailed<T>> for Stop {
+    ghost use Rattle.std.specs.Prelude.{◌≡◌};
+    ghost use Rattle.bk_syntax.specs.declared.frame.Stop.TheVariants.{Memory};
+
+    ghost from_gives = { λ _ stop. stop ≡ Memory };
+
+    fn from(_error: AllocFailed<T>) -> Stop {
+        Stop::Memory
+    }
+}

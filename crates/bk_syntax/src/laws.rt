@@ -1,0 +1,27 @@
+//! Laws of the grammar, which the parser and the crates above rest on.
+ghost use Rattle.bk_syntax.specs.SyntaxLaws.{ReadsTheGrammar, HaveOneTree, TagFaultStands, SymbolFaultStands, EndFaultStands};
+
+/// The reading machine reads just the trees of the grammar.
+pub fn reads_the_grammar()
+    ensures { ReadsTheGrammar }
+{}
+
+/// Symbols have at most one tree.
+pub fn have_one_tree()
+    ensures { HaveOneTree }
+{}
+
+/// A wrong section tag stands, whatever follows.
+pub fn tag_fault_stands()
+    ensures { TagFaultStands }
+{}
+
+/// An unexpected symbol stands, whatever follows.
+pub fn symbol_fault_stands()
+    ensures { SymbolFaultStands }
+{}
+
+/// Symbols that end too early are no section.
+pub fn end_fault_stands()
+    ensures { EndFaultStands }
+{}

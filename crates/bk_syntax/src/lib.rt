@@ -1,0 +1,20 @@
+//! Trees of BCPL sections, the grammar, and a parser.
+#![tactic(auto)]
+
+mod commands;
+mod definitions;
+mod expressions;
+mod frame;
+mod laws;
+mod parser;
+mod size;
+mod spelling;
+mod symbols;
+#[cfg(test)]
+mod tests;
+pub mod tree;
+
+pub use laws::{
+    end_fault_stands, have_one_tree, reads_the_grammar, symbol_fault_stands, tag_fault_stands,
+};
+pub use parser::{Section, parse};

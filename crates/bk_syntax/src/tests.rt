@@ -1,0 +1,92 @@
+//! Sections that are taken and refused, from bytes on.
+use crate::parse;
+use bk_base::{Line, Refused, SourceFault, SourceKind};
+use bk_lex::lex;
+use std::alloc::Global;
+use std::test::Fail;
+
+/// Reads the first section of a text; what becomes of it, and how many declarations it has.
+fn read(alloc: Global, text: &[u8]) -> Result<usize, Refused<SourceFault>> {
+    let lexed = lex(alloc, text, Line::first())?;
+    let section = parse(alloc, lexed.tokens.as_slice(), lexed.line)?;
+    Ok(section.decls().len())
+}
+
+#[test]
+fn taken(rt: HostRuntime) -> Result<(), Fail> {
+    let rows: [(&[u8], usize); 12] = [
+        (b"", 0),
+        (b"; ;", 0),
+        (b"GET \"LIBHDR\"", 2),
+        (b"LET START() BE FINISH", 1),
+        (
+            b"LET START() BE $(1 IF TRUE DO $( IF TRUE DO $(2 WRCH('X') $)1",
+            1,
+        ),
+        (b"LET F(A, B) = A < B < 3 -> A, -B!A AND G() BE $( $)", 1),
+        (b"LET F() BE $( L: REPEAT $)", 1),
+        (b"LET F() BE F(X)(Y)", 1),
+        (b"LET F() BE 5()", 1),
+        (b"LET F() BE IF A DO B() REPEAT", 1),
+        (b"MANIFEST $( A = 1; B : 2; $) STATIC $( C = 3 $)", 2),
+        (
+            b"LET F() BE FOR I = 1 TO 3 BY 2 DO SWITCHON I INTO $( CASE 1: DEFAULT: $)",
+            1,
+        ),
+    ];
+    for (text, declarations) in rows {
+        assert_eq!(rt; read(rt.alloc(), text), Ok(declarations));
+    }
+    Ok(())
+}
+
+#[test]
+fn refused(rt: HostRuntime) -> Result<(), Fail> {
+    let rows: [(&[u8], u32, SourceKind); 13] = [
+        (
+            b"LET START() BE $(1 IF TRUE DO $( IF TRUE DO $(2 WRCH('X') $)3",
+            1,
+            SourceKind::WrongSectionTag,
+        ),
+        (
+            b"LET START() BE\n$(1 WRCH('X') $)",
+            2,
+            SourceKind::WrongSectionTag,
+        ),
+        (b"LET START() BE F() $)", 1, SourceKind::UnexpectedSymbol),
+        (
+            b"LET F() BE $( LET A = 1\n A := B !V := A $)",
+            2,
+            SourceKind::UnexpectedSymbol,
+        ),
+        (b"LET F() BE A,B := C", 1, SourceKind::UnexpectedSymbol),
+        (
+            b"LET F() BE A,B := TABLE 1,2",
+            1,
+            SourceKind::UnexpectedSymbol,
+        ),
+        (
+            b"LET F() BE F(VALOF G(1), 2)",
+            1,
+            SourceKind::UnexpectedSymbol,
+        ),
+        (b"LET F() BE A!B(X)", 1, SourceKind::UnexpectedSymbol),
+        (b"LET F() BE (F(X))", 1, SourceKind::UnexpectedSymbol),
+        (b"MANIFEST $( ; A = 1 $)", 1, SourceKind::UnexpectedSymbol),
+        (
+            b"LET F() BE $( LET A = 1 F() $)",
+            1,
+            SourceKind::UnexpectedSymbol,
+        ),
+        (b"LET X = 1", 1, SourceKind::UnexpectedSymbol),
+        (b"LET F() BE\n\n", 3, SourceKind::UnexpectedSymbol),
+    ];
+    for (text, line, kind) in rows {
+        let line = Line::new(line.max(1));
+        assert_eq!(rt;
+            read(rt.alloc(), text),
+            Err(Refused::Fault(SourceFault { line, kind }))
+        );
+    }
+    Ok(())
+}
