@@ -1,5 +1,4 @@
 mod Bytes
-pub mod CheckedSegment
 mod Growing
 mod Places
 mod Reaching

@@ -1,6 +1,7 @@
 pub mod Segment
 pub mod SegmentItems
 pub mod SegmentLaws
+pub mod CheckedSegment
 pub mod Instructions
 pub mod Placement
 pub mod Reach
@@ -12,6 +13,7 @@ pub mod Operations
 pub mod Output
 pub mod Step
 pub mod Effects
+pub mod StepLaws
 pub mod Runs
 pub mod RunLaws
 pub mod Telling

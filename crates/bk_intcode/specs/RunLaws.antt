@@ -1,5 +1,5 @@
 -- Laws of runs: steps one after another, and what is written only grows.
-use Rattle.std.specs.Prelude.{◌≡◌, ℕ, zero, suc, ◌+◌, Bool, true, false, List, [], ◌++◌, refl, if◌then◌else◌}
+use Rattle.std.specs.Prelude.{◌≡◌, ℕ, zero, suc, ◌+◌, ◌≤◌, Bool, true, false, List, [], ◌∷◌, ◌++◌, length, refl, if◌then◌else◌}
 use Rattle.std.proofs.Common.{sym, ap, ◌∙◌, arith, append_assoc, append-nil}
 use Rattle.bk_base.specs.declared.run_end.End.TheVariants.{StoreLimit}
 use Rattle.bk_intcode.specs.declared.registers.Registers.{Registers}
@@ -85,3 +85,49 @@ run-begins n store r input written = run_begins n store r input written
 pub onwards-begins : (m : ℕ) (s : Standing) → (more : List ℕ) × (output_of (onwards m s) ≡ output_of s ++ more)
 onwards-begins m (Going store r input written) = run-begins m store r input written
 onwards-begins m (Over e input written) = ([], sym (append-nil written))
+
+-- the input that is left
+abbrev pub input_of : Standing → List ℕ
+input_of (Going store r input written) = input
+input_of (Over e input written) = input
+
+-- the input left behind a run is no longer than before it
+ShrinksAt : ℕ → Type 0
+ShrinksAt n = (store : List ℕ) (r : Registers) (input written : List ℕ) → length (input_of (run n store r input written)) ≤ length input
+
+tells_shrinks : (n : ℕ) → ShrinksAt n → (text : Text) (store : List ℕ) (r : Registers) (input written : List ℕ)
+    → length (input_of (if text.whole then run n store r input (written ++ text.bytes) else Over StoreLimit input (written ++ text.bytes))) ≤ length input
+unfolding ShrinksAt
+tells_shrinks n shrinks text store r input written = by_whole text.whole
+  where
+    by_whole : (whole : Bool) → length (input_of (if whole then run n store r input (written ++ text.bytes) else Over StoreLimit input (written ++ text.bytes))) ≤ length input
+    by_whole true = shrinks store r input (written ++ text.bytes)
+    by_whole false = omega arith
+
+behind_shorter : (input : List ℕ) → length (behind_next input) ≤ length input
+behind_shorter [] = omega arith
+behind_shorter (b ∷ rest) = omega arith
+
+after_shrinks : (n : ℕ) → ShrinksAt n → (turn : Turn) (input written : List ℕ) → length (input_of (after (run n) turn input written)) ≤ length input
+unfolding ShrinksAt
+after_shrinks n shrinks (Goes store r) input written = shrinks store r input written
+after_shrinks n shrinks (Tells what store r) input written = tells_shrinks n shrinks (output_text store what) store r input written
+after_shrinks n shrinks (Asks store r) input written =
+    let here = shrinks store (record r { a = next_byte input }) (behind_next input) written in
+    let shorter = behind_shorter input in
+    omega arith
+after_shrinks n shrinks (Ends e) input written = omega arith
+
+shrinks : (n : ℕ) → ShrinksAt n
+unfolding ShrinksAt
+shrinks zero store r input written = omega arith
+shrinks (suc n) store r input written = after_shrinks n (shrinks n) (step store r) input written
+
+pub run-shrinks : (n : ℕ) (store : List ℕ) (r : Registers) (input written : List ℕ)
+    → length (input_of (run n store r input written)) ≤ length input
+unfolding ShrinksAt
+run-shrinks n store r input written = shrinks n store r input written
+
+pub onwards-shrinks : (m : ℕ) (s : Standing) → length (input_of (onwards m s)) ≤ length (input_of s)
+onwards-shrinks m (Going store r input written) = run-shrinks m store r input written
+onwards-shrinks m (Over e input written) = omega arith

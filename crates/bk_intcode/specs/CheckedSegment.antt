@@ -1,4 +1,4 @@
--- A test of segments that computes, for lists that are written out.
+-- A test of segments that computes: items that pass it are a segment.
 use Rattle.std.proofs.Common.{◌≡◌, ◌^◌, ℕ, ℤ, nat_lt, FitsSigned, w32, zero, suc, ◌-◌, Bool, true, false, List, [], ◌∷◌, length, Some, refl, ap, sym, ◌∙◌, subst, arith}
 use lib.Signed.{mag}
 use Rattle.std.specs.Prelude.{slice_get, nat_le, not, ◌&&◌, ◌||◌, ◌==◌}

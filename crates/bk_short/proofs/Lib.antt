@@ -1,0 +1,9 @@
+mod CodeWords
+mod LoadedStore
+mod ReadingTurns
+mod ShortSegment
+mod ShortReading
+mod ShortFaults
+mod CallSteps
+mod CallRuns
+mod ShortProgram

@@ -1,0 +1,5 @@
+pub mod ShortSource
+pub mod Meaning
+pub mod ShortMachine
+pub mod ShortCode
+pub mod Program
