@@ -1,5 +1,7 @@
 mod PieceLemmas
 mod CodeLemmas
 mod LoadLemmas
+mod SourceRuns
+mod SourceLemmas
 mod TellLemmas
 mod LineLemmas

@@ -3,6 +3,9 @@ pub mod FaultLine
 pub mod Loading
 pub mod Code
 pub mod Interpreting
+pub mod ReadingSource
+pub mod Headline
+pub mod ShortSources
 pub mod Statuses
 pub mod Telling
 pub mod Sizes

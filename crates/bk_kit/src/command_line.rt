@@ -2,7 +2,7 @@
 ghost use Rattle.std.specs.Prelude.{◌≡◌, map, IfOk, IfSome, false, Some, codes};
 ghost use Rattle.clap.specs.Words.{app_of, rule_of, rows_of, found_of, first_of, one_of, subcommand_of};
 ghost use Rattle.clap.specs.declared.builder.Command.TheViews.{out-Command as fields_of};
-ghost use Rattle.bk_kit.specs.CommandLine.{store_rule, steps_rule, sizes_rule, file_rule, interpret_command, kit_command, truth_text, ReadsLimits, Reads};
+ghost use Rattle.bk_kit.specs.CommandLine.{store_rule, steps_rule, sizes_rule, file_rule, run_command, interpret_command, kit_command, truth_text, ReadsLimits, Reads};
 
 use crate::orders::Order;
 use bk_base::Limits;
@@ -82,6 +82,19 @@ fn file_argument<'a>(alloc: Global, help: &'a str) -> Arg<'a>
         .action(ArgAction::Set)
 }
 
+/// `run`
+fn run_subcommand<'a>(alloc: Global) -> Result<Command<'a>, AllocError>
+    ensures { IfOk result (λ command. (app_of command ≡ run_command) × ((fields_of command).has_globals ≡ false)) }
+{
+    Ok(
+        Command::new(alloc, "run")
+            .arg(store_option(alloc))?
+            .arg(steps_option(alloc))?
+            .arg(file_argument(alloc, "The BCPL source"))?
+            .about("Runs a BCPL source: input and output are those of the program"),
+    )
+}
+
 /// `interpret`
 fn interpret_subcommand<'a>(alloc: Global) -> Result<Command<'a>, AllocError>
     ensures { IfOk result (λ command. (app_of command ≡ interpret_command) × ((fields_of command).has_globals ≡ false)) }
@@ -102,6 +115,7 @@ fn kit<'a>(alloc: Global) -> Result<Command<'a>, AllocError>
 {
     Ok(
         Command::new(alloc, "bcpl")
+            .subcommand(run_subcommand(alloc)?)?
             .subcommand(interpret_subcommand(alloc)?)?
             .about("A portable BCPL kit"),
     )
@@ -130,22 +144,41 @@ fn sizes_asked(matches: &ArgMatches<'_>) -> Option<bool>
     matches.get_one::<bool>("sizes")
 }
 
-/// What a subcommand and its values ask for.
-fn order_of(alloc: Global, name: &str, matches: &ArgMatches<'_>) -> Result<Order, LineFault>
-    ensures { IfOk result (Reads (Some (name.now, rows_of (found_of matches.now)))) }
+/// What the values of `run` ask for.
+fn run_order(alloc: Global, matches: &ArgMatches<'_>) -> Result<Order, LineFault>
+    ensures { IfOk result (Reads (Some (codes "run", rows_of (found_of matches.now)))) }
+{
+    let limits = limits_of(matches).ok_or(LineFault::Bad)?;
+    let file = file_of(matches).ok_or(LineFault::Bad)?;
+    Ok(Order::Run(limits, String::from_str(alloc, file)?))
+}
+
+/// What the values of `interpret` ask for.
+fn interpret_order(alloc: Global, matches: &ArgMatches<'_>) -> Result<Order, LineFault>
+    ensures { IfOk result (Reads (Some (codes "interpret", rows_of (found_of matches.now)))) }
 {
     let limits = limits_of(matches).ok_or(LineFault::Bad)?;
     let file = file_of(matches).ok_or(LineFault::Bad)?;
     let sizes = sizes_asked(matches).ok_or(LineFault::Bad)?;
-    if name != "interpret" {
-        return Err(LineFault::Bad);
-    }
     let file = String::from_str(alloc, file)?;
     if sizes {
         Ok(Order::Sizes(limits, file))
     } else {
         Ok(Order::Interpret(limits, file))
     }
+}
+
+/// What a subcommand and its values ask for.
+fn order_of(alloc: Global, name: &str, matches: &ArgMatches<'_>) -> Result<Order, LineFault>
+    ensures { IfOk result (Reads (Some (name.now, rows_of (found_of matches.now)))) }
+{
+    if name == "run" {
+        return run_order(alloc, matches);
+    }
+    if name == "interpret" {
+        return interpret_order(alloc, matches);
+    }
+    Err(LineFault::Bad)
 }
 
 /// Why clap gives no values.

@@ -8,6 +8,7 @@ mod orders;
 mod pieces;
 mod runner;
 mod service;
+mod source;
 mod status;
 #[cfg(test)]
 mod tests;
@@ -17,3 +18,4 @@ pub use kit_fault::KitFault;
 pub use orders::Order;
 pub use runner::{interpret, sizes};
 pub use service::{refuse, serve};
+pub use source::run_source;

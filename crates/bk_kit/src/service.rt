@@ -7,6 +7,7 @@ ghost use Rattle.bk_kit.specs.Telling.{Tells};
 use crate::command_line::LineFault;
 use crate::orders::Order;
 use crate::runner::{interpret, sizes};
+use crate::source::run_source;
 use crate::status::{tell_done, tell_run, tell_text};
 use bk_base::{ByteIn, ByteOut};
 use std::alloc::Global;
@@ -30,6 +31,10 @@ pub fn serve<F: ByteIn, I: ByteIn, O: ByteOut, E: ByteOut>(
         (record { taken = E.taken err.new; passed = E.passed err.new; faults = E.faults err.new }) }
 {
     match order {
+        Order::Run(limits, _) => {
+            let answer = run_source(alloc, file, *limits, input, out);
+            tell_run(&answer, err)
+        }
         Order::Interpret(limits, _) => {
             let answer = interpret(alloc, file, *limits, input, out);
             tell_run(&answer, err)

@@ -1,5 +1,5 @@
 -- What the answer of reading a text says of it.
-use Rattle.std.proofs.Common.{◌≡◌, ℕ, ◌+◌, ◌*◌, ◌%◌, ◌^◌, ◌≤◌, ◌<◌, Bool, true, false, List, [], ◌∷◌, ◌++◌, length, Result, Ok, Err, refl, sym, ap, ◌∙◌, subst, arith, if◌then◌else◌, ◌==◌, ◌||◌}
+use Rattle.std.proofs.Common.{◌≡◌, ℕ, ◌+◌, ◌*◌, ◌%◌, ◌^◌, ◌≤◌, ◌<◌, Bool, true, false, List, [], ◌∷◌, ◌++◌, length, Result, Ok, Err, refl, sym, ap, ◌∙◌, subst, arith, append_assoc, if◌then◌else◌, ◌==◌, ◌||◌}
 use Rattle.bk_base.specs.declared.limit.TheConstants.{SECTION_SYMBOLS}
 use Rattle.bk_base.specs.declared.source_fault.SourceFault.{SourceFault}
 use Rattle.bk_base.specs.declared.source_fault.SourceKind.TheVariants.{UnexpectedSymbol}
@@ -14,14 +14,15 @@ use Rattle.bk_lex.specs.declared.machine.Base.TheVariants.{Octal, Decimal, Hexad
 use Rattle.bk_short.specs.declared.call.Call.{Call}
 use Rattle.bk_short.specs.declared.due.Due.{Due}
 use Rattle.bk_short.specs.declared.due.Due.TheVariants.{Opening}
-use Rattle.bk_short.specs.ShortSource.{opening, Goes, opens, names, brackets, numbers, closes, parts, ends, done, IsShortSource, IsRefused, SymbolFault}
+use Rattle.bk_short.specs.ShortSource.{opening, Goes, opens, names, brackets, numbers, closes, parts, ends, done, StopsAt, EndsEarly, IsShortSource, IsRefused, SymbolFault}
 use Rattle.bk_short.specs.ShortMachine.{RefusesAs, calls_from}
 use Rattle.bk_short.specs.ShortCode.{short_items, AreWords}
 use Rattle.bk_short.specs.Program.{IsProgram, IsRefusal}
-use Rattle.bk_short.proofs.ShortReading.{Accepted, accepted}
+use Rattle.bk_short.proofs.ShortReading.{Accepted, accepted, calls_alone}
 use Rattle.bk_short.proofs.ShortFaults.{fault_stands}
 use Rattle.bk_short.proofs.CallRuns.{means_calls}
 use mathlib.Core.Logic.{inl, inr}
+use Rattle.std.specs.Prelude.{◌⊎◌}
 
 word_from_small : (base : Base) (digits : List ℕ) (v : ℕ) → v < 2 ^ 32 → word_from base v digits < 2 ^ 32
 word_from_small base [] v small = small
@@ -81,6 +82,20 @@ few_calls text section calls is e =
 pub are_words : (section : Section) (calls : List Call) → calls_from opening (Opening 0) [] section.symbols section.line section.ended ≡ Ok calls → AreWords calls
 are_words section calls e = goes_words (Opening 0) section.symbols calls (reads_calls section calls e).0
 
+abbrev read : Section → Result Section SourceFault
+read section = Ok section
+
+abbrev failed : SourceFault → Result Section SourceFault
+failed fault = Err fault
+
+the_section : (a b : Section) → read a ≡ read b → a ≡ b
+the_section a b e = cc
+
+alone : (text : List ℕ) (section : Section) (calls others : List Call) → lexed text 1 ≡ Ok section → Goes (Opening 0) section.symbols calls → IsShortSource text others → others ≡ calls
+alone text section calls others is goes short =
+    let same : short.section ≡ section = the_section short.section section (sym short.lexed_as ∙ is) in
+    calls_alone section.symbols (Opening 0) others calls (subst (λ s. Goes (Opening 0) s.symbols others) same short.short) goes
+
 pub is_program : (text : List ℕ) (section : Section) (calls : List Call) → lexed text 1 ≡ Ok section
     → calls_from opening (Opening 0) [] section.symbols section.line section.ended ≡ Ok calls → IsProgram text (short_items calls)
 is_program text section calls is e =
@@ -88,12 +103,35 @@ is_program text section calls is e =
     record {
       calls = calls;
       short = record { section = section; lexed_as = is; whole = r.1; short = r.0 };
+      alone = λ others short. alone text section calls others is r.0 short;
       means = means_calls calls (are_words section calls e);
     }
+
+-- a short source goes on with each of its symbols
+not_stopped : (section : Section) (line : ℕ) (calls : List Call) → Goes (Opening 0) section.symbols calls → section.ended ≡ false
+    → StopsAt section.symbols line ⊎ EndsEarly section line → ⊥
+not_stopped section line calls goes whole (inl stops) =
+    let same : (stops.front ++ stops.symbol ∷ []) ++ stops.rest ≡ stops.front ++ stops.symbol ∷ stops.rest = append_assoc stops.front (stops.symbol ∷ []) stops.rest in
+    stops.stops (stops.rest, calls, subst (λ x. Goes (Opening 0) x calls) (stops.parts ∙ sym same) goes)
+not_stopped section line calls goes whole (inr early) = early.no_source calls whole goes
+
+not_refused : (text : List ℕ) (section : Section) (line : ℕ) → lexed text 1 ≡ Ok section → StopsAt section.symbols line ⊎ EndsEarly section line
+    → (calls : List Call) → IsShortSource text calls → ⊥
+not_refused text section line is stops calls short =
+    let same : short.section ≡ section = the_section short.section section (sym short.lexed_as ∙ is) in
+    not_stopped section line calls (subst (λ s. Goes (Opening 0) s.symbols calls) same short.short) (subst (λ s. s.ended ≡ false) same short.whole) stops
 
 pub is_refusal : (text : List ℕ) (section : Section) (refused : Refused SourceFault) → lexed text 1 ≡ Ok section
     → RefusesAs refused (calls_from opening (Opening 0) [] section.symbols section.line section.ended) → IsRefusal text refused
 is_refusal text section (refusals.Fault f) is e =
-    inr (record { section = section; lexed_as = is; kind_is = e.0; stands = fault_stands section f.line e.1 })
+    let stands = fault_stands section f.line e.1 in
+    (inr (record { section = section; lexed_as = is; kind_is = e.0; stands = stands }), not_refused text section f.line is stands)
 is_refusal text section refusals.Memory is e = tt
 is_refusal text section refusals.Device is e = e
+
+-- a text with a lexical fault is no short source
+pub is_fault : (text : List ℕ) (f : SourceFault) → lexed text 1 ≡ Err f → IsRefusal text (refusals.Fault f)
+is_fault text f is = (inl is, λ calls short. clash short.section (sym is ∙ short.lexed_as))
+  where
+    clash : (s : Section) → failed f ≡ read s → ⊥
+    clash s e = cc

@@ -106,6 +106,20 @@ join Closing s d rest calls e goes =
 join More s d rest calls e goes = behind_call_from s.kind s d rest calls refl e goes
 join Nothing s d rest calls e goes = cc
 
+-- ---- what a short source may have gives its calls
+
+pub calls_alone : (symbols : List Symbol) (due : Due) (first second : List Call) → Goes due symbols first → Goes due symbols second → first ≡ second
+calls_alone [] due first second a b = (split due [] first a).1 ∙ sym (split due [] second b).1
+calls_alone (s ∷ rest) due first second a b =
+    let x = split due (s ∷ rest) first a in
+    let y = split due (s ∷ rest) second b in
+    let next : x.next ≡ y.next = the_due x.next y.next (sym x.due_is ∙ y.due_is) in
+    let more = calls_alone rest y.next x.more y.more (subst (λ d. Goes d rest x.more) next x.goes) y.goes in
+    x.calls_are ∙ ap (λ m. calls_by due s ++ m) more ∙ sym y.calls_are
+  where
+    the_due : (m n : Due) → Some m ≡ Some n → m ≡ n
+    the_due m n e = cc
+
 -- ---- what is read is a short source
 
 pub record Accepted (due : Due) (before : List Call) (symbols : List Symbol) (ended : Bool) (total : List Call) : Type 0 where

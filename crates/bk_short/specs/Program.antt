@@ -35,10 +35,12 @@ pub record MeansCalls (items : List Item) (calls : List Call) : Type 0 where
 pub record IsProgram (source : List ℕ) (items : List Item) : Type 0 where
   pub calls : List Call
   pub short : IsShortSource source calls
+  -- the text has no other calls
+  pub alone : (others : List Call) → IsShortSource source others → others ≡ calls
   pub means : MeansCalls items calls
 
 -- why there is no code; a growth that was refused is another answer
 abbrev pub IsRefusal : List ℕ → Refused SourceFault → Type 0
-IsRefusal source (refusals.Fault f) = IsRefused source f
+IsRefusal source (refusals.Fault f) = IsRefused source f × ((calls : List Call) → IsShortSource source calls → ⊥)
 IsRefusal source refusals.Memory = Unit {0}
 IsRefusal source refusals.Device = ⊥

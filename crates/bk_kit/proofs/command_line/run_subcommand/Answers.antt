@@ -1,0 +1,14 @@
+use Rattle.std.proofs.Common.{rules, ◌≡◌, ◌∙◌, ap, ap₂, false}
+use Rattle.clap.specs.Words.{app_of, with_rule}
+use Rattle.clap.specs.Simple.{app_of_fields}
+use Rattle.clap.specs.declared.builder.Command.TheViews.{out-Command as fields_of}
+use Rattle.bk_kit.specs.CommandLine.{run_command}
+use Rattle.bk_kit.proofs.command_line.run_subcommand.Goals as goal
+
+pub returns : goal.returns
+returns c =
+    let first = c.in_ok-arg.ensures.shape c.store_option.ensures.local ∙ ap₂ with_rule c.new.ensures.app c.store_option.ensures.rule in
+    let second = c.in_ok-arg-2.ensures.shape c.steps_option.ensures.local ∙ ap₂ with_rule first c.steps_option.ensures.rule in
+    let third : app_of c.in_ok-arg-3.field-0 ≡ run_command = c.in_ok-arg-3.ensures.shape c.file_argument.ensures.local ∙ ap₂ with_rule second c.file_argument.ensures.rule in
+    let globals : (fields_of c.in_ok-arg-3.field-0).has_globals ≡ false = search rules in
+    (ap app_of_fields c.about.ensures ∙ third, ap (λ f. f.has_globals) c.about.ensures ∙ globals)

@@ -1,0 +1,13 @@
+use Rattle.std.proofs.Common.{◌≡◌}
+use Rattle.bk_intcode.specs.State.{store_of, registers_of}
+use Rattle.bk_kit.proofs.SourceLemmas.{source_runs}
+use Rattle.bk_kit.proofs.source.run_source.Goals as goal
+
+pub returns-clause-headline : goal.returns-clause-headline
+returns-clause-headline g c =
+    let loads = c.in_ok-machine.ensures.loaded in
+    let ran = rw (loads.store, loads.registers, c.words.ensures.value, c.steps.ensures.value) at c.run.ensures.ran loads.fresh in
+    let room = rw c.words.ensures.value at loads.room in
+    let most = rw c.words.ensures.value at c.words.ensures.within.1 in
+    source_runs c.run.result c.args.limits.steps c.args.limits.words _ _ _ _ _ loads.text loads.items (store_of c.run.new.self) (registers_of c.run.new.self)
+    loads.first loads.program room most ran (c.run.ensures.flushed loads.fresh) (c.run.ensures.cause loads.fresh)

@@ -1,0 +1,92 @@
+-- What running a source promises, for any language: the bytes and the end of the source's meaning with enough steps and words,
+-- and a beginning of the bytes with less.
+use Rattle.std.specs.Prelude.{◌≡◌, ◌≢◌, ℕ, Bool, IsTrue, List, ◌++◌, Option, Result, Ok, Err, []}
+use Rattle.std.specs.Io.KnownBytes.{Consumes}
+use Rattle.bk_base.specs.declared.run_end.End.{End}
+use Rattle.bk_base.specs.declared.run_end.End.TheVariants.{Status, DivideByZero, StoreLimit, StepLimit, BadOperation, ReadFault, WriteFault}
+use Rattle.bk_base.specs.declared.source_fault.SourceFault.{SourceFault}
+use Rattle.bk_intcode.specs.Runs.{Exchanged, Follows, Blames}
+use Rattle.bk_kit.specs.declared.kit_fault.KitFault.{KitFault}
+use Rattle.bk_kit.specs.declared.kit_fault.KitFault.TheVariants.{Source, Ocode, Intcode, TooSmall, NoStart, Read, Write, Memory}
+use Rattle.bk_kit.specs.Interpreting.{Streams, told}
+
+-- What sources mean, and how much is enough to run them.
+pub record Language : Type 1 where
+  -- the source is accepted
+  pub Accepted : List ℕ → Type 0
+  -- the source is refused, and this fault stands in it
+  pub Refused : List ℕ → SourceFault → Type 0
+  -- no START is defined in the source
+  pub Startless : List ℕ → Type 0
+  -- with this input the meaning ends: it takes these bytes of it, writes these, and ends so
+  pub Ends : (source input taken bytes : List ℕ) → End → Type 0
+  -- with this input the meaning has written these bytes after so many turns, and goes on
+  pub GoesOn : (source input : List ℕ) → ℕ → List ℕ → Type 0
+  -- so many steps and words are enough for the meaning's end
+  pub Enough : (source input : List ℕ) → (steps words : ℕ) → Type 0
+  -- so many steps and words are enough for so many turns
+  pub EnoughFor : (source input : List ℕ) → ℕ → (steps words : ℕ) → Type 0
+
+module _ (language : Language) (source input : List ℕ) (steps words : ℕ) where
+  -- The meaning ends so, with just these bytes.
+  abbrev pub IsWhole : End → List ℕ → List ℕ → Type 0
+  IsWhole end read written =
+      (taken bytes : List ℕ) (last : End) → language.Ends source input taken bytes last → (last ≡ end) × (taken ≡ read) × (bytes ≡ written)
+
+  -- These bytes begin those of the meaning: of its end, or of some number of turns where it goes on for ever.
+  pub record IsPart (written : List ℕ) : Type 0 where
+    pub of_end : (taken bytes : List ℕ) (last : End) → language.Ends source input taken bytes last → (more : List ℕ) × (bytes ≡ written ++ more)
+    pub of_turns : ((turns : ℕ) → (bytes : List ℕ) × language.GoesOn source input turns bytes)
+        → (turns : ℕ) × (bytes more : List ℕ) × language.GoesOn source input turns bytes × (bytes ≡ written ++ more)
+
+  -- What the meaning writes in the turns for which there were enough steps and words was written.
+  abbrev pub Reaches : List ℕ → Type 0
+  Reaches written = (turns : ℕ) (bytes : List ℕ) → language.GoesOn source input turns bytes → language.EnoughFor source input turns steps words
+      → (more : List ℕ) × (written ≡ bytes ++ more)
+
+  -- not enough for the meaning's end
+  abbrev pub TooFew : Type 0
+  TooFew = language.Enough source input steps words → ⊥
+
+  -- the end of a run, with the bytes that it read and wrote, and the meaning
+  abbrev pub Agrees : End → List ℕ → List ℕ → Type 0
+  Agrees (Status v) read written = IsWhole (Status v) read written × Reaches written
+  Agrees DivideByZero read written = IsWhole DivideByZero read written × Reaches written
+  Agrees StepLimit read written = IsPart written × Reaches written × TooFew
+  Agrees StoreLimit read written = IsPart written × Reaches written × TooFew
+  Agrees BadOperation read written = IsWhole BadOperation read written × Reaches written
+  Agrees ReadFault read written = IsPart written
+  Agrees WriteFault read written = IsPart written
+
+-- The source was run: the bytes that input delivered and output took are those of the run, whatever input follows.
+pub record Runs (language : Language) (source : List ℕ) (end : End) (steps words : ℕ) (before after : Streams) : Type 0 where
+  pub accepted : language.Accepted source
+  pub read : List ℕ
+  pub written : List ℕ
+  pub exchanged : Exchanged (told before) (told after) read written
+  pub agrees : (rest : List ℕ) → Follows (told after) rest → Agrees language source (read ++ rest) steps words end read written
+  -- each end flushes, unless the output failed
+  pub passed : end ≢ WriteFault → after.passed ≡ after.taken
+  pub blamed : Blames end after.reads after.writes
+
+-- What a call answers of a source. Where there is a fault nothing is run, and neither input nor output is touched.
+abbrev pub Keeps : Language → List ℕ → Result End KitFault → ℕ → ℕ → Streams → Streams → Type 0
+Keeps language source (Ok end) steps words before after = Runs language source end steps words before after
+Keeps language source (Err (Source fault)) steps words before after =
+    language.Refused source fault × (language.Accepted source → ⊥) × (after ≡ before)
+Keeps language source (Err TooSmall) steps words before after =
+    language.Accepted source × ((input : List ℕ) → TooFew language source input steps words) × (after ≡ before)
+Keeps language source (Err NoStart) steps words before after = language.Startless source × (after ≡ before)
+Keeps language source (Err Read) steps words before after = after ≡ before
+Keeps language source (Err Memory) steps words before after = after ≡ before
+Keeps language source (Err Write) steps words before after = ⊥
+Keeps language source (Err (Ocode section fault)) steps words before after = ⊥
+Keeps language source (Err (Intcode segment fault)) steps words before after = ⊥
+
+-- Some bytes were delivered of the source, and the answer is one of every source that begins with them; where the source's end
+-- was told, of just these.
+pub record Headline (language : Language) (answer : Result End KitFault) (steps words : ℕ) (old new : Option (List ℕ)) (ended : Bool)
+    (before after : Streams) : Type 0 where
+  pub text : List ℕ
+  pub delivered : Consumes old new text
+  pub keeps : (rest : List ℕ) → (IsTrue ended → rest ≡ []) → Keeps language (text ++ rest) answer steps words before after
