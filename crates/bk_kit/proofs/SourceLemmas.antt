@@ -87,14 +87,15 @@ module _ (steps words : ℕ) (before : Streams) (old new : Option (List ℕ)) (e
         text = text;
         delivered = first.delivered;
         keeps = λ rest over.
-          let here = same_program text (text ++ rest) items (first.settled rest over) program in
-          ((here.calls, here.short),
-          (λ input enough.
-            let only = ap length (here.alone enough.0 enough.1) in
-            let small = here.means.small in
-            let many = enough.2 in
-            absurd (omega arith)),
-          refl);
+            let here = same_program text (text ++ rest) items (first.settled rest over) program in (
+              (here.calls, here.short),
+              (λ input enough.
+                  let only = ap length (here.alone enough.0 enough.1) in
+                  let small = here.means.small in
+                  let many = enough.2 in
+                  absurd (omega arith)),
+              refl,
+            );
       }
 
 -- where the source could not be read
@@ -134,6 +135,6 @@ source_runs end steps words before after old new ended text items store' r' firs
       text = text;
       delivered = first.delivered;
       keeps = λ rest over.
-        let here = same_program text (text ++ rest) items (first.settled rest over) program in
-        runs (text ++ rest) items here.calls steps words here.short here.alone here.means room most end store' r' before after ran passed blamed;
+          let here = same_program text (text ++ rest) items (first.settled rest over) program in
+          runs (text ++ rest) items here.calls steps words here.short here.alone here.means room most end store' r' before after ran passed blamed;
     }

@@ -65,6 +65,7 @@ module _ (store : List ℕ) (r : Registers) (input before : List ℕ) where
     where
       differ : Over end left total ≡ Going store' r' now written' → n < q
       differ e = cc
+
       by_order : ((k : ℕ) × (n ≡ q + k)) ⊎ ((k : ℕ) × (q ≡ n + k)) → n < q
       by_order (inl less) = differ (sym (later q less.0 n less.1 ∙ ap (onwards less.0) over) ∙ going)
       by_order (inr (zero, e)) = differ (sym over ∙ later n zero q e ∙ ap (onwards zero) going)
@@ -114,6 +115,7 @@ module _ (source : List ℕ) (items : List Item) (calls : List Call) (steps word
     where
       the_parts : (e f : End) (a b c d : List ℕ) → Over e a c ≡ Over f b d → (e ≡ f) × (a ≡ b) × (c ≡ d)
       the_parts e f a b c d same = (cc, cc, cc)
+
       nothing_read : (xs ys : List ℕ) → ys ≡ xs ++ ys → xs ≡ []
       nothing_read [] ys e = refl
       nothing_read (x ∷ xs) ys e = let lengths = ap length e in let sum = length-append xs ys in absurd (omega arith)
@@ -178,8 +180,8 @@ module _ (source : List ℕ) (items : List Item) (calls : List Call) (steps word
         written = ran.written;
         exchanged = ran.exchanged;
         agrees = λ rest follows.
-          let begins = ran.begins rest [] follows in
-          agree (ran.read ++ rest) (is_part (ran.read ++ rest) ran.written (output_begins steps (ran.read ++ rest) ran.written begins.0 begins.1));
+            let begins = ran.begins rest [] follows in
+            agree (ran.read ++ rest) (is_part (ran.read ++ rest) ran.written (output_begins steps (ran.read ++ rest) ran.written begins.0 begins.1));
         passed = passed;
         blamed = blamed;
       }

@@ -6,6 +6,8 @@ mod command_line;
 mod kit_fault;
 mod orders;
 mod pieces;
+#[cfg(test)]
+mod run_tests;
 mod runner;
 mod service;
 mod source;

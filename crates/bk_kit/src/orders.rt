@@ -16,7 +16,8 @@ impl Order {
     /// The name of FILE.
     pub fn file(&self) -> &str {
         match self {
-            Order::Run(_, file) | Order::Interpret(_, file) | Order::Sizes(_, file) => file.as_str(),
+            Order::Run(_, file) | Order::Interpret(_, file) | Order::Sizes(_, file) =>
+                file.as_str(),
         }
     }
 }

@@ -106,7 +106,7 @@ pub fn outcome_of(
 }
 
 /// Checks that the words give this status, this output and this line.
-fn check(
+pub fn check(
     rt: &impl Abort,
     alloc: Global,
     words: &[&str],
@@ -364,8 +364,12 @@ fn sizes(rt: HostRuntime) -> Result<(), Fail> {
 
 #[test]
 fn command_lines_refused(rt: HostRuntime) -> Result<(), Fail> {
-    let rows: [&[&str]; 22] = [
+    let rows: [&[&str]; 26] = [
         &["bcpl"],
+        &["bcpl", "run"],
+        &["bcpl", "run", "f", "g"],
+        &["bcpl", "run", "--sizes", "f"],
+        &["bcpl", "run", "-t", "0", "f"],
         &[],
         &["bcpl", "interpret"],
         &["bcpl", "interpret", "f", "g"],

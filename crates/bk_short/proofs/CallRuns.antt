@@ -1,6 +1,6 @@
 -- The run of a short source's code comes to the end that its calls mean, and has written their bytes.
-use Rattle.std.proofs.Common.{◌≡◌, ℕ, zero, suc, ◌+◌, ◌-◌, ◌*◌, ◌%◌, ◌^◌, ◌≤◌, ◌<◌, Bool, true, false, List, [], ◌∷◌, ◌++◌, length, Option, Some, None, refl, sym, ap, ◌∙◌, subst, arith, append_assoc, append-nil}
-use Rattle.std.specs.Prelude.{slice_get, replicate, pos}
+use Rattle.std.proofs.Common.{◌≡◌, ℕ, suc, ◌+◌, ◌-◌, ◌*◌, ◌%◌, ◌^◌, ◌≤◌, ◌<◌, true, false, List, [], ◌∷◌, ◌++◌, length, Some, refl, sym, ap, ◌∙◌, subst, arith, append_assoc, append-nil}
+use Rattle.std.specs.Prelude.{slice_get, replicate}
 use Rattle.std.proofs.lemmas.List.{length-append}
 use Rattle.bk_base.specs.declared.limit.TheConstants.{STORE_MOST}
 use Rattle.bk_base.specs.declared.run_end.End.{End}
@@ -9,16 +9,16 @@ use Rattle.bk_intcode.specs.declared.output.Output.TheVariants as output
 use Rattle.bk_intcode.specs.declared.registers.Registers.{Registers}
 use Rattle.bk_intcode.specs.declared.item.Function.TheVariants.{Load, Call as CallOf}
 use Rattle.bk_intcode.specs.Instructions.{fields}
-use Rattle.bk_intcode.specs.Placement.{SEGMENTS, stack_start, loaded_store, operation_word}
-use Rattle.bk_intcode.specs.Step.{Turn, Goes, Tells, Ends, step}
-use Rattle.bk_intcode.specs.Runs.{Standing, Over, after, run}
+use Rattle.bk_intcode.specs.Placement.{loaded_store, operation_word}
+use Rattle.bk_intcode.specs.Step.{Goes, Tells, Ends, step}
+use Rattle.bk_intcode.specs.Runs.{Over, after, run}
 use Rattle.bk_short.specs.declared.call.Routine.{Routine}
 use Rattle.bk_short.specs.declared.call.Routine.TheVariants.{Wrch, Stop}
 use Rattle.bk_short.specs.declared.call.Call.{Call}
 use Rattle.bk_short.specs.Meaning.{written, end_of}
-use Rattle.bk_short.specs.ShortCode.{global_of, short_items, AreWords}
+use Rattle.bk_short.specs.ShortCode.{short_items, AreWords}
 use Rattle.bk_short.specs.Program.{first_registers, Ends as EndsSo, MeansCalls}
-use Rattle.bk_short.proofs.CodeWords.{argument_words, argument_short, store_word, routine_word, call_word, finish_word, body_words, body_length, code_size}
+use Rattle.bk_short.proofs.CodeWords.{argument_words, argument_short, store_word, routine_word, call_word, body_words, body_length, code_size}
 use Rattle.bk_short.proofs.LoadedStore.{front, low, stack_of, loaded_is, low_length, five_zeros}
 use Rattle.bk_short.proofs.CallSteps.{get_low, get_high, AreAt, regs, step_argument, step_store, step_routine, step_call, step_wrch, step_return, step_stop, step_finish, step_start, step_enter}
 
@@ -96,10 +96,10 @@ entered low rest s0 s1 s2 s3 s4 c a b n global place more input before image wor
     let fourth = step_call low rest s0 s1 s2 s3 n c3 place n parts.1.1.1.0 (omega arith) room in
     record {
       enters = λ k.
-        goes (suc (suc (suc k))) store store (regs c p a b) (regs c1 p n a) input before first
-        ∙ goes (suc (suc k)) store set (regs c1 p n a) (regs c2 p n a) input before second
-        ∙ goes (suc k) set set (regs c2 p n a) (regs c3 p place n) input before third
-        ∙ goes k set called (regs c3 p place n) (regs place (p + 2) place n) input before fourth;
+          goes (suc (suc (suc k))) store store (regs c p a b) (regs c1 p n a) input before first
+          ∙ goes (suc (suc k)) store set (regs c1 p n a) (regs c2 p n a) input before second
+          ∙ goes (suc k) set set (regs c2 p n a) (regs c3 p place n) input before third
+          ∙ goes k set called (regs c3 p place n) (regs place (p + 2) place n) input before fourth;
     }
 
 finish_runs : (low : List ℕ) → RunsFrom low []
@@ -109,7 +109,7 @@ finish_runs low rest s0 s1 s2 s3 s4 c a b input before at within =
       steps = 1;
       few = omega arith;
       ends = over 0 (end_of []) (low ++ s0 ∷ s1 ∷ s2 ∷ s3 ∷ s4 ∷ rest) (regs c (length low) a b) input before (step_finish low (s0 ∷ s1 ∷ s2 ∷ s3 ∷ s4 ∷ rest) c (length low) a b at.0)
-        ∙ ap (λ text. Over (end_of []) input text) (sym (append-nil before));
+          ∙ ap (λ text. Over (end_of []) input text) (sym (append-nil before));
     }
 
 stop_runs : (low : List ℕ) (n : ℕ) (calls : List Call) → IsImage low → n < 2 ^ 32 → RunsFrom low (record { routine = Stop; argument = n } ∷ calls)
@@ -121,9 +121,9 @@ stop_runs low n calls image word rest s0 s1 s2 s3 s4 c a b input before at withi
       steps = 5;
       few = omega arith;
       ends = e.enters 1
-        ∙ over 0 _ (low ++ s0 ∷ s1 ∷ length low ∷ behind ∷ n ∷ rest) (regs 1016 (length low + 2) 1016 n) input before
+          ∙ over 0 _ (low ++ s0 ∷ s1 ∷ length low ∷ behind ∷ n ∷ rest) (regs 1016 (length low + 2) 1016 n) input before
           (step_stop low rest s0 s1 (length low) behind n 1016 n image.stops image.room)
-        ∙ ap (λ text. Over (end_of (record { routine = Stop; argument = n } ∷ calls)) input text) (sym (append-nil before));
+          ∙ ap (λ text. Over (end_of (record { routine = Stop; argument = n } ∷ calls)) input text) (sym (append-nil before));
     }
 
 wrch_runs : (low : List ℕ) (n : ℕ) (calls : List Call) → IsImage low → n < 2 ^ 32 → RunsFrom low calls → RunsFrom low (record { routine = Wrch; argument = n } ∷ calls)
@@ -140,12 +140,12 @@ wrch_runs low n calls image word more rest s0 s1 s2 s3 s4 c a b input before at 
       steps = suc (suc (suc (suc (suc (suc last.steps)))));
       few = let few = last.few in omega arith;
       ends = e.enters (suc (suc last.steps))
-        ∙ tells (suc last.steps) (n % 256) store store (regs 1020 (p + 2) 1020 n) (regs 1021 (p + 2) 1020 n) input before
+          ∙ tells (suc last.steps) (n % 256) store store (regs 1020 (p + 2) 1020 n) (regs 1021 (p + 2) 1020 n) input before
           (step_wrch low rest s0 s1 p behind n 1020 n image.writes image.room)
-        ∙ goes last.steps store store (regs 1021 (p + 2) 1020 n) (regs behind p 1020 n) input (before ++ (n % 256) ∷ [])
+          ∙ goes last.steps store store (regs 1021 (p + 2) 1020 n) (regs behind p 1020 n) input (before ++ (n % 256) ∷ [])
           (step_return low rest s0 s1 p behind n 1020 n image.returns image.room)
-        ∙ last.ends
-        ∙ ap (λ text. Over (end_of calls) input text) (append_assoc before ((n % 256) ∷ []) (written calls));
+          ∙ last.ends
+          ∙ ap (λ text. Over (end_of calls) input text) (append_assoc before ((n % 256) ∷ []) (written calls));
     }
 
 call_runs : (low : List ℕ) (r : Routine) (n : ℕ) (calls : List Call) → IsImage low → n < 2 ^ 32 → RunsFrom low calls → RunsFrom low (record { routine = r; argument = n } ∷ calls)
@@ -218,9 +218,9 @@ placed_run words calls store rest input before are room loaded is =
       steps = suc (suc r.steps);
       few = let few = r.few in omega arith;
       ends = ap (λ s. run (suc (suc r.steps)) s (first_registers (short_items calls)) input before) (loaded ∙ is)
-        ∙ ap (λ p. run (suc (suc r.steps)) (low calls ++ 0 ∷ 0 ∷ 0 ∷ 0 ∷ 0 ∷ rest) (regs 1 p 0 0) input before) (sym size)
-        ∙ begun calls rest r.steps input before room
-        ∙ r.ends;
+          ∙ ap (λ p. run (suc (suc r.steps)) (low calls ++ 0 ∷ 0 ∷ 0 ∷ 0 ∷ 0 ∷ rest) (regs 1 p 0 0) input before) (sym size)
+          ∙ begun calls rest r.steps input before room
+          ∙ r.ends;
     }
 
 whole_run : (words : ℕ) (calls : List Call) → AreWords calls → stack_of calls + 16 ≤ words → words ≤ STORE_MOST → (input before : List ℕ)

@@ -1,8 +1,8 @@
 -- The machine's steps on the code of a call.
-use Rattle.std.proofs.Common.{◌≡◌, ℕ, zero, suc, ◌+◌, ◌-◌, ◌*◌, ◌%◌, ◌^◌, ◌≤◌, ◌<◌, Bool, true, false, List, [], ◌∷◌, ◌++◌, length, Option, Some, None, refl, sym, ap, ◌∙◌, subst, arith, if◌then◌else◌}
+use Rattle.std.proofs.Common.{◌≡◌, ℕ, zero, suc, ◌+◌, ◌%◌, ◌^◌, ◌<◌, Bool, true, false, List, [], ◌∷◌, ◌++◌, length, Some, refl, sym, ap, ◌∙◌, subst, arith, if◌then◌else◌}
 use Rattle.std.specs.Prelude.{slice_get, slice_set, nat_lt, pos}
 use Rattle.std.proofs.lemmas.List.{length-append}
-use Rattle.std.proofs.lemmas.Bool.{ltb-true, lt-ltb, ltb-false}
+use Rattle.std.proofs.lemmas.Bool.{ltb-true, lt-ltb}
 use Rattle.std.proofs.lemmas.Int.{of_z-to_z}
 use Rattle.std.proofs.Common.{w32}
 use Rattle.bk_base.specs.declared.run_end.End.TheVariants.{Status}
@@ -84,7 +84,7 @@ pub step_argument : (low top : List ℕ) (c p a b n : ℕ) → n < 2 ^ 32 → c 
 step_argument low top c p a b n word small at =
     let same : n ≡ word_of (signed n) = sym (of_z-to_z w32 n word) in
     subst (λ m. AreAt low c (instruction_at Load false false false m) → step (low ++ top) (regs c p a b) ≡ Goes (low ++ top) (regs (c + length (instruction_at Load false false false m)) p n a))
-      same (λ there. step_load low top c p a b n (nat_lt n (2 ^ 25)) refl small there) at
+    same (λ there. step_load low top c p a b n (nat_lt n (2 ^ 25)) refl small there) at
 
 pub step_store : (low rest : List ℕ) (s0 s1 s2 s3 s4 c a b : ℕ) → slice_get low c ≡ Some store_word → c + 1 < 2 ^ 32 → length low + 16 < 2 ^ 32
     → step (low ++ s0 ∷ s1 ∷ s2 ∷ s3 ∷ s4 ∷ rest) (regs c (length low) a b) ≡ Goes (low ++ s0 ∷ s1 ∷ s2 ∷ s3 ∷ a ∷ rest) (regs (c + 1) (length low) a b)

@@ -1,12 +1,11 @@
 -- The words of a short source's code.
-use Rattle.std.proofs.Common.{◌≡◌, ℕ, ◌+◌, ◌*◌, ◌≤◌, ◌<◌, Bool, true, false, List, [], ◌∷◌, ◌++◌, length, refl, sym, ap, ◌∙◌, arith, append_assoc, append-nil, if◌then◌else◌}
-use Rattle.std.specs.Prelude.{pos, nat_lt, fold, ◌^◌}
+use Rattle.std.proofs.Common.{◌≡◌, ℕ, ◌+◌, ◌*◌, ◌≤◌, Bool, true, false, List, [], ◌∷◌, ◌++◌, length, refl, ap, ◌∙◌, arith, append_assoc, append-nil, if◌then◌else◌}
+use Rattle.std.specs.Prelude.{nat_lt, fold, ◌^◌}
 use Rattle.std.proofs.lemmas.List.{length-append}
 use Rattle.bk_base.specs.Word.{word_of, signed}
 use Rattle.bk_intcode.specs.declared.item.Function.TheVariants.{Load, Store, Call as CallOf, Operate}
-use Rattle.bk_intcode.specs.declared.item.Item.{Item}
 use Rattle.bk_intcode.specs.Instructions.{fields, instruction_at}
-use Rattle.bk_intcode.specs.Placement.{Growth, grown, growth, segment_words, segment_size, segment_settings, Setting}
+use Rattle.bk_intcode.specs.Placement.{Growth, grown, segment_words, segment_size, segment_settings}
 use Rattle.bk_short.specs.declared.call.Routine.{Routine}
 use Rattle.bk_short.specs.declared.call.Routine.TheVariants.{Wrch, Stop}
 use Rattle.bk_short.specs.declared.call.Call.{Call}
@@ -62,10 +61,10 @@ body_grows labels (c ∷ rest) g =
     let g3 : Growth = record { words = g2.words ++ r ∷ []; filled = 0 } in
     let g4 : Growth = record { words = g3.words ++ call_word ∷ []; filled = 0 } in
     let four : grown labels (grown labels (grown labels (grown labels g (load_argument c)) store_argument) (load_routine c.routine)) call_routine ≡ g4
-        = ap (λ x. grown labels (grown labels (grown labels x store_argument) (load_routine c.routine)) call_routine) (grown_load labels g c)
-        ∙ ap (λ x. grown labels (grown labels x (load_routine c.routine)) call_routine) (grown_store labels g1)
-        ∙ ap (λ x. grown labels x call_routine) (grown_routine labels g2 c.routine)
-        ∙ grown_call labels g3 in
+    = ap (λ x. grown labels (grown labels (grown labels x store_argument) (load_routine c.routine)) call_routine) (grown_load labels g c)
+    ∙ ap (λ x. grown labels (grown labels x (load_routine c.routine)) call_routine) (grown_store labels g1)
+    ∙ ap (λ x. grown labels x call_routine) (grown_routine labels g2 c.routine)
+    ∙ grown_call labels g3 in
     ap (λ x. (fold (grown labels) x (body rest)).words) four
     ∙ body_grows labels rest g4
     ∙ joined g.words l (body_words rest) store_word r call_word

@@ -1,9 +1,8 @@
 -- The store before the run of a short source.
-use Rattle.std.proofs.Common.{◌≡◌, ℕ, zero, suc, ◌+◌, ◌-◌, ◌*◌, ◌≤◌, ◌<◌, List, [], ◌∷◌, ◌++◌, length, refl, sym, ap, ◌∙◌, arith, append_assoc, append-nil}
+use Rattle.std.proofs.Common.{◌≡◌, ℕ, zero, suc, ◌+◌, ◌-◌, ◌≤◌, List, [], ◌∷◌, ◌++◌, length, refl, sym, ap, ◌∙◌, arith, append_assoc, append-nil}
 use Rattle.std.proofs.lemmas.List.{length-append}
-use Rattle.std.specs.Prelude.{Some, fold, replicate, slice_get}
-use Rattle.bk_intcode.specs.declared.item.Item.{Item}
-use Rattle.bk_intcode.specs.Placement.{SEGMENTS, start_words, library_words, library_settings, operation_word, with_setting, Setting, segment_words, segment_settings, label_number, stack_start, loaded_store}
+use Rattle.std.specs.Prelude.{fold, replicate}
+use Rattle.bk_intcode.specs.Placement.{SEGMENTS, start_words, library_words, library_settings, with_setting, Setting, segment_settings, label_number, stack_start, loaded_store}
 use Rattle.bk_short.specs.declared.call.Call.{Call}
 use Rattle.bk_short.specs.ShortCode.{body, short_items}
 use Rattle.bk_short.proofs.CodeWords.{body_words, code_words, code_size, body_settings}
@@ -39,9 +38,9 @@ loaded_is words calls =
     let code = code_words (labels calls) calls in
     let settings = body_settings (labels calls) calls in
     ap (λ text. fold with_setting (start_words ++ replicate 1000 0 ++ library_words ++ (text ++ []) ++ zeros)
-      (library_settings ++ ((start_setting ∷ segment_settings (labels calls) (body calls)) ++ []))) code
+    (library_settings ++ ((start_setting ∷ segment_settings (labels calls) (body calls)) ++ []))) code
     ∙ ap (λ more. fold with_setting (start_words ++ replicate 1000 0 ++ library_words ++ (body_words calls ++ []) ++ zeros)
-      (library_settings ++ ((start_setting ∷ more) ++ []))) settings
+    (library_settings ++ ((start_setting ∷ more) ++ []))) settings
     ∙ set_front ((body_words calls ++ []) ++ zeros)
     ∙ ap (λ text. front ++ text ++ zeros) (append-nil (body_words calls))
     ∙ sym (append_assoc front (body_words calls) zeros)

@@ -1,7 +1,7 @@
 -- A symbol of a short source, in a loop over the tokens.
 use Rattle.std.proofs.Common.{◌≡◌, ℕ, ◌+◌, ◌<◌, ◌≤◌, Bool, true, false, List, ◌∷◌, ◌++◌, get_or, length, drop, Option, Some, None, Result, Ok, Err, sym, ap, ◌∙◌, if◌then◌else◌}
 use Rattle.std.proofs.lemmas.List.{at_drop_more, at_drop_all}
-use Rattle.bk_lex.specs.Symbol.{Symbol, symbol_of, symbols_of}
+use Rattle.bk_lex.specs.Symbol.{symbol_of, symbols_of}
 use Rattle.bk_lex.specs.declared.token.Token.{Token}
 use Rattle.bk_short.specs.declared.call.Call.{Call}
 use Rattle.bk_short.specs.declared.due.Due.{Due}

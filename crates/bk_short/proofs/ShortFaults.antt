@@ -1,5 +1,5 @@
 -- The first symbol after which no short source goes on.
-use Rattle.std.proofs.Common.{◌≡◌, ℕ, zero, suc, ◌+◌, ◌-◌, ◌<◌, ◌≤◌, Bool, true, false, not, List, [], ◌∷◌, ◌++◌, length, get_or, Option, Some, None, Result, Ok, Err, refl, sym, ap, ◌∙◌, subst, arith, append_assoc, append-nil, if◌then◌else◌, codes}
+use Rattle.std.proofs.Common.{◌≡◌, ℕ, zero, suc, ◌+◌, ◌<◌, ◌≤◌, Bool, true, false, List, [], ◌∷◌, ◌++◌, length, get_or, Option, Some, None, Result, Ok, Err, refl, sym, ◌∙◌, subst, arith, append_assoc, append-nil, if◌then◌else◌, codes}
 use Rattle.std.specs.Prelude.{slice_get, nat_lt, ◌⊎◌, option_and_then}
 use Rattle.std.specs.Option.{option_map}
 use Rattle.std.proofs.lemmas.Option.{slice_get-get_or}
@@ -12,13 +12,13 @@ use Rattle.bk_lex.specs.Lexing.{Section}
 use Rattle.bk_lex.specs.declared.token.Kind.{Kind}
 use Rattle.bk_lex.specs.declared.token.Kind.TheVariants as kinds
 use Rattle.bk_short.specs.declared.call.Routine.{Routine}
-use Rattle.bk_short.specs.declared.call.Routine.TheVariants.{Wrch, Stop}
+use Rattle.bk_short.specs.declared.call.Routine.TheVariants.{Stop}
 use Rattle.bk_short.specs.declared.call.Call.{Call}
 use Rattle.bk_short.specs.declared.due.Due.{Due}
 use Rattle.bk_short.specs.declared.due.Due.TheVariants.{Opening, Call as Name, Bracket, Number, Closing, More, Nothing}
-use Rattle.bk_short.specs.ShortSource.{IsSpelled, opening, behind, Goes, opens, names, brackets, numbers, closes, parts, ends, done, IsShort, GoesOn, StopsAt, EndsEarly}
-use Rattle.bk_short.specs.ShortMachine.{is_spelled, named, is_number, next_due, opened, behind_call, calls_by, is_whole, calls_on, calls_from}
-use Rattle.bk_short.proofs.ShortReading.{Split, split, join, if_some}
+use Rattle.bk_short.specs.ShortSource.{IsSpelled, opening, behind, Goes, opens, names, brackets, numbers, closes, ends, done, IsShort, GoesOn, StopsAt, EndsEarly}
+use Rattle.bk_short.specs.ShortMachine.{is_spelled, named, is_number, next_due, behind_call, calls_by, is_whole, calls_on, calls_from}
+use Rattle.bk_short.proofs.ShortReading.{split, join, if_some}
 
 -- ---- wherever something is due, a short source goes on
 
@@ -130,11 +130,11 @@ one_on front due s d reached e =
     record {
       fine = next_fine_by due s d e;
       whole = λ rest calls goes.
-        let w = reached.whole (s ∷ rest) (calls_by due s ++ calls) (join due s d rest calls e goes) in
-        (w.0, subst (λ x. IsShort x w.0) (sym (append_assoc front (s ∷ []) rest)) w.1);
+          let w = reached.whole (s ∷ rest) (calls_by due s ++ calls) (join due s d rest calls e goes) in
+          (w.0, subst (λ x. IsShort x w.0) (sym (append_assoc front (s ∷ []) rest)) w.1);
       back = λ rest all short.
-        let b = reached.back (s ∷ rest) all (subst (λ x. IsShort x all) (append_assoc front (s ∷ []) rest) short) in
-        unsplit due s rest b.0 d e b.1;
+          let b = reached.back (s ∷ rest) all (subst (λ x. IsShort x all) (append_assoc front (s ∷ []) rest) short) in
+          unsplit due s rest b.0 d e b.1;
     }
 
 goes_on : (front : List Symbol) (due : Due) → Reached front due → GoesOn front
@@ -173,9 +173,9 @@ at_end section front due before line false are reached at e =
     record {
       goes_on = subst GoesOn (sym are) (goes_on front due reached);
       no_source = λ calls unended short.
-        let b = reached.back [] calls (subst (λ x. IsShort x calls) (are ∙ sym (append-nil front)) short) in
-        let w = not_whole due b.0 b.1 in
-        clash (is_whole due) section.ended unended at w;
+          let b = reached.back [] calls (subst (λ x. IsShort x calls) (are ∙ sym (append-nil front)) short) in
+          let w = not_whole due b.0 b.1 in
+          clash (is_whole due) section.ended unended at w;
       line_is = sym (the_line section.line line e);
     }
 
@@ -192,9 +192,9 @@ at_symbol section front due before line s rest None are reached more at e =
       parts = are;
       goes_on = goes_on front due reached;
       stops = λ on.
-        let b = reached.back (s ∷ on.0) on.1 (subst (λ x. IsShort x on.1) (append_assoc front (s ∷ []) on.0) on.2) in
-        let c = split due (s ∷ on.0) b.0 b.1 in
-        no_due c.next (sym at ∙ c.due_is);
+          let b = reached.back (s ∷ on.0) on.1 (subst (λ x. IsShort x on.1) (append_assoc front (s ∷ []) on.0) on.2) in
+          let c = split due (s ∷ on.0) b.0 b.1 in
+          no_due c.next (sym at ∙ c.due_is);
       line_is = sym (the_line s.line line e);
     })
 at_symbol section front due before line s rest (Some d) are reached more at e =

@@ -1,8 +1,7 @@
 -- What the answer of reading a text says of it.
-use Rattle.std.proofs.Common.{◌≡◌, ℕ, ◌+◌, ◌*◌, ◌%◌, ◌^◌, ◌≤◌, ◌<◌, Bool, true, false, List, [], ◌∷◌, ◌++◌, length, Result, Ok, Err, refl, sym, ap, ◌∙◌, subst, arith, append_assoc, if◌then◌else◌, ◌==◌, ◌||◌}
+use Rattle.std.proofs.Common.{◌≡◌, ℕ, ◌^◌, ◌≤◌, ◌<◌, Bool, true, false, List, [], ◌∷◌, ◌++◌, length, Result, Ok, Err, sym, ap, ◌∙◌, subst, arith, append_assoc, if◌then◌else◌, ◌==◌, ◌||◌}
 use Rattle.bk_base.specs.declared.limit.TheConstants.{SECTION_SYMBOLS}
 use Rattle.bk_base.specs.declared.source_fault.SourceFault.{SourceFault}
-use Rattle.bk_base.specs.declared.source_fault.SourceKind.TheVariants.{UnexpectedSymbol}
 use Rattle.bk_base.specs.declared.refused.Refused.{Refused}
 use Rattle.bk_base.specs.declared.refused.Refused.TheVariants as refusals
 use Rattle.bk_lex.specs.Symbol.{Symbol}
@@ -14,11 +13,11 @@ use Rattle.bk_lex.specs.declared.machine.Base.TheVariants.{Octal, Decimal, Hexad
 use Rattle.bk_short.specs.declared.call.Call.{Call}
 use Rattle.bk_short.specs.declared.due.Due.{Due}
 use Rattle.bk_short.specs.declared.due.Due.TheVariants.{Opening}
-use Rattle.bk_short.specs.ShortSource.{opening, Goes, opens, names, brackets, numbers, closes, parts, ends, done, StopsAt, EndsEarly, IsShortSource, IsRefused, SymbolFault}
+use Rattle.bk_short.specs.ShortSource.{opening, Goes, opens, names, brackets, numbers, closes, parts, ends, done, StopsAt, EndsEarly, IsShortSource}
 use Rattle.bk_short.specs.ShortMachine.{RefusesAs, calls_from}
 use Rattle.bk_short.specs.ShortCode.{short_items, AreWords}
 use Rattle.bk_short.specs.Program.{IsProgram, IsRefusal}
-use Rattle.bk_short.proofs.ShortReading.{Accepted, accepted, calls_alone}
+use Rattle.bk_short.proofs.ShortReading.{accepted, calls_alone}
 use Rattle.bk_short.proofs.ShortFaults.{fault_stands}
 use Rattle.bk_short.proofs.CallRuns.{means_calls}
 use mathlib.Core.Logic.{inl, inr}

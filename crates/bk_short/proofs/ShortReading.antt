@@ -1,11 +1,10 @@
 -- Reading symbols one after another, and what a short source may have: each symbol that is read is one that it may have.
-use Rattle.std.proofs.Common.{◌≡◌, ℕ, ◌+◌, ◌<◌, Bool, true, false, not, ◌&&◌, List, [], ◌∷◌, ◌++◌, Option, Some, None, Result, Ok, Err, refl, sym, ap, ◌∙◌, subst, append_assoc, append-nil, if◌then◌else◌, codes}
+use Rattle.std.proofs.Common.{◌≡◌, ℕ, Bool, true, false, List, [], ◌∷◌, ◌++◌, Option, Some, None, Result, Ok, refl, sym, ap, ◌∙◌, subst, append_assoc, append-nil, if◌then◌else◌, codes}
 use Rattle.std.specs.Prelude.{slice_get, option_and_then}
 use Rattle.std.specs.Option.{option_map}
 use Rattle.std.proofs.lemmas.Slice.Eq.{bytes_eq-Decides}
-use Rattle.std.specs.Str.{bytes_eq, str_to_ascii_lowercase, str_eq_ignore_ascii_case}
+use Rattle.std.specs.Str.{bytes_eq, str_to_ascii_lowercase}
 use Rattle.bk_lex.specs.Symbol.{Symbol}
-use Rattle.bk_lex.specs.Values.{number_word}
 use Rattle.bk_lex.specs.declared.token.Kind.{Kind}
 use Rattle.bk_lex.specs.declared.token.Kind.TheVariants as kinds
 use Rattle.bk_short.specs.declared.call.Routine.{Routine}
@@ -13,8 +12,8 @@ use Rattle.bk_short.specs.declared.call.Routine.TheVariants.{Wrch, Stop}
 use Rattle.bk_short.specs.declared.call.Call.{Call}
 use Rattle.bk_short.specs.declared.due.Due.{Due}
 use Rattle.bk_short.specs.declared.due.Due.TheVariants.{Opening, Call as Name, Bracket, Number, Closing, More, Nothing}
-use Rattle.bk_short.specs.ShortSource.{call, IsSpelled, opening, spelling, behind, Goes, opens, names, brackets, numbers, closes, parts, ends, done}
-use Rattle.bk_short.specs.ShortMachine.{is_spelled, named, opened, is_number, behind_call, next_due, calls_by, is_whole, ended_as, calls_on, calls_from}
+use Rattle.bk_short.specs.ShortSource.{IsSpelled, opening, spelling, behind, Goes, opens, names, brackets, numbers, closes, parts, ends, done}
+use Rattle.bk_short.specs.ShortMachine.{is_spelled, named, is_number, behind_call, next_due, calls_by, ended_as, calls_on, calls_from}
 
 -- the rest behind a symbol, with its calls
 pub record Behind (due : Due) (s : Symbol) (rest : List Symbol) (calls : List Call) : Type 0 where

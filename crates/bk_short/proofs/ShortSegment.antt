@@ -1,18 +1,18 @@
 -- The items of a short source's code are a segment.
-use Rattle.std.proofs.Common.{◌≡◌, ℕ, ◌+◌, ◌*◌, ◌^◌, ◌≤◌, ◌<◌, Bool, true, false, List, [], ◌∷◌, ◌++◌, length, refl, sym, ap, ◌∙◌, arith}
-use Rattle.std.specs.Prelude.{nat_le, ◌&&◌}
-use Rattle.std.proofs.lemmas.Bool.{leb-true, le-leb}
+use Rattle.std.proofs.Common.{◌≡◌, ◌+◌, ◌*◌, ◌≤◌, Bool, true, false, List, [], ◌∷◌, length, refl, arith}
+use Rattle.std.specs.Prelude.{◌&&◌}
+use Rattle.std.proofs.lemmas.Bool.{le-leb}
 use mir.ValLaws.{to_z-Fits}
-use Rattle.std.proofs.Common.{w32, Fits}
+use Rattle.std.proofs.Common.{w32}
 use Rattle.bk_base.specs.Word.{signed}
 use Rattle.bk_base.specs.declared.limit.TheConstants.{INTCODE_ITEMS, SECTION_SYMBOLS}
 use Rattle.bk_intcode.specs.declared.item.Item.{Item}
 use Rattle.bk_intcode.specs.Segment.{IsSegment, sets}
-use Rattle.bk_intcode.specs.CheckedSegment.{ends_once, sets_once, are_all, is_used_set, has_frame, frames_once, is_in_range, is_word, is_segment, checked, word_is}
+use Rattle.bk_intcode.specs.CheckedSegment.{ends_once, sets_once, are_all, is_used_set, has_frame, frames_once, is_in_range, checked, word_is}
 use Rattle.bk_short.specs.declared.call.Routine.{Routine}
 use Rattle.bk_short.specs.declared.call.Routine.TheVariants.{Wrch, Stop}
 use Rattle.bk_short.specs.declared.call.Call.{Call}
-use Rattle.bk_short.specs.ShortCode.{load_argument, store_argument, load_routine, call_routine, body, short_items, AreWords}
+use Rattle.bk_short.specs.ShortCode.{load_argument, load_routine, body, short_items, AreWords}
 
 body_ends : (calls : List Call) → ends_once (body calls) ≡ true
 body_ends [] = refl
@@ -72,4 +72,4 @@ short_segment calls words few =
     let small : length (short_items calls) ≤ INTCODE_ITEMS = omega arith in
     checked (short_items calls)
     (both_true _ _ (items_ends calls) (both_true _ _ (labels_hold calls) (both_true _ _ (body_used (short_items calls) calls)
-      (both_true _ _ (frames_hold calls) (both_true _ _ (body_ranged calls words) (le-leb (length (short_items calls)) INTCODE_ITEMS small))))))
+    (both_true _ _ (frames_hold calls) (both_true _ _ (body_ranged calls words) (le-leb (length (short_items calls)) INTCODE_ITEMS small))))))

@@ -1,9 +1,8 @@
-use Rattle.std.proofs.Common.{◌≡◌, ℕ, ◌<◌, Bool, true, false, List, Option, Some, None, refl, sym, ap, ◌∙◌, length, get_or, if◌then◌else◌}
-use Rattle.std.specs.Prelude.{slice_get, option_and_then}
+use Rattle.std.proofs.Common.{◌≡◌, ℕ, ◌<◌, Bool, true, false, List, Some, None, refl, sym, ap, ◌∙◌, length, get_or, if◌then◌else◌}
+use Rattle.std.specs.Prelude.{slice_get}
 use Rattle.std.proofs.lemmas.Option.{slice_get-map, slice_get_read}
 use Rattle.bk_lex.specs.Symbol.{Symbol, symbol_of, symbols_of}
 use Rattle.bk_lex.specs.declared.token.Token.{Token}
-use Rattle.bk_short.specs.declared.due.Due.{Due}
 use Rattle.bk_short.specs.ShortMachine.{texts_of, is_spelled, behind_opening, opened}
 use Rattle.bk_short.proofs.due.opened.Goals as goal
 

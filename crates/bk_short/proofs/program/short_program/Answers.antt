@@ -1,11 +1,10 @@
-use Rattle.std.proofs.Common.{rules, ◌≡◌, [], Ok, subst, sym, ap, ◌∙◌, refl, List, ℕ}
+use Rattle.std.proofs.Common.{rules, ◌≡◌, [], Ok, subst, ap, ◌∙◌}
 use Rattle.bk_lex.specs.Symbol.{symbols_of}
 use Rattle.bk_lex.specs.Lexing.{section_of, lexed}
 use Rattle.bk_lex.specs.Tokens.{IsSection}
 use Rattle.bk_short.specs.declared.due.Due.TheVariants.{Opening}
 use Rattle.bk_short.specs.ShortSource.{opening}
 use Rattle.bk_short.specs.ShortMachine.{texts_of, RefusesAs, calls_from}
-use Rattle.bk_short.specs.Program.{IsProgram, IsRefusal}
 use Rattle.bk_short.proofs.ShortProgram.{few_calls, are_words, is_program, is_refusal}
 use Rattle.bk_short.proofs.program.short_program.Goals as goal
 
@@ -15,7 +14,7 @@ returns-in_err-calls-clause-fault c =
     let section = section_of c.in_ok-lexed.lexed in
     let is : lexed c.args.text.now 1 ≡ Ok section = subst (λ n. lexed c.args.text.now n ≡ Ok section) c.first.ensures c.in_ok-lexed.ensures.gives in
     let h : RefusesAs c.in_err-calls.field-0.0 (calls_from opening (Opening 0) [] section.symbols section.line section.ended)
-        = subst (λ rs. RefusesAs c.in_err-calls.field-0.0 (calls_from rs (Opening 0) [] section.symbols section.line section.ended)) rows c.in_err-calls.ensures.fault in
+    = subst (λ rs. RefusesAs c.in_err-calls.field-0.0 (calls_from rs (Opening 0) [] section.symbols section.line section.ended)) rows c.in_err-calls.ensures.fault in
     let r = is_refusal c.args.text.now section c.in_err-calls.field-0.0 is h in
     search rules
 

@@ -1,9 +1,7 @@
 use Rattle.std.proofs.Common.{◌≡◌, refl, subst, codes}
 use Rattle.std.specs.Prelude.{Ok, Err, Result}
 use Rattle.bk_base.specs.declared.source_fault.SourceFault.{SourceFault}
-use Rattle.bk_lex.specs.Header.{header_symbols}
-use Rattle.bk_lex.specs.Symbol.{Symbol, symbols_of}
-use Rattle.bk_lex.specs.Lexing.{Section, section, lexed, run}
+use Rattle.bk_lex.specs.Lexing.{Section, lexed, run}
 use Rattle.bk_short.specs.ShortSource.{opening}
 use Rattle.bk_short.specs.ShortMachine.{texts_of}
 use Rattle.bk_short.proofs.reading.opening_tokens.Goals as goal

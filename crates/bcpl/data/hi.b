@@ -1,0 +1,7 @@
+GET "LIBHDR"
+
+LET START() BE
+$( WRCH(72)
+   WRCH(73)
+   STOP(3)
+$)
