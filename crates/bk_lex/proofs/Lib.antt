@@ -8,3 +8,7 @@ pub mod Wholes
 pub mod Soundness
 pub mod Naming
 pub mod Sound
+pub mod Stops
+pub mod Runs
+pub mod Firsts
+pub mod Complete

@@ -46,7 +46,7 @@ name_large (suc (suc (suc (suc (suc zero))))) h = omega arith
 name_large (suc (suc (suc (suc (suc (suc zero)))))) h = omega arith
 name_large (suc (suc (suc (suc (suc (suc (suc n))))))) h = absurd (omega arith)
 
-name_plain : (n c : ℕ) → n < 7 → to_ascii_uppercase c ≡ get_or (codes "LIBHDR2") n 0 → IsPlain c
+pub name_plain : (n c : ℕ) → n < 7 → to_ascii_uppercase c ≡ get_or (codes "LIBHDR2") n 0 → IsPlain c
 name_plain n c lt e =
     let large : 43 ≤ c = omega (arith, upper_small c, name_large n lt, e) in
     let a : eqb c 10 ≡ false = grind (arith, nat_tests) in

@@ -78,7 +78,7 @@ nothing_left q s total used out st place a g e u =
     none_due None h = refl
     none_due (Some k) h = absurd (let z : true ≡ false = sym h.0 ∙ g in cc)
 
-seen_get : (q : Putting) (t : List ℕ) → (seen q t).get ≡ q.get
+pub seen_get : (q : Putting) (t : List ℕ) → (seen q t).get ≡ q.get
 seen_get q [] = refl
 seen_get q (b ∷ bs) = refl
 
@@ -109,7 +109,7 @@ piece_put q t held m k q2 e d w h =
     ∙ ap (λ (x : What). put_as (seen q t) t x (seen q t).get) (sym w)
     ∙ ap (λ (x : List ℕ). put_as (seen q t) x (piece m) (seen q t).get) (sym e) ∙ h
 
-some_put : (q q2 : Putting) → (let o : Option Putting = Some q in o) ≡ Some q2 → q ≡ q2
+pub some_put : (q q2 : Putting) → (let o : Option Putting = Some q in o) ≡ Some q2 → q ≡ q2
 some_put q q2 e = cc
 
 -- ---- the text's end
@@ -154,7 +154,7 @@ sound_end q t r s total here a h u =
 
 -- ---- a byte that begins a piece
 
-begun_agrees : (q : Putting) (out : List Symbol) (x : State) (line gl : ℕ) (n : Mode) (k c : ℕ) → Agrees q out x (at line gl) → Agrees (seen q (c ∷ [])) out (state n k x.symbols x.last (x.fed || eqb c 10) x.get) (at (line_after c line) gl)
+pub begun_agrees : (q : Putting) (out : List Symbol) (x : State) (line gl : ℕ) (n : Mode) (k c : ℕ) → Agrees q out x (at line gl) → Agrees (seen q (c ∷ [])) out (state n k x.symbols x.last (x.fed || eqb c 10) x.get) (at (line_after c line) gl)
 begun_agrees q out x line gl n k c a = record { same = a.same; last = a.last; fed = ap (λ (f : Bool). f || eqb c 10) a.fed; line = ap (λ (l : ℕ). line_after c l) a.line; get = a.get; count = a.count }
 
 begun_walk : (c : ℕ) (m : Mode) → fresh c ≡ Some m → walk_piece (c ∷ []) ≡ nexts.Goes m
@@ -388,7 +388,7 @@ grown_names : (h : Header) (o : Option Sign) → NotNames h (grows o)
 grown_names h None e = cc
 grown_names h (Some s) e = cc
 
-no_names : (m : Mode) (c : ℕ) (h : Header) (w : List ℕ) → Reads m w → NotNames h (next m c)
+pub no_names : (m : Mode) (c : ℕ) (h : Header) (w : List ℕ) → Reads m w → NotNames h (next m c)
 no_names Blank c h w r e = cc
 no_names Comment c h w r e = cond_all (NotNames h) (eqb c 10) nexts.Ends (nexts.Goes Comment) (λ e. cc) (λ e. cc) e
 no_names Dot c h w r e = cc
@@ -415,7 +415,7 @@ named_ok st h u e =
       | inr p ↦ (ltb-false st.symbols (header_rest h) p.0, done_is _ u p.1)
     ]
 
-header_length : (h : Header) (line : ℕ) → length (header_symbols h line) ≡ header_rest h + 1
+pub header_length : (h : Header) (line : ℕ) → length (header_symbols h line) ≡ header_rest h + 1
 header_length Plain line = refl
 header_length Formatted line = refl
 

@@ -61,7 +61,7 @@ number_walk Octal lead ds l h = ap (λ (x : List ℕ). walk_piece (x ++ ds)) l �
 number_walk Hexadecimal lead ds (inl l) h = ap (λ (x : List ℕ). walk_piece (x ++ ds)) l ∙ hexadecimal_walk 88 ds (inl refl) h
 number_walk Hexadecimal lead ds (inr l) h = ap (λ (x : List ℕ). walk_piece (x ++ ds)) l ∙ hexadecimal_walk 120 ds (inr refl) h
 
-bracket_walk : (side : Side) (tag : List ℕ) → walk_piece (36 ∷ bracket_byte side ∷ tag) ≡ walk (Bracket side 0) tag
+pub bracket_walk : (side : Side) (tag : List ℕ) → walk_piece (36 ∷ bracket_byte side ∷ tag) ≡ walk (Bracket side 0) tag
 unfolding walk walk_piece
 bracket_walk Opening tag = refl
 bracket_walk Closing tag = refl

@@ -11,3 +11,4 @@ pub mod Cutting
 pub mod Pieces
 pub mod Tokens
 pub mod Values
+pub mod LexLaws
