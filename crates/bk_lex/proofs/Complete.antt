@@ -34,7 +34,7 @@ use Rattle.bk_lex.proofs.Walk.{walk, walk_piece, then_goes, begins, begins_goes}
 use Rattle.bk_lex.proofs.Modes.{piece_reads}
 use Rattle.bk_lex.proofs.Naming.{name_plain}
 use Rattle.bk_lex.proofs.Soundness.{GetAgrees, waiting, Agrees, ended_agrees, piece_is}
-use Rattle.bk_lex.proofs.Sound.{begun_agrees, some_put, header_length}
+use Rattle.bk_lex.proofs.Onward.{begun_agrees, some_put, header_length}
 use Rattle.bk_lex.proofs.Stops.{longest_stops, bounded_over, Stops}
 use Rattle.bk_lex.proofs.Runs.{has_room, run_goes, gone_on, resting, first_on, run_first, run_ends, named_on, run_named}
 use Rattle.bk_lex.proofs.Firsts.{room, Begun, piece_begins, weight, no_put, weight_same, insertion_length, PutOf, put_of, puts_next, puts_weight}

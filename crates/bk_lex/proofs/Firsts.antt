@@ -27,7 +27,7 @@ use Rattle.bk_lex.specs.Pieces.{Sort, blank, comment, dot, word, number, bracket
 use Rattle.bk_lex.specs.Tokens.{what_of, header_named, Putting, seen, named_as, put_as, is_dot_sort, put, puts}
 use Rattle.bk_lex.proofs.Goings.{letter_goes, digit_goes, blank_goes}
 use Rattle.bk_lex.proofs.Soundness.{waiting}
-use Rattle.bk_lex.proofs.Sound.{some_put, seen_get, header_length}
+use Rattle.bk_lex.proofs.Onward.{some_put, seen_get, header_length}
 
 -- ---- the mode behind the first byte of a piece, and how many symbols it asks for
 

@@ -7,6 +7,7 @@ pub mod Goings
 pub mod Wholes
 pub mod Soundness
 pub mod Naming
+pub mod Onward
 pub mod Sound
 pub mod Stops
 pub mod Runs

@@ -20,7 +20,7 @@ use Rattle.bk_lex.proofs.Walk.{walk, walk_piece, walk-append, walk_piece-append,
 use Rattle.bk_lex.proofs.Modes.{Reads, piece_reads, not_true, or_false, and_is, word_more, digits_more, tag_more}
 use Rattle.bk_lex.proofs.Goings.{sort_of, reads_piece, word_go, tag_go, number_go, holds_go, letter_goes}
 use Rattle.bk_lex.proofs.Wholes.{IsWhole, cond_all, number_walk, bracket_walk, tag_first, comment_walk, character_walk, sign_walk, blank_walk}
-use Rattle.bk_lex.proofs.Sound.{no_names}
+use Rattle.bk_lex.proofs.Onward.{no_names}
 
 -- ---- a byte more of a whole piece
 
