@@ -13,3 +13,5 @@ pub mod Stops
 pub mod Runs
 pub mod Firsts
 pub mod Complete
+pub mod FaultBegins
+pub mod Faulty

@@ -156,7 +156,7 @@ word_step n code c m w h e =
       ]
     ]
 
-value_more : (base : Base) (ds : List ℕ) (v c : ℕ) → value_from base v (ds ++ c ∷ []) ≡ value_from base v ds * digits_in base + digit_value c
+pub value_more : (base : Base) (ds : List ℕ) (v c : ℕ) → value_from base v (ds ++ c ∷ []) ≡ value_from base v ds * digits_in base + digit_value c
 value_more base [] v c = refl
 value_more base (d ∷ ds) v c = value_more base ds (v * digits_in base + digit_value d) c
 

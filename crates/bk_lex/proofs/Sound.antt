@@ -205,4 +205,3 @@ lexed_is_section text from s h = (
 pub given_section : (text : List ℕ) (from : ℕ) (r : Result Lexed (Refused SourceFault)) → Gives r (lexed text from) → IfOk r (λ l. IsSection text from (section_of l))
 given_section text from (Ok l) h = lexed_is_section text from (section_of l) h
 given_section text from (Err e) h = tt
-

@@ -24,7 +24,7 @@ use Rattle.bk_lex.proofs.Onward.{no_names}
 
 -- ---- a byte more of a whole piece
 
-abbrev StaysWhole : Next → Type 0
+abbrev pub StaysWhole : Next → Type 0
 StaysWhole x = (n : Mode) → x ≡ Goes n → IsWhole n
 
 whole_goes : (m : Mode) → IsWhole m → StaysWhole (Goes m)
@@ -43,7 +43,7 @@ grown_whole (Some s) = whole_goes (Mark s) (sign s, refl)
 with_whole : (base : Base) (v c : ℕ) → StaysWhole (digits_with base v c)
 with_whole base v c = cond_all StaysWhole (ltb 4294967295 (v * digits_in base + digit_value c)) (Bad NumberOver32Bits) (Goes (Number base (v * digits_in base + digit_value c))) (bad_whole NumberOver32Bits) (whole_goes _ (number base, refl))
 
-stays_whole : (m : Mode) (k : Sort) (c : ℕ) → sort_of m ≡ Some k → StaysWhole (next m c)
+pub stays_whole : (m : Mode) (k : Sort) (c : ℕ) → sort_of m ≡ Some k → StaysWhole (next m c)
 stays_whole Blank k c e = ends_whole
 stays_whole Comment k c e = cond_all StaysWhole (eqb c 10) Ends (Goes Comment) ends_whole (whole_goes Comment (comment, refl))
 stays_whole Dot k c e = ends_whole

@@ -11,4 +11,5 @@ pub mod Cutting
 pub mod Pieces
 pub mod Tokens
 pub mod Values
+pub mod TextFault
 pub mod LexLaws

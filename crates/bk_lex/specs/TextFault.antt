@@ -1,0 +1,87 @@
+-- The faults of a text's first section, by what the text is: what begins with each, and where it stands.
+use Rattle.std.specs.Prelude.{ℕ, ◌<◌, ◌≤◌, ◌≡◌, ◌⊎◌, Bool, true, false, ◌==◌, List, [], ◌∷◌, ◌++◌, length}
+use Rattle.bk_base.specs.declared.source_fault.SourceFault.{SourceFault}
+use Rattle.bk_base.specs.declared.source_fault.SourceKind.{SourceKind}
+use Rattle.bk_base.specs.declared.source_fault.SourceKind.TheVariants.{BadByte, BadString, BadEscape, NumberOver32Bits, NameTooLong, TagTooLong, SectionTooLong, BadGet}
+use Rattle.bk_base.specs.declared.refused.Refused.{Refused}
+use Rattle.bk_base.specs.declared.refused.Refused.TheVariants.{Fault, Memory, Device}
+use Rattle.bk_lex.specs.declared.machine.Base.{Base}
+use Rattle.bk_lex.specs.declared.machine.Side.{Side}
+use Rattle.bk_lex.specs.Bytes.{is_feed, is_escape}
+use Rattle.bk_lex.specs.Lexing.{line_after}
+use Rattle.bk_lex.specs.Pieces.{Sort, Spelled, Piece, CutsTo, Holds, IsOne, IsWord, IsLead, AreDigits, value_from, bracket_byte, IsTag}
+use Rattle.bk_lex.specs.Tokens.{is_dot_sort}
+
+-- a line feed, a piece of its own, ends the line; no other piece begins with one
+abbrev pub line_behind : List ℕ → ℕ → ℕ
+line_behind [] line = line
+line_behind (b ∷ bs) line = line_after b line
+
+abbrev pub line_past : ℕ → List Piece → ℕ
+line_past line [] = line
+line_past line (p ∷ ps) = line_past (line_behind p.text line) ps
+
+-- none of them is the `.` that ends the section
+abbrev pub InSection : List Piece → Type 0
+InSection [] = Unit {0}
+InSection (p ∷ ps) = (is_dot_sort p.sort ≡ false) × InSection ps
+
+-- no beginning of a text is a piece
+abbrev pub NoPiece : List ℕ → Type 0
+NoPiece text = (k : Sort) (front tail : List ℕ) → text ≡ front ++ tail → Spelled k front → ⊥
+
+-- a string or character constant can't go on at the end and at a line's end, also behind a `*`
+abbrev pub Breaks : List ℕ → Type 0
+Breaks [] = Unit {0}
+Breaks (b ∷ []) = (is_feed b ≡ true) ⊎ (b ≡ 42)
+Breaks (b ∷ c ∷ rest) = (is_feed b ≡ true) ⊎ ((b ≡ 42) × (is_feed c ≡ true))
+
+-- a string without its end, or of 256 bytes
+abbrev pub BreaksString : List ℕ → Type 0
+BreaksString text = (front tail : List ℕ) × (n : ℕ) × (text ≡ 34 ∷ front ++ tail) × Holds front n × (((n ≤ 255) × Breaks tail) ⊎ (n ≡ 256))
+
+abbrev pub NotClosed : List ℕ → Type 0
+NotClosed [] = Unit {0}
+NotClosed (b ∷ rest) = (b == 39) ≡ false
+
+-- a character constant without its end, of nothing, or of more than one
+abbrev pub BreaksCharacter : List ℕ → Type 0
+BreaksCharacter tail = Breaks tail ⊎ (((more : List ℕ) × (tail ≡ 39 ∷ more)) ⊎ ((inside more : List ℕ) × (tail ≡ inside ++ more) × IsOne inside × NotClosed more))
+
+-- a `*` that begins no escape
+abbrev pub EscapesNothing : List ℕ → Type 0
+EscapesNothing tail = (c : ℕ) × (more : List ℕ) × (tail ≡ 42 ∷ c ∷ more) × (is_feed c ≡ false) × (is_escape c ≡ false)
+
+-- a text begins, where a piece is due, with a fault
+abbrev pub Begins : SourceKind → List ℕ → Type 0
+Begins BadByte text = (b : ℕ) × (rest : List ℕ) × (text ≡ b ∷ rest) × ((b == 34) ≡ false) × ((b == 39) ≡ false) × NoPiece text
+Begins BadString text = BreaksString text ⊎ ((tail : List ℕ) × (text ≡ 39 ∷ tail) × BreaksCharacter tail)
+Begins BadEscape text = ((front tail : List ℕ) × (n : ℕ) × (text ≡ 34 ∷ front ++ tail) × Holds front n × (n ≤ 255) × EscapesNothing tail) ⊎ ((tail : List ℕ) × (text ≡ 39 ∷ tail) × EscapesNothing tail)
+Begins NumberOver32Bits text = (base : Base) × (lead digits tail : List ℕ) × (text ≡ (lead ++ digits) ++ tail) × IsLead base lead × AreDigits base digits × (4294967295 < value_from base 0 digits)
+Begins NameTooLong text = (front tail : List ℕ) × (text ≡ front ++ tail) × IsWord front × (255 < length front)
+Begins TagTooLong text = (side : Side) × (tag tail : List ℕ) × (text ≡ (36 ∷ bracket_byte side ∷ tag) ++ tail) × IsTag tag × (255 < length tag)
+Begins _ text = ⊥
+
+-- behind pieces of the first section, each within its bounds, a fault begins on a line
+pub record Stands (kind : SourceKind) (from line : ℕ) (text : List ℕ) : Type 0 where
+  pub pieces : List Piece
+  pub rest : List ℕ
+  pub cut : CutsTo text pieces rest
+  pub in_section : InSection pieces
+  pub begins : Begins kind rest
+  pub at : line ≡ line_past from pieces
+
+-- a text whose first line has the number `from` has a fault. Not said yet of a section too long and of a bad GET
+abbrev pub HasKind : SourceKind → ℕ → ℕ → List ℕ → Type 0
+HasKind SectionTooLong from line text = Unit {0}
+HasKind BadGet from line text = Unit {0}
+HasKind kind from line text = Stands kind from line text
+
+abbrev pub HasFault : ℕ → SourceFault → List ℕ → Type 0
+HasFault from f text = HasKind f.kind from f.line text
+
+-- what a call says of a fault
+abbrev pub SaysFault : Refused SourceFault → ℕ → List ℕ → Type 0
+SaysFault (Fault f) from text = HasFault from f text
+SaysFault Memory from text = Unit {0}
+SaysFault Device from text = Unit {0}
