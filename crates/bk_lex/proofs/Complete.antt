@@ -197,7 +197,7 @@ some_header g h e = cc
 none_header : {A : Type 0} (h : Header) → (let o : Option Header = None in o) ≡ Some h → A
 none_header h e = absurd cc
 
-header_text : (t : List ℕ) (h : Header) → header_named t ≡ Some h → HeaderText t h
+pub header_text : (t : List ℕ) (h : Header) → header_named t ≡ Some h → HeaderText t h
 header_text t h e = look (bytes_eq up (codes "\"LIBHDR\"")) (bytes_eq up (codes "\"LIBHDR2\"")) refl refl
   where
     up : List ℕ

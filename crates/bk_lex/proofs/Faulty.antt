@@ -29,18 +29,19 @@ use Rattle.bk_lex.specs.Insertion.{inserted}
 use Rattle.bk_lex.specs.Signs.{is_slash}
 use Rattle.bk_lex.specs.Machine.{fresh, next, piece, end_fault}
 use Rattle.bk_lex.specs.Counting.{step_of, moved, within, past, finished, finished_as, no_get, ended, ended_what, opened, opened_as, begun, mode_begun, in_get, least_room, room_for, named, header_rest, stepped, state, ◌>>=◌}
-use Rattle.bk_lex.specs.Lexing.{Section, section, Reading, read, read_on, run, end_as, is_dot, told, told_kind, of_get, lexed, begin, Gives, line_after, at}
+use Rattle.bk_lex.specs.Lexing.{Section, section, Reading, read, read_on, run, end_as, is_dot, told, told_kind, of_get, lexed, begin, Gives, line_after, get_line_after, put_on, at}
 use Rattle.bk_lex.specs.Pieces.{Sort, Piece, CutsTo, NoLonger}
-use Rattle.bk_lex.specs.Tokens.{Putting, putting, seen, put_as, named_as, header_named, what_of, put, is_dot_sort}
-use Rattle.bk_lex.specs.TextFault.{Begins, Stands, InSection, HasKind, HasFault, SaysFault, line_behind, line_past}
+use Rattle.bk_lex.specs.Tokens.{Putting, putting, seen, put_as, named_as, header_named, what_of, put, puts, is_dot_sort}
+use Rattle.bk_lex.specs.TextFault.{Begins, Stands, Misnames, InSection, HasKind, HasFault, SaysFault, line_behind, line_past}
 use Rattle.bk_lex.proofs.SignLemmas.{picks}
 use Rattle.bk_lex.proofs.Walk.{walk, walk_piece, begins, and_then}
 use Rattle.bk_lex.proofs.Modes.{Reads, piece_reads}
 use Rattle.bk_lex.proofs.Goings.{IsPiece, reads_piece}
 use Rattle.bk_lex.proofs.Wholes.{ends_longest, whole_at_end}
 use Rattle.bk_lex.proofs.Naming.{Naming, naming_step}
-use Rattle.bk_lex.proofs.Soundness.{Agrees, done, done_is, no_done, fewer}
-use Rattle.bk_lex.proofs.Onward.{Here, Counted, Concludes, Follows, no_dot_sort, step_sound}
+use Rattle.bk_lex.proofs.Soundness.{GetAgrees, Agrees, ended_agrees, fewer}
+use Rattle.bk_lex.proofs.GetFaults.{lexer_error, err_is, no_err, good_err, ended_err, begun_err, told_line, nothing_misnames, first_misnames, slash_reads, slash_misnames, string_misnames}
+use Rattle.bk_lex.proofs.Onward.{OnlyGap, InDue, seen_get, get_due, due_line, piece_before, end_before, Here, Counted, Concludes, Follows, no_dot_sort, step_sound}
 use Rattle.bk_lex.proofs.Steps.{behind}
 use Rattle.bk_lex.proofs.Firsts.{PutOf, put_of, no_put}
 use Rattle.bk_lex.proofs.FaultBegins.{bad_no_piece, bad_begins, end_begins, naming_bad, naming_end}
@@ -71,12 +72,12 @@ put_line q q2 p e = as_line (what_of p.sort p.text) (seen q p.text) q2 p.text q.
 -- ---- what is concluded
 
 abbrev Has : SourceFault → Putting → List ℕ → Type 0
-Has f q text = HasKind f.kind q.line f.line text
+Has f q text = HasKind f.kind q f.line text
 
-kind_map : (kind : SourceKind) (from from2 line : ℕ) (text text2 : List ℕ) → (Stands kind from line text → Stands kind from2 line text2) → HasKind kind from line text → HasKind kind from2 line text2
-kind_map source_kinds.SectionTooLong from from2 line text text2 f h = tt
-kind_map source_kinds.BadGet from from2 line text text2 f h = tt
-kind_map kind from from2 line text text2 f h = f h
+kind_map : (kind : SourceKind) (q q2 : Putting) (line : ℕ) (text text2 : List ℕ) → (Stands kind q2.line line text → Stands kind q.line line text2) → (Misnames q2 line text → Misnames q line text2) → HasKind kind q2 line text → HasKind kind q line text2
+kind_map source_kinds.SectionTooLong q q2 line text text2 f g h = tt
+kind_map source_kinds.BadGet q q2 line text text2 f g h = g h
+kind_map kind q q2 line text text2 f g h = f h
 
 stands_more : (kind : SourceKind) (q q2 : Putting) (line : ℕ) (p : Piece) (rest : List ℕ) → IsPiece p.sort p.text → NoLonger p.text rest → put q p ≡ Some q2 → Stands kind q2.line line rest → Stands kind q.line line (p.text ++ rest)
 stands_more kind q q2 line p rest is longest e h = record {
@@ -88,8 +89,21 @@ stands_more kind q q2 line p rest is longest e h = record {
   at = h.at ∙ ap (λ (l : ℕ). line_past l h.pieces) (put_line q q2 p e);
 }
 
+misnames_more : (q q2 : Putting) (line : ℕ) (p : Piece) (rest : List ℕ) → IsPiece p.sort p.text → NoLonger p.text rest → put q p ≡ Some q2 → Misnames q2 line rest → Misnames q line (p.text ++ rest)
+misnames_more q q2 line p rest is longest e h = record {
+  pieces = p ∷ h.pieces;
+  rest = h.rest;
+  cut = (rest, record { parts = refl; is = is.0; longest = longest; bounded = is.1 }, h.cut);
+  last = h.last;
+  tokens = ap (λ (o : Option Putting). puts o h.pieces) e ∙ h.tokens;
+  get = h.get;
+  due = h.due;
+  other = h.other;
+}
+
 has_more : (f : SourceFault) (q q2 : Putting) (k : Sort) (t rest : List ℕ) → IsPiece k t → NoLonger t rest → put q (record { sort = k; text = t }) ≡ Some q2 → Has f q2 rest → Has f q (t ++ rest)
-has_more f q q2 k t rest is longest e h = kind_map f.kind q2.line q.line f.line rest (t ++ rest) (stands_more f.kind q q2 f.line (record { sort = k; text = t }) rest is longest e) h
+has_more f q q2 k t rest is longest e h =
+    kind_map f.kind q q2 f.line rest (t ++ rest) (stands_more f.kind q q2 f.line (record { sort = k; text = t }) rest is longest e) (misnames_more q q2 f.line (record { sort = k; text = t }) rest is longest e) h
 
 concludes_fault : (f : SourceFault) (total : ℕ) → Concludes (Has f) (Err f) total
 concludes_fault f total = record {
@@ -102,11 +116,11 @@ concludes_fault f total = record {
 
 -- ---- what a fault of the machine means
 
-abbrev Found : Fault → ℕ → ℕ → List ℕ → Type 0
-Found SectionTooLong from line text = Unit {0}
-Found HeaderTooLong from line text = Unit {0}
-Found BadGet from line text = Unit {0}
-Found f from line text = Stands (told_kind f) from line text
+abbrev Found : Fault → Putting → State → Place → List ℕ → Type 0
+Found SectionTooLong q s p text = Unit {0}
+Found HeaderTooLong q s p text = Unit {0}
+Found BadGet q s p text = Misnames q (told s p BadGet).line text
+Found f q s p text = Stands (told_kind f) q.line p.line text
 
 stays_here : (g : Bool) (p : Place) → cond (g && false) p.get_line p.line ≡ p.line
 stays_here true p = refl
@@ -115,10 +129,10 @@ stays_here false p = refl
 at_line : (kind : SourceKind) (from line line2 : ℕ) (text : List ℕ) → line2 ≡ line → Stands kind from line text → Stands kind from line2 text
 at_line kind from line line2 text e h = subst (λ (l : ℕ). Stands kind from l text) (sym e) h
 
-found_told : (f : Fault) (s : State) (p : Place) (q : Putting) (text : List ℕ) → Found f q.line p.line text → Has (told s p f) q text
+found_told : (f : Fault) (s : State) (p : Place) (q : Putting) (text : List ℕ) → Found f q s p text → Has (told s p f) q text
 found_told SectionTooLong s p q text h = tt
 found_told HeaderTooLong s p q text h = tt
-found_told BadGet s p q text h = tt
+found_told BadGet s p q text h = h
 found_told BadByte s p q text h = at_line source_kinds.BadByte q.line p.line _ text (stays_here s.get p) h
 found_told BadString s p q text h = at_line source_kinds.BadString q.line p.line _ text (stays_here s.get p) h
 found_told BadEscape s p q text h = at_line source_kinds.BadEscape q.line p.line _ text (stays_here s.get p) h
@@ -126,27 +140,27 @@ found_told NumberOver32Bits s p q text h = at_line source_kinds.NumberOver32Bits
 found_told NameTooLong s p q text h = at_line source_kinds.NameTooLong q.line p.line _ text (stays_here s.get p) h
 found_told TagTooLong s p q text h = at_line source_kinds.TagTooLong q.line p.line _ text (stays_here s.get p) h
 
-found_past : (f : Fault) (from line : ℕ) (text : List ℕ) → Found f from line text → Found (past f) from line text
-found_past SectionTooLong from line text h = tt
-found_past HeaderTooLong from line text h = tt
-found_past BadGet from line text h = tt
-found_past BadByte from line text h = h
-found_past BadString from line text h = h
-found_past BadEscape from line text h = h
-found_past NumberOver32Bits from line text h = h
-found_past NameTooLong from line text h = h
-found_past TagTooLong from line text h = h
+found_past : (f : Fault) (q : Putting) (s : State) (p : Place) (text : List ℕ) → Found f q s p text → Found (past f) q s p text
+found_past SectionTooLong q s p text h = tt
+found_past HeaderTooLong q s p text h = tt
+found_past BadGet q s p text h = tt
+found_past BadByte q s p text h = h
+found_past BadString q s p text h = h
+found_past BadEscape q s p text h = h
+found_past NumberOver32Bits q s p text h = h
+found_past NameTooLong q s p text h = h
+found_past TagTooLong q s p text h = h
 
-found_begins : (f : Fault) (from line : ℕ) (text : List ℕ) → Begins (told_kind f) text → line ≡ from → Found f from line text
-found_begins SectionTooLong from line text h e = tt
-found_begins HeaderTooLong from line text h e = tt
-found_begins BadGet from line text h e = tt
-found_begins BadByte from line text h e = record { pieces = []; rest = text; cut = refl; in_section = tt; begins = h; at = e }
-found_begins BadString from line text h e = record { pieces = []; rest = text; cut = refl; in_section = tt; begins = h; at = e }
-found_begins BadEscape from line text h e = record { pieces = []; rest = text; cut = refl; in_section = tt; begins = h; at = e }
-found_begins NumberOver32Bits from line text h e = record { pieces = []; rest = text; cut = refl; in_section = tt; begins = h; at = e }
-found_begins NameTooLong from line text h e = record { pieces = []; rest = text; cut = refl; in_section = tt; begins = h; at = e }
-found_begins TagTooLong from line text h e = record { pieces = []; rest = text; cut = refl; in_section = tt; begins = h; at = e }
+found_begins : (f : Fault) (q : Putting) (s : State) (p : Place) (text : List ℕ) → Begins (told_kind f) text → p.line ≡ q.line → Found f q s p text
+found_begins SectionTooLong q s p text h e = tt
+found_begins HeaderTooLong q s p text h e = tt
+found_begins BadGet q s p text h e = absurd h
+found_begins BadByte q s p text h e = record { pieces = []; rest = text; cut = refl; in_section = tt; begins = h; at = e }
+found_begins BadString q s p text h e = record { pieces = []; rest = text; cut = refl; in_section = tt; begins = h; at = e }
+found_begins BadEscape q s p text h e = record { pieces = []; rest = text; cut = refl; in_section = tt; begins = h; at = e }
+found_begins NumberOver32Bits q s p text h e = record { pieces = []; rest = text; cut = refl; in_section = tt; begins = h; at = e }
+found_begins NameTooLong q s p text h e = record { pieces = []; rest = text; cut = refl; in_section = tt; begins = h; at = e }
+found_begins TagTooLong q s p text h e = record { pieces = []; rest = text; cut = refl; in_section = tt; begins = h; at = e }
 
 -- ---- what a line feed begins is a piece of its own
 
@@ -169,93 +183,10 @@ not_blank m c f e h = let z : nexts.Ends ≡ nexts.Bad f = sym (ap (λ (k : Mode
 quote_line : (f : List ℕ) (t : List ℕ) (line : ℕ) → t ≡ 34 ∷ f → line_behind t line ≡ line
 quote_line f t line e = ap (λ (x : List ℕ). line_behind x line) e
 
--- ---- a byte that faults
-
-abbrev late : Fault → Bool
-late SectionTooLong = true
-late HeaderTooLong = true
-late BadGet = true
-late _ = false
-
-found_late : (f : Fault) (from line : ℕ) (text : List ℕ) → late f ≡ true → Found f from line text
-found_late SectionTooLong from line text e = tt
-found_late HeaderTooLong from line text e = tt
-found_late BadGet from line text e = tt
-found_late BadByte from line text e = absurd cc
-found_late BadString from line text e = absurd cc
-found_late BadEscape from line text e = absurd cc
-found_late NumberOver32Bits from line text e = absurd cc
-found_late NameTooLong from line text e = absurd cc
-found_late TagTooLong from line text e = absurd cc
-
-abbrev LateOnly : {A : Type 0} → Result A Fault → Type 0
-LateOnly x = (f : Fault) → x ≡ Err f → late f ≡ true
-
-late_err : {A : Type 0} (g : Fault) → late g ≡ true → LateOnly {A = A} (Err g)
-late_err g h f e = let same : g ≡ f = cc in ap late (sym same) ∙ h
-
-ok_late : {A : Type 0} (a : A) → LateOnly {A = A} (Ok a)
-ok_late a f e = absurd cc
-
-pub bind_late : {A B : Type 0} (x : Result A Fault) (k : A → Result B Fault) → LateOnly x → ((a : A) → LateOnly (k a)) → LateOnly (x >>= k)
-bind_late (Ok a) k h n f e = n a f e
-bind_late (Err g) k h n f e = late_err g (h g refl) f e
-
-cond_late : {A : Type 0} (b : Bool) (x y : Result A Fault) → LateOnly x → LateOnly y → LateOnly (cond b x y)
-cond_late true x y h k = h
-cond_late false x y h k = k
-
-what_late : (w : What) (s : State) → LateOnly (ended_what s w)
-what_late whats.Gap s = ok_late _
-what_late whats.Get s = cond_late (ltb s.symbols 1) (Err SectionTooLong) _ (late_err SectionTooLong refl) (cond_late s.get (Err BadGet) (Ok _) (late_err BadGet refl) (ok_late _))
-what_late (whats.Symbol k) s = cond_late (ltb s.symbols (room_for (inserted s.last k s.fed))) (Err SectionTooLong) _ (late_err SectionTooLong refl) (cond_late s.get (Err BadGet) (Ok _) (late_err BadGet refl) (ok_late _))
-
-in_get_late : (m : Mode) → LateOnly (in_get m)
-in_get_late Blank = ok_late Blank
-in_get_late (Mark g) = cond_late (is_slash g) (Ok (Mark g)) (Err BadGet) (ok_late (Mark g)) (late_err BadGet refl)
-in_get_late (Text n) = ok_late (Name 0)
-in_get_late Comment = late_err BadGet refl
-in_get_late Dot = late_err BadGet refl
-in_get_late (Word n code) = late_err BadGet refl
-in_get_late Hash = late_err BadGet refl
-in_get_late HashX = late_err BadGet refl
-in_get_late (Number base v) = late_err BadGet refl
-in_get_late Dollar = late_err BadGet refl
-in_get_late (Bracket side n) = late_err BadGet refl
-in_get_late (TextEscape n) = late_err BadGet refl
-in_get_late TextEnd = late_err BadGet refl
-in_get_late Quote = late_err BadGet refl
-in_get_late QuoteEscape = late_err BadGet refl
-in_get_late QuoteFull = late_err BadGet refl
-in_get_late QuoteEnd = late_err BadGet refl
-in_get_late (Name n) = late_err BadGet refl
-
-mode_late : (get : Bool) (m : Mode) → LateOnly (mode_begun get m)
-mode_late true m = in_get_late m
-mode_late false m = ok_late m
-
-begun_late : (s : State) (m : Mode) (b : ℕ) → LateOnly (begun s m b)
-begun_late s m b = cond_late (ltb s.symbols (least_room s m)) (Err SectionTooLong) _ (late_err SectionTooLong refl) (bind_late (mode_begun s.get m) _ (mode_late s.get m) (λ n. ok_late _))
-
-opens_late : (s : State) (b : ℕ) (m : Mode) → LateOnly (opened_as s b (Some m))
-opens_late s b m = bind_late (ended s) _ (what_late (piece s.mode) s) (λ e. bind_late (begun e.state m b) _ (begun_late e.state m b) (λ t. ok_late _))
-
-named_late : (s : State) (h : Header) → LateOnly (named s h)
-named_late s h = cond_late (ltb s.symbols (header_rest h)) (Err HeaderTooLong) (Ok _) (late_err HeaderTooLong refl) (ok_late _)
-
-finished_late : (s : State) → LateOnly (ended s >>= λ e. no_get e)
-finished_late s = bind_late (ended s) _ (what_late (piece s.mode) s) (λ e. cond_late e.state.get (Err BadGet) (Ok e.given) (late_err BadGet refl) (ok_late e.given))
-
 -- ---- the fault of a byte
 
-err_is : {A : Type 0} (g f : Fault) → (let x : Result A Fault = Err g in x) ≡ Err f → g ≡ f
-err_is g f e = cc
-
-no_err : {A B : Type 0} (a : A) (f : Fault) → (let x : Result A Fault = Ok a in x) ≡ Err f → B
-no_err a f e = absurd cc
-
-found_as : (g f : Fault) (from line : ℕ) (text : List ℕ) → g ≡ f → Found g from line text → Found f from line text
-found_as g f from line text e h = subst (λ (x : Fault). Found x from line text) e h
+found_as : (g f : Fault) (q : Putting) (s : State) (p : Place) (text : List ℕ) → g ≡ f → Found g q s p text → Found f q s p text
+found_as g f q s p text e h = subst (λ (x : Fault). Found x q s p text) e h
 
 no_byte : (c : ℕ) (more : List ℕ) → fresh c ≡ None → Begins source_kinds.BadByte (c ∷ more)
 unfolding walk_piece
@@ -272,6 +203,16 @@ no_byte c more e = (c, more, refl, no_quote 34 (Text 0) refl, no_quote 39 Quote 
         look true g = none_some m (sym e ∙ ap fresh (eqb-true c k g) ∙ f)
 
 -- a bad byte behind a piece, or behind none
+-- the line of the GET whose string is due
+agreed : (q : Putting) (out : List Symbol) (x : State) (p : Place) → Agrees q out x p → x.get ≡ true → q.get ≡ Some p.get_line
+agreed q out x p a on =
+    let get = a.get in
+    let g = get_due q.get x.get p.get_line get on in
+    g.1 ∙ ap (λ (k : ℕ). Some k) (sym (due_line q.get g.0 x.get p.get_line g.1 get))
+
+on_get : (o : Option ℕ) (get : Bool) (line g : ℕ) → o ≡ Some g → GetAgrees o get line → get ≡ true
+on_get o get line g e h = let s : GetAgrees (Some g) get line = subst (λ (x : Option ℕ). GetAgrees x get line) e h in s.0
+
 bad_opens : (c : ℕ) (more : List ℕ) (q : Putting) (t : List ℕ) (r : Reading) → Here t r.state.mode r.held q.get → r.place.line ≡ line_behind t q.line → next r.state.mode c ≡ nexts.Ends → fresh c ≡ None → Stands source_kinds.BadByte q.line r.place.line (t ++ c ∷ more)
 bad_opens c more q t r (inl d) line x f =
     subst (λ (y : List ℕ). Stands source_kinds.BadByte q.line r.place.line (y ++ c ∷ more)) (sym d.0) record { pieces = []; rest = c ∷ more; cut = refl; in_section = tt; begins = no_byte c more f; at = line ∙ ap (λ (y : List ℕ). line_behind y q.line) d.0 }
@@ -289,26 +230,83 @@ bad_opens c more q t r (inr (inl d)) line x f =
     }
 bad_opens c more q t r (inr (inr d)) line x f = absurd (naming_step t r.state.mode c d.0 nexts.Ends x)
 
-opens_found : (o : Option Mode) (c : ℕ) (more : List ℕ) (q : Putting) (t : List ℕ) (r : Reading) (g : Fault) → Here t r.state.mode r.held q.get → r.place.line ≡ line_behind t q.line → next r.state.mode c ≡ nexts.Ends → fresh c ≡ o → opened_as r.state c o ≡ Err g
-    → Found g q.line r.place.line (t ++ c ∷ more)
-opens_found None c more q t r g here line x f e = found_as BadByte g q.line r.place.line (t ++ c ∷ more) (err_is BadByte g e) (bad_opens c more q t r here line x f)
-opens_found (Some m) c more q t r g here line x f e = found_late g q.line r.place.line (t ++ c ∷ more) (opens_late r.state c m g e)
+-- a symbol where the string of a GET is due: a `/`
+due_here : (q : Putting) (t : List ℕ) (r : Reading) → Agrees (seen q t) r.out r.state r.place → r.state.get ≡ true → (q.get ≡ Some (told r.state r.place BadGet).line)
+due_here q t r a on =
+    let get = a.get in
+    let g = get_due (seen q t).get r.state.get r.place.get_line get on in
+    let line : r.place.get_line ≡ g.0 = due_line (seen q t).get g.0 r.state.get r.place.get_line g.1 get in
+    let at : (told r.state r.place BadGet).line ≡ r.place.get_line = ap (λ (b : Bool). cond (b && true) r.place.get_line r.place.line) on in
+    sym (seen_get q t) ∙ g.1 ∙ ap (λ (k : ℕ). Some k) (sym (at ∙ line))
 
-bad_found : (c : ℕ) (more : List ℕ) (q : Putting) (t : List ℕ) (r : Reading) (g : Fault) → Here t r.state.mode r.held q.get → r.place.line ≡ line_behind t q.line → next r.state.mode c ≡ nexts.Bad g → Found g q.line r.place.line (t ++ c ∷ more)
-bad_found c more q t r g (inl d) line x = absurd (not_blank r.state.mode c g x d.1)
-bad_found c more q t r g (inr (inl d)) line x =
-    found_begins g q.line r.place.line (t ++ c ∷ more) (bad_begins r.state.mode t c more g (piece_reads t r.state.mode d.1) d.1 x) (line ∙ same_line t r.state.mode q.line d.1 (not_blank r.state.mode c g x))
-bad_found c more q t r g (inr (inr d)) line x =
-    elim (naming_bad t r.state.mode c more g d.0 x) [
-      | inl p ↦ found_late g q.line r.place.line (t ++ c ∷ more) (ap late p)
-      | inr p ↦ found_as BadString g q.line r.place.line (t ++ c ∷ more) (sym p.0) (found_begins BadString q.line r.place.line (t ++ c ∷ more) p.1 (line ∙ quote_line d.0.0 t q.line d.0.1))
+ended_found : (rest : List ℕ) (q : Putting) (t : List ℕ) (r : Reading) (g : Fault) → Here t r.state.mode r.held q.get → Agrees (seen q t) r.out r.state r.place → ((c : ℕ) (more : List ℕ) → rest ≡ c ∷ more → next r.state.mode c ≡ nexts.Ends) → (Naming t r.state.mode → ⊥)
+    → ended r.state ≡ Err g → Found g q r.state r.place (t ++ rest)
+ended_found rest q t r g here a stop naming e =
+    elim (ended_err (piece r.state.mode) r.state g e) [
+      | inl p ↦ found_as SectionTooLong g q r.state r.place (t ++ rest) (sym p) tt
+      | inr p ↦ found_as BadGet g q r.state r.place (t ++ rest) (sym p.0) (slash here p.1 p.2)
+    ]
+  where
+    slash : Here t r.state.mode r.held q.get → r.state.get ≡ true → (piece r.state.mode ≡ whats.Gap → ⊥) → Misnames q (told r.state r.place BadGet).line (t ++ rest)
+    slash (inl d) on n = absurd (n (ap piece d.1))
+    slash (inr (inl d)) on n =
+        let due = due_here q t r a on in
+        let only : OnlyGap r.state.mode = subst (λ (o : Option ℕ). InDue o r.state.mode) due d.3 in
+        let reads = slash_reads r.state.mode t only n (piece_reads t r.state.mode d.1) in
+        slash_misnames q _ t rest due reads.0 (λ bs x. reads.1 47 (stop 47 bs x) refl)
+    slash (inr (inr d)) on n = absurd (naming d.0)
+
+naming_stops : (t : List ℕ) (m : Mode) (c : ℕ) → next m c ≡ nexts.Ends → Naming t m → ⊥
+naming_stops t m c x d = naming_step t m c d nexts.Ends x
+
+begins_found : (c : ℕ) (more : List ℕ) (q : Putting) (t : List ℕ) (r : Reading) (m : Mode) (e : Ended) (g : Fault) → Here t r.state.mode r.held q.get → Agrees (seen q t) r.out r.state r.place → next r.state.mode c ≡ nexts.Ends → fresh c ≡ Some m → ended r.state ≡ Ok e
+    → begun e.state m c ≡ Err g → Found g q r.state r.place (t ++ c ∷ more)
+begins_found c more q t r m e g here a x f o b =
+    elim (begun_err e.state m c g b) [
+      | inl p ↦ found_as SectionTooLong g q r.state r.place (t ++ c ∷ more) (sym p) tt
+      | inr p ↦ found_as BadGet g q r.state r.place (t ++ c ∷ more) (sym p.0) (
+          let after = ended_agrees (piece r.state.mode) (seen q t) r.out r.state r.place r.held e a o in
+          let due = agreed after.0 (put_on r.out e.given r.place.line r.held) e.state (at r.place.line (get_line_after r.place e.given)) after.2 p.1 in
+          let line = told_line (piece r.state.mode) r.state r.place e o p.1 in
+          let fault = told r.state r.place BadGet in
+          piece_before (Has fault) (Err fault) (r.used + length (c ∷ more)) (concludes_fault fault (r.used + length (c ∷ more))) q t r c more e here x after
+          (first_misnames after.0 fault.line c more m (due ∙ ap (λ (k : ℕ). Some k) (sym line)) f p.2))
     ]
 
-moved_found : (x : Next) (c : ℕ) (more : List ℕ) (q : Putting) (t : List ℕ) (r : Reading) (g : Fault) → Here t r.state.mode r.held q.get → r.place.line ≡ line_behind t q.line → next r.state.mode c ≡ x → moved r.state c x ≡ Err g → Found g q.line r.place.line (t ++ c ∷ more)
-moved_found (nexts.Goes n) c more q t r g here line x e = no_err _ g e
-moved_found nexts.Ends c more q t r g here line x e = opens_found (fresh c) c more q t r g here line x refl e
-moved_found (nexts.Names h) c more q t r g here line x e = found_late g q.line r.place.line (t ++ c ∷ more) (named_late r.state h g e)
-moved_found (nexts.Bad f) c more q t r g here line x e = found_as f g q.line r.place.line (t ++ c ∷ more) (err_is f g e) (bad_found c more q t r f here line x)
+opens_found : (o : Option Mode) (c : ℕ) (more : List ℕ) (q : Putting) (t : List ℕ) (r : Reading) (g : Fault) → Here t r.state.mode r.held q.get → Agrees (seen q t) r.out r.state r.place → r.place.line ≡ line_behind t q.line → next r.state.mode c ≡ nexts.Ends → fresh c ≡ o
+    → opened_as r.state c o ≡ Err g → Found g q r.state r.place (t ++ c ∷ more)
+opens_found None c more q t r g here a line x f e = found_as BadByte g q r.state r.place (t ++ c ∷ more) (err_is BadByte g e) (bad_opens c more q t r here line x f)
+opens_found (Some m) c more q t r g here a line x f e = look (ended r.state) refl e
+  where
+    heads_are : (b : ℕ) (bs : List ℕ) → c ∷ more ≡ b ∷ bs → c ≡ b
+    heads_are b bs z = cc
+
+    look : (y : Result Ended Fault) → ended r.state ≡ y → (y >>= λ e. (begun e.state m c >>= λ t. Ok (stepped t (acts.Begins e.given)))) ≡ Err g → Found g q r.state r.place (t ++ c ∷ more)
+    look (Err h) o z = ended_found (c ∷ more) q t r g here a (λ b bs w. ap (next r.state.mode) (sym (heads_are b bs w)) ∙ x) (naming_stops t r.state.mode c x) (o ∙ ap lexer_error (err_is h g z))
+    look (Ok y) o z = begins_found c more q t r m y g here a x f o (good_err (begun y.state m c) (λ t. stepped t (acts.Begins y.given)) g z)
+
+named_found : (r : Reading) (h : Header) (g : Fault) (q : Putting) (text : List ℕ) → named r.state h ≡ Err g → Found g q r.state r.place text
+named_found r h g q text e =
+    elim (picks (ltb r.state.symbols (header_rest h)) (Err HeaderTooLong) _ (Err g) e) [
+      | inl p ↦ found_as HeaderTooLong g q r.state r.place text (err_is HeaderTooLong g p.1) tt
+      | inr p ↦ no_err _ g p.1
+    ]
+
+bad_found : (c : ℕ) (more : List ℕ) (q : Putting) (t : List ℕ) (r : Reading) (g : Fault) → Here t r.state.mode r.held q.get → Agrees (seen q t) r.out r.state r.place → r.place.line ≡ line_behind t q.line → next r.state.mode c ≡ nexts.Bad g → Found g q r.state r.place (t ++ c ∷ more)
+bad_found c more q t r g (inl d) a line x = absurd (not_blank r.state.mode c g x d.1)
+bad_found c more q t r g (inr (inl d)) a line x =
+    found_begins g q r.state r.place (t ++ c ∷ more) (bad_begins r.state.mode t c more g (piece_reads t r.state.mode d.1) d.1 x) (line ∙ same_line t r.state.mode q.line d.1 (not_blank r.state.mode c g x))
+bad_found c more q t r g (inr (inr d)) a line x =
+    elim (naming_bad t r.state.mode c more g d.0 x) [
+      | inl p ↦ found_as BadGet g q r.state r.place (t ++ c ∷ more) (sym p) (string_misnames q _ t r.state.mode c more (due_here q t r a (on_get (seen q t).get r.state.get r.place.get_line d.1.0 (seen_get q t ∙ d.1.1) a.get)) d.0 (x ∙ ap (λ (y : Fault). nexts.Bad y) p))
+      | inr p ↦ found_as BadString g q r.state r.place (t ++ c ∷ more) (sym p.0) (found_begins BadString q r.state r.place (t ++ c ∷ more) p.1 (line ∙ quote_line d.0.0 t q.line d.0.1))
+    ]
+
+moved_found : (x : Next) (c : ℕ) (more : List ℕ) (q : Putting) (t : List ℕ) (r : Reading) (g : Fault) → Here t r.state.mode r.held q.get → Agrees (seen q t) r.out r.state r.place → r.place.line ≡ line_behind t q.line → next r.state.mode c ≡ x → moved r.state c x ≡ Err g → Found g q r.state r.place (t ++ c ∷ more)
+moved_found (nexts.Goes n) c more q t r g here a line x e = no_err _ g e
+moved_found nexts.Ends c more q t r g here a line x e = opens_found (fresh c) c more q t r g here a line x refl e
+moved_found (nexts.Names h) c more q t r g here a line x e = named_found r h g q (t ++ c ∷ more) e
+moved_found (nexts.Bad f) c more q t r g here a line x e = found_as f g q r.state r.place (t ++ c ∷ more) (err_is f g e) (bad_found c more q t r f here a line x)
 
 -- ---- the run
 
@@ -318,13 +316,13 @@ told_is a b e = cc
 told_has : (a b : SourceFault) (q : Putting) (text : List ℕ) → (let x : Result Section SourceFault = Err a in x) ≡ Err b → Has a q text → Has b q text
 told_has a b q text e h = subst (λ (x : SourceFault). Has x q text) (told_is a b e) h
 
-err_says : (d : Bool) (g : Fault) (r : Reading) (c : ℕ) (more : List ℕ) (f : SourceFault) (q : Putting) (text : List ℕ) → Found g q.line r.place.line text → (read_on r c (cond d (Err (past g)) (Err g)) >>= λ p. behind p more) ≡ Err f → Has f q text
-err_says true g r c more f q text h e = told_has _ f q text e (found_told (past g) r.state r.place q text (found_past g q.line r.place.line text h))
+err_says : (d : Bool) (g : Fault) (r : Reading) (c : ℕ) (more : List ℕ) (f : SourceFault) (q : Putting) (text : List ℕ) → Found g q r.state r.place text → (read_on r c (cond d (Err (past g)) (Err g)) >>= λ p. behind p more) ≡ Err f → Has f q text
+err_says true g r c more f q text h e = told_has _ f q text e (found_told (past g) r.state r.place q text (found_past g q r.state r.place text h))
 err_says false g r c more f q text h e = told_has _ f q text e (found_told g r.state r.place q text h)
 
 step_faulty : (y : Result Step Fault) (f : SourceFault) (total c : ℕ) (more : List ℕ) (ih : Follows (Has f) (Err f) total more) (q : Putting) (t : List ℕ) (r : Reading) → Here t r.state.mode r.held q.get → Agrees (seen q t) r.out r.state r.place
     → Counted r.state.bytes r.used (c ∷ more) total → moved r.state c (next r.state.mode c) ≡ y → (read_on r c (within r.state.bytes y) >>= λ p. behind p more) ≡ Err f → Has f q (t ++ c ∷ more)
-step_faulty (Err g) f total c more ih q t r here a l m h = err_says (ltb r.state.bytes 1) g r c more f q (t ++ c ∷ more) (moved_found (next r.state.mode c) c more q t r g here (a.line ∙ seen_line q t) refl m) h
+step_faulty (Err g) f total c more ih q t r here a l m h = err_says (ltb r.state.bytes 1) g r c more f q (t ++ c ∷ more) (moved_found (next r.state.mode c) c more q t r g here a (a.line ∙ seen_line q t) refl m) h
 step_faulty (Ok u) f total c more ih q t r here a l m h = look (ltb r.state.bytes 1) refl h
   where
     look : (d : Bool) → ltb r.state.bytes 1 ≡ d → (read_on r c (cond d (Err SectionTooLong) (Ok (fewer r.state.bytes u))) >>= λ p. behind p more) ≡ Err f → Has f q (t ++ c ∷ more)
@@ -338,34 +336,59 @@ byte_faulty f total c more ih q t r here a h l = step_faulty (moved r.state c (n
 end_not_blank : (m : Mode) (g : Fault) → end_fault m ≡ Some g → m ≡ Blank → ⊥
 end_not_blank m g e h = let z : (let o : Option Fault = None in o) ≡ Some g = sym (ap end_fault h) ∙ e in cc
 
-nil_text : (g : Fault) (from line : ℕ) (t : List ℕ) → Found g from line t → Found g from line (t ++ [])
-nil_text g from line t h = subst (λ (x : List ℕ). Found g from line x) (sym (append-nil t)) h
+nil_text : (g : Fault) (q : Putting) (s : State) (p : Place) (t : List ℕ) → Found g q s p t → Found g q s p (t ++ [])
+nil_text g q s p t h = subst (λ (x : List ℕ). Found g q s p x) (sym (append-nil t)) h
 
 some_is : (f g : Fault) → Some f ≡ Some g → f ≡ g
 some_is f g e = cc
 
-end_found : (q : Putting) (t : List ℕ) (r : Reading) (g : Fault) → Here t r.state.mode r.held q.get → r.place.line ≡ line_behind t q.line → end_fault r.state.mode ≡ Some g → Found g q.line r.place.line (t ++ [])
+end_found : (q : Putting) (t : List ℕ) (r : Reading) (g : Fault) → Here t r.state.mode r.held q.get → r.place.line ≡ line_behind t q.line → end_fault r.state.mode ≡ Some g → Found g q r.state r.place (t ++ [])
 end_found q t r g (inl d) line e = absurd (end_not_blank r.state.mode g e d.1)
 end_found q t r g (inr (inl d)) line e =
-    nil_text g q.line r.place.line t (found_begins g q.line r.place.line t (end_begins r.state.mode t g (piece_reads t r.state.mode d.1) d.1 e) (line ∙ same_line t r.state.mode q.line d.1 (end_not_blank r.state.mode g e)))
+    nil_text g q r.state r.place t (found_begins g q r.state r.place t (end_begins r.state.mode t g (piece_reads t r.state.mode d.1) d.1 e) (line ∙ same_line t r.state.mode q.line d.1 (end_not_blank r.state.mode g e)))
 end_found q t r g (inr (inr d)) line e =
     let same : BadString ≡ g = some_is BadString g (sym (ap end_fault d.0.2) ∙ e) in
-    nil_text g q.line r.place.line t (found_as BadString g q.line r.place.line t same (found_begins BadString q.line r.place.line t (naming_end t r.state.mode d.0) (line ∙ quote_line d.0.0 t q.line d.0.1)))
+    nil_text g q r.state r.place t (found_as BadString g q r.state r.place t same (found_begins BadString q r.state r.place t (naming_end t r.state.mode d.0) (line ∙ quote_line d.0.0 t q.line d.0.1)))
 
-last_found : (o : Option Fault) (q : Putting) (t : List ℕ) (r : Reading) (g : Fault) → Here t r.state.mode r.held q.get → r.place.line ≡ line_behind t q.line → end_fault r.state.mode ≡ o → finished_as r.state o ≡ Err g → Found g q.line r.place.line (t ++ [])
-last_found (Some f) q t r g here line x e = found_as f g q.line r.place.line (t ++ []) (err_is f g e) (end_found q t r f here line x)
-last_found None q t r g here line x e = found_late g q.line r.place.line (t ++ []) (finished_late r.state g e)
+naming_ends : (t : List ℕ) (m : Mode) → end_fault m ≡ None → Naming t m → ⊥
+naming_ends t m x d = let z : Some BadString ≡ None = sym (ap end_fault d.2) ∙ x in cc
 
-end_says : (y : Result Given Fault) (f : SourceFault) (q : Putting) (t : List ℕ) (r : Reading) → Here t r.state.mode r.held q.get → r.place.line ≡ line_behind t q.line → finished r.state ≡ y → end_as r y ≡ Err f → Has f q (t ++ [])
-end_says (Err g) f q t r here line x e = told_has _ f q (t ++ []) e (found_told g r.state r.place q (t ++ []) (last_found (end_fault r.state.mode) q t r g here line refl x))
-end_says (Ok g) f q t r here line x e = no_answer e
+finished_found : (q : Putting) (t : List ℕ) (r : Reading) (g : Fault) → Here t r.state.mode r.held q.get → Agrees (seen q t) r.out r.state r.place → end_fault r.state.mode ≡ None → (ended r.state >>= λ e. no_get e) ≡ Err g → Found g q r.state r.place (t ++ [])
+finished_found q t r g here a x e = look (ended r.state) refl e
+  where
+    no_more : (c : ℕ) (more : List ℕ) → [] ≡ c ∷ more → next r.state.mode c ≡ nexts.Ends
+    no_more c more z = absurd cc
+
+    at_end : (y : Ended) → ended r.state ≡ Ok y → y.state.get ≡ true → Misnames q (told r.state r.place BadGet).line (t ++ [])
+    at_end y o on =
+        let after = ended_agrees (piece r.state.mode) (seen q t) r.out r.state r.place r.held y a o in
+        let due = agreed after.0 (put_on r.out y.given r.place.line r.held) y.state (at r.place.line (get_line_after r.place y.given)) after.2 on in
+        let line = told_line (piece r.state.mode) r.state r.place y o on in
+        let fault = told r.state r.place BadGet in
+        end_before (Has fault) (Err fault) r.used (concludes_fault fault r.used) q t r y here x after (nothing_misnames after.0 fault.line (due ∙ ap (λ (k : ℕ). Some k) (sym line)))
+
+    look : (y : Result Ended Fault) → ended r.state ≡ y → (y >>= λ e. no_get e) ≡ Err g → Found g q r.state r.place (t ++ [])
+    look (Err h) o z = ended_found [] q t r g here a no_more (naming_ends t r.state.mode x) (o ∙ ap lexer_error (err_is h g z))
+    look (Ok y) o z =
+        elim (picks y.state.get (Err BadGet) (Ok y.given) (Err g) z) [
+          | inl p ↦ found_as BadGet g q r.state r.place (t ++ []) (err_is BadGet g p.1) (at_end y o p.0)
+          | inr p ↦ no_err y.given g p.1
+        ]
+
+last_found : (o : Option Fault) (q : Putting) (t : List ℕ) (r : Reading) (g : Fault) → Here t r.state.mode r.held q.get → Agrees (seen q t) r.out r.state r.place → r.place.line ≡ line_behind t q.line → end_fault r.state.mode ≡ o → finished_as r.state o ≡ Err g → Found g q r.state r.place (t ++ [])
+last_found (Some f) q t r g here a line x e = found_as f g q r.state r.place (t ++ []) (err_is f g e) (end_found q t r f here line x)
+last_found None q t r g here a line x e = finished_found q t r g here a x e
+
+end_says : (y : Result Given Fault) (f : SourceFault) (q : Putting) (t : List ℕ) (r : Reading) → Here t r.state.mode r.held q.get → Agrees (seen q t) r.out r.state r.place → r.place.line ≡ line_behind t q.line → finished r.state ≡ y → end_as r y ≡ Err f → Has f q (t ++ [])
+end_says (Err g) f q t r here a line x e = told_has _ f q (t ++ []) e (found_told g r.state r.place q (t ++ []) (last_found (end_fault r.state.mode) q t r g here a line refl x))
+end_says (Ok g) f q t r here a line x e = no_answer e
   where
     no_answer : {A : Type 0} {s : Section} → (let x : Result Section SourceFault = Ok s in x) ≡ Err f → A
     no_answer z = absurd cc
 
 end_faulty : (f : SourceFault) (total : ℕ) → Follows (Has f) (Err f) total []
 unfolding run
-end_faulty f total q t r here a h l = end_says (finished r.state) f q t r here (a.line ∙ seen_line q t) refl h
+end_faulty f total q t r here a h l = end_says (finished r.state) f q t r here a (a.line ∙ seen_line q t) refl h
 
 faulty : (f : SourceFault) (total : ℕ) (rest : List ℕ) → Follows (Has f) (Err f) total rest
 faulty f total [] q t r here a h l = end_faulty f total q t r here a h l

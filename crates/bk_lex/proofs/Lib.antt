@@ -14,4 +14,5 @@ pub mod Runs
 pub mod Firsts
 pub mod Complete
 pub mod FaultBegins
+pub mod GetFaults
 pub mod Faulty

@@ -9,6 +9,7 @@ use Rattle.bk_base.specs.declared.refused.Refused.{Refused}
 use Rattle.bk_lex.specs.declared.scan.Lexed.{Lexed}
 use Rattle.bk_lex.specs.declared.token.Kind.TheVariants as kinds
 use Rattle.bk_lex.specs.declared.sign.Sign.{Sign}
+use Rattle.bk_lex.specs.declared.sign.Sign.TheVariants as signs
 use Rattle.bk_lex.specs.declared.reserved.What.{What}
 use Rattle.bk_lex.specs.declared.reserved.What.TheVariants as whats
 use Rattle.bk_lex.specs.declared.machine.Fault.{Fault}
@@ -39,7 +40,7 @@ use Rattle.bk_lex.specs.Lexing.{Gives, section_of, lexed, begin, Section, sectio
 use Rattle.bk_lex.specs.Pieces.{Sort, blank, comment, word, number, bracket, string, character, sign, NoLonger}
 use Rattle.bk_lex.specs.Tokens.{named_as, what_of, Putting, putting, seen, put_as, put, is_dot_sort, CutFrom, IsSection}
 use Rattle.bk_lex.proofs.SignLemmas.{picks}
-use Rattle.bk_lex.proofs.Walk.{walk_piece, walk_piece-append, one_walk, walk}
+use Rattle.bk_lex.proofs.Walk.{goes_is, walk_piece, walk_piece-append, one_walk, walk}
 use Rattle.bk_lex.proofs.Modes.{Reads, fresh_reads, piece_reads}
 use Rattle.bk_lex.proofs.Goings.{sort_of, IsPiece, reads_piece}
 use Rattle.bk_lex.proofs.Wholes.{ends_longest, nothing_longest, whole_at_end, whole_if_no_fault, cond_all}
@@ -47,9 +48,20 @@ use Rattle.bk_lex.proofs.Naming.{Naming, naming_begins, naming_step, NamesWhole,
 use Rattle.bk_lex.proofs.Soundness.{ok_bind, done, done_is, no_done, read_ok, within_ok, fewer, GetAgrees, waiting, Agrees, AfterPiece, ended_agrees, piece_is, more_cut}
 use Rattle.bk_lex.proofs.Steps.{behind}
 
+-- where the string of a GET is due, only a blank, a comment or a `/` goes on
+abbrev pub OnlyGap : Mode → Type 0
+OnlyGap Blank = Unit {0}
+OnlyGap Comment = Unit {0}
+OnlyGap (Mark s) = is_slash s ≡ true
+OnlyGap _ = ⊥
+
+abbrev pub InDue : Option ℕ → Mode → Type 0
+InDue None m = Unit {0}
+InDue (Some g) m = OnlyGap m
+
 -- where the machine is in a piece
 abbrev pub Here : List ℕ → Mode → List ℕ → Option ℕ → Type 0
-Here t m held get = ((t ≡ []) × (m ≡ Blank)) ⊎ (((held ≡ t) × (walk_piece t ≡ nexts.Goes m) × (is_dot m ≡ false)) ⊎ (Naming t m × ((g : ℕ) × (get ≡ Some g))))
+Here t m held get = ((t ≡ []) × (m ≡ Blank)) ⊎ (((held ≡ t) × (walk_piece t ≡ nexts.Goes m) × (is_dot m ≡ false) × InDue get m) ⊎ (Naming t m × ((g : ℕ) × (get ≡ Some g))))
 
 -- how many bytes came, of all and of those that a section may have
 abbrev pub Counted : ℕ → ℕ → List ℕ → ℕ → Type 0
@@ -154,6 +166,14 @@ dot_at C X total g0 c more q out x k line gl used a g e h u =
 pub head_is : (b c : ℕ) (xs ys : List ℕ) → b ∷ xs ≡ c ∷ ys → b ≡ c
 head_is b c xs ys e = cc
 
+free_due : (o : Option ℕ) (get : Bool) (line : ℕ) (m : Mode) → GetAgrees o get line → get ≡ false → InDue o m
+free_due None get line m h e = tt
+free_due (Some g) get line m h e = absurd (let z : true ≡ false = sym h.0 ∙ e in cc)
+
+gap_due : (o : Option ℕ) (m : Mode) → OnlyGap m → InDue o m
+gap_due None m h = tt
+gap_due (Some g) m h = h
+
 free_sound : (C : Putting → List ℕ → Type 0) (X : Result Section SourceFault) (total : ℕ) (g0 : Concludes C X total) (c : ℕ) (more : List ℕ) (ih : Follows C X total more) (q : Putting) (out : List Symbol) (x : State) (n : Mode) (k line gl used : ℕ) → Agrees q out x (at line gl) → fresh c ≡ Some n → x.get ≡ false
     → behind (begun_at out x n k c line gl used) more ≡ X → Counted k (used + 1) more total → C q (c ∷ more)
 free_sound C X total g0 c more ih q out x n k line gl used a f g h u =
@@ -161,7 +181,7 @@ free_sound C X total g0 c more ih q out x n k line gl used a f g h u =
       | inl p ↦ (let is = dot_is n p.0 in
           let reads : c ∷ [] ≡ 46 ∷ [] = subst (λ (m : Mode). Reads m (c ∷ [])) is (fresh_reads c n f) in
           dot_at C X total g0 c more q out x k line gl used a g (head_is c 46 [] [] reads) p.1 u)
-      | inr p ↦ go_sound C X total g0 c more ih q out x n k line gl used a (inr (inl (refl, begun_walk c n f, p.0))) p.0 h u
+      | inr p ↦ go_sound C X total g0 c more ih q out x n k line gl used a (inr (inl (refl, begun_walk c n f, p.0, free_due q.get x.get gl n a.get g))) p.0 h u
     ]
 
 ok_mode : (m n : Mode) → (let r : Result Mode Fault = Ok m in r) ≡ Ok n → m ≡ n
@@ -172,13 +192,13 @@ no_mode f n e = cc
 
 -- where the string of a GET is due, a blank, a `/` or the string begins
 abbrev InGet : ℕ → Mode → Mode → Type 0
-InGet c m n = ((n ≡ m) × (is_dot n ≡ false)) ⊎ ((c ≡ 34) × (n ≡ Name 0))
+InGet c m n = ((n ≡ m) × (is_dot n ≡ false) × OnlyGap n) ⊎ ((c ≡ 34) × (n ≡ Name 0))
 
 in_get_ok : (c : ℕ) (m n : Mode) → fresh c ≡ Some m → in_get m ≡ Ok n → InGet c m n
-in_get_ok c Blank n f e = inl (sym (ok_mode Blank n e), ap is_dot (sym (ok_mode Blank n e)))
+in_get_ok c Blank n f e = inl (sym (ok_mode Blank n e), ap is_dot (sym (ok_mode Blank n e)), subst OnlyGap (ok_mode Blank n e) tt)
 in_get_ok c (Mark g) n f e =
     elim (picks (is_slash g) (Ok (Mark g)) (Err BadGet) (Ok n) e) [
-      | inl p ↦ inl (sym (ok_mode (Mark g) n p.1), ap is_dot (sym (ok_mode (Mark g) n p.1)))
+      | inl p ↦ inl (sym (ok_mode (Mark g) n p.1), ap is_dot (sym (ok_mode (Mark g) n p.1)), subst OnlyGap (ok_mode (Mark g) n p.1) p.0)
       | inr p ↦ absurd (no_mode BadGet n p.1)
     ]
 in_get_ok c (Text k) n f e = let r = fresh_reads c (Text k) f in inr (head_is c 34 [] r.0 r.1, sym (ok_mode (Name 0) n e))
@@ -205,7 +225,7 @@ due_sound : (C : Putting → List ℕ → Type 0) (X : Result Section SourceFaul
     → behind (begun_at out x n k c line gl used) more ≡ X → Counted k (used + 1) more total → C q (c ∷ more)
 due_sound C X total g0 c more ih q out x m n k line gl used a f g e h u =
     elim (in_get_ok c m n f e) [
-      | inl p ↦ go_sound C X total g0 c more ih q out x n k line gl used a (inr (inl (refl, begun_walk c m f ∙ ap (λ (y : Mode). nexts.Goes y) (sym p.0), p.1))) p.1 h u
+      | inl p ↦ go_sound C X total g0 c more ih q out x n k line gl used a (inr (inl (refl, begun_walk c m f ∙ ap (λ (y : Mode). nexts.Goes y) (sym p.0), p.1, gap_due q.get n p.2))) p.1 h u
       | inr p ↦ go_sound C X total g0 c more ih q out x n k line gl used a (inr (inr (naming_at c n p.0 p.1, get_due q.get x.get gl a.get g))) (ap is_dot p.1) h u
     ]
 
@@ -243,7 +263,7 @@ abbrev StepGives : Reading → ℕ → List ℕ → Step → Result Section Sour
 StepGives r c more u X = behind (read r c (fewer r.state.bytes u).state (fewer r.state.bytes u).act) more ≡ X
 
 -- a byte that ends a piece and begins another, or ends the section
-piece_before : (C : Putting → List ℕ → Type 0) (X : Result Section SourceFault) (total : ℕ) (g0 : Concludes C X total) (q : Putting) (t : List ℕ) (r : Reading) (c : ℕ) (more : List ℕ) (e : Ended) → Here t r.state.mode r.held q.get → next r.state.mode c ≡ nexts.Ends → (a : AfterPiece (seen q t) r.held (piece r.state.mode) r.out r.place e)
+pub piece_before : (C : Putting → List ℕ → Type 0) (X : Result Section SourceFault) (total : ℕ) (g0 : Concludes C X total) (q : Putting) (t : List ℕ) (r : Reading) (c : ℕ) (more : List ℕ) (e : Ended) → Here t r.state.mode r.held q.get → next r.state.mode c ≡ nexts.Ends → (a : AfterPiece (seen q t) r.held (piece r.state.mode) r.out r.place e)
     → C a.0 (c ∷ more) → C q (t ++ c ∷ more)
 piece_before C X total g0 q t r c more e (inl d) x a h =
     let gap : put_as q r.held (piece Blank) q.get ≡ Some a.0 = subst (λ (m : Mode). put_as q r.held (piece m) q.get ≡ Some a.0) d.1 (subst (λ (y : List ℕ). put_as (seen q y) r.held (piece r.state.mode) (seen q y).get ≡ Some a.0) d.0 a.1) in
@@ -254,6 +274,19 @@ piece_before C X total g0 q t r c more e (inr (inl d)) x a h =
     let w = whole_at_end r.state.mode c t reads x in
     g0.before q a.0 w.0 t (c ∷ more) (reads_piece r.state.mode w.0 t reads w.1) (ends_longest r.state.mode t c more d.1 x) (piece_put q t r.held r.state.mode w.0 a.0 d.0 (no_dot_sort r.state.mode w.0 d.2 w.1) (piece_is r.state.mode w.0 t reads w.1) a.1) h
 piece_before C X total g0 q t r c more e (inr (inr d)) x a h = absurd (naming_step t r.state.mode c d.0 nexts.Ends x)
+
+-- the same at the text's end
+pub end_before : (C : Putting → List ℕ → Type 0) (X : Result Section SourceFault) (total : ℕ) (g0 : Concludes C X total) (q : Putting) (t : List ℕ) (r : Reading) (e : Ended) → Here t r.state.mode r.held q.get → end_fault r.state.mode ≡ None
+    → (a : AfterPiece (seen q t) r.held (piece r.state.mode) r.out r.place e) → C a.0 [] → C q (t ++ [])
+end_before C X total g0 q t r e (inl d) f a h =
+    let gap : put_as q r.held (piece Blank) q.get ≡ Some a.0 = subst (λ (m : Mode). put_as q r.held (piece m) q.get ≡ Some a.0) d.1 (subst (λ (x : List ℕ). put_as (seen q x) r.held (piece r.state.mode) (seen q x).get ≡ Some a.0) d.0 a.1) in
+    let same = some_put q a.0 gap in
+    subst (λ (x : List ℕ). C q (x ++ [])) (sym d.0) (subst (λ (x : Putting). C x []) (sym same) h)
+end_before C X total g0 q t r e (inr (inl d)) f a h =
+    let reads = piece_reads t r.state.mode d.1 in
+    let w = whole_if_no_fault r.state.mode t reads f in
+    g0.before q a.0 w.0 t [] (reads_piece r.state.mode w.0 t reads w.1) (nothing_longest t) (piece_put q t r.held r.state.mode w.0 a.0 d.0 (no_dot_sort r.state.mode w.0 d.2 w.1) (piece_is r.state.mode w.0 t reads w.1) a.1) h
+end_before C X total g0 q t r e (inr (inr d)) f a h = absurd (let z : end_fault (Name (length d.0.0)) ≡ None = subst (λ (m : Mode). end_fault m ≡ None) d.0.2 f in cc)
 
 ends_sound : (C : Putting → List ℕ → Type 0) (X : Result Section SourceFault) (total : ℕ) (g0 : Concludes C X total) (c : ℕ) (more : List ℕ) (ih : Follows C X total more) (q : Putting) (t : List ℕ) (r : Reading) (u : Step) → Here t r.state.mode r.held q.get → Agrees (seen q t) r.out r.state r.place → next r.state.mode c ≡ nexts.Ends
     → opened r.state c ≡ Ok u → StepGives r c more u X → Counted (r.state.bytes - 1) (r.used + 1) more total → C q (t ++ c ∷ more)
@@ -281,13 +314,35 @@ empty_walk : (m : Mode) → walk_piece [] ≡ nexts.Goes m → ⊥
 unfolding walk_piece
 empty_walk m h = cc
 
+gap_goes : (m n : Mode) (c : ℕ) → OnlyGap m → next m c ≡ nexts.Goes n → OnlyGap n
+gap_goes Blank n c h e = absurd (let z : nexts.Ends ≡ nexts.Goes n = e in cc)
+gap_goes Comment n c h e =
+    elim (picks (eqb c 10) nexts.Ends (nexts.Goes Comment) (nexts.Goes n) e) [
+      | inl p ↦ absurd (let z : nexts.Ends ≡ nexts.Goes n = p.1 in cc)
+      | inr p ↦ subst OnlyGap (goes_is Comment n p.1) tt
+    ]
+gap_goes (Mark s) n c h e =
+    elim (picks (is_slash s && eqb c 47) (nexts.Goes Comment) (grows (longer_sign s c)) (nexts.Goes n) e) [
+      | inl p ↦ subst OnlyGap (goes_is Comment n p.1) tt
+      | inr p ↦ absurd (slash_grows s c n h p.1)
+    ]
+  where
+    slash_grows : (s : Sign) (c : ℕ) (n : Mode) → is_slash s ≡ true → grows (longer_sign s c) ≡ nexts.Goes n → ⊥
+    slash_grows signs.Slash c n h e = cc
+    slash_grows s c n h e = absurd (let z : false ≡ true = h in cc)
+gap_goes m n c h e = absurd h
+
+goes_due : (o : Option ℕ) (m n : Mode) (c : ℕ) → InDue o m → next m c ≡ nexts.Goes n → InDue o n
+goes_due None m n c h e = tt
+goes_due (Some g) m n c h e = gap_goes m n c h e
+
 goes_here : (q : Putting) (t : List ℕ) (m n : Mode) (held : List ℕ) (c : ℕ) (get : Option ℕ) → Here t m held get → next m c ≡ nexts.Goes n → Here (t ++ c ∷ []) n (held ++ c ∷ []) get × (is_dot n ≡ false) × ((b : ℕ) × (bs : List ℕ) × (t ≡ b ∷ bs))
 goes_here q t m n held c get (inl d) e = absurd (let z : nexts.Ends ≡ nexts.Goes n = ap (λ (y : Mode). next y c) (sym d.1) ∙ e in cc)
 goes_here q [] m n held c get (inr (inl d)) e = absurd (empty_walk m d.1)
 goes_here q (b ∷ bs) m n held c get (inr (inl d)) e =
     let w = walk_piece-append m (b ∷ bs) (c ∷ []) d.1 ∙ one_walk m c ∙ e in
     let dotless = not_dot n b bs c (piece_reads (b ∷ bs ++ c ∷ []) n w) in
-    (inr (inl (ap (λ (x : List ℕ). x ++ c ∷ []) d.0, w, dotless)), dotless, (b, bs, refl))
+    (inr (inl (ap (λ (x : List ℕ). x ++ c ∷ []) d.0, w, dotless, goes_due get m n c d.3 e)), dotless, (b, bs, refl))
 goes_here q t m n held c get (inr (inr d)) e =
     let s : Naming (t ++ c ∷ []) n = naming_step t m c d.0 (nexts.Goes n) e in
     (inr (inr (s, d.1)), ap is_dot s.2, (34, d.0.0, d.0.1))
@@ -357,7 +412,7 @@ string_longest : (t : List ℕ) (rest : List ℕ) → walk_piece t ≡ nexts.Goe
 string_longest t [] w = nothing_longest t
 string_longest t (c ∷ more) w = ends_longest TextEnd t c more w refl
 
-due_line : (o : Option ℕ) (g : ℕ) (get : Bool) (line : ℕ) → o ≡ Some g → GetAgrees o get line → line ≡ g
+pub due_line : (o : Option ℕ) (g : ℕ) (get : Bool) (line : ℕ) → o ≡ Some g → GetAgrees o get line → line ≡ g
 due_line o g get line e h = let s : GetAgrees (Some g) get line = subst (λ (x : Option ℕ). GetAgrees x get line) e h in s.1
 
 names_sound : (C : Putting → List ℕ → Type 0) (X : Result Section SourceFault) (total : ℕ) (g0 : Concludes C X total) (c : ℕ) (more : List ℕ) (ih : Follows C X total more) (q : Putting) (t : List ℕ) (r : Reading) (h : Header) (u : Step) → Here t r.state.mode r.held q.get → Agrees (seen q t) r.out r.state r.place → next r.state.mode c ≡ nexts.Names h

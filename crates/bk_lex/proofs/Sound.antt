@@ -46,7 +46,7 @@ use Rattle.bk_lex.proofs.Wholes.{ends_longest, nothing_longest, whole_at_end, wh
 use Rattle.bk_lex.proofs.Naming.{Naming, naming_begins, naming_step, NamesWhole, names_walk}
 use Rattle.bk_lex.proofs.Soundness.{ok_bind, done, done_is, no_done, read_ok, within_ok, fewer, GetAgrees, waiting, Agrees, AfterPiece, ended_agrees, piece_is, more_cut}
 use Rattle.bk_lex.proofs.Steps.{behind}
-use Rattle.bk_lex.proofs.Onward.{Here, Counted, Concludes, Follows, some_put, piece_put, no_dot_sort, no_get_due, step_sound}
+use Rattle.bk_lex.proofs.Onward.{Here, Counted, Concludes, Follows, some_put, piece_put, no_dot_sort, no_get_due, end_before, step_sound}
 
 same_section : (a b : Section) → (let x : Result Section SourceFault = Ok a in x) ≡ Ok b → a ≡ b
 same_section a b e = cc
@@ -72,46 +72,6 @@ nothing_left q s total used out st place a g e u =
     none_due None h = refl
     none_due (Some k) h = absurd (let z : true ≡ false = sym h.0 ∙ g in cc)
 
--- ---- the text's end
-
-end_ok : (r : Reading) (x : Result Given Fault) (s : Section) → end_as r x ≡ Ok s → (g : Given) × (x ≡ Ok g) × (section (put_on r.out g r.place.line r.held) r.used false r.place.line ≡ s)
-end_ok r (Ok g) s e = (g, refl, cc)
-end_ok r (Err f) s e = absurd cc
-
-finished_ok : (st : State) (o : Option Fault) (g : Given) → finished_as st o ≡ Ok g → (o ≡ None) × ((ended st >>= λ e. no_get e) ≡ Ok g)
-finished_ok st None g e = (refl, e)
-finished_ok st (Some f) g e = absurd cc
-
-no_get_ok : (e : Ended) (g : Given) → no_get e ≡ Ok g → (e.state.get ≡ false) × (e.given ≡ g)
-no_get_ok e g h =
-    elim (picks e.state.get (Err BadGet) (done e.given) (done g) h) [
-      | inl p ↦ absurd (no_done BadGet g p.1)
-      | inr p ↦ (p.0, done_is e.given g p.1)
-    ]
-
-end_here : (q : Putting) (t : List ℕ) (r : Reading) (s : Section) (total : ℕ) (e : Ended) → Here t r.state.mode r.held q.get → end_fault r.state.mode ≡ None → AfterPiece (seen q t) r.held (piece r.state.mode) r.out r.place e → e.state.get ≡ false
-    → section (put_on r.out e.given r.place.line r.held) r.used false r.place.line ≡ s → r.used ≡ total → CutFrom q (t ++ []) total s
-end_here q t r s total e (inl d) f a g h u =
-    let gap : put_as q r.held (piece Blank) q.get ≡ Some a.0 = subst (λ (m : Mode). put_as q r.held (piece m) q.get ≡ Some a.0) d.1 (subst (λ (x : List ℕ). put_as (seen q x) r.held (piece r.state.mode) (seen q x).get ≡ Some a.0) d.0 a.1) in
-    let same = some_put q a.0 gap in
-    subst (λ (x : List ℕ). CutFrom q (x ++ []) total s) (sym d.0) (subst (λ (x : Putting). CutFrom x [] total s) (sym same) (nothing_left a.0 s total r.used _ e.state _ a.2 g h u))
-end_here q t r s total e (inr (inl d)) f a g h u =
-    let reads = piece_reads t r.state.mode d.1 in
-    let w = whole_if_no_fault r.state.mode t reads f in
-    more_cut q a.0 w.0 t [] total s (reads_piece r.state.mode w.0 t reads w.1) (nothing_longest t) (piece_put q t r.held r.state.mode w.0 a.0 d.0 (no_dot_sort r.state.mode w.0 d.2 w.1) (piece_is r.state.mode w.0 t reads w.1) a.1) (nothing_left a.0 s total r.used _ e.state _ a.2 g h u)
-end_here q t r s total e (inr (inr d)) f a g h u =
-    absurd (let z : end_fault (Name (length d.0.0)) ≡ None = subst (λ (m : Mode). end_fault m ≡ None) d.0.2 f in cc)
-
-sound_end : (total : ℕ) (s : Section) → Follows (λ q text. CutFrom q text total s) (Ok s) total []
-unfolding run
-sound_end total s q t r here a h u =
-    let x = end_ok r (finished r.state) s h in
-    let y = finished_ok r.state (end_fault r.state.mode) x.0 x.1 in
-    let z = ok_bind (ended r.state) (λ e. no_get e) x.0 y.1 in
-    let w = no_get_ok z.0 x.0 z.2 in
-    let after = ended_agrees (piece r.state.mode) (seen q t) r.out r.state r.place r.held z.0 a z.1 in
-    end_here q t r s total z.0 here y.0 after w.0 (ap (λ (g : Given). section (put_on r.out g r.place.line r.held) r.used false r.place.line) w.1 ∙ x.2) (omega (arith, u.0))
-
 -- ---- a cutting is concluded
 
 dot_cut : (total : ℕ) (s : Section) (more : List ℕ) (q : Putting) (out : List Symbol) (x : State) (k line gl used : ℕ) → Agrees q out x (at line gl) → x.get ≡ false → (let a : Result Section SourceFault = Ok (section out (used + 1) true line) in a) ≡ Ok s → Counted k (used + 1) more total
@@ -135,6 +95,37 @@ concludes_cut total s = record {
   before = λ q q2 k t rest. more_cut q q2 k t rest total s;
   at_dot = dot_cut total s;
 }
+
+-- ---- the text's end
+
+end_ok : (r : Reading) (x : Result Given Fault) (s : Section) → end_as r x ≡ Ok s → (g : Given) × (x ≡ Ok g) × (section (put_on r.out g r.place.line r.held) r.used false r.place.line ≡ s)
+end_ok r (Ok g) s e = (g, refl, cc)
+end_ok r (Err f) s e = absurd cc
+
+finished_ok : (st : State) (o : Option Fault) (g : Given) → finished_as st o ≡ Ok g → (o ≡ None) × ((ended st >>= λ e. no_get e) ≡ Ok g)
+finished_ok st None g e = (refl, e)
+finished_ok st (Some f) g e = absurd cc
+
+no_get_ok : (e : Ended) (g : Given) → no_get e ≡ Ok g → (e.state.get ≡ false) × (e.given ≡ g)
+no_get_ok e g h =
+    elim (picks e.state.get (Err BadGet) (done e.given) (done g) h) [
+      | inl p ↦ absurd (no_done BadGet g p.1)
+      | inr p ↦ (p.0, done_is e.given g p.1)
+    ]
+
+end_here : (q : Putting) (t : List ℕ) (r : Reading) (s : Section) (total : ℕ) (e : Ended) → Here t r.state.mode r.held q.get → end_fault r.state.mode ≡ None → AfterPiece (seen q t) r.held (piece r.state.mode) r.out r.place e → e.state.get ≡ false
+    → section (put_on r.out e.given r.place.line r.held) r.used false r.place.line ≡ s → r.used ≡ total → CutFrom q (t ++ []) total s
+end_here q t r s total e here f a g h u = end_before (λ q text. CutFrom q text total s) (Ok s) total (concludes_cut total s) q t r e here f a (nothing_left a.0 s total r.used _ e.state _ a.2 g h u)
+
+sound_end : (total : ℕ) (s : Section) → Follows (λ q text. CutFrom q text total s) (Ok s) total []
+unfolding run
+sound_end total s q t r here a h u =
+    let x = end_ok r (finished r.state) s h in
+    let y = finished_ok r.state (end_fault r.state.mode) x.0 x.1 in
+    let z = ok_bind (ended r.state) (λ e. no_get e) x.0 y.1 in
+    let w = no_get_ok z.0 x.0 z.2 in
+    let after = ended_agrees (piece r.state.mode) (seen q t) r.out r.state r.place r.held z.0 a z.1 in
+    end_here q t r s total z.0 here y.0 after w.0 (ap (λ (g : Given). section (put_on r.out g r.place.line r.held) r.used false r.place.line) w.1 ∙ x.2) (omega (arith, u.0))
 
 within_bytes : (n : ℕ) (y : Result Step Fault) (t : Step) → within n y ≡ Ok t → (t.state.bytes + 1 ≡ n)
 within_bytes n (Ok u) t e =

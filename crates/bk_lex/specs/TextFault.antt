@@ -1,5 +1,5 @@
 -- The faults of a text's first section, by what the text is: what begins with each, and where it stands.
-use Rattle.std.specs.Prelude.{ℕ, ◌<◌, ◌≤◌, ◌≡◌, ◌⊎◌, Bool, true, false, ◌==◌, List, [], ◌∷◌, ◌++◌, length}
+use Rattle.std.specs.Prelude.{ℕ, ◌<◌, ◌≤◌, ◌≡◌, ◌⊎◌, Bool, true, false, ◌==◌, Option, Some, None, List, [], ◌∷◌, ◌++◌, length}
 use Rattle.bk_base.specs.declared.source_fault.SourceFault.{SourceFault}
 use Rattle.bk_base.specs.declared.source_fault.SourceKind.{SourceKind}
 use Rattle.bk_base.specs.declared.source_fault.SourceKind.TheVariants.{BadByte, BadString, BadEscape, NumberOver32Bits, NameTooLong, TagTooLong, SectionTooLong, BadGet}
@@ -9,8 +9,9 @@ use Rattle.bk_lex.specs.declared.machine.Base.{Base}
 use Rattle.bk_lex.specs.declared.machine.Side.{Side}
 use Rattle.bk_lex.specs.Bytes.{is_feed, is_escape}
 use Rattle.bk_lex.specs.Lexing.{line_after}
-use Rattle.bk_lex.specs.Pieces.{Sort, Spelled, Piece, CutsTo, Holds, IsOne, IsWord, IsLead, AreDigits, value_from, bracket_byte, IsTag}
-use Rattle.bk_lex.specs.Tokens.{is_dot_sort}
+use Rattle.bk_lex.specs.Pieces.{Sort, blank, comment, Spelled, Piece, CutsTo, Holds, IsOne, IsWord, IsLead, AreDigits, value_from, bracket_byte, IsTag}
+use Rattle.bk_lex.specs.Tokens.{is_dot_sort, header_named, Putting, putting, puts}
+use Rattle.bk_lex.specs.declared.machine.Header.{Header}
 
 -- a line feed, a piece of its own, ends the line; no other piece begins with one
 abbrev pub line_behind : List ℕ → ℕ → ℕ
@@ -71,14 +72,40 @@ pub record Stands (kind : SourceKind) (from line : ℕ) (text : List ℕ) : Type
   pub begins : Begins kind rest
   pub at : line ≡ line_past from pieces
 
--- a text whose first line has the number `from` has a fault. Not said yet of a section too long and of a bad GET
-abbrev pub HasKind : SourceKind → ℕ → ℕ → List ℕ → Type 0
-HasKind SectionTooLong from line text = Unit {0}
-HasKind BadGet from line text = Unit {0}
-HasKind kind from line text = Stands kind from line text
+-- neither a blank nor a comment is next
+abbrev pub is_gap : Sort → Bool
+is_gap blank = true
+is_gap comment = true
+is_gap _ = false
 
+abbrev pub NoGap : List ℕ → Type 0
+NoGap text = (k : Sort) (front tail : List ℕ) → is_gap k ≡ true → text ≡ front ++ tail → Spelled k front → ⊥
+
+-- no beginning of a text names a header
+abbrev pub NoHeader : List ℕ → Type 0
+NoHeader text = (h : Header) (front tail : List ℕ) → text ≡ front ++ tail → header_named front ≡ Some h → ⊥
+
+-- behind pieces, the last of them but blanks and comments a GET, the text goes on, or ends, with no string that names a
+-- header; the fault stands on the line of the GET
+pub record Misnames (q : Putting) (line : ℕ) (text : List ℕ) : Type 0 where
+  pub pieces : List Piece
+  pub rest : List ℕ
+  pub cut : CutsTo text pieces rest
+  pub last : Putting
+  pub tokens : puts (Some q) pieces ≡ Some last
+  pub get : last.get ≡ Some line
+  pub due : NoGap rest
+  pub other : NoHeader rest
+
+-- behind some tokens a text has a fault on a line. Of a section too long this says nothing
+abbrev pub HasKind : SourceKind → Putting → ℕ → List ℕ → Type 0
+HasKind SectionTooLong q line text = Unit {0}
+HasKind BadGet q line text = Misnames q line text
+HasKind kind q line text = Stands kind q.line line text
+
+-- a text whose first line has the number `from` has a fault in its first section
 abbrev pub HasFault : ℕ → SourceFault → List ℕ → Type 0
-HasFault from f text = HasKind f.kind from f.line text
+HasFault from f text = HasKind f.kind (putting [] None false from None) f.line text
 
 -- what a call says of a fault
 abbrev pub SaysFault : Refused SourceFault → ℕ → List ℕ → Type 0

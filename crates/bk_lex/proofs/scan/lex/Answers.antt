@@ -1,5 +1,4 @@
 use Rattle.bk_lex.proofs.Faulty.{given_fault}
-use Rattle.bk_lex.proofs.FaultBegins.{bad_no_piece}
 use Rattle.bk_lex.proofs.Sound.{given_section}
 use Rattle.bk_lex.proofs.Complete.{given_only}
 use Rattle.bk_lex.proofs.scan.lex.Goals as goal
