@@ -30,14 +30,15 @@ use Rattle.bk_base.specs.declared.refused.Refused.{Refused}
 use Rattle.bk_lex.specs.Lexing.{Gives, Section, section, run, lexed, put_on, at, get_line_after}
 use Rattle.bk_lex.specs.Pieces.{Sort, Spelled, IsBounded, NoLonger, Piece, CutsTo}
 use Rattle.bk_lex.specs.Tokens.{what_of, header_named, Putting, putting, seen, named_as, put_as, is_dot_sort, put, puts, Ends, IsSection}
+use Rattle.bk_lex.specs.TextFault.{waiting, weight, room}
 use Rattle.bk_lex.proofs.Walk.{walk, walk_piece, then_goes, begins, begins_goes}
 use Rattle.bk_lex.proofs.Modes.{piece_reads}
 use Rattle.bk_lex.proofs.Naming.{name_plain}
-use Rattle.bk_lex.proofs.Soundness.{GetAgrees, waiting, Agrees, ended_agrees, piece_is}
+use Rattle.bk_lex.proofs.Soundness.{GetAgrees, Agrees, ended_agrees, piece_is}
 use Rattle.bk_lex.proofs.Onward.{begun_agrees, some_put, header_length}
 use Rattle.bk_lex.proofs.Stops.{longest_stops, bounded_over, Stops}
 use Rattle.bk_lex.proofs.Runs.{has_room, run_goes, gone_on, resting, first_on, run_first, run_ends, named_on, run_named}
-use Rattle.bk_lex.proofs.Firsts.{room, Begun, piece_begins, weight, no_put, weight_same, insertion_length, PutOf, put_of, puts_next, puts_weight}
+use Rattle.bk_lex.proofs.Firsts.{Begun, piece_begins, no_put, weight_same, insertion_length, PutOf, put_of, puts_next, puts_weight}
 
 -- ---- a piece that is not the string of a GET
 
@@ -61,7 +62,7 @@ put_room q q2 t whats.Get None e o h =
     omega (arith, same, wait)
 put_room q q2 t whats.Get (Some g) e o h = absurd o
 
-rooms_same : (q : Putting) (out : List Symbol) (x : State) (place : Place) (w : What) (f g : Bool) → Agrees q out x place → f ≡ g → room x.last f w ≡ room q.last g w
+pub rooms_same : (q : Putting) (out : List Symbol) (x : State) (place : Place) (w : What) (f g : Bool) → Agrees q out x place → f ≡ g → room x.last f w ≡ room q.last g w
 rooms_same q out x place w f g a e = ap (λ (y : Bool). room x.last y w) e ∙ ap (λ y. room y g w) a.last
 
 off : (q : Putting) (out : List Symbol) (x : State) (place : Place) (get : Option ℕ) → q.get ≡ get → Agrees q out x place → GetAgrees get x.get place.get_line

@@ -71,7 +71,7 @@ whole_long QuoteEscape k c e = absurd cc
 whole_long QuoteFull k c e = absurd cc
 whole_long (Name n) k c e = absurd cc
 
-abbrev FromWhole : Next → Type 0
+abbrev pub FromWhole : Next → Type 0
 FromWhole (Goes n) = IsWhole n
 FromWhole Ends = Unit {0}
 FromWhole (Names h) = Unit {0}
@@ -98,7 +98,7 @@ piece_bad (b ∷ bs) v f e = step (fresh b) e
     step (Some m) h = walk_bad m bs v f h
 
 -- so no beginning of these bytes is a piece
-from_piece : (w front tail : List ℕ) (k : Sort) → w ≡ front ++ tail → Spelled k front → FromWhole (walk_piece w)
+pub from_piece : (w front tail : List ℕ) (k : Sort) → w ≡ front ++ tail → Spelled k front → FromWhole (walk_piece w)
 from_piece w front tail k e h =
     elim (spelled_gone k front h) [
       | inl p ↦ subst FromWhole (sym (ap walk_piece e ∙ walk_piece-append p.0 front tail p.1)) (from_whole tail p.0 (k, p.2))

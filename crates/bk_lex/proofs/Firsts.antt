@@ -25,16 +25,11 @@ use Rattle.bk_lex.specs.Counting.{room_for, least_room, sign_room, mode_begun}
 use Rattle.bk_lex.specs.Lexing.{is_dot, inserted_symbols}
 use Rattle.bk_lex.specs.Pieces.{Sort, blank, comment, dot, word, number, bracket, string, character, sign, Spelled, Piece}
 use Rattle.bk_lex.specs.Tokens.{what_of, header_named, Putting, seen, named_as, put_as, is_dot_sort, put, puts}
+use Rattle.bk_lex.specs.TextFault.{waiting, weight, room}
 use Rattle.bk_lex.proofs.Goings.{letter_goes, digit_goes, blank_goes}
-use Rattle.bk_lex.proofs.Soundness.{waiting}
 use Rattle.bk_lex.proofs.Onward.{some_put, seen_get, header_length}
 
 -- ---- the mode behind the first byte of a piece, and how many symbols it asks for
-
-abbrev pub room : Option Kind → Bool → What → ℕ
-room last fed whats.Gap = 0
-room last fed whats.Get = 1
-room last fed (whats.Symbol k) = room_for (inserted last k fed)
 
 no_insertion : (last : Option Kind) (k : Kind) (fed : Bool) → begins_statement k ≡ false → begins_command k ≡ false → inserted last k fed ≡ None
 no_insertion None k fed s c = refl
@@ -185,9 +180,6 @@ piece_begins character t h d = at_first t _ Quote 39 _ h.1 (one_begun Quote _ 39
 piece_begins (sign s) t h d = sign_begins s t h
 
 -- ---- how many symbols there are
-
-abbrev pub weight : Putting → ℕ
-weight q = length q.out + waiting q.get
 
 pub no_put : {A : Type 0} (q : Putting) → (let o : Option Putting = None in o) ≡ Some q → A
 no_put q e = absurd cc

@@ -1,5 +1,6 @@
 -- Where the machine tells a bad GET, no string that names a header follows it.
-use Rattle.std.proofs.Common.{◌≡◌, ℕ, ◌+◌, ◌-◌, ◌||◌, Bool, true, false, cond, ◌&&◌, eqb, ltb, List, [], ◌∷◌, ◌++◌, length, Option, Some, None, Result, Ok, Err, refl, sym, ap, subst, ◌∙◌, append_assoc, ◌⊎◌, inl, inr}
+use Rattle.std.proofs.Common.{◌≡◌, ℕ, ◌<◌, ◌+◌, ◌-◌, ◌||◌, Bool, true, false, cond, ◌&&◌, eqb, ltb, List, [], ◌∷◌, ◌++◌, length, Option, Some, None, Result, Ok, Err, refl, sym, ap, subst, ◌∙◌, append_assoc, ◌⊎◌, inl, inr}
+use Rattle.std.proofs.lemmas.Bool.{ltb-true}
 use Rattle.bk_lex.specs.Bytes.{is_blank}
 use Rattle.bk_lex.specs.Signs.{spelling, is_slash}
 use Rattle.bk_lex.specs.declared.sign.Sign.{Sign}
@@ -23,7 +24,7 @@ use Rattle.bk_lex.specs.Counting.{ended_what, ended_as, state, begun, mode_begun
 use Rattle.bk_lex.specs.Lexing.{told, get_line_after}
 use Rattle.bk_lex.specs.Pieces.{Sort, blank, comment, dot, word, number, bracket, string, character, sign, Spelled}
 use Rattle.bk_lex.specs.Tokens.{Putting, header_named}
-use Rattle.bk_lex.specs.TextFault.{Misnames, NoGap, NoHeader, is_gap}
+use Rattle.bk_lex.specs.TextFault.{room, Misnames, NoGap, NoHeader, is_gap}
 use Rattle.bk_lex.proofs.SignLemmas.{picks}
 use Rattle.bk_lex.proofs.Walk.{walk, walk-append, and_then}
 use Rattle.bk_lex.proofs.Modes.{Reads}
@@ -45,12 +46,12 @@ pub no_err : {A B : Type 0} (a : A) (f : Fault) → (let x : Result A Fault = Ok
 no_err a f e = absurd cc
 
 abbrev pub EndFaults : State → What → Fault → Type 0
-EndFaults s w g = (g ≡ SectionTooLong) ⊎ ((g ≡ BadGet) × (s.get ≡ true) × (w ≡ whats.Gap → ⊥))
+EndFaults s w g = ((g ≡ SectionTooLong) × (s.symbols < room s.last s.fed w)) ⊎ ((g ≡ BadGet) × (s.get ≡ true) × (w ≡ whats.Gap → ⊥))
 
-get_faults : {A : Type 0} (s : State) (w : What) (g : Fault) (b : Bool) (x : A) → (w ≡ whats.Gap → ⊥) → cond b (Err SectionTooLong) (cond s.get (Err BadGet) (Ok x)) ≡ Err g → EndFaults s w g
-get_faults s w g b x n e =
-    elim (picks b (Err SectionTooLong) (cond s.get (Err BadGet) (Ok x)) (Err g) e) [
-      | inl p ↦ inl (sym (err_is SectionTooLong g p.1))
+get_faults : {A : Type 0} (s : State) (w : What) (g : Fault) (x : A) → (w ≡ whats.Gap → ⊥) → cond (ltb s.symbols (room s.last s.fed w)) (Err SectionTooLong) (cond s.get (Err BadGet) (Ok x)) ≡ Err g → EndFaults s w g
+get_faults s w g x n e =
+    elim (picks (ltb s.symbols (room s.last s.fed w)) (Err SectionTooLong) (cond s.get (Err BadGet) (Ok x)) (Err g) e) [
+      | inl p ↦ inl (sym (err_is SectionTooLong g p.1), ltb-true s.symbols (room s.last s.fed w) p.0)
       | inr p ↦ elim (picks s.get (Err BadGet) (Ok x) (Err g) p.1) [
         | inl q ↦ inr (sym (err_is BadGet g q.1), q.0, n)
         | inr q ↦ no_err x g q.1
@@ -59,8 +60,8 @@ get_faults s w g b x n e =
 
 pub ended_err : (w : What) (s : State) (g : Fault) → ended_what s w ≡ Err g → EndFaults s w g
 ended_err whats.Gap s g e = no_err _ g e
-ended_err whats.Get s g e = get_faults s whats.Get g (ltb s.symbols 1) _ (λ h. cc) e
-ended_err (whats.Symbol k) s g e = get_faults s (whats.Symbol k) g (ltb s.symbols (room_for (inserted s.last k s.fed))) _ (λ h. cc) e
+ended_err whats.Get s g e = get_faults s whats.Get g _ (λ h. cc) e
+ended_err (whats.Symbol k) s g e = get_faults s (whats.Symbol k) g _ (λ h. cc) e
 
 in_get_err : (m : Mode) (g : Fault) → in_get m ≡ Err g → g ≡ BadGet
 in_get_err Blank g e = no_err Blank g e
@@ -87,7 +88,7 @@ in_get_err QuoteEnd g e = sym (err_is BadGet g e)
 in_get_err (Name n) g e = sym (err_is BadGet g e)
 
 abbrev pub BeginFaults : State → Mode → Fault → Type 0
-BeginFaults s m g = (g ≡ SectionTooLong) ⊎ ((g ≡ BadGet) × (s.get ≡ true) × (in_get m ≡ Err BadGet))
+BeginFaults s m g = ((g ≡ SectionTooLong) × (s.symbols < least_room s m)) ⊎ ((g ≡ BadGet) × (s.get ≡ true) × (in_get m ≡ Err BadGet))
 
 mode_err : (get : Bool) (m : Mode) (g : Fault) → mode_begun get m ≡ Err g → (get ≡ true) × (in_get m ≡ Err g)
 mode_err true m g e = (refl, e)
@@ -100,7 +101,7 @@ good_err (Err x) f g e = ap lexer_error (err_is x g e)
 pub begun_err : (s : State) (m : Mode) (b : ℕ) (g : Fault) → begun s m b ≡ Err g → BeginFaults s m g
 begun_err s m b g e =
     elim (picks (ltb s.symbols (least_room s m)) (Err SectionTooLong) (mode_begun s.get m >>= λ n. Ok (state n s.bytes s.symbols s.last (s.fed || eqb b 10) s.get)) (Err g) e) [
-      | inl p ↦ inl (sym (err_is SectionTooLong g p.1))
+      | inl p ↦ inl (sym (err_is SectionTooLong g p.1), ltb-true s.symbols (least_room s m) p.0)
       | inr p ↦ (let x = mode_err s.get m g (good_err (mode_begun s.get m) (λ n. state n s.bytes s.symbols s.last (s.fed || eqb b 10) s.get) g p.1) in
           let bad = in_get_err m g x.1 in
           inr (bad, x.0, x.1 ∙ ap lexer_error bad))

@@ -15,4 +15,5 @@ pub mod Firsts
 pub mod Complete
 pub mod FaultBegins
 pub mod GetFaults
+pub mod LongFaults
 pub mod Faulty

@@ -39,13 +39,14 @@ use Rattle.bk_lex.specs.Counting.{state, with_mode, step_of, moved, within, fini
 use Rattle.bk_lex.specs.Lexing.{Gives, section_of, lexed, begin, Section, section, Reading, reading, read, read_on, run, end_as, is_dot, put_on, at, get_line_after, line_after}
 use Rattle.bk_lex.specs.Pieces.{Sort, blank, comment, word, number, bracket, string, character, sign, NoLonger}
 use Rattle.bk_lex.specs.Tokens.{named_as, what_of, Putting, putting, seen, put_as, put, is_dot_sort, CutFrom, IsSection}
+use Rattle.bk_lex.specs.TextFault.{waiting}
 use Rattle.bk_lex.proofs.SignLemmas.{picks}
 use Rattle.bk_lex.proofs.Walk.{goes_is, walk_piece, walk_piece-append, one_walk, walk}
 use Rattle.bk_lex.proofs.Modes.{Reads, fresh_reads, piece_reads}
 use Rattle.bk_lex.proofs.Goings.{sort_of, IsPiece, reads_piece}
 use Rattle.bk_lex.proofs.Wholes.{ends_longest, nothing_longest, whole_at_end, whole_if_no_fault, cond_all}
 use Rattle.bk_lex.proofs.Naming.{Naming, naming_begins, naming_step, NamesWhole, names_walk}
-use Rattle.bk_lex.proofs.Soundness.{ok_bind, done, done_is, no_done, read_ok, within_ok, fewer, GetAgrees, waiting, Agrees, AfterPiece, ended_agrees, piece_is, more_cut}
+use Rattle.bk_lex.proofs.Soundness.{ok_bind, done, done_is, no_done, read_ok, within_ok, fewer, GetAgrees, Agrees, AfterPiece, ended_agrees, piece_is, more_cut}
 use Rattle.bk_lex.proofs.Steps.{behind}
 
 -- where the string of a GET is due, only a blank, a comment or a `/` goes on
@@ -347,7 +348,7 @@ goes_here q t m n held c get (inr (inr d)) e =
     let s : Naming (t ++ c ∷ []) n = naming_step t m c d.0 (nexts.Goes n) e in
     (inr (inr (s, d.1)), ap is_dot s.2, (34, d.0.0, d.0.1))
 
-seen_more : (q : Putting) (t : List ℕ) (b : ℕ) (bs : List ℕ) (c : ℕ) → t ≡ b ∷ bs → seen q (t ++ c ∷ []) ≡ seen q t
+pub seen_more : (q : Putting) (t : List ℕ) (b : ℕ) (bs : List ℕ) (c : ℕ) → t ≡ b ∷ bs → seen q (t ++ c ∷ []) ≡ seen q t
 seen_more q t b bs c e = ap (λ (x : List ℕ). seen q (x ++ c ∷ [])) e ∙ ap (λ (x : List ℕ). seen q x) (sym e)
 
 goes_sound : (C : Putting → List ℕ → Type 0) (X : Result Section SourceFault) (total : ℕ) (g0 : Concludes C X total) (c : ℕ) (more : List ℕ) (ih : Follows C X total more) (q : Putting) (t : List ℕ) (r : Reading) (n : Mode) → Here t r.state.mode r.held q.get → Agrees (seen q t) r.out r.state r.place → next r.state.mode c ≡ nexts.Goes n
@@ -408,7 +409,7 @@ pub header_length : (h : Header) (line : ℕ) → length (header_symbols h line)
 header_length Plain line = refl
 header_length Formatted line = refl
 
-string_longest : (t : List ℕ) (rest : List ℕ) → walk_piece t ≡ nexts.Goes TextEnd → NoLonger t rest
+pub string_longest : (t : List ℕ) (rest : List ℕ) → walk_piece t ≡ nexts.Goes TextEnd → NoLonger t rest
 string_longest t [] w = nothing_longest t
 string_longest t (c ∷ more) w = ends_longest TextEnd t c more w refl
 

@@ -38,13 +38,14 @@ use Rattle.bk_lex.specs.Counting.{state, with_mode, step_of, moved, within, fini
 use Rattle.bk_lex.specs.Lexing.{Gives, section_of, lexed, begin, Section, section, Reading, reading, read, read_on, run, end_as, is_dot, put_on, at, get_line_after, line_after}
 use Rattle.bk_lex.specs.Pieces.{Sort, blank, comment, word, number, bracket, string, character, sign, NoLonger}
 use Rattle.bk_lex.specs.Tokens.{named_as, what_of, Putting, putting, seen, put_as, put, is_dot_sort, CutFrom, IsSection}
+use Rattle.bk_lex.specs.TextFault.{waiting}
 use Rattle.bk_lex.proofs.SignLemmas.{picks}
 use Rattle.bk_lex.proofs.Walk.{walk_piece, walk_piece-append, one_walk, walk}
 use Rattle.bk_lex.proofs.Modes.{Reads, fresh_reads, piece_reads}
 use Rattle.bk_lex.proofs.Goings.{sort_of, IsPiece, reads_piece}
 use Rattle.bk_lex.proofs.Wholes.{ends_longest, nothing_longest, whole_at_end, whole_if_no_fault, cond_all}
 use Rattle.bk_lex.proofs.Naming.{Naming, naming_begins, naming_step, NamesWhole, names_walk}
-use Rattle.bk_lex.proofs.Soundness.{ok_bind, done, done_is, no_done, read_ok, within_ok, fewer, GetAgrees, waiting, Agrees, AfterPiece, ended_agrees, piece_is, more_cut}
+use Rattle.bk_lex.proofs.Soundness.{ok_bind, done, done_is, no_done, read_ok, within_ok, fewer, GetAgrees, Agrees, AfterPiece, ended_agrees, piece_is, more_cut}
 use Rattle.bk_lex.proofs.Steps.{behind}
 use Rattle.bk_lex.proofs.Onward.{Here, Counted, Concludes, Follows, some_put, piece_put, no_dot_sort, no_get_due, end_before, step_sound}
 
