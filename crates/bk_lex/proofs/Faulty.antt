@@ -32,7 +32,7 @@ use Rattle.bk_lex.specs.Counting.{step_of, moved, within, past, finished, finish
 use Rattle.bk_lex.specs.Lexing.{Section, section, Reading, read, read_on, run, end_as, is_dot, told, told_kind, of_get, lexed, begin, Gives, line_after, get_line_after, put_on, at}
 use Rattle.bk_lex.specs.Pieces.{Sort, Piece, CutsTo, NoLonger}
 use Rattle.bk_lex.specs.Tokens.{Putting, putting, seen, put_as, named_as, header_named, what_of, put, puts, is_dot_sort}
-use Rattle.bk_lex.specs.TextFault.{Begins, Stands, Misnames, PassesBytes, PassesSymbols, room, InSection, HasKind, HasFault, SaysFault, line_behind, line_past}
+use Rattle.bk_lex.specs.TextFault.{Begins, Stands, Misnames, PassesBytes, PassesSymbols, room, InSection, HasKind, HasFault, line_behind, line_past}
 use Rattle.bk_lex.proofs.SignLemmas.{picks}
 use Rattle.bk_lex.proofs.Walk.{walk, walk_piece, begins, and_then}
 use Rattle.bk_lex.proofs.Modes.{Reads, piece_reads}
@@ -474,12 +474,3 @@ faulty f total (c ∷ more) q t r here a h l = byte_faulty f total c more (fault
 pub lexed_has_fault : (text : List ℕ) (from : ℕ) (f : SourceFault) → lexed text from ≡ Err f → HasFault from f text
 lexed_has_fault text from f h =
     faulty f (length text) text (putting [] None false from None) [] (begin from) (inl (refl, refl)) record { same = refl; last = refl; fed = refl; line = refl; get = refl; count = refl } h (omega arith, refl)
-
-says : (text : List ℕ) (from : ℕ) (e : Refused SourceFault) → (let r : Result Lexed (Refused SourceFault) = Err e in Gives r (lexed text from)) → SaysFault e from text
-says text from (refusals.Fault f) h = lexed_has_fault text from f h
-says text from refusals.Memory h = tt
-says text from refusals.Device h = absurd h
-
-pub given_fault : (text : List ℕ) (from : ℕ) (r : Result Lexed (Refused SourceFault)) → Gives r (lexed text from) → IfErr r (λ e. SaysFault e from text)
-given_fault text from (Ok l) h = tt
-given_fault text from (Err e) h = says text from e h

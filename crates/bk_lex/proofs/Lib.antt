@@ -17,3 +17,4 @@ pub mod FaultBegins
 pub mod GetFaults
 pub mod LongFaults
 pub mod Faulty
+pub mod Certain

@@ -12,4 +12,5 @@ pub mod Pieces
 pub mod Tokens
 pub mod Values
 pub mod TextFault
+pub mod Telling
 pub mod LexLaws

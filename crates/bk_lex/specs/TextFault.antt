@@ -3,8 +3,6 @@ use Rattle.std.specs.Prelude.{ℕ, ◌+◌, ◌<◌, ◌≤◌, ◌≡◌, ◌�
 use Rattle.bk_base.specs.declared.source_fault.SourceFault.{SourceFault}
 use Rattle.bk_base.specs.declared.source_fault.SourceKind.{SourceKind}
 use Rattle.bk_base.specs.declared.source_fault.SourceKind.TheVariants.{BadByte, BadString, BadEscape, NumberOver32Bits, NameTooLong, TagTooLong, SectionTooLong, BadGet}
-use Rattle.bk_base.specs.declared.refused.Refused.{Refused}
-use Rattle.bk_base.specs.declared.refused.Refused.TheVariants.{Fault, Memory, Device}
 use Rattle.bk_lex.specs.declared.machine.Base.{Base}
 use Rattle.bk_lex.specs.declared.machine.Side.{Side}
 use Rattle.bk_lex.specs.Bytes.{is_letter, is_digit, is_feed, is_escape}
@@ -165,9 +163,3 @@ HasKind kind total q line text = Stands kind q.line line text
 -- a text whose first line has the number `from` has a fault in its first section
 abbrev pub HasFault : ℕ → SourceFault → List ℕ → Type 0
 HasFault from f text = HasKind f.kind (length text) (putting [] None false from None) f.line text
-
--- what a call says of a fault
-abbrev pub SaysFault : Refused SourceFault → ℕ → List ℕ → Type 0
-SaysFault (Fault f) from text = HasFault from f text
-SaysFault Memory from text = Unit {0}
-SaysFault Device from text = Unit {0}
