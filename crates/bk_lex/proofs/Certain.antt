@@ -1,5 +1,5 @@
 -- The fault that is told at a byte stands there whatever follows.
-use Rattle.std.proofs.Common.{◌≡◌, ℕ, List, [], ◌∷◌, ◌++◌, Result, Ok, Err, Option, Some, None, refl, sym, ap, ◌∙◌, append_assoc, ◌⊎◌, inl, inr}
+use Rattle.std.proofs.Common.{◌≡◌, ℕ, List, [], ◌∷◌, ◌++◌, Result, Ok, Err, Option, Some, None, refl, sym, ap, ◌∙◌, append_assoc, inl, inr}
 use Rattle.std.specs.Prelude.{IfErr}
 use Rattle.bk_base.specs.declared.source_fault.SourceFault.{SourceFault}
 use Rattle.bk_base.specs.declared.refused.Refused.{Refused}
@@ -9,8 +9,7 @@ use Rattle.bk_lex.specs.declared.scan.Lexed.{Lexed}
 use Rattle.bk_lex.specs.Counting.{start}
 use Rattle.bk_lex.specs.Lexing.{lexed, Gives}
 use Rattle.bk_lex.specs.Cutting.{goes_on, state_behind}
-use Rattle.bk_lex.specs.TextFault.{HasFault}
-use Rattle.bk_lex.specs.Telling.{Certain, ToldByByte, Told, SaysFault}
+use Rattle.bk_lex.specs.Telling.{ToldByByte, Told, SaysFault}
 use Rattle.bk_lex.proofs.Cuts.{settled}
 use Rattle.bk_lex.proofs.Faulty.{lexed_has_fault}
 

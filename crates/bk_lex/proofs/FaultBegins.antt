@@ -1,5 +1,5 @@
 -- Where the machine faults within a piece, a fault begins.
-use Rattle.std.proofs.Common.{◌≡◌, ℕ, ◌+◌, ◌-◌, ◌*◌, ◌<◌, ◌≤◌, Bool, true, false, cond, ◌&&◌, ◌||◌, not, eqb, leb, ltb, List, [], ◌∷◌, ◌++◌, length, Option, Some, None, refl, sym, ap, subst, ◌∙◌, arith, append_assoc, ◌⊎◌, inl, inr}
+use Rattle.std.proofs.Common.{◌≡◌, ℕ, ◌+◌, ◌*◌, ◌<◌, ◌≤◌, Bool, true, false, cond, ◌&&◌, ◌||◌, not, eqb, leb, ltb, List, [], ◌∷◌, ◌++◌, length, Option, Some, None, refl, sym, ap, subst, ◌∙◌, arith, append_assoc, ◌⊎◌, inl, inr}
 use Rattle.std.proofs.lemmas.Bool.{ltb-true, leb-true, eqb-true}
 use Rattle.std.proofs.lemmas.List.{length-append, append-nil}
 use Rattle.bk_lex.specs.Bytes.{is_name_byte, is_feed, is_escape, digit_value}
@@ -20,12 +20,12 @@ use Rattle.bk_lex.specs.declared.machine.Next.{Next}
 use Rattle.bk_lex.specs.declared.machine.Next.TheVariants.{Goes, Ends, Names, Bad}
 use Rattle.bk_lex.specs.Machine.{fresh, next, is_digit_of, digits_in, digits_with, first_digit, one_more, grows, end_fault}
 use Rattle.bk_lex.specs.Lexing.{told_kind}
-use Rattle.bk_lex.specs.Pieces.{Sort, IsLead, AreDigits, value_from, Holds, plain, escape, IsOne, Spelled}
-use Rattle.bk_lex.specs.TextFault.{Begins, NoPiece, Breaks, NotClosed}
+use Rattle.bk_lex.specs.Pieces.{Sort, IsLead, value_from, Holds, plain, escape, IsOne, Spelled}
+use Rattle.bk_lex.specs.TextFault.{Begins, NoPiece, Breaks}
 use Rattle.bk_lex.proofs.SignLemmas.{picks}
-use Rattle.bk_lex.proofs.Walk.{walk, walk_piece, walk-append, walk_piece-append, walk_bad, and_then, begins}
+use Rattle.bk_lex.proofs.Walk.{walk, walk_piece, walk_piece-append, walk_bad, and_then, begins}
 use Rattle.bk_lex.proofs.Modes.{Reads, not_true, or_true, or_false, word_more, digits_more, value_more, tag_more}
-use Rattle.bk_lex.proofs.Goings.{sort_of, is_long, Gone}
+use Rattle.bk_lex.proofs.Goings.{sort_of, is_long}
 use Rattle.bk_lex.proofs.Wholes.{IsWhole, cond_all, spelled_gone}
 use Rattle.bk_lex.proofs.Naming.{Naming}
 use Rattle.bk_lex.proofs.Stops.{stays_whole}

@@ -1,15 +1,11 @@
 -- The fault that the machine tells stands in the text.
-use Rattle.std.proofs.Common.{◌≡◌, ℕ, ◌+◌, ◌-◌, ◌<◌, ◌≤◌, Bool, true, false, cond, ◌&&◌, ◌||◌, eqb, ltb, List, [], ◌∷◌, ◌++◌, length, Option, Some, None, Result, Ok, Err, refl, sym, ap, subst, ◌∙◌, arith, ◌⊎◌, inl, inr}
+use Rattle.std.proofs.Common.{◌≡◌, ℕ, ◌+◌, ◌<◌, Bool, true, false, cond, ◌&&◌, eqb, ltb, List, [], ◌∷◌, ◌++◌, length, Option, Some, None, Result, Ok, Err, refl, sym, ap, subst, ◌∙◌, arith, ◌⊎◌, inl, inr}
 use Rattle.std.proofs.lemmas.Bool.{eqb-true, ltb-false, ltb-true}
 use Rattle.std.proofs.lemmas.List.{append-nil}
-use Rattle.std.specs.Prelude.{IfErr}
 use Rattle.bk_base.specs.declared.source_fault.SourceFault.{SourceFault}
 use Rattle.bk_base.specs.declared.source_fault.SourceKind.{SourceKind}
 use Rattle.bk_base.specs.declared.source_fault.SourceKind.TheVariants as source_kinds
-use Rattle.bk_base.specs.declared.refused.Refused.{Refused}
-use Rattle.bk_base.specs.declared.refused.Refused.TheVariants as refusals
 use Rattle.bk_lex.specs.Symbol.{Symbol}
-use Rattle.bk_lex.specs.declared.scan.Lexed.{Lexed}
 use Rattle.bk_lex.specs.declared.scan.Place.{Place}
 use Rattle.bk_lex.specs.declared.reserved.What.{What}
 use Rattle.bk_lex.specs.declared.reserved.What.TheVariants as whats
@@ -17,7 +13,7 @@ use Rattle.bk_lex.specs.declared.machine.Fault.{Fault}
 use Rattle.bk_lex.specs.declared.machine.Fault.TheVariants.{BadByte, BadString, BadEscape, NumberOver32Bits, NameTooLong, TagTooLong, SectionTooLong, HeaderTooLong, BadGet}
 use Rattle.bk_lex.specs.declared.machine.Header.{Header}
 use Rattle.bk_lex.specs.declared.machine.Mode.{Mode}
-use Rattle.bk_lex.specs.declared.machine.Mode.TheVariants.{Blank, Comment, Dot, Word, Hash, HashX, Number, Dollar, Bracket, Text, TextEscape, TextEnd, Quote, QuoteEscape, QuoteFull, QuoteEnd, Mark, Name}
+use Rattle.bk_lex.specs.declared.machine.Mode.TheVariants.{Blank, Text, Quote}
 use Rattle.bk_lex.specs.declared.machine.Next.{Next}
 use Rattle.bk_lex.specs.declared.machine.Next.TheVariants as nexts
 use Rattle.bk_lex.specs.declared.counting.State.{State}
@@ -25,17 +21,15 @@ use Rattle.bk_lex.specs.declared.counting.Given.{Given}
 use Rattle.bk_lex.specs.declared.counting.Act.TheVariants as acts
 use Rattle.bk_lex.specs.declared.counting.Step.{Step}
 use Rattle.bk_lex.specs.declared.counting.Ended.{Ended}
-use Rattle.bk_lex.specs.Insertion.{inserted}
-use Rattle.bk_lex.specs.Signs.{is_slash}
 use Rattle.bk_lex.specs.Machine.{fresh, next, piece, end_fault}
-use Rattle.bk_lex.specs.Counting.{step_of, moved, within, past, finished, finished_as, no_get, ended, ended_what, opened, opened_as, begun, mode_begun, in_get, least_room, room_for, named, header_rest, stepped, state, ◌>>=◌}
-use Rattle.bk_lex.specs.Lexing.{Section, section, Reading, read, read_on, run, end_as, is_dot, told, told_kind, of_get, lexed, begin, Gives, line_after, get_line_after, put_on, at}
-use Rattle.bk_lex.specs.Pieces.{Sort, Piece, CutsTo, NoLonger}
-use Rattle.bk_lex.specs.Tokens.{Putting, putting, seen, put_as, named_as, header_named, what_of, put, puts, is_dot_sort}
-use Rattle.bk_lex.specs.TextFault.{Begins, Stands, Misnames, PassesBytes, PassesSymbols, room, InSection, HasKind, HasFault, line_behind, line_past}
+use Rattle.bk_lex.specs.Counting.{moved, within, past, finished, finished_as, no_get, ended, opened_as, begun, named, header_rest, stepped, ◌>>=◌}
+use Rattle.bk_lex.specs.Lexing.{Section, section, Reading, read_on, run, end_as, told, told_kind, lexed, begin, get_line_after, put_on, at}
+use Rattle.bk_lex.specs.Pieces.{Sort, Piece, NoLonger}
+use Rattle.bk_lex.specs.Tokens.{Putting, putting, seen, put_as, named_as, header_named, what_of, put, puts}
+use Rattle.bk_lex.specs.TextFault.{Begins, Stands, Misnames, PassesBytes, PassesSymbols, room, HasKind, HasFault, line_behind, line_past}
 use Rattle.bk_lex.proofs.SignLemmas.{picks}
 use Rattle.bk_lex.proofs.Walk.{walk, walk_piece, begins, and_then}
-use Rattle.bk_lex.proofs.Modes.{Reads, piece_reads}
+use Rattle.bk_lex.proofs.Modes.{piece_reads}
 use Rattle.bk_lex.proofs.Goings.{IsPiece, reads_piece}
 use Rattle.bk_lex.proofs.Wholes.{IsWhole, ends_longest, nothing_longest, whole_at_end, whole_if_no_fault}
 use Rattle.bk_lex.proofs.Naming.{Naming, naming_step}
@@ -44,7 +38,7 @@ use Rattle.bk_lex.proofs.LongFaults.{passes_from, passes_behind, passes_naming, 
 use Rattle.bk_lex.proofs.GetFaults.{lexer_error, err_is, no_err, good_err, ended_err, begun_err, told_line, nothing_misnames, first_misnames, slash_reads, slash_misnames, string_misnames}
 use Rattle.bk_lex.proofs.Onward.{no_names, OnlyGap, InDue, seen_get, get_due, due_line, piece_before, end_before, Here, Counted, Concludes, Follows, no_dot_sort, step_sound}
 use Rattle.bk_lex.proofs.Steps.{behind}
-use Rattle.bk_lex.proofs.Firsts.{PutOf, put_of, no_put}
+use Rattle.bk_lex.proofs.Firsts.{put_of, no_put}
 use Rattle.bk_lex.proofs.FaultBegins.{bad_no_piece, bad_begins, end_begins, naming_bad, naming_end}
 
 -- ---- lines

@@ -1,5 +1,5 @@
 -- Where the machine tells a bad GET, no string that names a header follows it.
-use Rattle.std.proofs.Common.{◌≡◌, ℕ, ◌<◌, ◌+◌, ◌-◌, ◌||◌, Bool, true, false, cond, ◌&&◌, eqb, ltb, List, [], ◌∷◌, ◌++◌, length, Option, Some, None, Result, Ok, Err, refl, sym, ap, subst, ◌∙◌, append_assoc, ◌⊎◌, inl, inr}
+use Rattle.std.proofs.Common.{◌≡◌, ℕ, ◌<◌, ◌-◌, ◌||◌, Bool, true, false, cond, ◌&&◌, eqb, ltb, List, [], ◌∷◌, ◌++◌, length, Option, Some, Result, Ok, Err, refl, sym, ap, subst, ◌∙◌, append_assoc, ◌⊎◌, inl, inr}
 use Rattle.std.proofs.lemmas.Bool.{ltb-true}
 use Rattle.bk_lex.specs.Bytes.{is_blank}
 use Rattle.bk_lex.specs.Signs.{spelling, is_slash}
@@ -22,9 +22,9 @@ use Rattle.bk_lex.specs.Insertion.{inserted}
 use Rattle.bk_lex.specs.Machine.{fresh, next, piece}
 use Rattle.bk_lex.specs.Counting.{ended_what, ended_as, state, begun, mode_begun, in_get, least_room, room_for, ◌>>=◌}
 use Rattle.bk_lex.specs.Lexing.{told, get_line_after}
-use Rattle.bk_lex.specs.Pieces.{Sort, blank, comment, dot, word, number, bracket, string, character, sign, Spelled}
-use Rattle.bk_lex.specs.Tokens.{Putting, header_named}
-use Rattle.bk_lex.specs.TextFault.{room, Misnames, NoGap, NoHeader, is_gap}
+use Rattle.bk_lex.specs.Pieces.{blank, comment, dot, word, number, bracket, string, character, sign}
+use Rattle.bk_lex.specs.Tokens.{Putting}
+use Rattle.bk_lex.specs.TextFault.{room, Misnames, NoGap, NoHeader}
 use Rattle.bk_lex.proofs.SignLemmas.{picks}
 use Rattle.bk_lex.proofs.Walk.{walk, walk-append, and_then}
 use Rattle.bk_lex.proofs.Modes.{Reads}

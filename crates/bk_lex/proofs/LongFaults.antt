@@ -1,18 +1,15 @@
 -- Where the machine tells a section too long, its bytes or its symbols pass the count.
-use Rattle.std.proofs.Common.{◌≡◌, ℕ, ◌+◌, ◌-◌, ◌%◌, ◌<◌, ◌≤◌, Bool, true, false, cond, ◌||◌, eqb, ltb, List, [], ◌∷◌, ◌++◌, length, Option, Some, None, Result, Err, refl, sym, ap, subst, ◌∙◌, arith, append_assoc, ◌⊎◌, inl, inr}
-use Rattle.std.proofs.lemmas.Bool.{ltb-true}
+use Rattle.std.proofs.Common.{◌≡◌, ℕ, ◌+◌, ◌-◌, ◌%◌, ◌<◌, ◌≤◌, Bool, true, false, cond, eqb, List, [], ◌∷◌, ◌++◌, length, Option, Some, None, refl, sym, ap, subst, ◌∙◌, arith, append_assoc, ◌⊎◌, inl, inr}
 use Rattle.std.proofs.lemmas.List.{length-append, append-nil}
 use Rattle.bk_lex.specs.Symbol.{Symbol}
 use Rattle.bk_lex.specs.Bytes.{is_letter, is_digit, is_blank}
 use Rattle.bk_lex.specs.Signs.{spelling, first_sign, sign_kind, is_slash}
 use Rattle.bk_lex.specs.declared.sign.Sign.{Sign}
-use Rattle.bk_lex.specs.declared.reserved.What.{What}
 use Rattle.bk_lex.specs.declared.reserved.What.TheVariants as whats
 use Rattle.bk_lex.specs.declared.machine.Header.{Header}
 use Rattle.bk_lex.specs.declared.machine.Base.TheVariants.{Decimal}
 use Rattle.bk_lex.specs.declared.machine.Mode.{Mode}
 use Rattle.bk_lex.specs.declared.machine.Mode.TheVariants.{Blank, Dot, Word, Hash, Number, Dollar, Text, Quote, Mark}
-use Rattle.bk_lex.specs.declared.machine.Next.{Next}
 use Rattle.bk_lex.specs.declared.machine.Next.TheVariants as nexts
 use Rattle.bk_lex.specs.declared.counting.State.{State}
 use Rattle.bk_lex.specs.declared.scan.Place.{Place}
@@ -22,15 +19,15 @@ use Rattle.bk_lex.specs.Counting.{least_room, room_for, header_rest}
 use Rattle.bk_lex.specs.Pieces.{Sort, string, Spelled, NoLonger}
 use Rattle.bk_lex.specs.Tokens.{Putting, seen, what_of, is_dot_sort}
 use Rattle.bk_lex.specs.declared.token.Kind.{Kind}
-use Rattle.bk_lex.specs.TextFault.{PassesBytes, PassesSymbols, begins_symbol, line_behind, waiting, weight, room}
+use Rattle.bk_lex.specs.TextFault.{PassesBytes, PassesSymbols, begins_symbol, line_behind, room}
 use Rattle.bk_lex.proofs.SignLemmas.{picks, first_spells}
-use Rattle.bk_lex.proofs.Walk.{walk, walk_piece, walk-append}
-use Rattle.bk_lex.proofs.Modes.{Reads, piece_reads}
+use Rattle.bk_lex.proofs.Walk.{walk, walk_piece}
+use Rattle.bk_lex.proofs.Modes.{piece_reads}
 use Rattle.bk_lex.proofs.Goings.{sort_of, reads_piece, holds_go}
-use Rattle.bk_lex.proofs.Wholes.{IsWhole, spelled_no_end, whole_at_end, ends_longest}
-use Rattle.bk_lex.proofs.Naming.{Naming, NamesWhole, naming_step, names_walk}
+use Rattle.bk_lex.proofs.Wholes.{IsWhole, spelled_no_end, ends_longest}
+use Rattle.bk_lex.proofs.Naming.{Naming, NamesWhole, names_walk}
 use Rattle.bk_lex.proofs.Soundness.{Agrees, piece_is}
-use Rattle.bk_lex.proofs.Onward.{Here, Counted, no_dot_sort, string_longest}
+use Rattle.bk_lex.proofs.Onward.{string_longest}
 use Rattle.bk_lex.proofs.Stops.{longest_stops}
 use Rattle.bk_lex.proofs.Firsts.{seen_weight}
 use Rattle.bk_lex.proofs.Complete.{rooms_same}

@@ -4,9 +4,6 @@ use Rattle.std.proofs.lemmas.Bool.{ltb-false}
 use Rattle.std.proofs.lemmas.List.{length-append}
 use Rattle.bk_base.specs.declared.source_fault.SourceFault.{SourceFault}
 use Rattle.bk_lex.specs.Symbol.{Symbol}
-use Rattle.std.specs.Prelude.{IfOk}
-use Rattle.bk_base.specs.declared.refused.Refused.{Refused}
-use Rattle.bk_lex.specs.declared.scan.Lexed.{Lexed}
 use Rattle.bk_lex.specs.declared.token.Kind.TheVariants as kinds
 use Rattle.bk_lex.specs.declared.sign.Sign.{Sign}
 use Rattle.bk_lex.specs.declared.sign.Sign.TheVariants as signs
@@ -24,10 +21,7 @@ use Rattle.bk_lex.specs.declared.machine.Mode.{Mode}
 use Rattle.bk_lex.specs.declared.machine.Mode.TheVariants.{Blank, Comment, Dot, Word, Hash, HashX, Number, Dollar, Bracket, Text, TextEscape, TextEnd, Quote, QuoteEscape, QuoteFull, QuoteEnd, Mark, Name}
 use Rattle.bk_lex.specs.declared.machine.Next.{Next}
 use Rattle.bk_lex.specs.declared.machine.Next.TheVariants as nexts
-use Rattle.bk_lex.specs.declared.scan.Place.{Place}
 use Rattle.bk_lex.specs.declared.counting.State.{State}
-use Rattle.bk_lex.specs.declared.counting.Given.{Given}
-use Rattle.bk_lex.specs.declared.counting.Act.{Act}
 use Rattle.bk_lex.specs.declared.counting.Act.TheVariants as acts
 use Rattle.bk_lex.specs.declared.counting.Step.{Step}
 use Rattle.bk_lex.specs.declared.counting.Ended.{Ended}
@@ -35,10 +29,10 @@ use Rattle.bk_lex.specs.Signs.{is_slash, longer_sign}
 use Rattle.bk_lex.specs.Header.{header_symbols}
 use Rattle.bk_lex.specs.Bytes.{is_feed, is_escape, is_name_byte, digit_value}
 use Rattle.bk_lex.specs.Machine.{fresh, next, piece, end_fault, first_digit, one_more, is_digit_of, digits_with, digits_in, grows}
-use Rattle.bk_lex.specs.Counting.{state, with_mode, step_of, moved, within, finished, finished_as, no_get, ended, opened, opened_as, begun, least_room, mode_begun, in_get, stepped, named, header_rest, ◌>>=◌}
-use Rattle.bk_lex.specs.Lexing.{Gives, section_of, lexed, begin, Section, section, Reading, reading, read, read_on, run, end_as, is_dot, put_on, at, get_line_after, line_after}
+use Rattle.bk_lex.specs.Counting.{state, with_mode, moved, ended, opened, opened_as, begun, least_room, mode_begun, in_get, stepped, named, header_rest, ◌>>=◌}
+use Rattle.bk_lex.specs.Lexing.{Section, section, Reading, reading, read, run, is_dot, put_on, at, get_line_after, line_after}
 use Rattle.bk_lex.specs.Pieces.{Sort, blank, comment, word, number, bracket, string, character, sign, NoLonger}
-use Rattle.bk_lex.specs.Tokens.{named_as, what_of, Putting, putting, seen, put_as, put, is_dot_sort, CutFrom, IsSection}
+use Rattle.bk_lex.specs.Tokens.{named_as, what_of, Putting, putting, seen, put_as, put, is_dot_sort}
 use Rattle.bk_lex.specs.TextFault.{waiting}
 use Rattle.bk_lex.proofs.SignLemmas.{picks}
 use Rattle.bk_lex.proofs.Walk.{goes_is, walk_piece, walk_piece-append, one_walk, walk}
@@ -46,7 +40,7 @@ use Rattle.bk_lex.proofs.Modes.{Reads, fresh_reads, piece_reads}
 use Rattle.bk_lex.proofs.Goings.{sort_of, IsPiece, reads_piece}
 use Rattle.bk_lex.proofs.Wholes.{ends_longest, nothing_longest, whole_at_end, whole_if_no_fault, cond_all}
 use Rattle.bk_lex.proofs.Naming.{Naming, naming_begins, naming_step, NamesWhole, names_walk}
-use Rattle.bk_lex.proofs.Soundness.{ok_bind, done, done_is, no_done, read_ok, within_ok, fewer, GetAgrees, Agrees, AfterPiece, ended_agrees, piece_is, more_cut}
+use Rattle.bk_lex.proofs.Soundness.{ok_bind, done, done_is, no_done, fewer, GetAgrees, Agrees, AfterPiece, ended_agrees, piece_is}
 use Rattle.bk_lex.proofs.Steps.{behind}
 
 -- where the string of a GET is due, only a blank, a comment or a `/` goes on
