@@ -18,3 +18,4 @@ pub mod GetFaults
 pub mod LongFaults
 pub mod Faulty
 pub mod Certain
+pub mod Letters
