@@ -209,9 +209,17 @@ blank_goes b e =
       ]
     ]
 
--- a whole piece is gone over, or refused
+-- the faults of what is too long or too large
+abbrev pub is_long : Fault → Bool
+is_long BadString = true
+is_long NumberOver32Bits = true
+is_long NameTooLong = true
+is_long TagTooLong = true
+is_long _ = false
+
+-- a whole piece is gone over, or refused as too long
 abbrev pub Gone : Sort → Next → Type 0
-Gone k x = ((m : Mode) × (x ≡ Goes m) × (sort_of m ≡ Some k)) ⊎ ((f : Fault) × (x ≡ Bad f))
+Gone k x = ((m : Mode) × (x ≡ Goes m) × (sort_of m ≡ Some k)) ⊎ ((f : Fault) × (x ≡ Bad f) × (is_long f ≡ true))
 
 gone_at : (k : Sort) (x : Next) (m : Mode) → x ≡ Goes m → sort_of m ≡ Some k → Gone k x
 gone_at k x m e s = inl (m, e, s)
@@ -222,7 +230,7 @@ word_gone [] h = absurd h
 word_gone (b ∷ bs) h =
     elim (word_go bs 1 (b % 32) (omega arith) h.1) [
       | inl p ↦ inl (Word (1 + length bs) (code_from (b % 32) bs), rw (letter_goes b h.0) p.1, refl)
-      | inr p ↦ inr (NameTooLong, rw (letter_goes b h.0) p.1)
+      | inr p ↦ inr (NameTooLong, rw (letter_goes b h.0) p.1, refl)
     ]
 
 pub digits_gone : (base : Base) (digits : List ℕ) → AreDigits base digits → Gone (number base) (walk (Number base 0) digits)
@@ -230,5 +238,5 @@ digits_gone base [] h = absurd h
 digits_gone base (d ∷ ds) h =
     elim (number_go base (d ∷ ds) 0 (omega arith) (and_is (is_digit_of base d) (list_all (is_digit_of base) ds) h.0 h.1)) [
       | inl p ↦ inl (_, p.1, refl)
-      | inr p ↦ inr (_, p.1)
+      | inr p ↦ inr (_, p.1, refl)
     ]

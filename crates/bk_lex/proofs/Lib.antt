@@ -7,4 +7,15 @@ pub mod Goings
 pub mod Wholes
 pub mod Soundness
 pub mod Naming
+pub mod Onward
 pub mod Sound
+pub mod Stops
+pub mod Runs
+pub mod Firsts
+pub mod Complete
+pub mod FaultBegins
+pub mod GetFaults
+pub mod LongFaults
+pub mod Faulty
+pub mod Certain
+pub mod Letters

@@ -139,7 +139,7 @@ code_more : (bs : List ℕ) (k c : ℕ) → code_from k (bs ++ c ∷ []) ≡ cod
 code_more [] k c = refl
 code_more (b ∷ bs) k c = code_more bs (coded k b) c
 
-word_more : (w : List ℕ) (c : ℕ) → IsWord w → is_name_byte c ≡ true → IsWord (w ++ c ∷ []) × (word_code (w ++ c ∷ []) ≡ coded (word_code w) c)
+pub word_more : (w : List ℕ) (c : ℕ) → IsWord w → is_name_byte c ≡ true → IsWord (w ++ c ∷ []) × (word_code (w ++ c ∷ []) ≡ coded (word_code w) c)
 word_more [] c h e = absurd h
 word_more (b ∷ bs) c h e = ((h.0, all_more is_name_byte bs c h.1 e), code_more bs (b % 32) c)
 
@@ -156,11 +156,11 @@ word_step n code c m w h e =
       ]
     ]
 
-value_more : (base : Base) (ds : List ℕ) (v c : ℕ) → value_from base v (ds ++ c ∷ []) ≡ value_from base v ds * digits_in base + digit_value c
+pub value_more : (base : Base) (ds : List ℕ) (v c : ℕ) → value_from base v (ds ++ c ∷ []) ≡ value_from base v ds * digits_in base + digit_value c
 value_more base [] v c = refl
 value_more base (d ∷ ds) v c = value_more base ds (v * digits_in base + digit_value d) c
 
-digits_more : (base : Base) (ds : List ℕ) (c : ℕ) → AreDigits base ds → is_digit_of base c ≡ true → AreDigits base (ds ++ c ∷ [])
+pub digits_more : (base : Base) (ds : List ℕ) (c : ℕ) → AreDigits base ds → is_digit_of base c ≡ true → AreDigits base (ds ++ c ∷ [])
 digits_more base [] c h e = absurd h
 digits_more base (d ∷ ds) c h e = (h.0, all_more (is_digit_of base) ds c h.1 e)
 
@@ -222,7 +222,7 @@ dollar_step c m w h e =
       ]
     ])
 
-tag_more : (tag : List ℕ) (n c : ℕ) → IsTag tag → n ≡ length tag → is_name_byte c ≡ true → (eqb n 0 && eqb c 46) ≡ false → IsTag (tag ++ c ∷ [])
+pub tag_more : (tag : List ℕ) (n c : ℕ) → IsTag tag → n ≡ length tag → is_name_byte c ≡ true → (eqb n 0 && eqb c 46) ≡ false → IsTag (tag ++ c ∷ [])
 tag_more [] n c h l e f = let z : n ≡ 0 = l in (e, (let y : (eqb 0 0 && eqb c 46) ≡ false = subst (λ (k : ℕ). (eqb k 0 && eqb c 46) ≡ false) z f in y), refl)
 tag_more (b ∷ bs) n c h l e f = (h.0, h.1, all_more is_name_byte bs c h.2 e)
 

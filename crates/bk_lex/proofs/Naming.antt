@@ -17,16 +17,17 @@ use Rattle.bk_lex.specs.Machine.{next}
 use Rattle.bk_lex.specs.Pieces.{Holds, nothing, plain, IsPlain}
 use Rattle.bk_lex.specs.Tokens.{header_named, header_spelled}
 use Rattle.bk_lex.proofs.SignLemmas.{picks}
-use Rattle.bk_lex.proofs.Walk.{walk, walk_piece, walk-append}
+use Rattle.bk_lex.proofs.Walk.{walk, walk_piece, walk-append, one_walk}
 use Rattle.bk_lex.proofs.Modes.{and_both}
 use Rattle.bk_lex.proofs.Goings.{holds_go}
 
 -- the bytes of a header's name so far
 abbrev pub Naming : List ℕ → Mode → Type 0
-Naming t m = (f : List ℕ) × (t ≡ 34 ∷ f) × (m ≡ Name (length f)) × (length f ≤ 7) × (map to_ascii_uppercase f ≡ take (length f) (codes "LIBHDR2")) × Holds f (length f)
+Naming t m = (f : List ℕ) × (t ≡ 34 ∷ f) × (m ≡ Name (length f)) × (length f ≤ 7) × (map to_ascii_uppercase f ≡ take (length f) (codes "LIBHDR2")) × Holds f (length f) × (walk (Name 0) f ≡ Goes (Name (length f)))
 
 pub naming_begins : Naming (34 ∷ []) (Name 0)
-naming_begins = ([], refl, refl, omega arith, refl, nothing)
+unfolding walk
+naming_begins = ([], refl, refl, omega arith, refl, nothing, refl)
 
 upper_small : (c : ℕ) → to_ascii_uppercase c ≤ c
 upper_small c = at_most (ltb c 97) (ltb c 123)
@@ -46,7 +47,7 @@ name_large (suc (suc (suc (suc (suc zero))))) h = omega arith
 name_large (suc (suc (suc (suc (suc (suc zero)))))) h = omega arith
 name_large (suc (suc (suc (suc (suc (suc (suc n))))))) h = absurd (omega arith)
 
-name_plain : (n c : ℕ) → n < 7 → to_ascii_uppercase c ≡ get_or (codes "LIBHDR2") n 0 → IsPlain c
+pub name_plain : (n c : ℕ) → n < 7 → to_ascii_uppercase c ≡ get_or (codes "LIBHDR2") n 0 → IsPlain c
 name_plain n c lt e =
     let large : 43 ≤ c = omega (arith, upper_small c, name_large n lt, e) in
     let a : eqb c 10 ≡ false = grind (arith, nat_tests) in
@@ -61,14 +62,14 @@ goes_same : (m n : Mode) → Goes m ≡ Goes n → m ≡ n
 goes_same m n e = cc
 
 name_more : (t : List ℕ) (f : List ℕ) (c : ℕ) → t ≡ 34 ∷ f → length f < 7 → to_ascii_uppercase c ≡ get_or (codes "LIBHDR2") (length f) 0 → map to_ascii_uppercase f ≡ take (length f) (codes "LIBHDR2") → Holds f (length f)
-    → Naming (t ++ c ∷ []) (Name (length f + 1))
-name_more t f c e lt same u h =
+    → walk (Name 0) f ≡ Goes (Name (length f)) → next (Name (length f)) c ≡ Goes (Name (length f + 1)) → Naming (t ++ c ∷ []) (Name (length f + 1))
+name_more t f c e lt same u h w x =
     let len : length (f ++ c ∷ []) ≡ length f + 1 = omega (arith, length-append f (c ∷ [])) in
     let long : length (codes "LIBHDR2") ≡ 7 = refl in
     let within : length f < length (codes "LIBHDR2") = omega (arith, lt, long) in
     let upper : map to_ascii_uppercase (f ++ c ∷ []) ≡ take (length f + 1) (codes "LIBHDR2") =
     map-append to_ascii_uppercase f (c ∷ []) ∙ ap (λ (x : List ℕ). x ++ to_ascii_uppercase c ∷ []) u ∙ ap (λ (x : ℕ). take (length f) (codes "LIBHDR2") ++ x ∷ []) same ∙ sym (take_more (codes "LIBHDR2") (length f) 0 within) in
-    (f ++ c ∷ [], ap (λ (x : List ℕ). x ++ c ∷ []) e, ap Name (sym len), omega (arith, len, lt), upper ∙ ap (λ (x : ℕ). take x (codes "LIBHDR2")) (sym len), subst (λ (n : ℕ). Holds (f ++ c ∷ []) n) (sym len) (plain f (length f) c h (name_plain (length f) c lt same)))
+    (f ++ c ∷ [], ap (λ (x : List ℕ). x ++ c ∷ []) e, ap Name (sym len), omega (arith, len, lt), upper ∙ ap (λ (x : ℕ). take x (codes "LIBHDR2")) (sym len), subst (λ (n : ℕ). Holds (f ++ c ∷ []) n) (sym len) (plain f (length f) c h (name_plain (length f) c lt same)), walk-append (Name 0) (Name (length f)) f (c ∷ []) w ∙ one_walk (Name (length f)) c ∙ x ∙ ap (λ (k : ℕ). Goes (Name k)) (sym len))
 
 -- the whole string
 abbrev pub NamesWhole : List ℕ → Header → Type 0
@@ -96,8 +97,8 @@ names_at t f c k h e q n le holds is =
     let whole : t ++ c ∷ [] ≡ 34 ∷ f ++ 34 ∷ [] = ap (λ (x : List ℕ). x ++ c ∷ []) e ∙ ap (λ (x : ℕ). 34 ∷ f ++ x ∷ []) q in
     (f, whole, holds, omega (arith, n, le), ap header_named whole ∙ is)
 
-name_step : (t f : List ℕ) (c : ℕ) → t ≡ 34 ∷ f → length f ≤ 7 → map to_ascii_uppercase f ≡ take (length f) (codes "LIBHDR2") → Holds f (length f) → (x : Next) → next (Name (length f)) c ≡ x → NamingStep t c x
-name_step t f c e le u h x s =
+name_step : (t f : List ℕ) (c : ℕ) → t ≡ 34 ∷ f → length f ≤ 7 → map to_ascii_uppercase f ≡ take (length f) (codes "LIBHDR2") → Holds f (length f) → walk (Name 0) f ≡ Goes (Name (length f)) → (x : Next) → next (Name (length f)) c ≡ x → NamingStep t c x
+name_step t f c e le u h w x s =
     elim (picks (is_feed c) (Bad BadString) _ x s) [
       | inl p ↦ step_at t c (Bad BadString) x p.1 tt
       | inr p ↦ elim (picks (eqb c 34 && eqb (length f) 6) (Names Plain) _ x p.1) [
@@ -110,7 +111,7 @@ name_step t f c e le u h x s =
               step_at t c (Names Formatted) x r.1 (names_at t f c 7 Formatted e (eqb-true c 34 a.0) seven (omega arith) h (whole_named f 7 Formatted (u ∙ ap (λ (k : ℕ). take k (codes "LIBHDR2")) seven) refl refl)))
           | inr r ↦ elim (picks (ltb (length f) 7 && eqb (to_ascii_uppercase c) (get_or (codes "LIBHDR2") (length f) 0)) (Goes (Name (length f + 1))) (Bad BadGet) x r.1) [
             | inl v ↦ (let a = and_both (ltb (length f) 7) (eqb (to_ascii_uppercase c) (get_or (codes "LIBHDR2") (length f) 0)) v.0 in
-                step_at t c (Goes (Name (length f + 1))) x v.1 (name_more t f c e (ltb-true (length f) 7 a.0) (eqb-true (to_ascii_uppercase c) (get_or (codes "LIBHDR2") (length f) 0) a.1) u h))
+                step_at t c (Goes (Name (length f + 1))) x v.1 (name_more t f c e (ltb-true (length f) 7 a.0) (eqb-true (to_ascii_uppercase c) (get_or (codes "LIBHDR2") (length f) 0) a.1) u h w (s ∙ sym v.1)))
             | inr v ↦ step_at t c (Bad BadGet) x v.1 tt
           ]
         ]
@@ -118,7 +119,7 @@ name_step t f c e le u h x s =
     ]
 
 pub naming_step : (t : List ℕ) (m : Mode) (c : ℕ) → Naming t m → (x : Next) → next m c ≡ x → NamingStep t c x
-naming_step t m c h x e = name_step t h.0 c h.1 h.3 h.4 h.5 x (ap (λ (k : Mode). next k c) (sym h.2) ∙ e)
+naming_step t m c h x e = name_step t h.0 c h.1 h.3 h.4 h.5 h.6 x (ap (λ (k : Mode). next k c) (sym h.2) ∙ e)
 
 -- and it is a string that the machine would go over
 pub names_walk : (t : List ℕ) (h : Header) → NamesWhole t h → walk_piece t ≡ Goes TextEnd

@@ -1,28 +1,13 @@
 -- Whatever section the machine gives of a text, the text is cut into pieces that give its tokens.
-use Rattle.std.proofs.Common.{◌≡◌, ℕ, ◌+◌, ◌-◌, ◌*◌, ◌≤◌, Bool, true, false, cond, ◌&&◌, ◌||◌, not, eqb, leb, ltb, List, [], ◌∷◌, ◌++◌, length, Option, Some, None, Result, Ok, Err, refl, sym, ap, subst, ◌∙◌, arith, append_assoc, ◌⊎◌, inl, inr}
+use Rattle.std.proofs.Common.{◌≡◌, ℕ, ◌+◌, ◌≤◌, true, false, ltb, List, [], ◌∷◌, ◌++◌, length, Option, Some, None, Result, Ok, Err, refl, sym, ap, subst, ◌∙◌, arith, inl, inr}
 use Rattle.std.proofs.lemmas.Bool.{ltb-false}
-use Rattle.std.proofs.lemmas.List.{length-append}
 use Rattle.bk_base.specs.declared.source_fault.SourceFault.{SourceFault}
 use Rattle.bk_lex.specs.Symbol.{Symbol}
 use Rattle.std.specs.Prelude.{IfOk}
 use Rattle.bk_base.specs.declared.refused.Refused.{Refused}
 use Rattle.bk_lex.specs.declared.scan.Lexed.{Lexed}
-use Rattle.bk_lex.specs.declared.token.Kind.TheVariants as kinds
-use Rattle.bk_lex.specs.declared.sign.Sign.{Sign}
-use Rattle.bk_lex.specs.declared.reserved.What.{What}
-use Rattle.bk_lex.specs.declared.reserved.What.TheVariants as whats
 use Rattle.bk_lex.specs.declared.machine.Fault.{Fault}
-use Rattle.bk_lex.specs.declared.machine.Fault.TheVariants.{BadByte, BadString, SectionTooLong, HeaderTooLong, BadGet}
-use Rattle.bk_lex.specs.Reserved.{coded}
-use Rattle.bk_lex.specs.declared.machine.Base.{Base}
-use Rattle.bk_lex.specs.declared.machine.Base.TheVariants.{Octal, Hexadecimal}
-use Rattle.bk_lex.specs.declared.machine.Side.TheVariants.{Opening, Closing}
-use Rattle.bk_lex.specs.declared.machine.Header.TheVariants.{Plain, Formatted}
-use Rattle.bk_lex.specs.declared.machine.Header.{Header}
-use Rattle.bk_lex.specs.declared.machine.Mode.{Mode}
-use Rattle.bk_lex.specs.declared.machine.Mode.TheVariants.{Blank, Comment, Dot, Word, Hash, HashX, Number, Dollar, Bracket, Text, TextEscape, TextEnd, Quote, QuoteEscape, QuoteFull, QuoteEnd, Mark, Name}
-use Rattle.bk_lex.specs.declared.machine.Next.{Next}
-use Rattle.bk_lex.specs.declared.machine.Next.TheVariants as nexts
+use Rattle.bk_lex.specs.declared.machine.Fault.TheVariants.{SectionTooLong, BadGet}
 use Rattle.bk_lex.specs.declared.scan.Place.{Place}
 use Rattle.bk_lex.specs.declared.counting.State.{State}
 use Rattle.bk_lex.specs.declared.counting.Given.{Given}
@@ -30,29 +15,14 @@ use Rattle.bk_lex.specs.declared.counting.Act.{Act}
 use Rattle.bk_lex.specs.declared.counting.Act.TheVariants as acts
 use Rattle.bk_lex.specs.declared.counting.Step.{Step}
 use Rattle.bk_lex.specs.declared.counting.Ended.{Ended}
-use Rattle.bk_lex.specs.Signs.{is_slash, longer_sign}
-use Rattle.bk_lex.specs.Header.{header_symbols}
-use Rattle.bk_lex.specs.Bytes.{is_feed, is_escape, is_name_byte, digit_value}
-use Rattle.bk_lex.specs.Machine.{fresh, next, piece, end_fault, first_digit, one_more, is_digit_of, digits_with, digits_in, grows}
-use Rattle.bk_lex.specs.Counting.{state, with_mode, step_of, moved, within, finished, finished_as, no_get, ended, opened, opened_as, begun, least_room, mode_begun, in_get, stepped, named, header_rest, ◌>>=◌}
-use Rattle.bk_lex.specs.Lexing.{Gives, section_of, lexed, begin, Section, section, Reading, reading, read, read_on, run, end_as, is_dot, put_on, at, get_line_after, line_after}
-use Rattle.bk_lex.specs.Pieces.{Sort, blank, comment, word, number, bracket, string, character, sign, NoLonger}
-use Rattle.bk_lex.specs.Tokens.{named_as, what_of, Putting, putting, seen, put_as, put, is_dot_sort, CutFrom, IsSection}
+use Rattle.bk_lex.specs.Machine.{next, piece, end_fault}
+use Rattle.bk_lex.specs.Counting.{step_of, moved, within, finished, finished_as, no_get, ended, ◌>>=◌}
+use Rattle.bk_lex.specs.Lexing.{Gives, section_of, lexed, begin, Section, section, Reading, read, read_on, run, end_as, is_dot, put_on, at}
+use Rattle.bk_lex.specs.Tokens.{Putting, putting, seen, CutFrom, IsSection}
 use Rattle.bk_lex.proofs.SignLemmas.{picks}
-use Rattle.bk_lex.proofs.Walk.{walk_piece, walk_piece-append, one_walk, walk}
-use Rattle.bk_lex.proofs.Modes.{Reads, fresh_reads, piece_reads}
-use Rattle.bk_lex.proofs.Goings.{sort_of, IsPiece, reads_piece}
-use Rattle.bk_lex.proofs.Wholes.{ends_longest, nothing_longest, whole_at_end, whole_if_no_fault, cond_all}
-use Rattle.bk_lex.proofs.Naming.{Naming, naming_begins, naming_step, NamesWhole, names_walk}
-use Rattle.bk_lex.proofs.Soundness.{ok_bind, done, done_is, no_done, read_ok, within_ok, fewer, GetAgrees, waiting, Agrees, AfterPiece, ended_agrees, piece_is, more_cut}
+use Rattle.bk_lex.proofs.Soundness.{ok_bind, done, done_is, no_done, read_ok, within_ok, fewer, GetAgrees, Agrees, AfterPiece, ended_agrees, more_cut}
 use Rattle.bk_lex.proofs.Steps.{behind}
-
--- where the machine is in a piece
-abbrev pub Here : List ℕ → Mode → List ℕ → Option ℕ → Type 0
-Here t m held get = ((t ≡ []) × (m ≡ Blank)) ⊎ (((held ≡ t) × (walk_piece t ≡ nexts.Goes m) × (is_dot m ≡ false)) ⊎ (Naming t m × ((g : ℕ) × (get ≡ Some g))))
-
-abbrev pub Sound : List ℕ → Type 0
-Sound rest = (q : Putting) (t : List ℕ) (r : Reading) (s : Section) (total : ℕ) → Here t r.state.mode r.held q.get → Agrees (seen q t) r.out r.state r.place → run r rest ≡ Ok s → r.used + length rest ≡ total → CutFrom q (t ++ rest) total s
+use Rattle.bk_lex.proofs.Onward.{Here, Counted, Concludes, Follows, no_get_due, end_before, step_sound}
 
 same_section : (a b : Section) → (let x : Result Section SourceFault = Ok a in x) ≡ Ok b → a ≡ b
 same_section a b e = cc
@@ -78,39 +48,29 @@ nothing_left q s total used out st place a g e u =
     none_due None h = refl
     none_due (Some k) h = absurd (let z : true ≡ false = sym h.0 ∙ g in cc)
 
-seen_get : (q : Putting) (t : List ℕ) → (seen q t).get ≡ q.get
-seen_get q [] = refl
-seen_get q (b ∷ bs) = refl
+-- ---- a cutting is concluded
 
-no_dot_sort : (m : Mode) (k : Sort) → is_dot m ≡ false → sort_of m ≡ Some k → is_dot_sort k ≡ false
-no_dot_sort Blank k d e = let same : blank ≡ k = cc in ap is_dot_sort (sym same)
-no_dot_sort Comment k d e = let same : comment ≡ k = cc in ap is_dot_sort (sym same)
-no_dot_sort Dot k d e = absurd cc
-no_dot_sort (Word n code) k d e = let same : word ≡ k = cc in ap is_dot_sort (sym same)
-no_dot_sort (Number base v) k d e = let same : number base ≡ k = cc in ap is_dot_sort (sym same)
-no_dot_sort (Bracket side n) k d e = let same : bracket side ≡ k = cc in ap is_dot_sort (sym same)
-no_dot_sort TextEnd k d e = let same : string ≡ k = cc in ap is_dot_sort (sym same)
-no_dot_sort QuoteEnd k d e = let same : character ≡ k = cc in ap is_dot_sort (sym same)
-no_dot_sort (Mark s) k d e = let same : sign s ≡ k = cc in ap is_dot_sort (sym same)
-no_dot_sort Hash k d e = absurd cc
-no_dot_sort HashX k d e = absurd cc
-no_dot_sort Dollar k d e = absurd cc
-no_dot_sort (Text n) k d e = absurd cc
-no_dot_sort (TextEscape n) k d e = absurd cc
-no_dot_sort Quote k d e = absurd cc
-no_dot_sort QuoteEscape k d e = absurd cc
-no_dot_sort QuoteFull k d e = absurd cc
-no_dot_sort (Name n) k d e = absurd cc
+dot_cut : (total : ℕ) (s : Section) (more : List ℕ) (q : Putting) (out : List Symbol) (x : State) (k line gl used : ℕ) → Agrees q out x (at line gl) → x.get ≡ false → (let a : Result Section SourceFault = Ok (section out (used + 1) true line) in a) ≡ Ok s → Counted k (used + 1) more total
+    → CutFrom q (46 ∷ more) total s
+dot_cut total s more q out x k line gl used a g h u =
+    subst (λ (y : Section). CutFrom q (46 ∷ more) total y) (same_section _ s h) record {
+      pieces = [];
+      rest = 46 ∷ more;
+      cut = refl;
+      last = q;
+      tokens = refl;
+      no_get = no_get_due q.get x.get gl a.get g;
+      symbols = a.same;
+      line = a.line;
+      within = omega (arith, a.count);
+      ends = (more, refl, omega (arith, u.0));
+    }
 
-piece_put : (q : Putting) (t held : List ℕ) (m : Mode) (k : Sort) (q2 : Putting) → held ≡ t → is_dot_sort k ≡ false → piece m ≡ what_of k t → put_as (seen q t) held (piece m) (seen q t).get ≡ Some q2 → put q (record { sort = k; text = t }) ≡ Some q2
-piece_put q t held m k q2 e d w h =
-    ap (λ (b : Bool). cond b None (put_as (seen q t) t (what_of k t) q.get)) d
-    ∙ ap (λ (g : Option ℕ). put_as (seen q t) t (what_of k t) g) (sym (seen_get q t))
-    ∙ ap (λ (x : What). put_as (seen q t) t x (seen q t).get) (sym w)
-    ∙ ap (λ (x : List ℕ). put_as (seen q t) x (piece m) (seen q t).get) (sym e) ∙ h
-
-some_put : (q q2 : Putting) → (let o : Option Putting = Some q in o) ≡ Some q2 → q ≡ q2
-some_put q q2 e = cc
+concludes_cut : (total : ℕ) (s : Section) → Concludes (λ q text. CutFrom q text total s) (Ok s) total
+concludes_cut total s = record {
+  before = λ q q2 k t rest. more_cut q q2 k t rest total s;
+  at_dot = dot_cut total s;
+}
 
 -- ---- the text's end
 
@@ -131,352 +91,17 @@ no_get_ok e g h =
 
 end_here : (q : Putting) (t : List ℕ) (r : Reading) (s : Section) (total : ℕ) (e : Ended) → Here t r.state.mode r.held q.get → end_fault r.state.mode ≡ None → AfterPiece (seen q t) r.held (piece r.state.mode) r.out r.place e → e.state.get ≡ false
     → section (put_on r.out e.given r.place.line r.held) r.used false r.place.line ≡ s → r.used ≡ total → CutFrom q (t ++ []) total s
-end_here q t r s total e (inl d) f a g h u =
-    let gap : put_as q r.held (piece Blank) q.get ≡ Some a.0 = subst (λ (m : Mode). put_as q r.held (piece m) q.get ≡ Some a.0) d.1 (subst (λ (x : List ℕ). put_as (seen q x) r.held (piece r.state.mode) (seen q x).get ≡ Some a.0) d.0 a.1) in
-    let same = some_put q a.0 gap in
-    subst (λ (x : List ℕ). CutFrom q (x ++ []) total s) (sym d.0) (subst (λ (x : Putting). CutFrom x [] total s) (sym same) (nothing_left a.0 s total r.used _ e.state _ a.2 g h u))
-end_here q t r s total e (inr (inl d)) f a g h u =
-    let reads = piece_reads t r.state.mode d.1 in
-    let w = whole_if_no_fault r.state.mode t reads f in
-    more_cut q a.0 w.0 t [] total s (reads_piece r.state.mode w.0 t reads w.1) (nothing_longest t) (piece_put q t r.held r.state.mode w.0 a.0 d.0 (no_dot_sort r.state.mode w.0 d.2 w.1) (piece_is r.state.mode w.0 t reads w.1) a.1) (nothing_left a.0 s total r.used _ e.state _ a.2 g h u)
-end_here q t r s total e (inr (inr d)) f a g h u =
-    absurd (let z : end_fault (Name (length d.0.0)) ≡ None = subst (λ (m : Mode). end_fault m ≡ None) d.0.2 f in cc)
+end_here q t r s total e here f a g h u = end_before (λ q text. CutFrom q text total s) (Ok s) total (concludes_cut total s) q t r e here f a (nothing_left a.0 s total r.used _ e.state _ a.2 g h u)
 
-sound_end : Sound []
+sound_end : (total : ℕ) (s : Section) → Follows (λ q text. CutFrom q text total s) (Ok s) total []
 unfolding run
-sound_end q t r s total here a h u =
+sound_end total s q t r here a h u =
     let x = end_ok r (finished r.state) s h in
     let y = finished_ok r.state (end_fault r.state.mode) x.0 x.1 in
     let z = ok_bind (ended r.state) (λ e. no_get e) x.0 y.1 in
     let w = no_get_ok z.0 x.0 z.2 in
     let after = ended_agrees (piece r.state.mode) (seen q t) r.out r.state r.place r.held z.0 a z.1 in
-    end_here q t r s total z.0 here y.0 after w.0 (ap (λ (g : Given). section (put_on r.out g r.place.line r.held) r.used false r.place.line) w.1 ∙ x.2) (omega (arith, u))
-
--- ---- a byte that begins a piece
-
-begun_agrees : (q : Putting) (out : List Symbol) (x : State) (line gl : ℕ) (n : Mode) (k c : ℕ) → Agrees q out x (at line gl) → Agrees (seen q (c ∷ [])) out (state n k x.symbols x.last (x.fed || eqb c 10) x.get) (at (line_after c line) gl)
-begun_agrees q out x line gl n k c a = record { same = a.same; last = a.last; fed = ap (λ (f : Bool). f || eqb c 10) a.fed; line = ap (λ (l : ℕ). line_after c l) a.line; get = a.get; count = a.count }
-
-begun_walk : (c : ℕ) (m : Mode) → fresh c ≡ Some m → walk_piece (c ∷ []) ≡ nexts.Goes m
-unfolding walk walk_piece
-begun_walk c m e = rw e refl
-
--- the reading behind that byte
-abbrev begun_at : List Symbol → State → Mode → ℕ → ℕ → ℕ → ℕ → ℕ → Reading
-begun_at out x n k c line gl used = reading out (state n k x.symbols x.last (x.fed || eqb c 10) x.get) (c ∷ []) (at (line_after c line) gl) (used + 1)
-
-go_sound : (c : ℕ) (more : List ℕ) (ih : Sound more) (q : Putting) (out : List Symbol) (x : State) (n : Mode) (k line gl used : ℕ) (s : Section) (total : ℕ) → Agrees q out x (at line gl) → Here (c ∷ []) n (c ∷ []) q.get → is_dot n ≡ false
-    → behind (begun_at out x n k c line gl used) more ≡ Ok s → used + length (c ∷ more) ≡ total → CutFrom q (c ∷ more) total s
-go_sound c more ih q out x n k line gl used s total a here d h u =
-    ih q (c ∷ []) (begun_at out x n k c line gl used) s total here (begun_agrees q out x line gl n k c a)
-    (ap (λ (b : Bool). cond b (Ok (section out (used + 1) true (line_after c line))) (run (begun_at out x n k c line gl used) more)) (sym d) ∙ h) (omega (arith, u))
-
-dot_is : (m : Mode) → is_dot m ≡ true → m ≡ Dot
-dot_is Dot e = refl
-dot_is Blank e = absurd cc
-dot_is Comment e = absurd cc
-dot_is (Word n code) e = absurd cc
-dot_is Hash e = absurd cc
-dot_is HashX e = absurd cc
-dot_is (Number base v) e = absurd cc
-dot_is Dollar e = absurd cc
-dot_is (Bracket side n) e = absurd cc
-dot_is (Text n) e = absurd cc
-dot_is (TextEscape n) e = absurd cc
-dot_is TextEnd e = absurd cc
-dot_is Quote e = absurd cc
-dot_is QuoteEscape e = absurd cc
-dot_is QuoteFull e = absurd cc
-dot_is QuoteEnd e = absurd cc
-dot_is (Mark s) e = absurd cc
-dot_is (Name n) e = absurd cc
-
-no_get_due : (o : Option ℕ) (get : Bool) (line : ℕ) → GetAgrees o get line → get ≡ false → o ≡ None
-no_get_due None get line h e = refl
-no_get_due (Some g) get line h e = absurd (let z : true ≡ false = sym h.0 ∙ e in cc)
-
-get_due : (o : Option ℕ) (get : Bool) (line : ℕ) → GetAgrees o get line → get ≡ true → (g : ℕ) × (o ≡ Some g)
-get_due None get line h e = absurd (let z : false ≡ true = sym h ∙ e in cc)
-get_due (Some g) get line h e = (g, refl)
-
--- the `.` that ends the section
-dot_sound : (c : ℕ) (more : List ℕ) (q : Putting) (out : List Symbol) (x : State) (line gl used : ℕ) (s : Section) (total : ℕ) → Agrees q out x (at line gl) → x.get ≡ false → c ≡ 46 → section out (used + 1) true (line_after c line) ≡ s → used + length (c ∷ more) ≡ total
-    → CutFrom q (c ∷ more) total s
-dot_sound c more q out x line gl used s total a g e h u =
-    let same_line : line_after c line ≡ line = ap (λ (b : ℕ). line_after b line) e in
-    subst (λ (y : Section). CutFrom q (c ∷ more) total y) h record {
-      pieces = [];
-      rest = c ∷ more;
-      cut = refl;
-      last = q;
-      tokens = refl;
-      no_get = no_get_due q.get x.get gl a.get g;
-      symbols = a.same;
-      line = same_line ∙ a.line;
-      within = omega (arith, a.count);
-      ends = (more, ap (λ (b : ℕ). b ∷ more) e, omega (arith, u));
-    }
-
-head_is : (b c : ℕ) (xs ys : List ℕ) → b ∷ xs ≡ c ∷ ys → b ≡ c
-head_is b c xs ys e = cc
-
-free_sound : (c : ℕ) (more : List ℕ) (ih : Sound more) (q : Putting) (out : List Symbol) (x : State) (n : Mode) (k line gl used : ℕ) (s : Section) (total : ℕ) → Agrees q out x (at line gl) → fresh c ≡ Some n → x.get ≡ false
-    → behind (begun_at out x n k c line gl used) more ≡ Ok s → used + length (c ∷ more) ≡ total → CutFrom q (c ∷ more) total s
-free_sound c more ih q out x n k line gl used s total a f g h u =
-    elim (picks (is_dot n) (Ok (section out (used + 1) true (line_after c line))) (run (begun_at out x n k c line gl used) more) (Ok s) h) [
-      | inl p ↦ (let is = dot_is n p.0 in
-          let reads : c ∷ [] ≡ 46 ∷ [] = subst (λ (m : Mode). Reads m (c ∷ [])) is (fresh_reads c n f) in
-          dot_sound c more q out x line gl used s total a g (head_is c 46 [] [] reads) (same_section _ s p.1) u)
-      | inr p ↦ go_sound c more ih q out x n k line gl used s total a (inr (inl (refl, begun_walk c n f, p.0))) p.0 h u
-    ]
-
-ok_mode : (m n : Mode) → (let r : Result Mode Fault = Ok m in r) ≡ Ok n → m ≡ n
-ok_mode m n e = cc
-
-no_mode : (f : Fault) (n : Mode) → (let r : Result Mode Fault = Err f in r) ≡ Ok n → ⊥
-no_mode f n e = cc
-
--- where the string of a GET is due, a blank, a `/` or the string begins
-abbrev InGet : ℕ → Mode → Mode → Type 0
-InGet c m n = ((n ≡ m) × (is_dot n ≡ false)) ⊎ ((c ≡ 34) × (n ≡ Name 0))
-
-in_get_ok : (c : ℕ) (m n : Mode) → fresh c ≡ Some m → in_get m ≡ Ok n → InGet c m n
-in_get_ok c Blank n f e = inl (sym (ok_mode Blank n e), ap is_dot (sym (ok_mode Blank n e)))
-in_get_ok c (Mark g) n f e =
-    elim (picks (is_slash g) (Ok (Mark g)) (Err BadGet) (Ok n) e) [
-      | inl p ↦ inl (sym (ok_mode (Mark g) n p.1), ap is_dot (sym (ok_mode (Mark g) n p.1)))
-      | inr p ↦ absurd (no_mode BadGet n p.1)
-    ]
-in_get_ok c (Text k) n f e = let r = fresh_reads c (Text k) f in inr (head_is c 34 [] r.0 r.1, sym (ok_mode (Name 0) n e))
-in_get_ok c Comment n f e = absurd (no_mode BadGet n e)
-in_get_ok c Dot n f e = absurd (no_mode BadGet n e)
-in_get_ok c (Word k code) n f e = absurd (no_mode BadGet n e)
-in_get_ok c Hash n f e = absurd (no_mode BadGet n e)
-in_get_ok c HashX n f e = absurd (no_mode BadGet n e)
-in_get_ok c (Number base v) n f e = absurd (no_mode BadGet n e)
-in_get_ok c Dollar n f e = absurd (no_mode BadGet n e)
-in_get_ok c (Bracket side k) n f e = absurd (no_mode BadGet n e)
-in_get_ok c (TextEscape k) n f e = absurd (no_mode BadGet n e)
-in_get_ok c TextEnd n f e = absurd (no_mode BadGet n e)
-in_get_ok c Quote n f e = absurd (no_mode BadGet n e)
-in_get_ok c QuoteEscape n f e = absurd (no_mode BadGet n e)
-in_get_ok c QuoteFull n f e = absurd (no_mode BadGet n e)
-in_get_ok c QuoteEnd n f e = absurd (no_mode BadGet n e)
-in_get_ok c (Name k) n f e = absurd (no_mode BadGet n e)
-
-naming_at : (c : ℕ) (n : Mode) → c ≡ 34 → n ≡ Name 0 → Naming (c ∷ []) n
-naming_at c n e f = subst (λ (x : ℕ). Naming (x ∷ []) n) (sym e) (subst (λ (m : Mode). Naming (34 ∷ []) m) (sym f) naming_begins)
-
-due_sound : (c : ℕ) (more : List ℕ) (ih : Sound more) (q : Putting) (out : List Symbol) (x : State) (m n : Mode) (k line gl used : ℕ) (s : Section) (total : ℕ) → Agrees q out x (at line gl) → fresh c ≡ Some m → x.get ≡ true → in_get m ≡ Ok n
-    → behind (begun_at out x n k c line gl used) more ≡ Ok s → used + length (c ∷ more) ≡ total → CutFrom q (c ∷ more) total s
-due_sound c more ih q out x m n k line gl used s total a f g e h u =
-    elim (in_get_ok c m n f e) [
-      | inl p ↦ go_sound c more ih q out x n k line gl used s total a (inr (inl (refl, begun_walk c m f ∙ ap (λ (y : Mode). nexts.Goes y) (sym p.0), p.1))) p.1 h u
-      | inr p ↦ go_sound c more ih q out x n k line gl used s total a (inr (inr (naming_at c n p.0 p.1, get_due q.get x.get gl a.get g))) (ap is_dot p.1) h u
-    ]
-
-begin_sound : (get : Bool) (c : ℕ) (more : List ℕ) (ih : Sound more) (q : Putting) (out : List Symbol) (x : State) (m n : Mode) (k line gl used : ℕ) (s : Section) (total : ℕ) → Agrees q out x (at line gl) → fresh c ≡ Some m → x.get ≡ get → mode_begun get m ≡ Ok n
-    → behind (begun_at out x n k c line gl used) more ≡ Ok s → used + length (c ∷ more) ≡ total → CutFrom q (c ∷ more) total s
-begin_sound true c more ih q out x m n k line gl used s total a f g e h u = due_sound c more ih q out x m n k line gl used s total a f g e h u
-begin_sound false c more ih q out x m n k line gl used s total a f g e h u =
-    free_sound c more ih q out x n k line gl used s total a (f ∙ ap (λ (y : Mode). Some y) (ok_mode m n e)) g h u
-
--- ---- one byte
-
-begun_ok : (st : State) (m : Mode) (c : ℕ) (x : State) → begun st m c ≡ Ok x → (n : Mode) × (mode_begun st.get m ≡ Ok n) × (state n st.bytes st.symbols st.last (st.fed || eqb c 10) st.get ≡ x)
-begun_ok st m c x e =
-    elim (picks (ltb st.symbols (least_room st m)) (Err SectionTooLong) _ (done x) e) [
-      | inl p ↦ absurd (no_done SectionTooLong x p.1)
-      | inr p ↦ (let b = ok_bind (mode_begun st.get m) (λ n. done (state n st.bytes st.symbols st.last (st.fed || eqb c 10) st.get)) x p.1 in
-          (b.0, b.1, done_is _ x b.2))
-    ]
-
-abbrev Opened : State → ℕ → Step → Type 0
-Opened st c u = (m : Mode) × (e : Ended) × (n : Mode) × (fresh c ≡ Some m) × (ended st ≡ Ok e) × (mode_begun e.state.get m ≡ Ok n)
-    × (stepped (state n e.state.bytes e.state.symbols e.state.last (e.state.fed || eqb c 10) e.state.get) (acts.Begins e.given) ≡ u)
-
-opened_ok : (st : State) (c : ℕ) (u : Step) (o : Option Mode) → fresh c ≡ o → opened_as st c o ≡ Ok u → Opened st c u
-opened_ok st c u None f e = absurd (no_done BadByte u e)
-opened_ok st c u (Some m) f e =
-    let a = ok_bind (ended st) (λ e. begun e.state m c >>= λ t. done (stepped t (acts.Begins e.given))) u e in
-    let b = ok_bind (begun a.0.state m c) (λ t. done (stepped t (acts.Begins a.0.given))) u a.2 in
-    let d = begun_ok a.0.state m c b.0 b.1 in
-    (m, a.0, d.0, f, a.1, d.1, ap (λ (t : State). stepped t (acts.Begins a.0.given)) d.2 ∙ done_is _ u b.2)
-
--- the reading behind a byte and what the state came to
-
-abbrev StepGives : Reading → ℕ → List ℕ → Step → Section → Type 0
-StepGives r c more u s = behind (read r c (fewer r.state.bytes u).state (fewer r.state.bytes u).act) more ≡ Ok s
-
--- a byte that ends a piece and begins another, or ends the section
-piece_before : (q : Putting) (t : List ℕ) (r : Reading) (c : ℕ) (more : List ℕ) (e : Ended) (s : Section) (total : ℕ) → Here t r.state.mode r.held q.get → next r.state.mode c ≡ nexts.Ends → (a : AfterPiece (seen q t) r.held (piece r.state.mode) r.out r.place e)
-    → CutFrom a.0 (c ∷ more) total s → CutFrom q (t ++ c ∷ more) total s
-piece_before q t r c more e s total (inl d) x a h =
-    let gap : put_as q r.held (piece Blank) q.get ≡ Some a.0 = subst (λ (m : Mode). put_as q r.held (piece m) q.get ≡ Some a.0) d.1 (subst (λ (y : List ℕ). put_as (seen q y) r.held (piece r.state.mode) (seen q y).get ≡ Some a.0) d.0 a.1) in
-    let same = some_put q a.0 gap in
-    subst (λ (y : List ℕ). CutFrom q (y ++ c ∷ more) total s) (sym d.0) (subst (λ (y : Putting). CutFrom y (c ∷ more) total s) (sym same) h)
-piece_before q t r c more e s total (inr (inl d)) x a h =
-    let reads = piece_reads t r.state.mode d.1 in
-    let w = whole_at_end r.state.mode c t reads x in
-    more_cut q a.0 w.0 t (c ∷ more) total s (reads_piece r.state.mode w.0 t reads w.1) (ends_longest r.state.mode t c more d.1 x) (piece_put q t r.held r.state.mode w.0 a.0 d.0 (no_dot_sort r.state.mode w.0 d.2 w.1) (piece_is r.state.mode w.0 t reads w.1) a.1) h
-piece_before q t r c more e s total (inr (inr d)) x a h = absurd (naming_step t r.state.mode c d.0 nexts.Ends x)
-
-ends_sound : (c : ℕ) (more : List ℕ) (ih : Sound more) (q : Putting) (t : List ℕ) (r : Reading) (u : Step) (s : Section) (total : ℕ) → Here t r.state.mode r.held q.get → Agrees (seen q t) r.out r.state r.place → next r.state.mode c ≡ nexts.Ends
-    → opened r.state c ≡ Ok u → StepGives r c more u s → r.used + length (c ∷ more) ≡ total → CutFrom q (t ++ c ∷ more) total s
-ends_sound c more ih q t r u s total here a x o h l =
-    let p = opened_ok r.state c u (fresh c) refl o in
-    let e = p.1 in
-    let after = ended_agrees (piece r.state.mode) (seen q t) r.out r.state r.place r.held e a p.4 in
-    let h2 : behind (begun_at (put_on r.out e.given r.place.line r.held) e.state p.2 (r.state.bytes - 1) c r.place.line (get_line_after r.place e.given) r.used) more ≡ Ok s =
-    subst (λ (y : Step). StepGives r c more y s) (sym p.6) h in
-    piece_before q t r c more e s total here x after
-    (begin_sound e.state.get c more ih after.0 (put_on r.out e.given r.place.line r.held) e.state p.0 p.2 (r.state.bytes - 1) r.place.line (get_line_after r.place e.given) r.used s total after.2 p.3 refl p.5 h2 l)
-
--- a byte that goes on with a piece
-not_dot : (n : Mode) (b : ℕ) (bs : List ℕ) (c : ℕ) → Reads n (b ∷ bs ++ c ∷ []) → is_dot n ≡ false
-not_dot n b bs c h = look (is_dot n) refl
-  where
-    look : (d : Bool) → is_dot n ≡ d → is_dot n ≡ false
-    look false e = e
-    look true e =
-        let same : b ∷ bs ++ c ∷ [] ≡ 46 ∷ [] = subst (λ (m : Mode). Reads m (b ∷ bs ++ c ∷ [])) (dot_is n e) h in
-        let len = ap (λ (x : List ℕ). length x) same in
-        absurd (omega (arith, len, length-append bs (c ∷ [])))
-
-empty_walk : (m : Mode) → walk_piece [] ≡ nexts.Goes m → ⊥
-unfolding walk_piece
-empty_walk m h = cc
-
-goes_here : (q : Putting) (t : List ℕ) (m n : Mode) (held : List ℕ) (c : ℕ) (get : Option ℕ) → Here t m held get → next m c ≡ nexts.Goes n → Here (t ++ c ∷ []) n (held ++ c ∷ []) get × (is_dot n ≡ false) × ((b : ℕ) × (bs : List ℕ) × (t ≡ b ∷ bs))
-goes_here q t m n held c get (inl d) e = absurd (let z : nexts.Ends ≡ nexts.Goes n = ap (λ (y : Mode). next y c) (sym d.1) ∙ e in cc)
-goes_here q [] m n held c get (inr (inl d)) e = absurd (empty_walk m d.1)
-goes_here q (b ∷ bs) m n held c get (inr (inl d)) e =
-    let w = walk_piece-append m (b ∷ bs) (c ∷ []) d.1 ∙ one_walk m c ∙ e in
-    let dotless = not_dot n b bs c (piece_reads (b ∷ bs ++ c ∷ []) n w) in
-    (inr (inl (ap (λ (x : List ℕ). x ++ c ∷ []) d.0, w, dotless)), dotless, (b, bs, refl))
-goes_here q t m n held c get (inr (inr d)) e =
-    let s : Naming (t ++ c ∷ []) n = naming_step t m c d.0 (nexts.Goes n) e in
-    (inr (inr (s, d.1)), ap is_dot s.2, (34, d.0.0, d.0.1))
-
-seen_more : (q : Putting) (t : List ℕ) (b : ℕ) (bs : List ℕ) (c : ℕ) → t ≡ b ∷ bs → seen q (t ++ c ∷ []) ≡ seen q t
-seen_more q t b bs c e = ap (λ (x : List ℕ). seen q (x ++ c ∷ [])) e ∙ ap (λ (x : List ℕ). seen q x) (sym e)
-
-goes_sound : (c : ℕ) (more : List ℕ) (ih : Sound more) (q : Putting) (t : List ℕ) (r : Reading) (n : Mode) (s : Section) (total : ℕ) → Here t r.state.mode r.held q.get → Agrees (seen q t) r.out r.state r.place → next r.state.mode c ≡ nexts.Goes n
-    → StepGives r c more (stepped (with_mode r.state n) acts.Goes) s → r.used + length (c ∷ more) ≡ total → CutFrom q (t ++ c ∷ more) total s
-goes_sound c more ih q t r n s total here a x h l =
-    let g = goes_here q t r.state.mode n r.held c q.get here x in
-    let p : Reading = reading r.out (state n (r.state.bytes - 1) r.state.symbols r.state.last r.state.fed r.state.get) (r.held ++ c ∷ []) r.place (r.used + 1) in
-    let run_on : run p more ≡ Ok s = ap (λ (b : Bool). cond b (Ok (section p.out p.used true p.place.line)) (run p more)) (sym g.1) ∙ h in
-    let a2 : Agrees (seen q t) p.out p.state p.place = record { same = a.same; last = a.last; fed = a.fed; line = a.line; get = a.get; count = a.count } in
-    let a3 : Agrees (seen q (t ++ c ∷ [])) p.out p.state p.place = subst (λ (y : Putting). Agrees y p.out p.state p.place) (sym (seen_more q t g.2.0 g.2.1 c g.2.2)) a2 in
-    subst (λ (y : List ℕ). CutFrom q y total s) (append_assoc t (c ∷ []) more) (ih q (t ++ c ∷ []) p s total g.0 a3 run_on (omega (arith, l)))
-
--- the last byte of the string of a GET
-abbrev NotNames : Header → Next → Type 0
-NotNames h x = x ≡ nexts.Names h → ⊥
-
-with_names : (h : Header) (base : Base) (v c : ℕ) → NotNames h (digits_with base v c)
-with_names h base v c = cond_all (NotNames h) (ltb 4294967295 (v * digits_in base + digit_value c)) (nexts.Bad Fault.NumberOver32Bits) (nexts.Goes (Number base (v * digits_in base + digit_value c))) (λ e. cc) (λ e. cc)
-
-first_names : (h : Header) (base : Base) (c : ℕ) → NotNames h (first_digit base c)
-first_names h base c = cond_all (NotNames h) (is_digit_of base c) (digits_with base 0 c) (nexts.Bad BadByte) (with_names h base 0 c) (λ e. cc)
-
-more_names : (h : Header) (n : ℕ) → NotNames h (one_more n)
-more_names h n = cond_all (NotNames h) (leb 255 n) (nexts.Bad BadString) (nexts.Goes (Text (n + 1))) (λ e. cc) (λ e. cc)
-
-grown_names : (h : Header) (o : Option Sign) → NotNames h (grows o)
-grown_names h None e = cc
-grown_names h (Some s) e = cc
-
-no_names : (m : Mode) (c : ℕ) (h : Header) (w : List ℕ) → Reads m w → NotNames h (next m c)
-no_names Blank c h w r e = cc
-no_names Comment c h w r e = cond_all (NotNames h) (eqb c 10) nexts.Ends (nexts.Goes Comment) (λ e. cc) (λ e. cc) e
-no_names Dot c h w r e = cc
-no_names (Word n code) c h w r e = cond_all (NotNames h) (not (is_name_byte c)) nexts.Ends (cond (leb 255 n) (nexts.Bad Fault.NameTooLong) (nexts.Goes (Word (n + 1) (coded code c)))) (λ e. cc) (cond_all (NotNames h) (leb 255 n) (nexts.Bad Fault.NameTooLong) (nexts.Goes (Word (n + 1) (coded code c))) (λ e. cc) (λ e. cc)) e
-no_names Hash c h w r e = cond_all (NotNames h) (eqb c 88 || eqb c 120) (nexts.Goes HashX) (first_digit Octal c) (λ e. cc) (first_names h Octal c) e
-no_names HashX c h w r e = first_names h Hexadecimal c e
-no_names (Number base v) c h w r e = cond_all (NotNames h) (is_digit_of base c) (digits_with base v c) nexts.Ends (with_names h base v c) (λ e. cc) e
-no_names Dollar c h w r e = cond_all (NotNames h) (eqb c 40) (nexts.Goes (Bracket Opening 0)) (cond (eqb c 41) (nexts.Goes (Bracket Closing 0)) (nexts.Bad BadByte)) (λ e. cc) (cond_all (NotNames h) (eqb c 41) (nexts.Goes (Bracket Closing 0)) (nexts.Bad BadByte) (λ e. cc) (λ e. cc)) e
-no_names (Bracket side n) c h w r e = cond_all (NotNames h) (not (is_name_byte c) || (eqb n 0 && eqb c 46)) nexts.Ends (cond (leb 255 n) (nexts.Bad Fault.TagTooLong) (nexts.Goes (Bracket side (n + 1)))) (λ e. cc) (cond_all (NotNames h) (leb 255 n) (nexts.Bad Fault.TagTooLong) (nexts.Goes (Bracket side (n + 1))) (λ e. cc) (λ e. cc)) e
-no_names (Text n) c h w r e = cond_all (NotNames h) (is_feed c) (nexts.Bad BadString) (cond (eqb c 34) (nexts.Goes TextEnd) (cond (eqb c 42) (nexts.Goes (TextEscape n)) (one_more n))) (λ e. cc) (cond_all (NotNames h) (eqb c 34) (nexts.Goes TextEnd) (cond (eqb c 42) (nexts.Goes (TextEscape n)) (one_more n)) (λ e. cc) (cond_all (NotNames h) (eqb c 42) (nexts.Goes (TextEscape n)) (one_more n) (λ e. cc) (more_names h n))) e
-no_names (TextEscape n) c h w r e = cond_all (NotNames h) (is_feed c) (nexts.Bad BadString) (cond (is_escape c) (one_more n) (nexts.Bad Fault.BadEscape)) (λ e. cc) (cond_all (NotNames h) (is_escape c) (one_more n) (nexts.Bad Fault.BadEscape) (more_names h n) (λ e. cc)) e
-no_names TextEnd c h w r e = cc
-no_names Quote c h w r e = cond_all (NotNames h) (is_feed c || eqb c 39) (nexts.Bad BadString) (cond (eqb c 42) (nexts.Goes QuoteEscape) (nexts.Goes QuoteFull)) (λ e. cc) (cond_all (NotNames h) (eqb c 42) (nexts.Goes QuoteEscape) (nexts.Goes QuoteFull) (λ e. cc) (λ e. cc)) e
-no_names QuoteEscape c h w r e = cond_all (NotNames h) (is_feed c) (nexts.Bad BadString) (cond (is_escape c) (nexts.Goes QuoteFull) (nexts.Bad Fault.BadEscape)) (λ e. cc) (cond_all (NotNames h) (is_escape c) (nexts.Goes QuoteFull) (nexts.Bad Fault.BadEscape) (λ e. cc) (λ e. cc)) e
-no_names QuoteFull c h w r e = cond_all (NotNames h) (eqb c 39) (nexts.Goes QuoteEnd) (nexts.Bad BadString) (λ e. cc) (λ e. cc) e
-no_names QuoteEnd c h w r e = cc
-no_names (Mark s) c h w r e = cond_all (NotNames h) (is_slash s && eqb c 47) (nexts.Goes Comment) (grows (longer_sign s c)) (λ e. cc) (grown_names h (longer_sign s c)) e
-no_names (Name n) c h w r e = absurd r
-
-named_ok : (st : State) (h : Header) (u : Step) → named st h ≡ Ok u → (header_rest h ≤ st.symbols) × (stepped (state Blank st.bytes (st.symbols - header_rest h) (Some kinds.SectionClose) st.fed false) (acts.Names h) ≡ u)
-named_ok st h u e =
-    elim (picks (ltb st.symbols (header_rest h)) (Err HeaderTooLong) _ (done u) e) [
-      | inl p ↦ absurd (no_done HeaderTooLong u p.1)
-      | inr p ↦ (ltb-false st.symbols (header_rest h) p.0, done_is _ u p.1)
-    ]
-
-header_length : (h : Header) (line : ℕ) → length (header_symbols h line) ≡ header_rest h + 1
-header_length Plain line = refl
-header_length Formatted line = refl
-
-string_longest : (t : List ℕ) (rest : List ℕ) → walk_piece t ≡ nexts.Goes TextEnd → NoLonger t rest
-string_longest t [] w = nothing_longest t
-string_longest t (c ∷ more) w = ends_longest TextEnd t c more w refl
-
-due_line : (o : Option ℕ) (g : ℕ) (get : Bool) (line : ℕ) → o ≡ Some g → GetAgrees o get line → line ≡ g
-due_line o g get line e h = let s : GetAgrees (Some g) get line = subst (λ (x : Option ℕ). GetAgrees x get line) e h in s.1
-
-names_sound : (c : ℕ) (more : List ℕ) (ih : Sound more) (q : Putting) (t : List ℕ) (r : Reading) (h : Header) (u : Step) (s : Section) (total : ℕ) → Here t r.state.mode r.held q.get → Agrees (seen q t) r.out r.state r.place → next r.state.mode c ≡ nexts.Names h
-    → named r.state h ≡ Ok u → StepGives r c more u s → r.used + length (c ∷ more) ≡ total → CutFrom q (t ++ c ∷ more) total s
-names_sound c more ih q t r h u s total (inl d) a x n g l = absurd (let z : nexts.Ends ≡ nexts.Names h = ap (λ (y : Mode). next y c) (sym d.1) ∙ x in cc)
-names_sound c more ih q t r h u s total (inr (inl d)) a x n g l = absurd (no_names r.state.mode c h t (piece_reads t r.state.mode d.1) x)
-names_sound c more ih q t r h u s total (inr (inr d)) a x n g l =
-    let line = d.1.0 in
-    let whole : NamesWhole (t ++ c ∷ []) h = naming_step t r.state.mode c d.0 (nexts.Names h) x in
-    let k = named_ok r.state h u n in
-    let q3 = seen q t in
-    let more_seen = seen_more q t 34 d.0.0 c d.0.1 in
-    let q2 : Putting = putting (q3.out ++ header_symbols h line) (Some kinds.SectionClose) q3.fed q3.line None in
-    let due : q3.get ≡ Some line = seen_get q t ∙ d.1.1 in
-    let at_line : r.place.get_line ≡ line = due_line q3.get line r.state.get r.place.get_line due a.get in
-    let p : Reading = reading (r.out ++ header_symbols h r.place.get_line) (state Blank (r.state.bytes - 1) (r.state.symbols - header_rest h) (Some kinds.SectionClose) r.state.fed false) (r.held ++ c ∷ []) r.place (r.used + 1) in
-    let run_on : run p more ≡ Ok s = subst (λ (y : Step). StepGives r c more y s) (sym k.1) g in
-    let len = header_length h line in
-    let wait : waiting q3.get ≡ 1 = ap waiting due in
-    let outs : r.out ++ header_symbols h r.place.get_line ≡ q3.out ++ header_symbols h line = ap (λ (y : List Symbol). y ++ header_symbols h r.place.get_line) a.same ∙ ap (λ (y : ℕ). q3.out ++ header_symbols h y) at_line in
-    let agrees : Agrees (seen q2 []) p.out p.state p.place = record { same = outs; last = refl; fed = a.fed; line = a.line; get = refl; count = omega (arith, len, wait, k.0, a.count, length-append q3.out (header_symbols h line)) } in
-    let rest = ih q2 [] p s total (inl (refl, refl)) agrees run_on (omega (arith, l)) in
-    let spelled : IsPiece string (t ++ c ∷ []) = ((whole.0, length whole.0, whole.1, whole.2), (whole.0, length whole.0, whole.1, whole.2, whole.3)) in
-    let put_is : put q (record { sort = string; text = t ++ c ∷ [] }) ≡ Some q2 =
-    ap (λ (o : Option ℕ). put_as (seen q (t ++ c ∷ [])) (t ++ c ∷ []) (whats.Symbol kinds.Text) o) d.1.1
-    ∙ ap (λ (o : Option Header). named_as (seen q (t ++ c ∷ [])) line o) whole.4
-    ∙ ap (λ (y : Putting). Some (putting (y.out ++ header_symbols h line) (Some kinds.SectionClose) y.fed y.line None)) more_seen in
-    subst (λ (y : List ℕ). CutFrom q y total s) (append_assoc t (c ∷ []) more) (more_cut q q2 string (t ++ c ∷ []) more total s spelled (string_longest (t ++ c ∷ []) more (names_walk (t ++ c ∷ []) h whole)) put_is rest)
-
--- ---- the law
-
-step_sound : (x : Next) (c : ℕ) (more : List ℕ) (ih : Sound more) (q : Putting) (t : List ℕ) (r : Reading) (u : Step) (s : Section) (total : ℕ) → Here t r.state.mode r.held q.get → Agrees (seen q t) r.out r.state r.place → next r.state.mode c ≡ x
-    → moved r.state c x ≡ Ok u → StepGives r c more u s → r.used + length (c ∷ more) ≡ total → CutFrom q (t ++ c ∷ more) total s
-step_sound (nexts.Goes n) c more ih q t r u s total here a x m g l = goes_sound c more ih q t r n s total here a x (subst (λ (y : Step). StepGives r c more y s) (sym (done_is _ u m)) g) l
-step_sound nexts.Ends c more ih q t r u s total here a x m g l = ends_sound c more ih q t r u s total here a x m g l
-step_sound (nexts.Names h) c more ih q t r u s total here a x m g l = names_sound c more ih q t r h u s total here a x m g l
-step_sound (nexts.Bad f) c more ih q t r u s total here a x m g l = absurd (no_done f u m)
-
-byte_sound : (c : ℕ) (more : List ℕ) (ih : Sound more) (q : Putting) (t : List ℕ) (r : Reading) (s : Section) (total : ℕ) → Here t r.state.mode r.held q.get → Agrees (seen q t) r.out r.state r.place
-    → (read_on r c (step_of r.state c) >>= λ p. behind p more) ≡ Ok s → r.used + length (c ∷ more) ≡ total → CutFrom q (t ++ c ∷ more) total s
-byte_sound c more ih q t r s total here a h l =
-    let p = ok_bind (read_on r c (step_of r.state c)) (λ p. behind p more) s h in
-    let v = read_ok r c (step_of r.state c) p.0 p.1 in
-    let w = within_ok r.state.bytes (moved r.state c (next r.state.mode c)) v.0 v.1 in
-    let same : read r c (fewer r.state.bytes w.0).state (fewer r.state.bytes w.0).act ≡ p.0 = ap (λ (t : Step). read r c t.state t.act) w.2 ∙ v.2 in
-    step_sound (next r.state.mode c) c more ih q t r w.0 s total here a refl w.1 (ap (λ (y : Reading). behind y more) same ∙ p.2) l
-
-sound : (rest : List ℕ) → Sound rest
-unfolding run
-sound [] q t r s total here a h l = sound_end q t r s total here a h l
-sound (c ∷ more) q t r s total here a h l = byte_sound c more (sound more) q t r s total here a h l
-
--- ---- and no section has too many bytes
+    end_here q t r s total z.0 here y.0 after w.0 (ap (λ (g : Given). section (put_on r.out g r.place.line r.held) r.used false r.place.line) w.1 ∙ x.2) (omega (arith, u.0))
 
 within_bytes : (n : ℕ) (y : Result Step Fault) (t : Step) → within n y ≡ Ok t → (t.state.bytes + 1 ≡ n)
 within_bytes n (Ok u) t e =
@@ -491,6 +116,22 @@ within_bytes n (Err f) t e =
       | inl p ↦ absurd (no_done _ t p.1)
       | inr p ↦ absurd (no_done f t p.1)
     ]
+
+byte_sound : (total : ℕ) (s : Section) (c : ℕ) (more : List ℕ) (ih : Follows (λ q text. CutFrom q text total s) (Ok s) total more) → Follows (λ q text. CutFrom q text total s) (Ok s) total (c ∷ more)
+unfolding run
+byte_sound total s c more ih q t r here a h l =
+    let p = ok_bind (read_on r c (step_of r.state c)) (λ p. behind p more) s h in
+    let v = read_ok r c (step_of r.state c) p.0 p.1 in
+    let w = within_ok r.state.bytes (moved r.state c (next r.state.mode c)) v.0 v.1 in
+    let left = within_bytes r.state.bytes (moved r.state c (next r.state.mode c)) v.0 v.1 in
+    let same : read r c (fewer r.state.bytes w.0).state (fewer r.state.bytes w.0).act ≡ p.0 = ap (λ (t : Step). read r c t.state t.act) w.2 ∙ v.2 in
+    step_sound (λ q text. CutFrom q text total s) (Ok s) total (concludes_cut total s) (next r.state.mode c) c more ih q t r w.0 here a refl w.1 (ap (λ (y : Reading). behind y more) same ∙ p.2) (omega (arith, l.0), omega (arith, l.1, left))
+
+sound : (total : ℕ) (s : Section) (rest : List ℕ) → Follows (λ q text. CutFrom q text total s) (Ok s) total rest
+sound total s [] q t r here a h l = sound_end total s q t r here a h l
+sound total s (c ∷ more) q t r here a h l = byte_sound total s c more (sound total s more) q t r here a h l
+
+-- ---- and no section has too many bytes
 
 abbrev Bounded : List ℕ → Type 0
 Bounded rest = (r : Reading) (s : Section) → r.state.bytes + r.used ≡ 1048576 → run r rest ≡ Ok s → s.used ≤ 1048576
@@ -524,7 +165,7 @@ bounded (c ∷ more) r s e h = bounded_byte c more (bounded more) r s e h
 
 pub lexed_is_section : (text : List ℕ) (from : ℕ) (s : Section) → lexed text from ≡ Ok s → IsSection text from s
 lexed_is_section text from s h = (
-  sound text (putting [] None false from None) [] (begin from) s (length text) (inl (refl, refl)) record { same = refl; last = refl; fed = refl; line = refl; get = refl; count = refl } h (omega arith),
+  sound (length text) s text (putting [] None false from None) [] (begin from) (inl (refl, refl)) record { same = refl; last = refl; fed = refl; line = refl; get = refl; count = refl } h (omega arith, refl),
   bounded text (begin from) s refl h,
 )
 

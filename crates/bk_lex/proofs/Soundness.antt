@@ -22,6 +22,7 @@ use Rattle.bk_lex.specs.Counting.{state, within, ended_what, ended_as, room_for,
 use Rattle.bk_lex.specs.Lexing.{Section, Reading, read, read_on, put_on, at, get_line_after, inserted_symbols}
 use Rattle.bk_lex.specs.Pieces.{Sort, blank, comment, dot, word, number, bracket, string, character, sign, NoLonger, Piece}
 use Rattle.bk_lex.specs.Tokens.{what_of, Putting, put_as, put, puts, CutFrom}
+use Rattle.bk_lex.specs.TextFault.{waiting}
 use Rattle.bk_lex.proofs.SignLemmas.{picks}
 use Rattle.bk_lex.proofs.Modes.{Reads}
 use Rattle.bk_lex.proofs.Goings.{sort_of, IsPiece}
@@ -65,10 +66,6 @@ within_ok n (Err f) t e =
 abbrev pub GetAgrees : Option ℕ → Bool → ℕ → Type 0
 GetAgrees None get line = get ≡ false
 GetAgrees (Some g) get line = (get ≡ true) × (line ≡ g)
-
-abbrev pub waiting : Option ℕ → ℕ
-waiting None = 0
-waiting (Some g) = 1
 
 pub record Agrees (q : Putting) (out : List Symbol) (s : State) (place : Place) : Type 0 where
   pub same : out ≡ q.out

@@ -61,7 +61,7 @@ number_walk Octal lead ds l h = ap (λ (x : List ℕ). walk_piece (x ++ ds)) l �
 number_walk Hexadecimal lead ds (inl l) h = ap (λ (x : List ℕ). walk_piece (x ++ ds)) l ∙ hexadecimal_walk 88 ds (inl refl) h
 number_walk Hexadecimal lead ds (inr l) h = ap (λ (x : List ℕ). walk_piece (x ++ ds)) l ∙ hexadecimal_walk 120 ds (inr refl) h
 
-bracket_walk : (side : Side) (tag : List ℕ) → walk_piece (36 ∷ bracket_byte side ∷ tag) ≡ walk (Bracket side 0) tag
+pub bracket_walk : (side : Side) (tag : List ℕ) → walk_piece (36 ∷ bracket_byte side ∷ tag) ≡ walk (Bracket side 0) tag
 unfolding walk walk_piece
 bracket_walk Opening tag = refl
 bracket_walk Closing tag = refl
@@ -77,7 +77,7 @@ bracket_gone side (b ∷ bs) h =
     subst (λ (x : Next). Gone (bracket side) x) (sym (tag_first side b bs h)) (
     elim (tag_go bs side 1 (omega arith) (omega arith) h.2) [
       | inl p ↦ inl (_, p.1, refl)
-      | inr p ↦ inr (_, p.1)
+      | inr p ↦ inr (_, p.1, refl)
     ])
 
 pub comment_walk : (rest : List ℕ) → list_all is_no_line_feed rest ≡ true → walk_piece (47 ∷ 47 ∷ rest) ≡ Goes Comment
@@ -89,7 +89,7 @@ unfolding walk walk_piece
 string_gone front n h =
     elim (holds_go front n h) [
       | inl p ↦ inl (TextEnd, walk-append (Text 0) (Text n) front (34 ∷ []) p.1, refl)
-      | inr p ↦ inr (BadString, walk_bad (Text 0) front (34 ∷ []) BadString p.1)
+      | inr p ↦ inr (BadString, walk_bad (Text 0) front (34 ∷ []) BadString p.1, refl)
     ]
 
 pub character_walk : (inside : List ℕ) → IsOne inside → walk_piece (39 ∷ inside ++ 39 ∷ []) ≡ Goes QuoteEnd

@@ -11,3 +11,6 @@ pub mod Cutting
 pub mod Pieces
 pub mod Tokens
 pub mod Values
+pub mod TextFault
+pub mod Telling
+pub mod LexLaws

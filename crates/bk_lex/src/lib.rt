@@ -5,6 +5,7 @@ mod adding;
 mod counting;
 mod cutter;
 mod header;
+mod laws;
 mod machine;
 mod reserved;
 mod scan;
@@ -15,6 +16,7 @@ mod token;
 mod values;
 
 pub use cutter::{Cut, Cutter};
+pub use laws::{gives_each_section, has_one_section, reserved_by_its_letters};
 pub use scan::{Lexed, lex};
 pub use token::{Kind, Token};
 pub use values::{character_byte, number_word, string_bytes};

@@ -1,9 +1,10 @@
 //! The tokens of a section.
-ghost use Rattle.std.specs.Prelude.{◌≡◌, ◌++◌, ◌∷◌, [], OnOk, IfOk, ◌≤◌, length, slice_range};
+ghost use Rattle.std.specs.Prelude.{◌≡◌, ◌++◌, ◌∷◌, [], OnOk, IfOk, IfErr, Ok, ◌≤◌, length, slice_range};
 ghost use Rattle.bk_lex.specs.Tokens.{IsSection};
+ghost use Rattle.bk_lex.specs.Telling.{SaysFault};
 ghost use Rattle.bk_lex.specs.Symbol.{symbols_of};
 ghost use Rattle.bk_lex.specs.Counting.{step_of, finished};
-ghost use Rattle.bk_lex.specs.Lexing.{Gives, section_of, put_on, told, told_kind, line_after, place_after, lexed, is_dot};
+ghost use Rattle.bk_lex.specs.Lexing.{Gives, Section, section_of, put_on, told, told_kind, line_after, place_after, lexed, is_dot};
 
 use crate::adding::add;
 use crate::counting::{Act, Given, State, finished, start, take_byte};
@@ -120,6 +121,10 @@ pub fn lex<'a>(alloc: Global, text: &'a [u8], from: Line) -> Result<Lexed<'a>, R
     ensures gives { Gives result (lexed text.now from) }
     // The text is cut into pieces, each the longest there, and the tokens are those of the pieces.
     ensures tokens { IfOk result (λ l. IsSection text.now from (section_of l)) }
+    // Where the text's first section is cut so, it is given, unless memory runs out.
+    ensures only { (s : Section) → IsSection text.now from s → Gives result (Ok s) }
+    // A fault stands in the first section, on the line that is told, and where a byte makes it certain, whatever follows.
+    ensures tells { IfErr result (λ e. SaysFault e from text.now) }
 {
     read_section(alloc, text, from)
 }

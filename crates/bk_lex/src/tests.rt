@@ -1,20 +1,443 @@
 //! Tests of what no clause says: rows of texts with their tokens or their fault, and each limit at its last good value
 //! and the next.
-use crate::{Cut, Cutter, Kind, character_byte, lex, number_word, string_bytes};
-use bk_base::{Line, Refused, SourceFault, SourceKind};
+use crate::{Cut, Cutter, Kind, Lexed, character_byte, lex, number_word, string_bytes};
+use bk_base::{Line, Refused};
 use std::test::Fail;
 
-/// The tokens of a text as text: the spelling of each, with `^` before an inserted one, and the line where it is not
-/// that of the token before; behind them a `.` if one ended the section, and the bytes used.
-fn shown(rt: &HostRuntime, text: &[u8], from: u32) -> Result<String, Refused<SourceFault>> {
-    let lexed = lex(rt.alloc(), text, Line::new(from.max(1)))?;
+const MOST_BYTES: usize = 1_048_576;
+
+const MOST_SYMBOLS: usize = 262_144;
+
+/// Texts with their tokens, as `listed` writes them.
+static TEXTS: [(&[u8], &[u8]); 53] = [
+    (
+        b"4294967295 #37777777777 #Xffffffff",
+        b"4294967295 #37777777777 #Xffffffff 34",
+    ),
+    (b"A := B\n!C := 1 .", b"A := B @2 ^; ! C := 1 .16"),
+    (b"IF A GOTO L", b"IF A ^DO GOTO L 11"),
+    (b"A.B .", b"A.B .5"),
+    (b"", b"0"),
+    (b" \t\r\x0c", b"4"),
+    (b".", b".1"),
+    (b"\n\n", b"2@3"),
+    (b"\n.A", b".2@2"),
+    (b"A.", b"A. 2"),
+    (b"FINISH.", b"FINISH. 7"),
+    (b"GET.", b"GET. 4"),
+    (b"$)1.", b"$)1. 4"),
+    (b"1.", b"1 .2"),
+    (b"(A).B", b"( A ) .4"),
+    (b"$(.", b"$( .3"),
+    (b"$(WRCH(1)", b"$(WRCH ( 1 ) 9"),
+    (b"$)REPEAT", b"$)REPEAT 8"),
+    (b"$) REPEAT", b"$) REPEAT 9"),
+    (b"$(1A.2-", b"$(1A.2 - 7"),
+    (b"A//B\nC", b"A @2 ^; C 6"),
+    (b"A/B", b"A / B 3"),
+    (b"A / /B", b"A / / B 6"),
+    (b"//.\n.", b".5@2"),
+    (b"A<=B<<C<D", b"A <= B << C < D 9"),
+    (b"A>=B>>C>D", b"A >= B >> C > D 9"),
+    (b"A->B-C-", b"A -> B - C - 7"),
+    (b"A~=~B", b"A ~= ~ B 5"),
+    (b"A:=B:C", b"A := B : C 6"),
+    (b"A=<=B", b"A = <= B 5"),
+    (b"A%B", b"A % B 3"),
+    (b"+*/!@&|,;?()=", b"+ * / ! @ & | , ; ? ( ) = 13"),
+    (b"#178", b"#17 8 4"),
+    (b"1A", b"1 A 2"),
+    (b"#xFfG", b"#xFf G 5"),
+    (b"\"A*N*\"//.'\"", b"\"A*N*\"//.'\" 11"),
+    (b"'*'''\"'", b"'*'' '\"' 7"),
+    (b"\"\"", b"\"\" 2"),
+    (b"A\nB", b"A @2 ^; B 3"),
+    (b"A\r\n\nB C", b"A @3 ^; B C 7"),
+    (b"A\nBE B", b"A @2 BE B 6"),
+    (b"A\n+B", b"A @2 + B 4"),
+    (b"REPEAT\n1", b"REPEAT @2 ^; 1 8"),
+    (b"REPEAT GOTO", b"REPEAT GOTO 11"),
+    (b"$)\nCASE 1 IF", b"$) @2 ^; CASE 1 ^DO IF 12"),
+    (
+        b"TRUE $( ? if false Break",
+        b"TRUE ^DO $( ? ^DO if false ^DO Break 24",
+    ),
+    (b"A\n$(\nB", b"A @2 ^; $( @3 B 6"),
+    (b"A ~\nB", b"A ~ @2 B 5"),
+    (b". _", b".1"),
+    (b"1.\"", b"1 .2"),
+    (b") .GET", b") .3"),
+    (b"\"A\".'*Q'", b"\"A\" .4"),
+    (b"#1.$", b"#1 .3"),
+];
+
+/// Texts with their fault.
+static FAULTS: [(&[u8], &[u8]); 68] = [
+    (b"_", b"line 1: bad byte"),
+    (b"A\n\n_", b"line 3: bad byte"),
+    (b"#", b"line 1: bad byte"),
+    (b"#\n", b"line 1: bad byte"),
+    (b"#8", b"line 1: bad byte"),
+    (b"#X", b"line 1: bad byte"),
+    (b"#Xg", b"line 1: bad byte"),
+    (b"$", b"line 1: bad byte"),
+    (b"$A", b"line 1: bad byte"),
+    (b"\\", b"line 1: bad byte"),
+    (b"{", b"line 1: bad byte"),
+    (b"\x0b", b"line 1: bad byte"),
+    (b"A\xc3", b"line 1: bad byte"),
+    (b"\"AB\n", b"line 1: bad string"),
+    (b"\"AB\r", b"line 1: bad string"),
+    (b"\"AB", b"line 1: bad string"),
+    (b"\"AB*", b"line 1: bad string"),
+    (b"\"AB*\n", b"line 1: bad string"),
+    (b"'", b"line 1: bad string"),
+    (b"''", b"line 1: bad string"),
+    (b"'A", b"line 1: bad string"),
+    (b"'AB'", b"line 1: bad string"),
+    (b"'\n'", b"line 1: bad string"),
+    (b"'*", b"line 1: bad string"),
+    (b"'*N", b"line 1: bad string"),
+    (b"'*\n", b"line 1: bad string"),
+    (b"'*Q'", b"line 1: bad escape"),
+    (b"\n\"*Q\"", b"line 2: bad escape"),
+    (b"\"A*", b"line 1: bad string"),
+    (b"4294967296", b"line 1: number over 32 bits"),
+    (b"04294967296", b"line 1: number over 32 bits"),
+    (b"#40000000000", b"line 1: number over 32 bits"),
+    (b"#X100000000", b"line 1: number over 32 bits"),
+    (b"GET \"X\"", b"line 1: bad GET"),
+    (b"GET", b"line 1: bad GET"),
+    (b"\nGET\n\n", b"line 2: bad GET"),
+    (b"GET\n\n\"X\"", b"line 1: bad GET"),
+    (b"GET A", b"line 1: bad GET"),
+    (b"GET .", b"line 1: bad GET"),
+    (b"GET \"LIB\"", b"line 1: bad GET"),
+    (b"GET \"LIBHDR3\"", b"line 1: bad GET"),
+    (b"GET \"LIBHDR22\"", b"line 1: bad GET"),
+    (b"GET \"LIBHDR \"", b"line 1: bad GET"),
+    (b"GET \"\"", b"line 1: bad GET"),
+    (b"GET 'L'", b"line 1: bad GET"),
+    (b"GET GET \"LIBHDR\"", b"line 1: bad GET"),
+    (b"GET \"*Q\"", b"line 1: bad GET"),
+    (b"GET \"*", b"line 1: bad GET"),
+    (b"GET \"LIB\n", b"line 1: bad string"),
+    (b"GET \"LIB", b"line 1: bad string"),
+    (b"GET\n\"LIB\n", b"line 2: bad string"),
+    (b"GET \"LIBHDR", b"line 1: bad string"),
+    (b"GET _", b"line 1: bad byte"),
+    (b"GET_", b"line 1: bad byte"),
+    (b"GET /_", b"line 1: bad byte"),
+    (b"GET #_", b"line 1: bad GET"),
+    (b"GET $", b"line 1: bad GET"),
+    (b"GET / _", b"line 1: bad GET"),
+    (b"GET /", b"line 1: bad GET"),
+    (b"GET //", b"line 1: bad GET"),
+    (b"GET /\n_", b"line 1: bad GET"),
+    (b"GET 4294967296", b"line 1: bad GET"),
+    (b"'*Q' _", b"line 1: bad escape"),
+    (b"_ '*Q'", b"line 1: bad byte"),
+    (b"\"A\nB_", b"line 1: bad string"),
+    (b"A _ .", b"line 1: bad byte"),
+    (b"A._", b"line 1: bad byte"),
+    (b"1_.", b"line 1: bad byte"),
+];
+
+/// Words that are one symbol, with its kind.
+static WORDS: [(&[u8], Kind); 60] = [
+    (b"AND", Kind::And),
+    (b"BE", Kind::Be),
+    (b"BREAK", Kind::Break),
+    (b"BY", Kind::By),
+    (b"CASE", Kind::Case),
+    (b"DEFAULT", Kind::Default),
+    (b"DO", Kind::Do),
+    (b"ELSE", Kind::Or),
+    (b"ENDCASE", Kind::EndCase),
+    (b"EQ", Kind::Equal),
+    (b"EQV", Kind::Eqv),
+    (b"FALSE", Kind::False),
+    (b"FINISH", Kind::Finish),
+    (b"FOR", Kind::For),
+    (b"GLOBAL", Kind::Global),
+    (b"GOTO", Kind::Goto),
+    (b"IF", Kind::If),
+    (b"INTO", Kind::Into),
+    (b"LET", Kind::Let),
+    (b"LOOP", Kind::Loop),
+    (b"MANIFEST", Kind::Manifest),
+    (b"NE", Kind::NotEqual),
+    (b"NEQV", Kind::Neqv),
+    (b"NOT", Kind::Not),
+    (b"OR", Kind::Or),
+    (b"REM", Kind::Rem),
+    (b"REPEAT", Kind::Repeat),
+    (b"REPEATUNTIL", Kind::RepeatUntil),
+    (b"REPEATWHILE", Kind::RepeatWhile),
+    (b"RESULTIS", Kind::ResultIs),
+    (b"RETURN", Kind::Return),
+    (b"STATIC", Kind::Static),
+    (b"SWITCHON", Kind::SwitchOn),
+    (b"TABLE", Kind::Table),
+    (b"TEST", Kind::Test),
+    (b"THEN", Kind::Do),
+    (b"TO", Kind::To),
+    (b"TRUE", Kind::True),
+    (b"UNLESS", Kind::Unless),
+    (b"UNTIL", Kind::Until),
+    (b"VALOF", Kind::Valof),
+    (b"VEC", Kind::Vec),
+    (b"WHILE", Kind::While),
+    (b"while", Kind::While),
+    (b"wHiLe", Kind::While),
+    (b"AN", Kind::Name),
+    (b"ANDY", Kind::Name),
+    (b"AND1", Kind::Name),
+    (b"AND.", Kind::Name),
+    (b"A.ND", Kind::Name),
+    (b"REPEATUNTILL", Kind::Name),
+    (b"REPEATWHILEE", Kind::Name),
+    (b"GETS", Kind::Name),
+    (b"1", Kind::Number),
+    (b"\"\"", Kind::Text),
+    (b"'A'", Kind::Character),
+    (b"$(", Kind::SectionOpen),
+    (b"$)A", Kind::SectionClose),
+    (b"~", Kind::Not),
+    (b"~=", Kind::NotEqual),
+];
+
+/// Texts of one byte so many times, with bytes before and behind, and the number of their tokens or their fault.
+static LONG_TEXTS: [(&[u8], u8, usize, &[u8], &[u8]); 62] = [
+    (b"GET \"LIBHDR", b'"', 1, b"", b"53 tokens"),
+    (b"GET \"LIBHDR2", b'"', 1, b"", b"57 tokens"),
+    (b"", b'A', 255, b"", b"1 tokens"),
+    (b"", b'A', 256, b"", b"line 1: name over 255 bytes"),
+    (b"\nA", b'.', 255, b"", b"line 2: name over 255 bytes"),
+    (b"$(", b'1', 255, b" .", b"1 tokens"),
+    (b"$(", b'1', 256, b"", b"line 1: section tag over 255 bytes"),
+    (b"$)", b'a', 255, b"", b"1 tokens"),
+    (b"$)", b'a', 256, b"", b"line 1: section tag over 255 bytes"),
+    (b"\"", b'a', 255, b"\"", b"1 tokens"),
+    (b"\"*N", b'a', 254, b"\"", b"1 tokens"),
+    (b"\"", b'a', 255, b"a", b"line 1: bad string"),
+    (b"\"", b'a', 255, b"a\"", b"line 1: bad string"),
+    (b"\"", b'a', 255, b"*N", b"line 1: bad string"),
+    (b"\"", b'a', 255, b"", b"line 1: bad string"),
+    (b"\"", b'a', 255, b"\n", b"line 1: bad string"),
+    (b"\"", b'a', 255, b"*", b"line 1: bad string"),
+    (b"\"", b'a', 255, b"*\n", b"line 1: bad string"),
+    (b"\"", b'a', 255, b"*Q", b"line 1: bad escape"),
+    (b"#X", b'0', 1000, b"1", b"1 tokens"),
+    (b"", b' ', MOST_BYTES, b"", b"0 tokens"),
+    (b"", b' ', MOST_BYTES - 1, b". ", b"0 tokens"),
+    (b"", b' ', MOST_BYTES - 1, b"1", b"1 tokens"),
+    (
+        b"\n",
+        b' ',
+        MOST_BYTES - 1,
+        b" ",
+        b"line 2: section too long",
+    ),
+    (
+        b"\n",
+        b' ',
+        MOST_BYTES - 1,
+        b".",
+        b"line 2: section too long",
+    ),
+    (
+        b"\n",
+        b' ',
+        MOST_BYTES - 1,
+        b"A",
+        b"line 2: section too long",
+    ),
+    (
+        b"\n",
+        b' ',
+        MOST_BYTES - 1,
+        b"/",
+        b"line 2: section too long",
+    ),
+    (
+        b"\n",
+        b' ',
+        MOST_BYTES - 1,
+        b"#",
+        b"line 2: section too long",
+    ),
+    (
+        b"\n",
+        b' ',
+        MOST_BYTES - 1,
+        b"\"",
+        b"line 2: section too long",
+    ),
+    (b"", b' ', MOST_BYTES, b"_", b"line 1: bad byte"),
+    (
+        b"",
+        b' ',
+        MOST_BYTES - 3,
+        b"GETA",
+        b"line 1: section too long",
+    ),
+    (
+        b"",
+        b' ',
+        MOST_BYTES - 3,
+        b"GET\"",
+        b"line 1: section too long",
+    ),
+    (
+        b"",
+        b' ',
+        MOST_BYTES - 3,
+        b"GET(",
+        b"line 1: section too long",
+    ),
+    (
+        b"",
+        b'\n',
+        MOST_BYTES,
+        b" ",
+        b"line 1048577: section too long",
+    ),
+    (b"", b'+', MOST_SYMBOLS, b"//A\n .", b"262144 tokens"),
+    (b"", b'+', MOST_SYMBOLS, b"\n+", b"line 2: section too long"),
+    (b"", b'+', MOST_SYMBOLS, b"A", b"line 1: section too long"),
+    (b"", b'+', MOST_SYMBOLS, b"/", b"line 1: section too long"),
+    (b"", b'+', MOST_SYMBOLS, b"/A", b"line 1: section too long"),
+    (b"", b'+', MOST_SYMBOLS, b"/.", b"line 1: section too long"),
+    (b"", b'+', MOST_SYMBOLS, b"#_", b"line 1: section too long"),
+    (b"", b'+', MOST_SYMBOLS, b"\"", b"line 1: section too long"),
+    (b"", b'+', MOST_SYMBOLS, b"GET", b"line 1: section too long"),
+    (
+        b"",
+        b'+',
+        MOST_SYMBOLS,
+        b"'*Q'",
+        b"line 1: section too long",
+    ),
+    (b"", b'+', MOST_SYMBOLS, b"$", b"line 1: section too long"),
+    (b"", b'+', MOST_SYMBOLS, b"_", b"line 1: bad byte"),
+    (b"", b'+', MOST_SYMBOLS, b"/_", b"line 1: bad byte"),
+    (
+        b"",
+        b'+',
+        MOST_SYMBOLS - 54,
+        b"GET \"LIBHDR\"+ //",
+        b"262144 tokens",
+    ),
+    (
+        b"",
+        b'+',
+        MOST_SYMBOLS - 53,
+        b"GET \"LIBHDR\"+",
+        b"line 1: section too long",
+    ),
+    (
+        b"",
+        b'+',
+        MOST_SYMBOLS - 52,
+        b"GET\n\"LIBHDR\"_",
+        b"line 1: section too long",
+    ),
+    (
+        b"",
+        b'+',
+        MOST_SYMBOLS - 53,
+        b"GET \"LIBHDR2\"",
+        b"line 1: section too long",
+    ),
+    (
+        b"",
+        b'+',
+        MOST_SYMBOLS - 1,
+        b"GET\n\"",
+        b"line 2: section too long",
+    ),
+    (
+        b"",
+        b'+',
+        MOST_SYMBOLS - 1,
+        b"GET A",
+        b"line 1: section too long",
+    ),
+    (b"", b'+', MOST_SYMBOLS - 3, b"A\nB", b"262144 tokens"),
+    (
+        b"",
+        b'+',
+        MOST_SYMBOLS - 2,
+        b"A\nB",
+        b"line 2: section too long",
+    ),
+    (
+        b"",
+        b'+',
+        MOST_SYMBOLS - 2,
+        b"A\n1",
+        b"line 2: section too long",
+    ),
+    (
+        b"",
+        b'+',
+        MOST_SYMBOLS - 2,
+        b"A\n(",
+        b"line 2: section too long",
+    ),
+    (
+        b"",
+        b'+',
+        MOST_SYMBOLS - 2,
+        b"A\n!",
+        b"line 2: section too long",
+    ),
+    (
+        b"",
+        b'+',
+        MOST_SYMBOLS - 2,
+        b"A IF",
+        b"line 1: section too long",
+    ),
+    (b"", b'+', MOST_SYMBOLS - 2, b"A IFX", b"262144 tokens"),
+    (
+        b"",
+        b'+',
+        MOST_SYMBOLS - 2,
+        b"A\n(_",
+        b"line 2: section too long",
+    ),
+    (b"", b'+', MOST_SYMBOLS - 2, b"A\nB_", b"line 2: bad byte"),
+];
+
+static PLAIN: &[u8] =
+    b"GLOBAL $( START : 1 ; STOP : 2 ; RDCH : 3 ; WRCH : 4 ; NEWLINE : 5 ; WRITES : 6 ; WRITEN : 7 ; WRITED : 8 ; GETBYTE : 9 ; PUTBYTE : 10 $) MANIFEST $( ENDSTREAMCH = - 1 ; BYTESPERWORD = 4 $) ";
+
+static FORMATTED: &[u8] =
+    b"GLOBAL $( START : 1 ; STOP : 2 ; RDCH : 3 ; WRCH : 4 ; NEWLINE : 5 ; WRITES : 6 ; WRITEN : 7 ; WRITED : 8 ; GETBYTE : 9 ; PUTBYTE : 10 ; WRITEF : 11 $) MANIFEST $( ENDSTREAMCH = - 1 ; BYTESPERWORD = 4 $) ";
+
+/// Texts with a header: their tokens before it, whether it has WRITEF, and those behind it.
+static HEADERS: [(&[u8], &[u8], bool, &[u8]); 8] = [
+    (b"GET \"LIBHDR\"", b"", false, b"12"),
+    (b"get\"libhdr\"", b"", false, b"11"),
+    (b"Get // \"X\"\n\"LibHdr\"", b"", false, b"19@2"),
+    (b"GET \"LIBHDR2\" .", b"", true, b".15"),
+    (b"GET \"libhdr2\"\nA", b"", true, b"@2 ^; A 15"),
+    (b"GET \"LIBHDR\" A", b"", false, b"A 14"),
+    (b"GET\n\"LIBHDR\" A", b"", false, b"@2 ^; A 14"),
+    (b"$)\nGET \"LIBHDR\"IF", b"$) @2 ", false, b"IF 17"),
+];
+
+/// Tokens as text: the spelling of each, with `^` before an inserted one, and the line where it is not that of the token
+/// before; behind them a `.` if one ended the section, and the bytes used.
+fn listed(rt: &HostRuntime, lexed: &Lexed, from: Line) -> Result<String, Fail> {
     let mut out = String::new(rt.alloc());
-    let mut line = Line::new(from.max(1));
+    let mut line = from;
     for token in &lexed.tokens {
         if token.line != line {
             line = token.line;
-            let place = format!(in rt.alloc(); "@{} ", line)?;
-            out.push_str(place.as_str())?;
+            out.push_str(format!(in rt.alloc(); "@{} ", line)?.as_str())?;
         }
         if token.text.is_empty() {
             out.push_str(if token.kind == Kind::Do { "^DO" } else { "^;" })?;
@@ -27,515 +450,187 @@ fn shown(rt: &HostRuntime, text: &[u8], from: u32) -> Result<String, Refused<Sou
     if lexed.ended {
         out.push('.')?;
     }
-    let used = format!(in rt.alloc(); "{}", lexed.used)?;
-    out.push_str(used.as_str())?;
+    out.push_str(format!(in rt.alloc(); "{}", lexed.used)?.as_str())?;
     if lexed.line != line {
-        let place = format!(in rt.alloc(); "@{}", lexed.line)?;
-        out.push_str(place.as_str())?;
+        out.push_str(format!(in rt.alloc(); "@{}", lexed.line)?.as_str())?;
     }
     Ok(out)
 }
 
-/// How many tokens a text has, or its fault.
-fn count(rt: &HostRuntime, text: &[u8]) -> Result<usize, Refused<SourceFault>> {
-    let lexed = lex(rt.alloc(), text, Line::first())?;
-    Ok(lexed.tokens.len())
+/// What is told of a text: its tokens, or how many if `counted`, or its fault.
+fn told(rt: &HostRuntime, text: &[u8], from: u32, counted: bool) -> Result<String, Fail> {
+    let from = Line::new(from.max(1));
+    match lex(rt.alloc(), text, from) {
+        Ok(lexed) if counted => Ok(format!(in rt.alloc(); "{} tokens", lexed.tokens.len())?),
+        Ok(lexed) => listed(rt, &lexed, from),
+        Err(Refused::Fault(fault)) => Ok(format!(in rt.alloc(); "{}", fault)?),
+        Err(_) => Err(Fail::from("refused")),
+    }
 }
 
-/// A fault as an answer.
-fn fault(line: u32, kind: SourceKind) -> Result<usize, Refused<SourceFault>> {
-    Err(Refused::Fault(SourceFault {
-        line: Line::new(line.max(1)),
-        kind,
-    }))
+/// The number of a short text's tokens, or 100 and the number of its fault.
+fn outcome(rt: &HostRuntime, text: &[u8]) -> Result<usize, Fail> {
+    match lex(rt.alloc(), text, Line::first()) {
+        Ok(lexed) => Ok(lexed.tokens.len()),
+        Err(Refused::Fault(fault)) => Ok(100 + usize::from(fault.kind.number())),
+        Err(_) => Err(Fail::from("refused")),
+    }
 }
 
-/// A text of one byte so many times, with one before and one behind.
-fn around(
+/// The first row of a table whose text gives something else. The tables are large, so what loops over one takes it as an
+/// argument.
+fn wrong_text(
     rt: &HostRuntime,
-    before: &[u8],
-    byte: u8,
-    times: usize,
-    behind: &[u8],
-) -> Result<Vec<u8>, Fail> {
-    let mut text = vec![in rt.alloc(); byte; times]?;
-    let mut whole = Vec::new(rt.alloc());
-    whole.extend_from_slice(before)?;
-    whole.append(&mut text)?;
-    whole.extend_from_slice(behind)?;
-    Ok(whole)
+    rows: &[(&'static [u8], &'static [u8])],
+) -> Result<Option<usize>, Fail> {
+    for (i, (text, expected)) in rows.iter().enumerate() {
+        let answer = told(rt, text, 1, false)?;
+        if answer.as_bytes() != *expected {
+            return Ok(Some(i));
+        }
+    }
+    Ok(None)
 }
 
 #[test]
-fn tokens(rt: HostRuntime) -> Result<(), Fail> {
-    let rows: [(&[u8], &[u8]); 47] = [
-        (b"A := B\n!C := 1 .", b"A := B @2 ^; ! C := 1 .16"),
-        (b"IF A GOTO L", b"IF A ^DO GOTO L 11"),
-        (b"A.B .", b"A.B .5"),
-        (b"", b"0"),
-        (b" \t\r\x0c", b"4"),
-        (b".", b".1"),
-        (b"\n\n", b"2@3"),
-        (b"\n.A", b".2@2"),
-        (b"A.", b"A. 2"),
-        (b"FINISH.", b"FINISH. 7"),
-        (b"GET.", b"GET. 4"),
-        (b"$)1.", b"$)1. 4"),
-        (b"1.", b"1 .2"),
-        (b"(A).B", b"( A ) .4"),
-        (b"$(.", b"$( .3"),
-        (b"$(WRCH(1)", b"$(WRCH ( 1 ) 9"),
-        (b"$)REPEAT", b"$)REPEAT 8"),
-        (b"$) REPEAT", b"$) REPEAT 9"),
-        (b"$(1A.2-", b"$(1A.2 - 7"),
-        (b"A//B\nC", b"A @2 ^; C 6"),
-        (b"A/B", b"A / B 3"),
-        (b"A / /B", b"A / / B 6"),
-        (b"//.\n.", b".5@2"),
-        (b"A<=B<<C<D", b"A <= B << C < D 9"),
-        (b"A>=B>>C>D", b"A >= B >> C > D 9"),
-        (b"A->B-C-", b"A -> B - C - 7"),
-        (b"A~=~B", b"A ~= ~ B 5"),
-        (b"A:=B:C", b"A := B : C 6"),
-        (b"A=<=B", b"A = <= B 5"),
-        (b"A%B", b"A % B 3"),
-        (b"+*/!@&|,;?()=", b"+ * / ! @ & | , ; ? ( ) = 13"),
-        (b"#178", b"#17 8 4"),
-        (b"1A", b"1 A 2"),
-        (b"#xFfG", b"#xFf G 5"),
-        (b"\"A*N*\"//.'\"", b"\"A*N*\"//.'\" 11"),
-        (b"'*'''\"'", b"'*'' '\"' 7"),
-        (b"\"\"", b"\"\" 2"),
-        (b"A\nB", b"A @2 ^; B 3"),
-        (b"A\r\n\nB C", b"A @3 ^; B C 7"),
-        (b"A\nBE B", b"A @2 BE B 6"),
-        (b"A\n+B", b"A @2 + B 4"),
-        (b"REPEAT\n1", b"REPEAT @2 ^; 1 8"),
-        (b"REPEAT GOTO", b"REPEAT GOTO 11"),
-        (b"$)\nCASE 1 IF", b"$) @2 ^; CASE 1 ^DO IF 12"),
-        (
-            b"TRUE $( ? if false Break",
-            b"TRUE ^DO $( ? ^DO if false ^DO Break 24",
-        ),
-        (b"A\n$(\nB", b"A @2 ^; $( @3 B 6"),
-        (b"A ~\nB", b"A ~ @2 B 5"),
-    ];
-    for (text, tokens) in rows {
-        let answer = shown(&rt, text, 1);
-        assert_eq!(rt;
-            answer.as_ref().map(|out| out.as_bytes()).ok(),
-            Some(tokens)
-        );
-    }
-    Ok(())
-}
-
-#[test]
-fn headers(rt: HostRuntime) -> Result<(), Fail> {
-    let plain: &[u8] =
-        b"GLOBAL $( START : 1 ; STOP : 2 ; RDCH : 3 ; WRCH : 4 ; NEWLINE : 5 ; WRITES : 6 ; WRITEN : 7 ; WRITED : 8 ; GETBYTE : 9 ; PUTBYTE : 10 $) MANIFEST $( ENDSTREAMCH = - 1 ; BYTESPERWORD = 4 $) ";
-    let formatted: &[u8] =
-        b"GLOBAL $( START : 1 ; STOP : 2 ; RDCH : 3 ; WRCH : 4 ; NEWLINE : 5 ; WRITES : 6 ; WRITEN : 7 ; WRITED : 8 ; GETBYTE : 9 ; PUTBYTE : 10 ; WRITEF : 11 $) MANIFEST $( ENDSTREAMCH = - 1 ; BYTESPERWORD = 4 $) ";
-    let rows: [(&[u8], &[u8], &[u8], &[u8]); 8] = [
-        (b"GET \"LIBHDR\"", b"", plain, b"12"),
-        (b"get\"libhdr\"", b"", plain, b"11"),
-        (b"Get // \"X\"\n\"LibHdr\"", b"", plain, b"19@2"),
-        (b"GET \"LIBHDR2\" .", b"", formatted, b".15"),
-        (b"GET \"libhdr2\"\nA", b"", formatted, b"@2 ^; A 15"),
-        (b"GET \"LIBHDR\" A", b"", plain, b"A 14"),
-        (b"GET\n\"LIBHDR\" A", b"", plain, b"@2 ^; A 14"),
-        (b"$)\nGET \"LIBHDR\"IF", b"$) @2 ", plain, b"IF 17"),
-    ];
-    for (text, before, header, behind) in rows {
-        let mut expected = Vec::new(rt.alloc());
-        expected.extend_from_slice(before)?;
-        expected.extend_from_slice(header)?;
-        expected.extend_from_slice(behind)?;
-        let answer = shown(&rt, text, 1);
-        assert_eq!(rt;
-            answer.as_ref().map(|out| out.as_bytes()).ok(),
-            Some(expected.as_slice())
-        );
-    }
-    assert_eq!(rt; count(&rt, b"GET \"LIBHDR\""), Ok(53));
-    assert_eq!(rt; count(&rt, b"GET \"LIBHDR2\""), Ok(57));
+fn texts(rt: HostRuntime) -> Result<(), Fail> {
+    assert_eq!(rt; wrong_text(&rt, &TEXTS)?, None);
+    let answer = told(&rt, b"A\nB\nC .", 4_294_967_294, false)?;
+    assert_eq!(rt; answer.as_bytes(), b"A @4294967295 ^; B ^; C .7".as_slice());
     Ok(())
 }
 
 #[test]
 fn faults(rt: HostRuntime) -> Result<(), Fail> {
-    let rows: [(&[u8], u32, SourceKind); 68] = [
-        (b"_", 1, SourceKind::BadByte),
-        (b"A\n\n_", 3, SourceKind::BadByte),
-        (b"#", 1, SourceKind::BadByte),
-        (b"#\n", 1, SourceKind::BadByte),
-        (b"#8", 1, SourceKind::BadByte),
-        (b"#X", 1, SourceKind::BadByte),
-        (b"#Xg", 1, SourceKind::BadByte),
-        (b"$", 1, SourceKind::BadByte),
-        (b"$A", 1, SourceKind::BadByte),
-        (b"\\", 1, SourceKind::BadByte),
-        (b"{", 1, SourceKind::BadByte),
-        (b"\x0b", 1, SourceKind::BadByte),
-        (b"A\xc3", 1, SourceKind::BadByte),
-        (b"\"AB\n", 1, SourceKind::BadString),
-        (b"\"AB\r", 1, SourceKind::BadString),
-        (b"\"AB", 1, SourceKind::BadString),
-        (b"\"AB*", 1, SourceKind::BadString),
-        (b"\"AB*\n", 1, SourceKind::BadString),
-        (b"'", 1, SourceKind::BadString),
-        (b"''", 1, SourceKind::BadString),
-        (b"'A", 1, SourceKind::BadString),
-        (b"'AB'", 1, SourceKind::BadString),
-        (b"'\n'", 1, SourceKind::BadString),
-        (b"'*", 1, SourceKind::BadString),
-        (b"'*N", 1, SourceKind::BadString),
-        (b"'*\n", 1, SourceKind::BadString),
-        (b"'*Q'", 1, SourceKind::BadEscape),
-        (b"\n\"*Q\"", 2, SourceKind::BadEscape),
-        (b"\"A*", 1, SourceKind::BadString),
-        (b"4294967296", 1, SourceKind::NumberOver32Bits),
-        (b"04294967296", 1, SourceKind::NumberOver32Bits),
-        (b"#40000000000", 1, SourceKind::NumberOver32Bits),
-        (b"#X100000000", 1, SourceKind::NumberOver32Bits),
-        (b"GET \"X\"", 1, SourceKind::BadGet),
-        (b"GET", 1, SourceKind::BadGet),
-        (b"\nGET\n\n", 2, SourceKind::BadGet),
-        (b"GET\n\n\"X\"", 1, SourceKind::BadGet),
-        (b"GET A", 1, SourceKind::BadGet),
-        (b"GET .", 1, SourceKind::BadGet),
-        (b"GET \"LIB\"", 1, SourceKind::BadGet),
-        (b"GET \"LIBHDR3\"", 1, SourceKind::BadGet),
-        (b"GET \"LIBHDR22\"", 1, SourceKind::BadGet),
-        (b"GET \"LIBHDR \"", 1, SourceKind::BadGet),
-        (b"GET \"\"", 1, SourceKind::BadGet),
-        (b"GET 'L'", 1, SourceKind::BadGet),
-        (b"GET GET \"LIBHDR\"", 1, SourceKind::BadGet),
-        (b"GET \"*Q\"", 1, SourceKind::BadGet),
-        (b"GET \"*", 1, SourceKind::BadGet),
-        (b"GET \"LIB\n", 1, SourceKind::BadString),
-        (b"GET \"LIB", 1, SourceKind::BadString),
-        (b"GET\n\"LIB\n", 2, SourceKind::BadString),
-        (b"GET \"LIBHDR", 1, SourceKind::BadString),
-        (b"GET _", 1, SourceKind::BadByte),
-        (b"GET_", 1, SourceKind::BadByte),
-        (b"GET /_", 1, SourceKind::BadByte),
-        (b"GET #_", 1, SourceKind::BadGet),
-        (b"GET $", 1, SourceKind::BadGet),
-        (b"GET / _", 1, SourceKind::BadGet),
-        (b"GET /", 1, SourceKind::BadGet),
-        (b"GET //", 1, SourceKind::BadGet),
-        (b"GET /\n_", 1, SourceKind::BadGet),
-        (b"GET 4294967296", 1, SourceKind::BadGet),
-        (b"'*Q' _", 1, SourceKind::BadEscape),
-        (b"_ '*Q'", 1, SourceKind::BadByte),
-        (b"\"A\nB_", 1, SourceKind::BadString),
-        (b"A _ .", 1, SourceKind::BadByte),
-        (b"A._", 1, SourceKind::BadByte),
-        (b"1_.", 1, SourceKind::BadByte),
-    ];
-    for (text, line, kind) in rows {
-        assert_eq!(rt; count(&rt, text), fault(line, kind));
-    }
+    assert_eq!(rt; wrong_text(&rt, &FAULTS)?, None);
     Ok(())
 }
 
 #[test]
-fn beyond_the_section(rt: HostRuntime) -> Result<(), Fail> {
-    for text in [
-        b". _".as_slice(),
-        b"1.\"",
-        b") .GET",
-        b"\"A\".'*Q'",
-        b"#1.$",
-    ] {
-        assert!(rt; count(&rt, text).is_ok());
+fn headers(rt: HostRuntime) -> Result<(), Fail> {
+    for (text, before, formatted, behind) in &HEADERS {
+        let mut expected = Vec::new(rt.alloc());
+        expected.extend_from_slice(before)?;
+        expected.extend_from_slice(if *formatted { FORMATTED } else { PLAIN })?;
+        expected.extend_from_slice(behind)?;
+        let answer = told(&rt, text, 1, false)?;
+        assert_eq!(rt; answer.as_bytes(), expected.as_slice());
     }
     Ok(())
 }
 
-#[test]
-fn longest(rt: HostRuntime) -> Result<(), Fail> {
-    let name = SourceKind::NameTooLong;
-    assert_eq!(rt; count(&rt, &around(&rt, b"", b'A', 255, b"")?), Ok(1));
-    assert_eq!(rt;
-        count(&rt, &around(&rt, b"", b'A', 256, b"")?),
-        fault(1, name)
-    );
-    let name = SourceKind::NameTooLong;
-    assert_eq!(rt;
-        count(&rt, &around(&rt, b"\nA", b'.', 255, b"")?),
-        fault(2, name)
-    );
-    assert_eq!(rt; count(&rt, &around(&rt, b"$(", b'1', 255, b" .")?), Ok(1));
-    let tag = SourceKind::TagTooLong;
-    assert_eq!(rt;
-        count(&rt, &around(&rt, b"$(", b'1', 256, b"")?),
-        fault(1, tag)
-    );
-    assert_eq!(rt; count(&rt, &around(&rt, b"$)", b'a', 255, b"")?), Ok(1));
-    let tag = SourceKind::TagTooLong;
-    assert_eq!(rt;
-        count(&rt, &around(&rt, b"$)", b'a', 256, b"")?),
-        fault(1, tag)
-    );
-    assert_eq!(rt; count(&rt, &around(&rt, b"\"", b'a', 255, b"\"")?), Ok(1));
-    assert_eq!(rt; count(&rt, &around(&rt, b"\"*N", b'a', 254, b"\"")?), Ok(1));
-    for behind in [b"a".as_slice(), b"a\"", b"*N", b"", b"\n", b"*", b"*\n"] {
-        let text = around(&rt, b"\"", b'a', 255, behind)?;
-        assert_eq!(rt; count(&rt, &text), fault(1, SourceKind::BadString));
+/// The same of texts whose tokens are counted.
+fn wrong_long(
+    rt: &HostRuntime,
+    rows: &[(&'static [u8], u8, usize, &'static [u8], &'static [u8])],
+) -> Result<Option<usize>, Fail> {
+    for (i, (before, byte, times, behind, expected)) in rows.iter().enumerate() {
+        let mut repeated = vec![in rt.alloc(); *byte; *times]?;
+        let mut text = Vec::new(rt.alloc());
+        text.extend_from_slice(before)?;
+        text.append(&mut repeated)?;
+        text.extend_from_slice(behind)?;
+        let answer = told(rt, text.as_slice(), 1, true)?;
+        if answer.as_bytes() != *expected {
+            return Ok(Some(i));
+        }
     }
-    let text = around(&rt, b"\"", b'a', 255, b"*Q")?;
-    assert_eq!(rt; count(&rt, &text), fault(1, SourceKind::BadEscape));
-    assert_eq!(rt; count(&rt, b"4294967295 #37777777777 #Xffffffff"), Ok(3));
-    assert_eq!(rt; count(&rt, &around(&rt, b"#X", b'0', 1000, b"1")?), Ok(1));
+    Ok(None)
+}
+
+#[test]
+fn long_texts(rt: HostRuntime) -> Result<(), Fail> {
+    assert_eq!(rt; wrong_long(&rt, &LONG_TEXTS)?, None);
     Ok(())
+}
+
+/// What a byte is, as a text of its own, in a string, in a character constant and behind a `*`: 1 token, none, or 100 and
+/// the number of the fault.
+fn expected_of(byte: u8) -> [usize; 4] {
+    let alone = match byte {
+        b'.' | b' ' | 9 | 10 | 12 | 13 => 0,
+        b'"' | b'\'' => 102,
+        b'('
+        | b')'
+        | b'+'
+        | b'-'
+        | b'*'
+        | b'/'
+        | b'!'
+        | b'%'
+        | b'@'
+        | b'='
+        | b'<'
+        | b'>'
+        | b'~'
+        | b'&'
+        | b'|'
+        | b','
+        | b';'
+        | b':'
+        | b'?' => 1,
+        _ if byte.is_ascii_alphanumeric() => 1,
+        _ => 101,
+    };
+    let inside = |quote: u8| match byte {
+        b'\n' | b'\r' | b'*' => 102,
+        _ if byte == quote => 102,
+        _ => 1,
+    };
+    let escape = match byte {
+        b'\n' | b'\r' => 102,
+        b'N'
+        | b'T'
+        | b'S'
+        | b'B'
+        | b'P'
+        | b'C'
+        | b'n'
+        | b't'
+        | b's'
+        | b'b'
+        | b'p'
+        | b'c'
+        | b'*'
+        | b'"'
+        | b'\'' => 1,
+        _ => 103,
+    };
+    [alone, inside(b'"'), inside(b'\''), escape]
 }
 
 #[test]
 fn each_byte(rt: HostRuntime) -> Result<(), Fail> {
     for byte in 0..=255u8 {
-        let blank = matches!(byte, b' ' | 9 | 10 | 12 | 13);
-        let alone = byte.is_ascii_alphanumeric()
-            || matches!(
-                byte,
-                b'(' | b')'
-                    | b'+'
-                    | b'-'
-                    | b'*'
-                    | b'/'
-                    | b'!'
-                    | b'%'
-                    | b'@'
-                    | b'='
-                    | b'<'
-                    | b'>'
-                    | b'~'
-                    | b'&'
-                    | b'|'
-                    | b','
-                    | b';'
-                    | b':'
-                    | b'?'
-            );
-        let expected = match byte {
-            b'.' => Ok(0),
-            b'"' | b'\'' => fault(1, SourceKind::BadString),
-            _ if blank => Ok(0),
-            _ if alone => Ok(1),
-            _ => fault(1, SourceKind::BadByte),
-        };
-        assert_eq!(rt; count(&rt, &[byte]), expected);
-        let inside = match byte {
-            b'\n' | b'\r' | b'"' | b'*' => fault(1, SourceKind::BadString),
-            _ => Ok(1),
-        };
-        assert_eq!(rt; count(&rt, &[b'"', byte, b'"']), inside);
-        let inside = match byte {
-            b'\n' | b'\r' | b'\'' | b'*' => fault(1, SourceKind::BadString),
-            _ => Ok(1),
-        };
-        assert_eq!(rt; count(&rt, &[b'\'', byte, b'\'']), inside);
-        let escape = match byte {
-            b'\n' | b'\r' => fault(1, SourceKind::BadString),
-            b'N'
-            | b'T'
-            | b'S'
-            | b'B'
-            | b'P'
-            | b'C'
-            | b'n'
-            | b't'
-            | b's'
-            | b'b'
-            | b'p'
-            | b'c'
-            | b'*'
-            | b'"'
-            | b'\'' => Ok(1),
-            _ => fault(1, SourceKind::BadEscape),
-        };
-        assert_eq!(rt; count(&rt, &[b'"', b'*', byte, b'"']), escape);
-        let comment = if byte == 10 { Ok(2) } else { Ok(0) };
-        assert_eq!(rt;
-            count(&rt, &[b'/', b'/', byte, b'A', b'B']),
-            if byte == 10 { Ok(1) } else { comment }
-        );
+        let answers = [
+            outcome(&rt, &[byte])?,
+            outcome(&rt, &[b'"', byte, b'"'])?,
+            outcome(&rt, &[b'\'', byte, b'\''])?,
+            outcome(&rt, &[b'"', b'*', byte, b'"'])?,
+        ];
+        assert!(rt; answers == expected_of(byte));
+        let behind = outcome(&rt, &[b'/', b'/', byte, b'A', b'B'])?;
+        assert!(rt; behind == usize::from(byte == b'\n'));
     }
     Ok(())
+}
+
+/// The same of words that are one symbol.
+fn wrong_word(rt: &HostRuntime, rows: &[(&'static [u8], Kind)]) -> Result<Option<usize>, Fail> {
+    for (i, (text, kind)) in rows.iter().enumerate() {
+        let Ok(lexed) = lex(rt.alloc(), text, Line::first()) else {
+            return Ok(Some(i));
+        };
+        if lexed.tokens.len() != 1 || lexed.tokens.iter().any(|token| token.kind != *kind) {
+            return Ok(Some(i));
+        }
+    }
+    Ok(None)
 }
 
 #[test]
 fn reserved_words(rt: HostRuntime) -> Result<(), Fail> {
-    let rows: [(&[u8], Kind); 60] = [
-        (b"AND", Kind::And),
-        (b"BE", Kind::Be),
-        (b"BREAK", Kind::Break),
-        (b"BY", Kind::By),
-        (b"CASE", Kind::Case),
-        (b"DEFAULT", Kind::Default),
-        (b"DO", Kind::Do),
-        (b"ELSE", Kind::Or),
-        (b"ENDCASE", Kind::EndCase),
-        (b"EQ", Kind::Equal),
-        (b"EQV", Kind::Eqv),
-        (b"FALSE", Kind::False),
-        (b"FINISH", Kind::Finish),
-        (b"FOR", Kind::For),
-        (b"GLOBAL", Kind::Global),
-        (b"GOTO", Kind::Goto),
-        (b"IF", Kind::If),
-        (b"INTO", Kind::Into),
-        (b"LET", Kind::Let),
-        (b"LOOP", Kind::Loop),
-        (b"MANIFEST", Kind::Manifest),
-        (b"NE", Kind::NotEqual),
-        (b"NEQV", Kind::Neqv),
-        (b"NOT", Kind::Not),
-        (b"OR", Kind::Or),
-        (b"REM", Kind::Rem),
-        (b"REPEAT", Kind::Repeat),
-        (b"REPEATUNTIL", Kind::RepeatUntil),
-        (b"REPEATWHILE", Kind::RepeatWhile),
-        (b"RESULTIS", Kind::ResultIs),
-        (b"RETURN", Kind::Return),
-        (b"STATIC", Kind::Static),
-        (b"SWITCHON", Kind::SwitchOn),
-        (b"TABLE", Kind::Table),
-        (b"TEST", Kind::Test),
-        (b"THEN", Kind::Do),
-        (b"TO", Kind::To),
-        (b"TRUE", Kind::True),
-        (b"UNLESS", Kind::Unless),
-        (b"UNTIL", Kind::Until),
-        (b"VALOF", Kind::Valof),
-        (b"VEC", Kind::Vec),
-        (b"WHILE", Kind::While),
-        (b"while", Kind::While),
-        (b"wHiLe", Kind::While),
-        (b"AN", Kind::Name),
-        (b"ANDY", Kind::Name),
-        (b"AND1", Kind::Name),
-        (b"AND.", Kind::Name),
-        (b"A.ND", Kind::Name),
-        (b"REPEATUNTILL", Kind::Name),
-        (b"REPEATWHILEE", Kind::Name),
-        (b"GETS", Kind::Name),
-        (b"1", Kind::Number),
-        (b"\"\"", Kind::Text),
-        (b"'A'", Kind::Character),
-        (b"$(", Kind::SectionOpen),
-        (b"$)A", Kind::SectionClose),
-        (b"~", Kind::Not),
-        (b"~=", Kind::NotEqual),
-    ];
-    for (text, kind) in rows {
-        let lexed = match lex(rt.alloc(), text, Line::first()) {
-            Ok(lexed) => lexed,
-            Err(_) => return Err(Fail::from("refused")),
-        };
-        assert_eq!(rt; lexed.tokens.len(), 1);
-        assert_eq!(rt; lexed.tokens.first().map(|token| token.kind), Some(kind));
-    }
-    Ok(())
-}
-
-#[test]
-fn most_bytes(rt: HostRuntime) -> Result<(), Fail> {
-    const MOST: usize = 1_048_576;
-    assert_eq!(rt; count(&rt, &around(&rt, b"", b' ', MOST, b"")?), Ok(0));
-    assert_eq!(rt;
-        count(&rt, &around(&rt, b"", b' ', MOST - 1, b". ")?),
-        Ok(0)
-    );
-    assert_eq!(rt; count(&rt, &around(&rt, b"", b' ', MOST - 1, b"1")?), Ok(1));
-    for behind in [b" ".as_slice(), b".", b"A", b"/", b"#", b"\""] {
-        let text = around(&rt, b"\n", b' ', MOST - 1, behind)?;
-        assert_eq!(rt; count(&rt, &text), fault(2, SourceKind::SectionTooLong));
-    }
-    let text = around(&rt, b"", b' ', MOST, b"_")?;
-    assert_eq!(rt; count(&rt, &text), fault(1, SourceKind::BadByte));
-    let text = around(&rt, b"", b' ', MOST - 3, b"GETA")?;
-    assert_eq!(rt; count(&rt, &text), fault(1, SourceKind::SectionTooLong));
-    let text = around(&rt, b"", b' ', MOST - 3, b"GET\"")?;
-    assert_eq!(rt; count(&rt, &text), fault(1, SourceKind::SectionTooLong));
-    let text = around(&rt, b"", b' ', MOST - 3, b"GET(")?;
-    assert_eq!(rt; count(&rt, &text), fault(1, SourceKind::SectionTooLong));
-    let text = around(&rt, b"", b'\n', MOST, b" ")?;
-    assert_eq!(rt;
-        count(&rt, &text),
-        fault(1_048_577, SourceKind::SectionTooLong)
-    );
-    Ok(())
-}
-
-#[test]
-fn most_symbols(rt: HostRuntime) -> Result<(), Fail> {
-    const MOST: usize = 262_144;
-    let long = SourceKind::SectionTooLong;
-    assert_eq!(rt;
-        count(&rt, &around(&rt, b"", b'+', MOST, b"//A\n .")?),
-        Ok(MOST)
-    );
-    assert_eq!(rt;
-        count(&rt, &around(&rt, b"", b'+', MOST, b"\n+")?),
-        fault(2, long)
-    );
-    for behind in [
-        b"A".as_slice(),
-        b"/",
-        b"/A",
-        b"/.",
-        b"#_",
-        b"\"",
-        b"GET",
-        b"'*Q'",
-        b"$",
-    ] {
-        let text = around(&rt, b"", b'+', MOST, behind)?;
-        assert_eq!(rt; count(&rt, &text), fault(1, SourceKind::SectionTooLong));
-    }
-    for behind in [b"_".as_slice(), b"/_"] {
-        let text = around(&rt, b"", b'+', MOST, behind)?;
-        assert_eq!(rt; count(&rt, &text), fault(1, SourceKind::BadByte));
-    }
-    let text = around(&rt, b"", b'+', MOST - 54, b"GET \"LIBHDR\"+ //")?;
-    assert_eq!(rt; count(&rt, &text), Ok(MOST));
-    let text = around(&rt, b"", b'+', MOST - 53, b"GET \"LIBHDR\"+")?;
-    assert_eq!(rt; count(&rt, &text), fault(1, SourceKind::SectionTooLong));
-    let text = around(&rt, b"", b'+', MOST - 52, b"GET\n\"LIBHDR\"_")?;
-    assert_eq!(rt; count(&rt, &text), fault(1, SourceKind::SectionTooLong));
-    let text = around(&rt, b"", b'+', MOST - 53, b"GET \"LIBHDR2\"")?;
-    assert_eq!(rt; count(&rt, &text), fault(1, SourceKind::SectionTooLong));
-    let text = around(&rt, b"", b'+', MOST - 1, b"GET\n\"")?;
-    assert_eq!(rt; count(&rt, &text), fault(2, SourceKind::SectionTooLong));
-    let text = around(&rt, b"", b'+', MOST - 1, b"GET A")?;
-    assert_eq!(rt; count(&rt, &text), fault(1, SourceKind::SectionTooLong));
-    let text = around(&rt, b"", b'+', MOST - 3, b"A\nB")?;
-    assert_eq!(rt; count(&rt, &text), Ok(MOST));
-    for behind in [b"A\nB".as_slice(), b"A\n1", b"A\n(", b"A\n!"] {
-        let text = around(&rt, b"", b'+', MOST - 2, behind)?;
-        assert_eq!(rt; count(&rt, &text), fault(2, SourceKind::SectionTooLong));
-    }
-    let text = around(&rt, b"", b'+', MOST - 2, b"A IF")?;
-    assert_eq!(rt; count(&rt, &text), fault(1, SourceKind::SectionTooLong));
-    let text = around(&rt, b"", b'+', MOST - 2, b"A IFX")?;
-    assert_eq!(rt; count(&rt, &text), Ok(MOST));
-    let text = around(&rt, b"", b'+', MOST - 2, b"A\n(_")?;
-    assert_eq!(rt; count(&rt, &text), fault(2, SourceKind::SectionTooLong));
-    let text = around(&rt, b"", b'+', MOST - 2, b"A\nB_")?;
-    assert_eq!(rt; count(&rt, &text), fault(2, SourceKind::BadByte));
-    Ok(())
-}
-
-#[test]
-fn last_line(rt: HostRuntime) -> Result<(), Fail> {
-    let answer = shown(&rt, b"A\nB\nC .", 4_294_967_294);
-    let expected: &[u8] = b"A @4294967295 ^; B ^; C .7";
-    assert_eq!(rt;
-        answer.as_ref().map(|out| out.as_bytes()).ok(),
-        Some(expected)
-    );
+    assert_eq!(rt; wrong_word(&rt, &WORDS)?, None);
     Ok(())
 }
 
