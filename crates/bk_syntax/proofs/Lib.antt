@@ -10,3 +10,7 @@ pub mod Moves
 pub mod Sound
 pub mod StepsSound
 pub mod Exact
+pub mod Stacks
+pub mod Turns
+pub mod Trees
+pub mod Insides

@@ -14,7 +14,7 @@ use Rattle.bk_syntax.specs.declared.tree.Simple.{Simple}
 use Rattle.bk_syntax.specs.declared.symbols.Guard.{Guard}
 use Rattle.bk_syntax.specs.declared.symbols.Guard.TheVariants as g
 use Rattle.bk_syntax.specs.Tree.{Mention, Expression, Expressions, Action, Actions, Declaration, Declarations, Items, Definition, name, number, text, truth, query, apply, none, more, empty, simple, block, repeat, no_actions, also, constants, definitions, no_declarations, declare, no_definitions, define}
-use Rattle.bk_syntax.specs.Spelling.{upper_case, number_of, string_of, character_of}
+use Rattle.bk_lex.specs.Values.{upper_name, number_word, string_bytes, character_byte}
 use Rattle.bk_syntax.specs.Rows.{row, left, is_relation, infix_of, prefix_of, leaf, simple_of, sort_of, guard_of, sign_of, repeats, is_and, goes, Fails}
 use Rattle.bk_syntax.specs.Grammar.{line_of, line_of_action, last, Full, Ends, Filled, Reads, Does, Declares, Defines}
 use Rattle.bk_syntax.specs.Machine.{declarations_then, definitions_then, Stack, in_section, in_block, in_let, at_opening, at_items, at_goto, at_for, at_default, in_parens, in_unary, in_binary, in_chain, in_then, in_args, in_table, in_start, in_dests, in_values, in_guard, in_test, in_result, in_while, in_by, in_valof, in_label, in_guarded, in_for, State, want, have, begin, maybe, did, due, limit, linked, infixed, push, is_semicolon, closes, is_let, is_sign_of, guarded, behind_sign, prefixed, no_args, bars, leaved, take_operand, take_start, take_command, sorted, take_declaration, take_in_section, in_head, take_in_block, declared, declared_by, defined_by, again, dests, labelled, in_constants, to_or_do, inside}
@@ -95,10 +95,10 @@ push_at y st e t n a ms us j is b r g h = infixed_at (infix_of y) st e t n a ms 
 -- ---- operands
 
 pub leaf_reads : (y : Kind) (t : Symbol) (us : List Symbol) (e : Expression) → t.kind ≡ y → leaf y t.line t.text ≡ Some e → Reads 0 e (t ∷ us) us
-leaf_reads k.Name t us e is h = let P : Expression → Type 0 = λ z. Reads 0 z (t ∷ us) us in let same : name t.line (upper_case t.text) ≡ e = cc in subst P same (t, refl, ap (λ y. leaf y t.line t.text) is)
-leaf_reads k.Number t us e is h = let P : Expression → Type 0 = λ z. Reads 0 z (t ∷ us) us in let same : number t.line (number_of t.text) ≡ e = cc in subst P same (t, refl, ap (λ y. leaf y t.line t.text) is)
-leaf_reads k.Text t us e is h = let P : Expression → Type 0 = λ z. Reads 0 z (t ∷ us) us in let same : text t.line (string_of t.text) ≡ e = cc in subst P same (t, refl, ap (λ y. leaf y t.line t.text) is)
-leaf_reads k.Character t us e is h = let P : Expression → Type 0 = λ z. Reads 0 z (t ∷ us) us in let same : number t.line (character_of t.text) ≡ e = cc in subst P same (t, refl, ap (λ y. leaf y t.line t.text) is)
+leaf_reads k.Name t us e is h = let P : Expression → Type 0 = λ z. Reads 0 z (t ∷ us) us in let same : name t.line (upper_name t.text) ≡ e = cc in subst P same (t, refl, ap (λ y. leaf y t.line t.text) is)
+leaf_reads k.Number t us e is h = let P : Expression → Type 0 = λ z. Reads 0 z (t ∷ us) us in let same : number t.line (number_word t.text) ≡ e = cc in subst P same (t, refl, ap (λ y. leaf y t.line t.text) is)
+leaf_reads k.Text t us e is h = let P : Expression → Type 0 = λ z. Reads 0 z (t ∷ us) us in let same : text t.line (string_bytes t.text) ≡ e = cc in subst P same (t, refl, ap (λ y. leaf y t.line t.text) is)
+leaf_reads k.Character t us e is h = let P : Expression → Type 0 = λ z. Reads 0 z (t ∷ us) us in let same : number t.line (character_byte t.text) ≡ e = cc in subst P same (t, refl, ap (λ y. leaf y t.line t.text) is)
 leaf_reads k.True t us e is h = let P : Expression → Type 0 = λ z. Reads 0 z (t ∷ us) us in let same : truth t.line true ≡ e = cc in subst P same (t, refl, ap (λ y. leaf y t.line t.text) is)
 leaf_reads k.False t us e is h = let P : Expression → Type 0 = λ z. Reads 0 z (t ∷ us) us in let same : truth t.line false ≡ e = cc in subst P same (t, refl, ap (λ y. leaf y t.line t.text) is)
 leaf_reads k.Query t us e is h = let P : Expression → Type 0 = λ z. Reads 0 z (t ∷ us) us in let same : query t.line ≡ e = cc in subst P same (t, refl, ap (λ y. leaf y t.line t.text) is)
@@ -197,7 +197,7 @@ to_or_do_at k.By l x p q st n a us h i j = to (want (in_by l x p q st)) n a us h
 to_or_do_at k.Do l x p q st n a us h i j = to (begin (in_for l x p q none st)) n a us h (j refl)
 to_or_do_at _ l x p q st n a us h i j = absurd cc
 
-pub name_spelled : (y : Kind) (m : ℕ) (s : List ℕ) (l : ℕ) (x : List ℕ) → leaf y m s ≡ Some (name l x) → (y ≡ k.Name) × (m ≡ l) × (upper_case s ≡ x)
+pub name_spelled : (y : Kind) (m : ℕ) (s : List ℕ) (l : ℕ) (x : List ℕ) → leaf y m s ≡ Some (name l x) → (y ≡ k.Name) × (m ≡ l) × (upper_name s ≡ x)
 name_spelled k.Name m s l x h = (refl, cc, cc)
 name_spelled _ m s l x h = absurd cc
 

@@ -6,7 +6,7 @@ use Rattle.bk_lex.specs.Symbol.{Symbol}
 use Rattle.bk_syntax.specs.declared.tree.Sort.{Sort}
 use Rattle.bk_syntax.specs.declared.symbols.Guard.TheVariants as g
 use Rattle.bk_syntax.specs.Tree.{Mention, Items, empty, goto, label, case_of, default, constants, no_items, item, no_starts}
-use Rattle.bk_syntax.specs.Spelling.{upper_case}
+use Rattle.bk_lex.specs.Values.{upper_name}
 use Rattle.bk_syntax.specs.Rows.{begins_command}
 use Rattle.bk_syntax.specs.Grammar.{Spelled, Names}
 use Rattle.bk_syntax.specs.Machine.{Stack, in_section, in_block, in_let, at_name, at_formals, at_formal, at_formal_end, at_head, at_variable, at_variable_end, at_starts, at_opening, at_items, at_sign, at_goto, at_for, at_forward, at_default, in_from, in_item, in_function, in_value, in_vector, in_label, in_guarded, in_default, in_routine, State, want, have, begin, maybe, did, due, is_close, is_colon, is_equal, is_semicolon, opens, closes, is_vec, is_open, named, without, inside, in_names, in_formals, headed, take_item, take_due, step}
@@ -15,14 +15,14 @@ use Rattle.bk_syntax.proofs.Lists.{names_snoc, names_comma, formals_of, items_se
 use Rattle.bk_syntax.proofs.Moves.{operand_at, command_at, section_at, block_at, declared_at}
 use Rattle.bk_syntax.proofs.Sound.{give_at, finish_at, low}
 
-mention_at : (y : Kind) (l : ℕ) (x : List ℕ) (f : Mention → State) (n : State) → named y l x f ≡ Some n → (y ≡ k.Name) × (some_state (f (record { line = l; letters = upper_case x })) ≡ Some n)
+mention_at : (y : Kind) (l : ℕ) (x : List ℕ) (f : Mention → State) (n : State) → named y l x f ≡ Some n → (y ≡ k.Name) × (some_state (f (record { line = l; letters = upper_name x })) ≡ Some n)
 mention_at k.Name l x f n h = (refl, h)
 mention_at _ l x f n h = absurd cc
 
 -- a symbol that is a name
 as_name : (t : Symbol) (f : Mention → State) (n : State) (a us : List Symbol) → named t.kind t.line t.text f ≡ Some n
     → ((m : Mention) → Spelled m.line m.letters t → Inv (f m) a us) → Inv n a us
-as_name t f n a us h i = let m = mention_at t.kind t.line t.text f n h in to (f (record { line = t.line; letters = upper_case t.text })) n a us m.1 (i (record { line = t.line; letters = upper_case t.text }) (m.0, refl, refl))
+as_name t f n a us h i = let m = mention_at t.kind t.line t.text f n h in to (f (record { line = t.line; letters = upper_name t.text })) n a us m.1 (i (record { line = t.line; letters = upper_name t.text }) (m.0, refl, refl))
 
 names_at : (y : Kind) (xs : List Mention) (st : Stack) (n : State) (a us : List Symbol) → in_names xs st y ≡ Some n → (y ≡ k.Comma → Inv (due (at_variable xs st)) a us) → (y ≡ k.Equal → Inv (due (at_starts xs no_starts st)) a us) → Inv n a us
 names_at k.Comma xs st n a us h i j = to (due (at_variable xs st)) n a us h (i refl)

@@ -9,7 +9,7 @@ use Rattle.bk_syntax.specs.declared.tree.Operator.TheVariants.{Both}
 use Rattle.bk_syntax.specs.declared.symbols.Guard.{Guard}
 use Rattle.bk_syntax.specs.declared.symbols.Guard.TheVariants as g
 use Rattle.bk_syntax.specs.Tree.{Mention, Expression, Expressions, Action, Actions, Declaration, Declarations, Items, Definition, Definitions, Starts, name, number, text, truth, query, parens, unary, binary, choice, apply, valof, table, none, more, empty, assign, call, goto, label, case_of, default, when, test, while, for_loop, switch, result, simple, block, repeat, repeat_while, no_actions, also, constants, definitions, no_declarations, declare, no_items, item, routine, function, variables, no_definitions, define, no_starts, value, vector}
-use Rattle.bk_syntax.specs.Spelling.{upper_case}
+use Rattle.bk_lex.specs.Values.{upper_name}
 use Rattle.bk_syntax.specs.Rows.{row, inner, left, behind, is_relation, infix_of, prefix_of, leaf, simple_of, sort_of, guard_of, sign_of, begins_command, repeats, assigns, is_and, is_comma, Fails, Stops}
 
 -- one symbol, which is this operand by itself
@@ -18,7 +18,7 @@ Leaf e ts us = (t : Symbol) × (ts ≡ t ∷ us) × (leaf t.kind t.line t.text �
 
 -- a name in any letter case
 abbrev pub Spelled : ℕ → List ℕ → Symbol → Type 0
-Spelled line letters t = (t.kind ≡ k.Name) × (t.line ≡ line) × (upper_case t.text ≡ letters)
+Spelled line letters t = (t.kind ≡ k.Name) × (t.line ≡ line) × (upper_name t.text ≡ letters)
 
 -- at least one name, with commas between
 abbrev pub Names : List Mention → List Symbol → List Symbol → Type 0
@@ -52,16 +52,16 @@ line_of (valof l c) = l
 line_of (table l es) = l
 
 abbrev pub line_of_first : Expressions → ℕ
-line_of_first none = 0
+line_of_first none = 1
 line_of_first (more e es) = line_of e
 
 abbrev pub line_of_names : List Mention → ℕ
-line_of_names [] = 0
+line_of_names [] = 1
 line_of_names (x ∷ xs) = x.line
 
--- the line of a command's first symbol; an empty one has none
+-- the line of a command's first symbol; an empty one has none, and counts as on the first
 abbrev pub line_of_action : Action → ℕ
-line_of_action empty = 0
+line_of_action empty = 1
 line_of_action (assign l xs es) = l
 line_of_action (call l f es) = l
 line_of_action (goto l x) = l

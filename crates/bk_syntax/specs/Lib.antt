@@ -7,3 +7,4 @@ pub mod Limits
 pub mod SyntaxFault
 pub mod Machine
 pub mod SyntaxLaws
+pub mod Frames

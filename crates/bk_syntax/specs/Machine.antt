@@ -11,7 +11,7 @@ use Rattle.bk_syntax.specs.declared.tree.Simple.{Simple}
 use Rattle.bk_syntax.specs.declared.symbols.Guard.{Guard}
 use Rattle.bk_syntax.specs.declared.symbols.Guard.TheVariants as g
 use Rattle.bk_syntax.specs.Tree.{Mention, Expression, Expressions, Action, Actions, Declaration, Declarations, Items, Definition, Definitions, Starts, name, parens, unary, binary, choice, apply, valof, table, none, more, empty, assign, call, goto, label, case_of, default, when, test, while, for_loop, switch, result, simple, block, repeat, repeat_while, no_actions, also, constants, definitions, no_declarations, declare, no_items, item, routine, function, variables, no_definitions, define, no_starts, value, vector}
-use Rattle.bk_syntax.specs.Spelling.{upper_case}
+use Rattle.bk_lex.specs.Values.{upper_name}
 use Rattle.bk_syntax.specs.Rows.{inner, behind, is_relation, infix_of, prefix_of, leaf, simple_of, sort_of, guard_of, begins_command, repeats, assigns, is_and, is_comma, goes}
 use Rattle.bk_syntax.specs.Grammar.{line_of, line_of_first, line_of_names, line_of_action, size, start_count, last}
 
@@ -192,7 +192,7 @@ if_is b x = cond b (Some x) None
 
 -- the name that a symbol is
 abbrev pub named : Kind → ℕ → List ℕ → (Mention → State) → Option State
-named k.Name l x f = Some (f (record { line = l; letters = upper_case x }))
+named k.Name l x f = Some (f (record { line = l; letters = upper_name x }))
 named _ l x f = None
 
 -- the command that a guard makes

@@ -13,8 +13,16 @@ use Rattle.bk_syntax.specs.declared.tree.Sort.{Sort}
 use Rattle.bk_syntax.specs.declared.tree.Sort.TheVariants as q
 use Rattle.bk_syntax.specs.declared.symbols.Guard.{Guard}
 use Rattle.bk_syntax.specs.declared.symbols.Guard.TheVariants as g
+use Rattle.bk_syntax.specs.declared.symbols.Opening.{Opening}
+use Rattle.bk_syntax.specs.declared.symbols.Opening.TheVariants as s
+use Rattle.bk_syntax.specs.declared.symbols.Heading.{Heading}
+use Rattle.bk_syntax.specs.declared.symbols.Heading.TheVariants as h
+use Rattle.bk_syntax.specs.declared.symbols.Declaring.{Declaring}
+use Rattle.bk_syntax.specs.declared.symbols.Declaring.TheVariants as d
+use Rattle.bk_syntax.specs.declared.symbols.Repetition.{Repetition}
+use Rattle.bk_syntax.specs.declared.symbols.Repetition.TheVariants as r
 use Rattle.bk_syntax.specs.Tree.{Expression, name, number, text, truth, query}
-use Rattle.bk_syntax.specs.Spelling.{upper_case, number_of, string_of, character_of}
+use Rattle.bk_lex.specs.Values.{upper_name, number_word, string_bytes, character_byte}
 
 -- the row of an operator between two operands
 abbrev pub row : Operator → ℕ
@@ -115,10 +123,10 @@ prefix_of _ = None
 
 -- the operand that a symbol is by itself
 abbrev pub leaf : Kind → ℕ → List ℕ → Option Expression
-leaf k.Name line spelled = Some (name line (upper_case spelled))
-leaf k.Number line spelled = Some (number line (number_of spelled))
-leaf k.Text line spelled = Some (text line (string_of spelled))
-leaf k.Character line spelled = Some (number line (character_of spelled))
+leaf k.Name line spelled = Some (name line (upper_name spelled))
+leaf k.Number line spelled = Some (number line (number_word spelled))
+leaf k.Text line spelled = Some (text line (string_bytes spelled))
+leaf k.Character line spelled = Some (number line (character_byte spelled))
 leaf k.True line spelled = Some (truth line true)
 leaf k.False line spelled = Some (truth line false)
 leaf k.Query line spelled = Some (query line)
@@ -155,6 +163,51 @@ abbrev pub sign_of : Guard → Kind
 sign_of g.SwitchOn = k.Into
 sign_of g.Case = k.Colon
 sign_of _ = k.Do
+
+abbrev pub is_name : Kind → Bool
+is_name k.Name = true
+is_name _ = false
+
+-- the declaration that it begins
+abbrev pub declaring_of : Kind → Option Declaring
+declaring_of k.Let = Some d.Let
+declaring_of k.Manifest = Some (d.Constants q.Manifest)
+declaring_of k.Static = Some (d.Constants q.Static)
+declaring_of k.Global = Some (d.Constants q.Global)
+declaring_of _ = None
+
+-- how it repeats the command before it
+abbrev pub repetition_of : Kind → Option Repetition
+repetition_of k.Repeat = Some r.Always
+repetition_of k.RepeatWhile = Some r.While
+repetition_of k.RepeatUntil = Some r.Until
+repetition_of _ = None
+
+abbrev pub is_arrow : Kind → Bool
+is_arrow k.Arrow = true
+is_arrow _ = false
+
+abbrev pub is_both : Operator → Bool
+is_both o.Both = true
+is_both _ = false
+
+-- what else it begins where an operand is due
+abbrev pub opening_of : Kind → Option Opening
+opening_of k.Open = Some s.Parens
+opening_of k.Close = Some s.Close
+opening_of k.Valof = Some s.Valof
+opening_of k.Table = Some s.Table
+opening_of _ = None
+
+-- the command with a word of its own that it begins
+abbrev pub heading_of : Kind → Option Heading
+heading_of k.Goto = Some h.Goto
+heading_of k.Test = Some h.Test
+heading_of k.For = Some h.For
+heading_of k.ResultIs = Some h.ResultIs
+heading_of k.Default = Some h.Default
+heading_of k.SectionOpen = Some h.Block
+heading_of _ = None
 
 -- whether it begins an operand
 abbrev pub begins_operand : Kind → Bool

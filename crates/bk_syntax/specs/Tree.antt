@@ -1,6 +1,7 @@
 -- Trees of a section, without where they lie in memory. Each node but an empty command begins with the line of its
 -- first symbol; a name is its bytes in upper case.
-use Rattle.std.specs.Prelude.{ℕ, Bool, List, map}
+use Rattle.std.specs.Prelude.{ℕ, Bool, Option, Some, None, List, [], ◌∷◌, map, Box}
+use Rattle.std.specs.Global.{Global}
 use Rattle.bk_syntax.specs.declared.tree.Name.{Name}
 use Rattle.bk_syntax.specs.declared.tree.Operator.{Operator}
 use Rattle.bk_syntax.specs.declared.tree.Prefix.{Prefix}
@@ -12,9 +13,11 @@ use Rattle.bk_syntax.specs.declared.tree.Command.{Command, Row_of-Command, end_o
 use Rattle.bk_syntax.specs.declared.tree.Command.TheVariants as c
 use Rattle.bk_syntax.specs.declared.tree.Decl.{Decl, Row_of-Item, end_of-Item, more_of-Item, Row_of-Def, end_of-Def, more_of-Def}
 use Rattle.bk_syntax.specs.declared.tree.Decl.TheVariants as d
+use Rattle.bk_syntax.specs.declared.tree.Item.{Item}
 use Rattle.bk_syntax.specs.declared.tree.Item.TheVariants as i
 use Rattle.bk_syntax.specs.declared.tree.Def.{Def, Row_of-Init, end_of-Init, more_of-Init}
 use Rattle.bk_syntax.specs.declared.tree.Def.TheVariants as f
+use Rattle.bk_syntax.specs.declared.tree.Init.{Init}
 use Rattle.bk_syntax.specs.declared.tree.Init.TheVariants as b
 
 -- a name where it stands
@@ -169,3 +172,33 @@ abbrev mutual
   starts end_of-Init = no_starts
   starts (more_of-Init (b.Value y) is) = value (expression y) (starts is)
   starts (more_of-Init (b.Vector l y) is) = vector l (expression y) (starts is)
+
+-- lists of trees that lie in memory
+abbrev pub expressions_in : List Expr → Expressions
+expressions_in [] = none
+expressions_in (x ∷ xs) = more (expression x) (expressions_in xs)
+
+abbrev pub step_in : Option (Box Expr Global) → Expressions
+step_in None = none
+step_in (Some x) = more (expression x.value) none
+
+abbrev pub actions_in : List Command → Actions
+actions_in [] = no_actions
+actions_in (c ∷ cs) = also (action c) (actions_in cs)
+
+abbrev pub declarations_in : List Decl → Declarations
+declarations_in [] = no_declarations
+declarations_in (d ∷ ds) = declare (declaration d) (declarations_in ds)
+
+abbrev pub items_in : List Item → Items
+items_in [] = no_items
+items_in ((i.Item l x y) ∷ is) = item l x.items (expression y) (items_in is)
+
+abbrev pub definitions_in : List Def → Definitions
+definitions_in [] = no_definitions
+definitions_in (d ∷ ds) = define (definition d) (definitions_in ds)
+
+abbrev pub starts_in : List Init → Starts
+starts_in [] = no_starts
+starts_in ((b.Value y) ∷ is) = value (expression y) (starts_in is)
+starts_in ((b.Vector l y) ∷ is) = vector l (expression y) (starts_in is)

@@ -1,21 +1,30 @@
 //! Reading commands.
+ghost use Rattle.std.specs.Prelude.{◌≡◌, ◌+◌, ◌==◌, IfOk, Some, None, Option, false, ℕ};
+ghost use Rattle.bk_syntax.specs.Tree.{expression, expressions_in, action, mention, more, none};
+ghost use Rattle.bk_syntax.specs.Rows.{goes, repeats};
+ghost use Rattle.bk_syntax.specs.Grammar.{line_of_action, line_of_first, size};
+ghost use Rattle.bk_syntax.specs.Machine.{Stack, each_then, limit, give, finish, again, dests, guarded, behind_sign, take_command, in_start, in_values, in_guard, in_to};
+ghost use Rattle.bk_syntax.specs.Frames.{phrase_on, clause_on, stack_of, state, heads, Steps, Answers, Lowers, Falls};
 
-use crate::expressions::{
-    Flow, Frames, LEAF, NOTHING, due, operand, want_in, wants_command, whole,
-};
-use crate::frame::{Begun, Clause, Now, Phrase, Place, Size, Sized, Stop};
+use crate::expressions::{LEAF, NOTHING, begun, due, due_at, line_of, operand, want_in, wants_command, whole};
+use crate::frame::{Begun, Clause, Flow, Frames, Now, Phrase, Place, Point, Size, Sized, Stop};
+use crate::make::{assign, call, for_loop};
 use crate::size::{both, of_node};
-use crate::spelling::name;
-use crate::symbols::{Guard, guard_begun, is_sign, simple};
-use crate::tree::{Command, Decl, Def, Expr, Init, Item, Name, Sort};
+use crate::symbols::{
+    Guard, Heading, Repetition, assigns, guard_begun, heads_with, is_assign, is_by, is_colon,
+    is_comma, is_do, is_or, is_sign, is_to, repetition_begun, simple,
+};
+use crate::tree::{Command, Def, Expr, Name};
 use bk_base::Line;
-use bk_lex::{Kind, Token};
-use std::alloc::Global;
+use bk_lex::Token;
+use std::alloc::{AllocError, Global};
 
-/// The line of a command's first symbol. An empty command has none, and stands in no list.
-pub fn line_of_command(command: &Command, without: Line) -> Line {
+/// The line of a command's first symbol; the first for an empty one, which has none and stands in no list.
+fn line_of_command(command: &Command) -> Line
+    ensures { result ≡ line_of_action (action command.now) }
+{
     match command {
-        Command::Empty => without,
+        Command::Empty => Line::first(),
         Command::Assign(line, _, _)
         | Command::Call(line, _, _)
         | Command::Goto(line, _)
@@ -35,37 +44,47 @@ pub fn line_of_command(command: &Command, without: Line) -> Line {
     }
 }
 
+/// A command begins with a word of its own.
+fn headed(alloc: Global, frames: &mut Frames, heading: Heading, line: Line) -> Result<Now, AllocError>
+    ensures { IfOk result (λ now. state (stack_of frames.new) now ≡ heads (stack_of frames.old) line heading) }
+{
+    match heading {
+        Heading::Goto => due_at(frames, Point::Goto(line), NOTHING),
+        Heading::Test => want_in(frames, Phrase::Test(line), NOTHING),
+        Heading::For => due_at(frames, Point::For(line), NOTHING),
+        Heading::ResultIs => want_in(frames, Phrase::ResultIs(line), NOTHING),
+        Heading::Default => due_at(frames, Point::Default(line), NOTHING),
+        Heading::Block => {
+            let block = Place::Block(line, true, Vec::new(alloc), Vec::new(alloc));
+            due(frames, block, NOTHING)
+        }
+    }
+}
+
 /// A command is due, and this symbol comes.
-pub fn command(alloc: Global, frames: &mut Frames, token: &Token) -> Result<Now, Stop> {
-    let line = token.line;
+#[tactic(auto, using(crate::proofs::Turns::command_cases))]
+pub fn command(alloc: Global, frames: &mut Frames, token: &Token) -> Result<Now, Stop>
+    ensures { Steps (stack_of frames.new) result (take_command (stack_of frames.old) token.now.line token.now.text.now token.now.kind) }
+{
     if let Some(word) = simple(token.kind) {
-        return Ok(Now::Did(Command::Simple(line, word), LEAF));
+        return Ok(Now::Did(Command::Simple(token.line, word), LEAF));
     }
     if let Some(guard) = guard_begun(token.kind) {
-        return want_in(frames, Phrase::Guard(guard, line), NOTHING);
+        return Ok(want_in(frames, Phrase::Guard(guard, token.line), NOTHING)?);
     }
-    match token.kind {
-        Kind::Goto => due(frames, Place::Goto(line), NOTHING),
-        Kind::Test => want_in(frames, Phrase::Test(line), NOTHING),
-        Kind::For => due(frames, Place::For(line), NOTHING),
-        Kind::ResultIs => want_in(frames, Phrase::ResultIs(line), NOTHING),
-        Kind::Default => due(frames, Place::Default(line), NOTHING),
-        Kind::SectionOpen => {
-            due(
-                frames,
-                Place::Block(line, true, Vec::new(alloc), Vec::new(alloc)),
-                NOTHING,
-            )
-        }
-        _ => {
-            want_in(frames, Phrase::Start, NOTHING)?;
+    match heads_with(token.kind) {
+        Some(heading) => Ok(headed(alloc, frames, heading, token.line)?),
+        None => {
+            begun(frames, Begun::Phrase(Phrase::Start), NOTHING)?;
             operand(alloc, frames, token)
         }
     }
 }
 
 /// The command that a guard makes.
-fn guarded(guard: Guard, line: Line, condition: Box<Expr>, command: Box<Command>) -> Command {
+pub fn guarded(guard: Guard, line: Line, condition: Box<Expr>, command: Box<Command>) -> Command
+    ensures { action result ≡ guarded guard line (expression condition.value) (action command.value) }
+{
     match guard {
         Guard::If => Command::If(line, true, condition, command),
         Guard::Unless => Command::If(line, false, condition, command),
@@ -76,123 +95,114 @@ fn guarded(guard: Guard, line: Line, condition: Box<Expr>, command: Box<Command>
     }
 }
 
-/// A first expression that is a call, as a command.
-fn called(expr: Expr, size: Size) -> Result<Flow, Stop> {
-    match expr {
-        Expr::Apply(line, _, callee, items) => Ok(Flow::Does(
-            Command::Call(line, callee, items),
-            size,
-        )),
-        _ => Err(Stop::Unexpected),
+/// A destination is complete.
+#[tactic(auto, using(crate::proofs::Turns::dests_cases, crate::proofs::Trees::one_more))]
+fn further(
+    alloc: Global,
+    frames: &mut Frames,
+    before: Vec<Expr>,
+    parts: Size,
+    last: Expr,
+    token: &Token,
+) -> Result<Flow, Stop>
+    ensures answers { Answers frames.new result token.now (λ l x. dests (each_then (expressions_in before.items) (more (expression last) none)) (stack_of frames.old)) }
+    ensures lowers { Lowers frames.old frames.new result }
+{
+    let mut dests = before;
+    dests.push(last)?;
+    if is_comma(token.kind) {
+        return Ok(Flow::Stay(want_in(frames, Phrase::Dests(dests), parts)?));
     }
+    if is_assign(token.kind) {
+        let values = Phrase::Values(dests, Vec::new(alloc));
+        return Ok(Flow::Stay(want_in(frames, values, parts)?));
+    }
+    Err(Stop::Unexpected)
 }
 
-/// The first expression of a command is a label.
-fn labelled(frames: &mut Frames, expr: Expr) -> Result<Flow, Stop> {
+/// The first expression of a command is complete.
+fn started(alloc: Global, frames: &mut Frames, sized: Sized, token: &Token) -> Result<Flow, Stop>
+    requires { goes 12 token.now.kind ≡ false }
+    ensures answers { Answers frames.new result token.now (give (in_start (stack_of frames.old)) (expression sized.expr)) }
+    ensures lowers { Lowers frames.old frames.new result }
+{
+    let Sized {
+        expr,
+        size,
+        right: _,
+    } = sized;
+    if assigns(token.kind) {
+        return further(alloc, frames, Vec::new(alloc), size, expr, token);
+    }
     match expr {
+        Expr::Apply(line, _, callee, items) => Ok(Flow::Does(
+            call(line, callee, items),
+            size,
+        )),
         Expr::Name(line, letters) => {
-            wants_command(frames, Clause::Label(line, letters), NOTHING)?;
+            if !is_colon(token.kind) {
+                return Err(Stop::Unexpected);
+            }
+            begun(frames, Begun::Clause(Clause::Label(line, letters)), NOTHING)?;
             Ok(Flow::Stay(Now::Maybe))
         }
         _ => Err(Stop::Unexpected),
     }
 }
 
-/// The first expression of a command is complete.
-fn started(alloc: Global, frames: &mut Frames, sized: Sized, kind: Kind) -> Result<Flow, Stop> {
-    let Sized {
-        expr,
-        size,
-        right: _,
-    } = sized;
-    match kind {
-        Kind::Comma | Kind::Assign => further(alloc, frames, Vec::new(alloc), size, expr, kind),
-        Kind::Colon => labelled(frames, expr),
-        _ => called(expr, size),
+/// The line of the first of these; the first line if there are none.
+fn line_of_list(exprs: &[Expr]) -> Line
+    ensures { result ≡ line_of_first (expressions_in exprs.now) }
+{
+    match exprs {
+        [] => Line::first(),
+        [first, ..] => line_of(first),
     }
 }
 
-/// A destination behind the first is complete.
-fn further(
-    alloc: Global,
-    frames: &mut Frames,
-    dests: Vec<Expr>,
-    parts: Size,
-    last: Expr,
-    kind: Kind,
-) -> Result<Flow, Stop> {
-    let mut dests = dests;
-    dests.push(last)?;
-    match kind {
-        Kind::Comma => Ok(Flow::Stay(want_in(frames, Phrase::Dests(dests), parts)?)),
-        Kind::Assign => Ok(Flow::Stay(want_in(
-            frames,
-            Phrase::Values(dests, Vec::new(alloc)),
-            parts,
-        )?)),
-        _ => Err(Stop::Unexpected),
-    }
+/// Whether one value more makes as many as the destinations are.
+#[tactic(auto, using(crate::proofs::Trees::expressions_count))]
+fn is_last(dests: &[Expr], values: &[Expr]) -> bool
+    ensures { result ≡ (size (expressions_in dests.now) == size (expressions_in values.now) + 1) }
+{
+    dests.len() > 0 && dests.len() - 1 == values.len()
 }
 
 /// A value is complete.
+#[tactic(auto, using(crate::proofs::Trees::one_more))]
 fn valued(
     frames: &mut Frames,
     dests: Vec<Expr>,
     values: Vec<Expr>,
     parts: Size,
     last: Expr,
-    kind: Kind,
-) -> Result<Flow, Stop> {
+    token: &Token,
+) -> Result<Flow, Stop>
+    requires { goes 12 token.now.kind ≡ false }
+    ensures answers { Answers frames.new result token.now (give (in_values (expressions_in dests.items) (expressions_in values.items) (stack_of frames.old)) (expression last)) }
+    ensures lowers { Lowers frames.old frames.new result }
+{
+    let complete = is_last(&dests, &values);
     let mut values = values;
     values.push(last)?;
-    if values.len() == dests.len() {
-        let Some(first) = dests.first() else {
-            return Err(Stop::Unexpected);
-        };
-        let line = crate::expressions::line_of(first);
-        return Ok(Flow::Does(Command::Assign(line, dests, values), of_node(parts)));
+    if complete {
+        let line = line_of_list(&dests);
+        return Ok(Flow::Does(assign(line, dests, values), of_node(parts)));
     }
-    if kind != Kind::Comma {
+    if !is_comma(token.kind) {
         return Err(Stop::Unexpected);
     }
     Ok(Flow::Stay(want_in(frames, Phrase::Values(dests, values), parts)?))
 }
 
-/// A condition or a limit of a FOR is complete, and DO, TO or BY is due.
-fn bounded(
-    alloc: Global,
-    frames: &mut Frames,
-    phrase: Phrase,
-    parts: Size,
-    last: Expr,
-    kind: Kind,
-) -> Result<Flow, Stop> {
-    let last = Box::new(alloc, last)?;
-    let now = match phrase {
-        Phrase::From(line, name) => {
-            if kind != Kind::To {
-                return Err(Stop::Unexpected);
-            }
-            want_in(frames, Phrase::To(line, name, last), parts)?
-        }
-        Phrase::To(line, name, from) => {
-            if kind == Kind::By {
-                want_in(frames, Phrase::By(line, name, from, last), parts)?
-            } else if kind == Kind::Do {
-                wants_command(frames, Clause::For(line, name, from, last, None), parts)?
-            } else {
-                return Err(Stop::Unexpected);
-            }
-        }
-        Phrase::By(line, name, from, to) => {
-            if kind != Kind::Do {
-                return Err(Stop::Unexpected);
-            }
-            wants_command(frames, Clause::For(line, name, from, to, Some(last)), parts)?
-        }
-        _ => return Err(Stop::Unexpected),
-    };
-    Ok(Flow::Stay(now))
+/// What is read behind the sign of a guard: behind that of CASE no command need come.
+fn behind_sign(guard: Guard) -> Now
+    ensures { (st : Stack) → state st result ≡ behind_sign guard st }
+{
+    match guard {
+        Guard::Case => Now::Maybe,
+        _ => Now::Begin,
+    }
 }
 
 /// The expression behind a guard is complete.
@@ -203,21 +213,49 @@ fn guards(
     line: Line,
     parts: Size,
     condition: Expr,
-    kind: Kind,
-) -> Result<Flow, Stop> {
-    if !is_sign(guard, kind) {
+    token: &Token,
+) -> Result<Flow, Stop>
+    requires { goes 12 token.now.kind ≡ false }
+    ensures answers { Answers frames.new result token.now (give (in_guard guard line (stack_of frames.old)) (expression condition)) }
+    ensures lowers { Lowers frames.old frames.new result }
+{
+    if !is_sign(guard, token.kind) {
         return Err(Stop::Unexpected);
     }
     let condition = Box::new(alloc, condition)?;
-    let now = wants_command(frames, Clause::Guarded(guard, line, condition), parts)?;
-    Ok(Flow::Stay(if guard == Guard::Case {
-        Now::Maybe
-    } else {
-        now
-    }))
+    begun(frames, Begun::Clause(Clause::Guarded(guard, line, condition)), parts)?;
+    Ok(Flow::Stay(behind_sign(guard)))
 }
 
-/// An expression of a command or a definition is complete, and a symbol comes behind it.
+/// The limit of a FOR is complete.
+#[tactic(auto, using(crate::proofs::Turns::limit_cases))]
+fn limited(
+    alloc: Global,
+    frames: &mut Frames,
+    line: Line,
+    name: Name,
+    from: Box<Expr>,
+    parts: Size,
+    limit: Expr,
+    token: &Token,
+) -> Result<Flow, Stop>
+    requires { goes 12 token.now.kind ≡ false }
+    ensures answers { Answers frames.new result token.now (give (in_to line (mention name) (expression from.value) (stack_of frames.old)) (expression limit)) }
+    ensures lowers { Lowers frames.old frames.new result }
+{
+    let limit = Box::new(alloc, limit)?;
+    if is_by(token.kind) {
+        let by = Phrase::By(line, name, from, limit);
+        return Ok(Flow::Stay(want_in(frames, by, parts)?));
+    }
+    if is_do(token.kind) {
+        let body = Clause::For(line, name, from, limit, None);
+        return Ok(Flow::Stay(wants_command(frames, body, parts)?));
+    }
+    Err(Stop::Unexpected)
+}
+
+/// An expression of a command is complete, with which the symbol behind it does not go on.
 pub fn complete_phrase(
     alloc: Global,
     frames: &mut Frames,
@@ -225,16 +263,19 @@ pub fn complete_phrase(
     held: Size,
     sized: Sized,
     token: &Token,
-) -> Result<Flow, Stop> {
+) -> Result<Flow, Stop>
+    requires { goes 12 token.now.kind ≡ false }
+    ensures answers { Answers frames.new result token.now (give (phrase_on begun (stack_of frames.old)) (expression sized.expr)) }
+    ensures lowers { Lowers frames.old frames.new result }
+{
     let parts = both(held, sized.size);
-    let kind = token.kind;
     match begun {
-        Phrase::Start => started(alloc, frames, sized, kind),
-        Phrase::Dests(dests) => further(alloc, frames, dests, parts, sized.expr, kind),
-        Phrase::Values(dests, values) => valued(frames, dests, values, parts, sized.expr, kind),
-        Phrase::Guard(guard, line) => guards(alloc, frames, guard, line, parts, sized.expr, kind),
+        Phrase::Start => started(alloc, frames, sized, token),
+        Phrase::Dests(dests) => further(alloc, frames, dests, parts, sized.expr, token),
+        Phrase::Values(dests, values) => valued(frames, dests, values, parts, sized.expr, token),
+        Phrase::Guard(guard, line) => guards(alloc, frames, guard, line, parts, sized.expr, token),
         Phrase::Test(line) => {
-            if kind != Kind::Do {
+            if !is_do(token.kind) {
                 return Err(Stop::Unexpected);
             }
             let condition = Box::new(alloc, sized.expr)?;
@@ -245,66 +286,55 @@ pub fn complete_phrase(
             Ok(Flow::Does(Command::ResultIs(line, result), of_node(parts)))
         }
         Phrase::RepeatWhile(truth, body) => {
-            let line = line_of_command(&body, token.line);
+            let line = line_of_command(&body);
             let condition = Box::new(alloc, sized.expr)?;
-            Ok(Flow::Does(
-                Command::RepeatWhile(line, truth, body, condition),
-                of_node(parts),
-            ))
+            let repeat = Command::RepeatWhile(line, truth, body, condition);
+            Ok(Flow::Does(repeat, of_node(parts)))
         }
-        Phrase::From(line, name) => bounded(
-            alloc,
-            frames,
-            Phrase::From(line, name),
-            parts,
-            sized.expr,
-            kind,
-        ),
-        Phrase::To(line, name, from) => bounded(
-            alloc,
-            frames,
-            Phrase::To(line, name, from),
-            parts,
-            sized.expr,
-            kind,
+        Phrase::From(line, name) => {
+            if !is_to(token.kind) {
+                return Err(Stop::Unexpected);
+            }
+            let from = Box::new(alloc, sized.expr)?;
+            Ok(Flow::Stay(want_in(frames, Phrase::To(line, name, from), parts)?))
+        }
+        Phrase::To(line, name, from) => limited(
+            alloc, frames, line, name, from, parts, sized.expr, token,
         ),
         Phrase::By(line, name, from, to) => {
-            bounded(
-                alloc,
-                frames,
-                Phrase::By(line, name, from, to),
-                parts,
-                sized.expr,
-                kind,
-            )
+            if !is_do(token.kind) {
+                return Err(Stop::Unexpected);
+            }
+            let by = Box::new(alloc, sized.expr)?;
+            let body = Clause::For(line, name, from, to, Some(by));
+            Ok(Flow::Stay(wants_command(frames, body, parts)?))
         }
-        phrase => crate::definitions::complete_item(alloc, frames, phrase, held, sized, kind),
     }
 }
 
-/// The command goes on with REPEAT, REPEATWHILE or REPEATUNTIL, if the symbol is one of these.
-pub fn repeated(
+/// The command goes on with REPEAT, REPEATWHILE or REPEATUNTIL.
+#[tactic(auto, using(crate::proofs::Turns::again_cases))]
+pub fn again(
     alloc: Global,
     frames: &mut Frames,
     command: Command,
     size: Size,
     token: &Token,
-) -> Result<Result<Now, Command>, Stop> {
-    let truth = match token.kind {
-        Kind::Repeat => {
-            let line = line_of_command(&command, token.line);
-            let body = Box::new(alloc, command)?;
-            return Ok(Ok(Now::Did(Command::Repeat(line, body), of_node(size))));
-        }
-        Kind::RepeatWhile => true,
-        Kind::RepeatUntil => false,
-        _ => return Ok(Err(command)),
-    };
+) -> Result<Flow, Stop>
+    ensures answers { Answers frames.new result token.now (λ l x. again (stack_of frames.old) (action command)) }
+    ensures falls { Falls frames.old frames.new result }
+{
+    let line = line_of_command(&command);
     let body = Box::new(alloc, command)?;
-    Ok(Ok(want_in(frames, Phrase::RepeatWhile(truth, body), size)?))
+    Ok(Flow::Stay(match repetition_begun(token.kind) {
+        Some(Repetition::Always) => Now::Did(Command::Repeat(line, body), of_node(size)),
+        Some(Repetition::While) => want_in(frames, Phrase::RepeatWhile(true, body), size)?,
+        Some(Repetition::Until) => want_in(frames, Phrase::RepeatWhile(false, body), size)?,
+        None => return Err(Stop::Unexpected),
+    }))
 }
 
-/// A command is complete, and a symbol comes behind it.
+/// A command is complete, which the symbol behind it does not repeat.
 pub fn complete_clause(
     alloc: Global,
     frames: &mut Frames,
@@ -313,7 +343,11 @@ pub fn complete_clause(
     command: Command,
     size: Size,
     token: &Token,
-) -> Result<Flow, Stop> {
+) -> Result<Flow, Stop>
+    requires { repeats token.now.kind ≡ false }
+    ensures answers { Answers frames.new result token.now (finish (clause_on begun (stack_of frames.old)) (action command)) }
+    ensures lowers { Lowers frames.old frames.new result }
+{
     let parts = both(held, size);
     let body = Box::new(alloc, command)?;
     let size = of_node(parts);
@@ -326,7 +360,7 @@ pub fn complete_clause(
         ),
         Clause::Default(line) => Flow::Does(Command::Default(line, body), size),
         Clause::Then(line, condition) => {
-            if token.kind != Kind::Or {
+            if !is_or(token.kind) {
                 return Err(Stop::Unexpected);
             }
             Flow::Stay(wants_command(frames, Clause::Else(line, condition, body), parts)?)
@@ -336,10 +370,11 @@ pub fn complete_clause(
             size,
         ),
         Clause::For(line, name, from, to, by) => {
-            Flow::Does(Command::For(line, name, from, to, by, body), size)
+            Flow::Does(for_loop(line, name, from, to, by, body), size)
         }
         Clause::Routine(name, formals) => {
-            Flow::Defines(Def::Routine(name.line, name.letters, formals, body), size)
+            let Name { line, letters } = name;
+            Flow::Defines(Def::Routine(line, letters, formals, body), size)
         }
     })
 }

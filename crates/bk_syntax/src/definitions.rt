@@ -1,83 +1,137 @@
 //! Reading declarations, definitions and blocks.
+ghost use Rattle.std.specs.Prelude.{◌≡◌, ◌+◌, ◌++◌, ◌==◌, [], ◌∷◌, IfOk, Some, None, Option, Bool, cond, false, map, length, ℕ};
+ghost use Rattle.bk_syntax.specs.Tree.{expression, action, actions_in, declaration, declarations_in, definition, definitions_in, items_in, starts_in, mention, variables, also, no_actions, no_declarations, no_definitions};
+ghost use Rattle.bk_syntax.specs.Rows.{goes, repeats};
+ghost use Rattle.bk_syntax.specs.Grammar.{line_of_names, start_count};
+ghost use Rattle.bk_syntax.specs.Machine.{Stack, actions_then, items_then, starts_then, limit, give, finish, defined_by, declared, in_constants, in_commands, in_names, in_formals, headed, in_head, in_block, in_section, in_let, inside, counted, take_in_block, take_in_section, take_item, take_due, at_name, at_formals, at_formal, at_variable, at_starts, due};
+ghost use Rattle.bk_syntax.specs.Frames.{member_on, place_on, point_on, stack_of, state, Steps, Answers, Lowers, NamedBy, Declares, declaring, are_no_items, is_let_begun, is_block_begun};
 
 use crate::commands::command;
 use crate::expressions::{
-    Flow, Frames, LEAF, NOTHING, due, operand, want_in, wants_command, whole,
+    LEAF, NOTHING, begun, due, due_at, operand, want_for, want_in, wants_command,
 };
-use crate::frame::{Begun, Clause, Frame, Now, Phrase, Place, Size, Sized, Stop};
+use crate::frame::{
+    Begun, Clause, Flow, Frame, Frames, Member, Now, Phrase, Place, Point, Size, Sized, Stop,
+};
+use crate::make::{self, block, constants, let_of};
 use crate::size::{both, of_node};
 use crate::spelling::name;
-use crate::symbols::sort_declared;
+use crate::symbols::{
+    Declaring, closes, declares_with, is_and, is_be, is_close, is_colon, is_comma, is_equal,
+    is_name, is_open, is_semicolon, is_vec, opens,
+};
 use crate::tree::{Command, Decl, Def, Expr, Init, Item, Name, Sort};
 use bk_base::Line;
-use bk_lex::{Kind, Token};
-use std::alloc::Global;
+use bk_lex::Token;
+use std::alloc::{AllocError, Global};
 
-/// The name that a symbol is.
-fn name_of(alloc: Global, token: &Token) -> Result<Name, Stop> {
-    if token.kind != Kind::Name {
-        return Err(Stop::Unexpected);
+/// The name that a symbol is, if it is one.
+fn name_of(alloc: Global, token: &Token) -> Result<Option<Name>, AllocError>
+    ensures { IfOk result (λ found. NamedBy found token.now) }
+{
+    if !is_name(token.kind) {
+        return Ok(None);
     }
-    Ok(Name {
+    let letters = name(alloc, token.text)?;
+    Ok(Some(Name {
         line: token.line,
-        letters: name(alloc, token.text)?,
-    })
+        letters,
+    }))
 }
 
-/// The items of a LET, one more.
-fn initialised(
+/// Puts a declaration behind those of the block that was on top.
+#[tactic(auto, using(crate::proofs::Trees::one_more))]
+fn declare_in(
     frames: &mut Frames,
-    names: Vec<Name>,
-    inits: Vec<Init>,
-    parts: Size,
-    last: Init,
-    kind: Kind,
-) -> Result<Flow, Stop> {
-    let mut inits = inits;
-    inits.push(last)?;
-    if inits.len() == names.len() {
-        let Some(first) = names.first() else {
-            return Err(Stop::Unexpected);
-        };
-        let line = first.line;
-        return Ok(Flow::Defines(Def::Variables(line, names, inits), of_node(parts)));
+    place: Place,
+    held: Size,
+    decl: Decl,
+    size: Size,
+) -> Result<(), Stop>
+    ensures { Declares (stack_of frames.new) result (declared (place_on place (stack_of frames.old)) (declaration decl)) }
+{
+    match place {
+        Place::Block(line, _, decls, commands) => {
+            let mut decls = decls;
+            decls.push(decl)?;
+            let block = Place::Block(line, false, decls, commands);
+            begun(frames, Begun::Place(block), both(held, size))?;
+            Ok(())
+        }
+        _ => Err(Stop::Unexpected),
     }
-    if kind != Kind::Comma {
-        return Err(Stop::Unexpected);
-    }
-    Ok(Flow::Stay(due(frames, Place::Inits(names, inits), parts)?))
 }
 
-/// Puts a declaration behind those of the section or block on top.
-fn declare(frames: &mut Frames, decl: Decl, size: Size) -> Result<Now, Stop> {
-    let Some(top) = frames.pop() else {
-        return Err(Stop::Unexpected);
+/// Puts a declaration behind those of the section or the block on top.
+#[tactic(auto, using(crate::proofs::Stacks::frames_laws, crate::proofs::Trees::one_more))]
+fn declare(frames: &mut Frames, decl: Decl, size: Size) -> Result<(), Stop>
+    ensures { Declares (stack_of frames.new) result (declared (stack_of frames.old) (declaration decl)) }
+{
+    let Some(top) = frames.above.pop() else {
+        frames.held = both(frames.held, size);
+        frames.decls.push(decl)?;
+        return Ok(());
     };
     let Frame {
         begun,
         held,
         below: _,
     } = top;
-    let held = both(held, size);
-    let Begun::Place(place) = begun else {
-        return Err(Stop::Unexpected);
-    };
-    match place {
-        Place::Section(decls) => {
-            let mut decls = decls;
-            decls.push(decl)?;
-            due(frames, Place::Section(decls), held)
-        }
-        Place::Block(line, _, decls, commands) => {
-            let mut decls = decls;
-            decls.push(decl)?;
-            due(frames, Place::Block(line, false, decls, commands), held)
-        }
+    match begun {
+        Begun::Place(place) => declare_in(frames, place, held, decl, size),
+        Begun::Operand(_) => Err(Stop::Unexpected),
+        Begun::Phrase(_) => Err(Stop::Unexpected),
+        Begun::Clause(_) => Err(Stop::Unexpected),
         _ => Err(Stop::Unexpected),
     }
 }
 
+/// Whether one item more makes as many as the names are.
+#[tactic(auto, using(crate::proofs::Trees::counts))]
+fn is_last(names: &[Name], inits: &[Init]) -> bool
+    ensures { result ≡ (length (map mention names.now) == start_count (starts_in inits.now) + 1) }
+{
+    names.len() > 0 && names.len() - 1 == inits.len()
+}
+
+/// The line of the first of these; the first line if there are none.
+fn line_of_names(names: &[Name]) -> Line
+    ensures { result ≡ line_of_names (map mention names.now) }
+{
+    match names {
+        [] => Line::first(),
+        [first, ..] => first.line,
+    }
+}
+
+/// The items of a LET, one more.
+#[tactic(auto, using(crate::proofs::Trees::one_more))]
+fn initialised(
+    frames: &mut Frames,
+    names: Vec<Name>,
+    inits: Vec<Init>,
+    parts: Size,
+    last: Init,
+    token: &Token,
+) -> Result<Flow, Stop>
+    ensures answers { Answers frames.new result token.now (λ l x t. counted (length (map mention names.items) == start_count (starts_in inits.items) + 1) (defined_by (stack_of frames.old) (variables (line_of_names (map mention names.items)) (map mention names.items) (starts_then (starts_in inits.items) (starts_in (last ∷ [])))) l x t) t (due (at_starts (map mention names.items) (starts_then (starts_in inits.items) (starts_in (last ∷ []))) (stack_of frames.old)))) }
+    ensures lowers { Lowers frames.old frames.new result }
+{
+    let complete = is_last(&names, &inits);
+    let mut inits = inits;
+    inits.push(last)?;
+    if complete {
+        let line = line_of_names(&names);
+        return Ok(Flow::Defines(make::variables(line, names, inits), of_node(parts)));
+    }
+    if !is_comma(token.kind) {
+        return Err(Stop::Unexpected);
+    }
+    Ok(Flow::Stay(due(frames, Place::Inits(names, inits), parts)?))
+}
+
 /// The constant of an item is complete.
+#[tactic(auto, using(crate::proofs::Turns::constants_cases, crate::proofs::Trees::one_more))]
 fn constant(
     frames: &mut Frames,
     line: Line,
@@ -85,76 +139,103 @@ fn constant(
     items: Vec<Item>,
     held: Size,
     item: Item,
-    size: Size,
-    kind: Kind,
-) -> Result<Flow, Stop> {
-    let held = both(held, of_node(size));
+    token: &Token,
+) -> Result<Flow, Stop>
+    ensures answers { Answers frames.new result token.now (λ l x t. in_constants line sort (items_then (items_in items.items) (items_in (item ∷ []))) (stack_of frames.old) t) }
+    ensures lowers { Lowers frames.old frames.new result }
+{
     let mut items = items;
     items.push(item)?;
-    match kind {
-        Kind::Semicolon => Ok(Flow::Stay(due(frames, Place::Items(line, sort, items), held)?)),
-        Kind::SectionClose => Ok(Flow::Stay(declare(
-            frames,
-            Decl::Constants(line, sort, items),
-            held,
-        )?)),
-        _ => Err(Stop::Unexpected),
+    if is_semicolon(token.kind) {
+        return Ok(Flow::Stay(due_at(frames, Point::Items(line, sort, items), held)?));
+    }
+    if !closes(token.kind) {
+        return Err(Stop::Unexpected);
+    }
+    match declare(frames, constants(line, sort, items), held) {
+        Ok(()) => Ok(Flow::Stay(Now::Due)),
+        Err(Stop::Memory) => Err(Stop::Memory),
+        Err(Stop::Unexpected) => Err(Stop::Unexpected),
     }
 }
 
-/// An expression of a definition or an item is complete, and a symbol comes behind it.
-pub fn complete_item(
+/// An expression of a definition or an item is complete, with which the symbol behind it does not go on.
+pub fn complete_member(
     alloc: Global,
     frames: &mut Frames,
-    begun: Phrase,
+    begun: Member,
     held: Size,
     sized: Sized,
-    kind: Kind,
-) -> Result<Flow, Stop> {
+    token: &Token,
+) -> Result<Flow, Stop>
+    requires { goes 12 token.now.kind ≡ false }
+    ensures answers { Answers frames.new result token.now (give (member_on begun (stack_of frames.old)) (expression sized.expr)) }
+    ensures lowers { Lowers frames.old frames.new result }
+{
     let parts = both(held, sized.size);
     match begun {
-        Phrase::Item(line, sort, items, name) => {
-            let item = Item::Item(name.line, name.letters, sized.expr);
-            constant(frames, line, sort, items, held, item, sized.size, kind)
+        Member::Item(line, sort, items, name) => {
+            let held = both(held, of_node(sized.size));
+            let Name { line: at, letters } = name;
+            constant(frames, line, sort, items, held, Item::Item(at, letters, sized.expr), token)
         }
-        Phrase::Function(name, formals) => {
+        Member::Function(name, formals) => {
             let body = Box::new(alloc, sized.expr)?;
-            Ok(Flow::Defines(
-                Def::Function(name.line, name.letters, formals, body),
-                of_node(parts),
-            ))
+            let Name { line, letters } = name;
+            let function = Def::Function(line, letters, formals, body);
+            Ok(Flow::Defines(function, of_node(parts)))
         }
-        Phrase::Value(names, inits) => initialised(
-            frames,
-            names,
-            inits,
-            parts,
-            Init::Value(sized.expr),
-            kind,
-        ),
-        Phrase::Vector(line, names, inits) => {
-            initialised(
-                frames,
-                names,
-                inits,
-                parts,
-                Init::Vector(line, sized.expr),
-                kind,
-            )
+        Member::Value(names, inits) => {
+            initialised(frames, names, inits, parts, Init::Value(sized.expr), token)
+        }
+        Member::Vector(line, names, inits) => {
+            let vector = Init::Vector(line, sized.expr);
+            initialised(frames, names, inits, parts, vector, token)
+        }
+    }
+}
+
+/// A definition is complete in what was on top, and a symbol comes behind it.
+#[tactic(auto, using(crate::proofs::Trees::one_more, crate::proofs::Turns::declared_then))]
+fn define_in(
+    alloc: Global,
+    frames: &mut Frames,
+    place: Place,
+    held: Size,
+    def: Def,
+    token: &Token,
+) -> Result<Now, Stop>
+    ensures { Steps (stack_of frames.new) result (defined_by (place_on place (stack_of frames.old)) (definition def) token.now.line token.now.text.now token.now.kind) }
+{
+    match place {
+        Place::Let(line, defs) => {
+            let mut defs = defs;
+            defs.push(def)?;
+            if is_and(token.kind) {
+                return Ok(due(frames, Place::Let(line, defs), held)?);
+            }
+            match declare(frames, let_of(line, defs), held) {
+                Ok(()) => at_place(alloc, frames, token),
+                Err(Stop::Memory) => Err(Stop::Memory),
+                Err(Stop::Unexpected) => Err(Stop::Unexpected),
+            }
         }
         _ => Err(Stop::Unexpected),
     }
 }
 
 /// A definition is complete, and a symbol comes behind it: AND, or what follows the LET.
+#[tactic(auto, using(crate::proofs::Stacks::frames_laws))]
 pub fn complete_definition(
     alloc: Global,
     frames: &mut Frames,
     def: Def,
     size: Size,
     token: &Token,
-) -> Result<Now, Stop> {
-    let Some(top) = frames.pop() else {
+) -> Result<Now, Stop>
+    ensures { Steps (stack_of frames.new) result (defined_by (stack_of frames.old) (definition def) token.now.line token.now.text.now token.now.kind) }
+{
+    let Some(top) = frames.above.pop() else {
         return Err(Stop::Unexpected);
     };
     let Frame {
@@ -162,54 +243,57 @@ pub fn complete_definition(
         held,
         below: _,
     } = top;
-    let held = both(held, size);
-    let Begun::Place(place) = begun else {
-        return Err(Stop::Unexpected);
-    };
-    match place {
-        Place::Let(line, defs) => {
-            let mut defs = defs;
-            defs.push(def)?;
-            if token.kind == Kind::And {
-                return due(frames, Place::Let(line, defs), held);
-            }
-            declare(frames, Decl::Let(line, defs), held)?;
-            at_place(alloc, frames, token)
-        }
+    match begun {
+        Begun::Place(place) => define_in(alloc, frames, place, both(held, size), def, token),
+        Begun::Operand(_) => Err(Stop::Unexpected),
+        Begun::Phrase(_) => Err(Stop::Unexpected),
+        Begun::Clause(_) => Err(Stop::Unexpected),
         _ => Err(Stop::Unexpected),
     }
 }
 
-/// A declaration begins, if the symbol begins one.
-fn declaration(alloc: Global, frames: &mut Frames, token: &Token) -> Result<Option<Now>, Stop> {
-    if token.kind == Kind::Let {
-        return Ok(Some(due(frames, Place::Let(token.line, Vec::new(alloc)), NOTHING)?));
-    }
-    match sort_declared(token.kind) {
-        Some(sort) => Ok(Some(due(frames, Place::Opening(token.line, sort), NOTHING)?)),
-        None => Ok(None),
+/// A declaration begins.
+fn declaration(
+    alloc: Global,
+    frames: &mut Frames,
+    what: Declaring,
+    line: Line,
+) -> Result<Now, AllocError>
+    ensures { IfOk result (λ now. state (stack_of frames.new) now ≡ declaring (stack_of frames.old) line what) }
+{
+    match what {
+        Declaring::Let => due(frames, Place::Let(line, Vec::new(alloc)), NOTHING),
+        Declaring::Constants(sort) => due_at(frames, Point::Opening(line, sort), NOTHING),
     }
 }
 
 /// A symbol between the declarations of a section.
-fn in_section(
-    alloc: Global,
-    frames: &mut Frames,
-    decls: Vec<Decl>,
-    held: Size,
-    token: &Token,
-) -> Result<Now, Stop> {
-    let now = due(frames, Place::Section(decls), held)?;
-    if token.kind == Kind::Semicolon {
-        return Ok(now);
+#[tactic(auto, using(crate::proofs::Turns::declaration_cases))]
+fn in_section(alloc: Global, frames: &mut Frames, token: &Token) -> Result<Now, Stop>
+    requires { stack_of frames.old ≡ in_section (declarations_in frames.old.decls.items) }
+    ensures { Steps (stack_of frames.new) result (take_in_section (declarations_in frames.old.decls.items) token.now.line token.now.kind) }
+{
+    if is_semicolon(token.kind) {
+        return Ok(Now::Due);
     }
-    match declaration(alloc, frames, token)? {
-        Some(now) => Ok(now),
+    match declares_with(token.kind) {
+        Some(what) => Ok(declaration(alloc, frames, what, token.line)?),
         None => Err(Stop::Unexpected),
     }
 }
 
+/// Whether no command of a block came yet.
+fn in_head(commands: &[Command]) -> bool
+    ensures { result ≡ in_head (actions_in commands.now) }
+{
+    match commands {
+        [] => true,
+        _ => false,
+    }
+}
+
 /// A symbol in a block, where no command goes on.
+#[tactic(auto, using(crate::proofs::Turns::declaration_cases))]
 fn in_block(
     alloc: Global,
     frames: &mut Frames,
@@ -219,18 +303,20 @@ fn in_block(
     commands: Vec<Command>,
     held: Size,
     token: &Token,
-) -> Result<Now, Stop> {
-    if token.kind == Kind::Semicolon {
-        return due(frames, Place::Block(line, true, decls, commands), held);
+) -> Result<Now, Stop>
+    ensures { Steps (stack_of frames.new) result (take_in_block line free (declarations_in decls.items) (actions_in commands.items) (stack_of frames.old) token.now.line token.now.text.now token.now.kind) }
+{
+    if is_semicolon(token.kind) {
+        return Ok(due(frames, Place::Block(line, true, decls, commands), held)?);
     }
-    if token.kind == Kind::SectionClose {
-        return Ok(Now::Did(Command::Block(line, decls, commands), of_node(held)));
+    if closes(token.kind) {
+        return Ok(Now::Did(block(line, decls, commands), of_node(held)));
     }
-    let head = commands.is_empty();
-    due(frames, Place::Block(line, free, decls, commands), held)?;
+    let head = in_head(&commands);
+    begun(frames, Begun::Place(Place::Block(line, free, decls, commands)), held)?;
     if head {
-        if let Some(now) = declaration(alloc, frames, token)? {
-            return Ok(now);
+        if let Some(what) = declares_with(token.kind) {
+            return Ok(declaration(alloc, frames, what, token.line)?);
         }
     }
     if !free {
@@ -239,87 +325,217 @@ fn in_block(
     command(alloc, frames, token)
 }
 
-/// A command of a block is complete, and a symbol comes behind it.
+/// A command of a block is complete, which the symbol behind it does not repeat.
+#[tactic(auto, using(crate::proofs::Trees::one_more))]
+fn in_commands(
+    frames: &mut Frames,
+    line: Line,
+    decls: Vec<Decl>,
+    commands: Vec<Command>,
+    held: Size,
+    command: Command,
+    token: &Token,
+) -> Result<Flow, Stop>
+    ensures answers { Answers frames.new result token.now (λ l x t. in_commands line (declarations_in decls.items) (actions_then (actions_in commands.items) (also (action command) no_actions)) (stack_of frames.old) t) }
+    ensures lowers { Lowers frames.old frames.new result }
+{
+    let mut commands = commands;
+    commands.push(command)?;
+    if is_semicolon(token.kind) {
+        let block = Place::Block(line, true, decls, commands);
+        return Ok(Flow::Stay(due(frames, block, held)?));
+    }
+    if closes(token.kind) {
+        let whole = block(line, decls, commands);
+        return Ok(Flow::Stay(Now::Did(whole, of_node(held))));
+    }
+    Err(Stop::Unexpected)
+}
+
+/// A command is complete at a place, which the symbol behind it does not repeat: in a block.
 pub fn complete_command(
     frames: &mut Frames,
     begun: Place,
     held: Size,
     command: Command,
     size: Size,
-    kind: Kind,
-) -> Result<Flow, Stop> {
-    let held = both(held, size);
+    token: &Token,
+) -> Result<Flow, Stop>
+    requires { repeats token.now.kind ≡ false }
+    ensures answers { Answers frames.new result token.now (finish (place_on begun (stack_of frames.old)) (action command)) }
+    ensures lowers { Lowers frames.old frames.new result }
+{
     match begun {
         Place::Block(line, _, decls, commands) => {
-            let mut commands = commands;
-            commands.push(command)?;
-            Ok(Flow::Stay(match kind {
-                Kind::Semicolon => due(frames, Place::Block(line, true, decls, commands), held)?,
-                Kind::SectionClose => Now::Did(
-                    Command::Block(line, decls, commands),
-                    of_node(held),
-                ),
-                _ => return Err(Stop::Unexpected),
-            }))
+            in_commands(frames, line, decls, commands, both(held, size), command, token)
         }
         _ => Err(Stop::Unexpected),
     }
 }
 
-/// Behind the name of a definition. Variables stand in blocks alone.
-fn named(
-    alloc: Global,
-    frames: &mut Frames,
-    name: Name,
-    variable: bool,
-    kind: Kind,
-) -> Result<Now, Stop> {
-    if kind == Kind::Open {
-        return due(frames, Place::Formals(name), NOTHING);
-    }
-    if !variable {
-        return Err(Stop::Unexpected);
-    }
-    let mut names = Vec::new(alloc);
-    names.push(name)?;
-    variables(alloc, frames, names, kind)
-}
-
 /// Behind a name of variables.
+#[tactic(auto, using(crate::proofs::Turns::names_cases))]
 fn variables(
     alloc: Global,
     frames: &mut Frames,
     names: Vec<Name>,
-    kind: Kind,
-) -> Result<Now, Stop> {
-    match kind {
-        Kind::Comma => due(frames, Place::Variable(names), NOTHING),
-        Kind::Equal => due(frames, Place::Inits(names, Vec::new(alloc)), NOTHING),
-        _ => Err(Stop::Unexpected),
+    token: &Token,
+) -> Result<Now, Stop>
+    ensures { Steps (stack_of frames.new) result (in_names (map mention names.items) (stack_of frames.old) token.now.kind) }
+{
+    if is_comma(token.kind) {
+        return Ok(due(frames, Place::Variable(names), NOTHING)?);
+    }
+    if is_equal(token.kind) {
+        return Ok(due(frames, Place::Inits(names, Vec::new(alloc)), NOTHING)?);
+    }
+    Err(Stop::Unexpected)
+}
+
+/// Whether it is a LET.
+fn is_let(begun: &Begun) -> bool
+    ensures { result ≡ is_let_begun begun.now }
+{
+    match begun {
+        Begun::Place(Place::Let(_, _)) => true,
+        _ => false,
     }
 }
 
+/// Whether it is a block.
+fn is_block(begun: &Begun) -> bool
+    ensures { result ≡ is_block_begun begun.now }
+{
+    match begun {
+        Begun::Place(Place::Block(_, _, _, _)) => true,
+        _ => false,
+    }
+}
+
+/// Whether the LET on top stands in a block.
+fn in_a_block(frames: &Frames) -> bool
+    ensures { result ≡ inside (stack_of frames.now) }
+{
+    let count = frames.above.len();
+    if count < 2 {
+        return false;
+    }
+    let top = &frames.above[count - 1];
+    let below = &frames.above[count - 2];
+    both_of(is_let(&top.begun), is_block(&below.begun))
+}
+
+/// Whether both hold.
+fn both_of(a: bool, b: bool) -> bool
+    ensures { result ≡ cond a b false }
+{
+    a && b
+}
+
+/// Behind the name of a definition. Variables stand in blocks alone.
+fn named(alloc: Global, frames: &mut Frames, name: Name, token: &Token) -> Result<Now, Stop>
+    ensures { Steps (stack_of frames.new) result (take_due (at_name (mention name) (stack_of frames.old)) token.now.line token.now.text.now token.now.kind) }
+{
+    if is_open(token.kind) {
+        return Ok(due(frames, Place::Formals(name), NOTHING)?);
+    }
+    if !in_a_block(frames) {
+        return Err(Stop::Unexpected);
+    }
+    let mut names = Vec::new(alloc);
+    names.push(name)?;
+    variables(alloc, frames, names, token)
+}
+
+/// Behind the parenthesis of a procedure.
+#[tactic(auto, using(crate::proofs::Turns::named_cases))]
+fn formals(alloc: Global, frames: &mut Frames, name: Name, token: &Token) -> Result<Now, Stop>
+    ensures { Steps (stack_of frames.new) result (take_due (at_formals (mention name) (stack_of frames.old)) token.now.line token.now.text.now token.now.kind) }
+{
+    if is_close(token.kind) {
+        return Ok(due(frames, Place::Headed(name, Vec::new(alloc)), NOTHING)?);
+    }
+    let Some(formal) = name_of(alloc, token)? else {
+        return Err(Stop::Unexpected);
+    };
+    let mut formals = Vec::new(alloc);
+    formals.push(formal)?;
+    Ok(due(frames, Place::FormalEnd(name, formals), NOTHING)?)
+}
+
+/// A formal is due.
+#[tactic(auto, using(crate::proofs::Turns::named_cases, crate::proofs::Trees::one_more))]
+fn formal(
+    alloc: Global,
+    frames: &mut Frames,
+    name: Name,
+    formals: Vec<Name>,
+    token: &Token,
+) -> Result<Now, Stop>
+    ensures { Steps (stack_of frames.new) result (take_due (at_formal (mention name) (map mention formals.items) (stack_of frames.old)) token.now.line token.now.text.now token.now.kind) }
+{
+    let Some(formal) = name_of(alloc, token)? else {
+        return Err(Stop::Unexpected);
+    };
+    let mut formals = formals;
+    formals.push(formal)?;
+    Ok(due(frames, Place::FormalEnd(name, formals), NOTHING)?)
+}
+
 /// Behind a formal.
+#[tactic(auto, using(crate::proofs::Turns::formals_cases))]
 fn formal_end(
     frames: &mut Frames,
     name: Name,
     formals: Vec<Name>,
-    kind: Kind,
-) -> Result<Now, Stop> {
-    match kind {
-        Kind::Comma => due(frames, Place::Formal(name, formals), NOTHING),
-        Kind::Close => due(frames, Place::Headed(name, formals), NOTHING),
-        _ => Err(Stop::Unexpected),
+    token: &Token,
+) -> Result<Now, Stop>
+    ensures { Steps (stack_of frames.new) result (in_formals (mention name) (map mention formals.items) (stack_of frames.old) token.now.kind) }
+{
+    if is_comma(token.kind) {
+        return Ok(due(frames, Place::Formal(name, formals), NOTHING)?);
     }
+    if is_close(token.kind) {
+        return Ok(due(frames, Place::Headed(name, formals), NOTHING)?);
+    }
+    Err(Stop::Unexpected)
 }
 
 /// Behind the formals.
-fn headed(frames: &mut Frames, name: Name, formals: Vec<Name>, kind: Kind) -> Result<Now, Stop> {
-    match kind {
-        Kind::Be => wants_command(frames, Clause::Routine(name, formals), NOTHING),
-        Kind::Equal => want_in(frames, Phrase::Function(name, formals), NOTHING),
-        _ => Err(Stop::Unexpected),
+#[tactic(auto, using(crate::proofs::Turns::headed_cases))]
+fn headed(
+    frames: &mut Frames,
+    name: Name,
+    formals: Vec<Name>,
+    token: &Token,
+) -> Result<Now, Stop>
+    ensures { Steps (stack_of frames.new) result (headed (mention name) (map mention formals.items) (stack_of frames.old) token.now.kind) }
+{
+    if is_be(token.kind) {
+        return Ok(wants_command(frames, Clause::Routine(name, formals), NOTHING)?);
     }
+    if is_equal(token.kind) {
+        return Ok(want_for(frames, Member::Function(name, formals), NOTHING)?);
+    }
+    Err(Stop::Unexpected)
+}
+
+/// A name of a further variable is due.
+#[tactic(auto, using(crate::proofs::Turns::named_cases, crate::proofs::Trees::one_more))]
+fn variable(
+    alloc: Global,
+    frames: &mut Frames,
+    names: Vec<Name>,
+    token: &Token,
+) -> Result<Now, Stop>
+    ensures { Steps (stack_of frames.new) result (take_due (at_variable (map mention names.items) (stack_of frames.old)) token.now.line token.now.text.now token.now.kind) }
+{
+    let Some(name) = name_of(alloc, token)? else {
+        return Err(Stop::Unexpected);
+    };
+    let mut names = names;
+    names.push(name)?;
+    Ok(due(frames, Place::VariableEnd(names), NOTHING)?)
 }
 
 /// An item of a LET is due.
@@ -330,143 +546,173 @@ fn init(
     inits: Vec<Init>,
     held: Size,
     token: &Token,
-) -> Result<Now, Stop> {
-    if token.kind == Kind::Vec {
-        return want_in(frames, Phrase::Vector(token.line, names, inits), held);
+) -> Result<Now, Stop>
+    ensures { Steps (stack_of frames.new) result (take_due (at_starts (map mention names.items) (starts_in inits.items) (stack_of frames.old)) token.now.line token.now.text.now token.now.kind) }
+{
+    if is_vec(token.kind) {
+        return Ok(want_for(frames, Member::Vector(token.line, names, inits), held)?);
     }
-    want_in(frames, Phrase::Value(names, inits), held)?;
+    begun(frames, Begun::Member(Member::Value(names, inits)), held)?;
     operand(alloc, frames, token)
 }
 
-/// Whether the LET on top stands in a block.
-fn in_a_block(frames: &[Frame]) -> bool {
-    if frames.len() < 2 {
-        return false;
+/// The name of a definition is due.
+#[tactic(auto, using(crate::proofs::Turns::named_cases))]
+fn in_let(
+    alloc: Global,
+    frames: &mut Frames,
+    line: Line,
+    defs: Vec<Def>,
+    held: Size,
+    token: &Token,
+) -> Result<Now, Stop>
+    ensures { Steps (stack_of frames.new) result (take_due (in_let line (definitions_in defs.items) (stack_of frames.old)) token.now.line token.now.text.now token.now.kind) }
+{
+    let Some(name) = name_of(alloc, token)? else {
+        return Err(Stop::Unexpected);
+    };
+    begun(frames, Begun::Place(Place::Let(line, defs)), held)?;
+    Ok(due(frames, Place::Named(name), NOTHING)?)
+}
+
+/// A place of a block or a definition, where this symbol comes.
+fn due_in(
+    alloc: Global,
+    frames: &mut Frames,
+    place: Place,
+    held: Size,
+    token: &Token,
+) -> Result<Now, Stop>
+    ensures { Steps (stack_of frames.new) result (take_due (place_on place (stack_of frames.old)) token.now.line token.now.text.now token.now.kind) }
+{
+    match place {
+        Place::Block(line, free, decls, commands) => {
+            in_block(alloc, frames, line, free, decls, commands, held, token)
+        }
+        Place::Let(line, defs) => in_let(alloc, frames, line, defs, held, token),
+        Place::Named(name) => named(alloc, frames, name, token),
+        Place::Formals(name) => formals(alloc, frames, name, token),
+        Place::Formal(name, formals) => formal(alloc, frames, name, formals, token),
+        Place::FormalEnd(name, formals) => formal_end(frames, name, formals, token),
+        Place::Headed(name, formals) => headed(frames, name, formals, token),
+        Place::Variable(names) => variable(alloc, frames, names, token),
+        Place::VariableEnd(names) => variables(alloc, frames, names, token),
+        Place::Inits(names, inits) => init(alloc, frames, names, inits, held, token),
     }
-    match &frames[frames.len() - 2].begun {
-        Begun::Place(Place::Block(_, _, _, _)) => true,
+}
+
+/// Whether there are no items.
+fn are_no_items(items: &[Item]) -> bool
+    ensures { result ≡ are_no_items (items_in items.now) }
+{
+    match items {
+        [] => true,
         _ => false,
     }
 }
 
-/// A place of a definition, where a symbol is due.
-fn at_definition(
+/// Between the items of a declaration.
+#[tactic(auto, using(crate::proofs::Turns::named_cases, crate::proofs::Turns::items_cases))]
+fn between_items(
     alloc: Global,
     frames: &mut Frames,
-    place: Place,
+    line: Line,
+    sort: Sort,
+    items: Vec<Item>,
     held: Size,
     token: &Token,
-) -> Result<Now, Stop> {
-    match place {
-        Place::Let(line, defs) => {
-            due(frames, Place::Let(line, defs), held)?;
-            let name = name_of(alloc, token)?;
-            due(frames, Place::Named(name), NOTHING)
+) -> Result<Now, Stop>
+    ensures { Steps (stack_of frames.new) result (take_item line sort (items_in items.items) (stack_of frames.old) token.now.line token.now.text.now token.now.kind) }
+{
+    if !are_no_items(&items) {
+        if is_semicolon(token.kind) {
+            return Ok(due_at(frames, Point::Items(line, sort, items), held)?);
         }
-        Place::Named(name) => {
-            let variable = in_a_block(frames.as_slice());
-            named(alloc, frames, name, variable, token.kind)
+        if closes(token.kind) {
+            return match declare(frames, constants(line, sort, items), held) {
+                Ok(()) => Ok(Now::Due),
+                Err(Stop::Memory) => Err(Stop::Memory),
+                Err(Stop::Unexpected) => Err(Stop::Unexpected),
+            };
         }
-        Place::Formals(name) => {
-            if token.kind == Kind::Close {
-                return due(frames, Place::Headed(name, Vec::new(alloc)), NOTHING);
-            }
-            let mut formals = Vec::new(alloc);
-            formals.push(name_of(alloc, token)?)?;
-            due(frames, Place::FormalEnd(name, formals), NOTHING)
-        }
-        Place::Formal(name, formals) => {
-            let mut formals = formals;
-            formals.push(name_of(alloc, token)?)?;
-            due(frames, Place::FormalEnd(name, formals), NOTHING)
-        }
-        Place::FormalEnd(name, formals) => formal_end(frames, name, formals, token.kind),
-        Place::Headed(name, formals) => headed(frames, name, formals, token.kind),
-        Place::Variable(names) => {
-            let mut names = names;
-            names.push(name_of(alloc, token)?)?;
-            due(frames, Place::VariableEnd(names), NOTHING)
-        }
-        Place::VariableEnd(names) => variables(alloc, frames, names, token.kind),
-        Place::Inits(names, inits) => init(alloc, frames, names, inits, held, token),
-        _ => Err(Stop::Unexpected),
     }
+    let Some(name) = name_of(alloc, token)? else {
+        return Err(Stop::Unexpected);
+    };
+    Ok(due_at(frames, Point::Signed(line, sort, items, name), held)?)
 }
 
-/// A place of MANIFEST, STATIC or GLOBAL, or in a command, where a symbol is due.
-fn at_other(
+/// A place of a declaration with constants or of a command, where this symbol comes.
+#[tactic(auto, using(crate::proofs::Turns::named_cases))]
+fn due_within(
     alloc: Global,
     frames: &mut Frames,
-    place: Place,
+    point: Point,
     held: Size,
     token: &Token,
-) -> Result<Now, Stop> {
-    match place {
-        Place::Opening(line, sort) => {
-            if token.kind != Kind::SectionOpen {
+) -> Result<Now, Stop>
+    ensures { Steps (stack_of frames.new) result (take_due (point_on point (stack_of frames.old)) token.now.line token.now.text.now token.now.kind) }
+{
+    match point {
+        Point::Opening(line, sort) => {
+            if !opens(token.kind) {
                 return Err(Stop::Unexpected);
             }
-            due(frames, Place::Items(line, sort, Vec::new(alloc)), held)
+            Ok(due_at(frames, Point::Items(line, sort, Vec::new(alloc)), held)?)
         }
-        Place::Items(line, sort, items) => {
-            if token.kind == Kind::SectionClose && !items.is_empty() {
-                return declare(frames, Decl::Constants(line, sort, items), held);
-            }
-            if token.kind == Kind::Semicolon && !items.is_empty() {
-                return due(frames, Place::Items(line, sort, items), held);
-            }
-            let name = name_of(alloc, token)?;
-            due(frames, Place::Signed(line, sort, items, name), held)
+        Point::Items(line, sort, items) => {
+            between_items(alloc, frames, line, sort, items, held, token)
         }
-        Place::Signed(line, sort, items, name) => {
-            if token.kind != Kind::Equal && token.kind != Kind::Colon {
+        Point::Signed(line, sort, items, name) => {
+            if is_equal(token.kind) || is_colon(token.kind) {
+                return Ok(want_for(frames, Member::Item(line, sort, items, name), held)?);
+            }
+            Err(Stop::Unexpected)
+        }
+        Point::Goto(line) => {
+            let Some(name) = name_of(alloc, token)? else {
                 return Err(Stop::Unexpected);
-            }
-            want_in(frames, Phrase::Item(line, sort, items, name), held)
-        }
-        Place::Goto(line) => {
-            let name = name_of(alloc, token)?;
+            };
             Ok(Now::Did(Command::Goto(line, name), LEAF))
         }
-        Place::For(line) => {
-            let name = name_of(alloc, token)?;
-            due(frames, Place::Forward(line, name), NOTHING)
+        Point::For(line) => {
+            let Some(name) = name_of(alloc, token)? else {
+                return Err(Stop::Unexpected);
+            };
+            Ok(due_at(frames, Point::Forward(line, name), NOTHING)?)
         }
-        Place::Forward(line, name) => {
-            if token.kind != Kind::Equal {
+        Point::Forward(line, name) => {
+            if !is_equal(token.kind) {
                 return Err(Stop::Unexpected);
             }
-            want_in(frames, Phrase::From(line, name), NOTHING)
+            Ok(want_in(frames, Phrase::From(line, name), NOTHING)?)
         }
-        Place::Default(line) => {
-            if token.kind != Kind::Colon {
+        Point::Default(line) => {
+            if !is_colon(token.kind) {
                 return Err(Stop::Unexpected);
             }
-            wants_command(frames, Clause::Default(line), NOTHING)?;
+            begun(frames, Begun::Clause(Clause::Default(line)), NOTHING)?;
             Ok(Now::Maybe)
         }
-        place => at_definition(alloc, frames, place, held, token),
     }
 }
 
 /// A symbol is due, and this one comes.
-pub fn at_place(alloc: Global, frames: &mut Frames, token: &Token) -> Result<Now, Stop> {
-    let Some(top) = frames.pop() else {
-        return Err(Stop::Unexpected);
+#[tactic(auto, using(crate::proofs::Stacks::frames_laws))]
+pub fn at_place(alloc: Global, frames: &mut Frames, token: &Token) -> Result<Now, Stop>
+    ensures { Steps (stack_of frames.new) result (take_due (stack_of frames.old) token.now.line token.now.text.now token.now.kind) }
+{
+    let Some(top) = frames.above.pop() else {
+        return in_section(alloc, frames, token);
     };
     let Frame {
         begun,
         held,
         below: _,
     } = top;
-    let Begun::Place(place) = begun else {
-        return Err(Stop::Unexpected);
-    };
-    match place {
-        Place::Section(decls) => in_section(alloc, frames, decls, held, token),
-        Place::Block(line, free, decls, commands) => {
-            in_block(alloc, frames, line, free, decls, commands, held, token)
-        }
-        place => at_other(alloc, frames, place, held, token),
+    match begun {
+        Begun::Place(place) => due_in(alloc, frames, place, held, token),
+        Begun::Point(point) => due_within(alloc, frames, point, held, token),
+        _ => Err(Stop::Unexpected),
     }
 }

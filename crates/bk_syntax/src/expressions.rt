@@ -1,13 +1,26 @@
 //! Reading expressions.
+ghost use Rattle.std.specs.Prelude.{◌≡◌, ◌+◌, IfOk, Some, None, Option, MatchOption, option_map, unwrap_or, nat_lt, cond, false, ℕ};
+ghost use Rattle.bk_syntax.specs.declared.tree.Operator.TheVariants.{Both};
+ghost use Rattle.bk_syntax.specs.Tree.{expression, expressions_in, binary};
+ghost use Rattle.bk_syntax.specs.Rows.{leaf, goes};
+ghost use Rattle.bk_syntax.specs.Frames.{related, are_none};
+ghost use Rattle.bk_syntax.specs.Grammar.{line_of, last};
+ghost use Rattle.bk_syntax.specs.Machine.{Stack, limit, push, infixed, in_chain, in_args, in_table, bars, no_args, take_operand, give, want, begin, due, have};
+ghost use Rattle.bk_syntax.specs.Frames.{begun_on, operand_on, phrase_on, member_on, clause_on, place_on, point_on, stack_of, stack, state, Steps, Answers, Lowers, Falls};
 
-use crate::frame::{Begun, Clause, Frame, Lift, Now, Operand, Phrase, Place, Size, Sized, Stop};
-use crate::size::{both, compose, form_begun, lift, of_node, right_of};
-use crate::spelling::{character, name, number, string};
-use crate::symbols::{goes_on, infix, prefix, relates, row_behind, row_of};
+use crate::frame::{
+    Begun, Clause, Flow, Frame, Frames, Member, Now, Operand, Phrase, Place, Point, Size, Sized, Stop,
+};
+use crate::make::{apply, table};
+use crate::size::{below, both, form_begun, of_node, right_of};
+use crate::spelling::name;
+use crate::symbols::{
+    Opening, goes_on, infix, inner_row, is_arrow, is_both, is_close, is_comma, is_open, opens_with, prefix, relates, row_behind,
+};
 use crate::tree::{Expr, Operator};
 use bk_base::Line;
-use bk_lex::{Kind, Token};
-use std::alloc::Global;
+use bk_lex::{Kind, Token, character_byte, number_word, string_bytes};
+use std::alloc::{AllocError, Global};
 
 /// No part.
 pub const NOTHING: Size = Size { depth: 0, nodes: 0 };
@@ -15,49 +28,68 @@ pub const NOTHING: Size = Size { depth: 0, nodes: 0 };
 /// One leaf.
 pub const LEAF: Size = Size { depth: 1, nodes: 1 };
 
-/// The frames, the last one on top.
-pub type Frames = Vec<Frame>;
-
 /// Puts on top what was begun, with these parts.
-pub fn begin(frames: &mut Frames, begun: Begun, held: Size) -> Result<(), Stop> {
-    let below = match frames.last() {
-        Some(top) => compose(top.below, lift(top, form_begun(&begun))),
-        None => Lift {
-            floor: 0,
-            rise: 0,
-            nodes: 0,
-        },
-    };
-    frames.push(Frame { begun, held, below })?;
+#[tactic(auto, using(crate::proofs::Stacks::stack_push))]
+pub fn begun(frames: &mut Frames, begun: Begun, held: Size) -> Result<(), AllocError>
+    ensures { IfOk result (λ _. stack_of frames.new ≡ begun_on begun (stack_of frames.old)) }
+{
+    let below = below(frames, form_begun(&begun));
+    frames.above.push(Frame { begun, held, below })?;
     Ok(())
 }
 
 /// Puts on top an expression that was begun, whose operand is due.
-pub fn want(frames: &mut Frames, operand: Operand, held: Size) -> Result<Now, Stop> {
-    begin(frames, Begun::Operand(operand), held)?;
+pub fn want(frames: &mut Frames, operand: Operand, held: Size) -> Result<Now, AllocError>
+    ensures { IfOk result (λ now. state (stack_of frames.new) now ≡ want (operand_on operand (stack_of frames.old))) }
+{
+    begun(frames, Begun::Operand(operand), held)?;
     Ok(Now::Want)
 }
 
 /// Puts on top a command or definition that was begun, of which an expression is due.
-pub fn want_in(frames: &mut Frames, phrase: Phrase, held: Size) -> Result<Now, Stop> {
-    begin(frames, Begun::Phrase(phrase), held)?;
+pub fn want_in(frames: &mut Frames, phrase: Phrase, held: Size) -> Result<Now, AllocError>
+    ensures { IfOk result (λ now. state (stack_of frames.new) now ≡ want (phrase_on phrase (stack_of frames.old))) }
+{
+    begun(frames, Begun::Phrase(phrase), held)?;
+    Ok(Now::Want)
+}
+
+/// Puts on top an item or a definition that was begun, of which an expression is due.
+pub fn want_for(frames: &mut Frames, member: Member, held: Size) -> Result<Now, AllocError>
+    ensures { IfOk result (λ now. state (stack_of frames.new) now ≡ want (member_on member (stack_of frames.old))) }
+{
+    begun(frames, Begun::Member(member), held)?;
     Ok(Now::Want)
 }
 
 /// Puts on top what was begun, of which a command is due.
-pub fn wants_command(frames: &mut Frames, clause: Clause, held: Size) -> Result<Now, Stop> {
-    begin(frames, Begun::Clause(clause), held)?;
+pub fn wants_command(frames: &mut Frames, clause: Clause, held: Size) -> Result<Now, AllocError>
+    ensures { IfOk result (λ now. state (stack_of frames.new) now ≡ begin (clause_on clause (stack_of frames.old))) }
+{
+    begun(frames, Begun::Clause(clause), held)?;
     Ok(Now::Begin)
 }
 
-/// Puts on top a place where a symbol is due.
-pub fn due(frames: &mut Frames, place: Place, held: Size) -> Result<Now, Stop> {
-    begin(frames, Begun::Place(place), held)?;
+/// Puts on top a place of an item or a command, where a symbol is due.
+pub fn due_at(frames: &mut Frames, point: Point, held: Size) -> Result<Now, AllocError>
+    ensures { IfOk result (λ now. state (stack_of frames.new) now ≡ due (point_on point (stack_of frames.old))) }
+{
+    begun(frames, Begun::Point(point), held)?;
+    Ok(Now::Due)
+}
+
+/// Puts on top a place of a block or a definition, where a symbol is due.
+pub fn due(frames: &mut Frames, place: Place, held: Size) -> Result<Now, AllocError>
+    ensures { IfOk result (λ now. state (stack_of frames.new) now ≡ due (place_on place (stack_of frames.old))) }
+{
+    begun(frames, Begun::Place(place), held)?;
     Ok(Now::Due)
 }
 
 /// The line of an expression's first symbol.
-pub fn line_of(expr: &Expr) -> Line {
+pub fn line_of(expr: &Expr) -> Line
+    ensures { result ≡ line_of (expression expr.now) }
+{
     match expr {
         Expr::Name(line, _)
         | Expr::Number(line, _)
@@ -75,18 +107,55 @@ pub fn line_of(expr: &Expr) -> Line {
 }
 
 /// The rows that may stand on top of what was begun.
-fn rows_above(begun: &Begun) -> u8 {
+fn rows_above(begun: &Begun) -> u8
+    ensures { (st : Stack) → result ≡ limit (begun_on begun.now st) }
+{
     match begun {
         Begun::Operand(Operand::Unary(_, prefix)) => row_behind(*prefix),
-        Begun::Operand(Operand::Binary(operator, _, _) | Operand::Chain(operator, _, _, _)) =>
-            row_of(*operator).saturating_sub(1),
+        Begun::Operand(Operand::Binary(operator, _, _)) => inner_row(*operator),
+        Begun::Operand(Operand::Chain(_, _, _, _)) => 5,
         _ => 12,
     }
 }
 
 /// Whether the symbol goes on with an expression on top of the frame.
-pub fn extends(top: &Frame, kind: Kind) -> bool {
+pub fn extends(top: &Frame, kind: Kind) -> bool
+    ensures { (st : Stack) → result ≡ goes (limit (begun_on top.now.begun st)) kind }
+{
     goes_on(rows_above(&top.begun), kind)
+}
+
+/// The right operand of a relation.
+fn related(expr: &Expr) -> Option<&Expr>
+    ensures { MatchOption result (related (expression expr.now) ≡ None) (λ right. related (expression expr.now) ≡ Some (expression right.now)) }
+{
+    match expr {
+        Expr::Binary(_, operator, _, _, right) => {
+            if relates(*operator) {
+                Some(right)
+            } else {
+                None
+            }
+        }
+        _ => None,
+    }
+}
+
+/// The operand that a further relation shares, if the expression is a relation.
+#[tactic(auto, using(crate::proofs::Turns::last_cases))]
+fn shared(expr: &Expr) -> Option<&Expr>
+    ensures { MatchOption result (last (expression expr.now) ≡ None) (λ right. last (expression expr.now) ≡ Some (expression right.now)) }
+{
+    match expr {
+        Expr::Binary(_, operator, _, _, right) => {
+            if is_both(*operator) {
+                related(right)
+            } else {
+                related(expr)
+            }
+        }
+        _ => None,
+    }
 }
 
 /// A relation goes on with a further one: its right operand is copied.
@@ -94,17 +163,12 @@ fn go_on_chain(
     alloc: Global,
     frames: &mut Frames,
     sized: Sized,
+    copy: Box<Expr>,
     operator: Operator,
     sign: Line,
-) -> Result<Now, Stop> {
-    let copy = match &sized.expr {
-        Expr::Binary(_, Operator::Both, _, _, right) => match right.as_ref() {
-            Expr::Binary(_, _, _, _, last) => last.clone()?,
-            _ => return Err(Stop::Unexpected),
-        },
-        Expr::Binary(_, _, _, _, last) => last.clone()?,
-        _ => return Err(Stop::Unexpected),
-    };
+) -> Result<Now, AllocError>
+    ensures { IfOk result (λ now. state (stack_of frames.new) now ≡ want (in_chain operator sign (expression sized.expr) (expression copy.value) (stack_of frames.old))) }
+{
     let held = Size {
         depth: both(sized.size, of_node(sized.right)).depth,
         nodes: of_node(both(sized.size, sized.right)).nodes,
@@ -113,52 +177,49 @@ fn go_on_chain(
     want(frames, Operand::Chain(operator, sign, whole, copy), held)
 }
 
-/// The expression goes on with the symbol.
-pub fn go_on(alloc: Global, frames: &mut Frames, sized: Sized, token: &Token) -> Result<Now, Stop> {
-    match token.kind {
-        Kind::Open => {
-            let callee = Box::new(alloc, sized.expr)?;
-            want(
-                frames,
-                Operand::Args(token.line, callee, Vec::new(alloc)),
-                sized.size,
-            )
-        }
-        Kind::Arrow => {
-            let condition = Box::new(alloc, sized.expr)?;
-            want(frames, Operand::Then(token.line, condition), sized.size)
-        }
-        kind => {
-            let Some(operator) = infix(kind) else {
-                return Err(Stop::Unexpected);
-            };
-            if relates(operator) && is_chain(&sized) {
-                return go_on_chain(alloc, frames, sized, operator, token.line);
-            }
-            let left = Box::new(alloc, sized.expr)?;
-            want(
-                frames,
-                Operand::Binary(operator, token.line, left),
-                sized.size,
-            )
+/// The expression goes on with an operator.
+fn go_on_infix(
+    alloc: Global,
+    frames: &mut Frames,
+    sized: Sized,
+    operator: Operator,
+    sign: Line,
+) -> Result<Now, AllocError>
+{
+    if relates(operator) {
+        if let Some(right) = shared(&sized.expr) {
+            let copy = Box::new(alloc, right.clone()?)?;
+            return go_on_chain(alloc, frames, sized, copy, operator, sign);
         }
     }
+    let left = Box::new(alloc, sized.expr)?;
+    want(frames, Operand::Binary(operator, sign, left), sized.size)
 }
 
-/// Whether the expression is a relation, whose right operand a further relation shares.
-fn is_chain(sized: &Sized) -> bool {
-    match &sized.expr {
-        Expr::Binary(_, Operator::Both, _, _, right) => match right.as_ref() {
-            Expr::Binary(_, operator, _, _, _) => relates(*operator),
-            _ => false,
-        },
-        Expr::Binary(_, operator, _, _, _) => relates(*operator),
-        _ => false,
+/// The expression goes on with the symbol.
+pub fn go_on(alloc: Global, frames: &mut Frames, sized: Sized, token: &Token) -> Result<Flow, Stop>
+    ensures { Falls frames.old frames.new result }
+{
+    if let Some(operator) = infix(token.kind) {
+        let now = go_on_infix(alloc, frames, sized, operator, token.line)?;
+        return Ok(Flow::Stay(now));
     }
+    if is_open(token.kind) {
+        let callee = Box::new(alloc, sized.expr)?;
+        let args = Operand::Args(token.line, callee, Vec::new(alloc));
+        return Ok(Flow::Stay(want(frames, args, sized.size)?));
+    }
+    if is_arrow(token.kind) {
+        let condition = Box::new(alloc, sized.expr)?;
+        return Ok(Flow::Stay(want(frames, Operand::Then(token.line, condition), sized.size)?));
+    }
+    Err(Stop::Unexpected)
 }
 
 /// A leaf of the tree.
-fn leaf(expr: Expr) -> Now {
+fn leaf(expr: Expr) -> Now
+    ensures { (st : Stack) → state st result ≡ have st (expression expr) }
+{
     Now::Have(Sized {
         expr,
         size: LEAF,
@@ -167,7 +228,9 @@ fn leaf(expr: Expr) -> Now {
 }
 
 /// A node that no relation is.
-pub fn whole(expr: Expr, parts: Size) -> Sized {
+pub fn whole(expr: Expr, parts: Size) -> Sized
+    ensures { expression result.expr ≡ expression expr }
+{
     Sized {
         expr,
         size: of_node(parts),
@@ -176,13 +239,15 @@ pub fn whole(expr: Expr, parts: Size) -> Sized {
 }
 
 /// An operand that is one symbol.
-fn leaf_of(alloc: Global, token: &Token) -> Result<Option<Expr>, Stop> {
+fn leaf_of(alloc: Global, token: &Token) -> Result<Option<Expr>, AllocError>
+    ensures { IfOk result (λ expr. leaf token.now.kind token.now.line token.now.text.now ≡ option_map expression expr) }
+{
     let line = token.line;
     Ok(match token.kind {
         Kind::Name => Some(Expr::Name(line, name(alloc, token.text)?)),
-        Kind::Number => Some(Expr::Number(line, number(token.text))),
-        Kind::Text => Some(Expr::Text(line, string(alloc, token.text)?)),
-        Kind::Character => Some(Expr::Number(line, character(token.text))),
+        Kind::Number => Some(Expr::Number(line, number_word(token.text))),
+        Kind::Text => Some(Expr::Text(line, string_bytes(alloc, token.text)?)),
+        Kind::Character => Some(Expr::Number(line, u32::from(character_byte(token.text)))),
         Kind::True => Some(Expr::Truth(line, true)),
         Kind::False => Some(Expr::Truth(line, false)),
         Kind::Query => Some(Expr::Query(line)),
@@ -190,33 +255,66 @@ fn leaf_of(alloc: Global, token: &Token) -> Result<Option<Expr>, Stop> {
     })
 }
 
+/// Whether of as many names or destinations as these, with as many items, more than one is still owed.
+fn owes(whole: usize, done: usize) -> bool
+    ensures { result ≡ nat_lt (done + 1) whole }
+{
+    whole > done && whole - done > 1
+}
+
+/// Whether a comma is owed behind what is on top of this, if this says it.
+#[tactic(auto, using(crate::proofs::Trees::counts))]
+fn barring(begun: &Begun) -> Option<bool>
+    ensures { (st : Stack) → bars (begun_on begun.now st) ≡ unwrap_or result (bars st) }
+{
+    match begun {
+        Begun::Operand(Operand::Then(_, _)) => Some(true),
+        Begun::Operand(
+            Operand::Unary(_, _)
+            | Operand::Binary(_, _, _)
+            | Operand::Chain(_, _, _, _)
+            | Operand::Else(_, _, _),
+        ) => None,
+        Begun::Phrase(Phrase::Values(dests, values)) => Some(owes(dests.len(), values.len())),
+        Begun::Member(Member::Value(names, inits) | Member::Vector(_, names, inits)) => {
+            Some(owes(names.len(), inits.len()))
+        }
+        _ => Some(false),
+    }
+}
+
 /// Whether a comma is owed behind the expression that is read now, so that no TABLE may end it.
-fn is_barred(frames: &[Frame]) -> bool {
-    let mut i = frames.len();
+#[tactic(auto, using(crate::proofs::Stacks::stack_none))]
+fn is_barred(frames: &Frames) -> bool
+    ensures { result ≡ bars (stack_of frames.now) }
+{
+    let mut i = frames.above.len();
     while i > 0 {
         i -= 1;
-        match &frames[i].begun {
-            Begun::Operand(Operand::Then(_, _)) => return true,
-            Begun::Operand(
-                Operand::Unary(_, _)
-                | Operand::Binary(_, _, _)
-                | Operand::Chain(_, _, _, _)
-                | Operand::Else(_, _, _),
-            ) => {}
-            Begun::Phrase(Phrase::Values(dests, values)) => return dests.len() > values.len()
-                && dests.len() - values.len() > 1,
-            Begun::Phrase(Phrase::Value(names, inits) | Phrase::Vector(_, names, inits)) => {
-                return names.len() > inits.len() && names.len() - inits.len() > 1;
-            }
-            _ => return false,
+        match barring(&frames.above[i].begun) {
+            Some(answer) => return answer,
+            None => {}
         }
     }
     false
 }
 
+/// Whether there are no expressions.
+fn are_none(exprs: &[Expr]) -> bool
+    ensures { result ≡ are_none (expressions_in exprs.now) }
+{
+    match exprs {
+        [] => true,
+        _ => false,
+    }
+}
+
 /// A `)` where an argument is due.
-fn no_arguments(frames: &mut Frames) -> Result<Now, Stop> {
-    let Some(top) = frames.pop() else {
+#[tactic(auto, using(crate::proofs::Stacks::frames_laws, crate::proofs::Turns::no_args_cases))]
+fn no_arguments(frames: &mut Frames) -> Result<Now, Stop>
+    ensures { Steps (stack_of frames.new) result (no_args (stack_of frames.old)) }
+{
+    let Some(top) = frames.above.pop() else {
         return Err(Stop::Unexpected);
     };
     let Frame {
@@ -229,90 +327,88 @@ fn no_arguments(frames: &mut Frames) -> Result<Now, Stop> {
     };
     match operand {
         Operand::Args(sign, callee, items) => {
-            if !items.is_empty() {
+            if !are_none(&items) {
                 return Err(Stop::Unexpected);
             }
-            Ok(Now::Have(whole(Expr::Apply(line_of(&callee), sign, callee, items), held)))
+            let apply = apply(line_of(&callee), sign, callee, items);
+            Ok(Now::Have(whole(apply, held)))
         }
         _ => Err(Stop::Unexpected),
     }
 }
 
 /// An operand is due, and this symbol comes.
-pub fn operand(alloc: Global, frames: &mut Frames, token: &Token) -> Result<Now, Stop> {
+#[tactic(auto, using(crate::proofs::Turns::operand_cases))]
+pub fn operand(alloc: Global, frames: &mut Frames, token: &Token) -> Result<Now, Stop>
+    ensures { Steps (stack_of frames.new) result (take_operand (stack_of frames.old) token.now.line token.now.text.now token.now.kind) }
+{
     if let Some(expr) = leaf_of(alloc, token)? {
         return Ok(leaf(expr));
     }
-    match token.kind {
-        Kind::Open => want(frames, Operand::Parens(token.line), NOTHING),
-        Kind::Close => no_arguments(frames),
-        Kind::Valof => wants_command(frames, Clause::Valof(token.line), NOTHING),
-        Kind::Table => {
-            if is_barred(frames.as_slice()) {
+    if let Some(prefix) = prefix(token.kind) {
+        return Ok(want(frames, Operand::Unary(token.line, prefix), NOTHING)?);
+    }
+    match opens_with(token.kind) {
+        Some(Opening::Parens) => Ok(want(frames, Operand::Parens(token.line), NOTHING)?),
+        Some(Opening::Close) => no_arguments(frames),
+        Some(Opening::Valof) => Ok(wants_command(frames, Clause::Valof(token.line), NOTHING)?),
+        Some(Opening::Table) => {
+            if is_barred(frames) {
                 return Err(Stop::Unexpected);
             }
-            want(frames, Operand::Table(token.line, Vec::new(alloc)), NOTHING)
+            Ok(want(frames, Operand::Table(token.line, Vec::new(alloc)), NOTHING)?)
         }
-        kind => {
-            let Some(prefix) = prefix(kind) else {
-                return Err(Stop::Unexpected);
-            };
-            want(frames, Operand::Unary(token.line, prefix), NOTHING)
-        }
+        None => Err(Stop::Unexpected),
     }
 }
 
-/// What becomes of a part when a symbol comes behind it.
-#[derive(Drop)]
-pub enum Flow {
-    /// It stands so.
-    Stay(Now),
-    /// It completed this expression, behind which the symbol comes.
-    Gives(Sized),
-    /// It completed this command.
-    Does(crate::tree::Command, Size),
-    /// It completed this definition.
-    Defines(crate::tree::Def, Size),
-}
-
 /// An argument is complete.
+#[tactic(auto, using(crate::proofs::Trees::one_more))]
 fn argument(
-    alloc: Global,
     frames: &mut Frames,
     sign: Line,
     callee: Box<Expr>,
     items: Vec<Expr>,
     parts: Size,
     last: Expr,
-    kind: Kind,
-) -> Result<Flow, Stop> {
+    token: &Token,
+) -> Result<Flow, Stop>
+    requires { goes 12 token.now.kind ≡ false }
+    ensures flows { Answers frames.new result token.now (give (in_args sign (expression callee.value) (expressions_in items.items) (stack_of frames.old)) (expression last)) }
+    ensures lowers { Lowers frames.old frames.new result }
+{
     let mut items = items;
     items.push(last)?;
-    match kind {
-        Kind::Comma => Ok(Flow::Stay(want(frames, Operand::Args(sign, callee, items), parts)?)),
-        Kind::Close => {
-            let apply = Expr::Apply(line_of(&callee), sign, callee, items);
-            Ok(Flow::Stay(Now::Have(whole(apply, parts))))
-        }
-        _ => Err(Stop::Unexpected),
+    if is_comma(token.kind) {
+        return Ok(Flow::Stay(want(frames, Operand::Args(sign, callee, items), parts)?));
     }
+    if is_close(token.kind) {
+        let apply = apply(line_of(&callee), sign, callee, items);
+        return Ok(Flow::Stay(Now::Have(whole(apply, parts))));
+    }
+    Err(Stop::Unexpected)
 }
 
 /// A number of a TABLE is complete.
+#[tactic(auto, using(crate::proofs::Trees::one_more))]
 fn entry(
     frames: &mut Frames,
     line: Line,
     items: Vec<Expr>,
     parts: Size,
     last: Expr,
-    kind: Kind,
-) -> Result<Flow, Stop> {
+    token: &Token,
+) -> Result<Flow, Stop>
+    requires { goes 12 token.now.kind ≡ false }
+    ensures flows { Answers frames.new result token.now (give (in_table line (expressions_in items.items) (stack_of frames.old)) (expression last)) }
+    ensures lowers { Lowers frames.old frames.new result }
+{
     let mut items = items;
     items.push(last)?;
-    match kind {
-        Kind::Comma => Ok(Flow::Stay(want(frames, Operand::Table(line, items), parts)?)),
-        _ => Ok(Flow::Gives(whole(Expr::Table(line, items), parts))),
+    if is_comma(token.kind) {
+        return Ok(Flow::Stay(want(frames, Operand::Table(line, items), parts)?));
     }
+    Ok(Flow::Gives(whole(table(line, items), parts)))
 }
 
 /// The `&` of a chain of relations.
@@ -324,73 +420,65 @@ fn chained(
     shared: Box<Expr>,
     parts: Size,
     right: Sized,
-) -> Result<Flow, Stop> {
+) -> Result<Sized, AllocError>
+    ensures { IfOk result (λ whole. expression whole.expr ≡ binary (line_of (expression before.value)) Both sign (expression before.value) (binary (line_of (expression shared.value)) operator sign (expression shared.value) (expression right.expr))) }
+{
     let line = line_of(&before);
-    let further = Expr::Binary(
-        line_of(&shared),
-        operator,
-        sign,
-        shared,
-        Box::new(alloc, right.expr)?,
-    );
-    let expr = Expr::Binary(
-        line,
-        Operator::Both,
-        sign,
-        before,
-        Box::new(alloc, further)?,
-    );
+    let last = Box::new(alloc, right.expr)?;
+    let further = Expr::Binary(line_of(&shared), operator, sign, shared, last);
+    let further = Box::new(alloc, further)?;
+    let expr = Expr::Binary(line, Operator::Both, sign, before, further);
     let within = Size {
         depth: both(parts, of_node(right.size)).depth,
         nodes: both(parts, right.size).nodes,
     };
-    Ok(Flow::Gives(Sized {
+    Ok(Sized {
         expr,
         size: of_node(within),
         right: right.size,
-    }))
+    })
 }
 
-/// An operand is complete, and a symbol comes behind it.
+/// An operand is complete, with which the symbol behind it does not go on.
 pub fn complete(
     alloc: Global,
     frames: &mut Frames,
     begun: Operand,
     held: Size,
     sized: Sized,
-    kind: Kind,
-) -> Result<Flow, Stop> {
+    token: &Token,
+) -> Result<Flow, Stop>
+    requires { goes (limit (operand_on begun (stack_of frames.old))) token.now.kind ≡ false }
+    ensures flows { Answers frames.new result token.now (give (operand_on begun (stack_of frames.old)) (expression sized.expr)) }
+    ensures lowers { Lowers frames.old frames.new result }
+{
     let parts = both(held, sized.size);
     match begun {
         Operand::Parens(line) => {
-            if kind != Kind::Close {
+            if !is_close(token.kind) {
                 return Err(Stop::Unexpected);
             }
-            Ok(Flow::Stay(Now::Have(whole(
-                Expr::Parens(line, Box::new(alloc, sized.expr)?),
-                parts,
-            ))))
+            let inner = Box::new(alloc, sized.expr)?;
+            Ok(Flow::Stay(Now::Have(whole(Expr::Parens(line, inner), parts))))
         }
         Operand::Unary(line, prefix) => {
-            Ok(Flow::Gives(whole(
-                Expr::Unary(line, prefix, Box::new(alloc, sized.expr)?),
-                parts,
-            )))
+            let operand = Box::new(alloc, sized.expr)?;
+            Ok(Flow::Gives(whole(Expr::Unary(line, prefix, operand), parts)))
         }
         Operand::Binary(operator, sign, left) => {
             let line = line_of(&left);
-            let expr = Expr::Binary(line, operator, sign, left, Box::new(alloc, sized.expr)?);
+            let right = Box::new(alloc, sized.expr)?;
             Ok(Flow::Gives(Sized {
-                expr,
+                expr: Expr::Binary(line, operator, sign, left, right),
                 size: of_node(parts),
                 right: right_of(operator, sized.size),
             }))
         }
-        Operand::Chain(operator, sign, before, shared) => chained(
+        Operand::Chain(operator, sign, before, shared) => Ok(Flow::Gives(chained(
             alloc, operator, sign, before, shared, held, sized,
-        ),
+        )?)),
         Operand::Then(sign, condition) => {
-            if kind != Kind::Comma {
+            if !is_comma(token.kind) {
                 return Err(Stop::Unexpected);
             }
             let yes = Box::new(alloc, sized.expr)?;
@@ -398,12 +486,12 @@ pub fn complete(
         }
         Operand::Else(sign, condition, yes) => {
             let line = line_of(&condition);
-            let expr = Expr::Choice(line, sign, condition, yes, Box::new(alloc, sized.expr)?);
-            Ok(Flow::Gives(whole(expr, parts)))
+            let no = Box::new(alloc, sized.expr)?;
+            Ok(Flow::Gives(whole(Expr::Choice(line, sign, condition, yes, no), parts)))
         }
         Operand::Args(sign, callee, items) => argument(
-            alloc, frames, sign, callee, items, parts, sized.expr, kind,
+            frames, sign, callee, items, parts, sized.expr, token,
         ),
-        Operand::Table(line, items) => entry(frames, line, items, parts, sized.expr, kind),
+        Operand::Table(line, items) => entry(frames, line, items, parts, sized.expr, token),
     }
 }

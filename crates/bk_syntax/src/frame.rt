@@ -40,7 +40,7 @@ pub enum Operand {
     Table(Line, Vec<Expr>),
 }
 
-/// A command, item or definition that was begun; an expression of it is read now.
+/// A command that was begun; an expression of it is read now.
 #[derive(Drop)]
 pub enum Phrase {
     /// The first expression of a command.
@@ -58,6 +58,11 @@ pub enum Phrase {
     From(Line, Name),
     To(Line, Name, Box<Expr>),
     By(Line, Name, Box<Expr>, Box<Expr>),
+}
+
+/// An item or a definition that was begun; an expression of it is read now.
+#[derive(Drop)]
+pub enum Member {
     /// The constant of an item behind the items so far.
     Item(Line, Sort, Vec<Item>, Name),
     Function(Name, Vec<Name>),
@@ -79,11 +84,9 @@ pub enum Clause {
     Routine(Name, Vec<Name>),
 }
 
-/// A place where a symbol is due.
+/// A place in a block or a definition, where a symbol is due.
 #[derive(Drop)]
 pub enum Place {
-    /// Between the declarations of a section.
-    Section(Vec<Decl>),
     /// In a block; whether a command may come.
     Block(Line, bool, Vec<Decl>, Vec<Command>),
     /// The name of a definition, behind these.
@@ -102,6 +105,11 @@ pub enum Place {
     VariableEnd(Vec<Name>),
     /// Behind the `=` or a `,` between the items of a LET.
     Inits(Vec<Name>, Vec<Init>),
+}
+
+/// A place in MANIFEST, STATIC or GLOBAL, or in a command, where a symbol is due.
+#[derive(Drop)]
+pub enum Point {
     /// Behind MANIFEST, STATIC or GLOBAL.
     Opening(Line, Sort),
     /// Between the items, and behind the name of one.
@@ -118,8 +126,10 @@ pub enum Place {
 pub enum Begun {
     Operand(Operand),
     Phrase(Phrase),
+    Member(Member),
     Clause(Clause),
     Place(Place),
+    Point(Point),
 }
 
 /// What was begun, with the depth and the nodes of the parts that it holds, and how the whole depends on it.
@@ -128,6 +138,14 @@ pub struct Frame {
     pub begun: Begun,
     pub held: Size,
     pub below: Lift,
+}
+
+/// What was begun: the section, with its declarations and their size, and above it the rest, the last one on top.
+#[derive(Drop)]
+pub struct Frames {
+    pub decls: Vec<Decl>,
+    pub held: Size,
+    pub above: Vec<Frame>,
 }
 
 /// An expression that is complete so far, with its size and, if it is a relation, that of its right operand.
@@ -153,6 +171,19 @@ pub enum Now {
     Did(Command, Size),
     /// A symbol is due, as the last frame says.
     Due,
+}
+
+/// What becomes of a part when a symbol comes behind it.
+#[derive(Drop)]
+pub enum Flow {
+    /// It stands so.
+    Stay(Now),
+    /// It completed this expression, behind which the symbol comes.
+    Gives(Sized),
+    /// It completed this command.
+    Does(Command, Size),
+    /// It completed this definition.
+    Defines(Def, Size),
 }
 
 /// Why a symbol is refused.

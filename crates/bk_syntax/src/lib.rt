@@ -6,6 +6,7 @@ mod definitions;
 mod expressions;
 mod frame;
 mod laws;
+mod make;
 mod parser;
 mod size;
 mod spelling;

@@ -1,31 +1,41 @@
 //! The parser: one pass over the symbols, with a list of what was begun.
+ghost use Rattle.std.specs.Prelude.{◌≡◌, ◌<◌, ◌≤◌, ℕ};
+ghost use Rattle.bk_syntax.specs.Tree.{expression, action};
+ghost use Rattle.bk_syntax.specs.Machine.{Stack, give, finish, without, stepped_by};
+ghost use Rattle.bk_syntax.specs.Frames.{stack_of, state, flow, Steps, Answers, Falls};
 
-use crate::commands::{command, complete_clause, complete_phrase, repeated};
-use crate::definitions::{at_place, complete_command, complete_definition};
-use crate::expressions::{Flow, Frames, NOTHING, complete, due, extends, go_on};
-use crate::frame::{Begun, Clause, Frame, Now, Place, Size, Sized, Stop};
-use crate::size::least;
+use crate::commands::{again, command, complete_clause, complete_phrase, guarded};
+use crate::definitions::{at_place, complete_command, complete_definition, complete_member};
+use crate::expressions::{NOTHING, complete, extends, go_on, operand};
+use crate::frame::{Begun, Clause, Flow, Frame, Frames, Now, Size, Sized, Stop};
+use crate::size::{least, of_node};
 use crate::spelling::{same_tag, tag};
-use crate::symbols::starts_command;
+use crate::symbols::{goes_on, repeats, starts_command};
 use crate::tree::{Command, Decl};
 use bk_base::limit::{TREE_DEPTH, TREE_NODES};
 use bk_base::{Line, Refused, SourceFault, SourceKind};
 use bk_lex::{Kind, Token};
 use std::alloc::Global;
 
-/// The expression on the top frame, and a symbol behind it.
+/// An expression is complete so far, and a symbol comes behind it.
+#[tactic(auto, using(crate::proofs::Stacks::frames_laws))]
 fn behind_expression(
     alloc: Global,
     frames: &mut Frames,
     sized: Sized,
     token: &Token,
-) -> Result<Flow, Stop> {
-    let Some(top) = frames.pop() else {
+) -> Result<Flow, Stop>
+    ensures { Falls frames.old frames.new result }
+{
+    let Some(top) = frames.above.pop() else {
+        if goes_on(12, token.kind) {
+            return go_on(alloc, frames, sized, token);
+        }
         return Err(Stop::Unexpected);
     };
     if extends(&top, token.kind) {
-        frames.push(top)?;
-        return Ok(Flow::Stay(go_on(alloc, frames, sized, token)?));
+        frames.above.push(top)?;
+        return go_on(alloc, frames, sized, token);
     }
     let Frame {
         begun,
@@ -33,25 +43,29 @@ fn behind_expression(
         below: _,
     } = top;
     match begun {
-        Begun::Operand(operand) => complete(alloc, frames, operand, held, sized, token.kind),
+        Begun::Operand(operand) => complete(alloc, frames, operand, held, sized, token),
         Begun::Phrase(phrase) => complete_phrase(alloc, frames, phrase, held, sized, token),
+        Begun::Member(member) => complete_member(alloc, frames, member, held, sized, token),
         _ => Err(Stop::Unexpected),
     }
 }
 
-/// The command on the top frame, and a symbol behind it.
+/// A command is complete so far, and a symbol comes behind it.
+#[tactic(auto, using(crate::proofs::Stacks::frames_laws))]
 fn behind_command(
     alloc: Global,
     frames: &mut Frames,
     command: Command,
     size: Size,
     token: &Token,
-) -> Result<Flow, Stop> {
-    let command = match repeated(alloc, frames, command, size, token)? {
-        Ok(now) => return Ok(Flow::Stay(now)),
-        Err(command) => command,
-    };
-    let Some(top) = frames.pop() else {
+) -> Result<Flow, Stop>
+    ensures answers { Answers frames.new result token.now (finish (stack_of frames.old) (action command)) }
+    ensures falls { Falls frames.old frames.new result }
+{
+    if repeats(token.kind) {
+        return again(alloc, frames, command, size, token);
+    }
+    let Some(top) = frames.above.pop() else {
         return Err(Stop::Unexpected);
     };
     let Frame {
@@ -61,14 +75,18 @@ fn behind_command(
     } = top;
     match begun {
         Begun::Clause(clause) => complete_clause(alloc, frames, clause, held, command, size, token),
-        Begun::Place(place) => complete_command(frames, place, held, command, size, token.kind),
+        Begun::Place(place) => complete_command(frames, place, held, command, size, token),
+        Begun::Operand(_) | Begun::Phrase(_) => Err(Stop::Unexpected),
         _ => Err(Stop::Unexpected),
     }
 }
 
 /// No command behind a colon, and a symbol that begins none.
-fn without_command(alloc: Global, frames: &mut Frames, token: &Token) -> Result<Flow, Stop> {
-    let Some(top) = frames.pop() else {
+#[tactic(auto, using(crate::proofs::Stacks::frames_laws))]
+fn without_command(alloc: Global, frames: &mut Frames, token: &Token) -> Result<Flow, Stop>
+    ensures { Answers frames.new result token.now (without (stack_of frames.old)) }
+{
+    let Some(top) = frames.above.pop() else {
         return Err(Stop::Unexpected);
     };
     let Frame {
@@ -76,43 +94,62 @@ fn without_command(alloc: Global, frames: &mut Frames, token: &Token) -> Result<
         held,
         below: _,
     } = top;
-    match begun {
-        Begun::Clause(clause) => {
-            complete_clause(alloc, frames, clause, held, Command::Empty, NOTHING, token)
+    let Begun::Clause(clause) = begun else {
+        return Err(Stop::Unexpected);
+    };
+    let body = Box::new(alloc, Command::Empty)?;
+    let size = of_node(held);
+    match clause {
+        Clause::Label(line, letters) => {
+            Ok(Flow::Does(Command::Label(line, letters, body), size))
         }
+        Clause::Guarded(guard, line, condition) => {
+            Ok(Flow::Does(guarded(guard, line, condition, body), size))
+        }
+        Clause::Default(line) => Ok(Flow::Does(Command::Default(line, body), size)),
         _ => Err(Stop::Unexpected),
     }
 }
 
 /// Completes what the symbol completes.
-fn settle(alloc: Global, frames: &mut Frames, flow: Flow, token: &Token) -> Result<Now, Stop> {
-    let mut flow = flow;
-    // each completion takes a frame away
-    for _ in 0..frames.len().saturating_add(1) {
-        match flow {
+fn settle(alloc: Global, frames: &mut Frames, first: Flow, token: &Token) -> Result<Now, Stop> {
+    let mut flow = first;
+    loop {
+        let next = match flow {
             Flow::Stay(now) => return Ok(now),
-            Flow::Gives(sized) => flow = behind_expression(alloc, frames, sized, token)?,
-            Flow::Does(command, size) => flow = behind_command(
-                alloc, frames, command, size, token,
-            )?,
+            Flow::Gives(sized) => behind_expression(alloc, frames, sized, token),
+            Flow::Does(command, size) => behind_command(alloc, frames, command, size, token),
             Flow::Defines(def, size) => return complete_definition(alloc, frames, def, size, token),
+        };
+        match next {
+            Ok(after) => flow = after,
+            Err(Stop::Memory) => return Err(Stop::Memory),
+            Err(Stop::Unexpected) => return Err(Stop::Unexpected),
         }
     }
-    Err(Stop::Unexpected)
+}
+
+/// No command stands behind a colon, and this symbol begins none.
+fn step_over(alloc: Global, frames: &mut Frames, token: &Token) -> Result<Now, Stop> {
+    match without_command(alloc, frames, token) {
+        Ok(flow) => settle(alloc, frames, flow, token),
+        Err(Stop::Memory) => Err(Stop::Memory),
+        Err(Stop::Unexpected) => Err(Stop::Unexpected),
+    }
 }
 
 /// The next symbol, a section bracket once for each section that it opens or closes.
 fn step(alloc: Global, frames: &mut Frames, now: Now, token: &Token) -> Result<Now, Stop> {
     match now {
-        Now::Want => crate::expressions::operand(alloc, frames, token),
+        Now::Want => operand(alloc, frames, token),
         Now::Have(sized) => settle(alloc, frames, Flow::Gives(sized), token),
         Now::Begin => command(alloc, frames, token),
         Now::Maybe => {
             if starts_command(token.kind) {
-                return command(alloc, frames, token);
+                command(alloc, frames, token)
+            } else {
+                step_over(alloc, frames, token)
             }
-            let flow = without_command(alloc, frames, token)?;
-            settle(alloc, frames, flow, token)
         }
         Now::Did(command, size) => settle(alloc, frames, Flow::Does(command, size), token),
         Now::Due => at_place(alloc, frames, token),
@@ -179,10 +216,7 @@ fn repeat_step(
 
 /// The limit that every section from here on passes.
 fn limit(frames: &Frames, now: &Now) -> Option<SourceKind> {
-    let Some(top) = frames.last() else {
-        return None;
-    };
-    let size = least(top, now);
+    let size = least(frames, now);
     if size.depth > TREE_DEPTH {
         return Some(SourceKind::NestedTooDeeply);
     }
@@ -227,19 +261,20 @@ fn advance<'a>(
 ///
 /// It is proved to be safe and to end on every list of symbols. No contract ties it to the grammar yet.
 pub fn parse(alloc: Global, tokens: &[Token], end: Line) -> Result<Section, Refused<SourceFault>> {
-    let mut frames = Vec::new(alloc);
-    let mut open = Vec::new(alloc);
-    let mut now = match due(&mut frames, Place::Section(Vec::new(alloc)), NOTHING) {
-        Ok(now) => now,
-        Err(stop) => return Err(refusal(stop, end)),
+    let mut frames = Frames {
+        decls: Vec::new(alloc),
+        held: NOTHING,
+        above: Vec::new(alloc),
     };
+    let mut open = Vec::new(alloc);
+    let mut now = Now::Due;
     for token in tokens {
         now = advance(alloc, &mut frames, &mut open, now, token)?;
     }
     // the end completes what a `;` completes
     let last = Token {
         kind: Kind::Semicolon,
-        line: end,
+        line: Line::first(),
         text: &[],
     };
     match step(alloc, &mut frames, now, &last) {
@@ -247,19 +282,13 @@ pub fn parse(alloc: Global, tokens: &[Token], end: Line) -> Result<Section, Refu
         Ok(_) => return Err(fault(end, SourceKind::UnexpectedSymbol)),
         Err(stop) => return Err(refusal(stop, end)),
     }
-    let Some(top) = frames.pop() else {
+    if !frames.above.is_empty() {
         return Err(fault(end, SourceKind::UnexpectedSymbol));
-    };
-    let Frame {
-        begun,
-        held: _,
-        below: _,
-    } = top;
-    let Begun::Place(place) = begun else {
-        return Err(fault(end, SourceKind::UnexpectedSymbol));
-    };
-    match place {
-        Place::Section(decls) => Ok(Section { decls }),
-        _ => Err(fault(end, SourceKind::UnexpectedSymbol)),
     }
+    let Frames {
+        decls,
+        held: _,
+        above: _,
+    } = frames;
+    Ok(Section { decls })
 }

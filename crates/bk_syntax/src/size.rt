@@ -1,6 +1,6 @@
 //! The least that a whole must be, by what was begun of it.
 
-use crate::frame::{Begun, Clause, Frame, Lift, Now, Operand, Phrase, Place, Size};
+use crate::frame::{Begun, Clause, Frame, Frames, Lift, Member, Now, Operand, Phrase, Place, Point, Size};
 use crate::symbols::{Guard, relates};
 use crate::tree::Expr;
 
@@ -125,15 +125,21 @@ fn lift_phrase(phrase: &Phrase, held: Size, form: Form) -> Lift {
         Phrase::Guard(Guard::Case, _) => node(held, 0),
         Phrase::Guard(_, _) | Phrase::To(_, _, _) | Phrase::By(_, _, _, _) => node(held, 1),
         Phrase::Test(_) | Phrase::From(_, _) => node(held, 2),
-        Phrase::Item(_, _, _, _) => Lift {
+        _ => node(held, 0),
+    }
+}
+
+fn lift_member(member: &Member, held: Size) -> Lift {
+    match member {
+        Member::Item(_, _, _, _) => Lift {
             floor: held.depth,
             rise: 1,
             nodes: plus(held.nodes, 1),
         },
-        Phrase::Value(names, inits) | Phrase::Vector(_, names, inits) => {
+        Member::Function(_, _) => node(held, 0),
+        Member::Value(names, inits) | Member::Vector(_, names, inits) => {
             node(held, owed(names.len(), inits.len()).saturating_sub(1))
         }
-        _ => node(held, 0),
     }
 }
 
@@ -146,24 +152,30 @@ fn lift_clause(clause: &Clause, held: Size) -> Lift {
 
 fn lift_place(place: &Place, held: Size) -> Lift {
     match place {
-        Place::Section(_) | Place::Let(_, _) => beside(held),
-        Place::Block(_, _, _, _) | Place::Default(_) | Place::Goto(_) => node(held, 0),
+        Place::Let(_, _) => beside(held),
+        Place::Block(_, _, _, _) => node(held, 0),
         Place::Named(_)
         | Place::Formals(_)
         | Place::Formal(_, _)
         | Place::FormalEnd(_, _)
-        | Place::Headed(_, _)
-        | Place::Opening(_, _) => owing(held, 2),
+        | Place::Headed(_, _) => owing(held, 2),
         Place::Variable(names) => owing(held, plus(owed(names.len(), 0), 2)),
         Place::VariableEnd(names) => owing(held, plus(owed(names.len(), 0), 1)),
         Place::Inits(names, inits) => node(held, owed(names.len(), inits.len())),
-        Place::Items(_, _, items) => if items.is_empty() {
+    }
+}
+
+fn lift_point(point: &Point, held: Size) -> Lift {
+    match point {
+        Point::Default(_) | Point::Goto(_) => node(held, 0),
+        Point::Opening(_, _) => owing(held, 2),
+        Point::Items(_, _, items) => if items.is_empty() {
             owing(held, 2)
         } else {
             beside(held)
         },
-        Place::Signed(_, _, _, _) => owing(held, 2),
-        Place::For(_) | Place::Forward(_, _) => owing(held, 4),
+        Point::Signed(_, _, _, _) => owing(held, 2),
+        Point::For(_) | Point::Forward(_, _) => owing(held, 4),
     }
 }
 
@@ -173,7 +185,9 @@ pub fn lift(frame: &Frame, form: Form) -> Lift {
         Begun::Operand(operand) => lift_operand(operand, frame.held),
         Begun::Phrase(phrase) => lift_phrase(phrase, frame.held, form),
         Begun::Clause(clause) => lift_clause(clause, frame.held),
+        Begun::Member(member) => lift_member(member, frame.held),
         Begun::Place(place) => lift_place(place, frame.held),
+        Begun::Point(point) => lift_point(point, frame.held),
     }
 }
 
@@ -222,9 +236,22 @@ fn part(top: &Frame, now: &Now) -> (Size, Form) {
 }
 
 /// The least size of a whole section that goes on from here.
-pub fn least(top: &Frame, now: &Now) -> Size {
-    let (size, form) = part(top, now);
-    lifted(compose(top.below, lift(top, form)), size)
+pub fn least(frames: &Frames, now: &Now) -> Size {
+    match frames.above.last() {
+        Some(top) => {
+            let (size, form) = part(top, now);
+            lifted(compose(top.below, lift(top, form)), size)
+        }
+        None => frames.held,
+    }
+}
+
+/// How the section depends on the part that is read above these frames, if that has this form.
+pub fn below(frames: &Frames, form: Form) -> Lift {
+    match frames.above.last() {
+        Some(top) => compose(top.below, lift(top, form)),
+        None => beside(frames.held),
+    }
 }
 
 /// The size of a node with these parts.

@@ -1,8 +1,8 @@
 //! What a symbol may be in the grammar.
 
 ghost use Rattle.std.specs.Prelude.{◌≡◌};
-ghost use Rattle.bk_syntax.specs.Machine.{is_sign_of};
-ghost use Rattle.bk_syntax.specs.Rows.{infix_of, prefix_of, row, is_relation, behind, goes, simple_of, sort_of, guard_of, begins_operand, begins_command};
+ghost use Rattle.bk_syntax.specs.Machine.{is_sign_of, is_close, is_assign, is_colon, is_do, is_or, is_to, is_by, is_be, is_equal, is_semicolon, opens, closes, is_vec, is_open};
+ghost use Rattle.bk_syntax.specs.Rows.{infix_of, prefix_of, inner, is_comma, is_and, assigns, repeats, is_relation, behind, goes, simple_of, guard_of, is_arrow, is_both, is_name, declaring_of, repetition_of, opening_of, heading_of, begins_operand, begins_command};
 
 use crate::tree::{Operator, Prefix, Simple, Sort};
 use bk_lex::Kind;
@@ -49,24 +49,24 @@ pub fn prefix(kind: Kind) -> Option<Prefix>
     }
 }
 
-/// The row of an operator between two operands, from 2 to 11.
-pub fn row_of(operator: Operator) -> u8
-    ensures { result ≡ row operator }
+/// The rows that the right operand of an operator may have: up to this one.
+pub fn inner_row(operator: Operator) -> u8
+    ensures { result ≡ inner operator }
 {
     match operator {
-        Operator::Subscript | Operator::Byte => 2,
-        Operator::Times | Operator::Over | Operator::Rem => 4,
-        Operator::Add | Operator::Subtract => 5,
+        Operator::Subscript | Operator::Byte => 1,
+        Operator::Times | Operator::Over | Operator::Rem => 3,
+        Operator::Add | Operator::Subtract => 4,
         Operator::Equal
         | Operator::Unequal
         | Operator::Less
         | Operator::Greater
         | Operator::AtMost
-        | Operator::AtLeast => 6,
-        Operator::ShiftLeft | Operator::ShiftRight => 7,
-        Operator::Both => 9,
-        Operator::Either => 10,
-        Operator::Same | Operator::Differ => 11,
+        | Operator::AtLeast => 5,
+        Operator::ShiftLeft | Operator::ShiftRight => 6,
+        Operator::Both => 8,
+        Operator::Either => 9,
+        Operator::Same | Operator::Differ => 10,
     }
 }
 
@@ -134,14 +134,22 @@ pub fn simple(kind: Kind) -> Option<Simple>
     }
 }
 
-/// What MANIFEST, STATIC or GLOBAL declares.
-pub fn sort_declared(kind: Kind) -> Option<Sort>
-    ensures { result ≡ sort_of kind }
+/// A declaration, by the word that it begins with.
+#[derive(Clone, Copy, Debug, PartialEq, Eq)]
+pub enum Declaring {
+    Let,
+    Constants(Sort),
+}
+
+/// The declaration that a symbol begins.
+pub fn declares_with(kind: Kind) -> Option<Declaring>
+    ensures { result ≡ declaring_of kind }
 {
     match kind {
-        Kind::Manifest => Some(Sort::Manifest),
-        Kind::Static => Some(Sort::Static),
-        Kind::Global => Some(Sort::Global),
+        Kind::Let => Some(Declaring::Let),
+        Kind::Manifest => Some(Declaring::Constants(Sort::Manifest)),
+        Kind::Static => Some(Declaring::Constants(Sort::Static)),
+        Kind::Global => Some(Declaring::Constants(Sort::Global)),
         _ => None,
     }
 }
@@ -181,14 +189,8 @@ pub fn is_sign(guard: Guard, kind: Kind) -> bool
             Kind::Into => true,
             _ => false,
         },
-        Guard::Case => match kind {
-            Kind::Colon => true,
-            _ => false,
-        },
-        _ => match kind {
-            Kind::Do => true,
-            _ => false,
-        },
+        Guard::Case => is_colon(kind),
+        _ => is_do(kind),
     }
 }
 
@@ -239,5 +241,281 @@ pub fn starts_command(kind: Kind) -> bool
         | Kind::SwitchOn
         | Kind::Case => true,
         _ => starts_operand(kind),
+    }
+}
+
+/// Whether it is `,`.
+pub fn is_comma(kind: Kind) -> bool
+    ensures { result ≡ is_comma kind }
+{
+    match kind {
+        Kind::Comma => true,
+        _ => false,
+    }
+}
+
+/// Whether it is AND.
+pub fn is_and(kind: Kind) -> bool
+    ensures { result ≡ is_and kind }
+{
+    match kind {
+        Kind::And => true,
+        _ => false,
+    }
+}
+
+/// Whether it is `)`.
+pub fn is_close(kind: Kind) -> bool
+    ensures { result ≡ is_close kind }
+{
+    match kind {
+        Kind::Close => true,
+        _ => false,
+    }
+}
+
+/// Whether it is `:=`.
+pub fn is_assign(kind: Kind) -> bool
+    ensures { result ≡ is_assign kind }
+{
+    match kind {
+        Kind::Assign => true,
+        _ => false,
+    }
+}
+
+/// Whether it is `:`.
+pub fn is_colon(kind: Kind) -> bool
+    ensures { result ≡ is_colon kind }
+{
+    match kind {
+        Kind::Colon => true,
+        _ => false,
+    }
+}
+
+/// Whether it is DO.
+pub fn is_do(kind: Kind) -> bool
+    ensures { result ≡ is_do kind }
+{
+    match kind {
+        Kind::Do => true,
+        _ => false,
+    }
+}
+
+/// Whether it is OR.
+pub fn is_or(kind: Kind) -> bool
+    ensures { result ≡ is_or kind }
+{
+    match kind {
+        Kind::Or => true,
+        _ => false,
+    }
+}
+
+/// Whether it is TO.
+pub fn is_to(kind: Kind) -> bool
+    ensures { result ≡ is_to kind }
+{
+    match kind {
+        Kind::To => true,
+        _ => false,
+    }
+}
+
+/// Whether it is BY.
+pub fn is_by(kind: Kind) -> bool
+    ensures { result ≡ is_by kind }
+{
+    match kind {
+        Kind::By => true,
+        _ => false,
+    }
+}
+
+/// Whether it is BE.
+pub fn is_be(kind: Kind) -> bool
+    ensures { result ≡ is_be kind }
+{
+    match kind {
+        Kind::Be => true,
+        _ => false,
+    }
+}
+
+/// Whether it is `=`.
+pub fn is_equal(kind: Kind) -> bool
+    ensures { result ≡ is_equal kind }
+{
+    match kind {
+        Kind::Equal => true,
+        _ => false,
+    }
+}
+
+/// Whether it is `;`.
+pub fn is_semicolon(kind: Kind) -> bool
+    ensures { result ≡ is_semicolon kind }
+{
+    match kind {
+        Kind::Semicolon => true,
+        _ => false,
+    }
+}
+
+/// Whether it is `$(`.
+pub fn opens(kind: Kind) -> bool
+    ensures { result ≡ opens kind }
+{
+    match kind {
+        Kind::SectionOpen => true,
+        _ => false,
+    }
+}
+
+/// Whether it is `$)`.
+pub fn closes(kind: Kind) -> bool
+    ensures { result ≡ closes kind }
+{
+    match kind {
+        Kind::SectionClose => true,
+        _ => false,
+    }
+}
+
+/// Whether it is VEC.
+pub fn is_vec(kind: Kind) -> bool
+    ensures { result ≡ is_vec kind }
+{
+    match kind {
+        Kind::Vec => true,
+        _ => false,
+    }
+}
+
+/// Whether it is `(`.
+pub fn is_open(kind: Kind) -> bool
+    ensures { result ≡ is_open kind }
+{
+    match kind {
+        Kind::Open => true,
+        _ => false,
+    }
+}
+
+/// Whether a call at the head of a command goes on as an assignment.
+pub fn assigns(kind: Kind) -> bool
+    ensures { result ≡ assigns kind }
+{
+    is_comma(kind) || is_assign(kind)
+}
+
+/// Whether it repeats the command before it.
+pub fn repeats(kind: Kind) -> bool
+    ensures { result ≡ repeats kind }
+{
+    match kind {
+        Kind::Repeat | Kind::RepeatWhile | Kind::RepeatUntil => true,
+        _ => false,
+    }
+}
+
+/// Whether it is `->`.
+pub fn is_arrow(kind: Kind) -> bool
+    ensures { result ≡ is_arrow kind }
+{
+    match kind {
+        Kind::Arrow => true,
+        _ => false,
+    }
+}
+
+/// Whether it is `&`.
+pub fn is_both(operator: Operator) -> bool
+    ensures { result ≡ is_both operator }
+{
+    match operator {
+        Operator::Both => true,
+        _ => false,
+    }
+}
+
+/// What begins where an operand is due, beside an operand of one symbol and a prefix operator; or the `)` where no
+/// argument comes.
+#[derive(Clone, Copy, Debug, PartialEq, Eq)]
+pub enum Opening {
+    Parens,
+    Close,
+    Valof,
+    Table,
+}
+
+/// What the symbol begins.
+pub fn opens_with(kind: Kind) -> Option<Opening>
+    ensures { result ≡ opening_of kind }
+{
+    match kind {
+        Kind::Open => Some(Opening::Parens),
+        Kind::Close => Some(Opening::Close),
+        Kind::Valof => Some(Opening::Valof),
+        Kind::Table => Some(Opening::Table),
+        _ => None,
+    }
+}
+
+/// A command that begins with a word of its own, beside the guards and the commands of one word.
+#[derive(Clone, Copy, Debug, PartialEq, Eq)]
+pub enum Heading {
+    Goto,
+    Test,
+    For,
+    ResultIs,
+    Default,
+    Block,
+}
+
+/// The command that the symbol begins.
+pub fn heads_with(kind: Kind) -> Option<Heading>
+    ensures { result ≡ heading_of kind }
+{
+    match kind {
+        Kind::Goto => Some(Heading::Goto),
+        Kind::Test => Some(Heading::Test),
+        Kind::For => Some(Heading::For),
+        Kind::ResultIs => Some(Heading::ResultIs),
+        Kind::Default => Some(Heading::Default),
+        Kind::SectionOpen => Some(Heading::Block),
+        _ => None,
+    }
+}
+
+/// How a command is repeated.
+#[derive(Clone, Copy, Debug, PartialEq, Eq)]
+pub enum Repetition {
+    Always,
+    While,
+    Until,
+}
+
+/// How the symbol repeats the command before it.
+pub fn repetition_begun(kind: Kind) -> Option<Repetition>
+    ensures { result ≡ repetition_of kind }
+{
+    match kind {
+        Kind::Repeat => Some(Repetition::Always),
+        Kind::RepeatWhile => Some(Repetition::While),
+        Kind::RepeatUntil => Some(Repetition::Until),
+        _ => None,
+    }
+}
+
+/// Whether it is a name.
+pub fn is_name(kind: Kind) -> bool
+    ensures { result ≡ is_name kind }
+{
+    match kind {
+        Kind::Name => true,
+        _ => false,
     }
 }

@@ -14,7 +14,7 @@ fn read(alloc: Global, text: &[u8]) -> Result<usize, Refused<SourceFault>> {
 
 #[test]
 fn taken(rt: HostRuntime) -> Result<(), Fail> {
-    let rows: [(&[u8], usize); 12] = [
+    let rows: [(&[u8], usize); 13] = [
         (b"", 0),
         (b"; ;", 0),
         (b"GET \"LIBHDR\"", 2),
@@ -27,6 +27,7 @@ fn taken(rt: HostRuntime) -> Result<(), Fail> {
         (b"LET F() BE $( L: REPEAT $)", 1),
         (b"LET F() BE F(X)(Y)", 1),
         (b"LET F() BE 5()", 1),
+        (b"LET F() BE SWITCHON 1 INTO $( CASE VALOF F(1): $)", 1),
         (b"LET F() BE IF A DO B() REPEAT", 1),
         (b"MANIFEST $( A = 1; B : 2; $) STATIC $( C = 3 $)", 2),
         (

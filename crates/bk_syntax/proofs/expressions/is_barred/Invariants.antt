@@ -1,8 +1,10 @@
-use Rattle.std.proofs.Common.{◌≤◌, length}
+use Rattle.std.proofs.Common.{◌≡◌, ◌≤◌, take, vec_len}
+use Rattle.bk_syntax.specs.Machine.{bars}
+use Rattle.bk_syntax.specs.Frames.{stack}
 use Rattle.bk_syntax.proofs.expressions.is_barred.Given as goal
 
 abbrev pub invariant-loop-i : goal.invariant-loop-i
-invariant-loop-i l = l.i ≤ length l.frames
+invariant-loop-i l = record { in_range : l.i ≤ vec_len l.frames.above; same : bars (stack l.frames.decls.items (take l.i l.frames.above.items)) ≡ bars (stack l.frames.decls.items l.frames.above.items) }
 
 abbrev pub decreases-loop-i : goal.decreases-loop-i
 decreases-loop-i l = l.i

@@ -1,0 +1,17 @@
+use Rattle.std.proofs.Common.{◌≡◌, false, rules, sym, ap, ◌∙◌}
+use Rattle.bk_syntax.specs.Tree.{expression}
+use Rattle.bk_syntax.specs.Rows.{assigns}
+use Rattle.bk_syntax.specs.Machine.{give, finish, in_start}
+use Rattle.bk_syntax.specs.Frames.{stack_of}
+use Rattle.bk_syntax.proofs.Trees.{Apply_is}
+use Rattle.bk_syntax.proofs.Turns.{call_done}
+use Rattle.bk_syntax.proofs.commands.started.Goals as goal
+
+pub returns-in-Apply-clause-answers : goal.returns-in-Apply-clause-answers
+returns-in-Apply-clause-answers c =
+    let st = stack_of c.args.frames.now in
+    let t = c.args.token.now in
+    let other : assigns t.kind ≡ false = search rules in
+    ap (λ x. give (in_start st) x t.line t.text.now t.kind) (ap expression c.in-Apply.is ∙ Apply_is _ _ c.in-Apply.callee c.in-Apply.items)
+    ∙ call_done st _ _ _ _ t.line t.text.now t.kind c.requires other
+    ∙ ap (λ y. finish st y t.line t.text.now t.kind) (sym c.call.ensures)
