@@ -9,13 +9,15 @@ ghost use Rattle.bk_syntax.specs.Machine.{Stack, limit, push, infixed, in_chain,
 ghost use Rattle.bk_syntax.specs.Frames.{begun_on, operand_on, phrase_on, member_on, clause_on, place_on, point_on, stack_of, stack, state, Steps, Answers, Lowers, Falls};
 
 use crate::frame::{
-    Begun, Clause, Flow, Frame, Frames, Member, Now, Operand, Phrase, Place, Point, Size, Sized, Stop,
+    Begun, Clause, Flow, Frame, Frames, Member, Now, Operand, Phrase, Place, Point, Size, Sized,
+    Stop,
 };
 use crate::make::{apply, table};
 use crate::size::{below, both, form_begun, of_node, right_of};
 use crate::spelling::name;
 use crate::symbols::{
-    Opening, goes_on, infix, inner_row, is_arrow, is_both, is_close, is_comma, is_open, opens_with, prefix, relates, row_behind,
+    Opening, goes_on, infix, inner_row, is_arrow, is_both, is_close, is_comma, is_open, opens_with,
+    prefix, relates, row_behind,
 };
 use crate::tree::{Expr, Operator};
 use bk_base::Line;
@@ -184,8 +186,7 @@ fn go_on_infix(
     sized: Sized,
     operator: Operator,
     sign: Line,
-) -> Result<Now, AllocError>
-{
+) -> Result<Now, AllocError> {
     if relates(operator) {
         if let Some(right) = shared(&sized.expr) {
             let copy = Box::new(alloc, right.clone()?)?;
