@@ -1,4 +1,5 @@
 pub mod Parts
+pub mod DraftLemmas
 pub mod Rows
 pub mod SectionProp
 pub mod Depths

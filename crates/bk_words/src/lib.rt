@@ -1,0 +1,8 @@
+//! The words of a text, taken from a device one after another.
+#![tactic(auto)]
+
+mod word_buffer;
+mod words;
+
+pub use word_buffer::{SIZE, WordBuffer};
+pub use words::{Gathered, next_word};

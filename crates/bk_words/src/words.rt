@@ -1,0 +1,150 @@
+//! Taking words from a device.
+ghost use Rattle.std.specs.Prelude.{◌≡◌, ℕ, ◌+◌, ◌<◌, ◌≤◌, false, IsTrue, List, [], ◌∷◌, ◌++◌, length, Option, Some, None, Ok, IfSome, IfNone, IfOk, OnOk, OnErr, IsErr};
+ghost use Rattle.std.specs.Io.KnownBytes.{Consumes, Keeps};
+ghost use Rattle.bk_base.specs.Devices.{byte_list};
+ghost use Rattle.bk_words.specs.TextEnd.{AtEnd};
+ghost use Rattle.bk_words.specs.Words.{is_blank, AreBlank, AreInWord};
+ghost use Rattle.bk_words.specs.Gathering.{Holds, IsBehindWord, IsNextWord};
+
+use crate::word_buffer::{SIZE, WordBuffer};
+use bk_base::limit::INPUT_BYTES;
+use bk_base::{ByteIn, Failed};
+
+/// Whether a byte is a blank.
+fn is_blank_byte(byte: u8) -> bool
+    ensures { result ≡ is_blank byte }
+{
+    byte == b' ' || byte == b'\t' || byte == b'\n' || byte == 12 || byte == b'\r'
+}
+
+/// The next byte. After so many bytes as one call reads the text's end is taken to stand there.
+fn next_byte<I: ByteIn>(input: &mut I, taken: &mut u64) -> Result<Option<u8>, Failed>
+    requires { 0 < taken.old → I.faults input.old ≡ 0 }
+    ensures gives { IfOk result (λ byte. Consumes (I.left input.old) (I.left input.new) (byte_list byte)) }
+    ensures count { IfOk result (λ byte. taken.new ≡ taken.old + length (byte_list byte)) }
+    ensures end { IfOk result (λ byte. byte ≡ None → AtEnd (I.ended input.new) taken.new) }
+    ensures within { taken.new ≤ INPUT_BYTES }
+    ensures clear { OnOk result (I.faults input.new ≡ 0) }
+    ensures failed { OnErr result (I.faults input.new ≡ 1) }
+    ensures failed_again { I.faults input.old ≡ 1 → IsErr result × Keeps (I.left input.old) (I.left input.new) }
+    ensures ended_again { IsTrue (I.ended input.old) → (result ≡ Ok None) × IsTrue (I.ended input.new) }
+{
+    if *taken == INPUT_BYTES {
+        return Ok(None);
+    }
+    let byte = input.next()?;
+    if byte.is_some() {
+        *taken += 1;
+    }
+    Ok(byte)
+}
+
+/// Takes blanks, and the byte behind them.
+fn first_byte<I: ByteIn>(input: &mut I, taken: &mut u64) -> Result<Option<u8>, Failed>
+    requires { 0 < taken.old → I.faults input.old ≡ 0 }
+    ensures gives { IfOk result (λ byte. (blanks : List ℕ) × AreBlank blanks
+        × Consumes (I.left input.old) (I.left input.new) (blanks ++ byte_list byte)
+        × (taken.new ≡ taken.old + length (blanks ++ byte_list byte))) }
+    ensures word { IfOk result (λ byte. IfSome byte (λ b. is_blank b ≡ false)) }
+    ensures end { IfOk result (λ byte. byte ≡ None → AtEnd (I.ended input.new) taken.new) }
+    ensures within { OnOk result (taken.new ≤ INPUT_BYTES) }
+    ensures clear { OnOk result (I.faults input.new ≡ 0) }
+    ensures failed { OnErr result (I.faults input.new ≡ 1) }
+    ensures failed_again { I.faults input.old ≡ 1 → IsErr result × Keeps (I.left input.old) (I.left input.new) }
+    ensures ended_again { IsTrue (I.ended input.old) → (result ≡ Ok None) × IsTrue (I.ended input.new) }
+{
+    loop {
+        let byte = next_byte(input, taken)?;
+        match byte {
+            Some(b) if is_blank_byte(b) => {}
+            _ => return Ok(byte),
+        }
+    }
+}
+
+/// A word, of which the first bytes are held.
+#[derive(Drop)]
+pub struct Gathered {
+    word: WordBuffer,
+    long: bool,
+    last: bool,
+}
+
+impl Gathered {
+    /// Its bytes, unless there are more than `SIZE`.
+    pub fn bytes(&self) -> Option<&[u8]>
+        ensures short { IfSome result (λ bytes. (word : List ℕ) → Holds self.now word → bytes.now ≡ word) }
+        ensures long { IfNone result ((word : List ℕ) → Holds self.now word → SIZE < length word) }
+    {
+        if self.long {
+            None
+        } else {
+            Some(self.word.as_bytes())
+        }
+    }
+
+    /// Whether the text ended right behind it.
+    pub fn is_last(&self) -> bool
+        ensures { result ≡ self.now.last }
+    {
+        self.last
+    }
+}
+
+/// Takes a word whose first byte was taken, and the blank behind it if there is one.
+fn rest_of_word<I: ByteIn>(first: u8, input: &mut I, taken: &mut u64) -> Result<Gathered, Failed>
+    requires { I.faults input.old ≡ 0 }
+    ensures gives { IfOk result (λ held. (rest behind : List ℕ) × AreInWord rest × Holds held (first ∷ rest)
+        × IsBehindWord behind held.last (AtEnd (I.ended input.new) taken.new)
+        × Consumes (I.left input.old) (I.left input.new) (rest ++ behind)
+        × (taken.new ≡ taken.old + length (rest ++ behind))) }
+    ensures within { OnOk result (taken.new ≤ INPUT_BYTES) }
+    ensures clear { OnOk result (I.faults input.new ≡ 0) }
+    ensures failed { OnErr result (I.faults input.new ≡ 1) }
+{
+    let mut word = WordBuffer::new();
+    word.push(first);
+    let mut long = false;
+    loop {
+        match next_byte(input, taken)? {
+            None => return Ok(Gathered {
+                word,
+                long,
+                last: true,
+            }),
+            Some(byte) => {
+                if is_blank_byte(byte) {
+                    return Ok(Gathered {
+                        word,
+                        long,
+                        last: false,
+                    });
+                }
+                if word.len() < SIZE {
+                    word.push(byte);
+                } else {
+                    long = true;
+                }
+            }
+        }
+    }
+}
+
+/// The word that a device gives next, or None where only blanks are left. It takes the blanks before the word, the word,
+/// and the blank behind it if there is one. `taken` counts the bytes that a call above took so far.
+pub fn next_word<I: ByteIn>(input: &mut I, taken: &mut u64) -> Result<Option<Gathered>, Failed>
+    requires { 0 < taken.old → I.faults input.old ≡ 0 }
+    ensures gives { IfOk result (λ found. (given : List ℕ) × Consumes (I.left input.old) (I.left input.new) given
+        × (taken.new ≡ taken.old + length given) × IsNextWord found given (AtEnd (I.ended input.new) taken.new)) }
+    ensures within { OnOk result (taken.new ≤ INPUT_BYTES) }
+    ensures clear { OnOk result (I.faults input.new ≡ 0) }
+    ensures failed { OnErr result (I.faults input.new ≡ 1) }
+    ensures failed_again { I.faults input.old ≡ 1 → IsErr result × Keeps (I.left input.old) (I.left input.new) }
+    ensures ended_again { IsTrue (I.ended input.old) → (result ≡ Ok None) × IsTrue (I.ended input.new) }
+{
+    let Some(first) = first_byte(input, taken)? else {
+        return Ok(None);
+    };
+    let held = rest_of_word(first, input, taken)?;
+    Ok(Some(held))
+}
