@@ -21,3 +21,4 @@ pub mod StepLaws
 pub mod SectionLaws
 pub mod KnownUses
 pub mod Drafts
+pub mod Keywords

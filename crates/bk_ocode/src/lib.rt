@@ -7,6 +7,7 @@ mod case_list;
 mod depth;
 mod draft;
 mod global_list;
+mod keyword;
 mod label_uses;
 mod laws;
 mod places;

@@ -3,3 +3,4 @@ pub mod Words
 pub mod Gathering
 pub mod Taking
 pub mod WordLaws
+pub mod Numerals

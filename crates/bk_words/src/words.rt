@@ -1,11 +1,14 @@
 //! Taking words from a device.
-ghost use Rattle.std.specs.Prelude.{◌≡◌, ℕ, ◌+◌, ◌<◌, ◌≤◌, false, IsTrue, List, [], ◌∷◌, ◌++◌, length, Option, Some, None, Ok, IfSome, IfNone, IfOk, OnOk, OnErr, IsErr};
+ghost use Rattle.std.specs.Prelude.{◌≡◌, ◌≢◌, ℕ, ℤ, pos, FitsSigned, ◌+◌, ◌^◌, ◌<◌, ◌≤◌, false, IsTrue, List, [], ◌∷◌, ◌++◌, length, Option, Some, None, Ok, IfSome, IfNone, IfOk, OnOk, OnErr, IsErr};
 ghost use Rattle.std.specs.Io.KnownBytes.{Consumes, Keeps};
+ghost use Rattle.std.specs.Int.{w32};
+ghost use Rattle.bk_base.specs.Decimal.{spelling};
 ghost use Rattle.bk_base.specs.Devices.{byte_list};
 ghost use Rattle.bk_words.specs.TextEnd.{AtEnd};
 ghost use Rattle.bk_words.specs.Words.{is_blank, AreBlank, AreInWord};
 ghost use Rattle.bk_words.specs.Gathering.{Holds, IsBehindWord, IsNextWord};
 
+use crate::numbers::{number, within};
 use crate::word_buffer::{SIZE, WordBuffer};
 use bk_base::limit::INPUT_BYTES;
 use bk_base::{ByteIn, Failed};
@@ -80,6 +83,36 @@ impl Gathered {
             None
         } else {
             Some(self.word.as_bytes())
+        }
+    }
+
+    /// The number of 32 bits that it spells.
+    pub fn number(&self) -> Option<i32>
+        ensures found { IfSome result (λ z. FitsSigned w32 z × ((word : List ℕ) → Holds self.now word → spelling z ≡ word)) }
+        ensures none { IfNone result ((word : List ℕ) → Holds self.now word → (z : ℤ) → FitsSigned w32 z → spelling z ≢ word) }
+    {
+        number(self.bytes()?)
+    }
+
+    /// The number in these bounds that it spells.
+    pub fn within(&self, least: u32, most: u32) -> Option<u32>
+        requires { most < 2 ^ 31 }
+        ensures found { IfSome result (λ n. (least ≤ n) × (n ≤ most) × ((word : List ℕ) → Holds self.now word → spelling (pos n) ≡ word)) }
+        ensures none { IfNone result ((word : List ℕ) → Holds self.now word → (n : ℕ) → least ≤ n → n ≤ most → spelling (pos n) ≢ word) }
+    {
+        within(self.bytes()?, least, most)
+    }
+
+    /// The number in these bounds that it spells behind a mark.
+    pub fn marked(&self, mark: u8, least: u32, most: u32) -> Option<u32>
+        requires { most < 2 ^ 31 }
+        ensures found { IfSome result (λ n. (least ≤ n) × (n ≤ most) × ((word : List ℕ) → Holds self.now word → mark ∷ spelling (pos n) ≡ word)) }
+        ensures none { IfNone result ((word : List ℕ) → Holds self.now word → (n : ℕ) → least ≤ n → n ≤ most → mark ∷ spelling (pos n) ≢ word) }
+    {
+        let bytes = self.bytes()?;
+        match bytes {
+            [first, rest @ ..] if *first == mark => within(rest, least, most),
+            _ => None,
         }
     }
 
