@@ -1,6 +1,6 @@
 -- What the first word of a statement says of it.
 use Rattle.std.specs.Prelude.{◌≡◌, ℕ, nat_eq, List, [], ◌∷◌, codes, Bool, true, false, Option, Some, None, if◌then◌else◌}
-use Rattle.std.specs.List.{list_eq}
+use lib.Pointwise.{pointwise}
 use Rattle.bk_ocode.specs.StmtText.{monadic_keyword, dyadic_keyword, jump_keyword}
 use Rattle.bk_ocode.specs.declared.standing.Role.{Role}
 use Rattle.bk_ocode.specs.declared.standing.Role.TheVariants.{Outer, First, Body, Taker, Last, Datum}
@@ -120,4 +120,4 @@ keyword_role _ = Body
 -- the first keyword of a list with this word
 abbrev pub find_keyword : List Keyword → List ℕ → Option Keyword
 find_keyword [] word = None
-find_keyword (k ∷ rest) word = if list_eq nat_eq (keyword_text k) word then Some k else find_keyword rest word
+find_keyword (k ∷ rest) word = if pointwise nat_eq (keyword_text k) word then Some k else find_keyword rest word

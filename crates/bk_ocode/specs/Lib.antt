@@ -22,3 +22,4 @@ pub mod SectionLaws
 pub mod KnownUses
 pub mod Drafts
 pub mod Keywords
+pub mod BegunStmts

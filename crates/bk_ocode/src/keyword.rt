@@ -243,7 +243,8 @@ pub(crate) fn place_of(keyword: Keyword) -> Role
 
 /// The keyword among these whose word the bytes are.
 fn find_in(keywords: &[Keyword], bytes: &[u8]) -> Option<Keyword>
-    ensures { result ≡ find_keyword keywords.now bytes.now }
+    ensures first { result ≡ find_keyword keywords.now bytes.now }
+    ensures found { IfSome result (λ k. keyword_text k ≡ bytes.now) }
 {
     for keyword in keywords {
         if text_of(*keyword).as_bytes() == bytes {

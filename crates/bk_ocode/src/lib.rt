@@ -2,6 +2,7 @@
 #![tactic(auto)]
 
 mod arguments;
+mod begun;
 mod byte_string;
 mod case_list;
 mod depth;
