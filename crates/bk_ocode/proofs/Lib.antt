@@ -2,6 +2,7 @@ pub mod Parts
 pub mod DraftLemmas
 pub mod KeywordLemmas
 pub mod CaseLemmas
+pub mod ReadingLemmas
 pub mod Rows
 pub mod SectionProp
 pub mod Depths

@@ -1,5 +1,5 @@
 -- A statement of which the first words were read.
-use Rattle.std.specs.Prelude.{◌≡◌, ◌≢◌, ℕ, ℤ, FitsSigned, ◌<◌, ◌≤◌, ◌^◌, ◌||◌, Bool, true, false, List, [], ◌∷◌, ◌++◌, Some, length, slice_get, ⊤, codes}
+use Rattle.std.specs.Prelude.{◌≡◌, ◌≢◌, ℕ, ℤ, FitsSigned, ◌+◌, ◌<◌, ◌≤◌, ◌^◌, ◌||◌, Bool, true, false, List, [], ◌∷◌, ◌++◌, Option, Some, None, length, slice_get, ⊤, codes}
 use Rattle.std.specs.Int.{w32}
 use Rattle.std.specs.Ordering.{int_eq}
 use Rattle.indexmap.specs.IndexSet.{contains}
@@ -17,6 +17,12 @@ use Rattle.bk_ocode.specs.declared.begun.Owner.{Owner}
 use Rattle.bk_ocode.specs.declared.begun.Owner.TheVariants.{Text, Entry}
 use Rattle.bk_ocode.specs.declared.begun.CaseDraft.{CaseDraft}
 use Rattle.bk_ocode.specs.declared.begun.EntryDraft.{EntryDraft}
+use Rattle.bk_base.specs.declared.ocode_fault.OcodeFault.{OcodeFault}
+use Rattle.bk_base.specs.declared.ocode_fault.OcodeKind.TheVariants.{BadWord, BadNumber}
+use Rattle.bk_base.specs.declared.refused.Refused.{Refused}
+use Rattle.bk_base.specs.declared.refused.Refused.TheVariants.{Fault, Memory}
+use Rattle.bk_ocode.specs.declared.begun.Unfit.{Unfit}
+use Rattle.bk_ocode.specs.declared.begun.Unfit.TheVariants as unfits
 use Rattle.bk_ocode.specs.declared.begun.Begun.{Begun}
 use Rattle.bk_ocode.specs.declared.begun.Begun.TheVariants.{Short, EntryLabel, Length, Bytes, CaseCount, Default, CaseValue, CaseLabel, GlobalCount, GlobalNumber, GlobalLabel}
 use Rattle.bk_ocode.specs.declared.begun.Step.{Step}
@@ -132,3 +138,18 @@ IsStep (Done stmt) words = IsStmt stmt × (stmt_words stmt ≡ words)
 -- no statement begins with these words
 abbrev pub BeginNone : List (List ℕ) → Type 0
 BeginNone words = (s : Stmt) (rest : List (List ℕ)) → IsStmt s → stmt_words s ≢ words ++ rest
+
+-- of a statement that is read, or of which nothing was
+abbrev pub part_words : Option Begun → List (List ℕ)
+part_words None = []
+part_words (Some begun) = begun_words begun
+
+abbrev pub IsBegunPart : Option Begun → Type 0
+IsBegunPart None = ⊤
+IsBegunPart (Some begun) = IsBegunStmt begun
+
+-- what is answered where a word does not fit behind so many statements
+abbrev pub refusal : ℕ → Unfit → Refused OcodeFault
+refusal count unfits.BadWord = Fault (record { statement = count + 1; kind = BadWord })
+refusal count unfits.BadNumber = Fault (record { statement = count + 1; kind = BadNumber })
+refusal count unfits.Memory = Memory

@@ -23,3 +23,4 @@ pub mod KnownUses
 pub mod Drafts
 pub mod Keywords
 pub mod BegunStmts
+pub mod SectionAnswer

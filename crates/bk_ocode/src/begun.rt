@@ -26,6 +26,8 @@ const LARGEST: u32 = 2_147_483_647;
 /// Why a statement is not read on.
 #[derive(Clone, Copy, Debug, PartialEq, Eq)]
 pub(crate) enum Unfit {
+    /// No statement that may stand there begins with this word.
+    BadWord,
     /// No statement goes on with this word.
     BadNumber,
     /// Memory was refused.

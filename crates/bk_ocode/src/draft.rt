@@ -1,5 +1,5 @@
 //! A section that is being read.
-ghost use Rattle.std.specs.Prelude.{◌≡◌, ℕ, ◌+◌, ◌<◌, ◌≤◌, ◌^◌, [], ◌∷◌, ◌++◌, List, length, drop, Option, None, OnOk, not, ◌||◌, ◌&&◌, is_some, map};
+ghost use Rattle.std.specs.Prelude.{◌≡◌, ◌≢◌, nat_lt, false, IsTrue, ℕ, ◌+◌, ◌<◌, ◌≤◌, ◌^◌, [], ◌∷◌, ◌++◌, List, length, drop, Option, None, OnOk, not, ◌||◌, ◌&&◌, is_some, map};
 ghost use Rattle.std.specs.List.{list_all, list_any};
 ghost use Rattle.bk_base.specs.declared.limit.TheConstants.{FRAME_WORDS, OCODE_STATEMENTS, OCODE_WORDS};
 ghost use Rattle.bk_ocode.specs.StmtText.{stmt_words};
@@ -10,11 +10,14 @@ ghost use Rattle.bk_ocode.specs.KnownUses.{uses_of};
 ghost use Rattle.bk_ocode.specs.Faults.{misplaced, is_lab_from, is_data, is_entry, is_set, jumps_set, data_set, label_not_set, label_set_twice, is_other_lab, are_other_jumps, result_named, follows_badly, left_behind, is_badly_followed, not_followed, result_disagrees, own_disagrees, depths_disagree, slot_above, too_long, stmt_fault};
 ghost use Rattle.bk_ocode.specs.Labels.{static_label};
 ghost use Rattle.bk_ocode.specs.Places.{may_stand};
+ghost use Rattle.bk_ocode.specs.Section.{IsSection};
+ghost use Rattle.bk_ocode.specs.SectionStmts.{stmts_of};
 ghost use Rattle.bk_ocode.specs.Drafts.{IsDraft, context_in};
 
 use crate::depth::depth_behind;
 use crate::label_uses::LabelUses;
 use crate::places::{behind, depth_needed, fits, role_of, set_label};
+use crate::section::Ocode;
 use crate::standing::{Behind, JumpDepths, LabelUse, Position, Role, Setting};
 use crate::stmt::{Case, GlobalEntry, Stmt, Variable};
 use bk_base::OcodeKind;
@@ -427,6 +430,39 @@ impl Draft {
         ensures { result ≡ length self.now.stmts.items }
     {
         self.stmts.len()
+    }
+
+    /// Whether so many words more pass the limit of words.
+    pub(crate) fn is_filled_by(&self, words: u32) -> bool
+        requires few { words ≤ OCODE_WORDS + 1 }
+        requires draft { IsDraft self.now }
+        ensures { result ≡ nat_lt OCODE_WORDS (self.now.words + words) }
+    {
+        self.words + words > OCODE_WORDS
+    }
+
+    /// Whether GLOBAL ended the section.
+    pub(crate) fn is_whole(&self) -> bool
+        ensures whole { IsTrue result → self.now.position ≡ Position.Ended }
+        ensures goes_on { result ≡ false → self.now.position ≢ Position.Ended }
+    {
+        self.position == Position::Ended
+    }
+
+    /// The section of these statements, if they are one.
+    pub(crate) fn into_section(self) -> Ocode
+        requires { IsSection self.stmts.items }
+        ensures { stmts_of result ≡ self.stmts.items }
+    {
+        let Draft {
+            stmts,
+            words: _,
+            position: _,
+            depth: _,
+            start: _,
+            uses: _,
+        } = self;
+        Ocode::new(stmts)
     }
 
     /// Adds a statement of so many words, which has no fault behind these.

@@ -13,6 +13,7 @@ mod label_uses;
 mod laws;
 mod places;
 mod printing;
+mod reading;
 mod section;
 mod standing;
 mod stmt;
@@ -25,5 +26,6 @@ pub use laws::{
     step_keeps_below,
 };
 pub use printing::print;
+pub use reading::read_section;
 pub use section::Ocode;
 pub use stmt::{Case, Dyadic, GlobalEntry, Monadic, Stmt, Variable};

@@ -31,6 +31,7 @@ fn next_byte<I: ByteIn>(input: &mut I, taken: &mut u64) -> Result<Option<u8>, Fa
     ensures failed { OnErr result (I.faults input.new ≡ 1) }
     ensures failed_again { I.faults input.old ≡ 1 → IsErr result × Keeps (I.left input.old) (I.left input.new) }
     ensures ended_again { IsTrue (I.ended input.old) → (result ≡ Ok None) × IsTrue (I.ended input.new) }
+    ensures ended_there { IsTrue (I.ended input.old) → taken.new ≡ taken.old }
 {
     if *taken == INPUT_BYTES {
         return Ok(None);
@@ -55,6 +56,7 @@ fn first_byte<I: ByteIn>(input: &mut I, taken: &mut u64) -> Result<Option<u8>, F
     ensures failed { OnErr result (I.faults input.new ≡ 1) }
     ensures failed_again { I.faults input.old ≡ 1 → IsErr result × Keeps (I.left input.old) (I.left input.new) }
     ensures ended_again { IsTrue (I.ended input.old) → (result ≡ Ok None) × IsTrue (I.ended input.new) }
+    ensures ended_there { IsTrue (I.ended input.old) → taken.new ≡ taken.old }
 {
     loop {
         let byte = next_byte(input, taken)?;
@@ -174,6 +176,7 @@ pub fn next_word<I: ByteIn>(input: &mut I, taken: &mut u64) -> Result<Option<Gat
     ensures failed { OnErr result (I.faults input.new ≡ 1) }
     ensures failed_again { I.faults input.old ≡ 1 → IsErr result × Keeps (I.left input.old) (I.left input.new) }
     ensures ended_again { IsTrue (I.ended input.old) → (result ≡ Ok None) × IsTrue (I.ended input.new) }
+    ensures ended_there { IsTrue (I.ended input.old) → taken.new ≡ taken.old }
 {
     let Some(first) = first_byte(input, taken)? else {
         return Ok(None);
