@@ -1,9 +1,10 @@
 -- The words that begin statements are known again.
-use Rattle.std.proofs.Common.{◌≡◌, ◌≢◌, ◌⊎◌, inl, inr, ℕ, nat_eq, List, [], ◌∷◌, Bool, true, false, if◌then◌else◌, Option, Some, None, refl, sym, ap, ◌∙◌}
-use lib.Pointwise.{pointwise}
-use Rattle.std.specs.Cmp.Lexicographic.{same_text}
+use Rattle.std.proofs.Common.{◌≡◌, ◌≢◌, ℕ, List, [], ◌∷◌, Bool, true, false, not, ◌≤◌, ◌<◌, length, arith, Option, Some, None, refl, sym, ap, ◌∙◌}
 use Rattle.bk_ocode.specs.StmtText.{keyword}
-use Rattle.bk_ocode.specs.Places.{role}
+use Rattle.bk_ocode.specs.Places.{role, may_stand}
+use Rattle.bk_ocode.specs.Context.{Context}
+use Rattle.bk_ocode.specs.Faults.{misplaced}
+use Rattle.bk_ocode.specs.declared.standing.Role.{Role}
 use Rattle.bk_ocode.specs.Keywords.{keyword_text, find_keyword, keyword_of_stmt, keyword_role}
 use Rattle.bk_ocode.specs.declared.stmt.Variable.TheVariants as variable
 use Rattle.bk_ocode.specs.declared.stmt.Monadic.TheVariants as monadic
@@ -219,3 +220,77 @@ stands_so (stmt.DataLabel label) = refl
 stands_so (stmt.DataNumber value) = refl
 stands_so (stmt.DataAddress label) = refl
 stands_so (stmt.Globals entries) = refl
+
+-- none is long
+short : (k : Keyword) → length (keyword_text k) ≤ 8
+short Number = omega arith
+short True = omega arith
+short False = omega arith
+short Query = omega arith
+short Text = omega arith
+short LoadByte = omega arith
+short AssignAt = omega arith
+short AssignByte = omega arith
+short Jump = omega arith
+short Label = omega arith
+short GiveResult = omega arith
+short TakeResult = omega arith
+short Stack = omega arith
+short Store = omega arith
+short Entry = omega arith
+short Save = omega arith
+short CallFunction = omega arith
+short CallRoutine = omega arith
+short ReturnItem = omega arith
+short Return = omega arith
+short EndProcedure = omega arith
+short Switch = omega arith
+short Finish = omega arith
+short DataLabel = omega arith
+short DataNumber = omega arith
+short DataAddress = omega arith
+short Globals = omega arith
+short (Load kinds.Local) = omega arith
+short (Load kinds.Global) = omega arith
+short (Load kinds.Static) = omega arith
+short (Address kinds.Local) = omega arith
+short (Address kinds.Global) = omega arith
+short (Address kinds.Static) = omega arith
+short (Assign kinds.Local) = omega arith
+short (Assign kinds.Global) = omega arith
+short (Assign kinds.Static) = omega arith
+short (Monadic monadic.Contents) = omega arith
+short (Monadic monadic.Negate) = omega arith
+short (Monadic monadic.Not) = omega arith
+short (Dyadic dyadic.Multiply) = omega arith
+short (Dyadic dyadic.Divide) = omega arith
+short (Dyadic dyadic.Remainder) = omega arith
+short (Dyadic dyadic.Add) = omega arith
+short (Dyadic dyadic.Subtract) = omega arith
+short (Dyadic dyadic.Equal) = omega arith
+short (Dyadic dyadic.Unequal) = omega arith
+short (Dyadic dyadic.Less) = omega arith
+short (Dyadic dyadic.Greater) = omega arith
+short (Dyadic dyadic.AtMost) = omega arith
+short (Dyadic dyadic.AtLeast) = omega arith
+short (Dyadic dyadic.ShiftLeft) = omega arith
+short (Dyadic dyadic.ShiftRight) = omega arith
+short (Dyadic dyadic.And) = omega arith
+short (Dyadic dyadic.Or) = omega arith
+short (Dyadic dyadic.Eqv) = omega arith
+short (Dyadic dyadic.Neqv) = omega arith
+short (JumpIf true) = omega arith
+short (JumpIf false) = omega arith
+
+pub not_long : (s : Stmt) (word : List ℕ) → 16 < length word → keyword s ≢ word
+not_long s word long is = absurd (omega (arith, short (keyword_of_stmt s), ap (λ (w : List ℕ). length w) (sym (begins_so s)), ap (λ (w : List ℕ). length w) is, long))
+
+-- a word that is none begins no statement
+pub begins_none : (word : List ℕ) → ((k : Keyword) → keyword_text k ≢ word) → (s : Stmt) → keyword s ≢ word
+begins_none word none s is = none (keyword_of_stmt s) (sym (begins_so s) ∙ is)
+
+-- a statement that begins with the word stands where its keyword says
+pub placed_so : (c : Context) (k : Keyword) (word : List ℕ) (s : Stmt) (b : Bool) → keyword_text k ≡ word → keyword s ≡ word → may_stand c.position (keyword_role k) ≡ b → misplaced c s ≡ not b
+placed_so c k word s b text is stands =
+    let same : keyword_of_stmt s ≡ k = same_keyword (keyword_of_stmt s) k (sym (begins_so s) ∙ is ∙ sym text) in
+    ap (λ (r : Role). not (may_stand c.position r)) (stands_so s ∙ ap keyword_role same) ∙ ap not stands

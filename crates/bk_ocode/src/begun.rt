@@ -8,7 +8,7 @@ ghost use Rattle.bk_ocode.specs.FirstFault.{IsStmt};
 ghost use Rattle.bk_ocode.specs.Keywords.{keyword_text, kind_of};
 ghost use Rattle.bk_ocode.specs.BegunStmts.{IsStep, IsBegunStmt, IsOwner, AreBegunCases, AreBegunEntries, owner_words, switch_words, entries_words, begun_words, is_short, takes_label, AreCasesUpTo, AreEntriesUpTo};
 ghost use Rattle.bk_ocode.specs.declared.begun.Begun.TheVariants.{EntryLabel, Bytes, CaseCount, Default, CaseLabel, GlobalCount, GlobalLabel};
-ghost use Rattle.bk_ocode.specs.declared.begun.Unfit.TheVariants.{BadNumber};
+ghost use Rattle.bk_ocode.specs.declared.begun.Unfit.TheVariants.{BadWord, BadNumber};
 
 use crate::byte_string::ByteString;
 use crate::case_list::CaseList;
@@ -270,6 +270,7 @@ pub(crate) fn begin(keyword: Keyword) -> Step
 fn with_byte(owner: Owner, bytes: Vec<u8>, count: u32, word: &Gathered) -> Result<Step, Unfit>
     requires { IsBegunStmt (Bytes owner bytes count) }
     ensures step { IfOk result (λ step. (w : List ℕ) → Holds word.now w → IsStep step (begun_words (Bytes owner bytes count) ++ w ∷ [])) }
+    ensures known { IfErr result (λ unfit. unfit ≢ BadWord) }
 {
     let Some(byte) = word.within(0, 255) else {
         return Err(Unfit::BadNumber);
@@ -285,6 +286,7 @@ fn with_byte(owner: Owner, bytes: Vec<u8>, count: u32, word: &Gathered) -> Resul
 fn with_value(draft: CaseDraft, word: &Gathered) -> Result<Step, Unfit>
     requires { AreBegunCases draft }
     ensures step { IfOk result (λ step. (w : List ℕ) → Holds word.now w → IsStep step (switch_words draft ++ w ∷ [])) }
+    ensures known { IfErr result (λ unfit. unfit ≢ BadWord) }
 {
     let Some(value) = word.number() else {
         return Err(Unfit::BadNumber);
@@ -299,6 +301,7 @@ fn with_value(draft: CaseDraft, word: &Gathered) -> Result<Step, Unfit>
 fn with_case_label(draft: CaseDraft, value: i32, word: &Gathered) -> Result<Step, Unfit>
     requires { IsBegunStmt (CaseLabel draft value) }
     ensures step { IfOk result (λ step. (w : List ℕ) → Holds word.now w → IsStep step (begun_words (CaseLabel draft value) ++ w ∷ [])) }
+    ensures known { IfErr result (λ unfit. unfit ≢ BadWord) }
 {
     let Some(label) = label_in(word) else {
         return Err(Unfit::BadNumber);
@@ -317,6 +320,7 @@ fn with_case_label(draft: CaseDraft, value: i32, word: &Gathered) -> Result<Step
 fn with_global_label(draft: EntryDraft, number: u32, word: &Gathered) -> Result<Step, Unfit>
     requires { IsBegunStmt (GlobalLabel draft number) }
     ensures step { IfOk result (λ step. (w : List ℕ) → Holds word.now w → IsStep step (begun_words (GlobalLabel draft number) ++ w ∷ [])) }
+    ensures known { IfErr result (λ unfit. unfit ≢ BadWord) }
 {
     let Some(label) = label_in(word) else {
         return Err(Unfit::BadNumber);
@@ -412,6 +416,7 @@ fn or_bad(step: Option<Step>) -> Result<Step, Unfit>
 pub(crate) fn take(begun: Begun, word: &Gathered, alloc: Global) -> Result<Step, Unfit>
     requires { IsBegunStmt begun }
     ensures step { IfOk result (λ step. (w : List ℕ) → Holds word.now w → IsStep step (begun_words begun ++ w ∷ [])) }
+    ensures known { IfErr result (λ unfit. unfit ≢ BadWord) }
 {
     match begun {
         Begun::Short(keyword) => or_bad(with_argument(keyword, word)),

@@ -1,8 +1,14 @@
 //! Reading sections.
-ghost use Rattle.std.specs.Prelude.{◌≡◌, ℕ, ◌+◌, ◌<◌, ◌≤◌, List, [], ◌∷◌, ◌++◌, false, Some, None, Ok, Err, IfOk, IsTrue, length, if◌then◌else◌};
+ghost use Rattle.std.specs.Prelude.{◌≡◌, true, ℕ, ◌+◌, ◌<◌, ◌≤◌, List, [], ◌∷◌, ◌++◌, false, Some, None, Ok, Err, IfOk, IfErr, IsTrue, length, if◌then◌else◌};
 ghost use Rattle.std.specs.Io.KnownBytes.{Keeps};
 ghost use Rattle.bk_base.specs.declared.limit.TheConstants.{OCODE_STATEMENTS};
+ghost use Rattle.bk_base.specs.declared.ocode_fault.OcodeKind.TheVariants.{Truncated};
 ghost use Rattle.bk_words.specs.Gathering.{Holds};
+ghost use Rattle.bk_ocode.specs.StmtText.{keyword};
+ghost use Rattle.bk_ocode.specs.Faults.{misplaced};
+ghost use Rattle.bk_ocode.specs.Drafts.{context_in};
+ghost use Rattle.bk_ocode.specs.declared.stmt.Stmt.{Stmt};
+ghost use Rattle.bk_ocode.specs.declared.begun.Unfit.TheVariants.{BadWord};
 ghost use Rattle.bk_ocode.specs.SectionAnswer.{Answers, is_device};
 ghost use Rattle.bk_ocode.specs.BegunStmts.{IsStep, IsBegunPart, part_words, refusal};
 
@@ -26,16 +32,22 @@ fn fault_behind(count: usize, kind: OcodeKind) -> Refused<OcodeFault>
 }
 
 /// What the first word of a statement behind these begins.
+#[tactic(auto, using(crate::proofs::KeywordLemmas::not_long, crate::proofs::KeywordLemmas::begins_none, crate::proofs::KeywordLemmas::placed_so))]
 fn first_step(draft: &Draft, word: &Gathered) -> Result<Step, Unfit>
     ensures step { IfOk result (λ step. (w : List ℕ) → Holds word.now w → IsStep step (w ∷ [])) }
+    ensures placed { IfOk result (λ step. (w : List ℕ) → Holds word.now w → (s : Stmt) → keyword s ≡ w → misplaced (context_in draft.now) s ≡ false) }
+    ensures bad { IfErr result (λ unfit. (unfit ≡ BadWord) × ((w : List ℕ) → Holds word.now w → (s : Stmt) → keyword s ≡ w → misplaced (context_in draft.now) s ≡ true)) }
 {
     let Some(bytes) = word.bytes() else {
         return Err(Unfit::BadWord);
     };
-    match keyword_of(bytes) {
-        Some(keyword) if draft.is_place_of(place_of(keyword)) => Ok(begin(keyword)),
-        _ => Err(Unfit::BadWord),
+    let Some(keyword) = keyword_of(bytes) else {
+        return Err(Unfit::BadWord);
+    };
+    if !draft.is_place_of(place_of(keyword)) {
+        return Err(Unfit::BadWord);
     }
+    Ok(begin(keyword))
 }
 
 /// What a word more makes of a statement behind these.
@@ -47,6 +59,8 @@ fn step_of(
 ) -> Result<Step, Unfit>
     requires { IsBegunPart begun }
     ensures step { IfOk result (λ step. (w : List ℕ) → Holds word.now w → IsStep step (part_words begun ++ w ∷ [])) }
+    ensures placed { IfOk result (λ step. begun ≡ None → (w : List ℕ) → Holds word.now w → (s : Stmt) → keyword s ≡ w → misplaced (context_in draft.now) s ≡ false) }
+    ensures bad { IfErr result (λ unfit. unfit ≡ BadWord → (begun ≡ None) × ((w : List ℕ) → Holds word.now w → (s : Stmt) → keyword s ≡ w → misplaced (context_in draft.now) s ≡ true)) }
 {
     match begun {
         Some(begun) => take(begun, word, alloc),
@@ -65,6 +79,19 @@ fn refused(count: usize, unfit: Unfit) -> Refused<OcodeFault>
         Unfit::BadNumber => fault_behind(count, OcodeKind::BadNumber),
         Unfit::Memory => Refused::Memory,
     }
+}
+
+/// What is answered where the text ends behind so many statements and words of the next.
+fn at_end(count: usize, words: u32) -> Result<Option<Ocode>, Refused<OcodeFault>>
+    requires { count ≤ OCODE_STATEMENTS }
+    ensures nothing { count + words ≡ 0 → result ≡ Ok None }
+    ensures cut { 0 < count + words → result ≡ Err (Refused.Fault (record { statement = count + 1; kind = Truncated })) }
+    ensures no_device { is_device result ≡ false }
+{
+    if count == 0 && words == 0 {
+        return Ok(None);
+    }
+    Err(fault_behind(count, OcodeKind::Truncated))
 }
 
 /// Reads the next section of a text, or None where only blanks are left.
@@ -92,10 +119,7 @@ pub fn read_section<I: ByteIn>(
             return Err(Refused::Device);
         };
         let Some(word) = found else {
-            if draft.len() == 0 && words == 0 {
-                return Ok(None);
-            }
-            return Err(fault_behind(draft.len(), OcodeKind::Truncated));
+            return at_end(draft.len(), words);
         };
         words += 1;
         match step_of(&draft, begun, &word, alloc) {

@@ -1,7 +1,11 @@
-use Rattle.std.proofs.Common.{◌≡◌, ◌+◌, ◌-◌, ◌<◌, ◌≤◌, ◌++◌, ℕ, IsTrue, length}
+use Rattle.std.proofs.Common.{◌≡◌, ◌+◌, ◌-◌, ◌<◌, ◌≤◌, ◌++◌, ℕ, List, false, IsTrue, length}
 use Rattle.std.specs.Io.KnownBytes.{Keeps}
 use Rattle.bk_base.specs.declared.limit.TheConstants.{INPUT_BYTES, OCODE_STATEMENTS, OCODE_WORDS}
 use Rattle.bk_words.specs.Taking.{Reads}
+use Rattle.bk_ocode.specs.StmtText.{stmt_words}
+use Rattle.bk_ocode.specs.Context.{context_of}
+use Rattle.bk_ocode.specs.Faults.{misplaced}
+use Rattle.bk_ocode.specs.declared.stmt.Stmt.{Stmt}
 use Rattle.bk_ocode.specs.SectionText.{section_words}
 use Rattle.bk_ocode.specs.FirstFault.{IsBegun}
 use Rattle.bk_ocode.specs.Drafts.{IsDraft}
@@ -14,8 +18,9 @@ invariant-loop-alloc g l = record {
   draft : IsDraft l.draft;
   begun : IsBegun l.draft.stmts.items;
   part : IsBegunPart l.begun;
+  placed : (s : Stmt) (rest : List (List ℕ)) → 0 < length (part_words l.begun) → stmt_words s ≡ part_words l.begun ++ rest → misplaced (context_of l.draft.stmts.items) s ≡ false;
   counted : l.words ≡ length (part_words l.begun);
-  low : l.words ≤ OCODE_WORDS + 1;
+  low : l.draft.words + l.words ≤ OCODE_WORDS + 1;
   few : length l.draft.stmts.items ≤ OCODE_STATEMENTS;
   some : 0 < l.words → 0 < l.taken;
   clear : 0 < l.taken → g.I.ByteIn.faults l.input ≡ 0;
