@@ -1,5 +1,7 @@
 -- Each beginning of a statement goes on to a whole one.
-use Rattle.std.proofs.Common.{◌≡◌, ◌≢◌, ◌⊎◌, inl, inr, ℕ, zero, suc, ℤ, pos, FitsSigned, w32, ◌+◌, ◌-◌, ◌<◌, ◌≤◌, ◌^◌, ◌++◌, ◌||◌, Bool, true, false, if◌then◌else◌, List, [], ◌∷◌, Some, None, length, slice_get, codes, arith, refl, sym, ap, ◌∙◌, subst, length-append, append_assoc}
+use Rattle.std.proofs.Common.{◌≡◌, ◌≢◌, ◌⊎◌, inl, inr, ℕ, zero, suc, ℤ, pos, FitsSigned, w32, ◌+◌, ◌-◌, ◌<◌, ◌≤◌, ◌^◌, ◌++◌, ◌||◌, Bool, true, false, if◌then◌else◌, List, [], ◌∷◌, Some, None, length, slice_get, codes, arith, refl, sym, ap, ◌∙◌, subst, length-append, append_assoc, append-nil}
+use Rattle.std.proofs.lemmas.Bool.{cases_lt}
+use Rattle.std.proofs.lemmas.Bool.Decides.{Decides-int_eq}
 use Rattle.std.specs.Ordering.{int_eq}
 use Rattle.bk_base.specs.Decimal.{spelling}
 use Rattle.bk_base.specs.declared.limit.TheConstants.{NAME_BYTES}
@@ -149,3 +151,136 @@ goes_on-global_label draft number are small =
       rest = global_words g.0;
       begins = globals-words draft.entries.items g.0 e draft.count g.2 ∙ sym (append_assoc (entries_words draft) (natural_word number ∷ []) (label_word 1 ∷ global_words g.0));
     }
+
+-- cases without one value
+abbrev without : ℤ → List Case → List Case
+without z [] = []
+without z (c ∷ rest) = if int_eq c.value z then rest else c ∷ without z rest
+
+bool_cases : (b : Bool) → (b ≡ true) ⊎ (b ≡ false)
+bool_cases true = inl refl
+bool_cases false = inr refl
+
+if-true : {X : Type 0} (b : Bool) (x y : X) → b ≡ true → (if b then x else y) ≡ x
+if-true true x y e = refl
+if-true false x y e = absurd (let h : false ≡ true = e in cc)
+
+if-false : {X : Type 0} (b : Bool) (x y : X) → b ≡ false → (if b then x else y) ≡ y
+if-false true x y e = absurd (let h : true ≡ false = e in cc)
+if-false false x y e = refl
+
+or-second : (a b : Bool) → a ≡ false → (a || b) ≡ b
+or-second true b e = absurd (let h : true ≡ false = e in cc)
+or-second false b e = refl
+
+length-without : (z : ℤ) (cases : List Case) → has_value z cases ≡ true → length cases ≡ length (without z cases) + 1
+length-without z [] has = absurd (let h : false ≡ true = has in cc)
+length-without z (c ∷ rest) has = elim (bool_cases (int_eq c.value z)) [
+  | inl same ↦ omega (arith, ap (λ (l : List Case). length l) (if-true (int_eq c.value z) rest (c ∷ without z rest) same))
+  | inr other ↦ omega (arith, ap (λ (l : List Case). length l) (if-false (int_eq c.value z) rest (c ∷ without z rest) other), length-without z rest (sym (or-second (int_eq c.value z) (has_value z rest) other) ∙ has))
+]
+
+apart : (x y z : ℤ) → int_eq x z ≡ true → (z ≡ y → ⊥) → int_eq x y ≡ false
+apart x y z same other = elim (bool_cases (int_eq x y)) [
+  | inl e ↦ absurd (other (sym ((Decides-int_eq x z).0 same) ∙ (Decides-int_eq x y).0 e))
+  | inr e ↦ e
+]
+
+has-without : (y z : ℤ) (cases : List Case) → (z ≡ y → ⊥) → has_value y cases ≡ true → has_value y (without z cases) ≡ true
+has-without y z [] other has = has
+has-without y z (c ∷ rest) other has = elim (bool_cases (int_eq c.value z)) [
+  | inl same ↦ ap (has_value y) (if-true (int_eq c.value z) rest (c ∷ without z rest) same) ∙ sym (or-second (int_eq c.value y) (has_value y rest) (apart c.value y z same other)) ∙ has
+  | inr no_z ↦ ap (has_value y) (if-false (int_eq c.value z) rest (c ∷ without z rest) no_z) ∙ elim (bool_cases (int_eq c.value y)) [
+    | inl is ↦ ap (λ b. b || has_value y (without z rest)) is
+    | inr no_y ↦ or-second (int_eq c.value y) (has_value y (without z rest)) no_y ∙ has-without y z rest other (sym (or-second (int_eq c.value y) (has_value y rest) no_y) ∙ has)
+  ]
+]
+
+positive : (m n : ℕ) → pos m ≡ pos n → m ≡ n
+positive m n is = cc
+
+-- cases with all values below a number are no fewer
+enough : (k : ℕ) (cases : List Case) → ((v : ℕ) → v < k → has_value (pos v) cases ≡ true) → k ≤ length cases
+enough zero cases all = omega arith
+enough (suc k) cases all =
+    let fewer = enough k (without (pos k) cases) (λ v low. has-without (pos v) (pos k) cases (λ e. absurd (omega (arith, low, positive k v e))) (all v (omega (arith, low)))) in
+    omega (arith, fewer, length-without (pos k) cases (all k (omega arith)))
+
+first_free : (k : ℕ) (cases : List Case) → ((v : ℕ) × (v < k) × (has_value (pos v) cases ≡ false)) ⊎ ((v : ℕ) → v < k → has_value (pos v) cases ≡ true)
+first_free zero cases = inr (λ v low. absurd (omega (arith, low)))
+first_free (suc k) cases = elim (first_free k cases) [
+  | inl p ↦ inl (p.0, omega (arith, p.1), p.2)
+  | inr all ↦ elim (bool_cases (has_value (pos k) cases)) [
+    | inr free ↦ inl (k, omega arith, free)
+    | inl has ↦ inr (λ v low. elim (cases_lt v k) [
+      | inl lower ↦ all v lower
+      | inr high ↦ let same : k ≡ v = omega (arith, low, high) in ap (λ (n : ℕ). has_value (pos n) cases) (sym same) ∙ has
+    ])
+  ]
+]
+
+-- a value that no case has
+free : (cases : List Case) → (v : ℕ) × (v ≤ length cases) × (has_value (pos v) cases ≡ false)
+free cases = elim (first_free (length cases + 1) cases) [
+  | inl p ↦ (p.0, omega (arith, p.1), p.2)
+  | inr all ↦ absurd (omega (arith, enough (length cases + 1) cases all))
+]
+
+abbrev AreValues : List Case → Type 0
+AreValues cases = (k : ℕ) (c : Case) → slice_get cases k ≡ Some c → FitsSigned w32 c.value
+
+-- cases, so many more
+fill : (n : ℕ) (cases : List Case) → AreCases cases → AreValues cases → length cases + n < 2 ^ 31 →
+    (more : List Case) × (length (cases ++ more) ≡ length cases + n) × AreCases (cases ++ more) × AreValues (cases ++ more)
+fill zero cases are fits low = ([], omega (arith, length-append cases []), subst AreCases (sym (append-nil cases)) are, subst AreValues (sym (append-nil cases)) fits)
+fill (suc n) cases are fits low =
+    let f = free cases in
+    let c : Case = record { value = pos f.0; label = 1 } in
+    let long : length (cases ++ c ∷ []) ≡ length cases + 1 = length-append cases (c ∷ []) in
+    let g = fill n (cases ++ c ∷ []) (AreCases-push cases (cases ++ c ∷ []) c refl are (omega arith, omega arith) f.2 (omega (arith, long, low)))
+        (typed-push cases (cases ++ c ∷ []) c refl fits (fits-pos f.0 (omega (arith, f.1, low)))) (omega (arith, long, low)) in
+    let same : (cases ++ c ∷ []) ++ g.0 ≡ cases ++ (c ∷ g.0) = append_assoc cases (c ∷ []) g.0 in
+    (c ∷ g.0, omega (arith, ap (λ (l : List Case). length l) same, g.1, long), subst AreCases same g.2, subst AreValues same g.3)
+
+switch_words-of : (default : ℕ) (cases more : List Case) (count : ℕ) → length (cases ++ more) ≡ count →
+    stmt_words (stmt.Switch default (cases ++ more)) ≡ (codes "SWITCHON" ∷ natural_word count ∷ label_word default ∷ case_words cases) ++ case_words more
+switch_words-of default cases more count long =
+    ap (λ (m : ℕ). codes "SWITCHON" ∷ natural_word m ∷ label_word default ∷ case_words (cases ++ more)) long
+    ∙ ap (λ (w : List (List ℕ)). codes "SWITCHON" ∷ natural_word count ∷ label_word default ∷ w) (joined-append (λ (c : Case). spelling c.value ∷ label_word c.label ∷ []) cases more)
+
+-- a switch whose next case has this value
+with_next : (default : ℕ) (cases : List Case) (count : ℕ) (value : ℤ) → IsLabel default → AreCases cases → AreValues cases → count < 2 ^ 31 → length cases < count → FitsSigned w32 value → has_value value cases ≡ false →
+    (more : List Case) × IsStmt (stmt.Switch default (cases ++ record { value = value; label = 1 } ∷ more)) × (length (cases ++ record { value = value; label = 1 } ∷ more) ≡ count)
+with_next default cases count value label are fits low due typed new =
+    let c : Case = record { value = value; label = 1 } in
+    let long : length (cases ++ c ∷ []) ≡ length cases + 1 = length-append cases (c ∷ []) in
+    let g = fill (count - (length cases + 1)) (cases ++ c ∷ []) (AreCases-push cases (cases ++ c ∷ []) c refl are (omega arith, omega arith) new (omega (arith, long, low, due)))
+        (typed-push cases (cases ++ c ∷ []) c refl fits typed) (omega (arith, long, low, due)) in
+    let same : (cases ++ c ∷ []) ++ g.0 ≡ cases ++ (c ∷ g.0) = append_assoc cases (c ∷ []) g.0 in
+    (g.0, ((label, subst AreCases same g.2), subst AreValues same g.3), omega (arith, ap (λ (l : List Case). length l) same, g.1, long, due))
+
+pub goes_on-value : (draft : CaseDraft) → AreBegunCases draft → GoesOn (switch_words draft)
+goes_on-value draft are =
+    let f = free draft.cases.items in
+    let c : Case = record { value = pos f.0; label = 1 } in
+    let g = with_next draft.default draft.cases.items draft.count (pos f.0) are.0.default are.0.cases are.0.typed are.0.counted are.1 (fits-pos f.0 (omega (arith, f.1, are.1, are.0.counted))) f.2 in
+    record {
+      stmt = stmt.Switch draft.default (draft.cases.items ++ c ∷ g.0);
+      is_stmt = g.1;
+      word = spelling (pos f.0);
+      rest = label_word 1 ∷ case_words g.0;
+      begins = switch_words-of draft.default draft.cases.items (c ∷ g.0) draft.count g.2;
+    }
+
+pub goes_on-case_label : (draft : CaseDraft) (value : ℤ) → AreBegunCases draft → FitsSigned w32 value → has_value value draft.cases.items ≡ false → GoesOn (switch_words draft ++ spelling value ∷ [])
+goes_on-case_label draft value are fits new =
+    let c : Case = record { value = value; label = 1 } in
+    let g = with_next draft.default draft.cases.items draft.count value are.0.default are.0.cases are.0.typed are.0.counted are.1 fits new in
+    record {
+      stmt = stmt.Switch draft.default (draft.cases.items ++ c ∷ g.0);
+      is_stmt = g.1;
+      word = label_word 1;
+      rest = case_words g.0;
+      begins = switch_words-of draft.default draft.cases.items (c ∷ g.0) draft.count g.2 ∙ sym (append_assoc (switch_words draft) (spelling value ∷ []) (label_word 1 ∷ case_words g.0));
+    }
+
