@@ -1,5 +1,5 @@
 -- Each beginning of a statement goes on to a whole one.
-use Rattle.std.proofs.Common.{◌≡◌, ◌≢◌, ◌⊎◌, inl, inr, ℕ, zero, suc, ℤ, pos, FitsSigned, w32, ◌+◌, ◌-◌, ◌<◌, ◌≤◌, ◌^◌, ◌++◌, ◌||◌, Bool, true, false, if◌then◌else◌, List, [], ◌∷◌, Some, None, length, slice_get, codes, arith, refl, sym, ap, ◌∙◌, subst, length-append, append_assoc, append-nil}
+use Rattle.std.proofs.Common.{◌≡◌, ◌≢◌, ◌⊎◌, inl, inr, ℕ, zero, suc, ℤ, pos, FitsSigned, w32, ◌+◌, ◌-◌, ◌<◌, ◌≤◌, ◌^◌, ◌++◌, ◌||◌, Bool, true, false, if◌then◌else◌, List, [], ◌∷◌, Option, Some, None, length, slice_get, codes, arith, refl, sym, ap, ◌∙◌, subst, length-append, append_assoc, append-nil}
 use Rattle.std.proofs.lemmas.Bool.{cases_lt}
 use Rattle.std.proofs.lemmas.Bool.Decides.{Decides-int_eq}
 use Rattle.std.specs.Ordering.{int_eq}
@@ -8,12 +8,23 @@ use Rattle.bk_base.specs.declared.limit.TheConstants.{NAME_BYTES}
 use Rattle.bk_words.specs.Numerals.{fits-pos}
 use Rattle.bk_ocode.specs.StmtText.{label_word, natural_word, byte_words, case_words, global_words, stmt_words}
 use Rattle.bk_ocode.specs.StmtRange.{IsLabel, IsGlobal, AreBytes, AreCases, AreEntries}
-use Rattle.bk_ocode.specs.FirstFault.{IsStmt}
-use Rattle.bk_ocode.specs.BegunStmts.{has_value, owner_words, IsOwner, switch_words, entries_words, begun_words, is_short, IsBegunStmt, AreBegunCases, AreBegunEntries}
+use Rattle.bk_ocode.specs.FirstFault.{IsStmt, BeginsStmt}
+use Rattle.bk_ocode.specs.BegunStmts.{has_value, owner_words, IsOwner, switch_words, entries_words, begun_words, is_short, IsBegunStmt, AreBegunCases, AreBegunEntries, part_words, IsBegunPart}
 use Rattle.bk_ocode.specs.declared.stmt.Case.{Case}
 use Rattle.bk_ocode.specs.declared.stmt.GlobalEntry.{GlobalEntry}
 use Rattle.bk_ocode.specs.declared.stmt.Stmt.{Stmt}
 use Rattle.bk_ocode.specs.declared.stmt.Stmt.TheVariants as stmt
+use Rattle.bk_ocode.specs.Keywords.{keyword_text}
+use Rattle.bk_ocode.specs.Context.{context_of}
+use Rattle.bk_ocode.specs.Faults.{misplaced}
+use Rattle.bk_ocode.specs.declared.stmt.Variable.TheVariants as variable
+use Rattle.bk_ocode.specs.declared.stmt.Monadic.TheVariants as monadic
+use Rattle.bk_ocode.specs.declared.stmt.Dyadic.TheVariants as dyadic
+use Rattle.bk_ocode.specs.declared.keyword.Kind.TheVariants as kinds
+use Rattle.bk_ocode.specs.declared.keyword.Keyword.{Keyword}
+use Rattle.bk_ocode.specs.declared.keyword.Keyword.TheVariants as keywords
+use Rattle.bk_ocode.specs.declared.begun.Begun.{Begun}
+use Rattle.bk_ocode.specs.declared.begun.Begun.TheVariants as begun
 use Rattle.bk_ocode.specs.declared.begun.Owner.{Owner}
 use Rattle.bk_ocode.specs.declared.begun.Owner.TheVariants as owners
 use Rattle.bk_ocode.specs.declared.begun.CaseDraft.{CaseDraft}
@@ -283,4 +294,112 @@ goes_on-case_label draft value are fits new =
       rest = case_words g.0;
       begins = switch_words-of draft.default draft.cases.items (c ∷ g.0) draft.count g.2 ∙ sym (append_assoc (switch_words draft) (spelling value ∷ []) (label_word 1 ∷ case_words g.0));
     }
+
+no_cases : AreCases []
+no_cases = record {
+  once = λ j k c d at. absurd (let h : None ≡ Some c = at in cc);
+  labels = λ k c at. absurd (let h : None ≡ Some c = at in cc);
+  counted = omega arith;
+}
+
+no_values : AreValues []
+no_values k c at = absurd (let h : None ≡ Some c = at in cc)
+
+goes_on-short : (k : Keyword) → is_short k ≡ true → GoesOn (keyword_text k ∷ [])
+goes_on-short keywords.Number e = record { stmt = stmt.Number (pos 0); is_stmt = (tt, fits-pos 0 (omega arith)); word = spelling (pos 0); rest = []; begins = refl }
+goes_on-short keywords.True e = absurd (let h : false ≡ true = e in cc)
+goes_on-short keywords.False e = absurd (let h : false ≡ true = e in cc)
+goes_on-short keywords.Query e = absurd (let h : false ≡ true = e in cc)
+goes_on-short keywords.Text e = absurd (let h : false ≡ true = e in cc)
+goes_on-short keywords.LoadByte e = absurd (let h : false ≡ true = e in cc)
+goes_on-short keywords.AssignAt e = absurd (let h : false ≡ true = e in cc)
+goes_on-short keywords.AssignByte e = absurd (let h : false ≡ true = e in cc)
+goes_on-short keywords.Jump e = record { stmt = stmt.Jump 1; is_stmt = ((omega arith, omega arith), tt); word = label_word 1; rest = []; begins = refl }
+goes_on-short keywords.Label e = record { stmt = stmt.Label 1; is_stmt = ((omega arith, omega arith), tt); word = label_word 1; rest = []; begins = refl }
+goes_on-short keywords.GiveResult e = record { stmt = stmt.GiveResult 1; is_stmt = ((omega arith, omega arith), tt); word = label_word 1; rest = []; begins = refl }
+goes_on-short keywords.TakeResult e = record { stmt = stmt.TakeResult 2; is_stmt = ((omega arith, omega arith), tt); word = natural_word 2; rest = []; begins = refl }
+goes_on-short keywords.Stack e = record { stmt = stmt.Stack 2; is_stmt = ((omega arith, omega arith), tt); word = natural_word 2; rest = []; begins = refl }
+goes_on-short keywords.Store e = absurd (let h : false ≡ true = e in cc)
+goes_on-short keywords.Entry e = absurd (let h : false ≡ true = e in cc)
+goes_on-short keywords.Save e = record { stmt = stmt.Save 2; is_stmt = ((omega arith, omega arith), tt); word = natural_word 2; rest = []; begins = refl }
+goes_on-short keywords.CallFunction e = record { stmt = stmt.CallFunction 2; is_stmt = ((omega arith, omega arith), tt); word = natural_word 2; rest = []; begins = refl }
+goes_on-short keywords.CallRoutine e = record { stmt = stmt.CallRoutine 2; is_stmt = ((omega arith, omega arith), tt); word = natural_word 2; rest = []; begins = refl }
+goes_on-short keywords.ReturnItem e = absurd (let h : false ≡ true = e in cc)
+goes_on-short keywords.Return e = absurd (let h : false ≡ true = e in cc)
+goes_on-short keywords.EndProcedure e = absurd (let h : false ≡ true = e in cc)
+goes_on-short keywords.Switch e = absurd (let h : false ≡ true = e in cc)
+goes_on-short keywords.Finish e = absurd (let h : false ≡ true = e in cc)
+goes_on-short keywords.DataLabel e = record { stmt = stmt.DataLabel 1; is_stmt = ((omega arith, omega arith), tt); word = label_word 1; rest = []; begins = refl }
+goes_on-short keywords.DataNumber e = record { stmt = stmt.DataNumber (pos 0); is_stmt = (tt, fits-pos 0 (omega arith)); word = spelling (pos 0); rest = []; begins = refl }
+goes_on-short keywords.DataAddress e = record { stmt = stmt.DataAddress 1; is_stmt = ((omega arith, omega arith), tt); word = label_word 1; rest = []; begins = refl }
+goes_on-short keywords.Globals e = absurd (let h : false ≡ true = e in cc)
+goes_on-short (keywords.Load kinds.Local) e = record { stmt = stmt.Load (variable.Local 2); is_stmt = ((omega arith, omega arith), tt); word = natural_word 2; rest = []; begins = refl }
+goes_on-short (keywords.Load kinds.Global) e = record { stmt = stmt.Load (variable.Global 0); is_stmt = (omega arith, tt); word = natural_word 0; rest = []; begins = refl }
+goes_on-short (keywords.Load kinds.Static) e = record { stmt = stmt.Load (variable.Static 1); is_stmt = ((omega arith, omega arith), tt); word = label_word 1; rest = []; begins = refl }
+goes_on-short (keywords.Address kinds.Local) e = record { stmt = stmt.Address (variable.Local 2); is_stmt = ((omega arith, omega arith), tt); word = natural_word 2; rest = []; begins = refl }
+goes_on-short (keywords.Address kinds.Global) e = record { stmt = stmt.Address (variable.Global 0); is_stmt = (omega arith, tt); word = natural_word 0; rest = []; begins = refl }
+goes_on-short (keywords.Address kinds.Static) e = record { stmt = stmt.Address (variable.Static 1); is_stmt = ((omega arith, omega arith), tt); word = label_word 1; rest = []; begins = refl }
+goes_on-short (keywords.Assign kinds.Local) e = record { stmt = stmt.Assign (variable.Local 2); is_stmt = ((omega arith, omega arith), tt); word = natural_word 2; rest = []; begins = refl }
+goes_on-short (keywords.Assign kinds.Global) e = record { stmt = stmt.Assign (variable.Global 0); is_stmt = (omega arith, tt); word = natural_word 0; rest = []; begins = refl }
+goes_on-short (keywords.Assign kinds.Static) e = record { stmt = stmt.Assign (variable.Static 1); is_stmt = ((omega arith, omega arith), tt); word = label_word 1; rest = []; begins = refl }
+goes_on-short (keywords.Monadic monadic.Contents) e = absurd (let h : false ≡ true = e in cc)
+goes_on-short (keywords.Monadic monadic.Negate) e = absurd (let h : false ≡ true = e in cc)
+goes_on-short (keywords.Monadic monadic.Not) e = absurd (let h : false ≡ true = e in cc)
+goes_on-short (keywords.Dyadic dyadic.Multiply) e = absurd (let h : false ≡ true = e in cc)
+goes_on-short (keywords.Dyadic dyadic.Divide) e = absurd (let h : false ≡ true = e in cc)
+goes_on-short (keywords.Dyadic dyadic.Remainder) e = absurd (let h : false ≡ true = e in cc)
+goes_on-short (keywords.Dyadic dyadic.Add) e = absurd (let h : false ≡ true = e in cc)
+goes_on-short (keywords.Dyadic dyadic.Subtract) e = absurd (let h : false ≡ true = e in cc)
+goes_on-short (keywords.Dyadic dyadic.Equal) e = absurd (let h : false ≡ true = e in cc)
+goes_on-short (keywords.Dyadic dyadic.Unequal) e = absurd (let h : false ≡ true = e in cc)
+goes_on-short (keywords.Dyadic dyadic.Less) e = absurd (let h : false ≡ true = e in cc)
+goes_on-short (keywords.Dyadic dyadic.Greater) e = absurd (let h : false ≡ true = e in cc)
+goes_on-short (keywords.Dyadic dyadic.AtMost) e = absurd (let h : false ≡ true = e in cc)
+goes_on-short (keywords.Dyadic dyadic.AtLeast) e = absurd (let h : false ≡ true = e in cc)
+goes_on-short (keywords.Dyadic dyadic.ShiftLeft) e = absurd (let h : false ≡ true = e in cc)
+goes_on-short (keywords.Dyadic dyadic.ShiftRight) e = absurd (let h : false ≡ true = e in cc)
+goes_on-short (keywords.Dyadic dyadic.And) e = absurd (let h : false ≡ true = e in cc)
+goes_on-short (keywords.Dyadic dyadic.Or) e = absurd (let h : false ≡ true = e in cc)
+goes_on-short (keywords.Dyadic dyadic.Eqv) e = absurd (let h : false ≡ true = e in cc)
+goes_on-short (keywords.Dyadic dyadic.Neqv) e = absurd (let h : false ≡ true = e in cc)
+goes_on-short (keywords.JumpIf true) e = record { stmt = stmt.JumpIf true 1; is_stmt = ((omega arith, omega arith), tt); word = label_word 1; rest = []; begins = refl }
+goes_on-short (keywords.JumpIf false) e = record { stmt = stmt.JumpIf false 1; is_stmt = ((omega arith, omega arith), tt); word = label_word 1; rest = []; begins = refl }
+
+-- each beginning goes on
+pub goes_on : (b : Begun) → IsBegunStmt b → GoesOn (begun_words b)
+goes_on (begun.Short k) is = goes_on-short k is
+goes_on begun.EntryLabel is = record { stmt = stmt.Entry 1 []; is_stmt = bytes_stmt-fits (owners.Entry 1) [] (omega arith, omega arith) (AreBytes-zeros 0) (omega arith); word = label_word 1; rest = natural_word 0 ∷ []; begins = refl }
+goes_on (begun.Length owner) is = goes_on-length owner is
+goes_on (begun.Bytes owner bytes count) is = goes_on-bytes owner bytes.items count is.0 is.1 is.2 is.3
+goes_on begun.CaseCount is = record { stmt = stmt.Switch 1 []; is_stmt = ((((omega arith, omega arith), no_cases)), no_values); word = natural_word 0; rest = label_word 1 ∷ []; begins = refl }
+goes_on (begun.Default count) is =
+    let g = fill count [] no_cases no_values (omega (arith, is)) in
+    record {
+      stmt = stmt.Switch 1 g.0;
+      is_stmt = (((omega arith, omega arith), g.2), g.3);
+      word = label_word 1;
+      rest = case_words g.0;
+      begins = ap (λ (m : ℕ). codes "SWITCHON" ∷ natural_word m ∷ label_word 1 ∷ case_words g.0) (omega (arith, g.1));
+    }
+goes_on (begun.CaseValue draft) is = goes_on-value draft is
+goes_on (begun.CaseLabel draft value) is = goes_on-case_label draft value is.0 is.1 is.2
+goes_on begun.GlobalCount is = record { stmt = stmt.Globals []; is_stmt = (record { in_range = fine-firsts 0; counted = omega arith }, tt); word = natural_word 0; rest = []; begins = refl }
+goes_on (begun.GlobalNumber draft) is = goes_on-number draft is
+goes_on (begun.GlobalLabel draft number) is = goes_on-global_label draft number is.0 is.1
+
+abbrev Placed : List Stmt → Option Begun → Type 0
+Placed stmts part = (s : Stmt) (rest : List (List ℕ)) → 0 < length (part_words part) → stmt_words s ≡ part_words part ++ rest → misplaced (context_of stmts) s ≡ false
+
+pub begins_part : (stmts : List Stmt) (part : Option Begun) → IsBegunPart part → Placed stmts part → 0 < length (part_words part) → BeginsStmt stmts (part_words part)
+begins_part stmts None is placed some = absurd (omega (arith, some))
+begins_part stmts (Some b) is placed some =
+    let g = goes_on b is in
+    record { stmt = g.stmt; is_stmt = g.is_stmt; may_stand = placed g.stmt (g.word ∷ g.rest) some g.begins; word = g.word; rest = g.rest; begins = g.begins }
+
+none_or_some : (l : List (List ℕ)) → (l ≡ []) ⊎ (0 < length l)
+none_or_some [] = inl refl
+none_or_some (x ∷ l) = inr (omega arith)
+
+pub part_goes_on : (stmts : List Stmt) (part : Option Begun) → IsBegunPart part → Placed stmts part → (part_words part ≡ []) ⊎ BeginsStmt stmts (part_words part)
+part_goes_on stmts part is placed = elim (none_or_some (part_words part)) [ inl none ↦ inl none | inr some ↦ inr (begins_part stmts part is placed some) ]
 

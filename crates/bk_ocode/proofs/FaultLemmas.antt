@@ -9,8 +9,8 @@ use Rattle.bk_ocode.specs.StmtText.{keyword, argument_words, stmt_words}
 use Rattle.bk_ocode.specs.SectionText.{section_words}
 use Rattle.bk_ocode.specs.Context.{Context, at_start, after, after_all, context_of}
 use Rattle.bk_ocode.specs.Faults.{misplaced, label_not_set, label_set_twice, depths_disagree, slot_above, too_long, fault_in, stmt_fault}
-use Rattle.bk_ocode.specs.FirstFault.{IsBegun, IsStmt, IsBadWord, BreaksRule}
-use Rattle.bk_ocode.specs.SectionAnswer.{Takes, FaultTold, GivesFaultAt, GivesCut, GivesFault, Answers}
+use Rattle.bk_ocode.specs.FirstFault.{IsBegun, IsStmt, IsBadWord, BreaksRule, BeginsStmt}
+use Rattle.bk_ocode.specs.SectionAnswer.{Takes, FaultTold, GivesFaultAt, GivesFault, Answers}
 use Rattle.std.proofs.lemmas.Bool.{cases_lt}
 use Rattle.bk_base.specs.declared.ocode_fault.OcodeFault.{OcodeFault}
 use Rattle.bk_base.specs.declared.refused.Refused.{Refused}
@@ -94,26 +94,30 @@ rule_at old b f k number kind stmts part w s begun place reads fits words placed
 
 -- too many words
 pub filled_at : (old b : Option (List ℕ)) (f : Bool) (k number n m : ℕ) (stmts : List Stmt) (part : List (List ℕ)) → IsBegun stmts → number ≡ length stmts + 1 → n ≡ length (section_words stmts) → m ≡ length part →
-    n + m ≡ OCODE_WORDS + 1 → 0 < m → Reads old b f k (section_words stmts ++ part) → Takes old b f (λ taken end. GivesFault taken end number TooLong)
-filled_at old b f k number n m stmts part begun place all own full some reads =
-    told_at old b f k number TooLong stmts part begun place (omega (arith, own, some)) reads (inr (omega (arith, length-append (section_words stmts) part, all, own, full)))
+    n + m ≡ OCODE_WORDS + 1 → 0 < m → (0 < length part → BeginsStmt stmts part) → Reads old b f k (section_words stmts ++ part) → Takes old b f (λ taken end. GivesFault taken end number TooLong)
+filled_at old b f k number n m stmts part begun place all own full some begins reads =
+    told_at old b f k number TooLong stmts part begun place (omega (arith, own, some)) reads
+    (inr (record { begun = begins (omega (arith, own, some)); past = omega (arith, length-append (section_words stmts) part, all, own, full) }))
 
 -- the text ends
 pub cut_at : (old b : Option (List ℕ)) (f : Bool) (k number : ℕ) (stmts : List Stmt) (part : List (List ℕ)) → IsBegun stmts → number ≡ length stmts + 1 → 0 < length (section_words stmts ++ part) →
-    ReadsAll old b f k (section_words stmts ++ part) → Takes old b f (λ taken end. GivesFault taken end number Truncated)
-cut_at old b f k number stmts part begun place some reads = (
+    (part ≡ []) ⊎ BeginsStmt stmts part → ReadsAll old b f k (section_words stmts ++ part) → Takes old b f (λ taken end. GivesFault taken end number Truncated)
+cut_at old b f k number stmts part begun place some goes_on reads = (
   reads.0,
   reads.1,
-  inr (record {
-    is_cut = refl;
-    at_end = subst (λ n. AtEnd f n) reads.2 reads.4;
-    before = stmts;
-    begun = begun;
-    part = part;
-    some = some;
-    are = reads.3;
-    place = place;
-  }),
+  inr (
+    refl,
+    subst (λ n. AtEnd f n) reads.2 reads.4,
+    record {
+      before = stmts;
+      begun = begun;
+      part = part;
+      some = omega (arith, some, ap (λ (l : List (List ℕ)). length l) reads.3);
+      are = reads.3;
+      place = place;
+      goes_on = goes_on;
+    },
+  ),
 )
 
 -- words of statements are no fewer than the statements
@@ -175,10 +179,10 @@ refused_at old b f k count stmts part w unfits.BadWord begun is reads bad =
 -- the text ends
 pub end_at : (old b : Option (List ℕ)) (f : Bool) (k count words : ℕ) (stmts : List Stmt) (part : List (List ℕ)) (r : Result (Option Ocode) (Refused OcodeFault)) → IsBegun stmts → count ≡ length stmts → words ≡ length part →
     (count + words ≡ 0 → r ≡ Ok None) → (0 < count + words → r ≡ Err (Fault (record { statement = count + 1; kind = Truncated }))) →
-    ReadsAll old b f k (section_words stmts ++ part) → Answers r old b f
-end_at old b f k count words stmts part r begun is own none some reads = elim (cases_lt 0 (count + words)) [
+    (part ≡ []) ⊎ BeginsStmt stmts part → ReadsAll old b f k (section_words stmts ++ part) → Answers r old b f
+end_at old b f k count words stmts part r begun is own none some goes_on reads = elim (cases_lt 0 (count + words)) [
   | inl low ↦ subst (λ (x : Result (Option Ocode) (Refused OcodeFault)). Answers x old b f) (sym (some low))
-      (cut_at old b f k (count + 1) stmts part begun (ap (λ n. n + 1) is) (omega (arith, low, is, own, many_words stmts, length-append (section_words stmts) part)) reads)
+      (cut_at old b f k (count + 1) stmts part begun (ap (λ n. n + 1) is) (omega (arith, low, is, own, many_words stmts, length-append (section_words stmts) part)) goes_on reads)
   | inr high ↦ subst (λ (x : Result (Option Ocode) (Refused OcodeFault)). Answers x old b f) (sym (none (omega (arith, high))))
       (nothing_left old b f k stmts part (omega (arith, high, is)) (omega (arith, high, own)) reads)
 ]

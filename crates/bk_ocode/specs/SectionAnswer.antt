@@ -6,7 +6,6 @@ use Rattle.bk_base.specs.declared.ocode_fault.OcodeKind.{OcodeKind}
 use Rattle.bk_base.specs.declared.ocode_fault.OcodeKind.TheVariants.{BadWord, BadNumber, Truncated, LabelNotSet, LabelSetTwice, DepthsDisagree, SlotAboveDepth, TooLong}
 use Rattle.bk_base.specs.declared.refused.Refused.{Refused}
 use Rattle.bk_base.specs.declared.refused.Refused.TheVariants.{Fault, Memory, Device}
-use Rattle.bk_base.specs.declared.limit.TheConstants.{OCODE_WORDS}
 use Rattle.bk_words.specs.TextEnd.{AtEnd}
 use Rattle.bk_words.specs.Words.{words_of}
 use Rattle.bk_words.specs.Taking.{TakesWords}
@@ -14,7 +13,7 @@ use Rattle.bk_ocode.specs.SectionText.{section_words}
 use Rattle.bk_ocode.specs.SectionStmts.{stmts_of}
 use Rattle.bk_ocode.specs.StmtRange.{AreTyped}
 use Rattle.bk_ocode.specs.Section.{IsSection}
-use Rattle.bk_ocode.specs.FirstFault.{IsBegun, IsBadWord, BreaksRule}
+use Rattle.bk_ocode.specs.FirstFault.{IsBegun, IsBadWord, BreaksRule, PassesWords, CutAt}
 use Rattle.bk_ocode.specs.declared.section.Ocode.{Ocode}
 use Rattle.bk_ocode.specs.declared.stmt.Stmt.{Stmt}
 
@@ -30,8 +29,8 @@ GivesSection taken end stmts = IsSection stmts × AreTyped stmts × TakesWords t
 abbrev pub GivesNothing : List ℕ → Type 0 → Type 0
 GivesNothing taken end = (words_of taken ≡ []) × end
 
--- The fault of the first words of a statement, behind others without a fault, as far as it is proved: that a bad number is
--- none, and that a statement goes on where words pass their limit, stands open.
+-- The fault of the first words of a statement, behind others without a fault, as far as it is proved. Of a bad number it is
+-- open that the words before it begin a statement, and that none goes on with it.
 abbrev pub FaultTold : List Stmt → List (List ℕ) → OcodeKind → Type 0
 FaultTold before part BadWord = IsBadWord before part
 FaultTold before part BadNumber = 0 < length part
@@ -40,7 +39,7 @@ FaultTold before part LabelNotSet = BreaksRule before part LabelNotSet
 FaultTold before part LabelSetTwice = BreaksRule before part LabelSetTwice
 FaultTold before part DepthsDisagree = BreaksRule before part DepthsDisagree
 FaultTold before part SlotAboveDepth = BreaksRule before part SlotAboveDepth
-FaultTold before part TooLong = BreaksRule before part TooLong ⊎ (length (section_words before ++ part) ≡ OCODE_WORDS + 1)
+FaultTold before part TooLong = BreaksRule before part TooLong ⊎ PassesWords before part
 
 -- The words that were taken are those of statements without a fault, and some of the next with this fault.
 pub record GivesFaultAt (taken : List ℕ) (end : Type 0) (number : ℕ) (kind : OcodeKind) : Type 0 where
@@ -51,21 +50,9 @@ pub record GivesFaultAt (taken : List ℕ) (end : Type 0) (number : ℕ) (kind :
   pub are : TakesWords taken end (section_words before ++ part)
   pub fault : FaultTold before part kind
 
--- The text ends inside a section: its words are those of statements without a fault, and some of the next or none. That the
--- next statement goes on stands open.
-pub record GivesCut (taken : List ℕ) (end : Type 0) (number : ℕ) (kind : OcodeKind) : Type 0 where
-  pub is_cut : kind ≡ Truncated
-  pub at_end : end
-  pub before : List Stmt
-  pub begun : IsBegun before
-  pub part : List (List ℕ)
-  pub some : 0 < length (section_words before ++ part)
-  pub are : words_of taken ≡ section_words before ++ part
-  pub place : number ≡ length before + 1
-
 -- The bytes that were taken have this first fault.
 abbrev pub GivesFault : List ℕ → Type 0 → ℕ → OcodeKind → Type 0
-GivesFault taken end number kind = GivesFaultAt taken end number kind ⊎ GivesCut taken end number kind
+GivesFault taken end number kind = GivesFaultAt taken end number kind ⊎ ((kind ≡ Truncated) × end × CutAt (words_of taken) number)
 
 -- The answer is what the bytes taken say, unless memory was refused or the device failed.
 abbrev pub Answers : Result (Option Ocode) (Refused OcodeFault) → Option (List ℕ) → Option (List ℕ) → Bool → Type 0

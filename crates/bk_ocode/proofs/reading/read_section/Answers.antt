@@ -9,6 +9,7 @@ use Rattle.bk_ocode.specs.BegunStmts.{part_words}
 use Rattle.bk_ocode.specs.SectionAnswer.{Takes, GivesSection, Answers}
 use Rattle.bk_ocode.specs.declared.standing.Position.TheVariants.{Ended}
 use Rattle.bk_ocode.specs.declared.stmt.Stmt.{Stmt}
+use Rattle.bk_ocode.proofs.Completions.{begins_part, part_goes_on}
 use Rattle.bk_ocode.proofs.FaultLemmas.{placed_more, refused_at, rule_at, filled_at, end_at, words_tally}
 use Rattle.bk_ocode.proofs.ReadingLemmas.{word_read, all_read, grows, Reads-more, Reads-whole, one_longer, section_here, IsSection-of, IsBegun-push, few_more}
 use Rattle.bk_ocode.proofs.reading.read_section.Goals as goal
@@ -19,7 +20,7 @@ returns-in_default-found-clause-answers g c =
     let nothing : c.in-Ok.found ≡ None = c.in_default-found.is in
     let all = all_read _ _ _ _ _ c.loop-alloc.taken c.next_word.new.taken _ v.read (rw nothing at c.in-Ok.ensures.gives) c.in-Ok.ensures.within c.in-Ok.ensures.ended_there in
     end_at _ _ _ c.next_word.new.taken c.len-in_default-found.result c.loop-alloc.words c.loop-alloc.draft.stmts.items (part_words c.loop-alloc.begun) c.at_end.result v.begun c.len-in_default-found.ensures v.counted
-    c.at_end.ensures.nothing c.at_end.ensures.cut all
+    c.at_end.ensures.nothing c.at_end.ensures.cut (part_goes_on c.loop-alloc.draft.stmts.items c.loop-alloc.begun v.part v.placed) all
 
 pub returns-then-is_filled_by-clause-answers : goal.returns-then-is_filled_by-clause-answers
 returns-then-is_filled_by-clause-answers g c =
@@ -28,7 +29,7 @@ returns-then-is_filled_by-clause-answers g c =
     let over = ltb-true OCODE_WORDS (c.loop-alloc.draft.words + c.loop-alloc.words) filled in
     subst (λ (r : Refused OcodeFault). Answers (Err r) (g.I.ByteIn.left c.args.input.now) (g.I.ByteIn.left c.loop-alloc.input) (g.I.ByteIn.ended c.loop-alloc.input)) (sym c.fault_behind.ensures)
     (filled_at _ _ _ c.loop-alloc.taken (c.len.result + 1) c.loop-alloc.draft.words c.loop-alloc.words c.loop-alloc.draft.stmts.items (part_words c.loop-alloc.begun) v.begun (ap (λ n. n + 1) c.len.ensures)
-    (words_tally _ c.loop-alloc.draft.stmts.items v.draft.context) v.counted (omega (arith, over, v.low)) (omega (arith, over, v.draft.words_fit)) v.read)
+    (words_tally _ c.loop-alloc.draft.stmts.items v.draft.context) v.counted (omega (arith, over, v.low)) (omega (arith, over, v.draft.words_fit)) (begins_part c.loop-alloc.draft.stmts.items c.loop-alloc.begun v.part v.placed) v.read)
 
 pub returns-in-Err-clause-answers : goal.returns-in-Err-clause-answers
 returns-in-Err-clause-answers g c =
