@@ -1,12 +1,11 @@
 -- Cases of a switch, one case more.
-use Rattle.std.proofs.Common.{◌≡◌, ◌⊎◌, inl, inr, ℕ, zero, suc, ℤ, FitsSigned, w32, ◌+◌, ◌<◌, ◌≤◌, ◌^◌, ◌++◌, ◌||◌, Bool, true, false, if◌then◌else◌, List, [], ◌∷◌, Some, None, length, slice_get, arith, refl, sym, ap, ◌∙◌, subst, length-append, append_assoc}
+use Rattle.std.proofs.Common.{◌≡◌, ◌⊎◌, inl, inr, ℕ, zero, suc, ℤ, FitsSigned, w32, ◌<◌, ◌^◌, ◌++◌, ◌||◌, Bool, true, false, if◌then◌else◌, List, [], ◌∷◌, Some, None, length, slice_get, arith, refl, sym, ap, ◌∙◌, subst, append_assoc}
 use Rattle.std.specs.Ordering.{int_eq}
 use Rattle.std.proofs.lemmas.Cmp.{int_eq_equiv}
 use Rattle.bk_base.specs.Decimal.{spelling}
-use Rattle.bk_ocode.specs.Lists.{joined}
-use Rattle.bk_ocode.specs.StmtText.{label_word, natural_word, case_words}
+use Rattle.bk_ocode.specs.StmtText.{label_word, case_words}
 use Rattle.bk_ocode.specs.StmtRange.{IsLabel, AreCases}
-use Rattle.bk_ocode.specs.BegunStmts.{has_value, switch_words}
+use Rattle.bk_ocode.specs.BegunStmts.{has_value}
 use Rattle.bk_ocode.specs.declared.stmt.Case.{Case}
 use Rattle.bk_ocode.proofs.Rows.{joined-append}
 

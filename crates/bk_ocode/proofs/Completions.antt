@@ -1,5 +1,5 @@
 -- Each beginning of a statement goes on to a whole one.
-use Rattle.std.proofs.Common.{◌≡◌, ◌≢◌, ◌⊎◌, inl, inr, ℕ, zero, suc, ℤ, pos, FitsSigned, w32, ◌+◌, ◌-◌, ◌<◌, ◌≤◌, ◌^◌, ◌++◌, ◌||◌, Bool, true, false, if◌then◌else◌, List, [], ◌∷◌, Option, Some, None, length, slice_get, codes, arith, refl, sym, ap, ◌∙◌, subst, length-append, append_assoc, append-nil}
+use Rattle.std.proofs.Common.{◌≡◌, ◌⊎◌, inl, inr, ℕ, zero, suc, ℤ, pos, FitsSigned, w32, ◌+◌, ◌-◌, ◌<◌, ◌≤◌, ◌^◌, ◌++◌, ◌||◌, Bool, true, false, if◌then◌else◌, List, [], ◌∷◌, Option, Some, None, length, slice_get, codes, arith, refl, sym, ap, ◌∙◌, subst, length-append, append_assoc, append-nil}
 use Rattle.std.proofs.lemmas.Bool.{cases_lt}
 use Rattle.std.proofs.lemmas.Bool.Decides.{Decides-int_eq}
 use Rattle.std.specs.Ordering.{int_eq}
@@ -7,7 +7,7 @@ use Rattle.bk_base.specs.Decimal.{spelling}
 use Rattle.bk_base.specs.declared.limit.TheConstants.{NAME_BYTES}
 use Rattle.bk_words.specs.Numerals.{fits-pos}
 use Rattle.bk_ocode.specs.StmtText.{label_word, natural_word, byte_words, case_words, global_words, stmt_words}
-use Rattle.bk_ocode.specs.StmtRange.{IsLabel, IsGlobal, AreBytes, AreCases, AreEntries}
+use Rattle.bk_ocode.specs.StmtRange.{IsLabel, IsGlobal, AreBytes, AreCases}
 use Rattle.bk_ocode.specs.FirstFault.{IsStmt, BeginsStmt}
 use Rattle.bk_ocode.specs.BegunStmts.{has_value, owner_words, IsOwner, switch_words, entries_words, begun_words, is_short, IsBegunStmt, AreBegunCases, AreBegunEntries, part_words, IsBegunPart}
 use Rattle.bk_ocode.specs.declared.stmt.Case.{Case}
@@ -30,7 +30,7 @@ use Rattle.bk_ocode.specs.declared.begun.Owner.TheVariants as owners
 use Rattle.bk_ocode.specs.declared.begun.CaseDraft.{CaseDraft}
 use Rattle.bk_ocode.specs.declared.begun.EntryDraft.{EntryDraft}
 use Rattle.bk_ocode.proofs.Rows.{joined-append}
-use Rattle.bk_ocode.proofs.CaseLemmas.{at_push, AreCases-push, typed-push}
+use Rattle.bk_ocode.proofs.CaseLemmas.{AreCases-push, typed-push}
 
 -- a whole statement that goes on behind these words
 pub record GoesOn (part : List (List ℕ)) : Type 0 where
@@ -249,7 +249,7 @@ fill (suc n) cases are fits low =
     let c : Case = record { value = pos f.0; label = 1 } in
     let long : length (cases ++ c ∷ []) ≡ length cases + 1 = length-append cases (c ∷ []) in
     let g = fill n (cases ++ c ∷ []) (AreCases-push cases (cases ++ c ∷ []) c refl are (omega arith, omega arith) f.2 (omega (arith, long, low)))
-        (typed-push cases (cases ++ c ∷ []) c refl fits (fits-pos f.0 (omega (arith, f.1, low)))) (omega (arith, long, low)) in
+    (typed-push cases (cases ++ c ∷ []) c refl fits (fits-pos f.0 (omega (arith, f.1, low)))) (omega (arith, long, low)) in
     let same : (cases ++ c ∷ []) ++ g.0 ≡ cases ++ (c ∷ g.0) = append_assoc cases (c ∷ []) g.0 in
     (c ∷ g.0, omega (arith, ap (λ (l : List Case). length l) same, g.1, long), subst AreCases same g.2, subst AreValues same g.3)
 
@@ -266,7 +266,7 @@ with_next default cases count value label are fits low due typed new =
     let c : Case = record { value = value; label = 1 } in
     let long : length (cases ++ c ∷ []) ≡ length cases + 1 = length-append cases (c ∷ []) in
     let g = fill (count - (length cases + 1)) (cases ++ c ∷ []) (AreCases-push cases (cases ++ c ∷ []) c refl are (omega arith, omega arith) new (omega (arith, long, low, due)))
-        (typed-push cases (cases ++ c ∷ []) c refl fits typed) (omega (arith, long, low, due)) in
+    (typed-push cases (cases ++ c ∷ []) c refl fits typed) (omega (arith, long, low, due)) in
     let same : (cases ++ c ∷ []) ++ g.0 ≡ cases ++ (c ∷ g.0) = append_assoc cases (c ∷ []) g.0 in
     (g.0, ((label, subst AreCases same g.2), subst AreValues same g.3), omega (arith, ap (λ (l : List Case). length l) same, g.1, long, due))
 
@@ -402,4 +402,3 @@ none_or_some (x ∷ l) = inr (omega arith)
 
 pub part_goes_on : (stmts : List Stmt) (part : Option Begun) → IsBegunPart part → Placed stmts part → (part_words part ≡ []) ⊎ BeginsStmt stmts (part_words part)
 part_goes_on stmts part is placed = elim (none_or_some (part_words part)) [ inl none ↦ inl none | inr some ↦ inr (begins_part stmts part is placed some) ]
-

@@ -1,5 +1,5 @@
 -- The first fault of a text, from what was read of it.
-use Rattle.std.proofs.Common.{◌≡◌, ◌≢◌, ◌⊎◌, inl, inr, ℕ, ◌+◌, ◌<◌, ◌≤◌, ◌++◌, Bool, true, false, nat_lt, ltb-true, List, [], ◌∷◌, Option, Some, None, Result, Ok, Err, length, if◌then◌else◌, arith, refl, sym, ◌∙◌, ap, subst, length-append, append_assoc}
+use Rattle.std.proofs.Common.{◌≡◌, ◌≢◌, ◌⊎◌, inl, inr, ℕ, ◌+◌, ◌<◌, ◌≤◌, ◌++◌, Bool, true, false, List, [], ◌∷◌, Option, Some, None, Result, Ok, Err, length, if◌then◌else◌, arith, refl, sym, ◌∙◌, ap, subst, length-append, append_assoc}
 use Rattle.bk_base.specs.declared.limit.TheConstants.{OCODE_WORDS}
 use Rattle.bk_base.specs.declared.ocode_fault.OcodeKind.{OcodeKind}
 use Rattle.bk_base.specs.declared.ocode_fault.OcodeKind.TheVariants.{BadWord, BadNumber, Truncated, LabelNotSet, LabelSetTwice, DepthsDisagree, SlotAboveDepth, TooLong}
@@ -9,8 +9,8 @@ use Rattle.bk_ocode.specs.StmtText.{keyword, argument_words, stmt_words}
 use Rattle.bk_ocode.specs.SectionText.{section_words}
 use Rattle.bk_ocode.specs.Context.{Context, at_start, after, after_all, context_of}
 use Rattle.bk_ocode.specs.Faults.{misplaced, label_not_set, label_set_twice, depths_disagree, slot_above, too_long, fault_in, stmt_fault}
-use Rattle.bk_ocode.specs.FirstFault.{IsBegun, IsStmt, IsBadWord, BreaksRule, BeginsStmt}
-use Rattle.bk_ocode.specs.SectionAnswer.{Takes, FaultTold, GivesFaultAt, GivesFault, Answers}
+use Rattle.bk_ocode.specs.FirstFault.{IsBegun, IsStmt, BeginsStmt}
+use Rattle.bk_ocode.specs.SectionAnswer.{Takes, FaultTold, GivesFault, Answers}
 use Rattle.std.proofs.lemmas.Bool.{cases_lt}
 use Rattle.bk_base.specs.declared.ocode_fault.OcodeFault.{OcodeFault}
 use Rattle.bk_base.specs.declared.refused.Refused.{Refused}

@@ -1,5 +1,5 @@
 -- The words that begin statements are known again.
-use Rattle.std.proofs.Common.{◌≡◌, ◌≢◌, ℕ, List, [], ◌∷◌, Bool, true, false, not, ◌≤◌, ◌<◌, length, arith, Option, Some, None, refl, sym, ap, ◌∙◌}
+use Rattle.std.proofs.Common.{◌≡◌, ◌≢◌, ℕ, List, [], ◌∷◌, Bool, true, false, not, ◌≤◌, ◌<◌, length, arith, Some, None, refl, sym, ap, ◌∙◌}
 use Rattle.bk_ocode.specs.StmtText.{keyword}
 use Rattle.bk_ocode.specs.Places.{role, may_stand}
 use Rattle.bk_ocode.specs.Context.{Context}

@@ -1,12 +1,11 @@
 -- What a text says, one word after another.
-use Rattle.std.proofs.Common.{◌≡◌, ◌≢◌, ◌⊎◌, inl, inr, ℕ, suc, ◌+◌, ◌<◌, ◌≤◌, ◌++◌, Bool, true, false, IsTrue, List, [], ◌∷◌, Option, Some, None, length, take, slice_get, nat_lt, nat_le, ◌||◌, arith, refl, sym, ◌∙◌, ap, subst, length-append, append_assoc, append-nil}
+use Rattle.std.proofs.Common.{◌≡◌, ◌≢◌, inl, inr, ℕ, ◌+◌, ◌<◌, ◌≤◌, ◌++◌, Bool, IsTrue, List, [], ◌∷◌, Option, Some, None, length, take, arith, refl, sym, ◌∙◌, ap, subst, length-append, append_assoc, append-nil}
 use Rattle.std.proofs.lemmas.List.{take-append-le}
 use Rattle.std.proofs.Math.Seq.{take-append_seam}
 use Rattle.std.specs.Io.KnownBytes.{Consumes}
 use Rattle.bk_base.specs.DeviceLaws.{Consumes-nothing}
 use Rattle.bk_base.specs.declared.limit.TheConstants.{INPUT_BYTES, OCODE_STATEMENTS}
 use Rattle.bk_words.specs.TextEnd.{AtEnd}
-use Rattle.bk_words.specs.Words.{words_of}
 use Rattle.bk_words.specs.Gathering.{Holds, IsNextWord}
 use Rattle.bk_words.specs.Taking.{TakesWords, TakesSome, Reads, ReadsAll}
 use Rattle.bk_words.specs.WordLaws.{Reads-word, Reads-end}
@@ -144,4 +143,3 @@ Reads-whole old b f k stmts all s part w is words reads =
 
 pub one_longer : (part next : List (List ℕ)) (w : List ℕ) (n : ℕ) → n ≡ length part → next ≡ part ++ w ∷ [] → n + 1 ≡ length next
 one_longer part next w n is more = omega (arith, is, ap (λ (l : List (List ℕ)). length l) more, length-append part (w ∷ []))
-

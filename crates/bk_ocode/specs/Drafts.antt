@@ -1,9 +1,8 @@
 -- What the parts of a section that is being read keep.
-use Rattle.std.specs.Prelude.{◌≡◌, ◌≤◌, ℕ, nat_eq, length, Option, Some, None}
+use Rattle.std.specs.Prelude.{◌≡◌, ◌≤◌, length}
 use Rattle.bk_base.specs.declared.limit.TheConstants.{FRAME_WORDS, OCODE_WORDS}
 use Rattle.bk_ocode.specs.KnownUses.{uses_of}
-use Rattle.bk_ocode.specs.Context.{Context, fresh, context_of}
-use Rattle.bk_ocode.specs.declared.standing.LabelUse.{LabelUse}
+use Rattle.bk_ocode.specs.Context.{Context, context_of}
 use Rattle.bk_ocode.specs.declared.draft.Draft.{Draft}
 
 -- what the parts say of the statements so far

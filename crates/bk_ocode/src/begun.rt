@@ -67,7 +67,9 @@ pub(crate) enum Begun {
     /// The label of an ENTRY.
     EntryLabel,
     /// How many bytes there are.
-    Length { owner: Owner },
+    Length {
+        owner: Owner,
+    },
     /// A byte.
     Bytes {
         owner: Owner,
@@ -77,17 +79,25 @@ pub(crate) enum Begun {
     /// How many cases there are.
     CaseCount,
     /// The default of a SWITCHON.
-    Default { count: u32 },
+    Default {
+        count: u32,
+    },
     /// The value of a case.
     CaseValue(CaseDraft),
     /// The label of a case.
-    CaseLabel { draft: CaseDraft, value: i32 },
+    CaseLabel {
+        draft: CaseDraft,
+        value: i32,
+    },
     /// How many globals there are.
     GlobalCount,
     /// The number of a global.
     GlobalNumber(EntryDraft),
     /// The label of a global.
-    GlobalLabel { draft: EntryDraft, number: u32 },
+    GlobalLabel {
+        draft: EntryDraft,
+        number: u32,
+    },
 }
 
 /// A statement behind one word more.

@@ -110,7 +110,14 @@ impl LabelUses {
     {
         let known = self.of(label);
         let jumps = depths_with(depth, known.jumps);
-        self.put(label, LabelUse { jumps, named: true, ..known })
+        self.put(
+            label,
+            LabelUse {
+                jumps,
+                named: true,
+                ..known
+            },
+        )
     }
 
     /// A RES goes to the label, with this depth behind it.
@@ -127,7 +134,13 @@ impl LabelUses {
         ensures { OnOk result (uses_of self.new ≡ changed label mentioned (uses_of self.old)) }
     {
         let known = self.of(label);
-        self.put(label, LabelUse { named: true, ..known })
+        self.put(
+            label,
+            LabelUse {
+                named: true,
+                ..known
+            },
+        )
     }
 
     /// A statement names the label of a variable.
@@ -161,12 +174,7 @@ impl LabelUses {
     }
 
     /// A statement with this depth before it, and so many statements, names and sets labels.
-    pub(crate) fn name(
-        &mut self,
-        depth: u32,
-        count: usize,
-        stmt: &Stmt,
-    ) -> Result<(), AllocError>
+    pub(crate) fn name(&mut self, depth: u32, count: usize, stmt: &Stmt) -> Result<(), AllocError>
         ensures { OnOk result (uses_of self.new ≡ labels_named depth count stmt.now (uses_of self.old)) }
     {
         let less = depth.saturating_sub(1);

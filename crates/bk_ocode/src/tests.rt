@@ -37,15 +37,27 @@ fn refused(rt: HostRuntime) -> Result<(), Fail> {
         ),
         (b"ENTRY L1 5 83 84", 1, OcodeKind::Truncated),
         (b"ENTRY L1 0 SAVE 2 RTRN ENDPROC GLO", 5, OcodeKind::BadWord),
-        (b"ENTRY L1 0 SAVE 2 RTRN ENDPROC GLOBAL 1", 5, OcodeKind::Truncated),
+        (
+            b"ENTRY L1 0 SAVE 2 RTRN ENDPROC GLOBAL 1",
+            5,
+            OcodeKind::Truncated,
+        ),
         (b"ENTRY L1 0 SAVE 2 RTRN ENDPROC", 5, OcodeKind::Truncated),
         (b"ENTRY L1 0 SAVE 2 LP 1", 3, OcodeKind::BadNumber),
         (b"ENTRY L1 0 SAVE 2 LN 1 SP 0", 4, OcodeKind::BadNumber),
         (b"ENTRY L1 0 SAVE 2 LLP -1", 3, OcodeKind::BadNumber),
         (b"ENTRY L1 0 SAVE 2 FNAP 1", 3, OcodeKind::BadNumber),
-        (b"ENTRY L1 0 SAVE 2 LAB L2 RSTACK 1", 4, OcodeKind::BadNumber),
+        (
+            b"ENTRY L1 0 SAVE 2 LAB L2 RSTACK 1",
+            4,
+            OcodeKind::BadNumber,
+        ),
         (b"ENTRY L1 0 SAVE 2 LP 70000", 3, OcodeKind::SlotAboveDepth),
-        (b"ENTRY L1 0 SAVE 2 FNAP 70000", 3, OcodeKind::SlotAboveDepth),
+        (
+            b"ENTRY L1 0 SAVE 2 FNAP 70000",
+            3,
+            OcodeKind::SlotAboveDepth,
+        ),
         (
             b"ENTRY L1 0 SAVE 2 LAB L2 RSTACK 70000",
             4,
@@ -92,10 +104,17 @@ fn refused(rt: HostRuntime) -> Result<(), Fail> {
         ),
         (b"ENTRY L1 0 SAVE 65536", 2, OcodeKind::BadNumber),
         (b"ENTRY L1 0 SAVE 65535 LN 1", 3, OcodeKind::TooLong),
-        (b"ENTRY L1 0 SAVE 2 LN 1 FNAP 2", 4, OcodeKind::SlotAboveDepth),
+        (
+            b"ENTRY L1 0 SAVE 2 LN 1 FNAP 2",
+            4,
+            OcodeKind::SlotAboveDepth,
+        ),
     ];
     for (text, statement, kind) in rows {
-        assert_eq!(rt; count(&rt, text), Err(Refused::Fault(OcodeFault { statement, kind })));
+        assert_eq!(rt;
+            count(&rt, text),
+            Err(Refused::Fault(OcodeFault { statement, kind }))
+        );
     }
     Ok(())
 }
@@ -121,8 +140,7 @@ const SMALL: &[u8] = b"ENTRY L1 5 83 84 65 82 84\nSAVE 2\nFINISH\nRTRN\nENDPROC\
 #[test]
 fn beginnings(rt: HostRuntime) -> Result<(), Fail> {
     assert_eq!(rt; count(&rt, SMALL), Ok(6));
-    let mut end = 0;
-    for _ in SMALL {
+    for end in 0..SMALL.len() {
         let answer = count(&rt, &SMALL[..end]);
         if end == 0 {
             assert_eq!(rt; answer, Ok(0));
@@ -131,7 +149,6 @@ fn beginnings(rt: HostRuntime) -> Result<(), Fail> {
         } else {
             assert!(rt; answer.is_err());
         }
-        end += 1;
     }
     Ok(())
 }

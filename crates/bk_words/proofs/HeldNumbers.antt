@@ -1,5 +1,5 @@
 -- Numbers in words of which the first bytes are held.
-use Rattle.std.proofs.Common.{◌≡◌, ◌≢◌, ℕ, ℤ, pos, FitsSigned, w32, ◌<◌, ◌≤◌, ◌^◌, List, [], ◌∷◌, length, arith, sym, ◌∙◌, ap}
+use Rattle.std.proofs.Common.{◌≡◌, ◌≢◌, ℕ, ℤ, pos, FitsSigned, w32, ◌<◌, ◌≤◌, ◌^◌, List, ◌∷◌, length, arith, ap}
 use Rattle.bk_base.specs.Decimal.{spelling}
 use Rattle.bk_words.specs.Numerals.{fits-pos, length-word}
 

@@ -1,4 +1,4 @@
-use Rattle.std.proofs.Common.{◌≡◌, ◌≢◌, ◌≤◌, ◌+◌, ◌++◌, ◌∷◌, ◌∙◌, [], ℕ, List, Ok, None, Some, IsTrue, length, false, nat_lt, arith, ltb-false, ltb-true, true, Err, append-nil, sym, ap, subst, rules, refl}
+use Rattle.std.proofs.Common.{◌≡◌, ◌≢◌, ◌+◌, ◌++◌, ◌∷◌, ◌∙◌, [], List, None, false, nat_lt, arith, ltb-false, ltb-true, true, Err, append-nil, sym, ap, subst, rules, refl}
 use Rattle.bk_base.specs.declared.limit.TheConstants.{OCODE_WORDS}
 use Rattle.bk_base.specs.declared.ocode_fault.OcodeFault.{OcodeFault}
 use Rattle.bk_base.specs.declared.refused.Refused.{Refused}
@@ -50,7 +50,7 @@ returns-in-Some-fault_of-clause-answers g c =
     let r = word_read _ _ _ _ _ c.loop-alloc.taken c.next_word.new.taken _ c.in-Some.word v.read (λ told. let h = (c.in-Ok.ensures.ended_again told).0 in search rules) comes c.in-Ok.ensures.within in
     let step = rw c.in-Ok-Done.field-0-is at (c.in-Ok-Done.ensures.step r.0 r.1) in
     let placed = placed_more (context_of stmts) c.loop-alloc.begun (part ++ r.0 ∷ []) r.0 refl v.placed
-        (λ fresh t begins. ap (λ (k : Context). misplaced k t) (sym v.draft.context) ∙ c.in-Ok-Done.ensures.placed fresh r.0 r.1 t begins) s [] (step.1 ∙ sym (append-nil (part ++ r.0 ∷ []))) in
+    (λ fresh t begins. ap (λ (k : Context). misplaced k t) (sym v.draft.context) ∙ c.in-Ok-Done.ensures.placed fresh r.0 r.1 t begins) s [] (step.1 ∙ sym (append-nil (part ++ r.0 ∷ []))) in
     subst (λ (x : Refused OcodeFault). Answers (Err x) (g.I.ByteIn.left c.args.input.now) (g.I.ByteIn.left c.next_word.new.input) (g.I.ByteIn.ended c.next_word.new.input)) (sym c.fault_behind-in-Some-fault_of.ensures)
     (rule_at _ _ _ c.next_word.new.taken (c.len-in-Some-fault_of.result + 1) c.in-Some-fault_of.kind stmts part r.0 s v.begun (ap (λ n. n + 1) c.len-in-Some-fault_of.ensures) r.2 step.0 step.1 placed
     (sym c.fault_of.ensures ∙ c.in-Some-fault_of.is))
@@ -95,7 +95,7 @@ into_section-requires g c =
     let r = word_read _ _ _ _ _ c.loop-alloc.taken c.next_word.new.taken _ c.in-Some.word v.read (λ told. let h = (c.in-Ok.ensures.ended_again told).0 in search rules) comes c.in-Ok.ensures.within in
     let step = rw c.in-Ok-Done.field-0-is at (c.in-Ok-Done.ensures.step r.0 r.1) in
     let ended : (context_of c.add.new.self.stmts.items).position ≡ Ended =
-        ap (λ (k : Context). k.position) (sym c.in-Ok-add.ensures.draft.context) ∙ c.is_whole.ensures.whole c.if-is_whole.true in
+    ap (λ (k : Context). k.position) (sym c.in-Ok-add.ensures.draft.context) ∙ c.is_whole.ensures.whole c.if-is_whole.true in
     IsSection-of c.loop-alloc.draft.stmts.items c.add.new.self.stmts.items c.in-Ok-Done.stmt c.in-Ok-add.ensures.added v.begun step.0 (sym c.in_default-fault_of.ensures) ended
 
 pub returns-then-is_whole-clause-answers : goal.returns-then-is_whole-clause-answers
@@ -106,7 +106,7 @@ returns-then-is_whole-clause-answers g c =
     let r = word_read _ _ _ _ _ c.loop-alloc.taken c.next_word.new.taken _ c.in-Some.word v.read (λ told. let h = (c.in-Ok.ensures.ended_again told).0 in search rules) comes c.in-Ok.ensures.within in
     let step = rw c.in-Ok-Done.field-0-is at (c.in-Ok-Done.ensures.step r.0 r.1) in
     let ended : (context_of c.add.new.self.stmts.items).position ≡ Ended =
-        ap (λ (k : Context). k.position) (sym c.in-Ok-add.ensures.draft.context) ∙ c.is_whole.ensures.whole c.if-is_whole.true in
+    ap (λ (k : Context). k.position) (sym c.in-Ok-add.ensures.draft.context) ∙ c.is_whole.ensures.whole c.if-is_whole.true in
     subst (λ (l : List Stmt). Takes (g.I.ByteIn.left c.args.input.now) (g.I.ByteIn.left c.next_word.new.input) (g.I.ByteIn.ended c.next_word.new.input) (λ taken end. GivesSection taken end l)) (sym c.into_section.ensures)
     (section_here _ _ _ c.next_word.new.taken c.loop-alloc.draft.stmts.items c.add.new.self.stmts.items c.in-Ok-Done.stmt part r.0 c.in-Ok-add.ensures.added v.begun step.0 (sym c.in_default-fault_of.ensures) ended step.1 r.2)
 

@@ -1,5 +1,5 @@
-use Rattle.std.proofs.Common.{◌≡◌, ◌∙◌, ◌+◌, sym, ap, ℕ, length-append, arith, length, List, ◌∷◌, []}
-use Rattle.bk_ocode.specs.Context.{labels_named, start_from}
+use Rattle.std.proofs.Common.{◌≡◌, ◌∙◌, ◌+◌, ap, ℕ, length-append, arith, length, List, ◌∷◌, []}
+use Rattle.bk_ocode.specs.Context.{start_from}
 use Rattle.bk_ocode.specs.KnownUses.{uses_of}
 use Rattle.bk_ocode.specs.Drafts.{context_in}
 use Rattle.bk_ocode.specs.declared.stmt.Stmt.{Stmt}

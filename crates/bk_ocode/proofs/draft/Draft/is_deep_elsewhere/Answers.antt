@@ -1,4 +1,4 @@
-use Rattle.std.proofs.Common.{◌≡◌, ◌-◌, sym, ◌∙◌, ap, subst, List, ℕ, false, rules}
+use Rattle.std.proofs.Common.{◌≡◌, ◌-◌, sym, ◌∙◌, ap, List, ℕ, rules}
 use Rattle.std.specs.List.{list_any}
 use Rattle.bk_ocode.specs.Drafts.{context_in}
 use Rattle.bk_ocode.specs.Faults.{is_other_lab}

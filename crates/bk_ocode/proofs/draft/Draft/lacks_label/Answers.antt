@@ -1,4 +1,4 @@
-use Rattle.std.proofs.Common.{◌≡◌, sym, ◌∙◌, ap, not, ◌&&◌, List}
+use Rattle.std.proofs.Common.{◌∙◌, ap, not, ◌&&◌, List}
 use Rattle.std.specs.List.{list_all}
 use Rattle.bk_ocode.specs.Drafts.{context_in}
 use Rattle.bk_ocode.specs.Faults.{is_entry, data_set}

@@ -1,4 +1,4 @@
-use Rattle.std.proofs.Common.{◌≡◌, sym, ◌∙◌, ap, List, is_some}
+use Rattle.std.proofs.Common.{sym, ◌∙◌, ap, List, is_some}
 use Rattle.std.specs.List.{list_any}
 use Rattle.bk_ocode.specs.Drafts.{context_in}
 use Rattle.bk_ocode.specs.declared.stmt.Case.{Case}
