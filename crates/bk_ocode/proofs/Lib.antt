@@ -1,4 +1,10 @@
 pub mod Parts
+pub mod DraftLemmas
+pub mod KeywordLemmas
+pub mod CaseLemmas
+pub mod Completions
+pub mod ReadingLemmas
+pub mod FaultLemmas
 pub mod Rows
 pub mod SectionProp
 pub mod Depths

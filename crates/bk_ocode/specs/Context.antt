@@ -96,9 +96,12 @@ labels_named k count (DataAddress label) uses = changed label mentioned uses
 labels_named k count _ uses = uses
 
 -- the procedure begins at its ENTRY
+abbrev pub start_from : ℕ → ℕ → Stmt → ℕ
+start_from count start (Entry label name) = count
+start_from count start _ = start
+
 abbrev pub start_behind : Context → Stmt → ℕ
-start_behind c (Entry label name) = c.count
-start_behind c _ = c.start
+start_behind c s = start_from c.count c.start s
 
 -- what is left behind one statement more
 abbrev pub after : Context → Stmt → Context

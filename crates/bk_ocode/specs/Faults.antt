@@ -98,9 +98,12 @@ abbrev pub over : ℕ → Option ℕ → Bool
 over n None = false
 over n (Some depth) = nat_lt depth n
 
+abbrev pub left_behind : Option ℕ → Stmt → Bool
+left_behind least (TakeResult n) = over n least
+left_behind least _ = is_some least
+
 abbrev pub result_not_taken : Context → ℕ → Stmt → Bool
-result_not_taken c label (TakeResult n) = over n (c.uses label).result
-result_not_taken c label _ = is_some (c.uses label).result
+result_not_taken c label s = left_behind (c.uses label).result s
 
 abbrev pub follows_badly : Context → Position → Stmt → Bool
 follows_badly c (position.BehindLabel label) s = result_not_taken c label s

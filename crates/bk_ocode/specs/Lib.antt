@@ -16,8 +16,11 @@ pub mod Access
 pub mod Telling
 pub mod OcodeStep
 pub mod OcodeRun
-pub mod Words
-pub mod TextEnd
 pub mod FirstFault
 pub mod StepLaws
 pub mod SectionLaws
+pub mod KnownUses
+pub mod Drafts
+pub mod Keywords
+pub mod BegunStmts
+pub mod SectionAnswer

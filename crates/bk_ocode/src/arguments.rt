@@ -20,7 +20,7 @@ pub(crate) enum Argument {
 }
 
 /// The first word of a statement with one item.
-fn monadic_word(operator: Monadic) -> &'static str
+pub(crate) fn monadic_word(operator: Monadic) -> &'static str
     ensures { result.now ≡ monadic_keyword operator }
 {
     match operator {
@@ -31,7 +31,7 @@ fn monadic_word(operator: Monadic) -> &'static str
 }
 
 /// The first word of a statement with two items.
-fn dyadic_word(operator: Dyadic) -> &'static str
+pub(crate) fn dyadic_word(operator: Dyadic) -> &'static str
     ensures { result.now ≡ dyadic_keyword operator }
 {
     match operator {

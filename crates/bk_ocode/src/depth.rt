@@ -1,13 +1,12 @@
 //! Depths of statements.
-ghost use Rattle.std.specs.Prelude.{◌≡◌, ◌≤◌, max};
+ghost use Rattle.std.specs.Prelude.{◌≡◌, ◌<◌, ◌^◌, max};
 ghost use Rattle.bk_ocode.specs.Depth.{next_depth};
 
 use crate::stmt::Stmt;
-use bk_base::limit::FRAME_WORDS;
 
 /// The depth behind a statement that has this depth before it.
 pub(crate) fn depth_behind(depth: u32, stmt: &Stmt) -> u32
-    requires { next_depth depth stmt.now ≤ FRAME_WORDS }
+    requires { next_depth depth stmt.now < 2 ^ 32 }
     ensures { result ≡ next_depth depth stmt.now }
 {
     match stmt {

@@ -2,15 +2,23 @@
 #![tactic(auto)]
 
 mod arguments;
+mod begun;
 mod byte_string;
 mod case_list;
 mod depth;
+mod draft;
 mod global_list;
+mod keyword;
+mod label_uses;
 mod laws;
+mod places;
 mod printing;
+mod reading;
 mod section;
 mod standing;
 mod stmt;
+#[cfg(test)]
+mod tests;
 
 pub use byte_string::ByteString;
 pub use case_list::CaseList;
@@ -20,5 +28,6 @@ pub use laws::{
     step_keeps_below,
 };
 pub use printing::print;
+pub use reading::read_section;
 pub use section::Ocode;
 pub use stmt::{Case, Dyadic, GlobalEntry, Monadic, Stmt, Variable};

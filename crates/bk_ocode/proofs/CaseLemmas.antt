@@ -1,0 +1,76 @@
+-- Cases of a switch, one case more.
+use Rattle.std.proofs.Common.{◌≡◌, ◌⊎◌, inl, inr, ℕ, zero, suc, ℤ, FitsSigned, w32, ◌<◌, ◌^◌, ◌++◌, ◌||◌, Bool, true, false, if◌then◌else◌, List, [], ◌∷◌, Some, None, length, slice_get, arith, refl, sym, ap, ◌∙◌, subst, append_assoc}
+use Rattle.std.specs.Ordering.{int_eq}
+use Rattle.std.proofs.lemmas.Cmp.{int_eq_equiv}
+use Rattle.bk_base.specs.Decimal.{spelling}
+use Rattle.bk_ocode.specs.StmtText.{label_word, case_words}
+use Rattle.bk_ocode.specs.StmtRange.{IsLabel, AreCases}
+use Rattle.bk_ocode.specs.BegunStmts.{has_value}
+use Rattle.bk_ocode.specs.declared.stmt.Case.{Case}
+use Rattle.bk_ocode.proofs.Rows.{joined-append}
+
+pub at_push : {X : Type 0} (xs : List X) (y : X) (k : ℕ) (x : X) → slice_get (xs ++ y ∷ []) k ≡ Some x → ((k < length xs) × (slice_get xs k ≡ Some x)) ⊎ ((k ≡ length xs) × (y ≡ x))
+at_push [] y zero x is = inr (refl, cc)
+at_push [] y (suc k) x is = absurd (let h : None ≡ Some x = is in cc)
+at_push (z ∷ xs) y zero x is = inl (omega arith, is)
+at_push (z ∷ xs) y (suc k) x is = elim (at_push xs y k x is) [ inl p ↦ inl (omega (arith, p.0), p.1) | inr p ↦ inr (ap suc p.0, p.1) ]
+
+or_assoc : (a b c : Bool) → (a || (b || c)) ≡ ((a || b) || c)
+or_assoc true b c = refl
+or_assoc false b c = refl
+
+or_false : (a : Bool) → (a || false) ≡ a
+or_false true = refl
+or_false false = refl
+
+or_true : (a : Bool) → (a || true) ≡ true
+or_true true = refl
+or_true false = refl
+
+cond_or : (t a : Bool) → (if t then true else a) ≡ (a || t)
+cond_or true true = refl
+cond_or true false = refl
+cond_or false true = refl
+cond_or false false = refl
+
+has_value-push : (value : ℤ) (cases : List Case) (c : Case) → has_value value (cases ++ c ∷ []) ≡ (has_value value cases || int_eq c.value value)
+has_value-push value [] c = or_false (int_eq c.value value)
+has_value-push value (d ∷ cases) c = ap (λ b. int_eq d.value value || b) (has_value-push value cases c) ∙ or_assoc (int_eq d.value value) (has_value value cases) (int_eq c.value value)
+
+-- the table of values, one value more
+pub values-push : (value : ℤ) (cases all : List Case) (c : Case) (old new : Bool) → all ≡ cases ++ c ∷ [] → old ≡ has_value value cases → new ≡ (if int_eq c.value value then true else old) → new ≡ has_value value all
+values-push value cases all c old new is was now =
+    now ∙ cond_or (int_eq c.value value) old ∙ ap (λ b. b || int_eq c.value value) was ∙ sym (has_value-push value cases c) ∙ ap (has_value value) (sym is)
+
+has_value-at : (cases : List Case) (k : ℕ) (c : Case) (value : ℤ) → slice_get cases k ≡ Some c → c.value ≡ value → has_value value cases ≡ true
+has_value-at [] k c value at is = absurd (let h : None ≡ Some c = at in cc)
+has_value-at (d ∷ cases) zero c value at is =
+    let same : d ≡ c = cc in
+    let eq : int_eq d.value value ≡ true = ap (λ (x : Case). int_eq x.value value) same ∙ ap (λ (z : ℤ). int_eq z value) is ∙ int_eq_equiv.refl value in
+    ap (λ b. b || has_value value cases) eq
+has_value-at (d ∷ cases) (suc k) c value at is = ap (λ b. int_eq d.value value || b) (has_value-at cases k c value at is) ∙ or_true (int_eq d.value value)
+
+pub AreCases-push : (cases all : List Case) (c : Case) → all ≡ cases ++ c ∷ [] → AreCases cases → IsLabel c.label → has_value c.value cases ≡ false → length all < 2 ^ 31 → AreCases all
+AreCases-push cases all c is are label new few = subst AreCases (sym is) (record {
+  once = λ j k d e at_j at_k same. elim (at_push cases c j d at_j) [
+    | inl p ↦ elim (at_push cases c k e at_k) [
+      | inl q ↦ are.once j k d e p.1 q.1 same
+      | inr q ↦ absurd (let h : true ≡ false = sym (has_value-at cases j d c.value p.1 (same ∙ ap (λ (x : Case). x.value) (sym q.1))) ∙ new in cc)
+    ]
+    | inr p ↦ elim (at_push cases c k e at_k) [
+      | inl q ↦ absurd (let h : true ≡ false = sym (has_value-at cases k e c.value q.1 (sym same ∙ ap (λ (x : Case). x.value) (sym p.1))) ∙ new in cc)
+      | inr q ↦ p.0 ∙ sym q.0
+    ]
+  ];
+  labels = λ k d at. elim (at_push cases c k d at) [ inl p ↦ are.labels k d p.1 | inr p ↦ subst (λ (x : Case). IsLabel x.label) p.1 label ];
+  counted = subst (λ (l : List Case). length l < 2 ^ 31) is few;
+})
+
+pub typed-push : (cases all : List Case) (c : Case) → all ≡ cases ++ c ∷ [] → ((k : ℕ) (d : Case) → slice_get cases k ≡ Some d → FitsSigned w32 d.value) → FitsSigned w32 c.value →
+    (k : ℕ) (d : Case) → slice_get all k ≡ Some d → FitsSigned w32 d.value
+typed-push cases all c is are fits k d at = elim (at_push cases c k d (ap (λ (l : List Case). slice_get l k) (sym is) ∙ at)) [ inl p ↦ are k d p.1 | inr p ↦ subst (λ (x : Case). FitsSigned w32 x.value) p.1 fits ]
+
+pub case_words-push : (cases all : List Case) (c : Case) (word : List ℕ) → all ≡ cases ++ c ∷ [] → label_word c.label ≡ word → case_words all ≡ (case_words cases ++ spelling c.value ∷ []) ++ word ∷ []
+case_words-push cases all c word is label =
+    ap case_words is ∙ joined-append (λ (d : Case). spelling d.value ∷ label_word d.label ∷ []) cases (c ∷ [])
+    ∙ ap (λ (w : List ℕ). case_words cases ++ spelling c.value ∷ w ∷ []) label ∙ sym (append_assoc (case_words cases) (spelling c.value ∷ []) (word ∷ []))

@@ -1,0 +1,188 @@
+-- The first fault of a text, from what was read of it.
+use Rattle.std.proofs.Common.{◌≡◌, ◌≢◌, ◌⊎◌, inl, inr, ℕ, ◌+◌, ◌<◌, ◌≤◌, ◌++◌, Bool, true, false, List, [], ◌∷◌, Option, Some, None, Result, Ok, Err, length, if◌then◌else◌, arith, refl, sym, ◌∙◌, ap, subst, length-append, append_assoc}
+use Rattle.bk_base.specs.declared.limit.TheConstants.{OCODE_WORDS}
+use Rattle.bk_base.specs.declared.ocode_fault.OcodeKind.{OcodeKind}
+use Rattle.bk_base.specs.declared.ocode_fault.OcodeKind.TheVariants.{BadWord, BadNumber, Truncated, LabelNotSet, LabelSetTwice, DepthsDisagree, SlotAboveDepth, TooLong}
+use Rattle.bk_words.specs.TextEnd.{AtEnd}
+use Rattle.bk_words.specs.Taking.{TakesWords, TakesSome, Reads, ReadsAll}
+use Rattle.bk_ocode.specs.StmtText.{keyword, argument_words, stmt_words}
+use Rattle.bk_ocode.specs.SectionText.{section_words}
+use Rattle.bk_ocode.specs.Context.{Context, at_start, after, after_all, context_of}
+use Rattle.bk_ocode.specs.Faults.{misplaced, label_not_set, label_set_twice, depths_disagree, slot_above, too_long, fault_in, stmt_fault}
+use Rattle.bk_ocode.specs.FirstFault.{IsBegun, IsStmt, BeginsStmt}
+use Rattle.bk_ocode.specs.SectionAnswer.{Takes, FaultTold, GivesFault, Answers}
+use Rattle.std.proofs.lemmas.Bool.{cases_lt}
+use Rattle.bk_base.specs.declared.ocode_fault.OcodeFault.{OcodeFault}
+use Rattle.bk_base.specs.declared.refused.Refused.{Refused}
+use Rattle.bk_base.specs.declared.refused.Refused.TheVariants.{Fault}
+use Rattle.bk_ocode.specs.BegunStmts.{owner_words, begun_words, part_words, refusal}
+use Rattle.bk_ocode.specs.declared.begun.Owner.{Owner}
+use Rattle.bk_ocode.specs.declared.begun.Owner.TheVariants as owners
+use Rattle.bk_ocode.specs.declared.begun.Begun.{Begun}
+use Rattle.bk_ocode.specs.declared.begun.Begun.TheVariants as begun
+use Rattle.bk_ocode.specs.declared.begun.Unfit.{Unfit}
+use Rattle.bk_ocode.specs.declared.begun.Unfit.TheVariants as unfits
+use Rattle.bk_ocode.specs.declared.section.Ocode.{Ocode}
+use Rattle.bk_ocode.proofs.ReadingLemmas.{nothing_left}
+use Rattle.bk_ocode.specs.declared.stmt.Stmt.{Stmt}
+
+some_if : (b : Bool) (x k : OcodeKind) (r : Option OcodeKind) → (if b then Some x else r) ≡ Some k → ((b ≡ true) × (x ≡ k)) ⊎ ((b ≡ false) × (r ≡ Some k))
+some_if true x k r e = inl (refl, cc)
+some_if false x k r e = inr (refl, e)
+
+-- the rules have no other faults
+pub no_rule : (before : List Stmt) (c : Context) (s : Stmt) (kind : OcodeKind) → misplaced c s ≡ false → fault_in before c s ≡ Some kind → (BadWord ≢ kind) × (BadNumber ≢ kind) × (Truncated ≢ kind)
+no_rule before c s kind placed is = elim (some_if (misplaced c s) BadWord kind _ is) [
+  | inl p ↦ absurd (let h : true ≡ false = sym p.0 ∙ placed in cc)
+  | inr p ↦ elim (some_if (label_not_set before c s) LabelNotSet kind _ p.1) [
+    | inl q ↦ ((λ e. let h : BadWord ≡ LabelNotSet = e ∙ sym q.1 in cc), (λ e. let h : BadNumber ≡ LabelNotSet = e ∙ sym q.1 in cc), (λ e. let h : Truncated ≡ LabelNotSet = e ∙ sym q.1 in cc))
+    | inr q ↦ elim (some_if (label_set_twice c s) LabelSetTwice kind _ q.1) [
+      | inl r ↦ ((λ e. let h : BadWord ≡ LabelSetTwice = e ∙ sym r.1 in cc), (λ e. let h : BadNumber ≡ LabelSetTwice = e ∙ sym r.1 in cc), (λ e. let h : Truncated ≡ LabelSetTwice = e ∙ sym r.1 in cc))
+      | inr r ↦ elim (some_if (depths_disagree c s) DepthsDisagree kind _ r.1) [
+        | inl t ↦ ((λ e. let h : BadWord ≡ DepthsDisagree = e ∙ sym t.1 in cc), (λ e. let h : BadNumber ≡ DepthsDisagree = e ∙ sym t.1 in cc), (λ e. let h : Truncated ≡ DepthsDisagree = e ∙ sym t.1 in cc))
+        | inr t ↦ elim (some_if (slot_above c s) SlotAboveDepth kind _ t.1) [
+          | inl u ↦ ((λ e. let h : BadWord ≡ SlotAboveDepth = e ∙ sym u.1 in cc), (λ e. let h : BadNumber ≡ SlotAboveDepth = e ∙ sym u.1 in cc), (λ e. let h : Truncated ≡ SlotAboveDepth = e ∙ sym u.1 in cc))
+          | inr u ↦ elim (some_if (too_long c s) TooLong kind None u.1) [
+            | inl v ↦ ((λ e. let h : BadWord ≡ TooLong = e ∙ sym v.1 in cc), (λ e. let h : BadNumber ≡ TooLong = e ∙ sym v.1 in cc), (λ e. let h : Truncated ≡ TooLong = e ∙ sym v.1 in cc))
+            | inr v ↦ absurd (let h : None ≡ Some kind = v.1 in cc)
+          ]
+        ]
+      ]
+    ]
+  ]
+]
+
+rule_told : (before : List Stmt) (s : Stmt) (part : List (List ℕ)) (kind : OcodeKind) → IsStmt s → stmt_words s ≡ part → (BadWord ≢ kind) × (BadNumber ≢ kind) × (Truncated ≢ kind) → stmt_fault before s ≡ Some kind → FaultTold before part kind
+rule_told before s part BadWord fits words others is = absurd (others.0 refl)
+rule_told before s part BadNumber fits words others is = absurd (others.1 refl)
+rule_told before s part Truncated fits words others is = absurd (others.2 refl)
+rule_told before s part LabelNotSet fits words others is = record { stmt = s; is_stmt = fits; words = sym words; breaks = is }
+rule_told before s part LabelSetTwice fits words others is = record { stmt = s; is_stmt = fits; words = sym words; breaks = is }
+rule_told before s part DepthsDisagree fits words others is = record { stmt = s; is_stmt = fits; words = sym words; breaks = is }
+rule_told before s part SlotAboveDepth fits words others is = record { stmt = s; is_stmt = fits; words = sym words; breaks = is }
+rule_told before s part TooLong fits words others is = inl (record { stmt = s; is_stmt = fits; words = sym words; breaks = is })
+
+taken_some : (taken : List ℕ) (end : Type 0) (words : List (List ℕ)) → 0 < length words → TakesSome taken end words → TakesWords taken end words
+taken_some taken end words some (inl p) = absurd (omega (arith, some, ap (λ (l : List (List ℕ)). length l) p.1))
+taken_some taken end words some (inr t) = t
+
+-- a fault that is told of these words
+pub told_at : (old b : Option (List ℕ)) (f : Bool) (k number : ℕ) (kind : OcodeKind) (stmts : List Stmt) (part : List (List ℕ)) → IsBegun stmts → number ≡ length stmts + 1 → 0 < length part →
+    Reads old b f k (section_words stmts ++ part) → FaultTold stmts part kind → Takes old b f (λ taken end. GivesFault taken end number kind)
+told_at old b f k number kind stmts part begun place some reads fault = (
+  reads.0,
+  reads.1,
+  inl (record {
+    before = stmts;
+    begun = begun;
+    part = part;
+    place = place;
+    are = taken_some reads.0 (AtEnd f (length reads.0)) (section_words stmts ++ part) (omega (arith, some, length-append (section_words stmts) part))
+        (subst (λ n. TakesSome reads.0 (AtEnd f n) (section_words stmts ++ part)) reads.2 reads.3);
+    fault = fault;
+  }),
+)
+
+-- the fault of a rule
+pub rule_at : (old b : Option (List ℕ)) (f : Bool) (k number : ℕ) (kind : OcodeKind) (stmts : List Stmt) (part : List (List ℕ)) (w : List ℕ) (s : Stmt) → IsBegun stmts → number ≡ length stmts + 1 →
+    Reads old b f k ((section_words stmts ++ part) ++ w ∷ []) → IsStmt s → stmt_words s ≡ part ++ w ∷ [] → misplaced (context_of stmts) s ≡ false → stmt_fault stmts s ≡ Some kind →
+    Takes old b f (λ taken end. GivesFault taken end number kind)
+rule_at old b f k number kind stmts part w s begun place reads fits words placed is =
+    told_at old b f k number kind stmts (part ++ w ∷ []) begun place (omega (arith, length-append part (w ∷ [])))
+    (subst (λ (l : List (List ℕ)). Reads old b f k l) (append_assoc (section_words stmts) part (w ∷ [])) reads)
+    (rule_told stmts s (part ++ w ∷ []) kind fits words (no_rule stmts (context_of stmts) s kind placed is) is)
+
+-- too many words
+pub filled_at : (old b : Option (List ℕ)) (f : Bool) (k number n m : ℕ) (stmts : List Stmt) (part : List (List ℕ)) → IsBegun stmts → number ≡ length stmts + 1 → n ≡ length (section_words stmts) → m ≡ length part →
+    n + m ≡ OCODE_WORDS + 1 → 0 < m → (0 < length part → BeginsStmt stmts part) → Reads old b f k (section_words stmts ++ part) → Takes old b f (λ taken end. GivesFault taken end number TooLong)
+filled_at old b f k number n m stmts part begun place all own full some begins reads =
+    told_at old b f k number TooLong stmts part begun place (omega (arith, own, some)) reads
+    (inr (record { begun = begins (omega (arith, own, some)); past = omega (arith, length-append (section_words stmts) part, all, own, full) }))
+
+-- the text ends
+pub cut_at : (old b : Option (List ℕ)) (f : Bool) (k number : ℕ) (stmts : List Stmt) (part : List (List ℕ)) → IsBegun stmts → number ≡ length stmts + 1 → 0 < length (section_words stmts ++ part) →
+    (part ≡ []) ⊎ BeginsStmt stmts part → ReadsAll old b f k (section_words stmts ++ part) → Takes old b f (λ taken end. GivesFault taken end number Truncated)
+cut_at old b f k number stmts part begun place some goes_on reads = (
+  reads.0,
+  reads.1,
+  inr (
+    refl,
+    subst (λ n. AtEnd f n) reads.2 reads.4,
+    record {
+      before = stmts;
+      begun = begun;
+      part = part;
+      some = omega (arith, some, ap (λ (l : List (List ℕ)). length l) reads.3);
+      are = reads.3;
+      place = place;
+      goes_on = goes_on;
+    },
+  ),
+)
+
+-- words of statements are no fewer than the statements
+pub many_words : (stmts : List Stmt) → length stmts ≤ length (section_words stmts)
+many_words [] = omega arith
+many_words (s ∷ rest) = omega (arith, many_words rest, length-append (stmt_words s) (section_words rest))
+
+owner_some : (owner : Owner) (more : List (List ℕ)) → 0 < length (owner_words owner ++ more)
+owner_some owners.Text more = omega arith
+owner_some (owners.Entry label) more = omega arith
+
+some_of : (owner : Owner) → 0 < length (owner_words owner)
+some_of owners.Text = omega arith
+some_of (owners.Entry label) = omega arith
+
+begun_some : (b : Begun) → 0 < length (begun_words b)
+begun_some (begun.Short k) = omega arith
+begun_some begun.EntryLabel = omega arith
+begun_some (begun.Length owner) = some_of owner
+begun_some (begun.Bytes owner bytes count) = owner_some owner _
+begun_some begun.CaseCount = omega arith
+begun_some (begun.Default count) = omega arith
+begun_some (begun.CaseValue draft) = omega arith
+begun_some (begun.CaseLabel draft value) = omega arith
+begun_some begun.GlobalCount = omega arith
+begun_some (begun.GlobalNumber draft) = omega arith
+begun_some (begun.GlobalLabel draft number) = omega arith
+
+-- what begins with these words may stand there
+pub placed_more : (c : Context) (part : Option Begun) (next : List (List ℕ)) (w : List ℕ) → next ≡ part_words part ++ w ∷ [] →
+    ((s : Stmt) (rest : List (List ℕ)) → 0 < length (part_words part) → stmt_words s ≡ part_words part ++ rest → misplaced c s ≡ false) →
+    (part ≡ None → (s : Stmt) → keyword s ≡ w → misplaced c s ≡ false) → (s : Stmt) (rest : List (List ℕ)) → stmt_words s ≡ next ++ rest → misplaced c s ≡ false
+placed_more c None next w is old first s rest words =
+    first refl s (let h : keyword s ∷ argument_words s ≡ w ∷ rest = words ∙ ap (λ (l : List (List ℕ)). l ++ rest) is in cc)
+placed_more c (Some b) next w is old first s rest words =
+    old s (w ∷ rest) (begun_some b) (words ∙ ap (λ (l : List (List ℕ)). l ++ rest) is ∙ append_assoc (begun_words b) (w ∷ []) rest)
+
+after_all-words : (c : Context) (stmts : List Stmt) → (after_all c stmts).words ≡ c.words + length (section_words stmts)
+after_all-words c [] = omega arith
+after_all-words c (s ∷ rest) = omega (arith, after_all-words (after c s) rest, length-append (stmt_words s) (section_words rest))
+
+pub words_tally : (k : Context) (stmts : List Stmt) → k ≡ context_of stmts → k.words ≡ length (section_words stmts)
+words_tally k stmts is = ap (λ (c : Context). c.words) is ∙ omega (arith, after_all-words at_start stmts)
+
+-- a word that does not fit
+pub refused_at : (old b : Option (List ℕ)) (f : Bool) (k count : ℕ) (stmts : List Stmt) (part : Option Begun) (w : List ℕ) (unfit : Unfit) → IsBegun stmts → count ≡ length stmts →
+    Reads old b f k ((section_words stmts ++ part_words part) ++ w ∷ []) →
+    (unfit ≡ unfits.BadWord → (part ≡ None) × ((s : Stmt) → keyword s ≡ w → misplaced (context_of stmts) s ≡ true)) → Answers (Err (refusal count unfit)) old b f
+refused_at old b f k count stmts part w unfits.Memory begun is reads bad = tt
+refused_at old b f k count stmts part w unfits.BadNumber begun is reads bad =
+    told_at old b f k (count + 1) BadNumber stmts (part_words part ++ w ∷ []) begun (ap (λ n. n + 1) is) (omega (arith, length-append (part_words part) (w ∷ [])))
+    (subst (λ (l : List (List ℕ)). Reads old b f k l) (append_assoc (section_words stmts) (part_words part) (w ∷ [])) reads)
+    (omega (arith, length-append (part_words part) (w ∷ [])))
+refused_at old b f k count stmts part w unfits.BadWord begun is reads bad =
+    told_at old b f k (count + 1) BadWord stmts (w ∷ []) begun (ap (λ n. n + 1) is) (omega arith)
+    (subst (λ (l : List (List ℕ)). Reads old b f k l) (append_assoc (section_words stmts) (part_words part) (w ∷ []) ∙ ap (λ (p : Option Begun). section_words stmts ++ (part_words p ++ w ∷ [])) (bad refl).0) reads)
+    (record { word = w; first = refl; misplaced = (bad refl).1 })
+
+-- the text ends
+pub end_at : (old b : Option (List ℕ)) (f : Bool) (k count words : ℕ) (stmts : List Stmt) (part : List (List ℕ)) (r : Result (Option Ocode) (Refused OcodeFault)) → IsBegun stmts → count ≡ length stmts → words ≡ length part →
+    (count + words ≡ 0 → r ≡ Ok None) → (0 < count + words → r ≡ Err (Fault (record { statement = count + 1; kind = Truncated }))) →
+    (part ≡ []) ⊎ BeginsStmt stmts part → ReadsAll old b f k (section_words stmts ++ part) → Answers r old b f
+end_at old b f k count words stmts part r begun is own none some goes_on reads = elim (cases_lt 0 (count + words)) [
+  | inl low ↦ subst (λ (x : Result (Option Ocode) (Refused OcodeFault)). Answers x old b f) (sym (some low))
+      (cut_at old b f k (count + 1) stmts part begun (ap (λ n. n + 1) is) (omega (arith, low, is, own, many_words stmts, length-append (section_words stmts) part)) goes_on reads)
+  | inr high ↦ subst (λ (x : Result (Option Ocode) (Refused OcodeFault)). Answers x old b f) (sym (none (omega (arith, high))))
+      (nothing_left old b f k stmts part (omega (arith, high, is)) (omega (arith, high, own)) reads)
+]

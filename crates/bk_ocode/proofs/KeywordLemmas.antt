@@ -1,0 +1,296 @@
+-- The words that begin statements are known again.
+use Rattle.std.proofs.Common.{◌≡◌, ◌≢◌, ℕ, List, [], ◌∷◌, Bool, true, false, not, ◌≤◌, ◌<◌, length, arith, Some, None, refl, sym, ap, ◌∙◌}
+use Rattle.bk_ocode.specs.StmtText.{keyword}
+use Rattle.bk_ocode.specs.Places.{role, may_stand}
+use Rattle.bk_ocode.specs.Context.{Context}
+use Rattle.bk_ocode.specs.Faults.{misplaced}
+use Rattle.bk_ocode.specs.declared.standing.Role.{Role}
+use Rattle.bk_ocode.specs.Keywords.{keyword_text, find_keyword, keyword_of_stmt, keyword_role}
+use Rattle.bk_ocode.specs.declared.stmt.Variable.TheVariants as variable
+use Rattle.bk_ocode.specs.declared.stmt.Monadic.TheVariants as monadic
+use Rattle.bk_ocode.specs.declared.stmt.Dyadic.TheVariants as dyadic
+use Rattle.bk_ocode.specs.declared.stmt.Stmt.{Stmt}
+use Rattle.bk_ocode.specs.declared.stmt.Stmt.TheVariants as stmt
+use Rattle.bk_ocode.specs.declared.keyword.Kind.TheVariants as kinds
+use Rattle.bk_ocode.specs.declared.keyword.Keyword.{Keyword}
+use Rattle.bk_ocode.specs.declared.keyword.Keyword.TheVariants.{Number, True, False, Query, Text, LoadByte, AssignAt, AssignByte, Jump, Label, GiveResult, TakeResult, Stack, Store, Entry, Save, CallFunction, CallRoutine, ReturnItem, Return, EndProcedure, Switch, Finish, DataLabel, DataNumber, DataAddress, Globals, Load, Address, Assign, Monadic, Dyadic, JumpIf}
+
+abbrev pub keywords : List Keyword
+keywords =
+    Number ∷
+    True ∷
+    False ∷
+    Query ∷
+    Text ∷
+    LoadByte ∷
+    AssignAt ∷
+    AssignByte ∷
+    Jump ∷
+    Label ∷
+    GiveResult ∷
+    TakeResult ∷
+    Stack ∷
+    Store ∷
+    Entry ∷
+    Save ∷
+    CallFunction ∷
+    CallRoutine ∷
+    ReturnItem ∷
+    Return ∷
+    EndProcedure ∷
+    Switch ∷
+    Finish ∷
+    DataLabel ∷
+    DataNumber ∷
+    DataAddress ∷
+    Globals ∷
+    (Load kinds.Local) ∷
+    (Load kinds.Global) ∷
+    (Load kinds.Static) ∷
+    (Address kinds.Local) ∷
+    (Address kinds.Global) ∷
+    (Address kinds.Static) ∷
+    (Assign kinds.Local) ∷
+    (Assign kinds.Global) ∷
+    (Assign kinds.Static) ∷
+    (Monadic monadic.Contents) ∷
+    (Monadic monadic.Negate) ∷
+    (Monadic monadic.Not) ∷
+    (Dyadic dyadic.Multiply) ∷
+    (Dyadic dyadic.Divide) ∷
+    (Dyadic dyadic.Remainder) ∷
+    (Dyadic dyadic.Add) ∷
+    (Dyadic dyadic.Subtract) ∷
+    (Dyadic dyadic.Equal) ∷
+    (Dyadic dyadic.Unequal) ∷
+    (Dyadic dyadic.Less) ∷
+    (Dyadic dyadic.Greater) ∷
+    (Dyadic dyadic.AtMost) ∷
+    (Dyadic dyadic.AtLeast) ∷
+    (Dyadic dyadic.ShiftLeft) ∷
+    (Dyadic dyadic.ShiftRight) ∷
+    (Dyadic dyadic.And) ∷
+    (Dyadic dyadic.Or) ∷
+    (Dyadic dyadic.Eqv) ∷
+    (Dyadic dyadic.Neqv) ∷
+    (JumpIf true) ∷
+    (JumpIf false) ∷ []
+
+-- each is found
+pub all_found : (k : Keyword) → find_keyword keywords (keyword_text k) ≡ Some k
+all_found Number = refl
+all_found True = refl
+all_found False = refl
+all_found Query = refl
+all_found Text = refl
+all_found LoadByte = refl
+all_found AssignAt = refl
+all_found AssignByte = refl
+all_found Jump = refl
+all_found Label = refl
+all_found GiveResult = refl
+all_found TakeResult = refl
+all_found Stack = refl
+all_found Store = refl
+all_found Entry = refl
+all_found Save = refl
+all_found CallFunction = refl
+all_found CallRoutine = refl
+all_found ReturnItem = refl
+all_found Return = refl
+all_found EndProcedure = refl
+all_found Switch = refl
+all_found Finish = refl
+all_found DataLabel = refl
+all_found DataNumber = refl
+all_found DataAddress = refl
+all_found Globals = refl
+all_found (Load kinds.Local) = refl
+all_found (Load kinds.Global) = refl
+all_found (Load kinds.Static) = refl
+all_found (Address kinds.Local) = refl
+all_found (Address kinds.Global) = refl
+all_found (Address kinds.Static) = refl
+all_found (Assign kinds.Local) = refl
+all_found (Assign kinds.Global) = refl
+all_found (Assign kinds.Static) = refl
+all_found (Monadic monadic.Contents) = refl
+all_found (Monadic monadic.Negate) = refl
+all_found (Monadic monadic.Not) = refl
+all_found (Dyadic dyadic.Multiply) = refl
+all_found (Dyadic dyadic.Divide) = refl
+all_found (Dyadic dyadic.Remainder) = refl
+all_found (Dyadic dyadic.Add) = refl
+all_found (Dyadic dyadic.Subtract) = refl
+all_found (Dyadic dyadic.Equal) = refl
+all_found (Dyadic dyadic.Unequal) = refl
+all_found (Dyadic dyadic.Less) = refl
+all_found (Dyadic dyadic.Greater) = refl
+all_found (Dyadic dyadic.AtMost) = refl
+all_found (Dyadic dyadic.AtLeast) = refl
+all_found (Dyadic dyadic.ShiftLeft) = refl
+all_found (Dyadic dyadic.ShiftRight) = refl
+all_found (Dyadic dyadic.And) = refl
+all_found (Dyadic dyadic.Or) = refl
+all_found (Dyadic dyadic.Eqv) = refl
+all_found (Dyadic dyadic.Neqv) = refl
+all_found (JumpIf true) = refl
+all_found (JumpIf false) = refl
+
+pub none_found : (word : List ℕ) → find_keyword keywords word ≡ None → (k : Keyword) → keyword_text k ≢ word
+none_found word none k is = let h : None ≡ Some k = sym none ∙ ap (λ (w : List ℕ). find_keyword keywords w) (sym is) ∙ all_found k in cc
+
+-- no two have one word
+pub same_keyword : (j k : Keyword) → keyword_text j ≡ keyword_text k → j ≡ k
+same_keyword j k is = let h : Some j ≡ Some k = sym (all_found j) ∙ ap (λ (w : List ℕ). find_keyword keywords w) is ∙ all_found k in cc
+
+-- a statement begins with the word of its keyword, and stands where it says
+pub begins_so : (s : Stmt) → keyword s ≡ keyword_text (keyword_of_stmt s)
+begins_so (stmt.Number value) = refl
+begins_so stmt.True = refl
+begins_so stmt.False = refl
+begins_so stmt.Query = refl
+begins_so (stmt.Load (variable.Local n)) = refl
+begins_so (stmt.Load (variable.Global n)) = refl
+begins_so (stmt.Load (variable.Static l)) = refl
+begins_so (stmt.Address (variable.Local n)) = refl
+begins_so (stmt.Address (variable.Global n)) = refl
+begins_so (stmt.Address (variable.Static l)) = refl
+begins_so (stmt.Text bytes) = refl
+begins_so (stmt.Monadic operator) = refl
+begins_so (stmt.Dyadic operator) = refl
+begins_so stmt.LoadByte = refl
+begins_so (stmt.Assign (variable.Local n)) = refl
+begins_so (stmt.Assign (variable.Global n)) = refl
+begins_so (stmt.Assign (variable.Static l)) = refl
+begins_so stmt.AssignAt = refl
+begins_so stmt.AssignByte = refl
+begins_so (stmt.Jump label) = refl
+begins_so (stmt.JumpIf truth label) = refl
+begins_so (stmt.Label label) = refl
+begins_so (stmt.GiveResult label) = refl
+begins_so (stmt.TakeResult depth) = refl
+begins_so (stmt.Stack depth) = refl
+begins_so stmt.Store = refl
+begins_so (stmt.Entry label name) = refl
+begins_so (stmt.Save depth) = refl
+begins_so (stmt.CallFunction frame) = refl
+begins_so (stmt.CallRoutine frame) = refl
+begins_so stmt.ReturnItem = refl
+begins_so stmt.Return = refl
+begins_so stmt.EndProcedure = refl
+begins_so (stmt.Switch default cases) = refl
+begins_so stmt.Finish = refl
+begins_so (stmt.DataLabel label) = refl
+begins_so (stmt.DataNumber value) = refl
+begins_so (stmt.DataAddress label) = refl
+begins_so (stmt.Globals entries) = refl
+
+pub stands_so : (s : Stmt) → role s ≡ keyword_role (keyword_of_stmt s)
+stands_so (stmt.Number value) = refl
+stands_so stmt.True = refl
+stands_so stmt.False = refl
+stands_so stmt.Query = refl
+stands_so (stmt.Load from) = refl
+stands_so (stmt.Address of) = refl
+stands_so (stmt.Text bytes) = refl
+stands_so (stmt.Monadic operator) = refl
+stands_so (stmt.Dyadic operator) = refl
+stands_so stmt.LoadByte = refl
+stands_so (stmt.Assign to) = refl
+stands_so stmt.AssignAt = refl
+stands_so stmt.AssignByte = refl
+stands_so (stmt.Jump label) = refl
+stands_so (stmt.JumpIf truth label) = refl
+stands_so (stmt.Label label) = refl
+stands_so (stmt.GiveResult label) = refl
+stands_so (stmt.TakeResult depth) = refl
+stands_so (stmt.Stack depth) = refl
+stands_so stmt.Store = refl
+stands_so (stmt.Entry label name) = refl
+stands_so (stmt.Save depth) = refl
+stands_so (stmt.CallFunction frame) = refl
+stands_so (stmt.CallRoutine frame) = refl
+stands_so stmt.ReturnItem = refl
+stands_so stmt.Return = refl
+stands_so stmt.EndProcedure = refl
+stands_so (stmt.Switch default cases) = refl
+stands_so stmt.Finish = refl
+stands_so (stmt.DataLabel label) = refl
+stands_so (stmt.DataNumber value) = refl
+stands_so (stmt.DataAddress label) = refl
+stands_so (stmt.Globals entries) = refl
+
+-- none is long
+short : (k : Keyword) → length (keyword_text k) ≤ 8
+short Number = omega arith
+short True = omega arith
+short False = omega arith
+short Query = omega arith
+short Text = omega arith
+short LoadByte = omega arith
+short AssignAt = omega arith
+short AssignByte = omega arith
+short Jump = omega arith
+short Label = omega arith
+short GiveResult = omega arith
+short TakeResult = omega arith
+short Stack = omega arith
+short Store = omega arith
+short Entry = omega arith
+short Save = omega arith
+short CallFunction = omega arith
+short CallRoutine = omega arith
+short ReturnItem = omega arith
+short Return = omega arith
+short EndProcedure = omega arith
+short Switch = omega arith
+short Finish = omega arith
+short DataLabel = omega arith
+short DataNumber = omega arith
+short DataAddress = omega arith
+short Globals = omega arith
+short (Load kinds.Local) = omega arith
+short (Load kinds.Global) = omega arith
+short (Load kinds.Static) = omega arith
+short (Address kinds.Local) = omega arith
+short (Address kinds.Global) = omega arith
+short (Address kinds.Static) = omega arith
+short (Assign kinds.Local) = omega arith
+short (Assign kinds.Global) = omega arith
+short (Assign kinds.Static) = omega arith
+short (Monadic monadic.Contents) = omega arith
+short (Monadic monadic.Negate) = omega arith
+short (Monadic monadic.Not) = omega arith
+short (Dyadic dyadic.Multiply) = omega arith
+short (Dyadic dyadic.Divide) = omega arith
+short (Dyadic dyadic.Remainder) = omega arith
+short (Dyadic dyadic.Add) = omega arith
+short (Dyadic dyadic.Subtract) = omega arith
+short (Dyadic dyadic.Equal) = omega arith
+short (Dyadic dyadic.Unequal) = omega arith
+short (Dyadic dyadic.Less) = omega arith
+short (Dyadic dyadic.Greater) = omega arith
+short (Dyadic dyadic.AtMost) = omega arith
+short (Dyadic dyadic.AtLeast) = omega arith
+short (Dyadic dyadic.ShiftLeft) = omega arith
+short (Dyadic dyadic.ShiftRight) = omega arith
+short (Dyadic dyadic.And) = omega arith
+short (Dyadic dyadic.Or) = omega arith
+short (Dyadic dyadic.Eqv) = omega arith
+short (Dyadic dyadic.Neqv) = omega arith
+short (JumpIf true) = omega arith
+short (JumpIf false) = omega arith
+
+pub not_long : (s : Stmt) (word : List ℕ) → 16 < length word → keyword s ≢ word
+not_long s word long is = absurd (omega (arith, short (keyword_of_stmt s), ap (λ (w : List ℕ). length w) (sym (begins_so s)), ap (λ (w : List ℕ). length w) is, long))
+
+-- a word that is none begins no statement
+pub begins_none : (word : List ℕ) → ((k : Keyword) → keyword_text k ≢ word) → (s : Stmt) → keyword s ≢ word
+begins_none word none s is = none (keyword_of_stmt s) (sym (begins_so s) ∙ is)
+
+-- a statement that begins with the word stands where its keyword says
+pub placed_so : (c : Context) (k : Keyword) (word : List ℕ) (s : Stmt) (b : Bool) → keyword_text k ≡ word → keyword s ≡ word → may_stand c.position (keyword_role k) ≡ b → misplaced c s ≡ not b
+placed_so c k word s b text is stands =
+    let same : keyword_of_stmt s ≡ k = same_keyword (keyword_of_stmt s) k (sym (begins_so s) ∙ is ∙ sym text) in
+    ap (λ (r : Role). not (may_stand c.position r)) (stands_so s ∙ ap keyword_role same) ∙ ap not stands

@@ -1,0 +1,8 @@
+use Rattle.std.proofs.Common.{◌≡◌, true, take}
+use Rattle.std.specs.List.{list_all}
+use Rattle.bk_ocode.specs.KnownUses.{uses_of}
+use Rattle.bk_ocode.specs.Faults.{is_entry}
+use Rattle.bk_ocode.proofs.draft.Draft.are_procedures.Given as goal
+
+abbrev pub invariant-loop-entry : goal.invariant-loop-entry
+invariant-loop-entry l = list_all (λ e. is_entry (uses_of l.self.uses e.label).setting) (take l.entry-index l.entries) ≡ true

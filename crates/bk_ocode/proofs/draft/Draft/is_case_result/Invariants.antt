@@ -1,0 +1,7 @@
+use Rattle.std.proofs.Common.{◌≡◌, false, take, is_some}
+use Rattle.std.specs.List.{list_any}
+use Rattle.bk_ocode.specs.KnownUses.{uses_of}
+use Rattle.bk_ocode.proofs.draft.Draft.is_case_result.Given as goal
+
+abbrev pub invariant-loop-case : goal.invariant-loop-case
+invariant-loop-case l = list_any (λ c. is_some (uses_of l.self.uses c.label).result) (take l.case-index l.cases) ≡ false

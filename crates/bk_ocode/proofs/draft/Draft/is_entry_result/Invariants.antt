@@ -1,0 +1,7 @@
+use Rattle.std.proofs.Common.{◌≡◌, false, take, is_some}
+use Rattle.std.specs.List.{list_any}
+use Rattle.bk_ocode.specs.KnownUses.{uses_of}
+use Rattle.bk_ocode.proofs.draft.Draft.is_entry_result.Given as goal
+
+abbrev pub invariant-loop-entry : goal.invariant-loop-entry
+invariant-loop-entry l = list_any (λ e. is_some (uses_of l.self.uses e.label).result) (take l.entry-index l.entries) ≡ false

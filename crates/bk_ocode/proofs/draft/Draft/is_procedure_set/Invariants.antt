@@ -1,0 +1,8 @@
+use Rattle.std.proofs.Common.{◌≡◌, true, take}
+use Rattle.std.specs.List.{list_all}
+use Rattle.bk_ocode.specs.Faults.{jumps_set}
+use Rattle.bk_ocode.specs.Drafts.{context_in}
+use Rattle.bk_ocode.proofs.draft.Draft.is_procedure_set.Given as goal
+
+abbrev pub invariant-loop-stmt : goal.invariant-loop-stmt
+invariant-loop-stmt l = list_all (jumps_set (context_in l.self)) (take l.stmt-index l.stmt-items) ≡ true

@@ -1,0 +1,6 @@
+use Rattle.std.proofs.Common.{◌≡◌, drop}
+use Rattle.bk_ocode.specs.Keywords.{find_keyword}
+use Rattle.bk_ocode.proofs.keyword.find_in.Given as goal
+
+abbrev pub invariant-loop-keyword : goal.invariant-loop-keyword
+invariant-loop-keyword l = find_keyword (drop l.keyword-index l.keywords) l.bytes ≡ find_keyword l.keywords l.bytes

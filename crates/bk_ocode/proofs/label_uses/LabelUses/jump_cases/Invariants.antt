@@ -1,0 +1,7 @@
+use Rattle.std.proofs.Common.{◌≡◌, take, map}
+use Rattle.bk_ocode.specs.Context.{all_changed, jumped}
+use Rattle.bk_ocode.specs.KnownUses.{uses_of}
+use Rattle.bk_ocode.proofs.label_uses.LabelUses.jump_cases.Given as goal
+
+abbrev pub invariant-loop-case : goal.invariant-loop-case
+invariant-loop-case l = uses_of l.self ≡ all_changed (map (λ c. c.label) (take l.case-index l.cases)) (jumped l.depth) (uses_of l.initial.self)

@@ -1,0 +1,69 @@
+-- What a call that reads a section answers.
+use Rattle.std.specs.Prelude.{◌≡◌, ◌⊎◌, ◌++◌, ◌+◌, ◌<◌, ℕ, Bool, true, false, List, [], length, Option, None, Some, Result, Ok, Err, ⊤}
+use Rattle.std.specs.Io.KnownBytes.{Consumes}
+use Rattle.bk_base.specs.declared.ocode_fault.OcodeFault.{OcodeFault}
+use Rattle.bk_base.specs.declared.ocode_fault.OcodeKind.{OcodeKind}
+use Rattle.bk_base.specs.declared.ocode_fault.OcodeKind.TheVariants.{BadWord, BadNumber, Truncated, LabelNotSet, LabelSetTwice, DepthsDisagree, SlotAboveDepth, TooLong}
+use Rattle.bk_base.specs.declared.refused.Refused.{Refused}
+use Rattle.bk_base.specs.declared.refused.Refused.TheVariants.{Fault, Memory, Device}
+use Rattle.bk_words.specs.TextEnd.{AtEnd}
+use Rattle.bk_words.specs.Words.{words_of}
+use Rattle.bk_words.specs.Taking.{TakesWords}
+use Rattle.bk_ocode.specs.SectionText.{section_words}
+use Rattle.bk_ocode.specs.SectionStmts.{stmts_of}
+use Rattle.bk_ocode.specs.StmtRange.{AreTyped}
+use Rattle.bk_ocode.specs.Section.{IsSection}
+use Rattle.bk_ocode.specs.FirstFault.{IsBegun, IsBadWord, BreaksRule, PassesWords, CutAt}
+use Rattle.bk_ocode.specs.declared.section.Ocode.{Ocode}
+use Rattle.bk_ocode.specs.declared.stmt.Stmt.{Stmt}
+
+-- Known bytes that were left lost these, of which this holds, given that the text ends there.
+abbrev pub Takes : Option (List ℕ) → Option (List ℕ) → Bool → (List ℕ → Type 0 → Type 0) → Type 0
+Takes old new ended what = (taken : List ℕ) × Consumes old new taken × what taken (AtEnd ended (length taken))
+
+-- The bytes that were taken are the words of this section.
+abbrev pub GivesSection : List ℕ → Type 0 → List Stmt → Type 0
+GivesSection taken end stmts = IsSection stmts × AreTyped stmts × TakesWords taken end (section_words stmts)
+
+-- Only blanks were left.
+abbrev pub GivesNothing : List ℕ → Type 0 → Type 0
+GivesNothing taken end = (words_of taken ≡ []) × end
+
+-- The fault of the first words of a statement, behind others without a fault, as far as it is proved. Of a bad number it is
+-- open that the words before it begin a statement, and that none goes on with it.
+abbrev pub FaultTold : List Stmt → List (List ℕ) → OcodeKind → Type 0
+FaultTold before part BadWord = IsBadWord before part
+FaultTold before part BadNumber = 0 < length part
+FaultTold before part Truncated = ⊥
+FaultTold before part LabelNotSet = BreaksRule before part LabelNotSet
+FaultTold before part LabelSetTwice = BreaksRule before part LabelSetTwice
+FaultTold before part DepthsDisagree = BreaksRule before part DepthsDisagree
+FaultTold before part SlotAboveDepth = BreaksRule before part SlotAboveDepth
+FaultTold before part TooLong = BreaksRule before part TooLong ⊎ PassesWords before part
+
+-- The words that were taken are those of statements without a fault, and some of the next with this fault.
+pub record GivesFaultAt (taken : List ℕ) (end : Type 0) (number : ℕ) (kind : OcodeKind) : Type 0 where
+  pub before : List Stmt
+  pub begun : IsBegun before
+  pub part : List (List ℕ)
+  pub place : number ≡ length before + 1
+  pub are : TakesWords taken end (section_words before ++ part)
+  pub fault : FaultTold before part kind
+
+-- The bytes that were taken have this first fault.
+abbrev pub GivesFault : List ℕ → Type 0 → ℕ → OcodeKind → Type 0
+GivesFault taken end number kind = GivesFaultAt taken end number kind ⊎ ((kind ≡ Truncated) × end × CutAt (words_of taken) number)
+
+-- The answer is what the bytes taken say, unless memory was refused or the device failed.
+abbrev pub Answers : Result (Option Ocode) (Refused OcodeFault) → Option (List ℕ) → Option (List ℕ) → Bool → Type 0
+Answers (Ok (Some read)) old new ended = Takes old new ended (λ taken end. GivesSection taken end (stmts_of read))
+Answers (Ok None) old new ended = Takes old new ended GivesNothing
+Answers (Err (Fault told)) old new ended = Takes old new ended (λ taken end. GivesFault taken end told.statement told.kind)
+Answers (Err Memory) old new ended = ⊤
+Answers (Err Device) old new ended = ⊤
+
+abbrev pub is_device : Result (Option Ocode) (Refused OcodeFault) → Bool
+is_device (Ok read) = false
+is_device (Err (Fault told)) = false
+is_device (Err Memory) = false
+is_device (Err Device) = true

@@ -1,0 +1,263 @@
+//! The words that begin statements.
+ghost use Rattle.std.specs.Prelude.{◌≡◌, ◌≢◌, IfSome, IfNone, ℕ, List};
+ghost use Rattle.bk_ocode.specs.Keywords.{keyword_text, find_keyword, keyword_role};
+ghost use Rattle.bk_ocode.specs.declared.keyword.Keyword.TheVariants.{Load, Address, Assign};
+ghost use Rattle.bk_ocode.specs.declared.keyword.Keyword.{Keyword};
+
+use crate::arguments::{dyadic_word, monadic_word};
+use crate::standing::Role;
+use crate::stmt::{Dyadic, Monadic};
+
+/// The kinds of variables.
+#[derive(Clone, Copy, Debug, PartialEq, Eq)]
+pub(crate) enum Kind {
+    /// A slot of the frame.
+    Local,
+    /// A global.
+    Global,
+    /// A word of data.
+    Static,
+}
+
+/// What a first word says of its statement.
+#[derive(Clone, Copy, Debug, PartialEq, Eq)]
+pub(crate) enum Keyword {
+    /// LN.
+    Number,
+    /// TRUE.
+    True,
+    /// FALSE.
+    False,
+    /// QUERY.
+    Query,
+    /// LSTR.
+    Text,
+    /// GETBYTE.
+    LoadByte,
+    /// STIND.
+    AssignAt,
+    /// PUTBYTE.
+    AssignByte,
+    /// JUMP.
+    Jump,
+    /// LAB.
+    Label,
+    /// RES.
+    GiveResult,
+    /// RSTACK.
+    TakeResult,
+    /// STACK.
+    Stack,
+    /// STORE.
+    Store,
+    /// ENTRY.
+    Entry,
+    /// SAVE.
+    Save,
+    /// FNAP.
+    CallFunction,
+    /// RTAP.
+    CallRoutine,
+    /// FNRN.
+    ReturnItem,
+    /// RTRN.
+    Return,
+    /// ENDPROC.
+    EndProcedure,
+    /// SWITCHON.
+    Switch,
+    /// FINISH.
+    Finish,
+    /// DATALAB.
+    DataLabel,
+    /// ITEMN.
+    DataNumber,
+    /// ITEML.
+    DataAddress,
+    /// GLOBAL.
+    Globals,
+    /// LP, LG, LL.
+    Load(Kind),
+    /// LLP, LLG, LLL.
+    Address(Kind),
+    /// SP, SG, SL.
+    Assign(Kind),
+    /// RV, NEG, NOT.
+    Monadic(Monadic),
+    /// MULT to NEQV.
+    Dyadic(Dyadic),
+    /// JT, JF.
+    JumpIf(bool),
+}
+
+/// All of them.
+static KEYWORDS: [Keyword; 58] = [
+    Keyword::Number,
+    Keyword::True,
+    Keyword::False,
+    Keyword::Query,
+    Keyword::Text,
+    Keyword::LoadByte,
+    Keyword::AssignAt,
+    Keyword::AssignByte,
+    Keyword::Jump,
+    Keyword::Label,
+    Keyword::GiveResult,
+    Keyword::TakeResult,
+    Keyword::Stack,
+    Keyword::Store,
+    Keyword::Entry,
+    Keyword::Save,
+    Keyword::CallFunction,
+    Keyword::CallRoutine,
+    Keyword::ReturnItem,
+    Keyword::Return,
+    Keyword::EndProcedure,
+    Keyword::Switch,
+    Keyword::Finish,
+    Keyword::DataLabel,
+    Keyword::DataNumber,
+    Keyword::DataAddress,
+    Keyword::Globals,
+    Keyword::Load(Kind::Local),
+    Keyword::Load(Kind::Global),
+    Keyword::Load(Kind::Static),
+    Keyword::Address(Kind::Local),
+    Keyword::Address(Kind::Global),
+    Keyword::Address(Kind::Static),
+    Keyword::Assign(Kind::Local),
+    Keyword::Assign(Kind::Global),
+    Keyword::Assign(Kind::Static),
+    Keyword::Monadic(Monadic::Contents),
+    Keyword::Monadic(Monadic::Negate),
+    Keyword::Monadic(Monadic::Not),
+    Keyword::Dyadic(Dyadic::Multiply),
+    Keyword::Dyadic(Dyadic::Divide),
+    Keyword::Dyadic(Dyadic::Remainder),
+    Keyword::Dyadic(Dyadic::Add),
+    Keyword::Dyadic(Dyadic::Subtract),
+    Keyword::Dyadic(Dyadic::Equal),
+    Keyword::Dyadic(Dyadic::Unequal),
+    Keyword::Dyadic(Dyadic::Less),
+    Keyword::Dyadic(Dyadic::Greater),
+    Keyword::Dyadic(Dyadic::AtMost),
+    Keyword::Dyadic(Dyadic::AtLeast),
+    Keyword::Dyadic(Dyadic::ShiftLeft),
+    Keyword::Dyadic(Dyadic::ShiftRight),
+    Keyword::Dyadic(Dyadic::And),
+    Keyword::Dyadic(Dyadic::Or),
+    Keyword::Dyadic(Dyadic::Eqv),
+    Keyword::Dyadic(Dyadic::Neqv),
+    Keyword::JumpIf(true),
+    Keyword::JumpIf(false),
+];
+
+/// The first word of a statement that pushes a variable.
+fn load_text(kind: Kind) -> &'static str
+    ensures { result.now ≡ keyword_text (Load kind) }
+{
+    match kind {
+        Kind::Local => "LP",
+        Kind::Global => "LG",
+        Kind::Static => "LL",
+    }
+}
+
+/// The first word of a statement that pushes an address.
+fn address_text(kind: Kind) -> &'static str
+    ensures { result.now ≡ keyword_text (Address kind) }
+{
+    match kind {
+        Kind::Local => "LLP",
+        Kind::Global => "LLG",
+        Kind::Static => "LLL",
+    }
+}
+
+/// The first word of a statement that stores an item.
+fn store_text(kind: Kind) -> &'static str
+    ensures { result.now ≡ keyword_text (Assign kind) }
+{
+    match kind {
+        Kind::Local => "SP",
+        Kind::Global => "SG",
+        Kind::Static => "SL",
+    }
+}
+
+/// The word itself.
+fn text_of(keyword: Keyword) -> &'static str
+    ensures { result.now ≡ keyword_text keyword }
+{
+    match keyword {
+        Keyword::Number => "LN",
+        Keyword::True => "TRUE",
+        Keyword::False => "FALSE",
+        Keyword::Query => "QUERY",
+        Keyword::Text => "LSTR",
+        Keyword::LoadByte => "GETBYTE",
+        Keyword::AssignAt => "STIND",
+        Keyword::AssignByte => "PUTBYTE",
+        Keyword::Jump => "JUMP",
+        Keyword::Label => "LAB",
+        Keyword::GiveResult => "RES",
+        Keyword::TakeResult => "RSTACK",
+        Keyword::Stack => "STACK",
+        Keyword::Store => "STORE",
+        Keyword::Entry => "ENTRY",
+        Keyword::Save => "SAVE",
+        Keyword::CallFunction => "FNAP",
+        Keyword::CallRoutine => "RTAP",
+        Keyword::ReturnItem => "FNRN",
+        Keyword::Return => "RTRN",
+        Keyword::EndProcedure => "ENDPROC",
+        Keyword::Switch => "SWITCHON",
+        Keyword::Finish => "FINISH",
+        Keyword::DataLabel => "DATALAB",
+        Keyword::DataNumber => "ITEMN",
+        Keyword::DataAddress => "ITEML",
+        Keyword::Globals => "GLOBAL",
+        Keyword::Load(kind) => load_text(kind),
+        Keyword::Address(kind) => address_text(kind),
+        Keyword::Assign(kind) => store_text(kind),
+        Keyword::Monadic(operator) => monadic_word(operator),
+        Keyword::Dyadic(operator) => dyadic_word(operator),
+        Keyword::JumpIf(true) => "JT",
+        Keyword::JumpIf(false) => "JF",
+    }
+}
+
+/// The place that a statement with this first word may have.
+pub(crate) fn place_of(keyword: Keyword) -> Role
+    ensures { result ≡ keyword_role keyword }
+{
+    match keyword {
+        Keyword::Entry | Keyword::DataLabel | Keyword::Globals => Role::Outer,
+        Keyword::Save => Role::First,
+        Keyword::TakeResult => Role::Taker,
+        Keyword::EndProcedure => Role::Last,
+        Keyword::DataNumber | Keyword::DataAddress => Role::Datum,
+        _ => Role::Body,
+    }
+}
+
+/// The keyword among these whose word the bytes are.
+fn find_in(keywords: &[Keyword], bytes: &[u8]) -> Option<Keyword>
+    ensures first { result ≡ find_keyword keywords.now bytes.now }
+    ensures found { IfSome result (λ k. keyword_text k ≡ bytes.now) }
+{
+    for keyword in keywords {
+        if text_of(*keyword).as_bytes() == bytes {
+            return Some(*keyword);
+        }
+    }
+    None
+}
+
+/// The keyword whose word the bytes are.
+pub(crate) fn keyword_of(bytes: &[u8]) -> Option<Keyword>
+    ensures found { IfSome result (λ k. keyword_text k ≡ bytes.now) }
+    ensures none { IfNone result ((k : Keyword) → keyword_text k ≢ bytes.now) }
+{
+    find_in(&KEYWORDS, bytes)
+}

@@ -1,0 +1,211 @@
+//! What is known of the labels of a section that is being read.
+ghost use Rattle.std.specs.Prelude.{◌≡◌, map, OnOk};
+ghost use Rattle.bk_ocode.specs.Labels.{static_label};
+ghost use Rattle.bk_ocode.specs.KnownUses.{uses_of};
+ghost use Rattle.bk_ocode.specs.Context.{fresh, changed, all_changed, what_stands, label_followed, labels_named, with_depth, least_result, set_by, followed, jumped, given, mentioned};
+
+use crate::standing::{Behind, JumpDepths, LabelUse, Position, Setting};
+use crate::stmt::{Case, Stmt, Variable};
+use indexmap::IndexMap;
+use std::alloc::{AllocError, Global};
+
+/// A table of labels. Of one that it lacks nothing is known.
+#[derive(Drop)]
+pub(crate) struct LabelUses {
+    known: IndexMap<u32, LabelUse>,
+}
+
+/// What a statement is to the LAB right before it.
+fn behind_label(stmt: &Stmt) -> Behind
+    ensures { result ≡ what_stands stmt.now }
+{
+    match stmt {
+        Stmt::TakeResult { depth } => Behind::Takes(*depth),
+        _ => Behind::Other,
+    }
+}
+
+/// Nothing is known of a label.
+fn unknown() -> LabelUse
+    ensures { result ≡ fresh }
+{
+    LabelUse {
+        setting: Setting::Unset,
+        behind: Behind::Nothing,
+        jumps: JumpDepths::Unused,
+        result: None,
+        named: false,
+    }
+}
+
+/// The depths of jumps, one more.
+fn depths_with(depth: u32, jumps: JumpDepths) -> JumpDepths
+    ensures { result ≡ with_depth depth jumps }
+{
+    match jumps {
+        JumpDepths::Unused => JumpDepths::One(depth),
+        JumpDepths::One(other) if other == depth => jumps,
+        _ => JumpDepths::Several,
+    }
+}
+
+/// The least depth behind a RES, with one more.
+fn least_with(depth: u32, least: Option<u32>) -> Option<u32>
+    ensures { result ≡ least_result depth least }
+{
+    match least {
+        None => Some(depth),
+        Some(other) if other <= depth => least,
+        Some(_) => Some(depth),
+    }
+}
+
+impl LabelUses {
+    /// Nothing is known of any label.
+    pub(crate) fn new(alloc: Global) -> LabelUses
+        ensures { uses_of result ≡ (λ label. fresh) }
+    {
+        LabelUses {
+            known: IndexMap::new(alloc),
+        }
+    }
+
+    /// What is known of a label.
+    pub(crate) fn of(&self, label: u32) -> LabelUse
+        ensures { result ≡ uses_of self.now label }
+    {
+        match self.known.get(&label) {
+            Some(known) => *known,
+            None => unknown(),
+        }
+    }
+
+    /// From now on this is known of a label.
+    fn put(&mut self, label: u32, known: LabelUse) -> Result<(), AllocError>
+        ensures { OnOk result (uses_of self.new ≡ changed label (λ before. known) (uses_of self.old)) }
+    {
+        self.known.insert(label, known)?;
+        Ok(())
+    }
+
+    /// A statement sets the label.
+    pub(crate) fn set(&mut self, label: u32, setting: Setting) -> Result<(), AllocError>
+        ensures { OnOk result (uses_of self.new ≡ changed label (set_by setting) (uses_of self.old)) }
+    {
+        let known = self.of(label);
+        self.put(label, LabelUse { setting, ..known })
+    }
+
+    /// A statement stands behind the label's LAB.
+    pub(crate) fn follow(&mut self, label: u32, behind: Behind) -> Result<(), AllocError>
+        ensures { OnOk result (uses_of self.new ≡ changed label (followed behind) (uses_of self.old)) }
+    {
+        let known = self.of(label);
+        self.put(label, LabelUse { behind, ..known })
+    }
+
+    /// A jump goes to the label with this depth.
+    pub(crate) fn jump(&mut self, label: u32, depth: u32) -> Result<(), AllocError>
+        ensures { OnOk result (uses_of self.new ≡ changed label (jumped depth) (uses_of self.old)) }
+    {
+        let known = self.of(label);
+        let jumps = depths_with(depth, known.jumps);
+        self.put(
+            label,
+            LabelUse {
+                jumps,
+                named: true,
+                ..known
+            },
+        )
+    }
+
+    /// A RES goes to the label, with this depth behind it.
+    pub(crate) fn give(&mut self, label: u32, depth: u32) -> Result<(), AllocError>
+        ensures { OnOk result (uses_of self.new ≡ changed label (given depth) (uses_of self.old)) }
+    {
+        let known = self.of(label);
+        let result = least_with(depth, known.result);
+        self.put(label, LabelUse { result, ..known })
+    }
+
+    /// A statement names the label.
+    pub(crate) fn mention(&mut self, label: u32) -> Result<(), AllocError>
+        ensures { OnOk result (uses_of self.new ≡ changed label mentioned (uses_of self.old)) }
+    {
+        let known = self.of(label);
+        self.put(
+            label,
+            LabelUse {
+                named: true,
+                ..known
+            },
+        )
+    }
+
+    /// A statement names the label of a variable.
+    fn mention_static(&mut self, variable: Variable) -> Result<(), AllocError>
+        ensures { OnOk result (uses_of self.new ≡ all_changed (static_label variable) mentioned (uses_of self.old)) }
+    {
+        match variable {
+            Variable::Static(label) => self.mention(label),
+            _ => Ok(()),
+        }
+    }
+
+    /// Jumps go to the labels of cases with this depth.
+    fn jump_cases(&mut self, cases: &[Case], depth: u32) -> Result<(), AllocError>
+        ensures { OnOk result (uses_of self.new ≡ all_changed (map (λ c. c.label) cases.now) (jumped depth) (uses_of self.old)) }
+    {
+        for case in cases {
+            self.jump(case.label, depth)?;
+        }
+        Ok(())
+    }
+
+    /// A statement stands here.
+    pub(crate) fn stand(&mut self, position: Position, stmt: &Stmt) -> Result<(), AllocError>
+        ensures { OnOk result (uses_of self.new ≡ label_followed position stmt.now (uses_of self.old)) }
+    {
+        match position {
+            Position::BehindLabel(label) => self.follow(label, behind_label(stmt)),
+            _ => Ok(()),
+        }
+    }
+
+    /// A statement with this depth before it, and so many statements, names and sets labels.
+    pub(crate) fn name(&mut self, depth: u32, count: usize, stmt: &Stmt) -> Result<(), AllocError>
+        ensures { OnOk result (uses_of self.new ≡ labels_named depth count stmt.now (uses_of self.old)) }
+    {
+        let less = depth.saturating_sub(1);
+        match stmt {
+            Stmt::Label { label } => self.set(
+                *label,
+                Setting::Lab {
+                    depth,
+                    place: count,
+                },
+            ),
+            Stmt::Entry { label, .. } => {
+                self.mention(*label)?;
+                self.set(*label, Setting::Entry)
+            }
+            Stmt::DataLabel { label } => {
+                self.mention(*label)?;
+                self.set(*label, Setting::Data)
+            }
+            Stmt::GiveResult { label } => self.give(*label, less),
+            Stmt::Jump { label } => self.jump(*label, depth),
+            Stmt::JumpIf { label, .. } => self.jump(*label, less),
+            Stmt::Switch { default, cases } => {
+                self.jump(*default, less)?;
+                self.jump_cases(cases.as_slice(), less)
+            }
+            Stmt::Load { from } => self.mention_static(*from),
+            Stmt::Address { of } => self.mention_static(*of),
+            Stmt::Assign { to } => self.mention_static(*to),
+            Stmt::DataAddress { label } => self.mention(*label),
+            _ => Ok(()),
+        }
+    }
+}

@@ -1,0 +1,111 @@
+//! Where statements stand, and what they need and set.
+ghost use Rattle.std.specs.Prelude.{◌≡◌};
+ghost use Rattle.bk_ocode.specs.Depth.{load_depth, assign_depth, least_depth};
+ghost use Rattle.bk_ocode.specs.Labels.{label_set};
+ghost use Rattle.bk_ocode.specs.Places.{role, may_stand, position_behind};
+ghost use Rattle.bk_ocode.specs.StmtRange.{InRange, IsVariable};
+
+use crate::standing::{Position, Role};
+use crate::stmt::{Stmt, Variable};
+
+/// The place that a statement may have.
+pub(crate) fn role_of(stmt: &Stmt) -> Role
+    ensures { result ≡ role stmt.now }
+{
+    match stmt {
+        Stmt::Entry { .. } | Stmt::DataLabel { .. } | Stmt::Globals { .. } => Role::Outer,
+        Stmt::Save { .. } => Role::First,
+        Stmt::TakeResult { .. } => Role::Taker,
+        Stmt::EndProcedure => Role::Last,
+        Stmt::DataNumber { .. } | Stmt::DataAddress { .. } => Role::Datum,
+        _ => Role::Body,
+    }
+}
+
+/// Whether a statement of this kind may stand there.
+pub(crate) fn fits(position: Position, role: Role) -> bool
+    ensures { result ≡ may_stand position role }
+{
+    match position {
+        Position::Outside => role == Role::Outer,
+        Position::InData => role == Role::Outer || role == Role::Datum,
+        Position::Opened => role == Role::First,
+        Position::BehindLabel(_) => role == Role::Body || role == Role::Taker,
+        Position::BehindReturn => role == Role::Body || role == Role::Last,
+        Position::Inside => role == Role::Body,
+        Position::Ended => false,
+    }
+}
+
+/// Where the statement behind this one stands.
+pub(crate) fn behind(stmt: &Stmt) -> Position
+    ensures { result ≡ position_behind stmt.now }
+{
+    match stmt {
+        Stmt::Entry { .. } => Position::Opened,
+        Stmt::Label { label } => Position::BehindLabel(*label),
+        Stmt::ReturnItem | Stmt::Return => Position::BehindReturn,
+        Stmt::EndProcedure => Position::Outside,
+        Stmt::DataLabel { .. } | Stmt::DataNumber { .. } | Stmt::DataAddress { .. } => {
+            Position::InData
+        }
+        Stmt::Globals { .. } => Position::Ended,
+        _ => Position::Inside,
+    }
+}
+
+/// The label that a statement sets.
+pub(crate) fn set_label(stmt: &Stmt) -> Option<u32>
+    ensures { result ≡ label_set stmt.now }
+{
+    match stmt {
+        Stmt::Label { label } => Some(*label),
+        Stmt::Entry { label, .. } => Some(*label),
+        Stmt::DataLabel { label } => Some(*label),
+        _ => None,
+    }
+}
+
+/// The depth that is needed to load a variable.
+fn depth_to_load(variable: Variable) -> u32
+    requires { IsVariable variable }
+    ensures { result ≡ load_depth variable }
+{
+    match variable {
+        Variable::Local(slot) => slot + 1,
+        _ => 0,
+    }
+}
+
+/// The depth that is needed to store an item in a variable.
+fn depth_to_assign(variable: Variable) -> u32
+    requires { IsVariable variable }
+    ensures { result ≡ assign_depth variable }
+{
+    match variable {
+        Variable::Local(slot) => slot + 2,
+        _ => 3,
+    }
+}
+
+/// The least depth that a statement needs before it.
+pub(crate) fn depth_needed(stmt: &Stmt) -> u32
+    requires { InRange stmt.now }
+    ensures { result ≡ least_depth stmt.now }
+{
+    match stmt {
+        Stmt::Load { from } => depth_to_load(*from),
+        Stmt::Address { of } => depth_to_load(*of),
+        Stmt::Assign { to } => depth_to_assign(*to),
+        Stmt::Monadic { .. }
+        | Stmt::JumpIf { .. }
+        | Stmt::GiveResult { .. }
+        | Stmt::ReturnItem
+        | Stmt::Switch { .. } => 3,
+        Stmt::Dyadic { .. } | Stmt::LoadByte | Stmt::AssignAt => 4,
+        Stmt::AssignByte => 5,
+        Stmt::CallFunction { frame } => *frame + 3,
+        Stmt::CallRoutine { frame } => *frame + 3,
+        _ => 0,
+    }
+}

@@ -1,0 +1,4 @@
+pub mod Parts
+pub mod Takes
+pub mod NextWord
+pub mod HeldNumbers

@@ -1,0 +1,20 @@
+-- A word that is taken with the blanks before it and what is behind it.
+use Rattle.std.proofs.Common.{◌≡◌, ◌+◌, ℕ, Bool, false, List, [], ◌∷◌, ◌++◌, length, length-append, arith, append_assoc}
+use Rattle.bk_words.specs.Words.{is_blank, AreBlank, AreInWord}
+use Rattle.bk_words.specs.Gathering.{IsBehindWord, TakesWord}
+
+abbrev pub the_word : (blanks : List ℕ) (first : ℕ) (rest behind : List ℕ) (last : Bool) (end : Type 0) → AreBlank blanks → is_blank first ≡ false → AreInWord rest → IsBehindWord behind last end →
+    TakesWord ((blanks ++ first ∷ []) ++ (rest ++ behind)) last end
+the_word blanks first rest behind last end are_blank inside in_word past = record {
+  blanks = blanks;
+  first = first;
+  rest = rest;
+  behind = behind;
+  whole = append_assoc blanks (first ∷ []) (rest ++ behind);
+  are_blank = are_blank;
+  in_word = (inside, in_word);
+  past = past;
+}
+
+pub count-both : (x y : List ℕ) (m n k : ℕ) → m ≡ n + length x → k ≡ m + length y → k ≡ n + length (x ++ y)
+count-both x y m n k p q = omega (arith, length-append x y)

@@ -1,0 +1,14 @@
+-- Answers by cases, from what holds of their values.
+use Rattle.std.proofs.Common.{Option, None, Some, Result, Ok, Err, OnErr, IfErr, IfNone}
+
+pub on_err : {T E P : Type 0} (r : Result T E) → P → OnErr r P
+on_err (Ok x) p = tt
+on_err (Err e) p = p
+
+pub on_none : {T P : Type 0} (r : Option T) → P → IfNone r P
+on_none None p = p
+on_none (Some x) p = tt
+
+pub if_err_map : {T E : Type 0} (r : Result T E) (P Q : E → Type 0) → ((e : E) → P e → Q e) → IfErr r P → IfErr r Q
+if_err_map (Ok x) P Q f h = tt
+if_err_map (Err e) P Q f h = f e h

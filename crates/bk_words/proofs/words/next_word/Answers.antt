@@ -1,0 +1,17 @@
+use Rattle.std.proofs.Common.{◌≡◌, ◌++◌, ◌∷◌, [], false}
+use Rattle.bk_words.specs.Words.{is_blank}
+use Rattle.bk_base.specs.DeviceLaws.{Consumes-trans}
+use Rattle.bk_words.proofs.NextWord.{the_word, count-both}
+use Rattle.bk_words.proofs.words.next_word.Goals as goal
+
+pub returns-clause-gives : goal.returns-clause-gives
+returns-clause-gives g c =
+    let first = c.in-Some.first in
+    let q = rw c.in-Some.is at c.in_ok-first.ensures.gives in
+    let inside : is_blank first ≡ false = rw c.in-Some.is at c.in_ok-first.ensures.word in
+    let r = c.in_ok-held.ensures.gives in (
+      (q.0 ++ first ∷ []) ++ (r.0 ++ r.1),
+      Consumes-trans _ _ _ (q.0 ++ first ∷ []) (r.0 ++ r.1) q.2 r.5,
+      count-both (q.0 ++ first ∷ []) (r.0 ++ r.1) c.first_byte.new.taken c.args.taken.now c.rest_of_word.new.taken q.3 r.6,
+      (the_word q.0 first r.0 r.1 _ _ q.1 inside r.2 r.4, r.3),
+    )

@@ -1,0 +1,28 @@
+-- What was taken of a text so far, as its words.
+use Rattle.std.specs.Prelude.{◌≡◌, ◌⊎◌, ℕ, Bool, List, [], ◌++◌, Option, length}
+use Rattle.std.specs.Io.KnownBytes.{Consumes}
+use Rattle.bk_words.specs.TextEnd.{AtEnd}
+use Rattle.bk_words.specs.Words.{words_of, EndsInWord, IsBehind}
+
+-- What was taken of a text ends with these words: it goes up to the end of the last, and a blank more if there is one.
+pub record TakesWords (taken : List ℕ) (end : Type 0) (words : List (List ℕ)) : Type 0 where
+  pub text : List ℕ
+  pub behind : List ℕ
+  pub whole : taken ≡ text ++ behind
+  pub are : words_of text ≡ words
+  pub ends : EndsInWord text
+  pub past : IsBehind behind end
+
+-- These words were taken, if any.
+abbrev pub TakesSome : List ℕ → Type 0 → List (List ℕ) → Type 0
+TakesSome taken end words = ((taken ≡ []) × (words ≡ [])) ⊎ TakesWords taken end words
+
+-- Known bytes that were left lost those of these words, and so many bytes were taken.
+abbrev pub Reads : Option (List ℕ) → Option (List ℕ) → Bool → ℕ → List (List ℕ) → Type 0
+Reads old new ended count words =
+    (taken : List ℕ) × Consumes old new taken × (count ≡ length taken) × TakesSome taken (AtEnd ended count) words
+
+-- And blanks up to the end of the text.
+abbrev pub ReadsAll : Option (List ℕ) → Option (List ℕ) → Bool → ℕ → List (List ℕ) → Type 0
+ReadsAll old new ended count words =
+    (taken : List ℕ) × Consumes old new taken × (count ≡ length taken) × (words_of taken ≡ words) × AtEnd ended count

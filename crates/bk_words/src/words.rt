@@ -1,0 +1,186 @@
+//! Taking words from a device.
+ghost use Rattle.std.specs.Prelude.{◌≡◌, ◌≢◌, ℕ, ℤ, pos, FitsSigned, ◌+◌, ◌^◌, ◌<◌, ◌≤◌, false, IsTrue, List, [], ◌∷◌, ◌++◌, length, Option, Some, None, Ok, IfSome, IfNone, IfOk, OnOk, OnErr, IsErr};
+ghost use Rattle.std.specs.Io.KnownBytes.{Consumes, Keeps};
+ghost use Rattle.std.specs.Int.{w32};
+ghost use Rattle.bk_base.specs.Decimal.{spelling};
+ghost use Rattle.bk_base.specs.Devices.{byte_list};
+ghost use Rattle.bk_words.specs.TextEnd.{AtEnd};
+ghost use Rattle.bk_words.specs.Words.{is_blank, AreBlank, AreInWord};
+ghost use Rattle.bk_words.specs.Gathering.{Holds, IsBehindWord, IsNextWord};
+
+use crate::numbers::{number, within};
+use crate::word_buffer::{SIZE, WordBuffer};
+use bk_base::limit::INPUT_BYTES;
+use bk_base::{ByteIn, Failed};
+
+/// Whether a byte is a blank.
+fn is_blank_byte(byte: u8) -> bool
+    ensures { result ≡ is_blank byte }
+{
+    byte == b' ' || byte == b'\t' || byte == b'\n' || byte == 12 || byte == b'\r'
+}
+
+/// The next byte. After so many bytes as one call reads the text's end is taken to stand there.
+fn next_byte<I: ByteIn>(input: &mut I, taken: &mut u64) -> Result<Option<u8>, Failed>
+    requires { 0 < taken.old → I.faults input.old ≡ 0 }
+    ensures gives { IfOk result (λ byte. Consumes (I.left input.old) (I.left input.new) (byte_list byte)) }
+    ensures count { IfOk result (λ byte. taken.new ≡ taken.old + length (byte_list byte)) }
+    ensures end { IfOk result (λ byte. byte ≡ None → AtEnd (I.ended input.new) taken.new) }
+    ensures within { taken.new ≤ INPUT_BYTES }
+    ensures clear { OnOk result (I.faults input.new ≡ 0) }
+    ensures failed { OnErr result (I.faults input.new ≡ 1) }
+    ensures failed_again { I.faults input.old ≡ 1 → IsErr result × Keeps (I.left input.old) (I.left input.new) }
+    ensures ended_again { IsTrue (I.ended input.old) → (result ≡ Ok None) × IsTrue (I.ended input.new) }
+    ensures ended_there { IsTrue (I.ended input.old) → taken.new ≡ taken.old }
+{
+    if *taken == INPUT_BYTES {
+        return Ok(None);
+    }
+    let byte = input.next()?;
+    if byte.is_some() {
+        *taken += 1;
+    }
+    Ok(byte)
+}
+
+/// Takes blanks, and the byte behind them.
+fn first_byte<I: ByteIn>(input: &mut I, taken: &mut u64) -> Result<Option<u8>, Failed>
+    requires { 0 < taken.old → I.faults input.old ≡ 0 }
+    ensures gives { IfOk result (λ byte. (blanks : List ℕ) × AreBlank blanks
+        × Consumes (I.left input.old) (I.left input.new) (blanks ++ byte_list byte)
+        × (taken.new ≡ taken.old + length (blanks ++ byte_list byte))) }
+    ensures word { IfOk result (λ byte. IfSome byte (λ b. is_blank b ≡ false)) }
+    ensures end { IfOk result (λ byte. byte ≡ None → AtEnd (I.ended input.new) taken.new) }
+    ensures within { OnOk result (taken.new ≤ INPUT_BYTES) }
+    ensures clear { OnOk result (I.faults input.new ≡ 0) }
+    ensures failed { OnErr result (I.faults input.new ≡ 1) }
+    ensures failed_again { I.faults input.old ≡ 1 → IsErr result × Keeps (I.left input.old) (I.left input.new) }
+    ensures ended_again { IsTrue (I.ended input.old) → (result ≡ Ok None) × IsTrue (I.ended input.new) }
+    ensures ended_there { IsTrue (I.ended input.old) → taken.new ≡ taken.old }
+{
+    loop {
+        let byte = next_byte(input, taken)?;
+        match byte {
+            Some(b) if is_blank_byte(b) => {}
+            _ => return Ok(byte),
+        }
+    }
+}
+
+/// A word, of which the first bytes are held.
+#[derive(Drop)]
+pub struct Gathered {
+    word: WordBuffer,
+    long: bool,
+    last: bool,
+}
+
+impl Gathered {
+    /// Its bytes, unless there are more than `SIZE`.
+    pub fn bytes(&self) -> Option<&[u8]>
+        ensures short { IfSome result (λ bytes. (word : List ℕ) → Holds self.now word → bytes.now ≡ word) }
+        ensures long { IfNone result ((word : List ℕ) → Holds self.now word → SIZE < length word) }
+    {
+        if self.long {
+            None
+        } else {
+            Some(self.word.as_bytes())
+        }
+    }
+
+    /// The number of 32 bits that it spells.
+    pub fn number(&self) -> Option<i32>
+        ensures found { IfSome result (λ z. FitsSigned w32 z × ((word : List ℕ) → Holds self.now word → spelling z ≡ word)) }
+        ensures none { IfNone result ((word : List ℕ) → Holds self.now word → (z : ℤ) → FitsSigned w32 z → spelling z ≢ word) }
+    {
+        number(self.bytes()?)
+    }
+
+    /// The number in these bounds that it spells.
+    pub fn within(&self, least: u32, most: u32) -> Option<u32>
+        requires { most < 2 ^ 31 }
+        ensures found { IfSome result (λ n. (least ≤ n) × (n ≤ most) × ((word : List ℕ) → Holds self.now word → spelling (pos n) ≡ word)) }
+        ensures none { IfNone result ((word : List ℕ) → Holds self.now word → (n : ℕ) → least ≤ n → n ≤ most → spelling (pos n) ≢ word) }
+    {
+        within(self.bytes()?, least, most)
+    }
+
+    /// The number in these bounds that it spells behind a mark.
+    pub fn marked(&self, mark: u8, least: u32, most: u32) -> Option<u32>
+        requires { most < 2 ^ 31 }
+        ensures found { IfSome result (λ n. (least ≤ n) × (n ≤ most) × ((word : List ℕ) → Holds self.now word → mark ∷ spelling (pos n) ≡ word)) }
+        ensures none { IfNone result ((word : List ℕ) → Holds self.now word → (n : ℕ) → least ≤ n → n ≤ most → mark ∷ spelling (pos n) ≢ word) }
+    {
+        let bytes = self.bytes()?;
+        match bytes {
+            [first, rest @ ..] if *first == mark => within(rest, least, most),
+            _ => None,
+        }
+    }
+
+    /// Whether the text ended right behind it.
+    pub fn is_last(&self) -> bool
+        ensures { result ≡ self.now.last }
+    {
+        self.last
+    }
+}
+
+/// Takes a word whose first byte was taken, and the blank behind it if there is one.
+fn rest_of_word<I: ByteIn>(first: u8, input: &mut I, taken: &mut u64) -> Result<Gathered, Failed>
+    requires { I.faults input.old ≡ 0 }
+    ensures gives { IfOk result (λ held. (rest behind : List ℕ) × AreInWord rest × Holds held (first ∷ rest)
+        × IsBehindWord behind held.last (AtEnd (I.ended input.new) taken.new)
+        × Consumes (I.left input.old) (I.left input.new) (rest ++ behind)
+        × (taken.new ≡ taken.old + length (rest ++ behind))) }
+    ensures within { OnOk result (taken.new ≤ INPUT_BYTES) }
+    ensures clear { OnOk result (I.faults input.new ≡ 0) }
+    ensures failed { OnErr result (I.faults input.new ≡ 1) }
+{
+    let mut word = WordBuffer::new();
+    word.push(first);
+    let mut long = false;
+    loop {
+        match next_byte(input, taken)? {
+            None => return Ok(Gathered {
+                word,
+                long,
+                last: true,
+            }),
+            Some(byte) => {
+                if is_blank_byte(byte) {
+                    return Ok(Gathered {
+                        word,
+                        long,
+                        last: false,
+                    });
+                }
+                if word.len() < SIZE {
+                    word.push(byte);
+                } else {
+                    long = true;
+                }
+            }
+        }
+    }
+}
+
+/// The word that a device gives next, or None where only blanks are left. It takes the blanks before the word, the word,
+/// and the blank behind it if there is one. `taken` counts the bytes that a call above took so far.
+pub fn next_word<I: ByteIn>(input: &mut I, taken: &mut u64) -> Result<Option<Gathered>, Failed>
+    requires { 0 < taken.old → I.faults input.old ≡ 0 }
+    ensures gives { IfOk result (λ found. (given : List ℕ) × Consumes (I.left input.old) (I.left input.new) given
+        × (taken.new ≡ taken.old + length given) × IsNextWord found given (AtEnd (I.ended input.new) taken.new)) }
+    ensures within { OnOk result (taken.new ≤ INPUT_BYTES) }
+    ensures clear { OnOk result (I.faults input.new ≡ 0) }
+    ensures failed { OnErr result (I.faults input.new ≡ 1) }
+    ensures failed_again { I.faults input.old ≡ 1 → IsErr result × Keeps (I.left input.old) (I.left input.new) }
+    ensures ended_again { IsTrue (I.ended input.old) → (result ≡ Ok None) × IsTrue (I.ended input.new) }
+    ensures ended_there { IsTrue (I.ended input.old) → taken.new ≡ taken.old }
+{
+    let Some(first) = first_byte(input, taken)? else {
+        return Ok(None);
+    };
+    let held = rest_of_word(first, input, taken)?;
+    Ok(Some(held))
+}
