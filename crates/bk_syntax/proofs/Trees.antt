@@ -145,5 +145,7 @@ names_count [] = refl
 names_count (x ∷ xs) = let h = names_count xs in omega (arith, h)
 
 pub ruleset whole_is = (Apply_is, Table_is, Assign_is, Call_is, For_is, Block_is, Constants_is, Let_is, Variables_is)
+
 pub ruleset one_more = (expressions_push, actions_push, declarations_push, items_push, definitions_push, starts_push, names_push)
+
 pub ruleset counts = (expressions_count, starts_count, names_count)

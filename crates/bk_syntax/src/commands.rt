@@ -6,7 +6,9 @@ ghost use Rattle.bk_syntax.specs.Grammar.{line_of_action, line_of_first, size};
 ghost use Rattle.bk_syntax.specs.Machine.{Stack, each_then, limit, give, finish, again, dests, guarded, behind_sign, take_command, in_start, in_values, in_guard, in_to};
 ghost use Rattle.bk_syntax.specs.Frames.{phrase_on, clause_on, stack_of, state, heads, Steps, Answers, Lowers, Falls};
 
-use crate::expressions::{LEAF, NOTHING, begun, due, due_at, line_of, operand, want_in, wants_command, whole};
+use crate::expressions::{
+    LEAF, NOTHING, begun, due, due_at, line_of, operand, want_in, wants_command, whole,
+};
 use crate::frame::{Begun, Clause, Flow, Frames, Now, Phrase, Place, Point, Size, Sized, Stop};
 use crate::make::{assign, call, for_loop};
 use crate::size::{both, of_node};
@@ -45,7 +47,12 @@ fn line_of_command(command: &Command) -> Line
 }
 
 /// A command begins with a word of its own.
-fn headed(alloc: Global, frames: &mut Frames, heading: Heading, line: Line) -> Result<Now, AllocError>
+fn headed(
+    alloc: Global,
+    frames: &mut Frames,
+    heading: Heading,
+    line: Line,
+) -> Result<Now, AllocError>
     ensures { IfOk result (λ now. state (stack_of frames.new) now ≡ heads (stack_of frames.old) line heading) }
 {
     match heading {
@@ -135,10 +142,7 @@ fn started(alloc: Global, frames: &mut Frames, sized: Sized, token: &Token) -> R
         return further(alloc, frames, Vec::new(alloc), size, expr, token);
     }
     match expr {
-        Expr::Apply(line, _, callee, items) => Ok(Flow::Does(
-            call(line, callee, items),
-            size,
-        )),
+        Expr::Apply(line, _, callee, items) => Ok(Flow::Does(call(line, callee, items), size)),
         Expr::Name(line, letters) => {
             if !is_colon(token.kind) {
                 return Err(Stop::Unexpected);
@@ -223,7 +227,11 @@ fn guards(
         return Err(Stop::Unexpected);
     }
     let condition = Box::new(alloc, condition)?;
-    begun(frames, Begun::Clause(Clause::Guarded(guard, line, condition)), parts)?;
+    begun(
+        frames,
+        Begun::Clause(Clause::Guarded(guard, line, condition)),
+        parts,
+    )?;
     Ok(Flow::Stay(behind_sign(guard)))
 }
 

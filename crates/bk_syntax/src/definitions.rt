@@ -177,7 +177,15 @@ pub fn complete_member(
         Member::Item(line, sort, items, name) => {
             let held = both(held, of_node(sized.size));
             let Name { line: at, letters } = name;
-            constant(frames, line, sort, items, held, Item::Item(at, letters, sized.expr), token)
+            constant(
+                frames,
+                line,
+                sort,
+                items,
+                held,
+                Item::Item(at, letters, sized.expr),
+                token,
+            )
         }
         Member::Function(name, formals) => {
             let body = Box::new(alloc, sized.expr)?;
@@ -313,7 +321,11 @@ fn in_block(
         return Ok(Now::Did(block(line, decls, commands), of_node(held)));
     }
     let head = in_head(&commands);
-    begun(frames, Begun::Place(Place::Block(line, free, decls, commands)), held)?;
+    begun(
+        frames,
+        Begun::Place(Place::Block(line, free, decls, commands)),
+        held,
+    )?;
     if head {
         if let Some(what) = declares_with(token.kind) {
             return Ok(declaration(alloc, frames, what, token.line)?);
@@ -367,7 +379,15 @@ pub fn complete_command(
 {
     match begun {
         Place::Block(line, _, decls, commands) => {
-            in_commands(frames, line, decls, commands, both(held, size), command, token)
+            in_commands(
+                frames,
+                line,
+                decls,
+                commands,
+                both(held, size),
+                command,
+                token,
+            )
         }
         _ => Err(Stop::Unexpected),
     }
@@ -503,12 +523,7 @@ fn formal_end(
 
 /// Behind the formals.
 #[tactic(auto, using(crate::proofs::Turns::headed_cases))]
-fn headed(
-    frames: &mut Frames,
-    name: Name,
-    formals: Vec<Name>,
-    token: &Token,
-) -> Result<Now, Stop>
+fn headed(frames: &mut Frames, name: Name, formals: Vec<Name>, token: &Token) -> Result<Now, Stop>
     ensures { Steps (stack_of frames.new) result (headed (mention name) (map mention formals.items) (stack_of frames.old) token.now.kind) }
 {
     if is_be(token.kind) {

@@ -1,6 +1,8 @@
 //! The least that a whole must be, by what was begun of it.
 
-use crate::frame::{Begun, Clause, Frame, Frames, Lift, Member, Now, Operand, Phrase, Place, Point, Size};
+use crate::frame::{
+    Begun, Clause, Frame, Frames, Lift, Member, Now, Operand, Phrase, Place, Point, Size,
+};
 use crate::symbols::{Guard, relates};
 use crate::tree::Expr;
 

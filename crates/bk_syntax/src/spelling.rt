@@ -10,7 +10,9 @@ use std::alloc::{AllocError, Global};
 pub fn name(alloc: Global, text: &[u8]) -> Result<Vec<u8>, AllocError>
     ensures { IfOk result (λ letters. letters.items ≡ upper_name text.now) }
 {
-    text.iter().map(|byte| byte.to_ascii_uppercase()).collect(alloc)
+    text.iter()
+        .map(|byte| byte.to_ascii_uppercase())
+        .collect(alloc)
 }
 
 /// The tag of a section bracket as it is spelled, empty if it has none.

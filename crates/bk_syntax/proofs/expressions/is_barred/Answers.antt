@@ -19,6 +19,6 @@ loop-i-preserved c =
     let back : c.loop-i.i - 1 + 1 ≡ c.loop-i.i = omega arith in
     let on = stack_take ds xs (c.loop-i.i - 1) c.index.result.now (omega arith) c.index.ensures in
     record {
-        in_range = omega arith;
-        same = sym (c.in-None.ensures (stack ds (take (c.loop-i.i - 1) xs))) ∙ ap bars (sym on) ∙ ap (λ n. bars (stack ds (take n xs))) back ∙ c.loop-i.invariant.same;
+      in_range = omega arith;
+      same = sym (c.in-None.ensures (stack ds (take (c.loop-i.i - 1) xs))) ∙ ap bars (sym on) ∙ ap (λ n. bars (stack ds (take n xs))) back ∙ c.loop-i.invariant.same;
     }
