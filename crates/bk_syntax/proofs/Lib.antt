@@ -14,3 +14,4 @@ pub mod Stacks
 pub mod Turns
 pub mod Trees
 pub mod Insides
+pub mod Copies

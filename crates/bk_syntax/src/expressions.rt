@@ -8,6 +8,7 @@ ghost use Rattle.bk_syntax.specs.Grammar.{line_of, last};
 ghost use Rattle.bk_syntax.specs.Machine.{Stack, limit, push, infixed, in_chain, in_args, in_table, bars, no_args, take_operand, give, want, begin, due, have};
 ghost use Rattle.bk_syntax.specs.Frames.{begun_on, operand_on, phrase_on, member_on, clause_on, place_on, point_on, stack_of, stack, state, Steps, Answers, Lowers, Falls};
 
+use crate::copy::copy;
 use crate::frame::{
     Begun, Clause, Flow, Frame, Frames, Member, Now, Operand, Phrase, Place, Point, Size, Sized,
     Stop,
@@ -186,10 +187,13 @@ fn go_on_infix(
     sized: Sized,
     operator: Operator,
     sign: Line,
-) -> Result<Now, AllocError> {
+) -> Result<Now, AllocError>
+    ensures { IfOk result (λ now. Some (state (stack_of frames.new) now) ≡ infixed (stack_of frames.old) (expression sized.expr) sign (Some operator)) }
+{
     if relates(operator) {
         if let Some(right) = shared(&sized.expr) {
-            let copy = Box::new(alloc, right.clone()?)?;
+            let copy = copy(alloc, right)?;
+            let copy = Box::new(alloc, copy)?;
             return go_on_chain(alloc, frames, sized, copy, operator, sign);
         }
     }
@@ -198,8 +202,10 @@ fn go_on_infix(
 }
 
 /// The expression goes on with the symbol.
+#[tactic(auto, using(crate::proofs::Turns::push_cases))]
 pub fn go_on(alloc: Global, frames: &mut Frames, sized: Sized, token: &Token) -> Result<Flow, Stop>
-    ensures { Falls frames.old frames.new result }
+    ensures answers { Answers frames.new result token.now (λ l x kind. push (stack_of frames.old) (expression sized.expr) kind l) }
+    ensures falls { Falls frames.old frames.new result }
 {
     if let Some(operator) = infix(token.kind) {
         let now = go_on_infix(alloc, frames, sized, operator, token.line)?;

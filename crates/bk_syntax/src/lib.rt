@@ -2,6 +2,7 @@
 #![tactic(auto)]
 
 mod commands;
+mod copy;
 mod definitions;
 mod expressions;
 mod frame;
