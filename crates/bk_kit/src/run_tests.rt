@@ -2,7 +2,7 @@
 use crate::tests::{Short, Slow, check};
 use crate::{LineFault, Order, order, serve};
 use bk_base::{Reader512, Writer512};
-use std::alloc::Global;
+use std::alloc::{AllocError, Global};
 use std::process::Abort;
 use std::test::Fail;
 
@@ -147,50 +147,44 @@ fn refused_sources(rt: HostRuntime) -> Result<(), Fail> {
     Ok(())
 }
 
+/// A text, and a byte behind it so many times.
+fn with_bytes(alloc: Global, start: &[u8], byte: u8, count: usize) -> Result<Vec<u8>, AllocError> {
+    let mut text = Vec::new(alloc);
+    for first in start {
+        text.push(*first)?;
+    }
+    for _ in 0..count {
+        text.push(byte)?;
+    }
+    Ok(text)
+}
+
 #[test]
 fn long_words_and_limits(rt: HostRuntime) -> Result<(), Fail> {
-    let mut source = Vec::new(rt.alloc());
-    for byte in b"GET \"LIBHDR\"\n" {
-        source.push(*byte)?;
+    let rows: [(&[u8], u8, usize, &[u8]); 3] = [
+        (
+            b"GET \"LIBHDR\"\n",
+            b'A',
+            256,
+            b"line 2: name over 255 bytes\n",
+        ),
+        (
+            b"GET \"LIBHDR\"\n$(",
+            b'A',
+            256,
+            b"line 2: section tag over 255 bytes\n",
+        ),
+        (
+            b"GET \"LIBHDR\"\n",
+            b'\n',
+            1_048_564,
+            b"line 1048565: section too long\n",
+        ),
+    ];
+    for (start, byte, count, line) in rows {
+        let source = with_bytes(rt.alloc(), start, byte, count)?;
+        check_source(&rt, rt.alloc(), source.as_slice(), 101, b"", line)?;
     }
-    for _ in 0..256 {
-        source.push(b'A')?;
-    }
-    check_source(
-        &rt,
-        rt.alloc(),
-        source.as_slice(),
-        101,
-        b"",
-        b"line 2: name over 255 bytes\n",
-    )?;
-    source[13] = b'$';
-    source[14] = b'(';
-    for _ in 0..2 {
-        source.push(b'A')?;
-    }
-    check_source(
-        &rt,
-        rt.alloc(),
-        source.as_slice(),
-        101,
-        b"",
-        b"line 2: section tag over 255 bytes\n",
-    )?;
-    for _ in source.len()..1_048_577 {
-        source.push(b'\n')?;
-    }
-    source[13] = b' ';
-    source[14] = b' ';
-    source[100] = b' ';
-    check_source(
-        &rt,
-        rt.alloc(),
-        source.as_slice(),
-        101,
-        b"",
-        b"line 1048307: section too long\n",
-    )?;
     Ok(())
 }
 
