@@ -1,5 +1,5 @@
 -- What the words of a whole text say, from what was taken of it.
-use Rattle.std.proofs.Common.{◌≡◌, ◌⊎◌, inl, inr, ℕ, ◌<◌, ◌++◌, Bool, true, false, IsTrue, List, [], ◌∷◌, Option, Some, None, Result, Ok, Err, length, map, arith, refl, sym, ap, ◌∙◌, subst, append_assoc, append-nil, length-append}
+use Rattle.std.proofs.Common.{◌≡◌, inl, inr, ℕ, ◌<◌, ◌++◌, Bool, IsTrue, List, [], Option, Some, None, Result, Ok, Err, length, map, refl, sym, ◌∙◌, subst}
 use Rattle.std.specs.Io.KnownBytes.{Consumes}
 use Rattle.bk_base.specs.Devices.{NothingLeft}
 use Rattle.bk_base.specs.declared.limit.TheConstants.{INPUT_BYTES}
@@ -11,64 +11,12 @@ use Rattle.bk_intcode.specs.declared.segment.Intcode.{Intcode}
 use Rattle.bk_intcode.specs.declared.item.Item.{Item}
 use Rattle.bk_intcode.specs.SegmentItems.{items_of}
 use Rattle.bk_intcode_text.specs.ItemText.{item_text}
-use Rattle.bk_intcode_text.specs.TextEnd.{AtEnd}
-use Rattle.bk_intcode_text.specs.Words.{is_blank, at_gap, onto_first, words_of, IsBehind}
-use Rattle.bk_intcode_text.specs.SegmentReading.{TakesWords, GivesSegment, GivesNothing, GivesFault, CutAt}
+use Rattle.bk_words.specs.TextEnd.{AtEnd}
+use Rattle.bk_words.specs.Words.{words_of}
+use Rattle.bk_intcode_text.specs.SegmentReading.{GivesSegment, GivesNothing, GivesFault, CutAt}
 use Rattle.bk_intcode_text.specs.FirstSaying.{Saying, segment, nothing, fault, Says}
 use Rattle.bk_intcode_text.specs.SegmentAnswer.{Takes, Answers, AnswersWords, Stands, StandsFor}
-use Rattle.bk_intcode_text.proofs.WordsLemmas.{chosen-true, chosen-false}
-
-bool_cases : (b : Bool) → (b ≡ true) ⊎ (b ≡ false)
-bool_cases true = inl refl
-bool_cases false = inr refl
-
-onto_some : (b : ℕ) (words : List (List ℕ)) → (w : List ℕ) × (ws : List (List ℕ)) × (onto_first b words ≡ w ∷ ws)
-onto_some b [] = (b ∷ [], [], refl)
-onto_some b (w ∷ ws) = (b ∷ w, ws, refl)
-
-words-some : (d : ℕ) (x : List ℕ) → is_blank d ≡ false → (w : List ℕ) × (ws : List (List ℕ)) × (words_of (d ∷ x) ≡ w ∷ ws)
-words-some d x inside = elim (bool_cases (at_gap x)) [
-  | inl gap ↦ (d ∷ [], words_of x, chosen-false (is_blank d) _ _ inside ∙ chosen-true (at_gap x) _ _ gap)
-  | inr on ↦ let h = onto_some d (words_of x) in (h.0, h.1, chosen-false (is_blank d) _ _ inside ∙ chosen-false (at_gap x) _ _ on ∙ h.2)
-]
-
-onto-append : (b : ℕ) (words more : List (List ℕ)) (w : List ℕ) (ws : List (List ℕ)) → words ≡ w ∷ ws → onto_first b (words ++ more) ≡ onto_first b words ++ more
-onto-append b words more w ws is = ap (λ (l : List (List ℕ)). onto_first b (l ++ more)) is ∙ ap (λ (l : List (List ℕ)). onto_first b l ++ more) (sym is)
-
--- a gap parts the words
-words_parted : (x y : List ℕ) → at_gap y ≡ true → words_of (x ++ y) ≡ words_of x ++ words_of y
-words_parted [] y gap = refl
-words_parted (b ∷ []) y gap = elim (bool_cases (is_blank b)) [
-  | inl blank ↦ chosen-true (is_blank b) _ _ blank ∙ ap (λ (l : List (List ℕ)). l ++ words_of y) (sym (chosen-true (is_blank b) [] ((b ∷ []) ∷ []) blank))
-  | inr inside ↦ chosen-false (is_blank b) _ _ inside ∙ chosen-true (at_gap y) _ _ gap ∙ ap (λ (l : List (List ℕ)). l ++ words_of y) (sym (chosen-false (is_blank b) [] ((b ∷ []) ∷ []) inside))
-]
-words_parted (b ∷ d ∷ x) y gap = elim (bool_cases (is_blank b)) [
-  | inl blank ↦ chosen-true (is_blank b) _ _ blank ∙ words_parted (d ∷ x) y gap ∙ ap (λ (l : List (List ℕ)). l ++ words_of y) (sym (chosen-true (is_blank b) (words_of (d ∷ x)) _ blank))
-  | inr inside ↦ elim (bool_cases (is_blank d)) [
-    | inl blank ↦ chosen-false (is_blank b) _ _ inside ∙ chosen-true (is_blank d) _ _ blank ∙ ap (λ (l : List (List ℕ)). (b ∷ []) ∷ l) (words_parted (d ∷ x) y gap)
-        ∙ ap (λ (l : List (List ℕ)). l ++ words_of y) (sym (chosen-false (is_blank b) _ _ inside ∙ chosen-true (is_blank d) ((b ∷ []) ∷ words_of (d ∷ x)) _ blank))
-    | inr within ↦ let h = words-some d x within in
-        chosen-false (is_blank b) _ _ inside ∙ chosen-false (is_blank d) _ _ within ∙ ap (onto_first b) (words_parted (d ∷ x) y gap) ∙ onto-append b (words_of (d ∷ x)) (words_of y) h.0 h.1 h.2
-        ∙ ap (λ (l : List (List ℕ)). l ++ words_of y) (sym (chosen-false (is_blank b) _ _ inside ∙ chosen-false (is_blank d) _ (onto_first b (words_of (d ∷ x))) within))
-  ]
-]
-
--- the words that were taken, and those that are left
-words_left : (text behind left : List ℕ) (end : Type 0) (words : List (List ℕ)) → words_of text ≡ words → IsBehind behind end → (end → left ≡ []) → words_of ((text ++ behind) ++ left) ≡ words ++ words_of left
-words_left text behind left end words are (inl p) over =
-    ap words_of (append_assoc text behind left) ∙ ap (λ (b : List ℕ). words_of (text ++ (b ++ left))) p.2
-    ∙ words_parted text (p.0 ∷ left) p.1 ∙ ap (λ (l : List (List ℕ)). l ++ words_of (p.0 ∷ left)) are ∙ ap (λ (l : List (List ℕ)). words ++ l) (chosen-true (is_blank p.0) _ _ p.1)
-words_left text behind left end words are (inr p) over =
-    let none : left ≡ [] = over p.1 in
-    ap (λ (l : List ℕ). words_of ((text ++ behind) ++ l)) none ∙ ap words_of (append-nil (text ++ behind)) ∙ ap (λ (b : List ℕ). words_of (text ++ b)) p.0 ∙ ap words_of (append-nil text) ∙ are
-    ∙ sym (ap (λ (l : List ℕ). words ++ words_of l) none ∙ append-nil words)
-
-words_of-all : (all taken left : List ℕ) (end : Type 0) (words : List (List ℕ)) → all ≡ taken ++ left → TakesWords taken end words → (end → left ≡ []) → words_of all ≡ words ++ words_of left
-words_of-all all taken left end words is t over =
-    ap words_of (is ∙ ap (λ (l : List ℕ). l ++ left) t.whole) ∙ words_left t.text t.behind left end words t.are t.past over
-
-words_of-ended : (all taken left : List ℕ) → all ≡ taken ++ left → left ≡ [] → words_of all ≡ words_of taken
-words_of-ended all taken left is none = ap words_of (is ∙ ap (λ (l : List ℕ). taken ++ l) none ∙ append-nil taken)
+use Rattle.bk_words.specs.WordLaws.{words_of-all, words_of-ended, known, nothing_left_at}
 
 -- what a text says, from what was taken of it
 segment_says : (all taken left : List ℕ) (end : Type 0) (items : List Item) → all ≡ taken ++ left → GivesSegment taken end items → (end → left ≡ []) → Says (segment items) (words_of all)
@@ -96,15 +44,6 @@ answer_stands old new ended (Err (Fault f)) t = stands_for old new ended (λ tak
     (λ taken more end given over. fault_says (taken ++ more) taken more end f.item f.kind refl given over) t
 answer_stands old new ended (Err Memory) t = tt
 answer_stands old new ended (Err Device) t = tt
-
--- the bytes taken and those left
-known : (all : List ℕ) (new : Option (List ℕ)) (taken : List ℕ) → Consumes (Some all) new taken → (left : List ℕ) × (new ≡ Some left) × (all ≡ taken ++ left)
-known all None taken is = absurd is
-known all (Some left) taken is = (left, refl, is)
-
-nothing_left_at : (all taken left : List ℕ) (new : Option (List ℕ)) (ended : Bool) → length all < INPUT_BYTES → all ≡ taken ++ left → new ≡ Some left → (IsTrue ended → NothingLeft new) → AtEnd ended (length taken) → left ≡ []
-nothing_left_at all taken left new ended short is known told (inl e) = told e left known
-nothing_left_at all taken left new ended short is known told (inr e) = absurd (omega (arith, short, e, ap (λ (l : List ℕ). length l) is, length-append taken left))
 
 module _ (old new : Option (List ℕ)) (ended : Bool) (all : List ℕ) (is : old ≡ Some all) (short : length all < INPUT_BYTES) (told : IsTrue ended → NothingLeft new) where
   taken_says : (what : List ℕ → Type 0 → Type 0) (say : Saying) → ((taken left : List ℕ) (end : Type 0) → all ≡ taken ++ left → what taken end → (end → left ≡ []) → Says say (words_of all)) → Takes old new ended what → Says say (words_of all)

@@ -9,7 +9,7 @@ use Rattle.bk_intcode.specs.declared.item.Item.TheVariants.{Instruction, SetLabe
 use Rattle.bk_intcode_text.specs.ItemText.{item_text}
 use Rattle.bk_intcode_text.specs.SegmentText.{segment_text}
 use Rattle.bk_intcode_text.specs.ItemFault.{item_fault}
-use Rattle.bk_intcode_text.specs.Words.{words_of}
+use Rattle.bk_words.specs.Words.{words_of}
 
 text-indirect : item_text (Instruction Load true (Global (pos 4))) ≡ codes "LIG4"
 unfolding digits

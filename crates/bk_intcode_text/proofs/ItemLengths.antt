@@ -1,7 +1,6 @@
 -- No item's word has more than 16 bytes.
-use Rattle.std.proofs.Common.{◌≡◌, ℕ, ◌<◌, ◌≤◌, ◌^◌, Bool, true, false, pos, ℤ, FitsSigned, w32, List, ◌∷◌, length, get_or, arith, ap, length-append}
-use lib.Signed.{mag}
-use Rattle.std.proofs.lemmas.Fmt.{length-decimal-le, length_signed_le}
+use Rattle.std.proofs.Common.{◌≡◌, ℕ, ◌<◌, ◌≤◌, ◌^◌, Bool, true, false, pos, List, ◌∷◌, length, get_or, arith, ap, length-append}
+use Rattle.std.proofs.lemmas.Fmt.{length-decimal-le}
 use Rattle.bk_base.specs.Decimal.{spelling}
 use Rattle.bk_base.specs.declared.intcode_fault.IntcodeKind.TheVariants.{BadNumber}
 use Rattle.bk_intcode.specs.declared.item.Operand.{Operand}
@@ -10,11 +9,8 @@ use Rattle.bk_intcode.specs.declared.item.Item.{Item}
 use Rattle.bk_intcode.specs.declared.item.Item.TheVariants.{Instruction, SetLabel, Byte, Word, LabelWord, SetGlobal, Frame, End}
 use Rattle.bk_intcode_text.specs.ItemText.{indirect_text, operand_text, item_text}
 use Rattle.bk_intcode.specs.Segment.{IsOperand, IsItem}
-use Rattle.bk_intcode_text.proofs.Numerals.{length-global}
+use Rattle.bk_words.specs.Numerals.{length-global, length-word}
 use Rattle.bk_intcode_text.specs.WordMeaning.{WordFault, begins_item}
-
-length-word : (z : ℤ) → FitsSigned w32 z → length (spelling z) ≤ 11
-length-word z fits = let h : mag z < 2 ^ 31 = fits.sfits in length_signed_le 10 z (omega arith) (omega arith)
 
 length-natural : (n : ℕ) → n < 2 ^ 31 → length (spelling (pos n)) ≤ 10
 length-natural n small = length-decimal-le 10 n (omega arith) (omega arith) (omega arith)

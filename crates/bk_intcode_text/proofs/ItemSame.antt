@@ -13,7 +13,7 @@ use Rattle.bk_intcode.specs.declared.item.Item.{Item}
 use Rattle.bk_intcode.specs.declared.item.Item.TheVariants.{Instruction, SetLabel, Byte, Word, LabelWord, SetGlobal, Frame, End}
 use Rattle.bk_intcode_text.specs.ItemText.{letter, indirect_text, operand_text, item_text}
 use Rattle.bk_intcode.specs.Segment.{IsOperand, IsItem}
-use Rattle.bk_intcode_text.proofs.Numerals.{mag-fits, rest_same, apart, digit-at, at_seam, no_spelling}
+use Rattle.bk_words.specs.Numerals.{mag-fits, rest_same, apart, digit-at, at_seam, no_spelling}
 use Rattle.bk_intcode_text.proofs.OperandLemmas.{no_operand-indirect}
 use Rattle.bk_intcode_text.proofs.WordLemmas.{other_class, letter-class, global_parts}
 

@@ -1,13 +1,9 @@
-pub mod Numerals
 pub mod Parts
 pub mod SegmentLemmas
 pub mod OperandLemmas
 pub mod WordLemmas
-pub mod Takes
 pub mod ItemLengths
-pub mod NextWord
 pub mod DraftLemmas
-pub mod WordsLemmas
 pub mod BegunLemmas
 pub mod ReadingLemmas
 pub mod ItemSame

@@ -21,7 +21,7 @@ use Rattle.bk_intcode_text.specs.ItemFault.{operand_is_set, use_is_set, all_set,
 use Rattle.bk_intcode_text.specs.WordMeaning.{Means, WordFault, begins_item, IsByteOver255}
 use Rattle.bk_intcode_text.specs.SegmentReading.{IsBegun, FaultBehind, FaultAt, CutAt}
 use Rattle.bk_intcode_text.specs.FirstSaying.{segment, nothing, fault, Says, SayOneThing}
-use Rattle.bk_intcode_text.proofs.Numerals.{rest_same, first-numeral}
+use Rattle.bk_words.specs.Numerals.{rest_same, first-numeral}
 use Rattle.bk_intcode_text.proofs.WordLemmas.{each_digit, other_class, nothing-empty}
 use Rattle.bk_intcode_text.proofs.BegunLemmas.{get_low, get-take, sets-at}
 use Rattle.bk_intcode_text.proofs.ItemSame.{item_same}

@@ -1,5 +1,5 @@
 -- Answers by cases, from what holds of their values.
-use Rattle.std.proofs.Common.{Option, None, Some, Result, Ok, Err, OnErr, IfErr, IfNone}
+use Rattle.std.proofs.Common.{Option, None, Some, Result, Ok, Err, OnErr, IfOk, IfErr, IfNone}
 
 pub on_err : {T E P : Type 0} (r : Result T E) → P → OnErr r P
 on_err (Ok x) p = tt
@@ -12,3 +12,7 @@ on_none (Some x) p = tt
 pub if_err_map : {T E : Type 0} (r : Result T E) (P Q : E → Type 0) → ((e : E) → P e → Q e) → IfErr r P → IfErr r Q
 if_err_map (Ok x) P Q f h = tt
 if_err_map (Err e) P Q f h = f e h
+
+pub if_ok_map : {T E : Type 0} (r : Result T E) (P Q : T → Type 0) → ((x : T) → P x → Q x) → IfOk r P → IfOk r Q
+if_ok_map (Ok x) P Q f h = f x h
+if_ok_map (Err e) P Q f h = tt

@@ -14,12 +14,11 @@ use Rattle.bk_intcode.specs.Segment.{IsOperand, IsItem, AreItems}
 use Rattle.bk_intcode.specs.SegmentItems.{items_of}
 use Rattle.bk_intcode.specs.SegmentLaws.{segment_whole}
 use Rattle.bk_intcode_text.specs.SegmentText.{segment_text}
-use Rattle.bk_intcode_text.specs.Words.{is_blank, words_of, AreInWord}
+use Rattle.bk_words.specs.Words.{is_blank, words_of, AreInWord}
 use Rattle.bk_intcode_text.specs.FirstSaying.{PrintedSaysAgain}
-use Rattle.bk_intcode_text.proofs.Takes.{AreInWord-append}
-use Rattle.bk_intcode_text.proofs.Numerals.{mag-fits, digit-at}
+use Rattle.bk_words.specs.Numerals.{mag-fits, digit-at}
 use Rattle.bk_intcode_text.proofs.WordLemmas.{each_digit, nothing-empty}
-use Rattle.bk_intcode_text.proofs.WordsLemmas.{words_of-word}
+use Rattle.bk_words.specs.WordLaws.{words_of-word, AreInWord-append}
 
 digit-inside : (b : ℕ) → 48 ≤ b → b ≤ 57 → is_blank b ≡ false
 digit-inside b low high = each_digit (λ n. is_blank n ≡ false) refl refl refl refl refl refl refl refl refl refl b low high

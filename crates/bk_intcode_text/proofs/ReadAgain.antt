@@ -5,7 +5,7 @@ use Rattle.bk_base.specs.declared.refused.Refused.TheVariants.{Fault, Memory, De
 use Rattle.bk_intcode.specs.declared.item.Item.{Item}
 use Rattle.bk_intcode.specs.SegmentItems.{items_of}
 use Rattle.bk_intcode_text.specs.SegmentText.{segment_text}
-use Rattle.bk_intcode_text.specs.Words.{words_of}
+use Rattle.bk_words.specs.Words.{words_of}
 use Rattle.bk_intcode_text.specs.FirstSaying.{segment, nothing, fault}
 use Rattle.bk_intcode_text.specs.SegmentAnswer.{PrintedIsReadAgain}
 use Rattle.bk_intcode_text.proofs.PrintedLemmas.{printed_again}

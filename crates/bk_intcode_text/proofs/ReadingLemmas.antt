@@ -11,13 +11,15 @@ use Rattle.bk_intcode_text.specs.declared.words.Found.TheVariants.{Fault, Nothin
 use Rattle.bk_intcode_text.specs.declared.words.Found.TheVariants as founds
 use Rattle.bk_intcode_text.specs.ItemText.{item_text}
 use Rattle.bk_intcode_text.specs.ItemFault.{item_fault}
-use Rattle.bk_intcode_text.specs.TextEnd.{AtEnd}
-use Rattle.bk_intcode_text.specs.Words.{words_of}
-use Rattle.bk_intcode_text.specs.Next.{IsNext, TakesWord}
-use Rattle.bk_intcode_text.specs.SegmentReading.{IsBegun, FaultBehind, TakesWords, GivesSegment, GivesNothing, GivesFault}
+use Rattle.bk_words.specs.TextEnd.{AtEnd}
+use Rattle.bk_words.specs.Words.{words_of}
+use Rattle.bk_words.specs.Gathering.{TakesWord}
+use Rattle.bk_words.specs.Taking.{TakesWords}
+use Rattle.bk_intcode_text.specs.Next.{IsNext}
+use Rattle.bk_intcode_text.specs.SegmentReading.{IsBegun, FaultBehind, GivesSegment, GivesNothing, GivesFault}
 use Rattle.bk_intcode_text.specs.SegmentAnswer.{Takes}
 use Rattle.bk_base.specs.DeviceLaws.{Consumes-nothing, Consumes-trans}
-use Rattle.bk_intcode_text.proofs.WordsLemmas.{IsParted, IsParted-empty, IsParted-word, TakesWords-word, words_of-last, words_of-more_blanks}
+use Rattle.bk_words.specs.WordLaws.{IsParted, IsParted-empty, IsParted-word, TakesWords-word, words_of-last, words_of-more_blanks}
 use Rattle.bk_intcode_text.proofs.BegunLemmas.{IsBegun-push, IsSegment-of}
 
 -- what was taken so far: the words of these items, parted from those that follow

@@ -10,7 +10,7 @@ use Rattle.bk_intcode.specs.declared.item.Item.TheVariants.{Instruction, SetLabe
 use Rattle.bk_intcode_text.specs.ItemText.{letter, indirect_text, operand_text, item_text}
 use Rattle.bk_intcode.specs.Segment.{IsOperand, IsItem}
 use Rattle.bk_intcode_text.specs.WordMeaning.{MeansNothing, is_digit, is_function, begins_item, WordFault}
-use Rattle.bk_intcode_text.proofs.Numerals.{fits-pos, rest_same, digit-at, at_seam, first-numeral, no_spelling, spelling-some}
+use Rattle.bk_words.specs.Numerals.{fits-pos, rest_same, digit-at, at_seam, first-numeral, no_spelling, spelling-some}
 use Rattle.std.specs.Int.{IsInRange}
 use Rattle.std.proofs.lemmas.Bool.{cases_lt}
 use Rattle.std.proofs.Math.Seq.{take-append_seam, drop-append-add}

@@ -9,7 +9,7 @@ use Rattle.bk_intcode.specs.SegmentItems.{items_of}
 use Rattle.bk_intcode.specs.declared.segment.Intcode.{Intcode}
 use Rattle.bk_intcode_text.specs.SegmentText.{segment_text}
 use Rattle.bk_intcode_text.specs.SegmentReading.{FaultAt, CutAt}
-use Rattle.bk_intcode_text.specs.Words.{words_of}
+use Rattle.bk_words.specs.Words.{words_of}
 
 -- a segment, nothing, or the first fault with the number of its item
 pub data Saying : Type 0 where

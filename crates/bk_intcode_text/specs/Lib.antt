@@ -1,11 +1,8 @@
 pub mod ItemText
 pub mod SegmentText
 pub mod WordMeaning
-pub mod Words
-pub mod TextEnd
 pub mod ItemFault
 pub mod SegmentReading
-pub mod Gathering
 pub mod Next
 pub mod Drafts
 pub mod SegmentAnswer

@@ -9,8 +9,8 @@ use Rattle.bk_intcode.specs.declared.item.Item.{Item}
 use Rattle.bk_intcode.specs.SegmentItems.{items_of}
 use Rattle.bk_intcode_text.specs.ItemText.{item_text}
 use Rattle.bk_intcode_text.specs.SegmentText.{segment_text}
-use Rattle.bk_intcode_text.specs.Words.{words_of}
-use Rattle.bk_intcode_text.specs.TextEnd.{AtEnd}
+use Rattle.bk_words.specs.Words.{words_of}
+use Rattle.bk_words.specs.TextEnd.{AtEnd}
 use Rattle.bk_intcode_text.specs.FirstSaying.{Says, segment, nothing, fault}
 use Rattle.bk_intcode_text.specs.SegmentReading.{GivesSegment, GivesNothing, GivesFault}
 

@@ -8,7 +8,8 @@ use Rattle.bk_intcode_text.specs.ItemText.{item_text}
 use Rattle.bk_intcode.specs.Segment.{IsSegment, AreItems}
 use Rattle.bk_intcode_text.specs.ItemFault.{item_fault}
 use Rattle.bk_intcode_text.specs.WordMeaning.{Means, WordFault}
-use Rattle.bk_intcode_text.specs.Words.{words_of, EndsInWord, IsBehind}
+use Rattle.bk_words.specs.Words.{words_of}
+use Rattle.bk_words.specs.Taking.{TakesWords}
 
 -- Items of a segment that goes on: none has a fault behind those before it, and none is the end.
 pub record IsBegun (items : List Item) : Type 0 where
@@ -37,15 +38,6 @@ pub record CutAt (words : List (List ℕ)) (number : ℕ) : Type 0 where
   pub some : 0 < length before
   pub are : words ≡ map item_text before
   pub place : number ≡ length before + 1
-
--- What was taken of a text ends with these words: it goes up to the end of the last, and a blank more if there is one.
-pub record TakesWords (taken : List ℕ) (end : Type 0) (words : List (List ℕ)) : Type 0 where
-  pub text : List ℕ
-  pub behind : List ℕ
-  pub whole : taken ≡ text ++ behind
-  pub are : words_of text ≡ words
-  pub ends : EndsInWord text
-  pub past : IsBehind behind end
 
 -- The bytes that were taken are the words of this segment.
 abbrev pub GivesSegment : List ℕ → Type 0 → List Item → Type 0

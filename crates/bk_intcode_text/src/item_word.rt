@@ -4,10 +4,10 @@ ghost use Rattle.bk_base.specs.Decimal.{spelling};
 ghost use Rattle.bk_intcode.specs.Segment.{IsLabel, IsOperand, IsItem};
 ghost use Rattle.bk_intcode_text.specs.ItemText.{letter, operand_text, item_text};
 
-use crate::word_buffer::WordBuffer;
 use bk_base::limit::GLOBAL_NUMBER;
 use bk_base::word_text;
 use bk_intcode::{Function, Item, Operand};
+use bk_words::WordBuffer;
 
 /// The letter of a function.
 pub fn letter_of(function: Function) -> u8

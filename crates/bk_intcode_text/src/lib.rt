@@ -11,7 +11,6 @@ mod program_tests;
 mod reading;
 #[cfg(test)]
 mod tests;
-mod word_buffer;
 mod words;
 
 pub use laws::{one_saying, printed_again, read_again};

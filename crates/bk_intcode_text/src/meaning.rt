@@ -1,15 +1,15 @@
 //! What a word of a text means.
-ghost use Rattle.std.specs.Prelude.{◌≡◌, ◌≢◌, ℕ, ℤ, pos, FitsSigned, ◌+◌, ◌<◌, ◌≤◌, ◌^◌, false, IsTrue, List, [], ◌∷◌, ◌++◌, take, drop, length, slice_index, IfSome, IfNone, IfOk, IfErr};
-ghost use Rattle.std.specs.Int.{w32};
+ghost use Rattle.std.specs.Prelude.{◌≡◌, ◌≢◌, ℕ, pos, ◌+◌, ◌<◌, ◌≤◌, ◌^◌, false, IsTrue, List, [], ◌∷◌, ◌++◌, take, drop, length, slice_index, IfSome, IfNone, IfOk, IfErr};
 ghost use Rattle.bk_base.specs.Decimal.{spelling};
 ghost use Rattle.bk_intcode.specs.Segment.{IsLabel};
 ghost use Rattle.bk_intcode_text.specs.ItemText.{letter, indirect_text, operand_text};
 ghost use Rattle.bk_intcode.specs.Segment.{IsOperand};
 ghost use Rattle.bk_intcode_text.specs.WordMeaning.{Means, MeansNothing, WordFault, is_digit, is_function, begins_item};
 
+use bk_base::IntcodeKind;
 use bk_base::limit::{FRAME_WORDS, FRAME_WORDS_LEAST, GLOBAL_NUMBER, INTCODE_LABEL};
-use bk_base::{IntcodeKind, read_word};
 use bk_intcode::{Function, Item, Operand};
+use bk_words::{natural, number, within};
 
 /// The first byte, and those behind it.
 fn first_and_rest(bytes: &[u8]) -> Option<(u8, &[u8])>
@@ -20,42 +20,6 @@ fn first_and_rest(bytes: &[u8]) -> Option<(u8, &[u8])>
         [] => None,
         [first, rest @ ..] => Some((*first, rest)),
     }
-}
-
-/// The number of 32 bits that the bytes spell.
-fn number(bytes: &[u8]) -> Option<i32>
-    ensures found { IfSome result (λ z. FitsSigned w32 z × (spelling z ≡ bytes.now)) }
-    ensures none { IfNone result ((z : ℤ) → FitsSigned w32 z → spelling z ≢ bytes.now) }
-{
-    read_word(bytes)
-}
-
-/// The number from 0 that the bytes spell.
-fn natural(bytes: &[u8]) -> Option<u32>
-    ensures found { IfSome result (λ n. (n < 2 ^ 31) × (spelling (pos n) ≡ bytes.now)) }
-    ensures none { IfNone result ((n : ℕ) → n < 2 ^ 31 → spelling (pos n) ≢ bytes.now) }
-{
-    let word = number(bytes)?;
-    if word < 0 {
-        return None;
-    }
-    Some(word as u32)
-}
-
-/// The number in these bounds that the bytes spell.
-fn within(bytes: &[u8], least: u32, most: u32) -> Option<u32>
-    requires { most < 2 ^ 31 }
-    ensures found { IfSome result (λ n. (least ≤ n) × (n ≤ most) × (spelling (pos n) ≡ bytes.now)) }
-    ensures none { IfNone result ((n : ℕ) → least ≤ n → n ≤ most → spelling (pos n) ≢ bytes.now) }
-{
-    let n = natural(bytes)?;
-    if n < least {
-        return None;
-    }
-    if n > most {
-        return None;
-    }
-    Some(n)
 }
 
 /// The label whose number the bytes spell.

@@ -2,7 +2,7 @@
 ghost use Rattle.std.specs.Prelude.{◌≡◌, ℕ, ◌+◌, ◌<◌, ◌≤◌, List, Some, None, Ok, Err, IsTrue, length, if◌then◌else◌};
 ghost use Rattle.std.specs.Io.KnownBytes.{Keeps};
 ghost use Rattle.bk_intcode_text.specs.SegmentAnswer.{Answers, StandsFor, AnswersWords, is_device};
-ghost use Rattle.bk_intcode_text.specs.Words.{words_of};
+ghost use Rattle.bk_words.specs.Words.{words_of};
 
 use crate::draft::Draft;
 use crate::words::{Found, next_item};

@@ -12,8 +12,8 @@ use Rattle.bk_intcode.specs.Segment.{IsSegment}
 use Rattle.bk_intcode.specs.SegmentItems.{items_of}
 use Rattle.bk_intcode.specs.SegmentLaws.{segment_whole}
 use Rattle.bk_intcode_text.specs.ItemText.{item_text}
-use Rattle.bk_intcode_text.specs.TextEnd.{AtEnd}
-use Rattle.bk_intcode_text.specs.Words.{words_of}
+use Rattle.bk_words.specs.TextEnd.{AtEnd}
+use Rattle.bk_words.specs.Words.{words_of}
 use Rattle.bk_intcode_text.specs.SegmentAnswer.{StandsFor}
 use Rattle.bk_kit.specs.Code.{segments, refused, segments_words, AreSegments, segment_number, CodeStands}
 

@@ -6,7 +6,7 @@ use Rattle.bk_base.specs.declared.limit.TheConstants.{INPUT_BYTES}
 use Rattle.bk_intcode.specs.declared.item.Item.{Item}
 use Rattle.bk_intcode.specs.Segment.{IsSegment}
 use Rattle.bk_intcode_text.specs.ItemText.{item_text}
-use Rattle.bk_intcode_text.specs.Words.{words_of}
+use Rattle.bk_words.specs.Words.{words_of}
 use Rattle.bk_intcode_text.specs.FirstSaying.{Says, fault}
 
 -- the segments, or the number of a refused one with its item and what is wrong there

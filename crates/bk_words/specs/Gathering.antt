@@ -4,8 +4,9 @@ use Rattle.bk_words.specs.declared.words.Gathered.{Gathered}
 use Rattle.bk_words.specs.declared.word_buffer.TheConstants.{SIZE}
 use Rattle.bk_words.specs.Words.{is_blank, AreBlank, AreInWord}
 
--- the whole word, or that it is longer than what is held of a word
+-- the first byte, and the whole word or that it is longer than what is held of a word
 pub record HoldsWord (held : List ℕ) (is_long : Bool) (word : List ℕ) : Type 0 where
+  pub first : (byte : ℕ) (rest : List ℕ) → word ≡ byte ∷ rest → (more : List ℕ) × (held ≡ byte ∷ more)
   pub short : is_long ≡ false → held ≡ word
   pub long : is_long ≡ true → SIZE < length word
 

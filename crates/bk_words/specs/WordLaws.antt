@@ -9,6 +9,11 @@ use Rattle.bk_words.specs.Words.{is_blank, at_gap, onto_first, words_of, AreBlan
 use Rattle.bk_words.specs.Gathering.{IsBehindWord, TakesWord}
 use Rattle.bk_words.specs.Taking.{TakesWords, TakesSome, Reads, ReadsAll}
 
+-- two parts of a word
+pub AreInWord-append : (x y : List ℕ) → AreInWord x → AreInWord y → AreInWord (x ++ y)
+AreInWord-append [] y p q = q
+AreInWord-append (b ∷ x) y p q = (p.0, AreInWord-append x y p.1 q)
+
 -- the words are those of the text and those of what follows
 abbrev pub IsParted : List ℕ → Type 0
 IsParted text = (more : List ℕ) → words_of (text ++ more) ≡ words_of text ++ words_of more

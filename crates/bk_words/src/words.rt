@@ -88,6 +88,13 @@ impl Gathered {
         }
     }
 
+    /// Its first byte.
+    pub fn first(&self) -> Option<u8>
+        ensures { (first : ℕ) (rest : List ℕ) → Holds self.now (first ∷ rest) → result ≡ Some first }
+    {
+        self.word.as_bytes().first().copied()
+    }
+
     /// The number of 32 bits that it spells.
     pub fn number(&self) -> Option<i32>
         ensures found { IfSome result (λ z. FitsSigned w32 z × ((word : List ℕ) → Holds self.now word → spelling z ≡ word)) }

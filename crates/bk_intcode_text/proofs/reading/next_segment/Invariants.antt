@@ -2,10 +2,10 @@ use Rattle.std.proofs.Common.{◌≡◌, ◌-◌, ◌<◌, ◌≤◌, ℕ, List,
 use Rattle.std.specs.Io.KnownBytes.{Consumes, Keeps}
 use Rattle.bk_base.specs.declared.limit.TheConstants.{INPUT_BYTES, INTCODE_ITEMS}
 use Rattle.bk_intcode_text.specs.ItemText.{item_text}
-use Rattle.bk_intcode_text.specs.Words.{words_of}
+use Rattle.bk_words.specs.Words.{words_of}
 use Rattle.bk_intcode_text.specs.Drafts.{IsDraft}
 use Rattle.bk_intcode_text.specs.SegmentReading.{IsBegun}
-use Rattle.bk_intcode_text.proofs.WordsLemmas.{IsParted}
+use Rattle.bk_words.specs.WordLaws.{IsParted}
 use Rattle.bk_intcode_text.proofs.reading.next_segment.Given as goal
 
 abbrev pub invariant-loop-found : goal.invariant-loop-found

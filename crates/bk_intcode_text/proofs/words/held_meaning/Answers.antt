@@ -1,19 +1,26 @@
-use Rattle.std.proofs.Common.{◌≡◌, ◌∙◌, ◌∷◌, sym, subst, List, ℕ, true, false}
+use Rattle.std.proofs.Common.{◌≡◌, ◌∙◌, ◌∷◌, sym, subst, ap, List, ℕ, Some}
 use Rattle.bk_base.specs.declared.intcode_fault.IntcodeKind.{IntcodeKind}
-use Rattle.bk_intcode_text.specs.WordMeaning.{WordFault}
-use Rattle.bk_intcode_text.specs.Gathering.{Holds}
-use Rattle.bk_intcode_text.proofs.Parts.{if_err_map}
+use Rattle.bk_intcode.specs.declared.item.Item.{Item}
+use Rattle.bk_words.specs.Gathering.{Holds}
+use Rattle.bk_intcode_text.specs.WordMeaning.{Means, WordFault, begins_item}
+use Rattle.bk_intcode_text.proofs.Parts.{if_ok_map, if_err_map}
 use Rattle.bk_intcode_text.proofs.ItemLengths.{long_fault}
 use Rattle.bk_intcode_text.proofs.words.held_meaning.Goals as goal
 
-pub returns-then-not-held-clause-fault : goal.returns-then-not-held-clause-fault
-returns-then-not-held-clause-fault c =
-    let short : c.args.held.now.long ≡ false = c.if-not-held.true in
-    if_err_map c.meaning_of.result (WordFault c.as_bytes.result.now)
-    (λ (kind : IntcodeKind). (rest : List ℕ) → Holds c.args.held.now (c.args.first ∷ rest) → WordFault (c.args.first ∷ rest) kind)
-    (λ kind fault rest h. subst (λ (w : List ℕ). WordFault w kind) (c.as_bytes.ensures.value ∙ h.short short) fault) c.meaning_of.ensures.fault
+pub returns-in-Some-clause-item : goal.returns-in-Some-clause-item
+returns-in-Some-clause-item c =
+    if_ok_map c.meaning_of.result (Means c.in-Some.word.now)
+    (λ (item : Item). (first : ℕ) (rest : List ℕ) → Holds c.args.held.now (first ∷ rest) → Means (first ∷ rest) item)
+    (λ item means first rest h. subst (λ (w : List ℕ). Means w item) (c.in-Some.ensures.short (first ∷ rest) h) means) c.meaning_of.ensures.item
 
-pub returns-then-begins-clause-fault : goal.returns-then-begins-clause-fault
-returns-then-begins-clause-fault c = λ rest h.
-    let long : c.args.held.now.long ≡ true = c.if-not-held.false in
-    long_fault (c.args.first ∷ rest) (h.long long) (sym c.begins.ensures ∙ c.if-begins.true)
+pub returns-in-Some-clause-fault : goal.returns-in-Some-clause-fault
+returns-in-Some-clause-fault c =
+    if_err_map c.meaning_of.result (WordFault c.in-Some.word.now)
+    (λ (kind : IntcodeKind). (first : ℕ) (rest : List ℕ) → Holds c.args.held.now (first ∷ rest) → WordFault (first ∷ rest) kind)
+    (λ kind fault first rest h. subst (λ (w : List ℕ). WordFault w kind) (c.in-Some.ensures.short (first ∷ rest) h) fault) c.meaning_of.ensures.fault
+
+pub returns-in-Some-first-clause-fault : goal.returns-in-Some-first-clause-fault
+returns-in-Some-first-clause-fault c = λ first rest h.
+    let told : Some first ≡ Some c.in-Some-first.first = sym (c.first.ensures first rest h) ∙ c.in-Some-first.is in
+    let same : first ≡ c.in-Some-first.first = cc in
+    long_fault (first ∷ rest) (c.in_default.ensures.long (first ∷ rest) h) (ap begins_item same ∙ sym c.begins.ensures ∙ c.if-begins.true)

@@ -1,29 +1,18 @@
-use Rattle.std.proofs.Common.{◌≡◌, ◌++◌, ◌∷◌, [], false}
-use Rattle.bk_intcode_text.specs.Words.{is_blank}
-use Rattle.bk_base.specs.DeviceLaws.{Consumes-trans}
-use Rattle.bk_intcode_text.proofs.NextWord.{the_word, count-both}
+use Rattle.std.proofs.Common.{◌≡◌, ◌+◌, Bool, List, ℕ, sym, subst, length}
+use Rattle.std.specs.Io.KnownBytes.{Consumes}
+use Rattle.bk_words.specs.TextEnd.{AtEnd}
+use Rattle.bk_intcode_text.specs.Next.{IsNext}
+use Rattle.bk_intcode_text.specs.declared.words.Found.TheVariants.{Item}
 use Rattle.bk_intcode_text.proofs.words.next_item.Goals as goal
 
 pub returns-in-Ok-clause-gives : goal.returns-in-Ok-clause-gives
 returns-in-Ok-clause-gives g c =
-    let first = c.in-Some.first in
-    let q = rw c.in-Some.is at c.in_ok-first.ensures.gives in
-    let inside : is_blank first ≡ false = rw c.in-Some.is at c.in_ok-first.ensures.word in
-    let r = c.in_ok-held.ensures.gives in (
-      (q.0 ++ first ∷ []) ++ (r.0 ++ r.1),
-      Consumes-trans _ _ _ (q.0 ++ first ∷ []) (r.0 ++ r.1) q.2 r.5,
-      count-both (q.0 ++ first ∷ []) (r.0 ++ r.1) c.first_byte.new.taken c.args.taken.now c.rest_of_word.new.taken q.3 r.6,
-      (the_word q.0 first r.0 r.1 c.in_ok-held.last _ q.1 inside r.2 r.4, c.in-Ok.ensures.item r.0 r.3),
-    )
+    let q = rw c.in-Some.is at c.in_ok-held.ensures.gives in
+    subst (λ (last : Bool). (given : List ℕ) × Consumes (g.I.ByteIn.left c.args.input.now) (g.I.ByteIn.left c.next_word.new.input) given
+    × (c.next_word.new.taken ≡ c.args.taken.now + length given) × IsNext (Item c.in-Ok.item last) given (AtEnd (g.I.ByteIn.ended c.next_word.new.input) c.next_word.new.taken))
+    (sym c.is_last.ensures) (q.0, q.1, q.2, (q.3.0, c.in-Ok.ensures.item q.3.0.first q.3.0.rest q.3.1))
 
 pub returns-in-Err-clause-gives : goal.returns-in-Err-clause-gives
 returns-in-Err-clause-gives g c =
-    let first = c.in-Some.first in
-    let q = rw c.in-Some.is at c.in_ok-first.ensures.gives in
-    let inside : is_blank first ≡ false = rw c.in-Some.is at c.in_ok-first.ensures.word in
-    let r = c.in_ok-held.ensures.gives in (
-      (q.0 ++ first ∷ []) ++ (r.0 ++ r.1),
-      Consumes-trans _ _ _ (q.0 ++ first ∷ []) (r.0 ++ r.1) q.2 r.5,
-      count-both (q.0 ++ first ∷ []) (r.0 ++ r.1) c.first_byte.new.taken c.args.taken.now c.rest_of_word.new.taken q.3 r.6,
-      (c.in_ok-held.last, the_word q.0 first r.0 r.1 c.in_ok-held.last _ q.1 inside r.2 r.4, c.in-Err.ensures.fault r.0 r.3),
-    )
+    let q = rw c.in-Some.is at c.in_ok-held.ensures.gives in
+    (q.0, q.1, q.2, (c.in-Some.held.last, q.3.0, c.in-Err.ensures.fault q.3.0.first q.3.0.rest q.3.1))

@@ -1,7 +1,8 @@
 use Rattle.std.proofs.Common.{◌≡◌, ◌+◌, ◌∙◌, ◌∷◌, ◌++◌, [], sym, arith, true, false, refl}
 use Rattle.bk_words.specs.Words.{is_blank}
 use Rattle.bk_base.specs.DeviceLaws.{Consumes-trans}
-use Rattle.bk_words.proofs.Takes.{count-more, AreInWord-append, Holds-push, Holds-long}
+use Rattle.bk_words.specs.WordLaws.{AreInWord-append}
+use Rattle.bk_words.proofs.Takes.{count-more, Holds-push, Holds-long}
 use Rattle.bk_words.proofs.words.rest_of_word.Goals as goal
 
 pub returns-then-is_blank_byte-clause-gives : goal.returns-then-is_blank_byte-clause-gives
