@@ -1,7 +1,7 @@
 -- A source that is read up to the end of its first section.
-use Rattle.std.proofs.Common.{◌≡◌, ◌≢◌, ℕ, ◌+◌, ◌≤◌, ◌<◌, Bool, true, false, IsTrue, List, [], ◌∷◌, ◌++◌, length, Option, Result, Ok, Err, refl, sym, ap, ◌∙◌, subst, append-nil, arith, inl, inr, ◌⊎◌}
+use Rattle.std.proofs.Common.{◌≡◌, ◌≢◌, ℕ, ◌+◌, ◌≤◌, ◌<◌, Bool, true, false, List, [], ◌∷◌, ◌++◌, length, Option, Ok, Err, refl, sym, ap, ◌∙◌, subst, append-nil, arith, inl, inr, ◌⊎◌}
 use Rattle.std.specs.Io.KnownBytes.{Consumes}
-use Rattle.bk_base.specs.DeviceLaws.{Consumes-nothing, Consumes-trans}
+use Rattle.bk_base.specs.DeviceLaws.{Consumes-trans}
 use Rattle.bk_base.specs.declared.limit.TheConstants.{STORE_MOST}
 use Rattle.bk_base.specs.declared.run_end.End.{End}
 use Rattle.bk_base.specs.declared.run_end.End.TheVariants.{WriteFault}
@@ -11,13 +11,13 @@ use Rattle.bk_intcode.specs.Placement.{SEGMENTS, stack_start, any_starts, loaded
 use Rattle.bk_lex.specs.Cutting.{Settled}
 use Rattle.bk_lex.specs.Lexing.{lexed}
 use Rattle.bk_short.specs.declared.call.Call.{Call}
-use Rattle.bk_short.specs.ShortSource.{IsShortSource, IsRefused, SymbolFault}
+use Rattle.bk_short.specs.ShortSource.{IsShortSource, IsRefused}
 use Rattle.bk_short.specs.Program.{IsProgram, first_registers}
 use Rattle.bk_kit.specs.declared.kit_fault.KitFault.{KitFault}
 use Rattle.bk_kit.specs.declared.kit_fault.KitFault.TheVariants.{Source, Ocode, Intcode, TooSmall, NoStart, Read, Write, Memory}
 use Rattle.bk_kit.specs.Interpreting.{Streams, told}
 use Rattle.bk_kit.specs.ReadingSource.{IsFirstSection}
-use Rattle.bk_kit.specs.Headline.{Keeps, Headline, TooFew}
+use Rattle.bk_kit.specs.Headline.{Keeps, Headline}
 use Rattle.bk_kit.specs.ShortSources.{short_sources, NotProgram, RefusesSource}
 use Rattle.bk_kit.specs.Loading.{load_refused}
 use Rattle.bk_intcode.specs.declared.load_fault.LoadFault.{LoadFault}

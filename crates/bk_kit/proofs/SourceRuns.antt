@@ -1,5 +1,5 @@
 -- Runs of a short source's code, and what its source means.
-use Rattle.std.proofs.Common.{◌≡◌, ◌≢◌, inl, inr, ◌⊎◌, ℕ, zero, suc, ◌+◌, ◌-◌, ◌*◌, ◌≤◌, ◌<◌, Bool, true, false, IsTrue, List, [], ◌∷◌, ◌++◌, length, Option, refl, sym, ap, ◌∙◌, subst, arith, append_assoc, append-nil, length-append}
+use Rattle.std.proofs.Common.{◌≡◌, ◌≢◌, inl, inr, ◌⊎◌, ℕ, zero, suc, ◌+◌, ◌≤◌, ◌<◌, List, [], ◌∷◌, ◌++◌, length, refl, sym, ap, ◌∙◌, arith, append_assoc, append-nil, length-append}
 use Rattle.std.specs.Prelude.{pos, ℤ}
 use Rattle.bk_base.specs.declared.limit.TheConstants.{STORE_MOST}
 use Rattle.bk_base.specs.declared.run_end.End.{End}
@@ -8,14 +8,14 @@ use Rattle.bk_base.specs.Word.{signed}
 use Rattle.bk_intcode.specs.declared.item.Item.{Item}
 use Rattle.bk_intcode.specs.declared.registers.Registers.{Registers}
 use Rattle.bk_intcode.specs.Placement.{SEGMENTS, stack_start, loaded_store}
-use Rattle.bk_intcode.specs.Runs.{Standing, Going, Over, run, output_of, Told, Exchanged, Follows, Finished, Paused, Waiting, Broken, Ran, Blames}
+use Rattle.bk_intcode.specs.Runs.{Standing, Going, Over, run, output_of, Finished, Broken, Ran, Blames}
 use Rattle.bk_intcode.specs.RunLaws.{onwards, run-add, onwards-begins}
 use Rattle.bk_short.specs.declared.call.Routine.{Routine}
 use Rattle.bk_short.specs.declared.call.Routine.TheVariants.{Wrch, Stop}
 use Rattle.bk_short.specs.declared.call.Call.{Call}
 use Rattle.bk_short.specs.Meaning.{written, end_of}
 use Rattle.bk_short.specs.ShortSource.{IsShortSource}
-use Rattle.bk_short.specs.Program.{first_registers, MeansCalls, IsProgram}
+use Rattle.bk_short.specs.Program.{first_registers, MeansCalls}
 use Rattle.bk_kit.specs.Interpreting.{Streams, told}
 use Rattle.bk_kit.specs.Headline.{IsWhole, IsPart, Reaches, TooFew, Agrees, Runs}
 use Rattle.bk_kit.specs.ShortSources.{short_sources}

@@ -1,7 +1,6 @@
-use Rattle.std.proofs.Common.{◌≡◌, ℕ, ap, sym, ◌∙◌, subst, rules, Err}
+use Rattle.std.proofs.Common.{ap, ◌∙◌, subst, rules, Err}
 use Rattle.bk_intcode.specs.SegmentItems.{items_of}
 use Rattle.bk_short.specs.Program.{IsProgram}
-use Rattle.bk_kit.specs.Interpreting.{Streams}
 use Rattle.bk_kit.specs.ShortSources.{NotProgram, RefusesSource}
 use Rattle.bk_kit.proofs.SourceLemmas.{no_program, load_fails}
 use Rattle.bk_kit.proofs.source.load_source.Goals as goal

@@ -1,6 +1,6 @@
-use Rattle.std.proofs.Common.{inl, inr, ◌≡◌, ◌+◌, ◌≤◌, List, [], ◌∷◌, ◌++◌, length, refl, sym, ap, ◌∙◌, subst, arith, append-nil, rules}
+use Rattle.std.proofs.Common.{inr, [], ◌∷◌, ◌++◌, refl}
 use Rattle.bk_base.specs.DeviceLaws.{Consumes-trans}
-use Rattle.bk_kit.proofs.SourceLemmas.{is_whole, is_cut}
+use Rattle.bk_kit.proofs.SourceLemmas.{is_whole}
 use Rattle.bk_kit.proofs.source.read_section.Goals as goal
 
 pub returns-in-Ok-None-clause-read : goal.returns-in-Ok-None-clause-read

@@ -1,4 +1,3 @@
-use Rattle.std.proofs.Common.{◌≡◌}
 use Rattle.bk_intcode.specs.State.{store_of, registers_of}
 use Rattle.bk_kit.proofs.SourceLemmas.{source_runs}
 use Rattle.bk_kit.proofs.source.run_source.Goals as goal
