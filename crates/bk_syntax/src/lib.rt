@@ -15,6 +15,8 @@ mod symbols;
 #[cfg(test)]
 mod tests;
 pub mod tree;
+#[cfg(test)]
+mod tree_tests;
 
 pub use laws::{
     end_fault_stands, have_one_tree, reads_the_grammar, symbol_fault_stands, tag_fault_stands,
