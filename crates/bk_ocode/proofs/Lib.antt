@@ -1,6 +1,8 @@
 pub mod Parts
 pub mod DraftLemmas
 pub mod KeywordLemmas
+pub mod SameStmts
+pub mod NextWords
 pub mod CaseLemmas
 pub mod Completions
 pub mod ReadingLemmas

@@ -1,9 +1,9 @@
 -- What a call that reads a section answers.
-use Rattle.std.specs.Prelude.{◌≡◌, ◌⊎◌, ◌++◌, ◌+◌, ◌<◌, ℕ, Bool, true, false, List, [], length, Option, None, Some, Result, Ok, Err, ⊤}
+use Rattle.std.specs.Prelude.{◌≡◌, ◌⊎◌, ◌++◌, ◌+◌, ℕ, Bool, true, false, List, [], length, Option, None, Some, Result, Ok, Err, ⊤}
 use Rattle.std.specs.Io.KnownBytes.{Consumes}
 use Rattle.bk_base.specs.declared.ocode_fault.OcodeFault.{OcodeFault}
 use Rattle.bk_base.specs.declared.ocode_fault.OcodeKind.{OcodeKind}
-use Rattle.bk_base.specs.declared.ocode_fault.OcodeKind.TheVariants.{BadWord, BadNumber, Truncated, LabelNotSet, LabelSetTwice, DepthsDisagree, SlotAboveDepth, TooLong}
+use Rattle.bk_base.specs.declared.ocode_fault.OcodeKind.TheVariants.{Truncated}
 use Rattle.bk_base.specs.declared.refused.Refused.{Refused}
 use Rattle.bk_base.specs.declared.refused.Refused.TheVariants.{Fault, Memory, Device}
 use Rattle.bk_words.specs.TextEnd.{AtEnd}
@@ -13,7 +13,7 @@ use Rattle.bk_ocode.specs.SectionText.{section_words}
 use Rattle.bk_ocode.specs.SectionStmts.{stmts_of}
 use Rattle.bk_ocode.specs.StmtRange.{AreTyped}
 use Rattle.bk_ocode.specs.Section.{IsSection}
-use Rattle.bk_ocode.specs.FirstFault.{IsBegun, IsBadWord, BreaksRule, PassesWords, CutAt}
+use Rattle.bk_ocode.specs.FirstFault.{IsBegun, FaultOf, CutAt}
 use Rattle.bk_ocode.specs.declared.section.Ocode.{Ocode}
 use Rattle.bk_ocode.specs.declared.stmt.Stmt.{Stmt}
 
@@ -29,18 +29,6 @@ GivesSection taken end stmts = IsSection stmts × AreTyped stmts × TakesWords t
 abbrev pub GivesNothing : List ℕ → Type 0 → Type 0
 GivesNothing taken end = (words_of taken ≡ []) × end
 
--- The fault of the first words of a statement, behind others without a fault, as far as it is proved. Of a bad number it is
--- open that the words before it begin a statement, and that none goes on with it.
-abbrev pub FaultTold : List Stmt → List (List ℕ) → OcodeKind → Type 0
-FaultTold before part BadWord = IsBadWord before part
-FaultTold before part BadNumber = 0 < length part
-FaultTold before part Truncated = ⊥
-FaultTold before part LabelNotSet = BreaksRule before part LabelNotSet
-FaultTold before part LabelSetTwice = BreaksRule before part LabelSetTwice
-FaultTold before part DepthsDisagree = BreaksRule before part DepthsDisagree
-FaultTold before part SlotAboveDepth = BreaksRule before part SlotAboveDepth
-FaultTold before part TooLong = BreaksRule before part TooLong ⊎ PassesWords before part
-
 -- The words that were taken are those of statements without a fault, and some of the next with this fault.
 pub record GivesFaultAt (taken : List ℕ) (end : Type 0) (number : ℕ) (kind : OcodeKind) : Type 0 where
   pub before : List Stmt
@@ -48,7 +36,7 @@ pub record GivesFaultAt (taken : List ℕ) (end : Type 0) (number : ℕ) (kind :
   pub part : List (List ℕ)
   pub place : number ≡ length before + 1
   pub are : TakesWords taken end (section_words before ++ part)
-  pub fault : FaultTold before part kind
+  pub fault : FaultOf before part kind
 
 -- The bytes that were taken have this first fault.
 abbrev pub GivesFault : List ℕ → Type 0 → ℕ → OcodeKind → Type 0

@@ -8,9 +8,9 @@ ghost use Rattle.bk_ocode.specs.StmtText.{keyword};
 ghost use Rattle.bk_ocode.specs.Faults.{misplaced};
 ghost use Rattle.bk_ocode.specs.Drafts.{context_in};
 ghost use Rattle.bk_ocode.specs.declared.stmt.Stmt.{Stmt};
-ghost use Rattle.bk_ocode.specs.declared.begun.Unfit.TheVariants.{BadWord};
+ghost use Rattle.bk_ocode.specs.declared.begun.Unfit.TheVariants.{BadWord, BadNumber};
 ghost use Rattle.bk_ocode.specs.SectionAnswer.{Answers, is_device};
-ghost use Rattle.bk_ocode.specs.BegunStmts.{IsStep, IsBegunPart, part_words, refusal};
+ghost use Rattle.bk_ocode.specs.BegunStmts.{IsStep, IsBegunPart, part_words, BeginNone, refusal};
 
 use crate::begun::{Begun, Step, Unfit, begin, take};
 use crate::draft::Draft;
@@ -61,6 +61,7 @@ fn step_of(
     ensures step { IfOk result (λ step. (w : List ℕ) → Holds word.now w → IsStep step (part_words begun ++ w ∷ [])) }
     ensures placed { IfOk result (λ step. begun ≡ None → (w : List ℕ) → Holds word.now w → (s : Stmt) → keyword s ≡ w → misplaced (context_in draft.now) s ≡ false) }
     ensures bad { IfErr result (λ unfit. unfit ≡ BadWord → (begun ≡ None) × ((w : List ℕ) → Holds word.now w → (s : Stmt) → keyword s ≡ w → misplaced (context_in draft.now) s ≡ true)) }
+    ensures number { IfErr result (λ unfit. unfit ≡ BadNumber → (0 < length (part_words begun)) × ((w : List ℕ) → Holds word.now w → BeginNone (part_words begun ++ w ∷ []))) }
 {
     match begun {
         Some(begun) => take(begun, word, alloc),

@@ -10,7 +10,7 @@ use Rattle.bk_ocode.specs.SectionAnswer.{Takes, GivesSection, Answers}
 use Rattle.bk_ocode.specs.declared.standing.Position.TheVariants.{Ended}
 use Rattle.bk_ocode.specs.declared.stmt.Stmt.{Stmt}
 use Rattle.bk_ocode.proofs.Completions.{begins_part, part_goes_on}
-use Rattle.bk_ocode.proofs.FaultLemmas.{placed_more, refused_at, rule_at, filled_at, end_at, words_tally}
+use Rattle.bk_ocode.proofs.FaultLemmas.{placed_more, refused_at, rule_at, filled_at, end_at, words_tally, words_within}
 use Rattle.bk_ocode.proofs.ReadingLemmas.{word_read, all_read, grows, Reads-more, Reads-whole, one_longer, section_here, IsSection-of, IsBegun-push, few_more}
 use Rattle.bk_ocode.proofs.reading.read_section.Goals as goal
 
@@ -20,7 +20,7 @@ returns-in_default-found-clause-answers g c =
     let nothing : c.in-Ok.found ≡ None = c.in_default-found.is in
     let all = all_read _ _ _ _ _ c.loop-alloc.taken c.next_word.new.taken _ v.read (rw nothing at c.in-Ok.ensures.gives) c.in-Ok.ensures.within c.in-Ok.ensures.ended_there in
     end_at _ _ _ c.next_word.new.taken c.len-in_default-found.result c.loop-alloc.words c.loop-alloc.draft.stmts.items (part_words c.loop-alloc.begun) c.at_end.result v.begun c.len-in_default-found.ensures v.counted
-    c.at_end.ensures.nothing c.at_end.ensures.cut (part_goes_on c.loop-alloc.draft.stmts.items c.loop-alloc.begun v.part v.placed) all
+    c.at_end.ensures.nothing c.at_end.ensures.cut (words_within _ c.loop-alloc.draft.stmts.items (part_words c.loop-alloc.begun) c.loop-alloc.words _ v.draft.context v.counted c.is_filled_by.ensures c.if-is_filled_by.false) (part_goes_on c.loop-alloc.draft.stmts.items c.loop-alloc.begun v.part v.placed) all
 
 pub returns-then-is_filled_by-clause-answers : goal.returns-then-is_filled_by-clause-answers
 returns-then-is_filled_by-clause-answers g c =
@@ -38,6 +38,8 @@ returns-in-Err-clause-answers g c =
     let r = word_read _ _ _ _ _ c.loop-alloc.taken c.next_word.new.taken _ c.in-Some.word v.read (λ told. let h = (c.in-Ok.ensures.ended_again told).0 in search rules) comes c.in-Ok.ensures.within in
     subst (λ (x : Refused OcodeFault). Answers (Err x) (g.I.ByteIn.left c.args.input.now) (g.I.ByteIn.left c.next_word.new.input) (g.I.ByteIn.ended c.next_word.new.input)) (sym c.refused.ensures.told)
     (refused_at _ _ _ c.next_word.new.taken c.len-in-Err.result c.loop-alloc.draft.stmts.items c.loop-alloc.begun r.0 c.in-Err.unfit v.begun c.len-in-Err.ensures r.2
+    (words_within _ c.loop-alloc.draft.stmts.items (part_words c.loop-alloc.begun) c.loop-alloc.words _ v.draft.context v.counted c.is_filled_by.ensures c.if-is_filled_by.false)
+    (begins_part c.loop-alloc.draft.stmts.items c.loop-alloc.begun v.part v.placed) (λ is. let number = c.in-Err.ensures.number is in (number.0, number.1 r.0 r.1))
     (λ is. let bad = c.in-Err.ensures.bad is in (bad.0, λ s begins. ap (λ (k : Context). misplaced k s) (sym v.draft.context) ∙ bad.1 r.0 r.1 s begins)))
 
 pub returns-in-Some-fault_of-clause-answers : goal.returns-in-Some-fault_of-clause-answers
@@ -52,7 +54,8 @@ returns-in-Some-fault_of-clause-answers g c =
     let placed = placed_more (context_of stmts) c.loop-alloc.begun (part ++ r.0 ∷ []) r.0 refl v.placed
     (λ fresh t begins. ap (λ (k : Context). misplaced k t) (sym v.draft.context) ∙ c.in-Ok-Done.ensures.placed fresh r.0 r.1 t begins) s [] (step.1 ∙ sym (append-nil (part ++ r.0 ∷ []))) in
     subst (λ (x : Refused OcodeFault). Answers (Err x) (g.I.ByteIn.left c.args.input.now) (g.I.ByteIn.left c.next_word.new.input) (g.I.ByteIn.ended c.next_word.new.input)) (sym c.fault_behind-in-Some-fault_of.ensures)
-    (rule_at _ _ _ c.next_word.new.taken (c.len-in-Some-fault_of.result + 1) c.in-Some-fault_of.kind stmts part r.0 s v.begun (ap (λ n. n + 1) c.len-in-Some-fault_of.ensures) r.2 step.0 step.1 placed
+    (rule_at _ _ _ c.next_word.new.taken (c.len-in-Some-fault_of.result + 1) c.in-Some-fault_of.kind stmts part r.0 s v.begun (ap (λ n. n + 1) c.len-in-Some-fault_of.ensures) r.2 step.0 step.1
+    (words_within _ c.loop-alloc.draft.stmts.items (part_words c.loop-alloc.begun) c.loop-alloc.words _ v.draft.context v.counted c.is_filled_by.ensures c.if-is_filled_by.false) placed
     (sym c.fault_of.ensures ∙ c.in-Some-fault_of.is))
 
 pub add-requires-clause-words : goal.add-requires-clause-words
