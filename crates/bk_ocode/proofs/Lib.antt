@@ -7,6 +7,8 @@ pub mod CaseLemmas
 pub mod Completions
 pub mod ReadingLemmas
 pub mod FaultLemmas
+pub mod OneSaying
+pub mod AnswerLemmas
 pub mod Rows
 pub mod SectionProp
 pub mod Depths

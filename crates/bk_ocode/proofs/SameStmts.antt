@@ -69,7 +69,7 @@ none_of [] is = refl
 none_of (x ∷ c) is = absurd (omega arith)
 
 -- so many rows stand for one list
-all_same : (A : Type 0) (row : A → List (List ℕ)) (Fine : A → Type 0) → AreRows A row Fine → (a b : List A) (x y : List (List ℕ)) → Each Fine a → Each Fine b →
+pub all_same : (A : Type 0) (row : A → List (List ℕ)) (Fine : A → Type 0) → AreRows A row Fine → (a b : List A) (x y : List (List ℕ)) → Each Fine a → Each Fine b →
     joined row a ++ x ≡ joined row b ++ y → length a ≡ length b → (a ≡ b) × (x ≡ y)
 all_same A row Fine rows a b x y p q is long =
     let r = front_same A row Fine rows a b x y p q is (omega (arith, long)) in

@@ -103,3 +103,7 @@ abbrev pub Says : Saying → List (List ℕ) → Type 0
 Says (section stmts) words = (rest : List (List ℕ)) × IsSection stmts × AreTyped stmts × (words ≡ section_words stmts ++ rest)
 Says nothing words = words ≡ []
 Says (fault number kind) words = FaultAt words number kind ⊎ ((kind ≡ Truncated) × CutAt words number)
+
+-- Words say one thing at most.
+abbrev pub SayOneThing : Type 0
+SayOneThing = (words : List (List ℕ)) (a b : Saying) → Says a words → Says b words → a ≡ b

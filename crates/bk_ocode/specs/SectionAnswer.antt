@@ -13,7 +13,7 @@ use Rattle.bk_ocode.specs.SectionText.{section_words}
 use Rattle.bk_ocode.specs.SectionStmts.{stmts_of}
 use Rattle.bk_ocode.specs.StmtRange.{AreTyped}
 use Rattle.bk_ocode.specs.Section.{IsSection}
-use Rattle.bk_ocode.specs.FirstFault.{IsBegun, FaultOf, CutAt}
+use Rattle.bk_ocode.specs.FirstFault.{IsBegun, FaultOf, CutAt, Says, section, nothing, fault}
 use Rattle.bk_ocode.specs.declared.section.Ocode.{Ocode}
 use Rattle.bk_ocode.specs.declared.stmt.Stmt.{Stmt}
 
@@ -49,6 +49,29 @@ Answers (Ok None) old new ended = Takes old new ended GivesNothing
 Answers (Err (Fault told)) old new ended = Takes old new ended (λ taken end. GivesFault taken end told.statement told.kind)
 Answers (Err Memory) old new ended = ⊤
 Answers (Err Device) old new ended = ⊤
+
+-- What the answer says of a text that begins with these bytes, which were taken, unless memory was refused or the device
+-- failed.
+abbrev pub Stands : Result (Option Ocode) (Refused OcodeFault) → List ℕ → List ℕ → Type 0
+Stands (Ok (Some read)) taken more = words_of (taken ++ more) ≡ section_words (stmts_of read) ++ words_of more
+Stands (Ok None) taken more = words_of (taken ++ more) ≡ []
+Stands (Err (Fault told)) taken more = Says (fault told.statement told.kind) (words_of (taken ++ more))
+Stands (Err Memory) taken more = ⊤
+Stands (Err Device) taken more = ⊤
+
+-- That stands whatever follows: nothing, where the text ends.
+abbrev pub StandsFor : Result (Option Ocode) (Refused OcodeFault) → Option (List ℕ) → Option (List ℕ) → Bool → Type 0
+StandsFor (Err Memory) old new ended = ⊤
+StandsFor (Err Device) old new ended = ⊤
+StandsFor answer old new ended = Takes old new ended (λ taken end. (more : List ℕ) → (end → more ≡ []) → Stands answer taken more)
+
+-- The answer is what these words say, unless memory was refused or the device failed.
+abbrev pub AnswersWords : Result (Option Ocode) (Refused OcodeFault) → List (List ℕ) → Type 0
+AnswersWords (Ok (Some read)) words = Says (section (stmts_of read)) words
+AnswersWords (Ok None) words = Says nothing words
+AnswersWords (Err (Fault told)) words = Says (fault told.statement told.kind) words
+AnswersWords (Err Memory) words = ⊤
+AnswersWords (Err Device) words = ⊤
 
 abbrev pub is_device : Result (Option Ocode) (Refused OcodeFault) → Bool
 is_device (Ok read) = false

@@ -1,5 +1,6 @@
 //! Laws of sections and of the step, which the crates above rest on.
 ghost use Rattle.bk_ocode.specs.StepLaws.{StepKeepsBelow};
+ghost use Rattle.bk_ocode.specs.FirstFault.{SayOneThing};
 ghost use Rattle.bk_ocode.specs.SectionLaws.{LabelsAreSetOnce, LabelHasOnePlace, JumpFindsItsLabel, JumpHasItsLabelsDepth};
 
 /// No label of a section is set twice.
@@ -30,4 +31,10 @@ pub fn jump_has_its_labels_depth()
 #[tactic(auto, using(crate::proofs::JumpPlaces::jump_finds_its_label))]
 pub fn jump_finds_its_label()
     ensures { JumpFindsItsLabel }
+{}
+
+/// The words of a text say one thing at most where a section is due.
+#[tactic(auto, using(crate::proofs::OneSaying::one_saying))]
+pub fn one_saying()
+    ensures { SayOneThing }
 {}
