@@ -9,6 +9,8 @@ pub mod ReadingLemmas
 pub mod FaultLemmas
 pub mod OneSaying
 pub mod AnswerLemmas
+pub mod PrintedLemmas
+pub mod ReadAgain
 pub mod Rows
 pub mod SectionProp
 pub mod Depths

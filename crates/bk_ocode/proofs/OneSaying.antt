@@ -43,7 +43,7 @@ take-seam [] c = take-none c
     take-none (x ∷ l) = refl
 take-seam (y ∷ a) c = ap (λ l. y ∷ l) (take-seam a c)
 
-each_stmt : (stmts : List Stmt) → AreFaultless stmts → AreTyped stmts → Each IsStmt stmts
+pub each_stmt : (stmts : List Stmt) → AreFaultless stmts → AreTyped stmts → Each IsStmt stmts
 each_stmt stmts are typed k s at = (are.in_range k s at, typed k s at)
 
 -- a statement of those that are without a fault

@@ -9,7 +9,7 @@ use Rattle.bk_base.specs.declared.refused.Refused.TheVariants.{Fault, Memory, De
 use Rattle.bk_words.specs.TextEnd.{AtEnd}
 use Rattle.bk_words.specs.Words.{words_of}
 use Rattle.bk_words.specs.Taking.{TakesWords}
-use Rattle.bk_ocode.specs.SectionText.{section_words}
+use Rattle.bk_ocode.specs.SectionText.{section_words, section_text}
 use Rattle.bk_ocode.specs.SectionStmts.{stmts_of}
 use Rattle.bk_ocode.specs.StmtRange.{AreTyped}
 use Rattle.bk_ocode.specs.Section.{IsSection}
@@ -72,6 +72,23 @@ AnswersWords (Ok None) words = Says nothing words
 AnswersWords (Err (Fault told)) words = Says (fault told.statement told.kind) words
 AnswersWords (Err Memory) words = ⊤
 AnswersWords (Err Device) words = ⊤
+
+-- The answer is the section of these statements, unless memory was refused or the device failed.
+abbrev pub ReadsAgain : Result (Option Ocode) (Refused OcodeFault) → List Stmt → Type 0
+ReadsAgain (Ok (Some read)) stmts = stmts_of read ≡ stmts
+ReadsAgain (Ok None) stmts = ⊥
+ReadsAgain (Err (Fault told)) stmts = ⊥
+ReadsAgain (Err Memory) stmts = ⊤
+ReadsAgain (Err Device) stmts = ⊤
+
+-- What is printed says the section again, whatever follows.
+abbrev pub PrintedSaysAgain : Type 0
+PrintedSaysAgain = (printed : Ocode) (more : List ℕ) → Says (section (stmts_of printed)) (words_of (section_text (stmts_of printed) ++ more))
+
+-- What is printed is read again as the same section, whatever follows.
+abbrev pub PrintedIsReadAgain : Type 0
+PrintedIsReadAgain = (printed : Ocode) (more : List ℕ) (answer : Result (Option Ocode) (Refused OcodeFault)) →
+    AnswersWords answer (words_of (section_text (stmts_of printed) ++ more)) → ReadsAgain answer (stmts_of printed)
 
 abbrev pub is_device : Result (Option Ocode) (Refused OcodeFault) → Bool
 is_device (Ok read) = false

@@ -11,7 +11,7 @@ use Rattle.bk_ocode.specs.declared.standing.Position.TheVariants.{Ended}
 use Rattle.bk_ocode.specs.declared.stmt.Stmt.{Stmt}
 use Rattle.bk_ocode.proofs.Completions.{begins_part, part_goes_on}
 use Rattle.bk_ocode.proofs.FaultLemmas.{placed_more, refused_at, rule_at, filled_at, end_at, words_tally, words_within}
-use Rattle.bk_ocode.proofs.ReadingLemmas.{word_read, all_read, grows, Reads-more, Reads-whole, one_longer, section_here, IsSection-of, IsBegun-push, few_more}
+use Rattle.bk_ocode.proofs.ReadingLemmas.{word_read, all_read, grows, Reads-more, Reads-whole, one_longer, section_here, IsSection-of, AreTyped-of, IsBegun-push, few_more}
 use Rattle.bk_ocode.proofs.reading.next_section.Goals as goal
 
 pub returns-in_default-found-clause-answers : goal.returns-in_default-found-clause-answers
@@ -90,8 +90,8 @@ loop-alloc-preserved-in-Ok-More g c =
       again = λ was. let stays = v.again was in search rules;
     }
 
-pub into_section-requires : goal.into_section-requires
-into_section-requires g c =
+pub into_section-requires-clause-section : goal.into_section-requires-clause-section
+into_section-requires-clause-section g c =
     let v = c.loop-alloc.invariant in
     let part = part_words c.loop-alloc.begun in
     let comes = rw c.in-Some.is at c.in-Ok.ensures.gives in
@@ -100,6 +100,14 @@ into_section-requires g c =
     let ended : (context_of c.add.new.self.stmts.items).position ≡ Ended =
     ap (λ (k : Context). k.position) (sym c.in-Ok-add.ensures.draft.context) ∙ c.is_whole.ensures.whole c.if-is_whole.true in
     IsSection-of c.loop-alloc.draft.stmts.items c.add.new.self.stmts.items c.in-Ok-Done.stmt c.in-Ok-add.ensures.added v.begun step.0 (sym c.in_default-fault_of.ensures) ended
+
+pub into_section-requires-clause-typed : goal.into_section-requires-clause-typed
+into_section-requires-clause-typed g c =
+    let v = c.loop-alloc.invariant in
+    let comes = rw c.in-Some.is at c.in-Ok.ensures.gives in
+    let r = word_read _ _ _ _ _ c.loop-alloc.taken c.next_word.new.taken _ c.in-Some.word v.read (λ told. let h = (c.in-Ok.ensures.ended_again told).0 in search rules) comes c.in-Ok.ensures.within in
+    let step = rw c.in-Ok-Done.field-0-is at (c.in-Ok-Done.ensures.step r.0 r.1) in
+    AreTyped-of c.loop-alloc.draft.stmts.items c.add.new.self.stmts.items c.in-Ok-Done.stmt c.in-Ok-add.ensures.added v.begun step.0
 
 pub returns-then-is_whole-clause-answers : goal.returns-then-is_whole-clause-answers
 returns-then-is_whole-clause-answers g c =
