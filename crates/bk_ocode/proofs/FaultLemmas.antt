@@ -1,5 +1,5 @@
 -- The first fault of a text, from what was read of it.
-use Rattle.std.proofs.Common.{◌≡◌, ◌≢◌, ◌⊎◌, inl, inr, ℕ, ◌+◌, ◌<◌, ◌≤◌, ◌++◌, Bool, true, false, List, [], ◌∷◌, Option, Some, None, Result, Ok, Err, length, if◌then◌else◌, arith, refl, sym, ◌∙◌, ap, subst, length-append, append_assoc}
+use Rattle.std.proofs.Common.{◌≡◌, ◌≢◌, ◌⊎◌, inl, inr, ℕ, ◌+◌, ◌<◌, ◌≤◌, ◌++◌, Bool, true, false, List, [], ◌∷◌, Option, Some, None, Result, Ok, Err, length, nat_lt, if◌then◌else◌, arith, ltb-false, refl, sym, ◌∙◌, ap, subst, length-append, append_assoc}
 use Rattle.bk_base.specs.declared.limit.TheConstants.{OCODE_WORDS}
 use Rattle.bk_base.specs.declared.ocode_fault.OcodeKind.{OcodeKind}
 use Rattle.bk_base.specs.declared.ocode_fault.OcodeKind.TheVariants.{BadWord, BadNumber, Truncated, LabelNotSet, LabelSetTwice, DepthsDisagree, SlotAboveDepth, TooLong}
@@ -9,13 +9,13 @@ use Rattle.bk_ocode.specs.StmtText.{keyword, argument_words, stmt_words}
 use Rattle.bk_ocode.specs.SectionText.{section_words}
 use Rattle.bk_ocode.specs.Context.{Context, at_start, after, after_all, context_of}
 use Rattle.bk_ocode.specs.Faults.{misplaced, label_not_set, label_set_twice, depths_disagree, slot_above, too_long, fault_in, stmt_fault}
-use Rattle.bk_ocode.specs.FirstFault.{IsBegun, IsStmt, BeginsStmt}
-use Rattle.bk_ocode.specs.SectionAnswer.{Takes, FaultTold, GivesFault, Answers}
+use Rattle.bk_ocode.specs.FirstFault.{IsBegun, IsStmt, BeginsStmt, FaultOf}
+use Rattle.bk_ocode.specs.SectionAnswer.{Takes, GivesFault, Answers}
 use Rattle.std.proofs.lemmas.Bool.{cases_lt}
 use Rattle.bk_base.specs.declared.ocode_fault.OcodeFault.{OcodeFault}
 use Rattle.bk_base.specs.declared.refused.Refused.{Refused}
 use Rattle.bk_base.specs.declared.refused.Refused.TheVariants.{Fault}
-use Rattle.bk_ocode.specs.BegunStmts.{owner_words, begun_words, part_words, refusal}
+use Rattle.bk_ocode.specs.BegunStmts.{owner_words, begun_words, part_words, BeginNone, refusal}
 use Rattle.bk_ocode.specs.declared.begun.Owner.{Owner}
 use Rattle.bk_ocode.specs.declared.begun.Owner.TheVariants as owners
 use Rattle.bk_ocode.specs.declared.begun.Begun.{Begun}
@@ -52,15 +52,15 @@ no_rule before c s kind placed is = elim (some_if (misplaced c s) BadWord kind _
   ]
 ]
 
-rule_told : (before : List Stmt) (s : Stmt) (part : List (List ℕ)) (kind : OcodeKind) → IsStmt s → stmt_words s ≡ part → (BadWord ≢ kind) × (BadNumber ≢ kind) × (Truncated ≢ kind) → stmt_fault before s ≡ Some kind → FaultTold before part kind
-rule_told before s part BadWord fits words others is = absurd (others.0 refl)
-rule_told before s part BadNumber fits words others is = absurd (others.1 refl)
-rule_told before s part Truncated fits words others is = absurd (others.2 refl)
-rule_told before s part LabelNotSet fits words others is = record { stmt = s; is_stmt = fits; words = sym words; breaks = is }
-rule_told before s part LabelSetTwice fits words others is = record { stmt = s; is_stmt = fits; words = sym words; breaks = is }
-rule_told before s part DepthsDisagree fits words others is = record { stmt = s; is_stmt = fits; words = sym words; breaks = is }
-rule_told before s part SlotAboveDepth fits words others is = record { stmt = s; is_stmt = fits; words = sym words; breaks = is }
-rule_told before s part TooLong fits words others is = inl (record { stmt = s; is_stmt = fits; words = sym words; breaks = is })
+rule_told : (before : List Stmt) (s : Stmt) (part : List (List ℕ)) (kind : OcodeKind) → IsStmt s → stmt_words s ≡ part → length (section_words before ++ part) ≤ OCODE_WORDS + 1 → (BadWord ≢ kind) × (BadNumber ≢ kind) × (Truncated ≢ kind) → stmt_fault before s ≡ Some kind → FaultOf before part kind
+rule_told before s part BadWord fits words few others is = absurd (others.0 refl)
+rule_told before s part BadNumber fits words few others is = absurd (others.1 refl)
+rule_told before s part Truncated fits words few others is = absurd (others.2 refl)
+rule_told before s part LabelNotSet fits words few others is = record { stmt = s; is_stmt = fits; words = sym words; within = few; breaks = is }
+rule_told before s part LabelSetTwice fits words few others is = record { stmt = s; is_stmt = fits; words = sym words; within = few; breaks = is }
+rule_told before s part DepthsDisagree fits words few others is = record { stmt = s; is_stmt = fits; words = sym words; within = few; breaks = is }
+rule_told before s part SlotAboveDepth fits words few others is = record { stmt = s; is_stmt = fits; words = sym words; within = few; breaks = is }
+rule_told before s part TooLong fits words few others is = inl (record { stmt = s; is_stmt = fits; words = sym words; within = few; breaks = is })
 
 taken_some : (taken : List ℕ) (end : Type 0) (words : List (List ℕ)) → 0 < length words → TakesSome taken end words → TakesWords taken end words
 taken_some taken end words some (inl p) = absurd (omega (arith, some, ap (λ (l : List (List ℕ)). length l) p.1))
@@ -68,7 +68,7 @@ taken_some taken end words some (inr t) = t
 
 -- a fault that is told of these words
 pub told_at : (old b : Option (List ℕ)) (f : Bool) (k number : ℕ) (kind : OcodeKind) (stmts : List Stmt) (part : List (List ℕ)) → IsBegun stmts → number ≡ length stmts + 1 → 0 < length part →
-    Reads old b f k (section_words stmts ++ part) → FaultTold stmts part kind → Takes old b f (λ taken end. GivesFault taken end number kind)
+    Reads old b f k (section_words stmts ++ part) → FaultOf stmts part kind → Takes old b f (λ taken end. GivesFault taken end number kind)
 told_at old b f k number kind stmts part begun place some reads fault = (
   reads.0,
   reads.1,
@@ -85,12 +85,12 @@ told_at old b f k number kind stmts part begun place some reads fault = (
 
 -- the fault of a rule
 pub rule_at : (old b : Option (List ℕ)) (f : Bool) (k number : ℕ) (kind : OcodeKind) (stmts : List Stmt) (part : List (List ℕ)) (w : List ℕ) (s : Stmt) → IsBegun stmts → number ≡ length stmts + 1 →
-    Reads old b f k ((section_words stmts ++ part) ++ w ∷ []) → IsStmt s → stmt_words s ≡ part ++ w ∷ [] → misplaced (context_of stmts) s ≡ false → stmt_fault stmts s ≡ Some kind →
+    Reads old b f k ((section_words stmts ++ part) ++ w ∷ []) → IsStmt s → stmt_words s ≡ part ++ w ∷ [] → length (section_words stmts) + length part ≤ OCODE_WORDS → misplaced (context_of stmts) s ≡ false → stmt_fault stmts s ≡ Some kind →
     Takes old b f (λ taken end. GivesFault taken end number kind)
-rule_at old b f k number kind stmts part w s begun place reads fits words placed is =
+rule_at old b f k number kind stmts part w s begun place reads fits words few placed is =
     told_at old b f k number kind stmts (part ++ w ∷ []) begun place (omega (arith, length-append part (w ∷ [])))
     (subst (λ (l : List (List ℕ)). Reads old b f k l) (append_assoc (section_words stmts) part (w ∷ [])) reads)
-    (rule_told stmts s (part ++ w ∷ []) kind fits words (no_rule stmts (context_of stmts) s kind placed is) is)
+    (rule_told stmts s (part ++ w ∷ []) kind fits words (omega (arith, few, length-append (section_words stmts) (part ++ w ∷ []), length-append part (w ∷ []))) (no_rule stmts (context_of stmts) s kind placed is) is)
 
 -- too many words
 pub filled_at : (old b : Option (List ℕ)) (f : Bool) (k number n m : ℕ) (stmts : List Stmt) (part : List (List ℕ)) → IsBegun stmts → number ≡ length stmts + 1 → n ≡ length (section_words stmts) → m ≡ length part →
@@ -101,8 +101,8 @@ filled_at old b f k number n m stmts part begun place all own full some begins r
 
 -- the text ends
 pub cut_at : (old b : Option (List ℕ)) (f : Bool) (k number : ℕ) (stmts : List Stmt) (part : List (List ℕ)) → IsBegun stmts → number ≡ length stmts + 1 → 0 < length (section_words stmts ++ part) →
-    (part ≡ []) ⊎ BeginsStmt stmts part → ReadsAll old b f k (section_words stmts ++ part) → Takes old b f (λ taken end. GivesFault taken end number Truncated)
-cut_at old b f k number stmts part begun place some goes_on reads = (
+    length (section_words stmts ++ part) ≤ OCODE_WORDS → (part ≡ []) ⊎ BeginsStmt stmts part → ReadsAll old b f k (section_words stmts ++ part) → Takes old b f (λ taken end. GivesFault taken end number Truncated)
+cut_at old b f k number stmts part begun place some few goes_on reads = (
   reads.0,
   reads.1,
   inr (
@@ -113,6 +113,7 @@ cut_at old b f k number stmts part begun place some goes_on reads = (
       begun = begun;
       part = part;
       some = omega (arith, some, ap (λ (l : List (List ℕ)). length l) reads.3);
+      within = omega (arith, few, ap (λ (l : List (List ℕ)). length l) reads.3);
       are = reads.3;
       place = place;
       goes_on = goes_on;
@@ -133,7 +134,7 @@ some_of : (owner : Owner) → 0 < length (owner_words owner)
 some_of owners.Text = omega arith
 some_of (owners.Entry label) = omega arith
 
-begun_some : (b : Begun) → 0 < length (begun_words b)
+pub begun_some : (b : Begun) → 0 < length (begun_words b)
 begun_some (begun.Short k) = omega arith
 begun_some begun.EntryLabel = omega arith
 begun_some (begun.Length owner) = some_of owner
@@ -162,16 +163,30 @@ after_all-words c (s ∷ rest) = omega (arith, after_all-words (after c s) rest,
 pub words_tally : (k : Context) (stmts : List Stmt) → k ≡ context_of stmts → k.words ≡ length (section_words stmts)
 words_tally k stmts is = ap (λ (c : Context). c.words) is ∙ omega (arith, after_all-words at_start stmts)
 
+-- the words so far are within the limit
+pub words_within : (k : Context) (stmts : List Stmt) (part : List (List ℕ)) (m : ℕ) (filled : Bool) → k ≡ context_of stmts → m ≡ length part → filled ≡ nat_lt OCODE_WORDS (k.words + m) → filled ≡ false →
+    length (section_words stmts) + length part ≤ OCODE_WORDS
+words_within k stmts part m filled is own told none = omega (arith, words_tally k stmts is, own, ltb-false OCODE_WORDS (k.words + m) (sym told ∙ none))
+
 -- a word that does not fit
 pub refused_at : (old b : Option (List ℕ)) (f : Bool) (k count : ℕ) (stmts : List Stmt) (part : Option Begun) (w : List ℕ) (unfit : Unfit) → IsBegun stmts → count ≡ length stmts →
-    Reads old b f k ((section_words stmts ++ part_words part) ++ w ∷ []) →
+    Reads old b f k ((section_words stmts ++ part_words part) ++ w ∷ []) → length (section_words stmts) + length (part_words part) ≤ OCODE_WORDS → (0 < length (part_words part) → BeginsStmt stmts (part_words part)) →
+    (unfit ≡ unfits.BadNumber → (0 < length (part_words part)) × BeginNone (part_words part ++ w ∷ [])) →
     (unfit ≡ unfits.BadWord → (part ≡ None) × ((s : Stmt) → keyword s ≡ w → misplaced (context_of stmts) s ≡ true)) → Answers (Err (refusal count unfit)) old b f
-refused_at old b f k count stmts part w unfits.Memory begun is reads bad = tt
-refused_at old b f k count stmts part w unfits.BadNumber begun is reads bad =
+refused_at old b f k count stmts part w unfits.Memory begun is reads few begins number bad = tt
+refused_at old b f k count stmts part w unfits.BadNumber begun is reads few begins number bad =
     told_at old b f k (count + 1) BadNumber stmts (part_words part ++ w ∷ []) begun (ap (λ n. n + 1) is) (omega (arith, length-append (part_words part) (w ∷ [])))
     (subst (λ (l : List (List ℕ)). Reads old b f k l) (append_assoc (section_words stmts) (part_words part) (w ∷ [])) reads)
-    (omega (arith, length-append (part_words part) (w ∷ [])))
-refused_at old b f k count stmts part w unfits.BadWord begun is reads bad =
+    (record {
+      front = part_words part;
+      word = w;
+      last = refl;
+      some = (number refl).0;
+      begun = begins (number refl).0;
+      within = omega (arith, few, length-append (section_words stmts) (part_words part));
+      none = (number refl).1;
+    })
+refused_at old b f k count stmts part w unfits.BadWord begun is reads few begins number bad =
     told_at old b f k (count + 1) BadWord stmts (w ∷ []) begun (ap (λ n. n + 1) is) (omega arith)
     (subst (λ (l : List (List ℕ)). Reads old b f k l) (append_assoc (section_words stmts) (part_words part) (w ∷ []) ∙ ap (λ (p : Option Begun). section_words stmts ++ (part_words p ++ w ∷ [])) (bad refl).0) reads)
     (record { word = w; first = refl; misplaced = (bad refl).1 })
@@ -179,10 +194,10 @@ refused_at old b f k count stmts part w unfits.BadWord begun is reads bad =
 -- the text ends
 pub end_at : (old b : Option (List ℕ)) (f : Bool) (k count words : ℕ) (stmts : List Stmt) (part : List (List ℕ)) (r : Result (Option Ocode) (Refused OcodeFault)) → IsBegun stmts → count ≡ length stmts → words ≡ length part →
     (count + words ≡ 0 → r ≡ Ok None) → (0 < count + words → r ≡ Err (Fault (record { statement = count + 1; kind = Truncated }))) →
-    (part ≡ []) ⊎ BeginsStmt stmts part → ReadsAll old b f k (section_words stmts ++ part) → Answers r old b f
-end_at old b f k count words stmts part r begun is own none some goes_on reads = elim (cases_lt 0 (count + words)) [
+    length (section_words stmts) + length part ≤ OCODE_WORDS → (part ≡ []) ⊎ BeginsStmt stmts part → ReadsAll old b f k (section_words stmts ++ part) → Answers r old b f
+end_at old b f k count words stmts part r begun is own none some few goes_on reads = elim (cases_lt 0 (count + words)) [
   | inl low ↦ subst (λ (x : Result (Option Ocode) (Refused OcodeFault)). Answers x old b f) (sym (some low))
-      (cut_at old b f k (count + 1) stmts part begun (ap (λ n. n + 1) is) (omega (arith, low, is, own, many_words stmts, length-append (section_words stmts) part)) goes_on reads)
+      (cut_at old b f k (count + 1) stmts part begun (ap (λ n. n + 1) is) (omega (arith, low, is, own, many_words stmts, length-append (section_words stmts) part)) (omega (arith, few, length-append (section_words stmts) part)) goes_on reads)
   | inr high ↦ subst (λ (x : Result (Option Ocode) (Refused OcodeFault)). Answers x old b f) (sym (none (omega (arith, high))))
       (nothing_left old b f k stmts part (omega (arith, high, is)) (omega (arith, high, own)) reads)
 ]

@@ -1,10 +1,16 @@
 pub mod Parts
 pub mod DraftLemmas
 pub mod KeywordLemmas
+pub mod SameStmts
+pub mod NextWords
 pub mod CaseLemmas
 pub mod Completions
 pub mod ReadingLemmas
 pub mod FaultLemmas
+pub mod OneSaying
+pub mod AnswerLemmas
+pub mod PrintedLemmas
+pub mod ReadAgain
 pub mod Rows
 pub mod SectionProp
 pub mod Depths

@@ -5,7 +5,10 @@ use mathlib.Core.Sum.{⊎_set}
 use Rattle.std.proofs.Math.Nat.{ℕ_set}
 use Rattle.bk_base.specs.declared.ocode_fault.OcodeKind.{OcodeKind}
 use Rattle.bk_ocode.specs.Section.{IsSection}
-use Rattle.bk_ocode.specs.StmtRange.{InRange, IsVariable, AreCases, AreEntries}
+use Rattle.bk_ocode.specs.SectionStmts.{stmts_of}
+use Rattle.bk_ocode.specs.declared.section.Ocode.{Ocode}
+use Rattle.std.proofs.Math.Logic.{∥∥₁_elim}
+use Rattle.bk_ocode.specs.StmtRange.{InRange, IsTyped, AreTyped, IsVariable, AreCases, AreEntries}
 use Rattle.bk_ocode.specs.declared.standing.Position.{Position}
 use Rattle.bk_ocode.specs.declared.stmt.Variable.{Variable}
 use Rattle.bk_ocode.specs.declared.stmt.Variable.TheVariants.{Local, Global, Static}
@@ -69,5 +72,23 @@ InRange-prop (DataAddress label) = hlevel props
 Option_Kind-set : IsSet (Option OcodeKind)
 Option_Kind-set = hlevel (⊎_set, Kind-set, props)
 
-pub IsSection-prop : (stmts : List Stmt) → IsProp (IsSection stmts)
+IsTyped-prop : (s : Stmt) → IsProp (IsTyped s)
+IsTyped-prop (Number value) = hlevel props
+IsTyped-prop (DataNumber value) = hlevel props
+IsTyped-prop (Text bytes) = hlevel props
+IsTyped-prop (Entry label name) = hlevel props
+IsTyped-prop (Switch default cases) = hlevel props
+IsTyped-prop _ = hlevel props
+
+AreTyped-prop : (stmts : List Stmt) → IsProp (AreTyped stmts)
+AreTyped-prop stmts = hlevel (IsTyped-prop, props)
+
+IsSection-prop : (stmts : List Stmt) → IsProp (IsSection stmts)
 IsSection-prop stmts = hlevel (InRange-prop, Option_Kind-set, Position-set, ℕ_set, props)
+
+IsWhole-prop : (stmts : List Stmt) → IsProp (IsSection stmts × AreTyped stmts)
+IsWhole-prop stmts = hlevel (IsSection-prop stmts, AreTyped-prop stmts, props)
+
+-- the statements of each section are one
+pub section_whole : (section : Ocode) → IsSection (stmts_of section) × AreTyped (stmts_of section)
+section_whole section = ∥∥₁_elim section.whole (IsWhole-prop (stmts_of section)) (λ whole. whole)

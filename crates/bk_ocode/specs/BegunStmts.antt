@@ -4,13 +4,16 @@ use Rattle.std.specs.Int.{w32}
 use Rattle.std.specs.Ordering.{int_eq}
 use Rattle.indexmap.specs.IndexSet.{contains}
 use Rattle.bk_base.specs.Decimal.{spelling}
-use Rattle.bk_base.specs.declared.limit.TheConstants.{NAME_BYTES}
+use Rattle.bk_base.specs.declared.limit.TheConstants.{FRAME_WORDS, GLOBAL_NUMBER, NAME_BYTES}
 use Rattle.bk_ocode.specs.StmtText.{natural_word, label_word, byte_words, case_words, global_words, stmt_words}
 use Rattle.bk_ocode.specs.StmtRange.{IsLabel, IsGlobal, AreCases, AreEntries, AreBytes}
 use Rattle.bk_ocode.specs.FirstFault.{IsStmt}
 use Rattle.bk_ocode.specs.Keywords.{keyword_text}
 use Rattle.bk_ocode.specs.declared.stmt.Case.{Case}
 use Rattle.bk_ocode.specs.declared.stmt.Stmt.{Stmt}
+use Rattle.bk_ocode.specs.declared.begun.TheConstants.{LARGEST}
+use Rattle.bk_ocode.specs.declared.keyword.Kind.{Kind}
+use Rattle.bk_ocode.specs.declared.keyword.Kind.TheVariants as kinds
 use Rattle.bk_ocode.specs.declared.keyword.Keyword.{Keyword}
 use Rattle.bk_ocode.specs.declared.keyword.Keyword.TheVariants as keywords
 use Rattle.bk_ocode.specs.declared.begun.Owner.{Owner}
@@ -134,6 +137,49 @@ IsBegunStmt (GlobalLabel draft number) = AreBegunEntries draft × IsGlobal numbe
 abbrev pub IsStep : Step → List (List ℕ) → Type 0
 IsStep (More begun) words = IsBegunStmt begun × (begun_words begun ≡ words)
 IsStep (Done stmt) words = IsStmt stmt × (stmt_words stmt ≡ words)
+
+-- the word spells no number, none in these bounds, no label, no variable of this kind
+abbrev pub NoNumber : List ℕ → Type 0
+NoNumber word = (z : ℤ) → FitsSigned w32 z → spelling z ≢ word
+
+abbrev pub NoNatural : ℕ → ℕ → List ℕ → Type 0
+NoNatural least most word = (n : ℕ) → least ≤ n → n ≤ most → natural_word n ≢ word
+
+abbrev pub NoLabel : List ℕ → Type 0
+NoLabel word = (label : ℕ) → IsLabel label → label_word label ≢ word
+
+abbrev pub NoVariable : Kind → List ℕ → Type 0
+NoVariable kinds.Local word = NoNatural 2 LARGEST word
+NoVariable kinds.Global word = NoNatural 0 GLOBAL_NUMBER word
+NoVariable kinds.Static word = NoLabel word
+
+-- nor what is due behind this first word
+abbrev pub NoArgument : Keyword → List ℕ → Type 0
+NoArgument keywords.Number word = NoNumber word
+NoArgument keywords.DataNumber word = NoNumber word
+NoArgument (keywords.Load kind) word = NoVariable kind word
+NoArgument (keywords.Address kind) word = NoVariable kind word
+NoArgument (keywords.Assign kind) word = NoVariable kind word
+NoArgument keywords.TakeResult word = NoNatural 2 LARGEST word
+NoArgument keywords.CallFunction word = NoNatural 2 LARGEST word
+NoArgument keywords.CallRoutine word = NoNatural 2 LARGEST word
+NoArgument keywords.Stack word = NoNatural 2 FRAME_WORDS word
+NoArgument keywords.Save word = NoNatural 2 FRAME_WORDS word
+NoArgument _ word = NoLabel word
+
+-- no statement that was begun so goes on with the word
+abbrev pub IsUnfit : Begun → List ℕ → Type 0
+IsUnfit (Short keyword) word = NoArgument keyword word
+IsUnfit EntryLabel word = NoLabel word
+IsUnfit (Length owner) word = NoNatural 0 NAME_BYTES word
+IsUnfit (Bytes owner bytes count) word = NoNatural 0 255 word
+IsUnfit CaseCount word = NoNatural 0 LARGEST word
+IsUnfit (Default count) word = NoLabel word
+IsUnfit (CaseValue draft) word = (z : ℤ) → FitsSigned w32 z → has_value z draft.cases.items ≡ false → spelling z ≢ word
+IsUnfit (CaseLabel draft value) word = NoLabel word
+IsUnfit GlobalCount word = NoNatural 0 LARGEST word
+IsUnfit (GlobalNumber draft) word = NoNatural 0 GLOBAL_NUMBER word
+IsUnfit (GlobalLabel draft number) word = NoLabel word
 
 -- no statement begins with these words
 abbrev pub BeginNone : List (List ℕ) → Type 0

@@ -1,5 +1,5 @@
 -- What the words of a text say where a section is due: a section, nothing, or the first fault.
-use Rattle.std.specs.Prelude.{◌≡◌, ◌≢◌, ◌⊎◌, ℕ, ◌+◌, ◌<◌, true, false, List, [], ◌∷◌, ◌++◌, Some, length}
+use Rattle.std.specs.Prelude.{◌≡◌, ◌≢◌, ◌⊎◌, ℕ, ◌+◌, ◌<◌, ◌≤◌, true, false, List, [], ◌∷◌, ◌++◌, Some, length}
 use Rattle.bk_base.specs.declared.limit.TheConstants.{OCODE_WORDS}
 use Rattle.bk_base.specs.declared.ocode_fault.OcodeKind.{OcodeKind}
 use Rattle.bk_base.specs.declared.ocode_fault.OcodeKind.TheVariants.{BadWord, BadNumber, Truncated, LabelNotSet, LabelSetTwice, DepthsDisagree, SlotAboveDepth, TooLong}
@@ -37,20 +37,23 @@ pub record IsBadWord (before : List Stmt) (part : List (List ℕ)) : Type 0 wher
   pub first : part ≡ word ∷ []
   pub misplaced : (s : Stmt) → keyword s ≡ word → misplaced (context_of before) s ≡ true
 
--- 2: the words before it begin a statement, and with it no statement begins so
+-- 2: the words before it begin a statement and are within the limit, and with it no statement begins so
 pub record IsBadNumber (before : List Stmt) (part : List (List ℕ)) : Type 0 where
   pub front : List (List ℕ)
   pub word : List ℕ
   pub last : part ≡ front ++ word ∷ []
   pub some : 0 < length front
   pub begun : BeginsStmt before front
+  pub within : length (section_words before ++ front) ≤ OCODE_WORDS
   pub none : (s : Stmt) (rest : List (List ℕ)) → IsStmt s → stmt_words s ≢ part ++ rest
 
--- 4 to 8: the words are those of a statement that breaks this rule, and none with a lower number, behind the others
+-- 4 to 8: the words are those of a statement that breaks this rule, and none with a lower number, behind the others. Its
+-- last word is at most the first past the limit of words.
 pub record BreaksRule (before : List Stmt) (part : List (List ℕ)) (kind : OcodeKind) : Type 0 where
   pub stmt : Stmt
   pub is_stmt : IsStmt stmt
   pub words : part ≡ stmt_words stmt
+  pub within : length (section_words before ++ part) ≤ OCODE_WORDS + 1
   pub breaks : stmt_fault before stmt ≡ Some kind
 
 -- 8: the last of the words is the first past the limit of words, and the statement goes on
@@ -79,12 +82,13 @@ pub record FaultAt (words : List (List ℕ)) (number : ℕ) (kind : OcodeKind) :
   pub place : number ≡ length before + 1
   pub fault : FaultOf before part kind
 
--- 3: The words are those of statements without a fault, and those that begin one or none, and more are due.
+-- 3: The words are within the limit, those of statements without a fault, and those that begin one or none, and more are due.
 pub record CutAt (words : List (List ℕ)) (number : ℕ) : Type 0 where
   pub before : List Stmt
   pub begun : IsBegun before
   pub part : List (List ℕ)
   pub some : 0 < length words
+  pub within : length words ≤ OCODE_WORDS
   pub are : words ≡ section_words before ++ part
   pub place : number ≡ length before + 1
   pub goes_on : (part ≡ []) ⊎ BeginsStmt before part
@@ -99,3 +103,7 @@ abbrev pub Says : Saying → List (List ℕ) → Type 0
 Says (section stmts) words = (rest : List (List ℕ)) × IsSection stmts × AreTyped stmts × (words ≡ section_words stmts ++ rest)
 Says nothing words = words ≡ []
 Says (fault number kind) words = FaultAt words number kind ⊎ ((kind ≡ Truncated) × CutAt words number)
+
+-- Words say one thing at most.
+abbrev pub SayOneThing : Type 0
+SayOneThing = (words : List (List ℕ)) (a b : Saying) → Says a words → Says b words → a ≡ b

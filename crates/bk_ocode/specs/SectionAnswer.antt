@@ -1,19 +1,19 @@
 -- What a call that reads a section answers.
-use Rattle.std.specs.Prelude.{◌≡◌, ◌⊎◌, ◌++◌, ◌+◌, ◌<◌, ℕ, Bool, true, false, List, [], length, Option, None, Some, Result, Ok, Err, ⊤}
+use Rattle.std.specs.Prelude.{◌≡◌, ◌⊎◌, ◌++◌, ◌+◌, ℕ, Bool, true, false, List, [], length, Option, None, Some, Result, Ok, Err, ⊤}
 use Rattle.std.specs.Io.KnownBytes.{Consumes}
 use Rattle.bk_base.specs.declared.ocode_fault.OcodeFault.{OcodeFault}
 use Rattle.bk_base.specs.declared.ocode_fault.OcodeKind.{OcodeKind}
-use Rattle.bk_base.specs.declared.ocode_fault.OcodeKind.TheVariants.{BadWord, BadNumber, Truncated, LabelNotSet, LabelSetTwice, DepthsDisagree, SlotAboveDepth, TooLong}
+use Rattle.bk_base.specs.declared.ocode_fault.OcodeKind.TheVariants.{Truncated}
 use Rattle.bk_base.specs.declared.refused.Refused.{Refused}
 use Rattle.bk_base.specs.declared.refused.Refused.TheVariants.{Fault, Memory, Device}
 use Rattle.bk_words.specs.TextEnd.{AtEnd}
 use Rattle.bk_words.specs.Words.{words_of}
 use Rattle.bk_words.specs.Taking.{TakesWords}
-use Rattle.bk_ocode.specs.SectionText.{section_words}
+use Rattle.bk_ocode.specs.SectionText.{section_words, section_text}
 use Rattle.bk_ocode.specs.SectionStmts.{stmts_of}
 use Rattle.bk_ocode.specs.StmtRange.{AreTyped}
 use Rattle.bk_ocode.specs.Section.{IsSection}
-use Rattle.bk_ocode.specs.FirstFault.{IsBegun, IsBadWord, BreaksRule, PassesWords, CutAt}
+use Rattle.bk_ocode.specs.FirstFault.{IsBegun, FaultOf, CutAt, Says, section, nothing, fault}
 use Rattle.bk_ocode.specs.declared.section.Ocode.{Ocode}
 use Rattle.bk_ocode.specs.declared.stmt.Stmt.{Stmt}
 
@@ -29,18 +29,6 @@ GivesSection taken end stmts = IsSection stmts × AreTyped stmts × TakesWords t
 abbrev pub GivesNothing : List ℕ → Type 0 → Type 0
 GivesNothing taken end = (words_of taken ≡ []) × end
 
--- The fault of the first words of a statement, behind others without a fault, as far as it is proved. Of a bad number it is
--- open that the words before it begin a statement, and that none goes on with it.
-abbrev pub FaultTold : List Stmt → List (List ℕ) → OcodeKind → Type 0
-FaultTold before part BadWord = IsBadWord before part
-FaultTold before part BadNumber = 0 < length part
-FaultTold before part Truncated = ⊥
-FaultTold before part LabelNotSet = BreaksRule before part LabelNotSet
-FaultTold before part LabelSetTwice = BreaksRule before part LabelSetTwice
-FaultTold before part DepthsDisagree = BreaksRule before part DepthsDisagree
-FaultTold before part SlotAboveDepth = BreaksRule before part SlotAboveDepth
-FaultTold before part TooLong = BreaksRule before part TooLong ⊎ PassesWords before part
-
 -- The words that were taken are those of statements without a fault, and some of the next with this fault.
 pub record GivesFaultAt (taken : List ℕ) (end : Type 0) (number : ℕ) (kind : OcodeKind) : Type 0 where
   pub before : List Stmt
@@ -48,7 +36,7 @@ pub record GivesFaultAt (taken : List ℕ) (end : Type 0) (number : ℕ) (kind :
   pub part : List (List ℕ)
   pub place : number ≡ length before + 1
   pub are : TakesWords taken end (section_words before ++ part)
-  pub fault : FaultTold before part kind
+  pub fault : FaultOf before part kind
 
 -- The bytes that were taken have this first fault.
 abbrev pub GivesFault : List ℕ → Type 0 → ℕ → OcodeKind → Type 0
@@ -61,6 +49,46 @@ Answers (Ok None) old new ended = Takes old new ended GivesNothing
 Answers (Err (Fault told)) old new ended = Takes old new ended (λ taken end. GivesFault taken end told.statement told.kind)
 Answers (Err Memory) old new ended = ⊤
 Answers (Err Device) old new ended = ⊤
+
+-- What the answer says of a text that begins with these bytes, which were taken, unless memory was refused or the device
+-- failed.
+abbrev pub Stands : Result (Option Ocode) (Refused OcodeFault) → List ℕ → List ℕ → Type 0
+Stands (Ok (Some read)) taken more = words_of (taken ++ more) ≡ section_words (stmts_of read) ++ words_of more
+Stands (Ok None) taken more = words_of (taken ++ more) ≡ []
+Stands (Err (Fault told)) taken more = Says (fault told.statement told.kind) (words_of (taken ++ more))
+Stands (Err Memory) taken more = ⊤
+Stands (Err Device) taken more = ⊤
+
+-- That stands whatever follows: nothing, where the text ends.
+abbrev pub StandsFor : Result (Option Ocode) (Refused OcodeFault) → Option (List ℕ) → Option (List ℕ) → Bool → Type 0
+StandsFor (Err Memory) old new ended = ⊤
+StandsFor (Err Device) old new ended = ⊤
+StandsFor answer old new ended = Takes old new ended (λ taken end. (more : List ℕ) → (end → more ≡ []) → Stands answer taken more)
+
+-- The answer is what these words say, unless memory was refused or the device failed.
+abbrev pub AnswersWords : Result (Option Ocode) (Refused OcodeFault) → List (List ℕ) → Type 0
+AnswersWords (Ok (Some read)) words = Says (section (stmts_of read)) words
+AnswersWords (Ok None) words = Says nothing words
+AnswersWords (Err (Fault told)) words = Says (fault told.statement told.kind) words
+AnswersWords (Err Memory) words = ⊤
+AnswersWords (Err Device) words = ⊤
+
+-- The answer is the section of these statements, unless memory was refused or the device failed.
+abbrev pub ReadsAgain : Result (Option Ocode) (Refused OcodeFault) → List Stmt → Type 0
+ReadsAgain (Ok (Some read)) stmts = stmts_of read ≡ stmts
+ReadsAgain (Ok None) stmts = ⊥
+ReadsAgain (Err (Fault told)) stmts = ⊥
+ReadsAgain (Err Memory) stmts = ⊤
+ReadsAgain (Err Device) stmts = ⊤
+
+-- What is printed says the section again, whatever follows.
+abbrev pub PrintedSaysAgain : Type 0
+PrintedSaysAgain = (printed : Ocode) (more : List ℕ) → Says (section (stmts_of printed)) (words_of (section_text (stmts_of printed) ++ more))
+
+-- What is printed is read again as the same section, whatever follows.
+abbrev pub PrintedIsReadAgain : Type 0
+PrintedIsReadAgain = (printed : Ocode) (more : List ℕ) (answer : Result (Option Ocode) (Refused OcodeFault)) →
+    AnswersWords answer (words_of (section_text (stmts_of printed) ++ more)) → ReadsAgain answer (stmts_of printed)
 
 abbrev pub is_device : Result (Option Ocode) (Refused OcodeFault) → Bool
 is_device (Ok read) = false

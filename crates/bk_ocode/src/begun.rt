@@ -6,8 +6,8 @@ ghost use Rattle.bk_ocode.specs.StmtText.{natural_word, label_word, variable_wor
 ghost use Rattle.bk_ocode.specs.StmtRange.{IsLabel, IsVariable, AreBytes};
 ghost use Rattle.bk_ocode.specs.FirstFault.{IsStmt};
 ghost use Rattle.bk_ocode.specs.Keywords.{keyword_text, kind_of};
-ghost use Rattle.bk_ocode.specs.BegunStmts.{IsStep, IsBegunStmt, IsOwner, AreBegunCases, AreBegunEntries, owner_words, switch_words, entries_words, begun_words, is_short, takes_label, AreCasesUpTo, AreEntriesUpTo};
-ghost use Rattle.bk_ocode.specs.declared.begun.Begun.TheVariants.{EntryLabel, Bytes, CaseCount, Default, CaseLabel, GlobalCount, GlobalLabel};
+ghost use Rattle.bk_ocode.specs.BegunStmts.{IsStep, IsBegunStmt, IsOwner, AreBegunCases, AreBegunEntries, owner_words, switch_words, entries_words, begun_words, is_short, takes_label, AreCasesUpTo, AreEntriesUpTo, NoVariable, NoArgument, IsUnfit};
+ghost use Rattle.bk_ocode.specs.declared.begun.Begun.TheVariants.{EntryLabel, Length, Bytes, CaseCount, Default, CaseValue, CaseLabel, GlobalCount, GlobalNumber, GlobalLabel};
 ghost use Rattle.bk_ocode.specs.declared.begun.Unfit.TheVariants.{BadWord, BadNumber};
 
 use crate::byte_string::ByteString;
@@ -120,6 +120,7 @@ fn label_in(word: &Gathered) -> Option<u32>
 /// The variable of this kind in a word.
 fn variable_in(kind: Kind, word: &Gathered) -> Option<Variable>
     ensures found { IfSome result (λ v. IsVariable v × (kind_of v ≡ kind) × ((w : List ℕ) → Holds word.now w → variable_word v ≡ w)) }
+    ensures none { IfNone result ((w : List ℕ) → Holds word.now w → NoVariable kind w) }
 {
     match kind {
         Kind::Local => Some(Variable::Local(word.within(2, LARGEST)?)),
@@ -132,6 +133,7 @@ fn variable_in(kind: Kind, word: &Gathered) -> Option<Variable>
 fn short_stmt(keyword: Keyword, word: &Gathered) -> Option<Stmt>
     requires { is_short keyword ≡ true }
     ensures found { IfSome result (λ s. IsStmt s × ((w : List ℕ) → Holds word.now w → stmt_words s ≡ keyword_text keyword ∷ w ∷ [])) }
+    ensures none { IfNone result ((w : List ℕ) → Holds word.now w → NoArgument keyword w) }
 {
     match keyword {
         Keyword::Number => Some(Stmt::Number {
@@ -281,6 +283,7 @@ fn with_byte(owner: Owner, bytes: Vec<u8>, count: u32, word: &Gathered) -> Resul
     requires { IsBegunStmt (Bytes owner bytes count) }
     ensures step { IfOk result (λ step. (w : List ℕ) → Holds word.now w → IsStep step (begun_words (Bytes owner bytes count) ++ w ∷ [])) }
     ensures known { IfErr result (λ unfit. unfit ≢ BadWord) }
+    ensures bad { IfErr result (λ unfit. unfit ≡ BadNumber → (w : List ℕ) → Holds word.now w → IsUnfit (Bytes owner bytes count) w) }
 {
     let Some(byte) = word.within(0, 255) else {
         return Err(Unfit::BadNumber);
@@ -297,6 +300,7 @@ fn with_value(draft: CaseDraft, word: &Gathered) -> Result<Step, Unfit>
     requires { AreBegunCases draft }
     ensures step { IfOk result (λ step. (w : List ℕ) → Holds word.now w → IsStep step (switch_words draft ++ w ∷ [])) }
     ensures known { IfErr result (λ unfit. unfit ≢ BadWord) }
+    ensures bad { IfErr result (λ unfit. unfit ≡ BadNumber → (w : List ℕ) → Holds word.now w → IsUnfit (CaseValue draft) w) }
 {
     let Some(value) = word.number() else {
         return Err(Unfit::BadNumber);
@@ -312,6 +316,7 @@ fn with_case_label(draft: CaseDraft, value: i32, word: &Gathered) -> Result<Step
     requires { IsBegunStmt (CaseLabel draft value) }
     ensures step { IfOk result (λ step. (w : List ℕ) → Holds word.now w → IsStep step (begun_words (CaseLabel draft value) ++ w ∷ [])) }
     ensures known { IfErr result (λ unfit. unfit ≢ BadWord) }
+    ensures bad { IfErr result (λ unfit. unfit ≡ BadNumber → (w : List ℕ) → Holds word.now w → IsUnfit (CaseLabel draft value) w) }
 {
     let Some(label) = label_in(word) else {
         return Err(Unfit::BadNumber);
@@ -331,6 +336,7 @@ fn with_global_label(draft: EntryDraft, number: u32, word: &Gathered) -> Result<
     requires { IsBegunStmt (GlobalLabel draft number) }
     ensures step { IfOk result (λ step. (w : List ℕ) → Holds word.now w → IsStep step (begun_words (GlobalLabel draft number) ++ w ∷ [])) }
     ensures known { IfErr result (λ unfit. unfit ≢ BadWord) }
+    ensures bad { IfErr result (λ unfit. unfit ≡ BadNumber → (w : List ℕ) → Holds word.now w → IsUnfit (GlobalLabel draft number) w) }
 {
     let Some(label) = label_in(word) else {
         return Err(Unfit::BadNumber);
@@ -346,6 +352,7 @@ fn with_global_label(draft: EntryDraft, number: u32, word: &Gathered) -> Result<
 fn with_length(owner: Owner, word: &Gathered, alloc: Global) -> Option<Step>
     requires { IsOwner owner }
     ensures step { IfSome result (λ step. (w : List ℕ) → Holds word.now w → IsStep step (owner_words owner ++ w ∷ [])) }
+    ensures none { IfNone result ((w : List ℕ) → Holds word.now w → IsUnfit (Length owner) w) }
 {
     let count = word.within(0, NAME_BYTES as u32)?;
     Some(bytes_step(owner, Vec::new(alloc), count))
@@ -355,6 +362,7 @@ fn with_length(owner: Owner, word: &Gathered, alloc: Global) -> Option<Step>
 fn with_default(count: u32, word: &Gathered, alloc: Global) -> Option<Step>
     requires { count < 2 ^ 31 }
     ensures step { IfSome result (λ step. (w : List ℕ) → Holds word.now w → IsStep step (begun_words (Default count) ++ w ∷ [])) }
+    ensures none { IfNone result ((w : List ℕ) → Holds word.now w → IsUnfit (Default count) w) }
 {
     let default = label_in(word)?;
     Some(cases_step(CaseDraft {
@@ -368,6 +376,7 @@ fn with_default(count: u32, word: &Gathered, alloc: Global) -> Option<Step>
 /// How many globals there are.
 fn with_globals(word: &Gathered, alloc: Global) -> Option<Step>
     ensures step { IfSome result (λ step. (w : List ℕ) → Holds word.now w → IsStep step (begun_words GlobalCount ++ w ∷ [])) }
+    ensures none { IfNone result ((w : List ℕ) → Holds word.now w → IsUnfit GlobalCount w) }
 {
     let count = word.within(0, LARGEST)?;
     Some(entries_step(EntryDraft {
@@ -380,6 +389,7 @@ fn with_globals(word: &Gathered, alloc: Global) -> Option<Step>
 fn with_global(draft: EntryDraft, word: &Gathered) -> Option<Step>
     requires { AreBegunEntries draft }
     ensures step { IfSome result (λ step. (w : List ℕ) → Holds word.now w → IsStep step (entries_words draft ++ w ∷ [])) }
+    ensures none { IfNone result ((w : List ℕ) → Holds word.now w → IsUnfit (GlobalNumber draft) w) }
 {
     let number = word.within(0, GLOBAL_NUMBER)?;
     Some(Step::More(Begun::GlobalLabel { draft, number }))
@@ -388,6 +398,7 @@ fn with_global(draft: EntryDraft, word: &Gathered) -> Option<Step>
 /// How many cases there are.
 fn with_cases(word: &Gathered) -> Option<Step>
     ensures step { IfSome result (λ step. (w : List ℕ) → Holds word.now w → IsStep step (begun_words CaseCount ++ w ∷ [])) }
+    ensures none { IfNone result ((w : List ℕ) → Holds word.now w → IsUnfit CaseCount w) }
 {
     let count = word.within(0, LARGEST)?;
     Some(Step::More(Begun::Default { count }))
@@ -396,6 +407,7 @@ fn with_cases(word: &Gathered) -> Option<Step>
 /// The label of an ENTRY.
 fn with_label(word: &Gathered) -> Option<Step>
     ensures step { IfSome result (λ step. (w : List ℕ) → Holds word.now w → IsStep step (begun_words EntryLabel ++ w ∷ [])) }
+    ensures none { IfNone result ((w : List ℕ) → Holds word.now w → IsUnfit EntryLabel w) }
 {
     let label = label_in(word)?;
     Some(Step::More(Begun::Length {
@@ -407,6 +419,7 @@ fn with_label(word: &Gathered) -> Option<Step>
 fn with_argument(keyword: Keyword, word: &Gathered) -> Option<Step>
     requires { is_short keyword ≡ true }
     ensures step { IfSome result (λ step. (w : List ℕ) → Holds word.now w → IsStep step (keyword_text keyword ∷ w ∷ [])) }
+    ensures none { IfNone result ((w : List ℕ) → Holds word.now w → NoArgument keyword w) }
 {
     Some(Step::Done(short_stmt(keyword, word)?))
 }
@@ -427,6 +440,7 @@ pub(crate) fn take(begun: Begun, word: &Gathered, alloc: Global) -> Result<Step,
     requires { IsBegunStmt begun }
     ensures step { IfOk result (λ step. (w : List ℕ) → Holds word.now w → IsStep step (begun_words begun ++ w ∷ [])) }
     ensures known { IfErr result (λ unfit. unfit ≢ BadWord) }
+    ensures bad { IfErr result (λ unfit. unfit ≡ BadNumber → (w : List ℕ) → Holds word.now w → IsUnfit begun w) }
 {
     match begun {
         Begun::Short(keyword) => or_bad(with_argument(keyword, word)),

@@ -4,7 +4,7 @@ ghost use Rattle.std.specs.List.{list_all, list_any};
 ghost use Rattle.bk_base.specs.declared.limit.TheConstants.{FRAME_WORDS, OCODE_STATEMENTS, OCODE_WORDS};
 ghost use Rattle.bk_ocode.specs.StmtText.{stmt_words};
 ghost use Rattle.bk_ocode.specs.Depth.{next_depth};
-ghost use Rattle.bk_ocode.specs.StmtRange.{InRange};
+ghost use Rattle.bk_ocode.specs.StmtRange.{InRange, AreTyped};
 ghost use Rattle.bk_ocode.specs.Context.{start_from};
 ghost use Rattle.bk_ocode.specs.KnownUses.{uses_of};
 ghost use Rattle.bk_ocode.specs.Faults.{misplaced, is_lab_from, is_data, is_entry, is_set, jumps_set, data_set, label_not_set, label_set_twice, is_other_lab, are_other_jumps, result_named, follows_badly, left_behind, is_badly_followed, not_followed, result_disagrees, own_disagrees, depths_disagree, slot_above, too_long, stmt_fault};
@@ -451,7 +451,8 @@ impl Draft {
 
     /// The section of these statements, if they are one.
     pub(crate) fn into_section(self) -> Ocode
-        requires { IsSection self.stmts.items }
+        requires section { IsSection self.stmts.items }
+        requires typed { AreTyped self.stmts.items }
         ensures { stmts_of result ≡ self.stmts.items }
     {
         let Draft {

@@ -1,5 +1,7 @@
 //! Laws of sections and of the step, which the crates above rest on.
 ghost use Rattle.bk_ocode.specs.StepLaws.{StepKeepsBelow};
+ghost use Rattle.bk_ocode.specs.FirstFault.{SayOneThing};
+ghost use Rattle.bk_ocode.specs.SectionAnswer.{PrintedSaysAgain, PrintedIsReadAgain};
 ghost use Rattle.bk_ocode.specs.SectionLaws.{LabelsAreSetOnce, LabelHasOnePlace, JumpFindsItsLabel, JumpHasItsLabelsDepth};
 
 /// No label of a section is set twice.
@@ -30,4 +32,22 @@ pub fn jump_has_its_labels_depth()
 #[tactic(auto, using(crate::proofs::JumpPlaces::jump_finds_its_label))]
 pub fn jump_finds_its_label()
     ensures { JumpFindsItsLabel }
+{}
+
+/// The words of a text say one thing at most where a section is due.
+#[tactic(auto, using(crate::proofs::OneSaying::one_saying))]
+pub fn one_saying()
+    ensures { SayOneThing }
+{}
+
+/// What is printed says the section again, whatever follows.
+#[tactic(auto, using(crate::proofs::ReadAgain::printed_again))]
+pub fn printed_again()
+    ensures { PrintedSaysAgain }
+{}
+
+/// What `print` writes is read again by `read_section` as the same section, whatever follows.
+#[tactic(auto, using(crate::proofs::ReadAgain::read_again))]
+pub fn read_again()
+    ensures { PrintedIsReadAgain }
 {}

@@ -25,7 +25,7 @@ pub use case_list::CaseList;
 pub use global_list::GlobalList;
 pub use laws::{
     jump_finds_its_label, jump_has_its_labels_depth, label_has_one_place, labels_are_set_once,
-    step_keeps_below,
+    one_saying, printed_again, read_again, step_keeps_below,
 };
 pub use printing::print;
 pub use reading::read_section;

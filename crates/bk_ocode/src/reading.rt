@@ -1,16 +1,17 @@
 //! Reading sections.
 ghost use Rattle.std.specs.Prelude.{◌≡◌, true, ℕ, ◌+◌, ◌<◌, ◌≤◌, List, [], ◌∷◌, ◌++◌, false, Some, None, Ok, Err, IfOk, IfErr, IsTrue, length, if◌then◌else◌};
 ghost use Rattle.std.specs.Io.KnownBytes.{Keeps};
-ghost use Rattle.bk_base.specs.declared.limit.TheConstants.{OCODE_STATEMENTS};
+ghost use Rattle.bk_base.specs.declared.limit.TheConstants.{INPUT_BYTES, OCODE_STATEMENTS};
 ghost use Rattle.bk_base.specs.declared.ocode_fault.OcodeKind.TheVariants.{Truncated};
+ghost use Rattle.bk_words.specs.Words.{words_of};
 ghost use Rattle.bk_words.specs.Gathering.{Holds};
 ghost use Rattle.bk_ocode.specs.StmtText.{keyword};
 ghost use Rattle.bk_ocode.specs.Faults.{misplaced};
 ghost use Rattle.bk_ocode.specs.Drafts.{context_in};
 ghost use Rattle.bk_ocode.specs.declared.stmt.Stmt.{Stmt};
-ghost use Rattle.bk_ocode.specs.declared.begun.Unfit.TheVariants.{BadWord};
-ghost use Rattle.bk_ocode.specs.SectionAnswer.{Answers, is_device};
-ghost use Rattle.bk_ocode.specs.BegunStmts.{IsStep, IsBegunPart, part_words, refusal};
+ghost use Rattle.bk_ocode.specs.declared.begun.Unfit.TheVariants.{BadWord, BadNumber};
+ghost use Rattle.bk_ocode.specs.SectionAnswer.{Answers, StandsFor, AnswersWords, is_device};
+ghost use Rattle.bk_ocode.specs.BegunStmts.{IsStep, IsBegunPart, part_words, BeginNone, refusal};
 
 use crate::begun::{Begun, Step, Unfit, begin, take};
 use crate::draft::Draft;
@@ -61,6 +62,7 @@ fn step_of(
     ensures step { IfOk result (λ step. (w : List ℕ) → Holds word.now w → IsStep step (part_words begun ++ w ∷ [])) }
     ensures placed { IfOk result (λ step. begun ≡ None → (w : List ℕ) → Holds word.now w → (s : Stmt) → keyword s ≡ w → misplaced (context_in draft.now) s ≡ false) }
     ensures bad { IfErr result (λ unfit. unfit ≡ BadWord → (begun ≡ None) × ((w : List ℕ) → Holds word.now w → (s : Stmt) → keyword s ≡ w → misplaced (context_in draft.now) s ≡ true)) }
+    ensures number { IfErr result (λ unfit. unfit ≡ BadNumber → (0 < length (part_words begun)) × ((w : List ℕ) → Holds word.now w → BeginNone (part_words begun ++ w ∷ []))) }
 {
     match begun {
         Some(begun) => take(begun, word, alloc),
@@ -94,11 +96,8 @@ fn at_end(count: usize, words: u32) -> Result<Option<Ocode>, Refused<OcodeFault>
     Err(fault_behind(count, OcodeKind::Truncated))
 }
 
-/// Reads the next section of a text, or None where only blanks are left.
-///
-/// It takes at most one byte past the last word, holds one word of the text, and no list besides the section that it
-/// builds. Where memory is refused it answers so in the place of any other answer.
-pub fn read_section<I: ByteIn>(
+/// Reads the next section of a text.
+fn next_section<I: ByteIn>(
     alloc: Global,
     input: &mut I,
 ) -> Result<Option<Ocode>, Refused<OcodeFault>>
@@ -140,4 +139,26 @@ pub fn read_section<I: ByteIn>(
             }
         }
     }
+}
+
+/// Reads the next section of a text, or None where only blanks are left.
+///
+/// It takes at most one byte past the last word, holds one word of the text, and no list besides the section that it
+/// builds. Where memory is refused it answers so in the place of any other answer.
+pub fn read_section<I: ByteIn>(
+    alloc: Global,
+    input: &mut I,
+) -> Result<Option<Ocode>, Refused<OcodeFault>>
+    // What was taken is the text of the section, or blanks, or a text up to its first fault.
+    ensures answers { Answers result (I.left input.old) (I.left input.new) (I.ended input.new) }
+    // That stands whatever follows the bytes taken.
+    ensures stands { StandsFor result (I.left input.old) (I.left input.new) (I.ended input.new) }
+    // The same of the whole text, whose words say one thing.
+    ensures says { (all : List ℕ) → I.left input.old ≡ Some all → length all < INPUT_BYTES → AnswersWords result (words_of all) }
+    // It fails exactly where the device does, and at once where that failed before. Where the end was told, nothing is left.
+    ensures failures { I.faults input.new ≡ (if is_device result then 1 else 0) }
+    ensures failed_again { I.faults input.old ≡ 1 → (result ≡ Err Refused.Device) × Keeps (I.left input.old) (I.left input.new) }
+    ensures ended_again { IsTrue (I.ended input.old) → (result ≡ Ok None) × IsTrue (I.ended input.new) }
+{
+    next_section(alloc, input)
 }

@@ -1,16 +1,17 @@
 //! Sections of OCODE.
 ghost use Rattle.std.specs.Prelude.{◌≡◌};
+ghost use Rattle.bk_ocode.specs.StmtRange.{AreTyped};
 ghost use Rattle.bk_ocode.specs.Section.{IsSection};
 
 use crate::depth::{depth_behind, larger};
 use crate::stmt::Stmt;
 
 /// A section: a list of statements that keeps the rules of accepted sections and the limits of statements, words of text,
-/// labels and depths.
+/// labels and depths; its numbers and bytes are such, so that what is printed of it is read again.
 #[derive(Debug, Drop)]
 pub struct Ocode {
     stmts: Vec<Stmt>,
-    ghost whole: { ∥ IsSection stmts.items ∥₁ },
+    ghost whole: { ∥ IsSection stmts.items × AreTyped stmts.items ∥₁ },
 }
 
 impl Ocode {
@@ -19,9 +20,11 @@ impl Ocode {
     ghost use Rattle.bk_ocode.specs.Depth.{largest_depth};
     ghost use Rattle.bk_ocode.specs.SectionStmts.{stmts_of};
 
-    /// The section of these statements, whose caller owes that they are one. It takes no memory.
+    /// The section of these statements, whose caller owes that they are one, and that numbers and bytes are such. It takes
+    /// no memory.
     pub fn new(stmts: Vec<Stmt>) -> Ocode
-        requires { IsSection stmts.items }
+        requires section { IsSection stmts.items }
+        requires typed { AreTyped stmts.items }
         ensures { stmts_of result ≡ stmts.items }
     {
         Ocode { stmts }
@@ -31,6 +34,7 @@ impl Ocode {
     pub fn stmts(&self) -> &[Stmt]
         ensures value { result.now ≡ stmts_of self.now }
         ensures whole { IsSection result.now }
+        ensures typed { AreTyped result.now }
     {
         self.stmts.as_slice()
     }

@@ -1,7 +1,65 @@
-//! Tests of what no clause says yet: rows of texts with what they are.
-use crate::{print, read_section};
+//! Tests: rows of texts with what they are, each statement, each limit, and devices that fail.
+use crate::{Ocode, print, read_section};
 use bk_base::{ByteOut, OcodeFault, OcodeKind, Reader512, Refused, Writer512};
+use std::io;
+use std::io::{ErrorKind, Read, Write};
 use std::test::Fail;
+
+/// Gives one byte a read, and fails at a read.
+#[derive(Drop)]
+struct Slow<'a> {
+    bytes: &'a [u8],
+    reads: usize,
+}
+
+impl Read for Slow<'_> {
+    fn read(&mut self, buf: &mut [u8]) -> io::Result<usize> {
+        if self.reads == 0 {
+            return Err(io::Error::from(ErrorKind::Other));
+        }
+        self.reads -= 1;
+        if buf.is_empty() {
+            return Ok(0);
+        }
+        match self.bytes {
+            [] => Ok(0),
+            [first, rest @ ..] => {
+                buf[0] = *first;
+                self.bytes = rest;
+                Ok(1)
+            }
+        }
+    }
+}
+
+/// Takes so many bytes, one a write, and then fails.
+#[derive(Drop)]
+struct Short<'a> {
+    bytes: &'a mut Vec<u8>,
+    room: usize,
+}
+
+impl Write for Short<'_> {
+    fn write(&mut self, buf: &[u8]) -> io::Result<usize> {
+        if self.room == 0 {
+            return Err(io::Error::from(ErrorKind::Other));
+        }
+        match buf {
+            [] => Ok(0),
+            [first, ..] => {
+                if self.bytes.push(*first).is_err() {
+                    return Err(io::Error::from(ErrorKind::OutOfMemory));
+                }
+                self.room -= 1;
+                Ok(1)
+            }
+        }
+    }
+
+    fn flush(&mut self) -> io::Result<()> {
+        Ok(())
+    }
+}
 
 /// How many statements a text's first section has, 0 where only blanks are left, or its fault.
 fn count(rt: &HostRuntime, text: &[u8]) -> Result<usize, Refused<OcodeFault>> {
@@ -12,12 +70,18 @@ fn count(rt: &HostRuntime, text: &[u8]) -> Result<usize, Refused<OcodeFault>> {
     }
 }
 
+/// The first section of a text.
+fn section_of(rt: &HostRuntime, text: &[u8]) -> Result<Ocode, Fail> {
+    let mut input = Reader512::new(text);
+    match read_section(rt.alloc(), &mut input) {
+        Ok(Some(section)) => Ok(section),
+        _ => Err(Fail::from("no section")),
+    }
+}
+
 /// The text of a text's first section, printed again.
 fn printed(rt: &HostRuntime, text: &[u8]) -> Result<Vec<u8>, Fail> {
-    let mut input = Reader512::new(text);
-    let Ok(Some(section)) = read_section(rt.alloc(), &mut input) else {
-        return Err(Fail::from("no section"));
-    };
+    let section = section_of(rt, text)?;
     let mut text = Vec::new(rt.alloc());
     let mut out = Writer512::new(&mut text);
     if print(&section, &mut out).is_err() || out.flush().is_err() {
@@ -139,16 +203,182 @@ const SMALL: &[u8] = b"ENTRY L1 5 83 84 65 82 84\nSAVE 2\nFINISH\nRTRN\nENDPROC\
 
 #[test]
 fn beginnings(rt: HostRuntime) -> Result<(), Fail> {
-    assert_eq!(rt; count(&rt, SMALL), Ok(6));
-    for end in 0..SMALL.len() {
-        let answer = count(&rt, &SMALL[..end]);
-        if end == 0 {
-            assert_eq!(rt; answer, Ok(0));
-        } else if end + 1 == SMALL.len() {
-            assert_eq!(rt; answer, Ok(6));
-        } else {
-            assert!(rt; answer.is_err());
+    let rows: [(usize, usize, u32, OcodeKind); 17] = [
+        (1, 5, 1, OcodeKind::BadWord),
+        (5, 7, 1, OcodeKind::Truncated),
+        (7, 8, 1, OcodeKind::BadNumber),
+        (8, 24, 1, OcodeKind::Truncated),
+        (24, 27, 2, OcodeKind::Truncated),
+        (27, 30, 2, OcodeKind::BadWord),
+        (30, 32, 2, OcodeKind::Truncated),
+        (32, 34, 3, OcodeKind::Truncated),
+        (34, 39, 3, OcodeKind::BadWord),
+        (39, 41, 4, OcodeKind::Truncated),
+        (41, 44, 4, OcodeKind::BadWord),
+        (44, 46, 5, OcodeKind::Truncated),
+        (46, 52, 5, OcodeKind::BadWord),
+        (52, 54, 6, OcodeKind::Truncated),
+        (54, 59, 6, OcodeKind::BadWord),
+        (59, 65, 6, OcodeKind::Truncated),
+        (65, 66, 6, OcodeKind::BadNumber),
+    ];
+    for (from, to, statement, kind) in rows {
+        for end in from..to {
+            let Some(text) = SMALL.get(..end) else {
+                return Err(Fail::from("past the end"));
+            };
+            assert_eq!(rt;
+                count(&rt, text),
+                Err(Refused::Fault(OcodeFault { statement, kind }))
+            );
         }
+    }
+    assert_eq!(rt; SMALL.len(), 67);
+    assert_eq!(rt; count(&rt, b""), Ok(0));
+    assert_eq!(rt; SMALL.get(..66).map(|text| count(&rt, text)), Some(Ok(6)));
+    assert_eq!(rt; count(&rt, SMALL), Ok(6));
+    Ok(())
+}
+
+/// Each statement, with each first word.
+const EACH: &[u8] =
+    b"ENTRY L1 3 70 79 79\nSAVE 4\nLN -7\nTRUE\nFALSE\nQUERY\nLP 2\nLG 999\nLL L50\nLLP 3\nLLG 0\nLLL L51\n\
+    LSTR 0\nRV\nNEG\nNOT\nMULT\nDIV\nREM\nPLUS\nMINUS\nEQ\nNE\nLS\nGR\nLE\nLN 1\nLN 2\nLN 3\nLN 4\nLN 5\n\
+    LN 6\nLN 7\nGE\nLSHIFT\nRSHIFT\nLOGAND\nLOGOR\nEQV\nNEQV\nLN 0\nGETBYTE\nSP 3\nLN 1\nSG 5\nLN 1\n\
+    SL L50\nLN 1\nLN 2\nSTIND\nLN 1\nLN 2\nLN 3\nPUTBYTE\nSTORE\nJUMP L2\nLAB L2\nLN 1\nJT L2\nLN 1\nJF L2\n\
+    LN 1\nSWITCHON 1 L2 -5 L2\nLN 1\nRES L3\nLAB L3\nRSTACK 4\nSTACK 6\nLP 2\nFNAP 4\nSTACK 6\nLP 2\n\
+    RTAP 4\nFINISH\nLN 1\nFNRN\nRTRN\nENDPROC\nDATALAB L50\nITEMN 7\nDATALAB L51\nITEML L1\nGLOBAL 1 1 L1\n";
+
+#[test]
+fn each_statement(rt: HostRuntime) -> Result<(), Fail> {
+    assert_eq!(rt; count(&rt, EACH), Ok(83));
+    assert_eq!(rt; printed(&rt, EACH)?.as_slice(), EACH);
+    Ok(())
+}
+
+#[test]
+fn limits(rt: HostRuntime) -> Result<(), Fail> {
+    let rows: [(&[u8], u32, OcodeKind); 22] = [
+        (b"ENTRY L300000", 1, OcodeKind::Truncated),
+        (b"ENTRY L300001 ", 1, OcodeKind::BadNumber),
+        (b"ENTRY L1 255", 1, OcodeKind::Truncated),
+        (b"ENTRY L1 1 255", 2, OcodeKind::Truncated),
+        (b"ENTRY L1 0 SAVE 65535", 3, OcodeKind::Truncated),
+        (b"ENTRY L1 0 SAVE 1", 2, OcodeKind::BadNumber),
+        (b"ENTRY L1 0 SAVE 2 STACK 65535", 4, OcodeKind::Truncated),
+        (b"ENTRY L1 0 SAVE 2 STACK 65536", 3, OcodeKind::BadNumber),
+        (b"ENTRY L1 0 SAVE 2 LN 2147483647", 4, OcodeKind::Truncated),
+        (b"ENTRY L1 0 SAVE 2 LN 2147483648", 3, OcodeKind::BadNumber),
+        (b"ENTRY L1 0 SAVE 2 LN -2147483648", 4, OcodeKind::Truncated),
+        (b"ENTRY L1 0 SAVE 2 LN -2147483649", 3, OcodeKind::BadNumber),
+        (
+            b"ENTRY L1 0 SAVE 2 LP 2147483647",
+            3,
+            OcodeKind::SlotAboveDepth,
+        ),
+        (b"ENTRY L1 0 SAVE 2 LP 2147483648", 3, OcodeKind::BadNumber),
+        (
+            b"ENTRY L1 0 SAVE 2 RTAP 2147483647",
+            3,
+            OcodeKind::SlotAboveDepth,
+        ),
+        (
+            b"ENTRY L1 0 SAVE 2 RTAP 2147483648",
+            3,
+            OcodeKind::BadNumber,
+        ),
+        (b"ENTRY L1 0 SAVE 2 LG 999", 4, OcodeKind::Truncated),
+        (b"ENTRY L1 0 SAVE 2 LG 1000", 3, OcodeKind::BadNumber),
+        (
+            b"ENTRY L1 0 SAVE 2 LN 1 SWITCHON 2147483647",
+            4,
+            OcodeKind::Truncated,
+        ),
+        (
+            b"ENTRY L1 0 SAVE 2 LN 1 SWITCHON 2147483648",
+            4,
+            OcodeKind::BadNumber,
+        ),
+        (b"GLOBAL 2147483647", 1, OcodeKind::Truncated),
+        (b"GLOBAL 2147483648", 1, OcodeKind::BadNumber),
+    ];
+    for (text, statement, kind) in rows {
+        assert_eq!(rt;
+            count(&rt, text),
+            Err(Refused::Fault(OcodeFault { statement, kind }))
+        );
+    }
+    Ok(())
+}
+
+/// A section of DATALAB, so many ITEMN, and GLOBAL.
+fn data(rt: &HostRuntime, items: usize) -> Result<Vec<u8>, Fail> {
+    let mut text = Vec::new(rt.alloc());
+    text.extend_from_slice(b"DATALAB L1\n")?;
+    for _ in 0..items {
+        text.extend_from_slice(b"ITEMN 0\n")?;
+    }
+    text.extend_from_slice(b"GLOBAL 0\n")?;
+    Ok(text)
+}
+
+#[test]
+fn a_million_statements(rt: HostRuntime) -> Result<(), Fail> {
+    let most = data(&rt, 999_998)?;
+    assert_eq!(rt; count(&rt, most.as_slice()), Ok(1_000_000));
+    let more = data(&rt, 999_999)?;
+    assert_eq!(rt;
+        count(&rt, more.as_slice()),
+        Err(Refused::Fault(OcodeFault {
+            statement: 1_000_001,
+            kind: OcodeKind::TooLong
+        }))
+    );
+    Ok(())
+}
+
+#[test]
+fn a_read_that_fails(rt: HostRuntime) -> Result<(), Fail> {
+    for reads in 0..SMALL.len() {
+        let mut input = Reader512::new(Slow {
+            bytes: SMALL,
+            reads,
+        });
+        assert_eq!(rt;
+            read_section(rt.alloc(), &mut input).map(|_| ()),
+            Err(Refused::Device)
+        );
+    }
+    // one byte past the last word is enough
+    let mut input = Reader512::new(Slow {
+        bytes: SMALL,
+        reads: SMALL.len(),
+    });
+    assert_eq!(rt;
+        read_section(rt.alloc(), &mut input).map(|section| section.is_some()),
+        Ok(true)
+    );
+    assert_eq!(rt;
+        read_section(rt.alloc(), &mut input).map(|_| ()),
+        Err(Refused::Device)
+    );
+    Ok(())
+}
+
+#[test]
+fn a_write_that_fails(rt: HostRuntime) -> Result<(), Fail> {
+    let section = section_of(&rt, SMALL)?;
+    for room in 0..SMALL.len() {
+        let mut passed = Vec::new(rt.alloc());
+        let mut out = Writer512::new(Short {
+            bytes: &mut passed,
+            room,
+        });
+        let printed = print(&section, &mut out).is_ok() && out.flush().is_ok();
+        assert!(rt; !printed);
+        assert!(rt; print(&section, &mut out).is_err());
+        drop(out);
+        assert_eq!(rt; Some(passed.as_slice()), SMALL.get(..room));
     }
     Ok(())
 }

@@ -1,12 +1,14 @@
 -- Laws of the spellings of numbers, for the crates above.
-use Rattle.std.proofs.Common.{◌≡◌, ◌≢◌, ℕ, ◌<◌, ◌≤◌, ◌^◌, ◌++◌, true, false, pos, negsuc, ℤ, FitsSigned, w32, List, [], ◌∷◌, length, get_or, suc, arith, refl, sym, ap, ◌∙◌, ◌⊎◌, inl, inr, nat_eq, eq-eqb}
+use Rattle.std.proofs.Common.{◌≡◌, ◌≢◌, ℕ, ◌<◌, ◌≤◌, ◌^◌, ◌++◌, ◌==◌, ◌||◌, Bool, true, false, pos, negsuc, ℤ, FitsSigned, w32, List, [], ◌∷◌, length, get_or, suc, arith, refl, sym, ap, ◌∙◌, ◌⊎◌, inl, inr, nat_eq, eq-eqb}
 use lib.Signed.{mag, lt_z}
 use borrow.Author.Tests.{ltb-true}
 use Rattle.std.specs.Int.{IsInRange}
 use Rattle.std.specs.Fmt.{decimal}
 use Rattle.std.proofs.lemmas.Fmt.{length-decimal-le, length_signed_le, digits_decimal, decimal_nonempty, signed_decimal_injective, decimal_injective}
 use Rattle.std.proofs.lemmas.Str.Parse.{numerals_by_value, tells_by_index}
+use Rattle.std.proofs.lemmas.Bool.{ne_eqb}
 use Rattle.bk_base.specs.Decimal.{spelling}
+use Rattle.bk_words.specs.Words.{is_blank, AreInWord}
 
 -- the number of a global has three digits at most
 pub length-global : (n : ℕ) → n ≤ 999 → length (spelling (pos n)) ≤ 3
@@ -78,3 +80,26 @@ at_seam (x ∷ a) b = at_seam a b
 -- no spelling is long
 pub length-word : (z : ℤ) → FitsSigned w32 z → length (spelling z) ≤ 11
 length-word z fits = let h : mag z < 2 ^ 31 = fits.sfits in length_signed_le 10 z (omega arith) (omega arith)
+
+-- no spelling has a blank
+no_blank : (p q r s t : Bool) → p ≡ false → q ≡ false → r ≡ false → s ≡ false → t ≡ false → (p || q || r || s || t) ≡ false
+no_blank p q r s t a b c d e = rw (a, b, c, d, e) refl
+
+digit-inside : (b : ℕ) → 48 ≤ b → b ≤ 57 → is_blank b ≡ false
+digit-inside b low high =
+    no_blank (b == 32) (b == 9) (b == 10) (b == 12) (b == 13)
+    (ne_eqb b 32 (λ is. absurd (omega (arith, low, is)))) (ne_eqb b 9 (λ is. absurd (omega (arith, low, is)))) (ne_eqb b 10 (λ is. absurd (omega (arith, low, is))))
+    (ne_eqb b 12 (λ is. absurd (omega (arith, low, is)))) (ne_eqb b 13 (λ is. absurd (omega (arith, low, is))))
+
+digits-inside : (ds : List ℕ) → ((i : ℕ) → i < length ds → IsInRange 48 57 (get_or ds i 0)) → AreInWord ds
+digits-inside [] digits = tt
+digits-inside (d ∷ ds) digits =
+    let first : IsInRange 48 57 d = digits 0 (omega arith) in
+    (digit-inside d first.0 first.1, digits-inside ds (λ i low. digits (suc i) (omega arith)))
+
+pub numeral-inside : (n : ℕ) → n < 2 ^ 64 → AreInWord (decimal n)
+numeral-inside n small = digits-inside (decimal n) (digit-at n small)
+
+pub spelling-inside : (z : ℤ) → FitsSigned w32 z → AreInWord (spelling z)
+spelling-inside (pos n) fits = let h = mag-fits (pos n) fits in numeral-inside n (omega (arith, h))
+spelling-inside (negsuc n) fits = let h = mag-fits (negsuc n) fits in (refl, numeral-inside (suc n) (omega (arith, h)))

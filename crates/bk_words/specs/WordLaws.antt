@@ -221,3 +221,9 @@ Reads-end old a b e f m k words given reads blank end more count stays = (
   more_blanks reads.0 given (AtEnd e m) words blank stays reads.3,
   end,
 )
+
+-- a word in front of a blank
+pub words_of-front : (word rest : List ℕ) (b : ℕ) → 0 < length word → AreInWord word → is_blank b ≡ true → words_of (word ++ b ∷ rest) ≡ word ∷ words_of rest
+words_of-front [] rest b some in_word blank = absurd (omega (arith, some))
+words_of-front (first ∷ word) rest b some in_word blank =
+    words_of-word first word (b ∷ rest) in_word blank ∙ ap (λ (w : List (List ℕ)). (first ∷ word) ∷ w) (chosen-true (is_blank b) _ _ blank)

@@ -1,4 +1,4 @@
-use Rattle.std.proofs.Common.{◌≡◌, ◌∙◌, ◌++◌, ◌∷◌, [], ap, append-nil, sym, get_or}
+use Rattle.std.proofs.Common.{rules, ◌≡◌, ◌∙◌, ◌++◌, ◌∷◌, [], ap, append-nil, sym, get_or}
 use Rattle.bk_base.specs.DeviceLaws.{Begins-trans}
 use Rattle.bk_ocode.specs.StmtText.{stmt_text}
 use Rattle.bk_ocode.specs.SectionText.{section_text}
@@ -24,5 +24,6 @@ loop-stmt-preserved g c =
     record {
       taken = Appends-row Stmt section_text line_rows _ _ _ c.stmts-stmt-items.result.now c.loop-stmt.stmt-index x _ c.loop-stmt-test.true same c.loop-stmt.invariant.taken c.in_ok-put_stmt.ensures.takes;
       passed = Begins-trans _ _ _ c.loop-stmt.invariant.passed c.in_ok-put_stmt.ensures.passes;
+      again = λ was. let stays = c.loop-stmt.invariant.again was in search rules;
       clear = λ _. c.in_ok-put_stmt.ensures.failures;
     }

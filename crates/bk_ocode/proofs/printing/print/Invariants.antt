@@ -1,5 +1,5 @@
 use Rattle.std.proofs.Common.{◌≡◌, ◌<◌, take}
-use Rattle.std.specs.Io.KnownBytes.{Appends}
+use Rattle.std.specs.Io.KnownBytes.{Appends, Keeps}
 use Rattle.bk_base.specs.Devices.{Begins}
 use Rattle.bk_ocode.specs.SectionText.{section_text}
 use Rattle.bk_ocode.proofs.printing.print.Given as goal
@@ -9,4 +9,5 @@ invariant-loop-stmt g l = record {
   taken : Appends (g.O.ByteOut.taken l.initial.out) (g.O.ByteOut.taken l.out) (section_text (take l.stmt-index l.stmt-items));
   passed : Begins (g.O.ByteOut.passed l.initial.out) (g.O.ByteOut.passed l.out);
   clear : 0 < l.stmt-index → g.O.ByteOut.faults l.out ≡ 0;
+  again : g.O.ByteOut.faults l.initial.out ≡ 1 → (l.stmt-index ≡ 0) × (g.O.ByteOut.faults l.out ≡ 1) × Keeps (g.O.ByteOut.taken l.initial.out) (g.O.ByteOut.taken l.out) × Keeps (g.O.ByteOut.passed l.initial.out) (g.O.ByteOut.passed l.out);
 }

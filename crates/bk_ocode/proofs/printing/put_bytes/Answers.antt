@@ -1,4 +1,4 @@
-use Rattle.std.proofs.Common.{ℕ, append-nil}
+use Rattle.std.proofs.Common.{rules, ℕ, append-nil}
 use Rattle.bk_base.specs.DeviceLaws.{Begins-trans}
 use Rattle.bk_ocode.specs.StmtText.{spaced, byte_words}
 use Rattle.bk_ocode.proofs.Parts.{on_err}
@@ -18,4 +18,5 @@ loop-byte-preserved g c = record {
   taken = Appends-row ℕ (λ xs. spaced (byte_words xs)) byte_rows _ _ _ c.args.bytes.now c.loop-byte.byte-index _ _ c.loop-byte-test.true (append-nil _)
       c.loop-byte.invariant.taken c.in_ok-put_byte.ensures.takes;
   passed = Begins-trans _ _ _ c.loop-byte.invariant.passed c.in_ok-put_byte.ensures.passes;
+  again = λ was. let stays = c.loop-byte.invariant.again was in search rules;
 }

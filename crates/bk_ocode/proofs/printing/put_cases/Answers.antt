@@ -1,4 +1,4 @@
-use Rattle.std.proofs.Common.{refl}
+use Rattle.std.proofs.Common.{rules, refl}
 use Rattle.bk_base.specs.DeviceLaws.{Begins-trans}
 use Rattle.bk_ocode.specs.StmtText.{spaced, case_words}
 use Rattle.bk_ocode.specs.declared.stmt.Case.{Case}
@@ -19,4 +19,5 @@ loop-case-preserved g c = record {
   taken = Appends-row Case (λ xs. spaced (case_words xs)) case_rows _ _ _ c.args.cases.now c.loop-case.case-index _ _ c.loop-case-test.true refl
       c.loop-case.invariant.taken c.in_ok-put_case.ensures.takes;
   passed = Begins-trans _ _ _ c.loop-case.invariant.passed c.in_ok-put_case.ensures.passes;
+  again = λ was. let stays = c.loop-case.invariant.again was in search rules;
 }

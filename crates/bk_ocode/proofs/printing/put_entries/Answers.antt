@@ -1,4 +1,4 @@
-use Rattle.std.proofs.Common.{refl}
+use Rattle.std.proofs.Common.{rules, refl}
 use Rattle.bk_base.specs.DeviceLaws.{Begins-trans}
 use Rattle.bk_ocode.specs.StmtText.{spaced, global_words}
 use Rattle.bk_ocode.specs.declared.stmt.GlobalEntry.{GlobalEntry}
@@ -19,4 +19,5 @@ loop-entry-preserved g c = record {
   taken = Appends-row GlobalEntry (λ xs. spaced (global_words xs)) global_rows _ _ _ c.args.entries.now c.loop-entry.entry-index _ _ c.loop-entry-test.true refl
       c.loop-entry.invariant.taken c.in_ok-put_entry.ensures.takes;
   passed = Begins-trans _ _ _ c.loop-entry.invariant.passed c.in_ok-put_entry.ensures.passes;
+  again = λ was. let stays = c.loop-entry.invariant.again was in search rules;
 }

@@ -10,7 +10,7 @@ use Rattle.bk_ocode.specs.SectionText.{section_words}
 use Rattle.bk_ocode.specs.FirstFault.{IsBegun}
 use Rattle.bk_ocode.specs.Drafts.{IsDraft}
 use Rattle.bk_ocode.specs.BegunStmts.{IsBegunPart, part_words}
-use Rattle.bk_ocode.proofs.reading.read_section.Given as goal
+use Rattle.bk_ocode.proofs.reading.next_section.Given as goal
 
 abbrev pub invariant-loop-alloc : goal.invariant-loop-alloc
 invariant-loop-alloc g l = record {

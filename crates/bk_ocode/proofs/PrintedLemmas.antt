@@ -1,0 +1,160 @@
+-- The words of what is printed.
+use Rattle.std.proofs.Common.{◌≡◌, ℕ, suc, ℤ, pos, FitsSigned, w32, ◌<◌, ◌^◌, ◌++◌, ◌&&◌, not, nat_eq, nat_lt, Bool, true, false, if◌then◌else◌, List, [], ◌∷◌, Some, None, length, arith, refl, sym, ap, ◌∙◌, append_assoc, ltb-true}
+use Rattle.std.specs.Prelude.{⊤}
+use Rattle.std.specs.List.{list_all}
+use lib.Pointwise.{pointwise}
+use Rattle.bk_base.specs.Decimal.{spelling}
+use Rattle.bk_words.specs.Words.{is_blank, words_of, AreInWord}
+use Rattle.bk_words.specs.WordLaws.{words_of-front}
+use Rattle.bk_words.specs.Numerals.{fits-pos, spelling-some, spelling-inside}
+use Rattle.bk_ocode.specs.Lists.{joined}
+use Rattle.bk_ocode.specs.StmtText.{keyword, argument_words, stmt_words, stmt_text, spaced, natural_word, label_word, variable_word, byte_words}
+use Rattle.bk_ocode.specs.SectionText.{section_text, section_words}
+use Rattle.bk_ocode.specs.StmtRange.{IsLabel, IsVariable}
+use Rattle.bk_ocode.specs.FirstFault.{IsStmt}
+use Rattle.bk_ocode.specs.Keywords.{keyword_text, find_keyword, keyword_of_stmt}
+use Rattle.bk_ocode.specs.declared.stmt.Variable.{Variable}
+use Rattle.bk_ocode.specs.declared.stmt.Variable.TheVariants as variable
+use Rattle.bk_ocode.specs.declared.stmt.Case.{Case}
+use Rattle.bk_ocode.specs.declared.stmt.GlobalEntry.{GlobalEntry}
+use Rattle.bk_ocode.specs.declared.stmt.Stmt.{Stmt}
+use Rattle.bk_ocode.specs.declared.stmt.Stmt.TheVariants as stmt
+use Rattle.bk_ocode.specs.declared.keyword.Keyword.{Keyword}
+use Rattle.bk_ocode.proofs.KeywordLemmas.{keywords, all_found, begins_so}
+use Rattle.bk_ocode.proofs.SameStmts.{Each, byte_row, case_row, global_row, IsByte, IsCase, IsEntry}
+
+-- a word has a byte at least, and no blank
+abbrev IsWord : List ℕ → Type 0
+IsWord word = (0 < length word) × AreInWord word
+
+abbrev AreWords : List (List ℕ) → Type 0
+AreWords [] = ⊤
+AreWords (word ∷ rest) = IsWord word × AreWords rest
+
+some_byte : (word : List ℕ) → (word ≡ [] → ⊥) → 0 < length word
+some_byte [] some = absurd (some refl)
+some_byte (b ∷ word) some = omega arith
+
+number-word : (z : ℤ) → FitsSigned w32 z → IsWord (spelling z)
+number-word z fits = (some_byte (spelling z) (spelling-some z fits), spelling-inside z fits)
+
+natural-word : (n : ℕ) → n < 2 ^ 31 → IsWord (natural_word n)
+natural-word n small = number-word (pos n) (fits-pos n small)
+
+label-word : (l : ℕ) → IsLabel l → IsWord (label_word l)
+label-word l fits = (omega arith, (refl, (natural-word l (omega (arith, fits.1))).1))
+
+variable-word : (v : Variable) → IsVariable v → IsWord (variable_word v)
+variable-word (variable.Local n) fits = natural-word n fits.1
+variable-word (variable.Global n) fits = natural-word n (omega (arith, fits))
+variable-word (variable.Static l) fits = label-word l fits
+
+-- The words that begin statements are such.
+abbrev inside : List ℕ → Bool
+inside word = list_all (λ b. not (is_blank b)) word
+
+and_both : (a b : Bool) → (a && b) ≡ true → (a ≡ true) × (b ≡ true)
+and_both true b is = (refl, is)
+and_both false b is = absurd (let h : false ≡ true = is in cc)
+
+not_true : (a : Bool) → not a ≡ true → a ≡ false
+not_true true is = absurd (let h : false ≡ true = is in cc)
+not_true false is = refl
+
+in_word : (word : List ℕ) → inside word ≡ true → AreInWord word
+in_word [] is = tt
+in_word (b ∷ word) is = let p = and_both (not (is_blank b)) (inside word) is in (not_true (is_blank b) p.0, in_word word p.1)
+
+-- what holds of all keywords of a list holds of one that is found there
+found_holds : (p : Keyword → Bool) (list : List Keyword) (word : List ℕ) (k : Keyword) → find_keyword list word ≡ Some k → list_all p list ≡ true → p k ≡ true
+found_holds p [] word k found all = absurd (let h : None ≡ Some k = found in cc)
+found_holds p (j ∷ list) word k found all =
+    let both = and_both (p j) (list_all p list) all in
+    first_or (pointwise nat_eq (keyword_text j) word) found both.0 (λ later. found_holds p list word k later both.1)
+  where
+    first_or : (b : Bool) → (if b then Some j else find_keyword list word) ≡ Some k → p j ≡ true → (find_keyword list word ≡ Some k → p k ≡ true) → p k ≡ true
+    first_or true is here later = let same : j ≡ k = cc in ap p (sym same) ∙ here
+    first_or false is here later = later is
+
+keyword-word : (k : Keyword) → IsWord (keyword_text k)
+keyword-word k =
+    let is = and_both (nat_lt 0 (length (keyword_text k))) (inside (keyword_text k))
+    (found_holds (λ (j : Keyword). nat_lt 0 (length (keyword_text j)) && inside (keyword_text j)) keywords (keyword_text k) k (all_found k) refl) in
+    (ltb-true 0 (length (keyword_text k)) is.0, in_word (keyword_text k) is.1)
+
+first-word : (s : Stmt) → IsWord (keyword s)
+first-word s = rw (begins_so s) (keyword-word (keyword_of_stmt s))
+
+AreWords-append : (a b : List (List ℕ)) → AreWords a → AreWords b → AreWords (a ++ b)
+AreWords-append [] b p q = q
+AreWords-append (w ∷ a) b p q = (p.0, AreWords-append a b p.1 q)
+
+row-words : (A : Type 0) (row : A → List (List ℕ)) (Fine : A → Type 0) → ((x : A) → Fine x → AreWords (row x)) → (xs : List A) → Each Fine xs → AreWords (joined row xs)
+row-words A row Fine each [] are = tt
+row-words A row Fine each (x ∷ xs) are = AreWords-append (row x) (joined row xs) (each x (are 0 x refl)) (row-words A row Fine each xs (λ k y at. are (suc k) y at))
+
+byte-words : (bytes : List ℕ) → Each IsByte bytes → AreWords (byte_words bytes)
+byte-words bytes are = row-words ℕ byte_row IsByte (λ b fits. (natural-word b (omega (arith, fits)), tt)) bytes are
+
+argument-words : (s : Stmt) → IsStmt s → AreWords (argument_words s)
+argument-words (stmt.Number v) fits = (number-word v fits.1, tt)
+argument-words (stmt.DataNumber v) fits = (number-word v fits.1, tt)
+argument-words (stmt.Load from) fits = (variable-word from fits.0, tt)
+argument-words (stmt.Address of) fits = (variable-word of fits.0, tt)
+argument-words (stmt.Assign to) fits = (variable-word to fits.0, tt)
+argument-words (stmt.Jump l) fits = (label-word l fits.0, tt)
+argument-words (stmt.JumpIf b l) fits = (label-word l fits.0, tt)
+argument-words (stmt.Label l) fits = (label-word l fits.0, tt)
+argument-words (stmt.GiveResult l) fits = (label-word l fits.0, tt)
+argument-words (stmt.DataLabel l) fits = (label-word l fits.0, tt)
+argument-words (stmt.DataAddress l) fits = (label-word l fits.0, tt)
+argument-words (stmt.TakeResult n) fits = (natural-word n fits.0.1, tt)
+argument-words (stmt.CallFunction n) fits = (natural-word n fits.0.1, tt)
+argument-words (stmt.CallRoutine n) fits = (natural-word n fits.0.1, tt)
+argument-words (stmt.Stack n) fits = (natural-word n (omega (arith, fits.0.1)), tt)
+argument-words (stmt.Save n) fits = (natural-word n (omega (arith, fits.0.1)), tt)
+argument-words (stmt.Text bytes) fits = (natural-word (length bytes) (omega (arith, fits.0)), byte-words bytes fits.1)
+argument-words (stmt.Entry l name) fits = (label-word l fits.0.0, (natural-word (length name) (omega (arith, fits.0.1)), byte-words name fits.1))
+argument-words (stmt.Switch default cases) fits = (
+  natural-word (length cases) fits.0.1.counted,
+  (label-word default fits.0.0, row-words Case case_row IsCase (λ c own. (number-word c.value own.0, (label-word c.label own.1, tt))) cases (λ k c at. (fits.1 k c at, fits.0.1.labels k c at))),
+)
+argument-words (stmt.Globals entries) fits = (
+  natural-word (length entries) fits.0.counted,
+  row-words GlobalEntry global_row IsEntry (λ e own. (natural-word e.number (omega (arith, own.0)), (label-word e.label own.1, tt))) entries fits.0.in_range,
+)
+argument-words stmt.True fits = tt
+argument-words stmt.False fits = tt
+argument-words stmt.Query fits = tt
+argument-words (stmt.Monadic operator) fits = tt
+argument-words (stmt.Dyadic operator) fits = tt
+argument-words stmt.LoadByte fits = tt
+argument-words stmt.AssignAt fits = tt
+argument-words stmt.AssignByte fits = tt
+argument-words stmt.Store fits = tt
+argument-words stmt.ReturnItem fits = tt
+argument-words stmt.Return fits = tt
+argument-words stmt.EndProcedure fits = tt
+argument-words stmt.Finish fits = tt
+
+-- words parted by blanks, in front of a line feed
+words_of-line : (word : List ℕ) (words : List (List ℕ)) (more : List ℕ) → IsWord word → AreWords words → words_of (word ++ (spaced words ++ 10 ∷ more)) ≡ word ∷ (words ++ words_of more)
+words_of-line word [] more is are = words_of-front word more 10 is.0 is.1 refl
+words_of-line word (w ∷ words) more is are =
+    words_of-front word ((w ++ spaced words) ++ 10 ∷ more) 32 is.0 is.1 refl
+    ∙ ap (λ (t : List ℕ). word ∷ words_of t) (append_assoc w (spaced words) (10 ∷ more))
+    ∙ ap (λ (t : List (List ℕ)). word ∷ t) (words_of-line w words more are.0 are.1)
+
+words_of-stmt : (s : Stmt) (more : List ℕ) → IsStmt s → words_of ((stmt_text s ++ 10 ∷ []) ++ more) ≡ stmt_words s ++ words_of more
+words_of-stmt s more fits =
+    ap words_of (append_assoc (stmt_text s) (10 ∷ []) more ∙ append_assoc (keyword s) (spaced (argument_words s)) (10 ∷ more))
+    ∙ words_of-line (keyword s) (argument_words s) more (first-word s) (argument-words s fits)
+
+-- the words of what is printed are those of the statements, and then those of what follows
+pub words_of-printed : (stmts : List Stmt) (more : List ℕ) → Each IsStmt stmts → words_of (section_text stmts ++ more) ≡ section_words stmts ++ words_of more
+words_of-printed [] more are = refl
+words_of-printed (s ∷ stmts) more are =
+    ap words_of (append_assoc (stmt_text s ++ 10 ∷ []) (section_text stmts) more)
+    ∙ words_of-stmt s (section_text stmts ++ more) (are 0 s refl)
+    ∙ ap (λ (w : List (List ℕ)). stmt_words s ++ w) (words_of-printed stmts more (λ k t at. are (suc k) t at))
+    ∙ sym (append_assoc (stmt_words s) (section_words stmts) (words_of more))

@@ -1,0 +1,37 @@
+-- What is printed is read again.
+use Rattle.std.proofs.Common.{◌≡◌, ℕ, ◌++◌, List, Some, None, Ok, Err}
+use Rattle.bk_base.specs.declared.ocode_fault.OcodeKind.{OcodeKind}
+use Rattle.bk_base.specs.declared.refused.Refused.TheVariants.{Fault, Memory, Device}
+use Rattle.bk_words.specs.Words.{words_of}
+use Rattle.bk_ocode.specs.SectionText.{section_text}
+use Rattle.bk_ocode.specs.SectionStmts.{stmts_of}
+use Rattle.bk_ocode.specs.FirstFault.{section, nothing, fault}
+use Rattle.bk_ocode.specs.SectionAnswer.{PrintedSaysAgain, PrintedIsReadAgain}
+use Rattle.bk_ocode.specs.declared.stmt.Stmt.{Stmt}
+use Rattle.bk_ocode.proofs.SectionProp.{section_whole}
+use Rattle.bk_ocode.proofs.OneSaying.{each_stmt, one_saying}
+use Rattle.bk_ocode.proofs.PrintedLemmas.{words_of-printed}
+
+pub printed_again : PrintedSaysAgain
+printed_again printed more =
+    let whole = section_whole printed in
+    (words_of more, whole.0, whole.1, words_of-printed (stmts_of printed) more (each_stmt (stmts_of printed) whole.0.are_faultless whole.1))
+
+stmts_same : (a b : List Stmt) → section a ≡ section b → a ≡ b
+stmts_same a b is = cc
+
+section_nothing : (a : List Stmt) → section a ≡ nothing → ⊥
+section_nothing a is = cc
+
+section_fault : (a : List Stmt) (n : ℕ) (k : OcodeKind) → section a ≡ fault n k → ⊥
+section_fault a n k is = cc
+
+pub read_again : PrintedIsReadAgain
+read_again printed more (Ok (Some read)) says =
+    stmts_same (stmts_of read) (stmts_of printed) (one_saying (words_of (section_text (stmts_of printed) ++ more)) (section (stmts_of read)) (section (stmts_of printed)) says (printed_again printed more))
+read_again printed more (Ok None) says =
+    section_nothing (stmts_of printed) (one_saying (words_of (section_text (stmts_of printed) ++ more)) (section (stmts_of printed)) nothing (printed_again printed more) says)
+read_again printed more (Err (Fault told)) says =
+    section_fault (stmts_of printed) told.statement told.kind (one_saying (words_of (section_text (stmts_of printed) ++ more)) (section (stmts_of printed)) (fault told.statement told.kind) (printed_again printed more) says)
+read_again printed more (Err Memory) says = tt
+read_again printed more (Err Device) says = tt
