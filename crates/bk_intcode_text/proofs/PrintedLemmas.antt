@@ -1,7 +1,5 @@
 -- The words of what is printed.
-use Rattle.std.proofs.Common.{◌≡◌, ◌≢◌, ℕ, suc, ◌<◌, ◌≤◌, ◌^◌, ◌++◌, Bool, true, false, pos, negsuc, ℤ, FitsSigned, w32, List, [], ◌∷◌, length, get_or, map, arith, refl, ap, ◌∙◌, append_assoc}
-use Rattle.std.specs.Fmt.{decimal}
-use Rattle.std.specs.Int.{IsInRange}
+use Rattle.std.proofs.Common.{◌≡◌, ◌≢◌, ℕ, suc, ◌++◌, Bool, true, false, pos, List, [], ◌∷◌, map, arith, refl, ap, ◌∙◌, append_assoc}
 use Rattle.bk_base.specs.Decimal.{spelling}
 use Rattle.bk_intcode.specs.declared.item.Function.{Function}
 use Rattle.bk_intcode.specs.declared.item.Function.TheVariants.{Load, Store, Add, Jump, JumpTrue, JumpFalse, Call, Operate}
@@ -16,25 +14,9 @@ use Rattle.bk_intcode.specs.SegmentLaws.{segment_whole}
 use Rattle.bk_intcode_text.specs.SegmentText.{segment_text}
 use Rattle.bk_words.specs.Words.{is_blank, words_of, AreInWord}
 use Rattle.bk_intcode_text.specs.FirstSaying.{PrintedSaysAgain}
-use Rattle.bk_words.specs.Numerals.{mag-fits, digit-at}
-use Rattle.bk_intcode_text.proofs.WordLemmas.{each_digit, nothing-empty}
+use Rattle.bk_words.specs.Numerals.{numeral-inside, spelling-inside}
+use Rattle.bk_intcode_text.proofs.WordLemmas.{nothing-empty}
 use Rattle.bk_words.specs.WordLaws.{words_of-word, AreInWord-append}
-
-digit-inside : (b : ℕ) → 48 ≤ b → b ≤ 57 → is_blank b ≡ false
-digit-inside b low high = each_digit (λ n. is_blank n ≡ false) refl refl refl refl refl refl refl refl refl refl b low high
-
-digits-inside : (ds : List ℕ) → ((i : ℕ) → i < length ds → IsInRange 48 57 (get_or ds i 0)) → AreInWord ds
-digits-inside [] digits = tt
-digits-inside (d ∷ ds) digits =
-    let first : IsInRange 48 57 d = digits 0 (omega arith) in
-    (digit-inside d first.0 first.1, digits-inside ds (λ i low. digits (suc i) (omega arith)))
-
-numeral-inside : (n : ℕ) → n < 2 ^ 64 → AreInWord (decimal n)
-numeral-inside n small = digits-inside (decimal n) (digit-at n small)
-
-spelling-inside : (z : ℤ) → FitsSigned w32 z → AreInWord (spelling z)
-spelling-inside (pos n) fits = let h = mag-fits (pos n) fits in numeral-inside n (omega (arith, h))
-spelling-inside (negsuc n) fits = let h = mag-fits (negsuc n) fits in (refl, numeral-inside (suc n) (omega (arith, h)))
 
 operand-inside : (o : Operand) → IsOperand o → AreInWord (operand_text o)
 operand-inside (Number n) fits = spelling-inside n fits
