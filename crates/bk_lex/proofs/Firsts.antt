@@ -87,7 +87,7 @@ free : (get : Bool) (m : Mode) → mode_begun true m ≡ Ok m → mode_begun get
 free true m e = e
 free false m e = refl
 
-no_gap : (w : What) (A : Type 0) → IsCounted w → w ≡ whats.Gap → A
+pub no_gap : (w : What) (A : Type 0) → IsCounted w → w ≡ whats.Gap → A
 no_gap w A h e = absurd (subst IsCounted e h)
 
 gap_begun : (m : Mode) (b : ℕ) → fresh b ≡ Some m → ((x : State) → least_room x m ≡ 0) → is_dot m ≡ false → mode_begun true m ≡ Ok m → Begun m whats.Gap b
@@ -124,10 +124,10 @@ found_counted (e ∷ es) code h = pick (eqb e.code code) (found_counted es code 
     pick true rest = h.0
     pick false rest = rest
 
-word_counted : (code : ℕ) → IsCounted (word_what code)
+pub word_counted : (code : ℕ) → IsCounted (word_what code)
 word_counted code = found_counted reserved code (search)
 
-bracket_counted : (side : Side) → IsCounted (bracket_what side)
+pub bracket_counted : (side : Side) → IsCounted (bracket_what side)
 bracket_counted Opening = tt
 bracket_counted Closing = tt
 

@@ -65,7 +65,7 @@ past_here t m c more w n k front tail e is longest =
         let z : d ∷ v ≡ [] = longest whole.0 (d ∷ v) (c ∷ more) g longer in
         cc
 
-spelled_some : (k : Sort) → Spelled k [] → ⊥
+pub spelled_some : (k : Sort) → Spelled k [] → ⊥
 unfolding walk_piece
 spelled_some k h = spelled_no_end k [] h refl
 
