@@ -23,7 +23,7 @@ read_state r b s acts.Goes = refl
 read_state r b s (acts.Begins g) = refl
 read_state r b s (acts.Names h) = refl
 
-none_stays : (u : List ℕ) → state_behind None u ≡ None
+pub none_stays : (u : List ℕ) → state_behind None u ≡ None
 unfolding state_behind
 none_stays [] = refl
 none_stays (b ∷ bs) = none_stays bs

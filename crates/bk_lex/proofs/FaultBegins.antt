@@ -116,7 +116,7 @@ open_no_piece w m e s k front tail parts is = let z : IsWhole m = subst FromWhol
 
 -- ---- the fault of a byte
 
-bad_is : (f g : Fault) → Bad f ≡ Bad g → f ≡ g
+pub bad_is : (f g : Fault) → Bad f ≡ Bad g → f ≡ g
 bad_is f g e = cc
 
 as_fault : (g f : Fault) (text : List ℕ) → Bad g ≡ Bad f → Begins (told_kind g) text → Begins (told_kind f) text

@@ -34,7 +34,7 @@ use Rattle.bk_lex.specs.Tokens.{what_of, header_named, Putting, putting, seen, p
 use Rattle.bk_lex.specs.TextFault.{Begins, InSection, Stands, is_gap, Misnames, waiting, weight, room, PassesByPiece, PassesByHeader, PassesBySign, PassesByByte, begins_symbol, PassesSymbols, PassesBytes, HasKind, HasFault, NoFault}
 use Rattle.bk_lex.proofs.Walk.{walk, walk_piece, walk_piece-append, goes_is, then_goes, begins, begins_goes}
 use Rattle.bk_lex.proofs.Modes.{or_true}
-use Rattle.bk_lex.proofs.Goings.{sort_of, letter_goes, digit_goes}
+use Rattle.bk_lex.proofs.Goings.{sort_of, IsPiece, letter_goes, digit_goes}
 use Rattle.bk_lex.proofs.Wholes.{IsWhole, sign_walk, dot_walk, ends_longest, nothing_longest}
 use Rattle.bk_lex.proofs.Onward.{some_put, seen_get, header_length}
 use Rattle.bk_lex.proofs.Stops.{Stops, whole_ends, longest_stops, bounded_over}
@@ -146,6 +146,13 @@ way_next q last text rest w = look w.pieces w.cut w.tokens
     look [] c t = inl (c, some_put q last t)
     look (p ∷ ps) c t = let n = puts_next ps (put q p) last t in inr (p, c.0, n.0, c.1, n.1, record { pieces = ps; cut = c.2; tokens = n.2 })
 
+pub way_more : (q q2 last : Putting) (k : Sort) (t after rest : List ℕ) → IsPiece k t → NoLonger t after → put q (record { sort = k; text = t }) ≡ Some q2 → Way q2 after rest last → Way q (t ++ after) rest last
+way_more q q2 last k t after rest is longest e w = record {
+  pieces = record { sort = k; text = t } ∷ w.pieces;
+  cut = (after, record { parts = refl; is = is.0; longest = longest; bounded = is.1 }, w.cut);
+  tokens = ap (λ (o : Option Putting). puts o w.pieces) e ∙ w.tokens;
+}
+
 -- no piece of the section begins here
 abbrev pub NoCut : List ℕ → Type 0
 NoCut text = (p : Piece) (after : List ℕ) → Cut p text after → is_dot_sort p.sort ≡ false → ⊥
@@ -247,7 +254,7 @@ put_heavy q q2 t (whats.Symbol k) (Some g) e h =
 put_heavy q q2 t whats.Get None e h = omega (arith, put_room q q2 t whats.Get None e tt h)
 put_heavy q q2 t whats.Get (Some g) e h = no_put q2 h
 
-seen_last : (q : Putting) (t : List ℕ) → (seen q t).last ≡ q.last
+pub seen_last : (q : Putting) (t : List ℕ) → (seen q t).last ≡ q.last
 seen_last q [] = refl
 seen_last q (b ∷ bs) = refl
 
@@ -312,10 +319,10 @@ heads : (b c : ℕ) (xs ys : List ℕ) → b ∷ xs ≡ c ∷ ys → b ≡ c
 heads b c xs ys e = cc
 
 -- a piece that fits has no first byte that asks for more
-abbrev FirstFits : Putting → List ℕ → Type 0
+abbrev pub FirstFits : Putting → List ℕ → Type 0
 FirstFits q text = (b : ℕ) (rest : List ℕ) (m : Mode) → text ≡ b ∷ rest → fresh b ≡ Some m → weight q + least_room (asking q) m ≤ 262144
 
-first_fits : (q : Putting) (p : Piece) (text after : List ℕ) → Cut p text after → is_dot_sort p.sort ≡ false → Fits q p → FirstFits q text
+pub first_fits : (q : Putting) (p : Piece) (text after : List ℕ) → Cut p text after → is_dot_sort p.sort ≡ false → Fits q p → FirstFits q text
 first_fits q p text after c d fits b rest m e f =
     let g = piece_begins p.sort p.text c.is d in
     let same : g.1 ≡ b = heads g.1 b (g.2 ++ after) rest (ap (λ (x : List ℕ). x ++ after) (sym g.3) ∙ sym c.parts ∙ e) in
@@ -427,7 +434,7 @@ no_bytes from total line q last text rest none le end w h =
 abbrev pub AtEnd : List ℕ → Type 0
 AtEnd rest = (rest ≡ []) ⊎ ((more : List ℕ) × (rest ≡ 46 ∷ more))
 
-nil_cut : (p : Piece) (after : List ℕ) → Cut p [] after → ⊥
+pub nil_cut : (p : Piece) (after : List ℕ) → Cut p [] after → ⊥
 nil_cut p after c = spelled_some p.sort (subst (λ (x : List ℕ). Spelled p.sort x) (nil_front p.text after c.parts) c.is)
   where
     nil_front : (x y : List ℕ) → [] ≡ x ++ y → x ≡ []
@@ -455,7 +462,7 @@ nil_good : (kind : SourceKind) → Faults kind (walk_piece []) → ⊥
 unfolding walk_piece
 nil_good kind h = faults_good kind Ends h tt
 
-no_begins : (kind : SourceKind) → Begins kind [] → ⊥
+pub no_begins : (kind : SourceKind) → Begins kind [] → ⊥
 no_begins source_kinds.BadByte h = absurd (let e = h.2 in no_cons h.0 h.1 e)
   where
     no_cons : (b : ℕ) (bs : List ℕ) → [] ≡ b ∷ bs → ⊥

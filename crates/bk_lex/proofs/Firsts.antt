@@ -31,7 +31,7 @@ use Rattle.bk_lex.proofs.Onward.{some_put, seen_get, header_length}
 
 -- ---- the mode behind the first byte of a piece, and how many symbols it asks for
 
-no_insertion : (last : Option Kind) (k : Kind) (fed : Bool) → begins_statement k ≡ false → begins_command k ≡ false → inserted last k fed ≡ None
+pub no_insertion : (last : Option Kind) (k : Kind) (fed : Bool) → begins_statement k ≡ false → begins_command k ≡ false → inserted last k fed ≡ None
 no_insertion None k fed s c = refl
 no_insertion (Some a) k true s c = ap (λ (b : Bool). cond (ends_command a && b) (Some kinds.Semicolon) None) s ∙ never (ends_command a) (Some kinds.Semicolon)
   where

@@ -19,5 +19,7 @@ pub mod LongFaults
 pub mod Faulty
 pub mod FaultWalks
 pub mod Faultless
+pub mod Reach
+pub mod Continue
 pub mod Certain
 pub mod Letters

@@ -115,7 +115,7 @@ passes_behind from line total t c more m l e w x k s d =
       at = e;
     }
 
-naming_walk : (t : List ℕ) (m : Mode) → (d : Naming t m) → walk_piece t ≡ nexts.Goes (Text (length d.0))
+pub naming_walk : (t : List ℕ) (m : Mode) → (d : Naming t m) → walk_piece t ≡ nexts.Goes (Text (length d.0))
 unfolding walk_piece walk
 naming_walk t m d =
     ap walk_piece d.1 ∙ (elim (holds_go d.0 (length d.0) d.5) [
