@@ -21,5 +21,6 @@ pub mod FaultWalks
 pub mod Faultless
 pub mod Reach
 pub mod Continue
+pub mod Earliest
 pub mod Certain
 pub mod Letters

@@ -1,34 +1,30 @@
 -- Where the machine goes on: the pieces that it went over, and the one that it is in, whatever follows.
-use Rattle.std.proofs.Common.{◌≡◌, ℕ, ◌+◌, ◌-◌, ◌≤◌, Bool, true, false, cond, ◌||◌, eqb, List, [], ◌∷◌, ◌++◌, length, Option, Some, None, Result, Ok, Err, refl, sym, ap, subst, ◌∙◌, arith, append_assoc, ◌⊎◌, inl, inr}
-use Rattle.std.proofs.lemmas.Bool.{eqb-true, ltb-false}
-use Rattle.std.proofs.lemmas.List.{append-nil, length-append}
-use Rattle.bk_lex.specs.Symbol.{Symbol}
+use Rattle.std.proofs.Common.{◌≡◌, ℕ, ◌+◌, ◌≤◌, Bool, true, false, cond, ◌||◌, eqb, List, [], ◌∷◌, ◌++◌, length, Option, Some, None, Result, Ok, Err, refl, sym, ap, subst, ◌∙◌, arith, append_assoc, ◌⊎◌, inl, inr}
+use Rattle.std.proofs.lemmas.Bool.{eqb-true}
+use Rattle.std.proofs.lemmas.List.{append-nil}
 use Rattle.bk_lex.specs.declared.token.Kind.{Kind}
 use Rattle.bk_lex.specs.declared.machine.Fault.{Fault}
-use Rattle.bk_lex.specs.declared.machine.Header.{Header}
 use Rattle.bk_lex.specs.declared.machine.Mode.{Mode}
 use Rattle.bk_lex.specs.declared.machine.Mode.TheVariants.{Blank, Comment, Dot, Word, Hash, HashX, Number, Dollar, Bracket, Text, TextEscape, TextEnd, Quote, QuoteEscape, QuoteFull, QuoteEnd, Mark, Name}
 use Rattle.bk_lex.specs.declared.machine.Next.{Next}
 use Rattle.bk_lex.specs.declared.machine.Next.TheVariants as nexts
-use Rattle.bk_lex.specs.declared.scan.Place.{Place}
 use Rattle.bk_lex.specs.declared.counting.State.{State}
 use Rattle.bk_lex.specs.declared.counting.Act.TheVariants as acts
 use Rattle.bk_lex.specs.declared.counting.Step.{Step}
 use Rattle.bk_lex.specs.declared.counting.Ended.{Ended}
 use Rattle.bk_lex.specs.Machine.{fresh, next}
-use Rattle.bk_lex.specs.Counting.{start, state, with_mode, stepped, moved, within, step_of, least_room, mode_begun}
+use Rattle.bk_lex.specs.Counting.{start, state, with_mode, stepped, moved, step_of, least_room, mode_begun}
 use Rattle.bk_lex.specs.Lexing.{Reading, read, begin, is_dot}
-use Rattle.bk_lex.specs.Cutting.{goes_on, goes_on_from, then_on, state_behind}
-use Rattle.bk_lex.specs.Pieces.{Sort, NoLonger}
-use Rattle.bk_lex.specs.Tokens.{Putting, putting, seen, put}
+use Rattle.bk_lex.specs.Cutting.{goes_on_from, state_behind}
+use Rattle.bk_lex.specs.Tokens.{Putting, putting, seen}
 use Rattle.bk_lex.specs.TextFault.{weight}
 use Rattle.bk_lex.proofs.Walk.{walk_piece}
 use Rattle.bk_lex.proofs.Modes.{Reads, piece_reads}
-use Rattle.bk_lex.proofs.Goings.{IsPiece, blank_goes}
+use Rattle.bk_lex.proofs.Goings.{blank_goes}
 use Rattle.bk_lex.proofs.Naming.{Naming}
 use Rattle.bk_lex.proofs.Soundness.{done_is, no_done, within_ok, fewer, Agrees}
 use Rattle.bk_lex.proofs.Cuts.{none_stays, read_state}
-use Rattle.bk_lex.proofs.Onward.{OnlyGap, InDue, Here, Counted, BeforeAny, Concludes, Follows, opened_ok, named_ok, step_sound}
+use Rattle.bk_lex.proofs.Onward.{OnlyGap, InDue, Here, BeforeAny, Concludes, Follows, opened_ok, named_ok, step_sound}
 use Rattle.bk_lex.proofs.Firsts.{seen_weight}
 use Rattle.bk_lex.proofs.Sound.{within_bytes}
 use Rattle.bk_lex.proofs.LongFaults.{naming_walk}

@@ -126,7 +126,8 @@ pub fn lex<'a>(alloc: Global, text: &'a [u8], from: Line) -> Result<Lexed<'a>, R
     ensures only { (s : Section) → IsSection text.now from s → Gives result (Ok s) }
     // A text that is taken has no fault.
     ensures faultless { IfOk result (λ l. NoFault from text.now) }
-    // A fault stands in the first section, on the line that is told, and where a byte makes it certain, whatever follows.
+    // A fault stands in the first section, on the line that is told. It is the first that a byte makes certain, whatever
+    // follows, or one that the text has as it ends.
     ensures tells { IfErr result (λ e. SaysFault e from text.now) }
 {
     read_section(alloc, text, from)
