@@ -29,6 +29,7 @@ use Rattle.bk_lex.specs.Bytes.{is_name_byte}
 use Rattle.bk_lex.specs.Signs.{spelling, sign_kind, is_slash}
 use Rattle.bk_lex.specs.Insertion.{inserted, begins_command, begins_statement}
 use Rattle.bk_lex.specs.Machine.{fresh, next, end_fault, is_digit_of, sign_next}
+use Rattle.bk_lex.specs.declared.counting.State.{State}
 use Rattle.bk_lex.specs.Counting.{room_for}
 use Rattle.bk_lex.specs.Header.{header_symbols}
 use Rattle.bk_lex.specs.Lexing.{is_dot, told_kind}
@@ -184,8 +185,8 @@ escape_not source_kinds.NameTooLong t h = ends_escape source_kinds.NameTooLong t
 escape_not source_kinds.TagTooLong t h = ends_escape source_kinds.TagTooLong t h (λ e. cc) (λ e. cc)
 escape_not kind t h = ([], no_good (t ++ []) _ (ap walk_piece (append-nil t) ∙ h.2) escape_open, λ b. absurd b)
 
-pub stands_without : (kind : SourceKind) (line : ℕ) (q : Putting) (front : List ℕ) → Reached q front → (more : List ℕ) × (Stands kind q.line line (front ++ more) → ⊥)
-stands_without kind line q front r = look r.3.1
+pub stands_without : (s : State) (kind : SourceKind) (line : ℕ) (q : Putting) (front : List ℕ) → Reached s q front → (more : List ℕ) × (Stands kind q.line line (front ++ more) → ⊥)
+stands_without s kind line q front r = look r.3.1
   where
     whole : (ps : List Piece) (more : List ℕ) → CutsTo (front ++ more) ps [] → (more : List ℕ) × (Stands kind q.line line (front ++ more) → ⊥)
     whole ps more c = (more, whole_no_stands kind q.line line ps (front ++ more) c)
@@ -347,8 +348,8 @@ naming_well q t n g d e =
     let w2 = way_last q q2 string (t ++ more) is puts_it in
     (more, inr (q2, subst (λ (x : List ℕ). Way q x [] q2) (append-nil (t ++ more)) w2, refl))
 
-pub get_without : (line : ℕ) (q : Putting) (front : List ℕ) → Reached q front → (more : List ℕ) × (Misnames q line (front ++ more) → ⊥)
-get_without line q front r = let w = well r.3.1 in (w.0, last w.0 w.1)
+pub get_without : (s : State) (line : ℕ) (q : Putting) (front : List ℕ) → Reached s q front → (more : List ℕ) × (Misnames q line (front ++ more) → ⊥)
+get_without s line q front r = let w = well r.3.1 in (w.0, last w.0 w.1)
   where
     none_left : r.1 ≡ [] → (o : Option ℕ) → r.0.get ≡ o → GoesWell r.0 r.1
     none_left e None g = ([], inr (r.0, subst (λ (x : List ℕ). Way r.0 (x ++ []) [] r.0) (sym e) (way_nothing r.0), g))
@@ -585,16 +586,16 @@ open_symbols q line (b ∷ bs) more m w f n (inr (inr h)) = elim h [ inl h ↦ f
         let t = then_goes (begins (fresh b)) (λ k. walk k bs) m w in
         none_some t.0 (sym x ∙ ap fresh (heads c b rest (bs ++ more) (sym e)) ∙ begins_goes (fresh b) t.0 t.1)
 
-pub symbols_without : (line : ℕ) (q : Putting) (front : List ℕ) → Reached q front → (more : List ℕ) × (length more ≤ 256) × (PassesSymbols q line (front ++ more) → ⊥)
-symbols_without line q front r = look r.3.1
+pub symbols_without : (s : State) (line : ℕ) (q : Putting) (front : List ℕ) → Reached s q front → (more : List ℕ) × (length more ≤ 256) × (PassesSymbols q line (front ++ more) → ⊥)
+symbols_without s line q front r = look r.3.1
   where
     ended : (more : List ℕ) → length more ≤ 256 → (q2 : Putting) → Way r.0 (r.1 ++ more) [] q2 → weight q2 ≤ 262144 → (more : List ℕ) × (length more ≤ 256) × (PassesSymbols q line (front ++ more) → ⊥)
     ended more le q2 w light = (more, le, no_symbols line q q2 (front ++ more) [] (end_no_cut [] (inl refl)) light (nil_symbols q2 line light) (way_through q r.0 q2 (front ++ more) (r.1 ++ more) [] (r.2 more) w))
 
     goes : (m : Mode) → walk_piece r.1 ≡ Goes m → FirstFits r.0 r.1 → GoesShort r.0 r.1 → (more : List ℕ) × (length more ≤ 256) × (PassesSymbols q line (front ++ more) → ⊥)
-    goes m w f s = elim s.2 [
-      | inl n ↦ (s.0, s.1, no_symbols line q r.0 (front ++ s.0) (r.1 ++ s.0) (λ p after c d. n (cut_good p (r.1 ++ s.0) after c)) r.3.0 (open_symbols r.0 line r.1 s.0 m w f n) (r.2 s.0))
-      | inr e ↦ ended s.0 s.1 e.0 e.1 e.2
+    goes m w f g = elim g.2 [
+      | inl n ↦ (g.0, g.1, no_symbols line q r.0 (front ++ g.0) (r.1 ++ g.0) (λ p after c d. n (cut_good p (r.1 ++ g.0) after c)) r.3.0 (open_symbols r.0 line r.1 g.0 m w f n) (r.2 g.0))
+      | inr e ↦ ended g.0 g.1 e.0 e.1 e.2
     ]
 
     look : (r.1 ≡ []) ⊎ ((m : Mode) × (walk_piece r.1 ≡ Goes m) × (is_dot m ≡ false) × FirstFits r.0 r.1 × DueAt r.0.get r.1 m) → (more : List ℕ) × (length more ≤ 256) × (PassesSymbols q line (front ++ more) → ⊥)

@@ -158,21 +158,21 @@ pending q t r (inr (inr d)) a h = (
 -- ---- all bytes
 
 -- behind pieces, a text goes on with what the machine is in, whatever follows
-abbrev pub Reached : Putting → List ℕ → Type 0
-Reached q text = (q2 : Putting) × (t : List ℕ) × ((more : List ℕ) → Way q (text ++ more) (t ++ more) q2) × Pending q2 t
+abbrev pub Reached : State → Putting → List ℕ → Type 0
+Reached s q text = (q2 : Putting) × (t : List ℕ) × ((more : List ℕ) → Way q (text ++ more) (t ++ more) q2) × Pending q2 t × ((r : Reading) × (r.state ≡ s) × Here t r.state.mode r.held q2.get × Agrees (seen q2 t) r.out r.state r.place)
 
-abbrev Going : Reading → List ℕ → Type 0
-Going r rest = (s : State) × (state_behind (Some r.state) rest ≡ Some s) × FirstHeld r
+abbrev Going : State → Reading → List ℕ → Type 0
+Going s r rest = (state_behind (Some r.state) rest ≡ Some s) × FirstHeld r
 
-abbrev GoingBehind : Reading → List ℕ → Type 0
-GoingBehind p rest = (is_dot p.state.mode ≡ false) × Going p rest
+abbrev GoingBehind : State → Reading → List ℕ → Type 0
+GoingBehind s p rest = (is_dot p.state.mode ≡ false) × Going s p rest
 
-more_reached : BeforeAny Reached
-more_reached q q2 k t rest is longest e h = (h.0, h.1, λ more. subst (λ (x : List ℕ). Way q x (h.1 ++ more) h.0) (sym (append_assoc t rest more)) (way_more q q2 h.0 k t (rest ++ more) (h.1 ++ more) is (longest more) e (h.2 more)), h.3)
+more_reached : (s : State) → BeforeAny (Reached s)
+more_reached s q q2 k t rest is longest e h = (h.0, h.1, λ more. subst (λ (x : List ℕ). Way q x (h.1 ++ more) h.0) (sym (append_assoc t rest more)) (way_more q q2 h.0 k t (rest ++ more) (h.1 ++ more) is (longest more) e (h.2 more)), h.3, h.4)
 
-concludes_reached : (total : ℕ) → Concludes Reached Going GoingBehind total
-concludes_reached total = record {
-  before = more_reached;
+concludes_reached : (s : State) (total : ℕ) → Concludes (Reached s) (Going s) (GoingBehind s) total
+concludes_reached s total = record {
+  before = more_reached s;
   goes = λ p rest d h. h.1;
   at_dot = λ rest q out x k line gl used a g h u. absurd (no_dot h.0);
 }
@@ -180,13 +180,13 @@ concludes_reached total = record {
     no_dot : true ≡ false → ⊥
     no_dot z = cc
 
-here_reached : (q : Putting) (t : List ℕ) → Pending q t → Reached q (t ++ [])
-here_reached q t p = (q, t, λ more. record { pieces = []; cut = ap (λ (x : List ℕ). x ++ more) (append-nil t); tokens = refl }, p)
+here_reached : (s : State) (q : Putting) (t : List ℕ) (r : Reading) → Here t r.state.mode r.held q.get → Agrees (seen q t) r.out r.state r.place → r.state ≡ s → Pending q t → Reached s q (t ++ [])
+here_reached s q t r here a e p = (q, t, λ more. record { pieces = []; cut = ap (λ (x : List ℕ). x ++ more) (append-nil t); tokens = refl }, p, (r, e, here, a))
 
-abbrev Stepped : State → ℕ → List ℕ → State → Type 0
+abbrev pub Stepped : State → ℕ → List ℕ → State → Type 0
 Stepped x c u s = (v : Step) × (step_of x c ≡ Ok v) × (is_dot v.state.mode ≡ false) × (state_behind (Some v.state) u ≡ Some s)
 
-stepped_on : (x : State) (c : ℕ) (u : List ℕ) (s : State) → state_behind (Some x) (c ∷ u) ≡ Some s → Stepped x c u s
+pub stepped_on : (x : State) (c : ℕ) (u : List ℕ) (s : State) → state_behind (Some x) (c ∷ u) ≡ Some s → Stepped x c u s
 unfolding state_behind
 stepped_on x c u s e = look (step_of x c) refl e
   where
@@ -201,20 +201,24 @@ stepped_on x c u s e = look (step_of x c) refl e
     look (Err f) e h = no_state h
     look (Ok v) e h = pick v (is_dot v.state.mode) e refl h
 
-byte_reached : (total c : ℕ) (rest : List ℕ) → Follows Reached Going total rest → Follows Reached Going total (c ∷ rest)
-byte_reached total c rest ih q t r here a g l =
-    let v = stepped_on r.state c rest g.0 g.1 in
+byte_reached : (s : State) (total c : ℕ) (rest : List ℕ) → Follows (Reached s) (Going s) total rest → Follows (Reached s) (Going s) total (c ∷ rest)
+byte_reached s total c rest ih q t r here a g l =
+    let v = stepped_on r.state c rest s g.0 in
     let w = within_ok r.state.bytes (moved r.state c (next r.state.mode c)) v.0 v.1 in
     let left = within_bytes r.state.bytes (moved r.state c (next r.state.mode c)) v.0 v.1 in
     let states : (Behind r c w.0).state ≡ v.0.state = read_state r c (fewer r.state.bytes w.0).state (fewer r.state.bytes w.0).act ∙ ap (λ (y : Step). y.state) w.2 in
     let dotless = ap (λ (y : State). is_dot y.mode) states ∙ v.2 in
     let behind = ap (λ (y : State). state_behind (Some y) rest) states ∙ v.3 in
-    step_sound Reached Going GoingBehind total (concludes_reached total) (next r.state.mode c) c rest ih q t r w.0 here a refl w.1 (dotless, (g.0, behind, first_step (next r.state.mode c) r c w.0 refl w.1 g.2)) (omega (arith, l.0), omega (arith, l.1, left))
+    step_sound (Reached s) (Going s) (GoingBehind s) total (concludes_reached s total) (next r.state.mode c) c rest ih q t r w.0 here a refl w.1 (dotless, (behind, first_step (next r.state.mode c) r c w.0 refl w.1 g.1)) (omega (arith, l.0), omega (arith, l.1, left))
 
-reaches : (total : ℕ) (rest : List ℕ) → Follows Reached Going total rest
-reaches total [] q t r here a g l = here_reached q t (pending q t r here a g.2)
-reaches total (c ∷ rest) q t r here a g l = byte_reached total c rest (reaches total rest) q t r here a g l
+reaches : (s : State) (total : ℕ) (rest : List ℕ) → Follows (Reached s) (Going s) total rest
+unfolding state_behind
+reaches s total [] q t r here a g l = here_reached s q t r here a (some_state r.state s g.0) (pending q t r here a g.1)
+  where
+    some_state : (x y : State) → (let o : Option State = Some x in o) ≡ Some y → x ≡ y
+    some_state x y e = cc
+reaches s total (c ∷ rest) q t r here a g l = byte_reached s total c rest (reaches s total rest) q t r here a g l
 
-pub reached : (front : List ℕ) (from : ℕ) (s : State) → state_behind (Some start) front ≡ Some s → Reached (putting [] None false from None) front
+pub reached : (front : List ℕ) (from : ℕ) (s : State) → state_behind (Some start) front ≡ Some s → Reached s (putting [] None false from None) front
 reached front from s e =
-    reaches (length front) front (putting [] None false from None) [] (begin from) (inl (refl, refl)) record { same = refl; last = refl; fed = refl; line = refl; get = refl; count = refl } (s, e, inl refl) (omega arith, refl)
+    reaches s (length front) front (putting [] None false from None) [] (begin from) (inl (refl, refl)) record { same = refl; last = refl; fed = refl; line = refl; get = refl; count = refl } (e, inl refl) (omega arith, refl)
