@@ -47,24 +47,13 @@ use Rattle.bk_lex.proofs.Complete.{put_room}
 use Rattle.bk_lex.proofs.LongFaults.{naming_walk}
 use Rattle.bk_lex.proofs.FaultBegins.{bad_is}
 use Rattle.bk_lex.proofs.FaultWalks.{Faults, step_bad, step_goes, begins_faults}
-use Rattle.bk_lex.proofs.Faultless.{Good, cut_good, begins_no_cut, same_cut, Way, way_more, NoCut, no_stands, no_misnames, seen_last, FirstFits, first_signs, first_bytes, PassesNext, no_symbols, nil_cut, no_begins, end_no_cut}
+use Rattle.bk_lex.proofs.Faultless.{Good, cut_good, begins_no_cut, stands_at, Way, way_more, NoCut, no_stands, no_misnames, seen_last, FirstFits, first_signs, first_bytes, PassesNext, no_symbols, nil_cut, no_begins, end_no_cut}
 use Rattle.bk_lex.proofs.Reach.{DueAt, Reached, no_feed}
 
 -- ---- pieces up to the text's end
 
-whole_cuts : (ps qs : List Piece) (text here : List ℕ) → CutsTo text ps [] → CutsTo text qs here → (rs : List Piece) × CutsTo here rs []
-whole_cuts ps [] text here c d = (ps, subst (λ (x : List ℕ). CutsTo x ps []) d c)
-whole_cuts [] (q ∷ qs) text here c d = absurd (nil_cut q d.0 (subst (λ (x : List ℕ). Cut q x d.0) c d.1))
-whole_cuts (p ∷ ps) (q ∷ qs) text here c d =
-    let same = same_cut q p text d.0 c.0 d.1 c.1 in
-    whole_cuts ps qs c.0 here c.2 (subst (λ (x : List ℕ). CutsTo x qs here) same.1 d.2)
-
-whole_no_stands : (kind : SourceKind) (from line : ℕ) (ps : List Piece) (text : List ℕ) → CutsTo text ps [] → Stands kind from line text → ⊥
-whole_no_stands kind from line ps text c h = let r = whole_cuts ps h.pieces text h.rest c h.cut in look r.0 r.1
-  where
-    look : (rs : List Piece) → CutsTo h.rest rs [] → ⊥
-    look [] e = no_begins kind (subst (λ (x : List ℕ). Begins kind x) e h.begins)
-    look (p ∷ rs) e = begins_no_cut kind h.rest e.0 p h.begins e.1
+pub whole_no_stands : (kind : SourceKind) (from line : ℕ) (ps : List Piece) (text : List ℕ) → CutsTo text ps [] → Stands kind from line text → ⊥
+whole_no_stands kind from line ps text c h = no_begins kind (stands_at kind from line ps text [] (end_no_cut [] (inl refl)) c h)
 
 cuts_one_more : (ps : List Piece) (k : Sort) (text t : List ℕ) → IsPiece k t → CutsTo text ps t → CutsTo text (ps ++ record { sort = k; text = t } ∷ []) []
 cuts_one_more [] k text t is c = ([], record { parts = c ∙ sym (append-nil t); is = is.0; longest = nothing_longest t; bounded = is.1 }, refl)
@@ -185,19 +174,23 @@ escape_not source_kinds.NameTooLong t h = ends_escape source_kinds.NameTooLong t
 escape_not source_kinds.TagTooLong t h = ends_escape source_kinds.TagTooLong t h (λ e. cc) (λ e. cc)
 escape_not kind t h = ([], no_good (t ++ []) _ (ap walk_piece (append-nil t) ∙ h.2) escape_open, λ b. absurd b)
 
+-- behind pieces a text goes on with a piece that is not whole yet, or is, whatever follows
+abbrev pub CutOn : List ℕ → Type 0
+CutOn text = (t : List ℕ) × (m : Mode) × (walk_piece t ≡ Goes m) × ((more : List ℕ) → (ps : List Piece) × CutsTo (text ++ more) ps (t ++ more))
+
+pub cut_without : (kind : SourceKind) (from line : ℕ) (text : List ℕ) → CutOn text → (more : List ℕ) × (Stands kind from line (text ++ more) → ⊥)
+cut_without kind from line text c = look (closes c.1 c.0 (piece_reads c.0 c.1 c.2) c.2)
+  where
+    look : Closes c.0 ⊎ FullEscape c.0 → (more : List ℕ) × (Stands kind from line (text ++ more) → ⊥)
+    look (inl x) = let w = c.3 x.0 in (x.0, whole_no_stands kind from line (w.0 ++ record { sort = x.1; text = c.0 ++ x.0 } ∷ []) (text ++ x.0) (cuts_one_more w.0 x.1 (text ++ x.0) (c.0 ++ x.0) x.2 w.1))
+    look (inr e) = let n = escape_not kind c.0 e in let w = c.3 n.0 in (n.0, λ h. n.2 (stands_at kind from line w.0 (text ++ n.0) (c.0 ++ n.0) n.1 w.1 h))
+
 pub stands_without : (s : State) (kind : SourceKind) (line : ℕ) (q : Putting) (front : List ℕ) → Reached s q front → (more : List ℕ) × (Stands kind q.line line (front ++ more) → ⊥)
 stands_without s kind line q front r = look r.3.1
   where
-    whole : (ps : List Piece) (more : List ℕ) → CutsTo (front ++ more) ps [] → (more : List ℕ) × (Stands kind q.line line (front ++ more) → ⊥)
-    whole ps more c = (more, whole_no_stands kind q.line line ps (front ++ more) c)
-
-    closed : Closes r.1 ⊎ FullEscape r.1 → (more : List ℕ) × (Stands kind q.line line (front ++ more) → ⊥)
-    closed (inl c) = let w = r.2 c.0 in whole (w.pieces ++ record { sort = c.1; text = r.1 ++ c.0 } ∷ []) c.0 (cuts_one_more w.pieces c.1 (front ++ c.0) (r.1 ++ c.0) c.2 w.cut)
-    closed (inr e) = let n = escape_not kind r.1 e in (n.0, no_stands kind q.line line q r.0 (front ++ n.0) (r.1 ++ n.0) n.1 n.2 (r.2 n.0))
-
     look : (r.1 ≡ []) ⊎ ((m : Mode) × (walk_piece r.1 ≡ Goes m) × (is_dot m ≡ false) × FirstFits r.0 r.1 × DueAt r.0.get r.1 m) → (more : List ℕ) × (Stands kind q.line line (front ++ more) → ⊥)
-    look (inl e) = let w = r.2 [] in whole w.pieces [] (subst (λ (x : List ℕ). CutsTo (front ++ []) w.pieces (x ++ [])) e w.cut)
-    look (inr p) = closed (closes p.0 r.1 (piece_reads r.1 p.0 p.1) p.1)
+    look (inl e) = let w = r.2 [] in ([], whole_no_stands kind q.line line w.pieces (front ++ []) (subst (λ (x : List ℕ). CutsTo (front ++ []) w.pieces (x ++ [])) e w.cut))
+    look (inr p) = cut_without kind q.line line front (r.1, p.0, p.1, λ more. (let w = r.2 more in (w.pieces, w.cut)))
 
 -- ---- a text that goes on without a bad GET
 

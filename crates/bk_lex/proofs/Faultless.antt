@@ -177,15 +177,25 @@ sync_puts ps q to last text here rest none w c t =
     let s = sync ps q last text here rest none w c (puts_in ps q to t) in
     subst (λ (x : Putting). Way x here rest last) (some_put s.0 to (sym s.1 ∙ t)) s.2
 
--- ---- no fault begins on the way
+-- ---- a fault begins where no piece does
+
+-- other pieces of the section lie among these
+cuts_sync : (ps qs : List Piece) (text here rest : List ℕ) → NoCut rest → CutsTo text ps rest → CutsTo text qs here → InSection qs → (rs : List Piece) × CutsTo here rs rest
+cuts_sync ps [] text here rest none c d i = (ps, subst (λ (x : List ℕ). CutsTo x ps rest) d c)
+cuts_sync [] (q ∷ qs) text here rest none c d i = absurd (none q d.0 (subst (λ (x : List ℕ). Cut q x d.0) c d.1) i.0)
+cuts_sync (p ∷ ps) (q ∷ qs) text here rest none c d i =
+    let same = same_cut q p text d.0 c.0 d.1 c.1 in
+    cuts_sync ps qs c.0 here rest none c.2 (subst (λ (x : List ℕ). CutsTo x qs here) same.1 d.2) i.1
+
+pub stands_at : (kind : SourceKind) (from line : ℕ) (ps : List Piece) (text rest : List ℕ) → NoCut rest → CutsTo text ps rest → Stands kind from line text → Begins kind rest
+stands_at kind from line ps text rest none c h = let r = cuts_sync ps h.pieces text h.rest rest none c h.cut h.in_section in look r.0 r.1
+  where
+    look : (rs : List Piece) → CutsTo h.rest rs rest → Begins kind rest
+    look [] e = subst (λ (x : List ℕ). Begins kind x) e h.begins
+    look (p ∷ rs) e = absurd (begins_no_cut kind h.rest e.0 p h.begins e.1)
 
 pub no_stands : (kind : SourceKind) (from line : ℕ) (q last : Putting) (text rest : List ℕ) → NoCut rest → (Begins kind rest → ⊥) → Way q text rest last → Stands kind from line text → ⊥
-no_stands kind from line q last text rest none end w h =
-    let s = sync h.pieces q last text h.rest rest none w h.cut h.in_section in
-    elim (way_next s.0 last h.rest rest s.2) [
-      | inl e ↦ end (subst (λ (x : List ℕ). Begins kind x) e.0 h.begins)
-      | inr o ↦ begins_no_cut kind h.rest o.1 o.0 h.begins o.3
-    ]
+no_stands kind from line q last text rest none end w h = end (stands_at kind from line w.pieces text rest none w.cut h)
 
 -- ---- the string of a GET
 

@@ -21,6 +21,7 @@ pub mod FaultWalks
 pub mod Faultless
 pub mod Reach
 pub mod Continue
+pub mod Lowest
 pub mod Earliest
 pub mod Certain
 pub mod Letters
