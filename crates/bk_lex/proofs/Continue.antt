@@ -47,7 +47,7 @@ use Rattle.bk_lex.proofs.Complete.{put_room}
 use Rattle.bk_lex.proofs.LongFaults.{naming_walk}
 use Rattle.bk_lex.proofs.FaultBegins.{bad_is}
 use Rattle.bk_lex.proofs.FaultWalks.{Faults, step_bad, step_goes, begins_faults}
-use Rattle.bk_lex.proofs.Faultless.{Good, cut_good, begins_no_cut, stands_at, Way, way_more, NoCut, no_stands, no_misnames, seen_last, FirstFits, first_signs, first_bytes, PassesNext, no_symbols, nil_cut, no_begins, end_no_cut}
+use Rattle.bk_lex.proofs.Faultless.{Good, cut_good, begins_no_cut, stands_at, Way, way_more, NoCut, no_stands, no_misnames, no_cut_put, NoPut, seen_last, FirstFits, first_signs, first_bytes, PassesNext, no_symbols, nil_cut, no_begins, end_no_cut}
 use Rattle.bk_lex.proofs.Reach.{DueAt, Reached, no_feed}
 
 -- ---- pieces up to the text's end
@@ -66,7 +66,7 @@ way_append (p ∷ ps) q mid last text here rest c e w =
     let r = way_append ps n.0 mid last c.0 here rest c.2 n.2 w in
     record { pieces = p ∷ r.pieces; cut = (c.0, c.1, r.cut); tokens = ap (λ (o : Option Putting). puts o r.pieces) n.1 ∙ r.tokens }
 
-way_through : (q mid last : Putting) (text here rest : List ℕ) → Way q text here mid → Way mid here rest last → Way q text rest last
+pub way_through : (q mid last : Putting) (text here rest : List ℕ) → Way q text here mid → Way mid here rest last → Way q text rest last
 way_through q mid last text here rest v w = way_append v.pieces q mid last text here rest v.cut v.tokens w
 
 way_nothing : (q : Putting) → Way q [] [] q
@@ -364,7 +364,7 @@ get_without s line q front r = let w = well r.3.1 in (w.0, last w.0 w.1)
 -- ---- a text that goes on without too many bytes or symbols
 
 -- what goes on so: nothing that is a piece, or pieces within the count
-abbrev GoesShort : Putting → List ℕ → Type 0
+abbrev pub GoesShort : Putting → List ℕ → Type 0
 GoesShort q t = (more : List ℕ) × (length more ≤ 256) × ((Good (walk_piece (t ++ more)) → ⊥) ⊎ ((q2 : Putting) × Way q (t ++ more) [] q2 × (weight q2 ≤ 262144)))
 
 many : ℕ → ℕ → List ℕ
@@ -384,10 +384,10 @@ many_all p (suc n) b e = rw e (many_all p n b e)
 never : (q : Putting) (t more : List ℕ) (m : Mode) (f : Fault) → length more ≤ 256 → walk_piece t ≡ Goes m → walk m more ≡ Bad f → GoesShort q t
 never q t more m f le w x = (more, le, inl (λ g. let z : Good (Bad f) = subst Good (walk_piece-append m t more w ∙ x) g in z))
 
-open_short : (q : Putting) (t : List ℕ) (m : Mode) → walk_piece t ≡ Goes m → sort_of m ≡ None → GoesShort q t
+pub open_short : (q : Putting) (t : List ℕ) (m : Mode) → walk_piece t ≡ Goes m → sort_of m ≡ None → GoesShort q t
 open_short q t m w s = ([], omega arith, inl (λ g. not_whole m s (subst Good (ap walk_piece (append-nil t) ∙ w) g)))
 
-long_word : (q : Putting) (t : List ℕ) (n code : ℕ) → n ≤ 255 → walk_piece t ≡ Goes (Word n code) → GoesShort q t
+pub long_word : (q : Putting) (t : List ℕ) (n code : ℕ) → n ≤ 255 → walk_piece t ≡ Goes (Word n code) → GoesShort q t
 long_word q t n code le w =
     let size = many_length 256 65 in
     never q t (many 256 65) (Word n code) NameTooLong (omega (arith, size)) w (
@@ -396,7 +396,7 @@ long_word q t n code le w =
       | inr p ↦ p.1
     ])
 
-long_tag : (q : Putting) (t : List ℕ) (side : Side) (n : ℕ) → n ≤ 255 → walk_piece t ≡ Goes (Bracket side n) → GoesShort q t
+pub long_tag : (q : Putting) (t : List ℕ) (side : Side) (n : ℕ) → n ≤ 255 → walk_piece t ≡ Goes (Bracket side n) → GoesShort q t
 long_tag q t side zero le w =
     let size = many_length 255 65 in
     never q t (65 ∷ many 255 65) (Bracket side 0) TagTooLong (omega (arith, size)) w (
@@ -424,7 +424,7 @@ seven_digit Octal = refl
 seven_digit Decimal = refl
 seven_digit Hexadecimal = refl
 
-large_number : (q : Putting) (t : List ℕ) (base : Base) (v : ℕ) → v ≤ 4294967295 → walk_piece t ≡ Goes (Number base v) → GoesShort q t
+pub large_number : (q : Putting) (t : List ℕ) (base : Base) (v : ℕ) → v ≤ 4294967295 → walk_piece t ≡ Goes (Number base v) → GoesShort q t
 large_number q t base v le w =
     let size = many_length 11 55 in
     never q t (many 11 55) (Number base v) NumberOver32Bits (omega (arith, size)) w (
@@ -466,7 +466,7 @@ single_fits q t s b e f n l fits =
     omega (arith, least, asks, feds)
 
 -- a symbol before which nothing is inserted
-plain_fits : (q : Putting) (t : List ℕ) (n : Kind) → begins_statement n ≡ false → begins_command n ≡ false → weight q + 1 ≤ 262144 → weight q + room_for (inserted q.last n (seen q t).fed) ≤ 262144
+pub plain_fits : (q : Putting) (t : List ℕ) (n : Kind) → begins_statement n ≡ false → begins_command n ≡ false → weight q + 1 ≤ 262144 → weight q + room_for (inserted q.last n (seen q t).fed) ≤ 262144
 plain_fits q t n s c le = let rooms = ap room_for (no_insertion q.last n (seen q t).fed s c) in omega (arith, rooms, le)
 
 -- a longer sign
@@ -476,7 +476,7 @@ double_fits q t s g b c e f l x y fits =
     let asks = ap (λ (d : Bool). cond d 0 (room_for (inserted q.last (sign_kind g) q.fed))) l in
     plain_fits q t (sign_kind s) x y (omega (arith, least, asks, some_room (inserted q.last (sign_kind g) q.fed)))
 
-sign_fits : (q : Putting) (t : List ℕ) (s : Sign) → t ≡ spelling s → is_slash s ≡ false → FirstFits q t → SignFits q t s
+pub sign_fits : (q : Putting) (t : List ℕ) (s : Sign) → t ≡ spelling s → is_slash s ≡ false → FirstFits q t → SignFits q t s
 sign_fits q t signs.Open e l f = single_fits q t signs.Open 40 e refl refl l f
 sign_fits q t signs.Close e l f = single_fits q t signs.Close 41 e refl refl l f
 sign_fits q t signs.Plus e l f = single_fits q t signs.Plus 43 e refl refl l f
@@ -548,7 +548,7 @@ inside_short q t QuoteEnd light r w d f u =
 inside_short q t (Mark s) light r w d f u = mark_short q t s light w f u
 inside_short q t (Name n) light r w d f u = absurd r
 
-nil_symbols : (q : Putting) (line : ℕ) → weight q ≤ 262144 → PassesNext q line [] → ⊥
+pub nil_symbols : (q : Putting) (line : ℕ) → weight q ≤ 262144 → PassesNext q line [] → ⊥
 nil_symbols q line le (inl h) = nil_cut h.0 h.1 h.2
 nil_symbols q line le (inr (inl h)) = nil_cut h.0 h.1 h.3
 nil_symbols q line le (inr (inr (inl h))) = no_cons h.1 h.2 h.3
@@ -560,37 +560,50 @@ nil_symbols q line le (inr (inr (inr h))) = no_cons h.0 h.1 h.2
     no_cons : (b : ℕ) (bs : List ℕ) → [] ≡ b ∷ bs → ⊥
     no_cons b bs e = cc
 
+-- the first byte of a piece is that of what goes on from it
+pub longer_fits : (q : Putting) (t more : List ℕ) (m : Mode) → walk_piece t ≡ Goes m → FirstFits q t → FirstFits q (t ++ more)
+unfolding walk_piece
+longer_fits q [] more m w f c rest k e x = absurd cc
+longer_fits q (b ∷ bs) more m w f c rest k e x = let same : c ≡ b = heads c b rest (bs ++ more) (sym e) in f b bs k refl (ap fresh (sym same) ∙ x)
+
+pub longer_some : (t more : List ℕ) (m : Mode) → walk_piece t ≡ Goes m → (c : ℕ) (rest : List ℕ) → t ++ more ≡ c ∷ rest → fresh c ≡ None → ⊥
+unfolding walk_piece
+longer_some [] more m w c rest e x = absurd cc
+longer_some (b ∷ bs) more m w c rest e x =
+    let t = then_goes (begins (fresh b)) (λ k. walk k bs) m w in
+    none_some t.0 (sym x ∙ ap fresh (heads c b rest (bs ++ more) (sym e)) ∙ begins_goes (fresh b) t.0 t.1)
+  where
+    none_some : (k : Mode) → (let o : Option Mode = None in o) ≡ Some k → ⊥
+    none_some k z = cc
+
 -- where no piece is, only a first byte passes the count
 open_symbols : (q : Putting) (line : ℕ) (t more : List ℕ) (m : Mode) → walk_piece t ≡ Goes m → FirstFits q t → (Good (walk_piece (t ++ more)) → ⊥) → PassesNext q line (t ++ more) → ⊥
-unfolding walk_piece
-open_symbols q line [] more m w f n h = absurd cc
-open_symbols q line (b ∷ bs) more m w f n (inl h) = n (cut_good h.0 (b ∷ bs ++ more) h.1 h.2)
-open_symbols q line (b ∷ bs) more m w f n (inr (inl h)) = n (cut_good h.0 (b ∷ bs ++ more) h.1 h.3)
-open_symbols q line (b ∷ bs) more m w f n (inr (inr h)) = elim h [ inl h ↦ first_signs q line (b ∷ bs ++ more) fits h | inr h ↦ first_bytes q line (b ∷ bs ++ more) fits some h ]
+open_symbols q line t more m w f n (inl h) = n (cut_good h.0 (t ++ more) h.1 h.2)
+open_symbols q line t more m w f n (inr (inl h)) = n (cut_good h.0 (t ++ more) h.1 h.3)
+open_symbols q line t more m w f n (inr (inr (inl h))) = first_signs q line (t ++ more) (longer_fits q t more m w f) h
+open_symbols q line t more m w f n (inr (inr (inr h))) = first_bytes q line (t ++ more) (longer_fits q t more m w f) (longer_some t more m w) h
+
+-- pieces that are put, and then what is not put and does not pass the count
+abbrev pub Stays : Putting → List ℕ → Type 0
+Stays q text = (more : List ℕ) × (length more ≤ 256) × ((rest : List ℕ) × (q2 : Putting) × Way q (text ++ more) rest q2 × NoPut q2 rest × (weight q2 ≤ 262144) × ((line : ℕ) → PassesNext q2 line rest → ⊥))
+
+pub stays_short : (q : Putting) (text : List ℕ) → Stays q text → (line : ℕ) → (more : List ℕ) × (length more ≤ 256) × (PassesSymbols q line (text ++ more) → ⊥)
+stays_short q text s line = (s.0, s.1, no_symbols line q s.2.1 (text ++ s.0) s.2.0 s.2.3 s.2.4 (s.2.5 line) s.2.2)
+
+pub short_stays : (q : Putting) (t : List ℕ) (m : Mode) → weight q ≤ 262144 → walk_piece t ≡ Goes m → FirstFits q t → GoesShort q t → Stays q t
+short_stays q t m light w f g = look g.2
   where
-    fits : FirstFits q (b ∷ bs ++ more)
-    fits c rest k e x = let same : c ≡ b = heads c b rest (bs ++ more) (sym e) in f b bs k refl (ap fresh (sym same) ∙ x)
+    look : (Good (walk_piece (t ++ g.0)) → ⊥) ⊎ ((q2 : Putting) × Way q (t ++ g.0) [] q2 × (weight q2 ≤ 262144)) → Stays q t
+    look (inl n) = (g.0, g.1, (t ++ g.0, q, record { pieces = []; cut = refl; tokens = refl }, λ p after x c e. n (cut_good p (t ++ g.0) after c), light, λ line. open_symbols q line t g.0 m w f n))
+    look (inr e) = (g.0, g.1, ([], e.0, e.1, no_cut_put e.0 [] (end_no_cut [] (inl refl)), e.2, λ line. nil_symbols e.0 line e.2))
 
-    none_some : (k : Mode) → (let o : Option Mode = None in o) ≡ Some k → ⊥
-    none_some k e = cc
-
-    some : (c : ℕ) (rest : List ℕ) → b ∷ bs ++ more ≡ c ∷ rest → fresh c ≡ None → ⊥
-    some c rest e x =
-        let t = then_goes (begins (fresh b)) (λ k. walk k bs) m w in
-        none_some t.0 (sym x ∙ ap fresh (heads c b rest (bs ++ more) (sym e)) ∙ begins_goes (fresh b) t.0 t.1)
+-- behind pieces that are put
+pub stays_behind : (q q2 : Putting) (text t : List ℕ) → ((more : List ℕ) → Way q (text ++ more) (t ++ more) q2) → Stays q2 t → Stays q text
+stays_behind q q2 text t ways s = (s.0, s.1, (s.2.0, s.2.1, way_through q q2 s.2.1 (text ++ s.0) (t ++ s.0) s.2.0 (ways s.0) s.2.2, s.2.3, s.2.4, s.2.5))
 
 pub symbols_without : (s : State) (line : ℕ) (q : Putting) (front : List ℕ) → Reached s q front → (more : List ℕ) × (length more ≤ 256) × (PassesSymbols q line (front ++ more) → ⊥)
-symbols_without s line q front r = look r.3.1
+symbols_without s line q front r = stays_short q front (stays_behind q r.0 front r.1 r.2 (look r.3.1)) line
   where
-    ended : (more : List ℕ) → length more ≤ 256 → (q2 : Putting) → Way r.0 (r.1 ++ more) [] q2 → weight q2 ≤ 262144 → (more : List ℕ) × (length more ≤ 256) × (PassesSymbols q line (front ++ more) → ⊥)
-    ended more le q2 w light = (more, le, no_symbols line q q2 (front ++ more) [] (end_no_cut [] (inl refl)) light (nil_symbols q2 line light) (way_through q r.0 q2 (front ++ more) (r.1 ++ more) [] (r.2 more) w))
-
-    goes : (m : Mode) → walk_piece r.1 ≡ Goes m → FirstFits r.0 r.1 → GoesShort r.0 r.1 → (more : List ℕ) × (length more ≤ 256) × (PassesSymbols q line (front ++ more) → ⊥)
-    goes m w f g = elim g.2 [
-      | inl n ↦ (g.0, g.1, no_symbols line q r.0 (front ++ g.0) (r.1 ++ g.0) (λ p after c d. n (cut_good p (r.1 ++ g.0) after c)) r.3.0 (open_symbols r.0 line r.1 g.0 m w f n) (r.2 g.0))
-      | inr e ↦ ended g.0 g.1 e.0 e.1 e.2
-    ]
-
-    look : (r.1 ≡ []) ⊎ ((m : Mode) × (walk_piece r.1 ≡ Goes m) × (is_dot m ≡ false) × FirstFits r.0 r.1 × DueAt r.0.get r.1 m) → (more : List ℕ) × (length more ≤ 256) × (PassesSymbols q line (front ++ more) → ⊥)
-    look (inl e) = ended [] (omega arith) r.0 (subst (λ (x : List ℕ). Way r.0 (x ++ []) [] r.0) (sym e) (way_nothing r.0)) r.3.0
-    look (inr p) = goes p.0 p.1 p.3 (inside_short r.0 r.1 p.0 r.3.0 (piece_reads r.1 p.0 p.1) p.1 p.2 p.3 p.4)
+    look : (r.1 ≡ []) ⊎ ((m : Mode) × (walk_piece r.1 ≡ Goes m) × (is_dot m ≡ false) × FirstFits r.0 r.1 × DueAt r.0.get r.1 m) → Stays r.0 r.1
+    look (inl e) = ([], omega arith, ([], r.0, record { pieces = []; cut = ap (λ (x : List ℕ). x ++ []) e; tokens = refl }, no_cut_put r.0 [] (end_no_cut [] (inl refl)), r.3.0, λ line. nil_symbols r.0 line r.3.0))
+    look (inr p) = short_stays r.0 r.1 p.0 r.3.0 p.1 p.3 (inside_short r.0 r.1 p.0 r.3.0 (piece_reads r.1 p.0 p.1) p.1 p.2 p.3 p.4)

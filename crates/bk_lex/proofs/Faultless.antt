@@ -42,6 +42,7 @@ use Rattle.bk_lex.proofs.Firsts.{word_counted, bracket_counted, no_gap, piece_be
 use Rattle.bk_lex.proofs.Complete.{put_room, named_as_some, header_text, cuts_length}
 use Rattle.bk_lex.proofs.Sound.{lexed_is_section}
 use Rattle.bk_lex.proofs.Faulty.{lexed_has_fault}
+use Rattle.bk_lex.proofs.GetFaults.{Stuck}
 use Rattle.bk_lex.proofs.LongFaults.{spelled_some}
 use Rattle.bk_lex.proofs.FaultWalks.{Faults, begins_faults}
 
@@ -168,14 +169,24 @@ sync (p ∷ ps) q last text here rest none w c i =
           (r.0, ap (λ (x : Option Putting). puts x ps) (ap (put q) same.0 ∙ o.4) ∙ r.1, r.2))
     ]
 
-puts_in : (ps : List Piece) (q last : Putting) → puts (Some q) ps ≡ Some last → InSection ps
-puts_in [] q last e = tt
-puts_in (p ∷ ps) q last e = let n = puts_next ps (put q p) last e in ((put_of q n.0 p n.1).0, puts_in ps n.0 last n.2)
+-- no piece is put here
+abbrev pub NoPut : Putting → List ℕ → Type 0
+NoPut q text = (p : Piece) (after : List ℕ) (q2 : Putting) → Cut p text after → put q p ≡ Some q2 → ⊥
 
-sync_puts : (ps : List Piece) (q to last : Putting) (text here rest : List ℕ) → NoCut rest → Way q text rest last → CutsTo text ps here → puts (Some q) ps ≡ Some to → Way to here rest last
-sync_puts ps q to last text here rest none w c t =
-    let s = sync ps q last text here rest none w c (puts_in ps q to t) in
-    subst (λ (x : Putting). Way x here rest last) (some_put s.0 to (sym s.1 ∙ t)) s.2
+pub no_cut_put : (q : Putting) (text : List ℕ) → NoCut text → NoPut q text
+no_cut_put q text none p after q2 c e = none p after c (put_of q q2 p e).0
+
+-- other pieces that are put lie on the way
+sync_puts : (ps : List Piece) (q to last : Putting) (text here rest : List ℕ) → NoPut last rest → Way q text rest last → CutsTo text ps here → puts (Some q) ps ≡ Some to → Way to here rest last
+sync_puts [] q to last text here rest none w c t = subst (λ (y : List ℕ). Way to y rest last) c (subst (λ (x : Putting). Way x text rest last) (some_put q to t) w)
+sync_puts (p ∷ ps) q to last text here rest none w c t =
+    let n = puts_next ps (put q p) to t in
+    elim (way_next q last text rest w) [
+      | inl e ↦ absurd (none p c.0 n.0 (subst (λ (x : List ℕ). Cut p x c.0) e.0 c.1) (ap (λ (x : Putting). put x p) (sym e.1) ∙ n.1))
+      | inr o ↦ (let same = same_cut p o.0 text c.0 o.1 c.1 o.3 in
+          let next_is = some_put n.0 o.2 (sym n.1 ∙ ap (put q) same.0 ∙ o.4) in
+          sync_puts ps o.2 to last o.1 here rest none o.5 (subst (λ (x : List ℕ). CutsTo x ps here) same.1 c.2) (subst (λ (x : Putting). puts (Some x) ps ≡ Some to) next_is n.2))
+    ]
 
 -- ---- a fault begins where no piece does
 
@@ -224,9 +235,17 @@ put_due q q2 p line g e =
     look (whats.Symbol k) f h = inr (named_as_some (seen q p.text) q2 line (header_named p.text) h)
     look whats.Get f h = no_put q2 h
 
+-- nothing is put where neither a gap nor a string that names a header is next
+pub stuck_no_put : (q : Putting) (line : ℕ) (text : List ℕ) → q.get ≡ Some line → Stuck text → NoPut q text
+stuck_no_put q line text e s p after q2 c x =
+    elim (put_due q q2 p line e x) [
+      | inl g ↦ s.0 p.sort p.text after g c.parts c.is
+      | inr n ↦ s.1 n.0 p.text after c.parts n.1
+    ]
+
 pub no_misnames : (line : ℕ) (q last : Putting) (text rest : List ℕ) → NoCut rest → last.get ≡ None → Way q text rest last → Misnames q line text → ⊥
 no_misnames line q last text rest none off w h =
-    let s = sync_puts h.pieces q h.last last text h.rest rest none w h.cut h.tokens in
+    let s = sync_puts h.pieces q h.last last text h.rest rest (no_cut_put last rest none) w h.cut h.tokens in
     elim (way_next h.last last h.rest rest s) [
       | inl e ↦ none_some (sym off ∙ ap (λ (x : Putting). x.get) (sym e.1) ∙ h.get)
       | inr o ↦ elim (put_due h.last o.2 o.0 line h.get o.4) [
@@ -416,7 +435,7 @@ put_passes q q2 p text after line c e le (inr (inr (inr h))) =
 way_weight : (q last : Putting) (text rest : List ℕ) → Way q text rest last → weight q ≤ weight last
 way_weight q last text rest w = puts_weight w.pieces q last w.tokens
 
-pub no_symbols : (line : ℕ) (q last : Putting) (text rest : List ℕ) → NoCut rest → weight last ≤ 262144 → (PassesNext last line rest → ⊥) → Way q text rest last → PassesSymbols q line text → ⊥
+pub no_symbols : (line : ℕ) (q last : Putting) (text rest : List ℕ) → NoPut last rest → weight last ≤ 262144 → (PassesNext last line rest → ⊥) → Way q text rest last → PassesSymbols q line text → ⊥
 no_symbols line q last text rest none le end w h =
     let s = sync_puts h.pieces q h.last last text h.rest rest none w h.cut h.tokens in
     elim (way_next h.last last h.rest rest s) [
@@ -575,7 +594,7 @@ section_faultless text from s h f fault =
       stands = λ kind line. no_stands kind from line q c.last text c.rest none (end_no_begins kind c.rest e) w;
       misnames = λ line. no_misnames line q c.last text c.rest none c.no_get w;
       bytes = λ line. no_bytes from total line q c.last text c.rest none (section_within s.ended s.used total c.rest c.ends h.1) (section_bytes s.ended s.used total c.rest c.ends h.1) w;
-      symbols = λ line. no_symbols line q c.last text c.rest none light (end_no_symbols c.last line c.rest e c.no_get light) w;
+      symbols = λ line. no_symbols line q c.last text c.rest (no_cut_put c.last c.rest none) light (end_no_symbols c.last line c.rest e c.no_get light) w;
     } f.kind f.line fault
 
 pub faultless_section : (text : List ℕ) (from : ℕ) → NoFault from text → (s : Section) × IsSection text from s

@@ -22,6 +22,7 @@ pub mod Faultless
 pub mod Reach
 pub mod Continue
 pub mod Lowest
+pub mod BesideGet
 pub mod Earliest
 pub mod Certain
 pub mod Letters

@@ -27,7 +27,7 @@ use Rattle.bk_lex.specs.TextFault.{Begins, Stands, HasKind, HasFault}
 use Rattle.bk_lex.proofs.SignLemmas.{picks}
 use Rattle.bk_lex.proofs.Walk.{goes_is, walk, walk_piece, walk_piece-append, one_walk}
 use Rattle.bk_lex.proofs.Modes.{piece_reads}
-use Rattle.bk_lex.proofs.Goings.{reads_piece}
+use Rattle.bk_lex.proofs.Goings.{sort_of, reads_piece}
 use Rattle.bk_lex.proofs.Wholes.{ends_longest, whole_at_end}
 use Rattle.bk_lex.proofs.Naming.{Naming, naming_step, names_walk}
 use Rattle.bk_lex.proofs.Steps.{behind}
@@ -171,7 +171,7 @@ CutBehind t c = (u : List ℕ) × (m : Mode) × (walk_piece u ≡ nexts.Goes m) 
 longer : (t : List ℕ) (c : ℕ) (m : Mode) → walk_piece (t ++ c ∷ []) ≡ nexts.Goes m → CutBehind t c
 longer t c m w = (t ++ c ∷ [], m, w, λ more. ([], sym (append_assoc t (c ∷ []) more)))
 
-begun_walks : (c : ℕ) (m : Mode) → fresh c ≡ Some m → walk_piece (c ∷ []) ≡ nexts.Goes m
+pub begun_walks : (c : ℕ) (m : Mode) → fresh c ≡ Some m → walk_piece (c ∷ []) ≡ nexts.Goes m
 unfolding walk walk_piece
 begun_walks c m e = rw e refl
 
@@ -198,19 +198,23 @@ names_behind t r c h get (inr (inl d)) x = absurd (no_names r.state.mode c h t (
 names_behind t r c h get (inr (inr d)) x = longer t c TextEnd (names_walk (t ++ c ∷ []) h (naming_step t r.state.mode c d.0 (nexts.Names h) x))
 
 -- a byte of a string that names no header goes on with the string, or ends it
-small_goes : (n c : ℕ) → n ≤ 7 → is_feed c ≡ false → (m : Mode) × (next (Text n) c ≡ nexts.Goes m)
+small_goes : (n c : ℕ) → n ≤ 7 → is_feed c ≡ false → (m : Mode) × (next (Text n) c ≡ nexts.Goes m) × ((m ≡ TextEnd) ⊎ (sort_of m ≡ None))
 small_goes n c le f = look (eqb c 34) (eqb c 42) refl refl
   where
     small : leb 255 n ≡ false
     small = grind (arith, nat_tests, le)
 
-    look : (a b : Bool) → eqb c 34 ≡ a → eqb c 42 ≡ b → (m : Mode) × (next (Text n) c ≡ nexts.Goes m)
-    look true b x y = (TextEnd, rw (f, x) refl)
-    look false true x y = (TextEscape n, rw (f, x, y) refl)
-    look false false x y = (Text (n + 1), rw (f, x, y, small) refl)
+    look : (a b : Bool) → eqb c 34 ≡ a → eqb c 42 ≡ b → (m : Mode) × (next (Text n) c ≡ nexts.Goes m) × ((m ≡ TextEnd) ⊎ (sort_of m ≡ None))
+    look true b x y = (TextEnd, rw (f, x) refl, inl refl)
+    look false true x y = (TextEscape n, rw (f, x, y) refl, inr refl)
+    look false false x y = (Text (n + 1), rw (f, x, y, small) refl, inr refl)
 
-get_behind : (t : List ℕ) (m : Mode) (c : ℕ) → Naming t m → next m c ≡ nexts.Bad BadGet → CutBehind t c
-get_behind t m c d x = look (is_feed c) refl
+-- and so does one of a string that names none yet
+abbrev pub StringOn : List ℕ → ℕ → Type 0
+StringOn t c = (m : Mode) × (walk_piece (t ++ c ∷ []) ≡ nexts.Goes m) × ((m ≡ TextEnd) ⊎ (sort_of m ≡ None))
+
+pub string_on : (t : List ℕ) (m : Mode) (c : ℕ) → Naming t m → next m c ≡ nexts.Bad BadGet → StringOn t c
+string_on t m c d x = look (is_feed c) refl
   where
     two : nexts.Bad BadString ≡ nexts.Bad BadGet → ⊥
     two e = cc
@@ -218,9 +222,12 @@ get_behind t m c d x = look (is_feed c) refl
     fed : is_feed c ≡ true → next (Name (length d.0)) c ≡ nexts.Bad BadString
     fed e = rw e refl
 
-    look : (b : Bool) → is_feed c ≡ b → CutBehind t c
+    look : (b : Bool) → is_feed c ≡ b → StringOn t c
     look true e = absurd (two (sym (fed e) ∙ ap (λ (k : Mode). next k c) (sym d.2) ∙ x))
-    look false e = let g = small_goes (length d.0) c d.3 e in longer t c g.0 (walk_piece-append (Text (length d.0)) t (c ∷ []) (naming_walk t m d) ∙ one_walk (Text (length d.0)) c ∙ g.1)
+    look false e = let g = small_goes (length d.0) c d.3 e in (g.0, walk_piece-append (Text (length d.0)) t (c ∷ []) (naming_walk t m d) ∙ one_walk (Text (length d.0)) c ∙ g.1, g.2)
+
+get_behind : (t : List ℕ) (m : Mode) (c : ℕ) → Naming t m → next m c ≡ nexts.Bad BadGet → CutBehind t c
+get_behind t m c d x = let g = string_on t m c d x in longer t c g.0 g.1
 
 -- ---- the step that faults
 
@@ -229,7 +236,7 @@ abbrev StepFault : List ℕ → ℕ → Fault → Type 0
 StepFault t c g = (g ≡ BadByte) ⊎ (((told_kind g ≡ source_kinds.BadByte → ⊥) × Begins (told_kind g) (t ++ c ∷ [])) ⊎ CutBehind t c)
 
 -- the fault within the count of bytes, or past it
-within_err : (n : ℕ) (f g : Fault) → within n (Err f) ≡ Err g → (g ≡ f) ⊎ (g ≡ past f)
+pub within_err : (n : ℕ) (f g : Fault) → within n (Err f) ≡ Err g → (g ≡ f) ⊎ (g ≡ past f)
 within_err n f g e =
     elim (picks (ltb n 1) (Err (past f)) (Err f) (Err g) e) [
       | inl p ↦ inr (sym (err_is (past f) g p.1))

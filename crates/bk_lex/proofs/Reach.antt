@@ -33,10 +33,10 @@ use Rattle.bk_lex.proofs.Faultless.{Way, way_more, FirstFits, asking, seen_last}
 -- ---- the first byte of a piece got what it asked for
 
 -- how many symbols a first byte asks for
-abbrev asks : Option Kind → Bool → Mode → ℕ
+abbrev pub asks : Option Kind → Bool → Mode → ℕ
 asks last fed m = least_room (state Blank 0 0 last fed false) m
 
-same_asks : (x : State) (m : Mode) → least_room x m ≡ asks x.last x.fed m
+pub same_asks : (x : State) (m : Mode) → least_room x m ≡ asks x.last x.fed m
 same_asks x Blank = refl
 same_asks x Comment = refl
 same_asks x Dot = refl
@@ -66,7 +66,7 @@ pub no_feed : (f : Bool) (c : ℕ) → eqb c 10 ≡ false → (f || eqb c 10) �
 no_feed true c e = refl
 no_feed false c e = e
 
-some_same : (m n : Mode) → (let o : Option Mode = Some m in o) ≡ Some n → m ≡ n
+pub some_same : (m n : Mode) → (let o : Option Mode = Some m in o) ≡ Some n → m ≡ n
 some_same m n e = cc
 
 pub feed_blank : (c : ℕ) (m : Mode) → eqb c 10 ≡ true → fresh c ≡ Some m → m ≡ Blank
