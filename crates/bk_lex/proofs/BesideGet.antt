@@ -1,6 +1,6 @@
 -- Where a bad GET is told, too many symbols are not certain.
 use Rattle.std.proofs.Common.{◌≡◌, ℕ, ◌+◌, ◌-◌, ◌≤◌, Bool, true, false, cond, ltb, List, [], ◌∷◌, ◌++◌, length, Option, Some, None, Result, Ok, Err, refl, sym, ap, subst, ◌∙◌, arith, append_assoc, ◌⊎◌, inl, inr}
-use Rattle.std.proofs.lemmas.List.{append-nil, length-append}
+use Rattle.std.proofs.lemmas.List.{append-nil}
 use Rattle.bk_lex.specs.Symbol.{Symbol}
 use Rattle.bk_lex.specs.declared.token.Kind.{Kind}
 use Rattle.bk_lex.specs.declared.token.Kind.TheVariants as kinds
@@ -15,33 +15,32 @@ use Rattle.bk_lex.specs.declared.machine.Next.{Next}
 use Rattle.bk_lex.specs.declared.machine.Next.TheVariants as nexts
 use Rattle.bk_lex.specs.declared.scan.Place.{Place}
 use Rattle.bk_lex.specs.declared.counting.State.{State}
-use Rattle.bk_lex.specs.declared.counting.Given.{Given}
 use Rattle.bk_lex.specs.declared.counting.Act.TheVariants as acts
 use Rattle.bk_lex.specs.declared.counting.Step.{Step}
 use Rattle.bk_lex.specs.declared.counting.Ended.{Ended}
-use Rattle.bk_lex.specs.Signs.{is_slash, sign_kind}
+use Rattle.bk_lex.specs.Signs.{is_slash}
 use Rattle.bk_lex.specs.Machine.{fresh, next, piece, end_fault}
 use Rattle.bk_lex.specs.Counting.{state, with_mode, step_of, moved, within, past, ended, begun, opened_as, in_get, named, header_rest, least_room, stepped, finished, finished_as, no_get, ◌>>=◌}
 use Rattle.bk_lex.specs.Lexing.{Reading, is_dot, put_on, at, get_line_after}
-use Rattle.bk_lex.specs.Pieces.{Sort, blank, comment, dot, string, character, sign, NoLonger, Piece, Cut}
+use Rattle.bk_lex.specs.Pieces.{Sort, comment, dot, string, character, sign, NoLonger, Piece, Cut}
 use Rattle.bk_lex.specs.Tokens.{what_of, Putting, seen}
 use Rattle.bk_lex.specs.TextFault.{NoHeader, weight, room, PassesSymbols}
 use Rattle.bk_lex.proofs.SignLemmas.{picks}
-use Rattle.bk_lex.proofs.Walk.{walk, walk_piece}
+use Rattle.bk_lex.proofs.Walk.{walk_piece}
 use Rattle.bk_lex.proofs.Modes.{Reads, piece_reads, fresh_reads}
 use Rattle.bk_lex.proofs.Goings.{sort_of, IsPiece, reads_piece}
 use Rattle.bk_lex.proofs.Wholes.{IsWhole, ends_longest, nothing_longest, whole_at_end, whole_if_no_fault}
 use Rattle.bk_lex.proofs.Naming.{Naming, naming_step}
-use Rattle.bk_lex.proofs.Soundness.{GetAgrees, Agrees, AfterPiece, ended_agrees, piece_is}
+use Rattle.bk_lex.proofs.Soundness.{Agrees, ended_agrees, piece_is}
 use Rattle.bk_lex.proofs.Onward.{end_before, Here, OnlyGap, InDue, Concludes, piece_before, seen_get, get_due}
 use Rattle.bk_lex.proofs.Firsts.{seen_weight}
 use Rattle.bk_lex.proofs.Complete.{rooms_same}
 use Rattle.bk_lex.proofs.LongFaults.{naming_walk}
-use Rattle.bk_lex.proofs.GetFaults.{lexer_error, err_is, no_err, good_err, ended_err, begun_err, Stuck, first_stuck, slash_reads, slash_stuck, string_stuck}
-use Rattle.bk_lex.proofs.FaultBegins.{bad_begins, naming_bad}
-use Rattle.bk_lex.proofs.Faultless.{Way, way_more, NoPut, no_cut_put, end_no_cut, no_symbols, stuck_no_put, same_cut, Fits, FirstFits, first_signs, first_bytes, asking, seen_last, PassesNext}
+use Rattle.bk_lex.proofs.GetFaults.{lexer_error, err_is, no_err, ended_err, begun_err, Stuck, first_stuck, slash_reads, slash_stuck, string_stuck}
+use Rattle.bk_lex.proofs.FaultBegins.{bad_begins}
+use Rattle.bk_lex.proofs.Faultless.{Way, way_more, NoPut, no_cut_put, end_no_cut, no_symbols, stuck_no_put, same_cut, Fits, FirstFits, first_signs, first_bytes, seen_last, PassesNext}
 use Rattle.bk_lex.proofs.Reach.{Reached, Pending, DueAt, asks, same_asks, some_same}
-use Rattle.bk_lex.proofs.Continue.{nil_symbols, way_through, Stays, stays_behind, stays_short, short_stays, long_word, long_tag, large_number, open_short, sign_fits, plain_fits, longer_fits, longer_some}
+use Rattle.bk_lex.proofs.Continue.{nil_symbols, way_through, Stays, stays_behind, short_stays, long_word, long_tag, large_number, open_short, sign_fits, plain_fits, longer_fits, longer_some}
 use Rattle.bk_lex.proofs.Lowest.{within_err, StringOn, string_on, begun_walks}
 
 -- ---- what is next does not pass the count

@@ -33,7 +33,7 @@ use Rattle.bk_lex.specs.declared.counting.State.{State}
 use Rattle.bk_lex.specs.Counting.{room_for}
 use Rattle.bk_lex.specs.Header.{header_symbols}
 use Rattle.bk_lex.specs.Lexing.{is_dot, told_kind}
-use Rattle.bk_lex.specs.Pieces.{Sort, blank, comment, dot, word, number, bracket, string, character, sign, value_from, Piece, Cut, CutsTo}
+use Rattle.bk_lex.specs.Pieces.{Sort, blank, comment, dot, word, number, bracket, string, character, sign, value_from, Piece, CutsTo}
 use Rattle.bk_lex.specs.Tokens.{what_of, header_named, header_spelled, Putting, putting, seen, named_as, put_as, is_dot_sort, put, puts}
 use Rattle.bk_lex.specs.TextFault.{Begins, Stands, Misnames, weight, PassesSymbols}
 use Rattle.bk_lex.proofs.Walk.{walk, walk_piece, walk_piece-append, then_goes, begins, begins_goes, goes_is}
@@ -47,7 +47,7 @@ use Rattle.bk_lex.proofs.Complete.{put_room}
 use Rattle.bk_lex.proofs.LongFaults.{naming_walk}
 use Rattle.bk_lex.proofs.FaultBegins.{bad_is}
 use Rattle.bk_lex.proofs.FaultWalks.{Faults, step_bad, step_goes, begins_faults}
-use Rattle.bk_lex.proofs.Faultless.{Good, cut_good, begins_no_cut, stands_at, Way, way_more, NoCut, no_stands, no_misnames, no_cut_put, NoPut, seen_last, FirstFits, first_signs, first_bytes, PassesNext, no_symbols, nil_cut, no_begins, end_no_cut}
+use Rattle.bk_lex.proofs.Faultless.{Good, cut_good, stands_at, Way, way_more, NoCut, no_misnames, no_cut_put, NoPut, seen_last, FirstFits, first_signs, first_bytes, PassesNext, no_symbols, nil_cut, no_begins, end_no_cut}
 use Rattle.bk_lex.proofs.Reach.{DueAt, Reached, no_feed}
 
 -- ---- pieces up to the text's end
@@ -55,7 +55,7 @@ use Rattle.bk_lex.proofs.Reach.{DueAt, Reached, no_feed}
 pub whole_no_stands : (kind : SourceKind) (from line : ℕ) (ps : List Piece) (text : List ℕ) → CutsTo text ps [] → Stands kind from line text → ⊥
 whole_no_stands kind from line ps text c h = no_begins kind (stands_at kind from line ps text [] (end_no_cut [] (inl refl)) c h)
 
-cuts_one_more : (ps : List Piece) (k : Sort) (text t : List ℕ) → IsPiece k t → CutsTo text ps t → CutsTo text (ps ++ record { sort = k; text = t } ∷ []) []
+pub cuts_one_more : (ps : List Piece) (k : Sort) (text t : List ℕ) → IsPiece k t → CutsTo text ps t → CutsTo text (ps ++ record { sort = k; text = t } ∷ []) []
 cuts_one_more [] k text t is c = ([], record { parts = c ∙ sym (append-nil t); is = is.0; longest = nothing_longest t; bounded = is.1 }, refl)
 cuts_one_more (p ∷ ps) k text t is c = (c.0, c.1, cuts_one_more ps k c.0 t is c.2)
 

@@ -23,6 +23,7 @@ pub mod Reach
 pub mod Continue
 pub mod Lowest
 pub mod BesideGet
+pub mod Ranks
 pub mod Earliest
 pub mod Certain
 pub mod Letters

@@ -1,7 +1,7 @@
 -- At the byte at which a fault is told, none with a lower number is certain; nor has the text one where it ends.
-use Rattle.std.proofs.Common.{◌≡◌, ℕ, ◌+◌, ◌<◌, ◌≤◌, Bool, true, false, cond, eqb, leb, ltb, List, [], ◌∷◌, ◌++◌, length, Option, Some, None, Result, Ok, Err, refl, sym, ap, subst, ◌∙◌, arith, append_assoc, ◌⊎◌, inl, inr}
+use Rattle.std.proofs.Common.{◌≡◌, ℕ, ◌+◌, ◌≤◌, Bool, true, false, cond, eqb, leb, ltb, List, [], ◌∷◌, ◌++◌, length, Option, Some, None, Result, Ok, Err, refl, sym, ap, subst, ◌∙◌, arith, append_assoc, ◌⊎◌, inl, inr}
 use Rattle.std.proofs.lemmas.Bool.Decides.{nat_tests}
-use Rattle.std.proofs.lemmas.List.{append-nil, length-append}
+use Rattle.std.proofs.lemmas.List.{append-nil}
 use Rattle.bk_base.specs.SourceFault.{source_number}
 use Rattle.bk_base.specs.declared.source_fault.SourceFault.{SourceFault}
 use Rattle.bk_base.specs.declared.source_fault.SourceKind.{SourceKind}
@@ -22,8 +22,8 @@ use Rattle.bk_lex.specs.Counting.{start, step_of, moved, within, past, finished,
 use Rattle.bk_lex.specs.Lexing.{Section, section, Reading, read, read_on, run, lexed, begin, told, told_kind, end_as, is_dot}
 use Rattle.bk_lex.specs.Cutting.{goes_on_from, then_on, state_behind}
 use Rattle.bk_lex.specs.Pieces.{number, word, bracket, bracket_byte, Piece, CutsTo}
-use Rattle.bk_lex.specs.Tokens.{Putting, putting}
-use Rattle.bk_lex.specs.TextFault.{Begins, Stands, HasKind, HasFault}
+use Rattle.bk_lex.specs.Tokens.{Putting}
+use Rattle.bk_lex.specs.TextFault.{Begins, Stands}
 use Rattle.bk_lex.proofs.SignLemmas.{picks}
 use Rattle.bk_lex.proofs.Walk.{goes_is, walk, walk_piece, walk_piece-append, one_walk}
 use Rattle.bk_lex.proofs.Modes.{piece_reads}
@@ -34,7 +34,7 @@ use Rattle.bk_lex.proofs.Steps.{behind}
 use Rattle.bk_lex.proofs.Cuts.{behind_more, read_state}
 use Rattle.bk_lex.proofs.Onward.{Here, no_names}
 use Rattle.bk_lex.proofs.LongFaults.{naming_walk}
-use Rattle.bk_lex.proofs.GetFaults.{err_is, no_err}
+use Rattle.bk_lex.proofs.GetFaults.{err_is}
 use Rattle.bk_lex.proofs.FaultBegins.{bad_is, bad_begins, naming_bad}
 use Rattle.bk_lex.proofs.FaultWalks.{Faults, begins_faults}
 use Rattle.bk_lex.proofs.Faultless.{NoCut, cut_good, faults_good, stands_at}
@@ -58,8 +58,7 @@ along (c ∷ cs) r s more e =
     let p = read r c v.0.state v.0.act in
     let same = read_state r c v.0.state v.0.act in
     let a = along cs p s more (ap (λ (x : State). state_behind (Some x) cs) same ∙ v.3) in
-    let dotless = ap (λ (x : State). is_dot x.mode) same ∙ v.2 in
-    (
+    let dotless = ap (λ (x : State). is_dot x.mode) same ∙ v.2 in (
       a.0,
       a.1,
       ap (λ (x : Result Step Fault). read_on r c x >>= λ q. behind q (cs ++ more)) v.1 ∙ ap (λ (d : Bool). cond d (Ok (section p.out p.used true p.place.line)) (run p (cs ++ more))) dotless ∙ a.2,
@@ -153,7 +152,7 @@ faults_same k j x (inr p) (inr q) =
 same_number : (kind other : SourceKind) → kind ≡ other → source_number kind ≤ source_number other
 same_number kind other e = let same = ap source_number e in omega (arith, same)
 
-one_kind : (kind other : SourceKind) (text : List ℕ) → (kind ≡ source_kinds.BadByte → ⊥) → Begins kind text → Begins other text → source_number kind ≤ source_number other
+pub one_kind : (kind other : SourceKind) (text : List ℕ) → (kind ≡ source_kinds.BadByte → ⊥) → Begins kind text → Begins other text → source_number kind ≤ source_number other
 one_kind kind source_kinds.BadByte text n h b = absurd (byte_alone kind text n h b)
 one_kind kind source_kinds.BadString text n h b = same_number _ _ (faults_same kind _ _ (begins_faults kind text n h) (begins_faults source_kinds.BadString text (λ e. cc) b))
 one_kind kind source_kinds.BadEscape text n h b = same_number _ _ (faults_same kind _ _ (begins_faults kind text n h) (begins_faults source_kinds.BadEscape text (λ e. cc) b))
@@ -285,12 +284,12 @@ cuts_append : (ps rs : List Piece) (text here rest : List ℕ) → CutsTo text p
 cuts_append [] rs text here rest c d = subst (λ (x : List ℕ). CutsTo x rs rest) (sym c) d
 cuts_append (p ∷ ps) rs text here rest c d = (c.0, c.1, cuts_append ps rs c.0 here rest c.2 d)
 
-first_number : (kind : SourceKind) → 1 ≤ source_number kind
+pub first_number : (kind : SourceKind) → 1 ≤ source_number kind
 first_number source_kinds.BadByte = omega arith
 first_number kind = omega arith
 
 -- no fault of a byte, string, number, name or tag with a lower number is certain
-lowest_stands : (s : State) (kind : SourceKind) (line : ℕ) (q : Putting) (front : List ℕ) (c : ℕ) (g : Fault) → Reached s q front → step_of s c ≡ Err g → ((more : List ℕ) → Stands kind q.line line ((front ++ c ∷ []) ++ more)) → source_number (told_kind g) ≤ source_number kind
+pub lowest_stands : (s : State) (kind : SourceKind) (line : ℕ) (q : Putting) (front : List ℕ) (c : ℕ) (g : Fault) → Reached s q front → step_of s c ≡ Err g → ((more : List ℕ) → Stands kind q.line line ((front ++ c ∷ []) ++ more)) → source_number (told_kind g) ≤ source_number kind
 lowest_stands s kind line q front c g r e h = look (step_fault (next p.state.mode c) g r.1 p c r.0.get r.4.2 refl (ap (λ (x : State). step_of x c) r.4.1 ∙ e))
   where
     p : Reading

@@ -1,6 +1,7 @@
--- The fault of a text that is told: one that a byte makes certain, whatever follows, where none was before that byte; else
--- one that the text has as it ends.
-use Rattle.std.specs.Prelude.{ℕ, ◌+◌, ◌<◌, ◌≡◌, ◌⊎◌, false, List, [], ◌∷◌, ◌++◌, length, None}
+-- The fault of a text that is told: the one of the lowest number among those that a byte makes certain, whatever follows,
+-- where none was certain before that byte; else among those that the text has as it ends.
+use Rattle.std.specs.Prelude.{ℕ, ◌+◌, ◌<◌, ◌≤◌, ◌≡◌, ◌⊎◌, false, List, [], ◌∷◌, ◌++◌, length, None}
+use Rattle.bk_base.specs.SourceFault.{source_number}
 use Rattle.bk_base.specs.declared.source_fault.SourceFault.{SourceFault}
 use Rattle.bk_base.specs.declared.source_fault.SourceKind.TheVariants.{SectionTooLong}
 use Rattle.bk_base.specs.declared.refused.Refused.{Refused}
@@ -37,9 +38,15 @@ pub record ToldByByte (from : ℕ) (f : SourceFault) (text : List ℕ) : Type 0 
   pub parts : text ≡ front ++ byte ∷ more
   pub none_before : NoneCertain from front
   pub certain : Certain from f (front ++ byte ∷ [])
+  pub lowest : (g : SourceFault) → Certain from g (front ++ byte ∷ []) → (source_number f.kind ≤ source_number g.kind) ⊎ IsLate g (front ++ byte ∷ [])
+
+pub record ToldAtEnd (from : ℕ) (f : SourceFault) (text : List ℕ) : Type 0 where
+  pub none_certain : NoneCertain from text
+  pub has : HasFault from f text
+  pub lowest : (g : SourceFault) → HasFault from g text → source_number f.kind ≤ source_number g.kind
 
 abbrev pub Told : ℕ → SourceFault → List ℕ → Type 0
-Told from f text = ToldByByte from f text ⊎ (NoneCertain from text × HasFault from f text)
+Told from f text = ToldByByte from f text ⊎ ToldAtEnd from f text
 
 -- what a call says of a fault
 abbrev pub SaysFault : Refused SourceFault → ℕ → List ℕ → Type 0

@@ -127,7 +127,7 @@ pub fn lex<'a>(alloc: Global, text: &'a [u8], from: Line) -> Result<Lexed<'a>, R
     // A text that is taken has no fault.
     ensures faultless { IfOk result (λ l. NoFault from text.now) }
     // A fault stands in the first section, on the line that is told. It is the first that a byte makes certain, whatever
-    // follows, or one that the text has as it ends.
+    // follows, or one that the text has as it ends; of these the one of the lowest number.
     ensures tells { IfErr result (λ e. SaysFault e from text.now) }
 {
     read_section(alloc, text, from)
