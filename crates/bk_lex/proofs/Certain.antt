@@ -12,6 +12,9 @@ use Rattle.bk_lex.specs.Cutting.{goes_on, state_behind}
 use Rattle.bk_lex.specs.Telling.{ToldByByte, Told, SaysFault}
 use Rattle.bk_lex.proofs.Cuts.{settled}
 use Rattle.bk_lex.proofs.Faulty.{lexed_has_fault}
+use Rattle.bk_lex.proofs.Earliest.{none_certain}
+use Rattle.bk_lex.proofs.Lowest.{byte_fault, end_fault_of}
+use Rattle.bk_lex.proofs.Ranks.{lowest_byte, lowest_end}
 
 -- the first byte behind which the machine does not go on
 abbrev FirstStop : State → List ℕ → Type 0
@@ -40,7 +43,8 @@ told_at text from f h p =
       byte = byte;
       more = p.2;
       parts = p.4;
-      goes_on = (p.3, p.5);
+      none_before = none_certain front from p.3 p.5;
+      lowest = lowest_byte front byte from f p.3 p.5 (byte_fault front byte from f p.3 p.5 p.6 here);
       certain = λ more. lexed_has_fault ((front ++ byte ∷ []) ++ more) from f (stays from more ∙ here);
     }
 
@@ -49,7 +53,7 @@ lexed_told text from f h = look (state_behind (Some start) text) refl
   where
     look : (o : Option State) → state_behind (Some start) text ≡ o → Told from f text
     look None x = inl (told_at text from f h (first_stop text start x))
-    look (Some t) x = inr ((t, x), lexed_has_fault text from f h)
+    look (Some t) x = inr record { none_certain = none_certain text from t x; has = lexed_has_fault text from f h; lowest = lowest_end text from f t x (end_fault_of text from f t x h) }
 
 says : (text : List ℕ) (from : ℕ) (e : Refused SourceFault) → (let r : Result Lexed (Refused SourceFault) = Err e in Gives r (lexed text from)) → SaysFault e from text
 says text from (refusals.Fault f) h = (lexed_has_fault text from f h, lexed_told text from f h)

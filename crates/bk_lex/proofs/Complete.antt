@@ -49,7 +49,7 @@ Ordinary (whats.Symbol k) (Some g) = ⊥
 Ordinary whats.Get None = Unit {0}
 Ordinary whats.Get (Some g) = ⊥
 
-put_room : (q q2 : Putting) (t : List ℕ) (w : What) (get : Option ℕ) → q.get ≡ get → Ordinary w get → put_as q t w get ≡ Some q2 → weight q2 ≡ weight q + room q.last q.fed w
+pub put_room : (q q2 : Putting) (t : List ℕ) (w : What) (get : Option ℕ) → q.get ≡ get → Ordinary w get → put_as q t w get ≡ Some q2 → weight q2 ≡ weight q + room q.last q.fed w
 put_room q q2 t whats.Gap get e o h = omega (arith, weight_same q q2 h)
 put_room q q2 t (whats.Symbol k) None e o h =
     let same = weight_same _ q2 h in
@@ -213,7 +213,7 @@ header_text t h e = look (bytes_eq up (codes "\"LIBHDR\"")) (bytes_eq up (codes 
         subst (λ (x : Header). HeaderText t x) same (header_at t (codes "LIBHDR2") Formatted (search (arith)) refl ((bytes_eq-Decides up (codes "\"LIBHDR2\"")).0 g))
     look false false f g = none_header h (sym (ap (λ (y : Bool). cond y (Some Plain) (cond (bytes_eq up (codes "\"LIBHDR2\"")) (Some Formatted) None)) f ∙ ap (λ (y : Bool). cond y (Some Formatted) None) g) ∙ e)
 
-named_as_some : (q q2 : Putting) (g : ℕ) (o : Option Header) → named_as q g o ≡ Some q2 → (h : Header) × (o ≡ Some h) × (putting (q.out ++ header_symbols h g) (Some kinds.SectionClose) q.fed q.line None ≡ q2)
+pub named_as_some : (q q2 : Putting) (g : ℕ) (o : Option Header) → named_as q g o ≡ Some q2 → (h : Header) × (o ≡ Some h) × (putting (q.out ++ header_symbols h g) (Some kinds.SectionClose) q.fed q.line None ≡ q2)
 named_as_some q q2 g None e = no_put q2 e
 named_as_some q q2 g (Some h) e = (h, refl, some_put _ q2 e)
 
@@ -299,7 +299,7 @@ piece_run k t rest q q2 used s whats.Get (Some g) e f is p light small ih =
 abbrev Finishes : Putting → List ℕ → ℕ → Section → Type 0
 Finishes last rest total s = (last.get ≡ None) × (s.symbols ≡ last.out) × (s.line ≡ last.line) × (length last.out ≤ 262144) × Ends s.ended s.used rest total × (s.used ≤ 1048576)
 
-cuts_length : (ps : List Piece) (text rest : List ℕ) → CutsTo text ps rest → length rest ≤ length text
+pub cuts_length : (ps : List Piece) (text rest : List ℕ) → CutsTo text ps rest → length rest ≤ length text
 cuts_length [] text rest h = let e = ap (λ (x : List ℕ). length x) h in omega (arith, e)
 cuts_length (p ∷ ps) text rest h =
     let e = ap (λ (x : List ℕ). length x) h.1.parts in

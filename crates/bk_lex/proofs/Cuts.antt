@@ -23,7 +23,7 @@ read_state r b s acts.Goes = refl
 read_state r b s (acts.Begins g) = refl
 read_state r b s (acts.Names h) = refl
 
-none_stays : (u : List ℕ) → state_behind None u ≡ None
+pub none_stays : (u : List ℕ) → state_behind None u ≡ None
 unfolding state_behind
 none_stays [] = refl
 none_stays (b ∷ bs) = none_stays bs
@@ -137,3 +137,6 @@ start_bytes t e = let same : start ≡ t = cc in ap (λ (s : State). s.bytes) (s
 pub means_as : (o : Option State) (bytes : List ℕ) → state_behind (Some start) bytes ≡ o → Means (cut_as o) bytes
 means_as None bytes e = settled bytes e
 means_as (Some s) bytes e = (omega (arith, counts_from bytes (Some start) 1048576 s start_bytes e), λ from. goes_from bytes (begin from) s e)
+
+pub counted_bytes : (bytes : List ℕ) (s : State) → state_behind (Some start) bytes ≡ Some s → length bytes ≤ 1048576
+counted_bytes bytes s e = omega (arith, counts_from bytes (Some start) 1048576 s start_bytes e)

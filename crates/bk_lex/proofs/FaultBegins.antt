@@ -88,7 +88,7 @@ from_whole (c ∷ cs) m h = step (next m c) refl (λ n w. from_whole cs n w)
     step (Names n) e ih = tt
     step (Bad f) e ih = whole_long m h.0 c h.1 f e
 
-piece_bad : (u v : List ℕ) (f : Fault) → walk_piece u ≡ Bad f → walk_piece (u ++ v) ≡ Bad f
+pub piece_bad : (u v : List ℕ) (f : Fault) → walk_piece u ≡ Bad f → walk_piece (u ++ v) ≡ Bad f
 unfolding walk_piece
 piece_bad [] v f e = absurd cc
 piece_bad (b ∷ bs) v f e = step (fresh b) e
@@ -116,7 +116,7 @@ open_no_piece w m e s k front tail parts is = let z : IsWhole m = subst FromWhol
 
 -- ---- the fault of a byte
 
-bad_is : (f g : Fault) → Bad f ≡ Bad g → f ≡ g
+pub bad_is : (f g : Fault) → Bad f ≡ Bad g → f ≡ g
 bad_is f g e = cc
 
 as_fault : (g f : Fault) (text : List ℕ) → Bad g ≡ Bad f → Begins (told_kind g) text → Begins (told_kind f) text

@@ -36,7 +36,7 @@ use Rattle.bk_lex.proofs.Naming.{Naming, naming_step}
 use Rattle.bk_lex.proofs.Soundness.{GetAgrees, Agrees, ended_agrees, fewer}
 use Rattle.bk_lex.proofs.LongFaults.{passes_from, passes_behind, passes_naming, passes_piece, passes_ended, passes_named, passes_begun}
 use Rattle.bk_lex.proofs.GetFaults.{lexer_error, err_is, no_err, good_err, ended_err, begun_err, told_line, nothing_misnames, first_misnames, slash_reads, slash_misnames, string_misnames}
-use Rattle.bk_lex.proofs.Onward.{no_names, OnlyGap, InDue, seen_get, get_due, due_line, piece_before, end_before, Here, Counted, Concludes, Follows, no_dot_sort, step_sound}
+use Rattle.bk_lex.proofs.Onward.{no_names, OnlyGap, InDue, seen_get, get_due, due_line, piece_before, end_before, Here, Counted, before_any, Concludes, Follows, RunsTo, BehindTo, goes_to, no_dot_sort, step_sound}
 use Rattle.bk_lex.proofs.Steps.{behind}
 use Rattle.bk_lex.proofs.Firsts.{put_of, no_put}
 use Rattle.bk_lex.proofs.FaultBegins.{bad_no_piece, bad_begins, end_begins, naming_bad, naming_end}
@@ -135,9 +135,10 @@ has_more total f q q2 k t rest is longest e h =
       symbols = symbols_more q q2 f.line p rest is longest e;
     } h
 
-concludes_fault : (f : SourceFault) (total : ℕ) → Concludes (Has f total) (Err f) total
+concludes_fault : (f : SourceFault) (total : ℕ) → Concludes (Has f total) (RunsTo (Err f)) (BehindTo (Err f)) total
 concludes_fault f total = record {
-  before = has_more total f;
+  before = before_any (Has f total) (has_more total f);
+  goes = goes_to (Err f);
   at_dot = λ more q out x k line gl used a g h u. no_answer (section out (used + 1) true line) h;
 }
   where
@@ -306,14 +307,14 @@ begins_found total c more q t r m e g here a x f o b =
       | inl p ↦ found_as total SectionTooLong g q r.state r.place (t ++ c ∷ more) (sym p.0) (
           let after = ended_agrees (piece r.state.mode) (seen q t) r.out r.state r.place r.held e a o in
           let fault : SourceFault = record { line = r.place.line; kind = source_kinds.SectionTooLong } in
-          piece_before (Has fault total) (Err fault) total (concludes_fault fault total) q t r c more e here x after
+          piece_before (Has fault total) (RunsTo (Err fault)) (BehindTo (Err fault)) total (concludes_fault fault total) q t r c more e here x after
           (inr (passes_begun after.0 (put_on r.out e.given r.place.line r.held) e.state (at r.place.line (get_line_after r.place e.given)) c more m after.2 f p.1)))
       | inr p ↦ found_as total BadGet g q r.state r.place (t ++ c ∷ more) (sym p.0) (
           let after = ended_agrees (piece r.state.mode) (seen q t) r.out r.state r.place r.held e a o in
           let due = agreed after.0 (put_on r.out e.given r.place.line r.held) e.state (at r.place.line (get_line_after r.place e.given)) after.2 p.1 in
           let line = told_line (piece r.state.mode) r.state r.place e o p.1 in
           let fault = told r.state r.place BadGet in
-          piece_before (Has fault total) (Err fault) total (concludes_fault fault total) q t r c more e here x after
+          piece_before (Has fault total) (RunsTo (Err fault)) (BehindTo (Err fault)) total (concludes_fault fault total) q t r c more e here x after
           (first_misnames after.0 fault.line c more m (due ∙ ap (λ (k : ℕ). Some k) (sym line)) f p.2))
     ]
 
@@ -389,7 +390,7 @@ bytes_here total c more q t r (inr (inl d)) line l = look (next r.state.mode c) 
     look (nexts.Names h) x = on (λ e. let z : nexts.Names h ≡ nexts.Ends = sym x ∙ e in cc)
     look (nexts.Bad f) x = on (λ e. let z : nexts.Bad f ≡ nexts.Ends = sym x ∙ e in cc)
 
-step_faulty : (y : Result Step Fault) (f : SourceFault) (total c : ℕ) (more : List ℕ) (ih : Follows (Has f total) (Err f) total more) (q : Putting) (t : List ℕ) (r : Reading) → Here t r.state.mode r.held q.get → Agrees (seen q t) r.out r.state r.place
+step_faulty : (y : Result Step Fault) (f : SourceFault) (total c : ℕ) (more : List ℕ) (ih : Follows (Has f total) (RunsTo (Err f)) total more) (q : Putting) (t : List ℕ) (r : Reading) → Here t r.state.mode r.held q.get → Agrees (seen q t) r.out r.state r.place
     → Counted r.state.bytes r.used (c ∷ more) total → moved r.state c (next r.state.mode c) ≡ y → (read_on r c (within r.state.bytes y) >>= λ p. behind p more) ≡ Err f → Has f total q (t ++ c ∷ more)
 step_faulty (Err g) f total c more ih q t r here a l m h =
     err_says total (ltb r.state.bytes 1) g r c more f q (t ++ c ∷ more) (λ d. bytes_here total c more q t r here (a.line ∙ seen_line q t) (omega (arith, l.0, l.1, ltb-true r.state.bytes 1 d)))
@@ -398,9 +399,9 @@ step_faulty (Ok u) f total c more ih q t r here a l m h = look (ltb r.state.byte
   where
     look : (d : Bool) → ltb r.state.bytes 1 ≡ d → (read_on r c (cond d (Err SectionTooLong) (Ok (fewer r.state.bytes u))) >>= λ p. behind p more) ≡ Err f → Has f total q (t ++ c ∷ more)
     look true d e = told_has total _ f q (t ++ c ∷ more) e (found_told total SectionTooLong r.state r.place q (t ++ c ∷ more) (inl (bytes_here total c more q t r here (a.line ∙ seen_line q t) (omega (arith, l.0, l.1, ltb-true r.state.bytes 1 d)))))
-    look false d e = step_sound (Has f total) (Err f) total (concludes_fault f total) (next r.state.mode c) c more ih q t r u here a refl m e (omega (arith, l.0), omega (arith, l.1, ltb-false r.state.bytes 1 d))
+    look false d e = step_sound (Has f total) (RunsTo (Err f)) (BehindTo (Err f)) total (concludes_fault f total) (next r.state.mode c) c more ih q t r u here a refl m e (omega (arith, l.0), omega (arith, l.1, ltb-false r.state.bytes 1 d))
 
-byte_faulty : (f : SourceFault) (total c : ℕ) (more : List ℕ) → Follows (Has f total) (Err f) total more → Follows (Has f total) (Err f) total (c ∷ more)
+byte_faulty : (f : SourceFault) (total c : ℕ) (more : List ℕ) → Follows (Has f total) (RunsTo (Err f)) total more → Follows (Has f total) (RunsTo (Err f)) total (c ∷ more)
 unfolding run
 byte_faulty f total c more ih q t r here a h l = step_faulty (moved r.state c (next r.state.mode c)) f total c more ih q t r here a l refl h
 
@@ -436,7 +437,7 @@ finished_found total q t r g here a line x e = look (ended r.state) refl e
         let due = agreed after.0 (put_on r.out y.given r.place.line r.held) y.state (at r.place.line (get_line_after r.place y.given)) after.2 on in
         let line = told_line (piece r.state.mode) r.state r.place y o on in
         let fault = told r.state r.place BadGet in
-        end_before (Has fault total) (Err fault) total (concludes_fault fault total) q t r y here x after (nothing_misnames after.0 fault.line (due ∙ ap (λ (k : ℕ). Some k) (sym line)))
+        end_before (Has fault total) (has_more total fault) q t r y here x after (nothing_misnames after.0 fault.line (due ∙ ap (λ (k : ℕ). Some k) (sym line)))
 
     look : (y : Result Ended Fault) → ended r.state ≡ y → (y >>= λ e. no_get e) ≡ Err g → Found g total q r.state r.place (t ++ [])
     look (Err h) o z = ended_found total [] q t r g here a no_more (naming_ends t r.state.mode x) line (λ w. (whole_if_no_fault r.state.mode t (piece_reads t r.state.mode w) x, nothing_longest t)) (o ∙ ap lexer_error (err_is h g z))
@@ -457,11 +458,11 @@ end_says total (Ok g) f q t r here a line x e = no_answer e
     no_answer : {A : Type 0} {s : Section} → (let x : Result Section SourceFault = Ok s in x) ≡ Err f → A
     no_answer z = absurd cc
 
-end_faulty : (f : SourceFault) (total : ℕ) → Follows (Has f total) (Err f) total []
+end_faulty : (f : SourceFault) (total : ℕ) → Follows (Has f total) (RunsTo (Err f)) total []
 unfolding run
 end_faulty f total q t r here a h l = end_says total (finished r.state) f q t r here a (a.line ∙ seen_line q t) refl h
 
-faulty : (f : SourceFault) (total : ℕ) (rest : List ℕ) → Follows (Has f total) (Err f) total rest
+faulty : (f : SourceFault) (total : ℕ) (rest : List ℕ) → Follows (Has f total) (RunsTo (Err f)) total rest
 faulty f total [] q t r here a h l = end_faulty f total q t r here a h l
 faulty f total (c ∷ more) q t r here a h l = byte_faulty f total c more (faulty f total more) q t r here a h l
 

@@ -31,7 +31,7 @@ use Rattle.bk_lex.proofs.Onward.{some_put, seen_get, header_length}
 
 -- ---- the mode behind the first byte of a piece, and how many symbols it asks for
 
-no_insertion : (last : Option Kind) (k : Kind) (fed : Bool) → begins_statement k ≡ false → begins_command k ≡ false → inserted last k fed ≡ None
+pub no_insertion : (last : Option Kind) (k : Kind) (fed : Bool) → begins_statement k ≡ false → begins_command k ≡ false → inserted last k fed ≡ None
 no_insertion None k fed s c = refl
 no_insertion (Some a) k true s c = ap (λ (b : Bool). cond (ends_command a && b) (Some kinds.Semicolon) None) s ∙ never (ends_command a) (Some kinds.Semicolon)
   where
@@ -87,7 +87,7 @@ free : (get : Bool) (m : Mode) → mode_begun true m ≡ Ok m → mode_begun get
 free true m e = e
 free false m e = refl
 
-no_gap : (w : What) (A : Type 0) → IsCounted w → w ≡ whats.Gap → A
+pub no_gap : (w : What) (A : Type 0) → IsCounted w → w ≡ whats.Gap → A
 no_gap w A h e = absurd (subst IsCounted e h)
 
 gap_begun : (m : Mode) (b : ℕ) → fresh b ≡ Some m → ((x : State) → least_room x m ≡ 0) → is_dot m ≡ false → mode_begun true m ≡ Ok m → Begun m whats.Gap b
@@ -124,10 +124,10 @@ found_counted (e ∷ es) code h = pick (eqb e.code code) (found_counted es code 
     pick true rest = h.0
     pick false rest = rest
 
-word_counted : (code : ℕ) → IsCounted (word_what code)
+pub word_counted : (code : ℕ) → IsCounted (word_what code)
 word_counted code = found_counted reserved code (search)
 
-bracket_counted : (side : Side) → IsCounted (bracket_what side)
+pub bracket_counted : (side : Side) → IsCounted (bracket_what side)
 bracket_counted Opening = tt
 bracket_counted Closing = tt
 

@@ -1,6 +1,6 @@
 -- Where the machine tells a bad GET, no string that names a header follows it.
-use Rattle.std.proofs.Common.{◌≡◌, ℕ, ◌<◌, ◌-◌, ◌||◌, Bool, true, false, cond, ◌&&◌, eqb, ltb, List, [], ◌∷◌, ◌++◌, length, Option, Some, Result, Ok, Err, refl, sym, ap, subst, ◌∙◌, append_assoc, ◌⊎◌, inl, inr}
-use Rattle.std.proofs.lemmas.Bool.{ltb-true}
+use Rattle.std.proofs.Common.{◌≡◌, ℕ, ◌≤◌, ◌<◌, ◌-◌, ◌||◌, Bool, true, false, cond, ◌&&◌, eqb, ltb, List, [], ◌∷◌, ◌++◌, length, Option, Some, Result, Ok, Err, refl, sym, ap, subst, ◌∙◌, append_assoc, ◌⊎◌, inl, inr}
+use Rattle.std.proofs.lemmas.Bool.{ltb-false, ltb-true}
 use Rattle.bk_lex.specs.Bytes.{is_blank}
 use Rattle.bk_lex.specs.Signs.{spelling, is_slash}
 use Rattle.bk_lex.specs.declared.sign.Sign.{Sign}
@@ -46,14 +46,14 @@ pub no_err : {A B : Type 0} (a : A) (f : Fault) → (let x : Result A Fault = Ok
 no_err a f e = absurd cc
 
 abbrev pub EndFaults : State → What → Fault → Type 0
-EndFaults s w g = ((g ≡ SectionTooLong) × (s.symbols < room s.last s.fed w)) ⊎ ((g ≡ BadGet) × (s.get ≡ true) × (w ≡ whats.Gap → ⊥))
+EndFaults s w g = ((g ≡ SectionTooLong) × (s.symbols < room s.last s.fed w)) ⊎ ((g ≡ BadGet) × (s.get ≡ true) × (w ≡ whats.Gap → ⊥) × (room s.last s.fed w ≤ s.symbols))
 
 get_faults : {A : Type 0} (s : State) (w : What) (g : Fault) (x : A) → (w ≡ whats.Gap → ⊥) → cond (ltb s.symbols (room s.last s.fed w)) (Err SectionTooLong) (cond s.get (Err BadGet) (Ok x)) ≡ Err g → EndFaults s w g
 get_faults s w g x n e =
     elim (picks (ltb s.symbols (room s.last s.fed w)) (Err SectionTooLong) (cond s.get (Err BadGet) (Ok x)) (Err g) e) [
       | inl p ↦ inl (sym (err_is SectionTooLong g p.1), ltb-true s.symbols (room s.last s.fed w) p.0)
       | inr p ↦ elim (picks s.get (Err BadGet) (Ok x) (Err g) p.1) [
-        | inl q ↦ inr (sym (err_is BadGet g q.1), q.0, n)
+        | inl q ↦ inr (sym (err_is BadGet g q.1), q.0, n, ltb-false s.symbols (room s.last s.fed w) p.0)
         | inr q ↦ no_err x g q.1
       ]
     ]
@@ -88,7 +88,7 @@ in_get_err QuoteEnd g e = sym (err_is BadGet g e)
 in_get_err (Name n) g e = sym (err_is BadGet g e)
 
 abbrev pub BeginFaults : State → Mode → Fault → Type 0
-BeginFaults s m g = ((g ≡ SectionTooLong) × (s.symbols < least_room s m)) ⊎ ((g ≡ BadGet) × (s.get ≡ true) × (in_get m ≡ Err BadGet))
+BeginFaults s m g = ((g ≡ SectionTooLong) × (s.symbols < least_room s m)) ⊎ ((g ≡ BadGet) × (s.get ≡ true) × (in_get m ≡ Err BadGet) × (least_room s m ≤ s.symbols))
 
 mode_err : (get : Bool) (m : Mode) (g : Fault) → mode_begun get m ≡ Err g → (get ≡ true) × (in_get m ≡ Err g)
 mode_err true m g e = (refl, e)
@@ -104,7 +104,7 @@ begun_err s m b g e =
       | inl p ↦ inl (sym (err_is SectionTooLong g p.1), ltb-true s.symbols (least_room s m) p.0)
       | inr p ↦ (let x = mode_err s.get m g (good_err (mode_begun s.get m) (λ n. state n s.bytes s.symbols s.last (s.fed || eqb b 10) s.get) g p.1) in
           let bad = in_get_err m g x.1 in
-          inr (bad, x.0, x.1 ∙ ap lexer_error bad))
+          inr (bad, x.0, x.1 ∙ ap lexer_error bad, ltb-false s.symbols (least_room s m) p.0))
     ]
 
 -- the line of the GET is told
@@ -159,18 +159,16 @@ no_header text n h front tail e is =
     let t = header_text front h is in
     n ((t.0 ++ 34 ∷ []) ++ tail) (e ∙ ap (λ (x : List ℕ). x ++ tail) t.2)
 
+-- where the string of a GET is due, neither a gap nor a string that names a header is next
+abbrev pub Stuck : List ℕ → Type 0
+Stuck text = NoGap text × NoHeader text
+
+pub stuck_misnames : (q : Putting) (line : ℕ) (text : List ℕ) → q.get ≡ Some line → Stuck text → Misnames q line text
+stuck_misnames q line text e s = record { pieces = []; rest = text; cut = refl; last = q; tokens = refl; get = e; due = s.0; other = s.1 }
+
 -- nothing
 pub nothing_misnames : (q : Putting) (line : ℕ) → q.get ≡ Some line → Misnames q line []
-nothing_misnames q line e = record {
-  pieces = [];
-  rest = [];
-  cut = refl;
-  last = q;
-  tokens = refl;
-  get = e;
-  due = no_gap [] (λ b bs x y. no_nil b bs x) (λ bs x. no_nil 47 (47 ∷ bs) x);
-  other = no_header [] (λ bs x. no_nil 34 bs x);
-}
+nothing_misnames q line e = stuck_misnames q line [] e (no_gap [] (λ b bs x y. no_nil b bs x) (λ bs x. no_nil 47 (47 ∷ bs) x), no_header [] (λ bs x. no_nil 34 bs x))
 
 -- a piece that may not begin there
 good_mode : {A : Type 0} (m n k : Mode) → (let o : Option Mode = Some m in o) ≡ Some n → in_get n ≡ Ok k → in_get m ≡ Err BadGet → A
@@ -179,17 +177,14 @@ good_mode m n k e f h = no_err k BadGet (sym f ∙ ap in_get (sym (mode_is m n e
     mode_is : (m n : Mode) → (let o : Option Mode = Some m in o) ≡ Some n → m ≡ n
     mode_is m n e = cc
 
+pub first_stuck : (c : ℕ) (more : List ℕ) (m : Mode) → fresh c ≡ Some m → in_get m ≡ Err BadGet → Stuck (c ∷ more)
+first_stuck c more m f bad = (
+  no_gap (c ∷ more) (λ b bs x y. good_mode m Blank Blank (sym f ∙ ap fresh (heads c b more bs x).0 ∙ blank_goes b y) refl bad) (λ bs x. good_mode m (Mark Slash) (Mark Slash) (sym f ∙ ap fresh (heads c 47 more (47 ∷ bs) x).0) refl bad),
+  no_header (c ∷ more) (λ bs x. good_mode m (Text 0) (Name 0) (sym f ∙ ap fresh (heads c 34 more bs x).0) refl bad),
+)
+
 pub first_misnames : (q : Putting) (line c : ℕ) (more : List ℕ) (m : Mode) → q.get ≡ Some line → fresh c ≡ Some m → in_get m ≡ Err BadGet → Misnames q line (c ∷ more)
-first_misnames q line c more m e f bad = record {
-  pieces = [];
-  rest = c ∷ more;
-  cut = refl;
-  last = q;
-  tokens = refl;
-  get = e;
-  due = no_gap (c ∷ more) (λ b bs x y. good_mode m Blank Blank (sym f ∙ ap fresh (heads c b more bs x).0 ∙ blank_goes b y) refl bad) (λ bs x. good_mode m (Mark Slash) (Mark Slash) (sym f ∙ ap fresh (heads c 47 more (47 ∷ bs) x).0) refl bad);
-  other = no_header (c ∷ more) (λ bs x. good_mode m (Text 0) (Name 0) (sym f ∙ ap fresh (heads c 34 more bs x).0) refl bad);
-}
+first_misnames q line c more m e f bad = stuck_misnames q line (c ∷ more) e (first_stuck c more m f bad)
 
 -- a `/` that begins no comment
 slash_is : (s : Sign) → is_slash s ≡ true → spelling s ≡ 47 ∷ []
@@ -206,23 +201,18 @@ slash_reads (Mark s) t g n h = (h ∙ slash_is s g, λ c e f. no_ends s c g e f)
     no_ends s c g e f = absurd (let z : false ≡ true = g in cc)
 slash_reads m t g n h = absurd g
 
-pub slash_misnames : (q : Putting) (line : ℕ) (t rest : List ℕ) → q.get ≡ Some line → t ≡ 47 ∷ [] → ((bs : List ℕ) → rest ≡ 47 ∷ bs → ⊥) → Misnames q line (t ++ rest)
-slash_misnames q line t rest e is n = subst (λ (x : List ℕ). Misnames q line (x ++ rest)) (sym is) record {
-  pieces = [];
-  rest = 47 ∷ rest;
-  cut = refl;
-  last = q;
-  tokens = refl;
-  get = e;
-  due = no_gap (47 ∷ rest) (λ b bs x y. no_blank (ap is_blank (heads 47 b rest bs x).0 ∙ y)) (λ bs x. n bs (heads 47 47 rest (47 ∷ bs) x).1);
-  other = no_header (47 ∷ rest) (λ bs x. no_quote (heads 47 34 rest bs x).0);
-}
+pub slash_stuck : (t rest : List ℕ) → t ≡ 47 ∷ [] → ((bs : List ℕ) → rest ≡ 47 ∷ bs → ⊥) → Stuck (t ++ rest)
+slash_stuck t rest is n =
+    subst (λ (x : List ℕ). Stuck (x ++ rest)) (sym is) (no_gap (47 ∷ rest) (λ b bs x y. no_blank (ap is_blank (heads 47 b rest bs x).0 ∙ y)) (λ bs x. n bs (heads 47 47 rest (47 ∷ bs) x).1), no_header (47 ∷ rest) (λ bs x. no_quote (heads 47 34 rest bs x).0))
   where
     no_blank : false ≡ true → ⊥
     no_blank z = cc
 
     no_quote : (let x : ℕ = 47 in x) ≡ 34 → ⊥
     no_quote z = cc
+
+pub slash_misnames : (q : Putting) (line : ℕ) (t rest : List ℕ) → q.get ≡ Some line → t ≡ 47 ∷ [] → ((bs : List ℕ) → rest ≡ 47 ∷ bs → ⊥) → Misnames q line (t ++ rest)
+slash_misnames q line t rest e is n = stuck_misnames q line (t ++ rest) e (slash_stuck t rest is n)
 
 -- a string that names no header
 names_on : (u tail : List ℕ) (n : ℕ) (h : Header) → walk (Name 0) u ≡ Goes (Name n) → next (Name n) 34 ≡ Names h → walk (Name 0) (u ++ 34 ∷ tail) ≡ Names h
@@ -233,17 +223,9 @@ bad_on : (f more : List ℕ) (c n : ℕ) → walk (Name 0) f ≡ Goes (Name n) �
 unfolding walk
 bad_on f more c n w x = walk-append (Name 0) (Name n) f (c ∷ more) w ∙ ap (λ (y : Next). and_then y (λ k. walk k more)) x
 
-pub string_misnames : (q : Putting) (line : ℕ) (t : List ℕ) (m : Mode) (c : ℕ) (more : List ℕ) → q.get ≡ Some line → Naming t m → next m c ≡ Bad BadGet → Misnames q line (t ++ c ∷ more)
-string_misnames q line t m c more e d x = subst (λ (y : List ℕ). Misnames q line (y ++ c ∷ more)) (sym d.1) record {
-  pieces = [];
-  rest = 34 ∷ d.0 ++ c ∷ more;
-  cut = refl;
-  last = q;
-  tokens = refl;
-  get = e;
-  due = no_gap (34 ∷ d.0 ++ c ∷ more) (λ b bs y z. no_blank (ap is_blank (heads 34 b (d.0 ++ c ∷ more) bs y).0 ∙ z)) (λ bs y. no_slash (heads 34 47 (d.0 ++ c ∷ more) (47 ∷ bs) y).0);
-  other = λ h front tail y is. clash h front tail y (header_text front h is);
-}
+pub string_stuck : (t : List ℕ) (m : Mode) (c : ℕ) (more : List ℕ) → Naming t m → next m c ≡ Bad BadGet → Stuck (t ++ c ∷ more)
+string_stuck t m c more d x =
+    subst (λ (y : List ℕ). Stuck (y ++ c ∷ more)) (sym d.1) (no_gap (34 ∷ d.0 ++ c ∷ more) (λ b bs y z. no_blank (ap is_blank (heads 34 b (d.0 ++ c ∷ more) bs y).0 ∙ z)) (λ bs y. no_slash (heads 34 47 (d.0 ++ c ∷ more) (47 ∷ bs) y).0), λ h front tail y is. clash h front tail y (header_text front h is))
   where
     no_blank : false ≡ true → ⊥
     no_blank z = cc
@@ -258,3 +240,6 @@ string_misnames q line t m c more e d x = subst (λ (y : List ℕ). Misnames q l
     clash h front tail y t =
         let whole : d.0 ++ c ∷ more ≡ t.0 ++ 34 ∷ tail = (heads 34 34 (d.0 ++ c ∷ more) ((t.0 ++ 34 ∷ []) ++ tail) (y ∙ ap (λ (w : List ℕ). w ++ tail) t.2)).1 ∙ append_assoc t.0 (34 ∷ []) tail in
         two h (sym (bad_on d.0 more c (length d.0) d.6 (ap (λ (k : Mode). next k c) (sym d.2) ∙ x)) ∙ ap (walk (Name 0)) whole ∙ names_on t.0 tail t.1 h t.3 t.4)
+
+pub string_misnames : (q : Putting) (line : ℕ) (t : List ℕ) (m : Mode) (c : ℕ) (more : List ℕ) → q.get ≡ Some line → Naming t m → next m c ≡ Bad BadGet → Misnames q line (t ++ c ∷ more)
+string_misnames q line t m c more e d x = stuck_misnames q line (t ++ c ∷ more) e (string_stuck t m c more d x)

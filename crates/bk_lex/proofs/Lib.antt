@@ -17,5 +17,13 @@ pub mod FaultBegins
 pub mod GetFaults
 pub mod LongFaults
 pub mod Faulty
+pub mod FaultWalks
+pub mod Faultless
+pub mod Reach
+pub mod Continue
+pub mod Lowest
+pub mod BesideGet
+pub mod Ranks
+pub mod Earliest
 pub mod Certain
 pub mod Letters

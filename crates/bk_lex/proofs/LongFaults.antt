@@ -65,7 +65,7 @@ past_here t m c more w n k front tail e is longest =
         let z : d ∷ v ≡ [] = longest whole.0 (d ∷ v) (c ∷ more) g longer in
         cc
 
-spelled_some : (k : Sort) → Spelled k [] → ⊥
+pub spelled_some : (k : Sort) → Spelled k [] → ⊥
 unfolding walk_piece
 spelled_some k h = spelled_no_end k [] h refl
 
@@ -115,7 +115,7 @@ passes_behind from line total t c more m l e w x k s d =
       at = e;
     }
 
-naming_walk : (t : List ℕ) (m : Mode) → (d : Naming t m) → walk_piece t ≡ nexts.Goes (Text (length d.0))
+pub naming_walk : (t : List ℕ) (m : Mode) → (d : Naming t m) → walk_piece t ≡ nexts.Goes (Text (length d.0))
 unfolding walk_piece walk
 naming_walk t m d =
     ap walk_piece d.1 ∙ (elim (holds_go d.0 (length d.0) d.5) [

@@ -1,7 +1,7 @@
 -- The machine goes on by a byte: within a piece, to the next piece, or behind the string of a GET.
 use Rattle.std.proofs.Common.{◌≡◌, ℕ, ◌+◌, ◌-◌, ◌*◌, ◌≤◌, Bool, true, false, cond, ◌&&◌, ◌||◌, not, eqb, leb, ltb, List, [], ◌∷◌, ◌++◌, length, Option, Some, None, Result, Ok, Err, refl, sym, ap, subst, ◌∙◌, arith, append_assoc, ◌⊎◌, inl, inr}
 use Rattle.std.proofs.lemmas.Bool.{ltb-false}
-use Rattle.std.proofs.lemmas.List.{length-append}
+use Rattle.std.proofs.lemmas.List.{append-nil, length-append}
 use Rattle.bk_base.specs.declared.source_fault.SourceFault.{SourceFault}
 use Rattle.bk_lex.specs.Symbol.{Symbol}
 use Rattle.bk_lex.specs.declared.token.Kind.TheVariants as kinds
@@ -56,19 +56,46 @@ InDue (Some g) m = OnlyGap m
 
 -- where the machine is in a piece
 abbrev pub Here : List ℕ → Mode → List ℕ → Option ℕ → Type 0
-Here t m held get = ((t ≡ []) × (m ≡ Blank)) ⊎ (((held ≡ t) × (walk_piece t ≡ nexts.Goes m) × (is_dot m ≡ false) × InDue get m) ⊎ (Naming t m × ((g : ℕ) × (get ≡ Some g))))
+Here t m held get = ((t ≡ []) × (m ≡ Blank)) ⊎ (((held ≡ t) × (walk_piece t ≡ nexts.Goes m) × (is_dot m ≡ false) × InDue get m) ⊎ (Naming t m × ((g : ℕ) × (get ≡ Some g)) × (held ≡ t)))
 
 -- how many bytes came, of all and of those that a section may have
 abbrev pub Counted : ℕ → ℕ → List ℕ → ℕ → Type 0
 Counted bytes used rest total = (used + length rest ≡ total) × (bytes + used ≡ 1048576)
 
--- what is concluded of a text from what the run gives of it: of a whole piece and what follows, and of the `.`
-pub record Concludes (C : Putting → List ℕ → Type 0) (X : Result Section SourceFault) (total : ℕ) : Type 0 where
-  pub before : (q q2 : Putting) (k : Sort) (t rest : List ℕ) → IsPiece k t → NoLonger t rest → put q (record { sort = k; text = t }) ≡ Some q2 → C q2 rest → C q (t ++ rest)
-  pub at_dot : (more : List ℕ) (q : Putting) (out : List Symbol) (x : State) (k line gl used : ℕ) → Agrees q out x (at line gl) → x.get ≡ false → Ok (section out (used + 1) true line) ≡ X → Counted k (used + 1) more total → C q (46 ∷ more)
+-- the reading behind a byte that begins a piece
+abbrev pub begun_at : List Symbol → State → Mode → ℕ → ℕ → ℕ → ℕ → ℕ → Reading
+begun_at out x n k c line gl used = reading out (state n k x.symbols x.last (x.fed || eqb c 10) x.get) (c ∷ []) (at (line_after c line) gl) (used + 1)
 
-abbrev pub Follows : (Putting → List ℕ → Type 0) → Result Section SourceFault → ℕ → List ℕ → Type 0
-Follows C X total rest = (q : Putting) (t : List ℕ) (r : Reading) → Here t r.state.mode r.held q.get → Agrees (seen q t) r.out r.state r.place → run r rest ≡ X → Counted r.state.bytes r.used rest total → C q (t ++ rest)
+-- what is concluded of a whole piece and what follows
+abbrev pub Before : (Putting → List ℕ → Type 0) → Type 0
+Before C = (q q2 : Putting) (k : Sort) (t rest : List ℕ) → IsPiece k t → NoLonger t rest → put q (record { sort = k; text = t }) ≡ Some q2 → C q2 rest → C q (t ++ rest)
+
+-- the same of a piece that is the longest also where the text goes on
+abbrev pub BeforeAny : (Putting → List ℕ → Type 0) → Type 0
+BeforeAny C = (q q2 : Putting) (k : Sort) (t rest : List ℕ) → IsPiece k t → ((tail : List ℕ) → NoLonger t (rest ++ tail)) → put q (record { sort = k; text = t }) ≡ Some q2 → C q2 rest → C q (t ++ rest)
+
+pub before_any : (C : Putting → List ℕ → Type 0) → Before C → BeforeAny C
+before_any C b q q2 k t rest is longest e h = b q q2 k t rest is (subst (λ (x : List ℕ). NoLonger t x) (append-nil rest) (longest [])) e h
+
+-- what is concluded of a text from what is known of the run over it, between bytes and behind one: of a whole piece and
+-- what follows, and of the `.`
+pub record Concludes (C : Putting → List ℕ → Type 0) (G B : Reading → List ℕ → Type 0) (total : ℕ) : Type 0 where
+  pub before : BeforeAny C
+  pub goes : (p : Reading) (more : List ℕ) → is_dot p.state.mode ≡ false → B p more → G p more
+  pub at_dot : (more : List ℕ) (q : Putting) (out : List Symbol) (x : State) (k line gl used : ℕ) → Agrees q out x (at line gl) → x.get ≡ false → B (begun_at out x Dot k 46 line gl used) more → Counted k (used + 1) more total → C q (46 ∷ more)
+
+abbrev pub Follows : (Putting → List ℕ → Type 0) → (Reading → List ℕ → Type 0) → ℕ → List ℕ → Type 0
+Follows C G total rest = (q : Putting) (t : List ℕ) (r : Reading) → Here t r.state.mode r.held q.get → Agrees (seen q t) r.out r.state r.place → G r rest → Counted r.state.bytes r.used rest total → C q (t ++ rest)
+
+-- that the run comes to an answer
+abbrev pub RunsTo : Result Section SourceFault → Reading → List ℕ → Type 0
+RunsTo X r rest = run r rest ≡ X
+
+abbrev pub BehindTo : Result Section SourceFault → Reading → List ℕ → Type 0
+BehindTo X p more = behind p more ≡ X
+
+pub goes_to : (X : Result Section SourceFault) (p : Reading) (more : List ℕ) → is_dot p.state.mode ≡ false → BehindTo X p more → RunsTo X p more
+goes_to X p more d h = ap (λ (b : Bool). cond b (Ok (section p.out p.used true p.place.line)) (run p more)) (sym d) ∙ h
 
 pub seen_get : (q : Putting) (t : List ℕ) → (seen q t).get ≡ q.get
 seen_get q [] = refl
@@ -113,15 +140,11 @@ begun_walk : (c : ℕ) (m : Mode) → fresh c ≡ Some m → walk_piece (c ∷ [
 unfolding walk walk_piece
 begun_walk c m e = rw e refl
 
--- the reading behind that byte
-abbrev begun_at : List Symbol → State → Mode → ℕ → ℕ → ℕ → ℕ → ℕ → Reading
-begun_at out x n k c line gl used = reading out (state n k x.symbols x.last (x.fed || eqb c 10) x.get) (c ∷ []) (at (line_after c line) gl) (used + 1)
-
-go_sound : (C : Putting → List ℕ → Type 0) (X : Result Section SourceFault) (total : ℕ) (g0 : Concludes C X total) (c : ℕ) (more : List ℕ) (ih : Follows C X total more) (q : Putting) (out : List Symbol) (x : State) (n : Mode) (k line gl used : ℕ) → Agrees q out x (at line gl) → Here (c ∷ []) n (c ∷ []) q.get → is_dot n ≡ false
-    → behind (begun_at out x n k c line gl used) more ≡ X → Counted k (used + 1) more total → C q (c ∷ more)
-go_sound C X total g0 c more ih q out x n k line gl used a here d h u =
+go_sound : (C : Putting → List ℕ → Type 0) (G B : Reading → List ℕ → Type 0) (total : ℕ) (g0 : Concludes C G B total) (c : ℕ) (more : List ℕ) (ih : Follows C G total more) (q : Putting) (out : List Symbol) (x : State) (n : Mode) (k line gl used : ℕ) → Agrees q out x (at line gl) → Here (c ∷ []) n (c ∷ []) q.get → is_dot n ≡ false
+    → B (begun_at out x n k c line gl used) more → Counted k (used + 1) more total → C q (c ∷ more)
+go_sound C G B total g0 c more ih q out x n k line gl used a here d h u =
     ih q (c ∷ []) (begun_at out x n k c line gl used) here (begun_agrees q out x line gl n k c a)
-    (ap (λ (b : Bool). cond b (Ok (section out (used + 1) true (line_after c line))) (run (begun_at out x n k c line gl used) more)) (sym d) ∙ h) u
+    (g0.goes (begun_at out x n k c line gl used) more d h) u
 
 dot_is : (m : Mode) → is_dot m ≡ true → m ≡ Dot
 dot_is Dot e = refl
@@ -152,11 +175,11 @@ get_due None get line h e = absurd (let z : false ≡ true = sym h ∙ e in cc)
 get_due (Some g) get line h e = (g, refl)
 
 -- the `.` that ends the section
-dot_at : (C : Putting → List ℕ → Type 0) (X : Result Section SourceFault) (total : ℕ) (g0 : Concludes C X total) (c : ℕ) (more : List ℕ) (q : Putting) (out : List Symbol) (x : State) (k line gl used : ℕ) → Agrees q out x (at line gl) → x.get ≡ false → c ≡ 46
-    → Ok (section out (used + 1) true (line_after c line)) ≡ X → Counted k (used + 1) more total → C q (c ∷ more)
-dot_at C X total g0 c more q out x k line gl used a g e h u =
-    let same_line : line_after c line ≡ line = ap (λ (b : ℕ). line_after b line) e in
-    subst (λ (b : ℕ). C q (b ∷ more)) (sym e) (g0.at_dot more q out x k line gl used a g (ap (λ (l : ℕ). Ok (section out (used + 1) true l)) (sym same_line) ∙ h) u)
+dot_at : (C : Putting → List ℕ → Type 0) (G B : Reading → List ℕ → Type 0) (total : ℕ) (g0 : Concludes C G B total) (c : ℕ) (more : List ℕ) (q : Putting) (out : List Symbol) (x : State) (n : Mode) (k line gl used : ℕ) → Agrees q out x (at line gl) → x.get ≡ false → n ≡ Dot → c ≡ 46
+    → B (begun_at out x n k c line gl used) more → Counted k (used + 1) more total → C q (c ∷ more)
+dot_at C G B total g0 c more q out x n k line gl used a g d e h u =
+    let h2 : B (begun_at out x Dot k 46 line gl used) more = subst (λ (b : ℕ). B (begun_at out x Dot k b line gl used) more) e (subst (λ (m : Mode). B (begun_at out x m k c line gl used) more) d h) in
+    subst (λ (b : ℕ). C q (b ∷ more)) (sym e) (g0.at_dot more q out x k line gl used a g h2 u)
 
 pub head_is : (b c : ℕ) (xs ys : List ℕ) → b ∷ xs ≡ c ∷ ys → b ≡ c
 head_is b c xs ys e = cc
@@ -169,15 +192,16 @@ gap_due : (o : Option ℕ) (m : Mode) → OnlyGap m → InDue o m
 gap_due None m h = tt
 gap_due (Some g) m h = h
 
-free_sound : (C : Putting → List ℕ → Type 0) (X : Result Section SourceFault) (total : ℕ) (g0 : Concludes C X total) (c : ℕ) (more : List ℕ) (ih : Follows C X total more) (q : Putting) (out : List Symbol) (x : State) (n : Mode) (k line gl used : ℕ) → Agrees q out x (at line gl) → fresh c ≡ Some n → x.get ≡ false
-    → behind (begun_at out x n k c line gl used) more ≡ X → Counted k (used + 1) more total → C q (c ∷ more)
-free_sound C X total g0 c more ih q out x n k line gl used a f g h u =
-    elim (picks (is_dot n) (Ok (section out (used + 1) true (line_after c line))) (run (begun_at out x n k c line gl used) more) X h) [
-      | inl p ↦ (let is = dot_is n p.0 in
-          let reads : c ∷ [] ≡ 46 ∷ [] = subst (λ (m : Mode). Reads m (c ∷ [])) is (fresh_reads c n f) in
-          dot_at C X total g0 c more q out x k line gl used a g (head_is c 46 [] [] reads) p.1 u)
-      | inr p ↦ go_sound C X total g0 c more ih q out x n k line gl used a (inr (inl (refl, begun_walk c n f, p.0, free_due q.get x.get gl n a.get g))) p.0 h u
-    ]
+free_sound : (C : Putting → List ℕ → Type 0) (G B : Reading → List ℕ → Type 0) (total : ℕ) (g0 : Concludes C G B total) (c : ℕ) (more : List ℕ) (ih : Follows C G total more) (q : Putting) (out : List Symbol) (x : State) (n : Mode) (k line gl used : ℕ) → Agrees q out x (at line gl) → fresh c ≡ Some n → x.get ≡ false
+    → B (begun_at out x n k c line gl used) more → Counted k (used + 1) more total → C q (c ∷ more)
+free_sound C G B total g0 c more ih q out x n k line gl used a f g h u = look (is_dot n) refl
+  where
+    look : (d : Bool) → is_dot n ≡ d → C q (c ∷ more)
+    look true d =
+        let is = dot_is n d in
+        let reads : c ∷ [] ≡ 46 ∷ [] = subst (λ (m : Mode). Reads m (c ∷ [])) is (fresh_reads c n f) in
+        dot_at C G B total g0 c more q out x n k line gl used a g is (head_is c 46 [] [] reads) h u
+    look false d = go_sound C G B total g0 c more ih q out x n k line gl used a (inr (inl (refl, begun_walk c n f, d, free_due q.get x.get gl n a.get g))) d h u
 
 ok_mode : (m n : Mode) → (let r : Result Mode Fault = Ok m in r) ≡ Ok n → m ≡ n
 ok_mode m n e = cc
@@ -216,83 +240,83 @@ in_get_ok c (Name k) n f e = absurd (no_mode BadGet n e)
 naming_at : (c : ℕ) (n : Mode) → c ≡ 34 → n ≡ Name 0 → Naming (c ∷ []) n
 naming_at c n e f = subst (λ (x : ℕ). Naming (x ∷ []) n) (sym e) (subst (λ (m : Mode). Naming (34 ∷ []) m) (sym f) naming_begins)
 
-due_sound : (C : Putting → List ℕ → Type 0) (X : Result Section SourceFault) (total : ℕ) (g0 : Concludes C X total) (c : ℕ) (more : List ℕ) (ih : Follows C X total more) (q : Putting) (out : List Symbol) (x : State) (m n : Mode) (k line gl used : ℕ) → Agrees q out x (at line gl) → fresh c ≡ Some m → x.get ≡ true → in_get m ≡ Ok n
-    → behind (begun_at out x n k c line gl used) more ≡ X → Counted k (used + 1) more total → C q (c ∷ more)
-due_sound C X total g0 c more ih q out x m n k line gl used a f g e h u =
+due_sound : (C : Putting → List ℕ → Type 0) (G B : Reading → List ℕ → Type 0) (total : ℕ) (g0 : Concludes C G B total) (c : ℕ) (more : List ℕ) (ih : Follows C G total more) (q : Putting) (out : List Symbol) (x : State) (m n : Mode) (k line gl used : ℕ) → Agrees q out x (at line gl) → fresh c ≡ Some m → x.get ≡ true → in_get m ≡ Ok n
+    → B (begun_at out x n k c line gl used) more → Counted k (used + 1) more total → C q (c ∷ more)
+due_sound C G B total g0 c more ih q out x m n k line gl used a f g e h u =
     elim (in_get_ok c m n f e) [
-      | inl p ↦ go_sound C X total g0 c more ih q out x n k line gl used a (inr (inl (refl, begun_walk c m f ∙ ap (λ (y : Mode). nexts.Goes y) (sym p.0), p.1, gap_due q.get n p.2))) p.1 h u
-      | inr p ↦ go_sound C X total g0 c more ih q out x n k line gl used a (inr (inr (naming_at c n p.0 p.1, get_due q.get x.get gl a.get g))) (ap is_dot p.1) h u
+      | inl p ↦ go_sound C G B total g0 c more ih q out x n k line gl used a (inr (inl (refl, begun_walk c m f ∙ ap (λ (y : Mode). nexts.Goes y) (sym p.0), p.1, gap_due q.get n p.2))) p.1 h u
+      | inr p ↦ go_sound C G B total g0 c more ih q out x n k line gl used a (inr (inr (naming_at c n p.0 p.1, get_due q.get x.get gl a.get g, refl))) (ap is_dot p.1) h u
     ]
 
-begin_sound : (C : Putting → List ℕ → Type 0) (X : Result Section SourceFault) (total : ℕ) (g0 : Concludes C X total) (get : Bool) (c : ℕ) (more : List ℕ) (ih : Follows C X total more) (q : Putting) (out : List Symbol) (x : State) (m n : Mode) (k line gl used : ℕ) → Agrees q out x (at line gl) → fresh c ≡ Some m → x.get ≡ get → mode_begun get m ≡ Ok n
-    → behind (begun_at out x n k c line gl used) more ≡ X → Counted k (used + 1) more total → C q (c ∷ more)
-begin_sound C X total g0 true c more ih q out x m n k line gl used a f g e h u = due_sound C X total g0 c more ih q out x m n k line gl used a f g e h u
-begin_sound C X total g0 false c more ih q out x m n k line gl used a f g e h u =
-    free_sound C X total g0 c more ih q out x n k line gl used a (f ∙ ap (λ (y : Mode). Some y) (ok_mode m n e)) g h u
+begin_sound : (C : Putting → List ℕ → Type 0) (G B : Reading → List ℕ → Type 0) (total : ℕ) (g0 : Concludes C G B total) (get : Bool) (c : ℕ) (more : List ℕ) (ih : Follows C G total more) (q : Putting) (out : List Symbol) (x : State) (m n : Mode) (k line gl used : ℕ) → Agrees q out x (at line gl) → fresh c ≡ Some m → x.get ≡ get → mode_begun get m ≡ Ok n
+    → B (begun_at out x n k c line gl used) more → Counted k (used + 1) more total → C q (c ∷ more)
+begin_sound C G B total g0 true c more ih q out x m n k line gl used a f g e h u = due_sound C G B total g0 c more ih q out x m n k line gl used a f g e h u
+begin_sound C G B total g0 false c more ih q out x m n k line gl used a f g e h u =
+    free_sound C G B total g0 c more ih q out x n k line gl used a (f ∙ ap (λ (y : Mode). Some y) (ok_mode m n e)) g h u
 
 -- ---- one byte
 
-begun_ok : (st : State) (m : Mode) (c : ℕ) (x : State) → begun st m c ≡ Ok x → (n : Mode) × (mode_begun st.get m ≡ Ok n) × (state n st.bytes st.symbols st.last (st.fed || eqb c 10) st.get ≡ x)
+begun_ok : (st : State) (m : Mode) (c : ℕ) (x : State) → begun st m c ≡ Ok x → (n : Mode) × (mode_begun st.get m ≡ Ok n) × (state n st.bytes st.symbols st.last (st.fed || eqb c 10) st.get ≡ x) × (least_room st m ≤ st.symbols)
 begun_ok st m c x e =
     elim (picks (ltb st.symbols (least_room st m)) (Err SectionTooLong) _ (done x) e) [
       | inl p ↦ absurd (no_done SectionTooLong x p.1)
       | inr p ↦ (let b = ok_bind (mode_begun st.get m) (λ n. done (state n st.bytes st.symbols st.last (st.fed || eqb c 10) st.get)) x p.1 in
-          (b.0, b.1, done_is _ x b.2))
+          (b.0, b.1, done_is _ x b.2, ltb-false st.symbols (least_room st m) p.0))
     ]
 
-abbrev Opened : State → ℕ → Step → Type 0
+abbrev pub Opened : State → ℕ → Step → Type 0
 Opened st c u = (m : Mode) × (e : Ended) × (n : Mode) × (fresh c ≡ Some m) × (ended st ≡ Ok e) × (mode_begun e.state.get m ≡ Ok n)
-    × (stepped (state n e.state.bytes e.state.symbols e.state.last (e.state.fed || eqb c 10) e.state.get) (acts.Begins e.given) ≡ u)
+    × (stepped (state n e.state.bytes e.state.symbols e.state.last (e.state.fed || eqb c 10) e.state.get) (acts.Begins e.given) ≡ u) × (least_room e.state m ≤ e.state.symbols)
 
-opened_ok : (st : State) (c : ℕ) (u : Step) (o : Option Mode) → fresh c ≡ o → opened_as st c o ≡ Ok u → Opened st c u
+pub opened_ok : (st : State) (c : ℕ) (u : Step) (o : Option Mode) → fresh c ≡ o → opened_as st c o ≡ Ok u → Opened st c u
 opened_ok st c u None f e = absurd (no_done BadByte u e)
 opened_ok st c u (Some m) f e =
     let a = ok_bind (ended st) (λ e. begun e.state m c >>= λ t. done (stepped t (acts.Begins e.given))) u e in
     let b = ok_bind (begun a.0.state m c) (λ t. done (stepped t (acts.Begins a.0.given))) u a.2 in
     let d = begun_ok a.0.state m c b.0 b.1 in
-    (m, a.0, d.0, f, a.1, d.1, ap (λ (t : State). stepped t (acts.Begins a.0.given)) d.2 ∙ done_is _ u b.2)
+    (m, a.0, d.0, f, a.1, d.1, ap (λ (t : State). stepped t (acts.Begins a.0.given)) d.2 ∙ done_is _ u b.2, d.3)
 
 -- the reading behind a byte and what the state came to
 
-abbrev StepGives : Reading → ℕ → List ℕ → Step → Result Section SourceFault → Type 0
-StepGives r c more u X = behind (read r c (fewer r.state.bytes u).state (fewer r.state.bytes u).act) more ≡ X
+abbrev StepGives : Reading → ℕ → List ℕ → Step → (Reading → List ℕ → Type 0) → Type 0
+StepGives r c more u B = B (read r c (fewer r.state.bytes u).state (fewer r.state.bytes u).act) more
 
 -- a byte that ends a piece and begins another, or ends the section
-pub piece_before : (C : Putting → List ℕ → Type 0) (X : Result Section SourceFault) (total : ℕ) (g0 : Concludes C X total) (q : Putting) (t : List ℕ) (r : Reading) (c : ℕ) (more : List ℕ) (e : Ended) → Here t r.state.mode r.held q.get → next r.state.mode c ≡ nexts.Ends → (a : AfterPiece (seen q t) r.held (piece r.state.mode) r.out r.place e)
+pub piece_before : (C : Putting → List ℕ → Type 0) (G B : Reading → List ℕ → Type 0) (total : ℕ) (g0 : Concludes C G B total) (q : Putting) (t : List ℕ) (r : Reading) (c : ℕ) (more : List ℕ) (e : Ended) → Here t r.state.mode r.held q.get → next r.state.mode c ≡ nexts.Ends → (a : AfterPiece (seen q t) r.held (piece r.state.mode) r.out r.place e)
     → C a.0 (c ∷ more) → C q (t ++ c ∷ more)
-piece_before C X total g0 q t r c more e (inl d) x a h =
+piece_before C G B total g0 q t r c more e (inl d) x a h =
     let gap : put_as q r.held (piece Blank) q.get ≡ Some a.0 = subst (λ (m : Mode). put_as q r.held (piece m) q.get ≡ Some a.0) d.1 (subst (λ (y : List ℕ). put_as (seen q y) r.held (piece r.state.mode) (seen q y).get ≡ Some a.0) d.0 a.1) in
     let same = some_put q a.0 gap in
     subst (λ (y : List ℕ). C q (y ++ c ∷ more)) (sym d.0) (subst (λ (y : Putting). C y (c ∷ more)) (sym same) h)
-piece_before C X total g0 q t r c more e (inr (inl d)) x a h =
+piece_before C G B total g0 q t r c more e (inr (inl d)) x a h =
     let reads = piece_reads t r.state.mode d.1 in
     let w = whole_at_end r.state.mode c t reads x in
-    g0.before q a.0 w.0 t (c ∷ more) (reads_piece r.state.mode w.0 t reads w.1) (ends_longest r.state.mode t c more d.1 x) (piece_put q t r.held r.state.mode w.0 a.0 d.0 (no_dot_sort r.state.mode w.0 d.2 w.1) (piece_is r.state.mode w.0 t reads w.1) a.1) h
-piece_before C X total g0 q t r c more e (inr (inr d)) x a h = absurd (naming_step t r.state.mode c d.0 nexts.Ends x)
+    g0.before q a.0 w.0 t (c ∷ more) (reads_piece r.state.mode w.0 t reads w.1) (λ tail. ends_longest r.state.mode t c (more ++ tail) d.1 x) (piece_put q t r.held r.state.mode w.0 a.0 d.0 (no_dot_sort r.state.mode w.0 d.2 w.1) (piece_is r.state.mode w.0 t reads w.1) a.1) h
+piece_before C G B total g0 q t r c more e (inr (inr d)) x a h = absurd (naming_step t r.state.mode c d.0 nexts.Ends x)
 
 -- the same at the text's end
-pub end_before : (C : Putting → List ℕ → Type 0) (X : Result Section SourceFault) (total : ℕ) (g0 : Concludes C X total) (q : Putting) (t : List ℕ) (r : Reading) (e : Ended) → Here t r.state.mode r.held q.get → end_fault r.state.mode ≡ None
+pub end_before : (C : Putting → List ℕ → Type 0) (b0 : Before C) (q : Putting) (t : List ℕ) (r : Reading) (e : Ended) → Here t r.state.mode r.held q.get → end_fault r.state.mode ≡ None
     → (a : AfterPiece (seen q t) r.held (piece r.state.mode) r.out r.place e) → C a.0 [] → C q (t ++ [])
-end_before C X total g0 q t r e (inl d) f a h =
+end_before C b0 q t r e (inl d) f a h =
     let gap : put_as q r.held (piece Blank) q.get ≡ Some a.0 = subst (λ (m : Mode). put_as q r.held (piece m) q.get ≡ Some a.0) d.1 (subst (λ (x : List ℕ). put_as (seen q x) r.held (piece r.state.mode) (seen q x).get ≡ Some a.0) d.0 a.1) in
     let same = some_put q a.0 gap in
     subst (λ (x : List ℕ). C q (x ++ [])) (sym d.0) (subst (λ (x : Putting). C x []) (sym same) h)
-end_before C X total g0 q t r e (inr (inl d)) f a h =
+end_before C b0 q t r e (inr (inl d)) f a h =
     let reads = piece_reads t r.state.mode d.1 in
     let w = whole_if_no_fault r.state.mode t reads f in
-    g0.before q a.0 w.0 t [] (reads_piece r.state.mode w.0 t reads w.1) (nothing_longest t) (piece_put q t r.held r.state.mode w.0 a.0 d.0 (no_dot_sort r.state.mode w.0 d.2 w.1) (piece_is r.state.mode w.0 t reads w.1) a.1) h
-end_before C X total g0 q t r e (inr (inr d)) f a h = absurd (let z : end_fault (Name (length d.0.0)) ≡ None = subst (λ (m : Mode). end_fault m ≡ None) d.0.2 f in cc)
+    b0 q a.0 w.0 t [] (reads_piece r.state.mode w.0 t reads w.1) (nothing_longest t) (piece_put q t r.held r.state.mode w.0 a.0 d.0 (no_dot_sort r.state.mode w.0 d.2 w.1) (piece_is r.state.mode w.0 t reads w.1) a.1) h
+end_before C b0 q t r e (inr (inr d)) f a h = absurd (let z : end_fault (Name (length d.0.0)) ≡ None = subst (λ (m : Mode). end_fault m ≡ None) d.0.2 f in cc)
 
-ends_sound : (C : Putting → List ℕ → Type 0) (X : Result Section SourceFault) (total : ℕ) (g0 : Concludes C X total) (c : ℕ) (more : List ℕ) (ih : Follows C X total more) (q : Putting) (t : List ℕ) (r : Reading) (u : Step) → Here t r.state.mode r.held q.get → Agrees (seen q t) r.out r.state r.place → next r.state.mode c ≡ nexts.Ends
-    → opened r.state c ≡ Ok u → StepGives r c more u X → Counted (r.state.bytes - 1) (r.used + 1) more total → C q (t ++ c ∷ more)
-ends_sound C X total g0 c more ih q t r u here a x o h l =
+ends_sound : (C : Putting → List ℕ → Type 0) (G B : Reading → List ℕ → Type 0) (total : ℕ) (g0 : Concludes C G B total) (c : ℕ) (more : List ℕ) (ih : Follows C G total more) (q : Putting) (t : List ℕ) (r : Reading) (u : Step) → Here t r.state.mode r.held q.get → Agrees (seen q t) r.out r.state r.place → next r.state.mode c ≡ nexts.Ends
+    → opened r.state c ≡ Ok u → StepGives r c more u B → Counted (r.state.bytes - 1) (r.used + 1) more total → C q (t ++ c ∷ more)
+ends_sound C G B total g0 c more ih q t r u here a x o h l =
     let p = opened_ok r.state c u (fresh c) refl o in
     let e = p.1 in
     let after = ended_agrees (piece r.state.mode) (seen q t) r.out r.state r.place r.held e a p.4 in
-    let h2 : behind (begun_at (put_on r.out e.given r.place.line r.held) e.state p.2 (r.state.bytes - 1) c r.place.line (get_line_after r.place e.given) r.used) more ≡ X =
-    subst (λ (y : Step). StepGives r c more y X) (sym p.6) h in
-    piece_before C X total g0 q t r c more e here x after
-    (begin_sound C X total g0 e.state.get c more ih after.0 (put_on r.out e.given r.place.line r.held) e.state p.0 p.2 (r.state.bytes - 1) r.place.line (get_line_after r.place e.given) r.used after.2 p.3 refl p.5 h2 l)
+    let h2 : B (begun_at (put_on r.out e.given r.place.line r.held) e.state p.2 (r.state.bytes - 1) c r.place.line (get_line_after r.place e.given) r.used) more =
+    subst (λ (y : Step). StepGives r c more y B) (sym p.6) h in
+    piece_before C G B total g0 q t r c more e here x after
+    (begin_sound C G B total g0 e.state.get c more ih after.0 (put_on r.out e.given r.place.line r.held) e.state p.0 p.2 (r.state.bytes - 1) r.place.line (get_line_after r.place e.given) r.used after.2 p.3 refl p.5 h2 l)
 
 -- a byte that goes on with a piece
 not_dot : (n : Mode) (b : ℕ) (bs : List ℕ) (c : ℕ) → Reads n (b ∷ bs ++ c ∷ []) → is_dot n ≡ false
@@ -340,17 +364,17 @@ goes_here q (b ∷ bs) m n held c get (inr (inl d)) e =
     (inr (inl (ap (λ (x : List ℕ). x ++ c ∷ []) d.0, w, dotless, goes_due get m n c d.3 e)), dotless, (b, bs, refl))
 goes_here q t m n held c get (inr (inr d)) e =
     let s : Naming (t ++ c ∷ []) n = naming_step t m c d.0 (nexts.Goes n) e in
-    (inr (inr (s, d.1)), ap is_dot s.2, (34, d.0.0, d.0.1))
+    (inr (inr (s, d.1, ap (λ (x : List ℕ). x ++ c ∷ []) d.2)), ap is_dot s.2, (34, d.0.0, d.0.1))
 
 pub seen_more : (q : Putting) (t : List ℕ) (b : ℕ) (bs : List ℕ) (c : ℕ) → t ≡ b ∷ bs → seen q (t ++ c ∷ []) ≡ seen q t
 seen_more q t b bs c e = ap (λ (x : List ℕ). seen q (x ++ c ∷ [])) e ∙ ap (λ (x : List ℕ). seen q x) (sym e)
 
-goes_sound : (C : Putting → List ℕ → Type 0) (X : Result Section SourceFault) (total : ℕ) (g0 : Concludes C X total) (c : ℕ) (more : List ℕ) (ih : Follows C X total more) (q : Putting) (t : List ℕ) (r : Reading) (n : Mode) → Here t r.state.mode r.held q.get → Agrees (seen q t) r.out r.state r.place → next r.state.mode c ≡ nexts.Goes n
-    → StepGives r c more (stepped (with_mode r.state n) acts.Goes) X → Counted (r.state.bytes - 1) (r.used + 1) more total → C q (t ++ c ∷ more)
-goes_sound C X total g0 c more ih q t r n here a x h l =
+goes_sound : (C : Putting → List ℕ → Type 0) (G B : Reading → List ℕ → Type 0) (total : ℕ) (g0 : Concludes C G B total) (c : ℕ) (more : List ℕ) (ih : Follows C G total more) (q : Putting) (t : List ℕ) (r : Reading) (n : Mode) → Here t r.state.mode r.held q.get → Agrees (seen q t) r.out r.state r.place → next r.state.mode c ≡ nexts.Goes n
+    → StepGives r c more (stepped (with_mode r.state n) acts.Goes) B → Counted (r.state.bytes - 1) (r.used + 1) more total → C q (t ++ c ∷ more)
+goes_sound C G B total g0 c more ih q t r n here a x h l =
     let g = goes_here q t r.state.mode n r.held c q.get here x in
     let p : Reading = reading r.out (state n (r.state.bytes - 1) r.state.symbols r.state.last r.state.fed r.state.get) (r.held ++ c ∷ []) r.place (r.used + 1) in
-    let run_on : run p more ≡ X = ap (λ (b : Bool). cond b (Ok (section p.out p.used true p.place.line)) (run p more)) (sym g.1) ∙ h in
+    let run_on : G p more = g0.goes p more g.1 h in
     let a2 : Agrees (seen q t) p.out p.state p.place = record { same = a.same; last = a.last; fed = a.fed; line = a.line; get = a.get; count = a.count } in
     let a3 : Agrees (seen q (t ++ c ∷ [])) p.out p.state p.place = subst (λ (y : Putting). Agrees y p.out p.state p.place) (sym (seen_more q t g.2.0 g.2.1 c g.2.2)) a2 in
     subst (λ (y : List ℕ). C q y) (append_assoc t (c ∷ []) more) (ih q (t ++ c ∷ []) p g.0 a3 run_on l)
@@ -392,7 +416,7 @@ no_names QuoteEnd c h w r e = cc
 no_names (Mark s) c h w r e = cond_all (NotNames h) (is_slash s && eqb c 47) (nexts.Goes Comment) (grows (longer_sign s c)) (λ e. cc) (grown_names h (longer_sign s c)) e
 no_names (Name n) c h w r e = absurd r
 
-named_ok : (st : State) (h : Header) (u : Step) → named st h ≡ Ok u → (header_rest h ≤ st.symbols) × (stepped (state Blank st.bytes (st.symbols - header_rest h) (Some kinds.SectionClose) st.fed false) (acts.Names h) ≡ u)
+pub named_ok : (st : State) (h : Header) (u : Step) → named st h ≡ Ok u → (header_rest h ≤ st.symbols) × (stepped (state Blank st.bytes (st.symbols - header_rest h) (Some kinds.SectionClose) st.fed false) (acts.Names h) ≡ u)
 named_ok st h u e =
     elim (picks (ltb st.symbols (header_rest h)) (Err HeaderTooLong) _ (done u) e) [
       | inl p ↦ absurd (no_done HeaderTooLong u p.1)
@@ -410,11 +434,11 @@ string_longest t (c ∷ more) w = ends_longest TextEnd t c more w refl
 pub due_line : (o : Option ℕ) (g : ℕ) (get : Bool) (line : ℕ) → o ≡ Some g → GetAgrees o get line → line ≡ g
 due_line o g get line e h = let s : GetAgrees (Some g) get line = subst (λ (x : Option ℕ). GetAgrees x get line) e h in s.1
 
-names_sound : (C : Putting → List ℕ → Type 0) (X : Result Section SourceFault) (total : ℕ) (g0 : Concludes C X total) (c : ℕ) (more : List ℕ) (ih : Follows C X total more) (q : Putting) (t : List ℕ) (r : Reading) (h : Header) (u : Step) → Here t r.state.mode r.held q.get → Agrees (seen q t) r.out r.state r.place → next r.state.mode c ≡ nexts.Names h
-    → named r.state h ≡ Ok u → StepGives r c more u X → Counted (r.state.bytes - 1) (r.used + 1) more total → C q (t ++ c ∷ more)
-names_sound C X total g0 c more ih q t r h u (inl d) a x n g l = absurd (let z : nexts.Ends ≡ nexts.Names h = ap (λ (y : Mode). next y c) (sym d.1) ∙ x in cc)
-names_sound C X total g0 c more ih q t r h u (inr (inl d)) a x n g l = absurd (no_names r.state.mode c h t (piece_reads t r.state.mode d.1) x)
-names_sound C X total g0 c more ih q t r h u (inr (inr d)) a x n g l =
+names_sound : (C : Putting → List ℕ → Type 0) (G B : Reading → List ℕ → Type 0) (total : ℕ) (g0 : Concludes C G B total) (c : ℕ) (more : List ℕ) (ih : Follows C G total more) (q : Putting) (t : List ℕ) (r : Reading) (h : Header) (u : Step) → Here t r.state.mode r.held q.get → Agrees (seen q t) r.out r.state r.place → next r.state.mode c ≡ nexts.Names h
+    → named r.state h ≡ Ok u → StepGives r c more u B → Counted (r.state.bytes - 1) (r.used + 1) more total → C q (t ++ c ∷ more)
+names_sound C G B total g0 c more ih q t r h u (inl d) a x n g l = absurd (let z : nexts.Ends ≡ nexts.Names h = ap (λ (y : Mode). next y c) (sym d.1) ∙ x in cc)
+names_sound C G B total g0 c more ih q t r h u (inr (inl d)) a x n g l = absurd (no_names r.state.mode c h t (piece_reads t r.state.mode d.1) x)
+names_sound C G B total g0 c more ih q t r h u (inr (inr d)) a x n g l =
     let line = d.1.0 in
     let whole : NamesWhole (t ++ c ∷ []) h = naming_step t r.state.mode c d.0 (nexts.Names h) x in
     let k = named_ok r.state h u n in
@@ -424,7 +448,7 @@ names_sound C X total g0 c more ih q t r h u (inr (inr d)) a x n g l =
     let due : q3.get ≡ Some line = seen_get q t ∙ d.1.1 in
     let at_line : r.place.get_line ≡ line = due_line q3.get line r.state.get r.place.get_line due a.get in
     let p : Reading = reading (r.out ++ header_symbols h r.place.get_line) (state Blank (r.state.bytes - 1) (r.state.symbols - header_rest h) (Some kinds.SectionClose) r.state.fed false) (r.held ++ c ∷ []) r.place (r.used + 1) in
-    let run_on : run p more ≡ X = subst (λ (y : Step). StepGives r c more y X) (sym k.1) g in
+    let run_on : G p more = g0.goes p more refl (subst (λ (y : Step). StepGives r c more y B) (sym k.1) g) in
     let len = header_length h line in
     let wait : waiting q3.get ≡ 1 = ap waiting due in
     let outs : r.out ++ header_symbols h r.place.get_line ≡ q3.out ++ header_symbols h line = ap (λ (y : List Symbol). y ++ header_symbols h r.place.get_line) a.same ∙ ap (λ (y : ℕ). q3.out ++ header_symbols h y) at_line in
@@ -435,13 +459,13 @@ names_sound C X total g0 c more ih q t r h u (inr (inr d)) a x n g l =
     ap (λ (o : Option ℕ). put_as (seen q (t ++ c ∷ [])) (t ++ c ∷ []) (whats.Symbol kinds.Text) o) d.1.1
     ∙ ap (λ (o : Option Header). named_as (seen q (t ++ c ∷ [])) line o) whole.4
     ∙ ap (λ (y : Putting). Some (putting (y.out ++ header_symbols h line) (Some kinds.SectionClose) y.fed y.line None)) more_seen in
-    subst (λ (y : List ℕ). C q y) (append_assoc t (c ∷ []) more) (g0.before q q2 string (t ++ c ∷ []) more spelled (string_longest (t ++ c ∷ []) more (names_walk (t ++ c ∷ []) h whole)) put_is rest)
+    subst (λ (y : List ℕ). C q y) (append_assoc t (c ∷ []) more) (g0.before q q2 string (t ++ c ∷ []) more spelled (λ tail. string_longest (t ++ c ∷ []) (more ++ tail) (names_walk (t ++ c ∷ []) h whole)) put_is rest)
 
 -- ---- one byte, whatever it does
 
-pub step_sound : (C : Putting → List ℕ → Type 0) (X : Result Section SourceFault) (total : ℕ) (g0 : Concludes C X total) (x : Next) (c : ℕ) (more : List ℕ) (ih : Follows C X total more) (q : Putting) (t : List ℕ) (r : Reading) (u : Step) → Here t r.state.mode r.held q.get → Agrees (seen q t) r.out r.state r.place → next r.state.mode c ≡ x
-    → moved r.state c x ≡ Ok u → StepGives r c more u X → Counted (r.state.bytes - 1) (r.used + 1) more total → C q (t ++ c ∷ more)
-step_sound C X total g0 (nexts.Goes n) c more ih q t r u here a x m g l = goes_sound C X total g0 c more ih q t r n here a x (subst (λ (y : Step). StepGives r c more y X) (sym (done_is _ u m)) g) l
-step_sound C X total g0 nexts.Ends c more ih q t r u here a x m g l = ends_sound C X total g0 c more ih q t r u here a x m g l
-step_sound C X total g0 (nexts.Names h) c more ih q t r u here a x m g l = names_sound C X total g0 c more ih q t r h u here a x m g l
-step_sound C X total g0 (nexts.Bad f) c more ih q t r u here a x m g l = absurd (no_done f u m)
+pub step_sound : (C : Putting → List ℕ → Type 0) (G B : Reading → List ℕ → Type 0) (total : ℕ) (g0 : Concludes C G B total) (x : Next) (c : ℕ) (more : List ℕ) (ih : Follows C G total more) (q : Putting) (t : List ℕ) (r : Reading) (u : Step) → Here t r.state.mode r.held q.get → Agrees (seen q t) r.out r.state r.place → next r.state.mode c ≡ x
+    → moved r.state c x ≡ Ok u → StepGives r c more u B → Counted (r.state.bytes - 1) (r.used + 1) more total → C q (t ++ c ∷ more)
+step_sound C G B total g0 (nexts.Goes n) c more ih q t r u here a x m g l = goes_sound C G B total g0 c more ih q t r n here a x (subst (λ (y : Step). StepGives r c more y B) (sym (done_is _ u m)) g) l
+step_sound C G B total g0 nexts.Ends c more ih q t r u here a x m g l = ends_sound C G B total g0 c more ih q t r u here a x m g l
+step_sound C G B total g0 (nexts.Names h) c more ih q t r u here a x m g l = names_sound C G B total g0 c more ih q t r h u here a x m g l
+step_sound C G B total g0 (nexts.Bad f) c more ih q t r u here a x m g l = absurd (no_done f u m)

@@ -22,7 +22,7 @@ use Rattle.bk_lex.specs.Tokens.{Putting, putting, seen, CutFrom, IsSection}
 use Rattle.bk_lex.proofs.SignLemmas.{picks}
 use Rattle.bk_lex.proofs.Soundness.{ok_bind, done, done_is, no_done, read_ok, within_ok, fewer, GetAgrees, Agrees, AfterPiece, ended_agrees, more_cut}
 use Rattle.bk_lex.proofs.Steps.{behind}
-use Rattle.bk_lex.proofs.Onward.{Here, Counted, Concludes, Follows, no_get_due, end_before, step_sound}
+use Rattle.bk_lex.proofs.Onward.{Here, Counted, Before, before_any, Concludes, Follows, RunsTo, BehindTo, goes_to, no_get_due, end_before, step_sound}
 
 same_section : (a b : Section) → (let x : Result Section SourceFault = Ok a in x) ≡ Ok b → a ≡ b
 same_section a b e = cc
@@ -66,9 +66,13 @@ dot_cut total s more q out x k line gl used a g h u =
       ends = (more, refl, omega (arith, u.0));
     }
 
-concludes_cut : (total : ℕ) (s : Section) → Concludes (λ q text. CutFrom q text total s) (Ok s) total
+cut_before : (total : ℕ) (s : Section) → Before (λ q text. CutFrom q text total s)
+cut_before total s q q2 k t rest = more_cut q q2 k t rest total s
+
+concludes_cut : (total : ℕ) (s : Section) → Concludes (λ q text. CutFrom q text total s) (RunsTo (Ok s)) (BehindTo (Ok s)) total
 concludes_cut total s = record {
-  before = λ q q2 k t rest. more_cut q q2 k t rest total s;
+  before = before_any (λ q text. CutFrom q text total s) (cut_before total s);
+  goes = goes_to (Ok s);
   at_dot = dot_cut total s;
 }
 
@@ -91,9 +95,9 @@ no_get_ok e g h =
 
 end_here : (q : Putting) (t : List ℕ) (r : Reading) (s : Section) (total : ℕ) (e : Ended) → Here t r.state.mode r.held q.get → end_fault r.state.mode ≡ None → AfterPiece (seen q t) r.held (piece r.state.mode) r.out r.place e → e.state.get ≡ false
     → section (put_on r.out e.given r.place.line r.held) r.used false r.place.line ≡ s → r.used ≡ total → CutFrom q (t ++ []) total s
-end_here q t r s total e here f a g h u = end_before (λ q text. CutFrom q text total s) (Ok s) total (concludes_cut total s) q t r e here f a (nothing_left a.0 s total r.used _ e.state _ a.2 g h u)
+end_here q t r s total e here f a g h u = end_before (λ q text. CutFrom q text total s) (cut_before total s) q t r e here f a (nothing_left a.0 s total r.used _ e.state _ a.2 g h u)
 
-sound_end : (total : ℕ) (s : Section) → Follows (λ q text. CutFrom q text total s) (Ok s) total []
+sound_end : (total : ℕ) (s : Section) → Follows (λ q text. CutFrom q text total s) (RunsTo (Ok s)) total []
 unfolding run
 sound_end total s q t r here a h u =
     let x = end_ok r (finished r.state) s h in
@@ -103,7 +107,7 @@ sound_end total s q t r here a h u =
     let after = ended_agrees (piece r.state.mode) (seen q t) r.out r.state r.place r.held z.0 a z.1 in
     end_here q t r s total z.0 here y.0 after w.0 (ap (λ (g : Given). section (put_on r.out g r.place.line r.held) r.used false r.place.line) w.1 ∙ x.2) (omega (arith, u.0))
 
-within_bytes : (n : ℕ) (y : Result Step Fault) (t : Step) → within n y ≡ Ok t → (t.state.bytes + 1 ≡ n)
+pub within_bytes : (n : ℕ) (y : Result Step Fault) (t : Step) → within n y ≡ Ok t → (t.state.bytes + 1 ≡ n)
 within_bytes n (Ok u) t e =
     elim (picks (ltb n 1) (Err SectionTooLong) (done (fewer n u)) (done t) e) [
       | inl p ↦ absurd (no_done SectionTooLong t p.1)
@@ -117,7 +121,7 @@ within_bytes n (Err f) t e =
       | inr p ↦ absurd (no_done f t p.1)
     ]
 
-byte_sound : (total : ℕ) (s : Section) (c : ℕ) (more : List ℕ) (ih : Follows (λ q text. CutFrom q text total s) (Ok s) total more) → Follows (λ q text. CutFrom q text total s) (Ok s) total (c ∷ more)
+byte_sound : (total : ℕ) (s : Section) (c : ℕ) (more : List ℕ) (ih : Follows (λ q text. CutFrom q text total s) (RunsTo (Ok s)) total more) → Follows (λ q text. CutFrom q text total s) (RunsTo (Ok s)) total (c ∷ more)
 unfolding run
 byte_sound total s c more ih q t r here a h l =
     let p = ok_bind (read_on r c (step_of r.state c)) (λ p. behind p more) s h in
@@ -125,9 +129,9 @@ byte_sound total s c more ih q t r here a h l =
     let w = within_ok r.state.bytes (moved r.state c (next r.state.mode c)) v.0 v.1 in
     let left = within_bytes r.state.bytes (moved r.state c (next r.state.mode c)) v.0 v.1 in
     let same : read r c (fewer r.state.bytes w.0).state (fewer r.state.bytes w.0).act ≡ p.0 = ap (λ (t : Step). read r c t.state t.act) w.2 ∙ v.2 in
-    step_sound (λ q text. CutFrom q text total s) (Ok s) total (concludes_cut total s) (next r.state.mode c) c more ih q t r w.0 here a refl w.1 (ap (λ (y : Reading). behind y more) same ∙ p.2) (omega (arith, l.0), omega (arith, l.1, left))
+    step_sound (λ q text. CutFrom q text total s) (RunsTo (Ok s)) (BehindTo (Ok s)) total (concludes_cut total s) (next r.state.mode c) c more ih q t r w.0 here a refl w.1 (ap (λ (y : Reading). behind y more) same ∙ p.2) (omega (arith, l.0), omega (arith, l.1, left))
 
-sound : (total : ℕ) (s : Section) (rest : List ℕ) → Follows (λ q text. CutFrom q text total s) (Ok s) total rest
+sound : (total : ℕ) (s : Section) (rest : List ℕ) → Follows (λ q text. CutFrom q text total s) (RunsTo (Ok s)) total rest
 sound total s [] q t r here a h l = sound_end total s q t r here a h l
 sound total s (c ∷ more) q t r here a h l = byte_sound total s c more (sound total s more) q t r here a h l
 

@@ -134,7 +134,7 @@ abbrev pub Stops : Mode → List ℕ → Type 0
 Stops m [] = end_fault m ≡ None
 Stops m (c ∷ more) = next m c ≡ Ends
 
-whole_ends : (m : Mode) (k : Sort) → sort_of m ≡ Some k → end_fault m ≡ None
+pub whole_ends : (m : Mode) (k : Sort) → sort_of m ≡ Some k → end_fault m ≡ None
 whole_ends Blank k e = refl
 whole_ends Comment k e = refl
 whole_ends Dot k e = refl

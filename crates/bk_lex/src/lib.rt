@@ -16,7 +16,9 @@ mod token;
 mod values;
 
 pub use cutter::{Cut, Cutter};
-pub use laws::{gives_each_section, has_one_section, reserved_by_its_letters};
+pub use laws::{
+    gives_each_section, has_one_section, has_section_without_fault, reserved_by_its_letters,
+};
 pub use scan::{Lexed, lex};
 pub use token::{Kind, Token};
 pub use values::{character_byte, number_word, string_bytes};

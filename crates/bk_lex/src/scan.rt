@@ -1,6 +1,7 @@
 //! The tokens of a section.
 ghost use Rattle.std.specs.Prelude.{◌≡◌, ◌++◌, ◌∷◌, [], OnOk, IfOk, IfErr, Ok, ◌≤◌, length, slice_range};
 ghost use Rattle.bk_lex.specs.Tokens.{IsSection};
+ghost use Rattle.bk_lex.specs.TextFault.{NoFault};
 ghost use Rattle.bk_lex.specs.Telling.{SaysFault};
 ghost use Rattle.bk_lex.specs.Symbol.{symbols_of};
 ghost use Rattle.bk_lex.specs.Counting.{step_of, finished};
@@ -123,7 +124,10 @@ pub fn lex<'a>(alloc: Global, text: &'a [u8], from: Line) -> Result<Lexed<'a>, R
     ensures tokens { IfOk result (λ l. IsSection text.now from (section_of l)) }
     // Where the text's first section is cut so, it is given, unless memory runs out.
     ensures only { (s : Section) → IsSection text.now from s → Gives result (Ok s) }
-    // A fault stands in the first section, on the line that is told, and where a byte makes it certain, whatever follows.
+    // A text that is taken has no fault.
+    ensures faultless { IfOk result (λ l. NoFault from text.now) }
+    // A fault stands in the first section, on the line that is told. It is the first that a byte makes certain, whatever
+    // follows, or one that the text has as it ends; of these the one of the lowest number.
     ensures tells { IfErr result (λ e. SaysFault e from text.now) }
 {
     read_section(alloc, text, from)
