@@ -1,8 +1,9 @@
 //! The parser: one pass over the symbols, with a list of what was begun.
-ghost use Rattle.std.specs.Prelude.{◌≡◌, ◌<◌, ◌≤◌, ℕ};
+ghost use Rattle.std.specs.Prelude.{◌≡◌, false};
 ghost use Rattle.bk_syntax.specs.Tree.{expression, action};
-ghost use Rattle.bk_syntax.specs.Machine.{Stack, give, finish, without, stepped_by};
-ghost use Rattle.bk_syntax.specs.Frames.{stack_of, state, flow, Steps, Answers, Falls};
+ghost use Rattle.bk_syntax.specs.Rows.{goes};
+ghost use Rattle.bk_syntax.specs.Machine.{limit, give, finish, without, stepped_by};
+ghost use Rattle.bk_syntax.specs.Frames.{begun_on, stack_of, state, flow, Steps, Answers, Lowers, Falls};
 
 use crate::commands::{again, command, complete_clause, complete_phrase, guarded};
 use crate::definitions::{at_place, complete_command, complete_definition, complete_member};
@@ -17,6 +18,29 @@ use bk_base::{Line, Refused, SourceFault, SourceKind};
 use bk_lex::{Kind, Token};
 use std::alloc::Global;
 
+/// An expression is complete in what was begun, with which the symbol behind it does not go on.
+fn complete_part(
+    alloc: Global,
+    frames: &mut Frames,
+    begun: Begun,
+    held: Size,
+    sized: Sized,
+    token: &Token,
+) -> Result<Flow, Stop>
+    requires { goes (limit (begun_on begun (stack_of frames.old))) token.now.kind ≡ false }
+    ensures answers { Answers frames.new result token.now (give (begun_on begun (stack_of frames.old)) (expression sized.expr)) }
+    ensures lowers { Lowers frames.old frames.new result }
+{
+    match begun {
+        Begun::Operand(operand) => complete(alloc, frames, operand, held, sized, token),
+        Begun::Phrase(phrase) => complete_phrase(alloc, frames, phrase, held, sized, token),
+        Begun::Member(member) => complete_member(alloc, frames, member, held, sized, token),
+        Begun::Clause(_) => Err(Stop::Unexpected),
+        Begun::Place(_) => Err(Stop::Unexpected),
+        Begun::Point(_) => Err(Stop::Unexpected),
+    }
+}
+
 /// An expression is complete so far, and a symbol comes behind it.
 #[tactic(auto, using(crate::proofs::Stacks::frames_laws))]
 fn behind_expression(
@@ -25,7 +49,8 @@ fn behind_expression(
     sized: Sized,
     token: &Token,
 ) -> Result<Flow, Stop>
-    ensures { Falls frames.old frames.new result }
+    ensures answers { Answers frames.new result token.now (give (stack_of frames.old) (expression sized.expr)) }
+    ensures falls { Falls frames.old frames.new result }
 {
     let Some(top) = frames.above.pop() else {
         if goes_on(12, token.kind) {
@@ -42,12 +67,7 @@ fn behind_expression(
         held,
         below: _,
     } = top;
-    match begun {
-        Begun::Operand(operand) => complete(alloc, frames, operand, held, sized, token),
-        Begun::Phrase(phrase) => complete_phrase(alloc, frames, phrase, held, sized, token),
-        Begun::Member(member) => complete_member(alloc, frames, member, held, sized, token),
-        _ => Err(Stop::Unexpected),
-    }
+    complete_part(alloc, frames, begun, held, sized, token)
 }
 
 /// A command is complete so far, and a symbol comes behind it.
@@ -112,7 +132,9 @@ fn without_command(alloc: Global, frames: &mut Frames, token: &Token) -> Result<
 }
 
 /// Completes what the symbol completes.
-fn settle(alloc: Global, frames: &mut Frames, first: Flow, token: &Token) -> Result<Now, Stop> {
+fn settle(alloc: Global, frames: &mut Frames, first: Flow, token: &Token) -> Result<Now, Stop>
+    ensures { Steps (stack_of frames.new) result (flow (stack_of frames.old) first token.now.line token.now.text.now token.now.kind) }
+{
     let mut flow = first;
     loop {
         let next = match flow {
@@ -130,7 +152,9 @@ fn settle(alloc: Global, frames: &mut Frames, first: Flow, token: &Token) -> Res
 }
 
 /// No command stands behind a colon, and this symbol begins none.
-fn step_over(alloc: Global, frames: &mut Frames, token: &Token) -> Result<Now, Stop> {
+fn step_over(alloc: Global, frames: &mut Frames, token: &Token) -> Result<Now, Stop>
+    ensures { Steps (stack_of frames.new) result (without (stack_of frames.old) token.now.line token.now.text.now token.now.kind) }
+{
     match without_command(alloc, frames, token) {
         Ok(flow) => settle(alloc, frames, flow, token),
         Err(Stop::Memory) => Err(Stop::Memory),
@@ -139,7 +163,9 @@ fn step_over(alloc: Global, frames: &mut Frames, token: &Token) -> Result<Now, S
 }
 
 /// The next symbol, a section bracket once for each section that it opens or closes.
-fn step(alloc: Global, frames: &mut Frames, now: Now, token: &Token) -> Result<Now, Stop> {
+fn step(alloc: Global, frames: &mut Frames, now: Now, token: &Token) -> Result<Now, Stop>
+    ensures { Steps (stack_of frames.new) result (stepped_by (state (stack_of frames.old) now) token.now.line token.now.text.now token.now.kind) }
+{
     match now {
         Now::Want => operand(alloc, frames, token),
         Now::Have(sized) => settle(alloc, frames, Flow::Gives(sized), token),
