@@ -1,5 +1,5 @@
 -- Whether a LET stands in a block, by the two frames on top.
-use Rattle.std.proofs.Common.{◌≡◌, ℕ, ◌+◌, ◌-◌, ◌<◌, ◌≤◌, Bool, true, false, cond, Option, None, List, [], ◌∷◌, length, get_or, take, refl, sym, ap, ◌∙◌, arith}
+use Rattle.std.proofs.Common.{◌≡◌, ℕ, ◌+◌, ◌-◌, ◌<◌, ◌≤◌, false, cond, None, List, [], ◌∷◌, length, get_or, take, refl, sym, ap, ◌∙◌, arith}
 use Rattle.std.proofs.Math.Seq.{take-length}
 use Rattle.bk_syntax.specs.declared.frame.Operand.TheVariants as o
 use Rattle.bk_syntax.specs.declared.frame.Phrase.TheVariants as p
@@ -20,7 +20,7 @@ use Rattle.bk_syntax.specs.declared.frame.Clause.{Clause}
 use Rattle.bk_syntax.specs.declared.frame.Place.{Place}
 use Rattle.bk_syntax.specs.declared.frame.Point.{Point}
 use Rattle.bk_syntax.specs.Machine.{Stack, in_section, inside, limit, give}
-use Rattle.bk_syntax.specs.Frames.{begun_on, phrase_on, member_on, clause_on, place_on, point_on, stack, above, is_let_begun, is_block_begun}
+use Rattle.bk_syntax.specs.Frames.{begun_on, phrase_on, member_on, clause_on, place_on, point_on, stack, is_let_begun, is_block_begun}
 use Rattle.bk_syntax.proofs.Stacks.{stack_take}
 
 inside_one : (x : Begun) (ds : Declarations) → inside (begun_on x (in_section ds)) ≡ false

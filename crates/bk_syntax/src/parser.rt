@@ -1,9 +1,14 @@
 //! The parser: one pass over the symbols, with a list of what was begun.
-ghost use Rattle.std.specs.Prelude.{◌≡◌, false};
-ghost use Rattle.bk_syntax.specs.Tree.{expression, action};
+ghost use Rattle.std.specs.Prelude.{◌≡◌, ◌<◌, true, false, Some, [], List, length, IfSome};
+ghost use Rattle.bk_base.specs.declared.refused.Refused.TheVariants as Refused;
+ghost use Rattle.bk_lex.specs.Symbol.{Symbol, symbol_of, symbols_of};
+ghost use Rattle.bk_lex.specs.Values.{upper_name};
+ghost use Rattle.bk_syntax.specs.Tree.{expression, action, declarations_in};
+ghost use Rattle.bk_syntax.specs.Spelling.{tag_of};
 ghost use Rattle.bk_syntax.specs.Rows.{goes};
-ghost use Rattle.bk_syntax.specs.Machine.{limit, give, finish, without, stepped_by};
+ghost use Rattle.bk_syntax.specs.Machine.{limit, opens, closes, give, finish, without, stepped_by, whole, run};
 ghost use Rattle.bk_syntax.specs.Frames.{begun_on, stack_of, state, flow, Steps, Answers, Lowers, Falls};
+ghost use Rattle.bk_syntax.specs.Parsing.{tags, Closes, steps, Behind, told, IsLimit, Advances, declarations_of, Ends, Parses};
 
 use crate::commands::{again, command, complete_clause, complete_phrase, guarded};
 use crate::definitions::{at_place, complete_command, complete_definition, complete_member};
@@ -11,7 +16,7 @@ use crate::expressions::{NOTHING, complete, extends, go_on, operand};
 use crate::frame::{Begun, Clause, Flow, Frame, Frames, Now, Size, Sized, Stop};
 use crate::size::{least, of_node};
 use crate::spelling::{same_tag, tag};
-use crate::symbols::{goes_on, repeats, starts_command};
+use crate::symbols::{closes, goes_on, opens, repeats, starts_command};
 use crate::tree::{Command, Decl};
 use bk_base::limit::{TREE_DEPTH, TREE_NODES};
 use bk_base::{Line, Refused, SourceFault, SourceKind};
@@ -182,23 +187,44 @@ fn step(alloc: Global, frames: &mut Frames, now: Now, token: &Token) -> Result<N
     }
 }
 
-/// How many open sections a `$)` closes; None where its tag is wrong. Without a tag it closes one.
-fn closings(open: &[&[u8]], text: &[u8]) -> Option<usize> {
-    let wanted = tag(text);
-    if wanted.is_empty() {
-        return match open {
-            [.., last] if !last.is_empty() => None,
-            _ => Some(1),
-        };
+/// How many open sections a `$)` without a tag closes: one, or None where the innermost has a tag.
+fn closings_untagged(opened: &[&[u8]]) -> Option<usize>
+    ensures { (t : Symbol) → Closes result t [] opened.now }
+{
+    let count = opened.len();
+    if count == 0 {
+        return Some(1);
     }
-    let mut i = open.len();
+    if opened[count - 1].is_empty() {
+        return Some(1);
+    }
+    None
+}
+
+/// How many open sections a `$)` with this tag closes: those up to and with the innermost of the tag.
+fn closings_tagged(opened: &[&[u8]], wanted: &[u8]) -> Option<usize>
+    requires { 0 < length wanted.now }
+    ensures { (t : Symbol) → Closes result t (upper_name wanted.now) opened.now }
+{
+    let mut i = opened.len();
     while i > 0 {
         i -= 1;
-        if same_tag(open[i], wanted) {
-            return Some(open.len() - i);
+        if same_tag(wanted, opened[i]) {
+            return Some(opened.len() - i);
         }
     }
     None
+}
+
+/// How many open sections a `$)` closes; None where its tag is wrong.
+fn closings(opened: &[&[u8]], text: &[u8]) -> Option<usize>
+    ensures { (t : Symbol) → Closes result t (tag_of text.now) opened.now }
+{
+    let wanted = tag(text);
+    if wanted.is_empty() {
+        return closings_untagged(opened);
+    }
+    closings_tagged(opened, wanted)
 }
 
 /// A section, read by `decls`.
@@ -209,39 +235,57 @@ pub struct Section {
 
 impl Section {
     /// Its declarations.
-    pub fn decls(&self) -> &[Decl] {
+    pub fn decls(&self) -> &[Decl]
+        ensures { declarations_in result.now ≡ declarations_of self.now }
+    {
         &self.decls
     }
 }
 
-fn fault(line: Line, kind: SourceKind) -> Refused<SourceFault> {
+fn fault(line: Line, kind: SourceKind) -> Refused<SourceFault>
+    ensures { result ≡ Refused.Fault (record { line = line; kind = kind }) }
+{
     Refused::Fault(SourceFault { line, kind })
 }
 
-fn refusal(stop: Stop, line: Line) -> Refused<SourceFault> {
-    match stop {
-        Stop::Memory => Refused::Memory,
-        Stop::Unexpected => fault(line, SourceKind::UnexpectedSymbol),
+/// What a symbol on this line is answered.
+fn told(taken: Result<Now, Stop>, line: Line) -> Result<Now, Refused<SourceFault>>
+    ensures { result ≡ told taken line }
+{
+    match taken {
+        Ok(now) => Ok(now),
+        Err(Stop::Memory) => Err(Refused::Memory),
+        Err(Stop::Unexpected) => Err(fault(line, SourceKind::UnexpectedSymbol)),
     }
 }
 
-/// The symbol, so often as it closes sections.
+/// The symbol, so often.
 fn repeat_step(
     alloc: Global,
     frames: &mut Frames,
     now: Now,
     token: &Token,
     times: usize,
-) -> Result<Now, Stop> {
+) -> Result<Now, Stop>
+    ensures { Steps (stack_of frames.new) result (steps times (symbol_of token.now) (state (stack_of frames.old) now)) }
+{
     let mut now = now;
-    for _ in 0..times {
-        now = step(alloc, frames, now, token)?;
+    let mut left = times;
+    while left > 0 {
+        left -= 1;
+        match step(alloc, frames, now, token) {
+            Ok(after) => now = after,
+            Err(Stop::Memory) => return Err(Stop::Memory),
+            Err(Stop::Unexpected) => return Err(Stop::Unexpected),
+        }
     }
     Ok(now)
 }
 
 /// The limit that every section from here on passes.
-fn limit(frames: &Frames, now: &Now) -> Option<SourceKind> {
+fn limit(frames: &Frames, now: &Now) -> Option<SourceKind>
+    ensures { IfSome result IsLimit }
+{
     let size = least(frames, now);
     if size.depth > TREE_DEPTH {
         return Some(SourceKind::NestedTooDeeply);
@@ -252,69 +296,141 @@ fn limit(frames: &Frames, now: &Now) -> Option<SourceKind> {
     None
 }
 
+/// A `$)`: it closes sections, each as a `$)` without a tag.
+fn close<'a>(
+    alloc: Global,
+    frames: &mut Frames,
+    opened: &mut Vec<&'a [u8]>,
+    now: Now,
+    token: &Token<'a>,
+) -> Result<Now, Refused<SourceFault>>
+    requires { closes token.now.kind ≡ true }
+    ensures { (u : List Symbol) → Behind u (tags opened.old.items) (state (stack_of frames.old) now) → Advances frames.new opened.new.items result u (symbol_of token.now) }
+{
+    match closings(opened.as_slice(), token.text) {
+        Some(times) => {
+            opened.truncate(opened.len().saturating_sub(times));
+            told(repeat_step(alloc, frames, now, token, times), token.line)
+        }
+        None => Err(fault(token.line, SourceKind::WrongSectionTag)),
+    }
+}
+
+/// A `$(`: it opens a section.
+fn open_section<'a>(
+    alloc: Global,
+    frames: &mut Frames,
+    opened: &mut Vec<&'a [u8]>,
+    now: Now,
+    token: &Token<'a>,
+) -> Result<Now, Refused<SourceFault>>
+    requires { opens token.now.kind ≡ true }
+    ensures { (u : List Symbol) → Behind u (tags opened.old.items) (state (stack_of frames.old) now) → Advances frames.new opened.new.items result u (symbol_of token.now) }
+{
+    match opened.push(tag(token.text)) {
+        Ok(()) => told(repeat_step(alloc, frames, now, token, 1), token.line),
+        Err(_) => Err(Refused::Memory),
+    }
+}
+
+/// The next symbol.
+fn take<'a>(
+    alloc: Global,
+    frames: &mut Frames,
+    opened: &mut Vec<&'a [u8]>,
+    now: Now,
+    token: &Token<'a>,
+) -> Result<Now, Refused<SourceFault>>
+    ensures { (u : List Symbol) → Behind u (tags opened.old.items) (state (stack_of frames.old) now) → Advances frames.new opened.new.items result u (symbol_of token.now) }
+{
+    if closes(token.kind) {
+        return close(alloc, frames, opened, now, token);
+    }
+    if opens(token.kind) {
+        return open_section(alloc, frames, opened, now, token);
+    }
+    told(repeat_step(alloc, frames, now, token, 1), token.line)
+}
+
 /// What stands on the frames behind the next symbol.
 fn advance<'a>(
     alloc: Global,
     frames: &mut Frames,
-    open: &mut Vec<&'a [u8]>,
+    opened: &mut Vec<&'a [u8]>,
     now: Now,
     token: &Token<'a>,
-) -> Result<Now, Refused<SourceFault>> {
-    let mut times = 1;
-    if token.kind == Kind::SectionClose {
-        match closings(open.as_slice(), token.text) {
-            Some(n) => times = n,
-            None => return Err(fault(token.line, SourceKind::WrongSectionTag)),
-        }
-        open.truncate(open.len().saturating_sub(times));
-    }
-    if token.kind == Kind::SectionOpen {
-        if open.push(tag(token.text)).is_err() {
-            return Err(Refused::Memory);
-        }
-    }
-    match repeat_step(alloc, frames, now, token, times) {
-        Ok(now) => match limit(frames, &now) {
+) -> Result<Now, Refused<SourceFault>>
+    ensures { (u : List Symbol) → Behind u (tags opened.old.items) (state (stack_of frames.old) now) → Advances frames.new opened.new.items result u (symbol_of token.now) }
+{
+    match take(alloc, frames, opened, now, token) {
+        Ok(after) => match limit(frames, &after) {
             Some(kind) => Err(fault(token.line, kind)),
-            None => Ok(now),
+            None => Ok(after),
         },
-        Err(stop) => Err(refusal(stop, token.line)),
+        Err(refused) => Err(refused),
     }
 }
 
-/// The section that these symbols are, the end of which is on line `end`, or the fault that stands at the first symbol
-/// after which no section goes on.
-///
-/// It is proved to be safe and to end on every list of symbols. No contract ties it to the grammar yet.
-pub fn parse(alloc: Global, tokens: &[Token], end: Line) -> Result<Section, Refused<SourceFault>> {
-    let mut frames = Frames {
-        decls: Vec::new(alloc),
-        held: NOTHING,
-        above: Vec::new(alloc),
-    };
-    let mut open = Vec::new(alloc);
-    let mut now = Now::Due;
-    for token in tokens {
-        now = advance(alloc, &mut frames, &mut open, now, token)?;
+/// The section, if it is whole here, where its end is on this line.
+fn whole(frames: Frames, now: Now, end: Line) -> Result<Section, Refused<SourceFault>>
+    ensures { Ends result (whole (Some (state (stack_of frames) now))) end }
+{
+    let Frames {
+        decls,
+        held: _,
+        above,
+    } = frames;
+    match now {
+        Now::Due => {
+            if above.is_empty() {
+                return Ok(Section { decls });
+            }
+            Err(fault(end, SourceKind::UnexpectedSymbol))
+        }
+        _ => Err(fault(end, SourceKind::UnexpectedSymbol)),
     }
-    // the end completes what a `;` completes
+}
+
+/// The end of the section, on this line. It completes what a `;` completes.
+fn at_end(
+    alloc: Global,
+    frames: Frames,
+    now: Now,
+    end: Line,
+) -> Result<Section, Refused<SourceFault>>
+    ensures { Ends result (run [] (state (stack_of frames) now)) end }
+{
+    let mut frames = frames;
     let last = Token {
         kind: Kind::Semicolon,
         line: Line::first(),
         text: &[],
     };
     match step(alloc, &mut frames, now, &last) {
-        Ok(Now::Due) => {}
-        Ok(_) => return Err(fault(end, SourceKind::UnexpectedSymbol)),
-        Err(stop) => return Err(refusal(stop, end)),
+        Ok(now) => whole(frames, now, end),
+        Err(Stop::Memory) => Err(Refused::Memory),
+        Err(Stop::Unexpected) => Err(fault(end, SourceKind::UnexpectedSymbol)),
     }
-    if !frames.above.is_empty() {
-        return Err(fault(end, SourceKind::UnexpectedSymbol));
+}
+
+/// The section that these symbols are, the end of which is on line `end`, or the fault that stands at the first symbol
+/// after which no section goes on.
+pub fn parse(alloc: Global, tokens: &[Token], end: Line) -> Result<Section, Refused<SourceFault>>
+    // What is answered is the section's one tree, or a fault that stands.
+    ensures { Parses result (symbols_of tokens.now) end }
+{
+    let mut frames = Frames {
+        decls: Vec::new(alloc),
+        held: NOTHING,
+        above: Vec::new(alloc),
+    };
+    let mut opened = Vec::new(alloc);
+    let mut now = Now::Due;
+    for token in tokens {
+        match advance(alloc, &mut frames, &mut opened, now, token) {
+            Ok(after) => now = after,
+            Err(refused) => return Err(refused),
+        }
     }
-    let Frames {
-        decls,
-        held: _,
-        above: _,
-    } = frames;
-    Ok(Section { decls })
+    at_end(alloc, frames, now, end)
 }

@@ -1,8 +1,8 @@
-use Rattle.std.proofs.Common.{◌≡◌, ℕ, List, ◌++◌, [], ◌∷◌, Option, true, sym, ap, subst, ◌∙◌, arith}
+use Rattle.std.proofs.Common.{◌≡◌, Option, true, sym, ap, subst, ◌∙◌, arith}
 use Rattle.std.proofs.lemmas.Grind.{common_steps}
 use Rattle.bk_syntax.specs.Tree.{expression}
 use Rattle.bk_syntax.specs.Rows.{goes}
-use Rattle.bk_syntax.specs.Machine.{Stack, State, limit, push, give}
+use Rattle.bk_syntax.specs.Machine.{State, limit, push, give}
 use Rattle.bk_syntax.specs.Frames.{begun_on, stack, stack_of, Flows}
 use Rattle.bk_syntax.proofs.Steps.{pushes}
 use Rattle.bk_syntax.proofs.Stacks.{stack_push}

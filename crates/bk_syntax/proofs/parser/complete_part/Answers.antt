@@ -1,9 +1,8 @@
-use Rattle.std.proofs.Common.{◌≡◌, sym, ap, ◌∙◌}
-use Rattle.bk_syntax.specs.Tree.{expression}
+use Rattle.std.proofs.Common.{sym, ap, ◌∙◌}
 use Rattle.bk_syntax.specs.Rows.{goes}
-use Rattle.bk_syntax.specs.Machine.{limit, give}
+use Rattle.bk_syntax.specs.Machine.{limit}
 use Rattle.bk_syntax.specs.Frames.{stack_of, begun_on}
-use Rattle.bk_syntax.proofs.Insides.{limit_phrase, limit_member, clause_takes_none, place_takes_none, point_takes_none}
+use Rattle.bk_syntax.proofs.Insides.{limit_phrase, limit_member}
 use Rattle.bk_syntax.proofs.parser.complete_part.Goals as goal
 
 pub complete-requires : goal.complete-requires
