@@ -31,13 +31,13 @@ use Rattle.bk_syntax.specs.Tree.{Declarations, declarations_in, no_declarations}
 use Rattle.bk_syntax.specs.Grammar as G
 use Rattle.bk_syntax.specs.Spelling.{tag_of}
 use Rattle.bk_syntax.specs.Brackets.{Closing, closed_by, in_front, plain_behind, plain_by, plain}
-use Rattle.bk_syntax.specs.SyntaxFault.{Stands}
+use Rattle.bk_syntax.specs.SyntaxFault.{IsSection, Stands}
 use Rattle.bk_syntax.specs.Machine.{Stack, State, due, in_section, opens, closes, stepped_by, step, whole, going, run}
 use Rattle.bk_syntax.specs.Frames.{begun_on, above, stack, stack_of, state, Steps}
 use Rattle.bk_syntax.specs.SyntaxLaws.{reading}
-use Rattle.bk_syntax.specs.Parsing.{tags, Closes, goes_to, steps, Behind, GoesOn, Says, IsLimit, told, Advances, declarations_of, Ends, Parses}
+use Rattle.bk_syntax.specs.Parsing.{tags, Closes, goes_to, steps, Behind, GoesOn, Says, IsLimit, told, Advances, declarations_of, Ends, Parses, Gives}
 use Rattle.bk_syntax.proofs.Steps.{stepped}
-use Rattle.bk_syntax.proofs.Stands.{end_stands}
+use Rattle.bk_syntax.proofs.Stands.{one_tree, end_stands}
 use Rattle.bk_syntax.proofs.Stacks.{stack_none}
 use Rattle.bk_syntax.proofs.Openings.{tags_none}
 use Rattle.bk_syntax.proofs.Exact.{reads_the_grammar}
@@ -157,10 +157,17 @@ answered (Ok now) new xs u t before after x n go are h b =
 answered (Err s.Memory) new xs u t before after x n go are h b = tt
 answered (Err s.Unexpected) new xs u t before after x n go are h b = (refl, unexpected u t before after x n b h go)
 
-pub limit_says : (kind : SourceKind) (u : List Symbol) (t : Symbol) → IsLimit kind → Says kind u t
-limit_says NestedTooDeeply u t h = tt
-limit_says TooManyNodes u t h = tt
-limit_says _ u t h = absurd h
+limit_says : (kind : SourceKind) (u : List Symbol) (t : Symbol) → IsLimit kind → GoesOn (u ++ t ∷ []) → Says kind u t
+limit_says NestedTooDeeply u t h on = on
+limit_says TooManyNodes u t h on = on
+limit_says _ u t h on = absurd h
+
+-- a limit is told where the symbols go on
+pub limit_told : (kind : SourceKind) (q : Refused SourceFault) (new : Frames) (xs : List (Bor (List ℕ))) (u : List Symbol) (t : Symbol) → IsLimit kind → q ≡ Fault (record { line = t.line; kind = kind })
+    → GoesOn (u ++ t ∷ []) → Advances new xs (Err q) u t
+limit_told kind q new xs u t limits is on =
+    let P : Refused SourceFault → Type 0 = λ z. Advances new xs (Err z) u t in
+    subst P (sym is) (refl, limit_says kind u t limits on)
 
 last_begun : (st : Stack) (x : Frame) (xs : List Frame) → (y : Begun) × (below : Stack) × (above st (x ∷ xs) ≡ begun_on y below)
 last_begun st x [] = (x.begun, st, refl)
@@ -267,3 +274,22 @@ from_nothing ds xs ys none nothing closed_all =
 
 pub all_read : (ts : List Token) (i : ℕ) (opens : List (List ℕ)) (x : State) → i ≡ length ts → Behind (symbols_of (take i ts)) opens x → Behind (symbols_of ts) opens x
 all_read ts i opens x is b = let P : List Token → Type 0 = λ z. Behind (symbols_of z) opens x in subst P (ap (λ (n : ℕ). take n ts) is ∙ take-length ts) b
+
+told_only : (kind : SourceKind) (u : List Symbol) (t : Symbol) (more : List Symbol) (ds : Declarations) → Says kind u t → IsSection ds ((u ++ t ∷ []) ++ more) → IsLimit kind
+told_only WrongSectionTag u t more ds h is = absurd (tag_stands (u ++ t ∷ []) more ds h.1 is)
+told_only UnexpectedSymbol u t more ds h is = absurd (h.1.1 (more, ds, is, tt))
+told_only NestedTooDeeply u t more ds h is = tt
+told_only TooManyNodes u t more ds h is = tt
+told_only _ u t more ds h is = absurd h
+
+-- where the symbols are a section
+pub gives_only : (r : Result Section (Refused SourceFault)) (ts : List Symbol) (end : ℕ) → Parses r ts end → (ds : Declarations) → IsSection ds ts → Gives r ds
+gives_only (Ok s) ts end p ds is = one_tree (declarations_of s) ds ts p is
+gives_only (Err (Fault f)) ts end p ds is = elim p [
+  | inl a ↦
+      let P : List Symbol → Type 0 = λ z. IsSection ds z in
+      told_only f.kind a.before a.at a.more ds a.says (subst P (a.parts ∙ sym (append_assoc a.before (a.at ∷ []) a.more)) is)
+  | inr e ↦ absurd (e.stands ds is)
+]
+gives_only (Err Memory) ts end p ds is = tt
+gives_only (Err Device) ts end p ds is = absurd p

@@ -52,12 +52,13 @@ pub record Behind (ts : List Symbol) (opens : List (List ℕ)) (x : State) : Typ
 abbrev pub GoesOn : List Symbol → Type 0
 GoesOn ts = (opens : List (List ℕ)) × (x : State) × Behind ts opens x
 
--- What a fault of this kind, told at the symbol t behind u, says. Of the limits nothing is said.
+-- What a fault of this kind, told at the symbol t behind u, says. Of a limit it is said only that without it the symbols up
+-- to and with t go on.
 abbrev pub Says : SourceKind → List Symbol → Symbol → Type 0
 Says WrongSectionTag u t = Stands WrongSectionTag u t
 Says UnexpectedSymbol u t = Stands UnexpectedSymbol u t
-Says NestedTooDeeply u t = Unit {0}
-Says TooManyNodes u t = Unit {0}
+Says NestedTooDeeply u t = GoesOn (u ++ t ∷ [])
+Says TooManyNodes u t = GoesOn (u ++ t ∷ [])
 Says _ u t = ⊥
 
 abbrev pub IsLimit : SourceKind → Type 0
@@ -112,3 +113,10 @@ Parses (Ok x) ts end = IsSection (declarations_of x) ts
 Parses (Err (Fault f)) ts end = ToldAt f ts ⊎ ToldAtEnd f ts end
 Parses (Err Memory) ts end = Unit {0}
 Parses (Err Device) ts end = ⊥
+
+-- what is answered where the symbols are the section of this tree
+abbrev pub Gives : Result Section (Refused SourceFault) → Declarations → Type 0
+Gives (Ok x) ds = declarations_of x ≡ ds
+Gives (Err (Fault f)) ds = IsLimit f.kind
+Gives (Err Memory) ds = Unit {0}
+Gives (Err Device) ds = ⊥

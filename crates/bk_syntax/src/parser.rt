@@ -3,12 +3,13 @@ ghost use Rattle.std.specs.Prelude.{◌≡◌, ◌<◌, true, false, Some, [], L
 ghost use Rattle.bk_base.specs.declared.refused.Refused.TheVariants as Refused;
 ghost use Rattle.bk_lex.specs.Symbol.{Symbol, symbol_of, symbols_of};
 ghost use Rattle.bk_lex.specs.Values.{upper_name};
-ghost use Rattle.bk_syntax.specs.Tree.{expression, action, declarations_in};
+ghost use Rattle.bk_syntax.specs.Tree.{Declarations, expression, action, declarations_in};
 ghost use Rattle.bk_syntax.specs.Spelling.{tag_of};
 ghost use Rattle.bk_syntax.specs.Rows.{goes};
 ghost use Rattle.bk_syntax.specs.Machine.{limit, opens, closes, give, finish, without, stepped_by, whole, run};
 ghost use Rattle.bk_syntax.specs.Frames.{begun_on, stack_of, state, flow, Steps, Answers, Lowers, Falls};
-ghost use Rattle.bk_syntax.specs.Parsing.{tags, Closes, steps, Behind, told, IsLimit, Advances, declarations_of, Ends, Parses};
+ghost use Rattle.bk_syntax.specs.Parsing.{tags, Closes, steps, Behind, told, IsLimit, Advances, declarations_of, Ends, Parses, Gives};
+ghost use Rattle.bk_syntax.specs.SyntaxFault.{IsSection};
 
 use crate::commands::{again, command, complete_clause, complete_phrase, guarded};
 use crate::definitions::{at_place, complete_command, complete_definition, complete_member};
@@ -416,8 +417,10 @@ fn at_end(
 /// The section that these symbols are, the end of which is on line `end`, or the fault that stands at the first symbol
 /// after which no section goes on.
 pub fn parse(alloc: Global, tokens: &[Token], end: Line) -> Result<Section, Refused<SourceFault>>
-    // What is answered is the section's one tree, or a fault that stands.
-    ensures { Parses result (symbols_of tokens.now) end }
+    // What is answered is a tree of the symbols, or a fault that stands where the symbols before it went on.
+    ensures parses { Parses result (symbols_of tokens.now) end }
+    // Where the symbols are a section, its tree is answered, unless a limit or memory keeps it back.
+    ensures only { (ds : Declarations) → IsSection ds (symbols_of tokens.now) → Gives result ds }
 {
     let mut frames = Frames {
         decls: Vec::new(alloc),
