@@ -37,6 +37,7 @@ use Rattle.bk_syntax.specs.Frames.{begun_on, above, stack, stack_of, state, Step
 use Rattle.bk_syntax.specs.SyntaxLaws.{reading}
 use Rattle.bk_syntax.specs.Parsing.{tags, Closes, goes_to, steps, Behind, GoesOn, Says, IsLimit, told, Advances, declarations_of, Ends, Parses, Gives}
 use Rattle.bk_syntax.proofs.Steps.{stepped}
+use Rattle.bk_syntax.proofs.Before.{opens_kind, closes_kind}
 use Rattle.bk_syntax.proofs.Stands.{one_tree, end_stands}
 use Rattle.bk_syntax.proofs.Stacks.{stack_none}
 use Rattle.bk_syntax.proofs.Openings.{tags_none}
@@ -114,18 +115,10 @@ wrong_tag ts t before x b h =
     let is : plain (ts ++ t ∷ []) [] ≡ None = b.brackets (t ∷ []) ∙ ap (in_front b.plainly) h in
     ((λ w. tag_stands (ts ++ t ∷ []) w.0 w.1 is w.2), is)
 
-opens_is : (y : Kind) → opens y ≡ true → y ≡ k.SectionOpen
-opens_is k.SectionOpen h = refl
-opens_is _ h = absurd cc
-
-closes_is : (y : Kind) → closes y ≡ true → y ≡ k.SectionClose
-closes_is k.SectionClose h = refl
-closes_is _ h = absurd cc
-
 -- a symbol that opens a section
 pub plain_open : (t : Symbol) (us : List Symbol) (before : List (List ℕ)) → opens t.kind ≡ true → plain (t ∷ us) before ≡ in_front (t ∷ []) (plain us (tag_of t.text ∷ before))
 unfolding plain
-plain_open t us before h = ap (λ z. plain_by t z (plain us) before) (opens_is t.kind h)
+plain_open t us before h = ap (λ z. plain_by t z (plain us) before) (opens_kind t.kind h)
 
 other_by : (t : Symbol) (y : Kind) (f : List (List ℕ) → Option (List Symbol)) (before : List (List ℕ)) → opens y ≡ false → closes y ≡ false → plain_by t y f before ≡ in_front (t ∷ []) (f before)
 other_by t k.SectionOpen f before h j = absurd cc
@@ -140,7 +133,7 @@ plain_other t us before h j = other_by t t.kind (plain us) before h j
 -- one that closes
 pub plain_close : (t : Symbol) (us : List Symbol) (before : List (List ℕ)) (r : Option Closing) → closes t.kind ≡ true → closed_by t (tag_of t.text) before ≡ r → plain (t ∷ us) before ≡ plain_behind (plain us) r
 unfolding plain
-plain_close t us before r h j = ap (λ z. plain_by t z (plain us) before) (closes_is t.kind h) ∙ ap (plain_behind (plain us)) j
+plain_close t us before r h j = ap (λ z. plain_by t z (plain us) before) (closes_kind t.kind h) ∙ ap (plain_behind (plain us)) j
 
 pub steps_more : (n : ℕ) (t : Symbol) (x : State) → 0 < n → steps n t x ≡ goes_to (steps (n - 1) t) (step x t)
 steps_more zero t x h = absurd (omega arith)
