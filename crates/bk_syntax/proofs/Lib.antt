@@ -15,3 +15,5 @@ pub mod Turns
 pub mod Trees
 pub mod Insides
 pub mod Copies
+pub mod Openings
+pub mod Behind

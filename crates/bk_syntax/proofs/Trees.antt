@@ -1,5 +1,5 @@
 -- Trees made of a list of parts: what they are to the definitions, and a list with one part more.
-use Rattle.std.proofs.Common.{◌≡◌, ℕ, suc, ◌+◌, Bool, true, false, List, [], ◌∷◌, ◌++◌, length, map, Option, Some, None, refl, sym, ap, ◌∙◌, arith, Vec, Global, Box}
+use Rattle.std.proofs.Common.{◌≡◌, ℕ, List, [], ◌∷◌, ◌++◌, length, map, Option, Some, None, refl, ap, ◌∙◌, arith, Vec, Global, Box}
 use Rattle.bk_syntax.specs.declared.tree.Name.{Name}
 use Rattle.bk_syntax.specs.declared.tree.Sort.{Sort}
 use Rattle.bk_syntax.specs.declared.tree.Expr.{Expr, Row_of-Expr, end_of-Expr, more_of-Expr, items-the_row-Expr, items_hidden-the_row-Expr-0}
@@ -19,9 +19,9 @@ use Rattle.bk_syntax.specs.declared.tree.Init.{Init}
 use Rattle.bk_syntax.specs.declared.tree.Def.{Row_of-Init, end_of-Init, more_of-Init, items-the_row-Init, items_hidden-the_row-Init-5}
 use Rattle.bk_syntax.specs.declared.tree.Init.TheVariants as b
 use Rattle.bk_syntax.specs.declared.tree.Command.TheBlock.{hidden-the_row-Expr-0, hidden-the_row-Decl-1, hidden-the_row-Command-2, hidden-the_row-Item-3, hidden-the_row-Def-4, hidden-the_row-Init-5}
-use Rattle.bk_syntax.specs.Tree.{Mention, Expression, Expressions, Action, Actions, Declaration, Declarations, Items, Definition, Definitions, Starts, apply, table, none, more, assign, call, for_loop, block, no_actions, also, constants, definitions, no_declarations, declare, no_items, item, variables, no_definitions, define, no_starts, value, vector, mention, expression, expressions, action, actions, declaration, declarations, items, definition, definitions_of, starts, expressions_in, step_in, actions_in, declarations_in, items_in, definitions_in, starts_in}
-use Rattle.bk_syntax.specs.Machine.{each_then, actions_then, declarations_then, items_then, definitions_then, starts_then, in_head}
-use Rattle.bk_syntax.specs.Grammar.{line_of, line_of_first, line_of_names, size, start_count}
+use Rattle.bk_syntax.specs.Tree.{apply, table, none, more, assign, call, for_loop, block, no_actions, also, constants, definitions, no_declarations, declare, item, variables, no_definitions, define, value, vector, mention, expression, expressions, action, actions, declaration, declarations, items, definition, definitions_of, starts, expressions_in, step_in, actions_in, declarations_in, items_in, definitions_in, starts_in}
+use Rattle.bk_syntax.specs.Machine.{each_then, actions_then, declarations_then, items_then, definitions_then, starts_then}
+use Rattle.bk_syntax.specs.Grammar.{size, start_count}
 
 -- rows of parts as lists
 

@@ -8,3 +8,4 @@ pub mod SyntaxFault
 pub mod Machine
 pub mod SyntaxLaws
 pub mod Frames
+pub mod Parsing

@@ -1,8 +1,15 @@
 //! The parser: one pass over the symbols, with a list of what was begun.
-ghost use Rattle.std.specs.Prelude.{◌≡◌, ◌<◌, ◌≤◌, ℕ};
-ghost use Rattle.bk_syntax.specs.Tree.{expression, action};
-ghost use Rattle.bk_syntax.specs.Machine.{Stack, give, finish, without, stepped_by};
-ghost use Rattle.bk_syntax.specs.Frames.{stack_of, state, flow, Steps, Answers, Falls};
+ghost use Rattle.std.specs.Prelude.{◌≡◌, ◌<◌, true, false, Some, [], List, length, IfSome};
+ghost use Rattle.bk_base.specs.declared.refused.Refused.TheVariants as Refused;
+ghost use Rattle.bk_lex.specs.Symbol.{Symbol, symbol_of, symbols_of};
+ghost use Rattle.bk_lex.specs.Values.{upper_name};
+ghost use Rattle.bk_syntax.specs.Tree.{Declarations, expression, action, declarations_in};
+ghost use Rattle.bk_syntax.specs.Spelling.{tag_of};
+ghost use Rattle.bk_syntax.specs.Rows.{goes};
+ghost use Rattle.bk_syntax.specs.Machine.{limit, opens, closes, give, finish, without, stepped_by, whole, run};
+ghost use Rattle.bk_syntax.specs.Frames.{begun_on, stack_of, state, flow, Steps, Answers, Lowers, Falls};
+ghost use Rattle.bk_syntax.specs.Parsing.{tags, Closes, steps, Behind, told, IsLimit, Advances, declarations_of, Ends, Parses, Gives};
+ghost use Rattle.bk_syntax.specs.SyntaxFault.{IsSection};
 
 use crate::commands::{again, command, complete_clause, complete_phrase, guarded};
 use crate::definitions::{at_place, complete_command, complete_definition, complete_member};
@@ -10,12 +17,35 @@ use crate::expressions::{NOTHING, complete, extends, go_on, operand};
 use crate::frame::{Begun, Clause, Flow, Frame, Frames, Now, Size, Sized, Stop};
 use crate::size::{least, of_node};
 use crate::spelling::{same_tag, tag};
-use crate::symbols::{goes_on, repeats, starts_command};
+use crate::symbols::{closes, goes_on, opens, repeats, starts_command};
 use crate::tree::{Command, Decl};
 use bk_base::limit::{TREE_DEPTH, TREE_NODES};
 use bk_base::{Line, Refused, SourceFault, SourceKind};
 use bk_lex::{Kind, Token};
 use std::alloc::Global;
+
+/// An expression is complete in what was begun, with which the symbol behind it does not go on.
+fn complete_part(
+    alloc: Global,
+    frames: &mut Frames,
+    begun: Begun,
+    held: Size,
+    sized: Sized,
+    token: &Token,
+) -> Result<Flow, Stop>
+    requires { goes (limit (begun_on begun (stack_of frames.old))) token.now.kind ≡ false }
+    ensures answers { Answers frames.new result token.now (give (begun_on begun (stack_of frames.old)) (expression sized.expr)) }
+    ensures lowers { Lowers frames.old frames.new result }
+{
+    match begun {
+        Begun::Operand(operand) => complete(alloc, frames, operand, held, sized, token),
+        Begun::Phrase(phrase) => complete_phrase(alloc, frames, phrase, held, sized, token),
+        Begun::Member(member) => complete_member(alloc, frames, member, held, sized, token),
+        Begun::Clause(_) => Err(Stop::Unexpected),
+        Begun::Place(_) => Err(Stop::Unexpected),
+        Begun::Point(_) => Err(Stop::Unexpected),
+    }
+}
 
 /// An expression is complete so far, and a symbol comes behind it.
 #[tactic(auto, using(crate::proofs::Stacks::frames_laws))]
@@ -25,7 +55,8 @@ fn behind_expression(
     sized: Sized,
     token: &Token,
 ) -> Result<Flow, Stop>
-    ensures { Falls frames.old frames.new result }
+    ensures answers { Answers frames.new result token.now (give (stack_of frames.old) (expression sized.expr)) }
+    ensures falls { Falls frames.old frames.new result }
 {
     let Some(top) = frames.above.pop() else {
         if goes_on(12, token.kind) {
@@ -42,12 +73,7 @@ fn behind_expression(
         held,
         below: _,
     } = top;
-    match begun {
-        Begun::Operand(operand) => complete(alloc, frames, operand, held, sized, token),
-        Begun::Phrase(phrase) => complete_phrase(alloc, frames, phrase, held, sized, token),
-        Begun::Member(member) => complete_member(alloc, frames, member, held, sized, token),
-        _ => Err(Stop::Unexpected),
-    }
+    complete_part(alloc, frames, begun, held, sized, token)
 }
 
 /// A command is complete so far, and a symbol comes behind it.
@@ -112,7 +138,9 @@ fn without_command(alloc: Global, frames: &mut Frames, token: &Token) -> Result<
 }
 
 /// Completes what the symbol completes.
-fn settle(alloc: Global, frames: &mut Frames, first: Flow, token: &Token) -> Result<Now, Stop> {
+fn settle(alloc: Global, frames: &mut Frames, first: Flow, token: &Token) -> Result<Now, Stop>
+    ensures { Steps (stack_of frames.new) result (flow (stack_of frames.old) first token.now.line token.now.text.now token.now.kind) }
+{
     let mut flow = first;
     loop {
         let next = match flow {
@@ -130,7 +158,9 @@ fn settle(alloc: Global, frames: &mut Frames, first: Flow, token: &Token) -> Res
 }
 
 /// No command stands behind a colon, and this symbol begins none.
-fn step_over(alloc: Global, frames: &mut Frames, token: &Token) -> Result<Now, Stop> {
+fn step_over(alloc: Global, frames: &mut Frames, token: &Token) -> Result<Now, Stop>
+    ensures { Steps (stack_of frames.new) result (without (stack_of frames.old) token.now.line token.now.text.now token.now.kind) }
+{
     match without_command(alloc, frames, token) {
         Ok(flow) => settle(alloc, frames, flow, token),
         Err(Stop::Memory) => Err(Stop::Memory),
@@ -139,7 +169,9 @@ fn step_over(alloc: Global, frames: &mut Frames, token: &Token) -> Result<Now, S
 }
 
 /// The next symbol, a section bracket once for each section that it opens or closes.
-fn step(alloc: Global, frames: &mut Frames, now: Now, token: &Token) -> Result<Now, Stop> {
+fn step(alloc: Global, frames: &mut Frames, now: Now, token: &Token) -> Result<Now, Stop>
+    ensures { Steps (stack_of frames.new) result (stepped_by (state (stack_of frames.old) now) token.now.line token.now.text.now token.now.kind) }
+{
     match now {
         Now::Want => operand(alloc, frames, token),
         Now::Have(sized) => settle(alloc, frames, Flow::Gives(sized), token),
@@ -156,23 +188,44 @@ fn step(alloc: Global, frames: &mut Frames, now: Now, token: &Token) -> Result<N
     }
 }
 
-/// How many open sections a `$)` closes; None where its tag is wrong. Without a tag it closes one.
-fn closings(open: &[&[u8]], text: &[u8]) -> Option<usize> {
-    let wanted = tag(text);
-    if wanted.is_empty() {
-        return match open {
-            [.., last] if !last.is_empty() => None,
-            _ => Some(1),
-        };
+/// How many open sections a `$)` without a tag closes: one, or None where the innermost has a tag.
+fn closings_untagged(opened: &[&[u8]]) -> Option<usize>
+    ensures { (t : Symbol) → Closes result t [] opened.now }
+{
+    let count = opened.len();
+    if count == 0 {
+        return Some(1);
     }
-    let mut i = open.len();
+    if opened[count - 1].is_empty() {
+        return Some(1);
+    }
+    None
+}
+
+/// How many open sections a `$)` with this tag closes: those up to and with the innermost of the tag.
+fn closings_tagged(opened: &[&[u8]], wanted: &[u8]) -> Option<usize>
+    requires { 0 < length wanted.now }
+    ensures { (t : Symbol) → Closes result t (upper_name wanted.now) opened.now }
+{
+    let mut i = opened.len();
     while i > 0 {
         i -= 1;
-        if same_tag(open[i], wanted) {
-            return Some(open.len() - i);
+        if same_tag(wanted, opened[i]) {
+            return Some(opened.len() - i);
         }
     }
     None
+}
+
+/// How many open sections a `$)` closes; None where its tag is wrong.
+fn closings(opened: &[&[u8]], text: &[u8]) -> Option<usize>
+    ensures { (t : Symbol) → Closes result t (tag_of text.now) opened.now }
+{
+    let wanted = tag(text);
+    if wanted.is_empty() {
+        return closings_untagged(opened);
+    }
+    closings_tagged(opened, wanted)
 }
 
 /// A section, read by `decls`.
@@ -183,39 +236,57 @@ pub struct Section {
 
 impl Section {
     /// Its declarations.
-    pub fn decls(&self) -> &[Decl] {
+    pub fn decls(&self) -> &[Decl]
+        ensures { declarations_in result.now ≡ declarations_of self.now }
+    {
         &self.decls
     }
 }
 
-fn fault(line: Line, kind: SourceKind) -> Refused<SourceFault> {
+fn fault(line: Line, kind: SourceKind) -> Refused<SourceFault>
+    ensures { result ≡ Refused.Fault (record { line = line; kind = kind }) }
+{
     Refused::Fault(SourceFault { line, kind })
 }
 
-fn refusal(stop: Stop, line: Line) -> Refused<SourceFault> {
-    match stop {
-        Stop::Memory => Refused::Memory,
-        Stop::Unexpected => fault(line, SourceKind::UnexpectedSymbol),
+/// What a symbol on this line is answered.
+fn told(taken: Result<Now, Stop>, line: Line) -> Result<Now, Refused<SourceFault>>
+    ensures { result ≡ told taken line }
+{
+    match taken {
+        Ok(now) => Ok(now),
+        Err(Stop::Memory) => Err(Refused::Memory),
+        Err(Stop::Unexpected) => Err(fault(line, SourceKind::UnexpectedSymbol)),
     }
 }
 
-/// The symbol, so often as it closes sections.
+/// The symbol, so often.
 fn repeat_step(
     alloc: Global,
     frames: &mut Frames,
     now: Now,
     token: &Token,
     times: usize,
-) -> Result<Now, Stop> {
+) -> Result<Now, Stop>
+    ensures { Steps (stack_of frames.new) result (steps times (symbol_of token.now) (state (stack_of frames.old) now)) }
+{
     let mut now = now;
-    for _ in 0..times {
-        now = step(alloc, frames, now, token)?;
+    let mut left = times;
+    while left > 0 {
+        left -= 1;
+        match step(alloc, frames, now, token) {
+            Ok(after) => now = after,
+            Err(Stop::Memory) => return Err(Stop::Memory),
+            Err(Stop::Unexpected) => return Err(Stop::Unexpected),
+        }
     }
     Ok(now)
 }
 
 /// The limit that every section from here on passes.
-fn limit(frames: &Frames, now: &Now) -> Option<SourceKind> {
+fn limit(frames: &Frames, now: &Now) -> Option<SourceKind>
+    ensures { IfSome result IsLimit }
+{
     let size = least(frames, now);
     if size.depth > TREE_DEPTH {
         return Some(SourceKind::NestedTooDeeply);
@@ -226,69 +297,145 @@ fn limit(frames: &Frames, now: &Now) -> Option<SourceKind> {
     None
 }
 
+/// A `$)`: it closes sections, each as a `$)` without a tag.
+fn close<'a>(
+    alloc: Global,
+    frames: &mut Frames,
+    opened: &mut Vec<&'a [u8]>,
+    now: Now,
+    token: &Token<'a>,
+) -> Result<Now, Refused<SourceFault>>
+    requires { closes token.now.kind ≡ true }
+    ensures { (u : List Symbol) → Behind u (tags opened.old.items) (state (stack_of frames.old) now) → Advances frames.new opened.new.items result u (symbol_of token.now) }
+{
+    match closings(opened.as_slice(), token.text) {
+        Some(times) => {
+            opened.truncate(opened.len().saturating_sub(times));
+            told(repeat_step(alloc, frames, now, token, times), token.line)
+        }
+        None => Err(fault(token.line, SourceKind::WrongSectionTag)),
+    }
+}
+
+/// A `$(`: it opens a section.
+fn open_section<'a>(
+    alloc: Global,
+    frames: &mut Frames,
+    opened: &mut Vec<&'a [u8]>,
+    now: Now,
+    token: &Token<'a>,
+) -> Result<Now, Refused<SourceFault>>
+    requires { opens token.now.kind ≡ true }
+    ensures { (u : List Symbol) → Behind u (tags opened.old.items) (state (stack_of frames.old) now) → Advances frames.new opened.new.items result u (symbol_of token.now) }
+{
+    match opened.push(tag(token.text)) {
+        Ok(()) => told(repeat_step(alloc, frames, now, token, 1), token.line),
+        Err(_) => Err(Refused::Memory),
+    }
+}
+
+/// The next symbol.
+fn take<'a>(
+    alloc: Global,
+    frames: &mut Frames,
+    opened: &mut Vec<&'a [u8]>,
+    now: Now,
+    token: &Token<'a>,
+) -> Result<Now, Refused<SourceFault>>
+    ensures { (u : List Symbol) → Behind u (tags opened.old.items) (state (stack_of frames.old) now) → Advances frames.new opened.new.items result u (symbol_of token.now) }
+{
+    if closes(token.kind) {
+        return close(alloc, frames, opened, now, token);
+    }
+    if opens(token.kind) {
+        return open_section(alloc, frames, opened, now, token);
+    }
+    told(repeat_step(alloc, frames, now, token, 1), token.line)
+}
+
 /// What stands on the frames behind the next symbol.
 fn advance<'a>(
     alloc: Global,
     frames: &mut Frames,
-    open: &mut Vec<&'a [u8]>,
+    opened: &mut Vec<&'a [u8]>,
     now: Now,
     token: &Token<'a>,
-) -> Result<Now, Refused<SourceFault>> {
-    let mut times = 1;
-    if token.kind == Kind::SectionClose {
-        match closings(open.as_slice(), token.text) {
-            Some(n) => times = n,
-            None => return Err(fault(token.line, SourceKind::WrongSectionTag)),
-        }
-        open.truncate(open.len().saturating_sub(times));
-    }
-    if token.kind == Kind::SectionOpen {
-        if open.push(tag(token.text)).is_err() {
-            return Err(Refused::Memory);
-        }
-    }
-    match repeat_step(alloc, frames, now, token, times) {
-        Ok(now) => match limit(frames, &now) {
+) -> Result<Now, Refused<SourceFault>>
+    ensures { (u : List Symbol) → Behind u (tags opened.old.items) (state (stack_of frames.old) now) → Advances frames.new opened.new.items result u (symbol_of token.now) }
+{
+    match take(alloc, frames, opened, now, token) {
+        Ok(after) => match limit(frames, &after) {
             Some(kind) => Err(fault(token.line, kind)),
-            None => Ok(now),
+            None => Ok(after),
         },
-        Err(stop) => Err(refusal(stop, token.line)),
+        Err(refused) => Err(refused),
     }
 }
 
-/// The section that these symbols are, the end of which is on line `end`, or the fault that stands at the first symbol
-/// after which no section goes on.
-///
-/// It is proved to be safe and to end on every list of symbols. No contract ties it to the grammar yet.
-pub fn parse(alloc: Global, tokens: &[Token], end: Line) -> Result<Section, Refused<SourceFault>> {
-    let mut frames = Frames {
-        decls: Vec::new(alloc),
-        held: NOTHING,
-        above: Vec::new(alloc),
-    };
-    let mut open = Vec::new(alloc);
-    let mut now = Now::Due;
-    for token in tokens {
-        now = advance(alloc, &mut frames, &mut open, now, token)?;
+/// The section, if it is whole here, where its end is on this line.
+fn whole(frames: Frames, now: Now, end: Line) -> Result<Section, Refused<SourceFault>>
+    ensures { Ends result (whole (Some (state (stack_of frames) now))) end }
+{
+    let Frames {
+        decls,
+        held: _,
+        above,
+    } = frames;
+    match now {
+        Now::Due => {
+            if above.is_empty() {
+                return Ok(Section { decls });
+            }
+            Err(fault(end, SourceKind::UnexpectedSymbol))
+        }
+        _ => Err(fault(end, SourceKind::UnexpectedSymbol)),
     }
-    // the end completes what a `;` completes
+}
+
+/// The end of the section, on this line. It completes what a `;` completes.
+fn at_end(
+    alloc: Global,
+    frames: Frames,
+    now: Now,
+    end: Line,
+) -> Result<Section, Refused<SourceFault>>
+    ensures { Ends result (run [] (state (stack_of frames) now)) end }
+{
+    let mut frames = frames;
     let last = Token {
         kind: Kind::Semicolon,
         line: Line::first(),
         text: &[],
     };
     match step(alloc, &mut frames, now, &last) {
-        Ok(Now::Due) => {}
-        Ok(_) => return Err(fault(end, SourceKind::UnexpectedSymbol)),
-        Err(stop) => return Err(refusal(stop, end)),
+        Ok(now) => whole(frames, now, end),
+        Err(Stop::Memory) => Err(Refused::Memory),
+        Err(Stop::Unexpected) => Err(fault(end, SourceKind::UnexpectedSymbol)),
     }
-    if !frames.above.is_empty() {
-        return Err(fault(end, SourceKind::UnexpectedSymbol));
+}
+
+/// The section that these symbols are, the end of which is on line `end`, or the fault that stands at the first symbol
+/// after which no section goes on.
+///
+/// That a limit is told just where it is passed, and that the fault is the first, no clause says.
+pub fn parse(alloc: Global, tokens: &[Token], end: Line) -> Result<Section, Refused<SourceFault>>
+    // What is answered is a tree of the symbols, or a fault that stands where the symbols before it went on.
+    ensures parses { Parses result (symbols_of tokens.now) end }
+    // Where the symbols are a section, its tree is answered, unless a limit or memory keeps it back.
+    ensures only { (ds : Declarations) → IsSection ds (symbols_of tokens.now) → Gives result ds }
+{
+    let mut frames = Frames {
+        decls: Vec::new(alloc),
+        held: NOTHING,
+        above: Vec::new(alloc),
+    };
+    let mut opened = Vec::new(alloc);
+    let mut now = Now::Due;
+    for token in tokens {
+        match advance(alloc, &mut frames, &mut opened, now, token) {
+            Ok(after) => now = after,
+            Err(refused) => return Err(refused),
+        }
     }
-    let Frames {
-        decls,
-        held: _,
-        above: _,
-    } = frames;
-    Ok(Section { decls })
+    at_end(alloc, frames, now, end)
 }

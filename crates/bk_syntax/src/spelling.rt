@@ -3,6 +3,7 @@ ghost use Rattle.std.specs.Prelude.{◌≡◌, IfOk, List, ℕ, map};
 ghost use Rattle.std.specs.Char.{to_ascii_uppercase};
 ghost use Rattle.bk_lex.specs.Values.{upper_name};
 ghost use Rattle.bk_syntax.specs.Spelling.{tag_of};
+ghost use Rattle.bk_syntax.specs.Brackets.{same_tag};
 
 use std::alloc::{AllocError, Global};
 
@@ -26,6 +27,8 @@ pub fn tag(text: &[u8]) -> &[u8]
 }
 
 /// Whether two tags are one, letter case ignored.
-pub fn same_tag(a: &[u8], b: &[u8]) -> bool {
+pub fn same_tag(a: &[u8], b: &[u8]) -> bool
+    ensures { result ≡ same_tag (upper_name a.now) (upper_name b.now) }
+{
     a.eq_ignore_ascii_case(b)
 }

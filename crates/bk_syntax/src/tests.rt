@@ -2,7 +2,7 @@
 use crate::parse;
 use bk_base::{Line, Refused, SourceFault, SourceKind};
 use bk_lex::lex;
-use std::alloc::Global;
+use std::alloc::{AllocError, Global};
 use std::test::Fail;
 
 /// Reads the first section of a text; what becomes of it, and how many declarations it has.
@@ -87,6 +87,117 @@ fn refused(rt: HostRuntime) -> Result<(), Fail> {
         assert_eq!(rt;
             read(rt.alloc(), text),
             Err(Refused::Fault(SourceFault { line, kind }))
+        );
+    }
+    Ok(())
+}
+
+/// A routine of this front, of a part so often, and of the rest.
+fn repeated(
+    alloc: Global,
+    front: &[u8],
+    part: &[u8],
+    times: usize,
+    rest: &[u8],
+) -> Result<Vec<u8>, AllocError> {
+    let mut text = Vec::new(alloc);
+    text.extend_from_slice(b"LET F() BE ")?;
+    text.extend_from_slice(front)?;
+    for _ in 0..times {
+        text.extend_from_slice(part)?;
+    }
+    text.extend_from_slice(rest)?;
+    Ok(text)
+}
+
+/// Each limit at its last good value.
+#[test]
+fn within_limits(rt: HostRuntime) -> Result<(), Fail> {
+    let rows: [(&[u8], &[u8], usize, &[u8]); 5] = [
+        (b"", b"IF A DO ", 198, b"FINISH"),
+        (b"$(1", b"$(", 197, b" FINISH $)1"),
+        (b"$(1", b"$(", 198, b"$)1"),
+        (b"$( ", b"B(); ", 32_767, b"$)"),
+        (b"$( ", b"FINISH;", 65_534, b"$)"),
+    ];
+    for (front, part, times, rest) in rows {
+        let text = repeated(rt.alloc(), front, part, times, rest)?;
+        assert_eq!(rt; read(rt.alloc(), text.as_slice()), Ok(1));
+    }
+    Ok(())
+}
+
+/// And at the next, on the line of the first symbol that passes it.
+#[test]
+fn past_limits(rt: HostRuntime) -> Result<(), Fail> {
+    let rows: [(&[u8], &[u8], usize, &[u8], SourceKind); 6] = [
+        (
+            b"",
+            b"IF A DO ",
+            198,
+            b"\nB(\n)",
+            SourceKind::NestedTooDeeply,
+        ),
+        (
+            b"",
+            b"IF A DO ",
+            198,
+            b"\nIF\nA DO FINISH",
+            SourceKind::NestedTooDeeply,
+        ),
+        (
+            b"$(1",
+            b"$(",
+            198,
+            b"\nFINISH\n$)1",
+            SourceKind::NestedTooDeeply,
+        ),
+        (
+            b"$(",
+            b"$(",
+            198,
+            b"\n$(\nFINISH",
+            SourceKind::NestedTooDeeply,
+        ),
+        (
+            b"$( ",
+            b"B(); ",
+            32_767,
+            b"\nFINISH\n$)",
+            SourceKind::TooManyNodes,
+        ),
+        (
+            b"$( ",
+            b"FINISH;",
+            65_534,
+            b"\nFINISH\n$)",
+            SourceKind::TooManyNodes,
+        ),
+    ];
+    for (front, part, times, rest, kind) in rows {
+        let text = repeated(rt.alloc(), front, part, times, rest)?;
+        assert_eq!(rt;
+            read(rt.alloc(), text.as_slice()),
+            Err(Refused::Fault(SourceFault {
+                line: Line::first().next(),
+                kind
+            }))
+        );
+    }
+    Ok(())
+}
+
+/// As many brackets as a section may have symbols, which take no more memory than two hundred.
+#[test]
+fn brackets_alone(rt: HostRuntime) -> Result<(), Fail> {
+    for bracket in [b"$(".as_slice(), b"("] {
+        let text = repeated(rt.alloc(), b"", bracket, 262_139, b"")?;
+        assert_eq!(rt;
+            read(rt.alloc(), text.as_slice()),
+            Err(Refused::Fault(SourceFault {
+                line: Line::first(),
+                kind: SourceKind::NestedTooDeeply
+            }))
         );
     }
     Ok(())

@@ -1,7 +1,7 @@
-//! Which tree symbols are: each operator beside each other, prefixes, choices, and the limits.
+//! Which tree symbols are: each operator beside each other, prefixes, choices.
 use crate::tree::{Command, Decl, Def, Expr, Operator, Prefix};
 use crate::{Section, parse};
-use bk_base::{Line, Refused, SourceFault, SourceKind};
+use bk_base::{Line, Refused, SourceFault};
 use bk_lex::lex;
 use std::test::Fail;
 
@@ -215,82 +215,5 @@ fn repeat_belongs_to_the_command_before(rt: HostRuntime) -> Result<(), Fail> {
         return Err(Fail::from("no REPEAT"));
     };
     assert!(rt; matches!(&**repeated, Command::Call(_, _, _)));
-    Ok(())
-}
-
-/// A text of a beginning, a part so many times, a middle, another part as often, and what follows.
-fn repeated(rt: &HostRuntime, parts: [&str; 4], times: usize) -> Result<String, Fail> {
-    let mut text = String::new(rt.alloc());
-    text.push_str(parts[0])?;
-    for _ in 0..times {
-        text.push_str(parts[1])?;
-    }
-    text.push_str(parts[2])?;
-    for _ in 0..times {
-        text.push_str(parts[3])?;
-    }
-    Ok(text)
-}
-
-/// What becomes of such a text: nothing, or its fault.
-fn fault_of(rt: &HostRuntime, parts: [&str; 4], times: usize) -> Result<Option<SourceFault>, Fail> {
-    let text = repeated(rt, parts, times)?;
-    match section(rt, text.as_bytes()) {
-        Ok(_) => Ok(None),
-        Err(Refused::Fault(fault)) => Ok(Some(fault)),
-        Err(_) => Err(Fail::from("no memory")),
-    }
-}
-
-#[test]
-fn limits(rt: HostRuntime) -> Result<(), Fail> {
-    let rows: [([&'static str; 4], usize, u32, SourceKind); 4] = [
-        (
-            ["LET START() BE", "$(", " FINISH", "$)"],
-            198,
-            1,
-            SourceKind::NestedTooDeeply,
-        ),
-        (
-            ["LET F() BE", "\n$(", "", "$)"],
-            199,
-            201,
-            SourceKind::NestedTooDeeply,
-        ),
-        (
-            ["LET F() = A", "+(A", "", ")"],
-            99,
-            1,
-            SourceKind::NestedTooDeeply,
-        ),
-        (
-            ["LET F() BE $( ", "FINISH;", "$)", ""],
-            65_534,
-            1,
-            SourceKind::TooManyNodes,
-        ),
-    ];
-    for (parts, most, line, kind) in rows {
-        let line = Line::new(line.max(1));
-        assert_eq!(rt; fault_of(&rt, parts, most)?, None);
-        assert_eq!(rt;
-            fault_of(&rt, parts, most.saturating_add(1))?,
-            Some(SourceFault { line, kind })
-        );
-    }
-    Ok(())
-}
-
-#[test]
-fn as_many_brackets_as_symbols(rt: HostRuntime) -> Result<(), Fail> {
-    for bracket in ["$(", "("] {
-        let parts = ["LET F() BE ", bracket, "", ""];
-        let line = Line::first();
-        let kind = SourceKind::NestedTooDeeply;
-        assert_eq!(rt;
-            fault_of(&rt, parts, 262_139)?,
-            Some(SourceFault { line, kind })
-        );
-    }
     Ok(())
 }

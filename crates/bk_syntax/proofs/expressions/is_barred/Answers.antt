@@ -1,4 +1,4 @@
-use Rattle.std.proofs.Common.{◌≡◌, ℕ, ◌+◌, ◌-◌, take, sym, ap, ◌∙◌, arith}
+use Rattle.std.proofs.Common.{◌≡◌, ◌+◌, ◌-◌, take, sym, ap, ◌∙◌, arith}
 use Rattle.bk_syntax.specs.Machine.{bars}
 use Rattle.bk_syntax.specs.Frames.{stack}
 use Rattle.bk_syntax.proofs.Stacks.{stack_take}

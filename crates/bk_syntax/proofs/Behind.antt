@@ -1,0 +1,288 @@
+-- What there is behind some symbols, and behind one more.
+use Rattle.std.proofs.Common.{◌≡◌, ℕ, zero, suc, ◌-◌, ◌+◌, ◌<◌, length, get_or, take, drop, arith, List, [], ◌∷◌, ◌++◌, true, false, Option, Some, None, Result, Ok, Err, replicate, refl, sym, ap, subst, ◌∙◌, ◌⊎◌, inl, inr, append_assoc}
+use Rattle.std.proofs.lemmas.List.{append-nil, take_more, map-append, take-append-drop, at_drop_more}
+use Rattle.std.proofs.Math.Seq.{take-length}
+use Rattle.std.specs.Borrow.{Bor}
+use Rattle.bk_base.specs.declared.source_fault.SourceFault.{SourceFault}
+use Rattle.bk_base.specs.declared.source_fault.SourceKind.{SourceKind}
+use Rattle.bk_base.specs.declared.refused.Refused.{Refused}
+use Rattle.bk_base.specs.declared.refused.Refused.TheVariants.{Fault, Memory, Device}
+use Rattle.bk_base.specs.declared.source_fault.SourceKind.TheVariants.{UnexpectedSymbol, WrongSectionTag, NestedTooDeeply, TooManyNodes}
+use Rattle.bk_lex.specs.declared.token.Kind.{Kind}
+use Rattle.bk_lex.specs.declared.token.Kind.TheVariants as k
+use Rattle.bk_lex.specs.declared.token.Token.{Token}
+use Rattle.bk_lex.specs.Symbol.{Symbol, symbol_of, symbols_of}
+use Rattle.bk_syntax.specs.declared.frame.Operand.TheVariants as o
+use Rattle.bk_syntax.specs.declared.frame.Phrase.TheVariants as p
+use Rattle.bk_syntax.specs.declared.frame.Member.TheVariants as m
+use Rattle.bk_syntax.specs.declared.frame.Clause.TheVariants as c
+use Rattle.bk_syntax.specs.declared.frame.Place.TheVariants as a
+use Rattle.bk_syntax.specs.declared.frame.Point.TheVariants as t
+use Rattle.bk_syntax.specs.declared.frame.Begun.{Begun}
+use Rattle.bk_syntax.specs.declared.frame.Begun.TheVariants as b
+use Rattle.bk_syntax.specs.declared.frame.Frame.{Frame}
+use Rattle.bk_syntax.specs.declared.frame.Frames.{Frames}
+use Rattle.bk_syntax.specs.declared.frame.Now.{Now}
+use Rattle.bk_syntax.specs.declared.frame.Stop.{Stop}
+use Rattle.bk_syntax.specs.declared.frame.Stop.TheVariants as s
+use Rattle.bk_syntax.specs.declared.parser.Section.{Section}
+use Rattle.bk_syntax.specs.declared.tree.Decl.{Decl}
+use Rattle.bk_syntax.specs.Tree.{Declarations, declarations_in, no_declarations}
+use Rattle.bk_syntax.specs.Grammar as G
+use Rattle.bk_syntax.specs.Spelling.{tag_of}
+use Rattle.bk_syntax.specs.Brackets.{Closing, closed_by, in_front, plain_behind, plain_by, plain}
+use Rattle.bk_syntax.specs.SyntaxFault.{IsSection, Stands}
+use Rattle.bk_syntax.specs.Machine.{Stack, State, due, in_section, opens, closes, stepped_by, step, whole, going, run}
+use Rattle.bk_syntax.specs.Frames.{begun_on, above, stack, stack_of, state, Steps}
+use Rattle.bk_syntax.specs.SyntaxLaws.{reading}
+use Rattle.bk_syntax.specs.Parsing.{tags, Closes, goes_to, steps, Behind, GoesOn, Says, IsLimit, told, Advances, declarations_of, Ends, Parses, Gives}
+use Rattle.bk_syntax.proofs.Steps.{stepped}
+use Rattle.bk_syntax.proofs.Before.{opens_kind, closes_kind}
+use Rattle.bk_syntax.proofs.Stands.{one_tree, end_stands}
+use Rattle.bk_syntax.proofs.Stacks.{stack_none}
+use Rattle.bk_syntax.proofs.Openings.{tags_none}
+use Rattle.bk_syntax.proofs.Exact.{reads_the_grammar}
+use Rattle.bk_syntax.proofs.Tags.{tag_stands, symbol_stands}
+
+nothing_in_front : (r : Option (List Symbol)) → r ≡ in_front [] r
+nothing_in_front None = refl
+nothing_in_front (Some us) = refl
+
+both_in_front : (ps qs : List Symbol) (r : Option (List Symbol)) → in_front ps (in_front qs r) ≡ in_front (ps ++ qs) r
+both_in_front ps qs None = refl
+both_in_front ps qs (Some us) = ap Some (sym (append_assoc ps qs us))
+
+-- before the first symbol
+pub from_start : Behind [] [] (due (in_section no_declarations))
+from_start = record { plainly = []; brackets = λ us. nothing_in_front (plain us []); reads = λ us. refl }
+
+-- behind one symbol more, which stands for these plain ones
+pub behind_one : (ts : List Symbol) (t : Symbol) (before after : List (List ℕ)) (x y : State) (ps : List Symbol) → Behind ts before x
+    → ((us : List Symbol) → plain (t ∷ us) before ≡ in_front ps (plain us after)) → ((us : List Symbol) → run (ps ++ us) x ≡ run us y) → Behind (ts ++ t ∷ []) after y
+behind_one ts t before after x y ps b h g = record {
+  plainly = b.plainly ++ ps;
+  brackets = λ us. ap (λ z. plain z []) (append_assoc ts (t ∷ []) us) ∙ b.brackets (t ∷ us) ∙ ap (in_front b.plainly) (h us) ∙ both_in_front b.plainly ps (plain us after);
+  reads = λ us. ap reading (append_assoc b.plainly ps us) ∙ b.reads (ps ++ us) ∙ g us;
+}
+
+goes_some : (f : State → Option State) (r : Option State) (y : State) → goes_to f r ≡ Some y → (z : State) × (r ≡ Some z) × (f z ≡ Some y)
+goes_some f None y h = absurd cc
+goes_some f (Some z) y h = (z, refl, h)
+
+goes_none : (f : State → Option State) (r : Option State) → goes_to f r ≡ None → (r ≡ None) ⊎ ((z : State) × (r ≡ Some z) × (f z ≡ None))
+goes_none f None h = inl refl
+goes_none f (Some z) h = inr (z, refl, h)
+
+pub run_steps : (n : ℕ) (t : Symbol) (x y : State) (us : List Symbol) → steps n t x ≡ Some y → run (replicate n t ++ us) x ≡ run us y
+run_steps zero t x y us h = let same : x ≡ y = cc in ap (run us) same
+run_steps (suc n) t x y us h = let g = goes_some (steps n t) (step x t) y h in stepped x g.0 t (replicate n t ++ us) g.1 ∙ run_steps n t g.0 y us g.2
+
+stopped : (x : State) (t : Symbol) (us : List Symbol) → step x t ≡ None → run (t ∷ us) x ≡ Err (t ∷ us)
+unfolding run
+stopped x t us h = ap (λ y. going (t ∷ us) (run us) y) h
+
+-- at one of so many symbols the machine stops
+stops : (n : ℕ) (t : Symbol) (x : State) → steps n t x ≡ None → (u v : List Symbol) × (replicate n t ≡ u ++ t ∷ v) × ((us : List Symbol) → run (replicate n t ++ us) x ≡ Err ((t ∷ v) ++ us))
+stops zero t x h = absurd cc
+stops (suc n) t x h = elim (goes_none (steps n t) (step x t) h) [
+  | inl g ↦ ([], replicate n t, refl, λ us. stopped x t (replicate n t ++ us) g)
+  | inr g ↦ let j = stops n t g.0 g.2 in (t ∷ j.0, j.1, ap (λ (z : List Symbol). t ∷ z) j.2, λ us. stepped x g.0 t (replicate n t ++ us) g.1 ∙ j.3 us)
+]
+
+plain_end : (opens : List (List ℕ)) → plain [] opens ≡ Some []
+unfolding plain
+plain_end opens = refl
+
+-- a symbol at which the machine stops is an unexpected one
+pub unexpected : (ts : List Symbol) (t : Symbol) (before after : List (List ℕ)) (x : State) (n : ℕ) → Behind ts before x
+    → ((us : List Symbol) → plain (t ∷ us) before ≡ in_front (replicate n t) (plain us after)) → steps n t x ≡ None → Stands UnexpectedSymbol ts t
+unexpected ts t before after x n b h stop =
+    let j = stops n t x stop in
+    let p = b.plainly in
+    let rs = replicate n t in
+    let is : plain (ts ++ t ∷ []) [] ≡ Some ((p ++ j.0) ++ t ∷ j.1) =
+    b.brackets (t ∷ []) ∙ ap (in_front p) (h []) ∙ ap (λ z. in_front p (in_front rs z)) (plain_end after)
+    ∙ ap (λ (z : List Symbol). Some (p ++ z)) (append-nil rs ∙ j.2) ∙ ap Some (sym (append_assoc p j.0 (t ∷ j.1))) in
+    let at : reading ((p ++ j.0) ++ t ∷ j.1) ≡ Err (t ∷ j.1) =
+    ap reading (append_assoc p j.0 (t ∷ j.1) ∙ ap (λ (z : List Symbol). p ++ z) (sym j.2)) ∙ b.reads rs
+    ∙ ap (λ z. run z x) (sym (append-nil rs)) ∙ j.3 [] ∙ ap Err (append-nil (t ∷ j.1)) in
+    let none = symbol_stands (ts ++ t ∷ []) (p ++ j.0) t j.1 is at in
+    ((λ w. none w.0 w.1 w.2), ((λ e. absurd cc), λ w. none w.0 w.1 w.2))
+
+-- a symbol at which the tag clause fails has a wrong tag
+pub wrong_tag : (ts : List Symbol) (t : Symbol) (before : List (List ℕ)) (x : State) → Behind ts before x → plain (t ∷ []) before ≡ None → Stands WrongSectionTag ts t
+wrong_tag ts t before x b h =
+    let is : plain (ts ++ t ∷ []) [] ≡ None = b.brackets (t ∷ []) ∙ ap (in_front b.plainly) h in
+    ((λ w. tag_stands (ts ++ t ∷ []) w.0 w.1 is w.2), is)
+
+-- a symbol that opens a section
+pub plain_open : (t : Symbol) (us : List Symbol) (before : List (List ℕ)) → opens t.kind ≡ true → plain (t ∷ us) before ≡ in_front (t ∷ []) (plain us (tag_of t.text ∷ before))
+unfolding plain
+plain_open t us before h = ap (λ z. plain_by t z (plain us) before) (opens_kind t.kind h)
+
+other_by : (t : Symbol) (y : Kind) (f : List (List ℕ) → Option (List Symbol)) (before : List (List ℕ)) → opens y ≡ false → closes y ≡ false → plain_by t y f before ≡ in_front (t ∷ []) (f before)
+other_by t k.SectionOpen f before h j = absurd cc
+other_by t k.SectionClose f before h j = absurd cc
+other_by t _ f before h j = refl
+
+-- one that neither opens nor closes
+pub plain_other : (t : Symbol) (us : List Symbol) (before : List (List ℕ)) → opens t.kind ≡ false → closes t.kind ≡ false → plain (t ∷ us) before ≡ in_front (t ∷ []) (plain us before)
+unfolding plain
+plain_other t us before h j = other_by t t.kind (plain us) before h j
+
+-- one that closes
+pub plain_close : (t : Symbol) (us : List Symbol) (before : List (List ℕ)) (r : Option Closing) → closes t.kind ≡ true → closed_by t (tag_of t.text) before ≡ r → plain (t ∷ us) before ≡ plain_behind (plain us) r
+unfolding plain
+plain_close t us before r h j = ap (λ z. plain_by t z (plain us) before) (closes_kind t.kind h) ∙ ap (plain_behind (plain us)) j
+
+pub steps_more : (n : ℕ) (t : Symbol) (x : State) → 0 < n → steps n t x ≡ goes_to (steps (n - 1) t) (step x t)
+steps_more zero t x h = absurd (omega arith)
+steps_more (suc n) t x h = let e : suc n - 1 ≡ n = omega arith in ap (λ (m : ℕ). goes_to (steps m t) (step x t)) (sym e)
+
+-- a symbol is answered by as many steps as it has plain symbols
+pub answered : (r : Result Now Stop) (new : Frames) (xs : List (Bor (List ℕ))) (u : List Symbol) (t : Symbol) (before after : List (List ℕ)) (x : State) (n : ℕ)
+    → Steps (stack_of new) r (steps n t x) → tags xs ≡ after → ((us : List Symbol) → plain (t ∷ us) before ≡ in_front (replicate n t) (plain us after)) → Behind u before x
+    → Advances new xs (told r t.line) u t
+answered (Ok now) new xs u t before after x n go are h b =
+    let y = state (stack_of new) now in
+    let P : List (List ℕ) → Type 0 = λ z. Behind (u ++ t ∷ []) z y in
+    subst P (sym are) (behind_one u t before after x y (replicate n t) b h (λ us. run_steps n t x y us go))
+answered (Err s.Memory) new xs u t before after x n go are h b = tt
+answered (Err s.Unexpected) new xs u t before after x n go are h b = (refl, unexpected u t before after x n b h go)
+
+limit_says : (kind : SourceKind) (u : List Symbol) (t : Symbol) → IsLimit kind → GoesOn (u ++ t ∷ []) → Says kind u t
+limit_says NestedTooDeeply u t h on = on
+limit_says TooManyNodes u t h on = on
+limit_says _ u t h on = absurd h
+
+-- a limit is told where the symbols go on
+pub limit_told : (kind : SourceKind) (q : Refused SourceFault) (new : Frames) (xs : List (Bor (List ℕ))) (u : List Symbol) (t : Symbol) → IsLimit kind → q ≡ Fault (record { line = t.line; kind = kind })
+    → GoesOn (u ++ t ∷ []) → Advances new xs (Err q) u t
+limit_told kind q new xs u t limits is on =
+    let P : Refused SourceFault → Type 0 = λ z. Advances new xs (Err z) u t in
+    subst P (sym is) (refl, limit_says kind u t limits on)
+
+last_begun : (st : Stack) (x : Frame) (xs : List Frame) → (y : Begun) × (below : Stack) × (above st (x ∷ xs) ≡ begun_on y below)
+last_begun st x [] = (x.begun, st, refl)
+last_begun st x (y ∷ ys) = last_begun (begun_on x.begun st) y ys
+
+begun_more : (x : Begun) (st : Stack) → whole (Some (due (begun_on x st))) ≡ Err []
+begun_more (b.Operand (o.Parens l)) st = refl
+begun_more (b.Operand _) st = refl
+begun_more (b.Phrase p.Start) st = refl
+begun_more (b.Phrase _) st = refl
+begun_more (b.Member (m.Function n fs)) st = refl
+begun_more (b.Member _) st = refl
+begun_more (b.Clause (c.Valof l)) st = refl
+begun_more (b.Clause _) st = refl
+begun_more (b.Place (a.Let l xs)) st = refl
+begun_more (b.Place _) st = refl
+begun_more (b.Point (t.Goto l)) st = refl
+begun_more (b.Point _) st = refl
+
+-- with something begun above the declarations the section is not whole
+pub not_whole : (ds : List Decl) (xs : List Frame) → 0 < length xs → whole (Some (due (stack ds xs))) ≡ Err []
+unfolding stack
+not_whole ds [] h = absurd (omega arith)
+not_whole ds (x ∷ xs) h = let l = last_begun (in_section (declarations_in ds)) x xs in ap (λ z. whole (Some (due z))) l.2 ∙ begun_more l.0 l.1
+
+pub run_end : (x : State) → run [] x ≡ whole (stepped_by x 1 [] k.Semicolon)
+unfolding run
+run_end x = refl
+
+-- a fault that is told at one of the symbols
+pub told_of : (r : Refused SourceFault) (new : Frames) (xs : List (Bor (List ℕ))) (ts : List Token) (i : ℕ) (t : Token) (end : ℕ) → i < length ts → t ≡ get_or ts i t
+    → GoesOn (symbols_of (take i ts)) → Advances new xs (Err r) (symbols_of (take i ts)) (symbol_of t) → Parses (Err r) (symbols_of ts) end
+told_of (Fault f) new xs ts i t end lt at on h = inl (record {
+  before = symbols_of (take i ts);
+  at = symbol_of t;
+  more = symbols_of (drop (i + 1) ts);
+  parts = ap symbols_of (sym (take-append-drop i ts)) ∙ map-append symbol_of (take i ts) (drop i ts)
+      ∙ ap (λ (z : List Symbol). symbols_of (take i ts) ++ z) (at_drop_more symbols_of ts i t lt ∙ ap (λ z. symbol_of z ∷ symbols_of (drop (i + 1) ts)) (sym at));
+  line = h.0;
+  goes_on = on;
+  says = h.1;
+})
+told_of Memory new xs ts i t end lt at on h = tt
+told_of Device new xs ts i t end lt at on h = absurd h
+
+pub one_further : (ts : List Token) (i : ℕ) (t : Token) (opens : List (List ℕ)) (x : State) → i < length ts → t ≡ get_or ts i t
+    → Behind (symbols_of (take i ts) ++ symbol_of t ∷ []) opens x → Behind (symbols_of (take (i + 1) ts)) opens x
+one_further ts i t opens x lt at b =
+    let P : List Symbol → Type 0 = λ z. Behind z opens x in
+    subst P (sym (ap symbols_of (take_more ts i t lt ∙ ap (λ z. take i ts ++ z ∷ []) (sym at)) ∙ map-append symbol_of (take i ts) (t ∷ []))) b
+
+-- the brackets of all the symbols
+plain_all : (ts : List Symbol) (opens : List (List ℕ)) (x : State) (b : Behind ts opens x) → plain ts [] ≡ Some b.plainly
+plain_all ts opens x b = ap (λ z. plain z []) (sym (append-nil ts)) ∙ b.brackets [] ∙ ap (in_front b.plainly) (plain_end opens) ∙ ap Some (append-nil b.plainly)
+
+reading_all : (ts : List Symbol) (opens : List (List ℕ)) (x : State) (b : Behind ts opens x) → reading b.plainly ≡ run [] x
+reading_all ts opens x b = ap reading (sym (append-nil b.plainly)) ∙ b.reads []
+
+-- what is answered behind them all
+pub ended : (r : Result Section (Refused SourceFault)) (ts : List Symbol) (opens : List (List ℕ)) (x : State) (end : ℕ) → Behind ts opens x → Ends r (run [] x) end → Parses r ts end
+ended (Ok s) ts opens x end b h = record {
+  plainly = b.plainly;
+  brackets = plain_all ts opens x b;
+  section = (reads_the_grammar (declarations_of s) b.plainly).1 (reading_all ts opens x b ∙ h);
+}
+ended (Err (Fault f)) ts opens x end b h = inr (record {
+  kind = h.1;
+  line = h.2;
+  goes_on = (opens, x, b);
+  stands = λ ds is.
+      let same : is.plainly ≡ b.plainly = let e = is.brackets in let g = plain_all ts opens x b in cc in
+      let P : List Symbol → Type 0 = λ z. G.Section ds z in
+      end_stands b.plainly [] (reading_all ts opens x b ∙ h.0) ds (subst P same is.section);
+})
+ended (Err Memory) ts opens x end b h = tt
+ended (Err Device) ts opens x end b h = absurd h
+
+pub closed : (r : Result Now Stop) (new : Frames) (xs ys zs : List (Bor (List ℕ))) (u : List Symbol) (t : Symbol) (x : State) (n k : ℕ) → closes t.kind ≡ true → zs ≡ ys → Closes (Some n) t (tag_of t.text) zs
+    → k ≡ length ys - n → xs ≡ take k ys → Steps (stack_of new) r (steps n t x) → Behind u (tags ys) x → Advances new xs (told r t.line) u t
+closed r new xs ys zs u t x n k holds same h left is go b =
+    let P : List (Bor (List ℕ)) → Type 0 = λ z. Closes (Some n) t (tag_of t.text) z in
+    let q : closed_by t (tag_of t.text) (tags ys) ≡ Some (record { closings = replicate n t; still = tags (take (length ys - n) ys) }) = subst P same h in
+    answered r new xs u t (tags ys) (tags (take (length ys - n) ys)) x n go (ap tags (is ∙ ap (λ (j : ℕ). take j ys) left)) (λ us. plain_close t us (tags ys) _ holds q) b
+
+pub not_closed : (ys zs : List (Bor (List ℕ))) (u : List Symbol) (t : Symbol) (x : State) → closes t.kind ≡ true → zs ≡ ys → Closes None t (tag_of t.text) zs → Behind u (tags ys) x → Stands WrongSectionTag u t
+not_closed ys zs u t x holds same h b =
+    let P : List (Bor (List ℕ)) → Type 0 = λ z. Closes None t (tag_of t.text) z in
+    wrong_tag u t (tags ys) x b (plain_close t [] (tags ys) None holds (subst P same h))
+
+pub whole_empty : (ds : List Decl) (xs : List Frame) → length xs ≡ 0 → whole (Some (due (stack ds xs))) ≡ Ok (declarations_in ds)
+unfolding stack
+whole_empty ds [] h = refl
+whole_empty ds (x ∷ xs) h = absurd (omega arith)
+
+pub ends_wrong : (q : Refused SourceFault) (r : Result Declarations (List Symbol)) (end : ℕ) → q ≡ Fault (record { line = end; kind = UnexpectedSymbol }) → r ≡ Err [] → Ends (Err q) r end
+ends_wrong q r end is h = let P : Refused SourceFault → Type 0 = λ z. Ends (Err z) r end in subst P (sym is) (h, refl, refl)
+
+pub from_nothing : (ds : List Decl) (xs : List Frame) (ys : List (Bor (List ℕ))) → ds ≡ [] → xs ≡ [] → ys ≡ [] → Behind [] (tags ys) (due (stack ds xs))
+from_nothing ds xs ys none nothing closed_all =
+    let at : stack ds xs ≡ in_section no_declarations = ap (λ z. stack z xs) none ∙ ap (stack []) nothing ∙ stack_none [] in
+    let P : Stack → Type 0 = λ z. Behind [] (tags ys) (due z) in
+    let Q : List (List ℕ) → Type 0 = λ z. Behind [] z (due (in_section no_declarations)) in
+    subst P (sym at) (subst Q (sym (ap tags closed_all ∙ tags_none)) from_start)
+
+pub all_read : (ts : List Token) (i : ℕ) (opens : List (List ℕ)) (x : State) → i ≡ length ts → Behind (symbols_of (take i ts)) opens x → Behind (symbols_of ts) opens x
+all_read ts i opens x is b = let P : List Token → Type 0 = λ z. Behind (symbols_of z) opens x in subst P (ap (λ (n : ℕ). take n ts) is ∙ take-length ts) b
+
+told_only : (kind : SourceKind) (u : List Symbol) (t : Symbol) (more : List Symbol) (ds : Declarations) → Says kind u t → IsSection ds ((u ++ t ∷ []) ++ more) → IsLimit kind
+told_only WrongSectionTag u t more ds h is = absurd (tag_stands (u ++ t ∷ []) more ds h.1 is)
+told_only UnexpectedSymbol u t more ds h is = absurd (h.1.1 (more, ds, is, tt))
+told_only NestedTooDeeply u t more ds h is = tt
+told_only TooManyNodes u t more ds h is = tt
+told_only _ u t more ds h is = absurd h
+
+-- where the symbols are a section
+pub gives_only : (r : Result Section (Refused SourceFault)) (ts : List Symbol) (end : ℕ) → Parses r ts end → (ds : Declarations) → IsSection ds ts → Gives r ds
+gives_only (Ok s) ts end p ds is = one_tree (declarations_of s) ds ts p is
+gives_only (Err (Fault f)) ts end p ds is = elim p [
+  | inl a ↦
+      let P : List Symbol → Type 0 = λ z. IsSection ds z in
+      told_only f.kind a.before a.at a.more ds a.says (subst P (a.parts ∙ sym (append_assoc a.before (a.at ∷ []) a.more)) is)
+  | inr e ↦ absurd (e.stands ds is)
+]
+gives_only (Err Memory) ts end p ds is = tt
+gives_only (Err Device) ts end p ds is = absurd p

@@ -1,0 +1,12 @@
+use Rattle.std.proofs.Common.{◌≡◌}
+use Rattle.bk_lex.specs.Symbol.{symbol_of}
+use Rattle.bk_syntax.specs.Frames.{stack_of, state}
+use Rattle.bk_syntax.specs.Parsing.{steps}
+use Rattle.bk_syntax.proofs.parser.repeat_step.Given as goal
+
+abbrev pub invariant-loop-left : goal.invariant-loop-left
+invariant-loop-left l =
+    steps l.left (symbol_of l.token) (state (stack_of l.frames) l.now) ≡ steps l.fn.times (symbol_of l.token) (state (stack_of l.fn.frames) l.fn.now)
+
+abbrev pub decreases-loop-left : goal.decreases-loop-left
+decreases-loop-left l = l.left

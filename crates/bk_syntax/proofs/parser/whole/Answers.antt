@@ -1,0 +1,18 @@
+use Rattle.std.proofs.Common.{◌≡◌, ◌<◌, Some, vec_len, ap, ◌∙◌, arith}
+use Rattle.bk_syntax.specs.Machine.{whole}
+use Rattle.bk_syntax.specs.Frames.{stack_of, state}
+use Rattle.bk_syntax.proofs.Openings.{is_zero, is_more}
+use Rattle.bk_syntax.proofs.Behind.{whole_empty, not_whole, ends_wrong}
+use Rattle.bk_syntax.proofs.parser.whole.Goals as goal
+
+pub returns-then-is_empty : goal.returns-then-is_empty
+returns-then-is_empty c =
+    let x = c.args.frames in
+    let none : vec_len x.above ≡ 0 = is_zero _ _ c.is_empty.ensures c.if-is_empty.true in
+    ap (λ n. whole (Some (state (stack_of x) n))) c.in-Due.is ∙ whole_empty x.decls.items x.above.items (omega (arith, none))
+
+pub returns-in-Due : goal.returns-in-Due
+returns-in-Due c =
+    let x = c.args.frames in
+    let some : 0 < vec_len x.above = is_more _ _ c.is_empty.ensures c.if-is_empty.false in
+    ends_wrong _ _ _ c.fault.ensures (ap (λ n. whole (Some (state (stack_of x) n))) c.in-Due.is ∙ not_whole x.decls.items x.above.items (omega (arith, some)))

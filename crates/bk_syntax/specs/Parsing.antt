@@ -1,0 +1,122 @@
+-- What the parser has behind some symbols of a section, and what it answers of them all.
+use Rattle.std.specs.Prelude.{ℕ, zero, suc, ◌≡◌, ◌⊎◌, Option, Some, None, List, [], ◌∷◌, ◌++◌, length, ◌-◌, take, replicate, Result, Ok, Err}
+use Rattle.std.specs.Borrow.{Bor}
+use Rattle.bk_base.specs.declared.source_fault.SourceFault.{SourceFault}
+use Rattle.bk_base.specs.declared.source_fault.SourceKind.{SourceKind}
+use Rattle.bk_base.specs.declared.source_fault.SourceKind.TheVariants.{UnexpectedSymbol, WrongSectionTag, NestedTooDeeply, TooManyNodes}
+use Rattle.bk_base.specs.declared.refused.Refused.{Refused}
+use Rattle.bk_base.specs.declared.refused.Refused.TheVariants.{Fault, Memory, Device}
+use Rattle.bk_lex.specs.Symbol.{Symbol}
+use Rattle.bk_lex.specs.Values.{upper_name}
+use Rattle.bk_syntax.specs.declared.frame.Frames.{Frames}
+use Rattle.bk_syntax.specs.declared.frame.Now.{Now}
+use Rattle.bk_syntax.specs.declared.frame.Stop.{Stop}
+use Rattle.bk_syntax.specs.declared.frame.Stop.TheVariants as s
+use Rattle.bk_syntax.specs.declared.parser.Section.{Section}
+use Rattle.bk_syntax.specs.Tree.{Declarations, declarations_in}
+use Rattle.bk_syntax.specs.Brackets.{closed_by, in_front, plain}
+use Rattle.bk_syntax.specs.SyntaxFault.{IsSection, Stands, StandsAtEnd}
+use Rattle.bk_syntax.specs.Machine.{State, step, run}
+use Rattle.bk_syntax.specs.SyntaxLaws.{reading}
+use Rattle.bk_syntax.specs.Frames.{stack_of, state}
+
+-- the tags of the open sections in upper case, the innermost first
+abbrev pub tags_on : List (List ℕ) → List (Bor (List ℕ)) → List (List ℕ)
+tags_on opens [] = opens
+tags_on opens (x ∷ xs) = tags_on (upper_name x.now ∷ opens) xs
+
+unfoldable pub tags : List (Bor (List ℕ)) → List (List ℕ)
+tags xs = tags_on [] xs
+
+-- a `$)` with this tag closes so many of these sections; None where the tag clause fails
+abbrev pub Closes : Option ℕ → Symbol → List ℕ → List (Bor (List ℕ)) → Type 0
+Closes None t tag xs = closed_by t tag (tags xs) ≡ None
+Closes (Some n) t tag xs = closed_by t tag (tags xs) ≡ Some (record { closings = replicate n t; still = tags (take (length xs - n) xs) })
+
+abbrev pub goes_to : (State → Option State) → Option State → Option State
+goes_to f None = None
+goes_to f (Some x) = f x
+
+-- so often this symbol
+abbrev pub steps : ℕ → Symbol → State → Option State
+steps zero t x = Some x
+steps (suc n) t x = goes_to (steps n t) (step x t)
+
+-- behind these symbols these sections are open, and the machine is in this state
+pub record Behind (ts : List Symbol) (opens : List (List ℕ)) (x : State) : Type 0 where
+  pub plainly : List Symbol
+  pub brackets : (us : List Symbol) → plain (ts ++ us) [] ≡ in_front plainly (plain us opens)
+  pub reads : (us : List Symbol) → reading (plainly ++ us) ≡ run us x
+
+-- the tag clause does not fail in these symbols, and the machine goes on behind them
+abbrev pub GoesOn : List Symbol → Type 0
+GoesOn ts = (opens : List (List ℕ)) × (x : State) × Behind ts opens x
+
+-- What a fault of this kind, told at the symbol t behind u, says. Of a limit it is said only that without it the symbols up
+-- to and with t go on.
+abbrev pub Says : SourceKind → List Symbol → Symbol → Type 0
+Says WrongSectionTag u t = Stands WrongSectionTag u t
+Says UnexpectedSymbol u t = Stands UnexpectedSymbol u t
+Says NestedTooDeeply u t = GoesOn (u ++ t ∷ [])
+Says TooManyNodes u t = GoesOn (u ++ t ∷ [])
+Says _ u t = ⊥
+
+abbrev pub IsLimit : SourceKind → Type 0
+IsLimit NestedTooDeeply = Unit {0}
+IsLimit TooManyNodes = Unit {0}
+IsLimit _ = ⊥
+
+-- what a symbol on this line is answered
+abbrev pub told : Result Now Stop → ℕ → Result Now (Refused SourceFault)
+told (Ok now) line = Ok now
+told (Err s.Memory) line = Err Memory
+told (Err s.Unexpected) line = Err (Fault (record { line = line; kind = UnexpectedSymbol }))
+
+-- the answer to a further symbol t behind u
+abbrev pub Advances : Frames → List (Bor (List ℕ)) → Result Now (Refused SourceFault) → List Symbol → Symbol → Type 0
+Advances new opens (Ok now) u t = Behind (u ++ t ∷ []) (tags opens) (state (stack_of new) now)
+Advances new opens (Err (Fault f)) u t = (f.line ≡ t.line) × Says f.kind u t
+Advances new opens (Err Memory) u t = Unit {0}
+Advances new opens (Err Device) u t = ⊥
+
+-- the tree of a section
+abbrev pub declarations_of : Section → Declarations
+declarations_of x = declarations_in x.decls.items
+
+-- the answer at the end
+abbrev pub Ends : Result Section (Refused SourceFault) → Result Declarations (List Symbol) → ℕ → Type 0
+Ends (Ok x) r end = r ≡ Ok (declarations_of x)
+Ends (Err (Fault f)) r end = (r ≡ Err []) × (f.kind ≡ UnexpectedSymbol) × (f.line ≡ end)
+Ends (Err Memory) r end = Unit {0}
+Ends (Err Device) r end = ⊥
+
+-- a fault that is told at a symbol, before which the symbols go on
+pub record ToldAt (f : SourceFault) (ts : List Symbol) : Type 0 where
+  pub before : List Symbol
+  pub at : Symbol
+  pub more : List Symbol
+  pub parts : ts ≡ before ++ at ∷ more
+  pub line : f.line ≡ at.line
+  pub goes_on : GoesOn before
+  pub says : Says f.kind before at
+
+-- a fault that is told at the end, which is on this line
+pub record ToldAtEnd (f : SourceFault) (ts : List Symbol) (end : ℕ) : Type 0 where
+  pub kind : f.kind ≡ UnexpectedSymbol
+  pub line : f.line ≡ end
+  pub goes_on : GoesOn ts
+  pub stands : StandsAtEnd ts
+
+-- what is answered of these symbols, which end on this line
+abbrev pub Parses : Result Section (Refused SourceFault) → List Symbol → ℕ → Type 0
+Parses (Ok x) ts end = IsSection (declarations_of x) ts
+Parses (Err (Fault f)) ts end = ToldAt f ts ⊎ ToldAtEnd f ts end
+Parses (Err Memory) ts end = Unit {0}
+Parses (Err Device) ts end = ⊥
+
+-- what is answered where the symbols are the section of this tree
+abbrev pub Gives : Result Section (Refused SourceFault) → Declarations → Type 0
+Gives (Ok x) ds = declarations_of x ≡ ds
+Gives (Err (Fault f)) ds = IsLimit f.kind
+Gives (Err Memory) ds = Unit {0}
+Gives (Err Device) ds = ⊥
