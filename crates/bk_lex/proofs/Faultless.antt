@@ -158,17 +158,6 @@ way_more q q2 last k t after rest is longest e w = record {
 abbrev pub NoCut : List ℕ → Type 0
 NoCut text = (p : Piece) (after : List ℕ) → Cut p text after → is_dot_sort p.sort ≡ false → ⊥
 
--- other pieces of the section lie on the way
-sync : (ps : List Piece) (q last : Putting) (text here rest : List ℕ) → NoCut rest → Way q text rest last → CutsTo text ps here → InSection ps → (q2 : Putting) × (puts (Some q) ps ≡ Some q2) × Way q2 here rest last
-sync [] q last text here rest none w c i = (q, refl, subst (λ (x : List ℕ). Way q x rest last) c w)
-sync (p ∷ ps) q last text here rest none w c i =
-    elim (way_next q last text rest w) [
-      | inl e ↦ absurd (none p c.0 (subst (λ (x : List ℕ). Cut p x c.0) e.0 c.1) i.0)
-      | inr o ↦ (let same = same_cut p o.0 text c.0 o.1 c.1 o.3 in
-          let r = sync ps o.2 last o.1 here rest none o.5 (subst (λ (x : List ℕ). CutsTo x ps here) same.1 c.2) i.1 in
-          (r.0, ap (λ (x : Option Putting). puts x ps) (ap (put q) same.0 ∙ o.4) ∙ r.1, r.2))
-    ]
-
 -- no piece is put here
 abbrev pub NoPut : Putting → List ℕ → Type 0
 NoPut q text = (p : Piece) (after : List ℕ) (q2 : Putting) → Cut p text after → put q p ≡ Some q2 → ⊥
@@ -449,14 +438,14 @@ abbrev AllPast : ℕ → List ℕ → Type 0
 AllPast total rest = (k : Sort) (front tail : List ℕ) → rest ≡ front ++ tail → Spelled k front → NoLonger front tail → 1048576 + length rest < total + length front
 
 no_bytes : (from total line : ℕ) (q last : Putting) (text rest : List ℕ) → NoCut rest → total ≤ 1048576 + length rest → (1048576 < total → AllPast total rest → ⊥) → Way q text rest last → PassesBytes from total line text → ⊥
-no_bytes from total line q last text rest none le end w h =
-    let s = sync h.pieces q last text h.rest rest none w h.cut h.in_section in
-    elim (way_next s.0 last h.rest rest s.2) [
-      | inl e ↦ end h.over (subst (λ (x : List ℕ). AllPast total x) e.0 h.past)
-      | inr o ↦ (let lt = h.past o.0.sort o.0.text o.1 o.3.parts o.3.is o.3.longest in
-          let len = ap (λ (x : List ℕ). length x) o.3.parts in
-          omega (arith, lt, len, length-append o.0.text o.1, cuts_length o.5.pieces o.1 rest o.5.cut, le))
-    ]
+no_bytes from total line q last text rest none le end w h = let r = cuts_sync w.pieces h.pieces text h.rest rest none w.cut h.cut h.in_section in look r.0 r.1
+  where
+    look : (rs : List Piece) → CutsTo h.rest rs rest → ⊥
+    look [] e = end h.over (subst (λ (x : List ℕ). AllPast total x) e h.past)
+    look (p ∷ rs) e =
+        let lt = h.past p.sort p.text e.0 e.1.parts e.1.is e.1.longest in
+        let len = ap (λ (x : List ℕ). length x) e.1.parts in
+        omega (arith, lt, len, length-append p.text e.0, cuts_length rs e.0 rest e.2, le)
 
 -- ---- where a section ends
 
