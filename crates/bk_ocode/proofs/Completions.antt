@@ -168,7 +168,7 @@ abbrev without : ℤ → List Case → List Case
 without z [] = []
 without z (c ∷ rest) = if int_eq c.value z then rest else c ∷ without z rest
 
-bool_cases : (b : Bool) → (b ≡ true) ⊎ (b ≡ false)
+pub bool_cases : (b : Bool) → (b ≡ true) ⊎ (b ≡ false)
 bool_cases true = inl refl
 bool_cases false = inr refl
 
@@ -180,7 +180,7 @@ if-false : {X : Type 0} (b : Bool) (x y : X) → b ≡ false → (if b then x el
 if-false true x y e = absurd (let h : true ≡ false = e in cc)
 if-false false x y e = refl
 
-or-second : (a b : Bool) → a ≡ false → (a || b) ≡ b
+pub or-second : (a b : Bool) → a ≡ false → (a || b) ≡ b
 or-second true b e = absurd (let h : true ≡ false = e in cc)
 or-second false b e = refl
 

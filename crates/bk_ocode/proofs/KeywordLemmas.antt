@@ -1,5 +1,7 @@
 -- The words that begin statements are known again.
-use Rattle.std.proofs.Common.{◌≡◌, ◌≢◌, ℕ, List, [], ◌∷◌, Bool, true, false, not, ◌≤◌, ◌<◌, length, arith, Some, None, refl, sym, ap, ◌∙◌}
+use Rattle.std.proofs.Common.{◌≡◌, ◌≢◌, ℕ, List, [], ◌∷◌, Bool, true, false, not, ◌&&◌, nat_eq, nat_lt, if◌then◌else◌, ◌≤◌, ◌<◌, length, arith, ltb-true, Some, None, refl, sym, ap, ◌∙◌}
+use Rattle.std.specs.List.{list_all}
+use lib.Pointwise.{pointwise}
 use Rattle.bk_ocode.specs.StmtText.{keyword}
 use Rattle.bk_ocode.specs.Places.{role, may_stand}
 use Rattle.bk_ocode.specs.Context.{Context}
@@ -221,66 +223,28 @@ stands_so (stmt.DataNumber value) = refl
 stands_so (stmt.DataAddress label) = refl
 stands_so (stmt.Globals entries) = refl
 
+pub and_both : (a b : Bool) → (a && b) ≡ true → (a ≡ true) × (b ≡ true)
+and_both true b is = (refl, is)
+and_both false b is = absurd (let h : false ≡ true = is in cc)
+
+-- what holds of all keywords of a list holds of one that is found there
+found_holds : (p : Keyword → Bool) (list : List Keyword) (word : List ℕ) (k : Keyword) → find_keyword list word ≡ Some k → list_all p list ≡ true → p k ≡ true
+found_holds p [] word k found all = absurd (let h : None ≡ Some k = found in cc)
+found_holds p (j ∷ list) word k found all =
+    let both = and_both (p j) (list_all p list) all in
+    first_or (pointwise nat_eq (keyword_text j) word) found both.0 (λ later. found_holds p list word k later both.1)
+  where
+    first_or : (b : Bool) → (if b then Some j else find_keyword list word) ≡ Some k → p j ≡ true → (find_keyword list word ≡ Some k → p k ≡ true) → p k ≡ true
+    first_or true is here later = let same : j ≡ k = cc in ap p (sym same) ∙ here
+    first_or false is here later = later is
+
+-- and one that holds of all of them holds of each
+pub holds_of_each : (p : Keyword → Bool) → list_all p keywords ≡ true → (k : Keyword) → p k ≡ true
+holds_of_each p all k = found_holds p keywords (keyword_text k) k (all_found k) all
+
 -- none is long
 short : (k : Keyword) → length (keyword_text k) ≤ 8
-short Number = omega arith
-short True = omega arith
-short False = omega arith
-short Query = omega arith
-short Text = omega arith
-short LoadByte = omega arith
-short AssignAt = omega arith
-short AssignByte = omega arith
-short Jump = omega arith
-short Label = omega arith
-short GiveResult = omega arith
-short TakeResult = omega arith
-short Stack = omega arith
-short Store = omega arith
-short Entry = omega arith
-short Save = omega arith
-short CallFunction = omega arith
-short CallRoutine = omega arith
-short ReturnItem = omega arith
-short Return = omega arith
-short EndProcedure = omega arith
-short Switch = omega arith
-short Finish = omega arith
-short DataLabel = omega arith
-short DataNumber = omega arith
-short DataAddress = omega arith
-short Globals = omega arith
-short (Load kinds.Local) = omega arith
-short (Load kinds.Global) = omega arith
-short (Load kinds.Static) = omega arith
-short (Address kinds.Local) = omega arith
-short (Address kinds.Global) = omega arith
-short (Address kinds.Static) = omega arith
-short (Assign kinds.Local) = omega arith
-short (Assign kinds.Global) = omega arith
-short (Assign kinds.Static) = omega arith
-short (Monadic monadic.Contents) = omega arith
-short (Monadic monadic.Negate) = omega arith
-short (Monadic monadic.Not) = omega arith
-short (Dyadic dyadic.Multiply) = omega arith
-short (Dyadic dyadic.Divide) = omega arith
-short (Dyadic dyadic.Remainder) = omega arith
-short (Dyadic dyadic.Add) = omega arith
-short (Dyadic dyadic.Subtract) = omega arith
-short (Dyadic dyadic.Equal) = omega arith
-short (Dyadic dyadic.Unequal) = omega arith
-short (Dyadic dyadic.Less) = omega arith
-short (Dyadic dyadic.Greater) = omega arith
-short (Dyadic dyadic.AtMost) = omega arith
-short (Dyadic dyadic.AtLeast) = omega arith
-short (Dyadic dyadic.ShiftLeft) = omega arith
-short (Dyadic dyadic.ShiftRight) = omega arith
-short (Dyadic dyadic.And) = omega arith
-short (Dyadic dyadic.Or) = omega arith
-short (Dyadic dyadic.Eqv) = omega arith
-short (Dyadic dyadic.Neqv) = omega arith
-short (JumpIf true) = omega arith
-short (JumpIf false) = omega arith
+short k = let low = ltb-true (length (keyword_text k)) 9 (holds_of_each (λ (j : Keyword). nat_lt (length (keyword_text j)) 9) refl k) in omega arith
 
 pub not_long : (s : Stmt) (word : List ℕ) → 16 < length word → keyword s ≢ word
 not_long s word long is = absurd (omega (arith, short (keyword_of_stmt s), ap (λ (w : List ℕ). length w) (sym (begins_so s)), ap (λ (w : List ℕ). length w) is, long))

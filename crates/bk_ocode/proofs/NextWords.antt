@@ -1,5 +1,5 @@
 -- With a word that is unfit no statement goes on.
-use Rattle.std.proofs.Common.{◌≡◌, ◌≢◌, ◌⊎◌, inl, inr, ℕ, zero, suc, ℤ, FitsSigned, w32, ◌<◌, ◌≤◌, ◌^◌, ◌++◌, ◌||◌, Bool, true, false, List, [], ◌∷◌, Some, None, length, slice_get, arith, refl, sym, ap, ◌∙◌, append_assoc, append-nil}
+use Rattle.std.proofs.Common.{◌≡◌, ◌≢◌, inl, inr, ℕ, zero, suc, ℤ, FitsSigned, w32, ◌<◌, ◌≤◌, ◌^◌, ◌++◌, true, false, List, [], ◌∷◌, Some, None, length, slice_get, arith, refl, sym, ap, ◌∙◌, append_assoc, append-nil}
 use Rattle.std.proofs.lemmas.Bool.Decides.{Decides-int_eq}
 use Rattle.std.proofs.lemmas.Option.{slice_get_within}
 use Rattle.std.specs.Ordering.{int_eq}
@@ -23,6 +23,7 @@ use Rattle.bk_ocode.specs.declared.begun.Begun.TheVariants as begun
 use Rattle.bk_ocode.specs.declared.begun.Owner.{Owner}
 use Rattle.bk_ocode.specs.declared.begun.Owner.TheVariants as owners
 use Rattle.bk_ocode.proofs.KeywordLemmas.{begins_so, same_keyword}
+use Rattle.bk_ocode.proofs.Completions.{bool_cases, or-second}
 use Rattle.bk_ocode.proofs.SameStmts.{first_same, rests_same, natural_same, Each, byte_row, case_row, global_row, IsByte, IsCase, IsEntry, byte_rows, case_rows, global_rows, at_seam, next_row}
 
 no_variable : (v : Variable) (w : List ℕ) → IsVariable v → NoVariable (kind_of v) w → variable_word v ≢ w
@@ -80,19 +81,11 @@ no_byte bytes all w rest are fits short is none =
     let r = next_row ℕ byte_row IsByte byte_rows bytes all (w ∷ rest) [] are fits (sym (append_assoc (byte_words bytes) (w ∷ []) rest) ∙ sym is ∙ sym (append-nil (byte_words all))) short in
     none r.0 (omega arith) (omega (arith, r.3)) (sym (first_same w (natural_word r.0) _ _ r.4))
 
-bool_cases : (b : Bool) → (b ≡ true) ⊎ (b ≡ false)
-bool_cases true = inl refl
-bool_cases false = inr refl
-
-or_second : (a b : Bool) → a ≡ false → (a || b) ≡ true → b ≡ true
-or_second true b e is = absurd (let h : true ≡ false = e in cc)
-or_second false b e is = is
-
 value_place : (value : ℤ) (cases : List Case) → has_value value cases ≡ true → (j : ℕ) × (c : Case) × (slice_get cases j ≡ Some c) × (c.value ≡ value)
 value_place value [] is = absurd (let h : false ≡ true = is in cc)
 value_place value (c ∷ cases) is = elim (bool_cases (int_eq c.value value)) [
   | inl same ↦ (0, c, refl, (Decides-int_eq c.value value).0 same)
-  | inr other ↦ let r = value_place value cases (or_second (int_eq c.value value) (has_value value cases) other is) in (suc r.0, r.1, r.2, r.3)
+  | inr other ↦ let r = value_place value cases (sym (or-second (int_eq c.value value) (has_value value cases) other) ∙ is) in (suc r.0, r.1, r.2, r.3)
 ]
 
 get-append : {A : Type 0} (a c : List A) (k : ℕ) (x : A) → slice_get a k ≡ Some x → slice_get (a ++ c) k ≡ Some x

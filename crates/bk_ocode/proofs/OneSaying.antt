@@ -1,6 +1,7 @@
 -- The words of a text say one thing.
 use Rattle.std.proofs.Common.{◌≡◌, ◌≢◌, ◌⊎◌, inl, inr, ℕ, ◌+◌, ◌<◌, ◌≤◌, ◌++◌, Bool, true, false, List, [], ◌∷◌, Some, None, length, take, slice_get, not, if◌then◌else◌, arith, refl, sym, ap, ◌∙◌, subst, append_assoc, append-nil, length-append}
 use Rattle.std.proofs.lemmas.Bool.{cases_lt}
+use Rattle.std.proofs.Math.Seq.{take-append_seam}
 use Rattle.bk_base.specs.declared.limit.TheConstants.{OCODE_WORDS}
 use Rattle.bk_base.specs.declared.ocode_fault.OcodeKind.{OcodeKind}
 use Rattle.bk_base.specs.declared.ocode_fault.OcodeKind.TheVariants.{BadWord, BadNumber, Truncated, LabelNotSet, LabelSetTwice, DepthsDisagree, SlotAboveDepth, TooLong}
@@ -35,14 +36,6 @@ split_front (v ∷ a) (w ∷ b) x y is short =
     both : (v w : List ℕ) (s t : List (List ℕ)) → v ≡ w → s ≡ t → w ∷ s ≡ v ∷ t
     both v w s t first rest = cc
 
-take-seam : {X : Type 0} (a c : List X) → take (length a) (a ++ c) ≡ a
-take-seam [] c = take-none c
-  where
-    take-none : {X : Type 0} (l : List X) → take 0 l ≡ []
-    take-none [] = refl
-    take-none (x ∷ l) = refl
-take-seam (y ∷ a) c = ap (λ l. y ∷ l) (take-seam a c)
-
 pub each_stmt : (stmts : List Stmt) → AreFaultless stmts → AreTyped stmts → Each IsStmt stmts
 each_stmt stmts are typed k s at = (are.in_range k s at, typed k s at)
 
@@ -50,7 +43,7 @@ each_stmt stmts are typed k s at = (are.in_range k s at, typed k s at)
 none_behind : (before all c : List Stmt) (t : Stmt) → AreFaultless all → all ≡ before ++ t ∷ c → stmt_fault before t ≡ None
 none_behind before all c t are whole =
     let at : slice_get all (length before) ≡ Some t = ap (λ (l : List Stmt). slice_get l (length before)) whole ∙ at_seam before t c in
-    let front : take (length before) all ≡ before = ap (λ (l : List Stmt). take (length before) l) whole ∙ take-seam before (t ∷ c) in
+    let front : take (length before) all ≡ before = ap (λ (l : List Stmt). take (length before) l) whole ∙ take-append_seam before (t ∷ c) in
     ap (λ (l : List Stmt). stmt_fault l t) (sym front) ∙ are.faultless (length before) t at
 
 snoc : (s : Stmt) (stmts : List Stmt) → (before : List Stmt) × (t : Stmt) × (s ∷ stmts ≡ before ++ t ∷ [])

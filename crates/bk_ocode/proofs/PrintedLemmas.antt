@@ -1,8 +1,7 @@
 -- The words of what is printed.
-use Rattle.std.proofs.Common.{◌≡◌, ℕ, suc, ℤ, pos, FitsSigned, w32, ◌<◌, ◌^◌, ◌++◌, ◌&&◌, not, nat_eq, nat_lt, Bool, true, false, if◌then◌else◌, List, [], ◌∷◌, Some, None, length, arith, refl, sym, ap, ◌∙◌, append_assoc, ltb-true}
+use Rattle.std.proofs.Common.{◌≡◌, ℕ, suc, ℤ, pos, FitsSigned, w32, ◌<◌, ◌^◌, ◌++◌, ◌&&◌, not, nat_lt, Bool, true, false, List, [], ◌∷◌, length, arith, refl, sym, ap, ◌∙◌, append_assoc, ltb-true}
 use Rattle.std.specs.Prelude.{⊤}
 use Rattle.std.specs.List.{list_all}
-use lib.Pointwise.{pointwise}
 use Rattle.bk_base.specs.Decimal.{spelling}
 use Rattle.bk_words.specs.Words.{is_blank, words_of, AreInWord}
 use Rattle.bk_words.specs.WordLaws.{words_of-front}
@@ -12,7 +11,7 @@ use Rattle.bk_ocode.specs.StmtText.{keyword, argument_words, stmt_words, stmt_te
 use Rattle.bk_ocode.specs.SectionText.{section_text, section_words}
 use Rattle.bk_ocode.specs.StmtRange.{IsLabel, IsVariable}
 use Rattle.bk_ocode.specs.FirstFault.{IsStmt}
-use Rattle.bk_ocode.specs.Keywords.{keyword_text, find_keyword, keyword_of_stmt}
+use Rattle.bk_ocode.specs.Keywords.{keyword_text, keyword_of_stmt}
 use Rattle.bk_ocode.specs.declared.stmt.Variable.{Variable}
 use Rattle.bk_ocode.specs.declared.stmt.Variable.TheVariants as variable
 use Rattle.bk_ocode.specs.declared.stmt.Case.{Case}
@@ -20,7 +19,7 @@ use Rattle.bk_ocode.specs.declared.stmt.GlobalEntry.{GlobalEntry}
 use Rattle.bk_ocode.specs.declared.stmt.Stmt.{Stmt}
 use Rattle.bk_ocode.specs.declared.stmt.Stmt.TheVariants as stmt
 use Rattle.bk_ocode.specs.declared.keyword.Keyword.{Keyword}
-use Rattle.bk_ocode.proofs.KeywordLemmas.{keywords, all_found, begins_so}
+use Rattle.bk_ocode.proofs.KeywordLemmas.{and_both, holds_of_each, begins_so}
 use Rattle.bk_ocode.proofs.SameStmts.{Each, byte_row, case_row, global_row, IsByte, IsCase, IsEntry}
 
 -- a word has a byte at least, and no blank
@@ -53,10 +52,6 @@ variable-word (variable.Static l) fits = label-word l fits
 abbrev inside : List ℕ → Bool
 inside word = list_all (λ b. not (is_blank b)) word
 
-and_both : (a b : Bool) → (a && b) ≡ true → (a ≡ true) × (b ≡ true)
-and_both true b is = (refl, is)
-and_both false b is = absurd (let h : false ≡ true = is in cc)
-
 not_true : (a : Bool) → not a ≡ true → a ≡ false
 not_true true is = absurd (let h : false ≡ true = is in cc)
 not_true false is = refl
@@ -65,21 +60,10 @@ in_word : (word : List ℕ) → inside word ≡ true → AreInWord word
 in_word [] is = tt
 in_word (b ∷ word) is = let p = and_both (not (is_blank b)) (inside word) is in (not_true (is_blank b) p.0, in_word word p.1)
 
--- what holds of all keywords of a list holds of one that is found there
-found_holds : (p : Keyword → Bool) (list : List Keyword) (word : List ℕ) (k : Keyword) → find_keyword list word ≡ Some k → list_all p list ≡ true → p k ≡ true
-found_holds p [] word k found all = absurd (let h : None ≡ Some k = found in cc)
-found_holds p (j ∷ list) word k found all =
-    let both = and_both (p j) (list_all p list) all in
-    first_or (pointwise nat_eq (keyword_text j) word) found both.0 (λ later. found_holds p list word k later both.1)
-  where
-    first_or : (b : Bool) → (if b then Some j else find_keyword list word) ≡ Some k → p j ≡ true → (find_keyword list word ≡ Some k → p k ≡ true) → p k ≡ true
-    first_or true is here later = let same : j ≡ k = cc in ap p (sym same) ∙ here
-    first_or false is here later = later is
-
 keyword-word : (k : Keyword) → IsWord (keyword_text k)
 keyword-word k =
     let is = and_both (nat_lt 0 (length (keyword_text k))) (inside (keyword_text k))
-    (found_holds (λ (j : Keyword). nat_lt 0 (length (keyword_text j)) && inside (keyword_text j)) keywords (keyword_text k) k (all_found k) refl) in
+    (holds_of_each (λ (j : Keyword). nat_lt 0 (length (keyword_text j)) && inside (keyword_text j)) refl k) in
     (ltb-true 0 (length (keyword_text k)) is.0, in_word (keyword_text k) is.1)
 
 first-word : (s : Stmt) → IsWord (keyword s)

@@ -382,3 +382,12 @@ fn a_write_that_fails(rt: HostRuntime) -> Result<(), Fail> {
     }
     Ok(())
 }
+
+#[test]
+fn no_memory_or_the_section(rt: HostRuntime) -> Result<(), Fail> {
+    match count(&rt, EACH) {
+        Ok(stmts) => assert_eq!(rt; stmts, 83),
+        Err(refused) => assert_eq!(rt; refused, Refused::Memory),
+    }
+    Ok(())
+}
