@@ -1,5 +1,6 @@
 -- Where a bad GET is told, too many symbols are not certain.
 use Rattle.std.proofs.Common.{◌≡◌, ℕ, ◌+◌, ◌-◌, ◌≤◌, Bool, true, false, cond, ltb, List, [], ◌∷◌, ◌++◌, length, Option, Some, None, Result, Ok, Err, refl, sym, ap, subst, ◌∙◌, arith, append_assoc, ◌⊎◌, inl, inr}
+use Rattle.std.proofs.lemmas.Bool.{ltb-false}
 use Rattle.std.proofs.lemmas.List.{append-nil}
 use Rattle.bk_lex.specs.Symbol.{Symbol}
 use Rattle.bk_lex.specs.declared.token.Kind.{Kind}
@@ -174,6 +175,15 @@ within_good n u e =
     elim (picks (ltb n 1) (Err SectionTooLong) (Ok _) (Err BadGet) e) [
       | inl p ↦ absurd (let z : SectionTooLong ≡ BadGet = err_is SectionTooLong BadGet p.1 in cc)
       | inr p ↦ no_err _ BadGet p.1
+    ]
+
+-- a bad GET is told where bytes are left
+pub get_within : (n : ℕ) (x : Result Step Fault) → within n x ≡ Err BadGet → 1 ≤ n
+get_within n (Ok u) e = within_good n u e
+get_within n (Err f) e =
+    elim (picks (ltb n 1) (Err (past f)) (Err f) (Err BadGet) e) [
+      | inl p ↦ absurd (get_past f (sym (err_is (past f) BadGet p.1)))
+      | inr p ↦ ltb-false n 1 p.0
     ]
 
 pending_first : (q : Putting) (t : List ℕ) (m : Mode) → Pending q t → walk_piece t ≡ nexts.Goes m → FirstFits q t

@@ -25,5 +25,6 @@ pub mod Lowest
 pub mod BesideGet
 pub mod Ranks
 pub mod Earliest
+pub mod Grounds
 pub mod Certain
 pub mod Letters
