@@ -65,7 +65,7 @@ one_fits q k t tail is longest fits p after c =
 piece_stays : (q : Putting) (line : ℕ) (k : Sort) (t : List ℕ) (m : Mode) → q.get ≡ Some line → Stuck t → IsPiece k t → walk_piece t ≡ nexts.Goes m → FirstFits q t → weight q ≤ 262144 → Fits q (record { sort = k; text = t }) → Stays q t
 piece_stays q line k t m g s is w f light fits =
     let s2 : Stuck (t ++ []) = subst Stuck (sym (append-nil t)) s in
-    ([], omega arith, (t ++ [], q, record { pieces = []; cut = refl; tokens = refl }, stuck_no_put q line (t ++ []) g s2, light, λ n. due_symbols q n t [] m s2.1 w f (one_fits q k t [] is (nothing_longest t) fits)))
+    ([], t ++ [], q, record { pieces = []; cut = refl; tokens = refl }, stuck_no_put q line (t ++ []) g s2, light, λ n. due_symbols q n t [] m s2.1 w f (one_fits q k t [] is (nothing_longest t) fits))
 
 -- ---- a `/`
 
@@ -207,7 +207,7 @@ slash_stays q t r c (inr (inl d)) a p x on n le =
     let reads = piece_reads t r.state.mode d.1 in
     let slash = slash_reads r.state.mode t only n reads in
     let s = slash_next q t (c ∷ []) r g.0 a d.1 only g.1 (pending_first q t r.state.mode p d.1) n le (whole_at_end r.state.mode c t reads x) (ends_longest r.state.mode t c [] d.1 x) (λ bs e. slash.1 c x (heads c 47 [] bs e)) in
-    ([], omega arith, (t ++ c ∷ [], q, record { pieces = []; cut = append-nil (t ++ c ∷ []); tokens = refl }, s.0, p.0, s.1))
+    ([], t ++ c ∷ [], q, record { pieces = []; cut = append-nil (t ++ c ∷ []); tokens = refl }, s.0, p.0, s.1)
 
 -- nothing is known of a run, where only the way is asked for
 abbrev Nowhere : Reading → List ℕ → Type 0

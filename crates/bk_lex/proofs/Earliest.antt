@@ -18,7 +18,7 @@ first from = putting [] None false from None
 
 none_as : (s : State) (from line : ℕ) (front : List ℕ) → length front ≤ 1048576 → Reached s (first from) front → (kind : SourceKind) → CertainAs kind from line front → ⊥
 none_as s from line front le r source_kinds.SectionTooLong (inl c) = let b = c [] in omega (arith, b.over, length-append front [], le)
-none_as s from line front le r source_kinds.SectionTooLong (inr c) = let w = symbols_without s line (first from) front r in w.2 (c w.0)
+none_as s from line front le r source_kinds.SectionTooLong (inr c) = let w = symbols_without s line (first from) front r in w.1 (c w.0)
 none_as s from line front le r source_kinds.BadGet h = let w = get_without s line (first from) front r in w.1 (h w.0)
 none_as s from line front le r kind h = let w = stands_without s kind line (first from) front r in w.1 (h w.0)
 

@@ -362,7 +362,7 @@ moved_found total (nexts.Bad f) c more q t r g here a line x e = found_as total 
 
 -- ---- the run
 
-told_is : (a b : SourceFault) → (let x : Result Section SourceFault = Err a in x) ≡ Err b → a ≡ b
+pub told_is : (a b : SourceFault) → (let x : Result Section SourceFault = Err a in x) ≡ Err b → a ≡ b
 told_is a b e = cc
 
 told_has : (total : ℕ) (a b : SourceFault) (q : Putting) (text : List ℕ) → (let x : Result Section SourceFault = Err a in x) ≡ Err b → Has a total q text → Has b total q text

@@ -21,7 +21,7 @@ use Rattle.bk_lex.proofs.Steps.{behind}
 use Rattle.bk_lex.proofs.Cuts.{read_state}
 use Rattle.bk_lex.proofs.Soundness.{Agrees, fewer}
 use Rattle.bk_lex.proofs.Onward.{Here, Counted, BeforeAny, Concludes, Follows, RunsTo, BehindTo, goes_to, step_sound}
-use Rattle.bk_lex.proofs.Faulty.{Has, Found, found_told, stays_here, bytes_more, symbols_more, seen_line, moved_found, bytes_here}
+use Rattle.bk_lex.proofs.Faulty.{Has, Found, found_told, stays_here, bytes_more, symbols_more, seen_line, moved_found, told_is, bytes_here}
 
 -- behind some tokens a text, of which `total` bytes are with those before it, goes on to one of the two, whatever follows
 abbrev OneGround : ℕ → ℕ → Putting → List ℕ → Type 0
@@ -49,9 +49,6 @@ concludes_ground f total = record {
   where
     no_answer : {A : Type 0} (s : Section) → (let x : Result Section SourceFault = Ok s in x) ≡ Err f → A
     no_answer s e = absurd cc
-
-told_is : (a b : SourceFault) → (let x : Result Section SourceFault = Err a in x) ≡ Err b → a ≡ b
-told_is a b e = cc
 
 -- past the count of bytes, a fault stands on the line of its byte
 past_line : (g : Fault) (s : State) (p : Place) → (told s p (past g)).line ≡ p.line

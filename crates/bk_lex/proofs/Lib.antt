@@ -17,6 +17,7 @@ pub mod FaultBegins
 pub mod GetFaults
 pub mod LongFaults
 pub mod Faulty
+pub mod Grounds
 pub mod FaultWalks
 pub mod Faultless
 pub mod Reach
@@ -25,6 +26,5 @@ pub mod Lowest
 pub mod BesideGet
 pub mod Ranks
 pub mod Earliest
-pub mod Grounds
 pub mod Certain
 pub mod Letters

@@ -78,7 +78,7 @@ kind_ranked s from line c front f n r b source_kinds.SectionTooLong h =
   where
     beside : CertainBytes from line (front ++ c ∷ []) ⊎ CertainSymbols from line (front ++ c ∷ []) → step_of s c ≡ Err BadGet → ⊥
     beside (inl x) e = let y = x [] in omega (arith, y.over, length-append (front ++ c ∷ []) [], length-append front (c ∷ []), n, get_within s.bytes (moved s c (next s.mode c)) e)
-    beside (inr x) e = let w = stays_short (first from) (front ++ c ∷ []) (get_stays s (first from) front c r e) line in w.2 (x w.0)
+    beside (inr x) e = let w = stays_short (first from) (front ++ c ∷ []) (get_stays s (first from) front c r e) line in w.1 (x w.0)
 kind_ranked s from line c front f n r b source_kinds.BadGet h = let same = ap source_number b.2 in omega (arith, same, all_numbers b.0)
 kind_ranked s from line c front f n r b kind h = let same = ap source_number b.2 in omega (arith, same, lowest_stands s kind line (first from) front c b.0 r b.1 h)
 
