@@ -1,5 +1,6 @@
 -- Where a bad GET is told, too many symbols are not certain.
 use Rattle.std.proofs.Common.{◌≡◌, ℕ, ◌+◌, ◌-◌, ◌≤◌, Bool, true, false, cond, ltb, List, [], ◌∷◌, ◌++◌, length, Option, Some, None, Result, Ok, Err, refl, sym, ap, subst, ◌∙◌, arith, append_assoc, ◌⊎◌, inl, inr}
+use Rattle.std.proofs.lemmas.Bool.{ltb-false}
 use Rattle.std.proofs.lemmas.List.{append-nil}
 use Rattle.bk_lex.specs.Symbol.{Symbol}
 use Rattle.bk_lex.specs.declared.token.Kind.{Kind}
@@ -64,7 +65,7 @@ one_fits q k t tail is longest fits p after c =
 piece_stays : (q : Putting) (line : ℕ) (k : Sort) (t : List ℕ) (m : Mode) → q.get ≡ Some line → Stuck t → IsPiece k t → walk_piece t ≡ nexts.Goes m → FirstFits q t → weight q ≤ 262144 → Fits q (record { sort = k; text = t }) → Stays q t
 piece_stays q line k t m g s is w f light fits =
     let s2 : Stuck (t ++ []) = subst Stuck (sym (append-nil t)) s in
-    ([], omega arith, (t ++ [], q, record { pieces = []; cut = refl; tokens = refl }, stuck_no_put q line (t ++ []) g s2, light, λ n. due_symbols q n t [] m s2.1 w f (one_fits q k t [] is (nothing_longest t) fits)))
+    ([], t ++ [], q, record { pieces = []; cut = refl; tokens = refl }, stuck_no_put q line (t ++ []) g s2, light, λ n. due_symbols q n t [] m s2.1 w f (one_fits q k t [] is (nothing_longest t) fits))
 
 -- ---- a `/`
 
@@ -176,6 +177,15 @@ within_good n u e =
       | inr p ↦ no_err _ BadGet p.1
     ]
 
+-- a bad GET is told where bytes are left
+pub get_within : (n : ℕ) (x : Result Step Fault) → within n x ≡ Err BadGet → 1 ≤ n
+get_within n (Ok u) e = within_good n u e
+get_within n (Err f) e =
+    elim (picks (ltb n 1) (Err (past f)) (Err f) (Err BadGet) e) [
+      | inl p ↦ absurd (get_past f (sym (err_is (past f) BadGet p.1)))
+      | inr p ↦ ltb-false n 1 p.0
+    ]
+
 pending_first : (q : Putting) (t : List ℕ) (m : Mode) → Pending q t → walk_piece t ≡ nexts.Goes m → FirstFits q t
 unfolding walk_piece
 pending_first q t m p w = look p.1
@@ -197,7 +207,7 @@ slash_stays q t r c (inr (inl d)) a p x on n le =
     let reads = piece_reads t r.state.mode d.1 in
     let slash = slash_reads r.state.mode t only n reads in
     let s = slash_next q t (c ∷ []) r g.0 a d.1 only g.1 (pending_first q t r.state.mode p d.1) n le (whole_at_end r.state.mode c t reads x) (ends_longest r.state.mode t c [] d.1 x) (λ bs e. slash.1 c x (heads c 47 [] bs e)) in
-    ([], omega arith, (t ++ c ∷ [], q, record { pieces = []; cut = append-nil (t ++ c ∷ []); tokens = refl }, s.0, p.0, s.1))
+    ([], t ++ c ∷ [], q, record { pieces = []; cut = append-nil (t ++ c ∷ []); tokens = refl }, s.0, p.0, s.1)
 
 -- nothing is known of a run, where only the way is asked for
 abbrev Nowhere : Reading → List ℕ → Type 0

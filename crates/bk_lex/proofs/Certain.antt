@@ -1,7 +1,9 @@
 -- The fault that is told at a byte stands there whatever follows.
-use Rattle.std.proofs.Common.{◌≡◌, ℕ, List, [], ◌∷◌, ◌++◌, Result, Ok, Err, Option, Some, None, refl, sym, ap, ◌∙◌, append_assoc, inl, inr}
+use Rattle.std.proofs.Common.{◌≡◌, ℕ, false, List, [], ◌∷◌, ◌++◌, length, Result, Ok, Err, Option, Some, None, refl, sym, ap, ◌∙◌, append_assoc, ◌⊎◌, inl, inr}
 use Rattle.std.specs.Prelude.{IfErr}
 use Rattle.bk_base.specs.declared.source_fault.SourceFault.{SourceFault}
+use Rattle.bk_base.specs.declared.source_fault.SourceKind.{SourceKind}
+use Rattle.bk_base.specs.declared.source_fault.SourceKind.TheVariants as source_kinds
 use Rattle.bk_base.specs.declared.refused.Refused.{Refused}
 use Rattle.bk_base.specs.declared.refused.Refused.TheVariants as refusals
 use Rattle.bk_lex.specs.declared.counting.State.{State}
@@ -9,9 +11,12 @@ use Rattle.bk_lex.specs.declared.scan.Lexed.{Lexed}
 use Rattle.bk_lex.specs.Counting.{start}
 use Rattle.bk_lex.specs.Lexing.{lexed, Gives}
 use Rattle.bk_lex.specs.Cutting.{goes_on, state_behind}
-use Rattle.bk_lex.specs.Telling.{ToldByByte, Told, SaysFault}
+use Rattle.bk_lex.specs.Tokens.{putting}
+use Rattle.bk_lex.specs.TextFault.{HasKind}
+use Rattle.bk_lex.specs.Telling.{CertainBytes, CertainSymbols, CertainAs, ToldByByte, Told, SaysFault}
 use Rattle.bk_lex.proofs.Cuts.{settled}
 use Rattle.bk_lex.proofs.Faulty.{lexed_has_fault}
+use Rattle.bk_lex.proofs.Grounds.{one_ground}
 use Rattle.bk_lex.proofs.Earliest.{none_certain}
 use Rattle.bk_lex.proofs.Lowest.{byte_fault, end_fault_of}
 use Rattle.bk_lex.proofs.Ranks.{lowest_byte, lowest_end}
@@ -31,6 +36,11 @@ first_stop (b ∷ bs) s e = look (goes_on s b) refl (λ t h. first_stop bs t h)
         let r = ih t (ap (λ (o : Option State). state_behind o bs) (sym x) ∙ e) in
         (b ∷ r.0, r.1, r.2, r.3, ap (λ (y : List ℕ). b ∷ y) r.4, ap (λ (o : Option State). state_behind o r.0) x ∙ r.5, ap (λ (o : Option State). state_behind o (r.0 ++ r.1 ∷ [])) x ∙ r.6)
 
+-- a section too long by its one ground, each other fault as it stands
+certain_as : (kind : SourceKind) (from line : ℕ) (front : List ℕ) → ((more : List ℕ) → HasKind kind (length (front ++ more)) (putting [] None false from None) line (front ++ more)) → (kind ≡ source_kinds.SectionTooLong → CertainBytes from line front ⊎ CertainSymbols from line front) → CertainAs kind from line front
+certain_as source_kinds.SectionTooLong from line front h g = g refl
+certain_as kind from line front h g = h
+
 told_at : (text : List ℕ) (from : ℕ) (f : SourceFault) → lexed text from ≡ Err f → FirstStop start text → ToldByByte from f text
 told_at text from f h p =
     let front = p.0 in
@@ -45,7 +55,7 @@ told_at text from f h p =
       parts = p.4;
       none_before = none_certain front from p.3 p.5;
       lowest = lowest_byte front byte from f p.3 p.5 (byte_fault front byte from f p.3 p.5 p.6 here);
-      certain = λ more. lexed_has_fault ((front ++ byte ∷ []) ++ more) from f (stays from more ∙ here);
+      certain = certain_as f.kind from f.line (front ++ byte ∷ []) (λ more. lexed_has_fault ((front ++ byte ∷ []) ++ more) from f (stays from more ∙ here)) (one_ground (front ++ byte ∷ []) from f here p.6);
     }
 
 pub lexed_told : (text : List ℕ) (from : ℕ) (f : SourceFault) → lexed text from ≡ Err f → Told from f text

@@ -361,11 +361,11 @@ get_without s line q front r = let w = well r.3.1 in (w.0, last w.0 w.1)
     last more (inl p) = no_misnames line q r.0 (front ++ more) (r.1 ++ more) p.0 p.1 (r.2 more)
     last more (inr p) = no_misnames line q p.0 (front ++ more) [] (end_no_cut [] (inl refl)) p.2 (way_through q r.0 p.0 (front ++ more) (r.1 ++ more) [] (r.2 more) p.1)
 
--- ---- a text that goes on without too many bytes or symbols
+-- ---- a text that goes on without too many symbols
 
 -- what goes on so: nothing that is a piece, or pieces within the count
 abbrev pub GoesShort : Putting → List ℕ → Type 0
-GoesShort q t = (more : List ℕ) × (length more ≤ 256) × ((Good (walk_piece (t ++ more)) → ⊥) ⊎ ((q2 : Putting) × Way q (t ++ more) [] q2 × (weight q2 ≤ 262144)))
+GoesShort q t = (more : List ℕ) × ((Good (walk_piece (t ++ more)) → ⊥) ⊎ ((q2 : Putting) × Way q (t ++ more) [] q2 × (weight q2 ≤ 262144)))
 
 many : ℕ → ℕ → List ℕ
 many zero b = []
@@ -381,16 +381,16 @@ unfolding many
 many_all p zero b e = refl
 many_all p (suc n) b e = rw e (many_all p n b e)
 
-never : (q : Putting) (t more : List ℕ) (m : Mode) (f : Fault) → length more ≤ 256 → walk_piece t ≡ Goes m → walk m more ≡ Bad f → GoesShort q t
-never q t more m f le w x = (more, le, inl (λ g. let z : Good (Bad f) = subst Good (walk_piece-append m t more w ∙ x) g in z))
+never : (q : Putting) (t more : List ℕ) (m : Mode) (f : Fault) → walk_piece t ≡ Goes m → walk m more ≡ Bad f → GoesShort q t
+never q t more m f w x = (more, inl (λ g. let z : Good (Bad f) = subst Good (walk_piece-append m t more w ∙ x) g in z))
 
 pub open_short : (q : Putting) (t : List ℕ) (m : Mode) → walk_piece t ≡ Goes m → sort_of m ≡ None → GoesShort q t
-open_short q t m w s = ([], omega arith, inl (λ g. not_whole m s (subst Good (ap walk_piece (append-nil t) ∙ w) g)))
+open_short q t m w s = ([], inl (λ g. not_whole m s (subst Good (ap walk_piece (append-nil t) ∙ w) g)))
 
 pub long_word : (q : Putting) (t : List ℕ) (n code : ℕ) → n ≤ 255 → walk_piece t ≡ Goes (Word n code) → GoesShort q t
 long_word q t n code le w =
     let size = many_length 256 65 in
-    never q t (many 256 65) (Word n code) NameTooLong (omega (arith, size)) w (
+    never q t (many 256 65) (Word n code) NameTooLong w (
     elim (word_go (many 256 65) n code le (many_all is_name_byte 256 65 refl)) [
       | inl p ↦ absurd (omega (arith, p.0, size))
       | inr p ↦ p.1
@@ -399,7 +399,7 @@ long_word q t n code le w =
 pub long_tag : (q : Putting) (t : List ℕ) (side : Side) (n : ℕ) → n ≤ 255 → walk_piece t ≡ Goes (Bracket side n) → GoesShort q t
 long_tag q t side zero le w =
     let size = many_length 255 65 in
-    never q t (65 ∷ many 255 65) (Bracket side 0) TagTooLong (omega (arith, size)) w (
+    never q t (65 ∷ many 255 65) (Bracket side 0) TagTooLong w (
     step_goes (Bracket side 0) (Bracket side 1) 65 (many 255 65) refl
     ∙ (elim (tag_go (many 255 65) side 1 (omega arith) (omega arith) (many_all is_name_byte 255 65 refl)) [
       | inl p ↦ absurd (omega (arith, p.0, size))
@@ -407,7 +407,7 @@ long_tag q t side zero le w =
     ]))
 long_tag q t side (suc n) le w =
     let size = many_length 256 65 in
-    never q t (many 256 65) (Bracket side (suc n)) TagTooLong (omega (arith, size)) w (
+    never q t (many 256 65) (Bracket side (suc n)) TagTooLong w (
     elim (tag_go (many 256 65) side (suc n) (omega arith) le (many_all is_name_byte 256 65 refl)) [
       | inl p ↦ absurd (omega (arith, p.0, size))
       | inr p ↦ p.1
@@ -427,18 +427,18 @@ seven_digit Hexadecimal = refl
 pub large_number : (q : Putting) (t : List ℕ) (base : Base) (v : ℕ) → v ≤ 4294967295 → walk_piece t ≡ Goes (Number base v) → GoesShort q t
 large_number q t base v le w =
     let size = many_length 11 55 in
-    never q t (many 11 55) (Number base v) NumberOver32Bits (omega (arith, size)) w (
+    never q t (many 11 55) (Number base v) NumberOver32Bits w (
     elim (number_go base (many 11 55) v le (many_all (is_digit_of base) 11 55 (seven_digit base))) [
       | inl p ↦ absurd (omega (arith, p.0, sevens_large base v))
       | inr p ↦ p.1
     ])
 
 -- a piece that is put within the count
-put_short : (q q2 : Putting) (k : Sort) (t more : List ℕ) → length more ≤ 256 → IsPiece k (t ++ more) → put q (record { sort = k; text = t ++ more }) ≡ Some q2 → weight q2 ≤ 262144 → GoesShort q t
-put_short q q2 k t more le is e light = (more, le, inr (q2, subst (λ (x : List ℕ). Way q x [] q2) (append-nil (t ++ more)) (way_last q q2 k (t ++ more) is e), light))
+put_short : (q q2 : Putting) (k : Sort) (t more : List ℕ) → IsPiece k (t ++ more) → put q (record { sort = k; text = t ++ more }) ≡ Some q2 → weight q2 ≤ 262144 → GoesShort q t
+put_short q q2 k t more is e light = (more, inr (q2, subst (λ (x : List ℕ). Way q x [] q2) (append-nil (t ++ more)) (way_last q q2 k (t ++ more) is e), light))
 
-gap_short : (q : Putting) (k : Sort) (t more : List ℕ) → weight q ≤ 262144 → length more ≤ 256 → IsPiece k (t ++ more) → is_dot_sort k ≡ false → what_of k (t ++ more) ≡ whats.Gap → GoesShort q t
-gap_short q k t more light le is d e = put_short q (seen q (t ++ more)) k t more le is (put_is q (t ++ more) k whats.Gap q.get d e refl) (omega (arith, light, seen_weight q (t ++ more)))
+gap_short : (q : Putting) (k : Sort) (t more : List ℕ) → weight q ≤ 262144 → IsPiece k (t ++ more) → is_dot_sort k ≡ false → what_of k (t ++ more) ≡ whats.Gap → GoesShort q t
+gap_short q k t more light is d e = put_short q (seen q (t ++ more)) k t more is (put_is q (t ++ more) k whats.Gap q.get d e refl) (omega (arith, light, seen_weight q (t ++ more)))
 
 -- a symbol that the first byte asked for
 symbol_short : (q : Putting) (k : Sort) (t : List ℕ) (n : Kind) → IsPiece k t → is_dot_sort k ≡ false → what_of k t ≡ whats.Symbol n → q.get ≡ None → weight q + room_for (inserted q.last n (seen q t).fed) ≤ 262144 → GoesShort q t
@@ -447,7 +447,7 @@ symbol_short q k t n is d e g fits =
     let put_as_is = put_is q t k (whats.Symbol n) None d e g in
     let heavy = put_room q3 _ t (whats.Symbol n) None (seen_get q t ∙ g) tt refl in
     let last = ap (λ (x : Option Kind). room_for (inserted x n q3.fed)) (seen_last q t) in
-    ([], omega arith, inr (_, way_last q _ k t is put_as_is, omega (arith, heavy, last, fits, seen_weight q t)))
+    ([], inr (_, way_last q _ k t is put_as_is, omega (arith, heavy, last, fits, seen_weight q t)))
 
 -- ---- signs
 
@@ -518,15 +518,15 @@ mark_short q t s light w fits due = look (is_slash s) refl
     slash e = cc
 
     look : (b : Bool) → is_slash s ≡ b → GoesShort q t
-    look true e = gap_short q comment t (47 ∷ []) light (omega arith) (piece_at (Mark s) Comment t (47 ∷ []) comment w (slash_walk s e) refl) refl refl
+    look true e = gap_short q comment t (47 ∷ []) light (piece_at (Mark s) Comment t (47 ∷ []) comment w (slash_walk s e) refl) refl refl
     look false e =
         let reads = piece_reads t (Mark s) w in
         symbol_short q (sign s) t (sign_kind s) (reads_piece (Mark s) (sign s) t reads refl) refl refl (no_gap_due q.get t (Mark s) w due (λ h. slash (sym h ∙ e)) (λ n h. cc)) (sign_fits q t s reads e fits)
 
 inside_short : (q : Putting) (t : List ℕ) (m : Mode) → weight q ≤ 262144 → Reads m t → walk_piece t ≡ Goes m → is_dot m ≡ false → FirstFits q t → DueAt q.get t m → GoesShort q t
 unfolding walk
-inside_short q t Blank light r w d f u = gap_short q blank t [] light (omega arith) (piece_at Blank Blank t [] blank w refl refl) refl refl
-inside_short q t Comment light r w d f u = gap_short q comment t [] light (omega arith) (piece_at Comment Comment t [] comment w refl refl) refl refl
+inside_short q t Blank light r w d f u = gap_short q blank t [] light (piece_at Blank Blank t [] blank w refl refl) refl refl
+inside_short q t Comment light r w d f u = gap_short q comment t [] light (piece_at Comment Comment t [] comment w refl refl) refl refl
 inside_short q t Dot light r w d f u = absurd (let z : true ≡ false = d in cc)
 inside_short q t (Word n code) light r w d f u = long_word q t n code r.3 w
 inside_short q t Hash light r w d f u = open_short q t Hash w refl
@@ -585,25 +585,25 @@ open_symbols q line t more m w f n (inr (inr (inr h))) = first_bytes q line (t +
 
 -- pieces that are put, and then what is not put and does not pass the count
 abbrev pub Stays : Putting → List ℕ → Type 0
-Stays q text = (more : List ℕ) × (length more ≤ 256) × ((rest : List ℕ) × (q2 : Putting) × Way q (text ++ more) rest q2 × NoPut q2 rest × (weight q2 ≤ 262144) × ((line : ℕ) → PassesNext q2 line rest → ⊥))
+Stays q text = (more : List ℕ) × (rest : List ℕ) × (q2 : Putting) × Way q (text ++ more) rest q2 × NoPut q2 rest × (weight q2 ≤ 262144) × ((line : ℕ) → PassesNext q2 line rest → ⊥)
 
-pub stays_short : (q : Putting) (text : List ℕ) → Stays q text → (line : ℕ) → (more : List ℕ) × (length more ≤ 256) × (PassesSymbols q line (text ++ more) → ⊥)
-stays_short q text s line = (s.0, s.1, no_symbols line q s.2.1 (text ++ s.0) s.2.0 s.2.3 s.2.4 (s.2.5 line) s.2.2)
+pub stays_short : (q : Putting) (text : List ℕ) → Stays q text → (line : ℕ) → (more : List ℕ) × (PassesSymbols q line (text ++ more) → ⊥)
+stays_short q text s line = (s.0, no_symbols line q s.2 (text ++ s.0) s.1 s.4 s.5 (s.6 line) s.3)
 
 pub short_stays : (q : Putting) (t : List ℕ) (m : Mode) → weight q ≤ 262144 → walk_piece t ≡ Goes m → FirstFits q t → GoesShort q t → Stays q t
-short_stays q t m light w f g = look g.2
+short_stays q t m light w f g = look g.1
   where
     look : (Good (walk_piece (t ++ g.0)) → ⊥) ⊎ ((q2 : Putting) × Way q (t ++ g.0) [] q2 × (weight q2 ≤ 262144)) → Stays q t
-    look (inl n) = (g.0, g.1, (t ++ g.0, q, record { pieces = []; cut = refl; tokens = refl }, λ p after x c e. n (cut_good p (t ++ g.0) after c), light, λ line. open_symbols q line t g.0 m w f n))
-    look (inr e) = (g.0, g.1, ([], e.0, e.1, no_cut_put e.0 [] (end_no_cut [] (inl refl)), e.2, λ line. nil_symbols e.0 line e.2))
+    look (inl n) = (g.0, t ++ g.0, q, record { pieces = []; cut = refl; tokens = refl }, λ p after x c e. n (cut_good p (t ++ g.0) after c), light, λ line. open_symbols q line t g.0 m w f n)
+    look (inr e) = (g.0, [], e.0, e.1, no_cut_put e.0 [] (end_no_cut [] (inl refl)), e.2, λ line. nil_symbols e.0 line e.2)
 
 -- behind pieces that are put
 pub stays_behind : (q q2 : Putting) (text t : List ℕ) → ((more : List ℕ) → Way q (text ++ more) (t ++ more) q2) → Stays q2 t → Stays q text
-stays_behind q q2 text t ways s = (s.0, s.1, (s.2.0, s.2.1, way_through q q2 s.2.1 (text ++ s.0) (t ++ s.0) s.2.0 (ways s.0) s.2.2, s.2.3, s.2.4, s.2.5))
+stays_behind q q2 text t ways s = (s.0, s.1, s.2, way_through q q2 s.2 (text ++ s.0) (t ++ s.0) s.1 (ways s.0) s.3, s.4, s.5, s.6)
 
-pub symbols_without : (s : State) (line : ℕ) (q : Putting) (front : List ℕ) → Reached s q front → (more : List ℕ) × (length more ≤ 256) × (PassesSymbols q line (front ++ more) → ⊥)
+pub symbols_without : (s : State) (line : ℕ) (q : Putting) (front : List ℕ) → Reached s q front → (more : List ℕ) × (PassesSymbols q line (front ++ more) → ⊥)
 symbols_without s line q front r = stays_short q front (stays_behind q r.0 front r.1 r.2 (look r.3.1)) line
   where
     look : (r.1 ≡ []) ⊎ ((m : Mode) × (walk_piece r.1 ≡ Goes m) × (is_dot m ≡ false) × FirstFits r.0 r.1 × DueAt r.0.get r.1 m) → Stays r.0 r.1
-    look (inl e) = ([], omega arith, ([], r.0, record { pieces = []; cut = ap (λ (x : List ℕ). x ++ []) e; tokens = refl }, no_cut_put r.0 [] (end_no_cut [] (inl refl)), r.3.0, λ line. nil_symbols r.0 line r.3.0))
+    look (inl e) = ([], [], r.0, record { pieces = []; cut = ap (λ (x : List ℕ). x ++ []) e; tokens = refl }, no_cut_put r.0 [] (end_no_cut [] (inl refl)), r.3.0, λ line. nil_symbols r.0 line r.3.0)
     look (inr p) = short_stays r.0 r.1 p.0 r.3.0 p.1 p.3 (inside_short r.0 r.1 p.0 r.3.0 (piece_reads r.1 p.0 p.1) p.1 p.2 p.3 p.4)

@@ -140,3 +140,6 @@ means_as (Some s) bytes e = (omega (arith, counts_from bytes (Some start) 104857
 
 pub counted_bytes : (bytes : List ℕ) (s : State) → state_behind (Some start) bytes ≡ Some s → length bytes ≤ 1048576
 counted_bytes bytes s e = omega (arith, counts_from bytes (Some start) 1048576 s start_bytes e)
+
+pub left_bytes : (bytes : List ℕ) (s : State) → state_behind (Some start) bytes ≡ Some s → s.bytes + length bytes ≡ 1048576
+left_bytes bytes s e = counts_from bytes (Some start) 1048576 s start_bytes e

@@ -43,7 +43,7 @@ use Rattle.bk_lex.proofs.FaultBegins.{bad_no_piece, bad_begins, end_begins, nami
 
 -- ---- lines
 
-seen_line : (q : Putting) (t : List ℕ) → (seen q t).line ≡ line_behind t q.line
+pub seen_line : (q : Putting) (t : List ℕ) → (seen q t).line ≡ line_behind t q.line
 seen_line q [] = refl
 seen_line q (b ∷ bs) = refl
 
@@ -66,7 +66,7 @@ put_line q q2 p e = as_line (what_of p.sort p.text) (seen q p.text) q2 p.text q.
 
 -- ---- what is concluded
 
-abbrev Has : SourceFault → ℕ → Putting → List ℕ → Type 0
+abbrev pub Has : SourceFault → ℕ → Putting → List ℕ → Type 0
 Has f total q text = HasKind f.kind total q f.line text
 
 -- each kind of fault behind one piece more
@@ -103,7 +103,7 @@ misnames_more q q2 line p rest is longest e h = record {
   other = h.other;
 }
 
-bytes_more : (total : ℕ) (q q2 : Putting) (line : ℕ) (p : Piece) (rest : List ℕ) → IsPiece p.sort p.text → NoLonger p.text rest → put q p ≡ Some q2 → PassesBytes q2.line total line rest → PassesBytes q.line total line (p.text ++ rest)
+pub bytes_more : (total : ℕ) (q q2 : Putting) (line : ℕ) (p : Piece) (rest : List ℕ) → IsPiece p.sort p.text → NoLonger p.text rest → put q p ≡ Some q2 → PassesBytes q2.line total line rest → PassesBytes q.line total line (p.text ++ rest)
 bytes_more total q q2 line p rest is longest e h = record {
   pieces = p ∷ h.pieces;
   rest = h.rest;
@@ -115,7 +115,7 @@ bytes_more total q q2 line p rest is longest e h = record {
   at = h.at ∙ ap (λ (l : ℕ). line_past l h.pieces) (put_line q q2 p e);
 }
 
-symbols_more : (q q2 : Putting) (line : ℕ) (p : Piece) (rest : List ℕ) → IsPiece p.sort p.text → NoLonger p.text rest → put q p ≡ Some q2 → PassesSymbols q2 line rest → PassesSymbols q line (p.text ++ rest)
+pub symbols_more : (q q2 : Putting) (line : ℕ) (p : Piece) (rest : List ℕ) → IsPiece p.sort p.text → NoLonger p.text rest → put q p ≡ Some q2 → PassesSymbols q2 line rest → PassesSymbols q line (p.text ++ rest)
 symbols_more q q2 line p rest is longest e h = record {
   pieces = p ∷ h.pieces;
   rest = h.rest;
@@ -147,20 +147,20 @@ concludes_fault f total = record {
 
 -- ---- what a fault of the machine means
 
-abbrev Found : Fault → ℕ → Putting → State → Place → List ℕ → Type 0
+abbrev pub Found : Fault → ℕ → Putting → State → Place → List ℕ → Type 0
 Found SectionTooLong total q s p text = PassesBytes q.line total p.line text ⊎ PassesSymbols q p.line text
 Found HeaderTooLong total q s p text = PassesSymbols q (told s p BadGet).line text
 Found BadGet total q s p text = Misnames q (told s p BadGet).line text
 Found f total q s p text = Stands (told_kind f) q.line p.line text
 
-stays_here : (g : Bool) (p : Place) → cond (g && false) p.get_line p.line ≡ p.line
+pub stays_here : (g : Bool) (p : Place) → cond (g && false) p.get_line p.line ≡ p.line
 stays_here true p = refl
 stays_here false p = refl
 
 at_line : (kind : SourceKind) (from line line2 : ℕ) (text : List ℕ) → line2 ≡ line → Stands kind from line text → Stands kind from line2 text
 at_line kind from line line2 text e h = subst (λ (l : ℕ). Stands kind from l text) (sym e) h
 
-found_told : (total : ℕ) (f : Fault) (s : State) (p : Place) (q : Putting) (text : List ℕ) → Found f total q s p text → Has (told s p f) total q text
+pub found_told : (total : ℕ) (f : Fault) (s : State) (p : Place) (q : Putting) (text : List ℕ) → Found f total q s p text → Has (told s p f) total q text
 found_told total SectionTooLong s p q text h = subst (λ (l : ℕ). PassesBytes q.line total l text ⊎ PassesSymbols q l text) (sym (stays_here s.get p)) h
 found_told total HeaderTooLong s p q text h = inr h
 found_told total BadGet s p q text h = h
@@ -354,7 +354,7 @@ bad_found total c more q t r g (inr (inr d)) a line x =
       | inr p ↦ found_as total BadString g q r.state r.place (t ++ c ∷ more) (sym p.0) (found_begins total BadString q r.state r.place (t ++ c ∷ more) p.1 (line ∙ quote_line d.0.0 t q.line d.0.1))
     ]
 
-moved_found : (total : ℕ) (x : Next) (c : ℕ) (more : List ℕ) (q : Putting) (t : List ℕ) (r : Reading) (g : Fault) → Here t r.state.mode r.held q.get → Agrees (seen q t) r.out r.state r.place → r.place.line ≡ line_behind t q.line → next r.state.mode c ≡ x → moved r.state c x ≡ Err g → Found g total q r.state r.place (t ++ c ∷ more)
+pub moved_found : (total : ℕ) (x : Next) (c : ℕ) (more : List ℕ) (q : Putting) (t : List ℕ) (r : Reading) (g : Fault) → Here t r.state.mode r.held q.get → Agrees (seen q t) r.out r.state r.place → r.place.line ≡ line_behind t q.line → next r.state.mode c ≡ x → moved r.state c x ≡ Err g → Found g total q r.state r.place (t ++ c ∷ more)
 moved_found total (nexts.Goes n) c more q t r g here a line x e = no_err _ g e
 moved_found total nexts.Ends c more q t r g here a line x e = opens_found total (fresh c) c more q t r g here a line x refl e
 moved_found total (nexts.Names h) c more q t r g here a line x e = named_found total c more q t r h g here a x e
@@ -362,7 +362,7 @@ moved_found total (nexts.Bad f) c more q t r g here a line x e = found_as total 
 
 -- ---- the run
 
-told_is : (a b : SourceFault) → (let x : Result Section SourceFault = Err a in x) ≡ Err b → a ≡ b
+pub told_is : (a b : SourceFault) → (let x : Result Section SourceFault = Err a in x) ≡ Err b → a ≡ b
 told_is a b e = cc
 
 told_has : (total : ℕ) (a b : SourceFault) (q : Putting) (text : List ℕ) → (let x : Result Section SourceFault = Err a in x) ≡ Err b → Has a total q text → Has b total q text
@@ -374,7 +374,7 @@ err_says total true g r c more f q text b h e = told_has total _ f q text e (fou
 err_says total false g r c more f q text b h e = told_has total _ f q text e (found_told total g r.state r.place q text h)
 
 -- a byte past the count
-bytes_here : (total : ℕ) (c : ℕ) (more : List ℕ) (q : Putting) (t : List ℕ) (r : Reading) → Here t r.state.mode r.held q.get → r.place.line ≡ line_behind t q.line → 1048576 + length (c ∷ more) ≡ total → PassesBytes q.line total r.place.line (t ++ c ∷ more)
+pub bytes_here : (total : ℕ) (c : ℕ) (more : List ℕ) (q : Putting) (t : List ℕ) (r : Reading) → Here t r.state.mode r.held q.get → r.place.line ≡ line_behind t q.line → 1048576 + length (c ∷ more) ≡ total → PassesBytes q.line total r.place.line (t ++ c ∷ more)
 bytes_here total c more q t r (inl d) line l = subst (λ (x : List ℕ). PassesBytes q.line total r.place.line (x ++ c ∷ more)) (sym d.0) (passes_from q.line r.place.line total c more l (line ∙ ap (λ (x : List ℕ). line_behind x q.line) d.0))
 bytes_here total c more q t r (inr (inr d)) line l = passes_naming q.line r.place.line total t c more r.state.mode l (line ∙ quote_line d.0.0 t q.line d.0.1) d.0
 bytes_here total c more q t r (inr (inl d)) line l = look (next r.state.mode c) refl

@@ -17,6 +17,7 @@ pub mod FaultBegins
 pub mod GetFaults
 pub mod LongFaults
 pub mod Faulty
+pub mod Grounds
 pub mod FaultWalks
 pub mod Faultless
 pub mod Reach

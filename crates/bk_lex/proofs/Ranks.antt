@@ -1,5 +1,5 @@
 -- The fault that is told has the lowest number of those that its byte makes certain, or that the text has as it ends.
-use Rattle.std.proofs.Common.{◌≡◌, ℕ, ◌+◌, ◌<◌, ◌≤◌, false, List, [], ◌∷◌, ◌++◌, length, Option, Some, None, Err, refl, sym, ap, subst, ◌∙◌, arith, ◌⊎◌, inl, inr}
+use Rattle.std.proofs.Common.{◌≡◌, ℕ, ◌+◌, ◌≤◌, false, List, [], ◌∷◌, ◌++◌, length, Option, Some, None, Err, refl, sym, ap, subst, ◌∙◌, arith, ◌⊎◌, inl, inr}
 use Rattle.std.proofs.lemmas.List.{append-nil, length-append}
 use Rattle.bk_base.specs.SourceFault.{source_number}
 use Rattle.bk_base.specs.declared.source_fault.SourceFault.{SourceFault}
@@ -8,18 +8,18 @@ use Rattle.bk_base.specs.declared.source_fault.SourceKind.TheVariants as source_
 use Rattle.bk_lex.specs.declared.machine.Fault.{Fault}
 use Rattle.bk_lex.specs.declared.machine.Fault.TheVariants.{BadByte, BadString, BadEscape, NumberOver32Bits, NameTooLong, TagTooLong, SectionTooLong, HeaderTooLong, BadGet}
 use Rattle.bk_lex.specs.declared.counting.State.{State}
-use Rattle.bk_lex.specs.Machine.{end_fault}
-use Rattle.bk_lex.specs.Counting.{start, finished, finished_as}
+use Rattle.bk_lex.specs.Machine.{next, end_fault}
+use Rattle.bk_lex.specs.Counting.{start, step_of, moved, finished, finished_as}
 use Rattle.bk_lex.specs.Lexing.{Reading, told_kind}
 use Rattle.bk_lex.specs.Cutting.{state_behind}
 use Rattle.bk_lex.specs.Pieces.{Piece, CutsTo}
 use Rattle.bk_lex.specs.Tokens.{Putting, putting}
 use Rattle.bk_lex.specs.TextFault.{Begins, Stands, HasKind, HasFault}
-use Rattle.bk_lex.specs.Telling.{Certain, IsLate}
+use Rattle.bk_lex.specs.Telling.{CertainBytes, CertainSymbols, CertainAs, Certain}
 use Rattle.bk_lex.proofs.Modes.{piece_reads}
 use Rattle.bk_lex.proofs.Goings.{reads_piece}
 use Rattle.bk_lex.proofs.Wholes.{whole_if_no_fault}
-use Rattle.bk_lex.proofs.Cuts.{counted_bytes}
+use Rattle.bk_lex.proofs.Cuts.{counted_bytes, left_bytes}
 use Rattle.bk_lex.proofs.Onward.{Here}
 use Rattle.bk_lex.proofs.GetFaults.{err_is}
 use Rattle.bk_lex.proofs.FaultBegins.{end_begins, naming_end}
@@ -28,7 +28,7 @@ use Rattle.bk_lex.proofs.Faultless.{NoCut, cut_good, faults_good, stands_at}
 use Rattle.bk_lex.proofs.Reach.{Reached, reached}
 use Rattle.bk_lex.proofs.Continue.{whole_no_stands, cuts_one_more, stays_short}
 use Rattle.bk_lex.proofs.Lowest.{ByteFault, EndFault, first_number, one_kind, lowest_stands}
-use Rattle.bk_lex.proofs.BesideGet.{get_stays, end_symbols}
+use Rattle.bk_lex.proofs.BesideGet.{get_within, get_stays, end_symbols}
 
 abbrev first : ℕ → Putting
 first from = putting [] None false from None
@@ -68,24 +68,22 @@ byte_or BadGet = inr (λ e. cc)
 
 -- ---- at a byte
 
-abbrev Ranked : SourceFault → SourceKind → ℕ → Type 0
-Ranked f kind size = (source_number f.kind ≤ source_number kind) ⊎ ((kind ≡ source_kinds.SectionTooLong) × (1048576 < size + 256))
-
-kind_ranked : (s : State) (from line c : ℕ) (front : List ℕ) (f : SourceFault) → Reached s (first from) front → ByteFault s c f → (kind : SourceKind) → ((more : List ℕ) → HasKind kind (length ((front ++ c ∷ []) ++ more)) (first from) line ((front ++ c ∷ []) ++ more)) → Ranked f kind (length (front ++ c ∷ []))
-kind_ranked s from line c front f r b source_kinds.SectionTooLong h =
+kind_ranked : (s : State) (from line c : ℕ) (front : List ℕ) (f : SourceFault) → s.bytes + length front ≡ 1048576 → Reached s (first from) front → ByteFault s c f → (kind : SourceKind) → CertainAs kind from line (front ++ c ∷ []) → source_number f.kind ≤ source_number kind
+kind_ranked s from line c front f n r b source_kinds.SectionTooLong h =
     let same = ap source_number b.2 in
     elim (but_get b.0) [
-      | inr le ↦ inl (omega (arith, same, le))
-      | inl g ↦ (let w = stays_short (first from) (front ++ c ∷ []) (get_stays s (first from) front c r (b.1 ∙ ap (λ (x : Fault). Err x) g)) line in elim (h w.0) [
-        | inl x ↦ inr (refl, omega (arith, x.over, w.1, length-append (front ++ c ∷ []) w.0))
-        | inr x ↦ absurd (w.2 x)
-      ])
+      | inr le ↦ omega (arith, same, le)
+      | inl g ↦ absurd (beside h (b.1 ∙ ap (λ (x : Fault). Err x) g))
     ]
-kind_ranked s from line c front f r b source_kinds.BadGet h = let same = ap source_number b.2 in inl (omega (arith, same, all_numbers b.0))
-kind_ranked s from line c front f r b kind h = let same = ap source_number b.2 in inl (omega (arith, same, lowest_stands s kind line (first from) front c b.0 r b.1 h))
+  where
+    beside : CertainBytes from line (front ++ c ∷ []) ⊎ CertainSymbols from line (front ++ c ∷ []) → step_of s c ≡ Err BadGet → ⊥
+    beside (inl x) e = let y = x [] in omega (arith, y.over, length-append (front ++ c ∷ []) [], length-append front (c ∷ []), n, get_within s.bytes (moved s c (next s.mode c)) e)
+    beside (inr x) e = let w = stays_short (first from) (front ++ c ∷ []) (get_stays s (first from) front c r e) line in w.1 (x w.0)
+kind_ranked s from line c front f n r b source_kinds.BadGet h = let same = ap source_number b.2 in omega (arith, same, all_numbers b.0)
+kind_ranked s from line c front f n r b kind h = let same = ap source_number b.2 in omega (arith, same, lowest_stands s kind line (first from) front c b.0 r b.1 h)
 
-pub lowest_byte : (front : List ℕ) (c from : ℕ) (f : SourceFault) (s : State) → state_behind (Some start) front ≡ Some s → ByteFault s c f → (g : SourceFault) → Certain from g (front ++ c ∷ []) → (source_number f.kind ≤ source_number g.kind) ⊎ IsLate g (front ++ c ∷ [])
-lowest_byte front c from f s e b g h = kind_ranked s from g.line c front f (reached front from s e) b g.kind h
+pub lowest_byte : (front : List ℕ) (c from : ℕ) (f : SourceFault) (s : State) → state_behind (Some start) front ≡ Some s → ByteFault s c f → (g : SourceFault) → Certain from g (front ++ c ∷ []) → source_number f.kind ≤ source_number g.kind
+lowest_byte front c from f s e b g h = kind_ranked s from g.line c front f (left_bytes front s e) (reached front from s e) b g.kind h
 
 -- ---- at the text's end
 
