@@ -89,7 +89,7 @@ stops (suc n) t x h = elim (goes_none (steps n t) (step x t) h) [
   | inr g ↦ let j = stops n t g.0 g.2 in (t ∷ j.0, j.1, ap (λ (z : List Symbol). t ∷ z) j.2, λ us. stepped x g.0 t (replicate n t ++ us) g.1 ∙ j.3 us)
 ]
 
-plain_end : (opens : List (List ℕ)) → plain [] opens ≡ Some []
+pub plain_end : (opens : List (List ℕ)) → plain [] opens ≡ Some []
 unfolding plain
 plain_end opens = refl
 

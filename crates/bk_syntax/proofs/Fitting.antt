@@ -296,7 +296,7 @@ item_fits t m s (item b y e is) st l x os h =
     (λ c. as_kind k.SectionClose t (declared st (constants m s (item b y e is))) os (closes_kind t c) (declared_fits st (constants m s (item b y e is)) os h))
     (λ c. named_fits t l x (λ n. due (at_sign m s (item b y e is) n st)) os (λ n. h)))
 
-more_names : (xs : List Mention) (n : Mention) → 0 < length (xs ++ n ∷ [])
+pub more_names : (xs : List Mention) (n : Mention) → 0 < length (xs ++ n ∷ [])
 more_names xs n = let h = length-append xs (n ∷ []) in omega arith
 
 due_fits : (t : Kind) (st : Stack) (l : ℕ) (x : List ℕ) (os : List (List ℕ)) → ForSymbol st os → After t (take_due st l x t) os

@@ -19,3 +19,5 @@ pub mod Openings
 pub mod Behind
 pub mod Fits
 pub mod Fitting
+pub mod Endings
+pub mod Completions
