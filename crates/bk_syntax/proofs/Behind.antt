@@ -77,7 +77,7 @@ pub run_steps : (n : ℕ) (t : Symbol) (x y : State) (us : List Symbol) → step
 run_steps zero t x y us h = let same : x ≡ y = cc in ap (run us) same
 run_steps (suc n) t x y us h = let g = goes_some (steps n t) (step x t) y h in stepped x g.0 t (replicate n t ++ us) g.1 ∙ run_steps n t g.0 y us g.2
 
-stopped : (x : State) (t : Symbol) (us : List Symbol) → step x t ≡ None → run (t ∷ us) x ≡ Err (t ∷ us)
+pub stopped : (x : State) (t : Symbol) (us : List Symbol) → step x t ≡ None → run (t ∷ us) x ≡ Err (t ∷ us)
 unfolding run
 stopped x t us h = ap (λ y. going (t ∷ us) (run us) y) h
 
@@ -213,10 +213,10 @@ one_further ts i t opens x lt at b =
     subst P (sym (ap symbols_of (take_more ts i t lt ∙ ap (λ z. take i ts ++ z ∷ []) (sym at)) ∙ map-append symbol_of (take i ts) (t ∷ []))) b
 
 -- the brackets of all the symbols
-plain_all : (ts : List Symbol) (opens : List (List ℕ)) (x : State) (b : Behind ts opens x) → plain ts [] ≡ Some b.plainly
+pub plain_all : (ts : List Symbol) (opens : List (List ℕ)) (x : State) (b : Behind ts opens x) → plain ts [] ≡ Some b.plainly
 plain_all ts opens x b = ap (λ z. plain z []) (sym (append-nil ts)) ∙ b.brackets [] ∙ ap (in_front b.plainly) (plain_end opens) ∙ ap Some (append-nil b.plainly)
 
-reading_all : (ts : List Symbol) (opens : List (List ℕ)) (x : State) (b : Behind ts opens x) → reading b.plainly ≡ run [] x
+pub reading_all : (ts : List Symbol) (opens : List (List ℕ)) (x : State) (b : Behind ts opens x) → reading b.plainly ≡ run [] x
 reading_all ts opens x b = ap reading (sym (append-nil b.plainly)) ∙ b.reads []
 
 -- what is answered behind them all

@@ -21,3 +21,4 @@ pub mod Fits
 pub mod Fitting
 pub mod Endings
 pub mod Completions
+pub mod Begun
