@@ -8,7 +8,8 @@ use Rattle.bk_syntax.specs.Spelling.{tag_of}
 use Rattle.bk_syntax.specs.Brackets.{Closing, same_tag, one_more, up_to_tag, without_tag, closed_by, in_front, plain_behind, plain}
 use Rattle.bk_syntax.specs.SyntaxFault.{Begins, Any}
 use Rattle.bk_syntax.specs.Machine.{State, due, in_section, opens, closes, stepped_by, step, run}
-use Rattle.bk_syntax.specs.Parsing.{GoesOn}
+use Rattle.bk_syntax.specs.SyntaxLaws.{reading}
+use Rattle.bk_syntax.specs.Parsing.{Behind}
 use Rattle.bk_syntax.proofs.Steps.{stepped}
 use Rattle.bk_syntax.proofs.Before.{opens_kind, closes_kind}
 use Rattle.bk_syntax.proofs.Stands.{whole_err}
@@ -181,8 +182,10 @@ complete_from (t ∷ ts) ps os x f h p =
 none_left : (x : State) → Passes [] x
 none_left x t v e = let w = whole_err (stepped_by x 1 [] k.Semicolon) (t ∷ v) (sym (run_end x) ∙ e) in absurd cc
 
-pub goes_on_begins : (ts : List Symbol) → GoesOn ts → Begins Any ts
-goes_on_begins ts on =
-    let b = on.2 in
-    let r = complete_from ts b.plainly [] (due (in_section no_declarations)) refl (plain_all ts on.0 on.1 b) (λ t v e. none_left on.1 t v (sym (reading_all ts on.0 on.1 b) ∙ e)) in
+pub goes_on_begins : (ts ps : List Symbol) → plain ts [] ≡ Some ps → ((t : Symbol) (v : List Symbol) → reading ps ≡ Err (t ∷ v) → ⊥) → Begins Any ts
+goes_on_begins ts ps h p =
+    let r = complete_from ts ps [] (due (in_section no_declarations)) refl h p in
     (r.more, r.tree, record { plainly = r.plainly; brackets = r.brackets; section = (reads_the_grammar r.tree r.plainly).1 r.runs }, tt)
+
+pub behind_begins : (ts : List Symbol) (opens : List (List ℕ)) (x : State) → Behind ts opens x → Begins Any ts
+behind_begins ts opens x b = goes_on_begins ts b.plainly (plain_all ts opens x b) (λ t v e. none_left x t v (sym (reading_all ts opens x b) ∙ e))

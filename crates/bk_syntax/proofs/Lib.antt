@@ -22,3 +22,4 @@ pub mod Fitting
 pub mod Endings
 pub mod Completions
 pub mod Begun
+pub mod Told
