@@ -5,7 +5,7 @@ use Rattle.bk_lex.specs.declared.token.Kind.TheVariants as k
 use Rattle.bk_lex.specs.Symbol.{Symbol}
 use Rattle.bk_syntax.specs.Tree.{Declarations, no_declarations}
 use Rattle.bk_syntax.specs.Spelling.{tag_of}
-use Rattle.bk_syntax.specs.Brackets.{Closing, same_tag, one_more, up_to_tag, without_tag, closed_by, in_front, plain_behind, plain}
+use Rattle.bk_syntax.specs.Brackets.{Closing, same_tag, one_more, up_to_tag, without_tag, closed_by, in_front, plain}
 use Rattle.bk_syntax.specs.SyntaxFault.{Begins, Any}
 use Rattle.bk_syntax.specs.Machine.{State, due, in_section, opens, closes, stepped_by, step, run}
 use Rattle.bk_syntax.specs.SyntaxLaws.{reading}
@@ -15,7 +15,7 @@ use Rattle.bk_syntax.proofs.Before.{opens_kind, closes_kind}
 use Rattle.bk_syntax.proofs.Stands.{whole_err}
 use Rattle.bk_syntax.proofs.Exact.{reads_the_grammar}
 use Rattle.bk_syntax.proofs.Behind.{plain_open, plain_other, plain_close, plain_all, reading_all, run_end, stopped}
-use Rattle.bk_syntax.proofs.Fits.{Tagged, Under, Fits, Fit, FitUnder, After}
+use Rattle.bk_syntax.proofs.Fits.{Tagged, Fits, Fit, FitUnder, After}
 use Rattle.bk_syntax.proofs.Fitting.{step_fits}
 use Rattle.bk_syntax.proofs.Completions.{state_ends}
 

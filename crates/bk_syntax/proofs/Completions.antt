@@ -1,8 +1,7 @@
 -- Each state that fits is completed to a section.
-use Rattle.std.proofs.Common.{◌≡◌, ℕ, ◌+◌, ◌-◌, Bool, true, false, cond, List, [], ◌∷◌, ◌++◌, length, Option, Some, None, refl, ap, ◌∙◌, arith}
+use Rattle.std.proofs.Common.{◌≡◌, ℕ, ◌+◌, ◌-◌, Bool, true, false, cond, List, [], ◌∷◌, ◌++◌, length, Some, refl, ap, ◌∙◌, arith}
 use Rattle.std.specs.Prelude.{nat_lt}
 use Rattle.std.proofs.lemmas.Bool.{ltb-false}
-use Rattle.bk_lex.specs.declared.token.Kind.{Kind}
 use Rattle.bk_lex.specs.declared.token.Kind.TheVariants as k
 use Rattle.bk_lex.specs.Symbol.{Symbol, symbol}
 use Rattle.bk_lex.specs.Values.{upper_name}
@@ -10,10 +9,10 @@ use Rattle.bk_syntax.specs.declared.tree.Operator.TheVariants.{Both}
 use Rattle.bk_syntax.specs.declared.tree.Sort.{Sort}
 use Rattle.bk_syntax.specs.declared.symbols.Guard.{Guard}
 use Rattle.bk_syntax.specs.Tree.{Mention, Expression, Expressions, Action, Actions, Declaration, Declarations, Items, Definition, Starts, parens, unary, binary, choice, apply, valof, table, none, more, goto, label, default, test, for_loop, result, block, repeat, repeat_while, no_actions, also, constants, definitions, no_declarations, declare, no_items, item, routine, function, no_definitions, define, no_starts}
-use Rattle.bk_syntax.specs.Rows.{inner, behind, repeats, is_comma, goes}
+use Rattle.bk_syntax.specs.Rows.{inner, behind, repeats, is_comma}
 use Rattle.bk_syntax.specs.Grammar.{line_of, line_of_action, size, start_count}
-use Rattle.bk_syntax.specs.Brackets.{in_front, plain}
-use Rattle.bk_syntax.specs.Machine.{each_then, actions_then, declarations_then, items_then, definitions_then, Stack, in_section, in_block, in_let, at_name, at_formals, at_formal, at_formal_end, at_head, at_variable, at_variable_end, at_starts, at_opening, at_items, at_sign, at_goto, at_for, at_forward, at_default, in_parens, in_unary, in_binary, in_chain, in_then, in_else, in_args, in_table, in_start, in_dests, in_values, in_guard, in_test, in_result, in_while, in_from, in_to, in_by, in_item, in_function, in_value, in_vector, in_valof, in_label, in_guarded, in_default, in_do, in_or, in_for, in_routine, State, want, have, begin, maybe, did, due, push, guarded, bars, declared, declared_by, give, take_item, stepped_by, run}
+use Rattle.bk_syntax.specs.Brackets.{in_front}
+use Rattle.bk_syntax.specs.Machine.{each_then, actions_then, declarations_then, items_then, definitions_then, Stack, in_section, in_block, in_let, at_name, at_formals, at_formal, at_formal_end, at_head, at_variable, at_variable_end, at_starts, at_opening, at_items, at_sign, at_goto, at_for, at_forward, at_default, in_parens, in_unary, in_binary, in_chain, in_then, in_else, in_args, in_table, in_start, in_dests, in_values, in_guard, in_test, in_result, in_while, in_from, in_to, in_by, in_item, in_function, in_value, in_vector, in_valof, in_label, in_guarded, in_default, in_do, in_or, in_for, in_routine, State, want, have, begin, maybe, did, due, push, guarded, bars, declared, declared_by, give, take_item, stepped_by}
 use Rattle.bk_syntax.proofs.Steps.{stepped, repeated, size_then}
 use Rattle.bk_syntax.proofs.Turns.{unary_done, binary_done}
 use Rattle.bk_syntax.proofs.Before.{falls, behind_ok, inner_ok}

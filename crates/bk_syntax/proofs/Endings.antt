@@ -1,5 +1,5 @@
 -- Symbols that complete a state of the machine to a section, a symbol at a time from behind.
-use Rattle.std.proofs.Common.{◌≡◌, ℕ, zero, suc, ◌+◌, Bool, true, false, cond, List, [], ◌∷◌, ◌==◌, length, Option, Some, None, Result, Ok, refl, ap, ◌∙◌, arith}
+use Rattle.std.proofs.Common.{◌≡◌, ℕ, zero, suc, ◌+◌, Bool, true, false, cond, List, [], ◌∷◌, ◌==◌, length, Option, Some, Ok, refl, ap, ◌∙◌, arith}
 use Rattle.bk_lex.specs.declared.token.Kind.{Kind}
 use Rattle.bk_lex.specs.declared.token.Kind.TheVariants as k
 use Rattle.bk_lex.specs.Symbol.{Symbol, symbol}
@@ -7,11 +7,10 @@ use Rattle.bk_syntax.specs.declared.tree.Simple.TheVariants as w
 use Rattle.bk_syntax.specs.declared.symbols.Guard.{Guard}
 use Rattle.bk_syntax.specs.declared.symbols.Guard.TheVariants as g
 use Rattle.bk_syntax.specs.Tree.{Mention, Expression, Expressions, Action, Declarations, Definition, Starts, query, none, more, assign, simple, repeat, variables, no_starts, value, vector}
-use Rattle.bk_syntax.specs.Spelling.{tag_of}
-use Rattle.bk_syntax.specs.Rows.{sign_of, repeats, is_comma, goes, Fails, Stops}
+use Rattle.bk_syntax.specs.Rows.{repeats, is_comma, goes, Fails, Stops}
 use Rattle.bk_syntax.specs.Grammar.{line_of_first, line_of_names, line_of_action, size, start_count}
-use Rattle.bk_syntax.specs.Brackets.{Closing, one_more, up_to_tag, closed_by, in_front, plain_behind, plain}
-use Rattle.bk_syntax.specs.Machine.{each_then, starts_then, Stack, in_values, in_guard, in_guarded, in_value, in_vector, at_starts, State, want, have, begin, maybe, did, due, push, opens, closes, behind_sign, counted, defined_by, give, finish, stepped_by, step, run}
+use Rattle.bk_syntax.specs.Brackets.{one_more, up_to_tag, closed_by, in_front, plain}
+use Rattle.bk_syntax.specs.Machine.{each_then, starts_then, Stack, in_values, in_guard, in_guarded, in_value, in_vector, at_starts, State, want, have, begin, maybe, did, due, push, opens, closes, counted, defined_by, give, finish, stepped_by, run}
 use Rattle.bk_syntax.proofs.Steps.{stepped, alike, takes, failing_both, repeated, same_eq, less_eq, size_then, count_then}
 use Rattle.bk_syntax.proofs.Openings.{one_tag}
 use Rattle.bk_syntax.proofs.Behind.{plain_other, plain_close}

@@ -1,5 +1,5 @@
--- What a state that the machine comes to is like, and the sections that are open there: what stands on what, how many values
--- are still due, and that no TABLE stands where a comma is owed.
+-- What a state that the machine comes to is like, and the sections that are open there: what stands on what, how many
+-- values are due, and that no TABLE stands where a comma is owed.
 use Rattle.std.proofs.Common.{◌≡◌, ℕ, ◌<◌, false, List, [], ◌∷◌, length, Option, Some, None}
 use Rattle.bk_lex.specs.declared.token.Kind.{Kind}
 use Rattle.bk_lex.specs.declared.token.Kind.TheVariants as k

@@ -16,7 +16,7 @@ use Rattle.bk_syntax.specs.Machine.{each_then, actions_then, declarations_then, 
 use Rattle.bk_syntax.proofs.Steps.{size_then, count_then}
 use Rattle.bk_syntax.proofs.Before.{is_close_kind, is_comma_kind, is_colon_kind, is_do_kind, is_or_kind, is_to_kind, is_and_kind, is_equal_kind, is_semicolon_kind, opens_kind, closes_kind, is_vec_kind, is_let_kind, is_open_kind}
 use Rattle.bk_syntax.proofs.Moves.{sign_is}
-use Rattle.bk_syntax.proofs.Fits.{Tagged, Under, ForExpression, ForCommand, ForDefinition, ForDeclaration, ForSymbol, Fits, Fit, FitUnder, After}
+use Rattle.bk_syntax.proofs.Fits.{Under, ForExpression, ForCommand, ForDefinition, ForDeclaration, ForSymbol, Fits, Fit, FitUnder, After}
 
 -- no state
 stuck : (t : Kind) (os : List (List ℕ)) → After t None os
