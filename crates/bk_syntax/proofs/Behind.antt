@@ -1,13 +1,12 @@
 -- What there is behind some symbols, and behind one more.
-use Rattle.std.proofs.Common.{◌≡◌, ℕ, zero, suc, ◌-◌, ◌+◌, ◌<◌, length, get_or, take, drop, arith, List, [], ◌∷◌, ◌++◌, true, false, Option, Some, None, Result, Ok, Err, replicate, refl, sym, ap, subst, ◌∙◌, ◌⊎◌, inl, inr, append_assoc}
-use Rattle.std.proofs.lemmas.List.{append-nil, take_more, map-append, take-append-drop, at_drop_more}
+use Rattle.std.proofs.Common.{◌≡◌, ℕ, zero, suc, ◌-◌, ◌+◌, ◌<◌, length, get_or, take, arith, List, [], ◌∷◌, ◌++◌, true, false, Option, Some, None, Result, Ok, Err, replicate, refl, sym, ap, subst, ◌∙◌, ◌⊎◌, inl, inr, append_assoc}
+use Rattle.std.proofs.lemmas.List.{append-nil, take_more, map-append}
 use Rattle.std.proofs.Math.Seq.{take-length}
 use Rattle.std.specs.Borrow.{Bor}
 use Rattle.bk_base.specs.declared.source_fault.SourceFault.{SourceFault}
-use Rattle.bk_base.specs.declared.source_fault.SourceKind.{SourceKind}
 use Rattle.bk_base.specs.declared.refused.Refused.{Refused}
-use Rattle.bk_base.specs.declared.refused.Refused.TheVariants.{Fault, Memory, Device}
-use Rattle.bk_base.specs.declared.source_fault.SourceKind.TheVariants.{UnexpectedSymbol, WrongSectionTag, NestedTooDeeply, TooManyNodes}
+use Rattle.bk_base.specs.declared.refused.Refused.TheVariants.{Fault}
+use Rattle.bk_base.specs.declared.source_fault.SourceKind.TheVariants.{UnexpectedSymbol, WrongSectionTag}
 use Rattle.bk_lex.specs.declared.token.Kind.{Kind}
 use Rattle.bk_lex.specs.declared.token.Kind.TheVariants as k
 use Rattle.bk_lex.specs.declared.token.Token.{Token}
@@ -25,23 +24,19 @@ use Rattle.bk_syntax.specs.declared.frame.Frames.{Frames}
 use Rattle.bk_syntax.specs.declared.frame.Now.{Now}
 use Rattle.bk_syntax.specs.declared.frame.Stop.{Stop}
 use Rattle.bk_syntax.specs.declared.frame.Stop.TheVariants as s
-use Rattle.bk_syntax.specs.declared.parser.Section.{Section}
 use Rattle.bk_syntax.specs.declared.tree.Decl.{Decl}
 use Rattle.bk_syntax.specs.Tree.{Declarations, declarations_in, no_declarations}
-use Rattle.bk_syntax.specs.Grammar as G
 use Rattle.bk_syntax.specs.Spelling.{tag_of}
 use Rattle.bk_syntax.specs.Brackets.{Closing, closed_by, in_front, plain_behind, plain_by, plain}
-use Rattle.bk_syntax.specs.SyntaxFault.{IsSection, Stands}
+use Rattle.bk_syntax.specs.SyntaxFault.{Stands}
 use Rattle.bk_syntax.specs.Machine.{Stack, State, due, in_section, opens, closes, stepped_by, step, whole, going, run}
 use Rattle.bk_syntax.specs.Frames.{begun_on, above, stack, stack_of, state, Steps}
 use Rattle.bk_syntax.specs.SyntaxLaws.{reading}
-use Rattle.bk_syntax.specs.Parsing.{tags, Closes, goes_to, steps, Behind, GoesOn, Says, IsLimit, told, Advances, declarations_of, Ends, Parses, Gives}
+use Rattle.bk_syntax.specs.Parsing.{tags, Closes, goes_to, steps, Behind, told, Advances, Ends}
 use Rattle.bk_syntax.proofs.Steps.{stepped}
 use Rattle.bk_syntax.proofs.Before.{opens_kind, closes_kind}
-use Rattle.bk_syntax.proofs.Stands.{one_tree, end_stands}
 use Rattle.bk_syntax.proofs.Stacks.{stack_none}
 use Rattle.bk_syntax.proofs.Openings.{tags_none}
-use Rattle.bk_syntax.proofs.Exact.{reads_the_grammar}
 use Rattle.bk_syntax.proofs.Tags.{tag_stands, symbol_stands}
 
 nothing_in_front : (r : Option (List Symbol)) → r ≡ in_front [] r
@@ -77,7 +72,7 @@ pub run_steps : (n : ℕ) (t : Symbol) (x y : State) (us : List Symbol) → step
 run_steps zero t x y us h = let same : x ≡ y = cc in ap (run us) same
 run_steps (suc n) t x y us h = let g = goes_some (steps n t) (step x t) y h in stepped x g.0 t (replicate n t ++ us) g.1 ∙ run_steps n t g.0 y us g.2
 
-stopped : (x : State) (t : Symbol) (us : List Symbol) → step x t ≡ None → run (t ∷ us) x ≡ Err (t ∷ us)
+pub stopped : (x : State) (t : Symbol) (us : List Symbol) → step x t ≡ None → run (t ∷ us) x ≡ Err (t ∷ us)
 unfolding run
 stopped x t us h = ap (λ y. going (t ∷ us) (run us) y) h
 
@@ -89,7 +84,7 @@ stops (suc n) t x h = elim (goes_none (steps n t) (step x t) h) [
   | inr g ↦ let j = stops n t g.0 g.2 in (t ∷ j.0, j.1, ap (λ (z : List Symbol). t ∷ z) j.2, λ us. stepped x g.0 t (replicate n t ++ us) g.1 ∙ j.3 us)
 ]
 
-plain_end : (opens : List (List ℕ)) → plain [] opens ≡ Some []
+pub plain_end : (opens : List (List ℕ)) → plain [] opens ≡ Some []
 unfolding plain
 plain_end opens = refl
 
@@ -150,18 +145,6 @@ answered (Ok now) new xs u t before after x n go are h b =
 answered (Err s.Memory) new xs u t before after x n go are h b = tt
 answered (Err s.Unexpected) new xs u t before after x n go are h b = (refl, unexpected u t before after x n b h go)
 
-limit_says : (kind : SourceKind) (u : List Symbol) (t : Symbol) → IsLimit kind → GoesOn (u ++ t ∷ []) → Says kind u t
-limit_says NestedTooDeeply u t h on = on
-limit_says TooManyNodes u t h on = on
-limit_says _ u t h on = absurd h
-
--- a limit is told where the symbols go on
-pub limit_told : (kind : SourceKind) (q : Refused SourceFault) (new : Frames) (xs : List (Bor (List ℕ))) (u : List Symbol) (t : Symbol) → IsLimit kind → q ≡ Fault (record { line = t.line; kind = kind })
-    → GoesOn (u ++ t ∷ []) → Advances new xs (Err q) u t
-limit_told kind q new xs u t limits is on =
-    let P : Refused SourceFault → Type 0 = λ z. Advances new xs (Err z) u t in
-    subst P (sym is) (refl, limit_says kind u t limits on)
-
 last_begun : (st : Stack) (x : Frame) (xs : List Frame) → (y : Begun) × (below : Stack) × (above st (x ∷ xs) ≡ begun_on y below)
 last_begun st x [] = (x.begun, st, refl)
 last_begun st x (y ∷ ys) = last_begun (begun_on x.begun st) y ys
@@ -190,22 +173,6 @@ pub run_end : (x : State) → run [] x ≡ whole (stepped_by x 1 [] k.Semicolon)
 unfolding run
 run_end x = refl
 
--- a fault that is told at one of the symbols
-pub told_of : (r : Refused SourceFault) (new : Frames) (xs : List (Bor (List ℕ))) (ts : List Token) (i : ℕ) (t : Token) (end : ℕ) → i < length ts → t ≡ get_or ts i t
-    → GoesOn (symbols_of (take i ts)) → Advances new xs (Err r) (symbols_of (take i ts)) (symbol_of t) → Parses (Err r) (symbols_of ts) end
-told_of (Fault f) new xs ts i t end lt at on h = inl (record {
-  before = symbols_of (take i ts);
-  at = symbol_of t;
-  more = symbols_of (drop (i + 1) ts);
-  parts = ap symbols_of (sym (take-append-drop i ts)) ∙ map-append symbol_of (take i ts) (drop i ts)
-      ∙ ap (λ (z : List Symbol). symbols_of (take i ts) ++ z) (at_drop_more symbols_of ts i t lt ∙ ap (λ z. symbol_of z ∷ symbols_of (drop (i + 1) ts)) (sym at));
-  line = h.0;
-  goes_on = on;
-  says = h.1;
-})
-told_of Memory new xs ts i t end lt at on h = tt
-told_of Device new xs ts i t end lt at on h = absurd h
-
 pub one_further : (ts : List Token) (i : ℕ) (t : Token) (opens : List (List ℕ)) (x : State) → i < length ts → t ≡ get_or ts i t
     → Behind (symbols_of (take i ts) ++ symbol_of t ∷ []) opens x → Behind (symbols_of (take (i + 1) ts)) opens x
 one_further ts i t opens x lt at b =
@@ -213,30 +180,11 @@ one_further ts i t opens x lt at b =
     subst P (sym (ap symbols_of (take_more ts i t lt ∙ ap (λ z. take i ts ++ z ∷ []) (sym at)) ∙ map-append symbol_of (take i ts) (t ∷ []))) b
 
 -- the brackets of all the symbols
-plain_all : (ts : List Symbol) (opens : List (List ℕ)) (x : State) (b : Behind ts opens x) → plain ts [] ≡ Some b.plainly
+pub plain_all : (ts : List Symbol) (opens : List (List ℕ)) (x : State) (b : Behind ts opens x) → plain ts [] ≡ Some b.plainly
 plain_all ts opens x b = ap (λ z. plain z []) (sym (append-nil ts)) ∙ b.brackets [] ∙ ap (in_front b.plainly) (plain_end opens) ∙ ap Some (append-nil b.plainly)
 
-reading_all : (ts : List Symbol) (opens : List (List ℕ)) (x : State) (b : Behind ts opens x) → reading b.plainly ≡ run [] x
+pub reading_all : (ts : List Symbol) (opens : List (List ℕ)) (x : State) (b : Behind ts opens x) → reading b.plainly ≡ run [] x
 reading_all ts opens x b = ap reading (sym (append-nil b.plainly)) ∙ b.reads []
-
--- what is answered behind them all
-pub ended : (r : Result Section (Refused SourceFault)) (ts : List Symbol) (opens : List (List ℕ)) (x : State) (end : ℕ) → Behind ts opens x → Ends r (run [] x) end → Parses r ts end
-ended (Ok s) ts opens x end b h = record {
-  plainly = b.plainly;
-  brackets = plain_all ts opens x b;
-  section = (reads_the_grammar (declarations_of s) b.plainly).1 (reading_all ts opens x b ∙ h);
-}
-ended (Err (Fault f)) ts opens x end b h = inr (record {
-  kind = h.1;
-  line = h.2;
-  goes_on = (opens, x, b);
-  stands = λ ds is.
-      let same : is.plainly ≡ b.plainly = let e = is.brackets in let g = plain_all ts opens x b in cc in
-      let P : List Symbol → Type 0 = λ z. G.Section ds z in
-      end_stands b.plainly [] (reading_all ts opens x b ∙ h.0) ds (subst P same is.section);
-})
-ended (Err Memory) ts opens x end b h = tt
-ended (Err Device) ts opens x end b h = absurd h
 
 pub closed : (r : Result Now Stop) (new : Frames) (xs ys zs : List (Bor (List ℕ))) (u : List Symbol) (t : Symbol) (x : State) (n k : ℕ) → closes t.kind ≡ true → zs ≡ ys → Closes (Some n) t (tag_of t.text) zs
     → k ≡ length ys - n → xs ≡ take k ys → Steps (stack_of new) r (steps n t x) → Behind u (tags ys) x → Advances new xs (told r t.line) u t
@@ -267,22 +215,3 @@ from_nothing ds xs ys none nothing closed_all =
 
 pub all_read : (ts : List Token) (i : ℕ) (opens : List (List ℕ)) (x : State) → i ≡ length ts → Behind (symbols_of (take i ts)) opens x → Behind (symbols_of ts) opens x
 all_read ts i opens x is b = let P : List Token → Type 0 = λ z. Behind (symbols_of z) opens x in subst P (ap (λ (n : ℕ). take n ts) is ∙ take-length ts) b
-
-told_only : (kind : SourceKind) (u : List Symbol) (t : Symbol) (more : List Symbol) (ds : Declarations) → Says kind u t → IsSection ds ((u ++ t ∷ []) ++ more) → IsLimit kind
-told_only WrongSectionTag u t more ds h is = absurd (tag_stands (u ++ t ∷ []) more ds h.1 is)
-told_only UnexpectedSymbol u t more ds h is = absurd (h.1.1 (more, ds, is, tt))
-told_only NestedTooDeeply u t more ds h is = tt
-told_only TooManyNodes u t more ds h is = tt
-told_only _ u t more ds h is = absurd h
-
--- where the symbols are a section
-pub gives_only : (r : Result Section (Refused SourceFault)) (ts : List Symbol) (end : ℕ) → Parses r ts end → (ds : Declarations) → IsSection ds ts → Gives r ds
-gives_only (Ok s) ts end p ds is = one_tree (declarations_of s) ds ts p is
-gives_only (Err (Fault f)) ts end p ds is = elim p [
-  | inl a ↦
-      let P : List Symbol → Type 0 = λ z. IsSection ds z in
-      told_only f.kind a.before a.at a.more ds a.says (subst P (a.parts ∙ sym (append_assoc a.before (a.at ∷ []) a.more)) is)
-  | inr e ↦ absurd (e.stands ds is)
-]
-gives_only (Err Memory) ts end p ds is = tt
-gives_only (Err Device) ts end p ds is = absurd p

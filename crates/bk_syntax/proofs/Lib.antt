@@ -17,3 +17,9 @@ pub mod Insides
 pub mod Copies
 pub mod Openings
 pub mod Behind
+pub mod Fits
+pub mod Fitting
+pub mod Endings
+pub mod Completions
+pub mod Begun
+pub mod Told

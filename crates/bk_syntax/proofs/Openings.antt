@@ -85,7 +85,7 @@ tags_are (x ∷ xs) (y ∷ ys) h = let p = both_true (x == y) (same_tag xs ys) h
 one_number : (n : ℕ) → (n == n) ≡ true
 one_number n = grind (arith, nat_tests)
 
-one_tag : (xs : List ℕ) → same_tag xs xs ≡ true
+pub one_tag : (xs : List ℕ) → same_tag xs xs ≡ true
 one_tag [] = refl
 one_tag (x ∷ xs) = ap (λ b. cond b (same_tag xs xs) false) (one_number x) ∙ one_tag xs
 

@@ -26,7 +26,7 @@ going_err : (ts : List Symbol) (f : State → Result Declarations (List Symbol))
 going_err ts f None r h = inl (refl, cc)
 going_err ts f (Some n) r h = inr (n, refl, h)
 
-whole_err : (x : Option State) (r : List Symbol) → whole x ≡ Err r → r ≡ []
+pub whole_err : (x : Option State) (r : List Symbol) → whole x ≡ Err r → r ≡ []
 whole_err None r h = cc
 whole_err (Some (due (in_section ds))) r h = absurd cc
 whole_err _ r h = cc

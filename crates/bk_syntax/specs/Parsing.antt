@@ -15,7 +15,7 @@ use Rattle.bk_syntax.specs.declared.frame.Stop.TheVariants as s
 use Rattle.bk_syntax.specs.declared.parser.Section.{Section}
 use Rattle.bk_syntax.specs.Tree.{Declarations, declarations_in}
 use Rattle.bk_syntax.specs.Brackets.{closed_by, in_front, plain}
-use Rattle.bk_syntax.specs.SyntaxFault.{IsSection, Stands, StandsAtEnd}
+use Rattle.bk_syntax.specs.SyntaxFault.{IsSection, Begins, Any, Stands, StandsAtEnd}
 use Rattle.bk_syntax.specs.Machine.{State, step, run}
 use Rattle.bk_syntax.specs.SyntaxLaws.{reading}
 use Rattle.bk_syntax.specs.Frames.{stack_of, state}
@@ -48,17 +48,13 @@ pub record Behind (ts : List Symbol) (opens : List (List ℕ)) (x : State) : Typ
   pub brackets : (us : List Symbol) → plain (ts ++ us) [] ≡ in_front plainly (plain us opens)
   pub reads : (us : List Symbol) → reading (plainly ++ us) ≡ run us x
 
--- the tag clause does not fail in these symbols, and the machine goes on behind them
-abbrev pub GoesOn : List Symbol → Type 0
-GoesOn ts = (opens : List (List ℕ)) × (x : State) × Behind ts opens x
-
--- What a fault of this kind, told at the symbol t behind u, says. Of a limit it is said only that without it the symbols up
--- to and with t go on.
+-- What a fault of this kind, told at the symbol t behind u, says. Of a limit it is said only that without it a section
+-- begins with the symbols up to and with t.
 abbrev pub Says : SourceKind → List Symbol → Symbol → Type 0
 Says WrongSectionTag u t = Stands WrongSectionTag u t
 Says UnexpectedSymbol u t = Stands UnexpectedSymbol u t
-Says NestedTooDeeply u t = GoesOn (u ++ t ∷ [])
-Says TooManyNodes u t = GoesOn (u ++ t ∷ [])
+Says NestedTooDeeply u t = Begins Any (u ++ t ∷ [])
+Says TooManyNodes u t = Begins Any (u ++ t ∷ [])
 Says _ u t = ⊥
 
 abbrev pub IsLimit : SourceKind → Type 0
@@ -90,21 +86,21 @@ Ends (Err (Fault f)) r end = (r ≡ Err []) × (f.kind ≡ UnexpectedSymbol) × 
 Ends (Err Memory) r end = Unit {0}
 Ends (Err Device) r end = ⊥
 
--- a fault that is told at a symbol, before which the symbols go on
+-- a fault that is told at a symbol: a section begins with the symbols before it
 pub record ToldAt (f : SourceFault) (ts : List Symbol) : Type 0 where
   pub before : List Symbol
   pub at : Symbol
   pub more : List Symbol
   pub parts : ts ≡ before ++ at ∷ more
   pub line : f.line ≡ at.line
-  pub goes_on : GoesOn before
+  pub begins : Begins Any before
   pub says : Says f.kind before at
 
--- a fault that is told at the end, which is on this line
+-- a fault that is told at the end, which is on this line: a section begins with the symbols
 pub record ToldAtEnd (f : SourceFault) (ts : List Symbol) (end : ℕ) : Type 0 where
   pub kind : f.kind ≡ UnexpectedSymbol
   pub line : f.line ≡ end
-  pub goes_on : GoesOn ts
+  pub begins : Begins Any ts
   pub stands : StandsAtEnd ts
 
 -- what is answered of these symbols, which end on this line

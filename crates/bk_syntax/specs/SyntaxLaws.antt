@@ -4,7 +4,7 @@ use Rattle.bk_lex.specs.Symbol.{Symbol}
 use Rattle.bk_syntax.specs.Tree.{Declarations, no_declarations}
 use Rattle.bk_syntax.specs.Grammar.{Section}
 use Rattle.bk_syntax.specs.Brackets.{plain}
-use Rattle.bk_syntax.specs.SyntaxFault.{IsSection}
+use Rattle.bk_syntax.specs.SyntaxFault.{IsSection, Begins, Any}
 use Rattle.bk_syntax.specs.Machine.{due, in_section, run}
 
 -- what the machine reads of plain symbols: their tree, or the symbols from the first on with which it does not go on
@@ -31,3 +31,7 @@ SymbolFaultStands = (ts u : List Symbol) (t : Symbol) (v : List Symbol) → plai
 -- Where it stops at the end, the symbols are no section.
 abbrev pub EndFaultStands : Type 0
 EndFaultStands = (ts rest : List Symbol) → reading ts ≡ Err rest → (ds : Declarations) → Section ds ts → ⊥
+
+-- Where the tag clause does not fail and the machine stops at no symbol, a section begins so.
+abbrev pub GoesOnBegins : Type 0
+GoesOnBegins = (ts ps : List Symbol) → plain ts [] ≡ Some ps → ((t : Symbol) (v : List Symbol) → reading ps ≡ Err (t ∷ v) → ⊥) → Begins Any ts

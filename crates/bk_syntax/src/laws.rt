@@ -1,5 +1,5 @@
 //! Laws of the grammar, which the parser and the crates above rest on.
-ghost use Rattle.bk_syntax.specs.SyntaxLaws.{ReadsTheGrammar, HaveOneTree, TagFaultStands, SymbolFaultStands, EndFaultStands};
+ghost use Rattle.bk_syntax.specs.SyntaxLaws.{ReadsTheGrammar, HaveOneTree, TagFaultStands, SymbolFaultStands, EndFaultStands, GoesOnBegins};
 
 /// The reading machine reads just the trees of the grammar.
 pub fn reads_the_grammar()
@@ -24,4 +24,9 @@ pub fn symbol_fault_stands()
 /// Symbols that end too early are no section.
 pub fn end_fault_stands()
     ensures { EndFaultStands }
+{}
+
+/// Where the machine goes on, a section begins.
+pub fn goes_on_begins()
+    ensures { GoesOnBegins }
 {}

@@ -19,6 +19,7 @@ pub mod tree;
 mod tree_tests;
 
 pub use laws::{
-    end_fault_stands, have_one_tree, reads_the_grammar, symbol_fault_stands, tag_fault_stands,
+    end_fault_stands, goes_on_begins, have_one_tree, reads_the_grammar, symbol_fault_stands,
+    tag_fault_stands,
 };
 pub use parser::{Section, parse};

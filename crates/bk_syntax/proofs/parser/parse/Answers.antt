@@ -2,7 +2,8 @@ use Rattle.std.proofs.Common.{Err, take, arith}
 use Rattle.bk_lex.specs.Symbol.{symbols_of}
 use Rattle.bk_syntax.specs.Frames.{stack_of, state}
 use Rattle.bk_syntax.specs.Parsing.{tags}
-use Rattle.bk_syntax.proofs.Behind.{from_nothing, one_further, told_of, all_read, ended, gives_only}
+use Rattle.bk_syntax.proofs.Behind.{from_nothing, one_further, all_read}
+use Rattle.bk_syntax.proofs.Told.{told_of, ended, gives_only}
 use Rattle.bk_syntax.proofs.parser.parse.Goals as goal
 
 pub loop-token-init : goal.loop-token-init
@@ -19,8 +20,8 @@ pub returns-in-Err : goal.returns-in-Err
 returns-in-Err c =
     let ts = c.args.tokens.now in
     let i = c.loop-token.token-index in
-    let p = told_of c.in-Err.refused c.advance.new.frames c.advance.new.opened.items ts i c.token-item.result c.args.end c.loop-token-test.true c.token-item.is
-    (tags c.loop-token.opened.items, state (stack_of c.loop-token.frames) c.loop-token.now, c.loop-token.invariant)
+    let p = told_of c.in-Err.refused c.advance.new.frames c.advance.new.opened.items ts i c.token-item.result c.args.end
+    (tags c.loop-token.opened.items) (state (stack_of c.loop-token.frames) c.loop-token.now) c.loop-token-test.true c.token-item.is c.loop-token.invariant
     (c.in-Err.ensures (symbols_of (take i ts)) c.loop-token.invariant) in
     record { parses = p; only = gives_only (Err c.in-Err.refused) (symbols_of ts) c.args.end p }
 

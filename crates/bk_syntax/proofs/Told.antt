@@ -1,0 +1,89 @@
+-- What is told of the symbols, and what is answered behind them all.
+use Rattle.std.proofs.Common.{◌≡◌, ℕ, ◌+◌, ◌<◌, length, get_or, take, drop, List, [], ◌∷◌, ◌++◌, Result, Ok, Err, refl, sym, ap, subst, ◌∙◌, inl, inr, append_assoc}
+use Rattle.std.proofs.lemmas.List.{map-append, take-append-drop, at_drop_more}
+use Rattle.std.specs.Borrow.{Bor}
+use Rattle.bk_base.specs.declared.source_fault.SourceFault.{SourceFault}
+use Rattle.bk_base.specs.declared.source_fault.SourceKind.{SourceKind}
+use Rattle.bk_base.specs.declared.source_fault.SourceKind.TheVariants.{UnexpectedSymbol, WrongSectionTag, NestedTooDeeply, TooManyNodes}
+use Rattle.bk_base.specs.declared.refused.Refused.{Refused}
+use Rattle.bk_base.specs.declared.refused.Refused.TheVariants.{Fault, Memory, Device}
+use Rattle.bk_lex.specs.declared.token.Token.{Token}
+use Rattle.bk_lex.specs.Symbol.{Symbol, symbol_of, symbols_of}
+use Rattle.bk_syntax.specs.declared.frame.Frames.{Frames}
+use Rattle.bk_syntax.specs.declared.parser.Section.{Section}
+use Rattle.bk_syntax.specs.Tree.{Declarations}
+use Rattle.bk_syntax.specs.Grammar as G
+use Rattle.bk_syntax.specs.SyntaxFault.{IsSection, Begins, Any}
+use Rattle.bk_syntax.specs.Machine.{State, run}
+use Rattle.bk_syntax.specs.Parsing.{Behind, Says, IsLimit, Advances, declarations_of, Ends, Parses, Gives}
+use Rattle.bk_syntax.proofs.Stands.{one_tree, end_stands}
+use Rattle.bk_syntax.proofs.Exact.{reads_the_grammar}
+use Rattle.bk_syntax.proofs.Tags.{tag_stands}
+use Rattle.bk_syntax.proofs.Behind.{plain_all, reading_all}
+use Rattle.bk_syntax.proofs.Begun.{behind_begins}
+
+limit_says : (kind : SourceKind) (u : List Symbol) (t : Symbol) → IsLimit kind → Begins Any (u ++ t ∷ []) → Says kind u t
+limit_says NestedTooDeeply u t h on = on
+limit_says TooManyNodes u t h on = on
+limit_says _ u t h on = absurd h
+
+-- a limit is told where a section begins with the symbols
+pub limit_told : (kind : SourceKind) (q : Refused SourceFault) (new : Frames) (xs : List (Bor (List ℕ))) (u : List Symbol) (t : Symbol) (opens : List (List ℕ)) (x : State) → IsLimit kind
+    → q ≡ Fault (record { line = t.line; kind = kind }) → Behind (u ++ t ∷ []) opens x → Advances new xs (Err q) u t
+limit_told kind q new xs u t opens x limits is b =
+    let P : Refused SourceFault → Type 0 = λ z. Advances new xs (Err z) u t in
+    subst P (sym is) (refl, limit_says kind u t limits (behind_begins (u ++ t ∷ []) opens x b))
+
+-- a fault that is told at one of the symbols
+pub told_of : (r : Refused SourceFault) (new : Frames) (xs : List (Bor (List ℕ))) (ts : List Token) (i : ℕ) (t : Token) (end : ℕ) (opens : List (List ℕ)) (x : State) → i < length ts → t ≡ get_or ts i t
+    → Behind (symbols_of (take i ts)) opens x → Advances new xs (Err r) (symbols_of (take i ts)) (symbol_of t) → Parses (Err r) (symbols_of ts) end
+told_of (Fault f) new xs ts i t end opens x lt at b h = inl (record {
+  before = symbols_of (take i ts);
+  at = symbol_of t;
+  more = symbols_of (drop (i + 1) ts);
+  parts = ap symbols_of (sym (take-append-drop i ts)) ∙ map-append symbol_of (take i ts) (drop i ts)
+      ∙ ap (λ (z : List Symbol). symbols_of (take i ts) ++ z) (at_drop_more symbols_of ts i t lt ∙ ap (λ z. symbol_of z ∷ symbols_of (drop (i + 1) ts)) (sym at));
+  line = h.0;
+  begins = behind_begins (symbols_of (take i ts)) opens x b;
+  says = h.1;
+})
+told_of Memory new xs ts i t end opens x lt at b h = tt
+told_of Device new xs ts i t end opens x lt at b h = absurd h
+
+-- what is answered behind them all
+pub ended : (r : Result Section (Refused SourceFault)) (ts : List Symbol) (opens : List (List ℕ)) (x : State) (end : ℕ) → Behind ts opens x → Ends r (run [] x) end → Parses r ts end
+ended (Ok s) ts opens x end b h = record {
+  plainly = b.plainly;
+  brackets = plain_all ts opens x b;
+  section = (reads_the_grammar (declarations_of s) b.plainly).1 (reading_all ts opens x b ∙ h);
+}
+ended (Err (Fault f)) ts opens x end b h = inr (record {
+  kind = h.1;
+  line = h.2;
+  begins = behind_begins ts opens x b;
+  stands = λ ds is.
+      let same : is.plainly ≡ b.plainly = let e = is.brackets in let g = plain_all ts opens x b in cc in
+      let P : List Symbol → Type 0 = λ z. G.Section ds z in
+      end_stands b.plainly [] (reading_all ts opens x b ∙ h.0) ds (subst P same is.section);
+})
+ended (Err Memory) ts opens x end b h = tt
+ended (Err Device) ts opens x end b h = absurd h
+
+told_only : (kind : SourceKind) (u : List Symbol) (t : Symbol) (more : List Symbol) (ds : Declarations) → Says kind u t → IsSection ds ((u ++ t ∷ []) ++ more) → IsLimit kind
+told_only WrongSectionTag u t more ds h is = absurd (tag_stands (u ++ t ∷ []) more ds h.1 is)
+told_only UnexpectedSymbol u t more ds h is = absurd (h.1.1 (more, ds, is, tt))
+told_only NestedTooDeeply u t more ds h is = tt
+told_only TooManyNodes u t more ds h is = tt
+told_only _ u t more ds h is = absurd h
+
+-- where the symbols are a section
+pub gives_only : (r : Result Section (Refused SourceFault)) (ts : List Symbol) (end : ℕ) → Parses r ts end → (ds : Declarations) → IsSection ds ts → Gives r ds
+gives_only (Ok s) ts end p ds is = one_tree (declarations_of s) ds ts p is
+gives_only (Err (Fault f)) ts end p ds is = elim p [
+  | inl a ↦
+      let P : List Symbol → Type 0 = λ z. IsSection ds z in
+      told_only f.kind a.before a.at a.more ds a.says (subst P (a.parts ∙ sym (append_assoc a.before (a.at ∷ []) a.more)) is)
+  | inr e ↦ absurd (e.stands ds is)
+]
+gives_only (Err Memory) ts end p ds is = tt
+gives_only (Err Device) ts end p ds is = absurd p
