@@ -21,7 +21,7 @@ use Rattle.bk_syntax.specs.declared.frame.Point.TheVariants as t
 use Rattle.bk_syntax.specs.declared.frame.Begun.{Begun}
 use Rattle.bk_syntax.specs.declared.frame.Begun.TheVariants as b
 use Rattle.bk_syntax.specs.declared.frame.Frame.{Frame}
-use Rattle.bk_syntax.specs.declared.frame.Frames.{Frames}
+use Rattle.bk_syntax.specs.declared.frames.Frames.{Frames}
 use Rattle.bk_syntax.specs.declared.frame.Now.{Now}
 use Rattle.bk_syntax.specs.declared.frame.Stop.{Stop}
 use Rattle.bk_syntax.specs.declared.frame.Stop.TheVariants as s
@@ -33,7 +33,9 @@ use Rattle.bk_syntax.specs.Spelling.{tag_of}
 use Rattle.bk_syntax.specs.Brackets.{Closing, closed_by, in_front, plain_behind, plain_by, plain}
 use Rattle.bk_syntax.specs.SyntaxFault.{IsSection, Stands}
 use Rattle.bk_syntax.specs.Machine.{Stack, State, due, in_section, opens, closes, stepped_by, step, whole, going, run}
-use Rattle.bk_syntax.specs.Frames.{begun_on, above, stack, stack_of, state, Steps}
+use Rattle.bk_syntax.specs.Begun.{begun_on}
+use Rattle.bk_syntax.specs.Stacked.{above, stack}
+use Rattle.bk_syntax.specs.Frames.{stack_of, state, Steps}
 use Rattle.bk_syntax.specs.SyntaxLaws.{reading}
 use Rattle.bk_syntax.specs.Parsing.{tags, Closes, goes_to, steps, Behind, GoesOn, Says, IsLimit, told, Advances, declarations_of, Ends, Parses, Gives}
 use Rattle.bk_syntax.proofs.Steps.{stepped}

@@ -17,3 +17,5 @@ pub mod Insides
 pub mod Copies
 pub mod Openings
 pub mod Behind
+pub mod Sizes
+pub mod Lifts

@@ -6,6 +6,7 @@ mod copy;
 mod definitions;
 mod expressions;
 mod frame;
+mod frames;
 mod laws;
 mod make;
 mod parser;
@@ -14,6 +15,7 @@ mod spelling;
 mod symbols;
 #[cfg(test)]
 mod tests;
+mod top;
 pub mod tree;
 #[cfg(test)]
 mod tree_tests;
