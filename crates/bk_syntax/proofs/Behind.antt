@@ -25,7 +25,7 @@ use Rattle.bk_syntax.specs.declared.frames.Frames.{Frames}
 use Rattle.bk_syntax.specs.declared.frame.Now.{Now}
 use Rattle.bk_syntax.specs.declared.frame.Stop.{Stop}
 use Rattle.bk_syntax.specs.declared.frame.Stop.TheVariants as s
-use Rattle.bk_syntax.specs.declared.parser.Section.{Section}
+use Rattle.bk_syntax.specs.declared.section.Section.{Section}
 use Rattle.bk_syntax.specs.declared.tree.Decl.{Decl}
 use Rattle.bk_syntax.specs.Tree.{Declarations, declarations_in, no_declarations}
 use Rattle.bk_syntax.specs.Grammar as G
@@ -251,6 +251,11 @@ pub not_closed : (ys zs : List (Bor (List ℕ))) (u : List Symbol) (t : Symbol) 
 not_closed ys zs u t x holds same h b =
     let P : List (Bor (List ℕ)) → Type 0 = λ z. Closes None t (tag_of t.text) z in
     wrong_tag u t (tags ys) x b (plain_close t [] (tags ys) None holds (subst P same h))
+
+pub due_empty : (ds : List Decl) (xs : List Frame) → length xs ≡ 0 → due (stack ds xs) ≡ due (in_section (declarations_in ds))
+unfolding stack
+due_empty ds [] h = refl
+due_empty ds (x ∷ xs) h = absurd (omega arith)
 
 pub whole_empty : (ds : List Decl) (xs : List Frame) → length xs ≡ 0 → whole (Some (due (stack ds xs))) ≡ Ok (declarations_in ds)
 unfolding stack

@@ -19,3 +19,4 @@ pub mod Openings
 pub mod Behind
 pub mod Sizes
 pub mod Lifts
+pub mod Endings

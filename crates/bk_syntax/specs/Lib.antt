@@ -7,6 +7,7 @@ pub mod Limits
 pub mod SyntaxFault
 pub mod Machine
 pub mod Sizes
+pub mod Bounds
 pub mod SyntaxLaws
 pub mod Begun
 pub mod Stacked

@@ -12,7 +12,7 @@ use Rattle.bk_syntax.specs.declared.frames.Frames.{Frames}
 use Rattle.bk_syntax.specs.declared.frame.Now.{Now}
 use Rattle.bk_syntax.specs.declared.frame.Stop.{Stop}
 use Rattle.bk_syntax.specs.declared.frame.Stop.TheVariants as s
-use Rattle.bk_syntax.specs.declared.parser.Section.{Section}
+use Rattle.bk_syntax.specs.declared.section.Section.{Section}
 use Rattle.bk_syntax.specs.Tree.{Declarations, declarations_in}
 use Rattle.bk_syntax.specs.Brackets.{closed_by, in_front, plain}
 use Rattle.bk_syntax.specs.SyntaxFault.{IsSection, Stands, StandsAtEnd}

@@ -10,6 +10,7 @@ mod frames;
 mod laws;
 mod make;
 mod parser;
+mod section;
 mod size;
 mod spelling;
 mod symbols;
@@ -23,4 +24,5 @@ mod tree_tests;
 pub use laws::{
     end_fault_stands, have_one_tree, reads_the_grammar, symbol_fault_stands, tag_fault_stands,
 };
-pub use parser::{Section, parse};
+pub use parser::parse;
+pub use section::Section;

@@ -1,27 +1,30 @@
 //! The parser: one pass over the symbols, with a list of what was begun.
-ghost use Rattle.std.specs.Prelude.{◌≡◌, ◌<◌, true, false, Some, [], List, length, IfSome};
+ghost use Rattle.std.specs.Prelude.{◌≡◌, ◌<◌, true, false, Some, [], List, length, MatchOption, IfOk};
 ghost use Rattle.bk_base.specs.declared.refused.Refused.TheVariants as Refused;
 ghost use Rattle.bk_lex.specs.Symbol.{Symbol, symbol_of, symbols_of};
 ghost use Rattle.bk_lex.specs.Values.{upper_name};
 ghost use Rattle.bk_syntax.specs.Tree.{Declarations, expression, action, declarations_in};
 ghost use Rattle.bk_syntax.specs.Spelling.{tag_of};
 ghost use Rattle.bk_syntax.specs.Rows.{goes};
-ghost use Rattle.bk_syntax.specs.Machine.{limit, opens, closes, give, finish, without, stepped_by, whole, run};
+ghost use Rattle.bk_syntax.specs.Machine.{limit, opens, closes, give, finish, without, stepped_by, whole, run, due, in_section};
 ghost use Rattle.bk_syntax.specs.Begun.{begun_on, held_in};
 ghost use Rattle.bk_syntax.specs.Frames.{stack_of, state, flow, Steps, Answers, Lowers, Falls};
-ghost use Rattle.bk_syntax.specs.Parsing.{tags, Closes, steps, Behind, told, IsLimit, Advances, declarations_of, Ends, Parses, Gives};
+ghost use Rattle.bk_syntax.specs.Parsing.{tags, Closes, steps, Behind, told, IsLimit, Advances, Ends, Parses, Gives};
 ghost use Rattle.bk_syntax.specs.SyntaxFault.{IsSection};
+ghost use Rattle.bk_syntax.specs.Limits.{Within};
+ghost use Rattle.bk_syntax.specs.Bounds.{Bounded, Passed};
 
 use crate::commands::{again, command, complete_clause, complete_phrase, did, guarded};
 use crate::definitions::{at_place, complete_command, complete_definition, complete_member};
 use crate::expressions::{complete, extends, go_on, operand};
 use crate::frame::{Begun, Clause, Done, Flow, Frame, Now, Size, Sized, Stop};
 use crate::frames::Frames;
+use crate::section::Section;
 use crate::size::{NOTHING, least};
 use crate::spelling::{same_tag, tag};
 use crate::symbols::{closes, goes_on, opens, repeats, starts_command};
 use crate::top::{begun, pop};
-use crate::tree::{Command, Decl};
+use crate::tree::Command;
 use bk_base::limit::{TREE_DEPTH, TREE_NODES};
 use bk_base::{Line, Refused, SourceFault, SourceKind};
 use bk_lex::{Kind, Token};
@@ -230,21 +233,6 @@ fn closings(opened: &[&[u8]], text: &[u8]) -> Option<usize>
     closings_tagged(opened, wanted)
 }
 
-/// A section, read by `decls`.
-#[derive(Drop)]
-pub struct Section {
-    decls: Vec<Decl>,
-}
-
-impl Section {
-    /// Its declarations.
-    pub fn decls(&self) -> &[Decl]
-        ensures { declarations_in result.now ≡ declarations_of self.now }
-    {
-        &self.decls
-    }
-}
-
 fn fault(line: Line, kind: SourceKind) -> Refused<SourceFault>
     ensures { result ≡ Refused.Fault (record { line = line; kind = kind }) }
 {
@@ -287,7 +275,7 @@ fn repeat_step(
 
 /// The limit that every section from here on passes.
 fn limit(frames: &Frames, now: &Now) -> Option<SourceKind>
-    ensures { IfSome result IsLimit }
+    ensures { MatchOption result (Bounded (state (stack_of frames.now) now.now)) (λ kind. IsLimit kind × Passed kind (state (stack_of frames.now) now.now)) }
 {
     let size = least(frames, now);
     if size.depth > TREE_DEPTH {
@@ -363,7 +351,8 @@ fn advance<'a>(
     now: Now,
     token: &Token<'a>,
 ) -> Result<Now, Refused<SourceFault>>
-    ensures { (u : List Symbol) → Behind u (tags opened.old.items) (state (stack_of frames.old) now) → Advances frames.new opened.new.items result u (symbol_of token.now) }
+    ensures bounded { IfOk result (λ now. Bounded (state (stack_of frames.new) now)) }
+    ensures goes { (u : List Symbol) → Behind u (tags opened.old.items) (state (stack_of frames.old) now) → Advances frames.new opened.new.items result u (symbol_of token.now) }
 {
     match take(alloc, frames, opened, now, token) {
         Ok(after) => match limit(frames, &after) {
@@ -376,6 +365,7 @@ fn advance<'a>(
 
 /// The section, if it is whole here, where its end is on this line.
 fn whole(frames: Frames, now: Now, end: Line) -> Result<Section, Refused<SourceFault>>
+    requires { (ds : Declarations) → state (stack_of frames) now ≡ due (in_section ds) → Within ds }
     ensures { Ends result (whole (Some (state (stack_of frames) now))) end }
 {
     let Frames {
@@ -386,7 +376,7 @@ fn whole(frames: Frames, now: Now, end: Line) -> Result<Section, Refused<SourceF
     match now {
         Now::Due => {
             if above.is_empty() {
-                return Ok(Section { decls });
+                return Ok(Section::new(decls));
             }
             Err(fault(end, SourceKind::UnexpectedSymbol))
         }
@@ -401,6 +391,7 @@ fn at_end(
     now: Now,
     end: Line,
 ) -> Result<Section, Refused<SourceFault>>
+    requires { Bounded (state (stack_of frames) now) }
     ensures { Ends result (run [] (state (stack_of frames) now)) end }
 {
     let mut frames = frames;
