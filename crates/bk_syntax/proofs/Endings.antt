@@ -1,5 +1,10 @@
 -- What the end completes is no larger than what was least before it.
-use Rattle.std.proofs.Common.{◌≡◌, ◌≤◌, ◌+◌, ◌-◌, ◌==◌, max, min, length, ℕ, List, [], ◌∷◌, Bool, true, false, cond, Option, Some, None, refl, sym, subst, ap, ◌∙◌, arith}
+use Rattle.std.proofs.Common.{◌≡◌, ◌≤◌, ◌+◌, ◌-◌, ◌==◌, max, min, length, ℕ, List, [], ◌∷◌, Bool, true, false, cond, Option, Some, None, refl, sym, subst, ap, ◌∙◌, Result, Ok, Err, arith}
+use Rattle.std.specs.Prelude.{IfOk}
+use Rattle.bk_base.specs.declared.source_fault.SourceFault.{SourceFault}
+use Rattle.bk_base.specs.declared.refused.Refused.{Refused}
+use Rattle.bk_syntax.specs.declared.section.Section.{Section}
+use Rattle.bk_syntax.specs.Parsing.{declarations_of}
 use Rattle.bk_lex.specs.declared.token.Kind.TheVariants as k
 use Rattle.bk_syntax.specs.declared.size.Form.{Form}
 use Rattle.bk_syntax.specs.declared.size.Form.TheVariants.{Whole, Callable, Other}
@@ -140,3 +145,7 @@ empty_bounded ds xs no_decls nothing =
     let at : stack ds xs ≡ in_section no_declarations = ap (λ z. stack z xs) no_decls ∙ ap (stack []) nothing ∙ stack_none [] in
     let P : Stack → Type 0 = λ z. Bounded (due z) in
     subst P (sym at) (omega arith, omega arith)
+
+pub within_limits : (r : Result Section (Refused SourceFault)) → IfOk r (λ x. Within (declarations_of x))
+within_limits (Ok x) = x.within
+within_limits (Err e) = tt

@@ -9,7 +9,7 @@ ghost use Rattle.bk_syntax.specs.Rows.{goes};
 ghost use Rattle.bk_syntax.specs.Machine.{limit, opens, closes, give, finish, without, stepped_by, whole, run, due, in_section};
 ghost use Rattle.bk_syntax.specs.Begun.{begun_on, held_in};
 ghost use Rattle.bk_syntax.specs.Frames.{stack_of, state, flow, Steps, Answers, Lowers, Falls};
-ghost use Rattle.bk_syntax.specs.Parsing.{tags, Closes, steps, Behind, told, IsLimit, Advances, Ends, Parses, Gives};
+ghost use Rattle.bk_syntax.specs.Parsing.{tags, Closes, steps, Behind, told, IsLimit, Advances, declarations_of, Ends, Parses, Gives};
 ghost use Rattle.bk_syntax.specs.SyntaxFault.{IsSection};
 ghost use Rattle.bk_syntax.specs.Limits.{Within};
 ghost use Rattle.bk_syntax.specs.Bounds.{Bounded, Passed};
@@ -414,6 +414,8 @@ fn at_end(
 pub fn parse(alloc: Global, tokens: &[Token], end: Line) -> Result<Section, Refused<SourceFault>>
     // What is answered is a tree of the symbols, or a fault that stands where the symbols before it went on.
     ensures parses { Parses result (symbols_of tokens.now) end }
+    // The tree is within the limits.
+    ensures within { IfOk result (λ section. Within (declarations_of section)) }
     // Where the symbols are a section, its tree is answered, unless a limit or memory keeps it back.
     ensures only { (ds : Declarations) → IsSection ds (symbols_of tokens.now) → Gives result ds }
 {

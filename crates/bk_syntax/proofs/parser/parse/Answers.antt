@@ -3,7 +3,7 @@ use Rattle.bk_lex.specs.Symbol.{symbols_of}
 use Rattle.bk_syntax.specs.Frames.{stack_of, state}
 use Rattle.bk_syntax.specs.Parsing.{tags}
 use Rattle.bk_syntax.proofs.Behind.{from_nothing, one_further, told_of, all_read, ended, gives_only}
-use Rattle.bk_syntax.proofs.Endings.{empty_bounded}
+use Rattle.bk_syntax.proofs.Endings.{empty_bounded, within_limits}
 use Rattle.bk_syntax.proofs.parser.parse.Goals as goal
 
 pub loop-token-init : goal.loop-token-init
@@ -28,7 +28,7 @@ returns-in-Err c =
     let p = told_of c.in-Err.refused c.advance.new.frames c.advance.new.opened.items ts i c.token-item.result c.args.end c.loop-token-test.true c.token-item.is
     (tags c.loop-token.opened.items, state (stack_of c.loop-token.frames) c.loop-token.now, c.loop-token.invariant.0)
     (c.in-Err.ensures.goes (symbols_of (take i ts)) c.loop-token.invariant.0) in
-    record { parses = p; only = gives_only (Err c.in-Err.refused) (symbols_of ts) c.args.end p }
+    record { parses = p; within = tt; only = gives_only (Err c.in-Err.refused) (symbols_of ts) c.args.end p }
 
 pub returns : goal.returns
 returns c =
@@ -36,4 +36,4 @@ returns c =
     let x = state (stack_of c.loop-token.frames) c.loop-token.now in
     let p = ended c.at_end.result (symbols_of ts) (tags c.loop-token.opened.items) x c.args.end
     (all_read ts c.loop-token.token-index (tags c.loop-token.opened.items) x (omega arith) c.loop-token.invariant.0) c.at_end.ensures in
-    record { parses = p; only = gives_only c.at_end.result (symbols_of ts) c.args.end p }
+    record { parses = p; within = within_limits c.at_end.result; only = gives_only c.at_end.result (symbols_of ts) c.args.end p }
