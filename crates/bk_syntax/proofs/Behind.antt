@@ -37,7 +37,7 @@ use Rattle.bk_syntax.specs.Begun.{begun_on}
 use Rattle.bk_syntax.specs.Stacked.{above, stack}
 use Rattle.bk_syntax.specs.Frames.{stack_of, state, Steps}
 use Rattle.bk_syntax.specs.SyntaxLaws.{reading}
-use Rattle.bk_syntax.specs.Parsing.{tags, Closes, goes_to, steps, Behind, GoesOn, Says, IsLimit, told, Advances, declarations_of, Ends, Parses, Gives}
+use Rattle.bk_syntax.specs.Parsing.{tags, Closes, goes_to, steps, Behind, GoesOn, Passes, Says, IsLimit, told, Advances, declarations_of, Ends, Parses, Gives}
 use Rattle.bk_syntax.proofs.Steps.{stepped}
 use Rattle.bk_syntax.proofs.Before.{opens_kind, closes_kind}
 use Rattle.bk_syntax.proofs.Stands.{one_tree, end_stands}
@@ -152,14 +152,14 @@ answered (Ok now) new xs u t before after x n go are h b =
 answered (Err s.Memory) new xs u t before after x n go are h b = tt
 answered (Err s.Unexpected) new xs u t before after x n go are h b = (refl, unexpected u t before after x n b h go)
 
-limit_says : (kind : SourceKind) (u : List Symbol) (t : Symbol) → IsLimit kind → GoesOn (u ++ t ∷ []) → Says kind u t
+limit_says : (kind : SourceKind) (u : List Symbol) (t : Symbol) → IsLimit kind → Passes kind (u ++ t ∷ []) → Says kind u t
 limit_says NestedTooDeeply u t h on = on
 limit_says TooManyNodes u t h on = on
 limit_says _ u t h on = absurd h
 
 -- a limit is told where the symbols go on
 pub limit_told : (kind : SourceKind) (q : Refused SourceFault) (new : Frames) (xs : List (Bor (List ℕ))) (u : List Symbol) (t : Symbol) → IsLimit kind → q ≡ Fault (record { line = t.line; kind = kind })
-    → GoesOn (u ++ t ∷ []) → Advances new xs (Err q) u t
+    → Passes kind (u ++ t ∷ []) → Advances new xs (Err q) u t
 limit_told kind q new xs u t limits is on =
     let P : Refused SourceFault → Type 0 = λ z. Advances new xs (Err z) u t in
     subst P (sym is) (refl, limit_says kind u t limits on)

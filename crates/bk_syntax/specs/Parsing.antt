@@ -17,6 +17,7 @@ use Rattle.bk_syntax.specs.Tree.{Declarations, declarations_in}
 use Rattle.bk_syntax.specs.Brackets.{closed_by, in_front, plain}
 use Rattle.bk_syntax.specs.SyntaxFault.{IsSection, Stands, StandsAtEnd}
 use Rattle.bk_syntax.specs.Machine.{State, step, run}
+use Rattle.bk_syntax.specs.Bounds.{Passed}
 use Rattle.bk_syntax.specs.SyntaxLaws.{reading}
 use Rattle.bk_syntax.specs.Frames.{stack_of, state}
 
@@ -52,13 +53,16 @@ pub record Behind (ts : List Symbol) (opens : List (List ℕ)) (x : State) : Typ
 abbrev pub GoesOn : List Symbol → Type 0
 GoesOn ts = (opens : List (List ℕ)) × (x : State) × Behind ts opens x
 
--- What a fault of this kind, told at the symbol t behind u, says. Of a limit it is said only that without it the symbols up
--- to and with t go on.
+-- behind these symbols the machine goes on, and the least that goes on from there passes the limit of this kind
+abbrev pub Passes : SourceKind → List Symbol → Type 0
+Passes kind ts = (opens : List (List ℕ)) × (x : State) × Behind ts opens x × Passed kind x
+
+-- what a fault of this kind, told at the symbol t behind u, says
 abbrev pub Says : SourceKind → List Symbol → Symbol → Type 0
 Says WrongSectionTag u t = Stands WrongSectionTag u t
 Says UnexpectedSymbol u t = Stands UnexpectedSymbol u t
-Says NestedTooDeeply u t = GoesOn (u ++ t ∷ [])
-Says TooManyNodes u t = GoesOn (u ++ t ∷ [])
+Says NestedTooDeeply u t = Passes NestedTooDeeply (u ++ t ∷ [])
+Says TooManyNodes u t = Passes TooManyNodes (u ++ t ∷ [])
 Says _ u t = ⊥
 
 abbrev pub IsLimit : SourceKind → Type 0

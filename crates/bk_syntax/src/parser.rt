@@ -410,7 +410,7 @@ fn at_end(
 /// The section that these symbols are, the end of which is on line `end`, or the fault that stands at the first symbol
 /// after which no section goes on.
 ///
-/// That a limit is told just where it is passed, and that the fault is the first, no clause says.
+/// That every section which begins so passes a limit that is told, and that the fault is the first, no clause says.
 pub fn parse(alloc: Global, tokens: &[Token], end: Line) -> Result<Section, Refused<SourceFault>>
     // What is answered is a tree of the symbols, or a fault that stands where the symbols before it went on.
     ensures parses { Parses result (symbols_of tokens.now) end }

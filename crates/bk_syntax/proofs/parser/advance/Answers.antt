@@ -7,4 +7,4 @@ use Rattle.bk_syntax.proofs.parser.advance.Goals as goal
 pub returns-in-Some-clause-goes : goal.returns-in-Some-clause-goes
 returns-in-Some-clause-goes c = λ u b.
     limit_told c.in-Some.kind c.fault.result c.take.new.frames c.take.new.opened.items u (symbol_of c.args.token.now) c.in-Some.ensures.0 c.fault.ensures
-    (tags c.take.new.opened.items, state (stack_of c.take.new.frames) c.in-Ok.after, c.in-Ok.ensures u b)
+    (tags c.take.new.opened.items, state (stack_of c.take.new.frames) c.in-Ok.after, c.in-Ok.ensures u b, c.in-Some.ensures.1)
