@@ -1,5 +1,5 @@
 -- What the end completes is no larger than what was least before it.
-use Rattle.std.proofs.Common.{◌≡◌, ◌≤◌, ◌+◌, ◌-◌, ◌==◌, max, min, length, ℕ, List, [], ◌∷◌, Bool, true, false, cond, Option, Some, None, refl, sym, subst, ap, ◌∙◌, Result, Ok, Err, arith}
+use Rattle.std.proofs.Common.{◌≡◌, ◌≤◌, ◌+◌, ◌==◌, max, length, ℕ, List, [], Bool, true, false, cond, Option, Some, None, refl, sym, subst, ap, ◌∙◌, Result, Ok, Err, arith}
 use Rattle.std.specs.Prelude.{IfOk}
 use Rattle.bk_base.specs.declared.source_fault.SourceFault.{SourceFault}
 use Rattle.bk_base.specs.declared.refused.Refused.{Refused}
@@ -7,18 +7,17 @@ use Rattle.bk_syntax.specs.declared.section.Section.{Section}
 use Rattle.bk_syntax.specs.Parsing.{declarations_of}
 use Rattle.bk_lex.specs.declared.token.Kind.TheVariants as k
 use Rattle.bk_syntax.specs.declared.size.Form.{Form}
-use Rattle.bk_syntax.specs.declared.size.Form.TheVariants.{Whole, Callable, Other}
-use Rattle.bk_syntax.specs.declared.symbols.Guard.{Guard}
+use Rattle.bk_syntax.specs.declared.size.Form.TheVariants.{Other}
 use Rattle.bk_syntax.specs.declared.symbols.Guard.TheVariants as g
 use Rattle.bk_syntax.specs.declared.tree.Operator.TheVariants.{Both}
-use Rattle.bk_syntax.specs.Tree.{Expression, Action, Definition, Declarations, Starts, unary, binary, choice, apply, table, call, assign, result, repeat_while, function, variables, value, vector, valof, label, default, test, for_loop, routine, empty, none, more, no_starts, no_items, item, declare, no_declarations, definitions, define, no_definitions}
+use Rattle.bk_syntax.specs.Tree.{Expression, Action, Definition, Declarations, unary, binary, choice, apply, table, call, assign, result, repeat_while, function, variables, value, vector, valof, label, default, test, for_loop, routine, empty, none, more, no_starts, no_items, item, declare, no_declarations, definitions, define, no_definitions}
 use Rattle.bk_syntax.specs.declared.frame.Frame.{Frame}
 use Rattle.bk_syntax.specs.declared.tree.Decl.{Decl}
 use Rattle.bk_syntax.specs.Stacked.{stack}
 use Rattle.bk_syntax.proofs.Stacks.{stack_none}
 use Rattle.bk_syntax.specs.Grammar.{line_of, line_of_first, line_of_names, line_of_action, size, start_count}
-use Rattle.bk_syntax.specs.Limits.{Within, depth, depth_of_each, depth_of_action, depth_of_declaration, depth_of_declarations, depth_of_definition, depth_of_definitions, depth_of_starts, nodes, nodes_of_each, nodes_of_action, nodes_of_declaration, nodes_of_declarations, nodes_of_definition, nodes_of_definitions, nodes_of_starts}
-use Rattle.bk_syntax.specs.Machine.{Stack, State, want, have, begin, maybe, did, due, in_section, in_block, in_let, at_name, at_formals, at_formal, at_formal_end, at_head, at_variable, at_variable_end, at_starts, at_opening, at_items, at_sign, at_goto, at_for, at_forward, at_default, in_parens, in_unary, in_binary, in_chain, in_then, in_else, in_args, in_table, in_start, in_dests, in_values, in_guard, in_test, in_result, in_while, in_from, in_to, in_by, in_item, in_function, in_value, in_vector, in_valof, in_label, in_guarded, in_default, in_do, in_or, in_for, in_routine, give, finish, defined_by, stepped_by, counted, guarded, each_then, starts_then, definitions_then, declarations_then, inside}
+use Rattle.bk_syntax.specs.Limits.{Within, depth, depth_of_each, depth_of_action, depth_of_declarations, depth_of_definition, depth_of_starts, nodes, nodes_of_each, nodes_of_action, nodes_of_declarations, nodes_of_definition, nodes_of_starts}
+use Rattle.bk_syntax.specs.Machine.{Stack, State, want, have, maybe, did, due, in_section, in_block, in_let, at_name, at_starts, at_items, in_unary, in_binary, in_chain, in_else, in_table, in_start, in_values, in_guard, in_result, in_while, in_function, in_value, in_vector, in_valof, in_label, in_guarded, in_default, in_or, in_for, in_routine, give, finish, defined_by, stepped_by, counted, guarded, each_then, starts_then, definitions_then, declarations_then, inside}
 use Rattle.bk_syntax.specs.Bounds.{Bounded}
 use Rattle.bk_syntax.specs.Sizes.{bound, over_depth, over_nodes, form_of, owed, least_depth, least_nodes}
 use Rattle.bk_syntax.proofs.Trees.{each_depth, each_nodes, declarations_depth, declarations_nodes, definitions_depth, definitions_nodes, starts_depth, starts_nodes}
