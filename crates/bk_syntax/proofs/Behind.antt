@@ -20,7 +20,7 @@ use Rattle.bk_syntax.specs.declared.frame.Point.TheVariants as t
 use Rattle.bk_syntax.specs.declared.frame.Begun.{Begun}
 use Rattle.bk_syntax.specs.declared.frame.Begun.TheVariants as b
 use Rattle.bk_syntax.specs.declared.frame.Frame.{Frame}
-use Rattle.bk_syntax.specs.declared.frame.Frames.{Frames}
+use Rattle.bk_syntax.specs.declared.frames.Frames.{Frames}
 use Rattle.bk_syntax.specs.declared.frame.Now.{Now}
 use Rattle.bk_syntax.specs.declared.frame.Stop.{Stop}
 use Rattle.bk_syntax.specs.declared.frame.Stop.TheVariants as s
@@ -30,7 +30,9 @@ use Rattle.bk_syntax.specs.Spelling.{tag_of}
 use Rattle.bk_syntax.specs.Brackets.{Closing, closed_by, in_front, plain_behind, plain_by, plain}
 use Rattle.bk_syntax.specs.SyntaxFault.{Stands}
 use Rattle.bk_syntax.specs.Machine.{Stack, State, due, in_section, opens, closes, stepped_by, step, whole, going, run}
-use Rattle.bk_syntax.specs.Frames.{begun_on, above, stack, stack_of, state, Steps}
+use Rattle.bk_syntax.specs.Begun.{begun_on}
+use Rattle.bk_syntax.specs.Stacked.{above, stack}
+use Rattle.bk_syntax.specs.Frames.{stack_of, state, Steps}
 use Rattle.bk_syntax.specs.SyntaxLaws.{reading}
 use Rattle.bk_syntax.specs.Parsing.{tags, Closes, goes_to, steps, Behind, told, Advances, Ends}
 use Rattle.bk_syntax.proofs.Steps.{stepped}
@@ -197,6 +199,11 @@ pub not_closed : (ys zs : List (Bor (List ℕ))) (u : List Symbol) (t : Symbol) 
 not_closed ys zs u t x holds same h b =
     let P : List (Bor (List ℕ)) → Type 0 = λ z. Closes None t (tag_of t.text) z in
     wrong_tag u t (tags ys) x b (plain_close t [] (tags ys) None holds (subst P same h))
+
+pub due_empty : (ds : List Decl) (xs : List Frame) → length xs ≡ 0 → due (stack ds xs) ≡ due (in_section (declarations_in ds))
+unfolding stack
+due_empty ds [] h = refl
+due_empty ds (x ∷ xs) h = absurd (omega arith)
 
 pub whole_empty : (ds : List Decl) (xs : List Frame) → length xs ≡ 0 → whole (Some (due (stack ds xs))) ≡ Ok (declarations_in ds)
 unfolding stack

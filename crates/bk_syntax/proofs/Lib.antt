@@ -23,3 +23,6 @@ pub mod Endings
 pub mod Completions
 pub mod Begun
 pub mod Told
+pub mod Sizes
+pub mod Lifts
+pub mod Finished

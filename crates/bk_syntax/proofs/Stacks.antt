@@ -1,11 +1,13 @@
 -- Frames as a stack.
-use Rattle.std.proofs.Common.{◌≡◌, ℕ, ◌+◌, ◌<◌, List, [], ◌∷◌, ◌++◌, length, get_or, take, refl, sym, ap, ◌∙◌}
+use Rattle.std.proofs.Common.{◌≡◌, ℕ, zero, suc, Bool, true, false, if◌then◌else◌, Some, slice_get, sym, subst, ◌+◌, ◌<◌, List, [], ◌∷◌, ◌++◌, length, get_or, take, refl, sym, ap, ◌∙◌}
 use Rattle.std.proofs.lemmas.List.{take_more}
 use Rattle.bk_syntax.specs.declared.frame.Frame.{Frame}
 use Rattle.bk_syntax.specs.declared.tree.Decl.{Decl}
 use Rattle.bk_syntax.specs.Tree.{declarations_in}
 use Rattle.bk_syntax.specs.Machine.{Stack, in_section}
-use Rattle.bk_syntax.specs.Frames.{begun_on, above, stack}
+use Rattle.bk_syntax.specs.Begun.{begun_on, form_above}
+use Rattle.bk_syntax.specs.Sizes.{IsLift}
+use Rattle.bk_syntax.specs.Stacked.{above, stack, Lifts}
 
 above_push : (st : Stack) (xs : List Frame) (x : Frame) → above st (xs ++ x ∷ []) ≡ begun_on x.begun (above st xs)
 above_push st [] x = refl
@@ -24,3 +26,42 @@ pub ruleset frames_laws = (stack_push, stack_none)
 -- one frame more of those below
 pub stack_take : (ds : List Decl) (xs : List Frame) (i : ℕ) (x : Frame) → i < length xs → x ≡ get_or xs i x → stack ds (take (i + 1) xs) ≡ begun_on x.begun (stack ds (take i xs))
 stack_take ds xs i x lt is = ap (stack ds) (take_more xs i x lt ∙ ap (λ y. take i xs ++ y ∷ []) (sym is)) ∙ stack_push ds (take i xs) x
+
+-- each of them says how the whole depends on it: above any stack
+
+abbrev LiftsOn : Stack → List Frame → Type 0
+LiftsOn st xs = (i : ℕ) (x : Frame) → slice_get xs i ≡ Some x → IsLift x.below (above st (take i xs)) (form_above x.begun)
+
+lifts_on_push : (st : Stack) (xs : List Frame) (w : Frame) → LiftsOn st xs → IsLift w.below (above st xs) (form_above w.begun) → LiftsOn st (xs ++ w ∷ [])
+lifts_on_push st [] w h g zero x is = let P : Frame → Type 0 = λ y. IsLift y.below st (form_above y.begun) in let e : w ≡ x = cc in subst P e g
+lifts_on_push st [] w h g (suc i) x is = absurd cc
+lifts_on_push st (y ∷ ys) w h g zero x is = h zero x is
+lifts_on_push st (y ∷ ys) w h g (suc i) x is = lifts_on_push (begun_on y.begun st) ys w (λ j z. h (suc j) z) g i x is
+
+lifts_on_pop : (st : Stack) (xs : List Frame) (w : Frame) → LiftsOn st (xs ++ w ∷ []) → LiftsOn st xs
+lifts_on_pop st [] w h i x is = absurd cc
+lifts_on_pop st (y ∷ ys) w h zero x is = h zero x is
+lifts_on_pop st (y ∷ ys) w h (suc i) x is = lifts_on_pop (begun_on y.begun st) ys w (λ j z. h (suc j) z) i x is
+
+lifts_on_top : (st : Stack) (xs : List Frame) (w : Frame) → LiftsOn st (xs ++ w ∷ []) → IsLift w.below (above st xs) (form_above w.begun)
+lifts_on_top st [] w h = h zero w refl
+lifts_on_top st (y ∷ ys) w h = lifts_on_top (begun_on y.begun st) ys w (λ j z. h (suc j) z)
+
+pub lifts_push : (ds : List Decl) (xs : List Frame) (w : Frame) → Lifts ds xs → IsLift w.below (stack ds xs) (form_above w.begun) → Lifts ds (xs ++ w ∷ [])
+unfolding stack
+lifts_push ds xs w = lifts_on_push (in_section (declarations_in ds)) xs w
+
+pub lifts_pop : (ds : List Decl) (xs : List Frame) (w : Frame) → Lifts ds (xs ++ w ∷ []) → Lifts ds xs
+unfolding stack
+lifts_pop ds xs w = lifts_on_pop (in_section (declarations_in ds)) xs w
+
+pub lifts_top : (ds : List Decl) (xs : List Frame) (w : Frame) → Lifts ds (xs ++ w ∷ []) → IsLift w.below (stack ds xs) (form_above w.begun)
+unfolding stack
+lifts_top ds xs w = lifts_on_top (in_section (declarations_in ds)) xs w
+
+pub lifts_none : (ds : List Decl) → Lifts ds []
+lifts_none ds i x is = absurd cc
+
+pub lifts_pushed : (ok : Bool) (ds : List Decl) (xs zs : List Frame) (w : Frame) → zs ≡ (if ok then xs ++ w ∷ [] else xs) → Lifts ds xs → IsLift w.below (stack ds xs) (form_above w.begun) → Lifts ds zs
+lifts_pushed true ds xs zs w is h g = let P : List Frame → Type 0 = λ z. Lifts ds z in subst P (sym is) (lifts_push ds xs w h g)
+lifts_pushed false ds xs zs w is h g = let P : List Frame → Type 0 = λ z. Lifts ds z in subst P (sym is) h

@@ -9,30 +9,31 @@ use Rattle.bk_base.specs.declared.refused.Refused.{Refused}
 use Rattle.bk_base.specs.declared.refused.Refused.TheVariants.{Fault, Memory, Device}
 use Rattle.bk_lex.specs.declared.token.Token.{Token}
 use Rattle.bk_lex.specs.Symbol.{Symbol, symbol_of, symbols_of}
-use Rattle.bk_syntax.specs.declared.frame.Frames.{Frames}
-use Rattle.bk_syntax.specs.declared.parser.Section.{Section}
+use Rattle.bk_syntax.specs.declared.frames.Frames.{Frames}
+use Rattle.bk_syntax.specs.declared.section.Section.{Section}
 use Rattle.bk_syntax.specs.Tree.{Declarations}
 use Rattle.bk_syntax.specs.Grammar as G
 use Rattle.bk_syntax.specs.SyntaxFault.{IsSection, Begins, Any}
 use Rattle.bk_syntax.specs.Machine.{State, run}
-use Rattle.bk_syntax.specs.Parsing.{Behind, Says, IsLimit, Advances, declarations_of, Ends, Parses, Gives}
+use Rattle.bk_syntax.specs.Bounds.{Passed}
+use Rattle.bk_syntax.specs.Parsing.{Behind, Passes, Says, IsLimit, Advances, declarations_of, Ends, Parses, Gives}
 use Rattle.bk_syntax.proofs.Stands.{one_tree, end_stands}
 use Rattle.bk_syntax.proofs.Exact.{reads_the_grammar}
 use Rattle.bk_syntax.proofs.Tags.{tag_stands}
 use Rattle.bk_syntax.proofs.Behind.{plain_all, reading_all}
 use Rattle.bk_syntax.proofs.Begun.{behind_begins}
 
-limit_says : (kind : SourceKind) (u : List Symbol) (t : Symbol) → IsLimit kind → Begins Any (u ++ t ∷ []) → Says kind u t
-limit_says NestedTooDeeply u t h on = on
-limit_says TooManyNodes u t h on = on
-limit_says _ u t h on = absurd h
+limit_says : (kind : SourceKind) (u : List Symbol) (t : Symbol) → IsLimit kind → Begins Any (u ++ t ∷ []) → Passes kind (u ++ t ∷ []) → Says kind u t
+limit_says NestedTooDeeply u t h on over = (on, over)
+limit_says TooManyNodes u t h on over = (on, over)
+limit_says _ u t h on over = absurd h
 
--- a limit is told where a section begins with the symbols
+-- a limit is told where a section begins with the symbols, and the least passes it
 pub limit_told : (kind : SourceKind) (q : Refused SourceFault) (new : Frames) (xs : List (Bor (List ℕ))) (u : List Symbol) (t : Symbol) (opens : List (List ℕ)) (x : State) → IsLimit kind
-    → q ≡ Fault (record { line = t.line; kind = kind }) → Behind (u ++ t ∷ []) opens x → Advances new xs (Err q) u t
-limit_told kind q new xs u t opens x limits is b =
+    → q ≡ Fault (record { line = t.line; kind = kind }) → Behind (u ++ t ∷ []) opens x → Passed kind x → Advances new xs (Err q) u t
+limit_told kind q new xs u t opens x limits is b over =
     let P : Refused SourceFault → Type 0 = λ z. Advances new xs (Err z) u t in
-    subst P (sym is) (refl, limit_says kind u t limits (behind_begins (u ++ t ∷ []) opens x b))
+    subst P (sym is) (refl, limit_says kind u t limits (behind_begins (u ++ t ∷ []) opens x b) (opens, x, b, over))
 
 -- a fault that is told at one of the symbols
 pub told_of : (r : Refused SourceFault) (new : Frames) (xs : List (Bor (List ℕ))) (ts : List Token) (i : ℕ) (t : Token) (end : ℕ) (opens : List (List ℕ)) (x : State) → i < length ts → t ≡ get_or ts i t

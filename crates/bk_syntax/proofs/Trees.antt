@@ -1,5 +1,5 @@
 -- Trees made of a list of parts: what they are to the definitions, and a list with one part more.
-use Rattle.std.proofs.Common.{◌≡◌, ℕ, List, [], ◌∷◌, ◌++◌, length, map, Option, Some, None, refl, ap, ◌∙◌, arith, Vec, Global, Box}
+use Rattle.std.proofs.Common.{◌≡◌, ℕ, List, [], ◌∷◌, ◌++◌, length, max, ◌+◌, map, Option, Some, None, refl, ap, ◌∙◌, arith, Vec, Global, Box}
 use Rattle.bk_syntax.specs.declared.tree.Name.{Name}
 use Rattle.bk_syntax.specs.declared.tree.Sort.{Sort}
 use Rattle.bk_syntax.specs.declared.tree.Expr.{Expr, Row_of-Expr, end_of-Expr, more_of-Expr, items-the_row-Expr, items_hidden-the_row-Expr-0}
@@ -19,9 +19,10 @@ use Rattle.bk_syntax.specs.declared.tree.Init.{Init}
 use Rattle.bk_syntax.specs.declared.tree.Def.{Row_of-Init, end_of-Init, more_of-Init, items-the_row-Init, items_hidden-the_row-Init-5}
 use Rattle.bk_syntax.specs.declared.tree.Init.TheVariants as b
 use Rattle.bk_syntax.specs.declared.tree.Command.TheBlock.{hidden-the_row-Expr-0, hidden-the_row-Decl-1, hidden-the_row-Command-2, hidden-the_row-Item-3, hidden-the_row-Def-4, hidden-the_row-Init-5}
-use Rattle.bk_syntax.specs.Tree.{apply, table, none, more, assign, call, for_loop, block, no_actions, also, constants, definitions, no_declarations, declare, item, variables, no_definitions, define, value, vector, mention, expression, expressions, action, actions, declaration, declarations, items, definition, definitions_of, starts, expressions_in, step_in, actions_in, declarations_in, items_in, definitions_in, starts_in}
+use Rattle.bk_syntax.specs.Tree.{Expression, Expressions, Action, Actions, Declaration, Declarations, Items, Definition, Definitions, Starts, no_items, no_starts, apply, table, none, more, assign, call, for_loop, block, no_actions, also, constants, definitions, no_declarations, declare, item, variables, no_definitions, define, value, vector, mention, expression, expressions, action, actions, declaration, declarations, items, definition, definitions_of, starts, expressions_in, step_in, actions_in, declarations_in, items_in, definitions_in, starts_in}
 use Rattle.bk_syntax.specs.Machine.{each_then, actions_then, declarations_then, items_then, definitions_then, starts_then}
 use Rattle.bk_syntax.specs.Grammar.{size, start_count}
+use Rattle.bk_syntax.specs.Limits.{depth, depth_of_each, depth_of_action, depth_of_actions, depth_of_declaration, depth_of_declarations, depth_of_items, depth_of_definition, depth_of_definitions, depth_of_starts, nodes, nodes_of_each, nodes_of_action, nodes_of_actions, nodes_of_declaration, nodes_of_declarations, nodes_of_items, nodes_of_definition, nodes_of_definitions, nodes_of_starts}
 
 -- rows of parts as lists
 
@@ -128,6 +129,60 @@ starts_push ((b.Vector l y) ∷ xs) x = ap (vector l (expression y)) (starts_pus
 pub names_push : (xs : List Name) (x : Name) → map mention (xs ++ x ∷ []) ≡ map mention xs ++ mention x ∷ []
 names_push [] x = refl
 names_push (y ∷ xs) x = ap (λ z. mention y ∷ z) (names_push xs x)
+
+-- the sizes of one part more
+
+pub each_depth : (xs : Expressions) (e : Expression) → depth_of_each (each_then xs (more e none)) ≡ max (depth_of_each xs) (depth e)
+each_depth none e = omega arith
+each_depth (more x xs) e = let h = each_depth xs e in omega (arith, h)
+
+pub each_nodes : (xs : Expressions) (e : Expression) → nodes_of_each (each_then xs (more e none)) ≡ nodes_of_each xs + nodes e
+each_nodes none e = omega arith
+each_nodes (more x xs) e = let h = each_nodes xs e in omega (arith, h)
+
+pub actions_depth : (xs : Actions) (c : Action) → depth_of_actions (actions_then xs (also c no_actions)) ≡ max (depth_of_actions xs) (depth_of_action c)
+actions_depth no_actions c = omega arith
+actions_depth (also x xs) c = let h = actions_depth xs c in omega (arith, h)
+
+pub actions_nodes : (xs : Actions) (c : Action) → nodes_of_actions (actions_then xs (also c no_actions)) ≡ nodes_of_actions xs + nodes_of_action c
+actions_nodes no_actions c = omega arith
+actions_nodes (also x xs) c = let h = actions_nodes xs c in omega (arith, h)
+
+pub declarations_depth : (xs : Declarations) (d : Declaration) → depth_of_declarations (declarations_then xs (declare d no_declarations)) ≡ max (depth_of_declarations xs) (depth_of_declaration d)
+declarations_depth no_declarations d = omega arith
+declarations_depth (declare x xs) d = let h = declarations_depth xs d in omega (arith, h)
+
+pub declarations_nodes : (xs : Declarations) (d : Declaration) → nodes_of_declarations (declarations_then xs (declare d no_declarations)) ≡ nodes_of_declarations xs + nodes_of_declaration d
+declarations_nodes no_declarations d = omega arith
+declarations_nodes (declare x xs) d = let h = declarations_nodes xs d in omega (arith, h)
+
+pub definitions_depth : (xs : Definitions) (d : Definition) → depth_of_definitions (definitions_then xs (define d no_definitions)) ≡ max (depth_of_definitions xs) (depth_of_definition d)
+definitions_depth no_definitions d = omega arith
+definitions_depth (define x xs) d = let h = definitions_depth xs d in omega (arith, h)
+
+pub definitions_nodes : (xs : Definitions) (d : Definition) → nodes_of_definitions (definitions_then xs (define d no_definitions)) ≡ nodes_of_definitions xs + nodes_of_definition d
+definitions_nodes no_definitions d = omega arith
+definitions_nodes (define x xs) d = let h = definitions_nodes xs d in omega (arith, h)
+
+pub items_depth : (xs ys : Items) → depth_of_items (items_then xs ys) ≡ max (depth_of_items xs) (depth_of_items ys)
+items_depth no_items ys = omega arith
+items_depth (item l x e xs) ys = let h = items_depth xs ys in omega (arith, h)
+
+pub items_nodes : (xs ys : Items) → nodes_of_items (items_then xs ys) ≡ nodes_of_items xs + nodes_of_items ys
+items_nodes no_items ys = omega arith
+items_nodes (item l x e xs) ys = let h = items_nodes xs ys in omega (arith, h)
+
+pub starts_depth : (xs ys : Starts) → depth_of_starts (starts_then xs ys) ≡ max (depth_of_starts xs) (depth_of_starts ys)
+starts_depth no_starts ys = omega arith
+starts_depth (value e xs) ys = let h = starts_depth xs ys in omega (arith, h)
+starts_depth (vector l e xs) ys = let h = starts_depth xs ys in omega (arith, h)
+
+pub starts_nodes : (xs ys : Starts) → nodes_of_starts (starts_then xs ys) ≡ nodes_of_starts xs + nodes_of_starts ys
+starts_nodes no_starts ys = omega arith
+starts_nodes (value e xs) ys = let h = starts_nodes xs ys in omega (arith, h)
+starts_nodes (vector l e xs) ys = let h = starts_nodes xs ys in omega (arith, h)
+
+pub ruleset more_sizes = (each_depth, each_nodes, actions_depth, actions_nodes, declarations_depth, declarations_nodes, definitions_depth, definitions_nodes, items_depth, items_nodes, starts_depth, starts_nodes)
 
 -- how many they are
 

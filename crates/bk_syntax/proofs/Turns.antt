@@ -1,5 +1,5 @@
 -- What the machine does with a symbol, by the tests that the parser makes in turn.
-use Rattle.std.proofs.Common.{◌≡◌, ◌≤◌, ◌∙◌, [], ◌∷◌, length, arith, ℕ, List, Bool, true, false, cond, Option, Some, None, refl, ap}
+use Rattle.std.proofs.Common.{◌≡◌, ◌≤◌, ◌+◌, max, ◌∙◌, [], ◌∷◌, length, arith, ℕ, List, Bool, true, false, cond, Option, Some, None, refl, ap}
 use Rattle.bk_lex.specs.declared.token.Kind.{Kind}
 use Rattle.bk_lex.specs.declared.token.Kind.TheVariants as k
 use Rattle.bk_syntax.specs.declared.tree.Operator.{Operator}
@@ -7,6 +7,8 @@ use Rattle.bk_syntax.specs.declared.tree.Operator.TheVariants.{Both}
 use Rattle.bk_syntax.specs.declared.tree.Prefix.{Prefix}
 use Rattle.bk_syntax.specs.declared.tree.Simple.{Simple}
 use Rattle.bk_syntax.specs.declared.symbols.Guard.{Guard}
+use Rattle.bk_syntax.specs.declared.symbols.Guard.TheVariants as g
+use Rattle.bk_syntax.specs.Limits.{depth, depth_of_action, nodes, nodes_of_action}
 use Rattle.bk_syntax.specs.declared.symbols.Opening.{Opening}
 use Rattle.bk_syntax.specs.declared.symbols.Opening.TheVariants as s
 use Rattle.bk_syntax.specs.declared.symbols.Heading.{Heading}
@@ -17,13 +19,15 @@ use Rattle.bk_syntax.specs.declared.tree.Item.TheVariants as i
 use Rattle.bk_syntax.specs.Tree.{expressions_in, items_in, actions_in, call, Mention, Expression, Expressions, Action, Items, Declaration, name, number, text, truth, query, parens, unary, binary, choice, apply, valof, table, simple, repeat, constants, none, more, no_items, item, no_starts}
 use Rattle.bk_syntax.specs.Rows.{leaf, goes, assigns, inner, behind, infix_of, prefix_of, simple_of, guard_of, is_arrow, is_both, is_comma, is_name, declaring_of, opening_of, heading_of, repetition_of}
 use Rattle.bk_syntax.specs.Grammar.{last, line_of, line_of_action}
-use Rattle.bk_syntax.specs.Machine.{Stack, State, push, infixed, want, have, begin, due, did, in_args, in_then, in_parens, in_unary, in_valof, in_table, in_start, in_guard, in_dests, in_values, in_by, in_for, in_routine, in_function, in_while, at_variable, at_starts, at_formal, at_head, at_items, is_open, is_assign, is_equal, is_close, is_be, is_by, is_do, is_semicolon, closes, bars, no_args, take_operand, take_command, dests, in_names, in_formals, headed, to_or_do, in_constants, declared, again, named, in_section, in_block, take_declaration, declared_by, take_due, take_item, at_sign, give, finish, in_head, in_binary}
+use Rattle.bk_syntax.specs.Machine.{Stack, State, push, infixed, want, have, begin, due, did, in_args, in_then, in_parens, in_unary, in_valof, in_table, in_start, in_guard, in_dests, in_values, in_by, in_for, in_routine, in_function, in_while, at_variable, at_starts, at_formal, at_head, at_items, is_open, is_assign, is_equal, is_close, is_be, is_by, is_do, is_semicolon, closes, bars, no_args, take_operand, take_command, dests, in_names, in_formals, headed, to_or_do, in_constants, declared, again, named, in_section, in_block, take_declaration, declared_by, take_due, take_item, at_sign, give, finish, in_head, in_binary, guarded}
 use Rattle.bk_syntax.specs.declared.tree.Sort.{Sort}
 use Rattle.bk_lex.specs.Values.{upper_name}
 use Rattle.bk_syntax.specs.declared.symbols.Repetition.{Repetition}
 use Rattle.bk_syntax.specs.declared.symbols.Repetition.TheVariants as r
 use Rattle.bk_syntax.specs.declared.symbols.Declaring.{Declaring}
-use Rattle.bk_syntax.specs.Frames.{related, heads, declaring, are_none, are_no_items}
+use Rattle.bk_syntax.specs.Frames.{related, heads, declaring}
+use Rattle.bk_syntax.specs.Sizes.{are_none}
+use Rattle.bk_syntax.specs.Sizes.{are_no_items}
 
 abbrev pub pushed : Stack → Expression → ℕ → Option Operator → Bool → Bool → Option State
 pushed st e l (Some o) round arrow = infixed st e l (Some o)
@@ -47,6 +51,11 @@ last_cases l Both m a (apply i j x xs) = refl
 last_cases l Both m a (valof i c) = refl
 last_cases l Both m a (table i xs) = refl
 last_cases l _ m a b = refl
+
+pub related_last : (e b : Expression) → related e ≡ Some b → last e ≡ Some b
+related_last (binary l Both m x y) b h = absurd cc
+related_last (binary l _ m x y) b h = h
+related_last _ b h = absurd cc
 
 abbrev pub opened : Stack → ℕ → Option Opening → Option State
 opened st l (Some s.Parens) = Some (want (in_parens l st))
@@ -166,3 +175,21 @@ pub call_done : (st : Stack) (m s : ℕ) (f : Expression) (es : Expressions) (l 
 call_done st m s f es l x kind stops other =
     ap (λ b. cond b (push (in_start st) (apply m s f es) kind l) (cond (assigns kind) (dests (more (apply m s f es) none) st kind) (finish st (call m f es) l x kind))) stops
     ∙ ap (λ b. cond b (dests (more (apply m s f es) none) st kind) (finish st (call m f es) l x kind)) other
+
+pub guarded_depth : (k : Guard) (l : ℕ) (e : Expression) (c : Action) → depth_of_action (guarded k l e c) ≡ max (depth e) (depth_of_action c) + 1
+guarded_depth g.If l e c = refl
+guarded_depth g.Unless l e c = refl
+guarded_depth g.While l e c = refl
+guarded_depth g.Until l e c = refl
+guarded_depth g.SwitchOn l e c = refl
+guarded_depth g.Case l e c = refl
+
+pub guarded_nodes : (k : Guard) (l : ℕ) (e : Expression) (c : Action) → nodes_of_action (guarded k l e c) ≡ nodes e + nodes_of_action c + 1
+guarded_nodes g.If l e c = refl
+guarded_nodes g.Unless l e c = refl
+guarded_nodes g.While l e c = refl
+guarded_nodes g.Until l e c = refl
+guarded_nodes g.SwitchOn l e c = refl
+guarded_nodes g.Case l e c = refl
+
+pub ruleset guarded_sizes = (guarded_depth, guarded_nodes)

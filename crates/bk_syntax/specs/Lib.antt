@@ -6,6 +6,10 @@ pub mod Grammar
 pub mod Limits
 pub mod SyntaxFault
 pub mod Machine
+pub mod Sizes
+pub mod Bounds
 pub mod SyntaxLaws
+pub mod Begun
+pub mod Stacked
 pub mod Frames
 pub mod Parsing

@@ -8,15 +8,16 @@ use Rattle.bk_base.specs.declared.refused.Refused.{Refused}
 use Rattle.bk_base.specs.declared.refused.Refused.TheVariants.{Fault, Memory, Device}
 use Rattle.bk_lex.specs.Symbol.{Symbol}
 use Rattle.bk_lex.specs.Values.{upper_name}
-use Rattle.bk_syntax.specs.declared.frame.Frames.{Frames}
+use Rattle.bk_syntax.specs.declared.frames.Frames.{Frames}
 use Rattle.bk_syntax.specs.declared.frame.Now.{Now}
 use Rattle.bk_syntax.specs.declared.frame.Stop.{Stop}
 use Rattle.bk_syntax.specs.declared.frame.Stop.TheVariants as s
-use Rattle.bk_syntax.specs.declared.parser.Section.{Section}
+use Rattle.bk_syntax.specs.declared.section.Section.{Section}
 use Rattle.bk_syntax.specs.Tree.{Declarations, declarations_in}
 use Rattle.bk_syntax.specs.Brackets.{closed_by, in_front, plain}
 use Rattle.bk_syntax.specs.SyntaxFault.{IsSection, Begins, Any, Stands, StandsAtEnd}
 use Rattle.bk_syntax.specs.Machine.{State, step, run}
+use Rattle.bk_syntax.specs.Bounds.{Passed}
 use Rattle.bk_syntax.specs.SyntaxLaws.{reading}
 use Rattle.bk_syntax.specs.Frames.{stack_of, state}
 
@@ -48,13 +49,17 @@ pub record Behind (ts : List Symbol) (opens : List (List ℕ)) (x : State) : Typ
   pub brackets : (us : List Symbol) → plain (ts ++ us) [] ≡ in_front plainly (plain us opens)
   pub reads : (us : List Symbol) → reading (plainly ++ us) ≡ run us x
 
--- What a fault of this kind, told at the symbol t behind u, says. Of a limit it is said only that without it a section
--- begins with the symbols up to and with t.
+-- behind these symbols the least section that goes on passes the limit of this kind
+abbrev pub Passes : SourceKind → List Symbol → Type 0
+Passes kind ts = (opens : List (List ℕ)) × (x : State) × Behind ts opens x × Passed kind x
+
+-- What a fault of this kind, told at the symbol t behind u, says. Of a limit it is said that a section begins with the
+-- symbols up to and with t, and that by what was begun the least of them passes it.
 abbrev pub Says : SourceKind → List Symbol → Symbol → Type 0
 Says WrongSectionTag u t = Stands WrongSectionTag u t
 Says UnexpectedSymbol u t = Stands UnexpectedSymbol u t
-Says NestedTooDeeply u t = Begins Any (u ++ t ∷ [])
-Says TooManyNodes u t = Begins Any (u ++ t ∷ [])
+Says NestedTooDeeply u t = Begins Any (u ++ t ∷ []) × Passes NestedTooDeeply (u ++ t ∷ [])
+Says TooManyNodes u t = Begins Any (u ++ t ∷ []) × Passes TooManyNodes (u ++ t ∷ [])
 Says _ u t = ⊥
 
 abbrev pub IsLimit : SourceKind → Type 0

@@ -2,24 +2,42 @@
 ghost use Rattle.std.specs.Prelude.{◌≡◌, ◌+◌, ◌==◌, IfOk, Some, None, Option, false, ℕ};
 ghost use Rattle.bk_syntax.specs.Tree.{expression, expressions_in, action, mention, more, none};
 ghost use Rattle.bk_syntax.specs.Rows.{goes, repeats};
+ghost use Rattle.bk_syntax.specs.declared.frame.Begun.TheVariants as Begun;
+ghost use Rattle.bk_syntax.specs.declared.frame.Phrase.TheVariants as p;
+ghost use Rattle.bk_syntax.specs.Sizes.{size_of, size_of_action, both_of, node_of};
+ghost use Rattle.bk_syntax.specs.Begun.{held_in};
 ghost use Rattle.bk_syntax.specs.Grammar.{line_of_action, line_of_first, size};
 ghost use Rattle.bk_syntax.specs.Machine.{Stack, each_then, limit, give, finish, again, dests, guarded, behind_sign, take_command, in_start, in_values, in_guard, in_to};
-ghost use Rattle.bk_syntax.specs.Frames.{phrase_on, clause_on, stack_of, state, heads, Steps, Answers, Lowers, Falls};
+ghost use Rattle.bk_syntax.specs.Begun.{phrase_on, clause_on};
+ghost use Rattle.bk_syntax.specs.Frames.{stack_of, state, heads, Steps, Answers, Lowers, Falls};
 
-use crate::expressions::{
-    LEAF, NOTHING, begun, due, due_at, line_of, operand, want_in, wants_command, whole,
+use crate::expressions::{due, due_at, line_of, operand, want_in, wants_command, whole};
+use crate::frame::{
+    Begun, Clause, Defined, Done, Flow, Now, Phrase, Place, Point, Size, Sized, Stop,
 };
-use crate::frame::{Begun, Clause, Flow, Frames, Now, Phrase, Place, Point, Size, Sized, Stop};
+use crate::frames::Frames;
 use crate::make::{assign, call, for_loop};
-use crate::size::{both, of_node};
+use crate::size::{LEAF, NOTHING, both, of_node};
 use crate::symbols::{
     Guard, Heading, Repetition, assigns, guard_begun, heads_with, is_assign, is_by, is_colon,
     is_comma, is_do, is_or, is_sign, is_to, repetition_begun, simple,
 };
+use crate::top::begun;
 use crate::tree::{Command, Def, Expr, Name};
 use bk_base::Line;
 use bk_lex::Token;
 use std::alloc::{AllocError, Global};
+
+/// A command that is a node with these parts.
+pub fn did(command: Command, parts: Size) -> Done
+    requires { size_of_action (action command) ≡ node_of parts }
+    ensures { action result.command ≡ action command }
+{
+    Done {
+        command,
+        size: of_node(parts),
+    }
+}
 
 /// The line of a command's first symbol; the first for an empty one, which has none and stands in no list.
 fn line_of_command(command: &Command) -> Line
@@ -74,7 +92,7 @@ pub fn command(alloc: Global, frames: &mut Frames, token: &Token) -> Result<Now,
     ensures { Steps (stack_of frames.new) result (take_command (stack_of frames.old) token.now.line token.now.text.now token.now.kind) }
 {
     if let Some(word) = simple(token.kind) {
-        return Ok(Now::Did(Command::Simple(token.line, word), LEAF));
+        return Ok(Now::Did(did(Command::Simple(token.line, word), NOTHING)));
     }
     if let Some(guard) = guard_begun(token.kind) {
         return Ok(want_in(frames, Phrase::Guard(guard, token.line), NOTHING)?);
@@ -103,7 +121,7 @@ pub fn guarded(guard: Guard, line: Line, condition: Box<Expr>, command: Box<Comm
 }
 
 /// A destination is complete.
-#[tactic(auto, using(crate::proofs::Turns::dests_cases, crate::proofs::Trees::one_more))]
+#[tactic(auto, using(crate::proofs::Turns::dests_cases, crate::proofs::Trees::one_more, crate::proofs::Trees::more_sizes))]
 fn further(
     alloc: Global,
     frames: &mut Frames,
@@ -112,6 +130,7 @@ fn further(
     last: Expr,
     token: &Token,
 ) -> Result<Flow, Stop>
+    requires { parts ≡ both_of (held_in (Begun.Phrase (p.Dests before))) (size_of (expression last)) }
     ensures answers { Answers frames.new result token.now (λ l x. dests (each_then (expressions_in before.items) (more (expression last) none)) (stack_of frames.old)) }
     ensures lowers { Lowers frames.old frames.new result }
 {
@@ -139,10 +158,20 @@ fn started(alloc: Global, frames: &mut Frames, sized: Sized, token: &Token) -> R
         right: _,
     } = sized;
     if assigns(token.kind) {
-        return further(alloc, frames, Vec::new(alloc), size, expr, token);
+        return further(
+            alloc,
+            frames,
+            Vec::new(alloc),
+            both(NOTHING, size),
+            expr,
+            token,
+        );
     }
     match expr {
-        Expr::Apply(line, _, callee, items) => Ok(Flow::Does(call(line, callee, items), size)),
+        Expr::Apply(line, _, callee, items) => Ok(Flow::Does(Done {
+            command: call(line, callee, items),
+            size,
+        })),
         Expr::Name(line, letters) => {
             if !is_colon(token.kind) {
                 return Err(Stop::Unexpected);
@@ -173,7 +202,7 @@ fn is_last(dests: &[Expr], values: &[Expr]) -> bool
 }
 
 /// A value is complete.
-#[tactic(auto, using(crate::proofs::Trees::one_more))]
+#[tactic(auto, using(crate::proofs::Trees::one_more, crate::proofs::Trees::more_sizes))]
 fn valued(
     frames: &mut Frames,
     dests: Vec<Expr>,
@@ -182,7 +211,8 @@ fn valued(
     last: Expr,
     token: &Token,
 ) -> Result<Flow, Stop>
-    requires { goes 12 token.now.kind ≡ false }
+    requires stops { goes 12 token.now.kind ≡ false }
+    requires parts { parts ≡ both_of (held_in (Begun.Phrase (p.Values dests values))) (size_of (expression last)) }
     ensures answers { Answers frames.new result token.now (give (in_values (expressions_in dests.items) (expressions_in values.items) (stack_of frames.old)) (expression last)) }
     ensures lowers { Lowers frames.old frames.new result }
 {
@@ -191,7 +221,7 @@ fn valued(
     values.push(last)?;
     if complete {
         let line = line_of_list(&dests);
-        return Ok(Flow::Does(assign(line, dests, values), of_node(parts)));
+        return Ok(Flow::Does(did(assign(line, dests, values), parts)));
     }
     if !is_comma(token.kind) {
         return Err(Stop::Unexpected);
@@ -219,7 +249,8 @@ fn guards(
     condition: Expr,
     token: &Token,
 ) -> Result<Flow, Stop>
-    requires { goes 12 token.now.kind ≡ false }
+    requires stops { goes 12 token.now.kind ≡ false }
+    requires parts { parts ≡ size_of (expression condition) }
     ensures answers { Answers frames.new result token.now (give (in_guard guard line (stack_of frames.old)) (expression condition)) }
     ensures lowers { Lowers frames.old frames.new result }
 {
@@ -247,7 +278,8 @@ fn limited(
     limit: Expr,
     token: &Token,
 ) -> Result<Flow, Stop>
-    requires { goes 12 token.now.kind ≡ false }
+    requires stops { goes 12 token.now.kind ≡ false }
+    requires parts { parts ≡ both_of (held_in (Begun.Phrase (p.To line name from))) (size_of (expression limit)) }
     ensures answers { Answers frames.new result token.now (give (in_to line (mention name) (expression from.value) (stack_of frames.old)) (expression limit)) }
     ensures lowers { Lowers frames.old frames.new result }
 {
@@ -272,7 +304,8 @@ pub fn complete_phrase(
     sized: Sized,
     token: &Token,
 ) -> Result<Flow, Stop>
-    requires { goes 12 token.now.kind ≡ false }
+    requires stops { goes 12 token.now.kind ≡ false }
+    requires held { held ≡ held_in (Begun.Phrase begun) }
     ensures answers { Answers frames.new result token.now (give (phrase_on begun (stack_of frames.old)) (expression sized.expr)) }
     ensures lowers { Lowers frames.old frames.new result }
 {
@@ -281,7 +314,9 @@ pub fn complete_phrase(
         Phrase::Start => started(alloc, frames, sized, token),
         Phrase::Dests(dests) => further(alloc, frames, dests, parts, sized.expr, token),
         Phrase::Values(dests, values) => valued(frames, dests, values, parts, sized.expr, token),
-        Phrase::Guard(guard, line) => guards(alloc, frames, guard, line, parts, sized.expr, token),
+        Phrase::Guard(guard, line) => guards(
+            alloc, frames, guard, line, sized.size, sized.expr, token,
+        ),
         Phrase::Test(line) => {
             if !is_do(token.kind) {
                 return Err(Stop::Unexpected);
@@ -291,13 +326,13 @@ pub fn complete_phrase(
         }
         Phrase::ResultIs(line) => {
             let result = Box::new(alloc, sized.expr)?;
-            Ok(Flow::Does(Command::ResultIs(line, result), of_node(parts)))
+            Ok(Flow::Does(did(Command::ResultIs(line, result), parts)))
         }
         Phrase::RepeatWhile(truth, body) => {
             let line = line_of_command(&body);
             let condition = Box::new(alloc, sized.expr)?;
             let repeat = Command::RepeatWhile(line, truth, body, condition);
-            Ok(Flow::Does(repeat, of_node(parts)))
+            Ok(Flow::Does(did(repeat, parts)))
         }
         Phrase::From(line, name) => {
             if !is_to(token.kind) {
@@ -322,20 +357,15 @@ pub fn complete_phrase(
 
 /// The command goes on with REPEAT, REPEATWHILE or REPEATUNTIL.
 #[tactic(auto, using(crate::proofs::Turns::again_cases))]
-pub fn again(
-    alloc: Global,
-    frames: &mut Frames,
-    command: Command,
-    size: Size,
-    token: &Token,
-) -> Result<Flow, Stop>
-    ensures answers { Answers frames.new result token.now (λ l x. again (stack_of frames.old) (action command)) }
+pub fn again(alloc: Global, frames: &mut Frames, done: Done, token: &Token) -> Result<Flow, Stop>
+    ensures answers { Answers frames.new result token.now (λ l x. again (stack_of frames.old) (action done.command)) }
     ensures falls { Falls frames.old frames.new result }
 {
+    let Done { command, size } = done;
     let line = line_of_command(&command);
     let body = Box::new(alloc, command)?;
     Ok(Flow::Stay(match repetition_begun(token.kind) {
-        Some(Repetition::Always) => Now::Did(Command::Repeat(line, body), of_node(size)),
+        Some(Repetition::Always) => Now::Did(did(Command::Repeat(line, body), size)),
         Some(Repetition::While) => want_in(frames, Phrase::RepeatWhile(true, body), size)?,
         Some(Repetition::Until) => want_in(frames, Phrase::RepeatWhile(false, body), size)?,
         None => return Err(Stop::Unexpected),
@@ -343,46 +373,49 @@ pub fn again(
 }
 
 /// A command is complete, which the symbol behind it does not repeat.
+#[tactic(auto, using(crate::proofs::Turns::guarded_sizes))]
 pub fn complete_clause(
     alloc: Global,
     frames: &mut Frames,
     begun: Clause,
     held: Size,
-    command: Command,
-    size: Size,
+    done: Done,
     token: &Token,
 ) -> Result<Flow, Stop>
-    requires { repeats token.now.kind ≡ false }
-    ensures answers { Answers frames.new result token.now (finish (clause_on begun (stack_of frames.old)) (action command)) }
+    requires stops { repeats token.now.kind ≡ false }
+    requires held { held ≡ held_in (Begun.Clause begun) }
+    ensures answers { Answers frames.new result token.now (finish (clause_on begun (stack_of frames.old)) (action done.command)) }
     ensures lowers { Lowers frames.old frames.new result }
 {
-    let parts = both(held, size);
-    let body = Box::new(alloc, command)?;
-    let size = of_node(parts);
+    let parts = both(held, done.size);
+    let body = Box::new(alloc, done.command)?;
     Ok(match begun {
         Clause::Valof(line) => Flow::Gives(whole(Expr::Valof(line, body), parts)),
-        Clause::Label(line, letters) => Flow::Does(Command::Label(line, letters, body), size),
-        Clause::Guarded(guard, line, condition) => Flow::Does(
-            guarded(guard, line, condition, body),
-            size,
-        ),
-        Clause::Default(line) => Flow::Does(Command::Default(line, body), size),
+        Clause::Label(line, letters) => {
+            Flow::Does(did(Command::Label(line, letters, body), parts))
+        }
+        Clause::Guarded(guard, line, condition) => {
+            Flow::Does(did(guarded(guard, line, condition, body), parts))
+        }
+        Clause::Default(line) => Flow::Does(did(Command::Default(line, body), parts)),
         Clause::Then(line, condition) => {
             if !is_or(token.kind) {
                 return Err(Stop::Unexpected);
             }
             Flow::Stay(wants_command(frames, Clause::Else(line, condition, body), parts)?)
         }
-        Clause::Else(line, condition, yes) => Flow::Does(
-            Command::Test(line, condition, yes, body),
-            size,
-        ),
+        Clause::Else(line, condition, yes) => {
+            Flow::Does(did(Command::Test(line, condition, yes, body), parts))
+        }
         Clause::For(line, name, from, to, by) => {
-            Flow::Does(for_loop(line, name, from, to, by, body), size)
+            Flow::Does(did(for_loop(line, name, from, to, by, body), parts))
         }
         Clause::Routine(name, formals) => {
             let Name { line, letters } = name;
-            Flow::Defines(Def::Routine(line, letters, formals, body), size)
+            Flow::Defines(Defined {
+                def: Def::Routine(line, letters, formals, body),
+                size: of_node(parts),
+            })
         }
     })
 }

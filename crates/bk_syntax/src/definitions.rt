@@ -1,25 +1,34 @@
 //! Reading declarations, definitions and blocks.
-ghost use Rattle.std.specs.Prelude.{◌≡◌, ◌+◌, ◌++◌, ◌==◌, [], ◌∷◌, IfOk, Some, None, Option, Bool, cond, false, map, length, ℕ};
+ghost use Rattle.std.specs.Prelude.{◌≡◌, ◌+◌, ◌++◌, ◌==◌, [], ◌∷◌, IfOk, Some, None, Option, Bool, cond, false, true, map, length, ℕ};
 ghost use Rattle.bk_syntax.specs.Tree.{expression, action, actions_in, declaration, declarations_in, definition, definitions_in, items_in, starts_in, mention, variables, also, no_actions, no_declarations, no_definitions};
 ghost use Rattle.bk_syntax.specs.Rows.{goes, repeats};
+ghost use Rattle.bk_syntax.specs.declared.frame.Begun.TheVariants as Begun;
+ghost use Rattle.bk_syntax.specs.declared.frame.Place.TheVariants as p;
+ghost use Rattle.bk_syntax.specs.declared.frame.Point.TheVariants as t;
+ghost use Rattle.bk_syntax.specs.declared.frame.Member.TheVariants as m;
+ghost use Rattle.bk_syntax.specs.Begun.{held_in};
+ghost use Rattle.bk_syntax.specs.Sizes.{size_of_action, size_of_declaration, both_of, node_of, kept_size};
+ghost use Rattle.bk_syntax.specs.Limits.{depth_of_starts, nodes_of_starts, depth_of_items, nodes_of_items};
 ghost use Rattle.bk_syntax.specs.Grammar.{line_of_names, start_count};
 ghost use Rattle.bk_syntax.specs.Machine.{Stack, actions_then, items_then, starts_then, limit, give, finish, defined_by, declared, in_constants, in_commands, in_names, in_formals, headed, in_head, in_block, in_section, in_let, inside, counted, take_in_block, take_in_section, take_item, take_due, at_name, at_formals, at_formal, at_variable, at_starts, due};
-ghost use Rattle.bk_syntax.specs.Frames.{member_on, place_on, point_on, stack_of, state, Steps, Answers, Lowers, NamedBy, Declares, declaring, are_no_items, is_let_begun, is_block_begun};
+ghost use Rattle.bk_syntax.specs.Begun.{member_on, place_on, point_on};
+ghost use Rattle.bk_syntax.specs.Frames.{stack_of, state, Steps, Answers, Lowers, NamedBy, Declares, declaring, is_let_begun, is_block_begun};
+ghost use Rattle.bk_syntax.specs.Sizes.{are_no_items};
 
-use crate::commands::command;
-use crate::expressions::{
-    LEAF, NOTHING, begun, due, due_at, operand, want_for, want_in, wants_command,
-};
+use crate::commands::{command, did};
+use crate::expressions::{due, due_at, operand, want_for, want_in, wants_command};
 use crate::frame::{
-    Begun, Clause, Flow, Frame, Frames, Member, Now, Phrase, Place, Point, Size, Sized, Stop,
+    Begun, Clause, Defined, Done, Flow, Frame, Member, Now, Phrase, Place, Point, Size, Sized, Stop,
 };
+use crate::frames::Frames;
 use crate::make::{self, block, constants, let_of};
-use crate::size::{both, of_node};
+use crate::size::{NOTHING, are_no_items, both, of_node};
 use crate::spelling::name;
 use crate::symbols::{
     Declaring, closes, declares_with, is_and, is_be, is_close, is_colon, is_comma, is_equal,
     is_name, is_open, is_semicolon, is_vec, opens,
 };
+use crate::top::{begun, pop};
 use crate::tree::{Command, Decl, Def, Expr, Init, Item, Name, Sort};
 use bk_base::Line;
 use bk_lex::Token;
@@ -40,7 +49,7 @@ fn name_of(alloc: Global, token: &Token) -> Result<Option<Name>, AllocError>
 }
 
 /// Puts a declaration behind those of the block that was on top.
-#[tactic(auto, using(crate::proofs::Trees::one_more))]
+#[tactic(auto, using(crate::proofs::Trees::one_more, crate::proofs::Trees::more_sizes))]
 fn declare_in(
     frames: &mut Frames,
     place: Place,
@@ -48,6 +57,8 @@ fn declare_in(
     decl: Decl,
     size: Size,
 ) -> Result<(), Stop>
+    requires held { held ≡ held_in (Begun.Place place) }
+    requires size { size ≡ size_of_declaration (declaration decl) }
     ensures { Declares (stack_of frames.new) result (declared (place_on place (stack_of frames.old)) (declaration decl)) }
 {
     match place {
@@ -63,13 +74,14 @@ fn declare_in(
 }
 
 /// Puts a declaration behind those of the section or the block on top.
-#[tactic(auto, using(crate::proofs::Stacks::frames_laws, crate::proofs::Trees::one_more))]
+#[tactic(auto, using(crate::proofs::Stacks::frames_laws, crate::proofs::Trees::one_more, crate::proofs::Trees::more_sizes))]
 fn declare(frames: &mut Frames, decl: Decl, size: Size) -> Result<(), Stop>
+    requires { size ≡ size_of_declaration (declaration decl) }
     ensures { Declares (stack_of frames.new) result (declared (stack_of frames.old) (declaration decl)) }
 {
-    let Some(top) = frames.above.pop() else {
-        frames.held = both(frames.held, size);
+    let Some(top) = pop(frames) else {
         frames.decls.push(decl)?;
+        frames.held = both(frames.held, size);
         return Ok(());
     };
     let Frame {
@@ -105,7 +117,7 @@ fn line_of_names(names: &[Name]) -> Line
 }
 
 /// The items of a LET, one more.
-#[tactic(auto, using(crate::proofs::Trees::one_more))]
+#[tactic(auto, using(crate::proofs::Trees::one_more, crate::proofs::Trees::more_sizes))]
 fn initialised(
     frames: &mut Frames,
     names: Vec<Name>,
@@ -114,6 +126,7 @@ fn initialised(
     last: Init,
     token: &Token,
 ) -> Result<Flow, Stop>
+    requires { parts ≡ both_of (kept_size (depth_of_starts (starts_in inits.items)) (nodes_of_starts (starts_in inits.items))) (kept_size (depth_of_starts (starts_in (last ∷ []))) (nodes_of_starts (starts_in (last ∷ [])))) }
     ensures answers { Answers frames.new result token.now (λ l x t. counted (length (map mention names.items) == start_count (starts_in inits.items) + 1) (defined_by (stack_of frames.old) (variables (line_of_names (map mention names.items)) (map mention names.items) (starts_then (starts_in inits.items) (starts_in (last ∷ [])))) l x t) t (due (at_starts (map mention names.items) (starts_then (starts_in inits.items) (starts_in (last ∷ []))) (stack_of frames.old)))) }
     ensures lowers { Lowers frames.old frames.new result }
 {
@@ -122,7 +135,10 @@ fn initialised(
     inits.push(last)?;
     if complete {
         let line = line_of_names(&names);
-        return Ok(Flow::Defines(make::variables(line, names, inits), of_node(parts)));
+        return Ok(Flow::Defines(Defined {
+            def: make::variables(line, names, inits),
+            size: of_node(parts),
+        }));
     }
     if !is_comma(token.kind) {
         return Err(Stop::Unexpected);
@@ -131,7 +147,7 @@ fn initialised(
 }
 
 /// The constant of an item is complete.
-#[tactic(auto, using(crate::proofs::Turns::constants_cases, crate::proofs::Trees::one_more))]
+#[tactic(auto, using(crate::proofs::Turns::constants_cases, crate::proofs::Trees::one_more, crate::proofs::Trees::more_sizes))]
 fn constant(
     frames: &mut Frames,
     line: Line,
@@ -141,6 +157,7 @@ fn constant(
     item: Item,
     token: &Token,
 ) -> Result<Flow, Stop>
+    requires { held ≡ kept_size (depth_of_items (items_then (items_in items.items) (items_in (item ∷ [])))) (nodes_of_items (items_then (items_in items.items) (items_in (item ∷ [])))) }
     ensures answers { Answers frames.new result token.now (λ l x t. in_constants line sort (items_then (items_in items.items) (items_in (item ∷ []))) (stack_of frames.old) t) }
     ensures lowers { Lowers frames.old frames.new result }
 {
@@ -160,6 +177,7 @@ fn constant(
 }
 
 /// An expression of a definition or an item is complete, with which the symbol behind it does not go on.
+#[tactic(auto, using(crate::proofs::Trees::more_sizes))]
 pub fn complete_member(
     alloc: Global,
     frames: &mut Frames,
@@ -168,7 +186,8 @@ pub fn complete_member(
     sized: Sized,
     token: &Token,
 ) -> Result<Flow, Stop>
-    requires { goes 12 token.now.kind ≡ false }
+    requires stops { goes 12 token.now.kind ≡ false }
+    requires held { held ≡ held_in (Begun.Member begun) }
     ensures answers { Answers frames.new result token.now (give (member_on begun (stack_of frames.old)) (expression sized.expr)) }
     ensures lowers { Lowers frames.old frames.new result }
 {
@@ -191,7 +210,10 @@ pub fn complete_member(
             let body = Box::new(alloc, sized.expr)?;
             let Name { line, letters } = name;
             let function = Def::Function(line, letters, formals, body);
-            Ok(Flow::Defines(function, of_node(parts)))
+            Ok(Flow::Defines(Defined {
+                def: function,
+                size: of_node(parts),
+            }))
         }
         Member::Value(names, inits) => {
             initialised(frames, names, inits, parts, Init::Value(sized.expr), token)
@@ -204,21 +226,23 @@ pub fn complete_member(
 }
 
 /// A definition is complete in what was on top, and a symbol comes behind it.
-#[tactic(auto, using(crate::proofs::Trees::one_more, crate::proofs::Turns::declared_then))]
+#[tactic(auto, using(crate::proofs::Trees::one_more, crate::proofs::Turns::declared_then, crate::proofs::Trees::more_sizes))]
 fn define_in(
     alloc: Global,
     frames: &mut Frames,
     place: Place,
     held: Size,
-    def: Def,
+    done: Defined,
     token: &Token,
 ) -> Result<Now, Stop>
-    ensures { Steps (stack_of frames.new) result (defined_by (place_on place (stack_of frames.old)) (definition def) token.now.line token.now.text.now token.now.kind) }
+    requires { held ≡ held_in (Begun.Place place) }
+    ensures { Steps (stack_of frames.new) result (defined_by (place_on place (stack_of frames.old)) (definition done.def) token.now.line token.now.text.now token.now.kind) }
 {
     match place {
         Place::Let(line, defs) => {
+            let held = both(held, done.size);
             let mut defs = defs;
-            defs.push(def)?;
+            defs.push(done.def)?;
             if is_and(token.kind) {
                 return Ok(due(frames, Place::Let(line, defs), held)?);
             }
@@ -237,13 +261,12 @@ fn define_in(
 pub fn complete_definition(
     alloc: Global,
     frames: &mut Frames,
-    def: Def,
-    size: Size,
+    done: Defined,
     token: &Token,
 ) -> Result<Now, Stop>
-    ensures { Steps (stack_of frames.new) result (defined_by (stack_of frames.old) (definition def) token.now.line token.now.text.now token.now.kind) }
+    ensures { Steps (stack_of frames.new) result (defined_by (stack_of frames.old) (definition done.def) token.now.line token.now.text.now token.now.kind) }
 {
-    let Some(top) = frames.above.pop() else {
+    let Some(top) = pop(frames) else {
         return Err(Stop::Unexpected);
     };
     let Frame {
@@ -252,7 +275,7 @@ pub fn complete_definition(
         below: _,
     } = top;
     match begun {
-        Begun::Place(place) => define_in(alloc, frames, place, both(held, size), def, token),
+        Begun::Place(place) => define_in(alloc, frames, place, held, done, token),
         Begun::Operand(_) => Err(Stop::Unexpected),
         Begun::Phrase(_) => Err(Stop::Unexpected),
         Begun::Clause(_) => Err(Stop::Unexpected),
@@ -312,13 +335,14 @@ fn in_block(
     held: Size,
     token: &Token,
 ) -> Result<Now, Stop>
+    requires { held ≡ held_in (Begun.Place (p.Block line free decls commands)) }
     ensures { Steps (stack_of frames.new) result (take_in_block line free (declarations_in decls.items) (actions_in commands.items) (stack_of frames.old) token.now.line token.now.text.now token.now.kind) }
 {
     if is_semicolon(token.kind) {
         return Ok(due(frames, Place::Block(line, true, decls, commands), held)?);
     }
     if closes(token.kind) {
-        return Ok(Now::Did(block(line, decls, commands), of_node(held)));
+        return Ok(Now::Did(did(block(line, decls, commands), held)));
     }
     let head = in_head(&commands);
     begun(
@@ -338,7 +362,7 @@ fn in_block(
 }
 
 /// A command of a block is complete, which the symbol behind it does not repeat.
-#[tactic(auto, using(crate::proofs::Trees::one_more))]
+#[tactic(auto, using(crate::proofs::Trees::one_more, crate::proofs::Trees::more_sizes))]
 fn in_commands(
     frames: &mut Frames,
     line: Line,
@@ -348,6 +372,7 @@ fn in_commands(
     command: Command,
     token: &Token,
 ) -> Result<Flow, Stop>
+    requires { held ≡ both_of (held_in (Begun.Place (p.Block line true decls commands))) (size_of_action (action command)) }
     ensures answers { Answers frames.new result token.now (λ l x t. in_commands line (declarations_in decls.items) (actions_then (actions_in commands.items) (also (action command) no_actions)) (stack_of frames.old) t) }
     ensures lowers { Lowers frames.old frames.new result }
 {
@@ -359,7 +384,7 @@ fn in_commands(
     }
     if closes(token.kind) {
         let whole = block(line, decls, commands);
-        return Ok(Flow::Stay(Now::Did(whole, of_node(held))));
+        return Ok(Flow::Stay(Now::Did(did(whole, held))));
     }
     Err(Stop::Unexpected)
 }
@@ -369,12 +394,12 @@ pub fn complete_command(
     frames: &mut Frames,
     begun: Place,
     held: Size,
-    command: Command,
-    size: Size,
+    done: Done,
     token: &Token,
 ) -> Result<Flow, Stop>
-    requires { repeats token.now.kind ≡ false }
-    ensures answers { Answers frames.new result token.now (finish (place_on begun (stack_of frames.old)) (action command)) }
+    requires stops { repeats token.now.kind ≡ false }
+    requires held { held ≡ held_in (Begun.Place begun) }
+    ensures answers { Answers frames.new result token.now (finish (place_on begun (stack_of frames.old)) (action done.command)) }
     ensures lowers { Lowers frames.old frames.new result }
 {
     match begun {
@@ -384,8 +409,8 @@ pub fn complete_command(
                 line,
                 decls,
                 commands,
-                both(held, size),
-                command,
+                both(held, done.size),
+                done.command,
                 token,
             )
         }
@@ -562,6 +587,7 @@ fn init(
     held: Size,
     token: &Token,
 ) -> Result<Now, Stop>
+    requires { held ≡ held_in (Begun.Place (p.Inits names inits)) }
     ensures { Steps (stack_of frames.new) result (take_due (at_starts (map mention names.items) (starts_in inits.items) (stack_of frames.old)) token.now.line token.now.text.now token.now.kind) }
 {
     if is_vec(token.kind) {
@@ -581,6 +607,7 @@ fn in_let(
     held: Size,
     token: &Token,
 ) -> Result<Now, Stop>
+    requires { held ≡ held_in (Begun.Place (p.Let line defs)) }
     ensures { Steps (stack_of frames.new) result (take_due (in_let line (definitions_in defs.items) (stack_of frames.old)) token.now.line token.now.text.now token.now.kind) }
 {
     let Some(name) = name_of(alloc, token)? else {
@@ -598,6 +625,7 @@ fn due_in(
     held: Size,
     token: &Token,
 ) -> Result<Now, Stop>
+    requires { held ≡ held_in (Begun.Place place) }
     ensures { Steps (stack_of frames.new) result (take_due (place_on place (stack_of frames.old)) token.now.line token.now.text.now token.now.kind) }
 {
     match place {
@@ -616,16 +644,6 @@ fn due_in(
     }
 }
 
-/// Whether there are no items.
-fn are_no_items(items: &[Item]) -> bool
-    ensures { result ≡ are_no_items (items_in items.now) }
-{
-    match items {
-        [] => true,
-        _ => false,
-    }
-}
-
 /// Between the items of a declaration.
 #[tactic(auto, using(crate::proofs::Turns::named_cases, crate::proofs::Turns::items_cases))]
 fn between_items(
@@ -637,6 +655,7 @@ fn between_items(
     held: Size,
     token: &Token,
 ) -> Result<Now, Stop>
+    requires { held ≡ held_in (Begun.Point (t.Items line sort items)) }
     ensures { Steps (stack_of frames.new) result (take_item line sort (items_in items.items) (stack_of frames.old) token.now.line token.now.text.now token.now.kind) }
 {
     if !are_no_items(&items) {
@@ -666,6 +685,7 @@ fn due_within(
     held: Size,
     token: &Token,
 ) -> Result<Now, Stop>
+    requires { held ≡ held_in (Begun.Point point) }
     ensures { Steps (stack_of frames.new) result (take_due (point_on point (stack_of frames.old)) token.now.line token.now.text.now token.now.kind) }
 {
     match point {
@@ -688,7 +708,7 @@ fn due_within(
             let Some(name) = name_of(alloc, token)? else {
                 return Err(Stop::Unexpected);
             };
-            Ok(Now::Did(Command::Goto(line, name), LEAF))
+            Ok(Now::Did(did(Command::Goto(line, name), NOTHING)))
         }
         Point::For(line) => {
             let Some(name) = name_of(alloc, token)? else {
@@ -717,7 +737,7 @@ fn due_within(
 pub fn at_place(alloc: Global, frames: &mut Frames, token: &Token) -> Result<Now, Stop>
     ensures { Steps (stack_of frames.new) result (take_due (stack_of frames.old) token.now.line token.now.text.now token.now.kind) }
 {
-    let Some(top) = frames.above.pop() else {
+    let Some(top) = pop(frames) else {
         return in_section(alloc, frames, token);
     };
     let Frame {

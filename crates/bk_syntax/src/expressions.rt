@@ -1,48 +1,41 @@
 //! Reading expressions.
-ghost use Rattle.std.specs.Prelude.{◌≡◌, ◌+◌, IfOk, Some, None, Option, MatchOption, option_map, unwrap_or, nat_lt, cond, false, ℕ};
+ghost use Rattle.std.specs.Prelude.{◌≡◌, ◌+◌, IfOk, Some, None, Option, MatchOption, option_map, unwrap_or, nat_lt, IfSome, cond, false, ℕ};
 ghost use Rattle.bk_syntax.specs.declared.tree.Operator.TheVariants.{Both};
-ghost use Rattle.bk_syntax.specs.Tree.{expression, expressions_in, binary};
+ghost use Rattle.bk_syntax.specs.declared.frame.Begun.TheVariants as Begun;
+ghost use Rattle.bk_syntax.specs.declared.frame.Operand.TheVariants as o;
+ghost use Rattle.bk_syntax.specs.Sizes.{IsLeaf, size_of, size_if, both_of, node_of};
+ghost use Rattle.bk_syntax.specs.Begun.{held_in};
+ghost use Rattle.bk_syntax.specs.Tree.{Expression, expression, expressions_in, binary};
 ghost use Rattle.bk_syntax.specs.Rows.{leaf, goes};
-ghost use Rattle.bk_syntax.specs.Frames.{related, are_none};
+ghost use Rattle.bk_syntax.specs.Frames.{related};
+ghost use Rattle.bk_syntax.specs.Sizes.{are_none};
 ghost use Rattle.bk_syntax.specs.Grammar.{line_of, last};
 ghost use Rattle.bk_syntax.specs.Machine.{Stack, limit, push, infixed, in_chain, in_args, in_table, bars, no_args, take_operand, give, want, begin, due, have};
-ghost use Rattle.bk_syntax.specs.Frames.{begun_on, operand_on, phrase_on, member_on, clause_on, place_on, point_on, stack_of, stack, state, Steps, Answers, Lowers, Falls};
+ghost use Rattle.bk_syntax.specs.Begun.{begun_on, operand_on, phrase_on, member_on, clause_on, place_on, point_on};
+ghost use Rattle.bk_syntax.specs.Stacked.{stack};
+ghost use Rattle.bk_syntax.specs.Frames.{stack_of, state, Steps, Answers, Lowers, Falls};
 
 use crate::copy::copy;
 use crate::frame::{
-    Begun, Clause, Flow, Frame, Frames, Member, Now, Operand, Phrase, Place, Point, Size, Sized,
-    Stop,
+    Begun, Clause, Flow, Frame, Member, Now, Operand, Phrase, Place, Point, Size, Sized, Stop,
 };
+use crate::frames::Frames;
 use crate::make::{apply, table};
-use crate::size::{below, both, form_begun, of_node, right_of};
+use crate::size::{LEAF, NOTHING, are_none, both, of_node};
 use crate::spelling::name;
 use crate::symbols::{
     Opening, goes_on, infix, inner_row, is_arrow, is_both, is_close, is_comma, is_open, opens_with,
     prefix, relates, row_behind,
 };
+use crate::top::{begun, pop};
 use crate::tree::{Expr, Operator};
 use bk_base::Line;
 use bk_lex::{Kind, Token, character_byte, number_word, string_bytes};
 use std::alloc::{AllocError, Global};
 
-/// No part.
-pub const NOTHING: Size = Size { depth: 0, nodes: 0 };
-
-/// One leaf.
-pub const LEAF: Size = Size { depth: 1, nodes: 1 };
-
-/// Puts on top what was begun, with these parts.
-#[tactic(auto, using(crate::proofs::Stacks::stack_push))]
-pub fn begun(frames: &mut Frames, begun: Begun, held: Size) -> Result<(), AllocError>
-    ensures { IfOk result (λ _. stack_of frames.new ≡ begun_on begun (stack_of frames.old)) }
-{
-    let below = below(frames, form_begun(&begun));
-    frames.above.push(Frame { begun, held, below })?;
-    Ok(())
-}
-
 /// Puts on top an expression that was begun, whose operand is due.
 pub fn want(frames: &mut Frames, operand: Operand, held: Size) -> Result<Now, AllocError>
+    requires { held ≡ held_in (Begun.Operand operand) }
     ensures { IfOk result (λ now. state (stack_of frames.new) now ≡ want (operand_on operand (stack_of frames.old))) }
 {
     begun(frames, Begun::Operand(operand), held)?;
@@ -51,6 +44,7 @@ pub fn want(frames: &mut Frames, operand: Operand, held: Size) -> Result<Now, Al
 
 /// Puts on top a command or definition that was begun, of which an expression is due.
 pub fn want_in(frames: &mut Frames, phrase: Phrase, held: Size) -> Result<Now, AllocError>
+    requires { held ≡ held_in (Begun.Phrase phrase) }
     ensures { IfOk result (λ now. state (stack_of frames.new) now ≡ want (phrase_on phrase (stack_of frames.old))) }
 {
     begun(frames, Begun::Phrase(phrase), held)?;
@@ -59,6 +53,7 @@ pub fn want_in(frames: &mut Frames, phrase: Phrase, held: Size) -> Result<Now, A
 
 /// Puts on top an item or a definition that was begun, of which an expression is due.
 pub fn want_for(frames: &mut Frames, member: Member, held: Size) -> Result<Now, AllocError>
+    requires { held ≡ held_in (Begun.Member member) }
     ensures { IfOk result (λ now. state (stack_of frames.new) now ≡ want (member_on member (stack_of frames.old))) }
 {
     begun(frames, Begun::Member(member), held)?;
@@ -67,6 +62,7 @@ pub fn want_for(frames: &mut Frames, member: Member, held: Size) -> Result<Now, 
 
 /// Puts on top what was begun, of which a command is due.
 pub fn wants_command(frames: &mut Frames, clause: Clause, held: Size) -> Result<Now, AllocError>
+    requires { held ≡ held_in (Begun.Clause clause) }
     ensures { IfOk result (λ now. state (stack_of frames.new) now ≡ begin (clause_on clause (stack_of frames.old))) }
 {
     begun(frames, Begun::Clause(clause), held)?;
@@ -75,6 +71,7 @@ pub fn wants_command(frames: &mut Frames, clause: Clause, held: Size) -> Result<
 
 /// Puts on top a place of an item or a command, where a symbol is due.
 pub fn due_at(frames: &mut Frames, point: Point, held: Size) -> Result<Now, AllocError>
+    requires { held ≡ held_in (Begun.Point point) }
     ensures { IfOk result (λ now. state (stack_of frames.new) now ≡ due (point_on point (stack_of frames.old))) }
 {
     begun(frames, Begun::Point(point), held)?;
@@ -83,6 +80,7 @@ pub fn due_at(frames: &mut Frames, point: Point, held: Size) -> Result<Now, Allo
 
 /// Puts on top a place of a block or a definition, where a symbol is due.
 pub fn due(frames: &mut Frames, place: Place, held: Size) -> Result<Now, AllocError>
+    requires { held ≡ held_in (Begun.Place place) }
     ensures { IfOk result (λ now. state (stack_of frames.new) now ≡ due (place_on place (stack_of frames.old))) }
 {
     begun(frames, Begun::Place(place), held)?;
@@ -121,11 +119,11 @@ fn rows_above(begun: &Begun) -> u8
     }
 }
 
-/// Whether the symbol goes on with an expression on top of the frame.
-pub fn extends(top: &Frame, kind: Kind) -> bool
-    ensures { (st : Stack) → result ≡ goes (limit (begun_on top.now.begun st)) kind }
+/// Whether the symbol goes on with an expression on top of what was begun.
+pub fn extends(begun: &Begun, kind: Kind) -> bool
+    ensures { (st : Stack) → result ≡ goes (limit (begun_on begun.now st)) kind }
 {
-    goes_on(rows_above(&top.begun), kind)
+    goes_on(rows_above(begun), kind)
 }
 
 /// The right operand of a relation.
@@ -170,12 +168,10 @@ fn go_on_chain(
     operator: Operator,
     sign: Line,
 ) -> Result<Now, AllocError>
+    requires { last (expression sized.expr) ≡ Some (expression copy.value) }
     ensures { IfOk result (λ now. state (stack_of frames.new) now ≡ want (in_chain operator sign (expression sized.expr) (expression copy.value) (stack_of frames.old))) }
 {
-    let held = Size {
-        depth: both(sized.size, of_node(sized.right)).depth,
-        nodes: of_node(both(sized.size, sized.right)).nodes,
-    };
+    let held = both(sized.size, of_node(sized.right));
     let whole = Box::new(alloc, sized.expr)?;
     want(frames, Operand::Chain(operator, sign, whole, copy), held)
 }
@@ -225,6 +221,7 @@ pub fn go_on(alloc: Global, frames: &mut Frames, sized: Sized, token: &Token) ->
 
 /// A leaf of the tree.
 fn leaf(expr: Expr) -> Now
+    requires { IsLeaf (expression expr) }
     ensures { (st : Stack) → state st result ≡ have st (expression expr) }
 {
     Now::Have(Sized {
@@ -236,6 +233,8 @@ fn leaf(expr: Expr) -> Now
 
 /// A node that no relation is.
 pub fn whole(expr: Expr, parts: Size) -> Sized
+    requires size { size_of (expression expr) ≡ node_of parts }
+    requires shares { last (expression expr) ≡ None }
     ensures { expression result.expr ≡ expression expr }
 {
     Sized {
@@ -247,7 +246,8 @@ pub fn whole(expr: Expr, parts: Size) -> Sized
 
 /// An operand that is one symbol.
 fn leaf_of(alloc: Global, token: &Token) -> Result<Option<Expr>, AllocError>
-    ensures { IfOk result (λ expr. leaf token.now.kind token.now.line token.now.text.now ≡ option_map expression expr) }
+    ensures small { IfOk result (λ expr. IfSome expr (λ e. IsLeaf (expression e))) }
+    ensures leaf { IfOk result (λ expr. leaf token.now.kind token.now.line token.now.text.now ≡ option_map expression expr) }
 {
     let line = token.line;
     Ok(match token.kind {
@@ -306,22 +306,12 @@ fn is_barred(frames: &Frames) -> bool
     false
 }
 
-/// Whether there are no expressions.
-fn are_none(exprs: &[Expr]) -> bool
-    ensures { result ≡ are_none (expressions_in exprs.now) }
-{
-    match exprs {
-        [] => true,
-        _ => false,
-    }
-}
-
 /// A `)` where an argument is due.
 #[tactic(auto, using(crate::proofs::Stacks::frames_laws, crate::proofs::Turns::no_args_cases))]
 fn no_arguments(frames: &mut Frames) -> Result<Now, Stop>
     ensures { Steps (stack_of frames.new) result (no_args (stack_of frames.old)) }
 {
-    let Some(top) = frames.above.pop() else {
+    let Some(top) = pop(frames) else {
         return Err(Stop::Unexpected);
     };
     let Frame {
@@ -370,7 +360,7 @@ pub fn operand(alloc: Global, frames: &mut Frames, token: &Token) -> Result<Now,
 }
 
 /// An argument is complete.
-#[tactic(auto, using(crate::proofs::Trees::one_more))]
+#[tactic(auto, using(crate::proofs::Trees::one_more, crate::proofs::Trees::more_sizes))]
 fn argument(
     frames: &mut Frames,
     sign: Line,
@@ -380,7 +370,8 @@ fn argument(
     last: Expr,
     token: &Token,
 ) -> Result<Flow, Stop>
-    requires { goes 12 token.now.kind ≡ false }
+    requires stops { goes 12 token.now.kind ≡ false }
+    requires parts { parts ≡ both_of (held_in (Begun.Operand (o.Args sign callee items))) (size_of (expression last)) }
     ensures flows { Answers frames.new result token.now (give (in_args sign (expression callee.value) (expressions_in items.items) (stack_of frames.old)) (expression last)) }
     ensures lowers { Lowers frames.old frames.new result }
 {
@@ -397,7 +388,7 @@ fn argument(
 }
 
 /// A number of a TABLE is complete.
-#[tactic(auto, using(crate::proofs::Trees::one_more))]
+#[tactic(auto, using(crate::proofs::Trees::one_more, crate::proofs::Trees::more_sizes))]
 fn entry(
     frames: &mut Frames,
     line: Line,
@@ -406,7 +397,8 @@ fn entry(
     last: Expr,
     token: &Token,
 ) -> Result<Flow, Stop>
-    requires { goes 12 token.now.kind ≡ false }
+    requires stops { goes 12 token.now.kind ≡ false }
+    requires parts { parts ≡ both_of (held_in (Begun.Operand (o.Table line items))) (size_of (expression last)) }
     ensures flows { Answers frames.new result token.now (give (in_table line (expressions_in items.items) (stack_of frames.old)) (expression last)) }
     ensures lowers { Lowers frames.old frames.new result }
 {
@@ -416,6 +408,24 @@ fn entry(
         return Ok(Flow::Stay(want(frames, Operand::Table(line, items), parts)?));
     }
     Ok(Flow::Gives(whole(table(line, items), parts)))
+}
+
+/// The size of the operand that a further relation would share with this right operand.
+#[tactic(auto, using(crate::proofs::Turns::last_cases, crate::proofs::Turns::related_last))]
+fn shared_size(operator: Operator, right: &Sized) -> Size
+    ensures { (l m : ℕ) (a : Expression) → result ≡ size_if (last (binary l operator m a (expression right.now.expr))) }
+{
+    if is_both(operator) {
+        return match related(&right.expr) {
+            Some(_) => right.right,
+            None => NOTHING,
+        };
+    }
+    if relates(operator) {
+        right.size
+    } else {
+        NOTHING
+    }
 }
 
 /// The `&` of a chain of relations.
@@ -428,21 +438,22 @@ fn chained(
     parts: Size,
     right: Sized,
 ) -> Result<Sized, AllocError>
+    requires { parts ≡ held_in (Begun.Operand (o.Chain operator sign before shared)) }
     ensures { IfOk result (λ whole. expression whole.expr ≡ binary (line_of (expression before.value)) Both sign (expression before.value) (binary (line_of (expression shared.value)) operator sign (expression shared.value) (expression right.expr))) }
 {
     let line = line_of(&before);
+    let part = right.size;
     let last = Box::new(alloc, right.expr)?;
     let further = Expr::Binary(line_of(&shared), operator, sign, shared, last);
     let further = Box::new(alloc, further)?;
     let expr = Expr::Binary(line, Operator::Both, sign, before, further);
-    let within = Size {
-        depth: both(parts, of_node(right.size)).depth,
-        nodes: both(parts, right.size).nodes,
-    };
     Ok(Sized {
         expr,
-        size: of_node(within),
-        right: right.size,
+        size: of_node(Size {
+            depth: both(parts, of_node(part)).depth,
+            nodes: both(parts, part).nodes,
+        }),
+        right: if relates(operator) { part } else { NOTHING },
     })
 }
 
@@ -455,7 +466,8 @@ pub fn complete(
     sized: Sized,
     token: &Token,
 ) -> Result<Flow, Stop>
-    requires { goes (limit (operand_on begun (stack_of frames.old))) token.now.kind ≡ false }
+    requires stops { goes (limit (operand_on begun (stack_of frames.old))) token.now.kind ≡ false }
+    requires held { held ≡ held_in (Begun.Operand begun) }
     ensures flows { Answers frames.new result token.now (give (operand_on begun (stack_of frames.old)) (expression sized.expr)) }
     ensures lowers { Lowers frames.old frames.new result }
 {
@@ -474,11 +486,12 @@ pub fn complete(
         }
         Operand::Binary(operator, sign, left) => {
             let line = line_of(&left);
+            let shared = shared_size(operator, &sized);
             let right = Box::new(alloc, sized.expr)?;
             Ok(Flow::Gives(Sized {
                 expr: Expr::Binary(line, operator, sign, left, right),
                 size: of_node(parts),
-                right: right_of(operator, sized.size),
+                right: shared,
             }))
         }
         Operand::Chain(operator, sign, before, shared) => Ok(Flow::Gives(chained(

@@ -1,4 +1,9 @@
 //! What was begun and is not yet complete.
+ghost use Rattle.std.specs.Prelude.{◌≡◌};
+ghost use Rattle.bk_syntax.specs.Tree.{expression, action, definition};
+ghost use Rattle.bk_syntax.specs.Grammar.{last};
+ghost use Rattle.bk_syntax.specs.Sizes.{size_of, size_if, size_of_action, size_of_definition};
+ghost use Rattle.bk_syntax.specs.Begun.{held_in};
 
 use crate::symbols::Guard;
 use crate::tree::{Command, Decl, Def, Expr, Init, Item, Name, Operator, Prefix, Sort};
@@ -138,22 +143,33 @@ pub struct Frame {
     pub begun: Begun,
     pub held: Size,
     pub below: Lift,
+    ghost holds: { held ≡ held_in begun },
 }
 
-/// What was begun: the section, with its declarations and their size, and above it the rest, the last one on top.
-#[derive(Drop)]
-pub struct Frames {
-    pub decls: Vec<Decl>,
-    pub held: Size,
-    pub above: Vec<Frame>,
-}
-
-/// An expression that is complete so far, with its size and, if it is a relation, that of its right operand.
+/// An expression that is complete so far, with its size and that of the operand which a further relation would share.
 #[derive(Drop)]
 pub struct Sized {
     pub expr: Expr,
     pub size: Size,
     pub right: Size,
+    ghost sizes: { size ≡ size_of (expression expr) },
+    ghost shares: { right ≡ size_if (last (expression expr)) },
+}
+
+/// A command that is complete so far, with its size.
+#[derive(Drop)]
+pub struct Done {
+    pub command: Command,
+    pub size: Size,
+    ghost sizes: { size ≡ size_of_action (action command) },
+}
+
+/// A definition that is complete, with its size.
+#[derive(Drop)]
+pub struct Defined {
+    pub def: Def,
+    pub size: Size,
+    ghost sizes: { size ≡ size_of_definition (definition def) },
 }
 
 /// What stands on the frames.
@@ -168,7 +184,7 @@ pub enum Now {
     /// A command may come.
     Maybe,
     /// A command that may go on.
-    Did(Command, Size),
+    Did(Done),
     /// A symbol is due, as the last frame says.
     Due,
 }
@@ -181,9 +197,9 @@ pub enum Flow {
     /// It completed this expression, behind which the symbol comes.
     Gives(Sized),
     /// It completed this command.
-    Does(Command, Size),
+    Does(Done),
     /// It completed this definition.
-    Defines(Def, Size),
+    Defines(Defined),
 }
 
 /// Why a symbol is refused.

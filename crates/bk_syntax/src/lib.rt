@@ -6,14 +6,17 @@ mod copy;
 mod definitions;
 mod expressions;
 mod frame;
+mod frames;
 mod laws;
 mod make;
 mod parser;
+mod section;
 mod size;
 mod spelling;
 mod symbols;
 #[cfg(test)]
 mod tests;
+mod top;
 pub mod tree;
 #[cfg(test)]
 mod tree_tests;
@@ -22,4 +25,5 @@ pub use laws::{
     end_fault_stands, goes_on_begins, have_one_tree, reads_the_grammar, symbol_fault_stands,
     tag_fault_stands,
 };
-pub use parser::{Section, parse};
+pub use parser::parse;
+pub use section::Section;

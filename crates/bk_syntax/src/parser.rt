@@ -1,24 +1,30 @@
 //! The parser: one pass over the symbols, with a list of what was begun.
-ghost use Rattle.std.specs.Prelude.{◌≡◌, ◌<◌, true, false, Some, [], List, length, IfSome};
+ghost use Rattle.std.specs.Prelude.{◌≡◌, ◌<◌, true, false, Some, [], List, length, MatchOption, IfOk};
 ghost use Rattle.bk_base.specs.declared.refused.Refused.TheVariants as Refused;
 ghost use Rattle.bk_lex.specs.Symbol.{Symbol, symbol_of, symbols_of};
 ghost use Rattle.bk_lex.specs.Values.{upper_name};
 ghost use Rattle.bk_syntax.specs.Tree.{Declarations, expression, action, declarations_in};
 ghost use Rattle.bk_syntax.specs.Spelling.{tag_of};
 ghost use Rattle.bk_syntax.specs.Rows.{goes};
-ghost use Rattle.bk_syntax.specs.Machine.{limit, opens, closes, give, finish, without, stepped_by, whole, run};
-ghost use Rattle.bk_syntax.specs.Frames.{begun_on, stack_of, state, flow, Steps, Answers, Lowers, Falls};
+ghost use Rattle.bk_syntax.specs.Machine.{limit, opens, closes, give, finish, without, stepped_by, whole, run, due, in_section};
+ghost use Rattle.bk_syntax.specs.Begun.{begun_on, held_in};
+ghost use Rattle.bk_syntax.specs.Frames.{stack_of, state, flow, Steps, Answers, Lowers, Falls};
 ghost use Rattle.bk_syntax.specs.Parsing.{tags, Closes, steps, Behind, told, IsLimit, Advances, declarations_of, Ends, Parses, Gives};
 ghost use Rattle.bk_syntax.specs.SyntaxFault.{IsSection};
+ghost use Rattle.bk_syntax.specs.Limits.{Within};
+ghost use Rattle.bk_syntax.specs.Bounds.{Bounded, Passed};
 
-use crate::commands::{again, command, complete_clause, complete_phrase, guarded};
+use crate::commands::{again, command, complete_clause, complete_phrase, did, guarded};
 use crate::definitions::{at_place, complete_command, complete_definition, complete_member};
-use crate::expressions::{NOTHING, complete, extends, go_on, operand};
-use crate::frame::{Begun, Clause, Flow, Frame, Frames, Now, Size, Sized, Stop};
-use crate::size::{least, of_node};
+use crate::expressions::{complete, extends, go_on, operand};
+use crate::frame::{Begun, Clause, Done, Flow, Frame, Now, Size, Sized, Stop};
+use crate::frames::Frames;
+use crate::section::Section;
+use crate::size::{NOTHING, least};
 use crate::spelling::{same_tag, tag};
 use crate::symbols::{closes, goes_on, opens, repeats, starts_command};
-use crate::tree::{Command, Decl};
+use crate::top::{begun, pop};
+use crate::tree::Command;
 use bk_base::limit::{TREE_DEPTH, TREE_NODES};
 use bk_base::{Line, Refused, SourceFault, SourceKind};
 use bk_lex::{Kind, Token};
@@ -33,7 +39,8 @@ fn complete_part(
     sized: Sized,
     token: &Token,
 ) -> Result<Flow, Stop>
-    requires { goes (limit (begun_on begun (stack_of frames.old))) token.now.kind ≡ false }
+    requires stops { goes (limit (begun_on begun (stack_of frames.old))) token.now.kind ≡ false }
+    requires held { held ≡ held_in begun }
     ensures answers { Answers frames.new result token.now (give (begun_on begun (stack_of frames.old)) (expression sized.expr)) }
     ensures lowers { Lowers frames.old frames.new result }
 {
@@ -58,22 +65,22 @@ fn behind_expression(
     ensures answers { Answers frames.new result token.now (give (stack_of frames.old) (expression sized.expr)) }
     ensures falls { Falls frames.old frames.new result }
 {
-    let Some(top) = frames.above.pop() else {
+    let Some(top) = pop(frames) else {
         if goes_on(12, token.kind) {
             return go_on(alloc, frames, sized, token);
         }
         return Err(Stop::Unexpected);
     };
-    if extends(&top, token.kind) {
-        frames.above.push(top)?;
-        return go_on(alloc, frames, sized, token);
-    }
     let Frame {
-        begun,
+        begun: part,
         held,
         below: _,
     } = top;
-    complete_part(alloc, frames, begun, held, sized, token)
+    if extends(&part, token.kind) {
+        begun(frames, part, held)?;
+        return go_on(alloc, frames, sized, token);
+    }
+    complete_part(alloc, frames, part, held, sized, token)
 }
 
 /// A command is complete so far, and a symbol comes behind it.
@@ -81,17 +88,16 @@ fn behind_expression(
 fn behind_command(
     alloc: Global,
     frames: &mut Frames,
-    command: Command,
-    size: Size,
+    done: Done,
     token: &Token,
 ) -> Result<Flow, Stop>
-    ensures answers { Answers frames.new result token.now (finish (stack_of frames.old) (action command)) }
+    ensures answers { Answers frames.new result token.now (finish (stack_of frames.old) (action done.command)) }
     ensures falls { Falls frames.old frames.new result }
 {
     if repeats(token.kind) {
-        return again(alloc, frames, command, size, token);
+        return again(alloc, frames, done, token);
     }
-    let Some(top) = frames.above.pop() else {
+    let Some(top) = pop(frames) else {
         return Err(Stop::Unexpected);
     };
     let Frame {
@@ -100,19 +106,19 @@ fn behind_command(
         below: _,
     } = top;
     match begun {
-        Begun::Clause(clause) => complete_clause(alloc, frames, clause, held, command, size, token),
-        Begun::Place(place) => complete_command(frames, place, held, command, size, token),
+        Begun::Clause(clause) => complete_clause(alloc, frames, clause, held, done, token),
+        Begun::Place(place) => complete_command(frames, place, held, done, token),
         Begun::Operand(_) | Begun::Phrase(_) => Err(Stop::Unexpected),
         _ => Err(Stop::Unexpected),
     }
 }
 
 /// No command behind a colon, and a symbol that begins none.
-#[tactic(auto, using(crate::proofs::Stacks::frames_laws))]
+#[tactic(auto, using(crate::proofs::Stacks::frames_laws, crate::proofs::Turns::guarded_sizes))]
 fn without_command(alloc: Global, frames: &mut Frames, token: &Token) -> Result<Flow, Stop>
     ensures { Answers frames.new result token.now (without (stack_of frames.old)) }
 {
-    let Some(top) = frames.above.pop() else {
+    let Some(top) = pop(frames) else {
         return Err(Stop::Unexpected);
     };
     let Frame {
@@ -124,15 +130,14 @@ fn without_command(alloc: Global, frames: &mut Frames, token: &Token) -> Result<
         return Err(Stop::Unexpected);
     };
     let body = Box::new(alloc, Command::Empty)?;
-    let size = of_node(held);
     match clause {
         Clause::Label(line, letters) => {
-            Ok(Flow::Does(Command::Label(line, letters, body), size))
+            Ok(Flow::Does(did(Command::Label(line, letters, body), held)))
         }
         Clause::Guarded(guard, line, condition) => {
-            Ok(Flow::Does(guarded(guard, line, condition, body), size))
+            Ok(Flow::Does(did(guarded(guard, line, condition, body), held)))
         }
-        Clause::Default(line) => Ok(Flow::Does(Command::Default(line, body), size)),
+        Clause::Default(line) => Ok(Flow::Does(did(Command::Default(line, body), held))),
         _ => Err(Stop::Unexpected),
     }
 }
@@ -146,8 +151,8 @@ fn settle(alloc: Global, frames: &mut Frames, first: Flow, token: &Token) -> Res
         let next = match flow {
             Flow::Stay(now) => return Ok(now),
             Flow::Gives(sized) => behind_expression(alloc, frames, sized, token),
-            Flow::Does(command, size) => behind_command(alloc, frames, command, size, token),
-            Flow::Defines(def, size) => return complete_definition(alloc, frames, def, size, token),
+            Flow::Does(done) => behind_command(alloc, frames, done, token),
+            Flow::Defines(done) => return complete_definition(alloc, frames, done, token),
         };
         match next {
             Ok(after) => flow = after,
@@ -183,7 +188,7 @@ fn step(alloc: Global, frames: &mut Frames, now: Now, token: &Token) -> Result<N
                 step_over(alloc, frames, token)
             }
         }
-        Now::Did(command, size) => settle(alloc, frames, Flow::Does(command, size), token),
+        Now::Did(done) => settle(alloc, frames, Flow::Does(done), token),
         Now::Due => at_place(alloc, frames, token),
     }
 }
@@ -228,21 +233,6 @@ fn closings(opened: &[&[u8]], text: &[u8]) -> Option<usize>
     closings_tagged(opened, wanted)
 }
 
-/// A section, read by `decls`.
-#[derive(Drop)]
-pub struct Section {
-    decls: Vec<Decl>,
-}
-
-impl Section {
-    /// Its declarations.
-    pub fn decls(&self) -> &[Decl]
-        ensures { declarations_in result.now ≡ declarations_of self.now }
-    {
-        &self.decls
-    }
-}
-
 fn fault(line: Line, kind: SourceKind) -> Refused<SourceFault>
     ensures { result ≡ Refused.Fault (record { line = line; kind = kind }) }
 {
@@ -285,7 +275,7 @@ fn repeat_step(
 
 /// The limit that every section from here on passes.
 fn limit(frames: &Frames, now: &Now) -> Option<SourceKind>
-    ensures { IfSome result IsLimit }
+    ensures { MatchOption result (Bounded (state (stack_of frames.now) now.now)) (λ kind. IsLimit kind × Passed kind (state (stack_of frames.now) now.now)) }
 {
     let size = least(frames, now);
     if size.depth > TREE_DEPTH {
@@ -361,7 +351,8 @@ fn advance<'a>(
     now: Now,
     token: &Token<'a>,
 ) -> Result<Now, Refused<SourceFault>>
-    ensures { (u : List Symbol) → Behind u (tags opened.old.items) (state (stack_of frames.old) now) → Advances frames.new opened.new.items result u (symbol_of token.now) }
+    ensures bounded { IfOk result (λ now. Bounded (state (stack_of frames.new) now)) }
+    ensures goes { (u : List Symbol) → Behind u (tags opened.old.items) (state (stack_of frames.old) now) → Advances frames.new opened.new.items result u (symbol_of token.now) }
 {
     match take(alloc, frames, opened, now, token) {
         Ok(after) => match limit(frames, &after) {
@@ -374,6 +365,7 @@ fn advance<'a>(
 
 /// The section, if it is whole here, where its end is on this line.
 fn whole(frames: Frames, now: Now, end: Line) -> Result<Section, Refused<SourceFault>>
+    requires { (ds : Declarations) → state (stack_of frames) now ≡ due (in_section ds) → Within ds }
     ensures { Ends result (whole (Some (state (stack_of frames) now))) end }
 {
     let Frames {
@@ -384,7 +376,7 @@ fn whole(frames: Frames, now: Now, end: Line) -> Result<Section, Refused<SourceF
     match now {
         Now::Due => {
             if above.is_empty() {
-                return Ok(Section { decls });
+                return Ok(Section::new(decls));
             }
             Err(fault(end, SourceKind::UnexpectedSymbol))
         }
@@ -399,6 +391,7 @@ fn at_end(
     now: Now,
     end: Line,
 ) -> Result<Section, Refused<SourceFault>>
+    requires { Bounded (state (stack_of frames) now) }
     ensures { Ends result (run [] (state (stack_of frames) now)) end }
 {
     let mut frames = frames;
@@ -417,10 +410,12 @@ fn at_end(
 /// The section that these symbols are, the end of which is on line `end`, or the fault that stands at the first symbol
 /// after which no section goes on.
 ///
-/// That a limit is told just where it is passed no clause says.
+/// That every section which begins so passes a limit that is told no clause says.
 pub fn parse(alloc: Global, tokens: &[Token], end: Line) -> Result<Section, Refused<SourceFault>>
     // What is answered is a tree of the symbols, or a fault that stands where a section begins with the symbols before it.
     ensures parses { Parses result (symbols_of tokens.now) end }
+    // The tree is within the limits.
+    ensures within { IfOk result (λ section. Within (declarations_of section)) }
     // Where the symbols are a section, its tree is answered, unless a limit or memory keeps it back.
     ensures only { (ds : Declarations) → IsSection ds (symbols_of tokens.now) → Gives result ds }
 {

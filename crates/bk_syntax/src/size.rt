@@ -1,10 +1,23 @@
 //! The least that a whole must be, by what was begun of it.
+ghost use Rattle.std.specs.Prelude.{◌≡◌, ◌+◌, ◌-◌, ℕ, max, min};
+ghost use Rattle.bk_syntax.specs.declared.frame.Begun.TheVariants as b;
+ghost use Rattle.bk_syntax.specs.Tree.{expression, expressions_in, items_in};
+ghost use Rattle.bk_syntax.specs.Machine.{Stack, in_start};
+ghost use Rattle.bk_syntax.specs.declared.size.Form.{Form};
+ghost use Rattle.bk_syntax.specs.Sizes.{kept, kept_size, form_of, size_of, owed, are_no_items, due_items, both_of, node_of, lifted, composed, bound, over_depth, over_nodes, are_none, wanted, awaited, least_size, IsRise, IsLift};
+ghost use Rattle.bk_syntax.specs.Begun.{operand_on, phrase_on, member_on, clause_on, place_on, point_on, begun_on, form_above, held_in};
+ghost use Rattle.bk_syntax.specs.Frames.{stack_of, state};
 
-use crate::frame::{
-    Begun, Clause, Frame, Frames, Lift, Member, Now, Operand, Phrase, Place, Point, Size,
-};
-use crate::symbols::{Guard, relates};
-use crate::tree::Expr;
+use crate::frame::{Begun, Clause, Lift, Member, Now, Operand, Phrase, Place, Point, Size};
+use crate::frames::Frames;
+use crate::symbols::Guard;
+use crate::tree::{Expr, Item};
+
+/// No part.
+pub const NOTHING: Size = Size { depth: 0, nodes: 0 };
+
+/// One leaf.
+pub const LEAF: Size = Size { depth: 1, nodes: 1 };
 
 /// What an expression at the start of a command is, since that says what the command has more than it.
 #[derive(Clone, Copy, Debug, PartialEq, Eq)]
@@ -18,7 +31,9 @@ pub enum Form {
 }
 
 /// The form of an expression.
-pub fn form_of(expr: &Expr) -> Form {
+pub fn form_of(expr: &Expr) -> Form
+    ensures { result ≡ form_of (expression expr.now) }
+{
     match expr {
         Expr::Name(_, _) | Expr::Apply(_, _, _, _) => Form::Whole,
         Expr::Number(_, _)
@@ -32,7 +47,9 @@ pub fn form_of(expr: &Expr) -> Form {
 }
 
 /// The form of what was begun.
-pub fn form_begun(begun: &Begun) -> Form {
+pub fn form_begun(begun: &Begun) -> Form
+    ensures { result ≡ form_above begun.now }
+{
     match begun {
         Begun::Operand(Operand::Args(_, _, _)) => Form::Whole,
         Begun::Operand(Operand::Parens(_)) | Begun::Clause(Clause::Valof(_)) => Form::Callable,
@@ -41,26 +58,39 @@ pub fn form_begun(begun: &Begun) -> Form {
 }
 
 /// The sum, at most 4294967295.
-fn plus(a: u32, b: u32) -> u32 {
+fn plus(a: u32, b: u32) -> u32
+    ensures { result ≡ kept (a + b) }
+{
     a.saturating_add(b)
 }
 
+/// The greater one.
+fn max(a: u32, b: u32) -> u32
+    ensures { result ≡ max a b }
+{
+    if a < b { b } else { a }
+}
+
 /// A node with these parts beside the one that is read, and with `owed` parts of one node still to come.
-fn node(held: Size, owed: u32) -> Lift {
-    let deepest = if owed > 0 && held.depth == 0 {
-        1
-    } else {
-        held.depth
-    };
+fn node(held: Size, owed: u32) -> Lift
+    ensures floor { result.floor ≡ kept (max held.depth (min 1 owed) + 1) }
+    ensures rise { result.rise ≡ 1 }
+    ensures nodes { result.nodes ≡ kept (held.nodes + 1 + owed) }
+{
+    let least = if owed > 0 { 1 } else { 0 };
     Lift {
-        floor: plus(deepest, 1),
+        floor: plus(max(held.depth, least), 1),
         rise: 1,
         nodes: plus(plus(held.nodes, 1), owed),
     }
 }
 
 /// No node, beside these parts.
-fn beside(held: Size) -> Lift {
+fn beside(held: Size) -> Lift
+    ensures floor { result.floor ≡ held.depth }
+    ensures rise { result.rise ≡ 0 }
+    ensures nodes { result.nodes ≡ held.nodes }
+{
     Lift {
         floor: held.depth,
         rise: 0,
@@ -68,26 +98,47 @@ fn beside(held: Size) -> Lift {
     }
 }
 
-/// A list of these parts, with a part of `nodes` nodes and depth 2 still to come.
-fn owing(held: Size, nodes: u32) -> Lift {
+/// A list of these parts, with a part of this depth and so many nodes still to come.
+fn owing(held: Size, depth: u32, nodes: u32) -> Lift
+    ensures floor { result.floor ≡ max held.depth depth }
+    ensures rise { result.rise ≡ 0 }
+    ensures nodes { result.nodes ≡ kept (held.nodes + nodes) }
+{
     Lift {
-        floor: if held.depth < 2 { 2 } else { held.depth },
+        floor: max(held.depth, depth),
         rise: 0,
         nodes: plus(held.nodes, nodes),
     }
 }
 
-/// How many items a list of names still owes behind these.
-fn owed(names: usize, items: usize) -> u32 {
-    let owed = names.saturating_sub(items);
-    if owed < 0x1_0000 {
-        owed as u32
+/// How many parts a list of `all` owes behind these.
+fn rest(all: usize, done: usize) -> u32
+    ensures { result ≡ kept (all - done) }
+{
+    let rest = all.saturating_sub(done);
+    if rest < 0xFFFF_FFFF {
+        rest as u32
     } else {
-        0x1_0000
+        0xFFFF_FFFF
     }
 }
 
-fn lift_operand(operand: &Operand, held: Size) -> Lift {
+/// How many it owes behind these and the one that is read.
+fn owed(all: usize, done: usize) -> u32
+    ensures { result ≡ kept (owed all done) }
+{
+    let rest = all.saturating_sub(done).saturating_sub(1);
+    if rest < 0xFFFF_FFFF {
+        rest as u32
+    } else {
+        0xFFFF_FFFF
+    }
+}
+
+fn lift_operand(operand: &Operand, held: Size) -> Lift
+    requires { held ≡ held_in (b.Operand operand.now) }
+    ensures { (st : Stack) (f : Form) → IsRise result (operand_on operand.now st) f }
+{
     match operand {
         Operand::Then(_, _) => node(held, 1),
         Operand::Chain(_, _, _, _) => Lift {
@@ -99,7 +150,9 @@ fn lift_operand(operand: &Operand, held: Size) -> Lift {
     }
 }
 
-fn lift_start(form: Form) -> Lift {
+fn lift_start(form: Form) -> Lift
+    ensures { (st : Stack) → IsRise result (in_start st) form }
+{
     match form {
         Form::Whole => Lift {
             floor: 0,
@@ -119,11 +172,15 @@ fn lift_start(form: Form) -> Lift {
     }
 }
 
-fn lift_phrase(phrase: &Phrase, held: Size, form: Form) -> Lift {
+#[tactic(auto, using(crate::proofs::Trees::counts))]
+fn lift_phrase(phrase: &Phrase, held: Size, form: Form) -> Lift
+    requires { held ≡ held_in (b.Phrase phrase.now) }
+    ensures { (st : Stack) → IsRise result (phrase_on phrase.now st) form }
+{
     match phrase {
         Phrase::Start => lift_start(form),
-        Phrase::Dests(xs) => node(held, owed(xs.len(), 0).saturating_add(1)),
-        Phrase::Values(xs, ys) => node(held, owed(xs.len(), ys.len()).saturating_sub(1)),
+        Phrase::Dests(xs) => node(held, plus(rest(xs.len(), 0), 1)),
+        Phrase::Values(xs, ys) => node(held, owed(xs.len(), ys.len())),
         Phrase::Guard(Guard::Case, _) => node(held, 0),
         Phrase::Guard(_, _) | Phrase::To(_, _, _) | Phrase::By(_, _, _, _) => node(held, 1),
         Phrase::Test(_) | Phrase::From(_, _) => node(held, 2),
@@ -131,7 +188,11 @@ fn lift_phrase(phrase: &Phrase, held: Size, form: Form) -> Lift {
     }
 }
 
-fn lift_member(member: &Member, held: Size) -> Lift {
+#[tactic(auto, using(crate::proofs::Trees::counts))]
+fn lift_member(member: &Member, held: Size) -> Lift
+    requires { held ≡ held_in (b.Member member.now) }
+    ensures { (st : Stack) (f : Form) → IsRise result (member_on member.now st) f }
+{
     match member {
         Member::Item(_, _, _, _) => Lift {
             floor: held.depth,
@@ -140,19 +201,26 @@ fn lift_member(member: &Member, held: Size) -> Lift {
         },
         Member::Function(_, _) => node(held, 0),
         Member::Value(names, inits) | Member::Vector(_, names, inits) => {
-            node(held, owed(names.len(), inits.len()).saturating_sub(1))
+            node(held, owed(names.len(), inits.len()))
         }
     }
 }
 
-fn lift_clause(clause: &Clause, held: Size) -> Lift {
+fn lift_clause(clause: &Clause, held: Size) -> Lift
+    requires { held ≡ held_in (b.Clause clause.now) }
+    ensures { (st : Stack) (f : Form) → IsRise result (clause_on clause.now st) f }
+{
     match clause {
         Clause::Then(_, _) => node(held, 1),
         _ => node(held, 0),
     }
 }
 
-fn lift_place(place: &Place, held: Size) -> Lift {
+#[tactic(auto, using(crate::proofs::Trees::counts))]
+fn lift_place(place: &Place, held: Size) -> Lift
+    requires { held ≡ held_in (b.Place place.now) }
+    ensures { (st : Stack) (f : Form) → IsRise result (place_on place.now st) f }
+{
     match place {
         Place::Let(_, _) => beside(held),
         Place::Block(_, _, _, _) => node(held, 0),
@@ -160,45 +228,62 @@ fn lift_place(place: &Place, held: Size) -> Lift {
         | Place::Formals(_)
         | Place::Formal(_, _)
         | Place::FormalEnd(_, _)
-        | Place::Headed(_, _) => owing(held, 2),
-        Place::Variable(names) => owing(held, plus(owed(names.len(), 0), 2)),
-        Place::VariableEnd(names) => owing(held, plus(owed(names.len(), 0), 1)),
-        Place::Inits(names, inits) => node(held, owed(names.len(), inits.len())),
+        | Place::Headed(_, _) => owing(held, 2, 2),
+        Place::Variable(names) => owing(held, 2, plus(rest(names.len(), 0), 2)),
+        Place::VariableEnd(names) => owing(held, 2, plus(rest(names.len(), 0), 1)),
+        Place::Inits(names, inits) => node(held, rest(names.len(), inits.len())),
     }
 }
 
-fn lift_point(point: &Point, held: Size) -> Lift {
+/// Whether there are no items.
+pub fn are_no_items(items: &[Item]) -> bool
+    ensures { result ≡ are_no_items (items_in items.now) }
+{
+    match items {
+        [] => true,
+        _ => false,
+    }
+}
+
+/// The depth and the nodes of the item that is due where none came.
+fn due_items(items: &[Item]) -> u32
+    ensures { result ≡ due_items (items_in items.now) }
+{
+    if are_no_items(items) { 2 } else { 0 }
+}
+
+fn lift_point(point: &Point, held: Size) -> Lift
+    requires { held ≡ held_in (b.Point point.now) }
+    ensures { (st : Stack) (f : Form) → IsRise result (point_on point.now st) f }
+{
     match point {
         Point::Default(_) | Point::Goto(_) => node(held, 0),
-        Point::Opening(_, _) => owing(held, 2),
-        Point::Items(_, _, items) => if items.is_empty() {
-            owing(held, 2)
-        } else {
-            beside(held)
-        },
-        Point::Signed(_, _, _, _) => owing(held, 2),
-        Point::For(_) | Point::Forward(_, _) => owing(held, 4),
+        Point::Opening(_, _) => owing(held, 2, 2),
+        Point::Items(_, _, items) => owing(held, due_items(items), due_items(items)),
+        Point::Signed(_, _, _, _) => owing(held, 2, 2),
+        Point::For(_) | Point::Forward(_, _) => owing(held, 2, 4),
     }
 }
 
 /// How what was begun depends on the part that is read of it, which has this form.
-pub fn lift(frame: &Frame, form: Form) -> Lift {
-    match &frame.begun {
-        Begun::Operand(operand) => lift_operand(operand, frame.held),
-        Begun::Phrase(phrase) => lift_phrase(phrase, frame.held, form),
-        Begun::Clause(clause) => lift_clause(clause, frame.held),
-        Begun::Member(member) => lift_member(member, frame.held),
-        Begun::Place(place) => lift_place(place, frame.held),
-        Begun::Point(point) => lift_point(point, frame.held),
+fn lift(begun: &Begun, held: Size, form: Form) -> Lift
+    requires { held ≡ held_in begun.now }
+    ensures { (st : Stack) → IsRise result (begun_on begun.now st) form }
+{
+    match begun {
+        Begun::Operand(operand) => lift_operand(operand, held),
+        Begun::Phrase(phrase) => lift_phrase(phrase, held, form),
+        Begun::Clause(clause) => lift_clause(clause, held),
+        Begun::Member(member) => lift_member(member, held),
+        Begun::Place(place) => lift_place(place, held),
+        Begun::Point(point) => lift_point(point, held),
     }
 }
 
-fn max(a: u32, b: u32) -> u32 {
-    if a < b { b } else { a }
-}
-
 /// One dependence within another.
-pub fn compose(outer: Lift, inner: Lift) -> Lift {
+fn compose(outer: Lift, inner: Lift) -> Lift
+    ensures { result ≡ composed outer inner }
+{
     Lift {
         floor: max(outer.floor, plus(outer.rise, inner.floor)),
         rise: plus(outer.rise, inner.rise),
@@ -207,57 +292,20 @@ pub fn compose(outer: Lift, inner: Lift) -> Lift {
 }
 
 /// The size of the whole with a part of this size.
-pub fn lifted(lift: Lift, part: Size) -> Size {
+fn lifted(lift: Lift, part: Size) -> Size
+    ensures { result ≡ lifted lift part }
+{
     Size {
         depth: max(lift.floor, plus(lift.rise, part.depth)),
         nodes: plus(lift.nodes, part.nodes),
     }
 }
 
-/// The least size of the part that is read now, and its form.
-fn part(top: &Frame, now: &Now) -> (Size, Form) {
-    let one = Size { depth: 1, nodes: 1 };
-    let nothing = Size { depth: 0, nodes: 0 };
-    match now {
-        Now::Want => match &top.begun {
-            // no argument may come
-            Begun::Operand(Operand::Args(_, _, items)) => {
-                (if items.is_empty() { nothing } else { one }, Form::Whole)
-            }
-            _ => (one, Form::Whole),
-        },
-        Now::Have(sized) => (sized.size, form_of(&sized.expr)),
-        Now::Begin => (one, Form::Other),
-        Now::Did(_, size) => (*size, Form::Other),
-        Now::Maybe => (nothing, Form::Other),
-        Now::Due => match &top.begun {
-            Begun::Place(Place::Let(_, _)) => (Size { depth: 2, nodes: 2 }, Form::Other),
-            _ => (nothing, Form::Other),
-        },
-    }
-}
-
-/// The least size of a whole section that goes on from here.
-pub fn least(frames: &Frames, now: &Now) -> Size {
-    match frames.above.last() {
-        Some(top) => {
-            let (size, form) = part(top, now);
-            lifted(compose(top.below, lift(top, form)), size)
-        }
-        None => frames.held,
-    }
-}
-
-/// How the section depends on the part that is read above these frames, if that has this form.
-pub fn below(frames: &Frames, form: Form) -> Lift {
-    match frames.above.last() {
-        Some(top) => compose(top.below, lift(top, form)),
-        None => beside(frames.held),
-    }
-}
-
 /// The size of a node with these parts.
-pub fn of_node(parts: Size) -> Size {
+#[tactic(auto, using(crate::proofs::Sizes::node_kept))]
+pub fn of_node(parts: Size) -> Size
+    ensures { result ≡ node_of parts }
+{
     Size {
         depth: plus(parts.depth, 1),
         nodes: plus(parts.nodes, 1),
@@ -265,18 +313,113 @@ pub fn of_node(parts: Size) -> Size {
 }
 
 /// The size of parts side by side.
-pub fn both(a: Size, b: Size) -> Size {
+pub fn both(a: Size, b: Size) -> Size
+    ensures { result ≡ both_of a b }
+{
     Size {
         depth: max(a.depth, b.depth),
         nodes: plus(a.nodes, b.nodes),
     }
 }
 
-/// The size of the right operand, where it may be shared.
-pub fn right_of(operator: crate::tree::Operator, size: Size) -> Size {
-    if relates(operator) {
-        size
-    } else {
-        Size { depth: 0, nodes: 0 }
+/// How the section depends on the part that is read above these frames, if that has this form.
+#[tactic(auto, using(crate::proofs::Stacks::frames_laws))]
+pub fn below(frames: &Frames, form: Form) -> Lift
+    ensures { IsLift result (stack_of frames.now) form }
+{
+    match frames.above.last() {
+        Some(top) => compose(top.below, lift(&top.begun, top.held, form)),
+        None => beside(frames.held),
+    }
+}
+
+/// Whether there are no expressions.
+pub fn are_none(exprs: &[Expr]) -> bool
+    ensures { result ≡ are_none (expressions_in exprs.now) }
+{
+    match exprs {
+        [] => true,
+        _ => false,
+    }
+}
+
+/// The least part where an operand of this is due.
+fn wanted_on(begun: &Begun) -> u32
+    ensures { (st : Stack) → result ≡ wanted (begun_on begun.now st) }
+{
+    match begun {
+        Begun::Operand(Operand::Args(_, _, items)) => if are_none(items) { 0 } else { 1 },
+        _ => 1,
+    }
+}
+
+/// The least part where a symbol is due.
+fn awaited_on(begun: &Begun) -> u32
+    ensures { (st : Stack) → result ≡ awaited (begun_on begun.now st) }
+{
+    match begun {
+        Begun::Place(Place::Let(_, _)) => 2,
+        _ => 0,
+    }
+}
+
+/// The least part where an operand is due.
+fn wanted(frames: &Frames) -> u32
+    ensures { result ≡ wanted (stack_of frames.now) }
+{
+    match frames.above.last() {
+        Some(top) => wanted_on(&top.begun),
+        None => 1,
+    }
+}
+
+/// The least part where a symbol is due.
+fn awaited(frames: &Frames) -> u32
+    ensures { result ≡ awaited (stack_of frames.now) }
+{
+    match frames.above.last() {
+        Some(top) => awaited_on(&top.begun),
+        None => 0,
+    }
+}
+
+/// The least size of a whole section with this part, which has this form.
+fn least_with(frames: &Frames, form: Form, part: Size) -> Size
+    ensures { (d n : ℕ) → part ≡ kept_size d n → result ≡ kept_size (bound over_depth (stack_of frames.now) form d) (bound over_nodes (stack_of frames.now) form n) }
+{
+    lifted(below(frames, form), part)
+}
+
+/// The least size of a whole section that goes on from here.
+pub fn least(frames: &Frames, now: &Now) -> Size
+    ensures { result ≡ least_size (state (stack_of frames.now) now.now) }
+{
+    match now {
+        Now::Want => {
+            let part = wanted(frames);
+            least_with(
+                frames,
+                Form::Whole,
+                Size {
+                    depth: part,
+                    nodes: part,
+                },
+            )
+        }
+        Now::Have(sized) => least_with(frames, form_of(&sized.expr), sized.size),
+        Now::Begin => least_with(frames, Form::Other, LEAF),
+        Now::Maybe => least_with(frames, Form::Other, NOTHING),
+        Now::Did(done) => least_with(frames, Form::Other, done.size),
+        Now::Due => {
+            let part = awaited(frames);
+            least_with(
+                frames,
+                Form::Other,
+                Size {
+                    depth: part,
+                    nodes: part,
+                },
+            )
+        }
     }
 }

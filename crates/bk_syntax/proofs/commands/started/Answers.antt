@@ -1,6 +1,7 @@
 use Rattle.std.proofs.Common.{◌≡◌, false, rules, sym, ap, ◌∙◌}
 use Rattle.bk_syntax.specs.Tree.{expression}
 use Rattle.bk_syntax.specs.Rows.{assigns}
+use Rattle.bk_syntax.specs.Sizes.{size_of, size_of_action}
 use Rattle.bk_syntax.specs.Machine.{give, finish, in_start}
 use Rattle.bk_syntax.specs.Frames.{stack_of}
 use Rattle.bk_syntax.proofs.Trees.{Apply_is}
@@ -15,3 +16,11 @@ returns-in-Apply-clause-answers c =
     ap (λ x. give (in_start st) x t.line t.text.now t.kind) (ap expression c.in-Apply.is ∙ Apply_is _ _ c.in-Apply.callee c.in-Apply.items)
     ∙ call_done st _ _ _ _ t.line t.text.now t.kind c.requires other
     ∙ ap (λ y. finish st y t.line t.text.now t.kind) (sym c.call.ensures)
+
+pub invariant_of-result : goal.invariant_of-result
+invariant_of-result c = record {
+  sizes =
+      c.args.sized.sizes
+      ∙ ap size_of (ap expression c.in-Apply.is ∙ Apply_is _ _ c.in-Apply.callee c.in-Apply.items)
+      ∙ ap size_of_action (sym c.call.ensures);
+}

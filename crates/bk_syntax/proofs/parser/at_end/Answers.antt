@@ -1,12 +1,18 @@
-use Rattle.std.proofs.Common.{ℕ, List, [], Result, sym, ap, subst, ◌∙◌}
+use Rattle.std.proofs.Common.{ℕ, Some, List, [], Result, sym, ap, subst, ◌∙◌}
 use Rattle.bk_lex.specs.declared.token.Kind.TheVariants as k
 use Rattle.bk_lex.specs.Symbol.{Symbol}
 use Rattle.bk_syntax.specs.Tree.{Declarations}
 use Rattle.bk_syntax.specs.Machine.{stepped_by, whole}
 use Rattle.bk_syntax.specs.Frames.{stack_of, state}
 use Rattle.bk_syntax.specs.Parsing.{Ends}
+use Rattle.bk_syntax.proofs.Finished.{ends_within}
 use Rattle.bk_syntax.proofs.Behind.{run_end, ends_wrong}
 use Rattle.bk_syntax.proofs.parser.at_end.Goals as goal
+
+pub whole-requires : goal.whole-requires
+whole-requires c =
+    let x = state (stack_of c.args.frames) c.args.now in
+    λ ds is. ends_within x ds c.requires (ap (λ (l : ℕ). stepped_by x l [] k.Semicolon) (sym c.first.ensures) ∙ c.in-Ok.ensures ∙ ap Some is)
 
 pub returns-in-Ok : goal.returns-in-Ok
 returns-in-Ok c =

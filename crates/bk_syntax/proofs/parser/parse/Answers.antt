@@ -4,31 +4,37 @@ use Rattle.bk_syntax.specs.Frames.{stack_of, state}
 use Rattle.bk_syntax.specs.Parsing.{tags}
 use Rattle.bk_syntax.proofs.Behind.{from_nothing, one_further, all_read}
 use Rattle.bk_syntax.proofs.Told.{told_of, ended, gives_only}
+use Rattle.bk_syntax.proofs.Finished.{empty_bounded, within_limits}
 use Rattle.bk_syntax.proofs.parser.parse.Goals as goal
 
 pub loop-token-init : goal.loop-token-init
-loop-token-init c = from_nothing c.new.result.items c.new-2.result.items c.new-opened.result.items c.new.ensures.items c.new-2.ensures.items c.new-opened.ensures.items
+loop-token-init c = (
+  from_nothing c.new.result.items c.new-2.result.items c.new-opened.result.items c.new.ensures.items c.new-2.ensures.items c.new-opened.ensures.items,
+  empty_bounded c.new.result.items c.new-2.result.items c.new.ensures.items c.new-2.ensures.items,
+)
 
 pub loop-token-preserved : goal.loop-token-preserved
 loop-token-preserved c =
     let ts = c.args.tokens.now in
-    let i = c.loop-token.token-index in
-    one_further ts i c.token-item.result (tags c.advance.new.opened.items) (state (stack_of c.advance.new.frames) c.in-Ok.after) c.loop-token-test.true c.token-item.is
-    (c.in-Ok.ensures (symbols_of (take i ts)) c.loop-token.invariant)
+    let i = c.loop-token.token-index in (
+      one_further ts i c.token-item.result (tags c.advance.new.opened.items) (state (stack_of c.advance.new.frames) c.in-Ok.after) c.loop-token-test.true c.token-item.is
+          (c.in-Ok.ensures.goes (symbols_of (take i ts)) c.loop-token.invariant.0),
+      c.in-Ok.ensures.bounded,
+    )
 
 pub returns-in-Err : goal.returns-in-Err
 returns-in-Err c =
     let ts = c.args.tokens.now in
     let i = c.loop-token.token-index in
     let p = told_of c.in-Err.refused c.advance.new.frames c.advance.new.opened.items ts i c.token-item.result c.args.end
-    (tags c.loop-token.opened.items) (state (stack_of c.loop-token.frames) c.loop-token.now) c.loop-token-test.true c.token-item.is c.loop-token.invariant
-    (c.in-Err.ensures (symbols_of (take i ts)) c.loop-token.invariant) in
-    record { parses = p; only = gives_only (Err c.in-Err.refused) (symbols_of ts) c.args.end p }
+    (tags c.loop-token.opened.items) (state (stack_of c.loop-token.frames) c.loop-token.now) c.loop-token-test.true c.token-item.is c.loop-token.invariant.0
+    (c.in-Err.ensures.goes (symbols_of (take i ts)) c.loop-token.invariant.0) in
+    record { parses = p; within = tt; only = gives_only (Err c.in-Err.refused) (symbols_of ts) c.args.end p }
 
 pub returns : goal.returns
 returns c =
     let ts = c.args.tokens.now in
     let x = state (stack_of c.loop-token.frames) c.loop-token.now in
     let p = ended c.at_end.result (symbols_of ts) (tags c.loop-token.opened.items) x c.args.end
-    (all_read ts c.loop-token.token-index (tags c.loop-token.opened.items) x (omega arith) c.loop-token.invariant) c.at_end.ensures in
-    record { parses = p; only = gives_only c.at_end.result (symbols_of ts) c.args.end p }
+    (all_read ts c.loop-token.token-index (tags c.loop-token.opened.items) x (omega arith) c.loop-token.invariant.0) c.at_end.ensures in
+    record { parses = p; within = within_limits c.at_end.result; only = gives_only c.at_end.result (symbols_of ts) c.args.end p }

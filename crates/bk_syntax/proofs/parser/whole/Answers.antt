@@ -1,15 +1,22 @@
-use Rattle.std.proofs.Common.{◌≡◌, ◌<◌, Some, vec_len, ap, ◌∙◌, arith}
+use Rattle.std.proofs.Common.{◌≡◌, ◌<◌, Some, Ok, vec_len, ap, sym, ◌∙◌, arith}
+use Rattle.bk_syntax.specs.Tree.{declarations_in}
 use Rattle.bk_syntax.specs.Machine.{whole}
 use Rattle.bk_syntax.specs.Frames.{stack_of, state}
 use Rattle.bk_syntax.proofs.Openings.{is_zero, is_more}
-use Rattle.bk_syntax.proofs.Behind.{whole_empty, not_whole, ends_wrong}
+use Rattle.bk_syntax.proofs.Behind.{due_empty, whole_empty, not_whole, ends_wrong}
 use Rattle.bk_syntax.proofs.parser.whole.Goals as goal
+
+pub new-requires : goal.new-requires
+new-requires c =
+    let x = c.args.frames in
+    let none : vec_len x.above ≡ 0 = is_zero _ _ c.is_empty.ensures c.if-is_empty.true in
+    c.requires (declarations_in x.decls.items) (ap (state (stack_of x)) c.in-Due.is ∙ due_empty x.decls.items x.above.items (omega (arith, none)))
 
 pub returns-then-is_empty : goal.returns-then-is_empty
 returns-then-is_empty c =
     let x = c.args.frames in
     let none : vec_len x.above ≡ 0 = is_zero _ _ c.is_empty.ensures c.if-is_empty.true in
-    ap (λ n. whole (Some (state (stack_of x) n))) c.in-Due.is ∙ whole_empty x.decls.items x.above.items (omega (arith, none))
+    ap (λ n. whole (Some (state (stack_of x) n))) c.in-Due.is ∙ whole_empty x.decls.items x.above.items (omega (arith, none)) ∙ ap Ok (sym c.new.ensures)
 
 pub returns-in-Due : goal.returns-in-Due
 returns-in-Due c =

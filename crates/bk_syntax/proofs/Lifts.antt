@@ -1,0 +1,122 @@
+-- What a list of frames makes of a part of the one on top.
+use Rattle.std.proofs.Common.{◌≡◌, ℕ, ◌-◌, ◌+◌, ◌<◌, List, [], ◌∷◌, length, take, max, Some, None, slice_get, get_or, refl, sym, subst, ap, ◌∙◌, arith}
+use Rattle.std.proofs.lemmas.List.{take_all}
+use Rattle.std.proofs.lemmas.Option.{slice_get_within, get_or_from_slice_get, slice_get-get_or}
+use Rattle.bk_syntax.specs.declared.frame.Size.{Size}
+use Rattle.bk_syntax.specs.Tree.{declarations_in}
+use Rattle.bk_syntax.specs.Limits.{depth_of_declarations, nodes_of_declarations}
+use Rattle.bk_syntax.specs.declared.frame.Frame.{Frame}
+use Rattle.bk_syntax.specs.declared.frame.Lift.{Lift}
+use Rattle.bk_syntax.specs.declared.frame.Begun.{Begun}
+use Rattle.bk_syntax.specs.declared.frame.Begun.TheVariants as b
+use Rattle.bk_syntax.specs.declared.frame.Operand.TheVariants as o
+use Rattle.bk_syntax.specs.declared.frame.Phrase.TheVariants as p
+use Rattle.bk_syntax.specs.declared.frame.Member.TheVariants as m
+use Rattle.bk_syntax.specs.declared.frame.Clause.TheVariants as c
+use Rattle.bk_syntax.specs.declared.frame.Place.TheVariants as a
+use Rattle.bk_syntax.specs.declared.frame.Point.TheVariants as t
+use Rattle.bk_syntax.specs.declared.tree.Decl.{Decl}
+use Rattle.bk_syntax.specs.declared.size.Form.{Form}
+use Rattle.bk_syntax.specs.Machine.{Stack, in_section}
+use Rattle.bk_syntax.specs.Sizes.{kept, kept_size, bound, over_depth, over_nodes, lifted, composed, IsRise, IsLift, size_of_declarations}
+use Rattle.bk_syntax.specs.Begun.{begun_on, form_above}
+use Rattle.bk_syntax.specs.Stacked.{stack, Lifts}
+use Rattle.bk_syntax.proofs.Sizes.{sizes_are, lifted_twice}
+use Rattle.bk_syntax.proofs.Stacks.{stack_take, stack_none}
+
+pub bound_over : (over : Stack → Form → ℕ → ℕ) (x : Begun) (st : Stack) (f : Form) (d : ℕ) → bound over (begun_on x st) f d ≡ bound over st (form_above x) (over (begun_on x st) f d)
+bound_over over (b.Operand (o.Parens l)) st f d = refl
+bound_over over (b.Operand (o.Unary l q)) st f d = refl
+bound_over over (b.Operand (o.Binary q l x)) st f d = refl
+bound_over over (b.Operand (o.Chain q l x y)) st f d = refl
+bound_over over (b.Operand (o.Then l x)) st f d = refl
+bound_over over (b.Operand (o.Else l x y)) st f d = refl
+bound_over over (b.Operand (o.Args l x es)) st f d = refl
+bound_over over (b.Operand (o.Table l es)) st f d = refl
+bound_over over (b.Phrase p.Start) st f d = refl
+bound_over over (b.Phrase (p.Dests xs)) st f d = refl
+bound_over over (b.Phrase (p.Values xs ys)) st f d = refl
+bound_over over (b.Phrase (p.Guard g l)) st f d = refl
+bound_over over (b.Phrase (p.Test l)) st f d = refl
+bound_over over (b.Phrase (p.ResultIs l)) st f d = refl
+bound_over over (b.Phrase (p.RepeatWhile t x)) st f d = refl
+bound_over over (b.Phrase (p.From l x)) st f d = refl
+bound_over over (b.Phrase (p.To l x y)) st f d = refl
+bound_over over (b.Phrase (p.By l x y z)) st f d = refl
+bound_over over (b.Member (m.Item l q is x)) st f d = refl
+bound_over over (b.Member (m.Function x fs)) st f d = refl
+bound_over over (b.Member (m.Value xs is)) st f d = refl
+bound_over over (b.Member (m.Vector l xs is)) st f d = refl
+bound_over over (b.Clause (c.Valof l)) st f d = refl
+bound_over over (b.Clause (c.Label l x)) st f d = refl
+bound_over over (b.Clause (c.Guarded g l x)) st f d = refl
+bound_over over (b.Clause (c.Default l)) st f d = refl
+bound_over over (b.Clause (c.Then l x)) st f d = refl
+bound_over over (b.Clause (c.Else l x y)) st f d = refl
+bound_over over (b.Clause (c.For l x y z h)) st f d = refl
+bound_over over (b.Clause (c.Routine x fs)) st f d = refl
+bound_over over (b.Place (a.Block l q ds cs)) st f d = refl
+bound_over over (b.Place (a.Let l ds)) st f d = refl
+bound_over over (b.Place (a.Named x)) st f d = refl
+bound_over over (b.Place (a.Formals x)) st f d = refl
+bound_over over (b.Place (a.Formal x fs)) st f d = refl
+bound_over over (b.Place (a.FormalEnd x fs)) st f d = refl
+bound_over over (b.Place (a.Headed x fs)) st f d = refl
+bound_over over (b.Place (a.Variable xs)) st f d = refl
+bound_over over (b.Place (a.VariableEnd xs)) st f d = refl
+bound_over over (b.Place (a.Inits xs is)) st f d = refl
+bound_over over (b.Point (t.Opening l q)) st f d = refl
+bound_over over (b.Point (t.Items l q is)) st f d = refl
+bound_over over (b.Point (t.Signed l q is x)) st f d = refl
+bound_over over (b.Point (t.Goto l)) st f d = refl
+bound_over over (b.Point (t.For l)) st f d = refl
+bound_over over (b.Point (t.Forward l x)) st f d = refl
+bound_over over (b.Point (t.Default l)) st f d = refl
+
+lift_begun : (ds : List Decl) (xs : List Frame) (x : Frame) (y : Lift) (f : Form) → IsLift x.below (stack ds xs) (form_above x.begun)
+    → ((st : Stack) → IsRise y (begun_on x.begun st) f) → IsLift (composed x.below y) (begun_on x.begun (stack ds xs)) f
+lift_begun ds xs x y f h g d n =
+    let st = stack ds xs in
+    lifted_twice x.below y (kept_size d n)
+    ∙ ap (lifted x.below) (sizes_are (g st d n).0 (g st d n).1)
+    ∙ h (over_depth (begun_on x.begun st) f d) (over_nodes (begun_on x.begun st) f n)
+    ∙ sizes_are (ap kept (sym (bound_over over_depth x.begun st f d))) (ap kept (sym (bound_over over_nodes x.begun st f n)))
+
+pub last_on : (ds : List Decl) (xs : List Frame) (x : Frame) → Some x ≡ slice_get xs (length xs - 1) → stack ds xs ≡ begun_on x.begun (stack ds (take (length xs - 1) xs))
+last_on ds xs x is =
+    let i = length xs - 1 in
+    let lt : i < length xs = slice_get_within xs i x (sym is) in
+    let all : take (i + 1) xs ≡ xs = take_all (i + 1) xs (omega (arith, lt)) in
+    ap (stack ds) (sym all) ∙ stack_take ds xs i x lt (sym (get_or_from_slice_get xs i x x (sym is)))
+
+pub lift_last : (ds : List Decl) (xs : List Frame) (x : Frame) (y : Lift) (f : Form) → Some x ≡ slice_get xs (length xs - 1) → Lifts ds xs
+    → ((st : Stack) → IsRise y (begun_on x.begun st) f) → IsLift (composed x.below y) (stack ds xs) f
+lift_last ds xs x y f is h g =
+    let P : Stack → Type 0 = λ z. IsLift (composed x.below y) z f in
+    subst P (sym (last_on ds xs x is)) (lift_begun ds (take (length xs - 1) xs) x y f (h (length xs - 1) x (sym is)) g)
+
+none_last : (xs : List Frame) → None ≡ slice_get xs (length xs - 1) → xs ≡ []
+none_last [] is = refl
+none_last (x ∷ xs) is =
+    let some : slice_get (x ∷ xs) (length (x ∷ xs) - 1) ≡ Some (get_or (x ∷ xs) (length (x ∷ xs) - 1) x) = slice_get-get_or (x ∷ xs) (length (x ∷ xs) - 1) x (omega arith) in
+    absurd cc
+
+pub none_on : (ds : List Decl) (xs : List Frame) → None ≡ slice_get xs (length xs - 1) → stack ds xs ≡ in_section (declarations_in ds)
+none_on ds xs is = ap (stack ds) (none_last xs is) ∙ stack_none ds
+
+beside_depth : (a y : ℕ) → y ≡ kept a → (r : ℕ) → r ≡ 0 → (d : ℕ) → max y (kept (r + kept d)) ≡ kept (max a d)
+beside_depth a y p r q d = omega (arith, p, q)
+
+beside_nodes : (a y : ℕ) → y ≡ kept a → (n : ℕ) → kept (y + kept n) ≡ kept (a + n)
+beside_nodes a y p n = omega (arith, p)
+
+pub lift_section : (ds : List Decl) (xs : List Frame) (y : Lift) (s : Size) (f : Form) → None ≡ slice_get xs (length xs - 1) → s ≡ size_of_declarations (declarations_in ds)
+    → y.floor ≡ s.depth → y.rise ≡ 0 → y.nodes ≡ s.nodes → IsLift y (stack ds xs) f
+lift_section ds xs y s f is p a b c =
+    let z = declarations_in ds in
+    let P : Stack → Type 0 = λ st. IsLift y st f in
+    subst P (sym (none_on ds xs is))
+    (λ d n. sizes_are (beside_depth (depth_of_declarations z) y.floor (a ∙ ap (λ (x : Size). x.depth) p) y.rise b d) (beside_nodes (nodes_of_declarations z) y.nodes (c ∙ ap (λ (x : Size). x.nodes) p) n))
+
+pub lifted_by : (x : Lift) (st : Stack) (f : Form) → IsLift x st f → (s : Size) (d n : ℕ) → s ≡ kept_size d n → lifted x s ≡ kept_size (bound over_depth st f d) (bound over_nodes st f n)
+lifted_by x st f h s d n is = ap (lifted x) is ∙ h d n

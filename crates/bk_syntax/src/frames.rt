@@ -1,0 +1,19 @@
+//! The list of what was begun.
+ghost use Rattle.std.specs.Prelude.{◌≡◌, ◌+◌, ℕ, [], MatchOption, IfOk, vec_len};
+ghost use Rattle.bk_syntax.specs.Tree.{declarations_in};
+ghost use Rattle.bk_syntax.specs.Sizes.{size_of_declarations};
+ghost use Rattle.bk_syntax.specs.Begun.{begun_on, held_in};
+ghost use Rattle.bk_syntax.specs.Stacked.{Lifts};
+
+use crate::frame::{Frame, Size};
+use crate::tree::Decl;
+
+/// What was begun: the section, with its declarations and their size, and above it the rest, the last one on top.
+#[derive(Drop)]
+pub struct Frames {
+    pub decls: Vec<Decl>,
+    pub held: Size,
+    pub above: Vec<Frame>,
+    ghost holds: { held ≡ size_of_declarations (declarations_in decls.items) },
+    ghost lifts: { Lifts decls.items above.items },
+}
