@@ -111,7 +111,7 @@ record Passed (t : Symbol) (ts : List Symbol) (os : List (List ℕ)) (x : State)
   others : plain ts left ≡ Some rest
   passes : Passes rest walk.next
 
-in_front_some : (qs : List Symbol) (r : Option (List Symbol)) (ps : List Symbol) → in_front qs r ≡ Some ps → (rest : List Symbol) × (r ≡ Some rest) × (ps ≡ qs ++ rest)
+pub in_front_some : (qs : List Symbol) (r : Option (List Symbol)) (ps : List Symbol) → in_front qs r ≡ Some ps → (rest : List Symbol) × (r ≡ Some rest) × (ps ≡ qs ++ rest)
 in_front_some qs None ps h = absurd cc
 in_front_some qs (Some us) ps h = (us, refl, cc)
 

@@ -34,7 +34,7 @@ use Rattle.bk_syntax.specs.Begun.{begun_on}
 use Rattle.bk_syntax.specs.Stacked.{above, stack}
 use Rattle.bk_syntax.specs.Frames.{stack_of, state, Steps}
 use Rattle.bk_syntax.specs.SyntaxLaws.{reading}
-use Rattle.bk_syntax.specs.Parsing.{tags, Closes, goes_to, steps, Behind, told, Advances, Ends}
+use Rattle.bk_syntax.specs.Parsing.{tags, Closes, goes_to, steps, leads, Behind, told, Advances, Ends}
 use Rattle.bk_syntax.proofs.Steps.{stepped}
 use Rattle.bk_syntax.proofs.Before.{opens_kind, closes_kind}
 use Rattle.bk_syntax.proofs.Stacks.{stack_none}
@@ -49,30 +49,46 @@ both_in_front : (ps qs : List Symbol) (r : Option (List Symbol)) → in_front ps
 both_in_front ps qs None = refl
 both_in_front ps qs (Some us) = ap Some (sym (append_assoc ps qs us))
 
+pub goes_some : (f : State → Option State) (r : Option State) (y : State) → goes_to f r ≡ Some y → (z : State) × (r ≡ Some z) × (f z ≡ Some y)
+goes_some f None y h = absurd cc
+goes_some f (Some z) y h = (z, refl, h)
+
+leads_both : (ps qs : List Symbol) (x y : State) → leads ps x ≡ Some y → leads (ps ++ qs) x ≡ leads qs y
+leads_both [] qs x y h = let same : x ≡ y = cc in ap (leads qs) same
+leads_both (t ∷ ps) qs x y h = let g = goes_some (leads ps) (step x t) y h in ap (goes_to (leads (ps ++ qs))) g.1 ∙ leads_both ps qs g.0 y g.2
+
+leads_then : (ps : List Symbol) (n : ℕ) (t : Symbol) (r : Option State) → ((x : State) → leads ps x ≡ steps n t x) → goes_to (leads ps) r ≡ goes_to (steps n t) r
+leads_then ps n t None h = refl
+leads_then ps n t (Some x) h = h x
+
+leads_runs : (ps : List Symbol) (x y : State) (us : List Symbol) → leads ps x ≡ Some y → run (ps ++ us) x ≡ run us y
+leads_runs [] x y us h = let same : x ≡ y = cc in ap (run us) same
+leads_runs (t ∷ ps) x y us h = let g = goes_some (leads ps) (step x t) y h in stepped x g.0 t (ps ++ us) g.1 ∙ leads_runs ps g.0 y us g.2
+
+-- what comes behind them is read from there
+pub reads : {ts : List Symbol} {opens : List (List ℕ)} {x : State} (b : Behind ts opens x) (us : List Symbol) → reading (b.plainly ++ us) ≡ run us x
+reads {x = x} b us = leads_runs b.plainly (due (in_section no_declarations)) x us b.comes
+
 -- before the first symbol
 pub from_start : Behind [] [] (due (in_section no_declarations))
-from_start = record { plainly = []; brackets = λ us. nothing_in_front (plain us []); reads = λ us. refl }
+from_start = record { plainly = []; brackets = λ us. nothing_in_front (plain us []); comes = refl }
 
 -- behind one symbol more, which stands for these plain ones
 pub behind_one : (ts : List Symbol) (t : Symbol) (before after : List (List ℕ)) (x y : State) (ps : List Symbol) → Behind ts before x
-    → ((us : List Symbol) → plain (t ∷ us) before ≡ in_front ps (plain us after)) → ((us : List Symbol) → run (ps ++ us) x ≡ run us y) → Behind (ts ++ t ∷ []) after y
+    → ((us : List Symbol) → plain (t ∷ us) before ≡ in_front ps (plain us after)) → leads ps x ≡ Some y → Behind (ts ++ t ∷ []) after y
 behind_one ts t before after x y ps b h g = record {
   plainly = b.plainly ++ ps;
   brackets = λ us. ap (λ z. plain z []) (append_assoc ts (t ∷ []) us) ∙ b.brackets (t ∷ us) ∙ ap (in_front b.plainly) (h us) ∙ both_in_front b.plainly ps (plain us after);
-  reads = λ us. ap reading (append_assoc b.plainly ps us) ∙ b.reads (ps ++ us) ∙ g us;
+  comes = leads_both b.plainly ps (due (in_section no_declarations)) x b.comes ∙ g;
 }
 
-goes_some : (f : State → Option State) (r : Option State) (y : State) → goes_to f r ≡ Some y → (z : State) × (r ≡ Some z) × (f z ≡ Some y)
-goes_some f None y h = absurd cc
-goes_some f (Some z) y h = (z, refl, h)
+leads_steps : (n : ℕ) (t : Symbol) (x : State) → leads (replicate n t) x ≡ steps n t x
+leads_steps zero t x = refl
+leads_steps (suc n) t x = leads_then (replicate n t) n t (step x t) (leads_steps n t)
 
 goes_none : (f : State → Option State) (r : Option State) → goes_to f r ≡ None → (r ≡ None) ⊎ ((z : State) × (r ≡ Some z) × (f z ≡ None))
 goes_none f None h = inl refl
 goes_none f (Some z) h = inr (z, refl, h)
-
-pub run_steps : (n : ℕ) (t : Symbol) (x y : State) (us : List Symbol) → steps n t x ≡ Some y → run (replicate n t ++ us) x ≡ run us y
-run_steps zero t x y us h = let same : x ≡ y = cc in ap (run us) same
-run_steps (suc n) t x y us h = let g = goes_some (steps n t) (step x t) y h in stepped x g.0 t (replicate n t ++ us) g.1 ∙ run_steps n t g.0 y us g.2
 
 pub stopped : (x : State) (t : Symbol) (us : List Symbol) → step x t ≡ None → run (t ∷ us) x ≡ Err (t ∷ us)
 unfolding run
@@ -101,7 +117,7 @@ unexpected ts t before after x n b h stop =
     b.brackets (t ∷ []) ∙ ap (in_front p) (h []) ∙ ap (λ z. in_front p (in_front rs z)) (plain_end after)
     ∙ ap (λ (z : List Symbol). Some (p ++ z)) (append-nil rs ∙ j.2) ∙ ap Some (sym (append_assoc p j.0 (t ∷ j.1))) in
     let at : reading ((p ++ j.0) ++ t ∷ j.1) ≡ Err (t ∷ j.1) =
-    ap reading (append_assoc p j.0 (t ∷ j.1) ∙ ap (λ (z : List Symbol). p ++ z) (sym j.2)) ∙ b.reads rs
+    ap reading (append_assoc p j.0 (t ∷ j.1) ∙ ap (λ (z : List Symbol). p ++ z) (sym j.2)) ∙ reads b rs
     ∙ ap (λ z. run z x) (sym (append-nil rs)) ∙ j.3 [] ∙ ap Err (append-nil (t ∷ j.1)) in
     let none = symbol_stands (ts ++ t ∷ []) (p ++ j.0) t j.1 is at in
     ((λ w. none w.0 w.1 w.2), ((λ e. absurd cc), λ w. none w.0 w.1 w.2))
@@ -143,7 +159,7 @@ pub answered : (r : Result Now Stop) (new : Frames) (xs : List (Bor (List ℕ)))
 answered (Ok now) new xs u t before after x n go are h b =
     let y = state (stack_of new) now in
     let P : List (List ℕ) → Type 0 = λ z. Behind (u ++ t ∷ []) z y in
-    subst P (sym are) (behind_one u t before after x y (replicate n t) b h (λ us. run_steps n t x y us go))
+    subst P (sym are) (behind_one u t before after x y (replicate n t) b h (leads_steps n t x ∙ go))
 answered (Err s.Memory) new xs u t before after x n go are h b = tt
 answered (Err s.Unexpected) new xs u t before after x n go are h b = (refl, unexpected u t before after x n b h go)
 
@@ -186,7 +202,7 @@ pub plain_all : (ts : List Symbol) (opens : List (List ℕ)) (x : State) (b : Be
 plain_all ts opens x b = ap (λ z. plain z []) (sym (append-nil ts)) ∙ b.brackets [] ∙ ap (in_front b.plainly) (plain_end opens) ∙ ap Some (append-nil b.plainly)
 
 pub reading_all : (ts : List Symbol) (opens : List (List ℕ)) (x : State) (b : Behind ts opens x) → reading b.plainly ≡ run [] x
-reading_all ts opens x b = ap reading (sym (append-nil b.plainly)) ∙ b.reads []
+reading_all ts opens x b = ap reading (sym (append-nil b.plainly)) ∙ reads b []
 
 pub closed : (r : Result Now Stop) (new : Frames) (xs ys zs : List (Bor (List ℕ))) (u : List Symbol) (t : Symbol) (x : State) (n k : ℕ) → closes t.kind ≡ true → zs ≡ ys → Closes (Some n) t (tag_of t.text) zs
     → k ≡ length ys - n → xs ≡ take k ys → Steps (stack_of new) r (steps n t x) → Behind u (tags ys) x → Advances new xs (told r t.line) u t

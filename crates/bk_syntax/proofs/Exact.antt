@@ -119,7 +119,7 @@ whole_ok (Some (due (in_section es))) ds h = let same : es ≡ ds = cc in ap (λ
 whole_ok (Some (due _)) ds h = absurd cc
 whole_ok (Some _) ds h = absurd cc
 
-going_ok : (ts : List Symbol) (f : State → Result Declarations (List Symbol)) (x : Option State) (ds : Declarations) → going ts f x ≡ Ok ds → (n : State) × (x ≡ Some n) × (f n ≡ Ok ds)
+pub going_ok : (ts : List Symbol) (f : State → Result Declarations (List Symbol)) (x : Option State) (ds : Declarations) → going ts f x ≡ Ok ds → (n : State) × (x ≡ Some n) × (f n ≡ Ok ds)
 going_ok ts f None ds h = absurd cc
 going_ok ts f (Some n) ds h = (n, refl, h)
 

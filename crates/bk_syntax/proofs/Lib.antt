@@ -26,3 +26,4 @@ pub mod Told
 pub mod Sizes
 pub mod Lifts
 pub mod Finished
+pub mod Bounding

@@ -1,5 +1,5 @@
 -- What is told of the symbols, and what is answered behind them all.
-use Rattle.std.proofs.Common.{◌≡◌, ℕ, ◌+◌, ◌<◌, length, get_or, take, drop, List, [], ◌∷◌, ◌++◌, Result, Ok, Err, refl, sym, ap, subst, ◌∙◌, inl, inr, append_assoc}
+use Rattle.std.proofs.Common.{◌≡◌, ◌≤◌, Some, arith, ℕ, ◌+◌, ◌<◌, length, get_or, take, drop, List, [], ◌∷◌, ◌++◌, Result, Ok, Err, refl, sym, ap, subst, ◌∙◌, inl, inr, append_assoc}
 use Rattle.std.proofs.lemmas.List.{map-append, take-append-drop, at_drop_more}
 use Rattle.std.specs.Borrow.{Bor}
 use Rattle.bk_base.specs.declared.source_fault.SourceFault.{SourceFault}
@@ -11,29 +11,48 @@ use Rattle.bk_lex.specs.declared.token.Token.{Token}
 use Rattle.bk_lex.specs.Symbol.{Symbol, symbol_of, symbols_of}
 use Rattle.bk_syntax.specs.declared.frames.Frames.{Frames}
 use Rattle.bk_syntax.specs.declared.section.Section.{Section}
-use Rattle.bk_syntax.specs.Tree.{Declarations}
+use Rattle.bk_syntax.specs.Tree.{Declarations, no_declarations}
+use Rattle.bk_syntax.specs.Limits.{Within, depth_of_declarations, nodes_of_declarations}
+use Rattle.bk_syntax.specs.Sizes.{least_depth, least_nodes}
+use Rattle.bk_syntax.specs.Brackets.{plain}
+use Rattle.bk_syntax.specs.SyntaxLaws.{reading}
 use Rattle.bk_syntax.specs.Grammar as G
 use Rattle.bk_syntax.specs.SyntaxFault.{IsSection, Begins, Any}
-use Rattle.bk_syntax.specs.Machine.{State, run}
+use Rattle.bk_syntax.specs.Machine.{State, due, in_section, step, run}
 use Rattle.bk_syntax.specs.Bounds.{Passed}
-use Rattle.bk_syntax.specs.Parsing.{Behind, Passes, Says, IsLimit, Advances, declarations_of, Ends, Parses, Gives}
+use Rattle.bk_syntax.specs.Parsing.{leads, Behind, Says, IsLimit, Advances, declarations_of, Ends, Parses, Gives}
 use Rattle.bk_syntax.proofs.Stands.{one_tree, end_stands}
 use Rattle.bk_syntax.proofs.Exact.{reads_the_grammar}
 use Rattle.bk_syntax.proofs.Tags.{tag_stands}
-use Rattle.bk_syntax.proofs.Behind.{plain_all, reading_all}
-use Rattle.bk_syntax.proofs.Begun.{behind_begins}
+use Rattle.bk_syntax.proofs.Behind.{goes_some, reads, plain_all, reading_all}
+use Rattle.bk_syntax.proofs.Bounding.{Sound, step_sound, run_up}
+use Rattle.bk_syntax.proofs.Complete.{complete}
+use Rattle.bk_syntax.proofs.Begun.{in_front_some, behind_begins}
 
-limit_says : (kind : SourceKind) (u : List Symbol) (t : Symbol) → IsLimit kind → Begins Any (u ++ t ∷ []) → Passes kind (u ++ t ∷ []) → Says kind u t
-limit_says NestedTooDeeply u t h on over = (on, over)
-limit_says TooManyNodes u t h on over = (on, over)
-limit_says _ u t h on over = absurd h
+-- where these plain symbols lead from a sound state is one
+leads_sound : (ps : List Symbol) (x y : State) → Sound x → leads ps x ≡ Some y → Sound y
+leads_sound [] x y h is = let same : x ≡ y = cc in subst Sound same h
+leads_sound (t ∷ ps) x y h is = let g = goes_some (leads ps) (step x t) y is in leads_sound ps g.0 y (step_sound x g.0 t h g.1).1 g.2
+
+-- a section that begins with the symbols is no smaller than what is least behind them
+least_of : (ts us : List Symbol) (opens : List (List ℕ)) (x : State) (ds : Declarations) → Behind ts opens x → IsSection ds (ts ++ us)
+    → (least_depth x ≤ depth_of_declarations ds) × (least_nodes x ≤ nodes_of_declarations ds)
+least_of ts us opens x ds b is =
+    let r = in_front_some b.plainly (plain us opens) is.plainly (sym (b.brackets us) ∙ is.brackets) in
+    let whole : reading is.plainly ≡ Ok ds = complete ds is.plainly is.section in
+    run_up r.0 x ds (leads_sound b.plainly (due (in_section no_declarations)) x tt b.comes) (sym (reads b r.0) ∙ ap reading (sym r.2) ∙ whole)
+
+limit_says : (kind : SourceKind) (u : List Symbol) (t : Symbol) (opens : List (List ℕ)) (x : State) → IsLimit kind → Begins Any (u ++ t ∷ []) → Behind (u ++ t ∷ []) opens x → Passed kind x → Says kind u t
+limit_says NestedTooDeeply u t opens x h on b over = (on, λ w. let a = (least_of (u ++ t ∷ []) w.0 opens x w.1 b w.2).0 in let c = w.3 in omega (arith, a, c, over))
+limit_says TooManyNodes u t opens x h on b over = (on, λ w. let a = (least_of (u ++ t ∷ []) w.0 opens x w.1 b w.2).1 in let c = w.3.1 in omega (arith, a, c, over))
+limit_says _ u t opens x h on b over = absurd h
 
 -- a limit is told where a section begins with the symbols, and the least passes it
 pub limit_told : (kind : SourceKind) (q : Refused SourceFault) (new : Frames) (xs : List (Bor (List ℕ))) (u : List Symbol) (t : Symbol) (opens : List (List ℕ)) (x : State) → IsLimit kind
     → q ≡ Fault (record { line = t.line; kind = kind }) → Behind (u ++ t ∷ []) opens x → Passed kind x → Advances new xs (Err q) u t
 limit_told kind q new xs u t opens x limits is b over =
     let P : Refused SourceFault → Type 0 = λ z. Advances new xs (Err z) u t in
-    subst P (sym is) (refl, limit_says kind u t limits (behind_begins (u ++ t ∷ []) opens x b) (opens, x, b, over))
+    subst P (sym is) (refl, limit_says kind u t opens x limits (behind_begins (u ++ t ∷ []) opens x b) b over)
 
 -- a fault that is told at one of the symbols
 pub told_of : (r : Refused SourceFault) (new : Frames) (xs : List (Bor (List ℕ))) (ts : List Token) (i : ℕ) (t : Token) (end : ℕ) (opens : List (List ℕ)) (x : State) → i < length ts → t ≡ get_or ts i t
@@ -70,12 +89,12 @@ ended (Err (Fault f)) ts opens x end b h = inr (record {
 ended (Err Memory) ts opens x end b h = tt
 ended (Err Device) ts opens x end b h = absurd h
 
-told_only : (kind : SourceKind) (u : List Symbol) (t : Symbol) (more : List Symbol) (ds : Declarations) → Says kind u t → IsSection ds ((u ++ t ∷ []) ++ more) → IsLimit kind
-told_only WrongSectionTag u t more ds h is = absurd (tag_stands (u ++ t ∷ []) more ds h.1 is)
-told_only UnexpectedSymbol u t more ds h is = absurd (h.1.1 (more, ds, is, tt))
-told_only NestedTooDeeply u t more ds h is = tt
-told_only TooManyNodes u t more ds h is = tt
-told_only _ u t more ds h is = absurd h
+told_only : (kind : SourceKind) (u : List Symbol) (t : Symbol) (more : List Symbol) (ds : Declarations) → Says kind u t → IsSection ds ((u ++ t ∷ []) ++ more) → Within ds → ⊥
+told_only WrongSectionTag u t more ds h is w = tag_stands (u ++ t ∷ []) more ds h.1 is
+told_only UnexpectedSymbol u t more ds h is w = h.1.1 (more, ds, is, tt)
+told_only NestedTooDeeply u t more ds h is w = h.1 (more, ds, is, w.0)
+told_only TooManyNodes u t more ds h is w = h.1 (more, ds, is, w)
+told_only _ u t more ds h is w = h
 
 -- where the symbols are a section
 pub gives_only : (r : Result Section (Refused SourceFault)) (ts : List Symbol) (end : ℕ) → Parses r ts end → (ds : Declarations) → IsSection ds ts → Gives r ds
@@ -84,7 +103,7 @@ gives_only (Err (Fault f)) ts end p ds is = elim p [
   | inl a ↦
       let P : List Symbol → Type 0 = λ z. IsSection ds z in
       told_only f.kind a.before a.at a.more ds a.says (subst P (a.parts ∙ sym (append_assoc a.before (a.at ∷ []) a.more)) is)
-  | inr e ↦ absurd (e.stands ds is)
+  | inr e ↦ λ w. e.stands ds is
 ]
 gives_only (Err Memory) ts end p ds is = tt
 gives_only (Err Device) ts end p ds is = absurd p

@@ -13,12 +13,11 @@ use Rattle.bk_syntax.specs.declared.frame.Now.{Now}
 use Rattle.bk_syntax.specs.declared.frame.Stop.{Stop}
 use Rattle.bk_syntax.specs.declared.frame.Stop.TheVariants as s
 use Rattle.bk_syntax.specs.declared.section.Section.{Section}
-use Rattle.bk_syntax.specs.Tree.{Declarations, declarations_in}
+use Rattle.bk_syntax.specs.Tree.{Declarations, declarations_in, no_declarations}
+use Rattle.bk_syntax.specs.Limits.{Within}
 use Rattle.bk_syntax.specs.Brackets.{closed_by, in_front, plain}
-use Rattle.bk_syntax.specs.SyntaxFault.{IsSection, Begins, Any, Stands, StandsAtEnd}
-use Rattle.bk_syntax.specs.Machine.{State, step, run}
-use Rattle.bk_syntax.specs.Bounds.{Passed}
-use Rattle.bk_syntax.specs.SyntaxLaws.{reading}
+use Rattle.bk_syntax.specs.SyntaxFault.{IsSection, Begins, Any, Shallow, Stands, StandsAtEnd}
+use Rattle.bk_syntax.specs.Machine.{State, due, in_section, step}
 use Rattle.bk_syntax.specs.Frames.{stack_of, state}
 
 -- the tags of the open sections in upper case, the innermost first
@@ -43,23 +42,24 @@ abbrev pub steps : ℕ → Symbol → State → Option State
 steps zero t x = Some x
 steps (suc n) t x = goes_to (steps n t) (step x t)
 
+-- where these plain symbols lead
+abbrev pub leads : List Symbol → State → Option State
+leads [] x = Some x
+leads (t ∷ ts) x = goes_to (leads ts) (step x t)
+
 -- behind these symbols these sections are open, and the machine is in this state
 pub record Behind (ts : List Symbol) (opens : List (List ℕ)) (x : State) : Type 0 where
   pub plainly : List Symbol
   pub brackets : (us : List Symbol) → plain (ts ++ us) [] ≡ in_front plainly (plain us opens)
-  pub reads : (us : List Symbol) → reading (plainly ++ us) ≡ run us x
-
--- behind these symbols the least section that goes on passes the limit of this kind
-abbrev pub Passes : SourceKind → List Symbol → Type 0
-Passes kind ts = (opens : List (List ℕ)) × (x : State) × Behind ts opens x × Passed kind x
+  pub comes : leads plainly (due (in_section no_declarations)) ≡ Some x
 
 -- What a fault of this kind, told at the symbol t behind u, says. Of a limit it is said that a section begins with the
--- symbols up to and with t, and that by what was begun the least of them passes it.
+-- symbols up to and with t, and that none that does is within it.
 abbrev pub Says : SourceKind → List Symbol → Symbol → Type 0
 Says WrongSectionTag u t = Stands WrongSectionTag u t
 Says UnexpectedSymbol u t = Stands UnexpectedSymbol u t
-Says NestedTooDeeply u t = Begins Any (u ++ t ∷ []) × Passes NestedTooDeeply (u ++ t ∷ [])
-Says TooManyNodes u t = Begins Any (u ++ t ∷ []) × Passes TooManyNodes (u ++ t ∷ [])
+Says NestedTooDeeply u t = Begins Any (u ++ t ∷ []) × (Begins Shallow (u ++ t ∷ []) → ⊥)
+Says TooManyNodes u t = Begins Any (u ++ t ∷ []) × (Begins Within (u ++ t ∷ []) → ⊥)
 Says _ u t = ⊥
 
 abbrev pub IsLimit : SourceKind → Type 0
@@ -115,9 +115,9 @@ Parses (Err (Fault f)) ts end = ToldAt f ts ⊎ ToldAtEnd f ts end
 Parses (Err Memory) ts end = Unit {0}
 Parses (Err Device) ts end = ⊥
 
--- what is answered where the symbols are the section of this tree
+-- what is answered where the symbols are the section of this tree: a fault only where it passes a limit
 abbrev pub Gives : Result Section (Refused SourceFault) → Declarations → Type 0
 Gives (Ok x) ds = declarations_of x ≡ ds
-Gives (Err (Fault f)) ds = IsLimit f.kind
+Gives (Err (Fault f)) ds = Within ds → ⊥
 Gives (Err Memory) ds = Unit {0}
 Gives (Err Device) ds = ⊥

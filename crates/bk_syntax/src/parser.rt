@@ -410,13 +410,13 @@ fn at_end(
 /// The section that these symbols are, the end of which is on line `end`, or the fault that stands at the first symbol
 /// after which no section goes on.
 ///
-/// That every section which begins so passes a limit that is told no clause says.
+/// A limit is told at a symbol up to and with which a section begins, but none within the limit.
 pub fn parse(alloc: Global, tokens: &[Token], end: Line) -> Result<Section, Refused<SourceFault>>
     // What is answered is a tree of the symbols, or a fault that stands where a section begins with the symbols before it.
     ensures parses { Parses result (symbols_of tokens.now) end }
     // The tree is within the limits.
     ensures within { IfOk result (λ section. Within (declarations_of section)) }
-    // Where the symbols are a section, its tree is answered, unless a limit or memory keeps it back.
+    // Where the symbols are a section within the limits, its tree is answered, unless memory keeps it back.
     ensures only { (ds : Declarations) → IsSection ds (symbols_of tokens.now) → Gives result ds }
 {
     let mut frames = Frames {
