@@ -89,12 +89,12 @@ ended (Err (Fault f)) ts opens x end b h = inr (record {
 ended (Err Memory) ts opens x end b h = tt
 ended (Err Device) ts opens x end b h = absurd h
 
-told_only : (kind : SourceKind) (u : List Symbol) (t : Symbol) (more : List Symbol) (ds : Declarations) → Says kind u t → IsSection ds ((u ++ t ∷ []) ++ more) → Within ds → ⊥
-told_only WrongSectionTag u t more ds h is w = tag_stands (u ++ t ∷ []) more ds h.1 is
-told_only UnexpectedSymbol u t more ds h is w = h.1.1 (more, ds, is, tt)
-told_only NestedTooDeeply u t more ds h is w = h.1 (more, ds, is, w.0)
-told_only TooManyNodes u t more ds h is w = h.1 (more, ds, is, w)
-told_only _ u t more ds h is w = h
+told_only : (kind : SourceKind) (u : List Symbol) (t : Symbol) (more : List Symbol) (ds : Declarations) → Says kind u t → IsSection ds ((u ++ t ∷ []) ++ more) → IsLimit kind × (Within ds → ⊥)
+told_only WrongSectionTag u t more ds h is = absurd (tag_stands (u ++ t ∷ []) more ds h.1 is)
+told_only UnexpectedSymbol u t more ds h is = absurd (h.1.1 (more, ds, is, tt))
+told_only NestedTooDeeply u t more ds h is = (tt, λ w. h.1 (more, ds, is, w.0))
+told_only TooManyNodes u t more ds h is = (tt, λ w. h.1 (more, ds, is, w))
+told_only _ u t more ds h is = absurd h
 
 -- where the symbols are a section
 pub gives_only : (r : Result Section (Refused SourceFault)) (ts : List Symbol) (end : ℕ) → Parses r ts end → (ds : Declarations) → IsSection ds ts → Gives r ds
@@ -103,7 +103,7 @@ gives_only (Err (Fault f)) ts end p ds is = elim p [
   | inl a ↦
       let P : List Symbol → Type 0 = λ z. IsSection ds z in
       told_only f.kind a.before a.at a.more ds a.says (subst P (a.parts ∙ sym (append_assoc a.before (a.at ∷ []) a.more)) is)
-  | inr e ↦ λ w. e.stands ds is
+  | inr e ↦ absurd (e.stands ds is)
 ]
 gives_only (Err Memory) ts end p ds is = tt
 gives_only (Err Device) ts end p ds is = absurd p

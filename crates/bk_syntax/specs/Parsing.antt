@@ -115,9 +115,9 @@ Parses (Err (Fault f)) ts end = ToldAt f ts ⊎ ToldAtEnd f ts end
 Parses (Err Memory) ts end = Unit {0}
 Parses (Err Device) ts end = ⊥
 
--- what is answered where the symbols are the section of this tree: a fault only where it passes a limit
+-- what is answered where the symbols are the section of this tree: a limit only where it passes one
 abbrev pub Gives : Result Section (Refused SourceFault) → Declarations → Type 0
 Gives (Ok x) ds = declarations_of x ≡ ds
-Gives (Err (Fault f)) ds = Within ds → ⊥
+Gives (Err (Fault f)) ds = IsLimit f.kind × (Within ds → ⊥)
 Gives (Err Memory) ds = Unit {0}
 Gives (Err Device) ds = ⊥
