@@ -1,20 +1,23 @@
 -- Symbols with which the machine goes on begin a section.
-use Rattle.std.proofs.Common.{◌≡◌, ℕ, Bool, true, false, cond, List, [], ◌∷◌, ◌++◌, Option, Some, None, Ok, Err, refl, sym, ap, subst, ◌∙◌}
+use Rattle.std.proofs.Common.{◌≡◌, ◌≤◌, arith, ℕ, Bool, true, false, cond, List, [], ◌∷◌, ◌++◌, Option, Some, None, Ok, Err, refl, sym, ap, subst, ◌∙◌}
 use Rattle.bk_lex.specs.declared.token.Kind.{Kind}
 use Rattle.bk_lex.specs.declared.token.Kind.TheVariants as k
 use Rattle.bk_lex.specs.Symbol.{Symbol}
 use Rattle.bk_syntax.specs.Tree.{Declarations, no_declarations}
 use Rattle.bk_syntax.specs.Spelling.{tag_of}
 use Rattle.bk_syntax.specs.Brackets.{Closing, same_tag, one_more, up_to_tag, without_tag, closed_by, in_front, plain}
-use Rattle.bk_syntax.specs.SyntaxFault.{Begins, Any}
+use Rattle.bk_base.specs.declared.limit.TheConstants.{TREE_DEPTH}
+use Rattle.bk_syntax.specs.Limits.{depth_of_declarations}
+use Rattle.bk_syntax.specs.Sizes.{least_depth}
+use Rattle.bk_syntax.specs.SyntaxFault.{Begins, Any, Shallow}
 use Rattle.bk_syntax.specs.Machine.{State, due, in_section, opens, closes, stepped_by, step, run}
 use Rattle.bk_syntax.specs.SyntaxLaws.{reading}
-use Rattle.bk_syntax.specs.Parsing.{Behind}
+use Rattle.bk_syntax.specs.Parsing.{goes_to, leads, Behind}
 use Rattle.bk_syntax.proofs.Steps.{stepped}
 use Rattle.bk_syntax.proofs.Before.{opens_kind, closes_kind}
 use Rattle.bk_syntax.proofs.Stands.{whole_err}
 use Rattle.bk_syntax.proofs.Exact.{reads_the_grammar}
-use Rattle.bk_syntax.proofs.Behind.{plain_open, plain_other, plain_close, plain_all, reading_all, run_end, stopped}
+use Rattle.bk_syntax.proofs.Behind.{leads_both, leads_runs, plain_end, plain_open, plain_other, plain_close, plain_all, reading_all, run_end, stopped}
 use Rattle.bk_syntax.proofs.Fits.{Tagged, Fits, Fit, FitUnder, After}
 use Rattle.bk_syntax.proofs.Fitting.{step_fits}
 use Rattle.bk_syntax.proofs.Completions.{state_ends}
@@ -27,7 +30,7 @@ Passes ps x = (t : Symbol) (v : List Symbol) → run ps x ≡ Err (t ∷ v) → 
 record Walk (ps : List Symbol) (os : List (List ℕ)) (x : State) (left : List (List ℕ)) : Type 0 where
   next : State
   fits : Fits next left
-  runs : (us : List Symbol) → run (ps ++ us) x ≡ run us next
+  comes : leads ps x ≡ Some next
 
 -- ---- one plain symbol
 
@@ -46,7 +49,7 @@ shut_fits : (y : State) (tag : List ℕ) (os : List (List ℕ)) → FitUnder (So
 shut_fits y tag os f = f.1
 
 walk_one : (t : Symbol) (ps : List Symbol) (os left : List (List ℕ)) (x : State) → ((y : State) → step x t ≡ Some y → Fits y left) → Passes (t ∷ ps) x → Walk (t ∷ []) os x left
-walk_one t ps os left x f h = let p = passed t ps x (step x t) refl h in record { next = p.0; fits = f p.0 p.1; runs = λ us. stepped x p.0 t us p.1 }
+walk_one t ps os left x f h = let p = passed t ps x (step x t) refl h in record { next = p.0; fits = f p.0 p.1; comes = ap (goes_to (leads [])) p.1 }
 
 -- ---- closings
 
@@ -88,7 +91,7 @@ close_fits x t os is f y s =
     subst Q s (subst P (closes_kind t.kind is) (step_fits x t os f))
 
 walk_closings : (t : Symbol) (qs ps : List Symbol) (os left : List (List ℕ)) (x : State) → closes t.kind ≡ true → Pops t qs os left → Fits x os → Passes (qs ++ ps) x → Walk qs os x left
-walk_closings t [] ps os left x is h f p = record { next = x; fits = subst (Fits x) h f; runs = λ us. refl }
+walk_closings t [] ps os left x is h f p = record { next = x; fits = subst (Fits x) h f; comes = refl }
 walk_closings t (q ∷ qs) ps [] left x is h f p =
     let P : Symbol → Type 0 = λ z. closes z.kind ≡ true in
     let s = passed q (qs ++ ps) x (step x q) refl p in
@@ -97,18 +100,19 @@ walk_closings t (q ∷ qs) ps (tag ∷ os) left x is h f p =
     let P : Symbol → Type 0 = λ z. closes z.kind ≡ true in
     let s = passed q (qs ++ ps) x (step x q) refl p in
     let w = walk_closings t qs ps os left s.0 is h.1 (close_fits x q (tag ∷ os) (subst P (sym h.0) is) f s.0 s.1).1 (λ u v e. p u v (stepped x s.0 q (qs ++ ps) s.1 ∙ e)) in
-    record { next = w.next; fits = w.fits; runs = λ us. stepped x s.0 q (qs ++ us) s.1 ∙ w.runs us }
+    record { next = w.next; fits = w.fits; comes = ap (goes_to (leads qs)) s.1 ∙ w.comes }
 
 -- ---- one symbol, and the others
 
 -- what one symbol stands for, and what is left of the others
-record Passed (t : Symbol) (ts : List Symbol) (os : List (List ℕ)) (x : State) : Type 0 where
+record Passed (t : Symbol) (ts ps : List Symbol) (os : List (List ℕ)) (x : State) : Type 0 where
   closings : List Symbol
   left : List (List ℕ)
   brackets : (us : List Symbol) → plain (t ∷ us) os ≡ in_front closings (plain us left)
   walk : Walk closings os x left
   rest : List Symbol
   others : plain ts left ≡ Some rest
+  parts : ps ≡ closings ++ rest
   passes : Passes rest walk.next
 
 pub in_front_some : (qs : List Symbol) (r : Option (List Symbol)) (ps : List Symbol) → in_front qs r ≡ Some ps → (rest : List Symbol) × (r ≡ Some rest) × (ps ≡ qs ++ rest)
@@ -117,13 +121,13 @@ in_front_some qs (Some us) ps h = (us, refl, cc)
 
 -- one symbol that stands for these
 pass : (t : Symbol) (ts ps : List Symbol) (os left : List (List ℕ)) (x : State) (qs : List Symbol) → ((us : List Symbol) → plain (t ∷ us) os ≡ in_front qs (plain us left)) → plain (t ∷ ts) os ≡ Some ps → Passes ps x
-    → ((rest : List Symbol) → Passes (qs ++ rest) x → Walk qs os x left) → Passed t ts os x
+    → ((rest : List Symbol) → Passes (qs ++ rest) x → Walk qs os x left) → Passed t ts ps os x
 pass t ts ps os left x qs b h p w =
     let r = in_front_some qs (plain ts left) ps (sym (b ts) ∙ h) in
     let P : List Symbol → Type 0 = λ z. Passes z x in
     let q = subst P r.2 p in
     let walk = w r.0 q in
-    record { closings = qs; left = left; brackets = b; walk = walk; rest = r.0; others = r.1; passes = λ u v e. q u v (walk.runs r.0 ∙ e) }
+    record { closings = qs; left = left; brackets = b; walk = walk; rest = r.0; others = r.1; parts = r.2; passes = λ u v e. q u v (leads_runs qs x walk.next r.0 walk.comes ∙ e) }
 
 tag_tagged : (x : List ℕ) → Tagged (tag_of x)
 tag_tagged [] = ([], refl)
@@ -142,40 +146,59 @@ other_fits x t os o c f y s =
     let Q : Option State → Type 0 = λ z. Fit z os in
     subst Q s (plain_fits t.kind (step x t) os o c (step_fits x t os f))
 
-pass_close : (t : Symbol) (ts ps : List Symbol) (os : List (List ℕ)) (x : State) (r : Option Closing) → closes t.kind ≡ true → Fits x os → closed_by t (tag_of t.text) os ≡ r → plain (t ∷ ts) os ≡ Some ps → Passes ps x → Passed t ts os x
+pass_close : (t : Symbol) (ts ps : List Symbol) (os : List (List ℕ)) (x : State) (r : Option Closing) → closes t.kind ≡ true → Fits x os → closed_by t (tag_of t.text) os ≡ r → plain (t ∷ ts) os ≡ Some ps → Passes ps x → Passed t ts ps os x
 pass_close t ts ps os x None is f e h p = absurd (let w = plain_close t ts os None is e in cc)
 pass_close t ts ps os x (Some c) is f e h p =
     let P : Option Closing → Type 0 = λ z. PopsAll t os z in
     let pops = subst P e (closed_pops t (tag_of t.text) os) in
     pass t ts ps os c.still x c.closings (λ us. plain_close t us os (Some c) is e) h p (λ rest q. walk_closings t c.closings rest os c.still x is pops f q)
 
-pass_open : (b : Bool) (t : Symbol) (ts ps : List Symbol) (os : List (List ℕ)) (x : State) → opens t.kind ≡ b → closes t.kind ≡ false → Fits x os → plain (t ∷ ts) os ≡ Some ps → Passes ps x → Passed t ts os x
+pass_open : (b : Bool) (t : Symbol) (ts ps : List Symbol) (os : List (List ℕ)) (x : State) → opens t.kind ≡ b → closes t.kind ≡ false → Fits x os → plain (t ∷ ts) os ≡ Some ps → Passes ps x → Passed t ts ps os x
 pass_open true t ts ps os x o c f h p = pass t ts ps os (tag_of t.text ∷ os) x (t ∷ []) (λ us. plain_open t us os o) h p (λ rest q. walk_one t rest os (tag_of t.text ∷ os) x (open_fits x t os o f) q)
 pass_open false t ts ps os x o c f h p = pass t ts ps os os x (t ∷ []) (λ us. plain_other t us os o c) h p (λ rest q. walk_one t rest os os x (other_fits x t os o c f) q)
 
-pass_symbol : (b : Bool) (t : Symbol) (ts ps : List Symbol) (os : List (List ℕ)) (x : State) → closes t.kind ≡ b → Fits x os → plain (t ∷ ts) os ≡ Some ps → Passes ps x → Passed t ts os x
+pass_symbol : (b : Bool) (t : Symbol) (ts ps : List Symbol) (os : List (List ℕ)) (x : State) → closes t.kind ≡ b → Fits x os → plain (t ∷ ts) os ≡ Some ps → Passes ps x → Passed t ts ps os x
 pass_symbol true t ts ps os x c f h p = pass_close t ts ps os x (closed_by t (tag_of t.text) os) c f refl h p
 pass_symbol false t ts ps os x c f h p = pass_open (opens t.kind) t ts ps os x refl c f h p
 
--- these symbols and more are read to the end
-record Completed (ts : List Symbol) (os : List (List ℕ)) (x : State) : Type 0 where
+-- these symbols, plainly these, lead to a state, and with more of them they are read to the end of a section that is no deeper
+-- than the least that goes on from there
+record Completed (ts ps : List Symbol) (os : List (List ℕ)) (x : State) : Type 0 where
+  last : State
+  comes : leads ps x ≡ Some last
   more : List Symbol
   plainly : List Symbol
   brackets : plain (ts ++ more) os ≡ Some plainly
   tree : Declarations
   runs : run plainly x ≡ Ok tree
+  depth : depth_of_declarations tree ≤ least_depth last
 
-complete_from : (ts ps : List Symbol) (os : List (List ℕ)) (x : State) → Fits x os → plain ts os ≡ Some ps → Passes ps x → Completed ts os x
-complete_from [] ps os x f h p = let e = state_ends x os f in record { more = e.symbols; plainly = e.symbols; brackets = e.brackets; tree = e.tree; runs = e.runs }
+complete_from : (ts ps : List Symbol) (os : List (List ℕ)) (x : State) → Fits x os → plain ts os ≡ Some ps → Passes ps x → Completed ts ps os x
+complete_from [] ps os x f h p =
+    let none : ps ≡ [] = let q = plain_end os in cc in
+    let e = state_ends x os f in
+    record {
+      last = x;
+      comes = ap (λ z. leads z x) none;
+      more = e.symbols;
+      plainly = e.symbols;
+      brackets = e.brackets;
+      tree = e.tree;
+      runs = e.runs;
+      depth = e.depth;
+    }
 complete_from (t ∷ ts) ps os x f h p =
     let s = pass_symbol (closes t.kind) t ts ps os x refl f h p in
     let r = complete_from ts s.rest s.left s.walk.next s.walk.fits s.others s.passes in
     record {
+      last = r.last;
+      comes = ap (λ z. leads z x) s.parts ∙ leads_both s.closings s.rest x s.walk.next s.walk.comes ∙ r.comes;
       more = r.more;
       plainly = s.closings ++ r.plainly;
       brackets = s.brackets (ts ++ r.more) ∙ ap (in_front s.closings) r.brackets;
       tree = r.tree;
-      runs = s.walk.runs r.plainly ∙ r.runs;
+      runs = leads_runs s.closings x s.walk.next r.plainly s.walk.comes ∙ r.runs;
+      depth = r.depth;
     }
 
 -- behind all the symbols nothing is left at which the machine could stop
@@ -187,5 +210,20 @@ goes_on_begins ts ps h p =
     let r = complete_from ts ps [] (due (in_section no_declarations)) refl h p in
     (r.more, r.tree, record { plainly = r.plainly; brackets = r.brackets; section = (reads_the_grammar r.tree r.plainly).1 r.runs }, tt)
 
+-- what was read so far
+behind_completed : (ts : List Symbol) (opens : List (List ℕ)) (x : State) (b : Behind ts opens x) → Completed ts b.plainly [] (due (in_section no_declarations))
+behind_completed ts opens x b = complete_from ts b.plainly [] (due (in_section no_declarations)) refl (plain_all ts opens x b) (λ t v e. none_left x t v (sym (reading_all ts opens x b) ∙ e))
+
 pub behind_begins : (ts : List Symbol) (opens : List (List ℕ)) (x : State) → Behind ts opens x → Begins Any ts
-behind_begins ts opens x b = goes_on_begins ts b.plainly (plain_all ts opens x b) (λ t v e. none_left x t v (sym (reading_all ts opens x b) ∙ e))
+behind_begins ts opens x b =
+    let r = behind_completed ts opens x b in
+    (r.more, r.tree, record { plainly = r.plainly; brackets = r.brackets; section = (reads_the_grammar r.tree r.plainly).1 r.runs }, tt)
+
+-- where the least that goes on is no deeper than the limit, so is a section that begins with the symbols
+pub behind_shallow : (ts : List Symbol) (opens : List (List ℕ)) (x : State) → Behind ts opens x → least_depth x ≤ TREE_DEPTH → Begins Shallow ts
+behind_shallow ts opens x b within =
+    let r = behind_completed ts opens x b in
+    let last : r.last ≡ x = let p = r.comes in let q = b.comes in cc in
+    let P : State → Type 0 = λ z. depth_of_declarations r.tree ≤ least_depth z in
+    let d = subst P last r.depth in
+    (r.more, r.tree, record { plainly = r.plainly; brackets = r.brackets; section = (reads_the_grammar r.tree r.plainly).1 r.runs }, omega (arith, d, within))

@@ -53,7 +53,7 @@ pub goes_some : (f : State → Option State) (r : Option State) (y : State) → 
 goes_some f None y h = absurd cc
 goes_some f (Some z) y h = (z, refl, h)
 
-leads_both : (ps qs : List Symbol) (x y : State) → leads ps x ≡ Some y → leads (ps ++ qs) x ≡ leads qs y
+pub leads_both : (ps qs : List Symbol) (x y : State) → leads ps x ≡ Some y → leads (ps ++ qs) x ≡ leads qs y
 leads_both [] qs x y h = let same : x ≡ y = cc in ap (leads qs) same
 leads_both (t ∷ ps) qs x y h = let g = goes_some (leads ps) (step x t) y h in ap (goes_to (leads (ps ++ qs))) g.1 ∙ leads_both ps qs g.0 y g.2
 
@@ -61,7 +61,7 @@ leads_then : (ps : List Symbol) (n : ℕ) (t : Symbol) (r : Option State) → ((
 leads_then ps n t None h = refl
 leads_then ps n t (Some x) h = h x
 
-leads_runs : (ps : List Symbol) (x y : State) (us : List Symbol) → leads ps x ≡ Some y → run (ps ++ us) x ≡ run us y
+pub leads_runs : (ps : List Symbol) (x y : State) (us : List Symbol) → leads ps x ≡ Some y → run (ps ++ us) x ≡ run us y
 leads_runs [] x y us h = let same : x ≡ y = cc in ap (run us) same
 leads_runs (t ∷ ps) x y us h = let g = goes_some (leads ps) (step x t) y h in stepped x g.0 t (ps ++ us) g.1 ∙ leads_runs ps g.0 y us g.2
 

@@ -89,12 +89,19 @@ ForSymbol (at_forward l n st) = ForCommand st
 ForSymbol (at_default l st) = ForCommand st
 ForSymbol _ = λ opens. ⊥
 
+-- a command may be missing
+abbrev pub MayMiss : Stack → Type 0
+MayMiss (in_label l x st) = Unit {0}
+MayMiss (in_guarded gd l e st) = Unit {0}
+MayMiss (in_default l st) = Unit {0}
+MayMiss _ = ⊥
+
 -- the machine comes to this state with these sections open
 abbrev pub Fits : State → List (List ℕ) → Type 0
 Fits (want st) = ForExpression st
 Fits (have st e) = ForExpression st
 Fits (begin st) = ForCommand st
-Fits (maybe st) = ForCommand st
+Fits (maybe st) = λ opens. MayMiss st × ForCommand st opens
 Fits (did st c) = ForCommand st
 Fits (due st) = ForSymbol st
 

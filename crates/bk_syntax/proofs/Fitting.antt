@@ -131,7 +131,7 @@ dests_fits k.SectionClose xs st os some h = tt
 dests_fits _ xs st os some h = tt
 
 labelled_fits : (e : Expression) (st : Stack) (os : List (List ℕ)) → ForCommand st os → Fit (labelled e st) os
-labelled_fits (name l x) st os h = h
+labelled_fits (name l x) st os h = (tt, h)
 labelled_fits _ st os h = tt
 
 to_or_do_fits : (t : Kind) (l : ℕ) (n : Mention) (a b : Expression) (st : Stack) (os : List (List ℕ)) → ForCommand st os → After t (to_or_do l n a b st t) os
@@ -147,7 +147,7 @@ guard_fits g.Unless m e st os h = h
 guard_fits g.While m e st os h = h
 guard_fits g.Until m e st os h = h
 guard_fits g.SwitchOn m e st os h = h
-guard_fits g.Case m e st os h = h
+guard_fits g.Case m e st os h = (tt, h)
 
 -- ---- declarations
 
@@ -318,13 +318,13 @@ due_fits t (at_sign m s is n st) l x os h = sign_or (is_equal t) k.Equal t (want
 due_fits t (at_goto m st) l x os h = named_fits t l x _ os (λ n. h)
 due_fits t (at_for m st) l x os h = named_fits t l x (λ n. due (at_forward m n st)) os (λ n. h)
 due_fits t (at_forward m n st) l x os h = sign (is_equal t) k.Equal t (want (in_from m n st)) os (is_equal_kind t) h
-due_fits t (at_default m st) l x os h = sign (is_colon t) k.Colon t (maybe (in_default m st)) os (is_colon_kind t) h
+due_fits t (at_default m st) l x os h = sign (is_colon t) k.Colon t (maybe (in_default m st)) os (is_colon_kind t) (tt, h)
 due_fits t _ l x os h = absurd h
 
 pub step_fits : (x : State) (t : Symbol) (os : List (List ℕ)) → Fits x os → After t.kind (step x t) os
 step_fits (want st) t os h = operand_fits t.kind st t.line t.text os h
 step_fits (have st e) t os h = give_fits t.kind st e t.line t.text os h
 step_fits (begin st) t os h = command_fits t.kind st t.line t.text os h
-step_fits (maybe st) t os h = either (begins_command t.kind) t.kind _ _ os (λ b. command_fits t.kind st t.line t.text os h) (λ b. without_fits t.kind st t.line t.text os h)
+step_fits (maybe st) t os h = either (begins_command t.kind) t.kind _ _ os (λ b. command_fits t.kind st t.line t.text os h.1) (λ b. without_fits t.kind st t.line t.text os h.1)
 step_fits (did st c) t os h = finish_fits t.kind st c t.line t.text os h
 step_fits (due st) t os h = due_fits t.kind st t.line t.text os h

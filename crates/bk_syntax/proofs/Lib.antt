@@ -26,4 +26,5 @@ pub mod Told
 pub mod Sizes
 pub mod Lifts
 pub mod Finished
+pub mod Rises
 pub mod Bounding

@@ -1,13 +1,13 @@
 -- Frames as a stack.
-use Rattle.std.proofs.Common.{◌≡◌, ℕ, zero, suc, Bool, true, false, if◌then◌else◌, Some, slice_get, sym, subst, ◌+◌, ◌<◌, List, [], ◌∷◌, ◌++◌, length, get_or, take, refl, sym, ap, ◌∙◌}
+use Rattle.std.proofs.Common.{◌≡◌, ℕ, zero, suc, Bool, true, false, if◌then◌else◌, Option, Some, None, append-nil, slice_get, sym, subst, ◌+◌, ◌<◌, List, [], ◌∷◌, ◌++◌, length, get_or, take, refl, sym, ap, ◌∙◌}
+use Rattle.std.specs.Option.{option_to_list}
 use Rattle.std.proofs.lemmas.List.{take_more}
 use Rattle.bk_syntax.specs.declared.frame.Frame.{Frame}
 use Rattle.bk_syntax.specs.declared.tree.Decl.{Decl}
 use Rattle.bk_syntax.specs.Tree.{declarations_in}
 use Rattle.bk_syntax.specs.Machine.{Stack, in_section}
-use Rattle.bk_syntax.specs.Begun.{begun_on, form_above}
-use Rattle.bk_syntax.specs.Sizes.{IsLift}
-use Rattle.bk_syntax.specs.Stacked.{above, stack, Lifts}
+use Rattle.bk_syntax.specs.Begun.{begun_on}
+use Rattle.bk_syntax.specs.Stacked.{above, stack, IsBelow, Lifts}
 
 above_push : (st : Stack) (xs : List Frame) (x : Frame) → above st (xs ++ x ∷ []) ≡ begun_on x.begun (above st xs)
 above_push st [] x = refl
@@ -30,10 +30,10 @@ stack_take ds xs i x lt is = ap (stack ds) (take_more xs i x lt ∙ ap (λ y. ta
 -- each of them says how the whole depends on it: above any stack
 
 abbrev LiftsOn : Stack → List Frame → Type 0
-LiftsOn st xs = (i : ℕ) (x : Frame) → slice_get xs i ≡ Some x → IsLift x.below (above st (take i xs)) (form_above x.begun)
+LiftsOn st xs = (i : ℕ) (x : Frame) → slice_get xs i ≡ Some x → IsBelow x (above st (take i xs))
 
-lifts_on_push : (st : Stack) (xs : List Frame) (w : Frame) → LiftsOn st xs → IsLift w.below (above st xs) (form_above w.begun) → LiftsOn st (xs ++ w ∷ [])
-lifts_on_push st [] w h g zero x is = let P : Frame → Type 0 = λ y. IsLift y.below st (form_above y.begun) in let e : w ≡ x = cc in subst P e g
+lifts_on_push : (st : Stack) (xs : List Frame) (w : Frame) → LiftsOn st xs → IsBelow w (above st xs) → LiftsOn st (xs ++ w ∷ [])
+lifts_on_push st [] w h g zero x is = let P : Frame → Type 0 = λ y. IsBelow y st in let e : w ≡ x = cc in subst P e g
 lifts_on_push st [] w h g (suc i) x is = absurd cc
 lifts_on_push st (y ∷ ys) w h g zero x is = h zero x is
 lifts_on_push st (y ∷ ys) w h g (suc i) x is = lifts_on_push (begun_on y.begun st) ys w (λ j z. h (suc j) z) g i x is
@@ -43,11 +43,11 @@ lifts_on_pop st [] w h i x is = absurd cc
 lifts_on_pop st (y ∷ ys) w h zero x is = h zero x is
 lifts_on_pop st (y ∷ ys) w h (suc i) x is = lifts_on_pop (begun_on y.begun st) ys w (λ j z. h (suc j) z) i x is
 
-lifts_on_top : (st : Stack) (xs : List Frame) (w : Frame) → LiftsOn st (xs ++ w ∷ []) → IsLift w.below (above st xs) (form_above w.begun)
+lifts_on_top : (st : Stack) (xs : List Frame) (w : Frame) → LiftsOn st (xs ++ w ∷ []) → IsBelow w (above st xs)
 lifts_on_top st [] w h = h zero w refl
 lifts_on_top st (y ∷ ys) w h = lifts_on_top (begun_on y.begun st) ys w (λ j z. h (suc j) z)
 
-pub lifts_push : (ds : List Decl) (xs : List Frame) (w : Frame) → Lifts ds xs → IsLift w.below (stack ds xs) (form_above w.begun) → Lifts ds (xs ++ w ∷ [])
+pub lifts_push : (ds : List Decl) (xs : List Frame) (w : Frame) → Lifts ds xs → IsBelow w (stack ds xs) → Lifts ds (xs ++ w ∷ [])
 unfolding stack
 lifts_push ds xs w = lifts_on_push (in_section (declarations_in ds)) xs w
 
@@ -55,13 +55,17 @@ pub lifts_pop : (ds : List Decl) (xs : List Frame) (w : Frame) → Lifts ds (xs 
 unfolding stack
 lifts_pop ds xs w = lifts_on_pop (in_section (declarations_in ds)) xs w
 
-pub lifts_top : (ds : List Decl) (xs : List Frame) (w : Frame) → Lifts ds (xs ++ w ∷ []) → IsLift w.below (stack ds xs) (form_above w.begun)
+pub lifts_top : (ds : List Decl) (xs : List Frame) (w : Frame) → Lifts ds (xs ++ w ∷ []) → IsBelow w (stack ds xs)
 unfolding stack
 lifts_top ds xs w = lifts_on_top (in_section (declarations_in ds)) xs w
 
 pub lifts_none : (ds : List Decl) → Lifts ds []
 lifts_none ds i x is = absurd cc
 
-pub lifts_pushed : (ok : Bool) (ds : List Decl) (xs zs : List Frame) (w : Frame) → zs ≡ (if ok then xs ++ w ∷ [] else xs) → Lifts ds xs → IsLift w.below (stack ds xs) (form_above w.begun) → Lifts ds zs
+pub lifts_pushed : (ok : Bool) (ds : List Decl) (xs zs : List Frame) (w : Frame) → zs ≡ (if ok then xs ++ w ∷ [] else xs) → Lifts ds xs → IsBelow w (stack ds xs) → Lifts ds zs
 lifts_pushed true ds xs zs w is h g = let P : List Frame → Type 0 = λ z. Lifts ds z in subst P (sym is) (lifts_push ds xs w h g)
 lifts_pushed false ds xs zs w is h g = let P : List Frame → Type 0 = λ z. Lifts ds z in subst P (sym is) h
+
+pub lifts_popped : (r : Option Frame) (ds : List Decl) (xs ys : List Frame) → xs ≡ ys ++ option_to_list r → Lifts ds xs → Lifts ds ys
+lifts_popped None ds xs ys is h = let P : List Frame → Type 0 = λ z. Lifts ds z in subst P (is ∙ append-nil ys) h
+lifts_popped (Some w) ds xs ys is h = let P : List Frame → Type 0 = λ z. Lifts ds z in lifts_pop ds ys w (subst P is h)

@@ -19,7 +19,7 @@ use Rattle.bk_syntax.specs.Machine.{Stack, in_section, in_block, in_let, at_name
 use Rattle.bk_syntax.specs.declared.frame.Size.{Size}
 use Rattle.bk_syntax.specs.declared.size.Form.{Form}
 use Rattle.bk_syntax.specs.declared.size.Form.TheVariants as y
-use Rattle.bk_syntax.specs.Sizes.{held_of}
+use Rattle.bk_syntax.specs.Sizes.{carried, held_of}
 
 abbrev pub operand_on : Operand → Stack → Stack
 operand_on (o.Parens l) st = in_parens l st
@@ -88,12 +88,21 @@ begun_on (b.Clause x) st = clause_on x st
 begun_on (b.Place x) st = place_on x st
 begun_on (b.Point x) st = point_on x st
 
+-- the form of what was begun, where a part of this form ends it
+abbrev pub passed : Begun → Form → Form
+passed (b.Operand (o.Unary l q)) f = carried f
+passed (b.Operand (o.Binary q l x)) f = carried f
+passed (b.Operand (o.Chain q l x y)) f = carried f
+passed (b.Operand (o.Else l x y)) f = carried f
+passed (b.Operand (o.Table l es)) f = y.Tabled
+passed (b.Operand (o.Args l x es)) f = y.Call
+passed (b.Operand (o.Parens l)) f = y.Callable
+passed (b.Clause (c.Valof l)) f = y.Callable
+passed _ f = y.Other
+
 -- the form of what was begun
 abbrev pub form_above : Begun → Form
-form_above (b.Operand (o.Args l x es)) = y.Whole
-form_above (b.Operand (o.Parens l)) = y.Callable
-form_above (b.Clause (c.Valof l)) = y.Callable
-form_above _ = y.Other
+form_above x = passed x y.Other
 
 -- the size of the parts that it holds
 abbrev pub held_in : Begun → Size

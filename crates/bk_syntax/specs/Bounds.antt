@@ -10,8 +10,8 @@ use Rattle.bk_syntax.specs.Sizes.{least_depth, least_nodes}
 abbrev pub Bounded : State → Type 0
 Bounded x = (least_depth x ≤ TREE_DEPTH) × (least_nodes x ≤ TREE_NODES)
 
--- it passes the limit of this kind
+-- it passes the limit of this kind, and none that is told before it
 abbrev pub Passed : SourceKind → State → Type 0
 Passed NestedTooDeeply x = TREE_DEPTH < least_depth x
-Passed TooManyNodes x = TREE_NODES < least_nodes x
+Passed TooManyNodes x = (least_depth x ≤ TREE_DEPTH) × (TREE_NODES < least_nodes x)
 Passed _ x = ⊥

@@ -3,7 +3,7 @@ use Rattle.std.specs.Prelude.{ℕ, zero, suc, ◌≡◌, ◌⊎◌, Option, Some
 use Rattle.std.specs.Borrow.{Bor}
 use Rattle.bk_base.specs.declared.source_fault.SourceFault.{SourceFault}
 use Rattle.bk_base.specs.declared.source_fault.SourceKind.{SourceKind}
-use Rattle.bk_base.specs.declared.source_fault.SourceKind.TheVariants.{UnexpectedSymbol, WrongSectionTag, NestedTooDeeply, TooManyNodes}
+use Rattle.bk_base.specs.declared.source_fault.SourceKind.TheVariants.{UnexpectedSymbol, NestedTooDeeply, TooManyNodes}
 use Rattle.bk_base.specs.declared.refused.Refused.{Refused}
 use Rattle.bk_base.specs.declared.refused.Refused.TheVariants.{Fault, Memory, Device}
 use Rattle.bk_lex.specs.Symbol.{Symbol}
@@ -16,7 +16,7 @@ use Rattle.bk_syntax.specs.declared.section.Section.{Section}
 use Rattle.bk_syntax.specs.Tree.{Declarations, declarations_in, no_declarations}
 use Rattle.bk_syntax.specs.Limits.{Within}
 use Rattle.bk_syntax.specs.Brackets.{closed_by, in_front, plain}
-use Rattle.bk_syntax.specs.SyntaxFault.{IsSection, Begins, Any, Shallow, Stands, StandsAtEnd}
+use Rattle.bk_syntax.specs.SyntaxFault.{IsSection, Begins, Shallow, Stands, StandsAtEnd}
 use Rattle.bk_syntax.specs.Machine.{State, due, in_section, step}
 use Rattle.bk_syntax.specs.Frames.{stack_of, state}
 
@@ -53,15 +53,6 @@ pub record Behind (ts : List Symbol) (opens : List (List ℕ)) (x : State) : Typ
   pub brackets : (us : List Symbol) → plain (ts ++ us) [] ≡ in_front plainly (plain us opens)
   pub comes : leads plainly (due (in_section no_declarations)) ≡ Some x
 
--- What a fault of this kind, told at the symbol t behind u, says. Of a limit it is said that a section begins with the
--- symbols up to and with t, and that none that does is within it.
-abbrev pub Says : SourceKind → List Symbol → Symbol → Type 0
-Says WrongSectionTag u t = Stands WrongSectionTag u t
-Says UnexpectedSymbol u t = Stands UnexpectedSymbol u t
-Says NestedTooDeeply u t = Begins Any (u ++ t ∷ []) × (Begins Shallow (u ++ t ∷ []) → ⊥)
-Says TooManyNodes u t = Begins Any (u ++ t ∷ []) × (Begins Within (u ++ t ∷ []) → ⊥)
-Says _ u t = ⊥
-
 abbrev pub IsLimit : SourceKind → Type 0
 IsLimit NestedTooDeeply = Unit {0}
 IsLimit TooManyNodes = Unit {0}
@@ -76,7 +67,7 @@ told (Err s.Unexpected) line = Err (Fault (record { line = line; kind = Unexpect
 -- the answer to a further symbol t behind u
 abbrev pub Advances : Frames → List (Bor (List ℕ)) → Result Now (Refused SourceFault) → List Symbol → Symbol → Type 0
 Advances new opens (Ok now) u t = Behind (u ++ t ∷ []) (tags opens) (state (stack_of new) now)
-Advances new opens (Err (Fault f)) u t = (f.line ≡ t.line) × Says f.kind u t
+Advances new opens (Err (Fault f)) u t = (f.line ≡ t.line) × Stands f.kind u t
 Advances new opens (Err Memory) u t = Unit {0}
 Advances new opens (Err Device) u t = ⊥
 
@@ -91,21 +82,22 @@ Ends (Err (Fault f)) r end = (r ≡ Err []) × (f.kind ≡ UnexpectedSymbol) × 
 Ends (Err Memory) r end = Unit {0}
 Ends (Err Device) r end = ⊥
 
--- a fault that is told at a symbol: a section begins with the symbols before it
+-- a fault that is told at a symbol stands there, and a section within the limit of depth begins with the symbols before it
 pub record ToldAt (f : SourceFault) (ts : List Symbol) : Type 0 where
   pub before : List Symbol
   pub at : Symbol
   pub more : List Symbol
   pub parts : ts ≡ before ++ at ∷ more
   pub line : f.line ≡ at.line
-  pub begins : Begins Any before
-  pub says : Says f.kind before at
+  pub begins : Begins Shallow before
+  pub stands : Stands f.kind before at
 
--- a fault that is told at the end, which is on this line: a section begins with the symbols
+-- a fault that is told at the end, which is on this line: the symbols are no section, and one within the limit of depth begins
+-- with them
 pub record ToldAtEnd (f : SourceFault) (ts : List Symbol) (end : ℕ) : Type 0 where
   pub kind : f.kind ≡ UnexpectedSymbol
   pub line : f.line ≡ end
-  pub begins : Begins Any ts
+  pub begins : Begins Shallow ts
   pub stands : StandsAtEnd ts
 
 -- what is answered of these symbols, which end on this line

@@ -4,7 +4,10 @@ use Rattle.bk_syntax.specs.declared.frame.Frame.{Frame}
 use Rattle.bk_syntax.specs.declared.tree.Decl.{Decl}
 use Rattle.bk_syntax.specs.Tree.{declarations_in}
 use Rattle.bk_syntax.specs.Machine.{Stack, in_section}
-use Rattle.bk_syntax.specs.Sizes.{IsLift}
+use Rattle.bk_syntax.specs.declared.frame.Lift.{Lift}
+use Rattle.bk_syntax.specs.declared.size.Form.{Form}
+use Rattle.bk_syntax.specs.declared.size.Form.TheVariants.{Tabled}
+use Rattle.bk_syntax.specs.Sizes.{needs, IsLift}
 use Rattle.bk_syntax.specs.Begun.{begun_on, form_above}
 
 -- the last one is on top
@@ -15,6 +18,18 @@ above st (x ∷ xs) = above (begun_on x.begun st) xs
 unfoldable pub stack : List Decl → List Frame → Stack
 stack ds xs = above (in_section (declarations_in ds)) xs
 
--- the whole depends on each of them as it says
+-- how the whole depends on a frame of this form
+abbrev pub lift_of : Frame → Form → Lift
+lift_of x Tabled = x.tabled
+lift_of x _ = x.below
+
+-- what is said of what stands below a frame: what has to come behind it, and how the whole depends on the frame, also
+-- where a TABLE ends that
+pub record IsBelow (x : Frame) (st : Stack) : Type 0 where
+  pub behind : x.needs ≡ needs st
+  pub below : IsLift x.below st (form_above x.begun)
+  pub tabled : IsLift x.tabled st Tabled
+
+-- and so of each of them
 abbrev pub Lifts : List Decl → List Frame → Type 0
-Lifts ds xs = (i : ℕ) (x : Frame) → slice_get xs i ≡ Some x → IsLift x.below (stack ds (take i xs)) (form_above x.begun)
+Lifts ds xs = (i : ℕ) (x : Frame) → slice_get xs i ≡ Some x → IsBelow x (stack ds (take i xs))

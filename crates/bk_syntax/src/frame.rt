@@ -19,6 +19,17 @@ pub struct Size {
     pub nodes: u32,
 }
 
+/// What has to come behind a part, so that the section goes on.
+#[derive(Clone, Copy, Debug, PartialEq, Eq)]
+pub enum Needs {
+    /// No symbol that a command within it could take as its own.
+    Nothing,
+    /// A `:=`.
+    Assignment,
+    /// A `,`.
+    Comma,
+}
+
 /// How a whole depends on a part of it: it is at least `floor` deep, at least `rise` deeper than the part, and has
 /// `nodes` nodes more.
 #[derive(Clone, Copy, Debug, PartialEq, Eq)]
@@ -137,12 +148,15 @@ pub enum Begun {
     Point(Point),
 }
 
-/// What was begun, with the depth and the nodes of the parts that it holds, and how the whole depends on it.
+/// What was begun, with the depth and the nodes of the parts that it holds, what has to come behind it, and how the whole
+/// depends on it, also where a TABLE ends it.
 #[derive(Drop)]
 pub struct Frame {
     pub begun: Begun,
     pub held: Size,
+    pub needs: Needs,
     pub below: Lift,
+    pub tabled: Lift,
     ghost holds: { held ≡ held_in begun },
 }
 

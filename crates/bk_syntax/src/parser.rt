@@ -74,7 +74,9 @@ fn behind_expression(
     let Frame {
         begun: part,
         held,
+        needs: _,
         below: _,
+        tabled: _,
     } = top;
     if extends(&part, token.kind) {
         begun(frames, part, held)?;
@@ -103,7 +105,9 @@ fn behind_command(
     let Frame {
         begun,
         held,
+        needs: _,
         below: _,
+        tabled: _,
     } = top;
     match begun {
         Begun::Clause(clause) => complete_clause(alloc, frames, clause, held, done, token),
@@ -124,7 +128,9 @@ fn without_command(alloc: Global, frames: &mut Frames, token: &Token) -> Result<
     let Frame {
         begun,
         held,
+        needs: _,
         below: _,
+        tabled: _,
     } = top;
     let Begun::Clause(clause) = begun else {
         return Err(Stop::Unexpected);
@@ -407,12 +413,14 @@ fn at_end(
     }
 }
 
-/// The section that these symbols are, the end of which is on line `end`, or the fault that stands at the first symbol
-/// after which no section goes on.
+/// The section that these symbols are, the end of which is on line `end`, or the fault that stands at a symbol: up to and
+/// with it no section within the limits begins.
 ///
-/// A limit is told at a symbol up to and with which a section begins, but none within the limit.
+/// It is the first such symbol, save that *too many nodes* may be told later than it could be where a VALOF begins a
+/// command.
 pub fn parse(alloc: Global, tokens: &[Token], end: Line) -> Result<Section, Refused<SourceFault>>
-    // What is answered is a tree of the symbols, or a fault that stands where a section begins with the symbols before it.
+    // What is answered is a tree of the symbols, or a fault that stands, where a section within the depth begins with the
+    // symbols before it.
     ensures parses { Parses result (symbols_of tokens.now) end }
     // The tree is within the limits.
     ensures within { IfOk result (λ section. Within (declarations_of section)) }

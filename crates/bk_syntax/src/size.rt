@@ -1,14 +1,18 @@
 //! The least that a whole must be, by what was begun of it.
-ghost use Rattle.std.specs.Prelude.{◌≡◌, ◌+◌, ◌-◌, ℕ, max, min};
+ghost use Rattle.std.specs.Prelude.{◌≡◌, ◌+◌, ◌-◌, ℕ, max, min, cond, nat_lt};
 ghost use Rattle.bk_syntax.specs.declared.frame.Begun.TheVariants as b;
 ghost use Rattle.bk_syntax.specs.Tree.{expression, expressions_in, items_in};
 ghost use Rattle.bk_syntax.specs.Machine.{Stack, in_start};
 ghost use Rattle.bk_syntax.specs.declared.size.Form.{Form};
-ghost use Rattle.bk_syntax.specs.Sizes.{kept, kept_size, form_of, size_of, owed, are_no_items, due_items, both_of, node_of, lifted, composed, bound, over_depth, over_nodes, are_none, wanted, awaited, least_size, IsRise, IsLift};
-ghost use Rattle.bk_syntax.specs.Begun.{operand_on, phrase_on, member_on, clause_on, place_on, point_on, begun_on, form_above, held_in};
+ghost use Rattle.bk_syntax.specs.declared.frame.Needs.TheVariants.{Comma};
+ghost use Rattle.bk_syntax.specs.Sizes.{kept, kept_size, needs, form_of, carried, call_ended, table_ended, size_of, owed, are_no_items, due_items, both_of, node_of, lifted, composed, bound, over_depth, over_nodes, are_none, wanted, awaited, least_size, IsRise, IsLift};
+ghost use Rattle.bk_syntax.specs.Begun.{operand_on, phrase_on, member_on, clause_on, place_on, point_on, begun_on, passed, held_in};
+ghost use Rattle.bk_syntax.specs.Stacked.{lift_of, IsBelow};
 ghost use Rattle.bk_syntax.specs.Frames.{stack_of, state};
 
-use crate::frame::{Begun, Clause, Lift, Member, Now, Operand, Phrase, Place, Point, Size};
+use crate::frame::{
+    Begun, Clause, Frame, Lift, Member, Needs, Now, Operand, Phrase, Place, Point, Size,
+};
 use crate::frames::Frames;
 use crate::symbols::Guard;
 use crate::tree::{Expr, Item};
@@ -22,10 +26,14 @@ pub const LEAF: Size = Size { depth: 1, nodes: 1 };
 /// What an expression at the start of a command is, since that says what the command has more than it.
 #[derive(Clone, Copy, Debug, PartialEq, Eq)]
 pub enum Form {
-    /// A name, which may be a label, or a call, which is a command.
-    Whole,
-    /// An operand that may be called.
+    /// A name, which may be a label.
+    Label,
+    /// A call, which is a command.
+    Call,
+    /// Another operand that may be called.
     Callable,
+    /// One that a TABLE ends; it can only be a destination.
+    Tabled,
     /// Any other, which can only be a destination.
     Other,
 }
@@ -35,7 +43,8 @@ pub fn form_of(expr: &Expr) -> Form
     ensures { result ≡ form_of (expression expr.now) }
 {
     match expr {
-        Expr::Name(_, _) | Expr::Apply(_, _, _, _) => Form::Whole,
+        Expr::Name(_, _) => Form::Label,
+        Expr::Apply(_, _, _, _) => Form::Call,
         Expr::Number(_, _)
         | Expr::Text(_, _)
         | Expr::Truth(_, _)
@@ -46,12 +55,29 @@ pub fn form_of(expr: &Expr) -> Form
     }
 }
 
-/// The form of what was begun.
-pub fn form_begun(begun: &Begun) -> Form
-    ensures { result ≡ form_above begun.now }
+/// The form of an expression with one of this form at its end.
+fn carried(form: Form) -> Form
+    ensures { result ≡ carried form }
+{
+    match form {
+        Form::Tabled => Form::Tabled,
+        _ => Form::Other,
+    }
+}
+
+/// The form of what was begun, where a part of this form ends it.
+fn passed(begun: &Begun, form: Form) -> Form
+    ensures { result ≡ passed begun.now form }
 {
     match begun {
-        Begun::Operand(Operand::Args(_, _, _)) => Form::Whole,
+        Begun::Operand(
+            Operand::Unary(_, _)
+            | Operand::Binary(_, _, _)
+            | Operand::Chain(_, _, _, _)
+            | Operand::Else(_, _, _),
+        ) => carried(form),
+        Begun::Operand(Operand::Table(_, _)) => Form::Tabled,
+        Begun::Operand(Operand::Args(_, _, _)) => Form::Call,
         Begun::Operand(Operand::Parens(_)) | Begun::Clause(Clause::Valof(_)) => Form::Callable,
         _ => Form::Other,
     }
@@ -150,21 +176,62 @@ fn lift_operand(operand: &Operand, held: Size) -> Lift
     }
 }
 
-fn lift_start(form: Form) -> Lift
-    ensures { (st : Stack) → IsRise result (in_start st) form }
+/// How many levels and nodes a REPEAT makes that has to end a call.
+fn call_ended(behind: Needs) -> u32
+    ensures { result ≡ call_ended behind }
+{
+    match behind {
+        Needs::Nothing => 0,
+        _ => 1,
+    }
+}
+
+/// How many it makes where it has to end a command that ends with an expression of this form.
+fn table_ended(behind: Needs, form: Form) -> u32
+    ensures { result ≡ table_ended behind form }
+{
+    match (behind, form) {
+        (Needs::Comma, Form::Tabled) => 1,
+        _ => 0,
+    }
+}
+
+/// The same with so many levels and nodes more around it.
+fn wrapped(inner: Lift, more: u32) -> Lift
+    ensures floor { result.floor ≡ kept (inner.floor + more) }
+    ensures rise { result.rise ≡ kept (inner.rise + more) }
+    ensures nodes { result.nodes ≡ kept (inner.nodes + more) }
+{
+    Lift {
+        floor: plus(inner.floor, more),
+        rise: plus(inner.rise, more),
+        nodes: plus(inner.nodes, more),
+    }
+}
+
+fn lift_start(form: Form, behind: Needs) -> Lift
+    ensures { (st : Stack) → behind ≡ needs st → IsRise result (in_start st) form }
 {
     match form {
-        Form::Whole => Lift {
+        Form::Label => Lift {
             floor: 0,
             rise: 0,
             nodes: 0,
         },
+        Form::Call => {
+            let more = call_ended(behind);
+            Lift {
+                floor: 0,
+                rise: more,
+                nodes: more,
+            }
+        }
         Form::Callable => Lift {
             floor: 0,
             rise: 1,
             nodes: 1,
         },
-        Form::Other => Lift {
+        Form::Tabled | Form::Other => Lift {
             floor: 2,
             rise: 1,
             nodes: 2,
@@ -173,18 +240,23 @@ fn lift_start(form: Form) -> Lift
 }
 
 #[tactic(auto, using(crate::proofs::Trees::counts))]
-fn lift_phrase(phrase: &Phrase, held: Size, form: Form) -> Lift
+fn lift_phrase(phrase: &Phrase, held: Size, form: Form, behind: Needs) -> Lift
     requires { held ≡ held_in (b.Phrase phrase.now) }
-    ensures { (st : Stack) → IsRise result (phrase_on phrase.now st) form }
+    ensures { (st : Stack) → behind ≡ needs st → IsRise result (phrase_on phrase.now st) form }
 {
     match phrase {
-        Phrase::Start => lift_start(form),
+        Phrase::Start => lift_start(form, behind),
         Phrase::Dests(xs) => node(held, plus(rest(xs.len(), 0), 1)),
-        Phrase::Values(xs, ys) => node(held, owed(xs.len(), ys.len())),
+        Phrase::Values(xs, ys) => wrapped(
+            node(held, owed(xs.len(), ys.len())),
+            table_ended(behind, form),
+        ),
+        Phrase::ResultIs(_) | Phrase::RepeatWhile(_, _) => {
+            wrapped(node(held, 0), table_ended(behind, form))
+        }
         Phrase::Guard(Guard::Case, _) => node(held, 0),
         Phrase::Guard(_, _) | Phrase::To(_, _, _) | Phrase::By(_, _, _, _) => node(held, 1),
         Phrase::Test(_) | Phrase::From(_, _) => node(held, 2),
-        _ => node(held, 0),
     }
 }
 
@@ -266,13 +338,13 @@ fn lift_point(point: &Point, held: Size) -> Lift
 }
 
 /// How what was begun depends on the part that is read of it, which has this form.
-fn lift(begun: &Begun, held: Size, form: Form) -> Lift
+fn lift(begun: &Begun, held: Size, form: Form, behind: Needs) -> Lift
     requires { held ≡ held_in begun.now }
-    ensures { (st : Stack) → IsRise result (begun_on begun.now st) form }
+    ensures { (st : Stack) → behind ≡ needs st → IsRise result (begun_on begun.now st) form }
 {
     match begun {
         Begun::Operand(operand) => lift_operand(operand, held),
-        Begun::Phrase(phrase) => lift_phrase(phrase, held, form),
+        Begun::Phrase(phrase) => lift_phrase(phrase, held, form, behind),
         Begun::Clause(clause) => lift_clause(clause, held),
         Begun::Member(member) => lift_member(member, held),
         Begun::Place(place) => lift_place(place, held),
@@ -322,14 +394,119 @@ pub fn both(a: Size, b: Size) -> Size
     }
 }
 
+/// How the section depends on this frame, if that has this form.
+fn lift_of(frame: &Frame, form: Form) -> Lift
+    ensures { result ≡ lift_of frame.now form }
+{
+    match form {
+        Form::Tabled => frame.tabled,
+        _ => frame.below,
+    }
+}
+
 /// How the section depends on the part that is read above these frames, if that has this form.
 #[tactic(auto, using(crate::proofs::Stacks::frames_laws))]
-pub fn below(frames: &Frames, form: Form) -> Lift
+fn below(frames: &Frames, form: Form) -> Lift
     ensures { IsLift result (stack_of frames.now) form }
 {
     match frames.above.last() {
-        Some(top) => compose(top.below, lift(&top.begun, top.held, form)),
+        Some(top) => compose(
+            lift_of(top, passed(&top.begun, form)),
+            lift(&top.begun, top.held, form, top.needs),
+        ),
         None => beside(frames.held),
+    }
+}
+
+/// What a list of `all` parts needs behind these and the one that is read, where `rest` comes behind the last.
+fn needs_of_list(all: usize, done: usize, rest: Needs) -> Needs
+    ensures { result ≡ cond (nat_lt (done + 1) all) Comma rest }
+{
+    if all.saturating_sub(done) > 1 {
+        Needs::Comma
+    } else {
+        rest
+    }
+}
+
+fn needs_of_operand(operand: &Operand, rest: Needs) -> Needs
+    ensures { (st : Stack) → rest ≡ needs st → result ≡ needs (operand_on operand.now st) }
+{
+    match operand {
+        Operand::Then(_, _) => Needs::Comma,
+        Operand::Parens(_) | Operand::Args(_, _, _) => Needs::Nothing,
+        _ => rest,
+    }
+}
+
+#[tactic(auto, using(crate::proofs::Trees::counts))]
+fn needs_of_phrase(phrase: &Phrase, rest: Needs) -> Needs
+    ensures { (st : Stack) → rest ≡ needs st → result ≡ needs (phrase_on phrase.now st) }
+{
+    match phrase {
+        Phrase::Start | Phrase::Dests(_) => Needs::Assignment,
+        Phrase::Values(xs, ys) => needs_of_list(xs.len(), ys.len(), rest),
+        Phrase::ResultIs(_) | Phrase::RepeatWhile(_, _) => rest,
+        _ => Needs::Nothing,
+    }
+}
+
+#[tactic(auto, using(crate::proofs::Trees::counts))]
+fn needs_of_member(member: &Member) -> Needs
+    ensures { (st : Stack) → result ≡ needs (member_on member.now st) }
+{
+    match member {
+        Member::Value(names, inits) | Member::Vector(_, names, inits) => {
+            needs_of_list(names.len(), inits.len(), Needs::Nothing)
+        }
+        _ => Needs::Nothing,
+    }
+}
+
+fn needs_of_clause(clause: &Clause, rest: Needs) -> Needs
+    ensures { (st : Stack) → rest ≡ needs st → result ≡ needs (clause_on clause.now st) }
+{
+    match clause {
+        Clause::Then(_, _) | Clause::Routine(_, _) => Needs::Nothing,
+        _ => rest,
+    }
+}
+
+/// What has to come behind a part of this, where `rest` has to come behind it.
+fn needs_of(begun: &Begun, rest: Needs) -> Needs
+    ensures { (st : Stack) → rest ≡ needs st → result ≡ needs (begun_on begun.now st) }
+{
+    match begun {
+        Begun::Operand(operand) => needs_of_operand(operand, rest),
+        Begun::Phrase(phrase) => needs_of_phrase(phrase, rest),
+        Begun::Clause(clause) => needs_of_clause(clause, rest),
+        Begun::Member(member) => needs_of_member(member),
+        Begun::Place(_) | Begun::Point(_) => Needs::Nothing,
+    }
+}
+
+/// What has to come behind a part that is read above these frames.
+fn needs(frames: &Frames) -> Needs
+    ensures { result ≡ needs (stack_of frames.now) }
+{
+    match frames.above.last() {
+        Some(top) => needs_of(&top.begun, top.needs),
+        None => Needs::Nothing,
+    }
+}
+
+/// What was begun, with these parts, as the frame above these.
+pub fn frame(frames: &Frames, begun: Begun, held: Size) -> Frame
+    requires { held ≡ held_in begun }
+    ensures begun { result.begun ≡ begun }
+    ensures below { IsBelow result (stack_of frames.now) }
+{
+    Frame {
+        needs: needs(frames),
+        below: below(frames, passed(&begun, Form::Other)),
+        tabled: below(frames, Form::Tabled),
+        begun,
+        held,
     }
 }
 
@@ -399,7 +576,7 @@ pub fn least(frames: &Frames, now: &Now) -> Size
             let part = wanted(frames);
             least_with(
                 frames,
-                Form::Whole,
+                Form::Label,
                 Size {
                     depth: part,
                     nodes: part,

@@ -14,7 +14,7 @@ fn read(alloc: Global, text: &[u8]) -> Result<usize, Refused<SourceFault>> {
 
 #[test]
 fn taken(rt: HostRuntime) -> Result<(), Fail> {
-    let rows: [(&[u8], usize); 13] = [
+    let rows: [(&[u8], usize); 15] = [
         (b"", 0),
         (b"; ;", 0),
         (b"GET \"LIBHDR\"", 2),
@@ -29,6 +29,8 @@ fn taken(rt: HostRuntime) -> Result<(), Fail> {
         (b"LET F() BE 5()", 1),
         (b"LET F() BE SWITCHON 1 INTO $( CASE VALOF F(1): $)", 1),
         (b"LET F() BE IF A DO B() REPEAT", 1),
+        (b"LET F() BE VALOF VALOF F() REPEAT := ? := ?", 1),
+        (b"LET F() BE VALOF VALOF F() REPEAT () REPEAT ()", 1),
         (b"MANIFEST $( A = 1; B : 2; $) STATIC $( C = 3 $)", 2),
         (
             b"LET F() BE FOR I = 1 TO 3 BY 2 DO SWITCHON I INTO $( CASE 1: DEFAULT: $)",
@@ -113,8 +115,15 @@ fn repeated(
 /// Each limit at its last good value.
 #[test]
 fn within_limits(rt: HostRuntime) -> Result<(), Fail> {
-    let rows: [(&[u8], &[u8], usize, &[u8]); 5] = [
+    let rows: [(&[u8], &[u8], usize, &[u8]); 7] = [
         (b"", b"IF A DO ", 198, b"FINISH"),
+        (b"", b"IF A DO ", 193, b"R := A -> VALOF F() REPEAT, 2"),
+        (
+            b"",
+            b"IF A DO ",
+            192,
+            b"R := A -> VALOF RESULTIS TABLE 1 REPEAT, 2",
+        ),
         (b"$(1", b"$(", 197, b" FINISH $)1"),
         (b"$(1", b"$(", 198, b"$)1"),
         (b"$( ", b"B(); ", 32_767, b"$)"),
@@ -130,12 +139,27 @@ fn within_limits(rt: HostRuntime) -> Result<(), Fail> {
 /// And at the next, on the line of the first symbol that passes it.
 #[test]
 fn past_limits(rt: HostRuntime) -> Result<(), Fail> {
-    let rows: [(&[u8], &[u8], usize, &[u8], SourceKind); 6] = [
+    let rows: [(&[u8], &[u8], usize, &[u8], SourceKind); 8] = [
         (
             b"",
             b"IF A DO ",
             198,
             b"\nB(\n)",
+            SourceKind::NestedTooDeeply,
+        ),
+        // The command of a VALOF has to end before a comma that it would take.
+        (
+            b"",
+            b"IF A DO ",
+            194,
+            b"R := A -> VALOF\nF(\n) REPEAT, 2",
+            SourceKind::NestedTooDeeply,
+        ),
+        (
+            b"",
+            b"IF A DO ",
+            193,
+            b"R := A -> VALOF RESULTIS\nTABLE\n1 REPEAT, 2",
             SourceKind::NestedTooDeeply,
         ),
         (

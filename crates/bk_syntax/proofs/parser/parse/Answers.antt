@@ -27,7 +27,7 @@ returns-in-Err c =
     let ts = c.args.tokens.now in
     let i = c.loop-token.token-index in
     let p = told_of c.in-Err.refused c.advance.new.frames c.advance.new.opened.items ts i c.token-item.result c.args.end
-    (tags c.loop-token.opened.items) (state (stack_of c.loop-token.frames) c.loop-token.now) c.loop-token-test.true c.token-item.is c.loop-token.invariant.0
+    (tags c.loop-token.opened.items) (state (stack_of c.loop-token.frames) c.loop-token.now) c.loop-token-test.true c.token-item.is c.loop-token.invariant.0 c.loop-token.invariant.1
     (c.in-Err.ensures.goes (symbols_of (take i ts)) c.loop-token.invariant.0) in
     record { parses = p; within = tt; only = gives_only (Err c.in-Err.refused) (symbols_of ts) c.args.end p }
 
@@ -36,5 +36,5 @@ returns c =
     let ts = c.args.tokens.now in
     let x = state (stack_of c.loop-token.frames) c.loop-token.now in
     let p = ended c.at_end.result (symbols_of ts) (tags c.loop-token.opened.items) x c.args.end
-    (all_read ts c.loop-token.token-index (tags c.loop-token.opened.items) x (omega arith) c.loop-token.invariant.0) c.at_end.ensures in
+    (all_read ts c.loop-token.token-index (tags c.loop-token.opened.items) x (omega arith) c.loop-token.invariant.0) c.loop-token.invariant.1 c.at_end.ensures in
     record { parses = p; within = within_limits c.at_end.result; only = gives_only c.at_end.result (symbols_of ts) c.args.end p }
