@@ -416,8 +416,7 @@ fn at_end(
 /// The section that these symbols are, the end of which is on line `end`, or the fault that stands at a symbol: up to and
 /// with it no section within the limits begins.
 ///
-/// It is the first such symbol, save that *too many nodes* may be told later than it could be where a VALOF begins a
-/// command.
+/// It is the first such symbol, save that *too many nodes* may be told some symbols later than it could be.
 pub fn parse(alloc: Global, tokens: &[Token], end: Line) -> Result<Section, Refused<SourceFault>>
     // What is answered is a tree of the symbols, or a fault that stands, where a section within the depth begins with the
     // symbols before it.
