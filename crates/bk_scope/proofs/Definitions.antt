@@ -1,0 +1,40 @@
+-- What stands behind a declaration and a definition.
+use Rattle.std.proofs.Common.{◌≡◌, ℕ, List, [], ◌∷◌, ◌++◌, Result, Ok, Err, OnOk, IfOk, refl}
+use Rattle.std.specs.declared.alloc.AllocError.{AllocError}
+use Rattle.bk_syntax.specs.Tree.{Mention, Definitions, definitions, Starts, no_starts, variables}
+use Rattle.bk_scope.specs.declared.place.Place.{Place}
+use Rattle.bk_scope.specs.Scope.{Binding, bind_all}
+use Rattle.bk_scope.specs.Found.{Found, takes}
+use Rattle.bk_scope.specs.Entering.{Stage, with_labels, with_formals, with_procedures}
+use Rattle.bk_scope.specs.Names.{Behind, Defined, variables_of, all_listed, started, place_behind, defined, one_declared, one_defined}
+use Rattle.bk_scope.proofs.Leaving.{Above, both, labels_above, formals_above}
+
+-- what stands behind a declaration that leaves the place as it was
+abbrev pub at : Place → Stage → Behind
+at p t = record { scope = t.scope; place = p; found = t.found }
+
+-- no starts make no variables
+pub no_variables : (bs : List Binding) (p : Place) (xs : List Mention) → variables_of bs p xs no_starts ≡ []
+no_variables bs p [] = refl
+no_variables bs p (x ∷ xs) = refl
+
+-- the labels of a body stand inside its formals, and those inside what was in scope
+pub body_above : (k d n : ℕ) (fs : List Mention) (xs : List (List ℕ)) (bs : List Binding) (t : Stage) → t.scope ≡ with_formals k d fs bs → Above bs ((with_labels n xs t).scope)
+body_above k d n fs xs bs t is = both bs t.scope _ (rw is (formals_above k d fs bs)) (labels_above n xs t)
+
+-- what stands behind a LET, by what its procedures and its definitions made
+pub let_behind : (bs : List Binding) (p : Place) (f : Found) (l : ℕ) (ds : Definitions) (t : Stage) (d : Defined) (cs : List Binding) (q : Place) (g : Found)
+    → t ≡ with_procedures ds (record { scope = bs; found = takes f })
+    → d ≡ defined f.next t.scope ds (record { fresh = []; place = p; found = t.found })
+    → cs ≡ bind_all d.fresh t.scope → q ≡ d.place → g ≡ d.found
+    → ◌≡◌ {A = Behind} (record { scope = cs; place = q; found = g }) (one_declared bs p (definitions l ds) f)
+let_behind bs p f l ds t d cs q g et ed ec eq eg = rw ec (rw eq (rw eg (rw ed (rw et refl))))
+
+-- what stands behind the definition of some variables, by what their names and starts made
+pub variables_behind : (n : ℕ) (bs : List Binding) (d : Defined) (l : ℕ) (xs : List Mention) (is : Starts) (r : Result Place AllocError) (gs : List Binding) (h : Found)
+    (cs : List Binding) (ys : List Mention) (js : Starts) (f : Found)
+    → cs ≡ bs → ys ≡ xs → js ≡ is → f ≡ all_listed n xs d.found
+    → OnOk r (gs ≡ d.fresh ++ variables_of cs d.place ys js) → OnOk r (h ≡ started cs d.place js f) → IfOk r (λ p. p ≡ place_behind cs d.place js)
+    → IfOk r (λ p. ◌≡◌ {A = Defined} (record { fresh = gs; place = p; found = h }) (one_defined n bs (variables l xs is) d))
+variables_behind n bs d l xs is (Ok p) gs h cs ys js f ec ey ej ef eg eh ep = rw eg (rw eh (rw ep (rw ec (rw ey (rw ej (rw ef refl))))))
+variables_behind n bs d l xs is (Err e) gs h cs ys js f ec ey ej ef eg eh ep = tt

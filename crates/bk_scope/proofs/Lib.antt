@@ -1,0 +1,12 @@
+pub mod Leaving
+pub mod Worded
+pub mod Texts
+pub mod Firsts
+pub mod Rows
+pub mod Claimed
+pub mod TableSteps
+pub mod Calls
+pub mod Inside
+pub mod Entered
+pub mod FreshSteps
+pub mod Definitions

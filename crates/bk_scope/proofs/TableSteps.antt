@@ -1,0 +1,126 @@
+-- The steps of a table of names: one binding more, one less, and what stands at a name's place.
+use Rattle.std.proofs.Common.{◌≡◌, ℕ, ◌+◌, ◌-◌, ◌<◌, Bool, true, false, cond, Option, Some, None, List, [], ◌∷◌, ◌++◌, map, length, drop, get_or, refl, sym, ap, ◌∙◌, subst, ⊎_elim, arith, rules, IsSome}
+use Rattle.std.specs.Prelude.{reverse}
+use Rattle.std.specs.Option.{option_flatten}
+use Rattle.std.specs.Str.{bytes_eq}
+use Rattle.std.specs.HashMap.{get_by, UpdatesBy}
+use Rattle.std.proofs.lemmas.Bool.{cases_Bool, cond-true, cond-false}
+use Rattle.std.proofs.lemmas.List.{reverse-append, length-map, length-reverse, length-drop, drop-drop, reverse-reverse, get_or_at, get_or_append_left}
+use Rattle.std.proofs.lemmas.Map.Text.{hash_map_updates_str}
+use Rattle.std.proofs.lemmas.Slice.Eq.{bytes_eq-Decides}
+use Rattle.bk_scope.specs.Scope.{Binding, bound_in}
+use Rattle.bk_scope.specs.declared.table.Entry.{Entry}
+use Rattle.bk_scope.specs.declared.table.Table.TheInside.{Inside}
+use Rattle.bk_scope.specs.TableView.{binding_of, scope_of, place_in, HaveHidden, mapped_place, IsTable}
+
+scope_of-push : (es : List Entry) (e : Entry) → scope_of (es ++ e ∷ []) ≡ binding_of e ∷ scope_of es
+scope_of-push es e = ap (map binding_of) (reverse-append es (e ∷ []))
+
+pub length-scope_of : (es : List Entry) → length (scope_of es) ≡ length es
+length-scope_of es = length-map (reverse es) binding_of ∙ length-reverse es
+
+-- the map's place for one name is changed
+abbrev pub Puts : Inside → List ℕ → Option ℕ → Inside → Type 0
+Puts t x o u = UpdatesBy (λ a b. bytes_eq a.now b.now) (λ k. bytes_eq x k.now) t.innermost u.innermost (Some o)
+
+flatten-cond : (b : Bool) (o : Option ℕ) (p : Option (Option ℕ)) → option_flatten (cond b (Some o) p) ≡ cond b o (option_flatten p)
+flatten-cond true o p = refl
+flatten-cond false o p = refl
+
+mapped_place-put : (t u : Inside) (x : List ℕ) (o : Option ℕ) → Puts t x o u → (y : List ℕ) → mapped_place u y ≡ cond (bytes_eq x y) o (mapped_place t y)
+mapped_place-put t u x o puts y =
+    ap option_flatten (hash_map_updates_str x t.innermost u.innermost (Some o) puts y)
+    ∙ flatten-cond (bytes_eq x y) o (get_by (λ k. bytes_eq y k.now) t.innermost)
+
+-- one binding more
+pub IsTable-push : (t u : Inside) (e : Entry) (i : ℕ) → IsTable t → u.bindings.items ≡ t.bindings.items ++ e ∷ [] → i ≡ length t.bindings.items
+    → e.hidden ≡ place_in (scope_of t.bindings.items) e.name.now → Puts t e.name.now (Some i) u → IsTable u
+IsTable-push t u e i before items last hidden puts =
+    let es = t.bindings.items in
+    let P : List Entry → Type 0 = HaveHidden in
+    record {
+      places = λ x. mapped_place-put t u e.name.now (Some i) puts x
+          ∙ ap (λ o. cond (bytes_eq e.name.now x) (Some i) o) (before.places x)
+          ∙ ap (λ k. cond (bytes_eq e.name.now x) (Some k) (place_in (scope_of es) x)) (last ∙ sym (length-scope_of es))
+          ∙ sym (ap (λ bs. place_in bs x) (ap scope_of items ∙ scope_of-push es e));
+      hidden = subst P (sym (ap reverse items ∙ reverse-append es (e ∷ []))) (hidden, before.hidden);
+    }
+
+place_in-uncovered : (bs : List Binding) (x y : List ℕ) (k : ℕ) (o h : Option ℕ) → o ≡ cond (bytes_eq x y) (Some k) (place_in bs y) → h ≡ place_in bs x
+    → cond (bytes_eq x y) h o ≡ place_in bs y
+place_in-uncovered bs x y k o h before hidden =
+    ⊎_elim (λ e. cond-true _ h o e ∙ hidden ∙ ap (place_in bs) ((bytes_eq-Decides x y).0 e))
+    (λ e. cond-false _ h o e ∙ before ∙ cond-false _ (Some k) (place_in bs y) e)
+    (cases_Bool (bytes_eq x y))
+
+-- one binding less
+pub IsTable-pop : (t u : Inside) (e : Entry) → IsTable t → t.bindings.items ≡ u.bindings.items ++ e ∷ [] → Puts t e.name.now e.hidden u → IsTable u
+IsTable-pop t u e before items puts =
+    let es = u.bindings.items in
+    let P : List Entry → Type 0 = HaveHidden in
+    let rest : HaveHidden (e ∷ reverse es) = subst P (ap reverse items ∙ reverse-append es (e ∷ [])) before.hidden in
+    record {
+      places = λ x. mapped_place-put t u e.name.now e.hidden puts x
+          ∙ place_in-uncovered (scope_of es) e.name.now x (length (scope_of es)) (mapped_place t x) e.hidden
+          (before.places x ∙ ap (λ bs. place_in bs x) (ap scope_of items ∙ scope_of-push es e)) rest.0;
+      hidden = rest.1;
+    }
+
+IsSome-flatten : (o : Option (Option ℕ)) (i : ℕ) → option_flatten o ≡ Some i → IsSome o
+IsSome-flatten None i h = let f : ◌≡◌ {A = Option ℕ} None (Some i) = h in absurd (cc)
+IsSome-flatten (Some p) i h = search rules
+
+-- the map has the name of the innermost binding
+pub IsSome-innermost : (t : Inside) (es : List Entry) (e : Entry) → IsTable t → t.bindings.items ≡ es ++ e ∷ [] → IsSome (get_by (λ k. bytes_eq e.name.now k.now) t.innermost)
+IsSome-innermost t es e before items =
+    IsSome-flatten (get_by (λ k. bytes_eq e.name.now k.now) t.innermost) (length (scope_of es))
+    (before.places e.name.now ∙ ap (λ bs. place_in bs e.name.now) (ap scope_of items ∙ scope_of-push es e)
+    ∙ cond-true _ (Some (length (scope_of es))) (place_in (scope_of es) e.name.now) ((bytes_eq-Decides e.name.now e.name.now).1 refl))
+
+-- what is left of a list, with one less, is what is left of the list
+pub drop-one_less : (s t u : List Binding) → t ≡ drop (length s - length t) s → u ≡ drop 1 t → 0 < length t → u ≡ drop (length s - length u) s
+drop-one_less s t u before one some =
+    let whole : length t ≡ length s - (length s - length t) = ap length before ∙ length-drop (length s - length t) s in
+    let less : length u ≡ length t - 1 = ap length one ∙ length-drop 1 t in
+    let place : (length s - length t) + 1 ≡ length s - length u = omega arith in
+    one ∙ ap (drop 1) before ∙ drop-drop 1 (length s - length t) s ∙ ap (λ n. drop n s) place
+
+-- what stands at a name's place
+
+pub bound_in-without_place : (bs : List Binding) (x : List ℕ) → place_in bs x ≡ None → bound_in bs x ≡ None
+bound_in-without_place [] x h = refl
+bound_in-without_place (b ∷ bs) x h =
+    ⊎_elim (λ e. let f : Some (length bs) ≡ None = sym (cond-true _ (Some (length bs)) (place_in bs x) e) ∙ h in cc)
+    (λ e. cond-false _ (Some b.bound) (bound_in bs x) e ∙ bound_in-without_place bs x (sym (cond-false _ (Some (length bs)) (place_in bs x) e) ∙ h))
+    (cases_Bool (bytes_eq b.name x))
+
+pub place_in-below : (bs : List Binding) (x : List ℕ) (i : ℕ) → place_in bs x ≡ Some i → i < length bs
+place_in-below [] x i h = let f : ◌≡◌ {A = Option ℕ} None (Some i) = h in absurd (cc)
+place_in-below (b ∷ bs) x i h =
+    ⊎_elim
+    (λ e. let f : Some (length bs) ≡ Some i = sym (cond-true _ (Some (length bs)) (place_in bs x) e) ∙ h in
+    let g : length bs ≡ i = cc in omega arith)
+    (λ e. omega (arith, place_in-below bs x i (sym (cond-false _ (Some (length bs)) (place_in bs x) e) ∙ h)))
+    (cases_Bool (bytes_eq b.name x))
+
+-- of entries with the innermost first
+bound_at_reversed : (es : List Entry) (x : List ℕ) (i : ℕ) (d : Entry) → place_in (map binding_of es) x ≡ Some i
+    → bound_in (map binding_of es) x ≡ Some (get_or (reverse es) i d).bound
+bound_at_reversed [] x i d h = let f : ◌≡◌ {A = Option ℕ} None (Some i) = h in absurd (cc)
+bound_at_reversed (e ∷ es) x i d h =
+    let bs = map binding_of es in
+    ⊎_elim
+    (λ t. let f : Some (length bs) ≡ Some i = sym (cond-true _ (Some (length bs)) (place_in bs x) t) ∙ h in
+    let g : length bs ≡ i = cc in
+    cond-true _ (Some e.bound) (bound_in bs x) t
+    ∙ ap (λ (r : Entry). Some r.bound) (sym (ap (λ l. get_or l i d) (reverse-append (e ∷ []) es)
+    ∙ get_or_at (reverse es) e [] d i (length-reverse es ∙ sym (length-map es binding_of) ∙ g))))
+    (λ f. let rest = sym (cond-false _ (Some (length bs)) (place_in bs x) f) ∙ h in
+    let below : i < length (reverse es) = omega (arith, place_in-below bs x i rest, length-map es binding_of, length-reverse es) in
+    cond-false _ (Some e.bound) (bound_in bs x) f
+    ∙ bound_at_reversed es x i d rest
+    ∙ ap (λ (r : Entry). Some r.bound) (sym (ap (λ l. get_or l i d) (reverse-append (e ∷ []) es) ∙ get_or_append_left (reverse es) (e ∷ []) d i below)))
+    (cases_Bool (bytes_eq e.name.now x))
+
+pub bound_at_place : (es : List Entry) (x : List ℕ) (i : ℕ) (d : Entry) → place_in (scope_of es) x ≡ Some i → bound_in (scope_of es) x ≡ Some (get_or es i d).bound
+bound_at_place es x i d h = bound_at_reversed (reverse es) x i d h ∙ ap (λ l. Some (get_or l i d).bound) (reverse-reverse es)

@@ -1,0 +1,8 @@
+use Rattle.std.proofs.Common.{◌≡◌, drop}
+use Rattle.bk_syntax.specs.Tree.{actions_in}
+use Rattle.bk_scope.specs.Entering.{with_labels, labels_of_each}
+use Rattle.bk_scope.proofs.entering.+labels.Given as goal
+
+abbrev pub invariant-enter_labels_of_each-loop-command : goal.invariant-enter_labels_of_each-loop-command
+invariant-enter_labels_of_each-loop-command l =
+    with_labels l.procedure (labels_of_each (actions_in (drop l.command-index l.commands))) l.walk ≡ with_labels l.procedure (labels_of_each (actions_in l.commands)) l.fn.walk

@@ -1,0 +1,7 @@
+use Rattle.std.proofs.Common.{arith}
+use Rattle.std.proofs.lemmas.Grind.{common_steps}
+use Rattle.bk_scope.proofs.FreshSteps.{bind_all-push}
+use Rattle.bk_scope.proofs.items.fresh_statics.Goals as goal
+
+pub loop-line-preserved : goal.loop-line-preserved
+loop-line-preserved c = λ scope. grind (arith, common_steps, bind_all-push, c.loop-line.invariant scope)

@@ -1,0 +1,11 @@
+use Rattle.std.proofs.Common.{◌≡◌, List, drop}
+use Rattle.bk_syntax.specs.Tree.{items_in}
+use Rattle.bk_scope.specs.Scope.{Binding}
+use Rattle.bk_scope.specs.Names.{statics}
+use Rattle.bk_scope.specs.Scope.{bind_all}
+use Rattle.bk_scope.proofs.items.fresh_statics.Given as goal
+
+abbrev pub invariant-loop-line : goal.invariant-loop-line
+invariant-loop-line l =
+    (scope : List Binding) → statics l.table l.list l.procedure (items_in (drop l.line-index l.items)) (record { scope = bind_all l.fresh scope; found = l.findings })
+    ≡ statics l.table l.list l.procedure (items_in l.items) (record { scope = scope; found = l.fn.findings })

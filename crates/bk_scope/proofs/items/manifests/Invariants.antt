@@ -1,0 +1,9 @@
+use Rattle.std.proofs.Common.{◌≡◌, drop}
+use Rattle.bk_syntax.specs.Tree.{items_in}
+use Rattle.bk_scope.specs.Names.{manifests}
+use Rattle.bk_scope.proofs.items.manifests.Given as goal
+
+abbrev pub invariant-loop-line : goal.invariant-loop-line
+invariant-loop-line l =
+    manifests l.list l.procedure (items_in (drop l.line-index l.items)) (record { scope = l.walk-inside.table; found = l.walk-inside.findings })
+    ≡ manifests l.list l.procedure (items_in l.items) l.fn.walk

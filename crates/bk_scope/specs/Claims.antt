@@ -1,0 +1,16 @@
+-- What the program's claims stand for.
+use Rattle.std.specs.Prelude.{List, map, reverse}
+use Rattle.bk_scope.specs.Found as found
+use Rattle.bk_scope.specs.declared.claims.Claim.{Claim}
+use Rattle.bk_scope.specs.declared.claims.Claim.TheVariants.{Naming, Choosing, Defaulting, Setting}
+use Rattle.bk_scope.specs.declared.claims.Claims.{Claims}
+
+abbrev pub claim_of : Claim → found.Claim
+claim_of (Naming list name) = found.naming list name.now
+claim_of (Choosing switch word) = found.choosing switch word
+claim_of (Defaulting switch) = found.defaulting switch
+claim_of (Setting global) = found.setting global
+
+-- the newest claim first
+abbrev pub claims_of : Claims → List found.Claim
+claims_of claims = reverse (map claim_of claims.claimed.keys)

@@ -1,0 +1,12 @@
+pub mod Scope
+pub mod Wrong
+pub mod Constants
+pub mod Found
+pub mod Places
+pub mod Entering
+pub mod Names
+pub mod Resolution
+pub mod TableView
+pub mod FreshView
+pub mod FirstFault
+pub mod Claims

@@ -1,0 +1,139 @@
+//! Names that come into scope together.
+ghost use Rattle.std.specs.Prelude.{◌≡◌, [], ◌∷◌, OnOk, map};
+ghost use Rattle.bk_syntax.specs.Tree.{mention, action, actions_in, definitions_in};
+ghost use Rattle.bk_scope.specs.Entering.{with_labels, labels_of, labels_of_each, with_formals, with_procedure, with_procedures};
+ghost use Rattle.bk_scope.specs.Names.{all_listed};
+
+use crate::bound::Bound;
+use crate::findings::Findings;
+use crate::place::kept_depth;
+use crate::walk::Walk;
+use bk_syntax::tree::{Command, Def, Name};
+use std::alloc::AllocError;
+
+/// A label of a procedure comes into scope.
+fn enter_label<'a>(walk: &mut Walk<'a>, procedure: u32, letters: &'a [u8]) -> Result<(), AllocError>
+    ensures { OnOk result (walk.new ≡ with_labels procedure (letters.now ∷ []) walk.old) }
+{
+    let number = walk.findings.takes();
+    walk.table.bind(letters, Bound::Label(procedure, number))
+}
+
+/// The labels that belong to the same commands as this one come into scope.
+#[cycle(labels)]
+#[tactic(auto, using(crate::proofs::Entered::labels_in_two_stretches))]
+pub fn enter_labels<'a>(
+    walk: &mut Walk<'a>,
+    procedure: u32,
+    command: &'a Command,
+) -> Result<(), AllocError>
+    ensures { OnOk result (walk.new ≡ with_labels procedure (labels_of (action command.now)) walk.old) }
+{
+    match command {
+        Command::Label(_, letters, body) => {
+            enter_label(walk, procedure, letters)?;
+            enter_labels(walk, procedure, body)
+        }
+        Command::Case(_, _, body)
+        | Command::Default(_, body)
+        | Command::If(_, _, _, body)
+        | Command::While(_, _, _, body)
+        | Command::SwitchOn(_, _, body)
+        | Command::Repeat(_, body)
+        | Command::RepeatWhile(_, _, body, _) => enter_labels(walk, procedure, body),
+        Command::Test(_, _, yes, no) => {
+            enter_labels(walk, procedure, yes)?;
+            enter_labels(walk, procedure, no)
+        }
+        Command::Block(_, decls, commands) => {
+            if decls.is_empty() {
+                enter_labels_of_each(walk, procedure, commands)
+            } else {
+                Ok(())
+            }
+        }
+        Command::Empty
+        | Command::Assign(_, _, _)
+        | Command::Call(_, _, _)
+        | Command::Goto(_, _)
+        | Command::For(_, _, _, _, _, _)
+        | Command::ResultIs(_, _)
+        | Command::Simple(_, _) => Ok(()),
+    }
+}
+
+/// The labels of commands one after another come into scope.
+#[cycle(labels)]
+#[tactic(auto, using(crate::proofs::Entered::labels_next))]
+pub fn enter_labels_of_each<'a>(
+    walk: &mut Walk<'a>,
+    procedure: u32,
+    commands: &'a [Command],
+) -> Result<(), AllocError>
+    ensures { OnOk result (walk.new ≡ with_labels procedure (labels_of_each (actions_in commands.now)) walk.old) }
+{
+    for command in commands {
+        enter_labels(walk, procedure, command)?;
+    }
+    Ok(())
+}
+
+/// The formals of a procedure come into scope.
+#[tactic(auto, using(crate::proofs::Entered::formals_next))]
+pub fn enter_formals<'a>(
+    walk: &mut Walk<'a>,
+    procedure: u32,
+    formals: &'a [Name],
+) -> Result<(), AllocError>
+    ensures { OnOk result (walk.new ≡ record { scope = with_formals procedure 2 (map mention formals.now) walk.old.scope; found = walk.old.found }) }
+{
+    let mut depth = 2;
+    for formal in formals {
+        walk.table
+            .bind(&formal.letters, Bound::Variable(procedure, depth))?;
+        depth = kept_depth(depth as usize + 1);
+    }
+    Ok(())
+}
+
+/// A procedure of a LET comes into scope. Where its name means a global, it goes on to mean it.
+fn enter_procedure<'a>(walk: &mut Walk<'a>, letters: &'a [u8]) -> Result<(), AllocError>
+    ensures { OnOk result (walk.new ≡ with_procedure letters.now walk.old) }
+{
+    if let Some(Bound::Global(_)) = walk.table.find(letters) {
+        return Ok(());
+    }
+    let number = walk.findings.takes();
+    walk.table.bind(letters, Bound::Static(number))
+}
+
+/// The procedures of a LET come into scope.
+#[tactic(auto, using(crate::proofs::Entered::procedures_next))]
+pub fn enter_procedures<'a>(walk: &mut Walk<'a>, defs: &'a [Def]) -> Result<(), AllocError>
+    ensures { OnOk result (walk.new ≡ with_procedures (definitions_in defs.now) walk.old) }
+{
+    for def in defs {
+        match def {
+            Def::Routine(_, letters, _, _) | Def::Function(_, letters, _, _) => {
+                enter_procedure(walk, letters)?;
+            }
+            Def::Variables(_, _, _) => {}
+        }
+    }
+    Ok(())
+}
+
+/// The names of the list of this number, in which none stands twice.
+#[tactic(auto, using(crate::proofs::Entered::listed_next))]
+pub fn list_names<'a>(
+    findings: &mut Findings<'a>,
+    list: u32,
+    names: &'a [Name],
+) -> Result<(), AllocError>
+    ensures { OnOk result (findings.new ≡ all_listed list (map mention names.now) findings.old) }
+{
+    for name in names {
+        findings.lists(list, name.line, &name.letters)?;
+    }
+    Ok(())
+}

@@ -1,0 +1,239 @@
+//! What is found as one goes through a section.
+ghost use Rattle.std.specs.Prelude.{◌≡◌, ◌+◌, None, Some, IfOk, IfErr, OnOk};
+ghost use Rattle.bk_syntax.specs.Tree.{expression};
+ghost use Rattle.bk_scope.specs.Wrong.{text_of};
+ghost use Rattle.bk_scope.specs.FirstFault.{first_fault, wrong_of, misnamed, breach_of};
+ghost use Rattle.bk_scope.specs.Claims.{claim_of};
+ghost use Rattle.bk_scope.specs.Found.{breaks, claims_once, means, holds, takes, reaches, opens, behind};
+ghost use Rattle.bk_scope.specs.Constants.{constant_word};
+ghost use Rattle.bk_scope.specs.Names.{nothing, constant_found, listed, sets, frame_wrong};
+
+use crate::bound::Bound;
+use crate::claims::{Claim, Claims};
+use crate::constant::constant_of;
+use crate::first_fault::{FirstFault, Misnaming};
+use crate::place::kept_depth;
+use crate::table::Table;
+use bk_base::limit::FRAME_WORDS;
+use bk_base::{Line, SourceFault, SourceKind};
+use bk_syntax::tree::Expr;
+use std::alloc::{AllocError, Global};
+use std::marker::Model;
+use std::mem;
+
+/// What was found before a procedure: what is wrong first, and the greatest depth of the frame around.
+#[derive(Drop)]
+pub struct Opened {
+    first: FirstFault,
+    deepest: u32,
+}
+
+/// What a section says where nothing is wrong.
+#[derive(Drop)]
+pub struct Known {
+    /// What each name that is used means.
+    pub meanings: Vec<Bound>,
+    /// The word of each constant.
+    pub words: Vec<u32>,
+}
+
+/// What was found so far in a section.
+#[derive(Drop)]
+pub struct Findings<'a> {
+    alloc: Global,
+    /// What is wrong first, if anything is.
+    first: FirstFault,
+    /// What was claimed.
+    claims: Claims<'a>,
+    /// What each name that is used means.
+    meanings: Vec<Bound>,
+    /// The word of each constant.
+    words: Vec<u32>,
+    /// The number that is next.
+    next: u32,
+    /// The greatest depth of the procedure's frame.
+    deepest: u32,
+}
+
+impl<'a> Model for Findings<'a> {
+    ghost use Rattle.bk_scope.specs.Found.{Found};
+    ghost use Rattle.bk_scope.specs.FirstFault.{first_fault};
+    ghost use Rattle.bk_scope.specs.Claims.{claims_of};
+
+    ghost Value = { Found };
+
+    ghost view = { λ f. record { first = first_fault f.first; claims = claims_of f.claims; meanings = f.meanings.items; words = f.words.items; next = f.next; deepest = f.deepest } };
+}
+
+impl<'a> Findings<'a> {
+    /// Nothing yet.
+    pub fn new(alloc: Global) -> Findings<'a>
+        ensures { result ≡ nothing }
+    {
+        Findings {
+            alloc,
+            first: FirstFault::new(),
+            claims: Claims::new(alloc),
+            meanings: Vec::new(alloc),
+            words: Vec::new(alloc),
+            next: 1,
+            deepest: 0,
+        }
+    }
+
+    /// Where more memory comes from.
+    pub fn alloc(&self) -> Global {
+        self.alloc
+    }
+
+    /// Something is wrong on this line, by a kind that keeps no name.
+    pub fn breaks(&mut self, line: Line, kind: SourceKind)
+        ensures { self.new ≡ breaks line (wrong_of kind) self.old }
+    {
+        self.first.tell(line, kind);
+    }
+
+    /// A name on this line is wrong.
+    pub fn misnames(
+        &mut self,
+        line: Line,
+        misnaming: Misnaming,
+        name: &[u8],
+    ) -> Result<(), AllocError>
+        ensures { OnOk result (self.new ≡ breaks line (misnamed misnaming (text_of name.now)) self.old) }
+    {
+        self.first.tell_name(self.alloc, line, misnaming, name)
+    }
+
+    /// A name in the list of this number, in which none stands twice.
+    pub fn lists(&mut self, list: u32, line: Line, name: &'a [u8]) -> Result<(), AllocError>
+        ensures { OnOk result (self.new ≡ listed list line name.now self.old) }
+    {
+        if !self.claims.claim(Claim::Naming(list, name))? {
+            self.misnames(line, Misnaming::DeclaredTwice, name)?;
+        }
+        Ok(())
+    }
+
+    /// A procedure of this name, which means this: one at most sets a global.
+    pub fn sets(
+        &mut self,
+        line: Line,
+        name: &'a [u8],
+        bound: Option<Bound>,
+    ) -> Result<(), AllocError>
+        ensures { OnOk result (self.new ≡ sets line name.now bound self.old) }
+    {
+        if let Some(Bound::Global(Some(global))) = bound {
+            if !self.claims.claim(Claim::Setting(global))? {
+                self.misnames(line, Misnaming::TwoProcedures, name)?;
+            }
+        }
+        Ok(())
+    }
+
+    /// A CASE or DEFAULT, which may not stand twice.
+    pub fn chooses(
+        &mut self,
+        claim: Claim<'a>,
+        line: Line,
+        kind: SourceKind,
+    ) -> Result<(), AllocError>
+        ensures { OnOk result (self.new ≡ claims_once (claim_of claim.entry) line (wrong_of kind) self.old) }
+    {
+        if !self.claims.claim(claim)? {
+            self.breaks(line, kind);
+        }
+        Ok(())
+    }
+
+    /// A name that is used means this.
+    pub fn means(&mut self, bound: Bound) -> Result<(), AllocError>
+        ensures { OnOk result (self.new ≡ means bound self.old) }
+    {
+        self.meanings.push(bound)?;
+        Ok(())
+    }
+
+    /// A constant has this word, if any.
+    pub fn holds(&mut self, word: Option<u32>) -> Result<(), AllocError>
+        ensures { OnOk result (self.new ≡ holds word self.old) }
+    {
+        if let Some(word) = word {
+            self.words.push(word)?;
+        }
+        Ok(())
+    }
+
+    /// Takes the number that is next.
+    pub fn takes(&mut self) -> u32
+        ensures number { result ≡ self.old.next }
+        ensures taken { self.new ≡ takes self.old }
+    {
+        let number = self.next;
+        self.next = number.wrapping_add(1);
+        number
+    }
+
+    /// The frame is this deep, and so many words deeper.
+    pub fn reaches(&mut self, depth: u32, words: usize)
+        ensures { self.new ≡ reaches (depth + words) self.old }
+    {
+        let reached = kept_depth((depth as usize).saturating_add(words));
+        self.deepest = self.deepest.max(reached);
+    }
+
+    /// A frame begins, this deep. What is found wrong from here on stands behind what is wrong with the frame itself.
+    pub fn opens(&mut self, depth: u32) -> Opened
+        ensures found { self.new ≡ opens depth self.old }
+        ensures first { first_fault result.first ≡ self.old.first }
+        ensures deepest { result.deepest ≡ self.old.deepest }
+    {
+        let first = mem::replace(&mut self.first, FirstFault::new());
+        let deepest = self.deepest;
+        self.deepest = depth;
+        Opened { first, deepest }
+    }
+
+    /// The frame of the procedure whose name is on this line ends.
+    pub fn closes(&mut self, opened: Opened, line: Line)
+        ensures { self.new ≡ behind (first_fault opened.first) opened.deepest (frame_wrong line self.old) self.old }
+    {
+        let inner = mem::replace(&mut self.first, opened.first);
+        if self.deepest > FRAME_WORDS {
+            self.first.tell(line, SourceKind::FrameTooLarge);
+        }
+        self.first.then(inner);
+        self.deepest = opened.deepest;
+    }
+
+    /// An expression where a constant is asked for, and its word if it has one.
+    pub fn constant(
+        &mut self,
+        table: &Table<'a>,
+        procedure: u32,
+        expr: &Expr,
+    ) -> Result<Option<u32>, AllocError>
+        ensures word { IfOk result (λ word. word ≡ constant_word table.now (expression expr.now)) }
+        ensures found { OnOk result (self.new ≡ constant_found table.now procedure (expression expr.now) self.old) }
+    {
+        let word = constant_of(self.alloc, expr, table, procedure, &mut self.first)?;
+        self.holds(word)?;
+        Ok(word)
+    }
+
+    /// All of it is found: what the section says, or what is wrong first.
+    pub fn end(self) -> Result<Known, SourceFault>
+        ensures right { OnOk result (self.entry.first ≡ None) }
+        ensures known { IfOk result (λ known. (known.meanings.items ≡ self.entry.meanings) × (known.words.items ≡ self.entry.words)) }
+        ensures wrong { IfErr result (λ fault. self.entry.first ≡ Some (breach_of fault)) }
+    {
+        match self.first.fault() {
+            None => Ok(Known {
+                meanings: self.meanings,
+                words: self.words,
+            }),
+            Some(fault) => Err(fault),
+        }
+    }
+}

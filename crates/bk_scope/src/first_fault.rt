@@ -1,0 +1,104 @@
+//! The first fault that is found in a section.
+ghost use Rattle.std.specs.Prelude.{◌≡◌, None, Some, OnOk, IfOk, string_bytes};
+ghost use Rattle.bk_scope.specs.FirstFault.{first_fault, told, wrong_of, misnamed};
+ghost use Rattle.bk_scope.specs.Found.{else_first};
+ghost use Rattle.bk_scope.specs.Wrong.{text_of};
+
+use bk_base::{Line, SourceFault, SourceKind};
+use std::alloc::{AllocError, Global};
+
+/// What is wrong with a name.
+#[derive(Clone, Copy)]
+pub enum Misnaming {
+    /// It means nothing where it is used.
+    NotDeclared,
+    /// It is declared again in one list of names.
+    DeclaredTwice,
+    /// It is a variable of an outer procedure.
+    Dynamic,
+    /// It is no label which a GOTO may reach, or a label as an operand.
+    LabelNotHere,
+    /// It is that of a second procedure of its global.
+    TwoProcedures,
+}
+
+/// The first fault of those that were told, if any was.
+#[derive(Drop)]
+pub struct FirstFault {
+    fault: Option<SourceFault>,
+}
+
+impl FirstFault {
+    /// None yet.
+    pub fn new() -> FirstFault
+        ensures { first_fault result ≡ None }
+    {
+        FirstFault { fault: None }
+    }
+
+    /// Tells a fault of a kind that keeps no name, on this line.
+    pub fn tell(&mut self, line: Line, kind: SourceKind)
+        ensures { first_fault self.new ≡ else_first (first_fault self.old) (Some (record { line = line; wrong = wrong_of kind })) }
+    {
+        if self.fault.is_none() {
+            self.fault = Some(SourceFault { line, kind });
+        }
+    }
+
+    /// The fault, if any was told.
+    pub fn fault(self) -> Option<SourceFault>
+        ensures { told result ≡ first_fault self }
+    {
+        self.fault
+    }
+
+    /// Tells what was told elsewhere, behind this.
+    pub fn then(&mut self, other: FirstFault)
+        ensures { first_fault self.new ≡ else_first (first_fault self.old) (first_fault other) }
+    {
+        if self.fault.is_none() {
+            self.fault = other.fault;
+        }
+    }
+
+    /// Tells what is wrong with a name, on this line.
+    pub fn tell_name(
+        &mut self,
+        alloc: Global,
+        line: Line,
+        misnaming: Misnaming,
+        name: &[u8],
+    ) -> Result<(), AllocError>
+        ensures { OnOk result (first_fault self.new ≡ else_first (first_fault self.old) (Some (record { line = line; wrong = misnamed misnaming (text_of name.now) }))) }
+    {
+        if self.fault.is_none() {
+            let kind = kind_of(misnaming, spelled(alloc, name)?);
+            self.fault = Some(SourceFault { line, kind });
+        }
+        Ok(())
+    }
+}
+
+/// The kind of fault that this is, with the name's text.
+fn kind_of(misnaming: Misnaming, name: String) -> SourceKind
+    ensures { wrong_of result ≡ misnamed misnaming (string_bytes name) }
+{
+    match misnaming {
+        Misnaming::NotDeclared => SourceKind::NotDeclared(name),
+        Misnaming::DeclaredTwice => SourceKind::DeclaredTwice(name),
+        Misnaming::Dynamic => SourceKind::DynamicName(name),
+        Misnaming::LabelNotHere => SourceKind::LabelNotHere(name),
+        Misnaming::TwoProcedures => SourceKind::TwoProcedures(name),
+    }
+}
+
+/// The text of a name: each byte is the character of that number.
+fn spelled(alloc: Global, name: &[u8]) -> Result<String, AllocError>
+    ensures { IfOk result (λ text. string_bytes text ≡ text_of name.now) }
+{
+    let mut text = String::new(alloc);
+    for &byte in name {
+        text.push(char::from(byte))?;
+    }
+    Ok(text)
+}

@@ -1,0 +1,150 @@
+//! The items of MANIFEST, STATIC and GLOBAL, and other places where constants are asked for.
+ghost use Rattle.std.specs.Prelude.{◌≡◌, List, OnOk, IfOk};
+ghost use Rattle.bk_syntax.specs.Tree.{expression, expressions_in, items_in};
+ghost use Rattle.bk_syntax.specs.Grammar.{line_of as first_line};
+ghost use Rattle.bk_scope.specs.Scope.{Binding, bind_all};
+ghost use Rattle.bk_scope.specs.Names.{bounded, within, constants_found, manifests as through_manifests, statics as through_statics, globals as through_globals};
+ghost use Rattle.bk_scope.specs.Wrong.{global_out_of_range};
+ghost use Rattle.bk_base.specs.declared.limit.TheConstants.{GLOBAL_NUMBER};
+
+use crate::bound::Bound;
+use crate::findings::Findings;
+use crate::fresh::Fresh;
+use crate::table::Table;
+use crate::walk::Walk;
+use bk_base::limit::GLOBAL_NUMBER;
+use bk_base::{Line, SourceKind};
+use bk_syntax::tree::{Expr, Item};
+use std::alloc::AllocError;
+
+/// Expressions where constants are asked for.
+pub fn constants<'a>(
+    walk: &mut Walk<'a>,
+    procedure: u32,
+    exprs: &'a [Expr],
+) -> Result<(), AllocError>
+    ensures { OnOk result (walk.new ≡ record { scope = walk.old.scope; found = constants_found walk.old.scope procedure (expressions_in exprs.now) walk.old.found }) }
+{
+    for expr in exprs {
+        let _word = walk.findings.constant(&walk.table, procedure, expr)?;
+    }
+    Ok(())
+}
+
+/// The items of a MANIFEST, which are the list of this number.
+pub fn manifests<'a>(
+    walk: &mut Walk<'a>,
+    list: u32,
+    procedure: u32,
+    items: &'a [Item],
+) -> Result<(), AllocError>
+    ensures { OnOk result (walk.new ≡ through_manifests list procedure (items_in items.now) walk.old) }
+{
+    for Item::Item(line, name, expr) in items {
+        walk.findings.lists(list, *line, name)?;
+        let word = walk.findings.constant(&walk.table, procedure, expr)?;
+        walk.table.bind(name, Bound::Constant(word))?;
+    }
+    Ok(())
+}
+
+/// The line of an expression's first symbol.
+pub fn line_of(expr: &Expr) -> Line
+    ensures { result ≡ first_line (expression expr.now) }
+{
+    match expr {
+        Expr::Name(line, _)
+        | Expr::Number(line, _)
+        | Expr::Text(line, _)
+        | Expr::Truth(line, _)
+        | Expr::Query(line)
+        | Expr::Parens(line, _)
+        | Expr::Unary(line, _, _)
+        | Expr::Binary(line, _, _, _, _)
+        | Expr::Choice(line, _, _, _, _)
+        | Expr::Apply(line, _, _, _)
+        | Expr::Valof(line, _)
+        | Expr::Table(line, _) => *line,
+    }
+}
+
+/// The items of a STATIC, which are the list of this number. They come into scope together, behind the last.
+pub fn statics<'a>(
+    walk: &mut Walk<'a>,
+    list: u32,
+    procedure: u32,
+    items: &'a [Item],
+) -> Result<(), AllocError>
+    ensures { OnOk result (walk.new ≡ through_statics walk.old.scope list procedure (items_in items.now) walk.old) }
+{
+    let fresh = fresh_statics(&mut walk.findings, &walk.table, list, procedure, items)?;
+    fresh.enter(&mut walk.table)
+}
+
+/// The items of a GLOBAL, which are the list of this number. They come into scope together, behind the last.
+pub fn globals<'a>(
+    walk: &mut Walk<'a>,
+    list: u32,
+    procedure: u32,
+    items: &'a [Item],
+) -> Result<(), AllocError>
+    ensures { OnOk result (walk.new ≡ through_globals walk.old.scope list procedure (items_in items.now) walk.old) }
+{
+    let fresh = fresh_globals(&mut walk.findings, &walk.table, list, procedure, items)?;
+    fresh.enter(&mut walk.table)
+}
+
+/// Goes through the items of STATIC while none is in scope; what they will mean.
+fn fresh_statics<'a>(
+    findings: &mut Findings<'a>,
+    table: &Table<'a>,
+    list: u32,
+    procedure: u32,
+    items: &'a [Item],
+) -> Result<Fresh<'a>, AllocError>
+    ensures { IfOk result (λ fresh. (scope : List Binding) →
+        through_statics table.now list procedure (items_in items.now) (record { scope = scope; found = findings.old }) ≡ record { scope = bind_all fresh scope; found = findings.new }) }
+{
+    let mut fresh = Fresh::new(findings.alloc());
+    for Item::Item(line, name, expr) in items {
+        findings.lists(list, *line, name)?;
+        let _word = findings.constant(table, procedure, expr)?;
+        let bound = Bound::Static(findings.takes());
+        fresh.add(name, bound)?;
+    }
+    Ok(fresh)
+}
+
+/// Goes through the items of GLOBAL while none is in scope; what they will mean.
+fn fresh_globals<'a>(
+    findings: &mut Findings<'a>,
+    table: &Table<'a>,
+    list: u32,
+    procedure: u32,
+    items: &'a [Item],
+) -> Result<Fresh<'a>, AllocError>
+    ensures { IfOk result (λ fresh. (scope : List Binding) →
+        through_globals table.now list procedure (items_in items.now) (record { scope = scope; found = findings.old }) ≡ record { scope = bind_all fresh scope; found = findings.new }) }
+{
+    let mut fresh = Fresh::new(findings.alloc());
+    for Item::Item(line, name, expr) in items {
+        findings.lists(list, *line, name)?;
+        let word = findings.constant(table, procedure, expr)?;
+        let bound = Bound::Global(global_of(findings, line_of(expr), word));
+        fresh.add(name, bound)?;
+    }
+    Ok(fresh)
+}
+
+/// The number of a global whose constant has this word, if it has one; that it is too large is told on this line.
+fn global_of(findings: &mut Findings, line: Line, word: Option<u32>) -> Option<u32>
+    ensures number { result ≡ within GLOBAL_NUMBER word }
+    ensures found { findings.new ≡ bounded GLOBAL_NUMBER line global_out_of_range word findings.old }
+{
+    let number = word?;
+    if number > GLOBAL_NUMBER {
+        findings.breaks(line, SourceKind::GlobalOutOfRange);
+        return None;
+    }
+    Some(number)
+}

@@ -1,0 +1,418 @@
+//! Going through the nodes of a section.
+ghost use Rattle.std.specs.Prelude.{◌≡◌, ◌++◌, [], ◌∷◌, map, OnOk, IfOk};
+ghost use Rattle.bk_syntax.specs.Tree.{expression, expressions_in, action, actions_in, declaration, declarations_in, definition, definitions_in, starts_in, mention};
+ghost use Rattle.bk_scope.specs.Names.{Behind, Defined, evaluated, each_evaluated, destinations, done, each_done, declared, one_declared, defined, one_defined, started, place_behind, variables_of, words_below};
+
+use crate::bound::Bound;
+use crate::claims::Claim;
+use crate::entering::{
+    enter_formals, enter_labels, enter_labels_of_each, enter_procedures, list_names,
+};
+use crate::fresh::Fresh;
+use crate::heads::{choose, choose_default, head, in_switch, single, vector};
+use crate::items::{constants, globals, line_of, manifests, statics};
+use crate::naming::{go_to, name_at, without_word};
+use crate::operands::{fit_infix, fit_prefix, place_of_second, role_of_operand, role_of_operands};
+use crate::place::Place;
+use crate::role::Role;
+use crate::walk::Walk;
+use bk_base::SourceKind;
+use bk_syntax::tree::{Command, Decl, Def, Expr, Init, Name, Sort};
+use std::alloc::AllocError;
+
+/// An expression.
+#[cycle(nodes)]
+pub fn evaluate<'a>(
+    walk: &mut Walk<'a>,
+    role: &Role,
+    place: Place,
+    expr: &'a Expr,
+) -> Result<(), AllocError>
+    ensures { OnOk result (walk.new ≡ record { scope = walk.old.scope; found = evaluated role.now walk.old.scope place (expression expr.now) walk.old.found }) }
+{
+    match expr {
+        Expr::Name(line, letters) => name_at(
+            &walk.table,
+            &mut walk.findings,
+            role,
+            place,
+            *line,
+            letters,
+            expr,
+        ),
+        Expr::Number(_, _) | Expr::Text(_, _) | Expr::Truth(_, _) | Expr::Query(_) => {
+            without_word(&walk.table, &mut walk.findings, role, place.procedure, expr);
+            walk.findings.reaches(place.depth, 1);
+            Ok(())
+        }
+        Expr::Parens(_, inside) => {
+            let inner = role.parenthesised();
+            evaluate(walk, &inner, place, inside)
+        }
+        Expr::Unary(_, prefix, operand) => {
+            let inner = role_of_operand(*prefix, role, operand);
+            fit_prefix(
+                &walk.table,
+                &mut walk.findings,
+                *prefix,
+                role,
+                place.procedure,
+                expr,
+            );
+            evaluate(walk, &inner, place, operand)
+        }
+        Expr::Binary(_, operator, _, left, right) => {
+            let inner = role_of_operands(*operator, role);
+            let second = place_of_second(*operator, role, place);
+            fit_infix(
+                &walk.table,
+                &mut walk.findings,
+                *operator,
+                role,
+                place.procedure,
+                expr,
+            );
+            evaluate(walk, &inner, place, left)?;
+            evaluate(walk, &inner, second, right)
+        }
+        Expr::Choice(_, _, condition, yes, no) => {
+            without_word(&walk.table, &mut walk.findings, role, place.procedure, expr);
+            evaluate(walk, &Role::Truth, place, condition)?;
+            evaluate(walk, &Role::Value, place, yes)?;
+            evaluate(walk, &Role::Value, place, no)
+        }
+        Expr::Apply(_, _, callee, arguments) => {
+            without_word(&walk.table, &mut walk.findings, role, place.procedure, expr);
+            let above = place.deeper(arguments.len() + 2);
+            let first = place.deeper(2);
+            evaluate(walk, &Role::Value, above, callee)?;
+            evaluate_each(walk, 1, first, arguments)
+        }
+        Expr::Valof(_, command) => {
+            without_word(&walk.table, &mut walk.findings, role, place.procedure, expr);
+            let mark = walk.table.mark();
+            let labels = walk.findings.takes();
+            enter_labels(walk, place.procedure, command)?;
+            let inner = place.valued().labelled(labels);
+            act(walk, inner, command)?;
+            walk.table.leave(mark);
+            walk.findings.reaches(place.depth, 1);
+            Ok(())
+        }
+        Expr::Table(_, items) => {
+            without_word(&walk.table, &mut walk.findings, role, place.procedure, expr);
+            constants(walk, place.procedure, items)?;
+            walk.findings.reaches(place.depth, 1);
+            Ok(())
+        }
+    }
+}
+
+/// Expressions one after another, each so many words deeper.
+#[cycle(nodes)]
+fn evaluate_each<'a>(
+    walk: &mut Walk<'a>,
+    words: usize,
+    place: Place,
+    exprs: &'a [Expr],
+) -> Result<(), AllocError>
+    ensures { OnOk result (walk.new ≡ record { scope = walk.old.scope; found = each_evaluated words walk.old.scope place (expressions_in exprs.now) walk.old.found }) }
+{
+    let mut next = place;
+    for expr in exprs {
+        evaluate(walk, &Role::Value, next, expr)?;
+        next = next.deeper(words);
+    }
+    Ok(())
+}
+
+/// The destinations of an assignment.
+#[cycle(nodes)]
+fn set_each<'a>(walk: &mut Walk<'a>, place: Place, exprs: &'a [Expr]) -> Result<(), AllocError>
+    ensures { OnOk result (walk.new ≡ record { scope = walk.old.scope; found = destinations walk.old.scope place (expressions_in exprs.now) walk.old.found }) }
+{
+    for expr in exprs {
+        evaluate(walk, &Role::Destination(false, line_of(expr)), place, expr)?;
+    }
+    Ok(())
+}
+
+/// A command.
+#[cycle(nodes)]
+pub fn act<'a>(walk: &mut Walk<'a>, place: Place, command: &'a Command) -> Result<(), AllocError>
+    ensures { OnOk result (walk.new ≡ record { scope = walk.old.scope; found = done walk.old.scope place (action command.now) walk.old.found }) }
+{
+    match command {
+        Command::Empty => Ok(()),
+        Command::Assign(_, dests, values) => {
+            set_each(walk, place.deeper(1), dests)?;
+            evaluate_each(walk, 0, place, values)
+        }
+        Command::Call(_, callee, arguments) => {
+            let above = place.deeper(arguments.len() + 2);
+            let first = place.deeper(2);
+            evaluate(walk, &Role::Value, above, callee)?;
+            evaluate_each(walk, 1, first, arguments)
+        }
+        Command::Goto(_, name) => {
+            let bound = walk.table.find(&name.letters);
+            go_to(
+                &mut walk.findings,
+                place.procedure,
+                name.line,
+                &name.letters,
+                bound,
+            )
+        }
+        Command::Label(line, letters, body) => {
+            walk.findings.lists(place.labels, *line, letters)?;
+            act(walk, place, body)
+        }
+        Command::Case(line, expr, body) => {
+            in_switch(&mut walk.findings, place.switch, *line);
+            let word = walk.findings.constant(&walk.table, place.procedure, expr)?;
+            choose(&mut walk.findings, place.switch, *line, word)?;
+            act(walk, place, body)
+        }
+        Command::Default(line, body) => {
+            in_switch(&mut walk.findings, place.switch, *line);
+            choose_default(&mut walk.findings, place.switch, *line)?;
+            act(walk, place, body)
+        }
+        Command::If(_, _, condition, body) => {
+            evaluate(walk, &Role::Truth, place, condition)?;
+            act(walk, place, body)
+        }
+        Command::Test(_, condition, body, other) => {
+            evaluate(walk, &Role::Truth, place, condition)?;
+            act(walk, place, body)?;
+            act(walk, place, other)
+        }
+        Command::While(_, _, condition, body) => {
+            evaluate(walk, &Role::Truth, place, condition)?;
+            act(walk, place.looping(), body)
+        }
+        Command::For(_, name, from, to, by, body) => {
+            evaluate(walk, &Role::Value, place, from)?;
+            evaluate(walk, &Role::Value, place.deeper(1), to)?;
+            if let Some(step) = by {
+                walk.findings.constant(&walk.table, place.procedure, step)?;
+            }
+            walk.findings.reaches(place.depth, 4);
+            let mark = walk.table.mark();
+            let labels = walk.findings.takes();
+            walk.table.bind(&name.letters, Bound::Variable(place.procedure, place.depth))?;
+            enter_labels(walk, place.procedure, body)?;
+            act(walk, place.deeper(2).looping().labelled(labels), body)?;
+            walk.table.leave(mark);
+            Ok(())
+        }
+        Command::SwitchOn(_, expr, body) => {
+            evaluate(walk, &Role::Value, place, expr)?;
+            let number = walk.findings.takes();
+            act(walk, place.switching(number), body)
+        }
+        Command::ResultIs(line, expr) => {
+            if !place.in_valof {
+                walk.findings.breaks(*line, SourceKind::NoResultOrReturn);
+            }
+            evaluate(walk, &Role::Value, place, expr)
+        }
+        Command::Simple(line, word) => {
+            single(&mut walk.findings, place, *line, *word);
+            Ok(())
+        }
+        Command::Block(_, decls, commands) => {
+            if decls.is_empty() {
+                act_each(walk, place, commands)
+            } else {
+                let mark = walk.table.mark();
+                let inner = declare_each(walk, place, decls)?;
+                let labels = walk.findings.takes();
+                enter_labels_of_each(walk, place.procedure, commands)?;
+                act_each(walk, inner.labelled(labels), commands)?;
+                walk.table.leave(mark);
+                Ok(())
+            }
+        }
+        Command::Repeat(_, body) => act(walk, place.looping(), body),
+        Command::RepeatWhile(_, _, body, condition) => {
+            act(walk, place.looping(), body)?;
+            evaluate(walk, &Role::Truth, place, condition)
+        }
+    }
+}
+
+/// Commands one after another.
+#[cycle(nodes)]
+fn act_each<'a>(
+    walk: &mut Walk<'a>,
+    place: Place,
+    commands: &'a [Command],
+) -> Result<(), AllocError>
+    ensures { OnOk result (walk.new ≡ record { scope = walk.old.scope; found = each_done walk.old.scope place (actions_in commands.now) walk.old.found }) }
+{
+    for command in commands {
+        act(walk, place, command)?;
+    }
+    Ok(())
+}
+
+/// Declarations one after another, and the place behind them.
+#[cycle(nodes)]
+pub fn declare_each<'a>(
+    walk: &mut Walk<'a>,
+    place: Place,
+    decls: &'a [Decl],
+) -> Result<Place, AllocError>
+    ensures { IfOk result (λ behind. (record { scope = walk.new.scope; place = behind; found = walk.new.found }) ≡ declared walk.old.scope place (declarations_in decls.now) walk.old.found) }
+{
+    let mut behind = place;
+    for decl in decls {
+        behind = declare(walk, behind, decl)?;
+    }
+    Ok(behind)
+}
+
+/// A declaration, and the place behind it.
+#[cycle(nodes)]
+fn declare<'a>(walk: &mut Walk<'a>, place: Place, decl: &'a Decl) -> Result<Place, AllocError>
+    ensures { IfOk result (λ behind. (record { scope = walk.new.scope; place = behind; found = walk.new.found }) ≡ one_declared walk.old.scope place (declaration decl.now) walk.old.found) }
+{
+    let list = walk.findings.takes();
+    match decl {
+        Decl::Constants(_, sort, items) => {
+            match sort {
+                Sort::Manifest => manifests(walk, list, place.procedure, items)?,
+                Sort::Static => statics(walk, list, place.procedure, items)?,
+                Sort::Global => globals(walk, list, place.procedure, items)?,
+            }
+            Ok(place)
+        }
+        Decl::Let(_, defs) => {
+            enter_procedures(walk, defs)?;
+            let mut fresh = Fresh::new(walk.alloc);
+            let behind = define_each(walk, list, place, defs, &mut fresh)?;
+            fresh.enter(&mut walk.table)?;
+            Ok(behind)
+        }
+    }
+}
+
+/// The definitions of a LET, which are the list of this number, and the place behind them. Their variables are fresh.
+#[cycle(nodes)]
+fn define_each<'a>(
+    walk: &mut Walk<'a>,
+    list: u32,
+    place: Place,
+    defs: &'a [Def],
+    fresh: &mut Fresh<'a>,
+) -> Result<Place, AllocError>
+    ensures scope { OnOk result (walk.new.scope ≡ walk.old.scope) }
+    ensures found { IfOk result (λ behind. (record { fresh = fresh.new; place = behind; found = walk.new.found }) ≡ defined list walk.old.scope (definitions_in defs.now) (record { fresh = fresh.old; place = place; found = walk.old.found })) }
+{
+    let mut behind = place;
+    for def in defs {
+        behind = define(walk, list, behind, def, fresh)?;
+    }
+    Ok(behind)
+}
+
+/// A definition, and the place behind it.
+#[cycle(nodes)]
+fn define<'a>(
+    walk: &mut Walk<'a>,
+    list: u32,
+    place: Place,
+    def: &'a Def,
+    fresh: &mut Fresh<'a>,
+) -> Result<Place, AllocError>
+    ensures scope { OnOk result (walk.new.scope ≡ walk.old.scope) }
+    ensures found { IfOk result (λ behind. (record { fresh = fresh.new; place = behind; found = walk.new.found }) ≡ one_defined list walk.old.scope (definition def.now) (record { fresh = fresh.old; place = place; found = walk.old.found })) }
+{
+    match def {
+        Def::Routine(line, name, formals, body) => {
+            walk.findings.lists(list, *line, name)?;
+            let number = walk.findings.takes();
+            let opened = head(walk, number, *line, name, formals)?;
+            let mark = walk.table.mark();
+            enter_formals(walk, number, formals)?;
+            let labels = walk.findings.takes();
+            enter_labels(walk, number, body)?;
+            act(
+                walk,
+                Place::called(true, number, formals.len()).labelled(labels),
+                body,
+            )?;
+            walk.table.leave(mark);
+            walk.findings.closes(opened, *line);
+            Ok(place)
+        }
+        Def::Function(line, name, formals, body) => {
+            walk.findings.lists(list, *line, name)?;
+            let number = walk.findings.takes();
+            let opened = head(walk, number, *line, name, formals)?;
+            let mark = walk.table.mark();
+            enter_formals(walk, number, formals)?;
+            evaluate(
+                walk,
+                &Role::Value,
+                Place::called(false, number, formals.len()),
+                body,
+            )?;
+            walk.table.leave(mark);
+            walk.findings.closes(opened, *line);
+            Ok(place)
+        }
+        Def::Variables(_, names, starts) => {
+            list_names(&mut walk.findings, list, names)?;
+            start_each(walk, place, names, starts, fresh)
+        }
+    }
+}
+
+/// What variables begin with, one after another, and the place behind them. The variables are fresh.
+#[cycle(nodes)]
+fn start_each<'a>(
+    walk: &mut Walk<'a>,
+    place: Place,
+    names: &'a [Name],
+    starts: &'a [Init],
+    fresh: &mut Fresh<'a>,
+) -> Result<Place, AllocError>
+    ensures scope { OnOk result (walk.new.scope ≡ walk.old.scope) }
+    ensures found { OnOk result (walk.new.found ≡ started walk.old.scope place (starts_in starts.now) walk.old.found) }
+    ensures place { IfOk result (λ behind. behind ≡ place_behind walk.old.scope place (starts_in starts.now)) }
+    ensures fresh { OnOk result (fresh.new ≡ fresh.old ++ variables_of walk.old.scope place (map mention names.now) (starts_in starts.now)) }
+{
+    let mut next = place;
+    for (index, start) in starts.iter().enumerate() {
+        let words = start_one(walk, next, start)?;
+        if let Some(name) = names.get(index) {
+            let value = next.deeper(words);
+            fresh.add(&name.letters, Bound::Variable(next.procedure, value.depth))?;
+        }
+        next = next.deeper(words + 1);
+    }
+    Ok(next)
+}
+
+/// What a variable begins with, and how many words stand below its value: those of a VEC.
+#[cycle(nodes)]
+fn start_one<'a>(walk: &mut Walk<'a>, place: Place, start: &'a Init) -> Result<usize, AllocError>
+    ensures scope { OnOk result (walk.new.scope ≡ walk.old.scope) }
+    ensures found { OnOk result (walk.new.found ≡ started walk.old.scope place (starts_in (start.now ∷ [])) walk.old.found) }
+    ensures words { IfOk result (λ words. words ≡ words_below walk.old.scope (starts_in (start.now ∷ []))) }
+{
+    match start {
+        Init::Value(expr) => {
+            evaluate(walk, &Role::Value, place, expr)?;
+            Ok(0)
+        }
+        Init::Vector(_, expr) => {
+            let words = vector(walk, place.procedure, expr)?;
+            walk.findings.reaches(place.depth, words + 1);
+            Ok(words)
+        }
+    }
+}

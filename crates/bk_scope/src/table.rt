@@ -1,0 +1,114 @@
+//! The declarations in scope, by name.
+ghost use Rattle.std.specs.Prelude.{◌≡◌, ◌-◌, ◌≤◌, ◌<◌, [], drop, length, OnOk, OnErr};
+ghost use Rattle.bk_scope.specs.Scope.{bind, bound_in};
+ghost use Rattle.bk_scope.specs.TableView.{place_in};
+
+use crate::bound::Bound;
+use indexmap::IndexMap;
+use std::alloc::{AllocError, Global};
+use std::marker::Model;
+
+/// The declarations in scope, which contracts see as the list of them, the innermost first.
+#[derive(Drop)]
+pub struct Table<'a> {
+    /// Of each name that was bound, the place in `bindings` of the innermost binding that is in scope, if any.
+    innermost: IndexMap<&'a [u8], Option<usize>>,
+    /// The bindings in scope, the outermost first.
+    bindings: Vec<Entry<'a>>,
+}
+
+/// A binding.
+#[derive(Clone, Copy)]
+struct Entry<'a> {
+    name: &'a [u8],
+    bound: Bound,
+    /// The place of the binding that this one hides.
+    hidden: Option<usize>,
+}
+
+impl<'a> Model for Table<'a> {
+    ghost use Rattle.std.specs.Prelude.{List};
+    ghost use Rattle.bk_scope.specs.Scope.{Binding};
+
+    ghost Value = { List Binding };
+
+    ghost use Rattle.bk_scope.specs.TableView.{scope_of, IsTable};
+
+    ghost view = { λ t. scope_of t.bindings.items };
+
+    ghost invariant = { IsTable };
+}
+
+impl<'a> Table<'a> {
+    /// Nothing is in scope.
+    pub fn new(alloc: Global) -> Table<'a>
+        ensures { result ≡ [] }
+    {
+        Table {
+            innermost: IndexMap::new(alloc),
+            bindings: Vec::new(alloc),
+        }
+    }
+
+    /// A declaration inside those that are in scope.
+    pub fn bind(&mut self, name: &'a [u8], bound: Bound) -> Result<(), AllocError>
+        ensures bound { OnOk result (self.new ≡ bind name.now bound self.old) }
+        ensures unbound { OnErr result (self.new ≡ self.old) }
+    {
+        let place = self.bindings.len();
+        let hidden = self.place(name);
+        self.bindings.push(Entry {
+            name,
+            bound,
+            hidden,
+        })?;
+        match self.innermost.insert(name, Some(place)) {
+            Ok(_) => Ok(()),
+            Err(_) => {
+                self.bindings.pop();
+                Err(AllocError)
+            }
+        }
+    }
+
+    /// How many bindings are in scope, to come back to.
+    pub fn mark(&self) -> usize
+        ensures { result ≡ length self.now }
+    {
+        self.bindings.len()
+    }
+
+    /// Back to so many bindings.
+    pub fn leave(&mut self, mark: usize)
+        requires { mark ≤ length self.old }
+        ensures { self.new ≡ drop (length self.old - mark) self.old }
+    {
+        while mark < self.mark() {
+            self.leave_innermost();
+        }
+    }
+
+    /// What a name means.
+    pub fn find(&self, name: &[u8]) -> Option<Bound>
+        ensures { result ≡ bound_in self.now name.now }
+    {
+        let place = self.place(name)?;
+        Some(self.bindings[place].bound)
+    }
+
+    /// The place of a name's innermost binding.
+    fn place(&self, name: &[u8]) -> Option<usize>
+        ensures { result ≡ place_in self.now name.now }
+    {
+        self.innermost.get(name).copied().flatten()
+    }
+
+    /// Takes the innermost binding out. What it hid is in scope again.
+    fn leave_innermost(&mut self)
+        requires { 0 < length self.old }
+        ensures { self.new ≡ drop 1 self.old }
+    {
+        let entry = self.bindings.pop().unwrap();
+        *self.innermost.get_mut(entry.name).unwrap() = entry.hidden;
+    }
+}
