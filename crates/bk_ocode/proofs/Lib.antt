@@ -18,5 +18,7 @@ pub mod StepKeeps
 pub mod LabelsOnce
 pub mod JumpDepths
 pub mod JumpPlaces
+pub mod LabelRests
 mod Examples
 mod Programs
+mod SharedPlaces

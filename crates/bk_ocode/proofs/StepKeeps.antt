@@ -3,7 +3,7 @@ use Rattle.std.proofs.Common.{◌≡◌, ℕ, ◌+◌, ◌-◌, ◌<◌, ◌^◌
 use Rattle.bk_base.specs.Word.{word_sum, byte_distance}
 use Rattle.bk_ocode.specs.Cells.{Content, Unset, Partly, Word, Temporary, Link, Cell, Free, Held, write, below, settle}
 use Rattle.bk_ocode.specs.OcodeState.{Placed, Callables, State, Next, Wild}
-use Rattle.bk_ocode.specs.OcodeStep.{on, slot, push, on_number, on_some, operated, named_place, from_label, jump, jump_with, case_label, can_be_called, call, return, dyadic_word, step_by}
+use Rattle.bk_ocode.specs.OcodeStep.{on, slot, push, on_number, on_some, operated, named_place, has_word, from_label, jump, jump_with, case_label, can_be_called, call, return, dyadic_word, step_by}
 use Rattle.bk_ocode.specs.Access.{variable_at, byte_at, word_with_byte_at}
 use Rattle.bk_ocode.specs.StepLaws.{IsNotAmong, KeepsNext, StepKeepsBelow}
 use Rattle.bk_ocode.specs.declared.stmt.Monadic.TheVariants.{Contents, Negate, Not}
@@ -126,7 +126,8 @@ step_by-keeps callables s own k (Dyadic operator) rest =
 step_by-keeps callables s own k LoadByte rest =
     on_number-keeps s (slot s (k - 2)) _ (λ a. on_number-keeps s (slot s (k - 1)) _ (λ i.
     on_some-keeps s (byte_at (s.frame + k) s.cells a i) _ (λ b. push-keeps s own (k - 2) rest _)))
-step_by-keeps callables s own k (Assign to) rest = write-keeps s own (k - 1) rest (named_place s own to) _
+step_by-keeps callables s own k (Assign to) rest =
+    if-keeps s (has_word to (s.cells (named_place s own to))) _ Wild (write-keeps s own (k - 1) rest (named_place s own to) _) tt
 step_by-keeps callables s own k AssignAt rest =
     on_number-keeps s (slot s (k - 1)) _ (λ a. on_some-keeps s (variable_at (s.frame + k) s.cells a) _ (λ _. write-keeps s own (k - 2) rest a _))
 step_by-keeps callables s own k AssignByte rest =

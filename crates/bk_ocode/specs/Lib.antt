@@ -18,6 +18,7 @@ pub mod OcodeStep
 pub mod OcodeRun
 pub mod FirstFault
 pub mod StepLaws
+pub mod RunLaws
 pub mod SectionLaws
 pub mod KnownUses
 pub mod Drafts

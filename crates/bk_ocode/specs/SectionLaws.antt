@@ -1,6 +1,7 @@
 -- Laws of accepted sections, for the layers above.
-use Rattle.std.specs.Prelude.{◌≡◌, ◌⊎◌, ℕ, ◌-◌, List, [], ◌∷◌, Some, slice_get, take, drop}
-use Rattle.bk_ocode.specs.Depth.{depth_behind}
+use Rattle.std.specs.Prelude.{◌≡◌, ◌⊎◌, ℕ, ◌-◌, ◌<◌, ◌≤◌, List, [], ◌∷◌, Some, slice_get, take, drop}
+use Rattle.bk_base.specs.declared.limit.TheConstants.{FRAME_WORDS, OCODE_STATEMENTS}
+use Rattle.bk_ocode.specs.Depth.{next_depth, depth_behind, least_depth}
 use Rattle.bk_ocode.specs.Labels.{label_set, jump_labels}
 use Rattle.bk_ocode.specs.Section.{AreFaultless, IsSection}
 use Rattle.bk_ocode.specs.OcodeStep.{from_label}
@@ -36,3 +37,12 @@ JumpHasItsLabelsDepth = (stmts : List Stmt) (i j label : ℕ) (s : Stmt) → Are
 abbrev pub JumpFindsItsLabel : Type 0
 JumpFindsItsLabel = (stmts : List Stmt) (i label : ℕ) (s : Stmt) → IsSection stmts → slice_get stmts i ≡ Some s → IsAmong label (jump_labels s) →
     (place : ℕ) × (slice_get stmts place ≡ Some (Label label))
+
+-- Each statement has the depth that it needs, and no depth passes the limit of frames.
+abbrev pub DepthsSuffice : Type 0
+DepthsSuffice = (stmts : List Stmt) (i : ℕ) (s : Stmt) → AreFaultless stmts → slice_get stmts i ≡ Some s →
+    (least_depth s ≤ depth_behind 0 (take i stmts)) × (next_depth (depth_behind 0 (take i stmts)) s ≤ FRAME_WORDS)
+
+-- There are no more statements than the limit.
+abbrev pub SectionIsShort : Type 0
+SectionIsShort = (stmts : List Stmt) (i : ℕ) (s : Stmt) → AreFaultless stmts → slice_get stmts i ≡ Some s → i < OCODE_STATEMENTS

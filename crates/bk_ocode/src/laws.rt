@@ -1,8 +1,9 @@
 //! Laws of sections and of the step, which the crates above rest on.
 ghost use Rattle.bk_ocode.specs.StepLaws.{StepKeepsBelow};
+ghost use Rattle.bk_ocode.specs.RunLaws.{GoesOnBehindLabel};
 ghost use Rattle.bk_ocode.specs.FirstFault.{SayOneThing};
-ghost use Rattle.bk_ocode.specs.SectionAnswer.{PrintedSaysAgain, PrintedIsReadAgain};
-ghost use Rattle.bk_ocode.specs.SectionLaws.{LabelsAreSetOnce, LabelHasOnePlace, JumpFindsItsLabel, JumpHasItsLabelsDepth};
+ghost use Rattle.bk_ocode.specs.SectionAnswer.{PrintedIsParted, PrintedAreParted, PrintedSaysAgain, PrintedIsReadAgain};
+ghost use Rattle.bk_ocode.specs.SectionLaws.{LabelsAreSetOnce, LabelHasOnePlace, JumpFindsItsLabel, JumpHasItsLabelsDepth, DepthsSuffice, SectionIsShort};
 
 /// No label of a section is set twice.
 #[tactic(auto, using(crate::proofs::LabelsOnce::labels_are_set_once))]
@@ -50,4 +51,34 @@ pub fn printed_again()
 #[tactic(auto, using(crate::proofs::ReadAgain::read_again))]
 pub fn read_again()
     ensures { PrintedIsReadAgain }
+{}
+
+/// Each statement has the depth that it needs, and no depth passes the limit of frames.
+#[tactic(auto, using(crate::proofs::Depths::depths_suffice))]
+pub fn depths_suffice()
+    ensures { DepthsSuffice }
+{}
+
+/// There are no more statements than the limit.
+#[tactic(auto, using(crate::proofs::Depths::section_is_short))]
+pub fn section_is_short()
+    ensures { SectionIsShort }
+{}
+
+/// Behind a LAB a program goes on with what stands behind that LAB, whatever numbers the labels have.
+#[tactic(auto, using(crate::proofs::LabelRests::goes_on_behind_label))]
+pub fn goes_on_behind_label()
+    ensures { GoesOnBehindLabel }
+{}
+
+/// The words of a printed section with a text behind it are its words, and then those of that text.
+#[tactic(auto, using(crate::proofs::ReadAgain::printed_is_parted))]
+pub fn printed_is_parted()
+    ensures { PrintedIsParted }
+{}
+
+/// So are those of several printed sections, one behind the other.
+#[tactic(auto, using(crate::proofs::ReadAgain::printed_are_parted))]
+pub fn printed_are_parted()
+    ensures { PrintedAreParted }
 {}

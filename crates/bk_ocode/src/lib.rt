@@ -22,10 +22,12 @@ mod tests;
 
 pub use byte_string::ByteString;
 pub use case_list::CaseList;
+pub use depth::depth_behind;
 pub use global_list::GlobalList;
 pub use laws::{
-    jump_finds_its_label, jump_has_its_labels_depth, label_has_one_place, labels_are_set_once,
-    one_saying, printed_again, read_again, step_keeps_below,
+    depths_suffice, goes_on_behind_label, jump_finds_its_label, jump_has_its_labels_depth,
+    label_has_one_place, labels_are_set_once, one_saying, printed_again, printed_are_parted,
+    printed_is_parted, read_again, section_is_short, step_keeps_below,
 };
 pub use printing::print;
 pub use reading::read_section;

@@ -144,12 +144,13 @@ fn next_section<I: ByteIn>(
 /// Reads the next section of a text, or None where only blanks are left.
 ///
 /// It takes at most one byte past the last word, holds one word of the text, and no list besides the section that it
-/// builds. Where memory is refused it answers so in the place of any other answer.
+/// builds. Where memory is refused it answers so in the place of any other answer, and takes no word more.
 pub fn read_section<I: ByteIn>(
     alloc: Global,
     input: &mut I,
 ) -> Result<Option<Ocode>, Refused<OcodeFault>>
-    // What was taken is the text of the section, or blanks, or a text up to its first fault.
+    // What was taken is the text of the section, or blanks, or a text up to its first fault, or up to the word at which memory
+    // was refused.
     ensures answers { Answers result (I.left input.old) (I.left input.new) (I.ended input.new) }
     // That stands whatever follows the bytes taken.
     ensures stands { StandsFor result (I.left input.old) (I.left input.new) (I.ended input.new) }
