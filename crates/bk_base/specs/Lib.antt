@@ -9,3 +9,4 @@ pub mod DeviceLaws
 pub mod BufferLaws
 pub mod Decimal
 pub mod DecimalLaws
+pub mod Format
