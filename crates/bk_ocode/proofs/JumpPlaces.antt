@@ -19,7 +19,7 @@ use Rattle.bk_ocode.proofs.LabelsOnce.{slice_get-take}
 use Rattle.bk_ocode.proofs.JumpDepths.{after-same}
 
 -- in a procedure
-abbrev Within : Position → Bool
+abbrev pub Within : Position → Bool
 Within position.Opened = true
 Within (position.BehindLabel l) = true
 Within position.BehindReturn = true

@@ -19,6 +19,11 @@ pub mod OcodeRun
 pub mod FirstFault
 pub mod StepLaws
 pub mod RunLaws
+pub mod SectionData
+pub mod Library
+pub mod ProgramStart
+pub mod Frames
+pub mod SoundRuns
 pub mod SectionLaws
 pub mod KnownUses
 pub mod Drafts

@@ -1,6 +1,7 @@
 //! Laws of sections and of the step, which the crates above rest on.
 ghost use Rattle.bk_ocode.specs.StepLaws.{StepKeepsBelow};
 ghost use Rattle.bk_ocode.specs.RunLaws.{GoesOnBehindLabel};
+ghost use Rattle.bk_ocode.specs.SoundRuns.{FirstStateIsSound, StepsAreSound, ResumingIsSound, StepsGrow, EndsKeepBytes};
 ghost use Rattle.bk_ocode.specs.FirstFault.{SayOneThing};
 ghost use Rattle.bk_ocode.specs.SectionAnswer.{PrintedIsParted, PrintedAreParted, PrintedSaysAgain, PrintedIsReadAgain};
 ghost use Rattle.bk_ocode.specs.SectionLaws.{LabelsAreSetOnce, LabelHasOnePlace, JumpFindsItsLabel, JumpHasItsLabelsDepth, DepthsSuffice, SectionIsShort};
@@ -81,4 +82,35 @@ pub fn printed_is_parted()
 #[tactic(auto, using(crate::proofs::ReadAgain::printed_are_parted))]
 pub fn printed_are_parted()
     ensures { PrintedAreParted }
+{}
+
+/// The first state of a program keeps what the states of its run keep: active frames with their links, and below the first
+/// frame only globals, strings and data in use.
+#[tactic(auto, using(crate::proofs::SoundStart::first_state_is_sound))]
+pub fn first_state_is_sound()
+    ensures { FirstStateIsSound }
+{}
+
+/// A step keeps it: links are not overwritten, a frame begins in its caller's, and a routine returns to a rest.
+#[tactic(auto, using(crate::proofs::SoundRests::steps_are_sound))]
+pub fn steps_are_sound()
+    ensures { StepsAreSound }
+{}
+
+/// Going on from a rest keeps it.
+#[tactic(auto, using(crate::proofs::SoundRests::resuming_is_sound))]
+pub fn resuming_is_sound()
+    ensures { ResumingIsSound }
+{}
+
+/// What a step writes goes behind what was written, and what it reads comes from the front of the input.
+#[tactic(auto, using(crate::proofs::GrowingSteps::steps_grow))]
+pub fn steps_grow()
+    ensures { StepsGrow }
+{}
+
+/// A step that ends a run reads and writes nothing.
+#[tactic(auto, using(crate::proofs::GrowingSteps::ends_keep_bytes))]
+pub fn ends_keep_bytes()
+    ensures { EndsKeepBytes }
 {}
