@@ -24,6 +24,8 @@ pub mod SoundSteps
 pub mod SoundRests
 pub mod SoundStart
 pub mod GrowingSteps
+pub mod NearerSteps
+pub mod LabelKinds
 mod Examples
 mod Programs
 mod SharedPlaces

@@ -1,6 +1,6 @@
 -- What the states of a run keep: links are not overwritten, frames lie in their callers', and below the first frame only
 -- globals, strings and data are in use and written.
-use Rattle.std.specs.Prelude.{◌≡◌, ◌≢◌, ◌⊎◌, ℕ, ◌+◌, ◌<◌, ◌≤◌, Bool, true, ◌||◌, List, [], ◌∷◌, ◌++◌, slice_get, Some, None, ⊤}
+use Rattle.std.specs.Prelude.{◌≡◌, ◌≢◌, ◌⊎◌, ℕ, ◌+◌, ◌<◌, ◌≤◌, Bool, true, ◌||◌, List, [], ◌∷◌, ◌++◌, length, slice_get, Some, None, ⊤}
 use Rattle.bk_base.specs.declared.limit.TheConstants.{FRAME_WORDS, GLOBAL_NUMBER}
 use Rattle.bk_base.specs.declared.run_end.End.{End}
 use Rattle.bk_ocode.specs.Depth.{depth_behind, largest_depth}
@@ -101,3 +101,19 @@ StepsGrow = (callables : Callables) (s t : State) → step callables s ≡ Goes 
 -- An end reads and writes nothing.
 abbrev pub EndsKeepBytes : Type 0
 EndsKeepBytes = (callables : Callables) (s t : State) (e : End) → step callables s ≡ Ends e t → (t.output ≡ s.output) × (t.input ≡ s.input)
+
+-- How many steps there are at most to the next rest: a LAB is one, and so is a routine of the library; each other statement is
+-- a step, or jumps to a LAB, or calls.
+abbrev pub statements_left : List Stmt → ℕ
+statements_left (Label label ∷ rest) = 1
+statements_left rest = length rest + 2
+
+abbrev pub steps_left : Control → ℕ
+steps_left (Inside own depth rest) = statements_left rest
+steps_left (Behind own label) = 0
+steps_left (At place) = 1
+
+-- A stretch comes to its end: each step comes to a rest, or nearer to one.
+abbrev pub StepsComeNearer : Type 0
+StepsComeNearer = (program : Program) (first F : ℕ) (s t : State) → IsProgram program first F → Sound program first F s → step program.callables s ≡ Goes t
+    → IsAtRest program.callables t.control ⊎ (steps_left t.control < steps_left s.control)

@@ -1,10 +1,10 @@
 //! Laws of sections and of the step, which the crates above rest on.
 ghost use Rattle.bk_ocode.specs.StepLaws.{StepKeepsBelow};
 ghost use Rattle.bk_ocode.specs.RunLaws.{GoesOnBehindLabel};
-ghost use Rattle.bk_ocode.specs.SoundRuns.{FirstStateIsSound, StepsAreSound, ResumingIsSound, StepsGrow, EndsKeepBytes};
+ghost use Rattle.bk_ocode.specs.SoundRuns.{FirstStateIsSound, StepsAreSound, ResumingIsSound, StepsComeNearer, StepsGrow, EndsKeepBytes};
 ghost use Rattle.bk_ocode.specs.FirstFault.{SayOneThing};
 ghost use Rattle.bk_ocode.specs.SectionAnswer.{PrintedIsParted, PrintedAreParted, PrintedSaysAgain, PrintedIsReadAgain};
-ghost use Rattle.bk_ocode.specs.SectionLaws.{LabelsAreSetOnce, LabelHasOnePlace, JumpFindsItsLabel, JumpHasItsLabelsDepth, DepthsSuffice, SectionIsShort};
+ghost use Rattle.bk_ocode.specs.SectionLaws.{LabelsAreSetOnce, LabelHasOnePlace, JumpFindsItsLabel, JumpHasItsLabelsDepth, DepthsSuffice, SectionIsShort, ResultFindsItsLabel, DataFindsItsLabel, ItemFindsItsLabel, GlobalFindsItsEntry, GlobalStandsLast, TextIsShort};
 
 /// No label of a section is set twice.
 #[tactic(auto, using(crate::proofs::LabelsOnce::labels_are_set_once))]
@@ -113,4 +113,46 @@ pub fn steps_grow()
 #[tactic(auto, using(crate::proofs::GrowingSteps::ends_keep_bytes))]
 pub fn ends_keep_bytes()
     ensures { EndsKeepBytes }
+{}
+
+/// The label of each RES is set by a LAB of the section.
+#[tactic(auto, using(crate::proofs::JumpPlaces::result_finds_its_label))]
+pub fn result_finds_its_label()
+    ensures { ResultFindsItsLabel }
+{}
+
+/// Each label of LL, SL and LLL is set by a DATALAB.
+#[tactic(auto, using(crate::proofs::LabelKinds::data_finds_its_label))]
+pub fn data_finds_its_label()
+    ensures { DataFindsItsLabel }
+{}
+
+/// The label of each ITEML is set by a DATALAB or an ENTRY.
+#[tactic(auto, using(crate::proofs::LabelKinds::item_finds_its_label))]
+pub fn item_finds_its_label()
+    ensures { ItemFindsItsLabel }
+{}
+
+/// Each label of GLOBAL is set by an ENTRY.
+#[tactic(auto, using(crate::proofs::LabelKinds::global_finds_its_entry))]
+pub fn global_finds_its_entry()
+    ensures { GlobalFindsItsEntry }
+{}
+
+/// GLOBAL is the last statement of a section.
+#[tactic(auto, using(crate::proofs::LabelKinds::global_stands_last))]
+pub fn global_stands_last()
+    ensures { GlobalStandsLast }
+{}
+
+/// The text of a section has no more statements and words than their limits.
+#[tactic(auto, using(crate::proofs::LabelKinds::text_is_short))]
+pub fn text_is_short()
+    ensures { TextIsShort }
+{}
+
+/// Each step comes to a rest or nearer to one, so a stretch comes to its end.
+#[tactic(auto, using(crate::proofs::NearerSteps::steps_come_nearer))]
+pub fn steps_come_nearer()
+    ensures { StepsComeNearer }
 {}
