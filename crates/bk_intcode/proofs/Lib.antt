@@ -1,3 +1,4 @@
+mod Blaming
 mod Bytes
 mod Growing
 mod Places
