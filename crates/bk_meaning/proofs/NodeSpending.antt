@@ -156,12 +156,12 @@ module _ (d : ℕ) (m : Meanings) (g : AllSpend d m) where
       by (result r) v n lt le = record { is = omega (arith, lt) }
       by x v n lt le = record { is = lt }
 
-  routine_out : SpendsOut d Calls.routine_exit
-  routine_out = record { at = by }
+  return_out : SpendsOut d Calls.return_exit
+  return_out = record { at = by }
     where
-      by : (x : Exit) (v : World) (n : ℕ) → v.turns + 1 ≤ n → n ≤ d → Spent n (Calls.routine_exit x v)
+      by : (x : Exit) (v : World) (n : ℕ) → v.turns + 1 ≤ n → n ≤ d → Spent n (Calls.return_exit x v)
       by return v n lt le = record { is = omega (arith, lt) }
-      by x v n lt le = record { is = tt }
+      by x v n lt le = record { is = lt }
 
   undefined_out : SpendsOut {A = Value} d (λ x w. undefined)
   undefined_out = record { at = λ x v n lt le. record { is = tt } }
@@ -170,9 +170,8 @@ module _ (d : ℕ) (m : Meanings) (g : AllSpend d m) where
   unset_spends _ = spends _ _ (λ w le. gives_spent unset w)
 
   body_spends : (b : Body) (env : Environment) → Spends d (Calls.run_body m b env)
-  body_spends (command c) env = spends _ _ (λ w le. each_way_spent w d _ _ _ le ((scope_spends (Scopes.alone c) forwards env).at w le) unset_spends routine_out)
-  body_spends (expression e) env = spends _ _ (λ w le.
-      each_way_spent w d _ _ _ le ((g.value e env).at w le) (λ v. spends _ _ (λ w le. gives_spent v w)) undefined_out)
+  body_spends (command c) env = spends _ _ (λ w le. each_way_spent w d _ _ _ le ((scope_spends (Scopes.alone c) forwards env).at w le) unset_spends return_out)
+  body_spends (expression e) env = g.value e env
 
   enter_spends : (f : Option Procedure) (vs : List Value) → Spends d (Calls.enter m f vs)
   enter_spends None vs = spends _ _ (λ w le. undefined_spent w)
@@ -187,7 +186,7 @@ module _ (d : ℕ) (m : Meanings) (g : AllSpend d m) where
 
   pub call_spends : (p : Program) (f : Value) (vs : List Value) → Spends d (Calls.call p m f vs)
   call_spends p f vs = spends _ _ (λ w le.
-      with_spent w d _ _ le ((called_spends p f vs).at (calling w) le) (λ v. spends _ _ (λ x le. record { is = omega arith })))
+      each_way_spent w d _ _ _ le ((called_spends p f vs).at (calling w) le) (λ v. spends _ _ (λ x le. record { is = omega arith })) undefined_out)
 
   applied_spends : (p : Program) (f : Expression) (es : Expressions) (env : Environment) → Spends d (Calls.applied p m f es env)
   applied_spends p f es env = spends _ _ (λ w le.

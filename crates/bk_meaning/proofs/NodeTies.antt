@@ -27,7 +27,8 @@ use Rattle.bk_meaning.specs.Loops
 use Rattle.bk_meaning.specs.Blocks
 use Rattle.bk_meaning.specs.Commands
 use Rattle.bk_meaning.specs.Turns.{with_turns}
-use Rattle.bk_meaning.proofs.Ties.{gives_more, Tied, Ties, ties, from, each_way_tied, with_tied, gives_tied, leaves_tied, ends_tied, undefined_tied, given_tied, either_tied, turn_tied, closing_tied, changes_tied, writing_on, taking_on, making_on, calling_on, calls_back_on}
+use Rattle.bk_meaning.proofs.Ties.{gives_more, Tied, Ties, ties, from, each_way_tied, with_tied, gives_tied, leaves_tied, ends_tied, undefined_tied, given_tied, either_tied, turn_tied, closing_tied, changes_tied, writing_on, taking_on, making_tied, call_tied, at_home}
+use Rattle.bk_meaning.proofs.Objects.{sizes-made, write_keeps, write_byte_keeps}
 
 -- the parts of the meaning, with fewer turns and with more
 pub record AllTied (m l : Meanings) : Type 0 where
@@ -92,16 +93,17 @@ judged_ties v = ties _ _ (λ w n le. given_tied (truth_of_value w.memory v) w n 
 -- the library
 writes_text_tied : (text : Option (List ℕ)) (w : World) (n : ℕ) → w.turns ≤ n → Tied w (writes_text text w) (writes_text text (with_turns n w))
 writes_text_tied None w n le = undefined_tied w
-writes_text_tied (Some text) w n le = record { below = gives_more unset (writing text w) n le; on = writing_on text w }
+writes_text_tied (Some text) w n le = record { below = gives_more unset (writing text w) n le; on = writing_on text w; kept = at_home w }
 
 writing_tied : (bytes : List ℕ) (w : World) (n : ℕ) → w.turns ≤ n → Tied {A = Value} w (gives unset (writing bytes w)) (gives unset (writing bytes (with_turns n w)))
-writing_tied bytes w n le = record { below = gives_more unset (writing bytes w) n le; on = writing_on bytes w }
+writing_tied bytes w n le = record { below = gives_more unset (writing bytes w) n le; on = writing_on bytes w; kept = at_home w }
 
 takes_byte_tied : (bytes : List ℕ) (w : World) (n : ℕ) → w.input ≡ bytes → w.turns ≤ n → Tied w (takes_byte bytes w) (takes_byte bytes (with_turns n w))
 takes_byte_tied [] w n is le = gives_tied _ w n le
 takes_byte_tied (b ∷ rest) w n is le = record {
   below = gives_more (number b) (record w { input = rest }) n le;
   on = taking_on (b ∷ []) rest w is;
+  kept = at_home w;
 }
 
 library_ties : (r : Routine) (vs : List Value) → Ties (library r vs) (library r vs)
@@ -113,7 +115,7 @@ library_ties writes (s ∷ vs) = ties _ _ (λ w n le. writes_text_tied _ w n le)
 library_ties writen (number x ∷ vs) = ties _ _ (λ w n le. writing_tied _ w n le)
 library_ties writed (number x ∷ number y ∷ vs) = ties _ _ (λ w n le. writing_tied _ w n le)
 library_ties getbyte (s ∷ i ∷ vs) = ties _ _ (λ w n le. given_tied _ w n le)
-library_ties putbyte (s ∷ i ∷ b ∷ vs) = ties _ _ (λ w n le. with_tied w _ _ _ _ (changes_tied _ w n le) (λ _. ties _ _ (λ w n le. gives_tied unset w n le)))
+library_ties putbyte (s ∷ i ∷ b ∷ vs) = ties _ _ (λ w n le. with_tied w _ _ _ _ (changes_tied _ w n le (write_byte_keeps w.memory s i b)) (λ _. ties _ _ (λ w n le. gives_tied unset w n le)))
 library_ties writef (s ∷ vs) = ties _ _ (λ w n le. writes_text_tied _ w n le)
 library_ties _ _ = ties _ _ (λ w n le. undefined_tied w)
 
@@ -146,23 +148,21 @@ module _ (m l : Meanings) (g : AllTied m l) where
   result_ties (result v) = ties _ _ (λ w n le. gives_tied v w n le)
   result_ties x = ties _ _ (λ w n le. leaves_tied x w n le)
 
-  routine_ties : (x : Exit) → Ties (Calls.routine_exit x) (Calls.routine_exit x)
-  routine_ties return = ties _ _ (λ w n le. gives_tied unset w n le)
-  routine_ties x = ties _ _ (λ w n le. undefined_tied w)
+  return_ties : (x : Exit) → Ties (Calls.return_exit x) (Calls.return_exit x)
+  return_ties return = ties _ _ (λ w n le. gives_tied unset w n le)
+  return_ties x = ties _ _ (λ w n le. leaves_tied x w n le)
 
   unset_ties : Done → Ties (λ w. gives unset w) (λ w. gives unset w)
   unset_ties _ = ties _ _ (λ w n le. gives_tied unset w n le)
 
   body_ties : (b : Body) (env : Environment) → Ties (Calls.run_body m b env) (Calls.run_body l b env)
-  body_ties (command c) env = ties _ _ (λ w n le. each_way_tied w _ _ _ _ _ _ ((scope_ties (Scopes.alone c) forwards env).at w n le) unset_ties routine_ties)
-  body_ties (expression e) env = ties _ _ (λ w n le.
-      each_way_tied w _ _ _ _ _ _ ((g.value e env).at w n le) (λ v. ties _ _ (λ w n le. gives_tied v w n le)) (λ x. ties _ _ (λ w n le. undefined_tied w)))
+  body_ties (command c) env = ties _ _ (λ w n le. each_way_tied w _ _ _ _ _ _ ((scope_ties (Scopes.alone c) forwards env).at w n le) unset_ties return_ties)
+  body_ties (expression e) env = g.value e env
 
   enter_ties : (f : Option Procedure) (vs : List Value) → Ties (Calls.enter m f vs) (Calls.enter l f vs)
   enter_ties None vs = ties _ _ (λ w n le. undefined_tied w)
   enter_ties (Some f) vs = ties _ _ (λ w n le.
-      closing_tied w (length w.memory) _ _
-      (from w (making (Calls.formal_cells f.formals vs) w) _ _ (making_on (Calls.formal_cells f.formals vs) w) ((body_ties f.body (Calls.bind_formals (length w.memory) 0 f.formals f.env)).at (making (Calls.formal_cells f.formals vs) w) n le)))
+      closing_tied w _ _ (making_tied (Calls.formal_cells f.formals vs) w _ _ ((body_ties f.body (Calls.bind_formals (length w.memory) 0 f.formals f.env)).at (making (Calls.formal_cells f.formals vs) w) n le)))
 
   called_ties : (p : Program) (f : Value) (vs : List Value) → Ties (Calls.called p m f vs) (Calls.called p l f vs)
   called_ties p (procedure i) vs = enter_ties (procedure_of p i) vs
@@ -170,11 +170,7 @@ module _ (m l : Meanings) (g : AllTied m l) where
   called_ties p _ vs = ties _ _ (λ w n le. undefined_tied w)
 
   pub call_ties : (p : Program) (f : Value) (vs : List Value) → Ties (Calls.call p m f vs) (Calls.call p l f vs)
-  call_ties p f vs = ties _ _ (λ w n le.
-      with_tied w _ _ _ _ (from w (calling w) _ _ (calling_on w) ((called_ties p f vs).at (calling w) n le)) (λ v. ties _ _ (λ x n le. back v w.calls x n le)))
-    where
-      back : (v : Value) (k : ℕ) (x : World) (i : ℕ) → x.turns ≤ i → Tied x (gives v (calls_back k x)) (gives v (calls_back k (with_turns i x)))
-      back v k x i le = record { below = gives_more v (calls_back k x) i le; on = calls_back_on k x }
+  call_ties p f vs = ties _ _ (λ w n le. call_tied w _ _ ((called_ties p f vs).at (calling w) n le))
 
   applied_ties : (p : Program) (f : Expression) (es : Expressions) (env : Environment) → Ties (Calls.applied p m f es env) (Calls.applied p l f es env)
   applied_ties p f es env = ties _ _ (λ w n le.
@@ -230,8 +226,8 @@ module _ (m l : Meanings) (g : AllTied m l) where
   target_of_ties e env = ties _ _ (λ w n le. undefined_tied w)
 
   store_ties : (a : Target) (v : Value) → Ties (Parts.store a v) (Parts.store a v)
-  store_ties (at a) v = ties _ _ (λ w n le. changes_tied _ w n le)
-  store_ties (byte_at a i) v = ties _ _ (λ w n le. changes_tied _ w n le)
+  store_ties (at a) v = ties _ _ (λ w n le. changes_tied _ w n le (write_keeps w.memory a v))
+  store_ties (byte_at a i) v = ties _ _ (λ w n le. changes_tied _ w n le (write_byte_keeps w.memory a i v))
 
   assigned_ties : (xs : Expressions) (there : Environment) (es : Expressions) (env : Environment) → Ties (Commands.assigned m xs there es env) (Commands.assigned l xs there es env)
   assigned_ties t.none there es env = done_ties
@@ -283,7 +279,7 @@ module _ (m l : Meanings) (g : AllTied m l) where
 
   for_loop_ties : (x : List ℕ) (c : Action) (start limit : Value) (step : ℕ) (env : Environment) → Ties (Loops.for_loop m x c start limit step env) (Loops.for_loop l x c start limit step env)
   for_loop_ties x c start limit step env = ties _ _ (λ w n le.
-      closing_tied w (length w.memory) _ _ (from w (making (holds start ∷ []) w) _ _ (making_on (holds start ∷ []) w)
+      closing_tied w _ _ (making_tied (holds start ∷ []) w _ _
       ((for_test_ties (length w.memory) limit step _ _ (for_rounds_of_ties c (length w.memory) limit step (bind x (cell (length w.memory) 0) env))).at (making (holds start ∷ []) w) n le)))
 
   case_exit_ties : (x : Exit) → Ties (Commands.case_exit x) (Commands.case_exit x)
@@ -301,7 +297,7 @@ module _ (m l : Meanings) (g : AllTied m l) where
 
   make_vec_ties : (k : Option ℕ) → Ties (Blocks.make_vec k) (Blocks.make_vec k)
   make_vec_ties None = ties _ _ (λ w n le. undefined_tied w)
-  make_vec_ties (Some k) = ties _ _ (λ w i le. record { below = gives_more _ (making (Blocks.vec_cells k) w) i le; on = making_on (Blocks.vec_cells k) w })
+  make_vec_ties (Some k) = ties _ _ (λ w i le. making_tied (Blocks.vec_cells k) w _ _ (gives_tied _ (making (Blocks.vec_cells k) w) i le))
 
   starts_ties : (is : Starts) (env : Environment) → Ties (Blocks.starts m is env) (Blocks.starts l is env)
   starts_ties t.no_starts env = ties _ _ (λ w n le. gives_tied [] w n le)
@@ -322,7 +318,7 @@ module _ (m l : Meanings) (g : AllTied m l) where
   bind_variables_ties : (ss : List Start) (env : Environment) → Ties (Blocks.bind_variables ss env) (Blocks.bind_variables ss env)
   bind_variables_ties [] env = ties _ _ (λ w n le. gives_tied env w n le)
   bind_variables_ties (s ∷ ss) env = ties _ _ (λ w n le.
-      from w (making (holds s.value ∷ []) w) _ _ (making_on (holds s.value ∷ []) w) ((bind_variables_ties ss (bind s.name (cell (length w.memory) 0) env)).at (making (holds s.value ∷ []) w) n le))
+      making_tied (holds s.value ∷ []) w _ _ ((bind_variables_ties ss (bind s.name (cell (length w.memory) 0) env)).at (making (holds s.value ∷ []) w) n le))
 
   declare_ties : (x : Declaration) (env : Environment) → Ties (Blocks.declare m x env) (Blocks.declare l x env)
   declare_ties (t.constants i s is) env = ties _ _ (λ w n le. gives_tied _ w n le)
@@ -367,6 +363,6 @@ module _ (m l : Meanings) (g : AllTied m l) where
   act_of_ties p (t.simple i s) mode env = simple_exit_ties s
   act_of_ties p (t.block i t.no_declarations cs) mode env = in_order_ties cs mode env
   act_of_ties p (t.block i (t.declare x ds) cs) mode env = ties _ _ (λ w n le.
-      closing_tied w (length w.memory) _ _ (with_tied w _ _ _ _ ((declare_all_ties (t.declare x ds) env).at w n le) (λ env. scope_ties cs forwards env)))
+      closing_tied w _ _ (with_tied w _ _ _ _ ((declare_all_ties (t.declare x ds) env).at w n le) (λ env. scope_ties cs forwards env)))
   act_of_ties p (t.repeat i c) mode env = rounds_of_ties (t.repeat i c) mode env
   act_of_ties p (t.repeat_while i b c e) mode env = rounds_of_ties (t.repeat_while i b c e) mode env

@@ -3,7 +3,7 @@ use Rattle.std.specs.Prelude.{ℕ, suc, Option, Some, None, List, [], ◌∷◌,
 use Rattle.bk_syntax.specs.Tree as t
 use Rattle.bk_syntax.specs.Tree.{Mention, Expression, Expressions, Action, Actions, Declaration, Declarations, Definition, Definitions, Starts}
 use Rattle.bk_meaning.specs.Values.{Value, procedure, routine, unset, Cell, holds}
-use Rattle.bk_meaning.specs.World.{World, Exit, return, Outcome, gives, undefined, each_way, with, making, closing, calling, calls_back}
+use Rattle.bk_meaning.specs.World.{World, Exit, return, Outcome, gives, leaves, undefined, each_way, with, making, closing, calling, calls_back}
 use Rattle.bk_meaning.specs.Environment.{Environment, cell, bind, past}
 use Rattle.bk_meaning.specs.Lasting.{Body, command, expression, Procedure, Program, procedure_of}
 use Rattle.bk_meaning.specs.Library.{library}
@@ -27,13 +27,14 @@ abbrev pub bind_formals : ℕ → ℕ → List (List ℕ) → Environment → En
 bind_formals object i [] env = env
 bind_formals object i (x ∷ xs) env = bind_formals object (suc i) xs (bind x (cell object i) env)
 
-abbrev pub routine_exit : Exit → World → Outcome Value
-routine_exit return w = gives unset w
-routine_exit x w = undefined
+-- RETURN ends a procedure with BE
+abbrev pub return_exit : Exit → World → Outcome Value
+return_exit return w = gives unset w
+return_exit x w = leaves x w
 
 abbrev pub run_body : Meanings → Body → Environment → World → Outcome Value
-run_body m (command c) env w = each_way (λ _ w. gives unset w) routine_exit (scope_of m (alone c) forwards env w)
-run_body m (expression e) env w = each_way (λ v w. gives v w) (λ x w. undefined) (m.value e env w)
+run_body m (command c) env w = each_way (λ _ w. gives unset w) return_exit (scope_of m (alone c) forwards env w)
+run_body m (expression e) env w = m.value e env w
 
 abbrev pub enter : Meanings → Option Procedure → List Value → World → Outcome Value
 enter m None vs w = undefined
@@ -45,8 +46,9 @@ called p m (procedure n) vs w = enter m (procedure_of p n) vs w
 called p m (routine r) vs w = library r vs w
 called p m _ vs w = undefined
 
+-- While it runs a further call is active. No other exit leaves a procedure.
 abbrev pub call : Program → Meanings → Value → List Value → World → Outcome Value
-call p m f vs w = with (called p m f vs (calling w)) (λ v after. gives v (calls_back w.calls after))
+call p m f vs w = each_way (λ v after. gives v (calls_back w.calls after)) (λ x w. undefined) (called p m f vs (calling w))
 
 -- the arguments, then the procedure
 abbrev pub applied : Program → Meanings → Expression → Expressions → Environment → World → Outcome Value

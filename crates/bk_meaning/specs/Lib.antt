@@ -16,5 +16,6 @@ pub mod Blocks
 pub mod Commands
 pub mod Program
 -- Laws of it.
+pub mod Growing
 pub mod Turns
 pub mod Numbering

@@ -1,4 +1,5 @@
 //! Laws of the meaning of programs.
+ghost use Rattle.bk_meaning.specs.Growing.{CallsComeBack, MemoryNeverShrinks, OutputOnlyGrows, WhatLastsLives};
 ghost use Rattle.bk_meaning.specs.Numbering.{AsManyAsCounted};
 ghost use Rattle.bk_meaning.specs.Turns.{CutOnlyWithoutTurns, MoreTurns, ReadsFromTheFront};
 
@@ -15,6 +16,28 @@ pub fn input_is_read_from_the_front()
 /// A run is cut off only where no turn is left.
 pub fn runs_are_cut_only_without_turns()
     ensures { CutOnlyWithoutTurns }
+{}
+
+/// From any world on what was written stays a beginning of what is written, the input is taken from its front, and the
+/// most calls at once never fall.
+pub fn output_only_grows()
+    ensures { OutputOnlyGrows }
+{}
+
+/// Behind each part of a program as many calls are active as before it, and the objects that were there keep their lives
+/// and sizes.
+pub fn calls_come_back()
+    ensures { CallsComeBack }
+{}
+
+/// Memory never has fewer objects than before.
+pub fn memory_never_shrinks()
+    ensures { MemoryNeverShrinks }
+{}
+
+/// Globals, strings, tables, static words and procedures live as long as the run.
+pub fn what_lasts_lives()
+    ensures { WhatLastsLives }
 {}
 
 /// A section has as many strings, tables, static words and procedures as are counted for it.
