@@ -8,7 +8,7 @@ use Rattle.bk_syntax.specs.Tree as t
 use Rattle.bk_syntax.specs.Tree.{Mention, Expression, Expressions, Action, Actions, Declaration, Declarations, Items, Definition, Definitions, Starts}
 use Rattle.bk_meaning.specs.Values.{stop, rdch, wrch, newline, writes, writen, writed, getbyte, putbyte, writef, number, procedure, routine, unset, Cell, holds}
 use Rattle.bk_meaning.specs.Memory.{Memory, Object, living}
-use Rattle.bk_meaning.specs.Environment.{Environment, foreign, sense_of, bind_each, behind, past, past_each, past_action, past_definition, constant_in, labelled, global_named, within_let, constants_declared, letters, objects_of_definitions, objects_of_declarations}
+use Rattle.bk_meaning.specs.Environment.{Environment, foreign, sense_of, bind, bind_each, behind, past, past_each, past_action, past_definition, constant_in, labelled, global_named, within_let, constants_declared, letters, objects_of_definitions, objects_of_declarations}
 
 -- with BE a command, with `=` an expression
 pub data Body : Type 0 where
@@ -65,6 +65,20 @@ abbrev pub all_declared : Declarations → Environment → Environment
 all_declared t.no_declarations env = env
 all_declared (t.declare d ds) env = all_declared ds (declared d env)
 
+-- A procedure that is defined in this environment, and what its body sees before the run.
+abbrev pub procedure_here : List ℕ → List Mention → Body → Environment → Lasting
+procedure_here x fs body env = code (record { formals = letters fs; body = body; env = behind 1 env; global = global_named (sense_of x env) })
+
+abbrev pub inside : List Mention → Environment → Environment
+inside fs env = bind_each (letters fs) foreign (behind 1 env)
+
+-- the environment in a command that is a scope of its own, and in the body of a FOR with this variable
+abbrev pub in_scope : Action → Environment → Environment
+in_scope c env = labelled (t.also c t.no_actions) env
+
+abbrev pub in_for : Mention → Action → Environment → Environment
+in_for x c env = in_scope c (bind x.letters foreign env)
+
 abbrev mutual
   pub of_expression : Environment → Expression → List Lasting
   of_expression env (t.text l x) = words (string_words x) ∷ []
@@ -73,7 +87,7 @@ abbrev mutual
   of_expression env (t.binary l q m a b) = of_expression env a ++ of_expression (past a env) b
   of_expression env (t.choice l m c a b) = of_expression env c ++ of_expression (past c env) a ++ of_expression (past a (past c env)) b
   of_expression env (t.apply l m f es) = of_expression env f ++ of_each (past f env) es
-  of_expression env (t.valof l c) = of_action (labelled (t.also c t.no_actions) env) c
+  of_expression env (t.valof l c) = of_action (in_scope c env) c
   of_expression env (t.table l es) = words (constant_words env es) ∷ []
   of_expression env _ = []
 
@@ -91,8 +105,7 @@ abbrev mutual
   of_action env (t.test l e a b) = of_expression env e ++ of_action (past e env) a ++ of_action (past_action a (past e env)) b
   of_action env (t.while l b e c) = of_expression env e ++ of_action (past e env) c
   of_action env (t.for_loop l x a b h c) =
-      of_expression env a ++ of_expression (past a env) b
-      ++ of_action (labelled (t.also c t.no_actions) (bind_each (x.letters ∷ []) foreign (past b (past a env)))) c
+      of_expression env a ++ of_expression (past a env) b ++ of_action (in_for x c (past b (past a env))) c
   of_action env (t.switch l e c) = of_expression env e ++ of_action (past e env) c
   of_action env (t.result l e) = of_expression env e
   of_action env (t.block l t.no_declarations cs) = of_actions env cs
@@ -115,12 +128,8 @@ abbrev mutual
 
   -- a procedure, and what its body has
   pub of_definition : Environment → Definition → List Lasting
-  of_definition env (t.routine l x fs c) =
-      code (record { formals = letters fs; body = command c; env = behind 1 env; global = global_named (sense_of x env) })
-      ∷ of_action (labelled (t.also c t.no_actions) (bind_each (letters fs) foreign (behind 1 env))) c
-  of_definition env (t.function l x fs e) =
-      code (record { formals = letters fs; body = expression e; env = behind 1 env; global = global_named (sense_of x env) })
-      ∷ of_expression (bind_each (letters fs) foreign (behind 1 env)) e
+  of_definition env (t.routine l x fs c) = procedure_here x fs (command c) env ∷ of_action (in_scope c (inside fs env)) c
+  of_definition env (t.function l x fs e) = procedure_here x fs (expression e) env ∷ of_expression (inside fs env) e
   of_definition env (t.variables l xs is) = of_starts env is
 
   pub of_definitions : Environment → Definitions → List Lasting
