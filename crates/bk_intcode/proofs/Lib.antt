@@ -1,4 +1,6 @@
+mod Blaming
 mod Bytes
+pub mod Formats
 mod Growing
 mod Places
 mod Reaching

@@ -1,5 +1,5 @@
 -- How runs that exchange bytes with devices begin, go on and end.
-use Rattle.std.proofs.Common.{◌≡◌, ◌≢◌, ℕ, ◌+◌, ◌⊎◌, inl, inr, arith, List, [], ◌++◌, Option, Bool, true, false, refl, sym, ap, ◌∙◌, append_assoc, append-nil, if◌then◌else◌}
+use Rattle.std.proofs.Common.{◌≡◌, ◌≢◌, ℕ, ◌+◌, ◌⊎◌, inl, inr, arith, List, [], ◌++◌, Option, Bool, true, false, refl, sym, ap, subst, ◌∙◌, append_assoc, append-nil, if◌then◌else◌}
 use Rattle.std.specs.Io.KnownBytes.{Appends, Keeps}
 use Rattle.std.proofs.KnownBytes.{Consumes-nil, Appends-nil, Consumes-trans, Appends-trans, Consumes-kept, Appends-kept, Keeps-refl}
 use Rattle.bk_base.specs.declared.run_end.End.{End}
@@ -9,8 +9,8 @@ use Rattle.bk_intcode.specs.declared.registers.Registers.{Registers}
 use Rattle.bk_intcode.specs.declared.output.Output.{Output}
 use Rattle.bk_intcode.specs.Output.{Text, output_text}
 use Rattle.bk_intcode.specs.Step.{Goes, Tells, Asks, Ends, step}
-use Rattle.bk_intcode.specs.Runs.{Going, Over, behind_next, after, run, output_of, Told, Exchanged, Follows, Leads, Paused, Finished, Broken, Waiting, Ran, IsOwn, AskFails, Answered}
-use Rattle.bk_intcode.specs.RunLaws.{onwards, run-add, onwards-begins}
+use Rattle.bk_intcode.specs.Runs.{Going, Over, behind_next, after, run, output_of, Told, Exchanged, Follows, Leads, Paused, Finished, Waiting, CutShort, FailedOnTheWay, Broken, Went, Ran, IsOwn, AskFails, Answered}
+use Rattle.bk_intcode.specs.RunLaws.{onwards, run-add}
 
 -- ---- what devices exchange
 
@@ -105,22 +105,24 @@ module _ (store : List ℕ) (r : Registers) where
       ends = λ rest before follows. told_step false rest before cut;
     }
 
-    told_output : (rest before : List ℕ) → output_of (run 1 store r rest before) ≡ before ++ text.bytes
-    told_output rest before = by_whole text.whole (told_step text.whole rest before refl)
-      where
-        by_whole : (whole : Bool) → run 1 store r rest before ≡ (if whole then Going store' r' rest (before ++ text.bytes) else Over StoreLimit rest (before ++ text.bytes))
-            → output_of (run 1 store r rest before) ≡ before ++ text.bytes
-        by_whole true same = ap output_of same
-        by_whole false same = ap output_of same
-
-    pub broken_tells : (old new : Told) (part left : List ℕ) → (output_text store' what).bytes ≡ part ++ left → Exchanged old new [] part
-        → Broken 1 store r old new
-    unfolding text
-    broken_tells old new part left whole exchanged = record {
+    pub cut_short : (old new : Told) (begun left : List ℕ) → (output_text store' what).bytes ≡ begun ++ left → Exchanged old new [] begun
+        → CutShort 1 store r old new
+    cut_short old new begun left whole exchanged = record {
       read = [];
-      written = part;
+      written = [];
+      begun = begun;
       exchanged = exchanged;
-      begins = λ rest before follows. (left, told_output rest before ∙ ap (λ b. before ++ b) whole ∙ sym (append_assoc before part left));
+      steps = 0;
+      store' = store;
+      r' = r;
+      within = omega arith;
+      leads = λ rest before follows. ap (λ o. Going store r rest o) (sym (append-nil before));
+      what = what;
+      store'' = store';
+      r'' = r';
+      tells = is;
+      left = left;
+      begins = whole;
     }
 
   pub finished_ends : (e : End) (told : Told) → step store r ≡ Ends e → Finished e 1 store r told told
@@ -132,18 +134,11 @@ module _ (store : List ℕ) (r : Registers) where
   }
 
   -- a step that asks, and a device that fails
-  pub broken_asks : (store' : List ℕ) (r' : Registers) (old new : Told) → step store r ≡ Asks store' r' → Exchanged old new [] [] → Broken 1 store r old new
-  broken_asks store' r' old new is exchanged = record {
+  pub waiting_asks : (store' : List ℕ) (r' : Registers) (old new : Told) → step store r ≡ Asks store' r' → Exchanged old new [] [] → Waiting 1 store r old new
+  waiting_asks store' r' old new is exchanged = record {
     read = [];
     written = [];
     exchanged = exchanged;
-    begins = λ rest before follows. ([], ap (λ t. output_of (after (run 0) t rest before)) is ∙ sym (append-nil before) ∙ sym (append-nil (before ++ [])));
-  }
-
-  pub waiting_asks : (store' : List ℕ) (r' : Registers) (old new : Told) → step store r ≡ Asks store' r' → Exchanged old new [] [] → Waiting 1 store r old new
-  unfolding broken_asks
-  waiting_asks store' r' old new is exchanged = record {
-    broken = broken_asks store' r' old new is exchanged;
     steps = 0;
     store' = store;
     r' = r;
@@ -189,44 +184,60 @@ module _ (k m : ℕ) (store : List ℕ) (r : Registers) (store' : List ℕ) (r' 
         ∙ ap (λ o. Over e rest o) (append_assoc before first.written next.written);
   }
 
-  broken_on : Broken m store' r' mid new → Broken (k + m) store r old new
-  broken_on next = record {
+  leads_on : (j : ℕ) (store'' : List ℕ) (r'' : Registers) (read written : List ℕ) (took : List ℕ) → Exchanged mid new read took
+      → Leads j store' r' store'' r'' new read written → Leads (k + j) store r store'' r'' new (first.read ++ read) (first.written ++ written)
+  leads_on j store'' r'' read written took exchanged leads = λ rest before follows.
+      joined k j store r store' r' old mid new first.read first.written read took first.leads exchanged rest before follows
+      ∙ leads rest (before ++ first.written) follows
+      ∙ ap (λ o. Going store'' r'' rest o) (append_assoc before first.written written)
+
+  cut_on : CutShort m store' r' mid new → CutShort (k + m) store r old new
+  cut_on next = record {
     read = first.read ++ next.read;
     written = first.written ++ next.written;
-    exchanged = exchanged_on old mid new first.read first.written next.read next.written first.exchanged next.exchanged;
-    begins = λ rest before follows.
-        let more = next.begins rest (before ++ first.written) follows in (
-          more.0,
-          ap output_of (joined k m store r store' r' old mid new first.read first.written next.read next.written first.leads next.exchanged rest before follows)
-              ∙ more.1 ∙ ap (λ o. o ++ more.0) (append_assoc before first.written next.written),
-        );
-  }
-
-  waiting_on : Waiting m store' r' mid new → Waiting (k + m) store r old new
-  unfolding broken_on
-  waiting_on next = record {
-    broken = broken_on next.broken;
+    begun = next.begun;
+    exchanged = subst (λ w. Exchanged old new (first.read ++ next.read) w) (sym (append_assoc first.written next.written next.begun))
+        (exchanged_on old mid new first.read first.written next.read (next.written ++ next.begun) first.exchanged next.exchanged);
     steps = k + next.steps;
     store' = next.store';
     r' = next.r';
     within = let within = next.within in omega arith;
-    leads = λ rest before follows.
-        joined k next.steps store r store' r' old mid new first.read first.written next.broken.read next.broken.written first.leads next.broken.exchanged rest before follows
-        ∙ next.leads rest (before ++ first.written) follows
-        ∙ ap (λ o. Going next.store' next.r' rest o) (append_assoc before first.written next.broken.written);
+    leads = leads_on next.steps next.store' next.r' next.read next.written (next.written ++ next.begun) next.exchanged next.leads;
+    what = next.what;
+    store'' = next.store'';
+    r'' = next.r'';
+    tells = next.tells;
+    left = next.left;
+    begins = next.begins;
+  }
+
+  waiting_on : Waiting m store' r' mid new → Waiting (k + m) store r old new
+  waiting_on next = record {
+    read = first.read ++ next.read;
+    written = first.written ++ next.written;
+    exchanged = exchanged_on old mid new first.read first.written next.read next.written first.exchanged next.exchanged;
+    steps = k + next.steps;
+    store' = next.store';
+    r' = next.r';
+    within = let within = next.within in omega arith;
+    leads = leads_on next.steps next.store' next.r' next.read next.written next.written next.exchanged next.leads;
     store'' = next.store'';
     r'' = next.r'';
     asks = next.asks;
   }
 
-  pub ran_on : (e : End) (store'' : List ℕ) (r'' : Registers) → Ran e m store' r' store'' r'' mid new → Ran e (k + m) store r store'' r'' old new
-  ran_on StepLimit store'' r'' next = paused_on store'' r'' next
-  ran_on ReadFault store'' r'' next = waiting_on next
-  ran_on WriteFault store'' r'' next = broken_on next
-  ran_on (Status v) store'' r'' next = finished_on (Status v) next
-  ran_on DivideByZero store'' r'' next = finished_on DivideByZero next
-  ran_on StoreLimit store'' r'' next = finished_on StoreLimit next
-  ran_on BadOperation store'' r'' next = finished_on BadOperation next
+  failed_on : FailedOnTheWay m store' r' mid new → FailedOnTheWay (k + m) store r old new
+  failed_on (inl cut) = inl (cut_on cut)
+  failed_on (inr waiting) = inr (waiting_on waiting)
+
+  pub went_on : (e : End) (store'' : List ℕ) (r'' : Registers) → Went e m store' r' store'' r'' mid new → Went e (k + m) store r store'' r'' old new
+  went_on StepLimit store'' r'' next = paused_on store'' r'' next
+  went_on ReadFault store'' r'' next = waiting_on next
+  went_on WriteFault store'' r'' next = failed_on next
+  went_on (Status v) store'' r'' next = finished_on (Status v) next
+  went_on DivideByZero store'' r'' next = finished_on DivideByZero next
+  went_on StoreLimit store'' r'' next = finished_on StoreLimit next
+  went_on BadOperation store'' r'' next = finished_on BadOperation next
 
 -- ---- an end with more steps left
 
@@ -239,23 +250,30 @@ module _ (m j : ℕ) (store : List ℕ) (r : Registers) (old new : Told) where
     ends = λ rest before follows. run-add m j store r (p.read ++ rest) before ∙ ap (λ s. onwards j s) (p.ends rest before follows);
   }
 
-  broken_more : Broken m store r old new → Broken (m + j) store r old new
-  broken_more p = record {
+  cut_more : CutShort m store r old new → CutShort (m + j) store r old new
+  cut_more p = record {
     read = p.read;
     written = p.written;
+    begun = p.begun;
     exchanged = p.exchanged;
-    begins = λ rest before follows.
-        let first = p.begins rest before follows in
-        let later = onwards-begins j (run m store r (p.read ++ rest) before) in (
-          first.0 ++ later.0,
-          ap output_of (run-add m j store r (p.read ++ rest) before) ∙ later.1 ∙ ap (λ o. o ++ later.0) first.1 ∙ append_assoc (before ++ p.written) first.0 later.0,
-        );
+    steps = p.steps;
+    store' = p.store';
+    r' = p.r';
+    within = let within = p.within in omega arith;
+    leads = p.leads;
+    what = p.what;
+    store'' = p.store'';
+    r'' = p.r'';
+    tells = p.tells;
+    left = p.left;
+    begins = p.begins;
   }
 
   waiting_more : Waiting m store r old new → Waiting (m + j) store r old new
-  unfolding broken_more
   waiting_more p = record {
-    broken = broken_more p.broken;
+    read = p.read;
+    written = p.written;
+    exchanged = p.exchanged;
     steps = p.steps;
     store' = p.store';
     r' = p.r';
@@ -266,25 +284,18 @@ module _ (m j : ℕ) (store : List ℕ) (r : Registers) (old new : Told) where
     asks = p.asks;
   }
 
-  pub ran_more : (e : End) (store' : List ℕ) (r' : Registers) → e ≢ StepLimit → Ran e m store r store' r' old new → Ran e (m + j) store r store' r' old new
-  ran_more StepLimit store' r' other p = absurd (other refl)
-  ran_more ReadFault store' r' other p = waiting_more p
-  ran_more WriteFault store' r' other p = broken_more p
-  ran_more (Status v) store' r' other p = finished_more (Status v) p
-  ran_more DivideByZero store' r' other p = finished_more DivideByZero p
-  ran_more StoreLimit store' r' other p = finished_more StoreLimit p
-  ran_more BadOperation store' r' other p = finished_more BadOperation p
+  failed_more : FailedOnTheWay m store r old new → FailedOnTheWay (m + j) store r old new
+  failed_more (inl cut) = inl (cut_more cut)
+  failed_more (inr waiting) = inr (waiting_more waiting)
 
--- an end is the same whatever the machine's words are then
-pub ran_at : (e : End) (n : ℕ) (store : List ℕ) (r : Registers) (s t : List ℕ) (u v : Registers) (old new : Told)
-    → e ≢ StepLimit → Ran e n store r s u old new → Ran e n store r t v old new
-ran_at StepLimit n store r s t u v old new other p = absurd (other refl)
-ran_at ReadFault n store r s t u v old new other p = p
-ran_at WriteFault n store r s t u v old new other p = p
-ran_at (Status w) n store r s t u v old new other p = p
-ran_at DivideByZero n store r s t u v old new other p = p
-ran_at StoreLimit n store r s t u v old new other p = p
-ran_at BadOperation n store r s t u v old new other p = p
+  pub went_more : (e : End) (store' : List ℕ) (r' : Registers) → e ≢ StepLimit → Went e m store r store' r' old new → Went e (m + j) store r store' r' old new
+  went_more StepLimit store' r' other p = absurd (other refl)
+  went_more ReadFault store' r' other p = waiting_more p
+  went_more WriteFault store' r' other p = failed_more p
+  went_more (Status v) store' r' other p = finished_more (Status v) p
+  went_more DivideByZero store' r' other p = finished_more DivideByZero p
+  went_more StoreLimit store' r' other p = finished_more StoreLimit p
+  went_more BadOperation store' r' other p = finished_more BadOperation p
 
 -- ---- the flush at the end
 
@@ -305,18 +316,30 @@ module _ (n : ℕ) (store : List ℕ) (r : Registers) (store' : List ℕ) (r' : 
     ends = λ rest before follows. p.ends rest before (follows_still mid new rest still follows);
   }
 
-  broken_still : Broken n store r old mid → Broken n store r old new
-  broken_still p = record {
+  cut_still : CutShort n store r old mid → CutShort n store r old new
+  cut_still p = record {
     read = p.read;
     written = p.written;
-    exchanged = exchanged_still old mid new p.read p.written p.exchanged still;
-    begins = λ rest before follows. p.begins rest before (follows_still mid new rest still follows);
+    begun = p.begun;
+    exchanged = exchanged_still old mid new p.read (p.written ++ p.begun) p.exchanged still;
+    steps = p.steps;
+    store' = p.store';
+    r' = p.r';
+    within = p.within;
+    leads = λ rest before follows. p.leads rest before (follows_still mid new rest still follows);
+    what = p.what;
+    store'' = p.store'';
+    r'' = p.r'';
+    tells = p.tells;
+    left = p.left;
+    begins = p.begins;
   }
 
   waiting_still : Waiting n store r old mid → Waiting n store r old new
-  unfolding broken_still
   waiting_still p = record {
-    broken = broken_still p.broken;
+    read = p.read;
+    written = p.written;
+    exchanged = exchanged_still old mid new p.read p.written p.exchanged still;
     steps = p.steps;
     store' = p.store';
     r' = p.r';
@@ -327,44 +350,34 @@ module _ (n : ℕ) (store : List ℕ) (r : Registers) (store' : List ℕ) (r' : 
     asks = p.asks;
   }
 
-  ran_still : (e : End) → Ran e n store r store' r' old mid → Ran e n store r store' r' old new
-  ran_still StepLimit p = paused_still p
-  ran_still ReadFault p = waiting_still p
-  ran_still WriteFault p = broken_still p
-  ran_still (Status v) p = finished_still (Status v) p
-  ran_still DivideByZero p = finished_still DivideByZero p
-  ran_still StoreLimit p = finished_still StoreLimit p
-  ran_still BadOperation p = finished_still BadOperation p
+  failed_still : FailedOnTheWay n store r old mid → FailedOnTheWay n store r old new
+  failed_still (inl cut) = inl (cut_still cut)
+  failed_still (inr waiting) = inr (waiting_still waiting)
 
-  paused_broken : Paused n store r store' r' old mid → Broken n store r old new
-  paused_broken p = record {
-    read = p.read;
-    written = p.written;
-    exchanged = exchanged_still old mid new p.read p.written p.exchanged still;
-    begins = λ rest before follows. ([], ap output_of (p.leads rest before (follows_still mid new rest still follows)) ∙ sym (append-nil (before ++ p.written)));
-  }
+  -- the flush succeeds
+  flush_passes : (e : End) → Went e n store r store' r' old mid → Ran e n store r store' r' old new
+  flush_passes StepLimit p = paused_still p
+  flush_passes ReadFault p = waiting_still p
+  flush_passes WriteFault p = inl (failed_still p)
+  flush_passes (Status v) p = finished_still (Status v) p
+  flush_passes DivideByZero p = finished_still DivideByZero p
+  flush_passes StoreLimit p = finished_still StoreLimit p
+  flush_passes BadOperation p = finished_still BadOperation p
 
-  finished_broken : (e : End) → Finished e n store r old mid → Broken n store r old new
-  finished_broken e p = record {
-    read = p.read;
-    written = p.written;
-    exchanged = exchanged_still old mid new p.read p.written p.exchanged still;
-    begins = λ rest before follows. ([], ap output_of (p.ends rest before (follows_still mid new rest still follows)) ∙ sym (append-nil (before ++ p.written)));
-  }
-
-  ran_broken : (e : End) → Ran e n store r store' r' old mid → Broken n store r old new
-  ran_broken StepLimit p = paused_broken p
-  ran_broken ReadFault p = broken_still p.broken
-  ran_broken WriteFault p = broken_still p
-  ran_broken (Status v) p = finished_broken (Status v) p
-  ran_broken DivideByZero p = finished_broken DivideByZero p
-  ran_broken StoreLimit p = finished_broken StoreLimit p
-  ran_broken BadOperation p = finished_broken BadOperation p
+  -- the flush fails
+  flush_fails : (e : End) → Went e n store r store' r' old mid → Broken n store r old new
+  flush_fails StepLimit p = inr (inl (store', r', paused_still p))
+  flush_fails ReadFault p = inl (inr (waiting_still p))
+  flush_fails WriteFault p = inl (failed_still p)
+  flush_fails (Status v) p = inr (inr (Status v, finished_still (Status v) p))
+  flush_fails DivideByZero p = inr (inr (DivideByZero, finished_still DivideByZero p))
+  flush_fails StoreLimit p = inr (inr (StoreLimit, finished_still StoreLimit p))
+  flush_fails BadOperation p = inr (inr (BadOperation, finished_still BadOperation p))
 
   -- a flush keeps the end, or makes it a write fault
-  pub ran_flushed : (e f : End) → (f ≡ e) ⊎ (f ≡ WriteFault) → Ran e n store r store' r' old mid → Ran f n store r store' r' old new
-  ran_flushed e f (inl same) p = rw same (ran_still e p)
-  ran_flushed e f (inr fault) p = rw fault (ran_broken e p)
+  pub went_flushed : (e f : End) → (f ≡ e) ⊎ (f ≡ WriteFault) → Went e n store r store' r' old mid → Ran f n store r store' r' old new
+  went_flushed e f (inl same) p = rw same (flush_passes e p)
+  went_flushed e f (inr fault) p = rw fault (flush_fails e p)
 
 -- ---- what one step's answer says
 
@@ -373,27 +386,27 @@ pub exchanged_took : (left : Option (List ℕ)) (ended : Bool) (a b : Option (Li
 exchanged_took left ended a b bytes appends = record { delivered = Consumes-nil left; took = appends; stays = λ t. (refl, t) }
 
 module _ (store : List ℕ) (r : Registers) (store' : List ℕ) (r' : Registers) where
-  pub ran_own : (e : End) (told : Told) → IsOwn e → step store r ≡ Ends e → Ran e 1 store r store' r' told told
-  ran_own (Status v) told own is = finished_ends store r (Status v) told is
-  ran_own DivideByZero told own is = finished_ends store r DivideByZero told is
-  ran_own StoreLimit told own is = finished_ends store r StoreLimit told is
-  ran_own BadOperation told own is = finished_ends store r BadOperation told is
-  ran_own StepLimit told own is = absurd own
-  ran_own ReadFault told own is = absurd own
-  ran_own WriteFault told own is = absurd own
+  pub went_own : (e : End) (told : Told) → IsOwn e → step store r ≡ Ends e → Went e 1 store r store' r' told told
+  went_own (Status v) told own is = finished_ends store r (Status v) told is
+  went_own DivideByZero told own is = finished_ends store r DivideByZero told is
+  went_own StoreLimit told own is = finished_ends store r StoreLimit told is
+  went_own BadOperation told own is = finished_ends store r BadOperation told is
+  went_own StepLimit told own is = absurd own
+  went_own ReadFault told own is = absurd own
+  went_own WriteFault told own is = absurd own
 
-  pub ran_ask_fails : (e : End) (reads writes : ℕ) (asked : List ℕ) (s : Registers) (old new : Told) → AskFails e reads writes
-      → step store r ≡ Asks asked s → Still old new → Ran e 1 store r store' r' old new
-  ran_ask_fails ReadFault reads writes asked s old new fails is still =
+  pub went_ask_fails : (e : End) (reads reads' writes' : ℕ) (asked : List ℕ) (s : Registers) (old new : Told) → AskFails e reads reads' writes'
+      → step store r ≡ Asks asked s → Still old new → Went e 1 store r store' r' old new
+  went_ask_fails ReadFault reads reads' writes' asked s old new fails is still =
       waiting_asks store r asked s old new is (exchanged_still old old new [] [] (exchanged_none old) still)
-  ran_ask_fails WriteFault reads writes asked s old new fails is still =
-      broken_asks store r asked s old new is (exchanged_still old old new [] [] (exchanged_none old) still)
-  ran_ask_fails (Status v) reads writes asked s old new fails is still = absurd fails
-  ran_ask_fails DivideByZero reads writes asked s old new fails is still = absurd fails
-  ran_ask_fails StoreLimit reads writes asked s old new fails is still = absurd fails
-  ran_ask_fails BadOperation reads writes asked s old new fails is still = absurd fails
-  ran_ask_fails StepLimit reads writes asked s old new fails is still = absurd fails
+  went_ask_fails WriteFault reads reads' writes' asked s old new fails is still =
+      inr (waiting_asks store r asked s old new is (exchanged_still old old new [] [] (exchanged_none old) still))
+  went_ask_fails (Status v) reads reads' writes' asked s old new fails is still = absurd fails
+  went_ask_fails DivideByZero reads reads' writes' asked s old new fails is still = absurd fails
+  went_ask_fails StoreLimit reads reads' writes' asked s old new fails is still = absurd fails
+  went_ask_fails BadOperation reads reads' writes' asked s old new fails is still = absurd fails
+  went_ask_fails StepLimit reads reads' writes' asked s old new fails is still = absurd fails
 
-  pub broken_part : (what : Output) (old new : Told) → step store r ≡ Tells what store' r' → (p : AppendsPart old.taken new.taken (output_text store' what).bytes)
-      → Exchanged old new [] p.part → Broken 1 store r old new
-  broken_part what old new is p exchanged = broken_tells store r what store' r' is old new p.part p.rest p.whole exchanged
+  pub went_part : (what : Output) (old new : Told) → step store r ≡ Tells what store' r' → (p : AppendsPart old.taken new.taken (output_text store' what).bytes)
+      → Exchanged old new [] p.part → FailedOnTheWay 1 store r old new
+  went_part what old new is p exchanged = inl (cut_short store r what store' r' is old new p.part p.rest p.whole exchanged)

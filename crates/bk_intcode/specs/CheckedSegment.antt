@@ -8,7 +8,7 @@ use Rattle.bk_intcode.specs.declared.item.Operand.{Operand}
 use Rattle.bk_intcode.specs.declared.item.Operand.TheVariants.{Number, Local, Global, Label}
 use Rattle.bk_intcode.specs.declared.item.Item.{Item}
 use Rattle.bk_intcode.specs.declared.item.Item.TheVariants.{Instruction, SetLabel, Byte, Word, LabelWord, SetGlobal, Frame, End}
-use Rattle.bk_intcode.specs.Segment.{IsSegment, IsLabel, IsItem, IsOperand, item_uses, operand_uses, item_sets, sets}
+use Rattle.bk_intcode.specs.Segment.{IsSegment, IsLabel, IsItem, IsOperand, item_uses, operand_uses, item_sets, sets, operand_is_set, use_is_set, is_frame, gives_frame}
 
 both : (a b : Bool) → (a && b) ≡ true → (a ≡ true) × (b ≡ true)
 both true b e = (refl, e)
@@ -108,22 +108,6 @@ once (item ∷ rest) e (suc j) (suc k) label a b =
     let parts = both (is_fresh item rest) (sets_once rest) e in
     ap (λ n. suc n) (once rest parts.1 j k label a b)
 
-abbrev pub operand_is_set : List Item → Operand → Bool
-operand_is_set all (Label l) = sets l all
-operand_is_set all (Number n) = true
-operand_is_set all (Local n) = true
-operand_is_set all (Global n) = true
-
-abbrev pub is_used_set : List Item → Item → Bool
-is_used_set all (Instruction f i operand) = operand_is_set all operand
-is_used_set all (LabelWord l) = sets l all
-is_used_set all (SetGlobal n l) = sets l all
-is_used_set all (SetLabel l) = true
-is_used_set all (Byte b) = true
-is_used_set all (Word w) = true
-is_used_set all (Frame n) = true
-is_used_set all End = true
-
 label_set : (all : List Item) (l label : ℕ) → sets l all ≡ true → (l == label) ≡ true → sets label all ≡ true
 label_set all l label e h = subst (λ n. sets n all ≡ true) (eqb-true l label h) e
 
@@ -133,7 +117,7 @@ operand_set all (Number n) label e h = cc
 operand_set all (Local n) label e h = cc
 operand_set all (Global n) label e h = cc
 
-item_set : (all : List Item) (item : Item) (label : ℕ) → is_used_set all item ≡ true → item_uses label item ≡ true → sets label all ≡ true
+item_set : (all : List Item) (item : Item) (label : ℕ) → use_is_set all item ≡ true → item_uses label item ≡ true → sets label all ≡ true
 item_set all (Instruction f i operand) label e h = operand_set all operand label e h
 item_set all (LabelWord l) label e h = label_set all l label e h
 item_set all (SetGlobal n l) label e h = label_set all l label e h
@@ -145,28 +129,14 @@ item_set all End label e h = cc
 
 -- ---- frames and ranges
 
-abbrev pub is_frame : Item → Bool
-is_frame (Frame n) = true
-is_frame (Instruction f i operand) = false
-is_frame (SetLabel l) = false
-is_frame (Byte b) = false
-is_frame (Word w) = false
-is_frame (LabelWord l) = false
-is_frame (SetGlobal n l) = false
-is_frame End = false
-
-abbrev pub has_frame : List Item → Bool
-has_frame [] = false
-has_frame (item ∷ rest) = is_frame item || has_frame rest
-
 abbrev pub frames_once : List Item → Bool
 frames_once [] = true
-frames_once (item ∷ rest) = not (is_frame item && has_frame rest) && frames_once rest
+frames_once (item ∷ rest) = not (is_frame item && gives_frame rest) && frames_once rest
 
-got_frame : (items : List Item) (k n : ℕ) → slice_get items k ≡ Some (Frame n) → has_frame items ≡ true
+got_frame : (items : List Item) (k n : ℕ) → slice_get items k ≡ Some (Frame n) → gives_frame items ≡ true
 got_frame [] k n h = cc
-got_frame (item ∷ rest) zero n h = subst (λ i. (is_frame i || has_frame rest) ≡ true) (sym (the_item item (Frame n) h)) refl
-got_frame (item ∷ rest) (suc k) n h = or_right (is_frame item) (has_frame rest) (got_frame rest k n h)
+got_frame (item ∷ rest) zero n h = subst (λ i. (is_frame i || gives_frame rest) ≡ true) (sym (the_item item (Frame n) h)) refl
+got_frame (item ∷ rest) (suc k) n h = or_right (is_frame item) (gives_frame rest) (got_frame rest k n h)
 
 both_true : (a b : Bool) → a ≡ true → b ≡ true → (a && b) ≡ true
 both_true a b x y = rw (x, y) refl
@@ -175,13 +145,13 @@ one_frame : (items : List Item) → frames_once items ≡ true → (j k m n : �
 one_frame [] e j k m n a b = cc
 one_frame (item ∷ rest) e zero zero m n a b = refl
 one_frame (item ∷ rest) e zero (suc k) m n a b =
-    let parts = both (not (is_frame item && has_frame rest)) (frames_once rest) e in
-    contradiction (is_frame item && has_frame rest) parts.0 (both_true (is_frame item) (has_frame rest) (ap is_frame (the_item item (Frame m) a)) (got_frame rest k n b))
+    let parts = both (not (is_frame item && gives_frame rest)) (frames_once rest) e in
+    contradiction (is_frame item && gives_frame rest) parts.0 (both_true (is_frame item) (gives_frame rest) (ap is_frame (the_item item (Frame m) a)) (got_frame rest k n b))
 one_frame (item ∷ rest) e (suc j) zero m n a b =
-    let parts = both (not (is_frame item && has_frame rest)) (frames_once rest) e in
-    contradiction (is_frame item && has_frame rest) parts.0 (both_true (is_frame item) (has_frame rest) (ap is_frame (the_item item (Frame n) b)) (got_frame rest j m a))
+    let parts = both (not (is_frame item && gives_frame rest)) (frames_once rest) e in
+    contradiction (is_frame item && gives_frame rest) parts.0 (both_true (is_frame item) (gives_frame rest) (ap is_frame (the_item item (Frame n) b)) (got_frame rest j m a))
 one_frame (item ∷ rest) e (suc j) (suc k) m n a b =
-    let parts = both (not (is_frame item && has_frame rest)) (frames_once rest) e in
+    let parts = both (not (is_frame item && gives_frame rest)) (frames_once rest) e in
     ap (λ i. suc i) (one_frame rest parts.1 j k m n a b)
 
 abbrev pub is_label : ℕ → Bool
@@ -243,20 +213,20 @@ each test (first ∷ rest) e (suc k) item h =
 
 abbrev pub is_segment : List Item → Bool
 is_segment items =
-    ends_once items && (sets_once items && (are_all (is_used_set items) items && (frames_once items && (are_all is_in_range items && nat_le (length items) INTCODE_ITEMS))))
+    ends_once items && (sets_once items && (are_all (use_is_set items) items && (frames_once items && (are_all is_in_range items && nat_le (length items) INTCODE_ITEMS))))
 
 pub checked : (items : List Item) → is_segment items ≡ true → IsSegment items
 checked items e =
     let end = both (ends_once items) _ e in
     let label = both (sets_once items) _ end.1 in
-    let used = both (are_all (is_used_set items) items) _ label.1 in
+    let used = both (are_all (use_is_set items) items) _ label.1 in
     let frame = both (frames_once items) _ used.1 in
     let range = both (are_all is_in_range items) _ frame.1 in
     record {
       ends = ends items end.0;
       ended = ended items end.0;
       set_once = once items label.0;
-      used_set = λ k l item at in_use. item_set items item l (each (is_used_set items) items used.0 k item at) in_use;
+      used_set = λ k l item at in_use. item_set items item l (each (use_is_set items) items used.0 k item at) in_use;
       one_frame = one_frame items frame.0;
       in_range = λ k item at. in_range item (each is_in_range items range.0 k item at);
       counted = leb-true (length items) INTCODE_ITEMS range.1;

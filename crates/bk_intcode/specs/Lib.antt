@@ -11,6 +11,7 @@ pub mod Placed
 pub mod Decoding
 pub mod Operations
 pub mod Output
+pub mod FormatLaws
 pub mod Step
 pub mod Effects
 pub mod StepLaws

@@ -1,8 +1,9 @@
 -- What the library's routines write.
-use Rattle.std.specs.Prelude.{ℕ, zero, suc, ◌+◌, ◌-◌, ◌%◌, ◌^◌, ◌==◌, nat_lt, nat_le, min, Bool, true, false, ◌&&◌, List, [], ◌∷◌, ◌++◌, length, replicate, slice_get, Option, Some, option_and_then, if◌then◌else◌}
+use Rattle.std.specs.Prelude.{ℕ, zero, suc, ◌+◌, ◌-◌, ◌%◌, ◌==◌, nat_lt, Bool, true, false, ◌&&◌, List, [], ◌∷◌, ◌++◌, slice_get, Option, Some, option_and_then, if◌then◌else◌}
 use Rattle.std.specs.Option.{option_map, option_map_or}
 use Rattle.bk_base.specs.Word.{signed, word_sum, word_byte, byte_distance, byte_place}
 use Rattle.bk_base.specs.Decimal.{spelling}
+use Rattle.bk_base.specs.Format.{aligned, capital, is_digit}
 use Rattle.bk_intcode.specs.declared.output.Piece.{Piece}
 use Rattle.bk_intcode.specs.declared.output.Piece.TheVariants as piece
 use Rattle.bk_intcode.specs.declared.output.Output.{Output}
@@ -39,25 +40,11 @@ string_rest (suc n) store s i =
 abbrev pub string_text : List ℕ → ℕ → Text
 string_text store s = option_map_or (λ n. string_rest n store s 1) (byte_of store s 0) cut_text
 
--- a number, with blanks before it up to a width: one below 0 counts as 0, and one over 255 as 255
-abbrev pub width : ℕ → ℕ
-width w = if nat_lt w (2 ^ 31) then min w 255 else 0
-
-abbrev pub aligned : ℕ → ℕ → List ℕ
-aligned number w = replicate (width w - length (spelling (signed number))) 32 ++ spelling (signed number)
-
 abbrev pub piece_text : List ℕ → Piece → Text
 piece_text store (piece.Byte b) = whole_text (b ∷ [])
 piece_text store (piece.String s) = string_text store s
 piece_text store (piece.Number n) = whole_text (spelling (signed n))
 piece_text store (piece.Aligned n w) = whole_text (aligned n w)
-
--- a letter in upper case
-abbrev pub capital : ℕ → ℕ
-capital b = if nat_le 97 b && nat_le b 122 then b - 32 else b
-
-abbrev pub is_digit : ℕ → Bool
-is_digit b = nat_le 48 b && nat_le b 57
 
 -- What one directive of a format writes, how many bytes of the format it takes, and how many arguments. A byte that begins
 -- no directive writes itself.

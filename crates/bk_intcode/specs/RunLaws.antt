@@ -1,11 +1,13 @@
 -- Laws of runs: steps one after another, and what is written only grows.
-use Rattle.std.specs.Prelude.{◌≡◌, ℕ, zero, suc, ◌+◌, ◌≤◌, Bool, true, false, List, [], ◌∷◌, ◌++◌, length, refl, if◌then◌else◌}
-use Rattle.std.proofs.Common.{sym, ap, ◌∙◌, arith, append_assoc, append-nil}
+use Rattle.std.specs.Prelude.{◌≡◌, ℕ, zero, suc, ◌+◌, ◌-◌, ◌≤◌, Bool, true, false, List, [], ◌∷◌, ◌++◌, length, refl, if◌then◌else◌}
+use Rattle.std.proofs.Common.{inl, inr, sym, ap, ◌∙◌, arith, append_assoc, append-nil}
+use Rattle.bk_base.specs.declared.run_end.End.{End}
 use Rattle.bk_base.specs.declared.run_end.End.TheVariants.{StoreLimit}
 use Rattle.bk_intcode.specs.declared.registers.Registers.{Registers}
 use Rattle.bk_intcode.specs.Output.{Text, output_text}
 use Rattle.bk_intcode.specs.Step.{Turn, Goes, Tells, Asks, Ends, step}
-use Rattle.bk_intcode.specs.Runs.{Standing, Going, Over, next_byte, behind_next, after, run, output_of}
+use Rattle.bk_intcode.specs.declared.output.Output.{Output}
+use Rattle.bk_intcode.specs.Runs.{Standing, Going, Over, next_byte, behind_next, after, run, output_of, Told, Exchanged, Follows, Leads, Paused, Finished, Waiting, CutShort, Broken}
 
 -- where a run stands after m steps more
 abbrev pub onwards : ℕ → Standing → Standing
@@ -131,3 +133,82 @@ run-shrinks n store r input written = shrinks n store r input written
 pub onwards-shrinks : (m : ℕ) (s : Standing) → length (input_of (onwards m s)) ≤ length (input_of s)
 onwards-shrinks m (Going store r input written) = run-shrinks m store r input written
 onwards-shrinks m (Over e input written) = omega arith
+
+-- What was written begins what the n steps write, whatever input follows the bytes that were read.
+pub record Beginning (n : ℕ) (store : List ℕ) (r : Registers) (old new : Told) : Type 0 where
+  pub read : List ℕ
+  pub written : List ℕ
+  pub exchanged : Exchanged old new read written
+  pub begins : (rest before : List ℕ) → Follows new rest
+      → (more : List ℕ) × (output_of (run n store r (read ++ rest) before) ≡ (before ++ written) ++ more)
+
+module _ (n : ℕ) (store : List ℕ) (r : Registers) (old new : Told) where
+  -- behind the first steps of n
+  behind_steps : (steps : ℕ) (store' : List ℕ) (r' : Registers) (read written : List ℕ) → steps ≤ n → Leads steps store r store' r' new read written
+      → (rest before : List ℕ) → Follows new rest → run n store r (read ++ rest) before ≡ run (n - steps) store' r' rest (before ++ written)
+  behind_steps steps store' r' read written within leads rest before follows =
+      let count : n ≡ steps + (n - steps) = omega arith in
+      ap (λ k. run k store r (read ++ rest) before) count ∙ run-add steps (n - steps) store r (read ++ rest) before
+      ∙ ap (λ s. onwards (n - steps) s) (leads rest before follows)
+
+  -- after a fault of the input what was written begins what the run writes without it
+  pub waiting-begins : Waiting n store r old new → Beginning n store r old new
+  waiting-begins p = record {
+    read = p.read;
+    written = p.written;
+    exchanged = p.exchanged;
+    begins = λ rest before follows.
+        let within = p.within in
+        let here = behind_steps p.steps p.store' p.r' p.read p.written (omega arith) p.leads rest before follows in
+        let more = run-begins (n - p.steps) p.store' p.r' rest (before ++ p.written) in
+        (more.0, ap output_of here ∙ more.1);
+  }
+
+  -- a step that writes a text, and the steps behind it
+  text_begins : (k m : ℕ) (store' : List ℕ) (r' : Registers) (what : Output) (store'' : List ℕ) (r'' : Registers) → k ≡ suc m → step store' r' ≡ Tells what store'' r''
+      → (rest before : List ℕ) → (more : List ℕ) × (output_of (run k store' r' rest before) ≡ (before ++ (output_text store'' what).bytes) ++ more)
+  unfolding BeginsAt
+  text_begins k m store' r' what store'' r'' one tells rest before =
+      let more = tells_begins m (run_begins m) (output_text store'' what) store'' r'' rest before in
+      (more.0, ap (λ i. output_of (run i store' r' rest before)) one ∙ ap (λ t. output_of (after (run m) t rest before)) tells ∙ more.1)
+
+  cut-beginning : CutShort n store r old new → Beginning n store r old new
+  cut-beginning p = record {
+    read = p.read;
+    written = p.written ++ p.begun;
+    exchanged = p.exchanged;
+    begins = λ rest before follows.
+        let within = p.within in
+        let one : n - p.steps ≡ suc (n - p.steps - 1) = omega arith in
+        let here = behind_steps p.steps p.store' p.r' p.read p.written (omega arith) p.leads rest before follows in
+        let more = text_begins (n - p.steps) (n - p.steps - 1) p.store' p.r' p.what p.store'' p.r'' one p.tells rest (before ++ p.written) in (
+          p.left ++ more.0,
+          ap output_of here ∙ more.1 ∙ ap (λ t. ((before ++ p.written) ++ t) ++ more.0) p.begins ∙ regrouped before p.written p.begun p.left more.0,
+        );
+  }
+    where
+      regrouped : (a b c d e : List ℕ) → ((a ++ b) ++ (c ++ d)) ++ e ≡ (a ++ (b ++ c)) ++ (d ++ e)
+      regrouped a b c d e = simp append_assoc
+
+  paused-beginning : (store' : List ℕ) (r' : Registers) → Paused n store r store' r' old new → Beginning n store r old new
+  paused-beginning store' r' p = record {
+    read = p.read;
+    written = p.written;
+    exchanged = p.exchanged;
+    begins = λ rest before follows. ([], ap output_of (p.leads rest before follows) ∙ sym (append-nil (before ++ p.written)));
+  }
+
+  finished-beginning : (e : End) → Finished e n store r old new → Beginning n store r old new
+  finished-beginning e p = record {
+    read = p.read;
+    written = p.written;
+    exchanged = p.exchanged;
+    begins = λ rest before follows. ([], ap output_of (p.ends rest before follows) ∙ sym (append-nil (before ++ p.written)));
+  }
+
+  -- after a fault of the output what was written begins what the run writes without it
+  pub broken-begins : Broken n store r old new → Beginning n store r old new
+  broken-begins (inl (inl cut)) = cut-beginning cut
+  broken-begins (inl (inr waiting)) = waiting-begins waiting
+  broken-begins (inr (inl paused)) = paused-beginning paused.0 paused.1 paused.2
+  broken-begins (inr (inr finished)) = finished-beginning finished.0 finished.1

@@ -1,9 +1,10 @@
 -- Runs of the machine, one step after another, with the bytes that they read and write.
-use Rattle.std.specs.Prelude.{◌≡◌, ℕ, zero, suc, ◌<◌, ◌^◌, ◌-◌, List, [], ◌∷◌, ◌++◌, Option, Bool, IsTrue, ⊤, if◌then◌else◌}
+use Rattle.std.specs.Prelude.{◌≡◌, ℕ, zero, suc, ◌<◌, ◌≤◌, ◌⊎◌, ◌^◌, ◌-◌, List, [], ◌∷◌, ◌++◌, Option, Bool, IsTrue, ⊤, if◌then◌else◌}
 use Rattle.std.specs.Io.KnownBytes.{Consumes, Appends}
 use Rattle.bk_base.specs.declared.run_end.End.{End}
 use Rattle.bk_base.specs.declared.run_end.End.TheVariants.{Status, DivideByZero, StoreLimit, StepLimit, BadOperation, ReadFault, WriteFault}
 use Rattle.bk_intcode.specs.declared.registers.Registers.{Registers}
+use Rattle.bk_intcode.specs.declared.output.Output.{Output}
 use Rattle.bk_intcode.specs.Output.{output_text}
 use Rattle.bk_intcode.specs.Step.{Turn, Goes, Tells, Asks, Ends, step}
 
@@ -75,25 +76,50 @@ pub record Finished (e : End) (n : ℕ) (store : List ℕ) (r : Registers) (old 
   pub exchanged : Exchanged old new read written
   pub ends : (rest before : List ℕ) → Follows new rest → run n store r (read ++ rest) before ≡ Over e rest (before ++ written)
 
--- A device failed: what was written begins what the n steps write, whatever input follows.
-pub record Broken (n : ℕ) (store : List ℕ) (r : Registers) (old new : Told) : Type 0 where
+-- The run came to a step that asks for a byte, by these bytes and no more.
+pub record Waiting (n : ℕ) (store : List ℕ) (r : Registers) (old new : Told) : Type 0 where
   pub read : List ℕ
   pub written : List ℕ
   pub exchanged : Exchanged old new read written
-  pub begins : (rest before : List ℕ) → Follows new rest
-      → (more : List ℕ) × (output_of (run n store r (read ++ rest) before) ≡ (before ++ written) ++ more)
-
--- The input failed: the run came to a step that asks for a byte.
-pub record Waiting (n : ℕ) (store : List ℕ) (r : Registers) (old new : Told) : Type 0 where
-  pub broken : Broken n store r old new
   pub steps : ℕ
   pub store' : List ℕ
   pub r' : Registers
   pub within : steps < n
-  pub leads : Leads steps store r store' r' new broken.read broken.written
+  pub leads : Leads steps store r store' r' new read written
   pub store'' : List ℕ
   pub r'' : Registers
   pub asks : step store' r' ≡ Asks store'' r''
+
+-- The run came to a step that writes a text, of which a beginning was taken.
+pub record CutShort (n : ℕ) (store : List ℕ) (r : Registers) (old new : Told) : Type 0 where
+  pub read : List ℕ
+  pub written : List ℕ
+  pub begun : List ℕ
+  pub exchanged : Exchanged old new read (written ++ begun)
+  pub steps : ℕ
+  pub store' : List ℕ
+  pub r' : Registers
+  pub within : steps < n
+  pub leads : Leads steps store r store' r' new read written
+  pub what : Output
+  pub store'' : List ℕ
+  pub r'' : Registers
+  pub tells : step store' r' ≡ Tells what store'' r''
+  pub left : List ℕ
+  pub begins : (output_text store'' what).bytes ≡ begun ++ left
+
+-- The output failed on the way: at a step that writes, or at the flush before a byte is asked for, which is not read then.
+abbrev pub FailedOnTheWay : ℕ → List ℕ → Registers → Told → Told → Type 0
+FailedOnTheWay n store r old new = CutShort n store r old new ⊎ Waiting n store r old new
+
+-- All steps were done, or the run had ended of itself, and the flush failed.
+abbrev pub FailedAtTheEnd : ℕ → List ℕ → Registers → Told → Told → Type 0
+FailedAtTheEnd n store r old new =
+    ((store' : List ℕ) × (r' : Registers) × Paused n store r store' r' old new) ⊎ ((e : End) × Finished e n store r old new)
+
+-- The output failed, or the flush behind a read that had failed.
+abbrev pub Broken : ℕ → List ℕ → Registers → Told → Told → Type 0
+Broken n store r old new = FailedOnTheWay n store r old new ⊎ FailedAtTheEnd n store r old new
 
 -- an answer to a step that asks: a word for the bytes delivered and what follows them
 pub record Answered (word : ℕ) (old new : Told) : Type 0 where
@@ -103,10 +129,10 @@ pub record Answered (word : ℕ) (old new : Told) : Type 0 where
   pub behind_is : (rest : List ℕ) → Follows new rest → behind_next (read ++ rest) ≡ rest
 
 -- a call that asks fails by the input, or by the flush of the output before it
-abbrev pub AskFails : End → ℕ → ℕ → Type 0
-AskFails ReadFault reads writes = reads ≡ 1
-AskFails WriteFault reads writes = writes ≡ 1
-AskFails e reads writes = ⊥
+abbrev pub AskFails : End → (reads reads' writes' : ℕ) → Type 0
+AskFails ReadFault reads reads' writes' = reads' ≡ 1
+AskFails WriteFault reads reads' writes' = (reads' ≡ reads) × (writes' ≡ 1)
+AskFails e reads reads' writes' = ⊥
 
 -- the ends that a run comes to of itself
 abbrev pub IsOwn : End → Type 0
@@ -118,18 +144,41 @@ IsOwn StepLimit = ⊥
 IsOwn ReadFault = ⊥
 IsOwn WriteFault = ⊥
 
--- how a run of at most n steps went, by its end
-abbrev pub Ran : End → ℕ → List ℕ → Registers → List ℕ → Registers → Told → Told → Type 0
-Ran StepLimit n store r store' r' old new = Paused n store r store' r' old new
-Ran ReadFault n store r store' r' old new = Waiting n store r old new
-Ran WriteFault n store r store' r' old new = Broken n store r old new
-Ran (Status v) n store r store' r' old new = Finished (Status v) n store r old new
-Ran DivideByZero n store r store' r' old new = Finished DivideByZero n store r old new
-Ran StoreLimit n store r store' r' old new = Finished StoreLimit n store r old new
-Ran BadOperation n store r store' r' old new = Finished BadOperation n store r old new
+-- how a run of at most n steps went, by its end; a fault of the output is told by what is passed along
+abbrev pub RanOr : Type 0 → End → ℕ → List ℕ → Registers → List ℕ → Registers → Told → Told → Type 0
+RanOr fails StepLimit n store r store' r' old new = Paused n store r store' r' old new
+RanOr fails ReadFault n store r store' r' old new = Waiting n store r old new
+RanOr fails WriteFault n store r store' r' old new = fails
+RanOr fails (Status v) n store r store' r' old new = Finished (Status v) n store r old new
+RanOr fails DivideByZero n store r store' r' old new = Finished DivideByZero n store r old new
+RanOr fails StoreLimit n store r store' r' old new = Finished StoreLimit n store r old new
+RanOr fails BadOperation n store r store' r' old new = Finished BadOperation n store r old new
 
--- a fault of a device comes only where that device failed
-abbrev pub Blames : End → ℕ → ℕ → Type 0
-Blames ReadFault reads writes = reads ≡ 1
-Blames WriteFault reads writes = writes ≡ 1
-Blames e reads writes = ⊤
+-- a run before the flush at its end
+abbrev pub Went : End → ℕ → List ℕ → Registers → List ℕ → Registers → Told → Told → Type 0
+Went e n store r store' r' old new = RanOr (FailedOnTheWay n store r old new) e n store r store' r' old new
+
+-- a run and the flush at its end
+abbrev pub Ran : End → ℕ → List ℕ → Registers → List ℕ → Registers → Told → Told → Type 0
+Ran e n store r store' r' old new = RanOr (Broken n store r old new) e n store r store' r' old new
+
+-- How often the devices failed, behind a run and the flush at its end: the input in a run that ends with its fault alone, and
+-- not before, unless the flush failed behind that; the output in one that ends with its fault alone.
+abbrev pub Blames : End → (reads reads' writes' : ℕ) → Type 0
+Blames ReadFault reads reads' writes' = (reads' ≡ 1) × (writes' ≡ 0)
+Blames WriteFault reads reads' writes' = (reads ≤ reads') × (writes' ≡ 1)
+Blames (Status v) reads reads' writes' = (reads' ≡ reads) × (writes' ≡ 0)
+Blames DivideByZero reads reads' writes' = (reads' ≡ reads) × (writes' ≡ 0)
+Blames StoreLimit reads reads' writes' = (reads' ≡ reads) × (writes' ≡ 0)
+Blames BadOperation reads reads' writes' = (reads' ≡ reads) × (writes' ≡ 0)
+Blames StepLimit reads reads' writes' = (reads' ≡ reads) × (writes' ≡ 0)
+
+-- how often, before that flush
+abbrev pub BlamesBefore : End → (reads reads' writes' : ℕ) → Type 0
+BlamesBefore ReadFault reads reads' writes' = reads' ≡ 1
+BlamesBefore WriteFault reads reads' writes' = (reads' ≡ reads) × (writes' ≡ 1)
+BlamesBefore (Status v) reads reads' writes' = reads' ≡ reads
+BlamesBefore DivideByZero reads reads' writes' = reads' ≡ reads
+BlamesBefore StoreLimit reads reads' writes' = reads' ≡ reads
+BlamesBefore BadOperation reads reads' writes' = reads' ≡ reads
+BlamesBefore StepLimit reads reads' writes' = reads' ≡ reads

@@ -1,5 +1,5 @@
 -- Segments: which lists of items are whole.
-use Rattle.std.specs.Prelude.{◌≡◌, ℕ, suc, ◌-◌, ◌<◌, ◌≤◌, ◌==◌, Bool, false, IsTrue, ◌||◌, List, [], ◌∷◌, Some, length, slice_get, FitsSigned, ⊤}
+use Rattle.std.specs.Prelude.{◌≡◌, ℕ, suc, ◌-◌, ◌<◌, ◌≤◌, ◌==◌, Bool, true, false, IsTrue, ◌||◌, List, [], ◌∷◌, Some, length, slice_get, FitsSigned, ⊤}
 use Rattle.std.specs.Int.{w32}
 use Rattle.bk_base.specs.declared.limit.TheConstants.{GLOBAL_NUMBER, FRAME_WORDS, FRAME_WORDS_LEAST, INTCODE_ITEMS, INTCODE_LABEL}
 use Rattle.bk_intcode.specs.declared.item.Operand.{Operand}
@@ -38,6 +38,38 @@ item_sets label End = false
 abbrev pub sets : ℕ → List Item → Bool
 sets label [] = false
 sets label (item ∷ rest) = item_sets label item || sets label rest
+
+-- the label that an item uses, if it uses one, is set by one of these
+abbrev pub operand_is_set : List Item → Operand → Bool
+operand_is_set items (Label l) = sets l items
+operand_is_set items (Number n) = true
+operand_is_set items (Local n) = true
+operand_is_set items (Global n) = true
+
+abbrev pub use_is_set : List Item → Item → Bool
+use_is_set items (Instruction function indirect operand) = operand_is_set items operand
+use_is_set items (LabelWord l) = sets l items
+use_is_set items (SetGlobal number l) = sets l items
+use_is_set items (SetLabel l) = true
+use_is_set items (Byte b) = true
+use_is_set items (Word w) = true
+use_is_set items (Frame n) = true
+use_is_set items End = true
+
+-- an item of these gives the largest frame
+abbrev pub is_frame : Item → Bool
+is_frame (Frame n) = true
+is_frame (Instruction function indirect operand) = false
+is_frame (SetLabel l) = false
+is_frame (Byte b) = false
+is_frame (Word w) = false
+is_frame (LabelWord l) = false
+is_frame (SetGlobal number l) = false
+is_frame End = false
+
+abbrev pub gives_frame : List Item → Bool
+gives_frame [] = false
+gives_frame (item ∷ rest) = is_frame item || gives_frame rest
 
 -- the numbers of an item are in their ranges: words of 32 bits, bytes, labels, globals and frames
 abbrev pub IsLabel : ℕ → Type 0

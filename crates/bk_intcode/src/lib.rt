@@ -3,6 +3,7 @@
 mod extent;
 mod item;
 mod labels;
+mod laws;
 mod library;
 mod load_fault;
 mod loader;
@@ -22,6 +23,7 @@ mod tell;
 mod tests;
 
 pub use item::{Function, Item, Operand};
+pub use laws::format_is_of_parts;
 pub use load_fault::LoadFault;
 pub use machine::{Machine, Sizes};
 pub use registers::Registers;

@@ -1,11 +1,12 @@
 //! The machine.
-ghost use Rattle.std.specs.Prelude.{◌≡◌, ◌≢◌, ◌+◌, ◌<◌, ◌≤◌, ◌↔◌, ◌⊎◌, None, Some, IfOk, false, map, vec_len};
+ghost use Rattle.std.specs.Prelude.{ℕ, ◌≡◌, ◌≢◌, ◌+◌, ◌<◌, ◌≤◌, ◌↔◌, ◌⊎◌, None, Some, IfOk, false, map, vec_len};
 ghost use Rattle.std.specs.Io.KnownBytes.{Keeps};
 ghost use Rattle.bk_base.specs.declared.run_end.End.TheVariants.{StepLimit, WriteFault};
 ghost use Rattle.bk_base.specs.declared.limit.TheConstants.{STORE_LEAST, STORE_MOST};
 ghost use Rattle.bk_intcode.specs.declared.load_fault.LoadFault.TheVariants.{TooSmall, NoStart};
 ghost use Rattle.bk_intcode.specs.Placement.{SEGMENTS, stack_start, loaded_store, greatest_frame, any_starts};
-ghost use Rattle.bk_intcode.specs.Runs.{Ran, Blames};
+ghost use Rattle.bk_base.specs.Devices.{Begins};
+ghost use Rattle.bk_intcode.specs.Runs.{Ran, Went, Blames, BlamesBefore};
 
 use crate::load_fault::LoadFault;
 use crate::loader::load;
@@ -97,7 +98,8 @@ impl Machine {
             (record { left = I.left input.old; ended = I.ended input.old; taken = O.taken out.old })
             (record { left = I.left input.new; ended = I.ended input.new; taken = O.taken out.new }) }
         ensures flushed { end_of self.old ≡ None → result ≢ WriteFault → O.passed out.new ≡ O.taken out.new }
-        ensures cause { end_of self.old ≡ None → Blames result (I.faults input.new) (O.faults out.new) }
+        ensures passes { Begins (O.passed out.old) (O.passed out.new) }
+        ensures cause { end_of self.old ≡ None → Blames result (I.faults input.old) (I.faults input.new) (O.faults out.new) }
 
         ensures paused { result ≡ StepLimit → end_of self.new ≡ None }
         ensures ended { result ≢ StepLimit → end_of self.new ≡ Some result }
@@ -126,10 +128,11 @@ fn drive<I: ByteIn, O: ByteOut>(
     out: &mut O,
 ) -> End
     ensures length { vec_len store.new ≡ vec_len store.old }
-    ensures ran { Ran result steps store.old.items registers.old store.new.items registers.new
+    ensures went { Went result steps store.old.items registers.old store.new.items registers.new
         (record { left = I.left input.old; ended = I.ended input.old; taken = O.taken out.old })
         (record { left = I.left input.new; ended = I.ended input.new; taken = O.taken out.new }) }
-    ensures cause { Blames result (I.faults input.new) (O.faults out.new) }
+    ensures passes { Begins (O.passed out.old) (O.passed out.new) }
+    ensures cause { BlamesBefore result (I.faults input.old) (I.faults input.new) (O.faults out.new) }
 {
     // a copy of its own, which the compiler keeps in registers
     let mut local = *registers;
@@ -143,7 +146,8 @@ fn finish<O: ByteOut>(end: End, out: &mut O) -> End
     ensures same { result ≡ end ⊎ result ≡ WriteFault }
     ensures passed { result ≢ WriteFault → O.passed out.new ≡ O.taken out.new }
     ensures kept { Keeps (O.taken out.old) (O.taken out.new) }
-    ensures cause { (end ≢ WriteFault → result ≡ WriteFault → O.faults out.new ≡ 1) × (O.faults out.old ≡ 1 → O.faults out.new ≡ 1) }
+    ensures passes { Begins (O.passed out.old) (O.passed out.new) }
+    ensures cause { (reads reads' : ℕ) → reads ≤ 1 → BlamesBefore end reads reads' (O.faults out.old) → Blames result reads reads' (O.faults out.new) }
 {
     match out.flush() {
         Ok(()) => end,

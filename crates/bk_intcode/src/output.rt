@@ -1,6 +1,7 @@
 //! What the library's routines write.
 ghost use Rattle.std.specs.Prelude.{◌≡◌, ◌<◌, ◌≤◌, ◌+◌, ◌^◌, IfSome};
-ghost use Rattle.bk_intcode.specs.Output.{byte_of, plain, aligning, lettered, directive, capital, is_digit};
+ghost use Rattle.bk_intcode.specs.Output.{byte_of, plain, aligning, lettered, directive};
+ghost use Rattle.bk_base.specs.Format.{capital, is_digit};
 
 use crate::store::word_at;
 use bk_base::word;

@@ -2,7 +2,8 @@
 ghost use Rattle.std.specs.Prelude.{◌≡◌, ◌≢◌, false, [], IfOk, IfErr, IfSome, OnErr, unwrap_or};
 ghost use Rattle.std.specs.Io.KnownBytes.{Keeps};
 ghost use Rattle.bk_base.specs.declared.run_end.End.TheVariants.{ReadFault, WriteFault, StepLimit};
-ghost use Rattle.bk_intcode.specs.Runs.{Answered, AskFails, Ran, Blames};
+ghost use Rattle.bk_base.specs.Devices.{Begins};
+ghost use Rattle.bk_intcode.specs.Runs.{Answered, AskFails, Went, BlamesBefore};
 
 use crate::registers::Registers;
 use crate::step::{Effect, step};
@@ -23,7 +24,9 @@ fn ask<I: ByteIn, O: ByteOut>(input: &mut I, out: &mut O) -> Result<u32, End>
     ensures flushed { I.held input.old ≡ [] → I.ended input.old ≡ false → I.faults input.old ≡ 0
         → result ≢ Err WriteFault → O.passed out.new ≡ O.taken out.new }
     ensures not_asked { result ≡ Err WriteFault → input.new ≡ input.old }
-    ensures cause { IfErr result (λ e. AskFails e (I.faults input.new) (O.faults out.new)) }
+    ensures passes { Begins (O.passed out.old) (O.passed out.new) }
+    ensures cause { IfErr result (λ e. AskFails e (I.faults input.old) (I.faults input.new) (O.faults out.new)) }
+    ensures no_cause { IfOk result (λ _. I.faults input.new ≡ I.faults input.old) }
 {
     if !input.ready() && out.flush().is_err() {
         return Err(End::WriteFault);
@@ -43,11 +46,12 @@ fn turn<I: ByteIn, O: ByteOut>(
     input: &mut I,
     out: &mut O,
 ) -> Option<End>
-    ensures ran { Ran (unwrap_or result StepLimit) 1 store.old r.old store.new r.new
+    ensures went { Went (unwrap_or result StepLimit) 1 store.old r.old store.new r.new
         (record { left = I.left input.old; ended = I.ended input.old; taken = O.taken out.old })
         (record { left = I.left input.new; ended = I.ended input.new; taken = O.taken out.new }) }
     ensures over { IfSome result (λ e. e ≢ StepLimit) }
-    ensures cause { IfSome result (λ e. Blames e (I.faults input.new) (O.faults out.new)) }
+    ensures passes { Begins (O.passed out.old) (O.passed out.new) }
+    ensures cause { BlamesBefore (unwrap_or result StepLimit) (I.faults input.old) (I.faults input.new) (O.faults out.new) }
 {
     let Some(effect) = step(store, r) else {
         return Some(End::StoreLimit);
@@ -79,10 +83,11 @@ pub fn go<I: ByteIn, O: ByteOut>(
     input: &mut I,
     out: &mut O,
 ) -> End
-    ensures ran { Ran result steps store.old r.old store.new r.new
+    ensures went { Went result steps store.old r.old store.new r.new
         (record { left = I.left input.old; ended = I.ended input.old; taken = O.taken out.old })
         (record { left = I.left input.new; ended = I.ended input.new; taken = O.taken out.new }) }
-    ensures cause { Blames result (I.faults input.new) (O.faults out.new) }
+    ensures passes { Begins (O.passed out.old) (O.passed out.new) }
+    ensures cause { BlamesBefore result (I.faults input.old) (I.faults input.new) (O.faults out.new) }
 {
     for i in 0..steps {
         if let Some(end) = turn(store, r, input, out) {

@@ -2,8 +2,11 @@
 use crate::machine::Machine;
 use crate::tests::{MANY, WORDS, check, computes, reads_twice};
 use bk_base::{ByteIn, ByteOut, End, Reader512, Writer512};
+use std::alloc::Global;
+use std::cell::Cell;
 use std::io;
 use std::io::{ErrorKind, Read, Write};
+use std::process::Abort;
 use std::test::Fail;
 
 #[test]
@@ -191,5 +194,91 @@ fn a_reader_that_fails_after_a_byte(rt: HostRuntime) -> Result<(), Fail> {
     assert_eq!(rt; input.failures(), 1);
     assert_eq!(rt; broken.calls, 2);
     assert_eq!(rt; bytes.as_slice(), b"65".as_slice());
+    Ok(())
+}
+
+/// Adds a call to a record of calls, the last of which is its last digit: 1 reads, 2 writes, 3 flushes.
+fn note(record: &Cell<u64>, call: u64) {
+    record.set(record.get().wrapping_mul(10).wrapping_add(call));
+}
+
+/// Gives so many letters a call, from A on, and notes each call.
+#[derive(Drop)]
+struct NotedReader<'a> {
+    record: &'a Cell<u64>,
+    step: usize,
+    next: u8,
+}
+
+impl Read for NotedReader<'_> {
+    fn read(&mut self, buf: &mut [u8]) -> io::Result<usize> {
+        note(self.record, 1);
+        let mut count = 0;
+        for slot in buf.iter_mut() {
+            if count >= self.step {
+                break;
+            }
+            *slot = self.next;
+            self.next = self.next.wrapping_add(1);
+            count += 1;
+        }
+        Ok(count.min(buf.len()))
+    }
+}
+
+/// Takes all bytes, notes each call, and fails at a flush once so many have succeeded.
+#[derive(Drop)]
+struct NotedWriter<'a> {
+    record: &'a Cell<u64>,
+    flushes: u32,
+}
+
+impl Write for NotedWriter<'_> {
+    fn write(&mut self, buf: &[u8]) -> io::Result<usize> {
+        note(self.record, 2);
+        Ok(buf.len())
+    }
+
+    fn flush(&mut self) -> io::Result<()> {
+        note(self.record, 3);
+        if self.flushes == 0 {
+            return Err(io::Error::from(ErrorKind::Interrupted));
+        }
+        self.flushes -= 1;
+        Ok(())
+    }
+}
+
+/// The end and the record of calls of a run that reads a byte, writes it as a number, and does so once more, run twice.
+fn noted(rt: &impl Abort, alloc: Global, step: usize, flushes: u32) -> Result<(End, u64), Fail> {
+    let segments = vec![in alloc; reads_twice(alloc)?]?;
+    let mut machine = Machine::load(alloc, &segments, WORDS)?;
+    let record = Cell::new(0);
+    let mut input = Reader512::new(NotedReader {
+        record: &record,
+        step,
+        next: 65,
+    });
+    let mut out = Writer512::new(NotedWriter {
+        record: &record,
+        flushes,
+    });
+    let end = machine.run(MANY, &mut input, &mut out);
+    assert_eq!(rt; machine.run(MANY, &mut input, &mut out), end);
+    Ok((end, record.get()))
+}
+
+#[test]
+fn output_is_flushed_before_a_read_that_waits(rt: HostRuntime) -> Result<(), Fail> {
+    assert_eq!(rt; noted(&rt, rt.alloc(), 1, 9)?, (End::Status(0), 3_123_123));
+    assert_eq!(rt; noted(&rt, rt.alloc(), 2, 9)?, (End::Status(0), 3_123));
+    Ok(())
+}
+
+#[test]
+fn the_reader_is_not_asked_after_a_failed_flush(rt: HostRuntime) -> Result<(), Fail> {
+    assert_eq!(rt; noted(&rt, rt.alloc(), 1, 0)?, (End::WriteFault, 3));
+    assert_eq!(rt; noted(&rt, rt.alloc(), 1, 1)?, (End::WriteFault, 3_123));
+    assert_eq!(rt; noted(&rt, rt.alloc(), 1, 2)?, (End::WriteFault, 3_123_123));
     Ok(())
 }

@@ -2,7 +2,9 @@
 ghost use Rattle.std.specs.Prelude.{◌≡◌, ◌<◌, ◌^◌, ℕ, ◌∷◌, [], OnErr, replicate};
 ghost use Rattle.bk_base.specs.Word.{signed};
 ghost use Rattle.bk_base.specs.Decimal.{spelling};
-ghost use Rattle.bk_intcode.specs.Output.{string_rest, string_text, piece_text, format_rest, format_text, output_text, aligned, width as width_of, whole_text};
+ghost use Rattle.bk_base.specs.Devices.{Begins};
+ghost use Rattle.bk_base.specs.Format.{aligned, width as width_of};
+ghost use Rattle.bk_intcode.specs.Output.{string_rest, string_text, piece_text, format_rest, format_text, output_text, whole_text};
 ghost use Rattle.bk_intcode.specs.Telling.{PutsText, PutsBytes};
 
 use crate::output::{Output, Piece, byte_at, directive_at};
@@ -11,6 +13,7 @@ use bk_base::{ByteOut, Failed, put_all, word, word_text};
 /// Puts so many blanks.
 fn put_blanks<O: ByteOut>(out: &mut O, count: u32) -> Result<(), Failed>
     ensures puts { PutsBytes (O.taken out.old) (O.taken out.new) (replicate count 32) result }
+    ensures passes { Begins (O.passed out.old) (O.passed out.new) }
     ensures failed { OnErr result (O.faults out.new ≡ 1) }
 {
     for i in 0..count {
@@ -34,6 +37,7 @@ fn width_in_bytes(width: u32) -> u32
 /// Puts a number, with blanks before it up to a width.
 fn put_aligned<O: ByteOut>(out: &mut O, number: u32, width: u32) -> Result<(), Failed>
     ensures puts { PutsBytes (O.taken out.old) (O.taken out.new) (aligned number width) result }
+    ensures passes { Begins (O.passed out.old) (O.passed out.new) }
     ensures failed { OnErr result (O.faults out.new ≡ 1) }
 {
     let text = word_text(number.cast_signed());
@@ -51,6 +55,7 @@ fn tell_bytes<O: ByteOut>(
 ) -> Result<bool, Failed>
     requires { count < 256 }
     ensures text { PutsText (O.taken out.old) (O.taken out.new) (string_rest count store.now address 1) result }
+    ensures passes { Begins (O.passed out.old) (O.passed out.new) }
     ensures failed { OnErr result (O.faults out.new ≡ 1) }
 {
     for i in 0..count {
@@ -65,6 +70,7 @@ fn tell_bytes<O: ByteOut>(
 /// Puts a string.
 fn tell_string<O: ByteOut>(store: &[u32], address: u32, out: &mut O) -> Result<bool, Failed>
     ensures text { PutsText (O.taken out.old) (O.taken out.new) (string_text store.now address) result }
+    ensures passes { Begins (O.passed out.old) (O.passed out.new) }
     ensures failed { OnErr result (O.faults out.new ≡ 1) }
 {
     match byte_at(store, address, 0) {
@@ -76,6 +82,7 @@ fn tell_string<O: ByteOut>(store: &[u32], address: u32, out: &mut O) -> Result<b
 /// Puts a piece.
 fn tell_piece<O: ByteOut>(store: &[u32], piece: Piece, out: &mut O) -> Result<bool, Failed>
     ensures text { PutsText (O.taken out.old) (O.taken out.new) (piece_text store.now piece) result }
+    ensures passes { Begins (O.passed out.old) (O.passed out.new) }
     ensures failed { OnErr result (O.faults out.new ≡ 1) }
 {
     match piece {
@@ -97,6 +104,7 @@ fn tell_directives<O: ByteOut>(
 ) -> Result<bool, Failed>
     requires { count < 256 }
     ensures text { PutsText (O.taken out.old) (O.taken out.new) (format_rest count store.now format 1 count arguments) result }
+    ensures passes { Begins (O.passed out.old) (O.passed out.new) }
     ensures failed { OnErr result (O.faults out.new ≡ 1) }
 {
     let mut at = 1;
@@ -127,6 +135,7 @@ fn tell_format<O: ByteOut>(
     out: &mut O,
 ) -> Result<bool, Failed>
     ensures text { PutsText (O.taken out.old) (O.taken out.new) (format_text store.now format arguments) result }
+    ensures passes { Begins (O.passed out.old) (O.passed out.new) }
     ensures failed { OnErr result (O.faults out.new ≡ 1) }
 {
     match byte_at(store, format, 0) {
@@ -140,6 +149,7 @@ fn tell_format<O: ByteOut>(
 #[inline(never)]
 pub fn tell<O: ByteOut>(store: &[u32], what: Output, out: &mut O) -> Result<bool, Failed>
     ensures text { PutsText (O.taken out.old) (O.taken out.new) (output_text store.now what) result }
+    ensures passes { Begins (O.passed out.old) (O.passed out.new) }
     ensures failed { OnErr result (O.faults out.new ≡ 1) }
 {
     match what {

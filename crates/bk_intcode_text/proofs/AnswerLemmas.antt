@@ -15,7 +15,7 @@ use Rattle.bk_words.specs.TextEnd.{AtEnd}
 use Rattle.bk_words.specs.Words.{words_of}
 use Rattle.bk_intcode_text.specs.SegmentReading.{GivesSegment, GivesNothing, GivesFault, CutAt}
 use Rattle.bk_intcode_text.specs.FirstSaying.{Saying, segment, nothing, fault, Says}
-use Rattle.bk_intcode_text.specs.SegmentAnswer.{Takes, Answers, AnswersWords, Stands, StandsFor}
+use Rattle.bk_intcode_text.specs.SegmentAnswer.{Takes, Answers, AnswersWords, Stands, StandsWhateverFollows}
 use Rattle.bk_words.specs.WordLaws.{words_of-all, words_of-ended, known, nothing_left_at}
 
 -- what a text says, from what was taken of it
@@ -35,7 +35,7 @@ stands_for : (old new : Option (List ℕ)) (ended : Bool) (what : List ℕ → T
     Takes old new ended (λ taken end. (more : List ℕ) → (end → more ≡ []) → so taken more)
 stands_for old new ended what so each t = (t.0, t.1, λ more over. each t.0 more (AtEnd ended (length t.0)) t.2 over)
 
-pub answer_stands : (old new : Option (List ℕ)) (ended : Bool) (result : Result (Option Intcode) (Refused IntcodeFault)) → Answers result old new ended → StandsFor result old new ended
+pub answer_stands : (old new : Option (List ℕ)) (ended : Bool) (result : Result (Option Intcode) (Refused IntcodeFault)) → Answers result old new ended → StandsWhateverFollows result old new ended
 answer_stands old new ended (Ok (Some read)) t = stands_for old new ended (λ taken end. GivesSegment taken end (items_of read)) (Stands (Ok (Some read)))
     (λ taken more end given over. words_of-all (taken ++ more) taken more end (map item_text (items_of read)) refl given.1 over) t
 answer_stands old new ended (Ok None) t = stands_for old new ended GivesNothing (Stands (Ok None))

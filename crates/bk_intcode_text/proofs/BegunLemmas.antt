@@ -7,12 +7,12 @@ use Rattle.std.proofs.lemmas.List.{take-append-le}
 use Rattle.std.proofs.Math.Seq.{take-append_seam}
 use Rattle.bk_base.specs.declared.limit.TheConstants.{INTCODE_ITEMS}
 use Rattle.bk_base.specs.declared.intcode_fault.IntcodeKind.TheVariants.{LabelNotSet, LabelSetTwice, TooLong, FrameGivenTwice}
-use Rattle.bk_intcode.specs.Segment.{sets, item_sets, item_uses, operand_uses, IsSegment, IsItem, AreItems}
+use Rattle.bk_intcode.specs.Segment.{sets, item_sets, item_uses, operand_uses, IsSegment, IsItem, AreItems, operand_is_set, use_is_set, is_frame, gives_frame}
 use Rattle.bk_intcode.specs.declared.item.Operand.{Operand}
 use Rattle.bk_intcode.specs.declared.item.Operand.TheVariants.{Number, Local, Global, Label}
 use Rattle.bk_intcode.specs.declared.item.Item.{Item}
 use Rattle.bk_intcode.specs.declared.item.Item.TheVariants.{Instruction, SetLabel, Byte, Word, LabelWord, SetGlobal, Frame, End}
-use Rattle.bk_intcode_text.specs.ItemFault.{operand_is_set, use_is_set, all_set, is_frame, gives_frame, label_not_set, label_set_twice, too_long, frame_given_twice, item_fault}
+use Rattle.bk_intcode_text.specs.ItemFault.{all_set, label_not_set, label_set_twice, too_long, frame_given_twice, item_fault}
 use Rattle.bk_intcode_text.specs.SegmentReading.{IsBegun}
 
 pub at_push : {X : Type 0} (xs : List X) (y : X) (k : ℕ) (x : X) → slice_get (xs ++ y ∷ []) k ≡ Some x → ((k < length xs) × (slice_get xs k ≡ Some x)) ⊎ ((k ≡ length xs) × (y ≡ x))

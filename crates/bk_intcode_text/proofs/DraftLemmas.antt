@@ -1,9 +1,8 @@
 -- The labels and the largest frame of items, one item more.
 use Rattle.std.proofs.Common.{◌≡◌, ◌≢◌, ℕ, ◌++◌, ◌||◌, ◌==◌, if◌then◌else◌, Bool, true, false, List, [], ◌∷◌, refl, ◌∙◌, ap}
-use Rattle.bk_intcode.specs.Segment.{sets, item_sets}
+use Rattle.bk_intcode.specs.Segment.{sets, item_sets, is_frame, gives_frame}
 use Rattle.bk_intcode.specs.declared.item.Item.{Item}
 use Rattle.bk_intcode.specs.declared.item.Item.TheVariants.{Instruction, SetLabel, Byte, Word, LabelWord, SetGlobal, Frame, End}
-use Rattle.bk_intcode_text.specs.ItemFault.{is_frame, gives_frame}
 
 or_assoc : (a b c : Bool) → (a || (b || c)) ≡ ((a || b) || c)
 or_assoc true b c = refl

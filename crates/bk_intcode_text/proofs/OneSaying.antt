@@ -9,7 +9,7 @@ use Rattle.bk_base.specs.Decimal.{spelling}
 use Rattle.bk_base.specs.declared.limit.TheConstants.{INTCODE_ITEMS}
 use Rattle.bk_base.specs.declared.intcode_fault.IntcodeKind.{IntcodeKind}
 use Rattle.bk_base.specs.declared.intcode_fault.IntcodeKind.TheVariants.{BadLetter, BadNumber, ByteOver255, LabelNotSet, LabelSetTwice, Truncated, TooLong, FrameGivenTwice}
-use Rattle.bk_intcode.specs.Segment.{sets, item_uses, operand_uses, IsSegment, IsItem, AreItems}
+use Rattle.bk_intcode.specs.Segment.{sets, item_uses, operand_uses, IsSegment, IsItem, AreItems, operand_is_set, use_is_set, gives_frame}
 use Rattle.bk_intcode.specs.declared.item.Function.{Function}
 use Rattle.bk_intcode.specs.declared.item.Function.TheVariants.{Load, Store, Add, Jump, JumpTrue, JumpFalse, Call, Operate}
 use Rattle.bk_intcode.specs.declared.item.Operand.{Operand}
@@ -17,7 +17,7 @@ use Rattle.bk_intcode.specs.declared.item.Operand.TheVariants.{Number, Local, Gl
 use Rattle.bk_intcode.specs.declared.item.Item.{Item}
 use Rattle.bk_intcode.specs.declared.item.Item.TheVariants.{Instruction, SetLabel, Byte, Word, LabelWord, SetGlobal, Frame, End}
 use Rattle.bk_intcode_text.specs.ItemText.{letter, item_text}
-use Rattle.bk_intcode_text.specs.ItemFault.{operand_is_set, use_is_set, all_set, gives_frame, item_fault}
+use Rattle.bk_intcode_text.specs.ItemFault.{all_set, item_fault}
 use Rattle.bk_intcode_text.specs.WordMeaning.{Means, WordFault, begins_item, IsByteOver255}
 use Rattle.bk_intcode_text.specs.SegmentReading.{IsBegun, FaultBehind, FaultAt, CutAt}
 use Rattle.bk_intcode_text.specs.FirstSaying.{segment, nothing, fault, Says, SayOneThing}

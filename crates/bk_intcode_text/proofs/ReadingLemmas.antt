@@ -16,7 +16,7 @@ use Rattle.bk_words.specs.Words.{words_of}
 use Rattle.bk_words.specs.Gathering.{TakesWord}
 use Rattle.bk_words.specs.Taking.{TakesWords}
 use Rattle.bk_intcode_text.specs.Next.{IsNext}
-use Rattle.bk_intcode_text.specs.SegmentReading.{IsBegun, FaultBehind, GivesSegment, GivesNothing, GivesFault}
+use Rattle.bk_intcode_text.specs.SegmentReading.{IsBegun, FaultBehind, GivesSegment, GivesNothing, GivesFault, StopsAtWord}
 use Rattle.bk_intcode_text.specs.SegmentAnswer.{Takes}
 use Rattle.bk_base.specs.DeviceLaws.{Consumes-nothing, Consumes-trans}
 use Rattle.bk_words.specs.WordLaws.{IsParted, IsParted-empty, IsParted-word, TakesWords-word, words_of-last, words_of-more_blanks}
@@ -79,6 +79,13 @@ pub item_fault_here : (a b c : Option (List ℕ)) (m k number : ℕ) (ended : Bo
 item_fault_here a b c m k number ended items item last kind s n begun place fault =
     gives a b c s.0 n.0 m k ended (λ taken end. GivesFault taken end number kind) s.1 n.1 s.2 n.2
     (fault_here s.0 n.0 last (AtEnd ended k) items n.3.0 number kind s.4 s.3 begun place (inr (item, n.3.1, fault)))
+
+-- memory is refused at an item
+pub stops_here : (a b c : Option (List ℕ)) (m k : ℕ) (ended : Bool) (items : List Item) (item : Item) (last : Bool) → Read a b m items → Comes b c m k ended (founds.Item item last) → IsBegun items →
+    Takes a c ended StopsAtWord
+stops_here a b c m k ended items item last s n begun =
+    gives a b c s.0 n.0 m k ended StopsAtWord s.1 n.1 s.2 n.2
+    (record { before = items; begun = begun; word = n.3.0.first ∷ n.3.0.rest; are = TakesWords-word s.0 n.0 last (AtEnd ended k) (map item_text items) n.3.0 s.4 s.3 })
 
 -- the words of items, one item more
 words-push : (items all : List Item) (item : Item) (word : List ℕ) → all ≡ items ++ item ∷ [] → item_text item ≡ word → map item_text items ++ word ∷ [] ≡ map item_text all

@@ -1,8 +1,7 @@
 -- What the parts of a segment that is being read keep.
 use Rattle.std.specs.Prelude.{◌≡◌, ℕ, nat_eq}
 use Rattle.indexmap.specs.IndexSet.{contains}
-use Rattle.bk_intcode.specs.Segment.{sets}
-use Rattle.bk_intcode_text.specs.ItemFault.{gives_frame}
+use Rattle.bk_intcode.specs.Segment.{sets, gives_frame}
 use Rattle.bk_intcode_text.specs.declared.draft.Draft.{Draft}
 
 -- The labels are those that the items set, and framed says whether one of them gives the largest frame.

@@ -4,47 +4,13 @@ use Rattle.std.specs.List.{list_all}
 use Rattle.bk_base.specs.declared.limit.TheConstants.{INTCODE_ITEMS}
 use Rattle.bk_base.specs.declared.intcode_fault.IntcodeKind.{IntcodeKind}
 use Rattle.bk_base.specs.declared.intcode_fault.IntcodeKind.TheVariants.{LabelNotSet, LabelSetTwice, TooLong, FrameGivenTwice}
-use Rattle.bk_intcode.specs.Segment.{sets}
-use Rattle.bk_intcode.specs.declared.item.Operand.{Operand}
-use Rattle.bk_intcode.specs.declared.item.Operand.TheVariants.{Number, Local, Global, Label}
+use Rattle.bk_intcode.specs.Segment.{sets, use_is_set, is_frame, gives_frame}
 use Rattle.bk_intcode.specs.declared.item.Item.{Item}
 use Rattle.bk_intcode.specs.declared.item.Item.TheVariants.{Instruction, SetLabel, Byte, Word, LabelWord, SetGlobal, Frame, End}
-
--- the label that an item uses, if it uses one, is set
-abbrev pub operand_is_set : List Item → Operand → Bool
-operand_is_set items (Label l) = sets l items
-operand_is_set items (Number n) = true
-operand_is_set items (Local n) = true
-operand_is_set items (Global n) = true
-
-abbrev pub use_is_set : List Item → Item → Bool
-use_is_set items (Instruction function indirect operand) = operand_is_set items operand
-use_is_set items (LabelWord l) = sets l items
-use_is_set items (SetGlobal number l) = sets l items
-use_is_set items (SetLabel l) = true
-use_is_set items (Byte b) = true
-use_is_set items (Word w) = true
-use_is_set items (Frame n) = true
-use_is_set items End = true
 
 -- each label that is used is set
 abbrev pub all_set : List Item → Bool
 all_set items = list_all (use_is_set items) items
-
--- one of the items gives the largest frame
-abbrev pub is_frame : Item → Bool
-is_frame (Frame n) = true
-is_frame (Instruction function indirect operand) = false
-is_frame (SetLabel l) = false
-is_frame (Byte b) = false
-is_frame (Word w) = false
-is_frame (LabelWord l) = false
-is_frame (SetGlobal number l) = false
-is_frame End = false
-
-abbrev pub gives_frame : List Item → Bool
-gives_frame [] = false
-gives_frame (item ∷ rest) = is_frame item || gives_frame rest
 
 -- the faults that an item may have behind others, each by itself
 abbrev pub label_not_set : List Item → Item → List IntcodeKind

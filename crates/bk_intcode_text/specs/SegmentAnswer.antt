@@ -12,18 +12,19 @@ use Rattle.bk_intcode_text.specs.SegmentText.{segment_text}
 use Rattle.bk_words.specs.Words.{words_of}
 use Rattle.bk_words.specs.TextEnd.{AtEnd}
 use Rattle.bk_intcode_text.specs.FirstSaying.{Says, segment, nothing, fault}
-use Rattle.bk_intcode_text.specs.SegmentReading.{GivesSegment, GivesNothing, GivesFault}
+use Rattle.bk_intcode_text.specs.SegmentReading.{GivesSegment, GivesNothing, GivesFault, StopsAtWord}
 
 -- Known bytes that were left lost these, of which this holds, given that the text ends there.
 abbrev pub Takes : Option (List ℕ) → Option (List ℕ) → Bool → (List ℕ → Type 0 → Type 0) → Type 0
 Takes old new ended what = (taken : List ℕ) × Consumes old new taken × what taken (AtEnd ended (length taken))
 
--- The answer is what the bytes taken say, unless memory was refused or the device failed.
+-- The answer is what the bytes taken say, unless the device failed. Where memory was refused nothing is taken behind the word
+-- at which it was, save one blank.
 abbrev pub Answers : Result (Option Intcode) (Refused IntcodeFault) → Option (List ℕ) → Option (List ℕ) → Bool → Type 0
 Answers (Ok (Some read)) old new ended = Takes old new ended (λ taken end. GivesSegment taken end (items_of read))
 Answers (Ok None) old new ended = Takes old new ended GivesNothing
 Answers (Err (Fault told)) old new ended = Takes old new ended (λ taken end. GivesFault taken end told.item told.kind)
-Answers (Err Memory) old new ended = ⊤
+Answers (Err Memory) old new ended = Takes old new ended StopsAtWord
 Answers (Err Device) old new ended = ⊤
 
 -- What the answer says of a text that begins with these bytes, which were taken, unless memory was refused or the device
@@ -36,10 +37,10 @@ Stands (Err Memory) taken more = ⊤
 Stands (Err Device) taken more = ⊤
 
 -- That stands whatever follows: nothing, where the text ends.
-abbrev pub StandsFor : Result (Option Intcode) (Refused IntcodeFault) → Option (List ℕ) → Option (List ℕ) → Bool → Type 0
-StandsFor (Err Memory) old new ended = ⊤
-StandsFor (Err Device) old new ended = ⊤
-StandsFor answer old new ended = Takes old new ended (λ taken end. (more : List ℕ) → (end → more ≡ []) → Stands answer taken more)
+abbrev pub StandsWhateverFollows : Result (Option Intcode) (Refused IntcodeFault) → Option (List ℕ) → Option (List ℕ) → Bool → Type 0
+StandsWhateverFollows (Err Memory) old new ended = ⊤
+StandsWhateverFollows (Err Device) old new ended = ⊤
+StandsWhateverFollows answer old new ended = Takes old new ended (λ taken end. (more : List ℕ) → (end → more ≡ []) → Stands answer taken more)
 
 abbrev pub is_device : Result (Option Intcode) (Refused IntcodeFault) → Bool
 is_device (Ok read) = false

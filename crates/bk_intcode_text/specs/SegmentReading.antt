@@ -52,3 +52,10 @@ abbrev pub GivesFault : List ℕ → Type 0 → ℕ → IntcodeKind → Type 0
 GivesFault taken end number kind =
     ((words : List (List ℕ)) × TakesWords taken end words × FaultAt words number kind)
     ⊎ ((kind ≡ Truncated) × end × CutAt (words_of taken) number)
+
+-- Memory was refused at the last word that was taken; those before it are the words of items without a fault.
+pub record StopsAtWord (taken : List ℕ) (end : Type 0) : Type 0 where
+  pub before : List Item
+  pub begun : IsBegun before
+  pub word : List ℕ
+  pub are : TakesWords taken end (map item_text before ++ word ∷ [])

@@ -1,8 +1,8 @@
 //! A segment that is being read.
 ghost use Rattle.std.specs.Prelude.{◌≡◌, ℕ, ◌+◌, ◌≤◌, [], ◌∷◌, ◌++◌, length, slice_get, OnOk};
-ghost use Rattle.bk_intcode.specs.Segment.{IsSegment};
+ghost use Rattle.bk_intcode.specs.Segment.{IsSegment, use_is_set};
 ghost use Rattle.bk_intcode.specs.SegmentItems.{items_of};
-ghost use Rattle.bk_intcode_text.specs.ItemFault.{use_is_set, all_set, too_long, item_fault};
+ghost use Rattle.bk_intcode_text.specs.ItemFault.{all_set, too_long, item_fault};
 ghost use Rattle.bk_intcode_text.specs.Drafts.{IsDraft};
 
 use bk_base::IntcodeKind;

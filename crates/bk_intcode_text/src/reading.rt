@@ -1,7 +1,7 @@
 //! Reading segments.
 ghost use Rattle.std.specs.Prelude.{◌≡◌, ℕ, ◌+◌, ◌<◌, ◌≤◌, List, Some, None, Ok, Err, IsTrue, length, if◌then◌else◌};
 ghost use Rattle.std.specs.Io.KnownBytes.{Keeps};
-ghost use Rattle.bk_intcode_text.specs.SegmentAnswer.{Answers, StandsFor, AnswersWords, is_device};
+ghost use Rattle.bk_intcode_text.specs.SegmentAnswer.{Answers, StandsWhateverFollows, AnswersWords, is_device};
 ghost use Rattle.bk_words.specs.Words.{words_of};
 
 use crate::draft::Draft;
@@ -25,15 +25,16 @@ fn fault_behind(count: usize, kind: IntcodeKind) -> Refused<IntcodeFault>
 /// Reads the next segment of a text, or None where only blanks are left.
 ///
 /// It takes at most one byte past the last word, and holds no list besides the segment that it builds. Where memory is
-/// refused it answers so in the place of any other answer.
+/// refused it answers so in the place of any other answer, and takes no word more.
 pub fn read_segment<I: ByteIn>(
     alloc: Global,
     input: &mut I,
 ) -> Result<Option<Intcode>, Refused<IntcodeFault>>
-    // What was taken is the text of the segment, or blanks, or a text up to its first fault.
+    // What was taken is the text of the segment, or blanks, or a text up to its first fault, or up to the word at which memory
+    // was refused.
     ensures answers { Answers result (I.left input.old) (I.left input.new) (I.ended input.new) }
     // That stands whatever follows the bytes taken.
-    ensures stands { StandsFor result (I.left input.old) (I.left input.new) (I.ended input.new) }
+    ensures stands { StandsWhateverFollows result (I.left input.old) (I.left input.new) (I.ended input.new) }
     // The same of the whole text, whose words say one thing.
     ensures says { (all : List ℕ) → I.left input.old ≡ Some all → length all < INPUT_BYTES → AnswersWords result (words_of all) }
     // It fails exactly where the device does, and at once where that failed before. Where the end was told, nothing is left.

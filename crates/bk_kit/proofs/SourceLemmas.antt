@@ -1,6 +1,7 @@
 -- A source that is read up to the end of its first section.
 use Rattle.std.proofs.Common.{◌≡◌, ◌≢◌, ℕ, ◌+◌, ◌≤◌, ◌<◌, Bool, true, false, List, [], ◌∷◌, ◌++◌, length, Option, Ok, Err, refl, sym, ap, ◌∙◌, subst, append-nil, arith, inl, inr, ◌⊎◌}
 use Rattle.std.specs.Io.KnownBytes.{Consumes}
+use Rattle.bk_base.specs.Devices.{Begins}
 use Rattle.bk_base.specs.DeviceLaws.{Consumes-trans}
 use Rattle.bk_base.specs.declared.limit.TheConstants.{STORE_MOST}
 use Rattle.bk_base.specs.declared.run_end.End.{End}
@@ -128,13 +129,13 @@ pub source_runs : (end : End) (steps words : ℕ) (before after : Streams) (old 
     (store' : List ℕ) (r' : Registers) → IsFirstSection text old new ended → IsProgram text items
     → stack_start SEGMENTS (items ∷ []) + 16 ≤ words → words ≤ STORE_MOST
     → Ran end steps (loaded_store words (items ∷ [])) (first_registers items) store' r' (told before) (told after)
-    → (end ≢ WriteFault → after.passed ≡ after.taken) → Blames end after.reads after.writes
+    → Begins before.passed after.passed → (end ≢ WriteFault → after.passed ≡ after.taken) → Blames end before.reads after.reads after.writes
     → Headline short_sources (Ok end) steps words old new ended before after
-source_runs end steps words before after old new ended text items store' r' first program room most ran passed blamed =
+source_runs end steps words before after old new ended text items store' r' first program room most ran passes passed blamed =
     record {
       text = text;
       delivered = first.delivered;
       keeps = λ rest over.
           let here = same_program text (text ++ rest) items (first.settled rest over) program in
-          runs (text ++ rest) items here.calls steps words here.short here.alone here.means room most end store' r' before after ran passed blamed;
+          runs (text ++ rest) items here.calls steps words here.short here.alone here.means room most end store' r' before after ran passes passed blamed;
     }

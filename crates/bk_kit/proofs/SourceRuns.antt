@@ -4,12 +4,13 @@ use Rattle.std.specs.Prelude.{pos, ℤ}
 use Rattle.bk_base.specs.declared.limit.TheConstants.{STORE_MOST}
 use Rattle.bk_base.specs.declared.run_end.End.{End}
 use Rattle.bk_base.specs.declared.run_end.End.TheVariants.{Status, DivideByZero, StoreLimit, StepLimit, BadOperation, ReadFault, WriteFault}
+use Rattle.bk_base.specs.Devices.{Begins}
 use Rattle.bk_base.specs.Word.{signed}
 use Rattle.bk_intcode.specs.declared.item.Item.{Item}
 use Rattle.bk_intcode.specs.declared.registers.Registers.{Registers}
 use Rattle.bk_intcode.specs.Placement.{SEGMENTS, stack_start, loaded_store}
-use Rattle.bk_intcode.specs.Runs.{Standing, Going, Over, run, output_of, Finished, Broken, Ran, Blames}
-use Rattle.bk_intcode.specs.RunLaws.{onwards, run-add, onwards-begins}
+use Rattle.bk_intcode.specs.Runs.{Standing, Going, Over, run, output_of, Finished, Ran, Blames}
+use Rattle.bk_intcode.specs.RunLaws.{Beginning, onwards, run-add, onwards-begins, waiting-begins, broken-begins}
 use Rattle.bk_short.specs.declared.call.Routine.{Routine}
 use Rattle.bk_short.specs.declared.call.Routine.TheVariants.{Wrch, Stop}
 use Rattle.bk_short.specs.declared.call.Call.{Call}
@@ -17,7 +18,7 @@ use Rattle.bk_short.specs.Meaning.{written, end_of}
 use Rattle.bk_short.specs.ShortSource.{IsShortSource}
 use Rattle.bk_short.specs.Program.{first_registers, MeansCalls}
 use Rattle.bk_kit.specs.Interpreting.{Streams, told}
-use Rattle.bk_kit.specs.Headline.{IsWhole, IsPart, Reaches, TooFew, Agrees, Runs}
+use Rattle.bk_kit.specs.Headline.{IsWhole, IsEnd, IsPart, Reaches, TooFew, Agrees, Runs}
 use Rattle.bk_kit.specs.ShortSources.{short_sources}
 
 -- ---- a run comes to one end
@@ -147,64 +148,70 @@ module _ (source : List ℕ) (items : List Item) (calls : List Call) (steps word
       (is_part (read ++ rest) bytes begins, no_turns (read ++ rest) bytes, too_few (read ++ rest) bytes rest store' r' going)
 
   finished : (end : End) (before after : Streams) (ran : Finished end steps store first (told before) (told after))
-      → (end ≢ WriteFault → after.passed ≡ after.taken) → Blames end after.reads after.writes
+      → Begins before.passed after.passed → (end ≢ WriteFault → after.passed ≡ after.taken) → Blames end before.reads after.reads after.writes
       → ((input : List ℕ) → (end ≡ end_of calls) × (ran.read ≡ []) × (ran.written ≡ written calls) → Agrees short_sources source input steps words end ran.read ran.written)
       → Runs short_sources source end steps words before after
-  finished end before after ran passed blamed agree =
+  finished end before after ran passes passed blamed agree =
       record {
         accepted = (calls, short);
+        starts = λ none. absurd none;
         read = ran.read;
         written = ran.written;
         exchanged = ran.exchanged;
         agrees = λ rest follows. agree (ran.read ++ rest) (is_whole end ran.read ran.written rest (ran.ends rest [] follows));
+        passes = passes;
         passed = passed;
         blamed = blamed;
       }
 
   whole : (end : End) (read bytes input : List ℕ) → (end ≡ end_of calls) × (read ≡ []) × (bytes ≡ written calls)
-      → IsWhole short_sources source input steps words end read bytes × Reaches short_sources source input steps words bytes
-  whole end read bytes input same = (whole_agrees end read bytes input same, no_turns input bytes)
+      → IsEnd short_sources source input steps words end read bytes
+  whole end read bytes input same = (whole_agrees end read bytes input same, (λ turns. absurd (turns 0).1), no_turns input bytes)
 
   -- a short source never leads outside the store
   not_outside : StoreLimit ≡ end_of calls → ⊥
   not_outside is = let e = is ∙ (status_end calls).1 in cc
 
-  broken : (end : End) (before after : Streams) (ran : Broken steps store first (told before) (told after))
-      → (end ≢ WriteFault → after.passed ≡ after.taken) → Blames end after.reads after.writes
+  broken : (end : End) (before after : Streams) (ran : Beginning steps store first (told before) (told after))
+      → Begins before.passed after.passed → (end ≢ WriteFault → after.passed ≡ after.taken) → Blames end before.reads after.reads after.writes
       → ((input : List ℕ) → IsPart short_sources source input steps words ran.written → Agrees short_sources source input steps words end ran.read ran.written)
       → Runs short_sources source end steps words before after
-  broken end before after ran passed blamed agree =
+  broken end before after ran passes passed blamed agree =
       record {
         accepted = (calls, short);
+        starts = λ none. absurd none;
         read = ran.read;
         written = ran.written;
         exchanged = ran.exchanged;
         agrees = λ rest follows.
             let begins = ran.begins rest [] follows in
             agree (ran.read ++ rest) (is_part (ran.read ++ rest) ran.written (output_begins steps (ran.read ++ rest) ran.written begins.0 begins.1));
+        passes = passes;
         passed = passed;
         blamed = blamed;
       }
 
   pub runs : (end : End) (store' : List ℕ) (r' : Registers) (before after : Streams) → Ran end steps store first store' r' (told before) (told after)
-      → (end ≢ WriteFault → after.passed ≡ after.taken) → Blames end after.reads after.writes → Runs short_sources source end steps words before after
-  runs (Status v) store' r' before after ran passed blamed =
-      finished (Status v) before after ran passed blamed (λ input same. whole (Status v) ran.read ran.written input same)
-  runs DivideByZero store' r' before after ran passed blamed =
-      finished DivideByZero before after ran passed blamed (λ input same. whole DivideByZero ran.read ran.written input same)
-  runs BadOperation store' r' before after ran passed blamed =
-      finished BadOperation before after ran passed blamed (λ input same. whole BadOperation ran.read ran.written input same)
-  runs StoreLimit store' r' before after ran passed blamed =
-      finished StoreLimit before after ran passed blamed (λ input same. absurd (not_outside same.0))
-  runs StepLimit store' r' before after ran passed blamed =
+      → Begins before.passed after.passed → (end ≢ WriteFault → after.passed ≡ after.taken) → Blames end before.reads after.reads after.writes → Runs short_sources source end steps words before after
+  runs (Status v) store' r' before after ran passes passed blamed =
+      finished (Status v) before after ran passes passed blamed (λ input same. whole (Status v) ran.read ran.written input same)
+  runs DivideByZero store' r' before after ran passes passed blamed =
+      finished DivideByZero before after ran passes passed blamed (λ input same. whole DivideByZero ran.read ran.written input same)
+  runs BadOperation store' r' before after ran passes passed blamed =
+      finished BadOperation before after ran passes passed blamed (λ input same. whole BadOperation ran.read ran.written input same)
+  runs StoreLimit store' r' before after ran passes passed blamed =
+      finished StoreLimit before after ran passes passed blamed (λ input same. absurd (not_outside same.0))
+  runs StepLimit store' r' before after ran passes passed blamed =
       record {
         accepted = (calls, short);
+        starts = λ none. absurd none;
         read = ran.read;
         written = ran.written;
         exchanged = ran.exchanged;
         agrees = λ rest follows. paused ran.read ran.written rest store' r' (ran.leads rest [] follows);
+        passes = passes;
         passed = passed;
         blamed = blamed;
       }
-  runs ReadFault store' r' before after ran passed blamed = broken ReadFault before after ran.broken passed blamed (λ input part. part)
-  runs WriteFault store' r' before after ran passed blamed = broken WriteFault before after ran passed blamed (λ input part. part)
+  runs ReadFault store' r' before after ran passes passed blamed = broken ReadFault before after (waiting-begins steps store first (told before) (told after) ran) passes passed blamed (λ input part. part)
+  runs WriteFault store' r' before after ran passes passed blamed = broken WriteFault before after (broken-begins steps store first (told before) (told after) ran) passes passed blamed (λ input part. part)

@@ -2,6 +2,7 @@
 -- and a beginning of the bytes with less.
 use Rattle.std.specs.Prelude.{◌≡◌, ◌≢◌, ℕ, Bool, IsTrue, List, ◌++◌, Option, Result, Ok, Err, []}
 use Rattle.std.specs.Io.KnownBytes.{Consumes}
+use Rattle.bk_base.specs.Devices.{Begins}
 use Rattle.bk_base.specs.declared.run_end.End.{End}
 use Rattle.bk_base.specs.declared.run_end.End.TheVariants.{Status, DivideByZero, StoreLimit, StepLimit, BadOperation, ReadFault, WriteFault}
 use Rattle.bk_base.specs.declared.source_fault.SourceFault.{SourceFault}
@@ -33,16 +34,23 @@ module _ (language : Language) (source input : List ℕ) (steps words : ℕ) whe
   IsWhole end read written =
       (taken bytes : List ℕ) (last : End) → language.Ends source input taken bytes last → (last ≡ end) × (taken ≡ read) × (bytes ≡ written)
 
+  -- The meaning goes on for ever.
+  abbrev pub NeverEnds : Type 0
+  NeverEnds = (turns : ℕ) → (bytes : List ℕ) × language.GoesOn source input turns bytes
+
   -- These bytes begin those of the meaning: of its end, or of some number of turns where it goes on for ever.
   pub record IsPart (written : List ℕ) : Type 0 where
     pub of_end : (taken bytes : List ℕ) (last : End) → language.Ends source input taken bytes last → (more : List ℕ) × (bytes ≡ written ++ more)
-    pub of_turns : ((turns : ℕ) → (bytes : List ℕ) × language.GoesOn source input turns bytes)
-        → (turns : ℕ) × (bytes more : List ℕ) × language.GoesOn source input turns bytes × (bytes ≡ written ++ more)
+    pub of_turns : NeverEnds → (turns : ℕ) × (bytes more : List ℕ) × language.GoesOn source input turns bytes × (bytes ≡ written ++ more)
 
   -- What the meaning writes in the turns for which there were enough steps and words was written.
   abbrev pub Reaches : List ℕ → Type 0
   Reaches written = (turns : ℕ) (bytes : List ℕ) → language.GoesOn source input turns bytes → language.EnoughFor source input turns steps words
       → (more : List ℕ) × (written ≡ bytes ++ more)
+
+  -- an end that only a meaning that ends has
+  abbrev pub IsEnd : End → List ℕ → List ℕ → Type 0
+  IsEnd end read written = IsWhole end read written × (NeverEnds → ⊥) × Reaches written
 
   -- not enough for the meaning's end
   abbrev pub TooFew : Type 0
@@ -50,24 +58,26 @@ module _ (language : Language) (source input : List ℕ) (steps words : ℕ) whe
 
   -- the end of a run, with the bytes that it read and wrote, and the meaning
   abbrev pub Agrees : End → List ℕ → List ℕ → Type 0
-  Agrees (Status v) read written = IsWhole (Status v) read written × Reaches written
-  Agrees DivideByZero read written = IsWhole DivideByZero read written × Reaches written
+  Agrees (Status v) read written = IsEnd (Status v) read written
+  Agrees DivideByZero read written = IsEnd DivideByZero read written
   Agrees StepLimit read written = IsPart written × Reaches written × TooFew
   Agrees StoreLimit read written = IsPart written × Reaches written × TooFew
-  Agrees BadOperation read written = IsWhole BadOperation read written × Reaches written
+  Agrees BadOperation read written = IsEnd BadOperation read written
   Agrees ReadFault read written = IsPart written
   Agrees WriteFault read written = IsPart written
 
 -- The source was run: the bytes that input delivered and output took are those of the run, whatever input follows.
 pub record Runs (language : Language) (source : List ℕ) (end : End) (steps words : ℕ) (before after : Streams) : Type 0 where
   pub accepted : language.Accepted source
+  pub starts : language.Startless source → ⊥
   pub read : List ℕ
   pub written : List ℕ
   pub exchanged : Exchanged (told before) (told after) read written
   pub agrees : (rest : List ℕ) → Follows (told after) rest → Agrees language source (read ++ rest) steps words end read written
-  -- each end flushes, unless the output failed
+  -- what was passed on before begins what is passed on; each end flushes, unless the output failed
+  pub passes : Begins before.passed after.passed
   pub passed : end ≢ WriteFault → after.passed ≡ after.taken
-  pub blamed : Blames end after.reads after.writes
+  pub blamed : Blames end before.reads after.reads after.writes
 
 -- What a call answers of a source. Where there is a fault nothing is run, and neither input nor output is touched.
 abbrev pub Keeps : Language → List ℕ → Result End KitFault → ℕ → ℕ → Streams → Streams → Type 0
@@ -76,7 +86,7 @@ Keeps language source (Err (Source fault)) steps words before after =
     language.Refused source fault × (language.Accepted source → ⊥) × (after ≡ before)
 Keeps language source (Err TooSmall) steps words before after =
     language.Accepted source × ((input : List ℕ) → TooFew language source input steps words) × (after ≡ before)
-Keeps language source (Err NoStart) steps words before after = language.Startless source × (after ≡ before)
+Keeps language source (Err NoStart) steps words before after = language.Accepted source × language.Startless source × (after ≡ before)
 Keeps language source (Err Read) steps words before after = after ≡ before
 Keeps language source (Err Memory) steps words before after = after ≡ before
 Keeps language source (Err Write) steps words before after = ⊥

@@ -1,6 +1,7 @@
 -- What interpreting a text of segments comes to.
 use Rattle.std.specs.Prelude.{◌≡◌, ◌≢◌, ℕ, ◌+◌, ◌<◌, ◌≤◌, Bool, true, false, ⊤, List, Option, None, Result, Ok, Err}
 use Rattle.bk_base.specs.declared.run_end.End.{End}
+use Rattle.bk_base.specs.Devices.{Begins}
 use Rattle.bk_intcode.specs.declared.item.Item.{Item}
 use Rattle.bk_intcode.specs.declared.registers.Registers.{Registers}
 use Rattle.bk_intcode.specs.declared.machine.Machine.{Machine}
@@ -75,12 +76,12 @@ pub record Streams : Type 0 where
 abbrev pub told : Streams → Told
 told streams = record { left = streams.left; ended = streams.ended; taken = streams.taken }
 
--- What interpreting answers: the end of the run, which flushed unless the output failed, or the fault of a text of which
--- nothing was run.
+-- What interpreting answers: the end of the run, behind which what was passed on before is still the beginning of what was
+-- passed on, and is all that was taken unless the output failed; or the fault of a text of which nothing was run.
 abbrev pub Interpreted : Result End KitFault → ℕ → ℕ → Option (List ℕ) → Option (List ℕ) → Bool → Streams → Streams → Type 0
 Interpreted (Ok end) steps words old new ended before after =
     Interprets end steps words old new ended (told before) (told after)
-    × (end ≢ WriteFault → after.passed ≡ after.taken) × Blames end after.reads after.writes
+    × Begins before.passed after.passed × (end ≢ WriteFault → after.passed ≡ after.taken) × Blames end before.reads after.reads after.writes
 Interpreted (Err fault) steps words old new ended before after = CodeRefused fault words old new ended × (after ≡ before)
 
 -- the fault of a read

@@ -94,7 +94,7 @@ begun s m b =
     if nat_lt s.symbols (least_room s m) then Err SectionTooLong else
     (mode_begun s.get m >>= λ n. Ok (state n s.bytes s.symbols s.last (s.fed || b == 10) s.get))
 
--- the header's symbols, less the two that its GET counted before
+-- the header's symbols, less the one that the word GET counted; its string needs room for one where it begins
 abbrev pub header_rest : Header → ℕ
 header_rest Plain = 52
 header_rest Formatted = 56

@@ -7,8 +7,8 @@ use Rattle.std.proofs.Common.{w32}
 use Rattle.bk_base.specs.Word.{signed}
 use Rattle.bk_base.specs.declared.limit.TheConstants.{INTCODE_ITEMS, SECTION_SYMBOLS}
 use Rattle.bk_intcode.specs.declared.item.Item.{Item}
-use Rattle.bk_intcode.specs.Segment.{IsSegment, sets}
-use Rattle.bk_intcode.specs.CheckedSegment.{ends_once, sets_once, are_all, is_used_set, has_frame, frames_once, is_in_range, checked, word_is}
+use Rattle.bk_intcode.specs.Segment.{IsSegment, sets, use_is_set, gives_frame}
+use Rattle.bk_intcode.specs.CheckedSegment.{ends_once, sets_once, are_all, frames_once, is_in_range, checked, word_is}
 use Rattle.bk_short.specs.declared.call.Routine.{Routine}
 use Rattle.bk_short.specs.declared.call.Routine.TheVariants.{Wrch, Stop}
 use Rattle.bk_short.specs.declared.call.Call.{Call}
@@ -30,11 +30,11 @@ body_unset (c ∷ rest) = body_unset rest
 labels_hold : (calls : List Call) → sets_once (short_items calls) ≡ true
 labels_hold calls = rw (body_unset calls) (body_sets calls)
 
-body_used : (all : List Item) (calls : List Call) → are_all (is_used_set all) (body calls) ≡ true
+body_used : (all : List Item) (calls : List Call) → are_all (use_is_set all) (body calls) ≡ true
 body_used all [] = refl
 body_used all (c ∷ rest) = body_used all rest
 
-body_framed : (calls : List Call) → has_frame (body calls) ≡ false
+body_framed : (calls : List Call) → gives_frame (body calls) ≡ false
 body_framed [] = refl
 body_framed (c ∷ rest) = body_framed rest
 

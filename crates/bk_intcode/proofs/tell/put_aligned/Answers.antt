@@ -1,7 +1,7 @@
 use Rattle.std.proofs.Common.{rules, ◌≡◌, ℕ, ◌-◌, List, ◌++◌, length, replicate, refl}
 use Rattle.bk_base.specs.Word.{signed}
 use Rattle.bk_base.specs.Decimal.{spelling}
-use Rattle.bk_intcode.specs.Output.{aligned, width}
+use Rattle.bk_base.specs.Format.{aligned, width}
 use Rattle.bk_intcode.proofs.TellSteps.{part_front, puts_behind, puts_given}
 use Rattle.bk_intcode.proofs.tell.put_aligned.Goals as goal
 

@@ -14,5 +14,5 @@ pub returns-in_err-put-clause-puts : goal.returns-in_err-put-clause-puts
 returns-in_err-put-clause-puts g c =
     let kept : Keeps (g.O.ByteOut.taken c.loop-i.out) (g.O.ByteOut.taken c.put.new.self) = search rules in
     let part = part_before _ _ _ (replicate c.args.count 32) (replicate c.loop-i.i 32) (replicate (c.args.count - c.loop-i.i) 32)
-    (split _ _ c.loop-i-test.true) c.loop-i.invariant kept in
+    (split _ _ c.loop-i-test.true) c.loop-i.invariant.0 kept in
     search rules

@@ -1,5 +1,6 @@
 use Rattle.std.proofs.Common.{rules, ◌≡◌, ℕ, suc, ◌+◌, ◌-◌, ◌<◌, List, Some, None, true, sym, ◌∙◌, arith}
 use Rattle.bk_base.specs.Word.{word_sum}
+use Rattle.bk_base.specs.DeviceLaws.{Begins-trans}
 use Rattle.bk_intcode.specs.declared.output.Directive.{Directive}
 use Rattle.bk_intcode.specs.Output.{directive, piece_text, text_then, format_rest}
 use Rattle.bk_intcode.proofs.TellSteps.{telling_on, telling_all, telling_end, telling_cut, telling_failed, format_rest-none, format_rest-directive, format_rest-cut}
@@ -42,9 +43,10 @@ loop-i-preserved g c =
     c.loop-i-test.true c.if-left-eq0.false c.in-Some.ensures.value in
     let whole : (piece_text c.args.store.now c.in-Some.directive.piece).whole ≡ true = sym c.in_ok-tell_piece.ensures.text.0 ∙ c.if-not-branch.false in
     let within = c.in-Some.ensures.within in
-    let order = c.loop-i.invariant.2 in
-    let place = c.loop-i.invariant.1 in (
+    let order = c.loop-i.invariant.3 in
+    let place = c.loop-i.invariant.2 in (
       rw c.sum-argument.ensures (telling_on _ _ _ _ _ _ _ c.loop-i.invariant.0 is whole c.in_ok-tell_piece.ensures.text.1),
+      Begins-trans _ _ _ c.loop-i.invariant.1 c.in_ok-tell_piece.ensures.passes,
       omega arith,
       omega arith,
     )

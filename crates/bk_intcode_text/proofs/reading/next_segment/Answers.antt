@@ -7,7 +7,7 @@ use Rattle.bk_intcode_text.specs.ItemFault.{item_fault}
 use Rattle.bk_intcode_text.specs.SegmentReading.{GivesSegment}
 use Rattle.bk_intcode_text.specs.SegmentAnswer.{Answers, Takes}
 use Rattle.bk_intcode_text.proofs.BegunLemmas.{IsSegment-of, no_fault-few}
-use Rattle.bk_intcode_text.proofs.ReadingLemmas.{nothing_left, cut, word_fault, item_fault_here, segment_here, cut_behind, Read-push, IsBegun-more}
+use Rattle.bk_intcode_text.proofs.ReadingLemmas.{nothing_left, cut, word_fault, item_fault_here, segment_here, cut_behind, Read-push, IsBegun-more, stops_here}
 use Rattle.bk_intcode_text.proofs.reading.next_segment.Goals as goal
 
 pub returns-then-count-eq0-clause-answers : goal.returns-then-count-eq0-clause-answers
@@ -71,3 +71,8 @@ loop-found-preserved g c =
       over = λ was. let stays = c.loop-found.invariant.over was in search rules;
       again = λ was. let stays = c.loop-found.invariant.again was in search rules;
     }
+
+pub returns-in_default-add-clause-answers : goal.returns-in_default-add-clause-answers
+returns-in_default-add-clause-answers g c =
+    stops_here _ _ _ c.loop-found.taken c.next_item.new.taken _ c.loop-found.draft.items.items c.in-Item.item c.in-Item.last
+    c.loop-found.invariant.taken (rw c.in-Item.is at c.in-Ok.ensures.gives) c.loop-found.invariant.begun

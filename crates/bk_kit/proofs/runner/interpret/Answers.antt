@@ -12,6 +12,7 @@ returns-clause-interpreted g c =
         registers = registers_of c.run.new.self;
         ran = ran;
       },
+      c.run.ensures.passes,
       c.run.ensures.flushed loads.fresh,
       c.run.ensures.cause loads.fresh,
     )

@@ -9,4 +9,4 @@ returns-clause-headline g c =
     let room = rw c.words.ensures.value at loads.room in
     let most = rw c.words.ensures.value at c.words.ensures.within.1 in
     source_runs c.run.result c.args.limits.steps c.args.limits.words _ _ _ _ _ loads.text loads.items (store_of c.run.new.self) (registers_of c.run.new.self)
-    loads.first loads.program room most ran (c.run.ensures.flushed loads.fresh) (c.run.ensures.cause loads.fresh)
+    loads.first loads.program room most ran c.run.ensures.passes (c.run.ensures.flushed loads.fresh) (c.run.ensures.cause loads.fresh)
