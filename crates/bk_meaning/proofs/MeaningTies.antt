@@ -11,7 +11,7 @@ use Rattle.bk_meaning.specs.Parts.{Meanings}
 use Rattle.bk_meaning.specs.Seeking.{Mode}
 use Rattle.bk_meaning.specs.Program.{turn_for, means_with, no_turn_for, no_turns, means, run_of, first_world, started}
 use Rattle.bk_meaning.specs.Calls.{call}
-use Rattle.bk_meaning.specs.Growing.{History, history, Grows, sizes, Keeps, InItsWorld, After, Restores, Throughout, OutputOnlyGrows, CallsComeBack, MemoryNeverShrinks, WhatLastsLives}
+use Rattle.bk_meaning.specs.Growing.{History, history, sizes, Keeps, InItsWorld, After, Restores, Throughout, OutputOnlyGrows, CallsComeBack, MemoryNeverShrinks, WhatLastsLives}
 use Rattle.bk_meaning.specs.Turns.{with_turns, shown, RunGoesOn, Continues, the_same, further, MoreTurns, ReadsFromTheFront}
 use Rattle.bk_meaning.proofs.Objects.{kept_length, kept_lives, first_lives}
 use Rattle.bk_meaning.proofs.Ties.{stays, Below, gives_more, leaves_more, ends_more, undefined_still, cut, Tied, Ties, ties, gives_tied, cut_tied, going_tied, turn_tied}

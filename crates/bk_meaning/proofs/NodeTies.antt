@@ -11,7 +11,7 @@ use Rattle.bk_syntax.specs.Tree.{Mention, Expression, Expressions, Action, Actio
 use Rattle.bk_scope.specs.Constants.{divides_by_zero}
 use Rattle.bk_meaning.specs.Values.{Routine, stop, rdch, wrch, newline, writes, writen, writed, getbyte, putbyte, writef, Value, number, address, procedure, routine, unset, holds}
 use Rattle.bk_meaning.specs.Memory.{read}
-use Rattle.bk_meaning.specs.World.{World, status, Exit, break, loop, endcase, goto, result, return, Outcome, gives, Done, done, turn, making, calling, calls_back, writing}
+use Rattle.bk_meaning.specs.World.{World, status, Exit, break, loop, endcase, goto, result, return, Outcome, gives, Done, done, turn, making, calling, writing}
 use Rattle.bk_meaning.specs.Operators.{sum, truth_of_value, on_numbers, operate, operate_prefix}
 use Rattle.bk_meaning.specs.Environment.{Environment, Sense, constant, cell, label, foreign, sense_of, bind, behind, past, past_each, past_action, past_definition, constant_in, labelled, within_let, objects_of_definitions}
 use Rattle.bk_meaning.specs.Lasting.{Body, command, expression, Procedure, Program, procedure_of}
@@ -27,8 +27,8 @@ use Rattle.bk_meaning.specs.Loops
 use Rattle.bk_meaning.specs.Blocks
 use Rattle.bk_meaning.specs.Commands
 use Rattle.bk_meaning.specs.Turns.{with_turns}
-use Rattle.bk_meaning.proofs.Ties.{gives_more, Tied, Ties, ties, from, each_way_tied, with_tied, gives_tied, leaves_tied, ends_tied, undefined_tied, given_tied, either_tied, turn_tied, closing_tied, changes_tied, writing_on, taking_on, making_tied, call_tied, at_home}
-use Rattle.bk_meaning.proofs.Objects.{sizes-made, write_keeps, write_byte_keeps}
+use Rattle.bk_meaning.proofs.Ties.{gives_more, Tied, Ties, ties, each_way_tied, with_tied, gives_tied, leaves_tied, ends_tied, undefined_tied, given_tied, either_tied, turn_tied, closing_tied, changes_tied, writing_on, taking_on, making_tied, call_tied, at_home}
+use Rattle.bk_meaning.proofs.Objects.{write_keeps, write_byte_keeps}
 
 -- the parts of the meaning, with fewer turns and with more
 pub record AllTied (m l : Meanings) : Type 0 where
