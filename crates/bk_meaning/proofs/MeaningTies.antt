@@ -51,7 +51,8 @@ none_tied = record {
   scope = λ cs mode env. ties _ _ (λ w n le. going_tied w n);
 }
 
-self_tied : (p : Program) (k : ℕ) → AllTied (means p k) (means p k)
+-- each part with itself: what of one run grows, and what comes back
+pub self_tied : (p : Program) (k : ℕ) → AllTied (means p k) (means p k)
 self_tied p zero = none_tied
 self_tied p (suc k) = means_with_tied p (means p k) (means p k) (self_tied p k)
 
@@ -104,7 +105,7 @@ more_turns sections input n k le =
     started_continues p (read (first_world p input n).memory (address globals_object 1)) input n k le
 
 -- a call, from any world on
-called_tied : (p : Program) (f : Value) (vs : List Value) (n : ℕ) (w : World) → Tied w (call p (means p n) f vs w) (call p (means p n) f vs w)
+pub called_tied : (p : Program) (f : Value) (vs : List Value) (n : ℕ) (w : World) → Tied w (call p (means p n) f vs w) (call p (means p n) f vs w)
 called_tied p f vs n w = (call_ties (means p n) (means p n) (self_tied p n) p f vs).at w w.turns (omega arith)
 
 started_on : (p : Program) (f : Option Value) (input : List ℕ) (n : ℕ) → RunGoesOn (shown [] input 0) (started p f (first_world p input n) n)
