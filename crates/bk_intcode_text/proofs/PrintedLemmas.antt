@@ -1,5 +1,5 @@
 -- The words of what is printed.
-use Rattle.std.proofs.Common.{◌≡◌, ◌≢◌, ℕ, suc, ◌++◌, Bool, true, false, pos, List, [], ◌∷◌, map, arith, refl, ap, ◌∙◌, append_assoc}
+use Rattle.std.proofs.Common.{◌≡◌, ◌≢◌, ℕ, suc, ◌++◌, Bool, true, false, pos, List, [], ◌∷◌, map, arith, refl, sym, ap, ◌∙◌, append_assoc}
 use Rattle.bk_base.specs.Decimal.{spelling}
 use Rattle.bk_intcode.specs.declared.item.Function.{Function}
 use Rattle.bk_intcode.specs.declared.item.Function.TheVariants.{Load, Store, Add, Jump, JumpTrue, JumpFalse, Call, Operate}
@@ -13,7 +13,7 @@ use Rattle.bk_intcode.specs.SegmentItems.{items_of}
 use Rattle.bk_intcode.specs.SegmentLaws.{segment_whole}
 use Rattle.bk_intcode_text.specs.SegmentText.{segment_text}
 use Rattle.bk_words.specs.Words.{is_blank, words_of, AreInWord}
-use Rattle.bk_intcode_text.specs.FirstSaying.{PrintedSaysAgain}
+use Rattle.bk_intcode_text.specs.FirstSaying.{texts_of, words_of_all, PrintedIsParted, PrintedAreParted, PrintedSaysAgain}
 use Rattle.bk_words.specs.Numerals.{numeral-inside, spelling-inside}
 use Rattle.bk_intcode_text.proofs.WordLemmas.{nothing-empty}
 use Rattle.bk_words.specs.WordLaws.{words_of-word, AreInWord-append}
@@ -63,5 +63,16 @@ words_of-printed (i ∷ items) more are =
     ∙ word_of-line (item_text i) (segment_text items ++ more) (nothing-empty i fits) (item-inside i fits)
     ∙ ap (λ (w : List (List ℕ)). item_text i ∷ w) (words_of-printed items more (λ k item is. are (suc k) item is))
 
+pub printed_is_parted : PrintedIsParted
+printed_is_parted printed more = words_of-printed (items_of printed) more (segment_whole printed).in_range
+
+pub printed_are_parted : PrintedAreParted
+printed_are_parted [] more = refl
+printed_are_parted (first ∷ others) more =
+    ap words_of (append_assoc (segment_text (items_of first)) (texts_of others) more)
+    ∙ printed_is_parted first (texts_of others ++ more)
+    ∙ ap (λ (w : List (List ℕ)). map item_text (items_of first) ++ w) (printed_are_parted others more)
+    ∙ sym (append_assoc (map item_text (items_of first)) (words_of_all others) (words_of more))
+
 pub printed_again : PrintedSaysAgain
-printed_again printed more = let whole = segment_whole printed in (words_of more, whole, words_of-printed (items_of printed) more whole.in_range)
+printed_again printed more = (words_of more, segment_whole printed, printed_is_parted printed more)

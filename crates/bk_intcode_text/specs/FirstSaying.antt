@@ -1,5 +1,5 @@
 -- What the words of a text say where a segment is due.
-use Rattle.std.specs.Prelude.{◌≡◌, ◌⊎◌, ℕ, List, [], ◌++◌, map}
+use Rattle.std.specs.Prelude.{◌≡◌, ◌⊎◌, ℕ, List, [], ◌∷◌, ◌++◌, map}
 use Rattle.bk_base.specs.declared.intcode_fault.IntcodeKind.{IntcodeKind}
 use Rattle.bk_base.specs.declared.intcode_fault.IntcodeKind.TheVariants.{Truncated}
 use Rattle.bk_intcode.specs.Segment.{IsSegment}
@@ -32,3 +32,19 @@ SayOneThing = (words : List (List ℕ)) (a b : Saying) → Says a words → Says
 -- What is printed says the segment again, whatever follows.
 abbrev pub PrintedSaysAgain : Type 0
 PrintedSaysAgain = (printed : Intcode) (more : List ℕ) → Says (segment (items_of printed)) (words_of (segment_text (items_of printed) ++ more))
+
+-- The words of a printed segment, with any text behind it, are its words and then those of that text.
+abbrev pub PrintedIsParted : Type 0
+PrintedIsParted = (printed : Intcode) (more : List ℕ) → words_of (segment_text (items_of printed) ++ more) ≡ map item_text (items_of printed) ++ words_of more
+
+-- So segments that are printed one behind the other are read one by one: behind the words of the first stand those of the others.
+abbrev pub texts_of : List Intcode → List ℕ
+texts_of [] = []
+texts_of (first ∷ others) = segment_text (items_of first) ++ texts_of others
+
+abbrev pub words_of_all : List Intcode → List (List ℕ)
+words_of_all [] = []
+words_of_all (first ∷ others) = map item_text (items_of first) ++ words_of_all others
+
+abbrev pub PrintedAreParted : Type 0
+PrintedAreParted = (printed : List Intcode) (more : List ℕ) → words_of (texts_of printed ++ more) ≡ words_of_all printed ++ words_of more

@@ -1,6 +1,6 @@
 //! Laws of texts, which calls of the crates above rest on.
 ghost use Rattle.bk_intcode_text.specs.SegmentAnswer.{PrintedIsReadAgain};
-ghost use Rattle.bk_intcode_text.specs.FirstSaying.{PrintedSaysAgain, SayOneThing};
+ghost use Rattle.bk_intcode_text.specs.FirstSaying.{PrintedIsParted, PrintedAreParted, PrintedSaysAgain, SayOneThing};
 
 /// What is printed says the segment again, whatever follows.
 #[tactic(auto, using(crate::proofs::PrintedLemmas::printed_again))]
@@ -18,4 +18,16 @@ pub fn one_saying()
 #[tactic(auto, using(crate::proofs::ReadAgain::read_again))]
 pub fn read_again()
     ensures { PrintedIsReadAgain }
+{}
+
+/// The words of a printed segment with a text behind it are its words, and then those of that text.
+#[tactic(auto, using(crate::proofs::PrintedLemmas::printed_is_parted))]
+pub fn printed_is_parted()
+    ensures { PrintedIsParted }
+{}
+
+/// So are those of several printed segments, one behind the other.
+#[tactic(auto, using(crate::proofs::PrintedLemmas::printed_are_parted))]
+pub fn printed_are_parted()
+    ensures { PrintedAreParted }
 {}

@@ -1,15 +1,16 @@
 -- Depths on the way through a section.
-use Rattle.std.proofs.Common.{◌≡◌, ℕ, ◌+◌, ◌<◌, ◌≤◌, max, Bool, true, false, ◌||◌, nat_lt, nat_le, List, [], ◌∷◌, ◌++◌, Option, Some, None, length, take, slice_get, get_or, refl, ◌∙◌, ap, subst, arith, ltb-false, if◌then◌else◌}
+use Rattle.std.proofs.Common.{◌≡◌, ℕ, ◌+◌, ◌<◌, ◌≤◌, max, Bool, true, false, ◌||◌, nat_lt, nat_le, List, [], ◌∷◌, ◌++◌, Option, Some, None, length, take, slice_get, get_or, refl, ◌∙◌, ap, subst, arith, ltb-false, leb-false, zero, suc, if◌then◌else◌}
 use Rattle.std.proofs.lemmas.List.{take_more}
 use Rattle.std.proofs.lemmas.Option.{slice_get-get_or}
 use Rattle.bk_base.specs.declared.limit.TheConstants.{FRAME_WORDS, OCODE_STATEMENTS, OCODE_WORDS}
 use Rattle.bk_base.specs.declared.ocode_fault.OcodeKind.{OcodeKind}
 use Rattle.bk_base.specs.declared.ocode_fault.OcodeKind.TheVariants.{BadWord, LabelNotSet, LabelSetTwice, DepthsDisagree, SlotAboveDepth, TooLong}
 use Rattle.bk_ocode.specs.StmtText.{stmt_words}
-use Rattle.bk_ocode.specs.Depth.{next_depth, depth_behind, largest_behind}
+use Rattle.bk_ocode.specs.Depth.{next_depth, depth_behind, largest_behind, least_depth}
 use Rattle.bk_ocode.specs.Context.{Context, at_start, after, after_all, context_of}
 use Rattle.bk_ocode.specs.Faults.{misplaced, label_not_set, label_set_twice, depths_disagree, slot_above, too_long, fault_in}
 use Rattle.bk_ocode.specs.Section.{AreFaultless}
+use Rattle.bk_ocode.specs.SectionLaws.{DepthsSuffice, SectionIsShort}
 use Rattle.bk_ocode.specs.declared.stmt.Stmt.{Stmt}
 
 pub depth_behind-append : (k : ℕ) (a b : List Stmt) → depth_behind k (a ++ b) ≡ depth_behind (depth_behind k a) b
@@ -82,3 +83,28 @@ depth_within stmts are i s is =
 
 pub depth_within-at : (stmts : List Stmt) → AreFaultless stmts → (i : ℕ) (d : Stmt) → i < length stmts → next_depth (depth_behind 0 (take i stmts)) (get_or stmts i d) ≤ FRAME_WORDS
 depth_within-at stmts are i d low = depth_within stmts are i (get_or stmts i d) (slice_get-get_or stmts i d low)
+
+-- each statement has the depth that it needs
+pub depths_suffice : DepthsSuffice
+depths_suffice stmts i s are is =
+    let c = context_of (take i stmts) in
+    let k = keeps_in (take i stmts) c s (are.faultless i s is) in
+    (subst (λ (d : ℕ). least_depth s ≤ d) (context-depth (take i stmts)) (ltb-false c.depth (least_depth s) k.below), depth_within stmts are i s is)
+
+after_all-count : (c : Context) (stmts : List Stmt) → (after_all c stmts).count ≡ c.count + length stmts
+after_all-count c [] = omega arith
+after_all-count c (s ∷ rest) = after_all-count (after c s) rest ∙ (let e : (c.count + 1) + length rest ≡ c.count + length (s ∷ rest) = omega arith in e)
+
+length_within : (stmts : List Stmt) (i : ℕ) (s : Stmt) → slice_get stmts i ≡ Some s → length (take i stmts) ≡ i
+length_within [] i s is = cc
+length_within (t ∷ stmts) zero s is = refl
+length_within (t ∷ stmts) (suc i) s is = ap (λ n. suc n) (length_within stmts i s is)
+
+pub section_is_short : SectionIsShort
+section_is_short stmts i s are is =
+    let c = context_of (take i stmts) in
+    let k = keeps_in (take i stmts) c s (are.faultless i s is) in
+    let long : Bool = nat_lt OCODE_WORDS (c.words + length (stmt_words s)) in
+    let low = (or_false (nat_le OCODE_STATEMENTS c.count) (long || nat_lt FRAME_WORDS (next_depth c.depth s)) k.short).0 in
+    let count : c.count ≡ i = after_all-count at_start (take i stmts) ∙ (let e : 0 + length (take i stmts) ≡ length (take i stmts) = omega arith in e) ∙ length_within stmts i s is in
+    subst (λ (n : ℕ). n < OCODE_STATEMENTS) count (leb-false OCODE_STATEMENTS c.count low)

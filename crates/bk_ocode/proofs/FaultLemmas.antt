@@ -10,7 +10,7 @@ use Rattle.bk_ocode.specs.SectionText.{section_words}
 use Rattle.bk_ocode.specs.Context.{Context, at_start, after, after_all, context_of}
 use Rattle.bk_ocode.specs.Faults.{misplaced, label_not_set, label_set_twice, depths_disagree, slot_above, too_long, fault_in, stmt_fault}
 use Rattle.bk_ocode.specs.FirstFault.{IsBegun, IsStmt, BeginsStmt, FaultOf}
-use Rattle.bk_ocode.specs.SectionAnswer.{Takes, GivesFault, Answers}
+use Rattle.bk_ocode.specs.SectionAnswer.{Takes, GivesFault, StopsAtWord, Answers}
 use Rattle.std.proofs.lemmas.Bool.{cases_lt}
 use Rattle.bk_base.specs.declared.ocode_fault.OcodeFault.{OcodeFault}
 use Rattle.bk_base.specs.declared.refused.Refused.{Refused}
@@ -23,7 +23,7 @@ use Rattle.bk_ocode.specs.declared.begun.Begun.TheVariants as begun
 use Rattle.bk_ocode.specs.declared.begun.Unfit.{Unfit}
 use Rattle.bk_ocode.specs.declared.begun.Unfit.TheVariants as unfits
 use Rattle.bk_ocode.specs.declared.section.Ocode.{Ocode}
-use Rattle.bk_ocode.proofs.ReadingLemmas.{nothing_left}
+use Rattle.bk_ocode.proofs.ReadingLemmas.{nothing_left, some_taken}
 use Rattle.bk_ocode.specs.declared.stmt.Stmt.{Stmt}
 
 some_if : (b : Bool) (x k : OcodeKind) (r : Option OcodeKind) → (if b then Some x else r) ≡ Some k → ((b ≡ true) × (x ≡ k)) ⊎ ((b ≡ false) × (r ≡ Some k))
@@ -168,12 +168,34 @@ pub words_within : (k : Context) (stmts : List Stmt) (part : List (List ℕ)) (m
     length (section_words stmts) + length part ≤ OCODE_WORDS
 words_within k stmts part m filled is own told none = omega (arith, words_tally k stmts is, own, ltb-false OCODE_WORDS (k.words + m) (sym told ∙ none))
 
+begins_some : (stmts : List Stmt) (part : List (List ℕ)) → (part ≡ []) ⊎ BeginsStmt stmts part → 0 < length part → BeginsStmt stmts part
+begins_some stmts part (inl none) some = absurd (omega (arith, some, ap (λ (l : List (List ℕ)). length l) none))
+begins_some stmts part (inr begins) some = begins
+
+-- memory was refused at a word
+pub stops_at : (old b : Option (List ℕ)) (f : Bool) (k : ℕ) (stmts : List Stmt) (part : List (List ℕ)) (w : List ℕ) → IsBegun stmts →
+    Reads old b f k ((section_words stmts ++ part) ++ w ∷ []) → length (section_words stmts) + length part ≤ OCODE_WORDS → (part ≡ []) ⊎ BeginsStmt stmts part → Takes old b f StopsAtWord
+stops_at old b f k stmts part w begun reads few goes_on = (
+  reads.0,
+  reads.1,
+  record {
+    before = stmts;
+    begun = begun;
+    part = part;
+    goes_on = goes_on;
+    within = omega (arith, few, length-append (section_words stmts) part);
+    word = w;
+    are = subst (λ (l : List (List ℕ)). TakesWords reads.0 (AtEnd f (length reads.0)) l) (append_assoc (section_words stmts) part (w ∷ []))
+        (some_taken reads.0 (AtEnd f (length reads.0)) (section_words stmts ++ part) w (subst (λ n. TakesSome reads.0 (AtEnd f n) ((section_words stmts ++ part) ++ w ∷ [])) reads.2 reads.3));
+  },
+)
+
 -- a word that does not fit
 pub refused_at : (old b : Option (List ℕ)) (f : Bool) (k count : ℕ) (stmts : List Stmt) (part : Option Begun) (w : List ℕ) (unfit : Unfit) → IsBegun stmts → count ≡ length stmts →
-    Reads old b f k ((section_words stmts ++ part_words part) ++ w ∷ []) → length (section_words stmts) + length (part_words part) ≤ OCODE_WORDS → (0 < length (part_words part) → BeginsStmt stmts (part_words part)) →
+    Reads old b f k ((section_words stmts ++ part_words part) ++ w ∷ []) → length (section_words stmts) + length (part_words part) ≤ OCODE_WORDS → (part_words part ≡ []) ⊎ BeginsStmt stmts (part_words part) →
     (unfit ≡ unfits.BadNumber → (0 < length (part_words part)) × BeginNone (part_words part ++ w ∷ [])) →
     (unfit ≡ unfits.BadWord → (part ≡ None) × ((s : Stmt) → keyword s ≡ w → misplaced (context_of stmts) s ≡ true)) → Answers (Err (refusal count unfit)) old b f
-refused_at old b f k count stmts part w unfits.Memory begun is reads few begins number bad = tt
+refused_at old b f k count stmts part w unfits.Memory begun is reads few begins number bad = stops_at old b f k stmts (part_words part) w begun reads few begins
 refused_at old b f k count stmts part w unfits.BadNumber begun is reads few begins number bad =
     told_at old b f k (count + 1) BadNumber stmts (part_words part ++ w ∷ []) begun (ap (λ n. n + 1) is) (omega (arith, length-append (part_words part) (w ∷ [])))
     (subst (λ (l : List (List ℕ)). Reads old b f k l) (append_assoc (section_words stmts) (part_words part) (w ∷ [])) reads)
@@ -182,7 +204,7 @@ refused_at old b f k count stmts part w unfits.BadNumber begun is reads few begi
       word = w;
       last = refl;
       some = (number refl).0;
-      begun = begins (number refl).0;
+      begun = begins_some stmts (part_words part) begins (number refl).0;
       within = omega (arith, few, length-append (section_words stmts) (part_words part));
       none = (number refl).1;
     })

@@ -5,7 +5,8 @@ use Rattle.bk_ocode.specs.Labels.{jump_labels, result_label}
 use Rattle.bk_ocode.specs.Places.{may_stand, position_behind}
 use Rattle.bk_ocode.specs.Context.{Context, at_start, start_behind, changed, mentioned, set_by, label_followed, after, after_all, context_of}
 use Rattle.bk_ocode.specs.Faults.{misplaced, is_lab_from, jumps_set, label_not_set}
-use Rattle.bk_ocode.specs.SectionLaws.{IsAmong, JumpFindsItsLabel}
+use Rattle.bk_ocode.specs.Section.{IsSection}
+use Rattle.bk_ocode.specs.SectionLaws.{IsAmong, JumpFindsItsLabel, ResultFindsItsLabel}
 use Rattle.bk_ocode.specs.declared.standing.Position.{Position}
 use Rattle.bk_ocode.specs.declared.standing.Position.TheVariants as position
 use Rattle.bk_ocode.specs.declared.standing.Role.TheVariants.{Outer, Datum}
@@ -13,13 +14,13 @@ use Rattle.bk_ocode.specs.declared.standing.Setting.{Setting}
 use Rattle.bk_ocode.specs.declared.standing.Setting.TheVariants as setting
 use Rattle.bk_ocode.specs.declared.standing.LabelUse.{LabelUse}
 use Rattle.bk_ocode.specs.declared.stmt.Stmt.{Stmt}
-use Rattle.bk_ocode.specs.declared.stmt.Stmt.TheVariants.{Jump, JumpIf, Label, Entry, EndProcedure, Switch, DataLabel, DataNumber, DataAddress, Globals}
+use Rattle.bk_ocode.specs.declared.stmt.Stmt.TheVariants.{Jump, JumpIf, Label, GiveResult, Entry, EndProcedure, Switch, DataLabel, DataNumber, DataAddress, Globals}
 use Rattle.bk_ocode.proofs.Depths.{keeps_in}
 use Rattle.bk_ocode.proofs.LabelsOnce.{slice_get-take}
 use Rattle.bk_ocode.proofs.JumpDepths.{after-same}
 
 -- in a procedure
-abbrev Within : Position → Bool
+abbrev pub Within : Position → Bool
 Within position.Opened = true
 Within (position.BehindLabel l) = true
 Within position.BehindReturn = true
@@ -88,18 +89,19 @@ start_before : (c : Context) (s : Stmt) → c.start ≤ c.count → start_behind
 start_before c (Entry l name) low = omega arith
 start_before c _ low = omega (arith, low)
 
-jump_goes_on : (c : Context) (s : Stmt) (l : ℕ) → IsAmong l (jump_labels s) → (Within (position_behind s) ≡ true) × (start_behind c s ≡ c.start)
+jump_goes_on : (c : Context) (s : Stmt) (l : ℕ) → IsAmong l (jump_labels s ++ result_label s) → (Within (position_behind s) ≡ true) × (start_behind c s ≡ c.start)
 jump_goes_on c (Jump m) l among = (refl, refl)
 jump_goes_on c (JumpIf truth m) l among = (refl, refl)
 jump_goes_on c (Switch default cases) l among = (refl, refl)
+jump_goes_on c (GiveResult m) l among = (refl, refl)
 jump_goes_on c _ l among = absurd among
 
-closes_behind : (c : Context) (stmts : List Stmt) (i : ℕ) (s : Stmt) (l : ℕ) → c.start ≤ c.count → slice_get stmts i ≡ Some s → IsAmong l (jump_labels s) → ArePlaced c stmts →
+closes_behind : (c : Context) (stmts : List Stmt) (i : ℕ) (s : Stmt) (l : ℕ) → c.start ≤ c.count → slice_get stmts i ≡ Some s → IsAmong l (jump_labels s ++ result_label s) → ArePlaced c stmts →
     (after_all c stmts).position ≡ position.Ended → ClosesBehind c stmts i
 closes_behind c [] i s l low at among placed ended = absurd (let h : None ≡ Some s = at in cc)
 closes_behind c (t ∷ rest) zero s l low at among placed ended =
     let same : s ≡ t = (let h : Some s ≡ Some t = sym at in cc) in
-    let on = jump_goes_on c t l (subst (λ (x : Stmt). IsAmong l (jump_labels x)) same among) in
+    let on = jump_goes_on c t l (subst (λ (x : Stmt). IsAmong l (jump_labels x ++ result_label x)) same among) in
     let more = closes (after c t) rest on.0 (λ k u is. placed (suc k) u is) ended in
     record { place = suc more.place; at = more.at; later = omega arith; begins = omega (arith, more.begins, on.1, low) }
 closes_behind c (t ∷ rest) (suc i) s l low at among placed ended =
@@ -107,11 +109,11 @@ closes_behind c (t ∷ rest) (suc i) s l low at among placed ended =
     record { place = suc more.place; at = more.at; later = omega (arith, more.later); begins = omega (arith, more.begins) }
 
 -- what holds of all holds of one
-both : (a b : Bool) → (a && b) ≡ true → (a ≡ true) × (b ≡ true)
+pub both : (a b : Bool) → (a && b) ≡ true → (a ≡ true) × (b ≡ true)
 both true b e = (refl, e)
 both false b e = absurd (let h : false ≡ true = e in cc)
 
-all_at : (p : Stmt → Bool) (stmts : List Stmt) (a i : ℕ) (s : Stmt) → list_all p (drop a stmts) ≡ true → a ≤ i → slice_get stmts i ≡ Some s → p s ≡ true
+pub all_at : (p : Stmt → Bool) (stmts : List Stmt) (a i : ℕ) (s : Stmt) → list_all p (drop a stmts) ≡ true → a ≤ i → slice_get stmts i ≡ Some s → p s ≡ true
 all_at p [] a i s all low at = absurd (let h : None ≡ Some s = at in cc)
 all_at p (t ∷ rest) zero zero s all low at =
     let same : t ≡ s = (let h : Some t ≡ Some s = at in cc) in ap p (sym same) ∙ (both (p t) (list_all p rest) all).0
@@ -119,11 +121,15 @@ all_at p (t ∷ rest) zero (suc i) s all low at = all_at p rest zero i s (both (
 all_at p (t ∷ rest) (suc a) zero s all low at = absurd (omega (arith, low))
 all_at p (t ∷ rest) (suc a) (suc i) s all low at = all_at p rest a i s all (omega (arith, low)) at
 
-among_all : (q : ℕ → Bool) (ls ms : List ℕ) (l : ℕ) → list_all q (ls ++ ms) ≡ true → IsAmong l ls → q l ≡ true
-among_all q [] ms l all among = absurd among
-among_all q (x ∷ ls) ms l all among =
-    let two = both (q x) (list_all q (ls ++ ms)) all in
-    elim among [ inl same ↦ ap q (sym same) ∙ two.0 | inr later ↦ among_all q ls ms l two.1 later ]
+pub among_all : (q : ℕ → Bool) (ls : List ℕ) (l : ℕ) → list_all q ls ≡ true → IsAmong l ls → q l ≡ true
+among_all q [] l all among = absurd among
+among_all q (x ∷ ls) l all among =
+    let two = both (q x) (list_all q ls) all in
+    elim among [ inl same ↦ ap q (sym same) ∙ two.0 | inr later ↦ among_all q ls l two.1 later ]
+
+among_front : (ls ms : List ℕ) (l : ℕ) → IsAmong l ls → IsAmong l (ls ++ ms)
+among_front [] ms l among = absurd among
+among_front (x ∷ ls) ms l among = elim among [ inl same ↦ inl same | inr later ↦ inr (among_front ls ms l later) ]
 
 -- what a LAB set
 lab_of : (start : ℕ) (g : Setting) → is_lab_from start g ≡ true → (depth : ℕ) × (place : ℕ) × (g ≡ setting.Lab depth place)
@@ -132,7 +138,7 @@ lab_of start setting.Unset e = absurd (let h : false ≡ true = e in cc)
 lab_of start setting.Entry e = absurd (let h : false ≡ true = e in cc)
 lab_of start setting.Data e = absurd (let h : false ≡ true = e in cc)
 
-dec_by : (b : Bool) (m l : ℕ) → (m == l) ≡ b → (m ≡ l) ⊎ (m ≢ l)
+pub dec_by : (b : Bool) (m l : ℕ) → (m == l) ≡ b → (m ≡ l) ⊎ (m ≢ l)
 dec_by true m l e = inl (eqb-true m l e)
 dec_by false m l e = inr (λ same. let h : true ≡ false = sym (eq-eqb m l same) ∙ e in cc)
 
@@ -140,17 +146,17 @@ chosen : (b : Bool) (x y : LabelUse) → b ≡ true → (if b then x else y).set
 chosen true x y e = refl
 chosen false x y e = absurd (let h : false ≡ true = e in cc)
 
-after-entry : (c : Context) (l : ℕ) (name : List ℕ) → ((after c (Entry l name)).uses l).setting ≡ setting.Entry
+pub after-entry : (c : Context) (l : ℕ) (name : List ℕ) → ((after c (Entry l name)).uses l).setting ≡ setting.Entry
 after-entry c l name =
     let uses = changed l mentioned (label_followed c.position (Entry l name) c.uses) in
     chosen (l == l) (set_by setting.Entry (uses l)) (uses l) (eq-eqb l l refl)
 
-after-data : (c : Context) (l : ℕ) → ((after c (DataLabel l)).uses l).setting ≡ setting.Data
+pub after-data : (c : Context) (l : ℕ) → ((after c (DataLabel l)).uses l).setting ≡ setting.Data
 after-data c l =
     let uses = changed l mentioned (label_followed c.position (DataLabel l) c.uses) in
     chosen (l == l) (set_by setting.Data (uses l)) (uses l) (eq-eqb l l refl)
 
-injected : (m l : ℕ) → Some m ≡ Some l → m ≡ l
+pub injected : (m l : ℕ) → Some m ≡ Some l → m ≡ l
 injected m l e = cc
 
 -- what a LAB set, the last statement set or one before it
@@ -179,18 +185,19 @@ lab_exists c (s ∷ rest) l d p e = elim (lab_exists (after c s) rest l d p e) [
   | inr q ↦ inr (suc q.0, q.1)
 ]
 
-taken_from : (stmts : List Stmt) (i k : ℕ) (t : Stmt) → slice_get (take i stmts) k ≡ Some t → slice_get stmts k ≡ Some t
+pub taken_from : (stmts : List Stmt) (i k : ℕ) (t : Stmt) → slice_get (take i stmts) k ≡ Some t → slice_get stmts k ≡ Some t
 taken_from stmts zero k t is = absurd (let h : None ≡ Some t = is in cc)
 taken_from [] (suc i) k t is = is
 taken_from (x ∷ rest) (suc i) zero t is = is
 taken_from (x ∷ rest) (suc i) (suc k) t is = taken_from rest i k t is
 
-not_false : (b : Bool) → not b ≡ false → b ≡ true
+pub not_false : (b : Bool) → not b ≡ false → b ≡ true
 not_false true e = refl
 not_false false e = absurd (let h : true ≡ false = e in cc)
 
-pub jump_finds_its_label : JumpFindsItsLabel
-jump_finds_its_label stmts i l s are at among =
+finds_label : (stmts : List Stmt) (i l : ℕ) (s : Stmt) → IsSection stmts → slice_get stmts i ≡ Some s → IsAmong l (jump_labels s ++ result_label s) →
+    (place : ℕ) × (slice_get stmts place ≡ Some (Label l))
+finds_label stmts i l s are at among =
     let faultless = are.are_faultless.faultless in
     let placed : ArePlaced at_start stmts = λ k t is. (keeps_in (take k stmts) (context_of (take k stmts)) t (faultless k t is)).place in
     let closed = closes_behind at_start stmts i s l (omega arith) at among placed are.ended in
@@ -199,9 +206,15 @@ jump_finds_its_label stmts i l s are at among =
     let set : label_not_set (take e stmts) c EndProcedure ≡ false = (keeps_in (take e stmts) c EndProcedure (faultless e EndProcedure closed.at)).set in
     let all = not_false (list_all (jumps_set c) (drop c.start (take e stmts))) set in
     let own = all_at (jumps_set c) (take e stmts) c.start i s all (omega (arith, closed.begins)) (slice_get-take stmts e i closed.later ∙ at) in
-    let is_lab = among_all (λ label. is_lab_from c.start (c.uses label).setting) (jump_labels s) (result_label s) l own among in
+    let is_lab = among_all (λ label. is_lab_from c.start (c.uses label).setting) (jump_labels s ++ result_label s) l own among in
     let lab = lab_of c.start (c.uses l).setting is_lab in
     elim (lab_exists at_start (take e stmts) l lab.0 lab.1 lab.2) [
       | inl h ↦ absurd (let k : setting.Unset ≡ setting.Lab lab.0 lab.1 = h in cc)
       | inr q ↦ (q.0, taken_from stmts e q.0 (Label l) q.1)
     ]
+
+pub jump_finds_its_label : JumpFindsItsLabel
+jump_finds_its_label stmts i l s are at among = finds_label stmts i l s are at (among_front (jump_labels s) (result_label s) l among)
+
+pub result_finds_its_label : ResultFindsItsLabel
+result_finds_its_label stmts i l are at = finds_label stmts i l (GiveResult l) are at (inl refl)

@@ -120,7 +120,7 @@ labels_are_set_once stmts i j l s t are at_i at_j sets_s sets_t = elim (order i 
 is_not : (m l : ℕ) → Some (Label m) ≢ Some (Label l) → (m == l) ≡ false
 is_not m l other = ne_eqb m l (λ same. other (ap (λ x. Some (Label x)) same))
 
-not_label : (l : ℕ) (s : Stmt) → Some s ≢ Some (Label l) → is_label l s ≡ false
+pub not_label : (l : ℕ) (s : Stmt) → Some s ≢ Some (Label l) → is_label l s ≡ false
 not_label l (Label m) other = is_not m l other
 not_label l _ other = refl
 

@@ -14,9 +14,18 @@ pub mod ReadAgain
 pub mod Rows
 pub mod SectionProp
 pub mod Depths
+pub mod Chosen
 pub mod StepKeeps
 pub mod LabelsOnce
 pub mod JumpDepths
 pub mod JumpPlaces
+pub mod LabelRests
+pub mod SoundSteps
+pub mod SoundRests
+pub mod SoundStart
+pub mod GrowingSteps
+pub mod NearerSteps
+pub mod LabelKinds
 mod Examples
 mod Programs
+mod SharedPlaces

@@ -3,10 +3,12 @@ use Rattle.std.proofs.Common.{◌≡◌, ℕ, ◌+◌, ◌==◌, pos, [], ◌∷
 use Rattle.std.specs.Prelude.{codes}
 use Rattle.std.specs.Fmt.{digits}
 use Rattle.bk_base.specs.Word.{packed_word}
+use Rattle.bk_base.specs.Format.{parts}
 use Rattle.bk_base.specs.declared.run_end.End.{End}
 use Rattle.bk_base.specs.declared.run_end.End.TheVariants.{Status, DivideByZero}
 use Rattle.bk_ocode.specs.Cells.{Word, Variable, Link, Cell, Free, Held, write}
 use Rattle.bk_ocode.specs.OcodeState.{Wrch, Writes, Writen, Placement, At, State, Next, Goes, Ends, Wild, global_place}
+use Rattle.bk_ocode.specs.Telling.{format_bytes}
 use Rattle.bk_ocode.specs.OcodeRun.{Program, run}
 use Rattle.bk_ocode.specs.declared.stmt.Variable.TheVariants.{Local, Global, Static}
 use Rattle.bk_ocode.specs.declared.stmt.Monadic.TheVariants.{Contents}
@@ -77,6 +79,11 @@ by_zero : ended (run (program_of
     ≡ Some (DivideByZero, 65 ∷ [])
 unfolding digits
 by_zero = refl
+
+-- a format: each directive, and `%` before another letter
+formats : format_bytes (λ a. Some (60 + a)) (λ w. Some (w ∷ [])) (parts (codes "%N%%%C%i3%Q%S")) 3 ≡ Some (codes "63%@ 65%QB")
+unfolding digits
+formats = refl
 
 -- reading an unset word by RV and then using it as a number is wild, and reading a link is wild
 abbrev is_wild : Next → Bool

@@ -1,21 +1,34 @@
 -- What is printed is read again.
-use Rattle.std.proofs.Common.{◌≡◌, ℕ, ◌++◌, List, Some, None, Ok, Err}
+use Rattle.std.proofs.Common.{◌≡◌, ℕ, ◌++◌, List, [], ◌∷◌, Some, None, Ok, Err, refl, sym, ap, ◌∙◌, append_assoc}
 use Rattle.bk_base.specs.declared.ocode_fault.OcodeKind.{OcodeKind}
 use Rattle.bk_base.specs.declared.refused.Refused.TheVariants.{Fault, Memory, Device}
 use Rattle.bk_words.specs.Words.{words_of}
-use Rattle.bk_ocode.specs.SectionText.{section_text}
+use Rattle.bk_ocode.specs.SectionText.{section_text, section_words}
 use Rattle.bk_ocode.specs.SectionStmts.{stmts_of}
 use Rattle.bk_ocode.specs.FirstFault.{section, nothing, fault}
-use Rattle.bk_ocode.specs.SectionAnswer.{PrintedSaysAgain, PrintedIsReadAgain}
+use Rattle.bk_ocode.specs.SectionAnswer.{texts_of, words_of_all, PrintedIsParted, PrintedAreParted, PrintedSaysAgain, PrintedIsReadAgain}
 use Rattle.bk_ocode.specs.declared.stmt.Stmt.{Stmt}
 use Rattle.bk_ocode.proofs.SectionProp.{section_whole}
 use Rattle.bk_ocode.proofs.OneSaying.{each_stmt, one_saying}
 use Rattle.bk_ocode.proofs.PrintedLemmas.{words_of-printed}
 
+pub printed_is_parted : PrintedIsParted
+printed_is_parted printed more =
+    let whole = section_whole printed in
+    words_of-printed (stmts_of printed) more (each_stmt (stmts_of printed) whole.0.are_faultless whole.1)
+
+pub printed_are_parted : PrintedAreParted
+printed_are_parted [] more = refl
+printed_are_parted (first ∷ others) more =
+    ap words_of (append_assoc (section_text (stmts_of first)) (texts_of others) more)
+    ∙ printed_is_parted first (texts_of others ++ more)
+    ∙ ap (λ (w : List (List ℕ)). section_words (stmts_of first) ++ w) (printed_are_parted others more)
+    ∙ sym (append_assoc (section_words (stmts_of first)) (words_of_all others) (words_of more))
+
 pub printed_again : PrintedSaysAgain
 printed_again printed more =
     let whole = section_whole printed in
-    (words_of more, whole.0, whole.1, words_of-printed (stmts_of printed) more (each_stmt (stmts_of printed) whole.0.are_faultless whole.1))
+    (words_of more, whole.0, whole.1, printed_is_parted printed more)
 
 stmts_same : (a b : List Stmt) → section a ≡ section b → a ≡ b
 stmts_same a b is = cc

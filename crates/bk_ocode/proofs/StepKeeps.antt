@@ -3,9 +3,10 @@ use Rattle.std.proofs.Common.{◌≡◌, ℕ, ◌+◌, ◌-◌, ◌<◌, ◌^◌
 use Rattle.bk_base.specs.Word.{word_sum, byte_distance}
 use Rattle.bk_ocode.specs.Cells.{Content, Unset, Partly, Word, Temporary, Link, Cell, Free, Held, write, below, settle}
 use Rattle.bk_ocode.specs.OcodeState.{Placed, Callables, State, Next, Wild}
-use Rattle.bk_ocode.specs.OcodeStep.{on, slot, push, on_number, on_some, operated, named_place, from_label, jump, jump_with, case_label, can_be_called, call, return, dyadic_word, step_by}
+use Rattle.bk_ocode.specs.OcodeStep.{on, slot, push, on_number, on_some, operated, named_place, has_word, from_label, jump, jump_with, case_label, can_be_called, call, return, dyadic_word, step_by}
 use Rattle.bk_ocode.specs.Access.{variable_at, byte_at, word_with_byte_at}
 use Rattle.bk_ocode.specs.StepLaws.{IsNotAmong, KeepsNext, StepKeepsBelow}
+use Rattle.bk_ocode.proofs.Chosen.{below-kept, write-kept, settle-kept}
 use Rattle.bk_ocode.specs.declared.stmt.Monadic.TheVariants.{Contents, Negate, Not}
 use Rattle.bk_ocode.specs.declared.stmt.Stmt.{Stmt}
 use Rattle.bk_ocode.specs.declared.stmt.Stmt.TheVariants.{Number, True, False, Query, Load, Address, Text, Monadic, Dyadic, LoadByte, Assign, AssignAt, AssignByte, Jump, JumpIf, Label, GiveResult, TakeResult, Stack, Store, Entry, Save, CallFunction, CallRoutine, ReturnItem, Return, EndProcedure, Switch, Finish, DataLabel, DataNumber, DataAddress, Globals}
@@ -22,23 +23,6 @@ on_some-keeps s (Some x) go f = f x
 if-keeps : (s : State) (b : Bool) (x y : Next) → KeepsNext s x → KeepsNext s y → KeepsNext s (if b then x else y)
 if-keeps s true x y p q = p
 if-keeps s false x y p q = q
-
-chosen-true : {A : Type 0} → (b : Bool) (x y : A) → b ≡ true → (if b then x else y) ≡ x
-chosen-true true x y is = refl
-chosen-true false x y is = absurd (let h : false ≡ true = is in cc)
-
-chosen-false : {A : Type 0} → (b : Bool) (x y : A) → b ≡ false → (if b then x else y) ≡ y
-chosen-false true x y is = absurd (let h : true ≡ false = is in cc)
-chosen-false false x y is = refl
-
-below-kept : (top : ℕ) (cells : ℕ → Cell) (place : ℕ) → place < top → below top cells place ≡ cells place
-below-kept top cells place low = chosen-true (nat_lt place top) (cells place) Free (lt-ltb place top low)
-
-write-kept : (cells : ℕ → Cell) (at : ℕ) (cell : Cell) (place : ℕ) → (place ≡ at → ⊥) → write cells at cell place ≡ cells place
-write-kept cells at cell place other = chosen-false (place == at) cell (cells place) (ne_eqb place at other)
-
-settle-kept : (from top : ℕ) (cells : ℕ → Cell) (place : ℕ) → place < from → settle from top cells place ≡ cells place
-settle-kept from top cells place low = chosen-true (nat_lt place from) (cells place) _ (lt-ltb place from low)
 
 -- these cells are those of before below the frame, save where they were written
 abbrev Kept : State → (ℕ → Cell) → List ℕ → Type 0
@@ -126,7 +110,8 @@ step_by-keeps callables s own k (Dyadic operator) rest =
 step_by-keeps callables s own k LoadByte rest =
     on_number-keeps s (slot s (k - 2)) _ (λ a. on_number-keeps s (slot s (k - 1)) _ (λ i.
     on_some-keeps s (byte_at (s.frame + k) s.cells a i) _ (λ b. push-keeps s own (k - 2) rest _)))
-step_by-keeps callables s own k (Assign to) rest = write-keeps s own (k - 1) rest (named_place s own to) _
+step_by-keeps callables s own k (Assign to) rest =
+    if-keeps s (has_word to (s.cells (named_place s own to))) _ Wild (write-keeps s own (k - 1) rest (named_place s own to) _) tt
 step_by-keeps callables s own k AssignAt rest =
     on_number-keeps s (slot s (k - 1)) _ (λ a. on_some-keeps s (variable_at (s.frame + k) s.cells a) _ (λ _. write-keeps s own (k - 2) rest a _))
 step_by-keeps callables s own k AssignByte rest =

@@ -18,6 +18,12 @@ pub mod OcodeStep
 pub mod OcodeRun
 pub mod FirstFault
 pub mod StepLaws
+pub mod RunLaws
+pub mod SectionData
+pub mod Library
+pub mod ProgramStart
+pub mod Frames
+pub mod SoundRuns
 pub mod SectionLaws
 pub mod KnownUses
 pub mod Drafts

@@ -1,12 +1,12 @@
 -- Rests, stretches and runs of OCODE.
-use Rattle.std.specs.Prelude.{◌≡◌, ℕ, zero, suc, ◌+◌, ◌==◌, Bool, true, false, List, [], ◌∷◌, length, Option, Some, None, pos, if◌then◌else◌}
+use Rattle.std.specs.Prelude.{◌≡◌, ℕ, zero, suc, ◌+◌, ◌==◌, Bool, true, false, List, [], ◌∷◌, length, Option, Some, None, pos, not, ◌&&◌, ⊤, if◌then◌else◌}
 use Rattle.std.specs.Option.{option_map_or}
 use Rattle.bk_base.specs.declared.run_end.End.{End}
 use Rattle.bk_base.specs.declared.run_end.End.TheVariants.{Status}
 use Rattle.bk_ocode.specs.Depth.{next_depth}
 use Rattle.bk_ocode.specs.Cells.{Content, Unset, Temporary, Held, write}
-use Rattle.bk_ocode.specs.OcodeState.{Placement, Placed, Callables, Control, Inside, At, State, Next, Goes, Ends, Wild}
-use Rattle.bk_ocode.specs.OcodeStep.{step}
+use Rattle.bk_ocode.specs.OcodeState.{Placement, Placed, Callables, Control, Inside, Behind, At, State, Next, Goes, Ends, Wild}
+use Rattle.bk_ocode.specs.OcodeStep.{is_label, step}
 use Rattle.bk_ocode.specs.declared.stmt.Stmt.{Stmt}
 use Rattle.bk_ocode.specs.declared.stmt.Stmt.TheVariants.{Entry, Label, CallFunction, CallRoutine}
 
@@ -64,10 +64,16 @@ resumed_by false own r s = record s { control = Inside own r.depth r.behind; han
 abbrev pub resumed : Placed → Rest → State → State
 resumed own r s = resumed_by r.takes own r s
 
+-- at a rest: behind a LAB, or at a number that is none of a routine
+abbrev pub IsAtRest : Callables → Control → Type 0
+IsAtRest callables (Inside own depth rest) = ⊥
+IsAtRest callables (Behind own label) = ⊤
+IsAtRest callables (At n) = callables.routine n ≡ None
+
 -- A stretch: n steps to the next rest, a call of an entry, or a return taken. A routine of the library is a step on the way.
 module _ (callables : Callables) where
   pub data Stretch : ℕ → State → State → Type 0 where
-    last : (s t : State) (n : ℕ) → step callables s ≡ Goes t → t.control ≡ At n → callables.routine n ≡ None → Stretch 1 s t
+    last : (s t : State) → step callables s ≡ Goes t → IsAtRest callables t.control → Stretch 1 s t
     more : (n : ℕ) (s t u : State) → step callables s ≡ Goes t → Stretch n t u → Stretch (suc n) s u
 
   -- a stretch that ends the run
@@ -81,10 +87,15 @@ pub record Program : Type 0 where
   pub callables : Callables
   pub home : ℕ
 
--- the rest with a number
+-- the entry or the place behind a call that has a number
 abbrev pub find_rest : List Rest → ℕ → Option Rest
 find_rest [] n = None
-find_rest (r ∷ rest) n = if r.place == n then Some r else find_rest rest n
+find_rest (r ∷ rest) n = if not r.keeps && r.place == n then Some r else find_rest rest n
+
+-- the rest behind the LAB of a label, with the depth before the first statement
+abbrev pub label_rest : Placement → ℕ → List Stmt → ℕ → Option Rest
+label_rest places k [] l = None
+label_rest places k (s ∷ rest) l = if is_label l s then rest_of places k s rest else label_rest places (next_depth k s) rest l
 
 -- a state at a rest of one of the sections goes on from there
 abbrev pub resumed_in : List Placed → ℕ → State → Option State
@@ -101,6 +112,8 @@ at_number program n s =
 
 abbrev pub program_step_from : Program → State → Control → Next
 program_step_from program s (Inside own k rest) = step program.callables s
+program_step_from program s (Behind own l) =
+    option_map_or (λ r. step program.callables (resumed own r s)) (label_rest own.places 0 own.stmts l) Wild
 program_step_from program s (At n) = at_number program n s
 
 abbrev pub program_step : Program → State → Next

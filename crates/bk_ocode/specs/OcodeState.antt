@@ -1,5 +1,5 @@
 -- Where a run of OCODE stands.
-use Rattle.std.specs.Prelude.{ℕ, ◌+◌, Bool, List, Option}
+use Rattle.std.specs.Prelude.{ℕ, ◌+◌, Bool, List, Option, Some, None}
 use Rattle.bk_base.specs.declared.run_end.End.{End}
 use Rattle.bk_ocode.specs.Cells.{Content, Cell}
 use Rattle.bk_ocode.specs.declared.stmt.Stmt.{Stmt}
@@ -34,10 +34,19 @@ pub record Callables : Type 0 where
   pub is_entry : ℕ → Bool
   pub routine : ℕ → Option Routine
 
--- In a procedure of a section, with a depth, before the statements left; or at the number of a rest or of a routine.
+-- In a procedure of a section, with a depth, before the statements left; at the rest behind the LAB of a label; or at the
+-- number of an entry, of the place behind a call, or of a routine. A rest behind a LAB is told apart from the others, since
+-- several rests may have one number, as those of two LABs that stand one behind the other.
 pub data Control : Type 0 where
   Inside : (own : Placed) (depth : ℕ) (rest : List Stmt) → Control
+  Behind : (own : Placed) (label : ℕ) → Control
   At : (place : ℕ) → Control
+
+-- the number of a rest
+abbrev pub rest_place : Control → Option ℕ
+rest_place (Inside own depth rest) = None
+rest_place (Behind own label) = Some (own.places.label label)
+rest_place (At place) = Some place
 
 pub record State : Type 0 where
   pub control : Control

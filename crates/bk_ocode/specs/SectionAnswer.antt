@@ -1,6 +1,7 @@
 -- What a call that reads a section answers.
-use Rattle.std.specs.Prelude.{◌≡◌, ◌⊎◌, ◌++◌, ◌+◌, ℕ, Bool, true, false, List, [], length, Option, None, Some, Result, Ok, Err, ⊤}
+use Rattle.std.specs.Prelude.{◌≡◌, ◌⊎◌, ◌++◌, ◌+◌, ◌≤◌, ℕ, Bool, true, false, List, [], ◌∷◌, length, Option, None, Some, Result, Ok, Err, ⊤}
 use Rattle.std.specs.Io.KnownBytes.{Consumes}
+use Rattle.bk_base.specs.declared.limit.TheConstants.{OCODE_WORDS}
 use Rattle.bk_base.specs.declared.ocode_fault.OcodeFault.{OcodeFault}
 use Rattle.bk_base.specs.declared.ocode_fault.OcodeKind.{OcodeKind}
 use Rattle.bk_base.specs.declared.ocode_fault.OcodeKind.TheVariants.{Truncated}
@@ -9,11 +10,12 @@ use Rattle.bk_base.specs.declared.refused.Refused.TheVariants.{Fault, Memory, De
 use Rattle.bk_words.specs.TextEnd.{AtEnd}
 use Rattle.bk_words.specs.Words.{words_of}
 use Rattle.bk_words.specs.Taking.{TakesWords}
+use Rattle.bk_ocode.specs.Lists.{joined}
 use Rattle.bk_ocode.specs.SectionText.{section_words, section_text}
 use Rattle.bk_ocode.specs.SectionStmts.{stmts_of}
 use Rattle.bk_ocode.specs.StmtRange.{AreTyped}
 use Rattle.bk_ocode.specs.Section.{IsSection}
-use Rattle.bk_ocode.specs.FirstFault.{IsBegun, FaultOf, CutAt, Says, section, nothing, fault}
+use Rattle.bk_ocode.specs.FirstFault.{IsBegun, BeginsStmt, FaultOf, CutAt, Says, section, nothing, fault}
 use Rattle.bk_ocode.specs.declared.section.Ocode.{Ocode}
 use Rattle.bk_ocode.specs.declared.stmt.Stmt.{Stmt}
 
@@ -42,12 +44,24 @@ pub record GivesFaultAt (taken : List ℕ) (end : Type 0) (number : ℕ) (kind :
 abbrev pub GivesFault : List ℕ → Type 0 → ℕ → OcodeKind → Type 0
 GivesFault taken end number kind = GivesFaultAt taken end number kind ⊎ ((kind ≡ Truncated) × end × CutAt (words_of taken) number)
 
--- The answer is what the bytes taken say, unless memory was refused or the device failed.
+-- Memory was refused at the last word that was taken: those before it are the words of statements without a fault, and none
+-- or some that begin the next, within the limit.
+pub record StopsAtWord (taken : List ℕ) (end : Type 0) : Type 0 where
+  pub before : List Stmt
+  pub begun : IsBegun before
+  pub part : List (List ℕ)
+  pub goes_on : (part ≡ []) ⊎ BeginsStmt before part
+  pub within : length (section_words before ++ part) ≤ OCODE_WORDS
+  pub word : List ℕ
+  pub are : TakesWords taken end (section_words before ++ (part ++ word ∷ []))
+
+-- The answer is what the bytes taken say, unless the device failed. Where memory was refused nothing is taken behind the
+-- word at which it was, save one blank.
 abbrev pub Answers : Result (Option Ocode) (Refused OcodeFault) → Option (List ℕ) → Option (List ℕ) → Bool → Type 0
 Answers (Ok (Some read)) old new ended = Takes old new ended (λ taken end. GivesSection taken end (stmts_of read))
 Answers (Ok None) old new ended = Takes old new ended GivesNothing
 Answers (Err (Fault told)) old new ended = Takes old new ended (λ taken end. GivesFault taken end told.statement told.kind)
-Answers (Err Memory) old new ended = ⊤
+Answers (Err Memory) old new ended = Takes old new ended StopsAtWord
 Answers (Err Device) old new ended = ⊤
 
 -- What the answer says of a text that begins with these bytes, which were taken, unless memory was refused or the device
@@ -60,10 +74,10 @@ Stands (Err Memory) taken more = ⊤
 Stands (Err Device) taken more = ⊤
 
 -- That stands whatever follows: nothing, where the text ends.
-abbrev pub StandsFor : Result (Option Ocode) (Refused OcodeFault) → Option (List ℕ) → Option (List ℕ) → Bool → Type 0
-StandsFor (Err Memory) old new ended = ⊤
-StandsFor (Err Device) old new ended = ⊤
-StandsFor answer old new ended = Takes old new ended (λ taken end. (more : List ℕ) → (end → more ≡ []) → Stands answer taken more)
+abbrev pub StandsWhateverFollows : Result (Option Ocode) (Refused OcodeFault) → Option (List ℕ) → Option (List ℕ) → Bool → Type 0
+StandsWhateverFollows (Err Memory) old new ended = ⊤
+StandsWhateverFollows (Err Device) old new ended = ⊤
+StandsWhateverFollows answer old new ended = Takes old new ended (λ taken end. (more : List ℕ) → (end → more ≡ []) → Stands answer taken more)
 
 -- The answer is what these words say, unless memory was refused or the device failed.
 abbrev pub AnswersWords : Result (Option Ocode) (Refused OcodeFault) → List (List ℕ) → Type 0
@@ -80,6 +94,20 @@ ReadsAgain (Ok None) stmts = ⊥
 ReadsAgain (Err (Fault told)) stmts = ⊥
 ReadsAgain (Err Memory) stmts = ⊤
 ReadsAgain (Err Device) stmts = ⊤
+
+-- The words of a printed section, with any text behind it, are its words and then those of that text.
+abbrev pub PrintedIsParted : Type 0
+PrintedIsParted = (printed : Ocode) (more : List ℕ) → words_of (section_text (stmts_of printed) ++ more) ≡ section_words (stmts_of printed) ++ words_of more
+
+-- So sections that are printed one behind the other are read one by one: behind the words of the first stand those of the others.
+abbrev pub texts_of : List Ocode → List ℕ
+texts_of printed = joined (λ one. section_text (stmts_of one)) printed
+
+abbrev pub words_of_all : List Ocode → List (List ℕ)
+words_of_all printed = joined (λ one. section_words (stmts_of one)) printed
+
+abbrev pub PrintedAreParted : Type 0
+PrintedAreParted = (printed : List Ocode) (more : List ℕ) → words_of (texts_of printed ++ more) ≡ words_of_all printed ++ words_of more
 
 -- What is printed says the section again, whatever follows.
 abbrev pub PrintedSaysAgain : Type 0

@@ -10,7 +10,7 @@ ghost use Rattle.bk_ocode.specs.Faults.{misplaced};
 ghost use Rattle.bk_ocode.specs.Drafts.{context_in};
 ghost use Rattle.bk_ocode.specs.declared.stmt.Stmt.{Stmt};
 ghost use Rattle.bk_ocode.specs.declared.begun.Unfit.TheVariants.{BadWord, BadNumber};
-ghost use Rattle.bk_ocode.specs.SectionAnswer.{Answers, StandsFor, AnswersWords, is_device};
+ghost use Rattle.bk_ocode.specs.SectionAnswer.{Answers, StandsWhateverFollows, AnswersWords, is_device};
 ghost use Rattle.bk_ocode.specs.BegunStmts.{IsStep, IsBegunPart, part_words, BeginNone, refusal};
 
 use crate::begun::{Begun, Step, Unfit, begin, take};
@@ -144,15 +144,16 @@ fn next_section<I: ByteIn>(
 /// Reads the next section of a text, or None where only blanks are left.
 ///
 /// It takes at most one byte past the last word, holds one word of the text, and no list besides the section that it
-/// builds. Where memory is refused it answers so in the place of any other answer.
+/// builds. Where memory is refused it answers so in the place of any other answer, and takes no word more.
 pub fn read_section<I: ByteIn>(
     alloc: Global,
     input: &mut I,
 ) -> Result<Option<Ocode>, Refused<OcodeFault>>
-    // What was taken is the text of the section, or blanks, or a text up to its first fault.
+    // What was taken is the text of the section, or blanks, or a text up to its first fault, or up to the word at which memory
+    // was refused.
     ensures answers { Answers result (I.left input.old) (I.left input.new) (I.ended input.new) }
     // That stands whatever follows the bytes taken.
-    ensures stands { StandsFor result (I.left input.old) (I.left input.new) (I.ended input.new) }
+    ensures stands { StandsWhateverFollows result (I.left input.old) (I.left input.new) (I.ended input.new) }
     // The same of the whole text, whose words say one thing.
     ensures says { (all : List ℕ) → I.left input.old ≡ Some all → length all < INPUT_BYTES → AnswersWords result (words_of all) }
     // It fails exactly where the device does, and at once where that failed before. Where the end was told, nothing is left.

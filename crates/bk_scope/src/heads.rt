@@ -119,9 +119,7 @@ pub fn head<'a>(
     ensures deepest { IfOk result (λ opened. opened.deepest ≡ walk.old.found.deepest) }
 {
     let bound = walk.table.find(name);
-    if let Some(bound) = bound {
-        walk.findings.means(bound)?;
-    }
+    walk.findings.names(bound)?;
     let opened = walk.findings.opens(kept_depth(formals.len() + 2));
     walk.findings.sets(line, name, bound)?;
     list_names(&mut walk.findings, list, formals)?;

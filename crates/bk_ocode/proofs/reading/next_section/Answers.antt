@@ -10,7 +10,7 @@ use Rattle.bk_ocode.specs.SectionAnswer.{Takes, GivesSection, Answers}
 use Rattle.bk_ocode.specs.declared.standing.Position.TheVariants.{Ended}
 use Rattle.bk_ocode.specs.declared.stmt.Stmt.{Stmt}
 use Rattle.bk_ocode.proofs.Completions.{begins_part, part_goes_on}
-use Rattle.bk_ocode.proofs.FaultLemmas.{placed_more, refused_at, rule_at, filled_at, end_at, words_tally, words_within}
+use Rattle.bk_ocode.proofs.FaultLemmas.{stops_at, placed_more, refused_at, rule_at, filled_at, end_at, words_tally, words_within}
 use Rattle.bk_ocode.proofs.ReadingLemmas.{word_read, all_read, grows, Reads-more, Reads-whole, one_longer, section_here, IsSection-of, AreTyped-of, IsBegun-push, few_more}
 use Rattle.bk_ocode.proofs.reading.next_section.Goals as goal
 
@@ -39,7 +39,7 @@ returns-in-Err-clause-answers g c =
     subst (λ (x : Refused OcodeFault). Answers (Err x) (g.I.ByteIn.left c.args.input.now) (g.I.ByteIn.left c.next_word.new.input) (g.I.ByteIn.ended c.next_word.new.input)) (sym c.refused.ensures.told)
     (refused_at _ _ _ c.next_word.new.taken c.len-in-Err.result c.loop-alloc.draft.stmts.items c.loop-alloc.begun r.0 c.in-Err.unfit v.begun c.len-in-Err.ensures r.2
     (words_within _ c.loop-alloc.draft.stmts.items (part_words c.loop-alloc.begun) c.loop-alloc.words _ v.draft.context v.counted c.is_filled_by.ensures c.if-is_filled_by.false)
-    (begins_part c.loop-alloc.draft.stmts.items c.loop-alloc.begun v.part v.placed) (λ is. let number = c.in-Err.ensures.number is in (number.0, number.1 r.0 r.1))
+    (part_goes_on c.loop-alloc.draft.stmts.items c.loop-alloc.begun v.part v.placed) (λ is. let number = c.in-Err.ensures.number is in (number.0, number.1 r.0 r.1))
     (λ is. let bad = c.in-Err.ensures.bad is in (bad.0, λ s begins. ap (λ (k : Context). misplaced k s) (sym v.draft.context) ∙ bad.1 r.0 r.1 s begins)))
 
 pub returns-in-Some-fault_of-clause-answers : goal.returns-in-Some-fault_of-clause-answers
@@ -146,3 +146,12 @@ loop-alloc-preserved g c =
       over = λ was. let stays = v.over was in search rules;
       again = λ was. let stays = v.again was in search rules;
     }
+
+pub returns-in_default-add-clause-answers : goal.returns-in_default-add-clause-answers
+returns-in_default-add-clause-answers g c =
+    let v = c.loop-alloc.invariant in
+    let comes = rw c.in-Some.is at c.in-Ok.ensures.gives in
+    let r = word_read _ _ _ _ _ c.loop-alloc.taken c.next_word.new.taken _ c.in-Some.word v.read (λ told. let h = (c.in-Ok.ensures.ended_again told).0 in search rules) comes c.in-Ok.ensures.within in
+    stops_at _ _ _ c.next_word.new.taken c.loop-alloc.draft.stmts.items (part_words c.loop-alloc.begun) r.0 v.begun r.2
+    (words_within _ c.loop-alloc.draft.stmts.items (part_words c.loop-alloc.begun) c.loop-alloc.words _ v.draft.context v.counted c.is_filled_by.ensures c.if-is_filled_by.false)
+    (part_goes_on c.loop-alloc.draft.stmts.items c.loop-alloc.begun v.part v.placed)

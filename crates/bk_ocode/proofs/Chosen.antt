@@ -1,0 +1,40 @@
+-- Chosen values, single words of stores, and what holds of each branch of a step.
+use Rattle.std.proofs.Common.{◌≡◌, ◌≢◌, ℕ, ◌<◌, ◌==◌, nat_lt, Bool, true, false, List, Option, Some, None, refl, sym, ◌∙◌, ap, lt-ltb, ne_eqb, eq-eqb, if◌then◌else◌}
+use Rattle.bk_ocode.specs.Cells.{Content, Unset, Partly, Word, Cell, Free, write, below, settle}
+use Rattle.bk_ocode.specs.Access.{number_in}
+use Rattle.bk_ocode.specs.OcodeState.{Next, Wild}
+use Rattle.bk_ocode.specs.OcodeStep.{on_number, on_some}
+
+pub chosen-true : {A : Type 0} → (b : Bool) (x y : A) → b ≡ true → (if b then x else y) ≡ x
+chosen-true true x y is = refl
+chosen-true false x y is = absurd (let h : false ≡ true = is in cc)
+
+pub chosen-false : {A : Type 0} → (b : Bool) (x y : A) → b ≡ false → (if b then x else y) ≡ y
+chosen-false true x y is = absurd (let h : true ≡ false = is in cc)
+chosen-false false x y is = refl
+
+pub below-kept : (top : ℕ) (cells : ℕ → Cell) (place : ℕ) → place < top → below top cells place ≡ cells place
+below-kept top cells place low = chosen-true (nat_lt place top) (cells place) Free (lt-ltb place top low)
+
+pub write-kept : (cells : ℕ → Cell) (at : ℕ) (cell : Cell) (place : ℕ) → (place ≡ at → ⊥) → write cells at cell place ≡ cells place
+write-kept cells at cell place other = chosen-false (place == at) cell (cells place) (ne_eqb place at other)
+
+pub write-there : (cells : ℕ → Cell) (at : ℕ) (cell : Cell) (place : ℕ) → place ≡ at → write cells at cell place ≡ cell
+write-there cells at cell place same = chosen-true (place == at) cell (cells place) (eq-eqb place at same)
+
+pub settle-kept : (from top : ℕ) (cells : ℕ → Cell) (place : ℕ) → place < from → settle from top cells place ≡ cells place
+settle-kept from top cells place low = chosen-true (nat_lt place from) (cells place) _ (lt-ltb place from low)
+
+-- what holds of each branch of a step holds of the step
+pub on_number-holds : (P : Next → Type 0) → P Wild → (content : Content) (go : ℕ → Next) → ((w : ℕ) → number_in content ≡ Some w → P (go w)) → P (on_number content go)
+on_number-holds P wild Unset go f = wild
+on_number-holds P wild (Partly b0 b1 b2 b3) go f = wild
+on_number-holds P wild (Word w) go f = f w refl
+
+pub on_some-holds : {A : Type 0} → (P : Next → Type 0) → P Wild → (found : Option A) (go : A → Next) → ((x : A) → found ≡ Some x → P (go x)) → P (on_some found go)
+on_some-holds P wild None go f = wild
+on_some-holds P wild (Some x) go f = f x refl
+
+pub if-holds : (P : Next → Type 0) (b : Bool) (x y : Next) → (b ≡ true → P x) → (b ≡ false → P y) → P (if b then x else y)
+if-holds P true x y p q = p refl
+if-holds P false x y p q = q refl
