@@ -11,7 +11,7 @@ use Rattle.bk_meaning.specs.Parts.{Meanings}
 use Rattle.bk_meaning.specs.Seeking.{Mode}
 use Rattle.bk_meaning.specs.Program.{turn_for, means_with, no_turn_for, no_turns, means, run_of, first_world, started}
 use Rattle.bk_meaning.specs.Calls.{call}
-use Rattle.bk_meaning.specs.Growing.{History, history, Grows, sizes, Keeps, InItsWorld, After, Restores, Throughout, OutputOnlyGrows, CallsComeBack, MemoryNeverShrinks, WhatLastsLives}
+use Rattle.bk_meaning.specs.Growing.{History, history, sizes, Keeps, InItsWorld, After, Restores, Throughout, OutputOnlyGrows, CallsComeBack, MemoryNeverShrinks, WhatLastsLives}
 use Rattle.bk_meaning.specs.Turns.{with_turns, shown, RunGoesOn, Continues, the_same, further, MoreTurns, ReadsFromTheFront}
 use Rattle.bk_meaning.proofs.Objects.{kept_length, kept_lives, first_lives}
 use Rattle.bk_meaning.proofs.Ties.{stays, Below, gives_more, leaves_more, ends_more, undefined_still, cut, Tied, Ties, ties, gives_tied, cut_tied, going_tied, turn_tied}
@@ -51,7 +51,8 @@ none_tied = record {
   scope = λ cs mode env. ties _ _ (λ w n le. going_tied w n);
 }
 
-self_tied : (p : Program) (k : ℕ) → AllTied (means p k) (means p k)
+-- each part with itself: what of one run grows, and what comes back
+pub self_tied : (p : Program) (k : ℕ) → AllTied (means p k) (means p k)
 self_tied p zero = none_tied
 self_tied p (suc k) = means_with_tied p (means p k) (means p k) (self_tied p k)
 
@@ -104,7 +105,7 @@ more_turns sections input n k le =
     started_continues p (read (first_world p input n).memory (address globals_object 1)) input n k le
 
 -- a call, from any world on
-called_tied : (p : Program) (f : Value) (vs : List Value) (n : ℕ) (w : World) → Tied w (call p (means p n) f vs w) (call p (means p n) f vs w)
+pub called_tied : (p : Program) (f : Value) (vs : List Value) (n : ℕ) (w : World) → Tied w (call p (means p n) f vs w) (call p (means p n) f vs w)
 called_tied p f vs n w = (call_ties (means p n) (means p n) (self_tied p n) p f vs).at w w.turns (omega arith)
 
 started_on : (p : Program) (f : Option Value) (input : List ℕ) (n : ℕ) → RunGoesOn (shown [] input 0) (started p f (first_world p input n) n)

@@ -11,7 +11,7 @@ use Rattle.bk_syntax.specs.Tree.{Mention, Expression, Expressions, Action, Actio
 use Rattle.bk_scope.specs.Constants.{divides_by_zero}
 use Rattle.bk_meaning.specs.Values.{Routine, stop, rdch, wrch, newline, writes, writen, writed, getbyte, putbyte, writef, Value, number, address, procedure, routine, unset, holds}
 use Rattle.bk_meaning.specs.Memory.{read}
-use Rattle.bk_meaning.specs.World.{World, status, Exit, break, loop, endcase, goto, result, return, Outcome, gives, Done, done, turn, making, calling, calls_back, writing}
+use Rattle.bk_meaning.specs.World.{World, status, Exit, break, loop, endcase, goto, result, return, Outcome, gives, Done, done, turn, making, calling, writing}
 use Rattle.bk_meaning.specs.Operators.{sum, truth_of_value, on_numbers, operate, operate_prefix}
 use Rattle.bk_meaning.specs.Environment.{Environment, Sense, constant, cell, label, foreign, sense_of, bind, behind, past, past_each, past_action, past_definition, constant_in, labelled, within_let, objects_of_definitions}
 use Rattle.bk_meaning.specs.Lasting.{Body, command, expression, Procedure, Program, procedure_of}
@@ -27,8 +27,8 @@ use Rattle.bk_meaning.specs.Loops
 use Rattle.bk_meaning.specs.Blocks
 use Rattle.bk_meaning.specs.Commands
 use Rattle.bk_meaning.specs.Turns.{with_turns}
-use Rattle.bk_meaning.proofs.Ties.{gives_more, Tied, Ties, ties, from, each_way_tied, with_tied, gives_tied, leaves_tied, ends_tied, undefined_tied, given_tied, either_tied, turn_tied, closing_tied, changes_tied, writing_on, taking_on, making_tied, call_tied, at_home}
-use Rattle.bk_meaning.proofs.Objects.{sizes-made, write_keeps, write_byte_keeps}
+use Rattle.bk_meaning.proofs.Ties.{gives_more, Tied, Ties, ties, each_way_tied, with_tied, gives_tied, leaves_tied, ends_tied, undefined_tied, given_tied, either_tied, turn_tied, closing_tied, changes_tied, writing_on, taking_on, making_tied, call_tied, at_home}
+use Rattle.bk_meaning.proofs.Objects.{write_keeps, write_byte_keeps}
 
 -- the parts of the meaning, with fewer turns and with more
 pub record AllTied (m l : Meanings) : Type 0 where
@@ -40,20 +40,20 @@ pub record AllTied (m l : Meanings) : Type 0 where
   pub for_rounds : (c : Action) (object : ℕ) (limit : Value) (step : ℕ) (env : Environment) → Ties (m.for_rounds c object limit step env) (l.for_rounds c object limit step env)
   pub scope : (cs : Actions) (mode : Mode) (env : Environment) → Ties (m.scope cs mode env) (l.scope cs mode env)
 
-fetch_ties : (a : Value) → Ties (Parts.fetch a) (Parts.fetch a)
+pub fetch_ties : (a : Value) → Ties (Parts.fetch a) (Parts.fetch a)
 fetch_ties a = ties _ _ (λ w n le. given_tied (read w.memory a) w n le)
 
-done_ties : Ties done done
+pub done_ties : Ties done done
 done_ties = ties _ _ (λ w n le. gives_tied tt w n le)
 
-named_ties : (s : Option Sense) → Ties (Parts.named s) (Parts.named s)
+pub named_ties : (s : Option Sense) → Ties (Parts.named s) (Parts.named s)
 named_ties None = ties _ _ (λ w n le. undefined_tied w)
 named_ties (Some (constant x)) = ties _ _ (λ w n le. gives_tied (number x) w n le)
 named_ties (Some (cell a i)) = fetch_ties (address a i)
 named_ties (Some label) = ties _ _ (λ w n le. undefined_tied w)
 named_ties (Some foreign) = ties _ _ (λ w n le. undefined_tied w)
 
-address_named_ties : (s : Option Sense) → Ties (Parts.address_named s) (Parts.address_named s)
+pub address_named_ties : (s : Option Sense) → Ties (Parts.address_named s) (Parts.address_named s)
 address_named_ties None = ties _ _ (λ w n le. undefined_tied w)
 address_named_ties (Some (constant x)) = ties _ _ (λ w n le. undefined_tied w)
 address_named_ties (Some (cell a i)) = ties _ _ (λ w n le. gives_tied (at (address a i)) w n le)
@@ -61,13 +61,13 @@ address_named_ties (Some label) = ties _ _ (λ w n le. undefined_tied w)
 address_named_ties (Some foreign) = ties _ _ (λ w n le. undefined_tied w)
 
 -- operators
-on_numbers_ties : (q : Operator) (x y : Value) → Ties (on_numbers q x y) (on_numbers q x y)
+pub on_numbers_ties : (q : Operator) (x y : Value) → Ties (on_numbers q x y) (on_numbers q x y)
 on_numbers_ties q (number x) (number y) = ties _ _ (λ w n le.
     either_tied (divides_by_zero q (Some x) (Some y)) _ _ _ _ (ties _ _ (λ w n le. ends_tied _ w n le)) (ties _ _ (λ w n le. given_tied _ w n le)) w n le)
 on_numbers_ties q (number x) _ = ties _ _ (λ w n le. undefined_tied w)
 on_numbers_ties q _ y = ties _ _ (λ w n le. undefined_tied w)
 
-operate_ties : (q : Operator) (x y : Value) → Ties (operate q x y) (operate q x y)
+pub operate_ties : (q : Operator) (x y : Value) → Ties (operate q x y) (operate q x y)
 operate_ties o.Add x y = ties _ _ (λ w n le. given_tied _ w n le)
 operate_ties o.Subtract x y = ties _ _ (λ w n le. given_tied _ w n le)
 operate_ties o.Equal x y = ties _ _ (λ w n le. given_tied _ w n le)
@@ -78,27 +78,27 @@ operate_ties o.AtMost x y = ties _ _ (λ w n le. given_tied _ w n le)
 operate_ties o.AtLeast x y = ties _ _ (λ w n le. given_tied _ w n le)
 operate_ties q x y = on_numbers_ties q x y
 
-combined_ties : (q : Operator) (x y : Value) → Ties (Expressions.combined q x y) (Expressions.combined q x y)
+pub combined_ties : (q : Operator) (x y : Value) → Ties (Expressions.combined q x y) (Expressions.combined q x y)
 combined_ties o.Subscript x y = ties _ _ (λ w n le. with_tied w _ _ _ _ (given_tied (sum w.memory x y) w n le) fetch_ties)
 combined_ties o.Byte x y = ties _ _ (λ w n le. given_tied _ w n le)
 combined_ties q x y = operate_ties q x y
 
-operate_prefix_ties : (q : Prefix) (x : Value) → Ties (operate_prefix q x) (operate_prefix q x)
+pub operate_prefix_ties : (q : Prefix) (x : Value) → Ties (operate_prefix q x) (operate_prefix q x)
 operate_prefix_ties q (number x) = ties _ _ (λ w n le. given_tied _ w n le)
 operate_prefix_ties q _ = ties _ _ (λ w n le. undefined_tied w)
 
-judged_ties : (v : Value) → Ties (Expressions.judged v) (Expressions.judged v)
+pub judged_ties : (v : Value) → Ties (Expressions.judged v) (Expressions.judged v)
 judged_ties v = ties _ _ (λ w n le. given_tied (truth_of_value w.memory v) w n le)
 
 -- the library
-writes_text_tied : (text : Option (List ℕ)) (w : World) (n : ℕ) → w.turns ≤ n → Tied w (writes_text text w) (writes_text text (with_turns n w))
+pub writes_text_tied : (text : Option (List ℕ)) (w : World) (n : ℕ) → w.turns ≤ n → Tied w (writes_text text w) (writes_text text (with_turns n w))
 writes_text_tied None w n le = undefined_tied w
 writes_text_tied (Some text) w n le = record { below = gives_more unset (writing text w) n le; on = writing_on text w; kept = at_home w }
 
-writing_tied : (bytes : List ℕ) (w : World) (n : ℕ) → w.turns ≤ n → Tied {A = Value} w (gives unset (writing bytes w)) (gives unset (writing bytes (with_turns n w)))
+pub writing_tied : (bytes : List ℕ) (w : World) (n : ℕ) → w.turns ≤ n → Tied {A = Value} w (gives unset (writing bytes w)) (gives unset (writing bytes (with_turns n w)))
 writing_tied bytes w n le = record { below = gives_more unset (writing bytes w) n le; on = writing_on bytes w; kept = at_home w }
 
-takes_byte_tied : (bytes : List ℕ) (w : World) (n : ℕ) → w.input ≡ bytes → w.turns ≤ n → Tied w (takes_byte bytes w) (takes_byte bytes (with_turns n w))
+pub takes_byte_tied : (bytes : List ℕ) (w : World) (n : ℕ) → w.input ≡ bytes → w.turns ≤ n → Tied w (takes_byte bytes w) (takes_byte bytes (with_turns n w))
 takes_byte_tied [] w n is le = gives_tied _ w n le
 takes_byte_tied (b ∷ rest) w n is le = record {
   below = gives_more (number b) (record w { input = rest }) n le;
@@ -106,7 +106,7 @@ takes_byte_tied (b ∷ rest) w n is le = record {
   kept = at_home w;
 }
 
-library_ties : (r : Routine) (vs : List Value) → Ties (library r vs) (library r vs)
+pub library_ties : (r : Routine) (vs : List Value) → Ties (library r vs) (library r vs)
 library_ties stop (number x ∷ vs) = ties _ _ (λ w n le. ends_tied (status x) w n le)
 library_ties rdch vs = ties _ _ (λ w n le. takes_byte_tied w.input w n refl le)
 library_ties wrch (number x ∷ vs) = ties _ _ (λ w n le. writing_tied _ w n le)
@@ -120,13 +120,13 @@ library_ties writef (s ∷ vs) = ties _ _ (λ w n le. writes_text_tied _ w n le)
 library_ties _ _ = ties _ _ (λ w n le. undefined_tied w)
 
 module _ (m l : Meanings) (g : AllTied m l) where
-  values_ties : (es : Expressions) (env : Environment) → Ties (Calls.values m es env) (Calls.values l es env)
+  pub values_ties : (es : Expressions) (env : Environment) → Ties (Calls.values m es env) (Calls.values l es env)
   values_ties t.none env = ties _ _ (λ w n le. gives_tied [] w n le)
   values_ties (t.more e es) env = ties _ _ (λ w n le.
       with_tied w _ _ _ _ ((g.value e env).at w n le) (λ v. ties _ _ (λ w n le.
       with_tied w _ _ _ _ ((values_ties es (past e env)).at w n le) (λ vs. ties _ _ (λ w n le. gives_tied _ w n le)))))
 
-  in_order_ties : (cs : Actions) (mode : Mode) (env : Environment) → Ties (Scopes.in_order m cs mode env) (Scopes.in_order l cs mode env)
+  pub in_order_ties : (cs : Actions) (mode : Mode) (env : Environment) → Ties (Scopes.in_order m cs mode env) (Scopes.in_order l cs mode env)
   in_order_ties t.no_actions mode env = done_ties
   in_order_ties (t.also c cs) forwards env = ties _ _ (λ w n le. with_tied w _ _ _ _ ((g.act c forwards env).at w n le) (λ _. in_order_ties cs forwards (past_action c env)))
   in_order_ties (t.also c cs) (seeking s) env = ties _ _ (λ w n le.
@@ -134,7 +134,7 @@ module _ (m l : Meanings) (g : AllTied m l) where
       (ties _ _ (λ w n le. with_tied w _ _ _ _ ((g.act c (seeking s) env).at w n le) (λ _. in_order_ties cs forwards (past_action c env))))
       (in_order_ties cs (seeking s) (past_action c env)) w n le)
 
-  landing_ties : (cs : Actions) (env : Environment) (go to : List ℕ → World → Outcome Done) → ((x : List ℕ) → Ties (go x) (to x)) → (x : Exit) → Ties (Scopes.landing cs env go x) (Scopes.landing cs env to x)
+  pub landing_ties : (cs : Actions) (env : Environment) (go to : List ℕ → World → Outcome Done) → ((x : List ℕ) → Ties (go x) (to x)) → (x : Exit) → Ties (Scopes.landing cs env go x) (Scopes.landing cs env to x)
   landing_ties cs env go to h (goto x) = ties _ _ (λ w n le.
       either_tied (stands_in_one (the_label x) env cs) _ _ _ _ (h x) (ties _ _ (λ w n le. leaves_tied (goto x) w n le)) w n le)
   landing_ties cs env go to h x = ties _ _ (λ w n le. leaves_tied x w n le)
@@ -144,27 +144,27 @@ module _ (m l : Meanings) (g : AllTied m l) where
       each_way_tied w _ _ _ _ _ _ ((in_order_ties cs mode (labelled cs env)).at w n le) (λ _. done_ties)
       (landing_ties cs env _ _ (λ x. g.scope cs (seeking (the_label x)) env)))
 
-  result_ties : (x : Exit) → Ties (Expressions.result_exit x) (Expressions.result_exit x)
+  pub result_ties : (x : Exit) → Ties (Expressions.result_exit x) (Expressions.result_exit x)
   result_ties (result v) = ties _ _ (λ w n le. gives_tied v w n le)
   result_ties x = ties _ _ (λ w n le. leaves_tied x w n le)
 
-  return_ties : (x : Exit) → Ties (Calls.return_exit x) (Calls.return_exit x)
+  pub return_ties : (x : Exit) → Ties (Calls.return_exit x) (Calls.return_exit x)
   return_ties return = ties _ _ (λ w n le. gives_tied unset w n le)
   return_ties x = ties _ _ (λ w n le. leaves_tied x w n le)
 
-  unset_ties : Done → Ties (λ w. gives unset w) (λ w. gives unset w)
+  pub unset_ties : Done → Ties (λ w. gives unset w) (λ w. gives unset w)
   unset_ties _ = ties _ _ (λ w n le. gives_tied unset w n le)
 
-  body_ties : (b : Body) (env : Environment) → Ties (Calls.run_body m b env) (Calls.run_body l b env)
+  pub body_ties : (b : Body) (env : Environment) → Ties (Calls.run_body m b env) (Calls.run_body l b env)
   body_ties (command c) env = ties _ _ (λ w n le. each_way_tied w _ _ _ _ _ _ ((scope_ties (Scopes.alone c) forwards env).at w n le) unset_ties return_ties)
   body_ties (expression e) env = g.value e env
 
-  enter_ties : (f : Option Procedure) (vs : List Value) → Ties (Calls.enter m f vs) (Calls.enter l f vs)
+  pub enter_ties : (f : Option Procedure) (vs : List Value) → Ties (Calls.enter m f vs) (Calls.enter l f vs)
   enter_ties None vs = ties _ _ (λ w n le. undefined_tied w)
   enter_ties (Some f) vs = ties _ _ (λ w n le.
       closing_tied w _ _ (making_tied (Calls.formal_cells f.formals vs) w _ _ ((body_ties f.body (Calls.bind_formals (length w.memory) 0 f.formals f.env)).at (making (Calls.formal_cells f.formals vs) w) n le)))
 
-  called_ties : (p : Program) (f : Value) (vs : List Value) → Ties (Calls.called p m f vs) (Calls.called p l f vs)
+  pub called_ties : (p : Program) (f : Value) (vs : List Value) → Ties (Calls.called p m f vs) (Calls.called p l f vs)
   called_ties p (procedure i) vs = enter_ties (procedure_of p i) vs
   called_ties p (routine r) vs = library_ties r vs
   called_ties p _ vs = ties _ _ (λ w n le. undefined_tied w)
@@ -172,12 +172,12 @@ module _ (m l : Meanings) (g : AllTied m l) where
   pub call_ties : (p : Program) (f : Value) (vs : List Value) → Ties (Calls.call p m f vs) (Calls.call p l f vs)
   call_ties p f vs = ties _ _ (λ w n le. call_tied w _ _ ((called_ties p f vs).at (calling w) n le))
 
-  applied_ties : (p : Program) (f : Expression) (es : Expressions) (env : Environment) → Ties (Calls.applied p m f es env) (Calls.applied p l f es env)
+  pub applied_ties : (p : Program) (f : Expression) (es : Expressions) (env : Environment) → Ties (Calls.applied p m f es env) (Calls.applied p l f es env)
   applied_ties p f es env = ties _ _ (λ w n le.
       with_tied w _ _ _ _ ((values_ties es (past f env)).at w n le) (λ vs. ties _ _ (λ w n le.
       with_tied w _ _ _ _ ((g.value f env).at w n le) (λ v. call_ties p v vs))))
 
-  address_in_ties : (a : Target) → Ties (Expressions.address_in a) (Expressions.address_in a)
+  pub address_in_ties : (a : Target) → Ties (Expressions.address_in a) (Expressions.address_in a)
   address_in_ties (at a) = ties _ _ (λ w n le. gives_tied a w n le)
   address_in_ties (byte_at a i) = ties _ _ (λ w n le. undefined_tied w)
 
@@ -225,11 +225,11 @@ module _ (m l : Meanings) (g : AllTied m l) where
       with_tied w _ _ _ _ ((g.value b (past a env)).at w n le) (λ y. ties _ _ (λ w n le. gives_tied (byte_at x y) w n le)))))
   target_of_ties e env = ties _ _ (λ w n le. undefined_tied w)
 
-  store_ties : (a : Target) (v : Value) → Ties (Parts.store a v) (Parts.store a v)
+  pub store_ties : (a : Target) (v : Value) → Ties (Parts.store a v) (Parts.store a v)
   store_ties (at a) v = ties _ _ (λ w n le. changes_tied _ w n le (write_keeps w.memory a v))
   store_ties (byte_at a i) v = ties _ _ (λ w n le. changes_tied _ w n le (write_byte_keeps w.memory a i v))
 
-  assigned_ties : (xs : Expressions) (there : Environment) (es : Expressions) (env : Environment) → Ties (Commands.assigned m xs there es env) (Commands.assigned l xs there es env)
+  pub assigned_ties : (xs : Expressions) (there : Environment) (es : Expressions) (env : Environment) → Ties (Commands.assigned m xs there es env) (Commands.assigned l xs there es env)
   assigned_ties t.none there es env = done_ties
   assigned_ties (t.more x xs) there t.none env = done_ties
   assigned_ties (t.more x xs) there (t.more e es) env = ties _ _ (λ w n le.
@@ -237,19 +237,19 @@ module _ (m l : Meanings) (g : AllTied m l) where
       with_tied w _ _ _ _ ((g.target x there).at w n le) (λ a. ties _ _ (λ w n le.
       with_tied w _ _ _ _ ((store_ties a v).at w n le) (λ _. assigned_ties xs (past x there) es (past e env)))))))
 
-  round_exit_ties : (go to : World → Outcome Done) → Ties go to → (x : Exit) → Ties (Loops.round_exit go x) (Loops.round_exit to x)
+  pub round_exit_ties : (go to : World → Outcome Done) → Ties go to → (x : Exit) → Ties (Loops.round_exit go x) (Loops.round_exit to x)
   round_exit_ties go to h loop = h
   round_exit_ties go to h break = done_ties
   round_exit_ties go to h x = ties _ _ (λ w n le. leaves_tied x w n le)
 
-  again_tied : (w : World) (u v : Outcome Done) (go to : World → Outcome Done) → Tied w u v → Ties go to → Tied w (Loops.again u go) (Loops.again v to)
+  pub again_tied : (w : World) (u v : Outcome Done) (go to : World → Outcome Done) → Tied w u v → Ties go to → Tied w (Loops.again u go) (Loops.again v to)
   again_tied w u v go to t h = each_way_tied w u v _ _ _ _ t (λ _. h) (round_exit_ties go to h)
 
-  where_truth_ties : (b : Bool) (e : Expression) (env : Environment) (go to : World → Outcome Done) → Ties go to → Ties (Loops.where_truth m b e env go) (Loops.where_truth l b e env to)
+  pub where_truth_ties : (b : Bool) (e : Expression) (env : Environment) (go to : World → Outcome Done) → Ties go to → Ties (Loops.where_truth m b e env go) (Loops.where_truth l b e env to)
   where_truth_ties b e env go to h = ties _ _ (λ w n le.
       with_tied w _ _ _ _ ((g.truth e env).at w n le) (λ x. ties _ _ (λ w n le. either_tied (Loops.same_truth b x) _ _ _ _ h done_ties w n le)))
 
-  turn_ties : (go to : World → Outcome Done) → Ties go to → Ties (λ w. turn w go) (λ w. turn w to)
+  pub turn_ties : (go to : World → Outcome Done) → Ties go to → Ties (λ w. turn w go) (λ w. turn w to)
   turn_ties go to h = ties _ _ (λ w n le. turn_tied go to h w n le)
 
   pub rounds_of_ties : (c : Action) (mode : Mode) (env : Environment) → Ties (Loops.rounds_of m c mode env) (Loops.rounds_of l c mode env)
@@ -261,13 +261,13 @@ module _ (m l : Meanings) (g : AllTied m l) where
       again_tied w _ _ _ _ ((g.act c mode env).at w n le) (where_truth_ties b e (past_action c env) _ _ (turn_ties _ _ (g.rounds (t.repeat_while i b c e) forwards env))))
   rounds_of_ties c mode env = done_ties
 
-  for_test_ties : (object : ℕ) (limit : Value) (step : ℕ) (go to : World → Outcome Done) → Ties go to → Ties (Loops.for_test object limit step go) (Loops.for_test object limit step to)
+  pub for_test_ties : (object : ℕ) (limit : Value) (step : ℕ) (go to : World → Outcome Done) → Ties go to → Ties (Loops.for_test object limit step go) (Loops.for_test object limit step to)
   for_test_ties object limit step go to h = ties _ _ (λ w n le.
       with_tied w _ _ _ _ ((fetch_ties (address object 0)).at w n le) (λ v. ties _ _ (λ w n le.
       with_tied w _ _ _ _ ((operate_ties (Loops.relation step) v limit).at w n le) (λ v. ties _ _ (λ w n le.
       with_tied w _ _ _ _ ((judged_ties v).at w n le) (λ b. ties _ _ (λ w n le. either_tied b _ _ _ _ h done_ties w n le)))))))
 
-  for_step_ties : (object : ℕ) (step : ℕ) → Ties (Loops.for_step object step) (Loops.for_step object step)
+  pub for_step_ties : (object : ℕ) (step : ℕ) → Ties (Loops.for_step object step) (Loops.for_step object step)
   for_step_ties object step = ties _ _ (λ w n le.
       with_tied w _ _ _ _ ((fetch_ties (address object 0)).at w n le) (λ v. ties _ _ (λ w n le.
       with_tied w _ _ _ _ ((operate_ties o.Add v (number step)).at w n le) (λ v. store_ties (at (address object 0)) v))))
@@ -277,29 +277,29 @@ module _ (m l : Meanings) (g : AllTied m l) where
       again_tied w _ _ _ _ ((scope_ties (Scopes.alone c) forwards env).at w n le) (ties _ _ (λ w n le.
       with_tied w _ _ _ _ ((for_step_ties object step).at w n le) (λ _. for_test_ties object limit step _ _ (turn_ties _ _ (g.for_rounds c object limit step env))))))
 
-  for_loop_ties : (x : List ℕ) (c : Action) (start limit : Value) (step : ℕ) (env : Environment) → Ties (Loops.for_loop m x c start limit step env) (Loops.for_loop l x c start limit step env)
+  pub for_loop_ties : (x : List ℕ) (c : Action) (start limit : Value) (step : ℕ) (env : Environment) → Ties (Loops.for_loop m x c start limit step env) (Loops.for_loop l x c start limit step env)
   for_loop_ties x c start limit step env = ties _ _ (λ w n le.
       closing_tied w _ _ (making_tied (holds start ∷ []) w _ _
       ((for_test_ties (length w.memory) limit step _ _ (for_rounds_of_ties c (length w.memory) limit step (bind x (cell (length w.memory) 0) env))).at (making (holds start ∷ []) w) n le)))
 
-  case_exit_ties : (x : Exit) → Ties (Commands.case_exit x) (Commands.case_exit x)
+  pub case_exit_ties : (x : Exit) → Ties (Commands.case_exit x) (Commands.case_exit x)
   case_exit_ties endcase = done_ties
   case_exit_ties x = ties _ _ (λ w n le. leaves_tied x w n le)
 
-  ended_case_ties : (c : Action) (mode : Mode) (env : Environment) → Ties (λ w. Commands.ended_case (m.act c mode env w)) (λ w. Commands.ended_case (l.act c mode env w))
+  pub ended_case_ties : (c : Action) (mode : Mode) (env : Environment) → Ties (λ w. Commands.ended_case (m.act c mode env w)) (λ w. Commands.ended_case (l.act c mode env w))
   ended_case_ties c mode env = ties _ _ (λ w n le. each_way_tied w _ _ _ _ _ _ ((g.act c mode env).at w n le) (λ _. done_ties) case_exit_ties)
 
-  choose_case_ties : (v : Value) (c : Action) (env : Environment) → Ties (Commands.choose_case m v c env) (Commands.choose_case l v c env)
+  pub choose_case_ties : (v : Value) (c : Action) (env : Environment) → Ties (Commands.choose_case m v c env) (Commands.choose_case l v c env)
   choose_case_ties (number i) c env = ties _ _ (λ w n le.
       either_tied (stands_in (the_case (Some i)) env c) _ _ _ _ (ended_case_ties c (seeking (the_case (Some i))) env)
       (ties _ _ (λ w n le. either_tied (stands_in the_default env c) _ _ _ _ (ended_case_ties c (seeking the_default) env) done_ties w n le)) w n le)
   choose_case_ties v c env = ties _ _ (λ w n le. undefined_tied w)
 
-  make_vec_ties : (k : Option ℕ) → Ties (Blocks.make_vec k) (Blocks.make_vec k)
+  pub make_vec_ties : (k : Option ℕ) → Ties (Blocks.make_vec k) (Blocks.make_vec k)
   make_vec_ties None = ties _ _ (λ w n le. undefined_tied w)
   make_vec_ties (Some k) = ties _ _ (λ w i le. making_tied (Blocks.vec_cells k) w _ _ (gives_tied _ (making (Blocks.vec_cells k) w) i le))
 
-  starts_ties : (is : Starts) (env : Environment) → Ties (Blocks.starts m is env) (Blocks.starts l is env)
+  pub starts_ties : (is : Starts) (env : Environment) → Ties (Blocks.starts m is env) (Blocks.starts l is env)
   starts_ties t.no_starts env = ties _ _ (λ w n le. gives_tied [] w n le)
   starts_ties (t.value e is) env = ties _ _ (λ w n le.
       with_tied w _ _ _ _ ((g.value e env).at w n le) (λ v. ties _ _ (λ w n le.
@@ -308,28 +308,28 @@ module _ (m l : Meanings) (g : AllTied m l) where
       with_tied w _ _ _ _ (turn_tied _ _ (make_vec_ties (constant_in env e)) w n le) (λ v. ties _ _ (λ w n le.
       with_tied w _ _ _ _ ((starts_ties is env).at w n le) (λ vs. ties _ _ (λ w n le. gives_tied _ w n le)))))
 
-  let_values_ties : (ds : Definitions) (env : Environment) → Ties (Blocks.let_values m ds env) (Blocks.let_values l ds env)
+  pub let_values_ties : (ds : Definitions) (env : Environment) → Ties (Blocks.let_values m ds env) (Blocks.let_values l ds env)
   let_values_ties t.no_definitions env = ties _ _ (λ w n le. gives_tied [] w n le)
   let_values_ties (t.define (t.variables i xs is) ds) env = ties _ _ (λ w n le.
       with_tied w _ _ _ _ (turn_tied _ _ (starts_ties is env) w n le) (λ vs. ties _ _ (λ w n le.
       with_tied w _ _ _ _ ((let_values_ties ds (past_definition (t.variables i xs is) env)).at w n le) (λ more. ties _ _ (λ w n le. gives_tied _ w n le)))))
   let_values_ties (t.define x ds) env = let_values_ties ds (past_definition x env)
 
-  bind_variables_ties : (ss : List Start) (env : Environment) → Ties (Blocks.bind_variables ss env) (Blocks.bind_variables ss env)
+  pub bind_variables_ties : (ss : List Start) (env : Environment) → Ties (Blocks.bind_variables ss env) (Blocks.bind_variables ss env)
   bind_variables_ties [] env = ties _ _ (λ w n le. gives_tied env w n le)
   bind_variables_ties (s ∷ ss) env = ties _ _ (λ w n le.
       making_tied (holds s.value ∷ []) w _ _ ((bind_variables_ties ss (bind s.name (cell (length w.memory) 0) env)).at (making (holds s.value ∷ []) w) n le))
 
-  declare_ties : (x : Declaration) (env : Environment) → Ties (Blocks.declare m x env) (Blocks.declare l x env)
+  pub declare_ties : (x : Declaration) (env : Environment) → Ties (Blocks.declare m x env) (Blocks.declare l x env)
   declare_ties (t.constants i s is) env = ties _ _ (λ w n le. gives_tied _ w n le)
   declare_ties (t.definitions i ds) env = ties _ _ (λ w n le.
       with_tied w _ _ _ _ ((let_values_ties ds (within_let ds env)).at w n le) (λ ss. bind_variables_ties ss (behind (objects_of_definitions ds) (within_let ds env))))
 
-  declare_all_ties : (ds : Declarations) (env : Environment) → Ties (Blocks.declare_all m ds env) (Blocks.declare_all l ds env)
+  pub declare_all_ties : (ds : Declarations) (env : Environment) → Ties (Blocks.declare_all m ds env) (Blocks.declare_all l ds env)
   declare_all_ties t.no_declarations env = ties _ _ (λ w n le. gives_tied env w n le)
   declare_all_ties (t.declare x ds) env = ties _ _ (λ w n le. with_tied w _ _ _ _ ((declare_ties x env).at w n le) (λ env. declare_all_ties ds env))
 
-  simple_exit_ties : (s : Simple) → Ties (Commands.simple_exit s) (Commands.simple_exit s)
+  pub simple_exit_ties : (s : Simple) → Ties (Commands.simple_exit s) (Commands.simple_exit s)
   simple_exit_ties k.Break = ties _ _ (λ w n le. leaves_tied break w n le)
   simple_exit_ties k.Loop = ties _ _ (λ w n le. leaves_tied loop w n le)
   simple_exit_ties k.EndCase = ties _ _ (λ w n le. leaves_tied endcase w n le)

@@ -1,10 +1,10 @@
 -- Objects of memory: their sizes and lives, when one is made, changed or dies.
-use Rattle.std.proofs.Common.{◌≡◌, ℕ, zero, suc, ◌<◌, ◌≤◌, Bool, true, false, cond, List, [], ◌∷◌, ◌++◌, length, map, Option, Some, None, refl, sym, ap, subst, ◌∙◌, append_assoc, arith}
+use Rattle.std.proofs.Common.{◌≡◌, ℕ, zero, suc, ◌<◌, ◌≤◌, Bool, true, false, cond, List, [], ◌∷◌, ◌++◌, length, Option, Some, None, refl, sym, ap, subst, ◌∙◌, append_assoc, arith}
 use Rattle.std.specs.Prelude.{IsTrue, ◌%◌, is_some, option_and_then, slice_get, slice_set}
 use Rattle.bk_base.specs.Word.{byte_place}
 use Rattle.std.proofs.lemmas.List.{append-nil, map-append, length-append, length-map, length-set}
 use Rattle.bk_meaning.specs.Values.{Value, number, address, procedure, routine, unset, Cell, holds, with_byte}
-use Rattle.bk_meaning.specs.Memory.{Memory, Object, living, dead, cells_of, cells_at, cell_at, replaced, with_cell, write, write_byte, cell_of_byte, lives, made, dead_from}
+use Rattle.bk_meaning.specs.Memory.{Memory, living, dead, cells_of, cells_at, cell_at, replaced, with_cell, write, write_byte, cell_of_byte, lives, made, dead_from}
 use Rattle.bk_meaning.specs.Lasting.{Program, Lasting, global_vector, words, code, objects_from, first_memory}
 use Rattle.bk_meaning.specs.Growing.{size_of, sizes, Keeps}
 

@@ -1,14 +1,14 @@
 -- What lasts stands at its number.
 use Rattle.std.proofs.Common.{◌≡◌, ℕ, zero, suc, ◌+◌, List, [], ◌∷◌, ◌++◌, length, Some, refl, sym, ap, ◌∙◌, append_assoc, arith}
 use Rattle.std.proofs.lemmas.List.{append-nil, length-append}
-use Rattle.std.specs.Prelude.{unwrap_or, slice_get}
+use Rattle.std.specs.Prelude.{slice_get}
 use Rattle.bk_syntax.specs.declared.tree.Sort.{Sort}
 use Rattle.bk_syntax.specs.declared.tree.Sort.TheVariants as s
 use Rattle.bk_syntax.specs.Tree as t
 use Rattle.bk_syntax.specs.Tree.{Expression, Expressions, Action, Actions, Declaration, Declarations, Items, Definition, Definitions, Starts}
 use Rattle.bk_scope.specs.Entering.{labels_of_each}
-use Rattle.bk_meaning.specs.Environment.{Sense, cell, label, foreign, Environment, bind, bind_each, behind, count, letters, manifests, statics, globals, sense_of_constant, sense_of_global, past, past_each, past_action, past_definition, constant_in, labelled, within_let, objects, objects_of_each, objects_of_action, objects_of_declaration, objects_of_declarations, objects_of_definition, objects_of_definitions}
-use Rattle.bk_meaning.specs.Lasting.{Lasting, global_vector, words, command, expression, constant_words, static_words, of_items, variables_hidden, declared, all_declared, procedure_here, inside, in_scope, in_for, of_expression, of_each, of_action, of_actions, of_declaration, of_declarations, of_definition, of_definitions, of_starts, of_sections, Program, program_of}
+use Rattle.bk_meaning.specs.Environment.{Sense, cell, label, foreign, Environment, bind, bind_each, behind, count, letters, manifests, statics, globals, sense_of_constant, sense_of_global, past, past_each, past_action, past_definition, constant_in, labelled, within_let, objects_of_declaration, objects_of_declarations, objects_of_definitions}
+use Rattle.bk_meaning.specs.Lasting.{Lasting, global_vector, static_words, of_items, variables_hidden, declared, all_declared, inside, in_scope, in_for, of_expression, of_each, of_action, of_actions, of_declaration, of_declarations, of_definition, of_definitions, of_starts, of_sections, Program, program_of}
 use Rattle.bk_meaning.specs.Numbering.{StandsAt, InStatics, InItems, InExpression, InEach, InAction, InActions, InDeclaration, InDeclarations, InDefinition, InDefinitions, InStarts, InSections, WhatLastsStandsAtItsNumber}
 use Rattle.bk_meaning.proofs.Numbers.{expression_counted, each_counted, action_counted, declaration_counted, declarations_counted, definition_counted}
 
@@ -124,10 +124,11 @@ mutual
   in_expression p env (t.unary l q e) h = in_expression p env e h
   in_expression p env (t.binary l q m a b) h =
       (in_expression p env a (left p env.next (of_expression env a) _ h), in_expression p (past a env) b (second p env.next _ (of_expression env a) _ (expression_counted env a) h))
-  in_expression p env (t.choice l m c a b) h =
-      (in_expression p env c (foremost p env.next (of_expression env c) (of_expression (past c env) a) _ h),
-      in_expression p (past c env) a (middle p env.next _ (of_expression env c) (of_expression (past c env) a) _ (expression_counted env c) h),
-      in_expression p (past a (past c env)) b (third p env.next _ _ (of_expression env c) (of_expression (past c env) a) _ (expression_counted env c) (expression_counted (past c env) a) h))
+  in_expression p env (t.choice l m c a b) h = (
+    in_expression p env c (foremost p env.next (of_expression env c) (of_expression (past c env) a) _ h),
+    in_expression p (past c env) a (middle p env.next _ (of_expression env c) (of_expression (past c env) a) _ (expression_counted env c) h),
+    in_expression p (past a (past c env)) b (third p env.next _ _ (of_expression env c) (of_expression (past c env) a) _ (expression_counted env c) (expression_counted (past c env) a) h),
+  )
   in_expression p env (t.apply l m f es) h =
       (in_expression p env f (left p env.next (of_expression env f) _ h), in_each p (past f env) es (second p env.next _ (of_expression env f) _ (expression_counted env f) h))
   in_expression p env (t.valof l c) h = in_action p (in_scope c env) c (moved p env.next _ _ (in_scope-next c env) h)
@@ -152,25 +153,28 @@ mutual
   in_action p env (t.default l c) h = in_action p env c h
   in_action p env (t.when l b e c) h =
       (in_expression p env e (left p env.next (of_expression env e) _ h), in_action p (past e env) c (second p env.next _ (of_expression env e) _ (expression_counted env e) h))
-  in_action p env (t.test l e a b) h =
-      (in_expression p env e (foremost p env.next (of_expression env e) (of_action (past e env) a) _ h),
-      in_action p (past e env) a (middle p env.next _ (of_expression env e) (of_action (past e env) a) _ (expression_counted env e) h),
-      in_action p (past_action a (past e env)) b (third p env.next _ _ (of_expression env e) (of_action (past e env) a) _ (expression_counted env e) (action_counted (past e env) a) h))
+  in_action p env (t.test l e a b) h = (
+    in_expression p env e (foremost p env.next (of_expression env e) (of_action (past e env) a) _ h),
+    in_action p (past e env) a (middle p env.next _ (of_expression env e) (of_action (past e env) a) _ (expression_counted env e) h),
+    in_action p (past_action a (past e env)) b (third p env.next _ _ (of_expression env e) (of_action (past e env) a) _ (expression_counted env e) (action_counted (past e env) a) h),
+  )
   in_action p env (t.while l b e c) h =
       (in_expression p env e (left p env.next (of_expression env e) _ h), in_action p (past e env) c (second p env.next _ (of_expression env e) _ (expression_counted env e) h))
-  in_action p env (t.for_loop l x a b k c) h =
-      (in_expression p env a (foremost p env.next (of_expression env a) (of_expression (past a env) b) _ h),
-      in_expression p (past a env) b (middle p env.next _ (of_expression env a) (of_expression (past a env) b) _ (expression_counted env a) h),
-      in_action p (in_for x c (past b (past a env))) c (moved p (past b (past a env)).next _ _ (in_scope-next c (bind x.letters foreign (past b (past a env)))) (third p env.next _ _ (of_expression env a) (of_expression (past a env) b) _ (expression_counted env a) (expression_counted (past a env) b) h)))
+  in_action p env (t.for_loop l x a b k c) h = (
+    in_expression p env a (foremost p env.next (of_expression env a) (of_expression (past a env) b) _ h),
+    in_expression p (past a env) b (middle p env.next _ (of_expression env a) (of_expression (past a env) b) _ (expression_counted env a) h),
+    in_action p (in_for x c (past b (past a env))) c (moved p (past b (past a env)).next _ _ (in_scope-next c (bind x.letters foreign (past b (past a env)))) (third p env.next _ _ (of_expression env a) (of_expression (past a env) b) _ (expression_counted env a) (expression_counted (past a env) b) h)),
+  )
   in_action p env (t.switch l e c) h =
       (in_expression p env e (left p env.next (of_expression env e) _ h), in_action p (past e env) c (second p env.next _ (of_expression env e) _ (expression_counted env e) h))
   in_action p env (t.result l e) h = in_expression p env e h
   in_action p env (t.block l t.no_declarations cs) h = in_actions p env cs h
-  in_action p env (t.block l (t.declare d ds) cs) h =
-      (in_declarations p env (t.declare d ds) (left p env.next (of_declarations env (t.declare d ds)) _ h),
-      in_actions p (labelled cs (all_declared (t.declare d ds) env)) cs
-      (moved p (env.next + objects_of_declarations (t.declare d ds)) _ _ (labelled-next cs (all_declared (t.declare d ds) env) ∙ all_declared-next (t.declare d ds) env)
-      (second p env.next _ (of_declarations env (t.declare d ds)) _ (declarations_counted env (t.declare d ds)) h)))
+  in_action p env (t.block l (t.declare d ds) cs) h = (
+    in_declarations p env (t.declare d ds) (left p env.next (of_declarations env (t.declare d ds)) _ h),
+    in_actions p (labelled cs (all_declared (t.declare d ds) env)) cs
+        (moved p (env.next + objects_of_declarations (t.declare d ds)) _ _ (labelled-next cs (all_declared (t.declare d ds) env) ∙ all_declared-next (t.declare d ds) env)
+        (second p env.next _ (of_declarations env (t.declare d ds)) _ (declarations_counted env (t.declare d ds)) h)),
+  )
   in_action p env (t.repeat l c) h = in_action p env c h
   in_action p env (t.repeat_while l b c e) h =
       (in_action p env c (left p env.next (of_action env c) _ h), in_expression p (past_action c env) e (second p env.next _ (of_action env c) _ (action_counted env c) h))
@@ -189,9 +193,10 @@ mutual
 
   pub in_declarations : (p : Program) (env : Environment) (ds : Declarations) → Has p env.next (of_declarations env ds) → InDeclarations p env ds
   in_declarations p env t.no_declarations h = tt
-  in_declarations p env (t.declare d ds) h =
-      (in_declaration p env d (left p env.next (of_declaration env d) _ h),
-      in_declarations p (declared d env) ds (moved p (env.next + objects_of_declaration d) _ _ (declared-next d env) (second p env.next _ (of_declaration env d) _ (declaration_counted env d) h)))
+  in_declarations p env (t.declare d ds) h = (
+    in_declaration p env d (left p env.next (of_declaration env d) _ h),
+    in_declarations p (declared d env) ds (moved p (env.next + objects_of_declaration d) _ _ (declared-next d env) (second p env.next _ (of_declaration env d) _ (declaration_counted env d) h)),
+  )
 
   pub in_definition : (p : Program) (env : Environment) (d : Definition) → Has p env.next (of_definition env d) → InDefinition p env d
   in_definition p env (t.routine l x fs c) h =

@@ -1,12 +1,12 @@
 -- Runs of one tree, with fewer turns and with more; and what every run only adds to, or leaves as it was.
-use Rattle.std.proofs.Common.{◌≡◌, ℕ, zero, suc, ◌+◌, ◌≤◌, max, Bool, true, false, List, [], ◌∷◌, ◌++◌, length, map, Option, Some, None, refl, sym, ap, ◌∙◌, append_assoc, arith}
-use Rattle.std.proofs.lemmas.List.{append-nil, map-append}
+use Rattle.std.proofs.Common.{◌≡◌, ℕ, zero, suc, ◌+◌, ◌≤◌, Bool, true, false, List, [], ◌++◌, length, Option, Some, None, refl, sym, ap, ◌∙◌, append_assoc, arith}
+use Rattle.std.proofs.lemmas.List.{append-nil}
 use Rattle.bk_meaning.specs.Values.{Value, Cell}
-use Rattle.bk_meaning.specs.Memory.{Memory, Object, living, dead_from, write, write_byte}
+use Rattle.bk_meaning.specs.Memory.{Memory, dead_from}
 use Rattle.bk_meaning.specs.World.{World, Exit, End, Outcome, gives, leaves, ends, undefined, going, each_way, with, given, either, turn, turn_of, closing, forgetting, changes, remembering, making, calling, calls_back, writing}
-use Rattle.bk_meaning.specs.Growing.{History, history, Grows, size_of, sizes, Keeps, ComesBack, After, Restores}
+use Rattle.bk_meaning.specs.Growing.{History, history, Grows, sizes, ComesBack, After, Restores}
 use Rattle.bk_meaning.specs.Turns.{with_turns}
-use Rattle.bk_meaning.proofs.Objects.{kept_still, kept_on, sizes-made, closed_keep, KeepsSizes, write_keeps, write_byte_keeps}
+use Rattle.bk_meaning.proofs.Objects.{kept_still, kept_on, sizes-made, closed_keep, KeepsSizes}
 
 pub stays : (h : History) → Grows h h
 stays h = record { written = []; output = sym (append-nil h.output); taken = []; input = refl; most_calls = omega arith }

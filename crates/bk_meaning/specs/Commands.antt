@@ -15,7 +15,8 @@ use Rattle.bk_meaning.specs.Calls.{applied}
 use Rattle.bk_meaning.specs.Loops.{where_truth, rounds_of, step_of, for_loop}
 use Rattle.bk_meaning.specs.Blocks.{declare_all}
 
--- each value comes before its destination
+-- Assignments are done one after another. Each value comes before its destination. With unequal numbers, which no accepted
+-- source has, the pairs that are there are done.
 abbrev pub assigned : Meanings → Expressions → Environment → Expressions → Environment → World → Outcome Done
 assigned m (t.more x xs) there (t.more e es) env w =
     with (m.value e env w) (λ v w. with (m.target x there w) (λ a w. with (store a v w) (λ _ w. assigned m xs (past x there) es (past e env) w)))

@@ -7,7 +7,7 @@ use Rattle.bk_meaning.specs.World.{World, Outcome, gives, leaves, ends, undefine
 use Rattle.bk_meaning.specs.Environment.{Environment}
 use Rattle.bk_meaning.specs.Seeking.{Mode}
 use Rattle.bk_meaning.specs.Parts.{Meanings}
-use Rattle.bk_meaning.specs.Lasting.{Program, program_of, first_memory}
+use Rattle.bk_meaning.specs.Lasting.{Program, program_of}
 use Rattle.bk_meaning.specs.Calls.{call}
 use Rattle.bk_meaning.specs.Program.{means, first_world}
 

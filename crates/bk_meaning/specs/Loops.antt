@@ -1,4 +1,4 @@
--- Loops.
+-- Loops: WHILE, UNTIL, REPEAT, REPEATWHILE, REPEATUNTIL and FOR.
 use Rattle.std.specs.Prelude.{ℕ, ◌^◌, nat_lt, Bool, true, false, not, cond, Option, Some, List, [], ◌∷◌, length}
 use Rattle.bk_syntax.specs.declared.tree.Operator.{Operator}
 use Rattle.bk_syntax.specs.declared.tree.Operator.TheVariants as o
@@ -13,7 +13,7 @@ use Rattle.bk_meaning.specs.Parts.{store, Meanings, fetch, at}
 use Rattle.bk_meaning.specs.Scopes.{scope_of, alone}
 use Rattle.bk_meaning.specs.Expressions.{judged}
 
--- Loops: LOOP goes to the next round, BREAK out of the loop. A further round takes a turn.
+-- LOOP goes to the next round, BREAK out of the loop.
 abbrev pub round_exit : (World → Outcome Done) → Exit → World → Outcome Done
 round_exit next loop w = next w
 round_exit next break w = done w
@@ -30,6 +30,7 @@ same_truth false b = not b
 abbrev pub where_truth : Meanings → Bool → Expression → Environment → (World → Outcome Done) → World → Outcome Done
 where_truth m b e env go w = with (m.truth e env w) (λ x w. either (same_truth b x) go done w)
 
+-- A round, and those after it: a further one takes a turn. The first may begin at a place that is sought; then the loop goes on.
 abbrev pub rounds_of : Meanings → Action → Mode → Environment → World → Outcome Done
 rounds_of m (t.while l b e c) mode env w =
     again (m.act c mode (past e env) w) (λ w. where_truth m b e env (λ w. turn w (λ w. m.rounds (t.while l b e c) forwards env w)) w)

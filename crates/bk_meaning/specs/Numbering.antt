@@ -5,7 +5,7 @@ use Rattle.bk_syntax.specs.declared.tree.Sort.{Sort}
 use Rattle.bk_syntax.specs.declared.tree.Sort.TheVariants as s
 use Rattle.bk_syntax.specs.Tree as t
 use Rattle.bk_syntax.specs.Tree.{Mention, Expression, Expressions, Action, Actions, Declaration, Declarations, Items, Definition, Definitions, Starts}
-use Rattle.bk_meaning.specs.Environment.{Environment, behind, past, past_each, past_action, past_definition, constant_in, labelled, within_let, objects_of_declarations}
+use Rattle.bk_meaning.specs.Environment.{Environment, past, past_each, past_action, past_definition, constant_in, labelled, within_let, objects_of_declarations}
 use Rattle.bk_meaning.specs.Lasting.{command, expression, Lasting, words, string_words, constant_words, declared, all_declared, procedure_here, inside, in_scope, in_for, of_declarations, Program, program_of}
 
 abbrev pub AsManyAsCounted : Type 0

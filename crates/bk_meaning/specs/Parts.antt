@@ -1,4 +1,5 @@
--- The parts of the meaning: where the nodes inside a node have theirs, each node has its own.
+-- The parts of the meaning: where the nodes inside a node have theirs, each node has its own. From here on p is the program, m
+-- the meanings of the nodes inside, env what the names mean, w the world before and u an outcome.
 use Rattle.std.specs.Prelude.{ℕ, Bool, Option, Some}
 use Rattle.bk_syntax.specs.Tree.{Expression, Action, Actions}
 use Rattle.bk_meaning.specs.Values.{Value, number, address}

@@ -8,7 +8,7 @@ use Rattle.bk_meaning.specs.Environment.{Environment, past_action, labelled}
 use Rattle.bk_meaning.specs.Seeking.{the_label, Mode, forwards, seeking, stands_in, stands_in_one}
 use Rattle.bk_meaning.specs.Parts.{Meanings}
 
--- The commands of a scope. A GOTO to one of their labels runs them again, seeking it.
+-- Commands in order. Seeking passes over those in which the place does not stand, and goes on forwards from it.
 abbrev pub in_order : Meanings → Actions → Mode → Environment → World → Outcome Done
 in_order m t.no_actions mode env w = done w
 in_order m (t.also c cs) forwards env w = with (m.act c forwards env w) (λ _ w. in_order m cs forwards (past_action c env) w)
@@ -16,6 +16,7 @@ in_order m (t.also c cs) (seeking s) env w =
     either (stands_in s env c) (λ w. with (m.act c (seeking s) env w) (λ _ w. in_order m cs forwards (past_action c env) w))
     (λ w. in_order m cs (seeking s) (past_action c env) w) w
 
+-- The commands of a scope. A GOTO to one of their labels runs them again, seeking it.
 abbrev pub landing : Actions → Environment → (List ℕ → World → Outcome Done) → Exit → World → Outcome Done
 landing cs env go (goto x) w = either (stands_in_one (the_label x) env cs) (go x) (λ w. leaves (goto x) w) w
 landing cs env go x w = leaves x w

@@ -36,7 +36,8 @@ abbrev pub is_label : Sought → Bool
 is_label (the_label x) = true
 is_label _ = false
 
--- The place stands in a command: a block with declarations, the body of a FOR and of a VALOF keep theirs.
+-- Whether the place stands in a command, where seeking comes to it: a block with declarations, the body of a FOR and of a VALOF
+-- keep their own.
 abbrev mutual
   pub stands_in : Sought → Environment → Action → Bool
   stands_in s env (t.label l x c) = same_place s (the_label x) || stands_in s env c

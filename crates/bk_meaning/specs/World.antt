@@ -77,17 +77,18 @@ turn_of (suc n) w go = go (record w { turns = n })
 abbrev pub turn : {A : Type 0} → World → (World → Outcome A) → Outcome A
 turn w go = turn_of w.turns w go
 
--- with another memory; with a new object
+-- with another memory, and with a new object
 abbrev pub remembering : Memory → World → World
 remembering m w = record w { memory = m }
 
 abbrev pub making : List Cell → World → World
 making cells w = remembering (made cells w.memory) w
 
--- what was made since object o, which is then dead
+-- with all objects from number o on dead: those that were made since memory had o of them
 abbrev pub forgetting : ℕ → World → World
 forgetting o w = remembering (dead_from o w.memory) w
 
+-- They die whether something was given or it was left by an exit.
 abbrev pub closing : {A : Type 0} → ℕ → Outcome A → Outcome A
 closing o u = each_way (λ a w. gives a (forgetting o w)) (λ x w. leaves x (forgetting o w)) u
 

@@ -6,7 +6,7 @@ use Rattle.bk_syntax.specs.Tree.{Declarations}
 use Rattle.bk_meaning.specs.World.{status}
 use Rattle.bk_meaning.specs.Library.{digits}
 use Rattle.bk_meaning.specs.Program.{Ends, Going, meaning}
-use Rattle.bk_meaning.proofs.Rows.Nodes.{named, number, text, unary, call, case, compound, lets, routine, with_header}
+use Rattle.bk_meaning.proofs.Rows.Nodes.{named, number, text, unary, call, compound, lets, routine, with_header}
 use Rattle.bk_meaning.proofs.Rows.Names as n
 
 -- Each directive.

@@ -196,6 +196,21 @@ downwards-meant = refl
 downwards-cut : meaning downwards [] 23 ≡ Going (51 ∷ 50 ∷ 49 ∷ []) [] 2
 downwards-cut = refl
 
+-- FOR over the addresses of one object.
+--   LET START() BE $( LET V = VEC 2; FOR P = V TO V + 2 DO !P := P - V + 'A'; WRCH(V!0); WRCH(V!2) $)
+abbrev over_addresses : List Declarations
+over_addresses =
+    with_header ((lets ((routine n.start [] (block ((lets ((variables (n.v ∷ []) (vector (number 2) ∷ [])) ∷ [])) ∷ []) ((for_loop n.p (named n.v)
+    (binary o.Add (named n.v) (number 2)) [] (assign ((unary q.Contents (named n.p)) ∷ []) ((binary o.Add (binary o.Subtract (named n.p) (named n.v))
+    (number 65)) ∷ []))) ∷ (call (named n.wrch) ((binary o.Subscript (named n.v) (number 0)) ∷ [])) ∷ (call (named n.wrch) ((binary o.Subscript
+    (named n.v) (number 2)) ∷ [])) ∷ []))) ∷ [])) ∷ []) ∷ []
+
+over_addresses-meant : meaning over_addresses [] 44 ≡ Ends (65 ∷ 67 ∷ []) [] 2 (status 0)
+over_addresses-meant = refl
+
+over_addresses-cut : meaning over_addresses [] 43 ≡ Going (65 ∷ []) [] 2
+over_addresses-cut = refl
+
 -- WHILE, UNTIL, REPEATWHILE and REPEATUNTIL.
 --   LET START() BE
 --   $( LET I = 0;

@@ -5,7 +5,7 @@ use Rattle.bk_syntax.specs.declared.tree.Prefix.TheVariants as q
 use Rattle.bk_syntax.specs.declared.tree.Sort.TheVariants as s
 use Rattle.bk_syntax.specs.Tree.{Declarations}
 use Rattle.bk_meaning.specs.Program.{Going, Undefined, meaning}
-use Rattle.bk_meaning.proofs.Rows.Nodes.{named, number, text, truth, query, parens, unary, binary, apply, assign, call, default, when, for_loop, switch, compound, block, constants, item, lets, routine, function, variables, value, vector, with_header}
+use Rattle.bk_meaning.proofs.Rows.Nodes.{named, number, text, query, parens, unary, binary, apply, assign, call, default, when, for_loop, switch, compound, block, constants, item, lets, routine, function, variables, value, vector, with_header}
 use Rattle.bk_meaning.proofs.Rows.Names as n
 
 -- Reading an unset variable.
@@ -621,3 +621,162 @@ limit_of_for-meant = refl
 
 limit_of_for-cut : meaning limit_of_for [] 3 ≡ Going [] [] 1
 limit_of_for-cut = refl
+
+-- An access through a procedure.
+--   LET START() BE $( LET X = 5; X := !START $)
+abbrev through_procedure : List Declarations
+through_procedure =
+    with_header ((lets ((routine n.start [] (block ((lets ((variables (n.x ∷ []) (value (number 5) ∷ [])) ∷ [])) ∷ []) ((assign ((named n.x) ∷ [])
+    ((unary q.Contents (named n.start)) ∷ [])) ∷ []))) ∷ [])) ∷ []) ∷ []
+
+through_procedure-meant : meaning through_procedure [] 6 ≡ Undefined
+through_procedure-meant = refl
+
+through_procedure-cut : meaning through_procedure [] 5 ≡ Going [] [] 1
+through_procedure-cut = refl
+
+-- Ordering an address against 0.
+--   LET START() BE $( LET V = VEC 1; IF V > 0 DO WRCH('A') $)
+abbrev order_against_zero : List Declarations
+order_against_zero =
+    with_header ((lets ((routine n.start [] (block ((lets ((variables (n.v ∷ []) (vector (number 1) ∷ [])) ∷ [])) ∷ []) ((when true (binary o.Greater
+    (named n.v) (number 0)) (call (named n.wrch) ((number 65) ∷ []))) ∷ []))) ∷ [])) ∷ []) ∷ []
+
+order_against_zero-meant : meaning order_against_zero [] 7 ≡ Undefined
+order_against_zero-meant = refl
+
+order_against_zero-cut : meaning order_against_zero [] 6 ≡ Going [] [] 1
+order_against_zero-cut = refl
+
+-- Ordering addresses of two objects.
+--   LET START() BE $( LET A, B = 1, 2; IF @A < @B DO WRCH('A') $)
+abbrev order_two_objects : List Declarations
+order_two_objects =
+    with_header ((lets ((routine n.start [] (block ((lets ((variables (n.a ∷ n.b ∷ []) (value (number 1) ∷ value (number 2) ∷ [])) ∷ [])) ∷ [])
+    ((when true (binary o.Less (unary q.Address (named n.a)) (unary q.Address (named n.b))) (call (named n.wrch) ((number 65) ∷ []))) ∷ []))) ∷ []))
+    ∷ []) ∷ []
+
+order_two_objects-meant : meaning order_two_objects [] 10 ≡ Undefined
+order_two_objects-meant = refl
+
+order_two_objects-cut : meaning order_two_objects [] 9 ≡ Going [] [] 1
+order_two_objects-cut = refl
+
+-- Comparing a procedure with a number that is not 0.
+--   LET START() BE $( IF START ~= 0 DO WRCH('A'); IF START = 1 DO WRCH('B') $)
+abbrev procedure_equals_one : List Declarations
+procedure_equals_one =
+    with_header ((lets ((routine n.start [] (compound ((when true (binary o.Unequal (named n.start) (number 0)) (call (named n.wrch) ((number 65) ∷
+    []))) ∷ (when true (binary o.Equal (named n.start) (number 1)) (call (named n.wrch) ((number 66) ∷ []))) ∷ []))) ∷ [])) ∷ []) ∷ []
+
+procedure_equals_one-meant : meaning procedure_equals_one [] 12 ≡ Undefined
+procedure_equals_one-meant = refl
+
+procedure_equals_one-cut : meaning procedure_equals_one [] 11 ≡ Going (65 ∷ []) [] 2
+procedure_equals_one-cut = refl
+
+-- Comparing an unset value with 0.
+--   LET START() BE $( IF ? = 0 DO WRCH('A') $)
+abbrev unset_equals_zero : List Declarations
+unset_equals_zero =
+    with_header ((lets ((routine n.start [] (compound ((when true (binary o.Equal query (number 0)) (call (named n.wrch) ((number 65) ∷ []))) ∷ [])))
+    ∷ [])) ∷ []) ∷ []
+
+unset_equals_zero-meant : meaning unset_equals_zero [] 5 ≡ Undefined
+unset_equals_zero-meant = refl
+
+unset_equals_zero-cut : meaning unset_equals_zero [] 4 ≡ Going [] [] 1
+unset_equals_zero-cut = refl
+
+-- A call of an address.
+--   LET START() BE $( LET V = VEC 1; V(1) $)
+abbrev call_of_address : List Declarations
+call_of_address =
+    with_header ((lets ((routine n.start [] (block ((lets ((variables (n.v ∷ []) (vector (number 1) ∷ [])) ∷ [])) ∷ []) ((call (named n.v) ((number
+    1) ∷ [])) ∷ []))) ∷ [])) ∷ []) ∷ []
+
+call_of_address-meant : meaning call_of_address [] 6 ≡ Undefined
+call_of_address-meant = refl
+
+call_of_address-cut : meaning call_of_address [] 5 ≡ Going [] [] 1
+call_of_address-cut = refl
+
+-- A switch on a procedure.
+--   LET START() BE $( SWITCHON START INTO $( DEFAULT: WRCH('A') $) $)
+abbrev procedure_switch : List Declarations
+procedure_switch =
+    with_header ((lets ((routine n.start [] (compound ((switch (named n.start) (compound ((default (call (named n.wrch) ((number 65) ∷ []))) ∷ [])))
+    ∷ []))) ∷ [])) ∷ []) ∷ []
+
+procedure_switch-meant : meaning procedure_switch [] 3 ≡ Undefined
+procedure_switch-meant = refl
+
+procedure_switch-cut : meaning procedure_switch [] 2 ≡ Going [] [] 1
+procedure_switch-cut = refl
+
+-- A byte whose number is an address.
+--   LET START() BE $( LET V = VEC 1; V!0 := 5; WRCH(V%V) $)
+abbrev index_is_address : List Declarations
+index_is_address =
+    with_header ((lets ((routine n.start [] (block ((lets ((variables (n.v ∷ []) (vector (number 1) ∷ [])) ∷ [])) ∷ []) ((assign ((binary o.Subscript
+    (named n.v) (number 0)) ∷ []) ((number 5) ∷ [])) ∷ (call (named n.wrch) ((binary o.Byte (named n.v) (named n.v)) ∷ [])) ∷ []))) ∷ [])) ∷ []) ∷ []
+
+index_is_address-meant : meaning index_is_address [] 12 ≡ Undefined
+index_is_address-meant = refl
+
+index_is_address-cut : meaning index_is_address [] 11 ≡ Going [] [] 1
+index_is_address-cut = refl
+
+-- A string of which a byte is not set.
+--   LET START() BE $( LET V = VEC 1; V%0 := 2; V%1 := 'A'; WRITES(V) $)
+abbrev string_unset : List Declarations
+string_unset =
+    with_header ((lets ((routine n.start [] (block ((lets ((variables (n.v ∷ []) (vector (number 1) ∷ [])) ∷ [])) ∷ []) ((assign ((binary o.Byte
+    (named n.v) (number 0)) ∷ []) ((number 2) ∷ [])) ∷ (assign ((binary o.Byte (named n.v) (number 1)) ∷ []) ((number 65) ∷ [])) ∷ (call (named
+    n.writes) ((named n.v) ∷ [])) ∷ []))) ∷ [])) ∷ []) ∷ []
+
+string_unset-meant : meaning string_unset [] 16 ≡ Undefined
+string_unset-meant = refl
+
+string_unset-cut : meaning string_unset [] 15 ≡ Going [] [] 1
+string_unset-cut = refl
+
+-- WRITED without a width.
+--   LET START() BE $( WRCH('A'); WRITED(5) $)
+abbrev width_missing : List Declarations
+width_missing =
+    with_header ((lets ((routine n.start [] (compound ((call (named n.wrch) ((number 65) ∷ [])) ∷ (call (named n.writed) ((number 5) ∷ [])) ∷ []))) ∷
+    [])) ∷ []) ∷ []
+
+width_missing-meant : meaning width_missing [] 7 ≡ Undefined
+width_missing-meant = refl
+
+width_missing-cut : meaning width_missing [] 6 ≡ Going (65 ∷ []) [] 2
+width_missing-cut = refl
+
+-- A byte put into a cell with a procedure.
+--   LET START() BE $( LET X = START; (@X)%0 := 1 $)
+abbrev byte_into_procedure : List Declarations
+byte_into_procedure =
+    with_header ((lets ((routine n.start [] (block ((lets ((variables (n.x ∷ []) (value (named n.start) ∷ [])) ∷ [])) ∷ []) ((assign ((binary o.Byte
+    (parens (unary q.Address (named n.x))) (number 0)) ∷ []) ((number 1) ∷ [])) ∷ []))) ∷ [])) ∷ []) ∷ []
+
+byte_into_procedure-meant : meaning byte_into_procedure [] 10 ≡ Undefined
+byte_into_procedure-meant = refl
+
+byte_into_procedure-cut : meaning byte_into_procedure [] 9 ≡ Going [] [] 1
+byte_into_procedure-cut = refl
+
+-- A second unset formal, used by an operator.
+--   LET F(A, B) = A + B
+--   LET START() BE $( WRCH(F('A')) $)
+abbrev missing_argument : List Declarations
+missing_argument =
+    with_header ((lets ((function n.f (n.a ∷ n.b ∷ []) (binary o.Add (named n.a) (named n.b))) ∷ [])) ∷ (lets ((routine n.start [] (compound ((call
+    (named n.wrch) ((apply (named n.f) ((number 65) ∷ [])) ∷ [])) ∷ []))) ∷ [])) ∷ []) ∷ []
+
+missing_argument-meant : meaning missing_argument [] 8 ≡ Undefined
+missing_argument-meant = refl
+
+missing_argument-cut : meaning missing_argument [] 7 ≡ Going [] [] 2
+missing_argument-cut = refl

@@ -281,6 +281,18 @@ nested_procedures-meant = refl
 nested_procedures-cut : meaning nested_procedures [] 31 ≡ Going ((83 ∷ []) ++ digits 19) [] 4
 nested_procedures-cut = refl
 
+-- One turn.
+--   LET START() BE FINISH
+abbrev finish : List Declarations
+finish =
+    with_header ((lets ((routine n.start [] (simple k.Finish)) ∷ [])) ∷ []) ∷ []
+
+finish-meant : meaning finish [] 1 ≡ Ends [] [] 1 (status 0)
+finish-meant = refl
+
+finish-cut : meaning finish [] 0 ≡ Going [] [] 1
+finish-cut = refl
+
 -- STOP ends the run.
 --   LET START() BE $( WRCH('A'); STOP(3) $)
 abbrev stopping : List Declarations
