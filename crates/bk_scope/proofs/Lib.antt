@@ -3,6 +3,8 @@ pub mod Worded
 pub mod Texts
 pub mod Firsts
 pub mod Rows
+pub mod RowsOfTests
+pub mod RowsOfFaults
 pub mod Claimed
 pub mod TableSteps
 pub mod Calls
@@ -28,3 +30,5 @@ pub mod Whole
 pub mod Fits
 pub mod Safe
 pub mod Soundness
+pub mod Repeated
+pub mod Numbers

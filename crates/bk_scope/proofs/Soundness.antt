@@ -2,6 +2,8 @@
 use Rattle.std.proofs.Common.{◌≡◌, ℕ, ◌+◌, ◌≤◌, ◌<◌, ◌==◌, Bool, true, false, cond, Option, Some, None, List, [], ◌∷◌, ◌++◌, length, refl, sym, ap, ◌∙◌, subst, arith}
 use Rattle.std.proofs.lemmas.Bool.{eqb-true, le-ltb, false≢true}
 use Rattle.std.proofs.lemmas.Option.{none-some}
+use Rattle.std.specs.Str.{bytes_eq}
+use Rattle.std.proofs.lemmas.Slice.Eq.{bytes_eq-Decides}
 use Rattle.std.specs.Option.{option_and_then}
 use Rattle.bk_base.specs.declared.limit.TheConstants.{GLOBAL_NUMBER, VEC_NUMBER, FRAME_WORDS}
 use Rattle.bk_syntax.specs.declared.tree.Operator.{Operator}
@@ -18,7 +20,7 @@ use Rattle.bk_scope.specs.declared.bound.Bound.TheVariants.{Constant, Global, St
 use Rattle.bk_scope.specs.declared.place.Place.{Place}
 use Rattle.bk_scope.specs.declared.role.Role.{Role}
 use Rattle.bk_scope.specs.declared.role.Role.TheVariants.{Value, Truth, Address, Destination}
-use Rattle.bk_scope.specs.Scope.{Binding, bound_in, bind, bind_all}
+use Rattle.bk_scope.specs.Scope.{Binding, bound_in, bind, bind_all, is_global}
 use Rattle.bk_scope.specs.Wrong.{Wrong, text_of, dynamic_name, label_not_here, not_constant, divided_by_zero, not_assignable, no_loop, no_switchon, no_result_or_return, global_out_of_range, vec_out_of_range}
 use Rattle.bk_scope.specs.Constants.{named_word, prefix_word, infix_word, constant_word, is_prefix_of_constants, is_infix_of_constants, divides, divides_by_zero}
 use Rattle.bk_scope.specs.Places.{kept, deeper, looping, switching, labelled, valued, called, outermost}
@@ -26,9 +28,9 @@ use Rattle.bk_scope.specs.Entering.{labels_of, labels_of_each, with_formals}
 use Rattle.bk_scope.specs.Names.{parenthesised, role_of_operand, role_of_operands, place_of_second, within, words_of_start, variables_of, place_behind}
 use Rattle.bk_scope.specs.Spots.{Spot, procedures_in, onward, past, numbered, behind, behind_each, behind_done, behind_declared, behind_one_declared, behind_one_defined, behind_constant, symbols_each, beginning}
 use Rattle.bk_scope.specs.Points.{Point, meaning, depth, at}
-use Rattle.bk_scope.specs.Scoping.{labels_in_scope, procedures_in_scope, place_behind_one_defined, place_behind_defined, variables_in_scope, manifests_in_scope, statics_in_scope, globals_in_scope, scope_behind_one, place_behind_one, scope_behind, place_behind_all}
+use Rattle.bk_scope.specs.Scoping.{labels_in_scope, procedure_in_scope, procedures_in_scope, place_behind_one_defined, place_behind_defined, variables_in_scope, manifests_in_scope, statics_in_scope, globals_in_scope, scope_behind_one, place_behind_one, scope_behind, place_behind_all}
 use Rattle.bk_scope.specs.Faults.{unless, used_at, gone_to, constant_name, constant_wrongs, its_word, constant, each_constant, at_most, addressed, assigned, prefixed, depth_named, pushed, chosen_at, defaulted_at, single_at, its_meaning, one_of, each_of, procedure, manifest_items, static_items, global_items, told, told_each, told_destinations, told_done, told_done_each, told_declared, told_one_declared, told_defined, told_one_defined, told_started, told_of, faults}
-use Rattle.bk_scope.specs.Sound.{Usable, GoesTo, HasWord, HasWordUpTo, HaveWords, PrefixSound, Stands, InSwitch, ManifestsSound, StaticsSound, GlobalsSound, FrameSound, Sound, SoundEach, SoundDestinations, SoundDone, SoundDoneEach, SoundDeclared, SoundOneDeclared, SoundDefined, SoundOneDefined, SoundStarted, SoundSection}
+use Rattle.bk_scope.specs.Sound.{Usable, GoesTo, HasWord, HasWordUpTo, HaveWords, Callable, PrefixSound, Stands, InSwitch, ManifestsSound, StaticsSound, GlobalsSound, FrameSound, Sound, SoundEach, SoundDestinations, SoundDone, SoundDoneEach, SoundDeclared, SoundOneDeclared, SoundDefined, SoundOneDefined, SoundStarted, SoundSection}
 use Rattle.bk_scope.proofs.Fits.{FitsBound, Fits, fits_more, fits_inner, bound_fits, labels_fit, procedures_fit, append_fits, all_fit, formals_fit}
 use Rattle.bk_scope.proofs.Parts.{section_clean, no_wrong}
 use Rattle.bk_scope.proofs.Safe.{safe_outside, Safe, in_first, in_second, unless_true, when_false, bounded_safe, begins_within, procedure_safe}
@@ -439,6 +441,91 @@ default_in : (y : Option ℕ) (n l : ℕ) (k : ℕ) → Safe k (defaulted_at y n
 default_in None n l k h = absurd h.all
 default_in (Some m) n l k h = (m, refl)
 
+same_bytes : (x : List ℕ) → bytes_eq x x ≡ true
+same_bytes x = (bytes_eq-Decides x x).1 refl
+
+-- labels mean labels of procedure k
+abbrev AllGo : ℕ → List (List ℕ) → List Binding → Type 0
+AllGo k [] bs = Unit {0}
+AllGo k (x ∷ xs) bs = GoesTo k (bound_in bs x) × AllGo k xs bs
+
+go_first : (k : ℕ) (xs ys : List (List ℕ)) (bs : List Binding) → AllGo k (xs ++ ys) bs → AllGo k xs bs
+go_first k [] ys bs h = tt
+go_first k (x ∷ xs) ys bs h = (h.0, go_first k xs ys bs h.1)
+
+go_second : (k : ℕ) (xs ys : List (List ℕ)) (bs : List Binding) → AllGo k (xs ++ ys) bs → AllGo k ys bs
+go_second k [] ys bs h = h
+go_second k (x ∷ xs) ys bs h = go_second k xs ys bs h.1
+
+go_one : (c : Bool) (k n : ℕ) (y : Option Bound) → GoesTo k y → GoesTo k (cond c (Some (Label k n)) y)
+go_one true k n y h = (n, refl)
+go_one false k n y h = h
+
+go_stays : (ys : List (List ℕ)) (k n : ℕ) (x : List ℕ) (bs : List Binding) → GoesTo k (bound_in bs x) → GoesTo k (bound_in (labels_in_scope k n ys bs) x)
+go_stays [] k n x bs h = h
+go_stays (y ∷ ys) k n x bs h = go_stays ys k (n + 1) x (bind y (Label k n) bs) (go_one (bytes_eq y x) k n (bound_in bs x) h)
+
+label_in_scope : (k n : ℕ) (x : List ℕ) (bs : List Binding) → GoesTo k (bound_in (bind x (Label k n) bs) x)
+label_in_scope k n x bs = subst (λ c. GoesTo k (cond c (Some (Label k n)) (bound_in bs x))) (sym (same_bytes x)) (n, refl)
+
+all_go : (xs : List (List ℕ)) (k n : ℕ) (bs : List Binding) → AllGo k xs (labels_in_scope k n xs bs)
+all_go [] k n bs = tt
+all_go (x ∷ xs) k n bs = (go_stays xs k (n + 1) x (bind x (Label k n) bs) (label_in_scope k n x bs), all_go xs k (n + 1) (bind x (Label k n) bs))
+
+-- procedures of a LET mean static words or globals
+abbrev AllCallable : Definitions → List Binding → Type 0
+AllCallable no_definitions bs = Unit {0}
+AllCallable (define (routine l x fs c) ds) bs = Callable (bound_in bs x) × AllCallable ds bs
+AllCallable (define (function l x fs e) ds) bs = Callable (bound_in bs x) × AllCallable ds bs
+AllCallable (define (variables l xs is) ds) bs = AllCallable ds bs
+
+callable_one : (c : Bool) (n : ℕ) (y : Option Bound) → Callable y → Callable (cond c (Some (Static n)) y)
+callable_one true n y h = tt
+callable_one false n y h = h
+
+callable_behind : (g : Bool) (n : ℕ) (x y : List ℕ) (bs : List Binding) → Callable (bound_in bs x) → Callable (bound_in (cond g bs (bind y (Static n) bs)) x)
+callable_behind true n x y bs h = h
+callable_behind false n x y bs h = callable_one (bytes_eq y x) n (bound_in bs x) h
+
+callable_stays : (ds : Definitions) (n : ℕ) (x : List ℕ) (bs : List Binding) → Callable (bound_in bs x) → Callable (bound_in (procedures_in_scope n ds bs) x)
+callable_stays no_definitions n x bs h = h
+callable_stays (define (routine l y fs c) ds) n x bs h = callable_stays ds (n + 1) x (procedure_in_scope n y bs) (callable_behind (is_global (bound_in bs y)) n x y bs h)
+callable_stays (define (function l y fs e) ds) n x bs h = callable_stays ds (n + 1) x (procedure_in_scope n y bs) (callable_behind (is_global (bound_in bs y)) n x y bs h)
+callable_stays (define (variables l xs is) ds) n x bs h = callable_stays ds n x bs h
+
+global_callable : (y : Option Bound) (k d n : ℕ) → ((z : Bound) → y ≡ Some z → FitsBound k d n z) → is_global y ≡ true → Callable y
+global_callable None k d n f e = absurd (false≢true e)
+global_callable (Some (Global g)) k d n f e = f (Global g) refl
+global_callable (Some (Constant v)) k d n f e = absurd (false≢true e)
+global_callable (Some (Static i)) k d n f e = absurd (false≢true e)
+global_callable (Some (Variable j i)) k d n f e = absurd (false≢true e)
+global_callable (Some (Label j i)) k d n f e = absurd (false≢true e)
+
+callable_there : (g : Bool) (n : ℕ) (x : List ℕ) (bs : List Binding) → (g ≡ true → Callable (bound_in bs x)) → Callable (bound_in (cond g bs (bind x (Static n) bs)) x)
+callable_there true n x bs h = h refl
+callable_there false n x bs h = subst (λ c. Callable (cond c (Some (Static n)) (bound_in bs x))) (sym (same_bytes x)) tt
+
+procedure_callable : (k d m n : ℕ) (x : List ℕ) (bs : List Binding) → Fits k d m bs → Callable (bound_in (procedure_in_scope n x bs) x)
+procedure_callable k d m n x bs f = callable_there (is_global (bound_in bs x)) n x bs (λ e. global_callable (bound_in bs x) k d m (λ z i. bound_fits k d m bs x z f i) e)
+
+all_callable : (ds : Definitions) (k d m n : ℕ) (bs : List Binding) → Fits k d m bs → AllCallable ds (procedures_in_scope n ds bs)
+all_callable no_definitions k d m n bs f = tt
+all_callable (define (routine l x fs c) ds) k d m n bs f =
+    (callable_stays ds (n + 1) x (procedure_in_scope n x bs) (procedure_callable k d m n x bs f), all_callable ds k d m (n + 1) (procedure_in_scope n x bs) (procedures_fit k d m n (define (routine l x fs c) no_definitions) bs f))
+all_callable (define (function l x fs e) ds) k d m n bs f =
+    (callable_stays ds (n + 1) x (procedure_in_scope n x bs) (procedure_callable k d m n x bs f), all_callable ds k d m (n + 1) (procedure_in_scope n x bs) (procedures_fit k d m n (define (function l x fs e) no_definitions) bs f))
+all_callable (define (variables l xs is) ds) k d m n bs f = all_callable ds k d m n bs f
+
+abbrev OneCallable : Definition → List Binding → Type 0
+OneCallable (routine l x fs c) bs = Callable (bound_in bs x)
+OneCallable (function l x fs e) bs = Callable (bound_in bs x)
+OneCallable (variables l xs is) bs = Unit {0}
+
+one_callable : (d : Definition) (ds : Definitions) (bs : List Binding) → AllCallable (define d ds) bs → OneCallable d bs × AllCallable ds bs
+one_callable (routine l x fs c) ds bs h = (h.0, h.1)
+one_callable (function l x fs e) ds bs h = (h.0, h.1)
+one_callable (variables l xs is) ds bs h = (tt, h)
+
 -- inside a procedure with so many formals
 inner_around : (bs : List Binding) (k d : ℕ) (s : Spot) (fs : List Mention) (body : List Point) (n : ℕ) → Around bs k d s.number → FrameSound (length fs) body → s.number < n → Around (with_formals s.number 2 fs bs) s.number (kept (length fs + 2)) n
 inner_around bs k d s fs body n a h c =
@@ -490,7 +577,7 @@ mutual
       let cs : List Binding = labels_in_scope p.procedure (s.number + 1) (labels_of c) bs in
       let q : Place = labelled s.number (valued p) in
       let u : Spot = onward 1 (1 + length (labels_of c)) s in
-      sound_done c cs q u (with_labels_around (s.number + 1) (labels_of c) (onto u.number a (omega arith))) (in_first (told_done cs q u c) (pushed p 1) h)
+      sound_done c cs q u (all_go (labels_of c) p.procedure (s.number + 1) bs) (with_labels_around (s.number + 1) (labels_of c) (onto u.number a (omega arith))) (in_first (told_done cs q u c) (pushed p 1) h)
   sound (table l es) r bs p s a h = constants_worded es bs p.procedure p.depth s.number (past 1 s) a.fits (in_first (each_constant bs p.procedure (past 1 s) es) (pushed p 1) h)
 
   pub sound_each : (es : Expressions) (n : ℕ) (bs : List Binding) (p : Place) (s : Spot) → Around bs p.procedure p.depth s.number → Safe p.procedure (told_each n bs p s es) → SoundEach n bs p s es
@@ -511,49 +598,49 @@ mutual
         sound_destinations es bs p (behind e s) (onto (behind e s).number a (omega arith)) (in_second (xs ++ ys) zs h),
       )
 
-  pub sound_done : (c : Action) (bs : List Binding) (p : Place) (s : Spot) → Around bs p.procedure p.depth s.number → Safe p.procedure (told_done bs p s c) → SoundDone bs p s c
-  sound_done empty bs p s a h = tt
-  sound_done (assign l us es) bs p s a h =
+  pub sound_done : (c : Action) (bs : List Binding) (p : Place) (s : Spot) → AllGo p.procedure (labels_of c) bs → Around bs p.procedure p.depth s.number → Safe p.procedure (told_done bs p s c) → SoundDone bs p s c
+  sound_done empty bs p s g a h = tt
+  sound_done (assign l us es) bs p s g a h =
       let xs : List Point = told_destinations bs (deeper 1 p) s us in
       let ys : List Point = told_each 0 bs p (behind_each us s) es in
       (sound_destinations us bs (deeper 1 p) s (below 1 s.number a (omega arith)) (in_first xs ys h), sound_each es 0 bs p (behind_each us s) (onto (behind_each us s).number a (omega arith)) (in_second xs ys h))
-  sound_done (call l e es) bs p s a h =
+  sound_done (call l e es) bs p s g a h =
       let q : Place = deeper (size es + 2) p in
       let xs : List Point = told Value bs q s e in
       let ys : List Point = told_each 1 bs (deeper 2 p) (behind e s) es in
       (sound e Value bs q s (below (size es + 2) s.number a (omega arith)) (in_first xs ys h), sound_each es 1 bs (deeper 2 p) (behind e s) (below 2 (behind e s).number a (omega arith)) (in_second xs ys h))
-  sound_done (goto l x) bs p s a h = goes (bound_in bs x.letters) p.procedure s.place x.line x.letters h
-  sound_done (label l x c) bs p s a h =
+  sound_done (goto l x) bs p s g a h = goes (bound_in bs x.letters) p.procedure s.place x.line x.letters h
+  sound_done (label l x c) bs p s g a h =
       let xs : List Point = one_of p.labels s.place l x ++ its_meaning (bound_in bs x) in
-      sound_done c bs p (past 1 s) (onto (past 1 s).number a (omega arith)) (in_second xs (told_done bs p (past 1 s) c) h)
-  sound_done (case_of l e c) bs p s a h =
+      (g.0, sound_done c bs p (past 1 s) g.1 (onto (past 1 s).number a (omega arith)) (in_second xs (told_done bs p (past 1 s) c) h))
+  sound_done (case_of l e c) bs p s g a h =
       let xs : List Point = chosen_at p.switch s.place l (constant_word bs e) in
       let ys : List Point = constant bs p.procedure (past 1 s) e in
       let u : Spot = behind_constant e (past 1 s) in
       let zs : List Point = told_done bs p u c in (
         case_in p.switch s.place l (constant_word bs e) p.procedure (in_first xs ys (in_first (xs ++ ys) zs h)),
         constant_worded e bs p.procedure p.depth s.number (past 1 s) a.fits (in_second xs ys (in_first (xs ++ ys) zs h)),
-        sound_done c bs p u (onto u.number a (omega arith)) (in_second (xs ++ ys) zs h),
+        sound_done c bs p u g (onto u.number a (omega arith)) (in_second (xs ++ ys) zs h),
       )
-  sound_done (default l c) bs p s a h =
+  sound_done (default l c) bs p s g a h =
       let xs : List Point = defaulted_at p.switch s.place l in
       let zs : List Point = told_done bs p (past 1 s) c in
-      (default_in p.switch s.place l p.procedure (in_first xs zs h), sound_done c bs p (past 1 s) (onto (past 1 s).number a (omega arith)) (in_second xs zs h))
-  sound_done (when l b e c) bs p s a h =
+      (default_in p.switch s.place l p.procedure (in_first xs zs h), sound_done c bs p (past 1 s) g (onto (past 1 s).number a (omega arith)) (in_second xs zs h))
+  sound_done (when l b e c) bs p s g a h =
       let xs : List Point = told Truth bs p s e in
       let zs : List Point = told_done bs p (behind e s) c in
-      (sound e Truth bs p s a (in_first xs zs h), sound_done c bs p (behind e s) (onto (behind e s).number a (omega arith)) (in_second xs zs h))
-  sound_done (test l e c d) bs p s a h =
+      (sound e Truth bs p s a (in_first xs zs h), sound_done c bs p (behind e s) g (onto (behind e s).number a (omega arith)) (in_second xs zs h))
+  sound_done (test l e c d) bs p s g a h =
       let u : Spot = behind_done c (behind e s) in
       let xs : List Point = told Truth bs p s e in
       let ys : List Point = told_done bs p (behind e s) c in
       let zs : List Point = told_done bs p u d in
-      (sound e Truth bs p s a (in_first xs ys (in_first (xs ++ ys) zs h)), sound_done c bs p (behind e s) (onto (behind e s).number a (omega arith)) (in_second xs ys (in_first (xs ++ ys) zs h)), sound_done d bs p u (onto u.number a (omega arith)) (in_second (xs ++ ys) zs h))
-  sound_done (while l b e c) bs p s a h =
+      (sound e Truth bs p s a (in_first xs ys (in_first (xs ++ ys) zs h)), sound_done c bs p (behind e s) (go_first p.procedure (labels_of c) (labels_of d) bs g) (onto (behind e s).number a (omega arith)) (in_second xs ys (in_first (xs ++ ys) zs h)), sound_done d bs p u (go_second p.procedure (labels_of c) (labels_of d) bs g) (onto u.number a (omega arith)) (in_second (xs ++ ys) zs h))
+  sound_done (while l b e c) bs p s g a h =
       let xs : List Point = told Truth bs p s e in
       let zs : List Point = told_done bs (looping p) (behind e s) c in
-      (sound e Truth bs p s a (in_first xs zs h), sound_done c bs (looping p) (behind e s) (onto (behind e s).number a (omega arith)) (in_second xs zs h))
-  sound_done (for_loop l x b c d e) bs p s a h =
+      (sound e Truth bs p s a (in_first xs zs h), sound_done c bs (looping p) (behind e s) g (onto (behind e s).number a (omega arith)) (in_second xs zs h))
+  sound_done (for_loop l x b c d e) bs p s g a h =
       let u : Spot = behind b s in
       let v : Spot = behind c u in
       let t : Spot = onward (symbols_each d) 0 v in
@@ -577,21 +664,21 @@ mutual
         sound b Value bs p s a (in_first ws xs three),
         sound c Value bs (deeper 1 p) u (below 1 u.number a (omega arith)) (in_second ws xs three),
         constants_worded d bs p.procedure p.depth s.number v a.fits (in_second (ws ++ xs) ys two),
-        sound_done e ds q i (with_labels_around (t.number + 1) (labels_of e) inner) (in_second (ws ++ xs ++ ys ++ pushed p 4) zs h),
+        sound_done e ds q i (all_go (labels_of e) p.procedure (t.number + 1) cs) (with_labels_around (t.number + 1) (labels_of e) inner) (in_second (ws ++ xs ++ ys ++ pushed p 4) zs h),
       )
-  sound_done (switch l e c) bs p s a h =
+  sound_done (switch l e c) bs p s g a h =
       let u : Spot = numbered 1 (behind e s) in
       let q : Place = switching (behind e s).number p in
       let xs : List Point = told Value bs p s e in
       let zs : List Point = told_done bs q u c in
-      (sound e Value bs p s a (in_first xs zs h), sound_done c bs q u (onto u.number a (omega arith)) (in_second xs zs h))
-  sound_done (result l e) bs p s a h =
+      (sound e Value bs p s a (in_first xs zs h), sound_done c bs q u g (onto u.number a (omega arith)) (in_second xs zs h))
+  sound_done (result l e) bs p s g a h =
       let xs : List Point = unless p.in_valof (at s.place l no_result_or_return) in
       let zs : List Point = told Value bs p (past 1 s) e in
       (unless_true p.in_valof s.place l no_result_or_return (in_first xs zs h), sound e Value bs p (past 1 s) (onto (past 1 s).number a (omega arith)) (in_second xs zs h))
-  sound_done (simple l f) bs p s a h = stands p s.place l f p.procedure h
-  sound_done (block l no_declarations cs) bs p s a h = sound_done_each cs bs p s a h
-  sound_done (block l (declare d ds) cs) bs p s a h =
+  sound_done (simple l f) bs p s g a h = stands p s.place l f p.procedure h
+  sound_done (block l no_declarations cs) bs p s g a h = sound_done_each cs bs p s g a h
+  sound_done (block l (declare d ds) cs) bs p s g a h =
       let u : Spot = behind_declared (declare d ds) s in
       let z : Place = place_behind_all bs p s (declare d ds) in
       let scope : List Binding = scope_behind bs p s (declare d ds) in
@@ -608,20 +695,20 @@ mutual
       let same1 : z1.procedure ≡ p.procedure = same_behind_one d bs p s in
       let inner : Around scope p.procedure z.depth v.number = behind_all_around (declare d ds) bs p s p.procedure v.number refl (omega arith) a head in (
         (sound_one_declared d bs p s a (in_first x1 y1 head), sound_declared ds cs1 z1 v1 (same_around z1 p same1 (behind_one_around d bs p s p.procedure v1.number refl (omega arith) a (in_first x1 y1 head))) (same_safe z1 p same1 (in_second x1 y1 head))),
-        sound_done_each cs es (labelled u.number z) v (same_around z p same (with_labels_around (u.number + 1) (labels_of_each cs) inner)) (same_safe z p same (in_second (x1 ++ y1) ys h)),
+        sound_done_each cs es (labelled u.number z) v (subst (λ k. AllGo k (labels_of_each cs) es) (sym same) (all_go (labels_of_each cs) p.procedure (u.number + 1) scope)) (same_around z p same (with_labels_around (u.number + 1) (labels_of_each cs) inner)) (same_safe z p same (in_second (x1 ++ y1) ys h)),
       )
-  sound_done (repeat l c) bs p s a h = sound_done c bs (looping p) s a h
-  sound_done (repeat_while l b c e) bs p s a h =
+  sound_done (repeat l c) bs p s g a h = sound_done c bs (looping p) s g a h
+  sound_done (repeat_while l b c e) bs p s g a h =
       let xs : List Point = told_done bs (looping p) s c in
       let zs : List Point = told Truth bs p (behind_done c s) e in
-      (sound_done c bs (looping p) s a (in_first xs zs h), sound e Truth bs p (behind_done c s) (onto (behind_done c s).number a (omega arith)) (in_second xs zs h))
+      (sound_done c bs (looping p) s g a (in_first xs zs h), sound e Truth bs p (behind_done c s) (onto (behind_done c s).number a (omega arith)) (in_second xs zs h))
 
-  pub sound_done_each : (cs : Actions) (bs : List Binding) (p : Place) (s : Spot) → Around bs p.procedure p.depth s.number → Safe p.procedure (told_done_each bs p s cs) → SoundDoneEach bs p s cs
-  sound_done_each no_actions bs p s a h = tt
-  sound_done_each (also c cs) bs p s a h =
+  pub sound_done_each : (cs : Actions) (bs : List Binding) (p : Place) (s : Spot) → AllGo p.procedure (labels_of_each cs) bs → Around bs p.procedure p.depth s.number → Safe p.procedure (told_done_each bs p s cs) → SoundDoneEach bs p s cs
+  sound_done_each no_actions bs p s g a h = tt
+  sound_done_each (also c cs) bs p s g a h =
       let xs : List Point = told_done bs p s c in
       let zs : List Point = told_done_each bs p (behind_done c s) cs in
-      (sound_done c bs p s a (in_first xs zs h), sound_done_each cs bs p (behind_done c s) (onto (behind_done c s).number a (omega arith)) (in_second xs zs h))
+      (sound_done c bs p s (go_first p.procedure (labels_of c) (labels_of_each cs) bs g) a (in_first xs zs h), sound_done_each cs bs p (behind_done c s) (go_second p.procedure (labels_of c) (labels_of_each cs) bs g) (onto (behind_done c s).number a (omega arith)) (in_second xs zs h))
 
   pub sound_declared : (ds : Declarations) (bs : List Binding) (p : Place) (s : Spot) → Around bs p.procedure p.depth s.number → Safe p.procedure (told_declared bs p s ds) → SoundDeclared bs p s ds
   sound_declared no_declarations bs p s a h = tt
@@ -641,35 +728,36 @@ mutual
   sound_one_declared (definitions l ds) bs p s a h =
       let u : Spot = numbered (1 + procedures_in ds) s in
       let cs : List Binding = procedures_in_scope (s.number + 1) ds bs in
-      sound_defined ds s.number cs p u (record { fits = procedures_fit p.procedure p.depth u.number (s.number + 1) ds bs (fits_more p.procedure p.depth p.depth s.number u.number bs (omega arith) (omega arith) a.fits); two = a.two; most = a.most; older = omega (arith, a.older) }) h
+      sound_defined ds s.number cs p u (all_callable ds p.procedure p.depth s.number (s.number + 1) bs a.fits) (record { fits = procedures_fit p.procedure p.depth u.number (s.number + 1) ds bs (fits_more p.procedure p.depth p.depth s.number u.number bs (omega arith) (omega arith) a.fits); two = a.two; most = a.most; older = omega (arith, a.older) }) h
 
-  pub sound_defined : (ds : Definitions) (m : ℕ) (bs : List Binding) (p : Place) (s : Spot) → Around bs p.procedure p.depth s.number → Safe p.procedure (told_defined m bs p s ds) → SoundDefined bs p s ds
-  sound_defined no_definitions m bs p s a h = tt
-  sound_defined (define d ds) m bs p s a h =
+  pub sound_defined : (ds : Definitions) (m : ℕ) (bs : List Binding) (p : Place) (s : Spot) → AllCallable ds bs → Around bs p.procedure p.depth s.number → Safe p.procedure (told_defined m bs p s ds) → SoundDefined bs p s ds
+  sound_defined no_definitions m bs p s c a h = tt
+  sound_defined (define d ds) m bs p s c a h =
       let v : Spot = behind_one_defined d s in
       let z : Place = place_behind_one_defined bs p d in
       let xs : List Point = told_one_defined m bs p s d in
       let ys : List Point = told_defined m bs z v ds in
       let same : z.procedure ≡ p.procedure = same_behind_one_defined d bs p in
       let g : (p.depth ≤ z.depth) × (z.depth ≤ FRAME_WORDS + 1) = grow_one_defined d bs p a.most in
-      (sound_one_defined d m bs p s a (in_first xs ys h), sound_defined ds m bs z v (same_around z p same (wider_around z.depth v.number a g.0 g.1 (omega arith))) (same_safe z p same (in_second xs ys h)))
+      let i : OneCallable d bs × AllCallable ds bs = one_callable d ds bs c in
+      (sound_one_defined d m bs p s i.0 a (in_first xs ys h), sound_defined ds m bs z v i.1 (same_around z p same (wider_around z.depth v.number a g.0 g.1 (omega arith))) (same_safe z p same (in_second xs ys h)))
 
-  pub sound_one_defined : (d : Definition) (m : ℕ) (bs : List Binding) (p : Place) (s : Spot) → Around bs p.procedure p.depth s.number → Safe p.procedure (told_one_defined m bs p s d) → SoundOneDefined bs p s d
-  sound_one_defined (routine l x fs c) m bs p s a h =
+  pub sound_one_defined : (d : Definition) (m : ℕ) (bs : List Binding) (p : Place) (s : Spot) → OneCallable d bs → Around bs p.procedure p.depth s.number → Safe p.procedure (told_one_defined m bs p s d) → SoundOneDefined bs p s d
+  sound_one_defined (routine l x fs c) m bs p s g a h =
       let cs : List Binding = labels_in_scope s.number (s.number + 2) (labels_of c) (with_formals s.number 2 fs bs) in
       let q : Place = labelled (s.number + 1) (called true s.number (length fs)) in
       let u : Spot = onward (1 + length fs) (2 + length (labels_of c)) s in
       let body : List Point = told_done cs q u c in
       let r : FrameSound (length fs) body × Safe s.number body = procedure_safe p.procedure m s.number s l x fs (bound_in bs x) body h in
-      (r.0, sound_done c cs q u (with_labels_around (s.number + 2) (labels_of c) (inner_around bs p.procedure p.depth s fs body u.number a r.0 (omega arith))) r.1)
-  sound_one_defined (function l x fs e) m bs p s a h =
+      (g, r.0, sound_done c cs q u (all_go (labels_of c) s.number (s.number + 2) (with_formals s.number 2 fs bs)) (with_labels_around (s.number + 2) (labels_of c) (inner_around bs p.procedure p.depth s fs body u.number a r.0 (omega arith))) r.1)
+  sound_one_defined (function l x fs e) m bs p s g a h =
       let cs : List Binding = with_formals s.number 2 fs bs in
       let q : Place = called false s.number (length fs) in
       let u : Spot = onward (1 + length fs) 1 s in
       let body : List Point = told Value cs q u e in
       let r : FrameSound (length fs) body × Safe s.number body = procedure_safe p.procedure m s.number s l x fs (bound_in bs x) body h in
-      (r.0, sound e Value cs q u (inner_around bs p.procedure p.depth s fs body u.number a r.0 (omega arith)) r.1)
-  sound_one_defined (variables l xs is) m bs p s a h = sound_started is bs p (past (length xs) s) (onto (past (length xs) s).number a (omega arith)) (in_second (each_of m s.place xs) (told_started bs p (past (length xs) s) is) h)
+      (g, r.0, sound e Value cs q u (inner_around bs p.procedure p.depth s fs body u.number a r.0 (omega arith)) r.1)
+  sound_one_defined (variables l xs is) m bs p s g a h = sound_started is bs p (past (length xs) s) (onto (past (length xs) s).number a (omega arith)) (in_second (each_of m s.place xs) (told_started bs p (past (length xs) s) is) h)
 
   pub sound_started : (is : Starts) (bs : List Binding) (p : Place) (s : Spot) → Around bs p.procedure p.depth s.number → Safe p.procedure (told_started bs p s is) → SoundStarted bs p s is
   sound_started no_starts bs p s a h = tt

@@ -109,3 +109,6 @@ meanings_found ds = (section_tied ds).meanings
 
 pub words_found : (ds : Declarations) → (found_in ds).words ≡ words ds
 words_found ds = (section_tied ds).words
+
+pub numbers_found : (ds : Declarations) → (found_in ds).next ≡ 1 + numbers_declared ds
+numbers_found ds = (section_tied ds).next

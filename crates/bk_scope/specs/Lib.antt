@@ -11,6 +11,8 @@ pub mod Scoping
 pub mod Faults
 pub mod Sound
 pub mod Laws
+pub mod Cases
+pub mod Given
 pub mod Known
 pub mod Resolution
 pub mod TableView

@@ -1,7 +1,7 @@
 -- What holds at each node of a section without faults, by what is in scope there, what stands around it and where it stands
 -- (the arguments are those of `told`): each name that is used means something of its own procedure or of all, a variable's
--- place lies in the frame below its depth there, each constant that is asked for has a word within its bounds, a word is
--- asked for where there is one, each command stands where it may, and no frame is too large.
+-- place lies in the frame below its depth there, a label's own name means a label of its procedure, and a procedure's own name
+-- a static word or a global; each constant that is asked for has a word within its bounds, a word is asked for where there is one, each command stands where it may, and no frame is too large.
 use Rattle.std.specs.Prelude.{◌≡◌, ℕ, ◌+◌, ◌<◌, ◌≤◌, Bool, true, false, Option, Some, None, List, [], ◌∷◌, length}
 use Rattle.bk_base.specs.declared.limit.TheConstants.{GLOBAL_NUMBER, VEC_NUMBER, FRAME_WORDS}
 use Rattle.bk_syntax.specs.declared.tree.Prefix.{Prefix}
@@ -38,6 +38,12 @@ Usable k d (Some (Label j m)) = ⊥
 -- a label of procedure k
 abbrev pub GoesTo : ℕ → Option Bound → Type 0
 GoesTo k y = (m : ℕ) × (y ≡ Some (Label k m))
+
+-- what a procedure's own name means: a static word, or a global
+abbrev pub Callable : Option Bound → Type 0
+Callable (Some (Static n)) = Unit {0}
+Callable (Some (Global g)) = (n : ℕ) × (g ≡ Some n) × (n ≤ GLOBAL_NUMBER)
+Callable _ = ⊥
 
 abbrev pub HasWord : Option ℕ → Type 0
 HasWord y = (w : ℕ) × (y ≡ Some w)
@@ -109,7 +115,7 @@ abbrev mutual
   SoundDone bs p s (assign l xs es) = SoundDestinations bs (deeper 1 p) s xs × SoundEach 0 bs p (behind_each xs s) es
   SoundDone bs p s (call l e es) = Sound Value bs (deeper (size es + 2) p) s e × SoundEach 1 bs (deeper 2 p) (behind e s) es
   SoundDone bs p s (goto l x) = GoesTo p.procedure (bound_in bs x.letters)
-  SoundDone bs p s (label l x c) = SoundDone bs p (past 1 s) c
+  SoundDone bs p s (label l x c) = GoesTo p.procedure (bound_in bs x) × SoundDone bs p (past 1 s) c
   SoundDone bs p s (case_of l e c) = InSwitch p × HasWord (constant_word bs e) × SoundDone bs p (behind_constant e (past 1 s)) c
   SoundDone bs p s (default l c) = InSwitch p × SoundDone bs p (past 1 s) c
   SoundDone bs p s (when l b e c) = Sound Truth bs p s e × SoundDone bs p (behind e s) c
@@ -153,12 +159,12 @@ abbrev mutual
       let cs : List Binding = labels_in_scope s.number (s.number + 2) (labels_of c) (with_formals s.number 2 fs bs) in
       let q : Place = labelled (s.number + 1) (called true s.number (length fs)) in
       let u : Spot = onward (1 + length fs) (2 + length (labels_of c)) s in
-      FrameSound (length fs) (told_done cs q u c) × SoundDone cs q u c
+      Callable (bound_in bs x) × FrameSound (length fs) (told_done cs q u c) × SoundDone cs q u c
   SoundOneDefined bs p s (function l x fs e) =
       let cs : List Binding = with_formals s.number 2 fs bs in
       let q : Place = called false s.number (length fs) in
       let u : Spot = onward (1 + length fs) 1 s in
-      FrameSound (length fs) (told Value cs q u e) × Sound Value cs q u e
+      Callable (bound_in bs x) × FrameSound (length fs) (told Value cs q u e) × Sound Value cs q u e
   SoundOneDefined bs p s (variables l xs is) = SoundStarted bs p (past (length xs) s) is
 
   pub SoundStarted : List Binding → Place → Spot → Starts → Type 0

@@ -1,5 +1,5 @@
 //! What is found as one goes through a section.
-ghost use Rattle.std.specs.Prelude.{◌≡◌, ◌+◌, ◌-◌, ◌^◌, None, Some, IfOk, IfErr, OnOk};
+ghost use Rattle.std.specs.Prelude.{◌≡◌, ◌<◌, ◌+◌, ◌-◌, ◌^◌, None, Some, IfOk, IfErr, OnOk};
 ghost use Rattle.bk_syntax.specs.Tree.{expression};
 ghost use Rattle.bk_scope.specs.Wrong.{text_of};
 ghost use Rattle.bk_scope.specs.FirstFault.{first_fault, wrong_of, misnamed, breach_of};
@@ -243,6 +243,7 @@ impl<'a> Findings<'a> {
         ensures right { OnOk result (self.entry.first ≡ None) }
         ensures known { IfOk result (λ known. (known.meanings.items ≡ self.entry.meanings) × (known.words.items ≡ self.entry.words)) }
         ensures wrong { IfErr result (λ fault. self.entry.first ≡ Some (breach_of fault)) }
+        ensures fits { self.entry.next < 2 ^ 32 }
     {
         match self.first.fault() {
             None => Ok(Known {

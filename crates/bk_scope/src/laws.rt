@@ -1,5 +1,7 @@
 //! Laws of the definition, for the crates above.
 ghost use Rattle.bk_scope.specs.Laws.{SectionsAreClean, PartsAreClean, PartsHaveStretches, FaultlessIsSound};
+ghost use Rattle.bk_scope.specs.Cases.{CasesDiffer};
+ghost use Rattle.bk_scope.specs.Given.{NumbersDiffer};
 
 /// Nothing that is told of a section without faults is one.
 pub fn sections_are_clean()
@@ -19,4 +21,14 @@ pub fn parts_have_stretches()
 /// Each node of a section without faults is sound.
 pub fn faultless_is_sound()
     ensures { FaultlessIsSound }
+{}
+
+/// The CASEs of a SWITCHON have different words, and one DEFAULT at most stands among them.
+pub fn cases_differ()
+    ensures { CasesDiffer }
+{}
+
+/// The numbers of declarations differ.
+pub fn numbers_differ()
+    ensures { NumbersDiffer }
 {}

@@ -24,6 +24,9 @@ mod tests;
 mod walk;
 
 pub use bound::Bound;
-pub use laws::{faultless_is_sound, parts_are_clean, parts_have_stretches, sections_are_clean};
+pub use laws::{
+    cases_differ, faultless_is_sound, numbers_differ, parts_are_clean, parts_have_stretches,
+    sections_are_clean,
+};
 pub use resolving::resolve;
 pub use section_names::Resolved;

@@ -9,7 +9,7 @@ use crate::entering::{
     enter_formals, enter_labels, enter_labels_of_each, enter_procedures, list_names,
 };
 use crate::fresh::Fresh;
-use crate::heads::{choose, choose_default, head, in_switch, single, vector};
+use crate::heads::{choose, choose_default, head, in_switch, label, single, vector};
 use crate::items::{constants, globals, line_of, manifests, statics};
 use crate::naming::{go_to, name_at, without_word};
 use crate::operands::{fit_infix, fit_prefix, place_of_second, role_of_operand, role_of_operands};
@@ -165,8 +165,13 @@ pub fn act<'a>(walk: &mut Walk<'a>, place: Place, command: &'a Command) -> Resul
             )
         }
         Command::Label(line, letters, body) => {
-            walk.findings.lists(place.labels, *line, letters)?;
-            walk.findings.names(walk.table.find(letters))?;
+            label(
+                &mut walk.findings,
+                &walk.table,
+                place.labels,
+                *line,
+                letters,
+            )?;
             act(walk, place, body)
         }
         Command::Case(line, expr, body) => {

@@ -1,0 +1,5 @@
+pub mod LibraryWords
+pub mod PlacedStore
+pub mod Agreement
+pub mod StandsFor
+pub mod PlainCode
