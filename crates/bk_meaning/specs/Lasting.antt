@@ -1,7 +1,7 @@
 -- What lasts for the whole run: the global vector, and each string, table, static word and procedure of the sections, in the
 -- order of the source. The nth of them, from 0, is object n, and procedure n if it is one.
-use Rattle.std.specs.Prelude.{ℕ, suc, ◌+◌, Option, Some, None, unwrap_or, List, [], ◌∷◌, ◌++◌, length, map, replicate, slice_get, slice_set}
-use Rattle.bk_base.specs.Word.{packed_word}
+use Rattle.std.specs.Prelude.{ℕ, suc, ◌+◌, Option, Some, None, unwrap_or, List, [], ◌∷◌, ◌++◌, map, replicate, slice_get, slice_set}
+use Rattle.bk_base.specs.Strings.{string_words, first_bytes}
 use Rattle.bk_syntax.specs.declared.tree.Sort.{Sort}
 use Rattle.bk_syntax.specs.declared.tree.Sort.TheVariants as s
 use Rattle.bk_syntax.specs.Tree as t
@@ -28,16 +28,9 @@ pub data Lasting : Type 0 where
   words : (ws : List ℕ) → Lasting
   code : (p : Procedure) → Lasting
 
--- A string: byte 0 is the length, and four bytes go to a word; the last word is filled with zeros.
-abbrev pub packed : List ℕ → List ℕ
-packed [] = []
-packed (a ∷ []) = packed_word a 0 0 0 ∷ []
-packed (a ∷ b ∷ []) = packed_word a b 0 0 ∷ []
-packed (a ∷ b ∷ c ∷ []) = packed_word a b c 0 ∷ []
-packed (a ∷ b ∷ c ∷ d ∷ rest) = packed_word a b c d ∷ packed rest
-
-abbrev pub string_words : List ℕ → List ℕ
-string_words bytes = packed (length bytes ∷ bytes)
+-- the words of a string of the source: byte 0 is its length, and the last word is filled with zeros
+abbrev pub text_words : List ℕ → List ℕ
+text_words bytes = string_words (first_bytes bytes)
 
 abbrev pub constant_words : Environment → Expressions → List ℕ
 constant_words env t.none = []
@@ -81,7 +74,7 @@ in_for x c env = in_scope c (bind x.letters foreign env)
 
 abbrev mutual
   pub of_expression : Environment → Expression → List Lasting
-  of_expression env (t.text l x) = words (string_words x) ∷ []
+  of_expression env (t.text l x) = words (text_words x) ∷ []
   of_expression env (t.parens l e) = of_expression env e
   of_expression env (t.unary l q e) = of_expression env e
   of_expression env (t.binary l q m a b) = of_expression env a ++ of_expression (past a env) b
