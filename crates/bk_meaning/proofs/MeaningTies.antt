@@ -13,8 +13,9 @@ use Rattle.bk_meaning.specs.Program.{turn_for, means_with, no_turn_for, no_turns
 use Rattle.bk_meaning.specs.Calls.{call}
 use Rattle.bk_meaning.specs.Growing.{History, history, sizes, Keeps, InItsWorld, After, Restores, Throughout, OutputOnlyGrows, CallsComeBack, MemoryNeverShrinks, WhatLastsLives}
 use Rattle.bk_meaning.specs.Turns.{with_turns, shown, RunGoesOn, Continues, the_same, further, MoreTurns, ReadsFromTheFront}
+use Rattle.bk_meaning.proofs.After.{stays}
 use Rattle.bk_meaning.proofs.Objects.{kept_length, kept_lives, first_lives}
-use Rattle.bk_meaning.proofs.Ties.{stays, Below, gives_more, leaves_more, ends_more, undefined_still, cut, Tied, Ties, ties, gives_tied, cut_tied, going_tied, turn_tied}
+use Rattle.bk_meaning.proofs.Ties.{Below, gives_more, leaves_more, ends_more, undefined_still, cut, Tied, Ties, ties, gives_tied, cut_tied, going_tied, turn_tied}
 use Rattle.bk_meaning.proofs.NodeTies.{AllTied, value_of_ties, truth_of_ties, target_of_ties, act_of_ties, rounds_of_ties, for_rounds_of_ties, scope_ties, call_ties}
 
 turn_for_tied : (c : Action) (go to : World → Outcome Done) → Ties go to → (w : World) (n : ℕ) → w.turns ≤ n → Tied w (turn_for c w go) (turn_for c (with_turns n w) to)

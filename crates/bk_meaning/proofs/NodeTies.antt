@@ -27,7 +27,8 @@ use Rattle.bk_meaning.specs.Loops
 use Rattle.bk_meaning.specs.Blocks
 use Rattle.bk_meaning.specs.Commands
 use Rattle.bk_meaning.specs.Turns.{with_turns}
-use Rattle.bk_meaning.proofs.Ties.{gives_more, Tied, Ties, ties, each_way_tied, with_tied, gives_tied, leaves_tied, ends_tied, undefined_tied, given_tied, either_tied, turn_tied, closing_tied, changes_tied, writing_on, taking_on, making_tied, call_tied, at_home}
+use Rattle.bk_meaning.proofs.Ties.{gives_more, Tied, Ties, ties, each_way_tied, with_tied, gives_tied, leaves_tied, ends_tied, undefined_tied, given_tied, either_tied, turn_tied, closing_tied, changes_tied, making_tied, call_tied, at_home}
+use Rattle.bk_meaning.proofs.After.{writing_on, taking_on}
 use Rattle.bk_meaning.proofs.Objects.{write_keeps, write_byte_keeps}
 
 -- the parts of the meaning, with fewer turns and with more

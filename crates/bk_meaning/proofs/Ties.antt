@@ -1,27 +1,13 @@
--- Runs of one tree, with fewer turns and with more; and what every run only adds to, or leaves as it was.
-use Rattle.std.proofs.Common.{◌≡◌, ℕ, zero, suc, ◌+◌, ◌≤◌, Bool, true, false, List, [], ◌++◌, length, Option, Some, None, refl, sym, ap, ◌∙◌, append_assoc, arith}
+-- Runs of one tree, with fewer turns and with more; and what each of them only adds to, or leaves as it was.
+use Rattle.std.proofs.Common.{ℕ, zero, suc, ◌+◌, ◌≤◌, Bool, true, false, List, [], length, Option, Some, None, refl, sym, ◌∙◌, arith}
 use Rattle.std.proofs.lemmas.List.{append-nil}
 use Rattle.bk_meaning.specs.Values.{Value, Cell}
 use Rattle.bk_meaning.specs.Memory.{Memory, dead_from}
-use Rattle.bk_meaning.specs.World.{World, Exit, End, Outcome, gives, leaves, ends, undefined, going, each_way, with, given, either, turn, turn_of, closing, forgetting, changes, remembering, making, calling, calls_back, writing}
+use Rattle.bk_meaning.specs.World.{World, Exit, End, Outcome, gives, leaves, ends, undefined, going, each_way, with, given, either, turn, turn_of, closing, forgetting, changes, remembering, making, calling, calls_back}
 use Rattle.bk_meaning.specs.Growing.{History, history, Grows, sizes, ComesBack, After, Restores}
 use Rattle.bk_meaning.specs.Turns.{with_turns}
+use Rattle.bk_meaning.proofs.After.{stays, earlier, Adds, adds, each_way_after, closing_after, calling_on}
 use Rattle.bk_meaning.proofs.Objects.{kept_still, kept_on, sizes-made, closed_keep, KeepsSizes}
-
-pub stays : (h : History) → Grows h h
-stays h = record { written = []; output = sym (append-nil h.output); taken = []; input = refl; most_calls = omega arith }
-
-pub then_on : (u v w : History) → Grows u v → Grows v w → Grows u w
-then_on u v w a b =
-    let am : u.most_calls ≤ v.most_calls = a.most_calls in
-    let bm : v.most_calls ≤ w.most_calls = b.most_calls in
-    record {
-      written = a.written ++ b.written;
-      output = b.output ∙ ap (λ x. x ++ b.written) a.output ∙ append_assoc u.output a.written b.written;
-      taken = a.taken ++ b.taken;
-      input = a.input ∙ ap (λ x. a.taken ++ x) b.input ∙ sym (append_assoc a.taken b.taken _);
-      most_calls = omega (arith, am, bm);
-    }
 
 -- the same calls and objects
 pub at_home : (w : World) → ComesBack w.calls (sizes w.memory) w.calls (sizes w.memory)
@@ -47,13 +33,6 @@ pub record Ties {A : Type 0} (go to : World → Outcome A) : Type 0 where
 pub ties : {A : Type 0} (go to : World → Outcome A) → ((w : World) (n : ℕ) → w.turns ≤ n → Tied w (go w) (to (with_turns n w))) → Ties go to
 ties go to at = record { at = at }
 
-from_on : {A : Type 0} (u w : History) (o : Outcome A) → Grows u w → After w o → After u o
-from_on u w (gives a v) g h = then_on u w (history v) g h
-from_on u w (leaves x v) g h = then_on u w (history v) g h
-from_on u w (ends e v) g h = then_on u w (history v) g h
-from_on u w undefined g h = tt
-from_on u w (going v) g h = then_on u w (history v) g h
-
 from_kept : {A : Type 0} (c : ℕ) (s : List (Option ℕ)) (d : ℕ) (t : List (Option ℕ)) (o : Outcome A) → ComesBack c s d t → Restores d t o → Restores c s o
 from_kept c s d t (gives a v) g h = record { calls = h.calls ∙ g.calls; kept = kept_on _ _ _ g.kept h.kept }
 from_kept c s d t (leaves x v) g h = record { calls = h.calls ∙ g.calls; kept = kept_on _ _ _ g.kept h.kept }
@@ -63,14 +42,11 @@ from_kept c s d t (going v) g h = kept_on _ _ _ g.kept h
 
 -- from an earlier world
 pub from : {A : Type 0} (u w : World) (o p : Outcome A) → Grows (history u) (history w) → ComesBack u.calls (sizes u.memory) w.calls (sizes w.memory) → Tied w o p → Tied u o p
-from u w o p g k t = record { below = t.below; on = from_on (history u) (history w) p g t.on; kept = from_kept _ _ _ _ p k t.kept }
+from u w o p g k t = record { below = t.below; on = earlier (history u) (history w) p g t.on; kept = from_kept _ _ _ _ p k t.kept }
 
-on_each_way : {A B : Type 0} (w : History) (u : Outcome A) (on to : A → World → Outcome B) (out off : Exit → World → Outcome B) → After w u → ((a : A) → Ties (on a) (to a)) → ((x : Exit) → Ties (out x) (off x)) → After w (each_way to off u)
-on_each_way w (gives a v) on to out off g h x = from_on w (history v) (to a v) g (((h a).at v v.turns (omega arith)).on)
-on_each_way w (leaves y v) on to out off g h x = from_on w (history v) (off y v) g (((x y).at v v.turns (omega arith)).on)
-on_each_way w (ends e v) on to out off g h x = g
-on_each_way w undefined on to out off g h x = tt
-on_each_way w (going v) on to out off g h x = g
+-- With more turns too, what is done only adds to the history.
+pub ties_add : {A : Type 0} (go to : World → Outcome A) → Ties go to → Adds to
+ties_add go to h = adds to (λ w. (h.at w w.turns (omega arith)).on)
 
 kept_each_way : {A B : Type 0} (c : ℕ) (s : List (Option ℕ)) (u : Outcome A) (on to : A → World → Outcome B) (out off : Exit → World → Outcome B) → Restores c s u → ((a : A) → Ties (on a) (to a)) → ((x : Exit) → Ties (out x) (off x)) → Restores c s (each_way to off u)
 kept_each_way c s (gives a v) on to out off g h x = from_kept c s _ _ (to a v) g (((h a).at v v.turns (omega arith)).kept)
@@ -88,8 +64,8 @@ each_way_tied {A = A} w u v on to out off t h x = by u v t.below t.on t.kept
     by _ _ (ends_more e v n le) up back = record { below = ends_more e v n le; on = up; kept = back }
     by _ _ undefined_still up back = record { below = undefined_still; on = tt; kept = tt }
     by _ _ (cut v p up) ahead back = record {
-      below = cut v _ (on_each_way (history v) p on to out off up h x);
-      on = on_each_way (history w) p on to out off ahead h x;
+      below = cut v _ (each_way_after (history v) p to off up (λ a. ties_add (on a) (to a) (h a)) (λ y. ties_add (out y) (off y) (x y)));
+      on = each_way_after (history w) p to off ahead (λ a. ties_add (on a) (to a) (h a)) (λ y. ties_add (out y) (off y) (x y));
       kept = kept_each_way _ _ p on to out off back h x;
     }
 
@@ -139,18 +115,8 @@ turn_tied go to h w n le = at w.turns n le
 pub closing_tied : {A : Type 0} (w : World) (u v : Outcome A) → Tied w u v → Tied w (closing (length w.memory) u) (closing (length w.memory) v)
 closing_tied {A = A} w u v t = by u v t.below t.on t.kept
   where
-    k : ℕ
-    k = length w.memory
-
     closed : (v : World) → ComesBack w.calls (sizes w.memory) v.calls (sizes v.memory) → ComesBack w.calls (sizes w.memory) v.calls (sizes (dead_from (length w.memory) v.memory))
     closed v back = record { calls = back.calls; kept = closed_keep w.memory v.memory back.kept }
-
-    closed_after : (h : History) (o : Outcome A) → After h o → After h (closing (length w.memory) o)
-    closed_after h (gives a v) up = up
-    closed_after h (leaves x v) up = up
-    closed_after h (ends e v) up = up
-    closed_after h undefined up = tt
-    closed_after h (going v) up = up
 
     closed_kept : (o : Outcome A) → Restores w.calls (sizes w.memory) o → Restores w.calls (sizes w.memory) (closing (length w.memory) o)
     closed_kept (gives a v) back = closed v back
@@ -164,7 +130,7 @@ closing_tied {A = A} w u v t = by u v t.below t.on t.kept
     by _ _ (leaves_more x v n le) up back = record { below = leaves_more x (forgetting (length w.memory) v) n le; on = up; kept = closed v back }
     by _ _ (ends_more e v n le) up back = record { below = ends_more e v n le; on = up; kept = back }
     by _ _ undefined_still up back = undefined_tied w
-    by _ _ (cut v o up) ahead back = record { below = cut v _ (closed_after (history v) o up); on = closed_after (history w) o ahead; kept = closed_kept o back }
+    by _ _ (cut v o up) ahead back = record { below = cut v _ (closing_after (history v) (length w.memory) o up); on = closing_after (history w) (length w.memory) o ahead; kept = closed_kept o back }
 
 -- memory that was changed, in cells alone
 pub changes_tied : (m : Option Memory) (w : World) (n : ℕ) → w.turns ≤ n → KeepsSizes w.memory m → Tied w (changes m w) (changes m (with_turns n w))
@@ -175,15 +141,6 @@ changes_tied (Some m) w n le same = record {
   kept = record { calls = refl; kept = record { made = []; objects = same ∙ sym (append-nil (sizes w.memory)) } };
 }
 
-pub writing_on : (bytes : List ℕ) (w : World) → Grows (history w) (history (writing bytes w))
-writing_on bytes w = record { written = bytes; output = refl; taken = []; input = refl; most_calls = omega arith }
-
-pub taking_on : (taken rest : List ℕ) (w : World) → w.input ≡ taken ++ rest → Grows (history w) (history (record w { input = rest }))
-taking_on taken rest w is = record { written = []; output = sym (append-nil w.output); taken = taken; input = is; most_calls = omega arith }
-
-pub calling_on : (w : World) → Grows (history w) (history (calling w))
-calling_on w = record { written = []; output = sym (append-nil w.output); taken = []; input = refl; most_calls = omega arith }
-
 -- with a new object
 pub making_tied : {A : Type 0} (cells : List Cell) (w : World) (o p : Outcome A) → Tied (making cells w) o p → Tied w o p
 making_tied cells w o p t = from w (making cells w) o p (stays (history w)) (record { calls = refl; kept = sizes-made cells w.memory }) t
@@ -192,15 +149,8 @@ making_tied cells w o p t = from w (making cells w) o p (stays (history w)) (rec
 pub call_tied : (w : World) (u v : Outcome Value) → Tied (calling w) u v → Tied w (each_way (λ x after. gives x (calls_back w.calls after)) (λ x w. undefined) u) (each_way (λ x after. gives x (calls_back w.calls after)) (λ x w. undefined) v)
 call_tied w u v t = by u v t.below t.on t.kept
   where
-    back_to : Outcome Value → Outcome Value
-    back_to o = each_way (λ x after. gives x (calls_back w.calls after)) (λ x w. undefined) o
-
     returned : (h : History) (o : Outcome Value) → After h o → After h (each_way (λ x after. gives x (calls_back w.calls after)) (λ x w. undefined) o)
-    returned h (gives a v) up = up
-    returned h (leaves x v) up = tt
-    returned h (ends e v) up = up
-    returned h undefined up = tt
-    returned h (going v) up = up
+    returned h o up = each_way_after h o (λ x after. gives x (calls_back w.calls after)) (λ x w. undefined) up (λ a. adds _ (λ v. stays (history v))) (λ x. adds _ (λ v. tt))
 
     came_back : (o : Outcome Value) → Restores (w.calls + 1) (sizes w.memory) o → Restores w.calls (sizes w.memory) (each_way (λ x after. gives x (calls_back w.calls after)) (λ x w. undefined) o)
     came_back (gives a v) k = record { calls = refl; kept = k.kept }
@@ -210,7 +160,7 @@ call_tied w u v t = by u v t.below t.on t.kept
     came_back (going v) k = k
 
     later : (o : Outcome Value) → After (history (calling w)) o → After (history w) o
-    later o up = from_on (history w) (history (calling w)) o (calling_on w) up
+    later o up = earlier (history w) (history (calling w)) o (calling_on w) up
 
     by : (u v : Outcome Value) → Below u v → After (history (calling w)) v → Restores (w.calls + 1) (sizes w.memory) v → Tied w (each_way (λ x after. gives x (calls_back w.calls after)) (λ x w. undefined) u) (each_way (λ x after. gives x (calls_back w.calls after)) (λ x w. undefined) v)
     by _ _ (gives_more a v n le) up k = record { below = gives_more a (calls_back w.calls v) n le; on = returned (history w) (gives a v) (later (gives a v) up); kept = came_back (gives a v) k }

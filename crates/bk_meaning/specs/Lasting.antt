@@ -28,6 +28,10 @@ pub data Lasting : Type 0 where
   words : (ws : List ℕ) → Lasting
   code : (p : Procedure) → Lasting
 
+-- the words of a string of the source: byte 0 is its length, and the last word is filled with zeros
+abbrev pub text_words : List ℕ → List ℕ
+text_words bytes = string_words (first_bytes bytes)
+
 abbrev pub constant_words : Environment → Expressions → List ℕ
 constant_words env t.none = []
 constant_words env (t.more e es) = unwrap_or (constant_in env e) 0 ∷ constant_words env es
@@ -70,7 +74,7 @@ in_for x c env = in_scope c (bind x.letters foreign env)
 
 abbrev mutual
   pub of_expression : Environment → Expression → List Lasting
-  of_expression env (t.text l x) = words (string_words (first_bytes x)) ∷ []
+  of_expression env (t.text l x) = words (text_words x) ∷ []
   of_expression env (t.parens l e) = of_expression env e
   of_expression env (t.unary l q e) = of_expression env e
   of_expression env (t.binary l q m a b) = of_expression env a ++ of_expression (past a env) b

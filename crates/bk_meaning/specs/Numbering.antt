@@ -6,8 +6,7 @@ use Rattle.bk_syntax.specs.declared.tree.Sort.TheVariants as s
 use Rattle.bk_syntax.specs.Tree as t
 use Rattle.bk_syntax.specs.Tree.{Mention, Expression, Expressions, Action, Actions, Declaration, Declarations, Items, Definition, Definitions, Starts}
 use Rattle.bk_meaning.specs.Environment.{Environment, past, past_each, past_action, past_definition, constant_in, labelled, within_let, objects_of_declarations}
-use Rattle.bk_base.specs.Strings.{string_words, first_bytes}
-use Rattle.bk_meaning.specs.Lasting.{command, expression, Lasting, words, constant_words, declared, all_declared, procedure_here, inside, in_scope, in_for, of_declarations, Program, program_of}
+use Rattle.bk_meaning.specs.Lasting.{command, expression, Lasting, words, text_words, constant_words, declared, all_declared, procedure_here, inside, in_scope, in_for, of_declarations, Program, program_of}
 
 abbrev pub AsManyAsCounted : Type 0
 AsManyAsCounted = (env : Environment) (ds : Declarations) → length (of_declarations env ds) ≡ objects_of_declarations ds
@@ -26,7 +25,7 @@ InItems p env _ is = Unit {0}
 -- all that lasts of a tree stands at its number
 abbrev mutual
   pub InExpression : Program → Environment → Expression → Type 0
-  InExpression p env (t.text l x) = StandsAt p env.next (words (string_words (first_bytes x)))
+  InExpression p env (t.text l x) = StandsAt p env.next (words (text_words x))
   InExpression p env (t.parens l e) = InExpression p env e
   InExpression p env (t.unary l q e) = InExpression p env e
   InExpression p env (t.binary l q m a b) = InExpression p env a × InExpression p (past a env) b
