@@ -1,25 +1,24 @@
 -- The pass and what is told, where a word is asked for: that an expression has none is told in front of it.
-use Rattle.std.proofs.Common.{◌≡◌, ℕ, ◌+◌, ◌*◌, ◌<◌, ◌==◌, Bool, true, false, cond, not, Option, Some, None, List, [], ◌∷◌, ◌++◌, length, ◌≤◌, refl, sym, ap, ◌∙◌, subst, arith}
+use Rattle.std.proofs.Common.{◌≡◌, ℕ, ◌+◌, ◌<◌, ◌==◌, Bool, true, false, cond, not, Option, Some, None, List, [], ◌∷◌, ◌++◌, length, ◌≤◌, refl, sym, ap, ◌∙◌, subst, arith}
 use Rattle.std.proofs.lemmas.Bool.{false≢true}
-use Rattle.std.proofs.lemmas.List.{append-nil}
 use Rattle.bk_syntax.specs.Tree.{Expression, name, number, text, truth, query, parens, unary, binary, choice, apply, valof, table}
 use Rattle.bk_syntax.specs.Grammar.{size}
 use Rattle.bk_scope.specs.declared.bound.Bound.{Bound}
 use Rattle.bk_scope.specs.declared.bound.Bound.TheVariants.{Constant, Global, Static, Variable, Label}
 use Rattle.bk_scope.specs.declared.place.Place.{Place}
 use Rattle.bk_scope.specs.declared.role.Role.{Role}
-use Rattle.bk_scope.specs.declared.role.Role.TheVariants.{Value, Truth, Address, Destination}
+use Rattle.bk_scope.specs.declared.role.Role.TheVariants.{Value, Truth}
 use Rattle.bk_scope.specs.Scope.{Binding, bound_in}
-use Rattle.bk_scope.specs.Wrong.{Wrong, not_assignable, dynamic_name, text_of}
+use Rattle.bk_scope.specs.Wrong.{not_assignable, dynamic_name, text_of}
 use Rattle.bk_scope.specs.Found.{Found, else_first, breaks}
 use Rattle.bk_scope.specs.Places.{deeper, labelled, valued}
 use Rattle.bk_scope.specs.Entering.{labels_of}
 use Rattle.bk_scope.specs.Scoping.{labels_in_scope}
 use Rattle.bk_scope.specs.Names.{is_usable, begins_wrong, unassignable, parenthesised, role_of_operand, role_of_operands, place_of_second}
 use Rattle.bk_scope.specs.Spots.{Spot, onward, past, behind, symbols, symbols_each, symbols_done}
-use Rattle.bk_scope.specs.Points.{Point, at, meaning, in_order, judged, first_told}
-use Rattle.bk_scope.specs.Faults.{used_at, depth_named, told, told_each}
-use Rattle.bk_scope.proofs.Tied.{Tied, Spans, broken, both, among, wider, behind_it, else_none}
+use Rattle.bk_scope.specs.Points.{Point, at, meaning}
+use Rattle.bk_scope.specs.Faults.{used_at, told}
+use Rattle.bk_scope.proofs.Tied.{Tied, Spans, broken, both, among, wider, behind_it}
 use Rattle.bk_scope.proofs.Constants.{at_spans, each_constant_spans}
 use Rattle.bk_scope.proofs.Spine.{not_assignable_behind}
 use Rattle.bk_scope.proofs.Scopes.{recount, pushed_spans}

@@ -12,16 +12,16 @@ use Rattle.bk_scope.specs.declared.role.Role.TheVariants.{Value, Truth}
 use Rattle.bk_scope.specs.Scope.{Binding, bound_in, bind}
 use Rattle.bk_scope.specs.Wrong.{Wrong, text_of, case_repeated, default_repeated, dynamic_name, label_not_here, no_loop, no_switchon, no_result_or_return}
 use Rattle.bk_scope.specs.Constants.{constant_word, wrongs}
-use Rattle.bk_scope.specs.Found.{Found, Claim, choosing, defaulting, is_claimed, else_first, first_of, breaks_first, breaks, claims_once, claims_new, means, holds, takes, reaches}
+use Rattle.bk_scope.specs.Found.{Found, choosing, defaulting, is_claimed, else_first, first_of, breaks_first, breaks, claims_new, holds, takes, reaches}
 use Rattle.bk_scope.specs.Places.{deeper, looping, labelled}
-use Rattle.bk_scope.specs.Entering.{Stage, labels_of, with_labels}
-use Rattle.bk_scope.specs.Names.{evaluated, each_evaluated, destinations, done, each_done, reached, listed, named_as, switched, chosen, defaulted, single, constant_found, constants_found}
-use Rattle.bk_scope.specs.Spots.{Spot, onward, past, numbered, behind, behind_each, behind_done, behind_constant, symbols, symbols_each, symbols_done, numbers, numbers_each, numbers_done, numbers_done_each}
-use Rattle.bk_scope.specs.Points.{Fault, Point, at, meaning, word, claim, judged, in_order, first_told}
+use Rattle.bk_scope.specs.Entering.{Stage, labels_of}
+use Rattle.bk_scope.specs.Names.{evaluated, destinations, done, reached, listed, named_as, switched, chosen, defaulted, single, constant_found, constants_found}
+use Rattle.bk_scope.specs.Spots.{Spot, onward, past, numbered, behind, behind_each, behind_done, behind_constant, symbols_each, numbers, numbers_each, numbers_done}
+use Rattle.bk_scope.specs.Points.{at, word, claim, in_order, first_told}
 use Rattle.bk_scope.specs.Scoping.{labels_in_scope}
-use Rattle.bk_scope.specs.Faults.{unless, gone_to, chosen_at, defaulted_at, single_at, its_meaning, one_of, its_word, constant, each_constant, pushed, told, told_each, told_destinations, told_done, told_done_each}
+use Rattle.bk_scope.specs.Faults.{unless, gone_to, chosen_at, defaulted_at, single_at, its_meaning, one_of, its_word, constant, each_constant, pushed, told, told_destinations, told_done}
 use Rattle.bk_scope.proofs.Worded.{no_wrong}
-use Rattle.bk_scope.proofs.Tied.{Tied, Spans, broken, both, among, wider, behind_it, else_none, nothing_told}
+use Rattle.bk_scope.proofs.Tied.{Tied, Spans, broken, both, wider, behind_it, else_none, nothing_told}
 use Rattle.bk_scope.proofs.Operators.{ETied, EsTied, CTied}
 use Rattle.bk_scope.proofs.Scopes.{CsTied, moved, moved_tied, recount, no_span, with_labels_is, pushed_tied, pushed_spans}
 use Rattle.bk_scope.proofs.Procedures.{claim_tied, listed_tied, one_spans}

@@ -1,27 +1,25 @@
 -- The pass and what is told, where a constant is asked for.
-use Rattle.std.proofs.Common.{◌≡◌, ℕ, ◌+◌, ◌*◌, ◌≤◌, ◌<◌, ◌==◌, Bool, true, false, cond, Option, Some, None, List, [], ◌∷◌, ◌++◌, refl, sym, ap, ◌∙◌, append_assoc, subst, arith}
+use Rattle.std.proofs.Common.{◌≡◌, ℕ, ◌+◌, ◌*◌, ◌≤◌, ◌==◌, Bool, true, false, cond, Option, Some, None, List, [], ◌∷◌, ◌++◌, refl, sym, ap, ◌∙◌, append_assoc, subst, arith}
 use Rattle.std.specs.Prelude.{nat_lt}
-use Rattle.std.specs.Option.{option_and_then}
 use Rattle.std.proofs.lemmas.List.{append-nil}
 use Rattle.std.proofs.lemmas.Option.{none-some}
 use Rattle.std.proofs.lemmas.Bool.{eq-eqb, false≢true, le-ltb, ltb-true}
 use Rattle.bk_syntax.specs.declared.tree.Operator.{Operator}
 use Rattle.bk_syntax.specs.declared.tree.Operator.TheVariants as o
-use Rattle.bk_syntax.specs.declared.tree.Prefix.{Prefix}
 use Rattle.bk_syntax.specs.Tree.{Expression, Expressions, name, number, text, truth, query, parens, unary, binary, choice, apply, valof, table, none, more}
 use Rattle.bk_scope.specs.declared.bound.Bound.{Bound}
 use Rattle.bk_scope.specs.declared.bound.Bound.TheVariants.{Constant, Global, Static, Variable, Label}
 use Rattle.bk_scope.specs.Scope.{Binding, bound_in}
-use Rattle.bk_scope.specs.Wrong.{Wrong, Breach, not_declared, dynamic_name, not_constant, divided_by_zero, label_not_here, text_of}
-use Rattle.bk_scope.specs.Constants.{named_word, prefix_word, infix_word, constant_word, is_prefix_of_constants, is_infix_of_constants, divides, divides_by_zero, wrong_name, wrongs}
+use Rattle.bk_scope.specs.Wrong.{Wrong, Breach, dynamic_name, not_constant, divided_by_zero, label_not_here, text_of}
+use Rattle.bk_scope.specs.Constants.{named_word, constant_word, is_prefix_of_constants, is_infix_of_constants, divides, divides_by_zero, wrong_name, wrongs}
 use Rattle.bk_scope.specs.Found.{Found, Claim, first_of, else_first, breaks_first, holds}
 use Rattle.bk_scope.specs.Names.{constant_found, constants_found}
 use Rattle.bk_scope.specs.Spots.{Spot, past, behind_constant, symbols, symbols_each}
-use Rattle.bk_scope.specs.Points.{Fault, Point, meaning, word, depth, wrong, claim, at, claims_behind, judged, in_order, first_told, meanings_of, words_of, deepest, number_of}
+use Rattle.bk_scope.specs.Points.{Point, meaning, word, depth, wrong, claim, at, claims_behind, judged, in_order, first_told, meanings_of, words_of, deepest, number_of}
 use Rattle.bk_scope.specs.Faults.{unless, constant_name, constant_wrongs, constant_wrongs_each, its_word, constant, each_constant}
 use Rattle.bk_scope.proofs.Firsts.{first_of-append}
-use Rattle.bk_scope.proofs.Worded.{no_wrong, prefix_right, infix_right}
-use Rattle.bk_scope.proofs.Lists.{below_32, inside_append, inside_wider, first_of_both, claims_append, meanings_append, words_append, deepest_append, judged_append}
+use Rattle.bk_scope.proofs.Worded.{prefix_right, infix_right}
+use Rattle.bk_scope.proofs.Lists.{below_32, inside_wider, first_of_both}
 use Rattle.bk_scope.proofs.Tied.{Tied, Spans, both, among, wider, behind_it, else_none, nothing_told}
 use Rattle.bk_scope.proofs.Scopes.{recount, no_span}
 

@@ -16,17 +16,17 @@ use Rattle.bk_scope.specs.Found.{Found, breaks, means, takes, reaches}
 use Rattle.bk_scope.specs.Places.{deeper}
 use Rattle.bk_scope.specs.Entering.{Stage}
 use Rattle.bk_scope.specs.Names.{Behind, evaluated, listed, all_listed, constant_found, bounded, within, words_of_start, manifests, statics, globals, started, declared, one_declared}
-use Rattle.bk_scope.specs.Spots.{Spot, past, numbered, behind, behind_constant, behind_one_declared, symbols, symbols_items, numbers, numbers_items, numbers_declared, numbers_one_declared, numbers_started}
+use Rattle.bk_scope.specs.Spots.{Spot, past, numbered, behind, behind_constant, behind_one_declared, symbols, numbers, numbers_items, numbers_declared, numbers_one_declared, numbers_started}
 use Rattle.bk_scope.specs.Points.{Point, at, meaning, word}
 use Rattle.bk_scope.specs.Scoping.{manifests_in_scope, statics_in_scope, globals_in_scope, scope_behind_one, place_behind_one, scope_behind, place_behind_all}
-use Rattle.bk_scope.specs.Faults.{at_most, one_of, each_of, its_word, constant, constant_wrongs, pushed, manifest_items, static_items, global_items, told, told_declared, told_one_declared, told_started}
+use Rattle.bk_scope.specs.Faults.{at_most, one_of, each_of, its_word, constant, pushed, manifest_items, static_items, global_items, told, told_declared, told_one_declared, told_started}
 use Rattle.bk_scope.proofs.Tied.{Tied, Spans, broken, both, among, wider, behind_it, nothing_told}
 use Rattle.bk_scope.proofs.Operators.{ETied}
 use Rattle.bk_scope.proofs.Scopes.{DsTied, moved_tied, recount, no_span, pushed_tied, pushed_spans}
 use Rattle.bk_scope.proofs.Procedures.{listed_tied, one_spans, each_tied, each_spans}
 use Rattle.bk_scope.proofs.Lets.{OneTied, AllTied, let_told}
 use Rattle.bk_scope.proofs.Constants.{constant_right, constant_tied, whole_spans}
-use Rattle.bk_scope.proofs.Standing.{has_symbol, inside, most_spans, meaning_spans, nothing_spans, manifest_spans, static_spans, global_spans, declared_inside, one_declared_inside, defined_inside, started_inside}
+use Rattle.bk_scope.proofs.Standing.{has_symbol, inside, most_spans, meaning_spans, manifest_spans, static_spans, global_spans, declared_inside, one_declared_inside, defined_inside, started_inside}
 use Rattle.bk_scope.proofs.Expressions.{meant}
 
 abbrev stage : List Binding → Found → Stage

@@ -1,26 +1,26 @@
 -- The pass and what is told: expressions, in each role.
-use Rattle.std.proofs.Common.{◌≡◌, ℕ, ◌+◌, ◌<◌, ◌==◌, Bool, true, false, cond, Option, Some, None, List, [], ◌∷◌, ◌++◌, refl, sym, ap, subst, arith}
+use Rattle.std.proofs.Common.{◌≡◌, ℕ, ◌+◌, ◌<◌, ◌==◌, Bool, true, false, cond, Option, Some, None, List, [], ◌∷◌, ◌++◌, refl, sym, subst, arith}
 use Rattle.std.proofs.lemmas.List.{append-nil}
 use Rattle.bk_syntax.specs.declared.tree.Operator.{Operator}
 use Rattle.bk_syntax.specs.declared.tree.Operator.TheVariants as o
 use Rattle.bk_syntax.specs.declared.tree.Prefix.{Prefix}
 use Rattle.bk_syntax.specs.declared.tree.Prefix.TheVariants as q
 use Rattle.bk_syntax.specs.Tree.{Expression, Expressions, Action, name, number, text, truth, query, parens, unary, binary, choice, apply, valof, table, none, more}
-use Rattle.bk_syntax.specs.Grammar.{line_of, size}
+use Rattle.bk_syntax.specs.Grammar.{line_of}
 use Rattle.bk_scope.specs.declared.bound.Bound.{Bound}
 use Rattle.bk_scope.specs.declared.bound.Bound.TheVariants.{Constant, Global, Static, Variable, Label}
 use Rattle.bk_scope.specs.declared.place.Place.{Place}
 use Rattle.bk_scope.specs.declared.role.Role.{Role}
 use Rattle.bk_scope.specs.declared.role.Role.TheVariants.{Value, Truth, Address, Destination}
 use Rattle.bk_scope.specs.Scope.{Binding, bound_in, has_address}
-use Rattle.bk_scope.specs.Wrong.{Wrong, not_assignable, not_declared, label_not_here, dynamic_name, text_of}
+use Rattle.bk_scope.specs.Wrong.{Wrong, not_assignable, dynamic_name, text_of}
 use Rattle.bk_scope.specs.Found.{Found, means, breaks, reaches}
 use Rattle.bk_scope.specs.Places.{deeper}
-use Rattle.bk_scope.specs.Names.{evaluated, each_evaluated, destinations, used, unassignable, without_word, constants_found, parenthesised, place_of_second}
-use Rattle.bk_scope.specs.Spots.{Spot, past, behind, behind_each, symbols, symbols_each, numbers, numbers_each}
-use Rattle.bk_scope.specs.Points.{Point, at, meaning, depth}
-use Rattle.bk_scope.specs.Faults.{unless, used_at, addressed, assigned, pushed, each_constant, told, told_each, told_destinations}
-use Rattle.bk_scope.proofs.Tied.{Tied, Spans, broken, both, wider, behind_it, else_none, nothing_told}
+use Rattle.bk_scope.specs.Names.{evaluated, destinations, used, unassignable, without_word, constants_found, parenthesised}
+use Rattle.bk_scope.specs.Spots.{Spot, past, behind, symbols_each, numbers, numbers_each}
+use Rattle.bk_scope.specs.Points.{at, meaning, depth}
+use Rattle.bk_scope.specs.Faults.{unless, used_at, addressed, assigned, pushed, told, told_destinations}
+use Rattle.bk_scope.proofs.Tied.{Tied, broken, both, behind_it, else_none, nothing_told}
 use Rattle.bk_scope.proofs.Operators.{Plain, ETied, EsTied, CTied, binary_tied, apply_tied, without_plain}
 use Rattle.bk_scope.proofs.Scopes.{recount, pushed_tied, pushed_spans, valof_tied}
 use Rattle.bk_scope.proofs.Constants.{each_constant_tied, each_constant_spans}

@@ -1,6 +1,6 @@
 -- What names in scope mean where nothing is wrong: constants have words, globals numbers, and the variables of a procedure
 -- words of its frame from 2 on, below the depth.
-use Rattle.std.proofs.Common.{◌≡◌, ℕ, ◌+◌, ◌≤◌, ◌<◌, Bool, true, false, cond, Option, Some, List, [], ◌∷◌, ◌++◌, length, refl, subst, arith}
+use Rattle.std.proofs.Common.{◌≡◌, ℕ, ◌+◌, ◌≤◌, ◌<◌, Bool, true, false, cond, Option, Some, List, [], ◌∷◌, ◌++◌, length, subst, arith}
 use Rattle.std.specs.Str.{bytes_eq}
 use Rattle.std.proofs.lemmas.Option.{none-some}
 use Rattle.bk_base.specs.declared.limit.TheConstants.{GLOBAL_NUMBER, FRAME_WORDS}

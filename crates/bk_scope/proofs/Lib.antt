@@ -32,3 +32,4 @@ pub mod Safe
 pub mod Soundness
 pub mod Repeated
 pub mod Numbers
+pub mod Counting

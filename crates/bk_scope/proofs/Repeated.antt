@@ -1,8 +1,8 @@
 -- Of the claims of a list without faults none is made twice: the CASEs and the DEFAULT of a SWITCHON.
-use Rattle.std.proofs.Common.{◌≡◌, ℕ, zero, suc, ◌+◌, ◌≤◌, ◌==◌, Bool, true, false, cond, Option, Some, None, List, [], ◌∷◌, ◌++◌, refl, sym, ap, ◌∙◌, subst, arith}
-use Rattle.std.proofs.lemmas.Bool.{eq-eqb, eqb-true, false≢true}
+use Rattle.std.proofs.Common.{◌≡◌, ℕ, zero, suc, ◌+◌, ◌≤◌, Bool, true, false, cond, Option, Some, None, List, [], ◌∷◌, ◌++◌, refl, sym, ap, ◌∙◌, subst, arith}
+use Rattle.std.proofs.lemmas.Bool.{eq-eqb, false≢true}
 use Rattle.std.proofs.lemmas.List.{append-nil}
-use Rattle.bk_syntax.specs.Tree.{Expression, Action, Actions, empty, assign, call, goto, for_loop, result, simple, label, case_of, default, when, test, while, switch, block, repeat, repeat_while, no_actions, also, no_declarations, declare}
+use Rattle.bk_syntax.specs.Tree.{Action, Actions, empty, assign, call, goto, for_loop, result, simple, label, case_of, default, when, test, while, switch, block, repeat, repeat_while, no_actions, also, no_declarations, declare}
 use Rattle.bk_scope.specs.declared.place.Place.{Place}
 use Rattle.bk_scope.specs.declared.role.Role.TheVariants.{Value, Truth}
 use Rattle.bk_scope.specs.Scope.{Binding, bound_in}
@@ -11,7 +11,7 @@ use Rattle.bk_scope.specs.Constants.{constant_word}
 use Rattle.bk_scope.specs.Found.{Claim, choosing, defaulting, same_claim, is_claimed}
 use Rattle.bk_scope.specs.Places.{looping, switching}
 use Rattle.bk_scope.specs.Spots.{Spot, past, numbered, behind, behind_done, behind_constant}
-use Rattle.bk_scope.specs.Points.{Fault, Point, meaning, word, depth, wrong, claim, claiming, claimed, claims_behind, judged}
+use Rattle.bk_scope.specs.Points.{Fault, Point, meaning, word, depth, wrong, claim, claiming, claimed, claims_behind}
 use Rattle.bk_scope.specs.Faults.{chosen_at, defaulted_at, its_meaning, one_of, constant, told, told_done, told_done_each}
 use Rattle.bk_scope.specs.Laws.{Clean}
 use Rattle.bk_scope.specs.Cases.{word_if_any, case_words, case_words_each, defaults, defaults_each, NoneOf, AllDiffer, CasesDiffer}

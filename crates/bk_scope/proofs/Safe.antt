@@ -1,7 +1,7 @@
 -- Lists of points in which nothing is wrong by itself, and in a procedure no depth past the limit.
-use Rattle.std.proofs.Common.{◌≡◌, ℕ, ◌+◌, ◌≤◌, ◌<◌, Bool, true, false, cond, Option, Some, None, List, [], ◌∷◌, ◌++◌, length, refl, sym, ap, ◌∙◌, subst, arith}
+use Rattle.std.proofs.Common.{◌≡◌, ℕ, ◌+◌, ◌≤◌, Bool, true, false, cond, Option, Some, None, List, [], ◌∷◌, ◌++◌, length, refl, ◌∙◌, arith}
 use Rattle.std.specs.Prelude.{nat_lt, max}
-use Rattle.std.proofs.lemmas.Bool.{ltb-false, false≢true}
+use Rattle.std.proofs.lemmas.Bool.{ltb-false}
 use Rattle.bk_base.specs.declared.limit.TheConstants.{FRAME_WORDS}
 use Rattle.bk_syntax.specs.Tree.{Mention}
 use Rattle.bk_scope.specs.declared.bound.Bound.{Bound}
@@ -10,10 +10,9 @@ use Rattle.bk_scope.specs.Wrong.{Wrong, frame_too_large}
 use Rattle.bk_scope.specs.Places.{kept}
 use Rattle.bk_scope.specs.Spots.{Spot}
 use Rattle.bk_scope.specs.Points.{Point, meaning, word, depth, wrong, claim, at, deepest, without_depths}
-use Rattle.bk_scope.specs.Faults.{unless, at_most, its_frame, its_meaning, its_global, each_of, inside_procedure, procedure}
+use Rattle.bk_scope.specs.Faults.{unless, at_most, its_meaning, its_global, each_of, inside_procedure, procedure}
 use Rattle.bk_scope.specs.Laws.{NoWrong}
 use Rattle.bk_scope.specs.Sound.{FrameSound}
-use Rattle.bk_scope.proofs.Lists.{deepest_append}
 
 abbrev pub AllSafe : ℕ → List Point → Type 0
 AllSafe k [] = Unit {0}

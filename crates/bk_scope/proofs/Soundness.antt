@@ -20,17 +20,17 @@ use Rattle.bk_scope.specs.declared.bound.Bound.TheVariants.{Constant, Global, St
 use Rattle.bk_scope.specs.declared.place.Place.{Place}
 use Rattle.bk_scope.specs.declared.role.Role.{Role}
 use Rattle.bk_scope.specs.declared.role.Role.TheVariants.{Value, Truth, Address, Destination}
-use Rattle.bk_scope.specs.Scope.{Binding, bound_in, bind, bind_all, is_global}
+use Rattle.bk_scope.specs.Scope.{Binding, bound_in, bind, is_global}
 use Rattle.bk_scope.specs.Wrong.{Wrong, text_of, dynamic_name, label_not_here, not_constant, divided_by_zero, not_assignable, no_loop, no_switchon, no_result_or_return, global_out_of_range, vec_out_of_range}
 use Rattle.bk_scope.specs.Constants.{named_word, prefix_word, infix_word, constant_word, is_prefix_of_constants, is_infix_of_constants, divides, divides_by_zero}
 use Rattle.bk_scope.specs.Places.{kept, deeper, looping, switching, labelled, valued, called, outermost}
 use Rattle.bk_scope.specs.Entering.{labels_of, labels_of_each, with_formals}
 use Rattle.bk_scope.specs.Names.{parenthesised, role_of_operand, role_of_operands, place_of_second, within, words_of_start, variables_of, place_behind}
 use Rattle.bk_scope.specs.Spots.{Spot, procedures_in, onward, past, numbered, behind, behind_each, behind_done, behind_declared, behind_one_declared, behind_one_defined, behind_constant, symbols_each, beginning}
-use Rattle.bk_scope.specs.Points.{Point, meaning, depth, at}
+use Rattle.bk_scope.specs.Points.{Point, meaning, at}
 use Rattle.bk_scope.specs.Scoping.{labels_in_scope, procedure_in_scope, procedures_in_scope, place_behind_one_defined, place_behind_defined, variables_in_scope, manifests_in_scope, statics_in_scope, globals_in_scope, scope_behind_one, place_behind_one, scope_behind, place_behind_all}
-use Rattle.bk_scope.specs.Faults.{unless, used_at, gone_to, constant_name, constant_wrongs, its_word, constant, each_constant, at_most, addressed, assigned, prefixed, depth_named, pushed, chosen_at, defaulted_at, single_at, its_meaning, one_of, each_of, procedure, manifest_items, static_items, global_items, told, told_each, told_destinations, told_done, told_done_each, told_declared, told_one_declared, told_defined, told_one_defined, told_started, told_of, faults}
-use Rattle.bk_scope.specs.Sound.{Usable, GoesTo, HasWord, HasWordUpTo, HaveWords, Callable, PrefixSound, Stands, InSwitch, ManifestsSound, StaticsSound, GlobalsSound, FrameSound, Sound, SoundEach, SoundDestinations, SoundDone, SoundDoneEach, SoundDeclared, SoundOneDeclared, SoundDefined, SoundOneDefined, SoundStarted, SoundSection}
+use Rattle.bk_scope.specs.Faults.{unless, used_at, gone_to, constant_name, constant_wrongs, its_word, constant, each_constant, at_most, addressed, assigned, prefixed, depth_named, pushed, chosen_at, defaulted_at, single_at, its_meaning, one_of, each_of, manifest_items, static_items, global_items, told, told_each, told_destinations, told_done, told_done_each, told_declared, told_one_declared, told_defined, told_one_defined, told_started, told_of, faults}
+use Rattle.bk_scope.specs.Sound.{Usable, GoesTo, HasWord, HasWordUpTo, HaveWords, Callable, PrefixSound, Stands, ManifestsSound, StaticsSound, GlobalsSound, FrameSound, Sound, SoundEach, SoundDestinations, SoundDone, SoundDoneEach, SoundDeclared, SoundOneDeclared, SoundDefined, SoundOneDefined, SoundStarted, SoundSection}
 use Rattle.bk_scope.proofs.Fits.{FitsBound, Fits, fits_more, fits_inner, bound_fits, labels_fit, procedures_fit, append_fits, all_fit, formals_fit}
 use Rattle.bk_scope.proofs.Parts.{section_clean, no_wrong}
 use Rattle.bk_scope.proofs.Safe.{safe_outside, Safe, in_first, in_second, unless_true, when_false, bounded_safe, begins_within, procedure_safe}

@@ -1,5 +1,5 @@
 -- Where each part's faults stand: from its first symbol on, before what follows.
-use Rattle.std.proofs.Common.{◌≡◌, ℕ, ◌+◌, ◌*◌, ◌≤◌, ◌==◌, Bool, true, false, cond, Option, Some, None, List, [], ◌∷◌, ◌++◌, length, refl, arith}
+use Rattle.std.proofs.Common.{ℕ, ◌+◌, ◌≤◌, ◌==◌, Bool, true, false, cond, Option, Some, None, List, [], ◌∷◌, ◌++◌, length, arith}
 use Rattle.std.specs.Prelude.{nat_lt}
 use Rattle.bk_base.specs.declared.limit.TheConstants.{GLOBAL_NUMBER, VEC_NUMBER}
 use Rattle.bk_syntax.specs.declared.tree.Prefix.{Prefix}
@@ -7,7 +7,7 @@ use Rattle.bk_syntax.specs.declared.tree.Prefix.TheVariants as q
 use Rattle.bk_syntax.specs.declared.tree.Simple.{Simple}
 use Rattle.bk_syntax.specs.declared.tree.Simple.TheVariants as w
 use Rattle.bk_syntax.specs.declared.tree.Sort.TheVariants as sort
-use Rattle.bk_syntax.specs.Tree.{Mention, Expression, Expressions, Action, Actions, Declaration, Declarations, Items, Definition, Definitions, Starts, name, number, text, truth, query, parens, unary, binary, choice, apply, valof, table, none, more, empty, assign, call, goto, label, case_of, default, when, test, while, for_loop, switch, result, simple, block, repeat, repeat_while, no_actions, also, constants, definitions, no_declarations, declare, no_items, item, routine, function, variables, no_definitions, define, no_starts, value, vector}
+use Rattle.bk_syntax.specs.Tree.{Expression, Expressions, Action, Actions, Declaration, Declarations, Items, Definition, Definitions, Starts, name, number, text, truth, query, parens, unary, binary, choice, apply, valof, table, none, more, empty, assign, call, goto, label, case_of, default, when, test, while, for_loop, switch, result, simple, block, repeat, repeat_while, no_actions, also, constants, definitions, no_declarations, declare, no_items, item, routine, function, variables, no_definitions, define, no_starts, value, vector}
 use Rattle.bk_syntax.specs.Grammar.{line_of, size}
 use Rattle.bk_scope.specs.declared.bound.Bound.{Bound}
 use Rattle.bk_scope.specs.declared.bound.Bound.TheVariants.{Constant, Global, Static, Variable, Label}
@@ -21,9 +21,9 @@ use Rattle.bk_scope.specs.Places.{deeper, looping, switching, labelled, valued, 
 use Rattle.bk_scope.specs.Entering.{labels_of, labels_of_each, with_formals}
 use Rattle.bk_scope.specs.Names.{parenthesised, role_of_operand, role_of_operands, place_of_second, words_of_start}
 use Rattle.bk_scope.specs.Spots.{Spot, procedures_in, onward, past, numbered, behind, behind_each, behind_done, behind_declared, behind_one_declared, behind_one_defined, behind_constant, symbols, symbols_each, symbols_done, symbols_done_each, symbols_declared, symbols_one_declared, symbols_items, symbols_defined, symbols_one_defined, symbols_started}
-use Rattle.bk_scope.specs.Points.{Point, at, meaning}
+use Rattle.bk_scope.specs.Points.{at, meaning}
 use Rattle.bk_scope.specs.Scoping.{labels_in_scope, procedures_in_scope, place_behind_one_defined, scope_behind_one, place_behind_one, scope_behind, place_behind_all}
-use Rattle.bk_scope.specs.Faults.{unless, used_at, gone_to, at_most, addressed, assigned, prefixed, depth_named, pushed, chosen_at, defaulted_at, single_at, its_meaning, one_of, manifest_items, static_items, global_items, told, told_each, told_destinations, told_done, told_done_each, told_declared, told_one_declared, told_defined, told_one_defined, told_started}
+use Rattle.bk_scope.specs.Faults.{unless, used_at, gone_to, at_most, addressed, assigned, prefixed, depth_named, pushed, chosen_at, defaulted_at, single_at, its_meaning, manifest_items, static_items, global_items, told, told_each, told_destinations, told_done, told_done_each, told_declared, told_one_declared, told_defined, told_one_defined, told_started}
 use Rattle.bk_scope.proofs.Tied.{Spans, both, among, wider}
 use Rattle.bk_scope.proofs.Scopes.{no_span, pushed_spans}
 use Rattle.bk_scope.proofs.Procedures.{one_spans, each_spans, procedure_spans}

@@ -1,16 +1,15 @@
 -- THE PASS AND WHAT IS TOLD, for each node and for a section.
-use Rattle.std.proofs.Common.{◌≡◌, ℕ, ◌+◌, Option, Some, None, List, [], ◌∷◌, refl, sym, ◌∙◌}
+use Rattle.std.proofs.Common.{◌≡◌, ◌+◌, None, List, [], ◌∷◌, refl, sym, ◌∙◌}
 use Rattle.std.proofs.lemmas.Option.{none-some}
 use Rattle.bk_syntax.specs.declared.tree.Sort.TheVariants as sort
-use Rattle.bk_syntax.specs.Tree.{Expression, Expressions, Action, Actions, Declaration, Declarations, Items, Definition, Definitions, Starts, name, number, text, truth, query, parens, unary, binary, choice, apply, valof, table, none, more, empty, assign, call, goto, label, case_of, default, when, test, while, for_loop, switch, result, simple, block, repeat, repeat_while, no_actions, also, constants, definitions, no_declarations, declare, routine, function, variables, no_definitions, define, no_starts, value, vector}
-use Rattle.bk_scope.specs.Found.{Found}
+use Rattle.bk_syntax.specs.Tree.{Expression, Expressions, Action, Actions, Declaration, Declarations, Definition, Definitions, Starts, name, number, text, truth, query, parens, unary, binary, choice, apply, valof, table, none, more, empty, assign, call, goto, label, case_of, default, when, test, while, for_loop, switch, result, simple, block, repeat, repeat_while, no_actions, also, constants, definitions, no_declarations, declare, routine, function, variables, no_definitions, define, no_starts, value, vector}
 use Rattle.bk_scope.specs.Names.{nothing, found_in}
 use Rattle.bk_scope.specs.Places.{outermost}
 use Rattle.bk_scope.specs.Spots.{beginning, numbers_declared}
 use Rattle.bk_scope.specs.Points.{Fault, first_told}
 use Rattle.bk_scope.specs.Faults.{told_of, faults, meanings, words}
 use Rattle.bk_scope.proofs.Tied.{Tied}
-use Rattle.bk_scope.proofs.Operators.{ETied, EsTied, CTied}
+use Rattle.bk_scope.proofs.Operators.{EsTied, CTied}
 use Rattle.bk_scope.proofs.Scopes.{DsTied, CsTied, switch_tied, block_tied}
 use Rattle.bk_scope.proofs.Lets.{OneTied, AllTied, routine_one, function_one, none_tied, define_tied}
 use Rattle.bk_scope.proofs.Standing.{inside, done_inside, each_done_inside, declared_inside, one_defined_inside, defined_inside}

@@ -67,7 +67,7 @@ abbrev pub holds : Option ℕ → Found → Found
 holds None f = f
 holds (Some w) f = record { first = f.first; claims = f.claims; meanings = f.meanings; words = f.words ++ (w ∷ []); next = f.next; deepest = f.deepest }
 
--- The number behind this one. Numbers are words: a section within the limits needs far fewer.
+-- the number behind this one
 abbrev pub number_behind : ℕ → ℕ
 number_behind n = n + 1
 

@@ -13,6 +13,7 @@ pub mod Sound
 pub mod Laws
 pub mod Cases
 pub mod Given
+pub mod Few
 pub mod Known
 pub mod Resolution
 pub mod TableView

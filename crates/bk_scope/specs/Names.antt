@@ -1,5 +1,6 @@
--- The names and constants of a section: what each name that is used means, the word of each constant, and what is wrong
--- first, in the source's order.
+-- The pass that the code makes through a section, node by node: what each name that is used means, the word of each constant,
+-- and what is wrong first, in the source's order. What is right is said in Faults.antt; this definition is inner, and the two
+-- are tied by a law.
 --
 -- A node is gone through with the declarations that are in scope at its place, behind what was found before it. Depths are
 -- those that the frame has when the code runs: an operand takes a word, a call two before its arguments, a FOR two for its

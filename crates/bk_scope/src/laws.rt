@@ -2,6 +2,7 @@
 ghost use Rattle.bk_scope.specs.Laws.{SectionsAreClean, PartsAreClean, PartsHaveStretches, FaultlessIsSound};
 ghost use Rattle.bk_scope.specs.Cases.{CasesDiffer};
 ghost use Rattle.bk_scope.specs.Given.{NumbersDiffer};
+ghost use Rattle.bk_scope.specs.Few.{FewNumbers};
 
 /// Nothing that is told of a section without faults is one.
 pub fn sections_are_clean()
@@ -31,4 +32,9 @@ pub fn cases_differ()
 /// The numbers of declarations differ.
 pub fn numbers_differ()
     ensures { NumbersDiffer }
+{}
+
+/// A section within the limits takes four numbers a node at most.
+pub fn takes_few_numbers()
+    ensures { FewNumbers }
 {}

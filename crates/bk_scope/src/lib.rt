@@ -26,7 +26,7 @@ mod walk;
 pub use bound::Bound;
 pub use laws::{
     cases_differ, faultless_is_sound, numbers_differ, parts_are_clean, parts_have_stretches,
-    sections_are_clean,
+    sections_are_clean, takes_few_numbers,
 };
 pub use resolving::resolve;
 pub use section_names::Resolved;

@@ -211,10 +211,12 @@ LET F(A, B) BE $( LET X = A; L: G := X + M; S := B; F(A); GOTO L $)";
     let lexed = lex(rt.alloc(), text, Line::first())?;
     let section = parse(rt.alloc(), lexed.tokens.as_slice(), lexed.line)?;
     let resolved = resolve(rt.alloc(), &section)?;
-    // in order: F, A, G, X, M, S, B, F, A, L
+    // in order: S and F where they are declared, A, L where it stands, G, X, M, S, B, F, A, L
     let meanings = [
+        Bound::Static(4),
         Bound::Static(6),
         Bound::Variable(7, 2),
+        Bound::Label(7, 11),
         Bound::Global(Some(100)),
         Bound::Variable(7, 4),
         Bound::Constant(Some(7)),
