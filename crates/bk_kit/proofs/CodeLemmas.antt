@@ -14,7 +14,7 @@ use Rattle.bk_intcode.specs.SegmentLaws.{segment_whole}
 use Rattle.bk_intcode_text.specs.ItemText.{item_text}
 use Rattle.bk_words.specs.TextEnd.{AtEnd}
 use Rattle.bk_words.specs.Words.{words_of}
-use Rattle.bk_intcode_text.specs.SegmentAnswer.{StandsFor}
+use Rattle.bk_intcode_text.specs.SegmentAnswer.{StandsWhateverFollows}
 use Rattle.bk_kit.specs.Code.{segments, refused, segments_words, AreSegments, segment_number, CodeStands}
 
 -- the bytes taken are the words of these segments, whatever follows
@@ -55,7 +55,7 @@ module _ (all : List (List Item)) (old now new : Option (List ℕ)) (was ended :
       let same : (front.taken ++ taken) ++ more ≡ front.taken ++ (taken ++ more) = append_assoc front.taken taken more in
       ap words_of same ∙ front.says (taken ++ more) (λ over. absurd (not_over over)) (omega (arith, short, ap (λ (l : List ℕ). length l) same))
 
-  pub Front-push : (read : Intcode) → (IsTrue was → ⊥) → StandsFor (Ok (Some read)) now new ended → Front (all ++ items_of read ∷ []) old new ended
+  pub Front-push : (read : Intcode) → (IsTrue was → ⊥) → StandsWhateverFollows (Ok (Some read)) now new ended → Front (all ++ items_of read ∷ []) old new ended
   Front-push read not_over t = record {
     taken = front.taken ++ t.0;
     delivered = Consumes-trans old now new front.taken t.0 front.delivered t.1;
@@ -67,7 +67,7 @@ module _ (all : List (List Item)) (old now new : Option (List ℕ)) (was ended :
         ∙ ap (λ (w : List (List ℕ)). w ++ words_of more) (sym (segments_words-push all (items_of read)));
   }
 
-  pub Front-refused : (told : IntcodeFault) → (IsTrue was → ⊥) → StandsFor (Err (Fault told)) now new ended → CodeStands (refused (segment_number (length all)) told.item told.kind) old new ended
+  pub Front-refused : (told : IntcodeFault) → (IsTrue was → ⊥) → StandsWhateverFollows (Err (Fault told)) now new ended → CodeStands (refused (segment_number (length all)) told.item told.kind) old new ended
   Front-refused told not_over t = record {
     taken = front.taken ++ t.0;
     delivered = Consumes-trans old now new front.taken t.0 front.delivered t.1;
@@ -98,7 +98,7 @@ module _ (all : List (List Item)) (old now new : Option (List ℕ)) (was ended :
           let last : m ≡ [] = both_empty y m (sym empty ∙ q) in
           p ∙ ap (λ (z : List ℕ). x ++ z) (empty ∙ sym last)
 
-  pub Front-whole : (IsTrue was → NothingLeft now) → (IsTrue was → IsTrue ended) → StandsFor (Ok None) now new ended → CodeStands (segments all) old new ended
+  pub Front-whole : (IsTrue was → NothingLeft now) → (IsTrue was → IsTrue ended) → StandsWhateverFollows (Ok None) now new ended → CodeStands (segments all) old new ended
   Front-whole none stays t = by_case was refl
     where
       by_case : (b : Bool) → was ≡ b → CodeStands (segments all) old new ended

@@ -1,3 +1,4 @@
+mod HeadlineRows
 mod PieceLemmas
 mod CodeLemmas
 mod LoadLemmas

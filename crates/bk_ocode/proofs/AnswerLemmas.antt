@@ -13,7 +13,7 @@ use Rattle.bk_words.specs.WordLaws.{words_of-all, words_of-ended, known, nothing
 use Rattle.bk_ocode.specs.SectionText.{section_words}
 use Rattle.bk_ocode.specs.SectionStmts.{stmts_of}
 use Rattle.bk_ocode.specs.FirstFault.{CutAt, Saying, section, nothing, fault, Says}
-use Rattle.bk_ocode.specs.SectionAnswer.{Takes, GivesSection, GivesNothing, GivesFault, Answers, AnswersWords, Stands, StandsFor}
+use Rattle.bk_ocode.specs.SectionAnswer.{Takes, GivesSection, GivesNothing, GivesFault, Answers, AnswersWords, Stands, StandsWhateverFollows}
 use Rattle.bk_ocode.specs.declared.section.Ocode.{Ocode}
 use Rattle.bk_ocode.specs.declared.stmt.Stmt.{Stmt}
 
@@ -41,7 +41,7 @@ stands_for : (old new : Option (List ℕ)) (ended : Bool) (what : List ℕ → T
     Takes old new ended (λ taken end. (more : List ℕ) → (end → more ≡ []) → so taken more)
 stands_for old new ended what so each t = (t.0, t.1, λ more over. each t.0 more (AtEnd ended (length t.0)) t.2 over)
 
-pub answer_stands : (old new : Option (List ℕ)) (ended : Bool) (result : Result (Option Ocode) (Refused OcodeFault)) → Answers result old new ended → StandsFor result old new ended
+pub answer_stands : (old new : Option (List ℕ)) (ended : Bool) (result : Result (Option Ocode) (Refused OcodeFault)) → Answers result old new ended → StandsWhateverFollows result old new ended
 answer_stands old new ended (Ok (Some read)) t = stands_for old new ended (λ taken end. GivesSection taken end (stmts_of read)) (Stands (Ok (Some read)))
     (λ taken more end given over. words_of-all (taken ++ more) taken more end (section_words (stmts_of read)) refl given.2 over) t
 answer_stands old new ended (Ok None) t = stands_for old new ended GivesNothing (Stands (Ok None))

@@ -74,10 +74,10 @@ Stands (Err Memory) taken more = ⊤
 Stands (Err Device) taken more = ⊤
 
 -- That stands whatever follows: nothing, where the text ends.
-abbrev pub StandsFor : Result (Option Ocode) (Refused OcodeFault) → Option (List ℕ) → Option (List ℕ) → Bool → Type 0
-StandsFor (Err Memory) old new ended = ⊤
-StandsFor (Err Device) old new ended = ⊤
-StandsFor answer old new ended = Takes old new ended (λ taken end. (more : List ℕ) → (end → more ≡ []) → Stands answer taken more)
+abbrev pub StandsWhateverFollows : Result (Option Ocode) (Refused OcodeFault) → Option (List ℕ) → Option (List ℕ) → Bool → Type 0
+StandsWhateverFollows (Err Memory) old new ended = ⊤
+StandsWhateverFollows (Err Device) old new ended = ⊤
+StandsWhateverFollows answer old new ended = Takes old new ended (λ taken end. (more : List ℕ) → (end → more ≡ []) → Stands answer taken more)
 
 -- The answer is what these words say, unless memory was refused or the device failed.
 abbrev pub AnswersWords : Result (Option Ocode) (Refused OcodeFault) → List (List ℕ) → Type 0

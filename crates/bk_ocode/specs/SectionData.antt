@@ -1,23 +1,12 @@
 -- The strings and data that a section gives, as words; the globals that it sets; and the words of its text.
 use Rattle.std.specs.Prelude.{ℕ, ◌+◌, ◌-◌, nat_le, nat_lt, Bool, false, ◌&&◌, ◌||◌, List, [], ◌∷◌, ◌++◌, length, map, slice_get, Option, Some, None, if◌then◌else◌}
-use Rattle.bk_base.specs.Word.{word_of, packed_word}
+use Rattle.bk_base.specs.Word.{word_of}
+pub use Rattle.bk_base.specs.Strings.{packed, string_words}
 use Rattle.bk_ocode.specs.OcodeState.{Placement, Placed}
 use Rattle.bk_ocode.specs.StmtText.{stmt_words}
 use Rattle.bk_ocode.specs.declared.stmt.GlobalEntry.{GlobalEntry}
 use Rattle.bk_ocode.specs.declared.stmt.Stmt.{Stmt}
 use Rattle.bk_ocode.specs.declared.stmt.Stmt.TheVariants.{Text, DataLabel, DataNumber, DataAddress, Globals}
-
--- bytes, four a word, byte 0 lowest; the last word is filled with zeros
-abbrev pub packed : List ℕ → List ℕ
-packed [] = []
-packed (a ∷ []) = packed_word a 0 0 0 ∷ []
-packed (a ∷ b ∷ []) = packed_word a b 0 0 ∷ []
-packed (a ∷ b ∷ c ∷ []) = packed_word a b c 0 ∷ []
-packed (a ∷ b ∷ c ∷ d ∷ rest) = packed_word a b c d ∷ packed rest
-
--- a string: byte 0 is its length
-abbrev pub string_words : List ℕ → List ℕ
-string_words bytes = packed (length bytes ∷ bytes)
 
 -- Words that a section gives, from a place on: a string, or the items behind a DATALAB.
 pub record Datum : Type 0 where

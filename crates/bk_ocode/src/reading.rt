@@ -10,7 +10,7 @@ ghost use Rattle.bk_ocode.specs.Faults.{misplaced};
 ghost use Rattle.bk_ocode.specs.Drafts.{context_in};
 ghost use Rattle.bk_ocode.specs.declared.stmt.Stmt.{Stmt};
 ghost use Rattle.bk_ocode.specs.declared.begun.Unfit.TheVariants.{BadWord, BadNumber};
-ghost use Rattle.bk_ocode.specs.SectionAnswer.{Answers, StandsFor, AnswersWords, is_device};
+ghost use Rattle.bk_ocode.specs.SectionAnswer.{Answers, StandsWhateverFollows, AnswersWords, is_device};
 ghost use Rattle.bk_ocode.specs.BegunStmts.{IsStep, IsBegunPart, part_words, BeginNone, refusal};
 
 use crate::begun::{Begun, Step, Unfit, begin, take};
@@ -153,7 +153,7 @@ pub fn read_section<I: ByteIn>(
     // was refused.
     ensures answers { Answers result (I.left input.old) (I.left input.new) (I.ended input.new) }
     // That stands whatever follows the bytes taken.
-    ensures stands { StandsFor result (I.left input.old) (I.left input.new) (I.ended input.new) }
+    ensures stands { StandsWhateverFollows result (I.left input.old) (I.left input.new) (I.ended input.new) }
     // The same of the whole text, whose words say one thing.
     ensures says { (all : List ℕ) → I.left input.old ≡ Some all → length all < INPUT_BYTES → AnswersWords result (words_of all) }
     // It fails exactly where the device does, and at once where that failed before. Where the end was told, nothing is left.

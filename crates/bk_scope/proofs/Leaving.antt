@@ -46,12 +46,12 @@ pub all_above : (xs bs : List Binding) → Above bs (bind_all xs bs)
 all_above [] bs = same bs
 all_above (x ∷ xs) bs = one_above x bs _ (all_above xs (x ∷ bs))
 
-either_above : (b : Bool) (bs : List Binding) (t u : Stage) → Above bs t.scope → Above bs u.scope → Above bs ((cond b t u).scope)
-either_above true bs t u h g = h
-either_above false bs t u h g = g
+either_above : (b : Bool) (bs cs ds : List Binding) → Above bs cs → Above bs ds → Above bs (cond b cs ds)
+either_above true bs cs ds h g = h
+either_above false bs cs ds h g = g
 
 procedure_above : (x : List ℕ) (t : Stage) → Above t.scope ((with_procedure x t).scope)
-procedure_above x t = either_above (is_global (bound_in t.scope x)) t.scope t _ (same t.scope) (one_above _ t.scope _ (same _))
+procedure_above x t = either_above (is_global (bound_in t.scope x)) t.scope t.scope _ (same t.scope) (one_above _ t.scope _ (same _))
 
 pub procedures_above : (ds : Definitions) (t : Stage) → Above t.scope ((with_procedures ds t).scope)
 procedures_above no_definitions t = same t.scope

@@ -5,7 +5,8 @@ use Rattle.bk_syntax.specs.declared.tree.Simple.TheVariants as w
 use Rattle.bk_syntax.specs.declared.tree.Sort.TheVariants as s
 use Rattle.bk_syntax.specs.Tree.{Mention, Expression, Action, Declaration, Declarations, name, number, binary, valof, none, more, empty, assign, call, case_of, switch, simple, block, no_actions, also, constants, definitions, no_declarations, declare, no_items, item, routine, function, variables, no_definitions, define, no_starts, value, vector}
 use Rattle.bk_scope.specs.Wrong.{Wrong, Breach, text_of, declared_twice, dynamic_name, divided_by_zero, case_repeated, no_loop, no_result_or_return, vec_out_of_range, frame_too_large, two_procedures}
-use Rattle.bk_scope.specs.Names.{found_in}
+use Rattle.bk_scope.specs.Points.{first_told}
+use Rattle.bk_scope.specs.Faults.{faults}
 
 abbrev breach : ℕ → Wrong → Breach
 breach l w = record { line = l; wrong = w }
@@ -28,7 +29,7 @@ function_of l x e = definitions l (define (function l (x ∷ []) [] e) no_defini
 
 -- this alone is wrong
 abbrev Tells : Declarations → Breach → Type 0
-Tells ds b = (found_in ds).first ≡ Some b
+Tells ds b = first_told (faults ds) ≡ Some b
 
 -- STATIC $( A = 1/0 $)
 division : Tells (section (constants 1 s.Static (item 1 (65 ∷ []) (binary 1 o.Over 1 (number 1 1) (number 1 0)) no_items))) (breach 1 divided_by_zero)

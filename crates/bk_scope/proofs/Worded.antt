@@ -15,7 +15,7 @@ use Rattle.bk_scope.specs.Constants.{named_word, prefix_word, infix_word, consta
 use Rattle.bk_scope.specs.Found.{first_of, else_first}
 use Rattle.bk_scope.proofs.Firsts.{first_of-append}
 
-name_right : (k l : ℕ) (x : List ℕ) (b : Option Bound) (w : ℕ) → named_word b ≡ Some w → wrong_name k l x b ≡ []
+pub name_right : (k l : ℕ) (x : List ℕ) (b : Option Bound) (w : ℕ) → named_word b ≡ Some w → wrong_name k l x b ≡ []
 name_right k l x (Some (Constant c)) w e = refl
 name_right k l x (Some (Global g)) w e = absurd (none-some w e)
 name_right k l x (Some (Static n)) w e = absurd (none-some w e)
@@ -24,7 +24,7 @@ name_right k l x (Some (Label j n)) w e = absurd (none-some w e)
 name_right k l x None w e = absurd (none-some w e)
 
 -- an operand that has a word, and constants hold its prefix
-prefix_right : (p : Prefix) (m : Option ℕ) (w : ℕ) → option_and_then (prefix_word p) m ≡ Some w → (is_prefix_of_constants p ≡ true) × (x : ℕ) × (m ≡ Some x)
+pub prefix_right : (p : Prefix) (m : Option ℕ) (w : ℕ) → option_and_then (prefix_word p) m ≡ Some w → (is_prefix_of_constants p ≡ true) × (x : ℕ) × (m ≡ Some x)
 prefix_right p None w e = absurd (none-some w e)
 prefix_right q.Contents (Some x) w e = absurd (none-some w e)
 prefix_right q.Address (Some x) w e = absurd (none-some w e)
@@ -58,7 +58,7 @@ between_right o.Same x y w e = (refl, refl)
 between_right o.Differ x y w e = (refl, refl)
 
 -- two operands that have words, and no division by zero
-infix_right : (o : Operator) (m n : Option ℕ) (w : ℕ) → option_and_then (λ x. option_and_then (infix_word o x) n) m ≡ Some w → (is_infix_of_constants o ≡ true) × (divides_by_zero o m n ≡ false) × ((x : ℕ) × (m ≡ Some x)) × (y : ℕ) × (n ≡ Some y)
+pub infix_right : (o : Operator) (m n : Option ℕ) (w : ℕ) → option_and_then (λ x. option_and_then (infix_word o x) n) m ≡ Some w → (is_infix_of_constants o ≡ true) × (divides_by_zero o m n ≡ false) × ((x : ℕ) × (m ≡ Some x)) × (y : ℕ) × (n ≡ Some y)
 infix_right o None n w e = absurd (none-some w e)
 infix_right o (Some x) None w e = absurd (none-some w e)
 infix_right o (Some x) (Some y) w e = let h : (is_infix_of_constants o ≡ true) × (cond (divides o) (y == 0) false ≡ false) = between_right o x y w e in (h.0, h.1, (x, refl), y, refl)

@@ -41,9 +41,9 @@ abbrev pub with_formals : ℕ → ℕ → List Mention → List Binding → List
 with_formals k d [] bs = bs
 with_formals k d (x ∷ xs) bs = with_formals k (kept (d + 1)) xs (bind x.letters (Variable k d) bs)
 
--- A procedure. Where its name means a global, it goes on to mean it; else it is a static word, which takes a number.
+-- A procedure, which takes a number. Where its name means a global, it goes on to mean it; else it is a static word.
 abbrev pub with_procedure : List ℕ → Stage → Stage
-with_procedure x s = cond (is_global (bound_in s.scope x)) s (record { scope = bind x (Static s.found.next) s.scope; found = takes s.found })
+with_procedure x s = record { scope = cond (is_global (bound_in s.scope x)) s.scope (bind x (Static s.found.next) s.scope); found = takes s.found }
 
 abbrev pub with_procedures : Definitions → Stage → Stage
 with_procedures no_definitions s = s

@@ -5,6 +5,15 @@ pub mod Found
 pub mod Places
 pub mod Entering
 pub mod Names
+pub mod Spots
+pub mod Points
+pub mod Scoping
+pub mod Faults
+pub mod Sound
+pub mod Laws
+pub mod Cases
+pub mod Given
+pub mod Known
 pub mod Resolution
 pub mod TableView
 pub mod FreshView

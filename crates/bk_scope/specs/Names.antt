@@ -215,7 +215,7 @@ abbrev pub statics : List Binding → ℕ → ℕ → Items → Stage → Stage
 statics bs n k no_items s = s
 statics bs n k (item l x e is) s =
     let g : Found = constant_found bs k e (listed n l x s.found) in
-    statics bs n k is (record { scope = bind x (Static g.next) s.scope; found = takes g })
+    statics bs n k is (record { scope = bind x (Static g.next) s.scope; found = takes (means (Static g.next) g) })
 
 abbrev pub globals : List Binding → ℕ → ℕ → Items → Stage → Stage
 globals bs n k no_items s = s
@@ -273,7 +273,7 @@ abbrev mutual
   done bs p (assign l xs es) f = each_evaluated 0 bs p es (destinations bs (deeper 1 p) xs f)
   done bs p (call l e es) f = each_evaluated 1 bs (deeper 2 p) es (evaluated Value bs (deeper (size es + 2) p) e f)
   done bs p (goto l x) f = reached p.procedure x.line x.letters (bound_in bs x.letters) f
-  done bs p (label l x c) f = done bs p c (listed p.labels l x f)
+  done bs p (label l x c) f = done bs p c (named_as (bound_in bs x) (listed p.labels l x f))
   done bs p (case_of l e c) f = done bs p c (chosen p.switch l (constant_word bs e) (constant_found bs p.procedure e (switched p.switch l f)))
   done bs p (default l c) f = done bs p c (defaulted p.switch l (switched p.switch l f))
   done bs p (when l b e c) f = done bs p c (evaluated Truth bs p e f)

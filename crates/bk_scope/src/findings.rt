@@ -1,12 +1,12 @@
 //! What is found as one goes through a section.
-ghost use Rattle.std.specs.Prelude.{◌≡◌, ◌+◌, None, Some, IfOk, IfErr, OnOk};
+ghost use Rattle.std.specs.Prelude.{◌≡◌, ◌<◌, ◌+◌, ◌-◌, ◌^◌, None, Some, IfOk, IfErr, OnOk};
 ghost use Rattle.bk_syntax.specs.Tree.{expression};
 ghost use Rattle.bk_scope.specs.Wrong.{text_of};
 ghost use Rattle.bk_scope.specs.FirstFault.{first_fault, wrong_of, misnamed, breach_of};
 ghost use Rattle.bk_scope.specs.Claims.{claim_of};
 ghost use Rattle.bk_scope.specs.Found.{breaks, claims_once, means, holds, takes, reaches, opens, behind};
 ghost use Rattle.bk_scope.specs.Constants.{constant_word};
-ghost use Rattle.bk_scope.specs.Names.{nothing, constant_found, listed, sets, frame_wrong};
+ghost use Rattle.bk_scope.specs.Names.{nothing, constant_found, listed, named_as, sets, frame_wrong};
 
 use crate::bound::Bound;
 use crate::claims::{Claim, Claims};
@@ -155,6 +155,16 @@ impl<'a> Findings<'a> {
         Ok(())
     }
 
+    /// The name of a label or of a procedure means this, where it stands.
+    pub fn names(&mut self, bound: Option<Bound>) -> Result<(), AllocError>
+        ensures { OnOk result (self.new ≡ named_as bound self.old) }
+    {
+        if let Some(bound) = bound {
+            self.means(bound)?;
+        }
+        Ok(())
+    }
+
     /// A constant has this word, if any.
     pub fn holds(&mut self, word: Option<u32>) -> Result<(), AllocError>
         ensures { OnOk result (self.new ≡ holds word self.old) }
@@ -165,14 +175,20 @@ impl<'a> Findings<'a> {
         Ok(())
     }
 
-    /// Takes the number that is next.
-    pub fn takes(&mut self) -> u32
-        ensures number { result ≡ self.old.next }
-        ensures taken { self.new ≡ takes self.old }
+    /// Takes the number that is next. More than 4294967295 numbers would need more memory than there is.
+    pub fn takes(&mut self) -> Result<u32, AllocError>
+        ensures number { IfOk result (λ number. number ≡ self.old.next) }
+        ensures taken { OnOk result (self.new ≡ takes self.old) }
+        ensures refused { IfErr result (λ error. self.old.next ≡ 2 ^ 32 - 1) }
     {
         let number = self.next;
-        self.next = number.wrapping_add(1);
-        number
+        match number.checked_add(1) {
+            None => Err(AllocError),
+            Some(next) => {
+                self.next = next;
+                Ok(number)
+            }
+        }
     }
 
     /// The frame is this deep, and so many words deeper.
@@ -227,6 +243,7 @@ impl<'a> Findings<'a> {
         ensures right { OnOk result (self.entry.first ≡ None) }
         ensures known { IfOk result (λ known. (known.meanings.items ≡ self.entry.meanings) × (known.words.items ≡ self.entry.words)) }
         ensures wrong { IfErr result (λ fault. self.entry.first ≡ Some (breach_of fault)) }
+        ensures fits { self.entry.next < 2 ^ 32 }
     {
         match self.first.fault() {
             None => Ok(Known {

@@ -3,7 +3,7 @@ ghost use Rattle.std.specs.Prelude.{◌≡◌, OnOk, IfOk, map};
 ghost use Rattle.bk_syntax.specs.Tree.{expression, mention};
 ghost use Rattle.bk_scope.specs.FirstFault.{first_fault};
 ghost use Rattle.bk_scope.specs.Scope.{bound_in};
-ghost use Rattle.bk_scope.specs.Names.{switched, chosen, defaulted, single as Single, headed, bounded, words_of_start, constant_found};
+ghost use Rattle.bk_scope.specs.Names.{switched, chosen, defaulted, single as Single, listed, named_as, headed, bounded, words_of_start, constant_found};
 ghost use Rattle.bk_scope.specs.Wrong.{vec_out_of_range};
 ghost use Rattle.bk_scope.specs.Constants.{constant_word};
 ghost use Rattle.bk_syntax.specs.Grammar.{line_of as LineOf};
@@ -14,11 +14,26 @@ use crate::entering::list_names;
 use crate::findings::{Findings, Opened};
 use crate::items::line_of;
 use crate::place::{Place, kept_depth};
+use crate::table::Table;
 use crate::walk::Walk;
 use bk_base::limit::VEC_NUMBER;
 use bk_base::{Line, SourceKind};
 use bk_syntax::tree::{Expr, Name, Simple};
 use std::alloc::AllocError;
+
+/// A label, in the list of this number, and what it means.
+pub fn label<'a>(
+    findings: &mut Findings<'a>,
+    table: &Table<'a>,
+    list: u32,
+    line: Line,
+    letters: &'a [u8],
+) -> Result<(), AllocError>
+    ensures { OnOk result (findings.new ≡ named_as (bound_in table.now letters.now) (listed list line letters.now findings.old)) }
+{
+    findings.lists(list, line, letters)?;
+    findings.names(table.find(letters))
+}
 
 /// A CASE or a DEFAULT is wrong where it stands in no SWITCHON.
 pub fn in_switch(findings: &mut Findings, switch: Option<u32>, line: Line)
@@ -119,9 +134,7 @@ pub fn head<'a>(
     ensures deepest { IfOk result (λ opened. opened.deepest ≡ walk.old.found.deepest) }
 {
     let bound = walk.table.find(name);
-    if let Some(bound) = bound {
-        walk.findings.means(bound)?;
-    }
+    walk.findings.names(bound)?;
     let opened = walk.findings.opens(kept_depth(formals.len() + 2));
     walk.findings.sets(line, name, bound)?;
     list_names(&mut walk.findings, list, formals)?;

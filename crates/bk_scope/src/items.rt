@@ -109,7 +109,8 @@ fn fresh_statics<'a>(
     for Item::Item(line, name, expr) in items {
         findings.lists(list, *line, name)?;
         let _word = findings.constant(table, procedure, expr)?;
-        let bound = Bound::Static(findings.takes());
+        let bound = Bound::Static(findings.takes()?);
+        findings.means(bound)?;
         fresh.add(name, bound)?;
     }
     Ok(fresh)

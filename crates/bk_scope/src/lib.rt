@@ -10,10 +10,12 @@ mod first_fault;
 mod fresh;
 mod heads;
 mod items;
+mod laws;
 mod naming;
 mod nodes;
 mod operands;
 mod place;
+mod resolving;
 mod role;
 mod section_names;
 mod table;
@@ -22,4 +24,9 @@ mod tests;
 mod walk;
 
 pub use bound::Bound;
-pub use section_names::{Resolved, resolve};
+pub use laws::{
+    cases_differ, faultless_is_sound, numbers_differ, parts_are_clean, parts_have_stretches,
+    sections_are_clean,
+};
+pub use resolving::resolve;
+pub use section_names::Resolved;

@@ -9,7 +9,7 @@ use crate::entering::{
     enter_formals, enter_labels, enter_labels_of_each, enter_procedures, list_names,
 };
 use crate::fresh::Fresh;
-use crate::heads::{choose, choose_default, head, in_switch, single, vector};
+use crate::heads::{choose, choose_default, head, in_switch, label, single, vector};
 use crate::items::{constants, globals, line_of, manifests, statics};
 use crate::naming::{go_to, name_at, without_word};
 use crate::operands::{fit_infix, fit_prefix, place_of_second, role_of_operand, role_of_operands};
@@ -91,7 +91,7 @@ pub fn evaluate<'a>(
         Expr::Valof(_, command) => {
             without_word(&walk.table, &mut walk.findings, role, place.procedure, expr);
             let mark = walk.table.mark();
-            let labels = walk.findings.takes();
+            let labels = walk.findings.takes()?;
             enter_labels(walk, place.procedure, command)?;
             let inner = place.valued().labelled(labels);
             act(walk, inner, command)?;
@@ -165,7 +165,13 @@ pub fn act<'a>(walk: &mut Walk<'a>, place: Place, command: &'a Command) -> Resul
             )
         }
         Command::Label(line, letters, body) => {
-            walk.findings.lists(place.labels, *line, letters)?;
+            label(
+                &mut walk.findings,
+                &walk.table,
+                place.labels,
+                *line,
+                letters,
+            )?;
             act(walk, place, body)
         }
         Command::Case(line, expr, body) => {
@@ -200,7 +206,7 @@ pub fn act<'a>(walk: &mut Walk<'a>, place: Place, command: &'a Command) -> Resul
             }
             walk.findings.reaches(place.depth, 4);
             let mark = walk.table.mark();
-            let labels = walk.findings.takes();
+            let labels = walk.findings.takes()?;
             walk.table.bind(&name.letters, Bound::Variable(place.procedure, place.depth))?;
             enter_labels(walk, place.procedure, body)?;
             act(walk, place.deeper(2).looping().labelled(labels), body)?;
@@ -209,7 +215,7 @@ pub fn act<'a>(walk: &mut Walk<'a>, place: Place, command: &'a Command) -> Resul
         }
         Command::SwitchOn(_, expr, body) => {
             evaluate(walk, &Role::Value, place, expr)?;
-            let number = walk.findings.takes();
+            let number = walk.findings.takes()?;
             act(walk, place.switching(number), body)
         }
         Command::ResultIs(line, expr) => {
@@ -228,7 +234,7 @@ pub fn act<'a>(walk: &mut Walk<'a>, place: Place, command: &'a Command) -> Resul
             } else {
                 let mark = walk.table.mark();
                 let inner = declare_each(walk, place, decls)?;
-                let labels = walk.findings.takes();
+                let labels = walk.findings.takes()?;
                 enter_labels_of_each(walk, place.procedure, commands)?;
                 act_each(walk, inner.labelled(labels), commands)?;
                 walk.table.leave(mark);
@@ -279,7 +285,7 @@ pub fn declare_each<'a>(
 fn declare<'a>(walk: &mut Walk<'a>, place: Place, decl: &'a Decl) -> Result<Place, AllocError>
     ensures { IfOk result (λ behind. (record { scope = walk.new.scope; place = behind; found = walk.new.found }) ≡ one_declared walk.old.scope place (declaration decl.now) walk.old.found) }
 {
-    let list = walk.findings.takes();
+    let list = walk.findings.takes()?;
     match decl {
         Decl::Constants(_, sort, items) => {
             match sort {
@@ -333,11 +339,11 @@ fn define<'a>(
     match def {
         Def::Routine(line, name, formals, body) => {
             walk.findings.lists(list, *line, name)?;
-            let number = walk.findings.takes();
+            let number = walk.findings.takes()?;
             let opened = head(walk, number, *line, name, formals)?;
             let mark = walk.table.mark();
             enter_formals(walk, number, formals)?;
-            let labels = walk.findings.takes();
+            let labels = walk.findings.takes()?;
             enter_labels(walk, number, body)?;
             act(
                 walk,
@@ -350,7 +356,7 @@ fn define<'a>(
         }
         Def::Function(line, name, formals, body) => {
             walk.findings.lists(list, *line, name)?;
-            let number = walk.findings.takes();
+            let number = walk.findings.takes()?;
             let opened = head(walk, number, *line, name, formals)?;
             let mark = walk.table.mark();
             enter_formals(walk, number, formals)?;

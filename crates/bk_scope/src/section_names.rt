@@ -1,28 +1,35 @@
-//! Names and constants of a whole section.
-ghost use Rattle.std.specs.Prelude.{◌≡◌, IfOk};
+//! A section whose names and constants are known.
+ghost use Rattle.std.specs.Prelude.{◌≡◌};
 ghost use Rattle.bk_syntax.specs.Parsing.{declarations_of};
-ghost use Rattle.bk_scope.specs.Names.{found_in};
-ghost use Rattle.bk_scope.specs.Resolution.{Resolves};
+ghost use Rattle.bk_scope.specs.Known.{Known};
 
 use crate::bound::Bound;
-use crate::findings::{Findings, Known};
-use crate::nodes::declare_each;
-use crate::place::Place;
-use crate::table::Table;
-use crate::walk::Walk;
-use bk_base::{Refused, SourceFault};
 use bk_syntax::Section;
-use std::alloc::Global;
 
-/// A section with what its names mean and what its constants are.
+/// A section without faults, with what its names mean and what its constants are.
 #[derive(Drop)]
 pub struct Resolved<'a> {
     section: &'a Section,
     meanings: Vec<Bound>,
     words: Vec<u32>,
+    ghost known: { Known (declarations_of section.now) meanings.items words.items },
 }
 
 impl<'a> Resolved<'a> {
+    /// That of this section, with what its names mean and what its constants are.
+    pub(crate) fn new(section: &'a Section, meanings: Vec<Bound>, words: Vec<u32>) -> Resolved<'a>
+        requires { Known (declarations_of section.now) meanings.items words.items }
+        ensures section { result.section.now ≡ section.now }
+        ensures meanings { result.meanings.items ≡ meanings.items }
+        ensures words { result.words.items ≡ words.items }
+    {
+        Resolved {
+            section,
+            meanings,
+            words,
+        }
+    }
+
     /// The section.
     pub fn section(&self) -> &'a Section
         ensures { result.now ≡ self.now.section.now }
@@ -44,29 +51,9 @@ impl<'a> Resolved<'a> {
     {
         &self.words
     }
-}
 
-/// What the names of a section mean and what its constants are, or what is wrong with them first, by place in the tree and
-/// at one place by the number of the kind.
-pub fn resolve(alloc: Global, section: &Section) -> Result<Resolved<'_>, Refused<SourceFault>>
-    // What is answered is what the definition finds in the section.
-    ensures resolves { Resolves result (found_in (declarations_of section.now)) }
-    // It is answered of this section.
-    ensures section { IfOk result (λ resolved. resolved.section.now ≡ section.now) }
-{
-    let mut walk = Walk {
-        alloc,
-        table: Table::new(alloc),
-        findings: Findings::new(alloc),
-    };
-    declare_each(&mut walk, Place::outermost(), section.decls())?;
-    let Walk { findings, .. } = walk;
-    match findings.end() {
-        Ok(Known { meanings, words }) => Ok(Resolved {
-            section,
-            meanings,
-            words,
-        }),
-        Err(fault) => Err(Refused::Fault(fault)),
-    }
+    /// Its section has no fault, and these are its meanings and its words.
+    pub fn is_known(&self)
+        ensures { Known (declarations_of self.now.section.now) self.now.meanings.items self.now.words.items }
+    {}
 }

@@ -89,7 +89,7 @@ counted_up d n false r t y h j = either d n (is_comma t) (Some y) None j (λ c. 
 -- ---- expressions
 
 -- what may be more than a destination at the start of a command: a label or a call
-abbrev is_start : Form → Bool
+abbrev pub is_start : Form → Bool
 is_start Label = true
 is_start Call = true
 is_start _ = false

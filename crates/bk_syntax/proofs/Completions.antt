@@ -25,6 +25,7 @@ use Rattle.bk_syntax.proofs.Before.{falls, behind_ok, inner_ok}
 use Rattle.bk_syntax.proofs.Behind.{plain_end, plain_open, run_end}
 use Rattle.bk_syntax.proofs.Fits.{Tagged, Under, ForExpression, ForCommand, ForDefinition, ForDeclaration, ForSymbol, MayMiss, Fits}
 use Rattle.bk_syntax.proofs.Fitting.{more_names}
+use Rattle.bk_syntax.proofs.Bounding.{is_start}
 use Rattle.bk_syntax.proofs.Endings.{Completion, Ending, deepen, raise, forward, ahead, shut, same, taken, free, no_assignment, HaveEnds, DidEnds, name_here, break_here, with_name, with_break, goes_as, completes_command, table_ends, guarded_ends, guarded_missing, label_missing, default_missing, guard_ends, more_values, values_end, Defining, value_ends, vector_ends}
 
 -- ---- expressions
@@ -32,12 +33,6 @@ use Rattle.bk_syntax.proofs.Endings.{Completion, Ending, deepen, raise, forward,
 depth_some : (e : Expression) → 1 ≤ depth e
 depth_some (name l x) = omega arith
 depth_some _ = omega arith
-
--- an expression that a command begins with as it is
-abbrev pub is_start : Form → Bool
-is_start Label = true
-is_start Call = true
-is_start _ = false
 
 -- at the start of a command no name and no call
 abbrev pub Clear : Stack → Expression → Type 0

@@ -27,7 +27,7 @@ act-leave-requires t c =
     let k = c.args.place.procedure in
     let around = c.match-by.walk-inside.table in
     let own : List Binding = bind c.in-For.name.letters.items (Variable k c.args.place.depth) around in
-    let at : Stage = record { scope = own; found = c.takes-labels.new.self } in
+    let at : Stage = record { scope = own; found = c.takes.new.self } in
     let bound : c.bind.new.self ≡ own = first_of (search rules, grind (arith, common_steps)) in
     let entered : c.enter_labels.new.walk ≡ with_labels k (labels_of a) at = first_of (search rules, grind (arith, common_steps)) in
     let through : c.act-in-For.new.walk ≡ record { scope = c.enter_labels.new.walk.scope; found = done c.enter_labels.new.walk.scope c.labelled.result a c.enter_labels.new.walk.found } = first_of (search rules, grind (arith, common_steps)) in
@@ -41,10 +41,10 @@ act-leave-requires-else-is_empty t c =
     let was = c.args.walk.now in
     let labels = labels_of_each (actions_in b.commands.items) in
     let behind : Behind = declared was.scope c.args.place (declarations_in b.decls.items) was.found in
-    let at : Stage = record { scope = behind.scope; found = c.takes-labels-else-is_empty.new.self } in
+    let at : Stage = record { scope = behind.scope; found = c.takes-else-is_empty.new.self } in
     let told : record { scope = c.declare_each.new.walk.scope; place = c.in_ok-inner-in-Block.inner; found = c.declare_each.new.walk.found } ≡ behind = first_of (search rules, grind (arith, common_steps)) in
-    let entered_raw : c.enter_labels_of_each.new.walk ≡ with_labels k labels (record { scope = c.walk-else-is_empty-2.inside.table; found = c.takes-labels-else-is_empty.new.self }) = first_of (search rules, grind (arith, common_steps)) in
-    let entered : c.enter_labels_of_each.new.walk ≡ with_labels k labels at = entered_raw ∙ ap (λ bs. with_labels k labels (record { scope = bs; found = c.takes-labels-else-is_empty.new.self })) (ap (λ s. s.scope) c.walk-else-is_empty-2.view_is ∙ ap (λ s. s.scope) told) in
+    let entered_raw : c.enter_labels_of_each.new.walk ≡ with_labels k labels (record { scope = c.walk-else-is_empty-2.inside.table; found = c.takes-else-is_empty.new.self }) = first_of (search rules, grind (arith, common_steps)) in
+    let entered : c.enter_labels_of_each.new.walk ≡ with_labels k labels at = entered_raw ∙ ap (λ bs. with_labels k labels (record { scope = bs; found = c.takes-else-is_empty.new.self })) (ap (λ s. s.scope) c.walk-else-is_empty-2.view_is ∙ ap (λ s. s.scope) told) in
     let through : c.act_each-else-is_empty.new.walk ≡ record { scope = c.enter_labels_of_each.new.walk.scope; found = each_done c.enter_labels_of_each.new.walk.scope c.labelled-else-is_empty.result (actions_in b.commands.items) c.enter_labels_of_each.new.walk.found } = first_of (search rules, grind (arith, common_steps)) in
     let kept : c.walk-else-is_empty-3.inside.table ≡ c.enter_labels_of_each.new.walk.scope = ap (λ s. s.scope) c.walk-else-is_empty-3.view_is ∙ ap (λ s. s.scope) through in
     let marked : c.mark-mark-else-is_empty.result ≡ length was.scope = c.mark-mark-else-is_empty.ensures ∙ ap (λ s. length s.scope) c.walk-else-is_empty.view_is in
@@ -74,7 +74,7 @@ act-returns-in_ok-act-in-For t c =
     let k = c.args.place.procedure in
     let around = c.match-by.walk-inside.table in
     let own : List Binding = bind c.in-For.name.letters.items (Variable k c.args.place.depth) around in
-    let at : Stage = record { scope = own; found = c.takes-labels.new.self } in
+    let at : Stage = record { scope = own; found = c.takes.new.self } in
     let bound : c.bind.new.self ≡ own = first_of (search rules, grind (arith, common_steps)) in
     let entered : c.enter_labels.new.walk ≡ with_labels k (labels_of a) at = first_of (search rules, grind (arith, common_steps)) in
     let through : c.act-in-For.new.walk ≡ record { scope = c.enter_labels.new.walk.scope; found = done c.enter_labels.new.walk.scope c.labelled.result a c.enter_labels.new.walk.found } = first_of (search rules, grind (arith, common_steps)) in
@@ -91,7 +91,7 @@ act-returns-in_ok-act-in-For t c =
     in
     let deepest : c.reaches.new.self ≡ reaches (p.depth + 4) behind.found = c.reaches.ensures ∙ ap (λ s. reaches (p.depth + 4) s.found) stepped in
     let in_scope : c.enter_labels.new.walk ≡ with_labels k (labels_of a) (record { scope = bind b.name.letters.items (Variable k p.depth) was.scope; found = takes c.reaches.new.self }) =
-    entered ∙ ap (λ f. with_labels k (labels_of a) (record { scope = own; found = f })) c.takes-labels.ensures.taken
+    entered ∙ ap (λ f. with_labels k (labels_of a) (record { scope = own; found = f })) c.in_ok-labels-in-For.ensures.taken
     ∙ ap (λ s. with_labels k (labels_of a) (record { scope = bind b.name.letters.items (Variable k p.depth) s.scope; found = takes c.reaches.new.self })) stepped
     in
     let place : c.labelled.result ≡ labelled c.reaches.new.self.next (looping (deeper 2 p)) = first_of (search rules, grind (arith, common_steps)) in
@@ -120,17 +120,17 @@ act-returns-in_ok-act_each-in-Block t c =
     let was = c.args.walk.now in
     let labels = labels_of_each (actions_in b.commands.items) in
     let behind : Behind = declared was.scope c.args.place (declarations_in b.decls.items) was.found in
-    let at : Stage = record { scope = behind.scope; found = c.takes-labels-else-is_empty.new.self } in
+    let at : Stage = record { scope = behind.scope; found = c.takes-else-is_empty.new.self } in
     let told : record { scope = c.declare_each.new.walk.scope; place = c.in_ok-inner-in-Block.inner; found = c.declare_each.new.walk.found } ≡ behind = first_of (search rules, grind (arith, common_steps)) in
-    let entered_raw : c.enter_labels_of_each.new.walk ≡ with_labels k labels (record { scope = c.walk-else-is_empty-2.inside.table; found = c.takes-labels-else-is_empty.new.self }) = first_of (search rules, grind (arith, common_steps)) in
-    let entered : c.enter_labels_of_each.new.walk ≡ with_labels k labels at = entered_raw ∙ ap (λ bs. with_labels k labels (record { scope = bs; found = c.takes-labels-else-is_empty.new.self })) (ap (λ s. s.scope) c.walk-else-is_empty-2.view_is ∙ ap (λ s. s.scope) told) in
+    let entered_raw : c.enter_labels_of_each.new.walk ≡ with_labels k labels (record { scope = c.walk-else-is_empty-2.inside.table; found = c.takes-else-is_empty.new.self }) = first_of (search rules, grind (arith, common_steps)) in
+    let entered : c.enter_labels_of_each.new.walk ≡ with_labels k labels at = entered_raw ∙ ap (λ bs. with_labels k labels (record { scope = bs; found = c.takes-else-is_empty.new.self })) (ap (λ s. s.scope) c.walk-else-is_empty-2.view_is ∙ ap (λ s. s.scope) told) in
     let through : c.act_each-else-is_empty.new.walk ≡ record { scope = c.enter_labels_of_each.new.walk.scope; found = each_done c.enter_labels_of_each.new.walk.scope c.labelled-else-is_empty.result (actions_in b.commands.items) c.enter_labels_of_each.new.walk.found } = first_of (search rules, grind (arith, common_steps)) in
     let kept : c.walk-else-is_empty-3.inside.table ≡ c.enter_labels_of_each.new.walk.scope = ap (λ s. s.scope) c.walk-else-is_empty-3.view_is ∙ ap (λ s. s.scope) through in
     let marked : c.mark-mark-else-is_empty.result ≡ length was.scope = c.mark-mark-else-is_empty.ensures ∙ ap (λ s. length s.scope) c.walk-else-is_empty.view_is in
     let above = declared_above (declarations_in b.decls.items) was.scope c.args.place was.found in
     let left : c.leave-else-is_empty.new.self ≡ was.scope = back_outside k labels at _ was.scope _ _ _ above entered kept marked c.leave-else-is_empty.ensures in
     let some : 0 < vec_len b.decls = is_more _ _ c.is_empty.ensures c.if-is_empty.false in
-    let taken : c.takes-labels-else-is_empty.new.self ≡ takes behind.found = c.takes-labels-else-is_empty.ensures.taken ∙ ap takes (ap (λ s. s.found) c.walk-else-is_empty-2.view_is ∙ ap (λ s. s.found) told) in
+    let taken : c.takes-else-is_empty.new.self ≡ takes behind.found = c.in_ok-labels-in-Block.ensures.taken ∙ ap takes (ap (λ s. s.found) c.walk-else-is_empty-2.view_is ∙ ap (λ s. s.found) told) in
     let in_scope : c.enter_labels_of_each.new.walk ≡ stage_in c.args.place (actions_in b.commands.items) behind = entered ∙ ap (λ f. with_labels k labels (record { scope = behind.scope; found = f })) taken in
     let place : c.labelled-else-is_empty.result ≡ labelled behind.found.next behind.place = first_of (search rules, grind (arith, common_steps)) in
     let is : done was.scope c.args.place (action c.args.command.now) was.found ≡ each_done c.enter_labels_of_each.new.walk.scope c.labelled-else-is_empty.result (actions_in b.commands.items) c.enter_labels_of_each.new.walk.found =
@@ -180,19 +180,19 @@ pub define-leave-requires : goal.define-leave-requires
 define-leave-requires t c =
     let bs = c.args.walk.now.scope in
     let mark : c.mark-mark.result ≡ length bs = first_of (search rules, grind (arith, common_steps)) in
-    let formals : c.enter_formals.new.walk.scope ≡ with_formals c.takes-number.result 2 (map mention c.in-Routine.formals.items) bs = first_of (search rules, grind (arith, common_steps)) in
-    let labels : c.enter_labels.new.walk ≡ with_labels c.takes-number.result (labels_of (action c.in-Routine.body.value)) (record { scope = c.enter_formals.new.walk.scope; found = takes c.enter_formals.new.walk.found }) = first_of (search rules, grind (arith, common_steps)) in
+    let formals : c.enter_formals.new.walk.scope ≡ with_formals c.in_ok-number-in-Routine.number 2 (map mention c.in-Routine.formals.items) bs = first_of (search rules, grind (arith, common_steps)) in
+    let labels : c.enter_labels.new.walk ≡ with_labels c.in_ok-number-in-Routine.number (labels_of (action c.in-Routine.body.value)) (record { scope = c.enter_formals.new.walk.scope; found = takes c.enter_formals.new.walk.found }) = first_of (search rules, grind (arith, common_steps)) in
     let left : c.walk-in-Routine-3.inside.table ≡ c.enter_labels.new.walk.scope = first_of (search rules, grind (arith, common_steps)) in
-    let above : Above bs c.walk-in-Routine-3.inside.table = rw left (rw labels (body_above c.takes-number.result 2 c.takes-number.result (map mention c.in-Routine.formals.items) (labels_of (action c.in-Routine.body.value)) bs (record { scope = c.enter_formals.new.walk.scope; found = takes c.enter_formals.new.walk.found }) formals)) in
+    let above : Above bs c.walk-in-Routine-3.inside.table = rw left (rw labels (body_above c.in_ok-number-in-Routine.number 2 c.in_ok-number-in-Routine.number (map mention c.in-Routine.formals.items) (labels_of (action c.in-Routine.body.value)) bs (record { scope = c.enter_formals.new.walk.scope; found = takes c.enter_formals.new.walk.found }) formals)) in
     rw mark (longer bs _ above)
 
 pub define-leave-requires-in-Function : goal.define-leave-requires-in-Function
 define-leave-requires-in-Function t c =
     let bs = c.args.walk.now.scope in
     let mark : c.mark-mark-in-Function.result ≡ length bs = first_of (search rules, grind (arith, common_steps)) in
-    let formals : c.enter_formals-in-Function.new.walk.scope ≡ with_formals c.takes-number-in-Function.result 2 (map mention c.in-Function.formals.items) bs = first_of (search rules, grind (arith, common_steps)) in
+    let formals : c.enter_formals-in-Function.new.walk.scope ≡ with_formals c.in_ok-number-in-Function.number 2 (map mention c.in-Function.formals.items) bs = first_of (search rules, grind (arith, common_steps)) in
     let left : c.walk-in-Function-3.inside.table ≡ c.enter_formals-in-Function.new.walk.scope = first_of (search rules, grind (arith, common_steps)) in
-    let above : Above bs c.walk-in-Function-3.inside.table = rw left (rw formals (formals_above c.takes-number-in-Function.result 2 (map mention c.in-Function.formals.items) bs)) in
+    let above : Above bs c.walk-in-Function-3.inside.table = rw left (rw formals (formals_above c.in_ok-number-in-Function.number 2 (map mention c.in-Function.formals.items) bs)) in
     rw mark (longer bs _ above)
 
 pub define-returns-in_ok-act-in-Routine-clause-scope :
@@ -200,10 +200,10 @@ pub define-returns-in_ok-act-in-Routine-clause-scope :
 define-returns-in_ok-act-in-Routine-clause-scope t c =
     let bs = c.args.walk.now.scope in
     let mark : c.mark-mark.result ≡ length bs = first_of (search rules, grind (arith, common_steps)) in
-    let formals : c.enter_formals.new.walk.scope ≡ with_formals c.takes-number.result 2 (map mention c.in-Routine.formals.items) bs = first_of (search rules, grind (arith, common_steps)) in
-    let labels : c.enter_labels.new.walk ≡ with_labels c.takes-number.result (labels_of (action c.in-Routine.body.value)) (record { scope = c.enter_formals.new.walk.scope; found = takes c.enter_formals.new.walk.found }) = first_of (search rules, grind (arith, common_steps)) in
+    let formals : c.enter_formals.new.walk.scope ≡ with_formals c.in_ok-number-in-Routine.number 2 (map mention c.in-Routine.formals.items) bs = first_of (search rules, grind (arith, common_steps)) in
+    let labels : c.enter_labels.new.walk ≡ with_labels c.in_ok-number-in-Routine.number (labels_of (action c.in-Routine.body.value)) (record { scope = c.enter_formals.new.walk.scope; found = takes c.enter_formals.new.walk.found }) = first_of (search rules, grind (arith, common_steps)) in
     let left : c.walk-in-Routine-3.inside.table ≡ c.enter_labels.new.walk.scope = first_of (search rules, grind (arith, common_steps)) in
-    let above : Above bs c.walk-in-Routine-3.inside.table = rw left (rw labels (body_above c.takes-number.result 2 c.takes-number.result (map mention c.in-Routine.formals.items) (labels_of (action c.in-Routine.body.value)) bs (record { scope = c.enter_formals.new.walk.scope; found = takes c.enter_formals.new.walk.found }) formals)) in
+    let above : Above bs c.walk-in-Routine-3.inside.table = rw left (rw labels (body_above c.in_ok-number-in-Routine.number 2 c.in_ok-number-in-Routine.number (map mention c.in-Routine.formals.items) (labels_of (action c.in-Routine.body.value)) bs (record { scope = c.enter_formals.new.walk.scope; found = takes c.enter_formals.new.walk.found }) formals)) in
     c.leave.ensures ∙ ap (λ m. drop (length c.walk-in-Routine-3.inside.table - m) c.walk-in-Routine-3.inside.table) mark ∙ back bs _ above
 
 pub define-returns-in_ok-evaluate-in-Function-clause-scope :
@@ -211,9 +211,9 @@ pub define-returns-in_ok-evaluate-in-Function-clause-scope :
 define-returns-in_ok-evaluate-in-Function-clause-scope t c =
     let bs = c.args.walk.now.scope in
     let mark : c.mark-mark-in-Function.result ≡ length bs = first_of (search rules, grind (arith, common_steps)) in
-    let formals : c.enter_formals-in-Function.new.walk.scope ≡ with_formals c.takes-number-in-Function.result 2 (map mention c.in-Function.formals.items) bs = first_of (search rules, grind (arith, common_steps)) in
+    let formals : c.enter_formals-in-Function.new.walk.scope ≡ with_formals c.in_ok-number-in-Function.number 2 (map mention c.in-Function.formals.items) bs = first_of (search rules, grind (arith, common_steps)) in
     let left : c.walk-in-Function-3.inside.table ≡ c.enter_formals-in-Function.new.walk.scope = first_of (search rules, grind (arith, common_steps)) in
-    let above : Above bs c.walk-in-Function-3.inside.table = rw left (rw formals (formals_above c.takes-number-in-Function.result 2 (map mention c.in-Function.formals.items) bs)) in
+    let above : Above bs c.walk-in-Function-3.inside.table = rw left (rw formals (formals_above c.in_ok-number-in-Function.number 2 (map mention c.in-Function.formals.items) bs)) in
     c.leave-in-Function.ensures ∙ ap (λ m. drop (length c.walk-in-Function-3.inside.table - m) c.walk-in-Function-3.inside.table) mark ∙ back bs _ above
 
 pub define-returns-in_ok-list_names-in-Variables-clause-found :
@@ -236,7 +236,7 @@ pub evaluate-leave-requires : goal.evaluate-leave-requires
 evaluate-leave-requires t c =
     let a = action c.in-Valof.command.value in
     let around = c.walk-in-Valof.inside.table in
-    let at : Stage = record { scope = around; found = c.takes-labels.new.self } in
+    let at : Stage = record { scope = around; found = c.takes.new.self } in
     let entered : c.enter_labels.new.walk ≡ with_labels c.args.place.procedure (labels_of a) at = first_of (search rules, grind (arith, common_steps)) in
     let through : c.act.new.walk ≡ record { scope = c.enter_labels.new.walk.scope; found = done c.enter_labels.new.walk.scope c.labelled-inner.result a c.enter_labels.new.walk.found } = first_of (search rules, grind (arith, common_steps)) in
     let kept : c.walk-in-Valof-2.inside.table ≡ c.enter_labels.new.walk.scope = ap (λ s. s.scope) c.walk-in-Valof-2.view_is ∙ ap (λ s. s.scope) through in
@@ -259,7 +259,7 @@ pub evaluate-returns-in_ok-act-in-Valof : goal.evaluate-returns-in_ok-act-in-Val
 evaluate-returns-in_ok-act-in-Valof t c =
     let a = action c.in-Valof.command.value in
     let around = c.walk-in-Valof.inside.table in
-    let at : Stage = record { scope = around; found = c.takes-labels.new.self } in
+    let at : Stage = record { scope = around; found = c.takes.new.self } in
     let entered : c.enter_labels.new.walk ≡ with_labels c.args.place.procedure (labels_of a) at = first_of (search rules, grind (arith, common_steps)) in
     let through : c.act.new.walk ≡ record { scope = c.enter_labels.new.walk.scope; found = done c.enter_labels.new.walk.scope c.labelled-inner.result a c.enter_labels.new.walk.found } = first_of (search rules, grind (arith, common_steps)) in
     let kept : c.walk-in-Valof-2.inside.table ≡ c.enter_labels.new.walk.scope = ap (λ s. s.scope) c.walk-in-Valof-2.view_is ∙ ap (λ s. s.scope) through in

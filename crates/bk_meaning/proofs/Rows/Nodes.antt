@@ -1,0 +1,168 @@
+-- Trees of worked programs, all on line 1, and the header in front of them.
+use Rattle.std.specs.Prelude.{ℕ, Bool, List, [], ◌∷◌}
+use Rattle.bk_syntax.specs.declared.tree.Operator.{Operator}
+use Rattle.bk_syntax.specs.declared.tree.Prefix.{Prefix}
+use Rattle.bk_syntax.specs.declared.tree.Prefix.TheVariants as q
+use Rattle.bk_syntax.specs.declared.tree.Simple.{Simple}
+use Rattle.bk_syntax.specs.declared.tree.Sort.{Sort}
+use Rattle.bk_syntax.specs.declared.tree.Sort.TheVariants as s
+use Rattle.bk_syntax.specs.Tree as t
+use Rattle.bk_syntax.specs.Tree.{Mention, Expression, Expressions, Action, Actions, Declaration, Declarations, Items, Definition, Definitions, Starts}
+use Rattle.bk_meaning.proofs.Rows.Names as n
+
+-- lists of nodes
+abbrev pub expressions : List Expression → Expressions
+expressions [] = t.none
+expressions (e ∷ es) = t.more e (expressions es)
+
+abbrev pub actions : List Action → Actions
+actions [] = t.no_actions
+actions (c ∷ cs) = t.also c (actions cs)
+
+abbrev pub declarations : List Declaration → Declarations
+declarations [] = t.no_declarations
+declarations (d ∷ ds) = t.declare d (declarations ds)
+
+abbrev pub definitions : List Definition → Definitions
+definitions [] = t.no_definitions
+definitions (d ∷ ds) = t.define d (definitions ds)
+
+abbrev pub items : List (Items → Items) → Items
+items [] = t.no_items
+items (i ∷ is) = i (items is)
+
+abbrev pub starts : List (Starts → Starts) → Starts
+starts [] = t.no_starts
+starts (i ∷ is) = i (starts is)
+
+abbrev pub mentions : List (List ℕ) → List Mention
+mentions [] = []
+mentions (x ∷ xs) = record { line = 1; letters = x } ∷ mentions xs
+
+-- expressions
+abbrev pub named : List ℕ → Expression
+named x = t.name 1 x
+
+abbrev pub number : ℕ → Expression
+number k = t.number 1 k
+
+abbrev pub text : List ℕ → Expression
+text bytes = t.text 1 bytes
+
+abbrev pub truth : Bool → Expression
+truth b = t.truth 1 b
+
+abbrev pub query : Expression
+query = t.query 1
+
+abbrev pub parens : Expression → Expression
+parens e = t.parens 1 e
+
+abbrev pub unary : Prefix → Expression → Expression
+unary p e = t.unary 1 p e
+
+abbrev pub binary : Operator → Expression → Expression → Expression
+binary p a b = t.binary 1 p 1 a b
+
+abbrev pub choice : Expression → Expression → Expression → Expression
+choice c a b = t.choice 1 1 c a b
+
+abbrev pub apply : Expression → List Expression → Expression
+apply f es = t.apply 1 1 f (expressions es)
+
+abbrev pub valof : Action → Expression
+valof c = t.valof 1 c
+
+abbrev pub table : List Expression → Expression
+table es = t.table 1 (expressions es)
+
+-- commands
+abbrev pub assign : List Expression → List Expression → Action
+assign xs es = t.assign 1 (expressions xs) (expressions es)
+
+abbrev pub call : Expression → List Expression → Action
+call f es = t.call 1 f (expressions es)
+
+abbrev pub goto : List ℕ → Action
+goto x = t.goto 1 (record { line = 1; letters = x })
+
+abbrev pub label : List ℕ → Action → Action
+label x c = t.label 1 x c
+
+abbrev pub case : Expression → Action → Action
+case e c = t.case_of 1 e c
+
+abbrev pub default : Action → Action
+default c = t.default 1 c
+
+abbrev pub when : Bool → Expression → Action → Action
+when b e c = t.when 1 b e c
+
+abbrev pub test : Expression → Action → Action → Action
+test e a b = t.test 1 e a b
+
+abbrev pub while : Bool → Expression → Action → Action
+while b e c = t.while 1 b e c
+
+abbrev pub for_loop : List ℕ → Expression → Expression → List Expression → Action → Action
+for_loop x a b step c = t.for_loop 1 (record { line = 1; letters = x }) a b (expressions step) c
+
+abbrev pub switch : Expression → Action → Action
+switch e c = t.switch 1 e c
+
+abbrev pub result : Expression → Action
+result e = t.result 1 e
+
+abbrev pub simple : Simple → Action
+simple w = t.simple 1 w
+
+abbrev pub compound : List Action → Action
+compound cs = t.block 1 t.no_declarations (actions cs)
+
+abbrev pub block : List Declaration → List Action → Action
+block ds cs = t.block 1 (declarations ds) (actions cs)
+
+abbrev pub repeat : Action → Action
+repeat c = t.repeat 1 c
+
+abbrev pub repeat_while : Bool → Action → Expression → Action
+repeat_while b c e = t.repeat_while 1 b c e
+
+-- declarations
+abbrev pub item : List ℕ → Expression → Items → Items
+item x e is = t.item 1 x e is
+
+abbrev pub constants : Sort → List (Items → Items) → Declaration
+constants sort is = t.constants 1 sort (items is)
+
+abbrev pub lets : List Definition → Declaration
+lets ds = t.definitions 1 (definitions ds)
+
+abbrev pub routine : List ℕ → List (List ℕ) → Action → Definition
+routine x xs c = t.routine 1 x (mentions xs) c
+
+abbrev pub function : List ℕ → List (List ℕ) → Expression → Definition
+function x xs e = t.function 1 x (mentions xs) e
+
+abbrev pub value : Expression → Starts → Starts
+value e is = t.value e is
+
+abbrev pub vector : Expression → Starts → Starts
+vector e is = t.vector 1 e is
+
+abbrev pub variables : List (List ℕ) → List (Starts → Starts) → Definition
+variables xs is = t.variables 1 (mentions xs) (starts is)
+
+-- a section, behind GET "LIBHDR2" and alone
+abbrev pub header : Declarations → Declarations
+header ds =
+    t.declare (constants s.Global (item n.start (number 1) ∷ item n.stop (number 2) ∷ item n.rdch (number 3) ∷ item n.wrch (number 4)
+    ∷ item n.newline (number 5) ∷ item n.writes (number 6) ∷ item n.writen (number 7) ∷ item n.writed (number 8)
+    ∷ item n.getbyte (number 9) ∷ item n.putbyte (number 10) ∷ item n.writef (number 11) ∷ []))
+    (t.declare (constants s.Manifest (item n.endstreamch (unary q.Minus (number 1)) ∷ item n.bytesperword (number 4) ∷ [])) ds)
+
+abbrev pub with_header : List Declaration → Declarations
+with_header ds = header (declarations ds)
+
+abbrev pub without_header : List Declaration → Declarations
+without_header ds = declarations ds

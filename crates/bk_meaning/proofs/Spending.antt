@@ -1,0 +1,108 @@
+-- Turns are spent: no outcome has more of them than there were, an exit has fewer, and a run is cut off only where none is left.
+use Rattle.std.proofs.Common.{◌≡◌, ℕ, zero, suc, ◌+◌, ◌≤◌, Bool, true, false, Option, Some, None, refl, arith}
+use Rattle.bk_meaning.specs.Memory.{Memory}
+use Rattle.bk_meaning.specs.World.{World, Exit, End, Outcome, gives, leaves, ends, undefined, going, each_way, with, given, either, turn, turn_of, closing, changes}
+
+abbrev pub IsSpent : {A : Type 0} → ℕ → Outcome A → Type 0
+IsSpent n (gives a v) = v.turns ≤ n
+IsSpent n (leaves x v) = v.turns + 1 ≤ n
+IsSpent n (ends e v) = v.turns ≤ n
+IsSpent n undefined = Unit {0}
+IsSpent n (going v) = v.turns ≡ 0
+
+-- the same, but an exit may have as many
+abbrev pub IsKept : {A : Type 0} → ℕ → Outcome A → Type 0
+IsKept n (gives a v) = v.turns ≤ n
+IsKept n (leaves x v) = v.turns ≤ n
+IsKept n (ends e v) = v.turns ≤ n
+IsKept n undefined = Unit {0}
+IsKept n (going v) = v.turns ≡ 0
+
+pub record Spent {A : Type 0} (n : ℕ) (u : Outcome A) : Type 0 where
+  pub is : IsSpent n u
+
+pub record Kept {A : Type 0} (n : ℕ) (u : Outcome A) : Type 0 where
+  pub is : IsKept n u
+
+-- in all worlds with at most d turns
+pub record Spends {A : Type 0} (d : ℕ) (go : World → Outcome A) : Type 0 where
+  pub at : (w : World) → w.turns ≤ d → Spent w.turns (go w)
+
+pub spends : {A : Type 0} (d : ℕ) (go : World → Outcome A) → ((w : World) → w.turns ≤ d → Spent w.turns (go w)) → Spends d go
+spends d go at = record { at = at }
+
+pub spent_more : {A : Type 0} (n k : ℕ) (u : Outcome A) → n ≤ k → Spent n u → Spent k u
+spent_more n k (gives a v) le h = let i : v.turns ≤ n = h.is in record { is = omega (arith, i, le) }
+spent_more n k (leaves x v) le h = let i : v.turns + 1 ≤ n = h.is in record { is = omega (arith, i, le) }
+spent_more n k (ends e v) le h = let i : v.turns ≤ n = h.is in record { is = omega (arith, i, le) }
+spent_more n k undefined le h = record { is = tt }
+spent_more n k (going v) le h = record { is = h.is }
+
+pub kept : {A : Type 0} (n : ℕ) (u : Outcome A) → Spent n u → Kept n u
+kept n (gives a v) h = record { is = h.is }
+kept n (leaves x v) h = let i : v.turns + 1 ≤ n = h.is in record { is = omega (arith, i) }
+kept n (ends e v) h = record { is = h.is }
+kept n undefined h = record { is = tt }
+kept n (going v) h = record { is = h.is }
+
+-- of an exit
+pub record SpendsOut {A : Type 0} (d : ℕ) (out : Exit → World → Outcome A) : Type 0 where
+  pub at : (x : Exit) (v : World) (n : ℕ) → v.turns + 1 ≤ n → n ≤ d → Spent n (out x v)
+
+pub each_way_spent : {A B : Type 0} (w : World) (d : ℕ) (u : Outcome A) (on : A → World → Outcome B) (out : Exit → World → Outcome B) → w.turns ≤ d → Spent w.turns u → ((a : A) → Spends d (on a)) → SpendsOut d out → Spent w.turns (each_way on out u)
+each_way_spent w d (gives a v) on out le h s x =
+    let i : v.turns ≤ w.turns = h.is in
+    spent_more v.turns w.turns (on a v) i ((s a).at v (omega (arith, i, le)))
+each_way_spent w d (leaves y v) on out le h s x = x.at y v w.turns h.is le
+each_way_spent w d (ends e v) on out le h s x = record { is = h.is }
+each_way_spent w d undefined on out le h s x = record { is = tt }
+each_way_spent w d (going v) on out le h s x = record { is = h.is }
+
+pub leaves_out : {A : Type 0} (d : ℕ) → SpendsOut {A = A} d (λ x w. leaves x w)
+leaves_out d = record { at = λ x v n lt le. record { is = lt } }
+
+pub with_spent : {A B : Type 0} (w : World) (d : ℕ) (u : Outcome A) (on : A → World → Outcome B) → w.turns ≤ d → Spent w.turns u → ((a : A) → Spends d (on a)) → Spent w.turns (with u on)
+with_spent w d u on le h s = each_way_spent w d u on (λ x w. leaves x w) le h s (leaves_out d)
+
+pub gives_spent : {A : Type 0} (a : A) (w : World) → Spent w.turns (gives a w)
+gives_spent a w = record { is = omega arith }
+
+pub undefined_spent : {A : Type 0} (w : World) → Spent {A = A} w.turns undefined
+undefined_spent w = record { is = tt }
+
+pub ends_spent : {A : Type 0} (e : End) (w : World) → Spent {A = A} w.turns (ends e w)
+ends_spent e w = record { is = omega arith }
+
+pub given_spent : {A : Type 0} (x : Option A) (w : World) → Spent w.turns (given x w)
+given_spent None w = undefined_spent w
+given_spent (Some a) w = gives_spent a w
+
+pub either_spent : {A : Type 0} (b : Bool) (d : ℕ) (go other : World → Outcome A) → Spends d go → Spends d other → (w : World) → w.turns ≤ d → Spent w.turns (either b go other w)
+either_spent true d go other g h w le = g.at w le
+either_spent false d go other g h w le = h.at w le
+
+-- a turn, and what keeps the others
+pub turn_spent : {A : Type 0} (d : ℕ) (go : World → Outcome A) → ((w : World) → w.turns + 1 ≤ d → Kept w.turns (go w)) → (w : World) → w.turns ≤ d → Spent w.turns (turn w go)
+turn_spent {A = A} d go h w le = at w.turns refl le
+  where
+    lost : (n : ℕ) (u : Outcome A) → Kept n u → Spent (suc n) u
+    lost n (gives a v) k = let i : v.turns ≤ n = k.is in record { is = omega (arith, i) }
+    lost n (leaves x v) k = let i : v.turns ≤ n = k.is in record { is = omega (arith, i) }
+    lost n (ends e v) k = let i : v.turns ≤ n = k.is in record { is = omega (arith, i) }
+    lost n undefined k = record { is = tt }
+    lost n (going v) k = record { is = k.is }
+
+    at : (i : ℕ) → w.turns ≡ i → i ≤ d → Spent i (turn_of i w go)
+    at zero is le = record { is = is }
+    at (suc i) is le = lost i (go (record w { turns = i })) (h (record w { turns = i }) (omega (arith, le)))
+
+pub closing_spent : {A : Type 0} (w : World) (k : ℕ) (u : Outcome A) → Spent w.turns u → Spent w.turns (closing k u)
+closing_spent w k (gives a v) h = record { is = h.is }
+closing_spent w k (leaves x v) h = record { is = h.is }
+closing_spent w k (ends e v) h = record { is = h.is }
+closing_spent w k undefined h = record { is = tt }
+closing_spent w k (going v) h = record { is = h.is }
+
+pub changes_spent : (m : Option Memory) (w : World) → Spent w.turns (changes m w)
+changes_spent None w = undefined_spent w
+changes_spent (Some m) w = record { is = omega arith }

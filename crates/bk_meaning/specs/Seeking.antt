@@ -1,0 +1,57 @@
+-- Seeking a label, or the place of a CASE or DEFAULT, in commands: where it stands, seeking can come to it.
+use Rattle.std.specs.Prelude.{ℕ, ◌==◌, Bool, true, false, ◌||◌, cond, Option, Some, List}
+use Rattle.std.specs.Str.{bytes_eq}
+use Rattle.bk_syntax.specs.Tree as t
+use Rattle.bk_syntax.specs.Tree.{Action, Actions}
+use Rattle.bk_meaning.specs.Environment.{Environment, constant_in}
+
+pub data Sought : Type 0 where
+  the_label : (name : List ℕ) → Sought
+  -- by the word of its constant, if it has one
+  the_case : (word : Option ℕ) → Sought
+  the_default : Sought
+
+-- a command is done forwards from its beginning, or from a place in it that is sought
+pub data Mode : Type 0 where
+  forwards : Mode
+  seeking : (s : Sought) → Mode
+
+abbrev pub same_word : Option ℕ → Option ℕ → Bool
+same_word (Some x) (Some y) = x == y
+same_word _ _ = false
+
+abbrev pub same_place : Sought → Sought → Bool
+same_place (the_label x) (the_label y) = bytes_eq x y
+same_place (the_case x) (the_case y) = same_word x y
+same_place the_default the_default = true
+same_place _ _ = false
+
+-- how to go on behind a place
+abbrev pub at_place : Sought → Mode → Mode
+at_place here forwards = forwards
+at_place here (seeking s) = cond (same_place s here) forwards (seeking s)
+
+-- a SWITCHON has the CASEs and the DEFAULT inside it
+abbrev pub is_label : Sought → Bool
+is_label (the_label x) = true
+is_label _ = false
+
+-- Whether the place stands in a command, where seeking comes to it: a block with declarations, the body of a FOR and of a VALOF
+-- keep their own.
+abbrev mutual
+  pub stands_in : Sought → Environment → Action → Bool
+  stands_in s env (t.label l x c) = same_place s (the_label x) || stands_in s env c
+  stands_in s env (t.case_of l e c) = same_place s (the_case (constant_in env e)) || stands_in s env c
+  stands_in s env (t.default l c) = same_place s the_default || stands_in s env c
+  stands_in s env (t.when l b e c) = stands_in s env c
+  stands_in s env (t.test l e a b) = stands_in s env a || stands_in s env b
+  stands_in s env (t.while l b e c) = stands_in s env c
+  stands_in s env (t.switch l e c) = cond (is_label s) (stands_in s env c) false
+  stands_in s env (t.block l t.no_declarations cs) = stands_in_one s env cs
+  stands_in s env (t.repeat l c) = stands_in s env c
+  stands_in s env (t.repeat_while l b c e) = stands_in s env c
+  stands_in s env _ = false
+
+  pub stands_in_one : Sought → Environment → Actions → Bool
+  stands_in_one s env t.no_actions = false
+  stands_in_one s env (t.also c cs) = stands_in s env c || stands_in_one s env cs

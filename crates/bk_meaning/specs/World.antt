@@ -1,0 +1,109 @@
+-- Worlds, and how a run goes on or ends.
+use Rattle.std.specs.Prelude.{ℕ, zero, suc, ◌+◌, max, Bool, true, false, Option, Some, None, List, ◌++◌}
+use Rattle.bk_meaning.specs.Values.{Value, Cell}
+use Rattle.bk_meaning.specs.Memory.{Memory, made, dead_from}
+
+pub record World : Type 0 where
+  pub memory : Memory
+  -- the bytes of the input that were not taken
+  pub input : List ℕ
+  -- the bytes written so far
+  pub output : List ℕ
+  -- the calls that are active, those of library routines too, and the most there were at once
+  pub calls : ℕ
+  pub most_calls : ℕ
+  -- the turns that are left
+  pub turns : ℕ
+
+-- how a program ends
+pub data End : Type 0 where
+  status : (word : ℕ) → End
+  divide_by_zero : End
+  -- there is no START
+  no_start : End
+
+-- Where control goes in place of the next command: out of a loop, to its next round, out of a SWITCHON, to a label, out of a
+-- VALOF with its result, out of a procedure.
+pub data Exit : Type 0 where
+  break : Exit
+  loop : Exit
+  endcase : Exit
+  goto : (label : List ℕ) → Exit
+  result : (value : Value) → Exit
+  return : Exit
+
+-- What comes of an expression or a command: something is given and the run goes on, or it is left by an exit, or the program
+-- ends; or the act is undefined; or no turn is left.
+pub data Outcome (A : Type 0) : Type 0 where
+  gives : (what : A) (w : World) → Outcome A
+  leaves : (exit : Exit) (w : World) → Outcome A
+  ends : (end : End) (w : World) → Outcome A
+  undefined : Outcome A
+  going : (w : World) → Outcome A
+
+-- goes on with what was given, or with the exit; any other outcome stays
+abbrev pub each_way : {A B : Type 0} → (A → World → Outcome B) → (Exit → World → Outcome B) → Outcome A → Outcome B
+each_way on out (gives a w) = on a w
+each_way on out (leaves x w) = out x w
+each_way on out (ends e w) = ends e w
+each_way on out undefined = undefined
+each_way on out (going w) = going w
+
+-- goes on with what was given; an exit stays
+abbrev pub with : {A B : Type 0} → Outcome A → (A → World → Outcome B) → Outcome B
+with u on = each_way on (λ x w. leaves x w) u
+
+-- what a command that is done gives
+abbrev pub Done : Type 0
+Done = Unit {0}
+
+abbrev pub done : World → Outcome Done
+done w = gives tt w
+
+-- nothing is undefined
+abbrev pub given : {A : Type 0} → Option A → World → Outcome A
+given None w = undefined
+given (Some a) w = gives a w
+
+abbrev pub either : {A : Type 0} → Bool → (World → Outcome A) → (World → Outcome A) → World → Outcome A
+either true then_so else_so w = then_so w
+either false then_so else_so w = else_so w
+
+-- takes a turn, if one is left
+abbrev pub turn_of : {A : Type 0} → ℕ → World → (World → Outcome A) → Outcome A
+turn_of zero w go = going w
+turn_of (suc n) w go = go (record w { turns = n })
+
+abbrev pub turn : {A : Type 0} → World → (World → Outcome A) → Outcome A
+turn w go = turn_of w.turns w go
+
+-- with another memory, and with a new object
+abbrev pub remembering : Memory → World → World
+remembering m w = record w { memory = m }
+
+abbrev pub making : List Cell → World → World
+making cells w = remembering (made cells w.memory) w
+
+-- with all objects from number o on dead: those that were made since memory had o of them
+abbrev pub forgetting : ℕ → World → World
+forgetting o w = remembering (dead_from o w.memory) w
+
+-- They die whether something was given or it was left by an exit.
+abbrev pub closing : {A : Type 0} → ℕ → Outcome A → Outcome A
+closing o u = each_way (λ a w. gives a (forgetting o w)) (λ x w. leaves x (forgetting o w)) u
+
+-- memory that was changed, if that was allowed
+abbrev pub changes : Option Memory → World → Outcome Done
+changes None w = undefined
+changes (Some m) w = done (remembering m w)
+
+abbrev pub writing : List ℕ → World → World
+writing bytes w = record w { output = w.output ++ bytes }
+
+-- one call more
+abbrev pub calling : World → World
+calling w = record w { calls = w.calls + 1; most_calls = max w.most_calls (w.calls + 1) }
+
+-- back to so many
+abbrev pub calls_back : ℕ → World → World
+calls_back n w = record w { calls = n }

@@ -1,0 +1,94 @@
+-- The pass and what is told: operators and calls.
+use Rattle.std.proofs.Common.{◌≡◌, ℕ, ◌+◌, List, refl, sym, subst, arith}
+use Rattle.bk_syntax.specs.declared.tree.Operator.{Operator}
+use Rattle.bk_syntax.specs.declared.tree.Operator.TheVariants as o
+use Rattle.bk_syntax.specs.Tree.{Expression, Expressions, Action, binary, apply}
+use Rattle.bk_syntax.specs.Grammar.{size}
+use Rattle.bk_scope.specs.declared.place.Place.{Place}
+use Rattle.bk_scope.specs.declared.role.Role.{Role}
+use Rattle.bk_scope.specs.declared.role.Role.TheVariants.{Value, Truth, Address, Destination}
+use Rattle.bk_scope.specs.Scope.{Binding}
+use Rattle.bk_scope.specs.Found.{Found}
+use Rattle.bk_scope.specs.Places.{deeper}
+use Rattle.bk_scope.specs.Names.{evaluated, each_evaluated, done, fit_infix, without_word, role_of_operands, place_of_second}
+use Rattle.bk_scope.specs.Spots.{Spot, past, behind, symbols, symbols_each, symbols_done, numbers, numbers_each, numbers_done}
+use Rattle.bk_scope.specs.Faults.{told, told_each, told_done}
+use Rattle.bk_scope.proofs.Tied.{Tied, Spans, both, wider, behind_it}
+
+-- an expression that is there for its value or its truth
+abbrev pub Plain : Role → Type 0
+Plain Value = Unit {0}
+Plain Truth = Unit {0}
+Plain _ = ⊥
+
+abbrev pub ETied : Expression → Type 0
+ETied e = (r : Role) → Plain r → (bs : List Binding) (p : Place) (s : Spot) (f : Found) → f.next ≡ s.number → Tied (told r bs p s e) (numbers e) f (evaluated r bs p e f)
+
+abbrev pub EInside : Expression → Type 0
+EInside e = (r : Role) (bs : List Binding) (p : Place) (s : Spot) → Spans s.place (s.place + symbols e) (told r bs p s e)
+
+abbrev pub EsTied : Expressions → Type 0
+EsTied es = (n : ℕ) (bs : List Binding) (p : Place) (s : Spot) (f : Found) → f.next ≡ s.number → Tied (told_each n bs p s es) (numbers_each es) f (each_evaluated n bs p es f)
+
+abbrev pub EsInside : Expressions → Type 0
+EsInside es = (n : ℕ) (bs : List Binding) (p : Place) (s : Spot) → Spans s.place (s.place + symbols_each es) (told_each n bs p s es)
+
+abbrev pub CTied : Action → Type 0
+CTied c = (bs : List Binding) (p : Place) (s : Spot) (f : Found) → f.next ≡ s.number → Tied (told_done bs p s c) (numbers_done c) f (done bs p c f)
+
+abbrev pub CInside : Action → Type 0
+CInside c = (bs : List Binding) (p : Place) (s : Spot) → Spans s.place (s.place + symbols_done c) (told_done bs p s c)
+
+-- binary
+pub fit_plain : (q : Operator) (r : Role) (bs : List Binding) (k : ℕ) (e : Expression) (f : Found) → Plain r → fit_infix q r bs k e f ≡ f
+fit_plain o.Subscript r bs k e f h = refl
+fit_plain o.Byte Value bs k e f h = refl
+fit_plain o.Byte Truth bs k e f h = refl
+fit_plain o.Byte (Address b l) bs k e f h = absurd h
+fit_plain o.Byte (Destination b l) bs k e f h = absurd h
+fit_plain _ Value bs k e f h = refl
+fit_plain _ Truth bs k e f h = refl
+fit_plain _ (Address b l) bs k e f h = absurd h
+fit_plain _ (Destination b l) bs k e f h = absurd h
+
+operands_plain : (q : Operator) (r : Role) → Plain r → Plain (role_of_operands q r)
+operands_plain o.Both Value h = tt
+operands_plain o.Either Value h = tt
+operands_plain o.Both Truth h = tt
+operands_plain o.Either Truth h = tt
+operands_plain _ Truth h = tt
+operands_plain _ Value h = tt
+operands_plain _ (Address b l) h = absurd h
+operands_plain _ (Destination b l) h = absurd h
+
+pub binary_tied : (l m : ℕ) (q : Operator) (a b : Expression) → ETied a → EInside a → ETied b → EInside b → ETied (binary l q m a b)
+binary_tied l m q a b ta ia tb ib r h bs p s f e =
+    let g : Found = evaluated (role_of_operands q r) bs p a f in
+    let one : Tied (told (role_of_operands q r) bs p s a) (numbers a) f g = ta (role_of_operands q r) (operands_plain q r h) bs p s f e in
+    let z : Place = place_of_second q r p in
+    let u : Spot = past 1 (behind a s) in
+    let two : Tied (told (role_of_operands q r) bs z u b) (numbers b) g (evaluated (role_of_operands q r) bs z b g) = tb (role_of_operands q r) (operands_plain q r h) bs z u g (omega (arith, one.next, e)) in
+    subst (λ v. Tied (told r bs p s (binary l q m a b)) (numbers a + numbers b) f (evaluated (role_of_operands q r) bs z b (evaluated (role_of_operands q r) bs p a v)))
+    (sym (fit_plain q r bs p.procedure (binary l q m a b) f h))
+    (behind_it (ia _ bs p s) (ib (role_of_operands q r) bs z u) (omega arith) one two)
+
+pub binary_inside : (l m : ℕ) (q : Operator) (a b : Expression) → EInside a → EInside b → EInside (binary l q m a b)
+binary_inside l m q a b ia ib r bs p s =
+    wider _ _ (both (ia (role_of_operands q r) bs p s) (ib (role_of_operands q r) bs (place_of_second q r p) (past 1 (behind a s))) (omega arith) (omega arith)) (omega arith) (omega arith)
+
+-- apply
+pub without_plain : (r : Role) (bs : List Binding) (k : ℕ) (e : Expression) (f : Found) → Plain r → without_word r bs k e f ≡ f
+without_plain Value bs k e f h = refl
+without_plain Truth bs k e f h = refl
+without_plain (Address b l) bs k e f h = absurd h
+without_plain (Destination b l) bs k e f h = absurd h
+
+pub apply_tied : (l m : ℕ) (a : Expression) (es : Expressions) → ETied a → EInside a → EsTied es → EsInside es → ETied (apply l m a es)
+apply_tied l m a es ta ia tb ib r h bs p s f e =
+    let w : Place = deeper (size es + 2) p in
+    let g : Found = evaluated Value bs w a f in
+    let one : Tied (told Value bs w s a) (numbers a) f g = ta Value tt bs w s f e in
+    let u : Spot = past 1 (behind a s) in
+    subst (λ v. Tied (told r bs p s (apply l m a es)) (numbers a + numbers_each es) f (each_evaluated 1 bs (deeper 2 p) es (evaluated Value bs w a v)))
+    (sym (without_plain r bs p.procedure (apply l m a es) f h))
+    (behind_it (ia Value bs w s) (ib 1 bs (deeper 2 p) u) (omega arith) one (tb 1 bs (deeper 2 p) u g (omega (arith, one.next, e))))

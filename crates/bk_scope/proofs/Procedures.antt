@@ -1,0 +1,295 @@
+-- The pass and what is told: procedures.
+use Rattle.std.proofs.Common.{◌≡◌, ℕ, ◌+◌, ◌*◌, ◌≤◌, Bool, true, false, cond, Option, Some, None, List, [], ◌∷◌, ◌++◌, length, refl, sym, ap, ◌∙◌, subst, append_assoc, arith}
+use Rattle.std.specs.Prelude.{nat_lt}
+use Rattle.std.proofs.lemmas.List.{append-nil}
+use Rattle.bk_base.specs.declared.limit.TheConstants.{FRAME_WORDS}
+use Rattle.bk_syntax.specs.Tree.{Mention, Expression, Action, routine, function}
+use Rattle.bk_scope.specs.declared.bound.Bound.{Bound}
+use Rattle.bk_scope.specs.declared.bound.Bound.TheVariants.{Constant, Global, Static, Variable, Label}
+use Rattle.bk_scope.specs.declared.place.Place.{Place}
+use Rattle.bk_scope.specs.declared.role.Role.TheVariants.{Value}
+use Rattle.bk_scope.specs.Scope.{Binding, bound_in}
+use Rattle.bk_scope.specs.Wrong.{text_of, declared_twice, frame_too_large, two_procedures}
+use Rattle.bk_scope.specs.Found.{Found, Claim, naming, setting, is_claimed, else_first, breaks, claims_new, claims_once, takes, opens, behind}
+use Rattle.bk_scope.specs.Places.{kept, labelled, called}
+use Rattle.bk_scope.specs.Entering.{Stage, labels_of, with_labels, with_formals}
+use Rattle.bk_scope.specs.Names.{Defined, evaluated, done, one_defined, listed, all_listed, sets, named_as, headed, frame_wrong}
+use Rattle.bk_scope.specs.Spots.{Spot, onward, symbols, symbols_done, numbers, numbers_done}
+use Rattle.bk_scope.specs.Points.{Fault, Point, meaning, word, depth, wrong, claim, at, claimed, claims_behind, judged, in_order, first_told, meanings_of, words_of, deepest, without_depths}
+use Rattle.bk_scope.specs.Scoping.{labels_in_scope}
+use Rattle.bk_scope.specs.Faults.{told, told_done, told_one_defined, one_of, each_of, its_meaning, its_global, its_frame, inside_procedure, procedure}
+use Rattle.bk_scope.proofs.Lists.{Inside, AllInside, inside_append, inside_wider, judged_inside, order_apart, first_append, meanings_append}
+use Rattle.bk_scope.proofs.Tied.{Tied, Spans, both, wider, behind_it, else_none, nothing_told, then}
+use Rattle.bk_scope.proofs.Operators.{ETied, EInside, CTied, CInside}
+use Rattle.bk_scope.proofs.Scopes.{moved, moved_tied, recount, no_span, with_labels_is}
+
+-- a claim
+once_first : (b : Bool) (c : Claim) (x : Fault) (f : Found) → (cond b (breaks x.line x.wrong f) (claims_new c f)).first ≡ else_first f.first (first_told (in_order (cond b (x ∷ []) [] ++ [])))
+once_first true c x f = refl
+once_first false c x f = sym (else_none f.first)
+
+once_claims : (b : Bool) (c : Claim) (x : Fault) (f : Found) → (cond b (breaks x.line x.wrong f) (claims_new c f)).claims ≡ cond b f.claims (c ∷ f.claims)
+once_claims true c x f = refl
+once_claims false c x f = refl
+
+once_rest : (b : Bool) (c : Claim) (x : Fault) (f : Found) → let g : Found = cond b (breaks x.line x.wrong f) (claims_new c f) in (g.meanings ≡ f.meanings) × (g.words ≡ f.words) × (g.next ≡ f.next) × (g.deepest ≡ f.deepest)
+once_rest true c x f = (refl, refl, refl, refl)
+once_rest false c x f = (refl, refl, refl, refl)
+
+pub claim_tied : (c : Claim) (x : Fault) (f : Found) → Tied (claim c x ∷ []) 0 f (claims_once c x.line x.wrong f)
+claim_tied c x f =
+    let r : ((claims_once c x.line x.wrong f).meanings ≡ f.meanings) × ((claims_once c x.line x.wrong f).words ≡ f.words) × ((claims_once c x.line x.wrong f).next ≡ f.next) × ((claims_once c x.line x.wrong f).deepest ≡ f.deepest) = once_rest (is_claimed c f.claims) c x f in
+    record { first = once_first (is_claimed c f.claims) c x f; claims = once_claims (is_claimed c f.claims) c x f; meanings = r.0 ∙ sym (append-nil f.meanings); words = r.1 ∙ sym (append-nil f.words); next = omega (arith, r.2); deepest = r.3 }
+
+pub listed_tied : (m n l : ℕ) (x : List ℕ) (f : Found) → Tied (one_of m n l x) 0 f (listed m l x f)
+listed_tied m n l x f = claim_tied (naming m x) (record { place = n; line = l; wrong = declared_twice (text_of x) }) f
+
+pub one_spans : (m n l : ℕ) (x : List ℕ) → Spans n (n + 1) (one_of m n l x)
+one_spans m n l x = record { inside = (omega arith, omega arith, tt) }
+
+pub each_spans : (m n : ℕ) (xs : List Mention) → Spans n (n + length xs) (each_of m n xs)
+each_spans m n [] = wider n (n + 0) (no_span n) (omega arith) (omega arith)
+each_spans m n (x ∷ xs) = wider _ _ (both (one_spans m n x.line x.letters) (each_spans m (n + 1) xs) (omega arith) (omega arith)) (omega arith) (omega arith)
+
+pub each_tied : (m n : ℕ) (xs : List Mention) (f : Found) → Tied (each_of m n xs) 0 f (all_listed m xs f)
+each_tied m n [] f = nothing_told f
+each_tied m n (x ∷ xs) f =
+    recount 0 (behind_it (one_spans m n x.line x.letters) (each_spans m (n + 1) xs) (omega arith) (listed_tied m n x.line x.letters f) (each_tied m (n + 1) xs (listed m x.line x.letters f))) (omega arith)
+
+global_tied : (n l : ℕ) (x : List ℕ) (b : Option Bound) (f : Found) → Tied (its_global n l x b) 0 f (sets l x b f)
+global_tied n l x None f = nothing_told f
+global_tied n l x (Some (Global None)) f = nothing_told f
+global_tied n l x (Some (Global (Some g))) f = claim_tied (setting g) (record { place = n; line = l; wrong = two_procedures (text_of x) }) f
+global_tied n l x (Some (Constant w)) f = nothing_told f
+global_tied n l x (Some (Static w)) f = nothing_told f
+global_tied n l x (Some (Variable j w)) f = nothing_told f
+global_tied n l x (Some (Label j w)) f = nothing_told f
+
+global_inside : (n l : ℕ) (x : List ℕ) (b : Option Bound) → Inside (32 * n + 27) (32 * (n + 1)) (its_global n l x b)
+global_inside n l x None = tt
+global_inside n l x (Some (Global None)) = tt
+global_inside n l x (Some (Global (Some g))) = (omega arith, omega arith, tt)
+global_inside n l x (Some (Constant w)) = tt
+global_inside n l x (Some (Static w)) = tt
+global_inside n l x (Some (Variable j w)) = tt
+global_inside n l x (Some (Label j w)) = tt
+
+-- what a name's own meaning, and a frame, add
+its_fault : ℕ → ℕ → Fault
+its_fault n l = record { place = n; line = l; wrong = frame_too_large }
+
+module _ (n l : ℕ) (xs : List Point) where
+  frame_judged : (b : Bool) (cs : List Claim) → judged cs (cond b (at n l frame_too_large) [] ++ xs) ≡ cond b (record { place = n; line = l; wrong = frame_too_large } ∷ []) [] ++ judged cs xs
+  frame_judged true cs = refl
+  frame_judged false cs = refl
+
+  frame_claims : (b : Bool) (cs : List Claim) → claims_behind cs (cond b (at n l frame_too_large) [] ++ xs) ≡ claims_behind cs xs
+  frame_claims true cs = refl
+  frame_claims false cs = refl
+
+  frame_meanings : (b : Bool) → meanings_of (cond b (at n l frame_too_large) [] ++ xs) ≡ meanings_of xs
+  frame_meanings true = refl
+  frame_meanings false = refl
+
+  frame_words : (b : Bool) → words_of (cond b (at n l frame_too_large) [] ++ xs) ≡ words_of xs
+  frame_words true = refl
+  frame_words false = refl
+
+  frame_deepest : (b : Bool) (d : ℕ) → deepest d (cond b (at n l frame_too_large) [] ++ xs) ≡ deepest d xs
+  frame_deepest true d = refl
+  frame_deepest false d = refl
+
+  frame_inside : (b : Bool) (e : ℕ) → Inside (32 * n + 15) e xs → 32 * n + 27 ≤ e → Inside (32 * n + 15) e (cond b (at n l frame_too_large) [] ++ xs)
+  frame_inside true e h g = (omega arith, omega (arith, g), h)
+  frame_inside false e h g = h
+
+frame_first : (b : Bool) (n l : ℕ) → first_told (in_order (cond b (record { place = n; line = l; wrong = frame_too_large } ∷ []) [])) ≡ cond b (Some (record { line = l; wrong = frame_too_large })) None
+frame_first true n l = refl
+frame_first false n l = refl
+
+frame_faults : (b : Bool) (n l : ℕ) → AllInside (32 * n + 15) (32 * n + 27) (cond b (record { place = n; line = l; wrong = frame_too_large } ∷ []) [])
+frame_faults true n l = (omega arith, omega arith, tt)
+frame_faults false n l = tt
+
+-- a name's meaning says nothing of the rest
+name_judged : (b : Option Bound) (xs : List Point) (cs : List Claim) → judged cs (its_meaning b ++ xs) ≡ judged cs xs
+name_judged None xs cs = refl
+name_judged (Some b) xs cs = refl
+
+name_claims : (b : Option Bound) (xs : List Point) (cs : List Claim) → claims_behind cs (its_meaning b ++ xs) ≡ claims_behind cs xs
+name_claims None xs cs = refl
+name_claims (Some b) xs cs = refl
+
+name_words : (b : Option Bound) (xs : List Point) → words_of (its_meaning b ++ xs) ≡ words_of xs
+name_words None xs = refl
+name_words (Some b) xs = refl
+
+name_deepest : (b : Option Bound) (xs : List Point) (d : ℕ) → deepest d (its_meaning b ++ xs) ≡ deepest d xs
+name_deepest None xs d = refl
+name_deepest (Some b) xs d = refl
+
+name_inside : (b : Option Bound) (xs : List Point) (n m : ℕ) → Inside n m xs → Inside n m (its_meaning b ++ xs)
+name_inside None xs n m h = h
+name_inside (Some b) xs n m h = h
+
+named_found : (b : Option Bound) (f : Found) → ((named_as b f).claims ≡ f.claims) × ((named_as b f).meanings ≡ f.meanings ++ meanings_of (its_meaning b)) × ((named_as b f).words ≡ f.words) × ((named_as b f).next ≡ f.next)
+named_found None f = (refl, sym (append-nil f.meanings), refl, refl)
+named_found (Some b) f = (refl, refl, refl, refl)
+
+-- without the depths
+flat_judged : (xs : List Point) (cs : List Claim) → judged cs (without_depths xs) ≡ judged cs xs
+flat_judged [] cs = refl
+flat_judged (meaning b ∷ xs) cs = flat_judged xs cs
+flat_judged (word v ∷ xs) cs = flat_judged xs cs
+flat_judged (depth m ∷ xs) cs = flat_judged xs cs
+flat_judged (wrong f ∷ xs) cs = ap (λ l. f ∷ l) (flat_judged xs cs)
+flat_judged (claim c f ∷ xs) cs = ap (λ l. cond (is_claimed c cs) (f ∷ []) [] ++ l) (flat_judged xs (claimed c cs))
+
+flat_claims : (xs : List Point) (cs : List Claim) → claims_behind cs (without_depths xs) ≡ claims_behind cs xs
+flat_claims [] cs = refl
+flat_claims (meaning b ∷ xs) cs = flat_claims xs cs
+flat_claims (word v ∷ xs) cs = flat_claims xs cs
+flat_claims (depth m ∷ xs) cs = flat_claims xs cs
+flat_claims (wrong f ∷ xs) cs = flat_claims xs cs
+flat_claims (claim c f ∷ xs) cs = flat_claims xs (claimed c cs)
+
+flat_meanings : (xs : List Point) → meanings_of (without_depths xs) ≡ meanings_of xs
+flat_meanings [] = refl
+flat_meanings (meaning b ∷ xs) = ap (λ l. b ∷ l) (flat_meanings xs)
+flat_meanings (word v ∷ xs) = flat_meanings xs
+flat_meanings (depth m ∷ xs) = flat_meanings xs
+flat_meanings (wrong f ∷ xs) = flat_meanings xs
+flat_meanings (claim c f ∷ xs) = flat_meanings xs
+
+flat_words : (xs : List Point) → words_of (without_depths xs) ≡ words_of xs
+flat_words [] = refl
+flat_words (meaning b ∷ xs) = flat_words xs
+flat_words (word v ∷ xs) = ap (λ l. v ∷ l) (flat_words xs)
+flat_words (depth m ∷ xs) = flat_words xs
+flat_words (wrong f ∷ xs) = flat_words xs
+flat_words (claim c f ∷ xs) = flat_words xs
+
+flat_deepest : (xs : List Point) (d : ℕ) → deepest d (without_depths xs) ≡ d
+flat_deepest [] d = refl
+flat_deepest (meaning b ∷ xs) d = flat_deepest xs d
+flat_deepest (word v ∷ xs) d = flat_deepest xs d
+flat_deepest (depth m ∷ xs) d = flat_deepest xs d
+flat_deepest (wrong f ∷ xs) d = flat_deepest xs d
+flat_deepest (claim c f ∷ xs) d = flat_deepest xs d
+
+flat_inside : (n m : ℕ) (xs : List Point) → Inside n m xs → Inside n m (without_depths xs)
+flat_inside n m [] h = tt
+flat_inside n m (meaning b ∷ xs) h = flat_inside n m xs h
+flat_inside n m (word v ∷ xs) h = flat_inside n m xs h
+flat_inside n m (depth d ∷ xs) h = flat_inside n m xs h
+flat_inside n m (wrong f ∷ xs) h = (h.0, h.1, flat_inside n m xs h.2)
+flat_inside n m (claim c f ∷ xs) h = (h.0, h.1, flat_inside n m xs h.2)
+
+-- a procedure behind its name, where all that is told of it inside is `xs`
+inside_tied : (n l j e d : ℕ) (y : Option Bound) (xs : List Point) (f h : Found) → Inside (32 * n + 27) e xs → Tied xs j (opens d (named_as y (takes f))) h
+    → Tied (its_frame n l (deepest d xs) ++ (its_meaning y ++ without_depths xs)) (1 + j) f (behind f.first f.deepest (frame_wrong l h) h)
+inside_tied n l j e d y xs f h a t =
+    let q : Bool = nat_lt FRAME_WORDS (deepest d xs) in
+    let zs : List Point = its_meaning y ++ without_depths xs in
+    let v : ((named_as y (takes f)).claims ≡ f.claims) × ((named_as y (takes f)).meanings ≡ f.meanings ++ meanings_of (its_meaning y)) × ((named_as y (takes f)).words ≡ f.words) × ((named_as y (takes f)).next ≡ f.next + 1) = named_found y (takes f) in
+    let rest : judged f.claims zs ≡ judged f.claims xs = name_judged y (without_depths xs) f.claims ∙ flat_judged xs f.claims in
+    record {
+      first =
+          ap (λ b. else_first f.first (else_first (cond (nat_lt FRAME_WORDS b) (Some (record { line = l; wrong = frame_too_large })) None) h.first)) t.deepest
+          ∙ ap (λ b. else_first f.first (else_first (cond q (Some (record { line = l; wrong = frame_too_large })) None) b)) (t.first ∙ ap (λ c. first_told (in_order (judged c xs))) v.0)
+          ∙ ap (λ b. else_first f.first (else_first b (first_told (in_order (judged f.claims xs))))) (sym (frame_first q n l))
+          ∙ ap (else_first f.first) (sym (
+          ap (λ b. first_told (in_order b)) (frame_judged n l zs q f.claims ∙ ap (λ b. cond q (record { place = n; line = l; wrong = frame_too_large } ∷ []) [] ++ b) rest)
+          ∙ ap first_told (order_apart (32 * n + 15) (32 * n + 27) e _ (judged f.claims xs) (frame_faults q n l) (judged_inside _ _ xs f.claims a))
+          ∙ first_append (in_order (cond q (record { place = n; line = l; wrong = frame_too_large } ∷ []) [])) _));
+      claims = t.claims ∙ ap (λ c. claims_behind c xs) v.0 ∙ sym (frame_claims n l zs q f.claims ∙ name_claims y (without_depths xs) f.claims ∙ flat_claims xs f.claims);
+      meanings =
+          t.meanings ∙ ap (λ c. c ++ meanings_of xs) v.1 ∙ append_assoc f.meanings (meanings_of (its_meaning y)) (meanings_of xs)
+          ∙ ap (λ c. f.meanings ++ c) (sym (frame_meanings n l zs q ∙ meanings_append (its_meaning y) (without_depths xs) ∙ ap (λ c. meanings_of (its_meaning y) ++ c) (flat_meanings xs)));
+      words = t.words ∙ ap (λ c. c ++ words_of xs) v.2 ∙ ap (λ c. f.words ++ c) (sym (frame_words n l zs q ∙ name_words y (without_depths xs) ∙ flat_words xs));
+      next = omega (arith, t.next, v.3);
+      deepest = sym (frame_deepest n l zs q f.deepest ∙ name_deepest y (without_depths xs) f.deepest ∙ flat_deepest xs f.deepest);
+    }
+
+pub procedure_tied : (m k l i j : ℕ) (s : Spot) (x : List ℕ) (fs : List Mention) (y : Option Bound) (body : List Point) (f h : Found)
+    → Spans (s.place + 1 + length fs) (s.place + 1 + length fs + i) body → Tied body j (headed k l x fs y (takes (listed m l x f))) h
+    → Tied (procedure m k s l x fs y body) (1 + j) f (behind (listed m l x f).first (listed m l x f).deepest (frame_wrong l h) h)
+procedure_tied m k l i j s x fs y body f h a t =
+    let n : ℕ = s.place in
+    let e : ℕ = 32 * (n + 1 + length fs + i) in
+    let f1 : Found = opens (kept (length fs + 2)) (named_as y (takes (listed m l x f))) in
+    let f2 : Found = sets l x y f1 in
+    let formals_and_body : Spans (n + 1) (n + 1 + length fs + i) (each_of k (n + 1) fs ++ body) = both (each_spans k (n + 1) fs) a (omega arith) (omega arith) in
+    let xs : List Point = inside_procedure k s l x fs y body in
+    let where_inside : Inside (32 * n + 27) e xs = inside_append (32 * n + 27) e (its_global n l x y) (each_of k (n + 1) fs ++ body) (inside_wider (32 * n + 27) (32 * (n + 1)) (32 * n + 27) e (its_global n l x y) (omega arith) (omega arith) (global_inside n l x y)) (inside_wider (32 * (n + 1)) e (32 * n + 27) e (each_of k (n + 1) fs ++ body) (omega arith) (omega arith) formals_and_body.inside) in
+    let told_inside : Tied xs (0 + (0 + j)) f1 h =
+    then (32 * n + 27) (32 * (n + 1)) e _ _ (its_global n l x y) (each_of k (n + 1) fs ++ body) f1 f2 h (global_inside n l x y) formals_and_body.inside (global_tied n l x y f1)
+    (behind_it (each_spans k (n + 1) fs) a (omega arith) (each_tied k (n + 1) fs f2) t) in
+    let q : Bool = nat_lt FRAME_WORDS (deepest (kept (length fs + 2)) xs) in
+    recount (1 + j) (then (32 * n) (32 * n + 15) e _ _ (one_of m n l x) _ f (listed m l x f) _ (omega arith, omega arith, tt)
+    (frame_inside n l (its_meaning y ++ without_depths xs) q e (name_inside y (without_depths xs) (32 * n + 15) e (flat_inside (32 * n + 15) e xs (inside_wider (32 * n + 27) e (32 * n + 15) e xs (omega arith) (omega arith) where_inside))) (omega arith))
+    (listed_tied m n l x f) (inside_tied n l (0 + (0 + j)) e _ y xs (listed m l x f) h where_inside told_inside)) (omega arith)
+
+headed_next : (k l : ℕ) (x : List ℕ) (fs : List Mention) (y : Option Bound) (f : Found) → (headed k l x fs y f).next ≡ f.next
+headed_next k l x fs y f =
+    let f1 : Found = opens (kept (length fs + 2)) (named_as y f) in
+    omega (arith, (each_tied k 0 fs (sets l x y f1)).next, (global_tied 0 l x y f1).next, (named_found y f).3)
+
+-- A FUNCTION
+pub function_tied : (m l : ℕ) (x : List ℕ) (fs : List Mention) (a : Expression) → ETied a → EInside a → (bs : List Binding) (p : Place) (s : Spot) (d : Defined) → d.found.next ≡ s.number
+    → Tied (told_one_defined m bs p s (function l x fs a)) (1 + numbers a) d.found (one_defined m bs (function l x fs a) d).found
+function_tied m l x fs a ta ia bs p s d e =
+    let f : Found = listed m l x d.found in
+    let same : f.next ≡ s.number = omega (arith, (listed_tied m s.place l x d.found).next, e) in
+    let u : Spot = onward (1 + length fs) 1 s in
+    let T : ℕ → Type 0 = λ k. Tied (told_one_defined m bs p s (function l x fs a)) (1 + numbers a) d.found
+    (behind f.first f.deepest (frame_wrong l (evaluated Value (with_formals k 2 fs bs) (called false k (length fs)) a (headed k l x fs (bound_in bs x) (takes f)))) (evaluated Value (with_formals k 2 fs bs) (called false k (length fs)) a (headed k l x fs (bound_in bs x) (takes f)))) in
+    let k : ℕ = s.number in
+    let g : Found = headed k l x fs (bound_in bs x) (takes f) in
+    let cs : List Binding = with_formals k 2 fs bs in
+    let q : Place = called false k (length fs) in
+    let g_next : g.next ≡ u.number = omega (arith, headed_next k l x fs (bound_in bs x) (takes f), same) in
+    subst T (sym same)
+    (procedure_tied m k l (symbols a) (numbers a) s x fs (bound_in bs x) (told Value cs q u a) d.found (evaluated Value cs q a g) (wider _ _ (ia Value cs q u) (omega arith) (omega arith)) (ta Value tt cs q u g g_next))
+
+-- A ROUTINE
+pub routine_tied : (m l : ℕ) (x : List ℕ) (fs : List Mention) (c : Action) → CTied c → CInside c → (bs : List Binding) (p : Place) (s : Spot) (d : Defined) → d.found.next ≡ s.number
+    → Tied (told_one_defined m bs p s (routine l x fs c)) ((2 + length (labels_of c)) + numbers_done c) d.found (one_defined m bs (routine l x fs c) d).found
+routine_tied m l x fs c tc ic bs p s d e =
+    let f : Found = listed m l x d.found in
+    let same : f.next ≡ s.number = omega (arith, (listed_tied m s.place l x d.found).next, e) in
+    let k : ℕ = s.number in
+    let L : ℕ = length (labels_of c) in
+    let u : Spot = onward (1 + length fs) (2 + L) s in
+    let g : Found = headed k l x fs (bound_in bs x) (takes f) in
+    let g_next : g.next ≡ k + 1 = omega (arith, headed_next k l x fs (bound_in bs x) (takes f), same) in
+    let zs : List Binding = with_formals k 2 fs bs in
+    let cs : List Binding = labels_in_scope k (k + 2) (labels_of c) zs in
+    let q : Place = labelled (k + 1) (called true k (length fs)) in
+    let g' : Found = moved ((g.next + 1) + L) g in
+    let body : Tied (told_done cs q u c) (numbers_done c) g' (done cs q c g') = tc cs q u g' (omega (arith, g_next)) in
+    let all : Tied (told_done cs q u c) ((1 + L) + numbers_done c) g (done cs q c g') = behind_it (no_span u.place) (ic cs q u) (omega arith) (moved_tied (1 + L) g'.next g (omega arith)) body in
+    let whole : Found → Type 0 = λ h. Tied (told_one_defined m bs p s (routine l x fs c)) ((2 + L) + numbers_done c) d.found (behind f.first f.deepest (frame_wrong l h) h) in
+    let T : ℕ → Type 0 = λ j.
+    let v : Found = headed j l x fs (bound_in bs x) (takes f) in
+    let t : Stage = with_labels j (labels_of c) (record { scope = with_formals j 2 fs bs; found = takes v }) in
+    whole (done t.scope (labelled v.next (called true j (length fs))) c t.found) in
+    subst T (sym same)
+    (subst (λ (t : Stage). whole (done t.scope (labelled g.next (called true k (length fs))) c t.found)) (sym (with_labels_is k (labels_of c) zs (takes g)))
+    (subst (λ n. whole (done (labels_in_scope k n (labels_of c) zs) (labelled g.next (called true k (length fs))) c g')) (let e' : k + 2 ≡ g.next + 1 = omega (arith, g_next) in e')
+    (subst (λ n. whole (done cs (labelled n (called true k (length fs))) c g')) (sym g_next)
+    (recount _ (procedure_tied m k l (symbols_done c) ((1 + L) + numbers_done c) s x fs (bound_in bs x) (told_done cs q u c) d.found (done cs q c g') (wider _ _ (ic cs q u) (omega arith) (omega arith)) all) (omega arith)))))
+
+-- where a procedure's points stand
+pub procedure_spans : (m k l i : ℕ) (s : Spot) (x : List ℕ) (fs : List Mention) (y : Option Bound) (body : List Point) → Spans (s.place + 1 + length fs) (s.place + 1 + length fs + i) body
+    → Spans s.place (s.place + (1 + (length fs + i))) (procedure m k s l x fs y body)
+procedure_spans m k l i s x fs y body a =
+    let n : ℕ = s.place in
+    let e : ℕ = 32 * (n + 1 + length fs + i) in
+    let xs : List Point = inside_procedure k s l x fs y body in
+    let formals_and_body : Spans (n + 1) (n + 1 + length fs + i) (each_of k (n + 1) fs ++ body) = both (each_spans k (n + 1) fs) a (omega arith) (omega arith) in
+    let where_inside : Inside (32 * n + 15) e xs = inside_append (32 * n + 15) e (its_global n l x y) (each_of k (n + 1) fs ++ body) (inside_wider (32 * n + 27) (32 * (n + 1)) (32 * n + 15) e (its_global n l x y) (omega arith) (omega arith) (global_inside n l x y)) (inside_wider (32 * (n + 1)) e (32 * n + 15) e (each_of k (n + 1) fs ++ body) (omega arith) (omega arith) formals_and_body.inside) in
+    let q : Bool = nat_lt FRAME_WORDS (deepest (kept (length fs + 2)) xs) in
+    let rest : List Point = its_frame n l (deepest (kept (length fs + 2)) xs) ++ (its_meaning y ++ without_depths xs) in
+    let late : Inside (32 * n + 15) e rest = frame_inside n l (its_meaning y ++ without_depths xs) q e (name_inside y (without_depths xs) (32 * n + 15) e (flat_inside (32 * n + 15) e xs where_inside)) (omega arith) in
+    wider n (n + (1 + (length fs + i))) (record { inside = inside_append (32 * n) (32 * (n + 1 + length fs + i)) (one_of m n l x) rest (omega arith, omega arith, tt) (inside_wider (32 * n + 15) e (32 * n) e rest (omega arith) (omega arith) late) }) (omega arith) (omega arith)
