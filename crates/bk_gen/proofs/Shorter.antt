@@ -4,7 +4,7 @@ use Rattle.std.specs.Prelude.{slice_get, slice_set, option_and_then, ◌&&◌}
 use Rattle.std.specs.Option.{option_map, option_map_or}
 use Rattle.std.proofs.lemmas.Bool.{ltb-true, lt-ltb}
 use Rattle.std.proofs.lemmas.List.{length-append}
-use Rattle.bk_base.specs.Word.{word_sum, word_byte, byte_distance, byte_place, word_with_byte}
+use Rattle.bk_base.specs.Word.{word_sum, byte_distance}
 use Rattle.bk_base.specs.declared.run_end.End.TheVariants.{StoreLimit, DivideByZero}
 use Rattle.bk_intcode.specs.declared.item.Function.{Function}
 use Rattle.bk_intcode.specs.declared.item.Function.TheVariants as f
@@ -17,13 +17,13 @@ use Rattle.bk_intcode.specs.declared.output.Piece.TheVariants as piece
 use Rattle.bk_intcode.specs.declared.output.Output.{Output}
 use Rattle.bk_intcode.specs.declared.output.Output.TheVariants as output
 use Rattle.bk_intcode.specs.declared.registers.Registers.{Registers}
-use Rattle.bk_intcode.specs.Decoding.{form, form_function, form_is_indirect, form_is_long, address, operation_by}
+use Rattle.bk_intcode.specs.Decoding.{form, form_function, form_is_indirect, form_is_long, operation_by}
 use Rattle.bk_intcode.specs.Operations.{operator_word}
-use Rattle.bk_intcode.specs.Output.{Text, whole_text, cut_text, text_then, byte_of, string_rest, string_text, piece_text, plain, with_argument, aligning, lettered, directive, format_rest, format_text, output_text}
+use Rattle.bk_intcode.specs.Output.{Text, whole_text, cut_text, text_then, byte_of, string_rest, piece_text, lettered, directive, format_rest, output_text}
 use Rattle.bk_base.specs.Format.{capital, is_digit}
 use Rattle.bk_intcode.specs.Runs.{Standing, Going, Over, next_byte, behind_next, after, run, output_of}
 use Rattle.bk_intcode.specs.RunLaws.{run-begins, input_of}
-use Rattle.bk_intcode.specs.Step.{Turn, Goes, Tells, Asks, Ends, loaded, stored, byte_stored, addressed, with_local, with_global, pointed, operand, matched, switched, argument, given, called, operated, executed, step_on, step}
+use Rattle.bk_intcode.specs.Step.{Turn, Goes, Tells, Asks, Ends, stored, byte_stored, addressed, pointed, operand, matched, switched, given, called, operated, executed, step}
 
 -- ---- the input is read from its beginning, and output only grows
 
