@@ -14,7 +14,7 @@ use Rattle.bk_scope.specs.Faults.{meanings, words}
 use Rattle.bk_trans.specs.Filling.{program_of}
 use Rattle.bk_trans.specs.Scheme.{scheme}
 
-abbrev Translates : Declarations → List Stmt → Type 0
+abbrev pub Translates : Declarations → List Stmt → Type 0
 Translates ds code = scheme (program_of ds (meanings ds) (words ds)) ≡ code
 
 -- the least program
