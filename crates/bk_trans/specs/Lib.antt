@@ -1,0 +1,7 @@
+-- The scheme, from the tree of a section to its statements: read in this order.
+pub mod Program
+pub mod Filling
+pub mod Labels
+pub mod Depths
+pub mod Parts
+pub mod Scheme
