@@ -40,17 +40,17 @@ module _ (store : List ℕ) (f : ℕ) where
   column i a [] held = refl
   column i a (d ∷ rest) held =
       ap (λ none. if none then plain 37
-          else option_and_then (λ e. if is_digit e then with_argument store a (λ w. piece.Aligned w (e - 48)) 3 else plain 37) (byte_of store f i))
-          (eqb-suc-zero (length rest))
+      else option_and_then (λ e. if is_digit e then with_argument store a (λ w. piece.Aligned w (e - 48)) 3 else plain 37) (byte_of store f i))
+      (eqb-suc-zero (length rest))
       ∙ ap (λ t. option_and_then (λ e. if is_digit e then with_argument store a (λ w. piece.Aligned w (e - 48)) 3 else plain 37) t) held.0
       ∙ digit a d (is_digit d)
 
   by_letter : (a : ℕ) (code : Option Directive) (behind : FormatPart) → code ≡ directive_of a behind → (s n c i p q : Bool) → p ≡ q
       → (if s then with_argument store a (λ w. piece.String w) 2 else
-        if n then with_argument store a (λ w. piece.Number w) 2 else
-        if c then with_argument store a (λ w. piece.Byte (w % 256)) 2 else
-        if i then code else
-        if p then Some (record { piece = piece.Byte 37; bytes = 2; arguments = 0 }) else plain 37)
+      if n then with_argument store a (λ w. piece.Number w) 2 else
+      if c then with_argument store a (λ w. piece.Byte (w % 256)) 2 else
+      if i then code else
+      if p then Some (record { piece = piece.Byte 37; bytes = 2; arguments = 0 }) else plain 37)
       ≡ directive_of a (if s then String else if n then Number else if c then Character else if i then behind else if q then Percent else Byte 37)
   by_letter a code behind is true n c i p q same = refl
   by_letter a code behind is false true c i p q same = refl
@@ -87,14 +87,14 @@ module _ (store : List ℕ) (f : ℕ) where
   percent i a (c ∷ rest) held =
       let next : i + 1 + 1 ≡ i + 2 = omega arith in
       ap (λ more. if more then option_and_then (λ c. lettered store f i (suc (suc (length rest))) a (capital c)) (byte_of store f (i + 1)) else plain 37)
-          (two_left (length rest))
+      (two_left (length rest))
       ∙ ap (λ t. option_and_then (λ c. lettered store f i (suc (suc (length rest))) a (capital c)) t) held.0
       ∙ letter i a c rest (subst (λ j. Held j rest) next held.1)
 
   met : (i a b : ℕ) (rest : List ℕ) → Held i (b ∷ rest) → directive store f i (suc (length rest)) a ≡ directive_of a (part_at b rest)
   met i a b rest held =
       ap (λ t. option_and_then (λ b. if b == 37 && nat_lt 1 (suc (length rest))
-          then option_and_then (λ c. lettered store f i (suc (length rest)) a (capital c)) (byte_of store f (i + 1)) else plain b) t) held.0
+      then option_and_then (λ c. lettered store f i (suc (length rest)) a (capital c)) (byte_of store f (i + 1)) else plain b) t) held.0
       ∙ by_sign (b == 37) refl
     where
       by_sign : (is : Bool) → (b == 37) ≡ is
@@ -125,7 +125,7 @@ module _ (store : List ℕ) (f : ℕ) where
 
   module _ (n i a : ℕ) (rest : List ℕ)
       (ih : (k arguments : ℕ) → format_rest n store f (i + suc k) (suc (length rest) - suc k) (word_sum a arguments)
-          ≡ parts_text store (parts_behind k rest) (word_sum a arguments)) (low : word_sum a 0 ≡ a) where
+      ≡ parts_text store (parts_behind k rest) (word_sum a arguments)) (low : word_sum a 0 ≡ a) where
     on_argument : (write : ℕ → Piece) (k : ℕ) (word : Option ℕ)
         → told_by n i a rest (option_map (λ w. record { piece = write w; bytes = suc k; arguments = 1 }) word)
         ≡ option_map_or (λ w. text_then (piece_text store (write w)) (parts_text store (parts_behind k rest) (word_sum a 1))) word cut_text
@@ -154,13 +154,13 @@ module _ (store : List ℕ) (f : ℕ) where
       ∙ ap (λ d. told_by n i a rest d) (met i a b rest held)
       ∙ on_part n i a rest
       (λ k arguments.
-          let left : length (drop k rest) ≡ suc (length rest) - suc k = length-drop k rest ∙ (let e : length rest - k ≡ suc (length rest) - suc k = omega arith in e) in
-          let place : i + 1 + k ≡ i + suc k = omega arith in
-          let fewer : length (drop k rest) ≤ n = omega arith in
-          ap (λ l. format_rest n store f (i + suc k) l (word_sum a arguments)) (sym left)
-          ∙ text_is n (i + suc k) (word_sum a arguments) (drop k rest) fewer (let word : (a + arguments) % 2 ^ 32 < 2 ^ 32 = omega arith in word)
-          (subst (λ j. Held j (drop k rest)) place (held_drop k (i + 1) rest held.1))
-          ∙ ap (λ ps. parts_text store ps (word_sum a arguments)) (sym (skipped k rest)))
+      let left : length (drop k rest) ≡ suc (length rest) - suc k = length-drop k rest ∙ (let e : length rest - k ≡ suc (length rest) - suc k = omega arith in e) in
+      let place : i + 1 + k ≡ i + suc k = omega arith in
+      let fewer : length (drop k rest) ≤ n = omega arith in
+      ap (λ l. format_rest n store f (i + suc k) l (word_sum a arguments)) (sym left)
+      ∙ text_is n (i + suc k) (word_sum a arguments) (drop k rest) fewer (let word : (a + arguments) % 2 ^ 32 < 2 ^ 32 = omega arith in word)
+      (subst (λ j. Held j (drop k rest)) place (held_drop k (i + 1) rest held.1))
+      ∙ ap (λ ps. parts_text store ps (word_sum a arguments)) (sym (skipped k rest)))
       (let same : (a + 0) % 2 ^ 32 ≡ a = omega arith in same) (part_at b rest)
 
   held_string : (n i : ℕ) (bytes : List ℕ) → string_rest n store f i ≡ whole_text bytes → (n ≡ length bytes) × Held i bytes
