@@ -1,5 +1,5 @@
 -- Chosen values, single words of stores, and what holds of each branch of a step.
-use Rattle.std.proofs.Common.{◌≡◌, ◌≢◌, ℕ, ◌<◌, ◌==◌, nat_lt, Bool, true, false, List, Option, Some, None, refl, sym, ◌∙◌, ap, lt-ltb, ne_eqb, eq-eqb, if◌then◌else◌}
+use Rattle.std.proofs.Common.{◌≡◌, ℕ, ◌<◌, ◌==◌, nat_lt, Bool, true, false, Option, Some, None, refl, lt-ltb, ne_eqb, eq-eqb, if◌then◌else◌}
 use Rattle.bk_ocode.specs.Cells.{Content, Unset, Partly, Word, Cell, Free, write, below, settle}
 use Rattle.bk_ocode.specs.Access.{number_in}
 use Rattle.bk_ocode.specs.OcodeState.{Next, Wild}

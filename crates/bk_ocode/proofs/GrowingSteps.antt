@@ -1,13 +1,12 @@
 -- What steps write goes behind what was written, and what they read comes from the front; and each comes nearer to a rest.
-use Rattle.std.proofs.Common.{◌≡◌, ◌⊎◌, inl, inr, ℕ, zero, suc, ◌+◌, ◌-◌, ◌<◌, ◌≤◌, ◌^◌, ◌==◌, nat_lt, Bool, true, false, List, [], ◌∷◌, ◌++◌, length, Option, Some, None, refl, sym, ◌∙◌, ap, subst, arith, append-nil}
+use Rattle.std.proofs.Common.{◌≡◌, ℕ, List, [], ◌∷◌, ◌++◌, Option, None, refl, sym, ◌∙◌, ap, subst, append-nil}
 use Rattle.std.specs.Prelude.{⊤}
 use Rattle.bk_base.specs.Word.{word_sum, byte_distance}
-use Rattle.bk_base.specs.declared.run_end.End.{End}
-use Rattle.bk_ocode.specs.Cells.{Content, Variable, Cell, Held, write}
-use Rattle.bk_ocode.specs.Access.{variable_at, byte_at, word_with_byte_at, string_at}
-use Rattle.bk_ocode.specs.OcodeState.{Placed, Callables, Routine, Stop, Rdch, Wrch, Newline, Writes, Writen, Writed, Getbyte, Putbyte, Writef, Control, Inside, Behind, At, State, Next, Goes, Ends, Wild}
-use Rattle.bk_ocode.specs.OcodeStep.{slot, on_some, return, tells, read_byte, routine_step, step_in, step_from, step}
-use Rattle.bk_ocode.specs.StepLaws.{Keeps, KeepsNext}
+use Rattle.bk_ocode.specs.Cells.{Content, Variable, Held, write}
+use Rattle.bk_ocode.specs.Access.{byte_at, word_with_byte_at, string_at}
+use Rattle.bk_ocode.specs.OcodeState.{Callables, Routine, Stop, Rdch, Wrch, Newline, Writes, Writen, Writed, Getbyte, Putbyte, Writef, Control, Inside, Behind, At, State, Next, Goes, Ends, Wild}
+use Rattle.bk_ocode.specs.OcodeStep.{slot, return, tells, read_byte, routine_step, step_in, step_from}
+use Rattle.bk_ocode.specs.StepLaws.{KeepsNext}
 use Rattle.bk_ocode.specs.SoundRuns.{Grown, StepsGrow, EndsKeepBytes}
 use Rattle.bk_ocode.proofs.Chosen.{on_number-holds, on_some-holds}
 use Rattle.bk_ocode.proofs.StepKeeps.{step_keeps_below}

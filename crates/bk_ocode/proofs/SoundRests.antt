@@ -1,30 +1,29 @@
 -- Each step keeps what the states of a run keep, and so does going on from a rest.
-use Rattle.std.proofs.Common.{◌≡◌, ◌≢◌, ◌⊎◌, inl, inr, ℕ, zero, suc, ◌+◌, ◌-◌, ◌<◌, ◌≤◌, Bool, true, false, not, List, [], ◌∷◌, ◌++◌, length, take, slice_get, Option, Some, None, refl, sym, ◌∙◌, ap, subst, arith, append_assoc, append-nil}
-use Rattle.std.specs.Prelude.{⊤}
+use Rattle.std.proofs.Common.{◌≡◌, ◌⊎◌, inl, inr, ℕ, zero, suc, ◌+◌, ◌≤◌, Bool, true, false, not, List, [], ◌∷◌, ◌++◌, length, take, slice_get, Option, Some, None, refl, sym, ◌∙◌, ap, subst, arith, append_assoc}
 use Rattle.bk_base.specs.Word.{word_sum, byte_distance}
 use Rattle.bk_ocode.specs.Depth.{next_depth, depth_behind, least_depth}
 use Rattle.bk_ocode.specs.StmtRange.{InRange}
-use Rattle.bk_ocode.specs.Places.{role, may_stand, position_behind}
+use Rattle.bk_ocode.specs.Places.{may_stand}
 use Rattle.bk_ocode.specs.Context.{Context, at_start, after, after_all, context_of}
 use Rattle.bk_ocode.specs.Faults.{misplaced}
 use Rattle.bk_ocode.specs.Section.{AreFaultless}
-use Rattle.bk_ocode.specs.Cells.{Content, Variable, Temporary, Cell, Held, write}
+use Rattle.bk_ocode.specs.Cells.{Content, Variable, Temporary, Held, write}
 use Rattle.bk_ocode.specs.Access.{byte_at, word_with_byte_at, string_at}
-use Rattle.bk_ocode.specs.OcodeState.{Placement, Placed, Routine, Stop, Rdch, Wrch, Newline, Writes, Writen, Writed, Getbyte, Putbyte, Writef, Control, Inside, Behind, At, State, Next, Goes, Ends, Wild, rest_place, global_place}
+use Rattle.bk_ocode.specs.OcodeState.{Placement, Placed, Routine, Stop, Rdch, Wrch, Newline, Writes, Writen, Writed, Getbyte, Putbyte, Writef, Control, Inside, Behind, At, State, Next, Goes, Wild, rest_place}
 use Rattle.bk_ocode.specs.OcodeStep.{slot, on_some, return, tells, read_byte, routine_step, step_in, step_from, step}
-use Rattle.bk_ocode.specs.OcodeRun.{Rest, rest_of, or_rest, rests, rests_of, in_hand, kept, resumed_by, resumed, IsAtRest, Program}
+use Rattle.bk_ocode.specs.OcodeRun.{Rest, rest_of, or_rest, rests, rests_of, in_hand, kept, resumed_by, resumed, Program}
 use Rattle.bk_ocode.specs.Frames.{HasFrames}
 use Rattle.bk_ocode.specs.SoundRuns.{IsProgram, Stands, IsOwn, IsControl, Sound, SoundStep, StepsAreSound, ResumingIsSound}
 use Rattle.bk_ocode.specs.declared.standing.Position.{Position}
 use Rattle.bk_ocode.specs.declared.standing.Position.TheVariants as position
-use Rattle.bk_ocode.specs.declared.standing.Role.TheVariants.{First, Body, Taker}
+use Rattle.bk_ocode.specs.declared.standing.Role.TheVariants.{Body, Taker}
 use Rattle.bk_ocode.specs.declared.stmt.Variable.TheVariants.{Local, Global, Static}
 use Rattle.bk_ocode.specs.declared.stmt.Stmt.{Stmt}
 use Rattle.bk_ocode.specs.declared.stmt.Stmt.TheVariants.{Number, True, False, Query, Load, Address, Text, Monadic, Dyadic, LoadByte, Assign, AssignAt, AssignByte, Jump, JumpIf, Label, GiveResult, TakeResult, Stack, Store, Entry, Save, CallFunction, CallRoutine, ReturnItem, Return, EndProcedure, Switch, Finish, DataLabel, DataNumber, DataAddress, Globals}
 use Rattle.bk_ocode.proofs.Chosen.{on_number-holds, on_some-holds}
 use Rattle.bk_ocode.proofs.Depths.{keeps_in, context-depth, depth_behind-append, depths_suffice}
 use Rattle.bk_ocode.proofs.JumpPlaces.{Within}
-use Rattle.bk_ocode.proofs.SoundSteps.{at_front, front_of, byte_there, Running, changed, slot-changes, variable-changes, inside, Stays, StaysNext, Returns, ReturnsNext, return-returns, step-stays}
+use Rattle.bk_ocode.proofs.SoundSteps.{at_front, front_of, byte_there, Running, changed, slot-changes, variable-changes, inside, StaysNext, ReturnsNext, return-returns, step-stays}
 
 -- ---- in a procedure the depth is 2 at least
 

@@ -1,19 +1,19 @@
 -- The first state of a program keeps what the states of a run keep.
-use Rattle.std.proofs.Common.{◌≡◌, ◌≢◌, ◌⊎◌, inl, inr, ℕ, zero, suc, ◌+◌, ◌-◌, ◌<◌, ◌≤◌, ◌==◌, Bool, true, false, ◌||◌, List, [], ◌∷◌, ◌++◌, fold, map, slice_get, Option, Some, None, refl, sym, ◌∙◌, ap, subst, arith, eqb-true, eq-eqb, ne_eqb, if◌then◌else◌}
+use Rattle.std.proofs.Common.{◌≡◌, inl, ℕ, suc, ◌-◌, ◌<◌, ◌≤◌, ◌==◌, Bool, true, false, ◌||◌, List, [], ◌∷◌, ◌++◌, fold, map, slice_get, Option, Some, None, refl, sym, ◌∙◌, ap, subst, arith, eqb-true, eq-eqb, ne_eqb, if◌then◌else◌}
 use Rattle.std.specs.Prelude.{⊤}
 use Rattle.std.specs.Option.{option_map, option_map_or}
 use Rattle.bk_base.specs.declared.limit.TheConstants.{GLOBAL_NUMBER}
 use Rattle.bk_ocode.specs.StmtRange.{InRange}
 use Rattle.bk_ocode.specs.Section.{AreFaultless}
 use Rattle.bk_ocode.specs.Access.{number_in}
-use Rattle.bk_ocode.specs.Cells.{Unset, Word, Variable, Link, Cell, Free, Held, content_of, write}
+use Rattle.bk_ocode.specs.Cells.{Unset, Word, Variable, Link, Cell, Free, Held, content_of}
 use Rattle.bk_ocode.specs.OcodeState.{Placement, Placed, At, State, global_place}
 use Rattle.bk_ocode.specs.OcodeRun.{Program}
 use Rattle.bk_ocode.specs.SectionData.{Datum, is_in, is_datum, datum_word, GlobalSetting, entry_setting, stmt_globals, globals_of}
 use Rattle.bk_ocode.specs.Library.{library_globals}
-use Rattle.bk_ocode.specs.ProgramStart.{all_data, all_globals, is_global, unset_cells, with_global, first_cells, first_state}
-use Rattle.bk_ocode.specs.Frames.{HasFrames, start}
-use Rattle.bk_ocode.specs.SoundRuns.{IsHeld, is_usable, IsProgram, Sound, FirstStateIsSound}
+use Rattle.bk_ocode.specs.ProgramStart.{all_data, all_globals, is_global, unset_cells, with_global, first_cells}
+use Rattle.bk_ocode.specs.Frames.{start}
+use Rattle.bk_ocode.specs.SoundRuns.{IsHeld, is_usable, Sound, FirstStateIsSound}
 use Rattle.bk_ocode.specs.declared.stmt.GlobalEntry.{GlobalEntry}
 use Rattle.bk_ocode.specs.declared.stmt.Stmt.{Stmt}
 use Rattle.bk_ocode.specs.declared.stmt.Stmt.TheVariants.{Globals}

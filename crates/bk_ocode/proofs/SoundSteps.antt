@@ -1,5 +1,5 @@
 -- What the states of a run keep is kept by each step, and by going on from a rest.
-use Rattle.std.proofs.Common.{◌≡◌, ◌≢◌, ◌⊎◌, inl, inr, ℕ, zero, suc, ◌+◌, ◌-◌, ◌<◌, ◌≤◌, ◌^◌, ◌==◌, nat_lt, max, Bool, true, false, List, [], ◌∷◌, ◌++◌, length, take, slice_get, Option, Some, None, refl, sym, ◌∙◌, ap, subst, arith, eqb-true, eq-eqb, le-leb, nat_le, ◌&&◌, ◌||◌, if◌then◌else◌, append_assoc, length-append}
+use Rattle.std.proofs.Common.{◌≡◌, ◌⊎◌, inl, inr, ℕ, zero, suc, ◌+◌, ◌-◌, ◌<◌, ◌≤◌, ◌^◌, ◌==◌, nat_lt, Bool, true, false, List, [], ◌∷◌, ◌++◌, length, take, slice_get, Option, Some, None, refl, sym, ◌∙◌, ap, subst, arith, eqb-true, eq-eqb, le-leb, nat_le, ◌&&◌, ◌||◌, if◌then◌else◌, append_assoc}
 use Rattle.std.specs.Prelude.{⊤, ◌%◌}
 use Rattle.std.specs.Option.{option_map}
 use Rattle.bk_base.specs.Word.{word_sum, byte_distance, byte_place}
@@ -9,13 +9,13 @@ use Rattle.bk_ocode.specs.StmtRange.{InRange}
 use Rattle.bk_ocode.specs.Section.{AreFaultless}
 use Rattle.bk_ocode.specs.Cells.{Content, Word, Variable, Temporary, Link, Cell, Free, Held, content_of, with_byte, write, below, settle}
 use Rattle.bk_ocode.specs.Access.{variable_in, variable_at, number_in, byte_at, word_with_byte_at}
-use Rattle.bk_ocode.specs.OcodeState.{Placement, Placed, Routine, Control, Inside, Behind, At, State, Next, Goes, Ends, Wild, rest_place, global_place}
-use Rattle.bk_ocode.specs.OcodeStep.{is_label, slot, on, push, on_number, on_some, operated, named_place, has_word, from_label, jump, jump_with, case_label, can_be_called, call, return, dyadic_word, step_by}
+use Rattle.bk_ocode.specs.OcodeState.{Placement, Placed, Inside, At, State, Next, Goes, Ends, Wild, global_place}
+use Rattle.bk_ocode.specs.OcodeStep.{is_label, slot, on, push, operated, named_place, has_word, from_label, jump, jump_with, case_label, can_be_called, call, return, dyadic_word, step_by}
 use Rattle.bk_ocode.specs.OcodeRun.{Rest, rest_of, or_rest, rests, rests_of, IsAtRest, Program}
 use Rattle.bk_ocode.specs.SectionData.{is_datum}
 use Rattle.bk_ocode.specs.ProgramStart.{all_data}
 use Rattle.bk_ocode.specs.Frames.{HasFrames, start, called}
-use Rattle.bk_ocode.specs.SoundRuns.{IsHeld, is_usable, IsProgram, IsOpening, Stands, IsOwn, IsControl, Sound}
+use Rattle.bk_ocode.specs.SoundRuns.{IsHeld, is_usable, IsOpening, Stands, IsOwn, IsControl, Sound}
 use Rattle.bk_ocode.specs.declared.stmt.Variable.{Variable as Named}
 use Rattle.bk_ocode.specs.declared.stmt.Variable.TheVariants.{Local, Global, Static}
 use Rattle.bk_ocode.specs.declared.stmt.Monadic.TheVariants.{Contents, Negate, Not}

@@ -1,7 +1,7 @@
 -- A step keeps what lies below the frame.
-use Rattle.std.proofs.Common.{◌≡◌, ℕ, ◌+◌, ◌-◌, ◌<◌, ◌^◌, ◌==◌, nat_lt, Bool, true, false, List, [], ◌∷◌, length, Option, Some, None, refl, ◌∙◌, arith, lt-ltb, ne_eqb, if◌then◌else◌}
+use Rattle.std.proofs.Common.{◌≡◌, ℕ, ◌+◌, ◌-◌, ◌<◌, ◌^◌, ◌==◌, nat_lt, Bool, true, false, List, [], ◌∷◌, length, Option, Some, None, refl, ◌∙◌, arith, if◌then◌else◌}
 use Rattle.bk_base.specs.Word.{word_sum, byte_distance}
-use Rattle.bk_ocode.specs.Cells.{Content, Unset, Partly, Word, Temporary, Link, Cell, Free, Held, write, below, settle}
+use Rattle.bk_ocode.specs.Cells.{Content, Unset, Partly, Word, Temporary, Link, Cell, Held, write, settle}
 use Rattle.bk_ocode.specs.OcodeState.{Placed, Callables, State, Next, Wild}
 use Rattle.bk_ocode.specs.OcodeStep.{on, slot, push, on_number, on_some, operated, named_place, has_word, from_label, jump, jump_with, case_label, can_be_called, call, return, dyadic_word, step_by}
 use Rattle.bk_ocode.specs.Access.{variable_at, byte_at, word_with_byte_at}

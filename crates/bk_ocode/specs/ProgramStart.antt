@@ -1,9 +1,9 @@
 -- The first state of a program: what its store holds before START is called, and START's frame.
-use Rattle.std.specs.Prelude.{ℕ, suc, ◌+◌, ◌==◌, nat_le, Bool, ◌&&◌, List, [], ◌∷◌, ◌++◌, fold, Option, Some, None, if◌then◌else◌}
+use Rattle.std.specs.Prelude.{ℕ, suc, ◌==◌, nat_le, Bool, ◌&&◌, List, [], ◌∷◌, ◌++◌, fold, Option, None, if◌then◌else◌}
 use Rattle.std.specs.Option.{option_map, option_map_or}
 use Rattle.bk_base.specs.declared.limit.TheConstants.{GLOBAL_NUMBER}
 use Rattle.bk_ocode.specs.Access.{number_in}
-use Rattle.bk_ocode.specs.Cells.{Content, Unset, Word, Variable, Link, Cell, Free, Held, content_of, write}
+use Rattle.bk_ocode.specs.Cells.{Unset, Word, Variable, Link, Cell, Free, Held, content_of, write}
 use Rattle.bk_ocode.specs.OcodeState.{Placed, At, State, global_place}
 use Rattle.bk_ocode.specs.OcodeRun.{Program}
 use Rattle.bk_ocode.specs.SectionData.{Datum, data_of, datum_word, GlobalSetting, globals_of}

@@ -1,8 +1,8 @@
 -- The strings and data that a section gives, as words; the globals that it sets; and the words of its text.
-use Rattle.std.specs.Prelude.{ℕ, ◌+◌, ◌-◌, nat_le, nat_lt, Bool, false, ◌&&◌, ◌||◌, List, [], ◌∷◌, ◌++◌, length, map, slice_get, Option, Some, None, if◌then◌else◌}
+use Rattle.std.specs.Prelude.{ℕ, ◌+◌, ◌-◌, nat_le, nat_lt, Bool, false, ◌&&◌, ◌||◌, List, [], ◌∷◌, ◌++◌, length, map, slice_get, Option, None, if◌then◌else◌}
 use Rattle.bk_base.specs.Word.{word_of}
 pub use Rattle.bk_base.specs.Strings.{packed, string_words}
-use Rattle.bk_ocode.specs.OcodeState.{Placement, Placed}
+use Rattle.bk_ocode.specs.OcodeState.{Placement}
 use Rattle.bk_ocode.specs.StmtText.{stmt_words}
 use Rattle.bk_ocode.specs.declared.stmt.GlobalEntry.{GlobalEntry}
 use Rattle.bk_ocode.specs.declared.stmt.Stmt.{Stmt}
