@@ -1,3 +1,4 @@
 mod Rows
 mod FormRows
 mod Few
+mod Once

@@ -4,4 +4,4 @@
 mod around;
 mod laws;
 
-pub use laws::labels_are_few;
+pub use laws::{labels_are_few, labels_are_set_once};
