@@ -1,2 +1,4 @@
 mod Rows
 mod FormRows
+mod Few
+mod Once

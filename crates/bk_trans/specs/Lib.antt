@@ -5,3 +5,4 @@ pub mod Labels
 pub mod Depths
 pub mod Parts
 pub mod Scheme
+pub mod Laws

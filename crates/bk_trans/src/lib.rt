@@ -2,3 +2,6 @@
 #![tactic(auto)]
 
 mod around;
+mod laws;
+
+pub use laws::{labels_are_few, labels_are_set_once};

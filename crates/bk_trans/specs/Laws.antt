@@ -1,0 +1,29 @@
+-- Laws of the scheme, over the named tree of a section.
+use Rattle.std.specs.Prelude.{ℕ, ◌+◌, ◌==◌, ◌≤◌, cond, Option, Some, None, List, [], ◌∷◌}
+use Rattle.bk_base.specs.declared.limit.TheConstants.{OCODE_LABEL}
+use Rattle.bk_syntax.specs.Tree.{Declarations}
+use Rattle.bk_syntax.specs.Limits.{Within}
+use Rattle.bk_scope.specs.declared.bound.Bound.{Bound}
+use Rattle.bk_ocode.specs.declared.stmt.Stmt.{Stmt}
+use Rattle.bk_ocode.specs.Labels.{label_set}
+use Rattle.bk_trans.specs.Program as p
+use Rattle.bk_trans.specs.Filling.{program_of}
+use Rattle.bk_trans.specs.Labels.{labels_of_declarations}
+use Rattle.bk_trans.specs.Scheme.{scheme}
+
+-- THE LABELS OF A SECTION ARE FEW: a node takes four at most, so those of a section within the limits are within theirs.
+abbrev pub LabelsAreFew : Type 0
+LabelsAreFew = (ds : Declarations) (meanings : List Bound) (words : List ℕ) → Within ds → 1 + labels_of_declarations (program_of ds meanings words) ≤ OCODE_LABEL
+
+-- how often statements set a label
+abbrev pub sets : ℕ → Option ℕ → ℕ
+sets l None = 0
+sets l (Some m) = cond (l == m) 1 0
+
+abbrev pub times_set : ℕ → List Stmt → ℕ
+times_set l [] = 0
+times_set l (s ∷ rest) = sets l (label_set s) + times_set l rest
+
+-- NO LABEL IS SET TWICE in the statements of a section, and those that are set are among its own, from 1 on.
+abbrev pub LabelsAreSetOnce : Type 0
+LabelsAreSetOnce = (ds : p.Declarations) (l : ℕ) → (times_set l (scheme ds) ≤ 1) × (1 ≤ times_set l (scheme ds) → (1 ≤ l) × (l ≤ labels_of_declarations ds))

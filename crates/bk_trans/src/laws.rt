@@ -1,0 +1,13 @@
+//! Laws of the scheme.
+ghost use Rattle.bk_trans.specs.Laws.{LabelsAreFew, LabelsAreSetOnce};
+
+/// The labels of a section within the limits of trees are within theirs.
+#[tactic(auto, using(crate::proofs::Few::labels_are_few))]
+pub fn labels_are_few()
+    ensures { LabelsAreFew }
+{}
+
+/// No label is set twice in the statements of a section, and those that are set are its own.
+pub fn labels_are_set_once()
+    ensures { LabelsAreSetOnce }
+{}
