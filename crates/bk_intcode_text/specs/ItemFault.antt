@@ -1,5 +1,5 @@
 -- The fault of an item behind others.
-use Rattle.std.specs.Prelude.{Bool, true, false, ◌||◌, List, [], ◌∷◌, ◌++◌, Option, length, nat_lt, slice_get, if◌then◌else◌}
+use Rattle.std.specs.Prelude.{Bool, List, [], ◌∷◌, ◌++◌, Option, length, nat_lt, slice_get, if◌then◌else◌}
 use Rattle.std.specs.List.{list_all}
 use Rattle.bk_base.specs.declared.limit.TheConstants.{INTCODE_ITEMS}
 use Rattle.bk_base.specs.declared.intcode_fault.IntcodeKind.{IntcodeKind}
