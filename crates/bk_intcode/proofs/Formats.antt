@@ -1,5 +1,5 @@
 -- A format in a store, and its parts.
-use Rattle.std.proofs.Common.{◌≡◌, ◌≢◌, ℕ, zero, suc, ◌+◌, ◌-◌, ◌<◌, ◌≤◌, ◌^◌, ◌%◌, ◌==◌, nat_lt, nat_le, arith, Bool, true, false, ◌&&◌, List, [], ◌∷◌, length, drop, Option, Some, None, slice_get, refl, sym, ap, ◌∙◌, subst, if◌then◌else◌}
+use Rattle.std.proofs.Common.{◌≡◌, ℕ, zero, suc, ◌+◌, ◌-◌, ◌<◌, ◌≤◌, ◌^◌, ◌%◌, ◌==◌, nat_lt, nat_le, arith, Bool, true, false, ◌&&◌, List, [], ◌∷◌, length, drop, Option, Some, None, slice_get, refl, sym, ap, ◌∙◌, subst, if◌then◌else◌}
 use Rattle.std.proofs.lemmas.Bool.{eqb-true}
 use Rattle.std.proofs.lemmas.Bool.Decides.{nat_tests}
 use Rattle.std.proofs.lemmas.List.{length-drop}
@@ -11,8 +11,8 @@ use Rattle.bk_base.specs.Format.{FormatPart, Byte, Percent, String, Number, Char
 use Rattle.bk_intcode.specs.declared.output.Piece.{Piece}
 use Rattle.bk_intcode.specs.declared.output.Piece.TheVariants as piece
 use Rattle.bk_intcode.specs.declared.output.Directive.{Directive}
-use Rattle.bk_intcode.specs.Output.{Text, whole_text, cut_text, text_then, byte_of, string_rest, string_text, piece_text, plain, with_argument, aligning, lettered, directive, format_rest, format_text}
-use Rattle.bk_intcode.specs.FormatLaws.{argument_text, parts_text, FormatIsOfParts}
+use Rattle.bk_intcode.specs.Output.{Text, whole_text, cut_text, text_then, byte_of, string_rest, piece_text, plain, with_argument, aligning, lettered, directive, format_rest, format_text}
+use Rattle.bk_intcode.specs.FormatLaws.{parts_text, FormatIsOfParts}
 
 module _ (store : List ℕ) (f : ℕ) where
   -- these bytes stand in the string from byte i on

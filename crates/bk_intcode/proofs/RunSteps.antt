@@ -9,7 +9,7 @@ use Rattle.bk_intcode.specs.declared.registers.Registers.{Registers}
 use Rattle.bk_intcode.specs.declared.output.Output.{Output}
 use Rattle.bk_intcode.specs.Output.{Text, output_text}
 use Rattle.bk_intcode.specs.Step.{Goes, Tells, Asks, Ends, step}
-use Rattle.bk_intcode.specs.Runs.{Going, Over, behind_next, after, run, output_of, Told, Exchanged, Follows, Leads, Paused, Finished, Waiting, CutShort, FailedOnTheWay, Broken, Went, Ran, IsOwn, AskFails, Answered}
+use Rattle.bk_intcode.specs.Runs.{Going, Over, behind_next, after, run, Told, Exchanged, Follows, Leads, Paused, Finished, Waiting, CutShort, FailedOnTheWay, Broken, Went, Ran, IsOwn, AskFails, Answered}
 use Rattle.bk_intcode.specs.RunLaws.{onwards, run-add}
 
 -- ---- what devices exchange

@@ -1,5 +1,5 @@
 -- A format as a list of parts, and the same format read byte by byte from a store.
-use Rattle.std.specs.Prelude.{◌≡◌, ℕ, ◌+◌, ◌-◌, ◌%◌, ◌<◌, ◌^◌, List, [], ◌∷◌, slice_get, Option, Some, None}
+use Rattle.std.specs.Prelude.{◌≡◌, ℕ, ◌%◌, ◌<◌, ◌^◌, List, [], ◌∷◌, slice_get}
 use Rattle.std.specs.Option.{option_map_or}
 use Rattle.bk_base.specs.Word.{word_sum}
 use Rattle.bk_base.specs.Format.{FormatPart, Byte, Percent, String, Number, Character, Column, parts}
