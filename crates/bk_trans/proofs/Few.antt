@@ -1,6 +1,5 @@
 -- The labels that the nodes of a part take are at most four times its nodes.
-use Rattle.std.proofs.Common.{arith, ℕ, ◌+◌, ◌*◌, ◌≤◌, List, length}
-use Rattle.bk_base.specs.declared.limit.TheConstants.{OCODE_LABEL, TREE_NODES}
+use Rattle.std.proofs.Common.{arith, ◌*◌, ◌≤◌, length}
 use Rattle.bk_syntax.specs.declared.tree.Operator.TheVariants as o
 use Rattle.bk_syntax.specs.declared.tree.Prefix.TheVariants as q
 use Rattle.bk_syntax.specs.declared.tree.Sort.TheVariants as s

@@ -2,3 +2,4 @@ mod Rows
 mod FormRows
 mod Few
 mod Once
+mod Named

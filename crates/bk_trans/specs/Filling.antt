@@ -59,7 +59,7 @@ constants_of (more e es) g = two (λ w ws. w ∷ ws) (constant g) (constants_of 
 -- a step that is not written is 1
 abbrev pub step_of : Expressions → Supply → Filled ℕ
 step_of none g = filled 1 g
-step_of (more e es) g = constant g
+step_of (more e es) g = two (λ w ws. w) (constant g) (constants_of es)
 
 -- the items of STATIC, and those of MANIFEST and GLOBAL, whose words are in the meanings
 abbrev pub static_items : Items → Supply → Filled (List StaticItem)

@@ -1,15 +1,22 @@
 -- Laws of the scheme, over the named tree of a section.
-use Rattle.std.specs.Prelude.{ℕ, ◌+◌, ◌==◌, ◌≤◌, cond, Option, Some, None, List, [], ◌∷◌}
+use Rattle.std.specs.Prelude.{ℕ, ◌+◌, ◌==◌, ◌≡◌, ◌≤◌, cond, Option, Some, None, List, [], ◌∷◌}
 use Rattle.bk_base.specs.declared.limit.TheConstants.{OCODE_LABEL}
 use Rattle.bk_syntax.specs.Tree.{Declarations}
 use Rattle.bk_syntax.specs.Limits.{Within}
 use Rattle.bk_scope.specs.declared.bound.Bound.{Bound}
+use Rattle.bk_scope.specs.Faults.{faults, meanings, words}
 use Rattle.bk_ocode.specs.declared.stmt.Stmt.{Stmt}
 use Rattle.bk_ocode.specs.Labels.{label_set}
 use Rattle.bk_trans.specs.Program as p
-use Rattle.bk_trans.specs.Filling.{program_of}
+use Rattle.bk_trans.specs.Naming.{named_tree}
+use Rattle.bk_trans.specs.Filling.{filled, all_declared, program_of}
 use Rattle.bk_trans.specs.Labels.{labels_of_declarations}
 use Rattle.bk_trans.specs.Scheme.{scheme}
+
+-- FILLING GIVES THE NAMED TREE: in a section without faults, where each name takes the next of the meanings and each constant the
+-- next of the words, each has what it means in scope where it stands, and none is left.
+abbrev pub FillingNames : Type 0
+FillingNames = (ds : Declarations) → faults ds ≡ [] → all_declared ds (record { meanings = meanings ds; words = words ds }) ≡ filled (named_tree ds) (record { meanings = []; words = [] })
 
 -- THE LABELS OF A SECTION ARE FEW: a node takes four at most, so those of a section within the limits are within theirs.
 abbrev pub LabelsAreFew : Type 0

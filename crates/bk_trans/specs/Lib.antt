@@ -1,5 +1,6 @@
 -- The scheme, from the tree of a section to its statements: read in this order.
 pub mod Program
+pub mod Naming
 pub mod Filling
 pub mod Labels
 pub mod Depths

@@ -1,5 +1,10 @@
 //! Laws of the scheme.
-ghost use Rattle.bk_trans.specs.Laws.{LabelsAreFew, LabelsAreSetOnce};
+ghost use Rattle.bk_trans.specs.Laws.{FillingNames, LabelsAreFew, LabelsAreSetOnce};
+
+/// In a section without faults filling from the meanings and the words gives the tree that is named by the declarations in scope.
+pub fn filling_names()
+    ensures { FillingNames }
+{}
 
 /// The labels of a section within the limits of trees are within theirs.
 #[tactic(auto, using(crate::proofs::Few::labels_are_few))]
