@@ -3,3 +3,4 @@ mod FormRows
 mod Few
 mod Once
 mod Named
+mod Counted

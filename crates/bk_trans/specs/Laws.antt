@@ -1,6 +1,6 @@
 -- Laws of the scheme, over the named tree of a section.
-use Rattle.std.specs.Prelude.{ℕ, ◌+◌, ◌==◌, ◌≡◌, ◌≤◌, cond, Option, Some, None, List, [], ◌∷◌}
-use Rattle.bk_base.specs.declared.limit.TheConstants.{OCODE_LABEL}
+use Rattle.std.specs.Prelude.{ℕ, ◌+◌, ◌==◌, ◌≡◌, ◌≤◌, cond, Option, Some, None, List, [], ◌∷◌, length}
+use Rattle.bk_base.specs.declared.limit.TheConstants.{OCODE_LABEL, OCODE_STATEMENTS}
 use Rattle.bk_syntax.specs.Tree.{Declarations}
 use Rattle.bk_syntax.specs.Limits.{Within}
 use Rattle.bk_scope.specs.declared.bound.Bound.{Bound}
@@ -21,6 +21,10 @@ FillingNames = (ds : Declarations) → faults ds ≡ [] → all_declared ds (rec
 -- THE LABELS OF A SECTION ARE FEW: a node takes four at most, so those of a section within the limits are within theirs.
 abbrev pub LabelsAreFew : Type 0
 LabelsAreFew = (ds : Declarations) (meanings : List Bound) (words : List ℕ) → Within ds → 1 + labels_of_declarations (program_of ds meanings words) ≤ OCODE_LABEL
+
+-- THE STATEMENTS OF A SECTION ARE FEW: a node gives fifteen at most, so those of a section within the limits are within theirs.
+abbrev pub StatementsAreFew : Type 0
+StatementsAreFew = (ds : Declarations) (meanings : List Bound) (words : List ℕ) → Within ds → length (scheme (program_of ds meanings words)) ≤ OCODE_STATEMENTS
 
 -- how often statements set a label
 abbrev pub sets : ℕ → Option ℕ → ℕ

@@ -1,5 +1,5 @@
 //! Laws of the scheme.
-ghost use Rattle.bk_trans.specs.Laws.{FillingNames, LabelsAreFew, LabelsAreSetOnce};
+ghost use Rattle.bk_trans.specs.Laws.{FillingNames, LabelsAreFew, LabelsAreSetOnce, StatementsAreFew};
 
 /// In a section without faults filling from the meanings and the words gives the tree that is named by the declarations in scope.
 pub fn filling_names()
@@ -10,6 +10,11 @@ pub fn filling_names()
 #[tactic(auto, using(crate::proofs::Few::labels_are_few))]
 pub fn labels_are_few()
     ensures { LabelsAreFew }
+{}
+
+/// The statements of a section within the limits of trees are within theirs.
+pub fn statements_are_few()
+    ensures { StatementsAreFew }
 {}
 
 /// No label is set twice in the statements of a section, and those that are set are its own.

@@ -4,4 +4,4 @@
 mod around;
 mod laws;
 
-pub use laws::{filling_names, labels_are_few, labels_are_set_once};
+pub use laws::{filling_names, labels_are_few, labels_are_set_once, statements_are_few};
