@@ -5,8 +5,8 @@ mod Once
 mod Named
 mod Counted
 mod Blocks
-mod PlaceLists
 mod Adds
+mod Additions
 mod Ties
 mod WholeSections
 mod FittingLemmas

@@ -20,7 +20,8 @@ use Rattle.bk_trans.specs.Writing.{reached, starting, section_written, AreWritte
 use Rattle.bk_trans.proofs.Adds.{near, Alike, alike_both}
 use Rattle.bk_trans.proofs.FittingLemmas.{all_are}
 use Rattle.bk_trans.proofs.Named.{filling_names}
-use Rattle.bk_trans.proofs.Ties.{NearGoal, Placed, all_declared}
+use Rattle.bk_trans.proofs.Additions.{NearGoal, Placed}
+use Rattle.bk_trans.proofs.Ties.{all_declared}
 
 -- places of declarations that are the same in words
 one_near : (c : Bool) (x y u v : Goal) → NearGoal x y → NearGoal u v → NearGoal (cond c x u) (cond c y v)
