@@ -1,9 +1,3 @@
-mod Rows
-mod FormRows
-mod Few
-mod Once
-mod Named
-mod Counted
 mod Blocks
 mod Adds
 mod Additions
@@ -11,3 +5,9 @@ mod Ties
 mod WholeSections
 mod FittingLemmas
 mod Ranges
+mod Rows
+mod FormRows
+mod Few
+mod Once
+mod Named
+mod Counted
