@@ -4,3 +4,10 @@ mod Few
 mod Once
 mod Named
 mod Counted
+mod Marks
+mod Good
+mod Steps
+mod Cases
+mod Forms
+mod Marked
+mod Sections
