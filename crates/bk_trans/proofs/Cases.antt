@@ -1,5 +1,5 @@
 -- The CASEs and the DEFAULT of a SWITCHON: their labels are jumped to at its depth, and their values differ.
-use Rattle.std.proofs.Common.{arith, ◌≡◌, ◌⊎◌, inl, inr, ℕ, zero, suc, ◌+◌, ◌<◌, ◌≤◌, ◌^◌, Bool, true, false, not, Option, Some, None, List, [], ◌∷◌, ◌++◌, length, map, slice_get, refl, sym, ap, subst, ◌∙◌, length-append}
+use Rattle.std.proofs.Common.{arith, ◌≡◌, ℕ, zero, suc, ◌+◌, ◌<◌, ◌≤◌, ◌^◌, false, not, Option, Some, None, List, [], ◌∷◌, ◌++◌, length, map, slice_get, refl, sym, ap, subst, ◌∙◌, length-append}
 use Rattle.std.specs.Bool.{⊤}
 use Rattle.std.specs.Int.{w32, cast_unsigned}
 use Rattle.std.proofs.lemmas.Int.{of_z-to_z}
@@ -9,10 +9,10 @@ use Rattle.bk_scope.specs.Cases.{NoneOf, AllDiffer}
 use Rattle.bk_ocode.specs.declared.stmt.Case.{Case}
 use Rattle.bk_ocode.specs.StmtRange.{IsLabel, AreCases}
 use Rattle.bk_ocode.specs.Typing.{Use, jumps, AllJump}
-use Rattle.bk_trans.specs.Program.{Term, Terms, Condition, Lvalue, Lvalues, Command, Commands, Declaration, Declarations, Definition, Definitions, Starts, named, number, text, truth, query, parens, unary, address, binary, choice, apply, valof, table, none, more, holds, within, fails, both, either, word, contents, subscript, byte, inside, nowhere, no_lvalues, onto, empty, assign, call, goto, label, case_of, default, when, test, while, for_loop, switch, result, simple, block, repeat, repeat_while, no_commands, also, statics, lets, no_declarations, declare, routine, function, variables, no_definitions, define, no_starts, value, vector}
-use Rattle.bk_trans.specs.Labels.{labels, labels_if, labels_in, labels_through}
+use Rattle.bk_trans.specs.Program.{Command, Commands, label, case_of, default, when, test, while, block, repeat, repeat_while, no_commands, also, no_declarations, declare}
+use Rattle.bk_trans.specs.Labels.{labels_if, labels_in, labels_through}
 use Rattle.bk_trans.specs.Scheme.{cases, cases_through, first_of, default_in, default_through, label_or}
-use Rattle.bk_trans.proofs.Marks.{marks_if, marks, marks_in, marks_through, AllRight, right_front, right_back}
+use Rattle.bk_trans.proofs.Marks.{marks_if, marks_in, marks_through, AllRight, right_front, right_back}
 use Rattle.bk_trans.proofs.Good.{case_words, case_words_through, AllWords}
 
 abbrev pub AllCases : (ℕ → Use) → ℕ → ℕ → List Case → Type 0

@@ -1,9 +1,8 @@
 -- The code of each form goes from one depth to another and agrees with the plan: a value is pushed, a condition leaves nothing, a
 -- command nothing, and declarations their variables.
-use Rattle.std.proofs.Common.{arith, ◌≡◌, ℕ, ◌+◌, ◌-◌, ◌≤◌, Bool, true, false, not, cond, List, [], ◌∷◌, ◌++◌, map, refl, sym, ap, subst, ◌∙◌}
+use Rattle.std.proofs.Common.{arith, ◌≡◌, ℕ, ◌+◌, ◌-◌, ◌≤◌, Bool, true, false, not, cond, List, [], ◌∷◌, ◌++◌, map, refl, subst, ◌∙◌}
 use Rattle.std.specs.Bool.{⊤}
 use Rattle.bk_base.specs.Word.{signed}
-use Rattle.bk_base.specs.Strings.{first_bytes}
 use Rattle.bk_base.specs.declared.limit.TheConstants.{FRAME_WORDS, OCODE_LABEL}
 use Rattle.bk_syntax.specs.declared.tree.Simple.TheVariants as w
 use Rattle.bk_scope.specs.declared.bound.Bound.TheVariants as b
@@ -17,13 +16,13 @@ use Rattle.bk_ocode.specs.Typing as typing
 use Rattle.bk_ocode.specs.Typing.{Use, jumps, results, AllJump, Fits, done, lands, takes}
 use Rattle.bk_trans.specs.declared.around.Around.{Around}
 use Rattle.bk_trans.specs.declared.around.Target.{Target}
-use Rattle.bk_trans.specs.Program.{StaticItem, Term, Terms, Condition, Lvalue, Lvalues, Command, Commands, Declaration, Declarations, Definition, Definitions, Starts, named, number, text, truth, query, parens, unary, address, binary, choice, apply, valof, table, none, more, holds, within, fails, both, either, word, contents, subscript, byte, inside, nowhere, no_lvalues, onto, empty, assign, call, goto, label, case_of, default, when, test, while, for_loop, switch, result, simple, block, repeat, repeat_while, no_commands, also, statics, lets, no_declarations, declare, routine, function, variables, no_definitions, define, no_starts, value, vector}
+use Rattle.bk_trans.specs.Program.{Term, Terms, Condition, Lvalue, Lvalues, Command, Commands, Declaration, Declarations, Definition, Definitions, Starts, named, number, text, truth, query, parens, unary, address, binary, choice, apply, valof, table, none, more, holds, within, fails, both, either, word, contents, subscript, byte, inside, nowhere, no_lvalues, onto, empty, assign, call, goto, label, case_of, default, when, test, while, for_loop, switch, result, simple, block, repeat, repeat_while, no_commands, also, statics, lets, no_declarations, declare, routine, function, variables, no_definitions, define, no_starts, value, vector}
 use Rattle.bk_trans.specs.Labels.{labels, labels_each, labels_if, labels_at, labels_onto, labels_in, labels_through, labels_of_declaration, labels_of_declarations, labels_of_definition, labels_of_definitions, labels_of_starts}
 use Rattle.bk_trans.specs.Depths.{count, behind_starts, behind_declaration, behind_declarations, behind_definition, behind_definitions, has_variables}
 use Rattle.bk_trans.specs.Parts.{Part, procedure, static_item, static_table, label_place, parts, parts_each, parts_if, parts_at, parts_onto, parts_from, parts_in, parts_through, parts_of_declarations, parts_of_declaration, parts_of_definitions, parts_of_definition, parts_of_starts}
-use Rattle.bk_trans.specs.Scheme.{goal_of, push, prefix_code, infix_code, truth_value, by_turns, value_code, each_code, jump_code, address_code, store_code, value_codes, store_codes, command_code, through_code, declarations_code, declaration_code, definitions_code, definition_code, starts_code, goal, goal_in, variable, valued, looping, switching, label_or, default_in, cases, test_of_step}
-use Rattle.bk_trans.proofs.Marks.{Mark, marks, marks_each, marks_if, marks_at, marks_onto, marks_all_onto, marks_from, marks_by_turns, marks_in, marks_through, marks_of_declaration, marks_of_declarations, marks_of_definition, marks_of_definitions, marks_of_starts, connective_mark, AllRight, right_front, right_back}
-use Rattle.bk_trans.proofs.Good.{Exits, in_loop, in_switch, in_valof, IsGoal, IsWord, Pushed, Held, Room, Goes, Good, GoodEach, GoodIf, GoodAt, GoodOnto, GoodAllOnto, GoodFrom, GoodIn, GoodThrough, GoodDeclared, GoodOneDeclared, GoodDefined, GoodOneDefined, GoodStarted, case_words}
+use Rattle.bk_trans.specs.Scheme.{goal_of, push, truth_value, by_turns, value_code, each_code, jump_code, address_code, store_code, value_codes, store_codes, command_code, through_code, declarations_code, declaration_code, definitions_code, definition_code, starts_code, goal, variable, valued, looping, switching, label_or, default_in, cases, test_of_step}
+use Rattle.bk_trans.proofs.Marks.{Mark, marks, marks_each, marks_if, marks_at, marks_onto, marks_all_onto, marks_from, marks_by_turns, marks_in, marks_through, marks_of_declaration, marks_of_declarations, marks_of_definition, marks_of_definitions, marks_of_starts, AllRight, right_front, right_back}
+use Rattle.bk_trans.proofs.Good.{Exits, in_loop, in_switch, in_valof, IsGoal, Good, GoodEach, GoodIf, GoodAt, GoodOnto, GoodAllOnto, GoodFrom, GoodIn, GoodThrough, GoodDeclared, GoodOneDeclared, GoodDefined, GoodOneDefined, GoodStarted}
 use Rattle.bk_trans.proofs.Steps.{Steps, append, step, last, fits_number, fits_truth, next_truth, fits_query, fits_text, fits_local, fits_push, next_push, fits_address, fits_assign, fits_assign_local, fits_address_local, fits_dyadic, fits_assign_at, fits_assign_byte, fits_jump, fits_jump_if, fits_give, fits_stack, fits_store, fits_function, fits_routine, fits_return, fits_finish, fits_test, next_test, prefix_steps, dyadic_steps, infix_steps, go_steps}
 use Rattle.bk_trans.proofs.Cases.{cases_right, default_right, default_is, cases_are, cases_jump}
 
@@ -119,17 +118,17 @@ room_declared plan ts p t no_declarations g high = high
 room_declared plan ts p t (declare h hs) g high = room_declared plan ts p (behind_declaration t h) hs g.1 (room_one_declared plan ts p t h g.0 high)
 
 -- declarations leave the frame as deep or deeper
-grown_starts : (t : ℕ) (is : Starts) → t ≤ behind_starts t is
+pub grown_starts : (t : ℕ) (is : Starts) → t ≤ behind_starts t is
 grown_starts t no_starts = omega arith
 grown_starts t (value e is) = let h = grown_starts (t + 1) is in omega (arith, h)
 grown_starts t (vector k is) = let h = grown_starts (t + k + 2) is in omega (arith, h)
 
-grown_one_defined : (t : ℕ) (d : Definition) → t ≤ behind_definition t d
+pub grown_one_defined : (t : ℕ) (d : Definition) → t ≤ behind_definition t d
 grown_one_defined t (variables is) = grown_starts t is
 grown_one_defined t (routine x name k c) = omega arith
 grown_one_defined t (function x name k e) = omega arith
 
-grown_defined : (t : ℕ) (ds : Definitions) → t ≤ behind_definitions t ds
+pub grown_defined : (t : ℕ) (ds : Definitions) → t ≤ behind_definitions t ds
 grown_defined t no_definitions = omega arith
 grown_defined t (define d ds) = let h = grown_one_defined t d in let i = grown_defined (behind_definition t d) ds in omega (arith, h, i)
 

@@ -11,3 +11,8 @@ mod Cases
 mod Forms
 mod Marked
 mod Sections
+mod Scopes
+mod Told
+mod Bodies
+mod Nested
+mod Numbered

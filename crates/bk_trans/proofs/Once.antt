@@ -35,7 +35,7 @@ sum_set l [] = 0
 sum_set l (x ∷ xs) = times_set l x + sum_set l xs
 
 -- 1 where l is n or more, else 0
-abbrev past : ℕ → ℕ → ℕ
+abbrev pub past : ℕ → ℕ → ℕ
 past l n = min (l + 1 - n) 1
 
 pub set_both : (l : ℕ) (xs ys : List Stmt) → times_set l (xs ++ ys) ≡ times_set l xs + times_set l ys
@@ -62,7 +62,7 @@ own_from l n (inl h) j = let no : sets l (Some n) ≡ 0 = ap (λ (x : Bool). con
 own_from l n (inr h) (inl j) = let no : sets l (Some n) ≡ 0 = ap (λ (x : Bool). cond x 1 0) (ne_eqb l n (λ e. omega (arith, j, e))) in omega (arith, no, h, j)
 own_from l n (inr h) (inr j) = let one = at_most_one (l == n) in omega (arith, one, h, j)
 
-own : (l n : ℕ) → sets l (Some n) + past l (n + 1) ≤ past l n
+pub own : (l n : ℕ) → sets l (Some n) + past l (n + 1) ≤ past l n
 own l n = own_from l n (cases_lt l n) (cases_lt n l)
 
 pub no_more : (n : ℕ) → n + 0 ≡ n

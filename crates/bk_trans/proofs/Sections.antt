@@ -1,29 +1,27 @@
 -- A whole section: its procedures, data and GLOBAL agree with a plan, where each part is good and has its marks.
-use Rattle.std.proofs.Common.{arith, ◌≡◌, ◌⊎◌, inl, inr, ℕ, zero, suc, ◌+◌, ◌-◌, ◌<◌, ◌≤◌, ◌==◌, Bool, true, false, cond, Option, Some, None, List, [], ◌∷◌, ◌++◌, length, map, slice_get, refl, sym, ap, subst, ◌∙◌, eqb-true, eq-eqb, length-append}
+use Rattle.std.proofs.Common.{arith, ◌≡◌, inr, ℕ, zero, suc, ◌+◌, ◌-◌, ◌≤◌, ◌==◌, Bool, true, false, cond, Some, None, List, [], ◌∷◌, ◌++◌, length, map, slice_get, refl, sym, ap, subst, ◌∙◌, eqb-true, eq-eqb, length-append}
 use Rattle.std.specs.Bool.{⊤}
 use Rattle.bk_base.specs.Word.{signed}
-use Rattle.bk_base.specs.Strings.{first_bytes}
-use Rattle.bk_base.specs.declared.limit.TheConstants.{FRAME_WORDS, GLOBAL_NUMBER, OCODE_LABEL, OCODE_STATEMENTS}
+use Rattle.bk_base.specs.declared.limit.TheConstants.{GLOBAL_NUMBER, OCODE_LABEL, OCODE_STATEMENTS}
 use Rattle.bk_scope.specs.declared.bound.Bound.{Bound}
 use Rattle.bk_scope.specs.declared.bound.Bound.TheVariants as b
 use Rattle.bk_ocode.specs.declared.stmt.GlobalEntry.{GlobalEntry}
 use Rattle.bk_ocode.specs.declared.stmt.Stmt.{Stmt}
 use Rattle.bk_ocode.specs.declared.stmt.Stmt.TheVariants as t
 use Rattle.bk_ocode.specs.Lists.{joined}
-use Rattle.bk_ocode.specs.Labels.{global_labels}
 use Rattle.bk_ocode.specs.StmtRange.{IsLabel, IsGlobal, AreEntries}
 use Rattle.bk_ocode.specs.Typing as typing
 use Rattle.bk_ocode.specs.Typing.{Use, Standing, outside, body, ended, AllEntries, Typed, done, enters, returns, gives, begins, points, ends, sets, times_set}
 use Rattle.bk_trans.specs.declared.around.Target.{Target}
-use Rattle.bk_trans.specs.Program.{StaticItem, Definition, routine, function, variables}
+use Rattle.bk_trans.specs.Program.{routine, function, variables}
 use Rattle.bk_trans.specs.Labels.{labels, labels_in, labels_of_procedure, labels_of_definition}
 use Rattle.bk_trans.specs.Parts.{Part, procedure, static_item, static_table, label_place, parts, parts_in, target_of}
-use Rattle.bk_trans.specs.Scheme.{outermost, procedure_code, word_code, data_code, entry_of, entries_of, section_code, goal_of}
+use Rattle.bk_trans.specs.Scheme.{outermost, procedure_code, word_code, data_code, entry_of, entries_of, section_code}
 use Rattle.bk_trans.proofs.Once.{set_both, words_none}
 use Rattle.bk_trans.proofs.Marks.{Mark, marks, marks_in, AllRight, right_front, right_back}
 use Rattle.bk_trans.proofs.Marked.{times_marked, marked_both, value_marked, command_marked}
-use Rattle.bk_trans.proofs.Good.{Exits, no_exits, Room, Good, GoodIn}
-use Rattle.bk_trans.proofs.Steps.{Steps, typed_then, short_bytes}
+use Rattle.bk_trans.proofs.Good.{no_exits, Room, Good, GoodIn}
+use Rattle.bk_trans.proofs.Steps.{typed_then, short_bytes}
 use Rattle.bk_trans.proofs.Forms.{AllTables, Surrounds, value_typed, command_typed}
 
 -- the marks of a part that stands by itself

@@ -1,6 +1,5 @@
 -- Statements of a procedure one behind another, from one depth to another, and each statement that the scheme gives by itself.
-use Rattle.std.proofs.Common.{arith, ◌≡◌, ◌⊎◌, inl, inr, ℕ, zero, suc, ◌+◌, ◌-◌, ◌≤◌, ◌<◌, ◌^◌, Bool, true, false, cond, List, [], ◌∷◌, ◌++◌, length, take, ℤ, int_lt, pos, refl, sym, ap, subst, ◌∙◌, Some, None}
-use Rattle.std.specs.Bool.{⊤}
+use Rattle.std.proofs.Common.{arith, ◌≡◌, ℕ, zero, suc, ◌+◌, ◌-◌, ◌≤◌, Bool, true, false, cond, List, [], ◌∷◌, ◌++◌, length, take, ℤ, int_lt, pos, refl, sym, subst, Some, None}
 use Rattle.bk_base.specs.declared.limit.TheConstants.{FRAME_WORDS, NAME_BYTES}
 use Rattle.bk_base.specs.Word.{signed}
 use Rattle.bk_base.specs.Strings.{first_bytes}
@@ -10,7 +9,6 @@ use Rattle.bk_syntax.specs.declared.tree.Prefix.{Prefix}
 use Rattle.bk_syntax.specs.declared.tree.Prefix.TheVariants as q
 use Rattle.bk_scope.specs.declared.bound.Bound.{Bound}
 use Rattle.bk_scope.specs.declared.bound.Bound.TheVariants as b
-use Rattle.bk_ocode.specs.declared.stmt.Variable.{Variable}
 use Rattle.bk_ocode.specs.declared.stmt.Variable.TheVariants as v
 use Rattle.bk_ocode.specs.declared.stmt.Monadic.{Monadic as MonadicOperator}
 use Rattle.bk_ocode.specs.declared.stmt.Dyadic.{Dyadic as DyadicOperator}
@@ -23,8 +21,8 @@ use Rattle.bk_ocode.specs.Typing.{Use, jumps, results, Standing, body, Fits, Typ
 use Rattle.bk_ocode.specs.Typing as typing
 use Rattle.bk_trans.specs.declared.around.Goal.{Goal}
 use Rattle.bk_trans.specs.declared.around.Target.{Target}
-use Rattle.bk_trans.specs.Scheme.{goal_of, variable, push, prefix_code, infix_code, truth_value, go, test_of_step}
-use Rattle.bk_trans.proofs.Good.{IsGoal, IsWord, Pushed, Held}
+use Rattle.bk_trans.specs.Scheme.{variable, push, prefix_code, infix_code, truth_value, go, test_of_step}
+use Rattle.bk_trans.proofs.Good.{IsGoal, Pushed, Held}
 
 -- one stretch behind another
 pub typed_then : {plan : ℕ → Use} {a : Standing} {xs : List Stmt} {b : Standing} {ys : List Stmt} {c : Standing} → Typed plan a xs b → Typed plan b ys c → Typed plan a (xs ++ ys) c
