@@ -11,3 +11,15 @@ mod Few
 mod Once
 mod Named
 mod Counted
+mod Marks
+mod Good
+mod Steps
+mod Cases
+mod Forms
+mod Marked
+mod Sections
+mod Scopes
+mod Told
+mod Bodies
+mod Nested
+mod Numbered
