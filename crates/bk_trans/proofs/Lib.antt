@@ -16,3 +16,5 @@ mod Told
 mod Bodies
 mod Nested
 mod Numbered
+mod Words
+mod Accepted

@@ -4,4 +4,7 @@
 mod around;
 mod laws;
 
-pub use laws::{filling_names, labels_are_few, labels_are_set_once, statements_are_few};
+pub use laws::{
+    filling_names, labels_are_few, labels_are_set_once, scheme_is_accepted, statements_are_few,
+    words_are_few,
+};
