@@ -270,16 +270,18 @@ variables_mean plan ts q k m bs p s [] (vector l e is) d a top h f low = tt
 variables_mean plan ts q k m bs p s (x ∷ xs) no_starts d a top h f low = tt
 variables_mean plan ts q k m bs p s (x ∷ xs) (value e is) d a top h f low =
     let much = told_room Value bs p s e tt (all_front (told Value bs p s e) _ f.all) in let same = a.at in let two = a.low in
-    let grown = grown_starts (d + 1) (starts_named bs (deeper 1 p) (behind e s) is) in
-    (λ own. (omega (arith, same, two, top), omega (arith, same, top, grown, low)),
-    variables_mean plan ts q k m bs (deeper 1 p) (behind e s) xs is (d + 1) (at_deeper plan ts q bs p d 1 (d + 1) a refl (omega (arith, top))) (omega (arith, much, same)) h.1
-    (fine_back (told Value bs p s e) _ f) low)
+    let grown = grown_starts (d + 1) (starts_named bs (deeper 1 p) (behind e s) is) in (
+      λ own. (omega (arith, same, two, top), omega (arith, same, top, grown, low)),
+      variables_mean plan ts q k m bs (deeper 1 p) (behind e s) xs is (d + 1) (at_deeper plan ts q bs p d 1 (d + 1) a refl (omega (arith, top))) (omega (arith, much, same)) h.1
+          (fine_back (told Value bs p s e) _ f) low,
+    )
 variables_mean plan ts q k m bs p s (x ∷ xs) (vector l e is) d a top h f low =
     let v = worth (constant_word bs e) in
     let much = vector_room bs p s l e is d a.at h.0 f.all in let same = a.at in let two = a.low in let words = vector_words (constant_word bs e) h.0 in
-    let grown = grown_starts (d + v + 2) (starts_named bs (deeper (words_of_start bs e + 1) p) (behind_constant e s) is) in
-    (λ own. (omega (arith, same, two, much, words), omega (arith, same, much, grown, low, words)),
-    variables_mean plan ts q k m bs (deeper (words_of_start bs e + 1) p) (behind_constant e s) xs is (d + v + 2) (at_vector plan ts q bs p s l e is d a h.0 f.all) much h.1 (vector_rest bs p s l e is f) low)
+    let grown = grown_starts (d + v + 2) (starts_named bs (deeper (words_of_start bs e + 1) p) (behind_constant e s) is) in (
+      λ own. (omega (arith, same, two, much, words), omega (arith, same, much, grown, low, words)),
+      variables_mean plan ts q k m bs (deeper (words_of_start bs e + 1) p) (behind_constant e s) xs is (d + v + 2) (at_vector plan ts q bs p s l e is d a h.0 f.all) much h.1 (vector_rest bs p s l e is f) low,
+    )
 
 one_defined_at : (plan : ℕ → Use) (ts : List Target) (q m : ℕ) (bs : List Binding) (p : Place) (s : Spot) (x : Definition) (d : ℕ) → At plan ts q bs p d → d ≤ FRAME_WORDS → SoundOneDefined bs p s x
     → Fine (told_one_defined m bs p s x) → At plan ts q bs (place_behind_one_defined bs p x) (behind_definition d (definition_named bs p s x)) × (behind_definition d (definition_named bs p s x) ≤ FRAME_WORDS)
@@ -349,12 +351,14 @@ one_declared_at plan ts q bs p s (definitions l ds) d n a top low high h f b =
     let m = behind_definitions d (definitions_named cs p v ds) in
     let r = place_behind_defined cs p ds in
     let inner = at_procedures plan ts q bs p s v ds d n a high b in
-    let whole = defined_at plan ts q s.number cs p v ds d inner top h f in
-    (record {
-      sees = sees_all (Known plan ts q r.procedure m) (variables_in_scope cs p ds) cs (all_variables plan ts q r.procedure s.number m cs p v ds d inner top h f (omega arith)) whole.0.sees;
-      at = whole.0.at;
-      low = whole.0.low;
-    }, whole.1)
+    let whole = defined_at plan ts q s.number cs p v ds d inner top h f in (
+      record {
+        sees = sees_all (Known plan ts q r.procedure m) (variables_in_scope cs p ds) cs (all_variables plan ts q r.procedure s.number m cs p v ds d inner top h f (omega arith)) whole.0.sees;
+        at = whole.0.at;
+        low = whole.0.low;
+      },
+      whole.1,
+    )
 
 declared_at : (plan : ℕ → Use) (ts : List Target) (q : ℕ) (bs : List Binding) (p : Place) (s : Spot) (xs : Declarations) (d n : ℕ) → At plan ts q bs p d → d ≤ FRAME_WORDS → 1 ≤ n
     → n + labels_of_declarations (declarations_named bs p s xs) ≤ OCODE_LABEL + 1 → SoundDeclared bs p s xs → Fine (told_declared bs p s xs) → PartsRight plan ts (parts_of_declarations d n (declarations_named bs p s xs))
@@ -414,9 +418,10 @@ mutual
   good_term plan ts q bs p s (text l v) d n a low high h f b r = room_at plan ts q bs p d a (told_room Value bs p s (text l v) tt f.all)
   good_term plan ts q bs p s (truth l v) d n a low high h f b r = room_at plan ts q bs p d a (told_room Value bs p s (truth l v) tt f.all)
   good_term plan ts q bs p s (query l) d n a low high h f b r = room_at plan ts q bs p d a (told_room Value bs p s (query l) tt f.all)
-  good_term plan ts q bs p s (unary l sign.Address e) d n a low high h f b r =
-      (good_at plan ts q bs p (past 1 s) (Address false (line_of e)) e d n a low high h.0 h.1 (fine_back (prefixed sign.Address bs (past 1 s) e) _ f) b r,
-      room_at plan ts q bs p d a (told_room Value bs p s (unary l sign.Address e) tt f.all))
+  good_term plan ts q bs p s (unary l sign.Address e) d n a low high h f b r = (
+    good_at plan ts q bs p (past 1 s) (Address false (line_of e)) e d n a low high h.0 h.1 (fine_back (prefixed sign.Address bs (past 1 s) e) _ f) b r,
+    room_at plan ts q bs p d a (told_room Value bs p s (unary l sign.Address e) tt f.all),
+  )
   good_term plan ts q bs p s (unary l sign.Contents e) d n a low high h f b r = good_term plan ts q bs p (past 1 s) e d n a low high h.1 f b r
   good_term plan ts q bs p s (unary l sign.Plus e) d n a low high h f b r = good_term plan ts q bs p (past 1 s) e d n a low high h.1 f b r
   good_term plan ts q bs p s (unary l sign.Minus e) d n a low high h f b r = good_term plan ts q bs p (past 1 s) e d n a low high h.1 f b r
@@ -439,11 +444,12 @@ mutual
       let same = count_named 1 bs (deeper 2 p) u es in
       let at = a.at in
       let xs = told Value bs z s e in
-      let much = told_room Value bs z s e tt (all_front xs _ f.all) in
-      (good_each plan ts q bs (deeper 2 p) u es (d + 2) (n + labels v) (at_deeper plan ts q bs p d 2 (d + 2) a refl (omega (arith, much, at))) (omega (arith, low)) (omega (arith, high)) h.1 (fine_back xs _ f)
-      (parts_back plan ts (parts k n v) _ b) (right_front plan (marks_each q (d + 2) (n + labels v) vs) _ r),
-      good_term plan ts q bs z s e k n (at_deeper plan ts q bs p d (size es + 2) k a (omega (arith, same)) (omega (arith, same, much, at))) low (omega (arith, high)) h.0 (fine_front xs _ f)
-      (parts_front plan ts (parts k n v) _ b) (right_back plan (marks_each q (d + 2) (n + labels v) vs) _ r))
+      let much = told_room Value bs z s e tt (all_front xs _ f.all) in (
+        good_each plan ts q bs (deeper 2 p) u es (d + 2) (n + labels v) (at_deeper plan ts q bs p d 2 (d + 2) a refl (omega (arith, much, at))) (omega (arith, low)) (omega (arith, high)) h.1 (fine_back xs _ f)
+            (parts_back plan ts (parts k n v) _ b) (right_front plan (marks_each q (d + 2) (n + labels v) vs) _ r),
+        good_term plan ts q bs z s e k n (at_deeper plan ts q bs p d (size es + 2) k a (omega (arith, same)) (omega (arith, same, much, at))) low (omega (arith, high)) h.0 (fine_front xs _ f)
+            (parts_front plan ts (parts k n v) _ b) (right_back plan (marks_each q (d + 2) (n + labels v) vs) _ r),
+      )
   good_term plan ts q bs p s (valof l c) d n a low high h f b r =
       let cs = labels_in_scope p.procedure (s.number + 1) (labels_of c) bs in
       let g : Place = labelled s.number (valued p) in
@@ -491,9 +497,10 @@ mutual
   good_if plan ts q bs p s (text l v) d n z a low high h f b r = room_at plan ts q bs p d a (told_room Truth bs p s (text l v) tt f.all)
   good_if plan ts q bs p s (truth l v) d n z a low high h f b r = room_at plan ts q bs p d a (told_room Truth bs p s (truth l v) tt f.all)
   good_if plan ts q bs p s (query l) d n z a low high h f b r = room_at plan ts q bs p d a (told_room Truth bs p s (query l) tt f.all)
-  good_if plan ts q bs p s (unary l sign.Address e) d n z a low high h f b r =
-      (good_at plan ts q bs p (past 1 s) (Address false (line_of e)) e d n a low high h.0 h.1 (fine_back (prefixed sign.Address bs (past 1 s) e) _ f) b r,
-      room_at plan ts q bs p d a (told_room Truth bs p s (unary l sign.Address e) tt f.all))
+  good_if plan ts q bs p s (unary l sign.Address e) d n z a low high h f b r = (
+    good_at plan ts q bs p (past 1 s) (Address false (line_of e)) e d n a low high h.0 h.1 (fine_back (prefixed sign.Address bs (past 1 s) e) _ f) b r,
+    room_at plan ts q bs p d a (told_room Truth bs p s (unary l sign.Address e) tt f.all),
+  )
   good_if plan ts q bs p s (unary l sign.Contents e) d n z a low high h f b r = good_term plan ts q bs p (past 1 s) e d n a low high h.1 f b r
   good_if plan ts q bs p s (unary l sign.Plus e) d n z a low high h f b r = good_term plan ts q bs p (past 1 s) e d n a low high h.1 f b r
   good_if plan ts q bs p s (unary l sign.Minus e) d n z a low high h f b r = good_term plan ts q bs p (past 1 s) e d n a low high h.1 f b r
@@ -516,11 +523,12 @@ mutual
       let same = count_named 1 bs (deeper 2 p) u es in
       let at = a.at in
       let xs = told Value bs z s e in
-      let much = told_room Value bs z s e tt (all_front xs _ f.all) in
-      (good_each plan ts q bs (deeper 2 p) u es (d + 2) (n + labels v) (at_deeper plan ts q bs p d 2 (d + 2) a refl (omega (arith, much, at))) (omega (arith, low)) (omega (arith, high)) h.1 (fine_back xs _ f)
-      (parts_back plan ts (parts k n v) _ b) (right_front plan (marks_each q (d + 2) (n + labels v) vs) _ r),
-      good_term plan ts q bs z s e k n (at_deeper plan ts q bs p d (size es + 2) k a (omega (arith, same)) (omega (arith, same, much, at))) low (omega (arith, high)) h.0 (fine_front xs _ f)
-      (parts_front plan ts (parts k n v) _ b) (right_back plan (marks_each q (d + 2) (n + labels v) vs) _ r))
+      let much = told_room Value bs z s e tt (all_front xs _ f.all) in (
+        good_each plan ts q bs (deeper 2 p) u es (d + 2) (n + labels v) (at_deeper plan ts q bs p d 2 (d + 2) a refl (omega (arith, much, at))) (omega (arith, low)) (omega (arith, high)) h.1 (fine_back xs _ f)
+            (parts_back plan ts (parts k n v) _ b) (right_front plan (marks_each q (d + 2) (n + labels v) vs) _ r),
+        good_term plan ts q bs z s e k n (at_deeper plan ts q bs p d (size es + 2) k a (omega (arith, same)) (omega (arith, same, much, at))) low (omega (arith, high)) h.0 (fine_front xs _ f)
+            (parts_front plan ts (parts k n v) _ b) (right_back plan (marks_each q (d + 2) (n + labels v) vs) _ r),
+      )
   good_if plan ts q bs p s (valof l c) d n z a low high h f b r =
       let cs = labels_in_scope p.procedure (s.number + 1) (labels_of c) bs in
       let g : Place = labelled s.number (valued p) in
@@ -600,10 +608,11 @@ mutual
   good_from plan ts q bs p s (more e es) d n m (t.onto x xs) a low high h f b r =
       let v = term_named bs p s e in
       let much = room_at plan ts q bs p d a (told_room Value bs p s e tt (all_front (told Value bs p s e) _ f.all)) in
-      let front = marks q d n v ++ marks_onto q (d + 1) m x in
-      (good_term plan ts q bs p s e d n a low (omega (arith, high)) h.0 (fine_front (told Value bs p s e) _ f) (parts_front plan ts (parts d n v) _ b) (right_front plan (marks q d n v) _ (right_front plan front _ r)),
-      good_from plan ts q bs (deeper 0 p) (behind e s) es d (n + labels v) (m + labels_at x) xs (at_deeper plan ts q bs p d 0 d a (omega arith) (omega (arith, much))) (omega (arith, low)) (omega (arith, high)) h.1
-      (fine_back (told Value bs p s e) _ f) (parts_back plan ts (parts d n v) _ b) (right_back plan front _ r))
+      let front = marks q d n v ++ marks_onto q (d + 1) m x in (
+        good_term plan ts q bs p s e d n a low (omega (arith, high)) h.0 (fine_front (told Value bs p s e) _ f) (parts_front plan ts (parts d n v) _ b) (right_front plan (marks q d n v) _ (right_front plan front _ r)),
+        good_from plan ts q bs (deeper 0 p) (behind e s) es d (n + labels v) (m + labels_at x) xs (at_deeper plan ts q bs p d 0 d a (omega arith) (omega (arith, much))) (omega (arith, low)) (omega (arith, high)) h.1
+            (fine_back (told Value bs p s e) _ f) (parts_back plan ts (parts d n v) _ b) (right_back plan front _ r),
+      )
 
   good_all_onto : (plan : ℕ → Use) (ts : List Target) (q : ℕ) (bs : List Binding) (p : Place) (s : Spot) (xs : Expressions) (d n m : ℕ) (es : t.Terms) → At plan ts q bs p d → d + 1 ≤ FRAME_WORDS → 1 ≤ n
       → n + labels_onto (lvalues_named bs (deeper 1 p) s xs) ≤ OCODE_LABEL + 1 → SoundDestinations bs (deeper 1 p) s xs → Fine (told_destinations bs (deeper 1 p) s xs)
@@ -616,11 +625,12 @@ mutual
       let v = lvalue_named bs z s x in
       let us : List Point = unless (assigned bs x) (at s.place (line_of x) not_assignable) in
       let vs : List Point = told (Destination false (line_of x)) bs z s x in
-      let front = marks q d m e ++ marks_onto q (d + 1) n v in
-      (good_onto plan ts q bs p s (Destination false (line_of x)) x d n a top low (omega (arith, high)) h.0 h.1 (fine_back us vs (fine_front (us ++ vs) _ f)) (parts_front plan ts (parts_at (d + 1) n v) _ b)
-      (right_back plan (marks q d m e) _ (right_front plan front _ r)),
-      good_all_onto plan ts q bs p (behind x s) xs d (n + labels_at v) (m + labels e) es a top (omega (arith, low)) (omega (arith, high)) h.2 (fine_back (us ++ vs) _ f)
-      (parts_back plan ts (parts_at (d + 1) n v) _ b) (right_back plan front _ r))
+      let front = marks q d m e ++ marks_onto q (d + 1) n v in (
+        good_onto plan ts q bs p s (Destination false (line_of x)) x d n a top low (omega (arith, high)) h.0 h.1 (fine_back us vs (fine_front (us ++ vs) _ f)) (parts_front plan ts (parts_at (d + 1) n v) _ b)
+            (right_back plan (marks q d m e) _ (right_front plan front _ r)),
+        good_all_onto plan ts q bs p (behind x s) xs d (n + labels_at v) (m + labels e) es a top (omega (arith, low)) (omega (arith, high)) h.2 (fine_back (us ++ vs) _ f)
+            (parts_back plan ts (parts_at (d + 1) n v) _ b) (right_back plan front _ r),
+      )
 
   -- a command
   pub good_in : (plan : ℕ → Use) (ts : List Target) (q : ℕ) (bs : List Binding) (p : Place) (s : Spot) (c : Action) (d n : ℕ) → At plan ts q bs p d → d ≤ FRAME_WORDS → 1 ≤ n
@@ -638,12 +648,13 @@ mutual
       let vs : List Point = told Value bs p u e in
       let values = fine_back us _ f in
       let much = room_at plan ts q bs p d a (told_room Value bs p u e tt (all_front vs _ values.all)) in
-      let owns = parts_back plan ts (parts_onto (d + 1) n v) _ b in
-      (good_all_onto plan ts q bs p s xs d n j (terms_named 0 bs p u (more e es)) a much low (omega (arith, high)) h.0 (fine_front us _ f) (parts_front plan ts (parts_onto (d + 1) n v) _ b) r,
-      values_good plan ts q d n j v y (terms_named 0 bs (deeper 0 p) (behind e u) es)
-      (λ k. good_term plan ts q bs p u e d j a (omega (arith, low)) (omega (arith, high)) h.1.0 (fine_front vs _ values) (parts_front plan ts (parts d j y) _ owns) k)
-      (λ m ks k. good_from plan ts q bs (deeper 0 p) (behind e u) es d (j + labels y) m ks (at_deeper plan ts q bs p d 0 d a (omega arith) (omega (arith, much))) (omega (arith, low)) (omega (arith, high)) h.1.1
-      (fine_back vs _ values) (parts_back plan ts (parts d j y) _ owns) k) r)
+      let owns = parts_back plan ts (parts_onto (d + 1) n v) _ b in (
+        good_all_onto plan ts q bs p s xs d n j (terms_named 0 bs p u (more e es)) a much low (omega (arith, high)) h.0 (fine_front us _ f) (parts_front plan ts (parts_onto (d + 1) n v) _ b) r,
+        values_good plan ts q d n j v y (terms_named 0 bs (deeper 0 p) (behind e u) es)
+            (λ k. good_term plan ts q bs p u e d j a (omega (arith, low)) (omega (arith, high)) h.1.0 (fine_front vs _ values) (parts_front plan ts (parts d j y) _ owns) k)
+            (λ m ks k. good_from plan ts q bs (deeper 0 p) (behind e u) es d (j + labels y) m ks (at_deeper plan ts q bs p d 0 d a (omega arith) (omega (arith, much))) (omega (arith, low)) (omega (arith, high)) h.1.1
+            (fine_back vs _ values) (parts_back plan ts (parts d j y) _ owns) k) r,
+      )
   good_in plan ts q bs p s (call l e es) d n a top low high h f b r =
       let u : Spot = behind e s in
       let z : Place = deeper (size es + 2) p in
@@ -653,12 +664,12 @@ mutual
       let same = count_named 1 bs (deeper 2 p) u es in
       let at = a.at in
       let xs = told Value bs z s e in
-      let much = told_room Value bs z s e tt (all_front xs _ f.all) in
-      (good_each plan ts q bs (deeper 2 p) u es (d + 2) (n + labels v) (at_deeper plan ts q bs p d 2 (d + 2) a refl (omega (arith, much, at))) (omega (arith, low)) (omega (arith, high)) h.1 (fine_back xs _ f)
-      (parts_back plan ts (parts k n v) _ b) (right_front plan (marks_each q (d + 2) (n + labels v) vs) _ r),
-      good_term plan ts q bs z s e k n (at_deeper plan ts q bs p d (size es + 2) k a (omega (arith, same)) (omega (arith, same, much, at))) low (omega (arith, high)) h.0 (fine_front xs _ f)
-      (parts_front plan ts (parts k n v) _ b) (right_back plan (marks_each q (d + 2) (n + labels v) vs) _ r))
-
+      let much = told_room Value bs z s e tt (all_front xs _ f.all) in (
+        good_each plan ts q bs (deeper 2 p) u es (d + 2) (n + labels v) (at_deeper plan ts q bs p d 2 (d + 2) a refl (omega (arith, much, at))) (omega (arith, low)) (omega (arith, high)) h.1 (fine_back xs _ f)
+            (parts_back plan ts (parts k n v) _ b) (right_front plan (marks_each q (d + 2) (n + labels v) vs) _ r),
+        good_term plan ts q bs z s e k n (at_deeper plan ts q bs p d (size es + 2) k a (omega (arith, same)) (omega (arith, same, much, at))) low (omega (arith, high)) h.0 (fine_front xs _ f)
+            (parts_front plan ts (parts k n v) _ b) (right_back plan (marks_each q (d + 2) (n + labels v) vs) _ r),
+      )
   good_in plan ts q bs p s (goto l x) d n a top low high h f b r = name_gone plan ts q p.procedure d (bound_in bs x.letters) h (a.sees x.letters)
   good_in plan ts q bs p s (label l x c) d n a top low high h f b r =
       good_in plan ts q bs p (past 1 s) c d (n + 1) a top (omega (arith, low)) (omega (arith, high)) h.1 (fine_back (one_of p.labels s.place l x ++ its_meaning (bound_in bs x)) _ f) b.1 r.1
@@ -684,10 +695,11 @@ mutual
       let g = command_named bs (looping p) (behind e s) c in
       let j = n + 3 + labels_if v in
       let inner : At plan ts q bs (looping p) d = record { sees = a.sees; at = a.at; low = a.low } in
-      let rest = r.1.1.1 in
-      (good_if plan ts q bs p s e d (n + 3) z a (omega (arith, low)) (omega (arith, high)) h.0 (fine_front (told Truth bs p s e) _ f) (parts_front plan ts (parts_if d (n + 3) v) _ b) (right_back plan (marks_in q d j g) _ rest),
-      good_in plan ts q bs (looping p) (behind e s) c d j inner top (omega (arith, low)) (omega (arith, high)) h.1 (fine_back (told Truth bs p s e) _ f) (parts_back plan ts (parts_if d (n + 3) v) _ b)
-      (right_front plan (marks_in q d j g) _ rest))
+      let rest = r.1.1.1 in (
+        good_if plan ts q bs p s e d (n + 3) z a (omega (arith, low)) (omega (arith, high)) h.0 (fine_front (told Truth bs p s e) _ f) (parts_front plan ts (parts_if d (n + 3) v) _ b) (right_back plan (marks_in q d j g) _ rest),
+        good_in plan ts q bs (looping p) (behind e s) c d j inner top (omega (arith, low)) (omega (arith, high)) h.1 (fine_back (told Truth bs p s e) _ f) (parts_back plan ts (parts_if d (n + 3) v) _ b)
+            (right_front plan (marks_in q d j g) _ rest),
+      )
   good_in plan ts q bs p s (for_loop l x e y k c) d n a top low high h f b r =
       let u : Spot = onward (symbols_each k) 0 (behind y (behind e s)) in
       let g : Place = labelled u.number (looping (deeper 2 p)) in
@@ -709,30 +721,32 @@ mutual
       let rest = r.1.1.1.1 in
       let deep = at_deeper plan ts q bs p d 2 (d + 2) a refl (omega (arith, much, at)) in
       let inner : At plan ts q cs g (d + 2) = record {
-            sees = sees_bind (Known plan ts q p.procedure (d + 2)) x.letters (Variable p.procedure p.depth) bs (λ own. (omega (arith, at, two), omega (arith, at))) deep.sees;
-            at = deep.at;
-            low = deep.low;
-          } in
+        sees = sees_bind (Known plan ts q p.procedure (d + 2)) x.letters (Variable p.procedure p.depth) bs (λ own. (omega (arith, at, two), omega (arith, at))) deep.sees;
+        at = deep.at;
+        low = deep.low;
+      } in
       let owns = parts_back plan ts (parts d (n + 4) v ++ parts (d + 1) j w) _ b in
       let jumps = right_back plan (marks q d (n + 4) v ++ marks q (d + 1) j w) _ rest in
-      let entered = enter_labels plan ts q p.procedure cs g g i c (d + 2) (j + labels w) (u.number + 1) inner (omega (arith, much, at)) (omega (arith, low)) (omega (arith, high)) owns jumps in
-      (good_term plan ts q bs p s e d (n + 4) a (omega (arith, low)) (omega (arith, high)) h.0 (fine_front start limit heads) (parts_front plan ts (parts d (n + 4) v) _ (parts_front plan ts (parts d (n + 4) v ++ parts (d + 1) j w) _ b))
-      (right_front plan (marks q d (n + 4) v) _ (right_front plan (marks q d (n + 4) v ++ marks q (d + 1) j w) _ rest)),
-      good_term plan ts q bs (deeper 1 p) (behind e s) y (d + 1) j (at_deeper plan ts q bs p d 1 (d + 1) a refl (omega (arith, much, at))) (omega (arith, low)) (omega (arith, high)) h.1 (fine_back start limit heads)
-      (parts_back plan ts (parts d (n + 4) v) _ (parts_front plan ts (parts d (n + 4) v ++ parts (d + 1) j w) _ b)) (right_back plan (marks q d (n + 4) v) _ (right_front plan (marks q d (n + 4) v ++ marks q (d + 1) j w) _ rest)),
-      omega (arith, much, at),
-      good_in plan ts q ds g i c (d + 2) (j + labels w) entered (omega (arith, much, at)) (omega (arith, low)) (omega (arith, high)) h.3 (fine_back (start ++ limit ++ steps ++ pushed p 4) body f) owns jumps)
+      let entered = enter_labels plan ts q p.procedure cs g g i c (d + 2) (j + labels w) (u.number + 1) inner (omega (arith, much, at)) (omega (arith, low)) (omega (arith, high)) owns jumps in (
+        good_term plan ts q bs p s e d (n + 4) a (omega (arith, low)) (omega (arith, high)) h.0 (fine_front start limit heads) (parts_front plan ts (parts d (n + 4) v) _ (parts_front plan ts (parts d (n + 4) v ++ parts (d + 1) j w) _ b))
+            (right_front plan (marks q d (n + 4) v) _ (right_front plan (marks q d (n + 4) v ++ marks q (d + 1) j w) _ rest)),
+        good_term plan ts q bs (deeper 1 p) (behind e s) y (d + 1) j (at_deeper plan ts q bs p d 1 (d + 1) a refl (omega (arith, much, at))) (omega (arith, low)) (omega (arith, high)) h.1 (fine_back start limit heads)
+            (parts_back plan ts (parts d (n + 4) v) _ (parts_front plan ts (parts d (n + 4) v ++ parts (d + 1) j w) _ b)) (right_back plan (marks q d (n + 4) v) _ (right_front plan (marks q d (n + 4) v ++ marks q (d + 1) j w) _ rest)),
+        omega (arith, much, at),
+        good_in plan ts q ds g i c (d + 2) (j + labels w) entered (omega (arith, much, at)) (omega (arith, low)) (omega (arith, high)) h.3 (fine_back (start ++ limit ++ steps ++ pushed p 4) body f) owns jumps,
+      )
   good_in plan ts q bs p s (switch l e c) d n a top low high h f b r =
       let g : Place = switching (behind e s).number p in
       let u : Spot = numbered 1 (behind e s) in
       let v = term_named bs p s e in
       let inner : At plan ts q bs g d = record { sees = a.sees; at = a.at; low = a.low } in
       let body = fine_back (told Value bs p s e) (told_done bs g u c) f in
-      let differ = (cases_differ f.claims bs p s l e c f.clean).0 in
-      (good_term plan ts q bs p s e d (n + 1) a (omega (arith, low)) (omega (arith, high)) h.0 (fine_front (told Value bs p s e) _ f) (parts_front plan ts (parts d (n + 1) v) _ b) (right_front plan (marks q d (n + 1) v) _ r.1),
-      subst (λ (ws : List ℕ). AllDiffer ws) (same_words bs g u c h.1) differ,
-      are_words bs g u c h.1 body.all,
-      good_in plan ts q bs g u c d (n + 1 + labels v) inner top (omega (arith, low)) (omega (arith, high)) h.1 body (parts_back plan ts (parts d (n + 1) v) _ b) (right_back plan (marks q d (n + 1) v) _ r.1))
+      let differ = (cases_differ f.claims bs p s l e c f.clean).0 in (
+        good_term plan ts q bs p s e d (n + 1) a (omega (arith, low)) (omega (arith, high)) h.0 (fine_front (told Value bs p s e) _ f) (parts_front plan ts (parts d (n + 1) v) _ b) (right_front plan (marks q d (n + 1) v) _ r.1),
+        subst (λ (ws : List ℕ). AllDiffer ws) (same_words bs g u c h.1) differ,
+        are_words bs g u c h.1 body.all,
+        good_in plan ts q bs g u c d (n + 1 + labels v) inner top (omega (arith, low)) (omega (arith, high)) h.1 body (parts_back plan ts (parts d (n + 1) v) _ b) (right_back plan (marks q d (n + 1) v) _ r.1),
+      )
   good_in plan ts q bs p s (result l e) d n a top low high h f b r =
       (h.0, good_term plan ts q bs p (past 1 s) e d n a low high h.1 (fine_back (unless p.in_valof (at s.place l no_result_or_return)) _ f) b r)
   good_in plan ts q bs p s (simple l w.Break) d n a top low high h f b r = h
@@ -762,13 +776,16 @@ mutual
       let entered = enter_labels_each plan ts q p.procedure es z z i cs e j (u.number + 1) inner whole.1 (omega (arith, low)) (omega (arith, high)) rest marked in
       let body = good_through plan ts q ds z i cs e j entered whole.1 (omega (arith, low)) (omega (arith, high)) h.1 (fine_back (told_declared bs p s (declare x xs)) _ f) rest marked in
       let one = one_declared_at plan ts q bs p s x d n a top low (omega (arith, high)) h.0.0 (fine_front (told_one_declared bs p s x) _ told_first)
-          (parts_front plan ts (parts_of_declaration d n (declaration_named bs p s x)) _ owns) in
-      ((good_one_declared plan ts q bs p s x d n a top low (omega (arith, high)) h.0.0 (fine_front (told_one_declared bs p s x) _ told_first)
-      (parts_front plan ts (parts_of_declaration d n (declaration_named bs p s x)) _ owns) (right_front plan (marks_of_declaration q d n (declaration_named bs p s x)) _ jumps),
-      good_declared plan ts q (scope_behind_one bs p s x) (place_behind_one bs p s x) (behind_one_declared x s) xs (behind_declaration d (declaration_named bs p s x)) (n + labels_of_declaration (declaration_named bs p s x))
-      one.0 one.1 (omega (arith, low)) (omega (arith, high)) h.0.1 (fine_back (told_one_declared bs p s x) _ told_first) (parts_back plan ts (parts_of_declaration d n (declaration_named bs p s x)) _ owns)
-      (right_back plan (marks_of_declaration q d n (declaration_named bs p s x)) _ jumps)),
-      subst (λ (v : Exits). GoodThrough plan ts q v e (commands_named ds z i cs)) (same_declared bs p s (declare x xs)).1 body)
+      (parts_front plan ts (parts_of_declaration d n (declaration_named bs p s x)) _ owns) in (
+        (
+          good_one_declared plan ts q bs p s x d n a top low (omega (arith, high)) h.0.0 (fine_front (told_one_declared bs p s x) _ told_first)
+              (parts_front plan ts (parts_of_declaration d n (declaration_named bs p s x)) _ owns) (right_front plan (marks_of_declaration q d n (declaration_named bs p s x)) _ jumps),
+          good_declared plan ts q (scope_behind_one bs p s x) (place_behind_one bs p s x) (behind_one_declared x s) xs (behind_declaration d (declaration_named bs p s x)) (n + labels_of_declaration (declaration_named bs p s x))
+              one.0 one.1 (omega (arith, low)) (omega (arith, high)) h.0.1 (fine_back (told_one_declared bs p s x) _ told_first) (parts_back plan ts (parts_of_declaration d n (declaration_named bs p s x)) _ owns)
+              (right_back plan (marks_of_declaration q d n (declaration_named bs p s x)) _ jumps),
+        ),
+        subst (λ (v : Exits). GoodThrough plan ts q v e (commands_named ds z i cs)) (same_declared bs p s (declare x xs)).1 body,
+      )
   good_in plan ts q bs p s (repeat l c) d n a top low high h f b r =
       let inner : At plan ts q bs (looping p) d = record { sees = a.sees; at = a.at; low = a.low } in
       good_in plan ts q bs (looping p) s c d (n + 2) inner top (omega (arith, low)) (omega (arith, high)) h f b r.1.1
@@ -796,10 +813,11 @@ mutual
       let y = declaration_named bs p s x in
       let ahead = fine_front (told_one_declared bs p s x) _ f in
       let owns = parts_front plan ts (parts_of_declaration d n y) _ b in
-      let one = one_declared_at plan ts q bs p s x d n a top low (omega (arith, high)) h.0 ahead owns in
-      (good_one_declared plan ts q bs p s x d n a top low (omega (arith, high)) h.0 ahead owns (right_front plan (marks_of_declaration q d n y) _ r),
-      good_declared plan ts q (scope_behind_one bs p s x) (place_behind_one bs p s x) (behind_one_declared x s) xs (behind_declaration d y) (n + labels_of_declaration y) one.0 one.1 (omega (arith, low)) (omega (arith, high)) h.1
-      (fine_back (told_one_declared bs p s x) _ f) (parts_back plan ts (parts_of_declaration d n y) _ b) (right_back plan (marks_of_declaration q d n y) _ r))
+      let one = one_declared_at plan ts q bs p s x d n a top low (omega (arith, high)) h.0 ahead owns in (
+        good_one_declared plan ts q bs p s x d n a top low (omega (arith, high)) h.0 ahead owns (right_front plan (marks_of_declaration q d n y) _ r),
+        good_declared plan ts q (scope_behind_one bs p s x) (place_behind_one bs p s x) (behind_one_declared x s) xs (behind_declaration d y) (n + labels_of_declaration y) one.0 one.1 (omega (arith, low)) (omega (arith, high)) h.1
+            (fine_back (told_one_declared bs p s x) _ f) (parts_back plan ts (parts_of_declaration d n y) _ b) (right_back plan (marks_of_declaration q d n y) _ r),
+      )
 
   good_one_declared : (plan : ℕ → Use) (ts : List Target) (q : ℕ) (bs : List Binding) (p : Place) (s : Spot) (x : Declaration) (d n : ℕ) → At plan ts q bs p d → d ≤ FRAME_WORDS → 1 ≤ n
       → n + labels_of_declaration (declaration_named bs p s x) ≤ OCODE_LABEL + 1 → SoundOneDeclared bs p s x → Fine (told_one_declared bs p s x) → PartsRight plan ts (parts_of_declaration d n (declaration_named bs p s x))
@@ -818,10 +836,11 @@ mutual
   good_defined plan ts q m bs p s (define x ds) d n a top low high h f b r =
       let y = definition_named bs p s x in
       let ahead = fine_front (told_one_defined m bs p s x) _ f in
-      let one = one_defined_at plan ts q m bs p s x d a top h.0 ahead in
-      (good_one_defined plan ts q m bs p s x d n a top low (omega (arith, high)) h.0 ahead (parts_front plan ts (parts_of_definition d n y) _ b) (right_front plan (marks_of_definition q d n y) _ r),
-      good_defined plan ts q m bs (place_behind_one_defined bs p x) (behind_one_defined x s) ds (behind_definition d y) (n + labels_of_definition y) one.0 one.1 (omega (arith, low)) (omega (arith, high)) h.1
-      (fine_back (told_one_defined m bs p s x) _ f) (parts_back plan ts (parts_of_definition d n y) _ b) (right_back plan (marks_of_definition q d n y) _ r))
+      let one = one_defined_at plan ts q m bs p s x d a top h.0 ahead in (
+        good_one_defined plan ts q m bs p s x d n a top low (omega (arith, high)) h.0 ahead (parts_front plan ts (parts_of_definition d n y) _ b) (right_front plan (marks_of_definition q d n y) _ r),
+        good_defined plan ts q m bs (place_behind_one_defined bs p x) (behind_one_defined x s) ds (behind_definition d y) (n + labels_of_definition y) one.0 one.1 (omega (arith, low)) (omega (arith, high)) h.1
+            (fine_back (told_one_defined m bs p s x) _ f) (parts_back plan ts (parts_of_definition d n y) _ b) (right_back plan (marks_of_definition q d n y) _ r),
+      )
 
   good_one_defined : (plan : ℕ → Use) (ts : List Target) (q m : ℕ) (bs : List Binding) (p : Place) (s : Spot) (x : Definition) (d n : ℕ) → At plan ts q bs p d → d ≤ FRAME_WORDS → 1 ≤ n
       → n + labels_of_definition (definition_named bs p s x) ≤ OCODE_LABEL + 1 → SoundOneDefined bs p s x → Fine (told_one_defined m bs p s x) → PartsRight plan ts (parts_of_definition d n (definition_named bs p s x))
@@ -841,6 +860,8 @@ mutual
       two_good plan ts _ _ (told Value bs p s e) _ (parts d n v) _ (marks q d n v) _ (λ i w k. good_term plan ts q bs p s e d n a low (omega (arith, high)) h.0 i w k)
       (λ i w k. good_started plan ts q bs (deeper 1 p) (behind e s) is (d + 1) (n + labels v) (at_deeper plan ts q bs p d 1 (d + 1) a refl (omega (arith, much))) much (omega (arith, low)) (omega (arith, high)) h.1 i w k) f b r
   good_started plan ts q bs p s (vector l e is) d n a top low high h f b r =
-      let much = vector_room bs p s l e is d a.at h.0 f.all in
-      (much, good_started plan ts q bs (deeper (words_of_start bs e + 1) p) (behind_constant e s) is (d + worth (constant_word bs e) + 2) n (at_vector plan ts q bs p s l e is d a h.0 f.all) much low high h.1
-      (vector_rest bs p s l e is f) b r)
+      let much = vector_room bs p s l e is d a.at h.0 f.all in (
+        much,
+        good_started plan ts q bs (deeper (words_of_start bs e + 1) p) (behind_constant e s) is (d + worth (constant_word bs e) + 2) n (at_vector plan ts q bs p s l e is d a h.0 f.all) much low high h.1
+            (vector_rest bs p s l e is f) b r,
+      )

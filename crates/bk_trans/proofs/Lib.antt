@@ -23,3 +23,5 @@ mod Told
 mod Bodies
 mod Nested
 mod Numbered
+mod Words
+mod Accepted

@@ -115,7 +115,7 @@ pub body_quiet : (m k : ℕ) (s : Spot) (l : ℕ) (x : List ℕ) (fs : List Ment
 body_quiet m k s l x fs y body h =
     let inner : List Point = inside_procedure k s l x fs y body in
     let flat : Quiet (without_depths inner) =
-        quiet_back (its_meaning y) _ (quiet_back (its_frame s.place l (deepest (kept (length fs + 2)) inner)) (its_meaning y ++ without_depths inner) (quiet_back (one_of m s.place l x) _ h)) in
+    quiet_back (its_meaning y) _ (quiet_back (its_frame s.place l (deepest (kept (length fs + 2)) inner)) (its_meaning y ++ without_depths inner) (quiet_back (one_of m s.place l x) _ h)) in
     let whole : Quiet inner = record { all = all_flat inner flat.all; claims = flat.claims; clean = sym (judged_flat inner flat.claims) ∙ flat.clean } in
     quiet_back (each_of k (s.place + 1) fs) body (quiet_back (its_global s.place l x y) (each_of k (s.place + 1) fs ++ body) whole)
 
@@ -270,9 +270,14 @@ routine_good plan ts m bs p s l x fs c d n a low high h f b =
     let owns = b.1 in
     let jumps = right_back plan (name_marks n v) _ b.0.1.1 in
     let entered = enter_labels plan ts n s.number es z z u c (length fs + 2) j (s.number + 2) inner much (omega (arith, low)) (omega (arith, high_body)) owns jumps in
-    let fine = body_fine (length fs) body (body_quiet m s.number s l x fs (bound_in bs x) body f) h.1 in
-    (low, high, callable_good (bound_in bs x) h.0, much,
-    good_in plan ts n cs z u c (length fs + 2) j entered much (omega (arith, low)) (omega (arith, high_body)) h.2 fine owns jumps, tables_right plan ts _ owns)
+    let fine = body_fine (length fs) body (body_quiet m s.number s l x fs (bound_in bs x) body f) h.1 in (
+      low,
+      high,
+      callable_good (bound_in bs x) h.0,
+      much,
+      good_in plan ts n cs z u c (length fs + 2) j entered much (omega (arith, low)) (omega (arith, high_body)) h.2 fine owns jumps,
+      tables_right plan ts _ owns,
+    )
 
 function_good : (plan : ℕ → Use) (ts : List Target) (m : ℕ) (bs : List Binding) (p : Place) (s : Spot) (l : ℕ) (x : List ℕ) (fs : List Mention) (e : Expression) (d n : ℕ) → Out plan ts bs p.procedure s.number → 1 ≤ n
     → n + labels_of_definition (definition_named bs p s (function l x fs e)) ≤ OCODE_LABEL + 1 → SoundOneDefined bs p s (function l x fs e) → Quiet (told_one_defined m bs p s (function l x fs e))
@@ -289,9 +294,14 @@ function_good plan ts m bs p s l x fs e d n a low high h f b =
     let inner = inside plan ts n bs p z p.procedure (length fs) s.number fs a refl refl refl much in
     let owns = b.1 in
     let jumps = right_back plan (name_marks n v) _ b.0.1.1 in
-    let fine = body_fine (length fs) body (body_quiet m s.number s l x fs (bound_in bs x) body f) h.1 in
-    (low, high, callable_good (bound_in bs x) h.0, much,
-    good_term plan ts n cs z u e (length fs + 2) j inner (omega (arith, low)) (omega (arith, high_body)) h.2 fine owns jumps, tables_right plan ts _ owns)
+    let fine = body_fine (length fs) body (body_quiet m s.number s l x fs (bound_in bs x) body f) h.1 in (
+      low,
+      high,
+      callable_good (bound_in bs x) h.0,
+      much,
+      good_term plan ts n cs z u e (length fs + 2) j inner (omega (arith, low)) (omega (arith, high_body)) h.2 fine owns jumps,
+      tables_right plan ts _ owns,
+    )
 
 -- parts one behind the other
 nest_two : (plan : ℕ → Use) (ts : List Target) (xs ys : List Point) (ps qs : List Part) → (Quiet xs → PartsRight plan ts ps → AllGood plan ts ps) → (Quiet ys → PartsRight plan ts qs → AllGood plan ts qs)
@@ -614,10 +624,11 @@ mutual
       let v = meant (bound_in bs x) in
       let high_body : n + (labels_of_procedure v + labels_in (command_named cs z u c)) ≤ OCODE_LABEL + 1 = high in
       let further = onto u.number a (omega arith) in
-      let inner : Out plan ts es s.number u.number = record { sees = formals_out plan ts s.number 2 u.number fs bs (omega arith) further.sees; older = omega arith } in
-      (routine_good plan ts m bs p s l x fs c d n a low high h f b,
-      nest_in plan ts cs z u c (length fs + 2) (n + labels_of_procedure v) (labels_out plan ts s.number s.number (s.number + 2) (labels_of c) es u.number (omega arith) inner) (omega (arith, low)) (omega (arith, high_body)) h.2
-      (body_quiet m s.number s l x fs (bound_in bs x) (told_done cs z u c) f) b.1)
+      let inner : Out plan ts es s.number u.number = record { sees = formals_out plan ts s.number 2 u.number fs bs (omega arith) further.sees; older = omega arith } in (
+        routine_good plan ts m bs p s l x fs c d n a low high h f b,
+        nest_in plan ts cs z u c (length fs + 2) (n + labels_of_procedure v) (labels_out plan ts s.number s.number (s.number + 2) (labels_of c) es u.number (omega arith) inner) (omega (arith, low)) (omega (arith, high_body)) h.2
+            (body_quiet m s.number s l x fs (bound_in bs x) (told_done cs z u c) f) b.1,
+      )
   nest_one_defined plan ts m bs p s (function l x fs e) d n a low high h f b =
       let z : Place = called false s.number (length fs) in
       let u : Spot = onward (1 + length fs) 1 s in
@@ -625,10 +636,11 @@ mutual
       let v = meant (bound_in bs x) in
       let high_body : n + (labels_of_procedure v + labels (term_named cs z u e)) ≤ OCODE_LABEL + 1 = high in
       let further = onto u.number a (omega arith) in
-      let inner : Out plan ts cs s.number u.number = record { sees = formals_out plan ts s.number 2 u.number fs bs (omega arith) further.sees; older = omega arith } in
-      (function_good plan ts m bs p s l x fs e d n a low high h f b,
-      nest_term plan ts cs z u e (length fs + 2) (n + labels_of_procedure v) inner (omega (arith, low)) (omega (arith, high_body)) h.2
-      (body_quiet m s.number s l x fs (bound_in bs x) (told Value cs z u e) f) b.1)
+      let inner : Out plan ts cs s.number u.number = record { sees = formals_out plan ts s.number 2 u.number fs bs (omega arith) further.sees; older = omega arith } in (
+        function_good plan ts m bs p s l x fs e d n a low high h f b,
+        nest_term plan ts cs z u e (length fs + 2) (n + labels_of_procedure v) inner (omega (arith, low)) (omega (arith, high_body)) h.2
+            (body_quiet m s.number s l x fs (bound_in bs x) (told Value cs z u e) f) b.1,
+      )
 
   nest_started : (plan : ℕ → Use) (ts : List Target) (bs : List Binding) (p : Place) (s : Spot) (is : Starts) (d n : ℕ) → Out plan ts bs p.procedure s.number → 1 ≤ n
       → n + labels_of_starts (starts_named bs p s is) ≤ OCODE_LABEL + 1 → SoundStarted bs p s is → Quiet (told_started bs p s is) → PartsRight plan ts (parts_of_starts d n (starts_named bs p s is)) → AllGood plan ts (parts_of_starts d n (starts_named bs p s is))

@@ -611,7 +611,7 @@ mutual
       let i = count_started m bs (deeper 1 p) (behind e s) is (d + 1) (n + labels (term_named bs p s e)) (quiet_back (told Value bs p s e) _ f) in simp (numbered_both) (omega (arith, h, i))
   count_started m bs p s (vector l e is) d n f =
       let h = count_started m bs (deeper (words_of_start bs e + 1) p) (behind_constant e s) is (d + worth (constant_word bs e) + 2) n
-          (quiet_back (constant bs p.procedure s e ++ at_most VEC_NUMBER s.place (line_of e) vec_out_of_range (constant_word bs e) ++ pushed p (words_of_start bs e + 1)) _ f) in
+      (quiet_back (constant bs p.procedure s e ++ at_most VEC_NUMBER s.place (line_of e) vec_out_of_range (constant_word bs e) ++ pushed p (words_of_start bs e + 1)) _ f) in
       omega (arith, h)
 
 -- so each target is found by its number
@@ -643,9 +643,10 @@ all_found : (ts : List Target) → ((m : ℕ) → numbered m ts ≤ 1) → AllFo
 all_found [] h = tt
 all_found (x ∷ ts) h =
     let one : sets x.number (Some x.number) ≡ 1 = ap (λ (b : Bool). cond b 1 0) (eq-eqb x.number x.number refl) in
-    let low = h x.number in
-    (chosen_first (x.number == x.number) (goal x.label x.depth) (goal_of ts x.number) (eq-eqb x.number x.number refl),
-    found_past x ts ts (omega (arith, one, low)) (all_found ts (λ m. let g = h m in omega (arith, g))))
+    let low = h x.number in (
+      chosen_first (x.number == x.number) (goal x.label x.depth) (goal_of ts x.number) (eq-eqb x.number x.number refl),
+      found_past x ts ts (omega (arith, one, low)) (all_found ts (λ m. let g = h m in omega (arith, g))),
+    )
 
 -- THE TARGETS OF A SECTION are found by their numbers
 pub section_found : (xs : Declarations) → Quiet (told_declared [] outermost beginning xs)

@@ -1,33 +1,38 @@
-//! Sections from bytes on: their statements, word for word, and each form once.
-use crate::statements_of;
-use bk_base::{Line, Reader512, Refused, SourceFault};
+//! Sections from bytes on: the text of their translation, word for word.
+use crate::translate;
+use bk_base::{ByteOut, Line, Refused, SourceFault, Writer512};
 use bk_lex::lex;
-use bk_ocode::{Stmt, read_section};
+use bk_ocode::{Ocode, print};
 use bk_scope::resolve;
 use bk_syntax::parse;
 use std::alloc::Global;
 use std::test::Fail;
 
-/// The statements of a text's first section.
-fn translated(alloc: Global, text: &[u8]) -> Result<Vec<Stmt>, Refused<SourceFault>> {
+/// The translation of a text's first section.
+fn translated(alloc: Global, text: &[u8]) -> Result<Ocode, Refused<SourceFault>> {
     let lexed = lex(alloc, text, Line::first())?;
     let section = parse(alloc, lexed.tokens.as_slice(), lexed.line)?;
     let resolved = resolve(alloc, &section)?;
-    Ok(statements_of(alloc, &resolved)?)
+    Ok(translate(alloc, &resolved)?)
 }
 
-/// Whether a text's first section has just the statements of this OCODE.
+/// Whether the text of the translation is this one, with a blank for the end of each line.
 fn gives(rt: &HostRuntime, text: &[u8], ocode: &[u8]) -> Result<bool, Fail> {
-    let Ok(stmts) = translated(rt.alloc(), text) else {
+    let Ok(section) = translated(rt.alloc(), text) else {
         return Ok(false);
     };
-    let mut input = Reader512::new(ocode);
-    let Ok(Some(expected)) = read_section(rt.alloc(), &mut input) else {
+    let mut printed = Vec::new(rt.alloc());
+    let mut output = Writer512::new(&mut printed);
+    if print(&section, &mut output).is_err() || output.flush().is_err() {
         return Ok(false);
-    };
-    let written = format!(in rt.alloc(); "{:?}", stmts.as_slice())?;
-    let read = format!(in rt.alloc(); "{:?}", expected.stmts())?;
-    Ok(written == read)
+    }
+    drop(output);
+    for byte in &mut printed {
+        if *byte == b'\n' {
+            *byte = b' ';
+        }
+    }
+    Ok(printed.strip_suffix(b" ") == Some(ocode))
 }
 
 #[test]
