@@ -23,8 +23,9 @@ use Rattle.bk_trans.specs.Parts.{Part, procedure, static_item, static_table, lab
 use Rattle.bk_trans.specs.Scheme.{goal_of, push, truth_value, by_turns, value_code, each_code, jump_code, address_code, store_code, value_codes, store_codes, command_code, through_code, declarations_code, declaration_code, definitions_code, definition_code, starts_code, goal, variable, valued, looping, switching, label_or, default_in, cases, test_of_step}
 use Rattle.bk_trans.proofs.Marks.{Mark, marks, marks_each, marks_if, marks_at, marks_onto, marks_all_onto, marks_from, marks_by_turns, marks_in, marks_through, marks_of_declaration, marks_of_declarations, marks_of_definition, marks_of_definitions, marks_of_starts, AllRight, right_front, right_back}
 use Rattle.bk_trans.proofs.Good.{Exits, in_loop, in_switch, in_valof, IsGoal, Good, GoodEach, GoodIf, GoodAt, GoodOnto, GoodAllOnto, GoodFrom, GoodIn, GoodThrough, GoodDeclared, GoodOneDeclared, GoodDefined, GoodOneDefined, GoodStarted}
-use Rattle.bk_trans.proofs.Steps.{Steps, append, step, last, fits_number, fits_truth, next_truth, fits_query, fits_text, fits_local, fits_push, next_push, fits_address, fits_assign, fits_assign_local, fits_address_local, fits_dyadic, fits_assign_at, fits_assign_byte, fits_jump, fits_jump_if, fits_give, fits_stack, fits_store, fits_function, fits_routine, fits_return, fits_finish, fits_test, next_test, prefix_steps, dyadic_steps, infix_steps, go_steps}
+use Rattle.bk_trans.proofs.Steps.{back, Steps, append, step, last, fits_number, fits_truth, next_truth, fits_query, fits_text, fits_local, fits_push, next_push, fits_address, fits_assign, fits_assign_local, fits_address_local, fits_dyadic, fits_assign_at, fits_assign_byte, fits_jump, fits_jump_if, fits_give, fits_stack, fits_store, fits_function, fits_routine, fits_return, fits_finish, fits_test, next_test, prefix_steps, dyadic_steps, infix_steps, go_steps}
 use Rattle.bk_trans.proofs.Cases.{cases_right, default_right, default_is, cases_are, cases_jump}
+use Rattle.bk_trans.proofs.Once.{no_more}
 
 -- the tables among parts have words
 abbrev pub TableRight : (ℕ → Use) → Part → Type 0
@@ -163,12 +164,6 @@ turns_typed plan p s (c ∷ cs) (d ∷ ds) (m ∷ ms) (n ∷ ns) h i r =
 stored : (plan : ℕ → Use) (p s : ℕ) (x : Bool) → s ≤ FRAME_WORDS → Steps plan p s (cond x (t.Store ∷ []) []) s
 stored plan p s true top = last s t.Store (fits_store plan p s top) refl
 stored plan p s false top = done
-
-no_more : (n : ℕ) → n + 0 ≡ n
-no_more n = omega arith
-
-back : (s : ℕ) → s + 1 - 1 ≡ s
-back s = omega arith
 
 label_is : (n m : ℕ) → 1 ≤ n → n + 1 ≤ m + 1 → m ≤ OCODE_LABEL → IsLabel n
 label_is n m low below high = (low, omega (arith, below, high))

@@ -32,6 +32,8 @@ use Rattle.bk_ocode.specs.SectionData.{text_size}
 use Rattle.bk_trans.specs.Laws.{WordsAreFew}
 use Rattle.bk_trans.specs.Scheme.{push, truth_value, cases, cases_through, entry_of, entries_of}
 use Rattle.bk_trans.proofs.Steps.{short_bytes}
+use Rattle.bk_trans.proofs.Once.{no_more}
+use Rattle.bk_trans.proofs.Counted.{some_nodes, constants_long}
 
 -- what stands by itself
 abbrev apart : List Target → List Part → ℕ
@@ -81,9 +83,6 @@ table_long : (ws : List ℕ) → text_size (map (λ v. t.DataNumber (signed v)) 
 table_long [] = refl
 table_long (v ∷ ws) = let h = table_long ws in omega (arith, h)
 
-no_more : (n : ℕ) → n + 0 ≡ n
-no_more n = omega arith
-
 push_long : (ts : List Target) (x : Bound) → text_size (push ts x ∷ []) ≤ 2
 push_long ts (b.Constant (Some v)) = omega arith
 push_long ts (b.Constant None) = omega arith
@@ -130,24 +129,6 @@ one_entry n (b.Constant v) = omega arith
 one_entry n (b.Static m) = omega arith
 one_entry n (b.Variable j i) = omega arith
 one_entry n (b.Label j m) = omega arith
-
-some_nodes : (e : Expression) → 1 ≤ nodes e
-some_nodes (name l x) = omega arith
-some_nodes (number l v) = omega arith
-some_nodes (text l x) = omega arith
-some_nodes (truth l x) = omega arith
-some_nodes (query l) = omega arith
-some_nodes (parens l e) = omega arith
-some_nodes (unary l f e) = omega arith
-some_nodes (binary l f m x y) = omega arith
-some_nodes (choice l m c x y) = omega arith
-some_nodes (apply l m e es) = omega arith
-some_nodes (valof l c) = omega arith
-some_nodes (table l es) = omega arith
-
-constants_long : (es : Expressions) (g : Supply) → length (constants_of es g).part ≤ nodes_of_each es
-constants_long none g = omega arith
-constants_long (more e es) g = let h = constants_long es (constant g).left in let i = some_nodes e in omega (arith, h, i)
 
 statics_long : (ts : List Target) (n : ℕ) (is : Items) (g : Supply) → apart ts (parts_of_items n (static_items is g).part) ≤ 300 * nodes_of_items is
 statics_long ts n no_items g = omega arith
