@@ -1,10 +1,10 @@
 //! The statements of names and operators.
-ghost use Rattle.std.specs.Prelude.{◌≡◌, ◌++◌, ◌∷◌, [], OnOk, ◌%◌, ◌^◌, ◌+◌};
-ghost use Rattle.bk_trans.specs.Scheme.{prefix_code, infix_code, truth_value as TruthValue, test_of_step as TestOfStep, label_or as LabelOr, goal as GoalAt, looping as Looping, switching as Switching, valued as Valued, outermost as Outermost};
+ghost use Rattle.std.specs.Prelude.{◌≡◌, ◌++◌, ◌∷◌, [], OnOk};
+ghost use Rattle.bk_trans.specs.Scheme.{prefix_code, infix_code, truth_value as TruthValue, test_of_step as TestOfStep, label_or as LabelOr};
 ghost use Rattle.bk_trans.specs.Writing.{after as After, place_of as PlaceOf, place_in as PlaceIn, word_of as WordOf, push_of as PushOf};
 ghost use Rattle.bk_ocode.specs.declared.stmt.Stmt.TheVariants as stmts;
 
-use crate::around::{Around, Goal};
+use crate::around::Goal;
 use bk_ocode::{Dyadic, Monadic, Stmt, Variable};
 use bk_scope::Bound;
 use bk_syntax::tree::{Operator, Prefix};
@@ -167,57 +167,5 @@ pub fn put_infix(code: &mut Vec<Stmt>, operator: Operator) -> Result<(), AllocEr
         Operator::Either => put_dyadic(code, Dyadic::Or),
         Operator::Same => put_dyadic(code, Dyadic::Eqv),
         Operator::Differ => put_dyadic(code, Dyadic::Neqv),
-    }
-}
-
-impl Goal {
-    /// This label, where the depth is this.
-    pub fn new(label: u32, depth: u32) -> Goal
-        ensures { result ≡ GoalAt label depth }
-    {
-        Goal { label, depth }
-    }
-}
-
-impl Around {
-    /// In a procedure.
-    pub fn outermost() -> Around
-        ensures { result ≡ Outermost }
-    {
-        Around::valued(0)
-    }
-
-    /// In a VALOF with this label.
-    pub fn valued(label: u32) -> Around
-        ensures { result ≡ Valued label }
-    {
-        let nowhere = Goal::new(0, 0);
-        Around {
-            goes_on: nowhere,
-            leaves: nowhere,
-            ends_case: nowhere,
-            valof: label,
-        }
-    }
-
-    /// In a loop, with the labels where LOOP and BREAK go, and the depth there.
-    pub fn looping(self, goes_on: u32, leaves: u32, depth: u32) -> Around
-        ensures { result ≡ Looping goes_on leaves depth self }
-    {
-        Around {
-            goes_on: Goal::new(goes_on, depth),
-            leaves: Goal::new(leaves, depth),
-            ..self
-        }
-    }
-
-    /// In a SWITCHON, with the label where ENDCASE goes, and the depth there.
-    pub fn switching(self, label: u32, depth: u32) -> Around
-        ensures { result ≡ Switching label depth self }
-    {
-        Around {
-            ends_case: Goal::new(label, depth),
-            ..self
-        }
     }
 }
