@@ -3,3 +3,4 @@ pub mod PlacedStore
 pub mod Agreement
 pub mod StandsFor
 pub mod PlainCode
+pub mod Laws

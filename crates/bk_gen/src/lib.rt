@@ -1,7 +1,11 @@
 //! From OCODE to INTCODE.
 #![tactic(auto)]
 
+mod laws;
 mod parts;
-mod plain;
+pub mod plain;
+mod segment;
 mod statement;
 mod table;
+
+pub use segment::generate;

@@ -1,8 +1,4 @@
 -- The laws of sections and of formats on which the plain code rests.
-use Rattle.std.proofs.Common.{List}
-use Rattle.bk_ocode.specs.Section.{IsSection}
-use Rattle.bk_ocode.specs.declared.stmt.Stmt.{Stmt}
-use Rattle.bk_gen.proofs.LabelsSet.{StmtsSetOnce}
 use Rattle.bk_intcode.specs.FormatLaws.{FormatIsOfParts}
 use Rattle.bk_ocode.specs.SectionLaws.{LabelsAreSetOnce, LabelHasOnePlace, JumpFindsItsLabel, JumpHasItsLabelsDepth, DepthsSuffice, ResultFindsItsLabel, DataFindsItsLabel, ItemFindsItsLabel, GlobalFindsItsEntry, TextIsShort}
 
@@ -18,6 +14,3 @@ pub record Laws : Type 0 where
   pub global_finds : GlobalFindsItsEntry
   pub short : TextIsShort
   pub formats : FormatIsOfParts
-
-pub once : Laws → (stmts : List Stmt) → IsSection stmts → StmtsSetOnce stmts
-once laws stmts is_section i j l s t at there p q = laws.set_once stmts i j l s t is_section.are_faultless at there p q
