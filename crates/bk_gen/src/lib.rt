@@ -7,5 +7,7 @@ pub mod plain;
 mod segment;
 mod statement;
 mod table;
+#[cfg(test)]
+mod tests;
 
 pub use segment::generate;
