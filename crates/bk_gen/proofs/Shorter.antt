@@ -39,7 +39,7 @@ suffix_after n go (Asks s r) [] o = go s _ [] o
 suffix_after n go (Asks s r) (b ∷ rest) o = let h = go s (record r { a = b }) rest o in (b ∷ h.0, ap (λ l. b ∷ l) h.1)
 suffix_after n go (Ends e) i o = ([], refl)
 
-run_reads : (n : ℕ) (s : List ℕ) (r : Registers) (i o : List ℕ) → (read : List ℕ) × (i ≡ read ++ input_of (run n s r i o))
+pub run_reads : (n : ℕ) (s : List ℕ) (r : Registers) (i o : List ℕ) → (read : List ℕ) × (i ≡ read ++ input_of (run n s r i o))
 run_reads zero s r i o = ([], refl)
 run_reads (suc n) s r i o = suffix_after n (run_reads n) (step s r) i o
 

@@ -4,3 +4,4 @@ pub mod Agreement
 pub mod StandsFor
 pub mod PlainCode
 pub mod Laws
+pub mod BackEnd

@@ -10,4 +10,5 @@ mod table;
 #[cfg(test)]
 mod tests;
 
+pub use laws::back_end;
 pub use segment::generate;
