@@ -4,3 +4,10 @@ mod Few
 mod Once
 mod Named
 mod Counted
+mod Blocks
+mod PlaceLists
+mod Adds
+mod Ties
+mod WholeSections
+mod FittingLemmas
+mod Ranges

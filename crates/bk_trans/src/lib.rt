@@ -1,7 +1,23 @@
 //! The scheme: from the tree of a section to its statements in OCODE.
 #![tactic(auto)]
 
+mod aim;
 mod around;
+mod codes;
+mod fitting;
+mod given;
+mod items;
 mod laws;
+mod nodes;
+mod pieces;
+mod places;
+mod short;
+mod statements;
+#[cfg(test)]
+mod tests;
+mod translating;
+mod way;
+mod writer;
 
 pub use laws::{filling_names, labels_are_few, labels_are_set_once, statements_are_few};
+pub use translating::statements_of;
