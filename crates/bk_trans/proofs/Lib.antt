@@ -4,6 +4,7 @@ mod Few
 mod Once
 mod Named
 mod Counted
+mod Worded
 mod Blocks
 mod PlaceLists
 mod Adds

@@ -1,11 +1,12 @@
 -- Laws of the scheme, over the named tree of a section.
 use Rattle.std.specs.Prelude.{ℕ, ◌+◌, ◌==◌, ◌≡◌, ◌≤◌, cond, Option, Some, None, List, [], ◌∷◌, length}
-use Rattle.bk_base.specs.declared.limit.TheConstants.{OCODE_LABEL, OCODE_STATEMENTS}
+use Rattle.bk_base.specs.declared.limit.TheConstants.{OCODE_LABEL, OCODE_STATEMENTS, OCODE_WORDS}
 use Rattle.bk_syntax.specs.Tree.{Declarations}
 use Rattle.bk_syntax.specs.Limits.{Within}
 use Rattle.bk_scope.specs.declared.bound.Bound.{Bound}
 use Rattle.bk_scope.specs.Faults.{faults, meanings, words}
 use Rattle.bk_ocode.specs.declared.stmt.Stmt.{Stmt}
+use Rattle.bk_ocode.specs.SectionData.{text_size}
 use Rattle.bk_ocode.specs.Labels.{label_set}
 use Rattle.bk_trans.specs.Program as p
 use Rattle.bk_trans.specs.Naming.{named_tree}
@@ -25,6 +26,11 @@ LabelsAreFew = (ds : Declarations) (meanings : List Bound) (words : List ℕ) �
 -- THE STATEMENTS OF A SECTION ARE FEW: a node gives fifteen at most, so those of a section within the limits are within theirs.
 abbrev pub StatementsAreFew : Type 0
 StatementsAreFew = (ds : Declarations) (meanings : List Bound) (words : List ℕ) → Within ds → length (scheme (program_of ds meanings words)) ≤ OCODE_STATEMENTS
+
+-- THE WORDS OF A SECTION ARE FEW: a node gives three hundred at most, so the text of a section within the limits is within its limit
+-- of words.
+abbrev pub WordsAreFew : Type 0
+WordsAreFew = (ds : Declarations) (meanings : List Bound) (words : List ℕ) → Within ds → text_size (scheme (program_of ds meanings words)) ≤ OCODE_WORDS
 
 -- how often statements set a label
 abbrev pub sets : ℕ → Option ℕ → ℕ

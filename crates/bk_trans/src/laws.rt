@@ -1,5 +1,5 @@
 //! Laws of the scheme.
-ghost use Rattle.bk_trans.specs.Laws.{FillingNames, LabelsAreFew, LabelsAreSetOnce, StatementsAreFew};
+ghost use Rattle.bk_trans.specs.Laws.{FillingNames, LabelsAreFew, LabelsAreSetOnce, StatementsAreFew, WordsAreFew};
 
 /// In a section without faults filling from the meanings and the words gives the tree that is named by the declarations in scope.
 pub fn filling_names()
@@ -15,6 +15,11 @@ pub fn labels_are_few()
 /// The statements of a section within the limits of trees are within theirs.
 pub fn statements_are_few()
     ensures { StatementsAreFew }
+{}
+
+/// The words of the text of a section within the limits of trees are within theirs.
+pub fn words_are_few()
+    ensures { WordsAreFew }
 {}
 
 /// No label is set twice in the statements of a section, and those that are set are its own.

@@ -19,5 +19,7 @@ mod translating;
 mod way;
 mod writer;
 
-pub use laws::{filling_names, labels_are_few, labels_are_set_once, statements_are_few};
+pub use laws::{
+    filling_names, labels_are_few, labels_are_set_once, statements_are_few, words_are_few,
+};
 pub use translating::statements_of;

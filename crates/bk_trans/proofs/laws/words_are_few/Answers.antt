@@ -1,0 +1,5 @@
+use Rattle.bk_trans.proofs.Worded.{words_are_few}
+use Rattle.bk_trans.proofs.laws.words_are_few.Goals as goal
+
+pub returns : goal.returns
+returns c = words_are_few
