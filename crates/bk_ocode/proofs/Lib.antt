@@ -26,6 +26,8 @@ pub mod SoundStart
 pub mod GrowingSteps
 pub mod NearerSteps
 pub mod LabelKinds
+pub mod Plans
+pub mod TypedSections
 mod Examples
 mod Programs
 mod SharedPlaces

@@ -25,6 +25,7 @@ pub mod ProgramStart
 pub mod Frames
 pub mod SoundRuns
 pub mod SectionLaws
+pub mod Typing
 pub mod KnownUses
 pub mod Drafts
 pub mod Keywords

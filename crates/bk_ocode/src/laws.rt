@@ -4,6 +4,7 @@ ghost use Rattle.bk_ocode.specs.RunLaws.{GoesOnBehindLabel};
 ghost use Rattle.bk_ocode.specs.SoundRuns.{FirstStateIsSound, StepsAreSound, ResumingIsSound, StepsComeNearer, StepsGrow, EndsKeepBytes};
 ghost use Rattle.bk_ocode.specs.FirstFault.{SayOneThing};
 ghost use Rattle.bk_ocode.specs.SectionAnswer.{PrintedIsParted, PrintedAreParted, PrintedSaysAgain, PrintedIsReadAgain};
+ghost use Rattle.bk_ocode.specs.Typing.{TypedIsSection};
 ghost use Rattle.bk_ocode.specs.SectionLaws.{LabelsAreSetOnce, LabelHasOnePlace, JumpFindsItsLabel, JumpHasItsLabelsDepth, DepthsSuffice, SectionIsShort, ResultFindsItsLabel, DataFindsItsLabel, ItemFindsItsLabel, GlobalFindsItsEntry, GlobalStandsLast, TextIsShort};
 
 /// No label of a section is set twice.
@@ -155,4 +156,10 @@ pub fn text_is_short()
 #[tactic(auto, using(crate::proofs::NearerSteps::steps_come_nearer))]
 pub fn steps_come_nearer()
     ensures { StepsComeNearer }
+{}
+
+/// Statements that agree with a plan of labels are a section, where no label is set twice, each that the plan has is set, and
+/// neither the statements nor the words of their text are too many.
+pub fn typed_is_section()
+    ensures { TypedIsSection }
 {}

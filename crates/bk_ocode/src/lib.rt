@@ -30,7 +30,7 @@ pub use laws::{
     jump_finds_its_label, jump_has_its_labels_depth, label_has_one_place, labels_are_set_once,
     one_saying, printed_again, printed_are_parted, printed_is_parted, read_again,
     result_finds_its_label, resuming_is_sound, section_is_short, step_keeps_below, steps_are_sound,
-    steps_come_nearer, steps_grow, text_is_short,
+    steps_come_nearer, steps_grow, text_is_short, typed_is_section,
 };
 pub use printing::print;
 pub use reading::read_section;

@@ -12,3 +12,15 @@ mod Ties
 mod WholeSections
 mod FittingLemmas
 mod Ranges
+mod Marks
+mod Good
+mod Steps
+mod Cases
+mod Forms
+mod Marked
+mod Sections
+mod Scopes
+mod Told
+mod Bodies
+mod Nested
+mod Numbered

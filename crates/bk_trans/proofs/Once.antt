@@ -22,7 +22,8 @@ use Rattle.bk_trans.specs.Labels.{labels, labels_each, labels_if, labels_at, lab
 use Rattle.bk_trans.specs.Depths.{count, behind_declaration, behind_declarations, behind_definition, has_variables}
 use Rattle.bk_trans.specs.Parts.{Part, parts_of_items, parts, parts_each, parts_if, parts_at, parts_onto, parts_from, parts_in, parts_through, parts_of_declarations, parts_of_declaration, parts_of_definitions, parts_of_definition, parts_of_starts, target_of}
 use Rattle.bk_trans.specs.Scheme.{push, prefix_code, infix_code, truth_value, by_turns, value_code, each_code, jump_code, address_code, store_code, value_codes, store_codes, command_code, through_code, declarations_code, declaration_code, definitions_code, definition_code, starts_code, procedure_code, word_code, data_code, scheme, outermost, valued, looping, switching}
-use Rattle.bk_trans.specs.Laws.{sets, times_set, LabelsAreSetOnce}
+use Rattle.bk_ocode.specs.Typing.{sets, times_set}
+use Rattle.bk_trans.specs.Laws.{LabelsAreSetOnce}
 
 -- what stands by itself
 abbrev parts_set : ℕ → List Target → List Part → ℕ
@@ -34,10 +35,10 @@ sum_set l [] = 0
 sum_set l (x ∷ xs) = times_set l x + sum_set l xs
 
 -- 1 where l is n or more, else 0
-abbrev past : ℕ → ℕ → ℕ
+abbrev pub past : ℕ → ℕ → ℕ
 past l n = min (l + 1 - n) 1
 
-set_both : (l : ℕ) (xs ys : List Stmt) → times_set l (xs ++ ys) ≡ times_set l xs + times_set l ys
+pub set_both : (l : ℕ) (xs ys : List Stmt) → times_set l (xs ++ ys) ≡ times_set l xs + times_set l ys
 set_both l [] ys = omega arith
 set_both l (s ∷ xs) ys = let rest = set_both l xs ys in omega (arith, rest)
 
@@ -56,19 +57,19 @@ at_most_one : (x : Bool) → cond x 1 0 ≤ 1
 at_most_one true = omega arith
 at_most_one false = omega arith
 
-own_from : (l n : ℕ) → (l < n) ⊎ (n ≤ l) → (n < l) ⊎ (l ≤ n) → sets l (Some n) + past l (n + 1) ≤ past l n
+pub own_from : (l n : ℕ) → (l < n) ⊎ (n ≤ l) → (n < l) ⊎ (l ≤ n) → sets l (Some n) + past l (n + 1) ≤ past l n
 own_from l n (inl h) j = let no : sets l (Some n) ≡ 0 = ap (λ (x : Bool). cond x 1 0) (ne_eqb l n (λ e. omega (arith, h, e))) in omega (arith, no, h)
 own_from l n (inr h) (inl j) = let no : sets l (Some n) ≡ 0 = ap (λ (x : Bool). cond x 1 0) (ne_eqb l n (λ e. omega (arith, j, e))) in omega (arith, no, h, j)
 own_from l n (inr h) (inr j) = let one = at_most_one (l == n) in omega (arith, one, h, j)
 
-own : (l n : ℕ) → sets l (Some n) + past l (n + 1) ≤ past l n
+pub own : (l n : ℕ) → sets l (Some n) + past l (n + 1) ≤ past l n
 own l n = own_from l n (cases_lt l n) (cases_lt n l)
 
-no_more : (n : ℕ) → n + 0 ≡ n
+pub no_more : (n : ℕ) → n + 0 ≡ n
 no_more n = omega arith
 
 -- statements that set none
-push_none : (l : ℕ) (ts : List Target) (x : Bound) → sets l (label_set (push ts x)) ≡ 0
+pub push_none : (l : ℕ) (ts : List Target) (x : Bound) → sets l (label_set (push ts x)) ≡ 0
 push_none l ts (b.Constant (Some v)) = refl
 push_none l ts (b.Constant None) = refl
 push_none l ts (b.Global v) = refl
@@ -76,26 +77,26 @@ push_none l ts (b.Static m) = refl
 push_none l ts (b.Variable j i) = refl
 push_none l ts (b.Label j m) = refl
 
-truth_none : (l : ℕ) (x : Bool) → sets l (label_set (truth_value x)) ≡ 0
+pub truth_none : (l : ℕ) (x : Bool) → sets l (label_set (truth_value x)) ≡ 0
 truth_none l true = refl
 truth_none l false = refl
 
-chosen_none : (l : ℕ) (x : Bool) (s r : Stmt) → sets l (label_set s) ≡ 0 → sets l (label_set r) ≡ 0 → sets l (label_set (cond x s r)) ≡ 0
+pub chosen_none : (l : ℕ) (x : Bool) (s r : Stmt) → sets l (label_set s) ≡ 0 → sets l (label_set r) ≡ 0 → sets l (label_set (cond x s r)) ≡ 0
 chosen_none l true s r h i = h
 chosen_none l false s r h i = i
 
-store_none : (l : ℕ) (x : Bool) → times_set l (cond x (t.Store ∷ []) []) ≡ 0
+pub store_none : (l : ℕ) (x : Bool) → times_set l (cond x (t.Store ∷ []) []) ≡ 0
 store_none l true = refl
 store_none l false = refl
 
-prefix_none : (l : ℕ) (f : Prefix) → times_set l (prefix_code f) ≡ 0
+pub prefix_none : (l : ℕ) (f : Prefix) → times_set l (prefix_code f) ≡ 0
 prefix_none l q.Contents = refl
 prefix_none l q.Minus = refl
 prefix_none l q.Not = refl
 prefix_none l q.Plus = refl
 prefix_none l q.Address = refl
 
-infix_none : (l : ℕ) (f : Operator) → times_set l (infix_code f) ≡ 0
+pub infix_none : (l : ℕ) (f : Operator) → times_set l (infix_code f) ≡ 0
 infix_none l o.Subscript = refl
 infix_none l o.Byte = refl
 infix_none l o.Times = refl
@@ -116,7 +117,7 @@ infix_none l o.Either = refl
 infix_none l o.Same = refl
 infix_none l o.Differ = refl
 
-words_none : (l : ℕ) (ws : List ℕ) → times_set l (map (λ v. t.DataNumber (signed v)) ws) ≡ 0
+pub words_none : (l : ℕ) (ws : List ℕ) → times_set l (map (λ v. t.DataNumber (signed v)) ws) ≡ 0
 words_none l [] = refl
 words_none l (v ∷ ws) = let h = words_none l ws in omega (arith, h)
 

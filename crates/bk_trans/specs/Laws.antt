@@ -1,13 +1,12 @@
 -- Laws of the scheme, over the named tree of a section.
-use Rattle.std.specs.Prelude.{ℕ, ◌+◌, ◌==◌, ◌≡◌, ◌≤◌, cond, Option, Some, None, List, [], ◌∷◌, length}
+use Rattle.std.specs.Prelude.{ℕ, ◌+◌, ◌≡◌, ◌≤◌, List, [], length}
 use Rattle.bk_base.specs.declared.limit.TheConstants.{OCODE_LABEL, OCODE_STATEMENTS, OCODE_WORDS}
 use Rattle.bk_syntax.specs.Tree.{Declarations}
 use Rattle.bk_syntax.specs.Limits.{Within}
 use Rattle.bk_scope.specs.declared.bound.Bound.{Bound}
 use Rattle.bk_scope.specs.Faults.{faults, meanings, words}
-use Rattle.bk_ocode.specs.declared.stmt.Stmt.{Stmt}
 use Rattle.bk_ocode.specs.SectionData.{text_size}
-use Rattle.bk_ocode.specs.Labels.{label_set}
+use Rattle.bk_ocode.specs.Typing.{times_set}
 use Rattle.bk_trans.specs.Program as p
 use Rattle.bk_trans.specs.Naming.{named_tree}
 use Rattle.bk_trans.specs.Filling.{filled, all_declared, program_of}
@@ -31,15 +30,6 @@ StatementsAreFew = (ds : Declarations) (meanings : List Bound) (words : List ℕ
 -- of words.
 abbrev pub WordsAreFew : Type 0
 WordsAreFew = (ds : Declarations) (meanings : List Bound) (words : List ℕ) → Within ds → text_size (scheme (program_of ds meanings words)) ≤ OCODE_WORDS
-
--- how often statements set a label
-abbrev pub sets : ℕ → Option ℕ → ℕ
-sets l None = 0
-sets l (Some m) = cond (l == m) 1 0
-
-abbrev pub times_set : ℕ → List Stmt → ℕ
-times_set l [] = 0
-times_set l (s ∷ rest) = sets l (label_set s) + times_set l rest
 
 -- NO LABEL IS SET TWICE in the statements of a section, and those that are set are among its own, from 1 on.
 abbrev pub LabelsAreSetOnce : Type 0

@@ -1,0 +1,655 @@
+-- Each number has one target at most: labels have numbers of their own where they come into scope, and so have the procedures of a LET
+-- and the items of STATIC; in one list no name stands twice.
+use Rattle.std.proofs.Common.{arith, ◌≡◌, inl, inr, ℕ, ◌+◌, ◌≤◌, Bool, true, false, cond, Option, Some, None, List, [], ◌∷◌, ◌++◌, length, refl, sym, ap, subst, ◌∙◌}
+use Rattle.std.specs.Bool.{⊤}
+use Rattle.bk_base.specs.declared.limit.TheConstants.{VEC_NUMBER}
+use Rattle.bk_syntax.specs.declared.tree.Operator.TheVariants as o
+use Rattle.bk_syntax.specs.declared.tree.Prefix.TheVariants as sign
+use Rattle.bk_syntax.specs.declared.tree.Sort.TheVariants as sort
+use Rattle.bk_syntax.specs.Tree.{Expression, Expressions, Action, Actions, Declaration, Declarations, Items, Definition, Definitions, Starts, name, number, text, truth, query, parens, unary, binary, choice, apply, valof, table, none, more, empty, assign, call, goto, label, case_of, default, when, test, while, for_loop, switch, result, simple, block, repeat, repeat_while, no_actions, also, constants, definitions, no_declarations, declare, no_items, item, routine, function, variables, no_definitions, define, no_starts, value, vector}
+use Rattle.bk_syntax.specs.Grammar.{line_of, size}
+use Rattle.bk_scope.specs.declared.bound.Bound.{Bound}
+use Rattle.bk_scope.specs.declared.bound.Bound.TheVariants.{Constant, Global, Static, Variable, Label}
+use Rattle.bk_scope.specs.declared.place.Place.{Place}
+use Rattle.bk_scope.specs.declared.role.Role.{Role}
+use Rattle.bk_scope.specs.declared.role.Role.TheVariants.{Value, Truth, Address, Destination}
+use Rattle.bk_scope.specs.Wrong.{not_assignable, no_result_or_return, vec_out_of_range}
+use Rattle.bk_scope.specs.Scope.{Binding, bound_in, bind}
+use Rattle.bk_scope.specs.Constants.{constant_word}
+use Rattle.bk_scope.specs.Places.{deeper, looping, switching, labelled, valued, called, outermost}
+use Rattle.bk_scope.specs.Entering.{labels_of, labels_of_each, with_formals}
+use Rattle.bk_scope.specs.Names.{parenthesised, words_of_start}
+use Rattle.bk_scope.specs.Spots.{Spot, procedures_in, onward, past, behind, behind_each, behind_done, behind_declared, behind_one_declared, behind_one_defined, behind_constant, symbols_each, beginning}
+use Rattle.bk_scope.specs.Found.{Claim, is_claimed}
+use Rattle.bk_scope.specs.Points.{Point, meaning, word, depth, wrong, claim, claimed, judged, at}
+use Rattle.bk_scope.specs.Laws.{Clean}
+use Rattle.bk_scope.specs.Scoping.{labels_in_scope, procedures_in_scope, place_behind_one_defined, scope_behind_one, place_behind_one, scope_behind, place_behind_all}
+use Rattle.bk_scope.specs.Faults.{unless, its_meaning, constant, each_constant, at_most, assigned, prefixed, pushed, chosen_at, defaulted_at, one_of, each_of, told, told_each, told_destinations, told_done, told_done_each, told_declared, told_one_declared, told_defined, told_one_defined, told_started}
+use Rattle.bk_trans.specs.declared.around.Target.{Target}
+use Rattle.bk_trans.specs.Naming.{meant, worth, statics_named, term_named, terms_named, condition_named, lvalue_named, lvalues_named, command_named, commands_named, declarations_named, declaration_named, definitions_named, definition_named, starts_named}
+use Rattle.bk_trans.specs.Labels.{labels, labels_if, labels_at, labels_onto, labels_in, labels_of_declaration, labels_of_declarations, labels_of_definition}
+use Rattle.bk_trans.specs.Depths.{count, behind_definition, behind_declaration, behind_declarations}
+use Rattle.bk_trans.specs.Parts.{Part, parts, parts_each, parts_if, parts_at, parts_onto, parts_from, parts_in, parts_through, parts_of_items, parts_of_declarations, parts_of_declaration, parts_of_definitions, parts_of_definition, parts_of_starts}
+use Rattle.bk_trans.specs.Scheme.{goal_of}
+use Rattle.bk_trans.specs.Labels.{labels_of_procedure}
+use Rattle.bk_scope.specs.Spots as spots
+use Rattle.bk_trans.specs.declared.around.Goal.{Goal}
+use Rattle.bk_scope.specs.Found.{naming, same_claim}
+use Rattle.bk_scope.specs.Points.{Fault}
+use Rattle.bk_scope.specs.Scope.{is_global}
+use Rattle.bk_scope.specs.Spots.{numbers, numbers_each, numbers_done, numbers_done_each, numbers_declared, numbers_one_declared, numbers_items, numbers_defined, numbers_one_defined, numbers_started}
+use Rattle.bk_scope.specs.Scoping.{procedure_in_scope}
+use Rattle.std.specs.Str.{bytes_eq}
+use Rattle.std.proofs.lemmas.Slice.Eq.{bytes_eq-Decides}
+use Rattle.std.proofs.Common.{eqb-true, eq-eqb, ◌==◌}
+use Rattle.bk_ocode.specs.Lists.{joined}
+use Rattle.bk_ocode.specs.Typing.{sets}
+use Rattle.bk_trans.specs.Parts.{target_of, target_of_word, target_of_label}
+use Rattle.bk_trans.specs.Scheme.{goal}
+use Rattle.bk_trans.proofs.Once.{past as beyond, own}
+use Rattle.bk_trans.proofs.Scopes.{Among, AmongProcedures, look_label, look_procedure, AllFound}
+use Rattle.bk_trans.proofs.Nested.{Quiet, quiet_front, quiet_back, body_quiet}
+
+-- how often a target has a number
+abbrev pub numbered : ℕ → List Target → ℕ
+numbered m [] = 0
+numbered m (x ∷ xs) = sets m (Some x.number) + numbered m xs
+
+abbrev pub parts_numbered : ℕ → List Part → ℕ
+parts_numbered m [] = 0
+parts_numbered m (x ∷ xs) = numbered m (target_of x) + parts_numbered m xs
+
+numbered_both : (m : ℕ) (xs ys : List Part) → parts_numbered m (xs ++ ys) ≡ parts_numbered m xs + parts_numbered m ys
+numbered_both m [] ys = omega arith
+numbered_both m (x ∷ xs) ys = let h = numbered_both m xs ys in omega (arith, h)
+
+abbrev bit : Bool → ℕ
+bit true = 1
+bit false = 0
+
+-- how often a name is claimed in a list
+abbrev claimed_once : ℕ → List ℕ → Point → ℕ
+claimed_once k x (claim c f) = bit (same_claim (naming k x) c)
+claimed_once k x (meaning b) = 0
+claimed_once k x (word v) = 0
+claimed_once k x (depth d) = 0
+claimed_once k x (wrong f) = 0
+
+abbrev times_claimed : ℕ → List ℕ → List Point → ℕ
+times_claimed k x [] = 0
+times_claimed k x (z ∷ zs) = claimed_once k x z + times_claimed k x zs
+
+claimed_both : (k : ℕ) (x : List ℕ) (xs ys : List Point) → times_claimed k x (xs ++ ys) ≡ times_claimed k x xs + times_claimed k x ys
+claimed_both k x [] ys = omega arith
+claimed_both k x (z ∷ zs) ys = let h = claimed_both k x zs ys in omega (arith, h)
+
+if_both : (a b : Bool) → cond a b false ≡ true → (a ≡ true) × (b ≡ true)
+if_both true b e = (refl, e)
+if_both false b e = absurd (let n : false ≡ true = e in cc)
+
+same_naming : (k : ℕ) (x : List ℕ) (c : Claim) → same_claim (naming k x) c ≡ true → c ≡ naming k x
+same_naming k x (naming j y) e =
+    let h = if_both (k == j) (bytes_eq x y) e in
+    let same : j ≡ k = sym (eqb-true k j h.0) in
+    let name : y ≡ x = sym ((bytes_eq-Decides x y).0 h.1) in
+    ap (λ n. naming n y) same ∙ ap (λ z. naming k z) name
+same_naming k x _ e = absurd (let n : false ≡ true = e in cc)
+
+naming_same : (k : ℕ) (x : List ℕ) → same_claim (naming k x) (naming k x) ≡ true
+naming_same k x = ap (λ (b : Bool). cond b (bytes_eq x x) false) (eq-eqb k k refl) ∙ (bytes_eq-Decides x x).1 refl
+
+no_fault : (q : Bool) (f : Fault) (fs : List Fault) → cond q (f ∷ []) [] ++ fs ≡ [] → (q ≡ false) × (fs ≡ [])
+no_fault true f fs e = absurd (cc)
+no_fault false f fs e = (refl, e)
+
+claimed_first : (q : Bool) (c : Claim) (cs : List Claim) → q ≡ false → cond q cs (c ∷ cs) ≡ c ∷ cs
+claimed_first true c cs e = absurd (let n : true ≡ false = e in cc)
+claimed_first false c cs e = refl
+
+claimed_more : (c d : Claim) (cs : List Claim) → is_claimed c cs ≡ true → is_claimed c (d ∷ cs) ≡ true
+claimed_more c d cs h = pick (same_claim c d)
+  where
+    pick : (q : Bool) → cond q true (is_claimed c cs) ≡ true
+    pick true = refl
+    pick false = h
+
+claimed_here : (c : Claim) (cs : List Claim) → same_claim c c ≡ true → is_claimed c (c ∷ cs) ≡ true
+claimed_here c cs h = ap (λ (q : Bool). cond q true (is_claimed c cs)) h
+
+-- what was claimed before is not claimed again
+never_again : (k : ℕ) (x : List ℕ) (xs : List Point) (cs : List Claim) → Clean cs xs → is_claimed (naming k x) cs ≡ true → times_claimed k x xs ≡ 0
+never_again k x [] cs h e = refl
+never_again k x (meaning b ∷ xs) cs h e = let g = never_again k x xs cs h e in omega (arith, g)
+never_again k x (word v ∷ xs) cs h e = let g = never_again k x xs cs h e in omega (arith, g)
+never_again k x (depth d ∷ xs) cs h e = let g = never_again k x xs cs h e in omega (arith, g)
+never_again k x (wrong f ∷ xs) cs h e = absurd (let n : f ∷ judged cs xs ≡ [] = h in cc)
+never_again k x (claim c f ∷ xs) cs h e =
+    let g = no_fault (is_claimed c cs) f (judged (claimed c cs) xs) h in
+    let new = claimed_first (is_claimed c cs) c cs g.0 in
+    let rest = never_again k x xs (claimed c cs) g.1 (subst (λ ds. is_claimed (naming k x) ds ≡ true) (sym new) (claimed_more (naming k x) c cs e)) in
+    pick (same_claim (naming k x) c) refl g.0 rest
+  where
+    pick : (q : Bool) → same_claim (naming k x) c ≡ q → is_claimed c cs ≡ false → times_claimed k x xs ≡ 0 → times_claimed k x (claim c f ∷ xs) ≡ 0
+    pick true same fresh rest = absurd (let n : true ≡ false = sym e ∙ sym (ap (λ d. is_claimed d cs) (same_naming k x c same)) ∙ fresh in cc)
+    pick false same fresh rest = let none : bit (same_claim (naming k x) c) ≡ 0 = ap bit same in omega (arith, none, rest)
+
+claimed_at_most_once : (k : ℕ) (x : List ℕ) (xs : List Point) (cs : List Claim) → Clean cs xs → times_claimed k x xs ≤ 1
+claimed_at_most_once k x [] cs h = omega arith
+claimed_at_most_once k x (meaning b ∷ xs) cs h = let g = claimed_at_most_once k x xs cs h in omega (arith, g)
+claimed_at_most_once k x (word v ∷ xs) cs h = let g = claimed_at_most_once k x xs cs h in omega (arith, g)
+claimed_at_most_once k x (depth d ∷ xs) cs h = let g = claimed_at_most_once k x xs cs h in omega (arith, g)
+claimed_at_most_once k x (wrong f ∷ xs) cs h = absurd (let n : f ∷ judged cs xs ≡ [] = h in cc)
+claimed_at_most_once k x (claim c f ∷ xs) cs h =
+    let g = no_fault (is_claimed c cs) f (judged (claimed c cs) xs) h in
+    let new = claimed_first (is_claimed c cs) c cs g.0 in
+    pick (same_claim (naming k x) c) refl (claimed_at_most_once k x xs (claimed c cs) g.1)
+    (λ same. never_again k x xs (claimed c cs) g.1 (subst (λ ds. is_claimed (naming k x) ds ≡ true) (sym new)
+    (subst (λ d. is_claimed (naming k x) (d ∷ cs) ≡ true) (sym (same_naming k x c same)) (claimed_here (naming k x) cs (naming_same k x)))))
+  where
+    pick : (q : Bool) → same_claim (naming k x) c ≡ q → times_claimed k x xs ≤ 1 → (same_claim (naming k x) c ≡ true → times_claimed k x xs ≡ 0) → times_claimed k x (claim c f ∷ xs) ≤ 1
+    pick true same low gone = let z = gone same in let one : bit (same_claim (naming k x) c) ≡ 1 = ap bit same in omega (arith, one, z)
+    pick false same low gone = let zero : bit (same_claim (naming k x) c) ≡ 0 = ap bit same in omega (arith, zero, low)
+
+-- names, each claimed in list k
+abbrev name_times : ℕ → List ℕ → List (List ℕ) → ℕ
+name_times k y [] = 0
+name_times k y (x ∷ xs) = bit (same_claim (naming k y) (naming k x)) + name_times k y xs
+
+names_both : (k : ℕ) (y : List ℕ) (xs ys : List (List ℕ)) → name_times k y (xs ++ ys) ≡ name_times k y xs + name_times k y ys
+names_both k y [] ys = omega arith
+names_both k y (x ∷ xs) ys = let h = names_both k y xs ys in omega (arith, h)
+
+abbrev Distinct : List (List ℕ) → Type 0
+Distinct [] = ⊤
+Distinct (x ∷ xs) = (Among x xs → ⊥) × Distinct xs
+
+among_times : (k : ℕ) (y : List ℕ) (xs : List (List ℕ)) → Among y xs → 1 ≤ name_times k y xs
+among_times k y [] h = elim h [ ]
+among_times k y (x ∷ xs) (inl same) =
+    let one : bit (same_claim (naming k y) (naming k x)) ≡ 1 = ap bit (subst (λ z. same_claim (naming k y) (naming k z) ≡ true) (sym same) (naming_same k y)) in omega (arith, one)
+among_times k y (x ∷ xs) (inr h) = let g = among_times k y xs h in omega (arith, g)
+
+distinct_names : (k : ℕ) (xs : List (List ℕ)) → ((y : List ℕ) → name_times k y xs ≤ 1) → Distinct xs
+distinct_names k [] h = tt
+distinct_names k (x ∷ xs) h =
+    let one : bit (same_claim (naming k x) (naming k x)) ≡ 1 = ap bit (naming_same k x) in
+    let low = h x in
+    (λ among. let many = among_times k x xs among in absurd (omega (arith, one, low, many)), distinct_names k xs (λ y. let g = h y in omega (arith, g)))
+
+-- the labels of some commands are claimed by them
+mutual
+  labels_claimed : (y : List ℕ) (bs : List Binding) (p : Place) (s : Spot) (c : Action) → name_times p.labels y (labels_of c) ≤ times_claimed p.labels y (told_done bs p s c)
+  labels_claimed y bs p s (label l x c) = let h = labels_claimed y bs p (past 1 s) c in simp (claimed_both) (omega (arith, h))
+  labels_claimed y bs p s (case_of l e c) = let h = labels_claimed y bs p (behind_constant e (past 1 s)) c in simp (claimed_both) (omega (arith, h))
+  labels_claimed y bs p s (default l c) = let h = labels_claimed y bs p (past 1 s) c in simp (claimed_both) (omega (arith, h))
+  labels_claimed y bs p s (when l b e c) = let h = labels_claimed y bs p (behind e s) c in simp (claimed_both) (omega (arith, h))
+  labels_claimed y bs p s (test l e a b) =
+      let h = labels_claimed y bs p (behind e s) a in let i = labels_claimed y bs p (behind_done a (behind e s)) b in simp (claimed_both, names_both) (omega (arith, h, i))
+  labels_claimed y bs p s (while l b e c) = let h = labels_claimed y bs (looping p) (behind e s) c in simp (claimed_both) (omega (arith, h))
+  labels_claimed y bs p s (switch l e c) = let h = labels_claimed y bs (switching (behind e s).number p) (spots.numbered 1 (behind e s)) c in simp (claimed_both) (omega (arith, h))
+  labels_claimed y bs p s (block l no_declarations cs) = labels_claimed_each y bs p s cs
+  labels_claimed y bs p s (block l (declare x xs) cs) = omega arith
+  labels_claimed y bs p s (repeat l c) = labels_claimed y bs (looping p) s c
+  labels_claimed y bs p s (repeat_while l b c e) = let h = labels_claimed y bs (looping p) s c in simp (claimed_both) (omega (arith, h))
+  labels_claimed y bs p s empty = omega arith
+  labels_claimed y bs p s (assign l xs es) = omega arith
+  labels_claimed y bs p s (call l e es) = omega arith
+  labels_claimed y bs p s (goto l x) = omega arith
+  labels_claimed y bs p s (for_loop l x a b k c) = omega arith
+  labels_claimed y bs p s (result l e) = omega arith
+  labels_claimed y bs p s (simple l k) = omega arith
+
+  labels_claimed_each : (y : List ℕ) (bs : List Binding) (p : Place) (s : Spot) (cs : Actions) → name_times p.labels y (labels_of_each cs) ≤ times_claimed p.labels y (told_done_each bs p s cs)
+  labels_claimed_each y bs p s no_actions = omega arith
+  labels_claimed_each y bs p s (also c cs) =
+      let h = labels_claimed y bs p s c in let i = labels_claimed_each y bs p (behind_done c s) cs in simp (claimed_both, names_both) (omega (arith, h, i))
+
+labels_distinct : (bs : List Binding) (p : Place) (s : Spot) (c : Action) → Quiet (told_done bs p s c) → Distinct (labels_of c)
+labels_distinct bs p s c f =
+    distinct_names p.labels (labels_of c) (λ y. let h = labels_claimed y bs p s c in let i = claimed_at_most_once p.labels y (told_done bs p s c) f.claims f.clean in omega (arith, h, i))
+
+labels_distinct_each : (bs : List Binding) (p : Place) (s : Spot) (cs : Actions) → Quiet (told_done_each bs p s cs) → Distinct (labels_of_each cs)
+labels_distinct_each bs p s cs f =
+    distinct_names p.labels (labels_of_each cs) (λ y. let h = labels_claimed_each y bs p s cs in let i = claimed_at_most_once p.labels y (told_done_each bs p s cs) f.claims f.clean in omega (arith, h, i))
+
+-- the procedures of a LET
+abbrev procedure_names : Definitions → List (List ℕ)
+procedure_names no_definitions = []
+procedure_names (define (routine l x fs c) ds) = x ∷ procedure_names ds
+procedure_names (define (function l x fs e) ds) = x ∷ procedure_names ds
+procedure_names (define (variables l xs is) ds) = procedure_names ds
+
+procedures_claimed : (m : ℕ) (y : List ℕ) (bs : List Binding) (p : Place) (s : Spot) (ds : Definitions) → name_times m y (procedure_names ds) ≤ times_claimed m y (told_defined m bs p s ds)
+procedures_claimed m y bs p s no_definitions = omega arith
+procedures_claimed m y bs p s (define (routine l x fs c) ds) = let h = procedures_claimed m y bs p (behind_one_defined (routine l x fs c) s) ds in simp (claimed_both) (omega (arith, h))
+procedures_claimed m y bs p s (define (function l x fs e) ds) = let h = procedures_claimed m y bs p (behind_one_defined (function l x fs e) s) ds in simp (claimed_both) (omega (arith, h))
+procedures_claimed m y bs p s (define (variables l xs is) ds) =
+    let h = procedures_claimed m y bs (place_behind_one_defined bs p (variables l xs is)) (behind_one_defined (variables l xs is) s) ds in simp (claimed_both) (omega (arith, h))
+
+procedures_distinct : (m : ℕ) (bs : List Binding) (p : Place) (s : Spot) (ds : Definitions) → Quiet (told_defined m bs p s ds) → Distinct (procedure_names ds)
+procedures_distinct m bs p s ds f =
+    distinct_names m (procedure_names ds) (λ y. let h = procedures_claimed m y bs p s ds in let i = claimed_at_most_once m y (told_defined m bs p s ds) f.claims f.clean in omega (arith, h, i))
+
+-- the numbers of names in scope
+abbrev label_number : ℕ → Option Bound → ℕ
+label_number m (Some (Label j i)) = sets m (Some i)
+label_number m _ = 0
+
+abbrev own_labels : ℕ → List Binding → List (List ℕ) → ℕ
+own_labels m bs [] = 0
+own_labels m bs (x ∷ xs) = label_number m (bound_in bs x) + own_labels m bs xs
+
+own_both : (m : ℕ) (bs : List Binding) (xs ys : List (List ℕ)) → own_labels m bs (xs ++ ys) ≡ own_labels m bs xs + own_labels m bs ys
+own_both m bs [] ys = omega arith
+own_both m bs (x ∷ xs) ys = let h = own_both m bs xs ys in omega (arith, h)
+
+bound_first : (x : List ℕ) (b : Bound) (bs : List Binding) → bound_in (bind x b bs) x ≡ Some b
+bound_first x b bs = ap (λ (q : Bool). cond q (Some b) (bound_in bs x)) ((bytes_eq-Decides x x).1 refl)
+
+label_stays : (k n : ℕ) (x : List ℕ) (xs : List (List ℕ)) (bs : List Binding) → (Among x xs → ⊥) → bound_in (labels_in_scope k n xs bs) x ≡ bound_in bs x
+label_stays k n x xs bs apart = elim (look_label k n xs bs x) [ inl same ↦ same | inr h ↦ absurd (apart h.0) ]
+
+labels_numbered : (m k n : ℕ) (xs : List (List ℕ)) (bs : List Binding) → Distinct xs → own_labels m (labels_in_scope k n xs bs) xs + beyond m (n + length xs) ≤ beyond m n
+labels_numbered m k n [] bs h = omega arith
+labels_numbered m k n (x ∷ xs) bs h =
+    let cs = bind x (Label k n) bs in
+    let i = labels_numbered m k (n + 1) xs cs h.1 in
+    let first : label_number m (bound_in (labels_in_scope k (n + 1) xs cs) x) ≡ sets m (Some n) = ap (label_number m) (label_stays k (n + 1) x xs cs h.0 ∙ bound_first x (Label k n) bs) in
+    let o = own m n in omega (arith, i, first, o)
+
+abbrev static_number : ℕ → Option Bound → ℕ
+static_number m (Some (Static i)) = sets m (Some i)
+static_number m _ = 0
+
+abbrev own_procedures : ℕ → List Binding → Definitions → ℕ
+own_procedures m bs no_definitions = 0
+own_procedures m bs (define (routine l x fs c) ds) = static_number m (bound_in bs x) + own_procedures m bs ds
+own_procedures m bs (define (function l x fs e) ds) = static_number m (bound_in bs x) + own_procedures m bs ds
+own_procedures m bs (define (variables l xs is) ds) = own_procedures m bs ds
+
+among_named : (y : List ℕ) (ds : Definitions) → AmongProcedures y ds → Among y (procedure_names ds)
+among_named y no_definitions h = h
+among_named y (define (routine l x fs c) ds) (inl e) = inl e
+among_named y (define (routine l x fs c) ds) (inr h) = inr (among_named y ds h)
+among_named y (define (function l x fs e) ds) (inl i) = inl i
+among_named y (define (function l x fs e) ds) (inr h) = inr (among_named y ds h)
+among_named y (define (variables l xs is) ds) h = among_named y ds h
+
+procedure_stays : (n : ℕ) (x : List ℕ) (ds : Definitions) (bs : List Binding) → (Among x (procedure_names ds) → ⊥) → bound_in (procedures_in_scope n ds bs) x ≡ bound_in bs x
+procedure_stays n x ds bs apart = elim (look_procedure n ds bs x) [ inl same ↦ same | inr h ↦ absurd (apart (among_named x ds h.0)) ]
+
+global_none : (m : ℕ) (y : Option Bound) → is_global y ≡ true → static_number m y ≡ 0
+global_none m (Some (Global g)) e = refl
+global_none m None e = refl
+global_none m (Some (Static i)) e = absurd (let n : false ≡ true = e in cc)
+global_none m (Some (Constant v)) e = refl
+global_none m (Some (Variable j i)) e = refl
+global_none m (Some (Label j i)) e = refl
+
+procedure_number : (m n : ℕ) (x : List ℕ) (bs : List Binding) (g : Bool) → is_global (bound_in bs x) ≡ g → static_number m (bound_in (cond g bs (bind x (Static n) bs)) x) ≤ sets m (Some n)
+procedure_number m n x bs true e = let h = global_none m (bound_in bs x) e in omega (arith, h)
+procedure_number m n x bs false e = let h : static_number m (bound_in (bind x (Static n) bs) x) ≡ sets m (Some n) = ap (static_number m) (bound_first x (Static n) bs) in omega (arith, h)
+
+procedures_numbered : (m n : ℕ) (ds : Definitions) (bs : List Binding) → Distinct (procedure_names ds) → own_procedures m (procedures_in_scope n ds bs) ds + beyond m (n + procedures_in ds) ≤ beyond m n
+procedures_numbered m n no_definitions bs h = omega arith
+procedures_numbered m n (define (routine l x fs c) ds) bs h =
+    let cs = procedure_in_scope n x bs in
+    let i = procedures_numbered m (n + 1) ds cs h.1 in
+    let first : static_number m (bound_in (procedures_in_scope (n + 1) ds cs) x) ≡ static_number m (bound_in cs x) = ap (static_number m) (procedure_stays (n + 1) x ds cs h.0) in
+    let low = procedure_number m n x bs (is_global (bound_in bs x)) refl in
+    let o = own m n in omega (arith, i, first, low, o)
+procedures_numbered m n (define (function l x fs e) ds) bs h =
+    let cs = procedure_in_scope n x bs in
+    let i = procedures_numbered m (n + 1) ds cs h.1 in
+    let first : static_number m (bound_in (procedures_in_scope (n + 1) ds cs) x) ≡ static_number m (bound_in cs x) = ap (static_number m) (procedure_stays (n + 1) x ds cs h.0) in
+    let low = procedure_number m n x bs (is_global (bound_in bs x)) refl in
+    let o = own m n in omega (arith, i, first, low, o)
+procedures_numbered m n (define (variables l xs is) ds) bs h = procedures_numbered m n ds bs h
+
+no_more : (n : ℕ) → n + 0 ≡ n
+no_more n = omega arith
+
+-- targets
+label_target : (m n d : ℕ) (y : Option Bound) → numbered m (target_of_label n d (meant y)) ≤ label_number m y
+label_target m n d None = omega arith
+label_target m n d (Some (Label j i)) = omega arith
+label_target m n d (Some (Constant v)) = omega arith
+label_target m n d (Some (Global g)) = omega arith
+label_target m n d (Some (Static i)) = omega arith
+label_target m n d (Some (Variable j i)) = omega arith
+
+word_target : (m n : ℕ) (y : Option Bound) → numbered m (target_of_word n (meant y)) ≤ static_number m y
+word_target m n None = omega arith
+word_target m n (Some (Label j i)) = omega arith
+word_target m n (Some (Constant v)) = omega arith
+word_target m n (Some (Global g)) = omega arith
+word_target m n (Some (Static i)) = omega arith
+word_target m n (Some (Variable j i)) = omega arith
+
+items_numbered : (m : ℕ) (bs : List Binding) (s : Spot) (is : Items) (n : ℕ) → parts_numbered m (parts_of_items n (statics_named bs s is)) + beyond m (s.number + numbers_items sort.Static is) ≤ beyond m s.number
+items_numbered m bs s no_items n = omega arith
+items_numbered m bs s (item l x e is) n =
+    let h = items_numbered m bs (spots.numbered 1 (behind_constant e (past 1 s))) is (n + 1) in let o = own m s.number in omega (arith, h, o)
+
+-- EACH NODE: the numbers of its targets are those of labels around, and others from its own place on, each once
+mutual
+  count_term : (m : ℕ) (bs : List Binding) (p : Place) (s : Spot) (e : Expression) (d n : ℕ) → Quiet (told Value bs p s e) → parts_numbered m (parts d n (term_named bs p s e)) + beyond m (s.number + numbers e) ≤ beyond m s.number
+  count_term m bs p s (name l x) d n f = omega arith
+  count_term m bs p s (number l v) d n f = omega arith
+  count_term m bs p s (text l v) d n f = omega arith
+  count_term m bs p s (truth l v) d n f = omega arith
+  count_term m bs p s (query l) d n f = omega arith
+  count_term m bs p s (table l es) d n f = omega arith
+  count_term m bs p s (unary l sign.Address e) d n f = let h = count_at m bs p (past 1 s) (Address false (line_of e)) e d n (quiet_back (prefixed sign.Address bs (past 1 s) e) _ f) in omega (arith, h)
+  count_term m bs p s (unary l sign.Contents e) d n f = let h = count_term m bs p (past 1 s) e d n f in omega (arith, h)
+  count_term m bs p s (unary l sign.Plus e) d n f = let h = count_term m bs p (past 1 s) e d n f in omega (arith, h)
+  count_term m bs p s (unary l sign.Minus e) d n f = let h = count_term m bs p (past 1 s) e d n f in omega (arith, h)
+  count_term m bs p s (choice l k c x y) d n f =
+      let u : Spot = past 1 (behind c s) in
+      let j = n + 2 + labels_if (condition_named bs p s c) in
+      let xs = told Truth bs p s c in
+      let ys = told Value bs p u x in
+      let h = count_if m bs p s c d (n + 2) (quiet_front xs ys (quiet_front (xs ++ ys) _ f)) in
+      let i = count_term m bs p u x d j (quiet_back xs ys (quiet_front (xs ++ ys) _ f)) in
+      let q = count_term m bs p (behind x u) y d (j + labels (term_named bs p u x)) (quiet_back (xs ++ ys) _ f) in
+      simp (numbered_both) (omega (arith, h, i, q))
+  count_term m bs p s (apply l k e es) d n f =
+      let u : Spot = (past 1 (behind e s)) in
+      let z : Place = deeper (size es + 2) p in
+      let v = term_named bs z s e in
+      let vs = terms_named 1 bs (deeper 2 p) u es in
+      let h = count_term m bs z s e (d + 2 + count vs) n (quiet_front (told Value bs z s e) _ f) in
+      let i = count_each m bs (deeper 2 p) u es (d + 2) (n + labels v) (quiet_back (told Value bs z s e) _ f) in simp (numbered_both) (omega (arith, h, i))
+  count_term m bs p s (valof l c) d n f =
+      let cs = labels_in_scope p.procedure (s.number + 1) (labels_of c) bs in
+      let g : Place = labelled s.number (valued p) in
+      let u : Spot = onward 1 (1 + length (labels_of c)) s in
+      let body = quiet_front (told_done cs g u c) (pushed p 1) f in
+      let h = count_in m cs g u c d (n + 1) body in
+      let i = labels_numbered m p.procedure (s.number + 1) (labels_of c) bs (labels_distinct cs g u c body) in omega (arith, h, i)
+  count_term m bs p s (parens l e) d n f = let h = count_term m bs p (past 1 s) e d n f in omega (arith, h)
+  count_term m bs p s (unary l sign.Not e) d n f = let h = count_term m bs p (past 1 s) e d n f in omega (arith, h)
+  count_term m bs p s (binary l o.Both k x y) d n f =
+      let u : Spot = past 1 (behind x s) in
+      let h = count_term m bs p s x d n (quiet_front (told Value bs p s x) _ f) in
+      let i = count_term m bs (deeper 1 p) u y (d + 1) (n + labels (term_named bs p s x)) (quiet_back (told Value bs p s x) _ f) in simp (numbered_both) (omega (arith, h, i))
+  count_term m bs p s (binary l o.Either k x y) d n f =
+      let u : Spot = past 1 (behind x s) in
+      let h = count_term m bs p s x d n (quiet_front (told Value bs p s x) _ f) in
+      let i = count_term m bs (deeper 1 p) u y (d + 1) (n + labels (term_named bs p s x)) (quiet_back (told Value bs p s x) _ f) in simp (numbered_both) (omega (arith, h, i))
+  count_term m bs p s (binary l z k x y) d n f =
+      let u : Spot = past 1 (behind x s) in
+      let h = count_term m bs p s x d n (quiet_front (told Value bs p s x) _ f) in
+      let i = count_term m bs (deeper 1 p) u y (d + 1) (n + labels (term_named bs p s x)) (quiet_back (told Value bs p s x) _ f) in simp (numbered_both) (omega (arith, h, i))
+
+  count_if : (m : ℕ) (bs : List Binding) (p : Place) (s : Spot) (e : Expression) (d n : ℕ) → Quiet (told Truth bs p s e) → parts_numbered m (parts_if d n (condition_named bs p s e)) + beyond m (s.number + numbers e) ≤ beyond m s.number
+  count_if m bs p s (name l x) d n f = omega arith
+  count_if m bs p s (number l v) d n f = omega arith
+  count_if m bs p s (text l v) d n f = omega arith
+  count_if m bs p s (truth l v) d n f = omega arith
+  count_if m bs p s (query l) d n f = omega arith
+  count_if m bs p s (table l es) d n f = omega arith
+  count_if m bs p s (unary l sign.Address e) d n f = let h = count_at m bs p (past 1 s) (Address false (line_of e)) e d n (quiet_back (prefixed sign.Address bs (past 1 s) e) _ f) in omega (arith, h)
+  count_if m bs p s (unary l sign.Contents e) d n f = let h = count_term m bs p (past 1 s) e d n f in omega (arith, h)
+  count_if m bs p s (unary l sign.Plus e) d n f = let h = count_term m bs p (past 1 s) e d n f in omega (arith, h)
+  count_if m bs p s (unary l sign.Minus e) d n f = let h = count_term m bs p (past 1 s) e d n f in omega (arith, h)
+  count_if m bs p s (choice l k c x y) d n f =
+      let u : Spot = past 1 (behind c s) in
+      let j = n + 2 + labels_if (condition_named bs p s c) in
+      let xs = told Truth bs p s c in
+      let ys = told Value bs p u x in
+      let h = count_if m bs p s c d (n + 2) (quiet_front xs ys (quiet_front (xs ++ ys) _ f)) in
+      let i = count_term m bs p u x d j (quiet_back xs ys (quiet_front (xs ++ ys) _ f)) in
+      let q = count_term m bs p (behind x u) y d (j + labels (term_named bs p u x)) (quiet_back (xs ++ ys) _ f) in
+      simp (numbered_both) (omega (arith, h, i, q))
+  count_if m bs p s (apply l k e es) d n f =
+      let u : Spot = (past 1 (behind e s)) in
+      let z : Place = deeper (size es + 2) p in
+      let v = term_named bs z s e in
+      let vs = terms_named 1 bs (deeper 2 p) u es in
+      let h = count_term m bs z s e (d + 2 + count vs) n (quiet_front (told Value bs z s e) _ f) in
+      let i = count_each m bs (deeper 2 p) u es (d + 2) (n + labels v) (quiet_back (told Value bs z s e) _ f) in simp (numbered_both) (omega (arith, h, i))
+  count_if m bs p s (valof l c) d n f =
+      let cs = labels_in_scope p.procedure (s.number + 1) (labels_of c) bs in
+      let g : Place = labelled s.number (valued p) in
+      let u : Spot = onward 1 (1 + length (labels_of c)) s in
+      let body = quiet_front (told_done cs g u c) (pushed p 1) f in
+      let h = count_in m cs g u c d (n + 1) body in
+      let i = labels_numbered m p.procedure (s.number + 1) (labels_of c) bs (labels_distinct cs g u c body) in omega (arith, h, i)
+  count_if m bs p s (parens l e) d n f = let h = count_if m bs p (past 1 s) e d n f in omega (arith, h)
+  count_if m bs p s (unary l sign.Not e) d n f = let h = count_if m bs p (past 1 s) e d n f in omega (arith, h)
+  count_if m bs p s (binary l o.Both k x y) d n f =
+      let u : Spot = past 1 (behind x s) in
+      let h = count_if m bs p s x d (n + 1) (quiet_front (told Truth bs p s x) _ f) in
+      let i = count_if m bs p u y d (n + 1 + labels_if (condition_named bs p s x)) (quiet_back (told Truth bs p s x) _ f) in simp (numbered_both) (omega (arith, h, i))
+  count_if m bs p s (binary l o.Either k x y) d n f =
+      let u : Spot = past 1 (behind x s) in
+      let h = count_if m bs p s x d (n + 1) (quiet_front (told Truth bs p s x) _ f) in
+      let i = count_if m bs p u y d (n + 1 + labels_if (condition_named bs p s x)) (quiet_back (told Truth bs p s x) _ f) in simp (numbered_both) (omega (arith, h, i))
+  count_if m bs p s (binary l z k x y) d n f =
+      let u : Spot = past 1 (behind x s) in
+      let h = count_term m bs p s x d n (quiet_front (told Value bs p s x) _ f) in
+      let i = count_term m bs (deeper 1 p) u y (d + 1) (n + labels (term_named bs p s x)) (quiet_back (told Value bs p s x) _ f) in simp (numbered_both) (omega (arith, h, i))
+
+  count_each : (m : ℕ) (bs : List Binding) (p : Place) (s : Spot) (es : Expressions) (d n : ℕ) → Quiet (told_each 1 bs p s es) → parts_numbered m (parts_each d n (terms_named 1 bs p s es)) + beyond m (s.number + numbers_each es) ≤ beyond m s.number
+  count_each m bs p s none d n f = omega arith
+  count_each m bs p s (more e es) d n f =
+      let h = count_term m bs p s e d n (quiet_front (told Value bs p s e) _ f) in
+      let i = count_each m bs (deeper 1 p) (behind e s) es (d + 1) (n + labels (term_named bs p s e)) (quiet_back (told Value bs p s e) _ f) in simp (numbered_both) (omega (arith, h, i))
+
+  count_from : (m : ℕ) (bs : List Binding) (p : Place) (s : Spot) (es : Expressions) (d n : ℕ) → Quiet (told_each 0 bs p s es) → parts_numbered m (parts_from d n (terms_named 0 bs p s es)) + beyond m (s.number + numbers_each es) ≤ beyond m s.number
+  count_from m bs p s none d n f = omega arith
+  count_from m bs p s (more e es) d n f =
+      let h = count_term m bs p s e d n (quiet_front (told Value bs p s e) _ f) in
+      let i = count_from m bs (deeper 0 p) (behind e s) es d (n + labels (term_named bs p s e)) (quiet_back (told Value bs p s e) _ f) in simp (numbered_both) (omega (arith, h, i))
+
+  count_at : (m : ℕ) (bs : List Binding) (p : Place) (s : Spot) (g : Role) (e : Expression) (d n : ℕ) → Quiet (told g bs p s e) → parts_numbered m (parts_at d n (lvalue_named bs p s e)) + beyond m (s.number + numbers e) ≤ beyond m s.number
+  count_at m bs p s g (name l x) d n f = omega arith
+  count_at m bs p s g (parens l e) d n f = let h = count_at m bs p (past 1 s) (parenthesised g) e d n f in omega (arith, h)
+  count_at m bs p s g (unary l sign.Contents e) d n f = let h = count_term m bs p (past 1 s) e d n f in omega (arith, h)
+  count_at m bs p s g (binary l o.Subscript k x y) d n f =
+      let u : Spot = past 1 (behind x s) in
+      let h = count_term m bs p s x d n (quiet_front (told Value bs p s x) _ f) in
+      let i = count_term m bs (deeper 1 p) u y (d + 1) (n + labels (term_named bs p s x)) (quiet_back (told Value bs p s x) _ f) in simp (numbered_both) (omega (arith, h, i))
+  count_at m bs p s g (binary l o.Byte k x y) d n f =
+      let u : Spot = past 1 (behind x s) in
+      let h = count_term m bs p s x d n (quiet_front (told Value bs p s x) _ f) in
+      let i = count_term m bs (deeper 1 p) u y (d + 1) (n + labels (term_named bs p s x)) (quiet_back (told Value bs p s x) _ f) in simp (numbered_both) (omega (arith, h, i))
+  count_at m bs p s g e d n f = omega arith
+
+  count_onto : (m : ℕ) (bs : List Binding) (p : Place) (s : Spot) (xs : Expressions) (d n : ℕ) → Quiet (told_destinations bs p s xs) → parts_numbered m (parts_onto d n (lvalues_named bs p s xs)) + beyond m (s.number + numbers_each xs) ≤ beyond m s.number
+  count_onto m bs p s none d n f = omega arith
+  count_onto m bs p s (more x xs) d n f =
+      let us : List Point = unless (assigned bs x) (at s.place (line_of x) not_assignable) in
+      let vs = told (Destination false (line_of x)) bs p s x in
+      let h = count_at m bs p s (Destination false (line_of x)) x d n (quiet_back us vs (quiet_front (us ++ vs) _ f)) in
+      let i = count_onto m bs p (behind x s) xs d (n + labels_at (lvalue_named bs p s x)) (quiet_back (us ++ vs) _ f) in simp (numbered_both) (omega (arith, h, i))
+
+  count_in : (m : ℕ) (bs : List Binding) (p : Place) (s : Spot) (c : Action) (d n : ℕ) → Quiet (told_done bs p s c) → parts_numbered m (parts_in d n (command_named bs p s c)) + beyond m (s.number + numbers_done c) ≤ beyond m s.number + own_labels m bs (labels_of c)
+  count_in m bs p s empty d n f = omega arith
+  count_in m bs p s (assign l xs es) d n f =
+      let v = lvalues_named bs (deeper 1 p) s xs in
+      let h = count_onto m bs (deeper 1 p) s xs (d + 1) n (quiet_front (told_destinations bs (deeper 1 p) s xs) _ f) in
+      let i = count_from m bs p (behind_each xs s) es d (n + labels_onto v) (quiet_back (told_destinations bs (deeper 1 p) s xs) _ f) in simp (numbered_both) (omega (arith, h, i))
+  count_in m bs p s (call l e es) d n f =
+      let u : Spot = behind e s in
+      let z : Place = deeper (size es + 2) p in
+      let v = term_named bs z s e in
+      let vs = terms_named 1 bs (deeper 2 p) u es in
+      let h = count_term m bs z s e (d + 2 + count vs) n (quiet_front (told Value bs z s e) _ f) in
+      let i = count_each m bs (deeper 2 p) u es (d + 2) (n + labels v) (quiet_back (told Value bs z s e) _ f) in simp (numbered_both) (omega (arith, h, i))
+  count_in m bs p s (goto l x) d n f = omega arith
+  count_in m bs p s (label l x c) d n f =
+      let h = count_in m bs p (past 1 s) c d (n + 1) (quiet_back (one_of p.labels s.place l x ++ its_meaning (bound_in bs x)) _ f) in let i = label_target m n d (bound_in bs x) in omega (arith, h, i)
+  count_in m bs p s (case_of l e c) d n f =
+      let h = count_in m bs p (behind_constant e (past 1 s)) c d (n + 1) (quiet_back (chosen_at p.switch s.place l (constant_word bs e) ++ constant bs p.procedure (past 1 s) e) _ f) in omega (arith, h)
+  count_in m bs p s (default l c) d n f = let h = count_in m bs p (past 1 s) c d (n + 1) (quiet_back (defaulted_at p.switch s.place l) _ f) in omega (arith, h)
+  count_in m bs p s (when l z e c) d n f =
+      let h = count_if m bs p s e d (n + 1) (quiet_front (told Truth bs p s e) _ f) in
+      let i = count_in m bs p (behind e s) c d (n + 1 + labels_if (condition_named bs p s e)) (quiet_back (told Truth bs p s e) _ f) in simp (numbered_both) (omega (arith, h, i))
+  count_in m bs p s (test l e x y) d n f =
+      let xs = told Truth bs p s e in
+      let ys = told_done bs p (behind e s) x in
+      let j = n + 2 + labels_if (condition_named bs p s e) in
+      let h = count_if m bs p s e d (n + 2) (quiet_front xs ys (quiet_front (xs ++ ys) _ f)) in
+      let i = count_in m bs p (behind e s) x d j (quiet_back xs ys (quiet_front (xs ++ ys) _ f)) in
+      let q = count_in m bs p (behind_done x (behind e s)) y d (j + labels_in (command_named bs p (behind e s) x)) (quiet_back (xs ++ ys) _ f) in
+      simp (numbered_both, own_both) (omega (arith, h, i, q))
+  count_in m bs p s (while l z e c) d n f =
+      let h = count_if m bs p s e d (n + 3) (quiet_front (told Truth bs p s e) _ f) in
+      let i = count_in m bs (looping p) (behind e s) c d (n + 3 + labels_if (condition_named bs p s e)) (quiet_back (told Truth bs p s e) _ f) in simp (numbered_both) (omega (arith, h, i))
+  count_in m bs p s (for_loop l x e y k c) d n f =
+      let u : Spot = onward (symbols_each k) 0 (behind y (behind e s)) in
+      let g : Place = labelled u.number (looping (deeper 2 p)) in
+      let cs = bind x.letters (Variable p.procedure p.depth) bs in
+      let ds = labels_in_scope p.procedure (u.number + 1) (labels_of c) cs in
+      let i : Spot = spots.numbered (1 + length (labels_of c)) u in
+      let start = told Value bs p s e in
+      let limit = told Value bs (deeper 1 p) (behind e s) y in
+      let steps = each_constant bs p.procedure (behind y (behind e s)) k in
+      let heads = quiet_front (start ++ limit) steps (quiet_front (start ++ limit ++ steps) (pushed p 4) (quiet_front (start ++ limit ++ steps ++ pushed p 4) (told_done ds g i c) f)) in
+      let body = quiet_back (start ++ limit ++ steps ++ pushed p 4) (told_done ds g i c) f in
+      let j = n + 4 + labels (term_named bs p s e) in
+      let a = count_term m bs p s e d (n + 4) (quiet_front start limit heads) in
+      let b = count_term m bs (deeper 1 p) (behind e s) y (d + 1) j (quiet_back start limit heads) in
+      let h = count_in m ds g i c (d + 2) (j + labels (term_named bs (deeper 1 p) (behind e s) y)) body in
+      let q = labels_numbered m p.procedure (u.number + 1) (labels_of c) cs (labels_distinct ds g i c body) in simp (numbered_both) (omega (arith, a, b, h, q))
+  count_in m bs p s (switch l e c) d n f =
+      let h = count_term m bs p s e d (n + 1) (quiet_front (told Value bs p s e) _ f) in
+      let i = count_in m bs (switching (behind e s).number p) (spots.numbered 1 (behind e s)) c d (n + 1 + labels (term_named bs p s e)) (quiet_back (told Value bs p s e) _ f) in simp (numbered_both) (omega (arith, h, i))
+  count_in m bs p s (result l e) d n f = let h = count_term m bs p (past 1 s) e d n (quiet_back (unless p.in_valof (at s.place l no_result_or_return)) _ f) in omega (arith, h)
+  count_in m bs p s (simple l k) d n f = omega arith
+  count_in m bs p s (block l no_declarations cs) d n f =
+      let h = count_through m bs p s cs d n f in let e = ap (λ (k : ℕ). parts_numbered m (parts_through d k (commands_named bs p s cs))) (no_more n) in omega (arith, h, e)
+  count_in m bs p s (block l (declare x xs) cs) d n f =
+      let u : Spot = behind_declared (declare x xs) s in
+      let g : Place = labelled u.number (place_behind_all bs p s (declare x xs)) in
+      let es = scope_behind bs p s (declare x xs) in
+      let ds = labels_in_scope p.procedure (u.number + 1) (labels_of_each cs) es in
+      let i : Spot = spots.numbered (1 + length (labels_of_each cs)) u in
+      let y = declarations_named bs p s (declare x xs) in
+      let first = quiet_front (told_declared bs p s (declare x xs)) _ f in
+      let body = quiet_back (told_declared bs p s (declare x xs)) _ f in
+      let h = count_one_declared m bs p s x d n (quiet_front (told_one_declared bs p s x) _ first) in
+      let v = declaration_named bs p s x in
+      let j = count_declared m (scope_behind_one bs p s x) (place_behind_one bs p s x) (behind_one_declared x s) xs (behind_declaration d v) (n + labels_of_declaration v) (quiet_back (told_one_declared bs p s x) _ first) in
+      let k = count_through m ds g i cs (behind_declarations d y) (n + labels_of_declarations y) body in
+      let q = labels_numbered m p.procedure (u.number + 1) (labels_of_each cs) es (labels_distinct_each ds g i cs body) in simp (numbered_both) (omega (arith, h, j, k, q))
+  count_in m bs p s (repeat l c) d n f = let h = count_in m bs (looping p) s c d (n + 2) f in omega (arith, h)
+  count_in m bs p s (repeat_while l z c e) d n f =
+      let h = count_in m bs (looping p) s c d (n + 3) (quiet_front (told_done bs (looping p) s c) _ f) in
+      let i = count_if m bs p (behind_done c s) e d (n + 3 + labels_in (command_named bs (looping p) s c)) (quiet_back (told_done bs (looping p) s c) _ f) in simp (numbered_both) (omega (arith, h, i))
+
+  count_through : (m : ℕ) (bs : List Binding) (p : Place) (s : Spot) (cs : Actions) (d n : ℕ) → Quiet (told_done_each bs p s cs) → parts_numbered m (parts_through d n (commands_named bs p s cs)) + beyond m (s.number + numbers_done_each cs) ≤ beyond m s.number + own_labels m bs (labels_of_each cs)
+  count_through m bs p s no_actions d n f = omega arith
+  count_through m bs p s (also c cs) d n f =
+      let h = count_in m bs p s c d n (quiet_front (told_done bs p s c) _ f) in
+      let i = count_through m bs p (behind_done c s) cs d (n + labels_in (command_named bs p s c)) (quiet_back (told_done bs p s c) _ f) in simp (numbered_both, own_both) (omega (arith, h, i))
+
+  count_declared : (m : ℕ) (bs : List Binding) (p : Place) (s : Spot) (xs : Declarations) (d n : ℕ) → Quiet (told_declared bs p s xs) → parts_numbered m (parts_of_declarations d n (declarations_named bs p s xs)) + beyond m (s.number + numbers_declared xs) ≤ beyond m s.number
+  count_declared m bs p s no_declarations d n f = omega arith
+  count_declared m bs p s (declare x xs) d n f =
+      let v = declaration_named bs p s x in
+      let h = count_one_declared m bs p s x d n (quiet_front (told_one_declared bs p s x) _ f) in
+      let i = count_declared m (scope_behind_one bs p s x) (place_behind_one bs p s x) (behind_one_declared x s) xs (behind_declaration d v) (n + labels_of_declaration v) (quiet_back (told_one_declared bs p s x) _ f) in
+      simp (numbered_both) (omega (arith, h, i))
+
+  count_one_declared : (m : ℕ) (bs : List Binding) (p : Place) (s : Spot) (x : Declaration) (d n : ℕ) → Quiet (told_one_declared bs p s x) → parts_numbered m (parts_of_declaration d n (declaration_named bs p s x)) + beyond m (s.number + numbers_one_declared x) ≤ beyond m s.number
+  count_one_declared m bs p s (constants l sort.Manifest is) d n f = omega arith
+  count_one_declared m bs p s (constants l sort.Static is) d n f = let h = items_numbered m bs (spots.numbered 1 s) is n in omega (arith, h)
+  count_one_declared m bs p s (constants l sort.Global is) d n f = omega arith
+  count_one_declared m bs p s (definitions l ds) d n f =
+      let cs = procedures_in_scope (s.number + 1) ds bs in
+      let v : Spot = spots.numbered (1 + procedures_in ds) s in
+      let h = count_defined m s.number cs p v ds d n f in
+      let i = procedures_numbered m (s.number + 1) ds bs (procedures_distinct s.number cs p v ds f) in omega (arith, h, i)
+
+  count_defined : (m : ℕ) (k : ℕ) (bs : List Binding) (p : Place) (s : Spot) (ds : Definitions) (d n : ℕ) → Quiet (told_defined k bs p s ds) → parts_numbered m (parts_of_definitions d n (definitions_named bs p s ds)) + beyond m (s.number + numbers_defined ds) ≤ beyond m s.number + own_procedures m bs ds
+  count_defined m k bs p s no_definitions d n f = omega arith
+  count_defined m k bs p s (define (routine l x fs c) ds) d n f =
+      let z : Definition = (routine l x fs c) in
+      let y = definition_named bs p s z in
+      let h = count_one_defined m k bs p s (routine l x fs c) d n (quiet_front (told_one_defined k bs p s z) _ f) in
+      let i = count_defined m k bs (place_behind_one_defined bs p z) (behind_one_defined z s) ds (behind_definition d y) (n + labels_of_definition y) (quiet_back (told_one_defined k bs p s z) _ f) in
+      simp (numbered_both) (omega (arith, h, i))
+  count_defined m k bs p s (define (function l x fs e) ds) d n f =
+      let z : Definition = (function l x fs e) in
+      let y = definition_named bs p s z in
+      let h = count_one_defined m k bs p s (function l x fs e) d n (quiet_front (told_one_defined k bs p s z) _ f) in
+      let i = count_defined m k bs (place_behind_one_defined bs p z) (behind_one_defined z s) ds (behind_definition d y) (n + labels_of_definition y) (quiet_back (told_one_defined k bs p s z) _ f) in
+      simp (numbered_both) (omega (arith, h, i))
+  count_defined m k bs p s (define (variables l xs is) ds) d n f =
+      let z : Definition = (variables l xs is) in
+      let y = definition_named bs p s z in
+      let h = count_one_defined m k bs p s (variables l xs is) d n (quiet_front (told_one_defined k bs p s z) _ f) in
+      let i = count_defined m k bs (place_behind_one_defined bs p z) (behind_one_defined z s) ds (behind_definition d y) (n + labels_of_definition y) (quiet_back (told_one_defined k bs p s z) _ f) in
+      simp (numbered_both) (omega (arith, h, i))
+
+  count_one_defined : (m : ℕ) (k : ℕ) (bs : List Binding) (p : Place) (s : Spot) (x : Definition) (d n : ℕ) → Quiet (told_one_defined k bs p s x) → parts_numbered m (parts_of_definition d n (definition_named bs p s x)) + beyond m (s.number + numbers_one_defined x) ≤ beyond m s.number + own_procedures m bs (define x no_definitions)
+  count_one_defined m k bs p s (variables l xs is) d n f = let h = count_started m bs p (past (length xs) s) is d n (quiet_back (each_of k s.place xs) _ f) in omega (arith, h)
+  count_one_defined m k bs p s (routine l x fs c) d n f =
+      let z : Place = labelled (s.number + 1) (called true s.number (length fs)) in
+      let u : Spot = onward (1 + length fs) (2 + length (labels_of c)) s in
+      let es = with_formals s.number 2 fs bs in
+      let cs = labels_in_scope s.number (s.number + 2) (labels_of c) es in
+      let body = body_quiet k s.number s l x fs (bound_in bs x) (told_done cs z u c) f in
+      let h = count_in m cs z u c (length fs + 2) (n + labels_of_procedure (meant (bound_in bs x))) body in
+      let i = labels_numbered m s.number (s.number + 2) (labels_of c) es (labels_distinct cs z u c body) in
+      let j = word_target m (n + 1) (bound_in bs x) in omega (arith, h, i, j)
+  count_one_defined m k bs p s (function l x fs e) d n f =
+      let z : Place = called false s.number (length fs) in
+      let u : Spot = onward (1 + length fs) 1 s in
+      let cs = with_formals s.number 2 fs bs in
+      let body = body_quiet k s.number s l x fs (bound_in bs x) (told Value cs z u e) f in
+      let h = count_term m cs z u e (length fs + 2) (n + labels_of_procedure (meant (bound_in bs x))) body in
+      let j = word_target m (n + 1) (bound_in bs x) in omega (arith, h, j)
+
+  count_started : (m : ℕ) (bs : List Binding) (p : Place) (s : Spot) (is : Starts) (d n : ℕ) → Quiet (told_started bs p s is) → parts_numbered m (parts_of_starts d n (starts_named bs p s is)) + beyond m (s.number + numbers_started is) ≤ beyond m s.number
+  count_started m bs p s no_starts d n f = omega arith
+  count_started m bs p s (value e is) d n f =
+      let h = count_term m bs p s e d n (quiet_front (told Value bs p s e) _ f) in
+      let i = count_started m bs (deeper 1 p) (behind e s) is (d + 1) (n + labels (term_named bs p s e)) (quiet_back (told Value bs p s e) _ f) in simp (numbered_both) (omega (arith, h, i))
+  count_started m bs p s (vector l e is) d n f =
+      let h = count_started m bs (deeper (words_of_start bs e + 1) p) (behind_constant e s) is (d + worth (constant_word bs e) + 2) n
+          (quiet_back (constant bs p.procedure s e ++ at_most VEC_NUMBER s.place (line_of e) vec_out_of_range (constant_word bs e) ++ pushed p (words_of_start bs e + 1)) _ f) in
+      omega (arith, h)
+
+-- so each target is found by its number
+numbered_joined : (m : ℕ) (xs : List Target) (ys : List Target) → numbered m (xs ++ ys) ≡ numbered m xs + numbered m ys
+numbered_joined m [] ys = omega arith
+numbered_joined m (x ∷ xs) ys = let h = numbered_joined m xs ys in omega (arith, h)
+
+numbered_parts : (m : ℕ) (xs : List Part) → numbered m (joined target_of xs) ≡ parts_numbered m xs
+numbered_parts m [] = refl
+numbered_parts m (x ∷ xs) = let h = numbered_parts m xs in let i = numbered_joined m (target_of x) (joined target_of xs) in omega (arith, h, i)
+
+chosen_first : (q : Bool) (a b : Goal) → q ≡ true → cond q a b ≡ a
+chosen_first true a b e = refl
+chosen_first false a b e = absurd (let n : false ≡ true = e in cc)
+
+chosen_later : (q : Bool) (a b : Goal) → q ≡ false → cond q a b ≡ b
+chosen_later true a b e = absurd (let n : true ≡ false = e in cc)
+chosen_later false a b e = refl
+
+found_past : (x : Target) (ts xs : List Target) → numbered x.number xs ≡ 0 → AllFound ts xs → AllFound (x ∷ ts) xs
+found_past x ts [] gone h = tt
+found_past x ts (y ∷ xs) gone h = (pick (x.number == y.number) refl, found_past x ts xs (omega (arith, gone)) h.1)
+  where
+    pick : (q : Bool) → (x.number == y.number) ≡ q → cond (x.number == y.number) (goal x.label x.depth) (goal_of ts y.number) ≡ goal y.label y.depth
+    pick true e = let one : sets x.number (Some y.number) ≡ 1 = ap (λ (b : Bool). cond b 1 0) e in absurd (omega (arith, gone, one))
+    pick false e = chosen_later (x.number == y.number) (goal x.label x.depth) (goal_of ts y.number) e ∙ h.0
+
+all_found : (ts : List Target) → ((m : ℕ) → numbered m ts ≤ 1) → AllFound ts ts
+all_found [] h = tt
+all_found (x ∷ ts) h =
+    let one : sets x.number (Some x.number) ≡ 1 = ap (λ (b : Bool). cond b 1 0) (eq-eqb x.number x.number refl) in
+    let low = h x.number in
+    (chosen_first (x.number == x.number) (goal x.label x.depth) (goal_of ts x.number) (eq-eqb x.number x.number refl),
+    found_past x ts ts (omega (arith, one, low)) (all_found ts (λ m. let g = h m in omega (arith, g))))
+
+-- THE TARGETS OF A SECTION are found by their numbers
+pub section_found : (xs : Declarations) → Quiet (told_declared [] outermost beginning xs)
+    → AllFound (joined target_of (parts_of_declarations 2 1 (declarations_named [] outermost beginning xs))) (joined target_of (parts_of_declarations 2 1 (declarations_named [] outermost beginning xs)))
+section_found xs f =
+    let ps = parts_of_declarations 2 1 (declarations_named [] outermost beginning xs) in
+    all_found (joined target_of ps) (λ m. let h = count_declared m [] outermost beginning xs 2 1 f in let i = numbered_parts m ps in omega (arith, h, i))

@@ -1,0 +1,111 @@
+-- What is told of a part of a section without faults: no depth is past the limit, each word is one, and no claim was made before.
+use Rattle.std.proofs.Common.{arith, ◌+◌, ◌<◌, ◌≤◌, ◌^◌, Option, List, [], ◌∷◌, ◌++◌, length}
+use Rattle.std.specs.Bool.{⊤}
+use Rattle.bk_base.specs.declared.limit.TheConstants.{FRAME_WORDS}
+use Rattle.bk_syntax.specs.declared.tree.Operator.{Operator}
+use Rattle.bk_syntax.specs.declared.tree.Operator.TheVariants as o
+use Rattle.bk_syntax.specs.declared.tree.Prefix.{Prefix}
+use Rattle.bk_syntax.specs.declared.tree.Prefix.TheVariants as q
+use Rattle.bk_syntax.specs.Tree.{Expression, name, number, text, truth, query, parens, unary, binary, choice, apply, valof, table}
+use Rattle.bk_syntax.specs.Grammar.{size}
+use Rattle.bk_scope.specs.declared.bound.Bound.{Bound}
+use Rattle.bk_scope.specs.declared.place.Place.{Place}
+use Rattle.bk_scope.specs.declared.role.Role.{Role}
+use Rattle.bk_scope.specs.declared.role.Role.TheVariants.{Value, Truth, Address, Destination}
+use Rattle.bk_scope.specs.Scope.{Binding, bound_in}
+use Rattle.bk_scope.specs.Found.{Claim}
+use Rattle.bk_scope.specs.Places.{deeper, valued, labelled}
+use Rattle.bk_scope.specs.Names.{parenthesised, role_of_operand, role_of_operands, place_of_second}
+use Rattle.bk_scope.specs.Entering.{labels_of}
+use Rattle.bk_scope.specs.Scoping.{labels_in_scope}
+use Rattle.bk_scope.specs.Spots.{Spot, onward, past, behind}
+use Rattle.bk_scope.specs.Points.{Point, meaning, word, depth, wrong, claim, claims_behind}
+use Rattle.bk_scope.specs.Faults.{used_at, depth_named, prefixed, pushed, each_constant, told, told_each, told_done}
+use Rattle.bk_scope.specs.Laws.{Clean}
+use Rattle.bk_scope.proofs.Parts.{first_clean, second_clean}
+
+abbrev pub IsFine : Point → Type 0
+IsFine (depth m) = m ≤ FRAME_WORDS
+IsFine (word v) = v < 2 ^ 32
+IsFine (meaning b) = ⊤
+IsFine (wrong f) = ⊤
+IsFine (claim c f) = ⊤
+
+abbrev pub AllFine : List Point → Type 0
+AllFine [] = ⊤
+AllFine (x ∷ xs) = IsFine x × AllFine xs
+
+pub all_front : (xs ys : List Point) → AllFine (xs ++ ys) → AllFine xs
+all_front [] ys h = tt
+all_front (x ∷ xs) ys h = (h.0, all_front xs ys h.1)
+
+pub all_back : (xs ys : List Point) → AllFine (xs ++ ys) → AllFine ys
+all_back [] ys h = h
+all_back (x ∷ xs) ys h = all_back xs ys h.1
+
+pub record Fine (xs : List Point) : Type 0 where
+  pub all : AllFine xs
+  pub claims : List Claim
+  pub clean : Clean claims xs
+
+pub fine_front : (xs ys : List Point) → Fine (xs ++ ys) → Fine xs
+fine_front xs ys h = record { all = all_front xs ys h.all; claims = h.claims; clean = first_clean h.claims xs ys h.clean }
+
+pub fine_back : (xs ys : List Point) → Fine (xs ++ ys) → Fine ys
+fine_back xs ys h = record { all = all_back xs ys h.all; claims = claims_behind h.claims xs; clean = second_clean h.claims xs ys h.clean }
+
+-- roles in which a word is pushed
+abbrev pub Pushing : Role → Type 0
+Pushing Value = ⊤
+Pushing Truth = ⊤
+Pushing (Address x l) = ⊤
+Pushing (Destination x l) = ⊥
+
+within_pushes : (r : Role) → Pushing r → Pushing (parenthesised r)
+within_pushes Value h = tt
+within_pushes Truth h = tt
+within_pushes (Address x l) h = tt
+within_pushes (Destination x l) h = h
+
+operand_pushes : (f : Prefix) (r : Role) (e : Expression) → Pushing (role_of_operand f r e)
+operand_pushes q.Not Truth e = tt
+operand_pushes q.Address r e = tt
+operand_pushes q.Not Value e = tt
+operand_pushes q.Not (Address x l) e = tt
+operand_pushes q.Not (Destination x l) e = tt
+operand_pushes q.Contents r e = tt
+operand_pushes q.Plus r e = tt
+operand_pushes q.Minus r e = tt
+
+operands_push : (f : Operator) (r : Role) → Pushing (role_of_operands f r)
+operands_push o.Both Truth = tt
+operands_push o.Either Truth = tt
+operands_push f r = tt
+
+named_room : (r : Role) (p : Place) (y : Option Bound) → Pushing r → AllFine (depth_named r p y) → p.depth + 1 ≤ FRAME_WORDS
+named_room Value p y i h = h.0
+named_room Truth p y i h = h.0
+named_room (Address x l) p y i h = h.0
+named_room (Destination x l) p y i h = elim i [ ]
+
+-- the frame has room for what is pushed
+pub told_room : (r : Role) (bs : List Binding) (p : Place) (s : Spot) (e : Expression) → Pushing r → AllFine (told r bs p s e) → p.depth + 1 ≤ FRAME_WORDS
+told_room r bs p s (name l x) i h = named_room r p (bound_in bs x) i (all_back (used_at p.procedure s.place l x (bound_in bs x)) _ h)
+told_room r bs p s (number l n) i h = h.0
+told_room r bs p s (text l x) i h = h.0
+told_room r bs p s (truth l b) i h = h.0
+told_room r bs p s (query l) i h = h.0
+told_room r bs p s (parens l e) i h = told_room (parenthesised r) bs p (past 1 s) e (within_pushes r i) h
+told_room r bs p s (unary l f e) i h = told_room (role_of_operand f r e) bs p (past 1 s) e (operand_pushes f r e) (all_back (prefixed f bs (past 1 s) e) _ h)
+told_room r bs p s (binary l f m a b) i h =
+    told_room (role_of_operands f r) bs p s a (operands_push f r) (all_front (told (role_of_operands f r) bs p s a) (told (role_of_operands f r) bs (place_of_second f r p) (past 1 (behind a s)) b) h)
+told_room r bs p s (choice l m c a b) i h =
+    let one : List Point = told Truth bs p s c in
+    let two : List Point = told Value bs p (past 1 (behind c s)) a in
+    told_room Truth bs p s c tt (all_front one two (all_front (one ++ two) _ h))
+told_room r bs p s (apply l m e es) i h =
+    let g = told_room Value bs (deeper (size es + 2) p) s e tt (all_front (told Value bs (deeper (size es + 2) p) s e) (told_each 1 bs (deeper 2 p) (past 1 (behind e s)) es) h) in
+    omega (arith, g)
+told_room r bs p s (valof l c) i h =
+    (all_back (told_done (labels_in_scope p.procedure (s.number + 1) (labels_of c) bs) (labelled s.number (valued p)) (onward 1 (1 + length (labels_of c)) s) c) (pushed p 1) h).0
+told_room r bs p s (table l es) i h = (all_back (each_constant bs p.procedure (past 1 s) es) (pushed p 1) h).0
