@@ -40,7 +40,8 @@ use Rattle.bk_trans.proofs.Marks.{Mark, connective_mark, marks, marks_each, mark
 use Rattle.bk_trans.proofs.Good.{Exits, IsGoal, IsWord, Pushed, Held, Goes, case_words, case_words_through, AllWords, Good, GoodEach, GoodIf, GoodAt, GoodOnto, GoodAllOnto, GoodFrom, GoodIn, GoodThrough, GoodDeclared, GoodOneDeclared, GoodDefined, GoodOneDefined, GoodStarted}
 use Rattle.bk_trans.proofs.Scopes.{Sees, sees_bind, sees_all, sees_labels, sees_procedures, AllMean, mean_both, PartsRight, parts_front, parts_back, label_found, label_found_through, procedure_found, statics_seen}
 use Rattle.bk_trans.proofs.Forms.{grown_starts, grown_defined}
-use Rattle.bk_trans.proofs.Told.{AllFine, all_front, all_back, Fine, fine_front, fine_back, told_room}
+use Rattle.bk_trans.proofs.Told.{AllFine, all_front, all_back, Fine, told_front, told_back, told_room}
+use Rattle.bk_trans.proofs.Once.{no_more}
 
 -- what a name in scope means in procedure k, with entry q and depth d
 abbrev pub Known : (ℕ → Use) → List Target → ℕ → ℕ → ℕ → Bound → Type 0
@@ -242,7 +243,7 @@ vector_room bs p s l e is d same u f =
 vector_rest : (bs : List Binding) (p : Place) (s : Spot) (l : ℕ) (e : Expression) (is : Starts) → Fine (told_started bs p s (vector l e is))
     → Fine (told_started bs (deeper (words_of_start bs e + 1) p) (behind_constant e s) is)
 vector_rest bs p s l e is f =
-    fine_back (constant bs p.procedure s e ++ at_most VEC_NUMBER s.place (line_of e) vec_out_of_range (constant_word bs e) ++ pushed p (words_of_start bs e + 1)) _ f
+    told_back (constant bs p.procedure s e ++ at_most VEC_NUMBER s.place (line_of e) vec_out_of_range (constant_word bs e) ++ pushed p (words_of_start bs e + 1)) _ f
 
 at_vector : (plan : ℕ → Use) (ts : List Target) (q : ℕ) (bs : List Binding) (p : Place) (s : Spot) (l : ℕ) (e : Expression) (is : Starts) (d : ℕ) → At plan ts q bs p d
     → HasWordUpTo VEC_NUMBER (constant_word bs e) → AllFine (told_started bs p s (vector l e is)) → At plan ts q bs (deeper (words_of_start bs e + 1) p) (d + worth (constant_word bs e) + 2)
@@ -256,7 +257,7 @@ started_at : (plan : ℕ → Use) (ts : List Target) (q : ℕ) (bs : List Bindin
 started_at plan ts q bs p s no_starts d a top h f = (a, top)
 started_at plan ts q bs p s (value e is) d a top h f =
     let much = told_room Value bs p s e tt (all_front (told Value bs p s e) _ f.all) in let same = a.at in
-    started_at plan ts q bs (deeper 1 p) (behind e s) is (d + 1) (at_deeper plan ts q bs p d 1 (d + 1) a refl (omega (arith, top))) (omega (arith, much, same)) h.1 (fine_back (told Value bs p s e) _ f)
+    started_at plan ts q bs (deeper 1 p) (behind e s) is (d + 1) (at_deeper plan ts q bs p d 1 (d + 1) a refl (omega (arith, top))) (omega (arith, much, same)) h.1 (told_back (told Value bs p s e) _ f)
 started_at plan ts q bs p s (vector l e is) d a top h f =
     started_at plan ts q bs (deeper (words_of_start bs e + 1) p) (behind_constant e s) is (d + worth (constant_word bs e) + 2) (at_vector plan ts q bs p s l e is d a h.0 f.all)
     (vector_room bs p s l e is d a.at h.0 f.all) h.1 (vector_rest bs p s l e is f)
@@ -270,47 +271,49 @@ variables_mean plan ts q k m bs p s [] (vector l e is) d a top h f low = tt
 variables_mean plan ts q k m bs p s (x ∷ xs) no_starts d a top h f low = tt
 variables_mean plan ts q k m bs p s (x ∷ xs) (value e is) d a top h f low =
     let much = told_room Value bs p s e tt (all_front (told Value bs p s e) _ f.all) in let same = a.at in let two = a.low in
-    let grown = grown_starts (d + 1) (starts_named bs (deeper 1 p) (behind e s) is) in
-    (λ own. (omega (arith, same, two, top), omega (arith, same, top, grown, low)),
-    variables_mean plan ts q k m bs (deeper 1 p) (behind e s) xs is (d + 1) (at_deeper plan ts q bs p d 1 (d + 1) a refl (omega (arith, top))) (omega (arith, much, same)) h.1
-    (fine_back (told Value bs p s e) _ f) low)
+    let grown = grown_starts (d + 1) (starts_named bs (deeper 1 p) (behind e s) is) in (
+      λ own. (omega (arith, same, two, top), omega (arith, same, top, grown, low)),
+      variables_mean plan ts q k m bs (deeper 1 p) (behind e s) xs is (d + 1) (at_deeper plan ts q bs p d 1 (d + 1) a refl (omega (arith, top))) (omega (arith, much, same)) h.1
+          (told_back (told Value bs p s e) _ f) low,
+    )
 variables_mean plan ts q k m bs p s (x ∷ xs) (vector l e is) d a top h f low =
     let v = worth (constant_word bs e) in
     let much = vector_room bs p s l e is d a.at h.0 f.all in let same = a.at in let two = a.low in let words = vector_words (constant_word bs e) h.0 in
-    let grown = grown_starts (d + v + 2) (starts_named bs (deeper (words_of_start bs e + 1) p) (behind_constant e s) is) in
-    (λ own. (omega (arith, same, two, much, words), omega (arith, same, much, grown, low, words)),
-    variables_mean plan ts q k m bs (deeper (words_of_start bs e + 1) p) (behind_constant e s) xs is (d + v + 2) (at_vector plan ts q bs p s l e is d a h.0 f.all) much h.1 (vector_rest bs p s l e is f) low)
+    let grown = grown_starts (d + v + 2) (starts_named bs (deeper (words_of_start bs e + 1) p) (behind_constant e s) is) in (
+      λ own. (omega (arith, same, two, much, words), omega (arith, same, much, grown, low, words)),
+      variables_mean plan ts q k m bs (deeper (words_of_start bs e + 1) p) (behind_constant e s) xs is (d + v + 2) (at_vector plan ts q bs p s l e is d a h.0 f.all) much h.1 (vector_rest bs p s l e is f) low,
+    )
 
 one_defined_at : (plan : ℕ → Use) (ts : List Target) (q m : ℕ) (bs : List Binding) (p : Place) (s : Spot) (x : Definition) (d : ℕ) → At plan ts q bs p d → d ≤ FRAME_WORDS → SoundOneDefined bs p s x
     → Fine (told_one_defined m bs p s x) → At plan ts q bs (place_behind_one_defined bs p x) (behind_definition d (definition_named bs p s x)) × (behind_definition d (definition_named bs p s x) ≤ FRAME_WORDS)
 one_defined_at plan ts q m bs p s (routine l x fs c) d a top h f = (a, top)
 one_defined_at plan ts q m bs p s (function l x fs e) d a top h f = (a, top)
-one_defined_at plan ts q m bs p s (variables l xs is) d a top h f = started_at plan ts q bs p (past (length xs) s) is d a top h (fine_back (each_of m s.place xs) _ f)
+one_defined_at plan ts q m bs p s (variables l xs is) d a top h f = started_at plan ts q bs p (past (length xs) s) is d a top h (told_back (each_of m s.place xs) _ f)
 
 defined_at : (plan : ℕ → Use) (ts : List Target) (q m : ℕ) (bs : List Binding) (p : Place) (s : Spot) (ds : Definitions) (d : ℕ) → At plan ts q bs p d → d ≤ FRAME_WORDS → SoundDefined bs p s ds
     → Fine (told_defined m bs p s ds) → At plan ts q bs (place_behind_defined bs p ds) (behind_definitions d (definitions_named bs p s ds)) × (behind_definitions d (definitions_named bs p s ds) ≤ FRAME_WORDS)
 defined_at plan ts q m bs p s no_definitions d a top h f = (a, top)
 defined_at plan ts q m bs p s (define x ds) d a top h f =
-    let one = one_defined_at plan ts q m bs p s x d a top h.0 (fine_front (told_one_defined m bs p s x) _ f) in
-    defined_at plan ts q m bs (place_behind_one_defined bs p x) (behind_one_defined x s) ds _ one.0 one.1 h.1 (fine_back (told_one_defined m bs p s x) _ f)
+    let one = one_defined_at plan ts q m bs p s x d a top h.0 (told_front (told_one_defined m bs p s x) _ f) in
+    defined_at plan ts q m bs (place_behind_one_defined bs p x) (behind_one_defined x s) ds _ one.0 one.1 h.1 (told_back (told_one_defined m bs p s x) _ f)
 
 all_variables : (plan : ℕ → Use) (ts : List Target) (q k j m : ℕ) (bs : List Binding) (p : Place) (s : Spot) (ds : Definitions) (d : ℕ) → At plan ts q bs p d → d ≤ FRAME_WORDS → SoundDefined bs p s ds
     → Fine (told_defined j bs p s ds) → behind_definitions d (definitions_named bs p s ds) ≤ m → AllMean (Known plan ts q k m) (variables_in_scope bs p ds)
 all_variables plan ts q k j m bs p s no_definitions d a top h f low = tt
 all_variables plan ts q k j m bs p s (define (routine l x fs c) ds) d a top h f low =
-    all_variables plan ts q k j m bs p (behind_one_defined (routine l x fs c) s) ds d a top h.1 (fine_back (told_one_defined j bs p s (routine l x fs c)) _ f) low
+    all_variables plan ts q k j m bs p (behind_one_defined (routine l x fs c) s) ds d a top h.1 (told_back (told_one_defined j bs p s (routine l x fs c)) _ f) low
 all_variables plan ts q k j m bs p s (define (function l x fs e) ds) d a top h f low =
-    all_variables plan ts q k j m bs p (behind_one_defined (function l x fs e) s) ds d a top h.1 (fine_back (told_one_defined j bs p s (function l x fs e)) _ f) low
+    all_variables plan ts q k j m bs p (behind_one_defined (function l x fs e) s) ds d a top h.1 (told_back (told_one_defined j bs p s (function l x fs e)) _ f) low
 all_variables plan ts q k j m bs p s (define (variables l xs is) ds) d a top h f low =
     let x : Definition = variables l xs is in
     let v : Spot = past (length xs) s in
     let rest = definitions_named bs (place_behind bs p is) (behind_one_defined x s) ds in
-    let started = fine_back (each_of j s.place xs) (told_started bs p v is) (fine_front (told_one_defined j bs p s x) _ f) in
+    let started = told_back (each_of j s.place xs) (told_started bs p v is) (told_front (told_one_defined j bs p s x) _ f) in
     let one = started_at plan ts q bs p v is d a top h.0 started in
     let grown = grown_defined (behind_starts d (starts_named bs p v is)) rest in
     mean_both (Known plan ts q k m) (variables_of bs p xs is) (variables_in_scope bs (place_behind bs p is) ds)
     (variables_mean plan ts q k m bs p v xs is d a top h.0 started (omega (arith, grown, low)))
-    (all_variables plan ts q k j m bs (place_behind bs p is) (behind_one_defined x s) ds (behind_starts d (starts_named bs p v is)) one.0 one.1 h.1 (fine_back (told_one_defined j bs p s x) _ f) low)
+    (all_variables plan ts q k j m bs (place_behind bs p is) (behind_one_defined x s) ds (behind_starts d (starts_named bs p v is)) one.0 one.1 h.1 (told_back (told_one_defined j bs p s x) _ f) low)
 
 -- behind declarations
 pub at_manifests : (P : Bound → Type 0) (bs : List Binding) (is : Items) → ((v : Option ℕ) → P (Constant v)) → Sees P bs → Sees P (manifests_in_scope bs is)
@@ -349,12 +352,14 @@ one_declared_at plan ts q bs p s (definitions l ds) d n a top low high h f b =
     let m = behind_definitions d (definitions_named cs p v ds) in
     let r = place_behind_defined cs p ds in
     let inner = at_procedures plan ts q bs p s v ds d n a high b in
-    let whole = defined_at plan ts q s.number cs p v ds d inner top h f in
-    (record {
-      sees = sees_all (Known plan ts q r.procedure m) (variables_in_scope cs p ds) cs (all_variables plan ts q r.procedure s.number m cs p v ds d inner top h f (omega arith)) whole.0.sees;
-      at = whole.0.at;
-      low = whole.0.low;
-    }, whole.1)
+    let whole = defined_at plan ts q s.number cs p v ds d inner top h f in (
+      record {
+        sees = sees_all (Known plan ts q r.procedure m) (variables_in_scope cs p ds) cs (all_variables plan ts q r.procedure s.number m cs p v ds d inner top h f (omega arith)) whole.0.sees;
+        at = whole.0.at;
+        low = whole.0.low;
+      },
+      whole.1,
+    )
 
 declared_at : (plan : ℕ → Use) (ts : List Target) (q : ℕ) (bs : List Binding) (p : Place) (s : Spot) (xs : Declarations) (d n : ℕ) → At plan ts q bs p d → d ≤ FRAME_WORDS → 1 ≤ n
     → n + labels_of_declarations (declarations_named bs p s xs) ≤ OCODE_LABEL + 1 → SoundDeclared bs p s xs → Fine (told_declared bs p s xs) → PartsRight plan ts (parts_of_declarations d n (declarations_named bs p s xs))
@@ -362,9 +367,9 @@ declared_at : (plan : ℕ → Use) (ts : List Target) (q : ℕ) (bs : List Bindi
 declared_at plan ts q bs p s no_declarations d n a top low high h f b = (a, top)
 declared_at plan ts q bs p s (declare x xs) d n a top low high h f b =
     let y = declaration_named bs p s x in
-    let one = one_declared_at plan ts q bs p s x d n a top low (omega (arith, high)) h.0 (fine_front (told_one_declared bs p s x) _ f) (parts_front plan ts (parts_of_declaration d n y) _ b) in
+    let one = one_declared_at plan ts q bs p s x d n a top low (omega (arith, high)) h.0 (told_front (told_one_declared bs p s x) _ f) (parts_front plan ts (parts_of_declaration d n y) _ b) in
     declared_at plan ts q (scope_behind_one bs p s x) (place_behind_one bs p s x) (behind_one_declared x s) xs (behind_declaration d y) (n + labels_of_declaration y) one.0 one.1 (omega (arith, low)) (omega (arith, high)) h.1
-    (fine_back (told_one_declared bs p s x) _ f) (parts_back plan ts (parts_of_declaration d n y) _ b)
+    (told_back (told_one_declared bs p s x) _ f) (parts_back plan ts (parts_of_declaration d n y) _ b)
 
 room_at : (plan : ℕ → Use) (ts : List Target) (q : ℕ) (bs : List Binding) (p : Place) (d : ℕ) → At plan ts q bs p d → p.depth + 1 ≤ FRAME_WORDS → d + 1 ≤ FRAME_WORDS
 room_at plan ts q bs p d a h = let same = a.at in omega (arith, same, h)
@@ -373,14 +378,14 @@ room_at plan ts q bs p d a h = let same = a.at in omega (arith, same, h)
 two_good : (plan : ℕ → Use) (ts : List Target) (A B : Type 0) (xs ys : List Point) (ps qs : List Part) (ms ns : List Mark) → (Fine xs → PartsRight plan ts ps → AllRight plan ms → A)
     → (Fine ys → PartsRight plan ts qs → AllRight plan ns → B) → Fine (xs ++ ys) → PartsRight plan ts (ps ++ qs) → AllRight plan (ms ++ ns) → A × B
 two_good plan ts A B xs ys ps qs ms ns one two f b r =
-    (one (fine_front xs ys f) (parts_front plan ts ps qs b) (right_front plan ms ns r), two (fine_back xs ys f) (parts_back plan ts ps qs b) (right_back plan ms ns r))
+    (one (told_front xs ys f) (parts_front plan ts ps qs b) (right_front plan ms ns r), two (told_back xs ys f) (parts_back plan ts ps qs b) (right_back plan ms ns r))
 
 three_good : (plan : ℕ → Use) (ts : List Target) (A B C : Type 0) (xs ys zs : List Point) (ps qs us : List Part) (ms ns os : List Mark) → (Fine xs → PartsRight plan ts ps → AllRight plan ms → A)
     → (Fine ys → PartsRight plan ts qs → AllRight plan ns → B) → (Fine zs → PartsRight plan ts us → AllRight plan os → C) → Fine (xs ++ ys ++ zs) → PartsRight plan ts (ps ++ qs ++ us)
     → AllRight plan (ms ++ ns ++ os) → A × B × C
 three_good plan ts A B C xs ys zs ps qs us ms ns os one two three f b r =
-    let h = two_good plan ts A B xs ys ps qs ms ns one two (fine_front (xs ++ ys) zs f) (parts_front plan ts (ps ++ qs) us b) (right_front plan (ms ++ ns) os r) in
-    (h.0, h.1, three (fine_back (xs ++ ys) zs f) (parts_back plan ts (ps ++ qs) us b) (right_back plan (ms ++ ns) os r))
+    let h = two_good plan ts A B xs ys ps qs ms ns one two (told_front (xs ++ ys) zs f) (parts_front plan ts (ps ++ qs) us b) (right_front plan (ms ++ ns) os r) in
+    (h.0, h.1, three (told_back (xs ++ ys) zs f) (parts_back plan ts (ps ++ qs) us b) (right_back plan (ms ++ ns) os r))
 
 -- the depth of an operand, by what is told of it
 at_operand : (plan : ℕ → Use) (ts : List Target) (q : ℕ) (bs : List Binding) (p : Place) (u : Spot) (e : Expression) (d i k : ℕ) → At plan ts q bs p d → d + i ≡ k → Fine (told Value bs (deeper i p) u e)
@@ -401,9 +406,6 @@ values_good plan ts q d n j (t.onto x xs) y ys one others r =
     let front = marks q d j y ++ marks_onto q (d + 1) n x in
     (one (right_front plan (marks q d j y) _ (right_front plan front _ r)), others (n + labels_at x) xs (right_back plan front _ r))
 
-pub no_more : (n : ℕ) → n + 0 ≡ n
-no_more n = omega arith
-
 -- EACH NODE of a procedure
 mutual
   pub good_term : (plan : ℕ → Use) (ts : List Target) (q : ℕ) (bs : List Binding) (p : Place) (s : Spot) (e : Expression) (d n : ℕ) → At plan ts q bs p d → 1 ≤ n → n + labels (term_named bs p s e) ≤ OCODE_LABEL + 1
@@ -414,9 +416,10 @@ mutual
   good_term plan ts q bs p s (text l v) d n a low high h f b r = room_at plan ts q bs p d a (told_room Value bs p s (text l v) tt f.all)
   good_term plan ts q bs p s (truth l v) d n a low high h f b r = room_at plan ts q bs p d a (told_room Value bs p s (truth l v) tt f.all)
   good_term plan ts q bs p s (query l) d n a low high h f b r = room_at plan ts q bs p d a (told_room Value bs p s (query l) tt f.all)
-  good_term plan ts q bs p s (unary l sign.Address e) d n a low high h f b r =
-      (good_at plan ts q bs p (past 1 s) (Address false (line_of e)) e d n a low high h.0 h.1 (fine_back (prefixed sign.Address bs (past 1 s) e) _ f) b r,
-      room_at plan ts q bs p d a (told_room Value bs p s (unary l sign.Address e) tt f.all))
+  good_term plan ts q bs p s (unary l sign.Address e) d n a low high h f b r = (
+    good_at plan ts q bs p (past 1 s) (Address false (line_of e)) e d n a low high h.0 h.1 (told_back (prefixed sign.Address bs (past 1 s) e) _ f) b r,
+    room_at plan ts q bs p d a (told_room Value bs p s (unary l sign.Address e) tt f.all),
+  )
   good_term plan ts q bs p s (unary l sign.Contents e) d n a low high h f b r = good_term plan ts q bs p (past 1 s) e d n a low high h.1 f b r
   good_term plan ts q bs p s (unary l sign.Plus e) d n a low high h f b r = good_term plan ts q bs p (past 1 s) e d n a low high h.1 f b r
   good_term plan ts q bs p s (unary l sign.Minus e) d n a low high h f b r = good_term plan ts q bs p (past 1 s) e d n a low high h.1 f b r
@@ -439,11 +442,12 @@ mutual
       let same = count_named 1 bs (deeper 2 p) u es in
       let at = a.at in
       let xs = told Value bs z s e in
-      let much = told_room Value bs z s e tt (all_front xs _ f.all) in
-      (good_each plan ts q bs (deeper 2 p) u es (d + 2) (n + labels v) (at_deeper plan ts q bs p d 2 (d + 2) a refl (omega (arith, much, at))) (omega (arith, low)) (omega (arith, high)) h.1 (fine_back xs _ f)
-      (parts_back plan ts (parts k n v) _ b) (right_front plan (marks_each q (d + 2) (n + labels v) vs) _ r),
-      good_term plan ts q bs z s e k n (at_deeper plan ts q bs p d (size es + 2) k a (omega (arith, same)) (omega (arith, same, much, at))) low (omega (arith, high)) h.0 (fine_front xs _ f)
-      (parts_front plan ts (parts k n v) _ b) (right_back plan (marks_each q (d + 2) (n + labels v) vs) _ r))
+      let much = told_room Value bs z s e tt (all_front xs _ f.all) in (
+        good_each plan ts q bs (deeper 2 p) u es (d + 2) (n + labels v) (at_deeper plan ts q bs p d 2 (d + 2) a refl (omega (arith, much, at))) (omega (arith, low)) (omega (arith, high)) h.1 (told_back xs _ f)
+            (parts_back plan ts (parts k n v) _ b) (right_front plan (marks_each q (d + 2) (n + labels v) vs) _ r),
+        good_term plan ts q bs z s e k n (at_deeper plan ts q bs p d (size es + 2) k a (omega (arith, same)) (omega (arith, same, much, at))) low (omega (arith, high)) h.0 (told_front xs _ f)
+            (parts_front plan ts (parts k n v) _ b) (right_back plan (marks_each q (d + 2) (n + labels v) vs) _ r),
+      )
   good_term plan ts q bs p s (valof l c) d n a low high h f b r =
       let cs = labels_in_scope p.procedure (s.number + 1) (labels_of c) bs in
       let g : Place = labelled s.number (valued p) in
@@ -451,7 +455,7 @@ mutual
       let much = room_at plan ts q bs p d a (all_back (told_done cs g u c) (pushed p 1) f.all).0 in
       let inner : At plan ts q bs g d = record { sees = a.sees; at = a.at; low = a.low } in
       let entered = enter_labels plan ts q p.procedure bs g g u c d (n + 1) (s.number + 1) inner (omega (arith, much)) (omega (arith, low)) (omega (arith, high)) b r.1 in
-      (good_in plan ts q cs g u c d (n + 1) entered (omega (arith, much)) (omega (arith, low)) (omega (arith, high)) h (fine_front (told_done cs g u c) (pushed p 1) f) b r.1, much)
+      (good_in plan ts q cs g u c d (n + 1) entered (omega (arith, much)) (omega (arith, low)) (omega (arith, high)) h (told_front (told_done cs g u c) (pushed p 1) f) b r.1, much)
   good_term plan ts q bs p s (table l es) d n a low high h f b r = room_at plan ts q bs p d a (told_room Value bs p s (table l es) tt f.all)
   good_term plan ts q bs p s (parens l e) d n a low high h f b r = good_term plan ts q bs p (past 1 s) e d n a low high h f b r
   good_term plan ts q bs p s (unary l sign.Not e) d n a low high h f b r = good_term plan ts q bs p (past 1 s) e d n a low high h.1 f b r
@@ -491,9 +495,10 @@ mutual
   good_if plan ts q bs p s (text l v) d n z a low high h f b r = room_at plan ts q bs p d a (told_room Truth bs p s (text l v) tt f.all)
   good_if plan ts q bs p s (truth l v) d n z a low high h f b r = room_at plan ts q bs p d a (told_room Truth bs p s (truth l v) tt f.all)
   good_if plan ts q bs p s (query l) d n z a low high h f b r = room_at plan ts q bs p d a (told_room Truth bs p s (query l) tt f.all)
-  good_if plan ts q bs p s (unary l sign.Address e) d n z a low high h f b r =
-      (good_at plan ts q bs p (past 1 s) (Address false (line_of e)) e d n a low high h.0 h.1 (fine_back (prefixed sign.Address bs (past 1 s) e) _ f) b r,
-      room_at plan ts q bs p d a (told_room Truth bs p s (unary l sign.Address e) tt f.all))
+  good_if plan ts q bs p s (unary l sign.Address e) d n z a low high h f b r = (
+    good_at plan ts q bs p (past 1 s) (Address false (line_of e)) e d n a low high h.0 h.1 (told_back (prefixed sign.Address bs (past 1 s) e) _ f) b r,
+    room_at plan ts q bs p d a (told_room Truth bs p s (unary l sign.Address e) tt f.all),
+  )
   good_if plan ts q bs p s (unary l sign.Contents e) d n z a low high h f b r = good_term plan ts q bs p (past 1 s) e d n a low high h.1 f b r
   good_if plan ts q bs p s (unary l sign.Plus e) d n z a low high h f b r = good_term plan ts q bs p (past 1 s) e d n a low high h.1 f b r
   good_if plan ts q bs p s (unary l sign.Minus e) d n z a low high h f b r = good_term plan ts q bs p (past 1 s) e d n a low high h.1 f b r
@@ -516,11 +521,12 @@ mutual
       let same = count_named 1 bs (deeper 2 p) u es in
       let at = a.at in
       let xs = told Value bs z s e in
-      let much = told_room Value bs z s e tt (all_front xs _ f.all) in
-      (good_each plan ts q bs (deeper 2 p) u es (d + 2) (n + labels v) (at_deeper plan ts q bs p d 2 (d + 2) a refl (omega (arith, much, at))) (omega (arith, low)) (omega (arith, high)) h.1 (fine_back xs _ f)
-      (parts_back plan ts (parts k n v) _ b) (right_front plan (marks_each q (d + 2) (n + labels v) vs) _ r),
-      good_term plan ts q bs z s e k n (at_deeper plan ts q bs p d (size es + 2) k a (omega (arith, same)) (omega (arith, same, much, at))) low (omega (arith, high)) h.0 (fine_front xs _ f)
-      (parts_front plan ts (parts k n v) _ b) (right_back plan (marks_each q (d + 2) (n + labels v) vs) _ r))
+      let much = told_room Value bs z s e tt (all_front xs _ f.all) in (
+        good_each plan ts q bs (deeper 2 p) u es (d + 2) (n + labels v) (at_deeper plan ts q bs p d 2 (d + 2) a refl (omega (arith, much, at))) (omega (arith, low)) (omega (arith, high)) h.1 (told_back xs _ f)
+            (parts_back plan ts (parts k n v) _ b) (right_front plan (marks_each q (d + 2) (n + labels v) vs) _ r),
+        good_term plan ts q bs z s e k n (at_deeper plan ts q bs p d (size es + 2) k a (omega (arith, same)) (omega (arith, same, much, at))) low (omega (arith, high)) h.0 (told_front xs _ f)
+            (parts_front plan ts (parts k n v) _ b) (right_back plan (marks_each q (d + 2) (n + labels v) vs) _ r),
+      )
   good_if plan ts q bs p s (valof l c) d n z a low high h f b r =
       let cs = labels_in_scope p.procedure (s.number + 1) (labels_of c) bs in
       let g : Place = labelled s.number (valued p) in
@@ -528,7 +534,7 @@ mutual
       let much = room_at plan ts q bs p d a (all_back (told_done cs g u c) (pushed p 1) f.all).0 in
       let inner : At plan ts q bs g d = record { sees = a.sees; at = a.at; low = a.low } in
       let entered = enter_labels plan ts q p.procedure bs g g u c d (n + 1) (s.number + 1) inner (omega (arith, much)) (omega (arith, low)) (omega (arith, high)) b r.1 in
-      (good_in plan ts q cs g u c d (n + 1) entered (omega (arith, much)) (omega (arith, low)) (omega (arith, high)) h (fine_front (told_done cs g u c) (pushed p 1) f) b r.1, much)
+      (good_in plan ts q cs g u c d (n + 1) entered (omega (arith, much)) (omega (arith, low)) (omega (arith, high)) h (told_front (told_done cs g u c) (pushed p 1) f) b r.1, much)
   good_if plan ts q bs p s (table l es) d n z a low high h f b r = room_at plan ts q bs p d a (told_room Truth bs p s (table l es) tt f.all)
   good_if plan ts q bs p s (parens l e) d n z a low high h f b r = good_if plan ts q bs p (past 1 s) e d n z a low high h f b r
   good_if plan ts q bs p s (unary l sign.Not e) d n z a low high h f b r = good_if plan ts q bs p (past 1 s) e d n (not z) a low high h.1 f b r
@@ -600,10 +606,11 @@ mutual
   good_from plan ts q bs p s (more e es) d n m (t.onto x xs) a low high h f b r =
       let v = term_named bs p s e in
       let much = room_at plan ts q bs p d a (told_room Value bs p s e tt (all_front (told Value bs p s e) _ f.all)) in
-      let front = marks q d n v ++ marks_onto q (d + 1) m x in
-      (good_term plan ts q bs p s e d n a low (omega (arith, high)) h.0 (fine_front (told Value bs p s e) _ f) (parts_front plan ts (parts d n v) _ b) (right_front plan (marks q d n v) _ (right_front plan front _ r)),
-      good_from plan ts q bs (deeper 0 p) (behind e s) es d (n + labels v) (m + labels_at x) xs (at_deeper plan ts q bs p d 0 d a (omega arith) (omega (arith, much))) (omega (arith, low)) (omega (arith, high)) h.1
-      (fine_back (told Value bs p s e) _ f) (parts_back plan ts (parts d n v) _ b) (right_back plan front _ r))
+      let front = marks q d n v ++ marks_onto q (d + 1) m x in (
+        good_term plan ts q bs p s e d n a low (omega (arith, high)) h.0 (told_front (told Value bs p s e) _ f) (parts_front plan ts (parts d n v) _ b) (right_front plan (marks q d n v) _ (right_front plan front _ r)),
+        good_from plan ts q bs (deeper 0 p) (behind e s) es d (n + labels v) (m + labels_at x) xs (at_deeper plan ts q bs p d 0 d a (omega arith) (omega (arith, much))) (omega (arith, low)) (omega (arith, high)) h.1
+            (told_back (told Value bs p s e) _ f) (parts_back plan ts (parts d n v) _ b) (right_back plan front _ r),
+      )
 
   good_all_onto : (plan : ℕ → Use) (ts : List Target) (q : ℕ) (bs : List Binding) (p : Place) (s : Spot) (xs : Expressions) (d n m : ℕ) (es : t.Terms) → At plan ts q bs p d → d + 1 ≤ FRAME_WORDS → 1 ≤ n
       → n + labels_onto (lvalues_named bs (deeper 1 p) s xs) ≤ OCODE_LABEL + 1 → SoundDestinations bs (deeper 1 p) s xs → Fine (told_destinations bs (deeper 1 p) s xs)
@@ -616,11 +623,12 @@ mutual
       let v = lvalue_named bs z s x in
       let us : List Point = unless (assigned bs x) (at s.place (line_of x) not_assignable) in
       let vs : List Point = told (Destination false (line_of x)) bs z s x in
-      let front = marks q d m e ++ marks_onto q (d + 1) n v in
-      (good_onto plan ts q bs p s (Destination false (line_of x)) x d n a top low (omega (arith, high)) h.0 h.1 (fine_back us vs (fine_front (us ++ vs) _ f)) (parts_front plan ts (parts_at (d + 1) n v) _ b)
-      (right_back plan (marks q d m e) _ (right_front plan front _ r)),
-      good_all_onto plan ts q bs p (behind x s) xs d (n + labels_at v) (m + labels e) es a top (omega (arith, low)) (omega (arith, high)) h.2 (fine_back (us ++ vs) _ f)
-      (parts_back plan ts (parts_at (d + 1) n v) _ b) (right_back plan front _ r))
+      let front = marks q d m e ++ marks_onto q (d + 1) n v in (
+        good_onto plan ts q bs p s (Destination false (line_of x)) x d n a top low (omega (arith, high)) h.0 h.1 (told_back us vs (told_front (us ++ vs) _ f)) (parts_front plan ts (parts_at (d + 1) n v) _ b)
+            (right_back plan (marks q d m e) _ (right_front plan front _ r)),
+        good_all_onto plan ts q bs p (behind x s) xs d (n + labels_at v) (m + labels e) es a top (omega (arith, low)) (omega (arith, high)) h.2 (told_back (us ++ vs) _ f)
+            (parts_back plan ts (parts_at (d + 1) n v) _ b) (right_back plan front _ r),
+      )
 
   -- a command
   pub good_in : (plan : ℕ → Use) (ts : List Target) (q : ℕ) (bs : List Binding) (p : Place) (s : Spot) (c : Action) (d n : ℕ) → At plan ts q bs p d → d ≤ FRAME_WORDS → 1 ≤ n
@@ -636,14 +644,15 @@ mutual
       let y = term_named bs p u e in
       let us : List Point = told_destinations bs z s xs in
       let vs : List Point = told Value bs p u e in
-      let values = fine_back us _ f in
+      let values = told_back us _ f in
       let much = room_at plan ts q bs p d a (told_room Value bs p u e tt (all_front vs _ values.all)) in
-      let owns = parts_back plan ts (parts_onto (d + 1) n v) _ b in
-      (good_all_onto plan ts q bs p s xs d n j (terms_named 0 bs p u (more e es)) a much low (omega (arith, high)) h.0 (fine_front us _ f) (parts_front plan ts (parts_onto (d + 1) n v) _ b) r,
-      values_good plan ts q d n j v y (terms_named 0 bs (deeper 0 p) (behind e u) es)
-      (λ k. good_term plan ts q bs p u e d j a (omega (arith, low)) (omega (arith, high)) h.1.0 (fine_front vs _ values) (parts_front plan ts (parts d j y) _ owns) k)
-      (λ m ks k. good_from plan ts q bs (deeper 0 p) (behind e u) es d (j + labels y) m ks (at_deeper plan ts q bs p d 0 d a (omega arith) (omega (arith, much))) (omega (arith, low)) (omega (arith, high)) h.1.1
-      (fine_back vs _ values) (parts_back plan ts (parts d j y) _ owns) k) r)
+      let owns = parts_back plan ts (parts_onto (d + 1) n v) _ b in (
+        good_all_onto plan ts q bs p s xs d n j (terms_named 0 bs p u (more e es)) a much low (omega (arith, high)) h.0 (told_front us _ f) (parts_front plan ts (parts_onto (d + 1) n v) _ b) r,
+        values_good plan ts q d n j v y (terms_named 0 bs (deeper 0 p) (behind e u) es)
+            (λ k. good_term plan ts q bs p u e d j a (omega (arith, low)) (omega (arith, high)) h.1.0 (told_front vs _ values) (parts_front plan ts (parts d j y) _ owns) k)
+            (λ m ks k. good_from plan ts q bs (deeper 0 p) (behind e u) es d (j + labels y) m ks (at_deeper plan ts q bs p d 0 d a (omega arith) (omega (arith, much))) (omega (arith, low)) (omega (arith, high)) h.1.1
+            (told_back vs _ values) (parts_back plan ts (parts d j y) _ owns) k) r,
+      )
   good_in plan ts q bs p s (call l e es) d n a top low high h f b r =
       let u : Spot = behind e s in
       let z : Place = deeper (size es + 2) p in
@@ -653,20 +662,20 @@ mutual
       let same = count_named 1 bs (deeper 2 p) u es in
       let at = a.at in
       let xs = told Value bs z s e in
-      let much = told_room Value bs z s e tt (all_front xs _ f.all) in
-      (good_each plan ts q bs (deeper 2 p) u es (d + 2) (n + labels v) (at_deeper plan ts q bs p d 2 (d + 2) a refl (omega (arith, much, at))) (omega (arith, low)) (omega (arith, high)) h.1 (fine_back xs _ f)
-      (parts_back plan ts (parts k n v) _ b) (right_front plan (marks_each q (d + 2) (n + labels v) vs) _ r),
-      good_term plan ts q bs z s e k n (at_deeper plan ts q bs p d (size es + 2) k a (omega (arith, same)) (omega (arith, same, much, at))) low (omega (arith, high)) h.0 (fine_front xs _ f)
-      (parts_front plan ts (parts k n v) _ b) (right_back plan (marks_each q (d + 2) (n + labels v) vs) _ r))
-
+      let much = told_room Value bs z s e tt (all_front xs _ f.all) in (
+        good_each plan ts q bs (deeper 2 p) u es (d + 2) (n + labels v) (at_deeper plan ts q bs p d 2 (d + 2) a refl (omega (arith, much, at))) (omega (arith, low)) (omega (arith, high)) h.1 (told_back xs _ f)
+            (parts_back plan ts (parts k n v) _ b) (right_front plan (marks_each q (d + 2) (n + labels v) vs) _ r),
+        good_term plan ts q bs z s e k n (at_deeper plan ts q bs p d (size es + 2) k a (omega (arith, same)) (omega (arith, same, much, at))) low (omega (arith, high)) h.0 (told_front xs _ f)
+            (parts_front plan ts (parts k n v) _ b) (right_back plan (marks_each q (d + 2) (n + labels v) vs) _ r),
+      )
   good_in plan ts q bs p s (goto l x) d n a top low high h f b r = name_gone plan ts q p.procedure d (bound_in bs x.letters) h (a.sees x.letters)
   good_in plan ts q bs p s (label l x c) d n a top low high h f b r =
-      good_in plan ts q bs p (past 1 s) c d (n + 1) a top (omega (arith, low)) (omega (arith, high)) h.1 (fine_back (one_of p.labels s.place l x ++ its_meaning (bound_in bs x)) _ f) b.1 r.1
+      good_in plan ts q bs p (past 1 s) c d (n + 1) a top (omega (arith, low)) (omega (arith, high)) h.1 (told_back (one_of p.labels s.place l x ++ its_meaning (bound_in bs x)) _ f) b.1 r.1
   good_in plan ts q bs p s (case_of l e c) d n a top low high h f b r =
       good_in plan ts q bs p (behind_constant e (past 1 s)) c d (n + 1) a top (omega (arith, low)) (omega (arith, high)) h.2
-      (fine_back (chosen_at p.switch s.place l (constant_word bs e) ++ constant bs p.procedure (past 1 s) e) _ f) b r.1
+      (told_back (chosen_at p.switch s.place l (constant_word bs e) ++ constant bs p.procedure (past 1 s) e) _ f) b r.1
   good_in plan ts q bs p s (default l c) d n a top low high h f b r =
-      good_in plan ts q bs p (past 1 s) c d (n + 1) a top (omega (arith, low)) (omega (arith, high)) h.1 (fine_back (defaulted_at p.switch s.place l) _ f) b r.1
+      good_in plan ts q bs p (past 1 s) c d (n + 1) a top (omega (arith, low)) (omega (arith, high)) h.1 (told_back (defaulted_at p.switch s.place l) _ f) b r.1
   good_in plan ts q bs p s (when l z e c) d n a top low high h f b r =
       let v = condition_named bs p s e in
       two_good plan ts _ _ (told Truth bs p s e) _ (parts_if d (n + 1) v) _ (marks_if q d (n + 1) v (not z)) _ (λ i w k. good_if plan ts q bs p s e d (n + 1) (not z) a (omega (arith, low)) (omega (arith, high)) h.0 i w k)
@@ -684,10 +693,11 @@ mutual
       let g = command_named bs (looping p) (behind e s) c in
       let j = n + 3 + labels_if v in
       let inner : At plan ts q bs (looping p) d = record { sees = a.sees; at = a.at; low = a.low } in
-      let rest = r.1.1.1 in
-      (good_if plan ts q bs p s e d (n + 3) z a (omega (arith, low)) (omega (arith, high)) h.0 (fine_front (told Truth bs p s e) _ f) (parts_front plan ts (parts_if d (n + 3) v) _ b) (right_back plan (marks_in q d j g) _ rest),
-      good_in plan ts q bs (looping p) (behind e s) c d j inner top (omega (arith, low)) (omega (arith, high)) h.1 (fine_back (told Truth bs p s e) _ f) (parts_back plan ts (parts_if d (n + 3) v) _ b)
-      (right_front plan (marks_in q d j g) _ rest))
+      let rest = r.1.1.1 in (
+        good_if plan ts q bs p s e d (n + 3) z a (omega (arith, low)) (omega (arith, high)) h.0 (told_front (told Truth bs p s e) _ f) (parts_front plan ts (parts_if d (n + 3) v) _ b) (right_back plan (marks_in q d j g) _ rest),
+        good_in plan ts q bs (looping p) (behind e s) c d j inner top (omega (arith, low)) (omega (arith, high)) h.1 (told_back (told Truth bs p s e) _ f) (parts_back plan ts (parts_if d (n + 3) v) _ b)
+            (right_front plan (marks_in q d j g) _ rest),
+      )
   good_in plan ts q bs p s (for_loop l x e y k c) d n a top low high h f b r =
       let u : Spot = onward (symbols_each k) 0 (behind y (behind e s)) in
       let g : Place = labelled u.number (looping (deeper 2 p)) in
@@ -698,9 +708,9 @@ mutual
       let start = told Value bs p s e in
       let limit = told Value bs (deeper 1 p) (behind e s) y in
       let steps = each_constant bs p.procedure (behind y (behind e s)) k in
-      let z = fine_front (start ++ limit ++ steps ++ pushed p 4) body f in
+      let z = told_front (start ++ limit ++ steps ++ pushed p 4) body f in
       let much = (all_back (start ++ limit ++ steps) (pushed p 4) z.all).0 in
-      let heads = fine_front (start ++ limit) steps (fine_front (start ++ limit ++ steps) (pushed p 4) z) in
+      let heads = told_front (start ++ limit) steps (told_front (start ++ limit ++ steps) (pushed p 4) z) in
       let at = a.at in
       let two = a.low in
       let v = term_named bs p s e in
@@ -709,32 +719,34 @@ mutual
       let rest = r.1.1.1.1 in
       let deep = at_deeper plan ts q bs p d 2 (d + 2) a refl (omega (arith, much, at)) in
       let inner : At plan ts q cs g (d + 2) = record {
-            sees = sees_bind (Known plan ts q p.procedure (d + 2)) x.letters (Variable p.procedure p.depth) bs (λ own. (omega (arith, at, two), omega (arith, at))) deep.sees;
-            at = deep.at;
-            low = deep.low;
-          } in
+        sees = sees_bind (Known plan ts q p.procedure (d + 2)) x.letters (Variable p.procedure p.depth) bs (λ own. (omega (arith, at, two), omega (arith, at))) deep.sees;
+        at = deep.at;
+        low = deep.low;
+      } in
       let owns = parts_back plan ts (parts d (n + 4) v ++ parts (d + 1) j w) _ b in
       let jumps = right_back plan (marks q d (n + 4) v ++ marks q (d + 1) j w) _ rest in
-      let entered = enter_labels plan ts q p.procedure cs g g i c (d + 2) (j + labels w) (u.number + 1) inner (omega (arith, much, at)) (omega (arith, low)) (omega (arith, high)) owns jumps in
-      (good_term plan ts q bs p s e d (n + 4) a (omega (arith, low)) (omega (arith, high)) h.0 (fine_front start limit heads) (parts_front plan ts (parts d (n + 4) v) _ (parts_front plan ts (parts d (n + 4) v ++ parts (d + 1) j w) _ b))
-      (right_front plan (marks q d (n + 4) v) _ (right_front plan (marks q d (n + 4) v ++ marks q (d + 1) j w) _ rest)),
-      good_term plan ts q bs (deeper 1 p) (behind e s) y (d + 1) j (at_deeper plan ts q bs p d 1 (d + 1) a refl (omega (arith, much, at))) (omega (arith, low)) (omega (arith, high)) h.1 (fine_back start limit heads)
-      (parts_back plan ts (parts d (n + 4) v) _ (parts_front plan ts (parts d (n + 4) v ++ parts (d + 1) j w) _ b)) (right_back plan (marks q d (n + 4) v) _ (right_front plan (marks q d (n + 4) v ++ marks q (d + 1) j w) _ rest)),
-      omega (arith, much, at),
-      good_in plan ts q ds g i c (d + 2) (j + labels w) entered (omega (arith, much, at)) (omega (arith, low)) (omega (arith, high)) h.3 (fine_back (start ++ limit ++ steps ++ pushed p 4) body f) owns jumps)
+      let entered = enter_labels plan ts q p.procedure cs g g i c (d + 2) (j + labels w) (u.number + 1) inner (omega (arith, much, at)) (omega (arith, low)) (omega (arith, high)) owns jumps in (
+        good_term plan ts q bs p s e d (n + 4) a (omega (arith, low)) (omega (arith, high)) h.0 (told_front start limit heads) (parts_front plan ts (parts d (n + 4) v) _ (parts_front plan ts (parts d (n + 4) v ++ parts (d + 1) j w) _ b))
+            (right_front plan (marks q d (n + 4) v) _ (right_front plan (marks q d (n + 4) v ++ marks q (d + 1) j w) _ rest)),
+        good_term plan ts q bs (deeper 1 p) (behind e s) y (d + 1) j (at_deeper plan ts q bs p d 1 (d + 1) a refl (omega (arith, much, at))) (omega (arith, low)) (omega (arith, high)) h.1 (told_back start limit heads)
+            (parts_back plan ts (parts d (n + 4) v) _ (parts_front plan ts (parts d (n + 4) v ++ parts (d + 1) j w) _ b)) (right_back plan (marks q d (n + 4) v) _ (right_front plan (marks q d (n + 4) v ++ marks q (d + 1) j w) _ rest)),
+        omega (arith, much, at),
+        good_in plan ts q ds g i c (d + 2) (j + labels w) entered (omega (arith, much, at)) (omega (arith, low)) (omega (arith, high)) h.3 (told_back (start ++ limit ++ steps ++ pushed p 4) body f) owns jumps,
+      )
   good_in plan ts q bs p s (switch l e c) d n a top low high h f b r =
       let g : Place = switching (behind e s).number p in
       let u : Spot = numbered 1 (behind e s) in
       let v = term_named bs p s e in
       let inner : At plan ts q bs g d = record { sees = a.sees; at = a.at; low = a.low } in
-      let body = fine_back (told Value bs p s e) (told_done bs g u c) f in
-      let differ = (cases_differ f.claims bs p s l e c f.clean).0 in
-      (good_term plan ts q bs p s e d (n + 1) a (omega (arith, low)) (omega (arith, high)) h.0 (fine_front (told Value bs p s e) _ f) (parts_front plan ts (parts d (n + 1) v) _ b) (right_front plan (marks q d (n + 1) v) _ r.1),
-      subst (λ (ws : List ℕ). AllDiffer ws) (same_words bs g u c h.1) differ,
-      are_words bs g u c h.1 body.all,
-      good_in plan ts q bs g u c d (n + 1 + labels v) inner top (omega (arith, low)) (omega (arith, high)) h.1 body (parts_back plan ts (parts d (n + 1) v) _ b) (right_back plan (marks q d (n + 1) v) _ r.1))
+      let body = told_back (told Value bs p s e) (told_done bs g u c) f in
+      let differ = (cases_differ f.claims bs p s l e c f.clean).0 in (
+        good_term plan ts q bs p s e d (n + 1) a (omega (arith, low)) (omega (arith, high)) h.0 (told_front (told Value bs p s e) _ f) (parts_front plan ts (parts d (n + 1) v) _ b) (right_front plan (marks q d (n + 1) v) _ r.1),
+        subst (λ (ws : List ℕ). AllDiffer ws) (same_words bs g u c h.1) differ,
+        are_words bs g u c h.1 body.all,
+        good_in plan ts q bs g u c d (n + 1 + labels v) inner top (omega (arith, low)) (omega (arith, high)) h.1 body (parts_back plan ts (parts d (n + 1) v) _ b) (right_back plan (marks q d (n + 1) v) _ r.1),
+      )
   good_in plan ts q bs p s (result l e) d n a top low high h f b r =
-      (h.0, good_term plan ts q bs p (past 1 s) e d n a low high h.1 (fine_back (unless p.in_valof (at s.place l no_result_or_return)) _ f) b r)
+      (h.0, good_term plan ts q bs p (past 1 s) e d n a low high h.1 (told_back (unless p.in_valof (at s.place l no_result_or_return)) _ f) b r)
   good_in plan ts q bs p s (simple l w.Break) d n a top low high h f b r = h
   good_in plan ts q bs p s (simple l w.Loop) d n a top low high h f b r = h
   good_in plan ts q bs p s (simple l w.EndCase) d n a top low high h f b r = h
@@ -752,7 +764,7 @@ mutual
       let y = declarations_named bs p s (declare x xs) in
       let j = n + labels_of_declarations y in
       let e = behind_declarations d y in
-      let told_first = fine_front (told_declared bs p s (declare x xs)) _ f in
+      let told_first = told_front (told_declared bs p s (declare x xs)) _ f in
       let owns = parts_front plan ts (parts_of_declarations d n y) _ b in
       let jumps = right_front plan (marks_of_declarations q d n y) _ r in
       let whole = declared_at plan ts q bs p s (declare x xs) d n a top low (omega (arith, high)) h.0 told_first owns in
@@ -760,15 +772,18 @@ mutual
       let rest = parts_back plan ts (parts_of_declarations d n y) _ b in
       let marked = right_back plan (marks_of_declarations q d n y) _ r in
       let entered = enter_labels_each plan ts q p.procedure es z z i cs e j (u.number + 1) inner whole.1 (omega (arith, low)) (omega (arith, high)) rest marked in
-      let body = good_through plan ts q ds z i cs e j entered whole.1 (omega (arith, low)) (omega (arith, high)) h.1 (fine_back (told_declared bs p s (declare x xs)) _ f) rest marked in
-      let one = one_declared_at plan ts q bs p s x d n a top low (omega (arith, high)) h.0.0 (fine_front (told_one_declared bs p s x) _ told_first)
-          (parts_front plan ts (parts_of_declaration d n (declaration_named bs p s x)) _ owns) in
-      ((good_one_declared plan ts q bs p s x d n a top low (omega (arith, high)) h.0.0 (fine_front (told_one_declared bs p s x) _ told_first)
-      (parts_front plan ts (parts_of_declaration d n (declaration_named bs p s x)) _ owns) (right_front plan (marks_of_declaration q d n (declaration_named bs p s x)) _ jumps),
-      good_declared plan ts q (scope_behind_one bs p s x) (place_behind_one bs p s x) (behind_one_declared x s) xs (behind_declaration d (declaration_named bs p s x)) (n + labels_of_declaration (declaration_named bs p s x))
-      one.0 one.1 (omega (arith, low)) (omega (arith, high)) h.0.1 (fine_back (told_one_declared bs p s x) _ told_first) (parts_back plan ts (parts_of_declaration d n (declaration_named bs p s x)) _ owns)
-      (right_back plan (marks_of_declaration q d n (declaration_named bs p s x)) _ jumps)),
-      subst (λ (v : Exits). GoodThrough plan ts q v e (commands_named ds z i cs)) (same_declared bs p s (declare x xs)).1 body)
+      let body = good_through plan ts q ds z i cs e j entered whole.1 (omega (arith, low)) (omega (arith, high)) h.1 (told_back (told_declared bs p s (declare x xs)) _ f) rest marked in
+      let one = one_declared_at plan ts q bs p s x d n a top low (omega (arith, high)) h.0.0 (told_front (told_one_declared bs p s x) _ told_first)
+      (parts_front plan ts (parts_of_declaration d n (declaration_named bs p s x)) _ owns) in (
+        (
+          good_one_declared plan ts q bs p s x d n a top low (omega (arith, high)) h.0.0 (told_front (told_one_declared bs p s x) _ told_first)
+              (parts_front plan ts (parts_of_declaration d n (declaration_named bs p s x)) _ owns) (right_front plan (marks_of_declaration q d n (declaration_named bs p s x)) _ jumps),
+          good_declared plan ts q (scope_behind_one bs p s x) (place_behind_one bs p s x) (behind_one_declared x s) xs (behind_declaration d (declaration_named bs p s x)) (n + labels_of_declaration (declaration_named bs p s x))
+              one.0 one.1 (omega (arith, low)) (omega (arith, high)) h.0.1 (told_back (told_one_declared bs p s x) _ told_first) (parts_back plan ts (parts_of_declaration d n (declaration_named bs p s x)) _ owns)
+              (right_back plan (marks_of_declaration q d n (declaration_named bs p s x)) _ jumps),
+        ),
+        subst (λ (v : Exits). GoodThrough plan ts q v e (commands_named ds z i cs)) (same_declared bs p s (declare x xs)).1 body,
+      )
   good_in plan ts q bs p s (repeat l c) d n a top low high h f b r =
       let inner : At plan ts q bs (looping p) d = record { sees = a.sees; at = a.at; low = a.low } in
       good_in plan ts q bs (looping p) s c d (n + 2) inner top (omega (arith, low)) (omega (arith, high)) h f b r.1.1
@@ -794,12 +809,13 @@ mutual
   good_declared plan ts q bs p s no_declarations d n a top low high h f b r = tt
   good_declared plan ts q bs p s (declare x xs) d n a top low high h f b r =
       let y = declaration_named bs p s x in
-      let ahead = fine_front (told_one_declared bs p s x) _ f in
+      let ahead = told_front (told_one_declared bs p s x) _ f in
       let owns = parts_front plan ts (parts_of_declaration d n y) _ b in
-      let one = one_declared_at plan ts q bs p s x d n a top low (omega (arith, high)) h.0 ahead owns in
-      (good_one_declared plan ts q bs p s x d n a top low (omega (arith, high)) h.0 ahead owns (right_front plan (marks_of_declaration q d n y) _ r),
-      good_declared plan ts q (scope_behind_one bs p s x) (place_behind_one bs p s x) (behind_one_declared x s) xs (behind_declaration d y) (n + labels_of_declaration y) one.0 one.1 (omega (arith, low)) (omega (arith, high)) h.1
-      (fine_back (told_one_declared bs p s x) _ f) (parts_back plan ts (parts_of_declaration d n y) _ b) (right_back plan (marks_of_declaration q d n y) _ r))
+      let one = one_declared_at plan ts q bs p s x d n a top low (omega (arith, high)) h.0 ahead owns in (
+        good_one_declared plan ts q bs p s x d n a top low (omega (arith, high)) h.0 ahead owns (right_front plan (marks_of_declaration q d n y) _ r),
+        good_declared plan ts q (scope_behind_one bs p s x) (place_behind_one bs p s x) (behind_one_declared x s) xs (behind_declaration d y) (n + labels_of_declaration y) one.0 one.1 (omega (arith, low)) (omega (arith, high)) h.1
+            (told_back (told_one_declared bs p s x) _ f) (parts_back plan ts (parts_of_declaration d n y) _ b) (right_back plan (marks_of_declaration q d n y) _ r),
+      )
 
   good_one_declared : (plan : ℕ → Use) (ts : List Target) (q : ℕ) (bs : List Binding) (p : Place) (s : Spot) (x : Declaration) (d n : ℕ) → At plan ts q bs p d → d ≤ FRAME_WORDS → 1 ≤ n
       → n + labels_of_declaration (declaration_named bs p s x) ≤ OCODE_LABEL + 1 → SoundOneDeclared bs p s x → Fine (told_one_declared bs p s x) → PartsRight plan ts (parts_of_declaration d n (declaration_named bs p s x))
@@ -817,17 +833,18 @@ mutual
   good_defined plan ts q m bs p s no_definitions d n a top low high h f b r = tt
   good_defined plan ts q m bs p s (define x ds) d n a top low high h f b r =
       let y = definition_named bs p s x in
-      let ahead = fine_front (told_one_defined m bs p s x) _ f in
-      let one = one_defined_at plan ts q m bs p s x d a top h.0 ahead in
-      (good_one_defined plan ts q m bs p s x d n a top low (omega (arith, high)) h.0 ahead (parts_front plan ts (parts_of_definition d n y) _ b) (right_front plan (marks_of_definition q d n y) _ r),
-      good_defined plan ts q m bs (place_behind_one_defined bs p x) (behind_one_defined x s) ds (behind_definition d y) (n + labels_of_definition y) one.0 one.1 (omega (arith, low)) (omega (arith, high)) h.1
-      (fine_back (told_one_defined m bs p s x) _ f) (parts_back plan ts (parts_of_definition d n y) _ b) (right_back plan (marks_of_definition q d n y) _ r))
+      let ahead = told_front (told_one_defined m bs p s x) _ f in
+      let one = one_defined_at plan ts q m bs p s x d a top h.0 ahead in (
+        good_one_defined plan ts q m bs p s x d n a top low (omega (arith, high)) h.0 ahead (parts_front plan ts (parts_of_definition d n y) _ b) (right_front plan (marks_of_definition q d n y) _ r),
+        good_defined plan ts q m bs (place_behind_one_defined bs p x) (behind_one_defined x s) ds (behind_definition d y) (n + labels_of_definition y) one.0 one.1 (omega (arith, low)) (omega (arith, high)) h.1
+            (told_back (told_one_defined m bs p s x) _ f) (parts_back plan ts (parts_of_definition d n y) _ b) (right_back plan (marks_of_definition q d n y) _ r),
+      )
 
   good_one_defined : (plan : ℕ → Use) (ts : List Target) (q m : ℕ) (bs : List Binding) (p : Place) (s : Spot) (x : Definition) (d n : ℕ) → At plan ts q bs p d → d ≤ FRAME_WORDS → 1 ≤ n
       → n + labels_of_definition (definition_named bs p s x) ≤ OCODE_LABEL + 1 → SoundOneDefined bs p s x → Fine (told_one_defined m bs p s x) → PartsRight plan ts (parts_of_definition d n (definition_named bs p s x))
       → AllRight plan (marks_of_definition q d n (definition_named bs p s x)) → GoodOneDefined plan ts q d (definition_named bs p s x)
   good_one_defined plan ts q m bs p s (variables l xs is) d n a top low high h f b r =
-      good_started plan ts q bs p (past (length xs) s) is d n a top low high h (fine_back (each_of m s.place xs) _ f) b r
+      good_started plan ts q bs p (past (length xs) s) is d n a top low high h (told_back (each_of m s.place xs) _ f) b r
   good_one_defined plan ts q m bs p s (routine l x fs c) d n a top low high h f b r = tt
   good_one_defined plan ts q m bs p s (function l x fs e) d n a top low high h f b r = tt
 
@@ -841,6 +858,8 @@ mutual
       two_good plan ts _ _ (told Value bs p s e) _ (parts d n v) _ (marks q d n v) _ (λ i w k. good_term plan ts q bs p s e d n a low (omega (arith, high)) h.0 i w k)
       (λ i w k. good_started plan ts q bs (deeper 1 p) (behind e s) is (d + 1) (n + labels v) (at_deeper plan ts q bs p d 1 (d + 1) a refl (omega (arith, much))) much (omega (arith, low)) (omega (arith, high)) h.1 i w k) f b r
   good_started plan ts q bs p s (vector l e is) d n a top low high h f b r =
-      let much = vector_room bs p s l e is d a.at h.0 f.all in
-      (much, good_started plan ts q bs (deeper (words_of_start bs e + 1) p) (behind_constant e s) is (d + worth (constant_word bs e) + 2) n (at_vector plan ts q bs p s l e is d a h.0 f.all) much low high h.1
-      (vector_rest bs p s l e is f) b r)
+      let much = vector_room bs p s l e is d a.at h.0 f.all in (
+        much,
+        good_started plan ts q bs (deeper (words_of_start bs e + 1) p) (behind_constant e s) is (d + worth (constant_word bs e) + 2) n (at_vector plan ts q bs p s l e is d a h.0 f.all) much low high h.1
+            (vector_rest bs p s l e is f) b r,
+      )

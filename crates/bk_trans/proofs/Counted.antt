@@ -23,6 +23,7 @@ use Rattle.bk_trans.specs.Depths.{count, behind_declaration, behind_declarations
 use Rattle.bk_trans.specs.Parts.{Part, parts_of_items, parts, parts_each, parts_if, parts_at, parts_onto, parts_from, parts_in, parts_through, parts_of_declarations, parts_of_declaration, parts_of_definitions, parts_of_definition, parts_of_starts, target_of}
 use Rattle.bk_trans.specs.Scheme.{prefix_code, infix_code, by_turns, value_code, each_code, jump_code, address_code, store_code, value_codes, store_codes, command_code, through_code, declarations_code, declaration_code, definitions_code, definition_code, starts_code, procedure_code, word_code, data_code, scheme, outermost, valued, looping, switching}
 use Rattle.bk_trans.specs.Laws.{StatementsAreFew}
+use Rattle.bk_trans.proofs.Once.{no_more}
 
 -- what stands by itself
 abbrev apart : List Target → List Part → ℕ
@@ -72,10 +73,7 @@ table_long : (ws : List ℕ) → length (map (λ v. t.DataNumber (signed v)) ws)
 table_long [] = refl
 table_long (v ∷ ws) = let h = table_long ws in omega (arith, h)
 
-no_more : (n : ℕ) → n + 0 ≡ n
-no_more n = omega arith
-
-some_nodes : (e : Expression) → 1 ≤ nodes e
+pub some_nodes : (e : Expression) → 1 ≤ nodes e
 some_nodes (name l x) = omega arith
 some_nodes (number l v) = omega arith
 some_nodes (text l x) = omega arith
@@ -89,7 +87,7 @@ some_nodes (apply l m e es) = omega arith
 some_nodes (valof l c) = omega arith
 some_nodes (table l es) = omega arith
 
-constants_long : (es : Expressions) (g : Supply) → length (constants_of es g).part ≤ nodes_of_each es
+pub constants_long : (es : Expressions) (g : Supply) → length (constants_of es g).part ≤ nodes_of_each es
 constants_long none g = omega arith
 constants_long (more e es) g = let h = constants_long es (constant g).left in let i = some_nodes e in omega (arith, h, i)
 

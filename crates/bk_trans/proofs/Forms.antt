@@ -23,8 +23,9 @@ use Rattle.bk_trans.specs.Parts.{Part, procedure, static_item, static_table, lab
 use Rattle.bk_trans.specs.Scheme.{goal_of, push, truth_value, by_turns, value_code, each_code, jump_code, address_code, store_code, value_codes, store_codes, command_code, through_code, declarations_code, declaration_code, definitions_code, definition_code, starts_code, goal, variable, valued, looping, switching, label_or, default_in, cases, test_of_step}
 use Rattle.bk_trans.proofs.Marks.{Mark, marks, marks_each, marks_if, marks_at, marks_onto, marks_all_onto, marks_from, marks_by_turns, marks_in, marks_through, marks_of_declaration, marks_of_declarations, marks_of_definition, marks_of_definitions, marks_of_starts, AllRight, right_front, right_back}
 use Rattle.bk_trans.proofs.Good.{Exits, in_loop, in_switch, in_valof, IsGoal, Good, GoodEach, GoodIf, GoodAt, GoodOnto, GoodAllOnto, GoodFrom, GoodIn, GoodThrough, GoodDeclared, GoodOneDeclared, GoodDefined, GoodOneDefined, GoodStarted}
-use Rattle.bk_trans.proofs.Steps.{Steps, append, step, last, fits_number, fits_truth, next_truth, fits_query, fits_text, fits_local, fits_push, next_push, fits_address, fits_assign, fits_assign_local, fits_address_local, fits_dyadic, fits_assign_at, fits_assign_byte, fits_jump, fits_jump_if, fits_give, fits_stack, fits_store, fits_function, fits_routine, fits_return, fits_finish, fits_test, next_test, prefix_steps, dyadic_steps, infix_steps, go_steps}
+use Rattle.bk_trans.proofs.Steps.{back, Steps, append, step, last, fits_number, fits_truth, next_truth, fits_query, fits_text, fits_local, fits_push, next_push, fits_address, fits_assign, fits_assign_local, fits_address_local, fits_dyadic, fits_assign_at, fits_assign_byte, fits_jump, fits_jump_if, fits_give, fits_stack, fits_store, fits_function, fits_routine, fits_return, fits_finish, fits_test, next_test, prefix_steps, dyadic_steps, infix_steps, go_steps}
 use Rattle.bk_trans.proofs.Cases.{cases_right, default_right, default_is, cases_are, cases_jump}
+use Rattle.bk_trans.proofs.Once.{no_more}
 
 -- the tables among parts have words
 abbrev pub TableRight : (ℕ → Use) → Part → Type 0
@@ -164,12 +165,6 @@ stored : (plan : ℕ → Use) (p s : ℕ) (x : Bool) → s ≤ FRAME_WORDS → S
 stored plan p s true top = last s t.Store (fits_store plan p s top) refl
 stored plan p s false top = done
 
-no_more : (n : ℕ) → n + 0 ≡ n
-no_more n = omega arith
-
-back : (s : ℕ) → s + 1 - 1 ≡ s
-back s = omega arith
-
 label_is : (n m : ℕ) → 1 ≤ n → n + 1 ≤ m + 1 → m ≤ OCODE_LABEL → IsLabel n
 label_is n m low below high = (low, omega (arith, below, high))
 
@@ -203,18 +198,18 @@ mutual
       let back : s + 1 - 1 ≡ s = omega arith in
       let fits : Fits plan p (s + 1) (t.GiveResult (n + 1)) = fits_give plan p s s (n + 1) r.1.0 (omega arith) next deep top in
       let before = append (if_typed plan ts p s (n + 2) c false n deep (omega (arith, low)) (omega (arith, high)) r.0 own g.0 (tables_front plan (parts_if s (n + 2) c) _ (tables_front plan first_parts _ a))
-          (right_front plan (marks_if p s (n + 2) c false) _ (right_front plan first_marks _ r.1.1)))
-          (value_typed plan ts p s (n + 2 + labels_if c) x deep (omega (arith, low)) (omega (arith, high)) g.1 (tables_back plan (parts_if s (n + 2) c) _ (tables_front plan first_parts _ a))
-          (right_back plan (marks_if p s (n + 2) c false) _ (right_front plan first_marks _ r.1.1))) in
+      (right_front plan (marks_if p s (n + 2) c false) _ (right_front plan first_marks _ r.1.1)))
+      (value_typed plan ts p s (n + 2 + labels_if c) x deep (omega (arith, low)) (omega (arith, high)) g.1 (tables_back plan (parts_if s (n + 2) c) _ (tables_front plan first_parts _ a))
+      (right_back plan (marks_if p s (n + 2) c false) _ (right_front plan first_marks _ r.1.1))) in
       let middle = step s (t.GiveResult (n + 1)) fits back (lands r.0 own (value_typed plan ts p s (n + 2 + labels_if c + labels x) y deep (omega (arith, low)) (omega (arith, high)) g.2
-          (tables_back plan first_parts _ a) (right_back plan first_marks _ r.1.1))) in
+      (tables_back plan first_parts _ a) (right_back plan first_marks _ r.1.1))) in
       let end : Steps plan p (s + 1) (t.GiveResult (n + 1) ∷ t.Label (n + 1) ∷ t.TakeResult s ∷ []) (s + 1) = step s (t.GiveResult (n + 1)) fits back (takes r.1.0 next deep (omega arith) top done) in
       append (append before middle) end
   value_typed plan ts p s n (apply e es) deep low high g a r =
       let u = s + 2 + count es in
       let top : u + 1 ≤ FRAME_WORDS = room plan ts p u e g.1 in
       let args = each_typed plan ts p (s + 2) (n + labels e) es (omega (arith, deep)) (omega (arith, low)) (omega (arith, high)) g.0 (tables_back plan (parts u n e) _ a)
-          (right_front plan (marks_each p (s + 2) (n + labels e) es) _ r) in
+      (right_front plan (marks_each p (s + 2) (n + labels e) es) _ r) in
       let called = value_typed plan ts p u n e (omega (arith, deep)) low (omega (arith, high)) g.1 (tables_front plan (parts u n e) _ a) (right_back plan (marks_each p (s + 2) (n + labels e) es) _ r) in
       append (append (step (s + 2) (t.Stack (s + 2)) (fits_stack plan p s (s + 2) (omega (arith, deep), omega (arith, top))) refl args) called)
       (last (s + 1) (t.CallFunction s) (fits_function plan p (u + 1) s deep (omega arith) top) refl)
@@ -294,17 +289,19 @@ mutual
       → AllTables plan (parts_from s n es) → AllKeep plan p s (s + 1) (value_codes ts s n es) (marks_from p s n es) (store_codes ts (s + 1) m xs)
   from_typed plan ts p s n m none xs deep low high g a = tt
   from_typed plan ts p s n m (more e es) no_lvalues deep low high g a = tt
-  from_typed plan ts p s n m (more e es) (onto x xs) deep low high g a =
-      (λ r. value_typed plan ts p s n e deep low (omega (arith, high)) g.0 (tables_front plan (parts s n e) _ a) r,
-      from_typed plan ts p s (n + labels e) (m + labels_at x) es xs deep (omega (arith, low)) (omega (arith, high)) g.1 (tables_back plan (parts s n e) _ a))
+  from_typed plan ts p s n m (more e es) (onto x xs) deep low high g a = (
+    λ r. value_typed plan ts p s n e deep low (omega (arith, high)) g.0 (tables_front plan (parts s n e) _ a) r,
+    from_typed plan ts p s (n + labels e) (m + labels_at x) es xs deep (omega (arith, low)) (omega (arith, high)) g.1 (tables_back plan (parts s n e) _ a),
+  )
 
   all_onto_typed : (plan : ℕ → Use) (ts : List Target) (p s n m : ℕ) (xs : Lvalues) (es : Terms) → 2 ≤ s → 1 ≤ n → n + labels_onto xs ≤ OCODE_LABEL + 1 → GoodAllOnto plan ts p s xs es → s + 1 ≤ FRAME_WORDS
       → AllTables plan (parts_onto (s + 1) n xs) → AllKeep plan p (s + 1) s (store_codes ts (s + 1) n xs) (marks_all_onto p (s + 1) n xs) (value_codes ts s m es)
   all_onto_typed plan ts p s n m no_lvalues es deep low high g top a = tt
   all_onto_typed plan ts p s n m (onto x xs) none deep low high g top a = tt
-  all_onto_typed plan ts p s n m (onto x xs) (more e es) deep low high g top a =
-      (λ r. onto_typed plan ts p s n x deep low (omega (arith, high)) g.0 top (tables_front plan (parts_at (s + 1) n x) _ a) r,
-      all_onto_typed plan ts p s (n + labels_at x) (m + labels e) xs es deep (omega (arith, low)) (omega (arith, high)) g.1 top (tables_back plan (parts_at (s + 1) n x) _ a))
+  all_onto_typed plan ts p s n m (onto x xs) (more e es) deep low high g top a = (
+    λ r. onto_typed plan ts p s n x deep low (omega (arith, high)) g.0 top (tables_front plan (parts_at (s + 1) n x) _ a) r,
+    all_onto_typed plan ts p s (n + labels_at x) (m + labels e) xs es deep (omega (arith, low)) (omega (arith, high)) g.1 top (tables_back plan (parts_at (s + 1) n x) _ a),
+  )
 
   pub command_typed : (plan : ℕ → Use) (ts : List Target) (p : ℕ) (x : Exits) (ar : Around) (s n : ℕ) (c : Command) → 2 ≤ s → s ≤ FRAME_WORDS → 1 ≤ n → n + labels_in c ≤ OCODE_LABEL + 1
       → Surrounds plan p x s ar → GoodIn plan ts p x s c → AllTables plan (parts_in s n c) → AllRight plan (marks_in p s n c) → Steps plan p s (command_code ts ar s n c) s
@@ -318,16 +315,18 @@ mutual
       let m = n + labels_onto xs in
       let ahead = tables_front plan (parts_onto (s + 1) n xs) _ a in
       let behind = tables_back plan (parts_onto (s + 1) n xs) _ a in
-      turns_typed plan p s (value_codes ts s m (more e es)) (store_codes ts (s + 1) n xs) (marks_from p s m (more e es)) (marks_all_onto p (s + 1) n xs)
-      (λ q. value_typed plan ts p s m e deep (omega (arith, low)) (omega (arith, high)) g.1.0 (tables_front plan (parts s m e) _ behind) q,
-      from_typed plan ts p s (m + labels e) (n + labels_at y) es ys deep (omega (arith, low)) (omega (arith, high)) g.1.1 (tables_back plan (parts s m e) _ behind))
-      (λ q. onto_typed plan ts p s n y deep low (omega (arith, high)) g.0.0 much (tables_front plan (parts_at (s + 1) n y) _ ahead) q,
-      all_onto_typed plan ts p s (n + labels_at y) (m + labels e) ys es deep (omega (arith, low)) (omega (arith, high)) g.0.1 much (tables_back plan (parts_at (s + 1) n y) _ ahead)) r
+      turns_typed plan p s (value_codes ts s m (more e es)) (store_codes ts (s + 1) n xs) (marks_from p s m (more e es)) (marks_all_onto p (s + 1) n xs) (
+        λ q. value_typed plan ts p s m e deep (omega (arith, low)) (omega (arith, high)) g.1.0 (tables_front plan (parts s m e) _ behind) q,
+        from_typed plan ts p s (m + labels e) (n + labels_at y) es ys deep (omega (arith, low)) (omega (arith, high)) g.1.1 (tables_back plan (parts s m e) _ behind),
+      ) (
+        λ q. onto_typed plan ts p s n y deep low (omega (arith, high)) g.0.0 much (tables_front plan (parts_at (s + 1) n y) _ ahead) q,
+        all_onto_typed plan ts p s (n + labels_at y) (m + labels e) ys es deep (omega (arith, low)) (omega (arith, high)) g.0.1 much (tables_back plan (parts_at (s + 1) n y) _ ahead),
+      ) r
   command_typed plan ts p x ar s n (call e es) deep top low high i g a r =
       let u = s + 2 + count es in
       let much : u + 1 ≤ FRAME_WORDS = room plan ts p u e g.1 in
       let args = each_typed plan ts p (s + 2) (n + labels e) es (omega (arith, deep)) (omega (arith, low)) (omega (arith, high)) g.0 (tables_back plan (parts u n e) _ a)
-          (right_front plan (marks_each p (s + 2) (n + labels e) es) _ r) in
+      (right_front plan (marks_each p (s + 2) (n + labels e) es) _ r) in
       let called = value_typed plan ts p u n e (omega (arith, deep)) low (omega (arith, high)) g.1 (tables_front plan (parts u n e) _ a) (right_back plan (marks_each p (s + 2) (n + labels e) es) _ r) in
       append (append (step (s + 2) (t.Stack (s + 2)) (fits_stack plan p s (s + 2) (omega (arith, deep), omega (arith, much))) refl args) called)
       (last s (t.CallRoutine s) (fits_routine plan p (u + 1) s deep (omega arith) much) refl)
@@ -353,9 +352,9 @@ mutual
       let m = marks_if p s (n + 2) e false ++ marks_in p s (n + 2 + labels_if e) c in
       let q = parts_if s (n + 2) e ++ parts_in s (n + 2 + labels_if e) c in
       let tested = if_typed plan ts p s (n + 2) e false n deep (omega (arith, low)) (omega (arith, high)) r.0 own g.0 (tables_front plan (parts_if s (n + 2) e) _ (tables_front plan q _ a))
-          (right_front plan (marks_if p s (n + 2) e false) _ (right_front plan m _ r.1.1)) in
+      (right_front plan (marks_if p s (n + 2) e false) _ (right_front plan m _ r.1.1)) in
       let first = command_typed plan ts p x ar s (n + 2 + labels_if e) c deep top (omega (arith, low)) (omega (arith, high)) i g.1 (tables_back plan (parts_if s (n + 2) e) _ (tables_front plan q _ a))
-          (right_back plan (marks_if p s (n + 2) e false) _ (right_front plan m _ r.1.1)) in
+      (right_back plan (marks_if p s (n + 2) e false) _ (right_front plan m _ r.1.1)) in
       let other = command_typed plan ts p x ar s (n + 2 + labels_if e + labels_in c) d deep top (omega (arith, low)) (omega (arith, high)) i g.2 (tables_back plan q _ a) (right_back plan m _ r.1.1) in
       append (append (append tested first) (step s (t.Jump (n + 1)) (fits_jump plan p s (n + 1) r.1.0 next top) refl (lands r.0 own other))) (lands r.1.0 next done)
   command_typed plan ts p x ar s n (while y e c) deep top low high i g a r =
@@ -365,7 +364,7 @@ mutual
       let m = marks_in p s (n + 3 + labels_if e) c in
       let around = around_loop plan p x s ar n (n + 2) s (r.0, own, (deep, top)) (r.1.1.0, third, (deep, top)) i in
       let body = command_typed plan ts p (in_loop x) (looping n (n + 2) s ar) s (n + 3 + labels_if e) c deep top (omega (arith, low)) (omega (arith, high)) around g.1
-          (tables_back plan (parts_if s (n + 3) e) _ a) (right_front plan m _ r.1.1.1) in
+      (tables_back plan (parts_if s (n + 3) e) _ a) (right_front plan m _ r.1.1.1) in
       let tested = if_typed plan ts p s (n + 3) e y (n + 1) deep (omega (arith, low)) (omega (arith, high)) r.1.0 second g.0 (tables_front plan (parts_if s (n + 3) e) _ a) (right_back plan m _ r.1.1.1) in
       append (append (step s (t.Jump n) (fits_jump plan p s n r.0 own top) refl (lands r.1.0 second body)) (lands r.0 own tested)) (lands r.1.1.0 third done)
   command_typed plan ts p x ar s n (for_loop e f k c) deep top low high i g a r =
@@ -380,24 +379,24 @@ mutual
       let m = marks p s (n + 4) e ++ marks p (s + 1) (n + 4 + labels e) f in
       let q = parts s (n + 4) e ++ parts (s + 1) (n + 4 + labels e) f in
       let start = value_typed plan ts p s (n + 4) e deep (omega (arith, low)) (omega (arith, high)) g.0 (tables_front plan (parts s (n + 4) e) _ (tables_front plan q _ a))
-          (right_front plan (marks p s (n + 4) e) _ (right_front plan m _ rest)) in
+      (right_front plan (marks p s (n + 4) e) _ (right_front plan m _ rest)) in
       let limit = value_typed plan ts p (s + 1) (n + 4 + labels e) f (omega (arith, deep)) (omega (arith, low)) (omega (arith, high)) g.1 (tables_back plan (parts s (n + 4) e) _ (tables_front plan q _ a))
-          (right_back plan (marks p s (n + 4) e) _ (right_front plan m _ rest)) in
+      (right_back plan (marks p s (n + 4) e) _ (right_front plan m _ rest)) in
       let around = around_loop plan p x u ar (n + 2) (n + 3) u (r.1.1.0, third, (omega (arith, deep), omega (arith, much))) (r.1.1.1.0, fourth, (omega (arith, deep), omega (arith, much)))
-          (deeper plan p x s u ar (omega arith) i) in
+      (deeper plan p x s u ar (omega arith) i) in
       let body = command_typed plan ts p (in_loop x) (looping (n + 2) (n + 3) u ar) u (n + 4 + labels e + labels f) c (omega (arith, deep)) (omega (arith, much)) (omega (arith, low)) (omega (arith, high))
-          around g.3 (tables_back plan q _ a) (right_back plan m _ rest) in
+      around g.3 (tables_back plan q _ a) (right_back plan m _ rest) in
       let round = step u t.Store (fits_store plan p u (omega (arith, much))) refl (step u (t.Jump n) (fits_jump plan p u n r.0 first (omega (arith, much))) refl (lands r.1.0 second body)) in
       let leave : Steps plan p u (t.Label (n + 3) ∷ t.Stack s ∷ []) s = lands r.1.1.1.0 fourth (last s (t.Stack s) (fits_stack plan p u s (deep, top)) refl) in
       let tested : Steps plan p u (t.Label n ∷ t.Load (v.Local s) ∷ t.Load (v.Local (s + 1)) ∷ test_of_step k ∷ t.JumpIf true (n + 1) ∷ t.Label (n + 3) ∷ t.Stack s ∷ []) s =
-          lands r.0 first (step (u + 1) (t.Load (v.Local s)) (fits_local plan p u s deep (omega arith) (omega (arith, much))) refl
-          (step (u + 1 + 1) (t.Load (v.Local (s + 1))) (fits_local plan p (u + 1) (s + 1) (omega (arith, deep)) (omega arith) much) refl
-          (step (u + 1) (test_of_step k) (fits_test plan p (u + 1 + 1) k (omega (arith, deep)) much) (next_test (u + 1 + 1) k ∙ back (u + 1))
-          (step u (t.JumpIf true (n + 1)) (fits_jump_if plan p u true (n + 1) r.1.0 second (omega (arith, deep)) (omega (arith, much))) (omega arith) leave)))) in
+      lands r.0 first (step (u + 1) (t.Load (v.Local s)) (fits_local plan p u s deep (omega arith) (omega (arith, much))) refl
+      (step (u + 1 + 1) (t.Load (v.Local (s + 1))) (fits_local plan p (u + 1) (s + 1) (omega (arith, deep)) (omega arith) much) refl
+      (step (u + 1) (test_of_step k) (fits_test plan p (u + 1 + 1) k (omega (arith, deep)) much) (next_test (u + 1 + 1) k ∙ back (u + 1))
+      (step u (t.JumpIf true (n + 1)) (fits_jump_if plan p u true (n + 1) r.1.0 second (omega (arith, deep)) (omega (arith, much))) (omega arith) leave)))) in
       let counted = lands r.1.1.0 third (step (u + 1) (t.Load (v.Local s)) (fits_local plan p u s deep (omega arith) (omega (arith, much))) refl
-          (step (u + 1 + 1) (t.Number (signed k)) (fits_number plan p (u + 1) (signed k) much) refl
-          (step (u + 1) (t.Dyadic two.Add) (fits_dyadic plan p (u + 1 + 1) two.Add (omega (arith, deep)) much) (omega arith)
-          (step u (t.Assign (v.Local s)) (fits_assign_local plan p (u + 1) s deep (omega arith) (omega (arith, much))) (omega arith) tested)))) in
+      (step (u + 1 + 1) (t.Number (signed k)) (fits_number plan p (u + 1) (signed k) much) refl
+      (step (u + 1) (t.Dyadic two.Add) (fits_dyadic plan p (u + 1 + 1) two.Add (omega (arith, deep)) much) (omega arith)
+      (step u (t.Assign (v.Local s)) (fits_assign_local plan p (u + 1) s deep (omega arith) (omega (arith, much))) (omega arith) tested)))) in
       append (append (ending (s + 1 + 1) u two_words (append start limit)) round) counted
   command_typed plan ts p x ar s n (switch e c) deep top low high i g a r =
       let own : IsLabel n = (low, omega (arith, high)) in
@@ -408,10 +407,10 @@ mutual
       let marked = right_back plan (marks p s (n + 1) e) _ r.1 in
       let chosen = default_is plan p s n (default_in m c) r.0 own (default_right plan p s m c one few marked) in
       let fits = fits_switch plan p s (label_or n (default_in m c)) (cases m c) chosen (cases_are plan p s m c one few marked g.1 g.2)
-          (cases_jump plan p s (cases m c) (cases_right plan p s m c one few marked)) deep much in
+      (cases_jump plan p s (cases m c) (cases_right plan p s m c one few marked)) deep much in
       let asked = value_typed plan ts p s (n + 1) e deep (omega (arith, low)) (omega (arith, high)) g.0 (tables_front plan (parts s (n + 1) e) _ a) (right_front plan (marks p s (n + 1) e) _ r.1) in
       let body = command_typed plan ts p (in_switch x) (switching n s ar) s m c deep top one few (around_switch plan p x s ar n s (r.0, own, (deep, top)) i) g.3
-          (tables_back plan (parts s (n + 1) e) _ a) marked in
+      (tables_back plan (parts s (n + 1) e) _ a) marked in
       append (append asked (step s (t.Switch (label_or n (default_in m c)) (cases m c)) fits (back s) body)) (lands r.0 own done)
   command_typed plan ts p x ar s n (result e) deep top low high i g a r =
       let v = i.valof g.0 in
@@ -450,7 +449,7 @@ mutual
       let m = marks_in p s (n + 3) c in
       let around = around_loop plan p x s ar (n + 1) (n + 2) s (r.1.0, second, (deep, top)) (r.1.1.0, third, (deep, top)) i in
       let body = command_typed plan ts p (in_loop x) (looping (n + 1) (n + 2) s ar) s (n + 3) c deep top (omega (arith, low)) (omega (arith, high)) around g.0
-          (tables_front plan (parts_in s (n + 3) c) _ a) (right_front plan m _ r.1.1.1) in
+      (tables_front plan (parts_in s (n + 3) c) _ a) (right_front plan m _ r.1.1.1) in
       let tested = if_typed plan ts p s (n + 3 + labels_in c) e y n deep (omega (arith, low)) (omega (arith, high)) r.0 own g.1 (tables_back plan (parts_in s (n + 3) c) _ a) (right_back plan m _ r.1.1.1) in
       append (append (lands r.0 own body) (lands r.1.0 second tested)) (lands r.1.1.0 third done)
 

@@ -22,9 +22,7 @@ use Rattle.bk_scope.specs.Entering.{labels_of, labels_of_each, with_formals}
 use Rattle.bk_scope.specs.Names.{parenthesised, words_of_start, place_behind, variables_of}
 use Rattle.bk_scope.specs.Spots.{Spot, procedures_in, onward, past, numbered, behind, behind_each, behind_done, behind_declared, behind_one_declared, behind_one_defined, behind_constant, symbols_each, beginning}
 use Rattle.bk_scope.specs.Found.{Claim, is_claimed}
-use Rattle.bk_scope.specs.Points.{Point, meaning, word, depth, wrong, claim, claimed, claims_behind, judged, deepest, without_depths, at}
-use Rattle.bk_scope.specs.Laws.{Clean}
-use Rattle.bk_scope.proofs.Parts.{first_clean, second_clean}
+use Rattle.bk_scope.specs.Points.{Point, meaning, word, depth, wrong, claim, claimed, judged, deepest, without_depths, at}
 use Rattle.bk_scope.specs.Scoping.{labels_in_scope, procedures_in_scope, place_behind_one_defined, variables_in_scope, scope_behind_one, place_behind_one, scope_behind, place_behind_all}
 use Rattle.bk_scope.specs.Faults.{unless, its_meaning, its_global, its_frame, inside_procedure, its_word, constant, each_constant, at_most, addressed, assigned, prefixed, pushed, chosen_at, defaulted_at, one_of, each_of, told, told_each, told_destinations, told_done, told_done_each, told_declared, told_one_declared, told_defined, told_one_defined, told_started}
 use Rattle.bk_scope.specs.Sound.{Callable, FrameSound, Sound, SoundEach, SoundDestinations, SoundDone, SoundDoneEach, SoundDeclared, SoundOneDeclared, SoundDefined, SoundOneDefined, SoundStarted}
@@ -39,13 +37,14 @@ use Rattle.bk_trans.specs.Scheme.{goal_of}
 use Rattle.bk_trans.proofs.Marks.{right_back}
 use Rattle.bk_trans.proofs.Good.{IsWord}
 use Rattle.bk_trans.proofs.Scopes.{Sees, sees_bind, sees_all, sees_labels, sees_procedures, AllMean, mean_both, PartsRight, parts_front, parts_back, sees_none, procedure_found, statics_seen}
-use Rattle.bk_trans.proofs.Told.{AllFine, Fine}
-use Rattle.bk_trans.proofs.Bodies.{Known, At, same_one_defined, same_defined, enter_labels, at_manifests, at_globals, good_term, good_in, no_more}
+use Rattle.bk_trans.proofs.Told.{AllPoints, AllFine, Told, told_front, told_back, Fine}
+use Rattle.bk_trans.proofs.Bodies.{Known, At, same_one_defined, same_defined, enter_labels, at_manifests, at_globals, good_term, good_in}
 use Rattle.bk_trans.proofs.Sections.{GoodName, GoodPart, AllGood, good_both}
 use Rattle.bk_trans.proofs.Forms.{AllTables}
 use Rattle.bk_scope.specs.Faults as faults
 use Rattle.bk_trans.proofs.Sections.{name_marks}
 use Rattle.bk_trans.specs.Labels.{labels_of_procedure}
+use Rattle.bk_trans.proofs.Once.{no_more}
 
 -- what is told, frames apart: each word is one, and no claim was made before
 abbrev pub IsQuiet : Point → Type 0
@@ -56,27 +55,10 @@ IsQuiet (wrong f) = ⊤
 IsQuiet (claim c f) = ⊤
 
 abbrev pub AllQuiet : List Point → Type 0
-AllQuiet [] = ⊤
-AllQuiet (x ∷ xs) = IsQuiet x × AllQuiet xs
+AllQuiet xs = AllPoints IsQuiet xs
 
-front : (xs ys : List Point) → AllQuiet (xs ++ ys) → AllQuiet xs
-front [] ys h = tt
-front (x ∷ xs) ys h = (h.0, front xs ys h.1)
-
-back : (xs ys : List Point) → AllQuiet (xs ++ ys) → AllQuiet ys
-back [] ys h = h
-back (x ∷ xs) ys h = back xs ys h.1
-
-pub record Quiet (xs : List Point) : Type 0 where
-  pub all : AllQuiet xs
-  pub claims : List Claim
-  pub clean : Clean claims xs
-
-pub quiet_front : (xs ys : List Point) → Quiet (xs ++ ys) → Quiet xs
-quiet_front xs ys h = record { all = front xs ys h.all; claims = h.claims; clean = first_clean h.claims xs ys h.clean }
-
-pub quiet_back : (xs ys : List Point) → Quiet (xs ++ ys) → Quiet ys
-quiet_back xs ys h = record { all = back xs ys h.all; claims = claims_behind h.claims xs; clean = second_clean h.claims xs ys h.clean }
+abbrev pub Quiet : List Point → Type 0
+Quiet xs = Told IsQuiet xs
 
 -- the body of a procedure
 all_flat : (xs : List Point) → AllQuiet (without_depths xs) → AllQuiet xs
@@ -115,9 +97,9 @@ pub body_quiet : (m k : ℕ) (s : Spot) (l : ℕ) (x : List ℕ) (fs : List Ment
 body_quiet m k s l x fs y body h =
     let inner : List Point = inside_procedure k s l x fs y body in
     let flat : Quiet (without_depths inner) =
-        quiet_back (its_meaning y) _ (quiet_back (its_frame s.place l (deepest (kept (length fs + 2)) inner)) (its_meaning y ++ without_depths inner) (quiet_back (one_of m s.place l x) _ h)) in
+    told_back (its_meaning y) _ (told_back (its_frame s.place l (deepest (kept (length fs + 2)) inner)) (its_meaning y ++ without_depths inner) (told_back (one_of m s.place l x) _ h)) in
     let whole : Quiet inner = record { all = all_flat inner flat.all; claims = flat.claims; clean = sym (judged_flat inner flat.claims) ∙ flat.clean } in
-    quiet_back (each_of k (s.place + 1) fs) body (quiet_back (its_global s.place l x y) (each_of k (s.place + 1) fs ++ body) whole)
+    told_back (each_of k (s.place + 1) fs) body (told_back (its_global s.place l x y) (each_of k (s.place + 1) fs ++ body) whole)
 
 body_fine : (formals : ℕ) (body : List Point) → Quiet body → FrameSound formals body → Fine body
 body_fine formals body h frame = record { all = fine_within body (kept (formals + 2)) h.all frame; claims = h.claims; clean = h.clean }
@@ -270,9 +252,14 @@ routine_good plan ts m bs p s l x fs c d n a low high h f b =
     let owns = b.1 in
     let jumps = right_back plan (name_marks n v) _ b.0.1.1 in
     let entered = enter_labels plan ts n s.number es z z u c (length fs + 2) j (s.number + 2) inner much (omega (arith, low)) (omega (arith, high_body)) owns jumps in
-    let fine = body_fine (length fs) body (body_quiet m s.number s l x fs (bound_in bs x) body f) h.1 in
-    (low, high, callable_good (bound_in bs x) h.0, much,
-    good_in plan ts n cs z u c (length fs + 2) j entered much (omega (arith, low)) (omega (arith, high_body)) h.2 fine owns jumps, tables_right plan ts _ owns)
+    let fine = body_fine (length fs) body (body_quiet m s.number s l x fs (bound_in bs x) body f) h.1 in (
+      low,
+      high,
+      callable_good (bound_in bs x) h.0,
+      much,
+      good_in plan ts n cs z u c (length fs + 2) j entered much (omega (arith, low)) (omega (arith, high_body)) h.2 fine owns jumps,
+      tables_right plan ts _ owns,
+    )
 
 function_good : (plan : ℕ → Use) (ts : List Target) (m : ℕ) (bs : List Binding) (p : Place) (s : Spot) (l : ℕ) (x : List ℕ) (fs : List Mention) (e : Expression) (d n : ℕ) → Out plan ts bs p.procedure s.number → 1 ≤ n
     → n + labels_of_definition (definition_named bs p s (function l x fs e)) ≤ OCODE_LABEL + 1 → SoundOneDefined bs p s (function l x fs e) → Quiet (told_one_defined m bs p s (function l x fs e))
@@ -289,14 +276,19 @@ function_good plan ts m bs p s l x fs e d n a low high h f b =
     let inner = inside plan ts n bs p z p.procedure (length fs) s.number fs a refl refl refl much in
     let owns = b.1 in
     let jumps = right_back plan (name_marks n v) _ b.0.1.1 in
-    let fine = body_fine (length fs) body (body_quiet m s.number s l x fs (bound_in bs x) body f) h.1 in
-    (low, high, callable_good (bound_in bs x) h.0, much,
-    good_term plan ts n cs z u e (length fs + 2) j inner (omega (arith, low)) (omega (arith, high_body)) h.2 fine owns jumps, tables_right plan ts _ owns)
+    let fine = body_fine (length fs) body (body_quiet m s.number s l x fs (bound_in bs x) body f) h.1 in (
+      low,
+      high,
+      callable_good (bound_in bs x) h.0,
+      much,
+      good_term plan ts n cs z u e (length fs + 2) j inner (omega (arith, low)) (omega (arith, high_body)) h.2 fine owns jumps,
+      tables_right plan ts _ owns,
+    )
 
 -- parts one behind the other
 nest_two : (plan : ℕ → Use) (ts : List Target) (xs ys : List Point) (ps qs : List Part) → (Quiet xs → PartsRight plan ts ps → AllGood plan ts ps) → (Quiet ys → PartsRight plan ts qs → AllGood plan ts qs)
     → Quiet (xs ++ ys) → PartsRight plan ts (ps ++ qs) → AllGood plan ts (ps ++ qs)
-nest_two plan ts xs ys ps qs one two f b = good_both plan ts ps qs (one (quiet_front xs ys f) (parts_front plan ts ps qs b)) (two (quiet_back xs ys f) (parts_back plan ts ps qs b))
+nest_two plan ts xs ys ps qs one two f b = good_both plan ts ps qs (one (told_front xs ys f) (parts_front plan ts ps qs b)) (two (told_back xs ys f) (parts_back plan ts ps qs b))
 
 -- EACH NODE, with what is nested in it
 mutual
@@ -307,7 +299,7 @@ mutual
   nest_term plan ts bs p s (text l v) d n a low high h f b = tt
   nest_term plan ts bs p s (truth l v) d n a low high h f b = tt
   nest_term plan ts bs p s (query l) d n a low high h f b = tt
-  nest_term plan ts bs p s (unary l sign.Address e) d n a low high h f b = nest_at plan ts bs p (past 1 s) (Address false (line_of e)) e d n (onto _ a (omega arith)) low high h.0 h.1 (quiet_back (prefixed sign.Address bs (past 1 s) e) _ f) b
+  nest_term plan ts bs p s (unary l sign.Address e) d n a low high h f b = nest_at plan ts bs p (past 1 s) (Address false (line_of e)) e d n (onto _ a (omega arith)) low high h.0 h.1 (told_back (prefixed sign.Address bs (past 1 s) e) _ f) b
   nest_term plan ts bs p s (unary l sign.Contents e) d n a low high h f b = nest_term plan ts bs p (past 1 s) e d n (onto _ a (omega arith)) low high h.1 f b
   nest_term plan ts bs p s (unary l sign.Plus e) d n a low high h f b = nest_term plan ts bs p (past 1 s) e d n (onto _ a (omega arith)) low high h.1 f b
   nest_term plan ts bs p s (unary l sign.Minus e) d n a low high h f b = nest_term plan ts bs p (past 1 s) e d n (onto _ a (omega arith)) low high h.1 f b
@@ -334,7 +326,7 @@ mutual
       let u : Spot = onward 1 (1 + length (labels_of c)) s in
       let old = a.older in
       nest_in plan ts cs g u c d (n + 1) (labels_out plan ts p.procedure p.procedure (s.number + 1) (labels_of c) bs u.number (omega (arith, old)) (onto u.number a (omega arith))) (omega (arith, low)) (omega (arith, high)) h
-      (quiet_front (told_done cs g u c) (pushed p 1) f) b
+      (told_front (told_done cs g u c) (pushed p 1) f) b
   nest_term plan ts bs p s (table l es) d n a low high h f b = ((low, omega (arith, high)), tt)
   nest_term plan ts bs p s (parens l e) d n a low high h f b = nest_term plan ts bs p (past 1 s) e d n (onto _ a (omega arith)) low high h f b
   nest_term plan ts bs p s (unary l sign.Not e) d n a low high h f b = nest_term plan ts bs p (past 1 s) e d n (onto _ a (omega arith)) low high h.1 f b
@@ -361,7 +353,7 @@ mutual
   nest_if plan ts bs p s (text l v) d n a low high h f b = tt
   nest_if plan ts bs p s (truth l v) d n a low high h f b = tt
   nest_if plan ts bs p s (query l) d n a low high h f b = tt
-  nest_if plan ts bs p s (unary l sign.Address e) d n a low high h f b = nest_at plan ts bs p (past 1 s) (Address false (line_of e)) e d n (onto _ a (omega arith)) low high h.0 h.1 (quiet_back (prefixed sign.Address bs (past 1 s) e) _ f) b
+  nest_if plan ts bs p s (unary l sign.Address e) d n a low high h f b = nest_at plan ts bs p (past 1 s) (Address false (line_of e)) e d n (onto _ a (omega arith)) low high h.0 h.1 (told_back (prefixed sign.Address bs (past 1 s) e) _ f) b
   nest_if plan ts bs p s (unary l sign.Contents e) d n a low high h f b = nest_term plan ts bs p (past 1 s) e d n (onto _ a (omega arith)) low high h.1 f b
   nest_if plan ts bs p s (unary l sign.Plus e) d n a low high h f b = nest_term plan ts bs p (past 1 s) e d n (onto _ a (omega arith)) low high h.1 f b
   nest_if plan ts bs p s (unary l sign.Minus e) d n a low high h f b = nest_term plan ts bs p (past 1 s) e d n (onto _ a (omega arith)) low high h.1 f b
@@ -388,7 +380,7 @@ mutual
       let u : Spot = onward 1 (1 + length (labels_of c)) s in
       let old = a.older in
       nest_in plan ts cs g u c d (n + 1) (labels_out plan ts p.procedure p.procedure (s.number + 1) (labels_of c) bs u.number (omega (arith, old)) (onto u.number a (omega arith))) (omega (arith, low)) (omega (arith, high)) h
-      (quiet_front (told_done cs g u c) (pushed p 1) f) b
+      (told_front (told_done cs g u c) (pushed p 1) f) b
   nest_if plan ts bs p s (table l es) d n a low high h f b = ((low, omega (arith, high)), tt)
   nest_if plan ts bs p s (parens l e) d n a low high h f b = nest_if plan ts bs p (past 1 s) e d n (onto _ a (omega arith)) low high h f b
   nest_if plan ts bs p s (unary l sign.Not e) d n a low high h f b = nest_if plan ts bs p (past 1 s) e d n (onto _ a (omega arith)) low high h.1 f b
@@ -463,7 +455,7 @@ mutual
       let v = lvalue_named bs p s x in
       let us : List Point = unless (assigned bs x) (at s.place (line_of x) not_assignable) in
       nest_two plan ts (us ++ told (Destination false (line_of x)) bs p s x) _ (parts_at d n v) _
-      (λ i w. nest_onto plan ts bs p s (Destination false (line_of x)) x d n a low (omega (arith, high)) h.0 h.1 (quiet_back us _ i) w)
+      (λ i w. nest_onto plan ts bs p s (Destination false (line_of x)) x d n a low (omega (arith, high)) h.0 h.1 (told_back us _ i) w)
       (λ i w. nest_all_onto plan ts bs p (behind x s) xs d (n + labels_at v) (onto _ a (omega arith)) (omega (arith, low)) (omega (arith, high)) h.2 i w) f b
 
   nest_in : (plan : ℕ → Use) (ts : List Target) (bs : List Binding) (p : Place) (s : Spot) (c : Action) (d n : ℕ) → Out plan ts bs p.procedure s.number → 1 ≤ n
@@ -482,12 +474,12 @@ mutual
       (λ i w. nest_each plan ts bs (deeper 2 p) u es (d + 2) (n + labels v) (onto _ a (omega arith)) (omega (arith, low)) (omega (arith, high)) h.1 i w) f b
   nest_in plan ts bs p s (goto l x) d n a low high h f b = tt
   nest_in plan ts bs p s (label l x c) d n a low high h f b =
-      (tt, nest_in plan ts bs p (past 1 s) c d (n + 1) (onto _ a (omega arith)) (omega (arith, low)) (omega (arith, high)) h.1 (quiet_back (one_of p.labels s.place l x ++ its_meaning (bound_in bs x)) _ f) b.1)
+      (tt, nest_in plan ts bs p (past 1 s) c d (n + 1) (onto _ a (omega arith)) (omega (arith, low)) (omega (arith, high)) h.1 (told_back (one_of p.labels s.place l x ++ its_meaning (bound_in bs x)) _ f) b.1)
   nest_in plan ts bs p s (case_of l e c) d n a low high h f b =
       nest_in plan ts bs p (behind_constant e (past 1 s)) c d (n + 1) (onto _ a (omega arith)) (omega (arith, low)) (omega (arith, high)) h.2
-      (quiet_back (chosen_at p.switch s.place l (constant_word bs e) ++ constant bs p.procedure (past 1 s) e) _ f) b
+      (told_back (chosen_at p.switch s.place l (constant_word bs e) ++ constant bs p.procedure (past 1 s) e) _ f) b
   nest_in plan ts bs p s (default l c) d n a low high h f b =
-      nest_in plan ts bs p (past 1 s) c d (n + 1) (onto _ a (omega arith)) (omega (arith, low)) (omega (arith, high)) h.1 (quiet_back (defaulted_at p.switch s.place l) _ f) b
+      nest_in plan ts bs p (past 1 s) c d (n + 1) (onto _ a (omega arith)) (omega (arith, low)) (omega (arith, high)) h.1 (told_back (defaulted_at p.switch s.place l) _ f) b
   nest_in plan ts bs p s (when l z e c) d n a low high h f b =
       let v = condition_named bs p s e in
       nest_two plan ts (told Truth bs p s e) _ (parts_if d (n + 1) v) _ (λ i w. nest_if plan ts bs p s e d (n + 1) a (omega (arith, low)) (omega (arith, high)) h.0 i w)
@@ -513,7 +505,7 @@ mutual
       let start = told Value bs p s e in
       let limit = told Value bs (deeper 1 p) (behind e s) y in
       let steps = each_constant bs p.procedure (behind y (behind e s)) k in
-      let heads = quiet_front (start ++ limit) steps (quiet_front (start ++ limit ++ steps) (pushed p 4) (quiet_front (start ++ limit ++ steps ++ pushed p 4) (told_done ds g i c) f)) in
+      let heads = told_front (start ++ limit) steps (told_front (start ++ limit ++ steps) (pushed p 4) (told_front (start ++ limit ++ steps ++ pushed p 4) (told_done ds g i c) f)) in
       let v = term_named bs p s e in
       let w = term_named bs (deeper 1 p) (behind e s) y in
       let j = n + 4 + labels v in
@@ -526,13 +518,13 @@ mutual
       (nest_two plan ts start limit (parts d (n + 4) v) (parts (d + 1) j w) (λ f b. nest_term plan ts bs p s e d (n + 4) a (omega (arith, low)) (omega (arith, high)) h.0 f b)
       (λ f b. nest_term plan ts bs (deeper 1 p) (behind e s) y (d + 1) j (onto _ a (omega arith)) (omega (arith, low)) (omega (arith, high)) h.1 f b) heads (parts_front plan ts ps _ b))
       (nest_in plan ts ds g i c (d + 2) (j + labels w) (labels_out plan ts p.procedure p.procedure (u.number + 1) (labels_of c) cs i.number own inner) (omega (arith, low)) (omega (arith, high)) h.3
-      (quiet_back (start ++ limit ++ steps ++ pushed p 4) (told_done ds g i c) f) (parts_back plan ts ps _ b))
+      (told_back (start ++ limit ++ steps ++ pushed p 4) (told_done ds g i c) f) (parts_back plan ts ps _ b))
   nest_in plan ts bs p s (switch l e c) d n a low high h f b =
       let v = term_named bs p s e in
       nest_two plan ts (told Value bs p s e) _ (parts d (n + 1) v) _ (λ i w. nest_term plan ts bs p s e d (n + 1) a (omega (arith, low)) (omega (arith, high)) h.0 i w)
       (λ i w. nest_in plan ts bs (switching (behind e s).number p) (numbered 1 (behind e s)) c d (n + 1 + labels v) (onto _ a (omega arith)) (omega (arith, low)) (omega (arith, high)) h.1 i w) f b
   nest_in plan ts bs p s (result l e) d n a low high h f b =
-      nest_term plan ts bs p (past 1 s) e d n (onto _ a (omega arith)) low high h.1 (quiet_back (unless p.in_valof (at s.place l no_result_or_return)) _ f) b
+      nest_term plan ts bs p (past 1 s) e d n (onto _ a (omega arith)) low high h.1 (told_back (unless p.in_valof (at s.place l no_result_or_return)) _ f) b
   nest_in plan ts bs p s (simple l k) d n a low high h f b = tt
   nest_in plan ts bs p s (block l no_declarations cs) d n a low high h f b =
       subst (λ (m : ℕ). AllGood plan ts (parts_through d m (commands_named bs p s cs))) (sym (no_more n))
@@ -546,7 +538,7 @@ mutual
       let v = declaration_named bs p s x in
       let ps = parts_of_declarations d n y in
       let owns = parts_front plan ts ps _ b in
-      let first = quiet_front (told_declared bs p s (declare x xs)) _ f in
+      let first = told_front (told_declared bs p s (declare x xs)) _ f in
       let whole = declared_out plan ts bs p s (declare x xs) d n a low (omega (arith, high)) owns in
       let one = one_declared_out plan ts bs p s x d n a low (omega (arith, high)) (parts_front plan ts (parts_of_declaration d n v) _ owns) in
       let old = a.older in
@@ -557,7 +549,7 @@ mutual
       first owns)
       (nest_through plan ts (labels_in_scope p.procedure (u.number + 1) (labels_of_each cs) es) (labelled u.number g) i cs (behind_declarations d y) (n + labels_of_declarations y)
       (labels_out plan ts g.procedure p.procedure (u.number + 1) (labels_of_each cs) es i.number (omega (arith, old)) inner) (omega (arith, low)) (omega (arith, high)) h.1
-      (quiet_back (told_declared bs p s (declare x xs)) _ f) (parts_back plan ts ps _ b))
+      (told_back (told_declared bs p s (declare x xs)) _ f) (parts_back plan ts ps _ b))
   nest_in plan ts bs p s (repeat l c) d n a low high h f b = nest_in plan ts bs (looping p) s c d (n + 2) a (omega (arith, low)) (omega (arith, high)) h f b
   nest_in plan ts bs p s (repeat_while l z c e) d n a low high h f b =
       let g = command_named bs (looping p) s c in
@@ -605,7 +597,7 @@ mutual
   nest_one_defined : (plan : ℕ → Use) (ts : List Target) (m : ℕ) (bs : List Binding) (p : Place) (s : Spot) (x : Definition) (d n : ℕ) → Out plan ts bs p.procedure s.number → 1 ≤ n
       → n + labels_of_definition (definition_named bs p s x) ≤ OCODE_LABEL + 1 → SoundOneDefined bs p s x → Quiet (told_one_defined m bs p s x) → PartsRight plan ts (parts_of_definition d n (definition_named bs p s x)) → AllGood plan ts (parts_of_definition d n (definition_named bs p s x))
   nest_one_defined plan ts m bs p s (variables l xs is) d n a low high h f b =
-      nest_started plan ts bs p (past (length xs) s) is d n (onto _ a (omega arith)) low high h (quiet_back (each_of m s.place xs) _ f) b
+      nest_started plan ts bs p (past (length xs) s) is d n (onto _ a (omega arith)) low high h (told_back (each_of m s.place xs) _ f) b
   nest_one_defined plan ts m bs p s (routine l x fs c) d n a low high h f b =
       let z : Place = labelled (s.number + 1) (called true s.number (length fs)) in
       let u : Spot = onward (1 + length fs) (2 + length (labels_of c)) s in
@@ -614,10 +606,11 @@ mutual
       let v = meant (bound_in bs x) in
       let high_body : n + (labels_of_procedure v + labels_in (command_named cs z u c)) ≤ OCODE_LABEL + 1 = high in
       let further = onto u.number a (omega arith) in
-      let inner : Out plan ts es s.number u.number = record { sees = formals_out plan ts s.number 2 u.number fs bs (omega arith) further.sees; older = omega arith } in
-      (routine_good plan ts m bs p s l x fs c d n a low high h f b,
-      nest_in plan ts cs z u c (length fs + 2) (n + labels_of_procedure v) (labels_out plan ts s.number s.number (s.number + 2) (labels_of c) es u.number (omega arith) inner) (omega (arith, low)) (omega (arith, high_body)) h.2
-      (body_quiet m s.number s l x fs (bound_in bs x) (told_done cs z u c) f) b.1)
+      let inner : Out plan ts es s.number u.number = record { sees = formals_out plan ts s.number 2 u.number fs bs (omega arith) further.sees; older = omega arith } in (
+        routine_good plan ts m bs p s l x fs c d n a low high h f b,
+        nest_in plan ts cs z u c (length fs + 2) (n + labels_of_procedure v) (labels_out plan ts s.number s.number (s.number + 2) (labels_of c) es u.number (omega arith) inner) (omega (arith, low)) (omega (arith, high_body)) h.2
+            (body_quiet m s.number s l x fs (bound_in bs x) (told_done cs z u c) f) b.1,
+      )
   nest_one_defined plan ts m bs p s (function l x fs e) d n a low high h f b =
       let z : Place = called false s.number (length fs) in
       let u : Spot = onward (1 + length fs) 1 s in
@@ -625,10 +618,11 @@ mutual
       let v = meant (bound_in bs x) in
       let high_body : n + (labels_of_procedure v + labels (term_named cs z u e)) ≤ OCODE_LABEL + 1 = high in
       let further = onto u.number a (omega arith) in
-      let inner : Out plan ts cs s.number u.number = record { sees = formals_out plan ts s.number 2 u.number fs bs (omega arith) further.sees; older = omega arith } in
-      (function_good plan ts m bs p s l x fs e d n a low high h f b,
-      nest_term plan ts cs z u e (length fs + 2) (n + labels_of_procedure v) inner (omega (arith, low)) (omega (arith, high_body)) h.2
-      (body_quiet m s.number s l x fs (bound_in bs x) (told Value cs z u e) f) b.1)
+      let inner : Out plan ts cs s.number u.number = record { sees = formals_out plan ts s.number 2 u.number fs bs (omega arith) further.sees; older = omega arith } in (
+        function_good plan ts m bs p s l x fs e d n a low high h f b,
+        nest_term plan ts cs z u e (length fs + 2) (n + labels_of_procedure v) inner (omega (arith, low)) (omega (arith, high_body)) h.2
+            (body_quiet m s.number s l x fs (bound_in bs x) (told Value cs z u e) f) b.1,
+      )
 
   nest_started : (plan : ℕ → Use) (ts : List Target) (bs : List Binding) (p : Place) (s : Spot) (is : Starts) (d n : ℕ) → Out plan ts bs p.procedure s.number → 1 ≤ n
       → n + labels_of_starts (starts_named bs p s is) ≤ OCODE_LABEL + 1 → SoundStarted bs p s is → Quiet (told_started bs p s is) → PartsRight plan ts (parts_of_starts d n (starts_named bs p s is)) → AllGood plan ts (parts_of_starts d n (starts_named bs p s is))
@@ -639,7 +633,7 @@ mutual
       (λ i w. nest_started plan ts bs (deeper 1 p) (behind e s) is (d + 1) (n + labels v) (onto _ a (omega arith)) (omega (arith, low)) (omega (arith, high)) h.1 i w) f b
   nest_started plan ts bs p s (vector l e is) d n a low high h f b =
       nest_started plan ts bs (deeper (words_of_start bs e + 1) p) (behind_constant e s) is (d + worth (constant_word bs e) + 2) n (onto _ a (omega arith)) low high h.1
-      (quiet_back (constant bs p.procedure s e ++ at_most VEC_NUMBER s.place (line_of e) vec_out_of_range (constant_word bs e) ++ pushed p (words_of_start bs e + 1)) _ f) b
+      (told_back (constant bs p.procedure s e ++ at_most VEC_NUMBER s.place (line_of e) vec_out_of_range (constant_word bs e) ++ pushed p (words_of_start bs e + 1)) _ f) b
 
 -- THE PARTS OF A SECTION ARE GOOD
 pub section_good : (plan : ℕ → Use) (ts : List Target) (xs : Declarations) → SoundDeclared [] outermost beginning xs → Quiet (told_declared [] outermost beginning xs)

@@ -46,9 +46,10 @@ use Rattle.bk_ocode.specs.Lists.{joined}
 use Rattle.bk_ocode.specs.Typing.{sets}
 use Rattle.bk_trans.specs.Parts.{target_of, target_of_word, target_of_label}
 use Rattle.bk_trans.specs.Scheme.{goal}
-use Rattle.bk_trans.proofs.Once.{past as beyond, own}
+use Rattle.bk_trans.proofs.Once.{past as beyond, own, no_more}
 use Rattle.bk_trans.proofs.Scopes.{Among, AmongProcedures, look_label, look_procedure, AllFound}
-use Rattle.bk_trans.proofs.Nested.{Quiet, quiet_front, quiet_back, body_quiet}
+use Rattle.bk_trans.proofs.Told.{told_front, told_back}
+use Rattle.bk_trans.proofs.Nested.{Quiet, body_quiet}
 
 -- how often a target has a number
 abbrev pub numbered : ℕ → List Target → ℕ
@@ -306,9 +307,6 @@ procedures_numbered m n (define (function l x fs e) ds) bs h =
     let o = own m n in omega (arith, i, first, low, o)
 procedures_numbered m n (define (variables l xs is) ds) bs h = procedures_numbered m n ds bs h
 
-no_more : (n : ℕ) → n + 0 ≡ n
-no_more n = omega arith
-
 -- targets
 label_target : (m n d : ℕ) (y : Option Bound) → numbered m (target_of_label n d (meant y)) ≤ label_number m y
 label_target m n d None = omega arith
@@ -340,7 +338,7 @@ mutual
   count_term m bs p s (truth l v) d n f = omega arith
   count_term m bs p s (query l) d n f = omega arith
   count_term m bs p s (table l es) d n f = omega arith
-  count_term m bs p s (unary l sign.Address e) d n f = let h = count_at m bs p (past 1 s) (Address false (line_of e)) e d n (quiet_back (prefixed sign.Address bs (past 1 s) e) _ f) in omega (arith, h)
+  count_term m bs p s (unary l sign.Address e) d n f = let h = count_at m bs p (past 1 s) (Address false (line_of e)) e d n (told_back (prefixed sign.Address bs (past 1 s) e) _ f) in omega (arith, h)
   count_term m bs p s (unary l sign.Contents e) d n f = let h = count_term m bs p (past 1 s) e d n f in omega (arith, h)
   count_term m bs p s (unary l sign.Plus e) d n f = let h = count_term m bs p (past 1 s) e d n f in omega (arith, h)
   count_term m bs p s (unary l sign.Minus e) d n f = let h = count_term m bs p (past 1 s) e d n f in omega (arith, h)
@@ -349,38 +347,38 @@ mutual
       let j = n + 2 + labels_if (condition_named bs p s c) in
       let xs = told Truth bs p s c in
       let ys = told Value bs p u x in
-      let h = count_if m bs p s c d (n + 2) (quiet_front xs ys (quiet_front (xs ++ ys) _ f)) in
-      let i = count_term m bs p u x d j (quiet_back xs ys (quiet_front (xs ++ ys) _ f)) in
-      let q = count_term m bs p (behind x u) y d (j + labels (term_named bs p u x)) (quiet_back (xs ++ ys) _ f) in
+      let h = count_if m bs p s c d (n + 2) (told_front xs ys (told_front (xs ++ ys) _ f)) in
+      let i = count_term m bs p u x d j (told_back xs ys (told_front (xs ++ ys) _ f)) in
+      let q = count_term m bs p (behind x u) y d (j + labels (term_named bs p u x)) (told_back (xs ++ ys) _ f) in
       simp (numbered_both) (omega (arith, h, i, q))
   count_term m bs p s (apply l k e es) d n f =
       let u : Spot = (past 1 (behind e s)) in
       let z : Place = deeper (size es + 2) p in
       let v = term_named bs z s e in
       let vs = terms_named 1 bs (deeper 2 p) u es in
-      let h = count_term m bs z s e (d + 2 + count vs) n (quiet_front (told Value bs z s e) _ f) in
-      let i = count_each m bs (deeper 2 p) u es (d + 2) (n + labels v) (quiet_back (told Value bs z s e) _ f) in simp (numbered_both) (omega (arith, h, i))
+      let h = count_term m bs z s e (d + 2 + count vs) n (told_front (told Value bs z s e) _ f) in
+      let i = count_each m bs (deeper 2 p) u es (d + 2) (n + labels v) (told_back (told Value bs z s e) _ f) in simp (numbered_both) (omega (arith, h, i))
   count_term m bs p s (valof l c) d n f =
       let cs = labels_in_scope p.procedure (s.number + 1) (labels_of c) bs in
       let g : Place = labelled s.number (valued p) in
       let u : Spot = onward 1 (1 + length (labels_of c)) s in
-      let body = quiet_front (told_done cs g u c) (pushed p 1) f in
+      let body = told_front (told_done cs g u c) (pushed p 1) f in
       let h = count_in m cs g u c d (n + 1) body in
       let i = labels_numbered m p.procedure (s.number + 1) (labels_of c) bs (labels_distinct cs g u c body) in omega (arith, h, i)
   count_term m bs p s (parens l e) d n f = let h = count_term m bs p (past 1 s) e d n f in omega (arith, h)
   count_term m bs p s (unary l sign.Not e) d n f = let h = count_term m bs p (past 1 s) e d n f in omega (arith, h)
   count_term m bs p s (binary l o.Both k x y) d n f =
       let u : Spot = past 1 (behind x s) in
-      let h = count_term m bs p s x d n (quiet_front (told Value bs p s x) _ f) in
-      let i = count_term m bs (deeper 1 p) u y (d + 1) (n + labels (term_named bs p s x)) (quiet_back (told Value bs p s x) _ f) in simp (numbered_both) (omega (arith, h, i))
+      let h = count_term m bs p s x d n (told_front (told Value bs p s x) _ f) in
+      let i = count_term m bs (deeper 1 p) u y (d + 1) (n + labels (term_named bs p s x)) (told_back (told Value bs p s x) _ f) in simp (numbered_both) (omega (arith, h, i))
   count_term m bs p s (binary l o.Either k x y) d n f =
       let u : Spot = past 1 (behind x s) in
-      let h = count_term m bs p s x d n (quiet_front (told Value bs p s x) _ f) in
-      let i = count_term m bs (deeper 1 p) u y (d + 1) (n + labels (term_named bs p s x)) (quiet_back (told Value bs p s x) _ f) in simp (numbered_both) (omega (arith, h, i))
+      let h = count_term m bs p s x d n (told_front (told Value bs p s x) _ f) in
+      let i = count_term m bs (deeper 1 p) u y (d + 1) (n + labels (term_named bs p s x)) (told_back (told Value bs p s x) _ f) in simp (numbered_both) (omega (arith, h, i))
   count_term m bs p s (binary l z k x y) d n f =
       let u : Spot = past 1 (behind x s) in
-      let h = count_term m bs p s x d n (quiet_front (told Value bs p s x) _ f) in
-      let i = count_term m bs (deeper 1 p) u y (d + 1) (n + labels (term_named bs p s x)) (quiet_back (told Value bs p s x) _ f) in simp (numbered_both) (omega (arith, h, i))
+      let h = count_term m bs p s x d n (told_front (told Value bs p s x) _ f) in
+      let i = count_term m bs (deeper 1 p) u y (d + 1) (n + labels (term_named bs p s x)) (told_back (told Value bs p s x) _ f) in simp (numbered_both) (omega (arith, h, i))
 
   count_if : (m : ℕ) (bs : List Binding) (p : Place) (s : Spot) (e : Expression) (d n : ℕ) → Quiet (told Truth bs p s e) → parts_numbered m (parts_if d n (condition_named bs p s e)) + beyond m (s.number + numbers e) ≤ beyond m s.number
   count_if m bs p s (name l x) d n f = omega arith
@@ -389,7 +387,7 @@ mutual
   count_if m bs p s (truth l v) d n f = omega arith
   count_if m bs p s (query l) d n f = omega arith
   count_if m bs p s (table l es) d n f = omega arith
-  count_if m bs p s (unary l sign.Address e) d n f = let h = count_at m bs p (past 1 s) (Address false (line_of e)) e d n (quiet_back (prefixed sign.Address bs (past 1 s) e) _ f) in omega (arith, h)
+  count_if m bs p s (unary l sign.Address e) d n f = let h = count_at m bs p (past 1 s) (Address false (line_of e)) e d n (told_back (prefixed sign.Address bs (past 1 s) e) _ f) in omega (arith, h)
   count_if m bs p s (unary l sign.Contents e) d n f = let h = count_term m bs p (past 1 s) e d n f in omega (arith, h)
   count_if m bs p s (unary l sign.Plus e) d n f = let h = count_term m bs p (past 1 s) e d n f in omega (arith, h)
   count_if m bs p s (unary l sign.Minus e) d n f = let h = count_term m bs p (past 1 s) e d n f in omega (arith, h)
@@ -398,50 +396,50 @@ mutual
       let j = n + 2 + labels_if (condition_named bs p s c) in
       let xs = told Truth bs p s c in
       let ys = told Value bs p u x in
-      let h = count_if m bs p s c d (n + 2) (quiet_front xs ys (quiet_front (xs ++ ys) _ f)) in
-      let i = count_term m bs p u x d j (quiet_back xs ys (quiet_front (xs ++ ys) _ f)) in
-      let q = count_term m bs p (behind x u) y d (j + labels (term_named bs p u x)) (quiet_back (xs ++ ys) _ f) in
+      let h = count_if m bs p s c d (n + 2) (told_front xs ys (told_front (xs ++ ys) _ f)) in
+      let i = count_term m bs p u x d j (told_back xs ys (told_front (xs ++ ys) _ f)) in
+      let q = count_term m bs p (behind x u) y d (j + labels (term_named bs p u x)) (told_back (xs ++ ys) _ f) in
       simp (numbered_both) (omega (arith, h, i, q))
   count_if m bs p s (apply l k e es) d n f =
       let u : Spot = (past 1 (behind e s)) in
       let z : Place = deeper (size es + 2) p in
       let v = term_named bs z s e in
       let vs = terms_named 1 bs (deeper 2 p) u es in
-      let h = count_term m bs z s e (d + 2 + count vs) n (quiet_front (told Value bs z s e) _ f) in
-      let i = count_each m bs (deeper 2 p) u es (d + 2) (n + labels v) (quiet_back (told Value bs z s e) _ f) in simp (numbered_both) (omega (arith, h, i))
+      let h = count_term m bs z s e (d + 2 + count vs) n (told_front (told Value bs z s e) _ f) in
+      let i = count_each m bs (deeper 2 p) u es (d + 2) (n + labels v) (told_back (told Value bs z s e) _ f) in simp (numbered_both) (omega (arith, h, i))
   count_if m bs p s (valof l c) d n f =
       let cs = labels_in_scope p.procedure (s.number + 1) (labels_of c) bs in
       let g : Place = labelled s.number (valued p) in
       let u : Spot = onward 1 (1 + length (labels_of c)) s in
-      let body = quiet_front (told_done cs g u c) (pushed p 1) f in
+      let body = told_front (told_done cs g u c) (pushed p 1) f in
       let h = count_in m cs g u c d (n + 1) body in
       let i = labels_numbered m p.procedure (s.number + 1) (labels_of c) bs (labels_distinct cs g u c body) in omega (arith, h, i)
   count_if m bs p s (parens l e) d n f = let h = count_if m bs p (past 1 s) e d n f in omega (arith, h)
   count_if m bs p s (unary l sign.Not e) d n f = let h = count_if m bs p (past 1 s) e d n f in omega (arith, h)
   count_if m bs p s (binary l o.Both k x y) d n f =
       let u : Spot = past 1 (behind x s) in
-      let h = count_if m bs p s x d (n + 1) (quiet_front (told Truth bs p s x) _ f) in
-      let i = count_if m bs p u y d (n + 1 + labels_if (condition_named bs p s x)) (quiet_back (told Truth bs p s x) _ f) in simp (numbered_both) (omega (arith, h, i))
+      let h = count_if m bs p s x d (n + 1) (told_front (told Truth bs p s x) _ f) in
+      let i = count_if m bs p u y d (n + 1 + labels_if (condition_named bs p s x)) (told_back (told Truth bs p s x) _ f) in simp (numbered_both) (omega (arith, h, i))
   count_if m bs p s (binary l o.Either k x y) d n f =
       let u : Spot = past 1 (behind x s) in
-      let h = count_if m bs p s x d (n + 1) (quiet_front (told Truth bs p s x) _ f) in
-      let i = count_if m bs p u y d (n + 1 + labels_if (condition_named bs p s x)) (quiet_back (told Truth bs p s x) _ f) in simp (numbered_both) (omega (arith, h, i))
+      let h = count_if m bs p s x d (n + 1) (told_front (told Truth bs p s x) _ f) in
+      let i = count_if m bs p u y d (n + 1 + labels_if (condition_named bs p s x)) (told_back (told Truth bs p s x) _ f) in simp (numbered_both) (omega (arith, h, i))
   count_if m bs p s (binary l z k x y) d n f =
       let u : Spot = past 1 (behind x s) in
-      let h = count_term m bs p s x d n (quiet_front (told Value bs p s x) _ f) in
-      let i = count_term m bs (deeper 1 p) u y (d + 1) (n + labels (term_named bs p s x)) (quiet_back (told Value bs p s x) _ f) in simp (numbered_both) (omega (arith, h, i))
+      let h = count_term m bs p s x d n (told_front (told Value bs p s x) _ f) in
+      let i = count_term m bs (deeper 1 p) u y (d + 1) (n + labels (term_named bs p s x)) (told_back (told Value bs p s x) _ f) in simp (numbered_both) (omega (arith, h, i))
 
   count_each : (m : ℕ) (bs : List Binding) (p : Place) (s : Spot) (es : Expressions) (d n : ℕ) → Quiet (told_each 1 bs p s es) → parts_numbered m (parts_each d n (terms_named 1 bs p s es)) + beyond m (s.number + numbers_each es) ≤ beyond m s.number
   count_each m bs p s none d n f = omega arith
   count_each m bs p s (more e es) d n f =
-      let h = count_term m bs p s e d n (quiet_front (told Value bs p s e) _ f) in
-      let i = count_each m bs (deeper 1 p) (behind e s) es (d + 1) (n + labels (term_named bs p s e)) (quiet_back (told Value bs p s e) _ f) in simp (numbered_both) (omega (arith, h, i))
+      let h = count_term m bs p s e d n (told_front (told Value bs p s e) _ f) in
+      let i = count_each m bs (deeper 1 p) (behind e s) es (d + 1) (n + labels (term_named bs p s e)) (told_back (told Value bs p s e) _ f) in simp (numbered_both) (omega (arith, h, i))
 
   count_from : (m : ℕ) (bs : List Binding) (p : Place) (s : Spot) (es : Expressions) (d n : ℕ) → Quiet (told_each 0 bs p s es) → parts_numbered m (parts_from d n (terms_named 0 bs p s es)) + beyond m (s.number + numbers_each es) ≤ beyond m s.number
   count_from m bs p s none d n f = omega arith
   count_from m bs p s (more e es) d n f =
-      let h = count_term m bs p s e d n (quiet_front (told Value bs p s e) _ f) in
-      let i = count_from m bs (deeper 0 p) (behind e s) es d (n + labels (term_named bs p s e)) (quiet_back (told Value bs p s e) _ f) in simp (numbered_both) (omega (arith, h, i))
+      let h = count_term m bs p s e d n (told_front (told Value bs p s e) _ f) in
+      let i = count_from m bs (deeper 0 p) (behind e s) es d (n + labels (term_named bs p s e)) (told_back (told Value bs p s e) _ f) in simp (numbered_both) (omega (arith, h, i))
 
   count_at : (m : ℕ) (bs : List Binding) (p : Place) (s : Spot) (g : Role) (e : Expression) (d n : ℕ) → Quiet (told g bs p s e) → parts_numbered m (parts_at d n (lvalue_named bs p s e)) + beyond m (s.number + numbers e) ≤ beyond m s.number
   count_at m bs p s g (name l x) d n f = omega arith
@@ -449,12 +447,12 @@ mutual
   count_at m bs p s g (unary l sign.Contents e) d n f = let h = count_term m bs p (past 1 s) e d n f in omega (arith, h)
   count_at m bs p s g (binary l o.Subscript k x y) d n f =
       let u : Spot = past 1 (behind x s) in
-      let h = count_term m bs p s x d n (quiet_front (told Value bs p s x) _ f) in
-      let i = count_term m bs (deeper 1 p) u y (d + 1) (n + labels (term_named bs p s x)) (quiet_back (told Value bs p s x) _ f) in simp (numbered_both) (omega (arith, h, i))
+      let h = count_term m bs p s x d n (told_front (told Value bs p s x) _ f) in
+      let i = count_term m bs (deeper 1 p) u y (d + 1) (n + labels (term_named bs p s x)) (told_back (told Value bs p s x) _ f) in simp (numbered_both) (omega (arith, h, i))
   count_at m bs p s g (binary l o.Byte k x y) d n f =
       let u : Spot = past 1 (behind x s) in
-      let h = count_term m bs p s x d n (quiet_front (told Value bs p s x) _ f) in
-      let i = count_term m bs (deeper 1 p) u y (d + 1) (n + labels (term_named bs p s x)) (quiet_back (told Value bs p s x) _ f) in simp (numbered_both) (omega (arith, h, i))
+      let h = count_term m bs p s x d n (told_front (told Value bs p s x) _ f) in
+      let i = count_term m bs (deeper 1 p) u y (d + 1) (n + labels (term_named bs p s x)) (told_back (told Value bs p s x) _ f) in simp (numbered_both) (omega (arith, h, i))
   count_at m bs p s g e d n f = omega arith
 
   count_onto : (m : ℕ) (bs : List Binding) (p : Place) (s : Spot) (xs : Expressions) (d n : ℕ) → Quiet (told_destinations bs p s xs) → parts_numbered m (parts_onto d n (lvalues_named bs p s xs)) + beyond m (s.number + numbers_each xs) ≤ beyond m s.number
@@ -462,42 +460,42 @@ mutual
   count_onto m bs p s (more x xs) d n f =
       let us : List Point = unless (assigned bs x) (at s.place (line_of x) not_assignable) in
       let vs = told (Destination false (line_of x)) bs p s x in
-      let h = count_at m bs p s (Destination false (line_of x)) x d n (quiet_back us vs (quiet_front (us ++ vs) _ f)) in
-      let i = count_onto m bs p (behind x s) xs d (n + labels_at (lvalue_named bs p s x)) (quiet_back (us ++ vs) _ f) in simp (numbered_both) (omega (arith, h, i))
+      let h = count_at m bs p s (Destination false (line_of x)) x d n (told_back us vs (told_front (us ++ vs) _ f)) in
+      let i = count_onto m bs p (behind x s) xs d (n + labels_at (lvalue_named bs p s x)) (told_back (us ++ vs) _ f) in simp (numbered_both) (omega (arith, h, i))
 
   count_in : (m : ℕ) (bs : List Binding) (p : Place) (s : Spot) (c : Action) (d n : ℕ) → Quiet (told_done bs p s c) → parts_numbered m (parts_in d n (command_named bs p s c)) + beyond m (s.number + numbers_done c) ≤ beyond m s.number + own_labels m bs (labels_of c)
   count_in m bs p s empty d n f = omega arith
   count_in m bs p s (assign l xs es) d n f =
       let v = lvalues_named bs (deeper 1 p) s xs in
-      let h = count_onto m bs (deeper 1 p) s xs (d + 1) n (quiet_front (told_destinations bs (deeper 1 p) s xs) _ f) in
-      let i = count_from m bs p (behind_each xs s) es d (n + labels_onto v) (quiet_back (told_destinations bs (deeper 1 p) s xs) _ f) in simp (numbered_both) (omega (arith, h, i))
+      let h = count_onto m bs (deeper 1 p) s xs (d + 1) n (told_front (told_destinations bs (deeper 1 p) s xs) _ f) in
+      let i = count_from m bs p (behind_each xs s) es d (n + labels_onto v) (told_back (told_destinations bs (deeper 1 p) s xs) _ f) in simp (numbered_both) (omega (arith, h, i))
   count_in m bs p s (call l e es) d n f =
       let u : Spot = behind e s in
       let z : Place = deeper (size es + 2) p in
       let v = term_named bs z s e in
       let vs = terms_named 1 bs (deeper 2 p) u es in
-      let h = count_term m bs z s e (d + 2 + count vs) n (quiet_front (told Value bs z s e) _ f) in
-      let i = count_each m bs (deeper 2 p) u es (d + 2) (n + labels v) (quiet_back (told Value bs z s e) _ f) in simp (numbered_both) (omega (arith, h, i))
+      let h = count_term m bs z s e (d + 2 + count vs) n (told_front (told Value bs z s e) _ f) in
+      let i = count_each m bs (deeper 2 p) u es (d + 2) (n + labels v) (told_back (told Value bs z s e) _ f) in simp (numbered_both) (omega (arith, h, i))
   count_in m bs p s (goto l x) d n f = omega arith
   count_in m bs p s (label l x c) d n f =
-      let h = count_in m bs p (past 1 s) c d (n + 1) (quiet_back (one_of p.labels s.place l x ++ its_meaning (bound_in bs x)) _ f) in let i = label_target m n d (bound_in bs x) in omega (arith, h, i)
+      let h = count_in m bs p (past 1 s) c d (n + 1) (told_back (one_of p.labels s.place l x ++ its_meaning (bound_in bs x)) _ f) in let i = label_target m n d (bound_in bs x) in omega (arith, h, i)
   count_in m bs p s (case_of l e c) d n f =
-      let h = count_in m bs p (behind_constant e (past 1 s)) c d (n + 1) (quiet_back (chosen_at p.switch s.place l (constant_word bs e) ++ constant bs p.procedure (past 1 s) e) _ f) in omega (arith, h)
-  count_in m bs p s (default l c) d n f = let h = count_in m bs p (past 1 s) c d (n + 1) (quiet_back (defaulted_at p.switch s.place l) _ f) in omega (arith, h)
+      let h = count_in m bs p (behind_constant e (past 1 s)) c d (n + 1) (told_back (chosen_at p.switch s.place l (constant_word bs e) ++ constant bs p.procedure (past 1 s) e) _ f) in omega (arith, h)
+  count_in m bs p s (default l c) d n f = let h = count_in m bs p (past 1 s) c d (n + 1) (told_back (defaulted_at p.switch s.place l) _ f) in omega (arith, h)
   count_in m bs p s (when l z e c) d n f =
-      let h = count_if m bs p s e d (n + 1) (quiet_front (told Truth bs p s e) _ f) in
-      let i = count_in m bs p (behind e s) c d (n + 1 + labels_if (condition_named bs p s e)) (quiet_back (told Truth bs p s e) _ f) in simp (numbered_both) (omega (arith, h, i))
+      let h = count_if m bs p s e d (n + 1) (told_front (told Truth bs p s e) _ f) in
+      let i = count_in m bs p (behind e s) c d (n + 1 + labels_if (condition_named bs p s e)) (told_back (told Truth bs p s e) _ f) in simp (numbered_both) (omega (arith, h, i))
   count_in m bs p s (test l e x y) d n f =
       let xs = told Truth bs p s e in
       let ys = told_done bs p (behind e s) x in
       let j = n + 2 + labels_if (condition_named bs p s e) in
-      let h = count_if m bs p s e d (n + 2) (quiet_front xs ys (quiet_front (xs ++ ys) _ f)) in
-      let i = count_in m bs p (behind e s) x d j (quiet_back xs ys (quiet_front (xs ++ ys) _ f)) in
-      let q = count_in m bs p (behind_done x (behind e s)) y d (j + labels_in (command_named bs p (behind e s) x)) (quiet_back (xs ++ ys) _ f) in
+      let h = count_if m bs p s e d (n + 2) (told_front xs ys (told_front (xs ++ ys) _ f)) in
+      let i = count_in m bs p (behind e s) x d j (told_back xs ys (told_front (xs ++ ys) _ f)) in
+      let q = count_in m bs p (behind_done x (behind e s)) y d (j + labels_in (command_named bs p (behind e s) x)) (told_back (xs ++ ys) _ f) in
       simp (numbered_both, own_both) (omega (arith, h, i, q))
   count_in m bs p s (while l z e c) d n f =
-      let h = count_if m bs p s e d (n + 3) (quiet_front (told Truth bs p s e) _ f) in
-      let i = count_in m bs (looping p) (behind e s) c d (n + 3 + labels_if (condition_named bs p s e)) (quiet_back (told Truth bs p s e) _ f) in simp (numbered_both) (omega (arith, h, i))
+      let h = count_if m bs p s e d (n + 3) (told_front (told Truth bs p s e) _ f) in
+      let i = count_in m bs (looping p) (behind e s) c d (n + 3 + labels_if (condition_named bs p s e)) (told_back (told Truth bs p s e) _ f) in simp (numbered_both) (omega (arith, h, i))
   count_in m bs p s (for_loop l x e y k c) d n f =
       let u : Spot = onward (symbols_each k) 0 (behind y (behind e s)) in
       let g : Place = labelled u.number (looping (deeper 2 p)) in
@@ -507,17 +505,17 @@ mutual
       let start = told Value bs p s e in
       let limit = told Value bs (deeper 1 p) (behind e s) y in
       let steps = each_constant bs p.procedure (behind y (behind e s)) k in
-      let heads = quiet_front (start ++ limit) steps (quiet_front (start ++ limit ++ steps) (pushed p 4) (quiet_front (start ++ limit ++ steps ++ pushed p 4) (told_done ds g i c) f)) in
-      let body = quiet_back (start ++ limit ++ steps ++ pushed p 4) (told_done ds g i c) f in
+      let heads = told_front (start ++ limit) steps (told_front (start ++ limit ++ steps) (pushed p 4) (told_front (start ++ limit ++ steps ++ pushed p 4) (told_done ds g i c) f)) in
+      let body = told_back (start ++ limit ++ steps ++ pushed p 4) (told_done ds g i c) f in
       let j = n + 4 + labels (term_named bs p s e) in
-      let a = count_term m bs p s e d (n + 4) (quiet_front start limit heads) in
-      let b = count_term m bs (deeper 1 p) (behind e s) y (d + 1) j (quiet_back start limit heads) in
+      let a = count_term m bs p s e d (n + 4) (told_front start limit heads) in
+      let b = count_term m bs (deeper 1 p) (behind e s) y (d + 1) j (told_back start limit heads) in
       let h = count_in m ds g i c (d + 2) (j + labels (term_named bs (deeper 1 p) (behind e s) y)) body in
       let q = labels_numbered m p.procedure (u.number + 1) (labels_of c) cs (labels_distinct ds g i c body) in simp (numbered_both) (omega (arith, a, b, h, q))
   count_in m bs p s (switch l e c) d n f =
-      let h = count_term m bs p s e d (n + 1) (quiet_front (told Value bs p s e) _ f) in
-      let i = count_in m bs (switching (behind e s).number p) (spots.numbered 1 (behind e s)) c d (n + 1 + labels (term_named bs p s e)) (quiet_back (told Value bs p s e) _ f) in simp (numbered_both) (omega (arith, h, i))
-  count_in m bs p s (result l e) d n f = let h = count_term m bs p (past 1 s) e d n (quiet_back (unless p.in_valof (at s.place l no_result_or_return)) _ f) in omega (arith, h)
+      let h = count_term m bs p s e d (n + 1) (told_front (told Value bs p s e) _ f) in
+      let i = count_in m bs (switching (behind e s).number p) (spots.numbered 1 (behind e s)) c d (n + 1 + labels (term_named bs p s e)) (told_back (told Value bs p s e) _ f) in simp (numbered_both) (omega (arith, h, i))
+  count_in m bs p s (result l e) d n f = let h = count_term m bs p (past 1 s) e d n (told_back (unless p.in_valof (at s.place l no_result_or_return)) _ f) in omega (arith, h)
   count_in m bs p s (simple l k) d n f = omega arith
   count_in m bs p s (block l no_declarations cs) d n f =
       let h = count_through m bs p s cs d n f in let e = ap (λ (k : ℕ). parts_numbered m (parts_through d k (commands_named bs p s cs))) (no_more n) in omega (arith, h, e)
@@ -528,30 +526,30 @@ mutual
       let ds = labels_in_scope p.procedure (u.number + 1) (labels_of_each cs) es in
       let i : Spot = spots.numbered (1 + length (labels_of_each cs)) u in
       let y = declarations_named bs p s (declare x xs) in
-      let first = quiet_front (told_declared bs p s (declare x xs)) _ f in
-      let body = quiet_back (told_declared bs p s (declare x xs)) _ f in
-      let h = count_one_declared m bs p s x d n (quiet_front (told_one_declared bs p s x) _ first) in
+      let first = told_front (told_declared bs p s (declare x xs)) _ f in
+      let body = told_back (told_declared bs p s (declare x xs)) _ f in
+      let h = count_one_declared m bs p s x d n (told_front (told_one_declared bs p s x) _ first) in
       let v = declaration_named bs p s x in
-      let j = count_declared m (scope_behind_one bs p s x) (place_behind_one bs p s x) (behind_one_declared x s) xs (behind_declaration d v) (n + labels_of_declaration v) (quiet_back (told_one_declared bs p s x) _ first) in
+      let j = count_declared m (scope_behind_one bs p s x) (place_behind_one bs p s x) (behind_one_declared x s) xs (behind_declaration d v) (n + labels_of_declaration v) (told_back (told_one_declared bs p s x) _ first) in
       let k = count_through m ds g i cs (behind_declarations d y) (n + labels_of_declarations y) body in
       let q = labels_numbered m p.procedure (u.number + 1) (labels_of_each cs) es (labels_distinct_each ds g i cs body) in simp (numbered_both) (omega (arith, h, j, k, q))
   count_in m bs p s (repeat l c) d n f = let h = count_in m bs (looping p) s c d (n + 2) f in omega (arith, h)
   count_in m bs p s (repeat_while l z c e) d n f =
-      let h = count_in m bs (looping p) s c d (n + 3) (quiet_front (told_done bs (looping p) s c) _ f) in
-      let i = count_if m bs p (behind_done c s) e d (n + 3 + labels_in (command_named bs (looping p) s c)) (quiet_back (told_done bs (looping p) s c) _ f) in simp (numbered_both) (omega (arith, h, i))
+      let h = count_in m bs (looping p) s c d (n + 3) (told_front (told_done bs (looping p) s c) _ f) in
+      let i = count_if m bs p (behind_done c s) e d (n + 3 + labels_in (command_named bs (looping p) s c)) (told_back (told_done bs (looping p) s c) _ f) in simp (numbered_both) (omega (arith, h, i))
 
   count_through : (m : ℕ) (bs : List Binding) (p : Place) (s : Spot) (cs : Actions) (d n : ℕ) → Quiet (told_done_each bs p s cs) → parts_numbered m (parts_through d n (commands_named bs p s cs)) + beyond m (s.number + numbers_done_each cs) ≤ beyond m s.number + own_labels m bs (labels_of_each cs)
   count_through m bs p s no_actions d n f = omega arith
   count_through m bs p s (also c cs) d n f =
-      let h = count_in m bs p s c d n (quiet_front (told_done bs p s c) _ f) in
-      let i = count_through m bs p (behind_done c s) cs d (n + labels_in (command_named bs p s c)) (quiet_back (told_done bs p s c) _ f) in simp (numbered_both, own_both) (omega (arith, h, i))
+      let h = count_in m bs p s c d n (told_front (told_done bs p s c) _ f) in
+      let i = count_through m bs p (behind_done c s) cs d (n + labels_in (command_named bs p s c)) (told_back (told_done bs p s c) _ f) in simp (numbered_both, own_both) (omega (arith, h, i))
 
   count_declared : (m : ℕ) (bs : List Binding) (p : Place) (s : Spot) (xs : Declarations) (d n : ℕ) → Quiet (told_declared bs p s xs) → parts_numbered m (parts_of_declarations d n (declarations_named bs p s xs)) + beyond m (s.number + numbers_declared xs) ≤ beyond m s.number
   count_declared m bs p s no_declarations d n f = omega arith
   count_declared m bs p s (declare x xs) d n f =
       let v = declaration_named bs p s x in
-      let h = count_one_declared m bs p s x d n (quiet_front (told_one_declared bs p s x) _ f) in
-      let i = count_declared m (scope_behind_one bs p s x) (place_behind_one bs p s x) (behind_one_declared x s) xs (behind_declaration d v) (n + labels_of_declaration v) (quiet_back (told_one_declared bs p s x) _ f) in
+      let h = count_one_declared m bs p s x d n (told_front (told_one_declared bs p s x) _ f) in
+      let i = count_declared m (scope_behind_one bs p s x) (place_behind_one bs p s x) (behind_one_declared x s) xs (behind_declaration d v) (n + labels_of_declaration v) (told_back (told_one_declared bs p s x) _ f) in
       simp (numbered_both) (omega (arith, h, i))
 
   count_one_declared : (m : ℕ) (bs : List Binding) (p : Place) (s : Spot) (x : Declaration) (d n : ℕ) → Quiet (told_one_declared bs p s x) → parts_numbered m (parts_of_declaration d n (declaration_named bs p s x)) + beyond m (s.number + numbers_one_declared x) ≤ beyond m s.number
@@ -569,24 +567,24 @@ mutual
   count_defined m k bs p s (define (routine l x fs c) ds) d n f =
       let z : Definition = (routine l x fs c) in
       let y = definition_named bs p s z in
-      let h = count_one_defined m k bs p s (routine l x fs c) d n (quiet_front (told_one_defined k bs p s z) _ f) in
-      let i = count_defined m k bs (place_behind_one_defined bs p z) (behind_one_defined z s) ds (behind_definition d y) (n + labels_of_definition y) (quiet_back (told_one_defined k bs p s z) _ f) in
+      let h = count_one_defined m k bs p s (routine l x fs c) d n (told_front (told_one_defined k bs p s z) _ f) in
+      let i = count_defined m k bs (place_behind_one_defined bs p z) (behind_one_defined z s) ds (behind_definition d y) (n + labels_of_definition y) (told_back (told_one_defined k bs p s z) _ f) in
       simp (numbered_both) (omega (arith, h, i))
   count_defined m k bs p s (define (function l x fs e) ds) d n f =
       let z : Definition = (function l x fs e) in
       let y = definition_named bs p s z in
-      let h = count_one_defined m k bs p s (function l x fs e) d n (quiet_front (told_one_defined k bs p s z) _ f) in
-      let i = count_defined m k bs (place_behind_one_defined bs p z) (behind_one_defined z s) ds (behind_definition d y) (n + labels_of_definition y) (quiet_back (told_one_defined k bs p s z) _ f) in
+      let h = count_one_defined m k bs p s (function l x fs e) d n (told_front (told_one_defined k bs p s z) _ f) in
+      let i = count_defined m k bs (place_behind_one_defined bs p z) (behind_one_defined z s) ds (behind_definition d y) (n + labels_of_definition y) (told_back (told_one_defined k bs p s z) _ f) in
       simp (numbered_both) (omega (arith, h, i))
   count_defined m k bs p s (define (variables l xs is) ds) d n f =
       let z : Definition = (variables l xs is) in
       let y = definition_named bs p s z in
-      let h = count_one_defined m k bs p s (variables l xs is) d n (quiet_front (told_one_defined k bs p s z) _ f) in
-      let i = count_defined m k bs (place_behind_one_defined bs p z) (behind_one_defined z s) ds (behind_definition d y) (n + labels_of_definition y) (quiet_back (told_one_defined k bs p s z) _ f) in
+      let h = count_one_defined m k bs p s (variables l xs is) d n (told_front (told_one_defined k bs p s z) _ f) in
+      let i = count_defined m k bs (place_behind_one_defined bs p z) (behind_one_defined z s) ds (behind_definition d y) (n + labels_of_definition y) (told_back (told_one_defined k bs p s z) _ f) in
       simp (numbered_both) (omega (arith, h, i))
 
   count_one_defined : (m : ℕ) (k : ℕ) (bs : List Binding) (p : Place) (s : Spot) (x : Definition) (d n : ℕ) → Quiet (told_one_defined k bs p s x) → parts_numbered m (parts_of_definition d n (definition_named bs p s x)) + beyond m (s.number + numbers_one_defined x) ≤ beyond m s.number + own_procedures m bs (define x no_definitions)
-  count_one_defined m k bs p s (variables l xs is) d n f = let h = count_started m bs p (past (length xs) s) is d n (quiet_back (each_of k s.place xs) _ f) in omega (arith, h)
+  count_one_defined m k bs p s (variables l xs is) d n f = let h = count_started m bs p (past (length xs) s) is d n (told_back (each_of k s.place xs) _ f) in omega (arith, h)
   count_one_defined m k bs p s (routine l x fs c) d n f =
       let z : Place = labelled (s.number + 1) (called true s.number (length fs)) in
       let u : Spot = onward (1 + length fs) (2 + length (labels_of c)) s in
@@ -607,11 +605,11 @@ mutual
   count_started : (m : ℕ) (bs : List Binding) (p : Place) (s : Spot) (is : Starts) (d n : ℕ) → Quiet (told_started bs p s is) → parts_numbered m (parts_of_starts d n (starts_named bs p s is)) + beyond m (s.number + numbers_started is) ≤ beyond m s.number
   count_started m bs p s no_starts d n f = omega arith
   count_started m bs p s (value e is) d n f =
-      let h = count_term m bs p s e d n (quiet_front (told Value bs p s e) _ f) in
-      let i = count_started m bs (deeper 1 p) (behind e s) is (d + 1) (n + labels (term_named bs p s e)) (quiet_back (told Value bs p s e) _ f) in simp (numbered_both) (omega (arith, h, i))
+      let h = count_term m bs p s e d n (told_front (told Value bs p s e) _ f) in
+      let i = count_started m bs (deeper 1 p) (behind e s) is (d + 1) (n + labels (term_named bs p s e)) (told_back (told Value bs p s e) _ f) in simp (numbered_both) (omega (arith, h, i))
   count_started m bs p s (vector l e is) d n f =
       let h = count_started m bs (deeper (words_of_start bs e + 1) p) (behind_constant e s) is (d + worth (constant_word bs e) + 2) n
-          (quiet_back (constant bs p.procedure s e ++ at_most VEC_NUMBER s.place (line_of e) vec_out_of_range (constant_word bs e) ++ pushed p (words_of_start bs e + 1)) _ f) in
+      (told_back (constant bs p.procedure s e ++ at_most VEC_NUMBER s.place (line_of e) vec_out_of_range (constant_word bs e) ++ pushed p (words_of_start bs e + 1)) _ f) in
       omega (arith, h)
 
 -- so each target is found by its number
@@ -643,9 +641,10 @@ all_found : (ts : List Target) → ((m : ℕ) → numbered m ts ≤ 1) → AllFo
 all_found [] h = tt
 all_found (x ∷ ts) h =
     let one : sets x.number (Some x.number) ≡ 1 = ap (λ (b : Bool). cond b 1 0) (eq-eqb x.number x.number refl) in
-    let low = h x.number in
-    (chosen_first (x.number == x.number) (goal x.label x.depth) (goal_of ts x.number) (eq-eqb x.number x.number refl),
-    found_past x ts ts (omega (arith, one, low)) (all_found ts (λ m. let g = h m in omega (arith, g))))
+    let low = h x.number in (
+      chosen_first (x.number == x.number) (goal x.label x.depth) (goal_of ts x.number) (eq-eqb x.number x.number refl),
+      found_past x ts ts (omega (arith, one, low)) (all_found ts (λ m. let g = h m in omega (arith, g))),
+    )
 
 -- THE TARGETS OF A SECTION are found by their numbers
 pub section_found : (xs : Declarations) → Quiet (told_declared [] outermost beginning xs)

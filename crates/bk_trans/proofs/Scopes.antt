@@ -27,6 +27,7 @@ use Rattle.bk_trans.specs.Scheme.{goal, goal_of}
 use Rattle.bk_trans.proofs.Marks.{Mark, marks, marks_if, marks_in, marks_through, AllRight, right_front, right_back}
 use Rattle.bk_trans.proofs.Good.{IsGoal, IsWord}
 use Rattle.bk_trans.proofs.Sections.{part_marks, name_marks}
+use Rattle.bk_trans.proofs.Once.{no_more}
 
 -- what every name in scope means
 abbrev pub Sees : (Bound → Type 0) → List Binding → Type 0
@@ -159,9 +160,6 @@ parts_back plan ts [] ys h = h
 parts_back plan ts (x ∷ xs) ys h = parts_back plan ts xs ys h.1
 
 -- a label of these commands is found
-no_more : (n : ℕ) → n + 0 ≡ n
-no_more n = omega arith
-
 meant_is : (y : Option Bound) (b : Bound) → y ≡ Some b → meant y ≡ b
 meant_is None b e = absurd (let n : None ≡ Some b = e in cc)
 meant_is (Some a) b e = some_same a b e

@@ -97,7 +97,7 @@ procedure_typed plan ts y d (procedure n (routine x name k c)) g r =
     let high : n + (labels_of_procedure x + labels_in c) ≤ OCODE_LABEL + 1 = g.1 in
     let much = g.3 in
     let inner = command_typed plan ts n no_exits outermost (k + 2) (n + labels_of_procedure x) c (omega arith) much (omega (arith, low)) (omega (arith, high)) (bare plan n (k + 2)) g.4 g.5
-        (right_back plan (name_marks n x) _ r.1) in
+    (right_back plan (name_marks n x) _ r.1) in
     record {
       mode = false;
       depth = k + 2;
@@ -238,9 +238,9 @@ section_typed plan xs g r short =
     let i = length-append (joined (procedure_code ts) xs ++ joined data_code xs) (t.Globals (joined entries_of xs) ∷ []) in
     let j = length-append (joined (procedure_code ts) xs) (joined data_code xs) in
     let are : AreEntries (joined entries_of xs) = record {
-          in_range = entries_ranged plan (joined entries_of xs) entries;
-          counted = omega (arith, h, i, j, short);
-        } in
+      in_range = entries_ranged plan (joined entries_of xs) entries;
+      counted = omega (arith, h, i, j, short);
+    } in
     typed_then (typed_then first.typed second.typed) (ends are (entries_named plan (joined entries_of xs) entries) done)
 
 -- The plan that has these marks.
@@ -270,9 +270,10 @@ pub look_right : (ms : List Mark) → ((l : ℕ) → times_marked l ms ≤ 1) �
 look_right [] once = tt
 look_right (m ∷ ms) once =
     let own : sets m.spot (Some m.spot) ≡ 1 = ap (λ (x : Bool). cond x 1 0) (eq-eqb m.spot m.spot refl) in
-    let low = once m.spot in
-    (found_first (m.spot == m.spot) m.purpose (look ms m.spot) (eq-eqb m.spot m.spot refl),
-    look_past m ms ms (omega (arith, own, low)) (look_right ms (λ l. let h = once l in omega (arith, h))))
+    let low = once m.spot in (
+      found_first (m.spot == m.spot) m.purpose (look ms m.spot) (eq-eqb m.spot m.spot refl),
+      look_past m ms ms (omega (arith, own, low)) (look_right ms (λ l. let h = once l in omega (arith, h))),
+    )
 
 pub look_set : (ms : List Mark) (l : ℕ) → (look ms l ≡ typing.unused → ⊥) → 1 ≤ times_marked l ms
 look_set [] l used = absurd (used refl)

@@ -1,5 +1,6 @@
 -- Statements of a procedure one behind another, from one depth to another, and each statement that the scheme gives by itself.
-use Rattle.std.proofs.Common.{arith, ◌≡◌, ℕ, zero, suc, ◌+◌, ◌-◌, ◌≤◌, Bool, true, false, cond, List, [], ◌∷◌, ◌++◌, length, take, ℤ, int_lt, pos, refl, sym, subst, Some, None}
+use Rattle.std.proofs.Common.{arith, ◌≡◌, ℕ, ◌+◌, ◌-◌, ◌≤◌, Bool, true, false, cond, List, [], ◌∷◌, ◌++◌, length, ℤ, int_lt, pos, refl, sym, subst, Some, None}
+use Rattle.std.proofs.lemmas.List.{length-take}
 use Rattle.bk_base.specs.declared.limit.TheConstants.{FRAME_WORDS, NAME_BYTES}
 use Rattle.bk_base.specs.Word.{signed}
 use Rattle.bk_base.specs.Strings.{first_bytes}
@@ -65,13 +66,8 @@ next_truth k false = refl
 pub fits_query : (plan : ℕ → Use) (p k : ℕ) → k + 1 ≤ FRAME_WORDS → Fits plan p k t.Query
 fits_query plan p k high = record { placed = refl; ranged = tt; deep = omega arith; shallow = high; agrees = tt }
 
-short_take : (n : ℕ) (xs : List ℕ) → length (take n xs) ≤ n
-short_take zero xs = omega arith
-short_take (suc n) [] = omega arith
-short_take (suc n) (x ∷ xs) = let h = short_take n xs in omega (arith, h)
-
 pub short_bytes : (xs : List ℕ) → length (first_bytes xs) ≤ NAME_BYTES
-short_bytes xs = short_take NAME_BYTES xs
+short_bytes xs = let h = length-take NAME_BYTES xs in omega (arith, h)
 
 pub fits_text : (plan : ℕ → Use) (p k : ℕ) (xs : List ℕ) → k + 1 ≤ FRAME_WORDS → Fits plan p k (t.Text (first_bytes xs))
 fits_text plan p k xs high = record { placed = refl; ranged = short_bytes xs; deep = omega arith; shallow = high; agrees = tt }
@@ -141,7 +137,7 @@ fits_assign_byte plan p k low high = record { placed = refl; ranged = tt; deep =
 pub fits_jump : (plan : ℕ → Use) (p k l : ℕ) → plan l ≡ jumps p k → IsLabel l → k ≤ FRAME_WORDS → Fits plan p k (t.Jump l)
 fits_jump plan p k l e range high = record { placed = refl; ranged = range; deep = omega arith; shallow = high; agrees = e }
 
-back : (s : ℕ) → s + 1 - 1 ≡ s
+pub back : (s : ℕ) → s + 1 - 1 ≡ s
 back s = omega arith
 
 pub fits_jump_if : (plan : ℕ → Use) (p s : ℕ) (x : Bool) (l : ℕ) → plan l ≡ jumps p s → IsLabel l → 2 ≤ s → s + 1 ≤ FRAME_WORDS → Fits plan p (s + 1) (t.JumpIf x l)

@@ -31,28 +31,41 @@ IsFine (meaning b) = ⊤
 IsFine (wrong f) = ⊤
 IsFine (claim c f) = ⊤
 
+abbrev pub AllPoints : (Point → Type 0) → List Point → Type 0
+AllPoints P [] = ⊤
+AllPoints P (x ∷ xs) = P x × AllPoints P xs
+
+points_front : (P : Point → Type 0) (xs ys : List Point) → AllPoints P (xs ++ ys) → AllPoints P xs
+points_front P [] ys h = tt
+points_front P (x ∷ xs) ys h = (h.0, points_front P xs ys h.1)
+
+points_back : (P : Point → Type 0) (xs ys : List Point) → AllPoints P (xs ++ ys) → AllPoints P ys
+points_back P [] ys h = h
+points_back P (x ∷ xs) ys h = points_back P xs ys h.1
+
 abbrev pub AllFine : List Point → Type 0
-AllFine [] = ⊤
-AllFine (x ∷ xs) = IsFine x × AllFine xs
+AllFine xs = AllPoints IsFine xs
 
 pub all_front : (xs ys : List Point) → AllFine (xs ++ ys) → AllFine xs
-all_front [] ys h = tt
-all_front (x ∷ xs) ys h = (h.0, all_front xs ys h.1)
+all_front xs ys h = points_front IsFine xs ys h
 
 pub all_back : (xs ys : List Point) → AllFine (xs ++ ys) → AllFine ys
-all_back [] ys h = h
-all_back (x ∷ xs) ys h = all_back xs ys h.1
+all_back xs ys h = points_back IsFine xs ys h
 
-pub record Fine (xs : List Point) : Type 0 where
-  pub all : AllFine xs
+-- points that have a property, where no claim was made before
+pub record Told (P : Point → Type 0) (xs : List Point) : Type 0 where
+  pub all : AllPoints P xs
   pub claims : List Claim
   pub clean : Clean claims xs
 
-pub fine_front : (xs ys : List Point) → Fine (xs ++ ys) → Fine xs
-fine_front xs ys h = record { all = all_front xs ys h.all; claims = h.claims; clean = first_clean h.claims xs ys h.clean }
+pub told_front : {P : Point → Type 0} (xs ys : List Point) → Told P (xs ++ ys) → Told P xs
+told_front {P} xs ys h = record { all = points_front P xs ys h.all; claims = h.claims; clean = first_clean h.claims xs ys h.clean }
 
-pub fine_back : (xs ys : List Point) → Fine (xs ++ ys) → Fine ys
-fine_back xs ys h = record { all = all_back xs ys h.all; claims = claims_behind h.claims xs; clean = second_clean h.claims xs ys h.clean }
+pub told_back : {P : Point → Type 0} (xs ys : List Point) → Told P (xs ++ ys) → Told P ys
+told_back {P} xs ys h = record { all = points_back P xs ys h.all; claims = claims_behind h.claims xs; clean = second_clean h.claims xs ys h.clean }
+
+abbrev pub Fine : List Point → Type 0
+Fine xs = Told IsFine xs
 
 -- roles in which a word is pushed
 abbrev pub Pushing : Role → Type 0

@@ -1,10 +1,11 @@
 -- Laws of the scheme, over the named tree of a section.
-use Rattle.std.specs.Prelude.{ℕ, ◌+◌, ◌≡◌, ◌≤◌, List, [], length}
+use Rattle.std.specs.Prelude.{ℕ, ◌+◌, ◌≡◌, ◌<◌, ◌≤◌, ◌^◌, Some, List, [], length, slice_get}
 use Rattle.bk_base.specs.declared.limit.TheConstants.{OCODE_LABEL, OCODE_STATEMENTS, OCODE_WORDS}
 use Rattle.bk_syntax.specs.Tree.{Declarations}
 use Rattle.bk_syntax.specs.Limits.{Within}
 use Rattle.bk_scope.specs.declared.bound.Bound.{Bound}
 use Rattle.bk_scope.specs.Faults.{faults, meanings, words}
+use Rattle.bk_ocode.specs.Section.{IsSection}
 use Rattle.bk_ocode.specs.SectionData.{text_size}
 use Rattle.bk_ocode.specs.Typing.{times_set}
 use Rattle.bk_trans.specs.Program as p
@@ -26,11 +27,18 @@ LabelsAreFew = (ds : Declarations) (meanings : List Bound) (words : List ℕ) �
 abbrev pub StatementsAreFew : Type 0
 StatementsAreFew = (ds : Declarations) (meanings : List Bound) (words : List ℕ) → Within ds → length (scheme (program_of ds meanings words)) ≤ OCODE_STATEMENTS
 
--- THE WORDS OF A SECTION ARE FEW: a node gives three hundred at most, so the text of a section within the limits is within its limit
--- of words.
-abbrev pub WordsAreFew : Type 0
-WordsAreFew = (ds : Declarations) (meanings : List Bound) (words : List ℕ) → Within ds → text_size (scheme (program_of ds meanings words)) ≤ OCODE_WORDS
-
 -- NO LABEL IS SET TWICE in the statements of a section, and those that are set are among its own, from 1 on.
 abbrev pub LabelsAreSetOnce : Type 0
 LabelsAreSetOnce = (ds : p.Declarations) (l : ℕ) → (times_set l (scheme ds) ≤ 1) × (1 ≤ times_set l (scheme ds) → (1 ≤ l) × (l ≤ labels_of_declarations ds))
+
+-- THE WORDS OF A SECTION'S TEXT ARE FEW: a node gives 300 at most, so those of a section within the limits are within theirs.
+abbrev pub WordsAreFew : Type 0
+WordsAreFew = (ds : Declarations) (meanings : List Bound) (words : List ℕ) → Within ds → text_size (scheme (program_of ds meanings words)) ≤ OCODE_WORDS
+
+-- constants are words, as their type has it
+abbrev pub AreWords : List ℕ → Type 0
+AreWords ws = (k w : ℕ) → slice_get ws k ≡ Some w → w < 2 ^ 32
+
+-- THE SCHEME GIVES ACCEPTED SECTIONS: the statements of a section without faults that is within the limits keep the rules of OCODE.
+abbrev pub SchemeIsAccepted : Type 0
+SchemeIsAccepted = (ds : Declarations) → faults ds ≡ [] → Within ds → AreWords (words ds) → IsSection (scheme (program_of ds (meanings ds) (words ds)))

@@ -1,5 +1,5 @@
 //! Laws of the scheme.
-ghost use Rattle.bk_trans.specs.Laws.{FillingNames, LabelsAreFew, LabelsAreSetOnce, StatementsAreFew, WordsAreFew};
+ghost use Rattle.bk_trans.specs.Laws.{FillingNames, LabelsAreFew, LabelsAreSetOnce, SchemeIsAccepted, StatementsAreFew, WordsAreFew};
 
 /// In a section without faults filling from the meanings and the words gives the tree that is named by the declarations in scope.
 pub fn filling_names()
@@ -17,12 +17,17 @@ pub fn statements_are_few()
     ensures { StatementsAreFew }
 {}
 
-/// The words of the text of a section within the limits of trees are within theirs.
+/// No label is set twice in the statements of a section, and those that are set are its own.
+pub fn labels_are_set_once()
+    ensures { LabelsAreSetOnce }
+{}
+
+/// The words of the text of a section within the limits of trees are within their limit.
 pub fn words_are_few()
     ensures { WordsAreFew }
 {}
 
-/// No label is set twice in the statements of a section, and those that are set are its own.
-pub fn labels_are_set_once()
-    ensures { LabelsAreSetOnce }
+/// The statements of a section without faults that is within the limits of trees are an accepted section of OCODE.
+pub fn scheme_is_accepted()
+    ensures { SchemeIsAccepted }
 {}

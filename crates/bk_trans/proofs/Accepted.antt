@@ -1,0 +1,79 @@
+-- The scheme's statements of a section without faults are an accepted section.
+use Rattle.std.proofs.Common.{arith, ◌≡◌, ℕ, suc, ◌+◌, ◌≤◌, List, [], ◌∷◌, ◌++◌, length, refl, sym, ap, subst}
+use Rattle.bk_base.specs.declared.limit.TheConstants.{OCODE_LABEL, OCODE_STATEMENTS, OCODE_WORDS}
+use Rattle.bk_syntax.specs.Tree.{Declarations}
+use Rattle.bk_scope.specs.Points.{Point, meaning, word, depth, wrong, claim, words_of}
+use Rattle.bk_scope.specs.Faults.{told_of, meanings, words}
+use Rattle.bk_scope.specs.Sound.{SoundSection}
+use Rattle.bk_scope.proofs.Parts.{section_clean}
+use Rattle.bk_scope.proofs.Soundness.{section_sound}
+use Rattle.bk_ocode.specs.Lists.{joined}
+use Rattle.bk_ocode.specs.Section.{IsSection}
+use Rattle.bk_ocode.specs.SectionData.{text_size}
+use Rattle.bk_ocode.specs.Typing.{Use, times_set}
+use Rattle.bk_ocode.proofs.TypedSections.{typed_is_section}
+use Rattle.bk_trans.specs.declared.around.Target.{Target}
+use Rattle.bk_trans.specs.Program as p
+use Rattle.bk_trans.specs.Filling.{program_of}
+use Rattle.bk_trans.specs.Labels.{labels_of_declarations}
+use Rattle.bk_trans.specs.Parts.{Part, parts_of_declarations, target_of}
+use Rattle.bk_trans.specs.Naming.{named_tree}
+use Rattle.bk_trans.specs.Scheme.{scheme}
+use Rattle.bk_trans.specs.Laws.{AreWords, SchemeIsAccepted}
+use Rattle.bk_trans.proofs.Named.{filling_names}
+use Rattle.bk_trans.proofs.Few.{labels_are_few}
+use Rattle.bk_trans.proofs.Counted.{statements_are_few}
+use Rattle.bk_trans.proofs.Words.{words_are_few}
+use Rattle.bk_trans.proofs.Once.{labels_are_set_once}
+use Rattle.bk_trans.proofs.Marks.{Mark, AllRight, right_front, right_back}
+use Rattle.bk_trans.proofs.Sections.{part_marks, look, look_right, look_set, section_marked, section_typed}
+use Rattle.bk_trans.proofs.Scopes.{AllFound, PartsRight}
+use Rattle.bk_trans.proofs.Nested.{AllQuiet, Quiet, section_good}
+use Rattle.bk_trans.proofs.Numbered.{section_found}
+
+-- each word that is told is one
+all_quiet : (xs : List Point) → AreWords (words_of xs) → AllQuiet xs
+all_quiet [] h = tt
+all_quiet (meaning b ∷ xs) h = (tt, all_quiet xs h)
+all_quiet (word v ∷ xs) h = (h 0 v refl, all_quiet xs (λ k w at. h (suc k) w at))
+all_quiet (depth m ∷ xs) h = (tt, all_quiet xs h)
+all_quiet (wrong f ∷ xs) h = (tt, all_quiet xs h)
+all_quiet (claim c f ∷ xs) h = (tt, all_quiet xs h)
+
+found_front : (ts xs ys : List Target) → AllFound ts (xs ++ ys) → AllFound ts xs
+found_front ts [] ys h = tt
+found_front ts (x ∷ xs) ys h = (h.0, found_front ts xs ys h.1)
+
+found_back : (ts xs ys : List Target) → AllFound ts (xs ++ ys) → AllFound ts ys
+found_back ts [] ys h = h
+found_back ts (x ∷ xs) ys h = found_back ts xs ys h.1
+
+parts_right : (plan : ℕ → Use) (ts : List Target) (xs : List Part) → AllFound ts (joined target_of xs) → AllRight plan (joined part_marks xs) → PartsRight plan ts xs
+parts_right plan ts [] h r = tt
+parts_right plan ts (x ∷ xs) h r =
+    ((found_front ts (target_of x) _ h, right_front plan (part_marks x) _ r), parts_right plan ts xs (found_back ts (target_of x) _ h) (right_back plan (part_marks x) _ r))
+
+-- the named tree of a section
+accepted : (ds : Declarations) → SoundSection ds → Quiet (told_of ds) → 1 + labels_of_declarations (named_tree ds) ≤ OCODE_LABEL → length (scheme (named_tree ds)) ≤ OCODE_STATEMENTS
+    → text_size (scheme (named_tree ds)) ≤ OCODE_WORDS → IsSection (scheme (named_tree ds))
+accepted ds sound quiet few short small =
+    let ps : List Part = parts_of_declarations 2 1 (named_tree ds) in
+    let ts : List Target = joined target_of ps in
+    let ms : List Mark = joined part_marks ps in
+    let plan : ℕ → Use = look ms in
+    let once : (l : ℕ) → times_set l (scheme (named_tree ds)) ≤ 1 = λ l. (labels_are_set_once (named_tree ds) l).0 in
+    let right : AllRight plan ms = look_right ms (λ l. let h = once l in let i = section_marked l ps in omega (arith, h, i)) in
+    let whole : PartsRight plan ts ps = parts_right plan ts ps (section_found ds quiet) right in
+    let good = section_good plan ts ds sound quiet few whole in
+    typed_is_section plan (scheme (named_tree ds)) (section_typed plan ps good right short) once
+    (λ l used. let h = look_set ms l used in let i = section_marked l ps in omega (arith, h, i)) short small
+
+pub scheme_is_accepted : SchemeIsAccepted
+scheme_is_accepted ds none within are =
+    let same : program_of ds (meanings ds) (words ds) ≡ named_tree ds = ap (λ x. x.part) (filling_names ds none) in
+    let quiet : Quiet (told_of ds) = record { all = all_quiet (told_of ds) are; claims = []; clean = section_clean ds none } in
+    subst (λ (xs : p.Declarations). IsSection (scheme xs)) (sym same)
+    (accepted ds (section_sound ds none) quiet
+    (subst (λ (xs : p.Declarations). 1 + labels_of_declarations xs ≤ OCODE_LABEL) same (labels_are_few ds (meanings ds) (words ds) within))
+    (subst (λ (xs : p.Declarations). length (scheme xs) ≤ OCODE_STATEMENTS) same (statements_are_few ds (meanings ds) (words ds) within))
+    (subst (λ (xs : p.Declarations). text_size (scheme xs) ≤ OCODE_WORDS) same (words_are_few ds (meanings ds) (words ds) within)))
