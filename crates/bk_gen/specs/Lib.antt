@@ -3,3 +3,5 @@ pub mod PlacedStore
 pub mod Agreement
 pub mod StandsFor
 pub mod PlainCode
+pub mod Laws
+pub mod BackEnd

@@ -1,7 +1,14 @@
 //! From OCODE to INTCODE.
 #![tactic(auto)]
 
+mod laws;
 mod parts;
-mod plain;
+pub mod plain;
+mod segment;
 mod statement;
 mod table;
+#[cfg(test)]
+mod tests;
+
+pub use laws::back_end;
+pub use segment::generate;

@@ -11,7 +11,7 @@ use Rattle.bk_intcode.specs.declared.item.Operand.TheVariants.{Number, Local, Gl
 use Rattle.bk_intcode.specs.declared.item.Item.{Item}
 use Rattle.bk_intcode.specs.declared.item.Item.TheVariants.{Instruction, SetLabel, Byte, Word, LabelWord, SetGlobal, Frame, End}
 use Rattle.bk_intcode.specs.Instructions.{fields, instruction_at, instruction_words}
-use Rattle.bk_intcode.specs.Placement.{Growth, item_words, grown, growth, segment_words, segment_size}
+use Rattle.bk_intcode.specs.Placement.{Growth, item_words, grown, growth, segment_size}
 use Rattle.bk_intcode.specs.declared.extent.Extent.{Extent}
 use Rattle.bk_intcode.specs.Reach.{address_size, operand_size, item_size, reached, reached_all}
 
@@ -76,12 +76,6 @@ extent-growth start labels items =
     (ap (λ (m : ℕ). let x : Extent = record { next = m; filled = 0 } in x) (add-zero start))
 
 -- the sizes of items and how far they reach
-pub length-segment_words : (labels : ℕ → ℕ) (items : List Item) → length (segment_words labels items) ≡ segment_size items
-length-segment_words labels items =
-    let these = ap (λ (e : Extent). e.next) (extent-growth 0 labels items) in
-    let those = ap (λ (e : Extent). e.next) (extent-growth 0 (λ label. 0) items) in
-    omega arith
-
 pub reached-size : (start : ℕ) (items : List Item) → (reached_all start items).next ≡ start + segment_size items
 reached-size start items = sym (ap (λ (e : Extent). e.next) (extent-growth start (λ label. 0) items))
 

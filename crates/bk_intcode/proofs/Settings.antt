@@ -11,10 +11,10 @@ use Rattle.bk_intcode.specs.declared.item.Item.TheVariants.{Instruction, SetLabe
 use Rattle.bk_intcode.specs.declared.segment.Intcode.{Intcode}
 use Rattle.bk_intcode.specs.Segment.{IsSegment}
 use Rattle.bk_intcode.specs.SegmentItems.{items_of}
+use Rattle.bk_intcode.specs.SizeLaws.{segment_length}
 use Rattle.bk_intcode.specs.Placement.{Setting, SEGMENTS, start_words, library_words, library_settings, item_settings, segment_settings, all_settings, all_words, with_setting, segment_size, segment_words, label_number, stack_start, loaded_store}
 use Rattle.bk_intcode.specs.Placed.{placed}
 use Rattle.bk_intcode.proofs.Places.{got}
-use Rattle.bk_intcode.proofs.Reaching.{length-segment_words}
 
 segment_settings-append : (labels : ℕ → ℕ) (xs ys : List Item) → segment_settings labels (xs ++ ys) ≡ segment_settings labels xs ++ segment_settings labels ys
 segment_settings-append labels [] ys = refl
@@ -85,7 +85,7 @@ length-placed store items =
     let labels = label_number (length store) items in
     length-settings (store ++ segment_words labels items) (segment_settings labels items)
     ∙ length-append store (segment_words labels items)
-    ∙ ap (λ n. length store + n) (length-segment_words labels items)
+    ∙ ap (λ n. length store + n) (segment_length labels items)
 
 -- placing segments one after another puts all their words behind the store, and sets all their globals
 placed-all : (store : List ℕ) (segments : List Intcode) → 1016 ≤ length store

@@ -4,6 +4,7 @@ pub mod SegmentLaws
 pub mod CheckedSegment
 pub mod Instructions
 pub mod Placement
+pub mod SizeLaws
 pub mod Reach
 pub mod LabelNumbers
 pub mod Packing
@@ -17,5 +18,7 @@ pub mod Effects
 pub mod StepLaws
 pub mod Runs
 pub mod RunLaws
+pub mod RunLengths
+pub mod ShorterStores
 pub mod Telling
 pub mod State

@@ -23,7 +23,10 @@ mod tell;
 mod tests;
 
 pub use item::{Function, Item, Operand};
-pub use laws::format_is_of_parts;
+pub use laws::{
+    format_is_of_parts, labels_lie_within, labels_stand_at_their_items, runs_in_shorter_stores,
+    runs_keep_length, runs_read_the_front, sizes_ignore_labels,
+};
 pub use load_fault::LoadFault;
 pub use machine::{Machine, Sizes};
 pub use registers::Registers;

@@ -19,11 +19,16 @@ use Rattle.bk_trans.specs.Labels.{labels_of_declarations}
 use Rattle.bk_trans.specs.Parts.{Part, parts_of_declarations, target_of}
 use Rattle.bk_trans.specs.Naming.{named_tree}
 use Rattle.bk_trans.specs.Scheme.{scheme}
+use Rattle.bk_ocode.specs.declared.stmt.Stmt.{Stmt}
+use Rattle.bk_syntax.specs.Limits.{Within}
+use Rattle.bk_scope.specs.Faults.{faults}
+use Rattle.bk_trans.specs.Alike.{in_words}
+use Rattle.bk_trans.proofs.Ranges.{in_range_is}
 use Rattle.bk_trans.specs.Laws.{AreWords, SchemeIsAccepted}
 use Rattle.bk_trans.proofs.Named.{filling_names}
 use Rattle.bk_trans.proofs.Few.{labels_are_few}
 use Rattle.bk_trans.proofs.Counted.{statements_are_few}
-use Rattle.bk_trans.proofs.Words.{words_are_few}
+use Rattle.bk_trans.proofs.Worded.{words_are_few}
 use Rattle.bk_trans.proofs.Once.{labels_are_set_once}
 use Rattle.bk_trans.proofs.Marks.{Mark, AllRight, right_front, right_back}
 use Rattle.bk_trans.proofs.Sections.{part_marks, look, look_right, look_set, section_marked, section_typed}
@@ -72,8 +77,13 @@ pub scheme_is_accepted : SchemeIsAccepted
 scheme_is_accepted ds none within are =
     let same : program_of ds (meanings ds) (words ds) ≡ named_tree ds = ap (λ x. x.part) (filling_names ds none) in
     let quiet : Quiet (told_of ds) = record { all = all_quiet (told_of ds) are; claims = []; clean = section_clean ds none } in
-    subst (λ (xs : p.Declarations). IsSection (scheme xs)) (sym same)
-    (accepted ds (section_sound ds none) quiet
+    accepted ds (section_sound ds none) quiet
     (subst (λ (xs : p.Declarations). 1 + labels_of_declarations xs ≤ OCODE_LABEL) same (labels_are_few ds (meanings ds) (words ds) within))
     (subst (λ (xs : p.Declarations). length (scheme xs) ≤ OCODE_STATEMENTS) same (statements_are_few ds (meanings ds) (words ds) within))
-    (subst (λ (xs : p.Declarations). text_size (scheme xs) ≤ OCODE_WORDS) same (words_are_few ds (meanings ds) (words ds) within)))
+    (subst (λ (xs : p.Declarations). text_size (scheme xs) ≤ OCODE_WORDS) same (words_are_few ds (meanings ds) (words ds) within))
+
+-- its numbers are words, so the statements that are written are these
+pub written_is_accepted : (ds : Declarations) → faults ds ≡ [] → Within ds → AreWords (words ds) → IsSection (in_words (scheme (named_tree ds)))
+written_is_accepted ds none within are =
+    let section = scheme_is_accepted ds none within are in
+    subst (λ (ss : List Stmt). IsSection ss) (sym (in_range_is (scheme (named_tree ds)) section.are_faultless.in_range)) section

@@ -4,6 +4,14 @@ mod Few
 mod Once
 mod Named
 mod Counted
+mod Worded
+mod Blocks
+mod PlaceLists
+mod Adds
+mod Ties
+mod WholeSections
+mod FittingLemmas
+mod Ranges
 mod Marks
 mod Good
 mod Steps
@@ -16,5 +24,4 @@ mod Told
 mod Bodies
 mod Nested
 mod Numbered
-mod Words
 mod Accepted

@@ -7,3 +7,7 @@ pub mod Depths
 pub mod Parts
 pub mod Scheme
 pub mod Laws
+pub mod Writing
+pub mod Codes
+pub mod Alike
+pub mod Fitting

@@ -39,7 +39,10 @@ suffix_after n go (Asks s r) [] o = go s _ [] o
 suffix_after n go (Asks s r) (b ∷ rest) o = let h = go s (record r { a = b }) rest o in (b ∷ h.0, ap (λ l. b ∷ l) h.1)
 suffix_after n go (Ends e) i o = ([], refl)
 
-run_reads : (n : ℕ) (s : List ℕ) (r : Registers) (i o : List ℕ) → (read : List ℕ) × (i ≡ read ++ input_of (run n s r i o))
+abbrev pub RunsReadTheFront : Type 0
+RunsReadTheFront = (n : ℕ) (s : List ℕ) (r : Registers) (i o : List ℕ) → (read : List ℕ) × (i ≡ read ++ input_of (run n s r i o))
+
+pub run_reads : RunsReadTheFront
 run_reads zero s r i o = ([], refl)
 run_reads (suc n) s r i o = suffix_after n (run_reads n) (step s r) i o
 
@@ -347,3 +350,10 @@ module _ (t : List ℕ) where
   pub shortens : (n : ℕ) → Shortens n
   shortens zero s r i o = inr refl
   shortens (suc n) s r i o = turned n (shortens n) s r i o (step s r) (step (s ++ t) r) refl (step_longer s r)
+
+-- A run in a shorter store does the same, or stops before at its end with a beginning of the bytes.
+abbrev pub RunsInShorterStores : Type 0
+RunsInShorterStores = (t : List ℕ) (n : ℕ) (s : List ℕ) (r : Registers) (i o : List ℕ) → Stopped t n s r i o (run n (s ++ t) r i o) ⊎ IsLonger t (run n s r i o) (run n (s ++ t) r i o)
+
+pub run_shorter : RunsInShorterStores
+run_shorter t n s r i o = shortens t n s r i o

@@ -1,0 +1,52 @@
+//! The laws of the layers below on which the code rests, and the law of the back end.
+ghost use Rattle.bk_gen.specs.BackEnd.{BackEndHolds};
+ghost use Rattle.bk_gen.specs.Laws.{Laws, RunLaws};
+
+use bk_intcode::format_is_of_parts;
+use bk_ocode::{
+    data_finds_its_label, depths_suffice, ends_keep_bytes, first_state_is_sound,
+    global_finds_its_entry, item_finds_its_label, jump_finds_its_label, jump_has_its_labels_depth,
+    label_has_one_place, labels_are_set_once, result_finds_its_label, resuming_is_sound,
+    step_keeps_below, steps_are_sound, steps_come_nearer, steps_grow, text_is_short,
+};
+
+/// Of sections and formats.
+pub(crate) fn laws()
+    ensures { Laws }
+{
+    labels_are_set_once();
+    label_has_one_place();
+    jump_finds_its_label();
+    jump_has_its_labels_depth();
+    depths_suffice();
+    result_finds_its_label();
+    data_finds_its_label();
+    item_finds_its_label();
+    global_finds_its_entry();
+    text_is_short();
+    format_is_of_parts();
+}
+
+/// Of the states of a run.
+fn run_laws()
+    ensures { RunLaws }
+{
+    first_state_is_sound();
+    steps_are_sound();
+    resuming_is_sound();
+    steps_grow();
+    ends_keep_bytes();
+    step_keeps_below();
+    steps_come_nearer();
+}
+
+/// The back end as a whole: the segments that stand for accepted sections, loaded and run, write what the steps of OCODE write, where
+/// no step is wild. With q steps and at most d frames at once, 16 q + 16 steps of the machine are enough, and d + 1 frames of the
+/// largest depth and 16 words behind the image; with less it is a beginning of that, up to the limit. Where the run of OCODE goes on,
+/// so does the machine's.
+pub fn back_end()
+    ensures { BackEndHolds }
+{
+    laws();
+    run_laws();
+}

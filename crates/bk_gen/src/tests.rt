@@ -1,0 +1,317 @@
+//! Sections through `generate` and the machine: each statement, each routine of the library, and the ends of runs. What they
+//! write is worked out by hand.
+use crate::{generate, plain};
+use bk_base::{End, Reader512, Writer512};
+use bk_intcode::{Intcode, LoadFault, Machine};
+use bk_ocode::{Ocode, read_section};
+use std::alloc::Global;
+use std::process::Abort;
+use std::test::Fail;
+
+const WORDS: u32 = 4_096;
+
+const MANY: u64 = 1_000_000;
+
+/// The first section of a text.
+fn section_of(alloc: Global, text: &[u8]) -> Result<Ocode, Fail> {
+    let mut input = Reader512::new(text);
+    match read_section(alloc, &mut input) {
+        Ok(Some(section)) => Ok(section),
+        _ => Err(Fail::from("no section")),
+    }
+}
+
+/// The segments of sections, one a text.
+fn segments_of(alloc: Global, texts: &[&[u8]]) -> Result<Vec<Intcode>, Fail> {
+    let mut segments = Vec::new(alloc);
+    for text in texts {
+        segments.push(generate(alloc, &section_of(alloc, text)?)?)?;
+    }
+    Ok(segments)
+}
+
+/// Runs sections, and compares what they end with and what they write.
+fn runs(
+    rt: &impl Abort,
+    alloc: Global,
+    texts: &[&[u8]],
+    steps: u64,
+    input: &[u8],
+    end: End,
+    output: &[u8],
+) -> Result<(), Fail> {
+    let segments = segments_of(alloc, texts)?;
+    let mut machine = Machine::load(alloc, &segments, WORDS)?;
+    let mut input = Reader512::new(input);
+    let mut bytes = Vec::new(alloc);
+    let mut out = Writer512::new(&mut bytes);
+    assert_eq!(rt; machine.run(steps, &mut input, &mut out), end);
+    drop(out);
+    assert_eq!(rt; bytes.as_slice(), output);
+    Ok(())
+}
+
+/// Runs one section to its end with 0.
+fn writes(rt: &impl Abort, alloc: Global, text: &[u8], output: &[u8]) -> Result<(), Fail> {
+    runs(rt, alloc, &[text], MANY, b"", End::Status(0), output)
+}
+
+#[test]
+fn items(rt: HostRuntime) -> Result<(), Fail> {
+    writes(
+        &rt,
+        rt.alloc(),
+        b"ENTRY L1 0 SAVE 2 STACK 4 LN 7 LG 7 RTAP 2 STACK 4 TRUE LG 7 RTAP 2 STACK 4 FALSE LG 7 RTAP 2 STACK 4 LN -2147483648 \
+        LG 7 RTAP 2 QUERY STACK 2 RTRN ENDPROC GLOBAL 1 1 L1",
+        b"7-10-2147483648",
+    )?;
+    writes(
+        &rt,
+        rt.alloc(),
+        b"ENTRY L1 0 SAVE 2 STACK 4 LN 5 NEG LG 7 RTAP 2 STACK 4 LN 5 NOT LG 7 RTAP 2 STACK 4 LSTR 3 72 73 10 LG 6 RTAP 2 RTRN \
+        ENDPROC GLOBAL 1 1 L1",
+        b"-5-6HI\n",
+    )
+}
+
+#[test]
+fn variables(rt: HostRuntime) -> Result<(), Fail> {
+    writes(
+        &rt,
+        rt.alloc(),
+        b"ENTRY L1 0 SAVE 2 LN 5 STORE STACK 5 LP 2 LG 7 RTAP 3 LN 6 SP 2 STACK 5 LLP 2 RV LG 7 RTAP 3 LN 8 SG 100 STACK 5 LG 100 \
+        LG 7 RTAP 3 STACK 5 LLG 100 RV LG 7 RTAP 3 LN 9 LLG 100 STIND STACK 5 LG 100 LG 7 RTAP 3 RTRN ENDPROC GLOBAL 1 1 L1",
+        b"56889",
+    )?;
+    writes(
+        &rt,
+        rt.alloc(),
+        b"ENTRY L1 0 SAVE 2 STACK 4 LL L2 LG 7 RTAP 2 LN 31 SL L2 STACK 4 LLL L2 RV LG 7 RTAP 2 STACK 4 LL L3 RV LG 7 RTAP 2 RTRN \
+        ENDPROC DATALAB L2 ITEMN 30 DATALAB L4 DATALAB L3 ITEML L2 GLOBAL 1 1 L1",
+        b"303131",
+    )
+}
+
+#[test]
+fn operators(rt: HostRuntime) -> Result<(), Fail> {
+    // of -7 and 2
+    writes(
+        &rt,
+        rt.alloc(),
+        b"ENTRY L1 0 SAVE 2 LN -7 LN 2 STORE \
+        STACK 6 LP 2 LP 3 MULT LN 4 LG 8 RTAP 4 STACK 6 LP 2 LP 3 DIV LN 3 LG 8 RTAP 4 STACK 6 LP 2 LP 3 REM LN 3 LG 8 RTAP 4 \
+        STACK 6 LP 2 LP 3 PLUS LN 3 LG 8 RTAP 4 STACK 6 LP 2 LP 3 MINUS LN 3 LG 8 RTAP 4 STACK 6 LP 2 LP 3 EQ LN 3 LG 8 RTAP 4 \
+        STACK 6 LP 2 LP 3 NE LN 3 LG 8 RTAP 4 STACK 6 LP 2 LP 3 LS LN 3 LG 8 RTAP 4 STACK 6 LP 2 LP 3 GR LN 3 LG 8 RTAP 4 \
+        STACK 6 LP 2 LP 3 LE LN 3 LG 8 RTAP 4 STACK 6 LP 2 LP 3 GE LN 3 LG 8 RTAP 4 STACK 6 LP 2 LP 3 LSHIFT LN 4 LG 8 RTAP 4 \
+        STACK 6 LP 2 LP 3 RSHIFT LN 11 LG 8 RTAP 4 STACK 6 LP 2 LP 3 LOGAND LN 3 LG 8 RTAP 4 STACK 6 LP 2 LP 3 LOGOR LN 3 LG 8 \
+        RTAP 4 STACK 6 LP 2 LP 3 EQV LN 3 LG 8 RTAP 4 STACK 6 LP 2 LP 3 NEQV LN 3 LG 8 RTAP 4 RTRN ENDPROC GLOBAL 1 1 L1",
+        b" -14 -3 -1 -5 -9  0 -1 -1  0 -1  0 -28 1073741822  0 -5  4 -5",
+    )
+}
+
+#[test]
+fn bytes(rt: HostRuntime) -> Result<(), Fail> {
+    // the string HI, whose byte 1 becomes J
+    writes(
+        &rt,
+        rt.alloc(),
+        b"ENTRY L1 0 SAVE 2 LSTR 2 72 73 STORE STACK 5 LP 2 LN 2 GETBYTE LG 4 RTAP 3 LN 74 LP 2 LN 1 PUTBYTE STACK 5 LP 2 LG 6 \
+        RTAP 3 RTRN ENDPROC GLOBAL 1 1 L1",
+        b"IJI",
+    )
+}
+
+#[test]
+fn jumps(rt: HostRuntime) -> Result<(), Fail> {
+    // a FOR from 1 to 3
+    writes(
+        &rt,
+        rt.alloc(),
+        b"ENTRY L1 5 83 84 65 82 84 SAVE 2 LN 1 LN 3 STORE JUMP L2 LAB L3 STACK 6 LP 2 LG 7 RTAP 4 LAB L4 LP 2 LN 1 PLUS SP 2 \
+        LAB L2 LP 2 LP 3 LE JT L3 LAB L5 STACK 2 RTRN ENDPROC GLOBAL 1 1 L1",
+        b"123",
+    )?;
+    // two LABs in one place, and a LAB right behind a call
+    writes(
+        &rt,
+        rt.alloc(),
+        b"ENTRY L1 0 SAVE 2 TRUE JF L2 FALSE JF L3 STACK 4 LN 65 LG 4 RTAP 2 LAB L3 LAB L2 STACK 4 LN 66 LG 4 RTAP 2 LAB L4 RTRN \
+        ENDPROC GLOBAL 1 1 L1",
+        b"B",
+    )?;
+    // a result from one of two places
+    writes(
+        &rt,
+        rt.alloc(),
+        b"ENTRY L1 0 SAVE 3 LP 2 JF L3 LN 5 RES L4 LAB L3 LN 6 RES L4 LAB L4 RSTACK 3 FNRN ENDPROC ENTRY L2 0 SAVE 2 STACK 4 \
+        STACK 6 LN 1 LL L5 FNAP 4 LG 7 RTAP 2 STACK 4 STACK 6 LN 0 LL L5 FNAP 4 LG 7 RTAP 2 RTRN ENDPROC DATALAB L5 ITEML L1 \
+        GLOBAL 1 1 L2",
+        b"56",
+    )
+}
+
+#[test]
+fn calls(rt: HostRuntime) -> Result<(), Fail> {
+    // the left operand comes first
+    writes(
+        &rt,
+        rt.alloc(),
+        b"ENTRY L1 1 70 SAVE 3 LN 10 LP 2 STIND LN 1 RES L3 LAB L3 RSTACK 3 FNRN ENDPROC ENTRY L4 5 83 84 65 82 84 SAVE 2 LN 5 \
+        STORE STACK 5 LP 2 STACK 8 LLP 2 LL L2 FNAP 6 PLUS LG 7 RTAP 3 STACK 5 LN 32 LG 4 RTAP 3 STACK 5 LP 2 LG 7 RTAP 3 STACK 2 \
+        RTRN ENDPROC DATALAB L2 ITEML L1 GLOBAL 1 1 L4",
+        b"6 10",
+    )?;
+    // a procedure of another section
+    runs(
+        &rt,
+        rt.alloc(),
+        &[
+            b"ENTRY L1 6 68 79 85 66 76 69 SAVE 3 LP 2 LP 2 PLUS FNRN ENDPROC GLOBAL 1 100 L1",
+            b"ENTRY L1 0 SAVE 2 STACK 4 STACK 6 LN 21 LG 100 FNAP 4 LG 7 RTAP 2 RTRN ENDPROC GLOBAL 1 1 L1",
+        ],
+        MANY,
+        b"",
+        End::Status(0),
+        b"42",
+    )
+}
+
+#[test]
+fn switches(rt: HostRuntime) -> Result<(), Fail> {
+    // each of 1 to 4 goes into a case, falls through, or meets none
+    writes(
+        &rt,
+        rt.alloc(),
+        b"ENTRY L1 0 SAVE 2 LN 1 LN 4 STORE JUMP L2 LAB L3 JUMP L7 LAB L8 STACK 6 LN 65 LG 4 RTAP 4 LAB L9 STACK 6 LN 66 LG 4 RTAP 4 \
+        JUMP L6 LAB L10 STACK 6 LN 68 LG 4 RTAP 4 JUMP L6 LAB L7 LP 2 SWITCHON 3 L6 1 L8 2 L9 4 L10 LAB L6 STACK 6 LN 46 LG 4 RTAP 4 \
+        LP 2 LN 1 PLUS SP 2 LAB L2 LP 2 LP 3 LE JT L3 STACK 2 RTRN ENDPROC GLOBAL 1 1 L1",
+        b"AB.B..D.",
+    )
+}
+
+#[test]
+fn library(rt: HostRuntime) -> Result<(), Fail> {
+    // copying
+    let copying =
+        b"ENTRY L1 0 SAVE 2 STACK 4 LG 3 FNAP 2 STORE JUMP L3 LAB L2 STACK 5 LP 2 LG 4 RTAP 3 STACK 5 LG 3 FNAP 3 SP 2 \
+        LAB L3 LP 2 LN -1 NE JT L2 STACK 5 STACK 7 LG 3 FNAP 5 LG 7 RTAP 3 RTRN ENDPROC GLOBAL 1 1 L1";
+    runs(
+        &rt,
+        rt.alloc(),
+        &[copying],
+        MANY,
+        b"\x00copied\xff",
+        End::Status(0),
+        b"\x00copied\xff-1",
+    )?;
+    runs(
+        &rt,
+        rt.alloc(),
+        &[copying],
+        MANY,
+        b"",
+        End::Status(0),
+        b"-1",
+    )?;
+    // a line, a column, a format, and two bytes
+    writes(
+        &rt,
+        rt.alloc(),
+        b"ENTRY L1 0 SAVE 2 STACK 4 LG 5 RTAP 2 STACK 4 LN 42 LN 5 LG 8 RTAP 2 STACK 4 LSTR 7 37 78 32 37 83 32 33 LN -3 \
+        LSTR 1 88 LG 11 RTAP 2 LSTR 1 89 STORE STACK 5 LP 2 LN 1 LN 90 LG 10 RTAP 3 STACK 5 STACK 7 LP 2 LN 1 LG 9 FNAP 5 LG 4 \
+        RTAP 3 RTRN ENDPROC GLOBAL 1 1 L1",
+        b"\n   42-3 X !Z",
+    )?;
+    runs(
+        &rt,
+        rt.alloc(),
+        &[
+            b"ENTRY L1 0 SAVE 2 STACK 4 LN 99 LG 2 RTAP 2 STACK 4 LN 65 LG 4 RTAP 2 RTRN ENDPROC GLOBAL 1 1 L1",
+        ],
+        MANY,
+        b"",
+        End::Status(99),
+        b"",
+    )
+}
+
+#[test]
+fn ends(rt: HostRuntime) -> Result<(), Fail> {
+    writes(
+        &rt,
+        rt.alloc(),
+        b"ENTRY L1 5 83 84 65 82 84 SAVE 2 FINISH RTRN ENDPROC GLOBAL 1 1 L1",
+        b"",
+    )?;
+    runs(
+        &rt,
+        rt.alloc(),
+        &[
+            b"ENTRY L1 0 SAVE 2 STACK 4 LN 65 LG 4 RTAP 2 STACK 4 LN 7 LN 0 DIV LG 7 RTAP 2 RTRN ENDPROC GLOBAL 1 1 L1",
+        ],
+        MANY,
+        b"",
+        End::DivideByZero,
+        b"A",
+    )?;
+    runs(
+        &rt,
+        rt.alloc(),
+        &[b"ENTRY L1 0 SAVE 2 STACK 4 LG 1 RTAP 2 RTRN ENDPROC GLOBAL 1 1 L1"],
+        MANY,
+        b"",
+        End::StoreLimit,
+        b"",
+    )?;
+    // a round is five statements: a LAB, a STACK, LN, LG with RTAP, and a JUMP
+    runs(
+        &rt,
+        rt.alloc(),
+        &[b"ENTRY L1 0 SAVE 2 LAB L2 STACK 4 LN 65 LG 4 RTAP 2 JUMP L2 RTRN ENDPROC GLOBAL 1 1 L1"],
+        30,
+        b"",
+        End::StepLimit,
+        b"AAA",
+    )
+}
+
+#[test]
+fn frames(rt: HostRuntime) -> Result<(), Fail> {
+    for (text, frame) in [
+        (
+            b"ENTRY L1 0 SAVE 2 RTRN ENDPROC GLOBAL 1 1 L1".as_slice(),
+            16,
+        ),
+        (
+            b"ENTRY L1 0 SAVE 2 STACK 65535 RTRN ENDPROC GLOBAL 1 1 L1".as_slice(),
+            65_535,
+        ),
+    ] {
+        let segments = segments_of(rt.alloc(), &[text])?;
+        assert_eq!(rt;
+            Machine::load(rt.alloc(), &segments, WORDS)?.sizes().frame,
+            frame
+        );
+    }
+    let segments = segments_of(rt.alloc(), &[b"GLOBAL 0"])?;
+    assert!(rt;
+        matches!(
+            Machine::load(rt.alloc(), &segments, WORDS),
+            Err(LoadFault::NoStart)
+        )
+    );
+    Ok(())
+}
+
+#[test]
+fn plain_items(rt: HostRuntime) -> Result<(), Fail> {
+    let section = section_of(
+        rt.alloc(),
+        b"ENTRY L1 0 SAVE 2 STACK 4 LN 65 LG 4 RTAP 2 RTRN ENDPROC GLOBAL 1 1 L1",
+    )?;
+    assert_eq!(rt;
+        plain::generate(rt.alloc(), &section)?.items(),
+        generate(rt.alloc(), &section)?.items()
+    );
+    Ok(())
+}

@@ -1,0 +1,185 @@
+-- What going through a part adds to what was written: its statements, those that stand by themselves, its choices, and what is left.
+-- Numbers are near each other where they are the same word.
+use Rattle.std.proofs.Common.{◌≡◌, ℕ, ◌+◌, ◌%◌, ◌^◌, Option, Some, None, List, [], ◌∷◌, ◌++◌, map, refl, sym, ap, ◌∙◌, append_assoc}
+use Rattle.std.proofs.Math.Nat.{mod-add-mod, mod-mod}
+use Rattle.std.proofs.lemmas.List.{append-nil, map-append}
+use Rattle.bk_ocode.specs.declared.stmt.Case.{Case}
+use Rattle.bk_ocode.specs.declared.stmt.Stmt.{Stmt}
+use Rattle.bk_ocode.specs.Lists.{joined}
+use Rattle.bk_trans.specs.declared.around.Target.{Target}
+use Rattle.bk_trans.specs.Alike.{word, case_in_words, entry_in_words, target_in_words, stmt_in_words}
+use Rattle.bk_trans.specs.Filling.{Supply}
+use Rattle.bk_trans.specs.Parts.{Part, target_of}
+use Rattle.bk_trans.specs.Scheme.{first_of, procedure_code, data_code, entries_of}
+use Rattle.bk_trans.specs.Writing.{Writing, after, puts_all, with_code, with_choices, takes_labels}
+
+-- numbers that are the same word
+pub record Near (a b : ℕ) : Type 0 where
+  pub same : word a ≡ word b
+
+pub near : (a : ℕ) → Near a a
+near a = record { same = refl }
+
+pub near_after : {a b : ℕ} (k : ℕ) → Near a b → Near (after a k) (b + k)
+near_after {a} {b} k h = record { same = mod-mod (a + k) (2 ^ 32) ∙ sym (mod-add-mod a (2 ^ 32) k) ∙ ap (λ x. (x + k) % 2 ^ 32) h.same ∙ mod-add-mod b (2 ^ 32) k }
+
+pub near_is : {a b c : ℕ} → Near a b → b ≡ c → Near a c
+near_is h e = record { same = h.same ∙ ap word e }
+
+-- lists that are the same in words
+pub record Alike {A : Type 0} (f : A → A) (xs ys : List A) : Type 0 where
+  pub same : map f xs ≡ map f ys
+
+pub alike : {A : Type 0} (f : A → A) (xs : List A) → Alike f xs xs
+alike f xs = record { same = refl }
+
+pub alike_is : {A : Type 0} {f : A → A} {xs ys zs : List A} → Alike f xs ys → ys ≡ zs → Alike f xs zs
+alike_is {A} {f} h e = record { same = h.same ∙ ap (map f) e }
+
+pub is_alike : {A : Type 0} {f : A → A} {xs ys zs : List A} → xs ≡ ys → Alike f ys zs → Alike f xs zs
+is_alike {A} {f} e h = record { same = ap (map f) e ∙ h.same }
+
+pub alike_both : {A : Type 0} {f : A → A} {xs ys us vs : List A} → Alike f xs ys → Alike f us vs → Alike f (xs ++ us) (ys ++ vs)
+alike_both {A} {f} {xs} {ys} {us} {vs} h k = record { same = map-append f xs us ∙ ap (λ l. l ++ map f us) h.same ∙ ap (λ l. map f ys ++ l) k.same ∙ sym (map-append f ys vs) }
+
+pub alike_more : {A : Type 0} {f : A → A} (ws ys vs : List A) {xs us : List A} → Alike f xs (ws ++ ys) → Alike f us (xs ++ vs) → Alike f us (ws ++ (ys ++ vs))
+alike_more {A} {f} ws ys vs {xs} {us} h k = alike_is (record { same = k.same ∙ (alike_both h (alike f vs)).same }) (append_assoc ws ys vs)
+
+pub joined_both : {A B : Type 0} (f : A → List B) (xs ys : List A) → joined f (xs ++ ys) ≡ joined f xs ++ joined f ys
+joined_both f [] ys = refl
+joined_both f (x ∷ xs) ys = ap (λ l. f x ++ l) (joined_both f xs ys) ∙ sym (append_assoc (f x) (joined f xs) (joined f ys))
+
+-- the label of a DEFAULT in words
+abbrev pub label_in_words : Option ℕ → Option ℕ
+label_in_words None = None
+label_in_words (Some l) = Some (word l)
+
+pub first_none : (x : Option ℕ) → first_of x None ≡ x
+first_none None = refl
+first_none (Some l) = refl
+
+first_more : (x y z u v : Option ℕ) → label_in_words u ≡ label_in_words (first_of x y) → label_in_words v ≡ label_in_words (first_of u z)
+    → label_in_words v ≡ label_in_words (first_of x (first_of y z))
+first_more None None z None v h k = k
+first_more None None z (Some l) v h k = absurd cc
+first_more None (Some m) z None v h k = absurd cc
+first_more None (Some m) z (Some l) v h k = k ∙ h
+first_more (Some n) y z None v h k = absurd cc
+first_more (Some n) y z (Some l) v h k = k ∙ h
+
+-- what is left, and the label that is next
+pub record At (w : Writing) (g : Supply) (n : ℕ) : Type 0 where
+  pub left : w.left ≡ g
+  pub next : Near w.next n
+
+-- what was added to w, where it came to v
+pub record Adds (ts : List Target) (w : Writing) (code : List Stmt) (parts : List Part) (cases : List Case) (default : Option ℕ) (g : Supply) (n : ℕ) (v : Writing) : Type 0 where
+  pub its_code : Alike stmt_in_words v.code (w.code ++ code)
+  pub its_procedures : Alike stmt_in_words v.apart.procedures (w.apart.procedures ++ joined (procedure_code ts) parts)
+  pub its_data : Alike stmt_in_words v.apart.data_words (w.apart.data_words ++ joined data_code parts)
+  pub its_entries : Alike entry_in_words v.apart.entries (w.apart.entries ++ joined entries_of parts)
+  pub its_targets : Alike target_in_words v.apart.targets (w.apart.targets ++ joined target_of parts)
+  pub its_cases : Alike case_in_words v.choices.cases (w.choices.cases ++ cases)
+  pub its_default : label_in_words v.choices.default_label ≡ label_in_words (first_of w.choices.default_label default)
+  pub at : At v g n
+
+same_list : {A : Type 0} (f : A → A) (xs : List A) → Alike f xs (xs ++ [])
+same_list f xs = alike_is (alike f xs) (sym (append-nil xs))
+
+pub nothing : {ts : List Target} {w : Writing} {g : Supply} {n : ℕ} → At w g n → Adds ts w [] [] [] None g n w
+nothing {ts} {w} at = record {
+  its_code = same_list stmt_in_words w.code;
+  its_procedures = same_list stmt_in_words w.apart.procedures;
+  its_data = same_list stmt_in_words w.apart.data_words;
+  its_entries = same_list entry_in_words w.apart.entries;
+  its_targets = same_list target_in_words w.apart.targets;
+  its_cases = same_list case_in_words w.choices.cases;
+  its_default = sym (ap label_in_words (first_none w.choices.default_label));
+  at = at;
+}
+
+-- one part behind another
+pub then : {ts : List Target} {w v u : Writing} {c d : List Stmt} {ps qs : List Part} {ks js : List Case} {x y : Option ℕ} {g h : Supply} {n m : ℕ}
+    → Adds ts w c ps ks x g n v → Adds ts v d qs js y h m u → Adds ts w (c ++ d) (ps ++ qs) (ks ++ js) (first_of x y) h m u
+then {ts} {w} {v} {u} {c} {d} {ps} {qs} {ks} {js} {x} {y} a b = record {
+  its_code = alike_more _ _ _ a.its_code b.its_code;
+  its_procedures = alike_is (alike_more _ _ _ a.its_procedures b.its_procedures) (ap (λ l. w.apart.procedures ++ l) (sym (joined_both (procedure_code ts) ps qs)));
+  its_data = alike_is (alike_more _ _ _ a.its_data b.its_data) (ap (λ l. w.apart.data_words ++ l) (sym (joined_both data_code ps qs)));
+  its_entries = alike_is (alike_more _ _ _ a.its_entries b.its_entries) (ap (λ l. w.apart.entries ++ l) (sym (joined_both entries_of ps qs)));
+  its_targets = alike_is (alike_more _ _ _ a.its_targets b.its_targets) (ap (λ l. w.apart.targets ++ l) (sym (joined_both target_of ps qs)));
+  its_cases = alike_more _ _ _ a.its_cases b.its_cases;
+  its_default = first_more w.choices.default_label x y v.choices.default_label u.choices.default_label a.its_default b.its_default;
+  at = b.at;
+}
+
+-- statements more
+pub put : {ts : List Target} {w v : Writing} {c : List Stmt} {ps : List Part} {ks : List Case} {x : Option ℕ} {g : Supply} {n : ℕ} {ss rs : List Stmt}
+    → Adds ts w c ps ks x g n v → Alike stmt_in_words ss rs → Adds ts w (c ++ rs) ps ks x g n (puts_all ss v)
+put {ts} {w} {v} {c} a h = record {
+  its_code = alike_is (alike_both a.its_code h) (append_assoc w.code c _);
+  its_procedures = a.its_procedures;
+  its_data = a.its_data;
+  its_entries = a.its_entries;
+  its_targets = a.its_targets;
+  its_cases = a.its_cases;
+  its_default = a.its_default;
+  at = record { left = a.at.left; next = a.at.next };
+}
+
+-- labels
+pub labelled : {ts : List Target} {w : Writing} {g : Supply} {n : ℕ} (k : ℕ) → At w g n → Adds ts w [] [] [] None g (n + k) (takes_labels k w)
+labelled {ts} {w} k at =
+    let a = nothing {ts = ts} at in
+    record {
+      its_code = a.its_code;
+      its_procedures = a.its_procedures;
+      its_data = a.its_data;
+      its_entries = a.its_entries;
+      its_targets = a.its_targets;
+      its_cases = a.its_cases;
+      its_default = a.its_default;
+      at = record { left = at.left; next = near_after k at.next };
+    }
+
+-- so many labels were taken
+pub renumbered : {ts : List Target} {w v : Writing} {c : List Stmt} {ps : List Part} {ks : List Case} {x : Option ℕ} {g : Supply} {n m : ℕ}
+    → Adds ts w c ps ks x g n v → n ≡ m → Adds ts w c ps ks x g m v
+renumbered a e = rw (← e) a
+
+-- what was written aside, from where the code was nothing: it stays, and what was written before comes back
+pub resumed : {ts : List Target} {w v : Writing} {c : List Stmt} {ps : List Part} {ks : List Case} {x : Option ℕ} {g : Supply} {n : ℕ}
+    → Adds ts (with_code [] w) c ps ks x g n v → Adds ts w [] ps ks x g n (with_code w.code v)
+resumed {ts} {w} a = record {
+  its_code = same_list stmt_in_words w.code;
+  its_procedures = a.its_procedures;
+  its_data = a.its_data;
+  its_entries = a.its_entries;
+  its_targets = a.its_targets;
+  its_cases = a.its_cases;
+  its_default = a.its_default;
+  at = record { left = a.at.left; next = a.at.next };
+}
+
+-- choices that were made inside stay there
+pub unchosen : {ts : List Target} {w v : Writing} {c : List Stmt} {ps : List Part} {g : Supply} {n : ℕ} {ks : List Case} {x : Option ℕ} (none : _)
+    → Adds ts (with_choices none w) c ps ks x g n v → Adds ts w c ps [] None g n (with_choices w.choices v)
+unchosen {ts} {w} none a = record {
+  its_code = a.its_code;
+  its_procedures = a.its_procedures;
+  its_data = a.its_data;
+  its_entries = a.its_entries;
+  its_targets = a.its_targets;
+  its_cases = same_list case_in_words w.choices.cases;
+  its_default = sym (ap label_in_words (first_none w.choices.default_label));
+  at = record { left = a.at.left; next = a.at.next };
+}
+
+-- the same code, put together in another way
+pub recoded : {ts : List Target} {w v : Writing} {c d : List Stmt} {ps : List Part} {ks : List Case} {x : Option ℕ} {g : Supply} {n : ℕ}
+    → Adds ts w c ps ks x g n v → c ≡ d → Adds ts w d ps ks x g n v
+recoded a e = rw (← e) a
+
+-- statements more, and more behind them
+pub put_twice : {ts : List Target} {w v : Writing} {c : List Stmt} {ps : List Part} {ks : List Case} {x : Option ℕ} {g : Supply} {n : ℕ} {ss rs us vs : List Stmt}
+    → Adds ts w c ps ks x g n v → Alike stmt_in_words ss rs → Alike stmt_in_words us vs → Adds ts w (c ++ (rs ++ vs)) ps ks x g n (puts_all us (puts_all ss v))
+put_twice {ts} {w} {v} {c} {ps} {ks} {x} {g} {n} {ss} {rs} {us} {vs} a h i = recoded (put (put a h) i) (append_assoc c rs vs)

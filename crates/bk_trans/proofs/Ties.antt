@@ -1,0 +1,903 @@
+-- What is written of a part of a section is the scheme's code of it: going through a part adds its statements, what stands by
+-- itself in it, and its choices, where what declarations went to is the same in words.
+use Rattle.std.proofs.Common.{◌≡◌, ℕ, ◌+◌, Bool, true, false, not, cond, Option, Some, None, List, [], ◌∷◌, ◌++◌, map, length, refl, sym, ap, ◌∙◌, append_assoc, arith}
+use Rattle.std.proofs.lemmas.List.{append-nil, map-append}
+use Rattle.bk_base.specs.Strings.{first_bytes}
+use Rattle.bk_base.specs.Word.{signed}
+use Rattle.bk_syntax.specs.declared.tree.Operator.{Operator}
+use Rattle.bk_syntax.specs.declared.tree.Operator.TheVariants as o
+use Rattle.bk_syntax.specs.declared.tree.Prefix.TheVariants as q
+use Rattle.bk_syntax.specs.declared.tree.Simple.TheVariants as w
+use Rattle.bk_syntax.specs.declared.tree.Sort.TheVariants as sort
+use Rattle.bk_syntax.specs.Tree.{Expression, Expressions, Action, Actions, Declaration, Declarations, Items, Definition, Definitions, Starts, name, number, text, truth, query, parens, unary, binary, choice, apply, valof, table, none, more, empty, assign, call, goto, label, case_of, default, when, test, while, for_loop, switch, result, simple, block, repeat, repeat_while, no_actions, also, constants, definitions, no_declarations, declare, no_items, item, routine, function, variables, no_definitions, define, no_starts, value, vector}
+use Rattle.bk_syntax.specs.Grammar.{size}
+use Rattle.bk_scope.specs.declared.bound.Bound.{Bound}
+use Rattle.bk_scope.specs.declared.bound.Bound.TheVariants as b
+use Rattle.bk_ocode.specs.declared.stmt.Variable.TheVariants.{Local, Static}
+use Rattle.bk_ocode.specs.declared.stmt.Dyadic.TheVariants as d
+use Rattle.bk_ocode.specs.declared.stmt.Case.{Case}
+use Rattle.bk_ocode.specs.declared.stmt.Stmt.{Stmt}
+use Rattle.bk_ocode.specs.declared.stmt.Stmt.TheVariants.{Number, Query, Load, Address, Text, Dyadic, Assign, AssignAt, AssignByte, Jump, JumpIf, Label, GiveResult, TakeResult, Stack, Store, Entry, Save, CallFunction, CallRoutine, ReturnItem, Return, EndProcedure, Switch, Finish, DataLabel, DataNumber, DataAddress}
+use Rattle.bk_ocode.specs.Lists.{joined}
+use Rattle.bk_trans.specs.declared.aim.Aim.TheVariants as aim
+use Rattle.bk_trans.specs.declared.way.Way.TheVariants as way
+use Rattle.bk_trans.specs.declared.around.Goal.{Goal}
+use Rattle.bk_trans.specs.declared.around.Around.{Around}
+use Rattle.bk_trans.specs.declared.around.Target.{Target}
+use Rattle.bk_trans.specs.Alike.{word, variable_in_words, case_in_words, entry_in_words, target_in_words, stmt_in_words}
+use Rattle.bk_trans.specs.Program as p
+use Rattle.bk_trans.specs.Filling as f
+use Rattle.bk_trans.specs.Filling.{Supply, meaning, constant, constants_of, step_of, dropped}
+use Rattle.bk_trans.specs.Labels as n
+use Rattle.bk_trans.specs.Depths as depths
+use Rattle.bk_trans.specs.Parts.{Part, procedure, static_item, static_table, label_place, parts, parts_each, parts_if, parts_at, parts_onto, parts_from, parts_in, parts_through, parts_of_declarations, parts_of_declaration, parts_of_definitions, parts_of_definition, parts_of_starts, parts_of_items, target_of, target_of_word, target_of_label}
+use Rattle.bk_trans.specs.Scheme.{goal, goal_of, goal_in, variable, push, outermost, valued, looping, switching, prefix_code, infix_code, truth_value, go, test_of_step, cases, cases_through, default_in, default_through, first_of, label_or, by_turns, value_code, each_code, jump_code, address_code, store_code, value_codes, store_codes, command_code, through_code, declarations_code, declaration_code, definitions_code, definition_code, starts_code, procedure_code, data_code, entries_of, word_code, entry_of}
+use Rattle.bk_trans.specs.Writing.{Writing, Stored, Reached, reached, after, place_of, place_in, word_of, push_of, puts_all, puts, with_code, with_choices, no_choices, with_left, takes_labels, past_meaning, puts_label, puts_case, puts_default, puts_table, puts_item, puts_items, way_of, written, each_written, address_written, store_written, stores_written, values_written, act_written, each_act_written, declared, one_declared, defined, one_defined, started, any_variables, puts_switch, before_body, steps_on, goes_on, outside_of, inside, puts_entry, begins_procedure, ends_procedure}
+use Rattle.bk_trans.proofs.Adds.{Near, near, near_after, near_is, Alike, alike, alike_is, is_alike, alike_both, label_in_words, first_none, At, Adds, nothing, then, put, put_twice, labelled, renumbered, resumed, unchosen, recoded}
+
+-- places that are the same in words
+pub record NearGoal (x y : Goal) : Type 0 where
+  pub labels : Near x.label y.label
+  pub depths : Near x.depth y.depth
+
+near_goal : (x : Goal) → NearGoal x x
+near_goal x = record { labels = near x.label; depths = near x.depth }
+
+pub record NearAround (x y : Around) : Type 0 where
+  pub goes_on : NearGoal x.goes_on y.goes_on
+  pub leaves : NearGoal x.leaves y.leaves
+  pub ends_case : NearGoal x.ends_case y.ends_case
+  pub valof : Near x.valof y.valof
+
+-- the places of all numbers are those of the declarations
+pub record Placed (gs : List Goal) (ts : List Target) : Type 0 where
+  pub at_number : (m : ℕ) → NearGoal (place_of gs m) (goal_of ts m)
+
+-- one statement
+one : (s r : Stmt) → stmt_in_words s ≡ stmt_in_words r → Alike stmt_in_words (s ∷ []) (r ∷ [])
+one s r e = record { same = ap (λ x. x ∷ []) e }
+
+same : {s r : Stmt} → stmt_in_words s ≡ stmt_in_words r → Alike stmt_in_words (s ∷ []) (r ∷ [])
+same {s} {r} e = one s r e
+
+and : {s r : Stmt} {ss rs : List Stmt} → stmt_in_words s ≡ stmt_in_words r → Alike stmt_in_words ss rs → Alike stmt_in_words (s ∷ ss) (r ∷ rs)
+and {s} {r} {ss} {rs} e h = record { same = ap (λ x. x ∷ map stmt_in_words ss) e ∙ ap (λ l. stmt_in_words r ∷ l) h.same }
+
+go_near : (x y : Goal) (s t : ℕ) → NearGoal x y → Near s t → Alike stmt_in_words (go x s) (go y t)
+go_near x y s t h k = and (ap Stack h.depths.same) (and (ap Jump h.labels.same) (one (Stack s) (Stack t) (ap Stack k.same)))
+
+module _ (gs : List Goal) (ts : List Target) (placed : Placed gs ts) where
+  -- the words of names
+  variable_near : (x : Bound) → variable_in_words (word_of gs x) ≡ variable_in_words (variable ts x)
+  variable_near (b.Constant v) = refl
+  variable_near (b.Global None) = refl
+  variable_near (b.Global (Some g)) = refl
+  variable_near (b.Static m) = ap Static (placed.at_number m).labels.same
+  variable_near (b.Variable k i) = refl
+  variable_near (b.Label k m) = refl
+
+  push_near : (x : Bound) → stmt_in_words (push_of gs x) ≡ stmt_in_words (push ts x)
+  push_near (b.Constant None) = refl
+  push_near (b.Constant (Some v)) = refl
+  push_near (b.Global None) = refl
+  push_near (b.Global (Some g)) = refl
+  push_near (b.Static m) = ap Load (variable_near (b.Static m))
+  push_near (b.Variable k i) = refl
+  push_near (b.Label k m) = refl
+
+  place_near : (x : Bound) → NearGoal (place_in gs x) (goal_in ts x)
+  place_near (b.Constant v) = near_goal (goal 0 0)
+  place_near (b.Global g) = near_goal (goal 0 0)
+  place_near (b.Static m) = near_goal (goal 0 0)
+  place_near (b.Variable k i) = near_goal (goal 0 0)
+  place_near (b.Label k m) = placed.at_number m
+
+-- taking a meaning, and a word
+pub took_meaning : {ts : List Target} {w : Writing} {g : Supply} {n : ℕ} → At w g n → Adds ts w [] [] [] None (meaning g).left n (past_meaning w)
+took_meaning {ts} {w} {g} at =
+    let a = nothing {ts = ts} at in
+    record {
+      its_code = a.its_code;
+      its_procedures = a.its_procedures;
+      its_data = a.its_data;
+      its_entries = a.its_entries;
+      its_targets = a.its_targets;
+      its_cases = a.its_cases;
+      its_default = a.its_default;
+      at = record { left = ap (λ s. (meaning s).left) at.left; next = at.next };
+    }
+
+pub took : {ts : List Target} {w : Writing} {g : Supply} {n : ℕ} (h : Supply → Supply) → At w g n → Adds ts w [] [] [] None (h g) n (with_left (h w.left) w)
+took {ts} {w} {g} h at =
+    let a = nothing {ts = ts} at in
+    record {
+      its_code = a.its_code;
+      its_procedures = a.its_procedures;
+      its_data = a.its_data;
+      its_entries = a.its_entries;
+      its_targets = a.its_targets;
+      its_cases = a.its_cases;
+      its_default = a.its_default;
+      at = record { left = ap h at.left; next = at.next };
+    }
+
+-- in a VALOF, a loop, a SWITCHON
+in_valof : {j l : ℕ} → Near j l → NearAround (valued j) (valued l)
+in_valof h = record { goes_on = near_goal (goal 0 0); leaves = near_goal (goal 0 0); ends_case = near_goal (goal 0 0); valof = h }
+
+in_loop : {j l i o s t : ℕ} {x y : Around} → Near j l → Near i o → Near s t → NearAround x y → NearAround (looping j i s x) (looping l o t y)
+in_loop h k ns a = record { goes_on = record { labels = h; depths = ns }; leaves = record { labels = k; depths = ns }; ends_case = a.ends_case; valof = a.valof }
+
+in_switch : {j l s t : ℕ} {x y : Around} → Near j l → Near s t → NearAround x y → NearAround (switching j s x) (switching l t y)
+in_switch h ns a = record { goes_on = a.goes_on; leaves = a.leaves; ends_case = record { labels = h; depths = ns }; valof = a.valof }
+
+in_procedure : NearAround outermost outermost
+in_procedure = record { goes_on = near_goal (goal 0 0); leaves = near_goal (goal 0 0); ends_case = near_goal (goal 0 0); valof = near 0 }
+
+-- places more
+target_near : (x : Bound) {j l : ℕ} → Near j l → Alike target_in_words (target_of_word j x) (target_of_word l x)
+target_near (b.Constant v) h = record { same = refl }
+target_near (b.Global g) h = record { same = refl }
+target_near (b.Static m) h = record { same = ap (λ i. record { number = m; label = i; depth = word 0 } ∷ []) h.same }
+target_near (b.Variable k i) h = record { same = refl }
+target_near (b.Label k m) h = record { same = refl }
+
+label_near : (x : Bound) {j l s t : ℕ} → Near j l → Near s t → Alike target_in_words (target_of_label j s x) (target_of_label l t x)
+label_near (b.Constant v) h ns = record { same = refl }
+label_near (b.Global g) h ns = record { same = refl }
+label_near (b.Static m) h ns = record { same = refl }
+label_near (b.Variable k i) h ns = record { same = refl }
+label_near (b.Label k m) {j} {l} {s} {t} h ns = record { same = ap (λ i. record { number = m; label = i; depth = word s } ∷ []) h.same ∙ ap (λ i. record { number = m; label = word l; depth = i } ∷ []) ns.same }
+
+-- a label that a GOTO may go to
+put_label : {ts : List Target} {w : Writing} {g : Supply} {k s t : ℕ} → At w g k → Near s t
+    → Adds ts w (Label k ∷ []) (label_place k t (meaning g).part ∷ []) [] None (meaning g).left (k + 1) (puts_label s w)
+put_label {ts} {w} {g} {k} {s} {t} at ns =
+    let a = put (then (took_meaning {ts = ts} at) (labelled 1 (took_meaning {ts = ts} at).at)) (same {s = Label w.next} {r = Label k} (ap Label at.next.same)) in
+    record {
+      its_code = a.its_code;
+      its_procedures = a.its_procedures;
+      its_data = a.its_data;
+      its_entries = a.its_entries;
+      its_targets = alike_both (alike target_in_words w.apart.targets) (is_alike (ap (λ x. target_of_label w.next s (meaning x).part) at.left)
+          (alike_is (label_near (meaning g).part at.next ns) (sym (append-nil (target_of_label k t (meaning g).part)))));
+      its_cases = a.its_cases;
+      its_default = a.its_default;
+      at = record { left = a.at.left; next = a.at.next };
+    }
+
+put_case : {ts : List Target} {w : Writing} {g : Supply} {k : ℕ} → At w g k
+    → Adds ts w (Label k ∷ []) [] (record { value = signed (constant g).part; label = k } ∷ []) None (constant g).left (k + 1) (puts_case w)
+put_case {ts} {w} {g} {k} at =
+    let a = put (then (took {ts = ts} (λ x. (constant x).left) at) (labelled 1 (took {ts = ts} (λ x. (constant x).left) at).at)) (same {s = Label w.next} {r = Label k} (ap Label at.next.same)) in
+    record {
+      its_code = a.its_code;
+      its_procedures = a.its_procedures;
+      its_data = a.its_data;
+      its_entries = a.its_entries;
+      its_targets = a.its_targets;
+      its_cases = alike_both (alike case_in_words w.choices.cases) (record { same = ap (λ x. record { value = signed (constant x).part; label = word w.next } ∷ []) at.left ∙ ap (λ x. record { value = signed (constant g).part; label = x } ∷ []) at.next.same });
+      its_default = a.its_default;
+      at = record { left = a.at.left; next = a.at.next };
+    }
+
+default_near : (x : Option ℕ) {j l : ℕ} → Near j l → label_in_words (first_of x (Some j)) ≡ label_in_words (first_of x (Some l))
+default_near None h = ap Some h.same
+default_near (Some m) h = refl
+
+put_default : {ts : List Target} {w : Writing} {g : Supply} {k : ℕ} → At w g k → Adds ts w (Label k ∷ []) [] [] (Some k) g (k + 1) (puts_default w)
+put_default {ts} {w} {g} {k} at =
+    let a = put (labelled {ts = ts} 1 at) (same {s = Label w.next} {r = Label k} (ap Label at.next.same)) in
+    record {
+      its_code = a.its_code;
+      its_procedures = a.its_procedures;
+      its_data = a.its_data;
+      its_entries = a.its_entries;
+      its_targets = a.its_targets;
+      its_cases = a.its_cases;
+      its_default = default_near w.choices.default_label at.next;
+      at = record { left = a.at.left; next = a.at.next };
+    }
+
+-- items of STATIC, and tables
+put_item : {ts : List Target} {w : Writing} {g : Supply} {k : ℕ} → At w g k
+    → Adds ts w [] (static_item k (record { bound = (meaning (constant g).left).part; word = (constant g).part }) ∷ []) [] None (meaning (constant g).left).left (k + 1) (puts_item w)
+put_item {ts} {w} {g} {k} at =
+    let one_word = took {ts = ts} (λ x. (constant x).left) at in
+    let a = then one_word (then (took_meaning {ts = ts} one_word.at) (labelled 1 (took_meaning {ts = ts} one_word.at).at)) in
+    record {
+      its_code = a.its_code;
+      its_procedures = a.its_procedures;
+      its_data = alike_both (alike stmt_in_words w.apart.data_words) (is_alike (ap (λ x. DataLabel w.next ∷ DataNumber (signed (constant x).part) ∷ []) at.left) (and (ap DataLabel at.next.same) (alike stmt_in_words _)));
+      its_entries = a.its_entries;
+      its_targets = alike_both (alike target_in_words w.apart.targets) (is_alike (ap (λ x. target_of_word w.next (meaning (constant x).left).part) at.left) (alike_is (target_near (meaning (constant g).left).part at.next) (sym (append-nil _))));
+      its_cases = a.its_cases;
+      its_default = a.its_default;
+      at = record { left = a.at.left; next = a.at.next };
+    }
+
+put_items : {ts : List Target} (is : Items) {w : Writing} {g : Supply} {k : ℕ} → At w g k
+    → Adds ts w [] (parts_of_items k (f.static_items is g).part) [] None (f.static_items is g).left (k + length (f.static_items is g).part) (puts_items is w)
+put_items no_items at = renumbered (nothing at) (omega arith)
+put_items {ts} (item l x e is) at = let first = put_item {ts = ts} at in renumbered (then first (put_items is first.at)) (omega arith)
+
+no_parts : (is : Items) (g : Supply) → (dropped is g).part ≡ []
+no_parts no_items g = refl
+no_parts (item l x e is) g = no_parts is (constant g).left
+
+put_table : {ts : List Target} (es : Expressions) {w : Writing} {g : Supply} {k : ℕ} → At w g k
+    → Adds ts w (Address (Static k) ∷ []) (static_table k (constants_of es g).part ∷ []) [] None (constants_of es g).left (k + 1) (puts_table es w)
+put_table {ts} es {w} {g} {k} at =
+    let own = labelled {ts = ts} 1 at in
+    let a = put (then own (took (λ x. (constants_of es x).left) own.at)) (same {s = Address (Static w.next)} {r = Address (Static k)} (ap (λ x. Address (Static x)) at.next.same)) in
+    record {
+      its_code = a.its_code;
+      its_procedures = a.its_procedures;
+      its_data = alike_both (alike stmt_in_words w.apart.data_words) (is_alike (ap (λ x. DataLabel w.next ∷ map (λ v. DataNumber (signed v)) (constants_of es x).part) at.left)
+          (alike_is (and (ap DataLabel at.next.same) (alike stmt_in_words _)) (sym (append-nil _))));
+      its_entries = a.its_entries;
+      its_targets = a.its_targets;
+      its_cases = a.its_cases;
+      its_default = a.its_default;
+      at = record { left = a.at.left; next = a.at.next };
+    }
+
+label_or_near : {j l : ℕ} → Near j l → (x y : Option ℕ) → label_in_words x ≡ label_in_words y → word (label_or j x) ≡ word (label_or l y)
+label_or_near h None None e = h.same
+label_or_near h None (Some m) e = absurd cc
+label_or_near h (Some m) None e = absurd cc
+label_or_near h (Some m) (Some i) e = cc
+
+-- a SWITCHON: its body was written aside, behind its value
+switched : {ts : List Target} {w v u : Writing} {c e : List Stmt} {ps qs : List Part} {ks : List Case} {x : Option ℕ} {g h : Supply} {k i j l : ℕ} → Near j l
+    → Adds ts w c ps [] None g k v → Adds ts (with_choices no_choices (with_code [] v)) e qs ks x h i u
+    → Adds ts w (c ++ Switch (label_or l x) ks ∷ e ++ Label l ∷ []) (ps ++ qs) [] None h i (puts_switch j v.code v.choices u)
+switched {ts} {w} {v} {u} {c} {e} {ps} {qs} {ks} {x} {g} {h} {k} {i} {j} {l} near_label a b =
+    let inner = then a (unchosen no_choices (resumed b)) in
+    let choice : stmt_in_words (Switch (label_or j u.choices.default_label) u.choices.cases) ≡ stmt_in_words (Switch (label_or l x) ks) = ap (λ z. Switch z (map case_in_words u.choices.cases)) (label_or_near near_label _ _ b.its_default) ∙ ap (λ z. Switch (word (label_or l x)) z) b.its_cases.same in
+    let body : Alike stmt_in_words (Switch (label_or j u.choices.default_label) u.choices.cases ∷ u.code) (Switch (label_or l x) ks ∷ e) = and choice b.its_code in
+    record {
+      its_code = alike_is (alike_both (alike_both a.its_code body) (one (Label j) (Label l) (ap Label near_label.same)))
+          (ap (λ z. z ++ Label l ∷ []) (append_assoc w.code c (Switch (label_or l x) ks ∷ e)) ∙ append_assoc w.code (c ++ Switch (label_or l x) ks ∷ e) (Label l ∷ []));
+      its_procedures = inner.its_procedures;
+      its_data = inner.its_data;
+      its_entries = inner.its_entries;
+      its_targets = inner.its_targets;
+      its_cases = inner.its_cases;
+      its_default = inner.its_default;
+      at = record { left = b.at.left; next = b.at.next };
+    }
+
+-- a procedure, whose parts stand behind it
+entry_near : (x : Bound) {j l : ℕ} → Near j l → Alike entry_in_words (entry_of j x) (entry_of l x)
+entry_near (b.Constant v) h = record { same = refl }
+entry_near (b.Global None) h = record { same = refl }
+entry_near (b.Global (Some g)) h = record { same = ap (λ i. record { number = g; label = i } ∷ []) h.same }
+entry_near (b.Static m) h = record { same = refl }
+entry_near (b.Variable k i) h = record { same = refl }
+entry_near (b.Label k m) h = record { same = refl }
+
+-- the word of a procedure that sets no global, as it is written
+abbrev word_written : ℕ → Bound → List Stmt
+word_written j (b.Static m) = DataLabel (after j 1) ∷ DataAddress j ∷ []
+word_written j _ = []
+
+words_near : (x : Bound) {j l : ℕ} → Near j l → Alike stmt_in_words (word_written j x) (word_code l x)
+words_near (b.Constant v) h = record { same = refl }
+words_near (b.Global g) h = record { same = refl }
+words_near (b.Static m) {j} {l} h = and {s = DataLabel (after j 1)} {r = DataLabel (l + 1)} (ap DataLabel (near_after 1 h).same) (one (DataAddress j) (DataAddress l) (ap DataAddress h.same))
+words_near (b.Variable k i) h = record { same = refl }
+words_near (b.Label k m) h = record { same = refl }
+
+-- a procedure is entered: what was added to w
+record Entered (x : Bound) (j : ℕ) (w v : Writing) : Type 0 where
+  pub code : v.code ≡ w.code
+  pub procedures : v.apart.procedures ≡ w.apart.procedures
+  pub data_words : v.apart.data_words ≡ w.apart.data_words ++ word_written j x
+  pub entries : v.apart.entries ≡ w.apart.entries ++ entry_of j x
+  pub targets : v.apart.targets ≡ w.apart.targets ++ target_of_word (after j 1) x
+  pub left : v.left ≡ w.left
+  pub next : v.next ≡ w.next
+
+entered : (x : Bound) (j : ℕ) (w : Writing) → Entered x j w (puts_entry j x w)
+entered (b.Constant v) j w = record { code = refl; procedures = refl; data_words = sym (append-nil _); entries = sym (append-nil _); targets = sym (append-nil _); left = refl; next = refl }
+entered (b.Global None) j w = record { code = refl; procedures = refl; data_words = sym (append-nil _); entries = sym (append-nil _); targets = sym (append-nil _); left = refl; next = refl }
+entered (b.Global (Some g)) j w = record { code = refl; procedures = refl; data_words = sym (append-nil _); entries = refl; targets = sym (append-nil _); left = refl; next = refl }
+entered (b.Static m) j w = record { code = refl; procedures = refl; data_words = refl; entries = sym (append-nil _); targets = refl; left = refl; next = refl }
+entered (b.Variable k i) j w = record { code = refl; procedures = refl; data_words = sym (append-nil _); entries = sym (append-nil _); targets = sym (append-nil _); left = refl; next = refl }
+entered (b.Label k m) j w = record { code = refl; procedures = refl; data_words = sym (append-nil _); entries = sym (append-nil _); targets = sym (append-nil _); left = refl; next = refl }
+
+abbrev entering : Writing → Writing
+entering w = takes_labels (n.labels_of_procedure (meaning w.left).part) (past_meaning (inside w))
+
+begun_at : (x : List ℕ) (formals : ℕ) {w : Writing} {g : Supply} {k : ℕ} → At w g k → At (begins_procedure x formals w) (meaning g).left (k + n.labels_of_procedure (meaning g).part)
+begun_at x formals {w} {g} {k} at =
+    let e = entered (meaning w.left).part w.next (entering w) in
+    record {
+      left = e.left ∙ ap (λ s. (meaning s).left) at.left;
+      next = record { same = ap word e.next ∙ (near_after (n.labels_of_procedure (meaning w.left).part) at.next).same ∙ ap (λ s. word (k + n.labels_of_procedure (meaning s).part)) at.left };
+    }
+
+procedure_done : {ts : List Target} {w v : Writing} {body : List Stmt} {ps : List Part} {ks : List Case} {y : Option ℕ} {g h : Supply} {k i : ℕ} (part : Part) (x : List ℕ) (formals : ℕ) (return : Stmt) → At w g k
+    → Adds ts (begins_procedure x formals w) body ps ks y h i v
+    → procedure_code ts part ≡ Entry k (first_bytes x) ∷ Save (formals + 2) ∷ body ++ return ∷ EndProcedure ∷ []
+    → data_code part ≡ word_code k (meaning g).part → entries_of part ≡ entry_of k (meaning g).part → target_of part ≡ target_of_word (k + 1) (meaning g).part
+    → Adds ts w [] (part ∷ ps) [] None h i (ends_procedure return (outside_of w) v)
+procedure_done {ts} {w} {v} {body} {ps} {ks} {y} {g} {h} {k} {i} part x formals return at a is_code is_data is_entries is_targets =
+    let e = entered (meaning w.left).part w.next (entering w) in
+    let none = nothing {ts = ts} at in
+    let head : Alike stmt_in_words (Entry w.next (first_bytes x) ∷ Save (after 2 formals) ∷ []) (Entry k (first_bytes x) ∷ Save (formals + 2) ∷ []) =
+    and (ap (λ z. Entry z (first_bytes x)) at.next.same) (one (Save (after 2 formals)) (Save (formals + 2)) (ap Save (near_is (near_after formals (near 2)) (omega arith)).same)) in
+    let code : Alike stmt_in_words v.code (Entry k (first_bytes x) ∷ Save (formals + 2) ∷ body) = record { same = a.its_code.same ∙ ap (λ z. map stmt_in_words (z ++ Entry w.next (first_bytes x) ∷ [] ++ Save (after 2 formals) ∷ [] ++ body)) e.code ∙ (alike_both head (alike stmt_in_words body)).same } in
+    let inner : Alike stmt_in_words v.apart.procedures (joined (procedure_code ts) ps) = record { same = a.its_procedures.same ∙ ap (λ z. map stmt_in_words (z ++ joined (procedure_code ts) ps)) e.procedures } in
+    let whole : Alike stmt_in_words (v.code ++ return ∷ EndProcedure ∷ [] ++ v.apart.procedures) (procedure_code ts part ++ joined (procedure_code ts) ps) = alike_is (alike_both (alike_both code (alike stmt_in_words (return ∷ EndProcedure ∷ []))) inner) (ap (λ z. z ++ joined (procedure_code ts) ps) (sym is_code)) in
+    record {
+      its_code = none.its_code;
+      its_procedures = is_alike (ap (λ z. z ++ v.apart.procedures) (append_assoc w.apart.procedures v.code (return ∷ EndProcedure ∷ [])) ∙ append_assoc w.apart.procedures (v.code ++ return ∷ EndProcedure ∷ []) v.apart.procedures) (alike_both (alike stmt_in_words w.apart.procedures) whole);
+      its_data = record {
+        same = a.its_data.same ∙ ap (λ z. map stmt_in_words (z ++ joined data_code ps)) e.data_words
+            ∙ (is_alike (append_assoc w.apart.data_words (word_written w.next (meaning w.left).part) (joined data_code ps)) (alike_both (alike stmt_in_words w.apart.data_words) (alike_both (is_alike (ap (λ z. word_written w.next (meaning z).part) at.left) (alike_is (words_near (meaning g).part at.next) (sym is_data))) (alike stmt_in_words (joined data_code ps))))).same;
+      };
+      its_entries = record {
+        same = a.its_entries.same ∙ ap (λ z. map entry_in_words (z ++ joined entries_of ps)) e.entries
+            ∙ (is_alike (append_assoc w.apart.entries (entry_of w.next (meaning w.left).part) (joined entries_of ps)) (alike_both (alike entry_in_words w.apart.entries) (alike_both (is_alike (ap (λ z. entry_of w.next (meaning z).part) at.left) (alike_is (entry_near (meaning g).part at.next) (sym is_entries))) (alike entry_in_words (joined entries_of ps))))).same;
+      };
+      its_targets = record {
+        same = a.its_targets.same ∙ ap (λ z. map target_in_words (z ++ joined target_of ps)) e.targets
+            ∙ (is_alike (append_assoc w.apart.targets (target_of_word (after w.next 1) (meaning w.left).part) (joined target_of ps)) (alike_both (alike target_in_words w.apart.targets) (alike_both (is_alike (ap (λ z. target_of_word (after w.next 1) (meaning z).part) at.left) (alike_is (target_near (meaning g).part (near_after 1 at.next)) (sym is_targets))) (alike target_in_words (joined target_of ps))))).same;
+      };
+      its_cases = none.its_cases;
+      its_default = none.its_default;
+      at = record { left = a.at.left; next = a.at.next };
+    }
+
+-- what stands before the body of a FOR, and behind it
+before_near : {j l : ℕ} → Near j l → Alike stmt_in_words (before_body j) (Store ∷ Jump l ∷ Label (l + 1) ∷ [])
+before_near {j} {l} h = and {s = Store} {r = Store} refl (and {s = Jump j} {r = Jump l} (ap Jump h.same) (one (Label (after j 1)) (Label (l + 1)) (ap Label (near_after 1 h).same)))
+
+steps_near : (k : ℕ) {j l s t : ℕ} → Near j l → Near s t → Alike stmt_in_words (steps_on j s k) (Label (l + 2) ∷ Load (Local t) ∷ Number (signed k) ∷ Dyadic d.Add ∷ Assign (Local t) ∷ [])
+steps_near k {j} {l} {s} {t} h ns = and {s = Label (after j 2)} {r = Label (l + 2)} (ap Label (near_after 2 h).same) (and {s = Load (Local s)} {r = Load (Local t)} (ap (λ x. Load (Local x)) ns.same)
+    (and {s = Number (signed k)} {r = Number (signed k)} refl (and {s = Dyadic d.Add} {r = Dyadic d.Add} refl (one (Assign (Local s)) (Assign (Local t)) (ap (λ x. Assign (Local x)) ns.same)))))
+
+goes_near : (k : ℕ) {j l s t : ℕ} → Near j l → Near s t
+    → Alike stmt_in_words (goes_on j s k) (Label l ∷ Load (Local t) ∷ Load (Local (t + 1)) ∷ test_of_step k ∷ JumpIf true (l + 1) ∷ Label (l + 3) ∷ Stack t ∷ [])
+goes_near k {j} {l} {s} {t} h ns = and {s = Label j} {r = Label l} (ap Label h.same) (and {s = Load (Local s)} {r = Load (Local t)} (ap (λ x. Load (Local x)) ns.same)
+    (and {s = Load (Local (after s 1))} {r = Load (Local (t + 1))} (ap (λ x. Load (Local x)) (near_after 1 ns).same) (and {s = test_of_step k} {r = test_of_step k} refl
+    (and {s = JumpIf true (after j 1)} {r = JumpIf true (l + 1)} (ap (JumpIf true) (near_after 1 h).same) (and {s = Label (after j 3)} {r = Label (l + 3)} (ap Label (near_after 3 h).same)
+    (one (Stack s) (Stack t) (ap Stack ns.same)))))))
+
+-- choices with none behind them
+tail_cases : {ts : List Target} {w v : Writing} {c : List Stmt} {ps : List Part} {ks : List Case} {x : Option ℕ} {g : Supply} {k : ℕ} → Adds ts w c ps (ks ++ []) (first_of x None) g k v → Adds ts w c ps ks x g k v
+tail_cases {ts} {w} {v} {c} {ps} {ks} {x} a = rw (← append-nil ks) (rw (← first_none x) a)
+
+-- what has no label and no word stays as it is
+ways_of_values : (x : Operator) (k : ℕ) → way_of x aim.Value k ≡ way.Plain
+ways_of_values o.Subscript k = refl
+ways_of_values o.Byte k = refl
+ways_of_values o.Times k = refl
+ways_of_values o.Over k = refl
+ways_of_values o.Rem k = refl
+ways_of_values o.Add k = refl
+ways_of_values o.Subtract k = refl
+ways_of_values o.Equal k = refl
+ways_of_values o.Unequal k = refl
+ways_of_values o.Less k = refl
+ways_of_values o.Greater k = refl
+ways_of_values o.AtMost k = refl
+ways_of_values o.AtLeast k = refl
+ways_of_values o.ShiftLeft k = refl
+ways_of_values o.ShiftRight k = refl
+ways_of_values o.Both k = refl
+ways_of_values o.Either k = refl
+ways_of_values o.Same k = refl
+ways_of_values o.Differ k = refl
+
+-- as many arguments as expressions
+counted : (es : Expressions) (g : Supply) → depths.count (f.terms es g).part ≡ size es
+counted none g = refl
+counted (more e es) g = ap (λ k. k + 1) (counted es (f.term e g).left)
+
+module _ (gs : List Goal) (ts : List Target) (placed : Placed gs ts) where
+  abbrev Valued : Expression → Type 0
+  Valued e = (s t : ℕ) (w : Writing) (g : Supply) (k : ℕ) → Near s t → At w g k
+      → Adds ts w (value_code ts t k (f.term e g).part) (parts t k (f.term e g).part) [] None (f.term e g).left (k + n.labels (f.term e g).part) (written gs s aim.Value e w)
+
+  abbrev Tested : Expression → Type 0
+  Tested e = (s t : ℕ) (w : Writing) (g : Supply) (k : ℕ) → Near s t → At w g k → (z : Bool) (l j : ℕ) → Near l j
+      → Adds ts w (jump_code ts t k (f.condition e g).part z j) (parts_if t k (f.condition e g).part) [] None (f.condition e g).left (k + n.labels_if (f.condition e g).part) (written gs s (aim.Jump z l) e w)
+
+  record Tied (e : Expression) : Type 0 where
+    pub value : Valued e
+    pub jump : Tested e
+
+  -- a value, and a jump by it
+  jumping : {w v : Writing} {c : List Stmt} {ps : List Part} {g : Supply} {k : ℕ} (z : Bool) {l j : ℕ} → Near l j → Adds ts w c ps [] None g k v
+      → Adds ts w (c ++ JumpIf z j ∷ []) ps [] None g k (puts (JumpIf z l) v)
+  jumping z {l} {j} h a = put a (one (JumpIf z l) (JumpIf z j) (ap (JumpIf z) h.same))
+
+  -- an operator that is no `&` or `|`, or whose value is pushed
+  two_values : (x : Operator) (l m : ℕ) (e h : Expression) → Tied e → Tied h → Valued (binary l x m e h)
+  two_values x l m e h te th s t w g k ns at =
+      let first = te.value s t w g k ns at in
+      let second = th.value (after s 1) (t + 1) (written gs s aim.Value e w) (f.term e g).left (k + n.labels (f.term e g).part) (near_after 1 ns) first.at in
+      let all = put (then first second) (alike stmt_in_words (infix_code x)) in
+      rw (ways_of_values x w.next) (renumbered all (omega arith))
+
+  -- `&` and `|` in a condition
+  both_tested : (l m : ℕ) (e h : Expression) → Tied e → Tied h → Tested (binary l o.Both m e h)
+  both_tested l m e h te th s t w g k ns at true x j near_label =
+      let own = labelled {ts = ts} 1 at in
+      let first = then own (te.jump s t (takes_labels 1 w) g (k + 1) ns own.at false w.next k at.next) in
+      let all = then first (th.jump s t _ _ _ ns first.at true x j near_label) in
+      renumbered (put all (same {s = Label w.next} {r = Label k} (ap Label at.next.same))) (omega arith)
+  both_tested l m e h te th s t w g k ns at false x j near_label =
+      let own = labelled {ts = ts} 1 at in
+      let first = then own (te.jump s t (takes_labels 1 w) g (k + 1) ns own.at false x j near_label) in
+      renumbered (then first (th.jump s t _ _ _ ns first.at false x j near_label)) (omega arith)
+
+  either_tested : (l m : ℕ) (e h : Expression) → Tied e → Tied h → Tested (binary l o.Either m e h)
+  either_tested l m e h te th s t w g k ns at true x j near_label =
+      let own = labelled {ts = ts} 1 at in
+      let first = then own (te.jump s t (takes_labels 1 w) g (k + 1) ns own.at true x j near_label) in
+      renumbered (then first (th.jump s t _ _ _ ns first.at true x j near_label)) (omega arith)
+  either_tested l m e h te th s t w g k ns at false x j near_label =
+      let own = labelled {ts = ts} 1 at in
+      let first = then own (te.jump s t (takes_labels 1 w) g (k + 1) ns own.at true w.next k at.next) in
+      let all = then first (th.jump s t _ _ _ ns first.at false x j near_label) in
+      renumbered (put all (same {s = Label w.next} {r = Label k} (ap Label at.next.same))) (omega arith)
+
+  -- what is tied of destinations, lists, commands and declarations
+  abbrev Addressed : Expression → Type 0
+  Addressed e = (s t : ℕ) (w : Writing) (g : Supply) (k : ℕ) → Near s t → At w g k
+      → Adds ts w (address_code ts t k (f.lvalue e g).part) (parts_at t k (f.lvalue e g).part) [] None (f.lvalue e g).left (k + n.labels_at (f.lvalue e g).part) (address_written gs s e w)
+
+  abbrev Set_tie : Expression → Type 0
+  Set_tie e = (s t : ℕ) (w : Writing) (g : Supply) (k : ℕ) → Near s t → At w g k
+      → Adds ts w (store_code ts t k (f.lvalue e g).part) (parts_at t k (f.lvalue e g).part) [] None (f.lvalue e g).left (k + n.labels_at (f.lvalue e g).part) (store_written gs s e w)
+
+  record Reaching (e : Expression) : Type 0 where
+    pub address : Addressed e
+    pub store : Set_tie e
+
+  leaf : (x y : Stmt) {w : Writing} {g : Supply} {k : ℕ} → stmt_in_words x ≡ stmt_in_words y → At w g k → Adds ts w (y ∷ []) [] [] None g (k + 0) (puts x w)
+  leaf x y e at = renumbered (put (nothing at) (one x y e)) (omega arith)
+
+  named_value : (l : ℕ) (x : List ℕ) → Valued (name l x)
+  named_value l x s t w g k ns at = renumbered (put (took_meaning at) (is_alike (ap (λ z. push_of gs (meaning z).part ∷ []) at.left) (one _ _ (push_near gs ts placed (meaning g).part)))) (omega arith)
+
+  nowhere : (e : Expression) → ((g : Supply) → f.lvalue e g ≡ f.filled p.nowhere g) → ((s : ℕ) (w : Writing) → address_written gs s e w ≡ w) → ((s : ℕ) (w : Writing) → store_written gs s e w ≡ w) → Reaching e
+  nowhere e is at_all not_at_all = record {
+    address = λ s t w g k ns at. rw (is g) (rw (at_all s w) (renumbered (nothing at) (omega arith)));
+    store = λ s t w g k ns at. rw (is g) (rw (not_at_all s w) (renumbered (nothing at) (omega arith)));
+  }
+
+  abbrev Eached : Expressions → Type 0
+  Eached es = (s t : ℕ) (w : Writing) (g : Supply) (k : ℕ) → Near s t → At w g k
+      → Adds ts w (each_code ts t k (f.terms es g).part) (parts_each t k (f.terms es g).part) [] None (f.terms es g).left (k + n.labels_each (f.terms es g).part) (each_written gs s es w)
+
+  -- two operands, one behind the other
+  two_behind : (a c : Expression) → Tied a → Tied c → (s t : ℕ) (w : Writing) (g : Supply) (k : ℕ) → Near s t → At w g k
+      → Adds ts w (value_code ts t k (f.term a g).part ++ value_code ts (t + 1) (k + n.labels (f.term a g).part) (f.term c (f.term a g).left).part)
+      (parts t k (f.term a g).part ++ parts (t + 1) (k + n.labels (f.term a g).part) (f.term c (f.term a g).left).part) [] None (f.term c (f.term a g).left).left
+      (k + (n.labels (f.term a g).part + n.labels (f.term c (f.term a g).left).part)) (written gs (after s 1) aim.Value c (written gs s aim.Value a w))
+  two_behind a c ta tc s t w g k ns at =
+      let first = ta.value s t w g k ns at in
+      renumbered (then first (tc.value (after s 1) (t + 1) _ _ _ (near_after 1 ns) first.at)) (omega arith)
+
+  -- a choice
+  chosen : (l m : ℕ) (c a b : Expression) → Tied c → Tied a → Tied b → Valued (choice l m c a b)
+  chosen l m c a b tc ta tb s t w g k ns at =
+      let own = labelled {ts = ts} 2 at in
+      let test = then own (tc.jump s t (takes_labels 2 w) g (k + 2) ns own.at false w.next k at.next) in
+      let yes = then test (ta.value s t _ _ _ ns test.at) in
+      let between = put (nothing {ts = ts} yes.at) (and {s = GiveResult (after w.next 1)} {r = GiveResult (k + 1)} (ap GiveResult (near_after 1 at.next).same) (one (Label w.next) (Label k) (ap Label at.next.same))) in
+      let no = then between (tb.value s t _ _ _ ns between.at) in
+      let ends = and {s = GiveResult (after w.next 1)} {r = GiveResult (k + 1)} (ap GiveResult (near_after 1 at.next).same)
+      (and {s = Label (after w.next 1)} {r = Label (k + 1)} (ap Label (near_after 1 at.next).same) (one (TakeResult s) (TakeResult t) (ap TakeResult ns.same))) in
+      renumbered (put (then yes no) ends) (omega arith)
+
+  -- the arguments of a call and what is called, before the call itself
+  calling : (e : Expression) (es : Expressions) → Tied e → Eached es → (s t : ℕ) (w : Writing) (g : Supply) (k : ℕ) → Near s t → At w g k
+      → Adds ts w (Stack (t + 2) ∷ each_code ts (t + 2) (k + n.labels (f.term e g).part) (f.terms es (f.term e g).left).part ++ value_code ts (t + 2 + depths.count (f.terms es (f.term e g).left).part) k (f.term e g).part)
+      (parts (t + 2 + depths.count (f.terms es (f.term e g).left).part) k (f.term e g).part ++ parts_each (t + 2) (k + n.labels (f.term e g).part) (f.terms es (f.term e g).left).part) [] None
+      (f.terms es (f.term e g).left).left (k + (n.labels (f.term e g).part + n.labels_each (f.terms es (f.term e g).left).part))
+      (puts_all (written gs (after s (size es + 2)) aim.Value e (with_code [] w)).code (each_written gs (after s 2) es (puts (Stack (after s 2)) (with_code w.code (written gs (after s (size es + 2)) aim.Value e (with_code [] w))))))
+  calling e es te tes s t w g k ns at =
+      let c = depths.count (f.terms es (f.term e g).left).part in
+      let many : c ≡ size es = counted es (f.term e g).left in
+      let deeper : t + (size es + 2) ≡ t + 2 + c = omega (arith, many) in
+      let callee = te.value (after s (size es + 2)) (t + 2 + c) (with_code [] w) g k (near_is (near_after (size es + 2) ns) deeper) (record { left = at.left; next = at.next }) in
+      let stacked = put (resumed callee) (same {s = Stack (after s 2)} {r = Stack (t + 2)} (ap Stack (near_after 2 ns).same)) in
+      renumbered (put (then stacked (tes (after s 2) (t + 2) _ _ _ (near_after 2 ns) stacked.at)) (record { same = callee.its_code.same })) (omega arith)
+
+  abbrev Acted : Action → Type 0
+  Acted c = (x y : Around) (s t : ℕ) (w : Writing) (g : Supply) (k : ℕ) → NearAround x y → Near s t → At w g k
+      → Adds ts w (command_code ts y t k (f.command c g).part) (parts_in t k (f.command c g).part) (cases k (f.command c g).part) (default_in k (f.command c g).part) (f.command c g).left
+      (k + n.labels_in (f.command c g).part) (act_written gs x s c w)
+
+  abbrev Acted_each : Actions → Type 0
+  Acted_each cs = (x y : Around) (s t : ℕ) (w : Writing) (g : Supply) (k : ℕ) → NearAround x y → Near s t → At w g k
+      → Adds ts w (through_code ts y t k (f.commands cs g).part) (parts_through t k (f.commands cs g).part) (cases_through k (f.commands cs g).part) (default_through k (f.commands cs g).part) (f.commands cs g).left
+      (k + n.labels_through (f.commands cs g).part) (each_act_written gs x s cs w)
+
+  at_choices : {w : Writing} {g : Supply} {k : ℕ} → At w g k → At (with_choices no_choices w) g k
+  at_choices at = record { left = at.left; next = at.next }
+
+  valof_value : (l : ℕ) (c : Action) → Acted c → Valued (valof l c)
+  valof_value l c tc s t w g k ns at =
+      let own = labelled {ts = ts} 1 at in
+      let body = unchosen no_choices (tc (valued w.next) (valued k) s t (with_choices no_choices (takes_labels 1 w)) g (k + 1) (in_valof at.next) ns (at_choices own.at)) in
+      let ends = put (put (then own body) (same {s = Label w.next} {r = Label k} (ap Label at.next.same))) (same {s = TakeResult s} {r = TakeResult t} (ap TakeResult ns.same)) in
+      renumbered (recoded ends (append_assoc _ (Label k ∷ []) (TakeResult t ∷ []))) (omega arith)
+
+  -- with choices of its own
+  acted_alone : (c : Action) → Acted c → (x y : Around) (s t : ℕ) (v : Writing) (g : Supply) (k : ℕ) → NearAround x y → Near s t → At v g k
+      → Adds ts v (command_code ts y t k (f.command c g).part) (parts_in t k (f.command c g).part) [] None (f.command c g).left (k + n.labels_in (f.command c g).part)
+      (with_choices v.choices (act_written gs x s c (with_choices no_choices v)))
+  acted_alone c tc x y s t v g k na ns at = unchosen no_choices (tc x y s t (with_choices no_choices v) g k na ns (at_choices at))
+
+  acted_each_alone : (cs : Actions) → Acted_each cs → (x y : Around) (s t : ℕ) (v : Writing) (g : Supply) (k : ℕ) → NearAround x y → Near s t → At v g k
+      → Adds ts v (through_code ts y t k (f.commands cs g).part) (parts_through t k (f.commands cs g).part) [] None (f.commands cs g).left (k + n.labels_through (f.commands cs g).part)
+      (with_choices v.choices (each_act_written gs x s cs (with_choices no_choices v)))
+  acted_each_alone cs tc x y s t v g k na ns at = unchosen no_choices (tc x y s t (with_choices no_choices v) g k na ns (at_choices at))
+
+  acted_aside : (c : Action) → Acted c → (x y : Around) (s t : ℕ) (v : Writing) (g : Supply) (k : ℕ) → NearAround x y → Near s t → At v g k
+      → Adds ts (with_choices no_choices (with_code [] v)) (command_code ts y t k (f.command c g).part) (parts_in t k (f.command c g).part) (cases k (f.command c g).part) (default_in k (f.command c g).part)
+      (f.command c g).left (k + n.labels_in (f.command c g).part) (act_written gs x s c (with_choices no_choices (with_code [] v)))
+  acted_aside c tc x y s t v g k na ns at = tc x y s t (with_choices no_choices (with_code [] v)) g k na ns (record { left = at.left; next = at.next })
+
+  -- destinations, written aside
+  record Stores (w : Writing) (before : List (List Stmt)) (codes : List (List Stmt)) (ps : List Part) (g : Supply) (k : ℕ) (r : Stored) : Type 0 where
+    pub codes_are : map (map stmt_in_words) r.codes ≡ map (map stmt_in_words) (before ++ codes)
+    pub writing_is : Adds ts w [] ps [] None g k r.writing
+
+  abbrev Stores_each : Expressions → Type 0
+  Stores_each es = (s t : ℕ) (r : Stored) (before : List (List Stmt)) (g : Supply) (k : ℕ) → Near s t → At r.writing g k → map (map stmt_in_words) r.codes ≡ map (map stmt_in_words) before
+      → Stores r.writing before (store_codes ts t k (f.lvalues es g).part) (parts_onto t k (f.lvalues es g).part) (f.lvalues es g).left (k + n.labels_onto (f.lvalues es g).part) (stores_written gs s es r)
+
+  -- values, with destinations behind them
+  abbrev Sets_each : Expressions → Type 0
+  Sets_each es = (s t : ℕ) (w : Writing) (xs ys : List (List Stmt)) (g : Supply) (k : ℕ) → Near s t → At w g k → map (map stmt_in_words) xs ≡ map (map stmt_in_words) ys
+      → Adds ts w (by_turns (value_codes ts t k (f.terms es g).part) ys) (parts_from t k (f.terms es g).part) [] None (f.terms es g).left (k + n.labels_each (f.terms es g).part) (values_written gs s es xs w)
+
+  -- declarations, and the depth behind them
+  pub record Declares (w : Writing) (code : List Stmt) (ps : List Part) (t : ℕ) (g : Supply) (k : ℕ) (r : Reached) : Type 0 where
+    pub writing_is : Adds ts w code ps [] None g k r.writing
+    pub depth_is : Near r.depth t
+
+  abbrev pub Declared : Declarations → Type 0
+  Declared ds = (r : Reached) (t : ℕ) (g : Supply) (k : ℕ) → Near r.depth t → At r.writing g k
+      → Declares r.writing (declarations_code ts t k (f.all_declared ds g).part) (parts_of_declarations t k (f.all_declared ds g).part) (depths.behind_declarations t (f.all_declared ds g).part) (f.all_declared ds g).left
+      (k + n.labels_of_declarations (f.all_declared ds g).part) (declared gs ds r)
+
+  abbrev Declared_one : Declaration → Type 0
+  Declared_one ds = (r : Reached) (t : ℕ) (g : Supply) (k : ℕ) → Near r.depth t → At r.writing g k
+      → Declares r.writing (declaration_code ts t k (f.declared ds g).part) (parts_of_declaration t k (f.declared ds g).part) (depths.behind_declaration t (f.declared ds g).part) (f.declared ds g).left
+      (k + n.labels_of_declaration (f.declared ds g).part) (one_declared gs ds r)
+
+  abbrev Defined : Definitions → Type 0
+  Defined ds = (r : Reached) (t : ℕ) (g : Supply) (k : ℕ) → Near r.depth t → At r.writing g k
+      → Declares r.writing (definitions_code ts t k (f.all_defined ds g).part) (parts_of_definitions t k (f.all_defined ds g).part) (depths.behind_definitions t (f.all_defined ds g).part) (f.all_defined ds g).left
+      (k + n.labels_of_definitions (f.all_defined ds g).part) (defined gs ds r)
+
+  abbrev Defined_one : Definition → Type 0
+  Defined_one ds = (r : Reached) (t : ℕ) (g : Supply) (k : ℕ) → Near r.depth t → At r.writing g k
+      → Declares r.writing (definition_code ts t k (f.defined ds g).part) (parts_of_definition t k (f.defined ds g).part) (depths.behind_definition t (f.defined ds g).part) (f.defined ds g).left
+      (k + n.labels_of_definition (f.defined ds g).part) (one_defined gs ds r)
+
+  abbrev Started : Starts → Type 0
+  Started is = (r : Reached) (t : ℕ) (g : Supply) (k : ℕ) → Near r.depth t → At r.writing g k
+      → Declares r.writing (starts_code ts t k (f.starts is g).part) (parts_of_starts t k (f.starts is g).part) (depths.behind_starts t (f.starts is g).part) (f.starts is g).left
+      (k + n.labels_of_starts (f.starts is g).part) (started gs is r)
+
+  heads_are : (x y : List Stmt) (xs ys : List (List Stmt)) → map (map stmt_in_words) (x ∷ xs) ≡ map (map stmt_in_words) (y ∷ ys) → map stmt_in_words x ≡ map stmt_in_words y
+  heads_are x y xs ys h = cc
+
+  tails_are : (x y : List Stmt) (xs ys : List (List Stmt)) → map (map stmt_in_words) (x ∷ xs) ≡ map (map stmt_in_words) (y ∷ ys) → map (map stmt_in_words) xs ≡ map (map stmt_in_words) ys
+  tails_are x y xs ys h = cc
+
+  no_turns : (xs : List (List Stmt)) → by_turns xs [] ≡ []
+  no_turns [] = refl
+  no_turns (x ∷ xs) = refl
+
+  same_variables : (ds : Definitions) (g : Supply) → any_variables ds ≡ depths.has_variables (f.all_defined ds g).part
+  same_variables no_definitions g = refl
+  same_variables (define (routine l x fs c) ds) g = same_variables ds (f.defined (routine l x fs c) g).left
+  same_variables (define (function l x fs e) ds) g = same_variables ds (f.defined (function l x fs e) g).left
+  same_variables (define (variables l xs is) ds) g = refl
+
+  put_store : (z : Bool) {w v : Writing} {c : List Stmt} {ps : List Part} {g : Supply} {k : ℕ} → Adds ts w c ps [] None g k v → Adds ts w (c ++ cond z (Store ∷ []) []) ps [] None g k (cond z (puts Store v) v)
+  put_store true a = put a (alike stmt_in_words (Store ∷ []))
+  put_store false a = recoded a (sym (append-nil _))
+
+  mutual
+    tied : (e : Expression) → Tied e
+    tied (name l x) = record {
+      value = named_value l x;
+      jump = λ s t w g k ns at z i j h. jumping z h (named_value l x s t w g k ns at);
+    }
+    tied (number l v) = record {
+      value = λ s t w g k ns at. leaf (Number (signed v)) (Number (signed v)) refl at;
+      jump = λ s t w g k ns at z i j h. jumping z h (leaf (Number (signed v)) (Number (signed v)) refl at);
+    }
+    tied (text l x) = record {
+      value = λ s t w g k ns at. leaf (Text (first_bytes x)) (Text (first_bytes x)) refl at;
+      jump = λ s t w g k ns at z i j h. jumping z h (leaf (Text (first_bytes x)) (Text (first_bytes x)) refl at);
+    }
+    tied (truth l v) = record {
+      value = λ s t w g k ns at. leaf (truth_value v) (truth_value v) refl at;
+      jump = λ s t w g k ns at z i j h. jumping z h (leaf (truth_value v) (truth_value v) refl at);
+    }
+    tied (query l) = record {
+      value = λ s t w g k ns at. leaf Query Query refl at;
+      jump = λ s t w g k ns at z i j h. jumping z h (leaf Query Query refl at);
+    }
+    tied (parens l e) = record { value = (tied e).value; jump = (tied e).jump }
+    tied (unary l q.Address e) = record {
+      value = (reaching e).address;
+      jump = λ s t w g k ns at z i j h. jumping z h ((reaching e).address s t w g k ns at);
+    }
+    tied (unary l q.Not e) = record {
+      value = λ s t w g k ns at. put ((tied e).value s t w g k ns at) (alike stmt_in_words _);
+      jump = λ s t w g k ns at z i j h. (tied e).jump s t w g k ns at (not z) i j h;
+    }
+    tied (unary l q.Contents e) = record {
+      value = λ s t w g k ns at. put ((tied e).value s t w g k ns at) (alike stmt_in_words (prefix_code q.Contents));
+      jump = λ s t w g k ns at z i j h. jumping z h (put ((tied e).value s t w g k ns at) (alike stmt_in_words (prefix_code q.Contents)));
+    }
+    tied (unary l q.Plus e) = record {
+      value = λ s t w g k ns at. put ((tied e).value s t w g k ns at) (alike stmt_in_words (prefix_code q.Plus));
+      jump = λ s t w g k ns at z i j h. jumping z h (put ((tied e).value s t w g k ns at) (alike stmt_in_words (prefix_code q.Plus)));
+    }
+    tied (unary l q.Minus e) = record {
+      value = λ s t w g k ns at. put ((tied e).value s t w g k ns at) (alike stmt_in_words (prefix_code q.Minus));
+      jump = λ s t w g k ns at z i j h. jumping z h (put ((tied e).value s t w g k ns at) (alike stmt_in_words (prefix_code q.Minus)));
+    }
+    tied (binary l o.Both m a c) = record { value = two_values o.Both l m a c (tied a) (tied c); jump = both_tested l m a c (tied a) (tied c) }
+    tied (binary l o.Either m a c) = record { value = two_values o.Either l m a c (tied a) (tied c); jump = either_tested l m a c (tied a) (tied c) }
+    tied (binary l o.Subscript m a c) = record { value = two_values o.Subscript l m a c (tied a) (tied c); jump = λ s t w g k ns at z i j h. jumping z h (two_values o.Subscript l m a c (tied a) (tied c) s t w g k ns at) }
+    tied (binary l o.Byte m a c) = record { value = two_values o.Byte l m a c (tied a) (tied c); jump = λ s t w g k ns at z i j h. jumping z h (two_values o.Byte l m a c (tied a) (tied c) s t w g k ns at) }
+    tied (binary l o.Times m a c) = record { value = two_values o.Times l m a c (tied a) (tied c); jump = λ s t w g k ns at z i j h. jumping z h (two_values o.Times l m a c (tied a) (tied c) s t w g k ns at) }
+    tied (binary l o.Over m a c) = record { value = two_values o.Over l m a c (tied a) (tied c); jump = λ s t w g k ns at z i j h. jumping z h (two_values o.Over l m a c (tied a) (tied c) s t w g k ns at) }
+    tied (binary l o.Rem m a c) = record { value = two_values o.Rem l m a c (tied a) (tied c); jump = λ s t w g k ns at z i j h. jumping z h (two_values o.Rem l m a c (tied a) (tied c) s t w g k ns at) }
+    tied (binary l o.Add m a c) = record { value = two_values o.Add l m a c (tied a) (tied c); jump = λ s t w g k ns at z i j h. jumping z h (two_values o.Add l m a c (tied a) (tied c) s t w g k ns at) }
+    tied (binary l o.Subtract m a c) = record { value = two_values o.Subtract l m a c (tied a) (tied c); jump = λ s t w g k ns at z i j h. jumping z h (two_values o.Subtract l m a c (tied a) (tied c) s t w g k ns at) }
+    tied (binary l o.Equal m a c) = record { value = two_values o.Equal l m a c (tied a) (tied c); jump = λ s t w g k ns at z i j h. jumping z h (two_values o.Equal l m a c (tied a) (tied c) s t w g k ns at) }
+    tied (binary l o.Unequal m a c) = record { value = two_values o.Unequal l m a c (tied a) (tied c); jump = λ s t w g k ns at z i j h. jumping z h (two_values o.Unequal l m a c (tied a) (tied c) s t w g k ns at) }
+    tied (binary l o.Less m a c) = record { value = two_values o.Less l m a c (tied a) (tied c); jump = λ s t w g k ns at z i j h. jumping z h (two_values o.Less l m a c (tied a) (tied c) s t w g k ns at) }
+    tied (binary l o.Greater m a c) = record { value = two_values o.Greater l m a c (tied a) (tied c); jump = λ s t w g k ns at z i j h. jumping z h (two_values o.Greater l m a c (tied a) (tied c) s t w g k ns at) }
+    tied (binary l o.AtMost m a c) = record { value = two_values o.AtMost l m a c (tied a) (tied c); jump = λ s t w g k ns at z i j h. jumping z h (two_values o.AtMost l m a c (tied a) (tied c) s t w g k ns at) }
+    tied (binary l o.AtLeast m a c) = record { value = two_values o.AtLeast l m a c (tied a) (tied c); jump = λ s t w g k ns at z i j h. jumping z h (two_values o.AtLeast l m a c (tied a) (tied c) s t w g k ns at) }
+    tied (binary l o.ShiftLeft m a c) = record { value = two_values o.ShiftLeft l m a c (tied a) (tied c); jump = λ s t w g k ns at z i j h. jumping z h (two_values o.ShiftLeft l m a c (tied a) (tied c) s t w g k ns at) }
+    tied (binary l o.ShiftRight m a c) = record { value = two_values o.ShiftRight l m a c (tied a) (tied c); jump = λ s t w g k ns at z i j h. jumping z h (two_values o.ShiftRight l m a c (tied a) (tied c) s t w g k ns at) }
+    tied (binary l o.Same m a c) = record { value = two_values o.Same l m a c (tied a) (tied c); jump = λ s t w g k ns at z i j h. jumping z h (two_values o.Same l m a c (tied a) (tied c) s t w g k ns at) }
+    tied (binary l o.Differ m a c) = record { value = two_values o.Differ l m a c (tied a) (tied c); jump = λ s t w g k ns at z i j h. jumping z h (two_values o.Differ l m a c (tied a) (tied c) s t w g k ns at) }
+    tied (choice l m c a b) = record {
+      value = chosen l m c a b (tied c) (tied a) (tied b);
+      jump = λ s t w g k ns at z i j h. jumping z h (chosen l m c a b (tied c) (tied a) (tied b) s t w g k ns at);
+    }
+    tied (apply l m e es) = record {
+      value = λ s t w g k ns at. put (calling e es (tied e) (tied_each es) s t w g k ns at) (same {s = CallFunction s} {r = CallFunction t} (ap CallFunction ns.same));
+      jump = λ s t w g k ns at z i j h. jumping z h (put (calling e es (tied e) (tied_each es) s t w g k ns at) (same {s = CallFunction s} {r = CallFunction t} (ap CallFunction ns.same)));
+    }
+    tied (table l es) = record {
+      value = λ s t w g k ns at. put_table es at;
+      jump = λ s t w g k ns at z i j h. jumping z h (put_table es at);
+    }
+    tied (valof l c) = record {
+      value = λ s t w g k ns at. valof_value l c (acted c) s t w g k ns at;
+      jump = λ s t w g k ns at z i j h. jumping z h (valof_value l c (acted c) s t w g k ns at);
+    }
+
+    tied_each : (es : Expressions) → Eached es
+    tied_each none s t w g k ns at = renumbered (nothing at) (omega arith)
+    tied_each (more e es) s t w g k ns at =
+        let first = (tied e).value s t w g k ns at in
+        renumbered (then first (tied_each es (after s 1) (t + 1) _ _ _ (near_after 1 ns) first.at)) (omega arith)
+
+    reaching : (e : Expression) → Reaching e
+    reaching (name l x) = record {
+      address = λ s t w g k ns at. renumbered (put (took_meaning at) (is_alike (ap (λ z. Address (word_of gs (meaning z).part) ∷ []) at.left) (one _ _ (ap Address (variable_near gs ts placed (meaning g).part))))) (omega arith);
+      store = λ s t w g k ns at. renumbered (put (took_meaning at) (is_alike (ap (λ z. Assign (word_of gs (meaning z).part) ∷ []) at.left) (one _ _ (ap Assign (variable_near gs ts placed (meaning g).part))))) (omega arith);
+    }
+    reaching (parens l e) = record { address = (reaching e).address; store = (reaching e).store }
+    reaching (unary l q.Contents e) = record {
+      address = (tied e).value;
+      store = λ s t w g k ns at. put ((tied e).value s t w g k ns at) (alike stmt_in_words (AssignAt ∷ []));
+    }
+    reaching (binary l o.Subscript m a c) = record {
+      address = λ s t w g k ns at. put (two_behind a c (tied a) (tied c) s t w g k ns at) (alike stmt_in_words (Dyadic d.Add ∷ []));
+      store = λ s t w g k ns at. recoded (put (put (two_behind a c (tied a) (tied c) s t w g k ns at) (alike stmt_in_words (Dyadic d.Add ∷ []))) (alike stmt_in_words (AssignAt ∷ []))) (append_assoc _ (Dyadic d.Add ∷ []) (AssignAt ∷ []));
+    }
+    reaching (binary l o.Byte m a c) = record {
+      address = λ s t w g k ns at. resumed (two_behind a c (tied a) (tied c) s t (with_code [] w) g k ns (record { left = at.left; next = at.next }));
+      store = λ s t w g k ns at. put (two_behind a c (tied a) (tied c) s t w g k ns at) (alike stmt_in_words (AssignByte ∷ []));
+    }
+    reaching (number l v) = nowhere (number l v) (λ g. refl) (λ s w. refl) (λ s w. refl)
+    reaching (text l x) = nowhere (text l x) (λ g. refl) (λ s w. refl) (λ s w. refl)
+    reaching (truth l v) = nowhere (truth l v) (λ g. refl) (λ s w. refl) (λ s w. refl)
+    reaching (query l) = nowhere (query l) (λ g. refl) (λ s w. refl) (λ s w. refl)
+    reaching (choice l m c a b) = nowhere (choice l m c a b) (λ g. refl) (λ s w. refl) (λ s w. refl)
+    reaching (apply l m e es) = nowhere (apply l m e es) (λ g. refl) (λ s w. refl) (λ s w. refl)
+    reaching (valof l c) = nowhere (valof l c) (λ g. refl) (λ s w. refl) (λ s w. refl)
+    reaching (table l es) = nowhere (table l es) (λ g. refl) (λ s w. refl) (λ s w. refl)
+    reaching (unary l q.Address e) = nowhere (unary l q.Address e) (λ g. refl) (λ s w. refl) (λ s w. refl)
+    reaching (unary l q.Plus e) = nowhere (unary l q.Plus e) (λ g. refl) (λ s w. refl) (λ s w. refl)
+    reaching (unary l q.Minus e) = nowhere (unary l q.Minus e) (λ g. refl) (λ s w. refl) (λ s w. refl)
+    reaching (unary l q.Not e) = nowhere (unary l q.Not e) (λ g. refl) (λ s w. refl) (λ s w. refl)
+    reaching (binary l o.Times m a c) = nowhere (binary l o.Times m a c) (λ g. refl) (λ s w. refl) (λ s w. refl)
+    reaching (binary l o.Over m a c) = nowhere (binary l o.Over m a c) (λ g. refl) (λ s w. refl) (λ s w. refl)
+    reaching (binary l o.Rem m a c) = nowhere (binary l o.Rem m a c) (λ g. refl) (λ s w. refl) (λ s w. refl)
+    reaching (binary l o.Add m a c) = nowhere (binary l o.Add m a c) (λ g. refl) (λ s w. refl) (λ s w. refl)
+    reaching (binary l o.Subtract m a c) = nowhere (binary l o.Subtract m a c) (λ g. refl) (λ s w. refl) (λ s w. refl)
+    reaching (binary l o.Equal m a c) = nowhere (binary l o.Equal m a c) (λ g. refl) (λ s w. refl) (λ s w. refl)
+    reaching (binary l o.Unequal m a c) = nowhere (binary l o.Unequal m a c) (λ g. refl) (λ s w. refl) (λ s w. refl)
+    reaching (binary l o.Less m a c) = nowhere (binary l o.Less m a c) (λ g. refl) (λ s w. refl) (λ s w. refl)
+    reaching (binary l o.Greater m a c) = nowhere (binary l o.Greater m a c) (λ g. refl) (λ s w. refl) (λ s w. refl)
+    reaching (binary l o.AtMost m a c) = nowhere (binary l o.AtMost m a c) (λ g. refl) (λ s w. refl) (λ s w. refl)
+    reaching (binary l o.AtLeast m a c) = nowhere (binary l o.AtLeast m a c) (λ g. refl) (λ s w. refl) (λ s w. refl)
+    reaching (binary l o.ShiftLeft m a c) = nowhere (binary l o.ShiftLeft m a c) (λ g. refl) (λ s w. refl) (λ s w. refl)
+    reaching (binary l o.ShiftRight m a c) = nowhere (binary l o.ShiftRight m a c) (λ g. refl) (λ s w. refl) (λ s w. refl)
+    reaching (binary l o.Same m a c) = nowhere (binary l o.Same m a c) (λ g. refl) (λ s w. refl) (λ s w. refl)
+    reaching (binary l o.Differ m a c) = nowhere (binary l o.Differ m a c) (λ g. refl) (λ s w. refl) (λ s w. refl)
+    reaching (binary l o.Both m a c) = nowhere (binary l o.Both m a c) (λ g. refl) (λ s w. refl) (λ s w. refl)
+    reaching (binary l o.Either m a c) = nowhere (binary l o.Either m a c) (λ g. refl) (λ s w. refl) (λ s w. refl)
+
+    stored : (es : Expressions) → Stores_each es
+    stored none s t r before g k ns at h = record { codes_are = h ∙ ap (map (map stmt_in_words)) (sym (append-nil before)); writing_is = renumbered (nothing at) (omega arith) }
+    stored (more e es) s t r before g k ns at h =
+        let one_store = (reaching e).store s t (with_code [] r.writing) g k ns (record { left = at.left; next = at.next }) in
+        let code = store_code ts t k (f.lvalue e g).part in
+        let written_one : Writing = store_written gs s e (with_code [] r.writing) in
+        let next : Stored = record { codes = r.codes ++ written_one.code ∷ []; writing = with_code r.writing.code written_one } in
+        let first = resumed one_store in
+        let codes : map (map stmt_in_words) (r.codes ++ written_one.code ∷ []) ≡ map (map stmt_in_words) (before ++ code ∷ []) =
+        map-append (map stmt_in_words) r.codes (written_one.code ∷ []) ∙ ap (λ z. z ++ map stmt_in_words written_one.code ∷ []) h ∙ ap (λ z. map (map stmt_in_words) before ++ z ∷ []) one_store.its_code.same
+        ∙ sym (map-append (map stmt_in_words) before (code ∷ [])) in
+        let rest = stored es s t next (before ++ code ∷ []) _ _ ns first.at codes in
+        record {
+          codes_are = rest.codes_are ∙ ap (map (map stmt_in_words)) (append_assoc before (code ∷ []) _);
+          writing_is = renumbered (then first rest.writing_is) (omega arith);
+        }
+
+    set : (es : Expressions) → Sets_each es
+    set none s t w xs ys g k ns at h = renumbered (nothing at) (omega arith)
+    set (more e es) s t w [] [] g k ns at h =
+        let first = resumed ((tied e).value s t (with_code [] w) g k ns (record { left = at.left; next = at.next })) in
+        let rest = set es s t _ [] [] _ _ ns first.at refl in
+        renumbered (recoded (then first rest) (no_turns _)) (omega arith)
+    set (more e es) s t w [] (y ∷ ys) g k ns at h = absurd cc
+    set (more e es) s t w (x ∷ xs) [] g k ns at h = absurd cc
+    set (more e es) s t w (x ∷ xs) (y ∷ ys) g k ns at h =
+        let first = put ((tied e).value s t w g k ns at) (record { same = heads_are x y xs ys h }) in
+        let rest = set es s t _ xs ys _ _ ns first.at (tails_are x y xs ys h) in
+        renumbered (then first rest) (omega arith)
+
+    acted : (c : Action) → Acted c
+    acted empty x y s t w g k na ns at = renumbered (nothing at) (omega arith)
+    acted (assign l xs es) x y s t w g k na ns at =
+        let onto = stored xs (after s 1) (t + 1) (record { codes = []; writing = w }) [] g k (near_after 1 ns) at refl in
+        let values = set es s t _ _ (store_codes ts (t + 1) k (f.lvalues xs g).part) _ _ ns onto.writing_is.at onto.codes_are in
+        renumbered (then onto.writing_is values) (omega arith)
+    acted (call l e es) x y s t w g k na ns at = put (calling e es (tied e) (tied_each es) s t w g k ns at) (same {s = CallRoutine s} {r = CallRoutine t} (ap CallRoutine ns.same))
+    acted (goto l x) y z s t w g k na ns at =
+        renumbered (put (took_meaning at) (is_alike (ap (λ v. go (place_in gs (meaning v).part) s) at.left) (go_near _ _ s t (place_near gs ts placed (meaning g).part) ns))) (omega arith)
+    acted (label l x c) y z s t w g k na ns at =
+        let first = put_label {ts = ts} {w = w} {g = g} {k = k} {s = s} {t = t} at ns in
+        renumbered (then first (acted c y z s t _ _ _ na ns first.at)) (omega arith)
+    acted (case_of l e c) y z s t w g k na ns at =
+        let first = put_case {ts = ts} {w = w} {g = g} {k = k} at in
+        renumbered (then first (acted c y z s t _ _ _ na ns first.at)) (omega arith)
+    acted (default l c) y z s t w g k na ns at =
+        let first = put_default {ts = ts} {w = w} {g = g} {k = k} at in
+        renumbered (then first (acted c y z s t _ _ _ na ns first.at)) (omega arith)
+    acted (when l v e c) y z s t w g k na ns at =
+        let own = labelled {ts = ts} 1 at in
+        let test = then own ((tied e).jump s t (takes_labels 1 w) g (k + 1) ns own.at (not v) w.next k at.next) in
+        let body = then test (acted c y z s t _ _ _ na ns test.at) in
+        renumbered (put body (same {s = Label w.next} {r = Label k} (ap Label at.next.same))) (omega arith)
+    acted (test l e a c) y z s t w g k na ns at =
+        let own = labelled {ts = ts} 2 at in
+        let test = then own ((tied e).jump s t (takes_labels 2 w) g (k + 2) ns own.at false w.next k at.next) in
+        let yes = then test (acted a y z s t _ _ _ na ns test.at) in
+        let between = put (put (nothing {ts = ts} yes.at) (same {s = Jump (after w.next 1)} {r = Jump (k + 1)} (ap Jump (near_after 1 at.next).same))) (same {s = Label w.next} {r = Label k} (ap Label at.next.same)) in
+        let no = then between (acted c y z s t _ _ _ na ns between.at) in
+        renumbered (put (then yes no) (same {s = Label (after w.next 1)} {r = Label (k + 1)} (ap Label (near_after 1 at.next).same))) (omega arith)
+    acted (while l v e c) y z s t w g k na ns at =
+        let own = labelled {ts = ts} 3 at in
+        let test = (tied e).jump s t (with_code [] (takes_labels 3 w)) g (k + 3) ns (record { left = own.at.left; next = own.at.next }) v (after w.next 1) (k + 1) (near_after 1 at.next) in
+        let begins = put (put (then own (resumed test)) (same {s = Jump w.next} {r = Jump k} (ap Jump at.next.same))) (same {s = Label (after w.next 1)} {r = Label (k + 1)} (ap Label (near_after 1 at.next).same)) in
+        let body = then begins (acted c _ _ s t _ _ _ (in_loop at.next (near_after 2 at.next) ns na) ns begins.at) in
+        let tests = put_twice body (same {s = Label w.next} {r = Label k} (ap Label at.next.same)) (record { same = test.its_code.same }) in
+        renumbered (put tests (same {s = Label (after w.next 2)} {r = Label (k + 2)} (ap Label (near_after 2 at.next).same))) (omega arith)
+    acted (for_loop l x a e h c) y z s t w g k na ns at =
+        let own = labelled {ts = ts} 4 at in
+        let start = then own ((tied a).value s t (takes_labels 4 w) g (k + 4) ns own.at) in
+        let limit = then start ((tied e).value (after s 1) (t + 1) _ _ _ (near_after 1 ns) start.at) in
+        let step = took {ts = ts} (λ v. (step_of h v).left) limit.at in
+        let begins = put step (before_near at.next) in
+        let body = acted_alone c (acted c) _ _ (after s 2) (t + 2) _ _ _ (in_loop (near_after 2 at.next) (near_after 3 at.next) (near_after 2 ns) na) (near_after 2 ns) begins.at in
+        let by : ℕ = (step_of h (f.term e (f.term a g).left).left).part in
+        let steps = is_alike (ap (λ v. steps_on w.next s (step_of h v).part) limit.at.left) (steps_near by at.next ns) in
+        let goes = is_alike (ap (λ v. goes_on w.next s (step_of h v).part) limit.at.left) (goes_near by at.next ns) in
+        renumbered (put_twice (then limit (then begins body)) steps goes) (omega arith)
+    acted (switch l e c) y z s t w g k na ns at =
+        let own = labelled {ts = ts} 1 at in
+        let first = then own ((tied e).value s t (takes_labels 1 w) g (k + 1) ns own.at) in
+        let body = acted_aside c (acted c) _ _ s t _ _ _ (in_switch at.next ns na) ns first.at in
+        renumbered (switched at.next first body) (omega arith)
+    acted (result l e) y z s t w g k na ns at = put ((tied e).value s t w g k ns at) (same {s = GiveResult y.valof} {r = GiveResult z.valof} (ap GiveResult na.valof.same))
+    acted (simple l w.Break) y z s t w g k na ns at = renumbered (put (nothing at) (go_near _ _ s t na.leaves ns)) (omega arith)
+    acted (simple l w.Loop) y z s t w g k na ns at = renumbered (put (nothing at) (go_near _ _ s t na.goes_on ns)) (omega arith)
+    acted (simple l w.EndCase) y z s t w g k na ns at = renumbered (put (nothing at) (go_near _ _ s t na.ends_case ns)) (omega arith)
+    acted (simple l w.Return) y z s t w g k na ns at = renumbered (put (nothing at) (alike stmt_in_words (Return ∷ []))) (omega arith)
+    acted (simple l w.Finish) y z s t w g k na ns at = renumbered (put (nothing at) (alike stmt_in_words (Finish ∷ []))) (omega arith)
+    acted (block l no_declarations cs) y z s t w g k na ns at =
+        let none : k + 0 ≡ k = omega arith in
+        rw none (renumbered (acted_each cs y z s t w g k na ns at) (omega arith))
+    acted (block l (declare e es) cs) y z s t w g k na ns at =
+        let heads = all_declared (declare e es) (reached s w) t g k ns at in
+        let body = acted_each_alone cs (acted_each cs) y z _ _ _ _ _ na heads.depth_is heads.writing_is.at in
+        renumbered (put (then heads.writing_is body) (same {s = Stack s} {r = Stack t} (ap Stack ns.same))) (omega arith)
+    acted (repeat l c) y z s t w g k na ns at =
+        let own = put (labelled {ts = ts} 2 at) (same {s = Label w.next} {r = Label k} (ap Label at.next.same)) in
+        let body = then own (acted c _ _ s t _ _ _ (in_loop at.next (near_after 1 at.next) ns na) ns own.at) in
+        let ends = put_twice body (same {s = Jump w.next} {r = Jump k} (ap Jump at.next.same)) (same {s = Label (after w.next 1)} {r = Label (k + 1)} (ap Label (near_after 1 at.next).same)) in
+        renumbered ends (omega arith)
+    acted (repeat_while l v c e) y z s t w g k na ns at =
+        let own = put (labelled {ts = ts} 3 at) (same {s = Label w.next} {r = Label k} (ap Label at.next.same)) in
+        let body = then own (acted c _ _ s t _ _ _ (in_loop (near_after 1 at.next) (near_after 2 at.next) ns na) ns own.at) in
+        let between = put (nothing {ts = ts} body.at) (same {s = Label (after w.next 1)} {r = Label (k + 1)} (ap Label (near_after 1 at.next).same)) in
+        let test = then between ((tied e).jump s t _ _ _ ns between.at v w.next k at.next) in
+        renumbered (put (tail_cases (then body test)) (same {s = Label (after w.next 2)} {r = Label (k + 2)} (ap Label (near_after 2 at.next).same))) (omega arith)
+
+    acted_each : (cs : Actions) → Acted_each cs
+    acted_each no_actions y z s t w g k na ns at = renumbered (nothing at) (omega arith)
+    acted_each (also c cs) y z s t w g k na ns at =
+        let first = acted c y z s t w g k na ns at in
+        renumbered (then first (acted_each cs y z s t _ _ _ na ns first.at)) (omega arith)
+
+    pub all_declared : (ds : Declarations) → Declared ds
+    all_declared no_declarations r t g k ns at = record { writing_is = renumbered (nothing at) (omega arith); depth_is = ns }
+    all_declared (declare e es) r t g k ns at =
+        let first = declared_one e r t g k ns at in
+        let rest = all_declared es _ _ _ _ first.depth_is first.writing_is.at in
+        record { writing_is = renumbered (then first.writing_is rest.writing_is) (omega arith); depth_is = rest.depth_is }
+
+    declared_one : (e : Declaration) → Declared_one e
+    declared_one (constants l sort.Static is) r t g k ns at = record { writing_is = put_items is at; depth_is = ns }
+    declared_one (constants l sort.Manifest is) r t g k ns at = rw (no_parts is g) (record { writing_is = renumbered (took (λ v. (dropped is v).left) at) (omega arith); depth_is = ns })
+    declared_one (constants l sort.Global is) r t g k ns at = rw (no_parts is g) (record { writing_is = renumbered (took (λ v. (dropped is v).left) at) (omega arith); depth_is = ns })
+    declared_one (definitions l es) r t g k ns at =
+        let all = all_defined es r t g k ns at in
+        rw (← same_variables es g) (record { writing_is = put_store (any_variables es) all.writing_is; depth_is = all.depth_is })
+
+    all_defined : (es : Definitions) → Defined es
+    all_defined no_definitions r t g k ns at = record { writing_is = renumbered (nothing at) (omega arith); depth_is = ns }
+    all_defined (define e es) r t g k ns at =
+        let first = defined_one e r t g k ns at in
+        let rest = all_defined es _ _ _ _ first.depth_is first.writing_is.at in
+        record { writing_is = renumbered (then first.writing_is rest.writing_is) (omega arith); depth_is = rest.depth_is }
+
+    defined_one : (e : Definition) → Defined_one e
+    defined_one (routine l x fs c) r t g k ns at =
+        let body = acted c outermost outermost (after 2 (length fs)) (length fs + 2) (begins_procedure x (length fs) r.writing) _ _ in_procedure (near_is (near_after (length fs) (near 2)) (omega arith)) (begun_at x (length fs) at) in
+        record { writing_is = renumbered (procedure_done (procedure k (f.defined (routine l x fs c) g).part) x (length fs) Return at body refl refl refl refl) (omega arith); depth_is = ns }
+    defined_one (function l x fs e) r t g k ns at =
+        let body = (tied e).value (after 2 (length fs)) (length fs + 2) (begins_procedure x (length fs) r.writing) _ _ (near_is (near_after (length fs) (near 2)) (omega arith)) (begun_at x (length fs) at) in
+        record { writing_is = renumbered (procedure_done (procedure k (f.defined (function l x fs e) g).part) x (length fs) ReturnItem at body refl refl refl refl) (omega arith); depth_is = ns }
+    defined_one (variables l xs is) r t g k ns at = begun is r t g k ns at
+
+    begun : (is : Starts) → Started is
+    begun no_starts r t g k ns at = record { writing_is = renumbered (nothing at) (omega arith); depth_is = ns }
+    begun (value e is) r t g k ns at =
+        let first = (tied e).value r.depth t r.writing g k ns at in
+        let rest = begun is (reached (after r.depth 1) (written gs r.depth aim.Value e r.writing)) (t + 1) _ _ (near_after 1 ns) first.at in
+        record { writing_is = renumbered (then first rest.writing_is) (omega arith); depth_is = rest.depth_is }
+    begun (vector l e is) r t g k ns at =
+        let v : ℕ = (constant g).part in
+        let same_word : (constant r.writing.left).part ≡ v = ap (λ x. (constant x).part) at.left in
+        let near_top : Near (after r.depth ((constant r.writing.left).part + 1)) (t + v + 1) = near_is (near_after _ ns) (omega (arith, same_word)) in
+        let words = put (took {ts = ts} (λ x. (constant x).left) at) (and {s = Stack (after r.depth ((constant r.writing.left).part + 1))} {r = Stack (t + v + 1)} (ap Stack near_top.same) (one (Address (Local r.depth)) (Address (Local t)) (ap (λ x. Address (Local x)) ns.same))) in
+        let rest = begun is (reached (after r.depth ((constant r.writing.left).part + 2)) _) (t + v + 2) _ _ (near_is (near_after _ ns) (omega (arith, same_word))) words.at in
+        record { writing_is = renumbered (then words rest.writing_is) (omega arith); depth_is = rest.depth_is }

@@ -1,0 +1,73 @@
+-- The statements that are written of a section are the scheme's, in words.
+use Rattle.std.proofs.Common.{◌≡◌, ℕ, ◌==◌, Bool, true, false, cond, List, [], ◌∷◌, map, refl, sym, ap, ◌∙◌}
+use Rattle.bk_syntax.specs.Tree.{Declarations}
+use Rattle.bk_scope.specs.declared.bound.Bound.{Bound}
+use Rattle.bk_scope.specs.Faults.{meanings, words}
+use Rattle.bk_scope.specs.Known.{Known}
+use Rattle.bk_ocode.specs.declared.stmt.Stmt.{Stmt}
+use Rattle.bk_ocode.specs.declared.stmt.Stmt.TheVariants.{Globals}
+use Rattle.bk_ocode.specs.Lists.{joined}
+use Rattle.bk_trans.specs.declared.around.Goal.{Goal}
+use Rattle.bk_trans.specs.declared.around.Target.{Target}
+use Rattle.bk_trans.specs.Alike.{word, target_in_words, stmt_in_words, in_words}
+use Rattle.bk_trans.specs.Filling as f
+use Rattle.bk_trans.specs.Filling.{Supply}
+use Rattle.bk_trans.specs.Fitting.{AllFit}
+use Rattle.bk_trans.specs.Naming.{named_tree}
+use Rattle.bk_trans.specs.Parts.{Part, target_of, parts_of_declarations}
+use Rattle.bk_trans.specs.Scheme.{goal, goal_of, entries_of, scheme}
+use Rattle.bk_trans.specs.Writing.{reached, starting, section_written, AreWritten}
+use Rattle.bk_trans.proofs.Adds.{near, Alike, alike_both}
+use Rattle.bk_trans.proofs.FittingLemmas.{all_are}
+use Rattle.bk_trans.proofs.Named.{filling_names}
+use Rattle.bk_trans.proofs.Ties.{NearGoal, Placed, all_declared}
+
+-- places of declarations that are the same in words
+one_near : (c : Bool) (x y u v : Goal) → NearGoal x y → NearGoal u v → NearGoal (cond c x u) (cond c y v)
+one_near true x y u v h k = h
+one_near false x y u v h k = k
+
+goals_near : (xs ys : List Target) → map target_in_words xs ≡ map target_in_words ys → (m : ℕ) → NearGoal (goal_of xs m) (goal_of ys m)
+goals_near [] [] h m = record { labels = near 0; depths = near 0 }
+goals_near [] (y ∷ ys) h m = absurd cc
+goals_near (x ∷ xs) [] h m = absurd cc
+goals_near (x ∷ xs) (y ∷ ys) h m =
+    let head : ◌≡◌ {A = Target} (target_in_words x) (target_in_words y) = cc in
+    let tail : map target_in_words xs ≡ map target_in_words ys = cc in
+    let number : x.number ≡ y.number = ap (λ t. t.number) head in
+    let label : word x.label ≡ word y.label = ap (λ t. t.label) head in
+    let depth : word x.depth ≡ word y.depth = ap (λ t. t.depth) head in
+    rw number (one_near (y.number == m) (goal x.label x.depth) (goal y.label y.depth) (goal_of xs m) (goal_of ys m) (record { labels = record { same = label }; depths = record { same = depth } }) (goals_near xs ys tail m))
+
+nowhere : Placed [] []
+nowhere = record { at_number = λ m. record { labels = near 0; depths = near 0 } }
+
+module _ (ds : Declarations) (g : Supply) where
+  abbrev its_parts : List Part
+  its_parts = parts_of_declarations 2 1 (f.all_declared ds g).part
+
+  -- where its declarations went is found by writing it once
+  found : map target_in_words (section_written [] ds g).apart.targets ≡ map target_in_words (joined target_of its_parts)
+  found = (all_declared [] [] nowhere ds (reached 2 (starting g)) 2 g 1 (near 2) (record { left = refl; next = near 1 })).writing_is.its_targets.same
+
+  -- and so the statements are those of the scheme
+  pub section_alike : (stmts : List Stmt) → AreWritten ds g stmts → in_words stmts ≡ in_words (scheme (f.all_declared ds g).part)
+  section_alike stmts w =
+      let ts : List Target = joined target_of its_parts in
+      let placed : Placed w.goals ts = record { at_number = λ m. rw (w.places m) (goals_near (section_written [] ds g).apart.targets ts found m) } in
+      let all = (all_declared w.goals ts placed ds (reached 2 (starting g)) 2 g 1 (near 2) (record { left = refl; next = near 1 })).writing_is in
+      let globals : stmt_in_words (Globals (section_written w.goals ds g).apart.entries) ≡ stmt_in_words (Globals (joined entries_of its_parts)) = ap Globals all.its_entries.same in
+      let last : Alike stmt_in_words (Globals (section_written w.goals ds g).apart.entries ∷ []) (Globals (joined entries_of its_parts) ∷ []) = record { same = ap (λ x. x ∷ []) globals } in
+      ap (map stmt_in_words) w.are ∙ (alike_both (alike_both (record { same = all.its_procedures.same }) (record { same = all.its_data.same })) last).same
+
+-- of a section without faults, with its meanings and words
+pub written_is_alike : (ds : Declarations) (ms : List Bound) (ws : List ℕ) (stmts : List Stmt) → Known ds ms ws → AreWritten ds (record { meanings = ms; words = ws }) stmts
+    → in_words stmts ≡ in_words (scheme (named_tree ds))
+written_is_alike ds ms ws stmts k w =
+    let its_own : Supply = record { meanings = meanings ds; words = words ds } in
+    let same : ◌≡◌ {A = Supply} (record { meanings = ms; words = ws }) its_own = ap (λ x. record { meanings = x; words = ws }) k.meanings_are ∙ ap (λ x. record { meanings = meanings ds; words = x }) k.words_are in
+    section_alike ds (record { meanings = ms; words = ws }) stmts w ∙ ap (λ g. in_words (scheme (f.all_declared ds g).part)) same ∙ ap (λ r. in_words (scheme r.part)) (filling_names ds k.faultless)
+
+pub written_is : (ds : Declarations) (ms : List Bound) (ws : List ℕ) (stmts : List Stmt) → Known ds ms ws → AreWritten ds (record { meanings = ms; words = ws }) stmts → AllFit stmts
+    → stmts ≡ in_words (scheme (named_tree ds))
+written_is ds ms ws stmts k w h = sym (all_are stmts h) ∙ written_is_alike ds ms ws stmts k w

@@ -1,0 +1,6 @@
+use Rattle.std.proofs.Common.{drop}
+use Rattle.bk_trans.specs.Fitting.{CasesFit}
+use Rattle.bk_trans.proofs.fitting.cases_fit.Given as goal
+
+abbrev pub invariant-loop-case : goal.invariant-loop-case
+invariant-loop-case l = CasesFit (drop l.case-index l.cases) → CasesFit l.cases

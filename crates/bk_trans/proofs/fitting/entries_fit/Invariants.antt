@@ -1,0 +1,6 @@
+use Rattle.std.proofs.Common.{drop}
+use Rattle.bk_trans.specs.Fitting.{EntriesFit}
+use Rattle.bk_trans.proofs.fitting.entries_fit.Given as goal
+
+abbrev pub invariant-loop-entry : goal.invariant-loop-entry
+invariant-loop-entry l = EntriesFit (drop l.entry-index l.entries) → EntriesFit l.entries

@@ -1,0 +1,6 @@
+use Rattle.std.proofs.Common.{drop}
+use Rattle.bk_trans.specs.Fitting.{AllFit}
+use Rattle.bk_trans.proofs.fitting.stmts_fit.Given as goal
+
+abbrev pub invariant-loop-stmt : goal.invariant-loop-stmt
+invariant-loop-stmt l = AllFit (drop l.stmt-index l.stmts) → AllFit l.stmts

@@ -1,0 +1,477 @@
+-- Writing the statements of a section while one goes once through its tree, in the source's order: what was written so far, the
+-- meanings and words that are left, and the label that is next. This definition is inner: it says what the code does, part by
+-- part, where the scheme says what is right; a law ties the two.
+--
+-- What the scheme has in another order is written aside and put where it belongs: the operand that is called behind its
+-- arguments, the condition of a WHILE behind its body, destinations behind their values, a procedure behind the one around it.
+-- Labels and depths are words, and wrap.
+use Rattle.std.specs.Prelude.{◌≡◌, ℕ, ◌+◌, pos, ◌%◌, ◌^◌, Bool, true, false, not, cond, Option, Some, None, List, [], ◌∷◌, ◌++◌, length, map, get_or}
+use Rattle.bk_base.specs.Strings.{first_bytes}
+use Rattle.bk_base.specs.Word.{signed}
+use Rattle.bk_syntax.specs.declared.tree.Operator.{Operator}
+use Rattle.bk_syntax.specs.declared.tree.Operator.TheVariants as o
+use Rattle.bk_syntax.specs.declared.tree.Prefix.TheVariants as q
+use Rattle.bk_syntax.specs.declared.tree.Simple.{Simple}
+use Rattle.bk_syntax.specs.declared.tree.Simple.TheVariants as w
+use Rattle.bk_syntax.specs.declared.tree.Sort.TheVariants as sort
+use Rattle.bk_syntax.specs.Tree.{Expression, Expressions, Action, Actions, Declaration, Declarations, Items, Definition, Definitions, Starts, name, number, text, truth, query, parens, unary, binary, choice, apply, valof, table, none, more, empty, assign, call, goto, label, case_of, default, when, test, while, for_loop, switch, result, simple, block, repeat, repeat_while, no_actions, also, constants, definitions, no_declarations, declare, no_items, item, routine, function, variables, no_definitions, define, no_starts, value, vector}
+use Rattle.bk_syntax.specs.Grammar.{size}
+use Rattle.bk_scope.specs.declared.bound.Bound.{Bound}
+use Rattle.bk_scope.specs.declared.bound.Bound.TheVariants as b
+use Rattle.bk_ocode.specs.declared.stmt.Variable.{Variable}
+use Rattle.bk_ocode.specs.declared.stmt.Variable.TheVariants.{Local, Global, Static}
+use Rattle.bk_ocode.specs.declared.stmt.Dyadic.TheVariants as d
+use Rattle.bk_ocode.specs.declared.stmt.Monadic.TheVariants as m
+use Rattle.bk_ocode.specs.declared.stmt.Case.{Case}
+use Rattle.bk_ocode.specs.declared.stmt.GlobalEntry.{GlobalEntry}
+use Rattle.bk_ocode.specs.declared.stmt.Stmt.{Stmt}
+use Rattle.bk_ocode.specs.declared.stmt.Stmt.TheVariants.{Number, Query, Load, Address, Text, Monadic, Dyadic, Assign, AssignAt, AssignByte, Jump, JumpIf, Label, GiveResult, TakeResult, Stack, Store, Entry, Save, CallFunction, CallRoutine, ReturnItem, Return, EndProcedure, Switch, Finish, DataLabel, DataNumber, DataAddress, Globals}
+use Rattle.bk_trans.specs.declared.aim.Aim.{Aim}
+use Rattle.bk_trans.specs.declared.aim.Aim.TheVariants as aim
+use Rattle.bk_trans.specs.declared.way.Way.{Way}
+use Rattle.bk_trans.specs.declared.way.Way.TheVariants as way
+use Rattle.bk_trans.specs.declared.way.Access.{Access}
+use Rattle.bk_trans.specs.declared.way.Access.TheVariants as access
+use Rattle.bk_trans.specs.declared.around.Goal.{Goal}
+use Rattle.bk_trans.specs.declared.around.Around.{Around}
+use Rattle.bk_trans.specs.declared.around.Target.{Target}
+use Rattle.bk_trans.specs.Filling.{Supply, meaning, constant, constants_of, step_of, dropped}
+use Rattle.bk_trans.specs.Labels.{labels_of_procedure}
+use Rattle.bk_trans.specs.Parts.{target_of_word, target_of_label}
+use Rattle.bk_trans.specs.Scheme.{goal, goal_of, outermost, valued, looping, switching, prefix_code, infix_code, truth_value, go, test_of_step, first_of, label_or}
+
+-- what stands by itself in the code: the procedures inside the one that is written, data, the globals that procedures set, and
+-- where declarations went
+pub record Apart : Type 0 where
+  pub procedures : List Stmt
+  pub data_words : List Stmt
+  pub entries : List GlobalEntry
+  pub targets : List Target
+
+-- the CASEs of the SWITCHON around, and its DEFAULT
+pub record Choices : Type 0 where
+  pub cases : List Case
+  pub default_label : Option ℕ
+
+pub record Writing : Type 0 where
+  pub code : List Stmt
+  pub apart : Apart
+  pub choices : Choices
+  pub left : Supply
+  pub next : ℕ
+
+-- a label or a depth so much behind
+abbrev pub after : ℕ → ℕ → ℕ
+after n k = (n + k) % 2 ^ 32
+
+-- where the declaration of this number went, where those of all numbers from 0 on are listed
+abbrev pub place_of : List Goal → ℕ → Goal
+place_of gs m = get_or gs m (goal 0 0)
+
+abbrev pub place_in : List Goal → Bound → Goal
+place_in gs (b.Label k m) = place_of gs m
+place_in gs _ = goal 0 0
+
+-- the word of a name
+abbrev pub word_of : List Goal → Bound → Variable
+word_of gs (b.Global (Some g)) = Global g
+word_of gs (b.Static m) = Static ((place_of gs m).label)
+word_of gs (b.Variable k d) = Local d
+word_of gs _ = Local 0
+
+-- pushes what a name means
+abbrev pub push_of : List Goal → Bound → Stmt
+push_of gs (b.Constant (Some w)) = Number (signed w)
+push_of gs (b.Constant None) = Number (pos 0)
+push_of gs x = Load (word_of gs x)
+
+-- statements more
+abbrev pub puts_all : List Stmt → Writing → Writing
+puts_all ss w = record { code = w.code ++ ss; apart = w.apart; choices = w.choices; left = w.left; next = w.next }
+
+abbrev pub puts : Stmt → Writing → Writing
+puts s w = puts_all (s ∷ []) w
+
+-- other statements in their place
+abbrev pub with_code : List Stmt → Writing → Writing
+with_code ss w = record { code = ss; apart = w.apart; choices = w.choices; left = w.left; next = w.next }
+
+abbrev pub with_choices : Choices → Writing → Writing
+with_choices cs w = record { code = w.code; apart = w.apart; choices = cs; left = w.left; next = w.next }
+
+abbrev pub no_choices : Choices
+no_choices = record { cases = []; default_label = None }
+
+abbrev pub takes_labels : ℕ → Writing → Writing
+takes_labels k w = record { code = w.code; apart = w.apart; choices = w.choices; left = w.left; next = after w.next k }
+
+abbrev pub with_left : Supply → Writing → Writing
+with_left g w = record { code = w.code; apart = w.apart; choices = w.choices; left = g; next = w.next }
+
+-- the meaning that is next is taken, and the word
+abbrev pub past_meaning : Writing → Writing
+past_meaning w = with_left (meaning w.left).left w
+
+abbrev pub past_word : Writing → Writing
+past_word w = with_left (constant w.left).left w
+
+abbrev pub with_apart : Apart → Writing → Writing
+with_apart a w = record { code = w.code; apart = a; choices = w.choices; left = w.left; next = w.next }
+
+-- data, globals that procedures set, and places more
+abbrev pub adds_data : List Stmt → Writing → Writing
+adds_data ds w = with_apart (record { procedures = w.apart.procedures; data_words = w.apart.data_words ++ ds; entries = w.apart.entries; targets = w.apart.targets }) w
+
+abbrev pub adds_entries : List GlobalEntry → Writing → Writing
+adds_entries es w = with_apart (record { procedures = w.apart.procedures; data_words = w.apart.data_words; entries = w.apart.entries ++ es; targets = w.apart.targets }) w
+
+abbrev pub adds_targets : List Target → Writing → Writing
+adds_targets ts w = with_apart (record { procedures = w.apart.procedures; data_words = w.apart.data_words; entries = w.apart.entries; targets = w.apart.targets ++ ts }) w
+
+-- what a name means is pushed
+abbrev pub puts_name : List Goal → Writing → Writing
+puts_name gs w = puts (push_of gs (meaning w.left).part) (past_meaning w)
+
+-- how the operands of an operator are gone through: for their values, or both for a jump, with a label of its own behind them
+-- or not
+abbrev pub way_of : Operator → Aim → ℕ → Way
+way_of o.Both (aim.Jump true k) n = way.Short (aim.Jump false n) (aim.Jump true k) true
+way_of o.Both (aim.Jump false k) n = way.Short (aim.Jump false k) (aim.Jump false k) false
+way_of o.Either (aim.Jump true k) n = way.Short (aim.Jump true k) (aim.Jump true k) false
+way_of o.Either (aim.Jump false k) n = way.Short (aim.Jump true n) (aim.Jump false k) true
+way_of _ a n = way.Plain
+
+abbrev pub first_aim : Way → Aim
+first_aim way.Plain = aim.Value
+first_aim (way.Short x y own) = x
+
+abbrev pub second_aim : Way → Aim
+second_aim way.Plain = aim.Value
+second_aim (way.Short x y own) = y
+
+abbrev pub by_way : Way → Writing → Writing → Writing
+by_way way.Plain x y = x
+by_way (way.Short a b own) x y = y
+
+-- the label of its own is set
+abbrev pub ends_way : Way → ℕ → Writing → Writing
+ends_way way.Plain n w = w
+ends_way (way.Short x y true) n w = puts (Label n) w
+ends_way (way.Short x y false) n w = w
+
+-- the aim of what NOT stands before, and the NOT of a value
+abbrev pub negated : Aim → Aim
+negated aim.Value = aim.Value
+negated (aim.Jump t k) = aim.Jump (not t) k
+
+abbrev pub puts_not : Aim → Writing → Writing
+puts_not aim.Value w = puts (Monadic m.Not) w
+puts_not (aim.Jump t k) w = w
+
+-- what may stand between the operands of a destination
+abbrev pub access_of : Operator → Access
+access_of o.Subscript = access.Word
+access_of o.Byte = access.Byte
+access_of _ = access.Nothing
+
+-- an address, where what is behind its operands is `behind`; a byte has none, and its operands are written aside and left out
+abbrev pub puts_address : Access → Writing → Writing → Writing → Writing
+puts_address access.Word w behind aside = puts (Dyadic d.Add) behind
+puts_address access.Byte w behind aside = with_code w.code aside
+puts_address access.Nothing w behind aside = w
+
+abbrev pub puts_store : Access → Writing → Writing → Writing
+puts_store access.Word w behind = puts AssignAt (puts (Dyadic d.Add) behind)
+puts_store access.Byte w behind = puts AssignByte behind
+puts_store access.Nothing w behind = w
+
+-- a value that was pushed serves the aim
+abbrev pub aimed : Aim → Writing → Writing
+aimed aim.Value w = w
+aimed (aim.Jump t l) w = puts (JumpIf t l) w
+
+-- a table
+abbrev pub puts_table : Expressions → Writing → Writing
+puts_table es w =
+    puts (Address (Static w.next)) (adds_data (DataLabel w.next ∷ map (λ x. DataNumber (signed x)) (constants_of es w.left).part)
+    (with_left (constants_of es w.left).left (takes_labels 1 w)))
+
+-- the items of STATIC, with a word and a meaning each
+abbrev pub puts_item : Writing → Writing
+puts_item w =
+    adds_targets (target_of_word w.next (meaning (constant w.left).left).part)
+    (adds_data (DataLabel w.next ∷ DataNumber (signed (constant w.left).part) ∷ []) (takes_labels 1 (past_meaning (past_word w))))
+
+abbrev pub puts_items : Items → Writing → Writing
+puts_items no_items w = w
+puts_items (item l x e is) w = puts_items is (puts_item w)
+
+-- items and a step that leave nothing
+abbrev pub past_items : Items → Writing → Writing
+past_items is w = with_left (dropped is w.left).left w
+
+abbrev pub past_step : Expressions → Writing → Writing
+past_step h w = with_left (step_of h w.left).left w
+
+-- a command of one word
+abbrev pub simple_code : Around → ℕ → Simple → List Stmt
+simple_code a s w.Break = go a.leaves s
+simple_code a s w.Loop = go a.goes_on s
+simple_code a s w.EndCase = go a.ends_case s
+simple_code a s w.Return = Return ∷ []
+simple_code a s w.Finish = Finish ∷ []
+
+-- a label, a CASE, a DEFAULT before their commands
+abbrev pub puts_label : ℕ → Writing → Writing
+puts_label s w =
+    puts (Label w.next) (adds_targets (target_of_label w.next s (meaning w.left).part) (takes_labels 1 (past_meaning w)))
+
+abbrev pub puts_case : Writing → Writing
+puts_case w =
+    puts (Label w.next) (takes_labels 1 (with_choices (record { cases = w.choices.cases ++ (record { value = signed (constant w.left).part; label = w.next } ∷ []); default_label = w.choices.default_label }) (past_word w)))
+
+abbrev pub puts_default : Writing → Writing
+puts_default w =
+    puts (Label w.next) (takes_labels 1 (with_choices (record { cases = w.choices.cases; default_label = first_of w.choices.default_label (Some w.next) }) w))
+
+-- what stands between the values of a choice, and behind them
+abbrev pub begins_other : ℕ → ℕ → List Stmt
+begins_other n m = GiveResult m ∷ Label n ∷ []
+
+abbrev pub ends_choice : ℕ → ℕ → List Stmt
+ends_choice m s = GiveResult m ∷ Label m ∷ TakeResult s ∷ []
+
+-- what stands before the body of a FOR and behind it, with first label n and depth s
+abbrev pub before_body : ℕ → List Stmt
+before_body n = Store ∷ Jump n ∷ Label (after n 1) ∷ []
+
+abbrev pub steps_on : ℕ → ℕ → ℕ → List Stmt
+steps_on n s k = Label (after n 2) ∷ Load (Local s) ∷ Number (signed k) ∷ Dyadic d.Add ∷ Assign (Local s) ∷ []
+
+abbrev pub goes_on : ℕ → ℕ → ℕ → List Stmt
+goes_on n s k = Label n ∷ Load (Local s) ∷ Load (Local (after s 1)) ∷ test_of_step k ∷ JumpIf true (after n 1) ∷ Label (after n 3) ∷ Stack s ∷ []
+
+abbrev pub ends_for : ℕ → ℕ → ℕ → Writing → Writing
+ends_for n s k w = puts_all (goes_on n s k) (puts_all (steps_on n s k) w)
+
+-- a SWITCHON: its body was written aside with its choices, behind these statements, in these choices
+abbrev pub puts_switch : ℕ → List Stmt → Choices → Writing → Writing
+puts_switch n before around body =
+    record { code = before ++ Switch (label_or n body.choices.default_label) body.choices.cases ∷ body.code ++ Label n ∷ []; apart = body.apart; choices = around; left = body.left; next = body.next }
+
+-- what is written around a procedure
+pub record Outside : Type 0 where
+  pub code : List Stmt
+  pub procedures : List Stmt
+  pub choices : Choices
+
+abbrev pub outside_of : Writing → Outside
+outside_of w = record { code = w.code; procedures = w.apart.procedures; choices = w.choices }
+
+abbrev pub inside : Writing → Writing
+inside w = record { code = []; apart = record { procedures = []; data_words = w.apart.data_words; entries = w.apart.entries; targets = w.apart.targets }; choices = no_choices; left = w.left; next = w.next }
+
+-- a procedure is begun, and ended behind its body
+abbrev pub puts_entry : ℕ → Bound → Writing → Writing
+puts_entry l (b.Static m) w = adds_targets (record { number = m; label = after l 1; depth = 0 } ∷ []) (adds_data (DataLabel (after l 1) ∷ DataAddress l ∷ []) w)
+puts_entry l (b.Global (Some g)) w = adds_entries (record { number = g; label = l } ∷ []) w
+puts_entry l _ w = w
+
+abbrev pub begins_procedure : List ℕ → ℕ → Writing → Writing
+begins_procedure x formals w =
+    puts (Save (after 2 formals)) (puts (Entry w.next (first_bytes x)) (puts_entry w.next (meaning w.left).part
+    (takes_labels (labels_of_procedure (meaning w.left).part) (past_meaning (inside w)))))
+
+abbrev pub ends_procedure : Stmt → Outside → Writing → Writing
+ends_procedure return around body =
+    record {
+      code = around.code;
+      apart = record {
+        procedures = around.procedures ++ body.code ++ (return ∷ EndProcedure ∷ []) ++ body.apart.procedures;
+        data_words = body.apart.data_words;
+        entries = body.apart.entries;
+        targets = body.apart.targets;
+      };
+      choices = around.choices;
+      left = body.left;
+      next = body.next;
+    }
+
+-- whether a LET has variables
+abbrev pub any_variables : Definitions → Bool
+any_variables no_definitions = false
+any_variables (define (variables l xs is) ds) = true
+any_variables (define _ ds) = any_variables ds
+
+-- destinations that were written, and what is behind them
+pub record Stored : Type 0 where
+  pub codes : List (List Stmt)
+  pub writing : Writing
+
+-- declarations that were written, and the depth behind them
+pub record Reached : Type 0 where
+  pub depth : ℕ
+  pub writing : Writing
+
+abbrev pub reached : ℕ → Writing → Reached
+reached s w = record { depth = s; writing = w }
+
+abbrev mutual
+  pub written : List Goal → ℕ → Aim → Expression → Writing → Writing
+  written gs s a (name l x) w = aimed a (puts_name gs w)
+  written gs s a (number l n) w = aimed a (puts (Number (signed n)) w)
+  written gs s a (text l x) w = aimed a (puts (Text (first_bytes x)) w)
+  written gs s a (truth l t) w = aimed a (puts (truth_value t) w)
+  written gs s a (query l) w = aimed a (puts Query w)
+  written gs s a (parens l e) w = written gs s a e w
+  written gs s a (unary l q.Address e) w = aimed a (address_written gs s e w)
+  written gs s a (unary l q.Not e) w = puts_not a (written gs s (negated a) e w)
+  written gs s a (unary l f e) w = aimed a (puts_all (prefix_code f) (written gs s aim.Value e w))
+  written gs s a (binary l f m x y) w =
+      let t : Way = way_of f a w.next in
+      by_way t (aimed a (puts_all (infix_code f) (written gs (after s 1) aim.Value y (written gs s aim.Value x w))))
+      (ends_way t w.next (written gs s (second_aim t) y (written gs s (first_aim t) x (takes_labels 1 w))))
+  written gs s a (choice l m c x y) w =
+      let n : ℕ = w.next in
+      aimed a (puts_all (ends_choice (after n 1) s) (written gs s aim.Value y (puts_all (begins_other n (after n 1)) (written gs s aim.Value x (written gs s (aim.Jump false n) c (takes_labels 2 w))))))
+  written gs s a (apply l m e es) w =
+      let callee : Writing = written gs (after s (size es + 2)) aim.Value e (with_code [] w) in
+      aimed a (puts (CallFunction s) (puts_all callee.code (each_written gs (after s 2) es (puts (Stack (after s 2)) (with_code w.code callee)))))
+  written gs s a (valof l c) w =
+      let n : ℕ = w.next in
+      aimed a (puts (TakeResult s) (puts (Label n) (with_choices (takes_labels 1 w).choices (act_written gs (valued n) s c (with_choices no_choices (takes_labels 1 w))))))
+  written gs s a (table l es) w = aimed a (puts_table es w)
+
+  pub each_written : List Goal → ℕ → Expressions → Writing → Writing
+  each_written gs s none w = w
+  each_written gs s (more e es) w = each_written gs (after s 1) es (written gs s aim.Value e w)
+
+  pub address_written : List Goal → ℕ → Expression → Writing → Writing
+  address_written gs s (name l x) w = puts (Address (word_of gs (meaning w.left).part)) (past_meaning w)
+  address_written gs s (parens l e) w = address_written gs s e w
+  address_written gs s (unary l q.Contents e) w = written gs s aim.Value e w
+  address_written gs s (binary l f m x y) w =
+      puts_address (access_of f) w (written gs (after s 1) aim.Value y (written gs s aim.Value x w)) (written gs (after s 1) aim.Value y (written gs s aim.Value x (with_code [] w)))
+  address_written gs s _ w = w
+
+  pub store_written : List Goal → ℕ → Expression → Writing → Writing
+  store_written gs s (name l x) w = puts (Assign (word_of gs (meaning w.left).part)) (past_meaning w)
+  store_written gs s (parens l e) w = store_written gs s e w
+  store_written gs s (unary l q.Contents e) w = puts AssignAt (written gs s aim.Value e w)
+  store_written gs s (binary l f m x y) w = puts_store (access_of f) w (written gs (after s 1) aim.Value y (written gs s aim.Value x w))
+  store_written gs s _ w = w
+
+  -- each destination is written apart
+  pub stores_written : List Goal → ℕ → Expressions → Stored → Stored
+  stores_written gs s none r = r
+  stores_written gs s (more e es) r =
+      let one : Writing = store_written gs s e (with_code [] r.writing) in
+      stores_written gs s es (record { codes = r.codes ++ one.code ∷ []; writing = with_code r.writing.code one })
+
+  -- values, and behind each its destination; where there is none, the value is left out
+  pub values_written : List Goal → ℕ → Expressions → List (List Stmt) → Writing → Writing
+  values_written gs s none codes w = w
+  values_written gs s (more e es) [] w = values_written gs s es [] (with_code w.code (written gs s aim.Value e (with_code [] w)))
+  values_written gs s (more e es) (c ∷ cs) w = values_written gs s es cs (puts_all c (written gs s aim.Value e w))
+
+  pub act_written : List Goal → Around → ℕ → Action → Writing → Writing
+  act_written gs a s empty w = w
+  act_written gs a s (assign l xs es) w =
+      let r : Stored = stores_written gs (after s 1) xs (record { codes = []; writing = w }) in
+      values_written gs s es r.codes r.writing
+  act_written gs a s (call l e es) w =
+      let callee : Writing = written gs (after s (size es + 2)) aim.Value e (with_code [] w) in
+      puts (CallRoutine s) (puts_all callee.code (each_written gs (after s 2) es (puts (Stack (after s 2)) (with_code w.code callee))))
+  act_written gs a s (goto l x) w = puts_all (go (place_in gs (meaning w.left).part) s) (past_meaning w)
+  act_written gs a s (label l x c) w = act_written gs a s c (puts_label s w)
+  act_written gs a s (case_of l e c) w = act_written gs a s c (puts_case w)
+  act_written gs a s (default l c) w = act_written gs a s c (puts_default w)
+  act_written gs a s (when l t e c) w =
+      let n : ℕ = w.next in
+      puts (Label n) (act_written gs a s c (written gs s (aim.Jump (not t) n) e (takes_labels 1 w)))
+  act_written gs a s (test l e c x) w =
+      let n : ℕ = w.next in
+      puts (Label (after n 1)) (act_written gs a s x (puts (Label n) (puts (Jump (after n 1)) (act_written gs a s c (written gs s (aim.Jump false n) e (takes_labels 2 w))))))
+  act_written gs a s (while l t e c) w =
+      let n : ℕ = w.next in
+      let tested : Writing = written gs s (aim.Jump t (after n 1)) e (with_code [] (takes_labels 3 w)) in
+      puts (Label (after n 2)) (puts_all tested.code (puts (Label n) (act_written gs (looping n (after n 2) s a) s c (puts (Label (after n 1)) (puts (Jump n) (with_code w.code tested))))))
+  act_written gs a s (for_loop l x e f h c) w =
+      let n : ℕ = w.next in
+      let ranged : Writing = written gs (after s 1) aim.Value f (written gs s aim.Value e (takes_labels 4 w)) in
+      let begun : Writing = puts_all (before_body n) (past_step h ranged) in
+      ends_for n s (step_of h ranged.left).part (with_choices begun.choices (act_written gs (looping (after n 2) (after n 3) (after s 2) a) (after s 2) c (with_choices no_choices begun)))
+  act_written gs a s (switch l e c) w =
+      let n : ℕ = w.next in
+      let valued : Writing = written gs s aim.Value e (takes_labels 1 w) in
+      puts_switch n valued.code valued.choices (act_written gs (switching n s a) s c (with_choices no_choices (with_code [] valued)))
+  act_written gs a s (result l e) w = puts (GiveResult a.valof) (written gs s aim.Value e w)
+  act_written gs a s (simple l x) w = puts_all (simple_code a s x) w
+  act_written gs a s (block l no_declarations cs) w = each_act_written gs a s cs w
+  act_written gs a s (block l (declare d ds) cs) w =
+      let r : Reached = declared gs (declare d ds) (reached s w) in
+      puts (Stack s) (with_choices r.writing.choices (each_act_written gs a r.depth cs (with_choices no_choices r.writing)))
+  act_written gs a s (repeat l c) w =
+      let n : ℕ = w.next in
+      puts (Label (after n 1)) (puts (Jump n) (act_written gs (looping n (after n 1) s a) s c (puts (Label n) (takes_labels 2 w))))
+  act_written gs a s (repeat_while l t c e) w =
+      let n : ℕ = w.next in
+      puts (Label (after n 2)) (written gs s (aim.Jump t n) e (puts (Label (after n 1)) (act_written gs (looping (after n 1) (after n 2) s a) s c (puts (Label n) (takes_labels 3 w)))))
+
+  pub each_act_written : List Goal → Around → ℕ → Actions → Writing → Writing
+  each_act_written gs a s no_actions w = w
+  each_act_written gs a s (also c cs) w = each_act_written gs a s cs (act_written gs a s c w)
+
+  pub declared : List Goal → Declarations → Reached → Reached
+  declared gs no_declarations r = r
+  declared gs (declare d ds) r = declared gs ds (one_declared gs d r)
+
+  pub one_declared : List Goal → Declaration → Reached → Reached
+  one_declared gs (constants l sort.Static is) r = reached r.depth (puts_items is r.writing)
+  one_declared gs (constants l o is) r = reached r.depth (past_items is r.writing)
+  one_declared gs (definitions l ds) r =
+      let t : Reached = defined gs ds r in
+      reached t.depth (cond (any_variables ds) (puts Store t.writing) t.writing)
+
+  pub defined : List Goal → Definitions → Reached → Reached
+  defined gs no_definitions r = r
+  defined gs (define d ds) r = defined gs ds (one_defined gs d r)
+
+  pub one_defined : List Goal → Definition → Reached → Reached
+  one_defined gs (routine l x fs c) r = reached r.depth (ends_procedure Return (outside_of r.writing) (act_written gs outermost (after 2 (length fs)) c (begins_procedure x (length fs) r.writing)))
+  one_defined gs (function l x fs e) r = reached r.depth (ends_procedure ReturnItem (outside_of r.writing) (written gs (after 2 (length fs)) aim.Value e (begins_procedure x (length fs) r.writing)))
+  one_defined gs (variables l xs is) r = started gs is r
+
+  pub started : List Goal → Starts → Reached → Reached
+  started gs no_starts r = r
+  started gs (value e is) r = started gs is (reached (after r.depth 1) (written gs r.depth aim.Value e r.writing))
+  started gs (vector l e is) r =
+      let k : ℕ = (constant r.writing.left).part in
+      started gs is (reached (after r.depth (k + 2)) (puts_all (Stack (after r.depth (k + 1)) ∷ Address (Local r.depth) ∷ []) (past_word r.writing)))
+
+-- a command and commands whose choices are their own
+abbrev pub acted_apart : List Goal → Around → ℕ → Action → Writing → Writing
+acted_apart gs a s c w = with_choices w.choices (act_written gs a s c (with_choices no_choices w))
+
+abbrev pub each_acted_apart : List Goal → Around → ℕ → Actions → Writing → Writing
+each_acted_apart gs a s cs w = with_choices w.choices (each_act_written gs a s cs (with_choices no_choices w))
+
+-- a section: what is written of it from nothing on, where its declarations went to these places, and its statements
+abbrev pub starting : Supply → Writing
+starting g = record { code = []; apart = record { procedures = []; data_words = []; entries = []; targets = [] }; choices = no_choices; left = g; next = 1 }
+
+abbrev pub section_written : List Goal → Declarations → Supply → Writing
+section_written gs ds g = (declared gs ds (reached 2 (starting g))).writing
+
+abbrev pub ending : Writing → List Stmt
+ending w = w.apart.procedures ++ w.apart.data_words ++ Globals w.apart.entries ∷ []
+
+-- the places of all numbers, where these declarations went
+abbrev pub PlacesOf : List Goal → List Target → Type 0
+PlacesOf gs ts = (m : ℕ) → place_of gs m ≡ goal_of ts m
+
+-- the statements of a section, where the places are those that are found by writing it once without any
+pub record AreWritten (ds : Declarations) (g : Supply) (stmts : List Stmt) : Type 0 where
+  pub goals : List Goal
+  pub places : PlacesOf goals (section_written [] ds g).apart.targets
+  pub are : stmts ≡ ending (section_written goals ds g)

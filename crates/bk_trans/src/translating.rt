@@ -1,0 +1,100 @@
+//! The statements of a section.
+ghost use Rattle.std.specs.Prelude.{◌≡◌, [], IfOk};
+ghost use Rattle.bk_syntax.specs.Tree.{declarations_in};
+ghost use Rattle.bk_trans.specs.Alike.{in_words};
+ghost use Rattle.bk_trans.specs.Naming.{named_tree};
+ghost use Rattle.bk_ocode.specs.StmtRange.{AreTyped};
+ghost use Rattle.bk_syntax.specs.Parsing.{declarations_of};
+ghost use Rattle.bk_trans.specs.Scheme.{scheme};
+ghost use Rattle.bk_trans.specs.Writing.{AreWritten, starting, section_written, ending};
+
+use crate::around::Goal;
+use crate::fitting::stmts_fit;
+use crate::given::Given;
+use crate::nodes::declare_each;
+use crate::places::places_of;
+use crate::writer::Writing;
+use bk_ocode::{GlobalList, Stmt};
+use bk_scope::{Bound, Resolved};
+use bk_syntax::tree::Decl;
+use std::alloc::{AllocError, Global};
+
+impl<'a> Writing<'a> {
+    /// Nothing yet.
+    pub fn new(alloc: Global, left: Given<'a>) -> Writing<'a>
+        ensures { result ≡ starting left.entry }
+    {
+        Writing {
+            alloc,
+            code: Vec::new(alloc),
+            procedures: Vec::new(alloc),
+            data_words: Vec::new(alloc),
+            entries: Vec::new(alloc),
+            targets: Vec::new(alloc),
+            cases: Vec::new(alloc),
+            default_label: None,
+            left,
+            next: 1,
+        }
+    }
+
+    /// The statements of a section that was written.
+    fn end(self) -> Result<Vec<Stmt>, AllocError>
+        ensures { IfOk result (λ stmts. stmts.items ≡ ending self.entry) }
+    {
+        let Writing {
+            mut procedures,
+            mut data_words,
+            entries,
+            ..
+        } = self;
+        procedures.append(&mut data_words)?;
+        procedures.push(Stmt::Globals {
+            entries: GlobalList::new(entries),
+        })?;
+        Ok(procedures)
+    }
+}
+
+/// What is written of a section, where its declarations went to these places.
+fn write_section<'a>(
+    alloc: Global,
+    goals: &[Goal],
+    decls: &[Decl],
+    meanings: &'a [Bound],
+    words: &'a [u32],
+) -> Result<Writing<'a>, AllocError>
+    ensures { IfOk result (λ out. out ≡ section_written goals.now (declarations_in decls.now) (record { meanings = meanings.now; words = words.now })) }
+{
+    let mut out = Writing::new(alloc, Given::new(meanings, words));
+    let _depth = declare_each(&mut out, goals, 2, decls)?;
+    Ok(out)
+}
+
+/// Writes a section twice: first to find where its declarations go, and then with these places.
+fn write_twice(
+    alloc: Global,
+    decls: &[Decl],
+    meanings: &[Bound],
+    words: &[u32],
+) -> Result<Vec<Stmt>, AllocError>
+    ensures { IfOk result (λ stmts. AreWritten (declarations_in decls.now) (record { meanings = meanings.now; words = words.now }) stmts.items) }
+{
+    let found = write_section(alloc, &[], decls, meanings, words)?;
+    let goals = places_of(alloc, &found.targets)?;
+    drop(found);
+    write_section(alloc, &goals, decls, meanings, words)?.end()
+}
+
+/// The statements of a section: those of the scheme, where labels, slots and depths are words.
+pub fn statements_of(alloc: Global, resolved: &Resolved<'_>) -> Result<Vec<Stmt>, AllocError>
+    ensures scheme { IfOk result (λ stmts. stmts.items ≡ in_words (scheme (named_tree (declarations_of resolved.now.section.now)))) }
+    // Numbers and bytes are those of their types.
+    ensures typed { IfOk result (λ stmts. AreTyped stmts.items) }
+{
+    resolved.is_known();
+    let decls = resolved.section().decls();
+    let stmts = write_twice(alloc, decls, resolved.meanings(), resolved.words())?;
+    stmts_fit(&stmts);
+    Ok(stmts)
+}
