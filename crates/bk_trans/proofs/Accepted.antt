@@ -1,5 +1,5 @@
 -- The scheme's statements of a section without faults are an accepted section.
-use Rattle.std.proofs.Common.{arith, ◌≡◌, ℕ, suc, ◌+◌, ◌≤◌, List, [], ◌∷◌, ◌++◌, length, refl, sym, ap, subst}
+use Rattle.std.proofs.Common.{arith, ◌≡◌, ℕ, suc, ◌+◌, ◌≤◌, List, [], ◌∷◌, ◌++◌, length, refl, ap, subst}
 use Rattle.bk_base.specs.declared.limit.TheConstants.{OCODE_LABEL, OCODE_STATEMENTS, OCODE_WORDS}
 use Rattle.bk_syntax.specs.Tree.{Declarations}
 use Rattle.bk_scope.specs.Points.{Point, meaning, word, depth, wrong, claim, words_of}
@@ -19,11 +19,6 @@ use Rattle.bk_trans.specs.Labels.{labels_of_declarations}
 use Rattle.bk_trans.specs.Parts.{Part, parts_of_declarations, target_of}
 use Rattle.bk_trans.specs.Naming.{named_tree}
 use Rattle.bk_trans.specs.Scheme.{scheme}
-use Rattle.bk_ocode.specs.declared.stmt.Stmt.{Stmt}
-use Rattle.bk_syntax.specs.Limits.{Within}
-use Rattle.bk_scope.specs.Faults.{faults}
-use Rattle.bk_trans.specs.Alike.{in_words}
-use Rattle.bk_trans.proofs.Ranges.{in_range_is}
 use Rattle.bk_trans.specs.Laws.{AreWords, SchemeIsAccepted}
 use Rattle.bk_trans.proofs.Named.{filling_names}
 use Rattle.bk_trans.proofs.Few.{labels_are_few}
@@ -81,9 +76,3 @@ scheme_is_accepted ds none within are =
     (subst (λ (xs : p.Declarations). 1 + labels_of_declarations xs ≤ OCODE_LABEL) same (labels_are_few ds (meanings ds) (words ds) within))
     (subst (λ (xs : p.Declarations). length (scheme xs) ≤ OCODE_STATEMENTS) same (statements_are_few ds (meanings ds) (words ds) within))
     (subst (λ (xs : p.Declarations). text_size (scheme xs) ≤ OCODE_WORDS) same (words_are_few ds (meanings ds) (words ds) within))
-
--- its numbers are words, so the statements that are written are these
-pub written_is_accepted : (ds : Declarations) → faults ds ≡ [] → Within ds → AreWords (words ds) → IsSection (in_words (scheme (named_tree ds)))
-written_is_accepted ds none within are =
-    let section = scheme_is_accepted ds none within are in
-    subst (λ (ss : List Stmt). IsSection ss) (sym (in_range_is (scheme (named_tree ds)) section.are_faultless.in_range)) section

@@ -1,3 +1,10 @@
+mod Blocks
+mod Adds
+mod Additions
+mod Ties
+mod WholeSections
+mod FittingLemmas
+mod Ranges
 mod Rows
 mod FormRows
 mod Few
@@ -5,13 +12,6 @@ mod Once
 mod Named
 mod Counted
 mod Worded
-mod Blocks
-mod PlaceLists
-mod Adds
-mod Ties
-mod WholeSections
-mod FittingLemmas
-mod Ranges
 mod Marks
 mod Good
 mod Steps

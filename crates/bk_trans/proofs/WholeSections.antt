@@ -6,21 +6,27 @@ use Rattle.bk_scope.specs.Faults.{meanings, words}
 use Rattle.bk_scope.specs.Known.{Known}
 use Rattle.bk_ocode.specs.declared.stmt.Stmt.{Stmt}
 use Rattle.bk_ocode.specs.declared.stmt.Stmt.TheVariants.{Globals}
+use Rattle.bk_syntax.specs.Limits.{Within}
+use Rattle.bk_ocode.specs.Section.{IsSection}
 use Rattle.bk_ocode.specs.Lists.{joined}
 use Rattle.bk_trans.specs.declared.around.Goal.{Goal}
 use Rattle.bk_trans.specs.declared.around.Target.{Target}
 use Rattle.bk_trans.specs.Alike.{word, target_in_words, stmt_in_words, in_words}
 use Rattle.bk_trans.specs.Filling as f
-use Rattle.bk_trans.specs.Filling.{Supply}
+use Rattle.bk_trans.specs.Filling.{Supply, program_of}
 use Rattle.bk_trans.specs.Fitting.{AllFit}
+use Rattle.bk_trans.specs.Laws.{AreWords}
 use Rattle.bk_trans.specs.Naming.{named_tree}
 use Rattle.bk_trans.specs.Parts.{Part, target_of, parts_of_declarations}
 use Rattle.bk_trans.specs.Scheme.{goal, goal_of, entries_of, scheme}
 use Rattle.bk_trans.specs.Writing.{reached, starting, section_written, AreWritten}
 use Rattle.bk_trans.proofs.Adds.{near, Alike, alike_both}
 use Rattle.bk_trans.proofs.FittingLemmas.{all_are}
+use Rattle.bk_trans.proofs.Accepted.{scheme_is_accepted}
+use Rattle.bk_trans.proofs.Ranges.{in_range_is}
 use Rattle.bk_trans.proofs.Named.{filling_names}
-use Rattle.bk_trans.proofs.Ties.{NearGoal, Placed, all_declared}
+use Rattle.bk_trans.proofs.Additions.{NearGoal, Placed}
+use Rattle.bk_trans.proofs.Ties.{all_declared}
 
 -- places of declarations that are the same in words
 one_near : (c : Bool) (x y u v : Goal) → NearGoal x y → NearGoal u v → NearGoal (cond c x u) (cond c y v)
@@ -71,3 +77,11 @@ written_is_alike ds ms ws stmts k w =
 pub written_is : (ds : Declarations) (ms : List Bound) (ws : List ℕ) (stmts : List Stmt) → Known ds ms ws → AreWritten ds (record { meanings = ms; words = ws }) stmts → AllFit stmts
     → stmts ≡ in_words (scheme (named_tree ds))
 written_is ds ms ws stmts k w h = sym (all_are stmts h) ∙ written_is_alike ds ms ws stmts k w
+
+-- the statements of the scheme are a section
+pub accepted : (ds : Declarations) (ms : List Bound) (ws : List ℕ) → Known ds ms ws → Within ds → AreWords ws → IsSection (scheme (named_tree ds))
+accepted ds ms ws k within h = scheme_is_accepted ds k.faultless within (rw (← k.words_are) h)
+
+-- the statements of a section that are the same in words are the same
+pub exact : (ss stmts : List Stmt) → IsSection ss → stmts ≡ in_words ss → stmts ≡ ss
+exact ss stmts s is = is ∙ in_range_is ss s.are_faultless.in_range

@@ -3,6 +3,7 @@
 ghost use Rattle.std.specs.Prelude.{◌≡◌};
 ghost use Rattle.bk_ocode.specs.StmtRange.{AreBytes};
 ghost use Rattle.bk_trans.specs.Alike.{word, variable_in_words};
+ghost use Rattle.bk_trans.specs.Laws.{AreWords};
 ghost use Rattle.bk_trans.specs.Fitting.{CaseFits, CasesFit, EntriesFit, Fits, AllFit};
 
 use bk_ocode::{ByteString, Case, GlobalEntry, Stmt, Variable};
@@ -11,6 +12,11 @@ use bk_ocode::{ByteString, Case, GlobalEntry, Stmt, Variable};
 #[tactic(auto, using(crate::proofs::FittingLemmas::word_is))]
 fn number_fits(number: u32)
     ensures { word number ≡ number }
+{}
+
+/// Words of constants.
+pub fn words_fit(words: &[u32])
+    ensures { AreWords words.now }
 {}
 
 /// A variable.

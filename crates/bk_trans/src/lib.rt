@@ -23,4 +23,4 @@ pub use laws::{
     filling_names, labels_are_few, labels_are_set_once, scheme_is_accepted, statements_are_few,
     words_are_few,
 };
-pub use translating::statements_of;
+pub use translating::translate;

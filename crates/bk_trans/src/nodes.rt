@@ -7,7 +7,7 @@ use crate::aim::Aim;
 use crate::around::{Around, Goal};
 use crate::codes::Codes;
 use crate::short::first_bytes;
-use crate::statements::{after, place_in, test_of_step, truth_value, word_of};
+use crate::statements::{after, place_in, truth_value, word_of};
 use crate::way::{Access, Way, access_by, way_through};
 use crate::writer::Writing;
 use bk_ocode::{Dyadic, Stmt, Variable};

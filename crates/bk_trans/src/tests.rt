@@ -1,38 +1,43 @@
-//! Sections from bytes on: their statements, word for word, and each form once.
-use crate::statements_of;
-use bk_base::{Line, Reader512, Refused, SourceFault};
+//! Sections from bytes on: the text of their translation, word for word.
+use crate::translate;
+use bk_base::{ByteOut, Line, Refused, SourceFault, Writer512};
 use bk_lex::lex;
-use bk_ocode::{Stmt, read_section};
+use bk_ocode::{Ocode, print};
 use bk_scope::resolve;
 use bk_syntax::parse;
 use std::alloc::Global;
 use std::test::Fail;
 
-/// The statements of a text's first section.
-fn translated(alloc: Global, text: &[u8]) -> Result<Vec<Stmt>, Refused<SourceFault>> {
+/// The translation of a text's first section.
+fn translated(alloc: Global, text: &[u8]) -> Result<Ocode, Refused<SourceFault>> {
     let lexed = lex(alloc, text, Line::first())?;
     let section = parse(alloc, lexed.tokens.as_slice(), lexed.line)?;
     let resolved = resolve(alloc, &section)?;
-    Ok(statements_of(alloc, &resolved)?)
+    Ok(translate(alloc, &resolved)?)
 }
 
-/// Whether a text's first section has just the statements of this OCODE.
+/// Whether the text of the translation is this one, with a blank for the end of each line.
 fn gives(rt: &HostRuntime, text: &[u8], ocode: &[u8]) -> Result<bool, Fail> {
-    let Ok(stmts) = translated(rt.alloc(), text) else {
+    let Ok(section) = translated(rt.alloc(), text) else {
         return Ok(false);
     };
-    let mut input = Reader512::new(ocode);
-    let Ok(Some(expected)) = read_section(rt.alloc(), &mut input) else {
+    let mut printed = Vec::new(rt.alloc());
+    let mut output = Writer512::new(&mut printed);
+    if print(&section, &mut output).is_err() || output.flush().is_err() {
         return Ok(false);
-    };
-    let written = format!(in rt.alloc(); "{:?}", stmts.as_slice())?;
-    let read = format!(in rt.alloc(); "{:?}", expected.stmts())?;
-    Ok(written == read)
+    }
+    drop(output);
+    for byte in &mut printed {
+        if *byte == b'\n' {
+            *byte = b' ';
+        }
+    }
+    Ok(printed.strip_suffix(b" ") == Some(ocode))
 }
 
 #[test]
 fn is_translated(rt: HostRuntime) -> Result<(), Fail> {
-    let rows: [(&[u8], &[u8]); 8] = [
+    let rows: [(&[u8], &[u8]); 14] = [
         // the least program
         (
             b"GLOBAL $( START:1 $) LET START() BE FINISH",
@@ -72,6 +77,36 @@ fn is_translated(rt: HostRuntime) -> Result<(), Fail> {
         (
             b"STATIC $( S = 5 $)\nLET F() = VALOF $( LET G(X) = X + S; RESULTIS G(1)!(TABLE 7, 8) $)",
             b"ENTRY L2 1 70 SAVE 2 STACK 4 LN 1 LL L6 FNAP 2 LLL L7 PLUS RV RES L4 STACK 2 LAB L4 RSTACK 2 FNRN ENDPROC ENTRY L5 1 71 SAVE 3 LP 2 LL L1 PLUS FNRN ENDPROC DATALAB L1 ITEMN 5 DATALAB L3 ITEML L2 DATALAB L6 ITEML L5 DATALAB L7 ITEMN 7 ITEMN 8 GLOBAL 0",
+        ),
+        // GOTO into a loop
+        (
+            b"GET \"LIBHDR\"\nLET START() BE\n$( LET I = 0\n   GOTO M\n   WHILE I < 3 DO\n   $( WRCH('A')\n   M: WRCH('B')\n      I := I + 1\n   $)\n   WRCH('C')\n$)",
+            b"ENTRY L1 5 83 84 65 82 84 SAVE 2 LN 0 STORE STACK 3 JUMP L5 STACK 3 JUMP L2 LAB L3 STACK 5 LN 65 LG 4 RTAP 3 LAB L5 STACK 5 LN 66 LG 4 RTAP 3 LP 2 LN 1 PLUS SP 2 LAB L2 LP 2 LN 3 LS JT L3 LAB L4 STACK 5 LN 67 LG 4 RTAP 3 STACK 2 RTRN ENDPROC GLOBAL 1 1 L1",
+        ),
+        // a switch
+        (
+            b"GET \"LIBHDR\"\nLET START() BE FOR I = 1 TO 4 DO\n$( SWITCHON I INTO\n   $( CASE 1: WRCH('A')\n      CASE 2: WRCH('B'); ENDCASE\n      CASE 4: WRCH('D')\n   $)\n   WRCH('.')\n$)",
+            b"ENTRY L1 5 83 84 65 82 84 SAVE 2 LN 1 LN 4 STORE JUMP L2 LAB L3 LP 2 SWITCHON 3 L6 1 L7 2 L8 4 L9 LAB L7 STACK 6 LN 65 LG 4 RTAP 4 LAB L8 STACK 6 LN 66 LG 4 RTAP 4 STACK 4 JUMP L6 STACK 4 LAB L9 STACK 6 LN 68 LG 4 RTAP 4 LAB L6 STACK 6 LN 46 LG 4 RTAP 4 LAB L4 LP 2 LN 1 PLUS SP 2 LAB L2 LP 2 LP 3 LE JT L3 LAB L5 STACK 2 RTRN ENDPROC GLOBAL 1 1 L1",
+        ),
+        // a DEFAULT before its CASEs
+        (
+            b"LET F(A) BE SWITCHON A INTO $( DEFAULT: F(1); ENDCASE; CASE -1: CASE 2: FINISH $)",
+            b"ENTRY L1 1 70 SAVE 3 LP 2 SWITCHON 2 L4 -1 L5 2 L6 LAB L4 STACK 5 LN 1 LL L2 RTAP 3 STACK 3 JUMP L3 STACK 3 LAB L5 LAB L6 FINISH LAB L3 RTRN ENDPROC DATALAB L2 ITEML L1 GLOBAL 0",
+        ),
+        // LOOP goes to the test, BREAK behind it
+        (
+            b"LET F(A) BE $( A := A + 1; IF A = 3 LOOP; IF A > 9 BREAK $) REPEATWHILE A < 7",
+            b"ENTRY L1 1 70 SAVE 3 LAB L3 LP 2 LN 1 PLUS SP 2 LP 2 LN 3 EQ JF L6 STACK 3 JUMP L4 STACK 3 LAB L6 LP 2 LN 9 GR JF L7 STACK 3 JUMP L5 STACK 3 LAB L7 LAB L4 LP 2 LN 7 LS JT L3 LAB L5 RTRN ENDPROC DATALAB L2 ITEML L1 GLOBAL 0",
+        ),
+        // a vector lies below its address
+        (
+            b"MANIFEST $( N = 2 $) LET F(A) BE $( LET V, B = VEC N, A; TEST A DO V!0 := B OR UNLESS B DO RETURN $)",
+            b"ENTRY L1 1 70 SAVE 3 STACK 6 LLP 3 LP 2 STORE LP 2 JF L3 LP 7 LP 6 LN 0 PLUS STIND JUMP L4 LAB L3 LP 7 JT L5 RTRN LAB L5 LAB L4 STACK 3 RTRN ENDPROC DATALAB L2 ITEML L1 GLOBAL 0",
+        ),
+        // truth goes on into the operands of NOT, | and &
+        (
+            b"LET F(A,B) BE IF NOT (A | B & A) DO FINISH",
+            b"ENTRY L1 1 70 SAVE 4 LP 2 JT L3 LP 3 JF L5 LP 2 JT L3 LAB L5 FINISH LAB L3 RTRN ENDPROC DATALAB L2 ITEML L1 GLOBAL 0",
         ),
     ];
     for (text, ocode) in rows {

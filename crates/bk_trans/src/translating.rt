@@ -4,17 +4,19 @@ ghost use Rattle.bk_syntax.specs.Tree.{declarations_in};
 ghost use Rattle.bk_trans.specs.Alike.{in_words};
 ghost use Rattle.bk_trans.specs.Naming.{named_tree};
 ghost use Rattle.bk_ocode.specs.StmtRange.{AreTyped};
+ghost use Rattle.bk_ocode.specs.Section.{IsSection};
+ghost use Rattle.bk_ocode.specs.SectionStmts.{stmts_of};
 ghost use Rattle.bk_syntax.specs.Parsing.{declarations_of};
 ghost use Rattle.bk_trans.specs.Scheme.{scheme};
 ghost use Rattle.bk_trans.specs.Writing.{AreWritten, starting, section_written, ending};
 
 use crate::around::Goal;
-use crate::fitting::stmts_fit;
+use crate::fitting::{stmts_fit, words_fit};
 use crate::given::Given;
 use crate::nodes::declare_each;
 use crate::places::places_of;
 use crate::writer::Writing;
-use bk_ocode::{GlobalList, Stmt};
+use bk_ocode::{GlobalList, Ocode, Stmt};
 use bk_scope::{Bound, Resolved};
 use bk_syntax::tree::Decl;
 use std::alloc::{AllocError, Global};
@@ -87,7 +89,7 @@ fn write_twice(
 }
 
 /// The statements of a section: those of the scheme, where labels, slots and depths are words.
-pub fn statements_of(alloc: Global, resolved: &Resolved<'_>) -> Result<Vec<Stmt>, AllocError>
+fn statements_of(alloc: Global, resolved: &Resolved<'_>) -> Result<Vec<Stmt>, AllocError>
     ensures scheme { IfOk result (λ stmts. stmts.items ≡ in_words (scheme (named_tree (declarations_of resolved.now.section.now)))) }
     // Numbers and bytes are those of their types.
     ensures typed { IfOk result (λ stmts. AreTyped stmts.items) }
@@ -97,4 +99,23 @@ pub fn statements_of(alloc: Global, resolved: &Resolved<'_>) -> Result<Vec<Stmt>
     let stmts = write_twice(alloc, decls, resolved.meanings(), resolved.words())?;
     stmts_fit(&stmts);
     Ok(stmts)
+}
+
+/// That the statements of the scheme are a section. Nothing is done.
+fn is_accepted(resolved: &Resolved<'_>)
+    ensures { IsSection (scheme (named_tree (declarations_of resolved.now.section.now))) }
+{
+    resolved.is_known();
+    words_fit(resolved.words());
+    let _decls = resolved.section().decls();
+}
+
+/// The section of OCODE that a resolved section is translated to. It fails only where memory is refused.
+pub fn translate(alloc: Global, resolved: &Resolved<'_>) -> Result<Ocode, AllocError>
+    // Its statements are those of the scheme.
+    ensures { IfOk result (λ ocode. stmts_of ocode ≡ scheme (named_tree (declarations_of resolved.now.section.now))) }
+{
+    is_accepted(resolved);
+    let stmts = statements_of(alloc, resolved)?;
+    Ok(Ocode::new(stmts))
 }
