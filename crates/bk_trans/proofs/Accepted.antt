@@ -23,7 +23,7 @@ use Rattle.bk_trans.specs.Laws.{AreWords, SchemeIsAccepted}
 use Rattle.bk_trans.proofs.Named.{filling_names}
 use Rattle.bk_trans.proofs.Few.{labels_are_few}
 use Rattle.bk_trans.proofs.Counted.{statements_are_few}
-use Rattle.bk_trans.proofs.Worded.{words_are_few}
+use Rattle.bk_trans.proofs.Words.{words_are_few}
 use Rattle.bk_trans.proofs.Once.{labels_are_set_once}
 use Rattle.bk_trans.proofs.Marks.{Mark, AllRight, right_front, right_back}
 use Rattle.bk_trans.proofs.Sections.{part_marks, look, look_right, look_set, section_marked, section_typed}

@@ -11,7 +11,6 @@ mod Few
 mod Once
 mod Named
 mod Counted
-mod Worded
 mod Marks
 mod Good
 mod Steps
@@ -24,4 +23,5 @@ mod Told
 mod Bodies
 mod Nested
 mod Numbered
+mod Words
 mod Accepted

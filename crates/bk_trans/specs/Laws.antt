@@ -27,14 +27,13 @@ LabelsAreFew = (ds : Declarations) (meanings : List Bound) (words : List ℕ) �
 abbrev pub StatementsAreFew : Type 0
 StatementsAreFew = (ds : Declarations) (meanings : List Bound) (words : List ℕ) → Within ds → length (scheme (program_of ds meanings words)) ≤ OCODE_STATEMENTS
 
--- THE WORDS OF A SECTION ARE FEW: a node gives three hundred at most, so the text of a section within the limits is within its limit
--- of words.
-abbrev pub WordsAreFew : Type 0
-WordsAreFew = (ds : Declarations) (meanings : List Bound) (words : List ℕ) → Within ds → text_size (scheme (program_of ds meanings words)) ≤ OCODE_WORDS
-
 -- NO LABEL IS SET TWICE in the statements of a section, and those that are set are among its own, from 1 on.
 abbrev pub LabelsAreSetOnce : Type 0
 LabelsAreSetOnce = (ds : p.Declarations) (l : ℕ) → (times_set l (scheme ds) ≤ 1) × (1 ≤ times_set l (scheme ds) → (1 ≤ l) × (l ≤ labels_of_declarations ds))
+
+-- THE WORDS OF A SECTION'S TEXT ARE FEW: a node gives 300 at most, so those of a section within the limits are within theirs.
+abbrev pub WordsAreFew : Type 0
+WordsAreFew = (ds : Declarations) (meanings : List Bound) (words : List ℕ) → Within ds → text_size (scheme (program_of ds meanings words)) ≤ OCODE_WORDS
 
 -- constants are words, as their type has it
 abbrev pub AreWords : List ℕ → Type 0

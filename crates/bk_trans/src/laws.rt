@@ -17,14 +17,14 @@ pub fn statements_are_few()
     ensures { StatementsAreFew }
 {}
 
-/// The words of the text of a section within the limits of trees are within theirs.
-pub fn words_are_few()
-    ensures { WordsAreFew }
-{}
-
 /// No label is set twice in the statements of a section, and those that are set are its own.
 pub fn labels_are_set_once()
     ensures { LabelsAreSetOnce }
+{}
+
+/// The words of the text of a section within the limits of trees are within their limit.
+pub fn words_are_few()
+    ensures { WordsAreFew }
 {}
 
 /// The statements of a section without faults that is within the limits of trees are an accepted section of OCODE.

@@ -1,4 +1,4 @@
-use Rattle.bk_gen.proofs.Disciplined.{back_end_holds}
+use Rattle.bk_gen.proofs.WholeBackEnd.{back_end_holds}
 use Rattle.bk_gen.proofs.laws.back_end.Goals as goal
 
 pub returns : goal.returns

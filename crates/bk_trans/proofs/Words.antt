@@ -1,8 +1,6 @@
--- The text of a section has few words: a node gives three hundred at most, in its own code, in what stands by itself behind it, and
--- in the list of cases or of globals in which it stands.
-use Rattle.std.proofs.Common.{arith, ◌≡◌, ◌≤◌, ℕ, pos, int_lt, ◌+◌, ◌*◌, Bool, true, false, not, cond, List, [], ◌∷◌, ◌++◌, length, map, refl, ap, length-append, Some, None}
-use Rattle.std.proofs.lemmas.List.{length-take}
-use Rattle.bk_base.specs.Strings.{first_bytes}
+-- The text of a section is short: a node gives 300 words at most, in its own code, in what stands by itself behind it, and in the list
+-- of the SWITCHON that a CASE belongs to.
+use Rattle.std.proofs.Common.{arith, ◌≡◌, ◌≤◌, ℕ, ◌+◌, ◌*◌, Bool, true, false, not, cond, List, [], ◌∷◌, ◌++◌, length, map, int_lt, pos, Some, None, refl, ap}
 use Rattle.bk_base.specs.Word.{signed}
 use Rattle.bk_syntax.specs.declared.tree.Operator.{Operator}
 use Rattle.bk_syntax.specs.declared.tree.Operator.TheVariants as o
@@ -16,11 +14,6 @@ use Rattle.bk_scope.specs.declared.bound.Bound.{Bound}
 use Rattle.bk_scope.specs.declared.bound.Bound.TheVariants as b
 use Rattle.bk_ocode.specs.declared.stmt.Stmt.{Stmt}
 use Rattle.bk_ocode.specs.declared.stmt.Stmt.TheVariants as t
-use Rattle.bk_ocode.specs.declared.stmt.Dyadic.TheVariants as d
-use Rattle.bk_ocode.specs.declared.stmt.Case.{Case}
-use Rattle.bk_ocode.specs.declared.stmt.GlobalEntry.{GlobalEntry}
-use Rattle.bk_ocode.specs.StmtText.{argument_words, byte_words, case_words, global_words}
-use Rattle.bk_ocode.specs.SectionData.{text_size}
 use Rattle.bk_ocode.specs.Lists.{joined}
 use Rattle.bk_trans.specs.declared.around.Around.{Around}
 use Rattle.bk_trans.specs.declared.around.Target.{Target}
@@ -29,8 +22,16 @@ use Rattle.bk_trans.specs.Filling.{Supply, term, terms, condition, lvalue, lvalu
 use Rattle.bk_trans.specs.Labels.{labels, labels_if, labels_at, labels_onto, labels_in, labels_of_procedure, labels_of_declaration, labels_of_declarations, labels_of_definition}
 use Rattle.bk_trans.specs.Depths.{count, behind_declaration, behind_declarations, behind_definition, has_variables}
 use Rattle.bk_trans.specs.Parts.{Part, parts_of_items, parts, parts_each, parts_if, parts_at, parts_onto, parts_from, parts_in, parts_through, parts_of_declarations, parts_of_declaration, parts_of_definitions, parts_of_definition, parts_of_starts, target_of}
-use Rattle.bk_trans.specs.Scheme.{push, truth_value, prefix_code, infix_code, by_turns, value_code, each_code, jump_code, address_code, store_code, value_codes, store_codes, command_code, through_code, declarations_code, declaration_code, definitions_code, definition_code, starts_code, procedure_code, word_code, data_code, entry_of, entries_of, cases, cases_through, scheme, outermost, valued, looping, switching}
+use Rattle.bk_trans.specs.Scheme.{prefix_code, infix_code, by_turns, value_code, each_code, jump_code, address_code, store_code, value_codes, store_codes, command_code, through_code, declarations_code, declaration_code, definitions_code, definition_code, starts_code, procedure_code, word_code, data_code, scheme, outermost, valued, looping, switching}
+use Rattle.bk_base.specs.Strings.{first_bytes}
+use Rattle.bk_ocode.specs.declared.stmt.Case.{Case}
+use Rattle.bk_ocode.specs.declared.stmt.Dyadic.TheVariants as two
+use Rattle.bk_ocode.specs.declared.stmt.GlobalEntry.{GlobalEntry}
+use Rattle.bk_ocode.specs.StmtText.{byte_words, case_words, global_words}
+use Rattle.bk_ocode.specs.SectionData.{text_size}
 use Rattle.bk_trans.specs.Laws.{WordsAreFew}
+use Rattle.bk_trans.specs.Scheme.{push, truth_value, cases, cases_through, entry_of, entries_of}
+use Rattle.bk_trans.proofs.Steps.{short_bytes}
 use Rattle.bk_trans.proofs.Once.{no_more}
 use Rattle.bk_trans.proofs.Counted.{some_nodes, constants_long}
 
@@ -79,8 +80,55 @@ word_long n (b.Variable j i) = omega arith
 word_long n (b.Label j m) = omega arith
 
 table_long : (ws : List ℕ) → text_size (map (λ v. t.DataNumber (signed v)) ws) ≡ 2 * length ws
-table_long [] = omega arith
+table_long [] = refl
 table_long (v ∷ ws) = let h = table_long ws in omega (arith, h)
+
+push_long : (ts : List Target) (x : Bound) → text_size (push ts x ∷ []) ≤ 2
+push_long ts (b.Constant (Some v)) = omega arith
+push_long ts (b.Constant None) = omega arith
+push_long ts (b.Global (Some v)) = omega arith
+push_long ts (b.Global None) = omega arith
+push_long ts (b.Static m) = omega arith
+push_long ts (b.Variable j i) = omega arith
+push_long ts (b.Label j m) = omega arith
+
+truth_long : (x : Bool) → text_size (truth_value x ∷ []) ≤ 2
+truth_long true = omega arith
+truth_long false = omega arith
+
+bytes_long : (xs : List ℕ) → length (byte_words xs) ≡ length xs
+bytes_long [] = refl
+bytes_long (x ∷ xs) = let h = bytes_long xs in omega (arith, h)
+
+text_long : (xs : List ℕ) → text_size (t.Text (first_bytes xs) ∷ []) ≤ 257
+text_long xs = let h = bytes_long (first_bytes xs) in let i = short_bytes xs in omega (arith, h, i)
+
+entry_long : (n : ℕ) (xs : List ℕ) → text_size (t.Entry n (first_bytes xs) ∷ []) ≤ 258
+entry_long n xs = let h = bytes_long (first_bytes xs) in let i = short_bytes xs in omega (arith, h, i)
+
+cases_long : (cs : List Case) → length (case_words cs) ≡ 2 * length cs
+cases_long [] = refl
+cases_long (c ∷ cs) = let h = cases_long cs in omega (arith, h)
+
+globals_long : (es : List GlobalEntry) → length (global_words es) ≡ 2 * length es
+globals_long [] = refl
+globals_long (e ∷ es) = let h = globals_long es in omega (arith, h)
+
+cases_both : (xs ys : List Case) → length (xs ++ ys) ≡ length xs + length ys
+cases_both [] ys = omega arith
+cases_both (x ∷ xs) ys = let h = cases_both xs ys in omega (arith, h)
+
+chosen_long : (x : Bool) → text_size (cond x (t.Dyadic two.AtLeast) (t.Dyadic two.AtMost) ∷ []) ≤ 1
+chosen_long true = omega arith
+chosen_long false = omega arith
+
+one_entry : (n : ℕ) (x : Bound) → length (entry_of n x) ≤ 1
+one_entry n (b.Global (Some g)) = omega arith
+one_entry n (b.Global None) = omega arith
+one_entry n (b.Constant v) = omega arith
+one_entry n (b.Static m) = omega arith
+one_entry n (b.Variable j i) = omega arith
+one_entry n (b.Label j m) = omega arith
 
 statics_long : (ts : List Target) (n : ℕ) (is : Items) (g : Supply) → apart ts (parts_of_items n (static_items is g).part) ≤ 300 * nodes_of_items is
 statics_long ts n no_items g = omega arith
@@ -97,55 +145,12 @@ defined_both : (ts : List Target) (s n : ℕ) (x : p.Definition) (xs : p.Definit
     (parts_of_definitions (behind_definition s x) (n + labels_of_definition x) xs))
 defined_both ts s n x xs = simp (long_both, apart_both) (omega arith)
 
-bytes_words : (bs : List ℕ) → length (byte_words bs) ≡ length bs
-bytes_words [] = refl
-bytes_words (b ∷ bs) = let h = bytes_words bs in omega (arith, h)
-
-bytes_long : (x : List ℕ) → length (byte_words (first_bytes x)) ≤ 255
-bytes_long x = omega (arith, bytes_words (first_bytes x), length-take 255 x)
-
-cases_both : (xs ys : List Case) → length (xs ++ ys) ≡ length xs + length ys
-cases_both xs ys = length-append xs ys
-
-cases_long : (cs : List Case) → length (case_words cs) ≡ 2 * length cs
-cases_long [] = omega arith
-cases_long (c ∷ cs) = let h = cases_long cs in omega (arith, h)
-
-globals_long : (es : List GlobalEntry) → length (global_words es) ≡ 2 * length es
-globals_long [] = omega arith
-globals_long (e ∷ es) = let h = globals_long es in omega (arith, h)
-
-entries_few : (n : ℕ) (x : Bound) → length (entry_of n x) ≤ 1
-entries_few n (b.Static m) = omega arith
-entries_few n (b.Constant v) = omega arith
-entries_few n (b.Global (Some v)) = omega arith
-entries_few n (b.Global None) = omega arith
-entries_few n (b.Variable j i) = omega arith
-entries_few n (b.Label j m) = omega arith
-
-push_long : (ts : List Target) (x : Bound) → length (argument_words (push ts x)) ≤ 1
-push_long ts (b.Static m) = omega arith
-push_long ts (b.Constant (Some v)) = omega arith
-push_long ts (b.Constant None) = omega arith
-push_long ts (b.Global (Some v)) = omega arith
-push_long ts (b.Global None) = omega arith
-push_long ts (b.Variable j i) = omega arith
-push_long ts (b.Label j m) = omega arith
-
-truth_long : (x : Bool) → length (argument_words (truth_value x)) ≤ 0
-truth_long true = omega arith
-truth_long false = omega arith
-
-test_long : (x : Bool) → length (argument_words (cond x (t.Dyadic d.AtLeast) (t.Dyadic d.AtMost))) ≤ 0
-test_long true = omega arith
-test_long false = omega arith
-
 mutual
   long : (ts : List Target) (s n : ℕ) (e : Expression) (g : Supply) → text_size (value_code ts s n (term e g).part) + apart ts
       (parts s n (term e g).part) + 1 ≤ 300 * nodes e
   long ts s n (name l x) g = let h = push_long ts (meaning g).part in omega (arith, h)
   long ts s n (number l v) g = omega arith
-  long ts s n (text l x) g = let h = bytes_long x in omega (arith, h)
+  long ts s n (text l x) g = let h = text_long x in omega (arith, h)
   long ts s n (truth l x) g = let h = truth_long x in omega (arith, h)
   long ts s n (query l) g = omega arith
   long ts s n (unary l q.Address e) g = let h = long_at ts s n e g in omega (arith, h)
@@ -184,7 +189,7 @@ mutual
       (n + 1 + labels_if (condition x g).part) y false k (condition x g).left in simp (long_both, apart_both) (omega (arith, h, i))
   long_if ts s n (name l x) z k g = let h = push_long ts (meaning g).part in omega (arith, h)
   long_if ts s n (number l v) z k g = omega arith
-  long_if ts s n (text l x) z k g = let h = bytes_long x in omega (arith, h)
+  long_if ts s n (text l x) z k g = let h = text_long x in omega (arith, h)
   long_if ts s n (truth l x) z k g = let h = truth_long x in omega (arith, h)
   long_if ts s n (query l) z k g = omega arith
   long_if ts s n (unary l q.Address e) z k g = let h = long_at ts s n e g in simp (long_both) (omega (arith, h))
@@ -256,10 +261,10 @@ mutual
       (n + 3 + labels_if (condition e g).part) c (condition e g).left in simp (long_both, apart_both, cases_both) (omega (arith, h, i))
   long_in ts a s n (for_loop l v x y k c) g = let h = long ts s (n + 4) x g in let i = long ts (s + 1) (n + 4 + labels (term x g).part) y
       (term x g).left in let j = long_in ts (looping (n + 2) (n + 3) (s + 2) a) (s + 2)
-      (n + 4 + labels (term x g).part + labels (term y (term x g).left).part) c (step_of k (term y (term x g).left).left).left in let m = test_long (int_lt (signed (step_of k (term y (term x g).left).left).part) (pos 0)) in simp
-      (long_both, apart_both, cases_both) (omega (arith, h, i, j, m))
+      (n + 4 + labels (term x g).part + labels (term y (term x g).left).part) c (step_of k (term y (term x g).left).left).left in let z = chosen_long (int_lt (signed (step_of k (term y (term x g).left).left).part) (pos 0)) in simp
+      (long_both, apart_both) (omega (arith, h, i, j, z))
   long_in ts a s n (switch l e c) g = let h = long ts s (n + 1) e g in let i = long_in ts (switching n s a) s (n + 1 + labels (term e g).part) c
-      (term e g).left in let j = cases_long (cases (n + 1 + labels (term e g).part) (command c (term e g).left).part) in simp (long_both, apart_both, cases_both) (omega (arith, h, i, j))
+      (term e g).left in let k = cases_long (cases (n + 1 + labels (term e g).part) (command c (term e g).left).part) in simp (long_both, apart_both) (omega (arith, h, i, k))
   long_in ts a s n (result l e) g = let h = long ts s n e g in simp (long_both) (omega (arith, h))
   long_in ts a s n (simple l w.Break) g = omega arith
   long_in ts a s n (simple l w.Loop) g = omega arith
@@ -315,9 +320,9 @@ mutual
   long_one_defined : (ts : List Target) (s n : ℕ) (x : Definition) (g : Supply) → text_size (definition_code ts s n (defined x g).part) + apart ts
       (parts_of_definition s n (defined x g).part) ≤ 300 * nodes_of_definition x
   long_one_defined ts s n (routine l x fs c) g = let h = long_in ts outermost (length fs + 2) (n + labels_of_procedure (meaning g).part) c
-      (meaning g).left in let i = word_long n (meaning g).part in let j = bytes_long x in let k = entries_few n (meaning g).part in simp (long_both) (omega (arith, h, i, j, k))
+      (meaning g).left in let i = word_long n (meaning g).part in let j = entry_long n x in let k = one_entry n (meaning g).part in simp (long_both) (omega (arith, h, i, j, k))
   long_one_defined ts s n (function l x fs e) g = let h = long ts (length fs + 2) (n + labels_of_procedure (meaning g).part) e (meaning g).left in let
-      i = word_long n (meaning g).part in let j = bytes_long x in let k = entries_few n (meaning g).part in simp (long_both) (omega (arith, h, i, j, k))
+      i = word_long n (meaning g).part in let j = entry_long n x in let k = one_entry n (meaning g).part in simp (long_both) (omega (arith, h, i, j, k))
   long_one_defined ts s n (variables l v is) g = let h = long_started ts s n is g in omega (arith, h)
 
   long_started : (ts : List Target) (s n : ℕ) (is : Starts) (g : Supply) → text_size (starts_code ts s n (starts is g).part) + apart ts
@@ -330,15 +335,18 @@ mutual
 
 -- a section: its procedures, its data, and GLOBAL
 entries_both : (xs ys : List GlobalEntry) → length (xs ++ ys) ≡ length xs + length ys
-entries_both xs ys = length-append xs ys
+entries_both [] ys = omega arith
+entries_both (x ∷ xs) ys = let h = entries_both xs ys in omega (arith, h)
 
 split : (ts : List Target) (ps : List Part) → text_size (joined (procedure_code ts) ps) + text_size (joined data_code ps) + 2 * length (joined entries_of ps) ≡ apart ts ps
 split ts [] = refl
 split ts (x ∷ ps) = let h = split ts ps in simp (long_both, entries_both) (omega (arith, h))
 
 section_long : (ps : List Part) (xs : p.Declarations) → parts_of_declarations 2 1 xs ≡ ps → text_size (scheme xs) ≡ apart (joined target_of ps) ps + 2
-section_long ps xs e = let h = split (joined target_of ps) ps in let i = globals_long (joined entries_of ps) in rw e (simp (long_both) (omega (arith, h, i)))
+section_long ps xs e =
+    let h = split (joined target_of ps) ps in let i = globals_long (joined entries_of ps) in rw e (simp (long_both) (omega (arith, h, i)))
 
+-- 300 WORDS A NODE at most, and GLOBAL
 pub words_are_few : WordsAreFew
 words_are_few ds meanings words h =
     let g : Supply = record { meanings = meanings; words = words } in
