@@ -1,5 +1,5 @@
 -- The scheme's statements of a section without faults are an accepted section.
-use Rattle.std.proofs.Common.{arith, ◌≡◌, ℕ, suc, ◌+◌, ◌≤◌, List, [], ◌∷◌, ◌++◌, length, refl, sym, ap, subst}
+use Rattle.std.proofs.Common.{arith, ◌≡◌, ℕ, suc, ◌+◌, ◌≤◌, List, [], ◌∷◌, ◌++◌, length, refl, ap, subst}
 use Rattle.bk_base.specs.declared.limit.TheConstants.{OCODE_LABEL, OCODE_STATEMENTS, OCODE_WORDS}
 use Rattle.bk_syntax.specs.Tree.{Declarations}
 use Rattle.bk_scope.specs.Points.{Point, meaning, word, depth, wrong, claim, words_of}
@@ -72,8 +72,7 @@ pub scheme_is_accepted : SchemeIsAccepted
 scheme_is_accepted ds none within are =
     let same : program_of ds (meanings ds) (words ds) ≡ named_tree ds = ap (λ x. x.part) (filling_names ds none) in
     let quiet : Quiet (told_of ds) = record { all = all_quiet (told_of ds) are; claims = []; clean = section_clean ds none } in
-    subst (λ (xs : p.Declarations). IsSection (scheme xs)) (sym same)
-    (accepted ds (section_sound ds none) quiet
+    accepted ds (section_sound ds none) quiet
     (subst (λ (xs : p.Declarations). 1 + labels_of_declarations xs ≤ OCODE_LABEL) same (labels_are_few ds (meanings ds) (words ds) within))
     (subst (λ (xs : p.Declarations). length (scheme xs) ≤ OCODE_STATEMENTS) same (statements_are_few ds (meanings ds) (words ds) within))
-    (subst (λ (xs : p.Declarations). text_size (scheme xs) ≤ OCODE_WORDS) same (words_are_few ds (meanings ds) (words ds) within)))
+    (subst (λ (xs : p.Declarations). text_size (scheme xs) ≤ OCODE_WORDS) same (words_are_few ds (meanings ds) (words ds) within))

@@ -80,10 +80,7 @@ written_is ds ms ws stmts k w h = sym (all_are stmts h) ∙ written_is_alike ds 
 
 -- the statements of the scheme are a section
 pub accepted : (ds : Declarations) (ms : List Bound) (ws : List ℕ) → Known ds ms ws → Within ds → AreWords ws → IsSection (scheme (named_tree ds))
-accepted ds ms ws k within h =
-    let words_of_it : AreWords (words ds) = rw (← k.words_are) h in
-    let tree : scheme (program_of ds (meanings ds) (words ds)) ≡ scheme (named_tree ds) = ap (λ r. scheme r.part) (filling_names ds k.faultless) in
-    rw (← tree) (scheme_is_accepted ds k.faultless within words_of_it)
+accepted ds ms ws k within h = scheme_is_accepted ds k.faultless within (rw (← k.words_are) h)
 
 -- the statements of a section that are the same in words are the same
 pub exact : (ss stmts : List Stmt) → IsSection ss → stmts ≡ in_words ss → stmts ≡ ss

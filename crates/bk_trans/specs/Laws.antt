@@ -41,4 +41,4 @@ AreWords ws = (k w : ℕ) → slice_get ws k ≡ Some w → w < 2 ^ 32
 
 -- THE SCHEME GIVES ACCEPTED SECTIONS: the statements of a section without faults that is within the limits keep the rules of OCODE.
 abbrev pub SchemeIsAccepted : Type 0
-SchemeIsAccepted = (ds : Declarations) → faults ds ≡ [] → Within ds → AreWords (words ds) → IsSection (scheme (program_of ds (meanings ds) (words ds)))
+SchemeIsAccepted = (ds : Declarations) → faults ds ≡ [] → Within ds → AreWords (words ds) → IsSection (scheme (named_tree ds))
