@@ -29,6 +29,10 @@ fn main(rt: HostRuntime) -> ExitCode {
             return ExitCode::from(refuse(&fault, &mut err));
         }
     };
-    let mut file = Reader512::new(Opened::new(fs::open(&rt, order.file()).ok()));
+    let opened = match order.file() {
+        Some(name) => fs::open(&rt, name).ok(),
+        None => None,
+    };
+    let mut file = Reader512::new(Opened::new(opened));
     ExitCode::from(serve(alloc, &order, &mut file, &mut input, &mut out, &mut err))
 }

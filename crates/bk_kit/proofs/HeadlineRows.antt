@@ -1,6 +1,6 @@
 -- What the headline refuses, tried on a language of which each source goes on for ever and writes nothing.
-use Rattle.std.proofs.Common.{◌≡◌, ℕ, List, [], refl, ◌++◌, sym, ◌∙◌, append-nil}
-use Rattle.std.specs.Prelude.{⊤, ℤ, pos}
+use Rattle.std.proofs.Common.{◌≡◌, ℕ, List, [], refl, sym, ◌∙◌, append-nil}
+use Rattle.std.specs.Prelude.{⊤, pos}
 use Rattle.bk_base.specs.declared.run_end.End.{End}
 use Rattle.bk_base.specs.declared.run_end.End.TheVariants.{Status, StepLimit}
 use Rattle.bk_kit.specs.Interpreting.{Streams}

@@ -1,8 +1,14 @@
 mod HeadlineRows
 mod PieceLemmas
+mod TextLemmas
 mod CodeLemmas
 mod LoadLemmas
 mod SourceRuns
+mod ReadingLemmas
+mod FilterLemmas
+mod SectionLemmas
+mod CompileLemmas
+mod GenerateLemmas
 mod SourceLemmas
 mod TellLemmas
 mod LineLemmas

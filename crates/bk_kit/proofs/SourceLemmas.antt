@@ -1,15 +1,13 @@
 -- A source that is read up to the end of its first section.
-use Rattle.std.proofs.Common.{◌≡◌, ◌≢◌, ℕ, ◌+◌, ◌≤◌, ◌<◌, Bool, true, false, List, [], ◌∷◌, ◌++◌, length, Option, Ok, Err, refl, sym, ap, ◌∙◌, subst, append-nil, arith, inl, inr, ◌⊎◌}
+use Rattle.std.proofs.Common.{◌≡◌, ◌≢◌, ℕ, ◌+◌, ◌≤◌, ◌<◌, Bool, true, false, List, [], ◌∷◌, ◌++◌, length, Option, Ok, Err, refl, sym, ap, ◌∙◌, subst, arith, inl, inr, ◌⊎◌}
 use Rattle.std.specs.Io.KnownBytes.{Consumes}
 use Rattle.bk_base.specs.Devices.{Begins}
-use Rattle.bk_base.specs.DeviceLaws.{Consumes-trans}
-use Rattle.bk_base.specs.declared.limit.TheConstants.{STORE_MOST}
+use Rattle.bk_base.specs.declared.limit.TheConstants.{INPUT_BYTES, STORE_MOST}
 use Rattle.bk_base.specs.declared.run_end.End.{End}
 use Rattle.bk_base.specs.declared.run_end.End.TheVariants.{WriteFault}
 use Rattle.bk_base.specs.declared.source_fault.SourceFault.{SourceFault}
 use Rattle.bk_intcode.specs.declared.item.Item.{Item}
 use Rattle.bk_intcode.specs.Placement.{SEGMENTS, stack_start, any_starts, loaded_store}
-use Rattle.bk_lex.specs.Cutting.{Settled}
 use Rattle.bk_lex.specs.Lexing.{lexed}
 use Rattle.bk_short.specs.declared.call.Call.{Call}
 use Rattle.bk_short.specs.ShortSource.{IsShortSource, IsRefused}
@@ -17,7 +15,7 @@ use Rattle.bk_short.specs.Program.{IsProgram, first_registers}
 use Rattle.bk_kit.specs.declared.kit_fault.KitFault.{KitFault}
 use Rattle.bk_kit.specs.declared.kit_fault.KitFault.TheVariants.{Source, Ocode, Intcode, TooSmall, NoStart, Read, Write, Memory}
 use Rattle.bk_kit.specs.Interpreting.{Streams, told}
-use Rattle.bk_kit.specs.ReadingSource.{IsFirstSection}
+use Rattle.bk_kit.specs.ReadingSource.{IsDelivered, Settles, IsFirstSection}
 use Rattle.bk_kit.specs.Headline.{Keeps, Headline}
 use Rattle.bk_kit.specs.ShortSources.{short_sources, NotProgram, RefusesSource}
 use Rattle.bk_kit.specs.Loading.{load_refused}
@@ -26,24 +24,6 @@ use Rattle.bk_intcode.specs.declared.load_fault.LoadFault.TheVariants as load
 use Rattle.bk_intcode.specs.declared.registers.Registers.{Registers}
 use Rattle.bk_intcode.specs.Runs.{Ran, Blames}
 use Rattle.bk_kit.proofs.SourceRuns.{runs}
-
--- the text's end came
-pub is_whole : (text : List ℕ) (old mid new : Option (List ℕ)) (ended : Bool) → Consumes old mid text → Consumes mid new [] → ended ≡ true
-    → IsFirstSection text old new ended
-is_whole text old mid new ended taken none told =
-    record {
-      delivered = subst (λ t. Consumes old new t) (append-nil text) (Consumes-trans old mid new text [] taken none);
-      settled = λ rest over. ap (λ r. lexed (text ++ r) 1) (over told) ∙ ap (λ t. lexed t 1) (append-nil text);
-    }
-
--- the section's end came
-pub is_cut : (text : List ℕ) (byte : ℕ) (old mid new : Option (List ℕ)) (ended : Bool) → Consumes old mid text → Consumes mid new (byte ∷ [])
-    → Settled (text ++ byte ∷ []) → IsFirstSection (text ++ byte ∷ []) old new ended
-is_cut text byte old mid new ended taken one settled =
-    record {
-      delivered = Consumes-trans old mid new text (byte ∷ []) taken one;
-      settled = λ rest over. settled 1 rest;
-    }
 
 -- what is read of one text as of another
 pub same_short : (text other : List ℕ) (calls : List Call) → lexed other 1 ≡ lexed text 1 → IsShortSource text calls → IsShortSource other calls
@@ -139,3 +119,10 @@ source_runs end steps words before after old new ended text items store' r' firs
           let here = same_program text (text ++ rest) items (first.settled rest over) program in
           runs (text ++ rest) items here.calls steps words here.short here.alone here.means room most end store' r' before after ran passes passed blamed;
     }
+
+-- the first section of a source, of which nothing was read before
+pub first_section : (text : List ℕ) (old new : Option (List ℕ)) (ended : Bool) (taken : ℕ) → IsDelivered text old new 0 taken → (taken < INPUT_BYTES → Settles text ended) → IsFirstSection text old new ended
+first_section text old new ended taken here settles = record {
+  delivered = here.delivered;
+  settled = λ rest follows. settles (omega (arith, here.counted, here.few)) 1 rest follows;
+}

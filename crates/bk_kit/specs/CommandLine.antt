@@ -6,7 +6,7 @@ use Rattle.clap.specs.declared.builder.ArgAction.TheVariants.{Set, SetTrue}
 use Rattle.clap.specs.declared.builder.ValueParser.TheVariants as vp
 use Rattle.bk_base.specs.Bounds.{Bounds}
 use Rattle.bk_kit.specs.declared.orders.Order.{Order}
-use Rattle.bk_kit.specs.declared.orders.Order.TheVariants.{Run, Interpret, Sizes}
+use Rattle.bk_kit.specs.declared.orders.Order.TheVariants.{Compile, Generate, Run, Interpret, Sizes}
 
 -- `-s WORDS`, from 4096 to 4194304, 262144 unless it is given
 abbrev pub store_rule : Rule
@@ -34,6 +34,13 @@ sizes_rule = record (new_rule (codes "sizes")) { long = Some (codes "sizes"); ac
 abbrev pub file_rule : Rule
 file_rule = record (new_rule (codes "file")) { required = true; value_names = 1; action = Some Set }
 
+-- `compile` and `generate`
+abbrev pub compile_command : App
+compile_command = new_app (codes "compile")
+
+abbrev pub generate_command : App
+generate_command = new_app (codes "generate")
+
 -- `run [-s WORDS] [-t STEPS] FILE`
 abbrev pub run_command : App
 run_command = with_rule (with_rule (with_rule (new_app (codes "run")) store_rule) steps_rule) file_rule
@@ -44,7 +51,8 @@ interpret_command = with_rule (with_rule (with_rule (with_rule (new_app (codes "
 
 -- `bcpl`
 abbrev pub kit_command : App
-kit_command = with_subcommand (with_subcommand (new_app (codes "bcpl")) run_command.top) interpret_command.top
+kit_command =
+    with_subcommand (with_subcommand (with_subcommand (with_subcommand (new_app (codes "bcpl")) compile_command.top) generate_command.top) run_command.top) interpret_command.top
 
 -- the text of a truth value
 abbrev pub truth_text : Bool → Text
@@ -63,6 +71,8 @@ ReadsLimits rows limits = ReadsNumber (one_of (codes "words") rows) limits.words
 -- An order is read from the subcommand that the words name, and the values that they give it.
 abbrev pub Reads : Option (Text × List Row) → Order → Type 0
 Reads None order = ⊥
+Reads (Some found) Compile = found.0 ≡ codes "compile"
+Reads (Some found) Generate = found.0 ≡ codes "generate"
 Reads (Some found) (Run limits file) =
     (found.0 ≡ codes "run") × ReadsLimits found.1 limits × (first_of (codes "file") found.1 ≡ Some (string_bytes file))
 Reads (Some found) (Interpret limits file) =

@@ -11,7 +11,8 @@ use Rattle.bk_base.specs.declared.run_end.End.TheVariants.{WriteFault}
 use Rattle.bk_intcode.specs.Runs.{Told, Ran, Blames}
 use Rattle.bk_kit.specs.declared.kit_fault.KitFault.{KitFault}
 use Rattle.bk_kit.specs.declared.kit_fault.KitFault.TheVariants.{Source, Ocode, Intcode, TooSmall, NoStart, Read, Write, Memory}
-use Rattle.bk_kit.specs.Code.{CodeStands, segments, refused}
+use Rattle.bk_kit.specs.Texts.{Stands, parts, refused}
+use Rattle.bk_kit.specs.Code.{intcode}
 
 -- at least 16 words of the store are left for the stack
 abbrev pub HasRoom : ℕ → List (List Item) → Type 0
@@ -23,7 +24,7 @@ first_registers all = record { c = 1; p = stack_start SEGMENTS all; a = 0; b = 0
 
 -- What refuses a text as it is read.
 abbrev pub TextRefused : KitFault → Option (List ℕ) → Option (List ℕ) → Bool → Type 0
-TextRefused (Intcode number fault) old new ended = CodeStands (refused number fault.item fault.kind) old new ended
+TextRefused (Intcode number fault) old new ended = Stands intcode (refused number fault.item fault.kind) old new ended
 TextRefused Read old new ended = ⊤
 TextRefused Memory old new ended = ⊤
 TextRefused (Source fault) old new ended = ⊥
@@ -35,14 +36,14 @@ TextRefused Write old new ended = ⊥
 -- What refuses a text before anything runs, given the words of the store.
 abbrev pub CodeRefused : KitFault → ℕ → Option (List ℕ) → Option (List ℕ) → Bool → Type 0
 CodeRefused TooSmall words old new ended =
-    (all : List (List Item)) × CodeStands (segments all) old new ended × (words < stack_start SEGMENTS all + 16)
+    (all : List (List Item)) × Stands intcode (parts all) old new ended × (words < stack_start SEGMENTS all + 16)
 CodeRefused NoStart words old new ended =
-    (all : List (List Item)) × CodeStands (segments all) old new ended × HasRoom words all × (any_starts all ≡ false)
+    (all : List (List Item)) × Stands intcode (parts all) old new ended × HasRoom words all × (any_starts all ≡ false)
 CodeRefused fault words old new ended = TextRefused fault old new ended
 
 -- The text is of segments that can be loaded.
 pub record Loadable (all : List (List Item)) (words : ℕ) (old new : Option (List ℕ)) (ended : Bool) : Type 0 where
-  pub stands : CodeStands (segments all) old new ended
+  pub stands : Stands intcode (parts all) old new ended
   pub room : HasRoom words all
   pub starts : any_starts all ≡ true
 
@@ -85,7 +86,10 @@ Interpreted (Ok end) steps words old new ended before after =
 Interpreted (Err fault) steps words old new ended before after = CodeRefused fault words old new ended × (after ≡ before)
 
 -- the fault of a read
+abbrev pub is_read_fault : KitFault → Bool
+is_read_fault Read = true
+is_read_fault fault = false
+
 abbrev pub is_read : {T : Type 0} → Result T KitFault → Bool
 is_read (Ok value) = false
-is_read (Err Read) = true
-is_read (Err fault) = false
+is_read (Err fault) = is_read_fault fault

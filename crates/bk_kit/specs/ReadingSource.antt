@@ -1,7 +1,37 @@
--- Reading a source up to the end of its first section.
-use Rattle.std.specs.Prelude.{◌≡◌, ℕ, Bool, IsTrue, List, [], ◌++◌, Option}
+-- Reading a source up to the end of its next section.
+use Rattle.std.specs.Prelude.{◌≡◌, ℕ, ◌+◌, ◌≤◌, Bool, IsTrue, ⊤, List, [], ◌∷◌, ◌++◌, Option, Some, length}
 use Rattle.std.specs.Io.KnownBytes.{Consumes}
+use Rattle.bk_base.specs.declared.limit.TheConstants.{SECTION_BYTES}
+use Rattle.bk_lex.specs.declared.counting.State.{State}
+use Rattle.bk_lex.specs.declared.cutter.Cut.{Cut}
+use Rattle.bk_lex.specs.declared.cutter.Cut.TheVariants.{More}
+use Rattle.bk_lex.specs.Counting.{start}
+use Rattle.bk_lex.specs.Cutting.{then_on, state_behind, cut_as}
 use Rattle.bk_lex.specs.Lexing.{lexed}
+
+-- Each of these bytes was asked for where a cutter said that the section may go on.
+abbrev pub AskedFrom : Option State → List ℕ → Type 0
+AskedFrom cutter [] = ⊤
+AskedFrom cutter (byte ∷ rest) = (cut_as cutter ≡ More) × AskedFrom (then_on cutter byte) rest
+
+abbrev pub Asked : List ℕ → Type 0
+Asked bytes = AskedFrom (Some start) bytes
+
+-- what a cutter says that stands behind these bytes of a section
+abbrev pub cut_behind : List ℕ → Cut
+cut_behind bytes = cut_as (state_behind (Some start) bytes)
+
+-- Nothing is read of a section that begins with these bytes but what is read of them; where the source's end was told, nothing
+-- follows.
+abbrev pub Settles : List ℕ → Bool → Type 0
+Settles bytes ended = (line : ℕ) (rest : List ℕ) → (IsTrue ended → rest ≡ []) → lexed (bytes ++ rest) line ≡ lexed bytes line
+
+-- These bytes were delivered, and counted: a section, or the part of one that could be read, and no byte behind it.
+pub record IsDelivered (bytes : List ℕ) (old new : Option (List ℕ)) (before after : ℕ) : Type 0 where
+  pub delivered : Consumes old new bytes
+  pub asked : Asked bytes
+  pub counted : after ≡ before + length bytes
+  pub few : length bytes ≤ SECTION_BYTES + 1
 
 -- These bytes were delivered, and the first section of every source that begins with them is read as that of these; where the
 -- source's end was told, of just these.

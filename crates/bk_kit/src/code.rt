@@ -2,7 +2,8 @@
 ghost use Rattle.std.specs.Prelude.{◌≡◌, ◌≤◌, IfOk, IfErr, map, if◌then◌else◌};
 ghost use Rattle.bk_base.specs.declared.limit.TheConstants.{STORE_LEAST, STORE_MOST};
 ghost use Rattle.bk_intcode.specs.SegmentItems.{items_of};
-ghost use Rattle.bk_kit.specs.Code.{segment_number, segments, CodeStands};
+ghost use Rattle.bk_kit.specs.Texts.{part_number, parts, Stands};
+ghost use Rattle.bk_kit.specs.Code.{intcode};
 ghost use Rattle.bk_kit.specs.Interpreting.{TextRefused, CodeRefused, Loads, is_read};
 
 use crate::kit_fault::KitFault;
@@ -12,16 +13,16 @@ use bk_intcode::{Intcode, Machine};
 use bk_intcode_text::read_segment;
 use std::alloc::Global;
 
-/// The number of the segment behind so many others.
-fn number_behind(before: usize) -> u32
-    ensures { result ≡ segment_number before }
+/// The number of the segment or section behind so many others.
+pub fn number_behind(before: usize) -> u32
+    ensures { result ≡ part_number before }
 {
     before.min(u32::MAX as usize - 1) as u32 + 1
 }
 
 /// Reads all segments of a text.
 pub fn read_code<C: ByteIn>(alloc: Global, code: &mut C) -> Result<Vec<Intcode>, KitFault>
-    ensures read { IfOk result (λ list. CodeStands (segments (map items_of list.items)) (C.left code.old) (C.left code.new) (C.ended code.new)) }
+    ensures read { IfOk result (λ list. Stands intcode (parts (map items_of list.items)) (C.left code.old) (C.left code.new) (C.ended code.new)) }
     ensures refused { IfErr result (λ fault. TextRefused fault (C.left code.old) (C.left code.new) (C.ended code.new)) }
     ensures failures { C.faults code.new ≡ (if is_read result then 1 else 0) }
 {

@@ -2,7 +2,7 @@
 ghost use Rattle.std.specs.Prelude.{◌≡◌, map, IfOk, IfSome, false, Some, codes};
 ghost use Rattle.clap.specs.Words.{app_of, rule_of, rows_of, found_of, first_of, one_of, subcommand_of};
 ghost use Rattle.clap.specs.declared.builder.Command.TheViews.{out-Command as fields_of};
-ghost use Rattle.bk_kit.specs.CommandLine.{store_rule, steps_rule, sizes_rule, file_rule, run_command, interpret_command, kit_command, truth_text, ReadsLimits, Reads};
+ghost use Rattle.bk_kit.specs.CommandLine.{store_rule, steps_rule, sizes_rule, file_rule, compile_command, generate_command, run_command, interpret_command, kit_command, truth_text, ReadsLimits, Reads};
 
 use crate::orders::Order;
 use bk_base::Limits;
@@ -82,6 +82,22 @@ fn file_argument<'a>(alloc: Global, help: &'a str) -> Arg<'a>
         .action(ArgAction::Set)
 }
 
+/// `compile`
+fn compile_subcommand<'a>(alloc: Global) -> Command<'a>
+    ensures { (app_of result ≡ compile_command) × ((fields_of result).has_globals ≡ false) }
+{
+    Command::new(alloc, "compile").about("Compiles BCPL to OCODE, from the input to the output")
+}
+
+/// `generate`
+fn generate_subcommand<'a>(alloc: Global) -> Command<'a>
+    ensures { (app_of result ≡ generate_command) × ((fields_of result).has_globals ≡ false) }
+{
+    Command::new(alloc, "generate").about(
+        "Generates INTCODE from OCODE, from the input to the output",
+    )
+}
+
 /// `run`
 fn run_subcommand<'a>(alloc: Global) -> Result<Command<'a>, AllocError>
     ensures { IfOk result (λ command. (app_of command ≡ run_command) × ((fields_of command).has_globals ≡ false)) }
@@ -115,6 +131,8 @@ fn kit<'a>(alloc: Global) -> Result<Command<'a>, AllocError>
 {
     Ok(
         Command::new(alloc, "bcpl")
+            .subcommand(compile_subcommand(alloc))?
+            .subcommand(generate_subcommand(alloc))?
             .subcommand(run_subcommand(alloc)?)?
             .subcommand(interpret_subcommand(alloc)?)?
             .about("A portable BCPL kit"),
@@ -172,6 +190,12 @@ fn interpret_order(alloc: Global, matches: &ArgMatches<'_>) -> Result<Order, Lin
 fn order_of(alloc: Global, name: &str, matches: &ArgMatches<'_>) -> Result<Order, LineFault>
     ensures { IfOk result (Reads (Some (name.now, rows_of (found_of matches.now)))) }
 {
+    if name == "compile" {
+        return Ok(Order::Compile);
+    }
+    if name == "generate" {
+        return Ok(Order::Generate);
+    }
     if name == "run" {
         return run_order(alloc, matches);
     }

@@ -5,7 +5,7 @@ ghost use Rattle.bk_base.specs.Devices.{Begins, AppendsPart};
 ghost use Rattle.bk_kit.specs.FaultLine.{fault_text, line_of};
 
 use crate::pieces::put_pieces;
-use bk_base::{ByteOut, Failed, IntcodeFault, OcodeFault, SourceFault};
+use bk_base::{ByteOut, Failed, IntcodeFault, OcodeFault, Refused, SourceFault};
 use bk_intcode::LoadFault;
 use itoa::Buffer;
 use std::alloc::AllocError;
@@ -48,6 +48,21 @@ impl From<AllocError> for KitFault {
 
     fn from(_error: AllocError) -> KitFault {
         KitFault::Memory
+    }
+}
+
+impl From<Refused<SourceFault>> for KitFault {
+    ghost use Rattle.std.specs.Prelude.{◌≡◌};
+    ghost use Rattle.bk_kit.specs.CompilingSection.{source_refused};
+
+    ghost from_gives = { λ refused fault. fault ≡ source_refused refused };
+
+    fn from(refused: Refused<SourceFault>) -> KitFault {
+        match refused {
+            Refused::Fault(fault) => KitFault::Source(fault),
+            Refused::Memory => KitFault::Memory,
+            Refused::Device => KitFault::Read,
+        }
     }
 }
 

@@ -3,12 +3,18 @@
 
 mod code;
 mod command_line;
+mod compiler;
+#[cfg(test)]
+mod filter_tests;
+mod generator;
 mod kit_fault;
 mod orders;
 mod pieces;
+mod reading;
 #[cfg(test)]
 mod run_tests;
 mod runner;
+mod section;
 mod service;
 mod source;
 mod status;
@@ -16,6 +22,8 @@ mod status;
 mod tests;
 
 pub use command_line::{LineFault, order};
+pub use compiler::compile;
+pub use generator::generate_all;
 pub use kit_fault::KitFault;
 pub use orders::Order;
 pub use runner::{interpret, sizes};

@@ -5,6 +5,8 @@ ghost use Rattle.bk_kit.specs.Statuses.{refusal_status, refusal_line};
 ghost use Rattle.bk_kit.specs.Telling.{Tells};
 
 use crate::command_line::LineFault;
+use crate::compiler::compile;
+use crate::generator::generate_all;
 use crate::orders::Order;
 use crate::runner::{interpret, sizes};
 use crate::source::run_source;
@@ -12,7 +14,7 @@ use crate::status::{tell_done, tell_run, tell_text};
 use bk_base::{ByteIn, ByteOut};
 use std::alloc::Global;
 
-/// Does what an order asks for, where `file` gives the bytes of FILE, and answers the exit status.
+/// Does what an order asks for, where `file` gives the bytes of FILE if it has one, and answers the exit status.
 ///
 /// A fault or an abnormal end writes one line on the error stream, which is passed on; a failure of that stream changes
 /// nothing.
@@ -31,6 +33,8 @@ pub fn serve<F: ByteIn, I: ByteIn, O: ByteOut, E: ByteOut>(
         (record { taken = E.taken err.new; passed = E.passed err.new; faults = E.faults err.new }) }
 {
     match order {
+        Order::Compile => tell_done(&compile(alloc, input, out), err),
+        Order::Generate => tell_done(&generate_all(alloc, input, out), err),
         Order::Run(limits, _) => {
             let answer = run_source(alloc, file, *limits, input, out);
             tell_run(&answer, err)

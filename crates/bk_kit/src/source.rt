@@ -10,37 +10,11 @@ ghost use Rattle.bk_kit.specs.ShortSources.{short_sources, NotProgram, LoadsSour
 ghost use Rattle.bk_kit.specs.ReadingSource.{IsFirstSection};
 
 use crate::kit_fault::KitFault;
-use bk_base::limit::SECTION_BYTES;
+use crate::reading::read_section;
 use bk_base::{ByteIn, ByteOut, End, Limits, Refused};
 use bk_intcode::{Intcode, Machine};
-use bk_lex::{Cut, Cutter};
 use bk_short::short_program;
 use std::alloc::Global;
-
-/// Reads the first section of a source, its `.` included, and at most one byte more than a section may have.
-fn read_section<C: ByteIn>(alloc: Global, source: &mut C) -> Result<Vec<u8>, KitFault>
-    ensures read { IfOk result (λ text. IsFirstSection text.items (C.left source.old) (C.left source.new) (C.ended source.new)) }
-    ensures fault { IfErr result (λ fault. (fault ≡ KitFault.Read ⊎ fault ≡ KitFault.Memory)
-        × ((text : List ℕ) × Consumes (C.left source.old) (C.left source.new) text)) }
-    ensures failures { C.faults source.new ≡ (if is_read result then 1 else 0) }
-{
-    let mut text = Vec::new(alloc);
-    let mut cutter = Cutter::new();
-    for _ in 0..SECTION_BYTES + 1 {
-        let byte = match source.next() {
-            Ok(Some(byte)) => byte,
-            Ok(None) => return Ok(text),
-            Err(_) => return Err(KitFault::Read),
-        };
-        let Ok(()) = text.push(byte) else {
-            return Err(KitFault::Memory);
-        };
-        if cutter.step(byte) == Cut::End {
-            return Ok(text);
-        }
-    }
-    Ok(text)
-}
 
 /// The code of a source.
 fn program_of(alloc: Global, text: &[u8]) -> Result<Intcode, KitFault>
@@ -62,7 +36,8 @@ fn load_source<C: ByteIn>(alloc: Global, source: &mut C, words: u32) -> Result<M
     ensures refused { IfErr result (λ fault. RefusesSource fault words (C.left source.old) (C.left source.new) (C.ended source.new)) }
     ensures failures { C.faults source.new ≡ (if is_read result then 1 else 0) }
 {
-    let text = read_section(alloc, source)?;
+    let mut taken = 0;
+    let text = read_section(alloc, source, &mut taken)?;
     let program = program_of(alloc, text.as_slice())?;
     Ok(Machine::load(alloc, &[program], words)?)
 }

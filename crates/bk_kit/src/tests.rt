@@ -387,8 +387,8 @@ fn command_lines_refused(rt: HostRuntime) -> Result<(), Fail> {
         &["bcpl", "interpret", "--sizes", "--sizes", "f"],
         &["bcpl", "interpret", "-x", "f"],
         &["bcpl", "interpret", "f", "-t"],
-        &["bcpl", "compile"],
-        &["bcpl", "generate"],
+        &["bcpl", "compile", "f"],
+        &["bcpl", "generate", "-s", "5000"],
         &["bcpl", "Interpret", "f"],
         &["bcpl", "-s", "5000", "interpret", "f"],
     ];

@@ -4,7 +4,8 @@ use Rattle.bk_intcode.specs.declared.item.Item.{Item}
 use Rattle.bk_intcode.specs.declared.segment.Intcode.{Intcode}
 use Rattle.bk_intcode.specs.SegmentItems.{items_of}
 use Rattle.bk_intcode.specs.Placement.{SEGMENTS, stack_start, any_starts}
-use Rattle.bk_kit.specs.Code.{segments, CodeStands}
+use Rattle.bk_kit.specs.Texts.{parts, Stands}
+use Rattle.bk_kit.specs.Code.{intcode}
 use Rattle.bk_kit.proofs.LoadLemmas.{refused_anyhow}
 use Rattle.bk_kit.proofs.code.load_code.Goals as goal
 
@@ -15,8 +16,8 @@ returns-in_err-segments-clause-refused g c =
 pub returns-clause-loaded : goal.returns-clause-loaded
 returns-clause-loaded g c =
     let all : List (List Item) = map items_of c.as_slice.result.now in
-    let stands : CodeStands (segments all) (g.C.ByteIn.left c.args.code.now) (g.C.ByteIn.left c.read_code.new.code) (g.C.ByteIn.ended c.read_code.new.code) =
-    subst (λ (l : List Intcode). CodeStands (segments (map items_of l)) (g.C.ByteIn.left c.args.code.now) (g.C.ByteIn.left c.read_code.new.code) (g.C.ByteIn.ended c.read_code.new.code))
+    let stands : Stands intcode (parts all) (g.C.ByteIn.left c.args.code.now) (g.C.ByteIn.left c.read_code.new.code) (g.C.ByteIn.ended c.read_code.new.code) =
+    subst (λ (l : List Intcode). Stands intcode (parts (map items_of l)) (g.C.ByteIn.left c.args.code.now) (g.C.ByteIn.left c.read_code.new.code) (g.C.ByteIn.ended c.read_code.new.code))
     (sym c.as_slice.ensures.value) c.in_ok-segments.ensures.read in
     let room : stack_start SEGMENTS all + 16 ≤ c.args.words = elim (cases_lt c.args.words (stack_start SEGMENTS all + 16)) [
       | inl low ↦ absurd (let bad = sym c.in_ok-load.was ∙ c.load.ensures.too_small.1 low in cc)

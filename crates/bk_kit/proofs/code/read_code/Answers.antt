@@ -2,7 +2,7 @@ use Rattle.std.proofs.Common.{◌≡◌, ◌∙◌, List, [], ◌∷◌, ◌++�
 use Rattle.std.proofs.lemmas.List.{map-append, length-map}
 use Rattle.bk_intcode.specs.declared.item.Item.{Item}
 use Rattle.bk_intcode.specs.SegmentItems.{items_of}
-use Rattle.bk_kit.specs.Code.{segment_number}
+use Rattle.bk_kit.specs.Texts.{part_number}
 use Rattle.bk_kit.proofs.CodeLemmas.{Front, Front-push, Front-refused, Front-whole}
 use Rattle.bk_kit.proofs.code.read_code.Goals as goal
 
@@ -23,6 +23,6 @@ returns-in-Err-Fault-clause-refused g c =
     let told = c.in-Err-Fault.fault in
     let stands = Front-refused _ _ _ _ _ _ c.loop-segment.invariant told (λ over. let bad = (c.in-Err-Fault.ensures.ended_again over).0 in cc) (rw c.in-Err-Fault.field-0-is at c.in-Err-Fault.ensures.stands) in
     let len : c.len.result ≡ length c.loop-segment.list.items = search rules in
-    let number : c.number_behind.result ≡ segment_number (length (map items_of c.loop-segment.list.items)) =
-    c.number_behind.ensures ∙ ap segment_number (len ∙ sym (length-map c.loop-segment.list.items items_of)) in
+    let number : c.number_behind.result ≡ part_number (length (map items_of c.loop-segment.list.items)) =
+    c.number_behind.ensures ∙ ap part_number (len ∙ sym (length-map c.loop-segment.list.items items_of)) in
     rw (c.in-Err-Fault.field-0-is, number) stands

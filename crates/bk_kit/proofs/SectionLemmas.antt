@@ -1,0 +1,83 @@
+-- The symbols of a section that are refused, for their syntax or their names.
+use Rattle.std.proofs.Common.{◌≡◌, ◌≢◌, inl, inr, ℕ, true, false, ◌==◌, length, arith, eqb-true, List, [], ◌∷◌, None, Some, Ok, Err, refl, sym, ap, ◌∙◌}
+use Rattle.bk_base.specs.declared.source_fault.SourceFault.{SourceFault}
+use Rattle.bk_base.specs.declared.refused.Refused.{Refused}
+use Rattle.bk_base.specs.declared.refused.Refused.TheVariants as refusals
+use Rattle.bk_base.specs.declared.refused.Refused.TheVariants.{Fault, Device}
+use Rattle.bk_lex.specs.declared.scan.Lexed.{Lexed}
+use Rattle.bk_lex.specs.declared.token.Token.{Token}
+use Rattle.bk_lex.specs.Symbol.{Symbol, symbols_of}
+use Rattle.bk_lex.specs.Lexing.{section_of, lexed}
+use Rattle.bk_syntax.specs.declared.section.Section.{Section}
+use Rattle.bk_syntax.specs.Tree.{Declarations}
+use Rattle.bk_syntax.specs.Limits.{Within}
+use Rattle.bk_syntax.specs.SyntaxFault.{IsSection}
+use Rattle.bk_syntax.specs.Parsing.{declarations_of, Parses, Gives}
+use Rattle.bk_scope.specs.Points.{first_told}
+use Rattle.bk_scope.specs.Faults.{faults}
+use Rattle.bk_scope.specs.FirstFault.{breach_of}
+use Rattle.bk_scope.specs.Resolution.{Resolves}
+use Rattle.bk_ocode.specs.declared.stmt.Stmt.{Stmt}
+use Rattle.bk_kit.specs.declared.kit_fault.KitFault.{KitFault}
+use Rattle.bk_kit.specs.declared.kit_fault.KitFault.TheVariants as k
+use Rattle.bk_kit.specs.declared.kit_fault.KitFault.TheVariants.{Source}
+use Rattle.bk_kit.specs.Sources.{Translates, Means}
+use Rattle.bk_kit.specs.CompilingSection.{source_refused, Refuses, RefusesSymbols}
+
+module _ (symbols : List Symbol) (end : ℕ) (fault : SourceFault) where
+  -- they are no section within the limits
+  pub no_section : Parses (Err (Fault fault)) symbols end → ((tree : Declarations) → IsSection tree symbols → Gives (Err (Fault fault)) tree) → RefusesSymbols (Source fault) symbols end
+  no_section (inl at) only = (inl at, λ stmts translates. (only translates.tree translates.section).1 translates.within)
+  no_section (inr at_end) only = (inr (inl at_end), λ stmts translates. (only translates.tree translates.section).1 translates.within)
+
+  -- the section has a wrong name
+  pub misnamed : (x : Section) → Parses (Ok x) symbols end → Within (declarations_of x) → ((tree : Declarations) → IsSection tree symbols → Gives (Ok x) tree)
+      → first_told (faults (declarations_of x)) ≡ Some (breach_of fault) → RefusesSymbols (Source fault) symbols end
+  misnamed x parses within only first = (
+    inr (inr record { tree = declarations_of x; section = parses; within = within; first = first }),
+    λ stmts translates.
+        let same = only translates.tree translates.section in
+        let none = ap (λ (tree : Declarations). first_told (faults tree)) same ∙ ap first_told translates.faultless in
+        absurd (differ (sym first ∙ none)),
+  )
+    where
+      differ : Some (breach_of fault) ≡ None → ⊥
+      differ is = cc
+
+-- what `parse` and `resolve` refuse
+pub parse_refuses : (symbols : List Symbol) (end : ℕ) (refused : Refused SourceFault) → Parses (Err refused) symbols end → ((tree : Declarations) → IsSection tree symbols → Gives (Err refused) tree)
+    → RefusesSymbols (source_refused refused) symbols end
+parse_refuses symbols end (Fault fault) parses only = no_section symbols end fault parses only
+parse_refuses symbols end refusals.Memory parses only = tt
+parse_refuses symbols end Device parses only = absurd parses
+
+pub resolve_refuses : (symbols : List Symbol) (end : ℕ) (x : Section) (refused : Refused SourceFault) → Parses (Ok x) symbols end → Within (declarations_of x)
+    → ((tree : Declarations) → IsSection tree symbols → Gives (Ok x) tree) → Resolves (Err refused) (declarations_of x) → RefusesSymbols (source_refused refused) symbols end
+resolve_refuses symbols end x (Fault fault) parses within only resolves = misnamed symbols end fault x parses within only resolves
+resolve_refuses symbols end x refusals.Memory parses within only resolves = tt
+resolve_refuses symbols end x Device parses within only resolves = absurd resolves
+
+-- the section that was cut into symbols is refused
+pub section_refuses : (fault : KitFault) (text : List ℕ) (from : ℕ) (l : Lexed) → lexed text from ≡ Ok (section_of l) → symbols_of l.tokens.items ≢ [] → RefusesSymbols fault (symbols_of l.tokens.items) l.line → Refuses fault text from
+section_refuses (Source fault) text from l is some refuses = inr (section_of l, is, some, refuses)
+section_refuses k.Memory text from l is some refuses = tt
+section_refuses (k.Ocode number fault) text from l is some refuses = absurd refuses
+section_refuses (k.Intcode number fault) text from l is some refuses = absurd refuses
+section_refuses k.TooSmall text from l is some refuses = absurd refuses
+section_refuses k.NoStart text from l is some refuses = absurd refuses
+section_refuses k.Read text from l is some refuses = absurd refuses
+section_refuses k.Write text from l is some refuses = absurd refuses
+
+-- or it has this meaning
+pub means_some : (symbols : List Symbol) (stmts : List Stmt) → symbols ≢ [] → Translates symbols stmts → Means symbols (stmts ∷ [])
+means_some [] stmts some translates = absurd (some refl)
+means_some (symbol ∷ symbols) stmts some translates = (stmts, translates, refl)
+
+-- whether there are symbols
+pub no_symbols : (tokens : List Token) → (length tokens == 0) ≡ true → symbols_of tokens ≡ []
+no_symbols [] none = refl
+no_symbols (token ∷ tokens) none = absurd (omega (arith, eqb-true (length (token ∷ tokens)) 0 none))
+
+pub some_symbols : (tokens : List Token) → (length tokens == 0) ≡ false → symbols_of tokens ≢ []
+some_symbols [] some is = absurd cc
+some_symbols (token ∷ tokens) some is = cc

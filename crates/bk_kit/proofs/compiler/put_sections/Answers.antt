@@ -1,0 +1,53 @@
+use Rattle.std.proofs.Common.{subst, arith, ℕ, List, rules}
+use Rattle.bk_kit.specs.CompilingSection.{Compiled, Refuses}
+use Rattle.bk_kit.proofs.CompileLemmas.{front_empty, not_read, not_compiled, not_put, is_last, goes_on, some_taken}
+use Rattle.bk_kit.proofs.compiler.put_sections.Goals as goal
+
+pub loop-text-init : goal.loop-text-init
+loop-text-init g c = rw c.first-line.ensures (front_empty _ _)
+
+pub returns-in_err-text : goal.returns-in_err-text
+returns-in_err-text g c =
+    let read = c.in_err-text.ensures.fault in
+    let puts = not_read _ _ _ (g.C.ByteIn.ended c.read_section.new.source) (g.C.ByteIn.faults c.read_section.new.source) _ c.read_section.new.taken c.loop-text.line _ _ c.loop-text.invariant read.0 read.1 c.read_section.ensures.within c.in_err-text.field-0.0 read.2 c.in_err-text.ensures.failures in
+    record { puts = search rules }
+
+pub returns-in_err-section : goal.returns-in_err-section
+returns-in_err-section g c =
+    let read = c.in_ok-text.ensures.read in
+    let refuses = subst (λ (t : List ℕ). Refuses c.in_err-section.field-0.0 t c.loop-text.line) c.as_slice.ensures.value c.in_err-section.ensures.refuses in
+    let puts = not_compiled _ _ _ _ _ _ c.read_section.new.taken c.loop-text.line _ _ c.loop-text.invariant c.in_ok-text.text.items read.0 c.read_section.ensures.within read.1 c.in_ok-text.ensures.failures c.in_err-section.field-0.0 refuses in
+    record { puts = search rules }
+
+pub returns-in_default : goal.returns-in_default
+returns-in_default g c =
+    let read = c.in_ok-text.ensures.read in
+    let compiled = subst (λ (t : List ℕ). Compiled c.in_ok-section.section t c.loop-text.line) c.as_slice.ensures.value c.in_ok-section.ensures.compiled in
+    record {
+      puts = not_put _ _ _ _ _ _ c.read_section.new.taken c.loop-text.line _ _ c.loop-text.invariant c.in_ok-text.text.items read.0 c.read_section.ensures.within read.1 c.in_ok-text.ensures.failures
+          c.in_ok-section.section compiled _ c.put_code.ensures.passes c.in_default.ensures.part c.in_default.ensures.failed;
+    }
+
+pub returns-in-None : goal.returns-in-None
+returns-in-None g c =
+    let read = c.in_ok-text.ensures.read in
+    let compiled = subst (λ (t : List ℕ). Compiled c.in_ok-section.section t c.loop-text.line) c.as_slice.ensures.value c.in_ok-section.ensures.compiled in
+    record {
+      puts = is_last _ _ _ _ _ _ c.read_section.new.taken c.loop-text.line _ _ c.loop-text.invariant c.in_ok-text.text.items read.0 c.read_section.ensures.within read.1 c.in_ok-text.ensures.failures
+          c.in_ok-section.section compiled _ c.put_code.ensures.passes c.in-Ok.ensures.takes c.in-None.is;
+    }
+
+pub loop-text-smaller : goal.loop-text-smaller
+loop-text-smaller g c =
+    let read = c.in_ok-text.ensures.read in
+    let compiled = subst (λ (t : List ℕ). Compiled c.in_ok-section.section t c.loop-text.line) c.as_slice.ensures.value c.in_ok-section.ensures.compiled in
+    let more = some_taken _ _ _ _ _ _ c.read_section.new.taken c.loop-text.line _ _ c.loop-text.invariant c.in_ok-text.text.items read.0 c.read_section.ensures.within read.1 c.in_ok-text.ensures.failures
+    c.in_ok-section.section compiled c.in-Some.next c.in-Some.is in
+    omega (arith, more, c.read_section.ensures.within)
+
+pub loop-text-preserved : goal.loop-text-preserved
+loop-text-preserved g c =
+    let read = c.in_ok-text.ensures.read in
+    let compiled = subst (λ (t : List ℕ). Compiled c.in_ok-section.section t c.loop-text.line) c.as_slice.ensures.value c.in_ok-section.ensures.compiled in
+    goes_on _ _ _ _ _ _ c.read_section.new.taken c.loop-text.line _ _ c.loop-text.invariant c.in_ok-text.text.items read.0 c.read_section.ensures.within read.1 c.in_ok-text.ensures.failures
+    c.in_ok-section.section compiled _ c.put_code.ensures.passes c.in-Ok.ensures.takes c.in-Some.next c.in-Some.is

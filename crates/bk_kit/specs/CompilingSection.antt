@@ -1,0 +1,51 @@
+-- What compiling one section comes to, by the machine of bk_lex.
+use Rattle.std.specs.Prelude.{◌≡◌, ◌≢◌, ◌⊎◌, ℕ, ⊤, List, [], ◌∷◌, Option, None, Some, Ok, Err, if◌then◌else◌}
+use Rattle.bk_base.specs.declared.refused.Refused.{Refused}
+use Rattle.bk_base.specs.declared.refused.Refused.TheVariants as refused
+use Rattle.bk_base.specs.declared.refused.Refused.TheVariants.{Fault, Device}
+use Rattle.bk_base.specs.declared.source_fault.SourceFault.{SourceFault}
+use Rattle.bk_lex.specs.Symbol.{Symbol}
+use Rattle.bk_lex.specs.Lexing.{Section, lexed}
+use Rattle.bk_syntax.specs.Parsing.{ToldAt, ToldAtEnd}
+use Rattle.bk_ocode.specs.SectionStmts.{stmts_of}
+use Rattle.bk_ocode.specs.declared.section.Ocode as o
+use Rattle.bk_ocode.specs.declared.stmt.Stmt.{Stmt}
+use Rattle.bk_kit.specs.declared.kit_fault.KitFault.{KitFault}
+use Rattle.bk_kit.specs.declared.kit_fault.KitFault.TheVariants.{Source, Ocode, Intcode, TooSmall, NoStart, Read, Write, Memory}
+use Rattle.bk_kit.specs.declared.section.CompiledSection.{CompiledSection}
+use Rattle.bk_kit.specs.Sources.{Translates, Means, Misnames}
+
+-- what the kit answers of a source that is refused
+abbrev pub source_refused : Refused SourceFault → KitFault
+source_refused (Fault fault) = Source fault
+source_refused refused.Memory = Memory
+source_refused Device = Read
+
+abbrev pub codes_in : Option o.Ocode → List (List Stmt)
+codes_in None = []
+codes_in (Some code) = stmts_of code ∷ []
+
+-- The first section of a text is accepted, with this code and this end.
+pub record Compiled (c : CompiledSection) (text : List ℕ) (from : ℕ) : Type 0 where
+  pub tokens : Section
+  pub lexed_as : lexed text from ≡ Ok tokens
+  pub means : Means tokens.symbols (codes_in c.code)
+  pub next : c.next ≡ (if tokens.ended then Some tokens.line else None)
+
+-- These symbols are no section without faults: of its syntax, or else of its names.
+abbrev pub RefusesSymbols : KitFault → List Symbol → ℕ → Type 0
+RefusesSymbols (Source fault) symbols end =
+    (ToldAt fault symbols ⊎ ToldAtEnd fault symbols end ⊎ Misnames fault symbols) × ((stmts : List Stmt) → Translates symbols stmts → ⊥)
+RefusesSymbols Memory symbols end = ⊤
+RefusesSymbols (Ocode number fault) symbols end = ⊥
+RefusesSymbols (Intcode number fault) symbols end = ⊥
+RefusesSymbols TooSmall symbols end = ⊥
+RefusesSymbols NoStart symbols end = ⊥
+RefusesSymbols Read symbols end = ⊥
+RefusesSymbols Write symbols end = ⊥
+
+-- The first section of a text is refused for this fault, or memory was.
+abbrev pub Refuses : KitFault → List ℕ → ℕ → Type 0
+Refuses (Source fault) text from =
+    (lexed text from ≡ Err fault) ⊎ ((tokens : Section) × (lexed text from ≡ Ok tokens) × (tokens.symbols ≢ []) × RefusesSymbols (Source fault) tokens.symbols tokens.line)
+Refuses fault text from = RefusesSymbols fault [] from

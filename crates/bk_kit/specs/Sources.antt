@@ -1,0 +1,88 @@
+-- What a source says: its sections one after another, each with its statements in OCODE, up to one that is refused.
+use Rattle.std.specs.Prelude.{◌≡◌, ◌⊎◌, ℕ, true, List, [], ◌∷◌, ◌++◌, Some, length}
+use Rattle.bk_base.specs.declared.source_fault.SourceFault.{SourceFault}
+use Rattle.bk_lex.specs.Symbol.{Symbol}
+use Rattle.bk_lex.specs.Lexing.{Section}
+use Rattle.bk_lex.specs.Tokens.{IsSection}
+use Rattle.bk_lex.specs.TextFault.{HasFault}
+use Rattle.bk_lex.specs.Telling.{Told}
+use Rattle.bk_syntax.specs.Tree.{Declarations}
+use Rattle.bk_syntax.specs.Limits.{Within}
+use Rattle.bk_syntax.specs.SyntaxFault as syntax
+use Rattle.bk_syntax.specs.Parsing.{ToldAt, ToldAtEnd}
+use Rattle.bk_scope.specs.Points.{first_told}
+use Rattle.bk_scope.specs.Faults.{faults}
+use Rattle.bk_scope.specs.FirstFault.{breach_of}
+use Rattle.bk_ocode.specs.Lists.{joined}
+use Rattle.bk_ocode.specs.SectionText.{section_text}
+use Rattle.bk_ocode.specs.declared.stmt.Stmt.{Stmt}
+use Rattle.bk_trans.specs.Naming.{named_tree}
+use Rattle.bk_trans.specs.Scheme.{scheme}
+
+-- The symbols are a section of the grammar within the limits, its names have no fault, and these are its statements.
+pub record Translates (symbols : List Symbol) (stmts : List Stmt) : Type 0 where
+  pub tree : Declarations
+  pub section : syntax.IsSection tree symbols
+  pub within : Within tree
+  pub faultless : faults tree ≡ []
+  pub code : stmts ≡ scheme (named_tree tree)
+
+-- A section without symbols is skipped.
+abbrev pub Means : List Symbol → List (List Stmt) → Type 0
+Means [] codes = codes ≡ []
+Means (symbol ∷ symbols) codes = (stmts : List Stmt) × Translates (symbol ∷ symbols) stmts × (codes ≡ stmts ∷ [])
+
+-- The first section of a text whose first line has this number is accepted, with these statements.
+pub record Accepted (text : List ℕ) (line : ℕ) (section : Section) (codes : List (List Stmt)) : Type 0 where
+  pub tokens : IsSection text line section
+  pub means : Means section.symbols codes
+
+-- The names of the section have this fault, which is their first.
+pub record Misnames (fault : SourceFault) (symbols : List Symbol) : Type 0 where
+  pub tree : Declarations
+  pub section : syntax.IsSection tree symbols
+  pub within : Within tree
+  pub first : first_told (faults tree) ≡ Some (breach_of fault)
+
+-- The first section of a text is refused for this fault: one of its tokens; or else, one of its syntax, at a symbol or at its
+-- end; or else, of its names.
+abbrev pub Stands : SourceFault → List ℕ → ℕ → Type 0
+Stands fault text line =
+    (HasFault line fault text × Told line fault text)
+    ⊎ ((section : Section) × IsSection text line section
+    × (ToldAt fault section.symbols ⊎ ToldAtEnd fault section.symbols section.line ⊎ Misnames fault section.symbols))
+
+pub record Refused (fault : SourceFault) (text : List ℕ) (line : ℕ) : Type 0 where
+  pub stands : Stands fault text line
+  pub not_accepted : (section : Section) (codes : List (List Stmt)) → Accepted text line section codes → ⊥
+
+-- A section with its bytes, the `.` that ends it included, and its statements.
+pub record WholeSection : Type 0 where
+  pub bytes : List ℕ
+  pub tokens : Section
+  pub codes : List (List Stmt)
+
+abbrev pub bytes_of : List WholeSection → List ℕ
+bytes_of [] = []
+bytes_of (section ∷ sections) = section.bytes ++ bytes_of sections
+
+abbrev pub codes_of : List WholeSection → List (List Stmt)
+codes_of [] = []
+codes_of (section ∷ sections) = section.codes ++ codes_of sections
+
+-- the line on which it goes on behind them
+abbrev pub line_behind : ℕ → List WholeSection → ℕ
+line_behind line [] = line
+line_behind line (section ∷ sections) = line_behind section.tokens.line sections
+
+-- They are the first sections of a text that goes on behind them so, each accepted and ended by its `.`.
+abbrev pub AreAccepted : ℕ → List WholeSection → List ℕ → Type 0
+AreAccepted line [] rest = Unit {0}
+AreAccepted line (section ∷ sections) rest =
+    Accepted (section.bytes ++ (bytes_of sections ++ rest)) line section.tokens section.codes
+    × (section.tokens.ended ≡ true) × (section.tokens.used ≡ length section.bytes)
+    × AreAccepted section.tokens.line sections rest
+
+-- the texts of sections in OCODE, one after another
+abbrev pub texts_of : List (List Stmt) → List ℕ
+texts_of codes = joined section_text codes
