@@ -10,5 +10,7 @@ mod SectionLemmas
 mod CompileLemmas
 mod GenerateLemmas
 mod SourceLemmas
+mod OcodeEnds
+mod OcodeLemmas
 mod TellLemmas
 mod LineLemmas

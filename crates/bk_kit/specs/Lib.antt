@@ -6,6 +6,7 @@ pub mod Code
 pub mod Interpreting
 pub mod Headline
 pub mod ShortSources
+pub mod OcodeSteps
 pub mod Statuses
 pub mod Telling
 pub mod Filters
