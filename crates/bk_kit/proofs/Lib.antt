@@ -8,6 +8,7 @@ mod ReadingLemmas
 mod FilterLemmas
 mod SectionLemmas
 mod CompileLemmas
+mod SourceSectionLemmas
 mod GenerateLemmas
 mod SourceLemmas
 mod OcodeEnds

@@ -14,6 +14,7 @@ pub mod ReadingSource
 pub mod Sources
 pub mod CompilingSection
 pub mod Compiling
+pub mod SourceSections
 pub mod Generating
 pub mod Sizes
 pub mod Serving
