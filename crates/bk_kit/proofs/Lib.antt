@@ -8,7 +8,10 @@ mod ReadingLemmas
 mod FilterLemmas
 mod SectionLemmas
 mod CompileLemmas
+mod SourceSectionLemmas
 mod GenerateLemmas
 mod SourceLemmas
+mod OcodeEnds
+mod OcodeLemmas
 mod TellLemmas
 mod LineLemmas

@@ -6,6 +6,7 @@ pub mod Code
 pub mod Interpreting
 pub mod Headline
 pub mod ShortSources
+pub mod OcodeSteps
 pub mod Statuses
 pub mod Telling
 pub mod Filters
@@ -13,6 +14,7 @@ pub mod ReadingSource
 pub mod Sources
 pub mod CompilingSection
 pub mod Compiling
+pub mod SourceSections
 pub mod Generating
 pub mod Sizes
 pub mod Serving
