@@ -23,6 +23,10 @@ const WRONG_SECOND: &[u8] =
 const FIRST_CODE: &[u8] =
     b"ENTRY L1 6 68 79 85 66 76 69\nSAVE 3\nLP 2\nLP 2\nPLUS\nFNRN\nENDPROC\nGLOBAL 1 100 L1\n";
 
+/// Each form of the language once, as in examples/forms.b.
+const FORMS: &[u8] =
+    b"GET \"LIBHDR2\"\nMANIFEST $( M = 3; N = M * 2 $)\nSTATIC $( S = 5 $)\nGLOBAL $( G : 200 $)\n\nLET F(A, B) = A - B\nAND P(X) BE $( IF X = 0 RETURN; WRITEN(X); WRCH(' ') $)\n\nLET FIRST(X) = VALOF\n$( FOR I = 1 TO 10 DO IF I * I > X RESULTIS I\n   RESULTIS 0\n$)\n\nLET START() BE\n$( LET V = VEC 5\n   LET A, B = 1, ?\n   LET W, T = \"AB\", TABLE 7, 8, 9\n   LET INNER(X) = X + M\n   B := 2\n   A, B := B, A\n   P(A); P(B); P(T!1); P(!T); P(W%1); P(W%2)\n   V!0 := 4; !(V + 1) := 5; V%8 := 6\n   P(V!0 + V!1); P(V%8)\n   G := 10; S := S + 1; P(G); P(S)\n   P(F(7, N)); P(-M); P(+M); P(NOT -8); P(INNER(1))\n   P(@V!1 = V + 1 -> 11, 12)\n   P(7 * 3 / 2 + 7 REM 3); P((1 << 4) + (32 >> 3))\n   P((12 & 10) + (12 | 3) + (6 NEQV 3) + (6 EQV -7))\n   P(1 < 2 <= 2 -> 13, 0); P(3 > 2 >= 3 -> 0, 14); P(1 = 1 -> 15, 0); P(1 ~= 1 -> 0, 16)\n   P(TRUE & FALSE -> 0, 17); P(FALSE | TRUE -> 18, 0); P(FIRST(20))\n   IF A = 2 DO P(1)\n   UNLESS A = 2 DO P(99)\n   TEST A = 3 THEN P(98) OR P(2)\n   $( LET I = 3\n      WHILE I > 0 DO $( P(I); I := I - 1 $)\n      UNTIL I = 2 DO I := I + 1\n      P(I)\n      I := I + 1 REPEATWHILE I < 6\n      P(I)\n      I := I - 2 REPEATUNTIL I <= 0\n      P(I + 40)\n      $( I := I + 1; IF I = 3 LOOP; IF I > 4 BREAK; P(I) $) REPEAT\n   $)\n   FOR I = 10 TO 1 BY -4 DO P(I)\n   FOR I = 1 TO 5 DO SWITCHON I INTO\n   $( CASE 1: P(21); ENDCASE\n      CASE 3: P(23)\n      CASE 4: P(24); ENDCASE\n      DEFAULT: P(20)\n   $)\n   A := 0\nL: A := A + 1\n   IF A < 3 GOTO L\n   P(A)\n   WRITEF(\"%N %C %S %I3*N\", 5, 'x', \"yz\", 42)\n   FINISH\n$)\n";
+
 /// Refuses each byte.
 #[derive(Drop)]
 struct Refusing {
@@ -217,4 +221,11 @@ fn chains(rt: HostRuntime) -> Result<(), Fail> {
         b"",
     )?;
     Ok(())
+}
+
+#[test]
+fn each_form(rt: HostRuntime) -> Result<(), Fail> {
+    let written =
+        b"2 2 8 7 65 66 9 6 10 6 1 -3 3 7 4 11 11 20 28 13 14 15 16 17 18 5 1 2 3 2 1 2 6 40 1 2 4 10 6 2 21 20 23 24 24 20 3 5 x yz  42\n";
+    check_chain(&rt, rt.alloc(), FORMS, b"", 0, written, b"")
 }
