@@ -4,7 +4,7 @@ use Rattle.bk_base.specs.declared.source_fault.SourceFault.{SourceFault}
 use Rattle.bk_lex.specs.Lexing.{Section}
 use Rattle.bk_lex.proofs.Complete.{section_is_lexed}
 use Rattle.bk_ocode.specs.declared.stmt.Stmt.{Stmt}
-use Rattle.bk_kit.specs.Sources.{Accepted, Refused, WholeSection, bytes_of, line_behind, AreAccepted}
+use Rattle.bk_kit.specs.Sources.{Accepted, Refused, WholeSection, bytes_of, codes_of, line_behind, AreAccepted}
 use Rattle.bk_gen.specs.BackEnd.{Part}
 use Rattle.bk_kit.specs.SourceSections.{HasSections, IsRefused, OcodeRefuses}
 
@@ -53,3 +53,29 @@ refused_not_accepted source fault codes refused has =
 pub ocode_refuses : OcodeRefuses
 ocode_refuses parts source fault steps words streams refused =
     (refused, (λ has. refused_not_accepted source fault (map (λ (p : Part). p.stmts) parts) refused has), refl)
+
+-- ---- of a source of which sections were delivered, and then a part of the last, whatever follows
+
+module _ (sections : List WholeSection) (part rest : List ℕ) (accepted : AreAccepted 1 sections (part ++ rest)) where
+  pub has_delivered : (last : Section) (codes : List (List Stmt)) → Accepted (part ++ rest) (line_behind 1 sections) last codes → last.ended ≡ false
+      → HasSections ((bytes_of sections ++ part) ++ rest) (codes_of sections ++ codes)
+  has_delivered last codes accepts at_end = record {
+    sections = sections;
+    part = part ++ rest;
+    whole = append_assoc (bytes_of sections) part rest;
+    accepted = accepted;
+    last = last;
+    last_codes = codes;
+    accepts = accepts;
+    at_end = at_end;
+    all = refl;
+  }
+
+  pub refused_delivered : (fault : SourceFault) → Refused fault (part ++ rest) (line_behind 1 sections) → IsRefused ((bytes_of sections ++ part) ++ rest) fault
+  refused_delivered fault refused = record {
+    sections = sections;
+    part = part ++ rest;
+    whole = append_assoc (bytes_of sections) part rest;
+    accepted = accepted;
+    refused = refused;
+  }
