@@ -264,13 +264,13 @@ module _ (Says : List ℕ → Type 0) (Refused : List ℕ → SourceFault → Ty
           passes passed blamed (λ input part. part)
 
 -- The laws, from that of the back end.
-module _ (Says : List ℕ → Type 0) (Refused : List ℕ → SourceFault → Type 0) where
+module _ (Says : List Part → List ℕ → Type 0) (Refused : List ℕ → SourceFault → Type 0) where
   pub sections_run : BackEndHolds → OcodeRuns Says Refused
   sections_run back parts source end steps words store registers before after says room most starts ran passes passed blamed =
-      runs Says Refused parts source says steps words back room most starts store registers before after end ran passes passed blamed
+      runs (Says parts) Refused parts source says steps words back room most starts store registers before after end ran passes passed blamed
 
   pub sections_too_small : OcodeTooSmall Says Refused
-  sections_too_small parts source steps words streams says low = too_small Says Refused parts source says steps words streams low
+  sections_too_small parts source steps words streams says low = too_small (Says parts) Refused parts source says steps words streams low
 
   pub sections_startless : OcodeStartless Says Refused
-  sections_startless parts source steps words streams says none = startless Says Refused parts source says steps words streams none
+  sections_startless parts source steps words streams says none = startless (Says parts) Refused parts source says steps words streams none

@@ -1,12 +1,12 @@
 -- A source that is refused is not accepted.
-use Rattle.std.proofs.Common.{◌≡◌, ℕ, true, false, List, [], ◌∷◌, ◌++◌, Ok, length, refl, sym, ap, ◌∙◌, subst, append_assoc}
-use Rattle.std.proofs.lemmas.List.{append_cancel_left}
+use Rattle.std.proofs.Common.{◌≡◌, ℕ, true, false, List, [], ◌∷◌, ◌++◌, map, length, refl, sym, ap, ◌∙◌, subst, append_assoc}
 use Rattle.bk_base.specs.declared.source_fault.SourceFault.{SourceFault}
-use Rattle.bk_lex.specs.Lexing.{Section, lexed}
+use Rattle.bk_lex.specs.Lexing.{Section}
 use Rattle.bk_lex.proofs.Complete.{section_is_lexed}
 use Rattle.bk_ocode.specs.declared.stmt.Stmt.{Stmt}
-use Rattle.bk_kit.specs.Sources.{Accepted, Refused, WholeSection, bytes_of, line_behind, AreAccepted}
-use Rattle.bk_kit.specs.SourceSections.{HasSections, IsRefused}
+use Rattle.bk_kit.specs.Sources.{Accepted, Refused, WholeSection, bytes_of, codes_of, line_behind, AreAccepted}
+use Rattle.bk_gen.specs.BackEnd.{Part}
+use Rattle.bk_kit.specs.SourceSections.{HasSections, IsRefused, OcodeRefuses}
 
 -- the first section of a text is one
 one_section : (text : List ℕ) (line : ℕ) (s t : Section) (codes others : List (List Stmt)) → Accepted text line s codes → Accepted text line t others → s ≡ t
@@ -45,6 +45,37 @@ module _ (fault : SourceFault) (p q : List ℕ) (last : Section) (codes : List (
       (subst (λ l. AreAccepted l xs p) one_line first.3) second.3
       (subst (λ l. Accepted p (line_behind l xs) last codes) one_line accepts) refused
 
-pub refused_not_accepted : (source : List ℕ) (fault : SourceFault) (codes : List (List Stmt)) → IsRefused source fault → HasSections source codes → ⊥
+refused_not_accepted : (source : List ℕ) (fault : SourceFault) (codes : List (List Stmt)) → IsRefused source fault → HasSections source codes → ⊥
 refused_not_accepted source fault codes refused has =
     not_both fault has.part refused.part has.last has.last_codes has.at_end 1 has.sections refused.sections (sym has.whole ∙ refused.whole) has.accepted refused.accepted has.accepts refused.refused
+
+-- so its fault answers it
+pub ocode_refuses : OcodeRefuses
+ocode_refuses parts source fault steps words streams refused =
+    (refused, (λ has. refused_not_accepted source fault (map (λ (p : Part). p.stmts) parts) refused has), refl)
+
+-- ---- of a source of which sections were delivered, and then a part of the last, whatever follows
+
+module _ (sections : List WholeSection) (part rest : List ℕ) (accepted : AreAccepted 1 sections (part ++ rest)) where
+  pub has_delivered : (last : Section) (codes : List (List Stmt)) → Accepted (part ++ rest) (line_behind 1 sections) last codes → last.ended ≡ false
+      → HasSections ((bytes_of sections ++ part) ++ rest) (codes_of sections ++ codes)
+  has_delivered last codes accepts at_end = record {
+    sections = sections;
+    part = part ++ rest;
+    whole = append_assoc (bytes_of sections) part rest;
+    accepted = accepted;
+    last = last;
+    last_codes = codes;
+    accepts = accepts;
+    at_end = at_end;
+    all = refl;
+  }
+
+  pub refused_delivered : (fault : SourceFault) → Refused fault (part ++ rest) (line_behind 1 sections) → IsRefused ((bytes_of sections ++ part) ++ rest) fault
+  refused_delivered fault refused = record {
+    sections = sections;
+    part = part ++ rest;
+    whole = append_assoc (bytes_of sections) part rest;
+    accepted = accepted;
+    refused = refused;
+  }

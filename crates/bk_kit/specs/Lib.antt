@@ -6,7 +6,6 @@ pub mod Code
 pub mod Interpreting
 pub mod Headline
 pub mod ShortSources
-pub mod OcodeSteps
 pub mod Statuses
 pub mod Telling
 pub mod Filters
@@ -14,6 +13,7 @@ pub mod ReadingSource
 pub mod Sources
 pub mod CompilingSection
 pub mod Compiling
+pub mod OcodeSteps
 pub mod SourceSections
 pub mod Generating
 pub mod Sizes

@@ -60,21 +60,21 @@ ocode_steps parts Says Refused = record {
 }
 
 -- The laws, whatever is said of the sources that have the sections, and of faults.
-module _ (Says : List ℕ → Type 0) (Refused : List ℕ → SourceFault → Type 0) where
+module _ (Says : List Part → List ℕ → Type 0) (Refused : List ℕ → SourceFault → Type 0) where
   -- A run of the machine with the segments of sections, where the loader takes them, is one of each source that has the sections.
   abbrev pub OcodeRuns : Type 0
   OcodeRuns = (parts : List Part) (source : List ℕ) (end : End) (steps words : ℕ) (store : List ℕ) (registers : Registers) (before after : Streams)
-      → Says source → image parts + 16 ≤ words → words ≤ STORE_MOST → any_starts (segments parts) ≡ true
+      → Says parts source → image parts + 16 ≤ words → words ≤ STORE_MOST → any_starts (segments parts) ≡ true
       → Ran end steps (loaded_store words (segments parts)) (first_registers (segments parts)) store registers (told before) (told after)
       → Begins before.passed after.passed → (end ≢ WriteFault → after.passed ≡ after.taken) → Blames end before.reads after.reads after.writes
-      → Runs (ocode_steps parts Says Refused) source end steps words before after
+      → Runs (ocode_steps parts (Says parts) Refused) source end steps words before after
 
   -- Where the loader finds the store too small, it is too small for the end of the run, whatever the input is.
   abbrev pub OcodeTooSmall : Type 0
-  OcodeTooSmall = (parts : List Part) (source : List ℕ) (steps words : ℕ) (streams : Streams) → Says source → words < image parts + 16
-      → Keeps (ocode_steps parts Says Refused) source (Err TooSmall) steps words streams streams
+  OcodeTooSmall = (parts : List Part) (source : List ℕ) (steps words : ℕ) (streams : Streams) → Says parts source → words < image parts + 16
+      → Keeps (ocode_steps parts (Says parts) Refused) source (Err TooSmall) steps words streams streams
 
   -- Where the loader finds no START, the source has none.
   abbrev pub OcodeStartless : Type 0
-  OcodeStartless = (parts : List Part) (source : List ℕ) (steps words : ℕ) (streams : Streams) → Says source → any_starts (segments parts) ≡ false
-      → Keeps (ocode_steps parts Says Refused) source (Err NoStart) steps words streams streams
+  OcodeStartless = (parts : List Part) (source : List ℕ) (steps words : ℕ) (streams : Streams) → Says parts source → any_starts (segments parts) ≡ false
+      → Keeps (ocode_steps parts (Says parts) Refused) source (Err NoStart) steps words streams streams

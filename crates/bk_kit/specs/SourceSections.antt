@@ -1,8 +1,13 @@
--- Which sections a whole source has, and which sources are refused.
-use Rattle.std.specs.Prelude.{◌≡◌, ℕ, false, List, ◌++◌}
+-- Which sections a whole source has, which sources are refused, and what sources mean by the steps of OCODE.
+use Rattle.std.specs.Prelude.{◌≡◌, ℕ, false, List, ◌++◌, map, Err}
 use Rattle.bk_base.specs.declared.source_fault.SourceFault.{SourceFault}
 use Rattle.bk_lex.specs.Lexing.{Section}
 use Rattle.bk_ocode.specs.declared.stmt.Stmt.{Stmt}
+use Rattle.bk_gen.specs.BackEnd.{Part}
+use Rattle.bk_kit.specs.declared.kit_fault.KitFault.TheVariants.{Source}
+use Rattle.bk_kit.specs.Interpreting.{Streams}
+use Rattle.bk_kit.specs.Headline.{Language, Keeps}
+use Rattle.bk_kit.specs.OcodeSteps.{ocode_steps}
 use Rattle.bk_kit.specs.Sources.{Accepted, Refused, WholeSection, bytes_of, codes_of, line_behind, AreAccepted}
 
 -- Accepted sections, each with its `.`, and behind them an accepted one that the source's end ends; these are the statements of all.
@@ -24,3 +29,17 @@ pub record IsRefused (source : List ℕ) (fault : SourceFault) : Type 0 where
   pub whole : source ≡ bytes_of sections ++ part
   pub accepted : AreAccepted 1 sections part
   pub refused : Refused fault part (line_behind 1 sections)
+
+-- the statements of the source's sections are those of the parts
+abbrev pub HasParts : List Part → List ℕ → Type 0
+HasParts parts source = HasSections source (map (λ (p : Part). p.stmts) parts)
+
+-- The language of the sources with these parts: each means what the steps of OCODE do on the statements of its sections, with the
+-- numbers that the parts' segments give. A source is refused for the fault of its first section that is not accepted.
+abbrev pub sources_of : List Part → Language
+sources_of parts = ocode_steps parts (HasParts parts) IsRefused
+
+-- A source that is refused may be answered by its fault: it is not accepted, whatever the parts are.
+abbrev pub OcodeRefuses : Type 0
+OcodeRefuses = (parts : List Part) (source : List ℕ) (fault : SourceFault) (steps words : ℕ) (streams : Streams) → IsRefused source fault
+    → Keeps (sources_of parts) source (Err (Source fault)) steps words streams streams

@@ -1,15 +1,17 @@
 //! Laws of the languages of sources.
-ghost use Rattle.std.specs.Prelude.{⊤};
 ghost use Rattle.bk_kit.specs.OcodeSteps.{OcodeRuns, OcodeTooSmall, OcodeStartless};
+ghost use Rattle.bk_kit.specs.SourceSections.{HasParts, IsRefused, OcodeRefuses};
 
 use bk_gen::back_end;
 
-/// Runs of sections, whatever source has them. Where the loader takes segments that stand for the sections, a run of the machine is one
-/// of the source, where the source means what the steps of OCODE do; where it finds the store too small or no START, so does the meaning.
+/// Runs of sources, where a source means what the steps of OCODE do on the statements of its sections. Where the loader takes segments
+/// that stand for the sections, a run of the machine is one of the source; where it finds the store too small or no START, so does the
+/// meaning; and a source that is refused is not accepted.
 pub fn ocode_runs()
-    ensures runs { OcodeRuns (λ source. ⊤) (λ source fault. ⊥) }
-    ensures too_small { OcodeTooSmall (λ source. ⊤) (λ source fault. ⊥) }
-    ensures startless { OcodeStartless (λ source. ⊤) (λ source fault. ⊥) }
+    ensures runs { OcodeRuns HasParts IsRefused }
+    ensures too_small { OcodeTooSmall HasParts IsRefused }
+    ensures startless { OcodeStartless HasParts IsRefused }
+    ensures refuses { OcodeRefuses }
 {
     back_end();
 }
