@@ -54,6 +54,14 @@ abbrev pub kit_command : App
 kit_command =
     with_subcommand (with_subcommand (with_subcommand (with_subcommand (new_app (codes "bcpl")) compile_command.top) generate_command.top) run_command.top) interpret_command.top
 
+-- the name of FILE; the filters have none
+abbrev pub file_name : Order → Option (List ℕ)
+file_name Compile = None
+file_name Generate = None
+file_name (Run limits name) = Some (string_bytes name)
+file_name (Interpret limits name) = Some (string_bytes name)
+file_name (Sizes limits name) = Some (string_bytes name)
+
 -- the text of a truth value
 abbrev pub truth_text : Bool → Text
 truth_text true = codes "true"

@@ -17,8 +17,14 @@ pub enum Order {
 }
 
 impl Order {
+    ghost use Rattle.std.specs.Prelude.{◌≡◌, IfSome, IfNone, None, Some};
+    ghost use Rattle.bk_kit.specs.CommandLine.{file_name};
+
     /// The name of FILE; none for the two filters, which read the input.
-    pub fn file(&self) -> Option<&str> {
+    pub fn file(&self) -> Option<&str>
+        ensures named { IfSome result (λ name. file_name self.now ≡ Some name.now) }
+        ensures none { IfNone result (file_name self.now ≡ None) }
+    {
         match self {
             Order::Compile | Order::Generate => None,
             Order::Run(_, file) | Order::Interpret(_, file) | Order::Sizes(_, file) => Some(
