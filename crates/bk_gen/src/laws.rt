@@ -1,5 +1,5 @@
 //! The laws of the layers below on which the code rests, and the law of the back end.
-ghost use Rattle.bk_gen.specs.BackEnd.{BackEndHolds};
+ghost use Rattle.bk_gen.specs.BackEnd.{BackEndHolds, PartsAreWellPlaced};
 ghost use Rattle.bk_gen.specs.Laws.{Laws, RunLaws};
 
 use bk_intcode::format_is_of_parts;
@@ -46,6 +46,15 @@ fn run_laws()
 /// so does the machine's.
 pub fn back_end()
     ensures { BackEndHolds }
+{
+    laws();
+    run_laws();
+}
+
+/// Sections in the loader's placement: the number of each entry and of each place behind a call is that of no other, and strings and
+/// data lie apart from one another, between the globals and the first frame.
+pub fn parts_are_well_placed()
+    ensures { PartsAreWellPlaced }
 {
     laws();
     run_laws();

@@ -10,5 +10,5 @@ mod table;
 #[cfg(test)]
 mod tests;
 
-pub use laws::back_end;
+pub use laws::{back_end, parts_are_well_placed};
 pub use segment::generate;

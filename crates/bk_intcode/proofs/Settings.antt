@@ -1,10 +1,8 @@
 -- Settings of globals, and segments that are placed one after another.
-use Rattle.std.proofs.Common.{◌≡◌, ℕ, suc, ◌+◌, ◌-◌, ◌<◌, ◌≤◌, List, [], ◌∷◌, ◌++◌, length, get_or, set, take, drop, refl, sym, ap, ◌∙◌, arith, Some, map, length-append, append_assoc}
-use Rattle.std.specs.Prelude.{fold, slice_get, replicate}
-use Rattle.std.proofs.Math.Logic.{∥∥₁_elim}
+use Rattle.std.proofs.Common.{◌≡◌, ℕ, ◌+◌, ◌-◌, ◌<◌, ◌≤◌, List, [], ◌∷◌, ◌++◌, length, get_or, set, take, drop, refl, sym, ap, ◌∙◌, arith, map, length-append, append_assoc}
+use Rattle.std.specs.Prelude.{fold, replicate}
 use Rattle.std.proofs.Math.Path.{fun_ext}
-use Rattle.std.proofs.Math.Bridge.{le_prop}
-use Rattle.std.proofs.lemmas.List.{take_more, drop_more, map_more, append-nil, drop_all, take_all, length-set, set-append_left, length-replicate}
+use Rattle.std.proofs.lemmas.List.{take_more, drop_more, map_more, append-nil, drop_all, take_all, length-set, set-append_left}
 use Rattle.std.proofs.lemmas.List.Sums.{fold-append, fold_push}
 use Rattle.bk_intcode.specs.declared.item.Item.{Item}
 use Rattle.bk_intcode.specs.declared.item.Item.TheVariants.{Instruction, SetLabel, Byte, Word, LabelWord, SetGlobal, Frame, End}
@@ -12,15 +10,11 @@ use Rattle.bk_intcode.specs.declared.segment.Intcode.{Intcode}
 use Rattle.bk_intcode.specs.Segment.{IsSegment}
 use Rattle.bk_intcode.specs.SegmentItems.{items_of}
 use Rattle.bk_intcode.specs.SizeLaws.{segment_length}
-use Rattle.bk_intcode.specs.Placement.{Setting, SEGMENTS, start_words, library_words, library_settings, item_settings, segment_settings, all_settings, all_words, with_setting, segment_size, segment_words, label_number, stack_start, loaded_store}
+use Rattle.bk_intcode.specs.Placement.{Setting, SEGMENTS, library_settings, item_settings, segment_settings, all_settings, all_words, with_setting, segment_size, segment_words, label_number, stack_start, loaded_store}
 use Rattle.bk_intcode.specs.Placed.{placed}
+use Rattle.bk_intcode.specs.SegmentLaws.{segment_whole}
+use Rattle.bk_intcode.specs.LoadedWords.{AreSegments, AreBounded, settings_joined, items_bounded, segments_bounded, library_bounded, settings_length, below, below_length, stack_more}
 use Rattle.bk_intcode.proofs.Places.{got}
-
-segment_settings-append : (labels : ℕ → ℕ) (xs ys : List Item) → segment_settings labels (xs ++ ys) ≡ segment_settings labels xs ++ segment_settings labels ys
-segment_settings-append labels [] ys = refl
-segment_settings-append labels (x ∷ xs) ys =
-    ap (λ l. item_settings labels x ++ l) (segment_settings-append labels xs ys)
-    ∙ sym (append_assoc (item_settings labels x) (segment_settings labels xs) (segment_settings labels ys))
 
 -- one more item
 pub settings-more : (labels : ℕ → ℕ) (store : List ℕ) (items : List Item) (i : ℕ) (d : Item) → i < length items
@@ -28,49 +22,17 @@ pub settings-more : (labels : ℕ → ℕ) (store : List ℕ) (items : List Item
     ≡ fold with_setting (fold with_setting store (segment_settings labels (take i items))) (item_settings labels (get_or items i d))
 settings-more labels store items i d within =
     ap (λ l. fold with_setting store (segment_settings labels l)) (take_more items i d within)
-    ∙ ap (λ l. fold with_setting store l) (segment_settings-append labels (take i items) (get_or items i d ∷ []))
+    ∙ ap (λ l. fold with_setting store l) (settings_joined labels (take i items) (get_or items i d ∷ []))
     ∙ fold-append with_setting store (segment_settings labels (take i items)) (segment_settings labels (get_or items i d ∷ []))
     ∙ ap (λ l. fold with_setting (fold with_setting store (segment_settings labels (take i items))) l) (append-nil (item_settings labels (get_or items i d)))
 
-pub length-settings : (store : List ℕ) (settings : List Setting) → length (fold with_setting store settings) ≡ length store
-length-settings store [] = refl
-length-settings store (s ∷ settings) = length-settings (with_setting store s) settings ∙ length-set store (16 + s.global) s.value
-
--- the globals are in their range
-abbrev Bounded : List Setting → Type 0
-Bounded [] = Unit {0}
-Bounded (s ∷ settings) = (s.global ≤ 999) × Bounded settings
-
-bounded-append : (xs ys : List Setting) → Bounded xs → Bounded ys → Bounded (xs ++ ys)
-bounded-append [] ys hx hy = hy
-bounded-append (x ∷ xs) ys hx hy = (hx.0, bounded-append xs ys hx.1 hy)
-
-abbrev SetsGlobals : List Item → Type 0
-SetsGlobals items = (k number label : ℕ) → slice_get items k ≡ Some (SetGlobal number label) → number ≤ 999
-
-sets_globals : (segment : Intcode) → SetsGlobals (items_of segment)
-sets_globals segment = ∥∥₁_elim segment.whole (hlevel le_prop) (λ whole k number label at. (whole.in_range k (SetGlobal number label) at).0)
-
-bounded-segment : (labels : ℕ → ℕ) (items : List Item) → SetsGlobals items → Bounded (segment_settings labels items)
-bounded-segment labels [] within = tt
-bounded-segment labels (SetGlobal number l ∷ items) within = (within 0 number l refl, bounded-segment labels items (λ k. within (suc k)))
-bounded-segment labels (Instruction f i operand ∷ items) within = bounded-segment labels items (λ k. within (suc k))
-bounded-segment labels (SetLabel l ∷ items) within = bounded-segment labels items (λ k. within (suc k))
-bounded-segment labels (Byte b ∷ items) within = bounded-segment labels items (λ k. within (suc k))
-bounded-segment labels (Word w ∷ items) within = bounded-segment labels items (λ k. within (suc k))
-bounded-segment labels (LabelWord l ∷ items) within = bounded-segment labels items (λ k. within (suc k))
-bounded-segment labels (Frame n ∷ items) within = bounded-segment labels items (λ k. within (suc k))
-bounded-segment labels (End ∷ items) within = bounded-segment labels items (λ k. within (suc k))
-
-bounded-all : (start : ℕ) (segments : List Intcode) → Bounded (all_settings start (map items_of segments))
-bounded-all start [] = tt
-bounded-all start (s ∷ segments) =
-    bounded-append (segment_settings (label_number start (items_of s)) (items_of s)) (all_settings (start + segment_size (items_of s)) (map items_of segments))
-    (bounded-segment (label_number start (items_of s)) (items_of s) (sets_globals s))
-    (bounded-all (start + segment_size (items_of s)) segments)
+-- segments as they are kept
+all_whole : (segments : List Intcode) → AreSegments (map items_of segments)
+all_whole [] = tt
+all_whole (s ∷ segments) = (segment_whole s, all_whole segments)
 
 -- what lies behind the globals stays
-settings-behind : (store rest : List ℕ) (settings : List Setting) → 1016 ≤ length store → Bounded settings
+settings-behind : (store rest : List ℕ) (settings : List Setting) → 1016 ≤ length store → AreBounded settings
     → fold with_setting (store ++ rest) settings ≡ fold with_setting store settings ++ rest
 settings-behind store rest [] long within = refl
 settings-behind store rest (s ∷ settings) long within =
@@ -83,7 +45,7 @@ settings-behind store rest (s ∷ settings) long within =
 pub length-placed : (store : List ℕ) (items : List Item) → length (placed store items) ≡ length store + segment_size items
 length-placed store items =
     let labels = label_number (length store) items in
-    length-settings (store ++ segment_words labels items) (segment_settings labels items)
+    settings_length (segment_settings labels items) (store ++ segment_words labels items)
     ∙ length-append store (segment_words labels items)
     ∙ ap (λ n. length store + n) (segment_length labels items)
 
@@ -106,25 +68,13 @@ placed-all store (s ∷ segments) long =
     placed-all (placed store items) segments longer
     ∙ ap (λ n. fold with_setting (placed store items ++ all_words n (map items_of segments)) (all_settings n (map items_of segments))) size
     ∙ ap (λ l. fold with_setting l others)
-    (sym (settings-behind (store ++ words) rest settings long_words (bounded-segment labels items (sets_globals s)))
+    (sym (settings-behind (store ++ words) rest settings long_words (items_bounded labels items (segment_whole s).in_range))
     ∙ ap (λ l. fold with_setting l settings) (append_assoc store words rest))
     ∙ sym (fold-append with_setting (store ++ (words ++ rest)) settings others)
 
--- the store below the segments
-abbrev pub below : List ℕ
-below = start_words ++ replicate 1000 0 ++ library_words
-
-length-below : length below ≡ 1034
-length-below =
-    length-append (start_words ++ replicate 1000 0) library_words
-    ∙ ap (λ n. n + 18) (length-append start_words (replicate 1000 0) ∙ ap (λ n. 16 + n) (length-replicate {A = ℕ} 1000 0))
-
-bounded-library : Bounded library_settings
-bounded-library =
-    (omega arith, (omega arith, (omega arith, (omega arith, (omega arith, (omega arith, (omega arith, (omega arith, (omega arith, (omega arith, tt))))))))))
-
+-- and with the library set
 pub length-library : length (fold with_setting below library_settings) ≡ 1034
-length-library = length-settings below library_settings ∙ length-below
+length-library = settings_length library_settings below ∙ below_length
 
 pub loaded-is : (words : ℕ) (segments : List Intcode)
     → fold placed (fold with_setting below library_settings) (map items_of segments) ++ replicate (words - stack_start SEGMENTS (map items_of segments)) 0
@@ -134,7 +84,7 @@ loaded-is words segments =
     let all = all_words SEGMENTS (map items_of segments) in
     let settings = all_settings SEGMENTS (map items_of segments) in
     let zeros : List ℕ = replicate (words - stack_start SEGMENTS (map items_of segments)) 0 in
-    let long : 1016 ≤ length below = omega (arith, length-below) in
+    let long : 1016 ≤ length below = omega (arith, below_length) in
     let long_base : 1016 ≤ length base = omega (arith, length-library) in
     let long_all : 1016 ≤ length (base ++ all) = omega (arith, length-append base all) in
     let placed_words : fold placed base (map items_of segments) ≡ fold with_setting (base ++ all) settings =
@@ -142,23 +92,18 @@ loaded-is words segments =
     ∙ ap (λ n. fold with_setting (base ++ all_words n (map items_of segments)) (all_settings n (map items_of segments))) length-library in
     let library : fold with_setting ((below ++ all) ++ zeros) library_settings ≡ (base ++ all) ++ zeros =
     ap (λ l. fold with_setting l library_settings) (append_assoc below all zeros)
-    ∙ settings-behind below (all ++ zeros) library_settings long bounded-library
+    ∙ settings-behind below (all ++ zeros) library_settings long library_bounded
     ∙ sym (append_assoc base all zeros) in
     ap (λ l. l ++ zeros) placed_words
-    ∙ sym (settings-behind (base ++ all) zeros settings long_all (bounded-all SEGMENTS segments))
+    ∙ sym (settings-behind (base ++ all) zeros settings long_all (segments_bounded SEGMENTS (map items_of segments) (all_whole segments)))
     ∙ ap (λ l. fold with_setting l settings) (sym library)
     ∙ sym (fold-append with_setting ((below ++ all) ++ zeros) library_settings settings)
-
--- the stack starts behind every segment
-pub stack-least : (start : ℕ) (segments : List (List Item)) → start ≤ stack_start start segments
-stack-least start [] = omega arith
-stack-least start (items ∷ segments) = omega (arith, stack-least (start + segment_size items) segments)
 
 -- the first segment of those that are left fits where all do
 pub stack-part : (start : ℕ) (segments : List Intcode) (i : ℕ) (d : Intcode) → i < length segments
     → start + segment_size (items_of (get_or segments i d)) ≤ stack_start start (map items_of (drop i segments))
 stack-part start segments i d within =
-    rw (drop_more segments i d within) (stack-least (start + segment_size (items_of (get_or segments i d))) (map items_of (drop (i + 1) segments)))
+    rw (drop_more segments i d within) (stack_more (start + segment_size (items_of (get_or segments i d))) (map items_of (drop (i + 1) segments)))
 
 pub stack-more : (start : ℕ) (segments : List Intcode) (i : ℕ) (d : Intcode) → i < length segments
     → stack_start start (map items_of (drop i segments))

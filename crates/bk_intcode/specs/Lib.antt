@@ -5,6 +5,9 @@ pub mod CheckedSegment
 pub mod Instructions
 pub mod Placement
 pub mod SizeLaws
+pub mod Getting
+pub mod ItemWords
+pub mod LoadedWords
 pub mod Reach
 pub mod LabelNumbers
 pub mod Packing
@@ -19,6 +22,8 @@ pub mod StepLaws
 pub mod Runs
 pub mod RunLaws
 pub mod RunLengths
+pub mod RunWords
 pub mod ShorterStores
+pub mod RunInputs
 pub mod Telling
 pub mod State

@@ -1,6 +1,10 @@
 //! Laws of the definitions, for the layers above. A law is the contract of a function that does nothing.
 ghost use Rattle.bk_intcode.specs.FormatLaws.{FormatIsOfParts};
+ghost use Rattle.bk_intcode.specs.ItemWords.{ItemsAreJoined, SizesAreAdded, WordsOfItem, WordsOfBytes};
+ghost use Rattle.bk_intcode.specs.LoadedWords.{SegmentsLieInOrder, SegmentsLieApart, LoadedStoreHolds};
+ghost use Rattle.bk_intcode.specs.RunInputs.{RunsDependOnWhatTheyRead, RunsThatLeaveInput};
 ghost use Rattle.bk_intcode.specs.RunLengths.{RunsKeepLength};
+ghost use Rattle.bk_intcode.specs.RunWords.{RunsKeepWords};
 ghost use Rattle.bk_intcode.specs.ShorterStores.{RunsReadTheFront, RunsInShorterStores};
 ghost use Rattle.bk_intcode.specs.SizeLaws.{SizesIgnoreLabels, LabelsLieWithin, LabelsStandAtTheirItems};
 
@@ -26,10 +30,58 @@ pub fn labels_stand_at_their_items()
     ensures { LabelsStandAtTheirItems }
 {}
 
+/// Items that are appended put their words behind the others', where no word holds bytes of both.
+#[tactic(auto, using(crate::specs::ItemWords::items_joined))]
+pub fn items_are_joined()
+    ensures { ItemsAreJoined }
+{}
+
+/// They put as many words as they put alone.
+#[tactic(auto, using(crate::specs::ItemWords::sizes_added))]
+pub fn sizes_are_added()
+    ensures { SizesAreAdded }
+{}
+
+/// The words of an item other than a byte stand behind those of the items before it.
+#[tactic(auto, using(crate::specs::ItemWords::words_of_item))]
+pub fn words_of_item()
+    ensures { WordsOfItem }
+{}
+
+/// A run of bytes is packed four a word.
+#[tactic(auto, using(crate::specs::ItemWords::words_of_bytes))]
+pub fn words_of_bytes()
+    ensures { WordsOfBytes }
+{}
+
+/// Segments lie in the order in which they are given, from the first place on, and none where the stack is.
+#[tactic(auto, using(crate::specs::LoadedWords::lie_in_order))]
+pub fn segments_lie_in_order()
+    ensures { SegmentsLieInOrder }
+{}
+
+/// No two segments have a word in one place.
+#[tactic(auto, using(crate::specs::LoadedWords::lie_apart))]
+pub fn segments_lie_apart()
+    ensures { SegmentsLieApart }
+{}
+
+/// What the store before a run holds in each place.
+#[tactic(auto, using(crate::specs::LoadedWords::is_loaded))]
+pub fn loaded_store_holds()
+    ensures { LoadedStoreHolds }
+{}
+
 /// A run keeps the length of its store.
 #[tactic(auto, using(crate::specs::RunLengths::run_length))]
 pub fn runs_keep_length()
     ensures { RunsKeepLength }
+{}
+
+/// A run on words below 2^32 stands on words below 2^32.
+#[tactic(auto, using(crate::specs::RunWords::run_words))]
+pub fn runs_keep_words()
+    ensures { RunsKeepWords }
 {}
 
 /// A run reads its input from the front.
@@ -42,4 +94,16 @@ pub fn runs_read_the_front()
 #[tactic(auto, using(crate::specs::ShorterStores::run_shorter))]
 pub fn runs_in_shorter_stores()
     ensures { RunsInShorterStores }
+{}
+
+/// A run that did not ask for a byte where none was left depends on the bytes that it read alone.
+#[tactic(auto, using(crate::specs::RunInputs::run_depends))]
+pub fn runs_depend_on_what_they_read()
+    ensures { RunsDependOnWhatTheyRead }
+{}
+
+/// A run that leaves a byte did not ask where none was left.
+#[tactic(auto, using(crate::specs::RunInputs::run_leaves))]
+pub fn runs_that_leave_input()
+    ensures { RunsThatLeaveInput }
 {}

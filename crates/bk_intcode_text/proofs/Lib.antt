@@ -9,6 +9,7 @@ pub mod ReadingLemmas
 pub mod ItemSame
 pub mod PrintedLemmas
 pub mod OneSaying
+pub mod CutSegments
 pub mod AnswerLemmas
 pub mod Examples
 pub mod ReadAgain

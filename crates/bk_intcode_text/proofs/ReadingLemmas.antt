@@ -12,25 +12,25 @@ use Rattle.bk_intcode_text.specs.declared.words.Found.TheVariants as founds
 use Rattle.bk_intcode_text.specs.ItemText.{item_text}
 use Rattle.bk_intcode_text.specs.ItemFault.{item_fault}
 use Rattle.bk_words.specs.TextEnd.{AtEnd}
-use Rattle.bk_words.specs.Words.{words_of}
+use Rattle.bk_words.specs.Words.{words_of, EndsInBlank}
 use Rattle.bk_words.specs.Gathering.{TakesWord}
 use Rattle.bk_words.specs.Taking.{TakesWords}
 use Rattle.bk_intcode_text.specs.Next.{IsNext}
 use Rattle.bk_intcode_text.specs.SegmentReading.{IsBegun, FaultBehind, GivesSegment, GivesNothing, GivesFault, StopsAtWord}
 use Rattle.bk_intcode_text.specs.SegmentAnswer.{Takes}
 use Rattle.bk_base.specs.DeviceLaws.{Consumes-nothing, Consumes-trans}
-use Rattle.bk_words.specs.WordLaws.{IsParted, IsParted-empty, IsParted-word, TakesWords-word, words_of-last, words_of-more_blanks}
+use Rattle.bk_words.specs.WordLaws.{IsParted, IsParted-empty, IsParted-word, EndsInBlank-word, TakesWords-word, words_of-last, words_of-more_blanks}
 use Rattle.bk_intcode_text.proofs.BegunLemmas.{IsBegun-push, IsSegment-of}
 
 -- what was taken so far: the words of these items, parted from those that follow
 abbrev pub Read : Option (List ℕ) → Option (List ℕ) → ℕ → List Item → Type 0
-Read a b m items = (front : List ℕ) × Consumes a b front × (m ≡ length front) × (words_of front ≡ map item_text items) × IsParted front
+Read a b m items = (front : List ℕ) × Consumes a b front × (m ≡ length front) × (words_of front ≡ map item_text items) × IsParted front × EndsInBlank front
 
 abbrev pub Comes : Option (List ℕ) → Option (List ℕ) → ℕ → ℕ → Bool → Found → Type 0
 Comes b c m k ended found = (given : List ℕ) × Consumes b c given × (k ≡ m + length given) × IsNext found given (AtEnd ended k)
 
 pub Read-empty : (a : Option (List ℕ)) → Read a a 0 []
-Read-empty a = ([], Consumes-nothing a, refl, refl, IsParted-empty)
+Read-empty a = ([], Consumes-nothing a, refl, refl, IsParted-empty, inl refl)
 
 count : (front given : List ℕ) (m k : ℕ) → m ≡ length front → k ≡ m + length given → k ≡ length (front ++ given)
 count front given m k p q = omega (arith, length-append front given)
@@ -124,7 +124,7 @@ cut_behind a b c m k number ended items all item true over s n begun faultless o
 pub Read-push : (a b c : Option (List ℕ)) (m k : ℕ) (ended : Bool) (items all : List Item) (item : Item) (last : Bool) → last ≡ false → Read a b m items → Comes b c m k ended (founds.Item item last) → all ≡ items ++ item ∷ [] → Read a c k all
 Read-push a b c m k ended items all item last on s n is =
     let p = IsParted-word s.0 n.0 last (AtEnd ended k) (map item_text items) n.3.0 s.4 s.3 on in
-    (s.0 ++ n.0, Consumes-trans a b c s.0 n.0 s.1 n.1, count s.0 n.0 m k s.2 n.2, p.0 ∙ words-push items all item (n.3.0.first ∷ n.3.0.rest) is n.3.1.text, p.1)
+    (s.0 ++ n.0, Consumes-trans a b c s.0 n.0 s.1 n.1, count s.0 n.0 m k s.2 n.2, p.0 ∙ words-push items all item (n.3.0.first ∷ n.3.0.rest) is n.3.1.text, p.1, EndsInBlank-word s.0 n.0 last (AtEnd ended k) n.3.0 on)
 
 pub IsBegun-more : (b c : Option (List ℕ)) (m k : ℕ) (ended : Bool) (items all : List Item) (item : Item) (last : Bool) → Comes b c m k ended (founds.Item item last) → IsBegun items → item_fault items item ≡ None → item ≢ End → all ≡ items ++ item ∷ [] → IsBegun all
 IsBegun-more b c m k ended items all item last n begun faultless other is = subst IsBegun (sym is) (IsBegun-push items item begun n.3.1.in_range faultless other)

@@ -12,20 +12,20 @@ use Rattle.bk_intcode_text.specs.SegmentText.{segment_text}
 use Rattle.bk_words.specs.Words.{words_of}
 use Rattle.bk_words.specs.TextEnd.{AtEnd}
 use Rattle.bk_intcode_text.specs.FirstSaying.{Says, segment, nothing, fault}
-use Rattle.bk_intcode_text.specs.SegmentReading.{GivesSegment, GivesNothing, GivesFault, StopsAtWord}
+use Rattle.bk_intcode_text.specs.SegmentReading.{GivesSegment, GivesNothing, GivesFault, StopsAtWord, StopsAtDevice}
 
 -- Known bytes that were left lost these, of which this holds, given that the text ends there.
 abbrev pub Takes : Option (List ℕ) → Option (List ℕ) → Bool → (List ℕ → Type 0 → Type 0) → Type 0
 Takes old new ended what = (taken : List ℕ) × Consumes old new taken × what taken (AtEnd ended (length taken))
 
--- The answer is what the bytes taken say, unless the device failed. Where memory was refused nothing is taken behind the word
--- at which it was, save one blank.
+-- The answer is what the bytes taken say. Where memory was refused nothing is taken behind the word at which it was, save one
+-- blank. Where the device failed no segment had come to its end.
 abbrev pub Answers : Result (Option Intcode) (Refused IntcodeFault) → Option (List ℕ) → Option (List ℕ) → Bool → Type 0
 Answers (Ok (Some read)) old new ended = Takes old new ended (λ taken end. GivesSegment taken end (items_of read))
 Answers (Ok None) old new ended = Takes old new ended GivesNothing
 Answers (Err (Fault told)) old new ended = Takes old new ended (λ taken end. GivesFault taken end told.item told.kind)
 Answers (Err Memory) old new ended = Takes old new ended StopsAtWord
-Answers (Err Device) old new ended = ⊤
+Answers (Err Device) old new ended = Takes old new ended (λ taken end. StopsAtDevice taken)
 
 -- What the answer says of a text that begins with these bytes, which were taken, unless memory was refused or the device
 -- failed.
@@ -68,3 +68,7 @@ ReadsAgain (Err Device) items = ⊤
 abbrev pub PrintedIsReadAgain : Type 0
 PrintedIsReadAgain = (printed : Intcode) (more : List ℕ) (answer : Result (Option Intcode) (Refused IntcodeFault)) →
     AnswersWords answer (words_of (segment_text (items_of printed) ++ more)) → ReadsAgain answer (items_of printed)
+
+-- Where the device failed, the words with a blank behind them, which were taken, neither are a segment nor begin with one.
+abbrev pub NoSegmentPassed : Type 0
+NoSegmentPassed = (taken : List ℕ) (stops : StopsAtDevice taken) (items : List Item) → Says (segment items) (words_of stops.are.front) → ⊥

@@ -9,7 +9,7 @@ use Rattle.bk_intcode.specs.Segment.{IsSegment, AreItems}
 use Rattle.bk_intcode_text.specs.ItemFault.{item_fault}
 use Rattle.bk_intcode_text.specs.WordMeaning.{Means, WordFault}
 use Rattle.bk_words.specs.Words.{words_of}
-use Rattle.bk_words.specs.Taking.{TakesWords}
+use Rattle.bk_words.specs.Taking.{TakesWords, StopsInWord}
 
 -- Items of a segment that goes on: none has a fault behind those before it, and none is the end.
 pub record IsBegun (items : List Item) : Type 0 where
@@ -59,3 +59,10 @@ pub record StopsAtWord (taken : List ℕ) (end : Type 0) : Type 0 where
   pub begun : IsBegun before
   pub word : List ℕ
   pub are : TakesWords taken end (map item_text before ++ word ∷ [])
+
+-- The device failed behind the words of items without a fault, of which none is the end. Behind the blanks that follow them no
+-- more was taken than the bytes of one word that did not end.
+pub record StopsAtDevice (taken : List ℕ) : Type 0 where
+  pub before : List Item
+  pub begun : IsBegun before
+  pub are : StopsInWord taken (map item_text before)

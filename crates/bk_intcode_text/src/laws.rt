@@ -1,5 +1,5 @@
 //! Laws of texts, which calls of the crates above rest on.
-ghost use Rattle.bk_intcode_text.specs.SegmentAnswer.{PrintedIsReadAgain};
+ghost use Rattle.bk_intcode_text.specs.SegmentAnswer.{PrintedIsReadAgain, NoSegmentPassed};
 ghost use Rattle.bk_intcode_text.specs.FirstSaying.{PrintedIsParted, PrintedAreParted, PrintedSaysAgain, SayOneThing};
 
 /// What is printed says the segment again, whatever follows.
@@ -30,4 +30,10 @@ pub fn printed_is_parted()
 #[tactic(auto, using(crate::proofs::PrintedLemmas::printed_are_parted))]
 pub fn printed_are_parted()
     ensures { PrintedAreParted }
+{}
+
+/// Where the device failed as a segment was read, no segment had come to its end.
+#[tactic(auto, using(crate::proofs::CutSegments::no_segment_passed))]
+pub fn no_segment_passed()
+    ensures { NoSegmentPassed }
 {}

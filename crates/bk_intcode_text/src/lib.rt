@@ -13,6 +13,8 @@ mod reading;
 mod tests;
 mod words;
 
-pub use laws::{one_saying, printed_again, printed_are_parted, printed_is_parted, read_again};
+pub use laws::{
+    no_segment_passed, one_saying, printed_again, printed_are_parted, printed_is_parted, read_again,
+};
 pub use printing::print;
 pub use reading::read_segment;

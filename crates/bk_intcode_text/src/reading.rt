@@ -30,8 +30,8 @@ pub fn read_segment<I: ByteIn>(
     alloc: Global,
     input: &mut I,
 ) -> Result<Option<Intcode>, Refused<IntcodeFault>>
-    // What was taken is the text of the segment, or blanks, or a text up to its first fault, or up to the word at which memory
-    // was refused.
+    // What was taken is the text of the segment, or blanks, or a text up to its first fault, up to the word at which memory was
+    // refused, or some words of a segment that did not end and the first bytes of the next word, where the device failed.
     ensures answers { Answers result (I.left input.old) (I.left input.new) (I.ended input.new) }
     // That stands whatever follows the bytes taken.
     ensures stands { StandsWhateverFollows result (I.left input.old) (I.left input.new) (I.ended input.new) }

@@ -1,8 +1,9 @@
 //! Taking items from a device.
 ghost use Rattle.std.specs.Prelude.{◌≡◌, ℕ, ◌+◌, ◌<◌, ◌≤◌, IsTrue, List, ◌∷◌, length, Ok, IfOk, IfErr, OnOk, OnErr, IsErr};
 ghost use Rattle.std.specs.Io.KnownBytes.{Consumes, Keeps};
+ghost use Rattle.bk_base.specs.declared.limit.TheConstants.{INPUT_BYTES};
 ghost use Rattle.bk_words.specs.TextEnd.{AtEnd};
-ghost use Rattle.bk_words.specs.Gathering.{Holds};
+ghost use Rattle.bk_words.specs.Gathering.{Holds, BeginsWord};
 ghost use Rattle.bk_intcode_text.specs.WordMeaning.{Means, WordFault};
 ghost use Rattle.bk_intcode_text.specs.Next.{IsNext};
 
@@ -46,6 +47,9 @@ pub fn next_item<I: ByteIn>(input: &mut I, taken: &mut u64) -> Result<Found, Fai
     ensures within { OnOk result (taken.new ≤ INPUT_BYTES) }
     ensures clear { OnOk result (I.faults input.new ≡ 0) }
     ensures failed { OnErr result (I.faults input.new ≡ 1) }
+    // Where the device failed, blanks were taken and the first bytes of a word, if any.
+    ensures stops { OnErr result ((given : List ℕ) × Consumes (I.left input.old) (I.left input.new) given
+        × (taken.new ≡ taken.old + length given) × (taken.new < INPUT_BYTES) × BeginsWord given) }
     ensures failed_again { I.faults input.old ≡ 1 → IsErr result × Keeps (I.left input.old) (I.left input.new) }
     ensures ended_again { IsTrue (I.ended input.old) → (result ≡ Ok Found.Nothing) × IsTrue (I.ended input.new) }
 {

@@ -4,13 +4,14 @@ use Rattle.std.specs.Io.KnownBytes.{Consumes}
 use Rattle.bk_base.specs.Devices.{NothingLeft}
 use Rattle.bk_base.specs.DeviceLaws.{Consumes-nothing, Consumes-trans}
 use Rattle.bk_base.specs.declared.intcode_fault.IntcodeFault.{IntcodeFault}
-use Rattle.bk_base.specs.declared.refused.Refused.TheVariants.{Fault}
+use Rattle.bk_base.specs.declared.refused.Refused.TheVariants.{Fault, Device}
 use Rattle.bk_intcode.specs.declared.segment.Intcode.{Intcode}
 use Rattle.bk_intcode.specs.declared.item.Item.{Item}
 use Rattle.bk_intcode.specs.SegmentItems.{items_of}
 use Rattle.bk_intcode.specs.SegmentLaws.{segment_whole}
-use Rattle.bk_intcode_text.specs.SegmentAnswer.{StandsWhateverFollows}
-use Rattle.bk_kit.specs.Texts.{Stands, parts, refused, part_number}
+use Rattle.bk_intcode_text.specs.SegmentAnswer.{Answers, StandsWhateverFollows}
+use Rattle.bk_intcode_text.specs.SegmentReading.{StopsAtDevice}
+use Rattle.bk_kit.specs.Texts.{Stands, StopsInPart, parts, refused, part_number}
 use Rattle.bk_kit.specs.Code.{intcode}
 use Rattle.bk_kit.proofs.TextLemmas as text
 use Rattle.bk_kit.proofs.TextLemmas.{read_none, read_more, says_refused, says_whole, says_all, nothing_taken}
@@ -37,6 +38,17 @@ module _ (all : List (List Item)) (old now new : Option (List ℕ)) (was ended :
     taken = front.taken ++ t.0;
     delivered = Consumes-trans old now new front.taken t.0 front.delivered t.1;
     says = says_refused intcode all front.taken was front.read t.0 ended not_over told.item told.kind t.2;
+  }
+
+  pub Front-stops : (IsTrue was → ⊥) → Answers (Err Device) now new ended → StopsInPart intcode StopsAtDevice old new
+  Front-stops not_over t = record {
+    before = all;
+    bytes = front.taken;
+    part = t.0;
+    delivered = Consumes-trans old now new front.taken t.0 front.delivered t.1;
+    whole = front.read.are;
+    are = λ more short. front.read.says more (λ over. absurd (not_over over)) short;
+    is_part = t.2;
   }
 
   pub Front-whole : (IsTrue was → NothingLeft now) → (IsTrue was → IsTrue ended) → StandsWhateverFollows (Ok None) now new ended → Stands intcode (parts all) old new ended

@@ -144,7 +144,7 @@ module _ (count : ℕ) (old now new : Option (List ℕ)) (was ended : Bool) (rea
     delivers = delivers (Err Memory) after (written_none (Err Memory) ((answers.0, answers.1, inl answers.2), refl, count_is));
     passes = front.passes;
   }
-  not_read Device answers stands not_over count_is = record { delivers = delivers (Err Read) after (written_none (Err Read) (refl, count_is)); passes = front.passes }
+  not_read Device answers stands not_over count_is = record { delivers = delivers (Err Read) after (written_none (Err Read) (answers, refl, count_is)); passes = front.passes }
 
   module _ (section : o.Ocode) (answers : Answers (Ok (Some section)) now new ended) (none : reads ≡ 0) where
     is_read : IsRead answers.0 (stmts_of section)

@@ -3,7 +3,7 @@ mod PieceLemmas
 mod TextLemmas
 mod CodeLemmas
 mod LoadLemmas
-mod SourceRuns
+mod PassedSections
 mod ReadingLemmas
 mod FilterLemmas
 mod SectionLemmas
@@ -12,6 +12,7 @@ mod SourceSectionLemmas
 mod GenerateLemmas
 mod SourceLemmas
 mod OcodeEnds
+mod LanguageRuns
 mod OcodeLemmas
 mod TellLemmas
 mod LineLemmas

@@ -21,23 +21,22 @@ use Rattle.bk_ocode.specs.declared.stmt.Stmt.{Stmt}
 use Rattle.bk_kit.specs.declared.kit_fault.KitFault.{KitFault}
 use Rattle.bk_kit.specs.declared.kit_fault.KitFault.TheVariants as k
 use Rattle.bk_kit.specs.declared.kit_fault.KitFault.TheVariants.{Source}
-use Rattle.bk_kit.specs.Sources.{Translates, Means}
-use Rattle.bk_kit.specs.CompilingSection.{source_refused, Refuses, RefusesSymbols}
+use Rattle.bk_kit.specs.CompilingSection.{source_refused, Translates, HasCode, Refuses, RefusesSymbols}
 
 module _ (symbols : List Symbol) (end : ℕ) (fault : SourceFault) where
   -- they are no section within the limits
   pub no_section : Parses (Err (Fault fault)) symbols end → ((tree : Declarations) → IsSection tree symbols → Gives (Err (Fault fault)) tree) → RefusesSymbols (Source fault) symbols end
-  no_section (inl at) only = (inl at, λ stmts translates. (only translates.tree translates.section).1 translates.within)
-  no_section (inr at_end) only = (inr (inl at_end), λ stmts translates. (only translates.tree translates.section).1 translates.within)
+  no_section (inl at) only = (inl at, λ tree is. (only tree is.section).1 is.within)
+  no_section (inr at_end) only = (inr (inl at_end), λ tree is. (only tree is.section).1 is.within)
 
   -- the section has a wrong name
   pub misnamed : (x : Section) → Parses (Ok x) symbols end → Within (declarations_of x) → ((tree : Declarations) → IsSection tree symbols → Gives (Ok x) tree)
       → first_told (faults (declarations_of x)) ≡ Some (breach_of fault) → RefusesSymbols (Source fault) symbols end
   misnamed x parses within only first = (
     inr (inr record { tree = declarations_of x; section = parses; within = within; first = first }),
-    λ stmts translates.
-        let same = only translates.tree translates.section in
-        let none = ap (λ (tree : Declarations). first_told (faults tree)) same ∙ ap first_told translates.faultless in
+    λ tree is.
+        let same = only tree is.section in
+        let none = ap (λ (t : Declarations). first_told (faults t)) same ∙ ap first_told is.faultless in
         absurd (differ (sym first ∙ none)),
   )
     where
@@ -69,9 +68,17 @@ section_refuses k.Read text from l is some refuses = absurd refuses
 section_refuses k.Write text from l is some refuses = absurd refuses
 
 -- or it has this meaning
-pub means_some : (symbols : List Symbol) (stmts : List Stmt) → symbols ≢ [] → Translates symbols stmts → Means symbols (stmts ∷ [])
-means_some [] stmts some translates = absurd (some refl)
-means_some (symbol ∷ symbols) stmts some translates = (stmts, translates, refl)
+pub code_some : (symbols : List Symbol) (stmts : List Stmt) → symbols ≢ [] → Translates symbols stmts → HasCode symbols (stmts ∷ [])
+code_some [] stmts some translates = absurd (some refl)
+code_some (symbol ∷ symbols) stmts some translates = record {
+  trees = translates.tree ∷ [];
+  means = (translates.tree, translates.is, refl);
+  code = ap (λ (s : List Stmt). s ∷ []) translates.code;
+}
+
+pub code_none : (symbols : List Symbol) → symbols ≡ [] → HasCode symbols []
+code_none [] none = record { trees = []; means = refl; code = refl }
+code_none (symbol ∷ symbols) none = absurd cc
 
 -- whether there are symbols
 pub no_symbols : (tokens : List Token) → (length tokens == 0) ≡ true → symbols_of tokens ≡ []

@@ -1,128 +1,216 @@
--- A source that is read up to the end of its first section.
-use Rattle.std.proofs.Common.{◌≡◌, ◌≢◌, ℕ, ◌+◌, ◌≤◌, ◌<◌, Bool, true, false, List, [], ◌∷◌, ◌++◌, length, Option, Ok, Err, refl, sym, ap, ◌∙◌, subst, arith, inl, inr, ◌⊎◌}
-use Rattle.std.specs.Io.KnownBytes.{Consumes}
+-- A source whose sections are assembled one after another, and then loaded and run.
+use Rattle.std.proofs.Common.{◌≡◌, ◌≢◌, inl, inr, ◌⊎◌, ℕ, ◌+◌, ◌≤◌, ◌<◌, ◌++◌, Bool, true, false, List, [], ◌∷◌, Option, None, Some, Result, Ok, Err, IfErr, map, arith, refl, sym, ap, subst, ◌∙◌, append-nil}
+use Rattle.std.specs.Prelude.{IsErr}
+use Rattle.std.proofs.lemmas.List.{map-append}
 use Rattle.bk_base.specs.Devices.{Begins}
 use Rattle.bk_base.specs.declared.limit.TheConstants.{INPUT_BYTES, STORE_MOST}
 use Rattle.bk_base.specs.declared.run_end.End.{End}
 use Rattle.bk_base.specs.declared.run_end.End.TheVariants.{WriteFault}
-use Rattle.bk_base.specs.declared.source_fault.SourceFault.{SourceFault}
+use Rattle.bk_lex.specs.declared.cutter.Cut.TheVariants.{More}
+use Rattle.bk_ocode.specs.SectionStmts.{stmts_of}
+use Rattle.bk_ocode.specs.declared.section.Ocode as o
+use Rattle.bk_ocode.specs.declared.stmt.Stmt.{Stmt}
+use Rattle.bk_ocode.proofs.SectionProp.{section_whole}
 use Rattle.bk_intcode.specs.declared.item.Item.{Item}
-use Rattle.bk_intcode.specs.Placement.{SEGMENTS, stack_start, any_starts, loaded_store}
-use Rattle.bk_lex.specs.Lexing.{lexed}
-use Rattle.bk_short.specs.declared.call.Call.{Call}
-use Rattle.bk_short.specs.ShortSource.{IsShortSource, IsRefused}
-use Rattle.bk_short.specs.Program.{IsProgram, first_registers}
-use Rattle.bk_kit.specs.declared.kit_fault.KitFault.{KitFault}
-use Rattle.bk_kit.specs.declared.kit_fault.KitFault.TheVariants.{Source, Ocode, Intcode, TooSmall, NoStart, Read, Write, Memory}
-use Rattle.bk_kit.specs.Interpreting.{Streams, told}
-use Rattle.bk_kit.specs.ReadingSource.{IsDelivered, Settles, IsFirstSection}
-use Rattle.bk_kit.specs.Headline.{Keeps, Headline}
-use Rattle.bk_kit.specs.ShortSources.{short_sources, NotProgram, RefusesSource}
-use Rattle.bk_kit.specs.Loading.{load_refused}
+use Rattle.bk_intcode.specs.declared.segment.Intcode as i
 use Rattle.bk_intcode.specs.declared.load_fault.LoadFault.{LoadFault}
 use Rattle.bk_intcode.specs.declared.load_fault.LoadFault.TheVariants as load
 use Rattle.bk_intcode.specs.declared.registers.Registers.{Registers}
+use Rattle.bk_intcode.specs.SegmentItems.{items_of}
+use Rattle.bk_intcode.specs.Placement.{any_starts, loaded_store}
 use Rattle.bk_intcode.specs.Runs.{Ran, Blames}
-use Rattle.bk_kit.proofs.SourceRuns.{runs}
+use Rattle.bk_intcode.specs.SegmentLaws.{segment_whole}
+use Rattle.bk_gen.specs.BackEnd.{Part, segments, image, items_of_part}
+use Rattle.bk_gen.specs.StandsFor.{StandsFor}
+use Rattle.bk_kit.specs.declared.kit_fault.KitFault.{KitFault}
+use Rattle.bk_kit.specs.declared.kit_fault.KitFault.TheVariants.{Source, Ocode, Intcode, TooSmall, NoStart, Read, Write, Memory}
+use Rattle.bk_kit.specs.declared.section.CompiledSection.{CompiledSection}
+use Rattle.bk_kit.specs.Interpreting.{Streams, told, first_registers, is_read_fault, is_read}
+use Rattle.bk_kit.specs.ReadingSource.{cut_behind, Settles, Follows, IsDelivered, EachSource}
+use Rattle.bk_kit.specs.Sources.{Accepted, Refused, bytes_of, trees_of, codes_of, stmts_of_tree}
+use Rattle.bk_kit.specs.CompilingSection.{codes_in, Compiled, Refuses}
+use Rattle.bk_kit.specs.Loading.{load_refused}
+use Rattle.bk_kit.specs.OcodeSteps.{OcodeRuns}
+use Rattle.bk_kit.specs.SourceSections.{IsRefused, HasParts}
+use Rattle.bk_kit.specs.RunningSource.{stmts_of_parts, Stand, Generated, Assembled, NotAssembled, RefusesSource, RunsSource, ReadsSource}
+use Rattle.bk_kit.proofs.OcodeLemmas.{sections_too_small, sections_startless}
+use Rattle.bk_kit.proofs.SourceSectionLemmas.{ocode_refuses, has_delivered, refused_delivered}
+use Rattle.bk_kit.proofs.PassedSections.{refused_as, refuses_behind, takes_as, not_ended, Passed, passed_none, all_delivered, all_counted, passed_and_part, passed_on}
 
--- what is read of one text as of another
-pub same_short : (text other : List ℕ) (calls : List Call) → lexed other 1 ≡ lexed text 1 → IsShortSource text calls → IsShortSource other calls
-same_short text other calls same short =
-    record { section = short.section; lexed_as = same ∙ short.lexed_as; whole = short.whole; short = short.short }
+-- what holds of each source holds of each
+each_source_as : (old new : Option (List ℕ)) (ended : Bool) (This That : List ℕ → Type 0) → ((source : List ℕ) → This source → That source)
+    → EachSource old new ended This → EachSource old new ended That
+each_source_as old new ended This That so each = record {
+  text = each.text;
+  delivered = each.delivered;
+  within = each.within;
+  holds = λ short rest follows. so (each.text ++ rest) (each.holds short rest follows);
+}
 
-pub same_refused : (text other : List ℕ) (fault : SourceFault) → lexed other 1 ≡ lexed text 1 → IsRefused text fault → IsRefused other fault
-same_refused text other fault same (inl lexical) = inl (same ∙ lexical)
-same_refused text other fault same (inr symbol) =
-    inr (record { section = symbol.section; lexed_as = same ∙ symbol.lexed_as; kind_is = symbol.kind_is; stands = symbol.stands })
+-- ---- segments that stand for sections
 
-pub same_program : (text other : List ℕ) (items : List Item) → lexed other 1 ≡ lexed text 1 → IsProgram text items → IsProgram other items
-same_program text other items same program =
-    record {
-      calls = program.calls;
-      short = same_short text other program.calls same program.short;
-      alone = λ others short. program.alone others (same_short other text others (sym same) short);
-      means = program.means;
-    }
+-- the part of a section and of the segment that is generated from it
+abbrev part_of : (code : o.Ocode) (segment : i.Intcode) → StandsFor (items_of segment) (stmts_of code) → Part
+part_of code segment stands = record {
+  stmts = stmts_of code;
+  items = items_of segment;
+  accepted = (section_whole code).0;
+  whole = segment_whole segment;
+  stands = stands;
+}
 
-module _ (steps words : ℕ) (before : Streams) (old new : Option (List ℕ)) (ended : Bool) (text : List ℕ) (first : IsFirstSection text old new ended) where
-  -- a source that is no short source
-  refused : (fault : KitFault) (other : List ℕ) → lexed other 1 ≡ lexed text 1 → NotProgram text fault → Keeps short_sources other (Err fault) steps words before before
-  refused (Source fault) other same not =
-      (same_refused text other fault same not.0, λ accepted. not.1 accepted.0 (same_short other text accepted.0 (sym same) accepted.1), refl)
-  refused Memory other same not = refl
-  refused TooSmall other same not = absurd not
-  refused NoStart other same not = absurd not
-  refused Read other same not = absurd not
-  refused Write other same not = absurd not
-  refused (Ocode section fault) other same not = absurd not
-  refused (Intcode segment fault) other same not = absurd not
+-- it is one more
+pub generated_one : (before : List i.Intcode) (code : o.Ocode) (segment : i.Intcode) → StandsFor (items_of segment) (stmts_of code)
+    → Generated (map items_of before) (map items_of (before ++ segment ∷ [])) (codes_in (Some code))
+generated_one before code segment stands = (
+  items_of segment ∷ [],
+  map-append items_of before (segment ∷ []),
+  record { parts = part_of code segment stands ∷ []; segments_are = refl; stmts_are = refl },
+)
 
-  pub no_program : (fault : KitFault) → NotProgram text fault → Headline short_sources (Err fault) steps words old new ended before before
-  no_program fault not = record { text = text; delivered = first.delivered; keeps = λ rest over. refused fault (text ++ rest) (first.settled rest over) not }
+-- or none
+pub generated_none : (before : List (List Item)) → Generated before before (codes_in None)
+generated_none before = ([], sym (append-nil before), record { parts = []; segments_are = refl; stmts_are = refl })
 
-  -- a store that is too small
-  pub too_small : (items : List Item) → IsProgram text items → (words + 1 ≤ stack_start SEGMENTS (items ∷ []) + 16)
-      → Headline short_sources (Err TooSmall) steps words old new ended before before
-  too_small items program low =
+-- both together
+stand_both : (all more : List (List Item)) (codes others : List (List Stmt)) → Stand all codes → Stand more others → Stand (all ++ more) (codes ++ others)
+stand_both all more codes others first second = record {
+  parts = first.parts ++ second.parts;
+  segments_are = map-append items_of_part first.parts second.parts ∙ ap (λ s. s ++ segments second.parts) first.segments_are ∙ ap (λ s. all ++ s) second.segments_are;
+  stmts_are = map-append (λ (p : Part). p.stmts) first.parts second.parts ∙ ap (λ s. s ++ stmts_of_parts second.parts) first.stmts_are ∙ ap (λ s. codes ++ s) second.stmts_are;
+}
+
+-- ---- the sections so far
+
+-- Accepted sections were read, and these segments stand for them; the source has not failed.
+pub record Gathered (old now : Option (List ℕ)) (taken line : ℕ) (all : List (List Item)) (faults : ℕ) : Type 0 where
+  pub passed : Passed old now taken line
+  pub stand : Stand all (codes_of passed.sections)
+  pub readable : (taken < INPUT_BYTES) ⊎ (faults ≡ 0)
+
+pub gathered_none : (known : Option (List ℕ)) (faults : ℕ) → Gathered known known 0 1 [] faults
+gathered_none known faults = record {
+  passed = passed_none known;
+  stand = record { parts = []; segments_are = refl; stmts_are = refl };
+  readable = inl (omega arith);
+}
+
+module _ (old now new : Option (List ℕ)) (ended : Bool) (taken taken' line : ℕ) (all : List (List Item)) (faults : ℕ) (gathered : Gathered old now taken line all faults)
+    (text : List ℕ) (here : IsDelivered text now new taken taken') (most : taken' ≤ INPUT_BYTES) where
+  -- what holds of the sections and this text, whatever follows
+  each : (Holds : List ℕ → Type 0) → (taken' < INPUT_BYTES → (rest : List ℕ) → Follows ended rest → Holds ((bytes_of gathered.passed.sections ++ text) ++ rest)) → EachSource old new ended Holds
+  each Holds holds =
+      let counted = all_counted old now new taken taken' line gathered.passed text here in
       record {
-        text = text;
-        delivered = first.delivered;
-        keeps = λ rest over.
-            let here = same_program text (text ++ rest) items (first.settled rest over) program in (
-              (here.calls, here.short),
-              (λ input enough.
-                  let only = ap length (here.alone enough.0 enough.1) in
-                  let small = here.means.small in
-                  let many = enough.2 in
-                  absurd (omega arith)),
-              refl,
-            );
+        text = bytes_of gathered.passed.sections ++ text;
+        delivered = all_delivered old now new taken taken' line gathered.passed text here;
+        within = omega (arith, counted, most);
+        holds = λ short. holds (omega (arith, counted, short));
       }
 
--- where the source could not be read
-pub read_failed : (fault : KitFault) (steps words : ℕ) (before : Streams) (old new : Option (List ℕ)) (ended : Bool) → (fault ≡ Read) ⊎ (fault ≡ Memory)
-    → ((text : List ℕ) × Consumes old new text) → Headline short_sources (Err fault) steps words old new ended before before
-read_failed fault steps words before old new ended why some =
-    record { text = some.0; delivered = some.1; keeps = λ rest over. by_fault (some.0 ++ rest) why }
-  where
-    by_fault : (source : List ℕ) → (fault ≡ Read) ⊎ (fault ≡ Memory) → Keeps short_sources source (Err fault) steps words before before
-    by_fault source (inl read) = subst (λ f. Keeps short_sources source (Err f) steps words before before) (sym read) refl
-    by_fault source (inr memory) = subst (λ f. Keeps short_sources source (Err f) steps words before before) (sym memory) refl
+  -- the section could not be read
+  pub not_read : (fault : KitFault) → (fault ≡ Memory) ⊎ ((fault ≡ Read) × (cut_behind text ≡ More)) → NotAssembled fault old new ended
+  not_read fault (inl memory) = rw memory (each (λ source. Unit) (λ short rest follows. tt))
+  not_read fault (inr failed) = rw failed.0 (each (λ source. Unit) (λ short rest follows. tt))
 
--- where the code could not be loaded
-pub load_fails : (fault : LoadFault) (words : ℕ) (old new : Option (List ℕ)) (ended : Bool) (text : List ℕ) (items : List Item)
-    → IsFirstSection text old new ended → IsProgram text items
-    → (fault ≡ load.TooSmall → words < stack_start SEGMENTS (items ∷ []) + 16) → (fault ≡ load.NoStart → any_starts (items ∷ []) ≡ false)
-    → RefusesSource (load_refused fault) words old new ended
-load_fails load.TooSmall words old new ended text items first program low none steps before =
-    too_small steps words before old new ended text first items program (let below = low refl in omega arith)
-load_fails load.NoStart words old new ended text items first program low none steps before =
-    absurd (differ (sym program.means.starts ∙ none refl))
-  where
-    differ : true ≡ false → ⊥
-    differ e = cc
-load_fails load.Memory words old new ended text items first program low none steps before =
-    record { text = text; delivered = first.delivered; keeps = λ rest over. refl }
+  -- of which this was read
+  pub stops_reading : (fault : KitFault) → (fault ≡ Memory) ⊎ ((fault ≡ Read) × (cut_behind text ≡ More))
+      → ReadsSource (is_read_fault fault) old new
+  stops_reading fault (inl memory) = record {
+    front = passed_and_part old now new taken taken' line gathered.passed text here most;
+    goes_on = λ is. absurd (let other : false ≡ true = rw memory at is in cc);
+  }
+  stops_reading fault (inr failed) = record {
+    front = passed_and_part old now new taken taken' line gathered.passed text here most;
+    goes_on = λ is. failed.1;
+  }
 
--- a run of a source's code
-pub source_runs : (end : End) (steps words : ℕ) (before after : Streams) (old new : Option (List ℕ)) (ended : Bool) (text : List ℕ) (items : List Item)
-    (store' : List ℕ) (r' : Registers) → IsFirstSection text old new ended → IsProgram text items
-    → stack_start SEGMENTS (items ∷ []) + 16 ≤ words → words ≤ STORE_MOST
-    → Ran end steps (loaded_store words (items ∷ [])) (first_registers items) store' r' (told before) (told after)
-    → Begins before.passed after.passed → (end ≢ WriteFault → after.passed ≡ after.taken) → Blames end before.reads after.reads after.writes
-    → Headline short_sources (Ok end) steps words old new ended before after
-source_runs end steps words before after old new ended text items store' r' first program room most ran passes passed blamed =
-    record {
-      text = text;
-      delivered = first.delivered;
-      keeps = λ rest over.
-          let here = same_program text (text ++ rest) items (first.settled rest over) program in
-          runs (text ++ rest) items here.calls steps words here.short here.alone here.means room most end store' r' before after ran passes passed blamed;
-    }
+  -- memory was refused
+  pub no_memory : NotAssembled Memory old new ended
+  no_memory = not_read Memory (inl refl)
 
--- the first section of a source, of which nothing was read before
-pub first_section : (text : List ℕ) (old new : Option (List ℕ)) (ended : Bool) (taken : ℕ) → IsDelivered text old new 0 taken → (taken < INPUT_BYTES → Settles text ended) → IsFirstSection text old new ended
-first_section text old new ended taken here settles = record {
-  delivered = here.delivered;
-  settled = λ rest follows. settles (omega (arith, here.counted, here.few)) 1 rest follows;
-}
+  module _ (settles : taken' < INPUT_BYTES → Settles text ended) where
+    -- the section is refused
+    pub not_compiled : (fault : KitFault) → Refuses fault text line → NotAssembled fault old new ended
+    not_compiled (Source fault) refuses = each (λ source. IsRefused source fault) (λ short rest follows.
+        refused_delivered gathered.passed.sections text rest (gathered.passed.accepted (text ++ rest)) fault
+        (subst (λ (l : ℕ). Refused fault (text ++ rest) l) gathered.passed.at (refused_as (text ++ rest) line fault (refuses_behind text rest line fault (settles short line rest follows) refuses))))
+    not_compiled Memory refuses = no_memory
+    not_compiled (Ocode number fault) refuses = absurd refuses
+    not_compiled (Intcode number fault) refuses = absurd refuses
+    not_compiled TooSmall refuses = absurd refuses
+    not_compiled NoStart refuses = absurd refuses
+    not_compiled Read refuses = absurd refuses
+    not_compiled Write refuses = absurd refuses
+
+    module _ (c : CompiledSection) (compiled : Compiled c text line) (all' : List (List Item)) (generated : Generated all all' (codes_in c.code)) where
+      stand : Stand all' (codes_of gathered.passed.sections ++ codes_in c.code)
+      stand = subst (λ s. Stand s (codes_of gathered.passed.sections ++ codes_in c.code)) (sym generated.1)
+          (stand_both all generated.0 (codes_of gathered.passed.sections) (codes_in c.code) gathered.stand generated.2)
+
+      -- another follows
+      pub goes_on : (next faults' : ℕ) → c.next ≡ Some next → faults' ≡ 0 → Gathered old new taken' next all' faults'
+      goes_on next faults' some none =
+          let more = passed_on old now new taken taken' line gathered.passed text here c compiled next some in
+          record {
+            passed = more.0;
+            stand = subst (Stand all') (sym more.1) stand;
+            readable = inr none;
+          }
+
+      -- it is the last
+      pub is_last : c.next ≡ None → Assembled all' old new ended
+      is_last none = record {
+        parts = stand.parts;
+        segments_are = stand.segments_are;
+        has = each (HasParts stand.parts) (λ short rest follows. (
+          trees_of gathered.passed.sections ++ compiled.has.trees,
+          has_delivered gathered.passed.sections text rest (gathered.passed.accepted (text ++ rest)) compiled.tokens compiled.has.trees
+              (subst (λ (l : ℕ). Accepted (text ++ rest) l compiled.tokens compiled.has.trees) gathered.passed.at (takes_as text line ended c compiled (settles short) rest follows))
+              (not_ended compiled.tokens (sym none ∙ compiled.next)),
+          stand.stmts_are ∙ ap (λ l. codes_of gathered.passed.sections ++ l) compiled.has.code ∙ sym (map-append stmts_of_tree (trees_of gathered.passed.sections) compiled.has.trees),
+        ));
+      }
+
+-- ---- what is answered
+
+-- what was read where an answer is this fault
+pub fails_as : {T : Type 0} → (answer : Result T KitFault) (fault : KitFault) (old new : Option (List ℕ)) → IsErr answer → IfErr answer (λ f. f ≡ fault)
+    → ReadsSource (is_read_fault fault) old new → ReadsSource (is_read answer) old new
+fails_as (Ok value) fault old new is same reads = cc
+fails_as (Err f) fault old new is same reads = rw same reads
+
+module _ (words : ℕ) (old new : Option (List ℕ)) (ended : Bool) where
+  -- of a source that is not assembled
+  pub not_assembled : (fault : KitFault) → NotAssembled fault old new ended → RefusesSource fault words old new ended
+  not_assembled (Source fault) refused steps before = λ parts.
+      each_source_as old new ended (λ source. IsRefused source fault) _ (λ source is. ocode_refuses parts source fault steps words before is) refused
+  not_assembled Read refused steps before = ([], each_source_as old new ended (λ source. Unit) _ (λ source is. refl) refused)
+  not_assembled Memory refused steps before = ([], each_source_as old new ended (λ source. Unit) _ (λ source is. refl) refused)
+  not_assembled TooSmall refused steps before = absurd refused
+  not_assembled NoStart refused steps before = absurd refused
+  not_assembled Write refused steps before = absurd refused
+  not_assembled (Ocode section fault) refused steps before = absurd refused
+  not_assembled (Intcode segment fault) refused steps before = absurd refused
+
+  -- of one whose segments are not loaded
+  pub not_loaded : (fault : LoadFault) (parts : List Part) → EachSource old new ended (HasParts parts)
+      → (fault ≡ load.TooSmall → words < image parts + 16) → (fault ≡ load.NoStart → any_starts (segments parts) ≡ false)
+      → RefusesSource (load_refused fault) words old new ended
+  not_loaded load.TooSmall parts has low none steps before =
+      (parts, each_source_as old new ended (HasParts parts) _ (λ source says. sections_too_small HasParts IsRefused parts source steps words before says (low refl)) has)
+  not_loaded load.NoStart parts has low none steps before =
+      (parts, each_source_as old new ended (HasParts parts) _ (λ source says. sections_startless HasParts IsRefused parts source steps words before says (none refl)) has)
+  not_loaded load.Memory parts has low none steps before = (parts, each_source_as old new ended (HasParts parts) _ (λ source says. refl) has)
+
+  -- of one that is run
+  pub source_runs : OcodeRuns HasParts IsRefused → (end : End) (steps : ℕ) (before after : Streams) (parts : List Part) (store : List ℕ) (registers : Registers)
+      → EachSource old new ended (HasParts parts) → image parts + 16 ≤ words → words ≤ STORE_MOST → any_starts (segments parts) ≡ true
+      → Ran end steps (loaded_store words (segments parts)) (first_registers (segments parts)) store registers (told before) (told after)
+      → Begins before.passed after.passed → (end ≢ WriteFault → after.passed ≡ after.taken) → Blames end before.reads after.reads after.writes
+      → RunsSource (Ok end) steps words old new ended before after
+  source_runs runs end steps before after parts store registers has room most starts ran passes passed blamed = (
+    parts,
+    each_source_as old new ended (HasParts parts) _ (λ source says.
+        runs parts source end steps words store registers before after says room most starts ran passes passed blamed) has,
+  )

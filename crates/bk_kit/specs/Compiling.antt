@@ -1,32 +1,28 @@
 -- What compiling a source comes to.
-use Rattle.std.specs.Prelude.{◌≡◌, ℕ, ◌<◌, ◌≤◌, Bool, IsTrue, true, false, List, [], ◌++◌, Option, Result, Ok, Err, length}
+use Rattle.std.specs.Prelude.{◌≡◌, ℕ, ◌<◌, ◌≤◌, Bool, true, false, List, [], ◌++◌, Option, Result, Ok, Err, length}
 use Rattle.std.specs.Io.KnownBytes.{Consumes}
 use Rattle.bk_base.specs.declared.limit.TheConstants.{INPUT_BYTES}
 use Rattle.bk_base.specs.Devices.{Begins}
 use Rattle.bk_lex.specs.declared.cutter.Cut.TheVariants.{More}
 use Rattle.bk_lex.specs.Lexing.{Section}
-use Rattle.bk_ocode.specs.declared.stmt.Stmt.{Stmt}
+use Rattle.bk_syntax.specs.Tree.{Declarations}
 use Rattle.bk_kit.specs.declared.kit_fault.KitFault.{KitFault}
 use Rattle.bk_kit.specs.declared.kit_fault.KitFault.TheVariants.{Source, Ocode, Intcode, TooSmall, NoStart, Read, Write, Memory}
-use Rattle.bk_kit.specs.ReadingSource.{Asked, cut_behind}
-use Rattle.bk_kit.specs.Sources.{Accepted, Refused, WholeSection, bytes_of, codes_of, line_behind, AreAccepted, texts_of}
+use Rattle.bk_kit.specs.ReadingSource.{Asked, cut_behind, Follows}
+use Rattle.bk_kit.specs.Sources.{Accepted, Refused, WholeSection, bytes_of, codes_of, codes_of_trees, line_behind, AreAccepted, texts_of}
 use Rattle.bk_kit.specs.Telling.{Output}
 use Rattle.bk_kit.specs.Filters.{Puts, Ends}
 
--- whatever may follow the bytes delivered: nothing, where the source's end was told
-abbrev pub Follows : Bool → List ℕ → Type 0
-Follows ended rest = IsTrue ended → rest ≡ []
-
 -- The section that these bytes begin is accepted, whatever follows them.
-abbrev pub Accepts : List ℕ → ℕ → Bool → Section → List (List Stmt) → Type 0
-Accepts part line ended section codes = (rest : List ℕ) → Follows ended rest → Accepted (part ++ rest) line section codes
+abbrev pub Accepts : List ℕ → ℕ → Bool → Section → List Declarations → Type 0
+Accepts part line ended section trees = (rest : List ℕ) → Follows ended rest → Accepted (part ++ rest) line section trees
 
 -- What ends the compiling behind the sections that a `.` ended, where this was delivered of the next, and this text is written of
 -- it: each answer but a refused write. `reads` counts the failures of the source.
 abbrev pub Comes : List ℕ → ℕ → Bool → ℕ → Result (Unit {0}) KitFault → List ℕ → Type 0
 -- the last section, which the source's end ends
 Comes part line ended reads (Ok done) text =
-    (section : Section) × (codes : List (List Stmt)) × Accepts part line ended section codes × (text ≡ texts_of codes)
+    (section : Section) × (trees : List Declarations) × Accepts part line ended section trees × (text ≡ texts_of (codes_of_trees trees))
     × (section.ended ≡ false) × (ended ≡ true) × (reads ≡ 0)
 -- a section that is refused, whatever follows: nothing is written of it
 Comes part line ended reads (Err (Source fault)) text =
@@ -43,11 +39,10 @@ Comes part line ended reads (Err (Intcode number fault)) text = ⊥
 -- A section that is accepted, with its text in OCODE: nothing was read behind it.
 abbrev pub Takes : List ℕ → ℕ → Bool → ℕ → List ℕ → Type 0
 Takes part line ended reads text =
-    (section : Section) × (codes : List (List Stmt)) × Accepts part line ended section codes × (text ≡ texts_of codes) × (reads ≡ 0)
+    (section : Section) × (trees : List Declarations) × Accepts part line ended section trees × (text ≡ texts_of (codes_of_trees trees)) × (reads ≡ 0)
 
--- Accepted sections were delivered, each with its `.`, and some bytes of the next; then this holds of the sections' texts in
--- OCODE, of these bytes, and of the line on which they begin.
-pub record Delivers (old new : Option (List ℕ)) (Holds : List ℕ → List ℕ → ℕ → Type 0) : Type 0 where
+-- Accepted sections were delivered, each with its `.`, and some bytes of the next.
+pub record Delivered (old new : Option (List ℕ)) : Type 0 where
   pub sections : List WholeSection
   pub part : List ℕ
   pub delivered : Consumes old new (bytes_of sections ++ part)
@@ -56,7 +51,11 @@ pub record Delivers (old new : Option (List ℕ)) (Holds : List ℕ → List ℕ
   pub asked : Asked part
   -- one call reads no more than so many bytes, and a source is taken to have less
   pub within : length (bytes_of sections ++ part) ≤ INPUT_BYTES
-  pub holds : length (bytes_of sections ++ part) < INPUT_BYTES → Holds (texts_of (codes_of sections)) part (line_behind 1 sections)
+
+-- This holds of the texts of these sections in OCODE, of the bytes of the next, and of the line on which they begin.
+pub record Delivers (old new : Option (List ℕ)) (Holds : List ℕ → List ℕ → ℕ → Type 0) : Type 0 where
+  pub front : Delivered old new
+  pub holds : length (bytes_of front.sections ++ front.part) < INPUT_BYTES → Holds (texts_of (codes_of front.sections)) front.part (line_behind 1 front.sections)
 
 -- What compiling a source answers, reads and writes.
 pub record Compiles (answer : Result (Unit {0}) KitFault) (old new : Option (List ℕ)) (ended : Bool) (reads : ℕ) (before after : Output) : Type 0 where

@@ -6,6 +6,7 @@ use Rattle.bk_base.specs.declared.refused.Refused.TheVariants.{Fault, Device}
 use Rattle.bk_base.specs.declared.source_fault.SourceFault.{SourceFault}
 use Rattle.bk_lex.specs.Symbol.{Symbol}
 use Rattle.bk_lex.specs.Lexing.{Section, lexed}
+use Rattle.bk_syntax.specs.Tree.{Declarations}
 use Rattle.bk_syntax.specs.Parsing.{ToldAt, ToldAtEnd}
 use Rattle.bk_ocode.specs.SectionStmts.{stmts_of}
 use Rattle.bk_ocode.specs.declared.section.Ocode as o
@@ -13,7 +14,7 @@ use Rattle.bk_ocode.specs.declared.stmt.Stmt.{Stmt}
 use Rattle.bk_kit.specs.declared.kit_fault.KitFault.{KitFault}
 use Rattle.bk_kit.specs.declared.kit_fault.KitFault.TheVariants.{Source, Ocode, Intcode, TooSmall, NoStart, Read, Write, Memory}
 use Rattle.bk_kit.specs.declared.section.CompiledSection.{CompiledSection}
-use Rattle.bk_kit.specs.Sources.{Translates, Means, Misnames}
+use Rattle.bk_kit.specs.Sources.{IsTree, Means, Misnames, stmts_of_tree, codes_of_trees}
 
 -- what the kit answers of a source that is refused
 abbrev pub source_refused : Refused SourceFault → KitFault
@@ -25,17 +26,29 @@ abbrev pub codes_in : Option o.Ocode → List (List Stmt)
 codes_in None = []
 codes_in (Some code) = stmts_of code ∷ []
 
+-- These are the statements of a section's symbols.
+pub record Translates (symbols : List Symbol) (stmts : List Stmt) : Type 0 where
+  pub tree : Declarations
+  pub is : IsTree tree symbols
+  pub code : stmts ≡ stmts_of_tree tree
+
+-- They are accepted, with these statements.
+pub record HasCode (symbols : List Symbol) (codes : List (List Stmt)) : Type 0 where
+  pub trees : List Declarations
+  pub means : Means symbols trees
+  pub code : codes ≡ codes_of_trees trees
+
 -- The first section of a text is accepted, with this code and this end.
 pub record Compiled (c : CompiledSection) (text : List ℕ) (from : ℕ) : Type 0 where
   pub tokens : Section
   pub lexed_as : lexed text from ≡ Ok tokens
-  pub means : Means tokens.symbols (codes_in c.code)
+  pub has : HasCode tokens.symbols (codes_in c.code)
   pub next : c.next ≡ (if tokens.ended then Some tokens.line else None)
 
 -- These symbols are no section without faults: of its syntax, or else of its names.
 abbrev pub RefusesSymbols : KitFault → List Symbol → ℕ → Type 0
 RefusesSymbols (Source fault) symbols end =
-    (ToldAt fault symbols ⊎ ToldAtEnd fault symbols end ⊎ Misnames fault symbols) × ((stmts : List Stmt) → Translates symbols stmts → ⊥)
+    (ToldAt fault symbols ⊎ ToldAtEnd fault symbols end ⊎ Misnames fault symbols) × ((tree : Declarations) → IsTree tree symbols → ⊥)
 RefusesSymbols Memory symbols end = ⊤
 RefusesSymbols (Ocode number fault) symbols end = ⊥
 RefusesSymbols (Intcode number fault) symbols end = ⊥

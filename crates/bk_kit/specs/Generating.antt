@@ -12,7 +12,7 @@ use Rattle.bk_words.specs.TextEnd.{AtEnd}
 use Rattle.bk_words.specs.Taking.{TakesWords}
 use Rattle.bk_ocode.specs.Section.{IsSection}
 use Rattle.bk_ocode.specs.SectionText.{section_words}
-use Rattle.bk_ocode.specs.SectionAnswer.{GivesNothing, GivesFault, StopsAtWord}
+use Rattle.bk_ocode.specs.SectionAnswer.{GivesNothing, GivesFault, StopsAtWord, StopsAtDevice}
 use Rattle.bk_ocode.specs.SectionAnswer as answers
 use Rattle.bk_ocode.specs.FirstFault as first
 use Rattle.bk_ocode.specs.declared.stmt.Stmt.{Stmt}
@@ -85,7 +85,8 @@ Comes sections behind new ended reads (Err (Ocode number fault)) text =
     answers.Takes behind new ended (λ part end. GivesFault part end fault.statement fault.kind)
     × answers.Takes behind new ended (λ part end. SaysWhateverFollows ocode (refused number fault.statement fault.kind) (bytes_of sections ++ part) ended)
     × (text ≡ []) × (reads ≡ 0)
-Comes sections behind new ended reads (Err Read) text = (text ≡ []) × (reads ≡ 1)
+-- the read failed where the next section had not come to its end
+Comes sections behind new ended reads (Err Read) text = answers.Takes behind new ended (λ part end. StopsAtDevice part) × (text ≡ []) × (reads ≡ 1)
 -- memory was refused at a word of a section, or behind one
 Comes sections behind new ended reads (Err Memory) text =
     answers.Takes behind new ended (λ part end. StopsAtWord part end ⊎ ((stmts : List Stmt) × IsRead part stmts)) × (text ≡ []) × (reads ≡ 0)

@@ -1,7 +1,6 @@
 -- What running a source promises, for any language: the bytes and the end of the source's meaning with enough steps and words,
 -- and a beginning of the bytes with less.
-use Rattle.std.specs.Prelude.{◌≡◌, ◌≢◌, ℕ, Bool, IsTrue, List, ◌++◌, Option, Result, Ok, Err, []}
-use Rattle.std.specs.Io.KnownBytes.{Consumes}
+use Rattle.std.specs.Prelude.{◌≡◌, ◌≢◌, ℕ, Bool, List, ◌++◌, Option, Result, Ok, Err}
 use Rattle.bk_base.specs.Devices.{Begins}
 use Rattle.bk_base.specs.declared.run_end.End.{End}
 use Rattle.bk_base.specs.declared.run_end.End.TheVariants.{Status, DivideByZero, StoreLimit, StepLimit, BadOperation, ReadFault, WriteFault}
@@ -10,6 +9,7 @@ use Rattle.bk_intcode.specs.Runs.{Exchanged, Follows, Blames}
 use Rattle.bk_kit.specs.declared.kit_fault.KitFault.{KitFault}
 use Rattle.bk_kit.specs.declared.kit_fault.KitFault.TheVariants.{Source, Ocode, Intcode, TooSmall, NoStart, Read, Write, Memory}
 use Rattle.bk_kit.specs.Interpreting.{Streams, told}
+use Rattle.bk_kit.specs.ReadingSource.{EachSource}
 
 -- What sources mean, and how much is enough to run them.
 pub record Language : Type 1 where
@@ -56,6 +56,10 @@ module _ (language : Language) (source input : List ℕ) (steps words : ℕ) whe
   abbrev pub TooFew : Type 0
   TooFew = language.Enough source input steps words → ⊥
 
+  -- not enough for any number of turns
+  abbrev pub TooFewForAny : Type 0
+  TooFewForAny = (turns : ℕ) → language.EnoughFor source input turns steps words → ⊥
+
   -- the end of a run, with the bytes that it read and wrote, and the meaning
   abbrev pub Agrees : End → List ℕ → List ℕ → Type 0
   Agrees (Status v) read written = IsEnd (Status v) read written
@@ -85,7 +89,8 @@ Keeps language source (Ok end) steps words before after = Runs language source e
 Keeps language source (Err (Source fault)) steps words before after =
     language.Refused source fault × (language.Accepted source → ⊥) × (after ≡ before)
 Keeps language source (Err TooSmall) steps words before after =
-    language.Accepted source × ((input : List ℕ) → TooFew language source input steps words) × (after ≡ before)
+    language.Accepted source × ((input : List ℕ) → TooFew language source input steps words × TooFewForAny language source input steps words)
+    × (after ≡ before)
 Keeps language source (Err NoStart) steps words before after = language.Accepted source × language.Startless source × (after ≡ before)
 Keeps language source (Err Read) steps words before after = after ≡ before
 Keeps language source (Err Memory) steps words before after = after ≡ before
@@ -93,10 +98,7 @@ Keeps language source (Err Write) steps words before after = ⊥
 Keeps language source (Err (Ocode section fault)) steps words before after = ⊥
 Keeps language source (Err (Intcode segment fault)) steps words before after = ⊥
 
--- Some bytes were delivered of the source, and the answer is one of every source that begins with them; where the source's end
--- was told, of just these.
-pub record Headline (language : Language) (answer : Result End KitFault) (steps words : ℕ) (old new : Option (List ℕ)) (ended : Bool)
-    (before after : Streams) : Type 0 where
-  pub text : List ℕ
-  pub delivered : Consumes old new text
-  pub keeps : (rest : List ℕ) → (IsTrue ended → rest ≡ []) → Keeps language (text ++ rest) answer steps words before after
+-- The answer is one of each source that the bytes delivered begin.
+abbrev pub Headline : Language → Result End KitFault → ℕ → ℕ → Option (List ℕ) → Option (List ℕ) → Bool → Streams → Streams → Type 0
+Headline language answer steps words old new ended before after =
+    EachSource old new ended (λ source. Keeps language source answer steps words before after)

@@ -9,9 +9,10 @@ use Rattle.bk_intcode.specs.State.{store_of, registers_of, end_of, sizes_of}
 use Rattle.bk_intcode.specs.Placement.{SEGMENTS, stack_start, loaded_store, greatest_frame, any_starts}
 use Rattle.bk_base.specs.declared.run_end.End.TheVariants.{WriteFault}
 use Rattle.bk_intcode.specs.Runs.{Told, Ran, Blames}
+use Rattle.bk_intcode_text.specs.SegmentReading.{StopsAtDevice}
 use Rattle.bk_kit.specs.declared.kit_fault.KitFault.{KitFault}
 use Rattle.bk_kit.specs.declared.kit_fault.KitFault.TheVariants.{Source, Ocode, Intcode, TooSmall, NoStart, Read, Write, Memory}
-use Rattle.bk_kit.specs.Texts.{Stands, parts, refused}
+use Rattle.bk_kit.specs.Texts.{Stands, StopsInPart, parts, refused}
 use Rattle.bk_kit.specs.Code.{intcode}
 
 -- at least 16 words of the store are left for the stack
@@ -25,7 +26,7 @@ first_registers all = record { c = 1; p = stack_start SEGMENTS all; a = 0; b = 0
 -- What refuses a text as it is read.
 abbrev pub TextRefused : KitFault → Option (List ℕ) → Option (List ℕ) → Bool → Type 0
 TextRefused (Intcode number fault) old new ended = Stands intcode (refused number fault.item fault.kind) old new ended
-TextRefused Read old new ended = ⊤
+TextRefused Read old new ended = StopsInPart intcode StopsAtDevice old new
 TextRefused Memory old new ended = ⊤
 TextRefused (Source fault) old new ended = ⊥
 TextRefused (Ocode number fault) old new ended = ⊥

@@ -5,7 +5,7 @@ pub mod Texts
 pub mod Code
 pub mod Interpreting
 pub mod Headline
-pub mod ShortSources
+pub mod RunningSource
 pub mod Statuses
 pub mod Telling
 pub mod Filters

@@ -1,7 +1,7 @@
 -- Reading a source up to the end of its next section.
-use Rattle.std.specs.Prelude.{◌≡◌, ℕ, ◌+◌, ◌≤◌, Bool, IsTrue, ⊤, List, [], ◌∷◌, ◌++◌, Option, Some, length}
+use Rattle.std.specs.Prelude.{◌≡◌, ℕ, ◌+◌, ◌<◌, ◌≤◌, Bool, IsTrue, ⊤, List, [], ◌∷◌, ◌++◌, Option, Some, length}
 use Rattle.std.specs.Io.KnownBytes.{Consumes}
-use Rattle.bk_base.specs.declared.limit.TheConstants.{SECTION_BYTES}
+use Rattle.bk_base.specs.declared.limit.TheConstants.{SECTION_BYTES, INPUT_BYTES}
 use Rattle.bk_lex.specs.declared.counting.State.{State}
 use Rattle.bk_lex.specs.declared.cutter.Cut.{Cut}
 use Rattle.bk_lex.specs.declared.cutter.Cut.TheVariants.{More}
@@ -21,10 +21,14 @@ Asked bytes = AskedFrom (Some start) bytes
 abbrev pub cut_behind : List ℕ → Cut
 cut_behind bytes = cut_as (state_behind (Some start) bytes)
 
+-- whatever may follow the bytes delivered: nothing, where the source's end was told
+abbrev pub Follows : Bool → List ℕ → Type 0
+Follows ended rest = IsTrue ended → rest ≡ []
+
 -- Nothing is read of a section that begins with these bytes but what is read of them; where the source's end was told, nothing
 -- follows.
 abbrev pub Settles : List ℕ → Bool → Type 0
-Settles bytes ended = (line : ℕ) (rest : List ℕ) → (IsTrue ended → rest ≡ []) → lexed (bytes ++ rest) line ≡ lexed bytes line
+Settles bytes ended = (line : ℕ) (rest : List ℕ) → Follows ended rest → lexed (bytes ++ rest) line ≡ lexed bytes line
 
 -- These bytes were delivered, and counted: a section, or the part of one that could be read, and no byte behind it.
 pub record IsDelivered (bytes : List ℕ) (old new : Option (List ℕ)) (before after : ℕ) : Type 0 where
@@ -33,8 +37,10 @@ pub record IsDelivered (bytes : List ℕ) (old new : Option (List ℕ)) (before 
   pub counted : after ≡ before + length bytes
   pub few : length bytes ≤ SECTION_BYTES + 1
 
--- These bytes were delivered, and the first section of every source that begins with them is read as that of these; where the
--- source's end was told, of just these.
-pub record IsFirstSection (text : List ℕ) (old new : Option (List ℕ)) (ended : Bool) : Type 0 where
+-- Some bytes were delivered, and this holds of each source that begins with them; where the source's end was told, of just these.
+-- One call reads no more than so many bytes, and a source is taken to have less.
+pub record EachSource (old new : Option (List ℕ)) (ended : Bool) (Holds : List ℕ → Type 0) : Type 0 where
+  pub text : List ℕ
   pub delivered : Consumes old new text
-  pub settled : (rest : List ℕ) → (IsTrue ended → rest ≡ []) → lexed (text ++ rest) 1 ≡ lexed text 1
+  pub within : length text ≤ INPUT_BYTES
+  pub holds : length text < INPUT_BYTES → (rest : List ℕ) → Follows ended rest → Holds (text ++ rest)

@@ -4,11 +4,10 @@ use Rattle.bk_base.specs.declared.run_end.End.{End}
 use Rattle.bk_kit.specs.declared.kit_fault.KitFault.{KitFault}
 use Rattle.bk_kit.specs.declared.orders.Order.{Order}
 use Rattle.bk_kit.specs.declared.orders.Order.TheVariants.{Compile, Generate, Run, Interpret, Sizes}
-use Rattle.bk_kit.specs.Interpreting.{Streams, Interpreted}
+use Rattle.bk_kit.specs.Interpreting.{Streams, Interpreted, is_read}
 use Rattle.bk_kit.specs.Compiling.{Compiles}
 use Rattle.bk_kit.specs.Generating.{Generates}
-use Rattle.bk_kit.specs.Headline.{Headline}
-use Rattle.bk_kit.specs.ShortSources.{short_sources}
+use Rattle.bk_kit.specs.RunningSource.{RunsSource, ReadsSource}
 use Rattle.bk_kit.specs.Sizes.{Reports}
 use Rattle.bk_kit.specs.Statuses.{run_status, run_line, done_status, done_line}
 use Rattle.bk_kit.specs.Telling.{Output, Tells}
@@ -26,7 +25,7 @@ Serves Generate status old new ended before after err_before err_after =
     (answer : Result (Unit {0}) KitFault) × Generates answer before.left after.left after.ended after.reads (output_of before) (output_of after)
     × (status ≡ done_status answer) × Tells (done_line answer) err_before err_after × (new ≡ old)
 Serves (Run limits name) status old new ended before after err_before err_after =
-    (answer : Result End KitFault) × Headline short_sources answer limits.steps limits.words old new ended before after
+    (answer : Result End KitFault) × RunsSource answer limits.steps limits.words old new ended before after × ReadsSource (is_read answer) old new
     × (status ≡ run_status answer) × Tells (run_line answer) err_before err_after
 Serves (Interpret limits name) status old new ended before after err_before err_after =
     (answer : Result End KitFault) × Interpreted answer limits.steps limits.words old new ended before after

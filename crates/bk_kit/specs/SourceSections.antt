@@ -2,25 +2,25 @@
 use Rattle.std.specs.Prelude.{◌≡◌, ℕ, false, List, ◌++◌, map, Err}
 use Rattle.bk_base.specs.declared.source_fault.SourceFault.{SourceFault}
 use Rattle.bk_lex.specs.Lexing.{Section}
-use Rattle.bk_ocode.specs.declared.stmt.Stmt.{Stmt}
+use Rattle.bk_syntax.specs.Tree.{Declarations}
 use Rattle.bk_gen.specs.BackEnd.{Part}
 use Rattle.bk_kit.specs.declared.kit_fault.KitFault.TheVariants.{Source}
 use Rattle.bk_kit.specs.Interpreting.{Streams}
 use Rattle.bk_kit.specs.Headline.{Language, Keeps}
 use Rattle.bk_kit.specs.OcodeSteps.{ocode_steps}
-use Rattle.bk_kit.specs.Sources.{Accepted, Refused, WholeSection, bytes_of, codes_of, line_behind, AreAccepted}
+use Rattle.bk_kit.specs.Sources.{Accepted, Refused, WholeSection, bytes_of, trees_of, codes_of_trees, line_behind, AreAccepted}
 
--- Accepted sections, each with its `.`, and behind them an accepted one that the source's end ends; these are the statements of all.
-pub record HasSections (source : List ℕ) (codes : List (List Stmt)) : Type 0 where
+-- Accepted sections, each with its `.`, and behind them an accepted one that the source's end ends; these are the trees of all.
+pub record HasTrees (source : List ℕ) (trees : List Declarations) : Type 0 where
   pub sections : List WholeSection
   pub part : List ℕ
   pub whole : source ≡ bytes_of sections ++ part
   pub accepted : AreAccepted 1 sections part
   pub last : Section
-  pub last_codes : List (List Stmt)
-  pub accepts : Accepted part (line_behind 1 sections) last last_codes
+  pub last_trees : List Declarations
+  pub accepts : Accepted part (line_behind 1 sections) last last_trees
   pub at_end : last.ended ≡ false
-  pub all : codes ≡ codes_of sections ++ last_codes
+  pub all : trees ≡ trees_of sections ++ last_trees
 
 -- Accepted sections, each with its `.`, and behind them one that is refused for this fault.
 pub record IsRefused (source : List ℕ) (fault : SourceFault) : Type 0 where
@@ -32,7 +32,7 @@ pub record IsRefused (source : List ℕ) (fault : SourceFault) : Type 0 where
 
 -- the statements of the source's sections are those of the parts
 abbrev pub HasParts : List Part → List ℕ → Type 0
-HasParts parts source = HasSections source (map (λ (p : Part). p.stmts) parts)
+HasParts parts source = (trees : List Declarations) × HasTrees source trees × (map (λ (p : Part). p.stmts) parts ≡ codes_of_trees trees)
 
 -- The language of the sources with these parts: each means what the steps of OCODE do on the statements of its sections, with the
 -- numbers that the parts' segments give. A source is refused for the fault of its first section that is not accepted.

@@ -1,5 +1,5 @@
--- What a source says: its sections one after another, each with its statements in OCODE, up to one that is refused.
-use Rattle.std.specs.Prelude.{◌≡◌, ◌⊎◌, ℕ, true, List, [], ◌∷◌, ◌++◌, Some, length}
+-- What a source says: its sections one after another, each with its tree and its statements in OCODE, up to one that is refused.
+use Rattle.std.specs.Prelude.{◌≡◌, ◌⊎◌, ℕ, true, List, [], ◌∷◌, ◌++◌, Some, length, map}
 use Rattle.bk_base.specs.declared.source_fault.SourceFault.{SourceFault}
 use Rattle.bk_lex.specs.Symbol.{Symbol}
 use Rattle.bk_lex.specs.Lexing.{Section}
@@ -19,23 +19,28 @@ use Rattle.bk_ocode.specs.declared.stmt.Stmt.{Stmt}
 use Rattle.bk_trans.specs.Naming.{named_tree}
 use Rattle.bk_trans.specs.Scheme.{scheme}
 
--- The symbols are a section of the grammar within the limits, its names have no fault, and these are its statements.
-pub record Translates (symbols : List Symbol) (stmts : List Stmt) : Type 0 where
-  pub tree : Declarations
+-- The symbols are a section of the grammar within the limits, with this tree, and its names have no fault.
+pub record IsTree (tree : Declarations) (symbols : List Symbol) : Type 0 where
   pub section : syntax.IsSection tree symbols
   pub within : Within tree
   pub faultless : faults tree ≡ []
-  pub code : stmts ≡ scheme (named_tree tree)
 
--- A section without symbols is skipped.
-abbrev pub Means : List Symbol → List (List Stmt) → Type 0
-Means [] codes = codes ≡ []
-Means (symbol ∷ symbols) codes = (stmts : List Stmt) × Translates (symbol ∷ symbols) stmts × (codes ≡ stmts ∷ [])
+-- A section without symbols is skipped, and has no tree.
+abbrev pub Means : List Symbol → List Declarations → Type 0
+Means [] trees = trees ≡ []
+Means (symbol ∷ symbols) trees = (tree : Declarations) × IsTree tree (symbol ∷ symbols) × (trees ≡ tree ∷ [])
 
--- The first section of a text whose first line has this number is accepted, with these statements.
-pub record Accepted (text : List ℕ) (line : ℕ) (section : Section) (codes : List (List Stmt)) : Type 0 where
+-- The first section of a text whose first line has this number is accepted, with this tree, or none.
+pub record Accepted (text : List ℕ) (line : ℕ) (section : Section) (trees : List Declarations) : Type 0 where
   pub tokens : IsSection text line section
-  pub means : Means section.symbols codes
+  pub means : Means section.symbols trees
+
+-- the statements of trees
+abbrev pub stmts_of_tree : Declarations → List Stmt
+stmts_of_tree tree = scheme (named_tree tree)
+
+abbrev pub codes_of_trees : List Declarations → List (List Stmt)
+codes_of_trees trees = map stmts_of_tree trees
 
 -- The names of the section have this fault, which is their first.
 pub record Misnames (fault : SourceFault) (symbols : List Symbol) : Type 0 where
@@ -54,21 +59,24 @@ Stands fault text line =
 
 pub record Refused (fault : SourceFault) (text : List ℕ) (line : ℕ) : Type 0 where
   pub stands : Stands fault text line
-  pub not_accepted : (section : Section) (codes : List (List Stmt)) → Accepted text line section codes → ⊥
+  pub not_accepted : (section : Section) (trees : List Declarations) → Accepted text line section trees → ⊥
 
--- A section with its bytes, the `.` that ends it included, and its statements.
+-- A section with its bytes, the `.` that ends it included, and its tree, or none.
 pub record WholeSection : Type 0 where
   pub bytes : List ℕ
   pub tokens : Section
-  pub codes : List (List Stmt)
+  pub trees : List Declarations
 
 abbrev pub bytes_of : List WholeSection → List ℕ
 bytes_of [] = []
 bytes_of (section ∷ sections) = section.bytes ++ bytes_of sections
 
+abbrev pub trees_of : List WholeSection → List Declarations
+trees_of [] = []
+trees_of (section ∷ sections) = section.trees ++ trees_of sections
+
 abbrev pub codes_of : List WholeSection → List (List Stmt)
-codes_of [] = []
-codes_of (section ∷ sections) = section.codes ++ codes_of sections
+codes_of sections = codes_of_trees (trees_of sections)
 
 -- the line on which it goes on behind them
 abbrev pub line_behind : ℕ → List WholeSection → ℕ
@@ -79,7 +87,7 @@ line_behind line (section ∷ sections) = line_behind section.tokens.line sectio
 abbrev pub AreAccepted : ℕ → List WholeSection → List ℕ → Type 0
 AreAccepted line [] rest = Unit {0}
 AreAccepted line (section ∷ sections) rest =
-    Accepted (section.bytes ++ (bytes_of sections ++ rest)) line section.tokens section.codes
+    Accepted (section.bytes ++ (bytes_of sections ++ rest)) line section.tokens section.trees
     × (section.tokens.ended ≡ true) × (section.tokens.used ≡ length section.bytes)
     × AreAccepted section.tokens.line sections rest
 

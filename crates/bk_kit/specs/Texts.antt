@@ -47,3 +47,14 @@ module _ {Part Kind : Type 0} (format : Format Part Kind) where
     pub taken : List ℕ
     pub delivered : Consumes old new taken
     pub says : SaysWhateverFollows saying taken ended
+
+  -- The read failed behind the bytes of whole parts, and these of the next, which had not come to its end.
+  pub record StopsInPart (IsPart : List ℕ → Type 0) (old new : Option (List ℕ)) : Type 0 where
+    pub before : List Part
+    pub bytes : List ℕ
+    pub part : List ℕ
+    pub delivered : Consumes old new (bytes ++ part)
+    pub whole : AreWhole before
+    -- the bytes are the words of the parts, whatever follows them
+    pub are : (more : List ℕ) → length (bytes ++ more) < INPUT_BYTES → words_of (bytes ++ more) ≡ all_words before ++ words_of more
+    pub is_part : IsPart part

@@ -4,23 +4,17 @@
 mod code;
 mod command_line;
 mod compiler;
-#[cfg(test)]
-mod filter_tests;
 mod generator;
 mod kit_fault;
 mod laws;
 mod orders;
 mod pieces;
 mod reading;
-#[cfg(test)]
-mod run_tests;
 mod runner;
 mod section;
 mod service;
 mod source;
 mod status;
-#[cfg(test)]
-mod tests;
 
 pub use command_line::{LineFault, order};
 pub use compiler::compile;

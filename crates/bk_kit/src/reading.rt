@@ -23,7 +23,7 @@ pub fn read_section<C: ByteIn>(
     ensures fault { IfErr result (λ fault. (text : List ℕ) × IsDelivered text (C.left source.old) (C.left source.new) taken.old taken.new
         × ((fault ≡ KitFault.Memory) ⊎ ((fault ≡ KitFault.Read) × (cut_behind text ≡ More)))) }
     ensures within { taken.new ≤ INPUT_BYTES }
-    ensures failures { taken.new < INPUT_BYTES → C.faults source.new ≡ (if is_read result then 1 else 0) }
+    ensures failures { (taken.old < INPUT_BYTES) ⊎ (C.faults source.old ≡ 0) → C.faults source.new ≡ (if is_read result then 1 else 0) }
 {
     let mut text = Vec::new(alloc);
     let mut cutter = Cutter::new();

@@ -2,8 +2,7 @@
 ghost use Rattle.std.specs.Prelude.{ℕ, List, ◌≡◌, IfOk, IfErr, map};
 ghost use Rattle.bk_lex.specs.Symbol.{symbols_of};
 ghost use Rattle.bk_ocode.specs.SectionStmts.{stmts_of};
-ghost use Rattle.bk_kit.specs.Sources.{Translates};
-ghost use Rattle.bk_kit.specs.CompilingSection.{Compiled, Refuses, RefusesSymbols};
+ghost use Rattle.bk_kit.specs.CompilingSection.{Translates, Compiled, Refuses, RefusesSymbols};
 
 use crate::kit_fault::KitFault;
 use bk_base::Line;

@@ -1,51 +1,81 @@
 //! Running a source.
-ghost use Rattle.std.specs.Prelude.{ℕ, List, ◌≡◌, ◌≢◌, ◌≤◌, ◌⊎◌, IfOk, IfErr, OnErr, if◌then◌else◌};
-ghost use Rattle.std.specs.Io.KnownBytes.{Consumes};
+ghost use Rattle.std.specs.Prelude.{◌≡◌, ◌≤◌, IfOk, IfErr, OnOk, OnErr, map, if◌then◌else◌};
 ghost use Rattle.bk_base.specs.declared.limit.TheConstants.{STORE_LEAST, STORE_MOST};
 ghost use Rattle.bk_intcode.specs.SegmentItems.{items_of};
-ghost use Rattle.bk_short.specs.Program.{IsProgram};
 ghost use Rattle.bk_kit.specs.Interpreting.{is_read};
-ghost use Rattle.bk_kit.specs.Headline.{Headline};
-ghost use Rattle.bk_kit.specs.ShortSources.{short_sources, NotProgram, LoadsSource, RefusesSource};
-ghost use Rattle.bk_kit.specs.ReadingSource.{IsFirstSection};
+ghost use Rattle.bk_kit.specs.CompilingSection.{codes_in};
+ghost use Rattle.bk_kit.specs.RunningSource.{Generated, Assembled, NotAssembled, LoadsSource, RefusesSource, RunsSource, ReadsSource};
 
 use crate::kit_fault::KitFault;
+use crate::laws::ocode_runs;
 use crate::reading::read_section;
-use bk_base::{ByteIn, ByteOut, End, Limits, Refused};
+use crate::section::compile_section;
+use bk_base::{ByteIn, ByteOut, End, Limits, Line};
+use bk_gen::generate;
 use bk_intcode::{Intcode, Machine};
-use bk_short::short_program;
-use std::alloc::Global;
+use bk_ocode::Ocode;
+use std::alloc::{AllocError, Global};
 
-/// The code of a source.
-fn program_of(alloc: Global, text: &[u8]) -> Result<Intcode, KitFault>
-    ensures program { IfOk result (λ segment. IsProgram text.now (items_of segment)) }
-    ensures fault { IfErr result (NotProgram text.now) }
+/// Generates the segment of a section's code, if it has any, behind those of the sections before.
+fn push_segment(
+    alloc: Global,
+    code: &Option<Ocode>,
+    segments: &mut Vec<Intcode>,
+) -> Result<(), AllocError>
+    ensures generated { OnOk result (Generated (map items_of segments.old.items) (map items_of segments.new.items) (codes_in code.now)) }
 {
-    match short_program(alloc, text) {
-        Ok(segment) => Ok(segment),
-        Err(Refused::Fault(fault)) => Err(KitFault::Source(fault)),
-        Err(_) => Err(KitFault::Memory),
+    match code {
+        Some(code) => {
+            let segment = generate(alloc, code)?;
+            segments.push(segment)?;
+            Ok(())
+        }
+        None => Ok(()),
     }
 }
 
-/// Reads a source, and loads its code into a store of so many words.
+/// The segments of all sections of a source that have symbols. The text, the tree and the code of one section are held, and
+/// dropped before the next is read.
+fn assemble<C: ByteIn>(alloc: Global, source: &mut C) -> Result<Vec<Intcode>, KitFault>
+    ensures assembled { IfOk result (λ list. Assembled (map items_of list.items) (C.left source.old) (C.left source.new) (C.ended source.new)) }
+    ensures refused { IfErr result (λ fault. NotAssembled fault (C.left source.old) (C.left source.new) (C.ended source.new)) }
+    ensures delivered { ReadsSource (is_read result) (C.left source.old) (C.left source.new) }
+    ensures failures { C.faults source.new ≡ (if is_read result then 1 else 0) }
+{
+    let mut segments = Vec::new(alloc);
+    let mut taken = 0;
+    let mut line = Line::first();
+    loop {
+        let text = read_section(alloc, source, &mut taken)?;
+        let section = compile_section(alloc, text.as_slice(), line)?;
+        let Ok(()) = push_segment(alloc, &section.code, &mut segments) else {
+            return Err(KitFault::Memory);
+        };
+        match section.next {
+            Some(next) => line = next,
+            None => return Ok(segments),
+        }
+    }
+}
+
+/// Reads a source, and loads its segments into a store of so many words.
 fn load_source<C: ByteIn>(alloc: Global, source: &mut C, words: u32) -> Result<Machine, KitFault>
     requires least { STORE_LEAST ≤ words }
     requires most { words ≤ STORE_MOST }
     ensures loaded { IfOk result (λ machine. LoadsSource machine words (C.left source.old) (C.left source.new) (C.ended source.new)) }
     ensures refused { IfErr result (λ fault. RefusesSource fault words (C.left source.old) (C.left source.new) (C.ended source.new)) }
+    ensures delivered { ReadsSource (is_read result) (C.left source.old) (C.left source.new) }
     ensures failures { C.faults source.new ≡ (if is_read result then 1 else 0) }
 {
-    let mut taken = 0;
-    let text = read_section(alloc, source, &mut taken)?;
-    let program = program_of(alloc, text.as_slice())?;
-    Ok(Machine::load(alloc, &[program], words)?)
+    let segments = assemble(alloc, source)?;
+    Ok(Machine::load(alloc, segments.as_slice(), words)?)
 }
 
-/// Reads a source, compiles it, and runs it with this input and output. The sources that are taken so far are short:
-/// GET "LIBHDR", LET START() BE, and a block of calls WRCH(n) and STOP(n).
+/// Compiles a source, a section after another, loads the segments of all, and runs them with this input and output.
 ///
-/// Where the source is refused or cannot be read, nothing is run, and neither input nor output is touched.
+/// Nothing is run unless all sections were accepted and loaded. Where the source is refused or cannot be read, neither input
+/// nor output is touched, and no byte of the source is asked for behind the section that is refused. `TooSmall` and
+/// `NoStart` come of accepted sources alone.
 pub fn run_source<C: ByteIn, I: ByteIn, O: ByteOut>(
     alloc: Global,
     source: &mut C,
@@ -53,12 +83,14 @@ pub fn run_source<C: ByteIn, I: ByteIn, O: ByteOut>(
     input: &mut I,
     out: &mut O,
 ) -> Result<End, KitFault>
-    ensures headline { Headline short_sources result limits.steps limits.words (C.left source.old) (C.left source.new) (C.ended source.new)
+    ensures headline { RunsSource result limits.steps limits.words (C.left source.old) (C.left source.new) (C.ended source.new)
         (record { left = I.left input.old; ended = I.ended input.old; taken = O.taken out.old; passed = O.passed out.old; reads = I.faults input.old; writes = O.faults out.old })
         (record { left = I.left input.new; ended = I.ended input.new; taken = O.taken out.new; passed = O.passed out.new; reads = I.faults input.new; writes = O.faults out.new }) }
+    ensures delivered { ReadsSource (is_read result) (C.left source.old) (C.left source.new) }
     ensures runs_nothing { OnErr result ((input.new ≡ input.old) × (out.new ≡ out.old)) }
     ensures read_fails { C.faults source.new ≡ (if is_read result then 1 else 0) }
 {
+    ocode_runs();
     let mut machine = load_source(alloc, source, limits.words())?;
     Ok(machine.run(limits.steps(), input, out))
 }

@@ -5,6 +5,7 @@ pub mod SameStmts
 pub mod NextWords
 pub mod CaseLemmas
 pub mod Completions
+pub mod CutSections
 pub mod ReadingLemmas
 pub mod FaultLemmas
 pub mod OneSaying

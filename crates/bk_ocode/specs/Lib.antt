@@ -24,6 +24,7 @@ pub mod Library
 pub mod ProgramStart
 pub mod Frames
 pub mod SoundRuns
+pub mod WellPlaced
 pub mod SectionLaws
 pub mod Typing
 pub mod KnownUses

@@ -9,7 +9,7 @@ use Rattle.bk_base.specs.declared.refused.Refused.{Refused}
 use Rattle.bk_base.specs.declared.refused.Refused.TheVariants.{Fault, Memory, Device}
 use Rattle.bk_words.specs.TextEnd.{AtEnd}
 use Rattle.bk_words.specs.Words.{words_of}
-use Rattle.bk_words.specs.Taking.{TakesWords}
+use Rattle.bk_words.specs.Taking.{TakesWords, StopsInWord}
 use Rattle.bk_ocode.specs.Lists.{joined}
 use Rattle.bk_ocode.specs.SectionText.{section_words, section_text}
 use Rattle.bk_ocode.specs.SectionStmts.{stmts_of}
@@ -55,14 +55,24 @@ pub record StopsAtWord (taken : List ℕ) (end : Type 0) : Type 0 where
   pub word : List ℕ
   pub are : TakesWords taken end (section_words before ++ (part ++ word ∷ []))
 
--- The answer is what the bytes taken say, unless the device failed. Where memory was refused nothing is taken behind the
--- word at which it was, save one blank.
+-- The device failed behind words of statements without a fault, and none or some that begin the next, within the limit. Behind
+-- the blanks that follow them no more was taken than the bytes of one word that did not end.
+pub record StopsAtDevice (taken : List ℕ) : Type 0 where
+  pub before : List Stmt
+  pub begun : IsBegun before
+  pub part : List (List ℕ)
+  pub goes_on : (part ≡ []) ⊎ BeginsStmt before part
+  pub within : length (section_words before ++ part) ≤ OCODE_WORDS
+  pub are : StopsInWord taken (section_words before ++ part)
+
+-- The answer is what the bytes taken say. Where memory was refused nothing is taken behind the word at which it was, save one
+-- blank. Where the device failed no section had come to its end.
 abbrev pub Answers : Result (Option Ocode) (Refused OcodeFault) → Option (List ℕ) → Option (List ℕ) → Bool → Type 0
 Answers (Ok (Some read)) old new ended = Takes old new ended (λ taken end. GivesSection taken end (stmts_of read))
 Answers (Ok None) old new ended = Takes old new ended GivesNothing
 Answers (Err (Fault told)) old new ended = Takes old new ended (λ taken end. GivesFault taken end told.statement told.kind)
 Answers (Err Memory) old new ended = Takes old new ended StopsAtWord
-Answers (Err Device) old new ended = ⊤
+Answers (Err Device) old new ended = Takes old new ended (λ taken end. StopsAtDevice taken)
 
 -- What the answer says of a text that begins with these bytes, which were taken, unless memory was refused or the device
 -- failed.
@@ -117,6 +127,10 @@ PrintedSaysAgain = (printed : Ocode) (more : List ℕ) → Says (section (stmts_
 abbrev pub PrintedIsReadAgain : Type 0
 PrintedIsReadAgain = (printed : Ocode) (more : List ℕ) (answer : Result (Option Ocode) (Refused OcodeFault)) →
     AnswersWords answer (words_of (section_text (stmts_of printed) ++ more)) → ReadsAgain answer (stmts_of printed)
+
+-- Where the device failed, the words with a blank behind them, which were taken, neither are a section nor begin with one.
+abbrev pub NoSectionPassed : Type 0
+NoSectionPassed = (taken : List ℕ) (stops : StopsAtDevice taken) (stmts : List Stmt) → Says (section stmts) (words_of stops.are.front) → ⊥
 
 abbrev pub is_device : Result (Option Ocode) (Refused OcodeFault) → Bool
 is_device (Ok read) = false

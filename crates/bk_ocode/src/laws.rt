@@ -3,7 +3,7 @@ ghost use Rattle.bk_ocode.specs.StepLaws.{StepKeepsBelow};
 ghost use Rattle.bk_ocode.specs.RunLaws.{GoesOnBehindLabel};
 ghost use Rattle.bk_ocode.specs.SoundRuns.{FirstStateIsSound, StepsAreSound, ResumingIsSound, StepsComeNearer, StepsGrow, EndsKeepBytes};
 ghost use Rattle.bk_ocode.specs.FirstFault.{SayOneThing};
-ghost use Rattle.bk_ocode.specs.SectionAnswer.{PrintedIsParted, PrintedAreParted, PrintedSaysAgain, PrintedIsReadAgain};
+ghost use Rattle.bk_ocode.specs.SectionAnswer.{PrintedIsParted, PrintedAreParted, PrintedSaysAgain, PrintedIsReadAgain, NoSectionPassed};
 ghost use Rattle.bk_ocode.specs.Typing.{TypedIsSection};
 ghost use Rattle.bk_ocode.specs.SectionLaws.{LabelsAreSetOnce, LabelHasOnePlace, JumpFindsItsLabel, JumpHasItsLabelsDepth, DepthsSuffice, SectionIsShort, ResultFindsItsLabel, DataFindsItsLabel, ItemFindsItsLabel, GlobalFindsItsEntry, GlobalStandsLast, TextIsShort};
 
@@ -53,6 +53,12 @@ pub fn printed_again()
 #[tactic(auto, using(crate::proofs::ReadAgain::read_again))]
 pub fn read_again()
     ensures { PrintedIsReadAgain }
+{}
+
+/// Where the device failed as a section was read, no section had come to its end.
+#[tactic(auto, using(crate::proofs::CutSections::no_section_passed))]
+pub fn no_section_passed()
+    ensures { NoSectionPassed }
 {}
 
 /// Each statement has the depth that it needs, and no depth passes the limit of frames.

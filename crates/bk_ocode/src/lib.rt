@@ -28,9 +28,9 @@ pub use laws::{
     data_finds_its_label, depths_suffice, ends_keep_bytes, first_state_is_sound,
     global_finds_its_entry, global_stands_last, goes_on_behind_label, item_finds_its_label,
     jump_finds_its_label, jump_has_its_labels_depth, label_has_one_place, labels_are_set_once,
-    one_saying, printed_again, printed_are_parted, printed_is_parted, read_again,
-    result_finds_its_label, resuming_is_sound, section_is_short, step_keeps_below, steps_are_sound,
-    steps_come_nearer, steps_grow, text_is_short, typed_is_section,
+    no_section_passed, one_saying, printed_again, printed_are_parted, printed_is_parted,
+    read_again, result_finds_its_label, resuming_is_sound, section_is_short, step_keeps_below,
+    steps_are_sound, steps_come_nearer, steps_grow, text_is_short, typed_is_section,
 };
 pub use printing::print;
 pub use reading::read_section;

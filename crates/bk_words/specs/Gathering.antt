@@ -33,3 +33,11 @@ pub record TakesWord (given : List ℕ) (last : Bool) (end : Type 0) : Type 0 wh
 abbrev pub IsNextWord : Option Gathered → List ℕ → Type 0 → Type 0
 IsNextWord (Some held) given end = (t : TakesWord given held.last end) × Holds held (t.first ∷ t.rest)
 IsNextWord None given end = AreBlank given × end
+
+-- the bytes are blanks, or none, and the first of a word, or none
+pub record BeginsWord (given : List ℕ) : Type 0 where
+  pub blanks : List ℕ
+  pub begun : List ℕ
+  pub whole : given ≡ blanks ++ begun
+  pub are_blank : AreBlank blanks
+  pub in_word : AreInWord begun

@@ -5,9 +5,9 @@ use Rattle.bk_base.specs.Devices.{NothingLeft}
 use Rattle.bk_base.specs.DeviceLaws.{Consumes-trans}
 use Rattle.bk_base.specs.declared.limit.TheConstants.{INPUT_BYTES}
 use Rattle.bk_words.specs.TextEnd.{AtEnd}
-use Rattle.bk_words.specs.Words.{is_blank, at_gap, onto_first, words_of, AreBlank, AreInWord, EndsInWord, IsBehind}
-use Rattle.bk_words.specs.Gathering.{IsBehindWord, TakesWord}
-use Rattle.bk_words.specs.Taking.{TakesWords, TakesSome, Reads, ReadsAll}
+use Rattle.bk_words.specs.Words.{is_blank, at_gap, onto_first, words_of, AreBlank, AreInWord, EndsInWord, EndsInBlank, IsBehind}
+use Rattle.bk_words.specs.Gathering.{IsBehindWord, TakesWord, BeginsWord}
+use Rattle.bk_words.specs.Taking.{TakesWords, TakesSome, StopsInWord, Reads, ReadsAll}
 
 -- two parts of a word
 pub AreInWord-append : (x y : List ℕ) → AreInWord x → AreInWord y → AreInWord (x ++ y)
@@ -227,3 +227,60 @@ pub words_of-front : (word rest : List ℕ) (b : ℕ) → 0 < length word → Ar
 words_of-front [] rest b some in_word blank = absurd (omega (arith, some))
 words_of-front (first ∷ word) rest b some in_word blank =
     words_of-word first word (b ∷ rest) in_word blank ∙ ap (λ (w : List (List ℕ)). (first ∷ word) ∷ w) (chosen-true (is_blank b) _ _ blank)
+
+-- blanks more keep a blank at the end
+pub EndsInBlank-append : (front blanks : List ℕ) → EndsInBlank front → AreBlank blanks → EndsInBlank (front ++ blanks)
+EndsInBlank-append front [] ends are = subst EndsInBlank (sym (append-nil front)) ends
+EndsInBlank-append front (b ∷ blanks) ends are =
+    subst EndsInBlank (append_assoc front (b ∷ []) blanks) (EndsInBlank-append (front ++ b ∷ []) blanks (inr (front, b, are.0, refl)) are.1)
+
+-- a word with a blank behind it
+pub EndsInBlank-word : (front given : List ℕ) (last : Bool) (end : Type 0) → TakesWord given last end → last ≡ false → EndsInBlank (front ++ given)
+EndsInBlank-word front given true end t is = absurd (let h : true ≡ false = is in cc)
+EndsInBlank-word front given false end t is =
+    let word = t.first ∷ t.rest in
+    inr (
+      front ++ (t.blanks ++ word),
+      t.past.0,
+      t.past.1,
+      ap (λ (g : List ℕ). front ++ g) (t.whole ∙ sym (append_assoc t.blanks word t.behind) ∙ ap (λ (b : List ℕ). (t.blanks ++ word) ++ b) t.past.2) ∙ sym (append_assoc front (t.blanks ++ word) (t.past.0 ∷ [])),
+    )
+
+-- words that were read, where the text goes on
+EndsInBlank-some : (taken : List ℕ) (d : Type 0) (words : List (List ℕ)) → (d → ⊥) → TakesSome taken d words → EndsInBlank taken
+EndsInBlank-some taken d words unended (inl none) = inl none.0
+EndsInBlank-some taken d words unended (inr s) = elim s.past [
+  | inl blank ↦ inr (s.text, blank.0, blank.1, s.whole ∙ ap (λ (b : List ℕ). s.text ++ b) blank.2)
+  | inr over ↦ absurd (unended over.1)
+]
+
+-- the device failed behind words that were read
+pub Reads-stops : (old a b : Option (List ℕ)) (e : Bool) (m : ℕ) (words : List (List ℕ)) (given : List ℕ) → Reads old a e m words → (AtEnd e m → ⊥) → BeginsWord given → Consumes a b given →
+    (taken : List ℕ) × Consumes old b taken × StopsInWord taken words
+Reads-stops old a b e m words given reads unended begins gives = (
+  reads.0 ++ given,
+  Consumes-trans old a b reads.0 given reads.1 gives,
+  record {
+    front = reads.0 ++ begins.blanks;
+    begun = begins.begun;
+    whole = ap (λ (g : List ℕ). reads.0 ++ g) begins.whole ∙ sym (append_assoc reads.0 begins.blanks begins.begun);
+    are = more_blanks reads.0 begins.blanks (AtEnd e m) words begins.are_blank (λ at. absurd (unended at)) reads.3;
+    ends = EndsInBlank-append reads.0 begins.blanks (EndsInBlank-some reads.0 (AtEnd e m) words unended reads.3) begins.are_blank;
+    in_word = begins.in_word;
+  },
+)
+
+-- whatever follows there, its words are those and then others
+pub words_of-stopped : (taken more : List ℕ) (words : List (List ℕ)) → (s : StopsInWord taken words) → words_of (taken ++ more) ≡ words ++ words_of (s.begun ++ more)
+words_of-stopped taken more words s =
+    ap (λ (t : List ℕ). words_of (t ++ more)) s.whole ∙ ap words_of (append_assoc s.front s.begun more) ∙ behind s.ends
+  where
+    behind : EndsInBlank s.front → words_of (s.front ++ (s.begun ++ more)) ≡ words ++ words_of (s.begun ++ more)
+    behind (inl none) = ap (λ (t : List ℕ). words_of (t ++ (s.begun ++ more))) none
+        ∙ ap (λ (w : List (List ℕ)). w ++ words_of (s.begun ++ more)) (sym (ap words_of none) ∙ s.are)
+    behind (inr blank) =
+        let front = s.begun ++ more in
+        let gap : (rest : List ℕ) → words_of (blank.0 ++ blank.1 ∷ rest) ≡ words_of blank.0 ++ words_of rest = λ rest.
+        words_parted blank.0 (blank.1 ∷ rest) blank.2 ∙ ap (λ (w : List (List ℕ)). words_of blank.0 ++ w) (chosen-true (is_blank blank.1) _ _ blank.2) in
+        ap (λ (t : List ℕ). words_of (t ++ front)) blank.3 ∙ ap words_of (append_assoc blank.0 (blank.1 ∷ []) front) ∙ gap front
+        ∙ ap (λ (w : List (List ℕ)). w ++ words_of front) (sym (append-nil (words_of blank.0)) ∙ sym (gap []) ∙ sym (ap words_of blank.3) ∙ s.are)

@@ -37,6 +37,10 @@ AreInWord (byte ∷ rest) = (is_blank byte ≡ false) × AreInWord rest
 abbrev pub EndsInWord : List ℕ → Type 0
 EndsInWord text = (front : List ℕ) × (byte : ℕ) × (is_blank byte ≡ false) × (text ≡ front ++ byte ∷ [])
 
+-- empty, or the last byte is a blank
+abbrev pub EndsInBlank : List ℕ → Type 0
+EndsInBlank text = (text ≡ []) ⊎ ((front : List ℕ) × (byte : ℕ) × (is_blank byte ≡ true) × (text ≡ front ++ byte ∷ []))
+
 -- what is taken behind a word: one blank, or nothing where the text ends
 abbrev pub IsBehind : List ℕ → Type 0 → Type 0
 IsBehind behind end = ((byte : ℕ) × (is_blank byte ≡ true) × (behind ≡ byte ∷ [])) ⊎ ((behind ≡ []) × end)

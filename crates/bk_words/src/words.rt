@@ -6,7 +6,7 @@ ghost use Rattle.bk_base.specs.Decimal.{spelling};
 ghost use Rattle.bk_base.specs.Devices.{byte_list};
 ghost use Rattle.bk_words.specs.TextEnd.{AtEnd};
 ghost use Rattle.bk_words.specs.Words.{is_blank, AreBlank, AreInWord};
-ghost use Rattle.bk_words.specs.Gathering.{Holds, IsBehindWord, IsNextWord};
+ghost use Rattle.bk_words.specs.Gathering.{Holds, IsBehindWord, BeginsWord, IsNextWord};
 
 use crate::numbers::{number, within};
 use crate::word_buffer::{SIZE, WordBuffer};
@@ -29,6 +29,7 @@ fn next_byte<I: ByteIn>(input: &mut I, taken: &mut u64) -> Result<Option<u8>, Fa
     ensures within { taken.new ≤ INPUT_BYTES }
     ensures clear { OnOk result (I.faults input.new ≡ 0) }
     ensures failed { OnErr result (I.faults input.new ≡ 1) }
+    ensures kept { OnErr result (Keeps (I.left input.old) (I.left input.new) × (taken.new ≡ taken.old) × (taken.new < INPUT_BYTES)) }
     ensures failed_again { I.faults input.old ≡ 1 → IsErr result × Keeps (I.left input.old) (I.left input.new) }
     ensures ended_again { IsTrue (I.ended input.old) → (result ≡ Ok None) × IsTrue (I.ended input.new) }
     ensures ended_there { IsTrue (I.ended input.old) → taken.new ≡ taken.old }
@@ -54,6 +55,8 @@ fn first_byte<I: ByteIn>(input: &mut I, taken: &mut u64) -> Result<Option<u8>, F
     ensures within { OnOk result (taken.new ≤ INPUT_BYTES) }
     ensures clear { OnOk result (I.faults input.new ≡ 0) }
     ensures failed { OnErr result (I.faults input.new ≡ 1) }
+    ensures stops { OnErr result ((blanks : List ℕ) × AreBlank blanks × Consumes (I.left input.old) (I.left input.new) blanks
+        × (taken.new ≡ taken.old + length blanks) × (taken.new < INPUT_BYTES)) }
     ensures failed_again { I.faults input.old ≡ 1 → IsErr result × Keeps (I.left input.old) (I.left input.new) }
     ensures ended_again { IsTrue (I.ended input.old) → (result ≡ Ok None) × IsTrue (I.ended input.new) }
     ensures ended_there { IsTrue (I.ended input.old) → taken.new ≡ taken.old }
@@ -143,6 +146,8 @@ fn rest_of_word<I: ByteIn>(first: u8, input: &mut I, taken: &mut u64) -> Result<
     ensures within { OnOk result (taken.new ≤ INPUT_BYTES) }
     ensures clear { OnOk result (I.faults input.new ≡ 0) }
     ensures failed { OnErr result (I.faults input.new ≡ 1) }
+    ensures stops { OnErr result ((rest : List ℕ) × AreInWord rest × Consumes (I.left input.old) (I.left input.new) rest
+        × (taken.new ≡ taken.old + length rest) × (taken.new < INPUT_BYTES)) }
 {
     let mut word = WordBuffer::new();
     word.push(first);
@@ -181,6 +186,9 @@ pub fn next_word<I: ByteIn>(input: &mut I, taken: &mut u64) -> Result<Option<Gat
     ensures within { OnOk result (taken.new ≤ INPUT_BYTES) }
     ensures clear { OnOk result (I.faults input.new ≡ 0) }
     ensures failed { OnErr result (I.faults input.new ≡ 1) }
+    // Where the device failed, blanks were taken and the first bytes of a word, if any.
+    ensures stops { OnErr result ((given : List ℕ) × Consumes (I.left input.old) (I.left input.new) given
+        × (taken.new ≡ taken.old + length given) × (taken.new < INPUT_BYTES) × BeginsWord given) }
     ensures failed_again { I.faults input.old ≡ 1 → IsErr result × Keeps (I.left input.old) (I.left input.new) }
     ensures ended_again { IsTrue (I.ended input.old) → (result ≡ Ok None) × IsTrue (I.ended input.new) }
     ensures ended_there { IsTrue (I.ended input.old) → taken.new ≡ taken.old }

@@ -7,8 +7,14 @@ use Rattle.bk_intcode_text.specs.ItemFault.{item_fault}
 use Rattle.bk_intcode_text.specs.SegmentReading.{GivesSegment}
 use Rattle.bk_intcode_text.specs.SegmentAnswer.{Answers, Takes}
 use Rattle.bk_intcode_text.proofs.BegunLemmas.{IsSegment-of, no_fault-few}
+use Rattle.bk_intcode_text.proofs.CutSegments.{stops_behind}
 use Rattle.bk_intcode_text.proofs.ReadingLemmas.{nothing_left, cut, word_fault, item_fault_here, segment_here, cut_behind, Read-push, IsBegun-more, stops_here}
 use Rattle.bk_intcode_text.proofs.reading.next_segment.Goals as goal
+
+pub returns-in_default-clause-answers : goal.returns-in_default-clause-answers
+returns-in_default-clause-answers g c =
+    let stops = c.in_default.ensures.stops in
+    stops_behind _ _ _ c.loop-found.taken (g.I.ByteIn.ended c.next_item.new.input) c.loop-found.draft.items.items stops.0 c.loop-found.invariant.taken stops.4 stops.1 c.loop-found.invariant.begun
 
 pub returns-then-count-eq0-clause-answers : goal.returns-then-count-eq0-clause-answers
 returns-then-count-eq0-clause-answers g c =

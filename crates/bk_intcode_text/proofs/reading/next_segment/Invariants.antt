@@ -2,7 +2,7 @@ use Rattle.std.proofs.Common.{◌≡◌, ◌-◌, ◌<◌, ◌≤◌, ℕ, List,
 use Rattle.std.specs.Io.KnownBytes.{Consumes, Keeps}
 use Rattle.bk_base.specs.declared.limit.TheConstants.{INPUT_BYTES, INTCODE_ITEMS}
 use Rattle.bk_intcode_text.specs.ItemText.{item_text}
-use Rattle.bk_words.specs.Words.{words_of}
+use Rattle.bk_words.specs.Words.{words_of, EndsInBlank}
 use Rattle.bk_intcode_text.specs.Drafts.{IsDraft}
 use Rattle.bk_intcode_text.specs.SegmentReading.{IsBegun}
 use Rattle.bk_words.specs.WordLaws.{IsParted}
@@ -11,7 +11,7 @@ use Rattle.bk_intcode_text.proofs.reading.next_segment.Given as goal
 abbrev pub invariant-loop-found : goal.invariant-loop-found
 invariant-loop-found g l = record {
   taken : (front : List ℕ) × Consumes (g.I.ByteIn.left l.initial.input) (g.I.ByteIn.left l.input) front × (l.taken ≡ length front)
-      × (words_of front ≡ map item_text l.draft.items.items) × IsParted front;
+      × (words_of front ≡ map item_text l.draft.items.items) × IsParted front × EndsInBlank front;
   draft : IsDraft l.draft;
   begun : IsBegun l.draft.items.items;
   few : length l.draft.items.items ≤ INTCODE_ITEMS;

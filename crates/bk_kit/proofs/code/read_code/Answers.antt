@@ -3,7 +3,7 @@ use Rattle.std.proofs.lemmas.List.{map-append, length-map}
 use Rattle.bk_intcode.specs.declared.item.Item.{Item}
 use Rattle.bk_intcode.specs.SegmentItems.{items_of}
 use Rattle.bk_kit.specs.Texts.{part_number}
-use Rattle.bk_kit.proofs.CodeLemmas.{Front, Front-push, Front-refused, Front-whole}
+use Rattle.bk_kit.proofs.CodeLemmas.{Front, Front-push, Front-refused, Front-stops, Front-whole}
 use Rattle.bk_kit.proofs.code.read_code.Goals as goal
 
 pub loop-segment-preserved : goal.loop-segment-preserved
@@ -26,3 +26,7 @@ returns-in-Err-Fault-clause-refused g c =
     let number : c.number_behind.result ≡ part_number (length (map items_of c.loop-segment.list.items)) =
     c.number_behind.ensures ∙ ap part_number (len ∙ sym (length-map c.loop-segment.list.items items_of)) in
     rw (c.in-Err-Fault.field-0-is, number) stands
+
+pub returns-in-Err-Device-clause-refused : goal.returns-in-Err-Device-clause-refused
+returns-in-Err-Device-clause-refused g c =
+    Front-stops _ _ _ _ _ (g.C.ByteIn.ended c.read_segment.new.input) c.loop-segment.invariant (λ over. let bad = (c.in-Err-Device.ensures.ended_again over).0 in cc) (rw c.in-Err-Device.field-0-is at c.in-Err-Device.ensures.answers)

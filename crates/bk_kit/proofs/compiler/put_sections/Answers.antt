@@ -1,6 +1,8 @@
-use Rattle.std.proofs.Common.{subst, arith, ℕ, List, rules}
+use Rattle.std.proofs.Common.{subst, arith, inl, ℕ, List, Err, IfErr, rules}
+use Rattle.bk_kit.specs.Compiling.{PutsSections}
 use Rattle.bk_kit.specs.CompilingSection.{Compiled, Refuses}
-use Rattle.bk_kit.proofs.CompileLemmas.{front_empty, not_read, not_compiled, not_put, is_last, goes_on, some_taken}
+use Rattle.bk_kit.proofs.CompileLemmas.{front_empty, not_read, not_compiled, not_put, is_last, goes_on, puts_fault}
+use Rattle.bk_kit.proofs.PassedSections.{some_taken}
 use Rattle.bk_kit.proofs.compiler.put_sections.Goals as goal
 
 pub loop-text-init : goal.loop-text-init
@@ -9,22 +11,24 @@ loop-text-init g c = rw c.first-line.ensures (front_empty _ _)
 pub returns-in_err-text : goal.returns-in_err-text
 returns-in_err-text g c =
     let read = c.in_err-text.ensures.fault in
-    let puts = not_read _ _ _ (g.C.ByteIn.ended c.read_section.new.source) (g.C.ByteIn.faults c.read_section.new.source) _ c.read_section.new.taken c.loop-text.line _ _ c.loop-text.invariant read.0 read.1 c.read_section.ensures.within c.in_err-text.field-0.0 read.2 c.in_err-text.ensures.failures in
-    record { puts = search rules }
+    let puts = not_read _ _ _ (g.C.ByteIn.ended c.read_section.new.source) (g.C.ByteIn.faults c.read_section.new.source) _ c.read_section.new.taken c.loop-text.line _ _ c.loop-text.invariant read.0 read.1 c.read_section.ensures.within c.in_err-text.field-0.0 read.2 (λ short. c.in_err-text.ensures.failures (inl (omega (arith, short, read.1.counted)))) in
+    let fault : IfErr c.from_residual.result (λ f. PutsSections (Err f) _ _ _ _ _ _) = search (puts, c.from_residual.ensures, rules) in
+    record { puts = puts_fault _ _ _ _ _ _ _ c.from_residual.ensures.0 fault }
 
 pub returns-in_err-section : goal.returns-in_err-section
 returns-in_err-section g c =
     let read = c.in_ok-text.ensures.read in
     let refuses = subst (λ (t : List ℕ). Refuses c.in_err-section.field-0.0 t c.loop-text.line) c.as_slice.ensures.value c.in_err-section.ensures.refuses in
-    let puts = not_compiled _ _ _ _ _ _ c.read_section.new.taken c.loop-text.line _ _ c.loop-text.invariant c.in_ok-text.text.items read.0 c.read_section.ensures.within read.1 c.in_ok-text.ensures.failures c.in_err-section.field-0.0 refuses in
-    record { puts = search rules }
+    let puts = not_compiled _ _ _ _ _ _ c.read_section.new.taken c.loop-text.line _ _ c.loop-text.invariant c.in_ok-text.text.items read.0 c.read_section.ensures.within read.1 (λ short. c.in_ok-text.ensures.failures (inl (omega (arith, short, read.0.counted)))) c.in_err-section.field-0.0 refuses in
+    let fault : IfErr c.from_residual-in_err-section.result (λ f. PutsSections (Err f) _ _ _ _ _ _) = search (puts, c.from_residual-in_err-section.ensures, rules) in
+    record { puts = puts_fault _ _ _ _ _ _ _ c.from_residual-in_err-section.ensures.0 fault }
 
 pub returns-in_default : goal.returns-in_default
 returns-in_default g c =
     let read = c.in_ok-text.ensures.read in
     let compiled = subst (λ (t : List ℕ). Compiled c.in_ok-section.section t c.loop-text.line) c.as_slice.ensures.value c.in_ok-section.ensures.compiled in
     record {
-      puts = not_put _ _ _ _ _ _ c.read_section.new.taken c.loop-text.line _ _ c.loop-text.invariant c.in_ok-text.text.items read.0 c.read_section.ensures.within read.1 c.in_ok-text.ensures.failures
+      puts = not_put _ _ _ _ _ _ c.read_section.new.taken c.loop-text.line _ _ c.loop-text.invariant c.in_ok-text.text.items read.0 c.read_section.ensures.within read.1 (λ short. c.in_ok-text.ensures.failures (inl (omega (arith, short, read.0.counted))))
           c.in_ok-section.section compiled _ c.put_code.ensures.passes c.in_default.ensures.part c.in_default.ensures.failed;
     }
 
@@ -33,7 +37,7 @@ returns-in-None g c =
     let read = c.in_ok-text.ensures.read in
     let compiled = subst (λ (t : List ℕ). Compiled c.in_ok-section.section t c.loop-text.line) c.as_slice.ensures.value c.in_ok-section.ensures.compiled in
     record {
-      puts = is_last _ _ _ _ _ _ c.read_section.new.taken c.loop-text.line _ _ c.loop-text.invariant c.in_ok-text.text.items read.0 c.read_section.ensures.within read.1 c.in_ok-text.ensures.failures
+      puts = is_last _ _ _ _ _ _ c.read_section.new.taken c.loop-text.line _ _ c.loop-text.invariant c.in_ok-text.text.items read.0 c.read_section.ensures.within read.1 (λ short. c.in_ok-text.ensures.failures (inl (omega (arith, short, read.0.counted))))
           c.in_ok-section.section compiled _ c.put_code.ensures.passes c.in-Ok.ensures.takes c.in-None.is;
     }
 
@@ -41,13 +45,12 @@ pub loop-text-smaller : goal.loop-text-smaller
 loop-text-smaller g c =
     let read = c.in_ok-text.ensures.read in
     let compiled = subst (λ (t : List ℕ). Compiled c.in_ok-section.section t c.loop-text.line) c.as_slice.ensures.value c.in_ok-section.ensures.compiled in
-    let more = some_taken _ _ _ _ _ _ c.read_section.new.taken c.loop-text.line _ _ c.loop-text.invariant c.in_ok-text.text.items read.0 c.read_section.ensures.within read.1 c.in_ok-text.ensures.failures
-    c.in_ok-section.section compiled c.in-Some.next c.in-Some.is in
+    let more = some_taken _ _ _ _ c.read_section.new.taken c.loop-text.line c.loop-text.invariant.passed c.in_ok-text.text.items read.0 c.in_ok-section.section compiled c.in-Some.next c.in-Some.is in
     omega (arith, more, c.read_section.ensures.within)
 
 pub loop-text-preserved : goal.loop-text-preserved
 loop-text-preserved g c =
     let read = c.in_ok-text.ensures.read in
     let compiled = subst (λ (t : List ℕ). Compiled c.in_ok-section.section t c.loop-text.line) c.as_slice.ensures.value c.in_ok-section.ensures.compiled in
-    goes_on _ _ _ _ _ _ c.read_section.new.taken c.loop-text.line _ _ c.loop-text.invariant c.in_ok-text.text.items read.0 c.read_section.ensures.within read.1 c.in_ok-text.ensures.failures
+    goes_on _ _ _ _ _ _ c.read_section.new.taken c.loop-text.line _ _ c.loop-text.invariant c.in_ok-text.text.items read.0 c.read_section.ensures.within read.1 (λ short. c.in_ok-text.ensures.failures (inl (omega (arith, short, read.0.counted))))
     c.in_ok-section.section compiled _ c.put_code.ensures.passes c.in-Ok.ensures.takes c.in-Some.next c.in-Some.is

@@ -1,4 +1,4 @@
-use Rattle.std.proofs.Common.{inl, ◌≡◌, [], ◌∷◌, ◌++◌, ◌∙◌, refl, sym, ap, arith, length-append, subst, rules}
+use Rattle.std.proofs.Common.{inl, inr, ℕ, ◌≡◌, ◌≤◌, ◌⊎◌, [], ◌∷◌, ◌++◌, ◌∙◌, refl, sym, ap, arith, length-append, subst, rules}
 use Rattle.bk_base.specs.DeviceLaws.{Consumes-nothing}
 use Rattle.bk_lex.specs.Cutting.{Means, cut_as}
 use Rattle.bk_lex.specs.declared.cutter.Cut.TheVariants.{End, More}
@@ -14,7 +14,12 @@ loop-init g c = rw c.new-text.ensures.items record {
   taken = omega arith;
   counted = refl;
   within = omega arith;
+  readable = readable_at_first _;
 }
+  where
+    readable_at_first : (faults : ℕ) → (1 ≤ 0) ⊎ (faults ≡ 0) → faults ≡ 0
+    readable_at_first faults (inl one) = absurd (omega (arith, one))
+    readable_at_first faults (inr none) = none
 
 pub returns-in_default-clause-fault : goal.returns-in_default-clause-fault
 returns-in_default-clause-fault g c =
@@ -46,4 +51,11 @@ loop-preserved g c =
       taken = more.counted;
       counted = omega (arith, v.counted, length-append c.loop.text.items (c.in-Ok-Some.byte ∷ []));
       within = means.0;
+      readable = λ why. c.in-Ok-Some.ensures.failures;
     }
+
+pub returns-then-taken-eq-INPUT_BYTES-clause-failures : goal.returns-then-taken-eq-INPUT_BYTES-clause-failures
+returns-then-taken-eq-INPUT_BYTES-clause-failures g c (inl below) =
+    let v = c.loop.invariant in
+    v.readable (inl (omega (arith, below, v.taken, v.counted, c.if-taken-eq-INPUT_BYTES.true)))
+returns-then-taken-eq-INPUT_BYTES-clause-failures g c (inr none) = c.loop.invariant.readable (inr none)

@@ -1,4 +1,4 @@
-use Rattle.std.proofs.Common.{◌≡◌, ◌+◌, ◌≤◌, length}
+use Rattle.std.proofs.Common.{◌≡◌, ◌⊎◌, ◌+◌, ◌≤◌, length}
 use Rattle.std.specs.Io.KnownBytes.{Consumes}
 use Rattle.bk_lex.specs.Cutting.{IsAt, cut_of}
 use Rattle.bk_lex.specs.declared.cutter.Cut.TheVariants.{More}
@@ -14,4 +14,5 @@ invariant-loop g l = record {
   taken : l.taken ≡ l.initial.taken + length l.text.items;
   counted : length l.text.items ≡ l.counter;
   within : length l.text.items ≤ 1048576;
+  readable : (1 ≤ l.counter) ⊎ (g.C.ByteIn.faults l.initial.source ≡ 0) → g.C.ByteIn.faults l.source ≡ 0;
 }

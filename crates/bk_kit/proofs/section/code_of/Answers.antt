@@ -20,8 +20,10 @@ returns-in_err-resolved-clause-refuses c =
 pub returns-clause-translates : goal.returns-clause-translates
 returns-clause-translates c = record {
   tree = declarations_of c.in_ok-section.section;
-  section = c.in_ok-section.ensures.parses;
-  within = c.in_ok-section.ensures.within;
-  faultless = c.in_ok-resolved.ensures.resolves.0;
+  is = record {
+    section = c.in_ok-section.ensures.parses;
+    within = c.in_ok-section.ensures.within;
+    faultless = c.in_ok-resolved.ensures.resolves.0;
+  };
   code = c.in_ok-translate.ensures ∙ ap (λ (x : Section). scheme (named_tree (declarations_of x))) c.in_ok-resolved.ensures.section;
 }

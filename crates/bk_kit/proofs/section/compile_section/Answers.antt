@@ -1,6 +1,6 @@
-use Rattle.std.proofs.Common.{◌≡◌, ◌∙◌, ◌==◌, false, length, refl, sym, rules}
+use Rattle.std.proofs.Common.{◌≡◌, ◌∙◌, ◌==◌, false, length, sym, rules}
 use Rattle.bk_lex.specs.Lexing.{section_of}
-use Rattle.bk_kit.proofs.SectionLemmas.{section_refuses, means_some, no_symbols, some_symbols}
+use Rattle.bk_kit.proofs.SectionLemmas.{section_refuses, code_some, code_none, no_symbols, some_symbols}
 use Rattle.bk_kit.proofs.section.compile_section.Goals.{then-lexed, else-lexed, then-is_empty, else-is_empty+in_ok-code_of}
 use Rattle.bk_kit.proofs.section.compile_section.Goals as goal
 
@@ -15,15 +15,15 @@ pub returns-clause-compiled : goal.returns-clause-compiled
 returns-clause-compiled c = record {
   tokens = section_of c.in_ok-lexed.lexed;
   lexed_as = c.in_ok-lexed.ensures.gives;
-  means =
+  has =
       elim c.if-is_empty.branch [
         | then-is_empty w ↦
             let none = no_symbols c.in_ok-lexed.lexed.tokens.items (sym (rw c.as_slice-symbols.ensures.value at c.is_empty.ensures) ∙ w.if-is_empty.true) in
-            rw (w.code-is, none) refl
+            rw w.code-is (code_none _ none)
         | else-is_empty+in_ok-code_of w ↦
             let some = some_symbols c.in_ok-lexed.lexed.tokens.items (sym (rw c.as_slice-symbols.ensures.value at c.is_empty.ensures) ∙ w.if-is_empty.false) in
             let translates = rw c.as_slice-symbols.ensures.value at w.in_ok-code_of.ensures.translates in
-            rw w.code-is (means_some _ _ some translates)
+            rw w.code-is (code_some _ _ some translates)
       ];
   next =
       elim c.if-lexed.branch [

@@ -1,22 +1,46 @@
-use Rattle.std.proofs.Common.{ap, ◌∙◌, subst, rules, Err}
+use Rattle.std.proofs.Common.{◌≡◌, ◌∙◌, ◌+◌, ◌≤◌, ap, sym, Bool, true, false, refl, inl, inr, List, map, rules, Err}
+use Rattle.std.proofs.lemmas.Bool.{cases_lt}
+use Rattle.bk_intcode.specs.declared.item.Item.{Item}
 use Rattle.bk_intcode.specs.SegmentItems.{items_of}
-use Rattle.bk_short.specs.Program.{IsProgram}
-use Rattle.bk_kit.specs.ShortSources.{NotProgram, RefusesSource}
-use Rattle.bk_kit.proofs.SourceLemmas.{no_program, load_fails, first_section}
+use Rattle.bk_intcode.specs.Placement.{SEGMENTS, stack_start, any_starts}
+use Rattle.bk_gen.specs.BackEnd.{segments}
+use Rattle.bk_kit.proofs.SourceLemmas.{not_assembled, not_loaded}
 use Rattle.bk_kit.proofs.source.load_source.Goals as goal
 
-pub returns-in_err-program-clause-refused : goal.returns-in_err-program-clause-refused
-returns-in_err-program-clause-refused g c =
-    let not : NotProgram c.in_ok-text.text.items c.in_err-program.field-0.0 = subst (λ t. NotProgram t c.in_err-program.field-0.0) c.as_slice.ensures.value c.in_err-program.ensures.fault in
-    let refused : RefusesSource c.in_err-program.field-0.0 c.args.words (g.C.ByteIn.left c.args.source.now) (g.C.ByteIn.left c.read_section.new.source) (g.C.ByteIn.ended c.read_section.new.source)
-    = λ steps before. no_program steps c.args.words before _ _ _ c.in_ok-text.text.items (first_section _ _ _ _ _ c.in_ok-text.ensures.read.0 c.in_ok-text.ensures.read.1) c.in_err-program.field-0.0 not in
-    search rules
+pub returns-in_err-segments-clause-refused : goal.returns-in_err-segments-clause-refused
+returns-in_err-segments-clause-refused g c =
+    let refused = not_assembled c.args.words _ _ _ c.in_err-segments.field-0.0 c.in_err-segments.ensures.refused in
+    search (refused, c.from_residual.ensures, rules)
 
 pub returns-in_err-load-clause-refused : goal.returns-in_err-load-clause-refused
 returns-in_err-load-clause-refused g c =
-    let program : IsProgram c.in_ok-text.text.items (items_of c.in_ok-program.program) = subst (λ t. IsProgram t (items_of c.in_ok-program.program)) c.as_slice.ensures.value c.in_ok-program.ensures.program in
-    let refused = load_fails c.in_err-load.field-0.0 c.args.words (g.C.ByteIn.left c.args.source.now) (g.C.ByteIn.left c.read_section.new.source) (g.C.ByteIn.ended c.read_section.new.source)
-    c.in_ok-text.text.items (items_of c.in_ok-program.program) (first_section _ _ _ _ _ c.in_ok-text.ensures.read.0 c.in_ok-text.ensures.read.1) program
-    (λ small. c.load.ensures.too_small.0 (c.in_err-load.was ∙ ap Err small))
-    (λ none. (c.load.ensures.no_start.0 (c.in_err-load.was ∙ ap Err none)).1) in
-    search rules
+    let made = c.in_ok-segments.ensures.assembled in
+    let same : segments made.parts ≡ map items_of c.as_slice.result.now = made.segments_are ∙ ap (map items_of) (sym c.as_slice.ensures.value) in
+    let refused = not_loaded c.args.words (g.C.ByteIn.left c.args.source.now) (g.C.ByteIn.left c.assemble.new.source) (g.C.ByteIn.ended c.assemble.new.source) c.in_err-load.field-0.0 made.parts made.has
+    (λ small. rw same (c.load.ensures.too_small.0 (c.in_err-load.was ∙ ap Err small)))
+    (λ none. rw same ((c.load.ensures.no_start.0 (c.in_err-load.was ∙ ap Err none)).1)) in
+    search (refused, c.from_residual-in_err-load.ensures, rules)
+
+pub returns-clause-loaded : goal.returns-clause-loaded
+returns-clause-loaded g c =
+    let made = c.in_ok-segments.ensures.assembled in
+    let all : List (List Item) = map items_of c.as_slice.result.now in
+    let same : segments made.parts ≡ all = made.segments_are ∙ ap (map items_of) (sym c.as_slice.ensures.value) in
+    let room : stack_start SEGMENTS all + 16 ≤ c.args.words = elim (cases_lt c.args.words (stack_start SEGMENTS all + 16)) [
+      | inl low ↦ absurd (let bad = sym c.in_ok-load.was ∙ c.load.ensures.too_small.1 low in cc)
+      | inr high ↦ high
+    ] in
+    let not_started : any_starts all ≡ false → ⊥ = λ none. (let bad = sym c.in_ok-load.was ∙ c.load.ensures.no_start.1 (room, none) in cc) in
+    record {
+      parts = made.parts;
+      has = made.has;
+      room = rw same room;
+      starts = rw same (by_case (any_starts all) not_started);
+      store = rw same c.in_ok-load.ensures.store;
+      registers = rw same c.in_ok-load.ensures.registers;
+      fresh = c.in_ok-load.ensures.fresh;
+    }
+  where
+    by_case : (b : Bool) → (b ≡ false → ⊥) → b ≡ true
+    by_case true not = refl
+    by_case false not = absurd (not refl)

@@ -1,4 +1,4 @@
-use Rattle.std.proofs.Common.{◌≡◌, ◌≢◌, ◌+◌, ◌++◌, ◌∷◌, ◌∙◌, [], List, None, false, nat_lt, arith, ltb-false, ltb-true, true, Err, append-nil, sym, ap, subst, rules, refl}
+use Rattle.std.proofs.Common.{◌≡◌, inl, inr, ◌≢◌, ◌+◌, ◌++◌, ◌∷◌, ◌∙◌, [], List, None, false, nat_lt, arith, ltb-false, ltb-true, true, Err, append-nil, sym, ap, subst, rules, refl}
 use Rattle.bk_base.specs.declared.limit.TheConstants.{OCODE_WORDS}
 use Rattle.bk_base.specs.declared.ocode_fault.OcodeFault.{OcodeFault}
 use Rattle.bk_base.specs.declared.refused.Refused.{Refused}
@@ -10,9 +10,22 @@ use Rattle.bk_ocode.specs.SectionAnswer.{Takes, GivesSection, Answers}
 use Rattle.bk_ocode.specs.declared.standing.Position.TheVariants.{Ended}
 use Rattle.bk_ocode.specs.declared.stmt.Stmt.{Stmt}
 use Rattle.bk_ocode.proofs.Completions.{begins_part, part_goes_on}
+use Rattle.bk_ocode.proofs.CutSections.{stops_behind}
 use Rattle.bk_ocode.proofs.FaultLemmas.{stops_at, placed_more, refused_at, rule_at, filled_at, end_at, words_tally, words_within}
 use Rattle.bk_ocode.proofs.ReadingLemmas.{word_read, all_read, grows, Reads-more, Reads-whole, one_longer, section_here, IsSection-of, AreTyped-of, IsBegun-push, few_more}
 use Rattle.bk_ocode.proofs.reading.next_section.Goals as goal
+
+pub returns-in_default-clause-answers : goal.returns-in_default-clause-answers
+returns-in_default-clause-answers g c =
+    let v = c.loop-alloc.invariant in
+    let stops = c.in_default.ensures.stops in
+    stops_behind _ _ _ _ (g.I.ByteIn.ended c.next_word.new.input) c.loop-alloc.taken c.loop-alloc.draft.stmts.items (part_words c.loop-alloc.begun) stops.0 v.begun v.read
+    (λ at. elim at [
+      | inl told ↦ let bad = (c.in_default.ensures.ended_again told).0 in let is = c.in_default.is in cc
+      | inr full ↦ absurd (omega (arith, full, stops.2, stops.3))
+    ]) stops.4 stops.1
+    (words_within _ c.loop-alloc.draft.stmts.items (part_words c.loop-alloc.begun) c.loop-alloc.words _ v.draft.context v.counted c.is_filled_by.ensures c.if-is_filled_by.false)
+    (part_goes_on c.loop-alloc.draft.stmts.items c.loop-alloc.begun v.part v.placed)
 
 pub returns-in_default-found-clause-answers : goal.returns-in_default-found-clause-answers
 returns-in_default-found-clause-answers g c =
@@ -57,6 +70,14 @@ returns-in-Some-fault_of-clause-answers g c =
     (rule_at _ _ _ c.next_word.new.taken (c.len-in-Some-fault_of.result + 1) c.in-Some-fault_of.kind stmts part r.0 s v.begun (ap (λ n. n + 1) c.len-in-Some-fault_of.ensures) r.2 step.0 step.1
     (words_within _ c.loop-alloc.draft.stmts.items (part_words c.loop-alloc.begun) c.loop-alloc.words _ v.draft.context v.counted c.is_filled_by.ensures c.if-is_filled_by.false) placed
     (sym c.fault_of.ensures ∙ c.in-Some-fault_of.is))
+
+pub fault_of-requires-clause-words : goal.fault_of-requires-clause-words
+fault_of-requires-clause-words g c =
+    let v = c.loop-alloc.invariant in
+    let comes = rw c.in-Some.is at c.in-Ok.ensures.gives in
+    let r = word_read _ _ _ _ _ c.loop-alloc.taken c.next_word.new.taken _ c.in-Some.word v.read (λ told. let h = (c.in-Ok.ensures.ended_again told).0 in search rules) comes c.in-Ok.ensures.within in
+    let step = rw c.in-Ok-Done.field-0-is at (c.in-Ok-Done.ensures.step r.0 r.1) in
+    one_longer (part_words c.loop-alloc.begun) _ r.0 c.loop-alloc.words v.counted step.1
 
 pub add-requires-clause-words : goal.add-requires-clause-words
 add-requires-clause-words g c =

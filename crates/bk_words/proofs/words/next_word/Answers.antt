@@ -1,7 +1,8 @@
 use Rattle.std.proofs.Common.{◌≡◌, ◌++◌, ◌∷◌, [], false}
 use Rattle.bk_words.specs.Words.{is_blank}
 use Rattle.bk_base.specs.DeviceLaws.{Consumes-trans}
-use Rattle.bk_words.proofs.NextWord.{the_word, count-both}
+use Rattle.bk_words.proofs.NextWord.{the_word, count-both, begins_word}
+use Rattle.bk_words.proofs.Parts.{on_err}
 use Rattle.bk_words.proofs.words.next_word.Goals as goal
 
 pub returns-clause-gives : goal.returns-clause-gives
@@ -14,4 +15,18 @@ returns-clause-gives g c =
       Consumes-trans _ _ _ (q.0 ++ first ∷ []) (r.0 ++ r.1) q.2 r.5,
       count-both (q.0 ++ first ∷ []) (r.0 ++ r.1) c.first_byte.new.taken c.args.taken.now c.rest_of_word.new.taken q.3 r.6,
       (the_word q.0 first r.0 r.1 _ _ q.1 inside r.2 r.4, r.3),
+    )
+
+pub returns-in_err-held-clause-stops : goal.returns-in_err-held-clause-stops
+returns-in_err-held-clause-stops g c =
+    let first = c.in-Some.first in
+    let q = rw c.in-Some.is at c.in_ok-first.ensures.gives in
+    let inside : is_blank first ≡ false = rw c.in-Some.is at c.in_ok-first.ensures.word in
+    let r = c.in_err-held.ensures.stops in
+    on_err c.from_residual-in_err-held.result (
+      (q.0 ++ first ∷ []) ++ r.0,
+      Consumes-trans _ _ _ (q.0 ++ first ∷ []) r.0 q.2 r.2,
+      count-both (q.0 ++ first ∷ []) r.0 c.first_byte.new.taken c.args.taken.now c.rest_of_word.new.taken q.3 r.3,
+      r.4,
+      begins_word q.0 first r.0 q.1 inside r.1,
     )

@@ -1,0 +1,193 @@
+-- A run of the machine is one of a source, where the machine does what the source means in a language.
+use Rattle.std.proofs.Common.{◌≡◌, ◌≢◌, ℕ, ◌⊎◌, inl, inr, List, [], ◌++◌, refl, sym, ap, ◌∙◌, subst, append_assoc, append-nil}
+use Rattle.std.proofs.lemmas.List.{append_cancel_right}
+use Rattle.bk_base.specs.Devices.{Begins}
+use Rattle.bk_base.specs.declared.run_end.End.{End}
+use Rattle.bk_base.specs.declared.run_end.End.TheVariants.{Status, DivideByZero, StoreLimit, StepLimit, BadOperation, ReadFault, WriteFault}
+use Rattle.bk_intcode.specs.declared.registers.Registers.{Registers}
+use Rattle.bk_intcode.specs.Runs.{Standing, Going, Over, output_of, run, Finished, Ran, Blames}
+use Rattle.bk_intcode.specs.RunLaws.{Beginning, waiting-begins, broken-begins}
+use Rattle.bk_kit.specs.Interpreting.{Streams, told}
+use Rattle.bk_kit.specs.Headline.{Language, IsWhole, IsEnd, IsPart, NeverEnds, Reaches, TooFew, Agrees, Runs}
+
+-- A machine that is not over, or that the store stopped, with a beginning of these bytes.
+pub data BeginsOf (bytes : List ℕ) : Standing → Type 0 where
+  going : (store : List ℕ) (r : Registers) (input output more : List ℕ) → bytes ≡ output ++ more → BeginsOf bytes (Going store r input output)
+  stopped : (input output more : List ℕ) → bytes ≡ output ++ more → BeginsOf bytes (Over StoreLimit input output)
+
+begins_as : (bytes : List ℕ) (m : Standing) → BeginsOf bytes m → (more : List ℕ) × (bytes ≡ output_of m ++ more)
+begins_as bytes _ (going store r input output more is) = (more, is)
+begins_as bytes _ (stopped input output more is) = (more, is)
+
+-- where it is over it was stopped by the store
+begins_over : (bytes : List ℕ) (m : Standing) (e : End) (input output : List ℕ) → m ≡ Over e input output → BeginsOf bytes m → e ≡ StoreLimit
+begins_over bytes _ e input output over (going store r left now more is) = absurd (differ over)
+  where
+    differ : Going store r left now ≡ Over e input output → ⊥
+    differ same = cc
+begins_over bytes _ e input output over (stopped left now more is) = same_end over
+  where
+    same_end : Over StoreLimit left now ≡ Over e input output → e ≡ StoreLimit
+    same_end same = cc
+
+the_parts : (e f : End) (a b c d : List ℕ) → Over e a c ≡ Over f b d → (e ≡ f) × (a ≡ b) × (c ≡ d)
+the_parts e f a b c d same = (cc, cc, cc)
+
+not_going : (m : Standing) (e : End) (a b store c d : List ℕ) (r : Registers) → m ≡ Going store r c d → m ≡ Over e a b → ⊥
+not_going m e a b store c d r first second = let same = sym first ∙ second in cc
+
+module _ (language : Language) (source : List ℕ) (steps words : ℕ) (store : List ℕ) (first : Registers) where
+  -- where the machine stands at the end of its steps
+  abbrev stands : List ℕ → Standing
+  stands input = run steps store first input []
+
+  -- The machine does what the source means with this input.
+  pub record Meant (input : List ℕ) : Type 0 where
+    -- where the meaning ends, the machine ends so, or is not so far
+    pub less : (taken bytes : List ℕ) (end : End) → language.Ends source input taken bytes end
+        → (left : List ℕ) × (input ≡ taken ++ left) × ((stands input ≡ Over end left bytes) ⊎ BeginsOf bytes (stands input))
+    -- with enough steps and words it has ended, and not for want of words
+    pub enough : language.Enough source input steps words → (end : End) × (left bytes : List ℕ) × (stands input ≡ Over end left bytes) × (end ≢ StoreLimit)
+    -- and has written what so many turns write
+    pub written : Reaches language source input steps words (output_of (stands input))
+    -- where the meaning goes on for ever, it is somewhere within it
+    pub never : NeverEnds language source input steps words → (turns : ℕ) × (bytes : List ℕ) × language.GoesOn source input turns bytes × BeginsOf bytes (stands input)
+
+  module _ (meant : (input : List ℕ) → Meant input) where
+    -- what the machine has written begins what is written up to the end
+    of_end : (input taken bytes : List ℕ) (end : End) → language.Ends source input taken bytes end → (more : List ℕ) × (bytes ≡ output_of (stands input) ++ more)
+    of_end input taken bytes end ends =
+        let less = (meant input).less taken bytes end ends in
+        by_case less.0 less.2
+      where
+        by_case : (left : List ℕ) → (stands input ≡ Over end left bytes) ⊎ BeginsOf bytes (stands input) → (more : List ℕ) × (bytes ≡ output_of (stands input) ++ more)
+        by_case left (inl over) = ([], sym (ap output_of over) ∙ sym (append-nil (output_of (stands input))))
+        by_case left (inr begins) = begins_as bytes (stands input) begins
+
+    part : (input : List ℕ) → IsPart language source input steps words (output_of (stands input))
+    part input = record {
+      of_end = of_end input;
+      of_turns = λ never.
+          let within = (meant input).never never in
+          let begins = begins_as within.1 (stands input) within.3 in
+          (within.0, within.1, begins.0, within.2, begins.1);
+    }
+
+    few_where_going : (input store' left now : List ℕ) (r : Registers) → stands input ≡ Going store' r left now → TooFew language source input steps words
+    few_where_going input store' left now r goes enough =
+        let over = (meant input).enough enough in
+        not_going (stands input) over.0 over.1 over.2 store' left now r goes over.3
+
+    few_where_stopped : (input left now : List ℕ) → stands input ≡ Over StoreLimit left now → TooFew language source input steps words
+    few_where_stopped input left now stop enough =
+        let over = (meant input).enough enough in
+        over.4 (sym (the_parts StoreLimit over.0 left over.1 now over.2 (sym stop ∙ over.3)).0)
+
+    never_over : (input : List ℕ) (end : End) (left now : List ℕ) → end ≢ StoreLimit → stands input ≡ Over end left now → NeverEnds language source input steps words → ⊥
+    never_over input end left now own over never =
+        let within = (meant input).never never in
+        own (begins_over within.1 (stands input) end left now over within.3)
+
+    -- the machine ended of itself: so does the meaning
+    whole : (read rest bytes : List ℕ) (end : End) → end ≢ StoreLimit → stands (read ++ rest) ≡ Over end rest bytes → IsWhole language source (read ++ rest) steps words end read bytes
+    whole read rest bytes end own over taken all last ends =
+        let less = (meant (read ++ rest)).less taken all last ends in
+        by_case less.0 less.1 less.2
+      where
+        by_case : (left : List ℕ) → read ++ rest ≡ taken ++ left → (stands (read ++ rest) ≡ Over last left all) ⊎ BeginsOf all (stands (read ++ rest)) → (last ≡ end) × (taken ≡ read) × (all ≡ bytes)
+        by_case left took (inl is) =
+            let same = the_parts end last rest left bytes all (sym over ∙ is) in
+            (sym same.0, append_cancel_right taken read rest (ap (λ l. taken ++ l) same.1 ∙ sym took), sym same.2)
+        by_case left took (inr begins) = absurd (own (begins_over all (stands (read ++ rest)) end rest bytes over begins))
+
+    is_end : (read rest bytes : List ℕ) (end : End) → end ≢ StoreLimit → stands (read ++ rest) ≡ Over end rest bytes → IsEnd language source (read ++ rest) steps words end read bytes
+    is_end read rest bytes end own over = (
+      whole read rest bytes end own over,
+      never_over (read ++ rest) end rest bytes own over,
+      subst (Reaches language source (read ++ rest) steps words) (ap output_of over) (meant (read ++ rest)).written,
+    )
+
+    -- the machine came to no end of itself
+    paused : (input bytes : List ℕ) → output_of (stands input) ≡ bytes → TooFew language source input steps words
+        → IsPart language source input steps words bytes × Reaches language source input steps words bytes × TooFew language source input steps words
+    paused input bytes is few = (
+      subst (IsPart language source input steps words) is (part input),
+      subst (Reaches language source input steps words) is (meant input).written,
+      few,
+    )
+
+    -- a beginning of what the machine writes
+    begins_part : (input bytes more : List ℕ) → output_of (stands input) ≡ bytes ++ more → IsPart language source input steps words bytes
+    begins_part input bytes more is =
+        let p = part input in
+        record {
+          of_end = λ taken all end ends. let e = p.of_end taken all end ends in (more ++ e.0, further all e.0 e.1);
+          of_turns = λ never. let e = p.of_turns never in (e.0, e.1, more ++ e.2, e.3, further e.1 e.2 e.4);
+        }
+      where
+        further : (all behind : List ℕ) → all ≡ output_of (stands input) ++ behind → all ≡ bytes ++ (more ++ behind)
+        further all behind e = e ∙ ap (λ o. o ++ behind) is ∙ append_assoc bytes more behind
+
+    module _ (accepted : language.Accepted source) (starts : language.Startless source → ⊥) (store' : List ℕ) (registers : Registers) (before after : Streams) where
+      finished : (end : End) (ran : Finished end steps store first (told before) (told after))
+          → Begins before.passed after.passed → (end ≢ WriteFault → after.passed ≡ after.taken) → Blames end before.reads after.reads after.writes
+          → ((rest : List ℕ) → stands (ran.read ++ rest) ≡ Over end rest ran.written → Agrees language source (ran.read ++ rest) steps words end ran.read ran.written)
+          → Runs language source end steps words before after
+      finished end ran passes passed blamed agree = record {
+        accepted = accepted;
+        starts = starts;
+        read = ran.read;
+        written = ran.written;
+        exchanged = ran.exchanged;
+        agrees = λ rest follows. agree rest (ran.ends rest [] follows);
+        passes = passes;
+        passed = passed;
+        blamed = blamed;
+      }
+
+      broken : (end : End) (ran : Beginning steps store first (told before) (told after))
+          → Begins before.passed after.passed → (end ≢ WriteFault → after.passed ≡ after.taken) → Blames end before.reads after.reads after.writes
+          → ((input : List ℕ) → IsPart language source input steps words ran.written → Agrees language source input steps words end ran.read ran.written)
+          → Runs language source end steps words before after
+      broken end ran passes passed blamed agree = record {
+        accepted = accepted;
+        starts = starts;
+        read = ran.read;
+        written = ran.written;
+        exchanged = ran.exchanged;
+        agrees = λ rest follows.
+            let begins = ran.begins rest [] follows in
+            agree (ran.read ++ rest) (begins_part (ran.read ++ rest) ran.written begins.0 begins.1);
+        passes = passes;
+        passed = passed;
+        blamed = blamed;
+      }
+
+      pub runs : (end : End) → Ran end steps store first store' registers (told before) (told after) → Begins before.passed after.passed
+          → (end ≢ WriteFault → after.passed ≡ after.taken) → Blames end before.reads after.reads after.writes → Runs language source end steps words before after
+      runs (Status v) ran passes passed blamed =
+          finished (Status v) ran passes passed blamed (λ rest over. is_end ran.read rest ran.written (Status v) (λ e. cc) over)
+      runs DivideByZero ran passes passed blamed =
+          finished DivideByZero ran passes passed blamed (λ rest over. is_end ran.read rest ran.written DivideByZero (λ e. cc) over)
+      runs BadOperation ran passes passed blamed =
+          finished BadOperation ran passes passed blamed (λ rest over. is_end ran.read rest ran.written BadOperation (λ e. cc) over)
+      runs StoreLimit ran passes passed blamed =
+          finished StoreLimit ran passes passed blamed (λ rest over.
+          paused (ran.read ++ rest) ran.written (ap output_of over) (few_where_stopped (ran.read ++ rest) rest ran.written over))
+      runs StepLimit ran passes passed blamed = record {
+        accepted = accepted;
+        starts = starts;
+        read = ran.read;
+        written = ran.written;
+        exchanged = ran.exchanged;
+        agrees = λ rest follows.
+            let goes = ran.leads rest [] follows in
+            paused (ran.read ++ rest) ran.written (ap output_of goes) (few_where_going (ran.read ++ rest) store' rest ran.written registers goes);
+        passes = passes;
+        passed = passed;
+        blamed = blamed;
+      }
+      runs ReadFault ran passes passed blamed =
+          broken ReadFault (waiting-begins steps store first (told before) (told after) ran) passes passed blamed (λ input part. part)
+      runs WriteFault ran passes passed blamed =
+          broken WriteFault (broken-begins steps store first (told before) (told after) ran) passes passed blamed (λ input part. part)

@@ -1,0 +1,558 @@
+//! Rows of the command line and of `bcpl interpret`: words, FILE, input, and what comes of them.
+use crate::devices::{Short, Slow, check};
+use bk_base::{
+    IntcodeFault, IntcodeKind, Limits, Line, OcodeFault, OcodeKind, Reader512, SourceFault,
+    SourceKind, Writer512,
+};
+use bk_kit::{KitFault, LineFault, Order, order, serve};
+use std::test::Fail;
+
+const HI: &[u8] = b"1 LL2 SP4 LIG6 K2 X4 2 C3 C72 C73 C33 G1L1 Z";
+
+const LETTER: &[u8] = b"1 L65 SP4 LIG4 K2 X4 G1L1 Z";
+// copies its input, and ends with the status -1 of the end
+const COPY: &[u8] = b"1 LIG3 K2 SP2 L-1 LIP2 X10 TL2 LIP2 SP5 LIG4 K3 JL1 2 X4 G1L1 Z";
+
+#[test]
+fn runs(rt: HostRuntime) -> Result<(), Fail> {
+    let words = ["bcpl", "interpret", "f"];
+    check(&rt, rt.alloc(), &words, HI, b"", 0, b"HI!", b"")?;
+    check(&rt, rt.alloc(), &words, b"", b"", 108, b"", b"no START\n")?;
+    check(&rt, rt.alloc(), &words, LETTER, b"", 0, b"A", b"")?;
+    check(
+        &rt,
+        rt.alloc(),
+        &words,
+        b"1 X99 G1L1 Z",
+        b"",
+        107,
+        b"",
+        b"bad operation\n",
+    )?;
+    check(
+        &rt,
+        rt.alloc(),
+        &words,
+        b"1 L7 L0 X6 G1L1 Z",
+        b"",
+        104,
+        b"",
+        b"division by zero\n",
+    )?;
+    check(
+        &rt,
+        rt.alloc(),
+        &["bcpl", "interpret", "-t", "1000", "f"],
+        b"1 JL1 G1L1 Z",
+        b"",
+        106,
+        b"",
+        b"step limit\n",
+    )?;
+    check(
+        &rt,
+        rt.alloc(),
+        &words,
+        b"1 K2 G1L1 Z",
+        b"",
+        105,
+        b"",
+        b"store limit\n",
+    )?;
+    check(
+        &rt,
+        rt.alloc(),
+        &words,
+        b"1 J4194304 G1L1 Z",
+        b"",
+        105,
+        b"",
+        b"store limit\n",
+    )?;
+    check(
+        &rt,
+        rt.alloc(),
+        &words,
+        COPY,
+        b"as it is",
+        0,
+        b"as it is",
+        b"",
+    )?;
+    Ok(())
+}
+
+#[test]
+fn refused_code(rt: HostRuntime) -> Result<(), Fail> {
+    let words = ["bcpl", "interpret", "f"];
+    check(
+        &rt,
+        rt.alloc(),
+        &words,
+        b"1 L65 SP4 G1L1",
+        b"",
+        103,
+        b"",
+        b"segment 1, item 5: truncated\n",
+    )?;
+    check(
+        &rt,
+        rt.alloc(),
+        &words,
+        b"1 L65 SP4 LIG4 K2 X4 G1L1 Z z",
+        b"",
+        103,
+        b"",
+        b"segment 2, item 1: bad letter\n",
+    )?;
+    check(
+        &rt,
+        rt.alloc(),
+        &words,
+        b"Z 5 5",
+        b"",
+        103,
+        b"",
+        b"segment 2, item 2: label set twice\n",
+    )?;
+    Ok(())
+}
+
+#[test]
+fn segments_together(rt: HostRuntime) -> Result<(), Fail> {
+    let words = ["bcpl", "interpret", "f"];
+    // the second segment's routine for global 100 is called by the first
+    let text: &[u8] = b"1 LIG100 K2 X4 G1L1 Z\n7 L66 SP4 LIG4 K2 X4 G100L7 Z";
+    check(&rt, rt.alloc(), &words, text, b"", 0, b"B", b"")?;
+    // the later setting of a global counts
+    let text: &[u8] = b"1 X99 G1L1 Z 1 L67 SP4 LIG4 K2 X4 G1L1 Z";
+    check(&rt, rt.alloc(), &words, text, b"", 0, b"C", b"")?;
+    Ok(())
+}
+
+#[test]
+fn steps(rt: HostRuntime) -> Result<(), Fail> {
+    let rows: [(&str, u8, &[u8]); 4] = [
+        ("10", 0, b"A"),
+        ("9", 106, b"A"),
+        ("7", 106, b"A"),
+        ("6", 106, b""),
+    ];
+    for (steps, status, output) in rows {
+        let line: &[u8] = if status == 0 { b"" } else { b"step limit\n" };
+        check(
+            &rt,
+            rt.alloc(),
+            &["bcpl", "interpret", "-t", steps, "f"],
+            LETTER,
+            b"",
+            status,
+            output,
+            line,
+        )?;
+    }
+    Ok(())
+}
+
+#[test]
+fn stops(rt: HostRuntime) -> Result<(), Fail> {
+    let rows: [(&[u8], u8); 6] = [
+        (b"1 L0 SP4 LIG2 K2 G1L1 Z", 0),
+        (b"1 L99 SP4 LIG2 K2 G1L1 Z", 99),
+        (b"1 L100 SP4 LIG2 K2 G1L1 Z", 100),
+        (b"1 L-1 SP4 LIG2 K2 G1L1 Z", 100),
+        (b"1 L-2147483648 SP4 LIG2 K2 G1L1 Z", 100),
+        (b"1 L2147483647 SP4 LIG2 K2 G1L1 Z", 100),
+    ];
+    for (text, status) in rows {
+        check(
+            &rt,
+            rt.alloc(),
+            &["bcpl", "interpret", "f"],
+            text,
+            b"",
+            status,
+            b"",
+            b"",
+        )?;
+    }
+    Ok(())
+}
+
+#[test]
+fn stores(rt: HostRuntime) -> Result<(), Fail> {
+    // 3046 words of code from word 1034 on leave 16 words of 4096
+    let mut text = Vec::new(rt.alloc());
+    text.extend_from_slice(b"1 X22 G1L1")?;
+    for _ in 0..3045 {
+        text.extend_from_slice(b" D0")?;
+    }
+    let mut longer = text.clone()?;
+    text.extend_from_slice(b" Z")?;
+    longer.extend_from_slice(b" D0 Z")?;
+    let words = ["bcpl", "interpret", "-s", "4096", "f"];
+    check(&rt, rt.alloc(), &words, text.as_slice(), b"", 0, b"", b"")?;
+    check(
+        &rt,
+        rt.alloc(),
+        &words,
+        longer.as_slice(),
+        b"",
+        105,
+        b"",
+        b"store too small\n",
+    )?;
+    let words = ["bcpl", "interpret", "-s", "4097", "f"];
+    check(&rt, rt.alloc(), &words, longer.as_slice(), b"", 0, b"", b"")?;
+    Ok(())
+}
+
+#[test]
+fn sizes(rt: HostRuntime) -> Result<(), Fail> {
+    let words = ["bcpl", "interpret", "--sizes", "f"];
+    let text: &[u8] = b"1 L65 SP4 LIG4 K2 X4 Q16 G1L1 Z";
+    check(
+        &rt,
+        rt.alloc(),
+        &words,
+        text,
+        b"",
+        0,
+        b"image 1039, frame 16\n",
+        b"",
+    )?;
+    let words = ["bcpl", "interpret", "-t", "1", "-s", "4096", "--sizes", "f"];
+    check(
+        &rt,
+        rt.alloc(),
+        &words,
+        text,
+        b"",
+        0,
+        b"image 1039, frame 16\n",
+        b"",
+    )?;
+    check(&rt, rt.alloc(), &words, b"", b"", 108, b"", b"no START\n")?;
+    check(
+        &rt,
+        rt.alloc(),
+        &words,
+        b"?",
+        b"",
+        103,
+        b"",
+        b"segment 1, item 1: bad letter\n",
+    )?;
+    Ok(())
+}
+
+#[test]
+fn command_lines_refused(rt: HostRuntime) -> Result<(), Fail> {
+    let rows: [&[&str]; 26] = [
+        &["bcpl"],
+        &["bcpl", "run"],
+        &["bcpl", "run", "f", "g"],
+        &["bcpl", "run", "--sizes", "f"],
+        &["bcpl", "run", "-t", "0", "f"],
+        &[],
+        &["bcpl", "interpret"],
+        &["bcpl", "interpret", "f", "g"],
+        &["bcpl", "interpret", "-s", "4095", "f"],
+        &["bcpl", "interpret", "-s", "4194305", "f"],
+        &["bcpl", "interpret", "-s", "4294967296", "f"],
+        &["bcpl", "interpret", "-s", "-4096", "f"],
+        &["bcpl", "interpret", "-s", "", "f"],
+        &["bcpl", "interpret", "-s", "x", "f"],
+        &["bcpl", "interpret", "-t", "0", "f"],
+        &["bcpl", "interpret", "-t", "1000000000001", "f"],
+        &["bcpl", "interpret", "-t", "18446744073709551616", "f"],
+        &["bcpl", "interpret", "-t", "5", "-t", "6", "f"],
+        &["bcpl", "interpret", "-s", "5000", "-s", "5000", "f"],
+        &["bcpl", "interpret", "--sizes", "--sizes", "f"],
+        &["bcpl", "interpret", "-x", "f"],
+        &["bcpl", "interpret", "f", "-t"],
+        &["bcpl", "compile", "f"],
+        &["bcpl", "generate", "-s", "5000"],
+        &["bcpl", "Interpret", "f"],
+        &["bcpl", "-s", "5000", "interpret", "f"],
+    ];
+    for words in rows {
+        check(
+            &rt,
+            rt.alloc(),
+            words,
+            HI,
+            b"",
+            112,
+            b"",
+            b"bad command line\n",
+        )?;
+    }
+    Ok(())
+}
+
+#[test]
+fn command_lines_taken(rt: HostRuntime) -> Result<(), Fail> {
+    let rows: [(&[&str], u64, u32); 6] = [
+        (&["bcpl", "interpret", "f"], 1_000_000_000, 262_144),
+        (&["bcpl", "interpret", "-t", "1", "f"], 1, 262_144),
+        (
+            &["x", "interpret", "-t1000000000000", "f", "-s4096"],
+            1_000_000_000_000,
+            4096,
+        ),
+        (
+            &["bcpl", "interpret", "f", "-s", "4194304"],
+            1_000_000_000,
+            4_194_304,
+        ),
+        (
+            &["bcpl", "interpret", "-s", "+5000", "f"],
+            1_000_000_000,
+            5000,
+        ),
+        (
+            &["bcpl", "interpret", "-s=5000", "--", "f"],
+            1_000_000_000,
+            5000,
+        ),
+    ];
+    for (words, steps, store) in rows {
+        let file = String::from_str(rt.alloc(), "f")?;
+        let Some(limits) = Limits::new(steps, store) else {
+            return Err(Fail::from("no limits"));
+        };
+        match order(rt.alloc(), words) {
+            Ok(given) => assert_eq!(rt; given, Order::Interpret(limits, file)),
+            Err(_) => return Err(Fail::from("refused")),
+        }
+    }
+    Ok(())
+}
+
+#[test]
+fn help(rt: HostRuntime) -> Result<(), Fail> {
+    let rows: [&[&str]; 6] = [
+        &["bcpl", "-h"],
+        &["bcpl", "--help"],
+        &["bcpl", "help"],
+        &["bcpl", "help", "interpret"],
+        &["bcpl", "interpret", "-h"],
+        &["bcpl", "interpret", "--help", "f"],
+    ];
+    for words in rows {
+        assert!(rt; matches!(order(rt.alloc(), words), Err(LineFault::Help(_))));
+        check(&rt, rt.alloc(), words, HI, b"", 0, b"", b"")?;
+    }
+    Ok(())
+}
+
+#[test]
+fn a_code_that_cannot_be_read(rt: HostRuntime) -> Result<(), Fail> {
+    let asked = order(rt.alloc(), &["bcpl", "interpret", "f"]);
+    let Ok(asked) = asked else {
+        return Err(Fail::from("refused"));
+    };
+    // all bytes and the end are read at the last
+    for reads in 0..LETTER.len() + 2 {
+        let mut output = Vec::new(rt.alloc());
+        let mut line = Vec::new(rt.alloc());
+        let mut out = Writer512::new(&mut output);
+        let mut err = Writer512::new(&mut line);
+        let status = serve(
+            rt.alloc(),
+            &asked,
+            &mut Reader512::new(Slow {
+                bytes: LETTER,
+                reads,
+            }),
+            &mut Reader512::new(b"".as_slice()),
+            &mut out,
+            &mut err,
+        );
+        drop(out);
+        drop(err);
+        let whole = reads == LETTER.len() + 1;
+        let letter: &[u8] = if whole { b"A" } else { b"" };
+        let told: &[u8] = if whole { b"" } else { b"read fault\n" };
+        assert_eq!(rt; status, if whole { 0 } else { 109 });
+        assert_eq!(rt; output.as_slice(), letter);
+        assert_eq!(rt; line.as_slice(), told);
+    }
+    Ok(())
+}
+
+#[test]
+fn an_input_that_cannot_be_read(rt: HostRuntime) -> Result<(), Fail> {
+    let asked = order(rt.alloc(), &["bcpl", "interpret", "f"]);
+    let Ok(asked) = asked else {
+        return Err(Fail::from("refused"));
+    };
+    let text: &[u8] = b"abc";
+    for reads in 0..5 {
+        let mut output = Vec::new(rt.alloc());
+        let mut line = Vec::new(rt.alloc());
+        let mut out = Writer512::new(&mut output);
+        let mut err = Writer512::new(&mut line);
+        let status = serve(
+            rt.alloc(),
+            &asked,
+            &mut Reader512::new(COPY),
+            &mut Reader512::new(Slow { bytes: text, reads }),
+            &mut out,
+            &mut err,
+        );
+        drop(out);
+        drop(err);
+        let whole = reads == 4;
+        let told: &[u8] = if whole { b"" } else { b"read fault\n" };
+        assert_eq!(rt; status, if whole { 0 } else { 109 });
+        assert_eq!(rt; Some(output.as_slice()), text.get(..reads.min(3)));
+        assert_eq!(rt; line.as_slice(), told);
+    }
+    Ok(())
+}
+
+#[test]
+fn an_output_that_cannot_be_written(rt: HostRuntime) -> Result<(), Fail> {
+    let asked = order(rt.alloc(), &["bcpl", "interpret", "f"]);
+    let Ok(asked) = asked else {
+        return Err(Fail::from("refused"));
+    };
+    let whole: &[u8] = b"HI!";
+    for room in 0..4 {
+        let mut output = Vec::new(rt.alloc());
+        let mut line = Vec::new(rt.alloc());
+        let mut out = Writer512::new(Short {
+            bytes: &mut output,
+            room,
+        });
+        let mut err = Writer512::new(&mut line);
+        let status = serve(
+            rt.alloc(),
+            &asked,
+            &mut Reader512::new(HI),
+            &mut Reader512::new(b"".as_slice()),
+            &mut out,
+            &mut err,
+        );
+        drop(out);
+        drop(err);
+        let told: &[u8] = if room == 3 { b"" } else { b"write fault\n" };
+        assert_eq!(rt; status, if room == 3 { 0 } else { 110 });
+        assert_eq!(rt; Some(output.as_slice()), whole.get(..room));
+        assert_eq!(rt; line.as_slice(), told);
+    }
+    Ok(())
+}
+
+#[test]
+fn an_error_stream_that_fails(rt: HostRuntime) -> Result<(), Fail> {
+    let asked = order(rt.alloc(), &["bcpl", "interpret", "f"]);
+    let Ok(asked) = asked else {
+        return Err(Fail::from("refused"));
+    };
+    for room in 0..9 {
+        let mut output = Vec::new(rt.alloc());
+        let mut line = Vec::new(rt.alloc());
+        let mut out = Writer512::new(&mut output);
+        let mut err = Writer512::new(Short {
+            bytes: &mut line,
+            room,
+        });
+        let status = serve(
+            rt.alloc(),
+            &asked,
+            &mut Reader512::new(b"".as_slice()),
+            &mut Reader512::new(b"".as_slice()),
+            &mut out,
+            &mut err,
+        );
+        drop(out);
+        drop(err);
+        assert_eq!(rt; status, 108);
+        assert_eq!(rt; Some(line.as_slice()), b"no START\n".get(..room));
+    }
+    Ok(())
+}
+
+#[test]
+fn lines_of_faults(rt: HostRuntime) -> Result<(), Fail> {
+    let name = String::from_str(rt.alloc(), "FOO")?;
+    let rows: [(KitFault, &[u8]); 8] = [
+        (
+            KitFault::Source(SourceFault {
+                line: Line::new(3),
+                kind: SourceKind::NotDeclared(name),
+            }),
+            b"line 3: not declared: FOO\n",
+        ),
+        (
+            KitFault::Ocode(
+                2,
+                OcodeFault {
+                    statement: 1,
+                    kind: OcodeKind::Truncated,
+                },
+            ),
+            b"section 2, statement 1: truncated\n",
+        ),
+        (
+            KitFault::Intcode(
+                4_294_967_295,
+                IntcodeFault {
+                    item: 4_294_967_295,
+                    kind: IntcodeKind::FrameGivenTwice,
+                },
+            ),
+            b"segment 4294967295, item 4294967295: frame given twice\n",
+        ),
+        (KitFault::TooSmall, b"store too small\n"),
+        (KitFault::NoStart, b"no START\n"),
+        (KitFault::Read, b"read fault\n"),
+        (KitFault::Write, b"write fault\n"),
+        (KitFault::Memory, b"no memory\n"),
+    ];
+    for (fault, line) in &rows {
+        let mut written = Vec::new(rt.alloc());
+        let mut out = Writer512::new(&mut written);
+        assert!(rt; fault.put_line(&mut out).is_ok());
+        assert!(rt; bk_base::ByteOut::flush(&mut out).is_ok());
+        drop(out);
+        assert_eq!(rt; written.as_slice(), *line);
+    }
+    Ok(())
+}
+
+#[test]
+fn no_memory_or_the_answer(rt: HostRuntime) -> Result<(), Fail> {
+    let asked = order(rt.alloc(), &["bcpl", "interpret", "f"]);
+    let asked = match asked {
+        Ok(asked) => asked,
+        Err(LineFault::Memory) => return Ok(()),
+        Err(_) => return Err(Fail::from("refused")),
+    };
+    let mut bytes = [0; 16];
+    let mut out = Writer512::new(bytes.as_mut_slice());
+    let mut told = [0; 16];
+    let mut err = Writer512::new(told.as_mut_slice());
+    let status = serve(
+        rt.alloc(),
+        &asked,
+        &mut Reader512::new(HI),
+        &mut Reader512::new(b"".as_slice()),
+        &mut out,
+        &mut err,
+    );
+    drop(out);
+    drop(err);
+    if status == 111 {
+        assert!(rt; bytes.starts_with(b"\0"));
+        assert!(rt; told.starts_with(b"no memory\n\0"));
+    } else {
+        assert_eq!(rt; status, 0);
+        assert!(rt; bytes.starts_with(b"HI!\0"));
+        assert!(rt; told.starts_with(b"\0"));
+    }
+    Ok(())
+}

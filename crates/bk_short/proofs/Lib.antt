@@ -1,9 +1,0 @@
-mod CodeWords
-mod LoadedStore
-mod ReadingTurns
-mod ShortSegment
-mod ShortReading
-mod ShortFaults
-mod CallSteps
-mod CallRuns
-mod ShortProgram

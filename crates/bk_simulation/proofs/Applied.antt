@@ -1,0 +1,240 @@
+-- Calls, for a value or not: the arguments, then the procedure, then its frame or a routine of the library.
+use Rattle.std.proofs.Common.{◌≡◌, ℕ, suc, ◌+◌, ◌-◌, ◌*◌, ◌<◌, ◌≤◌, ◌^◌, max, nat_lt, Bool, true, false, List, [], ◌∷◌, length, Option, Some, None, refl, sym, ap, ◌∙◌, subst, arith, inl, inr, append-nil}
+use Rattle.std.specs.Option.{option_map_or}
+use Rattle.std.proofs.lemmas.Option.{slice_get_within}
+use Rattle.bk_base.specs.declared.limit.TheConstants.{FRAME_WORDS}
+use Rattle.bk_syntax.specs.Tree.{Expression, Expressions, Action}
+use Rattle.bk_ocode.specs.Cells.{Word, Cell, content_of, below, settle}
+use Rattle.bk_ocode.specs.OcodeState as ocode
+use Rattle.bk_ocode.specs.OcodeState.{Placed, Callables, Inside, At, State}
+use Rattle.bk_ocode.specs.OcodeStep.{slot, can_be_called}
+use Rattle.bk_ocode.specs.declared.stmt.Stmt.{Stmt}
+use Rattle.bk_ocode.specs.declared.stmt.Stmt.TheVariants.{Stack}
+use Rattle.bk_meaning.specs.Values as value
+use Rattle.bk_meaning.specs.Values.{Value, number, address, procedure, routine, unset}
+use Rattle.bk_meaning.specs.World.{World, Exit, Outcome, gives, leaves, ends, undefined, going, each_way, calling, calls_back}
+use Rattle.bk_meaning.specs.Environment.{Environment, past}
+use Rattle.bk_meaning.specs.Lasting.{Procedure, Program, procedure_of}
+use Rattle.bk_meaning.specs.Growing.{history, After, Throughout}
+use Rattle.bk_meaning.specs.Seeking.{forwards}
+use Rattle.bk_meaning.specs.Scopes.{scope_of, alone}
+use Rattle.bk_meaning.specs.Parts.{Meanings}
+use Rattle.bk_meaning.specs.Library.{library}
+use Rattle.bk_meaning.specs.Calls.{values, enter, called, call, applied}
+use Rattle.bk_meaning.proofs.After.{adds, stays, earlier, with_after, each_way_after, closing_after, calling_on}
+use Rattle.bk_meaning.proofs.Ties.{ties_add}
+use Rattle.bk_meaning.proofs.NodeTies.{library_ties}
+use Rattle.bk_simulation.proofs.Moves.{Moves, stack_moves, function_of_routine_moves, call_of_routine_moves}
+use Rattle.bk_simulation.proofs.StatementSteps.{entering}
+use Rattle.bk_simulation.proofs.FramesKept.{frames_called}
+use Rattle.bk_simulation.proofs.Memory.{Like, like_on, Stands, moved_on, fits_above, moved_above, stands_grown}
+use Rattle.bk_simulation.proofs.WrittenCells.{below_like, settle_like}
+use Rattle.bk_simulation.proofs.BytesKept.{moves_bytes}
+use Rattle.bk_simulation.proofs.Sizes.{turns_of, turns_among}
+use Rattle.bk_simulation.proofs.Laid.{Setting, CallAt, IsValue, AreValues, count}
+use Rattle.bk_simulation.proofs.Frame.{Sit, store, start, FewFrames, Ready, Account, one, comes_on, falls_on, Ran, with_ran, ArrivedAt, there, Has, Out, next, ready_next}
+use Rattle.bk_simulation.proofs.Compose.{stay, roomy, arrived_step, arrived_on, ran_on}
+use Rattle.bk_simulation.proofs.Simulates.{Simulates, for_value, for_values}
+use Rattle.bk_simulation.proofs.Operands.{value_run}
+use Rattle.bk_simulation.proofs.Arguments.{Listed, values_run}
+use Rattle.bk_simulation.proofs.Procedures.{Procedures}
+use Rattle.bk_simulation.proofs.Returns.{call_stmt, Gave}
+use Rattle.bk_simulation.proofs.NewFrames.{called_cells, called_like, called_argument, called_frame, called_back, called_links}
+use Rattle.bk_simulation.proofs.Calls.{Calling, AnyExit, AloneRuns, body_after}
+use Rattle.bk_simulation.proofs.EnteredCalls.{call_too_high, by_test, is_above, is_at_most, entered_runs}
+use Rattle.bk_simulation.proofs.LibraryCalls.{named_there, library_runs}
+
+-- the history of the scope of one command
+abbrev pub AloneAdds : Meanings → Type 0
+AloneAdds m = (x : Action) (env : Environment) (w : World) → After (history w) (scope_of m (alone x) forwards env w)
+
+-- ---- a routine of the library is called
+
+routine_callable : (c : Callables) (e : ℕ) (r : ocode.Routine) → c.routine e ≡ Some r → can_be_called c e ≡ true
+routine_callable c e r h = ap (λ y. option_map_or (λ _. true) y (c.is_entry e)) h
+
+routine_moves : (of : Bool) (g : Setting) (s : State) (own : Placed) (rest : List Stmt) (d n e : ℕ) (r : ocode.Routine) → s.control ≡ Inside own (d + 1) (call_stmt of n ∷ rest) → slot s d ≡ Word e
+    → g.program.callables.routine e ≡ Some r → nat_lt (2 ^ 31 - 65536) (s.frame + n) ≡ false → Moves g.program s (entering s own d n e rest)
+routine_moves true g s own rest d n e r ec ew er el = function_of_routine_moves g.program s own rest d n e r ec ew er (routine_callable g.program.callables e r er) el
+routine_moves false g s own rest d n e r ec ew er el = call_of_routine_moves g.program s own rest d n e r ec ew er (routine_callable g.program.callables e r er) el
+
+library_after : (r : value.Routine) (vs : List Value) (w : World) → After (history w) (library r vs w)
+library_after r vs w = (ties_add (library r vs) (library r vs) (library_ties r vs)).at w
+
+routine_runs : (of : Bool) (g : Setting) (r : value.Routine) (s : State) (A B : Account) (z : Sit) (rest : List Stmt) (w w1 : World) (vs : List Value) → A.most + 4 ≤ B.most → B.least ≤ A.least
+    → z.depth ≤ FRAME_WORDS → Ready g z w → CallAt g z.scene (call_stmt of z.depth) rest → g.program.callables.routine (g.codes.routine r) ≡ Some (named_there r) → Calling of g s A z rest w vs (routine r) w1
+    → Ran g s B (λ v w3. Gave of g s B z rest w v (calls_back w1.calls w3)) AnyExit (library r vs (calling w1))
+routine_runs of g r s A B z rest w w1 vs leB leB' led ready call known ca =
+    by_test (nat_lt (2 ^ 31 - 65536) (z.frame + z.depth))
+    (λ (h : nat_lt (2 ^ 31 - 65536) (z.frame + z.depth) ≡ true). inr (falls_on g s (calling w1) (library r vs (calling w1)) (inl (record {
+      to = at_call;
+      steps = ca.arr.steps;
+      paid = ca.arr.paid;
+      comes = ca.arr.comes;
+      too_high = record { own = z.scene.own; depth = ca.depth1 + 1; left = call_stmt of z.depth ∷ rest; control = refl; slot = z.depth; within = led; is_call = call_too_high z.depth of rest; past = is_above _ _ h };
+      rest = [];
+      begins = sym (append-nil w1.output);
+    })) (library_after r vs (calling w1))))
+    (λ (h : nat_lt (2 ^ 31 - 65536) (z.frame + z.depth) ≡ false). by_test (nat_lt g.cap (max w1.most_calls (w1.calls + 1)))
+    (λ (hc : nat_lt g.cap (max w1.most_calls (w1.calls + 1)) ≡ true). inr (falls_on g s (calling w1) (library r vs (calling w1)) (inr (is_above _ _ hc)) (library_after r vs (calling w1))))
+    (λ (hc : nat_lt g.cap (max w1.most_calls (w1.calls + 1)) ≡ false). inside h (is_at_most _ _ hc)))
+  where
+    top : ℕ
+    top = z.frame + z.depth
+
+    at_call : State
+    at_call = there g s A z (call_stmt of z.depth ∷ rest) (ca.depth1 + 1) w w1 ca.arr
+
+    back : ℕ
+    back = z.scene.own.places.call (length rest)
+
+    items : ℕ
+    items = z.frame + ca.depth1
+
+    c2 : ℕ → Cell
+    c2 = called_cells ca.arr.cells1 z.frame top items back
+
+    inside : nat_lt (2 ^ 31 - 65536) (z.frame + z.depth) ≡ false → max w1.most_calls (w1.calls + 1) ≤ g.cap
+        → Ran g s B (λ v w3. Gave of g s B z rest w v (calls_back w1.calls w3)) AnyExit (library r vs (calling w1))
+    inside h lc =
+        let ec = ca.arr.calls_are in
+        let dp = ready.deep in
+        let id = ca.is_depth in
+        let low : top + 2 ≤ items = omega arith in
+        let like : (a : ℕ) → a < top → Like (c2 a) (ca.arr.cells1 a) = λ a lt. called_like ca.arr.cells1 z.frame top items back low a lt in
+        let few0 : FewFrames g ca.arr.cells1 z.frame w.calls = ca.arr.frames in
+        let few2 : FewFrames g c2 top (suc w.calls) =
+        frames_called g.program g.first FRAME_WORDS ca.arr.cells1 c2 z.frame top w.calls (called_links ca.arr.cells1 z.frame top items back low z.frame (omega arith)) (called_frame ca.arr.cells1 z.frame top items back low) few0 in
+        let s1 : State = entering at_call z.scene.own ca.depth1 z.depth (g.codes.routine r) rest in
+        let m1 : Moves g.program at_call s1 = routine_moves of g at_call z.scene.own rest ca.depth1 z.depth (g.codes.routine r) (named_there r) refl ca.word known h in
+        let ma = ca.arr.most in
+        let la = ca.arr.least in
+        library_runs of g s (record { most = A.most + 1; least = A.least }) B z rest w (calling w1) vs r w1.calls (omega arith) (omega arith) ec ready call known (record {
+          bases1 = ca.arr.bases1;
+          cells1 = c2;
+          written1 = (top + 1) ∷ (top ∷ ca.arr.written1);
+          steps = ca.arr.steps + 1;
+          paid = ca.arr.paid + g.pay;
+          comes = comes_on g _ _ _ _ _ _ _ ca.arr.comes (one g at_call s1 m1 (roomy g c2 top (suc w.calls) few2 (omega arith)));
+          has = moves_bytes g.program at_call s1 m1 ca.arr.bytes;
+          most = omega arith;
+          least = omega arith;
+          link0 = ap (λ a. content_of (c2 a)) (let e : top + 0 ≡ top = omega arith in e) ∙ ap content_of (called_frame ca.arr.cells1 z.frame top items back low);
+          link1 = ap content_of (called_back ca.arr.cells1 z.frame top items back low);
+          fits = fits_above g.codes _ top c2 ca.arr.fits like;
+          moved = moved_on g.codes top top top _ _ _ ready.fits (omega arith) ca.arr.moved (moved_above _ top c2 like);
+          each = λ i u e.
+              let li : i < length vs = slice_get_within vs i u e in
+              subst (λ a. Stands g.codes ca.arr.bases1 u (content_of (c2 a))) (let q : top + 2 + i ≡ top + (2 + i) = omega arith in q)
+              (subst (λ y. Stands g.codes ca.arr.bases1 u (content_of y)) (sym (called_argument ca.arr.cells1 z.frame top items back low i (omega arith))) (ca.each i u e));
+        })
+
+-- ---- what is called
+
+-- each routine is there under its number
+abbrev pub KnowsLibrary : Setting → Type 0
+KnowsLibrary g = (r : value.Routine) → g.program.callables.routine (g.codes.routine r) ≡ Some (named_there r)
+
+called_after : (p : Program) (m : Meanings) → Throughout (λ A w u. After (history w) u) m → AloneAdds m → (v : Value) (vs : List Value) (w : World) → After (history w) (called p m v vs w)
+called_after p m grows alone_after (procedure k) vs w = by_procedure (procedure_of p k)
+  where
+    by_procedure : (f : Option Procedure) → After (history w) (enter m f vs w)
+    by_procedure None = tt
+    by_procedure (Some f) = closing_after _ (length w.memory) _ (body_after m grows alone_after f.body _ _)
+called_after p m grows alone_after (routine r) vs w = library_after r vs w
+called_after p m grows alone_after (number n) vs w = tt
+called_after p m grows alone_after (address o i) vs w = tt
+called_after p m grows alone_after unset vs w = tt
+
+pub call_after : (p : Program) (m : Meanings) → Throughout (λ A w u. After (history w) u) m → AloneAdds m → (v : Value) (vs : List Value) (w : World) → After (history w) (call p m v vs w)
+call_after p m grows alone_after v vs w =
+    each_way_after _ (called p m v vs (calling w)) _ _ (earlier _ _ (called p m v vs (calling w)) (calling_on w) (called_after p m grows alone_after v vs (calling w)))
+    (λ u. adds _ (λ w1. stays (history w1))) (λ x. adds _ (λ w1. tt))
+
+called_runs : (of : Bool) (g : Setting) (p : Program) (m : Meanings) → Procedures g p → KnowsLibrary g → Simulates g m → AloneRuns g m → AloneAdds m → (s : State) (A B : Account) (z : Sit) (rest : List Stmt) (w w1 : World)
+    (vs : List Value) (v : Value) → A.most + 4 ≤ B.most → B.least ≤ A.least → z.depth ≤ FRAME_WORDS → Ready g z w → CallAt g z.scene (call_stmt of z.depth) rest → Calling of g s A z rest w vs v w1
+    → Ran g s B (λ v w3. Gave of g s B z rest w v (calls_back w1.calls w3)) AnyExit (called p m v vs (calling w1))
+called_runs of g p m procs known sim alone_runs alone_after s A B z rest w w1 vs (procedure k) le le' led r call ca = by_procedure (procedure_of p k) refl
+  where
+    by_procedure : (f : Option Procedure) → procedure_of p k ≡ f → Ran g s B (λ v w3. Gave of g s B z rest w v (calls_back w1.calls w3)) AnyExit (enter m f vs (calling w1))
+    by_procedure None e = inl tt
+    by_procedure (Some f) e = entered_runs of g m sim alone_runs alone_after k f (procs.each k f e) s A B z rest w w1 vs le le' led r call ca
+called_runs of g p m procs known sim alone_runs alone_after s A B z rest w w1 vs (routine r) le le' led ready call ca = routine_runs of g r s A B z rest w w1 vs le le' led ready call (known r) ca
+called_runs of g p m procs known sim alone_runs alone_after s A B z rest w w1 vs (number n) le le' led r call ca = inl tt
+called_runs of g p m procs known sim alone_runs alone_after s A B z rest w w1 vs (address o i) le le' led r call ca = inl tt
+called_runs of g p m procs known sim alone_runs alone_after s A B z rest w w1 vs unset le le' led r call ca = inl tt
+
+back_ran : (of : Bool) (g : Setting) (s : State) (B : Account) (z : Sit) (rest : List Stmt) (w : World) (n : ℕ) (X : Exit → World → Type 0) (o : Outcome Value) → Ran g s B (λ v w3. Gave of g s B z rest w v (calls_back n w3)) AnyExit o
+    → Ran g s B (Gave of g s B z rest w) X (each_way (λ v after. gives v (calls_back n after)) (λ x w. undefined) o)
+back_ran of g s B z rest w n X (gives v w3) (inl q) = inl q
+back_ran of g s B z rest w n X (gives v w3) (inr f) = inr f
+back_ran of g s B z rest w n X (leaves x w3) q = inl tt
+back_ran of g s B z rest w n X (ends e w3) q = q
+back_ran of g s B z rest w n X undefined q = inl tt
+back_ran of g s B z rest w n X (going w3) q = q
+
+-- ---- the arguments, the procedure, the call
+
+pub apply_runs : (of : Bool) (g : Setting) (p : Program) (m : Meanings) → Procedures g p → KnowsLibrary g → Simulates g m → AloneRuns g m → AloneAdds m → (B : Account) (f : Expression) (es : Expressions) (z : Sit)
+    (c c1 c2 rest : List Stmt) (w : World) → 16 * w.turns + 5 ≤ B.most → B.least ≤ w.turns - (turns_among es + turns_of f) → c ≡ Stack (z.depth + 2) ∷ c1 → AreValues g z.scene (z.depth + 2) (past f z.env) es c1 c2
+    → IsValue g z.scene (z.depth + 2 + count es) z.env f c2 (call_stmt of z.depth ∷ rest) → CallAt g z.scene (call_stmt of z.depth) rest → z.depth + 2 + count es + 1 ≤ FRAME_WORDS → Ready g z w
+    → Ran g (start z c w) B (Gave of g (start z c w) B z rest w) (Out g (start z c w) B z w) (applied p m f es z.env w)
+apply_runs of g p m procs known sim alone_runs alone_after B f es z c c1 c2 rest w leB leB' ec laid_es laid_f call room r =
+    let dp = r.deep in
+    let a0 : ArrivedAt g s A z c1 (z.depth + 2) w w = arrived_step g s A0 z.scene.own z.frame w.calls top (store z w) c c1 z.depth (z.depth + 2) w (stay g A0 z c w (omega arith) (omega arith) r) cells0 None z.written (omega arith) like0
+    (stack_moves g.program s z.scene.own c1 z.depth (z.depth + 2) (ap (λ y. Inside z.scene.own z.depth y) ec)) in
+    let z0 = next g s A z c1 (z.depth + 2) w w (past f z.env) (z.depth + 2) a0 in
+    let r0 = ready_next g s A z c1 (z.depth + 2) w w (past f z.env) (z.depth + 2) a0 refl (omega arith) r in
+    let V = for_values es w in
+    with_ran g s B (λ vs w1. Listed g (start z0 c1 w) V z0 c2 es w vs w1) _ _ (values m es (past f z.env) w) _
+    (λ vs. adds _ (λ w1. with_after _ _ _ (sim.grows.value f z.env w1) (λ v. adds _ (λ w2. call_after p m sim.grows alone_after v vs w2))))
+    (ran_on g s A V B z c1 (z.depth + 2) w w (past f z.env) (Listed g (start z0 c1 w) V z0 c2 es w) (λ vs w1. Listed g (start z0 c1 w) V z0 c2 es w vs w1) (values m es (past f z.env) w) (omega arith) (omega arith) r (omega arith) a0 (λ vs w1 l. l)
+    (values_run g m sim es z0 c1 c2 w laid_es r0))
+    (λ vs w1 l.
+    let ld = l.is_depth in
+    let ll = l.long in
+    let a1 : ArrivedAt g s D z c2 l.depth1 w w1 = arrived_on g s A V D z c1 c2 (z.depth + 2) l.depth1 w w w1 (past f z.env) (omega arith) (omega arith) r (omega arith) a0 l.arr in
+    let z1 = next g s D z c2 l.depth1 w w1 z.env l.depth1 a1 in
+    let r1 = ready_next g s D z c2 l.depth1 w w1 z.env l.depth1 a1 refl (omega arith) r in
+    let N = for_value f w1 in
+    with_ran g s B (λ v w2. Calling of g s C z rest w vs v w2) _ _ (m.value f z.env w1) _ (λ v. adds _ (λ w2. call_after p m sim.grows alone_after v vs w2))
+    (ran_on g s D N B z c2 l.depth1 w w1 z.env (Has g (start z1 c2 w1) N z1 (call_stmt of z.depth ∷ rest) (l.depth1 + 1) w1) (λ v w2. Calling of g s C z rest w vs v w2) (m.value f z.env w1) (omega arith) (omega arith) r (omega arith) a1
+    (λ v w2 q. record {
+      depth1 = l.depth1;
+      is_depth = (let x = l.is_depth in let y = l.long in omega arith);
+      arr = arrived_on g s D N C z c2 (call_stmt of z.depth ∷ rest) l.depth1 (l.depth1 + 1) w w1 w2 z.env (omega arith) (omega arith) r (omega arith) a1 q.arr;
+      word = q.stands;
+      each = λ i u h.
+          let lt : i < length vs = slice_get_within vs i u h in
+          let e0 : z.frame + (z.depth + 2) + i ≡ z.frame + z.depth + 2 + i = omega arith in
+          subst (λ a. Stands g.codes q.arr.bases1 u (content_of (q.arr.cells1 a))) e0
+          (stands_grown g.codes l.arr.bases1 q.arr.bases1 u _ q.arr.moved.grown (subst (λ y. Stands g.codes l.arr.bases1 u y)
+          (sym (q.arr.moved.kept.as_was (z.frame + (z.depth + 2) + i) (omega arith) (λ o n b1 j al eb lj. let x = l.arr.fits.below o n b1 al eb in omega arith)).content)
+          (l.each i u h)));
+    })
+    (value_run g m sim f z1 c2 (call_stmt of z.depth ∷ rest) w1 (subst (λ d. IsValue g z.scene d z.env f c2 (call_stmt of z.depth ∷ rest)) (sym l.is_depth) laid_f) r1))
+    (λ v w2 ca. back_ran of g s B z rest w w2.calls _ (called p m v vs (calling w2)) (called_runs of g p m procs known sim alone_runs alone_after s C B z rest w w2 vs v (omega arith) (omega arith) (omega arith) r call ca)))
+  where
+    s : State
+    s = start z c w
+
+    top : ℕ
+    top = z.frame + z.depth
+
+    cells0 : ℕ → Cell
+    cells0 = below (z.frame + (z.depth + 2)) (settle (z.frame + z.depth) (z.frame + (z.depth + 2)) z.cells)
+
+    like0 : (a : ℕ) → a < top → Like (cells0 a) (z.cells a)
+    like0 a lt = like_on _ _ _ (below_like (z.frame + (z.depth + 2)) (settle (z.frame + z.depth) (z.frame + (z.depth + 2)) z.cells) a (let l : a < z.frame + z.depth = lt in omega arith)) (settle_like (z.frame + z.depth) (z.frame + (z.depth + 2)) z.cells a)
+
+    A0 : Account
+    A0 = record { most = 16 * w.turns; least = w.turns }
+
+    A : Account
+    A = record { most = 16 * w.turns + 1; least = w.turns }
+
+    D : Account
+    D = record { most = 16 * w.turns + 1; least = w.turns - turns_among es }
+
+    C : Account
+    C = record { most = 16 * w.turns + 1; least = w.turns - (turns_among es + turns_of f) }

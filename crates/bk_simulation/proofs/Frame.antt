@@ -1,0 +1,300 @@
+-- The frame of the simulation: where code runs and what it finds, counted runs, arrivals, exits and falls, and how parts compose.
+use Rattle.std.proofs.Common.{◌≡◌, ℕ, zero, suc, ◌+◌, ◌-◌, ◌*◌, ◌<◌, ◌≤◌, ◌^◌, true, List, ◌∷◌, ◌++◌, length, Option, Some, None, refl, sym, ap, ◌∙◌, subst, append_assoc, arith, ◌⊎◌, ⊎_elim, inl, inr}
+use Rattle.std.proofs.lemmas.Option.{slice_get_within}
+use Rattle.bk_base.specs.declared.limit.TheConstants.{FRAME_WORDS}
+use Rattle.bk_base.specs.declared.run_end.End.{End}
+use Rattle.bk_scope.specs.Scope.{bound_in}
+use Rattle.bk_ocode.specs.Cells.{Content, Cell, content_of}
+use Rattle.bk_ocode.specs.OcodeState.{Placed, Inside, State, Ends}
+use Rattle.bk_ocode.specs.OcodeStep.{from_label}
+use Rattle.bk_ocode.specs.OcodeRun.{program_step}
+use Rattle.bk_ocode.specs.declared.stmt.Stmt.{Stmt}
+use Rattle.bk_ocode.specs.declared.stmt.Stmt.TheVariants.{Jump, Stack, Return}
+use Rattle.bk_trans.specs.declared.around.Goal.{Goal}
+use Rattle.bk_meaning.specs.Values.{Value}
+use Rattle.bk_meaning.specs.Environment.{Environment, Sense, constant, cell, label, foreign, sense_in, sense_of}
+use Rattle.bk_meaning.specs.World as world
+use Rattle.bk_meaning.specs.World.{World, Exit, break, loop, endcase, goto, result, return, Outcome, gives, leaves, ends, undefined, going, each_way, with, turn, turn_of}
+use Rattle.bk_meaning.specs.Growing.{history, Grows, After}
+use Rattle.bk_meaning.proofs.After.{Adds}
+use Rattle.bk_simulation.specs.Simulation.{IsTooHigh, end_of}
+use Rattle.bk_simulation.proofs.Moves.{Moves}
+use Rattle.bk_simulation.proofs.FramesKept.{AtMostFrames}
+use Rattle.bk_simulation.proofs.BytesKept.{AllBytes, InHand, HasBytes}
+use Rattle.bk_simulation.proofs.Memory.{Stands, Store, Grown, Moved, Fits, fits_more}
+pub use Rattle.bk_simulation.proofs.Laid.{place_of, IsWord, NameAt, NamedIn}
+use Rattle.bk_simulation.proofs.Laid.{Setting, Scene, goal_named, IsLabelHere}
+
+-- where a tree's code runs, and what it finds
+pub record Sit : Type 0 where
+  pub scene : Scene
+  pub env : Environment
+  pub frame : ℕ
+  pub bases : List ℕ
+  pub cells : ℕ → Cell
+  pub hand : Option Content
+  pub written : List ℕ
+  pub depth : ℕ
+
+abbrev pub store : Sit → World → Store
+store z w = record { bases = z.bases; mem = w.memory; cells = z.cells }
+
+-- the state in a section, before these statements
+abbrev pub state : Placed → ℕ → List Stmt → (ℕ → Cell) → ℕ → Option Content → List ℕ → World → State
+state own depth c cells frame hand written w = record { control = Inside own depth c; cells = cells; frame = frame; hand = hand; input = w.input; output = w.output; written = written }
+
+abbrev pub start : Sit → List Stmt → World → State
+start z c w = state z.scene.own z.depth c z.cells z.frame z.hand z.written w
+
+pub name_grown : (sc : Scene) (bases bases1 : List ℕ) (frame : ℕ) (x : List ℕ) (s : Option Sense) → Grown bases bases1 → NameAt sc bases frame x s → NameAt sc bases1 frame x s
+name_grown sc bases bases1 frame x (Some (constant n)) g h = h
+name_grown sc bases bases1 frame x (Some (cell o i)) g h = (h.0, g.each o h.0 h.1, h.2, h.3, h.4)
+name_grown sc bases bases1 frame x (Some label) g h = tt
+name_grown sc bases bases1 frame x (Some foreign) g h = tt
+name_grown sc bases bases1 frame x None g h = tt
+
+pub named_grown : (sc : Scene) (env : Environment) (bases bases1 : List ℕ) (frame : ℕ) → Grown bases bases1 → NamedIn sc env bases frame → NamedIn sc env bases1 frame
+named_grown sc env bases bases1 frame g h = record { each = λ x. name_grown sc bases bases1 frame x (sense_of x env) g (h.each x) }
+
+-- no more frames than that are active
+abbrev pub FewFrames : Setting → (ℕ → Cell) → ℕ → ℕ → Type 0
+FewFrames g cells frame n = AtMostFrames g.program g.first FRAME_WORDS cells frame n
+
+-- what code finds where it runs
+pub record Ready (g : Setting) (z : Sit) (w : World) : Type 0 where
+  pub named : NamedIn z.scene z.env z.bases z.frame
+  pub fits : Fits g.codes (store z w) (z.frame + z.depth)
+  pub low : z.frame ≤ 2 ^ 31 - 65536
+  pub high : 16 ≤ z.frame
+  pub deep : 2 ≤ z.depth
+  pub frames : FewFrames g z.cells z.frame w.calls
+  pub room : w.calls ≤ g.cap
+  pub lasts : Grown g.lasting z.bases
+  pub words : AllBytes z.cells
+  pub in_hand : InHand z.hand
+
+-- the global vector is there, so a new object has another number than 0
+pub some_objects : (g : Setting) (z : Sit) (w : World) → Ready g z w → 0 < length w.memory
+some_objects g z w r =
+    let b : 0 < length z.bases = slice_get_within z.bases 0 16 (r.lasts.each 0 16 g.vector) in
+    let l = r.fits.long in
+    omega arith
+
+-- most: steps, and sixteen for each turn left, are at most this. least: this is at most the turns left and what the steps pay for.
+pub record Account : Type 0 where
+  pub most : ℕ
+  pub least : ℕ
+
+-- so many steps more
+abbrev pub further : ℕ → Account → Account
+further k a = record { most = a.most + k; least = a.least }
+
+-- a step more that pays
+abbrev pub paying : Setting → Account → Account
+paying g a = record { most = a.most + 1; least = a.least + g.pay }
+
+-- a run of so many steps, which pay for so much, in so many frames at most at each state behind the first
+pub data Comes (g : Setting) : ℕ → ℕ → State → State → Type 0 where
+  here : (s : State) → Comes g 0 0 s s
+  go_on : (n p : ℕ) (s t u : State) → Moves g.program s t → FewFrames g t.cells t.frame g.cap → Comes g n p t u → Comes g (suc n) (g.pay + p) s u
+
+pub comes_on : (g : Setting) (n p k q : ℕ) (s t u : State) → Comes g n p s t → Comes g k q t u → Comes g (n + k) (p + q) s u
+comes_on g n p k q s t u (here _) c = let e : k ≡ 0 + k = omega arith in let f : q ≡ 0 + q = omega arith in subst (λ y. Comes g (0 + k) y s u) f (subst (λ x. Comes g x q s u) e c)
+comes_on g n p k q s t u (go_on j i _ v _ e r a) c =
+    let x : suc (j + k) ≡ suc j + k = omega arith in
+    let y : g.pay + (i + q) ≡ g.pay + i + q = omega arith in
+    subst (λ d. Comes g (suc j + k) d s u) y (subst (λ d. Comes g d (g.pay + (i + q)) s u) x (go_on (j + k) (i + q) s v u e r (comes_on g j i k q v t u a c)))
+
+pub one : (g : Setting) (s t : State) → Moves g.program s t → FewFrames g t.cells t.frame g.cap → Comes g 1 g.pay s t
+one g s t e r = let x : g.pay + 0 ≡ g.pay = omega arith in subst (λ d. Comes g 1 d s t) x (go_on 0 0 s t t e r (here t))
+
+-- the run comes, in so many steps at most, to where the world's bytes were written and its input is left
+pub record Reaches (g : Setting) (s : State) (B : Account) (w : World) : Type 0 where
+  pub to : State
+  pub steps : ℕ
+  pub paid : ℕ
+  pub comes : Comes g steps paid s to
+  pub most : steps ≤ B.most
+  pub least : B.least ≤ w.turns + paid
+  pub wrote : to.output ≡ w.output
+  pub left : to.input ≡ w.input
+
+-- the run ends there
+pub record Stopped (g : Setting) (s : State) (B : Account) (e : world.End) (w : World) : Type 0 where
+  pub to : State
+  pub steps : ℕ
+  pub paid : ℕ
+  pub comes : Comes g steps paid s to
+  pub most : suc steps ≤ B.most
+  pub end : End
+  pub is_end : end_of e ≡ Some end
+  pub stops : program_step g.program to ≡ Ends end to
+  pub wrote : to.output ≡ w.output
+  pub left : to.input ≡ w.input
+
+-- The run comes to a call whose frame would begin too high; what it wrote begins the bytes.
+pub record Fell (g : Setting) (s : State) (out : List ℕ) : Type 0 where
+  pub to : State
+  pub steps : ℕ
+  pub paid : ℕ
+  pub comes : Comes g steps paid s to
+  pub too_high : IsTooHigh to
+  pub rest : List ℕ
+  pub begins : out ≡ to.output ++ rest
+
+-- or more calls are active than may be
+abbrev pub FallsThose : Setting → State → List ℕ → ℕ → Type 0
+FallsThose g s out most = Fell g s out ⊎ (g.cap < most)
+
+abbrev pub FallsIn : Setting → State → World → Type 0
+FallsIn g s w = FallsThose g s w.output w.most_calls
+
+abbrev pub Falls : {A : Type 0} → Setting → State → Outcome A → Type 0
+Falls g s (gives a w) = FallsThose g s w.output w.most_calls
+Falls g s (leaves x w) = FallsThose g s w.output w.most_calls
+Falls g s (ends e w) = FallsThose g s w.output w.most_calls
+Falls g s undefined = Unit {0}
+Falls g s (going w) = FallsThose g s w.output w.most_calls
+
+abbrev pub Went : {A : Type 0} → Setting → State → Account → (A → World → Type 0) → (Exit → World → Type 0) → Outcome A → Type 0
+Went g s B K X (gives a w) = K a w
+Went g s B K X (leaves x w) = X x w
+Went g s B K X (ends e w) = Stopped g s B e w
+Went g s B K X undefined = Unit {0}
+Went g s B K X (going w) = Reaches g s B w
+
+abbrev pub Ran : {A : Type 0} → Setting → State → Account → (A → World → Type 0) → (Exit → World → Type 0) → Outcome A → Type 0
+Ran g s B K X o = Went g s B K X o ⊎ Falls g s o
+
+falls_later : (g : Setting) (s : State) (w w1 : World) → Grows (history w) (history w1) → FallsIn g s w → FallsIn g s w1
+falls_later g s w w1 h f = let c : w.most_calls ≤ w1.most_calls = h.most_calls in ⊎_elim
+    (λ (x : Fell g s w.output). inl (record { to = x.to; steps = x.steps; paid = x.paid; comes = x.comes; too_high = x.too_high; rest = x.rest ++ h.written; begins = h.output ∙ ap (λ l. l ++ h.written) x.begins ∙ append_assoc x.to.output x.rest h.written }))
+    (λ (x : g.cap < w.most_calls). inr (omega arith)) f
+
+-- a fall is one also for all that would follow
+pub falls_on : {A : Type 0} (g : Setting) (s : State) (w : World) (o : Outcome A) → FallsIn g s w → After (history w) o → Falls g s o
+falls_on g s w (gives a w1) f h = falls_later g s w w1 h f
+falls_on g s w (leaves x w1) f h = falls_later g s w w1 h f
+falls_on g s w (ends e w1) f h = falls_later g s w w1 h f
+falls_on g s w undefined f h = tt
+falls_on g s w (going w1) f h = falls_later g s w w1 h f
+
+-- what follows is gone on with
+pub with_ran : {A B : Type 0} (g : Setting) (s : State) (N : Account) (K : A → World → Type 0) (L : B → World → Type 0) (X : Exit → World → Type 0) (o : Outcome A) (go : A → World → Outcome B)
+    → ((a : A) → Adds (go a)) → Ran g s N K X o → ((a : A) (w : World) → K a w → Ran g s N L X (go a w)) → Ran g s N L X (with o go)
+with_ran g s N K L X (gives a w) go ad r h = ⊎_elim (λ (k : K a w). h a w k) (λ (f : FallsIn g s w). inr (falls_on g s w (go a w) f ((ad a).at w))) r
+with_ran g s N K L X (leaves x w) go ad r h = r
+with_ran g s N K L X (ends e w) go ad r h = r
+with_ran g s N K L X undefined go ad r h = r
+with_ran g s N K L X (going w) go ad r h = r
+
+falls_before : (g : Setting) (s t : State) (k p : ℕ) (w : World) → Comes g k p s t → FallsIn g t w → FallsIn g s w
+falls_before g s t k p w c r = ⊎_elim
+    (λ (x : Fell g t w.output). inl (record { to = x.to; steps = k + x.steps; paid = p + x.paid; comes = comes_on g _ _ _ _ _ _ _ c x.comes; too_high = x.too_high; rest = x.rest; begins = x.begins }))
+    (λ (x : g.cap < w.most_calls). inr x) r
+
+-- from a state that comes to the start
+pub ran_from : {A : Type 0} (g : Setting) (s t : State) (k p : ℕ) (M N : Account) (K L : A → World → Type 0) (X Y : Exit → World → Type 0) (o : Outcome A) → Comes g k p s t
+    → k + M.most ≤ N.most → N.least ≤ M.least + p → ((a : A) (w : World) → K a w → L a w) → ((x : Exit) (w : World) → X x w → Y x w) → Ran g t M K X o → Ran g s N L Y o
+ran_from g s t k p M N K L X Y (gives a w) c le le' h i r = ⊎_elim (λ (q : K a w). inl (h a w q)) (λ (f : FallsIn g t w). inr (falls_before g s t k p w c f)) r
+ran_from g s t k p M N K L X Y (leaves x w) c le le' h i r = ⊎_elim (λ (q : X x w). inl (i x w q)) (λ (f : FallsIn g t w). inr (falls_before g s t k p w c f)) r
+ran_from g s t k p M N K L X Y (ends e w) c le le' h i r = ⊎_elim (λ (q : Stopped g t M e w). let m = q.most in inl (record { to = q.to; steps = k + q.steps; paid = p + q.paid; comes = comes_on g _ _ _ _ _ _ _ c q.comes; most = omega arith; end = q.end; is_end = q.is_end; stops = q.stops; wrote = q.wrote; left = q.left })) (λ (f : FallsIn g t w). inr (falls_before g s t k p w c f)) r
+ran_from g s t k p M N K L X Y undefined c le le' h i r = inl tt
+ran_from g s t k p M N K L X Y (going w) c le le' h i r = ⊎_elim (λ (q : Reaches g t M w). let m = q.most in let l = q.least in inl (record { to = q.to; steps = k + q.steps; paid = p + q.paid; comes = comes_on g _ _ _ _ _ _ _ c q.comes; most = omega arith; least = omega arith; wrote = q.wrote; left = q.left })) (λ (f : FallsIn g t w). inr (falls_before g s t k p w c f)) r
+
+-- a turn is taken, if one is left
+pub turn_ran : {A : Type 0} (g : Setting) (s : State) (B : Account) (K : A → World → Type 0) (X : Exit → World → Type 0) (w : World) (go : World → Outcome A) → B.least ≤ w.turns
+    → s.output ≡ w.output → s.input ≡ w.input → ((n : ℕ) → w.turns ≡ suc n → Ran g s B K X (go (record w { turns = n }))) → Ran g s B K X (turn w go)
+turn_ran {A} g s B K X w go le e ei h = at_turns w.turns refl
+  where
+    at_turns : (n : ℕ) → w.turns ≡ n → Ran g s B K X (turn_of n w go)
+    at_turns zero q = inl (record { to = s; steps = 0; paid = 0; comes = here s; most = omega arith; least = omega arith; wrote = e; left = ei })
+    at_turns (suc n) q = h n q
+
+-- The run has come to a place at a depth; objects below the top may have changed, and no other word there. As many calls are active as
+-- before.
+pub record Arrived (g : Setting) (s : State) (B : Account) (own : Placed) (frame calls top : ℕ) (h : Store) (c : List Stmt) (depth : ℕ) (w1 : World) : Type 0 where
+  pub steps : ℕ
+  pub paid : ℕ
+  pub bases1 : List ℕ
+  pub cells1 : ℕ → Cell
+  pub hand1 : Option Content
+  pub written1 : List ℕ
+  pub comes : Comes g steps paid s (state own depth c cells1 frame hand1 written1 w1)
+  pub most : steps + 16 * w1.turns ≤ B.most
+  pub least : B.least ≤ w1.turns + paid
+  pub calls_are : w1.calls ≡ calls
+  pub frames : FewFrames g cells1 frame calls
+  pub room : calls ≤ g.cap
+  pub bytes : HasBytes (state own depth c cells1 frame hand1 written1 w1)
+  pub fits : Fits g.codes (record { bases = bases1; mem = w1.memory; cells = cells1 }) top
+  pub moved : Moved top h (record { bases = bases1; mem = w1.memory; cells = cells1 })
+
+abbrev pub ArrivedAt : Setting → State → Account → Sit → List Stmt → ℕ → World → World → Type 0
+ArrivedAt g s B z c d w w1 = Arrived g s B z.scene.own z.frame w.calls (z.frame + z.depth) (store z w) c d w1
+
+-- the state there
+abbrev pub there : (g : Setting) (s : State) (B : Account) (z : Sit) (c : List Stmt) (d : ℕ) (w w1 : World) → ArrivedAt g s B z c d w w1 → State
+there g s B z c d w w1 a = state z.scene.own d c a.cells1 z.frame a.hand1 a.written1 w1
+
+-- a value is on top
+pub record Has (g : Setting) (s : State) (B : Account) (z : Sit) (c : List Stmt) (d : ℕ) (w : World) (v : Value) (w1 : World) : Type 0 where
+  pub arr : ArrivedAt g s B z c d w w1
+  pub stands : Stands g.codes arr.bases1 v (content_of (arr.cells1 (z.frame + z.depth)))
+
+-- Where control is when a command or an expression was left: before the two statements that go to a label, at the LAB with a result in
+-- hand, or before a return.
+abbrev pub GoesTo : Goal → List Stmt → Type 0
+GoesTo to c = (r : List Stmt) × (c ≡ Stack to.depth ∷ Jump to.label ∷ r)
+
+abbrev pub Leads : Scene → Exit → List Stmt → Type 0
+Leads sc break c = GoesTo sc.around.leaves c × (sc.exits.loop ≡ true)
+Leads sc loop c = GoesTo sc.around.goes_on c × (sc.exits.loop ≡ true)
+Leads sc endcase c = GoesTo sc.around.ends_case c × (sc.exits.switch ≡ true)
+Leads sc (goto x) c = GoesTo (goal_named sc x) c × IsLabelHere (bound_in sc.bindings x)
+Leads sc (result v) c = from_label sc.own.stmts sc.around.valof ≡ Some c
+Leads sc return c = (r : List Stmt) × (c ≡ Return ∷ r)
+
+-- a result is in hand for its VALOF
+abbrev pub Handed : Setting → List ℕ → Exit → Option Content → Type 0
+Handed g bases (result v) h = (x : Content) × (h ≡ Some x) × Stands g.codes bases v x
+Handed g bases _ h = Unit {0}
+
+-- steps that are still to be done there
+abbrev pub still : Exit → ℕ
+still break = 2
+still loop = 2
+still endcase = 2
+still (goto x) = 2
+still (result v) = 0
+still return = 0
+
+pub record Exited (g : Setting) (s : State) (B : Account) (sc : Scene) (frame calls top : ℕ) (h : Store) (x : Exit) (w1 : World) : Type 0 where
+  pub control : List Stmt
+  pub depth1 : ℕ
+  pub leads : Leads sc x control
+  pub arr : Arrived g s B sc.own frame calls top h control depth1 w1
+  pub later : arr.steps + 16 * w1.turns + still x ≤ B.most
+  pub hands : Handed g arr.bases1 x arr.hand1
+
+abbrev pub Out : Setting → State → Account → Sit → World → Exit → World → Type 0
+Out g s B z w x w1 = Exited g s B z.scene z.frame w.calls (z.frame + z.depth) (store z w) x w1
+
+-- the situation after an arrival, at a depth and with other names' objects behind
+abbrev pub next : (g : Setting) (s : State) (B : Account) (z : Sit) (c : List Stmt) (d : ℕ) (w w1 : World) → Environment → ℕ → ArrivedAt g s B z c d w w1 → Sit
+next g s B z c d w w1 env depth a = record z { env = env; bases = a.bases1; cells = a.cells1; hand = a.hand1; written = a.written1; depth = depth }
+
+pub ready_next : (g : Setting) (s : State) (B : Account) (z : Sit) (c : List Stmt) (d : ℕ) (w w1 : World) (env : Environment) (depth : ℕ) (a : ArrivedAt g s B z c d w w1)
+    → env.names ≡ z.env.names → z.depth ≤ depth → Ready g z w → Ready g (next g s B z c d w w1 env depth a) w1
+ready_next g s B z c d w w1 env depth a en le r = let dd = r.deep in record {
+  named = let n = named_grown z.scene z.env z.bases a.bases1 z.frame a.moved.grown r.named in record { each = λ x. subst (λ y. NameAt z.scene a.bases1 z.frame x (sense_in y x)) (sym en) (n.each x) };
+  fits = fits_more g.codes _ (z.frame + z.depth) (z.frame + depth) (omega arith) a.fits;
+  low = r.low;
+  high = r.high;
+  deep = omega arith;
+  frames = subst (λ n. FewFrames g a.cells1 z.frame n) (sym a.calls_are) a.frames;
+  room = subst (λ n. n ≤ g.cap) (sym a.calls_are) a.room;
+  lasts = record { each = λ o b1 e. a.moved.grown.each o b1 (r.lasts.each o b1 e) };
+  words = a.bytes.words;
+  in_hand = a.bytes.hand;
+}

@@ -1,0 +1,82 @@
+-- The words of strings and tables are data of the program.
+use Rattle.std.proofs.Common.{◌≡◌, ℕ, zero, suc, ◌+◌, ◌<◌, ◌^◌, List, [], ◌∷◌, ◌++◌, length, map, Option, Some, None, slice_get, drop, refl, sym, ap, ap₂, ◌∙◌, subst, arith}
+use Rattle.std.specs.Prelude.{unwrap_or}
+use Rattle.bk_base.specs.Word.{signed}
+use Rattle.bk_syntax.specs.Tree as t
+use Rattle.bk_syntax.specs.Tree.{Expressions}
+use Rattle.bk_scope.specs.Scope.{Binding}
+use Rattle.bk_scope.specs.Constants.{constant_word}
+use Rattle.bk_scope.specs.Sound.{HaveWords}
+use Rattle.bk_ocode.specs.OcodeState.{Placement, Placed}
+use Rattle.bk_ocode.specs.OcodeRun.{Program}
+use Rattle.bk_ocode.specs.SectionData.{Datum, item_words, datum_of, data_of}
+use Rattle.bk_ocode.specs.ProgramStart.{all_data}
+use Rattle.bk_ocode.specs.declared.stmt.Stmt.{Stmt}
+use Rattle.bk_ocode.specs.declared.stmt.Stmt.TheVariants.{DataNumber}
+use Rattle.bk_trans.specs.Naming.{worth, words_named}
+use Rattle.bk_meaning.specs.Environment.{Named}
+use Rattle.bk_meaning.specs.Lasting.{constant_words}
+use Rattle.bk_simulation.specs.Regular.{RegularEach}
+use Rattle.bk_simulation.proofs.Leaves.{same_number}
+use Rattle.bk_simulation.proofs.ListPlaces.{get_first}
+use Rattle.bk_simulation.proofs.Sought.{with_names}
+use Rattle.bk_simulation.proofs.Held.{InData}
+use Rattle.bk_simulation.proofs.Standing.{Agree, StandsAt}
+use Rattle.bk_simulation.proofs.LaidExpressions.{HasWords, constants_agree}
+use Rattle.bk_simulation.proofs.Constants.{constant_small}
+
+-- a place of a list behind others
+pub get_behind : {A : Type 0} (xs ys : List A) (i : ℕ) → slice_get (xs ++ ys) (length xs + i) ≡ slice_get ys i
+get_behind [] ys i = let e : 0 + i ≡ i = omega arith in ap (slice_get ys) e
+get_behind (x ∷ xs) ys i = let e : length (x ∷ xs) + i ≡ suc (length xs + i) = omega arith in ap (slice_get (x ∷ (xs ++ ys))) e ∙ get_behind xs ys i
+
+-- the one datum of a statement is among those of the section,
+datum_in : (places : Placement) (stmts : List Stmt) (i : ℕ) (s : Stmt) (rest : List Stmt) (d : Datum) → drop i stmts ≡ s ∷ rest → datum_of places s rest ≡ d ∷ [] → (j : ℕ) × (slice_get (data_of places stmts) j ≡ Some d)
+datum_in places [] zero s rest d e k = absurd (let h : [] ≡ s ∷ rest = e in cc)
+datum_in places [] (suc i) s rest d e k = absurd (let h : [] ≡ s ∷ rest = e in cc)
+datum_in places (x ∷ xs) zero s rest d e k =
+    let h : x ∷ xs ≡ s ∷ rest = e in
+    let first : x ≡ s = cc in
+    let others : xs ≡ rest = cc in
+    (0, ap (λ y. slice_get (y ++ data_of places xs) 0) (ap₂ (datum_of places) first others ∙ k))
+datum_in places (x ∷ xs) (suc i) s rest d e k =
+    let h = datum_in places xs i s rest d e k in
+    (length (datum_of places x xs) + h.0, get_behind (datum_of places x xs) (data_of places xs) h.0 ∙ h.1)
+
+-- and so of the program
+section_datum : (sections : List Placed) (k : ℕ) (own : Placed) (j : ℕ) (d : Datum) → slice_get sections k ≡ Some own → slice_get (data_of own.places own.stmts) j ≡ Some d → (i : ℕ) × (slice_get (all_data sections) i ≡ Some d)
+section_datum [] k own j d e h = absurd (let x : None ≡ Some own = e in cc)
+section_datum (x ∷ xs) zero own j d e h =
+    let same : x ≡ own = (let y : Some x ≡ Some own = e in cc) in
+    (j, get_first (data_of x.places x.stmts) (all_data xs) j d (ap (λ y. slice_get (data_of y.places y.stmts) j) same ∙ h))
+section_datum (x ∷ xs) (suc k) own j d e h =
+    let r = section_datum xs k own j d e h in
+    (length (data_of x.places x.stmts) + r.0, get_behind (data_of x.places x.stmts) (all_data xs) r.0 ∙ r.1)
+
+pub statement_data : (program : Program) (section : ℕ) (own : Placed) (k : ℕ) (s : Stmt) (rest : List Stmt) (d : Datum) → slice_get program.sections section ≡ Some own → StandsAt own k (s ∷ rest) → datum_of own.places s rest ≡ d ∷ []
+    → InData program d.place d.words
+statement_data program section own k s rest d is st e =
+    let a = datum_in own.places own.stmts st.place s rest d st.behind e in
+    let c = section_datum program.sections section own a.0 d is a.1 in
+    record { number = c.0; datum = d; at = c.1; placed = refl; is = refl }
+
+-- words one after another
+abbrev pub AreSmall : List ℕ → Type 0
+AreSmall [] = Unit {0}
+AreSmall (w ∷ ws) = (w < 2 ^ 32) × AreSmall ws
+
+pub items_are : (places : Placement) (ws : List ℕ) (rest : List Stmt) → AreSmall ws → item_words places rest ≡ [] → item_words places (map (λ w. DataNumber (signed w)) ws ++ rest) ≡ ws
+items_are places [] rest h e = e
+items_are places (w ∷ ws) rest h e = ap₂ (λ x xs. x ∷ xs) (same_number w h.0) (items_are places ws rest h.1 e)
+
+pub words_small : (bs : List Binding) (es : Expressions) → HasWords bs → RegularEach es → HaveWords bs es → AreSmall (words_named bs es)
+words_small bs t.none h r w = tt
+words_small bs (t.more e es) h r w = let x = w.0 in (subst (λ y. worth y < 2 ^ 32) (sym x.1) (constant_small bs h e r.0 x.0 x.1), words_small bs es h r.1 w.1)
+
+worth_is : (y : Option ℕ) → unwrap_or y 0 ≡ worth y
+worth_is None = refl
+worth_is (Some w) = refl
+
+pub words_agree : (ns : List Named) (bs : List Binding) (i : ℕ) (es : Expressions) → Agree ns bs → constant_words (with_names ns i) es ≡ words_named bs es
+words_agree ns bs i t.none a = refl
+words_agree ns bs i (t.more e es) a = ap₂ (λ x xs. x ∷ xs) (ap (λ y. unwrap_or y 0) (constants_agree ns bs i a e) ∙ worth_is (constant_word bs e)) (words_agree ns bs i es a)

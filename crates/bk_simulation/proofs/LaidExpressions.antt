@@ -1,0 +1,249 @@
+-- What the static side of each form needs: codes for a value or a jump, what stands around code, and how parts are laid together.
+use Rattle.std.proofs.Common.{◌≡◌, ℕ, ◌+◌, ◌<◌, ◌≤◌, ◌^◌, Bool, true, false, ◌||◌, List, [], ◌∷◌, ◌++◌, Option, Some, None, cond, refl, sym, ap, ◌∙◌, subst, arith, append_assoc}
+use Rattle.std.specs.Option.{option_and_then}
+use Rattle.std.specs.Str.{bytes_eq}
+use Rattle.bk_base.specs.declared.limit.TheConstants.{FRAME_WORDS}
+use Rattle.bk_syntax.specs.declared.tree.Operator.{Operator}
+use Rattle.bk_syntax.specs.declared.tree.Operator.TheVariants as o
+use Rattle.bk_syntax.specs.Tree as t
+use Rattle.bk_syntax.specs.Tree.{Expression, Expressions, Action, Actions}
+use Rattle.bk_scope.specs.declared.bound.Bound.{Bound}
+use Rattle.bk_scope.specs.declared.bound.Bound.TheVariants as b
+use Rattle.bk_scope.specs.declared.place.Place.{Place}
+use Rattle.bk_scope.specs.declared.role.Role.{Role}
+use Rattle.bk_scope.specs.declared.role.Role.TheVariants.{Value, Truth}
+use Rattle.bk_scope.specs.Scope.{Binding, bound_in}
+use Rattle.bk_scope.specs.Constants.{named_word, prefix_word, infix_word, constant_word}
+use Rattle.bk_scope.specs.Places.{deeper}
+use Rattle.bk_scope.specs.Spots.{Spot}
+use Rattle.bk_ocode.specs.Depth.{next_depth}
+use Rattle.bk_ocode.specs.OcodeState.{Placed}
+use Rattle.bk_ocode.specs.SectionData.{item_words}
+use Rattle.bk_ocode.specs.declared.stmt.Dyadic.TheVariants as two
+use Rattle.bk_ocode.specs.declared.stmt.Monadic.TheVariants as w
+use Rattle.bk_ocode.specs.declared.stmt.Stmt.{Stmt}
+use Rattle.bk_ocode.specs.declared.stmt.Stmt.TheVariants.{JumpIf, Monadic, Dyadic, LoadByte}
+use Rattle.bk_trans.specs.declared.around.Target.{Target}
+use Rattle.bk_trans.specs.Program as term
+use Rattle.bk_trans.specs.Naming.{term_named, condition_named}
+use Rattle.bk_trans.specs.Parts.{Part, target_of, parts, parts_if}
+use Rattle.bk_trans.specs.Scheme.{goal, goal_of, push, infix_code, truth_value, value_code, jump_code, procedure_code, data_code}
+use Rattle.bk_meaning.specs.Environment.{Named, Sense, constant, label, Environment, sense_in, word_named, constant_in}
+use Rattle.bk_meaning.specs.Seeking.{Sought, the_label, the_case, the_default, same_place, is_label, stands_in, stands_in_one}
+use Rattle.bk_simulation.proofs.Sought.{with_names}
+use Rattle.bk_simulation.proofs.Laid.{Setting, Scene, Aim, pushes, jumps, ending}
+use Rattle.bk_meaning.specs.Lasting.{Lasting}
+use Rattle.bk_simulation.proofs.Standing.{Agree, StandsAt, passed, Home, Fitting, no_bases, Lies}
+
+-- what the scheme gives for a value and for a jump
+abbrev pub coded : Scene → Place → Spot → ℕ → ℕ → Aim → Expression → List Stmt
+coded sc p s d n pushes e = value_code sc.targets d n (term_named sc.bindings p s e)
+coded sc p s d n (jumps u l) e = jump_code sc.targets d n (condition_named sc.bindings p s e) u l
+
+abbrev pub own_parts : Scene → Place → Spot → ℕ → ℕ → Aim → Expression → List Part
+own_parts sc p s d n pushes e = parts d n (term_named sc.bindings p s e)
+own_parts sc p s d n (jumps u l) e = parts_if d n (condition_named sc.bindings p s e)
+
+abbrev pub role : Aim → Role
+role pushes = Value
+role (jumps u l) = Truth
+
+abbrev pub level : Aim → ℕ → ℕ
+level pushes d = d + 1
+level (jumps u l) d = d
+
+-- targets that are found by their numbers
+abbrev pub AllFound : List Target → List Target → Type 0
+AllFound ts [] = Unit {0}
+AllFound ts (x ∷ xs) = (goal_of ts x.number ≡ goal x.label x.depth) × AllFound ts xs
+
+-- code that stands somewhere in a section, whatever the depth before it
+pub record StandsIn (own : Placed) (code : List Stmt) : Type 0 where
+  pub depth : ℕ
+  pub rest : List Stmt
+  pub stands : StandsAt own depth (code ++ rest)
+
+-- data that stand so, with no item behind them
+pub record DataIn (own : Placed) (code : List Stmt) : Type 0 where
+  pub depth : ℕ
+  pub rest : List Stmt
+  pub stands : StandsAt own depth (code ++ rest)
+  pub ends : item_words own.places rest ≡ []
+
+-- a part whose targets are found, and whose code and data stand in the section
+abbrev pub PartFound : Placed → List Target → Part → Type 0
+PartFound own ts x = AllFound ts (target_of x) × StandsIn own (procedure_code ts x) × DataIn own (data_code x)
+
+abbrev pub FoundParts : Placed → List Target → List Part → Type 0
+FoundParts own ts [] = Unit {0}
+FoundParts own ts (x ∷ xs) = PartFound own ts x × FoundParts own ts xs
+
+pub found_front : (own : Placed) (ts : List Target) (xs ys : List Part) → FoundParts own ts (xs ++ ys) → FoundParts own ts xs
+found_front own ts [] ys h = tt
+found_front own ts (x ∷ xs) ys h = (h.0, found_front own ts xs ys h.1)
+
+pub found_back : (own : Placed) (ts : List Target) (xs ys : List Part) → FoundParts own ts (xs ++ ys) → FoundParts own ts ys
+found_back own ts [] ys h = h
+found_back own ts (x ∷ xs) ys h = found_back own ts xs ys h.1
+
+-- names in scope whose constants are words
+abbrev pub HasWords : List Binding → Type 0
+HasWords bs = (x : List ℕ) (v : ℕ) → bound_in bs x ≡ Some (b.Constant (Some v)) → v < 2 ^ 32
+
+-- What stands around an expression: its procedure, its depth, and constants that are words.
+pub record Around (sc : Scene) (p : Place) (d : ℕ) : Type 0 where
+  pub same : p.procedure ≡ sc.procedure
+  pub at : p.depth ≡ d
+  pub words : HasWords sc.bindings
+
+pub around_deeper : (sc : Scene) (p : Place) (d k m : ℕ) → d + k ≡ m → m ≤ FRAME_WORDS → Around sc p d → Around sc (deeper k p) m
+around_deeper sc p d k m e low a =
+    let at = a.at in
+    record { same = a.same; at = omega (arith, at, e, low); words = a.words }
+
+-- ---- names
+
+pub constants_agree : (ns : List Named) (bs : List Binding) (i : ℕ) → Agree ns bs → (e : Expression) → constant_in (with_names ns i) e ≡ constant_word bs e
+constants_agree ns bs i a (t.name l x) = a x
+constants_agree ns bs i a (t.number l n) = refl
+constants_agree ns bs i a (t.text l x) = refl
+constants_agree ns bs i a (t.truth l b) = refl
+constants_agree ns bs i a (t.query l) = refl
+constants_agree ns bs i a (t.parens l e) = constants_agree ns bs i a e
+constants_agree ns bs i a (t.unary l f e) = ap (λ y. option_and_then (prefix_word f) y) (constants_agree ns bs i a e)
+constants_agree ns bs i a (t.binary l f m x y) =
+    ap (λ z. option_and_then (λ v. option_and_then (infix_word f v) (constant_in (with_names ns i) y)) z) (constants_agree ns bs i a x)
+    ∙ ap (λ z. option_and_then (λ v. option_and_then (infix_word f v) z) (constant_word bs x)) (constants_agree ns bs i a y)
+constants_agree ns bs i a (t.choice l m c x y) = refl
+constants_agree ns bs i a (t.apply l m f es) = refl
+constants_agree ns bs i a (t.valof l c) = refl
+constants_agree ns bs i a (t.table l es) = refl
+
+-- names by what is in scope
+abbrev pub sense_for : Bound → Sense
+sense_for (b.Constant (Some w)) = constant w
+sense_for _ = label
+
+abbrev pub names_of : List Binding → List Named
+names_of [] = []
+names_of (x ∷ xs) = record { name = x.name; sense = sense_for x.bound } ∷ names_of xs
+
+abbrev pub known : List Binding → Environment
+known bs = with_names (names_of bs) 0
+
+sense_agrees : (x : Bound) → word_named (Some (sense_for x)) ≡ named_word (Some x)
+sense_agrees (b.Constant (Some w)) = refl
+sense_agrees (b.Constant None) = refl
+sense_agrees (b.Global g) = refl
+sense_agrees (b.Static m) = refl
+sense_agrees (b.Variable j i) = refl
+sense_agrees (b.Label j m) = refl
+
+either_agrees : (q : Bool) (u v : Option Sense) (x y : Option Bound) → word_named u ≡ named_word x → word_named v ≡ named_word y → word_named (cond q u v) ≡ named_word (cond q x y)
+either_agrees true u v x y h i = h
+either_agrees false u v x y h i = i
+
+pub known_agree : (bs : List Binding) → Agree (names_of bs) bs
+known_agree [] y = refl
+known_agree (x ∷ xs) y = either_agrees (bytes_eq x.name y) (Some (sense_for x.bound)) (sense_in (names_of xs) y) (Some x.bound) (bound_in xs y) (sense_agrees x.bound) (known_agree xs y)
+
+-- What holds with names that agree, from this lasting object on.
+abbrev pub InNames : List Binding → ℕ → (Setting → Environment → Type 0) → Setting → Type 0
+InNames bs next P g = (ns : List Named) → Agree ns bs → P g (with_names ns next)
+
+-- seeking finds the same where constants are the same
+mutual
+  pub stands_by : (s : Sought) (u v : Environment) → ((e : Expression) → constant_in u e ≡ constant_in v e) → (c : Action) → stands_in s u c ≡ stands_in s v c
+  stands_by s u v f (t.label l x c) = ap (λ y. same_place s (the_label x) || y) (stands_by s u v f c)
+  stands_by s u v f (t.case_of l e c) =
+      ap (λ y. same_place s (the_case y) || stands_in s u c) (f e) ∙ ap (λ y. same_place s (the_case (constant_in v e)) || y) (stands_by s u v f c)
+  stands_by s u v f (t.default l c) = ap (λ y. same_place s the_default || y) (stands_by s u v f c)
+  stands_by s u v f (t.when l b e c) = stands_by s u v f c
+  stands_by s u v f (t.test l e a b) = ap (λ y. y || stands_in s u b) (stands_by s u v f a) ∙ ap (λ y. stands_in s v a || y) (stands_by s u v f b)
+  stands_by s u v f (t.while l b e c) = stands_by s u v f c
+  stands_by s u v f (t.switch l e c) = ap (λ y. cond (is_label s) y false) (stands_by s u v f c)
+  stands_by s u v f (t.block l t.no_declarations cs) = stands_one_by s u v f cs
+  stands_by s u v f (t.repeat l c) = stands_by s u v f c
+  stands_by s u v f (t.repeat_while l b c e) = stands_by s u v f c
+  stands_by s u v f _ = refl
+
+  pub stands_one_by : (s : Sought) (u v : Environment) → ((e : Expression) → constant_in u e ≡ constant_in v e) → (cs : Actions) → stands_in_one s u cs ≡ stands_in_one s v cs
+  stands_one_by s u v f t.no_actions = refl
+  stands_one_by s u v f (t.also c cs) = ap (λ y. y || stands_in_one s u cs) (stands_by s u v f c) ∙ ap (λ y. stands_in s v c || y) (stands_one_by s u v f cs)
+
+pub stands_agree : (s : Sought) (ns : List Named) (bs : List Binding) (i : ℕ) → Agree ns bs → (c : Action) → stands_in s (with_names ns i) c ≡ stands_in s (known bs) c
+stands_agree s ns bs i a c = stands_by s (with_names ns i) (known bs) (λ e. constants_agree ns bs i a e ∙ sym (constants_agree (names_of bs) bs 0 (known_agree bs) e)) c
+
+pub stands_one_agree : (s : Sought) (ns : List Named) (bs : List Binding) (i : ℕ) → Agree ns bs → (cs : Actions) → stands_in_one s (with_names ns i) cs ≡ stands_in_one s (known bs) cs
+stands_one_agree s ns bs i a cs = stands_one_by s (with_names ns i) (known bs) (λ e. constants_agree ns bs i a e ∙ sym (constants_agree (names_of bs) bs 0 (known_agree bs) e)) cs
+
+-- ---- expressions that have no jumps of their own
+
+pub plain_code : (sc : Scene) (p : Place) (s : Spot) (d n : ℕ) (aim : Aim) (e : Expression) (c rest : List Stmt) → condition_named sc.bindings p s e ≡ term.holds (term_named sc.bindings p s e)
+    → c ≡ coded sc p s d n aim e ++ rest → c ≡ value_code sc.targets d n (term_named sc.bindings p s e) ++ ending aim rest
+plain_code sc p s d n pushes e c rest h k = k
+plain_code sc p s d n (jumps u l) e c rest h k =
+    k ∙ ap (λ x. jump_code sc.targets d n x u l ++ rest) h ∙ append_assoc (value_code sc.targets d n (term_named sc.bindings p s e)) (JumpIf u l ∷ []) rest
+
+pub plain_parts : (sc : Scene) (p : Place) (s : Spot) (d n : ℕ) (aim : Aim) (e : Expression) → condition_named sc.bindings p s e ≡ term.holds (term_named sc.bindings p s e)
+    → FoundParts sc.own sc.targets (own_parts sc p s d n aim e) → FoundParts sc.own sc.targets (parts d n (term_named sc.bindings p s e))
+plain_parts sc p s d n pushes e h f = f
+plain_parts sc p s d n (jumps u l) e h f = subst (λ x. FoundParts sc.own sc.targets (parts_if d n x)) h f
+
+-- behind the value, and the jump if it is one
+pub ended : (own : Placed) (d : ℕ) (aim : Aim) (rest : List Stmt) → StandsAt own (d + 1) (ending aim rest) → StandsAt own (level aim d) rest
+ended own d pushes rest h = h
+ended own d (jumps u l) rest h = passed own (d + 1) d (JumpIf u l) rest h (omega arith)
+
+pub lies_ended : (h : Home) (next many d : ℕ) (aim : Aim) (rest : List Stmt) {L : List Named → List Lasting} (P : Setting → Type 0) → Lies h next many (d + 1) (ending aim rest) L P → Lies h next many (level aim d) rest L P
+lies_ended h next many d aim rest P a = record { on = ended h.own d aim rest a.on; objects_are = a.objects_are }
+
+-- one statement that pushes
+pub leaf_on : (own : Placed) (d : ℕ) (aim : Aim) (c rest : List Stmt) (x : Stmt) → c ≡ x ∷ ending aim rest → next_depth d x ≡ d + 1 → StandsAt own d c → StandsAt own (level aim d) rest
+leaf_on own d aim c rest x e m st = ended own d aim rest (passed own d (d + 1) x (ending aim rest) (subst (λ y. StandsAt own d y) e st) m)
+
+pub leaf_lies : (h : Home) (next d : ℕ) (aim : Aim) (c rest : List Stmt) (x : Stmt) (P : Setting → Type 0) → c ≡ x ∷ ending aim rest → next_depth d x ≡ d + 1 → StandsAt h.own d c
+    → ((g : Setting) → Fitting h g → P g) → Lies h next 0 (level aim d) rest (λ ns. []) P
+leaf_lies h next d aim c rest x P e m st f = record { on = leaf_on h.own d aim c rest x e m st; objects_are = no_bases h next P f }
+
+pub pushed_depth : (ts : List Target) (k : ℕ) (x : Bound) → next_depth k (push ts x) ≡ k + 1
+pushed_depth ts k (b.Constant None) = refl
+pushed_depth ts k (b.Constant (Some w)) = refl
+pushed_depth ts k (b.Global None) = refl
+pushed_depth ts k (b.Global (Some g)) = refl
+pushed_depth ts k (b.Static m) = refl
+pushed_depth ts k (b.Variable j i) = refl
+pushed_depth ts k (b.Label j m) = refl
+
+pub truth_depth : (k : ℕ) (x : Bool) → next_depth k (truth_value x) ≡ k + 1
+truth_depth k true = refl
+truth_depth k false = refl
+
+-- an operator takes two items and gives one
+pub infix_on : (own : Placed) (f : Operator) (d : ℕ) (rest : List Stmt) → StandsAt own (d + 1 + 1) (infix_code f ++ rest) → StandsAt own (d + 1) rest
+infix_on own o.Subscript d rest h = passed own (d + 1) (d + 1) (Monadic w.Contents) rest (passed own (d + 1 + 1) (d + 1) (Dyadic two.Add) (Monadic w.Contents ∷ rest) h (omega arith)) refl
+infix_on own o.Byte d rest h = passed own (d + 1 + 1) (d + 1) LoadByte rest h (omega arith)
+infix_on own o.Times d rest h = passed own (d + 1 + 1) (d + 1) _ rest h (omega arith)
+infix_on own o.Over d rest h = passed own (d + 1 + 1) (d + 1) _ rest h (omega arith)
+infix_on own o.Rem d rest h = passed own (d + 1 + 1) (d + 1) _ rest h (omega arith)
+infix_on own o.Add d rest h = passed own (d + 1 + 1) (d + 1) _ rest h (omega arith)
+infix_on own o.Subtract d rest h = passed own (d + 1 + 1) (d + 1) _ rest h (omega arith)
+infix_on own o.Equal d rest h = passed own (d + 1 + 1) (d + 1) _ rest h (omega arith)
+infix_on own o.Unequal d rest h = passed own (d + 1 + 1) (d + 1) _ rest h (omega arith)
+infix_on own o.Less d rest h = passed own (d + 1 + 1) (d + 1) _ rest h (omega arith)
+infix_on own o.Greater d rest h = passed own (d + 1 + 1) (d + 1) _ rest h (omega arith)
+infix_on own o.AtMost d rest h = passed own (d + 1 + 1) (d + 1) _ rest h (omega arith)
+infix_on own o.AtLeast d rest h = passed own (d + 1 + 1) (d + 1) _ rest h (omega arith)
+infix_on own o.ShiftLeft d rest h = passed own (d + 1 + 1) (d + 1) _ rest h (omega arith)
+infix_on own o.ShiftRight d rest h = passed own (d + 1 + 1) (d + 1) _ rest h (omega arith)
+infix_on own o.Both d rest h = passed own (d + 1 + 1) (d + 1) _ rest h (omega arith)
+infix_on own o.Either d rest h = passed own (d + 1 + 1) (d + 1) _ rest h (omega arith)
+infix_on own o.Same d rest h = passed own (d + 1 + 1) (d + 1) _ rest h (omega arith)
+infix_on own o.Differ d rest h = passed own (d + 1 + 1) (d + 1) _ rest h (omega arith)
+
+-- codes one behind the other, with what follows
+pub joined_two : (x y r c : List Stmt) → c ≡ (x ++ y) ++ r → c ≡ x ++ (y ++ r)
+joined_two x y r c e = e ∙ append_assoc x y r
+
+pub joined_three : (x y z r c : List Stmt) → c ≡ (x ++ y ++ z) ++ r → c ≡ x ++ (y ++ (z ++ r))
+joined_three x y z r c e = e ∙ append_assoc (x ++ y) z r ∙ append_assoc x y (z ++ r)

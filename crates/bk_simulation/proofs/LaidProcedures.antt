@@ -1,0 +1,314 @@
+-- Procedures are laid where the scheme puts them, where their bodies are: their ENTRY and SAVE, and what their formals are.
+use Rattle.std.proofs.Common.{◌≡◌, ℕ, zero, suc, ◌+◌, ◌-◌, ◌<◌, ◌≤◌, ◌^◌, Bool, true, false, List, [], ◌∷◌, ◌++◌, length, Option, Some, None, cond, refl, sym, ap, ap₂, ◌∙◌, subst, arith, append_assoc, slice_get, drop}
+use Rattle.std.proofs.lemmas.Bool.{false≢true}
+use Rattle.std.proofs.lemmas.Slice.Eq.{bytes_eq-Decides}
+use Rattle.std.specs.Str.{bytes_eq}
+use Rattle.bk_base.specs.declared.limit.TheConstants.{FRAME_WORDS, GLOBAL_NUMBER}
+use Rattle.bk_base.specs.Strings.{first_bytes}
+use Rattle.bk_syntax.specs.Tree.{Mention, Expression, Action}
+use Rattle.bk_scope.specs.declared.bound.Bound.{Bound}
+use Rattle.bk_scope.specs.declared.bound.Bound.TheVariants as b
+use Rattle.bk_scope.specs.declared.place.Place.{Place}
+use Rattle.bk_scope.specs.Scope.{Binding, bound_in, bind}
+use Rattle.bk_scope.specs.Constants.{named_word}
+use Rattle.bk_scope.specs.Entering.{labels_of, with_formals}
+use Rattle.bk_scope.specs.Places as place
+use Rattle.bk_scope.specs.Places.{kept}
+use Rattle.bk_scope.specs.Scoping.{labels_in_scope}
+use Rattle.bk_scope.specs.Sound.{Callable}
+use Rattle.bk_scope.specs.Spots as spot
+use Rattle.bk_scope.specs.Spots.{Spot}
+use Rattle.bk_ocode.specs.Depth.{next_depth, depth_behind}
+use Rattle.bk_ocode.specs.Lists.{joined}
+use Rattle.bk_ocode.specs.OcodeState.{Placed, global_place}
+use Rattle.bk_ocode.specs.SectionData.{item_words}
+use Rattle.bk_ocode.specs.declared.stmt.Stmt.{Stmt}
+use Rattle.bk_ocode.specs.declared.stmt.Stmt.TheVariants.{Entry, Save, Return, ReturnItem, EndProcedure, DataLabel, DataAddress}
+use Rattle.bk_trans.specs.declared.around.Target.{Target}
+use Rattle.bk_trans.specs.Program as term
+use Rattle.bk_trans.specs.Labels.{labels_of_procedure}
+use Rattle.bk_trans.specs.Naming.{meant, term_named, command_named}
+use Rattle.bk_trans.specs.Parts.{procedure}
+use Rattle.bk_trans.specs.Scheme.{variable, outermost, value_code, command_code, procedure_code, word_code}
+use Rattle.bk_meaning.specs.Environment.{Named, Environment, cell, foreign, bind_each, sense_in, word_named, global_named, letters, objects, objects_of_action}
+use Rattle.bk_meaning.specs.Environment as m
+use Rattle.bk_meaning.specs.Lasting.{Body, command, expression, Lasting, code, of_action, of_expression, in_scope}
+use Rattle.bk_meaning.specs.Calls.{bind_formals}
+use Rattle.bk_simulation.proofs.Memory.{BaseOf, Grown}
+use Rattle.bk_simulation.proofs.Sizes.{turns_of, turns_in}
+use Rattle.bk_simulation.proofs.Sought.{with_names}
+use Rattle.bk_simulation.proofs.Laid.{Setting, Scene, pushes, IsCode, IsAlone, place_of, IsWord, NamedIn}
+use Rattle.bk_simulation.proofs.NamesBound.{bound_named}
+use Rattle.bk_simulation.proofs.Procedures.{IsBody, IsProcedure}
+use Rattle.bk_simulation.proofs.Held.{InData, HeldWord, HeldList}
+use Rattle.bk_simulation.proofs.HeldData.{statement_data}
+use Rattle.bk_simulation.proofs.Standing.{Follow, FollowWords, Agree, AgreeGlobals, global_of, there_in, bases_inside, bases_of, StandsAt, first_of, passed, written, Home, home, Suits, Bases, bases_so, Lies}
+use Rattle.bk_simulation.proofs.LaidExpressions.{StandsIn, DataIn, HasWords, Around, InNames, joined_two}
+use Rattle.bk_simulation.proofs.LaidCommands.{Doing, Done, words_labels, names_bound, alone_lies}
+
+-- ---- along a section
+
+-- behind more statements
+pub all_passed : (own : Placed) (d : ℕ) (xs c : List Stmt) → StandsAt own d (xs ++ c) → StandsAt own (depth_behind d xs) c
+all_passed own d [] c h = h
+all_passed own d (x ∷ xs) c h = all_passed own (next_depth d x) xs c (passed own d (next_depth d x) x (xs ++ c) h refl)
+
+-- each of some parts has its code there
+pub part_stands : {A : Type 0} (own : Placed) (f : A → List Stmt) (d : ℕ) (xs : List A) (rest : List Stmt) (k : ℕ) (x : A) → StandsAt own d (joined f xs ++ rest) → slice_get xs k ≡ Some x → StandsIn own (f x)
+part_stands own f d [] rest k x h e = absurd (cc)
+part_stands own f d (y ∷ ys) rest zero x h e =
+    let same : y ≡ x = (let g : Some y ≡ Some x = e in cc) in
+    subst (λ z. StandsIn own (f z)) same (record { depth = d; rest = joined f ys ++ rest; stands = written own d _ _ (append_assoc (f y) (joined f ys) rest) h })
+part_stands own f d (y ∷ ys) rest (suc k) x h e =
+    part_stands own f (depth_behind d (f y)) ys rest k x (all_passed own d (f y) (joined f ys ++ rest) (written own d _ _ (append_assoc (f y) (joined f ys) rest) h)) e
+
+-- ---- formals
+
+pub words_formals : (j d : ℕ) (fs : List Mention) (bs : List Binding) → HasWords bs → HasWords (with_formals j d fs bs)
+words_formals j d [] bs h = h
+words_formals j d (x ∷ xs) bs h = words_formals j (kept (d + 1)) xs (bind x.letters (b.Variable j d) bs) (λ y v e. picked (bytes_eq x.letters y) y v e)
+  where
+    picked : (q : Bool) (y : List ℕ) (v : ℕ) → cond q (Some (b.Variable j d)) (bound_in bs y) ≡ Some (b.Constant (Some v)) → v < 2 ^ 32
+    picked true y v e = absurd (cc)
+    picked false y v e = h y v e
+
+-- formals hide constants in the same way here and there
+pub agree_formals : (j d o k : ℕ) (fs : List Mention) (ns : List Named) (bs : List Binding) (i : ℕ) → Agree ns bs
+    → Agree (bind_formals o k (letters fs) (with_names ns i)).names (with_formals j d fs bs) × ((bind_formals o k (letters fs) (with_names ns i)).next ≡ i)
+agree_formals j d o k [] ns bs i a = (a, refl)
+agree_formals j d o k (x ∷ xs) ns bs i a = agree_formals j (kept (d + 1)) o (suc k) xs (record { name = x.letters; sense = cell o k } ∷ ns) (bind x.letters (b.Variable j d) bs) i (λ y. picked (bytes_eq x.letters y) y)
+  where
+    picked : (q : Bool) (y : List ℕ) → word_named (cond q (Some (cell o k)) (sense_in ns y)) ≡ named_word (cond q (Some (b.Variable j d)) (bound_in bs y))
+    picked true y = refl
+    picked false y = a y
+
+-- formals are the words behind the links of the frame
+pub formals_named : (sc : Scene) (j o k d : ℕ) (fs : List Mention) (bs : List Binding) (env : Environment) (bases : List ℕ) (frame : ℕ) → d ≡ k + 2 → d + length fs ≤ FRAME_WORDS → BaseOf bases o (frame + 2)
+    → frame ≤ 2 ^ 31 - 65536 → NamedIn (record sc { bindings = bs }) env bases frame → NamedIn (record sc { bindings = with_formals j d fs bs }) (bind_formals o k (letters fs) env) bases frame
+formals_named sc j o k d [] bs env bases frame e few base low n = n
+formals_named sc j o k d (x ∷ xs) bs env bases frame e few base low n =
+    let same : kept (d + 1) ≡ suc k + 2 = omega (arith, e, few) in
+    let less : kept (d + 1) + length xs ≤ FRAME_WORDS = omega (arith, e, few) in
+    let small : frame + 2 + k < 2 ^ 32 = omega (arith, e, few, low) in
+    let there : frame + 2 + k ≡ frame + d = omega (arith, e) in
+    let mine : bound_in (bind x.letters (b.Variable j d) bs) x.letters ≡ Some (b.Variable j d) = ap (λ q. cond q (Some (b.Variable j d)) (bound_in bs x.letters)) ((bytes_eq-Decides x.letters x.letters).1 refl) in
+    formals_named sc j o (suc k) (kept (d + 1)) xs (bind x.letters (b.Variable j d) bs) (m.bind x.letters (cell o k) env) bases frame same less base low
+    (bound_named (record sc { bindings = bs }) env bases frame x.letters (b.Variable j d) (cell o k)
+    (frame + 2, base, small, there ∙ ap (λ y. place_of sc.own frame (variable sc.targets (meant y))) (sym mine), subst (λ y. IsWord y) (sym mine) tt) n)
+
+-- formals are foreign before the run, and hide constants as they do in it
+foreign_agree : (j d : ℕ) (fs : List Mention) (ns : List Named) (bs : List Binding) → Agree ns bs → Agree (bind_each (letters fs) foreign (with_names ns 0)).names (with_formals j d fs bs)
+foreign_agree j d [] ns bs a = a
+foreign_agree j d (x ∷ xs) ns bs a = foreign_agree j (kept (d + 1)) xs (record { name = x.letters; sense = foreign } ∷ ns) (bind x.letters (b.Variable j d) bs) (λ y. picked (bytes_eq x.letters y) y)
+  where
+    picked : (q : Bool) (y : List ℕ) → word_named (cond q (Some foreign) (sense_in ns y)) ≡ named_word (cond q (Some (b.Variable j d)) (bound_in bs y))
+    picked true y = refl
+    picked false y = a y
+
+foreign_globals : (j d : ℕ) (fs : List Mention) (ns : List Named) (bs : List Binding) → AgreeGlobals ns bs → AgreeGlobals (bind_each (letters fs) foreign (with_names ns 0)).names (with_formals j d fs bs)
+foreign_globals j d [] ns bs a = a
+foreign_globals j d (x ∷ xs) ns bs a = foreign_globals j (kept (d + 1)) xs (record { name = x.letters; sense = foreign } ∷ ns) (bind x.letters (b.Variable j d) bs) (λ y. picked (bytes_eq x.letters y) y)
+  where
+    picked : (q : Bool) (y : List ℕ) → global_named (cond q (Some foreign) (sense_in ns y)) ≡ global_of (cond q (Some (b.Variable j d)) (bound_in bs y))
+    picked true y = refl
+    picked false y = a y
+
+foreign_named : (sc : Scene) (j d : ℕ) (fs : List Mention) (bs : List Binding) (env : Environment) (bases : List ℕ) (frame : ℕ) → NamedIn (record sc { bindings = bs }) env bases frame
+    → NamedIn (record sc { bindings = with_formals j d fs bs }) (bind_each (letters fs) foreign env) bases frame
+foreign_named sc j d [] bs env bases frame n = n
+foreign_named sc j d (x ∷ xs) bs env bases frame n =
+    foreign_named sc j (kept (d + 1)) xs (bind x.letters (b.Variable j d) bs) (m.bind x.letters foreign env) bases frame (bound_named (record sc { bindings = bs }) env bases frame x.letters (b.Variable j d) foreign tt n)
+
+formals_around : (pay section : ℕ) (own : Placed) (ts : List Target) (bs : List Binding) (k : ℕ) (fs : List Mention) (i many : ℕ) (L : List Named → List Lasting) (P : Setting → Type 0)
+    → Bases (record { section = section; own = own; targets = ts; bindings = with_formals k 2 fs bs; pay = pay }) i many L P
+    → Bases (record { section = section; own = own; targets = ts; bindings = bs; pay = pay }) i many (λ ns. L ((bind_each (letters fs) foreign (with_names ns 0)).names)) P
+formals_around pay section own ts bs k fs i many L P a =
+    let h : Home = record { section = section; own = own; targets = ts; bindings = bs; pay = pay } in
+    bases_inside h (with_formals k 2 fs bs) i many P (λ ns. (bind_each (letters fs) foreign (with_names ns 0)).names)
+    (λ g ns u v. (foreign_agree k 2 fs ns bs u, ((λ q bases frame grown. record { each = (foreign_named (there_in h q) k 2 fs bs (with_names ns 0) bases frame (v.0 q bases frame grown)).each }), foreign_globals k 2 fs ns bs v.1))) a
+
+-- ---- procedures
+
+-- where the body of procedure k stands
+abbrev pub scene_of : ℕ → Placed → List Target → List Binding → ℕ → Scene
+scene_of section own ts bs k = record { section = section; own = own; targets = ts; bindings = bs; procedure = k; around = outermost; exits = record { loop = false; switch = false } }
+
+-- what lasts in a body
+abbrev pub of_body : Body → Environment → List Lasting
+of_body (command a) env = of_action (in_scope a env) a
+of_body (expression e) env = of_expression env e
+
+-- A procedure that is laid: its ENTRY with this label, its SAVE, and its body, with formals that are any object.
+pub record ProcedureLies (pay section : ℕ) (own : Placed) (ts : List Target) (bs : List Binding) (k : ℕ) (fs : List Mention) (i many : ℕ) (body : Body) (n : ℕ) : Type 0 where
+  pub place : ℕ
+  pub name : List ℕ
+  pub at : slice_get own.stmts place ≡ Some (Entry n name)
+  pub code : List Stmt
+  pub behind : drop (suc place) own.stmts ≡ Save (length fs + 2) ∷ code
+  pub few : length fs + 2 ≤ FRAME_WORDS
+  pub objects_are : Bases (record { section = section; own = own; targets = ts; bindings = bs; pay = pay }) i many (λ ns. of_body body (bind_each (letters fs) foreign (with_names ns i)))
+      (λ g. (ns : List Named) → Agree ns bs → (o : ℕ) → IsBody g (scene_of section own ts (with_formals k 2 fs bs) k) (length fs + 2) (bind_formals o 0 (letters fs) (with_names ns i)) body code)
+
+pub routine_lies : (pay : ℕ) (section : ℕ) (own : Placed) (ts : List Target) (bs : List Binding) (s : Spot) (i : ℕ) (x : List ℕ) (fs : List Mention) (a : Action) (d n : ℕ) (y : Bound) (c rest : List Stmt) → HasWords bs
+    → turns_in a ≤ pay
+    → ((c0 r0 : List Stmt) → Doing (record (scene_of section own ts (with_formals s.number 2 fs bs) s.number) { bindings = labels_in_scope s.number (s.number + 2) (labels_of a) (with_formals s.number 2 fs bs) }) (place.labelled (s.number + 1) (place.called true s.number (length fs))) (length fs + 2) → c0 ≡ command_code ts outermost (length fs + 2) (n + labels_of_procedure y) (command_named (labels_in_scope s.number (s.number + 2) (labels_of a) (with_formals s.number 2 fs bs)) (place.labelled (s.number + 1) (place.called true s.number (length fs))) (spot.onward (1 + length fs) (2 + length (labels_of a)) s) a) ++ r0 → StandsAt own (length fs + 2) c0
+    → Done pay (record (scene_of section own ts (with_formals s.number 2 fs bs) s.number) { bindings = labels_in_scope s.number (s.number + 2) (labels_of a) (with_formals s.number 2 fs bs) }) i a (length fs + 2) (n + labels_of_procedure y) (command_named (labels_in_scope s.number (s.number + 2) (labels_of a) (with_formals s.number 2 fs bs)) (place.labelled (s.number + 1) (place.called true s.number (length fs))) (spot.onward (1 + length fs) (2 + length (labels_of a)) s) a) c0 r0)
+    → c ≡ procedure_code ts (procedure n (term.routine y x (length fs) (command_named (labels_in_scope s.number (s.number + 2) (labels_of a) (with_formals s.number 2 fs bs)) (place.labelled (s.number + 1) (place.called true s.number (length fs)))
+    (spot.onward (1 + length fs) (2 + length (labels_of a)) s) a))) ++ rest
+    → StandsAt own d c → ProcedureLies pay section own ts bs s.number fs i (objects_of_action a) (command a) n
+routine_lies pay section own ts bs s i x fs a d n y c rest words m laid k st =
+    let inner = with_formals s.number 2 fs bs in
+    let h1 : Home = record { section = section; own = own; targets = ts; bindings = bs; pay = pay } in
+    let sc = scene_of section own ts inner s.number in
+    let within : Scene = record sc { bindings = labels_in_scope s.number (s.number + 2) (labels_of a) inner } in
+    let p1 : Place = place.labelled (s.number + 1) (place.called true s.number (length fs)) in
+    let s1 : Spot = spot.onward (1 + length fs) (2 + length (labels_of a)) s in
+    let named = command_named within.bindings p1 s1 a in
+    let first = n + labels_of_procedure y in
+    let depth = length fs + 2 in
+    let code = command_code ts outermost depth first named in
+    let tail = EndProcedure ∷ rest in
+    let body = code ++ (Return ∷ tail) in
+    let k1 : c ≡ Entry n (first_bytes x) ∷ Save depth ∷ body = joined_two (Entry n (first_bytes x) ∷ Save depth ∷ code) (Return ∷ EndProcedure ∷ []) rest c k in
+    let st1 = written own d c (Entry n (first_bytes x) ∷ Save depth ∷ body) k1 st in
+    let entry = first_of own.stmts st1.place (Entry n (first_bytes x)) (Save depth ∷ body) st1.behind in
+    let st3 = passed own 2 depth (Save depth) body (passed own d 2 (Entry n (first_bytes x)) (Save depth ∷ body) st1 refl) refl in
+    let few = st3.shallow in
+    let doing : Doing within p1 depth = record {
+      around = record { same = refl; at = omega (arith, few); words = words_labels s.number (s.number + 2) (labels_of a) inner (words_formals s.number 2 fs bs words) };
+      loop = λ e. absurd (false≢true e);
+      switch = λ e. absurd (false≢true e);
+      valof = λ e. absurd (false≢true e);
+    } in
+    let done = laid body (Return ∷ tail) doing refl st3 in
+    let lies = alone_lies pay sc i a depth first named body (Return ∷ tail) (s.number + 2) s.number refl m done in
+    record {
+      place = st1.place;
+      name = first_bytes x;
+      at = entry.at;
+      code = body;
+      behind = entry.behind;
+      few = few;
+      objects_are = bases_so h1 i _ _ _ (λ g z v ns u o.
+          let e = agree_formals s.number 2 o 0 fs ns bs i u in
+          let env = bind_formals o 0 (letters fs) (with_names ns i) in
+          (s.number + 2, tail, subst (λ j. IsAlone g sc depth (with_names env.names j) a (s.number + 2) body (Return ∷ tail)) (sym e.1) (v env.names e.0))) (bases_of h1 i _ _ (λ ns. of_action (in_scope a (bind_each (letters fs) foreign (with_names ns i))) a) _ (λ ns. ap (λ y. of_action (in_scope a y) a) (sym (names_bound (letters fs) foreign ns i))) (formals_around pay section own ts bs s.number fs i _ _ _ lies.objects_are));
+    }
+
+pub function_lies : (pay : ℕ) (section : ℕ) (own : Placed) (ts : List Target) (bs : List Binding) (s : Spot) (i : ℕ) (x : List ℕ) (fs : List Mention) (e : Expression) (d n : ℕ) (y : Bound) (c rest : List Stmt) → HasWords bs
+    → turns_of e ≤ pay
+    → ((c0 r0 : List Stmt) → Around (scene_of section own ts (with_formals s.number 2 fs bs) s.number) (place.called false s.number (length fs)) (length fs + 2) → c0 ≡ value_code ts (length fs + 2) (n + labels_of_procedure y) (term_named (with_formals s.number 2 fs bs) (place.called false s.number (length fs)) (spot.onward (1 + length fs) 1 s) e) ++ r0 → StandsAt own (length fs + 2) c0
+    → Lies (home (scene_of section own ts (with_formals s.number 2 fs bs) s.number) pay) i (objects e) (length fs + 2 + 1) r0 (λ ns. of_expression (with_names ns i) e) (InNames (with_formals s.number 2 fs bs) i (λ g env. IsCode g (scene_of section own ts (with_formals s.number 2 fs bs) s.number) (length fs + 2) env pushes e c0 r0)))
+    → c ≡ procedure_code ts (procedure n (term.function y x (length fs) (term_named (with_formals s.number 2 fs bs) (place.called false s.number (length fs)) (spot.onward (1 + length fs) 1 s) e))) ++ rest
+    → StandsAt own d c → ProcedureLies pay section own ts bs s.number fs i (objects e) (expression e) n
+function_lies pay section own ts bs s i x fs e d n y c rest words m laid k st =
+    let inner = with_formals s.number 2 fs bs in
+    let h1 : Home = record { section = section; own = own; targets = ts; bindings = bs; pay = pay } in
+    let sc = scene_of section own ts inner s.number in
+    let p1 : Place = place.called false s.number (length fs) in
+    let s1 : Spot = spot.onward (1 + length fs) 1 s in
+    let first = n + labels_of_procedure y in
+    let depth = length fs + 2 in
+    let code = value_code ts depth first (term_named inner p1 s1 e) in
+    let tail = EndProcedure ∷ rest in
+    let body = code ++ (ReturnItem ∷ tail) in
+    let k1 : c ≡ Entry n (first_bytes x) ∷ Save depth ∷ body = joined_two (Entry n (first_bytes x) ∷ Save depth ∷ code) (ReturnItem ∷ EndProcedure ∷ []) rest c k in
+    let st1 = written own d c (Entry n (first_bytes x) ∷ Save depth ∷ body) k1 st in
+    let entry = first_of own.stmts st1.place (Entry n (first_bytes x)) (Save depth ∷ body) st1.behind in
+    let st3 = passed own 2 depth (Save depth) body (passed own d 2 (Entry n (first_bytes x)) (Save depth ∷ body) st1 refl) refl in
+    let few = st3.shallow in
+    let around : Around sc p1 depth = record { same = refl; at = omega (arith, few); words = words_formals s.number 2 fs bs words } in
+    let lies = laid body (ReturnItem ∷ tail) around refl st3 in
+    record {
+      place = st1.place;
+      name = first_bytes x;
+      at = entry.at;
+      code = body;
+      behind = entry.behind;
+      few = few;
+      objects_are = bases_so h1 i _ _ _ (λ g z v ns u o.
+          let q = agree_formals s.number 2 o 0 fs ns bs i u in
+          let env = bind_formals o 0 (letters fs) (with_names ns i) in
+          let pays = z.pays in
+          (tail, subst (λ j. IsCode g sc depth (with_names env.names j) pushes e body (ReturnItem ∷ tail)) (sym q.1) (v env.names q.0), omega (arith, pays, m))) (bases_of h1 i _ _ (λ ns. of_expression (bind_each (letters fs) foreign (with_names ns i)) e) _ (λ ns. ap (λ y. of_expression y e) (sym (names_bound (letters fs) foreign ns i))) (formals_around pay section own ts bs s.number fs i _ _ _ lies.objects_are));
+    }
+
+letters_length : (fs : List Mention) → length (letters fs) ≡ length fs
+letters_length [] = refl
+letters_length (x ∷ xs) = ap (λ k. suc k) (letters_length xs)
+
+-- So a procedure whose outer names mean what they should is one of the program.
+pub procedure_is : (pay section : ℕ) (own : Placed) (ts : List Target) (bs : List Binding) (k : ℕ) (fs : List Mention) (i many : ℕ) (body : Body) (n : ℕ) (p : ProcedureLies pay section own ts bs k fs i many body n) (g : Setting) (number : ℕ)
+    (ns : List Named) (global : Option ℕ) → Suits (record { section = section; own = own; targets = ts; bindings = bs; pay = pay }) i p.objects_are.bases p.objects_are.entries g → Agree ns bs → g.codes.procedure number ≡ own.places.label n
+    → ((bases : List ℕ) (frame : ℕ) → Grown g.lasting bases → NamedIn (scene_of section own ts bs k) (with_names ns i) bases frame)
+    → IsProcedure g number (record { formals = letters fs; body = body; env = with_names ns i; global = global })
+procedure_is pay section own ts bs k fs i many body n p g number ns global suits agrees word outer =
+    let sc = scene_of section own ts (with_formals k 2 fs bs) k in
+    let same = letters_length fs in
+    let few = p.few in
+    record {
+      scene = sc;
+      is_own = suits.fits.own;
+      place = p.place;
+      label = n;
+      name = p.name;
+      at = p.at;
+      body = p.code;
+      behind = subst (λ z. drop (suc p.place) own.stmts ≡ Save (z + 2) ∷ p.code) (sym same) p.behind;
+      word = word;
+      few = omega (arith, few, same);
+      laid = λ o above. subst (λ z. IsBody g sc (z + 2) (bind_formals o 0 (letters fs) (with_names ns i)) body p.code) (sym same) (p.objects_are.laid g suits ns agrees o);
+      names = λ o frame bases grown base low. formals_named (scene_of section own ts bs k) k o 0 2 fs bs (with_names ns i) bases frame refl (omega (arith, few)) base low (outer bases frame grown);
+    }
+
+-- ---- what lasts of a procedure
+
+-- the base of its object: its word, or its entry where it sets a global
+abbrev pub word_base : Placed → ℕ → Bound → ℕ
+word_base own n (b.Static m) = own.places.label (n + 1)
+word_base own n _ = own.places.label n
+
+-- its word
+word_held : (g : Setting) (section : ℕ) (own : Placed) (n number place : ℕ) (name : List ℕ) (y : Option Bound) → slice_get g.program.sections section ≡ Some own → slice_get own.stmts place ≡ Some (Entry n name)
+    → g.codes.procedure number ≡ own.places.label n → Callable y → DataIn own (word_code n (meant y)) → BaseOf g.lasting number (word_base own n (meant y)) → HeldWord g number (global_of y)
+word_held g section own n number place name None is at word c d base = elim c [ ]
+word_held g section own n number place name (Some (b.Constant v)) is at word c d base = elim c [ ]
+word_held g section own n number place name (Some (b.Variable j v)) is at word c d base = elim c [ ]
+word_held g section own n number place name (Some (b.Label j v)) is at word c d base = elim c [ ]
+word_held g section own n number place name (Some (b.Global None)) is at word c d base = absurd (let h : None ≡ Some c.0 = c.1 in cc)
+word_held g section own n number place name (Some (b.Global (Some v))) is at word c d base =
+    let e = g.well.entries section place n own name is at in
+    (own.places.label n, base, (let l : global_place GLOBAL_NUMBER < own.places.label n = e.1 in omega (arith, l)), (let l : own.places.label n < g.first = e.2 in omega (arith, l)))
+word_held g section own n number place name (Some (b.Static m)) is at word c d base =
+    let items = DataAddress n ∷ d.rest in
+    let found = statement_data g.program section own d.depth (DataLabel (n + 1)) items (record { place = own.places.label (n + 1); words = item_words own.places items }) is d.stands refl in
+    (own.places.label (n + 1), base, subst (λ ws. InData g.program (own.places.label (n + 1)) ws) (ap₂ (λ x xs. x ∷ xs) (sym word) d.ends) found)
+
+-- A procedure and what lasts in its body.
+pub procedure_bases : (pay section : ℕ) (own : Placed) (ts : List Target) (bs : List Binding) (k : ℕ) (x : List ℕ) (fs : List Mention) (i many : ℕ) (body : Body) (n : ℕ) → ProcedureLies pay section own ts bs k fs (i + 1) many body n
+    → Callable (bound_in bs x) → DataIn own (word_code n (meant (bound_in bs x)))
+    → Bases (record { section = section; own = own; targets = ts; bindings = bs; pay = pay }) i (1 + many)
+    (λ ns. code (record { formals = letters fs; body = body; env = with_names ns (i + 1); global = global_named (sense_in ns x) }) ∷ of_body body (bind_each (letters fs) foreign (with_names ns (i + 1)))) (λ g. Unit {0})
+procedure_bases pay section own ts bs k x fs i many body n p callable word =
+    let o = p.objects_are in
+    let all = o.all in
+    let entries = o.all_entries in
+    let h : Home = record { section = section; own = own; targets = ts; bindings = bs; pay = pay } in
+    let next : suc i ≡ i + 1 = omega arith in
+    let inner : (g : Setting) → Suits h i (word_base own n (meant (bound_in bs x)) ∷ o.bases) (own.places.label n ∷ o.entries) g → Suits h (i + 1) o.bases o.entries g =
+        λ g s. record { fits = s.fits; follow = subst (λ z. Follow g.lasting z o.bases) next (s.follow.1); words = subst (λ z. FollowWords g.codes.procedure z o.entries) next (s.words.1) } in
+    record {
+      bases = word_base own n (meant (bound_in bs x)) ∷ o.bases;
+      entries = own.places.label n ∷ o.entries;
+      all = omega (arith, all);
+      all_entries = omega (arith, entries);
+      count = λ ns. let c = o.count ns in omega (arith, c);
+      laid = λ g s. tt;
+      held = λ g s ns u v. (
+        (
+          procedure_is pay section own ts bs k fs (i + 1) many body n p g i ns (global_named (sense_in ns x)) (inner g s) u s.words.0 (λ bases frame grown. record { each = (v.0 k bases frame grown).each }),
+          subst (λ y. HeldWord g i y) (sym (v.1 x)) (word_held g section own n i p.place p.name (bound_in bs x) s.fits.own p.at s.words.0 callable word s.follow.0)
+        ),
+        subst (λ z. HeldList g z (of_body body (bind_each (letters fs) foreign (with_names ns (i + 1))))) (sym next) (o.held g (inner g s) ns u v),
+      );
+    }

@@ -1,0 +1,333 @@
+-- The store before START is called fits what lasts.
+use Rattle.std.proofs.Common.{◌≡◌, ◌≢◌, ℕ, zero, suc, ◌+◌, ◌-◌, ◌<◌, ◌≤◌, ◌==◌, nat_le, nat_lt, Bool, true, false, ◌&&◌, List, [], ◌∷◌, ◌++◌, length, map, fold, replicate, Option, Some, None, refl, sym, ap, ◌∙◌, subst, if◌then◌else◌, arith, ◌⊎◌, ⊎_elim, inl, inr, slice_get, eq-eqb, ne_eqb}
+use Rattle.std.specs.Prelude.{slice_set, option_and_then}
+use Rattle.std.specs.Option.{option_map_or}
+use Rattle.std.proofs.lemmas.Bool.Decides.{nat_tests}
+use Rattle.std.proofs.lemmas.List.{length-map}
+use Rattle.std.proofs.lemmas.Option.{slice_get_within}
+use Rattle.bk_base.specs.declared.limit.TheConstants.{FRAME_WORDS, GLOBAL_NUMBER}
+use Rattle.bk_ocode.specs.Cells.{Unset, Word, Variable, Link, Cell, Free, Held, content_of}
+use Rattle.bk_ocode.specs.OcodeState.{global_place}
+use Rattle.bk_ocode.specs.OcodeRun.{Program}
+use Rattle.bk_ocode.specs.SectionData.{Datum, is_in, datum_word, GlobalSetting}
+use Rattle.bk_ocode.specs.Library.{library_globals}
+use Rattle.bk_ocode.specs.ProgramStart.{all_data, all_globals, is_global, unset_cells, with_global, first_cells}
+use Rattle.bk_ocode.proofs.Chosen.{chosen-true, chosen-false}
+use Rattle.bk_meaning.specs.Values as value
+use Rattle.bk_meaning.specs.Values.{Value, number, address, procedure, routine, unset, holds, places, value_in}
+use Rattle.bk_meaning.specs.Memory.{Object, living, cells_at}
+use Rattle.bk_meaning.specs.Lasting.{Procedure, Lasting, global_vector, words, code, library_cells, set_global, procedures_set, global_cells, entry_cells, object_of, objects_from, first_memory}
+use Rattle.bk_ocode.specs.WellPlaced.{IsWellPlaced}
+use Rattle.bk_simulation.proofs.Memory.{Codes, BaseOf, Alive, IsCell, Fits, get_at}
+use Rattle.bk_simulation.proofs.ListPlaces.{get_set}
+use Rattle.bk_simulation.proofs.MadeObjects.{alive_is, cell_in, object_there}
+use Rattle.bk_simulation.proofs.CellBytes.{AreBytes}
+use Rattle.bk_simulation.proofs.BytesKept.{AllBytes}
+use Rattle.bk_simulation.proofs.Laid.{Setting}
+use Rattle.bk_simulation.proofs.StartRuns.{FirstStore}
+use Rattle.bk_simulation.proofs.StartCalled.{NoStart, HasStart}
+use Rattle.bk_simulation.proofs.LastingStore.{library_word, HoldsEntry, HoldsOne, HasEntry, HasWords, IsSized, HoldsLasting, AreUpTo, up_to_append, library_up_to, all_up_to, fold_kept, fold_append, CellIs, cell_stands, cell_variable, globals_hold, globals_long}
+
+-- ---- tests
+
+both_true : (a b : Bool) → a ≡ true → b ≡ true → (a && b) ≡ true
+both_true true b e h = h
+both_true false b e h = e
+
+second_false : (a b : Bool) → b ≡ false → (a && b) ≡ false
+second_false true b h = h
+second_false false b h = refl
+
+is_le : (a b : ℕ) → a ≤ b → nat_le a b ≡ true
+is_le a b h = grind (arith, nat_tests)
+
+not_le : (a b : ℕ) → b < a → nat_le a b ≡ false
+not_le a b h = grind (arith, nat_tests)
+
+is_lt : (a b : ℕ) → a < b → nat_lt a b ≡ true
+is_lt a b h = grind (arith, nat_tests)
+
+-- ---- the words of data
+
+datum_word_at : (ds : List Datum) (j : ℕ) (d : Datum) (place : ℕ) → slice_get ds j ≡ Some d → is_in place d ≡ true → ((k : ℕ) (e : Datum) → slice_get ds k ≡ Some e → is_in place e ≡ true → k ≡ j)
+    → datum_word ds place ≡ slice_get d.words (place - d.place)
+datum_word_at [] j d place h is only = absurd (let z : None ≡ Some d = h in cc)
+datum_word_at (e ∷ ds) zero d place h is only =
+    let same : e ≡ d = (let z : Some e ≡ Some d = h in cc) in
+    chosen-true (is_in place e) _ _ (ap (λ (y : Datum). is_in place y) same ∙ is) ∙ ap (λ (y : Datum). slice_get y.words (place - y.place)) same
+datum_word_at (e ∷ ds) (suc j) d place h is only =
+    by_test (is_in place e) refl (datum_word_at ds j d place h is (λ k x hk ik. let z : suc k ≡ suc j = only (suc k) x hk ik in omega arith)) (λ t. only 0 e refl t)
+  where
+    by_test : (b : Bool) → is_in place e ≡ b → datum_word ds place ≡ slice_get d.words (place - d.place) → (is_in place e ≡ true → 0 ≡ suc j)
+        → (if b then slice_get e.words (place - e.place) else datum_word ds place) ≡ slice_get d.words (place - d.place)
+    by_test true t r n = let z : 0 ≡ suc j = n t in absurd (omega arith)
+    by_test false t r n = r
+
+in_datum : (d : Datum) (i : ℕ) → i < length d.words → is_in (d.place + i) d ≡ true
+in_datum d i lt = both_true (nat_le d.place (d.place + i)) (nat_lt (d.place + i) (d.place + length d.words)) (is_le d.place (d.place + i) (omega arith)) (is_lt (d.place + i) (d.place + length d.words) (omega arith))
+
+module _ (program : Program) (first : ℕ) (well : IsWellPlaced program first FRAME_WORDS) where
+  abbrev given : List Datum
+  given = all_data program.sections
+
+  abbrev base : ℕ → Cell
+  base = unset_cells given first program.home
+
+  given_up_to : AreUpTo GLOBAL_NUMBER (library_globals ++ all_globals program.sections)
+  given_up_to = up_to_append GLOBAL_NUMBER library_globals (all_globals program.sections) (library_up_to GLOBAL_NUMBER (omega arith)) (all_up_to program.sections well.is_program.accepted)
+
+  above_same : (place : ℕ) → global_place GLOBAL_NUMBER < place → first_cells program first place ≡ base place
+  above_same place lt = fold_kept GLOBAL_NUMBER base (library_globals ++ all_globals program.sections) place given_up_to lt
+
+  pub link_first : first_cells program first first ≡ Held Link (Word first)
+  link_first = let lt = well.is_program.above_globals in above_same first lt ∙ chosen-true (first == first) _ _ (eq-eqb first first refl)
+
+  pub link_next : first_cells program first (suc first) ≡ Held Link (Word program.home)
+  link_next =
+      let lt = well.is_program.above_globals in
+      let ne : suc first ≢ first = omega arith in
+      above_same (suc first) (omega arith) ∙ chosen-false (suc first == first) _ _ (ne_eqb (suc first) first ne) ∙ chosen-true (suc first == suc first) _ _ (eq-eqb (suc first) (suc first) refl)
+
+  base_low : (place : ℕ) → place < first → base place ≡ (if is_global place then Held Variable Unset else option_map_or (λ w. Held Variable (Word w)) (datum_word given place) Free)
+  base_low place lt =
+      let ne : place ≢ first = omega arith in
+      let ne1 : place ≢ suc first = omega arith in
+      chosen-false (place == first) _ _ (ne_eqb place first ne) ∙ chosen-false (place == suc first) _ _ (ne_eqb place (suc first) ne1)
+
+  pub global_unset : (i : ℕ) → i < 1000 → base (16 + i) ≡ Held Variable Unset
+  global_unset i lt =
+      let above : global_place GLOBAL_NUMBER < first = well.is_program.above_globals in
+      base_low (16 + i) (omega arith)
+      ∙ chosen-true (is_global (16 + i)) _ _ (both_true (nat_le (global_place 0) (16 + i)) (nat_le (16 + i) (global_place GLOBAL_NUMBER)) (is_le (global_place 0) (16 + i) (omega arith)) (is_le (16 + i) (global_place GLOBAL_NUMBER) (omega arith)))
+
+  pub datum_cell : (j : ℕ) (d : Datum) (i w : ℕ) → slice_get given j ≡ Some d → slice_get d.words i ≡ Some w → first_cells program first (d.place + i) ≡ Held Variable (Word w)
+  datum_cell j d i w at is =
+      let li : i < length d.words = slice_get_within d.words i w is in
+      let here = in_datum d i li in
+      let low = well.data_low j d at in
+      let above : global_place GLOBAL_NUMBER < d.place = low.0 in
+      let under : d.place + length d.words ≤ first = low.1 in
+      let word : datum_word given (d.place + i) ≡ Some w =
+      datum_word_at given j d (d.place + i) at here (λ k e ek ik. well.data_apart k j (d.place + i) e d ek at ik here) ∙ ap (λ y. slice_get d.words y) (let e : d.place + i - d.place ≡ i = omega arith in e) ∙ is in
+      above_same (d.place + i) (omega arith) ∙ base_low (d.place + i) (omega arith)
+      ∙ chosen-false (is_global (d.place + i)) _ _ (second_false (nat_le (global_place 0) (d.place + i)) (nat_le (d.place + i) (global_place GLOBAL_NUMBER)) (not_le (d.place + i) (global_place GLOBAL_NUMBER) (omega arith)))
+      ∙ ap (λ o. option_map_or (λ w. Held Variable (Word w)) o Free) word
+
+  -- ---- bytes
+
+  set_bytes : (settings : List GlobalSetting) (cells : ℕ → Cell) → AllBytes cells → AllBytes (fold with_global cells settings)
+  set_bytes [] cells all = all
+  set_bytes (x ∷ rest) cells all = set_bytes rest (with_global cells x) (λ a. by_test a (a == global_place x.global))
+    where
+      by_test : (a : ℕ) (b : Bool) → AreBytes (content_of (if b then Held Variable (Word x.value) else cells a))
+      by_test a true = tt
+      by_test a false = all a
+
+  pub first_bytes_are : AllBytes (first_cells program first)
+  first_bytes_are = set_bytes (library_globals ++ all_globals program.sections) base (λ a. by_tests (a == first) (a == suc first) (is_global a) (datum_word given a))
+    where
+      by_tests : (x y z : Bool) (o : Option ℕ)
+          → AreBytes (content_of (if x then Held Link (Word first) else if y then Held Link (Word program.home) else if z then Held Variable Unset else option_map_or (λ w. Held Variable (Word w)) o Free))
+      by_tests true y z o = tt
+      by_tests false true z o = tt
+      by_tests false false true o = tt
+      by_tests false false false (Some w) = tt
+      by_tests false false false None = tt
+
+-- ---- the objects that last
+
+abbrev one_cells : List Lasting → ℕ → Lasting → List value.Cell
+one_cells p n global_vector = global_cells p
+one_cells p n (words ws) = map (λ w. holds (number w)) ws
+one_cells p n (code f) = entry_cells f.global n
+
+object_is : (p : List Lasting) (n : ℕ) (x : Lasting) → object_of p n x ≡ living (one_cells p n x)
+object_is p n global_vector = refl
+object_is p n (words ws) = refl
+object_is p n (code f) = refl
+
+-- an object of the first memory
+record Lasts (p : List Lasting) (n : ℕ) (xs : List Lasting) (o : ℕ) (y : Object) : Type 0 where
+  pub what : Lasting
+  pub at : slice_get xs o ≡ Some what
+  pub is : y ≡ object_of p (n + o) what
+
+object_at : (p : List Lasting) (n : ℕ) (xs : List Lasting) (o : ℕ) (y : Object) → slice_get (objects_from p n xs) o ≡ Some y → Lasts p n xs o y
+object_at p n [] o y h = absurd (let z : None ≡ Some y = h in cc)
+object_at p n (x ∷ xs) zero y h =
+    let e : object_of p n x ≡ y = (let z : Some (object_of p n x) ≡ Some y = h in cc) in
+    record { what = x; at = refl; is = sym e ∙ ap (λ k. object_of p k x) (let q : n ≡ n + 0 = omega arith in q) }
+object_at p n (x ∷ xs) (suc o) y h =
+    let r = object_at p (suc n) xs o y h in
+    record { what = r.what; at = r.at; is = r.is ∙ ap (λ k. object_of p k r.what) (let q : suc n + o ≡ n + suc o = omega arith in q) }
+
+objects_long : (p : List Lasting) (n : ℕ) (xs : List Lasting) → length (objects_from p n xs) ≡ length xs
+objects_long p n [] = refl
+objects_long p n (x ∷ xs) = ap (λ k. suc k) (objects_long p (suc n) xs)
+
+record Cells (p : List Lasting) (o : ℕ) (cells : List value.Cell) : Type 0 where
+  pub what : Lasting
+  pub at : slice_get p o ≡ Some what
+  pub is : cells ≡ one_cells p o what
+
+cells_last : (p : List Lasting) (o : ℕ) (cells : List value.Cell) → cells_at (first_memory p) o ≡ Some cells → Cells p o cells
+cells_last p o cells h =
+    let r = object_at p 0 p o (living cells) (object_there (first_memory p) o cells h) in
+    let e : living cells ≡ living (one_cells p o r.what) = r.is ∙ ap (λ k. object_of p k r.what) (let q : 0 + o ≡ o = omega arith in q) ∙ object_is p o r.what in
+    record { what = r.what; at = r.at; is = cc }
+
+number_at : (ws : List ℕ) (i : ℕ) (c : value.Cell) → slice_get (map (λ w. holds (number w)) ws) i ≡ Some c → (w : ℕ) × (slice_get ws i ≡ Some w) × (c ≡ holds (number w))
+number_at [] i c h = absurd (let z : None ≡ Some c = h in cc)
+number_at (w ∷ ws) zero c h = (w, refl, (let z : Some (holds (number w)) ≡ Some c = h in cc))
+number_at (w ∷ ws) (suc i) c h = number_at ws i c h
+
+-- where an object lies
+data Region (program : Program) (first : ℕ) (p : List Lasting) (o n b : ℕ) : Type 0 where
+  vector : o ≡ 0 → b ≡ 16 → n ≡ 1000 → Region program first p o n b
+  datum : (j : ℕ) (d : Datum) → slice_get (all_data program.sections) j ≡ Some d → d.place ≡ b → length d.words ≡ n → (0 < n → IsSized p o) → Region program first p o n b
+  nothing : n ≡ 0 → 16 ≤ b → b ≤ first → Region program first p o n b
+
+module _ (program : Program) (first : ℕ) (well : IsWellPlaced program first FRAME_WORDS) (codes : Codes) (lasting : List ℕ) (p : List Lasting) (lasts : HoldsLasting program first codes lasting p)
+    (known : (r : value.Routine) → codes.routine r ≡ library_word r) where
+  region_of : (o n b : ℕ) → Alive (first_memory p) o n → BaseOf lasting o b → Region program first p o n b
+  region_of o n b a e =
+      let l = alive_is (cells_at (first_memory p) o) n a in
+      let c = cells_last p o l.cells l.is in
+      by_one c.what c.at (lasts.each o b c.what c.at e) (ap length (sym c.is) ∙ l.long)
+    where
+      sized : (ws : List ℕ) → slice_get p o ≡ Some (words ws) → 0 < length ws → IsSized p o
+      sized [] at lt = absurd (omega arith)
+      sized (w ∷ ws) at lt = subst HasWords (sym at) tt
+
+      by_entry : (f : Procedure) (g : Option ℕ) → f.global ≡ g → slice_get p o ≡ Some (code f) → HoldsEntry program first codes g o b → length (entry_cells g o) ≡ n → Region program first p o n b
+      by_entry f None eg at h e = datum h.0 h.1 h.2 h.3 (ap length h.4 ∙ e) (λ lt. subst HasWords (sym at) (subst HasEntry (sym eg) tt))
+      by_entry f (Some g) eg at h e = nothing (sym e) h.0 h.1
+
+      by_one : (x : Lasting) → slice_get p o ≡ Some x → HoldsOne program first codes x o b → length (one_cells p o x) ≡ n → Region program first p o n b
+      by_one global_vector at h e = vector h.0 h.1 (sym e ∙ globals_long codes p)
+      by_one (words ws) at h e = let lw : length ws ≡ n = sym (length-map ws (λ w. holds (number w))) ∙ e in datum h.0 h.1 h.2 h.3 (ap length h.4 ∙ lw) (λ lt. sized ws at (omega arith))
+      by_one (code f) at h e = by_entry f f.global refl at h e
+
+  cell_is : (o b i : ℕ) (c : value.Cell) → IsCell (first_memory p) o i c → BaseOf lasting o b → CellIs codes c (first_cells program first (b + i))
+  cell_is o b i c h e =
+      let x = cell_in (cells_at (first_memory p) o) i c h in
+      let l = cells_last p o x.0 x.1 in
+      by_one l.what (lasts.each o b l.what l.at e) (ap (λ y. slice_get y i) (sym l.is) ∙ x.2)
+    where
+      only_one : (k : ℕ) → slice_get (holds (procedure o) ∷ []) k ≡ Some c → (k ≡ 0 → first_cells program first (b + i) ≡ Held Variable (Word (codes.procedure o))) → CellIs codes c (first_cells program first (b + i))
+      only_one zero e go = let z : holds (procedure o) ≡ c = (let q : Some (holds (procedure o)) ≡ Some c = e in cc) in subst (λ y. CellIs codes y (first_cells program first (b + i))) z (go refl)
+      only_one (suc k) e go = absurd (let z : None ≡ Some c = e in cc)
+
+      by_datum : (j : ℕ) (d : Datum) (ws : List ℕ) (w : ℕ) → slice_get (all_data program.sections) j ≡ Some d → d.place ≡ b → d.words ≡ ws → slice_get ws i ≡ Some w → first_cells program first (b + i) ≡ Held Variable (Word w)
+      by_datum j d ws w at eb ew is = ap (λ y. first_cells program first (y + i)) (sym eb) ∙ datum_cell program first well j d i w at (ap (λ y. slice_get y i) ew ∙ is)
+
+      by_entry : (g : Option ℕ) → HoldsEntry program first codes g o b → slice_get (entry_cells g o) i ≡ Some c → CellIs codes c (first_cells program first (b + i))
+      by_entry None h e = only_one i e (λ (is : i ≡ 0). by_datum h.0 h.1 (codes.procedure o ∷ []) (codes.procedure o) h.2 h.3 h.4 (ap (λ y. slice_get (codes.procedure o ∷ []) y) is))
+      by_entry (Some g) h e = absurd (let z : None ≡ Some c = e in cc)
+
+      by_one : (x : Lasting) → HoldsOne program first codes x o b → slice_get (one_cells p o x) i ≡ Some c → CellIs codes c (first_cells program first (b + i))
+      by_one global_vector h e =
+          subst (λ y. CellIs codes c y)
+          (sym (ap (λ y. first_cells program first (y + i)) h.1
+          ∙ ap (λ (f : ℕ → Cell). f (16 + i)) (fold_append (unset_cells (all_data program.sections) first program.home) library_globals (all_globals program.sections))
+          ∙ ap (λ s. fold with_global (fold with_global (unset_cells (all_data program.sections) first program.home) library_globals) s (16 + i)) lasts.globals))
+          (globals_hold codes known (unset_cells (all_data program.sections) first program.home) (λ k lt. global_unset program first well k lt) p i c e)
+      by_one (words ws) h e = let w = number_at ws i c e in subst (λ y. CellIs codes y (first_cells program first (b + i))) (sym w.2) (by_datum h.0 h.1 ws w.0 h.2 h.3 h.4 w.1)
+      by_one (code f) h e = by_entry f.global h e
+
+  below_of : (o n b : ℕ) → Region program first p o n b → (16 ≤ b) × (b + n ≤ first)
+  below_of o n b (vector eo eb en) = let lt = well.is_program.above_globals in (omega arith, omega arith)
+  below_of o n b (datum j d at eb en sized) = let low = well.data_low j d at in let l0 = low.0 in let l1 = low.1 in (omega arith, omega arith)
+  below_of o n b (nothing en l0 l1) = (l0, omega arith)
+
+  apart_of : (o n b i o1 n1 b1 i1 : ℕ) → BaseOf lasting o b → BaseOf lasting o1 b1 → Region program first p o n b → Region program first p o1 n1 b1 → i < n → i1 < n1 → b + i ≡ b1 + i1 → o ≡ o1
+  apart_of o n b i o1 n1 b1 i1 e e1 (vector eo eb en) (vector eo1 eb1 en1) lt lt1 same = eo ∙ sym eo1
+  apart_of o n b i o1 n1 b1 i1 e e1 (vector eo eb en) (datum j d at ed el sized) lt lt1 same = let low = (well.data_low j d at).0 in absurd (omega arith)
+  apart_of o n b i o1 n1 b1 i1 e e1 (datum j d at ed el sized) (vector eo1 eb1 en1) lt lt1 same = let low = (well.data_low j d at).0 in absurd (omega arith)
+  apart_of o n b i o1 n1 b1 i1 e e1 (datum j d at ed el sized) (datum j1 d1 at1 ed1 el1 sized1) lt lt1 same =
+      let in0 : is_in (b + i) d ≡ true = subst (λ y. is_in (y + i) d ≡ true) ed (in_datum d i (omega arith)) in
+      let in1 : is_in (b1 + i1) d1 ≡ true = subst (λ y. is_in (y + i1) d1 ≡ true) ed1 (in_datum d1 i1 (omega arith)) in
+      let ej : j ≡ j1 = well.data_apart j j1 (b + i) d d1 at at1 in0 (subst (λ y. is_in y d1 ≡ true) (sym same) in1) in
+      let same_d : d ≡ d1 = (let z : Some d ≡ Some d1 = sym at ∙ ap (λ y. slice_get (all_data program.sections) y) ej ∙ at1 in cc) in
+      let eb : b ≡ b1 = sym ed ∙ ap (λ (y : Datum). y.place) same_d ∙ ed1 in
+      lasts.apart o o1 b e (subst (λ y. BaseOf lasting o1 y) (sym eb) e1) (sized (omega arith)) (sized1 (omega arith))
+  apart_of o n b i o1 n1 b1 i1 e e1 (nothing en l0 l1) r lt lt1 same = absurd (omega arith)
+  apart_of o n b i o1 n1 b1 i1 e e1 r (nothing en l0 l1) lt lt1 same = absurd (omega arith)
+
+  pub lasting_fits : Fits codes (record { bases = lasting; mem = first_memory p; cells = first_cells program first }) first
+  lasting_fits = record {
+    long = lasts.long ∙ sym (objects_long p 0 p);
+    same = λ o i c b h e. cell_stands codes lasting c (first_cells program first (b + i)) (cell_is o b i c h e);
+    variable = λ o n b i a e lt.
+        let l = alive_is (cells_at (first_memory p) o) n a in
+        let long = l.long in
+        let c = get_at l.cells i (omega arith) in
+        cell_variable codes c.0 (first_cells program first (b + i)) (cell_is o b i c.0 (ap (λ y. option_and_then (λ cells. slice_get cells i) y) l.is ∙ c.1) e);
+    apart = λ o n b i o1 n1 b1 i1 a e lt a1 e1 lt1 same. apart_of o n b i o1 n1 b1 i1 e e1 (region_of o n b a e) (region_of o1 n1 b1 a1 e1) lt lt1 same;
+    below = λ o n b a e. (below_of o n b (region_of o n b a e)).1;
+    small = λ o n b a e. let le = (below_of o n b (region_of o n b a e)).1 in let low = well.low in omega arith;
+    set = λ o n b a e. (below_of o n b (region_of o n b a e)).0;
+  }
+
+-- ---- global 1
+
+-- no routine, and nothing that a procedure does not set
+abbrev StartCell : value.Cell → Type 0
+StartCell (holds unset) = Unit {0}
+StartCell (holds (procedure k)) = Unit {0}
+StartCell _ = ⊥
+
+record StartsIn (vs : List value.Cell) : Type 0 where
+  pub each : (c : value.Cell) → slice_get vs 1 ≡ Some c → StartCell c
+
+one_starts : (n i : ℕ) (vs : List value.Cell) → StartsIn vs → StartsIn (slice_set vs i (holds (procedure n)))
+one_starts n i vs h = record {
+  each = λ c e. ⊎_elim (λ (x : (1 ≡ i) × (c ≡ holds (procedure n))). subst StartCell (sym x.1) tt) (λ (x : (1 ≢ i) × (slice_get vs 1 ≡ Some c)). h.each c x.1) (get_set vs i 1 (holds (procedure n)) c e);
+}
+
+all_start : (n : ℕ) (xs : List Lasting) (vs : List value.Cell) → StartsIn vs → StartsIn (procedures_set n xs vs)
+all_start n [] vs h = h
+all_start n (global_vector ∷ rest) vs h = all_start (suc n) rest vs h
+all_start n (words ws ∷ rest) vs h = all_start (suc n) rest vs h
+all_start n (code f ∷ rest) vs h = by_global f.global (λ vs h. all_start (suc n) rest vs h)
+  where
+    by_global : (o : Option ℕ) → ((vs : List value.Cell) → StartsIn vs → StartsIn (procedures_set (suc n) rest vs)) → StartsIn (procedures_set (suc n) rest (set_global o n vs))
+    by_global None go = go vs h
+    by_global (Some g) go = go (slice_set vs g (holds (procedure n))) (one_starts n g vs h)
+
+library_starts : StartsIn (library_cells ++ replicate 988 (holds unset))
+library_starts = record { each = λ c e. subst StartCell (let z : holds unset ≡ c = (let q : Some (holds unset) ≡ Some c = e in cc) in z) tt }
+
+-- object 0 is the global vector
+pub vector_there : (program : Program) (first : ℕ) (codes : Codes) (lasting : List ℕ) (rest : List Lasting) → HoldsLasting program first codes lasting (global_vector ∷ rest) → BaseOf lasting 0 16
+vector_there program first codes lasting rest lasts =
+    let first_base = get_at lasting 0 (let l = lasts.long in omega arith) in
+    let here : first_base.0 ≡ 16 = (lasts.each 0 first_base.0 global_vector refl first_base.1).1 in
+    subst (λ b. BaseOf lasting 0 b) here first_base.1
+
+module _ (g : Setting) (rest : List Lasting) (lasts : HoldsLasting g.program g.first g.codes g.lasting (global_vector ∷ rest)) (known : (r : value.Routine) → g.codes.routine r ≡ library_word r) where
+  abbrev p : List Lasting
+  p = global_vector ∷ rest
+
+  pub first_store : FirstStore g (first_memory p) (first_cells g.program g.first)
+  first_store = record {
+    fits = lasting_fits g.program g.first g.well g.codes g.lasting p lasts known;
+    words = first_bytes_are g.program g.first g.well;
+    frame = link_first g.program g.first g.well;
+    back = link_next g.program g.first g.well;
+  }
+
+  pub start_there : NoStart g p ⊎ HasStart g p
+  start_there =
+      let long = globals_long g.codes p in
+      let c = get_at (global_cells p) 1 (omega arith) in
+      by_cell c.0 c.1 ((all_start 0 p (library_cells ++ replicate 988 (holds unset)) library_starts).each c.0 c.1)
+      (cell_is g.program g.first g.well g.codes g.lasting p lasts known 0 16 1 c.0 c.1 (vector_there g.program g.first g.codes g.lasting rest lasts))
+    where
+      by_cell : (c : value.Cell) → slice_get (global_cells p) 1 ≡ Some c → StartCell c → CellIs g.codes c (first_cells g.program g.first (16 + 1)) → NoStart g p ⊎ HasStart g p
+      by_cell (holds unset) e s h = inl (record { is = ap (λ y. option_and_then value_in y) e; word = ap content_of h })
+      by_cell (holds (procedure k)) e s h = inr (record { number = k; is = ap (λ y. option_and_then value_in y) e; word = ap content_of h })
+      by_cell (holds (number w)) e s h = absurd s
+      by_cell (holds (routine r)) e s h = absurd s
+      by_cell (holds (address o i)) e s h = absurd s
+      by_cell (places x y z t) e s h = absurd s

@@ -1,0 +1,282 @@
+-- Objects that are made, what is done with them, and their death.
+use Rattle.std.proofs.Common.{◌≡◌, ◌≢◌, ℕ, zero, suc, ◌+◌, ◌<◌, ◌≤◌, List, [], ◌∷◌, ◌++◌, length, Option, Some, None, refl, sym, ap, ◌∙◌, subst, arith, ◌⊎◌, ⊎_elim, inl, inr, slice_get, length-append}
+use Rattle.std.specs.Prelude.{option_and_then}
+use Rattle.std.proofs.lemmas.Option.{slice_get_within}
+use Rattle.bk_meaning.specs.Values.{Cell as Cell_of, holds, places}
+use Rattle.bk_meaning.specs.Memory.{Object, living, dead, Memory, cells_of, cells_at, made, dead_from}
+use Rattle.bk_ocode.specs.Cells.{Content, Variable, Held, content_of}
+use Rattle.bk_ocode.specs.Cells as ocode
+use Rattle.bk_simulation.proofs.ListPlaces.{get_first, get_new, get_last}
+use Rattle.bk_simulation.proofs.Memory.{like_refl, like_on, BaseOf, size_in, Alive, IsCell, Store, limit, Grown, Kept, Moved, get_at, alive_within, one_base, Codes, StandsCell, Fits, based, stands_grown, fits_less}
+
+-- no living object has this word
+abbrev pub IsFree : Store → ℕ → Type 0
+IsFree h a = (o n b i : ℕ) → Alive h.mem o n → BaseOf h.bases o b → i < n → b + i ≢ a
+
+-- a living object's cells
+pub record Lives (y : Option (List Cell_of)) (n : ℕ) : Type 0 where
+  pub cells : List Cell_of
+  pub is : y ≡ Some cells
+  pub long : length cells ≡ n
+
+pub alive_is : (y : Option (List Cell_of)) (n : ℕ) → size_in y ≡ Some n → Lives y n
+alive_is None n h = absurd (cc)
+alive_is (Some cells) n h = record { cells = cells; is = refl; long = cc }
+
+pub alive_from : (y : Option (List Cell_of)) (cells : List Cell_of) → y ≡ Some cells → size_in y ≡ Some (length cells)
+alive_from y cells e = ap size_in e
+
+-- a cell is in a living object
+pub cell_in : (y : Option (List Cell_of)) (i : ℕ) (c : Cell_of) → option_and_then (λ cells. slice_get cells i) y ≡ Some c → (cells : List Cell_of) × (y ≡ Some cells) × (slice_get cells i ≡ Some c)
+cell_in None i c h = absurd (cc)
+cell_in (Some cells) i c h = (cells, refl, h)
+
+pub object_there : (mem : Memory) (o : ℕ) (cells : List Cell_of) → cells_at mem o ≡ Some cells → slice_get mem o ≡ Some (living cells)
+object_there mem o cells h = by_object (slice_get mem o) h
+  where
+    by_object : (y : Option Object) → cells_of y ≡ Some cells → y ≡ Some (living cells)
+    by_object None h = absurd (cc)
+    by_object (Some (living c)) h = cc
+    by_object (Some dead) h = absurd (cc)
+
+pub grown_length : (bases bases1 : List ℕ) → Grown bases bases1 → length bases ≤ length bases1
+grown_length bases bases1 g = by_length (length bases) refl
+  where
+    by_length : (n : ℕ) → length bases ≡ n → n ≤ length bases1
+    by_length zero e = omega arith
+    by_length (suc n) e =
+        let x = get_at bases n (omega arith) in
+        slice_get_within bases1 n x.0 (g.each n x.0 x.1)
+
+pub stands_cell_grown : (codes : Codes) (bases bases1 : List ℕ) (c : Cell_of) (x : Content) → Grown bases bases1 → StandsCell codes bases c x → StandsCell codes bases1 c x
+stands_cell_grown codes bases bases1 (holds v) x g s = stands_grown codes bases bases1 v x g s
+stands_cell_grown codes bases bases1 (places p q r t) x g s = s
+
+-- ---- an object more
+
+abbrev pub make : Store → ℕ → List Cell_of → Store
+make h b cells = record { bases = h.bases ++ b ∷ []; mem = made cells h.mem; cells = h.cells }
+
+-- an object of a memory behind which one was made
+pub record Older (mem : Memory) (o n : ℕ) : Type 0 where
+  pub before : o < length mem
+  pub alive : Alive mem o n
+
+-- the cells at a place of it
+pub cells_made : (mem : Memory) (vs : List Cell_of) (o : ℕ) (cells : List Cell_of) → cells_at (made vs mem) o ≡ Some cells
+    → (cells_at mem o ≡ Some cells) ⊎ ((o ≡ length mem) × (cells ≡ vs))
+cells_made mem vs o cells h =
+    ⊎_elim
+    (λ (e : slice_get mem o ≡ Some (living cells)). inl (ap cells_of e))
+    (λ (e : (o ≡ length mem) × (living cells ≡ living vs)). inr (e.0, cc))
+    (get_last mem (living vs) o (living cells) (object_there (made vs mem) o cells h))
+
+pub alive_made : (mem : Memory) (vs : List Cell_of) (o n : ℕ) → Alive (made vs mem) o n → Older mem o n ⊎ ((o ≡ length mem) × (n ≡ length vs))
+alive_made mem vs o n a =
+    let l = alive_is (cells_at (made vs mem) o) n a in
+    ⊎_elim
+    (λ (e : cells_at mem o ≡ Some l.cells).
+    let a0 : Alive mem o n = alive_from (cells_at mem o) l.cells e ∙ ap (λ k. Some k) l.long in
+    inl (record { before = alive_within mem o n a0; alive = a0 }))
+    (λ (e : (o ≡ length mem) × (l.cells ≡ vs)). inr (e.0, sym l.long ∙ ap length e.1))
+    (cells_made mem vs o l.cells l.is)
+
+-- it lives there
+pub alive_new : (mem : Memory) (vs : List Cell_of) → Alive (made vs mem) (length mem) (length vs)
+alive_new mem vs = ap (λ y. size_in (cells_of y)) (get_new mem (living vs))
+
+pub base_made : (bases : List ℕ) (b o b1 : ℕ) → BaseOf (bases ++ b ∷ []) o b1 → BaseOf bases o b1 ⊎ ((o ≡ length bases) × (b1 ≡ b))
+base_made bases b o b1 e = get_last bases b o b1 e
+
+pub grown_made : (bases : List ℕ) (b : ℕ) → Grown bases (bases ++ b ∷ [])
+grown_made bases b = record { each = λ o b1 e. get_first bases (b ∷ []) o b1 e }
+
+-- where an object of a larger memory is
+pub record Lying (h : Store) (b size o n b1 : ℕ) : Type 0 where
+  pub lies : ((Alive h.mem o n) × (BaseOf h.bases o b1)) ⊎ ((o ≡ length h.mem) × (n ≡ size) × (b1 ≡ b))
+
+pub lying : (h : Store) (b : ℕ) (vs : List Cell_of) (o n b1 : ℕ) → length h.bases ≡ length h.mem → Alive (make h b vs).mem o n → BaseOf (make h b vs).bases o b1 → Lying h b (length vs) o n b1
+lying h b vs o n b1 long a e = record {
+  lies =
+      ⊎_elim
+      (λ (l : Older h.mem o n). ⊎_elim
+      (λ (x : BaseOf h.bases o b1). inl (l.alive, x))
+      (λ (x : (o ≡ length h.bases) × (b1 ≡ b)). let lt = l.before in let z = x.0 in absurd (omega arith))
+      (base_made h.bases b o b1 e))
+      (λ (l : (o ≡ length h.mem) × (n ≡ length vs)). ⊎_elim
+      (λ (x : BaseOf h.bases o b1). let lt = slice_get_within h.bases o b1 x in let z = l.0 in absurd (omega arith))
+      (λ (x : (o ≡ length h.bases) × (b1 ≡ b)). inr (l.0, l.1, x.1))
+      (base_made h.bases b o b1 e))
+      (alive_made h.mem vs o n a);
+}
+
+-- ---- objects that die together
+
+abbrev pub forget : Store → ℕ → Store
+forget h o = record h { mem = dead_from o h.mem }
+
+pub dead_length : (o : ℕ) (mem : Memory) → length (dead_from o mem) ≡ length mem
+dead_length o [] = refl
+dead_length zero (x ∷ mem) = ap (λ n. suc n) (dead_length zero mem)
+dead_length (suc o) (x ∷ mem) = ap (λ n. suc n) (dead_length o mem)
+
+-- what lives after the death of those from a number on was before it, and lived
+pub lives_before : (o : ℕ) (mem : Memory) (o1 : ℕ) (cells : List Cell_of) → cells_at (dead_from o mem) o1 ≡ Some cells → (o1 < o) × (cells_at mem o1 ≡ Some cells)
+lives_before o [] o1 cells h = absurd (cc)
+lives_before zero (x ∷ mem) zero cells h = absurd (cc)
+lives_before zero (x ∷ mem) (suc o1) cells h = let e = lives_before zero mem o1 cells h in absurd (omega (arith, e.0))
+lives_before (suc o) (x ∷ mem) zero cells h = (omega arith, h)
+lives_before (suc o) (x ∷ mem) (suc o1) cells h = let e = lives_before o mem o1 cells h in (omega (arith, e.0), e.1)
+
+pub alive_before : (o : ℕ) (mem : Memory) (o1 n : ℕ) → Alive (dead_from o mem) o1 n → (o1 < o) × Alive mem o1 n
+alive_before o mem o1 n a =
+    let l = alive_is (cells_at (dead_from o mem) o1) n a in
+    let e = lives_before o mem o1 l.cells l.is in
+    (e.0, alive_from (cells_at mem o1) l.cells e.1 ∙ ap (λ k. Some k) l.long)
+
+pub cell_before : (o : ℕ) (mem : Memory) (o1 i : ℕ) (c : Cell_of) → IsCell (dead_from o mem) o1 i c → IsCell mem o1 i c
+cell_before o mem o1 i c h =
+    let x = cell_in (cells_at (dead_from o mem) o1) i c h in
+    ap (λ y. option_and_then (λ cells. slice_get cells i) y) (lives_before o mem o1 x.0 x.1).1 ∙ x.2
+
+-- ---- objects made since h, at a top or above it
+
+pub record Opened (top : ℕ) (h h1 : Store) : Type 0 where
+  pub grown : Grown h.bases h1.bases
+  pub was : (o n : ℕ) → o < length h.mem → Alive h1.mem o n → Alive h.mem o n
+  pub above : (o n b : ℕ) → length h.mem ≤ o → Alive h1.mem o n → BaseOf h1.bases o b → top ≤ b
+  pub long : length h.mem ≤ length h1.mem
+  pub kept : Kept h top h1.cells
+  pub links : (a w : ℕ) → a < top → h1.cells a ≡ Held ocode.Link (ocode.Word w) → h.cells a ≡ Held ocode.Link (ocode.Word w)
+
+pub opened_refl : (top : ℕ) (h : Store) → Opened top h h
+opened_refl top h = record {
+  grown = record { each = λ o b e. e };
+  was = λ o n lt a. a;
+  above = λ o n b le a e. let lt = alive_within h.mem o n a in absurd (omega arith);
+  long = omega arith;
+  kept = record { as_was = λ a lt free. like_refl _ _ refl };
+  links = λ a w lt e. e;
+}
+
+module _ (codes : Codes) where
+  pub make_fits : (h : Store) (top b : ℕ) (vs : List Cell_of) → Fits codes h top → 16 ≤ b → top ≤ b → b + length vs ≤ limit
+      → ((i : ℕ) (c : Cell_of) → slice_get vs i ≡ Some c → StandsCell codes h.bases c (content_of (h.cells (b + i))))
+      → ((i : ℕ) → i < length vs → (k : Content) × (h.cells (b + i) ≡ Held Variable k)) → Fits codes (make h b vs) (b + length vs)
+  make_fits h top b vs f from le lim st op = record {
+    long = length-append h.bases (b ∷ []) ∙ ap (λ n. n + 1) f.long ∙ sym (length-append h.mem (living vs ∷ []));
+    same = λ o i c b1 e eb.
+        let x = cell_in (cells_at (make h b vs).mem o) i c e in
+        stands_cell_grown codes h.bases (make h b vs).bases c (content_of (h.cells (b1 + i))) (grown_made h.bases b) (⊎_elim
+        (λ (y : cells_at h.mem o ≡ Some x.0).
+        ⊎_elim
+        (λ (z : BaseOf h.bases o b1). f.same o i c b1 (ap (λ u. option_and_then (λ cells. slice_get cells i) u) y ∙ x.2) z)
+        (λ (z : (o ≡ length h.bases) × (b1 ≡ b)).
+        let lt = alive_within h.mem o (length x.0) (alive_from (cells_at h.mem o) x.0 y) in let u = f.long in let z0 = z.0 in absurd (omega arith))
+        (base_made h.bases b o b1 eb))
+        (λ (y : (o ≡ length h.mem) × (x.0 ≡ vs)).
+        ⊎_elim
+        (λ (z : BaseOf h.bases o b1). let lt = slice_get_within h.bases o b1 z in let u = f.long in let y0 = y.0 in absurd (omega arith))
+        (λ (z : (o ≡ length h.bases) × (b1 ≡ b)). subst (λ u. StandsCell codes h.bases c (content_of (h.cells (u + i)))) (sym z.1) (st i c (sym (ap (λ u. slice_get u i) y.1) ∙ x.2)))
+        (base_made h.bases b o b1 eb))
+        (cells_made h.mem vs o x.0 x.1));
+    variable = λ o n b1 i a e lt. ⊎_elim
+        (λ (x : (Alive h.mem o n) × (BaseOf h.bases o b1)). f.variable o n b1 i x.0 x.1 lt)
+        (λ (x : (o ≡ length h.mem) × (n ≡ length vs) × (b1 ≡ b)). subst (λ y. (k : Content) × (h.cells (y + i) ≡ Held Variable k)) (sym x.2) (op i (subst (λ y. i < y) x.1 lt)))
+        (lying h b vs o n b1 f.long a e).lies;
+    apart = λ o n b1 i o1 n1 b2 i1 a e lt a1 e1 lt1 z.
+        ⊎_elim
+        (λ (x : (Alive h.mem o n) × (BaseOf h.bases o b1)). ⊎_elim
+        (λ (y : (Alive h.mem o1 n1) × (BaseOf h.bases o1 b2)). f.apart o n b1 i o1 n1 b2 i1 x.0 x.1 lt y.0 y.1 lt1 z)
+        (λ (y : (o1 ≡ length h.mem) × (n1 ≡ length vs) × (b2 ≡ b)). let u = f.below o n b1 x.0 x.1 in let y2 = y.2 in absurd (omega arith))
+        (lying h b vs o1 n1 b2 f.long a1 e1).lies)
+        (λ (x : (o ≡ length h.mem) × (n ≡ length vs) × (b1 ≡ b)). ⊎_elim
+        (λ (y : (Alive h.mem o1 n1) × (BaseOf h.bases o1 b2)). let u = f.below o1 n1 b2 y.0 y.1 in let x2 = x.2 in absurd (omega arith))
+        (λ (y : (o1 ≡ length h.mem) × (n1 ≡ length vs) × (b2 ≡ b)). x.0 ∙ sym y.0)
+        (lying h b vs o1 n1 b2 f.long a1 e1).lies)
+        (lying h b vs o n b1 f.long a e).lies;
+    below = λ o n b1 a e. ⊎_elim
+        (λ (x : (Alive h.mem o n) × (BaseOf h.bases o b1)). let u = f.below o n b1 x.0 x.1 in omega arith)
+        (λ (x : (o ≡ length h.mem) × (n ≡ length vs) × (b1 ≡ b)). let x1 = x.1 in let x2 = x.2 in omega arith)
+        (lying h b vs o n b1 f.long a e).lies;
+    small = λ o n b1 a e. ⊎_elim
+        (λ (x : (Alive h.mem o n) × (BaseOf h.bases o b1)). f.small o n b1 x.0 x.1)
+        (λ (x : (o ≡ length h.mem) × (n ≡ length vs) × (b1 ≡ b)). let x1 = x.1 in let x2 = x.2 in omega arith)
+        (lying h b vs o n b1 f.long a e).lies;
+    set = λ o n b1 a e. ⊎_elim
+        (λ (x : (Alive h.mem o n) × (BaseOf h.bases o b1)). f.set o n b1 x.0 x.1)
+        (λ (x : (o ≡ length h.mem) × (n ≡ length vs) × (b1 ≡ b)). let x2 = x.2 in omega arith)
+        (lying h b vs o n b1 f.long a e).lies;
+  }
+
+  pub forget_fits : (h : Store) (top o : ℕ) → Fits codes h top → Fits codes (forget h o) top
+  forget_fits h top o f = record {
+    long = f.long ∙ sym (dead_length o h.mem);
+    same = λ o1 i c b e eb. f.same o1 i c b (cell_before o h.mem o1 i c e) eb;
+    variable = λ o1 n b i a e lt. f.variable o1 n b i (alive_before o h.mem o1 n a).1 e lt;
+    apart = λ o1 n b1 i o2 n1 b2 i1 a e lt a1 e1 lt1 z. f.apart o1 n b1 i o2 n1 b2 i1 (alive_before o h.mem o1 n a).1 e lt (alive_before o h.mem o2 n1 a1).1 e1 lt1 z;
+    below = λ o1 n b a e. f.below o1 n b (alive_before o h.mem o1 n a).1 e;
+    small = λ o1 n b a e. f.small o1 n b (alive_before o h.mem o1 n a).1 e;
+    set = λ o1 n b a e. f.set o1 n b (alive_before o h.mem o1 n a).1 e;
+  }
+
+  -- an object is made
+  pub opened_made : (top b : ℕ) (vs : List Cell_of) (h h1 : Store) → length h1.bases ≡ length h1.mem → Opened top h h1 → top ≤ b → Opened top h (make h1 b vs)
+  opened_made top b vs h h1 long m le = record {
+    grown = record { each = λ o b1 e. (grown_made h1.bases b).each o b1 (m.grown.each o b1 e) };
+    was = λ o n lt a. ⊎_elim
+        (λ (x : Older h1.mem o n). m.was o n lt x.alive)
+        (λ (x : (o ≡ length h1.mem) × (n ≡ length vs)). let z = x.0 in let l = m.long in absurd (omega arith))
+        (alive_made h1.mem vs o n a);
+    above = λ o n b1 ge a e. ⊎_elim
+        (λ (x : (Alive h1.mem o n) × (BaseOf h1.bases o b1)). m.above o n b1 ge x.0 x.1)
+        (λ (x : (o ≡ length h1.mem) × (n ≡ length vs) × (b1 ≡ b)). let z = x.2 in omega arith)
+        (lying h1 b vs o n b1 long a e).lies;
+    long = (let l = m.long in let e = length-append h1.mem (living vs ∷ []) in omega arith);
+    kept = m.kept;
+    links = m.links;
+  }
+
+  -- and more is done
+  pub opened_moved : (top top1 top2 : ℕ) (h h1 h2 : Store) → Fits codes h top → Fits codes h1 top1 → Fits codes h2 top2 → top ≤ top1 → Opened top h h1 → Moved top1 h1 h2 → Opened top h h2
+  opened_moved top top1 top2 h h1 h2 f f1 f2 le m n = record {
+    grown = record { each = λ o b e. n.grown.each o b (m.grown.each o b e) };
+    was = λ o k lt a. m.was o k lt (n.within.was o k a);
+    above = λ o k b ge a e.
+        let a1 = n.within.was o k a in
+        let b1 = based codes h1 top1 o k f1 a1 in
+        let eb = one_base h2.bases o b b1.0 e (n.grown.each o b1.0 b1.1) in
+        subst (λ y. top ≤ y) (sym eb) (m.above o k b1.0 ge a1 b1.1);
+    long = (let l = m.long in let g = grown_length h1.bases h2.bases n.grown in let e1 = f1.long in let e2 = f2.long in omega arith);
+    kept = record {
+      as_was = λ x lt free.
+          like_on _ _ _ (n.kept.as_was x (omega arith) (free_opened x lt free)) (m.kept.as_was x lt free);
+    };
+    links = λ x w lt e. m.links x w lt (n.links x w (omega arith) e);
+  }
+    where
+      free_opened : (x : ℕ) → x < top → IsFree h x → IsFree h1 x
+      free_opened x lt free o k b i a e li z = by_age (nat_less o (length h.mem))
+        where
+          nat_less : (a b : ℕ) → (a < b) ⊎ (b ≤ a)
+          nat_less a b = grind arith
+
+          by_age : (o < length h.mem) ⊎ (length h.mem ≤ o) → ⊥
+          by_age (inl old) =
+              let a0 = m.was o k old a in
+              let b0 = based codes h top o k f a0 in
+              let eb = one_base h1.bases o b b0.0 e (m.grown.each o b0.0 b0.1) in
+              free o k b0.0 i a0 b0.1 li (omega arith)
+          by_age (inr new) = let ge = m.above o k b new a e in absurd (omega arith)
+
+  -- their death
+  pub closed_moved : (top : ℕ) (h h1 : Store) → Opened top h h1 → Moved top h (forget h1 (length h.mem))
+  closed_moved top h h1 m = record {
+    grown = m.grown;
+    within = record { was = λ o n a. let x = alive_before (length h.mem) h1.mem o n a in m.was o n x.0 x.1 };
+    kept = m.kept;
+    links = m.links;
+  }
+
+  pub closed_fits : (top more : ℕ) (h h1 : Store) → Fits codes h top → Opened top h h1 → Fits codes h1 more → Fits codes (forget h1 (length h.mem)) top
+  closed_fits top more h h1 f m g = fits_less codes h (forget h1 (length h.mem)) top more f (closed_moved top h h1 m) (forget_fits h1 more (length h.mem) g)

@@ -1,0 +1,39 @@
+-- What lasts of two parts, where names go on from one to the other.
+use Rattle.std.proofs.Common.{ℕ, ◌+◌, List, ◌++◌, arith}
+use Rattle.bk_scope.specs.Scope.{Binding}
+use Rattle.bk_meaning.specs.Environment.{Named}
+use Rattle.bk_meaning.specs.Lasting.{Lasting}
+use Rattle.bk_simulation.proofs.Laid.{Setting}
+use Rattle.bk_simulation.proofs.Held.{held_both, lasting_both}
+use Rattle.bk_simulation.proofs.Standing.{Home, Suits, Bases, Agree, Mean, follow_first, follow_second, words_first, words_second, length_both}
+
+-- Objects of one part, and then those of another, where other names are in scope, which mean what they should wherever the objects
+-- of the first part have their bases.
+pub then_bases : (h : Home) (bs : List Binding) (next n m : ℕ) {K L : List Named → List Lasting} (P Q : Setting → Type 0) (names : List Named → List Named) (a : Bases h next n K P)
+    → ((g : Setting) → Suits h next a.bases a.entries g → (ns : List Named) → Agree ns h.bindings → Mean h g ns → Agree (names ns) bs × Mean (record h { bindings = bs }) g (names ns))
+    → Bases (record h { bindings = bs }) (next + n) m L Q → Bases h next (n + m) (λ ns. K ns ++ L (names ns)) (λ g. P g × Q g)
+then_bases h bs next n m {K} {L} P Q names a after b =
+    let an = a.all in
+    let bn = b.all in
+    let ae = a.all_entries in
+    let be = b.all_entries in
+    let l = length_both a.bases b.bases in
+    let le = length_both a.entries b.entries in
+    let front : (g : Setting) → Suits h next (a.bases ++ b.bases) (a.entries ++ b.entries) g → Suits h next a.bases a.entries g =
+        λ g x. record { fits = x.fits; follow = follow_first g.lasting next a.bases b.bases x.follow; words = words_first g.codes.procedure next a.entries b.entries x.words } in
+    let back : (g : Setting) → Suits h next (a.bases ++ b.bases) (a.entries ++ b.entries) g → Suits (record h { bindings = bs }) (next + n) b.bases b.entries g = λ g x. record {
+      fits = record { own = x.fits.own; pays = x.fits.pays };
+      follow = follow_second g.lasting next n a.bases b.bases an x.follow;
+      words = words_second g.codes.procedure next n a.entries b.entries ae x.words;
+    } in
+    record {
+      bases = a.bases ++ b.bases;
+      entries = a.entries ++ b.entries;
+      all = omega (arith, an, bn, l);
+      all_entries = omega (arith, ae, be, le);
+      count = λ ns. let x = a.count ns in let y = b.count (names ns) in let z = lasting_both (K ns) (L (names ns)) in omega (arith, x, y, z);
+      laid = λ g x. (a.laid g (front g x), b.laid g (back g x));
+      held = λ g x ns e u.
+          let i = after g (front g x) ns e u in
+          held_both g next n (K ns) (L (names ns)) (a.count ns) (a.held g (front g x) ns e u) (b.held g (back g x) (names ns) i.0 i.1);
+    }

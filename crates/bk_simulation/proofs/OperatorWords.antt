@@ -1,0 +1,368 @@
+-- The operators of the meaning on values, and those of OCODE on the words that stand for them.
+use Rattle.std.proofs.Common.{◌≡◌, ◌≢◌, ℕ, ◌+◌, ◌-◌, ◌<◌, ◌≤◌, ◌%◌, ◌^◌, ◌==◌, nat_lt, nat_le, Bool, true, false, not, cond, pos, int_lt, List, length, Option, Some, None, refl, sym, ap, ◌∙◌, subst, if◌then◌else◌, arith}
+use Rattle.std.specs.Prelude.{int_le}
+use Rattle.std.specs.Option.{option_map}
+use Rattle.std.proofs.lemmas.Int.{ints}
+use Rattle.std.proofs.lemmas.Bool.{eqb-true}
+use Rattle.std.proofs.lemmas.Bool.Decides.{nat_tests}
+use Rattle.bk_base.specs.Word.{signed, truth, word_sum, word_difference, word_quotient, word_remainder, word_less, word_greater, word_at_most, word_at_least, word_negation, word_not}
+use Rattle.bk_scope.specs.Constants.{infix_word}
+use Rattle.bk_syntax.specs.declared.tree.Operator.{Operator}
+use Rattle.bk_syntax.specs.declared.tree.Operator.TheVariants as o
+use Rattle.bk_syntax.specs.declared.tree.Prefix.TheVariants as q
+use Rattle.bk_meaning.specs.Values.{Value, number, address, procedure, routine, unset, Cell as Cell_of}
+use Rattle.bk_meaning.specs.Memory.{cells_at, lives}
+use Rattle.bk_meaning.specs.World.{World, Outcome, gives, leaves, ends, undefined, going, divide_by_zero, given, either}
+use Rattle.bk_meaning.specs.Operators.{sum, difference, lies_within, within, truth_of_value, equals_zero, equal, ordered, on_numbers, truth_number, operate, operate_prefix}
+use Rattle.bk_ocode.specs.Cells.{Content, Word, Cell}
+use Rattle.bk_ocode.specs.OcodeStep.{quotient, dyadic_word}
+use Rattle.bk_ocode.specs.declared.stmt.Dyadic.{Dyadic}
+use Rattle.bk_ocode.specs.declared.stmt.Dyadic.TheVariants as d
+use Rattle.bk_simulation.proofs.Memory.{BaseOf, Alive, Codes, Stands, Fits, one_base}
+use Rattle.bk_simulation.proofs.MadeObjects.{alive_from}
+
+-- the operator of OCODE for each but `!` and `%`
+abbrev pub dyadic_of : Operator → Option Dyadic
+dyadic_of o.Subscript = None
+dyadic_of o.Byte = None
+dyadic_of o.Times = Some d.Multiply
+dyadic_of o.Over = Some d.Divide
+dyadic_of o.Rem = Some d.Remainder
+dyadic_of o.Add = Some d.Add
+dyadic_of o.Subtract = Some d.Subtract
+dyadic_of o.Equal = Some d.Equal
+dyadic_of o.Unequal = Some d.Unequal
+dyadic_of o.Less = Some d.Less
+dyadic_of o.Greater = Some d.Greater
+dyadic_of o.AtMost = Some d.AtMost
+dyadic_of o.AtLeast = Some d.AtLeast
+dyadic_of o.ShiftLeft = Some d.ShiftLeft
+dyadic_of o.ShiftRight = Some d.ShiftRight
+dyadic_of o.Both = Some d.And
+dyadic_of o.Either = Some d.Or
+dyadic_of o.Same = Some d.Eqv
+dyadic_of o.Differ = Some d.Neqv
+
+-- ---- words of addresses
+
+word_is : (v w : ℕ) → Word v ≡ Word w → v ≡ w
+word_is v w e = cc
+
+add_offset : (b i y : ℕ) → ((b + i) % 2 ^ 32 + y) % 2 ^ 32 ≡ (b + (i + y) % 2 ^ 32) % 2 ^ 32
+add_offset b i y = omega arith
+
+offset_add : (b j x : ℕ) → (x + (b + j) % 2 ^ 32) % 2 ^ 32 ≡ (b + (x + j) % 2 ^ 32) % 2 ^ 32
+offset_add b j x = omega arith
+
+apart_by : (b i j : ℕ) → i < 2 ^ 32 → j < 2 ^ 32 → word_difference ((b + i) % 2 ^ 32) ((b + j) % 2 ^ 32) ≡ word_difference i j
+apart_by b i j hi hj = omega arith
+
+low_word : (n : ℕ) → n % 2 ^ 32 < 2 ^ 32
+low_word n = omega arith
+
+-- the same place in one object
+same_place : (b i j : ℕ) → i < 2 ^ 32 → j < 2 ^ 32 → (((b + i) % 2 ^ 32) == ((b + j) % 2 ^ 32)) ≡ (i == j)
+same_place b i j hi hj = grind (arith, nat_tests)
+
+signed_small : (x : ℕ) → x < 2 ^ 31 → signed x ≡ pos x
+signed_small x h = omega (arith, ints)
+
+less_small : (x y : ℕ) → x < 2 ^ 31 → y < 2 ^ 31 → word_less x y ≡ truth (nat_lt x y)
+less_small x y hx hy = ap (λ z. truth (int_lt z (signed y))) (signed_small x hx) ∙ ap (λ z. truth (int_lt (pos x) z)) (signed_small y hy)
+
+most_small : (x y : ℕ) → x < 2 ^ 31 → y < 2 ^ 31 → word_at_most x y ≡ truth (nat_le x y)
+most_small x y hx hy = ap (λ z. truth (int_le z (signed y))) (signed_small x hx) ∙ ap (λ z. truth (int_le (pos x) z)) (signed_small y hy)
+
+shift_less : (b i j : ℕ) → nat_lt (b + i) (b + j) ≡ nat_lt i j
+shift_less b i j = grind (arith, nat_tests)
+
+shift_most : (b i j : ℕ) → nat_le (b + i) (b + j) ≡ nat_le i j
+shift_most b i j = grind (arith, nat_tests)
+
+some_is : {A : Type 0} (x y : A) → Some x ≡ Some y → x ≡ y
+some_is x y e = cc
+
+if_some : {A : Type 0} (b : Bool) (x y : A) → cond b (Some x) None ≡ Some y → (b ≡ true) × (x ≡ y)
+if_some true x y e = (refl, cc)
+if_some false x y e = absurd (cc)
+
+if_there : {A : Type 0} (b : Bool) (x : Option A) (y : A) → cond b x None ≡ Some y → (b ≡ true) × (x ≡ Some y)
+if_there true x y e = (refl, e)
+if_there false x y e = absurd (cc)
+
+not_zero : (w : ℕ) → w ≢ 0 → (w == 0) ≡ false
+not_zero w ne = grind (arith, nat_tests)
+
+turned : (x w : ℕ) → (x == w) ≡ (w == x)
+turned x w = grind (arith, nat_tests)
+
+twice_not : (b : Bool) → b ≡ not (not b)
+twice_not true = refl
+twice_not false = refl
+
+is_most : (i n : ℕ) → nat_le i n ≡ true → i ≤ n
+is_most i n e = grind (arith, nat_tests)
+
+above_zero : (b i : ℕ) → 16 ≤ b → (b + i ≡ 0) → ⊥
+above_zero b i h z = absurd (omega arith)
+
+module _ (codes : Codes) (bases : List ℕ) (cells : ℕ → Cell) (top : ℕ) (w : World) (f : Fits codes (record { bases = bases; mem = w.memory; cells = cells }) top) where
+  -- an address within a living object is a small word, and not 0
+  record SmallAddress (o i b : ℕ) : Type 0 where
+    is_word : (b + i) % 2 ^ 32 ≡ b + i
+    small : b + i < 2 ^ 31
+    set : b + i ≢ 0
+
+  small_address : (a i b : ℕ) → BaseOf bases a b → within w.memory a i ≡ true → SmallAddress a i b
+  small_address a i b eb e = by_cells (cells_at w.memory a) refl e
+    where
+      by_cells : (y : Option (List Cell_of)) → cells_at w.memory a ≡ y → lies_within y i ≡ true → SmallAddress a i b
+      by_cells None ey e = absurd (cc)
+      by_cells (Some own) ey e =
+          let alive : Alive w.memory a (length own) = alive_from (cells_at w.memory a) own ey in
+          let le : i ≤ length own = is_most i (length own) e in
+          let small : b + length own ≤ 2 ^ 31 - 1 = f.small a (length own) b alive eb in
+          let high : 16 ≤ b = f.set a (length own) b alive eb in
+          record { is_word = omega arith; small = omega arith; set = λ z. above_zero b i high z }
+
+  -- ---- what counts as true
+
+  pub record Judged (x : Content) (t : Bool) : Type 0 where
+    pub word : ℕ
+    pub is_word : x ≡ Word word
+    pub zero_if : (word == 0) ≡ not t
+
+  pub judged_word : (v : Value) (x : Content) (t : Bool) → Stands codes bases v x → truth_of_value w.memory v ≡ Some t → Judged x t
+  judged_word (number n) x t s e = record { word = n; is_word = s; zero_if = twice_not (n == 0) ∙ ap not (some_is _ t e) }
+  judged_word (address a i) x t s e =
+      let h = if_some (within w.memory a i) true t e in
+      let m = small_address a i s.0 s.1 h.0 in
+      record { word = s.0 + i; is_word = s.3 ∙ ap Word m.is_word; zero_if = not_zero (s.0 + i) m.set ∙ ap not h.1 }
+  judged_word (procedure n) x t s e = record { word = codes.procedure n; is_word = s; zero_if = not_zero (codes.procedure n) (codes.procedure_set n) ∙ ap not (some_is _ t e) }
+  judged_word (routine r) x t s e = record { word = codes.routine r; is_word = s; zero_if = not_zero (codes.routine r) (codes.routine_set r) ∙ ap not (some_is _ t e) }
+  judged_word unset x t s e = absurd (cc)
+
+  -- ---- two operands
+
+  pub record Applied (op : Dyadic) (x y : Content) (v : Value) : Type 0 where
+    pub left : ℕ
+    pub right : ℕ
+    pub result : ℕ
+    pub is_left : x ≡ Word left
+    pub is_right : y ≡ Word right
+    pub applies : dyadic_word op left right ≡ Some result
+    pub stands : Stands codes bases v (Word result)
+
+  pub record Undivided (op : Dyadic) (x y : Content) : Type 0 where
+    pub left : ℕ
+    pub right : ℕ
+    pub is_left : x ≡ Word left
+    pub is_right : y ≡ Word right
+    pub none : dyadic_word op left right ≡ None
+
+  numbers_applied : (op : Dyadic) (a b r : ℕ) (x y : Content) (v : Value) → x ≡ Word a → y ≡ Word b → dyadic_word op a b ≡ Some r → number r ≡ v → Applied op x y v
+  numbers_applied op a b r x y v ex ey ed ev = record { left = a; right = b; result = r; is_left = ex; is_right = ey; applies = ed; stands = subst (λ z. Stands codes bases z (Word r)) ev refl }
+
+  address_applied : (op : Dyadic) (l r a i b : ℕ) (x y : Content) (v : Value) → x ≡ Word l → y ≡ Word r → BaseOf bases a b → i < 2 ^ 32 → dyadic_word op l r ≡ Some ((b + i) % 2 ^ 32) → address a i ≡ v → Applied op x y v
+  address_applied op l r a i b x y v ex ey eb lt ed ev =
+      record { left = l; right = r; result = (b + i) % 2 ^ 32; is_left = ex; is_right = ey; applies = ed; stands = subst (λ z. Stands codes bases z (Word ((b + i) % 2 ^ 32))) ev (b, eb, lt, refl) }
+
+  pub sum_applied : (u v r : Value) (x y : Content) → Stands codes bases u x → Stands codes bases v y → sum w.memory u v ≡ Some r → Applied d.Add x y r
+  sum_applied (number a) (number b) r x y su sv e = numbers_applied d.Add a b (word_sum a b) x y r su sv refl (some_is _ r e)
+  sum_applied (address a i) (number n) r x y su sv e =
+      address_applied d.Add ((su.0 + i) % 2 ^ 32) n a (word_sum i n) su.0 x y r su.3 sv su.1 (low_word (i + n)) (ap (λ z. Some z) (add_offset su.0 i n))
+      (if_some (lives w.memory a) (address a (word_sum i n)) r e).1
+  sum_applied (number n) (address b j) r x y su sv e =
+      address_applied d.Add n ((sv.0 + j) % 2 ^ 32) b (word_sum n j) sv.0 x y r su sv.3 sv.1 (low_word (n + j)) (ap (λ z. Some z) (offset_add sv.0 j n))
+      (if_some (lives w.memory b) (address b (word_sum n j)) r e).1
+  sum_applied _ _ r x y su sv e = absurd (let z : None ≡ Some r = e in cc)
+
+  difference_applied : (u v r : Value) (x y : Content) → Stands codes bases u x → Stands codes bases v y → difference w.memory u v ≡ Some r → Applied d.Subtract x y r
+  difference_applied (number a) (number b) r x y su sv e = numbers_applied d.Subtract a b (word_difference a b) x y r su sv refl (some_is _ r e)
+  difference_applied (address a i) (number n) r x y su sv e =
+      address_applied d.Subtract ((su.0 + i) % 2 ^ 32) n a (word_difference i n) su.0 x y r su.3 sv su.1 (low_word (i + (2 ^ 32 - n))) (ap (λ z. Some z) (add_offset su.0 i (2 ^ 32 - n)))
+      (if_some (lives w.memory a) (address a (word_difference i n)) r e).1
+  difference_applied (address a i) (address b j) r x y su sv e =
+      let h = if_there (a == b) (cond (lives w.memory a) (Some (number (word_difference i j))) None) r e in
+      let k = if_some (lives w.memory a) (number (word_difference i j)) r h.1 in
+      let same : sv.0 ≡ su.0 = one_base bases a sv.0 su.0 (subst (λ z. BaseOf bases z sv.0) (sym (eqb-true a b h.0)) sv.1) su.1 in
+      numbers_applied d.Subtract ((su.0 + i) % 2 ^ 32) ((su.0 + j) % 2 ^ 32) (word_difference i j) x y r su.3 (sv.3 ∙ ap (λ z. Word ((z + j) % 2 ^ 32)) same)
+      (ap (λ z. Some z) (apart_by su.0 i j su.2 sv.2)) k.1
+  difference_applied _ _ r x y su sv e = absurd (let z : None ≡ Some r = e in cc)
+
+  -- ---- equality
+
+  record EqualWords (x y : Content) (t : Bool) : Type 0 where
+    left : ℕ
+    right : ℕ
+    is_left : x ≡ Word left
+    is_right : y ≡ Word right
+    same : (left == right) ≡ t
+
+  zero_words : (n : ℕ) (v : Value) (x y : Content) (t : Bool) → x ≡ Word n → Stands codes bases v y → equals_zero w.memory n v ≡ Some t → EqualWords x y t
+  zero_words n v x y t ex sv e =
+      let h = if_there (n == 0) (option_map not (truth_of_value w.memory v)) t e in
+      by_truth (truth_of_value w.memory v) refl (eqb-true n 0 h.0) h.1
+    where
+      by_truth : (o : Option Bool) → truth_of_value w.memory v ≡ o → n ≡ 0 → option_map not o ≡ Some t → EqualWords x y t
+      by_truth None eo ez e = absurd (cc)
+      by_truth (Some s) eo ez e =
+          let j = judged_word v y s sv eo in
+          record { left = n; right = j.word; is_left = ex; is_right = j.is_word; same = ap (λ z. z == j.word) ez ∙ turned 0 j.word ∙ j.zero_if ∙ some_is _ t e }
+
+  other_words : (x y : Content) (t : Bool) → EqualWords x y t → EqualWords y x t
+  other_words x y t h = record { left = h.right; right = h.left; is_left = h.is_right; is_right = h.is_left; same = turned h.right h.left ∙ h.same }
+
+  equal_words : (u v : Value) (x y : Content) (t : Bool) → Stands codes bases u x → Stands codes bases v y → equal w.memory u v ≡ Some t → EqualWords x y t
+  equal_words (number a) (number b) x y t su sv e = record { left = a; right = b; is_left = su; is_right = sv; same = some_is _ t e }
+  equal_words (address a i) (address b j) x y t su sv e =
+      let h = if_there (a == b) (cond (lives w.memory a) (Some (i == j)) None) t e in
+      let k = if_some (lives w.memory a) (i == j) t h.1 in
+      let same : sv.0 ≡ su.0 = one_base bases a sv.0 su.0 (subst (λ z. BaseOf bases z sv.0) (sym (eqb-true a b h.0)) sv.1) su.1 in
+      record {
+        left = (su.0 + i) % 2 ^ 32;
+        right = (su.0 + j) % 2 ^ 32;
+        is_left = su.3;
+        is_right = sv.3 ∙ ap (λ z. Word ((z + j) % 2 ^ 32)) same;
+        same = same_place su.0 i j su.2 sv.2 ∙ k.1;
+      }
+  equal_words (number a) (address b j) x y t su sv e = zero_words a (address b j) x y t su sv e
+  equal_words (number a) (procedure n) x y t su sv e = zero_words a (procedure n) x y t su sv e
+  equal_words (number a) (routine r) x y t su sv e = zero_words a (routine r) x y t su sv e
+  equal_words (number a) unset x y t su sv e = zero_words a unset x y t su sv e
+  equal_words (address a i) (number b) x y t su sv e = other_words y x t (zero_words b (address a i) y x t sv su e)
+  equal_words (procedure n) (number b) x y t su sv e = other_words y x t (zero_words b (procedure n) y x t sv su e)
+  equal_words (routine r) (number b) x y t su sv e = other_words y x t (zero_words b (routine r) y x t sv su e)
+  equal_words unset (number b) x y t su sv e = other_words y x t (zero_words b unset y x t sv su e)
+  equal_words _ _ x y t su sv e = absurd (let z : None ≡ Some t = e in cc)
+
+  equal_applied : (u v r : Value) (x y : Content) → Stands codes bases u x → Stands codes bases v y → option_map truth_number (equal w.memory u v) ≡ Some r → Applied d.Equal x y r
+  equal_applied u v r x y su sv e = by_truth (equal w.memory u v) refl e
+    where
+      by_truth : (o : Option Bool) → equal w.memory u v ≡ o → option_map truth_number o ≡ Some r → Applied d.Equal x y r
+      by_truth None eo e = absurd (cc)
+      by_truth (Some t) eo e =
+          let h = equal_words u v x y t su sv eo in
+          numbers_applied d.Equal h.left h.right (truth t) x y r h.is_left h.is_right (ap (λ z. Some (truth z)) h.same) (some_is _ r e)
+
+  unequal_applied : (u v r : Value) (x y : Content) → Stands codes bases u x → Stands codes bases v y → option_map (λ b. truth_number (not b)) (equal w.memory u v) ≡ Some r → Applied d.Unequal x y r
+  unequal_applied u v r x y su sv e = by_truth (equal w.memory u v) refl e
+    where
+      by_truth : (o : Option Bool) → equal w.memory u v ≡ o → option_map (λ b. truth_number (not b)) o ≡ Some r → Applied d.Unequal x y r
+      by_truth None eo e = absurd (cc)
+      by_truth (Some t) eo e =
+          let h = equal_words u v x y t su sv eo in
+          numbers_applied d.Unequal h.left h.right (truth (not t)) x y r h.is_left h.is_right (ap (λ z. Some (truth (not z))) h.same) (some_is _ r e)
+
+  -- ---- order
+
+  ordered_applied : (q : Operator) (op : Dyadic) (g : ℕ → ℕ → ℕ) → ((a b : ℕ) → infix_word q a b ≡ Some (g a b)) → ((a b : ℕ) → dyadic_word op a b ≡ Some (g a b))
+      → ((b i j : ℕ) → b + i < 2 ^ 31 → b + j < 2 ^ 31 → g (b + i) (b + j) ≡ g i j)
+      → (u v r : Value) (x y : Content) → Stands codes bases u x → Stands codes bases v y → ordered q w.memory u v ≡ Some r → Applied op x y r
+  ordered_applied q op g eq ed shift (number a) (number b) r x y su sv e =
+      numbers_applied op a b (g a b) x y r su sv (ed a b) (some_is _ r (sym (ap (option_map number) (eq a b)) ∙ e))
+  ordered_applied q op g eq ed shift (address a i) (address b j) r x y su sv e =
+      let h = if_there (a == b) (cond (lives w.memory a) (cond (within w.memory a i) (cond (within w.memory a j) (option_map number (infix_word q i j)) None) None) None) r e in
+      let k = if_there (lives w.memory a) (cond (within w.memory a i) (cond (within w.memory a j) (option_map number (infix_word q i j)) None) None) r h.1 in
+      let l = if_there (within w.memory a i) (cond (within w.memory a j) (option_map number (infix_word q i j)) None) r k.1 in
+      let m = if_there (within w.memory a j) (option_map number (infix_word q i j)) r l.1 in
+      let same : sv.0 ≡ su.0 = one_base bases a sv.0 su.0 (subst (λ z. BaseOf bases z sv.0) (sym (eqb-true a b h.0)) sv.1) su.1 in
+      let si = small_address a i su.0 su.1 l.0 in
+      let sj = small_address a j su.0 su.1 m.0 in
+      numbers_applied op (su.0 + i) (su.0 + j) (g i j) x y r (su.3 ∙ ap Word si.is_word) (sv.3 ∙ ap (λ z. Word ((z + j) % 2 ^ 32)) same ∙ ap Word sj.is_word)
+      (ed (su.0 + i) (su.0 + j) ∙ ap (λ z. Some z) (shift su.0 i j si.small sj.small)) (some_is _ r (sym (ap (option_map number) (eq i j)) ∙ m.1))
+  ordered_applied q op g eq ed shift _ _ r x y su sv e = absurd (let z : None ≡ Some r = e in cc)
+
+  less_applied : (u v r : Value) (x y : Content) → Stands codes bases u x → Stands codes bases v y → ordered o.Less w.memory u v ≡ Some r → Applied d.Less x y r
+  less_applied u v r x y su sv e =
+      ordered_applied o.Less d.Less word_less (λ a b. refl) (λ a b. refl)
+      (λ b i j hi hj. less_small (b + i) (b + j) hi hj ∙ ap truth (shift_less b i j) ∙ sym (less_small i j (omega arith) (omega arith))) u v r x y su sv e
+
+  greater_applied : (u v r : Value) (x y : Content) → Stands codes bases u x → Stands codes bases v y → ordered o.Greater w.memory u v ≡ Some r → Applied d.Greater x y r
+  greater_applied u v r x y su sv e =
+      ordered_applied o.Greater d.Greater word_greater (λ a b. refl) (λ a b. refl)
+      (λ b i j hi hj. less_small (b + j) (b + i) hj hi ∙ ap truth (shift_less b j i) ∙ sym (less_small j i (omega arith) (omega arith))) u v r x y su sv e
+
+  at_most_applied : (u v r : Value) (x y : Content) → Stands codes bases u x → Stands codes bases v y → ordered o.AtMost w.memory u v ≡ Some r → Applied d.AtMost x y r
+  at_most_applied u v r x y su sv e =
+      ordered_applied o.AtMost d.AtMost word_at_most (λ a b. refl) (λ a b. refl)
+      (λ b i j hi hj. most_small (b + i) (b + j) hi hj ∙ ap truth (shift_most b i j) ∙ sym (most_small i j (omega arith) (omega arith))) u v r x y su sv e
+
+  at_least_applied : (u v r : Value) (x y : Content) → Stands codes bases u x → Stands codes bases v y → ordered o.AtLeast w.memory u v ≡ Some r → Applied d.AtLeast x y r
+  at_least_applied u v r x y su sv e =
+      ordered_applied o.AtLeast d.AtLeast word_at_least (λ a b. refl) (λ a b. refl)
+      (λ b i j hi hj. most_small (b + j) (b + i) hj hi ∙ ap truth (shift_most b j i) ∙ sym (most_small j i (omega arith) (omega arith))) u v r x y su sv e
+
+  -- ---- what an operator comes to
+
+  abbrev pub OperatedAs : Dyadic → Content → Content → Outcome Value → Type 0
+  OperatedAs op x y (gives v w1) = (w1 ≡ w) × Applied op x y v
+  OperatedAs op x y (leaves exit w1) = ⊥
+  OperatedAs op x y (ends e w1) = (w1 ≡ w) × (e ≡ divide_by_zero) × Undivided op x y
+  OperatedAs op x y undefined = Unit {0}
+  OperatedAs op x y (going w1) = ⊥
+
+  given_as : (op : Dyadic) (x y : Content) (r : Option Value) → ((v : Value) → r ≡ Some v → Applied op x y v) → OperatedAs op x y (given r w)
+  given_as op x y None go = tt
+  given_as op x y (Some v) go = (refl, go v refl)
+
+  divided : (op : Dyadic) (g : ℕ → ℕ → ℕ) (a b : ℕ) (x y : Content) → x ≡ Word a → y ≡ Word b → ((a b : ℕ) → dyadic_word op a b ≡ quotient g a b) → (t : Bool) → (b == 0) ≡ t
+      → OperatedAs op x y (either t (λ w. ends divide_by_zero w) (λ w. given (option_map number (cond t None (Some (g a b)))) w) w)
+  divided op g a b x y ex ey ed true et =
+      (refl, refl, record { left = a; right = b; is_left = ex; is_right = ey; none = ed a b ∙ ap (λ (z : Bool). if z then None else Some (g a b)) et })
+  divided op g a b x y ex ey ed false et =
+      (refl, numbers_applied op a b (g a b) x y (number (g a b)) ex ey (ed a b ∙ ap (λ (z : Bool). if z then None else Some (g a b)) et) refl)
+
+  -- operators on numbers alone
+  abbrev OnNumbers : Operator → Dyadic → Type 0
+  OnNumbers q op = (a b : ℕ) (x y : Content) → x ≡ Word a → y ≡ Word b → OperatedAs op x y (on_numbers q (number a) (number b) w)
+
+  on_numbers_as : (q : Operator) (op : Dyadic) → OnNumbers q op → (u v : Value) (x y : Content) → Stands codes bases u x → Stands codes bases v y → OperatedAs op x y (on_numbers q u v w)
+  on_numbers_as q op go (number a) (number b) x y su sv = go a b x y su sv
+  on_numbers_as q op go _ _ x y su sv = tt
+
+  abbrev pub ByOperator : Option Dyadic → Content → Content → Outcome Value → Type 0
+  ByOperator None x y u = Unit {0}
+  ByOperator (Some op) x y u = OperatedAs op x y u
+
+  pub operates : (q : Operator) (u v : Value) (x y : Content) → Stands codes bases u x → Stands codes bases v y → ByOperator (dyadic_of q) x y (operate q u v w)
+  operates o.Subscript u v x y su sv = tt
+  operates o.Byte u v x y su sv = tt
+  operates o.Add u v x y su sv = given_as d.Add x y (sum w.memory u v) (λ r e. sum_applied u v r x y su sv e)
+  operates o.Subtract u v x y su sv = given_as d.Subtract x y (difference w.memory u v) (λ r e. difference_applied u v r x y su sv e)
+  operates o.Equal u v x y su sv = given_as d.Equal x y _ (λ r e. equal_applied u v r x y su sv e)
+  operates o.Unequal u v x y su sv = given_as d.Unequal x y _ (λ r e. unequal_applied u v r x y su sv e)
+  operates o.Less u v x y su sv = given_as d.Less x y _ (λ r e. less_applied u v r x y su sv e)
+  operates o.Greater u v x y su sv = given_as d.Greater x y _ (λ r e. greater_applied u v r x y su sv e)
+  operates o.AtMost u v x y su sv = given_as d.AtMost x y _ (λ r e. at_most_applied u v r x y su sv e)
+  operates o.AtLeast u v x y su sv = given_as d.AtLeast x y _ (λ r e. at_least_applied u v r x y su sv e)
+  operates o.Times u v x y su sv = on_numbers_as o.Times d.Multiply (λ a b x y ex ey. (refl, numbers_applied d.Multiply a b _ x y _ ex ey refl refl)) u v x y su sv
+  operates o.Over u v x y su sv = on_numbers_as o.Over d.Divide (λ a b x y ex ey. divided d.Divide word_quotient a b x y ex ey (λ a b. refl) (b == 0) refl) u v x y su sv
+  operates o.Rem u v x y su sv = on_numbers_as o.Rem d.Remainder (λ a b x y ex ey. divided d.Remainder word_remainder a b x y ex ey (λ a b. refl) (b == 0) refl) u v x y su sv
+  operates o.ShiftLeft u v x y su sv = on_numbers_as o.ShiftLeft d.ShiftLeft (λ a b x y ex ey. (refl, numbers_applied d.ShiftLeft a b _ x y _ ex ey refl refl)) u v x y su sv
+  operates o.ShiftRight u v x y su sv = on_numbers_as o.ShiftRight d.ShiftRight (λ a b x y ex ey. (refl, numbers_applied d.ShiftRight a b _ x y _ ex ey refl refl)) u v x y su sv
+  operates o.Both u v x y su sv = on_numbers_as o.Both d.And (λ a b x y ex ey. (refl, numbers_applied d.And a b _ x y _ ex ey refl refl)) u v x y su sv
+  operates o.Either u v x y su sv = on_numbers_as o.Either d.Or (λ a b x y ex ey. (refl, numbers_applied d.Or a b _ x y _ ex ey refl refl)) u v x y su sv
+  operates o.Same u v x y su sv = on_numbers_as o.Same d.Eqv (λ a b x y ex ey. (refl, numbers_applied d.Eqv a b _ x y _ ex ey refl refl)) u v x y su sv
+  operates o.Differ u v x y su sv = on_numbers_as o.Differ d.Neqv (λ a b x y ex ey. (refl, numbers_applied d.Neqv a b _ x y _ ex ey refl refl)) u v x y su sv
+
+  -- ---- an operand with an operator before it
+
+  abbrev pub PrefixedAs : (ℕ → ℕ) → Content → Outcome Value → Type 0
+  PrefixedAs g x (gives v w1) = (w1 ≡ w) × (n : ℕ) × (x ≡ Word n) × Stands codes bases v (Word (g n))
+  PrefixedAs g x (leaves exit w1) = ⊥
+  PrefixedAs g x (ends e w1) = ⊥
+  PrefixedAs g x undefined = Unit {0}
+  PrefixedAs g x (going w1) = ⊥
+
+  pub negates : (v : Value) (x : Content) → Stands codes bases v x → PrefixedAs word_negation x (operate_prefix q.Minus v w)
+  negates (number n) x s = (refl, n, s, refl)
+  negates _ x s = tt
+
+  pub inverts : (v : Value) (x : Content) → Stands codes bases v x → PrefixedAs word_not x (operate_prefix q.Not v w)
+  inverts (number n) x s = (refl, n, s, refl)
+  inverts _ x s = tt
+
+  pub stays : (v : Value) (x : Content) → Stands codes bases v x → PrefixedAs (λ n. n) x (operate_prefix q.Plus v w)
+  stays (number n) x s = (refl, n, s, refl)
+  stays _ x s = tt

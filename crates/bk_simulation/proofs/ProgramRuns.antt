@@ -1,0 +1,162 @@
+-- Counted runs of settled states are runs of the program, in as many frames.
+use Rattle.std.proofs.Common.{◌≡◌, ◌≢◌, ℕ, zero, suc, ◌+◌, ◌<◌, ◌≤◌, ◌==◌, Bool, true, false, List, [], ◌∷◌, Option, Some, None, refl, sym, ap, ◌∙◌, subst, if◌then◌else◌, arith, slice_get}
+use Rattle.std.specs.Option.{option_map_or}
+use Rattle.bk_base.specs.declared.limit.TheConstants.{FRAME_WORDS}
+use Rattle.bk_ocode.specs.Cells.{Temporary, Cell, Held, write}
+use Rattle.bk_ocode.specs.Depth.{next_depth}
+use Rattle.bk_ocode.specs.StmtRange.{InRange}
+use Rattle.bk_ocode.specs.OcodeState.{Placement, Placed, Routine, Control, Inside, Behind, At, State, Next, Goes, Ends, Wild}
+use Rattle.bk_ocode.specs.OcodeRun.{Rest, rest_of, or_rest, rests, rests_of, in_hand, resumed, resumed_by, resumed_in, find_rest, label_rest, Program, program_step, run, then_run}
+use Rattle.bk_ocode.specs.declared.stmt.Stmt.{Stmt}
+use Rattle.bk_ocode.specs.declared.stmt.Stmt.TheVariants.{Entry, Label, CallFunction, CallRoutine}
+use Rattle.bk_ocode.specs.WellPlaced.{IsWellPlaced}
+use Rattle.bk_simulation.proofs.Settled.{settled, settled_from, settled_step}
+use Rattle.bk_simulation.proofs.FramesKept.{LinksFrom, links_kept}
+use Rattle.bk_simulation.proofs.WrittenCells.{untouched}
+use Rattle.bk_simulation.proofs.Laid.{Setting}
+use Rattle.bk_simulation.proofs.Frame.{FewFrames, Comes, here, go_on}
+
+-- ---- a rest that takes up a result has slot 2 at least
+
+takes_here : (places : Placement) (k : ℕ) (s : Stmt) (rest : List Stmt) (r : Rest) → InRange s → rest_of places k s rest ≡ Some r → r.takes ≡ true → 2 ≤ r.depth
+takes_here places k (CallFunction n) rest r range e t = subst (λ (x : Rest). 2 ≤ x.depth) (some_rest _ r e) range.0
+  where
+    some_rest : (q r : Rest) → Some q ≡ Some r → q ≡ r
+    some_rest q r e = cc
+takes_here places k (Entry l name) rest r range e t = absurd (let z : false ≡ true = ap (λ o. option_map_or (λ (x : Rest). x.takes) o true) e ∙ t in cc)
+takes_here places k (Label l) rest r range e t = absurd (let z : false ≡ true = ap (λ o. option_map_or (λ (x : Rest). x.takes) o true) e ∙ t in cc)
+takes_here places k (CallRoutine n) rest r range e t = absurd (let z : false ≡ true = ap (λ o. option_map_or (λ (x : Rest). x.takes) o true) e ∙ t in cc)
+takes_here places k s rest r range e t = absurd (let z : None ≡ Some r = e in cc)
+
+takes_high : (places : Placement) (k : ℕ) (stmts : List Stmt) → ((i : ℕ) (s : Stmt) → slice_get stmts i ≡ Some s → InRange s) → (n : ℕ) (r : Rest) → find_rest (rests places k stmts) n ≡ Some r → r.takes ≡ true → 2 ≤ r.depth
+takes_high places k [] range n r e t = absurd (let z : None ≡ Some r = e in cc)
+takes_high places k (s ∷ rest) range n r e t = by_rest (rest_of places k s rest) refl e (λ h. takes_high places (next_depth k s) rest (λ i u at. range (suc i) u at) n r h t)
+  where
+    by_test : (q : Rest) → rest_of places k s rest ≡ Some q → (b : Bool) → (find_rest (rests places (next_depth k s) rest) n ≡ Some r → 2 ≤ r.depth)
+        → (if b then Some q else find_rest (rests places (next_depth k s) rest) n) ≡ Some r → 2 ≤ r.depth
+    by_test q eq true go e = let z : q ≡ r = cc in takes_here places k s rest r (range 0 s refl) (eq ∙ e) t
+    by_test q eq false go e = go e
+
+    by_rest : (o : Option Rest) → rest_of places k s rest ≡ o → find_rest (or_rest o (rests places (next_depth k s) rest)) n ≡ Some r → (find_rest (rests places (next_depth k s) rest) n ≡ Some r → 2 ≤ r.depth) → 2 ≤ r.depth
+    by_rest None eo e go = go e
+    by_rest (Some q) eo e go = by_test q eo _ go e
+
+-- ---- a state and the one as which it goes on
+
+-- the same frame, and each link of the one, up to the frame's, is the other's; what was written and read is the same
+pub record Resumes (s t : State) : Type 0 where
+  pub frame : t.frame ≡ s.frame
+  pub links : LinksFrom (suc s.frame) t.cells s.cells
+  pub output : t.output ≡ s.output
+  pub input : t.input ≡ s.input
+
+resumes_same : (s t : State) → t.frame ≡ s.frame → t.cells ≡ s.cells → t.output ≡ s.output → t.input ≡ s.input → Resumes s t
+resumes_same s t ef ec eo ei = record { frame = ef; links = λ x w le e. ap (λ f. f x) ec ∙ e; output = eo; input = ei }
+
+link_stays : (cells : ℕ → Cell) (top at : ℕ) (c : Cell) → top < at → LinksFrom top (write cells at c) cells
+link_stays cells top at c lt x w le e = let ne : x ≢ at = omega arith in untouched cells at c x ne ∙ e
+
+resumed_so : (own : Placed) (r : Rest) (s : State) → (r.takes ≡ true → 2 ≤ r.depth) → Resumes s (resumed own r s)
+resumed_so own r s high = by_takes r.takes refl
+  where
+    by_takes : (b : Bool) → r.takes ≡ b → Resumes s (resumed_by b own r s)
+    by_takes true e = let h : 2 ≤ r.depth = high e in record { frame = refl; links = link_stays s.cells (suc s.frame) (s.frame + r.depth) (Held Temporary (in_hand s.hand)) (omega arith); output = refl; input = refl }
+    by_takes false e = resumes_same s (resumed_by false own r s) refl refl refl refl
+
+label_low : (places : Placement) (k : ℕ) (stmts : List Stmt) (l : ℕ) (r : Rest) → label_rest places k stmts l ≡ Some r → r.takes ≡ true → ⊥
+label_low places k [] l r e t = absurd (let z : None ≡ Some r = e in cc)
+label_low places k (s ∷ rest) l r e t = by_label s e (λ h. label_low places (next_depth k s) rest l r h t)
+  where
+    by_test : (m : ℕ) (b : Bool) → (label_rest places (next_depth k (Label m)) rest l ≡ Some r → ⊥) → (if b then rest_of places k (Label m) rest else label_rest places (next_depth k (Label m)) rest l) ≡ Some r → ⊥
+    by_test m true go e = let z : false ≡ true = ap (λ o. option_map_or (λ (x : Rest). x.takes) o true) e ∙ t in absurd (cc)
+    by_test m false go e = go e
+
+    by_label : (s : Stmt) → label_rest places k (s ∷ rest) l ≡ Some r → (label_rest places (next_depth k s) rest l ≡ Some r → ⊥) → ⊥
+    by_label (Label m) e go = by_test m (m == l) go e
+    by_label _ e go = go e
+
+module _ (program : Program) (first F : ℕ) (well : IsWellPlaced program first F) where
+  pub found_so : (sections : List Placed) → ((i : ℕ) (own : Placed) → slice_get sections i ≡ Some own → (j : ℕ) (s : Stmt) → slice_get own.stmts j ≡ Some s → InRange s) → (n : ℕ) (s t : State) → resumed_in sections n s ≡ Some t → Resumes s t
+  found_so [] range n s t e = absurd (let z : None ≡ Some t = e in cc)
+  found_so (own ∷ others) range n s t e = by_rest (find_rest (rests_of own) n) refl e (λ h. found_so others (λ i o at. range (suc i) o at) n s t h)
+    where
+      by_rest : (o : Option Rest) → find_rest (rests_of own) n ≡ o → option_map_or (λ r. Some (resumed own r s)) o (resumed_in others n s) ≡ Some t → (resumed_in others n s ≡ Some t → Resumes s t) → Resumes s t
+      by_rest None eo e go = go e
+      by_rest (Some r) eo e go = subst (Resumes s) (let z : resumed own r s ≡ t = cc in z) (resumed_so own r s (λ q. takes_high own.places 0 own.stmts (range 0 own refl) n r eo q))
+
+  pub goes_on_so : (s : State) → Resumes s (settled program s)
+  goes_on_so s = by_control s.control
+    where
+      same : Resumes s s
+      same = resumes_same s s refl refl refl refl
+
+      by_label : (own : Placed) (l : ℕ) (o : Option Rest) → label_rest own.places 0 own.stmts l ≡ o → Resumes s (option_map_or (λ r. resumed own r s) o s)
+      by_label own l None e = same
+      by_label own l (Some r) e = resumed_so own r s (λ q. absurd (label_low own.places 0 own.stmts l r e q))
+
+      by_found : (n : ℕ) (o : Option State) → resumed_in program.sections n s ≡ o → Resumes s (option_map_or (λ t. t) o s)
+      by_found n None e = same
+      by_found n (Some t) e = found_so program.sections (λ i own at j u e1. (well.is_program.accepted i own at).in_range j u e1) n s t e
+
+      by_routine : (n : ℕ) (o : Option Routine) → Resumes s (option_map_or (λ _. s) o (option_map_or (λ t. t) (resumed_in program.sections n s) s))
+      by_routine n (Some r) = same
+      by_routine n None = by_found n (resumed_in program.sections n s) refl
+
+      by_home : (n : ℕ) (b : Bool) → Resumes s (if b then s else option_map_or (λ _. s) (program.callables.routine n) (option_map_or (λ t. t) (resumed_in program.sections n s) s))
+      by_home n true = same
+      by_home n false = by_routine n (program.callables.routine n)
+
+      by_control : (c : Control) → Resumes s (settled_from program s c)
+      by_control (Inside own k rest) = same
+      by_control (Behind own l) = by_label own l (label_rest own.places 0 own.stmts l) refl
+      by_control (At n) = by_home n (n == program.home)
+
+-- ---- runs
+
+pub run_after : (program : Program) (n : ℕ) (s last : State) → run program n s ≡ Goes last → run program (suc n) s ≡ program_step program last
+run_after program zero s last e = then_zero (program_step program s) ∙ ap (λ (x : State). program_step program x) (let z : s ≡ last = cc in z)
+  where
+    then_zero : (x : Next) → then_run (run program 0) x ≡ x
+    then_zero (Goes t) = refl
+    then_zero (Ends e t) = refl
+    then_zero Wild = refl
+run_after program (suc n) s last e = by_step (program_step program s) e (λ t h. run_after program n t last h)
+  where
+    by_step : (x : Next) → then_run (run program n) x ≡ Goes last → ((t : State) → run program n t ≡ Goes last → run program (suc n) t ≡ program_step program last) → then_run (run program (suc n)) x ≡ program_step program last
+    by_step (Goes t) e go = go t e
+    by_step (Ends q t) e go = absurd (cc)
+    by_step Wild e go = absurd (cc)
+
+module _ (g : Setting) where
+  raw_frames : (t : State) → FewFrames g (settled g.program t).cells (settled g.program t).frame g.cap → FewFrames g t.cells t.frame g.cap
+  raw_frames t few =
+      let h = goes_on_so g.program g.first FRAME_WORDS g.well t in
+      links_kept g.program g.first FRAME_WORDS (settled g.program t).cells t.cells t.frame g.cap h.links (subst (λ y. FewFrames g (settled g.program t).cells y g.cap) h.frame few)
+
+  -- from a state that goes on as the first does
+  pub record RunSo (n : ℕ) (s0 u : State) : Type 0 where
+    pub last : State
+    pub runs : run g.program n s0 ≡ Goes last
+    pub settles : settled g.program last ≡ u
+    pub frames : (k : ℕ) (t : State) → k ≤ n → run g.program k s0 ≡ Goes t → FewFrames g t.cells t.frame g.cap
+
+  at_first : (s0 : State) → FewFrames g s0.cells s0.frame g.cap → (k : ℕ) (t : State) → k ≤ 0 → run g.program k s0 ≡ Goes t → FewFrames g t.cells t.frame g.cap
+  at_first s0 few zero t le e = subst (λ (x : State). FewFrames g x.cells x.frame g.cap) (let z : s0 ≡ t = cc in z) few
+  at_first s0 few (suc k) t le e = absurd (omega arith)
+
+  pub comes_run : (n p : ℕ) (s s0 u : State) → settled g.program s0 ≡ s → FewFrames g s0.cells s0.frame g.cap → Comes g n p s u → RunSo n s0 u
+  comes_run _ _ s s0 u es few (here _) = record { last = s0; runs = refl; settles = es; frames = at_first s0 few }
+  comes_run _ _ s s0 u es few (go_on n p _ v _ mv fv c) =
+      let stepped : program_step g.program s0 ≡ Goes mv.0 = settled_step g.program s0 ∙ ap (program_step g.program) es ∙ mv.1 in
+      let few1 : FewFrames g mv.0.cells mv.0.frame g.cap = raw_frames mv.0 (subst (λ (x : State). FewFrames g x.cells x.frame g.cap) (sym mv.2) fv) in
+      let r = comes_run n p v mv.0 u mv.2 few1 c in
+      record {
+        last = r.last;
+        runs = ap (then_run (run g.program n)) stepped ∙ r.runs;
+        settles = r.settles;
+        frames = λ k t le e. later k t le e stepped few1 r;
+      }
+    where
+      later : (k : ℕ) (t : State) → k ≤ suc n → run g.program k s0 ≡ Goes t → program_step g.program s0 ≡ Goes mv.0 → FewFrames g mv.0.cells mv.0.frame g.cap → RunSo n mv.0 u → FewFrames g t.cells t.frame g.cap
+      later zero t le e st f1 r = at_first s0 few 0 t (omega arith) e
+      later (suc k) t le e st f1 r = r.frames k t (omega arith) (sym (ap (then_run (run g.program k)) st) ∙ e)

@@ -1,0 +1,132 @@
+-- The globals that a section sets are those of the one GLOBAL at its end; settings, section by section.
+use Rattle.std.proofs.Common.{◌≡◌, ℕ, suc, ◌+◌, Bool, true, false, not, List, [], ◌∷◌, ◌++◌, length, map, Some, None, refl, sym, ap, ◌∙◌, subst, if◌then◌else◌, arith, slice_get, take, append_assoc, append-nil}
+use Rattle.bk_syntax.specs.Tree.{Declarations}
+use Rattle.bk_ocode.specs.Context.{Context, at_start, after, after_all, context_of}
+use Rattle.bk_ocode.specs.Faults.{misplaced, label_not_set, label_set_twice, depths_disagree, slot_above, too_long, stmt_fault}
+use Rattle.bk_ocode.specs.Places.{role, may_stand, position_behind}
+use Rattle.bk_ocode.specs.Section.{AreFaultless}
+use Rattle.bk_base.specs.declared.ocode_fault.OcodeKind.TheVariants as kind
+use Rattle.bk_ocode.specs.Lists.{joined}
+use Rattle.bk_ocode.specs.OcodeState.{Placement, Placed}
+use Rattle.bk_ocode.specs.SectionData.{entry_setting, stmt_globals, globals_of}
+use Rattle.bk_ocode.specs.ProgramStart.{all_globals}
+use Rattle.bk_ocode.specs.declared.stmt.GlobalEntry.{GlobalEntry}
+use Rattle.bk_ocode.specs.declared.stmt.Stmt.{Stmt}
+use Rattle.bk_ocode.specs.declared.stmt.Stmt.TheVariants.{Number, True, False, Query, Load, Address, Text, Monadic, Dyadic, LoadByte, Assign, AssignAt, AssignByte, Jump, JumpIf, Label, GiveResult, TakeResult, Stack, Store, Entry, Save, CallFunction, CallRoutine, ReturnItem, Return, EndProcedure, Switch, Finish, DataLabel, DataNumber, DataAddress, Globals}
+use Rattle.bk_trans.specs.Naming.{named_tree}
+use Rattle.bk_trans.specs.Parts.{Part, target_of, parts_of_declarations}
+use Rattle.bk_trans.specs.Scheme.{procedure_code, data_code, entries_of, scheme}
+use Rattle.bk_meaning.specs.Environment.{objects_of_declarations}
+use Rattle.bk_meaning.specs.Lasting.{Lasting, global_vector, words, code, of_declarations, of_sections}
+use Rattle.bk_simulation.specs.Placement.{StandFor}
+use Rattle.bk_simulation.proofs.Memory.{Codes}
+use Rattle.bk_simulation.proofs.LastingStore.{setting_of, settings}
+
+-- ---- nothing stands behind GLOBAL
+
+-- no statement behind this context is misplaced
+abbrev Standing : Context → List Stmt → Type 0
+Standing c stmts = (k : ℕ) (t : Stmt) → slice_get stmts k ≡ Some t → misplaced (after_all c (take k stmts)) t ≡ false
+
+no_more : (fs : List GlobalEntry) (t : Stmt) → not (may_stand (position_behind (Globals fs)) (role t)) ≡ true
+no_more fs (Number v) = refl
+no_more fs True = refl
+no_more fs False = refl
+no_more fs Query = refl
+no_more fs (Load x) = refl
+no_more fs (Address x) = refl
+no_more fs (Text x) = refl
+no_more fs (Monadic x) = refl
+no_more fs (Dyadic x) = refl
+no_more fs LoadByte = refl
+no_more fs (Assign x) = refl
+no_more fs AssignAt = refl
+no_more fs AssignByte = refl
+no_more fs (Jump l) = refl
+no_more fs (JumpIf t l) = refl
+no_more fs (Label l) = refl
+no_more fs (GiveResult l) = refl
+no_more fs (TakeResult n) = refl
+no_more fs (Stack n) = refl
+no_more fs Store = refl
+no_more fs (Entry l x) = refl
+no_more fs (Save n) = refl
+no_more fs (CallFunction n) = refl
+no_more fs (CallRoutine n) = refl
+no_more fs ReturnItem = refl
+no_more fs Return = refl
+no_more fs EndProcedure = refl
+no_more fs (Switch x cs) = refl
+no_more fs Finish = refl
+no_more fs (DataLabel l) = refl
+no_more fs (DataNumber v) = refl
+no_more fs (DataAddress l) = refl
+no_more fs (Globals es) = refl
+
+not_misplaced : (before : List Stmt) (s : Stmt) → stmt_fault before s ≡ None → misplaced (context_of before) s ≡ false
+not_misplaced before s e = by_test (misplaced (context_of before) s) e
+  where
+    by_test : (b : Bool)
+        → (if b then Some kind.BadWord else if label_not_set before (context_of before) s then Some kind.LabelNotSet else if label_set_twice (context_of before) s then Some kind.LabelSetTwice
+        else if depths_disagree (context_of before) s then Some kind.DepthsDisagree else if slot_above (context_of before) s then Some kind.SlotAboveDepth else if too_long (context_of before) s then Some kind.TooLong else None) ≡ None → b ≡ false
+    by_test true e = absurd (let z : Some kind.BadWord ≡ None = e in cc)
+    by_test false e = refl
+
+behind_global : (c : Context) (fs : List GlobalEntry) (t : Stmt) (rest : List Stmt) → Standing c (Globals fs ∷ t ∷ rest) → ⊥
+behind_global c fs t rest are = let z : true ≡ false = sym (no_more fs t) ∙ are 1 t refl in cc
+
+globals_last : (places : Placement) (c : Context) (xs : List Stmt) (es : List GlobalEntry) → Standing c (xs ++ Globals es ∷ []) → globals_of places (xs ++ Globals es ∷ []) ≡ map (entry_setting places) es
+globals_last places c [] es are = append-nil (map (entry_setting places) es)
+globals_last places c (s ∷ xs) es are = ap (λ y. y ++ globals_of places (xs ++ Globals es ∷ [])) (by_stmt s are) ∙ globals_last places (after c s) xs es (λ k t at. are (suc k) t at)
+  where
+    behind : (fs : List GlobalEntry) (ys : List Stmt) → Standing c (Globals fs ∷ ys ++ Globals es ∷ []) → ⊥
+    behind fs [] are = behind_global c fs (Globals es) [] are
+    behind fs (y ∷ ys) are = behind_global c fs y (ys ++ Globals es ∷ []) are
+
+    by_stmt : (s : Stmt) → Standing c (s ∷ xs ++ Globals es ∷ []) → stmt_globals places s ≡ []
+    by_stmt (Globals fs) are = absurd (behind fs xs are)
+    by_stmt s are = refl
+
+pub section_globals : (places : Placement) (ds : Declarations) → AreFaultless (scheme (named_tree ds))
+    → globals_of places (scheme (named_tree ds)) ≡ map (entry_setting places) (joined entries_of (parts_of_declarations 2 1 (named_tree ds)))
+section_globals places ds are =
+    let ps : List Part = parts_of_declarations 2 1 (named_tree ds) in
+    let es : List GlobalEntry = joined entries_of ps in
+    let front : List Stmt = joined (procedure_code (joined target_of ps)) ps in
+    let back : List Stmt = joined data_code ps in
+    globals_last places at_start (front ++ back) es (λ k t at. not_misplaced (take k (scheme (named_tree ds))) t (are.faultless k t at))
+
+-- ---- settings
+
+pub settings_append : (codes : Codes) (n : ℕ) (xs ys : List Lasting) → settings codes n (xs ++ ys) ≡ settings codes n xs ++ settings codes (n + length xs) ys
+settings_append codes n [] ys = ap (λ k. settings codes k ys) (let e : n ≡ n + 0 = omega arith in e)
+settings_append codes n (global_vector ∷ xs) ys = settings_append codes (suc n) xs ys ∙ ap (λ k. settings codes (suc n) xs ++ settings codes k ys) (let e : suc n + length xs ≡ n + suc (length xs) = omega arith in e)
+settings_append codes n (words ws ∷ xs) ys = settings_append codes (suc n) xs ys ∙ ap (λ k. settings codes (suc n) xs ++ settings codes k ys) (let e : suc n + length xs ≡ n + suc (length xs) = omega arith in e)
+settings_append codes n (code f ∷ xs) ys =
+    ap (λ y. setting_of codes n f.global ++ y) (settings_append codes (suc n) xs ys ∙ ap (λ k. settings codes (suc n) xs ++ settings codes k ys) (let e : suc n + length xs ≡ n + suc (length xs) = omega arith in e))
+    ∙ sym (append_assoc (setting_of codes n f.global) (settings codes (suc n) xs) (settings codes (n + suc (length xs)) ys))
+
+-- what a section sets, where its objects have numbers from this one on
+pub record SetsSame (codes : Codes) (own : Placed) (n : ℕ) (ds : Declarations) : Type 0 where
+  pub same : map (entry_setting own.places) (joined entries_of (parts_of_declarations 2 1 (named_tree ds))) ≡ settings codes n (of_declarations (record { names = []; next = n }) ds)
+  pub many : length (of_declarations (record { names = []; next = n }) ds) ≡ objects_of_declarations ds
+
+-- and each of several
+abbrev pub SetSame : Codes → ℕ → List Declarations → List Placed → Type 0
+SetSame codes n [] [] = Unit {0}
+SetSame codes n (ds ∷ rest) (own ∷ others) = SetsSame codes own n ds × SetSame codes (n + objects_of_declarations ds) rest others
+SetSame codes n _ _ = ⊥
+
+pub all_set_same : (codes : Codes) (n : ℕ) (sections : List Declarations) (owns : List Placed) → StandFor sections owns → ((i : ℕ) (own : Placed) → slice_get owns i ≡ Some own → AreFaultless own.stmts) → SetSame codes n sections owns
+    → all_globals owns ≡ settings codes n (of_sections n sections)
+all_set_same codes n [] [] st are h = refl
+all_set_same codes n [] (own ∷ others) st are h = absurd st
+all_set_same codes n (ds ∷ rest) [] st are h = absurd st
+all_set_same codes n (ds ∷ rest) (own ∷ others) st are h =
+    let xs : List Lasting = of_declarations (record { names = []; next = n }) ds in
+    let ys : List Lasting = of_sections (n + objects_of_declarations ds) rest in
+    let e : globals_of own.places own.stmts ≡ settings codes n xs = ap (globals_of own.places) st.0 ∙ section_globals own.places ds (subst AreFaultless st.0 (are 0 own refl)) ∙ h.0.same in
+    ap (λ y. y ++ all_globals others) e
+    ∙ ap (λ y. settings codes n xs ++ y) (all_set_same codes (n + objects_of_declarations ds) rest others st.1 (λ i o at. are (suc i) o at) h.1)
+    ∙ ap (λ k. settings codes n xs ++ settings codes k ys) (let q = h.0.many in let z : n + objects_of_declarations ds ≡ n + length xs = omega arith in z)
+    ∙ sym (settings_append codes n xs ys)

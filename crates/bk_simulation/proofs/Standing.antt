@@ -1,0 +1,247 @@
+-- Where code stands in a section, with the depth before it; what a label and a call have from that; and the bases of lasting objects
+-- one behind the other.
+use Rattle.std.proofs.Common.{◌≡◌, ℕ, false, zero, suc, ◌+◌, ◌≤◌, List, [], ◌∷◌, ◌++◌, length, Option, Some, None, take, drop, slice_get, refl, ap, ◌∙◌, subst, arith}
+use Rattle.bk_base.specs.declared.limit.TheConstants.{FRAME_WORDS}
+use Rattle.bk_ocode.specs.Depth.{next_depth, depth_behind}
+use Rattle.bk_ocode.specs.Section.{AreFaultless}
+use Rattle.bk_ocode.specs.OcodeState.{Placed}
+use Rattle.bk_ocode.specs.OcodeStep.{from_label}
+use Rattle.bk_ocode.specs.declared.stmt.Stmt.{Stmt}
+use Rattle.bk_ocode.specs.declared.stmt.Stmt.TheVariants.{Label}
+use Rattle.bk_ocode.proofs.Depths.{depth_within}
+use Rattle.bk_ocode.proofs.LabelsOnce.{label_has_one_place}
+use Rattle.bk_scope.specs.declared.bound.Bound.{Bound}
+use Rattle.bk_scope.specs.declared.bound.Bound.TheVariants.{Global}
+use Rattle.bk_scope.specs.Scope.{Binding, bound_in}
+use Rattle.bk_scope.specs.Constants.{named_word}
+use Rattle.bk_trans.specs.declared.around.Target.{Target}
+use Rattle.bk_trans.specs.Scheme.{outermost}
+use Rattle.bk_meaning.specs.Environment.{Named, sense_in, word_named, global_named}
+use Rattle.bk_meaning.specs.Lasting.{Lasting}
+use Rattle.bk_simulation.proofs.Memory.{BaseOf, Grown}
+use Rattle.bk_simulation.proofs.Sought.{with_names}
+use Rattle.bk_simulation.proofs.Laid.{Setting, Scene, LabelAt, CallAt, NamedIn}
+use Rattle.bk_simulation.proofs.Held.{HeldOne, HeldList, held_both, lasting_both}
+
+-- these statements stand in the section, and this is the depth before them
+pub record StandsAt (own : Placed) (depth : ℕ) (c : List Stmt) : Type 0 where
+  pub are : AreFaultless own.stmts
+  pub place : ℕ
+  pub behind : drop place own.stmts ≡ c
+  pub same_depth : depth_behind 0 (take place own.stmts) ≡ depth
+  pub shallow : depth ≤ FRAME_WORDS
+
+-- the first statement of what stands from a place on
+pub record FirstOf (xs : List Stmt) (i : ℕ) (s : Stmt) (c : List Stmt) : Type 0 where
+  pub at : slice_get xs i ≡ Some s
+  pub behind : drop (suc i) xs ≡ c
+  pub deeper : (k : ℕ) → depth_behind k (take (suc i) xs) ≡ next_depth (depth_behind k (take i xs)) s
+
+pub first_of : (xs : List Stmt) (i : ℕ) (s : Stmt) (c : List Stmt) → drop i xs ≡ s ∷ c → FirstOf xs i s c
+first_of [] zero s c e = absurd (let h : [] ≡ s ∷ c = e in cc)
+first_of [] (suc i) s c e = absurd (let h : [] ≡ s ∷ c = e in cc)
+first_of (x ∷ xs) zero s c e =
+    let h : x ∷ xs ≡ s ∷ c = e in
+    let first : x ≡ s = cc in
+    let others : xs ≡ c = cc in
+    record { at = ap Some first; behind = others; deeper = λ k. ap (next_depth k) first }
+first_of (x ∷ xs) (suc i) s c e = let h = first_of xs i s c e in record { at = h.at; behind = h.behind; deeper = λ k. h.deeper (next_depth k x) }
+
+-- behind the first statement
+pub passed : (own : Placed) (d m : ℕ) (s : Stmt) (c : List Stmt) → StandsAt own d (s ∷ c) → next_depth d s ≡ m → StandsAt own m c
+passed own d m s c h e =
+    let f = first_of own.stmts h.place s c h.behind in
+    let within = depth_within own.stmts h.are h.place s f.at in
+    let same : next_depth (depth_behind 0 (take h.place own.stmts)) s ≡ m = ap (λ k. next_depth k s) h.same_depth ∙ e in
+    record { are = h.are; place = suc h.place; behind = f.behind; same_depth = f.deeper 0 ∙ same; shallow = subst (λ k. k ≤ FRAME_WORDS) same within }
+
+pub at_depth : (own : Placed) (d m : ℕ) (c : List Stmt) → d ≡ m → StandsAt own d c → StandsAt own m c
+at_depth own d m c e h = subst (λ k. StandsAt own k c) e h
+
+pub written : (own : Placed) (d : ℕ) (c k : List Stmt) → c ≡ k → StandsAt own d c → StandsAt own d k
+written own d c k e h = subst (λ x. StandsAt own d x) e h
+
+-- a jump comes to its LAB
+pub label_found : (own : Placed) (d l : ℕ) (rest : List Stmt) → StandsAt own d (Label l ∷ rest) → from_label own.stmts l ≡ Some (Label l ∷ rest)
+label_found own d l rest h =
+    let f = first_of own.stmts h.place (Label l) rest h.behind in
+    label_has_one_place own.stmts h.place l h.are f.at ∙ ap Some h.behind
+
+pub label_at : (g : Setting) (sc : Scene) (d l : ℕ) (rest : List Stmt) → slice_get g.program.sections sc.section ≡ Some sc.own → StandsAt sc.own d (Label l ∷ rest) → LabelAt g sc d l rest
+label_at g sc d l rest own h =
+    let f = first_of sc.own.stmts h.place (Label l) rest h.behind in
+    record { is_own = own; place = h.place; at = f.at; same_depth = h.same_depth; behind = f.behind; found = label_found sc.own d l rest h }
+
+pub call_at : (g : Setting) (sc : Scene) (d : ℕ) (call : Stmt) (rest : List Stmt) → slice_get g.program.sections sc.section ≡ Some sc.own → StandsAt sc.own d (call ∷ rest) → CallAt g sc call rest
+call_at g sc d call rest own h =
+    let f = first_of sc.own.stmts h.place call rest h.behind in
+    record { is_own = own; place = h.place; at = f.at; behind = f.behind }
+
+-- ---- the bases of lasting objects
+
+-- these bases are those of the objects from this number on
+abbrev pub Follow : List ℕ → ℕ → List ℕ → Type 0
+Follow all next [] = Unit {0}
+Follow all next (b ∷ bs) = BaseOf all next b × Follow all (suc next) bs
+
+pub follow_first : (all : List ℕ) (next : ℕ) (xs ys : List ℕ) → Follow all next (xs ++ ys) → Follow all next xs
+follow_first all next [] ys h = tt
+follow_first all next (x ∷ xs) ys h = (h.0, follow_first all (suc next) xs ys h.1)
+
+pub follow_second : (all : List ℕ) (next n : ℕ) (xs ys : List ℕ) → length xs ≡ n → Follow all next (xs ++ ys) → Follow all (next + n) ys
+follow_second all next n [] ys e h = let s : next ≡ next + n = omega (arith, e) in subst (λ k. Follow all k ys) s h
+follow_second all next n (x ∷ xs) ys e h =
+    let s : suc next + length xs ≡ next + n = omega (arith, e) in
+    subst (λ k. Follow all k ys) s (follow_second all (suc next) (length xs) xs ys refl h.1)
+
+-- these words are those of the procedures with numbers from this one on
+abbrev pub FollowWords : (ℕ → ℕ) → ℕ → List ℕ → Type 0
+FollowWords f next [] = Unit {0}
+FollowWords f next (w ∷ ws) = (f next ≡ w) × FollowWords f (suc next) ws
+
+pub words_first : (f : ℕ → ℕ) (next : ℕ) (xs ys : List ℕ) → FollowWords f next (xs ++ ys) → FollowWords f next xs
+words_first f next [] ys h = tt
+words_first f next (x ∷ xs) ys h = (h.0, words_first f (suc next) xs ys h.1)
+
+pub words_second : (f : ℕ → ℕ) (next n : ℕ) (xs ys : List ℕ) → length xs ≡ n → FollowWords f next (xs ++ ys) → FollowWords f (next + n) ys
+words_second f next n [] ys e h = let s : next ≡ next + n = omega (arith, e) in subst (λ k. FollowWords f k ys) s h
+words_second f next n (x ∷ xs) ys e h =
+    let s : suc next + length xs ≡ next + n = omega (arith, e) in
+    subst (λ k. FollowWords f k ys) s (words_second f (suc next) (length xs) xs ys refl h.1)
+
+pub length_both : (xs ys : List ℕ) → length (xs ++ ys) ≡ length xs + length ys
+length_both [] ys = omega arith
+length_both (x ∷ xs) ys = let h = length_both xs ys in omega (arith, h)
+
+-- the section in which code stands, the names in scope there, and what a step pays at least
+pub record Home : Type 0 where
+  pub section : ℕ
+  pub own : Placed
+  pub targets : List Target
+  pub bindings : List Binding
+  pub pay : ℕ
+
+abbrev pub home : Scene → ℕ → Home
+home sc pay = record { section = sc.section; own = sc.own; targets = sc.targets; bindings = sc.bindings; pay = pay }
+
+-- a setting in which that section stands, and whose steps pay for as much
+pub record Fitting (h : Home) (g : Setting) : Type 0 where
+  pub own : slice_get g.program.sections h.section ≡ Some h.own
+  pub pays : h.pay ≤ g.pay
+
+-- and whose lasting objects have these bases, and those that are procedures these words
+pub record Suits (h : Home) (next : ℕ) (bases entries : List ℕ) (g : Setting) : Type 0 where
+  pub fits : Fitting h g
+  pub follow : Follow g.lasting next bases
+  pub words : FollowWords g.codes.procedure next entries
+
+-- names that mean the same constants in the run and in scope
+abbrev pub Agree : List Named → List Binding → Type 0
+Agree ns bs = (x : List ℕ) → word_named (sense_in ns x) ≡ named_word (bound_in bs x)
+
+-- some procedure there
+abbrev pub there_in : Home → ℕ → Scene
+there_in h k = record { section = h.section; own = h.own; targets = h.targets; bindings = h.bindings; procedure = k; around = outermost; exits = record { loop = false; switch = false } }
+
+-- the global that a name means
+abbrev pub global_of : Option Bound → Option ℕ
+global_of (Some (Global (Some k))) = Some k
+global_of _ = None
+
+abbrev pub AgreeGlobals : List Named → List Binding → Type 0
+AgreeGlobals ns bs = (x : List ℕ) → global_named (sense_in ns x) ≡ global_of (bound_in bs x)
+
+-- names that mean in each run what they should there
+abbrev pub Mean : Home → Setting → List Named → Type 0
+Mean h g ns = ((k : ℕ) (bases : List ℕ) (frame : ℕ) → Grown g.lasting bases → NamedIn (there_in h k) (with_names ns 0) bases frame) × AgreeGlobals ns h.bindings
+
+-- Lasting objects from this number on, so many, with bases: where a setting has them, this is so, and those objects are held there.
+pub record Bases (h : Home) (next many : ℕ) (objects : List Named → List Lasting) (P : Setting → Type 0) : Type 0 where
+  pub bases : List ℕ
+  pub entries : List ℕ
+  pub all : length bases ≡ many
+  pub all_entries : length entries ≡ many
+  pub count : (ns : List Named) → length (objects ns) ≡ many
+  pub laid : (g : Setting) → Suits h next bases entries g → P g
+  pub held : (g : Setting) → Suits h next bases entries g → (ns : List Named) → Agree ns h.bindings → Mean h g ns → HeldList g next (objects ns)
+
+-- none
+pub no_bases : (h : Home) (next : ℕ) (P : Setting → Type 0) → ((g : Setting) → Fitting h g → P g) → Bases h next 0 (λ ns. []) P
+no_bases h next P f = record { bases = []; entries = []; all = refl; all_entries = refl; count = λ ns. refl; laid = λ g x. f g x.fits; held = λ g x ns a u. tt }
+
+-- one
+pub new_base : (h : Home) (next base : ℕ) (object : List Named → Lasting) (P : Setting → Type 0) → ((g : Setting) → Fitting h g → BaseOf g.lasting next base → P g)
+    → ((g : Setting) → Fitting h g → BaseOf g.lasting next base → (ns : List Named) → Agree ns h.bindings → Mean h g ns → HeldOne g next (object ns)) → Bases h next 1 (λ ns. object ns ∷ []) P
+new_base h next base object P f k = record { bases = base ∷ []; entries = 0 ∷ []; all = refl; all_entries = refl; count = λ ns. refl; laid = λ g x. f g x.fits (x.follow.0); held = λ g x ns a u. (k g x.fits (x.follow.0) ns a u, tt) }
+
+-- those of one part and then those of another
+pub both_bases : (h : Home) (next n m : ℕ) {K L : List Named → List Lasting} (P Q : Setting → Type 0) → Bases h next n K P → Bases h (next + n) m L Q → Bases h next (n + m) (λ ns. K ns ++ L ns) (λ g. P g × Q g)
+both_bases h next n m {K} {L} P Q a b =
+    let an = a.all in
+    let bn = b.all in
+    let ae = a.all_entries in
+    let be = b.all_entries in
+    let l = length_both a.bases b.bases in
+    let le = length_both a.entries b.entries in
+    let front : (g : Setting) → Suits h next (a.bases ++ b.bases) (a.entries ++ b.entries) g → Suits h next a.bases a.entries g =
+        λ g x. record { fits = x.fits; follow = follow_first g.lasting next a.bases b.bases x.follow; words = words_first g.codes.procedure next a.entries b.entries x.words } in
+    let back : (g : Setting) → Suits h next (a.bases ++ b.bases) (a.entries ++ b.entries) g → Suits h (next + n) b.bases b.entries g =
+        λ g x. record { fits = x.fits; follow = follow_second g.lasting next n a.bases b.bases an x.follow; words = words_second g.codes.procedure next n a.entries b.entries ae x.words } in
+    record {
+      bases = a.bases ++ b.bases;
+      entries = a.entries ++ b.entries;
+      all = omega (arith, an, bn, l);
+      all_entries = omega (arith, ae, be, le);
+      count = λ ns. let x = a.count ns in let y = b.count ns in let z = lasting_both (K ns) (L ns) in omega (arith, x, y, z);
+      laid = λ g x. (a.laid g (front g x), b.laid g (back g x));
+      held = λ g x ns e u. held_both g next n (K ns) (L ns) (a.count ns) (a.held g (front g x) ns e u) (b.held g (back g x) ns e u);
+    }
+
+-- those of three
+pub three_bases : (h : Home) (next n m k : ℕ) {K L M : List Named → List Lasting} (P Q R : Setting → Type 0) → Bases h next n K P → Bases h (next + n) m L Q → Bases h (next + n + m) k M R
+    → Bases h next (n + m + k) (λ ns. K ns ++ L ns ++ M ns) (λ g. (P g × Q g) × R g)
+three_bases h next n m k {K} {L} {M} P Q R a b c =
+    let e : next + n + m ≡ next + (n + m) = omega arith in
+    both_bases h next (n + m) k _ R (both_bases h next n m P Q a b) (subst (λ x. Bases h x k M R) e c)
+
+pub bases_so : (h : Home) (next n : ℕ) {L : List Named → List Lasting} (P Q : Setting → Type 0) → ((g : Setting) → Fitting h g → P g → Q g) → Bases h next n L P → Bases h next n L Q
+bases_so h next n P Q f a = record { bases = a.bases; entries = a.entries; all = a.all; all_entries = a.all_entries; count = a.count; laid = λ g x. f g x.fits (a.laid g x); held = a.held }
+
+-- the same objects, said otherwise
+pub bases_of : (h : Home) (next n : ℕ) (K L : List Named → List Lasting) (P : Setting → Type 0) → ((ns : List Named) → K ns ≡ L ns) → Bases h next n K P → Bases h next n L P
+bases_of h next n K L P e a = record {
+  bases = a.bases;
+  entries = a.entries;
+  all = a.all;
+  all_entries = a.all_entries;
+  count = λ ns. subst (λ x. length x ≡ n) (e ns) (a.count ns);
+  laid = a.laid;
+  held = λ g x ns u v. subst (λ y. HeldList g next y) (e ns) (a.held g x ns u v);
+}
+
+-- with more names in scope inside
+pub bases_inside : (h : Home) (bs : List Binding) (next n : ℕ) {L : List Named → List Lasting} (P : Setting → Type 0) (names : List Named → List Named)
+    → ((g : Setting) (ns : List Named) → Agree ns h.bindings → Mean h g ns → Agree (names ns) bs × Mean (record h { bindings = bs }) g (names ns)) → Bases (record h { bindings = bs }) next n L P
+    → Bases h next n (λ ns. L (names ns)) P
+bases_inside h bs next n P names f a = record {
+  bases = a.bases;
+  entries = a.entries;
+  all = a.all;
+  all_entries = a.all_entries;
+  count = λ ns. a.count (names ns);
+  laid = λ g x. a.laid g (record { fits = record { own = x.fits.own; pays = x.fits.pays }; follow = x.follow; words = x.words });
+  held = λ g x ns u v. let i = f g ns u v in a.held g (record { fits = record { own = x.fits.own; pays = x.fits.pays }; follow = x.follow; words = x.words }) (names ns) i.0 i.1;
+}
+
+-- What is laid, and where the code goes on: with this depth before these statements.
+pub record Lies (h : Home) (next many depth : ℕ) (rest : List Stmt) (objects : List Named → List Lasting) (P : Setting → Type 0) : Type 0 where
+  pub on : StandsAt h.own depth rest
+  pub objects_are : Bases h next many objects P
+
+pub lies_so : (h : Home) (next many depth : ℕ) (rest : List Stmt) {L : List Named → List Lasting} (P Q : Setting → Type 0) → ((g : Setting) → Fitting h g → P g → Q g) → Lies h next many depth rest L P → Lies h next many depth rest L Q
+lies_so h next many depth rest P Q f a = record { on = a.on; objects_are = bases_so h next many P Q f a.objects_are }
+
+-- one statement further
+pub lies_behind : (h : Home) (next many k depth : ℕ) (x : Stmt) (rest : List Stmt) {L : List Named → List Lasting} (P : Setting → Type 0) → next_depth k x ≡ depth → Lies h next many k (x ∷ rest) L P
+    → Lies h next many depth rest L P
+lies_behind h next many k depth x rest P e a = record { on = passed h.own k depth x rest a.on e; objects_are = a.objects_are }

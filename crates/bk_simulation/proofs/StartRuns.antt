@@ -1,0 +1,195 @@
+-- START is called: into its frame, through its body, and home.
+use Rattle.std.proofs.Common.{◌≡◌, ℕ, suc, ◌+◌, ◌-◌, ◌*◌, ◌<◌, ◌≤◌, ◌^◌, List, [], ◌∷◌, ◌++◌, length, Some, None, pos, refl, sym, ap, ◌∙◌, subst, if◌then◌else◌, arith, ⊎_elim, slice_get}
+use Rattle.std.specs.Prelude.{drop}
+use Rattle.std.specs.Option.{option_map_or}
+use Rattle.std.proofs.lemmas.Bool.{eq-eqb}
+use Rattle.std.proofs.lemmas.Option.{slice_get_within}
+use Rattle.bk_base.specs.declared.limit.TheConstants.{FRAME_WORDS, GLOBAL_NUMBER}
+use Rattle.bk_base.specs.declared.run_end.End.TheVariants.{Status}
+use Rattle.bk_ocode.specs.Cells.{Word, Link, Cell, Held, content_of, below, settle}
+use Rattle.bk_ocode.specs.OcodeState.{Placed, Inside, At, State, Ends, Wild, global_place}
+use Rattle.bk_ocode.specs.OcodeStep.{step}
+use Rattle.bk_ocode.specs.OcodeRun.{Program, resumed_in, program_step, program_step_from}
+use Rattle.bk_ocode.specs.Frames.{HasFrames, start, called}
+use Rattle.bk_ocode.specs.declared.stmt.Stmt.TheVariants.{Entry}
+use Rattle.bk_meaning.specs.Values.{Value, unset, Cell as Cell_of, holds}
+use Rattle.bk_meaning.specs.Memory.{Memory}
+use Rattle.bk_meaning.specs.World.{World, making, forgetting, calling, status}
+use Rattle.bk_meaning.specs.Environment.{Environment}
+use Rattle.bk_meaning.specs.Lasting.{Procedure}
+use Rattle.bk_meaning.specs.Parts.{Meanings}
+use Rattle.bk_meaning.specs.Calls.{formal_cells, bind_formals, run_body, enter}
+use Rattle.bk_ocode.proofs.Chosen.{settle-kept}
+use Rattle.bk_simulation.specs.GoingOn.{settled, settled_from}
+use Rattle.bk_simulation.proofs.Moves.{Moves, entry_moves, save_moves}
+use Rattle.bk_simulation.proofs.StatementSteps.{returning}
+use Rattle.bk_simulation.proofs.FramesKept.{links_kept, links_through, links_below, links_settled}
+use Rattle.bk_simulation.proofs.Memory.{BaseOf, Like, like_on, StandsCell, Store, Grown, Fits, fits_above, fits_more}
+use Rattle.bk_simulation.proofs.ListPlaces.{get_new}
+use Rattle.bk_simulation.proofs.MadeObjects.{make, grown_made, make_fits}
+use Rattle.bk_simulation.proofs.WrittenCells.{below_at, below_like, settle_like, settle_at}
+use Rattle.bk_simulation.proofs.BytesKept.{HasBytes, AllBytes, moves_bytes}
+use Rattle.bk_simulation.proofs.Laid.{Setting}
+use Rattle.bk_simulation.proofs.Frame.{Sit, state, FewFrames, Ready, Account, Comes, here, go_on, comes_on, one, Ran, ran_from, there, Stopped}
+use Rattle.bk_simulation.proofs.Compose.{roomy}
+use Rattle.bk_simulation.proofs.Simulates.{Simulates}
+use Rattle.bk_simulation.proofs.Procedures.{IsProcedure}
+use Rattle.bk_simulation.proofs.NewFrames.{formals_long, formal_is}
+use Rattle.bk_simulation.proofs.Calls.{AnyExit, Yielded, AloneRuns, for_body, body_small, body_runs, closing_ran}
+use Rattle.bk_simulation.proofs.EnteredCalls.{in_body, links_free}
+
+-- what the store holds before START is called
+pub record FirstStore (g : Setting) (mem : Memory) (cells : ℕ → Cell) : Type 0 where
+  pub fits : Fits g.codes (record { bases = g.lasting; mem = mem; cells = cells }) g.first
+  pub words : AllBytes cells
+  pub frame : cells g.first ≡ Held Link (Word g.first)
+  pub back : cells (suc g.first) ≡ Held Link (Word g.program.home)
+
+-- at home a state goes on as itself, and the run ends
+pub home_settled : (program : Program) (s : State) → s.control ≡ At program.home → settled program s ≡ s
+home_settled program s e =
+    ap (λ c. settled_from program s c) e
+    ∙ ap (λ b. if b then s else option_map_or (λ _. s) (program.callables.routine program.home) (option_map_or (λ t. t) (resumed_in program.sections program.home s) s)) (eq-eqb program.home program.home refl)
+
+pub home_ends : (program : Program) (s : State) → s.control ≡ At program.home → program_step program s ≡ Ends (Status (pos 0)) s
+home_ends program s e =
+    ap (λ c. program_step_from program s c) e
+    ∙ ap (λ b. if b then Ends (Status (pos 0)) s else option_map_or (λ _. step program.callables s) (program.callables.routine program.home) (option_map_or (λ t. step program.callables t) (resumed_in program.sections program.home s) Wild)) (eq-eqb program.home program.home refl)
+
+-- START's frame is the lowest
+pub few_first : (program : Program) (first F : ℕ) (cells : ℕ → Cell) (frame m : ℕ) → frame ≡ first → cells frame ≡ Held Link (Word first) → HasFrames program first F cells frame m → m ≤ 1
+few_first program first F cells _ _ same link (start e h) = omega arith
+few_first program first F cells _ _ same link (called caller frame back d e h none low high under) =
+    let z : caller ≡ first = (let y : Held Link (Word caller) ≡ Held Link (Word first) = sym e ∙ link in cc) in
+    absurd (omega arith)
+
+-- what the call of START comes to
+abbrev pub Over : Setting → State → Account → Value → World → Type 0
+Over g s B v w = Stopped g s B (status 0) w
+
+pub start_runs : (g : Setting) (m : Meanings) → Simulates g m → AloneRuns g m → (k : ℕ) (f : Procedure) → (ip : IsProcedure g k f) → (c0 : ℕ → Cell) (w0 : World) → FirstStore g w0.memory c0 → w0.calls ≡ 0 → 1 ≤ g.cap → (B : Account)
+    → 16 * w0.turns + 16 ≤ B.most → B.least ≤ w0.turns
+    → Ran g (state ip.scene.own 2 (Entry ip.label ip.name ∷ drop (suc ip.place) ip.scene.own.stmts) c0 g.first None [] w0) B (Over g (state ip.scene.own 2 (Entry ip.label ip.name ∷ drop (suc ip.place) ip.scene.own.stmts) c0 g.first None [] w0) B) AnyExit
+    (enter m (Some f) [] (calling w0))
+start_runs g m sim alone_runs k f ip c0 w0 fs no_calls cap1 B leB leB' =
+    let some : 2 ≤ size = omega arith in
+    let le : top ≤ 2 ^ 31 - 65536 = g.well.low in
+    let above : global_place GLOBAL_NUMBER < g.first = g.well.is_program.above_globals in
+    let fw : size ≤ FRAME_WORDS = ip.few in
+    let long = fs.fits.long in
+    let some_bases : 0 < length g.lasting = slice_get_within g.lasting 0 16 g.vector in
+    let some_made : 0 < o = omega arith in
+    let bs = body_small g ip.scene size env f.body ip.body (ip.laid o some_made) in
+    let lf = formals_long f.formals [] in
+    let like : (a : ℕ) → a < top → Like (c3 a) (c0 a) = λ a lt. like_on _ _ _ (below_like (top + size) (settle (top + 2) (top + size) c0) a (omega arith)) (settle_like (top + 2) (top + size) c0 a) in
+    let f1 : Fits g.codes h1 top = fits_above g.codes _ top c3 fs.fits like in
+    let few0 : FewFrames g c0 top 1 = λ n h. few_first g.program g.first FRAME_WORDS c0 top n refl fs.frame h in
+    let few3 : FewFrames g c3 top 1 =
+    links_kept g.program g.first FRAME_WORDS c0 c3 top 1
+    (links_through (suc top) c0 (settle (top + 2) (top + size) c0) c3 (links_settled (suc top) (top + 2) (top + size) c0) (links_below (suc top) (top + size) (settle (top + 2) (top + size) c0))) few0 in
+    let cap0 : FewFrames g c0 top g.cap = roomy g c0 top 1 few0 cap1 in
+    let cap3 : FewFrames g c3 top g.cap = roomy g c3 top 1 few3 cap1 in
+    let m2 : Moves g.program s1 s2 = entry_moves g.program s1 own (drop (suc ip.place) own.stmts) 2 ip.label ip.name refl in
+    let m3 : Moves g.program s2 s3 = save_moves g.program s2 own ip.body 2 size (ap (λ y. Inside own 2 y) ip.behind) in
+    let to_body : Comes g 2 (g.pay + (g.pay + 0)) s1 s3 = go_on 1 _ s1 s2 s3 m2 cap0 (go_on 0 0 s2 s3 s3 m3 cap3 (here s3)) in
+    let has1 : HasBytes s1 = record { words = fs.words; hand = tt } in
+    let has3 : HasBytes s3 = moves_bytes g.program s2 s3 m3 (moves_bytes g.program s1 s2 m2 has1) in
+    let fm : Fits g.codes (make h1 b cells) (b + length cells) = make_fits g.codes h1 top b cells f1 (omega arith) (omega arith) (omega arith)
+    (λ i c e. ⊎_elim (λ (x : (v : Value) × (slice_get [] i ≡ Some v) × (c ≡ holds v)). none_there i c x) (λ (x : c ≡ holds unset). subst (λ y. StandsCell g.codes g.lasting y (content_of (c3 (b + i)))) (sym x) tt) (formal_is f.formals [] i c e))
+    (λ i lt. (content_of (c0 (b + i)), below_at (top + size) (settle (top + 2) (top + size) c0) (b + i) (omega arith) ∙ settle_at (top + 2) (top + size) c0 (b + i) (omega arith) (omega arith))) in
+    let fm1 : Fits g.codes (make h1 b cells) (top + size) = fits_more g.codes (make h1 b cells) (b + length cells) (top + size) (omega arith) fm in
+    let grown : Grown g.lasting z1.bases = grown_made g.lasting b in
+    let r1 : Ready g z1 w2 = record {
+      named = ip.names o top z1.bases grown (subst (λ y. BaseOf z1.bases y b) fs.fits.long (get_new g.lasting b)) le;
+      fits = fm1;
+      low = le;
+      high = omega arith;
+      deep = some;
+      frames = subst (λ n. FewFrames g c3 top n) (let q : 1 ≡ w0.calls + 1 = omega arith in q) few3;
+      room = (let q : w0.calls + 1 ≤ g.cap = omega arith in q);
+      lasts = grown;
+      words = has3.words;
+      in_hand = tt;
+    } in
+    closing_ran g s1 B o K (Over g s1 B) (run_body m f.body env w2)
+    (λ v w3 q. over v w3 q.0 f1 to_body)
+    (ran_from g s1 s3 2 (g.pay + (g.pay + 0)) N B (Yielded g s3 N z1 w2) K AnyExit AnyExit (run_body m f.body env w2) to_body (omega arith) (omega arith) (λ v w3 q. (q, tt)) (λ x w3 q. q)
+    (body_runs g m sim alone_runs f.body z1 ip.body w2 (ip.laid o some_made) r1))
+  where
+    top : ℕ
+    top = g.first
+
+    size : ℕ
+    size = length f.formals + 2
+
+    o : ℕ
+    o = length w0.memory
+
+    own : Placed
+    own = ip.scene.own
+
+    c3 : ℕ → Cell
+    c3 = below (top + size) (settle (top + 2) (top + size) c0)
+
+    b : ℕ
+    b = top + 2
+
+    cells : List Cell_of
+    cells = formal_cells f.formals []
+
+    h1 : Store
+    h1 = record { bases = g.lasting; mem = w0.memory; cells = c3 }
+
+    w2 : World
+    w2 = making cells (calling w0)
+
+    env : Environment
+    env = bind_formals o 0 f.formals f.env
+
+    z1 : Sit
+    z1 = in_body ip.scene env top (g.lasting ++ b ∷ []) c3 [] size
+
+    s1 : State
+    s1 = state own 2 (Entry ip.label ip.name ∷ drop (suc ip.place) own.stmts) c0 top None [] w0
+
+    s2 : State
+    s2 = state own 2 (drop (suc ip.place) own.stmts) c0 top None [] w0
+
+    s3 : State
+    s3 = state own size ip.body c3 top None [] w0
+
+    N : Account
+    N = for_body f.body w2
+
+    K : Value → World → Type 0
+    K v w3 = (q : Yielded g s3 N z1 w2 v w3) × Unit {0}
+
+    none_there : (i : ℕ) (c : Cell_of) → ((v : Value) × (slice_get [] i ≡ Some v) × (c ≡ holds v)) → StandsCell g.codes g.lasting c (content_of (c3 (b + i)))
+    none_there i c x = absurd (let e : None ≡ Some x.0 = x.1 in cc)
+
+    over : (v : Value) (w3 : World) → Yielded g s3 N z1 w2 v w3 → Fits g.codes h1 top → Comes g 2 (g.pay + (g.pay + 0)) s1 s3 → Over g s1 B v (forgetting o w3)
+    over v w3 q f1 to_body =
+        let kept : (a : ℕ) → top ≤ a → a < b → Like (q.arr.cells1 a) (c3 a) = λ a ge lt. q.arr.moved.kept.as_was a (omega arith) (links_free g h1 top b cells a f1 ge lt) in
+        let held : (a : ℕ) → a < b → c3 a ≡ c0 a = λ a lt. below_at (top + size) (settle (top + 2) (top + size) c0) a (omega arith) ∙ settle-kept (top + 2) (top + size) c0 a lt in
+        let link0 : content_of (q.arr.cells1 (top + 0)) ≡ Word top =
+        (kept (top + 0) (omega arith) (omega arith)).content ∙ ap content_of (held (top + 0) (omega arith)) ∙ ap (λ a. content_of (c0 a)) (let e : top + 0 ≡ top = omega arith in e) ∙ ap content_of fs.frame in
+        let link1 : content_of (q.arr.cells1 (top + 1)) ≡ Word g.program.home =
+        (kept (top + 1) (omega arith) (omega arith)).content ∙ ap content_of (held (top + 1) (omega arith)) ∙ ap (λ a. content_of (c0 a)) (let e : top + 1 ≡ suc top = omega arith in e) ∙ ap content_of fs.back in
+        let from : State = there g s3 N z1 q.control q.depth1 w2 w3 q.arr in
+        let home : State = returning from q.result g.program.home top in
+        let few : FewFrames g q.arr.cells1 top g.cap = roomy g q.arr.cells1 top _ q.arr.frames q.arr.room in
+        let few1 : FewFrames g home.cells top g.cap = links_kept g.program g.first FRAME_WORDS q.arr.cells1 home.cells top g.cap (links_below (suc top) top q.arr.cells1) few in
+        let mv : Moves g.program from home = (home, q.leaves g.program.home top link1 link0, home_settled g.program home refl) in
+        let mq = q.arr.most in
+        record {
+          to = home;
+          steps = 2 + (q.arr.steps + 1);
+          paid = g.pay + (g.pay + 0) + (q.arr.paid + g.pay);
+          comes = comes_on g _ _ _ _ _ _ _ to_body (comes_on g _ _ _ _ _ _ _ q.arr.comes (one g _ _ mv few1));
+          most = omega arith;
+          end = Status (pos 0);
+          is_end = refl;
+          stops = home_ends g.program home refl;
+          wrote = refl;
+          left = refl;
+        }

@@ -1,0 +1,172 @@
+-- Where the sections mean a run without an end, the program goes on with it.
+use Rattle.std.proofs.Common.{◌≡◌, ℕ, zero, suc, ◌+◌, ◌*◌, ◌≤◌, nat_lt, true, false, List, [], Option, Some, None, refl, sym, ap, ◌∙◌, subst, arith, ◌⊎◌, ⊎_elim, inl, inr}
+use Rattle.bk_base.specs.declared.limit.TheConstants.{FRAME_WORDS}
+use Rattle.std.specs.Option.{option_map}
+use Rattle.bk_syntax.specs.Tree.{Declarations}
+use Rattle.bk_ocode.specs.Access.{number_in}
+use Rattle.bk_ocode.specs.OcodeState.{State, Goes}
+use Rattle.bk_ocode.specs.OcodeRun.{Program, run}
+use Rattle.bk_ocode.specs.ProgramStart.{first_state}
+use Rattle.bk_meaning.specs.Values.{Value, procedure}
+use Rattle.bk_meaning.specs.World.{World, Outcome, gives, leaves, ends, undefined, going, each_way, calling, calls_back}
+use Rattle.bk_meaning.specs.Lasting as lasting
+use Rattle.bk_meaning.specs.Lasting.{Procedure, program_of, procedure_of, first_memory}
+use Rattle.bk_meaning.specs.Parts.{Meanings}
+use Rattle.bk_meaning.specs.Calls.{enter}
+use Rattle.bk_meaning.specs.Program.{Going, Undefined, means, meaning, started, run_of, first_world}
+use Rattle.bk_meaning.proofs.MeaningSpending.{cut_only_without_turns}
+use Rattle.bk_ocode.specs.WellPlaced.{IsWellPlaced}
+use Rattle.bk_simulation.specs.GoingOn.{settled}
+use Rattle.bk_simulation.specs.Simulation.{Begin, RunsOut, StillGoes, RunsOutOnTheWay, IsWithoutEnd}
+use Rattle.bk_simulation.proofs.Laid.{Setting}
+use Rattle.bk_simulation.proofs.Frame.{Account, FewFrames, Comes, here, go_on, FallsThose, Reaches, Ran}
+use Rattle.bk_simulation.proofs.Simulates.{Simulates}
+use Rattle.bk_simulation.proofs.Procedures.{Procedures}
+use Rattle.bk_simulation.proofs.Calls.{AnyExit}
+use Rattle.bk_simulation.proofs.EnteredCalls.{by_test, is_above, is_at_most}
+use Rattle.bk_simulation.proofs.All.{alone_runs, alone_adds}
+use Rattle.bk_simulation.proofs.Meanings.{simulates}
+use Rattle.bk_simulation.proofs.ProgramRuns.{goes_on_so, comes_run}
+use Rattle.bk_simulation.proofs.WrittenRuns.{passed}
+use Rattle.bk_simulation.proofs.StartRuns.{Over}
+use Rattle.bk_simulation.proofs.ProgramEnds.{calls_of, fell_out}
+use Rattle.bk_simulation.proofs.StartCalled.{NoStart, HasStart, called_at, some_calls, enter_after, entered_so}
+use Rattle.bk_simulation.proofs.LastingFits.{first_store, start_there}
+use Rattle.bk_simulation.proofs.LaidPrograms.{setting, AreLaid, knows}
+
+-- so many steps pay so much
+abbrev times : ℕ → ℕ → ℕ
+times zero k = 0
+times (suc n) k = k + times n k
+
+times_more : (n j k : ℕ) → n ≤ j → times n k ≤ times j k
+times_more zero j k le = omega arith
+times_more (suc n) zero k le = absurd (omega arith)
+times_more (suc n) (suc j) k le = let h = times_more n j k (omega arith) in omega arith
+
+comes_pays : (g : Setting) (n p : ℕ) (s u : State) → Comes g n p s u → p ≡ times n g.pay
+comes_pays g _ _ s _ (here _) = refl
+comes_pays g _ _ s u (go_on n p _ t _ m f c) = ap (λ x. g.pay + x) (comes_pays g n p t u c)
+
+-- the run comes as far as its steps pay for
+record Far (g : Setting) (n : ℕ) (s0 : State) (bytes : List ℕ) : Type 0 where
+  pub last : State
+  pub steps : ℕ
+  pub runs : run g.program steps s0 ≡ Goes last
+  pub enough : n ≤ times steps g.pay
+  pub wrote : last.output ≡ bytes
+
+abbrev back_to : ℕ → Outcome Value → Outcome Value
+back_to k o = each_way (λ v after. gives v (calls_back k after)) (λ x w. undefined) o
+
+far_so : (g : Setting) (s0 s : State) → settled g.program s0 ≡ s → FewFrames g s0.cells s0.frame g.cap → (n k : ℕ) (B : Account) (o : Outcome Value) → n ≤ B.least → ((v : World) → back_to k o ≡ going v → v.turns ≡ 0)
+    → (bytes left : List ℕ) (calls : ℕ) → run_of (back_to k o) ≡ Going bytes left calls → calls ≡ g.cap → Ran g s B (Over g s B) AnyExit o → Far g n s0 bytes ⊎ RunsOut g.program g.first s0 calls bytes
+far_so g s0 s is few n k B (gives v w) le cut bytes left calls e ec r = absurd (cc)
+far_so g s0 s is few n k B (leaves x w) le cut bytes left calls e ec r = absurd (cc)
+far_so g s0 s is few n k B (ends x w) le cut bytes left calls e ec r = absurd (cc)
+far_so g s0 s is few n k B undefined le cut bytes left calls e ec r = absurd (cc)
+far_so g s0 s is few n k B (going w) le cut bytes left calls e ec r =
+    let eb : w.output ≡ bytes = cc in
+    let em : w.most_calls ≡ calls = cc in
+    ⊎_elim (λ (q : Reaches g s B w). inl (far q eb)) (λ (f : FallsThose g s w.output w.most_calls). inr (falls f eb em)) r
+  where
+    far : Reaches g s B w → w.output ≡ bytes → Far g n s0 bytes
+    far q eb =
+        let c = comes_run g q.steps q.paid s s0 q.to is few q.comes in
+        let pays = comes_pays g q.steps q.paid s q.to q.comes in
+        let h = goes_on_so g.program g.first FRAME_WORDS g.well c.last in
+        let z = cut w refl in
+        let lq = q.least in
+        record {
+          last = c.last;
+          steps = q.steps;
+          runs = c.runs;
+          enough = omega arith;
+          wrote = sym h.output ∙ ap (λ (x : State). x.output) c.settles ∙ q.wrote ∙ eb;
+        }
+
+    falls : FallsThose g s w.output w.most_calls → w.output ≡ bytes → w.most_calls ≡ calls → RunsOut g.program g.first s0 calls bytes
+    falls (inl f) eb em = subst (λ c. RunsOut g.program g.first s0 c bytes) (sym ec) (subst (λ y. RunsOut g.program g.first s0 g.cap y) eb (fell_out g s0 s is few w.output f))
+    falls (inr lt) eb em = absurd (omega arith)
+
+pub laid_goes_on : (sections : List Declarations) (program : Program) (first : ℕ) (input : List ℕ) (s : State) (well : IsWellPlaced program first FRAME_WORDS) → AreLaid program first well sections → first_state program first input ≡ Some s → IsWithoutEnd sections input
+    → (j : ℕ) → StillGoes program first sections input s j ⊎ RunsOutOnTheWay program first sections input s
+laid_goes_on sections program first input s well laid es without j =
+    ⊎_elim
+    (λ (x : NoStart g p). absurd (let z : None ≡ Some s = sym (ap (λ c. option_map (called_at g input) (number_in c)) x.word) ∙ es in cc))
+    (λ (x : HasStart g p). at_start x (let z : Some (called_at g input (g.codes.procedure x.number)) ≡ Some s = sym (ap (λ c. option_map (called_at g input) (number_in c)) x.word) ∙ es in cc))
+    (start_there g _ laid.holds laid.library)
+  where
+    n : ℕ
+    n = times j laid.pay + 1
+
+    bytes : List ℕ
+    bytes = (without n).0
+
+    left : List ℕ
+    left = (without n).1
+
+    calls : ℕ
+    calls = (without n).2
+
+    means_so : meaning sections input n ≡ Going bytes left calls
+    means_so = (without n).3
+
+    g : Setting
+    g = setting program first well laid.codes laid.pay calls laid.lasting laid.low laid.vector
+
+    p : lasting.Program
+    p = program_of sections
+
+    procs : Procedures g p
+    procs = laid.procedures calls
+
+    m : Meanings
+    m = means p n
+
+    w0 : World
+    w0 = first_world p input n
+
+    sim : Simulates g m
+    sim = simulates g p procs (knows g laid.library) n
+
+    B : Account
+    B = record { most = 16 * n + 16; least = n }
+
+    Result : Type 0
+    Result = StillGoes program first sections input s j ⊎ RunsOutOnTheWay program first sections input s
+
+    -- far enough
+    there : Far g n s bytes → StillGoes program first sections input s j
+    there q =
+        let enough : j ≤ q.steps = by_test (nat_lt q.steps j) (λ (t : nat_lt q.steps j ≡ true). let lt = is_above q.steps j t in let le = times_more q.steps j laid.pay (omega arith) in let en = q.enough in absurd (omega arith)) (λ (t : nat_lt q.steps j ≡ false). is_at_most j q.steps t) in
+        let x = passed program first FRAME_WORDS well j q.steps s q.last enough q.runs in
+        record {
+          now = x.now;
+          goes = x.goes;
+          turns = n;
+          bytes = bytes;
+          left = left;
+          calls = calls;
+          means = means_so;
+          wrote = subst (λ y. Begin x.now.output y) q.wrote x.begins;
+        }
+
+    at_start : (x : HasStart g p) → called_at g input (g.codes.procedure x.number) ≡ s → Result
+    at_start x at = by_procedure (procedure_of p x.number) refl
+      where
+        so : (o : Option Procedure) → procedure_of p x.number ≡ o → run_of (back_to 0 (enter m o [] (calling w0))) ≡ Going bytes left calls
+        so o eo = ap (λ y. run_of (back_to 0 (enter m y [] (calling w0)))) (sym eo) ∙ ap (λ v. started p v w0 n) (sym x.is) ∙ means_so
+
+        by_procedure : (o : Option Procedure) → procedure_of p x.number ≡ o → Result
+        by_procedure None eo = absurd (let z : Undefined ≡ Going bytes left calls = so None eo in cc)
+        by_procedure (Some f) eo =
+            let o : Outcome Value = enter m (Some f) [] (calling w0) in
+            let e : run_of (back_to 0 o) ≡ Going bytes left calls = so (Some f) eo in
+            let c1 : 1 ≤ calls_of (run_of (back_to 0 o)) = some_calls 0 w0 o (enter_after m (alone_adds g m sim) g sim f [] (calling w0)) in
+            let cap1 : 1 ≤ calls = subst (λ y. 1 ≤ calls_of y) e c1 in
+            let y = entered_so g p n input sim (alone_runs g m sim) (first_store g _ laid.holds laid.library) x.number f (procs.each x.number f eo) cap1 in
+            let z = far_so g (called_at g input (g.codes.procedure x.number)) y.at y.is y.few n 0 B o (omega arith)
+            (λ v ev. cut_only_without_turns p (procedure x.number) [] n w0 v (omega arith) (ap (λ u. back_to 0 (enter m u [] (calling w0))) eo ∙ ev)) bytes left calls e refl (y.ran B (omega arith) (omega arith)) in
+            ⊎_elim (λ (q : Far g n (called_at g input (g.codes.procedure x.number)) bytes). inl (there (subst (λ u. Far g n u bytes) at q)))
+            (λ (q : RunsOut program first (called_at g input (g.codes.procedure x.number)) calls bytes). inr (record { turns = n; bytes = bytes; left = left; calls = calls; means = means_so; runs_out = subst (λ u. RunsOut program first u calls bytes) at q })) z

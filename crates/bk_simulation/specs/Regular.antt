@@ -1,0 +1,76 @@
+-- What the types and the grammar of trees give: numbers are words, and an assignment and a LET have as many values as names.
+use Rattle.std.specs.Prelude.{◌≡◌, ℕ, suc, ◌<◌, ◌^◌, length}
+use Rattle.bk_syntax.specs.Tree as t
+use Rattle.bk_syntax.specs.Tree.{Expression, Expressions, Action, Actions, Declaration, Declarations, Items, Definition, Definitions, Starts}
+use Rattle.bk_syntax.specs.Grammar.{size}
+
+abbrev pub starts : Starts → ℕ
+starts t.no_starts = 0
+starts (t.value e is) = suc (starts is)
+starts (t.vector l e is) = suc (starts is)
+
+abbrev mutual
+  pub Regular : Expression → Type 0
+  Regular (t.number l n) = n < 2 ^ 32
+  Regular (t.parens l e) = Regular e
+  Regular (t.unary l q e) = Regular e
+  Regular (t.binary l q m a b) = Regular a × Regular b
+  Regular (t.choice l m c a b) = Regular c × Regular a × Regular b
+  Regular (t.apply l m f es) = Regular f × RegularEach es
+  Regular (t.valof l c) = RegularAction c
+  Regular (t.table l es) = RegularEach es
+  Regular _ = Unit {0}
+
+  pub RegularEach : Expressions → Type 0
+  RegularEach t.none = Unit {0}
+  RegularEach (t.more e es) = Regular e × RegularEach es
+
+  pub RegularAction : Action → Type 0
+  RegularAction (t.assign l xs es) = (size xs ≡ size es) × RegularEach xs × RegularEach es
+  RegularAction (t.call l f es) = Regular f × RegularEach es
+  RegularAction (t.label l x c) = RegularAction c
+  RegularAction (t.case_of l e c) = Regular e × RegularAction c
+  RegularAction (t.default l c) = RegularAction c
+  RegularAction (t.when l b e c) = Regular e × RegularAction c
+  RegularAction (t.test l e a b) = Regular e × RegularAction a × RegularAction b
+  RegularAction (t.while l b e c) = Regular e × RegularAction c
+  RegularAction (t.for_loop l x a b h c) = Regular a × Regular b × RegularEach h × RegularAction c
+  RegularAction (t.switch l e c) = Regular e × RegularAction c
+  RegularAction (t.result l e) = Regular e
+  RegularAction (t.block l ds cs) = RegularDeclarations ds × RegularActions cs
+  RegularAction (t.repeat l c) = RegularAction c
+  RegularAction (t.repeat_while l b c e) = RegularAction c × Regular e
+  RegularAction _ = Unit {0}
+
+  pub RegularActions : Actions → Type 0
+  RegularActions t.no_actions = Unit {0}
+  RegularActions (t.also c cs) = RegularAction c × RegularActions cs
+
+  pub RegularItems : Items → Type 0
+  RegularItems t.no_items = Unit {0}
+  RegularItems (t.item l x e is) = Regular e × RegularItems is
+
+  pub RegularDeclaration : Declaration → Type 0
+  RegularDeclaration (t.constants l s is) = RegularItems is
+  RegularDeclaration (t.definitions l ds) = RegularDefinitions ds
+
+  pub RegularDeclarations : Declarations → Type 0
+  RegularDeclarations t.no_declarations = Unit {0}
+  RegularDeclarations (t.declare d ds) = RegularDeclaration d × RegularDeclarations ds
+
+  pub RegularDefinition : Definition → Type 0
+  RegularDefinition (t.routine l x fs c) = RegularAction c
+  RegularDefinition (t.function l x fs e) = Regular e
+  RegularDefinition (t.variables l xs is) = (length xs ≡ starts is) × RegularStarts is
+
+  pub RegularDefinitions : Definitions → Type 0
+  RegularDefinitions t.no_definitions = Unit {0}
+  RegularDefinitions (t.define d ds) = RegularDefinition d × RegularDefinitions ds
+
+  pub RegularStarts : Starts → Type 0
+  RegularStarts t.no_starts = Unit {0}
+  RegularStarts (t.value e is) = Regular e × RegularStarts is
+  RegularStarts (t.vector l e is) = Regular e × RegularStarts is
+
+abbrev pub IsRegular : Declarations → Type 0
+IsRegular ds = RegularDeclarations ds

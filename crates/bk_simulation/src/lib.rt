@@ -1,0 +1,2 @@
+//! What sources mean, and what the steps of OCODE do on the statements that the scheme gives.
+#![tactic(auto)]
