@@ -260,7 +260,7 @@ module _ (g : Setting) (p : Program) (m : Meanings) (procs : Procedures g p) (kn
 
   call_more : (B : Account) (f : Expression) (es : Expressions) (z : Sit) (c rest : List Stmt) (v : World) → 16 * v.turns + 16 ≤ B.most → B.least ≤ suc v.turns - (1 + (turns_among es + turns_of f))
       → (c1 c2 : List Stmt) × (c ≡ Stack (z.depth + 2) ∷ c1) × AreValues g z.scene (z.depth + 2) (past f z.env) es c1 c2 × IsValue g z.scene (z.depth + 2 + count es) z.env f c2 (CallRoutine z.depth ∷ rest) × CallAt g z.scene (CallRoutine z.depth) rest
-        × (z.depth + 2 + count es + 1 ≤ FRAME_WORDS) → Ready g z v → RanDid g (start z c v) B z rest v (with (applied p m f es z.env v) (λ _ w. done w))
+      × (z.depth + 2 + count es + 1 ≤ FRAME_WORDS) → Ready g z v → RanDid g (start z c v) B z rest v (with (applied p m f es z.env v) (λ _ w. done w))
   call_more B f es z c rest v le ll a r =
       with_ran g (start z c v) B (Gave false g (start z c v) B z rest v) _ _ (applied p m f es z.env v) _ (λ _. adds _ (λ w1. stays (history w1)))
       (apply_runs false g p m procs known sim (alone_runs g m sim) (alone_adds g m sim) B f es z c a.0 a.1 rest v (omega arith) (omega arith) a.2 a.3 a.4 a.5 a.6 r) (λ x w1 y. inl y)

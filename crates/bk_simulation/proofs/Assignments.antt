@@ -98,7 +98,7 @@ word_stored g s A B z rest w w2 v o i b u le le' r a eb ep st = by_memory (memor
         let is : a.cells1 (named_place here z.scene.own v) ≡ Held Variable q.content = ap a.cells1 same ∙ q.there in
         let move = assign_moves g.program here z.scene.own rest z.depth v refl (held_variable v (a.cells1 (named_place here z.scene.own v)) q.content is) in
         let move2 = subst (λ p. Moves g.program here (state z.scene.own z.depth rest (below (z.frame + z.depth) (write a.cells1 p (Held Variable y))) z.frame None (p ∷ a.written1) w2)) same
-            (subst (λ k. Moves g.program here (state z.scene.own z.depth rest (below (z.frame + z.depth) (write a.cells1 (named_place here z.scene.own v) (Held k y))) z.frame None (named_place here z.scene.own v ∷ a.written1) w2)) (ap kind_of is) move) in
+        (subst (λ k. Moves g.program here (state z.scene.own z.depth rest (below (z.frame + z.depth) (write a.cells1 (named_place here z.scene.own v) (Held k y))) z.frame None (named_place here z.scene.own v ∷ a.written1) w2)) (ap kind_of is) move) in
         inl (arrived_more g s (further 1 A) B z.scene.own z.frame w.calls (z.frame + z.depth) (store z w) rest z.depth (remembering mem1 w2) le le'
         (stored_on g s A z (Assign v ∷ rest) rest (z.depth + 1) w w2 mem1 (b + i) y ((b + i) ∷ a.written1) r a (q.fits y st) (q.moved y (z.frame + z.depth)) move2))
 
@@ -116,7 +116,7 @@ through_stored g s A B z rest w w2 p u le le' r a sp su = by_memory (memory.writ
         let q = write_at g.codes (record { bases = a.bases1; mem = w2.memory; cells = a.cells1 }) (z.frame + z.depth) p _ (holds u) mem1 a.fits sp e in
         let low : q.base + q.offset < z.frame + z.depth = q.cell.low in
         let move = assign_at_moves g.program here z.scene.own rest z.depth (q.base + q.offset) q.cell.content (ap (λ k. Inside z.scene.own k (AssignAt ∷ rest)) (omega arith)) q.word
-            (variable_found (z.frame + (z.depth + 2)) (q.base + q.offset) a.cells1 q.cell.content (omega arith) q.cell.there) in
+        (variable_found (z.frame + (z.depth + 2)) (q.base + q.offset) a.cells1 q.cell.content (omega arith) q.cell.there) in
         inl (arrived_more g s (further 1 A) B z.scene.own z.frame w.calls (z.frame + z.depth) (store z w) rest z.depth (remembering mem1 w2) le le'
         (stored_on g s A z (AssignAt ∷ rest) rest (z.depth + 1 + 1) w w2 mem1 (q.base + q.offset) y ((q.base + q.offset) ∷ a.written1) r a (q.cell.fits y su) (q.cell.moved y (z.frame + z.depth)) move))
 
@@ -141,7 +141,7 @@ byte_stored g s A B z rest w w2 p k u le le' r a sp sk su = by_memory (write_byt
         let q = write_byte_at g.codes (record { bases = a.bases1; mem = w2.memory; cells = a.cells1 }) (z.frame + (z.depth + 3)) p k u _ _ _ mem1 are high sp sk su e in
         let m1 = q.moved (z.frame + z.depth) in
         let move = assign_byte_moves g.program here z.scene.own rest z.depth q.byte q.word q.index q.content (ap (λ k. Inside z.scene.own k (AssignByte ∷ rest)) (three_deep z.depth)) q.is_byte q.is_word
-            (ap (λ d. content_of (a.cells1 (z.frame + d))) (sym (two_deep z.depth)) ∙ q.is_index) q.sets in
+        (ap (λ d. content_of (a.cells1 (z.frame + d))) (sym (two_deep z.depth)) ∙ q.is_index) q.sets in
         inl (arrived_more g s (further 1 A) B z.scene.own z.frame w.calls (z.frame + z.depth) (store z w) rest z.depth (remembering mem1 w2) le le'
         (stored_on g s A z (AssignByte ∷ rest) rest (z.depth + 1 + 1 + 1) w w2 mem1 (word_sum q.word (byte_distance q.index)) q.content ((word_sum q.word (byte_distance q.index)) ∷ a.written1) r a (fits_less g.codes (record { bases = a.bases1; mem = w2.memory; cells = a.cells1 }) _ (z.frame + z.depth) (z.frame + (z.depth + 3)) a.fits m1 q.fits) (q.moved (z.frame + z.depth)) move))
 

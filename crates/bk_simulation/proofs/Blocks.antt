@@ -63,9 +63,10 @@ stored_variables : (codes : Codes) (h : Store) (cells : ℕ → Cell) (frame d1 
 stored_variables codes h cells frame d1 from [] [] le at rise = tt
 stored_variables codes h cells frame d1 from (s ∷ ss) (p ∷ ps) le at rise =
     let lt : p.slot < d1 = at.3 in
-    let ge : from ≤ p.slot = rise.0 in
-    ((content_of (cells (frame + p.slot)), below_at (frame + d1) (settle (frame + 2) (frame + d1) cells) (frame + p.slot) (omega arith) ∙ settle_at (frame + 2) (frame + d1) cells (frame + p.slot) (omega arith) (omega arith)),
-     stored_variables codes h cells frame d1 (suc p.slot) ss ps (omega arith) at.4 rise.1)
+    let ge : from ≤ p.slot = rise.0 in (
+      (content_of (cells (frame + p.slot)), below_at (frame + d1) (settle (frame + 2) (frame + d1) cells) (frame + p.slot) (omega arith) ∙ settle_at (frame + 2) (frame + d1) cells (frame + p.slot) (omega arith) (omega arith)),
+      stored_variables codes h cells frame d1 (suc p.slot) ss ps (omega arith) at.4 rise.1,
+    )
 stored_variables codes h cells frame d1 from [] (p ∷ ps) le at rise = absurd at
 stored_variables codes h cells frame d1 from (s ∷ ss) [] le at rise = tt
 

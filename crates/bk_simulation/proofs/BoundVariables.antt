@@ -101,9 +101,13 @@ items_spots codes h frame top (x ∷ xs) (v ∷ vs) [] items = absurd items
 pub spots_carried : (codes : Codes) (h h1 : Store) (frame d d1 : ℕ) (ss : List Start) (ps : List Spot) → d ≤ d1 → Carries (frame + d) h h1 → SpotsAt codes h frame d ss ps → SpotsAt codes h1 frame d1 ss ps
 spots_carried codes h h1 frame d d1 [] [] le c at = tt
 spots_carried codes h h1 frame d d1 (s ∷ ss) (p ∷ ps) le c at =
-    let lt : p.slot < d = at.3 in
-    (at.0, subst (λ y. Stands codes h1.bases s.value y) (sym (c.like (frame + p.slot) (omega arith) at.2).content) (stands_grown codes h.bases h1.bases s.value _ c.grown at.1),
-     c.free (frame + p.slot) (omega arith) at.2, omega arith, spots_carried codes h h1 frame d d1 ss ps le c at.4)
+    let lt : p.slot < d = at.3 in (
+      at.0,
+      subst (λ y. Stands codes h1.bases s.value y) (sym (c.like (frame + p.slot) (omega arith) at.2).content) (stands_grown codes h.bases h1.bases s.value _ c.grown at.1),
+      c.free (frame + p.slot) (omega arith) at.2,
+      omega arith,
+      spots_carried codes h h1 frame d d1 ss ps le c at.4,
+    )
 spots_carried codes h h1 frame d d1 [] (p ∷ ps) le c at = at
 spots_carried codes h h1 frame d d1 (s ∷ ss) [] le c at = at
 

@@ -57,9 +57,12 @@ ItemsAt codes h frame top _ _ = ⊥
 pub items_carried : (codes : Codes) (h h1 : Store) (frame d : ℕ) (vs : List Value) (ns : List ℕ) → Carries (frame + d) h h1 → ItemsAt codes h frame d vs ns → ItemsAt codes h1 frame d vs ns
 items_carried codes h h1 frame d [] [] c items = tt
 items_carried codes h h1 frame d (v ∷ vs) (n ∷ ns) c items =
-    let lt : n < d = items.2 in
-    (subst (λ y. Stands codes h1.bases v y) (sym (c.like (frame + n) (omega arith) items.1).content) (stands_grown codes h.bases h1.bases v _ c.grown items.0),
-     c.free (frame + n) (omega arith) items.1, lt, items_carried codes h h1 frame d vs ns c items.3)
+    let lt : n < d = items.2 in (
+      subst (λ y. Stands codes h1.bases v y) (sym (c.like (frame + n) (omega arith) items.1).content) (stands_grown codes h.bases h1.bases v _ c.grown items.0),
+      c.free (frame + n) (omega arith) items.1,
+      lt,
+      items_carried codes h h1 frame d vs ns c items.3,
+    )
 items_carried codes h h1 frame d [] (n ∷ ns) c items = items
 items_carried codes h h1 frame d (v ∷ vs) [] c items = items
 

@@ -58,9 +58,12 @@ module _ (codes : Codes) (bases : List ℕ) where
   four_stand (Some a) (Some b) (Some c) (Some d) p1 q1 r1 t1 hp hq hr ht ip iq ir it =
       ap (λ x. four_bytes x q1 r1 t1) hp ∙ ap (λ x. four_bytes (Some a) x r1 t1) hq ∙ ap (λ x. four_bytes (Some a) (Some b) x t1) hr ∙ ap (λ x. four_bytes (Some a) (Some b) (Some c) x) ht
   four_stand p q r t p1 q1 r1 t1 hp hq hr ht ip iq ir it =
-      let f = bytes_of_four p1 q1 r1 t1 ip iq ir it in
-      (holds_at p p1 (byte_in (four_bytes p1 q1 r1 t1) 0) hp f.0, holds_at q q1 (byte_in (four_bytes p1 q1 r1 t1) 1) hq f.1,
-       holds_at r r1 (byte_in (four_bytes p1 q1 r1 t1) 2) hr f.2, holds_at t t1 (byte_in (four_bytes p1 q1 r1 t1) 3) ht f.3)
+      let f = bytes_of_four p1 q1 r1 t1 ip iq ir it in (
+        holds_at p p1 (byte_in (four_bytes p1 q1 r1 t1) 0) hp f.0,
+        holds_at q q1 (byte_in (four_bytes p1 q1 r1 t1) 1) hq f.1,
+        holds_at r r1 (byte_in (four_bytes p1 q1 r1 t1) 2) hr f.2,
+        holds_at t t1 (byte_in (four_bytes p1 q1 r1 t1) 3) ht f.3,
+      )
 
   -- ---- reading a byte
 
@@ -147,9 +150,12 @@ word_number : (w n : ℕ) → Word w ≡ Word n → w ≡ n
 word_number w n e = cc
 
 pub byte_address : (codes : Codes) (bases : List ℕ) (a : Value) (s i : ℕ) → Stands codes bases a (Word s) → ((o k : ℕ) → a ≡ address o k → Stands codes bases (cell_of_byte a i) (Word (word_sum s (byte_distance i))))
-byte_address codes bases (address o k) s i st o1 k1 e =
-    (st.0, st.1, (let z : (k + byte_distance i) % 2 ^ 32 < 2 ^ 32 = omega arith in z),
-     ap (λ y. Word (word_sum y (byte_distance i))) (word_number s ((st.0 + k) % 2 ^ 32) st.3) ∙ ap Word (further st.0 k (byte_distance i)))
+byte_address codes bases (address o k) s i st o1 k1 e = (
+  st.0,
+  st.1,
+  (let z : (k + byte_distance i) % 2 ^ 32 < 2 ^ 32 = omega arith in z),
+  ap (λ y. Word (word_sum y (byte_distance i))) (word_number s ((st.0 + k) % 2 ^ 32) st.3) ∙ ap Word (further st.0 k (byte_distance i)),
+)
 byte_address codes bases (number n) s i st o1 k1 e = absurd (cc)
 byte_address codes bases (procedure n) s i st o1 k1 e = absurd (cc)
 byte_address codes bases (routine r) s i st o1 k1 e = absurd (cc)

@@ -103,7 +103,7 @@ behind_place g m sim B a z n at1 c1 rest w le le' l ln r =
     let A0 : Account = record { most = 16 * w.turns; least = w.turns } in
     let A : Account = record { most = 16 * w.turns + 1; least = w.turns } in
     let ar : ArrivedAt g s A z c1 z.depth w w = arrived_more g s (paying g A0) A z.scene.own z.frame w.calls (z.frame + z.depth) (store z w) c1 z.depth w (omega arith) (omega arith)
-        (label_on g s A0 z.scene z.frame w.calls (z.frame + z.depth) (store z w) z.depth z.depth n c1 w (omega arith) ln (stay g A0 z (Label n ∷ c1) w (omega arith) (omega arith) r)) in
+    (label_on g s A0 z.scene z.frame w.calls (z.frame + z.depth) (store z w) z.depth z.depth n c1 w (omega arith) ln (stay g A0 z (Label n ∷ c1) w (omega arith) (omega arith) r)) in
     let z1 = next g s A z c1 z.depth w w z.env z.depth ar in
     let r1 = ready_next g s A z c1 z.depth w w z.env z.depth ar refl (omega arith) r in
     ran_on g s A (for_act a w) B z c1 z.depth w w z.env (λ _ w2. Did g (start z1 c1 w) (for_act a w) z1 rest w w2) (λ _ w2. Did g s B z rest w w2) (m.act a forwards z.env w) (omega arith) (omega arith) r (omega arith) ar

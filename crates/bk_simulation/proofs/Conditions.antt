@@ -166,7 +166,7 @@ pub choice_run : (g : Setting) (m : Meanings) → Simulates g m → (B : Account
     → B.least ≤ w.turns - (turns_of e + (turns_of a + turns_of b)) → IsJump g z.scene z.depth z.env e false n c c1 → IsValue g z.scene z.depth (past e z.env) a c1 (GiveResult n1 ∷ Label n ∷ c2)
     → IsValue g z.scene z.depth (past a (past e z.env)) b c2 (GiveResult n1 ∷ Label n1 ∷ TakeResult z.depth ∷ rest) → LabelAt g z.scene z.depth n c2 → LabelAt g z.scene z.depth n1 (TakeResult z.depth ∷ rest) → Ready g z w
     → Ran g (start z c w) B (Has g (start z c w) B z rest (z.depth + 1) w) (Out g (start z c w) B z w)
-      (with (m.truth e z.env w) (λ x w. either x (λ w. m.value a (past e z.env) w) (λ w. m.value b (past a (past e z.env)) w) w))
+    (with (m.truth e z.env w) (λ x w. either x (λ w. m.value a (past e z.env) w) (λ w. m.value b (past a (past e z.env)) w) w))
 choice_run g m sim B e a b z n n1 c c1 c2 rest w le le' le_ la lb l0 l1 r =
     let s = start z c w in
     with_ran g s B (HasTruth g s (for_truth e w) z false (Label n ∷ c2) c1 w) _ _ (m.truth e z.env w) _

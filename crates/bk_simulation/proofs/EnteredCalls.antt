@@ -36,7 +36,6 @@ use Rattle.bk_simulation.proofs.Simulates.{Simulates}
 use Rattle.bk_simulation.proofs.Procedures.{IsProcedure}
 use Rattle.bk_simulation.proofs.Returns.{call_stmt, Gave, returned_in}
 use Rattle.bk_simulation.proofs.NewFrames.{called_cells, saved_cells, called_argument, called_frame, called_back, called_links, saved_links, saved_same, saved_like, saved_formal, formals_long, formal_is}
-
 use Rattle.bk_simulation.proofs.Calls.{Calling, AnyExit, Yielded, AloneRuns, for_body, body_small, body_runs, body_after, closing_ran}
 
 pub call_too_high : (n : ℕ) (of : Bool) (rest : List Stmt) → IsCallAt n (call_stmt of n ∷ rest)

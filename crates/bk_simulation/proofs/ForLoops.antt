@@ -134,7 +134,7 @@ first_test g m sim B x o u k d n1 z body test end n3 w le le' ed lf et l1 l3 few
         let C : Account = record { most = 16 * w.turns + 5; least = w.turns + g.pay } in
         let N = for_counts x w2 in
         let ar : ArrivedAt g s C z body z.depth w w2 = arrived_more g s (paying g A) C z.scene.own z.frame w.calls (z.frame + z.depth) (store z w) body z.depth w2 (omega arith) (omega arith)
-            (label_on g s A z.scene z.frame w.calls (z.frame + z.depth) (store z w) z.depth z.depth n1 body w2 (omega arith) l1 q) in
+        (label_on g s A z.scene z.frame w.calls (z.frame + z.depth) (store z w) z.depth z.depth n1 body w2 (omega arith) l1 q) in
         let m0 = ar.most in
         let z1 = next g s C z body z.depth w w2 z.env z.depth ar in
         let r1 = ready_next g s C z body z.depth w w2 z.env z.depth ar refl (omega arith) r in
@@ -233,7 +233,7 @@ for_opened : (g : Setting) (m : Meanings) → Simulates g m → (l : ℕ) (x : M
     → z.env ≡ past y (past a z0.env) → Ready g z w → HasBytes (state z.scene.own (z.depth + 1 + 1) (Store_stmt ∷ Jump lx.0 ∷ Label lx.1 ∷ lx.7) z.cells z.frame z.hand z.written w) → Stands g.codes z.bases u (content_of (z.cells (z.frame + z.depth)))
     → Stands g.codes z.bases v (content_of (z.cells (z.frame + (z.depth + 1)))) → ((o : ℕ) → Adds (λ w. for_rounds_of m c o v lx.4 (bind x.letters (cell o 0) z.env) w))
     → RanDid g (state z.scene.own (z.depth + 1 + 1) (Store_stmt ∷ Jump lx.0 ∷ Label lx.1 ∷ lx.7) z.cells z.frame z.hand z.written w) (record { most = 16 * w.turns + 20; least = w.turns - suc (turns_in c) }) z rest w
-      (for_loop m x.letters c u v lx.4 z.env w)
+    (for_loop m x.letters c u v lx.4 z.env w)
 unfolding variable_made
 for_opened g m sim l x a y h c z z0 at c0 rest w u v lx ez r by su sv ad =
     let dp = r.deep in
@@ -252,23 +252,36 @@ for_opened g m sim l x a y h c z z0 at c0 rest w u v lx ez r by su sv ad =
     let E : Account = record { most = 16 * w.turns + 20; least = w.turns - suc (turns_in c) } in
     let a0 = variable_made g z w (Jump lx.0 ∷ Label lx.1 ∷ lx.7) u r lx.18 by su in
     let a1 = open_step g s0 A0 z w (Jump lx.0 ∷ Label lx.1 ∷ lx.7) (Label lx.0 ∷ lx.8) (z.depth + 1 + 1) (z.depth + 1 + 1) more w1 r (omega arith) a0 (below (z.frame + (z.depth + 1 + 1)) a0.cells1) None a0.written1
-        (λ x lx. below_like (z.frame + (z.depth + 1 + 1)) a0.cells1 x (omega arith))
-        (jump_moves g.program (state z.scene.own (z.depth + 1 + 1) (Jump lx.0 ∷ Label lx.1 ∷ lx.7) a0.cells1 z.frame a0.hand1 a0.written1 w1) z.scene.own (Label lx.1 ∷ lx.7) (z.depth + 1 + 1) lx.0 (Label lx.0 ∷ lx.8) refl lx.14.found) in
+    (λ x lx. below_like (z.frame + (z.depth + 1 + 1)) a0.cells1 x (omega arith))
+    (jump_moves g.program (state z.scene.own (z.depth + 1 + 1) (Jump lx.0 ∷ Label lx.1 ∷ lx.7) a0.cells1 z.frame a0.hand1 a0.written1 w1) z.scene.own (Label lx.1 ∷ lx.7) (z.depth + 1 + 1) lx.0 (Label lx.0 ∷ lx.8) refl lx.14.found) in
     let a2 = open_step g s0 (further 1 A0) z w (Label lx.0 ∷ lx.8) lx.8 (z.depth + 1 + 1) d2 more w1 r (omega arith) a1 a1.cells1 a1.hand1 a1.written1 (λ x lx. like_refl _ _ refl)
-        (label_goes g z.scene d2 (z.depth + 1 + 1) lx.0 lx.8 a1.cells1 z.frame a1.hand1 a1.written1 w1 lx.14) in
+    (label_goes g z.scene d2 (z.depth + 1 + 1) lx.0 lx.8 a1.cells1 z.frame a1.hand1 a1.written1 w1 lx.14) in
     let a3 = open_more g s0 (further 1 (further 1 A0)) A3 z w lx.8 d2 more w1 (omega arith) (omega arith) a2 in
     let is_base : BaseOf a3.bases1 o (z.frame + z.depth) = subst (λ n. slice_get (z.bases ++ (z.frame + z.depth) ∷ []) n ≡ Some (z.frame + z.depth)) r.fits.long (get_new z.bases (z.frame + z.depth)) in
     let names = bound_named z.scene z.env a3.bases1 z.frame x.letters (b.Variable z.scene.procedure z.depth) (cell o 0) (variable_here z.scene a3.bases1 z.frame z.depth o x.letters is_base (omega arith))
-        (named_grown z.scene z.env z.bases a3.bases1 z.frame (grown_made z.bases (z.frame + z.depth)) r.named) in
+    (named_grown z.scene z.env z.bases a3.bases1 z.frame (grown_made z.bases (z.frame + z.depth)) r.named) in
     let z1 = open_sit g s0 A3 z w lx.8 d2 more w1 a3 bs env1 in
     let r1 = open_ready g s0 A3 z w lx.8 d2 w1 a3 bs env1 (omega arith) names r in
     let N : Account = record { most = 16 * w.turns + 16; least = w.turns - suc (turns_in c) } in
-    let scope : IsForLoop g z1.scene d2 z.depth lx.4 env1 c lx.7 (Stack z.depth ∷ rest) =
-        (lx.0, lx.1, lx.2, lx.3, lx.5, lx.8, subst (λ e. IsAlone g (in_loop lx.2 lx.3 d2 z1.scene) d2 (bind x.letters (cell o 0) e) c lx.5 lx.7 (Label lx.2 ∷ behind_body z.depth lx.4 lx.0 lx.8)) (sym ez) (lx.11 o (some_objects g z w r)), lx.12,
-         same_label g z.scene bs d2 lx.0 lx.8 lx.14, same_label g z.scene bs d2 lx.1 lx.7 lx.15, same_label g z.scene bs d2 lx.2 (behind_body z.depth lx.4 lx.0 lx.8) lx.16, same_label g z.scene bs d2 lx.3 (Stack z.depth ∷ rest) lx.17, lx.19, lx.20) in
+    let scope : IsForLoop g z1.scene d2 z.depth lx.4 env1 c lx.7 (Stack z.depth ∷ rest) = (
+      lx.0,
+      lx.1,
+      lx.2,
+      lx.3,
+      lx.5,
+      lx.8,
+      subst (λ e. IsAlone g (in_loop lx.2 lx.3 d2 z1.scene) d2 (bind x.letters (cell o 0) e) c lx.5 lx.7 (Label lx.2 ∷ behind_body z.depth lx.4 lx.0 lx.8)) (sym ez) (lx.11 o (some_objects g z w r)),
+      lx.12,
+      same_label g z.scene bs d2 lx.0 lx.8 lx.14,
+      same_label g z.scene bs d2 lx.1 lx.7 lx.15,
+      same_label g z.scene bs d2 lx.2 (behind_body z.depth lx.4 lx.0 lx.8) lx.16,
+      same_label g z.scene bs d2 lx.3 (Stack z.depth ∷ rest) lx.17,
+      lx.19,
+      lx.20,
+    ) in
     let like1 : content_of (a3.cells1 (z.frame + (z.depth + 1))) ≡ content_of (z.cells (z.frame + (z.depth + 1))) =
-        (below_like (z.frame + (z.depth + 1 + 1)) (stored_cells z.frame (z.depth + 1 + 1) z.cells) (z.frame + (z.depth + 1)) (omega arith)).content
-        ∙ ap content_of (stored_at z.frame (z.depth + 1 + 1) (z.frame + (z.depth + 1)) z.cells (omega arith) (omega arith)) in
+    (below_like (z.frame + (z.depth + 1 + 1)) (stored_cells z.frame (z.depth + 1 + 1) z.cells) (z.frame + (z.depth + 1)) (omega arith)).content
+    ∙ ap content_of (stored_at z.frame (z.depth + 1 + 1) (z.frame + (z.depth + 1)) z.cells (omega arith) (omega arith)) in
     let lim : Limit g z1 w1 z.depth o v = record {
       base = is_base;
       limit = subst (λ k. Stands g.codes a3.bases1 v k) (sym like1) (stands_grown g.codes z.bases a3.bases1 v _ (grown_made z.bases (z.frame + z.depth)) sv);

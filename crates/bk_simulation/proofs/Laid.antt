@@ -327,10 +327,10 @@ abbrev mutual
   IsAct g sc d env (t.for_loop l x a y h e) at c rest =
       (n n1 n2 n3 k j : ℕ) × (c1 body test : List Stmt) × IsCode g sc d env pushes a c c1 × IsCode g sc (d + 1) (past a env) pushes y c1 (Store ∷ Jump n ∷ Label n1 ∷ body)
       × ((object : ℕ) → 0 < object →
-        let inside : Scene = in_for n2 n3 d x.letters sc in
-        let there : Environment = m.bind x.letters (cell object 0) (past y (past a env)) in
-        OneScope g inside (d + 2) there e j (λ at1 c2. IsAct g (owning j (alone e) inside) (d + 2) (labelled (alone e) there) e at1 body c2)
-        (Label n2 ∷ Load (Local d) ∷ Number (signed k) ∷ Dyadic two.Add ∷ Assign (Local d) ∷ Label n ∷ test))
+      let inside : Scene = in_for n2 n3 d x.letters sc in
+      let there : Environment = m.bind x.letters (cell object 0) (past y (past a env)) in
+      OneScope g inside (d + 2) there e j (λ at1 c2. IsAct g (owning j (alone e) inside) (d + 2) (labelled (alone e) there) e at1 body c2)
+      (Label n2 ∷ Load (Local d) ∷ Number (signed k) ∷ Dyadic two.Add ∷ Assign (Local d) ∷ Label n ∷ test))
       × (test ≡ Load (Local d) ∷ Load (Local (d + 1)) ∷ test_of_step k ∷ JumpIf true n1 ∷ Label n3 ∷ Stack d ∷ rest)
       × (step_of env h ≡ Some k) × LabelAt g sc (d + 2) n test × LabelAt g sc (d + 2) n1 body
       × LabelAt g sc (d + 2) n2 (Load (Local d) ∷ Number (signed k) ∷ Dyadic two.Add ∷ Assign (Local d) ∷ Label n ∷ test) × LabelAt g sc (d + 2) n3 (Stack d ∷ rest)

@@ -296,7 +296,7 @@ procedure_bases pay section own ts bs k x fs i many body n p callable word =
     let h : Home = record { section = section; own = own; targets = ts; bindings = bs; pay = pay } in
     let next : suc i ≡ i + 1 = omega arith in
     let inner : (g : Setting) → Suits h i (word_base own n (meant (bound_in bs x)) ∷ o.bases) (own.places.label n ∷ o.entries) g → Suits h (i + 1) o.bases o.entries g =
-        λ g s. record { fits = s.fits; follow = subst (λ z. Follow g.lasting z o.bases) next (s.follow.1); words = subst (λ z. FollowWords g.codes.procedure z o.entries) next (s.words.1) } in
+    λ g s. record { fits = s.fits; follow = subst (λ z. Follow g.lasting z o.bases) next (s.follow.1); words = subst (λ z. FollowWords g.codes.procedure z o.entries) next (s.words.1) } in
     record {
       bases = word_base own n (meant (bound_in bs x)) ∷ o.bases;
       entries = own.places.label n ∷ o.entries;
@@ -307,7 +307,7 @@ procedure_bases pay section own ts bs k x fs i many body n p callable word =
       held = λ g s ns u v. (
         (
           procedure_is pay section own ts bs k fs (i + 1) many body n p g i ns (global_named (sense_in ns x)) (inner g s) u s.words.0 (λ bases frame grown. record { each = (v.0 k bases frame grown).each }),
-          subst (λ y. HeldWord g i y) (sym (v.1 x)) (word_held g section own n i p.place p.name (bound_in bs x) s.fits.own p.at s.words.0 callable word s.follow.0)
+          subst (λ y. HeldWord g i y) (sym (v.1 x)) (word_held g section own n i p.place p.name (bound_in bs x) s.fits.own p.at s.words.0 callable word s.follow.0),
         ),
         subst (λ z. HeldList g z (of_body body (bind_each (letters fs) foreign (with_names ns (i + 1))))) (sym next) (o.held g (inner g s) ns u v),
       );

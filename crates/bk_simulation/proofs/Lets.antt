@@ -62,9 +62,10 @@ pub defined_rise : (g : Setting) (sc : Scene) (ds : Definitions) (d : ℕ) (env 
 defined_rise g sc t.no_definitions d env c rest d1 ps l = (let e = l.1 in omega arith, subst (λ y. RisingSpots d y) (sym l.2) tt)
 defined_rise g sc (t.define (t.variables x xs is) ds) d env c rest d1 ps l =
     let a = starts_rise g sc is d env c l.0 l.1 l.2 l.4 in
-    let b = defined_rise g sc ds l.1 (past_definition (t.variables x xs is) env) l.0 rest d1 l.3 l.5 in
-    (let p = a.0 in let q = b.0 in omega arith,
-     subst (λ y. RisingSpots d y) (sym l.6) (spots_joined (letters xs) l.2 d l.1 l.3 a.0 a.1 (slots_low g sc is d env c l.0 l.1 l.2 l.4) b.1))
+    let b = defined_rise g sc ds l.1 (past_definition (t.variables x xs is) env) l.0 rest d1 l.3 l.5 in (
+      let p = a.0 in let q = b.0 in omega arith,
+      subst (λ y. RisingSpots d y) (sym l.6) (spots_joined (letters xs) l.2 d l.1 l.3 a.0 a.1 (slots_low g sc is d env c l.0 l.1 l.2 l.4) b.1),
+    )
 defined_rise g sc (t.define (t.routine x y fs a) ds) d env c rest d1 ps l = defined_rise g sc ds d (past_definition (t.routine x y fs a) env) c rest d1 ps l
 defined_rise g sc (t.define (t.function x y fs e) ds) d env c rest d1 ps l = defined_rise g sc ds d (past_definition (t.function x y fs e) env) c rest d1 ps l
 

@@ -102,7 +102,7 @@ while_run g m sim B l b e a z at c rest w le le' lx r =
         let C : Account = record { most = 16 * w.turns + 2; least = w.turns - turns_of e } in
         let D : Account = record { most = 16 * w.turns + 3; least = (w.turns - turns_of e) + g.pay } in
         let ar : ArrivedAt g s D z lx.3 z.depth w w2 = arrived_more g s (paying g C) D z.scene.own z.frame w.calls (z.frame + z.depth) (store z w) lx.3 z.depth w2 (omega arith) (omega arith)
-            (label_on g s C z.scene z.frame w.calls (z.frame + z.depth) (store z w) z.depth z.depth lx.1 lx.3 w2 (omega arith) lx.9 q) in
+        (label_on g s C z.scene z.frame w.calls (z.frame + z.depth) (store z w) z.depth z.depth lx.1 lx.3 w2 (omega arith) lx.9 q) in
         let m0 = ar.most in
         rounds_behind g m (t.while l b e a) (λ mode z at body rest e1 w. while_rounds g m sim l b e a mode z at body rest e1 w) s D B z at lx.3 rest w w2 (omega arith) (omega arith) (lx.0, lx.1, lx.2, lx.4, lx.6, lx.7, lx.8, lx.9, lx.10, lx.11) refl r ar
     goes false w2 q = inl (landed_on g (start z (Jump lx.0 ∷ Label lx.1 ∷ lx.3) w) (record { most = 16 * w.turns + 2; least = w.turns - turns_of e }) B z lx.2 rest w w2 (omega arith) (omega arith) r.deep lx.10 q)

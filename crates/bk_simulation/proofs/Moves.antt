@@ -144,16 +144,20 @@ module _ (program : Program) (s : State) (own : Placed) (rest : List Stmt) where
     pub function_moves : (d n i l : ℕ) (name : List ℕ) → s.control ≡ Inside own (d + 1) (CallFunction n ∷ rest) → slot s d ≡ Word (other.places.label l)
         → slice_get other.stmts i ≡ Some (Entry l name) → can_be_called program.callables (other.places.label l) ≡ true → nat_lt (2 ^ 31 - 65536) (s.frame + n) ≡ false
         → Moves program s (record (entering s own d n (other.places.label l) rest) { control = Inside other 2 (Entry l name ∷ drop (suc i) other.stmts); hand = None })
-    function_moves d n i l name ec ew at eb el =
-        (_, call_function_step program s own rest d n (other.places.label l) ec ew eb el,
-         entry_settled program first F well section other is_other (entering s own d n (other.places.label l) rest) i l name at refl)
+    function_moves d n i l name ec ew at eb el = (
+      _,
+      call_function_step program s own rest d n (other.places.label l) ec ew eb el,
+      entry_settled program first F well section other is_other (entering s own d n (other.places.label l) rest) i l name at refl,
+    )
 
     pub routine_moves : (d n i l : ℕ) (name : List ℕ) → s.control ≡ Inside own (d + 1) (CallRoutine n ∷ rest) → slot s d ≡ Word (other.places.label l)
         → slice_get other.stmts i ≡ Some (Entry l name) → can_be_called program.callables (other.places.label l) ≡ true → nat_lt (2 ^ 31 - 65536) (s.frame + n) ≡ false
         → Moves program s (record (entering s own d n (other.places.label l) rest) { control = Inside other 2 (Entry l name ∷ drop (suc i) other.stmts); hand = None })
-    routine_moves d n i l name ec ew at eb el =
-        (_, call_routine_step program s own rest d n (other.places.label l) ec ew eb el,
-         entry_settled program first F well section other is_other (entering s own d n (other.places.label l) rest) i l name at refl)
+    routine_moves d n i l name ec ew at eb el = (
+      _,
+      call_routine_step program s own rest d n (other.places.label l) ec ew eb el,
+      entry_settled program first F well section other is_other (entering s own d n (other.places.label l) rest) i l name at refl,
+    )
 
     -- ---- back behind a call in a section: what is in hand becomes an item where a function was called,
     pub back_in_function : (t : State) (i n : ℕ) → slice_get other.stmts i ≡ Some (CallFunction n) → t.control ≡ At (other.places.call (length (drop (suc i) other.stmts)))

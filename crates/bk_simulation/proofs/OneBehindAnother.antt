@@ -20,7 +20,7 @@ then_bases h bs next n m {K} {L} P Q names a after b =
     let l = length_both a.bases b.bases in
     let le = length_both a.entries b.entries in
     let front : (g : Setting) → Suits h next (a.bases ++ b.bases) (a.entries ++ b.entries) g → Suits h next a.bases a.entries g =
-        λ g x. record { fits = x.fits; follow = follow_first g.lasting next a.bases b.bases x.follow; words = words_first g.codes.procedure next a.entries b.entries x.words } in
+    λ g x. record { fits = x.fits; follow = follow_first g.lasting next a.bases b.bases x.follow; words = words_first g.codes.procedure next a.entries b.entries x.words } in
     let back : (g : Setting) → Suits h next (a.bases ++ b.bases) (a.entries ++ b.entries) g → Suits (record h { bindings = bs }) (next + n) b.bases b.entries g = λ g x. record {
       fits = record { own = x.fits.own; pays = x.fits.pays };
       follow = follow_second g.lasting next n a.bases b.bases an x.follow;

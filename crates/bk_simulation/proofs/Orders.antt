@@ -46,10 +46,10 @@ ready_at g z w env en r = let dp = r.deep in
 then_run : (g : Setting) (m : Meanings) → Simulates g m → (a : Action) (mode : Mode) (cs : Actions) (z : Sit) (at1 at2 : Sought → List Stmt) (c c1 rest e : List Stmt) (w : World) → IsAct g z.scene z.depth z.env a at1 c c1
     → Entered mode z.env a at1 c e → Ready g z w
     → ((z1 : Sit) (w1 : World) → Ready g z1 w1 → z1.env ≡ past_action a z.env → AreActs g z1.scene z1.depth z1.env cs at2 c1 rest
-       → Ran g (start z1 c1 w1) (for_scope cs w1) (λ _ w2. Did g (start z1 c1 w1) (for_scope cs w1) z1 rest w1 w2) (Out g (start z1 c1 w1) (for_scope cs w1) z1 w1) (in_order m cs forwards (past_action a z.env) w1))
+    → Ran g (start z1 c1 w1) (for_scope cs w1) (λ _ w2. Did g (start z1 c1 w1) (for_scope cs w1) z1 rest w1 w2) (Out g (start z1 c1 w1) (for_scope cs w1) z1 w1) (in_order m cs forwards (past_action a z.env) w1))
     → AreActs g z.scene z.depth (past_action a z.env) cs at2 c1 rest
     → Ran g (start z e w) (for_scope (t.also a cs) w) (λ _ w1. Did g (start z e w) (for_scope (t.also a cs) w) z rest w w1) (Out g (start z e w) (for_scope (t.also a cs) w) z w)
-      (with (m.act a mode z.env w) (λ _ w. in_order m cs forwards (past_action a z.env) w))
+    (with (m.act a mode z.env w) (λ _ w. in_order m cs forwards (past_action a z.env) w))
 then_run g m sim a mode cs z at1 at2 c c1 rest e w la en r go lcs =
     let s = start z e w in
     let B = for_scope (t.also a cs) w in
@@ -80,14 +80,14 @@ order_run g m sim (t.also a cs) (seeking s) z at c rest e w l en r =
     by_test (stands_in s z.env a)
     (λ (h : stands_in s z.env a ≡ true).
     subst (λ (b : Bool). Ran g (start z e w) (for_scope (t.also a cs) w) (λ _ w1. Did g (start z e w) (for_scope (t.also a cs) w) z rest w w1) (Out g (start z e w) (for_scope (t.also a cs) w) z w)
-      (either b (λ w. with (m.act a (seeking s) z.env w) (λ _ w. in_order m cs forwards (past_action a z.env) w)) (λ w. in_order m cs (seeking s) (past_action a z.env) w) w)) (sym h)
+    (either b (λ w. with (m.act a (seeking s) z.env w) (λ _ w. in_order m cs forwards (past_action a z.env) w)) (λ w. in_order m cs (seeking s) (past_action a z.env) w) w)) (sym h)
     (then_run g m sim a (seeking s) cs z l.1 l.2 c l.0 rest e w l.3 (h, en.1 ∙ l.5 s ∙ ap (λ (b : Bool). cond b (l.1 s) (l.2 s)) h) r
     (λ z1 w1 r1 ez l1. subst (λ y. Ran g (start z1 l.0 w1) (for_scope cs w1) (λ _ w2. Did g (start z1 l.0 w1) (for_scope cs w1) z1 rest w1 w2) (Out g (start z1 l.0 w1) (for_scope cs w1) z1 w1) (in_order m cs forwards y w1)) ez
     (order_run g m sim cs forwards z1 l.2 l.0 rest l.0 w1 l1 refl r1)) l.4))
     (λ (h : stands_in s z.env a ≡ false).
     let z1 = record z { env = past_action a z.env } in
     subst (λ (b : Bool). Ran g (start z e w) (for_scope (t.also a cs) w) (λ _ w1. Did g (start z e w) (for_scope (t.also a cs) w) z rest w w1) (Out g (start z e w) (for_scope (t.also a cs) w) z w)
-      (either b (λ w. with (m.act a (seeking s) z.env w) (λ _ w. in_order m cs forwards (past_action a z.env) w)) (λ w. in_order m cs (seeking s) (past_action a z.env) w) w)) (sym h)
+    (either b (λ w. with (m.act a (seeking s) z.env w) (λ _ w. in_order m cs forwards (past_action a z.env) w)) (λ w. in_order m cs (seeking s) (past_action a z.env) w) w)) (sym h)
     (ran_first g (start z e w) (for_scope cs w) (for_scope (t.also a cs) w) z w _ _ (in_order m cs (seeking s) (past_action a z.env) w) (omega arith) (omega arith)
     (λ _ w1 q. arrived_more g (start z e w) (for_scope cs w) (for_scope (t.also a cs) w) z.scene.own z.frame w.calls (z.frame + z.depth) (store z w) rest z.depth w1 (omega arith) (omega arith) q)
     (order_run g m sim cs (seeking s) z1 l.2 l.0 rest e w l.4 (same_stands_one s z.env.names (past_action a z.env).next z.env.next cs ∙ or_second (stands_in s z.env a) (stands_in_one s z.env cs) en.0 h, en.1 ∙ l.5 s ∙ ap (λ (b : Bool). cond b (l.1 s) (l.2 s)) h)

@@ -139,7 +139,7 @@ renames_manifests (t.item l x e is) g sc ns i h a r k =
         keeps_both bs (bind x y bs) (manifests_in_scope (bind x y bs) is) (keeps_bound x y bs (λ z. z)) more.renames.0,
         λ bases frame grown n. more.renames.1 bases frame grown
             (bound_named sc (with_names ns i) bases frame x y s
-            (bound_constant (Some y) (constant_in (with_names ns i) e) (record sc { bindings = bind x y bs }) bases frame x w (itself x y bs ∙ ap (λ z. Some (b.Constant z)) is_word) small (same ∙ is_word)) n)
+            (bound_constant (Some y) (constant_in (with_names ns i) e) (record sc { bindings = bind x y bs }) bases frame x w (itself x y bs ∙ ap (λ z. Some (b.Constant z)) is_word) small (same ∙ is_word)) n),
       );
     }
 
@@ -197,7 +197,7 @@ renames_statics (t.item l x e is) g sc ns i n some h a =
       renames = λ u. (
         through,
         λ bases frame grown k. (more.renames (subst (λ z. AreBases g.lasting z (static_places sc.own sc.targets (n + 1) is)) (sym one) u.1)).1 bases frame grown
-            (record { each = (bound_named sc (with_names ns i) bases frame x y s (static_at g sc1 bases frame x i n grown u.0 (itself x y bs)) k).each })
+            (record { each = (bound_named sc (with_names ns i) bases frame x y s (static_at g sc1 bases frame x i n grown u.0 (itself x y bs)) k).each }),
       );
     }
 
@@ -210,7 +210,6 @@ pub record GlobalsBehind (g : Setting) (sc : Scene) (outer : List Named) (os : L
   pub next : (m.globals (with_names outer i) is (with_names ns i)).next ≡ i
   pub keeps : KeepsLabels sc.bindings (globals_in_scope os is sc.bindings)
   pub renames : BaseOf g.lasting 0 16 → Renames g sc (with_names ns i) (globals_in_scope os is sc.bindings) (m.globals (with_names outer i) is (with_names ns i))
-
 
 -- with the first item in scope
 record GlobalsLater (g : Setting) (sc : Scene) (outer : List Named) (os : List Binding) (ns : List Named) (i : ℕ) (is : Items) (bs : List Binding) (env : Environment) : Type 0 where
@@ -333,8 +332,8 @@ agree_there x n v ns bs e a z = picked (bytes_eq x z) refl
 one_procedure : (g : Setting) (sc : Scene) (ns : List Named) (i n k : ℕ) (ds : Definitions) (x : List ℕ) (u : Option ℕ) (q : Bool) → global_named (sense_in ns x) ≡ u → is_global (bound_in sc.bindings x) ≡ q → 0 < i → HasWords sc.bindings → Agree ns sc.bindings
     → ((sc1 : Scene) (ns1 : List Named) → HasWords sc1.bindings → Agree ns1 sc1.bindings → ProceduresBehind g sc1 ns1 (i + k) (n + 1) ds (AreProcedures g.lasting sc1.own sc1.targets sc1.bindings (i + k) (n + 1) ds) sc1.bindings (with_names ns1 (i + k)))
     → ProceduresBehind g sc ns i (n + 1) ds
-      ((q ≡ false → BaseOf g.lasting i (sc.own.places.label ((goal_of sc.targets n).label))) × AreProcedures g.lasting sc.own sc.targets (cond q sc.bindings (bind x (b.Static n) sc.bindings)) (i + k) (n + 1) ds)
-      (cond q sc.bindings (bind x (b.Static n) sc.bindings)) (m.behind k (bind_procedure_as u x (with_names ns i)))
+    ((q ≡ false → BaseOf g.lasting i (sc.own.places.label ((goal_of sc.targets n).label))) × AreProcedures g.lasting sc.own sc.targets (cond q sc.bindings (bind x (b.Static n) sc.bindings)) (i + k) (n + 1) ds)
+    (cond q sc.bindings (bind x (b.Static n) sc.bindings)) (m.behind k (bind_procedure_as u x (with_names ns i)))
 one_procedure g sc ns i n k ds x None true e f some h a more =
     let mine = more sc (record { name = x; sense = cell i 0 } ∷ ns) h (agree_here x i ns sc.bindings f a) in
     record { words = mine.words; agree = mine.agree; keeps = mine.keeps; globals = λ w. absurd (global_here (sense_in ns x) (bound_in sc.bindings x) (w x) f e); means = λ w. absurd (global_here (sense_in ns x) (bound_in sc.bindings x) (w x) f e) }
@@ -464,9 +463,10 @@ keeps_spots (p ∷ ps) k bs = keeps_both bs (bind p.name (b.Variable k p.slot) b
 -- the names of a LET's variables mean their words
 pub renames_variables : (ps : List Spot) (sc : Scene) (bl : List Binding) (env : Environment) (n k : ℕ) → KeepsLabels sc.bindings bl → InFrame ps
     → RenamesVariables sc bl env (bind_all (from_spots k ps) bl) ps (m.behind n env)
-renames_variables ps sc bl env n k keeps f =
-    (keeps_both sc.bindings bl (bind_all (from_spots k ps) bl) keeps (keeps_spots ps k bl),
-    λ o bases frame low at r. variables_mean ps (record sc { bindings = bl }) (m.behind n env) o k bases frame f low at (record { each = r.each }))
+renames_variables ps sc bl env n k keeps f = (
+  keeps_both sc.bindings bl (bind_all (from_spots k ps) bl) keeps (keeps_spots ps k bl),
+  λ o bases frame low at r. variables_mean ps (record sc { bindings = bl }) (m.behind n env) o k bases frame f low at (record { each = r.each }),
+)
 
 -- the variables that scoping binds
 most_within : (most : ℕ) (w : ℕ) → w ≤ most → nat_lt most w ≡ false

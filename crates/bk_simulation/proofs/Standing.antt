@@ -184,9 +184,9 @@ both_bases h next n m {K} {L} P Q a b =
     let l = length_both a.bases b.bases in
     let le = length_both a.entries b.entries in
     let front : (g : Setting) → Suits h next (a.bases ++ b.bases) (a.entries ++ b.entries) g → Suits h next a.bases a.entries g =
-        λ g x. record { fits = x.fits; follow = follow_first g.lasting next a.bases b.bases x.follow; words = words_first g.codes.procedure next a.entries b.entries x.words } in
+    λ g x. record { fits = x.fits; follow = follow_first g.lasting next a.bases b.bases x.follow; words = words_first g.codes.procedure next a.entries b.entries x.words } in
     let back : (g : Setting) → Suits h next (a.bases ++ b.bases) (a.entries ++ b.entries) g → Suits h (next + n) b.bases b.entries g =
-        λ g x. record { fits = x.fits; follow = follow_second g.lasting next n a.bases b.bases an x.follow; words = words_second g.codes.procedure next n a.entries b.entries ae x.words } in
+    λ g x. record { fits = x.fits; follow = follow_second g.lasting next n a.bases b.bases an x.follow; words = words_second g.codes.procedure next n a.entries b.entries ae x.words } in
     record {
       bases = a.bases ++ b.bases;
       entries = a.entries ++ b.entries;

@@ -213,10 +213,11 @@ vec_done g s A z w c rest d k w1 r le fw ec a = record {
         ∙ written cells2 (z.frame + (d + k + 1)) (Held Temporary (Word (z.frame + d)))
 
     vec_word : (i : ℕ) → i < k + 1 → (x : Content) × (cells3 (b + i) ≡ Held Variable x)
-    vec_word i lt =
-        (content_of (a.cells1 (b + i)),
-         same3 (b + i) (omega arith) ∙ below_at (z.frame + (d + k + 1)) (settle (z.frame + d) (z.frame + (d + k + 1)) a.cells1) (b + i) (omega arith)
-         ∙ settle_at (z.frame + d) (z.frame + (d + k + 1)) a.cells1 (b + i) (omega arith) (omega arith))
+    vec_word i lt = (
+      content_of (a.cells1 (b + i)),
+      same3 (b + i) (omega arith) ∙ below_at (z.frame + (d + k + 1)) (settle (z.frame + d) (z.frame + (d + k + 1)) a.cells1) (b + i) (omega arith)
+          ∙ settle_at (z.frame + d) (z.frame + (d + k + 1)) a.cells1 (b + i) (omega arith) (omega arith),
+    )
 
     st1 : State
     st1 = state own d c a.cells1 z.frame a.hand1 a.written1 w1
@@ -283,9 +284,12 @@ item_before g s A B z w h d n c rest d0 d1 slots v vs w1 w2 le lt le1 i l =
     record {
       arr = l.arr;
       carries = carries_on (z.frame + d) (z.frame + d0) h h1 h2 (omega arith) i.carries l.carries;
-      items =
-          (subst (λ y. Stands g.codes h2.bases v y) (sym (l.carries.like (z.frame + n) (omega arith) i.free).content) (stands_grown g.codes h1.bases h2.bases v _ l.carries.grown i.stands),
-           l.carries.free (z.frame + n) (omega arith) i.free, (let q : n < d1 = omega arith in q), l.items);
+      items = (
+        subst (λ y. Stands g.codes h2.bases v y) (sym (l.carries.like (z.frame + n) (omega arith) i.free).content) (stands_grown g.codes h1.bases h2.bases v _ l.carries.grown i.stands),
+        l.carries.free (z.frame + n) (omega arith) i.free,
+        (let q : n < d1 = omega arith in q),
+        l.items,
+      );
     }
 
 no_item : (g : Setting) (s : State) (A B : Account) (z : Sit) (w : World) (c rest : List Stmt) (d d1 : ℕ) (slots : List ℕ) (w1 : World) → A.most ≤ B.most → B.least ≤ A.least → c ≡ rest → d1 ≡ d → slots ≡ []

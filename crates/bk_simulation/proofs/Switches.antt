@@ -112,12 +112,12 @@ switch_run g m sim B l e a z at c rest w le le' lx r =
         by_test (stands_in (the_case (Some k)) (past e z.env) a)
         (λ (h : stands_in (the_case (Some k)) (past e z.env) a ≡ true).
         subst (λ (b : Bool). RanDid g (start z c w) B z rest w (either b (λ w. ended_case (m.act a (seeking (the_case (Some k))) (past e z.env) w))
-          (λ w. either (stands_in the_default (past e z.env) a) (λ w. ended_case (m.act a (seeking the_default) (past e z.env) w)) done w) w1)) (sym h)
+        (λ w. either (stands_in the_default (past e z.env) a) (λ w. ended_case (m.act a (seeking the_default) (past e z.env) w)) done w) w1)) (sym h)
         (ended_behind g m sim (start z c w) (paying g (for_value e w)) B a (the_case (Some k)) z (past e z.env) lx.0 at lx.3 rest (at (the_case (Some k))) w w1 (omega arith) (omega arith) refl lx.5 (h, refl) lx.6 r
         (switched g (start z c w) (for_value e w) z lx.1 k lx.2 (at (the_case (Some k))) lx.3 w w1 r.deep q (lx.7 k h))))
         (λ (h : stands_in (the_case (Some k)) (past e z.env) a ≡ false).
         subst (λ (b : Bool). RanDid g (start z c w) B z rest w (either b (λ w. ended_case (m.act a (seeking (the_case (Some k))) (past e z.env) w))
-          (λ w. either (stands_in the_default (past e z.env) a) (λ w. ended_case (m.act a (seeking the_default) (past e z.env) w)) done w) w1)) (sym h)
+        (λ w. either (stands_in the_default (past e z.env) a) (λ w. ended_case (m.act a (seeking the_default) (past e z.env) w)) done w) w1)) (sym h)
         (by_test (stands_in the_default (past e z.env) a)
         (λ (i : stands_in the_default (past e z.env) a ≡ true).
         subst (λ (b : Bool). RanDid g (start z c w) B z rest w (either b (λ w. ended_case (m.act a (seeking the_default) (past e z.env) w)) done w1)) (sym i)

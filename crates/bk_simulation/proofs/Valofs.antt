@@ -97,5 +97,5 @@ valof_run g m sim B x z n j c rest w le le' l ln r =
         at_result : (control : List Stmt) → control ≡ Label n ∷ TakeResult z.depth ∷ rest → (a : ArrivedAt g (start z c w) (for_scope (alone x) w) z control o.depth1 w w1) → Handed g a.bases1 (result v) a.hand1 → Has g (start z c w) B z rest (z.depth + 1) w v w1
         at_result control e a h =
             let b : (y : ArrivedAt g (start z c w) (for_scope (alone x) w) z (Label n ∷ TakeResult z.depth ∷ rest) o.depth1 w w1) × Handed g y.bases1 (result v) y.hand1 =
-                subst (λ k. (y : ArrivedAt g (start z c w) (for_scope (alone x) w) z k o.depth1 w w1) × Handed g y.bases1 (result v) y.hand1) e (a, h) in
+            subst (λ k. (y : ArrivedAt g (start z c w) (for_scope (alone x) w) z k o.depth1 w w1) × Handed g y.bases1 (result v) y.hand1) e (a, h) in
             takes_up g (start z c w) (for_scope (alone x) w) B z n o.depth1 rest w w1 v (omega arith) (omega arith) r.deep ln b.0 (held_result g b.0.bases1 v b.0.hand1 b.1.0 b.1.1 b.1.2)
