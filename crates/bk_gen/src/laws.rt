@@ -1,5 +1,5 @@
 //! The laws of the layers below on which the code rests, and the law of the back end.
-ghost use Rattle.bk_gen.specs.BackEnd.{BackEndHolds, PartsAreWellPlaced};
+ghost use Rattle.bk_gen.specs.BackEnd.{BackEndHolds, PartsAreWellPlaced, PartsWithoutStart};
 ghost use Rattle.bk_gen.specs.Laws.{Laws, RunLaws};
 
 use bk_intcode::format_is_of_parts;
@@ -49,6 +49,12 @@ pub fn back_end()
 {
     laws();
     run_laws();
+}
+
+/// Sections of which none sets global 1 have no first state: they have no START.
+pub fn parts_without_start()
+    ensures { PartsWithoutStart }
+{
 }
 
 /// Sections in the loader's placement: the number of each entry and of each place behind a call is that of no other, and strings and

@@ -10,5 +10,5 @@ mod table;
 #[cfg(test)]
 mod tests;
 
-pub use laws::{back_end, parts_are_well_placed};
+pub use laws::{back_end, parts_are_well_placed, parts_without_start};
 pub use segment::generate;

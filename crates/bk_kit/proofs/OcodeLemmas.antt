@@ -103,8 +103,10 @@ module _ (Says : List ℕ → Type 0) (Refused : List ℕ → SourceFault → Ty
             let written = of_back.2.written turns fits.1.frames steps goes.1.now (goes_from turns bytes goes.1) (frames_from turns fits.1) fits.1.enough_steps fits.1.enough_words in
             (written.0, written.1 ∙ ap (λ b. b ++ written.0) (sym goes.1.wrote));
         never = λ never.
-            let within = of_back.3 (λ q. let goes = never q in (goes.1.1.now, goes_from q goes.0 goes.1.1)) steps in
-            (within.0, within.1.output, (says, record { first = first; starts = of_back.1; now = within.1; goes = within.2; wrote = refl }), partly_begins within.1 stands within.1.output [] (sym (append-nil within.1.output)) within.3);
+            let far = of_back.3 steps in
+            let goes = never far.0 in
+            let now = goes.1.1.now in
+            (far.0, goes.0, goes.1, partly_begins now stands goes.0 [] (goes.1.1.wrote ∙ sym (append-nil now.output)) (far.1 now (goes_from far.0 goes.0 goes.1.1)));
       }
 
 -- The laws, from that of the back end.
