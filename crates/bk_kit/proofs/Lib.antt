@@ -13,6 +13,6 @@ mod GenerateLemmas
 mod SourceLemmas
 mod OcodeEnds
 mod LanguageRuns
-mod OcodeLemmas
+mod MeaningLemmas
 mod TellLemmas
 mod LineLemmas

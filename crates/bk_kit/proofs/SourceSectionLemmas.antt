@@ -5,7 +5,8 @@ use Rattle.bk_lex.specs.Lexing.{Section}
 use Rattle.bk_lex.proofs.Complete.{section_is_lexed}
 use Rattle.bk_syntax.specs.Tree.{Declarations}
 use Rattle.bk_kit.specs.Sources.{Accepted, Refused, WholeSection, bytes_of, trees_of, line_behind, AreAccepted}
-use Rattle.bk_kit.specs.SourceSections.{HasTrees, IsRefused, OcodeRefuses}
+use Rattle.bk_kit.specs.SourceSections.{HasTrees, IsRefused}
+use Rattle.bk_kit.specs.SourceMeaning.{MeaningRefuses}
 
 -- the first section of a text is one
 one_section : (text : List ℕ) (line : ℕ) (s t : Section) (trees others : List Declarations) → Accepted text line s trees → Accepted text line t others → s ≡ t
@@ -49,8 +50,8 @@ refused_not_accepted source fault trees refused has =
     not_both fault has.part refused.part has.last has.last_trees has.at_end 1 has.sections refused.sections (sym has.whole ∙ refused.whole) has.accepted refused.accepted has.accepts refused.refused
 
 -- so its fault answers it
-pub ocode_refuses : OcodeRefuses
-ocode_refuses parts source fault steps words streams refused =
+pub meaning_refuses : MeaningRefuses
+meaning_refuses source fault steps words streams refused =
     (refused, (λ has. refused_not_accepted source fault has.0 refused has.1), refl)
 
 -- ---- of a source of which sections were delivered, and then a part of the last, whatever follows

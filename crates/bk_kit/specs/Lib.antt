@@ -13,8 +13,8 @@ pub mod ReadingSource
 pub mod Sources
 pub mod CompilingSection
 pub mod Compiling
-pub mod OcodeSteps
 pub mod SourceSections
+pub mod SourceMeaning
 pub mod Generating
 pub mod Sizes
 pub mod Serving

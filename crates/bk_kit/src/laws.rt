@@ -1,17 +1,24 @@
-//! Laws of the languages of sources.
-ghost use Rattle.bk_kit.specs.OcodeSteps.{OcodeRuns, OcodeTooSmall, OcodeStartless};
-ghost use Rattle.bk_kit.specs.SourceSections.{HasParts, IsRefused, OcodeRefuses};
+//! The law of running sources.
+ghost use Rattle.bk_kit.specs.SourceMeaning.{MeaningRuns, MeaningTooSmall, MeaningStartless, MeaningRefuses};
 
-use bk_gen::back_end;
+use bk_gen::{back_end, parts_are_well_placed, parts_without_start};
+use bk_simulation::{
+    programs_start_with_their_source, steps_do_what_sources_mean, steps_go_on_with_their_source,
+};
 
-/// Runs of sources, where a source means what the steps of OCODE do on the statements of its sections. Where the loader takes segments
-/// that stand for the sections, a run of the machine is one of the source; where it finds the store too small or no START, so does the
-/// meaning; and a source that is refused is not accepted.
-pub fn ocode_runs()
-    ensures runs { OcodeRuns HasParts IsRefused }
-    ensures too_small { OcodeTooSmall HasParts IsRefused }
-    ensures startless { OcodeStartless HasParts IsRefused }
-    ensures refuses { OcodeRefuses }
+/// Runs of sources. Where the loader takes segments that stand for the sections of an accepted source, a run of the machine is one of
+/// the source, as it is meant; where it finds the store too small or no START, so does the meaning; and a source that is refused is
+/// not accepted.
+pub fn sources_run()
+    ensures runs { MeaningRuns }
+    ensures too_small { MeaningTooSmall }
+    ensures startless { MeaningStartless }
+    ensures refuses { MeaningRefuses }
 {
     back_end();
+    parts_are_well_placed();
+    parts_without_start();
+    steps_do_what_sources_mean();
+    steps_go_on_with_their_source();
+    programs_start_with_their_source();
 }

@@ -1,16 +1,34 @@
-use Rattle.bk_kit.specs.SourceSections.{HasParts, IsRefused}
-use Rattle.bk_kit.proofs.OcodeLemmas.{sections_run, sections_too_small, sections_startless}
-use Rattle.bk_kit.proofs.SourceSectionLemmas.{ocode_refuses}
-use Rattle.bk_kit.proofs.laws.ocode_runs.Goals as goal
+use Rattle.bk_gen.specs.BackEnd.{BackEndHolds, PartsAreWellPlaced, PartsWithoutStart}
+use Rattle.bk_simulation.specs.Simulation.{StepsDoWhatSourcesMean, StepsGoOnWithTheirSource, StartsWithTheirSource}
+use Rattle.bk_kit.proofs.MeaningLemmas.{RunLaws, meanings_run, meanings_too_small, meanings_startless}
+use Rattle.bk_kit.proofs.OneTree.{one_list_of_trees}
+use Rattle.bk_kit.proofs.RegularTrees.{trees_are_accepted}
+use Rattle.bk_kit.proofs.SourceSectionLemmas.{meaning_refuses}
+use Rattle.bk_kit.proofs.laws.sources_run.Goals as goal
+
+run_laws : BackEndHolds → PartsAreWellPlaced → PartsWithoutStart → StepsDoWhatSourcesMean → StepsGoOnWithTheirSource → StartsWithTheirSource → RunLaws
+run_laws back placed without does goes_on begins = record {
+  back = back;
+  placed = placed;
+  without = without;
+  does = does;
+  goes_on = goes_on;
+  begins = begins;
+  one = one_list_of_trees;
+  accepted = trees_are_accepted;
+}
 
 pub returns-clause-runs : goal.returns-clause-runs
-returns-clause-runs c = sections_run HasParts IsRefused c.back_end.ensures
+returns-clause-runs c =
+    meanings_run (run_laws c.back_end.ensures c.parts_are_well_placed.ensures c.parts_without_start.ensures c.steps_do_what_sources_mean.ensures c.steps_go_on_with_their_source.ensures c.programs_start_with_their_source.ensures)
 
 pub returns-clause-too_small : goal.returns-clause-too_small
-returns-clause-too_small c = sections_too_small HasParts IsRefused
+returns-clause-too_small c =
+    meanings_too_small (run_laws c.back_end.ensures c.parts_are_well_placed.ensures c.parts_without_start.ensures c.steps_do_what_sources_mean.ensures c.steps_go_on_with_their_source.ensures c.programs_start_with_their_source.ensures)
 
 pub returns-clause-startless : goal.returns-clause-startless
-returns-clause-startless c = sections_startless HasParts IsRefused
+returns-clause-startless c =
+    meanings_startless (run_laws c.back_end.ensures c.parts_are_well_placed.ensures c.parts_without_start.ensures c.steps_do_what_sources_mean.ensures c.steps_go_on_with_their_source.ensures c.programs_start_with_their_source.ensures)
 
 pub returns-clause-refuses : goal.returns-clause-refuses
-returns-clause-refuses c = ocode_refuses
+returns-clause-refuses c = meaning_refuses
