@@ -1,5 +1,5 @@
 -- Accepted sections, one after another, that were read of a source.
-use Rattle.std.proofs.Common.{◌≡◌, ◌≢◌, inl, inr, ℕ, ◌≤◌, ◌<◌, ◌++◌, Bool, true, false, List, [], ◌∷◌, Option, None, Some, Ok, Err, length, if◌then◌else◌, arith, refl, sym, ap, subst, ◌∙◌, append_assoc, append-nil, length-append}
+use Rattle.std.proofs.Common.{◌≡◌, ◌≢◌, inl, inr, ℕ, zero, suc, ◌≤◌, ◌<◌, ◌++◌, Bool, true, false, List, [], ◌∷◌, Option, None, Some, Ok, Err, length, if◌then◌else◌, arith, refl, sym, ap, subst, ◌∙◌, append_assoc, append-nil, length-append}
 use Rattle.std.proofs.lemmas.List.{map-append}
 use Rattle.std.specs.Io.KnownBytes.{Consumes}
 use Rattle.bk_base.specs.DeviceLaws.{Consumes-nothing, Consumes-trans}
@@ -15,6 +15,7 @@ use Rattle.bk_lex.proofs.Faulty.{lexed_has_fault}
 use Rattle.bk_lex.proofs.Certain.{lexed_told}
 use Rattle.bk_lex.proofs.Sound.{lexed_is_section}
 use Rattle.bk_lex.proofs.Complete.{section_is_lexed}
+use Rattle.bk_ocode.specs.StmtRange.{AreBytes}
 use Rattle.bk_syntax.specs.Tree.{Declarations}
 use Rattle.bk_kit.specs.declared.kit_fault.KitFault.TheVariants.{Source}
 use Rattle.bk_kit.specs.declared.section.CompiledSection.{CompiledSection}
@@ -118,6 +119,13 @@ is_ended tokens next is = by_end tokens.ended refl
     by_end true e = (e, (let some = rw e at is in cc))
     by_end false e = let none = rw e at is in absurd cc
 
+-- ---- bytes
+
+pub bytes_both : (first second : List ℕ) → AreBytes first → AreBytes second → AreBytes (first ++ second)
+bytes_both [] second are also k byte is = also k byte is
+bytes_both (b ∷ first) second are also zero byte is = are 0 byte is
+bytes_both (b ∷ first) second are also (suc k) byte is = bytes_both first second (λ j other there. are (suc j) other there) also k byte is
+
 -- ---- the sections so far
 
 -- Accepted sections were delivered, each with its `.`: of so many bytes, and the next begins on this line.
@@ -163,7 +171,7 @@ module _ (old now new : Option (List ℕ)) (taken taken' line : ℕ) (passed : P
 
   -- one more, where another follows
   pub passed_on : (c : CompiledSection) → Compiled c text line → (next : ℕ) → c.next ≡ Some next
-      → (more : Passed old new taken' next) × (codes_of more.sections ≡ codes_of passed.sections ++ codes_in c.code)
+      → (more : Passed old new taken' next) × (codes_of more.sections ≡ codes_of passed.sections ++ codes_in c.code) × (bytes_of more.sections ≡ bytes_of passed.sections ++ text)
   passed_on c compiled next some =
       let ends = is_ended compiled.tokens next (sym some ∙ compiled.next) in
       let settled = dot_settles text line compiled.tokens compiled.lexed_as ends.0 in
@@ -179,4 +187,5 @@ module _ (old now new : Option (List ℕ)) (taken taken' line : ℕ) (passed : P
           at = ends.1 ∙ sym (line_push 1 passed.sections last);
         },
         codes_push passed.sections last ∙ ap (λ l. codes_of passed.sections ++ l) (sym compiled.has.code),
+        all,
       )

@@ -1,6 +1,6 @@
 -- A source whose sections are assembled one after another, and then loaded and run.
 use Rattle.std.proofs.Common.{◌≡◌, ◌≢◌, inl, inr, ◌⊎◌, ℕ, ◌+◌, ◌≤◌, ◌<◌, ◌++◌, Bool, true, false, List, [], ◌∷◌, Option, None, Some, Result, Ok, Err, IfErr, map, arith, refl, sym, ap, subst, ◌∙◌, append-nil}
-use Rattle.std.specs.Prelude.{IsErr}
+use Rattle.std.specs.Prelude.{IsErr, IsTrue}
 use Rattle.std.proofs.lemmas.List.{map-append}
 use Rattle.bk_base.specs.Devices.{Begins}
 use Rattle.bk_base.specs.declared.limit.TheConstants.{INPUT_BYTES, STORE_MOST}
@@ -8,6 +8,7 @@ use Rattle.bk_base.specs.declared.run_end.End.{End}
 use Rattle.bk_base.specs.declared.run_end.End.TheVariants.{WriteFault}
 use Rattle.bk_lex.specs.declared.cutter.Cut.TheVariants.{More}
 use Rattle.bk_ocode.specs.SectionStmts.{stmts_of}
+use Rattle.bk_ocode.specs.StmtRange.{AreBytes}
 use Rattle.bk_ocode.specs.declared.section.Ocode as o
 use Rattle.bk_ocode.specs.declared.stmt.Stmt.{Stmt}
 use Rattle.bk_ocode.proofs.SectionProp.{section_whole}
@@ -35,7 +36,8 @@ use Rattle.bk_kit.specs.RunningSource.{stmts_of_parts, Stand, Generated, Assembl
 use Rattle.bk_kit.specs.Headline.{Headline}
 use Rattle.bk_kit.specs.SourceMeaning.{meanings, MeaningRuns, MeaningTooSmall, MeaningStartless}
 use Rattle.bk_kit.proofs.SourceSectionLemmas.{meaning_refuses, has_delivered, refused_delivered}
-use Rattle.bk_kit.proofs.PassedSections.{refused_as, refuses_behind, takes_as, not_ended, Passed, passed_none, all_delivered, all_counted, passed_and_part, passed_on}
+use Rattle.bk_kit.proofs.ReadingLemmas.{ends_with_source}
+use Rattle.bk_kit.proofs.PassedSections.{bytes_both, refused_as, refuses_behind, takes_as, not_ended, Passed, passed_none, all_delivered, all_counted, passed_and_part, passed_on}
 
 -- what holds of each source holds of each
 each_source_as : (old new : Option (List ℕ)) (ended : Bool) (This That : List ℕ → Type 0) → ((source : List ℕ) → This source → That source)
@@ -85,12 +87,14 @@ stand_both all more codes others first second = record {
 -- Accepted sections were read, and these segments stand for them; the source has not failed.
 pub record Gathered (old now : Option (List ℕ)) (taken line : ℕ) (all : List (List Item)) (faults : ℕ) : Type 0 where
   pub passed : Passed old now taken line
+  pub bytes : AreBytes (bytes_of passed.sections)
   pub stand : Stand all (codes_of passed.sections)
   pub readable : (taken < INPUT_BYTES) ⊎ (faults ≡ 0)
 
 pub gathered_none : (known : Option (List ℕ)) (faults : ℕ) → Gathered known known 0 1 [] faults
 gathered_none known faults = record {
   passed = passed_none known;
+  bytes = λ k byte is. absurd (let h : None ≡ Some byte = is in cc);
   stand = record { parts = []; segments_are = refl; stmts_are = refl };
   readable = inl (omega arith);
 }
@@ -143,7 +147,7 @@ module _ (old now new : Option (List ℕ)) (ended : Bool) (taken taken' line : �
     not_compiled Read refuses = absurd refuses
     not_compiled Write refuses = absurd refuses
 
-    module _ (c : CompiledSection) (compiled : Compiled c text line) (all' : List (List Item)) (generated : Generated all all' (codes_in c.code)) where
+    module _ (are : AreBytes text) (c : CompiledSection) (compiled : Compiled c text line) (all' : List (List Item)) (generated : Generated all all' (codes_in c.code)) where
       stand : Stand all' (codes_of gathered.passed.sections ++ codes_in c.code)
       stand = subst (λ s. Stand s (codes_of gathered.passed.sections ++ codes_in c.code)) (sym generated.1)
           (stand_both all generated.0 (codes_of gathered.passed.sections) (codes_in c.code) gathered.stand generated.2)
@@ -154,9 +158,17 @@ module _ (old now new : Option (List ℕ)) (ended : Bool) (taken taken' line : �
           let more = passed_on old now new taken taken' line gathered.passed text here c compiled next some in
           record {
             passed = more.0;
+            bytes = subst AreBytes (sym more.2) (bytes_both (bytes_of gathered.passed.sections) text gathered.bytes are);
             stand = subst (Stand all') (sym more.1) stand;
             readable = inr none;
           }
+
+      -- the source is of bytes, which nothing follows
+      all_bytes : c.next ≡ None → taken' < INPUT_BYTES → (rest : List ℕ) → Follows ended rest → AreBytes ((bytes_of gathered.passed.sections ++ text) ++ rest)
+      all_bytes none short rest follows =
+          let over = ends_with_source text line compiled.tokens ended (settles short) compiled.lexed_as (not_ended compiled.tokens (sym none ∙ compiled.next)) in
+          let nothing : rest ≡ [] = follows (subst IsTrue (sym over) tt) in
+          subst AreBytes (sym (append-nil (bytes_of gathered.passed.sections ++ text)) ∙ ap (λ r. (bytes_of gathered.passed.sections ++ text) ++ r) (sym nothing)) (bytes_both (bytes_of gathered.passed.sections) text gathered.bytes are)
 
       -- it is the last
       pub is_last : c.next ≡ None → Assembled all' old new ended
@@ -165,7 +177,7 @@ module _ (old now new : Option (List ℕ)) (ended : Bool) (taken taken' line : �
         segments_are = stand.segments_are;
         has = each (HasParts stand.parts) (λ short rest follows. (
           trees_of gathered.passed.sections ++ compiled.has.trees,
-          has_delivered gathered.passed.sections text rest (gathered.passed.accepted (text ++ rest)) compiled.tokens compiled.has.trees
+          has_delivered gathered.passed.sections text rest (gathered.passed.accepted (text ++ rest)) compiled.tokens compiled.has.trees (all_bytes none short rest follows)
               (subst (λ (l : ℕ). Accepted (text ++ rest) l compiled.tokens compiled.has.trees) gathered.passed.at (takes_as text line ended c compiled (settles short) rest follows))
               (not_ended compiled.tokens (sym none ∙ compiled.next)),
           stand.stmts_are ∙ ap (λ l. codes_of gathered.passed.sections ++ l) compiled.has.code ∙ sym (map-append stmts_of_tree (trees_of gathered.passed.sections) compiled.has.trees),

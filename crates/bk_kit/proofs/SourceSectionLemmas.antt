@@ -5,6 +5,7 @@ use Rattle.bk_lex.specs.Lexing.{Section}
 use Rattle.bk_lex.proofs.Complete.{section_is_lexed}
 use Rattle.bk_syntax.specs.Tree.{Declarations}
 use Rattle.bk_kit.specs.Sources.{Accepted, Refused, WholeSection, bytes_of, trees_of, line_behind, AreAccepted}
+use Rattle.bk_ocode.specs.StmtRange.{AreBytes}
 use Rattle.bk_kit.specs.SourceSections.{HasTrees, IsRefused}
 use Rattle.bk_kit.specs.SourceMeaning.{MeaningRefuses}
 
@@ -57,9 +58,10 @@ meaning_refuses source fault steps words streams refused =
 -- ---- of a source of which sections were delivered, and then a part of the last, whatever follows
 
 module _ (sections : List WholeSection) (part rest : List ℕ) (accepted : AreAccepted 1 sections (part ++ rest)) where
-  pub has_delivered : (last : Section) (trees : List Declarations) → Accepted (part ++ rest) (line_behind 1 sections) last trees → last.ended ≡ false
+  pub has_delivered : (last : Section) (trees : List Declarations) → AreBytes ((bytes_of sections ++ part) ++ rest) → Accepted (part ++ rest) (line_behind 1 sections) last trees → last.ended ≡ false
       → HasTrees ((bytes_of sections ++ part) ++ rest) (trees_of sections ++ trees)
-  has_delivered last trees accepts at_end = record {
+  has_delivered last trees bytes accepts at_end = record {
+    bytes = bytes;
     sections = sections;
     part = part ++ rest;
     whole = append_assoc (bytes_of sections) part rest;

@@ -3,11 +3,14 @@ use Rattle.std.specs.Prelude.{◌≡◌, ℕ, false, List, ◌++◌, map}
 use Rattle.bk_base.specs.declared.source_fault.SourceFault.{SourceFault}
 use Rattle.bk_lex.specs.Lexing.{Section}
 use Rattle.bk_syntax.specs.Tree.{Declarations}
+use Rattle.bk_ocode.specs.StmtRange.{AreBytes}
 use Rattle.bk_gen.specs.BackEnd.{Part}
 use Rattle.bk_kit.specs.Sources.{Accepted, Refused, WholeSection, bytes_of, trees_of, codes_of_trees, line_behind, AreAccepted}
 
 -- Accepted sections, each with its `.`, and behind them an accepted one that the source's end ends; these are the trees of all.
 pub record HasTrees (source : List ℕ) (trees : List Declarations) : Type 0 where
+  -- a source is of bytes
+  pub bytes : AreBytes source
   pub sections : List WholeSection
   pub part : List ℕ
   pub whole : source ≡ bytes_of sections ++ part

@@ -1,4 +1,5 @@
 use Rattle.std.proofs.Common.{◌≡◌, subst, arith, ℕ, List, IfErr, rules}
+use Rattle.bk_ocode.specs.StmtRange.{AreBytes}
 use Rattle.bk_kit.specs.CompilingSection.{Compiled, Refuses}
 use Rattle.bk_kit.proofs.PassedSections.{some_taken}
 use Rattle.bk_kit.proofs.SourceLemmas.{gathered_none, not_read, no_memory, not_compiled, goes_on, is_last, stops_reading, fails_as}
@@ -37,7 +38,7 @@ returns-in-None-clause-assembled g c =
     let read = c.in_ok-text.ensures.read in
     let compiled = subst (λ (t : List ℕ). Compiled c.in_ok-section.section t c.loop-segments.line) c.as_slice.ensures.value c.in_ok-section.ensures.compiled in
     is_last _ _ _ _ _ c.read_section.new.taken c.loop-segments.line _ _ c.loop-segments.invariant c.in_ok-text.text.items read.0 c.read_section.ensures.within read.1
-    c.in_ok-section.section compiled _ c.in-Ok.ensures.generated c.in-None.is
+    (subst AreBytes c.as_slice.ensures.value c.are_bytes.ensures) c.in_ok-section.section compiled _ c.in-Ok.ensures.generated c.in-None.is
 
 pub loop-segments-smaller : goal.loop-segments-smaller
 loop-segments-smaller g c =
@@ -51,4 +52,4 @@ loop-segments-preserved g c =
     let read = c.in_ok-text.ensures.read in
     let compiled = subst (λ (t : List ℕ). Compiled c.in_ok-section.section t c.loop-segments.line) c.as_slice.ensures.value c.in_ok-section.ensures.compiled in
     goes_on _ _ _ _ _ c.read_section.new.taken c.loop-segments.line _ _ c.loop-segments.invariant c.in_ok-text.text.items read.0 c.read_section.ensures.within read.1
-    c.in_ok-section.section compiled _ c.in-Ok.ensures.generated c.in-Some.next _ c.in-Some.is (c.in_ok-text.ensures.failures c.loop-segments.invariant.readable)
+    (subst AreBytes c.as_slice.ensures.value c.are_bytes.ensures) c.in_ok-section.section compiled _ c.in-Ok.ensures.generated c.in-Some.next _ c.in-Some.is (c.in_ok-text.ensures.failures c.loop-segments.invariant.readable)
