@@ -239,6 +239,12 @@ let_bases pay blocks sc p s i l ds d n many c c1 L Then a h r m f k st b =
 
 -- ---- one declaration
 
+-- where no code stands for it
+at_code : (pay : ℕ) (sc : Scene) (i : ℕ) (x : Declaration) (d many : ℕ) (c c1 : List Stmt) (bs : List Binding) (L : List Named → List Lasting) (Then : Later) → c ≡ c1
+    → Bases (record (home sc pay) { bindings = bs }) (i + objects_of_declaration x) many L (LaidLater Then sc bs d (i + objects_of_declaration x) c1)
+    → Bases (record (home sc pay) { bindings = bs }) (i + objects_of_declaration x) many L (LaidLater Then sc bs d (i + objects_of_declaration x) c)
+at_code pay sc i x d many c c1 bs L Then k b = subst (λ z. Bases (record (home sc pay) { bindings = bs }) (i + objects_of_declaration x) many L (LaidLater Then sc bs d (i + objects_of_declaration x) z)) (sym k) b
+
 pub one_bases : (pay : ℕ) (blocks : BlocksLie pay) (sc : Scene) (p : Place) (s : Spot) (i : ℕ) (x : Declaration) (d n many : ℕ) (c c1 : List Stmt) (L : List Named → List Lasting) (Then : Later) → Around sc p d
     → SoundOneDeclared sc.bindings p s x → RegularDeclaration x → weight_one_declared x ≤ pay → FoundParts sc.own sc.targets (parts_of_declaration d n (declaration_named sc.bindings p s x))
     → c ≡ declaration_code sc.targets d n (declaration_named sc.bindings p s x) ++ c1 → StandsAt sc.own d c
@@ -246,11 +252,11 @@ pub one_bases : (pay : ℕ) (blocks : BlocksLie pay) (sc : Scene) (p : Place) (s
     (LaidLater Then sc (scope_behind_one sc.bindings p s x) (behind_declaration d (declaration_named sc.bindings p s x)) (i + objects_of_declaration x) c1)
     → Bases (home sc pay) i (objects_of_declaration x + many) (λ ns. of_declaration (with_names ns i) x ++ L (declared x (with_names ns i)).names) (InNames sc.bindings i (λ g env. IsOneDeclared g sc d env x (Then g) c))
 one_bases pay blocks sc p s i (t.constants l sort.Manifest is) d n many c c1 L Then a h r m f k st b =
-    constants_bases pay sc p s l sort.Manifest is i d n many c L Then a.words h r f (subst (λ z. Bases _ (i + 0) many L (LaidLater Then sc _ d (i + 0) z)) (sym k) b)
+    constants_bases pay sc p s l sort.Manifest is i d n many c L Then a.words h r f (at_code pay sc i (t.constants l sort.Manifest is) d many c c1 (scope_behind_one sc.bindings p s (t.constants l sort.Manifest is)) L Then k b)
 one_bases pay blocks sc p s i (t.constants l sort.Static is) d n many c c1 L Then a h r m f k st b =
-    constants_bases pay sc p s l sort.Static is i d n many c L Then a.words h r f (subst (λ z. Bases _ _ many L (LaidLater Then sc _ d _ z)) (sym k) b)
+    constants_bases pay sc p s l sort.Static is i d n many c L Then a.words h r f (at_code pay sc i (t.constants l sort.Static is) d many c c1 (scope_behind_one sc.bindings p s (t.constants l sort.Static is)) L Then k b)
 one_bases pay blocks sc p s i (t.constants l sort.Global is) d n many c c1 L Then a h r m f k st b =
-    constants_bases pay sc p s l sort.Global is i d n many c L Then a.words h r f (subst (λ z. Bases _ (i + 0) many L (LaidLater Then sc _ d (i + 0) z)) (sym k) b)
+    constants_bases pay sc p s l sort.Global is i d n many c L Then a.words h r f (at_code pay sc i (t.constants l sort.Global is) d many c c1 (scope_behind_one sc.bindings p s (t.constants l sort.Global is)) L Then k b)
 one_bases pay blocks sc p s i (t.definitions l ds) d n many c c1 L Then a h r m f k st b = let_bases pay blocks sc p s i l ds d n many c c1 L Then a h r m f k st b
 
 -- where code goes on behind it
