@@ -28,6 +28,7 @@ use Rattle.bk_trans.specs.Scheme.{goal_in, cases, cases_through, default_in, def
 use Rattle.bk_meaning.specs.Environment.{Named, Sense, label, bind_each, sense_in, word_named, global_named, labelled, objects_of_each, objects_of_action, objects_of_actions}
 use Rattle.bk_meaning.specs.Seeking.{Sought, the_label, the_case, the_default, same_place, stands_in, stands_in_one}
 use Rattle.bk_meaning.specs.Scopes.{alone}
+use Rattle.bk_trans.proofs.Scopes.{AllFound}
 use Rattle.bk_simulation.proofs.Sizes.{turns_in}
 use Rattle.bk_simulation.proofs.Leaves.{same_number}
 use Rattle.bk_simulation.proofs.Sought.{with_names, label_stands}
@@ -36,7 +37,7 @@ use Rattle.bk_meaning.specs.Lasting.{of_each, of_action, of_actions, in_scope}
 use Rattle.bk_simulation.proofs.NamesBound.{labels_named}
 use Rattle.bk_simulation.proofs.NamesAgree.{Agree, agree_bound}
 use Rattle.bk_simulation.proofs.Standing.{there_in, bases_inside, bases_of, StandsAt, first_of as first_at, home, Bases, bases_so, Lies}
-use Rattle.bk_simulation.proofs.LaidExpressions.{HasWords, Around, AllFound, known, InNames}
+use Rattle.bk_simulation.proofs.LaidExpressions.{HasWords, Around, known, InNames}
 
 -- What stands around a command: an expression's, and the exits that there are.
 pub record Doing (sc : Scene) (p : Place) (d : ℕ) : Type 0 where

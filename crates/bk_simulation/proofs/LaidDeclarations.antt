@@ -113,16 +113,16 @@ behind_store sc true d c h = passed sc.own d d Store c h refl
 behind_store sc false d c h = h
 
 -- where the definitions of a LET are laid: its scope, the place and the spot of its definitions
-abbrev inner : Scene → Spot → Definitions → Scene
+abbrev pub inner : Scene → Spot → Definitions → Scene
 inner sc s ds = record sc { bindings = procedures_in_scope (s.number + 1) ds sc.bindings }
 
-abbrev first_defined : Spot → Definitions → Spot
+abbrev pub first_defined : Spot → Definitions → Spot
 first_defined s ds = spot.numbered (1 + procedures_in ds) s
 
 abbrev slots_here : Scene → Place → Spot → ℕ → Definitions → List Slot
 slots_here sc p s d ds = spots_in (inner sc s ds).bindings p (first_defined s ds) d ds
 
-abbrev depth_here : Scene → Place → Spot → ℕ → Definitions → ℕ
+abbrev pub depth_here : Scene → Place → Spot → ℕ → Definitions → ℕ
 depth_here sc p s d ds = behind_definitions d (definitions_named (inner sc s ds).bindings p (first_defined s ds) ds)
 
 abbrev behind_let : Scene → Place → Spot → ℕ → Definitions → List Stmt → List Stmt
@@ -185,7 +185,7 @@ let_after sc p s i l d ds g k q ns r u =
     )
 
 -- a LET, and what is laid behind it
-let_bases : (pay : ℕ) (blocks : BlocksLie pay) (sc : Scene) (p : Place) (s : Spot) (i l : ℕ) (ds : Definitions) (d n many : ℕ) (c c1 : List Stmt) (L : List Named → List Lasting) (Then : Later) → Around sc p d
+pub let_bases : (pay : ℕ) (blocks : BlocksLie pay) (sc : Scene) (p : Place) (s : Spot) (i l : ℕ) (ds : Definitions) (d n many : ℕ) (c c1 : List Stmt) (L : List Named → List Lasting) (Then : Later) → Around sc p d
     → SoundOneDeclared sc.bindings p s (t.definitions l ds) → RegularDefinitions ds → weight_defined ds ≤ pay → FoundParts sc.own sc.targets (parts_of_declaration d n (declaration_named sc.bindings p s (t.definitions l ds)))
     → c ≡ declaration_code sc.targets d n (declaration_named sc.bindings p s (t.definitions l ds)) ++ c1 → StandsAt sc.own d c
     → Bases (record (home sc pay) { bindings = scope_behind_one sc.bindings p s (t.definitions l ds) }) (i + objects_of_definitions ds) many L
@@ -259,17 +259,20 @@ one_bases pay blocks sc p s i (t.constants l sort.Global is) d n many c c1 L The
     constants_bases pay sc p s l sort.Global is i d n many c L Then a.words h r f (at_code pay sc i (t.constants l sort.Global is) d many c c1 (scope_behind_one sc.bindings p s (t.constants l sort.Global is)) L Then k b)
 one_bases pay blocks sc p s i (t.definitions l ds) d n many c c1 L Then a h r m f k st b = let_bases pay blocks sc p s i l ds d n many c c1 L Then a h r m f k st b
 
+-- what stands around code behind constants
+pub behind_constants : (sc : Scene) (p : Place) (s : Spot) (l : ℕ) (o : Sort) (is : Items) (d : ℕ) → Doing sc p d → RegularItems is → Doing (record sc { bindings = scope_behind_one sc.bindings p s (t.constants l o is) }) p d
+behind_constants sc p s l sort.Manifest is d a r = exits_same p p (refl, refl, refl) sc _ d d a refl a.around.at (words_manifests sc.bindings is a.around.words r)
+behind_constants sc p s l sort.Static is d a r = exits_same p p (refl, refl, refl) sc _ d d a refl a.around.at (words_statics (s.number + 1) is sc.bindings a.around.words)
+behind_constants sc p s l sort.Global is d a r = exits_same p p (refl, refl, refl) sc _ d d a refl a.around.at (words_globals sc.bindings is sc.bindings a.around.words)
+
 -- where code goes on behind it
 pub behind_one : (pay : ℕ) (blocks : BlocksLie pay) (sc : Scene) (p : Place) (s : Spot) (x : Declaration) (d n : ℕ) (c c1 : List Stmt) → Doing sc p d → SoundOneDeclared sc.bindings p s x → RegularDeclaration x
     → weight_one_declared x ≤ pay → FoundParts sc.own sc.targets (parts_of_declaration d n (declaration_named sc.bindings p s x)) → c ≡ declaration_code sc.targets d n (declaration_named sc.bindings p s x) ++ c1 → StandsAt sc.own d c
     → StandsAt sc.own (behind_declaration d (declaration_named sc.bindings p s x)) c1
     × Doing (record sc { bindings = scope_behind_one sc.bindings p s x }) (place_behind_one sc.bindings p s x) (behind_declaration d (declaration_named sc.bindings p s x))
-behind_one pay blocks sc p s (t.constants l sort.Manifest is) d n c c1 a h r m f k st =
-    (written sc.own d c c1 k st, exits_same p p (refl, refl, refl) sc _ d d a refl a.around.at (words_manifests sc.bindings is a.around.words r))
-behind_one pay blocks sc p s (t.constants l sort.Static is) d n c c1 a h r m f k st =
-    (written sc.own d c c1 k st, exits_same p p (refl, refl, refl) sc _ d d a refl a.around.at (words_statics (s.number + 1) is sc.bindings a.around.words))
-behind_one pay blocks sc p s (t.constants l sort.Global is) d n c c1 a h r m f k st =
-    (written sc.own d c c1 k st, exits_same p p (refl, refl, refl) sc _ d d a refl a.around.at (words_globals sc.bindings is sc.bindings a.around.words))
+behind_one pay blocks sc p s (t.constants l sort.Manifest is) d n c c1 a h r m f k st = (written sc.own d c c1 k st, behind_constants sc p s l sort.Manifest is d a r)
+behind_one pay blocks sc p s (t.constants l sort.Static is) d n c c1 a h r m f k st = (written sc.own d c c1 k st, behind_constants sc p s l sort.Static is d a r)
+behind_one pay blocks sc p s (t.constants l sort.Global is) d n c c1 a h r m f k st = (written sc.own d c c1 k st, behind_constants sc p s l sort.Global is d a r)
 behind_one pay blocks sc p s (t.definitions l ds) d n c c1 a h r m f k st =
     let bl = (inner sc s ds).bindings in
     let d1 : ℕ = depth_here sc p s d ds in

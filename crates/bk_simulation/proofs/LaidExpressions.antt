@@ -28,6 +28,7 @@ use Rattle.bk_trans.specs.Program as term
 use Rattle.bk_trans.specs.Naming.{term_named, condition_named}
 use Rattle.bk_trans.specs.Parts.{Part, target_of, parts, parts_if}
 use Rattle.bk_trans.specs.Scheme.{goal, goal_of, push, infix_code, truth_value, value_code, jump_code, procedure_code, data_code}
+use Rattle.bk_trans.proofs.Scopes.{AllFound}
 use Rattle.bk_meaning.specs.Environment.{Named, Sense, constant, label, Environment, sense_in, word_named, constant_in}
 use Rattle.bk_meaning.specs.Seeking.{Sought, the_label, the_case, the_default, same_place, is_label, stands_in, stands_in_one}
 use Rattle.bk_simulation.proofs.Sought.{with_names}
@@ -52,11 +53,6 @@ role (jumps u l) = Truth
 abbrev pub level : Aim → ℕ → ℕ
 level pushes d = d + 1
 level (jumps u l) d = d
-
--- targets that are found by their numbers
-abbrev pub AllFound : List Target → List Target → Type 0
-AllFound ts [] = Unit {0}
-AllFound ts (x ∷ xs) = (goal_of ts x.number ≡ goal x.label x.depth) × AllFound ts xs
 
 -- code that stands somewhere in a section, whatever the depth before it
 pub record StandsIn (own : Placed) (code : List Stmt) : Type 0 where

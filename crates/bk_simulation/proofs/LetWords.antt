@@ -18,10 +18,10 @@ use Rattle.bk_trans.specs.Labels.{labels_of_definition, labels_of_procedure}
 use Rattle.bk_trans.specs.Naming.{meant, definition_named, definitions_named}
 use Rattle.bk_trans.specs.Parts.{parts_of_definition, parts_of_definitions, target_of_word}
 use Rattle.bk_trans.specs.Scheme.{goal, goal_of}
-use Rattle.bk_trans.proofs.Scopes.{AmongProcedures, Looked, look_procedure}
+use Rattle.bk_trans.proofs.Scopes.{AllFound, AmongProcedures, Looked, look_procedure}
 use Rattle.bk_meaning.specs.Environment.{objects, objects_of_action, objects_of_starts}
 use Rattle.bk_simulation.proofs.Memory.{BaseOf}
-use Rattle.bk_simulation.proofs.LaidExpressions.{AllFound, FoundParts, found_front, found_back}
+use Rattle.bk_simulation.proofs.LaidExpressions.{FoundParts, found_front, found_back}
 use Rattle.bk_simulation.proofs.LaidProcedures.{word_base}
 use Rattle.bk_simulation.proofs.Renamed.{itself}
 use Rattle.bk_simulation.proofs.RenamedLets.{AreProcedures}

@@ -82,3 +82,4 @@ pub mod LaidProcedures
 pub mod LaidStatics
 pub mod SectionParts
 pub mod OneBehindAnother
+pub mod LaidSections
