@@ -28,6 +28,7 @@ use Rattle.bk_simulation.proofs.Sought.{with_names, label_stands_one}
 use Rattle.bk_simulation.proofs.NamesBound.{labels_named}
 use Rattle.bk_simulation.proofs.Laid.{Setting, Scene, owning, AreActs, IsAct, LeadsTo, IsScope}
 use Rattle.bk_simulation.proofs.NamesAgree.{Agree}
+use Rattle.bk_simulation.proofs.LastingKinds.{kinds_through}
 use Rattle.bk_simulation.proofs.Standing.{there_in, StandsAt, passed, home, Bases, bases_inside, bases_of, bases_so, bases_paid}
 use Rattle.bk_simulation.proofs.LaidExpressions.{FoundParts, found_front, found_back, known, InNames, joined_three}
 use Rattle.bk_simulation.proofs.LaidCommands.{Doing, finds_nothing, Done, DoneEach, words_labels, agree_labels, names_bound}
@@ -38,7 +39,7 @@ use Rattle.bk_simulation.proofs.LaidDeclarations.{Later, declared_behind, declar
 -- the commands of a scope
 scope_bases : (pay : ℕ) (sc : Scene) (i : ℕ) (cs : Actions) (d n : ℕ) (k : Commands) (c rest : List Stmt) (j q : ℕ) → q ≡ sc.procedure → turns_through cs ≤ pay
     → DoneEach pay (record sc { bindings = labels_in_scope q j (labels_of_each cs) sc.bindings }) i cs d n k c rest
-    → Bases (home sc pay) i (objects_of_actions cs) (λ ns. of_actions (labelled cs (with_names ns i)) cs) (InNames sc.bindings i (λ g env. IsScope g sc d env cs j c rest))
+    → Bases (home sc pay) i (objects_of_actions cs) (kinds_through n k) (λ ns. of_actions (labelled cs (with_names ns i)) cs) (InNames sc.bindings i (λ g env. IsScope g sc d env cs j c rest))
 scope_bases pay sc i cs d n k c rest j q same size done =
     let done1 = subst (λ x. DoneEach pay (record sc { bindings = labels_in_scope x j (labels_of_each cs) sc.bindings }) i cs d n k c rest) same done in
     let xs = labels_of_each cs in

@@ -28,6 +28,7 @@ use Rattle.bk_simulation.proofs.Weights.{weight_one_declared, weight_declared, w
 use Rattle.bk_simulation.proofs.Sought.{with_names}
 use Rattle.bk_simulation.proofs.Laid.{Setting, Scene, Exits, Spot as Slot, NamedIn, defines_variables, variables_bound, Renames, IsOneDeclared, AreDeclared, AreDefined}
 use Rattle.bk_simulation.proofs.NamesAgree.{Agree}
+use Rattle.bk_simulation.proofs.LastingKinds.{Kind, kinds_of_declaration, kinds_of_declarations, kinds_of_definitions}
 use Rattle.bk_simulation.proofs.Standing.{Mean, there_in, StandsAt, passed, written, Home, home, Fitting, Suits, Bases, no_bases, bases_so, bases_of, bases_under, bases_some, Lies}
 use Rattle.bk_simulation.proofs.OneBehindAnother.{then_bases}
 use Rattle.bk_simulation.proofs.LaidExpressions.{HasWords, FoundParts, found_front, found_back, Around, InNames, joined_two}
@@ -58,11 +59,11 @@ record NamesAfter (g : Setting) (sc : Scene) (ns : List Named) (i : ℕ) (x : De
   pub agree : Agree (declared x (with_names ns i)).names bs
   pub renames : Renames g sc (with_names ns i) bs (declared x (with_names ns i))
 
-constants_then : (pay : ℕ) (sc : Scene) (l : ℕ) (o : Sort) (is : Items) (i d many : ℕ) (c : List Stmt) (bs : List Binding) (L : List Named → List Lasting) (Then : Later) (P : Setting → Type 0)
+constants_then : (pay : ℕ) (sc : Scene) (l : ℕ) (o : Sort) (is : Items) (i d many : ℕ) (c : List Stmt) (bs : List Binding) {ks qs : List Kind} (L : List Named → List Lasting) (Then : Later) (P : Setting → Type 0)
     → ((g : Setting) → 0 < i → P g → (k : ℕ) (a : Surroundings) (e : Exits) (ns : List Named) → Agree ns sc.bindings → NamesAfter g (elsewhere sc k a e) ns i (t.constants l o is) bs)
-    → Bases (home sc pay) i (objects_of_declaration (t.constants l o is)) (λ ns. of_items (with_names ns i) o is) P
-    → Bases (record (home sc pay) { bindings = bs }) (i + objects_of_declaration (t.constants l o is)) many L (LaidLater Then sc bs d (i + objects_of_declaration (t.constants l o is)) c)
-    → Bases (home sc pay) i (objects_of_declaration (t.constants l o is) + many) (λ ns. of_items (with_names ns i) o is ++ L (declared (t.constants l o is) (with_names ns i)).names)
+    → Bases (home sc pay) i (objects_of_declaration (t.constants l o is)) ks (λ ns. of_items (with_names ns i) o is) P
+    → Bases (record (home sc pay) { bindings = bs }) (i + objects_of_declaration (t.constants l o is)) many qs L (LaidLater Then sc bs d (i + objects_of_declaration (t.constants l o is)) c)
+    → Bases (home sc pay) i (objects_of_declaration (t.constants l o is) + many) (ks ++ qs) (λ ns. of_items (with_names ns i) o is ++ L (declared (t.constants l o is) (with_names ns i)).names)
     (InNames sc.bindings i (λ g env. IsOneDeclared g sc d env (t.constants l o is) (Then g) c))
 constants_then pay sc l o is i d many c bs L Then P names own others =
     let h : Home = home sc pay in
@@ -79,11 +80,11 @@ constants_then pay sc l o is i d many c bs L Then P names own others =
         let w = names g v.0.0 v.0.1 sc.procedure sc.around sc.exits ns u in
         (bs, w.renames, subst (λ j. Then g (record sc { bindings = bs }) d (with_names (declared x (with_names ns i)).names j) c) (sym (next_declared x (with_names ns i))) (v.1 (declared x (with_names ns i)).names w.agree))) both
 
-pub constants_bases : (pay : ℕ) (sc : Scene) (p : Place) (s : Spot) (l : ℕ) (o : Sort) (is : Items) (i d n many : ℕ) (c : List Stmt) (L : List Named → List Lasting) (Then : Later) → HasWords sc.bindings
+pub constants_bases : (pay : ℕ) (sc : Scene) (p : Place) (s : Spot) (l : ℕ) (o : Sort) (is : Items) (i d n many : ℕ) (c : List Stmt) {qs : List Kind} (L : List Named → List Lasting) (Then : Later) → HasWords sc.bindings
     → SoundOneDeclared sc.bindings p s (t.constants l o is) → RegularItems is → FoundParts sc.own sc.targets (parts_of_declaration d n (declaration_named sc.bindings p s (t.constants l o is)))
-    → Bases (record (home sc pay) { bindings = scope_behind_one sc.bindings p s (t.constants l o is) }) (i + objects_of_declaration (t.constants l o is)) many L
+    → Bases (record (home sc pay) { bindings = scope_behind_one sc.bindings p s (t.constants l o is) }) (i + objects_of_declaration (t.constants l o is)) many qs L
     (LaidLater Then sc (scope_behind_one sc.bindings p s (t.constants l o is)) d (i + objects_of_declaration (t.constants l o is)) c)
-    → Bases (home sc pay) i (objects_of_declaration (t.constants l o is) + many) (λ ns. of_declaration (with_names ns i) (t.constants l o is) ++ L (declared (t.constants l o is) (with_names ns i)).names)
+    → Bases (home sc pay) i (objects_of_declaration (t.constants l o is) + many) (kinds_of_declaration n (declaration_named sc.bindings p s (t.constants l o is)) ++ qs) (λ ns. of_declaration (with_names ns i) (t.constants l o is) ++ L (declared (t.constants l o is) (with_names ns i)).names)
     (InNames sc.bindings i (λ g env. IsOneDeclared g sc d env (t.constants l o is) (Then g) c))
 constants_bases pay sc p s l sort.Manifest is i d n many c L Then w h r f b =
     constants_then pay sc l sort.Manifest is i d many c (manifests_in_scope sc.bindings is) L Then (λ g. Unit {0})
@@ -137,7 +138,7 @@ DefinedHere sc p s i n d ds c c0 g =
 definitions_lie : (pay : ℕ) (blocks : BlocksLie pay) (sc : Scene) (p : Place) (s : Spot) (i l : ℕ) (ds : Definitions) (d n : ℕ) (c c1 : List Stmt) → Around sc p d → SoundOneDeclared sc.bindings p s (t.definitions l ds)
     → RegularDefinitions ds → weight_defined ds ≤ pay → FoundParts sc.own sc.targets (parts_of_declaration d n (declaration_named sc.bindings p s (t.definitions l ds)))
     → c ≡ declaration_code sc.targets d n (declaration_named sc.bindings p s (t.definitions l ds)) ++ c1 → StandsAt sc.own d c
-    → Lies (home (inner sc s ds) pay) i (objects_of_definitions ds) (depth_here sc p s d ds) (behind_let sc p s d ds c1) (λ ns. of_definitions (with_names ns i) ds) (DefinedHere sc p s i n d ds c (behind_let sc p s d ds c1))
+    → Lies (home (inner sc s ds) pay) i (objects_of_definitions ds) (depth_here sc p s d ds) (behind_let sc p s d ds c1) (kinds_of_definitions n (definitions_named (inner sc s ds).bindings p (first_defined s ds) ds)) (λ ns. of_definitions (with_names ns i) ds) (DefinedHere sc p s i n d ds c (behind_let sc p s d ds c1))
 definitions_lie pay blocks sc p s i l ds d n c c1 a h r m f k st =
     let bl = (inner sc s ds).bindings in
     let named = definitions_named bl p (first_defined s ds) ds in
@@ -185,14 +186,14 @@ let_after sc p s i l d ds g k q ns r u =
     )
 
 -- a LET, and what is laid behind it
-pub let_bases : (pay : ℕ) (blocks : BlocksLie pay) (sc : Scene) (p : Place) (s : Spot) (i l : ℕ) (ds : Definitions) (d n many : ℕ) (c c1 : List Stmt) (L : List Named → List Lasting) (Then : Later) → Around sc p d
+pub let_bases : (pay : ℕ) (blocks : BlocksLie pay) (sc : Scene) (p : Place) (s : Spot) (i l : ℕ) (ds : Definitions) (d n many : ℕ) (c c1 : List Stmt) {qs : List Kind} (L : List Named → List Lasting) (Then : Later) → Around sc p d
     → SoundOneDeclared sc.bindings p s (t.definitions l ds) → RegularDefinitions ds → weight_defined ds ≤ pay → FoundParts sc.own sc.targets (parts_of_declaration d n (declaration_named sc.bindings p s (t.definitions l ds)))
     → c ≡ declaration_code sc.targets d n (declaration_named sc.bindings p s (t.definitions l ds)) ++ c1 → StandsAt sc.own d c
-    → Bases (record (home sc pay) { bindings = scope_behind_one sc.bindings p s (t.definitions l ds) }) (i + objects_of_definitions ds) many L
+    → Bases (record (home sc pay) { bindings = scope_behind_one sc.bindings p s (t.definitions l ds) }) (i + objects_of_definitions ds) many qs L
     (LaidLater Then sc (scope_behind_one sc.bindings p s (t.definitions l ds)) (depth_here sc p s d ds) (i + objects_of_definitions ds) c1)
-    → Bases (home sc pay) i (objects_of_definitions ds + many) (λ ns. of_declaration (with_names ns i) (t.definitions l ds) ++ L (declared (t.definitions l ds) (with_names ns i)).names)
+    → Bases (home sc pay) i (objects_of_definitions ds + many) (kinds_of_definitions n (definitions_named (inner sc s ds).bindings p (first_defined s ds) ds) ++ qs) (λ ns. of_declaration (with_names ns i) (t.definitions l ds) ++ L (declared (t.definitions l ds) (with_names ns i)).names)
     (InNames sc.bindings i (λ g env. IsOneDeclared g sc d env (t.definitions l ds) (Then g) c))
-let_bases pay blocks sc p s i l ds d n many c c1 L Then a h r m f k st b =
+let_bases pay blocks sc p s i l ds d n many c c1 {qs} L Then a h r m f k st b =
     let hm : Home = home sc pay in
     let bl = (inner sc s ds).bindings in
     let ps = slots_here sc p s d ds in
@@ -203,7 +204,7 @@ let_bases pay blocks sc p s i l ds d n many c c1 L Then a h r m f k st b =
     let vars = variables_in bl p (first_defined s ds) d ds a.at h r lies.on.shallow in
     let q : ℕ = p.procedure in
     let bs : List Binding = bind_all (from_spots q ps) bl in
-    let others = subst (λ (z : List Binding). Bases (record hm { bindings = bind_all z bl }) j many L (LaidLater Then sc (bind_all z bl) d1 j c1)) vars.are b in
+    let others = subst (λ (z : List Binding). Bases (record hm { bindings = bind_all z bl }) j many qs L (LaidLater Then sc (bind_all z bl) d1 j c1)) vars.are b in
     let there : Exits = record { loop = false; switch = false } in
     let P : Setting → Type 0 = λ g. (0 < i) × DefinedHere sc p s i n d ds c c0 g in
     let own = bases_some hm i (objects_of_definitions ds) (DefinedHere sc p s i n d ds c c0) (bases_under hm bl i (objects_of_definitions ds) (DefinedHere sc p s i n d ds c c0) (λ ns. (bind_procedures ds (with_names ns i)).names)
@@ -240,17 +241,17 @@ let_bases pay blocks sc p s i l ds d n many c c1 L Then a h r m f k st b =
 -- ---- one declaration
 
 -- where no code stands for it
-at_code : (pay : ℕ) (sc : Scene) (i : ℕ) (x : Declaration) (d many : ℕ) (c c1 : List Stmt) (bs : List Binding) (L : List Named → List Lasting) (Then : Later) → c ≡ c1
-    → Bases (record (home sc pay) { bindings = bs }) (i + objects_of_declaration x) many L (LaidLater Then sc bs d (i + objects_of_declaration x) c1)
-    → Bases (record (home sc pay) { bindings = bs }) (i + objects_of_declaration x) many L (LaidLater Then sc bs d (i + objects_of_declaration x) c)
-at_code pay sc i x d many c c1 bs L Then k b = subst (λ z. Bases (record (home sc pay) { bindings = bs }) (i + objects_of_declaration x) many L (LaidLater Then sc bs d (i + objects_of_declaration x) z)) (sym k) b
+at_code : (pay : ℕ) (sc : Scene) (i : ℕ) (x : Declaration) (d many : ℕ) (c c1 : List Stmt) (bs : List Binding) {qs : List Kind} (L : List Named → List Lasting) (Then : Later) → c ≡ c1
+    → Bases (record (home sc pay) { bindings = bs }) (i + objects_of_declaration x) many qs L (LaidLater Then sc bs d (i + objects_of_declaration x) c1)
+    → Bases (record (home sc pay) { bindings = bs }) (i + objects_of_declaration x) many qs L (LaidLater Then sc bs d (i + objects_of_declaration x) c)
+at_code pay sc i x d many c c1 bs {qs} L Then k b = subst (λ z. Bases (record (home sc pay) { bindings = bs }) (i + objects_of_declaration x) many qs L (LaidLater Then sc bs d (i + objects_of_declaration x) z)) (sym k) b
 
-pub one_bases : (pay : ℕ) (blocks : BlocksLie pay) (sc : Scene) (p : Place) (s : Spot) (i : ℕ) (x : Declaration) (d n many : ℕ) (c c1 : List Stmt) (L : List Named → List Lasting) (Then : Later) → Around sc p d
+pub one_bases : (pay : ℕ) (blocks : BlocksLie pay) (sc : Scene) (p : Place) (s : Spot) (i : ℕ) (x : Declaration) (d n many : ℕ) (c c1 : List Stmt) {qs : List Kind} (L : List Named → List Lasting) (Then : Later) → Around sc p d
     → SoundOneDeclared sc.bindings p s x → RegularDeclaration x → weight_one_declared x ≤ pay → FoundParts sc.own sc.targets (parts_of_declaration d n (declaration_named sc.bindings p s x))
     → c ≡ declaration_code sc.targets d n (declaration_named sc.bindings p s x) ++ c1 → StandsAt sc.own d c
-    → Bases (record (home sc pay) { bindings = scope_behind_one sc.bindings p s x }) (i + objects_of_declaration x) many L
+    → Bases (record (home sc pay) { bindings = scope_behind_one sc.bindings p s x }) (i + objects_of_declaration x) many qs L
     (LaidLater Then sc (scope_behind_one sc.bindings p s x) (behind_declaration d (declaration_named sc.bindings p s x)) (i + objects_of_declaration x) c1)
-    → Bases (home sc pay) i (objects_of_declaration x + many) (λ ns. of_declaration (with_names ns i) x ++ L (declared x (with_names ns i)).names) (InNames sc.bindings i (λ g env. IsOneDeclared g sc d env x (Then g) c))
+    → Bases (home sc pay) i (objects_of_declaration x + many) (kinds_of_declaration n (declaration_named sc.bindings p s x) ++ qs) (λ ns. of_declaration (with_names ns i) x ++ L (declared x (with_names ns i)).names) (InNames sc.bindings i (λ g env. IsOneDeclared g sc d env x (Then g) c))
 one_bases pay blocks sc p s i (t.constants l sort.Manifest is) d n many c c1 L Then a h r m f k st b =
     constants_bases pay sc p s l sort.Manifest is i d n many c L Then a.words h r f (at_code pay sc i (t.constants l sort.Manifest is) d many c c1 (scope_behind_one sc.bindings p s (t.constants l sort.Manifest is)) L Then k b)
 one_bases pay blocks sc p s i (t.constants l sort.Static is) d n many c c1 L Then a h r m f k st b =
@@ -302,19 +303,19 @@ declared_behind pay blocks sc p s (t.declare x xs) d n c c1 a h r m f k st =
     declared_behind pay blocks (record sc { bindings = bs }) p1 s1 xs (behind_declaration d one) (n + labels_of_declaration one) (more ++ c1) c1 first.1 h.1 r.1 (omega (arith, m))
     (found_back sc.own sc.targets (parts_of_declaration d n one) _ f) refl first.0
 
-pub declared_bases : (pay : ℕ) (blocks : BlocksLie pay) (sc : Scene) (p : Place) (s : Spot) (i : ℕ) (xs : Declarations) (d n many : ℕ) (c c1 : List Stmt) (L : List Named → List Lasting) (Then : Later) → Doing sc p d
+pub declared_bases : (pay : ℕ) (blocks : BlocksLie pay) (sc : Scene) (p : Place) (s : Spot) (i : ℕ) (xs : Declarations) (d n many : ℕ) (c c1 : List Stmt) {qs : List Kind} (L : List Named → List Lasting) (Then : Later) → Doing sc p d
     → SoundDeclared sc.bindings p s xs → RegularDeclarations xs → weight_declared xs ≤ pay → FoundParts sc.own sc.targets (parts_of_declarations d n (declarations_named sc.bindings p s xs))
     → c ≡ declarations_code sc.targets d n (declarations_named sc.bindings p s xs) ++ c1 → StandsAt sc.own d c
-    → Bases (record (home sc pay) { bindings = scope_behind sc.bindings p s xs }) (i + objects_of_declarations xs) many L
+    → Bases (record (home sc pay) { bindings = scope_behind sc.bindings p s xs }) (i + objects_of_declarations xs) many qs L
     (LaidLater Then sc (scope_behind sc.bindings p s xs) (behind_declarations d (declarations_named sc.bindings p s xs)) (i + objects_of_declarations xs) c1)
-    → Bases (home sc pay) i (objects_of_declarations xs + many) (λ ns. of_declarations (with_names ns i) xs ++ L (all_declared xs (with_names ns i)).names) (InNames sc.bindings i (λ g env. AreDeclared g sc d env xs (Then g) c))
-declared_bases pay blocks sc p s i t.no_declarations d n many c c1 L Then a h r m f k st b =
+    → Bases (home sc pay) i (objects_of_declarations xs + many) (kinds_of_declarations n (declarations_named sc.bindings p s xs) ++ qs) (λ ns. of_declarations (with_names ns i) xs ++ L (all_declared xs (with_names ns i)).names) (InNames sc.bindings i (λ g env. AreDeclared g sc d env xs (Then g) c))
+declared_bases pay blocks sc p s i t.no_declarations d n many c c1 {qs} L Then a h r m f k st b =
     let none : i + 0 ≡ i = omega arith in
     let same : many ≡ 0 + many = omega arith in
-    let b1 = subst (λ z. Bases (home sc pay) z many L (LaidLater Then sc sc.bindings d z c1)) none b in
-    let b2 = subst (λ z. Bases (home sc pay) i many L (LaidLater Then sc sc.bindings d i z)) (sym k) b1 in
-    subst (λ z. Bases (home sc pay) i z L (LaidLater Then sc sc.bindings d i c)) same b2
-declared_bases pay blocks sc p s i (t.declare x xs) d n many c c1 L Then a h r m f k st b =
+    let b1 = subst (λ z. Bases (home sc pay) z many qs L (LaidLater Then sc sc.bindings d z c1)) none b in
+    let b2 = subst (λ z. Bases (home sc pay) i many qs L (LaidLater Then sc sc.bindings d i z)) (sym k) b1 in
+    subst (λ z. Bases (home sc pay) i z qs L (LaidLater Then sc sc.bindings d i c)) same b2
+declared_bases pay blocks sc p s i (t.declare x xs) d n many c c1 {qs} L Then a h r m f k st b =
     let hm : Home = home sc pay in
     let one = declaration_named sc.bindings p s x in
     let bs = scope_behind_one sc.bindings p s x in
@@ -332,7 +333,7 @@ declared_bases pay blocks sc p s i (t.declare x xs) d n many c c1 L Then a h r m
     let first = behind_one pay blocks sc p s x d n c (more ++ c1) a h.0 r.0 (omega (arith, m)) own_found k1 st in
     let further : i + (ox + os) ≡ i + ox + os = omega arith in
     let many_more : ox + (os + many) ≡ ox + os + many = omega arith in
-    let b1 = subst (λ z. Bases (record hm { bindings = scope_behind bs p1 s1 xs }) z many L (LaidLater Then sc (scope_behind bs p1 s1 xs) (behind_declarations d1 named) z c1)) further b in
+    let b1 = subst (λ z. Bases (record hm { bindings = scope_behind bs p1 s1 xs }) z many qs L (LaidLater Then sc (scope_behind bs p1 s1 xs) (behind_declarations d1 named) z c1)) further b in
     let others = declared_bases pay blocks within p1 s1 (i + ox) xs d1 n1 many (more ++ c1) c1 L Then first.1 h.1 r.1 (omega (arith, m)) (found_back sc.own sc.targets (parts_of_declaration d n one) _ f) refl first.0 b1 in
     let whole = one_bases pay blocks sc p s i x d n (os + many) c (more ++ c1) (λ ns. of_declarations (with_names ns (i + ox)) xs ++ L (all_declared xs (with_names ns (i + ox))).names)
     (λ g sc0 d0 env0 c0. AreDeclared g sc0 d0 env0 xs (Then g) c0) a.around h.0 r.0 (omega (arith, m)) own_found k1 st others in
@@ -340,4 +341,8 @@ declared_bases pay blocks sc p s i (t.declare x xs) d n many c c1 L Then a h r m
         let env : Environment = declared x (with_names ns i) in
         ap (λ z. of_declaration (with_names ns i) x ++ (of_declarations (with_names env.names z) xs ++ L (all_declared xs (with_names env.names z)).names)) (sym (next_declared x (with_names ns i)))
         ∙ sym (append_assoc (of_declaration (with_names ns i) x) (of_declarations env xs) (L (all_declared xs env).names))) whole in
-    subst (λ z. Bases hm i z (λ ns. of_declarations (with_names ns i) (t.declare x xs) ++ L (all_declared (t.declare x xs) (with_names ns i)).names) (InNames sc.bindings i (λ g env. AreDeclared g sc d env (t.declare x xs) (Then g) c))) many_more said
+    let all_kinds = append_assoc (kinds_of_declaration n one) (kinds_of_declarations n1 named) qs in
+    let objects_said : List Named → List Lasting = λ ns. of_declarations (with_names ns i) (t.declare x xs) ++ L (all_declared (t.declare x xs) (with_names ns i)).names in
+    let laid_said : Setting → Type 0 = InNames sc.bindings i (λ g env. AreDeclared g sc d env (t.declare x xs) (Then g) c) in
+    subst (λ z. Bases hm i z (kinds_of_declarations n (declarations_named sc.bindings p s (t.declare x xs)) ++ qs) objects_said laid_said) many_more
+    (subst (λ z. Bases hm i (ox + (os + many)) z objects_said laid_said) (sym all_kinds) said)

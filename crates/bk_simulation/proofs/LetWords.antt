@@ -22,7 +22,7 @@ use Rattle.bk_trans.proofs.Scopes.{AllFound, AmongProcedures, Looked, look_proce
 use Rattle.bk_meaning.specs.Environment.{objects, objects_of_action, objects_of_starts}
 use Rattle.bk_simulation.proofs.Memory.{BaseOf}
 use Rattle.bk_simulation.proofs.LaidExpressions.{FoundParts, found_front, found_back}
-use Rattle.bk_simulation.proofs.LaidProcedures.{word_base}
+use Rattle.bk_simulation.proofs.LastingKinds.{word_base}
 use Rattle.bk_simulation.proofs.Renamed.{itself}
 use Rattle.bk_simulation.proofs.RenamedLets.{AreProcedures}
 

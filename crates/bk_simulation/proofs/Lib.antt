@@ -65,6 +65,7 @@ pub mod Unending
 pub mod SectionGlobals
 pub mod Held
 pub mod NamesAgree
+pub mod LastingKinds
 pub mod Standing
 pub mod LaidExpressions
 pub mod LaidCommands
