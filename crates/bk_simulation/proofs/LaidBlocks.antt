@@ -18,15 +18,15 @@ use Rattle.bk_trans.specs.Labels.{labels_of_declarations}
 use Rattle.bk_trans.specs.Naming.{command_named, commands_named, declarations_named}
 use Rattle.bk_trans.specs.Parts.{parts_in, parts_of_declarations}
 use Rattle.bk_trans.specs.Scheme.{command_code, through_code, declarations_code}
-use Rattle.bk_meaning.specs.Environment.{Named, label, bind_each, labelled, objects_of_action, objects_of_actions, objects_of_declarations}
+use Rattle.bk_meaning.specs.Environment.{Named, label, bind_each, labelled, objects_of_actions, objects_of_declarations}
 use Rattle.bk_meaning.specs.Seeking.{Sought, the_label, stands_in_one}
 use Rattle.bk_meaning.specs.Lasting.{of_action, of_actions, of_declarations, all_declared}
 use Rattle.bk_simulation.specs.Regular.{RegularAction}
 use Rattle.bk_simulation.proofs.Sizes.{turns_through}
-use Rattle.bk_simulation.proofs.Weights.{weight_in, weight_through, through_light}
+use Rattle.bk_simulation.proofs.Weights.{weight_in, through_light}
 use Rattle.bk_simulation.proofs.Sought.{with_names, label_stands_one}
 use Rattle.bk_simulation.proofs.NamesBound.{labels_named}
-use Rattle.bk_simulation.proofs.Laid.{Setting, Scene, owning, AreActs, IsAct, LeadsTo, IsScope}
+use Rattle.bk_simulation.proofs.Laid.{Scene, owning, AreActs, LeadsTo, IsScope}
 use Rattle.bk_simulation.proofs.NamesAgree.{Agree}
 use Rattle.bk_simulation.proofs.LastingKinds.{kinds_through}
 use Rattle.bk_simulation.proofs.Standing.{there_in, StandsAt, passed, home, Bases, bases_inside, bases_of, bases_so, bases_paid}
@@ -49,17 +49,17 @@ scope_bases pay sc i cs d n k c rest j q same size done =
     (λ g ns u v. ((agree_labels sc.procedure j xs ns sc.bindings 0 u).0, (λ k bases frame grown. record { each = (labels_named xs (there_in h sc.procedure) (with_names ns 0) bases frame j (v sc.procedure bases frame grown)).each }))) done1.lies.objects_are in
     let said = bases_of h i (objects_of_actions cs) _ (λ ns. of_actions (labelled cs (with_names ns i)) cs) _ (λ ns. ap (λ e. of_actions e cs) (sym (names_bound xs label ns i))) inside in
     bases_so h i (objects_of_actions cs) (InNames within.bindings i (λ g env. AreActs g within d env cs done1.at c rest)) _ (λ g fit v ns u.
-        let env = with_names ns i in
-        let inner = labelled cs env in
-        let agrees = agree_labels sc.procedure j xs ns sc.bindings i u in
-        let pays = fit.pays in (
-          done1.at,
-          (
-            subst (λ y. AreActs g within d (with_names inner.names y) cs done1.at c rest) (sym agrees.1) (v inner.names agrees.0),
-            omega (arith, pays, size),
-            (λ x e. done1.finds.labels x (label_stands_one x (known within.bindings) env cs ∙ e)),
-          ),
-        )) said
+    let env = with_names ns i in
+    let inner = labelled cs env in
+    let agrees = agree_labels sc.procedure j xs ns sc.bindings i u in
+    let pays = fit.pays in (
+      done1.at,
+      (
+        subst (λ y. AreActs g within d (with_names inner.names y) cs done1.at c rest) (sym agrees.1) (v inner.names agrees.0),
+        omega (arith, pays, size),
+        (λ x e. done1.finds.labels x (label_stands_one x (known within.bindings) env cs ∙ e)),
+      ),
+    )) said
 
 -- what is laid behind the declarations of a block
 abbrev InBlock : ℕ → Actions → List Stmt → Later

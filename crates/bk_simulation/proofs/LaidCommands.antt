@@ -9,7 +9,6 @@ use Rattle.bk_scope.specs.declared.bound.Bound.TheVariants as b
 use Rattle.bk_scope.specs.declared.place.Place.{Place}
 use Rattle.bk_scope.specs.Places as place
 use Rattle.bk_scope.specs.Scope.{Binding, bound_in, bind}
-use Rattle.bk_scope.specs.Constants.{named_word}
 use Rattle.bk_scope.specs.Entering.{labels_of, labels_of_each}
 use Rattle.bk_scope.specs.Scoping.{labels_in_scope}
 use Rattle.bk_scope.specs.Sound.{GoesTo}
@@ -25,7 +24,7 @@ use Rattle.bk_trans.specs.Program.{Command, Commands}
 use Rattle.bk_trans.specs.Naming.{meant, worth}
 use Rattle.bk_trans.specs.Parts.{target_of_label}
 use Rattle.bk_trans.specs.Scheme.{goal_in, cases, cases_through, default_in, default_through, first_of, label_or}
-use Rattle.bk_meaning.specs.Environment.{Named, Sense, label, bind_each, sense_in, word_named, global_named, labelled, objects_of_each, objects_of_action, objects_of_actions}
+use Rattle.bk_meaning.specs.Environment.{Named, Sense, label, bind_each, labelled, objects_of_each, objects_of_action, objects_of_actions}
 use Rattle.bk_meaning.specs.Seeking.{Sought, the_label, the_case, the_default, same_place, stands_in, stands_in_one}
 use Rattle.bk_meaning.specs.Scopes.{alone}
 use Rattle.bk_trans.proofs.Scopes.{AllFound}

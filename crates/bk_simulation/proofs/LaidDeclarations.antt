@@ -1,6 +1,5 @@
 -- Declarations are laid where the scheme puts them, before what is laid in their scope: MANIFEST, STATIC, GLOBAL and LET.
 use Rattle.std.proofs.Common.{◌≡◌, ℕ, ◌+◌, ◌<◌, ◌≤◌, Bool, true, false, List, [], ◌∷◌, ◌++◌, cond, refl, sym, ap, ◌∙◌, subst, arith, append_assoc}
-use Rattle.bk_base.specs.declared.limit.TheConstants.{FRAME_WORDS}
 use Rattle.bk_syntax.specs.declared.tree.Sort.{Sort}
 use Rattle.bk_syntax.specs.declared.tree.Sort.TheVariants as sort
 use Rattle.bk_syntax.specs.Tree as t
@@ -8,7 +7,7 @@ use Rattle.bk_syntax.specs.Tree.{Items, Declaration, Declarations, Definitions}
 use Rattle.bk_scope.specs.declared.place.Place.{Place}
 use Rattle.bk_scope.specs.Scope.{Binding, bind_all}
 use Rattle.bk_scope.specs.Scoping.{procedures_in_scope, manifests_in_scope, statics_in_scope, globals_in_scope, place_behind_defined, scope_behind_one, place_behind_one, scope_behind, place_behind_all}
-use Rattle.bk_scope.specs.Sound.{SoundDeclared, SoundOneDeclared, SoundDefined}
+use Rattle.bk_scope.specs.Sound.{SoundDeclared, SoundOneDeclared}
 use Rattle.bk_scope.specs.Spots as spot
 use Rattle.bk_scope.specs.Spots.{Spot, procedures_in, behind_one_declared}
 use Rattle.bk_ocode.specs.declared.stmt.Stmt.{Stmt}
@@ -20,8 +19,7 @@ use Rattle.bk_trans.specs.Parts.{parts_of_definitions, parts_of_declaration, par
 use Rattle.bk_trans.specs.Scheme.{outermost, definitions_code, declaration_code, declarations_code}
 use Rattle.bk_trans.specs.declared.around.Around.{Around as Surroundings}
 use Rattle.bk_trans.proofs.Bodies.{same_defined}
-use Rattle.bk_meaning.specs.Environment.{Named, Environment, bind_procedures, within_let, constants_declared, objects_of_definitions, objects_of_declaration, objects_of_declarations}
-use Rattle.bk_meaning.specs.Environment as m
+use Rattle.bk_meaning.specs.Environment.{Named, Environment, bind_procedures, within_let, objects_of_definitions, objects_of_declaration, objects_of_declarations}
 use Rattle.bk_meaning.specs.Lasting.{Lasting, declared, all_declared, of_items, of_declaration, of_declarations, of_definitions}
 use Rattle.bk_simulation.specs.Regular.{RegularItems, RegularDeclaration, RegularDeclarations, RegularDefinitions}
 use Rattle.bk_simulation.proofs.Weights.{weight_one_declared, weight_declared, weight_defined}
@@ -29,11 +27,11 @@ use Rattle.bk_simulation.proofs.Sought.{with_names}
 use Rattle.bk_simulation.proofs.Laid.{Setting, Scene, Exits, Spot as Slot, NamedIn, defines_variables, variables_bound, Renames, IsOneDeclared, AreDeclared, AreDefined}
 use Rattle.bk_simulation.proofs.NamesAgree.{Agree}
 use Rattle.bk_simulation.proofs.LastingKinds.{Kind, kinds_of_declaration, kinds_of_declarations, kinds_of_definitions}
-use Rattle.bk_simulation.proofs.Standing.{Mean, there_in, StandsAt, passed, written, Home, home, Fitting, Suits, Bases, no_bases, bases_so, bases_of, bases_under, bases_some, Lies}
+use Rattle.bk_simulation.proofs.Standing.{there_in, StandsAt, passed, written, Home, home, Bases, no_bases, bases_so, bases_of, bases_under, bases_some, Lies}
 use Rattle.bk_simulation.proofs.OneBehindAnother.{then_bases}
 use Rattle.bk_simulation.proofs.LaidExpressions.{HasWords, FoundParts, found_front, found_back, Around, InNames, joined_two}
 use Rattle.bk_simulation.proofs.LaidCommands.{Doing}
-use Rattle.bk_simulation.proofs.BehindDeclarations.{words_manifests, words_statics, words_globals, words_procedures, next_declared, next_all_declared}
+use Rattle.bk_simulation.proofs.BehindDeclarations.{words_manifests, words_statics, words_globals, words_procedures, next_declared}
 use Rattle.bk_simulation.proofs.Renamed.{static_places, AreBases, renames_manifests, renames_statics, renames_globals}
 use Rattle.bk_simulation.proofs.RenamedLets.{AreProcedures, from_spots, spots_in, variables_in, spots_words, renames_procedures, renames_variables, bound_agree, next_bound, foreign_spots, foreign_agree, foreign_mean, hidden_are}
 use Rattle.bk_simulation.proofs.LaidStatics.{statics_lie}
@@ -77,8 +75,8 @@ constants_then pay sc l o is i d many c bs L Then P names own others =
       λ k bases frame grown. record { each = ((names g w.0 w.1 k outermost there ns u).renames.1 bases frame grown (record { each = (v k bases frame grown).each })).each },
     )) others in
     bases_so h i (n + many) _ _ (λ g y v ns u.
-        let w = names g v.0.0 v.0.1 sc.procedure sc.around sc.exits ns u in
-        (bs, w.renames, subst (λ j. Then g (record sc { bindings = bs }) d (with_names (declared x (with_names ns i)).names j) c) (sym (next_declared x (with_names ns i))) (v.1 (declared x (with_names ns i)).names w.agree))) both
+    let w = names g v.0.0 v.0.1 sc.procedure sc.around sc.exits ns u in
+    (bs, w.renames, subst (λ j. Then g (record sc { bindings = bs }) d (with_names (declared x (with_names ns i)).names j) c) (sym (next_declared x (with_names ns i))) (v.1 (declared x (with_names ns i)).names w.agree))) both
 
 pub constants_bases : (pay : ℕ) (sc : Scene) (p : Place) (s : Spot) (l : ℕ) (o : Sort) (is : Items) (i d n many : ℕ) (c : List Stmt) {qs : List Kind} (L : List Named → List Lasting) (Then : Later) → HasWords sc.bindings
     → SoundOneDeclared sc.bindings p s (t.constants l o is) → RegularItems is → FoundParts sc.own sc.targets (parts_of_declaration d n (declaration_named sc.bindings p s (t.constants l o is)))
@@ -214,29 +212,29 @@ let_bases pay blocks sc p s i l ds d n many c c1 {qs} L Then a h r m f k st b =
     )) lies.objects_are) in
     let both = then_bases hm bs i (objects_of_definitions ds) many P (LaidLater Then sc bs d1 j c1) (λ ns. (declared (t.definitions l ds) (with_names ns i)).names) own
     (λ g y ns u w.
-        let v = own.laid g y in (
-          (let_after sc p s i l d ds g 0 q ns r (procedures_mean sc p s i n d ds c c0 g 0 outermost there ns v.0 v.1 f u).0).0,
-          λ k bases frame grown.
-              let z = procedures_mean sc p s i n d ds c c0 g k outermost there ns v.0 v.1 f u in
-              (let_after sc p s i l d ds g k q ns r z.0).1 bases frame (record { each = (z.1.1 bases frame grown (record { each = (w k bases frame grown).each })).each }),
-        )) others in
+    let v = own.laid g y in (
+      (let_after sc p s i l d ds g 0 q ns r (procedures_mean sc p s i n d ds c c0 g 0 outermost there ns v.0 v.1 f u).0).0,
+      λ k bases frame grown.
+          let z = procedures_mean sc p s i n d ds c c0 g k outermost there ns v.0 v.1 f u in
+          (let_after sc p s i l d ds g k q ns r z.0).1 bases frame (record { each = (z.1.1 bases frame grown (record { each = (w k bases frame grown).each })).each }),
+    )) others in
     bases_so hm i (objects_of_definitions ds + many) _ _ (λ g y v ns u.
-        let z = procedures_mean sc p s i n d ds c c0 g sc.procedure sc.around sc.exits ns v.0.0 v.0.1 f u in
-        let names = (bind_procedures ds (with_names ns i)).names in (
-          bl,
-          bs,
-          d1,
-          ps,
-          c0,
-          c1,
-          z.1,
-          renames_variables ps sc bl (within_let ds (with_names ns i)) (objects_of_definitions ds) q z.1.0 vars.fit,
-          v.0.1.1 names z.0,
-          stored (has_variables (definitions_named bl p (first_defined s ds) ds)) c1 ∙ ap (λ w. cond w (Store ∷ c1) c1) (variables_here bl p (first_defined s ds) ds),
-          lies.on.shallow,
-          (λ o some. subst (λ w. Then g (record sc { bindings = bs }) d1 (with_names (variables_bound o ps (with_names names j)).names w) c1) (sym (next_bound ps o (with_names names j)))
-              (v.1 (variables_bound o ps (with_names names j)).names (bound_agree ps names bl j o q some z.0))),
-        )) both
+    let z = procedures_mean sc p s i n d ds c c0 g sc.procedure sc.around sc.exits ns v.0.0 v.0.1 f u in
+    let names = (bind_procedures ds (with_names ns i)).names in (
+      bl,
+      bs,
+      d1,
+      ps,
+      c0,
+      c1,
+      z.1,
+      renames_variables ps sc bl (within_let ds (with_names ns i)) (objects_of_definitions ds) q z.1.0 vars.fit,
+      v.0.1.1 names z.0,
+      stored (has_variables (definitions_named bl p (first_defined s ds) ds)) c1 ∙ ap (λ w. cond w (Store ∷ c1) c1) (variables_here bl p (first_defined s ds) ds),
+      lies.on.shallow,
+      (λ o some. subst (λ w. Then g (record sc { bindings = bs }) d1 (with_names (variables_bound o ps (with_names names j)).names w) c1) (sym (next_bound ps o (with_names names j)))
+          (v.1 (variables_bound o ps (with_names names j)).names (bound_agree ps names bl j o q some z.0))),
+    )) both
 
 -- ---- one declaration
 
@@ -280,8 +278,7 @@ behind_one pay blocks sc p s (t.definitions l ds) d n c c1 a h r m f k st =
     let lies = definitions_lie pay blocks sc p s 0 l ds d n c c1 a.around h r m f k st in
     let vars = variables_in bl p (first_defined s ds) d ds a.around.at h r lies.on.shallow in
     let words : HasWords (bind_all (from_spots p.procedure (slots_here sc p s d ds)) bl) = spots_words (slots_here sc p s d ds) p.procedure bl (words_procedures (s.number + 1) ds sc.bindings a.around.words) in
-    let same = (same_defined bl p ds).1 in
-    (
+    let same = (same_defined bl p ds).1 in (
       behind_store sc (has_variables (definitions_named bl p (first_defined s ds) ds)) d1 c1 lies.on,
       exits_same p (place_behind_defined bl p ds) (ap (λ z. z.loop) same, ap (λ z. z.switch) same, ap (λ z. z.valof) same) sc _ d d1 a vars.procedure vars.depth (subst (λ z. HasWords (bind_all z bl)) (sym vars.are) words),
     )
@@ -338,9 +335,9 @@ declared_bases pay blocks sc p s i (t.declare x xs) d n many c c1 {qs} L Then a 
     let whole = one_bases pay blocks sc p s i x d n (os + many) c (more ++ c1) (λ ns. of_declarations (with_names ns (i + ox)) xs ++ L (all_declared xs (with_names ns (i + ox))).names)
     (λ g sc0 d0 env0 c0. AreDeclared g sc0 d0 env0 xs (Then g) c0) a.around h.0 r.0 (omega (arith, m)) own_found k1 st others in
     let said = bases_of hm i (ox + (os + many)) _ (λ ns. of_declarations (with_names ns i) (t.declare x xs) ++ L (all_declared (t.declare x xs) (with_names ns i)).names) _ (λ ns.
-        let env : Environment = declared x (with_names ns i) in
-        ap (λ z. of_declaration (with_names ns i) x ++ (of_declarations (with_names env.names z) xs ++ L (all_declared xs (with_names env.names z)).names)) (sym (next_declared x (with_names ns i)))
-        ∙ sym (append_assoc (of_declaration (with_names ns i) x) (of_declarations env xs) (L (all_declared xs env).names))) whole in
+    let env : Environment = declared x (with_names ns i) in
+    ap (λ z. of_declaration (with_names ns i) x ++ (of_declarations (with_names env.names z) xs ++ L (all_declared xs (with_names env.names z)).names)) (sym (next_declared x (with_names ns i)))
+    ∙ sym (append_assoc (of_declaration (with_names ns i) x) (of_declarations env xs) (L (all_declared xs env).names))) whole in
     let all_kinds = append_assoc (kinds_of_declaration n one) (kinds_of_declarations n1 named) qs in
     let objects_said : List Named → List Lasting = λ ns. of_declarations (with_names ns i) (t.declare x xs) ++ L (all_declared (t.declare x xs) (with_names ns i)).names in
     let laid_said : Setting → Type 0 = InNames sc.bindings i (λ g env. AreDeclared g sc d env (t.declare x xs) (Then g) c) in

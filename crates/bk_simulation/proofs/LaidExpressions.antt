@@ -27,7 +27,7 @@ use Rattle.bk_trans.specs.declared.around.Target.{Target}
 use Rattle.bk_trans.specs.Program as term
 use Rattle.bk_trans.specs.Naming.{term_named, condition_named}
 use Rattle.bk_trans.specs.Parts.{Part, target_of, parts, parts_if}
-use Rattle.bk_trans.specs.Scheme.{goal, goal_of, push, infix_code, truth_value, value_code, jump_code, procedure_code, data_code}
+use Rattle.bk_trans.specs.Scheme.{push, infix_code, truth_value, value_code, jump_code, procedure_code, data_code}
 use Rattle.bk_trans.proofs.Scopes.{AllFound}
 use Rattle.bk_meaning.specs.Environment.{Named, Sense, constant, label, Environment, sense_in, word_named, constant_in}
 use Rattle.bk_meaning.specs.Seeking.{Sought, the_label, the_case, the_default, same_place, is_label, stands_in, stands_in_one}

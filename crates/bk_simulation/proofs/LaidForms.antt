@@ -17,7 +17,7 @@ use Rattle.bk_scope.specs.declared.place.Place.{Place}
 use Rattle.bk_scope.specs.declared.role.Role.{Role}
 use Rattle.bk_scope.specs.declared.role.Role.TheVariants.{Address as Addressed, Destination}
 use Rattle.bk_scope.specs.Scope.{Binding, bound_in, bind}
-use Rattle.bk_scope.specs.Constants.{constant_word, named_word}
+use Rattle.bk_scope.specs.Constants.{constant_word}
 use Rattle.bk_scope.specs.Entering.{labels_of, with_formals}
 use Rattle.bk_scope.specs.Faults.{addressed, assigned}
 use Rattle.bk_scope.specs.Names.{parenthesised, within, words_of_vector, words_of_start, place_behind}
@@ -41,7 +41,7 @@ use Rattle.bk_trans.specs.Labels.{labels, labels_if, labels_at, labels_onto, lab
 use Rattle.bk_trans.specs.Naming.{meant, term_named, terms_named, condition_named, lvalue_named, lvalues_named, command_named, commands_named, worth, step_named, words_named, starts_named, definition_named, definitions_named}
 use Rattle.bk_trans.specs.Parts.{static_table, parts, parts_each, parts_if, parts_at, parts_onto, parts_from, parts_in, parts_through, parts_of_starts, parts_of_definition, parts_of_definitions}
 use Rattle.bk_trans.specs.Scheme.{goal_in, push, infix_code, truth_value, valued, value_code, each_code, jump_code, address_code, store_code, value_codes, store_codes, by_turns, command_code, through_code, cases, default_in, label_or, variable, test_of_step, data_code, starts_code, definitions_code}
-use Rattle.bk_meaning.specs.Environment.{Named, objects, objects_of_each, objects_of_action, objects_of_actions, objects_of_starts, objects_of_definitions, constant_in, cell, foreign, sense_in, word_named, global_named}
+use Rattle.bk_meaning.specs.Environment.{Named, objects, objects_of_each, objects_of_action, objects_of_actions, objects_of_starts, objects_of_definitions, constant_in, cell, foreign}
 use Rattle.bk_meaning.specs.Loops.{step_of}
 use Rattle.bk_meaning.specs.Seeking.{the_label, the_case, the_default, same_place, stands_in}
 use Rattle.bk_simulation.specs.Regular.{Regular, RegularEach, RegularAction, RegularActions, RegularStarts, RegularDefinitions}

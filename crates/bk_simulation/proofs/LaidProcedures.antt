@@ -10,7 +10,6 @@ use Rattle.bk_scope.specs.declared.bound.Bound.{Bound}
 use Rattle.bk_scope.specs.declared.bound.Bound.TheVariants as b
 use Rattle.bk_scope.specs.declared.place.Place.{Place}
 use Rattle.bk_scope.specs.Scope.{Binding, bound_in, bind}
-use Rattle.bk_scope.specs.Constants.{named_word}
 use Rattle.bk_scope.specs.Entering.{labels_of, with_formals}
 use Rattle.bk_scope.specs.Places as place
 use Rattle.bk_scope.specs.Places.{kept}

@@ -22,11 +22,11 @@ use Rattle.bk_trans.specs.declared.around.Target.{Target}
 use Rattle.bk_trans.specs.Depths.{behind_definitions, behind_declaration, has_variables}
 use Rattle.bk_trans.specs.Labels.{labels_of_declaration}
 use Rattle.bk_trans.specs.Naming.{definitions_named, declaration_named, declarations_named, named_tree}
-use Rattle.bk_trans.specs.Parts.{Part, target_of, parts_of_declaration, parts_of_declarations}
+use Rattle.bk_trans.specs.Parts.{target_of, parts_of_declaration, parts_of_declarations}
 use Rattle.bk_trans.specs.Scheme.{definitions_code, declaration_code, scheme}
 use Rattle.bk_trans.proofs.Accepted.{scheme_is_accepted, targets_found}
-use Rattle.bk_meaning.specs.Environment.{Named, objects_of_declaration, objects_of_declarations}
-use Rattle.bk_meaning.specs.Lasting.{Lasting, declared, of_declaration, of_declarations}
+use Rattle.bk_meaning.specs.Environment.{objects_of_declaration, objects_of_declarations}
+use Rattle.bk_meaning.specs.Lasting.{declared, of_declaration, of_declarations}
 use Rattle.bk_simulation.specs.Placement.{IsAccepted}
 use Rattle.bk_simulation.specs.Regular.{RegularDeclarations, RegularDefinitions, DefineNoVariables, DeclareNoVariables}
 use Rattle.bk_simulation.proofs.Weights.{weight_declared, weight_defined}
@@ -39,7 +39,7 @@ use Rattle.bk_simulation.proofs.LaidCommands.{Doing}
 use Rattle.bk_simulation.proofs.LaidProcedures.{scene_of}
 use Rattle.bk_simulation.proofs.SectionParts.{section_parts}
 use Rattle.bk_simulation.proofs.BehindDeclarations.{next_declared}
-use Rattle.bk_simulation.proofs.LaidDeclarations.{Later, LaidLater, inner, first_defined, constants_bases, behind_constants, let_bases, behind_one}
+use Rattle.bk_simulation.proofs.LaidDeclarations.{Later, inner, first_defined, constants_bases, behind_constants, let_bases, behind_one}
 use Rattle.bk_simulation.proofs.LaidBlocks.{blocks_lie}
 
 -- procedures have no code of their own where they are declared, and leave the frame as it is

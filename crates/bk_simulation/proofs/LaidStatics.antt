@@ -1,10 +1,9 @@
 -- Items of STATIC are laid where the scheme puts them: each has a word of its own among the data of its section.
-use Rattle.std.proofs.Common.{◌≡◌, ℕ, suc, ◌+◌, ◌<◌, ◌^◌, List, [], ◌∷◌, ◌++◌, refl, sym, ap, ◌∙◌, subst, arith, slice_get, Some}
+use Rattle.std.proofs.Common.{◌≡◌, ℕ, suc, ◌+◌, ◌<◌, ◌^◌, List, [], ◌∷◌, refl, sym, ap, ◌∙◌, subst, arith, slice_get, Some}
 use Rattle.std.specs.Prelude.{unwrap_or}
 use Rattle.bk_base.specs.Word.{signed}
 use Rattle.bk_syntax.specs.Tree as t
 use Rattle.bk_syntax.specs.Tree.{Expression, Items}
-use Rattle.bk_scope.specs.declared.bound.Bound.TheVariants as b
 use Rattle.bk_scope.specs.Scope.{Binding}
 use Rattle.bk_scope.specs.Constants.{constant_word}
 use Rattle.bk_scope.specs.Sound.{HasWord, StaticsSound}
@@ -15,8 +14,8 @@ use Rattle.bk_ocode.specs.SectionData.{item_words}
 use Rattle.bk_ocode.specs.declared.stmt.Stmt.TheVariants.{DataLabel, DataNumber}
 use Rattle.bk_trans.specs.declared.around.Goal.{Goal}
 use Rattle.bk_trans.specs.Naming.{worth, statics_named}
-use Rattle.bk_trans.specs.Parts.{static_item, parts_of_items}
-use Rattle.bk_trans.specs.Scheme.{goal, goal_of, data_code}
+use Rattle.bk_trans.specs.Parts.{parts_of_items}
+use Rattle.bk_trans.specs.Scheme.{goal, goal_of}
 use Rattle.bk_meaning.specs.Environment.{Named, count, constant_in}
 use Rattle.bk_meaning.specs.Lasting.{words, static_words}
 use Rattle.bk_simulation.specs.Regular.{Regular, RegularItems}

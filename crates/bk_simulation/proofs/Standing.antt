@@ -1,6 +1,6 @@
 -- Where code stands in a section, with the depth before it; what a label and a call have from that; and the bases of lasting objects
 -- one behind the other.
-use Rattle.std.proofs.Common.{◌≡◌, ℕ, false, zero, suc, ◌+◌, ◌<◌, ◌≤◌, List, [], ◌∷◌, ◌++◌, length, Option, Some, None, take, drop, slice_get, refl, ap, ◌∙◌, subst, arith}
+use Rattle.std.proofs.Common.{◌≡◌, ℕ, false, zero, suc, ◌+◌, ◌<◌, ◌≤◌, List, [], ◌∷◌, ◌++◌, length, Some, take, drop, slice_get, refl, ap, ◌∙◌, subst, arith}
 use Rattle.bk_base.specs.declared.limit.TheConstants.{FRAME_WORDS}
 use Rattle.bk_ocode.specs.Depth.{next_depth, depth_behind}
 use Rattle.bk_ocode.specs.Section.{AreFaultless}
