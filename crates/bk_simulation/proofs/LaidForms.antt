@@ -17,7 +17,7 @@ use Rattle.bk_scope.specs.declared.place.Place.{Place}
 use Rattle.bk_scope.specs.declared.role.Role.{Role}
 use Rattle.bk_scope.specs.declared.role.Role.TheVariants.{Address as Addressed, Destination}
 use Rattle.bk_scope.specs.Scope.{Binding, bound_in, bind}
-use Rattle.bk_scope.specs.Constants.{constant_word, named_word}
+use Rattle.bk_scope.specs.Constants.{constant_word}
 use Rattle.bk_scope.specs.Entering.{labels_of, with_formals}
 use Rattle.bk_scope.specs.Faults.{addressed, assigned}
 use Rattle.bk_scope.specs.Names.{parenthesised, within, words_of_vector, words_of_start, place_behind}
@@ -41,7 +41,7 @@ use Rattle.bk_trans.specs.Labels.{labels, labels_if, labels_at, labels_onto, lab
 use Rattle.bk_trans.specs.Naming.{meant, term_named, terms_named, condition_named, lvalue_named, lvalues_named, command_named, commands_named, worth, step_named, words_named, starts_named, definition_named, definitions_named}
 use Rattle.bk_trans.specs.Parts.{static_table, parts, parts_each, parts_if, parts_at, parts_onto, parts_from, parts_in, parts_through, parts_of_starts, parts_of_definition, parts_of_definitions}
 use Rattle.bk_trans.specs.Scheme.{goal_in, push, infix_code, truth_value, valued, value_code, each_code, jump_code, address_code, store_code, value_codes, store_codes, by_turns, command_code, through_code, cases, default_in, label_or, variable, test_of_step, data_code, starts_code, definitions_code}
-use Rattle.bk_meaning.specs.Environment.{Named, objects, objects_of_each, objects_of_action, objects_of_actions, objects_of_starts, objects_of_definitions, constant_in, cell, foreign, sense_in, word_named, global_named}
+use Rattle.bk_meaning.specs.Environment.{Named, objects, objects_of_each, objects_of_action, objects_of_actions, objects_of_starts, objects_of_definitions, constant_in, cell, foreign}
 use Rattle.bk_meaning.specs.Loops.{step_of}
 use Rattle.bk_meaning.specs.Seeking.{the_label, the_case, the_default, same_place, stands_in}
 use Rattle.bk_simulation.specs.Regular.{Regular, RegularEach, RegularAction, RegularActions, RegularStarts, RegularDefinitions}
@@ -52,12 +52,15 @@ use Rattle.bk_meaning.specs.Lasting.{of_expression, of_each, of_action, of_actio
 use Rattle.bk_simulation.proofs.Held.{InData}
 use Rattle.bk_simulation.proofs.HeldData.{statement_data, items_are, words_small, words_agree}
 use Rattle.bk_simulation.proofs.NamesBound.{bound_named}
-use Rattle.bk_simulation.proofs.Standing.{Agree, AgreeGlobals, global_of, there_in, bases_inside, StandsAt, passed, at_depth, written, label_at, call_at, label_found, home, Bases, no_bases, new_base, both_bases, three_bases, bases_so, Lies, lies_so, lies_behind}
+use Rattle.bk_simulation.proofs.NamesAgree.{Agree, own_cell, agree_bound}
+use Rattle.bk_simulation.proofs.LastingKinds.{string, words_at, kinds, kinds_each, kinds_at, kinds_onto, kinds_in, kinds_through, kinds_of_definitions, kinds_of_starts}
+use Rattle.bk_simulation.proofs.Standing.{there_in, bases_inside, StandsAt, passed, at_depth, written, label_at, call_at, label_found, home, Bases, no_bases, new_base, both_bases, three_bases, bases_so, Lies, lies_so, lies_behind}
 use Rattle.bk_simulation.proofs.Constants.{constant_small}
-use Rattle.bk_simulation.proofs.Renamed.{slots_of, spots_in}
+use Rattle.bk_simulation.proofs.RenamedLets.{slots_of, spots_in}
 use Rattle.bk_simulation.proofs.LaidProcedures.{scene_of, routine_lies, function_lies, procedure_bases}
+use Rattle.bk_simulation.proofs.LetWords.{WordsBased}
 use Rattle.bk_simulation.proofs.LaidCommands.{Doing, doing_loop, doing_switch, Leads, finds_nothing, finds_case, finds_both, switch_chosen, switch_default, switch_none, Done, DoneEach, Turns, label_ahead, leads_label, either_leads, same_letters, words_labels, words_variable, alone_lies}
-use Rattle.bk_simulation.proofs.LaidExpressions.{coded, own_parts, role, level, HasWords, FoundParts, found_front, found_back, DataIn, Around, around_deeper, constants_agree, known, known_agree, names_of, InNames, stands_agree, plain_code, plain_parts, lies_ended, leaf_on, leaf_lies, pushed_depth, truth_depth, infix_on, joined_two, joined_three}
+use Rattle.bk_simulation.proofs.LaidExpressions.{coded, own_parts, own_kinds, plain_lies, role, level, HasWords, FoundParts, found_front, found_back, DataIn, Around, around_deeper, constants_agree, known, known_agree, names_of, InNames, stands_agree, plain_code, plain_parts, lies_ended, leaf_on, leaf_lies, pushed_depth, truth_depth, infix_on, joined_two, joined_three}
 
 size_count : (es : Expressions) → size es ≡ count es
 size_count t.none = refl
@@ -79,11 +82,11 @@ call_lies : (pay : ℕ) (sc : Scene) (p : Place) (s s1 : Spot) (i : ℕ) (call :
     ++ value_code sc.targets (d + 2 + depths.count (terms_named 1 sc.bindings (deeper 2 p) s1 es)) n (term_named sc.bindings (deeper (size es + 2) p) s e) ++ (call ∷ [])) ++ rest → StandsAt sc.own d c
     → ((c1 c2 : List Stmt) → Around sc (deeper 2 p) (d + 2) → FoundParts sc.own sc.targets (parts_each (d + 2) (n + labels (term_named sc.bindings (deeper (size es + 2) p) s e)) (terms_named 1 sc.bindings (deeper 2 p) s1 es))
     → c1 ≡ each_code sc.targets (d + 2) (n + labels (term_named sc.bindings (deeper (size es + 2) p) s e)) (terms_named 1 sc.bindings (deeper 2 p) s1 es) ++ c2 → StandsAt sc.own (d + 2) c1
-    → Lies (home sc pay) (i + objects e) (objects_of_each es) (d + 2 + count es) c2 (λ ns. of_each (with_names ns (i + objects e)) es) (InNames sc.bindings (i + objects e) (λ g env. AreValues g sc (d + 2) env es c1 c2)))
+    → Lies (home sc pay) (i + objects e) (objects_of_each es) (d + 2 + count es) c2 (kinds_each (n + labels (term_named sc.bindings (deeper (size es + 2) p) s e)) (terms_named 1 sc.bindings (deeper 2 p) s1 es)) (λ ns. of_each (with_names ns (i + objects e)) es) (InNames sc.bindings (i + objects e) (λ g env. AreValues g sc (d + 2) env es c1 c2)))
     → ((c2 : List Stmt) → Around sc (deeper (size es + 2) p) (d + 2 + count es) → FoundParts sc.own sc.targets (parts (d + 2 + count es) n (term_named sc.bindings (deeper (size es + 2) p) s e))
     → c2 ≡ value_code sc.targets (d + 2 + count es) n (term_named sc.bindings (deeper (size es + 2) p) s e) ++ (call ∷ rest) → StandsAt sc.own (d + 2 + count es) c2
-    → Lies (home sc pay) i (objects e) (d + 2 + count es + 1) (call ∷ rest) (λ ns. of_expression (with_names ns i) e) (InNames sc.bindings i (λ g env. IsCode g sc (d + 2 + count es) env pushes e c2 (call ∷ rest))))
-    → Lies (home sc pay) i (objects e + objects_of_each es) (d + 2 + count es + 1) (call ∷ rest) (λ ns. of_expression (with_names ns i) e ++ of_each (with_names ns (i + objects e)) es) (InNames sc.bindings i (λ g env. (c1 c2 : List Stmt) × (c ≡ Stack (d + 2) ∷ c1)
+    → Lies (home sc pay) i (objects e) (d + 2 + count es + 1) (call ∷ rest) (kinds n (term_named sc.bindings (deeper (size es + 2) p) s e)) (λ ns. of_expression (with_names ns i) e) (InNames sc.bindings i (λ g env. IsCode g sc (d + 2 + count es) env pushes e c2 (call ∷ rest))))
+    → Lies (home sc pay) i (objects e + objects_of_each es) (d + 2 + count es + 1) (call ∷ rest) (kinds n (term_named sc.bindings (deeper (size es + 2) p) s e) ++ kinds_each (n + labels (term_named sc.bindings (deeper (size es + 2) p) s e)) (terms_named 1 sc.bindings (deeper 2 p) s1 es)) (λ ns. of_expression (with_names ns i) e ++ of_each (with_names ns (i + objects e)) es) (InNames sc.bindings i (λ g env. (c1 c2 : List Stmt) × (c ≡ Stack (d + 2) ∷ c1)
     × AreValues g sc (d + 2) (with_names env.names (i + objects e)) es c1 c2 × IsCode g sc (d + 2 + count es) env pushes e c2 (call ∷ rest)))
 call_lies pay sc p s s1 i call e es d n c rest a f k st each one =
     let z : Place = deeper (size es + 2) p in
@@ -109,7 +112,7 @@ call_lies pay sc p s s1 i call e es d n c rest a f k st each one =
 -- the step of a FOR
 step_is : (ns : List Named) (bs : List Binding) (i : ℕ) → Agree ns bs → (h : Expressions) → HaveWords bs h → step_of (with_names ns i) h ≡ Some (step_named bs h)
 step_is ns bs i a t.none w0 = refl
-step_is ns bs i a (t.more e es) w0 = let x = w0.0 in constants_agree ns bs i a e ∙ x.1 ∙ ap (λ y. Some (worth y)) (sym x.1)
+step_is ns bs i a (t.more e es) w0 = let x = w0.0 in constants_agree ns bs i a.0 e ∙ x.1 ∙ ap (λ y. Some (worth y)) (sym x.1)
 
 step_small : (bs : List Binding) → HasWords bs → (h : Expressions) → RegularEach h → HaveWords bs h → step_named bs h < 2 ^ 32
 step_small bs a t.none r w0 = omega arith
@@ -121,27 +124,6 @@ test_in d false = omega arith
 
 test_depth : (d k : ℕ) → next_depth (d + 1 + 1) (test_of_step k) ≡ d + 1
 test_depth d k = test_in d (int_lt (signed k) (pos 0))
-
-agree_variable : (j d : ℕ) (x : List ℕ) (o : ℕ) (ns : List Named) (bs : List Binding) → Agree ns bs → Agree (record { name = x; sense = cell o 0 } ∷ ns) (bind x (b.Variable j d) bs)
-agree_variable j d x o ns bs a y = picked (bytes_eq x y)
-  where
-    picked : (q : Bool) → word_named (cond q (Some (cell o 0)) (sense_in ns y)) ≡ named_word (cond q (Some (b.Variable j d)) (bound_in bs y))
-    picked true = refl
-    picked false = a y
-
-pub globals_foreign : (j d : ℕ) (x : List ℕ) (ns : List Named) (bs : List Binding) → AgreeGlobals ns bs → AgreeGlobals (record { name = x; sense = foreign } ∷ ns) (bind x (b.Variable j d) bs)
-globals_foreign j d x ns bs a y = picked (bytes_eq x y)
-  where
-    picked : (q : Bool) → global_named (cond q (Some foreign) (sense_in ns y)) ≡ global_of (cond q (Some (b.Variable j d)) (bound_in bs y))
-    picked true = refl
-    picked false = a y
-
-agree_foreign : (j d : ℕ) (x : List ℕ) (ns : List Named) (bs : List Binding) → Agree ns bs → Agree (record { name = x; sense = foreign } ∷ ns) (bind x (b.Variable j d) bs)
-agree_foreign j d x ns bs a y = picked (bytes_eq x y)
-  where
-    picked : (q : Bool) → word_named (cond q (Some foreign) (sense_in ns y)) ≡ named_word (cond q (Some (b.Variable j d)) (bound_in bs y))
-    picked true = refl
-    picked false = a y
 
 -- the words of a TABLE
 table_held : (g : Setting) (sc : Scene) (n l : ℕ) (es : Expressions) (i : ℕ) (ns : List Named) → Agree ns sc.bindings → HasWords sc.bindings → RegularEach es → HaveWords sc.bindings es → DataIn sc.own (data_code (static_table n (words_named sc.bindings es)))
@@ -156,20 +138,20 @@ table_held g sc n l es i ns u words r h f own =
 abbrev LaidFroms : ℕ → Scene → Place → Spot → ℕ → Expressions → ℕ → ℕ → Type 0
 LaidFroms pay sc v u j t.none d k = Unit {0}
 LaidFroms pay sc v u j (t.more e es) d k =
-    ((c c1 : List Stmt) → c ≡ value_code sc.targets d k (term_named sc.bindings v u e) ++ c1 → StandsAt sc.own d c → Lies (home sc pay) j (objects e) (d + 1) c1 (λ ns. of_expression (with_names ns j) e) (InNames sc.bindings j (λ g env. IsCode g sc d env pushes e c c1)))
+    ((c c1 : List Stmt) → c ≡ value_code sc.targets d k (term_named sc.bindings v u e) ++ c1 → StandsAt sc.own d c → Lies (home sc pay) j (objects e) (d + 1) c1 (kinds k (term_named sc.bindings v u e)) (λ ns. of_expression (with_names ns j) e) (InNames sc.bindings j (λ g env. IsCode g sc d env pushes e c c1)))
     × LaidFroms pay sc (deeper 0 v) (spot.behind e u) (j + objects e) es d (k + labels (term_named sc.bindings v u e))
 
 abbrev LaidStores : ℕ → Scene → Place → Spot → ℕ → Expressions → ℕ → ℕ → Type 0
 LaidStores pay sc p s i t.none d n = Unit {0}
 LaidStores pay sc p s i (t.more x xs) d n =
     ((c c1 : List Stmt) → d + 1 ≤ FRAME_WORDS → c ≡ store_code sc.targets (d + 1) n (lvalue_named sc.bindings (deeper 1 p) s x) ++ c1 → StandsAt sc.own (d + 1) c
-    → Lies (home sc pay) i (objects x) d c1 (λ ns. of_expression (with_names ns i) x) (InNames sc.bindings i (λ g env. IsStore g sc (d + 1) env x c c1)))
+    → Lies (home sc pay) i (objects x) d c1 (kinds_at n (lvalue_named sc.bindings (deeper 1 p) s x)) (λ ns. of_expression (with_names ns i) x) (InNames sc.bindings i (λ g env. IsStore g sc (d + 1) env x c c1)))
     × LaidStores pay sc p (spot.behind x s) (i + objects x) xs d (n + labels_at (lvalue_named sc.bindings (deeper 1 p) s x))
 
 -- an assignment: values and where they are stored, by turns
 turns_lie : (pay : ℕ) (sc : Scene) (p v : Place) (s u : Spot) (i j : ℕ) (xs es : Expressions) (d n k : ℕ) (c rest : List Stmt) → size xs ≡ size es → LaidStores pay sc p s i xs d n → LaidFroms pay sc v u j es d k
     → c ≡ by_turns (value_codes sc.targets d k (terms_named 0 sc.bindings v u es)) (store_codes sc.targets (d + 1) n (lvalues_named sc.bindings (deeper 1 p) s xs)) ++ rest → StandsAt sc.own d c
-    → Turns pay sc i j xs es d c rest
+    → Turns pay sc i j xs es d c rest (kinds_onto n (lvalues_named sc.bindings (deeper 1 p) s xs)) (kinds_each k (terms_named 0 sc.bindings v u es))
 turns_lie pay sc p v s u i j t.none t.none d n k c rest same hx he e st =
     record { vs = []; ss = []; on = written sc.own d c rest e st; from = no_bases (home sc pay) j _ (λ g y ns z. tt); stores = no_bases (home sc pay) i _ (λ g y ns z. tt); turns = e }
 turns_lie pay sc p v s u i j t.none (t.more e0 es) d n k c rest same hx he e st = absurd (omega (arith, same))
@@ -215,57 +197,57 @@ BlocksLie pay = (sc : Scene) (p : Place) (s : Spot) (i l : ℕ) (x : Declaration
 mutual
   pub laid_code : (pay : ℕ) (blocks : BlocksLie pay) (sc : Scene) (p : Place) (s : Spot) (i : ℕ) (aim : Aim) (e : Expression) (d n : ℕ) (c rest : List Stmt) → Around sc p d → Sound (role aim) sc.bindings p s e → Regular e → weight_of e ≤ pay
       → FoundParts sc.own sc.targets (own_parts sc p s d n aim e) → c ≡ coded sc p s d n aim e ++ rest → StandsAt sc.own d c
-      → Lies (home sc pay) i (objects e) (level aim d) rest (λ ns. of_expression (with_names ns i) e) (InNames sc.bindings i (λ g env. IsCode g sc d env aim e c rest))
+      → Lies (home sc pay) i (objects e) (level aim d) rest (own_kinds sc p s n aim e) (λ ns. of_expression (with_names ns i) e) (InNames sc.bindings i (λ g env. IsCode g sc d env aim e c rest))
   laid_code pay blocks sc p s i aim (t.name l x) d n c rest a h r m f k st =
       let k1 = plain_code sc p s d n aim (t.name l x) c rest refl k in
-      leaf_lies (home sc pay) i d aim c rest (push sc.targets (meant (bound_in sc.bindings x))) _ k1 (pushed_depth sc.targets d (meant (bound_in sc.bindings x))) st (λ g y ns u. k1)
+      plain_lies pay sc p s i d n aim (t.name l x) (0) rest _ refl (leaf_lies (home sc pay) i d aim c rest (push sc.targets (meant (bound_in sc.bindings x))) _ k1 (pushed_depth sc.targets d (meant (bound_in sc.bindings x))) st (λ g y ns u. k1))
   laid_code pay blocks sc p s i aim (t.number l v) d n c rest a h r m f k st =
       let k1 = plain_code sc p s d n aim (t.number l v) c rest refl k in
-      leaf_lies (home sc pay) i d aim c rest (Number (signed v)) _ k1 refl st (λ g y ns u. (k1, r))
+      plain_lies pay sc p s i d n aim (t.number l v) (0) rest _ refl (leaf_lies (home sc pay) i d aim c rest (Number (signed v)) _ k1 refl st (λ g y ns u. (k1, r)))
   laid_code pay blocks sc p s i aim (t.text l x) d n c rest a h r m f k st =
       let k1 = plain_code sc p s d n aim (t.text l x) c rest refl k in
-      record {
+      plain_lies pay sc p s i d n aim (t.text l x) (1) rest _ refl (record {
         on = leaf_on sc.own d aim c rest (Text (first_bytes x)) k1 refl st;
-        objects_are = new_base (home sc pay) i (sc.own.places.text (length (ending aim rest))) _ _ (λ g y z ns u. (k1, z))
+        objects_are = new_base (home sc pay) i (sc.own.places.text (length (ending aim rest))) string _ _ (λ ns u. tt) (λ g y z ns u. (k1, z))
             (λ g y z ns u v. (
               sc.own.places.text (length (ending aim rest)),
               z,
               statement_data g.program sc.section sc.own d (Text (first_bytes x)) (ending aim rest) (record { place = sc.own.places.text (length (ending aim rest)); words = text_words x }) y.own
                   (written sc.own d c (Text (first_bytes x) ∷ ending aim rest) k1 st) refl,
             ));
-      }
+      })
   laid_code pay blocks sc p s i aim (t.truth l x) d n c rest a h r m f k st =
       let k1 = plain_code sc p s d n aim (t.truth l x) c rest refl k in
-      leaf_lies (home sc pay) i d aim c rest (truth_value x) _ k1 (truth_depth d x) st (λ g y ns u. k1)
+      plain_lies pay sc p s i d n aim (t.truth l x) (0) rest _ refl (leaf_lies (home sc pay) i d aim c rest (truth_value x) _ k1 (truth_depth d x) st (λ g y ns u. k1))
   laid_code pay blocks sc p s i aim (t.query l) d n c rest a h r m f k st =
       let k1 = plain_code sc p s d n aim (t.query l) c rest refl k in
-      leaf_lies (home sc pay) i d aim c rest Query _ k1 refl st (λ g y ns u. k1)
+      plain_lies pay sc p s i d n aim (t.query l) (0) rest _ refl (leaf_lies (home sc pay) i d aim c rest Query _ k1 refl st (λ g y ns u. k1))
   laid_code pay blocks sc p s i pushes (t.parens l e) d n c rest a h r m f k st = laid_code pay blocks sc p (spot.past 1 s) i pushes e d n c rest a h r (omega arith) f k st
   laid_code pay blocks sc p s i (jumps v j) (t.parens l e) d n c rest a h r m f k st = laid_code pay blocks sc p (spot.past 1 s) i (jumps v j) e d n c rest a h r (omega arith) f k st
   laid_code pay blocks sc p s i aim (t.unary l q.Address e) d n c rest a h r m f k st =
       let k1 = plain_code sc p s d n aim (t.unary l q.Address e) c rest refl k in
       let f1 = plain_parts sc p s d n aim (t.unary l q.Address e) refl f in
-      lies_ended (home sc pay) i (objects e) d aim rest _ (laid_address pay blocks sc p (spot.past 1 s) i (Addressed false (line_of e)) e d n c (ending aim rest) a h.0 h.1 r (omega arith) f1 k1 st)
+      plain_lies pay sc p s i d n aim (t.unary l q.Address e) (objects e) rest _ refl (lies_ended (home sc pay) i (objects e) d aim rest _ (laid_address pay blocks sc p (spot.past 1 s) i (Addressed false (line_of e)) e d n c (ending aim rest) a h.0 h.1 r (omega arith) f1 k1 st))
   laid_code pay blocks sc p s i aim (t.unary l q.Contents e) d n c rest a h r m f k st =
       let k1 = plain_code sc p s d n aim (t.unary l q.Contents e) c rest refl k in
       let f1 = plain_parts sc p s d n aim (t.unary l q.Contents e) refl f in
       let v = value_code sc.targets d n (term_named sc.bindings p (spot.past 1 s) e) in
       let k2 = joined_two v (Monadic w.Contents ∷ []) (ending aim rest) c k1 in
-      lies_ended (home sc pay) i (objects e) d aim rest _
-      (lies_behind (home sc pay) i (objects e) (d + 1) (d + 1) (Monadic w.Contents) (ending aim rest) _ refl (laid_code pay blocks sc p (spot.past 1 s) i pushes e d n c (Monadic w.Contents ∷ ending aim rest) a h.1 r (omega arith) f1 k2 st))
+      plain_lies pay sc p s i d n aim (t.unary l q.Contents e) (objects e) rest _ refl (lies_ended (home sc pay) i (objects e) d aim rest _
+      (lies_behind (home sc pay) i (objects e) (d + 1) (d + 1) (Monadic w.Contents) (ending aim rest) _ refl (laid_code pay blocks sc p (spot.past 1 s) i pushes e d n c (Monadic w.Contents ∷ ending aim rest) a h.1 r (omega arith) f1 k2 st)))
   laid_code pay blocks sc p s i aim (t.unary l q.Plus e) d n c rest a h r m f k st =
       let k1 = plain_code sc p s d n aim (t.unary l q.Plus e) c rest refl k in
       let f1 = plain_parts sc p s d n aim (t.unary l q.Plus e) refl f in
       let v = value_code sc.targets d n (term_named sc.bindings p (spot.past 1 s) e) in
       let k2 = joined_two v [] (ending aim rest) c k1 in
-      lies_ended (home sc pay) i (objects e) d aim rest _ (laid_code pay blocks sc p (spot.past 1 s) i pushes e d n c (ending aim rest) a h.1 r (omega arith) f1 k2 st)
+      plain_lies pay sc p s i d n aim (t.unary l q.Plus e) (objects e) rest _ refl (lies_ended (home sc pay) i (objects e) d aim rest _ (laid_code pay blocks sc p (spot.past 1 s) i pushes e d n c (ending aim rest) a h.1 r (omega arith) f1 k2 st))
   laid_code pay blocks sc p s i aim (t.unary l q.Minus e) d n c rest a h r m f k st =
       let k1 = plain_code sc p s d n aim (t.unary l q.Minus e) c rest refl k in
       let f1 = plain_parts sc p s d n aim (t.unary l q.Minus e) refl f in
       let v = value_code sc.targets d n (term_named sc.bindings p (spot.past 1 s) e) in
       let k2 = joined_two v (Monadic w.Negate ∷ []) (ending aim rest) c k1 in
-      lies_ended (home sc pay) i (objects e) d aim rest _
-      (lies_behind (home sc pay) i (objects e) (d + 1) (d + 1) (Monadic w.Negate) (ending aim rest) _ refl (laid_code pay blocks sc p (spot.past 1 s) i pushes e d n c (Monadic w.Negate ∷ ending aim rest) a h.1 r (omega arith) f1 k2 st))
+      plain_lies pay sc p s i d n aim (t.unary l q.Minus e) (objects e) rest _ refl (lies_ended (home sc pay) i (objects e) d aim rest _
+      (lies_behind (home sc pay) i (objects e) (d + 1) (d + 1) (Monadic w.Negate) (ending aim rest) _ refl (laid_code pay blocks sc p (spot.past 1 s) i pushes e d n c (Monadic w.Negate ∷ ending aim rest) a h.1 r (omega arith) f1 k2 st)))
   laid_code pay blocks sc p s i pushes (t.unary l q.Not e) d n c rest a h r m f k st =
       let v = value_code sc.targets d n (term_named sc.bindings p (spot.past 1 s) e) in
       let k2 = joined_two v (Monadic w.Not ∷ []) rest c k in
@@ -381,10 +363,10 @@ mutual
       let lx = laid_code pay blocks sc p s i pushes x d n c c1 a h.0 r.0 (omega arith) (found_front sc.own sc.targets (parts d n tx) _ f1) (joined_three vx vy (infix_code z0) tail c k1) st in
       let ly = laid_code pay blocks sc (deeper 1 p) s1 (i + objects x) pushes y (d + 1) (n + labels tx) c1 (infix_code z0 ++ tail) (around_deeper sc p d 1 (d + 1) refl lx.on.shallow a) h.1 r.1 (omega arith)
       (found_back sc.own sc.targets (parts d n tx) _ f1) refl lx.on in
-      lies_ended (home sc pay) i _ d (jumps v0 j) rest _ (record {
+      plain_lies pay sc p s i d n (jumps v0 j) (t.binary l z0 m0 x y) (objects x + objects y) rest _ refl (lies_ended (home sc pay) i _ d (jumps v0 j) rest _ (record {
         on = infix_on sc.own z0 d tail ly.on;
         objects_are = bases_so (home sc pay) i _ _ _ (λ g z v ns u. (c1, v.0 ns u, v.1 ns u)) (both_bases (home sc pay) i (objects x) (objects y) _ _ lx.objects_are ly.objects_are);
-      })
+      }))
   laid_code pay blocks sc p s i aim (t.choice l m0 e x y) d n c rest a h r m f k st =
       let e0 : Spot = spot.past 1 (spot.behind e s) in
       let e1 : Spot = spot.behind x e0 in
@@ -407,11 +389,11 @@ mutual
       let sn = passed sc.own (d + 1) d (GiveResult (n + 1)) (Label n ∷ c2) lx.on (omega arith) in
       let ly = laid_code pay blocks sc p e1 (i + objects e + objects x) pushes y d ny c2 (GiveResult (n + 1) ∷ Label (n + 1) ∷ tail) a h.2 r.2 (omega arith) (found_back sc.own sc.targets (parts_if d (n + 2) ce ++ parts d nx tx) _ f1) refl (passed sc.own d d (Label n) c2 sn refl) in
       let sm = passed sc.own (d + 1) d (GiveResult (n + 1)) (Label (n + 1) ∷ tail) ly.on (omega arith) in
-      lies_ended (home sc pay) i _ d aim rest _ (record {
+      plain_lies pay sc p s i d n aim (t.choice l m0 e x y) (objects e + objects x + objects y) rest _ refl (lies_ended (home sc pay) i _ d aim rest _ (record {
         on = passed sc.own d (d + 1) (TakeResult d) (ending aim rest) (passed sc.own d d (Label (n + 1)) tail sm refl) refl;
         objects_are = bases_so (home sc pay) i _ _ _ (λ g z v ns u. (n, n + 1, c1, c2, v.0.0 ns u, v.0.1 ns u, v.1 ns u, label_at g sc d n c2 z.own sn, label_at g sc d (n + 1) tail z.own sm))
             (three_bases (home sc pay) i (objects e) (objects x) (objects y) _ _ _ le.objects_are lx.objects_are ly.objects_are);
-      })
+      }))
   laid_code pay blocks sc p s i aim (t.apply l m0 e es) d n c rest a h r m f k st =
       let k1 = plain_code sc p s d n aim (t.apply l m0 e es) c rest refl k in
       let f1 = plain_parts sc p s d n aim (t.apply l m0 e es) refl f in
@@ -420,10 +402,10 @@ mutual
       let g1 = call_lies pay sc p s s1 i (CallFunction d) e es d n c (ending aim rest) a f1 k1 st
       (λ c1 c2 b0 f0 k0 st0. laid_each pay blocks sc (deeper 2 p) s1 (i + objects e) es (d + 2) (n + labels (term_named sc.bindings z s e)) c1 c2 b0 h.1 r.1 (omega arith) f0 k0 st0)
       (λ c2 b0 f0 k0 st0. laid_code pay blocks sc z s i pushes e (d + 2 + count es) n c2 (CallFunction d ∷ ending aim rest) b0 h.0 r.0 (omega arith) f0 k0 st0) in
-      lies_ended (home sc pay) i _ d aim rest _ (record {
+      plain_lies pay sc p s i d n aim (t.apply l m0 e es) (objects e + objects_of_each es) rest _ refl (lies_ended (home sc pay) i _ d aim rest _ (record {
         on = passed sc.own (d + 2 + count es + 1) (d + 1) (CallFunction d) (ending aim rest) g1.on refl;
         objects_are = bases_so (home sc pay) i _ _ _ (λ g z v ns u. let x = v ns u in (x.0, x.1, x.2, x.3, x.4, call_at g sc _ (CallFunction d) (ending aim rest) z.own g1.on, g1.on.shallow)) g1.objects_are;
-      })
+      }))
   laid_code pay blocks sc p s i aim (t.valof l x) d n c rest a h r m f k st =
       let k1 = plain_code sc p s d n aim (t.valof l x) c rest refl k in
       let f1 = plain_parts sc p s d n aim (t.valof l x) refl f in
@@ -444,21 +426,21 @@ mutual
       } in
       let done = laid_act pay blocks body p1 s1 i x d (n + 1) c (Label n ∷ tail) doing h r (omega arith) f1 k2 st in
       let lx = alone_lies pay inside i x d (n + 1) kx c (Label n ∷ tail) (s.number + 1) p.procedure a.same (let tx = in_light x in omega (arith, tx, m)) done in
-      lies_ended (home sc pay) i _ d aim rest _ (record {
+      plain_lies pay sc p s i d n aim (t.valof l x) (objects_of_action x) rest _ refl (lies_ended (home sc pay) i _ d aim rest _ (record {
         on = passed sc.own d (d + 1) (TakeResult d) (ending aim rest) (passed sc.own d d (Label n) tail lx.on refl) refl;
         objects_are = bases_so (home sc pay) i _ _ _ (λ g z v ns u. (n, s.number + 1, v ns u, label_at g sc d n tail z.own lx.on)) lx.objects_are;
-      })
+      }))
   laid_code pay blocks sc p s i aim (t.table l es) d n c rest a h r m f k st =
       let k1 = plain_code sc p s d n aim (t.table l es) c rest refl k in
       let f1 = plain_parts sc p s d n aim (t.table l es) refl f in
-      record {
+      plain_lies pay sc p s i d n aim (t.table l es) (1) rest _ refl (record {
         on = leaf_on sc.own d aim c rest (Address (Static n)) k1 refl st;
-        objects_are = new_base (home sc pay) i (sc.own.places.label n) _ _ (λ g y z ns u. (n, k1, z)) (λ g y z ns u v. (sc.own.places.label n, z, table_held g sc n l es i ns u a.words r h (f1.0.2) y.own));
-      }
+        objects_are = new_base (home sc pay) i (sc.own.places.label n) (words_at n (words_named sc.bindings es)) _ _ (λ ns u. (refl, words_agree ns sc.bindings i es u)) (λ g y z ns u. (n, k1, z)) (λ g y z ns u v. (sc.own.places.label n, z, table_held g sc n l es i ns u a.words r h (f1.0.2) y.own));
+      })
 
   laid_each : (pay : ℕ) (blocks : BlocksLie pay) (sc : Scene) (p : Place) (s : Spot) (i : ℕ) (es : Expressions) (d n : ℕ) (c rest : List Stmt) → Around sc p d → SoundEach 1 sc.bindings p s es → RegularEach es → weight_among es ≤ pay
       → FoundParts sc.own sc.targets (parts_each d n (terms_named 1 sc.bindings p s es)) → c ≡ each_code sc.targets d n (terms_named 1 sc.bindings p s es) ++ rest → StandsAt sc.own d c
-      → Lies (home sc pay) i (objects_of_each es) (d + count es) rest (λ ns. of_each (with_names ns i) es) (InNames sc.bindings i (λ g env. AreValues g sc d env es c rest))
+      → Lies (home sc pay) i (objects_of_each es) (d + count es) rest (kinds_each n (terms_named 1 sc.bindings p s es)) (λ ns. of_each (with_names ns i) es) (InNames sc.bindings i (λ g env. AreValues g sc d env es c rest))
   laid_each pay blocks sc p s i t.none d n c rest a h r m f k st =
       let e : d ≡ d + 0 = omega arith in
       record { on = at_depth sc.own d (d + 0) rest e (written sc.own d c rest k st); objects_are = no_bases (home sc pay) i _ (λ g y ns u. k) }
@@ -479,7 +461,7 @@ mutual
   -- an address
   laid_address : (pay : ℕ) (blocks : BlocksLie pay) (sc : Scene) (p : Place) (s : Spot) (i : ℕ) (z : Role) (e : Expression) (d n : ℕ) (c rest : List Stmt) → Around sc p d → addressed sc.bindings e ≡ true → Sound z sc.bindings p s e → Regular e
       → weight_of e ≤ pay → FoundParts sc.own sc.targets (parts_at d n (lvalue_named sc.bindings p s e)) → c ≡ address_code sc.targets d n (lvalue_named sc.bindings p s e) ++ rest → StandsAt sc.own d c
-      → Lies (home sc pay) i (objects e) (d + 1) rest (λ ns. of_expression (with_names ns i) e) (InNames sc.bindings i (λ g env. IsAddress g sc d env e c rest))
+      → Lies (home sc pay) i (objects e) (d + 1) rest (kinds_at n (lvalue_named sc.bindings p s e)) (λ ns. of_expression (with_names ns i) e) (InNames sc.bindings i (λ g env. IsAddress g sc d env e c rest))
   laid_address pay blocks sc p s i z (t.name l x) d n c rest a y h r m f k st = leaf_lies (home sc pay) i d pushes c rest _ _ k refl st (λ g v ns u. k)
   laid_address pay blocks sc p s i z (t.parens l e) d n c rest a y h r m f k st = laid_address pay blocks sc p (spot.past 1 s) i (parenthesised z) e d n c rest a y h r (omega arith) f k st
   laid_address pay blocks sc p s i z (t.unary l q.Contents e) d n c rest a y h r m f k st = laid_code pay blocks sc p (spot.past 1 s) i pushes e d n c rest a h.1 r (omega arith) f k st
@@ -502,7 +484,7 @@ mutual
   -- what is stored
   laid_store : (pay : ℕ) (blocks : BlocksLie pay) (sc : Scene) (p : Place) (s : Spot) (i : ℕ) (z : Role) (e : Expression) (d n : ℕ) (c rest : List Stmt) → Around sc p (d + 1) → assigned sc.bindings e ≡ true → Sound z sc.bindings p s e → Regular e
       → weight_of e ≤ pay → FoundParts sc.own sc.targets (parts_at (d + 1) n (lvalue_named sc.bindings p s e)) → c ≡ store_code sc.targets (d + 1) n (lvalue_named sc.bindings p s e) ++ rest → StandsAt sc.own (d + 1) c
-      → Lies (home sc pay) i (objects e) d rest (λ ns. of_expression (with_names ns i) e) (InNames sc.bindings i (λ g env. IsStore g sc (d + 1) env e c rest))
+      → Lies (home sc pay) i (objects e) d rest (kinds_at n (lvalue_named sc.bindings p s e)) (λ ns. of_expression (with_names ns i) e) (InNames sc.bindings i (λ g env. IsStore g sc (d + 1) env e c rest))
   laid_store pay blocks sc p s i z (t.name l x) d n c rest a y h r m f k st =
       record { on = passed sc.own (d + 1) d (Assign (variable sc.targets (meant (bound_in sc.bindings x)))) rest (written sc.own (d + 1) c _ k st) (omega arith); objects_are = no_bases (home sc pay) i _ (λ g v ns u. k) }
   laid_store pay blocks sc p s i z (t.parens l e) d n c rest a y h r m f k st = laid_store pay blocks sc p (spot.past 1 s) i (parenthesised z) e d n c rest a y h r (omega arith) f k st
@@ -632,7 +614,7 @@ mutual
       record {
         at = λ y. cond (same_place y (the_case (constant_word sc.bindings e))) c (done.at y);
         lies = lies_so (home sc pay) i _ d rest _ _
-            (λ g z v ns u. (n, c1, done.at, k, v ns u, label_at g sc d n c1 z.own st0, (λ y. ap (λ x. cond (same_place y (the_case x)) c (done.at y)) (sym (constants_agree ns sc.bindings i u e))))) done.lies;
+            (λ g z v ns u. (n, c1, done.at, k, v ns u, label_at g sc d n c1 z.own st0, (λ y. ap (λ x. cond (same_place y (the_case x)) c (done.at y)) (sym (constants_agree ns sc.bindings i u.0 e))))) done.lies;
         finds = finds_case sc.own sc.targets sc.bindings d n (h.1.0) (constant_in (known sc.bindings) e) (constant_word sc.bindings e) _ _ _ c done.at (constants_agree (names_of sc.bindings) sc.bindings 0 (known_agree sc.bindings) e) h.1.1 (constant_small sc.bindings a.around.words e r.0 h.1.0 h.1.1) found done.finds;
       }
   laid_act pay blocks sc p s i (t.default l a0) d n c rest a h r m f k st =
@@ -787,11 +769,11 @@ mutual
       let lc = alone_lies pay inside (i + objects a1 + objects b1) a0 (d + 2) nc kc body (Label (n + 2) ∷ next) (u0.number + 1) p.procedure a.around.same (let tx = in_light a0 in omega (arith, tx, m)) done in
       let mine : b.Variable p.procedure p.depth ≡ b.Variable sc.procedure d = ap₂ b.Variable a.around.same a.around.at in
       let i1 = i + objects a1 + objects b1 in
-      let lv = subst (λ z. Lies (record (home sc pay) { bindings = bind x.letters z sc.bindings }) i1 (objects_of_action a0) (d + 2) (Label (n + 2) ∷ next) (λ ns. of_action (in_scope a0 (with_names ns i1)) a0)
+      let lv = subst (λ z. Lies (record (home sc pay) { bindings = bind x.letters z sc.bindings }) i1 (objects_of_action a0) (d + 2) (Label (n + 2) ∷ next) (kinds_in nc kc) (λ ns. of_action (in_scope a0 (with_names ns i1)) a0)
       (InNames (bind x.letters z sc.bindings) i1 (λ g env. IsAlone g (record (in_loop (n + 2) (n + 3) (d + 2) sc) { bindings = bind x.letters z sc.bindings }) (d + 2) env a0 (u0.number + 1) body (Label (n + 2) ∷ next)))) mine lc in
       let foreign_first : List Named → List Named = λ ns. record { name = x.letters; sense = foreign } ∷ ns in
       let bv = bases_inside (home sc pay) (bind x.letters (b.Variable sc.procedure d) sc.bindings) i1 (objects_of_action a0) _ foreign_first
-      (λ g ns e w0. (agree_foreign sc.procedure d x.letters ns sc.bindings e, ((λ q bases frame grown. bound_named (there_in (home sc pay) q) (with_names ns 0) bases frame x.letters (b.Variable sc.procedure d) foreign tt (w0.0 q bases frame grown)), globals_foreign sc.procedure d x.letters ns sc.bindings w0.1))) lv.objects_are in
+      (λ g ns e w0. (agree_bound x.letters foreign (b.Variable sc.procedure d) ns sc.bindings refl refl e, (λ q bases frame grown. bound_named (there_in (home sc pay) q) (with_names ns 0) bases frame x.letters (b.Variable sc.procedure d) foreign tt (w0 q bases frame grown)))) lv.objects_are in
       let on4 = passed sc.own (d + 2) (d + 2) (Label (n + 2)) next lv.on refl in
       let on5 = passed sc.own (d + 2) (d + 2 + 1) (Load (Local d)) (Number (signed step) ∷ Dyadic two.Add ∷ Assign (Local d) ∷ Label n ∷ test) on4 refl in
       let on6 = passed sc.own (d + 2 + 1) (d + 2 + 1 + 1) (Number (signed step)) (Dyadic two.Add ∷ Assign (Local d) ∷ Label n ∷ test) on5 refl in
@@ -819,7 +801,7 @@ mutual
             test,
             v.0.0 ns u,
             v.0.1 ns u,
-            (λ object above. v.1 (record { name = x.letters; sense = cell object 0 } ∷ ns) (agree_variable sc.procedure d x.letters object ns sc.bindings u)),
+            (λ object above. v.1 (record { name = x.letters; sense = cell object 0 } ∷ ns) (agree_bound x.letters (cell object 0) (b.Variable sc.procedure d) ns sc.bindings refl (own_cell object 0 above) u)),
             refl,
             step_is ns sc.bindings i u h1 h.2,
             label_at g sc (d + 2) n test z.own on8,
@@ -920,7 +902,7 @@ mutual
       let fd = all.finds in
       record {
         at = all.at;
-        lies = record { on = all.lies.on; objects_are = subst (λ y. Bases (home sc pay) i y (λ ns. of_actions (with_names ns i) cs) (InNames sc.bindings i (λ g env. AreActs g sc d env cs all.at c rest))) same_number all.lies.objects_are };
+        lies = record { on = all.lies.on; objects_are = subst (λ y. Bases (home sc pay) i y (kinds_through n (commands_named sc.bindings p s cs)) (λ ns. of_actions (with_names ns i) cs) (InNames sc.bindings i (λ g env. AreActs g sc d env cs all.at c rest))) same_number all.lies.objects_are };
         finds = record { labels = fd.labels; chosen = fd.chosen; others = fd.others; default = fd.default; no_default = fd.no_default };
       }
   laid_act pay blocks sc p s i (t.block l (t.declare x xs) cs) d n c rest a h r m f k st = blocks sc p s i l x xs cs d n c rest a h r m f k st
@@ -1013,7 +995,7 @@ mutual
   -- the values that variables begin with
   pub laid_starts : (pay : ℕ) (blocks : BlocksLie pay) (sc : Scene) (p : Place) (s : Spot) (i : ℕ) (is : Starts) (d n : ℕ) (c rest : List Stmt) → Around sc p d → SoundStarted sc.bindings p s is → RegularStarts is → weight_started is ≤ pay
       → FoundParts sc.own sc.targets (parts_of_starts d n (starts_named sc.bindings p s is)) → c ≡ starts_code sc.targets d n (starts_named sc.bindings p s is) ++ rest → StandsAt sc.own d c
-      → Lies (home sc pay) i (objects_of_starts is) (behind_starts d (starts_named sc.bindings p s is)) rest (λ ns. of_starts (with_names ns i) is)
+      → Lies (home sc pay) i (objects_of_starts is) (behind_starts d (starts_named sc.bindings p s is)) rest (kinds_of_starts n (starts_named sc.bindings p s is)) (λ ns. of_starts (with_names ns i) is)
       (InNames sc.bindings i (λ g env. AreStarts g sc d env is c rest (behind_starts d (starts_named sc.bindings p s is)) (slots_of sc.bindings d is)))
       × Around sc (place_behind sc.bindings p is) (behind_starts d (starts_named sc.bindings p s is))
   laid_starts pay blocks sc p s i t.no_starts d n c rest a h r m f k st = (record { on = written sc.own d c rest k st; objects_are = no_bases (home sc pay) i _ (λ g y ns u. (k, refl, refl)) }, a)
@@ -1046,7 +1028,7 @@ mutual
       let ls = laid_starts pay blocks sc p1 s1 i is (d + size + 2) n c0 rest (around_deeper sc p d (words_of_start sc.bindings e + 1) (d + size + 2) (omega (arith, words)) on2.shallow a) h.1 r.1 (omega arith) f refl on2 in (
         record {
           on = ls.0.on;
-          objects_are = bases_so (home sc pay) i _ _ _ (λ g y v ns u. (size, c0, slots_of sc.bindings (d + size + 2) is, constants_agree ns sc.bindings i u e ∙ is_size, k1, v ns u, refl)) ls.0.objects_are;
+          objects_are = bases_so (home sc pay) i _ _ _ (λ g y v ns u. (size, c0, slots_of sc.bindings (d + size + 2) is, constants_agree ns sc.bindings i u.0 e ∙ is_size, k1, v ns u, refl)) ls.0.objects_are;
         },
         ls.1,
       )
@@ -1054,9 +1036,10 @@ mutual
   -- the definitions of a LET: values, and procedures that stand elsewhere in the section
   pub laid_defined : (pay : ℕ) (blocks : BlocksLie pay) (sc : Scene) (p : Place) (s : Spot) (i : ℕ) (ds : Definitions) (d n : ℕ) (c rest : List Stmt) → Around sc p d → SoundDefined sc.bindings p s ds → RegularDefinitions ds → weight_defined ds ≤ pay
       → FoundParts sc.own sc.targets (parts_of_definitions d n (definitions_named sc.bindings p s ds)) → c ≡ definitions_code sc.targets d n (definitions_named sc.bindings p s ds) ++ rest → StandsAt sc.own d c
-      → Lies (home sc pay) i (objects_of_definitions ds) (behind_definitions d (definitions_named sc.bindings p s ds)) rest (λ ns. of_definitions (with_names ns i) ds)
-      (InNames sc.bindings i (λ g env. AreDefined g sc d env ds c rest (behind_definitions d (definitions_named sc.bindings p s ds)) (spots_in sc.bindings p s d ds)))
-  laid_defined pay blocks sc p s i t.no_definitions d n c rest a h r m f k st = record { on = written sc.own d c rest k st; objects_are = no_bases (home sc pay) i _ (λ g y ns u. (k, refl, refl)) }
+      → Lies (home sc pay) i (objects_of_definitions ds) (behind_definitions d (definitions_named sc.bindings p s ds)) rest (kinds_of_definitions n (definitions_named sc.bindings p s ds)) (λ ns. of_definitions (with_names ns i) ds)
+      (λ g. WordsBased g.lasting sc.own sc.bindings p s i n ds
+      × InNames sc.bindings i (λ g env. AreDefined g sc d env ds c rest (behind_definitions d (definitions_named sc.bindings p s ds)) (spots_in sc.bindings p s d ds)) g)
+  laid_defined pay blocks sc p s i t.no_definitions d n c rest a h r m f k st = record { on = written sc.own d c rest k st; objects_are = no_bases (home sc pay) i _ (λ g y. (tt, λ ns u. (k, refl, refl))) }
   laid_defined pay blocks sc p s i (t.define (t.routine l x fs a0) ds) d n c rest a h r m f k st =
       let one = definition_named sc.bindings p s (t.routine l x fs a0) in
       let s1 : Spot = spot.behind_one_defined (t.routine l x fs a0) s in
@@ -1069,9 +1052,9 @@ mutual
       let first = n + labels_of_procedure (meant (bound_in sc.bindings x)) in
       let pl = routine_lies pay sc.section sc.own sc.targets sc.bindings s (i + 1) x fs a0 code.depth n (meant (bound_in sc.bindings x)) _ code.rest a.words (let light = in_light a0 in omega (arith, light, m))
       (λ c0 r0 doing k0 st0. laid_act pay blocks within p2 s2 (i + 1) a0 (length fs + 2) first c0 r0 doing h.0.2 r.0 (omega arith) own_found.1 k0 st0) refl code.stands in
-      let own_bases = procedure_bases pay sc.section sc.own sc.targets sc.bindings s.number x fs i (objects_of_action a0) (command a0) n pl h.0.0 own_found.0.2 in
+      let own_bases = procedure_bases pay sc.section sc.own sc.targets sc.bindings s.number x fs i (objects_of_action a0) (command a0) n _ pl h.0.0 own_found.0.2 in
       let others = laid_defined pay blocks sc p s1 (i + (1 + objects_of_action a0)) ds d (n + labels_of_definition one) c rest a h.1 r.1 (omega arith) (found_back sc.own sc.targets (parts_of_definition d n one) _ f) k st in
-      record { on = others.on; objects_are = bases_so (home sc pay) i _ _ _ (λ g y v ns u. v.1 ns u) (both_bases (home sc pay) i (1 + objects_of_action a0) (objects_of_definitions ds) _ _ own_bases others.objects_are) }
+      record { on = others.on; objects_are = bases_so (home sc pay) i _ _ _ (λ g y v. ((v.0, v.1.0), λ ns u. v.1.1 ns u)) (both_bases (home sc pay) i (1 + objects_of_action a0) (objects_of_definitions ds) _ _ own_bases others.objects_are) }
   laid_defined pay blocks sc p s i (t.define (t.function l x fs e) ds) d n c rest a h r m f k st =
       let one = definition_named sc.bindings p s (t.function l x fs e) in
       let s1 : Spot = spot.behind_one_defined (t.function l x fs e) s in
@@ -1084,9 +1067,9 @@ mutual
       let first = n + labels_of_procedure (meant (bound_in sc.bindings x)) in
       let pl = function_lies pay sc.section sc.own sc.targets sc.bindings s (i + 1) x fs e code.depth n (meant (bound_in sc.bindings x)) _ code.rest a.words (let light = of_light e in omega (arith, light, m))
       (λ c0 r0 around k0 st0. laid_code pay blocks within p2 s2 (i + 1) pushes e (length fs + 2) first c0 r0 around h.0.2 r.0 (omega arith) own_found.1 k0 st0) refl code.stands in
-      let own_bases = procedure_bases pay sc.section sc.own sc.targets sc.bindings s.number x fs i (objects e) (expression e) n pl h.0.0 own_found.0.2 in
+      let own_bases = procedure_bases pay sc.section sc.own sc.targets sc.bindings s.number x fs i (objects e) (expression e) n _ pl h.0.0 own_found.0.2 in
       let others = laid_defined pay blocks sc p s1 (i + (1 + objects e)) ds d (n + labels_of_definition one) c rest a h.1 r.1 (omega arith) (found_back sc.own sc.targets (parts_of_definition d n one) _ f) k st in
-      record { on = others.on; objects_are = bases_so (home sc pay) i _ _ _ (λ g y v ns u. v.1 ns u) (both_bases (home sc pay) i (1 + objects e) (objects_of_definitions ds) _ _ own_bases others.objects_are) }
+      record { on = others.on; objects_are = bases_so (home sc pay) i _ _ _ (λ g y v. ((v.0, v.1.0), λ ns u. v.1.1 ns u)) (both_bases (home sc pay) i (1 + objects e) (objects_of_definitions ds) _ _ own_bases others.objects_are) }
   laid_defined pay blocks sc p s i (t.define (t.variables l xs is) ds) d n c rest a h r m f k st =
       let one = definition_named sc.bindings p s (t.variables l xs is) in
       let named = starts_named sc.bindings p (spot.past (length xs) s) is in
@@ -1101,6 +1084,6 @@ mutual
       let others = laid_defined pay blocks sc p1 s1 (i + objects_of_starts is) ds d0 n0 c0 rest ls.1 h.1 r.1 (omega arith) (found_back sc.own sc.targets (parts_of_definition d n one) _ f) refl ls.0.on in
       record {
         on = others.on;
-        objects_are = bases_so (home sc pay) i _ _ _ (λ g y v ns u. (c0, d0, slots_of sc.bindings d is, spots_in sc.bindings p1 s1 d0 ds, v.0 ns u, v.1 ns u, refl))
+        objects_are = bases_so (home sc pay) i _ _ _ (λ g y v. (v.1.0, λ ns u. (c0, d0, slots_of sc.bindings d is, spots_in sc.bindings p1 s1 d0 ds, v.0 ns u, v.1.1 ns u, refl)))
             (both_bases (home sc pay) i (objects_of_starts is) (objects_of_definitions ds) _ _ ls.0.objects_are others.objects_are);
       }
