@@ -9,6 +9,12 @@ mod FilterLemmas
 mod SectionLemmas
 mod CompileLemmas
 mod SourceSectionLemmas
+mod OneTree
+mod SmallSymbols
+mod RegularTrees
+mod FitScopes
+mod SmallWords
+mod AcceptedTrees
 mod GenerateLemmas
 mod SourceLemmas
 mod OcodeEnds

@@ -10,12 +10,12 @@ use Rattle.bk_kit.specs.SourceSections.{HasTrees, IsRefused}
 use Rattle.bk_kit.specs.SourceMeaning.{MeaningRefuses}
 
 -- the first section of a text is one
-one_section : (text : List ℕ) (line : ℕ) (s t : Section) (trees others : List Declarations) → Accepted text line s trees → Accepted text line t others → s ≡ t
+pub one_section : (text : List ℕ) (line : ℕ) (s t : Section) (trees others : List Declarations) → Accepted text line s trees → Accepted text line t others → s ≡ t
 one_section text line s t trees others first second =
     let both = sym (section_is_lexed text line s first.tokens) ∙ section_is_lexed text line t second.tokens in cc
 
 -- what stands behind parts of one length
-behind : (a b x y : List ℕ) → length a ≡ length b → a ++ x ≡ b ++ y → x ≡ y
+pub behind : (a b x y : List ℕ) → length a ≡ length b → a ++ x ≡ b ++ y → x ≡ y
 behind [] [] x y as_long is = is
 behind [] (d ∷ b) x y as_long is = absurd cc
 behind (c ∷ a) [] x y as_long is = absurd cc
@@ -24,7 +24,7 @@ behind (c ∷ a) (d ∷ b) x y as_long is =
     let rest : a ++ x ≡ b ++ y = cc in
     behind a b x y shorter rest
 
-differ : (s t : Section) → s ≡ t → s.ended ≡ false → t.ended ≡ true → ⊥
+pub differ : (s t : Section) → s ≡ t → s.ended ≡ false → t.ended ≡ true → ⊥
 differ s t is open_end ended = let same : true ≡ false = sym ended ∙ sym (ap (λ (u : Section). u.ended) is) ∙ open_end in cc
 
 module _ (fault : SourceFault) (p q : List ℕ) (last : Section) (trees : List Declarations) (at_end : last.ended ≡ false) where
@@ -46,7 +46,7 @@ module _ (fault : SourceFault) (p q : List ℕ) (last : Section) (trees : List D
       (subst (λ l. AreAccepted l xs p) one_line first.3) second.3
       (subst (λ l. Accepted p (line_behind l xs) last trees) one_line accepts) refused
 
-refused_not_accepted : (source : List ℕ) (fault : SourceFault) (trees : List Declarations) → IsRefused source fault → HasTrees source trees → ⊥
+pub refused_not_accepted : (source : List ℕ) (fault : SourceFault) (trees : List Declarations) → IsRefused source fault → HasTrees source trees → ⊥
 refused_not_accepted source fault trees refused has =
     not_both fault has.part refused.part has.last has.last_trees has.at_end 1 has.sections refused.sections (sym has.whole ∙ refused.whole) has.accepted refused.accepted has.accepts refused.refused
 

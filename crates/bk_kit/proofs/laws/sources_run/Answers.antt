@@ -2,7 +2,7 @@ use Rattle.bk_gen.specs.BackEnd.{BackEndHolds, PartsAreWellPlaced, PartsWithoutS
 use Rattle.bk_simulation.specs.Simulation.{StepsDoWhatSourcesMean, StepsGoOnWithTheirSource, StartsWithTheirSource}
 use Rattle.bk_kit.proofs.MeaningLemmas.{RunLaws, meanings_run, meanings_too_small, meanings_startless}
 use Rattle.bk_kit.proofs.OneTree.{one_list_of_trees}
-use Rattle.bk_kit.proofs.RegularTrees.{trees_are_accepted}
+use Rattle.bk_kit.proofs.AcceptedTrees.{trees_are_accepted}
 use Rattle.bk_kit.proofs.SourceSectionLemmas.{meaning_refuses}
 use Rattle.bk_kit.proofs.laws.sources_run.Goals as goal
 
