@@ -1,6 +1,6 @@
 -- A source whose sections are assembled one after another, and then loaded and run.
 use Rattle.std.proofs.Common.{◌≡◌, ◌≢◌, inl, inr, ◌⊎◌, ℕ, ◌+◌, ◌≤◌, ◌<◌, ◌++◌, Bool, true, false, List, [], ◌∷◌, Option, None, Some, Result, Ok, Err, IfErr, map, arith, refl, sym, ap, subst, ◌∙◌, append-nil}
-use Rattle.std.specs.Prelude.{IsErr, IsTrue}
+use Rattle.std.specs.Prelude.{IsErr}
 use Rattle.std.proofs.lemmas.List.{map-append}
 use Rattle.bk_base.specs.Devices.{Begins}
 use Rattle.bk_base.specs.declared.limit.TheConstants.{INPUT_BYTES, STORE_MOST}
@@ -167,7 +167,7 @@ module _ (old now new : Option (List ℕ)) (ended : Bool) (taken taken' line : �
       all_bytes : c.next ≡ None → taken' < INPUT_BYTES → (rest : List ℕ) → Follows ended rest → AreBytes ((bytes_of gathered.passed.sections ++ text) ++ rest)
       all_bytes none short rest follows =
           let over = ends_with_source text line compiled.tokens ended (settles short) compiled.lexed_as (not_ended compiled.tokens (sym none ∙ compiled.next)) in
-          let nothing : rest ≡ [] = follows (subst IsTrue (sym over) tt) in
+          let nothing : rest ≡ [] = follows over in
           subst AreBytes (sym (append-nil (bytes_of gathered.passed.sections ++ text)) ∙ ap (λ r. (bytes_of gathered.passed.sections ++ text) ++ r) (sym nothing)) (bytes_both (bytes_of gathered.passed.sections) text gathered.bytes are)
 
       -- it is the last

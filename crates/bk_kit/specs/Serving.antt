@@ -5,6 +5,7 @@ use Rattle.bk_kit.specs.declared.kit_fault.KitFault.{KitFault}
 use Rattle.bk_kit.specs.declared.orders.Order.{Order}
 use Rattle.bk_kit.specs.declared.orders.Order.TheVariants.{Compile, Generate, Run, Interpret, Sizes}
 use Rattle.bk_kit.specs.Interpreting.{Streams, Interpreted, is_read}
+use Rattle.bk_kit.specs.Headline.{Headline}
 use Rattle.bk_kit.specs.Compiling.{Compiles}
 use Rattle.bk_kit.specs.Generating.{Generates}
 use Rattle.bk_kit.specs.RunningSource.{ReadsSource}
