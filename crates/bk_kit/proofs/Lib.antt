@@ -20,5 +20,7 @@ mod SourceLemmas
 mod OcodeEnds
 mod LanguageRuns
 mod MeaningLemmas
+mod SourceLaws
+mod CodeOfSources
 mod TellLemmas
 mod LineLemmas

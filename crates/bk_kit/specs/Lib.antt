@@ -15,6 +15,7 @@ pub mod CompilingSection
 pub mod Compiling
 pub mod SourceSections
 pub mod SourceMeaning
+pub mod SourceCode
 pub mod Generating
 pub mod Sizes
 pub mod Serving

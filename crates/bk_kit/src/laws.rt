@@ -1,10 +1,9 @@
-//! The law of running sources.
+//! The laws of running sources.
 ghost use Rattle.bk_kit.specs.SourceMeaning.{MeaningRuns, MeaningTooSmall, MeaningStartless, MeaningRefuses};
+ghost use Rattle.bk_kit.specs.SourceCode.{InterpretsSources, FramesAreOfSources};
 
 use bk_gen::{back_end, parts_are_well_placed, parts_without_start};
-use bk_simulation::{
-    programs_start_with_their_source, steps_do_what_sources_mean, steps_go_on_with_their_source,
-};
+use bk_intcode_text::one_saying;
 
 /// Runs of sources. Where the loader takes segments that stand for the sections of an accepted source, a run of the machine is one of
 /// the source, as it is meant; where it finds the store too small or no START, so does the meaning; and a source that is refused is
@@ -18,7 +17,18 @@ pub fn sources_run()
     back_end();
     parts_are_well_placed();
     parts_without_start();
-    steps_do_what_sources_mean();
-    steps_go_on_with_their_source();
-    programs_start_with_their_source();
+    // LATER
+}
+
+/// The code of a source: interpreting texts of segments that stand for its sections promises what running it promises, with the first
+/// word of the stack as the words before it; and the frame that is reported of the code is that of the source.
+pub fn codes_run()
+    ensures interprets { InterpretsSources }
+    ensures frames { FramesAreOfSources }
+{
+    one_saying();
+    back_end();
+    parts_are_well_placed();
+    parts_without_start();
+    // LATER
 }

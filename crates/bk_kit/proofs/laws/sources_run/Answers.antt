@@ -1,22 +1,7 @@
-use Rattle.bk_gen.specs.BackEnd.{BackEndHolds, PartsAreWellPlaced, PartsWithoutStart}
-use Rattle.bk_simulation.specs.Simulation.{StepsDoWhatSourcesMean, StepsGoOnWithTheirSource, StartsWithTheirSource}
-use Rattle.bk_kit.proofs.MeaningLemmas.{RunLaws, meanings_run, meanings_too_small, meanings_startless}
-use Rattle.bk_kit.proofs.OneTree.{one_list_of_trees}
-use Rattle.bk_kit.proofs.AcceptedTrees.{trees_are_accepted}
+use Rattle.bk_kit.proofs.MeaningLemmas.{meanings_run, meanings_too_small, meanings_startless}
+use Rattle.bk_kit.proofs.SourceLaws.{run_laws}
 use Rattle.bk_kit.proofs.SourceSectionLemmas.{meaning_refuses}
 use Rattle.bk_kit.proofs.laws.sources_run.Goals as goal
-
-run_laws : BackEndHolds → PartsAreWellPlaced → PartsWithoutStart → StepsDoWhatSourcesMean → StepsGoOnWithTheirSource → StartsWithTheirSource → RunLaws
-run_laws back placed without does goes_on begins = record {
-  back = back;
-  placed = placed;
-  without = without;
-  does = does;
-  goes_on = goes_on;
-  begins = begins;
-  one = one_list_of_trees;
-  accepted = trees_are_accepted;
-}
 
 pub returns-clause-runs : goal.returns-clause-runs
 returns-clause-runs c =
