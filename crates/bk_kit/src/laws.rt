@@ -4,6 +4,9 @@ ghost use Rattle.bk_kit.specs.SourceCode.{InterpretsSources, FramesAreOfSources}
 
 use bk_gen::{back_end, parts_are_well_placed, parts_without_start};
 use bk_intcode_text::one_saying;
+use bk_simulation::{
+    programs_start_with_their_source, steps_do_what_sources_mean, steps_go_on_with_their_source,
+};
 
 /// Runs of sources. Where the loader takes segments that stand for the sections of an accepted source, a run of the machine is one of
 /// the source, as it is meant; where it finds the store too small or no START, so does the meaning; and a source that is refused is
@@ -17,7 +20,9 @@ pub fn sources_run()
     back_end();
     parts_are_well_placed();
     parts_without_start();
-    // LATER
+    steps_do_what_sources_mean();
+    steps_go_on_with_their_source();
+    programs_start_with_their_source();
 }
 
 /// The code of a source: interpreting texts of segments that stand for its sections promises what running it promises, with the first
@@ -30,5 +35,7 @@ pub fn codes_run()
     back_end();
     parts_are_well_placed();
     parts_without_start();
-    // LATER
+    steps_do_what_sources_mean();
+    steps_go_on_with_their_source();
+    programs_start_with_their_source();
 }
