@@ -31,6 +31,7 @@ use Rattle.bk_kit.specs.SourceSections.{HasParts}
 use Rattle.bk_kit.specs.SourceMeaning as meaning
 use Rattle.bk_kit.specs.SourceMeaning.{meanings_with}
 use Rattle.bk_kit.specs.SourceCode.{IsCodeOf, segments_of, InterpretsSources, FramesAreOfSources}
+use Rattle.bk_kit.proofs.SameParts.{AreFine, same_parts}
 use Rattle.bk_kit.proofs.MeaningLemmas.{RunLaws, source_run, too_small, startless}
 
 -- ---- a text of segments says one thing
@@ -47,13 +48,12 @@ module _ (one : SayOneThing) where
   not_none : (a : List Item) (r : List (List ℕ)) → IsSegment a → [] ≡ map item_text a ++ r → ⊥
   not_none a r first is = let e : nothing ≡ segment a = one [] nothing (segment a) refl (r, first, is) in cc
 
-  pub same_parts : (xs ys : List (List Item)) → AreWhole intcode xs → AreWhole intcode ys → all_words intcode xs ≡ all_words intcode ys → xs ≡ ys
-  same_parts [] [] are also is = refl
-  same_parts [] (b ∷ ys) are also is = absurd (not_none b (all_words intcode ys) also.0 is)
-  same_parts (a ∷ xs) [] are also is = absurd (not_none a (all_words intcode xs) are.0 (sym is))
-  same_parts (a ∷ xs) (b ∷ ys) are also is =
-      let h = same_first a b (all_words intcode xs) (all_words intcode ys) are.0 also.0 is in
-      ap (λ x. x ∷ xs) h.0 ∙ ap (λ x. b ∷ x) (same_parts xs ys are.1 also.1 h.1)
+  same_segments_read : (xs ys : List (List Item)) → AreWhole intcode xs → AreWhole intcode ys → all_words intcode xs ≡ all_words intcode ys → xs ≡ ys
+  same_segments_read xs ys are also is = same_parts intcode (λ x. Unit {0}) (λ a b r s w x v y e. same_first a b r s w v e) (λ a r w x e. not_none a r w e) xs ys are (each_fine xs) also (each_fine ys) is
+    where
+      each_fine : (xs : List (List Item)) → AreFine (λ x. Unit {0}) xs
+      each_fine [] = tt
+      each_fine (x ∷ xs) = (tt, each_fine xs)
 
   -- nor is it refused
   pub not_refused : (xs before : List (List Item)) (rest : List (List ℕ)) (item : ℕ) (kind : IntcodeKind) → AreWhole intcode xs → AreWhole intcode before
@@ -154,7 +154,7 @@ module _ (laws : RunLaws) (one : SayOneThing) (source code : List ℕ) (is : IsC
   read_as : (segments : List (List Item)) → Stands intcode (parts segments) (Some code) new ended → segments ≡ all
   read_as segments stands =
       let says = says_of (parts segments) stands in
-      same_parts one segments all says.0 (whole_segments is.generated is.are) (sym says.1)
+      same_segments_read one segments all says.0 (whole_segments is.generated is.are) (sym says.1)
 
   abbrev own_parts : List Part
   own_parts = parts_of is.generated is.are

@@ -21,6 +21,8 @@ mod OcodeEnds
 mod LanguageRuns
 mod MeaningLemmas
 mod SourceLaws
+mod SameParts
 mod CodeOfSources
+mod FilterCode
 mod TellLemmas
 mod LineLemmas

@@ -87,14 +87,12 @@ stand_both all more codes others first second = record {
 -- Accepted sections were read, and these segments stand for them; the source has not failed.
 pub record Gathered (old now : Option (List ℕ)) (taken line : ℕ) (all : List (List Item)) (faults : ℕ) : Type 0 where
   pub passed : Passed old now taken line
-  pub bytes : AreBytes (bytes_of passed.sections)
   pub stand : Stand all (codes_of passed.sections)
   pub readable : (taken < INPUT_BYTES) ⊎ (faults ≡ 0)
 
 pub gathered_none : (known : Option (List ℕ)) (faults : ℕ) → Gathered known known 0 1 [] faults
 gathered_none known faults = record {
   passed = passed_none known;
-  bytes = λ k byte is. absurd (let h : None ≡ Some byte = is in cc);
   stand = record { parts = []; segments_are = refl; stmts_are = refl };
   readable = inl (omega arith);
 }
@@ -147,7 +145,7 @@ module _ (old now new : Option (List ℕ)) (ended : Bool) (taken taken' line : �
     not_compiled Read refuses = absurd refuses
     not_compiled Write refuses = absurd refuses
 
-    module _ (are : AreBytes text) (c : CompiledSection) (compiled : Compiled c text line) (all' : List (List Item)) (generated : Generated all all' (codes_in c.code)) where
+    module _ (c : CompiledSection) (compiled : Compiled c text line) (all' : List (List Item)) (generated : Generated all all' (codes_in c.code)) where
       stand : Stand all' (codes_of gathered.passed.sections ++ codes_in c.code)
       stand = subst (λ s. Stand s (codes_of gathered.passed.sections ++ codes_in c.code)) (sym generated.1)
           (stand_both all generated.0 (codes_of gathered.passed.sections) (codes_in c.code) gathered.stand generated.2)
@@ -158,7 +156,6 @@ module _ (old now new : Option (List ℕ)) (ended : Bool) (taken taken' line : �
           let more = passed_on old now new taken taken' line gathered.passed text here c compiled next some in
           record {
             passed = more.0;
-            bytes = subst AreBytes (sym more.2) (bytes_both (bytes_of gathered.passed.sections) text gathered.bytes are);
             stand = subst (Stand all') (sym more.1) stand;
             readable = inr none;
           }
@@ -168,7 +165,7 @@ module _ (old now new : Option (List ℕ)) (ended : Bool) (taken taken' line : �
       all_bytes none short rest follows =
           let over = ends_with_source text line compiled.tokens ended (settles short) compiled.lexed_as (not_ended compiled.tokens (sym none ∙ compiled.next)) in
           let nothing : rest ≡ [] = follows over in
-          subst AreBytes (sym (append-nil (bytes_of gathered.passed.sections ++ text)) ∙ ap (λ r. (bytes_of gathered.passed.sections ++ text) ++ r) (sym nothing)) (bytes_both (bytes_of gathered.passed.sections) text gathered.bytes are)
+          subst AreBytes (sym (append-nil (bytes_of gathered.passed.sections ++ text)) ∙ ap (λ r. (bytes_of gathered.passed.sections ++ text) ++ r) (sym nothing)) (bytes_both (bytes_of gathered.passed.sections) text gathered.passed.bytes compiled.bytes)
 
       -- it is the last
       pub is_last : c.next ≡ None → Assembled all' old new ended

@@ -1,5 +1,7 @@
--- The code of a source: texts of segments that stand for its sections, as `generate_all` writes them, and what interpreting it comes to.
-use Rattle.std.specs.Prelude.{◌≡◌, ◌≢◌, ℕ, ◌<◌, ◌≤◌, Bool, IsTrue, List, [], Option, Some, Result, length, map}
+-- The code of a source: texts of segments that stand for its sections, as the two filters write them one after the other, and what
+-- interpreting it comes to.
+use Rattle.std.specs.Prelude.{◌≡◌, ◌≢◌, ℕ, ◌<◌, ◌≤◌, Bool, IsTrue, List, [], Option, Some, Result, Ok, length, map}
+use Rattle.std.specs.Io.KnownBytes.{Appends}
 use Rattle.bk_base.specs.declared.limit.TheConstants.{INPUT_BYTES, STORE_MOST}
 use Rattle.bk_base.specs.declared.run_end.End.{End}
 use Rattle.bk_intcode.specs.declared.item.Item.{Item}
@@ -7,7 +9,10 @@ use Rattle.bk_intcode.specs.Placement.{SEGMENTS, stack_start, greatest_frame}
 use Rattle.bk_syntax.specs.Tree.{Declarations}
 use Rattle.bk_kit.specs.declared.kit_fault.KitFault.{KitFault}
 use Rattle.bk_kit.specs.Headline.{Keeps}
-use Rattle.bk_kit.specs.Generating.{Generated, AreGenerated, sections_of, texts_of}
+use Rattle.bk_kit.specs.Telling.{Output}
+use Rattle.bk_kit.specs.ReadingSource.{EachSource}
+use Rattle.bk_kit.specs.Compiling.{Compiles}
+use Rattle.bk_kit.specs.Generating.{Generated, AreGenerated, sections_of, texts_of, Generates}
 use Rattle.bk_kit.specs.Interpreting.{Streams, Interpreted}
 use Rattle.bk_kit.specs.Sources.{codes_of_trees}
 use Rattle.bk_kit.specs.SourceSections.{HasTrees}
@@ -22,8 +27,20 @@ pub record IsCodeOf (source code : List ℕ) : Type 0 where
   pub sections : sections_of generated ≡ codes_of_trees trees
   pub text : code ≡ texts_of generated
 
+-- generating from this text writes the code of this source
+abbrev pub WritesCode : List ℕ → List ℕ → Type 0
+WritesCode source text =
+    (left : Option (List ℕ)) (ended : Bool) (faults : ℕ) (before after : Output) (done : Unit {0}) → length text < INPUT_BYTES → (IsTrue ended → left ≡ Some [])
+    → Generates (Ok done) (Some text) left ended faults before after → (code : List ℕ) × IsCodeOf source code × Appends before.taken after.taken code
+
 abbrev pub segments_of : List Generated → List (List Item)
 segments_of generated = map (λ (g : Generated). g.items) generated
+
+-- The filters, one after the other. Where `compile` is answered Ok, what it wrote is a text; and where `generate_all` is answered Ok on a
+-- device that holds just this text, what it wrote is the code of the source.
+abbrev pub FiltersWriteCode : Type 0
+FiltersWriteCode = (old new : Option (List ℕ)) (ended : Bool) (reads : ℕ) (before after : Output) (done : Unit {0}) → Compiles (Ok done) old new ended reads before after
+    → EachSource old new ended (λ source. (text : List ℕ) × Appends before.taken after.taken text × WritesCode source text)
 
 -- Interpreting the code of a source, where the device holds just that, promises of the source what running it does; the words before
 -- the stack are those up to its first word.

@@ -1,12 +1,12 @@
 //! The laws of running sources.
 ghost use Rattle.bk_kit.specs.SourceMeaning.{MeaningRuns, MeaningTooSmall, MeaningStartless, MeaningRefuses};
-ghost use Rattle.bk_kit.specs.SourceCode.{InterpretsSources, FramesAreOfSources};
+ghost use Rattle.bk_kit.specs.SourceCode.{FiltersWriteCode, InterpretsSources, FramesAreOfSources};
 
 use bk_gen::{back_end, parts_are_well_placed, parts_without_start};
-use bk_intcode_text::one_saying;
 use bk_simulation::{
     programs_start_with_their_source, steps_do_what_sources_mean, steps_go_on_with_their_source,
 };
+use bk_trans::scheme_is_accepted;
 
 /// Runs of sources. Where the loader takes segments that stand for the sections of an accepted source, a run of the machine is one of
 /// the source, as it is meant; where it finds the store too small or no START, so does the meaning; and a source that is refused is
@@ -25,13 +25,21 @@ pub fn sources_run()
     programs_start_with_their_source();
 }
 
+/// The two filters, one after the other, write the code of a source: texts of segments that stand for its sections.
+pub fn filters_write_code()
+    ensures { FiltersWriteCode }
+{
+    scheme_is_accepted();
+    bk_ocode::one_saying();
+}
+
 /// The code of a source: interpreting texts of segments that stand for its sections promises what running it promises, with the first
 /// word of the stack as the words before it; and the frame that is reported of the code is that of the source.
 pub fn codes_run()
     ensures interprets { InterpretsSources }
     ensures frames { FramesAreOfSources }
 {
-    one_saying();
+    bk_intcode_text::one_saying();
     back_end();
     parts_are_well_placed();
     parts_without_start();

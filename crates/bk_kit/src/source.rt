@@ -1,7 +1,6 @@
 //! Running a source.
 ghost use Rattle.std.specs.Prelude.{◌≡◌, ◌≤◌, IfOk, IfErr, OnOk, OnErr, map, if◌then◌else◌};
 ghost use Rattle.bk_base.specs.declared.limit.TheConstants.{STORE_LEAST, STORE_MOST};
-ghost use Rattle.bk_ocode.specs.StmtRange.{AreBytes};
 ghost use Rattle.bk_intcode.specs.SegmentItems.{items_of};
 ghost use Rattle.bk_kit.specs.Interpreting.{is_read};
 ghost use Rattle.bk_kit.specs.CompilingSection.{codes_in};
@@ -37,11 +36,6 @@ fn push_segment(
     }
 }
 
-/// Bytes are such, as their type has it.
-fn are_bytes(bytes: &[u8])
-    ensures { AreBytes bytes.now }
-{}
-
 /// The segments of all sections of a source that have symbols. The text, the tree and the code of one section are held, and
 /// dropped before the next is read.
 fn assemble<C: ByteIn>(alloc: Global, source: &mut C) -> Result<Vec<Intcode>, KitFault>
@@ -55,9 +49,7 @@ fn assemble<C: ByteIn>(alloc: Global, source: &mut C) -> Result<Vec<Intcode>, Ki
     let mut line = Line::first();
     loop {
         let text = read_section(alloc, source, &mut taken)?;
-        let bytes = text.as_slice();
-        are_bytes(bytes);
-        let section = compile_section(alloc, bytes, line)?;
+        let section = compile_section(alloc, text.as_slice(), line)?;
         let Ok(()) = push_segment(alloc, &section.code, &mut segments) else {
             return Err(KitFault::Memory);
         };

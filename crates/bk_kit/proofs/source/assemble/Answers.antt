@@ -1,5 +1,4 @@
 use Rattle.std.proofs.Common.{◌≡◌, subst, arith, ℕ, List, IfErr, rules}
-use Rattle.bk_ocode.specs.StmtRange.{AreBytes}
 use Rattle.bk_kit.specs.CompilingSection.{Compiled, Refuses}
 use Rattle.bk_kit.proofs.PassedSections.{some_taken}
 use Rattle.bk_kit.proofs.SourceLemmas.{gathered_none, not_read, no_memory, not_compiled, goes_on, is_last, stops_reading, fails_as}
@@ -24,7 +23,7 @@ returns-in_err-text-clause-delivered g c =
 pub returns-in_err-section-clause-refused : goal.returns-in_err-section-clause-refused
 returns-in_err-section-clause-refused g c =
     let read = c.in_ok-text.ensures.read in
-    let refuses = subst (λ (t : List ℕ). Refuses c.in_err-section.field-0.0 t c.loop-segments.line) c.as_slice-bytes.ensures.value c.in_err-section.ensures.refuses in
+    let refuses = subst (λ (t : List ℕ). Refuses c.in_err-section.field-0.0 t c.loop-segments.line) c.as_slice.ensures.value c.in_err-section.ensures.refuses in
     let refused = not_compiled _ _ _ _ _ c.read_section.new.taken c.loop-segments.line _ _ c.loop-segments.invariant c.in_ok-text.text.items read.0 c.read_section.ensures.within read.1 c.in_err-section.field-0.0 refuses in
     search (refused, c.from_residual-in_err-section.ensures, rules)
 
@@ -36,20 +35,20 @@ returns-in_default-clause-refused g c =
 pub returns-in-None-clause-assembled : goal.returns-in-None-clause-assembled
 returns-in-None-clause-assembled g c =
     let read = c.in_ok-text.ensures.read in
-    let compiled = subst (λ (t : List ℕ). Compiled c.in_ok-section.section t c.loop-segments.line) c.as_slice-bytes.ensures.value c.in_ok-section.ensures.compiled in
+    let compiled = subst (λ (t : List ℕ). Compiled c.in_ok-section.section t c.loop-segments.line) c.as_slice.ensures.value c.in_ok-section.ensures.compiled in
     is_last _ _ _ _ _ c.read_section.new.taken c.loop-segments.line _ _ c.loop-segments.invariant c.in_ok-text.text.items read.0 c.read_section.ensures.within read.1
-    (subst AreBytes c.as_slice-bytes.ensures.value c.are_bytes.ensures) c.in_ok-section.section compiled _ c.in-Ok.ensures.generated c.in-None.is
+    c.in_ok-section.section compiled _ c.in-Ok.ensures.generated c.in-None.is
 
 pub loop-segments-smaller : goal.loop-segments-smaller
 loop-segments-smaller g c =
     let read = c.in_ok-text.ensures.read in
-    let compiled = subst (λ (t : List ℕ). Compiled c.in_ok-section.section t c.loop-segments.line) c.as_slice-bytes.ensures.value c.in_ok-section.ensures.compiled in
+    let compiled = subst (λ (t : List ℕ). Compiled c.in_ok-section.section t c.loop-segments.line) c.as_slice.ensures.value c.in_ok-section.ensures.compiled in
     let more = some_taken _ _ _ _ c.read_section.new.taken c.loop-segments.line c.loop-segments.invariant.passed c.in_ok-text.text.items read.0 c.in_ok-section.section compiled c.in-Some.next c.in-Some.is in
     omega (arith, more, c.read_section.ensures.within)
 
 pub loop-segments-preserved : goal.loop-segments-preserved
 loop-segments-preserved g c =
     let read = c.in_ok-text.ensures.read in
-    let compiled = subst (λ (t : List ℕ). Compiled c.in_ok-section.section t c.loop-segments.line) c.as_slice-bytes.ensures.value c.in_ok-section.ensures.compiled in
+    let compiled = subst (λ (t : List ℕ). Compiled c.in_ok-section.section t c.loop-segments.line) c.as_slice.ensures.value c.in_ok-section.ensures.compiled in
     goes_on _ _ _ _ _ c.read_section.new.taken c.loop-segments.line _ _ c.loop-segments.invariant c.in_ok-text.text.items read.0 c.read_section.ensures.within read.1
-    (subst AreBytes c.as_slice-bytes.ensures.value c.are_bytes.ensures) c.in_ok-section.section compiled _ c.in-Ok.ensures.generated c.in-Some.next _ c.in-Some.is (c.in_ok-text.ensures.failures c.loop-segments.invariant.readable)
+    c.in_ok-section.section compiled _ c.in-Ok.ensures.generated c.in-Some.next _ c.in-Some.is (c.in_ok-text.ensures.failures c.loop-segments.invariant.readable)
