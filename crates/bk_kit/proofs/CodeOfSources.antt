@@ -181,7 +181,7 @@ module _ (laws : RunLaws) (one : SayOneThing) (source code : List ℕ) (is : IsC
   interprets (Err TooSmall) before after said =
       let e : said.0.0 ≡ segments own_parts = read_as said.0.0 said.0.1 ∙ sym same in
       let kept = too_small laws image_of own_parts source has fits steps words before (subst (λ s. words < stack_start SEGMENTS s + 16) e said.0.2) in
-      (kept.0, kept.1, said.1)
+      (kept.0, kept.1, kept.2, said.1)
   interprets (Err NoStart) before after said =
       let e : said.0.0 ≡ segments own_parts = read_as said.0.0 said.0.1 ∙ sym same in
       let room = subst (λ s. stack_start SEGMENTS s + 16 ≤ words) e said.0.2 in

@@ -170,6 +170,7 @@ module _ (laws : RunLaws) (image_of : List Declarations → ℕ) (parts : List P
   pub too_small : (streams : Streams) → words < image parts + 16 → Keeps language source (Err TooSmall) steps words streams streams
   too_small streams small = (
     (trees, taken.1),
+    (λ holds. not_small 0 (subst (λ l. HasWords (image_of l) l 0 words) (same_trees holds.0 holds.1) holds.2) small),
     (λ input. (
       (λ enough. not_small (subst (λ l. EnoughToEnd l input (image_of l) steps words) (same_trees enough.0 enough.1) enough.2).calls (subst (λ l. EnoughToEnd l input (image_of l) steps words) (same_trees enough.0 enough.1) enough.2).has_words small),
       (λ turns enough. not_small (subst (λ l. EnoughToGo l input (image_of l) turns steps words) (same_trees enough.0 enough.1) enough.2).calls (subst (λ l. EnoughToGo l input (image_of l) turns steps words) (same_trees enough.0 enough.1) enough.2).has_words small),

@@ -103,6 +103,7 @@ meanings_with image = record {
   Startless = λ source. (trees : List Declarations) × HasTrees source trees × HasNoStart trees;
   Ends = λ source input taken bytes end. (trees : List Declarations) × HasTrees source trees × ((turns : ℕ) × MeaningEnds trees input turns taken bytes end);
   GoesOn = λ source input turns bytes. (trees : List Declarations) × HasTrees source trees × MeaningGoesOn trees input turns bytes;
+  Holds = λ source words. (trees : List Declarations) × HasTrees source trees × HasWords (image trees) trees 0 words;
   Enough = λ source input steps words. (trees : List Declarations) × HasTrees source trees × EnoughToEnd trees input (image trees) steps words;
   EnoughFor = λ source input turns steps words. (trees : List Declarations) × HasTrees source trees × EnoughToGo trees input (image trees) turns steps words;
 }
