@@ -76,7 +76,14 @@ pub mod Renamed
 pub mod RenamedLets
 pub mod Weights
 pub mod LetWords
-pub mod LaidForms
+pub mod LaidCalls
+pub mod LaidValues
+pub mod LaidAssigned
+pub mod LaidSimple
+pub mod LaidFors
+pub mod LaidActs
+pub mod LaidValofs
+pub mod LaidDefinitions
 pub mod LaidDeclarations
 pub mod LaidBlocks
 pub mod LaidProcedures
