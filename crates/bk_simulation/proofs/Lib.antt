@@ -75,3 +75,4 @@ pub mod LaidForms
 pub mod LaidProcedures
 pub mod SectionParts
 pub mod OneBehindAnother
+pub mod LastingKinds

@@ -18,10 +18,10 @@ mod Cases
 mod Forms
 mod Marked
 mod Sections
-mod Scopes
+pub mod Scopes
 mod Told
 mod Bodies
-mod Nested
-mod Numbered
+pub mod Nested
+pub mod Numbered
 mod Words
 mod Accepted
