@@ -18,10 +18,10 @@ mod Cases
 mod Forms
 mod Marked
 mod Sections
-pub mod Scopes
+mod Scopes
 mod Told
 mod Bodies
-pub mod Nested
-pub mod Numbered
+mod Nested
+mod Numbered
 mod Words
 mod Accepted
