@@ -21,7 +21,8 @@ use Rattle.bk_simulation.proofs.Leaves.{same_number}
 use Rattle.bk_simulation.proofs.ListPlaces.{get_first}
 use Rattle.bk_simulation.proofs.Sought.{with_names}
 use Rattle.bk_simulation.proofs.Held.{InData}
-use Rattle.bk_simulation.proofs.Standing.{Agree, StandsAt}
+use Rattle.bk_simulation.proofs.NamesAgree.{Agree}
+use Rattle.bk_simulation.proofs.Standing.{StandsAt}
 use Rattle.bk_simulation.proofs.LaidExpressions.{HasWords, constants_agree}
 use Rattle.bk_simulation.proofs.Constants.{constant_small}
 
@@ -73,10 +74,10 @@ pub words_small : (bs : List Binding) (es : Expressions) → HasWords bs → Reg
 words_small bs t.none h r w = tt
 words_small bs (t.more e es) h r w = let x = w.0 in (subst (λ y. worth y < 2 ^ 32) (sym x.1) (constant_small bs h e r.0 x.0 x.1), words_small bs es h r.1 w.1)
 
-worth_is : (y : Option ℕ) → unwrap_or y 0 ≡ worth y
+pub worth_is : (y : Option ℕ) → unwrap_or y 0 ≡ worth y
 worth_is None = refl
 worth_is (Some w) = refl
 
 pub words_agree : (ns : List Named) (bs : List Binding) (i : ℕ) (es : Expressions) → Agree ns bs → constant_words (with_names ns i) es ≡ words_named bs es
 words_agree ns bs i t.none a = refl
-words_agree ns bs i (t.more e es) a = ap₂ (λ x xs. x ∷ xs) (ap (λ y. unwrap_or y 0) (constants_agree ns bs i a e) ∙ worth_is (constant_word bs e)) (words_agree ns bs i es a)
+words_agree ns bs i (t.more e es) a = ap₂ (λ x xs. x ∷ xs) (ap (λ y. unwrap_or y 0) (constants_agree ns bs i a.0 e) ∙ worth_is (constant_word bs e)) (words_agree ns bs i es a)

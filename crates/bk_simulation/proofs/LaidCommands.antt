@@ -28,14 +28,16 @@ use Rattle.bk_trans.specs.Scheme.{goal_in, cases, cases_through, default_in, def
 use Rattle.bk_meaning.specs.Environment.{Named, Sense, label, bind_each, sense_in, word_named, global_named, labelled, objects_of_each, objects_of_action, objects_of_actions}
 use Rattle.bk_meaning.specs.Seeking.{Sought, the_label, the_case, the_default, same_place, stands_in, stands_in_one}
 use Rattle.bk_meaning.specs.Scopes.{alone}
+use Rattle.bk_trans.proofs.Scopes.{AllFound}
 use Rattle.bk_simulation.proofs.Sizes.{turns_in}
 use Rattle.bk_simulation.proofs.Leaves.{same_number}
 use Rattle.bk_simulation.proofs.Sought.{with_names, label_stands}
 use Rattle.bk_simulation.proofs.Laid.{Scene, in_loop, in_switch, owning, Stretch, ByTurns, AreFrom, AreStores, AreActs, IsAct, IsAlone}
 use Rattle.bk_meaning.specs.Lasting.{of_each, of_action, of_actions, in_scope}
 use Rattle.bk_simulation.proofs.NamesBound.{labels_named}
-use Rattle.bk_simulation.proofs.Standing.{Agree, AgreeGlobals, global_of, there_in, bases_inside, bases_of, StandsAt, first_of as first_at, home, Bases, bases_so, Lies}
-use Rattle.bk_simulation.proofs.LaidExpressions.{HasWords, Around, AllFound, known, InNames}
+use Rattle.bk_simulation.proofs.NamesAgree.{Agree, agree_bound}
+use Rattle.bk_simulation.proofs.Standing.{there_in, bases_inside, bases_of, StandsAt, first_of as first_at, home, Bases, bases_so, Lies}
+use Rattle.bk_simulation.proofs.LaidExpressions.{HasWords, Around, known, InNames}
 
 -- What stands around a command: an expression's, and the exits that there are.
 pub record Doing (sc : Scene) (p : Place) (d : ℕ) : Type 0 where
@@ -233,11 +235,7 @@ words_variable j d x bs h y v e = picked (bytes_eq x y) e
 pub agree_labels : (k n : ℕ) (xs : List (List ℕ)) (ns : List Named) (bs : List Binding) (i : ℕ) → Agree ns bs
     → Agree (bind_each xs label (with_names ns i)).names (labels_in_scope k n xs bs) × ((bind_each xs label (with_names ns i)).next ≡ i)
 agree_labels k n [] ns bs i a = (a, refl)
-agree_labels k n (x ∷ xs) ns bs i a = agree_labels k (n + 1) xs (record { name = x; sense = label } ∷ ns) (bind x (b.Label k n) bs) i (λ y. picked (bytes_eq x y) y)
-  where
-    picked : (q : Bool) (y : List ℕ) → word_named (cond q (Some label) (sense_in ns y)) ≡ named_word (cond q (Some (b.Label k n)) (bound_in bs y))
-    picked true y = refl
-    picked false y = a y
+agree_labels k n (x ∷ xs) ns bs i a = agree_labels k (n + 1) xs (record { name = x; sense = label } ∷ ns) (bind x (b.Label k n) bs) i (agree_bound x label (b.Label k n) ns bs refl refl a)
 
 cond_same : {A : Type 0} (q : Bool) (x : A) → x ≡ cond q x x
 cond_same true x = refl
@@ -246,14 +244,6 @@ cond_same false x = refl
 or_none : (q : Bool) → (q || false) ≡ true → q ≡ true
 or_none true e = refl
 or_none false e = e
-
-globals_labels : (k n : ℕ) (xs : List (List ℕ)) (ns : List Named) (bs : List Binding) → AgreeGlobals ns bs → AgreeGlobals (bind_each xs label (with_names ns 0)).names (labels_in_scope k n xs bs)
-globals_labels k n [] ns bs a = a
-globals_labels k n (x ∷ xs) ns bs a = globals_labels k (n + 1) xs (record { name = x; sense = label } ∷ ns) (bind x (b.Label k n) bs) (λ y. picked (bytes_eq x y) y)
-  where
-    picked : (q : Bool) (y : List ℕ) → global_named (cond q (Some label) (sense_in ns y)) ≡ global_of (cond q (Some (b.Label k n)) (bound_in bs y))
-    picked true y = refl
-    picked false y = a y
 
 -- names bound to one sense
 pub names_bound : (xs : List (List ℕ)) (m : Sense) (ns : List Named) (i : ℕ) → bind_each xs m (with_names ns i) ≡ with_names (bind_each xs m (with_names ns 0)).names i
@@ -271,7 +261,7 @@ alone_lies pay sc i a d n k c rest j q same size done =
     let within = owning j (alone a) sc in
     let h = home sc pay in
     let inside = bases_inside h within.bindings i (objects_of_action a) _ (λ ns. (bind_each xs label (with_names ns 0)).names)
-    (λ g ns u v. ((agree_labels sc.procedure j xs ns sc.bindings 0 u).0, ((λ k bases frame grown. record { each = (labels_named xs (there_in h sc.procedure) (with_names ns 0) bases frame j (v.0 sc.procedure bases frame grown)).each }), globals_labels sc.procedure j xs ns sc.bindings v.1))) done2.lies.objects_are in
+    (λ g ns u v. ((agree_labels sc.procedure j xs ns sc.bindings 0 u).0, (λ k bases frame grown. record { each = (labels_named xs (there_in h sc.procedure) (with_names ns 0) bases frame j (v sc.procedure bases frame grown)).each }))) done2.lies.objects_are in
     let said = bases_of h i (objects_of_action a) _ (λ ns. of_action (in_scope a (with_names ns i)) a) _ (λ ns. ap (λ e. of_action e a) (sym (names_bound xs label ns i))) inside in
     record {
       on = done2.lies.on;

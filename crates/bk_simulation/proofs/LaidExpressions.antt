@@ -28,12 +28,14 @@ use Rattle.bk_trans.specs.Program as term
 use Rattle.bk_trans.specs.Naming.{term_named, condition_named}
 use Rattle.bk_trans.specs.Parts.{Part, target_of, parts, parts_if}
 use Rattle.bk_trans.specs.Scheme.{goal, goal_of, push, infix_code, truth_value, value_code, jump_code, procedure_code, data_code}
+use Rattle.bk_trans.proofs.Scopes.{AllFound}
 use Rattle.bk_meaning.specs.Environment.{Named, Sense, constant, label, Environment, sense_in, word_named, constant_in}
 use Rattle.bk_meaning.specs.Seeking.{Sought, the_label, the_case, the_default, same_place, is_label, stands_in, stands_in_one}
 use Rattle.bk_simulation.proofs.Sought.{with_names}
 use Rattle.bk_simulation.proofs.Laid.{Setting, Scene, Aim, pushes, jumps, ending}
 use Rattle.bk_meaning.specs.Lasting.{Lasting}
-use Rattle.bk_simulation.proofs.Standing.{Agree, StandsAt, passed, Home, Fitting, no_bases, Lies}
+use Rattle.bk_simulation.proofs.NamesAgree.{Agree, AgreeWords}
+use Rattle.bk_simulation.proofs.Standing.{StandsAt, passed, Home, Fitting, no_bases, Lies}
 
 -- what the scheme gives for a value and for a jump
 abbrev pub coded : Scene → Place → Spot → ℕ → ℕ → Aim → Expression → List Stmt
@@ -51,11 +53,6 @@ role (jumps u l) = Truth
 abbrev pub level : Aim → ℕ → ℕ
 level pushes d = d + 1
 level (jumps u l) d = d
-
--- targets that are found by their numbers
-abbrev pub AllFound : List Target → List Target → Type 0
-AllFound ts [] = Unit {0}
-AllFound ts (x ∷ xs) = (goal_of ts x.number ≡ goal x.label x.depth) × AllFound ts xs
 
 -- code that stands somewhere in a section, whatever the depth before it
 pub record StandsIn (own : Placed) (code : List Stmt) : Type 0 where
@@ -103,7 +100,7 @@ around_deeper sc p d k m e low a =
 
 -- ---- names
 
-pub constants_agree : (ns : List Named) (bs : List Binding) (i : ℕ) → Agree ns bs → (e : Expression) → constant_in (with_names ns i) e ≡ constant_word bs e
+pub constants_agree : (ns : List Named) (bs : List Binding) (i : ℕ) → AgreeWords ns bs → (e : Expression) → constant_in (with_names ns i) e ≡ constant_word bs e
 constants_agree ns bs i a (t.name l x) = a x
 constants_agree ns bs i a (t.number l n) = refl
 constants_agree ns bs i a (t.text l x) = refl
@@ -143,7 +140,7 @@ either_agrees : (q : Bool) (u v : Option Sense) (x y : Option Bound) → word_na
 either_agrees true u v x y h i = h
 either_agrees false u v x y h i = i
 
-pub known_agree : (bs : List Binding) → Agree (names_of bs) bs
+pub known_agree : (bs : List Binding) → AgreeWords (names_of bs) bs
 known_agree [] y = refl
 known_agree (x ∷ xs) y = either_agrees (bytes_eq x.name y) (Some (sense_for x.bound)) (sense_in (names_of xs) y) (Some x.bound) (bound_in xs y) (sense_agrees x.bound) (known_agree xs y)
 
@@ -172,10 +169,10 @@ mutual
   stands_one_by s u v f (t.also c cs) = ap (λ y. y || stands_in_one s u cs) (stands_by s u v f c) ∙ ap (λ y. stands_in s v c || y) (stands_one_by s u v f cs)
 
 pub stands_agree : (s : Sought) (ns : List Named) (bs : List Binding) (i : ℕ) → Agree ns bs → (c : Action) → stands_in s (with_names ns i) c ≡ stands_in s (known bs) c
-stands_agree s ns bs i a c = stands_by s (with_names ns i) (known bs) (λ e. constants_agree ns bs i a e ∙ sym (constants_agree (names_of bs) bs 0 (known_agree bs) e)) c
+stands_agree s ns bs i a c = stands_by s (with_names ns i) (known bs) (λ e. constants_agree ns bs i a.0 e ∙ sym (constants_agree (names_of bs) bs 0 (known_agree bs) e)) c
 
 pub stands_one_agree : (s : Sought) (ns : List Named) (bs : List Binding) (i : ℕ) → Agree ns bs → (cs : Actions) → stands_in_one s (with_names ns i) cs ≡ stands_in_one s (known bs) cs
-stands_one_agree s ns bs i a cs = stands_one_by s (with_names ns i) (known bs) (λ e. constants_agree ns bs i a e ∙ sym (constants_agree (names_of bs) bs 0 (known_agree bs) e)) cs
+stands_one_agree s ns bs i a cs = stands_one_by s (with_names ns i) (known bs) (λ e. constants_agree ns bs i a.0 e ∙ sym (constants_agree (names_of bs) bs 0 (known_agree bs) e)) cs
 
 -- ---- expressions that have no jumps of their own
 

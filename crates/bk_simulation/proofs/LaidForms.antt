@@ -52,10 +52,12 @@ use Rattle.bk_meaning.specs.Lasting.{of_expression, of_each, of_action, of_actio
 use Rattle.bk_simulation.proofs.Held.{InData}
 use Rattle.bk_simulation.proofs.HeldData.{statement_data, items_are, words_small, words_agree}
 use Rattle.bk_simulation.proofs.NamesBound.{bound_named}
-use Rattle.bk_simulation.proofs.Standing.{Agree, AgreeGlobals, global_of, there_in, bases_inside, StandsAt, passed, at_depth, written, label_at, call_at, label_found, home, Bases, no_bases, new_base, both_bases, three_bases, bases_so, Lies, lies_so, lies_behind}
+use Rattle.bk_simulation.proofs.NamesAgree.{Agree, own_cell, agree_bound}
+use Rattle.bk_simulation.proofs.Standing.{there_in, bases_inside, StandsAt, passed, at_depth, written, label_at, call_at, label_found, home, Bases, no_bases, new_base, both_bases, three_bases, bases_so, Lies, lies_so, lies_behind}
 use Rattle.bk_simulation.proofs.Constants.{constant_small}
-use Rattle.bk_simulation.proofs.Renamed.{slots_of, spots_in}
+use Rattle.bk_simulation.proofs.RenamedLets.{slots_of, spots_in}
 use Rattle.bk_simulation.proofs.LaidProcedures.{scene_of, routine_lies, function_lies, procedure_bases}
+use Rattle.bk_simulation.proofs.LetWords.{WordsBased}
 use Rattle.bk_simulation.proofs.LaidCommands.{Doing, doing_loop, doing_switch, Leads, finds_nothing, finds_case, finds_both, switch_chosen, switch_default, switch_none, Done, DoneEach, Turns, label_ahead, leads_label, either_leads, same_letters, words_labels, words_variable, alone_lies}
 use Rattle.bk_simulation.proofs.LaidExpressions.{coded, own_parts, role, level, HasWords, FoundParts, found_front, found_back, DataIn, Around, around_deeper, constants_agree, known, known_agree, names_of, InNames, stands_agree, plain_code, plain_parts, lies_ended, leaf_on, leaf_lies, pushed_depth, truth_depth, infix_on, joined_two, joined_three}
 
@@ -109,7 +111,7 @@ call_lies pay sc p s s1 i call e es d n c rest a f k st each one =
 -- the step of a FOR
 step_is : (ns : List Named) (bs : List Binding) (i : ℕ) → Agree ns bs → (h : Expressions) → HaveWords bs h → step_of (with_names ns i) h ≡ Some (step_named bs h)
 step_is ns bs i a t.none w0 = refl
-step_is ns bs i a (t.more e es) w0 = let x = w0.0 in constants_agree ns bs i a e ∙ x.1 ∙ ap (λ y. Some (worth y)) (sym x.1)
+step_is ns bs i a (t.more e es) w0 = let x = w0.0 in constants_agree ns bs i a.0 e ∙ x.1 ∙ ap (λ y. Some (worth y)) (sym x.1)
 
 step_small : (bs : List Binding) → HasWords bs → (h : Expressions) → RegularEach h → HaveWords bs h → step_named bs h < 2 ^ 32
 step_small bs a t.none r w0 = omega arith
@@ -121,27 +123,6 @@ test_in d false = omega arith
 
 test_depth : (d k : ℕ) → next_depth (d + 1 + 1) (test_of_step k) ≡ d + 1
 test_depth d k = test_in d (int_lt (signed k) (pos 0))
-
-agree_variable : (j d : ℕ) (x : List ℕ) (o : ℕ) (ns : List Named) (bs : List Binding) → Agree ns bs → Agree (record { name = x; sense = cell o 0 } ∷ ns) (bind x (b.Variable j d) bs)
-agree_variable j d x o ns bs a y = picked (bytes_eq x y)
-  where
-    picked : (q : Bool) → word_named (cond q (Some (cell o 0)) (sense_in ns y)) ≡ named_word (cond q (Some (b.Variable j d)) (bound_in bs y))
-    picked true = refl
-    picked false = a y
-
-pub globals_foreign : (j d : ℕ) (x : List ℕ) (ns : List Named) (bs : List Binding) → AgreeGlobals ns bs → AgreeGlobals (record { name = x; sense = foreign } ∷ ns) (bind x (b.Variable j d) bs)
-globals_foreign j d x ns bs a y = picked (bytes_eq x y)
-  where
-    picked : (q : Bool) → global_named (cond q (Some foreign) (sense_in ns y)) ≡ global_of (cond q (Some (b.Variable j d)) (bound_in bs y))
-    picked true = refl
-    picked false = a y
-
-agree_foreign : (j d : ℕ) (x : List ℕ) (ns : List Named) (bs : List Binding) → Agree ns bs → Agree (record { name = x; sense = foreign } ∷ ns) (bind x (b.Variable j d) bs)
-agree_foreign j d x ns bs a y = picked (bytes_eq x y)
-  where
-    picked : (q : Bool) → word_named (cond q (Some foreign) (sense_in ns y)) ≡ named_word (cond q (Some (b.Variable j d)) (bound_in bs y))
-    picked true = refl
-    picked false = a y
 
 -- the words of a TABLE
 table_held : (g : Setting) (sc : Scene) (n l : ℕ) (es : Expressions) (i : ℕ) (ns : List Named) → Agree ns sc.bindings → HasWords sc.bindings → RegularEach es → HaveWords sc.bindings es → DataIn sc.own (data_code (static_table n (words_named sc.bindings es)))
@@ -632,7 +613,7 @@ mutual
       record {
         at = λ y. cond (same_place y (the_case (constant_word sc.bindings e))) c (done.at y);
         lies = lies_so (home sc pay) i _ d rest _ _
-            (λ g z v ns u. (n, c1, done.at, k, v ns u, label_at g sc d n c1 z.own st0, (λ y. ap (λ x. cond (same_place y (the_case x)) c (done.at y)) (sym (constants_agree ns sc.bindings i u e))))) done.lies;
+            (λ g z v ns u. (n, c1, done.at, k, v ns u, label_at g sc d n c1 z.own st0, (λ y. ap (λ x. cond (same_place y (the_case x)) c (done.at y)) (sym (constants_agree ns sc.bindings i u.0 e))))) done.lies;
         finds = finds_case sc.own sc.targets sc.bindings d n (h.1.0) (constant_in (known sc.bindings) e) (constant_word sc.bindings e) _ _ _ c done.at (constants_agree (names_of sc.bindings) sc.bindings 0 (known_agree sc.bindings) e) h.1.1 (constant_small sc.bindings a.around.words e r.0 h.1.0 h.1.1) found done.finds;
       }
   laid_act pay blocks sc p s i (t.default l a0) d n c rest a h r m f k st =
@@ -791,7 +772,7 @@ mutual
       (InNames (bind x.letters z sc.bindings) i1 (λ g env. IsAlone g (record (in_loop (n + 2) (n + 3) (d + 2) sc) { bindings = bind x.letters z sc.bindings }) (d + 2) env a0 (u0.number + 1) body (Label (n + 2) ∷ next)))) mine lc in
       let foreign_first : List Named → List Named = λ ns. record { name = x.letters; sense = foreign } ∷ ns in
       let bv = bases_inside (home sc pay) (bind x.letters (b.Variable sc.procedure d) sc.bindings) i1 (objects_of_action a0) _ foreign_first
-      (λ g ns e w0. (agree_foreign sc.procedure d x.letters ns sc.bindings e, ((λ q bases frame grown. bound_named (there_in (home sc pay) q) (with_names ns 0) bases frame x.letters (b.Variable sc.procedure d) foreign tt (w0.0 q bases frame grown)), globals_foreign sc.procedure d x.letters ns sc.bindings w0.1))) lv.objects_are in
+      (λ g ns e w0. (agree_bound x.letters foreign (b.Variable sc.procedure d) ns sc.bindings refl refl e, (λ q bases frame grown. bound_named (there_in (home sc pay) q) (with_names ns 0) bases frame x.letters (b.Variable sc.procedure d) foreign tt (w0 q bases frame grown)))) lv.objects_are in
       let on4 = passed sc.own (d + 2) (d + 2) (Label (n + 2)) next lv.on refl in
       let on5 = passed sc.own (d + 2) (d + 2 + 1) (Load (Local d)) (Number (signed step) ∷ Dyadic two.Add ∷ Assign (Local d) ∷ Label n ∷ test) on4 refl in
       let on6 = passed sc.own (d + 2 + 1) (d + 2 + 1 + 1) (Number (signed step)) (Dyadic two.Add ∷ Assign (Local d) ∷ Label n ∷ test) on5 refl in
@@ -819,7 +800,7 @@ mutual
             test,
             v.0.0 ns u,
             v.0.1 ns u,
-            (λ object above. v.1 (record { name = x.letters; sense = cell object 0 } ∷ ns) (agree_variable sc.procedure d x.letters object ns sc.bindings u)),
+            (λ object above. v.1 (record { name = x.letters; sense = cell object 0 } ∷ ns) (agree_bound x.letters (cell object 0) (b.Variable sc.procedure d) ns sc.bindings refl (own_cell object 0 above) u)),
             refl,
             step_is ns sc.bindings i u h1 h.2,
             label_at g sc (d + 2) n test z.own on8,
@@ -1046,7 +1027,7 @@ mutual
       let ls = laid_starts pay blocks sc p1 s1 i is (d + size + 2) n c0 rest (around_deeper sc p d (words_of_start sc.bindings e + 1) (d + size + 2) (omega (arith, words)) on2.shallow a) h.1 r.1 (omega arith) f refl on2 in (
         record {
           on = ls.0.on;
-          objects_are = bases_so (home sc pay) i _ _ _ (λ g y v ns u. (size, c0, slots_of sc.bindings (d + size + 2) is, constants_agree ns sc.bindings i u e ∙ is_size, k1, v ns u, refl)) ls.0.objects_are;
+          objects_are = bases_so (home sc pay) i _ _ _ (λ g y v ns u. (size, c0, slots_of sc.bindings (d + size + 2) is, constants_agree ns sc.bindings i u.0 e ∙ is_size, k1, v ns u, refl)) ls.0.objects_are;
         },
         ls.1,
       )
@@ -1055,8 +1036,9 @@ mutual
   pub laid_defined : (pay : ℕ) (blocks : BlocksLie pay) (sc : Scene) (p : Place) (s : Spot) (i : ℕ) (ds : Definitions) (d n : ℕ) (c rest : List Stmt) → Around sc p d → SoundDefined sc.bindings p s ds → RegularDefinitions ds → weight_defined ds ≤ pay
       → FoundParts sc.own sc.targets (parts_of_definitions d n (definitions_named sc.bindings p s ds)) → c ≡ definitions_code sc.targets d n (definitions_named sc.bindings p s ds) ++ rest → StandsAt sc.own d c
       → Lies (home sc pay) i (objects_of_definitions ds) (behind_definitions d (definitions_named sc.bindings p s ds)) rest (λ ns. of_definitions (with_names ns i) ds)
-      (InNames sc.bindings i (λ g env. AreDefined g sc d env ds c rest (behind_definitions d (definitions_named sc.bindings p s ds)) (spots_in sc.bindings p s d ds)))
-  laid_defined pay blocks sc p s i t.no_definitions d n c rest a h r m f k st = record { on = written sc.own d c rest k st; objects_are = no_bases (home sc pay) i _ (λ g y ns u. (k, refl, refl)) }
+      (λ g. WordsBased g.lasting sc.own sc.bindings p s i n ds
+      × InNames sc.bindings i (λ g env. AreDefined g sc d env ds c rest (behind_definitions d (definitions_named sc.bindings p s ds)) (spots_in sc.bindings p s d ds)) g)
+  laid_defined pay blocks sc p s i t.no_definitions d n c rest a h r m f k st = record { on = written sc.own d c rest k st; objects_are = no_bases (home sc pay) i _ (λ g y. (tt, λ ns u. (k, refl, refl))) }
   laid_defined pay blocks sc p s i (t.define (t.routine l x fs a0) ds) d n c rest a h r m f k st =
       let one = definition_named sc.bindings p s (t.routine l x fs a0) in
       let s1 : Spot = spot.behind_one_defined (t.routine l x fs a0) s in
@@ -1071,7 +1053,7 @@ mutual
       (λ c0 r0 doing k0 st0. laid_act pay blocks within p2 s2 (i + 1) a0 (length fs + 2) first c0 r0 doing h.0.2 r.0 (omega arith) own_found.1 k0 st0) refl code.stands in
       let own_bases = procedure_bases pay sc.section sc.own sc.targets sc.bindings s.number x fs i (objects_of_action a0) (command a0) n pl h.0.0 own_found.0.2 in
       let others = laid_defined pay blocks sc p s1 (i + (1 + objects_of_action a0)) ds d (n + labels_of_definition one) c rest a h.1 r.1 (omega arith) (found_back sc.own sc.targets (parts_of_definition d n one) _ f) k st in
-      record { on = others.on; objects_are = bases_so (home sc pay) i _ _ _ (λ g y v ns u. v.1 ns u) (both_bases (home sc pay) i (1 + objects_of_action a0) (objects_of_definitions ds) _ _ own_bases others.objects_are) }
+      record { on = others.on; objects_are = bases_so (home sc pay) i _ _ _ (λ g y v. ((v.0, v.1.0), λ ns u. v.1.1 ns u)) (both_bases (home sc pay) i (1 + objects_of_action a0) (objects_of_definitions ds) _ _ own_bases others.objects_are) }
   laid_defined pay blocks sc p s i (t.define (t.function l x fs e) ds) d n c rest a h r m f k st =
       let one = definition_named sc.bindings p s (t.function l x fs e) in
       let s1 : Spot = spot.behind_one_defined (t.function l x fs e) s in
@@ -1086,7 +1068,7 @@ mutual
       (λ c0 r0 around k0 st0. laid_code pay blocks within p2 s2 (i + 1) pushes e (length fs + 2) first c0 r0 around h.0.2 r.0 (omega arith) own_found.1 k0 st0) refl code.stands in
       let own_bases = procedure_bases pay sc.section sc.own sc.targets sc.bindings s.number x fs i (objects e) (expression e) n pl h.0.0 own_found.0.2 in
       let others = laid_defined pay blocks sc p s1 (i + (1 + objects e)) ds d (n + labels_of_definition one) c rest a h.1 r.1 (omega arith) (found_back sc.own sc.targets (parts_of_definition d n one) _ f) k st in
-      record { on = others.on; objects_are = bases_so (home sc pay) i _ _ _ (λ g y v ns u. v.1 ns u) (both_bases (home sc pay) i (1 + objects e) (objects_of_definitions ds) _ _ own_bases others.objects_are) }
+      record { on = others.on; objects_are = bases_so (home sc pay) i _ _ _ (λ g y v. ((v.0, v.1.0), λ ns u. v.1.1 ns u)) (both_bases (home sc pay) i (1 + objects e) (objects_of_definitions ds) _ _ own_bases others.objects_are) }
   laid_defined pay blocks sc p s i (t.define (t.variables l xs is) ds) d n c rest a h r m f k st =
       let one = definition_named sc.bindings p s (t.variables l xs is) in
       let named = starts_named sc.bindings p (spot.past (length xs) s) is in
@@ -1101,6 +1083,6 @@ mutual
       let others = laid_defined pay blocks sc p1 s1 (i + objects_of_starts is) ds d0 n0 c0 rest ls.1 h.1 r.1 (omega arith) (found_back sc.own sc.targets (parts_of_definition d n one) _ f) refl ls.0.on in
       record {
         on = others.on;
-        objects_are = bases_so (home sc pay) i _ _ _ (λ g y v ns u. (c0, d0, slots_of sc.bindings d is, spots_in sc.bindings p1 s1 d0 ds, v.0 ns u, v.1 ns u, refl))
+        objects_are = bases_so (home sc pay) i _ _ _ (λ g y v. (v.1.0, λ ns u. (c0, d0, slots_of sc.bindings d is, spots_in sc.bindings p1 s1 d0 ds, v.0 ns u, v.1.1 ns u, refl)))
             (both_bases (home sc pay) i (objects_of_starts is) (objects_of_definitions ds) _ _ ls.0.objects_are others.objects_are);
       }

@@ -42,7 +42,8 @@ use Rattle.bk_simulation.proofs.NamesBound.{bound_named}
 use Rattle.bk_simulation.proofs.Procedures.{IsBody, IsProcedure}
 use Rattle.bk_simulation.proofs.Held.{InData, HeldWord, HeldList}
 use Rattle.bk_simulation.proofs.HeldData.{statement_data}
-use Rattle.bk_simulation.proofs.Standing.{Follow, FollowWords, Agree, AgreeGlobals, global_of, there_in, bases_inside, bases_of, StandsAt, first_of, passed, written, Home, home, Suits, Bases, bases_so, Lies}
+use Rattle.bk_simulation.proofs.NamesAgree.{Agree, global_of, same_global, own_cell, agree_bound}
+use Rattle.bk_simulation.proofs.Standing.{Follow, FollowWords, there_in, bases_inside, bases_of, StandsAt, first_of, passed, written, Home, home, Suits, Bases, bases_so, Lies}
 use Rattle.bk_simulation.proofs.LaidExpressions.{StandsIn, DataIn, HasWords, Around, InNames, joined_two}
 use Rattle.bk_simulation.proofs.LaidCommands.{Doing, Done, words_labels, names_bound, alone_lies}
 
@@ -72,15 +73,12 @@ words_formals j d (x ∷ xs) bs h = words_formals j (kept (d + 1)) xs (bind x.le
     picked true y v e = absurd (cc)
     picked false y v e = h y v e
 
--- formals hide constants in the same way here and there
-pub agree_formals : (j d o k : ℕ) (fs : List Mention) (ns : List Named) (bs : List Binding) (i : ℕ) → Agree ns bs
+-- formals hide names in the same way here and there
+pub agree_formals : (j d o k : ℕ) (fs : List Mention) (ns : List Named) (bs : List Binding) (i : ℕ) → 0 < o → Agree ns bs
     → Agree (bind_formals o k (letters fs) (with_names ns i)).names (with_formals j d fs bs) × ((bind_formals o k (letters fs) (with_names ns i)).next ≡ i)
-agree_formals j d o k [] ns bs i a = (a, refl)
-agree_formals j d o k (x ∷ xs) ns bs i a = agree_formals j (kept (d + 1)) o (suc k) xs (record { name = x.letters; sense = cell o k } ∷ ns) (bind x.letters (b.Variable j d) bs) i (λ y. picked (bytes_eq x.letters y) y)
-  where
-    picked : (q : Bool) (y : List ℕ) → word_named (cond q (Some (cell o k)) (sense_in ns y)) ≡ named_word (cond q (Some (b.Variable j d)) (bound_in bs y))
-    picked true y = refl
-    picked false y = a y
+agree_formals j d o k [] ns bs i some a = (a, refl)
+agree_formals j d o k (x ∷ xs) ns bs i some a =
+    agree_formals j (kept (d + 1)) o (suc k) xs (record { name = x.letters; sense = cell o k } ∷ ns) (bind x.letters (b.Variable j d) bs) i some (agree_bound x.letters (cell o k) (b.Variable j d) ns bs refl (own_cell o k some) a)
 
 -- formals are the words behind the links of the frame
 pub formals_named : (sc : Scene) (j o k d : ℕ) (fs : List Mention) (bs : List Binding) (env : Environment) (bases : List ℕ) (frame : ℕ) → d ≡ k + 2 → d + length fs ≤ FRAME_WORDS → BaseOf bases o (frame + 2)
@@ -96,22 +94,11 @@ formals_named sc j o k d (x ∷ xs) bs env bases frame e few base low n =
     (bound_named (record sc { bindings = bs }) env bases frame x.letters (b.Variable j d) (cell o k)
     (frame + 2, base, small, there ∙ ap (λ y. place_of sc.own frame (variable sc.targets (meant y))) (sym mine), subst (λ y. IsWord y) (sym mine) tt) n)
 
--- formals are foreign before the run, and hide constants as they do in it
+-- formals are foreign before the run, and hide names as they do in it
 foreign_agree : (j d : ℕ) (fs : List Mention) (ns : List Named) (bs : List Binding) → Agree ns bs → Agree (bind_each (letters fs) foreign (with_names ns 0)).names (with_formals j d fs bs)
 foreign_agree j d [] ns bs a = a
-foreign_agree j d (x ∷ xs) ns bs a = foreign_agree j (kept (d + 1)) xs (record { name = x.letters; sense = foreign } ∷ ns) (bind x.letters (b.Variable j d) bs) (λ y. picked (bytes_eq x.letters y) y)
-  where
-    picked : (q : Bool) (y : List ℕ) → word_named (cond q (Some foreign) (sense_in ns y)) ≡ named_word (cond q (Some (b.Variable j d)) (bound_in bs y))
-    picked true y = refl
-    picked false y = a y
-
-foreign_globals : (j d : ℕ) (fs : List Mention) (ns : List Named) (bs : List Binding) → AgreeGlobals ns bs → AgreeGlobals (bind_each (letters fs) foreign (with_names ns 0)).names (with_formals j d fs bs)
-foreign_globals j d [] ns bs a = a
-foreign_globals j d (x ∷ xs) ns bs a = foreign_globals j (kept (d + 1)) xs (record { name = x.letters; sense = foreign } ∷ ns) (bind x.letters (b.Variable j d) bs) (λ y. picked (bytes_eq x.letters y) y)
-  where
-    picked : (q : Bool) (y : List ℕ) → global_named (cond q (Some foreign) (sense_in ns y)) ≡ global_of (cond q (Some (b.Variable j d)) (bound_in bs y))
-    picked true y = refl
-    picked false y = a y
+foreign_agree j d (x ∷ xs) ns bs a =
+    foreign_agree j (kept (d + 1)) xs (record { name = x.letters; sense = foreign } ∷ ns) (bind x.letters (b.Variable j d) bs) (agree_bound x.letters foreign (b.Variable j d) ns bs refl refl a)
 
 foreign_named : (sc : Scene) (j d : ℕ) (fs : List Mention) (bs : List Binding) (env : Environment) (bases : List ℕ) (frame : ℕ) → NamedIn (record sc { bindings = bs }) env bases frame
     → NamedIn (record sc { bindings = with_formals j d fs bs }) (bind_each (letters fs) foreign env) bases frame
@@ -125,7 +112,7 @@ formals_around : (pay section : ℕ) (own : Placed) (ts : List Target) (bs : Lis
 formals_around pay section own ts bs k fs i many L P a =
     let h : Home = record { section = section; own = own; targets = ts; bindings = bs; pay = pay } in
     bases_inside h (with_formals k 2 fs bs) i many P (λ ns. (bind_each (letters fs) foreign (with_names ns 0)).names)
-    (λ g ns u v. (foreign_agree k 2 fs ns bs u, ((λ q bases frame grown. record { each = (foreign_named (there_in h q) k 2 fs bs (with_names ns 0) bases frame (v.0 q bases frame grown)).each }), foreign_globals k 2 fs ns bs v.1))) a
+    (λ g ns u v. (foreign_agree k 2 fs ns bs u, (λ q bases frame grown. record { each = (foreign_named (there_in h q) k 2 fs bs (with_names ns 0) bases frame (v q bases frame grown)).each }))) a
 
 -- ---- procedures
 
@@ -147,7 +134,7 @@ pub record ProcedureLies (pay section : ℕ) (own : Placed) (ts : List Target) (
   pub behind : drop (suc place) own.stmts ≡ Save (length fs + 2) ∷ code
   pub few : length fs + 2 ≤ FRAME_WORDS
   pub objects_are : Bases (record { section = section; own = own; targets = ts; bindings = bs; pay = pay }) i many (λ ns. of_body body (bind_each (letters fs) foreign (with_names ns i)))
-      (λ g. (ns : List Named) → Agree ns bs → (o : ℕ) → IsBody g (scene_of section own ts (with_formals k 2 fs bs) k) (length fs + 2) (bind_formals o 0 (letters fs) (with_names ns i)) body code)
+      (λ g. (ns : List Named) → Agree ns bs → (o : ℕ) → 0 < o → IsBody g (scene_of section own ts (with_formals k 2 fs bs) k) (length fs + 2) (bind_formals o 0 (letters fs) (with_names ns i)) body code)
 
 pub routine_lies : (pay : ℕ) (section : ℕ) (own : Placed) (ts : List Target) (bs : List Binding) (s : Spot) (i : ℕ) (x : List ℕ) (fs : List Mention) (a : Action) (d n : ℕ) (y : Bound) (c rest : List Stmt) → HasWords bs
     → turns_in a ≤ pay
@@ -189,8 +176,8 @@ routine_lies pay section own ts bs s i x fs a d n y c rest words m laid k st =
       code = body;
       behind = entry.behind;
       few = few;
-      objects_are = bases_so h1 i _ _ _ (λ g z v ns u o.
-          let e = agree_formals s.number 2 o 0 fs ns bs i u in
+      objects_are = bases_so h1 i _ _ _ (λ g z v ns u o above.
+          let e = agree_formals s.number 2 o 0 fs ns bs i above u in
           let env = bind_formals o 0 (letters fs) (with_names ns i) in
           (s.number + 2, tail, subst (λ j. IsAlone g sc depth (with_names env.names j) a (s.number + 2) body (Return ∷ tail)) (sym e.1) (v env.names e.0))) (bases_of h1 i _ _ (λ ns. of_action (in_scope a (bind_each (letters fs) foreign (with_names ns i))) a) _ (λ ns. ap (λ y. of_action (in_scope a y) a) (sym (names_bound (letters fs) foreign ns i))) (formals_around pay section own ts bs s.number fs i _ _ _ lies.objects_are));
     }
@@ -226,8 +213,8 @@ function_lies pay section own ts bs s i x fs e d n y c rest words m laid k st =
       code = body;
       behind = entry.behind;
       few = few;
-      objects_are = bases_so h1 i _ _ _ (λ g z v ns u o.
-          let q = agree_formals s.number 2 o 0 fs ns bs i u in
+      objects_are = bases_so h1 i _ _ _ (λ g z v ns u o above.
+          let q = agree_formals s.number 2 o 0 fs ns bs i above u in
           let env = bind_formals o 0 (letters fs) (with_names ns i) in
           let pays = z.pays in
           (tail, subst (λ j. IsCode g sc depth (with_names env.names j) pushes e body (ReturnItem ∷ tail)) (sym q.1) (v env.names q.0), omega (arith, pays, m))) (bases_of h1 i _ _ (λ ns. of_expression (bind_each (letters fs) foreign (with_names ns i)) e) _ (λ ns. ap (λ y. of_expression y e) (sym (names_bound (letters fs) foreign ns i))) (formals_around pay section own ts bs s.number fs i _ _ _ lies.objects_are));
@@ -257,7 +244,7 @@ procedure_is pay section own ts bs k fs i many body n p g number ns global suits
       behind = subst (λ z. drop (suc p.place) own.stmts ≡ Save (z + 2) ∷ p.code) (sym same) p.behind;
       word = word;
       few = omega (arith, few, same);
-      laid = λ o above. subst (λ z. IsBody g sc (z + 2) (bind_formals o 0 (letters fs) (with_names ns i)) body p.code) (sym same) (p.objects_are.laid g suits ns agrees o);
+      laid = λ o above. subst (λ z. IsBody g sc (z + 2) (bind_formals o 0 (letters fs) (with_names ns i)) body p.code) (sym same) (p.objects_are.laid g suits ns agrees o above);
       names = λ o frame bases grown base low. formals_named (scene_of section own ts bs k) k o 0 2 fs bs (with_names ns i) bases frame refl (omega (arith, few)) base low (outer bases frame grown);
     }
 
@@ -288,7 +275,7 @@ word_held g section own n number place name (Some (b.Static m)) is at word c d b
 pub procedure_bases : (pay section : ℕ) (own : Placed) (ts : List Target) (bs : List Binding) (k : ℕ) (x : List ℕ) (fs : List Mention) (i many : ℕ) (body : Body) (n : ℕ) → ProcedureLies pay section own ts bs k fs (i + 1) many body n
     → Callable (bound_in bs x) → DataIn own (word_code n (meant (bound_in bs x)))
     → Bases (record { section = section; own = own; targets = ts; bindings = bs; pay = pay }) i (1 + many)
-    (λ ns. code (record { formals = letters fs; body = body; env = with_names ns (i + 1); global = global_named (sense_in ns x) }) ∷ of_body body (bind_each (letters fs) foreign (with_names ns (i + 1)))) (λ g. Unit {0})
+    (λ ns. code (record { formals = letters fs; body = body; env = with_names ns (i + 1); global = global_named (sense_in ns x) }) ∷ of_body body (bind_each (letters fs) foreign (with_names ns (i + 1)))) (λ g. BaseOf g.lasting i (word_base own n (meant (bound_in bs x))))
 procedure_bases pay section own ts bs k x fs i many body n p callable word =
     let o = p.objects_are in
     let all = o.all in
@@ -296,18 +283,18 @@ procedure_bases pay section own ts bs k x fs i many body n p callable word =
     let h : Home = record { section = section; own = own; targets = ts; bindings = bs; pay = pay } in
     let next : suc i ≡ i + 1 = omega arith in
     let inner : (g : Setting) → Suits h i (word_base own n (meant (bound_in bs x)) ∷ o.bases) (own.places.label n ∷ o.entries) g → Suits h (i + 1) o.bases o.entries g =
-    λ g s. record { fits = s.fits; follow = subst (λ z. Follow g.lasting z o.bases) next (s.follow.1); words = subst (λ z. FollowWords g.codes.procedure z o.entries) next (s.words.1) } in
+    λ g s. record { fits = s.fits; some = omega arith; follow = subst (λ z. Follow g.lasting z o.bases) next (s.follow.1); words = subst (λ z. FollowWords g.codes.procedure z o.entries) next (s.words.1) } in
     record {
       bases = word_base own n (meant (bound_in bs x)) ∷ o.bases;
       entries = own.places.label n ∷ o.entries;
       all = omega (arith, all);
       all_entries = omega (arith, entries);
       count = λ ns. let c = o.count ns in omega (arith, c);
-      laid = λ g s. tt;
+      laid = λ g s. s.follow.0;
       held = λ g s ns u v. (
         (
-          procedure_is pay section own ts bs k fs (i + 1) many body n p g i ns (global_named (sense_in ns x)) (inner g s) u s.words.0 (λ bases frame grown. record { each = (v.0 k bases frame grown).each }),
-          subst (λ y. HeldWord g i y) (sym (v.1 x)) (word_held g section own n i p.place p.name (bound_in bs x) s.fits.own p.at s.words.0 callable word s.follow.0),
+          procedure_is pay section own ts bs k fs (i + 1) many body n p g i ns (global_named (sense_in ns x)) (inner g s) u s.words.0 (λ bases frame grown. record { each = (v k bases frame grown).each }),
+          subst (λ y. HeldWord g i y) (sym (same_global (sense_in ns x) (bound_in bs x) (u.1 x))) (word_held g section own n i p.place p.name (bound_in bs x) s.fits.own p.at s.words.0 callable word s.follow.0),
         ),
         subst (λ z. HeldList g z (of_body body (bind_each (letters fs) foreign (with_names ns (i + 1))))) (sym next) (o.held g (inner g s) ns u v),
       );

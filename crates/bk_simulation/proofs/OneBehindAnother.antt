@@ -5,7 +5,8 @@ use Rattle.bk_meaning.specs.Environment.{Named}
 use Rattle.bk_meaning.specs.Lasting.{Lasting}
 use Rattle.bk_simulation.proofs.Laid.{Setting}
 use Rattle.bk_simulation.proofs.Held.{held_both, lasting_both}
-use Rattle.bk_simulation.proofs.Standing.{Home, Suits, Bases, Agree, Mean, follow_first, follow_second, words_first, words_second, length_both}
+use Rattle.bk_simulation.proofs.NamesAgree.{Agree}
+use Rattle.bk_simulation.proofs.Standing.{Home, Suits, Bases, Mean, follow_first, follow_second, words_first, words_second, length_both}
 
 -- Objects of one part, and then those of another, where other names are in scope, which mean what they should wherever the objects
 -- of the first part have their bases.
@@ -20,9 +21,10 @@ then_bases h bs next n m {K} {L} P Q names a after b =
     let l = length_both a.bases b.bases in
     let le = length_both a.entries b.entries in
     let front : (g : Setting) → Suits h next (a.bases ++ b.bases) (a.entries ++ b.entries) g → Suits h next a.bases a.entries g =
-    λ g x. record { fits = x.fits; follow = follow_first g.lasting next a.bases b.bases x.follow; words = words_first g.codes.procedure next a.entries b.entries x.words } in
+    λ g x. record { fits = x.fits; some = x.some; follow = follow_first g.lasting next a.bases b.bases x.follow; words = words_first g.codes.procedure next a.entries b.entries x.words } in
     let back : (g : Setting) → Suits h next (a.bases ++ b.bases) (a.entries ++ b.entries) g → Suits (record h { bindings = bs }) (next + n) b.bases b.entries g = λ g x. record {
       fits = record { own = x.fits.own; pays = x.fits.pays };
+      some = (let z = x.some in omega (arith, z));
       follow = follow_second g.lasting next n a.bases b.bases an x.follow;
       words = words_second g.codes.procedure next n a.entries b.entries ae x.words;
     } in

@@ -1,6 +1,6 @@
 -- Where code stands in a section, with the depth before it; what a label and a call have from that; and the bases of lasting objects
 -- one behind the other.
-use Rattle.std.proofs.Common.{◌≡◌, ℕ, false, zero, suc, ◌+◌, ◌≤◌, List, [], ◌∷◌, ◌++◌, length, Option, Some, None, take, drop, slice_get, refl, ap, ◌∙◌, subst, arith}
+use Rattle.std.proofs.Common.{◌≡◌, ℕ, false, zero, suc, ◌+◌, ◌<◌, ◌≤◌, List, [], ◌∷◌, ◌++◌, length, Option, Some, None, take, drop, slice_get, refl, ap, ◌∙◌, subst, arith}
 use Rattle.bk_base.specs.declared.limit.TheConstants.{FRAME_WORDS}
 use Rattle.bk_ocode.specs.Depth.{next_depth, depth_behind}
 use Rattle.bk_ocode.specs.Section.{AreFaultless}
@@ -10,18 +10,16 @@ use Rattle.bk_ocode.specs.declared.stmt.Stmt.{Stmt}
 use Rattle.bk_ocode.specs.declared.stmt.Stmt.TheVariants.{Label}
 use Rattle.bk_ocode.proofs.Depths.{depth_within}
 use Rattle.bk_ocode.proofs.LabelsOnce.{label_has_one_place}
-use Rattle.bk_scope.specs.declared.bound.Bound.{Bound}
-use Rattle.bk_scope.specs.declared.bound.Bound.TheVariants.{Global}
-use Rattle.bk_scope.specs.Scope.{Binding, bound_in}
-use Rattle.bk_scope.specs.Constants.{named_word}
+use Rattle.bk_scope.specs.Scope.{Binding}
 use Rattle.bk_trans.specs.declared.around.Target.{Target}
 use Rattle.bk_trans.specs.Scheme.{outermost}
-use Rattle.bk_meaning.specs.Environment.{Named, sense_in, word_named, global_named}
+use Rattle.bk_meaning.specs.Environment.{Named}
 use Rattle.bk_meaning.specs.Lasting.{Lasting}
 use Rattle.bk_simulation.proofs.Memory.{BaseOf, Grown}
 use Rattle.bk_simulation.proofs.Sought.{with_names}
 use Rattle.bk_simulation.proofs.Laid.{Setting, Scene, LabelAt, CallAt, NamedIn}
 use Rattle.bk_simulation.proofs.Held.{HeldOne, HeldList, held_both, lasting_both}
+use Rattle.bk_simulation.proofs.NamesAgree.{Agree}
 
 -- these statements stand in the section, and this is the depth before them
 pub record StandsAt (own : Placed) (depth : ℕ) (c : List Stmt) : Type 0 where
@@ -129,31 +127,21 @@ pub record Fitting (h : Home) (g : Setting) : Type 0 where
   pub own : slice_get g.program.sections h.section ≡ Some h.own
   pub pays : h.pay ≤ g.pay
 
--- and whose lasting objects have these bases, and those that are procedures these words
+-- and whose lasting objects from this number on, which are not the global vector, have these bases, and those that are procedures
+-- these words
 pub record Suits (h : Home) (next : ℕ) (bases entries : List ℕ) (g : Setting) : Type 0 where
   pub fits : Fitting h g
+  pub some : 0 < next
   pub follow : Follow g.lasting next bases
   pub words : FollowWords g.codes.procedure next entries
-
--- names that mean the same constants in the run and in scope
-abbrev pub Agree : List Named → List Binding → Type 0
-Agree ns bs = (x : List ℕ) → word_named (sense_in ns x) ≡ named_word (bound_in bs x)
 
 -- some procedure there
 abbrev pub there_in : Home → ℕ → Scene
 there_in h k = record { section = h.section; own = h.own; targets = h.targets; bindings = h.bindings; procedure = k; around = outermost; exits = record { loop = false; switch = false } }
 
--- the global that a name means
-abbrev pub global_of : Option Bound → Option ℕ
-global_of (Some (Global (Some k))) = Some k
-global_of _ = None
-
-abbrev pub AgreeGlobals : List Named → List Binding → Type 0
-AgreeGlobals ns bs = (x : List ℕ) → global_named (sense_in ns x) ≡ global_of (bound_in bs x)
-
 -- names that mean in each run what they should there
 abbrev pub Mean : Home → Setting → List Named → Type 0
-Mean h g ns = ((k : ℕ) (bases : List ℕ) (frame : ℕ) → Grown g.lasting bases → NamedIn (there_in h k) (with_names ns 0) bases frame) × AgreeGlobals ns h.bindings
+Mean h g ns = (k : ℕ) (bases : List ℕ) (frame : ℕ) → Grown g.lasting bases → NamedIn (there_in h k) (with_names ns 0) bases frame
 
 -- Lasting objects from this number on, so many, with bases: where a setting has them, this is so, and those objects are held there.
 pub record Bases (h : Home) (next many : ℕ) (objects : List Named → List Lasting) (P : Setting → Type 0) : Type 0 where
@@ -184,9 +172,9 @@ both_bases h next n m {K} {L} P Q a b =
     let l = length_both a.bases b.bases in
     let le = length_both a.entries b.entries in
     let front : (g : Setting) → Suits h next (a.bases ++ b.bases) (a.entries ++ b.entries) g → Suits h next a.bases a.entries g =
-    λ g x. record { fits = x.fits; follow = follow_first g.lasting next a.bases b.bases x.follow; words = words_first g.codes.procedure next a.entries b.entries x.words } in
+    λ g x. record { fits = x.fits; some = x.some; follow = follow_first g.lasting next a.bases b.bases x.follow; words = words_first g.codes.procedure next a.entries b.entries x.words } in
     let back : (g : Setting) → Suits h next (a.bases ++ b.bases) (a.entries ++ b.entries) g → Suits h (next + n) b.bases b.entries g =
-    λ g x. record { fits = x.fits; follow = follow_second g.lasting next n a.bases b.bases an x.follow; words = words_second g.codes.procedure next n a.entries b.entries ae x.words } in
+    λ g x. record { fits = x.fits; some = (let z = x.some in omega (arith, z)); follow = follow_second g.lasting next n a.bases b.bases an x.follow; words = words_second g.codes.procedure next n a.entries b.entries ae x.words } in
     record {
       bases = a.bases ++ b.bases;
       entries = a.entries ++ b.entries;
@@ -229,9 +217,37 @@ bases_inside h bs next n P names f a = record {
   all = a.all;
   all_entries = a.all_entries;
   count = λ ns. a.count (names ns);
-  laid = λ g x. a.laid g (record { fits = record { own = x.fits.own; pays = x.fits.pays }; follow = x.follow; words = x.words });
-  held = λ g x ns u v. let i = f g ns u v in a.held g (record { fits = record { own = x.fits.own; pays = x.fits.pays }; follow = x.follow; words = x.words }) (names ns) i.0 i.1;
+  laid = λ g x. a.laid g (record { fits = record { own = x.fits.own; pays = x.fits.pays }; some = x.some; follow = x.follow; words = x.words });
+  held = λ g x ns u v. let i = f g ns u v in a.held g (record { fits = record { own = x.fits.own; pays = x.fits.pays }; some = x.some; follow = x.follow; words = x.words }) (names ns) i.0 i.1;
 }
+
+-- where their bases say so, more names are in scope inside
+pub bases_under : (h : Home) (bs : List Binding) (next n : ℕ) {L : List Named → List Lasting} (P : Setting → Type 0) (names : List Named → List Named)
+    → ((g : Setting) → 0 < next → P g → (ns : List Named) → Agree ns h.bindings → Mean h g ns → Agree (names ns) bs × Mean (record h { bindings = bs }) g (names ns)) → Bases (record h { bindings = bs }) next n L P
+    → Bases h next n (λ ns. L (names ns)) P
+bases_under h bs next n P names f a =
+    let inner : (g : Setting) → Suits h next a.bases a.entries g → Suits (record h { bindings = bs }) next a.bases a.entries g =
+    λ g x. record { fits = record { own = x.fits.own; pays = x.fits.pays }; some = x.some; follow = x.follow; words = x.words } in
+    record {
+      bases = a.bases;
+      entries = a.entries;
+      all = a.all;
+      all_entries = a.all_entries;
+      count = λ ns. a.count (names ns);
+      laid = λ g x. a.laid g (inner g x);
+      held = λ g x ns u v. let i = f g x.some (a.laid g (inner g x)) ns u v in a.held g (inner g x) (names ns) i.0 i.1;
+    }
+
+-- none of them is the global vector
+pub bases_some : (h : Home) (next n : ℕ) {L : List Named → List Lasting} (P : Setting → Type 0) → Bases h next n L P → Bases h next n L (λ g. (0 < next) × P g)
+bases_some h next n P a = record { bases = a.bases; entries = a.entries; all = a.all; all_entries = a.all_entries; count = a.count; laid = λ g x. (x.some, a.laid g x); held = a.held }
+
+-- where a step pays for more
+pub bases_paid : (h : Home) (more next n : ℕ) {L : List Named → List Lasting} (P : Setting → Type 0) → h.pay ≤ more → Bases h next n L P → Bases (record h { pay = more }) next n L P
+bases_paid h more next n P low a =
+    let inner : (g : Setting) → Suits (record h { pay = more }) next a.bases a.entries g → Suits h next a.bases a.entries g =
+    λ g x. record { fits = record { own = x.fits.own; pays = (let z = x.fits.pays in omega (arith, z, low)) }; some = x.some; follow = x.follow; words = x.words } in
+    record { bases = a.bases; entries = a.entries; all = a.all; all_entries = a.all_entries; count = a.count; laid = λ g x. a.laid g (inner g x); held = λ g x ns u v. a.held g (inner g x) ns u v }
 
 -- What is laid, and where the code goes on: with this depth before these statements.
 pub record Lies (h : Home) (next many depth : ℕ) (rest : List Stmt) (objects : List Named → List Lasting) (P : Setting → Type 0) : Type 0 where

@@ -1,4 +1,5 @@
--- What the types and the grammar of trees give: numbers are words, and an assignment and a LET have as many values as names.
+-- What the types and the grammar of trees give: numbers are words, an assignment and a LET have as many values as names, and
+-- variables stand in blocks alone.
 use Rattle.std.specs.Prelude.{◌≡◌, ℕ, suc, ◌<◌, ◌^◌, length}
 use Rattle.bk_syntax.specs.Tree as t
 use Rattle.bk_syntax.specs.Tree.{Expression, Expressions, Action, Actions, Declaration, Declarations, Items, Definition, Definitions, Starts}
@@ -72,5 +73,17 @@ abbrev mutual
   RegularStarts (t.value e is) = Regular e × RegularStarts is
   RegularStarts (t.vector l e is) = Regular e × RegularStarts is
 
+-- variables stand in blocks alone: outside them a LET has procedures
+abbrev pub HasProcedures : Definitions → Type 0
+HasProcedures t.no_definitions = Unit {0}
+HasProcedures (t.define (t.routine l x fs c) ds) = HasProcedures ds
+HasProcedures (t.define (t.function l x fs e) ds) = HasProcedures ds
+HasProcedures (t.define (t.variables l xs is) ds) = ⊥
+
+abbrev pub HaveProcedures : Declarations → Type 0
+HaveProcedures t.no_declarations = Unit {0}
+HaveProcedures (t.declare (t.constants l s is) ds) = HaveProcedures ds
+HaveProcedures (t.declare (t.definitions l hs) ds) = HasProcedures hs × HaveProcedures ds
+
 abbrev pub IsRegular : Declarations → Type 0
-IsRegular ds = RegularDeclarations ds
+IsRegular ds = RegularDeclarations ds × HaveProcedures ds
