@@ -66,6 +66,7 @@ pub mod SectionGlobals
 pub mod Held
 pub mod NamesAgree
 pub mod LastingKinds
+pub mod BasesBelow
 pub mod Standing
 pub mod LaidExpressions
 pub mod LaidCommands

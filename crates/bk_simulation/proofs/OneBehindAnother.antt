@@ -6,6 +6,7 @@ use Rattle.bk_meaning.specs.Lasting.{Lasting}
 use Rattle.bk_simulation.proofs.Laid.{Setting}
 use Rattle.bk_simulation.proofs.Held.{held_both, lasting_both}
 use Rattle.bk_simulation.proofs.NamesAgree.{Agree}
+use Rattle.bk_simulation.proofs.BasesBelow.{below_both, set_both}
 use Rattle.bk_simulation.proofs.LastingKinds.{Kind, as_both}
 use Rattle.bk_simulation.proofs.Standing.{Home, Suits, Bases, Mean, follow_first, follow_second, words_first, words_second, length_both}
 
@@ -42,4 +43,8 @@ then_bases h bs next n m {ks} {ls} {K} {L} P Q names a after b =
       alike = λ g x ns e u.
           let i = after g (front g x) ns e u in
           as_both h.own ks (K ns) a.bases a.entries ls (L (names ns)) b.bases b.entries (a.alike g (front g x) ns e u) (b.alike g (back g x) (names ns) i.0 i.1);
+      placed = λ program first well own.
+          let p = a.placed program first well own in
+          let q = b.placed program first well own in
+          (below_both first a.bases b.bases p.0 q.0, set_both a.entries b.entries p.1 q.1);
     }
