@@ -92,3 +92,5 @@ pub mod LaidStatics
 pub mod SectionParts
 pub mod OneBehindAnother
 pub mod LaidSections
+pub mod SectionsLie
+pub mod SectionsSet
