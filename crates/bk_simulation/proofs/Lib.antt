@@ -94,3 +94,4 @@ pub mod OneBehindAnother
 pub mod LaidSections
 pub mod SectionsLie
 pub mod SectionsSet
+pub mod ProgramLaid
