@@ -84,3 +84,8 @@ pub mod SectionParts
 pub mod OneBehindAnother
 pub mod LastingKinds
 pub mod LaidSections
+pub mod StringCounts
+pub mod StringForms
+pub mod SpreadValues
+pub mod SpreadDeclared
+pub mod SpreadActs
