@@ -9,7 +9,6 @@ use Rattle.bk_scope.specs.declared.bound.Bound.TheVariants as b
 use Rattle.bk_scope.specs.declared.place.Place.{Place}
 use Rattle.bk_scope.specs.Places as place
 use Rattle.bk_scope.specs.Scope.{Binding, bound_in, bind}
-use Rattle.bk_scope.specs.Constants.{named_word}
 use Rattle.bk_scope.specs.Entering.{labels_of, labels_of_each}
 use Rattle.bk_scope.specs.Scoping.{labels_in_scope}
 use Rattle.bk_scope.specs.Sound.{GoesTo}
@@ -25,7 +24,7 @@ use Rattle.bk_trans.specs.Program.{Command, Commands}
 use Rattle.bk_trans.specs.Naming.{meant, worth}
 use Rattle.bk_trans.specs.Parts.{target_of_label}
 use Rattle.bk_trans.specs.Scheme.{goal_in, cases, cases_through, default_in, default_through, first_of, label_or}
-use Rattle.bk_meaning.specs.Environment.{Named, Sense, label, bind_each, sense_in, word_named, global_named, labelled, objects_of_each, objects_of_action, objects_of_actions}
+use Rattle.bk_meaning.specs.Environment.{Named, Sense, label, bind_each, labelled, objects_of_each, objects_of_action, objects_of_actions}
 use Rattle.bk_meaning.specs.Seeking.{Sought, the_label, the_case, the_default, same_place, stands_in, stands_in_one}
 use Rattle.bk_meaning.specs.Scopes.{alone}
 use Rattle.bk_trans.proofs.Scopes.{AllFound}
@@ -36,6 +35,7 @@ use Rattle.bk_simulation.proofs.Laid.{Scene, in_loop, in_switch, owning, Stretch
 use Rattle.bk_meaning.specs.Lasting.{of_each, of_action, of_actions, in_scope}
 use Rattle.bk_simulation.proofs.NamesBound.{labels_named}
 use Rattle.bk_simulation.proofs.NamesAgree.{Agree, agree_bound}
+use Rattle.bk_simulation.proofs.LastingKinds.{Kind, kinds_in, kinds_through}
 use Rattle.bk_simulation.proofs.Standing.{there_in, bases_inside, bases_of, StandsAt, first_of as first_at, home, Bases, bases_so, Lies}
 use Rattle.bk_simulation.proofs.LaidExpressions.{HasWords, Around, known, InNames}
 
@@ -76,22 +76,22 @@ finds_nothing own ts bs d at = record {
 -- A command that is laid, and its places.
 pub record Done (pay : ℕ) (sc : Scene) (i : ℕ) (a : Action) (d n : ℕ) (k : Command) (c rest : List Stmt) : Type 0 where
   pub at : Sought → List Stmt
-  pub lies : Lies (home sc pay) i (objects_of_action a) d rest (λ ns. of_action (with_names ns i) a) (InNames sc.bindings i (λ g env. IsAct g sc d env a at c rest))
+  pub lies : Lies (home sc pay) i (objects_of_action a) d rest (kinds_in n k) (λ ns. of_action (with_names ns i) a) (InNames sc.bindings i (λ g env. IsAct g sc d env a at c rest))
   pub finds : Finds sc.own sc.targets sc.bindings d a n k at
 
 -- commands in order
 pub record DoneEach (pay : ℕ) (sc : Scene) (i : ℕ) (a : Actions) (d n : ℕ) (k : Commands) (c rest : List Stmt) : Type 0 where
   pub at : Sought → List Stmt
-  pub lies : Lies (home sc pay) i (objects_of_actions a) d rest (λ ns. of_actions (with_names ns i) a) (InNames sc.bindings i (λ g env. AreActs g sc d env a at c rest))
+  pub lies : Lies (home sc pay) i (objects_of_actions a) d rest (kinds_through n k) (λ ns. of_actions (with_names ns i) a) (InNames sc.bindings i (λ g env. AreActs g sc d env a at c rest))
   pub finds : FindsEach sc.own sc.targets sc.bindings d a n k at
 
 -- values and where they are stored, by turns
-pub record Turns (pay : ℕ) (sc : Scene) (i j : ℕ) (xs es : Expressions) (d : ℕ) (c rest : List Stmt) : Type 0 where
+pub record Turns (pay : ℕ) (sc : Scene) (i j : ℕ) (xs es : Expressions) (d : ℕ) (c rest : List Stmt) (stored given : List Kind) : Type 0 where
   pub vs : List Stretch
   pub ss : List Stretch
   pub on : StandsAt sc.own d rest
-  pub from : Bases (home sc pay) j (objects_of_each es) (λ ns. of_each (with_names ns j) es) (InNames sc.bindings j (λ g env. AreFrom g sc d env es vs))
-  pub stores : Bases (home sc pay) i (objects_of_each xs) (λ ns. of_each (with_names ns i) xs) (InNames sc.bindings i (λ g env. AreStores g sc (d + 1) env xs ss))
+  pub from : Bases (home sc pay) j (objects_of_each es) given (λ ns. of_each (with_names ns j) es) (InNames sc.bindings j (λ g env. AreFrom g sc d env es vs))
+  pub stores : Bases (home sc pay) i (objects_of_each xs) stored (λ ns. of_each (with_names ns i) xs) (InNames sc.bindings i (λ g env. AreStores g sc (d + 1) env xs ss))
   pub turns : ByTurns xs es vs ss c rest
 
 pub doing_loop : (sc : Scene) (p : Place) (d n m e : ℕ) → Doing sc p d → Doing (in_loop n m e sc) (place.looping p) d
@@ -253,7 +253,7 @@ names_bound (x ∷ xs) m ns i = names_bound xs m (record { name = x; sense = m }
 -- one command as a scope of its own
 pub alone_lies : (pay : ℕ) (sc : Scene) (i : ℕ) (a : Action) (d n : ℕ) (k : Command) (c rest : List Stmt) (j q : ℕ) → q ≡ sc.procedure → turns_in a ≤ pay
     → Done pay (record sc { bindings = labels_in_scope q j (labels_of a) sc.bindings }) i a d n k c rest
-    → Lies (home sc pay) i (objects_of_action a) d rest (λ ns. of_action (in_scope a (with_names ns i)) a) (InNames sc.bindings i (λ g env. IsAlone g sc d env a j c rest))
+    → Lies (home sc pay) i (objects_of_action a) d rest (kinds_in n k) (λ ns. of_action (in_scope a (with_names ns i)) a) (InNames sc.bindings i (λ g env. IsAlone g sc d env a j c rest))
 alone_lies pay sc i a d n k c rest j q same size done =
     let done1 = subst (λ x. Done pay (record sc { bindings = labels_in_scope x j (labels_of a) sc.bindings }) i a d n k c rest) same done in
     let done2 = subst (λ x. Done pay (record sc { bindings = labels_in_scope sc.procedure j x sc.bindings }) i a d n k c rest) (sym (append-nil (labels_of a))) done1 in

@@ -1,6 +1,5 @@
 -- Declarations are laid where the scheme puts them, before what is laid in their scope: MANIFEST, STATIC, GLOBAL and LET.
 use Rattle.std.proofs.Common.{◌≡◌, ℕ, ◌+◌, ◌<◌, ◌≤◌, Bool, true, false, List, [], ◌∷◌, ◌++◌, cond, refl, sym, ap, ◌∙◌, subst, arith, append_assoc}
-use Rattle.bk_base.specs.declared.limit.TheConstants.{FRAME_WORDS}
 use Rattle.bk_syntax.specs.declared.tree.Sort.{Sort}
 use Rattle.bk_syntax.specs.declared.tree.Sort.TheVariants as sort
 use Rattle.bk_syntax.specs.Tree as t
@@ -8,7 +7,7 @@ use Rattle.bk_syntax.specs.Tree.{Items, Declaration, Declarations, Definitions}
 use Rattle.bk_scope.specs.declared.place.Place.{Place}
 use Rattle.bk_scope.specs.Scope.{Binding, bind_all}
 use Rattle.bk_scope.specs.Scoping.{procedures_in_scope, manifests_in_scope, statics_in_scope, globals_in_scope, place_behind_defined, scope_behind_one, place_behind_one, scope_behind, place_behind_all}
-use Rattle.bk_scope.specs.Sound.{SoundDeclared, SoundOneDeclared, SoundDefined}
+use Rattle.bk_scope.specs.Sound.{SoundDeclared, SoundOneDeclared}
 use Rattle.bk_scope.specs.Spots as spot
 use Rattle.bk_scope.specs.Spots.{Spot, procedures_in, behind_one_declared}
 use Rattle.bk_ocode.specs.declared.stmt.Stmt.{Stmt}
@@ -20,24 +19,26 @@ use Rattle.bk_trans.specs.Parts.{parts_of_definitions, parts_of_declaration, par
 use Rattle.bk_trans.specs.Scheme.{outermost, definitions_code, declaration_code, declarations_code}
 use Rattle.bk_trans.specs.declared.around.Around.{Around as Surroundings}
 use Rattle.bk_trans.proofs.Bodies.{same_defined}
-use Rattle.bk_meaning.specs.Environment.{Named, Environment, bind_procedures, within_let, constants_declared, objects_of_definitions, objects_of_declaration, objects_of_declarations}
-use Rattle.bk_meaning.specs.Environment as m
+use Rattle.bk_meaning.specs.Environment.{Named, Environment, bind_procedures, within_let, objects_of_definitions, objects_of_declaration, objects_of_declarations}
 use Rattle.bk_meaning.specs.Lasting.{Lasting, declared, all_declared, of_items, of_declaration, of_declarations, of_definitions}
 use Rattle.bk_simulation.specs.Regular.{RegularItems, RegularDeclaration, RegularDeclarations, RegularDefinitions}
 use Rattle.bk_simulation.proofs.Weights.{weight_one_declared, weight_declared, weight_defined}
 use Rattle.bk_simulation.proofs.Sought.{with_names}
 use Rattle.bk_simulation.proofs.Laid.{Setting, Scene, Exits, Spot as Slot, NamedIn, defines_variables, variables_bound, Renames, IsOneDeclared, AreDeclared, AreDefined}
 use Rattle.bk_simulation.proofs.NamesAgree.{Agree}
-use Rattle.bk_simulation.proofs.Standing.{Mean, there_in, StandsAt, passed, written, Home, home, Fitting, Suits, Bases, no_bases, bases_so, bases_of, bases_under, bases_some, Lies}
+use Rattle.bk_simulation.proofs.LastingKinds.{Kind, kinds_of_declaration, kinds_of_declarations, kinds_of_definitions}
+use Rattle.bk_simulation.proofs.Standing.{there_in, StandsAt, passed, written, Home, home, Bases, no_bases, bases_so, bases_of, bases_under, bases_some, Lies}
 use Rattle.bk_simulation.proofs.OneBehindAnother.{then_bases}
 use Rattle.bk_simulation.proofs.LaidExpressions.{HasWords, FoundParts, found_front, found_back, Around, InNames, joined_two}
 use Rattle.bk_simulation.proofs.LaidCommands.{Doing}
-use Rattle.bk_simulation.proofs.BehindDeclarations.{words_manifests, words_statics, words_globals, words_procedures, next_declared, next_all_declared}
+use Rattle.bk_simulation.proofs.BehindDeclarations.{words_manifests, words_statics, words_globals, words_procedures, next_declared}
 use Rattle.bk_simulation.proofs.Renamed.{static_places, AreBases, renames_manifests, renames_statics, renames_globals}
 use Rattle.bk_simulation.proofs.RenamedLets.{AreProcedures, from_spots, spots_in, variables_in, spots_words, renames_procedures, renames_variables, bound_agree, next_bound, foreign_spots, foreign_agree, foreign_mean, hidden_are}
 use Rattle.bk_simulation.proofs.LaidStatics.{statics_lie}
 use Rattle.bk_simulation.proofs.LetWords.{WordsBased, procedures_based}
-use Rattle.bk_simulation.proofs.LaidForms.{BlocksLie, laid_defined}
+use Rattle.bk_simulation.proofs.LaidValues.{ValofsLie}
+use Rattle.bk_simulation.proofs.LaidActs.{BlocksLie}
+use Rattle.bk_simulation.proofs.LaidDefinitions.{laid_defined}
 
 -- what is laid behind declarations, in their scope
 abbrev pub Later : Type 1
@@ -58,11 +59,11 @@ record NamesAfter (g : Setting) (sc : Scene) (ns : List Named) (i : ℕ) (x : De
   pub agree : Agree (declared x (with_names ns i)).names bs
   pub renames : Renames g sc (with_names ns i) bs (declared x (with_names ns i))
 
-constants_then : (pay : ℕ) (sc : Scene) (l : ℕ) (o : Sort) (is : Items) (i d many : ℕ) (c : List Stmt) (bs : List Binding) (L : List Named → List Lasting) (Then : Later) (P : Setting → Type 0)
+constants_then : (pay : ℕ) (sc : Scene) (l : ℕ) (o : Sort) (is : Items) (i d many : ℕ) (c : List Stmt) (bs : List Binding) {ks qs : List Kind} (L : List Named → List Lasting) (Then : Later) (P : Setting → Type 0)
     → ((g : Setting) → 0 < i → P g → (k : ℕ) (a : Surroundings) (e : Exits) (ns : List Named) → Agree ns sc.bindings → NamesAfter g (elsewhere sc k a e) ns i (t.constants l o is) bs)
-    → Bases (home sc pay) i (objects_of_declaration (t.constants l o is)) (λ ns. of_items (with_names ns i) o is) P
-    → Bases (record (home sc pay) { bindings = bs }) (i + objects_of_declaration (t.constants l o is)) many L (LaidLater Then sc bs d (i + objects_of_declaration (t.constants l o is)) c)
-    → Bases (home sc pay) i (objects_of_declaration (t.constants l o is) + many) (λ ns. of_items (with_names ns i) o is ++ L (declared (t.constants l o is) (with_names ns i)).names)
+    → Bases (home sc pay) i (objects_of_declaration (t.constants l o is)) ks (λ ns. of_items (with_names ns i) o is) P
+    → Bases (record (home sc pay) { bindings = bs }) (i + objects_of_declaration (t.constants l o is)) many qs L (LaidLater Then sc bs d (i + objects_of_declaration (t.constants l o is)) c)
+    → Bases (home sc pay) i (objects_of_declaration (t.constants l o is) + many) (ks ++ qs) (λ ns. of_items (with_names ns i) o is ++ L (declared (t.constants l o is) (with_names ns i)).names)
     (InNames sc.bindings i (λ g env. IsOneDeclared g sc d env (t.constants l o is) (Then g) c))
 constants_then pay sc l o is i d many c bs L Then P names own others =
     let h : Home = home sc pay in
@@ -76,14 +77,14 @@ constants_then pay sc l o is i d many c bs L Then P names own others =
       λ k bases frame grown. record { each = ((names g w.0 w.1 k outermost there ns u).renames.1 bases frame grown (record { each = (v k bases frame grown).each })).each },
     )) others in
     bases_so h i (n + many) _ _ (λ g y v ns u.
-        let w = names g v.0.0 v.0.1 sc.procedure sc.around sc.exits ns u in
-        (bs, w.renames, subst (λ j. Then g (record sc { bindings = bs }) d (with_names (declared x (with_names ns i)).names j) c) (sym (next_declared x (with_names ns i))) (v.1 (declared x (with_names ns i)).names w.agree))) both
+    let w = names g v.0.0 v.0.1 sc.procedure sc.around sc.exits ns u in
+    (bs, w.renames, subst (λ j. Then g (record sc { bindings = bs }) d (with_names (declared x (with_names ns i)).names j) c) (sym (next_declared x (with_names ns i))) (v.1 (declared x (with_names ns i)).names w.agree))) both
 
-pub constants_bases : (pay : ℕ) (sc : Scene) (p : Place) (s : Spot) (l : ℕ) (o : Sort) (is : Items) (i d n many : ℕ) (c : List Stmt) (L : List Named → List Lasting) (Then : Later) → HasWords sc.bindings
+pub constants_bases : (pay : ℕ) (sc : Scene) (p : Place) (s : Spot) (l : ℕ) (o : Sort) (is : Items) (i d n many : ℕ) (c : List Stmt) {qs : List Kind} (L : List Named → List Lasting) (Then : Later) → HasWords sc.bindings
     → SoundOneDeclared sc.bindings p s (t.constants l o is) → RegularItems is → FoundParts sc.own sc.targets (parts_of_declaration d n (declaration_named sc.bindings p s (t.constants l o is)))
-    → Bases (record (home sc pay) { bindings = scope_behind_one sc.bindings p s (t.constants l o is) }) (i + objects_of_declaration (t.constants l o is)) many L
+    → Bases (record (home sc pay) { bindings = scope_behind_one sc.bindings p s (t.constants l o is) }) (i + objects_of_declaration (t.constants l o is)) many qs L
     (LaidLater Then sc (scope_behind_one sc.bindings p s (t.constants l o is)) d (i + objects_of_declaration (t.constants l o is)) c)
-    → Bases (home sc pay) i (objects_of_declaration (t.constants l o is) + many) (λ ns. of_declaration (with_names ns i) (t.constants l o is) ++ L (declared (t.constants l o is) (with_names ns i)).names)
+    → Bases (home sc pay) i (objects_of_declaration (t.constants l o is) + many) (kinds_of_declaration n (declaration_named sc.bindings p s (t.constants l o is)) ++ qs) (λ ns. of_declaration (with_names ns i) (t.constants l o is) ++ L (declared (t.constants l o is) (with_names ns i)).names)
     (InNames sc.bindings i (λ g env. IsOneDeclared g sc d env (t.constants l o is) (Then g) c))
 constants_bases pay sc p s l sort.Manifest is i d n many c L Then w h r f b =
     constants_then pay sc l sort.Manifest is i d many c (manifests_in_scope sc.bindings is) L Then (λ g. Unit {0})
@@ -134,15 +135,15 @@ DefinedHere sc p s i n d ds c c0 g =
     WordsBased g.lasting sc.own (inner sc s ds).bindings p (first_defined s ds) i n ds
     × InNames (inner sc s ds).bindings i (λ g env. AreDefined g (inner sc s ds) d env ds c c0 (depth_here sc p s d ds) (slots_here sc p s d ds)) g
 
-definitions_lie : (pay : ℕ) (blocks : BlocksLie pay) (sc : Scene) (p : Place) (s : Spot) (i l : ℕ) (ds : Definitions) (d n : ℕ) (c c1 : List Stmt) → Around sc p d → SoundOneDeclared sc.bindings p s (t.definitions l ds)
+definitions_lie : (pay : ℕ) (valofs : ValofsLie pay) (blocks : BlocksLie pay) (sc : Scene) (p : Place) (s : Spot) (i l : ℕ) (ds : Definitions) (d n : ℕ) (c c1 : List Stmt) → Around sc p d → SoundOneDeclared sc.bindings p s (t.definitions l ds)
     → RegularDefinitions ds → weight_defined ds ≤ pay → FoundParts sc.own sc.targets (parts_of_declaration d n (declaration_named sc.bindings p s (t.definitions l ds)))
     → c ≡ declaration_code sc.targets d n (declaration_named sc.bindings p s (t.definitions l ds)) ++ c1 → StandsAt sc.own d c
-    → Lies (home (inner sc s ds) pay) i (objects_of_definitions ds) (depth_here sc p s d ds) (behind_let sc p s d ds c1) (λ ns. of_definitions (with_names ns i) ds) (DefinedHere sc p s i n d ds c (behind_let sc p s d ds c1))
-definitions_lie pay blocks sc p s i l ds d n c c1 a h r m f k st =
+    → Lies (home (inner sc s ds) pay) i (objects_of_definitions ds) (depth_here sc p s d ds) (behind_let sc p s d ds c1) (kinds_of_definitions n (definitions_named (inner sc s ds).bindings p (first_defined s ds) ds)) (λ ns. of_definitions (with_names ns i) ds) (DefinedHere sc p s i n d ds c (behind_let sc p s d ds c1))
+definitions_lie pay valofs blocks sc p s i l ds d n c c1 a h r m f k st =
     let bl = (inner sc s ds).bindings in
     let named = definitions_named bl p (first_defined s ds) ds in
     let around : Around (inner sc s ds) p d = record { same = a.same; at = a.at; words = words_procedures (s.number + 1) ds sc.bindings a.words } in
-    laid_defined pay blocks (inner sc s ds) p (first_defined s ds) i ds d n c (behind_let sc p s d ds c1) around h r m f
+    laid_defined pay valofs blocks (inner sc s ds) p (first_defined s ds) i ds d n c (behind_let sc p s d ds c1) around h r m f
     (joined_two (definitions_code sc.targets d n named) (cond (has_variables named) (Store ∷ []) []) c1 c k) st
 
 -- what stands around code behind a LET
@@ -185,25 +186,25 @@ let_after sc p s i l d ds g k q ns r u =
     )
 
 -- a LET, and what is laid behind it
-pub let_bases : (pay : ℕ) (blocks : BlocksLie pay) (sc : Scene) (p : Place) (s : Spot) (i l : ℕ) (ds : Definitions) (d n many : ℕ) (c c1 : List Stmt) (L : List Named → List Lasting) (Then : Later) → Around sc p d
+pub let_bases : (pay : ℕ) (valofs : ValofsLie pay) (blocks : BlocksLie pay) (sc : Scene) (p : Place) (s : Spot) (i l : ℕ) (ds : Definitions) (d n many : ℕ) (c c1 : List Stmt) {qs : List Kind} (L : List Named → List Lasting) (Then : Later) → Around sc p d
     → SoundOneDeclared sc.bindings p s (t.definitions l ds) → RegularDefinitions ds → weight_defined ds ≤ pay → FoundParts sc.own sc.targets (parts_of_declaration d n (declaration_named sc.bindings p s (t.definitions l ds)))
     → c ≡ declaration_code sc.targets d n (declaration_named sc.bindings p s (t.definitions l ds)) ++ c1 → StandsAt sc.own d c
-    → Bases (record (home sc pay) { bindings = scope_behind_one sc.bindings p s (t.definitions l ds) }) (i + objects_of_definitions ds) many L
+    → Bases (record (home sc pay) { bindings = scope_behind_one sc.bindings p s (t.definitions l ds) }) (i + objects_of_definitions ds) many qs L
     (LaidLater Then sc (scope_behind_one sc.bindings p s (t.definitions l ds)) (depth_here sc p s d ds) (i + objects_of_definitions ds) c1)
-    → Bases (home sc pay) i (objects_of_definitions ds + many) (λ ns. of_declaration (with_names ns i) (t.definitions l ds) ++ L (declared (t.definitions l ds) (with_names ns i)).names)
+    → Bases (home sc pay) i (objects_of_definitions ds + many) (kinds_of_definitions n (definitions_named (inner sc s ds).bindings p (first_defined s ds) ds) ++ qs) (λ ns. of_declaration (with_names ns i) (t.definitions l ds) ++ L (declared (t.definitions l ds) (with_names ns i)).names)
     (InNames sc.bindings i (λ g env. IsOneDeclared g sc d env (t.definitions l ds) (Then g) c))
-let_bases pay blocks sc p s i l ds d n many c c1 L Then a h r m f k st b =
+let_bases pay valofs blocks sc p s i l ds d n many c c1 {qs} L Then a h r m f k st b =
     let hm : Home = home sc pay in
     let bl = (inner sc s ds).bindings in
     let ps = slots_here sc p s d ds in
     let d1 : ℕ = depth_here sc p s d ds in
     let c0 = behind_let sc p s d ds c1 in
     let j : ℕ = i + objects_of_definitions ds in
-    let lies = definitions_lie pay blocks sc p s i l ds d n c c1 a h r m f k st in
+    let lies = definitions_lie pay valofs blocks sc p s i l ds d n c c1 a h r m f k st in
     let vars = variables_in bl p (first_defined s ds) d ds a.at h r lies.on.shallow in
     let q : ℕ = p.procedure in
     let bs : List Binding = bind_all (from_spots q ps) bl in
-    let others = subst (λ (z : List Binding). Bases (record hm { bindings = bind_all z bl }) j many L (LaidLater Then sc (bind_all z bl) d1 j c1)) vars.are b in
+    let others = subst (λ (z : List Binding). Bases (record hm { bindings = bind_all z bl }) j many qs L (LaidLater Then sc (bind_all z bl) d1 j c1)) vars.are b in
     let there : Exits = record { loop = false; switch = false } in
     let P : Setting → Type 0 = λ g. (0 < i) × DefinedHere sc p s i n d ds c c0 g in
     let own = bases_some hm i (objects_of_definitions ds) (DefinedHere sc p s i n d ds c c0) (bases_under hm bl i (objects_of_definitions ds) (DefinedHere sc p s i n d ds c c0) (λ ns. (bind_procedures ds (with_names ns i)).names)
@@ -213,51 +214,51 @@ let_bases pay blocks sc p s i l ds d n many c c1 L Then a h r m f k st b =
     )) lies.objects_are) in
     let both = then_bases hm bs i (objects_of_definitions ds) many P (LaidLater Then sc bs d1 j c1) (λ ns. (declared (t.definitions l ds) (with_names ns i)).names) own
     (λ g y ns u w.
-        let v = own.laid g y in (
-          (let_after sc p s i l d ds g 0 q ns r (procedures_mean sc p s i n d ds c c0 g 0 outermost there ns v.0 v.1 f u).0).0,
-          λ k bases frame grown.
-              let z = procedures_mean sc p s i n d ds c c0 g k outermost there ns v.0 v.1 f u in
-              (let_after sc p s i l d ds g k q ns r z.0).1 bases frame (record { each = (z.1.1 bases frame grown (record { each = (w k bases frame grown).each })).each }),
-        )) others in
+    let v = own.laid g y in (
+      (let_after sc p s i l d ds g 0 q ns r (procedures_mean sc p s i n d ds c c0 g 0 outermost there ns v.0 v.1 f u).0).0,
+      λ k bases frame grown.
+          let z = procedures_mean sc p s i n d ds c c0 g k outermost there ns v.0 v.1 f u in
+          (let_after sc p s i l d ds g k q ns r z.0).1 bases frame (record { each = (z.1.1 bases frame grown (record { each = (w k bases frame grown).each })).each }),
+    )) others in
     bases_so hm i (objects_of_definitions ds + many) _ _ (λ g y v ns u.
-        let z = procedures_mean sc p s i n d ds c c0 g sc.procedure sc.around sc.exits ns v.0.0 v.0.1 f u in
-        let names = (bind_procedures ds (with_names ns i)).names in (
-          bl,
-          bs,
-          d1,
-          ps,
-          c0,
-          c1,
-          z.1,
-          renames_variables ps sc bl (within_let ds (with_names ns i)) (objects_of_definitions ds) q z.1.0 vars.fit,
-          v.0.1.1 names z.0,
-          stored (has_variables (definitions_named bl p (first_defined s ds) ds)) c1 ∙ ap (λ w. cond w (Store ∷ c1) c1) (variables_here bl p (first_defined s ds) ds),
-          lies.on.shallow,
-          (λ o some. subst (λ w. Then g (record sc { bindings = bs }) d1 (with_names (variables_bound o ps (with_names names j)).names w) c1) (sym (next_bound ps o (with_names names j)))
-              (v.1 (variables_bound o ps (with_names names j)).names (bound_agree ps names bl j o q some z.0))),
-        )) both
+    let z = procedures_mean sc p s i n d ds c c0 g sc.procedure sc.around sc.exits ns v.0.0 v.0.1 f u in
+    let names = (bind_procedures ds (with_names ns i)).names in (
+      bl,
+      bs,
+      d1,
+      ps,
+      c0,
+      c1,
+      z.1,
+      renames_variables ps sc bl (within_let ds (with_names ns i)) (objects_of_definitions ds) q z.1.0 vars.fit,
+      v.0.1.1 names z.0,
+      stored (has_variables (definitions_named bl p (first_defined s ds) ds)) c1 ∙ ap (λ w. cond w (Store ∷ c1) c1) (variables_here bl p (first_defined s ds) ds),
+      lies.on.shallow,
+      (λ o some. subst (λ w. Then g (record sc { bindings = bs }) d1 (with_names (variables_bound o ps (with_names names j)).names w) c1) (sym (next_bound ps o (with_names names j)))
+          (v.1 (variables_bound o ps (with_names names j)).names (bound_agree ps names bl j o q some z.0))),
+    )) both
 
 -- ---- one declaration
 
 -- where no code stands for it
-at_code : (pay : ℕ) (sc : Scene) (i : ℕ) (x : Declaration) (d many : ℕ) (c c1 : List Stmt) (bs : List Binding) (L : List Named → List Lasting) (Then : Later) → c ≡ c1
-    → Bases (record (home sc pay) { bindings = bs }) (i + objects_of_declaration x) many L (LaidLater Then sc bs d (i + objects_of_declaration x) c1)
-    → Bases (record (home sc pay) { bindings = bs }) (i + objects_of_declaration x) many L (LaidLater Then sc bs d (i + objects_of_declaration x) c)
-at_code pay sc i x d many c c1 bs L Then k b = subst (λ z. Bases (record (home sc pay) { bindings = bs }) (i + objects_of_declaration x) many L (LaidLater Then sc bs d (i + objects_of_declaration x) z)) (sym k) b
+at_code : (pay : ℕ) (sc : Scene) (i : ℕ) (x : Declaration) (d many : ℕ) (c c1 : List Stmt) (bs : List Binding) {qs : List Kind} (L : List Named → List Lasting) (Then : Later) → c ≡ c1
+    → Bases (record (home sc pay) { bindings = bs }) (i + objects_of_declaration x) many qs L (LaidLater Then sc bs d (i + objects_of_declaration x) c1)
+    → Bases (record (home sc pay) { bindings = bs }) (i + objects_of_declaration x) many qs L (LaidLater Then sc bs d (i + objects_of_declaration x) c)
+at_code pay sc i x d many c c1 bs {qs} L Then k b = subst (λ z. Bases (record (home sc pay) { bindings = bs }) (i + objects_of_declaration x) many qs L (LaidLater Then sc bs d (i + objects_of_declaration x) z)) (sym k) b
 
-pub one_bases : (pay : ℕ) (blocks : BlocksLie pay) (sc : Scene) (p : Place) (s : Spot) (i : ℕ) (x : Declaration) (d n many : ℕ) (c c1 : List Stmt) (L : List Named → List Lasting) (Then : Later) → Around sc p d
+pub one_bases : (pay : ℕ) (valofs : ValofsLie pay) (blocks : BlocksLie pay) (sc : Scene) (p : Place) (s : Spot) (i : ℕ) (x : Declaration) (d n many : ℕ) (c c1 : List Stmt) {qs : List Kind} (L : List Named → List Lasting) (Then : Later) → Around sc p d
     → SoundOneDeclared sc.bindings p s x → RegularDeclaration x → weight_one_declared x ≤ pay → FoundParts sc.own sc.targets (parts_of_declaration d n (declaration_named sc.bindings p s x))
     → c ≡ declaration_code sc.targets d n (declaration_named sc.bindings p s x) ++ c1 → StandsAt sc.own d c
-    → Bases (record (home sc pay) { bindings = scope_behind_one sc.bindings p s x }) (i + objects_of_declaration x) many L
+    → Bases (record (home sc pay) { bindings = scope_behind_one sc.bindings p s x }) (i + objects_of_declaration x) many qs L
     (LaidLater Then sc (scope_behind_one sc.bindings p s x) (behind_declaration d (declaration_named sc.bindings p s x)) (i + objects_of_declaration x) c1)
-    → Bases (home sc pay) i (objects_of_declaration x + many) (λ ns. of_declaration (with_names ns i) x ++ L (declared x (with_names ns i)).names) (InNames sc.bindings i (λ g env. IsOneDeclared g sc d env x (Then g) c))
-one_bases pay blocks sc p s i (t.constants l sort.Manifest is) d n many c c1 L Then a h r m f k st b =
+    → Bases (home sc pay) i (objects_of_declaration x + many) (kinds_of_declaration n (declaration_named sc.bindings p s x) ++ qs) (λ ns. of_declaration (with_names ns i) x ++ L (declared x (with_names ns i)).names) (InNames sc.bindings i (λ g env. IsOneDeclared g sc d env x (Then g) c))
+one_bases pay valofs blocks sc p s i (t.constants l sort.Manifest is) d n many c c1 L Then a h r m f k st b =
     constants_bases pay sc p s l sort.Manifest is i d n many c L Then a.words h r f (at_code pay sc i (t.constants l sort.Manifest is) d many c c1 (scope_behind_one sc.bindings p s (t.constants l sort.Manifest is)) L Then k b)
-one_bases pay blocks sc p s i (t.constants l sort.Static is) d n many c c1 L Then a h r m f k st b =
+one_bases pay valofs blocks sc p s i (t.constants l sort.Static is) d n many c c1 L Then a h r m f k st b =
     constants_bases pay sc p s l sort.Static is i d n many c L Then a.words h r f (at_code pay sc i (t.constants l sort.Static is) d many c c1 (scope_behind_one sc.bindings p s (t.constants l sort.Static is)) L Then k b)
-one_bases pay blocks sc p s i (t.constants l sort.Global is) d n many c c1 L Then a h r m f k st b =
+one_bases pay valofs blocks sc p s i (t.constants l sort.Global is) d n many c c1 L Then a h r m f k st b =
     constants_bases pay sc p s l sort.Global is i d n many c L Then a.words h r f (at_code pay sc i (t.constants l sort.Global is) d many c c1 (scope_behind_one sc.bindings p s (t.constants l sort.Global is)) L Then k b)
-one_bases pay blocks sc p s i (t.definitions l ds) d n many c c1 L Then a h r m f k st b = let_bases pay blocks sc p s i l ds d n many c c1 L Then a h r m f k st b
+one_bases pay valofs blocks sc p s i (t.definitions l ds) d n many c c1 L Then a h r m f k st b = let_bases pay valofs blocks sc p s i l ds d n many c c1 L Then a h r m f k st b
 
 -- what stands around code behind constants
 pub behind_constants : (sc : Scene) (p : Place) (s : Spot) (l : ℕ) (o : Sort) (is : Items) (d : ℕ) → Doing sc p d → RegularItems is → Doing (record sc { bindings = scope_behind_one sc.bindings p s (t.constants l o is) }) p d
@@ -266,55 +267,54 @@ behind_constants sc p s l sort.Static is d a r = exits_same p p (refl, refl, ref
 behind_constants sc p s l sort.Global is d a r = exits_same p p (refl, refl, refl) sc _ d d a refl a.around.at (words_globals sc.bindings is sc.bindings a.around.words)
 
 -- where code goes on behind it
-pub behind_one : (pay : ℕ) (blocks : BlocksLie pay) (sc : Scene) (p : Place) (s : Spot) (x : Declaration) (d n : ℕ) (c c1 : List Stmt) → Doing sc p d → SoundOneDeclared sc.bindings p s x → RegularDeclaration x
+pub behind_one : (pay : ℕ) (valofs : ValofsLie pay) (blocks : BlocksLie pay) (sc : Scene) (p : Place) (s : Spot) (x : Declaration) (d n : ℕ) (c c1 : List Stmt) → Doing sc p d → SoundOneDeclared sc.bindings p s x → RegularDeclaration x
     → weight_one_declared x ≤ pay → FoundParts sc.own sc.targets (parts_of_declaration d n (declaration_named sc.bindings p s x)) → c ≡ declaration_code sc.targets d n (declaration_named sc.bindings p s x) ++ c1 → StandsAt sc.own d c
     → StandsAt sc.own (behind_declaration d (declaration_named sc.bindings p s x)) c1
     × Doing (record sc { bindings = scope_behind_one sc.bindings p s x }) (place_behind_one sc.bindings p s x) (behind_declaration d (declaration_named sc.bindings p s x))
-behind_one pay blocks sc p s (t.constants l sort.Manifest is) d n c c1 a h r m f k st = (written sc.own d c c1 k st, behind_constants sc p s l sort.Manifest is d a r)
-behind_one pay blocks sc p s (t.constants l sort.Static is) d n c c1 a h r m f k st = (written sc.own d c c1 k st, behind_constants sc p s l sort.Static is d a r)
-behind_one pay blocks sc p s (t.constants l sort.Global is) d n c c1 a h r m f k st = (written sc.own d c c1 k st, behind_constants sc p s l sort.Global is d a r)
-behind_one pay blocks sc p s (t.definitions l ds) d n c c1 a h r m f k st =
+behind_one pay valofs blocks sc p s (t.constants l sort.Manifest is) d n c c1 a h r m f k st = (written sc.own d c c1 k st, behind_constants sc p s l sort.Manifest is d a r)
+behind_one pay valofs blocks sc p s (t.constants l sort.Static is) d n c c1 a h r m f k st = (written sc.own d c c1 k st, behind_constants sc p s l sort.Static is d a r)
+behind_one pay valofs blocks sc p s (t.constants l sort.Global is) d n c c1 a h r m f k st = (written sc.own d c c1 k st, behind_constants sc p s l sort.Global is d a r)
+behind_one pay valofs blocks sc p s (t.definitions l ds) d n c c1 a h r m f k st =
     let bl = (inner sc s ds).bindings in
     let d1 : ℕ = depth_here sc p s d ds in
-    let lies = definitions_lie pay blocks sc p s 0 l ds d n c c1 a.around h r m f k st in
+    let lies = definitions_lie pay valofs blocks sc p s 0 l ds d n c c1 a.around h r m f k st in
     let vars = variables_in bl p (first_defined s ds) d ds a.around.at h r lies.on.shallow in
     let words : HasWords (bind_all (from_spots p.procedure (slots_here sc p s d ds)) bl) = spots_words (slots_here sc p s d ds) p.procedure bl (words_procedures (s.number + 1) ds sc.bindings a.around.words) in
-    let same = (same_defined bl p ds).1 in
-    (
+    let same = (same_defined bl p ds).1 in (
       behind_store sc (has_variables (definitions_named bl p (first_defined s ds) ds)) d1 c1 lies.on,
       exits_same p (place_behind_defined bl p ds) (ap (λ z. z.loop) same, ap (λ z. z.switch) same, ap (λ z. z.valof) same) sc _ d d1 a vars.procedure vars.depth (subst (λ z. HasWords (bind_all z bl)) (sym vars.are) words),
     )
 
 -- ---- declarations in order
 
-pub declared_behind : (pay : ℕ) (blocks : BlocksLie pay) (sc : Scene) (p : Place) (s : Spot) (xs : Declarations) (d n : ℕ) (c c1 : List Stmt) → Doing sc p d → SoundDeclared sc.bindings p s xs → RegularDeclarations xs
+pub declared_behind : (pay : ℕ) (valofs : ValofsLie pay) (blocks : BlocksLie pay) (sc : Scene) (p : Place) (s : Spot) (xs : Declarations) (d n : ℕ) (c c1 : List Stmt) → Doing sc p d → SoundDeclared sc.bindings p s xs → RegularDeclarations xs
     → weight_declared xs ≤ pay → FoundParts sc.own sc.targets (parts_of_declarations d n (declarations_named sc.bindings p s xs)) → c ≡ declarations_code sc.targets d n (declarations_named sc.bindings p s xs) ++ c1 → StandsAt sc.own d c
     → StandsAt sc.own (behind_declarations d (declarations_named sc.bindings p s xs)) c1
     × Doing (record sc { bindings = scope_behind sc.bindings p s xs }) (place_behind_all sc.bindings p s xs) (behind_declarations d (declarations_named sc.bindings p s xs))
-declared_behind pay blocks sc p s t.no_declarations d n c c1 a h r m f k st = (written sc.own d c c1 k st, a)
-declared_behind pay blocks sc p s (t.declare x xs) d n c c1 a h r m f k st =
+declared_behind pay valofs blocks sc p s t.no_declarations d n c c1 a h r m f k st = (written sc.own d c c1 k st, a)
+declared_behind pay valofs blocks sc p s (t.declare x xs) d n c c1 a h r m f k st =
     let one = declaration_named sc.bindings p s x in
     let bs = scope_behind_one sc.bindings p s x in
     let p1 : Place = place_behind_one sc.bindings p s x in
     let s1 : Spot = behind_one_declared x s in
     let more = declarations_code sc.targets (behind_declaration d one) (n + labels_of_declaration one) (declarations_named bs p1 s1 xs) in
-    let first = behind_one pay blocks sc p s x d n c (more ++ c1) a h.0 r.0 (omega (arith, m)) (found_front sc.own sc.targets (parts_of_declaration d n one) _ f) (joined_two (declaration_code sc.targets d n one) more c1 c k) st in
-    declared_behind pay blocks (record sc { bindings = bs }) p1 s1 xs (behind_declaration d one) (n + labels_of_declaration one) (more ++ c1) c1 first.1 h.1 r.1 (omega (arith, m))
+    let first = behind_one pay valofs blocks sc p s x d n c (more ++ c1) a h.0 r.0 (omega (arith, m)) (found_front sc.own sc.targets (parts_of_declaration d n one) _ f) (joined_two (declaration_code sc.targets d n one) more c1 c k) st in
+    declared_behind pay valofs blocks (record sc { bindings = bs }) p1 s1 xs (behind_declaration d one) (n + labels_of_declaration one) (more ++ c1) c1 first.1 h.1 r.1 (omega (arith, m))
     (found_back sc.own sc.targets (parts_of_declaration d n one) _ f) refl first.0
 
-pub declared_bases : (pay : ℕ) (blocks : BlocksLie pay) (sc : Scene) (p : Place) (s : Spot) (i : ℕ) (xs : Declarations) (d n many : ℕ) (c c1 : List Stmt) (L : List Named → List Lasting) (Then : Later) → Doing sc p d
+pub declared_bases : (pay : ℕ) (valofs : ValofsLie pay) (blocks : BlocksLie pay) (sc : Scene) (p : Place) (s : Spot) (i : ℕ) (xs : Declarations) (d n many : ℕ) (c c1 : List Stmt) {qs : List Kind} (L : List Named → List Lasting) (Then : Later) → Doing sc p d
     → SoundDeclared sc.bindings p s xs → RegularDeclarations xs → weight_declared xs ≤ pay → FoundParts sc.own sc.targets (parts_of_declarations d n (declarations_named sc.bindings p s xs))
     → c ≡ declarations_code sc.targets d n (declarations_named sc.bindings p s xs) ++ c1 → StandsAt sc.own d c
-    → Bases (record (home sc pay) { bindings = scope_behind sc.bindings p s xs }) (i + objects_of_declarations xs) many L
+    → Bases (record (home sc pay) { bindings = scope_behind sc.bindings p s xs }) (i + objects_of_declarations xs) many qs L
     (LaidLater Then sc (scope_behind sc.bindings p s xs) (behind_declarations d (declarations_named sc.bindings p s xs)) (i + objects_of_declarations xs) c1)
-    → Bases (home sc pay) i (objects_of_declarations xs + many) (λ ns. of_declarations (with_names ns i) xs ++ L (all_declared xs (with_names ns i)).names) (InNames sc.bindings i (λ g env. AreDeclared g sc d env xs (Then g) c))
-declared_bases pay blocks sc p s i t.no_declarations d n many c c1 L Then a h r m f k st b =
+    → Bases (home sc pay) i (objects_of_declarations xs + many) (kinds_of_declarations n (declarations_named sc.bindings p s xs) ++ qs) (λ ns. of_declarations (with_names ns i) xs ++ L (all_declared xs (with_names ns i)).names) (InNames sc.bindings i (λ g env. AreDeclared g sc d env xs (Then g) c))
+declared_bases pay valofs blocks sc p s i t.no_declarations d n many c c1 {qs} L Then a h r m f k st b =
     let none : i + 0 ≡ i = omega arith in
     let same : many ≡ 0 + many = omega arith in
-    let b1 = subst (λ z. Bases (home sc pay) z many L (LaidLater Then sc sc.bindings d z c1)) none b in
-    let b2 = subst (λ z. Bases (home sc pay) i many L (LaidLater Then sc sc.bindings d i z)) (sym k) b1 in
-    subst (λ z. Bases (home sc pay) i z L (LaidLater Then sc sc.bindings d i c)) same b2
-declared_bases pay blocks sc p s i (t.declare x xs) d n many c c1 L Then a h r m f k st b =
+    let b1 = subst (λ z. Bases (home sc pay) z many qs L (LaidLater Then sc sc.bindings d z c1)) none b in
+    let b2 = subst (λ z. Bases (home sc pay) i many qs L (LaidLater Then sc sc.bindings d i z)) (sym k) b1 in
+    subst (λ z. Bases (home sc pay) i z qs L (LaidLater Then sc sc.bindings d i c)) same b2
+declared_bases pay valofs blocks sc p s i (t.declare x xs) d n many c c1 {qs} L Then a h r m f k st b =
     let hm : Home = home sc pay in
     let one = declaration_named sc.bindings p s x in
     let bs = scope_behind_one sc.bindings p s x in
@@ -329,15 +329,19 @@ declared_bases pay blocks sc p s i (t.declare x xs) d n many c c1 L Then a h r m
     let within : Scene = record sc { bindings = bs } in
     let own_found = found_front sc.own sc.targets (parts_of_declaration d n one) _ f in
     let k1 = joined_two (declaration_code sc.targets d n one) more c1 c k in
-    let first = behind_one pay blocks sc p s x d n c (more ++ c1) a h.0 r.0 (omega (arith, m)) own_found k1 st in
+    let first = behind_one pay valofs blocks sc p s x d n c (more ++ c1) a h.0 r.0 (omega (arith, m)) own_found k1 st in
     let further : i + (ox + os) ≡ i + ox + os = omega arith in
     let many_more : ox + (os + many) ≡ ox + os + many = omega arith in
-    let b1 = subst (λ z. Bases (record hm { bindings = scope_behind bs p1 s1 xs }) z many L (LaidLater Then sc (scope_behind bs p1 s1 xs) (behind_declarations d1 named) z c1)) further b in
-    let others = declared_bases pay blocks within p1 s1 (i + ox) xs d1 n1 many (more ++ c1) c1 L Then first.1 h.1 r.1 (omega (arith, m)) (found_back sc.own sc.targets (parts_of_declaration d n one) _ f) refl first.0 b1 in
-    let whole = one_bases pay blocks sc p s i x d n (os + many) c (more ++ c1) (λ ns. of_declarations (with_names ns (i + ox)) xs ++ L (all_declared xs (with_names ns (i + ox))).names)
+    let b1 = subst (λ z. Bases (record hm { bindings = scope_behind bs p1 s1 xs }) z many qs L (LaidLater Then sc (scope_behind bs p1 s1 xs) (behind_declarations d1 named) z c1)) further b in
+    let others = declared_bases pay valofs blocks within p1 s1 (i + ox) xs d1 n1 many (more ++ c1) c1 L Then first.1 h.1 r.1 (omega (arith, m)) (found_back sc.own sc.targets (parts_of_declaration d n one) _ f) refl first.0 b1 in
+    let whole = one_bases pay valofs blocks sc p s i x d n (os + many) c (more ++ c1) (λ ns. of_declarations (with_names ns (i + ox)) xs ++ L (all_declared xs (with_names ns (i + ox))).names)
     (λ g sc0 d0 env0 c0. AreDeclared g sc0 d0 env0 xs (Then g) c0) a.around h.0 r.0 (omega (arith, m)) own_found k1 st others in
     let said = bases_of hm i (ox + (os + many)) _ (λ ns. of_declarations (with_names ns i) (t.declare x xs) ++ L (all_declared (t.declare x xs) (with_names ns i)).names) _ (λ ns.
-        let env : Environment = declared x (with_names ns i) in
-        ap (λ z. of_declaration (with_names ns i) x ++ (of_declarations (with_names env.names z) xs ++ L (all_declared xs (with_names env.names z)).names)) (sym (next_declared x (with_names ns i)))
-        ∙ sym (append_assoc (of_declaration (with_names ns i) x) (of_declarations env xs) (L (all_declared xs env).names))) whole in
-    subst (λ z. Bases hm i z (λ ns. of_declarations (with_names ns i) (t.declare x xs) ++ L (all_declared (t.declare x xs) (with_names ns i)).names) (InNames sc.bindings i (λ g env. AreDeclared g sc d env (t.declare x xs) (Then g) c))) many_more said
+    let env : Environment = declared x (with_names ns i) in
+    ap (λ z. of_declaration (with_names ns i) x ++ (of_declarations (with_names env.names z) xs ++ L (all_declared xs (with_names env.names z)).names)) (sym (next_declared x (with_names ns i)))
+    ∙ sym (append_assoc (of_declaration (with_names ns i) x) (of_declarations env xs) (L (all_declared xs env).names))) whole in
+    let all_kinds = append_assoc (kinds_of_declaration n one) (kinds_of_declarations n1 named) qs in
+    let objects_said : List Named → List Lasting = λ ns. of_declarations (with_names ns i) (t.declare x xs) ++ L (all_declared (t.declare x xs) (with_names ns i)).names in
+    let laid_said : Setting → Type 0 = InNames sc.bindings i (λ g env. AreDeclared g sc d env (t.declare x xs) (Then g) c) in
+    subst (λ z. Bases hm i z (kinds_of_declarations n (declarations_named sc.bindings p s (t.declare x xs)) ++ qs) objects_said laid_said) many_more
+    (subst (λ z. Bases hm i (ox + (os + many)) z objects_said laid_said) (sym all_kinds) said)

@@ -27,7 +27,7 @@ use Rattle.bk_trans.specs.declared.around.Target.{Target}
 use Rattle.bk_trans.specs.Program as term
 use Rattle.bk_trans.specs.Naming.{term_named, condition_named}
 use Rattle.bk_trans.specs.Parts.{Part, target_of, parts, parts_if}
-use Rattle.bk_trans.specs.Scheme.{goal, goal_of, push, infix_code, truth_value, value_code, jump_code, procedure_code, data_code}
+use Rattle.bk_trans.specs.Scheme.{push, infix_code, truth_value, value_code, jump_code, procedure_code, data_code}
 use Rattle.bk_trans.proofs.Scopes.{AllFound}
 use Rattle.bk_meaning.specs.Environment.{Named, Sense, constant, label, Environment, sense_in, word_named, constant_in}
 use Rattle.bk_meaning.specs.Seeking.{Sought, the_label, the_case, the_default, same_place, is_label, stands_in, stands_in_one}
@@ -35,7 +35,8 @@ use Rattle.bk_simulation.proofs.Sought.{with_names}
 use Rattle.bk_simulation.proofs.Laid.{Setting, Scene, Aim, pushes, jumps, ending}
 use Rattle.bk_meaning.specs.Lasting.{Lasting}
 use Rattle.bk_simulation.proofs.NamesAgree.{Agree, AgreeWords}
-use Rattle.bk_simulation.proofs.Standing.{StandsAt, passed, Home, Fitting, no_bases, Lies}
+use Rattle.bk_simulation.proofs.Standing.{StandsAt, passed, Home, home, Fitting, no_bases, Lies}
+use Rattle.bk_simulation.proofs.LastingKinds.{Kind, kinds, kinds_if}
 
 -- what the scheme gives for a value and for a jump
 abbrev pub coded : Scene → Place → Spot → ℕ → ℕ → Aim → Expression → List Stmt
@@ -45,6 +46,10 @@ coded sc p s d n (jumps u l) e = jump_code sc.targets d n (condition_named sc.bi
 abbrev pub own_parts : Scene → Place → Spot → ℕ → ℕ → Aim → Expression → List Part
 own_parts sc p s d n pushes e = parts d n (term_named sc.bindings p s e)
 own_parts sc p s d n (jumps u l) e = parts_if d n (condition_named sc.bindings p s e)
+
+abbrev pub own_kinds : Scene → Place → Spot → ℕ → Aim → Expression → List Kind
+own_kinds sc p s n pushes e = kinds n (term_named sc.bindings p s e)
+own_kinds sc p s n (jumps u l) e = kinds_if n (condition_named sc.bindings p s e)
 
 abbrev pub role : Aim → Role
 role pushes = Value
@@ -187,20 +192,31 @@ pub plain_parts : (sc : Scene) (p : Place) (s : Spot) (d n : ℕ) (aim : Aim) (e
 plain_parts sc p s d n pushes e h f = f
 plain_parts sc p s d n (jumps u l) e h f = subst (λ x. FoundParts sc.own sc.targets (parts_if d n x)) h f
 
+pub plain_kinds : (sc : Scene) (p : Place) (s : Spot) (n : ℕ) (aim : Aim) (e : Expression) → condition_named sc.bindings p s e ≡ term.holds (term_named sc.bindings p s e)
+    → kinds n (term_named sc.bindings p s e) ≡ own_kinds sc p s n aim e
+plain_kinds sc p s n pushes e h = refl
+plain_kinds sc p s n (jumps u l) e h = sym (ap (λ x. kinds_if n x) h)
+
 -- behind the value, and the jump if it is one
 pub ended : (own : Placed) (d : ℕ) (aim : Aim) (rest : List Stmt) → StandsAt own (d + 1) (ending aim rest) → StandsAt own (level aim d) rest
 ended own d pushes rest h = h
 ended own d (jumps u l) rest h = passed own (d + 1) d (JumpIf u l) rest h (omega arith)
 
-pub lies_ended : (h : Home) (next many d : ℕ) (aim : Aim) (rest : List Stmt) {L : List Named → List Lasting} (P : Setting → Type 0) → Lies h next many (d + 1) (ending aim rest) L P → Lies h next many (level aim d) rest L P
+pub lies_ended : (h : Home) (next many d : ℕ) (aim : Aim) (rest : List Stmt) {ks : List Kind} {L : List Named → List Lasting} (P : Setting → Type 0) → Lies h next many (d + 1) (ending aim rest) ks L P
+    → Lies h next many (level aim d) rest ks L P
 lies_ended h next many d aim rest P a = record { on = ended h.own d aim rest a.on; objects_are = a.objects_are }
+
+pub plain_lies : (pay : ℕ) (sc : Scene) (p : Place) (s : Spot) (i d n : ℕ) (aim : Aim) (e : Expression) (many : ℕ) (rest : List Stmt) {L : List Named → List Lasting} (P : Setting → Type 0)
+    → condition_named sc.bindings p s e ≡ term.holds (term_named sc.bindings p s e) → Lies (home sc pay) i many (level aim d) rest (kinds n (term_named sc.bindings p s e)) L P
+    → Lies (home sc pay) i many (level aim d) rest (own_kinds sc p s n aim e) L P
+plain_lies pay sc p s i d n aim e many rest {L} P h a = subst (λ ks. Lies (home sc pay) i many (level aim d) rest ks L P) (plain_kinds sc p s n aim e h) a
 
 -- one statement that pushes
 pub leaf_on : (own : Placed) (d : ℕ) (aim : Aim) (c rest : List Stmt) (x : Stmt) → c ≡ x ∷ ending aim rest → next_depth d x ≡ d + 1 → StandsAt own d c → StandsAt own (level aim d) rest
 leaf_on own d aim c rest x e m st = ended own d aim rest (passed own d (d + 1) x (ending aim rest) (subst (λ y. StandsAt own d y) e st) m)
 
 pub leaf_lies : (h : Home) (next d : ℕ) (aim : Aim) (c rest : List Stmt) (x : Stmt) (P : Setting → Type 0) → c ≡ x ∷ ending aim rest → next_depth d x ≡ d + 1 → StandsAt h.own d c
-    → ((g : Setting) → Fitting h g → P g) → Lies h next 0 (level aim d) rest (λ ns. []) P
+    → ((g : Setting) → Fitting h g → P g) → Lies h next 0 (level aim d) rest [] (λ ns. []) P
 leaf_lies h next d aim c rest x P e m st f = record { on = leaf_on h.own d aim c rest x e m st; objects_are = no_bases h next P f }
 
 pub pushed_depth : (ts : List Target) (k : ℕ) (x : Bound) → next_depth k (push ts x) ≡ k + 1
@@ -244,3 +260,7 @@ joined_two x y r c e = e ∙ append_assoc x y r
 
 pub joined_three : (x y z r c : List Stmt) → c ≡ (x ++ y ++ z) ++ r → c ≡ x ++ (y ++ (z ++ r))
 joined_three x y z r c e = e ∙ append_assoc (x ++ y) z r ∙ append_assoc x y (z ++ r)
+
+-- the codes of `E1 -> E2, E3`
+pub joined_choice : (x y g h v r c : List Stmt) → c ≡ (x ++ y ++ (g ++ v) ++ h) ++ r → c ≡ x ++ (y ++ (g ++ (v ++ (h ++ r))))
+joined_choice x y g h v r c e = e ∙ append_assoc ((x ++ y) ++ (g ++ v)) h r ∙ append_assoc (x ++ y) (g ++ v) (h ++ r) ∙ append_assoc x y ((g ++ v) ++ (h ++ r)) ∙ ap (λ k. x ++ (y ++ k)) (append_assoc g v (h ++ r))

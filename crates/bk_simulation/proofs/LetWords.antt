@@ -1,8 +1,7 @@
 -- The words of a LET's procedures: where their code and data are found, each has its place where its number leads.
-use Rattle.std.proofs.Common.{◌≡◌, inl, inr, ℕ, ◌+◌, ◌<◌, ◌≤◌, Bool, false, List, Some, cond, refl, sym, ap, ◌∙◌, subst, arith}
+use Rattle.std.proofs.Common.{◌≡◌, inl, inr, ℕ, ◌+◌, ◌<◌, ◌≤◌, Bool, false, List, Some, cond, sym, ap, ◌∙◌, subst, arith}
 use Rattle.bk_syntax.specs.Tree as t
 use Rattle.bk_syntax.specs.Tree.{Definitions}
-use Rattle.bk_scope.specs.declared.bound.Bound.{Bound}
 use Rattle.bk_scope.specs.declared.bound.Bound.TheVariants as b
 use Rattle.bk_scope.specs.declared.place.Place.{Place}
 use Rattle.bk_scope.specs.Scope.{Binding, bound_in, bind, is_global}
@@ -21,8 +20,8 @@ use Rattle.bk_trans.specs.Scheme.{goal, goal_of}
 use Rattle.bk_trans.proofs.Scopes.{AllFound, AmongProcedures, Looked, look_procedure}
 use Rattle.bk_meaning.specs.Environment.{objects, objects_of_action, objects_of_starts}
 use Rattle.bk_simulation.proofs.Memory.{BaseOf}
-use Rattle.bk_simulation.proofs.LaidExpressions.{FoundParts, found_front, found_back}
-use Rattle.bk_simulation.proofs.LaidProcedures.{word_base}
+use Rattle.bk_simulation.proofs.LaidExpressions.{FoundParts, found_back}
+use Rattle.bk_simulation.proofs.LastingKinds.{word_base}
 use Rattle.bk_simulation.proofs.Renamed.{itself}
 use Rattle.bk_simulation.proofs.RenamedLets.{AreProcedures}
 

@@ -65,6 +65,7 @@ pub mod Unending
 pub mod SectionGlobals
 pub mod Held
 pub mod NamesAgree
+pub mod LastingKinds
 pub mod Standing
 pub mod LaidExpressions
 pub mod LaidCommands
@@ -75,7 +76,14 @@ pub mod Renamed
 pub mod RenamedLets
 pub mod Weights
 pub mod LetWords
-pub mod LaidForms
+pub mod LaidCalls
+pub mod LaidValues
+pub mod LaidAssigned
+pub mod LaidSimple
+pub mod LaidFors
+pub mod LaidActs
+pub mod LaidValofs
+pub mod LaidDefinitions
 pub mod LaidDeclarations
 pub mod LaidBlocks
 pub mod LaidProcedures

@@ -6,14 +6,15 @@ use Rattle.bk_meaning.specs.Lasting.{Lasting}
 use Rattle.bk_simulation.proofs.Laid.{Setting}
 use Rattle.bk_simulation.proofs.Held.{held_both, lasting_both}
 use Rattle.bk_simulation.proofs.NamesAgree.{Agree}
+use Rattle.bk_simulation.proofs.LastingKinds.{Kind, as_both}
 use Rattle.bk_simulation.proofs.Standing.{Home, Suits, Bases, Mean, follow_first, follow_second, words_first, words_second, length_both}
 
 -- Objects of one part, and then those of another, where other names are in scope, which mean what they should wherever the objects
 -- of the first part have their bases.
-pub then_bases : (h : Home) (bs : List Binding) (next n m : ℕ) {K L : List Named → List Lasting} (P Q : Setting → Type 0) (names : List Named → List Named) (a : Bases h next n K P)
+pub then_bases : (h : Home) (bs : List Binding) (next n m : ℕ) {ks ls : List Kind} {K L : List Named → List Lasting} (P Q : Setting → Type 0) (names : List Named → List Named) (a : Bases h next n ks K P)
     → ((g : Setting) → Suits h next a.bases a.entries g → (ns : List Named) → Agree ns h.bindings → Mean h g ns → Agree (names ns) bs × Mean (record h { bindings = bs }) g (names ns))
-    → Bases (record h { bindings = bs }) (next + n) m L Q → Bases h next (n + m) (λ ns. K ns ++ L (names ns)) (λ g. P g × Q g)
-then_bases h bs next n m {K} {L} P Q names a after b =
+    → Bases (record h { bindings = bs }) (next + n) m ls L Q → Bases h next (n + m) (ks ++ ls) (λ ns. K ns ++ L (names ns)) (λ g. P g × Q g)
+then_bases h bs next n m {ks} {ls} {K} {L} P Q names a after b =
     let an = a.all in
     let bn = b.all in
     let ae = a.all_entries in
@@ -38,4 +39,7 @@ then_bases h bs next n m {K} {L} P Q names a after b =
       held = λ g x ns e u.
           let i = after g (front g x) ns e u in
           held_both g next n (K ns) (L (names ns)) (a.count ns) (a.held g (front g x) ns e u) (b.held g (back g x) (names ns) i.0 i.1);
+      alike = λ g x ns e u.
+          let i = after g (front g x) ns e u in
+          as_both h.own ks (K ns) a.bases a.entries ls (L (names ns)) b.bases b.entries (a.alike g (front g x) ns e u) (b.alike g (back g x) (names ns) i.0 i.1);
     }

@@ -1,23 +1,21 @@
 -- What a LET brings into scope: its procedures, and behind it its variables; names that agree, labels that stay, and words that stand
 -- where the names say.
-use Rattle.std.proofs.Common.{◌≡◌, ℕ, suc, ◌+◌, ◌-◌, ◌<◌, ◌≤◌, ◌^◌, Bool, true, false, List, [], ◌∷◌, ◌++◌, length, Option, Some, None, cond, refl, sym, ap, ◌∙◌, subst, arith, nat_lt, ◌==◌, ◌≢◌}
-use Rattle.std.specs.Str.{bytes_eq}
+use Rattle.std.proofs.Common.{◌≡◌, ℕ, suc, ◌+◌, ◌-◌, ◌<◌, ◌≤◌, ◌^◌, Bool, true, false, List, [], ◌∷◌, ◌++◌, length, Option, Some, None, cond, refl, sym, ap, ◌∙◌, subst, arith, nat_lt}
 use Rattle.std.proofs.lemmas.Bool.Decides.{nat_tests}
-use Rattle.std.proofs.lemmas.Slice.Eq.{bytes_eq-Decides}
-use Rattle.bk_base.specs.declared.limit.TheConstants.{FRAME_WORDS, GLOBAL_NUMBER, VEC_NUMBER}
+use Rattle.bk_base.specs.declared.limit.TheConstants.{FRAME_WORDS, VEC_NUMBER}
 use Rattle.bk_syntax.specs.Tree as t
 use Rattle.bk_syntax.specs.Tree.{Mention, Expression, Items, Definition, Definitions, Starts}
 use Rattle.bk_scope.specs.declared.bound.Bound.{Bound}
 use Rattle.bk_scope.specs.declared.bound.Bound.TheVariants as b
 use Rattle.bk_scope.specs.Scope.{Binding, bound_in, bind, bind_all, is_global}
-use Rattle.bk_scope.specs.Constants.{named_word, constant_word}
+use Rattle.bk_scope.specs.Constants.{constant_word}
 use Rattle.bk_scope.specs.declared.place.Place.{Place}
 use Rattle.bk_scope.specs.Places.{deeper}
 use Rattle.bk_scope.specs.Spots as scope_spot
 use Rattle.bk_scope.specs.Spots.{Spot as ScopeSpot}
 use Rattle.bk_scope.specs.Names.{within, words_of_vector, words_of_start, variables_of, place_behind}
-use Rattle.bk_scope.specs.Scoping.{place_behind_defined, variables_in_scope, procedure_in_scope, procedures_in_scope, manifests_in_scope, statics_in_scope, globals_in_scope}
-use Rattle.bk_scope.specs.Sound.{HasWordUpTo, ManifestsSound, GlobalsSound, SoundStarted, SoundDefined}
+use Rattle.bk_scope.specs.Scoping.{place_behind_defined, variables_in_scope, procedure_in_scope, procedures_in_scope}
+use Rattle.bk_scope.specs.Sound.{HasWordUpTo, SoundStarted, SoundDefined}
 use Rattle.bk_ocode.specs.OcodeState.{Placed}
 use Rattle.bk_trans.specs.declared.around.Target.{Target}
 use Rattle.bk_trans.specs.Depths.{behind_starts, behind_definitions}
@@ -26,14 +24,13 @@ use Rattle.bk_trans.specs.Scheme.{goal_of, variable}
 use Rattle.bk_meaning.specs.Environment as m
 use Rattle.bk_meaning.specs.Lasting.{variables_hidden}
 use Rattle.bk_meaning.specs.Environment.{bind_each, Named, Environment, Sense, constant, cell, label, foreign, sense_in, sense_of, word_named, constant_in, globals_object, global_named, bind_procedure_as, bind_procedures, objects, objects_of_action, objects_of_starts, sense_of_constant, sense_of_global, letters, manifests, statics}
-use Rattle.bk_simulation.specs.Regular.{starts, RegularItems, RegularDefinitions}
-use Rattle.bk_simulation.proofs.Memory.{BaseOf, Grown}
+use Rattle.bk_simulation.specs.Regular.{starts, RegularDefinitions}
+use Rattle.bk_simulation.proofs.Memory.{BaseOf}
 use Rattle.bk_simulation.proofs.Sought.{with_names}
-use Rattle.bk_simulation.proofs.Laid.{Setting, Scene, place_of, IsWord, IsLabelHere, NameAt, NamedIn, KeepsLabels, Spot, spots_of, variables_bound, AreAt, Renames, RenamesVariables}
+use Rattle.bk_simulation.proofs.Laid.{Setting, Scene, place_of, IsWord, NameAt, NamedIn, KeepsLabels, Spot, spots_of, variables_bound, AreAt, RenamesVariables}
 use Rattle.bk_simulation.proofs.NamesBound.{bound_named}
-use Rattle.bk_simulation.proofs.NamesAgree.{Agree, AgreeWords, SameGlobal, own_cell, agree_bound}
-use Rattle.bk_simulation.proofs.LaidExpressions.{HasWords, constants_agree}
-use Rattle.bk_simulation.proofs.Constants.{constant_small}
+use Rattle.bk_simulation.proofs.NamesAgree.{Agree, SameGlobal, own_cell, agree_bound}
+use Rattle.bk_simulation.proofs.LaidExpressions.{HasWords}
 use Rattle.bk_simulation.proofs.BehindDeclarations.{words_bound}
 use Rattle.bk_simulation.proofs.Renamed.{itself, keeps_bound, keeps_same, keeps_both, MeanThere, static_at}
 

@@ -74,16 +74,16 @@ abbrev mutual
   RegularStarts (t.vector l e is) = Regular e × RegularStarts is
 
 -- variables stand in blocks alone: outside them a LET has procedures
-abbrev pub HasProcedures : Definitions → Type 0
-HasProcedures t.no_definitions = Unit {0}
-HasProcedures (t.define (t.routine l x fs c) ds) = HasProcedures ds
-HasProcedures (t.define (t.function l x fs e) ds) = HasProcedures ds
-HasProcedures (t.define (t.variables l xs is) ds) = ⊥
+abbrev pub DefineNoVariables : Definitions → Type 0
+DefineNoVariables t.no_definitions = Unit {0}
+DefineNoVariables (t.define (t.routine l x fs c) ds) = DefineNoVariables ds
+DefineNoVariables (t.define (t.function l x fs e) ds) = DefineNoVariables ds
+DefineNoVariables (t.define (t.variables l xs is) ds) = ⊥
 
-abbrev pub HaveProcedures : Declarations → Type 0
-HaveProcedures t.no_declarations = Unit {0}
-HaveProcedures (t.declare (t.constants l s is) ds) = HaveProcedures ds
-HaveProcedures (t.declare (t.definitions l hs) ds) = HasProcedures hs × HaveProcedures ds
+abbrev pub DeclareNoVariables : Declarations → Type 0
+DeclareNoVariables t.no_declarations = Unit {0}
+DeclareNoVariables (t.declare (t.constants l s is) ds) = DeclareNoVariables ds
+DeclareNoVariables (t.declare (t.definitions l hs) ds) = DefineNoVariables hs × DeclareNoVariables ds
 
 abbrev pub IsRegular : Declarations → Type 0
-IsRegular ds = RegularDeclarations ds × HaveProcedures ds
+IsRegular ds = RegularDeclarations ds × DeclareNoVariables ds
