@@ -90,7 +90,6 @@ pub mod LaidProcedures
 pub mod LaidStatics
 pub mod SectionParts
 pub mod OneBehindAnother
-pub mod LastingKinds
 pub mod LaidSections
 pub mod StringCounts
 pub mod StringForms

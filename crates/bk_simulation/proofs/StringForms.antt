@@ -13,6 +13,7 @@ use Rattle.bk_syntax.specs.Tree.{Mention, Expression, Expressions, Action, Actio
 use Rattle.bk_scope.specs.declared.bound.Bound.{Bound}
 use Rattle.bk_scope.specs.declared.bound.Bound.TheVariants as b
 use Rattle.bk_scope.specs.Scope.{Binding}
+use Rattle.bk_ocode.specs.OcodeState.{Placed}
 use Rattle.bk_ocode.specs.declared.stmt.Stmt.{Stmt}
 use Rattle.bk_ocode.specs.declared.stmt.Stmt.TheVariants.{Label, Text, Stack, Jump, Store, Save, Return, ReturnItem}
 use Rattle.bk_trans.specs.declared.around.Target.{Target}
@@ -31,7 +32,7 @@ use Rattle.bk_simulation.proofs.Laid.{Setting, Scene, Spot, Aim, pushes, jumps, 
 use Rattle.bk_simulation.proofs.Held.{HeldOne, HeldList}
 use Rattle.bk_simulation.proofs.Procedures.{IsBody, IsProcedure}
 use Rattle.bk_simulation.proofs.Standing.{first_of}
-use Rattle.bk_simulation.proofs.StringCounts.{Form, a_string, some_words, a_procedure, strings_at, entries_in, Key, Span, times, here, in_spans, IsSpan, AreSpread, spread_append, times_both, spans_both, forms_both, Spread, Same, by_path, same_on, spread_none, spread_top, spread_bottom, spread_both, spread_back, spread_string, spread_words, spread_procedure, spread_as}
+use Rattle.bk_simulation.proofs.StringCounts.{Form, a_string, some_words, a_procedure, strings_at, entries_in, Span, times, in_spans, IsSpan, AreSpread, spread_append, times_both, spans_both, forms_both, Spread, Same, by_path, same_on, spread_none, spread_top, spread_bottom, spread_both, spread_back, spread_string, spread_words, spread_procedure, spread_as}
 
 -- ---- the forms of what lasts of a tree
 
@@ -164,23 +165,23 @@ later env held i k z = record { env_next = ap (λ x. x + k) z.env_next; held_nex
 pub same_numbers : (env held env1 held1 : Environment) (i : ℕ) → env1.next ≡ env.next → held1.next ≡ held.next → Numbered env held i → Numbered env1 held1 i
 same_numbers env held env1 held1 i e h z = record { env_next = e ∙ z.env_next; held_next = h ∙ z.held_next }
 
-pub held_front : (g : Setting) (i : ℕ) (xs ys : List Lasting) → HeldList g i (xs ++ ys) → HeldList g i xs
-held_front g i [] ys h = tt
-held_front g i (x ∷ xs) ys h = (h.0, held_front g (suc i) xs ys h.1)
+pub held_front : (g : Setting) (own : Placed) (i : ℕ) (xs ys : List Lasting) → HeldList g own i (xs ++ ys) → HeldList g own i xs
+held_front g own i [] ys h = tt
+held_front g own i (x ∷ xs) ys h = (h.0, held_front g own (suc i) xs ys h.1)
 
-pub held_back : (g : Setting) (i n : ℕ) (xs ys : List Lasting) → length xs ≡ n → HeldList g i (xs ++ ys) → HeldList g (i + n) ys
-held_back g i n [] ys e h = let s : i ≡ i + n = omega (arith, e) in subst (λ k. HeldList g k ys) s h
-held_back g i n (x ∷ xs) ys e h =
+pub held_back : (g : Setting) (own : Placed) (i n : ℕ) (xs ys : List Lasting) → length xs ≡ n → HeldList g own i (xs ++ ys) → HeldList g own (i + n) ys
+held_back g own i n [] ys e h = let s : i ≡ i + n = omega (arith, e) in subst (λ k. HeldList g own k ys) s h
+held_back g own i n (x ∷ xs) ys e h =
     let s : suc i + length xs ≡ i + n = omega (arith, e) in
-    subst (λ k. HeldList g k ys) s (held_back g (suc i) (length xs) xs ys refl h.1)
+    subst (λ k. HeldList g own k ys) s (held_back g own (suc i) (length xs) xs ys refl h.1)
 
-pub held_third : (g : Setting) (i n k : ℕ) (xs ys zs : List Lasting) → length xs ≡ n → length ys ≡ k → HeldList g i (xs ++ ys ++ zs) → HeldList g (i + n + k) zs
-held_third g i n k xs ys zs e f h = held_back g (i + n) k ys zs f (held_back g i n xs (ys ++ zs) e (subst (λ w. HeldList g i w) (append_assoc xs ys zs) h))
+pub held_third : (g : Setting) (own : Placed) (i n k : ℕ) (xs ys zs : List Lasting) → length xs ≡ n → length ys ≡ k → HeldList g own i (xs ++ ys ++ zs) → HeldList g own (i + n + k) zs
+held_third g own i n k xs ys zs e f h = held_back g own (i + n) k ys zs f (held_back g own i n xs (ys ++ zs) e (subst (λ w. HeldList g own i w) (append_assoc xs ys zs) h))
 
-pub spread_three : (g : Setting) (j : ℕ) (c c1 c2 rest : List Stmt) (i m n k : ℕ) (fs hs ls : List Form) → Spread g j c c1 i m fs → Spread g j c1 c2 (i + m) n hs → Spread g j c2 rest (i + m + n) k ls → Spread g j c rest i (m + n + k) (fs ++ hs ++ ls)
-spread_three g j c c1 c2 rest i m n k fs hs ls x y z =
-    spread_both g j c c2 rest i (m + n) k (fs ++ hs) ls (spread_both g j c c1 c2 i m n fs hs x y) (spread_as g j c2 rest (i + m + n) (i + (m + n)) k k ls ls (omega arith) refl refl z)
+pub spread_three : (g : Setting) (own : Placed) (c c1 c2 rest : List Stmt) (i m n k : ℕ) (fs hs ls : List Form) → Spread g own c c1 i m fs → Spread g own c1 c2 (i + m) n hs → Spread g own c2 rest (i + m + n) k ls → Spread g own c rest i (m + n + k) (fs ++ hs ++ ls)
+spread_three g own c c1 c2 rest i m n k fs hs ls x y z =
+    spread_both g own c c2 rest i (m + n) k (fs ++ hs) ls (spread_both g own c c1 c2 i m n fs hs x y) (spread_as g own c2 rest (i + m + n) (i + (m + n)) k k ls ls (omega arith) refl refl z)
 
 -- the section of a scene is one of the program
-abbrev pub IsOwn : Setting → Scene → Type 0
-IsOwn g sc = slice_get g.program.sections sc.section ≡ Some sc.own
+abbrev pub IsOwn : Placed → Scene → Type 0
+IsOwn own sc = sc.own ≡ own
