@@ -232,12 +232,12 @@ letters_length (x ∷ xs) = ap (λ k. suc k) (letters_length xs)
 pub procedure_is : (pay section : ℕ) (own : Placed) (ts : List Target) (bs : List Binding) (k : ℕ) (fs : List Mention) (i many : ℕ) (body : Body) (n : ℕ) (ks : List Kind) (p : ProcedureLies pay section own ts bs k fs i many body n ks) (g : Setting) (number : ℕ)
     (ns : List Named) (global : Option ℕ) → Suits (record { section = section; own = own; targets = ts; bindings = bs; pay = pay }) i p.objects_are.bases p.objects_are.entries g → Agree ns bs → g.codes.procedure number ≡ own.places.label n
     → ((bases : List ℕ) (frame : ℕ) → Grown g.lasting bases → NamedIn (scene_of section own ts bs k) (with_names ns i) bases frame)
-    → IsProcedure g number (record { formals = letters fs; body = body; env = with_names ns i; global = global })
+    → (q : IsProcedure g number (record { formals = letters fs; body = body; env = with_names ns i; global = global })) × (q.scene.own ≡ own)
 procedure_is pay section own ts bs k fs i many body n ks p g number ns global suits agrees word outer =
     let sc = scene_of section own ts (with_formals k 2 fs bs) k in
     let same = letters_length fs in
     let few = p.few in
-    record {
+    (record {
       scene = sc;
       is_own = suits.fits.own;
       place = p.place;
@@ -250,7 +250,7 @@ procedure_is pay section own ts bs k fs i many body n ks p g number ns global su
       few = omega (arith, few, same);
       laid = λ o above. subst (λ z. IsBody g sc (z + 2) (bind_formals o 0 (letters fs) (with_names ns i)) body p.code) (sym same) (p.objects_are.laid g suits ns agrees o above);
       names = λ o frame bases grown base low. formals_named (scene_of section own ts bs k) k o 0 2 fs bs (with_names ns i) bases frame refl (omega (arith, few)) base low (outer bases frame grown);
-    }
+    }, refl)
 
 -- ---- what lasts of a procedure
 
@@ -323,10 +323,11 @@ procedure_bases pay section own ts bs k x fs i many body n ks p callable word =
       laid = λ g s. s.follow.0;
       held = λ g s ns u v. (
         (
-          procedure_is pay section own ts bs k fs (i + 1) many body n ks p g i ns (global_named (sense_in ns x)) (inner g s) u s.words.0 (λ bases frame grown. record { each = (v k bases frame grown).each }),
+          (let q = procedure_is pay section own ts bs k fs (i + 1) many body n ks p g i ns (global_named (sense_in ns x)) (inner g s) u s.words.0 (λ bases frame grown. record { each = (v k bases frame grown).each }) in q.0),
+          (let q = procedure_is pay section own ts bs k fs (i + 1) many body n ks p g i ns (global_named (sense_in ns x)) (inner g s) u s.words.0 (λ bases frame grown. record { each = (v k bases frame grown).each }) in q.1),
           subst (λ y. HeldWord g i y) (sym (same_global (sense_in ns x) (bound_in bs x) (u.1 x))) (word_held g section own n i p.place p.name (bound_in bs x) s.fits.own p.at s.words.0 callable word s.follow.0),
         ),
-        subst (λ z. HeldList g z (of_body body (bind_each (letters fs) foreign (with_names ns (i + 1))))) (sym next) (o.held g (inner g s) ns u v),
+        subst (λ z. HeldList g own z (of_body body (bind_each (letters fs) foreign (with_names ns (i + 1))))) (sym next) (o.held g (inner g s) ns u v),
       );
       alike = λ g s ns u v. ((refl, refl, named_global (sense_in ns x) (bound_in bs x) (u.1 x) callable, called (bound_in bs x) callable), o.alike g (inner g s) ns u v);
       placed = λ program first well is.

@@ -92,6 +92,11 @@ pub mod LaidStatics
 pub mod SectionParts
 pub mod OneBehindAnother
 pub mod LaidSections
+pub mod StringCounts
+pub mod StringForms
+pub mod SpreadValues
+pub mod SpreadDeclared
+pub mod SpreadActs
 pub mod SectionsLie
 pub mod SectionsSet
 pub mod ProgramLaid

@@ -39,7 +39,7 @@ then_bases h bs next n m {ks} {ls} {K} {L} P Q names a after b =
       laid = λ g x. (a.laid g (front g x), b.laid g (back g x));
       held = λ g x ns e u.
           let i = after g (front g x) ns e u in
-          held_both g next n (K ns) (L (names ns)) (a.count ns) (a.held g (front g x) ns e u) (b.held g (back g x) (names ns) i.0 i.1);
+          held_both g h.own next n (K ns) (L (names ns)) (a.count ns) (a.held g (front g x) ns e u) (b.held g (back g x) (names ns) i.0 i.1);
       alike = λ g x ns e u.
           let i = after g (front g x) ns e u in
           as_both h.own ks (K ns) a.bases a.entries ls (L (names ns)) b.bases b.entries (a.alike g (front g x) ns e u) (b.alike g (back g x) (names ns) i.0 i.1);
