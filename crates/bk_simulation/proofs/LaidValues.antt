@@ -19,7 +19,7 @@ use Rattle.bk_scope.specs.Places.{deeper}
 use Rattle.bk_scope.specs.Sound.{Sound, SoundEach, HaveWords}
 use Rattle.bk_scope.specs.Spots as spot
 use Rattle.bk_scope.specs.Spots.{Spot}
-use Rattle.bk_ocode.specs.SectionData.{item_words}
+use Rattle.bk_ocode.specs.SectionData.{Datum, item_words}
 use Rattle.bk_ocode.specs.declared.stmt.Variable.TheVariants.{Static}
 use Rattle.bk_ocode.specs.declared.stmt.Dyadic.TheVariants as two
 use Rattle.bk_ocode.specs.declared.stmt.Monadic.TheVariants as w
@@ -36,7 +36,7 @@ use Rattle.bk_simulation.proofs.Sought.{with_names}
 use Rattle.bk_simulation.proofs.Laid.{Setting, Scene, Aim, pushes, jumps, ending, count, IsCode, AreValues, IsAddress, IsStore}
 use Rattle.bk_meaning.specs.Lasting.{of_expression, of_each, constant_words, text_words}
 use Rattle.bk_simulation.proofs.Held.{InData}
-use Rattle.bk_simulation.proofs.HeldData.{statement_data, items_are, words_small, words_agree}
+use Rattle.bk_simulation.proofs.HeldData.{statement_data, statement_below, items_are, words_small, words_agree}
 use Rattle.bk_simulation.proofs.NamesAgree.{Agree}
 use Rattle.bk_simulation.proofs.LastingKinds.{string, words_at, kinds_each, kinds_at}
 use Rattle.bk_simulation.proofs.Standing.{StandsAt, passed, at_depth, written, label_at, call_at, home, no_bases, new_base, both_bases, three_bases, bases_so, Lies, lies_behind}
@@ -71,15 +71,12 @@ mutual
       plain_lies pay sc p s i d n aim (t.number l v) (0) rest _ refl (leaf_lies (home sc pay) i d aim c rest (Number (signed v)) _ k1 refl st (λ g y ns u. (k1, r)))
   laid_code pay valofs sc p s i aim (t.text l x) d n c rest a h r m f k st =
       let k1 = plain_code sc p s d n aim (t.text l x) c rest refl k in
+      let datum : Datum = record { place = sc.own.places.text (length (ending aim rest)); words = text_words x } in
+      let there = written sc.own d c (Text (first_bytes x) ∷ ending aim rest) k1 st in
       plain_lies pay sc p s i d n aim (t.text l x) (1) rest _ refl (record {
         on = leaf_on sc.own d aim c rest (Text (first_bytes x)) k1 refl st;
-        objects_are = new_base (home sc pay) i (sc.own.places.text (length (ending aim rest))) string _ _ (λ ns u. tt) (λ g y z ns u. (k1, z))
-            (λ g y z ns u v. (
-              sc.own.places.text (length (ending aim rest)),
-              z,
-              statement_data g.program sc.section sc.own d (Text (first_bytes x)) (ending aim rest) (record { place = sc.own.places.text (length (ending aim rest)); words = text_words x }) y.own
-                  (written sc.own d c (Text (first_bytes x) ∷ ending aim rest) k1 st) refl,
-            ));
+        objects_are = new_base (home sc pay) i datum.place string _ _ (λ ns u. tt) (statement_below sc.section sc.own d (Text (first_bytes x)) (ending aim rest) datum there refl) (λ g y z ns u. (k1, z))
+            (λ g y z ns u v. (datum.place, z, statement_data g.program sc.section sc.own d (Text (first_bytes x)) (ending aim rest) datum y.own there refl));
       })
   laid_code pay valofs sc p s i aim (t.truth l x) d n c rest a h r m f k st =
       let k1 = plain_code sc p s d n aim (t.truth l x) c rest refl k in
@@ -275,9 +272,11 @@ mutual
   laid_code pay valofs sc p s i aim (t.table l es) d n c rest a h r m f k st =
       let k1 = plain_code sc p s d n aim (t.table l es) c rest refl k in
       let f1 = plain_parts sc p s d n aim (t.table l es) refl f in
+      let items = map (λ w. DataNumber (signed w)) (words_named sc.bindings es) ++ f1.0.2.rest in
       plain_lies pay sc p s i d n aim (t.table l es) (1) rest _ refl (record {
         on = leaf_on sc.own d aim c rest (Address (Static n)) k1 refl st;
-        objects_are = new_base (home sc pay) i (sc.own.places.label n) (words_at n (words_named sc.bindings es)) _ _ (λ ns u. (refl, words_agree ns sc.bindings i es u)) (λ g y z ns u. (n, k1, z)) (λ g y z ns u v. (sc.own.places.label n, z, table_held g sc n l es i ns u a.words r h (f1.0.2) y.own));
+        objects_are = new_base (home sc pay) i (sc.own.places.label n) (words_at n (words_named sc.bindings es)) _ _ (λ ns u. (refl, words_agree ns sc.bindings i es u))
+            (statement_below sc.section sc.own f1.0.2.depth (DataLabel n) items (record { place = sc.own.places.label n; words = item_words sc.own.places items }) f1.0.2.stands refl) (λ g y z ns u. (n, k1, z)) (λ g y z ns u v. (sc.own.places.label n, z, table_held g sc n l es i ns u a.words r h (f1.0.2) y.own));
       })
 
   pub laid_each : (pay : ℕ) (valofs : ValofsLie pay) (sc : Scene) (p : Place) (s : Spot) (i : ℕ) (es : Expressions) (d n : ℕ) (c rest : List Stmt) → Around sc p d → SoundEach 1 sc.bindings p s es → RegularEach es → weight_among es ≤ pay

@@ -66,6 +66,7 @@ pub mod SectionGlobals
 pub mod Held
 pub mod NamesAgree
 pub mod LastingKinds
+pub mod BasesBelow
 pub mod Standing
 pub mod LaidExpressions
 pub mod LaidCommands
@@ -96,3 +97,6 @@ pub mod StringForms
 pub mod SpreadValues
 pub mod SpreadDeclared
 pub mod SpreadActs
+pub mod SectionsLie
+pub mod SectionsSet
+pub mod ProgramLaid
