@@ -41,7 +41,7 @@ use Rattle.bk_simulation.proofs.Sought.{with_names}
 use Rattle.bk_simulation.proofs.Laid.{Setting, Scene, pushes, IsCode, IsAlone, place_of, IsWord, NamedIn}
 use Rattle.bk_simulation.proofs.NamesBound.{bound_named}
 use Rattle.bk_simulation.proofs.Procedures.{IsBody, IsProcedure}
-use Rattle.bk_simulation.proofs.Held.{InData, HeldWord, HeldList}
+use Rattle.bk_simulation.proofs.Held.{InData, HeldWord, HeldIn}
 use Rattle.bk_simulation.proofs.HeldData.{statement_data, statement_below}
 use Rattle.bk_simulation.proofs.NamesAgree.{Agree, SameGlobal, global_of, same_global, own_cell, agree_bound}
 use Rattle.bk_simulation.proofs.LastingKinds.{Kind, entry, kinds, kinds_in, bound_global, IsCalled, word_base}
@@ -327,7 +327,7 @@ procedure_bases pay section own ts bs k x fs i many body n ks p callable word =
           (let q = procedure_is pay section own ts bs k fs (i + 1) many body n ks p g i ns (global_named (sense_in ns x)) (inner g s) u s.words.0 (λ bases frame grown. record { each = (v k bases frame grown).each }) in q.1),
           subst (λ y. HeldWord g i y) (sym (same_global (sense_in ns x) (bound_in bs x) (u.1 x))) (word_held g section own n i p.place p.name (bound_in bs x) s.fits.own p.at s.words.0 callable word s.follow.0),
         ),
-        subst (λ z. HeldList g own z (of_body body (bind_each (letters fs) foreign (with_names ns (i + 1))))) (sym next) (o.held g (inner g s) ns u v),
+        subst (λ z. HeldIn g own z (of_body body (bind_each (letters fs) foreign (with_names ns (i + 1))))) (sym next) (o.held g (inner g s) ns u v),
       );
       alike = λ g s ns u v. ((refl, refl, named_global (sense_in ns x) (bound_in bs x) (u.1 x) callable, called (bound_in bs x) callable), o.alike g (inner g s) ns u v);
       placed = λ program first well is.

@@ -15,7 +15,7 @@ use Rattle.bk_meaning.specs.Lasting.{Lasting, Procedure, global_vector, words, c
 use Rattle.bk_simulation.specs.Placement.{AreAccepted, StandFor}
 use Rattle.bk_simulation.proofs.Memory.{Codes, BaseOf}
 use Rattle.bk_simulation.proofs.Laid.{Setting}
-use Rattle.bk_simulation.proofs.Held.{InData, HeldWord, HeldOne}
+use Rattle.bk_simulation.proofs.Held.{InData, HeldWord, HeldOne, HeldList}
 use Rattle.bk_simulation.proofs.HeldData.{get_behind}
 use Rattle.bk_simulation.proofs.Procedures.{IsProcedure, Procedures}
 use Rattle.bk_simulation.proofs.BasesBelow.{AreBelow, AreSet}
@@ -24,7 +24,7 @@ use Rattle.bk_simulation.proofs.LastingStore.{library_word, settings, IsSized, H
 use Rattle.bk_simulation.proofs.LaidPrograms.{setting, AreLaid}
 use Rattle.bk_simulation.proofs.SectionGlobals.{all_set_same}
 use Rattle.bk_simulation.proofs.Standing.{Follow, FollowWords, length_both}
-use Rattle.bk_simulation.proofs.SectionsLie.{AreHeld, SectionsLie, weights, sections_lie, all_bases, all_entries, all_counted, all_placed, AreIn, HasAll, first_suits, others_suit, all_held, first_alike}
+use Rattle.bk_simulation.proofs.SectionsLie.{SectionsLie, weights, sections_lie, all_bases, all_entries, all_counted, all_placed, AreIn, HasAll, first_suits, others_suit, all_held, first_alike}
 use Rattle.bk_simulation.proofs.SectionsSet.{sections_set}
 
 -- ---- words of procedures by their numbers; other numbers have a word too
@@ -96,16 +96,13 @@ below_at top [] o b h e = absurd (cc)
 below_at top (x ∷ xs) zero b h e = let same : x ≡ b = (let k : Some x ≡ Some b = e in cc) in subst (λ y. y ≤ top) same h.0
 below_at top (x ∷ xs) (suc o) b h e = below_at top xs o b h.1 e
 
-held_at : (g : Setting) (i o : ℕ) (xs : List Lasting) (x : Lasting) → AreHeld g i xs → slice_get xs o ≡ Some x → (own : Placed) × HeldOne g own (i + o) x
+held_at : (g : Setting) (i o : ℕ) (xs : List Lasting) (x : Lasting) → HeldList g i xs → slice_get xs o ≡ Some x → HeldOne g (i + o) x
 held_at g i o [] x h e = absurd (cc)
 held_at g i zero (y ∷ ys) x h e =
     let same : y ≡ x = (let k : Some y ≡ Some x = e in cc) in
     let here : i ≡ i + 0 = omega arith in
-    (h.0.0, subst (λ n. HeldOne g h.0.0 n x) here (subst (λ z. HeldOne g h.0.0 i z) same h.0.1))
-held_at g i (suc o) (y ∷ ys) x h e =
-    let there : suc i + o ≡ i + suc o = omega arith in
-    let r = held_at g (suc i) o ys x h.1 e in
-    (r.0, subst (λ n. HeldOne g r.0 n x) there r.1)
+    subst (λ n. HeldOne g n x) here (subst (λ z. HeldOne g i z) same h.0)
+held_at g i (suc o) (y ∷ ys) x h e = let there : suc i + o ≡ i + suc o = omega arith in subst (λ n. HeldOne g n x) there (held_at g (suc i) o ys x h.1 e)
 
 -- no part of a section is the global vector
 abbrev IsPart : Lasting → Type 0
@@ -154,10 +151,10 @@ entry_holds : (g : Setting) (global : Option ℕ) (o b : ℕ) → BaseOf g.lasti
 entry_holds g None o b base h = let d = h.2 in (d.number, d.datum, d.at, d.placed ∙ one_base g.lasting o h.0 b h.1 base, d.is)
 entry_holds g (Some k) o b base h = let e = one_base g.lasting o h.0 b h.1 base in (subst (λ y. 16 ≤ y) e h.2, subst (λ y. y ≤ g.first) e h.3)
 
-held_holds : (g : Setting) (own : Placed) (o b : ℕ) (x : Lasting) → IsPart x → BaseOf g.lasting o b → HeldOne g own o x → HoldsOne g.program g.first g.codes x o b
-held_holds g own o b global_vector part base h = absurd part
-held_holds g own o b (words ws) part base h = let d = h.2 in (d.number, d.datum, d.at, d.placed ∙ one_base g.lasting o h.0 b h.1 base, d.is)
-held_holds g own o b (code f) part base h = entry_holds g f.global o b base h.2
+held_holds : (g : Setting) (o b : ℕ) (x : Lasting) → IsPart x → BaseOf g.lasting o b → HeldOne g o x → HoldsOne g.program g.first g.codes x o b
+held_holds g o b global_vector part base h = absurd part
+held_holds g o b (words ws) part base h = let d = h.2 in (d.number, d.datum, d.at, d.placed ∙ one_base g.lasting o h.0 b h.1 base, d.is)
+held_holds g o b (code f) part base h = entry_holds g f.global o b base h.1
 
 -- ---- the program
 
@@ -228,7 +225,7 @@ abbrev pub LieApart : (program : Program) (first : ℕ) (sections : List Declara
 LieApart program first sections t =
     (o o1 b : ℕ) → BaseOf (lasting_of program first sections t) o b → BaseOf (lasting_of program first sections t) o1 b → IsSized (program_of sections) o → IsSized (program_of sections) o1 → o ≡ o1
 
-held_together : (program : Program) (first : ℕ) (sections : List Declarations) (t : Together program first sections) (most : ℕ) → AreHeld (setting_together program first sections t most) 1 (of_sections 1 sections)
+held_together : (program : Program) (first : ℕ) (sections : List Declarations) (t : Together program first sections) (most : ℕ) → HeldList (setting_together program first sections t most) 1 (of_sections 1 sections)
 held_together program first sections t most =
     all_held (setting_together program first sections t most) (pay_of sections) 0 1 sections program.sections (lie_together program first sections t) (has_all program first sections t most)
 
@@ -242,8 +239,7 @@ holds_each program first sections t (suc o) b x e base =
     let g = setting_together program first sections t 0 in
     let part = part_at (of_sections 1 sections) o x (all_parts g (pay_of sections) 0 1 sections program.sections (lie_together program first sections t) (has_all program first sections t 0)) e in
     let there : 1 + o ≡ suc o = omega arith in
-    let r = held_at g 1 o (of_sections 1 sections) x (held_together program first sections t 0) e in
-    held_holds g r.0 (suc o) b x part base (subst (λ n. HeldOne g r.0 n x) there r.1)
+    held_holds g (suc o) b x part base (subst (λ n. HeldOne g n x) there (held_at g 1 o (of_sections 1 sections) x (held_together program first sections t 0) e))
 
 procedure_here : (x : Option Lasting) (f : Procedure) → procedure_in x ≡ Some f → x ≡ Some (code f)
 procedure_here None f e = absurd (cc)
@@ -257,7 +253,7 @@ procedures_together program first sections t most zero f e = absurd (cc)
 procedures_together program first sections t most (suc n) f e =
     let g = setting_together program first sections t most in
     let there : 1 + n ≡ suc n = omega arith in
-    subst (λ k. IsProcedure g k f) there (held_at g 1 n (of_sections 1 sections) (code f) (held_together program first sections t most) (procedure_here (slice_get (of_sections 1 sections) n) f e)).1.0
+    subst (λ k. IsProcedure g k f) there (held_at g 1 n (of_sections 1 sections) (code f) (held_together program first sections t most) (procedure_here (slice_get (of_sections 1 sections) n) f e)).0
 
 -- A PROGRAM IS LAID whose sections stand for accepted ones
 pub laid_together : (program : Program) (first : ℕ) (sections : List Declarations) (t : Together program first sections) → LieApart program first sections t → AreLaid program first t.well sections

@@ -13,7 +13,7 @@ use Rattle.bk_simulation.specs.Placement.{AreAccepted, StandFor}
 use Rattle.bk_simulation.proofs.Weights.{weight_declared}
 use Rattle.bk_simulation.proofs.Sought.{with_names}
 use Rattle.bk_simulation.proofs.Laid.{Setting}
-use Rattle.bk_simulation.proofs.Held.{HeldOne, HeldList, lasting_both}
+use Rattle.bk_simulation.proofs.Held.{HeldList, held_both, held_out, lasting_both}
 use Rattle.bk_simulation.proofs.BasesBelow.{AreBelow, AreSet, below_both, set_both}
 use Rattle.bk_simulation.proofs.LastingKinds.{AreAs, kinds_of_declarations}
 use Rattle.bk_simulation.proofs.NamesAgree.{Agree}
@@ -117,25 +117,14 @@ no_names = ((λ x. refl), (λ x. refl))
 pub none_mean : (g : Setting) (k : ℕ) (own : Placed) (ds : Declarations) (pay : ℕ) → Mean (home (section_scene k own ds) pay) g []
 none_mean g k own ds pay q bases frame grown = record { each = λ x. tt }
 
--- objects that are held, each in some section
-abbrev pub AreHeld : Setting → ℕ → List Lasting → Type 0
-AreHeld g o [] = Unit {0}
-AreHeld g o (x ∷ xs) = ((own : Placed) × HeldOne g own o x) × AreHeld g (suc o) xs
-
-held_before : (g : Setting) (own : Placed) (o n : ℕ) (xs ys : List Lasting) → length xs ≡ n → HeldList g own o xs → AreHeld g (o + n) ys → AreHeld g o (xs ++ ys)
-held_before g own o n [] ys e h i = let s : o + n ≡ o = omega (arith, e) in subst (λ k. AreHeld g k ys) s i
-held_before g own o n (x ∷ xs) ys e h i =
-    let s : o + n ≡ suc o + length xs = omega (arith, e) in
-    ((own, h.0), held_before g own (suc o) (length xs) xs ys refl h.1 (subst (λ k. AreHeld g k ys) s i))
-
 -- WHAT LASTS OF ALL SECTIONS is held
-pub all_held : (g : Setting) (pay k i : ℕ) (sections : List Declarations) (owns : List Placed) (h : SectionsLie pay k i sections owns) → HasAll g pay k i sections owns h → AreHeld g i (of_sections i sections)
+pub all_held : (g : Setting) (pay k i : ℕ) (sections : List Declarations) (owns : List Placed) (h : SectionsLie pay k i sections owns) → HasAll g pay k i sections owns h → HeldList g i (of_sections i sections)
 all_held g pay k i [] owns h a = tt
 all_held g pay k i (ds ∷ rest) [] h a = absurd h
 all_held g pay k i (ds ∷ rest) (own ∷ others) h a =
     let n : ℕ = i + objects_of_declarations ds in
-    held_before g own i (objects_of_declarations ds) (of_declarations (with_names [] i) ds) (of_sections n rest) (h.0.count [])
-    (h.0.held g (first_suits g pay k i ds rest own others h a) [] no_names (none_mean g k own ds pay))
+    held_both g i (objects_of_declarations ds) (of_declarations (with_names [] i) ds) (of_sections n rest) (h.0.count [])
+    (held_out g own i (of_declarations (with_names [] i) ds) (h.0.held g (first_suits g pay k i ds rest own others h a) [] no_names (none_mean g k own ds pay)))
     (all_held g pay (suc k) n rest others h.1 (others_suit g pay k i ds rest own others h a))
 
 -- each section's objects are of their kinds

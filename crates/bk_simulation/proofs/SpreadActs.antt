@@ -31,7 +31,7 @@ use Rattle.bk_meaning.specs.Scopes.{alone}
 use Rattle.bk_meaning.proofs.Numbers.{expression_counted, each_counted, action_counted, actions_counted, declaration_counted, declarations_counted, definition_counted, definitions_counted, starts_counted, statics_counted}
 use Rattle.bk_meaning.proofs.Standing.{bound-next, labelled-next, in_scope-next, declared-next, all_declared-next}
 use Rattle.bk_simulation.proofs.Laid.{Setting, Scene, Spot, Aim, pushes, jumps, Way, all_of, any_of, plain, way_of, ending, Operands, Stretch, ByTurns, in_valof, in_loop, in_switch, in_for as in_for_scene, owning, variables_bound, defines_variables, IsCode, AreValues, IsAddress, AreFrom, AreStores, IsStore, IsAct, AreActs, AreDeclared, IsOneDeclared, AreDefined, AreStarts}
-use Rattle.bk_simulation.proofs.Held.{HeldOne, HeldList}
+use Rattle.bk_simulation.proofs.Held.{HeldIn}
 use Rattle.bk_simulation.proofs.Procedures.{IsBody, IsProcedure}
 use Rattle.bk_simulation.proofs.Standing.{first_of}
 use Rattle.bk_simulation.proofs.StringCounts.{Form, a_string, some_words, a_procedure, strings_at, entries_in, Span, times, in_spans, IsSpan, AreSpread, spread_append, times_both, spans_both, forms_both, Spread, Same, by_path, same_on, spread_none, spread_top, spread_bottom, spread_both, spread_back, spread_string, spread_words, spread_procedure, spread_as}
@@ -113,7 +113,7 @@ turned_all g own c rest i m n fs hs a =
     }
 
 turns_spread : (pay : ℕ) (acts : ActsSpread pay) (xs es : Expressions) → weight_among xs ≤ suc pay → weight_among es ≤ suc pay → (g : Setting) (own : Placed) (sc : Scene) (d : ℕ) (envx heldx enve helde : Environment) (vs ss : List Stretch) (c rest : List Stmt) (i j : ℕ) → Numbered envx heldx i → Numbered enve helde j → IsOwn own sc
-    → AreFrom g sc d enve es vs → AreStores g sc (d + 1) envx xs ss → ByTurns xs es vs ss c rest → HeldList g own i (of_each heldx xs) → HeldList g own j (of_each helde es)
+    → AreFrom g sc d enve es vs → AreStores g sc (d + 1) envx xs ss → ByTurns xs es vs ss c rest → HeldIn g own i (of_each heldx xs) → HeldIn g own j (of_each helde es)
     → Turned g own c rest i (objects_of_each xs) (forms_of_each xs) j (objects_of_each es) (forms_of_each es)
 turns_spread pay acts t.none t.none w w1 g own sc d envx heldx enve helde vs ss c rest i j zx ze at fk sk k hx he = turned_none g own c rest i j (by_path c rest k)
 turns_spread pay acts t.none (t.more e es) w w1 g own sc d envx heldx enve helde vs ss c rest i j zx ze at fk sk k hx he = absurd k
@@ -128,7 +128,7 @@ turns_spread pay acts (t.more x xs) (t.more e es) w w1 g own sc d envx heldx env
     (held_back g own i (objects x) (of_expression heldx x) _ (expression_counted heldx x) hx) (held_back g own j (objects e) (of_expression helde e) _ (expression_counted helde e) he))
 
 mutual
-  act_spread : (pay : ℕ) (acts : ActsSpread pay) (a : Action) → weight_in a ≤ suc pay → (g : Setting) (own : Placed) (sc : Scene) (d : ℕ) (env held : Environment) (at1 : Sought → List Stmt) (c rest : List Stmt) (i : ℕ) → Numbered env held i → IsOwn own sc → IsAct g sc d env a at1 c rest → HeldList g own i (of_action held a)
+  act_spread : (pay : ℕ) (acts : ActsSpread pay) (a : Action) → weight_in a ≤ suc pay → (g : Setting) (own : Placed) (sc : Scene) (d : ℕ) (env held : Environment) (at1 : Sought → List Stmt) (c rest : List Stmt) (i : ℕ) → Numbered env held i → IsOwn own sc → IsAct g sc d env a at1 c rest → HeldIn g own i (of_action held a)
       → Spread g own c rest i (objects_of_action a) (forms_of_action a)
   act_spread pay acts t.empty w g own sc d env held at1 c rest i z at k h = spread_none g own c rest i (by_path c rest k)
   act_spread pay acts (t.assign l xs es) w g own sc d env held at1 c rest i z at k h =
@@ -215,7 +215,7 @@ mutual
       (spread_bottom g own k.4 rest _ (i + objects_of_action a) (objects e) (forms e) ((λ q. refl), refl)
       (code_spread pay acts e (omega (arith, w)) g own sc d (past_action a env) (past_action a held) _ k.4 _ (i + objects_of_action a) (later env held i (objects_of_action a) z) at k.7 (held_back g own i (objects_of_action a) (of_action held a) _ (action_counted held a) h)))
 
-  acts_spread : (pay : ℕ) (acts : ActsSpread pay) (cs : Actions) → weight_through cs ≤ suc pay → (g : Setting) (own : Placed) (sc : Scene) (d : ℕ) (env held : Environment) (at1 : Sought → List Stmt) (c rest : List Stmt) (i : ℕ) → Numbered env held i → IsOwn own sc → AreActs g sc d env cs at1 c rest → HeldList g own i (of_actions held cs)
+  acts_spread : (pay : ℕ) (acts : ActsSpread pay) (cs : Actions) → weight_through cs ≤ suc pay → (g : Setting) (own : Placed) (sc : Scene) (d : ℕ) (env held : Environment) (at1 : Sought → List Stmt) (c rest : List Stmt) (i : ℕ) → Numbered env held i → IsOwn own sc → AreActs g sc d env cs at1 c rest → HeldIn g own i (of_actions held cs)
       → Spread g own c rest i (objects_of_actions cs) (forms_of_actions cs)
   acts_spread pay acts t.no_actions w g own sc d env held at1 c rest i z at k h = spread_none g own c rest i (by_path c rest k)
   acts_spread pay acts (t.also a cs) w g own sc d env held at1 c rest i z at k h =

@@ -29,7 +29,7 @@ use Rattle.bk_meaning.specs.Scopes.{alone}
 use Rattle.bk_meaning.proofs.Numbers.{expression_counted, each_counted, action_counted, actions_counted, declaration_counted, declarations_counted, definition_counted, definitions_counted, starts_counted, statics_counted}
 use Rattle.bk_meaning.proofs.Standing.{bound-next, labelled-next, in_scope-next, declared-next, all_declared-next}
 use Rattle.bk_simulation.proofs.Laid.{Setting, Scene, Spot, Aim, pushes, jumps, Way, all_of, any_of, plain, way_of, ending, Operands, Stretch, ByTurns, in_valof, in_loop, in_switch, in_for as in_for_scene, owning, variables_bound, defines_variables, IsCode, AreValues, IsAddress, AreFrom, AreStores, IsStore, IsAct, AreActs, AreDeclared, IsOneDeclared, AreDefined, AreStarts}
-use Rattle.bk_simulation.proofs.Held.{HeldOne, HeldList}
+use Rattle.bk_simulation.proofs.Held.{HeldIn}
 use Rattle.bk_simulation.proofs.Procedures.{IsBody, IsProcedure}
 use Rattle.bk_simulation.proofs.Standing.{first_of}
 use Rattle.bk_simulation.proofs.StringCounts.{Form, a_string, some_words, a_procedure, strings_at, entries_in, Span, times, in_spans, IsSpan, AreSpread, spread_append, times_both, spans_both, forms_both, Spread, Same, by_path, same_on, spread_none, spread_top, spread_bottom, spread_both, spread_back, spread_string, spread_words, spread_procedure, spread_as}
@@ -69,8 +69,8 @@ span_is g own i f p rest h e =
     subst (λ y. IsSpan g y i (record { place = p.place; from = p.body; to = rest })) h here
 
 -- a procedure, by where its body is laid
-pub routine_spread : (l : ℕ) (x : List ℕ) (fs : List Mention) (a : Action) (g : Setting) (own : Placed) (held : Environment) (c : List Stmt) (i : ℕ) → held.next ≡ i → HeldList g own i (of_definition held (t.routine l x fs a))
-    → ((sc : Scene) (d : ℕ) (env held : Environment) (at1 : Sought → List Stmt) (c rest : List Stmt) (i : ℕ) → Numbered env held i → IsOwn own sc → IsAct g sc d env a at1 c rest → HeldList g own i (of_action held a)
+pub routine_spread : (l : ℕ) (x : List ℕ) (fs : List Mention) (a : Action) (g : Setting) (own : Placed) (held : Environment) (c : List Stmt) (i : ℕ) → held.next ≡ i → HeldIn g own i (of_definition held (t.routine l x fs a))
+    → ((sc : Scene) (d : ℕ) (env held : Environment) (at1 : Sought → List Stmt) (c rest : List Stmt) (i : ℕ) → Numbered env held i → IsOwn own sc → IsAct g sc d env a at1 c rest → HeldIn g own i (of_action held a)
     → Spread g own c rest i (objects_of_action a) (forms_of_action a))
     → Spread g own c c i (objects_of_definition (t.routine l x fs a)) (forms_of_definition (t.routine l x fs a))
 routine_spread l x fs a g own held c i e h act =
@@ -88,12 +88,12 @@ routine_spread l x fs a g own held c i e h act =
     let rest = Return ∷ body.1 in
     spread_procedure g own c p.body rest p.place i (objects_of_action a) (forms_of_action a) (span_is g own i (record { formals = letters fs; body = command a; env = behind 1 held; global = _ }) p rest h.0.1
     (spread_bottom g own p.body rest one.1.0 (i + 1) (objects_of_action a) (forms_of_action a) (by_path one.1.0 rest one.1.4)
-    (act (owning body.0 (alone a) p.scene) _ (labelled (alone a) env) (in_scope a before) one.1.1 p.body one.1.0 (i + 1) z h.0.1 one.1.3 (subst (λ k. HeldList g own k (of_action (in_scope a before) a)) next h.1))).plain)
+    (act (owning body.0 (alone a) p.scene) _ (labelled (alone a) env) (in_scope a before) one.1.1 p.body one.1.0 (i + 1) z h.0.1 one.1.3 (subst (λ k. HeldIn g own k (of_action (in_scope a before) a)) next h.1))).plain)
     (spread_bottom g own p.body rest one.1.0 (i + 1) (objects_of_action a) (forms_of_action a) (by_path one.1.0 rest one.1.4)
-    (act (owning body.0 (alone a) p.scene) _ (labelled (alone a) env) (in_scope a before) one.1.1 p.body one.1.0 (i + 1) z h.0.1 one.1.3 (subst (λ k. HeldList g own k (of_action (in_scope a before) a)) next h.1)))
+    (act (owning body.0 (alone a) p.scene) _ (labelled (alone a) env) (in_scope a before) one.1.1 p.body one.1.0 (i + 1) z h.0.1 one.1.3 (subst (λ k. HeldIn g own k (of_action (in_scope a before) a)) next h.1)))
 
-pub function_spread : (l : ℕ) (x : List ℕ) (fs : List Mention) (e : Expression) (g : Setting) (own : Placed) (held : Environment) (c : List Stmt) (i : ℕ) → held.next ≡ i → HeldList g own i (of_definition held (t.function l x fs e))
-    → ((sc : Scene) (d : ℕ) (env held : Environment) (c rest : List Stmt) (i : ℕ) → Numbered env held i → IsOwn own sc → IsCode g sc d env pushes e c rest → HeldList g own i (of_expression held e) → Spread g own c rest i (objects e) (forms e))
+pub function_spread : (l : ℕ) (x : List ℕ) (fs : List Mention) (e : Expression) (g : Setting) (own : Placed) (held : Environment) (c : List Stmt) (i : ℕ) → held.next ≡ i → HeldIn g own i (of_definition held (t.function l x fs e))
+    → ((sc : Scene) (d : ℕ) (env held : Environment) (c rest : List Stmt) (i : ℕ) → Numbered env held i → IsOwn own sc → IsCode g sc d env pushes e c rest → HeldIn g own i (of_expression held e) → Spread g own c rest i (objects e) (forms e))
     → Spread g own c c i (objects_of_definition (t.function l x fs e)) (forms_of_definition (t.function l x fs e))
 function_spread l x fs e g own held c i q h value =
     let p = h.0.0 in
@@ -104,10 +104,10 @@ function_spread l x fs e g own held c i q h value =
     let z : Numbered env before (i + 1) = record { env_next = formals-next 1 0 (letters fs) (behind 1 held) ∙ one_more; held_next = bound-next (letters fs) foreign (behind 1 held) ∙ one_more } in
     let next : suc i ≡ i + 1 = omega arith in
     let rest = ReturnItem ∷ body.0 in
-    let all = value p.scene _ env before p.body rest (i + 1) z h.0.1 body.1 (subst (λ k. HeldList g own k (of_expression before e)) next h.1) in
+    let all = value p.scene _ env before p.body rest (i + 1) z h.0.1 body.1 (subst (λ k. HeldIn g own k (of_expression before e)) next h.1) in
     spread_procedure g own c p.body rest p.place i (objects e) (forms e) (span_is g own i (record { formals = letters fs; body = expression e; env = behind 1 held; global = _ }) p rest h.0.1 all.plain) all
 
-starts_spread : (pay : ℕ) (acts : ActsSpread pay) (is : Starts) → weight_started is ≤ pay → (g : Setting) (own : Placed) (sc : Scene) (d : ℕ) (env held : Environment) (c rest : List Stmt) (d1 : ℕ) (slots : List ℕ) (i : ℕ) → Numbered env held i → IsOwn own sc → AreStarts g sc d env is c rest d1 slots → HeldList g own i (of_starts held is)
+starts_spread : (pay : ℕ) (acts : ActsSpread pay) (is : Starts) → weight_started is ≤ pay → (g : Setting) (own : Placed) (sc : Scene) (d : ℕ) (env held : Environment) (c rest : List Stmt) (d1 : ℕ) (slots : List ℕ) (i : ℕ) → Numbered env held i → IsOwn own sc → AreStarts g sc d env is c rest d1 slots → HeldIn g own i (of_starts held is)
     → Spread g own c rest i (objects_of_starts is) (forms_of_starts is)
 starts_spread pay acts t.no_starts w g own sc d env held c rest d1 slots i z at k h = spread_none g own c rest i (by_path c rest k.0)
 starts_spread pay acts (t.value e is) w g own sc d env held c rest d1 slots i z at k h =
@@ -116,7 +116,7 @@ starts_spread pay acts (t.value e is) w g own sc d env held c rest d1 slots i z 
 starts_spread pay acts (t.vector l e is) w g own sc d env held c rest d1 slots i z at k h =
     spread_top g own c k.1 rest i (objects_of_starts is) (forms_of_starts is) (by_path c _ k.4) (starts_spread pay acts is (omega (arith, w)) g own sc _ env held k.1 rest d1 k.2 i z at k.5 h)
 
-defined_spread : (pay : ℕ) (acts : ActsSpread pay) (ds : Definitions) → weight_defined ds ≤ pay → (g : Setting) (own : Placed) (sc : Scene) (d : ℕ) (env held : Environment) (c rest : List Stmt) (d1 : ℕ) (ps : List Spot) (i : ℕ) → Numbered env held i → IsOwn own sc → AreDefined g sc d env ds c rest d1 ps → HeldList g own i (of_definitions held ds)
+defined_spread : (pay : ℕ) (acts : ActsSpread pay) (ds : Definitions) → weight_defined ds ≤ pay → (g : Setting) (own : Placed) (sc : Scene) (d : ℕ) (env held : Environment) (c rest : List Stmt) (d1 : ℕ) (ps : List Spot) (i : ℕ) → Numbered env held i → IsOwn own sc → AreDefined g sc d env ds c rest d1 ps → HeldIn g own i (of_definitions held ds)
     → Spread g own c rest i (objects_of_definitions ds) (forms_of_definitions ds)
 defined_spread pay acts t.no_definitions w g own sc d env held c rest d1 ps i z at k h = spread_none g own c rest i (by_path c rest k.0)
 defined_spread pay acts (t.define (t.variables l xs is) ds) w g own sc d env held c rest d1 ps i z at k h =
@@ -138,7 +138,7 @@ defined_spread pay acts (t.define (t.function l x fs e) ds) w g own sc d env hel
     (defined_spread pay acts ds (omega (arith, w)) g own sc d (past_definition one env) (past_definition one held) c rest d1 ps (i + m0) (later env held i m0 z) at k (held_back g own i m0 (of_definition held one) _ (definition_counted held one) h))
 
 one_declared_spread : (pay : ℕ) (acts : ActsSpread pay) (x : Declaration) → weight_one_declared x ≤ pay → (g : Setting) (own : Placed) (sc : Scene) (d : ℕ) (env held : Environment) (then : Scene → ℕ → Environment → List Stmt → Type 0) (c rest : List Stmt) (i : ℕ) → Numbered env held i → IsOwn own sc → (n : ℕ) (hs : List Form)
-    → IsOneDeclared g sc d env x then c → HeldList g own i (of_declaration held x)
+    → IsOneDeclared g sc d env x then c → HeldIn g own i (of_declaration held x)
     → ((bs : List Binding) (d1 : ℕ) (env1 : Environment) (c1 : List Stmt) → env1.next ≡ i + objects_of_declaration x → then (record sc { bindings = bs }) d1 env1 c1 → Spread g own c1 rest (i + objects_of_declaration x) n hs)
     → Spread g own c rest i (objects_of_declaration x + n) (forms_of_declaration x ++ hs)
 one_declared_spread pay acts (t.constants l s is) w g own sc d env held then c rest i z at n hs k h on =
@@ -154,7 +154,7 @@ one_declared_spread pay acts (t.definitions l ds) w g own sc d env held then c r
     (on k.1 k.2 (variables_bound 1 k.3 env1) k.5 (variables-next 1 k.3 env1 ∙ ap (λ w. w + m0) z.env_next) (k.11 1 (omega arith))))
 
 declared_spread : (pay : ℕ) (acts : ActsSpread pay) (xs : Declarations) → weight_declared xs ≤ pay → (g : Setting) (own : Placed) (sc : Scene) (d : ℕ) (env held : Environment) (then : Scene → ℕ → Environment → List Stmt → Type 0) (c rest : List Stmt) (i : ℕ) → Numbered env held i → IsOwn own sc → (n : ℕ) (hs : List Form)
-    → AreDeclared g sc d env xs then c → HeldList g own i (of_declarations held xs)
+    → AreDeclared g sc d env xs then c → HeldIn g own i (of_declarations held xs)
     → ((bs : List Binding) (d1 : ℕ) (env1 : Environment) (c1 : List Stmt) → env1.next ≡ i + objects_of_declarations xs → then (record sc { bindings = bs }) d1 env1 c1 → Spread g own c1 rest (i + objects_of_declarations xs) n hs)
     → Spread g own c rest i (objects_of_declarations xs + n) (forms_of_declarations xs ++ hs)
 declared_spread pay acts t.no_declarations w g own sc d env held then c rest i z at n hs k h on =
@@ -175,7 +175,7 @@ declared_spread pay acts (t.declare x xs) w g own sc d env held then c rest i z 
 
 -- the commands of a block
 acts_listed : (pay : ℕ) (acts : ActsSpread pay) (cs : Actions) → weight_through cs ≤ pay → (g : Setting) (own : Placed) (sc : Scene) (d : ℕ) (env held : Environment) (at1 : Sought → List Stmt) (c rest : List Stmt) (i : ℕ) → Numbered env held i → IsOwn own sc → AreActs g sc d env cs at1 c rest
-    → HeldList g own i (of_actions held cs) → Spread g own c rest i (objects_of_actions cs) (forms_of_actions cs)
+    → HeldIn g own i (of_actions held cs) → Spread g own c rest i (objects_of_actions cs) (forms_of_actions cs)
 acts_listed pay acts t.no_actions w g own sc d env held at1 c rest i z at k h = spread_none g own c rest i (by_path c rest k)
 acts_listed pay acts (t.also a cs) w g own sc d env held at1 c rest i z at k h =
     spread_both g own c k.0 rest i (objects_of_action a) (objects_of_actions cs) (forms_of_action a) (forms_of_actions cs) (acts a (omega (arith, w)) g own sc d env held k.1 c k.0 i z at k.3 (held_front g own i (of_action held a) _ h))
@@ -184,14 +184,14 @@ acts_listed pay acts (t.also a cs) w g own sc d env held at1 c rest i z at k h =
 
 -- A block with declarations.
 pub block_spread : (pay : ℕ) (acts : ActsSpread pay) (l : ℕ) (x : Declaration) (xs : Declarations) (cs : Actions) → weight_declared (t.declare x xs) + weight_through cs ≤ pay → (g : Setting) (own : Placed) (sc : Scene) (d : ℕ) (env held : Environment) (at1 : Sought → List Stmt) (c rest : List Stmt) (i : ℕ) → Numbered env held i → IsOwn own sc
-    → IsAct g sc d env (t.block l (t.declare x xs) cs) at1 c rest → HeldList g own i (of_action held (t.block l (t.declare x xs) cs))
+    → IsAct g sc d env (t.block l (t.declare x xs) cs) at1 c rest → HeldIn g own i (of_action held (t.block l (t.declare x xs) cs))
     → Spread g own c rest i (objects_of_action (t.block l (t.declare x xs) cs)) (forms_of_action (t.block l (t.declare x xs) cs))
 block_spread pay acts l x xs cs w g own sc d env held at1 c rest i z at k h =
     let all = t.declare x xs in
     let n = objects_of_declaration x in
     let n1 = objects_of_declarations xs in
     let n2 = objects_of_actions cs in
-    let split = subst (λ w. HeldList g own i w) (append_assoc (of_declaration held x) (of_declarations (declared x held) xs) _) h in
+    let split = subst (λ w. HeldIn g own i w) (append_assoc (of_declaration held x) (of_declarations (declared x held) xs) _) h in
     let more = held_back g own i n (of_declaration held x) _ (declaration_counted held x) split in
     spread_as g own c rest i i (n + (n1 + n2)) (n + n1 + n2) _ (forms_of_declarations all ++ forms_of_actions cs) refl (omega arith) (sym (append_assoc (forms_of_declaration x) (forms_of_declarations xs) (forms_of_actions cs)))
     (one_declared_spread pay acts x (omega (arith, w)) g own sc d env held _ c rest i z at (n1 + n2) (forms_of_declarations xs ++ forms_of_actions cs) k (held_front g own i (of_declaration held x) _ split)

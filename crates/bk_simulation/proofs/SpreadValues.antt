@@ -30,7 +30,7 @@ use Rattle.bk_meaning.specs.Scopes.{alone}
 use Rattle.bk_meaning.proofs.Numbers.{expression_counted, each_counted, action_counted, actions_counted, declaration_counted, declarations_counted, definition_counted, definitions_counted, starts_counted, statics_counted}
 use Rattle.bk_meaning.proofs.Standing.{bound-next, labelled-next, in_scope-next, declared-next, all_declared-next}
 use Rattle.bk_simulation.proofs.Laid.{Setting, Scene, Spot, Aim, pushes, jumps, Way, all_of, any_of, plain, way_of, ending, Operands, Stretch, ByTurns, in_valof, in_loop, in_switch, in_for as in_for_scene, owning, variables_bound, defines_variables, IsCode, AreValues, IsAddress, AreFrom, AreStores, IsStore, IsAct, AreActs, AreDeclared, IsOneDeclared, AreDefined, AreStarts}
-use Rattle.bk_simulation.proofs.Held.{HeldOne, HeldList}
+use Rattle.bk_simulation.proofs.Held.{HeldIn}
 use Rattle.bk_simulation.proofs.Procedures.{IsBody, IsProcedure}
 use Rattle.bk_simulation.proofs.Standing.{first_of}
 use Rattle.bk_simulation.proofs.StringCounts.{Form, a_string, some_words, a_procedure, strings_at, entries_in, Span, times, in_spans, IsSpan, AreSpread, spread_append, times_both, spans_both, forms_both, Spread, Same, by_path, same_on, spread_none, spread_top, spread_bottom, spread_both, spread_back, spread_string, spread_words, spread_procedure, spread_as}
@@ -138,10 +138,10 @@ binary_store l o.Differ m x y g own sc d env c rest i k fx fy = absurd k
 -- commands up to this weight
 abbrev pub ActsSpread : ℕ → Type 0
 ActsSpread pay = (a : Action) → weight_in a ≤ pay → (g : Setting) (own : Placed) (sc : Scene) (d : ℕ) (env held : Environment) (at1 : Sought → List Stmt) (c rest : List Stmt) (i : ℕ) → Numbered env held i → IsOwn own sc → IsAct g sc d env a at1 c rest
-    → HeldList g own i (of_action held a) → Spread g own c rest i (objects_of_action a) (forms_of_action a)
+    → HeldIn g own i (of_action held a) → Spread g own c rest i (objects_of_action a) (forms_of_action a)
 
 mutual
-  pub code_spread : (pay : ℕ) (acts : ActsSpread pay) (e : Expression) → weight_of e ≤ suc pay → (g : Setting) (own : Placed) (sc : Scene) (d : ℕ) (env held : Environment) (aim : Aim) (c rest : List Stmt) (i : ℕ) → Numbered env held i → IsOwn own sc → IsCode g sc d env aim e c rest → HeldList g own i (of_expression held e)
+  pub code_spread : (pay : ℕ) (acts : ActsSpread pay) (e : Expression) → weight_of e ≤ suc pay → (g : Setting) (own : Placed) (sc : Scene) (d : ℕ) (env held : Environment) (aim : Aim) (c rest : List Stmt) (i : ℕ) → Numbered env held i → IsOwn own sc → IsCode g sc d env aim e c rest → HeldIn g own i (of_expression held e)
       → Spread g own c rest i (objects e) (forms e)
   code_spread pay acts (t.name l x) w g own sc d env held aim c rest i z at k h =
       spread_none g own c rest i
@@ -185,14 +185,14 @@ mutual
       (acts a (omega (arith, w)) g own (owning k.1 (alone a) (in_valof k.0 sc)) d (labelled (alone a) env) (in_scope a held) one.1.1 c one.1.0 i z1 at one.1.3 h)
   code_spread pay acts (t.table l es) w g own sc d env held aim c rest i z at k h = spread_words g own c rest i (same_on rest (ending aim rest) c (ending_plain aim rest) (by_path c _ k.1))
 
-  pub values_spread : (pay : ℕ) (acts : ActsSpread pay) (es : Expressions) → weight_among es ≤ suc pay → (g : Setting) (own : Placed) (sc : Scene) (d : ℕ) (env held : Environment) (c rest : List Stmt) (i : ℕ) → Numbered env held i → IsOwn own sc → AreValues g sc d env es c rest → HeldList g own i (of_each held es)
+  pub values_spread : (pay : ℕ) (acts : ActsSpread pay) (es : Expressions) → weight_among es ≤ suc pay → (g : Setting) (own : Placed) (sc : Scene) (d : ℕ) (env held : Environment) (c rest : List Stmt) (i : ℕ) → Numbered env held i → IsOwn own sc → AreValues g sc d env es c rest → HeldIn g own i (of_each held es)
       → Spread g own c rest i (objects_of_each es) (forms_of_each es)
   values_spread pay acts t.none w g own sc d env held c rest i z at k h = spread_none g own c rest i (by_path c rest k)
   values_spread pay acts (t.more e es) w g own sc d env held c rest i z at k h =
       spread_both g own c k.0 rest i (objects e) (objects_of_each es) (forms e) (forms_of_each es) (code_spread pay acts e (omega (arith, w)) g own sc d env held pushes c k.0 i z at k.1 (held_front g own i (of_expression held e) _ h))
       (values_spread pay acts es (omega (arith, w)) g own sc (d + 1) (past e env) (past e held) k.0 rest (i + objects e) (later env held i (objects e) z) at k.2 (held_back g own i (objects e) (of_expression held e) _ (expression_counted held e) h))
 
-  pub address_spread : (pay : ℕ) (acts : ActsSpread pay) (e : Expression) → weight_of e ≤ suc pay → (g : Setting) (own : Placed) (sc : Scene) (d : ℕ) (env held : Environment) (c rest : List Stmt) (i : ℕ) → Numbered env held i → IsOwn own sc → IsAddress g sc d env e c rest → HeldList g own i (of_expression held e)
+  pub address_spread : (pay : ℕ) (acts : ActsSpread pay) (e : Expression) → weight_of e ≤ suc pay → (g : Setting) (own : Placed) (sc : Scene) (d : ℕ) (env held : Environment) (c rest : List Stmt) (i : ℕ) → Numbered env held i → IsOwn own sc → IsAddress g sc d env e c rest → HeldIn g own i (of_expression held e)
       → Spread g own c rest i (objects e) (forms e)
   address_spread pay acts (t.name l x) w g own sc d env held c rest i z at k h = spread_none g own c rest i (by_path c _ k)
   address_spread pay acts (t.parens l e) w g own sc d env held c rest i z at k h = address_spread pay acts e (omega (arith, w)) g own sc d env held c rest i z at k h
@@ -209,7 +209,7 @@ mutual
   address_spread pay acts (t.valof l a) w g own sc d env held c rest i z at k h = absurd k
   address_spread pay acts (t.table l es) w g own sc d env held c rest i z at k h = absurd k
 
-  pub store_spread : (pay : ℕ) (acts : ActsSpread pay) (e : Expression) → weight_of e ≤ suc pay → (g : Setting) (own : Placed) (sc : Scene) (d : ℕ) (env held : Environment) (c rest : List Stmt) (i : ℕ) → Numbered env held i → IsOwn own sc → IsStore g sc d env e c rest → HeldList g own i (of_expression held e)
+  pub store_spread : (pay : ℕ) (acts : ActsSpread pay) (e : Expression) → weight_of e ≤ suc pay → (g : Setting) (own : Placed) (sc : Scene) (d : ℕ) (env held : Environment) (c rest : List Stmt) (i : ℕ) → Numbered env held i → IsOwn own sc → IsStore g sc d env e c rest → HeldIn g own i (of_expression held e)
       → Spread g own c rest i (objects e) (forms e)
   store_spread pay acts (t.name l x) w g own sc d env held c rest i z at k h = spread_none g own c rest i (by_path c _ k)
   store_spread pay acts (t.parens l e) w g own sc d env held c rest i z at k h = store_spread pay acts e (omega (arith, w)) g own sc d env held c rest i z at k h

@@ -21,7 +21,7 @@ use Rattle.bk_meaning.specs.Lasting.{Lasting}
 use Rattle.bk_simulation.proofs.Memory.{BaseOf, Grown}
 use Rattle.bk_simulation.proofs.Sought.{with_names}
 use Rattle.bk_simulation.proofs.Laid.{Setting, Scene, LabelAt, CallAt, NamedIn}
-use Rattle.bk_simulation.proofs.Held.{HeldOne, HeldList, held_both, lasting_both}
+use Rattle.bk_simulation.proofs.Held.{HeldOneIn, HeldIn, held_in_both, lasting_both}
 use Rattle.bk_simulation.proofs.NamesAgree.{Agree}
 use Rattle.bk_simulation.proofs.LastingKinds.{Kind, AsKind, AreAs, as_both}
 
@@ -163,7 +163,7 @@ pub record Bases (h : Home) (next many : ℕ) (kinds : List Kind) (objects : Lis
   pub all_entries : length entries ≡ many
   pub count : (ns : List Named) → length (objects ns) ≡ many
   pub laid : (g : Setting) → Suits h next bases entries g → P g
-  pub held : (g : Setting) → Suits h next bases entries g → (ns : List Named) → Agree ns h.bindings → Mean h g ns → HeldList g h.own next (objects ns)
+  pub held : (g : Setting) → Suits h next bases entries g → (ns : List Named) → Agree ns h.bindings → Mean h g ns → HeldIn g h.own next (objects ns)
   pub alike : (g : Setting) → Suits h next bases entries g → (ns : List Named) → Agree ns h.bindings → Mean h g ns → AreAs h.own kinds (objects ns) bases entries
   pub placed : ArePlaced h bases entries
 
@@ -173,7 +173,7 @@ no_bases h next P f = record { bases = []; entries = []; all = refl; all_entries
 
 -- one
 pub new_base : (h : Home) (next base : ℕ) (kind : Kind) (object : List Named → Lasting) (P : Setting → Type 0) → ((ns : List Named) → Agree ns h.bindings → AsKind h.own kind (object ns) base 1) → IsBelow h base → ((g : Setting) → Fitting h g → BaseOf g.lasting next base → P g)
-    → ((g : Setting) → Fitting h g → BaseOf g.lasting next base → (ns : List Named) → Agree ns h.bindings → Mean h g ns → HeldOne g h.own next (object ns)) → Bases h next 1 (kind ∷ []) (λ ns. object ns ∷ []) P
+    → ((g : Setting) → Fitting h g → BaseOf g.lasting next base → (ns : List Named) → Agree ns h.bindings → Mean h g ns → HeldOneIn g h.own next (object ns)) → Bases h next 1 (kind ∷ []) (λ ns. object ns ∷ []) P
 new_base h next base kind object P z low f k = record { bases = base ∷ []; entries = 1 ∷ []; all = refl; all_entries = refl; count = λ ns. refl; laid = λ g x. f g x.fits (x.follow.0); held = λ g x ns a u. (k g x.fits (x.follow.0) ns a u, tt); alike = λ g x ns a u. (z ns a, tt); placed = λ program first well own. ((low program first well own, tt), (omega arith, tt)) }
 
 -- those of one part and then those of another
@@ -197,7 +197,7 @@ both_bases h next n m {ks} {ls} {K} {L} P Q a b =
       all_entries = omega (arith, ae, be, le);
       count = λ ns. let x = a.count ns in let y = b.count ns in let z = lasting_both (K ns) (L ns) in omega (arith, x, y, z);
       laid = λ g x. (a.laid g (front g x), b.laid g (back g x));
-      held = λ g x ns e u. held_both g h.own next n (K ns) (L ns) (a.count ns) (a.held g (front g x) ns e u) (b.held g (back g x) ns e u);
+      held = λ g x ns e u. held_in_both g h.own next n (K ns) (L ns) (a.count ns) (a.held g (front g x) ns e u) (b.held g (back g x) ns e u);
       alike = λ g x ns e u. as_both h.own ks (K ns) a.bases a.entries ls (L ns) b.bases b.entries (a.alike g (front g x) ns e u) (b.alike g (back g x) ns e u);
       placed = λ program first well own.
           let p = a.placed program first well own in
@@ -224,7 +224,7 @@ bases_of h next n {ks} K L P e a = record {
   all_entries = a.all_entries;
   count = λ ns. subst (λ x. length x ≡ n) (e ns) (a.count ns);
   laid = a.laid;
-  held = λ g x ns u v. subst (λ y. HeldList g h.own next y) (e ns) (a.held g x ns u v);
+  held = λ g x ns u v. subst (λ y. HeldIn g h.own next y) (e ns) (a.held g x ns u v);
   alike = λ g x ns u v. subst (λ y. AreAs h.own ks y a.bases a.entries) (e ns) (a.alike g x ns u v);
   placed = a.placed;
 }

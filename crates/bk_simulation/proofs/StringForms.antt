@@ -29,7 +29,7 @@ use Rattle.bk_meaning.specs.Scopes.{alone}
 use Rattle.bk_meaning.proofs.Numbers.{expression_counted, each_counted, action_counted, actions_counted, declaration_counted, declarations_counted, definition_counted, definitions_counted, starts_counted, statics_counted}
 use Rattle.bk_meaning.proofs.Standing.{bound-next, labelled-next, in_scope-next, declared-next, all_declared-next}
 use Rattle.bk_simulation.proofs.Laid.{Setting, Scene, Spot, Aim, pushes, jumps, Way, all_of, any_of, plain, way_of, ending, Operands, Stretch, ByTurns, in_valof, in_loop, in_switch, in_for as in_for_scene, owning, variables_bound, defines_variables, IsCode, AreValues, IsAddress, AreFrom, AreStores, IsStore, IsAct, AreActs, AreDeclared, IsOneDeclared, AreDefined, AreStarts}
-use Rattle.bk_simulation.proofs.Held.{HeldOne, HeldList}
+use Rattle.bk_simulation.proofs.Held.{HeldIn}
 use Rattle.bk_simulation.proofs.Procedures.{IsBody, IsProcedure}
 use Rattle.bk_simulation.proofs.Standing.{first_of}
 use Rattle.bk_simulation.proofs.StringCounts.{Form, a_string, some_words, a_procedure, strings_at, entries_in, Span, times, in_spans, IsSpan, AreSpread, spread_append, times_both, spans_both, forms_both, Spread, Same, by_path, same_on, spread_none, spread_top, spread_bottom, spread_both, spread_back, spread_string, spread_words, spread_procedure, spread_as}
@@ -165,18 +165,18 @@ later env held i k z = record { env_next = ap (λ x. x + k) z.env_next; held_nex
 pub same_numbers : (env held env1 held1 : Environment) (i : ℕ) → env1.next ≡ env.next → held1.next ≡ held.next → Numbered env held i → Numbered env1 held1 i
 same_numbers env held env1 held1 i e h z = record { env_next = e ∙ z.env_next; held_next = h ∙ z.held_next }
 
-pub held_front : (g : Setting) (own : Placed) (i : ℕ) (xs ys : List Lasting) → HeldList g own i (xs ++ ys) → HeldList g own i xs
+pub held_front : (g : Setting) (own : Placed) (i : ℕ) (xs ys : List Lasting) → HeldIn g own i (xs ++ ys) → HeldIn g own i xs
 held_front g own i [] ys h = tt
 held_front g own i (x ∷ xs) ys h = (h.0, held_front g own (suc i) xs ys h.1)
 
-pub held_back : (g : Setting) (own : Placed) (i n : ℕ) (xs ys : List Lasting) → length xs ≡ n → HeldList g own i (xs ++ ys) → HeldList g own (i + n) ys
-held_back g own i n [] ys e h = let s : i ≡ i + n = omega (arith, e) in subst (λ k. HeldList g own k ys) s h
+pub held_back : (g : Setting) (own : Placed) (i n : ℕ) (xs ys : List Lasting) → length xs ≡ n → HeldIn g own i (xs ++ ys) → HeldIn g own (i + n) ys
+held_back g own i n [] ys e h = let s : i ≡ i + n = omega (arith, e) in subst (λ k. HeldIn g own k ys) s h
 held_back g own i n (x ∷ xs) ys e h =
     let s : suc i + length xs ≡ i + n = omega (arith, e) in
-    subst (λ k. HeldList g own k ys) s (held_back g own (suc i) (length xs) xs ys refl h.1)
+    subst (λ k. HeldIn g own k ys) s (held_back g own (suc i) (length xs) xs ys refl h.1)
 
-pub held_third : (g : Setting) (own : Placed) (i n k : ℕ) (xs ys zs : List Lasting) → length xs ≡ n → length ys ≡ k → HeldList g own i (xs ++ ys ++ zs) → HeldList g own (i + n + k) zs
-held_third g own i n k xs ys zs e f h = held_back g own (i + n) k ys zs f (held_back g own i n xs (ys ++ zs) e (subst (λ w. HeldList g own i w) (append_assoc xs ys zs) h))
+pub held_third : (g : Setting) (own : Placed) (i n k : ℕ) (xs ys zs : List Lasting) → length xs ≡ n → length ys ≡ k → HeldIn g own i (xs ++ ys ++ zs) → HeldIn g own (i + n + k) zs
+held_third g own i n k xs ys zs e f h = held_back g own (i + n) k ys zs f (held_back g own i n xs (ys ++ zs) e (subst (λ w. HeldIn g own i w) (append_assoc xs ys zs) h))
 
 pub spread_three : (g : Setting) (own : Placed) (c c1 c2 rest : List Stmt) (i m n k : ℕ) (fs hs ls : List Form) → Spread g own c c1 i m fs → Spread g own c1 c2 (i + m) n hs → Spread g own c2 rest (i + m + n) k ls → Spread g own c rest i (m + n + k) (fs ++ hs ++ ls)
 spread_three g own c c1 c2 rest i m n k fs hs ls x y z =
