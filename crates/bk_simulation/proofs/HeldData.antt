@@ -1,5 +1,5 @@
 -- The words of strings and tables are data of the program.
-use Rattle.std.proofs.Common.{◌≡◌, ℕ, zero, suc, ◌+◌, ◌<◌, ◌^◌, List, [], ◌∷◌, ◌++◌, length, map, Option, Some, None, slice_get, drop, refl, sym, ap, ap₂, ◌∙◌, subst, arith}
+use Rattle.std.proofs.Common.{◌≡◌, ℕ, zero, suc, ◌+◌, ◌<◌, ◌≤◌, ◌^◌, List, [], ◌∷◌, ◌++◌, length, map, Option, Some, None, slice_get, drop, refl, sym, ap, ap₂, ◌∙◌, subst, arith}
 use Rattle.std.specs.Prelude.{unwrap_or}
 use Rattle.bk_base.specs.Word.{signed}
 use Rattle.bk_syntax.specs.Tree as t
@@ -20,7 +20,10 @@ use Rattle.bk_simulation.specs.Regular.{RegularEach}
 use Rattle.bk_simulation.proofs.Leaves.{same_number}
 use Rattle.bk_simulation.proofs.ListPlaces.{get_first}
 use Rattle.bk_simulation.proofs.Sought.{with_names}
+use Rattle.bk_base.specs.declared.limit.TheConstants.{FRAME_WORDS}
+use Rattle.bk_ocode.specs.WellPlaced.{IsWellPlaced}
 use Rattle.bk_simulation.proofs.Held.{InData}
+use Rattle.bk_simulation.proofs.BasesBelow.{data_below}
 use Rattle.bk_simulation.proofs.NamesAgree.{Agree}
 use Rattle.bk_simulation.proofs.Standing.{StandsAt}
 use Rattle.bk_simulation.proofs.LaidExpressions.{HasWords, constants_agree}
@@ -60,6 +63,11 @@ statement_data program section own k s rest d is st e =
     let a = datum_in own.places own.stmts st.place s rest d st.behind e in
     let c = section_datum program.sections section own a.0 d is a.1 in
     record { number = c.0; datum = d; at = c.1; placed = refl; is = refl }
+
+-- so its place lies below the first frame
+pub statement_below : (section : ℕ) (own : Placed) (k : ℕ) (s : Stmt) (rest : List Stmt) (d : Datum) → StandsAt own k (s ∷ rest) → datum_of own.places s rest ≡ d ∷ [] → (program : Program) (first : ℕ)
+    → IsWellPlaced program first FRAME_WORDS → slice_get program.sections section ≡ Some own → d.place ≤ first
+statement_below section own k s rest d st e program first well is = data_below program first well d.place d.words (statement_data program section own k s rest d is st e)
 
 -- words one after another
 abbrev pub AreSmall : List ℕ → Type 0

@@ -20,20 +20,22 @@ use Rattle.bk_trans.specs.Parts.{parts_in, parts_of_declarations}
 use Rattle.bk_trans.specs.Scheme.{command_code, through_code, declarations_code}
 use Rattle.bk_meaning.specs.Environment.{Named, label, bind_each, labelled, objects_of_actions, objects_of_declarations}
 use Rattle.bk_meaning.specs.Seeking.{Sought, the_label, stands_in_one}
-use Rattle.bk_meaning.specs.Lasting.{of_action, of_actions, of_declarations, all_declared}
+use Rattle.bk_meaning.specs.Lasting.{Lasting, of_action, of_actions, of_declarations, all_declared}
 use Rattle.bk_simulation.specs.Regular.{RegularAction}
 use Rattle.bk_simulation.proofs.Sizes.{turns_through}
 use Rattle.bk_simulation.proofs.Weights.{weight_in, through_light}
 use Rattle.bk_simulation.proofs.Sought.{with_names, label_stands_one}
 use Rattle.bk_simulation.proofs.NamesBound.{labels_named}
-use Rattle.bk_simulation.proofs.Laid.{Scene, owning, AreActs, LeadsTo, IsScope}
+use Rattle.bk_simulation.proofs.Laid.{Setting, Scene, owning, AreActs, LeadsTo, IsScope}
 use Rattle.bk_simulation.proofs.NamesAgree.{Agree}
-use Rattle.bk_simulation.proofs.LastingKinds.{kinds_through}
-use Rattle.bk_simulation.proofs.Standing.{there_in, StandsAt, passed, home, Bases, bases_inside, bases_of, bases_so, bases_paid}
+use Rattle.bk_simulation.proofs.LastingKinds.{Kind, kinds_through}
+use Rattle.bk_simulation.proofs.Standing.{there_in, StandsAt, passed, home, Bases, bases_inside, bases_of, bases_so, bases_paid, Lies}
 use Rattle.bk_simulation.proofs.LaidExpressions.{FoundParts, found_front, found_back, known, InNames, joined_three}
 use Rattle.bk_simulation.proofs.LaidCommands.{Doing, finds_nothing, Done, DoneEach, words_labels, agree_labels, names_bound}
 use Rattle.bk_simulation.proofs.BehindDeclarations.{next_all_declared}
-use Rattle.bk_simulation.proofs.LaidForms.{BlocksLie, laid_acts}
+use Rattle.bk_simulation.proofs.LaidValues.{ValofsLie}
+use Rattle.bk_simulation.proofs.LaidActs.{BlocksLie, laid_acts}
+use Rattle.bk_simulation.proofs.LaidValofs.{valof_lies}
 use Rattle.bk_simulation.proofs.LaidDeclarations.{Later, declared_behind, declared_bases}
 
 -- the commands of a scope
@@ -67,12 +69,12 @@ InBlock d cs rest g sc1 d1 env1 c1 =
     (j : ℕ) × (at1 : Sought → List Stmt) × AreActs g (owning j cs sc1) d1 (labelled cs env1) cs at1 c1 (Stack d ∷ rest) × (turns_through cs ≤ g.pay)
     × ((x : List ℕ) → stands_in_one (the_label x) env1 cs ≡ true → LeadsTo (owning j cs sc1) d1 x (at1 (the_label x)))
 
-block_lies : (pay : ℕ) (blocks : BlocksLie pay) (sc : Scene) (p : Place) (s : Spot) (i l : ℕ) (x : Declaration) (xs : Declarations) (cs : Actions) (d n : ℕ) (c rest : List Stmt) → Doing sc p d
+block_lies : (pay : ℕ) (valofs : ValofsLie pay) (blocks : BlocksLie pay) (sc : Scene) (p : Place) (s : Spot) (i l : ℕ) (x : Declaration) (xs : Declarations) (cs : Actions) (d n : ℕ) (c rest : List Stmt) → Doing sc p d
     → SoundDone sc.bindings p s (t.block l (t.declare x xs) cs) → RegularAction (t.block l (t.declare x xs) cs) → weight_in (t.block l (t.declare x xs) cs) ≤ suc pay
     → FoundParts sc.own sc.targets (parts_in d n (command_named sc.bindings p s (t.block l (t.declare x xs) cs)))
     → c ≡ command_code sc.targets sc.around d n (command_named sc.bindings p s (t.block l (t.declare x xs) cs)) ++ rest → StandsAt sc.own d c
     → Done pay sc i (t.block l (t.declare x xs) cs) d n (command_named sc.bindings p s (t.block l (t.declare x xs) cs)) c rest
-block_lies pay blocks sc p s i l x xs cs d n c rest a h r m f k st =
+block_lies pay valofs blocks sc p s i l x xs cs d n c rest a h r m f k st =
     let hs : Declarations = t.declare x xs in
     let named = declarations_named sc.bindings p s hs in
     let u : Spot = behind_declared hs s in
@@ -91,7 +93,7 @@ block_lies pay blocks sc p s i l x xs cs d n c rest a h r m f k st =
     let c1 = code ++ (Stack d ∷ rest) in
     let k1 = joined_three first code (Stack d ∷ []) rest c k in
     let parts_first = found_front sc.own sc.targets (parts_of_declarations d n named) _ f in
-    let behind = declared_behind pay blocks sc p s hs d n c c1 a h.0 r.0 (omega (arith, m)) parts_first k1 st in
+    let behind = declared_behind pay valofs blocks sc p s hs d n c c1 a h.0 r.0 (omega (arith, m)) parts_first k1 st in
     let doing1 : Doing sc1 p1 d1 = behind.1 in
     let doing : Doing within p2 d1 = record {
       around = record { same = doing1.around.same; at = doing1.around.at; words = words_labels p.procedure (u.number + 1) (labels_of_each cs) bs doing1.around.words };
@@ -99,12 +101,12 @@ block_lies pay blocks sc p s i l x xs cs d n c rest a h r m f k st =
       switch = doing1.switch;
       valof = doing1.valof;
     } in
-    let done = laid_acts pay blocks within p2 s2 i1 cs d1 n1 c1 (Stack d ∷ rest) doing h.1 r.1 (omega (arith, m)) (found_back sc.own sc.targets (parts_of_declarations d n named) _ f) refl behind.0 in
+    let done = laid_acts pay valofs blocks within p2 s2 i1 cs d1 n1 c1 (Stack d ∷ rest) doing h.1 r.1 (omega (arith, m)) (found_back sc.own sc.targets (parts_of_declarations d n named) _ f) refl behind.0 in
     let light = through_light cs in
     let scope = scope_bases pay sc1 i1 cs d1 n1 ks c1 (Stack d ∷ rest) (u.number + 1) p.procedure a.around.same (omega (arith, m, light)) done in
     let later = bases_so (home sc1 pay) i1 (objects_of_actions cs) _ (λ g. (ns : List Named) → Agree ns bs → InBlock d cs rest g sc1 d1 (with_names ns i1) c1)
     (λ g y v ns w. let z = v ns w in (u.number + 1, z.0, z.1.0, z.1.1, z.1.2)) scope in
-    let whole = declared_bases pay blocks sc p s i hs d n (objects_of_actions cs) c c1 (λ ns. of_actions (labelled cs (with_names ns i1)) cs) (InBlock d cs rest) a h.0 r.0 (omega (arith, m)) parts_first k1 st later in
+    let whole = declared_bases pay valofs blocks sc p s i hs d n (objects_of_actions cs) c c1 (λ ns. of_actions (labelled cs (with_names ns i1)) cs) (InBlock d cs rest) a h.0 r.0 (omega (arith, m)) parts_first k1 st later in
     let said = bases_of (home sc pay) i (objects_of_declarations hs + objects_of_actions cs) _ (λ ns. of_action (with_names ns i) (t.block l hs cs)) _
     (λ ns. ap (λ z. of_declarations (with_names ns i) hs ++ of_actions (labelled cs (with_names (all_declared hs (with_names ns i)).names z)) cs) (sym (next_all_declared hs (with_names ns i)))) whole in
     record {
@@ -114,12 +116,20 @@ block_lies pay blocks sc p s i l x xs cs d n c rest a h r m f k st =
     }
 
 -- where a step pays for more
+lies_paid : (pay more : ℕ) (sc : Scene) (i many d : ℕ) (rest : List Stmt) {ks : List Kind} {L : List Named → List Lasting} (P : Setting → Type 0) → pay ≤ more → Lies (home sc pay) i many d rest ks L P → Lies (home sc more) i many d rest ks L P
+lies_paid pay more sc i many d rest P low a = record { on = a.on; objects_are = bases_paid (home sc pay) more i many P low a.objects_are }
+
 done_paid : (pay more : ℕ) (sc : Scene) (i l : ℕ) (x : Declaration) (xs : Declarations) (cs : Actions) (d n : ℕ) (k : Command) (c rest : List Stmt) → pay ≤ more → Done pay sc i (t.block l (t.declare x xs) cs) d n k c rest
     → Done more sc i (t.block l (t.declare x xs) cs) d n k c rest
-done_paid pay more sc i l x xs cs d n k c rest low a =
-    record { at = a.at; lies = record { on = a.lies.on; objects_are = bases_paid (home sc pay) more i _ _ low a.lies.objects_are }; finds = a.finds }
+done_paid pay more sc i l x xs cs d n k c rest low a = record { at = a.at; lies = lies_paid pay more sc i _ d rest _ low a.lies; finds = a.finds }
 
--- BLOCKS WITH DECLARATIONS ARE LAID: those in them weigh less.
-pub blocks_lie : (pay : ℕ) → BlocksLie pay
-blocks_lie zero sc p s i l x xs cs d n c rest a h r m f k st = absurd (omega (arith, m))
-blocks_lie (suc pay) sc p s i l x xs cs d n c rest a h r m f k st = done_paid pay (suc pay) sc i l x xs cs d n _ c rest (omega arith) (block_lies pay (blocks_lie pay) sc p s i l x xs cs d n c rest a h r m f k st)
+-- VALOFS AND BLOCKS WITH DECLARATIONS ARE LAID: what stands in them weighs less.
+mutual
+  pub valofs_lie : (pay : ℕ) → ValofsLie pay
+  valofs_lie zero sc p s i aim l x d n c rest a h r m f k st = absurd (omega (arith, m))
+  valofs_lie (suc pay) sc p s i aim l x d n c rest a h r m f k st = lies_paid pay (suc pay) sc i _ _ rest _ (omega arith) (valof_lies pay (valofs_lie pay) (blocks_lie pay) sc p s i aim l x d n c rest a h r m f k st)
+
+  pub blocks_lie : (pay : ℕ) → BlocksLie pay
+  blocks_lie zero sc p s i l x xs cs d n c rest a h r m f k st = absurd (omega (arith, m))
+  blocks_lie (suc pay) sc p s i l x xs cs d n c rest a h r m f k st =
+      done_paid pay (suc pay) sc i l x xs cs d n _ c rest (omega arith) (block_lies pay (valofs_lie pay) (blocks_lie pay) sc p s i l x xs cs d n c rest a h r m f k st)

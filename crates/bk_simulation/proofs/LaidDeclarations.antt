@@ -36,7 +36,9 @@ use Rattle.bk_simulation.proofs.Renamed.{static_places, AreBases, renames_manife
 use Rattle.bk_simulation.proofs.RenamedLets.{AreProcedures, from_spots, spots_in, variables_in, spots_words, renames_procedures, renames_variables, bound_agree, next_bound, foreign_spots, foreign_agree, foreign_mean, hidden_are}
 use Rattle.bk_simulation.proofs.LaidStatics.{statics_lie}
 use Rattle.bk_simulation.proofs.LetWords.{WordsBased, procedures_based}
-use Rattle.bk_simulation.proofs.LaidForms.{BlocksLie, laid_defined}
+use Rattle.bk_simulation.proofs.LaidValues.{ValofsLie}
+use Rattle.bk_simulation.proofs.LaidActs.{BlocksLie}
+use Rattle.bk_simulation.proofs.LaidDefinitions.{laid_defined}
 
 -- what is laid behind declarations, in their scope
 abbrev pub Later : Type 1
@@ -133,15 +135,15 @@ DefinedHere sc p s i n d ds c c0 g =
     WordsBased g.lasting sc.own (inner sc s ds).bindings p (first_defined s ds) i n ds
     × InNames (inner sc s ds).bindings i (λ g env. AreDefined g (inner sc s ds) d env ds c c0 (depth_here sc p s d ds) (slots_here sc p s d ds)) g
 
-definitions_lie : (pay : ℕ) (blocks : BlocksLie pay) (sc : Scene) (p : Place) (s : Spot) (i l : ℕ) (ds : Definitions) (d n : ℕ) (c c1 : List Stmt) → Around sc p d → SoundOneDeclared sc.bindings p s (t.definitions l ds)
+definitions_lie : (pay : ℕ) (valofs : ValofsLie pay) (blocks : BlocksLie pay) (sc : Scene) (p : Place) (s : Spot) (i l : ℕ) (ds : Definitions) (d n : ℕ) (c c1 : List Stmt) → Around sc p d → SoundOneDeclared sc.bindings p s (t.definitions l ds)
     → RegularDefinitions ds → weight_defined ds ≤ pay → FoundParts sc.own sc.targets (parts_of_declaration d n (declaration_named sc.bindings p s (t.definitions l ds)))
     → c ≡ declaration_code sc.targets d n (declaration_named sc.bindings p s (t.definitions l ds)) ++ c1 → StandsAt sc.own d c
     → Lies (home (inner sc s ds) pay) i (objects_of_definitions ds) (depth_here sc p s d ds) (behind_let sc p s d ds c1) (kinds_of_definitions n (definitions_named (inner sc s ds).bindings p (first_defined s ds) ds)) (λ ns. of_definitions (with_names ns i) ds) (DefinedHere sc p s i n d ds c (behind_let sc p s d ds c1))
-definitions_lie pay blocks sc p s i l ds d n c c1 a h r m f k st =
+definitions_lie pay valofs blocks sc p s i l ds d n c c1 a h r m f k st =
     let bl = (inner sc s ds).bindings in
     let named = definitions_named bl p (first_defined s ds) ds in
     let around : Around (inner sc s ds) p d = record { same = a.same; at = a.at; words = words_procedures (s.number + 1) ds sc.bindings a.words } in
-    laid_defined pay blocks (inner sc s ds) p (first_defined s ds) i ds d n c (behind_let sc p s d ds c1) around h r m f
+    laid_defined pay valofs blocks (inner sc s ds) p (first_defined s ds) i ds d n c (behind_let sc p s d ds c1) around h r m f
     (joined_two (definitions_code sc.targets d n named) (cond (has_variables named) (Store ∷ []) []) c1 c k) st
 
 -- what stands around code behind a LET
@@ -184,21 +186,21 @@ let_after sc p s i l d ds g k q ns r u =
     )
 
 -- a LET, and what is laid behind it
-pub let_bases : (pay : ℕ) (blocks : BlocksLie pay) (sc : Scene) (p : Place) (s : Spot) (i l : ℕ) (ds : Definitions) (d n many : ℕ) (c c1 : List Stmt) {qs : List Kind} (L : List Named → List Lasting) (Then : Later) → Around sc p d
+pub let_bases : (pay : ℕ) (valofs : ValofsLie pay) (blocks : BlocksLie pay) (sc : Scene) (p : Place) (s : Spot) (i l : ℕ) (ds : Definitions) (d n many : ℕ) (c c1 : List Stmt) {qs : List Kind} (L : List Named → List Lasting) (Then : Later) → Around sc p d
     → SoundOneDeclared sc.bindings p s (t.definitions l ds) → RegularDefinitions ds → weight_defined ds ≤ pay → FoundParts sc.own sc.targets (parts_of_declaration d n (declaration_named sc.bindings p s (t.definitions l ds)))
     → c ≡ declaration_code sc.targets d n (declaration_named sc.bindings p s (t.definitions l ds)) ++ c1 → StandsAt sc.own d c
     → Bases (record (home sc pay) { bindings = scope_behind_one sc.bindings p s (t.definitions l ds) }) (i + objects_of_definitions ds) many qs L
     (LaidLater Then sc (scope_behind_one sc.bindings p s (t.definitions l ds)) (depth_here sc p s d ds) (i + objects_of_definitions ds) c1)
     → Bases (home sc pay) i (objects_of_definitions ds + many) (kinds_of_definitions n (definitions_named (inner sc s ds).bindings p (first_defined s ds) ds) ++ qs) (λ ns. of_declaration (with_names ns i) (t.definitions l ds) ++ L (declared (t.definitions l ds) (with_names ns i)).names)
     (InNames sc.bindings i (λ g env. IsOneDeclared g sc d env (t.definitions l ds) (Then g) c))
-let_bases pay blocks sc p s i l ds d n many c c1 {qs} L Then a h r m f k st b =
+let_bases pay valofs blocks sc p s i l ds d n many c c1 {qs} L Then a h r m f k st b =
     let hm : Home = home sc pay in
     let bl = (inner sc s ds).bindings in
     let ps = slots_here sc p s d ds in
     let d1 : ℕ = depth_here sc p s d ds in
     let c0 = behind_let sc p s d ds c1 in
     let j : ℕ = i + objects_of_definitions ds in
-    let lies = definitions_lie pay blocks sc p s i l ds d n c c1 a h r m f k st in
+    let lies = definitions_lie pay valofs blocks sc p s i l ds d n c c1 a h r m f k st in
     let vars = variables_in bl p (first_defined s ds) d ds a.at h r lies.on.shallow in
     let q : ℕ = p.procedure in
     let bs : List Binding = bind_all (from_spots q ps) bl in
@@ -244,19 +246,19 @@ at_code : (pay : ℕ) (sc : Scene) (i : ℕ) (x : Declaration) (d many : ℕ) (c
     → Bases (record (home sc pay) { bindings = bs }) (i + objects_of_declaration x) many qs L (LaidLater Then sc bs d (i + objects_of_declaration x) c)
 at_code pay sc i x d many c c1 bs {qs} L Then k b = subst (λ z. Bases (record (home sc pay) { bindings = bs }) (i + objects_of_declaration x) many qs L (LaidLater Then sc bs d (i + objects_of_declaration x) z)) (sym k) b
 
-pub one_bases : (pay : ℕ) (blocks : BlocksLie pay) (sc : Scene) (p : Place) (s : Spot) (i : ℕ) (x : Declaration) (d n many : ℕ) (c c1 : List Stmt) {qs : List Kind} (L : List Named → List Lasting) (Then : Later) → Around sc p d
+pub one_bases : (pay : ℕ) (valofs : ValofsLie pay) (blocks : BlocksLie pay) (sc : Scene) (p : Place) (s : Spot) (i : ℕ) (x : Declaration) (d n many : ℕ) (c c1 : List Stmt) {qs : List Kind} (L : List Named → List Lasting) (Then : Later) → Around sc p d
     → SoundOneDeclared sc.bindings p s x → RegularDeclaration x → weight_one_declared x ≤ pay → FoundParts sc.own sc.targets (parts_of_declaration d n (declaration_named sc.bindings p s x))
     → c ≡ declaration_code sc.targets d n (declaration_named sc.bindings p s x) ++ c1 → StandsAt sc.own d c
     → Bases (record (home sc pay) { bindings = scope_behind_one sc.bindings p s x }) (i + objects_of_declaration x) many qs L
     (LaidLater Then sc (scope_behind_one sc.bindings p s x) (behind_declaration d (declaration_named sc.bindings p s x)) (i + objects_of_declaration x) c1)
     → Bases (home sc pay) i (objects_of_declaration x + many) (kinds_of_declaration n (declaration_named sc.bindings p s x) ++ qs) (λ ns. of_declaration (with_names ns i) x ++ L (declared x (with_names ns i)).names) (InNames sc.bindings i (λ g env. IsOneDeclared g sc d env x (Then g) c))
-one_bases pay blocks sc p s i (t.constants l sort.Manifest is) d n many c c1 L Then a h r m f k st b =
+one_bases pay valofs blocks sc p s i (t.constants l sort.Manifest is) d n many c c1 L Then a h r m f k st b =
     constants_bases pay sc p s l sort.Manifest is i d n many c L Then a.words h r f (at_code pay sc i (t.constants l sort.Manifest is) d many c c1 (scope_behind_one sc.bindings p s (t.constants l sort.Manifest is)) L Then k b)
-one_bases pay blocks sc p s i (t.constants l sort.Static is) d n many c c1 L Then a h r m f k st b =
+one_bases pay valofs blocks sc p s i (t.constants l sort.Static is) d n many c c1 L Then a h r m f k st b =
     constants_bases pay sc p s l sort.Static is i d n many c L Then a.words h r f (at_code pay sc i (t.constants l sort.Static is) d many c c1 (scope_behind_one sc.bindings p s (t.constants l sort.Static is)) L Then k b)
-one_bases pay blocks sc p s i (t.constants l sort.Global is) d n many c c1 L Then a h r m f k st b =
+one_bases pay valofs blocks sc p s i (t.constants l sort.Global is) d n many c c1 L Then a h r m f k st b =
     constants_bases pay sc p s l sort.Global is i d n many c L Then a.words h r f (at_code pay sc i (t.constants l sort.Global is) d many c c1 (scope_behind_one sc.bindings p s (t.constants l sort.Global is)) L Then k b)
-one_bases pay blocks sc p s i (t.definitions l ds) d n many c c1 L Then a h r m f k st b = let_bases pay blocks sc p s i l ds d n many c c1 L Then a h r m f k st b
+one_bases pay valofs blocks sc p s i (t.definitions l ds) d n many c c1 L Then a h r m f k st b = let_bases pay valofs blocks sc p s i l ds d n many c c1 L Then a h r m f k st b
 
 -- what stands around code behind constants
 pub behind_constants : (sc : Scene) (p : Place) (s : Spot) (l : ℕ) (o : Sort) (is : Items) (d : ℕ) → Doing sc p d → RegularItems is → Doing (record sc { bindings = scope_behind_one sc.bindings p s (t.constants l o is) }) p d
@@ -265,17 +267,17 @@ behind_constants sc p s l sort.Static is d a r = exits_same p p (refl, refl, ref
 behind_constants sc p s l sort.Global is d a r = exits_same p p (refl, refl, refl) sc _ d d a refl a.around.at (words_globals sc.bindings is sc.bindings a.around.words)
 
 -- where code goes on behind it
-pub behind_one : (pay : ℕ) (blocks : BlocksLie pay) (sc : Scene) (p : Place) (s : Spot) (x : Declaration) (d n : ℕ) (c c1 : List Stmt) → Doing sc p d → SoundOneDeclared sc.bindings p s x → RegularDeclaration x
+pub behind_one : (pay : ℕ) (valofs : ValofsLie pay) (blocks : BlocksLie pay) (sc : Scene) (p : Place) (s : Spot) (x : Declaration) (d n : ℕ) (c c1 : List Stmt) → Doing sc p d → SoundOneDeclared sc.bindings p s x → RegularDeclaration x
     → weight_one_declared x ≤ pay → FoundParts sc.own sc.targets (parts_of_declaration d n (declaration_named sc.bindings p s x)) → c ≡ declaration_code sc.targets d n (declaration_named sc.bindings p s x) ++ c1 → StandsAt sc.own d c
     → StandsAt sc.own (behind_declaration d (declaration_named sc.bindings p s x)) c1
     × Doing (record sc { bindings = scope_behind_one sc.bindings p s x }) (place_behind_one sc.bindings p s x) (behind_declaration d (declaration_named sc.bindings p s x))
-behind_one pay blocks sc p s (t.constants l sort.Manifest is) d n c c1 a h r m f k st = (written sc.own d c c1 k st, behind_constants sc p s l sort.Manifest is d a r)
-behind_one pay blocks sc p s (t.constants l sort.Static is) d n c c1 a h r m f k st = (written sc.own d c c1 k st, behind_constants sc p s l sort.Static is d a r)
-behind_one pay blocks sc p s (t.constants l sort.Global is) d n c c1 a h r m f k st = (written sc.own d c c1 k st, behind_constants sc p s l sort.Global is d a r)
-behind_one pay blocks sc p s (t.definitions l ds) d n c c1 a h r m f k st =
+behind_one pay valofs blocks sc p s (t.constants l sort.Manifest is) d n c c1 a h r m f k st = (written sc.own d c c1 k st, behind_constants sc p s l sort.Manifest is d a r)
+behind_one pay valofs blocks sc p s (t.constants l sort.Static is) d n c c1 a h r m f k st = (written sc.own d c c1 k st, behind_constants sc p s l sort.Static is d a r)
+behind_one pay valofs blocks sc p s (t.constants l sort.Global is) d n c c1 a h r m f k st = (written sc.own d c c1 k st, behind_constants sc p s l sort.Global is d a r)
+behind_one pay valofs blocks sc p s (t.definitions l ds) d n c c1 a h r m f k st =
     let bl = (inner sc s ds).bindings in
     let d1 : ℕ = depth_here sc p s d ds in
-    let lies = definitions_lie pay blocks sc p s 0 l ds d n c c1 a.around h r m f k st in
+    let lies = definitions_lie pay valofs blocks sc p s 0 l ds d n c c1 a.around h r m f k st in
     let vars = variables_in bl p (first_defined s ds) d ds a.around.at h r lies.on.shallow in
     let words : HasWords (bind_all (from_spots p.procedure (slots_here sc p s d ds)) bl) = spots_words (slots_here sc p s d ds) p.procedure bl (words_procedures (s.number + 1) ds sc.bindings a.around.words) in
     let same = (same_defined bl p ds).1 in (
@@ -285,34 +287,34 @@ behind_one pay blocks sc p s (t.definitions l ds) d n c c1 a h r m f k st =
 
 -- ---- declarations in order
 
-pub declared_behind : (pay : ℕ) (blocks : BlocksLie pay) (sc : Scene) (p : Place) (s : Spot) (xs : Declarations) (d n : ℕ) (c c1 : List Stmt) → Doing sc p d → SoundDeclared sc.bindings p s xs → RegularDeclarations xs
+pub declared_behind : (pay : ℕ) (valofs : ValofsLie pay) (blocks : BlocksLie pay) (sc : Scene) (p : Place) (s : Spot) (xs : Declarations) (d n : ℕ) (c c1 : List Stmt) → Doing sc p d → SoundDeclared sc.bindings p s xs → RegularDeclarations xs
     → weight_declared xs ≤ pay → FoundParts sc.own sc.targets (parts_of_declarations d n (declarations_named sc.bindings p s xs)) → c ≡ declarations_code sc.targets d n (declarations_named sc.bindings p s xs) ++ c1 → StandsAt sc.own d c
     → StandsAt sc.own (behind_declarations d (declarations_named sc.bindings p s xs)) c1
     × Doing (record sc { bindings = scope_behind sc.bindings p s xs }) (place_behind_all sc.bindings p s xs) (behind_declarations d (declarations_named sc.bindings p s xs))
-declared_behind pay blocks sc p s t.no_declarations d n c c1 a h r m f k st = (written sc.own d c c1 k st, a)
-declared_behind pay blocks sc p s (t.declare x xs) d n c c1 a h r m f k st =
+declared_behind pay valofs blocks sc p s t.no_declarations d n c c1 a h r m f k st = (written sc.own d c c1 k st, a)
+declared_behind pay valofs blocks sc p s (t.declare x xs) d n c c1 a h r m f k st =
     let one = declaration_named sc.bindings p s x in
     let bs = scope_behind_one sc.bindings p s x in
     let p1 : Place = place_behind_one sc.bindings p s x in
     let s1 : Spot = behind_one_declared x s in
     let more = declarations_code sc.targets (behind_declaration d one) (n + labels_of_declaration one) (declarations_named bs p1 s1 xs) in
-    let first = behind_one pay blocks sc p s x d n c (more ++ c1) a h.0 r.0 (omega (arith, m)) (found_front sc.own sc.targets (parts_of_declaration d n one) _ f) (joined_two (declaration_code sc.targets d n one) more c1 c k) st in
-    declared_behind pay blocks (record sc { bindings = bs }) p1 s1 xs (behind_declaration d one) (n + labels_of_declaration one) (more ++ c1) c1 first.1 h.1 r.1 (omega (arith, m))
+    let first = behind_one pay valofs blocks sc p s x d n c (more ++ c1) a h.0 r.0 (omega (arith, m)) (found_front sc.own sc.targets (parts_of_declaration d n one) _ f) (joined_two (declaration_code sc.targets d n one) more c1 c k) st in
+    declared_behind pay valofs blocks (record sc { bindings = bs }) p1 s1 xs (behind_declaration d one) (n + labels_of_declaration one) (more ++ c1) c1 first.1 h.1 r.1 (omega (arith, m))
     (found_back sc.own sc.targets (parts_of_declaration d n one) _ f) refl first.0
 
-pub declared_bases : (pay : ℕ) (blocks : BlocksLie pay) (sc : Scene) (p : Place) (s : Spot) (i : ℕ) (xs : Declarations) (d n many : ℕ) (c c1 : List Stmt) {qs : List Kind} (L : List Named → List Lasting) (Then : Later) → Doing sc p d
+pub declared_bases : (pay : ℕ) (valofs : ValofsLie pay) (blocks : BlocksLie pay) (sc : Scene) (p : Place) (s : Spot) (i : ℕ) (xs : Declarations) (d n many : ℕ) (c c1 : List Stmt) {qs : List Kind} (L : List Named → List Lasting) (Then : Later) → Doing sc p d
     → SoundDeclared sc.bindings p s xs → RegularDeclarations xs → weight_declared xs ≤ pay → FoundParts sc.own sc.targets (parts_of_declarations d n (declarations_named sc.bindings p s xs))
     → c ≡ declarations_code sc.targets d n (declarations_named sc.bindings p s xs) ++ c1 → StandsAt sc.own d c
     → Bases (record (home sc pay) { bindings = scope_behind sc.bindings p s xs }) (i + objects_of_declarations xs) many qs L
     (LaidLater Then sc (scope_behind sc.bindings p s xs) (behind_declarations d (declarations_named sc.bindings p s xs)) (i + objects_of_declarations xs) c1)
     → Bases (home sc pay) i (objects_of_declarations xs + many) (kinds_of_declarations n (declarations_named sc.bindings p s xs) ++ qs) (λ ns. of_declarations (with_names ns i) xs ++ L (all_declared xs (with_names ns i)).names) (InNames sc.bindings i (λ g env. AreDeclared g sc d env xs (Then g) c))
-declared_bases pay blocks sc p s i t.no_declarations d n many c c1 {qs} L Then a h r m f k st b =
+declared_bases pay valofs blocks sc p s i t.no_declarations d n many c c1 {qs} L Then a h r m f k st b =
     let none : i + 0 ≡ i = omega arith in
     let same : many ≡ 0 + many = omega arith in
     let b1 = subst (λ z. Bases (home sc pay) z many qs L (LaidLater Then sc sc.bindings d z c1)) none b in
     let b2 = subst (λ z. Bases (home sc pay) i many qs L (LaidLater Then sc sc.bindings d i z)) (sym k) b1 in
     subst (λ z. Bases (home sc pay) i z qs L (LaidLater Then sc sc.bindings d i c)) same b2
-declared_bases pay blocks sc p s i (t.declare x xs) d n many c c1 {qs} L Then a h r m f k st b =
+declared_bases pay valofs blocks sc p s i (t.declare x xs) d n many c c1 {qs} L Then a h r m f k st b =
     let hm : Home = home sc pay in
     let one = declaration_named sc.bindings p s x in
     let bs = scope_behind_one sc.bindings p s x in
@@ -327,12 +329,12 @@ declared_bases pay blocks sc p s i (t.declare x xs) d n many c c1 {qs} L Then a 
     let within : Scene = record sc { bindings = bs } in
     let own_found = found_front sc.own sc.targets (parts_of_declaration d n one) _ f in
     let k1 = joined_two (declaration_code sc.targets d n one) more c1 c k in
-    let first = behind_one pay blocks sc p s x d n c (more ++ c1) a h.0 r.0 (omega (arith, m)) own_found k1 st in
+    let first = behind_one pay valofs blocks sc p s x d n c (more ++ c1) a h.0 r.0 (omega (arith, m)) own_found k1 st in
     let further : i + (ox + os) ≡ i + ox + os = omega arith in
     let many_more : ox + (os + many) ≡ ox + os + many = omega arith in
     let b1 = subst (λ z. Bases (record hm { bindings = scope_behind bs p1 s1 xs }) z many qs L (LaidLater Then sc (scope_behind bs p1 s1 xs) (behind_declarations d1 named) z c1)) further b in
-    let others = declared_bases pay blocks within p1 s1 (i + ox) xs d1 n1 many (more ++ c1) c1 L Then first.1 h.1 r.1 (omega (arith, m)) (found_back sc.own sc.targets (parts_of_declaration d n one) _ f) refl first.0 b1 in
-    let whole = one_bases pay blocks sc p s i x d n (os + many) c (more ++ c1) (λ ns. of_declarations (with_names ns (i + ox)) xs ++ L (all_declared xs (with_names ns (i + ox))).names)
+    let others = declared_bases pay valofs blocks within p1 s1 (i + ox) xs d1 n1 many (more ++ c1) c1 L Then first.1 h.1 r.1 (omega (arith, m)) (found_back sc.own sc.targets (parts_of_declaration d n one) _ f) refl first.0 b1 in
+    let whole = one_bases pay valofs blocks sc p s i x d n (os + many) c (more ++ c1) (λ ns. of_declarations (with_names ns (i + ox)) xs ++ L (all_declared xs (with_names ns (i + ox))).names)
     (λ g sc0 d0 env0 c0. AreDeclared g sc0 d0 env0 xs (Then g) c0) a.around h.0 r.0 (omega (arith, m)) own_found k1 st others in
     let said = bases_of hm i (ox + (os + many)) _ (λ ns. of_declarations (with_names ns i) (t.declare x xs) ++ L (all_declared (t.declare x xs) (with_names ns i)).names) _ (λ ns.
     let env : Environment = declared x (with_names ns i) in

@@ -260,3 +260,7 @@ joined_two x y r c e = e ∙ append_assoc x y r
 
 pub joined_three : (x y z r c : List Stmt) → c ≡ (x ++ y ++ z) ++ r → c ≡ x ++ (y ++ (z ++ r))
 joined_three x y z r c e = e ∙ append_assoc (x ++ y) z r ∙ append_assoc x y (z ++ r)
+
+-- the codes of `E1 -> E2, E3`
+pub joined_choice : (x y g h v r c : List Stmt) → c ≡ (x ++ y ++ (g ++ v) ++ h) ++ r → c ≡ x ++ (y ++ (g ++ (v ++ (h ++ r))))
+joined_choice x y g h v r c e = e ∙ append_assoc ((x ++ y) ++ (g ++ v)) h r ∙ append_assoc (x ++ y) (g ++ v) (h ++ r) ∙ append_assoc x y ((g ++ v) ++ (h ++ r)) ∙ ap (λ k. x ++ (y ++ k)) (append_assoc g v (h ++ r))

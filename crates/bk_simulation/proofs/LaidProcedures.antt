@@ -20,6 +20,8 @@ use Rattle.bk_scope.specs.Spots.{Spot}
 use Rattle.bk_ocode.specs.Depth.{next_depth, depth_behind}
 use Rattle.bk_ocode.specs.Lists.{joined}
 use Rattle.bk_ocode.specs.OcodeState.{Placed, global_place}
+use Rattle.bk_ocode.specs.OcodeRun.{Program}
+use Rattle.bk_ocode.specs.WellPlaced.{IsWellPlaced}
 use Rattle.bk_ocode.specs.SectionData.{item_words}
 use Rattle.bk_ocode.specs.declared.stmt.Stmt.{Stmt}
 use Rattle.bk_ocode.specs.declared.stmt.Stmt.TheVariants.{Entry, Save, Return, ReturnItem, EndProcedure, DataLabel, DataAddress}
@@ -39,8 +41,8 @@ use Rattle.bk_simulation.proofs.Sought.{with_names}
 use Rattle.bk_simulation.proofs.Laid.{Setting, Scene, pushes, IsCode, IsAlone, place_of, IsWord, NamedIn}
 use Rattle.bk_simulation.proofs.NamesBound.{bound_named}
 use Rattle.bk_simulation.proofs.Procedures.{IsBody, IsProcedure}
-use Rattle.bk_simulation.proofs.Held.{InData, HeldWord, HeldList}
-use Rattle.bk_simulation.proofs.HeldData.{statement_data}
+use Rattle.bk_simulation.proofs.Held.{InData, HeldWord, HeldIn}
+use Rattle.bk_simulation.proofs.HeldData.{statement_data, statement_below}
 use Rattle.bk_simulation.proofs.NamesAgree.{Agree, SameGlobal, global_of, same_global, own_cell, agree_bound}
 use Rattle.bk_simulation.proofs.LastingKinds.{Kind, entry, kinds, kinds_in, bound_global, IsCalled, word_base}
 use Rattle.bk_simulation.proofs.Standing.{Follow, FollowWords, there_in, bases_inside, bases_of, StandsAt, first_of, passed, written, Home, home, Suits, Bases, bases_so, Lies}
@@ -230,12 +232,12 @@ letters_length (x ∷ xs) = ap (λ k. suc k) (letters_length xs)
 pub procedure_is : (pay section : ℕ) (own : Placed) (ts : List Target) (bs : List Binding) (k : ℕ) (fs : List Mention) (i many : ℕ) (body : Body) (n : ℕ) (ks : List Kind) (p : ProcedureLies pay section own ts bs k fs i many body n ks) (g : Setting) (number : ℕ)
     (ns : List Named) (global : Option ℕ) → Suits (record { section = section; own = own; targets = ts; bindings = bs; pay = pay }) i p.objects_are.bases p.objects_are.entries g → Agree ns bs → g.codes.procedure number ≡ own.places.label n
     → ((bases : List ℕ) (frame : ℕ) → Grown g.lasting bases → NamedIn (scene_of section own ts bs k) (with_names ns i) bases frame)
-    → IsProcedure g number (record { formals = letters fs; body = body; env = with_names ns i; global = global })
+    → (q : IsProcedure g number (record { formals = letters fs; body = body; env = with_names ns i; global = global })) × (q.scene.own ≡ own)
 procedure_is pay section own ts bs k fs i many body n ks p g number ns global suits agrees word outer =
     let sc = scene_of section own ts (with_formals k 2 fs bs) k in
     let same = letters_length fs in
     let few = p.few in
-    record {
+    (record {
       scene = sc;
       is_own = suits.fits.own;
       place = p.place;
@@ -248,7 +250,7 @@ procedure_is pay section own ts bs k fs i many body n ks p g number ns global su
       few = omega (arith, few, same);
       laid = λ o above. subst (λ z. IsBody g sc (z + 2) (bind_formals o 0 (letters fs) (with_names ns i)) body p.code) (sym same) (p.objects_are.laid g suits ns agrees o above);
       names = λ o frame bases grown base low. formals_named (scene_of section own ts bs k) k o 0 2 fs bs (with_names ns i) bases frame refl (omega (arith, few)) base low (outer bases frame grown);
-    }
+    }, refl)
 
 -- ---- what lasts of a procedure
 
@@ -287,6 +289,18 @@ called (Some (b.Global None)) c = absurd (let h : None ≡ Some c.0 = c.1 in cc)
 called (Some (b.Global (Some v))) c = tt
 called (Some (b.Static m)) c = tt
 
+-- its base lies below the first frame
+word_below : (section : ℕ) (own : Placed) (n : ℕ) (y : Option Bound) → DataIn own (word_code n (meant y)) → (program : Program) (first : ℕ) → IsWellPlaced program first FRAME_WORDS → slice_get program.sections section ≡ Some own
+    → own.places.label n < first → word_base own n (meant y) ≤ first
+word_below section own n (Some (b.Static m)) d program first well is low =
+    let items = DataAddress n ∷ d.rest in
+    statement_below section own d.depth (DataLabel (n + 1)) items (record { place = own.places.label (n + 1); words = item_words own.places items }) d.stands refl program first well is
+word_below section own n None d program first well is low = omega (arith, low)
+word_below section own n (Some (b.Constant v)) d program first well is low = omega (arith, low)
+word_below section own n (Some (b.Global v)) d program first well is low = omega (arith, low)
+word_below section own n (Some (b.Variable j v)) d program first well is low = omega (arith, low)
+word_below section own n (Some (b.Label j v)) d program first well is low = omega (arith, low)
+
 -- A procedure and what lasts in its body.
 pub procedure_bases : (pay section : ℕ) (own : Placed) (ts : List Target) (bs : List Binding) (k : ℕ) (x : List ℕ) (fs : List Mention) (i many : ℕ) (body : Body) (n : ℕ) (ks : List Kind) → ProcedureLies pay section own ts bs k fs (i + 1) many body n ks
     → Callable (bound_in bs x) → DataIn own (word_code n (meant (bound_in bs x)))
@@ -309,10 +323,16 @@ procedure_bases pay section own ts bs k x fs i many body n ks p callable word =
       laid = λ g s. s.follow.0;
       held = λ g s ns u v. (
         (
-          procedure_is pay section own ts bs k fs (i + 1) many body n ks p g i ns (global_named (sense_in ns x)) (inner g s) u s.words.0 (λ bases frame grown. record { each = (v k bases frame grown).each }),
+          (let q = procedure_is pay section own ts bs k fs (i + 1) many body n ks p g i ns (global_named (sense_in ns x)) (inner g s) u s.words.0 (λ bases frame grown. record { each = (v k bases frame grown).each }) in q.0),
+          (let q = procedure_is pay section own ts bs k fs (i + 1) many body n ks p g i ns (global_named (sense_in ns x)) (inner g s) u s.words.0 (λ bases frame grown. record { each = (v k bases frame grown).each }) in q.1),
           subst (λ y. HeldWord g i y) (sym (same_global (sense_in ns x) (bound_in bs x) (u.1 x))) (word_held g section own n i p.place p.name (bound_in bs x) s.fits.own p.at s.words.0 callable word s.follow.0),
         ),
-        subst (λ z. HeldList g z (of_body body (bind_each (letters fs) foreign (with_names ns (i + 1))))) (sym next) (o.held g (inner g s) ns u v),
+        subst (λ z. HeldIn g own z (of_body body (bind_each (letters fs) foreign (with_names ns (i + 1))))) (sym next) (o.held g (inner g s) ns u v),
       );
       alike = λ g s ns u v. ((refl, refl, named_global (sense_in ns x) (bound_in bs x) (u.1 x) callable, called (bound_in bs x) callable), o.alike g (inner g s) ns u v);
+      placed = λ program first well is.
+          let q = o.placed program first well is in
+          let e = well.entries section p.place n own p.name is p.at in
+          let set = e.1 in
+          ((word_below section own n (bound_in bs x) word program first well is e.2, q.0), (omega (arith, set), q.1));
     }

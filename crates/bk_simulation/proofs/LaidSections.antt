@@ -40,7 +40,7 @@ use Rattle.bk_simulation.proofs.LaidProcedures.{scene_of}
 use Rattle.bk_simulation.proofs.SectionParts.{section_parts}
 use Rattle.bk_simulation.proofs.BehindDeclarations.{next_declared}
 use Rattle.bk_simulation.proofs.LaidDeclarations.{Later, inner, first_defined, constants_bases, behind_constants, let_bases, behind_one}
-use Rattle.bk_simulation.proofs.LaidBlocks.{blocks_lie}
+use Rattle.bk_simulation.proofs.LaidBlocks.{valofs_lie, blocks_lie}
 
 -- procedures have no code of their own where they are declared, and leave the frame as it is
 record NoCode (ts : List Target) (bs : List Binding) (p : Place) (s : Spot) (d n : ℕ) (ds : Definitions) : Type 0 where
@@ -91,9 +91,9 @@ procedures_lie pay sc p s i l ds xs d n c only a h r m f st others =
     let named = definitions_named (inner sc s ds).bindings p (first_defined s ds) ds in
     let k : c ≡ declaration_code sc.targets d n (declaration_named sc.bindings p s x) ++ c =
     sym (ap (λ z. (z ++ cond (has_variables named) (Store ∷ []) []) ++ c) none.code ∙ ap (λ z. cond z (Store ∷ []) [] ++ c) none.variables) in
-    let behind = behind_one pay (blocks_lie pay) sc p s x d n c c a h r m f k st in
+    let behind = behind_one pay (valofs_lie pay) (blocks_lie pay) sc p s x d n c c a h r m f k st in
     let doing = subst (λ z. Doing (record sc { bindings = bs }) (place_behind_one sc.bindings p s x) z) none.depth behind.1 in
-    outside_both pay sc i x xs _ (let_bases pay (blocks_lie pay) sc p s i l ds d n (objects_of_declarations xs) c c (λ ns. of_declarations (with_names ns (i + objects_of_declaration x)) xs) Nothing a.around h r m f k st
+    outside_both pay sc i x xs _ (let_bases pay (valofs_lie pay) (blocks_lie pay) sc p s i l ds d n (objects_of_declarations xs) c c (λ ns. of_declarations (with_names ns (i + objects_of_declaration x)) xs) Nothing a.around h r m f k st
     (bases_so (home (record sc { bindings = bs }) pay) (i + objects_of_declaration x) (objects_of_declarations xs) _ _ (λ g y v ns u. tt) (others doing)))
 
 -- DECLARATIONS OUTSIDE PROCEDURES

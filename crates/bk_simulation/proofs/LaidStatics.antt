@@ -24,7 +24,7 @@ use Rattle.bk_simulation.proofs.Constants.{constant_small}
 use Rattle.bk_simulation.proofs.Sought.{with_names}
 use Rattle.bk_simulation.proofs.Laid.{Setting}
 use Rattle.bk_simulation.proofs.Held.{InData}
-use Rattle.bk_simulation.proofs.HeldData.{statement_data, items_are, worth_is}
+use Rattle.bk_simulation.proofs.HeldData.{statement_data, statement_below, items_are, worth_is}
 use Rattle.bk_simulation.proofs.NamesAgree.{Agree}
 use Rattle.bk_simulation.proofs.LastingKinds.{words_at, kinds_of_items}
 use Rattle.bk_simulation.proofs.Standing.{Home, Bases, no_bases, new_base, both_bases, bases_so}
@@ -53,12 +53,14 @@ pub statics_lie : (h : Home) (s : Spot) (i k n : ℕ) (is : Items) → HasWords 
 statics_lie h s i k n t.no_items w r a f = no_bases h i _ (λ g y. tt)
 statics_lie h s i k n (t.item l x e is) w r a f =
     let p : ℕ = h.own.places.label n in
+    let code = DataNumber (signed (worth (constant_word h.bindings e))) ∷ f.0.2.rest in
     let later : Spot = spot.numbered 1 (spot.behind_constant e (spot.past 1 s)) in
     let same : later.number ≡ s.number + 1 = omega arith in
     let one : i + 1 ≡ suc i = omega arith in
     let leads : goal_of h.targets s.number ≡ goal n 0 = f.0.0.0 in
     let first = new_base h i p (words_at n (worth (constant_word h.bindings e) ∷ [])) (λ ns. words (unwrap_or (constant_in (with_names ns k) e) 0 ∷ [])) (λ g. BaseOf g.lasting i p)
-    (λ ns u. (refl, ap (λ x. x ∷ []) (item_word h.bindings k e ns u))) (λ g y z. z)
+    (λ ns u. (refl, ap (λ x. x ∷ []) (item_word h.bindings k e ns u)))
+    (statement_below h.section h.own f.0.2.depth (DataLabel n) code (record { place = p; words = item_words h.own.places code }) f.0.2.stands refl) (λ g y z. z)
     (λ g y z ns u v. (p, z, item_held g h.section h.own h.bindings n k e ns u w r.0 a.0 f.0.2 y.own)) in
     let others = statics_lie h later (i + 1) k (n + 1) is w r.1 a.1 f.1 in
     bases_so h i _ _ _ (λ g y v. (

@@ -66,6 +66,7 @@ pub mod SectionGlobals
 pub mod Held
 pub mod NamesAgree
 pub mod LastingKinds
+pub mod BasesBelow
 pub mod Standing
 pub mod LaidExpressions
 pub mod LaidCommands
@@ -76,7 +77,14 @@ pub mod Renamed
 pub mod RenamedLets
 pub mod Weights
 pub mod LetWords
-pub mod LaidForms
+pub mod LaidCalls
+pub mod LaidValues
+pub mod LaidAssigned
+pub mod LaidSimple
+pub mod LaidFors
+pub mod LaidActs
+pub mod LaidValofs
+pub mod LaidDefinitions
 pub mod LaidDeclarations
 pub mod LaidBlocks
 pub mod LaidProcedures
@@ -84,3 +92,11 @@ pub mod LaidStatics
 pub mod SectionParts
 pub mod OneBehindAnother
 pub mod LaidSections
+pub mod StringCounts
+pub mod StringForms
+pub mod SpreadValues
+pub mod SpreadDeclared
+pub mod SpreadActs
+pub mod SectionsLie
+pub mod SectionsSet
+pub mod ProgramLaid

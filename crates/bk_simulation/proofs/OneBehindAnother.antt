@@ -4,8 +4,9 @@ use Rattle.bk_scope.specs.Scope.{Binding}
 use Rattle.bk_meaning.specs.Environment.{Named}
 use Rattle.bk_meaning.specs.Lasting.{Lasting}
 use Rattle.bk_simulation.proofs.Laid.{Setting}
-use Rattle.bk_simulation.proofs.Held.{held_both, lasting_both}
+use Rattle.bk_simulation.proofs.Held.{held_in_both, lasting_both}
 use Rattle.bk_simulation.proofs.NamesAgree.{Agree}
+use Rattle.bk_simulation.proofs.BasesBelow.{below_both, set_both}
 use Rattle.bk_simulation.proofs.LastingKinds.{Kind, as_both}
 use Rattle.bk_simulation.proofs.Standing.{Home, Suits, Bases, Mean, follow_first, follow_second, words_first, words_second, length_both}
 
@@ -38,8 +39,12 @@ then_bases h bs next n m {ks} {ls} {K} {L} P Q names a after b =
       laid = λ g x. (a.laid g (front g x), b.laid g (back g x));
       held = λ g x ns e u.
           let i = after g (front g x) ns e u in
-          held_both g next n (K ns) (L (names ns)) (a.count ns) (a.held g (front g x) ns e u) (b.held g (back g x) (names ns) i.0 i.1);
+          held_in_both g h.own next n (K ns) (L (names ns)) (a.count ns) (a.held g (front g x) ns e u) (b.held g (back g x) (names ns) i.0 i.1);
       alike = λ g x ns e u.
           let i = after g (front g x) ns e u in
           as_both h.own ks (K ns) a.bases a.entries ls (L (names ns)) b.bases b.entries (a.alike g (front g x) ns e u) (b.alike g (back g x) (names ns) i.0 i.1);
+      placed = λ program first well own.
+          let p = a.placed program first well own in
+          let q = b.placed program first well own in
+          (below_both first a.bases b.bases p.0 q.0, set_both a.entries b.entries p.1 q.1);
     }

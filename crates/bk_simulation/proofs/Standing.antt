@@ -5,6 +5,9 @@ use Rattle.bk_base.specs.declared.limit.TheConstants.{FRAME_WORDS}
 use Rattle.bk_ocode.specs.Depth.{next_depth, depth_behind}
 use Rattle.bk_ocode.specs.Section.{AreFaultless}
 use Rattle.bk_ocode.specs.OcodeState.{Placed}
+use Rattle.bk_ocode.specs.OcodeRun.{Program}
+use Rattle.bk_ocode.specs.WellPlaced.{IsWellPlaced}
+use Rattle.bk_simulation.proofs.BasesBelow.{AreBelow, AreSet, below_both, set_both}
 use Rattle.bk_ocode.specs.OcodeStep.{from_label}
 use Rattle.bk_ocode.specs.declared.stmt.Stmt.{Stmt}
 use Rattle.bk_ocode.specs.declared.stmt.Stmt.TheVariants.{Label}
@@ -18,7 +21,7 @@ use Rattle.bk_meaning.specs.Lasting.{Lasting}
 use Rattle.bk_simulation.proofs.Memory.{BaseOf, Grown}
 use Rattle.bk_simulation.proofs.Sought.{with_names}
 use Rattle.bk_simulation.proofs.Laid.{Setting, Scene, LabelAt, CallAt, NamedIn}
-use Rattle.bk_simulation.proofs.Held.{HeldOne, HeldList, held_both, lasting_both}
+use Rattle.bk_simulation.proofs.Held.{HeldOneIn, HeldIn, held_in_both, lasting_both}
 use Rattle.bk_simulation.proofs.NamesAgree.{Agree}
 use Rattle.bk_simulation.proofs.LastingKinds.{Kind, AsKind, AreAs, as_both}
 
@@ -144,6 +147,13 @@ there_in h k = record { section = h.section; own = h.own; targets = h.targets; b
 abbrev pub Mean : Home → Setting → List Named → Type 0
 Mean h g ns = (k : ℕ) (bases : List ℕ) (frame : ℕ) → Grown g.lasting bases → NamedIn (there_in h k) (with_names ns 0) bases frame
 
+-- where the section stands in a program, they lie below the first frame, and the words of procedures are set
+abbrev pub ArePlaced : Home → List ℕ → List ℕ → Type 0
+ArePlaced h bases entries = (program : Program) (first : ℕ) → IsWellPlaced program first FRAME_WORDS → slice_get program.sections h.section ≡ Some h.own → AreBelow first bases × AreSet entries
+
+abbrev pub IsBelow : Home → ℕ → Type 0
+IsBelow h base = (program : Program) (first : ℕ) → IsWellPlaced program first FRAME_WORDS → slice_get program.sections h.section ≡ Some h.own → base ≤ first
+
 -- Lasting objects from this number on, so many, of these kinds, with bases: where a setting has them, this is so, and those objects are
 -- held there.
 pub record Bases (h : Home) (next many : ℕ) (kinds : List Kind) (objects : List Named → List Lasting) (P : Setting → Type 0) : Type 0 where
@@ -153,17 +163,18 @@ pub record Bases (h : Home) (next many : ℕ) (kinds : List Kind) (objects : Lis
   pub all_entries : length entries ≡ many
   pub count : (ns : List Named) → length (objects ns) ≡ many
   pub laid : (g : Setting) → Suits h next bases entries g → P g
-  pub held : (g : Setting) → Suits h next bases entries g → (ns : List Named) → Agree ns h.bindings → Mean h g ns → HeldList g next (objects ns)
+  pub held : (g : Setting) → Suits h next bases entries g → (ns : List Named) → Agree ns h.bindings → Mean h g ns → HeldIn g h.own next (objects ns)
   pub alike : (g : Setting) → Suits h next bases entries g → (ns : List Named) → Agree ns h.bindings → Mean h g ns → AreAs h.own kinds (objects ns) bases entries
+  pub placed : ArePlaced h bases entries
 
 -- none
 pub no_bases : (h : Home) (next : ℕ) (P : Setting → Type 0) → ((g : Setting) → Fitting h g → P g) → Bases h next 0 [] (λ ns. []) P
-no_bases h next P f = record { bases = []; entries = []; all = refl; all_entries = refl; count = λ ns. refl; laid = λ g x. f g x.fits; held = λ g x ns a u. tt; alike = λ g x ns a u. tt }
+no_bases h next P f = record { bases = []; entries = []; all = refl; all_entries = refl; count = λ ns. refl; laid = λ g x. f g x.fits; held = λ g x ns a u. tt; alike = λ g x ns a u. tt; placed = λ program first well own. (tt, tt) }
 
 -- one
-pub new_base : (h : Home) (next base : ℕ) (kind : Kind) (object : List Named → Lasting) (P : Setting → Type 0) → ((ns : List Named) → Agree ns h.bindings → AsKind h.own kind (object ns) base 0) → ((g : Setting) → Fitting h g → BaseOf g.lasting next base → P g)
-    → ((g : Setting) → Fitting h g → BaseOf g.lasting next base → (ns : List Named) → Agree ns h.bindings → Mean h g ns → HeldOne g next (object ns)) → Bases h next 1 (kind ∷ []) (λ ns. object ns ∷ []) P
-new_base h next base kind object P z f k = record { bases = base ∷ []; entries = 0 ∷ []; all = refl; all_entries = refl; count = λ ns. refl; laid = λ g x. f g x.fits (x.follow.0); held = λ g x ns a u. (k g x.fits (x.follow.0) ns a u, tt); alike = λ g x ns a u. (z ns a, tt) }
+pub new_base : (h : Home) (next base : ℕ) (kind : Kind) (object : List Named → Lasting) (P : Setting → Type 0) → ((ns : List Named) → Agree ns h.bindings → AsKind h.own kind (object ns) base 1) → IsBelow h base → ((g : Setting) → Fitting h g → BaseOf g.lasting next base → P g)
+    → ((g : Setting) → Fitting h g → BaseOf g.lasting next base → (ns : List Named) → Agree ns h.bindings → Mean h g ns → HeldOneIn g h.own next (object ns)) → Bases h next 1 (kind ∷ []) (λ ns. object ns ∷ []) P
+new_base h next base kind object P z low f k = record { bases = base ∷ []; entries = 1 ∷ []; all = refl; all_entries = refl; count = λ ns. refl; laid = λ g x. f g x.fits (x.follow.0); held = λ g x ns a u. (k g x.fits (x.follow.0) ns a u, tt); alike = λ g x ns a u. (z ns a, tt); placed = λ program first well own. ((low program first well own, tt), (omega arith, tt)) }
 
 -- those of one part and then those of another
 pub both_bases : (h : Home) (next n m : ℕ) {ks ls : List Kind} {K L : List Named → List Lasting} (P Q : Setting → Type 0) → Bases h next n ks K P → Bases h (next + n) m ls L Q
@@ -186,8 +197,12 @@ both_bases h next n m {ks} {ls} {K} {L} P Q a b =
       all_entries = omega (arith, ae, be, le);
       count = λ ns. let x = a.count ns in let y = b.count ns in let z = lasting_both (K ns) (L ns) in omega (arith, x, y, z);
       laid = λ g x. (a.laid g (front g x), b.laid g (back g x));
-      held = λ g x ns e u. held_both g next n (K ns) (L ns) (a.count ns) (a.held g (front g x) ns e u) (b.held g (back g x) ns e u);
+      held = λ g x ns e u. held_in_both g h.own next n (K ns) (L ns) (a.count ns) (a.held g (front g x) ns e u) (b.held g (back g x) ns e u);
       alike = λ g x ns e u. as_both h.own ks (K ns) a.bases a.entries ls (L ns) b.bases b.entries (a.alike g (front g x) ns e u) (b.alike g (back g x) ns e u);
+      placed = λ program first well own.
+          let p = a.placed program first well own in
+          let q = b.placed program first well own in
+          (below_both first a.bases b.bases p.0 q.0, set_both a.entries b.entries p.1 q.1);
     }
 
 -- those of three
@@ -198,7 +213,7 @@ three_bases h next n m k {ks} {ls} {ms} {K} {L} {M} P Q R a b c =
     both_bases h next (n + m) k _ R (both_bases h next n m P Q a b) (subst (λ x. Bases h x k ms M R) e c)
 
 pub bases_so : (h : Home) (next n : ℕ) {ks : List Kind} {L : List Named → List Lasting} (P Q : Setting → Type 0) → ((g : Setting) → Fitting h g → P g → Q g) → Bases h next n ks L P → Bases h next n ks L Q
-bases_so h next n P Q f a = record { bases = a.bases; entries = a.entries; all = a.all; all_entries = a.all_entries; count = a.count; laid = λ g x. f g x.fits (a.laid g x); held = a.held; alike = a.alike }
+bases_so h next n P Q f a = record { bases = a.bases; entries = a.entries; all = a.all; all_entries = a.all_entries; count = a.count; laid = λ g x. f g x.fits (a.laid g x); held = a.held; alike = a.alike; placed = a.placed }
 
 -- the same objects, said otherwise
 pub bases_of : (h : Home) (next n : ℕ) {ks : List Kind} (K L : List Named → List Lasting) (P : Setting → Type 0) → ((ns : List Named) → K ns ≡ L ns) → Bases h next n ks K P → Bases h next n ks L P
@@ -209,8 +224,9 @@ bases_of h next n {ks} K L P e a = record {
   all_entries = a.all_entries;
   count = λ ns. subst (λ x. length x ≡ n) (e ns) (a.count ns);
   laid = a.laid;
-  held = λ g x ns u v. subst (λ y. HeldList g next y) (e ns) (a.held g x ns u v);
+  held = λ g x ns u v. subst (λ y. HeldIn g h.own next y) (e ns) (a.held g x ns u v);
   alike = λ g x ns u v. subst (λ y. AreAs h.own ks y a.bases a.entries) (e ns) (a.alike g x ns u v);
+  placed = a.placed;
 }
 
 -- with more names in scope inside
@@ -226,6 +242,7 @@ bases_inside h bs next n P names f a = record {
   laid = λ g x. a.laid g (record { fits = record { own = x.fits.own; pays = x.fits.pays }; some = x.some; follow = x.follow; words = x.words });
   held = λ g x ns u v. let i = f g ns u v in a.held g (record { fits = record { own = x.fits.own; pays = x.fits.pays }; some = x.some; follow = x.follow; words = x.words }) (names ns) i.0 i.1;
   alike = λ g x ns u v. let i = f g ns u v in a.alike g (record { fits = record { own = x.fits.own; pays = x.fits.pays }; some = x.some; follow = x.follow; words = x.words }) (names ns) i.0 i.1;
+  placed = a.placed;
 }
 
 -- where their bases say so, more names are in scope inside
@@ -244,11 +261,12 @@ bases_under h bs next n P names f a =
       laid = λ g x. a.laid g (inner g x);
       held = λ g x ns u v. let i = f g x.some (a.laid g (inner g x)) ns u v in a.held g (inner g x) (names ns) i.0 i.1;
       alike = λ g x ns u v. let i = f g x.some (a.laid g (inner g x)) ns u v in a.alike g (inner g x) (names ns) i.0 i.1;
+      placed = a.placed;
     }
 
 -- none of them is the global vector
 pub bases_some : (h : Home) (next n : ℕ) {ks : List Kind} {L : List Named → List Lasting} (P : Setting → Type 0) → Bases h next n ks L P → Bases h next n ks L (λ g. (0 < next) × P g)
-bases_some h next n P a = record { bases = a.bases; entries = a.entries; all = a.all; all_entries = a.all_entries; count = a.count; laid = λ g x. (x.some, a.laid g x); held = a.held; alike = a.alike }
+bases_some h next n P a = record { bases = a.bases; entries = a.entries; all = a.all; all_entries = a.all_entries; count = a.count; laid = λ g x. (x.some, a.laid g x); held = a.held; alike = a.alike; placed = a.placed }
 
 -- where a step pays for more
 pub bases_paid : (h : Home) (more next n : ℕ) {ks : List Kind} {L : List Named → List Lasting} (P : Setting → Type 0) → h.pay ≤ more → Bases h next n ks L P → Bases (record h { pay = more }) next n ks L P
@@ -264,6 +282,7 @@ bases_paid h more next n P low a =
       laid = λ g x. a.laid g (inner g x);
       held = λ g x ns u v. a.held g (inner g x) ns u v;
       alike = λ g x ns u v. a.alike g (inner g x) ns u v;
+      placed = a.placed;
     }
 
 -- What is laid, and where the code goes on: with this depth before these statements.
