@@ -100,3 +100,4 @@ pub mod SpreadActs
 pub mod SectionsLie
 pub mod SectionsSet
 pub mod ProgramLaid
+pub mod SpreadSections

@@ -34,7 +34,7 @@ use Rattle.bk_simulation.proofs.Laid.{Setting, Scene, Spot, Aim, pushes, jumps, 
 use Rattle.bk_simulation.proofs.Held.{HeldIn}
 use Rattle.bk_simulation.proofs.Procedures.{IsBody, IsProcedure}
 use Rattle.bk_simulation.proofs.Standing.{first_of}
-use Rattle.bk_simulation.proofs.StringCounts.{Form, a_string, some_words, a_procedure, strings_at, entries_in, Span, times, in_spans, IsSpan, AreSpread, spread_append, times_both, spans_both, forms_both, Spread, Same, by_path, same_on, spread_none, spread_top, spread_bottom, spread_both, spread_back, spread_string, spread_words, spread_procedure, spread_as}
+use Rattle.bk_simulation.proofs.StringCounts.{Form, a_string, some_words, a_procedure, strings_at, Span, times, in_spans, IsSpan, AreSpread, spread_append, times_both, spans_both, forms_both, Spread, Same, by_path, same_on, spread_none, spread_top, spread_bottom, spread_both, spread_back, spread_string, spread_words, spread_procedure, spread_as}
 use Rattle.bk_simulation.proofs.StringForms.{forms_of_items, forms, forms_of_each, forms_of_action, forms_of_actions, forms_of_declaration, forms_of_declarations, forms_of_definition, forms_of_definitions, forms_of_starts, push_plain, truth_plain, infix_plain, ending_plain, store_plain, test_plain, Numbered, later, same_numbers, held_front, held_back, held_third, spread_three, IsOwn}
 use Rattle.bk_simulation.proofs.Weights.{weight_of, weight_among, weight_in, weight_through, weight_declared, weight_one_declared, weight_defined, weight_one_defined, weight_started}
 use Rattle.bk_simulation.proofs.SpreadValues.{ActsSpread, code_spread, values_spread, store_spread}
@@ -51,7 +51,6 @@ record Turned (g : Setting) (own : Placed) (c rest : List Stmt) (i m : ℕ) (fs 
   pub are : AreSpread g own i fs keys spans
   pub are_too : AreSpread g own j hs others more
   pub once : (q : ℕ) → times q keys + times q others + strings_at q rest ≤ strings_at q c + in_spans q spans + in_spans q more
-  pub plain : entries_in c ≡ entries_in rest
 
 turned_none : (g : Setting) (own : Placed) (c rest : List Stmt) (i j : ℕ) → Same rest c → Turned g own c rest i 0 [] j 0 []
 turned_none g own c rest i j e = record {
@@ -63,8 +62,7 @@ turned_none g own c rest i j e = record {
   long_too = refl;
   are = tt;
   are_too = tt;
-  once = λ q. let h = e.0 q in omega (arith, h);
-  plain = sym e.1;
+  once = λ q. let h = e q in omega (arith, h);
 }
 
 turned_more : (g : Setting) (own : Placed) (c c1 c2 rest : List Stmt) (i m m1 : ℕ) (fs fs1 : List Form) (j n n1 : ℕ) (hs hs1 : List Form) → Spread g own c c1 j n hs → Spread g own c1 c2 i m fs → Turned g own c2 rest (i + m) m1 fs1 (j + n) n1 hs1
@@ -94,7 +92,6 @@ turned_more g own c c1 c2 rest i m m1 fs fs1 j n n1 hs hs1 v u w =
           let e3 = spans_both q u.spans w.spans in
           let e4 = spans_both q v.spans w.more in
           omega (arith, x, y, z, e1, e2, e3, e4);
-      plain = v.plain ∙ u.plain ∙ w.plain;
     }
 
 -- all of them
@@ -109,7 +106,6 @@ turned_all g own c rest i m n fs hs a =
       long = omega (arith, l, r, t);
       are = spread_append g own i fs hs a.keys a.others a.spans a.more a.are (subst (λ k. AreSpread g own (i + k) hs a.others a.more) (sym a.long) a.are_too);
       once = λ q. let x = a.once q in let e1 = times_both q a.keys a.others in let e2 = spans_both q a.spans a.more in omega (arith, x, e1, e2);
-      plain = a.plain;
     }
 
 turns_spread : (pay : ℕ) (acts : ActsSpread pay) (xs es : Expressions) → weight_among xs ≤ suc pay → weight_among es ≤ suc pay → (g : Setting) (own : Placed) (sc : Scene) (d : ℕ) (envx heldx enve helde : Environment) (vs ss : List Stretch) (c rest : List Stmt) (i j : ℕ) → Numbered envx heldx i → Numbered enve helde j → IsOwn own sc
@@ -139,7 +135,7 @@ mutual
   act_spread pay acts (t.call l f es) w g own sc d env held at1 c rest i z at k h =
       let z1 = later env held i (objects f) z in
       spread_back g own c k.1 rest i (objects f) (objects_of_each es) (forms f) (forms_of_each es)
-      (spread_bottom g own k.1 rest _ i (objects f) (forms f) ((λ q. refl), refl) (code_spread pay acts f (omega (arith, w)) g own sc _ env held pushes k.1 _ i z at k.4 (held_front g own i (of_expression held f) _ h)))
+      (spread_bottom g own k.1 rest _ i (objects f) (forms f) (λ q. refl) (code_spread pay acts f (omega (arith, w)) g own sc _ env held pushes k.1 _ i z at k.4 (held_front g own i (of_expression held f) _ h)))
       (spread_top g own c k.0 k.1 (i + objects f) (objects_of_each es) (forms_of_each es) (by_path c _ k.2)
       (values_spread pay acts es (omega (arith, w)) g own sc (d + 2) (past f env) (past f held) k.0 k.1 (i + objects f) z1 at k.3 (held_back g own i (objects f) (of_expression held f) _ (expression_counted held f) h)))
   act_spread pay acts (t.goto l x) w g own sc d env held at1 c rest i z at k h = spread_none g own c rest i (by_path c _ k.0)
@@ -151,7 +147,7 @@ mutual
       spread_top g own c k.1 rest i (objects_of_action a) (forms_of_action a) (by_path c _ k.3) (act_spread pay acts a (omega (arith, w)) g own sc d env held k.2 k.1 rest i z at k.4 h)
   act_spread pay acts (t.when l u e a) w g own sc d env held at1 c rest i z at k h =
       spread_both g own c k.1 rest i (objects e) (objects_of_action a) (forms e) (forms_of_action a) (code_spread pay acts e (omega (arith, w)) g own sc d env held _ c k.1 i z at k.2 (held_front g own i (of_expression held e) _ h))
-      (spread_bottom g own k.1 rest _ (i + objects e) (objects_of_action a) (forms_of_action a) ((λ q. refl), refl)
+      (spread_bottom g own k.1 rest _ (i + objects e) (objects_of_action a) (forms_of_action a) (λ q. refl)
       (act_spread pay acts a (omega (arith, w)) g own sc d (past e env) (past e held) at1 k.1 _ (i + objects e) (later env held i (objects e) z) at k.3 (held_back g own i (objects e) (of_expression held e) _ (expression_counted held e) h)))
   act_spread pay acts (t.test l e x y) w g own sc d env held at1 c rest i z at k h =
       let z1 = later env held i (objects e) z in
@@ -159,16 +155,16 @@ mutual
       let both = held_front g own i (of_expression held e ++ of_action (past e held) x) _ h in
       spread_three g own c k.2 k.3 rest i (objects e) (objects_of_action x) (objects_of_action y) (forms e) (forms_of_action x) (forms_of_action y)
       (code_spread pay acts e (omega (arith, w)) g own sc d env held _ c k.2 i z at k.6 (held_front g own i (of_expression held e) _ both))
-      (spread_bottom g own k.2 k.3 _ (i + objects e) (objects_of_action x) (forms_of_action x) ((λ q. refl), refl)
+      (spread_bottom g own k.2 k.3 _ (i + objects e) (objects_of_action x) (forms_of_action x) (λ q. refl)
       (act_spread pay acts x (omega (arith, w)) g own sc d (past e env) (past e held) k.4 k.2 _ (i + objects e) z1 at k.7 (held_back g own i (objects e) (of_expression held e) _ (expression_counted held e) both)))
-      (spread_bottom g own k.3 rest _ (i + objects e + objects_of_action x) (objects_of_action y) (forms_of_action y) ((λ q. refl), refl)
+      (spread_bottom g own k.3 rest _ (i + objects e + objects_of_action x) (objects_of_action y) (forms_of_action y) (λ q. refl)
       (act_spread pay acts y (omega (arith, w)) g own sc d (past_action x (past e env)) (past_action x (past e held)) k.5 k.3 _ (i + objects e + objects_of_action x) z2 at k.8
       (held_third g own i (objects e) (objects_of_action x) (of_expression held e) (of_action (past e held) x) _ (expression_counted held e) (action_counted (past e held) x) h)))
   act_spread pay acts (t.while l u e a) w g own sc d env held at1 c rest i z at k h =
       spread_back g own c k.4 rest i (objects e) (objects_of_action a) (forms e) (forms_of_action a)
-      (spread_bottom g own k.4 rest _ i (objects e) (forms e) ((λ q. refl), refl) (code_spread pay acts e (omega (arith, w)) g own sc d env held _ k.4 _ i z at k.7 (held_front g own i (of_expression held e) _ h)))
+      (spread_bottom g own k.4 rest _ i (objects e) (forms e) (λ q. refl) (code_spread pay acts e (omega (arith, w)) g own sc d env held _ k.4 _ i z at k.7 (held_front g own i (of_expression held e) _ h)))
       (spread_top g own c k.3 k.4 (i + objects e) (objects_of_action a) (forms_of_action a) (by_path c _ k.5)
-      (spread_bottom g own k.3 k.4 _ (i + objects e) (objects_of_action a) (forms_of_action a) ((λ q. refl), refl)
+      (spread_bottom g own k.3 k.4 _ (i + objects e) (objects_of_action a) (forms_of_action a) (λ q. refl)
       (act_spread pay acts a (omega (arith, w)) g own (in_loop k.0 k.2 d sc) d (past e env) (past e held) at1 k.3 _ (i + objects e) (later env held i (objects e) z) at k.6 (held_back g own i (objects e) (of_expression held e) _ (expression_counted held e) h))))
   act_spread pay acts (t.for_loop l x a y f e) w g own sc d env held at1 c rest i z at k h =
       let z1 = later env held i (objects a) z in
@@ -181,10 +177,10 @@ mutual
       let tail = JumpIf true k.1 ∷ Label k.3 ∷ Stack d ∷ rest in
       let z3 = same_numbers (past y (past a env)) (past y (past a held)) (labelled (alone e) there) (in_scope e before) (i + objects a + objects y) (labelled-next (alone e) there) (in_scope-next e before) z2 in
       spread_three g own c k.6 k.7 rest i (objects a) (objects y) (objects_of_action e) (forms a) (forms y) (forms_of_action e) (code_spread pay acts a (omega (arith, w)) g own sc d env held pushes c k.6 i z at k.9 (held_front g own i (of_expression held a) _ both))
-      (spread_bottom g own k.6 k.7 _ (i + objects a) (objects y) (forms y) ((λ q. refl), refl)
+      (spread_bottom g own k.6 k.7 _ (i + objects a) (objects y) (forms y) (λ q. refl)
       (code_spread pay acts y (omega (arith, w)) g own sc (d + 1) (past a env) (past a held) pushes k.6 _ (i + objects a) z1 at k.10 (held_back g own i (objects a) (of_expression held a) _ (expression_counted held a) both)))
       (spread_bottom g own k.7 rest _ (i + objects a + objects y) (objects_of_action e) (forms_of_action e)
-      (same_on rest tail one.1.0 ((λ q. refl), refl)
+      (same_on rest tail one.1.0 (λ q. refl)
       (same_on tail (test_of_step k.4 ∷ tail) one.1.0 (test_plain k.4 tail)
       (same_on (test_of_step k.4 ∷ tail) k.8 one.1.0 (by_path k.8 (Load (Local d) ∷ Load (Local (d + 1)) ∷ test_of_step k.4 ∷ tail) k.12)
       (by_path one.1.0 (Label k.2 ∷ Load (Local d) ∷ Number (signed k.4) ∷ Dyadic two.Add ∷ Assign (Local d) ∷ Label k.0 ∷ k.8) one.1.4))))
@@ -192,10 +188,10 @@ mutual
       (held_third g own i (objects a) (objects y) (of_expression held a) (of_expression (past a held) y) _ (expression_counted held a) (expression_counted (past a held) y) h)))
   act_spread pay acts (t.switch l e a) w g own sc d env held at1 c rest i z at k h =
       spread_both g own c k.3 rest i (objects e) (objects_of_action a) (forms e) (forms_of_action a)
-      (spread_bottom g own c k.3 _ i (objects e) (forms e) ((λ q. refl), refl) (code_spread pay acts e (omega (arith, w)) g own sc d env held pushes c _ i z at k.4 (held_front g own i (of_expression held e) _ h)))
-      (spread_bottom g own k.3 rest _ (i + objects e) (objects_of_action a) (forms_of_action a) ((λ q. refl), refl)
+      (spread_bottom g own c k.3 _ i (objects e) (forms e) (λ q. refl) (code_spread pay acts e (omega (arith, w)) g own sc d env held pushes c _ i z at k.4 (held_front g own i (of_expression held e) _ h)))
+      (spread_bottom g own k.3 rest _ (i + objects e) (objects_of_action a) (forms_of_action a) (λ q. refl)
       (act_spread pay acts a (omega (arith, w)) g own (in_switch k.0 d sc) d (past e env) (past e held) at1 k.3 _ (i + objects e) (later env held i (objects e) z) at k.5 (held_back g own i (objects e) (of_expression held e) _ (expression_counted held e) h)))
-  act_spread pay acts (t.result l e) w g own sc d env held at1 c rest i z at k h = spread_bottom g own c rest _ i (objects e) (forms e) ((λ q. refl), refl) (code_spread pay acts e (omega (arith, w)) g own sc d env held pushes c _ i z at k.1 h)
+  act_spread pay acts (t.result l e) w g own sc d env held at1 c rest i z at k h = spread_bottom g own c rest _ i (objects e) (forms e) (λ q. refl) (code_spread pay acts e (omega (arith, w)) g own sc d env held pushes c _ i z at k.1 h)
   act_spread pay acts (t.simple l simple.Break) w g own sc d env held at1 c rest i z at k h = spread_none g own c rest i (by_path c _ k.0)
   act_spread pay acts (t.simple l simple.Loop) w g own sc d env held at1 c rest i z at k h = spread_none g own c rest i (by_path c _ k.0)
   act_spread pay acts (t.simple l simple.EndCase) w g own sc d env held at1 c rest i z at k h = spread_none g own c rest i (by_path c _ k.0)
@@ -207,12 +203,12 @@ mutual
   act_spread pay acts (t.block l (t.declare x xs) cs) w g own sc d env held at1 c rest i z at k h = block_spread pay acts l x xs cs (omega (arith, w)) g own sc d env held at1 c rest i z at k h
   act_spread pay acts (t.repeat l a) w g own sc d env held at1 c rest i z at k h =
       spread_top g own c k.2 rest i (objects_of_action a) (forms_of_action a) (by_path c _ k.3)
-      (spread_bottom g own k.2 rest _ i (objects_of_action a) (forms_of_action a) ((λ q. refl), refl) (act_spread pay acts a (omega (arith, w)) g own (in_loop k.0 k.1 d sc) d env held at1 k.2 _ i z at k.4 h))
+      (spread_bottom g own k.2 rest _ i (objects_of_action a) (forms_of_action a) (λ q. refl) (act_spread pay acts a (omega (arith, w)) g own (in_loop k.0 k.1 d sc) d env held at1 k.2 _ i z at k.4 h))
   act_spread pay acts (t.repeat_while l u a e) w g own sc d env held at1 c rest i z at k h =
       spread_both g own c k.4 rest i (objects_of_action a) (objects e) (forms_of_action a) (forms e)
       (spread_top g own c k.3 k.4 i (objects_of_action a) (forms_of_action a) (by_path c _ k.5)
-      (spread_bottom g own k.3 k.4 _ i (objects_of_action a) (forms_of_action a) ((λ q. refl), refl) (act_spread pay acts a (omega (arith, w)) g own (in_loop k.1 k.2 d sc) d env held at1 k.3 _ i z at k.6 (held_front g own i (of_action held a) _ h))))
-      (spread_bottom g own k.4 rest _ (i + objects_of_action a) (objects e) (forms e) ((λ q. refl), refl)
+      (spread_bottom g own k.3 k.4 _ i (objects_of_action a) (forms_of_action a) (λ q. refl) (act_spread pay acts a (omega (arith, w)) g own (in_loop k.1 k.2 d sc) d env held at1 k.3 _ i z at k.6 (held_front g own i (of_action held a) _ h))))
+      (spread_bottom g own k.4 rest _ (i + objects_of_action a) (objects e) (forms e) (λ q. refl)
       (code_spread pay acts e (omega (arith, w)) g own sc d (past_action a env) (past_action a held) _ k.4 _ (i + objects_of_action a) (later env held i (objects_of_action a) z) at k.7 (held_back g own i (objects_of_action a) (of_action held a) _ (action_counted held a) h)))
 
   acts_spread : (pay : ℕ) (acts : ActsSpread pay) (cs : Actions) → weight_through cs ≤ suc pay → (g : Setting) (own : Placed) (sc : Scene) (d : ℕ) (env held : Environment) (at1 : Sought → List Stmt) (c rest : List Stmt) (i : ℕ) → Numbered env held i → IsOwn own sc → AreActs g sc d env cs at1 c rest → HeldIn g own i (of_actions held cs)

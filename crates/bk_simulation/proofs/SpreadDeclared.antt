@@ -32,7 +32,7 @@ use Rattle.bk_simulation.proofs.Laid.{Setting, Scene, Spot, Aim, pushes, jumps, 
 use Rattle.bk_simulation.proofs.Held.{HeldIn}
 use Rattle.bk_simulation.proofs.Procedures.{IsBody, IsProcedure}
 use Rattle.bk_simulation.proofs.Standing.{first_of}
-use Rattle.bk_simulation.proofs.StringCounts.{Form, a_string, some_words, a_procedure, strings_at, entries_in, Span, times, in_spans, IsSpan, AreSpread, spread_append, times_both, spans_both, forms_both, Spread, Same, by_path, same_on, spread_none, spread_top, spread_bottom, spread_both, spread_back, spread_string, spread_words, spread_procedure, spread_as}
+use Rattle.bk_simulation.proofs.StringCounts.{Form, a_string, some_words, a_procedure, strings_at, Span, times, in_spans, IsSpan, AreSpread, spread_append, times_both, spans_both, forms_both, Spread, Same, by_path, same_on, spread_none, spread_top, spread_bottom, spread_both, spread_back, spread_string, spread_words, spread_procedure, spread_as}
 use Rattle.bk_simulation.proofs.StringForms.{forms_of_items, forms, forms_of_each, forms_of_action, forms_of_actions, forms_of_declaration, forms_of_declarations, forms_of_definition, forms_of_definitions, forms_of_starts, push_plain, truth_plain, infix_plain, ending_plain, store_plain, test_plain, Numbered, later, same_numbers, held_front, held_back, held_third, spread_three, IsOwn}
 use Rattle.bk_simulation.proofs.Weights.{weight_of, weight_among, weight_in, weight_through, weight_declared, weight_one_declared, weight_defined, weight_one_defined, weight_started}
 use Rattle.bk_simulation.proofs.SpreadValues.{ActsSpread, code_spread}
@@ -47,26 +47,19 @@ formals-next n k (x ∷ xs) env = formals-next n (suc k) xs (m.bind x (cell n k)
 
 -- items of STATIC
 items_spread : (g : Setting) (own : Placed) (c : List Stmt) (i : ℕ) (is : Items) → Spread g own c c i (m.count is) (forms_of_items is)
-items_spread g own c i t.no_items = spread_none g own c c i ((λ q. refl), refl)
-items_spread g own c i (t.item l x e is) = spread_both g own c c c i 1 (m.count is) (some_words ∷ []) (forms_of_items is) (spread_words g own c c i ((λ q. refl), refl)) (items_spread g own c (i + 1) is)
+items_spread g own c i t.no_items = spread_none g own c c i (λ q. refl)
+items_spread g own c i (t.item l x e is) = spread_both g own c c c i 1 (m.count is) (some_words ∷ []) (forms_of_items is) (spread_words g own c c i (λ q. refl)) (items_spread g own c (i + 1) is)
 
-constants_spread : (g : Setting) (own : Placed) (c : List Stmt) (i l : ℕ) (k : Sort) (is : Items) → Spread g own c c i (objects_of_declaration (t.constants l k is)) (forms_of_declaration (t.constants l k is))
-constants_spread g own c i l sort.Manifest is = spread_none g own c c i ((λ q. refl), refl)
+pub constants_spread : (g : Setting) (own : Placed) (c : List Stmt) (i l : ℕ) (k : Sort) (is : Items) → Spread g own c c i (objects_of_declaration (t.constants l k is)) (forms_of_declaration (t.constants l k is))
+constants_spread g own c i l sort.Manifest is = spread_none g own c c i (λ q. refl)
 constants_spread g own c i l sort.Static is = items_spread g own c i is
-constants_spread g own c i l sort.Global is = spread_none g own c c i ((λ q. refl), refl)
+constants_spread g own c i l sort.Global is = spread_none g own c c i (λ q. refl)
 
--- a procedure's body, up to its return
-span_is : (g : Setting) (own : Placed) (i : ℕ) (f : Procedure) (p : IsProcedure g i f) (rest : List Stmt) → p.scene.own ≡ own → entries_in p.body ≡ entries_in rest → IsSpan g own i (record { place = p.place; from = p.body; to = rest })
-span_is g own i f p rest h e =
-    let here : IsSpan g p.scene.own i (record { place = p.place; from = p.body; to = rest }) = record {
-      label = p.label;
-      name = p.name;
-      at = p.at;
-      behind = (first_of p.scene.own.stmts (suc p.place) (Save (length f.formals + 2)) p.body p.behind).behind;
-      word = p.word;
-      plain = e;
-    } in
-    subst (λ y. IsSpan g y i (record { place = p.place; from = p.body; to = rest })) h here
+-- a procedure's code
+span_is : (g : Setting) (own : Placed) (i : ℕ) (f : Procedure) (p : IsProcedure g i f) → p.scene.own ≡ own → IsSpan g own i (record { place = p.place; from = Save (length f.formals + 2) ∷ p.body })
+span_is g own i f p h =
+    let here : IsSpan g p.scene.own i (record { place = p.place; from = Save (length f.formals + 2) ∷ p.body }) = record { label = p.label; name = p.name; at = p.at; behind = p.behind; word = p.word } in
+    subst (λ y. IsSpan g y i (record { place = p.place; from = Save (length f.formals + 2) ∷ p.body })) h here
 
 -- a procedure, by where its body is laid
 pub routine_spread : (l : ℕ) (x : List ℕ) (fs : List Mention) (a : Action) (g : Setting) (own : Placed) (held : Environment) (c : List Stmt) (i : ℕ) → held.next ≡ i → HeldIn g own i (of_definition held (t.routine l x fs a))
@@ -86,11 +79,12 @@ routine_spread l x fs a g own held c i e h act =
     } in
     let next : suc i ≡ i + 1 = omega arith in
     let rest = Return ∷ body.1 in
-    spread_procedure g own c p.body rest p.place i (objects_of_action a) (forms_of_action a) (span_is g own i (record { formals = letters fs; body = command a; env = behind 1 held; global = _ }) p rest h.0.1
+    let f : Procedure = record { formals = letters fs; body = command a; env = behind 1 held; global = _ } in
+    let from = Save (length (letters fs) + 2) ∷ p.body in
+    spread_procedure g own c from rest p.place i (objects_of_action a) (forms_of_action a) (span_is g own i f p h.0.1)
+    (spread_top g own from p.body rest (i + 1) (objects_of_action a) (forms_of_action a) (λ q. refl)
     (spread_bottom g own p.body rest one.1.0 (i + 1) (objects_of_action a) (forms_of_action a) (by_path one.1.0 rest one.1.4)
-    (act (owning body.0 (alone a) p.scene) _ (labelled (alone a) env) (in_scope a before) one.1.1 p.body one.1.0 (i + 1) z h.0.1 one.1.3 (subst (λ k. HeldIn g own k (of_action (in_scope a before) a)) next h.1))).plain)
-    (spread_bottom g own p.body rest one.1.0 (i + 1) (objects_of_action a) (forms_of_action a) (by_path one.1.0 rest one.1.4)
-    (act (owning body.0 (alone a) p.scene) _ (labelled (alone a) env) (in_scope a before) one.1.1 p.body one.1.0 (i + 1) z h.0.1 one.1.3 (subst (λ k. HeldIn g own k (of_action (in_scope a before) a)) next h.1)))
+    (act (owning body.0 (alone a) p.scene) _ (labelled (alone a) env) (in_scope a before) one.1.1 p.body one.1.0 (i + 1) z h.0.1 one.1.3 (subst (λ k. HeldIn g own k (of_action (in_scope a before) a)) next h.1))))
 
 pub function_spread : (l : ℕ) (x : List ℕ) (fs : List Mention) (e : Expression) (g : Setting) (own : Placed) (held : Environment) (c : List Stmt) (i : ℕ) → held.next ≡ i → HeldIn g own i (of_definition held (t.function l x fs e))
     → ((sc : Scene) (d : ℕ) (env held : Environment) (c rest : List Stmt) (i : ℕ) → Numbered env held i → IsOwn own sc → IsCode g sc d env pushes e c rest → HeldIn g own i (of_expression held e) → Spread g own c rest i (objects e) (forms e))
@@ -105,7 +99,9 @@ function_spread l x fs e g own held c i q h value =
     let next : suc i ≡ i + 1 = omega arith in
     let rest = ReturnItem ∷ body.0 in
     let all = value p.scene _ env before p.body rest (i + 1) z h.0.1 body.1 (subst (λ k. HeldIn g own k (of_expression before e)) next h.1) in
-    spread_procedure g own c p.body rest p.place i (objects e) (forms e) (span_is g own i (record { formals = letters fs; body = expression e; env = behind 1 held; global = _ }) p rest h.0.1 all.plain) all
+    let f : Procedure = record { formals = letters fs; body = expression e; env = behind 1 held; global = _ } in
+    let from = Save (length (letters fs) + 2) ∷ p.body in
+    spread_procedure g own c from rest p.place i (objects e) (forms e) (span_is g own i f p h.0.1) (spread_top g own from p.body rest (i + 1) (objects e) (forms e) (λ q. refl) all)
 
 starts_spread : (pay : ℕ) (acts : ActsSpread pay) (is : Starts) → weight_started is ≤ pay → (g : Setting) (own : Placed) (sc : Scene) (d : ℕ) (env held : Environment) (c rest : List Stmt) (d1 : ℕ) (slots : List ℕ) (i : ℕ) → Numbered env held i → IsOwn own sc → AreStarts g sc d env is c rest d1 slots → HeldIn g own i (of_starts held is)
     → Spread g own c rest i (objects_of_starts is) (forms_of_starts is)
@@ -203,5 +199,5 @@ block_spread pay acts l x xs cs w g own sc d env held at1 c rest i z at k h =
     let held1 = all_declared xs (declared x held) in
     let z1 : Numbered env1 held1 (i + n + n1) = record { env_next = next1; held_next = all_declared-next xs (declared x held) ∙ ap (λ w. w + n1) z0.held_next } in
     let z2 = same_numbers env1 held1 (labelled cs env1) (labelled cs held1) (i + n + n1) (labelled-next cs env1) (labelled-next cs held1) z1 in
-    spread_bottom g own c1 rest _ (i + n + n1) n2 (forms_of_actions cs) ((λ q. refl), refl)
+    spread_bottom g own c1 rest _ (i + n + n1) n2 (forms_of_actions cs) (λ q. refl)
     (acts_listed pay acts cs (omega (arith, w)) g own (owning k1.0 cs inner) d1 (labelled cs env1) (labelled cs held1) k1.1 c1 _ (i + n + n1) z2 at k1.2 (held_back g own (i + n) n1 (of_declarations (declared x held) xs) _ (declarations_counted (declared x held) xs) more)))))

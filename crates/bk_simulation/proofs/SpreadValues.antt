@@ -33,7 +33,7 @@ use Rattle.bk_simulation.proofs.Laid.{Setting, Scene, Spot, Aim, pushes, jumps, 
 use Rattle.bk_simulation.proofs.Held.{HeldIn}
 use Rattle.bk_simulation.proofs.Procedures.{IsBody, IsProcedure}
 use Rattle.bk_simulation.proofs.Standing.{first_of}
-use Rattle.bk_simulation.proofs.StringCounts.{Form, a_string, some_words, a_procedure, strings_at, entries_in, Span, times, in_spans, IsSpan, AreSpread, spread_append, times_both, spans_both, forms_both, Spread, Same, by_path, same_on, spread_none, spread_top, spread_bottom, spread_both, spread_back, spread_string, spread_words, spread_procedure, spread_as}
+use Rattle.bk_simulation.proofs.StringCounts.{Form, a_string, some_words, a_procedure, strings_at, Span, times, in_spans, IsSpan, AreSpread, spread_append, times_both, spans_both, forms_both, Spread, Same, by_path, same_on, spread_none, spread_top, spread_bottom, spread_both, spread_back, spread_string, spread_words, spread_procedure, spread_as}
 use Rattle.bk_simulation.proofs.StringForms.{forms_of_items, forms, forms_of_each, forms_of_action, forms_of_actions, forms_of_declaration, forms_of_declarations, forms_of_definition, forms_of_definitions, forms_of_starts, push_plain, truth_plain, infix_plain, ending_plain, store_plain, test_plain, Numbered, later, same_numbers, held_front, held_back, held_third, spread_three, IsOwn}
 use Rattle.bk_simulation.proofs.Weights.{weight_of, weight_among, weight_in, weight_through, weight_declared, weight_one_declared, weight_defined, weight_one_defined, weight_started}
 
@@ -43,10 +43,10 @@ operands_spread : (g : Setting) (own : Placed) (sc : Scene) (d : ℕ) (w : Way) 
     → Spread g own c rest i (m + n) (fs ++ hs)
 operands_spread g own sc d (all_of false l) aim f X Y c rest i m n fs hs k x y = spread_both g own c k.0 rest i m n fs hs (x _ _ _ k.1) (y _ _ _ _ k.2)
 operands_spread g own sc d (all_of true l) aim f X Y c rest i m n fs hs k x y =
-    spread_both g own c k.1 rest i m n fs hs (x _ _ _ k.2) (spread_bottom g own k.1 rest (Label k.0 ∷ rest) (i + m) n hs ((λ q. refl), refl) (y _ _ _ _ k.3))
+    spread_both g own c k.1 rest i m n fs hs (x _ _ _ k.2) (spread_bottom g own k.1 rest (Label k.0 ∷ rest) (i + m) n hs (λ q. refl) (y _ _ _ _ k.3))
 operands_spread g own sc d (any_of true l) aim f X Y c rest i m n fs hs k x y = spread_both g own c k.0 rest i m n fs hs (x _ _ _ k.1) (y _ _ _ _ k.2)
 operands_spread g own sc d (any_of false l) aim f X Y c rest i m n fs hs k x y =
-    spread_both g own c k.1 rest i m n fs hs (x _ _ _ k.2) (spread_bottom g own k.1 rest (Label k.0 ∷ rest) (i + m) n hs ((λ q. refl), refl) (y _ _ _ _ k.3))
+    spread_both g own c k.1 rest i m n fs hs (x _ _ _ k.2) (spread_bottom g own k.1 rest (Label k.0 ∷ rest) (i + m) n hs (λ q. refl) (y _ _ _ _ k.3))
 operands_spread g own sc d plain aim f X Y c rest i m n fs hs k x y =
     spread_both g own c k.0 rest i m n fs hs (x _ _ _ k.1)
     (spread_bottom g own k.0 rest (infix_code f ++ ending aim rest) (i + m) n hs (same_on rest (ending aim rest) (infix_code f ++ ending aim rest) (ending_plain aim rest) (infix_plain f (ending aim rest))) (y _ _ _ _ k.2))
@@ -59,7 +59,7 @@ unary_spread l q.Address e g own sc d env aim c rest i k x y = spread_bottom g o
 unary_spread l q.Contents e g own sc d env aim c rest i k x y = spread_bottom g own c rest _ i (objects e) (forms e) (ending_plain aim rest) (x pushes c _ k)
 unary_spread l q.Plus e g own sc d env aim c rest i k x y = spread_bottom g own c rest (ending aim rest) i (objects e) (forms e) (ending_plain aim rest) (x pushes c (ending aim rest) k)
 unary_spread l q.Minus e g own sc d env aim c rest i k x y = spread_bottom g own c rest _ i (objects e) (forms e) (ending_plain aim rest) (x pushes c _ k)
-unary_spread l q.Not e g own sc d env pushes c rest i k x y = spread_bottom g own c rest _ i (objects e) (forms e) ((λ q. refl), refl) (x pushes c _ k)
+unary_spread l q.Not e g own sc d env pushes c rest i k x y = spread_bottom g own c rest _ i (objects e) (forms e) (λ q. refl) (x pushes c _ k)
 unary_spread l q.Not e g own sc d env (jumps u n) c rest i k x y = x _ c rest k
 
 -- a condition, and the values that it chooses from
@@ -70,7 +70,7 @@ choice_spread : (l m : ℕ) (e x y : Expression) (g : Setting) (own : Placed) (s
     → Spread g own c rest i (objects e + objects x + objects y) (forms e ++ forms x ++ forms y)
 choice_spread l m e x y g own sc d env aim c rest i k fe fx fy =
     spread_three g own c k.2 k.3 rest i (objects e) (objects x) (objects y) (forms e) (forms x) (forms y) (fe (jumps false k.0) c k.2 k.4)
-    (spread_bottom g own k.2 k.3 _ (i + objects e) (objects x) (forms x) ((λ q. refl), refl) (fx k.2 _ k.5))
+    (spread_bottom g own k.2 k.3 _ (i + objects e) (objects x) (forms x) (λ q. refl) (fx k.2 _ k.5))
     (spread_bottom g own k.3 rest _ (i + objects e + objects x) (objects y) (forms y) (ending_plain aim rest) (fy k.3 _ k.6))
 
 -- what has an address, and where a value is stored
@@ -84,7 +84,7 @@ unary_address l q.Not e g own sc d env c rest i k fe = absurd k
 binary_address : (l : ℕ) (f : Operator) (m : ℕ) (x y : Expression) (g : Setting) (own : Placed) (sc : Scene) (d : ℕ) (env : Environment) (c rest : List Stmt) (i : ℕ) → IsAddress g sc d env (t.binary l f m x y) c rest → ((c0 r0 : List Stmt) → IsCode g sc d env pushes x c0 r0 → Spread g own c0 r0 i (objects x) (forms x))
     → ((c0 r0 : List Stmt) → IsCode g sc (d + 1) (past x env) pushes y c0 r0 → Spread g own c0 r0 (i + objects x) (objects y) (forms y)) → Spread g own c rest i (objects x + objects y) (forms x ++ forms y)
 binary_address l o.Subscript m x y g own sc d env c rest i k fx fy =
-    spread_both g own c k.0 rest i (objects x) (objects y) (forms x) (forms y) (fx c k.0 k.1) (spread_bottom g own k.0 rest _ (i + objects x) (objects y) (forms y) ((λ q. refl), refl) (fy k.0 _ k.2))
+    spread_both g own c k.0 rest i (objects x) (objects y) (forms x) (forms y) (fx c k.0 k.1) (spread_bottom g own k.0 rest _ (i + objects x) (objects y) (forms y) (λ q. refl) (fy k.0 _ k.2))
 binary_address l o.Byte m x y g own sc d env c rest i k fx fy = absurd k
 binary_address l o.Times m x y g own sc d env c rest i k fx fy = absurd k
 binary_address l o.Over m x y g own sc d env c rest i k fx fy = absurd k
@@ -105,7 +105,7 @@ binary_address l o.Same m x y g own sc d env c rest i k fx fy = absurd k
 binary_address l o.Differ m x y g own sc d env c rest i k fx fy = absurd k
 
 unary_store : (l : ℕ) (f : Prefix) (e : Expression) (g : Setting) (own : Placed) (sc : Scene) (d : ℕ) (env : Environment) (c rest : List Stmt) (i : ℕ) → IsStore g sc d env (t.unary l f e) c rest → ((c0 r0 : List Stmt) → IsCode g sc d env pushes e c0 r0 → Spread g own c0 r0 i (objects e) (forms e)) → Spread g own c rest i (objects e) (forms e)
-unary_store l q.Contents e g own sc d env c rest i k fe = spread_bottom g own c rest _ i (objects e) (forms e) ((λ q. refl), refl) (fe c _ k)
+unary_store l q.Contents e g own sc d env c rest i k fe = spread_bottom g own c rest _ i (objects e) (forms e) (λ q. refl) (fe c _ k)
 unary_store l q.Address e g own sc d env c rest i k fe = absurd k
 unary_store l q.Plus e g own sc d env c rest i k fe = absurd k
 unary_store l q.Minus e g own sc d env c rest i k fe = absurd k
@@ -114,9 +114,9 @@ unary_store l q.Not e g own sc d env c rest i k fe = absurd k
 binary_store : (l : ℕ) (f : Operator) (m : ℕ) (x y : Expression) (g : Setting) (own : Placed) (sc : Scene) (d : ℕ) (env : Environment) (c rest : List Stmt) (i : ℕ) → IsStore g sc d env (t.binary l f m x y) c rest → ((c0 r0 : List Stmt) → IsCode g sc d env pushes x c0 r0 → Spread g own c0 r0 i (objects x) (forms x))
     → ((c0 r0 : List Stmt) → IsCode g sc (d + 1) (past x env) pushes y c0 r0 → Spread g own c0 r0 (i + objects x) (objects y) (forms y)) → Spread g own c rest i (objects x + objects y) (forms x ++ forms y)
 binary_store l o.Subscript m x y g own sc d env c rest i k fx fy =
-    spread_both g own c k.0 rest i (objects x) (objects y) (forms x) (forms y) (fx c k.0 k.1) (spread_bottom g own k.0 rest _ (i + objects x) (objects y) (forms y) ((λ q. refl), refl) (fy k.0 _ k.2))
+    spread_both g own c k.0 rest i (objects x) (objects y) (forms x) (forms y) (fx c k.0 k.1) (spread_bottom g own k.0 rest _ (i + objects x) (objects y) (forms y) (λ q. refl) (fy k.0 _ k.2))
 binary_store l o.Byte m x y g own sc d env c rest i k fx fy =
-    spread_both g own c k.0 rest i (objects x) (objects y) (forms x) (forms y) (fx c k.0 k.1) (spread_bottom g own k.0 rest _ (i + objects x) (objects y) (forms y) ((λ q. refl), refl) (fy k.0 _ k.2))
+    spread_both g own c k.0 rest i (objects x) (objects y) (forms x) (forms y) (fx c k.0 k.1) (spread_bottom g own k.0 rest _ (i + objects x) (objects y) (forms y) (λ q. refl) (fy k.0 _ k.2))
 binary_store l o.Times m x y g own sc d env c rest i k fx fy = absurd k
 binary_store l o.Over m x y g own sc d env c rest i k fx fy = absurd k
 binary_store l o.Rem m x y g own sc d env c rest i k fx fy = absurd k

@@ -1,4 +1,4 @@
--- Strings and ENTRYs of statements, counted: what is known of the strings in code, and of the procedures declared in it.
+-- Strings of statements, counted: what is known of the strings in code, and of the procedures declared in it.
 use Rattle.std.proofs.Common.{◌≡◌, ℕ, suc, ◌+◌, ◌-◌, ◌≤◌, ◌==◌, Bool, true, false, cond, List, [], ◌∷◌, ◌++◌, length, Some, slice_get, drop, refl, sym, ap, ◌∙◌, subst, arith}
 use Rattle.bk_ocode.specs.OcodeState.{Placed}
 use Rattle.bk_ocode.specs.declared.stmt.Stmt.{Stmt}
@@ -13,22 +13,17 @@ pub data Form : Type 0 where
   some_words : Form
   a_procedure : Form
 
--- how many strings have so many statements behind them
+-- how many strings before the next ENTRY have so many statements behind them
 abbrev pub strings_at : ℕ → List Stmt → ℕ
 strings_at q [] = 0
 strings_at q (Text x ∷ rest) = cond (length rest == q) 1 0 + strings_at q rest
+strings_at q (Entry l x ∷ rest) = 0
 strings_at q (s ∷ rest) = strings_at q rest
 
-abbrev pub entries_in : List Stmt → ℕ
-entries_in [] = 0
-entries_in (Entry l x ∷ rest) = suc (entries_in rest)
-entries_in (s ∷ rest) = entries_in rest
-
--- a procedure: the place of its ENTRY, and the code of its body, up to its return
+-- a procedure: the place of its ENTRY, and the code behind it
 pub record Span : Type 0 where
   pub place : ℕ
   pub from : List Stmt
-  pub to : List Stmt
 
 abbrev pub times : ℕ → List ℕ → ℕ
 times q [] = 0
@@ -36,7 +31,7 @@ times q (x ∷ xs) = cond (x == q) 1 0 + times q xs
 
 abbrev pub in_spans : ℕ → List Span → ℕ
 in_spans q [] = 0
-in_spans q (x ∷ xs) = strings_at q x.from - strings_at q x.to + in_spans q xs
+in_spans q (x ∷ xs) = strings_at q x.from + in_spans q xs
 
 -- a string that has so many statements behind it
 abbrev pub IsKey : Setting → Placed → ℕ → ℕ → Type 0
@@ -46,9 +41,8 @@ pub record IsSpan (g : Setting) (own : Placed) (o : ℕ) (x : Span) : Type 0 whe
   pub label : ℕ
   pub name : List ℕ
   pub at : slice_get own.stmts x.place ≡ Some (Entry label name)
-  pub behind : drop (suc (suc x.place)) own.stmts ≡ x.from
+  pub behind : drop (suc x.place) own.stmts ≡ x.from
   pub word : g.codes.procedure o ≡ own.places.label label
-  pub plain : entries_in x.from ≡ entries_in x.to
 
 -- the objects from number o on
 abbrev pub AreSpread : Setting → Placed → ℕ → List Form → List ℕ → List Span → Type 0
@@ -90,17 +84,16 @@ pub record Spread (g : Setting) (own : Placed) (c rest : List Stmt) (i m : ℕ) 
   pub long : length fs ≡ m
   pub are : AreSpread g own i fs keys spans
   pub once : (q : ℕ) → times q keys + strings_at q rest ≤ strings_at q c + in_spans q spans
-  pub plain : entries_in c ≡ entries_in rest
 
 -- no strings and no ENTRYs between them
 abbrev pub Same : List Stmt → List Stmt → Type 0
-Same c d = ((q : ℕ) → strings_at q c ≡ strings_at q d) × (entries_in c ≡ entries_in d)
+Same c d = (q : ℕ) → strings_at q c ≡ strings_at q d
 
 pub by_path : (c d : List Stmt) → c ≡ d → Same d c
-by_path c d e = ((λ q. ap (strings_at q) (sym e)), ap entries_in (sym e))
+by_path c d e q = ap (strings_at q) (sym e)
 
 pub same_on : (c d e : List Stmt) → Same c d → Same d e → Same c e
-same_on c d e h i = ((λ q. h.0 q ∙ i.0 q), h.1 ∙ i.1)
+same_on c d e h i q = h q ∙ i q
 
 pub spread_none : (g : Setting) (own : Placed) (c rest : List Stmt) (i : ℕ) → Same rest c → Spread g own c rest i 0 []
 spread_none g own c rest i e = record {
@@ -108,8 +101,7 @@ spread_none g own c rest i e = record {
   spans = [];
   long = refl;
   are = tt;
-  once = λ q. let h = e.0 q in omega (arith, h);
-  plain = sym e.1;
+  once = λ q. let h = e q in omega (arith, h);
 }
 
 pub spread_top : (g : Setting) (own : Placed) (c d rest : List Stmt) (i m : ℕ) (fs : List Form) → Same d c → Spread g own d rest i m fs → Spread g own c rest i m fs
@@ -118,8 +110,7 @@ spread_top g own c d rest i m fs e a = record {
   spans = a.spans;
   long = a.long;
   are = a.are;
-  once = λ q. let h = e.0 q in let o = a.once q in omega (arith, h, o);
-  plain = sym e.1 ∙ a.plain;
+  once = λ q. let h = e q in let o = a.once q in omega (arith, h, o);
 }
 
 pub spread_bottom : (g : Setting) (own : Placed) (c rest d : List Stmt) (i m : ℕ) (fs : List Form) → Same rest d → Spread g own c d i m fs → Spread g own c rest i m fs
@@ -128,8 +119,7 @@ spread_bottom g own c rest d i m fs e a = record {
   spans = a.spans;
   long = a.long;
   are = a.are;
-  once = λ q. let h = e.0 q in let o = a.once q in omega (arith, h, o);
-  plain = a.plain ∙ sym e.1;
+  once = λ q. let h = e q in let o = a.once q in omega (arith, h, o);
 }
 
 -- code one behind the other, and in the other order
@@ -144,7 +134,6 @@ spread_both g own c c1 rest i m n fs hs a b =
       long = omega (arith, l, r, t);
       are = spread_append g own i fs hs a.keys b.keys a.spans b.spans a.are (subst (λ k. AreSpread g own (i + k) hs b.keys b.spans) (sym a.long) b.are);
       once = λ q. let x = a.once q in let y = b.once q in let u = times_both q a.keys b.keys in let v = spans_both q a.spans b.spans in omega (arith, x, y, u, v);
-      plain = a.plain ∙ b.plain;
     }
 
 pub spread_back : (g : Setting) (own : Placed) (c c1 rest : List Stmt) (i m n : ℕ) (fs hs : List Form) → Spread g own c1 rest i m fs → Spread g own c c1 (i + m) n hs → Spread g own c rest i (m + n) (fs ++ hs)
@@ -158,12 +147,11 @@ spread_back g own c c1 rest i m n fs hs a b =
       long = omega (arith, l, r, t);
       are = spread_append g own i fs hs a.keys b.keys a.spans b.spans a.are (subst (λ k. AreSpread g own (i + k) hs b.keys b.spans) (sym a.long) b.are);
       once = λ q. let x = a.once q in let y = b.once q in let u = times_both q a.keys b.keys in let v = spans_both q a.spans b.spans in omega (arith, x, y, u, v);
-      plain = b.plain ∙ a.plain;
     }
 
 -- one string
 pub spread_string : (g : Setting) (own : Placed) (x : List ℕ) (rest : List Stmt) (i : ℕ) → BaseOf g.lasting i (own.places.text (length rest)) → Spread g own (Text x ∷ rest) rest i 1 (a_string ∷ [])
-spread_string g own x rest i base = record { keys = length rest ∷ []; spans = []; long = refl; are = (base, tt); once = λ q. omega arith; plain = refl }
+spread_string g own x rest i base = record { keys = length rest ∷ []; spans = []; long = refl; are = (base, tt); once = λ q. omega arith }
 
 -- words that stand behind a label
 pub spread_words : (g : Setting) (own : Placed) (c rest : List Stmt) (i : ℕ) → Same rest c → Spread g own c rest i 1 (some_words ∷ [])
@@ -172,23 +160,21 @@ spread_words g own c rest i e = record {
   spans = [];
   long = refl;
   are = tt;
-  once = λ q. let h = e.0 q in omega (arith, h);
-  plain = sym e.1;
+  once = λ q. let h = e q in omega (arith, h);
 }
 
 -- a procedure, by what is known of its body
-pub spread_procedure : (g : Setting) (own : Placed) (c from to : List Stmt) (place i m : ℕ) (fs : List Form) → IsSpan g own i (record { place = place; from = from; to = to }) → Spread g own from to (i + 1) m fs
+pub spread_procedure : (g : Setting) (own : Placed) (c from to : List Stmt) (place i m : ℕ) (fs : List Form) → IsSpan g own i (record { place = place; from = from }) → Spread g own from to (i + 1) m fs
     → Spread g own c c i (1 + m) (a_procedure ∷ fs)
 spread_procedure g own c from to place i m fs is a =
     let l = a.long in
     let e : i + 1 ≡ suc i = omega arith in
     record {
       keys = a.keys;
-      spans = record { place = place; from = from; to = to } ∷ a.spans;
+      spans = record { place = place; from = from } ∷ a.spans;
       long = omega (arith, l);
       are = (is, subst (λ k. AreSpread g own k fs a.keys a.spans) e a.are);
       once = λ q. let h = a.once q in omega (arith, h);
-      plain = refl;
     }
 
 -- said otherwise

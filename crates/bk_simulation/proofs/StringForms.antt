@@ -32,7 +32,7 @@ use Rattle.bk_simulation.proofs.Laid.{Setting, Scene, Spot, Aim, pushes, jumps, 
 use Rattle.bk_simulation.proofs.Held.{HeldIn}
 use Rattle.bk_simulation.proofs.Procedures.{IsBody, IsProcedure}
 use Rattle.bk_simulation.proofs.Standing.{first_of}
-use Rattle.bk_simulation.proofs.StringCounts.{Form, a_string, some_words, a_procedure, strings_at, entries_in, Span, times, in_spans, IsSpan, AreSpread, spread_append, times_both, spans_both, forms_both, Spread, Same, by_path, same_on, spread_none, spread_top, spread_bottom, spread_both, spread_back, spread_string, spread_words, spread_procedure, spread_as}
+use Rattle.bk_simulation.proofs.StringCounts.{Form, a_string, some_words, a_procedure, strings_at, Span, times, in_spans, IsSpan, AreSpread, spread_append, times_both, spans_both, forms_both, Spread, Same, by_path, same_on, spread_none, spread_top, spread_bottom, spread_both, spread_back, spread_string, spread_words, spread_procedure, spread_as}
 
 -- ---- the forms of what lasts of a tree
 
@@ -104,45 +104,45 @@ abbrev mutual
 -- ---- statements that are no strings
 
 pub push_plain : (ts : List Target) (x : Bound) (rest : List Stmt) → Same rest (push ts x ∷ rest)
-push_plain ts (b.Constant (Some w)) rest = ((λ q. refl), refl)
-push_plain ts (b.Constant None) rest = ((λ q. refl), refl)
-push_plain ts (b.Global v) rest = ((λ q. refl), refl)
-push_plain ts (b.Static m) rest = ((λ q. refl), refl)
-push_plain ts (b.Variable j i) rest = ((λ q. refl), refl)
-push_plain ts (b.Label j m) rest = ((λ q. refl), refl)
+push_plain ts (b.Constant (Some w)) rest = (λ q. refl)
+push_plain ts (b.Constant None) rest = (λ q. refl)
+push_plain ts (b.Global v) rest = (λ q. refl)
+push_plain ts (b.Static m) rest = (λ q. refl)
+push_plain ts (b.Variable j i) rest = (λ q. refl)
+push_plain ts (b.Label j m) rest = (λ q. refl)
 
 pub truth_plain : (x : Bool) (rest : List Stmt) → Same rest (truth_value x ∷ rest)
-truth_plain true rest = ((λ q. refl), refl)
-truth_plain false rest = ((λ q. refl), refl)
+truth_plain true rest = (λ q. refl)
+truth_plain false rest = (λ q. refl)
 
 pub infix_plain : (f : Operator) (rest : List Stmt) → Same rest (infix_code f ++ rest)
-infix_plain o.Subscript rest = ((λ q. refl), refl)
-infix_plain o.Byte rest = ((λ q. refl), refl)
-infix_plain o.Times rest = ((λ q. refl), refl)
-infix_plain o.Over rest = ((λ q. refl), refl)
-infix_plain o.Rem rest = ((λ q. refl), refl)
-infix_plain o.Add rest = ((λ q. refl), refl)
-infix_plain o.Subtract rest = ((λ q. refl), refl)
-infix_plain o.Equal rest = ((λ q. refl), refl)
-infix_plain o.Unequal rest = ((λ q. refl), refl)
-infix_plain o.Less rest = ((λ q. refl), refl)
-infix_plain o.Greater rest = ((λ q. refl), refl)
-infix_plain o.AtMost rest = ((λ q. refl), refl)
-infix_plain o.AtLeast rest = ((λ q. refl), refl)
-infix_plain o.ShiftLeft rest = ((λ q. refl), refl)
-infix_plain o.ShiftRight rest = ((λ q. refl), refl)
-infix_plain o.Both rest = ((λ q. refl), refl)
-infix_plain o.Either rest = ((λ q. refl), refl)
-infix_plain o.Same rest = ((λ q. refl), refl)
-infix_plain o.Differ rest = ((λ q. refl), refl)
+infix_plain o.Subscript rest = (λ q. refl)
+infix_plain o.Byte rest = (λ q. refl)
+infix_plain o.Times rest = (λ q. refl)
+infix_plain o.Over rest = (λ q. refl)
+infix_plain o.Rem rest = (λ q. refl)
+infix_plain o.Add rest = (λ q. refl)
+infix_plain o.Subtract rest = (λ q. refl)
+infix_plain o.Equal rest = (λ q. refl)
+infix_plain o.Unequal rest = (λ q. refl)
+infix_plain o.Less rest = (λ q. refl)
+infix_plain o.Greater rest = (λ q. refl)
+infix_plain o.AtMost rest = (λ q. refl)
+infix_plain o.AtLeast rest = (λ q. refl)
+infix_plain o.ShiftLeft rest = (λ q. refl)
+infix_plain o.ShiftRight rest = (λ q. refl)
+infix_plain o.Both rest = (λ q. refl)
+infix_plain o.Either rest = (λ q. refl)
+infix_plain o.Same rest = (λ q. refl)
+infix_plain o.Differ rest = (λ q. refl)
 
 pub ending_plain : (aim : Aim) (rest : List Stmt) → Same rest (ending aim rest)
-ending_plain pushes rest = ((λ q. refl), refl)
-ending_plain (jumps u n) rest = ((λ q. refl), refl)
+ending_plain pushes rest = (λ q. refl)
+ending_plain (jumps u n) rest = (λ q. refl)
 
 pub store_plain : (x : Bool) (rest : List Stmt) → Same rest (cond x (Store ∷ rest) rest)
-store_plain true rest = ((λ q. refl), refl)
-store_plain false rest = ((λ q. refl), refl)
+store_plain true rest = (λ q. refl)
+store_plain false rest = (λ q. refl)
 
 -- behind a test of a FOR
 test_in : (x y : Stmt) (u : Bool) (rest : List Stmt) → Same rest (x ∷ rest) → Same rest (y ∷ rest) → Same rest (cond u x y ∷ rest)
@@ -150,7 +150,7 @@ test_in x y true rest h i = h
 test_in x y false rest h i = i
 
 pub test_plain : (k : ℕ) (rest : List Stmt) → Same rest (test_of_step k ∷ rest)
-test_plain k rest = test_in _ _ (int_lt (signed k) (pos 0)) rest ((λ q. refl), refl) ((λ q. refl), refl)
+test_plain k rest = test_in _ _ (int_lt (signed k) (pos 0)) rest (λ q. refl) (λ q. refl)
 
 -- ---- numbers
 
