@@ -76,6 +76,9 @@ fn load_source<C: ByteIn>(alloc: Global, source: &mut C, words: u32) -> Result<M
 
 /// Compiles a source, a section after another, loads the segments of all, and runs them with this input and output.
 ///
+/// Its contract is the headline: with enough steps and words the run of an accepted source writes exactly the bytes of its meaning
+/// and gives its end. `docs/HEADLINE.md` goes through it word by word.
+///
 /// Nothing is run unless all sections were accepted and loaded. Where the source is refused or cannot be read, neither input
 /// nor output is touched, and no byte of the source is asked for behind the section that is refused. `TooSmall` and
 /// `NoStart` come of accepted sources alone.
