@@ -103,3 +103,4 @@ pub mod ProgramLaid
 pub mod SpreadSections
 pub mod DataPlaces
 pub mod KindLabels
+pub mod ApartSections
