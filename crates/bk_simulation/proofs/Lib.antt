@@ -103,4 +103,3 @@ pub mod ProgramLaid
 pub mod SpreadSections
 pub mod DataPlaces
 pub mod KindLabels
-pub mod ApartSections
