@@ -101,3 +101,4 @@ pub mod SectionsLie
 pub mod SectionsSet
 pub mod ProgramLaid
 pub mod SpreadSections
+pub mod StringsOnce
