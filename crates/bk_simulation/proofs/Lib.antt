@@ -102,3 +102,4 @@ pub mod SectionsSet
 pub mod ProgramLaid
 pub mod SpreadSections
 pub mod StringsOnce
+pub mod KindForms
