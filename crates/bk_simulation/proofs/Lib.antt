@@ -103,3 +103,4 @@ pub mod ProgramLaid
 pub mod SpreadSections
 pub mod StringsOnce
 pub mod KindForms
+pub mod DataPlaces
