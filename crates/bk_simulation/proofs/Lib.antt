@@ -104,3 +104,5 @@ pub mod SpreadSections
 pub mod StringsOnce
 pub mod KindForms
 pub mod DataPlaces
+pub mod KindLabels
+pub mod ObjectMarks
