@@ -106,3 +106,4 @@ pub mod KindForms
 pub mod DataPlaces
 pub mod KindLabels
 pub mod ObjectMarks
+pub mod LieApart
