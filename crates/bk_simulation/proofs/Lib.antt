@@ -101,3 +101,10 @@ pub mod SectionsLie
 pub mod SectionsSet
 pub mod ProgramLaid
 pub mod SpreadSections
+pub mod StringsOnce
+pub mod KindForms
+pub mod DataPlaces
+pub mod KindLabels
+pub mod ObjectMarks
+pub mod LieApart
+pub mod ProgramLaws

@@ -8,7 +8,7 @@ mod Ranges
 mod Rows
 mod FormRows
 mod Few
-mod Once
+pub mod Once
 mod Named
 mod Counted
 mod Marks
