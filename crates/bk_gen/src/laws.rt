@@ -54,8 +54,7 @@ pub fn back_end()
 /// Sections of which none sets global 1 have no first state: they have no START.
 pub fn parts_without_start()
     ensures { PartsWithoutStart }
-{
-}
+{}
 
 /// Sections in the loader's placement: the number of each entry and of each place behind a call is that of no other, and strings and
 /// data lie apart from one another, between the globals and the first frame.

@@ -15,12 +15,12 @@ use Rattle.bk_kit.specs.Interpreting.{is_read_fault}
 use Rattle.bk_kit.specs.ReadingSource.{cut_behind, Settles, IsDelivered}
 use Rattle.bk_kit.specs.Sources.{bytes_of, codes_of, line_behind, texts_of}
 use Rattle.bk_kit.specs.CompilingSection.{codes_in, Compiled, Refuses}
-use Rattle.bk_kit.specs.Compiling.{Accepts, Takes, Comes, Delivers, PutsSections, Compiles}
+use Rattle.bk_kit.specs.Compiling.{AreAllTyped, Accepts, Takes, Comes, Delivers, PutsSections, Compiles}
 use Rattle.bk_kit.specs.Filters.{Written, Puts}
 use Rattle.bk_kit.specs.Telling.{Output}
 use Rattle.bk_kit.proofs.FilterLemmas.{flushed, stuck}
 use Rattle.bk_kit.proofs.ReadingLemmas.{ends_with_source}
-use Rattle.bk_kit.proofs.PassedSections.{refused_as, refuses_behind, takes_as, not_ended, Passed, passed_none, all_counted, passed_and_part, passed_on}
+use Rattle.bk_kit.proofs.PassedSections.{refused_as, refuses_behind, takes_as, not_ended, Passed, passed_none, all_counted, passed_and_part, passed_on, typed_in}
 
 pub texts_push : (front codes : List (List Stmt)) → texts_of (front ++ codes) ≡ texts_of front ++ texts_of codes
 texts_push [] codes = refl
@@ -124,7 +124,7 @@ module _ (old now new : Option (List ℕ)) (ended : Bool) (reads taken taken' li
               let open_ : compiled.tokens.ended ≡ false = not_ended compiled.tokens (sym none ∙ compiled.next) in
               record {
                 text = texts_of (codes_in c.code);
-                comes = (compiled.tokens, compiled.has.trees, accepts short, ap texts_of compiled.has.code, open_, ends_with_source text line compiled.tokens ended (settles short) compiled.lexed_as open_, none_failed short);
+                comes = (compiled.tokens, compiled.has.trees, accepts short, ap texts_of compiled.has.code, open_, ends_with_source text line compiled.tokens ended (settles short) compiled.lexed_as open_, none_failed short, compiled.bytes, subst AreAllTyped compiled.has.code (typed_in c.code));
                 takes = takes_behind;
               });
           passes = Begins-trans before.passed after.passed after'.passed front.passes passes;

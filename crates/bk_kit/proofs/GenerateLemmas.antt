@@ -148,7 +148,7 @@ module _ (count : ℕ) (old now new : Option (List ℕ)) (was ended : Bool) (rea
 
   module _ (section : o.Ocode) (answers : Answers (Ok (Some section)) now new ended) (none : reads ≡ 0) where
     is_read : IsRead answers.0 (stmts_of section)
-    is_read = record { ended = ended; are = answers.2.2; section = answers.2.0 }
+    is_read = record { ended = ended; are = answers.2.2; section = answers.2.0; typed = answers.2.1 }
 
     -- memory is refused for its segment
     pub not_generated : PutsSegments (Err Memory) old new ended reads before after

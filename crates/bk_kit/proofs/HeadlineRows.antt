@@ -13,6 +13,7 @@ endless = record {
   Startless = λ source. ⊥;
   Ends = λ source input taken bytes end. ⊥;
   GoesOn = λ source input turns bytes. bytes ≡ [];
+  Holds = λ source words. ⊤;
   Enough = λ source input steps words. ⊥;
   EnoughFor = λ source input turns steps words. ⊤;
 }

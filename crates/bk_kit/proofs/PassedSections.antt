@@ -1,5 +1,5 @@
 -- Accepted sections, one after another, that were read of a source.
-use Rattle.std.proofs.Common.{◌≡◌, ◌≢◌, inl, inr, ℕ, ◌≤◌, ◌<◌, ◌++◌, Bool, true, false, List, [], ◌∷◌, Option, None, Some, Ok, Err, length, if◌then◌else◌, arith, refl, sym, ap, subst, ◌∙◌, append_assoc, append-nil, length-append}
+use Rattle.std.proofs.Common.{◌≡◌, ◌≢◌, inl, inr, ℕ, zero, suc, ◌≤◌, ◌<◌, ◌++◌, Bool, true, false, List, [], ◌∷◌, Option, None, Some, Ok, Err, length, if◌then◌else◌, arith, refl, sym, ap, subst, ◌∙◌, append_assoc, append-nil, length-append}
 use Rattle.std.proofs.lemmas.List.{map-append}
 use Rattle.std.specs.Io.KnownBytes.{Consumes}
 use Rattle.bk_base.specs.DeviceLaws.{Consumes-nothing, Consumes-trans}
@@ -15,6 +15,10 @@ use Rattle.bk_lex.proofs.Faulty.{lexed_has_fault}
 use Rattle.bk_lex.proofs.Certain.{lexed_told}
 use Rattle.bk_lex.proofs.Sound.{lexed_is_section}
 use Rattle.bk_lex.proofs.Complete.{section_is_lexed}
+use Rattle.bk_ocode.specs.StmtRange.{AreBytes}
+use Rattle.bk_ocode.specs.declared.section.Ocode as o
+use Rattle.bk_ocode.specs.declared.stmt.Stmt.{Stmt}
+use Rattle.bk_ocode.proofs.SectionProp.{section_whole}
 use Rattle.bk_syntax.specs.Tree.{Declarations}
 use Rattle.bk_kit.specs.declared.kit_fault.KitFault.TheVariants.{Source}
 use Rattle.bk_kit.specs.declared.section.CompiledSection.{CompiledSection}
@@ -22,7 +26,7 @@ use Rattle.bk_kit.specs.ReadingSource.{Settles, IsDelivered}
 use Rattle.bk_kit.specs.Sources as sources
 use Rattle.bk_kit.specs.Sources.{Accepted, Refused, WholeSection, bytes_of, trees_of, codes_of, codes_of_trees, stmts_of_tree, line_behind, AreAccepted}
 use Rattle.bk_kit.specs.CompilingSection.{codes_in, Compiled, Refuses}
-use Rattle.bk_kit.specs.Compiling.{Accepts, Delivered}
+use Rattle.bk_kit.specs.Compiling.{AreAllTyped, Accepts, Delivered}
 use Rattle.bk_kit.proofs.ReadingLemmas.{whole_used, used_some}
 
 -- ---- lists of sections
@@ -118,6 +122,23 @@ is_ended tokens next is = by_end tokens.ended refl
     by_end true e = (e, (let some = rw e at is in cc))
     by_end false e = let none = rw e at is in absurd cc
 
+-- ---- bytes
+
+pub bytes_both : (first second : List ℕ) → AreBytes first → AreBytes second → AreBytes (first ++ second)
+bytes_both [] second are also k byte is = also k byte is
+bytes_both (b ∷ first) second are also zero byte is = are 0 byte is
+bytes_both (b ∷ first) second are also (suc k) byte is = bytes_both first second (λ j other there. are (suc j) other there) also k byte is
+
+-- ---- the statements of sections
+
+pub typed_both : (first second : List (List Stmt)) → AreAllTyped first → AreAllTyped second → AreAllTyped (first ++ second)
+typed_both [] second are also = also
+typed_both (stmts ∷ first) second are also = (are.0, typed_both first second are.1 also)
+
+pub typed_in : (code : Option o.Ocode) → AreAllTyped (codes_in code)
+typed_in None = tt
+typed_in (Some code) = ((section_whole code).1, tt)
+
 -- ---- the sections so far
 
 -- Accepted sections were delivered, each with its `.`: of so many bytes, and the next begins on this line.
@@ -125,6 +146,8 @@ pub record Passed (old now : Option (List ℕ)) (taken line : ℕ) : Type 0 wher
   pub sections : List WholeSection
   pub delivered : Consumes old now (bytes_of sections)
   pub accepted : (rest : List ℕ) → AreAccepted 1 sections rest
+  pub bytes : AreBytes (bytes_of sections)
+  pub typed : AreAllTyped (codes_of sections)
   pub counted : taken ≡ length (bytes_of sections)
   pub at : line ≡ line_behind 1 sections
 
@@ -133,6 +156,8 @@ passed_none known = record {
   sections = [];
   delivered = Consumes-nothing known;
   accepted = λ rest. tt;
+  bytes = λ k byte is. absurd (let h : None ≡ Some byte = is in cc);
+  typed = tt;
   counted = refl;
   at = refl;
 }
@@ -151,6 +176,8 @@ module _ (old now new : Option (List ℕ)) (taken taken' line : ℕ) (passed : P
     part = text;
     delivered = all_delivered;
     accepted = passed.accepted;
+    bytes = passed.bytes;
+    typed = passed.typed;
     asked = here.asked;
     within = omega (arith, all_counted, most);
   }
@@ -168,15 +195,18 @@ module _ (old now new : Option (List ℕ)) (taken taken' line : ℕ) (passed : P
       let ends = is_ended compiled.tokens next (sym some ∙ compiled.next) in
       let settled = dot_settles text line compiled.tokens compiled.lexed_as ends.0 in
       let last : WholeSection = record { bytes = text; tokens = compiled.tokens; trees = compiled.has.trees } in
-      let all = bytes_push passed.sections last in (
+      let all = bytes_push passed.sections last in
+      let codes = codes_push passed.sections last ∙ ap (λ l. codes_of passed.sections ++ l) (sym compiled.has.code) in (
         record {
           sections = passed.sections ++ last ∷ [];
           delivered = subst (λ (l : List ℕ). Consumes old new l) (sym all) all_delivered;
           accepted = λ rest. accepted_push 1 passed.sections last rest (passed.accepted (text ++ rest))
               (subst (λ (l : ℕ). Accepted (text ++ rest) l compiled.tokens compiled.has.trees) passed.at (accepted_as (text ++ rest) line compiled.tokens compiled.has.trees (settled line rest ∙ compiled.lexed_as) compiled.has.means))
               ends.0 (whole_used text line compiled.tokens here.asked compiled.lexed_as ends.0);
+          bytes = subst AreBytes (sym all) (bytes_both (bytes_of passed.sections) text passed.bytes compiled.bytes);
+          typed = subst AreAllTyped (sym codes) (typed_both (codes_of passed.sections) (codes_in c.code) passed.typed (typed_in c.code));
           counted = omega (arith, all_counted, ap (λ (l : List ℕ). length l) all);
           at = ends.1 ∙ sym (line_push 1 passed.sections last);
         },
-        codes_push passed.sections last ∙ ap (λ l. codes_of passed.sections ++ l) (sym compiled.has.code),
+        codes,
       )

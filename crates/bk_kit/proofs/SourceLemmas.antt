@@ -8,6 +8,7 @@ use Rattle.bk_base.specs.declared.run_end.End.{End}
 use Rattle.bk_base.specs.declared.run_end.End.TheVariants.{WriteFault}
 use Rattle.bk_lex.specs.declared.cutter.Cut.TheVariants.{More}
 use Rattle.bk_ocode.specs.SectionStmts.{stmts_of}
+use Rattle.bk_ocode.specs.StmtRange.{AreBytes}
 use Rattle.bk_ocode.specs.declared.section.Ocode as o
 use Rattle.bk_ocode.specs.declared.stmt.Stmt.{Stmt}
 use Rattle.bk_ocode.proofs.SectionProp.{section_whole}
@@ -30,12 +31,13 @@ use Rattle.bk_kit.specs.ReadingSource.{cut_behind, Settles, Follows, IsDelivered
 use Rattle.bk_kit.specs.Sources.{Accepted, Refused, bytes_of, trees_of, codes_of, stmts_of_tree}
 use Rattle.bk_kit.specs.CompilingSection.{codes_in, Compiled, Refuses}
 use Rattle.bk_kit.specs.Loading.{load_refused}
-use Rattle.bk_kit.specs.OcodeSteps.{OcodeRuns}
 use Rattle.bk_kit.specs.SourceSections.{IsRefused, HasParts}
-use Rattle.bk_kit.specs.RunningSource.{stmts_of_parts, Stand, Generated, Assembled, NotAssembled, RefusesSource, RunsSource, ReadsSource}
-use Rattle.bk_kit.proofs.OcodeLemmas.{sections_too_small, sections_startless}
-use Rattle.bk_kit.proofs.SourceSectionLemmas.{ocode_refuses, has_delivered, refused_delivered}
-use Rattle.bk_kit.proofs.PassedSections.{refused_as, refuses_behind, takes_as, not_ended, Passed, passed_none, all_delivered, all_counted, passed_and_part, passed_on}
+use Rattle.bk_kit.specs.RunningSource.{stmts_of_parts, Stand, Generated, Assembled, NotAssembled, RefusesSource, ReadsSource}
+use Rattle.bk_kit.specs.Headline.{Headline}
+use Rattle.bk_kit.specs.SourceMeaning.{meanings, MeaningRuns, MeaningTooSmall, MeaningStartless}
+use Rattle.bk_kit.proofs.SourceSectionLemmas.{meaning_refuses, has_delivered, refused_delivered}
+use Rattle.bk_kit.proofs.ReadingLemmas.{ends_with_source}
+use Rattle.bk_kit.proofs.PassedSections.{bytes_both, refused_as, refuses_behind, takes_as, not_ended, Passed, passed_none, all_delivered, all_counted, passed_and_part, passed_on}
 
 -- what holds of each source holds of each
 each_source_as : (old new : Option (List ℕ)) (ended : Bool) (This That : List ℕ → Type 0) → ((source : List ℕ) → This source → That source)
@@ -158,6 +160,13 @@ module _ (old now new : Option (List ℕ)) (ended : Bool) (taken taken' line : �
             readable = inr none;
           }
 
+      -- the source is of bytes, which nothing follows
+      all_bytes : c.next ≡ None → taken' < INPUT_BYTES → (rest : List ℕ) → Follows ended rest → AreBytes ((bytes_of gathered.passed.sections ++ text) ++ rest)
+      all_bytes none short rest follows =
+          let over = ends_with_source text line compiled.tokens ended (settles short) compiled.lexed_as (not_ended compiled.tokens (sym none ∙ compiled.next)) in
+          let nothing : rest ≡ [] = follows over in
+          subst AreBytes (sym (append-nil (bytes_of gathered.passed.sections ++ text)) ∙ ap (λ r. (bytes_of gathered.passed.sections ++ text) ++ r) (sym nothing)) (bytes_both (bytes_of gathered.passed.sections) text gathered.passed.bytes compiled.bytes)
+
       -- it is the last
       pub is_last : c.next ≡ None → Assembled all' old new ended
       is_last none = record {
@@ -165,7 +174,7 @@ module _ (old now new : Option (List ℕ)) (ended : Bool) (taken taken' line : �
         segments_are = stand.segments_are;
         has = each (HasParts stand.parts) (λ short rest follows. (
           trees_of gathered.passed.sections ++ compiled.has.trees,
-          has_delivered gathered.passed.sections text rest (gathered.passed.accepted (text ++ rest)) compiled.tokens compiled.has.trees
+          has_delivered gathered.passed.sections text rest (gathered.passed.accepted (text ++ rest)) compiled.tokens compiled.has.trees (all_bytes none short rest follows)
               (subst (λ (l : ℕ). Accepted (text ++ rest) l compiled.tokens compiled.has.trees) gathered.passed.at (takes_as text line ended c compiled (settles short) rest follows))
               (not_ended compiled.tokens (sym none ∙ compiled.next)),
           stand.stmts_are ∙ ap (λ l. codes_of gathered.passed.sections ++ l) compiled.has.code ∙ sym (map-append stmts_of_tree (trees_of gathered.passed.sections) compiled.has.trees),
@@ -183,10 +192,10 @@ fails_as (Err f) fault old new is same reads = rw same reads
 module _ (words : ℕ) (old new : Option (List ℕ)) (ended : Bool) where
   -- of a source that is not assembled
   pub not_assembled : (fault : KitFault) → NotAssembled fault old new ended → RefusesSource fault words old new ended
-  not_assembled (Source fault) refused steps before = λ parts.
-      each_source_as old new ended (λ source. IsRefused source fault) _ (λ source is. ocode_refuses parts source fault steps words before is) refused
-  not_assembled Read refused steps before = ([], each_source_as old new ended (λ source. Unit) _ (λ source is. refl) refused)
-  not_assembled Memory refused steps before = ([], each_source_as old new ended (λ source. Unit) _ (λ source is. refl) refused)
+  not_assembled (Source fault) refused steps before =
+      each_source_as old new ended (λ source. IsRefused source fault) _ (λ source is. meaning_refuses source fault steps words before is) refused
+  not_assembled Read refused steps before = each_source_as old new ended (λ source. Unit) _ (λ source is. refl) refused
+  not_assembled Memory refused steps before = each_source_as old new ended (λ source. Unit) _ (λ source is. refl) refused
   not_assembled TooSmall refused steps before = absurd refused
   not_assembled NoStart refused steps before = absurd refused
   not_assembled Write refused steps before = absurd refused
@@ -194,23 +203,21 @@ module _ (words : ℕ) (old new : Option (List ℕ)) (ended : Bool) where
   not_assembled (Intcode segment fault) refused steps before = absurd refused
 
   -- of one whose segments are not loaded
-  pub not_loaded : (fault : LoadFault) (parts : List Part) → EachSource old new ended (HasParts parts)
-      → (fault ≡ load.TooSmall → words < image parts + 16) → (fault ≡ load.NoStart → any_starts (segments parts) ≡ false)
+  pub not_loaded : MeaningTooSmall → MeaningStartless → words ≤ STORE_MOST → (fault : LoadFault) (parts : List Part) → EachSource old new ended (HasParts parts)
+      → (fault ≡ load.TooSmall → words < image parts + 16) → (fault ≡ load.NoStart → (image parts + 16 ≤ words) × (any_starts (segments parts) ≡ false))
       → RefusesSource (load_refused fault) words old new ended
-  not_loaded load.TooSmall parts has low none steps before =
-      (parts, each_source_as old new ended (HasParts parts) _ (λ source says. sections_too_small HasParts IsRefused parts source steps words before says (low refl)) has)
-  not_loaded load.NoStart parts has low none steps before =
-      (parts, each_source_as old new ended (HasParts parts) _ (λ source says. sections_startless HasParts IsRefused parts source steps words before says (none refl)) has)
-  not_loaded load.Memory parts has low none steps before = (parts, each_source_as old new ended (HasParts parts) _ (λ source says. refl) has)
+  not_loaded small startless most load.TooSmall parts has low none steps before =
+      each_source_as old new ended (HasParts parts) _ (λ source says. small parts source steps words before says (low refl)) has
+  not_loaded small startless most load.NoStart parts has low none steps before =
+      each_source_as old new ended (HasParts parts) _ (λ source says. startless parts source steps words before says (none refl).0 most (none refl).1) has
+  not_loaded small startless most load.Memory parts has low none steps before = each_source_as old new ended (HasParts parts) _ (λ source says. refl) has
 
   -- of one that is run
-  pub source_runs : OcodeRuns HasParts IsRefused → (end : End) (steps : ℕ) (before after : Streams) (parts : List Part) (store : List ℕ) (registers : Registers)
+  pub source_runs : MeaningRuns → (end : End) (steps : ℕ) (before after : Streams) (parts : List Part) (store : List ℕ) (registers : Registers)
       → EachSource old new ended (HasParts parts) → image parts + 16 ≤ words → words ≤ STORE_MOST → any_starts (segments parts) ≡ true
       → Ran end steps (loaded_store words (segments parts)) (first_registers (segments parts)) store registers (told before) (told after)
       → Begins before.passed after.passed → (end ≢ WriteFault → after.passed ≡ after.taken) → Blames end before.reads after.reads after.writes
-      → RunsSource (Ok end) steps words old new ended before after
-  source_runs runs end steps before after parts store registers has room most starts ran passes passed blamed = (
-    parts,
-    each_source_as old new ended (HasParts parts) _ (λ source says.
-        runs parts source end steps words store registers before after says room most starts ran passes passed blamed) has,
-  )
+      → Headline meanings (Ok end) steps words old new ended before after
+  source_runs runs end steps before after parts store registers has room most starts ran passes passed blamed =
+      each_source_as old new ended (HasParts parts) _ (λ source says.
+      runs parts source end steps words store registers before after says room most starts ran passes passed blamed) has

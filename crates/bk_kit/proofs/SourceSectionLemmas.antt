@@ -5,15 +5,17 @@ use Rattle.bk_lex.specs.Lexing.{Section}
 use Rattle.bk_lex.proofs.Complete.{section_is_lexed}
 use Rattle.bk_syntax.specs.Tree.{Declarations}
 use Rattle.bk_kit.specs.Sources.{Accepted, Refused, WholeSection, bytes_of, trees_of, line_behind, AreAccepted}
-use Rattle.bk_kit.specs.SourceSections.{HasTrees, IsRefused, OcodeRefuses}
+use Rattle.bk_ocode.specs.StmtRange.{AreBytes}
+use Rattle.bk_kit.specs.SourceSections.{HasTrees, IsRefused}
+use Rattle.bk_kit.specs.SourceMeaning.{MeaningRefuses}
 
 -- the first section of a text is one
-one_section : (text : List ℕ) (line : ℕ) (s t : Section) (trees others : List Declarations) → Accepted text line s trees → Accepted text line t others → s ≡ t
+pub one_section : (text : List ℕ) (line : ℕ) (s t : Section) (trees others : List Declarations) → Accepted text line s trees → Accepted text line t others → s ≡ t
 one_section text line s t trees others first second =
     let both = sym (section_is_lexed text line s first.tokens) ∙ section_is_lexed text line t second.tokens in cc
 
 -- what stands behind parts of one length
-behind : (a b x y : List ℕ) → length a ≡ length b → a ++ x ≡ b ++ y → x ≡ y
+pub behind : (a b x y : List ℕ) → length a ≡ length b → a ++ x ≡ b ++ y → x ≡ y
 behind [] [] x y as_long is = is
 behind [] (d ∷ b) x y as_long is = absurd cc
 behind (c ∷ a) [] x y as_long is = absurd cc
@@ -22,7 +24,7 @@ behind (c ∷ a) (d ∷ b) x y as_long is =
     let rest : a ++ x ≡ b ++ y = cc in
     behind a b x y shorter rest
 
-differ : (s t : Section) → s ≡ t → s.ended ≡ false → t.ended ≡ true → ⊥
+pub differ : (s t : Section) → s ≡ t → s.ended ≡ false → t.ended ≡ true → ⊥
 differ s t is open_end ended = let same : true ≡ false = sym ended ∙ sym (ap (λ (u : Section). u.ended) is) ∙ open_end in cc
 
 module _ (fault : SourceFault) (p q : List ℕ) (last : Section) (trees : List Declarations) (at_end : last.ended ≡ false) where
@@ -44,21 +46,22 @@ module _ (fault : SourceFault) (p q : List ℕ) (last : Section) (trees : List D
       (subst (λ l. AreAccepted l xs p) one_line first.3) second.3
       (subst (λ l. Accepted p (line_behind l xs) last trees) one_line accepts) refused
 
-refused_not_accepted : (source : List ℕ) (fault : SourceFault) (trees : List Declarations) → IsRefused source fault → HasTrees source trees → ⊥
+pub refused_not_accepted : (source : List ℕ) (fault : SourceFault) (trees : List Declarations) → IsRefused source fault → HasTrees source trees → ⊥
 refused_not_accepted source fault trees refused has =
     not_both fault has.part refused.part has.last has.last_trees has.at_end 1 has.sections refused.sections (sym has.whole ∙ refused.whole) has.accepted refused.accepted has.accepts refused.refused
 
 -- so its fault answers it
-pub ocode_refuses : OcodeRefuses
-ocode_refuses parts source fault steps words streams refused =
+pub meaning_refuses : MeaningRefuses
+meaning_refuses source fault steps words streams refused =
     (refused, (λ has. refused_not_accepted source fault has.0 refused has.1), refl)
 
 -- ---- of a source of which sections were delivered, and then a part of the last, whatever follows
 
 module _ (sections : List WholeSection) (part rest : List ℕ) (accepted : AreAccepted 1 sections (part ++ rest)) where
-  pub has_delivered : (last : Section) (trees : List Declarations) → Accepted (part ++ rest) (line_behind 1 sections) last trees → last.ended ≡ false
+  pub has_delivered : (last : Section) (trees : List Declarations) → AreBytes ((bytes_of sections ++ part) ++ rest) → Accepted (part ++ rest) (line_behind 1 sections) last trees → last.ended ≡ false
       → HasTrees ((bytes_of sections ++ part) ++ rest) (trees_of sections ++ trees)
-  has_delivered last trees accepts at_end = record {
+  has_delivered last trees bytes accepts at_end = record {
+    bytes = bytes;
     sections = sections;
     part = part ++ rest;
     whole = append_assoc (bytes_of sections) part rest;

@@ -1,17 +1,24 @@
 -- What compiling a source comes to.
-use Rattle.std.specs.Prelude.{◌≡◌, ℕ, ◌<◌, ◌≤◌, Bool, true, false, List, [], ◌++◌, Option, Result, Ok, Err, length}
+use Rattle.std.specs.Prelude.{◌≡◌, ℕ, ◌<◌, ◌≤◌, Bool, true, false, ⊤, List, [], ◌∷◌, ◌++◌, Option, Result, Ok, Err, length}
 use Rattle.std.specs.Io.KnownBytes.{Consumes}
 use Rattle.bk_base.specs.declared.limit.TheConstants.{INPUT_BYTES}
 use Rattle.bk_base.specs.Devices.{Begins}
 use Rattle.bk_lex.specs.declared.cutter.Cut.TheVariants.{More}
 use Rattle.bk_lex.specs.Lexing.{Section}
 use Rattle.bk_syntax.specs.Tree.{Declarations}
+use Rattle.bk_ocode.specs.StmtRange.{AreBytes, AreTyped}
+use Rattle.bk_ocode.specs.declared.stmt.Stmt.{Stmt}
 use Rattle.bk_kit.specs.declared.kit_fault.KitFault.{KitFault}
 use Rattle.bk_kit.specs.declared.kit_fault.KitFault.TheVariants.{Source, Ocode, Intcode, TooSmall, NoStart, Read, Write, Memory}
 use Rattle.bk_kit.specs.ReadingSource.{Asked, cut_behind, Follows}
 use Rattle.bk_kit.specs.Sources.{Accepted, Refused, WholeSection, bytes_of, codes_of, codes_of_trees, line_behind, AreAccepted, texts_of}
 use Rattle.bk_kit.specs.Telling.{Output}
 use Rattle.bk_kit.specs.Filters.{Puts, Ends}
+
+-- the numbers and bytes of all statements are those of their types
+abbrev pub AreAllTyped : List (List Stmt) → Type 0
+AreAllTyped [] = ⊤
+AreAllTyped (stmts ∷ codes) = AreTyped stmts × AreAllTyped codes
 
 -- The section that these bytes begin is accepted, whatever follows them.
 abbrev pub Accepts : List ℕ → ℕ → Bool → Section → List Declarations → Type 0
@@ -23,7 +30,7 @@ abbrev pub Comes : List ℕ → ℕ → Bool → ℕ → Result (Unit {0}) KitFa
 -- the last section, which the source's end ends
 Comes part line ended reads (Ok done) text =
     (section : Section) × (trees : List Declarations) × Accepts part line ended section trees × (text ≡ texts_of (codes_of_trees trees))
-    × (section.ended ≡ false) × (ended ≡ true) × (reads ≡ 0)
+    × (section.ended ≡ false) × (ended ≡ true) × (reads ≡ 0) × AreBytes part × AreAllTyped (codes_of_trees trees)
 -- a section that is refused, whatever follows: nothing is written of it
 Comes part line ended reads (Err (Source fault)) text =
     ((rest : List ℕ) → Follows ended rest → Refused fault (part ++ rest) line) × (text ≡ []) × (reads ≡ 0)
@@ -47,6 +54,9 @@ pub record Delivered (old new : Option (List ℕ)) : Type 0 where
   pub part : List ℕ
   pub delivered : Consumes old new (bytes_of sections ++ part)
   pub accepted : (rest : List ℕ) → AreAccepted 1 sections rest
+  -- the bytes of the sections, and the numbers and bytes of their statements, are those of their types
+  pub bytes : AreBytes (bytes_of sections)
+  pub typed : AreAllTyped (codes_of sections)
   -- no byte was asked for behind the end of the next section, or behind where it is certain that it is refused
   pub asked : Asked part
   -- one call reads no more than so many bytes, and a source is taken to have less

@@ -8,6 +8,7 @@ use Rattle.bk_lex.specs.Symbol.{Symbol}
 use Rattle.bk_lex.specs.Lexing.{Section, lexed}
 use Rattle.bk_syntax.specs.Tree.{Declarations}
 use Rattle.bk_syntax.specs.Parsing.{ToldAt, ToldAtEnd}
+use Rattle.bk_ocode.specs.StmtRange.{AreBytes}
 use Rattle.bk_ocode.specs.SectionStmts.{stmts_of}
 use Rattle.bk_ocode.specs.declared.section.Ocode as o
 use Rattle.bk_ocode.specs.declared.stmt.Stmt.{Stmt}
@@ -40,6 +41,8 @@ pub record HasCode (symbols : List Symbol) (codes : List (List Stmt)) : Type 0 w
 
 -- The first section of a text is accepted, with this code and this end.
 pub record Compiled (c : CompiledSection) (text : List ℕ) (from : ℕ) : Type 0 where
+  -- bytes are such, as their type has it
+  pub bytes : AreBytes text
   pub tokens : Section
   pub lexed_as : lexed text from ≡ Ok tokens
   pub has : HasCode tokens.symbols (codes_in c.code)

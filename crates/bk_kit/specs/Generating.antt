@@ -11,6 +11,7 @@ use Rattle.bk_base.specs.Devices.{Begins}
 use Rattle.bk_words.specs.TextEnd.{AtEnd}
 use Rattle.bk_words.specs.Taking.{TakesWords}
 use Rattle.bk_ocode.specs.Section.{IsSection}
+use Rattle.bk_ocode.specs.StmtRange.{AreTyped}
 use Rattle.bk_ocode.specs.SectionText.{section_words}
 use Rattle.bk_ocode.specs.SectionAnswer.{GivesNothing, GivesFault, StopsAtWord, StopsAtDevice}
 use Rattle.bk_ocode.specs.SectionAnswer as answers
@@ -47,6 +48,7 @@ pub record IsRead (bytes : List ℕ) (stmts : List Stmt) : Type 0 where
   pub ended : Bool
   pub are : TakesWords bytes (AtEnd ended (length bytes)) (section_words stmts)
   pub section : IsSection stmts
+  pub typed : AreTyped stmts
 
 -- The segment stands for the section.
 pub record IsGenerated (g : Generated) : Type 0 where

@@ -23,6 +23,8 @@ pub record Language : Type 1 where
   pub Ends : (source input taken bytes : List ℕ) → End → Type 0
   -- with this input the meaning has written these bytes after so many turns, and goes on
   pub GoesOn : (source input : List ℕ) → ℕ → List ℕ → Type 0
+  -- so many words hold the source before its run, and one frame
+  pub Holds : List ℕ → ℕ → Type 0
   -- so many steps and words are enough for the meaning's end
   pub Enough : (source input : List ℕ) → (steps words : ℕ) → Type 0
   -- so many steps and words are enough for so many turns
@@ -89,7 +91,8 @@ Keeps language source (Ok end) steps words before after = Runs language source e
 Keeps language source (Err (Source fault)) steps words before after =
     language.Refused source fault × (language.Accepted source → ⊥) × (after ≡ before)
 Keeps language source (Err TooSmall) steps words before after =
-    language.Accepted source × ((input : List ℕ) → TooFew language source input steps words × TooFewForAny language source input steps words)
+    language.Accepted source × (language.Holds source words → ⊥)
+    × ((input : List ℕ) → TooFew language source input steps words × TooFewForAny language source input steps words)
     × (after ≡ before)
 Keeps language source (Err NoStart) steps words before after = language.Accepted source × language.Startless source × (after ≡ before)
 Keeps language source (Err Read) steps words before after = after ≡ before

@@ -13,8 +13,9 @@ pub mod ReadingSource
 pub mod Sources
 pub mod CompilingSection
 pub mod Compiling
-pub mod OcodeSteps
 pub mod SourceSections
+pub mod SourceMeaning
+pub mod SourceCode
 pub mod Generating
 pub mod Sizes
 pub mod Serving

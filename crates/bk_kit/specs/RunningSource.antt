@@ -1,4 +1,4 @@
--- What running a source comes to, where it means what the steps of OCODE do on the statements of its sections.
+-- What running a source comes to on the way: its segments, a machine that holds them, and what refuses it.
 use Rattle.std.specs.Prelude.{◌≡◌, ℕ, ◌+◌, ◌≤◌, Bool, true, ⊤, List, ◌++◌, Option, None, Result, Err, map}
 use Rattle.bk_base.specs.declared.run_end.End.{End}
 use Rattle.bk_intcode.specs.declared.item.Item.{Item}
@@ -14,7 +14,8 @@ use Rattle.bk_kit.specs.Interpreting.{Streams, first_registers}
 use Rattle.bk_kit.specs.Headline.{Headline}
 use Rattle.bk_kit.specs.ReadingSource.{cut_behind, EachSource}
 use Rattle.bk_kit.specs.Compiling.{Delivered}
-use Rattle.bk_kit.specs.SourceSections.{IsRefused, HasParts, sources_of}
+use Rattle.bk_kit.specs.SourceSections.{IsRefused, HasParts}
+use Rattle.bk_kit.specs.SourceMeaning.{meanings}
 
 abbrev pub stmts_of_parts : List Part → List (List Stmt)
 stmts_of_parts parts = map (λ (p : Part). p.stmts) parts
@@ -46,17 +47,6 @@ NotAssembled Write old new ended = ⊥
 NotAssembled (Ocode section fault) old new ended = ⊥
 NotAssembled (Intcode segment fault) old new ended = ⊥
 
--- The answer is one of the source with its own parts: its sections, and segments that stand for them, which the machine ran. A source
--- that is refused is refused whatever parts are taken.
-abbrev pub WithParts : Result End KitFault → (List Part → Type 0) → Type 0
-WithParts (Err (Source fault)) Holds = (parts : List Part) → Holds parts
-WithParts answer Holds = (parts : List Part) × Holds parts
-
--- What running a source answers, and what is read and written.
-abbrev pub RunsSource : Result End KitFault → ℕ → ℕ → Option (List ℕ) → Option (List ℕ) → Bool → Streams → Streams → Type 0
-RunsSource answer steps words old new ended before after =
-    WithParts answer (λ parts. Headline (sources_of parts) answer steps words old new ended before after)
-
 -- Accepted sections were delivered, each with its `.`, and some bytes of the next, none behind its end; where the source could not be
 -- read, the next might still go on.
 pub record ReadsSource (failed : Bool) (old new : Option (List ℕ)) : Type 0 where
@@ -75,4 +65,4 @@ pub record LoadsSource (machine : Machine) (words : ℕ) (old new : Option (List
 
 -- What refuses a source before anything runs, whatever the steps, the input and the output.
 abbrev pub RefusesSource : KitFault → ℕ → Option (List ℕ) → Option (List ℕ) → Bool → Type 0
-RefusesSource fault words old new ended = (steps : ℕ) (before : Streams) → RunsSource (Err fault) steps words old new ended before before
+RefusesSource fault words old new ended = (steps : ℕ) (before : Streams) → Headline meanings (Err fault) steps words old new ended before before

@@ -5,9 +5,11 @@ use Rattle.bk_kit.specs.declared.kit_fault.KitFault.{KitFault}
 use Rattle.bk_kit.specs.declared.orders.Order.{Order}
 use Rattle.bk_kit.specs.declared.orders.Order.TheVariants.{Compile, Generate, Run, Interpret, Sizes}
 use Rattle.bk_kit.specs.Interpreting.{Streams, Interpreted, is_read}
+use Rattle.bk_kit.specs.Headline.{Headline}
 use Rattle.bk_kit.specs.Compiling.{Compiles}
 use Rattle.bk_kit.specs.Generating.{Generates}
-use Rattle.bk_kit.specs.RunningSource.{RunsSource, ReadsSource}
+use Rattle.bk_kit.specs.RunningSource.{ReadsSource}
+use Rattle.bk_kit.specs.SourceMeaning.{meanings}
 use Rattle.bk_kit.specs.Sizes.{Reports}
 use Rattle.bk_kit.specs.Statuses.{run_status, run_line, done_status, done_line}
 use Rattle.bk_kit.specs.Telling.{Output, Tells}
@@ -25,7 +27,7 @@ Serves Generate status old new ended before after err_before err_after =
     (answer : Result (Unit {0}) KitFault) × Generates answer before.left after.left after.ended after.reads (output_of before) (output_of after)
     × (status ≡ done_status answer) × Tells (done_line answer) err_before err_after × (new ≡ old)
 Serves (Run limits name) status old new ended before after err_before err_after =
-    (answer : Result End KitFault) × RunsSource answer limits.steps limits.words old new ended before after × ReadsSource (is_read answer) old new
+    (answer : Result End KitFault) × Headline meanings answer limits.steps limits.words old new ended before after × ReadsSource (is_read answer) old new
     × (status ≡ run_status answer) × Tells (run_line answer) err_before err_after
 Serves (Interpret limits name) status old new ended before after err_before err_after =
     (answer : Result End KitFault) × Interpreted answer limits.steps limits.words old new ended before after

@@ -1,17 +1,16 @@
--- Which sections a whole source has, which sources are refused, and what sources mean by the steps of OCODE.
-use Rattle.std.specs.Prelude.{◌≡◌, ℕ, false, List, ◌++◌, map, Err}
+-- Which sections a whole source has, and which sources are refused.
+use Rattle.std.specs.Prelude.{◌≡◌, ℕ, false, List, ◌++◌, map}
 use Rattle.bk_base.specs.declared.source_fault.SourceFault.{SourceFault}
 use Rattle.bk_lex.specs.Lexing.{Section}
 use Rattle.bk_syntax.specs.Tree.{Declarations}
+use Rattle.bk_ocode.specs.StmtRange.{AreBytes}
 use Rattle.bk_gen.specs.BackEnd.{Part}
-use Rattle.bk_kit.specs.declared.kit_fault.KitFault.TheVariants.{Source}
-use Rattle.bk_kit.specs.Interpreting.{Streams}
-use Rattle.bk_kit.specs.Headline.{Language, Keeps}
-use Rattle.bk_kit.specs.OcodeSteps.{ocode_steps}
 use Rattle.bk_kit.specs.Sources.{Accepted, Refused, WholeSection, bytes_of, trees_of, codes_of_trees, line_behind, AreAccepted}
 
 -- Accepted sections, each with its `.`, and behind them an accepted one that the source's end ends; these are the trees of all.
 pub record HasTrees (source : List ℕ) (trees : List Declarations) : Type 0 where
+  -- a source is of bytes
+  pub bytes : AreBytes source
   pub sections : List WholeSection
   pub part : List ℕ
   pub whole : source ≡ bytes_of sections ++ part
@@ -33,13 +32,3 @@ pub record IsRefused (source : List ℕ) (fault : SourceFault) : Type 0 where
 -- the statements of the source's sections are those of the parts
 abbrev pub HasParts : List Part → List ℕ → Type 0
 HasParts parts source = (trees : List Declarations) × HasTrees source trees × (map (λ (p : Part). p.stmts) parts ≡ codes_of_trees trees)
-
--- The language of the sources with these parts: each means what the steps of OCODE do on the statements of its sections, with the
--- numbers that the parts' segments give. A source is refused for the fault of its first section that is not accepted.
-abbrev pub sources_of : List Part → Language
-sources_of parts = ocode_steps parts (HasParts parts) IsRefused
-
--- A source that is refused may be answered by its fault: it is not accepted, whatever the parts are.
-abbrev pub OcodeRefuses : Type 0
-OcodeRefuses = (parts : List Part) (source : List ℕ) (fault : SourceFault) (steps words : ℕ) (streams : Streams) → IsRefused source fault
-    → Keeps (sources_of parts) source (Err (Source fault)) steps words streams streams

@@ -1,17 +1,49 @@
-//! Laws of the languages of sources.
-ghost use Rattle.bk_kit.specs.OcodeSteps.{OcodeRuns, OcodeTooSmall, OcodeStartless};
-ghost use Rattle.bk_kit.specs.SourceSections.{HasParts, IsRefused, OcodeRefuses};
+//! The laws of running sources.
+ghost use Rattle.bk_kit.specs.SourceMeaning.{MeaningRuns, MeaningTooSmall, MeaningStartless, MeaningRefuses};
+ghost use Rattle.bk_kit.specs.SourceCode.{FiltersWriteCode, InterpretsSources, FramesAreOfSources};
 
-use bk_gen::back_end;
+use bk_gen::{back_end, parts_are_well_placed, parts_without_start};
+use bk_simulation::{
+    programs_start_with_their_source, steps_do_what_sources_mean, steps_go_on_with_their_source,
+};
+use bk_trans::scheme_is_accepted;
 
-/// Runs of sources, where a source means what the steps of OCODE do on the statements of its sections. Where the loader takes segments
-/// that stand for the sections, a run of the machine is one of the source; where it finds the store too small or no START, so does the
-/// meaning; and a source that is refused is not accepted.
-pub fn ocode_runs()
-    ensures runs { OcodeRuns HasParts IsRefused }
-    ensures too_small { OcodeTooSmall HasParts IsRefused }
-    ensures startless { OcodeStartless HasParts IsRefused }
-    ensures refuses { OcodeRefuses }
+/// Runs of sources. Where the loader takes segments that stand for the sections of an accepted source, a run of the machine is one of
+/// the source, as it is meant; where it finds the store too small or no START, so does the meaning; and a source that is refused is
+/// not accepted.
+pub fn sources_run()
+    ensures runs { MeaningRuns }
+    ensures too_small { MeaningTooSmall }
+    ensures startless { MeaningStartless }
+    ensures refuses { MeaningRefuses }
 {
     back_end();
+    parts_are_well_placed();
+    parts_without_start();
+    steps_do_what_sources_mean();
+    steps_go_on_with_their_source();
+    programs_start_with_their_source();
+}
+
+/// The two filters, one after the other, write the code of a source: texts of segments that stand for its sections.
+pub fn filters_write_code()
+    ensures { FiltersWriteCode }
+{
+    scheme_is_accepted();
+    bk_ocode::one_saying();
+}
+
+/// The code of a source: interpreting texts of segments that stand for its sections promises what running it promises, with the first
+/// word of the stack as the words before it; and the frame that is reported of the code is that of the source.
+pub fn codes_run()
+    ensures interprets { InterpretsSources }
+    ensures frames { FramesAreOfSources }
+{
+    bk_intcode_text::one_saying();
+    back_end();
+    parts_are_well_placed();
+    parts_without_start();
+    steps_do_what_sources_mean();
+    steps_go_on_with_their_source();
+    programs_start_with_their_source();
 }

@@ -1,6 +1,7 @@
 //! A section of a source, compiled.
 ghost use Rattle.std.specs.Prelude.{ℕ, List, ◌≡◌, IfOk, IfErr, map};
 ghost use Rattle.bk_lex.specs.Symbol.{symbols_of};
+ghost use Rattle.bk_ocode.specs.StmtRange.{AreBytes};
 ghost use Rattle.bk_ocode.specs.SectionStmts.{stmts_of};
 ghost use Rattle.bk_kit.specs.CompilingSection.{Translates, Compiled, Refuses, RefusesSymbols};
 
@@ -32,11 +33,17 @@ fn code_of(alloc: Global, symbols: &[Token], end: Line) -> Result<Ocode, KitFaul
     Ok(translate(alloc, &resolved)?)
 }
 
+/// Bytes are such, as their type has it.
+fn are_bytes(bytes: &[u8])
+    ensures { AreBytes bytes.now }
+{}
+
 /// Compiles the first section of a text whose first line has the number `from`.
 pub fn compile_section(alloc: Global, text: &[u8], from: Line) -> Result<CompiledSection, KitFault>
     ensures compiled { IfOk result (λ section. Compiled section text.now from) }
     ensures refuses { IfErr result (λ fault. Refuses fault text.now from) }
 {
+    are_bytes(text);
     let lexed = lex(alloc, text, from)?;
     let next = if lexed.ended { Some(lexed.line) } else { None };
     let symbols = lexed.tokens.as_slice();

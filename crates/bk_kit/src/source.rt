@@ -4,10 +4,12 @@ ghost use Rattle.bk_base.specs.declared.limit.TheConstants.{STORE_LEAST, STORE_M
 ghost use Rattle.bk_intcode.specs.SegmentItems.{items_of};
 ghost use Rattle.bk_kit.specs.Interpreting.{is_read};
 ghost use Rattle.bk_kit.specs.CompilingSection.{codes_in};
-ghost use Rattle.bk_kit.specs.RunningSource.{Generated, Assembled, NotAssembled, LoadsSource, RefusesSource, RunsSource, ReadsSource};
+ghost use Rattle.bk_kit.specs.RunningSource.{Generated, Assembled, NotAssembled, LoadsSource, RefusesSource, ReadsSource};
+ghost use Rattle.bk_kit.specs.Headline.{Headline};
+ghost use Rattle.bk_kit.specs.SourceMeaning.{meanings};
 
 use crate::kit_fault::KitFault;
-use crate::laws::ocode_runs;
+use crate::laws::sources_run;
 use crate::reading::read_section;
 use crate::section::compile_section;
 use bk_base::{ByteIn, ByteOut, End, Limits, Line};
@@ -67,11 +69,15 @@ fn load_source<C: ByteIn>(alloc: Global, source: &mut C, words: u32) -> Result<M
     ensures delivered { ReadsSource (is_read result) (C.left source.old) (C.left source.new) }
     ensures failures { C.faults source.new ≡ (if is_read result then 1 else 0) }
 {
+    sources_run();
     let segments = assemble(alloc, source)?;
     Ok(Machine::load(alloc, segments.as_slice(), words)?)
 }
 
 /// Compiles a source, a section after another, loads the segments of all, and runs them with this input and output.
+///
+/// Its contract is the headline: with enough steps and words the run of an accepted source writes exactly the bytes of its meaning
+/// and gives its end. `docs/HEADLINE.md` goes through it word by word.
 ///
 /// Nothing is run unless all sections were accepted and loaded. Where the source is refused or cannot be read, neither input
 /// nor output is touched, and no byte of the source is asked for behind the section that is refused. `TooSmall` and
@@ -83,14 +89,14 @@ pub fn run_source<C: ByteIn, I: ByteIn, O: ByteOut>(
     input: &mut I,
     out: &mut O,
 ) -> Result<End, KitFault>
-    ensures headline { RunsSource result limits.steps limits.words (C.left source.old) (C.left source.new) (C.ended source.new)
+    ensures headline { Headline meanings result limits.steps limits.words (C.left source.old) (C.left source.new) (C.ended source.new)
         (record { left = I.left input.old; ended = I.ended input.old; taken = O.taken out.old; passed = O.passed out.old; reads = I.faults input.old; writes = O.faults out.old })
         (record { left = I.left input.new; ended = I.ended input.new; taken = O.taken out.new; passed = O.passed out.new; reads = I.faults input.new; writes = O.faults out.new }) }
     ensures delivered { ReadsSource (is_read result) (C.left source.old) (C.left source.new) }
     ensures runs_nothing { OnErr result ((input.new ≡ input.old) × (out.new ≡ out.old)) }
     ensures read_fails { C.faults source.new ≡ (if is_read result then 1 else 0) }
 {
-    ocode_runs();
+    sources_run();
     let mut machine = load_source(alloc, source, limits.words())?;
     Ok(machine.run(limits.steps(), input, out))
 }

@@ -23,6 +23,53 @@ $( LET C = RDCH()
 $)
 ";
 
+/// Runs a source in so many steps and in the least store, or interprets its code so.
+fn within(alloc: Global, source: &[u8], steps: &str, input: &[u8]) -> Result<Outcome, AllocError> {
+    outcome_of(
+        alloc,
+        &["bcpl", "run", "-s", "4096", "-t", steps, "f"],
+        source,
+        input,
+    )
+}
+
+/// In n turns, with d calls active at once, a meaning that ends has its end in 256 n + 272 steps and in the words before the
+/// stack with d + 1 frames of the largest depth and 16 words, here far less than the least store. The turns, one for each node
+/// that is come to and one for each further round of a loop, and the calls are counted by hand.
+#[test]
+fn ends_within_their_numbers(rt: HostRuntime) -> Result<(), Fail> {
+    let alloc = rt.alloc();
+    let rows: [(&[u8], &str, &[u8]); 4] = [
+        // 3 turns, 2 calls
+        (
+            b"GET \"LIBHDR\" LET START() BE WRITES(\"HELLO*N\")",
+            "1040",
+            b"HELLO\n",
+        ),
+        // 11 turns, 2 calls, without input
+        (COPIES, "3088", b"-1"),
+        // 25 turns, 2 calls
+        (
+            b"GET \"LIBHDR\" LET F(P) = VALOF $( !P := 10; RESULTIS 1 $)
+LET START() BE $( LET X = 5; WRITEN(X + F(@X)); WRCH('*S'); WRITEN(X) $)",
+            "6672",
+            b"6 10",
+        ),
+        // 14 turns, 2 calls
+        (
+            b"GET \"LIBHDR\" LET START() BE FOR I = 1 TO 3 DO WRITEN(I)",
+            "3856",
+            b"123",
+        ),
+    ];
+    for (source, steps, output) in rows {
+        let outcome = within(alloc, source, steps, b"")?;
+        assert_eq!(&rt; outcome.status, 0);
+        assert_eq!(&rt; outcome.output.as_slice(), output);
+    }
+    Ok(())
+}
+
 #[test]
 fn each_byte_is_copied(rt: HostRuntime) -> Result<(), Fail> {
     let alloc = rt.alloc();

@@ -178,10 +178,8 @@ destined_stored g s A N C D z c1 rest w w1 w2 there u _ le1 le2 le3 le4 r va (by
 pub assigned_run : (g : Setting) (m : Meanings) → Simulates g m → (xs es : Expressions) (vs ss : List Stretch) (there env : Environment) (z : Sit) (c rest : List Stmt) (w : World) → AreFrom g z.scene z.depth env es vs → AreStores g z.scene (z.depth + 1) there xs ss
     → ByTurns xs es vs ss c rest → env.names ≡ z.env.names → there.names ≡ z.env.names → Ready g z w → RanDid g (start z c w) (for_assigned xs es w) z rest w (assigned m xs there es env w)
 assigned_run g m sim t.none t.none vs ss there env z c rest w fv fs bt ee et r = inl (subst (λ y. ArrivedAt g (start z c w) (for_assigned t.none t.none w) z y z.depth w w) bt (stay g (for_assigned t.none t.none w) z c w (omega arith) (omega arith) r))
-assigned_run g m sim t.none (t.more e es) vs ss there env z c rest w fv fs bt ee et r =
-    inl (subst (λ y. ArrivedAt g (start z c w) (for_assigned t.none (t.more e es) w) z y z.depth w w) bt (stay g (for_assigned t.none (t.more e es) w) z c w (omega arith) (omega arith) r))
-assigned_run g m sim (t.more x xs) t.none vs ss there env z c rest w fv fs bt ee et r =
-    inl (subst (λ y. ArrivedAt g (start z c w) (for_assigned (t.more x xs) t.none w) z y z.depth w w) bt (stay g (for_assigned (t.more x xs) t.none w) z c w (omega arith) (omega arith) r))
+assigned_run g m sim t.none (t.more e es) vs ss there env z c rest w fv fs bt ee et r = absurd bt
+assigned_run g m sim (t.more x xs) t.none vs ss there env z c rest w fv fs bt ee et r = absurd bt
 assigned_run g m sim (t.more x xs) (t.more e es) [] ss there env z c rest w fv fs bt ee et r = absurd bt
 assigned_run g m sim (t.more x xs) (t.more e es) (v ∷ vs) [] there env z c rest w fv fs bt ee et r = absurd bt
 assigned_run g m sim (t.more x xs) (t.more e es) (v ∷ vs) (d ∷ ds) there env z c rest w fv fs bt ee et r =

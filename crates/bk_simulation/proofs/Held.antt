@@ -1,5 +1,6 @@
 -- What lasts, where a setting has its base: its words among the data of the program, and procedures where they are laid.
 use Rattle.std.proofs.Common.{◌≡◌, ℕ, suc, ◌+◌, ◌≤◌, List, [], ◌∷◌, ◌++◌, length, Option, Some, None, slice_get, refl, subst, arith}
+use Rattle.bk_ocode.specs.OcodeState.{Placed}
 use Rattle.bk_ocode.specs.OcodeRun.{Program}
 use Rattle.bk_ocode.specs.SectionData.{Datum}
 use Rattle.bk_ocode.specs.ProgramStart.{all_data}
@@ -36,6 +37,28 @@ held_both g o n [] ys e h i = let s : o + n ≡ o = omega (arith, e) in subst (�
 held_both g o n (x ∷ xs) ys e h i =
     let s : o + n ≡ suc o + length xs = omega (arith, e) in
     (h.0, held_both g (suc o) (length xs) xs ys refl h.1 (subst (λ k. HeldList g k ys) s i))
+
+-- and with each procedure in this section
+abbrev pub HeldOneIn : Setting → Placed → ℕ → Lasting → Type 0
+HeldOneIn g own o global_vector = Unit {0}
+HeldOneIn g own o (words ws) = (b : ℕ) × BaseOf g.lasting o b × InData g.program b ws
+HeldOneIn g own o (code f) = (p : IsProcedure g o f) × (p.scene.own ≡ own) × HeldWord g o f.global
+
+abbrev pub HeldIn : Setting → Placed → ℕ → List Lasting → Type 0
+HeldIn g own o [] = Unit {0}
+HeldIn g own o (x ∷ xs) = HeldOneIn g own o x × HeldIn g own (suc o) xs
+
+pub held_in_both : (g : Setting) (own : Placed) (o n : ℕ) (xs ys : List Lasting) → length xs ≡ n → HeldIn g own o xs → HeldIn g own (o + n) ys → HeldIn g own o (xs ++ ys)
+held_in_both g own o n [] ys e h i = let s : o + n ≡ o = omega (arith, e) in subst (λ k. HeldIn g own k ys) s i
+held_in_both g own o n (x ∷ xs) ys e h i =
+    let s : o + n ≡ suc o + length xs = omega (arith, e) in
+    (h.0, held_in_both g own (suc o) (length xs) xs ys refl h.1 (subst (λ k. HeldIn g own k ys) s i))
+
+pub held_out : (g : Setting) (own : Placed) (o : ℕ) (xs : List Lasting) → HeldIn g own o xs → HeldList g o xs
+held_out g own o [] h = tt
+held_out g own o (global_vector ∷ xs) h = (h.0, held_out g own (suc o) xs h.1)
+held_out g own o (words ws ∷ xs) h = (h.0, held_out g own (suc o) xs h.1)
+held_out g own o (code f ∷ xs) h = ((h.0.0, h.0.2), held_out g own (suc o) xs h.1)
 
 pub lasting_both : (xs ys : List Lasting) → length (xs ++ ys) ≡ length xs + length ys
 lasting_both [] ys = omega arith

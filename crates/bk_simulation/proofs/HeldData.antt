@@ -1,5 +1,5 @@
 -- The words of strings and tables are data of the program.
-use Rattle.std.proofs.Common.{◌≡◌, ℕ, zero, suc, ◌+◌, ◌<◌, ◌^◌, List, [], ◌∷◌, ◌++◌, length, map, Option, Some, None, slice_get, drop, refl, sym, ap, ap₂, ◌∙◌, subst, arith}
+use Rattle.std.proofs.Common.{◌≡◌, ℕ, zero, suc, ◌+◌, ◌<◌, ◌≤◌, ◌^◌, List, [], ◌∷◌, ◌++◌, length, map, Option, Some, None, slice_get, drop, refl, sym, ap, ap₂, ◌∙◌, subst, arith}
 use Rattle.std.specs.Prelude.{unwrap_or}
 use Rattle.bk_base.specs.Word.{signed}
 use Rattle.bk_syntax.specs.Tree as t
@@ -20,8 +20,12 @@ use Rattle.bk_simulation.specs.Regular.{RegularEach}
 use Rattle.bk_simulation.proofs.Leaves.{same_number}
 use Rattle.bk_simulation.proofs.ListPlaces.{get_first}
 use Rattle.bk_simulation.proofs.Sought.{with_names}
+use Rattle.bk_base.specs.declared.limit.TheConstants.{FRAME_WORDS}
+use Rattle.bk_ocode.specs.WellPlaced.{IsWellPlaced}
 use Rattle.bk_simulation.proofs.Held.{InData}
-use Rattle.bk_simulation.proofs.Standing.{Agree, StandsAt}
+use Rattle.bk_simulation.proofs.BasesBelow.{data_below}
+use Rattle.bk_simulation.proofs.NamesAgree.{Agree}
+use Rattle.bk_simulation.proofs.Standing.{StandsAt}
 use Rattle.bk_simulation.proofs.LaidExpressions.{HasWords, constants_agree}
 use Rattle.bk_simulation.proofs.Constants.{constant_small}
 
@@ -60,6 +64,11 @@ statement_data program section own k s rest d is st e =
     let c = section_datum program.sections section own a.0 d is a.1 in
     record { number = c.0; datum = d; at = c.1; placed = refl; is = refl }
 
+-- so its place lies below the first frame
+pub statement_below : (section : ℕ) (own : Placed) (k : ℕ) (s : Stmt) (rest : List Stmt) (d : Datum) → StandsAt own k (s ∷ rest) → datum_of own.places s rest ≡ d ∷ [] → (program : Program) (first : ℕ)
+    → IsWellPlaced program first FRAME_WORDS → slice_get program.sections section ≡ Some own → d.place ≤ first
+statement_below section own k s rest d st e program first well is = data_below program first well d.place d.words (statement_data program section own k s rest d is st e)
+
 -- words one after another
 abbrev pub AreSmall : List ℕ → Type 0
 AreSmall [] = Unit {0}
@@ -73,10 +82,10 @@ pub words_small : (bs : List Binding) (es : Expressions) → HasWords bs → Reg
 words_small bs t.none h r w = tt
 words_small bs (t.more e es) h r w = let x = w.0 in (subst (λ y. worth y < 2 ^ 32) (sym x.1) (constant_small bs h e r.0 x.0 x.1), words_small bs es h r.1 w.1)
 
-worth_is : (y : Option ℕ) → unwrap_or y 0 ≡ worth y
+pub worth_is : (y : Option ℕ) → unwrap_or y 0 ≡ worth y
 worth_is None = refl
 worth_is (Some w) = refl
 
 pub words_agree : (ns : List Named) (bs : List Binding) (i : ℕ) (es : Expressions) → Agree ns bs → constant_words (with_names ns i) es ≡ words_named bs es
 words_agree ns bs i t.none a = refl
-words_agree ns bs i (t.more e es) a = ap₂ (λ x xs. x ∷ xs) (ap (λ y. unwrap_or y 0) (constants_agree ns bs i a e) ∙ worth_is (constant_word bs e)) (words_agree ns bs i es a)
+words_agree ns bs i (t.more e es) a = ap₂ (λ x xs. x ∷ xs) (ap (λ y. unwrap_or y 0) (constants_agree ns bs i a.0 e) ∙ worth_is (constant_word bs e)) (words_agree ns bs i es a)

@@ -230,8 +230,8 @@ pub record Stretch : Type 0 where
 -- values and where they are stored, one after another
 abbrev pub ByTurns : Expressions → Expressions → List Stretch → List Stretch → List Stmt → List Stmt → Type 0
 ByTurns (t.more x xs) (t.more e es) (v ∷ vs) (s ∷ ss) c rest = (c ≡ v.from) × (v.to ≡ s.from) × ByTurns xs es vs ss s.to rest
-ByTurns (t.more x xs) (t.more e es) _ _ c rest = ⊥
-ByTurns xs es vs ss c rest = c ≡ rest
+ByTurns t.none t.none vs ss c rest = c ≡ rest
+ByTurns _ _ vs ss c rest = ⊥
 
 -- two operands; `&` and `|` go on only until the truth is known
 abbrev pub Operands : Setting → Scene → ℕ → Way → Aim → Operator → (Aim → List Stmt → List Stmt → Type 0) → (ℕ → Aim → List Stmt → List Stmt → Type 0) → List Stmt → List Stmt → Type 0
@@ -281,7 +281,7 @@ abbrev mutual
   IsAddress g sc d env (t.binary l o.Subscript m x y) c rest =
       (c1 : List Stmt) × IsCode g sc d env pushes x c c1 × IsCode g sc (d + 1) (past x env) pushes y c1 (Dyadic two.Add ∷ rest)
   IsAddress g sc d env (t.binary l o.Byte m x y) c rest = ⊥
-  IsAddress g sc d env _ c rest = Unit {0}
+  IsAddress g sc d env _ c rest = ⊥
 
   -- several, all at one depth, each in a stretch of its own; and where they are stored
   pub AreFrom : Setting → Scene → ℕ → Environment → Expressions → List Stretch → Type 0
@@ -301,7 +301,7 @@ abbrev mutual
       (c1 : List Stmt) × IsCode g sc d env pushes x c c1 × IsCode g sc (d + 1) (past x env) pushes y c1 (Dyadic two.Add ∷ AssignAt ∷ rest)
   IsStore g sc d env (t.binary l o.Byte m x y) c rest =
       (c1 : List Stmt) × IsCode g sc d env pushes x c c1 × IsCode g sc (d + 1) (past x env) pushes y c1 (AssignByte ∷ rest)
-  IsStore g sc d env _ c rest = Unit {0}
+  IsStore g sc d env _ c rest = ⊥
 
   -- A command: `at` says where the places in it are that may be sought.
   pub IsAct : Setting → Scene → ℕ → Environment → Action → (Sought → List Stmt) → List Stmt → List Stmt → Type 0

@@ -9,7 +9,6 @@ use Rattle.bk_scope.specs.declared.bound.Bound.TheVariants as b
 use Rattle.bk_scope.specs.declared.place.Place.{Place}
 use Rattle.bk_scope.specs.Places as place
 use Rattle.bk_scope.specs.Scope.{Binding, bound_in, bind}
-use Rattle.bk_scope.specs.Constants.{named_word}
 use Rattle.bk_scope.specs.Entering.{labels_of, labels_of_each}
 use Rattle.bk_scope.specs.Scoping.{labels_in_scope}
 use Rattle.bk_scope.specs.Sound.{GoesTo}
@@ -25,17 +24,20 @@ use Rattle.bk_trans.specs.Program.{Command, Commands}
 use Rattle.bk_trans.specs.Naming.{meant, worth}
 use Rattle.bk_trans.specs.Parts.{target_of_label}
 use Rattle.bk_trans.specs.Scheme.{goal_in, cases, cases_through, default_in, default_through, first_of, label_or}
-use Rattle.bk_meaning.specs.Environment.{Named, Sense, label, bind_each, sense_in, word_named, global_named, labelled, objects_of_each, objects_of_action, objects_of_actions}
+use Rattle.bk_meaning.specs.Environment.{Named, Sense, label, bind_each, labelled, objects_of_each, objects_of_action, objects_of_actions}
 use Rattle.bk_meaning.specs.Seeking.{Sought, the_label, the_case, the_default, same_place, stands_in, stands_in_one}
 use Rattle.bk_meaning.specs.Scopes.{alone}
+use Rattle.bk_trans.proofs.Scopes.{AllFound}
 use Rattle.bk_simulation.proofs.Sizes.{turns_in}
 use Rattle.bk_simulation.proofs.Leaves.{same_number}
 use Rattle.bk_simulation.proofs.Sought.{with_names, label_stands}
 use Rattle.bk_simulation.proofs.Laid.{Scene, in_loop, in_switch, owning, Stretch, ByTurns, AreFrom, AreStores, AreActs, IsAct, IsAlone}
 use Rattle.bk_meaning.specs.Lasting.{of_each, of_action, of_actions, in_scope}
 use Rattle.bk_simulation.proofs.NamesBound.{labels_named}
-use Rattle.bk_simulation.proofs.Standing.{Agree, AgreeGlobals, global_of, there_in, bases_inside, bases_of, StandsAt, first_of as first_at, home, Bases, bases_so, Lies}
-use Rattle.bk_simulation.proofs.LaidExpressions.{HasWords, Around, AllFound, known, InNames}
+use Rattle.bk_simulation.proofs.NamesAgree.{Agree, agree_bound}
+use Rattle.bk_simulation.proofs.LastingKinds.{Kind, kinds_in, kinds_through}
+use Rattle.bk_simulation.proofs.Standing.{there_in, bases_inside, bases_of, StandsAt, first_of as first_at, home, Bases, bases_so, Lies}
+use Rattle.bk_simulation.proofs.LaidExpressions.{HasWords, Around, known, InNames}
 
 -- What stands around a command: an expression's, and the exits that there are.
 pub record Doing (sc : Scene) (p : Place) (d : ℕ) : Type 0 where
@@ -74,22 +76,22 @@ finds_nothing own ts bs d at = record {
 -- A command that is laid, and its places.
 pub record Done (pay : ℕ) (sc : Scene) (i : ℕ) (a : Action) (d n : ℕ) (k : Command) (c rest : List Stmt) : Type 0 where
   pub at : Sought → List Stmt
-  pub lies : Lies (home sc pay) i (objects_of_action a) d rest (λ ns. of_action (with_names ns i) a) (InNames sc.bindings i (λ g env. IsAct g sc d env a at c rest))
+  pub lies : Lies (home sc pay) i (objects_of_action a) d rest (kinds_in n k) (λ ns. of_action (with_names ns i) a) (InNames sc.bindings i (λ g env. IsAct g sc d env a at c rest))
   pub finds : Finds sc.own sc.targets sc.bindings d a n k at
 
 -- commands in order
 pub record DoneEach (pay : ℕ) (sc : Scene) (i : ℕ) (a : Actions) (d n : ℕ) (k : Commands) (c rest : List Stmt) : Type 0 where
   pub at : Sought → List Stmt
-  pub lies : Lies (home sc pay) i (objects_of_actions a) d rest (λ ns. of_actions (with_names ns i) a) (InNames sc.bindings i (λ g env. AreActs g sc d env a at c rest))
+  pub lies : Lies (home sc pay) i (objects_of_actions a) d rest (kinds_through n k) (λ ns. of_actions (with_names ns i) a) (InNames sc.bindings i (λ g env. AreActs g sc d env a at c rest))
   pub finds : FindsEach sc.own sc.targets sc.bindings d a n k at
 
 -- values and where they are stored, by turns
-pub record Turns (pay : ℕ) (sc : Scene) (i j : ℕ) (xs es : Expressions) (d : ℕ) (c rest : List Stmt) : Type 0 where
+pub record Turns (pay : ℕ) (sc : Scene) (i j : ℕ) (xs es : Expressions) (d : ℕ) (c rest : List Stmt) (stored given : List Kind) : Type 0 where
   pub vs : List Stretch
   pub ss : List Stretch
   pub on : StandsAt sc.own d rest
-  pub from : Bases (home sc pay) j (objects_of_each es) (λ ns. of_each (with_names ns j) es) (InNames sc.bindings j (λ g env. AreFrom g sc d env es vs))
-  pub stores : Bases (home sc pay) i (objects_of_each xs) (λ ns. of_each (with_names ns i) xs) (InNames sc.bindings i (λ g env. AreStores g sc (d + 1) env xs ss))
+  pub from : Bases (home sc pay) j (objects_of_each es) given (λ ns. of_each (with_names ns j) es) (InNames sc.bindings j (λ g env. AreFrom g sc d env es vs))
+  pub stores : Bases (home sc pay) i (objects_of_each xs) stored (λ ns. of_each (with_names ns i) xs) (InNames sc.bindings i (λ g env. AreStores g sc (d + 1) env xs ss))
   pub turns : ByTurns xs es vs ss c rest
 
 pub doing_loop : (sc : Scene) (p : Place) (d n m e : ℕ) → Doing sc p d → Doing (in_loop n m e sc) (place.looping p) d
@@ -233,11 +235,7 @@ words_variable j d x bs h y v e = picked (bytes_eq x y) e
 pub agree_labels : (k n : ℕ) (xs : List (List ℕ)) (ns : List Named) (bs : List Binding) (i : ℕ) → Agree ns bs
     → Agree (bind_each xs label (with_names ns i)).names (labels_in_scope k n xs bs) × ((bind_each xs label (with_names ns i)).next ≡ i)
 agree_labels k n [] ns bs i a = (a, refl)
-agree_labels k n (x ∷ xs) ns bs i a = agree_labels k (n + 1) xs (record { name = x; sense = label } ∷ ns) (bind x (b.Label k n) bs) i (λ y. picked (bytes_eq x y) y)
-  where
-    picked : (q : Bool) (y : List ℕ) → word_named (cond q (Some label) (sense_in ns y)) ≡ named_word (cond q (Some (b.Label k n)) (bound_in bs y))
-    picked true y = refl
-    picked false y = a y
+agree_labels k n (x ∷ xs) ns bs i a = agree_labels k (n + 1) xs (record { name = x; sense = label } ∷ ns) (bind x (b.Label k n) bs) i (agree_bound x label (b.Label k n) ns bs refl refl a)
 
 cond_same : {A : Type 0} (q : Bool) (x : A) → x ≡ cond q x x
 cond_same true x = refl
@@ -247,14 +245,6 @@ or_none : (q : Bool) → (q || false) ≡ true → q ≡ true
 or_none true e = refl
 or_none false e = e
 
-globals_labels : (k n : ℕ) (xs : List (List ℕ)) (ns : List Named) (bs : List Binding) → AgreeGlobals ns bs → AgreeGlobals (bind_each xs label (with_names ns 0)).names (labels_in_scope k n xs bs)
-globals_labels k n [] ns bs a = a
-globals_labels k n (x ∷ xs) ns bs a = globals_labels k (n + 1) xs (record { name = x; sense = label } ∷ ns) (bind x (b.Label k n) bs) (λ y. picked (bytes_eq x y) y)
-  where
-    picked : (q : Bool) (y : List ℕ) → global_named (cond q (Some label) (sense_in ns y)) ≡ global_of (cond q (Some (b.Label k n)) (bound_in bs y))
-    picked true y = refl
-    picked false y = a y
-
 -- names bound to one sense
 pub names_bound : (xs : List (List ℕ)) (m : Sense) (ns : List Named) (i : ℕ) → bind_each xs m (with_names ns i) ≡ with_names (bind_each xs m (with_names ns 0)).names i
 names_bound [] m ns i = refl
@@ -263,7 +253,7 @@ names_bound (x ∷ xs) m ns i = names_bound xs m (record { name = x; sense = m }
 -- one command as a scope of its own
 pub alone_lies : (pay : ℕ) (sc : Scene) (i : ℕ) (a : Action) (d n : ℕ) (k : Command) (c rest : List Stmt) (j q : ℕ) → q ≡ sc.procedure → turns_in a ≤ pay
     → Done pay (record sc { bindings = labels_in_scope q j (labels_of a) sc.bindings }) i a d n k c rest
-    → Lies (home sc pay) i (objects_of_action a) d rest (λ ns. of_action (in_scope a (with_names ns i)) a) (InNames sc.bindings i (λ g env. IsAlone g sc d env a j c rest))
+    → Lies (home sc pay) i (objects_of_action a) d rest (kinds_in n k) (λ ns. of_action (in_scope a (with_names ns i)) a) (InNames sc.bindings i (λ g env. IsAlone g sc d env a j c rest))
 alone_lies pay sc i a d n k c rest j q same size done =
     let done1 = subst (λ x. Done pay (record sc { bindings = labels_in_scope x j (labels_of a) sc.bindings }) i a d n k c rest) same done in
     let done2 = subst (λ x. Done pay (record sc { bindings = labels_in_scope sc.procedure j x sc.bindings }) i a d n k c rest) (sym (append-nil (labels_of a))) done1 in
@@ -271,7 +261,7 @@ alone_lies pay sc i a d n k c rest j q same size done =
     let within = owning j (alone a) sc in
     let h = home sc pay in
     let inside = bases_inside h within.bindings i (objects_of_action a) _ (λ ns. (bind_each xs label (with_names ns 0)).names)
-    (λ g ns u v. ((agree_labels sc.procedure j xs ns sc.bindings 0 u).0, ((λ k bases frame grown. record { each = (labels_named xs (there_in h sc.procedure) (with_names ns 0) bases frame j (v.0 sc.procedure bases frame grown)).each }), globals_labels sc.procedure j xs ns sc.bindings v.1))) done2.lies.objects_are in
+    (λ g ns u v. ((agree_labels sc.procedure j xs ns sc.bindings 0 u).0, (λ k bases frame grown. record { each = (labels_named xs (there_in h sc.procedure) (with_names ns 0) bases frame j (v sc.procedure bases frame grown)).each }))) done2.lies.objects_are in
     let said = bases_of h i (objects_of_action a) _ (λ ns. of_action (in_scope a (with_names ns i)) a) _ (λ ns. ap (λ e. of_action e a) (sym (names_bound xs label ns i))) inside in
     record {
       on = done2.lies.on;

@@ -27,13 +27,16 @@ use Rattle.bk_trans.specs.declared.around.Target.{Target}
 use Rattle.bk_trans.specs.Program as term
 use Rattle.bk_trans.specs.Naming.{term_named, condition_named}
 use Rattle.bk_trans.specs.Parts.{Part, target_of, parts, parts_if}
-use Rattle.bk_trans.specs.Scheme.{goal, goal_of, push, infix_code, truth_value, value_code, jump_code, procedure_code, data_code}
+use Rattle.bk_trans.specs.Scheme.{push, infix_code, truth_value, value_code, jump_code, procedure_code, data_code}
+use Rattle.bk_trans.proofs.Scopes.{AllFound}
 use Rattle.bk_meaning.specs.Environment.{Named, Sense, constant, label, Environment, sense_in, word_named, constant_in}
 use Rattle.bk_meaning.specs.Seeking.{Sought, the_label, the_case, the_default, same_place, is_label, stands_in, stands_in_one}
 use Rattle.bk_simulation.proofs.Sought.{with_names}
 use Rattle.bk_simulation.proofs.Laid.{Setting, Scene, Aim, pushes, jumps, ending}
 use Rattle.bk_meaning.specs.Lasting.{Lasting}
-use Rattle.bk_simulation.proofs.Standing.{Agree, StandsAt, passed, Home, Fitting, no_bases, Lies}
+use Rattle.bk_simulation.proofs.NamesAgree.{Agree, AgreeWords}
+use Rattle.bk_simulation.proofs.Standing.{StandsAt, passed, Home, home, Fitting, no_bases, Lies}
+use Rattle.bk_simulation.proofs.LastingKinds.{Kind, kinds, kinds_if}
 
 -- what the scheme gives for a value and for a jump
 abbrev pub coded : Scene → Place → Spot → ℕ → ℕ → Aim → Expression → List Stmt
@@ -44,6 +47,10 @@ abbrev pub own_parts : Scene → Place → Spot → ℕ → ℕ → Aim → Expr
 own_parts sc p s d n pushes e = parts d n (term_named sc.bindings p s e)
 own_parts sc p s d n (jumps u l) e = parts_if d n (condition_named sc.bindings p s e)
 
+abbrev pub own_kinds : Scene → Place → Spot → ℕ → Aim → Expression → List Kind
+own_kinds sc p s n pushes e = kinds n (term_named sc.bindings p s e)
+own_kinds sc p s n (jumps u l) e = kinds_if n (condition_named sc.bindings p s e)
+
 abbrev pub role : Aim → Role
 role pushes = Value
 role (jumps u l) = Truth
@@ -51,11 +58,6 @@ role (jumps u l) = Truth
 abbrev pub level : Aim → ℕ → ℕ
 level pushes d = d + 1
 level (jumps u l) d = d
-
--- targets that are found by their numbers
-abbrev pub AllFound : List Target → List Target → Type 0
-AllFound ts [] = Unit {0}
-AllFound ts (x ∷ xs) = (goal_of ts x.number ≡ goal x.label x.depth) × AllFound ts xs
 
 -- code that stands somewhere in a section, whatever the depth before it
 pub record StandsIn (own : Placed) (code : List Stmt) : Type 0 where
@@ -103,7 +105,7 @@ around_deeper sc p d k m e low a =
 
 -- ---- names
 
-pub constants_agree : (ns : List Named) (bs : List Binding) (i : ℕ) → Agree ns bs → (e : Expression) → constant_in (with_names ns i) e ≡ constant_word bs e
+pub constants_agree : (ns : List Named) (bs : List Binding) (i : ℕ) → AgreeWords ns bs → (e : Expression) → constant_in (with_names ns i) e ≡ constant_word bs e
 constants_agree ns bs i a (t.name l x) = a x
 constants_agree ns bs i a (t.number l n) = refl
 constants_agree ns bs i a (t.text l x) = refl
@@ -143,7 +145,7 @@ either_agrees : (q : Bool) (u v : Option Sense) (x y : Option Bound) → word_na
 either_agrees true u v x y h i = h
 either_agrees false u v x y h i = i
 
-pub known_agree : (bs : List Binding) → Agree (names_of bs) bs
+pub known_agree : (bs : List Binding) → AgreeWords (names_of bs) bs
 known_agree [] y = refl
 known_agree (x ∷ xs) y = either_agrees (bytes_eq x.name y) (Some (sense_for x.bound)) (sense_in (names_of xs) y) (Some x.bound) (bound_in xs y) (sense_agrees x.bound) (known_agree xs y)
 
@@ -172,10 +174,10 @@ mutual
   stands_one_by s u v f (t.also c cs) = ap (λ y. y || stands_in_one s u cs) (stands_by s u v f c) ∙ ap (λ y. stands_in s v c || y) (stands_one_by s u v f cs)
 
 pub stands_agree : (s : Sought) (ns : List Named) (bs : List Binding) (i : ℕ) → Agree ns bs → (c : Action) → stands_in s (with_names ns i) c ≡ stands_in s (known bs) c
-stands_agree s ns bs i a c = stands_by s (with_names ns i) (known bs) (λ e. constants_agree ns bs i a e ∙ sym (constants_agree (names_of bs) bs 0 (known_agree bs) e)) c
+stands_agree s ns bs i a c = stands_by s (with_names ns i) (known bs) (λ e. constants_agree ns bs i a.0 e ∙ sym (constants_agree (names_of bs) bs 0 (known_agree bs) e)) c
 
 pub stands_one_agree : (s : Sought) (ns : List Named) (bs : List Binding) (i : ℕ) → Agree ns bs → (cs : Actions) → stands_in_one s (with_names ns i) cs ≡ stands_in_one s (known bs) cs
-stands_one_agree s ns bs i a cs = stands_one_by s (with_names ns i) (known bs) (λ e. constants_agree ns bs i a e ∙ sym (constants_agree (names_of bs) bs 0 (known_agree bs) e)) cs
+stands_one_agree s ns bs i a cs = stands_one_by s (with_names ns i) (known bs) (λ e. constants_agree ns bs i a.0 e ∙ sym (constants_agree (names_of bs) bs 0 (known_agree bs) e)) cs
 
 -- ---- expressions that have no jumps of their own
 
@@ -190,20 +192,31 @@ pub plain_parts : (sc : Scene) (p : Place) (s : Spot) (d n : ℕ) (aim : Aim) (e
 plain_parts sc p s d n pushes e h f = f
 plain_parts sc p s d n (jumps u l) e h f = subst (λ x. FoundParts sc.own sc.targets (parts_if d n x)) h f
 
+pub plain_kinds : (sc : Scene) (p : Place) (s : Spot) (n : ℕ) (aim : Aim) (e : Expression) → condition_named sc.bindings p s e ≡ term.holds (term_named sc.bindings p s e)
+    → kinds n (term_named sc.bindings p s e) ≡ own_kinds sc p s n aim e
+plain_kinds sc p s n pushes e h = refl
+plain_kinds sc p s n (jumps u l) e h = sym (ap (λ x. kinds_if n x) h)
+
 -- behind the value, and the jump if it is one
 pub ended : (own : Placed) (d : ℕ) (aim : Aim) (rest : List Stmt) → StandsAt own (d + 1) (ending aim rest) → StandsAt own (level aim d) rest
 ended own d pushes rest h = h
 ended own d (jumps u l) rest h = passed own (d + 1) d (JumpIf u l) rest h (omega arith)
 
-pub lies_ended : (h : Home) (next many d : ℕ) (aim : Aim) (rest : List Stmt) {L : List Named → List Lasting} (P : Setting → Type 0) → Lies h next many (d + 1) (ending aim rest) L P → Lies h next many (level aim d) rest L P
+pub lies_ended : (h : Home) (next many d : ℕ) (aim : Aim) (rest : List Stmt) {ks : List Kind} {L : List Named → List Lasting} (P : Setting → Type 0) → Lies h next many (d + 1) (ending aim rest) ks L P
+    → Lies h next many (level aim d) rest ks L P
 lies_ended h next many d aim rest P a = record { on = ended h.own d aim rest a.on; objects_are = a.objects_are }
+
+pub plain_lies : (pay : ℕ) (sc : Scene) (p : Place) (s : Spot) (i d n : ℕ) (aim : Aim) (e : Expression) (many : ℕ) (rest : List Stmt) {L : List Named → List Lasting} (P : Setting → Type 0)
+    → condition_named sc.bindings p s e ≡ term.holds (term_named sc.bindings p s e) → Lies (home sc pay) i many (level aim d) rest (kinds n (term_named sc.bindings p s e)) L P
+    → Lies (home sc pay) i many (level aim d) rest (own_kinds sc p s n aim e) L P
+plain_lies pay sc p s i d n aim e many rest {L} P h a = subst (λ ks. Lies (home sc pay) i many (level aim d) rest ks L P) (plain_kinds sc p s n aim e h) a
 
 -- one statement that pushes
 pub leaf_on : (own : Placed) (d : ℕ) (aim : Aim) (c rest : List Stmt) (x : Stmt) → c ≡ x ∷ ending aim rest → next_depth d x ≡ d + 1 → StandsAt own d c → StandsAt own (level aim d) rest
 leaf_on own d aim c rest x e m st = ended own d aim rest (passed own d (d + 1) x (ending aim rest) (subst (λ y. StandsAt own d y) e st) m)
 
 pub leaf_lies : (h : Home) (next d : ℕ) (aim : Aim) (c rest : List Stmt) (x : Stmt) (P : Setting → Type 0) → c ≡ x ∷ ending aim rest → next_depth d x ≡ d + 1 → StandsAt h.own d c
-    → ((g : Setting) → Fitting h g → P g) → Lies h next 0 (level aim d) rest (λ ns. []) P
+    → ((g : Setting) → Fitting h g → P g) → Lies h next 0 (level aim d) rest [] (λ ns. []) P
 leaf_lies h next d aim c rest x P e m st f = record { on = leaf_on h.own d aim c rest x e m st; objects_are = no_bases h next P f }
 
 pub pushed_depth : (ts : List Target) (k : ℕ) (x : Bound) → next_depth k (push ts x) ≡ k + 1
@@ -247,3 +260,7 @@ joined_two x y r c e = e ∙ append_assoc x y r
 
 pub joined_three : (x y z r c : List Stmt) → c ≡ (x ++ y ++ z) ++ r → c ≡ x ++ (y ++ (z ++ r))
 joined_three x y z r c e = e ∙ append_assoc (x ++ y) z r ∙ append_assoc x y (z ++ r)
+
+-- the codes of `E1 -> E2, E3`
+pub joined_choice : (x y g h v r c : List Stmt) → c ≡ (x ++ y ++ (g ++ v) ++ h) ++ r → c ≡ x ++ (y ++ (g ++ (v ++ (h ++ r))))
+joined_choice x y g h v r c e = e ∙ append_assoc ((x ++ y) ++ (g ++ v)) h r ∙ append_assoc (x ++ y) (g ++ v) (h ++ r) ∙ append_assoc x y ((g ++ v) ++ (h ++ r)) ∙ ap (λ k. x ++ (y ++ k)) (append_assoc g v (h ++ r))

@@ -10,7 +10,6 @@ use Rattle.bk_scope.specs.declared.bound.Bound.{Bound}
 use Rattle.bk_scope.specs.declared.bound.Bound.TheVariants as b
 use Rattle.bk_scope.specs.declared.place.Place.{Place}
 use Rattle.bk_scope.specs.Scope.{Binding, bound_in, bind}
-use Rattle.bk_scope.specs.Constants.{named_word}
 use Rattle.bk_scope.specs.Entering.{labels_of, with_formals}
 use Rattle.bk_scope.specs.Places as place
 use Rattle.bk_scope.specs.Places.{kept}
@@ -21,6 +20,8 @@ use Rattle.bk_scope.specs.Spots.{Spot}
 use Rattle.bk_ocode.specs.Depth.{next_depth, depth_behind}
 use Rattle.bk_ocode.specs.Lists.{joined}
 use Rattle.bk_ocode.specs.OcodeState.{Placed, global_place}
+use Rattle.bk_ocode.specs.OcodeRun.{Program}
+use Rattle.bk_ocode.specs.WellPlaced.{IsWellPlaced}
 use Rattle.bk_ocode.specs.SectionData.{item_words}
 use Rattle.bk_ocode.specs.declared.stmt.Stmt.{Stmt}
 use Rattle.bk_ocode.specs.declared.stmt.Stmt.TheVariants.{Entry, Save, Return, ReturnItem, EndProcedure, DataLabel, DataAddress}
@@ -30,7 +31,7 @@ use Rattle.bk_trans.specs.Labels.{labels_of_procedure}
 use Rattle.bk_trans.specs.Naming.{meant, term_named, command_named}
 use Rattle.bk_trans.specs.Parts.{procedure}
 use Rattle.bk_trans.specs.Scheme.{variable, outermost, value_code, command_code, procedure_code, word_code}
-use Rattle.bk_meaning.specs.Environment.{Named, Environment, cell, foreign, bind_each, sense_in, word_named, global_named, letters, objects, objects_of_action}
+use Rattle.bk_meaning.specs.Environment.{Named, Sense, Environment, cell, foreign, bind_each, sense_in, word_named, global_named, letters, objects, objects_of_action}
 use Rattle.bk_meaning.specs.Environment as m
 use Rattle.bk_meaning.specs.Lasting.{Body, command, expression, Lasting, code, of_action, of_expression, in_scope}
 use Rattle.bk_meaning.specs.Calls.{bind_formals}
@@ -40,9 +41,11 @@ use Rattle.bk_simulation.proofs.Sought.{with_names}
 use Rattle.bk_simulation.proofs.Laid.{Setting, Scene, pushes, IsCode, IsAlone, place_of, IsWord, NamedIn}
 use Rattle.bk_simulation.proofs.NamesBound.{bound_named}
 use Rattle.bk_simulation.proofs.Procedures.{IsBody, IsProcedure}
-use Rattle.bk_simulation.proofs.Held.{InData, HeldWord, HeldList}
-use Rattle.bk_simulation.proofs.HeldData.{statement_data}
-use Rattle.bk_simulation.proofs.Standing.{Follow, FollowWords, Agree, AgreeGlobals, global_of, there_in, bases_inside, bases_of, StandsAt, first_of, passed, written, Home, home, Suits, Bases, bases_so, Lies}
+use Rattle.bk_simulation.proofs.Held.{InData, HeldWord, HeldIn}
+use Rattle.bk_simulation.proofs.HeldData.{statement_data, statement_below}
+use Rattle.bk_simulation.proofs.NamesAgree.{Agree, SameGlobal, global_of, same_global, own_cell, agree_bound}
+use Rattle.bk_simulation.proofs.LastingKinds.{Kind, entry, kinds, kinds_in, bound_global, IsCalled, word_base}
+use Rattle.bk_simulation.proofs.Standing.{Follow, FollowWords, there_in, bases_inside, bases_of, StandsAt, first_of, passed, written, Home, home, Suits, Bases, bases_so, Lies}
 use Rattle.bk_simulation.proofs.LaidExpressions.{StandsIn, DataIn, HasWords, Around, InNames, joined_two}
 use Rattle.bk_simulation.proofs.LaidCommands.{Doing, Done, words_labels, names_bound, alone_lies}
 
@@ -72,15 +75,12 @@ words_formals j d (x ∷ xs) bs h = words_formals j (kept (d + 1)) xs (bind x.le
     picked true y v e = absurd (cc)
     picked false y v e = h y v e
 
--- formals hide constants in the same way here and there
-pub agree_formals : (j d o k : ℕ) (fs : List Mention) (ns : List Named) (bs : List Binding) (i : ℕ) → Agree ns bs
+-- formals hide names in the same way here and there
+pub agree_formals : (j d o k : ℕ) (fs : List Mention) (ns : List Named) (bs : List Binding) (i : ℕ) → 0 < o → Agree ns bs
     → Agree (bind_formals o k (letters fs) (with_names ns i)).names (with_formals j d fs bs) × ((bind_formals o k (letters fs) (with_names ns i)).next ≡ i)
-agree_formals j d o k [] ns bs i a = (a, refl)
-agree_formals j d o k (x ∷ xs) ns bs i a = agree_formals j (kept (d + 1)) o (suc k) xs (record { name = x.letters; sense = cell o k } ∷ ns) (bind x.letters (b.Variable j d) bs) i (λ y. picked (bytes_eq x.letters y) y)
-  where
-    picked : (q : Bool) (y : List ℕ) → word_named (cond q (Some (cell o k)) (sense_in ns y)) ≡ named_word (cond q (Some (b.Variable j d)) (bound_in bs y))
-    picked true y = refl
-    picked false y = a y
+agree_formals j d o k [] ns bs i some a = (a, refl)
+agree_formals j d o k (x ∷ xs) ns bs i some a =
+    agree_formals j (kept (d + 1)) o (suc k) xs (record { name = x.letters; sense = cell o k } ∷ ns) (bind x.letters (b.Variable j d) bs) i some (agree_bound x.letters (cell o k) (b.Variable j d) ns bs refl (own_cell o k some) a)
 
 -- formals are the words behind the links of the frame
 pub formals_named : (sc : Scene) (j o k d : ℕ) (fs : List Mention) (bs : List Binding) (env : Environment) (bases : List ℕ) (frame : ℕ) → d ≡ k + 2 → d + length fs ≤ FRAME_WORDS → BaseOf bases o (frame + 2)
@@ -96,22 +96,11 @@ formals_named sc j o k d (x ∷ xs) bs env bases frame e few base low n =
     (bound_named (record sc { bindings = bs }) env bases frame x.letters (b.Variable j d) (cell o k)
     (frame + 2, base, small, there ∙ ap (λ y. place_of sc.own frame (variable sc.targets (meant y))) (sym mine), subst (λ y. IsWord y) (sym mine) tt) n)
 
--- formals are foreign before the run, and hide constants as they do in it
+-- formals are foreign before the run, and hide names as they do in it
 foreign_agree : (j d : ℕ) (fs : List Mention) (ns : List Named) (bs : List Binding) → Agree ns bs → Agree (bind_each (letters fs) foreign (with_names ns 0)).names (with_formals j d fs bs)
 foreign_agree j d [] ns bs a = a
-foreign_agree j d (x ∷ xs) ns bs a = foreign_agree j (kept (d + 1)) xs (record { name = x.letters; sense = foreign } ∷ ns) (bind x.letters (b.Variable j d) bs) (λ y. picked (bytes_eq x.letters y) y)
-  where
-    picked : (q : Bool) (y : List ℕ) → word_named (cond q (Some foreign) (sense_in ns y)) ≡ named_word (cond q (Some (b.Variable j d)) (bound_in bs y))
-    picked true y = refl
-    picked false y = a y
-
-foreign_globals : (j d : ℕ) (fs : List Mention) (ns : List Named) (bs : List Binding) → AgreeGlobals ns bs → AgreeGlobals (bind_each (letters fs) foreign (with_names ns 0)).names (with_formals j d fs bs)
-foreign_globals j d [] ns bs a = a
-foreign_globals j d (x ∷ xs) ns bs a = foreign_globals j (kept (d + 1)) xs (record { name = x.letters; sense = foreign } ∷ ns) (bind x.letters (b.Variable j d) bs) (λ y. picked (bytes_eq x.letters y) y)
-  where
-    picked : (q : Bool) (y : List ℕ) → global_named (cond q (Some foreign) (sense_in ns y)) ≡ global_of (cond q (Some (b.Variable j d)) (bound_in bs y))
-    picked true y = refl
-    picked false y = a y
+foreign_agree j d (x ∷ xs) ns bs a =
+    foreign_agree j (kept (d + 1)) xs (record { name = x.letters; sense = foreign } ∷ ns) (bind x.letters (b.Variable j d) bs) (agree_bound x.letters foreign (b.Variable j d) ns bs refl refl a)
 
 foreign_named : (sc : Scene) (j d : ℕ) (fs : List Mention) (bs : List Binding) (env : Environment) (bases : List ℕ) (frame : ℕ) → NamedIn (record sc { bindings = bs }) env bases frame
     → NamedIn (record sc { bindings = with_formals j d fs bs }) (bind_each (letters fs) foreign env) bases frame
@@ -119,13 +108,13 @@ foreign_named sc j d [] bs env bases frame n = n
 foreign_named sc j d (x ∷ xs) bs env bases frame n =
     foreign_named sc j (kept (d + 1)) xs (bind x.letters (b.Variable j d) bs) (m.bind x.letters foreign env) bases frame (bound_named (record sc { bindings = bs }) env bases frame x.letters (b.Variable j d) foreign tt n)
 
-formals_around : (pay section : ℕ) (own : Placed) (ts : List Target) (bs : List Binding) (k : ℕ) (fs : List Mention) (i many : ℕ) (L : List Named → List Lasting) (P : Setting → Type 0)
-    → Bases (record { section = section; own = own; targets = ts; bindings = with_formals k 2 fs bs; pay = pay }) i many L P
-    → Bases (record { section = section; own = own; targets = ts; bindings = bs; pay = pay }) i many (λ ns. L ((bind_each (letters fs) foreign (with_names ns 0)).names)) P
-formals_around pay section own ts bs k fs i many L P a =
+formals_around : (pay section : ℕ) (own : Placed) (ts : List Target) (bs : List Binding) (k : ℕ) (fs : List Mention) (i many : ℕ) (ks : List Kind) (L : List Named → List Lasting) (P : Setting → Type 0)
+    → Bases (record { section = section; own = own; targets = ts; bindings = with_formals k 2 fs bs; pay = pay }) i many ks L P
+    → Bases (record { section = section; own = own; targets = ts; bindings = bs; pay = pay }) i many ks (λ ns. L ((bind_each (letters fs) foreign (with_names ns 0)).names)) P
+formals_around pay section own ts bs k fs i many ks L P a =
     let h : Home = record { section = section; own = own; targets = ts; bindings = bs; pay = pay } in
     bases_inside h (with_formals k 2 fs bs) i many P (λ ns. (bind_each (letters fs) foreign (with_names ns 0)).names)
-    (λ g ns u v. (foreign_agree k 2 fs ns bs u, ((λ q bases frame grown. record { each = (foreign_named (there_in h q) k 2 fs bs (with_names ns 0) bases frame (v.0 q bases frame grown)).each }), foreign_globals k 2 fs ns bs v.1))) a
+    (λ g ns u v. (foreign_agree k 2 fs ns bs u, (λ q bases frame grown. record { each = (foreign_named (there_in h q) k 2 fs bs (with_names ns 0) bases frame (v q bases frame grown)).each }))) a
 
 -- ---- procedures
 
@@ -139,15 +128,15 @@ of_body (command a) env = of_action (in_scope a env) a
 of_body (expression e) env = of_expression env e
 
 -- A procedure that is laid: its ENTRY with this label, its SAVE, and its body, with formals that are any object.
-pub record ProcedureLies (pay section : ℕ) (own : Placed) (ts : List Target) (bs : List Binding) (k : ℕ) (fs : List Mention) (i many : ℕ) (body : Body) (n : ℕ) : Type 0 where
+pub record ProcedureLies (pay section : ℕ) (own : Placed) (ts : List Target) (bs : List Binding) (k : ℕ) (fs : List Mention) (i many : ℕ) (body : Body) (n : ℕ) (ks : List Kind) : Type 0 where
   pub place : ℕ
   pub name : List ℕ
   pub at : slice_get own.stmts place ≡ Some (Entry n name)
   pub code : List Stmt
   pub behind : drop (suc place) own.stmts ≡ Save (length fs + 2) ∷ code
   pub few : length fs + 2 ≤ FRAME_WORDS
-  pub objects_are : Bases (record { section = section; own = own; targets = ts; bindings = bs; pay = pay }) i many (λ ns. of_body body (bind_each (letters fs) foreign (with_names ns i)))
-      (λ g. (ns : List Named) → Agree ns bs → (o : ℕ) → IsBody g (scene_of section own ts (with_formals k 2 fs bs) k) (length fs + 2) (bind_formals o 0 (letters fs) (with_names ns i)) body code)
+  pub objects_are : Bases (record { section = section; own = own; targets = ts; bindings = bs; pay = pay }) i many ks (λ ns. of_body body (bind_each (letters fs) foreign (with_names ns i)))
+      (λ g. (ns : List Named) → Agree ns bs → (o : ℕ) → 0 < o → IsBody g (scene_of section own ts (with_formals k 2 fs bs) k) (length fs + 2) (bind_formals o 0 (letters fs) (with_names ns i)) body code)
 
 pub routine_lies : (pay : ℕ) (section : ℕ) (own : Placed) (ts : List Target) (bs : List Binding) (s : Spot) (i : ℕ) (x : List ℕ) (fs : List Mention) (a : Action) (d n : ℕ) (y : Bound) (c rest : List Stmt) → HasWords bs
     → turns_in a ≤ pay
@@ -156,6 +145,7 @@ pub routine_lies : (pay : ℕ) (section : ℕ) (own : Placed) (ts : List Target)
     → c ≡ procedure_code ts (procedure n (term.routine y x (length fs) (command_named (labels_in_scope s.number (s.number + 2) (labels_of a) (with_formals s.number 2 fs bs)) (place.labelled (s.number + 1) (place.called true s.number (length fs)))
     (spot.onward (1 + length fs) (2 + length (labels_of a)) s) a))) ++ rest
     → StandsAt own d c → ProcedureLies pay section own ts bs s.number fs i (objects_of_action a) (command a) n
+    (kinds_in (n + labels_of_procedure y) (command_named (labels_in_scope s.number (s.number + 2) (labels_of a) (with_formals s.number 2 fs bs)) (place.labelled (s.number + 1) (place.called true s.number (length fs))) (spot.onward (1 + length fs) (2 + length (labels_of a)) s) a))
 routine_lies pay section own ts bs s i x fs a d n y c rest words m laid k st =
     let inner = with_formals s.number 2 fs bs in
     let h1 : Home = record { section = section; own = own; targets = ts; bindings = bs; pay = pay } in
@@ -189,18 +179,19 @@ routine_lies pay section own ts bs s i x fs a d n y c rest words m laid k st =
       code = body;
       behind = entry.behind;
       few = few;
-      objects_are = bases_so h1 i _ _ _ (λ g z v ns u o.
-          let e = agree_formals s.number 2 o 0 fs ns bs i u in
+      objects_are = bases_so h1 i _ _ _ (λ g z v ns u o above.
+          let e = agree_formals s.number 2 o 0 fs ns bs i above u in
           let env = bind_formals o 0 (letters fs) (with_names ns i) in
-          (s.number + 2, tail, subst (λ j. IsAlone g sc depth (with_names env.names j) a (s.number + 2) body (Return ∷ tail)) (sym e.1) (v env.names e.0))) (bases_of h1 i _ _ (λ ns. of_action (in_scope a (bind_each (letters fs) foreign (with_names ns i))) a) _ (λ ns. ap (λ y. of_action (in_scope a y) a) (sym (names_bound (letters fs) foreign ns i))) (formals_around pay section own ts bs s.number fs i _ _ _ lies.objects_are));
+          (s.number + 2, tail, subst (λ j. IsAlone g sc depth (with_names env.names j) a (s.number + 2) body (Return ∷ tail)) (sym e.1) (v env.names e.0))) (bases_of h1 i _ _ (λ ns. of_action (in_scope a (bind_each (letters fs) foreign (with_names ns i))) a) _ (λ ns. ap (λ y. of_action (in_scope a y) a) (sym (names_bound (letters fs) foreign ns i))) (formals_around pay section own ts bs s.number fs i _ _ _ _ lies.objects_are));
     }
 
 pub function_lies : (pay : ℕ) (section : ℕ) (own : Placed) (ts : List Target) (bs : List Binding) (s : Spot) (i : ℕ) (x : List ℕ) (fs : List Mention) (e : Expression) (d n : ℕ) (y : Bound) (c rest : List Stmt) → HasWords bs
     → turns_of e ≤ pay
     → ((c0 r0 : List Stmt) → Around (scene_of section own ts (with_formals s.number 2 fs bs) s.number) (place.called false s.number (length fs)) (length fs + 2) → c0 ≡ value_code ts (length fs + 2) (n + labels_of_procedure y) (term_named (with_formals s.number 2 fs bs) (place.called false s.number (length fs)) (spot.onward (1 + length fs) 1 s) e) ++ r0 → StandsAt own (length fs + 2) c0
-    → Lies (home (scene_of section own ts (with_formals s.number 2 fs bs) s.number) pay) i (objects e) (length fs + 2 + 1) r0 (λ ns. of_expression (with_names ns i) e) (InNames (with_formals s.number 2 fs bs) i (λ g env. IsCode g (scene_of section own ts (with_formals s.number 2 fs bs) s.number) (length fs + 2) env pushes e c0 r0)))
+    → Lies (home (scene_of section own ts (with_formals s.number 2 fs bs) s.number) pay) i (objects e) (length fs + 2 + 1) r0 (kinds (n + labels_of_procedure y) (term_named (with_formals s.number 2 fs bs) (place.called false s.number (length fs)) (spot.onward (1 + length fs) 1 s) e)) (λ ns. of_expression (with_names ns i) e) (InNames (with_formals s.number 2 fs bs) i (λ g env. IsCode g (scene_of section own ts (with_formals s.number 2 fs bs) s.number) (length fs + 2) env pushes e c0 r0)))
     → c ≡ procedure_code ts (procedure n (term.function y x (length fs) (term_named (with_formals s.number 2 fs bs) (place.called false s.number (length fs)) (spot.onward (1 + length fs) 1 s) e))) ++ rest
     → StandsAt own d c → ProcedureLies pay section own ts bs s.number fs i (objects e) (expression e) n
+    (kinds (n + labels_of_procedure y) (term_named (with_formals s.number 2 fs bs) (place.called false s.number (length fs)) (spot.onward (1 + length fs) 1 s) e))
 function_lies pay section own ts bs s i x fs e d n y c rest words m laid k st =
     let inner = with_formals s.number 2 fs bs in
     let h1 : Home = record { section = section; own = own; targets = ts; bindings = bs; pay = pay } in
@@ -226,11 +217,11 @@ function_lies pay section own ts bs s i x fs e d n y c rest words m laid k st =
       code = body;
       behind = entry.behind;
       few = few;
-      objects_are = bases_so h1 i _ _ _ (λ g z v ns u o.
-          let q = agree_formals s.number 2 o 0 fs ns bs i u in
+      objects_are = bases_so h1 i _ _ _ (λ g z v ns u o above.
+          let q = agree_formals s.number 2 o 0 fs ns bs i above u in
           let env = bind_formals o 0 (letters fs) (with_names ns i) in
           let pays = z.pays in
-          (tail, subst (λ j. IsCode g sc depth (with_names env.names j) pushes e body (ReturnItem ∷ tail)) (sym q.1) (v env.names q.0), omega (arith, pays, m))) (bases_of h1 i _ _ (λ ns. of_expression (bind_each (letters fs) foreign (with_names ns i)) e) _ (λ ns. ap (λ y. of_expression y e) (sym (names_bound (letters fs) foreign ns i))) (formals_around pay section own ts bs s.number fs i _ _ _ lies.objects_are));
+          (tail, subst (λ j. IsCode g sc depth (with_names env.names j) pushes e body (ReturnItem ∷ tail)) (sym q.1) (v env.names q.0), omega (arith, pays, m))) (bases_of h1 i _ _ (λ ns. of_expression (bind_each (letters fs) foreign (with_names ns i)) e) _ (λ ns. ap (λ y. of_expression y e) (sym (names_bound (letters fs) foreign ns i))) (formals_around pay section own ts bs s.number fs i _ _ _ _ lies.objects_are));
     }
 
 letters_length : (fs : List Mention) → length (letters fs) ≡ length fs
@@ -238,35 +229,32 @@ letters_length [] = refl
 letters_length (x ∷ xs) = ap (λ k. suc k) (letters_length xs)
 
 -- So a procedure whose outer names mean what they should is one of the program.
-pub procedure_is : (pay section : ℕ) (own : Placed) (ts : List Target) (bs : List Binding) (k : ℕ) (fs : List Mention) (i many : ℕ) (body : Body) (n : ℕ) (p : ProcedureLies pay section own ts bs k fs i many body n) (g : Setting) (number : ℕ)
+pub procedure_is : (pay section : ℕ) (own : Placed) (ts : List Target) (bs : List Binding) (k : ℕ) (fs : List Mention) (i many : ℕ) (body : Body) (n : ℕ) (ks : List Kind) (p : ProcedureLies pay section own ts bs k fs i many body n ks) (g : Setting) (number : ℕ)
     (ns : List Named) (global : Option ℕ) → Suits (record { section = section; own = own; targets = ts; bindings = bs; pay = pay }) i p.objects_are.bases p.objects_are.entries g → Agree ns bs → g.codes.procedure number ≡ own.places.label n
     → ((bases : List ℕ) (frame : ℕ) → Grown g.lasting bases → NamedIn (scene_of section own ts bs k) (with_names ns i) bases frame)
-    → IsProcedure g number (record { formals = letters fs; body = body; env = with_names ns i; global = global })
-procedure_is pay section own ts bs k fs i many body n p g number ns global suits agrees word outer =
+    → (q : IsProcedure g number (record { formals = letters fs; body = body; env = with_names ns i; global = global })) × (q.scene.own ≡ own)
+procedure_is pay section own ts bs k fs i many body n ks p g number ns global suits agrees word outer =
     let sc = scene_of section own ts (with_formals k 2 fs bs) k in
     let same = letters_length fs in
-    let few = p.few in
-    record {
-      scene = sc;
-      is_own = suits.fits.own;
-      place = p.place;
-      label = n;
-      name = p.name;
-      at = p.at;
-      body = p.code;
-      behind = subst (λ z. drop (suc p.place) own.stmts ≡ Save (z + 2) ∷ p.code) (sym same) p.behind;
-      word = word;
-      few = omega (arith, few, same);
-      laid = λ o above. subst (λ z. IsBody g sc (z + 2) (bind_formals o 0 (letters fs) (with_names ns i)) body p.code) (sym same) (p.objects_are.laid g suits ns agrees o);
-      names = λ o frame bases grown base low. formals_named (scene_of section own ts bs k) k o 0 2 fs bs (with_names ns i) bases frame refl (omega (arith, few)) base low (outer bases frame grown);
-    }
+    let few = p.few in (
+      record {
+        scene = sc;
+        is_own = suits.fits.own;
+        place = p.place;
+        label = n;
+        name = p.name;
+        at = p.at;
+        body = p.code;
+        behind = subst (λ z. drop (suc p.place) own.stmts ≡ Save (z + 2) ∷ p.code) (sym same) p.behind;
+        word = word;
+        few = omega (arith, few, same);
+        laid = λ o above. subst (λ z. IsBody g sc (z + 2) (bind_formals o 0 (letters fs) (with_names ns i)) body p.code) (sym same) (p.objects_are.laid g suits ns agrees o above);
+        names = λ o frame bases grown base low. formals_named (scene_of section own ts bs k) k o 0 2 fs bs (with_names ns i) bases frame refl (omega (arith, few)) base low (outer bases frame grown);
+      },
+      refl,
+    )
 
 -- ---- what lasts of a procedure
-
--- the base of its object: its word, or its entry where it sets a global
-abbrev pub word_base : Placed → ℕ → Bound → ℕ
-word_base own n (b.Static m) = own.places.label (n + 1)
-word_base own n _ = own.places.label n
 
 -- its word
 word_held : (g : Setting) (section : ℕ) (own : Placed) (n number place : ℕ) (name : List ℕ) (y : Option Bound) → slice_get g.program.sections section ≡ Some own → slice_get own.stmts place ≡ Some (Entry n name)
@@ -284,31 +272,69 @@ word_held g section own n number place name (Some (b.Static m)) is at word c d b
     let found = statement_data g.program section own d.depth (DataLabel (n + 1)) items (record { place = own.places.label (n + 1); words = item_words own.places items }) is d.stands refl in
     (own.places.label (n + 1), base, subst (λ ws. InData g.program (own.places.label (n + 1)) ws) (ap₂ (λ x xs. x ∷ xs) (sym word) d.ends) found)
 
+-- what its name means sets the global, if it is one
+named_global : (s : Option Sense) (y : Option Bound) → SameGlobal s y → Callable y → global_named s ≡ bound_global (meant y)
+named_global s None h c = elim c [ ]
+named_global s (Some (b.Constant v)) h c = elim c [ ]
+named_global s (Some (b.Variable j v)) h c = elim c [ ]
+named_global s (Some (b.Label j v)) h c = elim c [ ]
+named_global s (Some (b.Global None)) h c = absurd h
+named_global s (Some (b.Global (Some v))) h c = h
+named_global s (Some (b.Static m)) h c = h
+
+called : (y : Option Bound) → Callable y → IsCalled (meant y)
+called None c = elim c [ ]
+called (Some (b.Constant v)) c = elim c [ ]
+called (Some (b.Variable j v)) c = elim c [ ]
+called (Some (b.Label j v)) c = elim c [ ]
+called (Some (b.Global None)) c = absurd (let h : None ≡ Some c.0 = c.1 in cc)
+called (Some (b.Global (Some v))) c = tt
+called (Some (b.Static m)) c = tt
+
+-- its base lies below the first frame
+word_below : (section : ℕ) (own : Placed) (n : ℕ) (y : Option Bound) → DataIn own (word_code n (meant y)) → (program : Program) (first : ℕ) → IsWellPlaced program first FRAME_WORDS → slice_get program.sections section ≡ Some own
+    → own.places.label n < first → word_base own n (meant y) ≤ first
+word_below section own n (Some (b.Static m)) d program first well is low =
+    let items = DataAddress n ∷ d.rest in
+    statement_below section own d.depth (DataLabel (n + 1)) items (record { place = own.places.label (n + 1); words = item_words own.places items }) d.stands refl program first well is
+word_below section own n None d program first well is low = omega (arith, low)
+word_below section own n (Some (b.Constant v)) d program first well is low = omega (arith, low)
+word_below section own n (Some (b.Global v)) d program first well is low = omega (arith, low)
+word_below section own n (Some (b.Variable j v)) d program first well is low = omega (arith, low)
+word_below section own n (Some (b.Label j v)) d program first well is low = omega (arith, low)
+
 -- A procedure and what lasts in its body.
-pub procedure_bases : (pay section : ℕ) (own : Placed) (ts : List Target) (bs : List Binding) (k : ℕ) (x : List ℕ) (fs : List Mention) (i many : ℕ) (body : Body) (n : ℕ) → ProcedureLies pay section own ts bs k fs (i + 1) many body n
+pub procedure_bases : (pay section : ℕ) (own : Placed) (ts : List Target) (bs : List Binding) (k : ℕ) (x : List ℕ) (fs : List Mention) (i many : ℕ) (body : Body) (n : ℕ) (ks : List Kind) → ProcedureLies pay section own ts bs k fs (i + 1) many body n ks
     → Callable (bound_in bs x) → DataIn own (word_code n (meant (bound_in bs x)))
-    → Bases (record { section = section; own = own; targets = ts; bindings = bs; pay = pay }) i (1 + many)
-    (λ ns. code (record { formals = letters fs; body = body; env = with_names ns (i + 1); global = global_named (sense_in ns x) }) ∷ of_body body (bind_each (letters fs) foreign (with_names ns (i + 1)))) (λ g. Unit {0})
-procedure_bases pay section own ts bs k x fs i many body n p callable word =
+    → Bases (record { section = section; own = own; targets = ts; bindings = bs; pay = pay }) i (1 + many) (entry n (meant (bound_in bs x)) ∷ ks)
+    (λ ns. code (record { formals = letters fs; body = body; env = with_names ns (i + 1); global = global_named (sense_in ns x) }) ∷ of_body body (bind_each (letters fs) foreign (with_names ns (i + 1)))) (λ g. BaseOf g.lasting i (word_base own n (meant (bound_in bs x))))
+procedure_bases pay section own ts bs k x fs i many body n ks p callable word =
     let o = p.objects_are in
     let all = o.all in
     let entries = o.all_entries in
     let h : Home = record { section = section; own = own; targets = ts; bindings = bs; pay = pay } in
     let next : suc i ≡ i + 1 = omega arith in
     let inner : (g : Setting) → Suits h i (word_base own n (meant (bound_in bs x)) ∷ o.bases) (own.places.label n ∷ o.entries) g → Suits h (i + 1) o.bases o.entries g =
-    λ g s. record { fits = s.fits; follow = subst (λ z. Follow g.lasting z o.bases) next (s.follow.1); words = subst (λ z. FollowWords g.codes.procedure z o.entries) next (s.words.1) } in
+    λ g s. record { fits = s.fits; some = omega arith; follow = subst (λ z. Follow g.lasting z o.bases) next (s.follow.1); words = subst (λ z. FollowWords g.codes.procedure z o.entries) next (s.words.1) } in
     record {
       bases = word_base own n (meant (bound_in bs x)) ∷ o.bases;
       entries = own.places.label n ∷ o.entries;
       all = omega (arith, all);
       all_entries = omega (arith, entries);
       count = λ ns. let c = o.count ns in omega (arith, c);
-      laid = λ g s. tt;
+      laid = λ g s. s.follow.0;
       held = λ g s ns u v. (
         (
-          procedure_is pay section own ts bs k fs (i + 1) many body n p g i ns (global_named (sense_in ns x)) (inner g s) u s.words.0 (λ bases frame grown. record { each = (v.0 k bases frame grown).each }),
-          subst (λ y. HeldWord g i y) (sym (v.1 x)) (word_held g section own n i p.place p.name (bound_in bs x) s.fits.own p.at s.words.0 callable word s.follow.0),
+          (let q = procedure_is pay section own ts bs k fs (i + 1) many body n ks p g i ns (global_named (sense_in ns x)) (inner g s) u s.words.0 (λ bases frame grown. record { each = (v k bases frame grown).each }) in q.0),
+          (let q = procedure_is pay section own ts bs k fs (i + 1) many body n ks p g i ns (global_named (sense_in ns x)) (inner g s) u s.words.0 (λ bases frame grown. record { each = (v k bases frame grown).each }) in q.1),
+          subst (λ y. HeldWord g i y) (sym (same_global (sense_in ns x) (bound_in bs x) (u.1 x))) (word_held g section own n i p.place p.name (bound_in bs x) s.fits.own p.at s.words.0 callable word s.follow.0),
         ),
-        subst (λ z. HeldList g z (of_body body (bind_each (letters fs) foreign (with_names ns (i + 1))))) (sym next) (o.held g (inner g s) ns u v),
+        subst (λ z. HeldIn g own z (of_body body (bind_each (letters fs) foreign (with_names ns (i + 1))))) (sym next) (o.held g (inner g s) ns u v),
       );
+      alike = λ g s ns u v. ((refl, refl, named_global (sense_in ns x) (bound_in bs x) (u.1 x) callable, called (bound_in bs x) callable), o.alike g (inner g s) ns u v);
+      placed = λ program first well is.
+          let q = o.placed program first well is in
+          let e = well.entries section p.place n own p.name is p.at in
+          let set = e.1 in
+          ((word_below section own n (bound_in bs x) word program first well is e.2, q.0), (omega (arith, set), q.1));
     }

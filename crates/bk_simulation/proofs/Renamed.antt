@@ -1,59 +1,40 @@
--- What declarations bring into scope, by their statements' words and in the run: constants that are words, constants that agree, labels
--- that stay, and words that stand where the names say.
-use Rattle.std.proofs.Common.{◌≡◌, ℕ, suc, ◌+◌, ◌-◌, ◌<◌, ◌≤◌, ◌^◌, Bool, true, false, List, [], ◌∷◌, ◌++◌, length, Option, Some, None, cond, refl, sym, ap, ◌∙◌, subst, arith, nat_lt, ◌==◌, ◌≢◌}
+-- What MANIFEST, STATIC and GLOBAL bring into scope: names that agree, labels that stay, and words that stand where the names say.
+use Rattle.std.proofs.Common.{◌≡◌, ℕ, suc, ◌+◌, ◌<◌, ◌≤◌, ◌^◌, Bool, true, false, List, [], ◌∷◌, Option, Some, None, cond, refl, sym, ap, ◌∙◌, subst, arith, nat_lt}
 use Rattle.std.specs.Str.{bytes_eq}
 use Rattle.std.proofs.lemmas.Bool.Decides.{nat_tests}
 use Rattle.std.proofs.lemmas.Slice.Eq.{bytes_eq-Decides}
-use Rattle.bk_base.specs.declared.limit.TheConstants.{FRAME_WORDS, GLOBAL_NUMBER, VEC_NUMBER}
+use Rattle.bk_base.specs.declared.limit.TheConstants.{GLOBAL_NUMBER}
 use Rattle.bk_syntax.specs.Tree as t
 use Rattle.bk_syntax.specs.Tree.{Mention, Expression, Items, Definition, Definitions, Starts}
 use Rattle.bk_scope.specs.declared.bound.Bound.{Bound}
 use Rattle.bk_scope.specs.declared.bound.Bound.TheVariants as b
-use Rattle.bk_scope.specs.Scope.{Binding, bound_in, bind, bind_all, is_global}
+use Rattle.bk_scope.specs.Scope.{Binding, bound_in, bind}
 use Rattle.bk_scope.specs.Constants.{named_word, constant_word}
-use Rattle.bk_scope.specs.declared.place.Place.{Place}
-use Rattle.bk_scope.specs.Places.{deeper}
-use Rattle.bk_scope.specs.Spots as scope_spot
-use Rattle.bk_scope.specs.Spots.{Spot as ScopeSpot}
-use Rattle.bk_scope.specs.Names.{within, words_of_vector, words_of_start, variables_of, place_behind}
-use Rattle.bk_scope.specs.Scoping.{place_behind_defined, variables_in_scope, procedure_in_scope, procedures_in_scope, manifests_in_scope, statics_in_scope, globals_in_scope}
-use Rattle.bk_scope.specs.Sound.{HasWordUpTo, ManifestsSound, GlobalsSound, SoundStarted, SoundDefined}
+use Rattle.bk_scope.specs.Names.{within}
+use Rattle.bk_scope.specs.Scoping.{manifests_in_scope, statics_in_scope, globals_in_scope}
+use Rattle.bk_scope.specs.Sound.{ManifestsSound, GlobalsSound}
 use Rattle.bk_ocode.specs.OcodeState.{Placed}
 use Rattle.bk_trans.specs.declared.around.Target.{Target}
-use Rattle.bk_trans.specs.Depths.{behind_starts, behind_definitions}
-use Rattle.bk_trans.specs.Naming.{meant, worth, starts_named, definitions_named}
+use Rattle.bk_trans.specs.Naming.{meant}
 use Rattle.bk_trans.specs.Scheme.{goal_of, variable}
 use Rattle.bk_meaning.specs.Environment as m
 use Rattle.bk_meaning.specs.Environment.{Named, Environment, Sense, constant, cell, label, foreign, sense_in, sense_of, word_named, constant_in, globals_object, global_named, bind_procedure_as, bind_procedures, objects, objects_of_action, objects_of_starts, sense_of_constant, sense_of_global, letters, manifests, statics}
-use Rattle.bk_simulation.specs.Regular.{starts, RegularItems, RegularDefinitions}
+use Rattle.bk_simulation.specs.Regular.{RegularItems}
 use Rattle.bk_simulation.proofs.Memory.{BaseOf, Grown}
 use Rattle.bk_simulation.proofs.Sought.{with_names}
-use Rattle.bk_simulation.proofs.Laid.{Setting, Scene, place_of, IsWord, IsLabelHere, NameAt, NamedIn, KeepsLabels, Spot, spots_of, variables_bound, AreAt, Renames, RenamesVariables}
+use Rattle.bk_simulation.proofs.Laid.{Setting, Scene, place_of, IsWord, IsLabelHere, NameAt, NamedIn, KeepsLabels, Renames}
 use Rattle.bk_simulation.proofs.NamesBound.{bound_named}
-use Rattle.bk_simulation.proofs.Standing.{Agree}
+use Rattle.bk_simulation.proofs.NamesAgree.{Agree, AgreeWords, SameGlobal, own_cell, agree_bound}
 use Rattle.bk_simulation.proofs.LaidExpressions.{HasWords, constants_agree}
 use Rattle.bk_simulation.proofs.Constants.{constant_small}
+use Rattle.bk_simulation.proofs.BehindDeclarations.{words_constant}
 
 -- ---- one name more
 
-itself : (x : List ℕ) (y : Bound) (bs : List Binding) → bound_in (bind x y bs) x ≡ Some y
+pub itself : (x : List ℕ) (y : Bound) (bs : List Binding) → bound_in (bind x y bs) x ≡ Some y
 itself x y bs = ap (λ (q : Bool). cond q (Some y) (bound_in bs x)) ((bytes_eq-Decides x x).1 refl)
 
-words_bound : (x : List ℕ) (y : Bound) (bs : List Binding) → ((v : ℕ) → Some y ≡ Some (b.Constant (Some v)) → v < 2 ^ 32) → HasWords bs → HasWords (bind x y bs)
-words_bound x y bs f h z v e = picked (bytes_eq x z) e
-  where
-    picked : (q : Bool) → cond q (Some y) (bound_in bs z) ≡ Some (b.Constant (Some v)) → v < 2 ^ 32
-    picked true e = f v e
-    picked false e = h z v e
-
-agree_bound : (x : List ℕ) (s : Sense) (y : Bound) (ns : List Named) (bs : List Binding) → word_named (Some s) ≡ named_word (Some y) → Agree ns bs → Agree (record { name = x; sense = s } ∷ ns) (bind x y bs)
-agree_bound x s y ns bs e a z = picked (bytes_eq x z)
-  where
-    picked : (q : Bool) → word_named (cond q (Some s) (sense_in ns z)) ≡ named_word (cond q (Some y) (bound_in bs z))
-    picked true = e
-    picked false = a z
-
-keeps_bound : (x : List ℕ) (y : Bound) (bs : List Binding) → (IsLabelHere (Some y) → ⊥) → KeepsLabels bs (bind x y bs)
+pub keeps_bound : (x : List ℕ) (y : Bound) (bs : List Binding) → (IsLabelHere (Some y) → ⊥) → KeepsLabels bs (bind x y bs)
 keeps_bound x y bs f z = picked (bytes_eq x z)
   where
     picked : (q : Bool) → IsLabelHere (cond q (Some y) (bound_in bs z)) → cond q (Some y) (bound_in bs z) ≡ bound_in bs z
@@ -66,40 +47,15 @@ keeps_same bs z h = refl
 pub keeps_both : (a c d : List Binding) → KeepsLabels a c → KeepsLabels c d → KeepsLabels a d
 keeps_both a c d f g z h = let e = g z h in e ∙ f z (subst (λ y. IsLabelHere y) e h)
 
--- names that mean a global here and there
-abbrev SameGlobal : Option Sense → Option Bound → Type 0
-SameGlobal s (Some (b.Global (Some n))) = global_named s ≡ Some n
-SameGlobal s (Some (b.Global None)) = ⊥
-SameGlobal s _ = global_named s ≡ None
-
-abbrev pub AgreeGlobals : List Named → List Binding → Type 0
-AgreeGlobals ns bs = (x : List ℕ) → SameGlobal (sense_in ns x) (bound_in bs x)
-
-pub globals_bound : (x : List ℕ) (s : Sense) (y : Bound) (ns : List Named) (bs : List Binding) → SameGlobal (Some s) (Some y) → AgreeGlobals ns bs → AgreeGlobals (record { name = x; sense = s } ∷ ns) (bind x y bs)
-globals_bound x s y ns bs e a z = picked (bytes_eq x z)
-  where
-    picked : (q : Bool) → SameGlobal (cond q (Some s) (sense_in ns z)) (cond q (Some y) (bound_in bs z))
-    picked true = e
-    picked false = a z
-
-not_zero : (w : ℕ) → w ≢ 0 → (w == 0) ≡ false
-not_zero w ne = grind (arith, nat_tests)
-
-own_cell : (o i : ℕ) → 0 < o → global_named (Some (cell o i)) ≡ None
-own_cell o i h = ap (λ (q : Bool). cond q (Some i) None) (not_zero o (λ e. let k : o ≡ 0 = e in omega (arith, h, k)))
-
 -- names that mean what they should
-abbrev MeanThere : Setting → Scene → Environment → List Binding → Environment → Type 0
+abbrev pub MeanThere : Setting → Scene → Environment → List Binding → Environment → Type 0
 MeanThere g sc env bs env1 = (bases : List ℕ) (frame : ℕ) → Grown g.lasting bases → NamedIn sc env bases frame → NamedIn (record sc { bindings = bs }) env1 bases frame
 
 -- ---- MANIFEST
 
 -- what stands behind the items
 pub record ManifestsBehind (g : Setting) (sc : Scene) (ns : List Named) (i : ℕ) (is : Items) : Type 0 where
-  pub words : HasWords (manifests_in_scope sc.bindings is)
   pub agree : Agree (manifests is (with_names ns i)).names (manifests_in_scope sc.bindings is)
-  pub globals : AgreeGlobals ns sc.bindings → AgreeGlobals (manifests is (with_names ns i)).names (manifests_in_scope sc.bindings is)
-  pub next : (manifests is (with_names ns i)).next ≡ i
   pub renames : Renames g sc (with_names ns i) (manifests_in_scope sc.bindings is) (manifests is (with_names ns i))
 
 constant_agrees : (u v : Option ℕ) → u ≡ v → word_named (Some (sense_of_constant u)) ≡ named_word (Some (b.Constant v))
@@ -114,27 +70,21 @@ bound_constant : (y : Option Bound) (u : Option ℕ) (sc : Scene) (bases : List 
     → NameAt sc bases frame x (Some (sense_of_constant u))
 bound_constant y u sc bases frame x w e h k = subst (λ z. NameAt sc bases frame x (Some (sense_of_constant z))) (sym k) (e, h)
 
-some_constant : (u v : Option ℕ) → Some (b.Constant u) ≡ Some (b.Constant v) → u ≡ v
-some_constant u v e = cc
-
 pub renames_manifests : (is : Items) (g : Setting) (sc : Scene) (ns : List Named) (i : ℕ) → HasWords sc.bindings → Agree ns sc.bindings → RegularItems is → ManifestsSound sc.bindings is → ManifestsBehind g sc ns i is
-renames_manifests t.no_items g sc ns i h a r k = record { words = h; agree = a; globals = λ q. q; next = refl; renames = (keeps_same sc.bindings, λ bases frame grown n. n) }
+renames_manifests t.no_items g sc ns i h a r k = record { agree = a; renames = (keeps_same sc.bindings, λ bases frame grown n. n) }
 renames_manifests (t.item l x e is) g sc ns i h a r k =
     let bs : List Binding = sc.bindings in
     let y : Bound = b.Constant (constant_word bs e) in
     let s : Sense = sense_of_constant (constant_in (with_names ns i) e) in
-    let same = constants_agree ns bs i a e in
+    let same = constants_agree ns bs i a.0 e in
     let w = k.0.0 in
     let is_word = k.0.1 in
     let small = constant_small bs h e r.0 w is_word in
-    let h1 = words_bound x y bs (λ v q. constant_small bs h e r.0 v (some_constant (constant_word bs e) (Some v) q)) h in
-    let a1 = agree_bound x s y ns bs (constant_agrees (constant_in (with_names ns i) e) (constant_word bs e) same) a in
+    let h1 = words_constant x e bs h r.0 in
+    let a1 = agree_bound x s y ns bs (constant_agrees (constant_in (with_names ns i) e) (constant_word bs e) same) (no_constant_global (constant_in (with_names ns i) e) (constant_word bs e)) a in
     let more = renames_manifests is g (record sc { bindings = bind x y bs }) (record { name = x; sense = s } ∷ ns) i h1 a1 r.1 k.1 in
     record {
-      words = more.words;
       agree = more.agree;
-      globals = λ q. more.globals (globals_bound x s y ns bs (no_constant_global (constant_in (with_names ns i) e) (constant_word bs e)) q);
-      next = more.next;
       renames = (
         keeps_both bs (bind x y bs) (manifests_in_scope (bind x y bs) is) (keeps_bound x y bs (λ z. z)) more.renames.0,
         λ bases frame grown n. more.renames.1 bases frame grown
@@ -156,14 +106,11 @@ AreBases all i [] = Unit {0}
 AreBases all i (x ∷ xs) = BaseOf all i x × AreBases all (suc i) xs
 
 pub record StaticsBehind (g : Setting) (sc : Scene) (ns : List Named) (i n : ℕ) (is : Items) : Type 0 where
-  pub words : HasWords (statics_in_scope n is sc.bindings)
   pub agree : Agree (statics is (with_names ns i)).names (statics_in_scope n is sc.bindings)
-  pub globals : AgreeGlobals ns sc.bindings → AgreeGlobals (statics is (with_names ns i)).names (statics_in_scope n is sc.bindings)
-  pub next : (statics is (with_names ns i)).next ≡ i + length (static_places sc.own sc.targets n is)
   pub keeps : KeepsLabels sc.bindings (statics_in_scope n is sc.bindings)
   pub renames : AreBases g.lasting i (static_places sc.own sc.targets n is) → Renames g sc (with_names ns i) (statics_in_scope n is sc.bindings) (statics is (with_names ns i))
 
-static_at : (g : Setting) (sc : Scene) (bases : List ℕ) (frame : ℕ) (x : List ℕ) (i n : ℕ) → Grown g.lasting bases → BaseOf g.lasting i (sc.own.places.label ((goal_of sc.targets n).label)) → bound_in sc.bindings x ≡ Some (b.Static n)
+pub static_at : (g : Setting) (sc : Scene) (bases : List ℕ) (frame : ℕ) (x : List ℕ) (i n : ℕ) → Grown g.lasting bases → BaseOf g.lasting i (sc.own.places.label ((goal_of sc.targets n).label)) → bound_in sc.bindings x ≡ Some (b.Static n)
     → NameAt sc bases frame x (Some (cell i 0))
 static_at g sc bases frame x i n grown base e =
     let p : ℕ = sc.own.places.label ((goal_of sc.targets n).label) in
@@ -172,27 +119,21 @@ static_at g sc bases frame x i n grown base e =
     let at : p + 0 ≡ p = omega arith in
     (p, grown.each i p base, small, at ∙ ap (λ y. place_of sc.own frame (variable sc.targets (meant y))) (sym e), subst (λ y. IsWord y) (sym e) tt)
 
-pub renames_statics : (is : Items) (g : Setting) (sc : Scene) (ns : List Named) (i n : ℕ) → 0 < i → HasWords sc.bindings → Agree ns sc.bindings → StaticsBehind g sc ns i n is
-renames_statics t.no_items g sc ns i n some h a =
-    let e : i ≡ i + 0 = omega arith in
-    record { words = h; agree = a; globals = λ q. q; next = e; keeps = keeps_same sc.bindings; renames = λ u. (keeps_same sc.bindings, λ bases frame grown k. k) }
-renames_statics (t.item l x e is) g sc ns i n some h a =
+pub renames_statics : (is : Items) (g : Setting) (sc : Scene) (ns : List Named) (i n : ℕ) → 0 < i → Agree ns sc.bindings → StaticsBehind g sc ns i n is
+renames_statics t.no_items g sc ns i n some a =
+    record { agree = a; keeps = keeps_same sc.bindings; renames = λ u. (keeps_same sc.bindings, λ bases frame grown k. k) }
+renames_statics (t.item l x e is) g sc ns i n some a =
     let bs : List Binding = sc.bindings in
     let y : Bound = b.Static n in
     let s : Sense = cell i 0 in
     let one : i + 1 ≡ suc i = omega arith in
     let some1 : 0 < i + 1 = omega (arith, some) in
-    let h1 = words_bound x y bs (λ v q. absurd (cc)) h in
-    let a1 = agree_bound x s y ns bs refl a in
+    let a1 = agree_bound x s y ns bs refl (own_cell i 0 some) a in
     let sc1 : Scene = record sc { bindings = bind x y bs } in
-    let more = renames_statics is g sc1 (record { name = x; sense = s } ∷ ns) (i + 1) (n + 1) some1 h1 a1 in
-    let count = more.next in
+    let more = renames_statics is g sc1 (record { name = x; sense = s } ∷ ns) (i + 1) (n + 1) some1 a1 in
     let through = keeps_both bs (bind x y bs) (statics_in_scope (n + 1) is (bind x y bs)) (keeps_bound x y bs (λ z. z)) more.keeps in
     record {
-      words = more.words;
       agree = more.agree;
-      globals = λ q. more.globals (globals_bound x s y ns bs (own_cell i 0 some) q);
-      next = omega (arith, count);
       keeps = through;
       renames = λ u. (
         through,
@@ -204,19 +145,13 @@ renames_statics (t.item l x e is) g sc ns i n some h a =
 -- ---- GLOBAL
 
 pub record GlobalsBehind (g : Setting) (sc : Scene) (outer : List Named) (os : List Binding) (ns : List Named) (i : ℕ) (is : Items) : Type 0 where
-  pub words : HasWords (globals_in_scope os is sc.bindings)
   pub agree : Agree (m.globals (with_names outer i) is (with_names ns i)).names (globals_in_scope os is sc.bindings)
-  pub globals : AgreeGlobals ns sc.bindings → AgreeGlobals (m.globals (with_names outer i) is (with_names ns i)).names (globals_in_scope os is sc.bindings)
-  pub next : (m.globals (with_names outer i) is (with_names ns i)).next ≡ i
   pub keeps : KeepsLabels sc.bindings (globals_in_scope os is sc.bindings)
   pub renames : BaseOf g.lasting 0 16 → Renames g sc (with_names ns i) (globals_in_scope os is sc.bindings) (m.globals (with_names outer i) is (with_names ns i))
 
 -- with the first item in scope
 record GlobalsLater (g : Setting) (sc : Scene) (outer : List Named) (os : List Binding) (ns : List Named) (i : ℕ) (is : Items) (bs : List Binding) (env : Environment) : Type 0 where
-  pub words : HasWords (globals_in_scope os is bs)
   pub agree : Agree (m.globals (with_names outer i) is env).names (globals_in_scope os is bs)
-  pub globals : AgreeGlobals ns sc.bindings → AgreeGlobals (m.globals (with_names outer i) is env).names (globals_in_scope os is bs)
-  pub next : (m.globals (with_names outer i) is env).next ≡ i
   pub keeps : KeepsLabels sc.bindings (globals_in_scope os is bs)
   pub renames : BaseOf g.lasting 0 16 → Renames g sc (with_names ns i) (globals_in_scope os is bs) (m.globals (with_names outer i) is env)
 
@@ -231,10 +166,10 @@ global_at g sc bases frame x w grown base low e =
     let small : 16 + w < 2 ^ 32 = omega (arith, low) in
     (16, grown.each 0 16 base, small, ap (λ y. place_of sc.own frame (variable sc.targets (meant y))) (sym e), subst (λ y. IsWord y) (sym e) tt)
 
-pub renames_globals : (is : Items) (g : Setting) (sc : Scene) (outer : List Named) (os : List Binding) (ns : List Named) (i : ℕ) → Agree outer os → HasWords sc.bindings → Agree ns sc.bindings → GlobalsSound os is → GlobalsBehind g sc outer os ns i is
-renames_globals t.no_items g sc outer os ns i ao h a k =
-    record { words = h; agree = a; globals = λ q. q; next = refl; keeps = keeps_same sc.bindings; renames = λ u. (keeps_same sc.bindings, λ bases frame grown n. n) }
-renames_globals (t.item l x e is) g sc outer os ns i ao h a k =
+pub renames_globals : (is : Items) (g : Setting) (sc : Scene) (outer : List Named) (os : List Binding) (ns : List Named) (i : ℕ) → AgreeWords outer os → Agree ns sc.bindings → GlobalsSound os is → GlobalsBehind g sc outer os ns i is
+renames_globals t.no_items g sc outer os ns i ao a k =
+    record { agree = a; keeps = keeps_same sc.bindings; renames = λ u. (keeps_same sc.bindings, λ bases frame grown n. n) }
+renames_globals (t.item l x e is) g sc outer os ns i ao a k =
     let bs : List Binding = sc.bindings in
     let w : ℕ = k.0.0 in
     let is_word : constant_word os e ≡ Some w = k.0.1 in
@@ -246,348 +181,14 @@ renames_globals (t.item l x e is) g sc outer os ns i ao h a k =
     let yw : Bound = b.Global (Some w) in
     let sw : Sense = cell 0 w in
     let sc1 : Scene = record sc { bindings = bind x yw bs } in
-    let h1 = words_bound x yw bs (λ v q. absurd (cc)) h in
-    let a1 = agree_bound x sw yw ns bs refl a in
-    let more = renames_globals is g sc1 outer os (record { name = x; sense = sw } ∷ ns) i ao h1 a1 k.1 in
+    let a1 = agree_bound x sw yw ns bs refl refl a in
+    let more = renames_globals is g sc1 outer os (record { name = x; sense = sw } ∷ ns) i ao a1 k.1 in
     let through = keeps_both bs (bind x yw bs) (globals_in_scope os is (bind x yw bs)) (keeps_bound x yw bs (λ z. z)) more.keeps in
     let whole : GlobalsLater g sc outer os ns i is (bind x yw bs) (m.bind x sw (with_names ns i)) = record {
-      words = more.words;
       agree = more.agree;
-      globals = λ q. more.globals (globals_bound x sw yw ns bs refl q);
-      next = more.next;
       keeps = through;
       renames = λ u. (through, λ bases frame grown n. (more.renames u).1 bases frame grown (bound_named sc (with_names ns i) bases frame x yw sw (global_at g sc1 bases frame x w grown u low (itself x yw bs)) n));
     } in
     let whole1 = subst (λ z. GlobalsLater g sc outer os ns i is (bind x z bs) (m.bind x sw (with_names ns i))) (sym y_is) whole in
     let whole2 = subst (λ z. GlobalsLater g sc outer os ns i is (bind x y bs) (m.bind x z (with_names ns i))) (sym s_is) whole1 in
-    record { words = whole2.words; agree = whole2.agree; globals = whole2.globals; next = whole2.next; keeps = whole2.keeps; renames = whole2.renames }
-
--- ---- the procedures of a LET
-
--- their words: a procedure whose name means a global has none
-abbrev pub AreProcedures : List ℕ → Placed → List Target → List Binding → ℕ → ℕ → Definitions → Type 0
-AreProcedures all own ts bs i n t.no_definitions = Unit {0}
-AreProcedures all own ts bs i n (t.define (t.routine l x fs c) ds) =
-    (is_global (bound_in bs x) ≡ false → BaseOf all i (own.places.label ((goal_of ts n).label))) × AreProcedures all own ts (procedure_in_scope n x bs) (i + (1 + objects_of_action c)) (n + 1) ds
-AreProcedures all own ts bs i n (t.define (t.function l x fs e) ds) =
-    (is_global (bound_in bs x) ≡ false → BaseOf all i (own.places.label ((goal_of ts n).label))) × AreProcedures all own ts (procedure_in_scope n x bs) (i + (1 + objects e)) (n + 1) ds
-AreProcedures all own ts bs i n (t.define (t.variables l xs is) ds) = AreProcedures all own ts bs (i + objects_of_starts is) n ds
-
--- what stands behind some of them, with this in scope and these names in the run
-pub record ProceduresBehind (g : Setting) (sc : Scene) (ns : List Named) (i n : ℕ) (ds : Definitions) (P : Type 0) (bs : List Binding) (env : Environment) : Type 0 where
-  pub words : HasWords (procedures_in_scope n ds bs)
-  pub agree : Agree (bind_procedures ds env).names (procedures_in_scope n ds bs)
-  pub keeps : KeepsLabels sc.bindings (procedures_in_scope n ds bs)
-  pub globals : AgreeGlobals ns sc.bindings → AgreeGlobals (bind_procedures ds env).names (procedures_in_scope n ds bs)
-  pub means : AgreeGlobals ns sc.bindings → P → MeanThere g sc (with_names ns i) (procedures_in_scope n ds bs) (bind_procedures ds env)
-
-global_here : (s : Option Sense) (y : Option Bound) → SameGlobal s y → is_global y ≡ true → global_named s ≡ None → ⊥
-global_here s (Some (b.Global (Some n))) h e k = absurd (cc)
-global_here s (Some (b.Global None)) h e k = h
-global_here s (Some (b.Constant v)) h e k = absurd (cc)
-global_here s (Some (b.Static m)) h e k = absurd (cc)
-global_here s (Some (b.Variable j d)) h e k = absurd (cc)
-global_here s (Some (b.Label j m)) h e k = absurd (cc)
-global_here s None h e k = absurd (cc)
-
-global_there : (s : Option Sense) (y : Option Bound) (v : ℕ) → SameGlobal s y → is_global y ≡ false → global_named s ≡ Some v → ⊥
-global_there s (Some (b.Global v)) w h e k = absurd (cc)
-global_there s (Some (b.Constant v)) w h e k = absurd (cc)
-global_there s (Some (b.Static m)) w h e k = absurd (cc)
-global_there s (Some (b.Variable j d)) w h e k = absurd (cc)
-global_there s (Some (b.Label j m)) w h e k = absurd (cc)
-global_there s None w h e k = absurd (cc)
-
-global_no_word : (y : Option Bound) → is_global y ≡ true → None ≡ named_word y
-global_no_word (Some (b.Global v)) e = refl
-global_no_word (Some (b.Constant v)) e = absurd (cc)
-global_no_word (Some (b.Static m)) e = refl
-global_no_word (Some (b.Variable j d)) e = refl
-global_no_word (Some (b.Label j m)) e = refl
-global_no_word None e = refl
-
-cell_no_word : (s : Option Sense) (v : ℕ) → global_named s ≡ Some v → word_named s ≡ None
-cell_no_word (Some (constant w)) v e = absurd (cc)
-cell_no_word (Some (cell o i)) v e = refl
-cell_no_word (Some label) v e = refl
-cell_no_word (Some foreign) v e = refl
-cell_no_word None v e = refl
-
--- where the one side alone binds the name, it is no constant
-agree_here : (x : List ℕ) (o : ℕ) (ns : List Named) (bs : List Binding) → is_global (bound_in bs x) ≡ true → Agree ns bs → Agree (record { name = x; sense = cell o 0 } ∷ ns) bs
-agree_here x o ns bs e a z = picked (bytes_eq x z) refl
-  where
-    picked : (q : Bool) → bytes_eq x z ≡ q → word_named (cond q (Some (cell o 0)) (sense_in ns z)) ≡ named_word (bound_in bs z)
-    picked true h = subst (λ u. None ≡ named_word (bound_in bs u)) ((bytes_eq-Decides x z).0 h) (global_no_word (bound_in bs x) e)
-    picked false h = a z
-
-agree_there : (x : List ℕ) (n v : ℕ) (ns : List Named) (bs : List Binding) → global_named (sense_in ns x) ≡ Some v → Agree ns bs → Agree ns (bind x (b.Static n) bs)
-agree_there x n v ns bs e a z = picked (bytes_eq x z) refl
-  where
-    picked : (q : Bool) → bytes_eq x z ≡ q → word_named (sense_in ns z) ≡ named_word (cond q (Some (b.Static n)) (bound_in bs z))
-    picked true h = subst (λ u. word_named (sense_in ns u) ≡ None) ((bytes_eq-Decides x z).0 h) (cell_no_word (sense_in ns x) v e)
-    picked false h = a z
-
--- one procedure, and those behind it
-one_procedure : (g : Setting) (sc : Scene) (ns : List Named) (i n k : ℕ) (ds : Definitions) (x : List ℕ) (u : Option ℕ) (q : Bool) → global_named (sense_in ns x) ≡ u → is_global (bound_in sc.bindings x) ≡ q → 0 < i → HasWords sc.bindings → Agree ns sc.bindings
-    → ((sc1 : Scene) (ns1 : List Named) → HasWords sc1.bindings → Agree ns1 sc1.bindings → ProceduresBehind g sc1 ns1 (i + k) (n + 1) ds (AreProcedures g.lasting sc1.own sc1.targets sc1.bindings (i + k) (n + 1) ds) sc1.bindings (with_names ns1 (i + k)))
-    → ProceduresBehind g sc ns i (n + 1) ds
-    ((q ≡ false → BaseOf g.lasting i (sc.own.places.label ((goal_of sc.targets n).label))) × AreProcedures g.lasting sc.own sc.targets (cond q sc.bindings (bind x (b.Static n) sc.bindings)) (i + k) (n + 1) ds)
-    (cond q sc.bindings (bind x (b.Static n) sc.bindings)) (m.behind k (bind_procedure_as u x (with_names ns i)))
-one_procedure g sc ns i n k ds x None true e f some h a more =
-    let mine = more sc (record { name = x; sense = cell i 0 } ∷ ns) h (agree_here x i ns sc.bindings f a) in
-    record { words = mine.words; agree = mine.agree; keeps = mine.keeps; globals = λ w. absurd (global_here (sense_in ns x) (bound_in sc.bindings x) (w x) f e); means = λ w. absurd (global_here (sense_in ns x) (bound_in sc.bindings x) (w x) f e) }
-one_procedure g sc ns i n k ds x None false e f some h a more =
-    let bs : List Binding = sc.bindings in
-    let y : Bound = b.Static n in
-    let s : Sense = cell i 0 in
-    let sc1 : Scene = record sc { bindings = bind x y bs } in
-    let mine = more sc1 (record { name = x; sense = s } ∷ ns) (words_bound x y bs (λ v r. absurd (cc)) h) (agree_bound x s y ns bs refl a) in
-    record {
-      words = mine.words;
-      agree = mine.agree;
-      keeps = keeps_both bs (bind x y bs) (procedures_in_scope (n + 1) ds (bind x y bs)) (keeps_bound x y bs (λ z. z)) mine.keeps;
-      globals = λ w. mine.globals (globals_bound x s y ns bs (own_cell i 0 some) w);
-      means = λ w u bases frame grown r.
-          let there = bound_named sc (with_names ns i) bases frame x y s (static_at g sc1 bases frame x i n grown (u.0 refl) (itself x y bs)) r in
-          mine.means (globals_bound x s y ns bs (own_cell i 0 some) w) u.1 bases frame grown (record { each = there.each });
-    }
-one_procedure g sc ns i n k ds x (Some v) true e f some h a more =
-    let mine = more sc ns h a in
-    record { words = mine.words; agree = mine.agree; keeps = mine.keeps; globals = mine.globals; means = λ w u bases frame grown r. mine.means w u.1 bases frame grown (record { each = r.each }) }
-one_procedure g sc ns i n k ds x (Some v) false e f some h a more =
-    let bs : List Binding = sc.bindings in
-    let y : Bound = b.Static n in
-    let sc1 : Scene = record sc { bindings = bind x y bs } in
-    let mine = more sc1 ns (words_bound x y bs (λ v r. absurd (cc)) h) (agree_there x n v ns bs e a) in
-    record {
-      words = mine.words;
-      agree = mine.agree;
-      keeps = keeps_both bs (bind x y bs) (procedures_in_scope (n + 1) ds (bind x y bs)) (keeps_bound x y bs (λ z. z)) mine.keeps;
-      globals = λ w. absurd (global_there (sense_in ns x) (bound_in bs x) v (w x) f e);
-      means = λ w. absurd (global_there (sense_in ns x) (bound_in bs x) v (w x) f e);
-    }
-
-pub renames_procedures : (ds : Definitions) (g : Setting) (sc : Scene) (ns : List Named) (i n : ℕ) → 0 < i → HasWords sc.bindings → Agree ns sc.bindings
-    → ProceduresBehind g sc ns i n ds (AreProcedures g.lasting sc.own sc.targets sc.bindings i n ds) sc.bindings (with_names ns i)
-renames_procedures t.no_definitions g sc ns i n some h a = record { words = h; agree = a; keeps = keeps_same sc.bindings; globals = λ w. w; means = λ w u bases frame grown r. r }
-renames_procedures (t.define (t.routine l x fs c) ds) g sc ns i n some h a =
-    let k : ℕ = 1 + objects_of_action c in
-    let some1 : 0 < i + (1 + objects_of_action c) = omega (arith, some) in
-    let one = one_procedure g sc ns i n k ds x (global_named (sense_in ns x)) (is_global (bound_in sc.bindings x)) refl refl some h a (λ sc1 ns1 h1 a1. renames_procedures ds g sc1 ns1 (i + k) (n + 1) some1 h1 a1) in
-    record { words = one.words; agree = one.agree; keeps = one.keeps; globals = one.globals; means = one.means }
-renames_procedures (t.define (t.function l x fs e) ds) g sc ns i n some h a =
-    let k : ℕ = 1 + objects e in
-    let some1 : 0 < i + (1 + objects e) = omega (arith, some) in
-    let one = one_procedure g sc ns i n k ds x (global_named (sense_in ns x)) (is_global (bound_in sc.bindings x)) refl refl some h a (λ sc1 ns1 h1 a1. renames_procedures ds g sc1 ns1 (i + k) (n + 1) some1 h1 a1) in
-    record { words = one.words; agree = one.agree; keeps = one.keeps; globals = one.globals; means = one.means }
-renames_procedures (t.define (t.variables l xs is) ds) g sc ns i n some h a =
-    let some1 : 0 < i + objects_of_starts is = omega (arith, some) in
-    let more = renames_procedures ds g sc ns (i + objects_of_starts is) n some1 h a in
-    record { words = more.words; agree = more.agree; keeps = more.keeps; globals = more.globals; means = λ w u bases frame grown r. more.means w u bases frame grown (record { each = r.each }) }
-
--- ---- the variables of a LET
-
--- the slots of variables that begin so, from a depth on
-abbrev pub slots_of : List Binding → ℕ → Starts → List ℕ
-slots_of bs d t.no_starts = []
-slots_of bs d (t.value e is) = d ∷ slots_of bs (d + 1) is
-slots_of bs d (t.vector l e is) = (d + worth (constant_word bs e) + 1) ∷ slots_of bs (d + worth (constant_word bs e) + 2) is
-
--- and the depth behind them
-abbrev pub depth_past : List Binding → ℕ → Starts → ℕ
-depth_past bs d t.no_starts = d
-depth_past bs d (t.value e is) = depth_past bs (d + 1) is
-depth_past bs d (t.vector l e is) = depth_past bs (d + worth (constant_word bs e) + 2) is
-
--- variables of procedure k in scope
-abbrev pub from_spots : ℕ → List Spot → List Binding
-from_spots k [] = []
-from_spots k (p ∷ ps) = record { name = p.name; bound = b.Variable k p.slot } ∷ from_spots k ps
-
--- their slots are in a frame
-abbrev pub InFrame : List Spot → Type 0
-InFrame [] = Unit {0}
-InFrame (p ∷ ps) = (p.slot ≤ FRAME_WORDS) × InFrame ps
-
-pub from_both : (k : ℕ) (xs ys : List Spot) → from_spots k (xs ++ ys) ≡ from_spots k xs ++ from_spots k ys
-from_both k [] ys = refl
-from_both k (x ∷ xs) ys = ap (λ z. record { name = x.name; bound = b.Variable k x.slot } ∷ z) (from_both k xs ys)
-
-pub frame_both : (xs ys : List Spot) → InFrame xs → InFrame ys → InFrame (xs ++ ys)
-frame_both [] ys a c = c
-frame_both (x ∷ xs) ys a c = (a.0, frame_both xs ys a.1 c)
-
-pub record VariablesBehind (g : Setting) (sc : Scene) (ns : List Named) (i o k : ℕ) (ps : List Spot) : Type 0 where
-  pub words : HasWords (bind_all (from_spots k ps) sc.bindings)
-  pub agree : Agree (variables_bound o ps (with_names ns i)).names (bind_all (from_spots k ps) sc.bindings)
-  pub globals : AgreeGlobals ns sc.bindings → AgreeGlobals (variables_bound o ps (with_names ns i)).names (bind_all (from_spots k ps) sc.bindings)
-  pub next : (variables_bound o ps (with_names ns i)).next ≡ i
-  pub keeps : KeepsLabels sc.bindings (bind_all (from_spots k ps) sc.bindings)
-
-variable_at : (sc : Scene) (bases : List ℕ) (frame : ℕ) (x : List ℕ) (o k n : ℕ) → frame ≤ 2 ^ 31 - 65536 → n ≤ FRAME_WORDS → BaseOf bases o (frame + n) → bound_in sc.bindings x ≡ Some (b.Variable k n) → NameAt sc bases frame x (Some (cell o 0))
-variable_at sc bases frame x o k n low few base e =
-    let small : frame + n + 0 < 2 ^ 32 = omega (arith, low, few) in
-    let at : frame + n + 0 ≡ frame + n = omega arith in
-    (frame + n, base, small, at ∙ ap (λ y. place_of sc.own frame (variable sc.targets (meant y))) (sym e), subst (λ y. IsWord y) (sym e) tt)
-
-pub variables_behind : (ps : List Spot) (g : Setting) (sc : Scene) (ns : List Named) (i o k : ℕ) → 0 < o → HasWords sc.bindings → Agree ns sc.bindings → VariablesBehind g sc ns i o k ps
-variables_behind [] g sc ns i o k some h a = record { words = h; agree = a; globals = λ w. w; next = refl; keeps = keeps_same sc.bindings }
-variables_behind (p ∷ ps) g sc ns i o k some h a =
-    let bs : List Binding = sc.bindings in
-    let y : Bound = b.Variable k p.slot in
-    let s : Sense = cell o 0 in
-    let some1 : 0 < suc o = omega arith in
-    let more = variables_behind ps g (record sc { bindings = bind p.name y bs }) (record { name = p.name; sense = s } ∷ ns) i (suc o) k some1 (words_bound p.name y bs (λ v r. absurd (cc)) h) (agree_bound p.name s y ns bs refl a) in
-    record {
-      words = more.words;
-      agree = more.agree;
-      globals = λ w. more.globals (globals_bound p.name s y ns bs (own_cell o 0 some) w);
-      next = more.next;
-      keeps = keeps_both bs (bind p.name y bs) (bind_all (from_spots k ps) (bind p.name y bs)) (keeps_bound p.name y bs (λ z. z)) more.keeps;
-    }
-
-variables_mean : (ps : List Spot) (sc : Scene) (env : Environment) (o k : ℕ) (bases : List ℕ) (frame : ℕ) → InFrame ps → frame ≤ 2 ^ 31 - 65536 → AreAt bases o frame ps → NamedIn sc env bases frame
-    → NamedIn (record sc { bindings = bind_all (from_spots k ps) sc.bindings }) (variables_bound o ps env) bases frame
-variables_mean [] sc env o k bases frame f low at n = n
-variables_mean (p ∷ ps) sc env o k bases frame f low at n =
-    let y : Bound = b.Variable k p.slot in
-    let sc1 : Scene = record sc { bindings = bind p.name y sc.bindings } in
-    variables_mean ps sc1 (m.bind p.name (cell o 0) env) (suc o) k bases frame f.1 low at.1
-    (bound_named sc env bases frame p.name y (cell o 0) (variable_at sc1 bases frame p.name o k p.slot low f.0 at.0 (itself p.name y sc.bindings)) n)
-
-keeps_spots : (ps : List Spot) (k : ℕ) (bs : List Binding) → KeepsLabels bs (bind_all (from_spots k ps) bs)
-keeps_spots [] k bs = keeps_same bs
-keeps_spots (p ∷ ps) k bs = keeps_both bs (bind p.name (b.Variable k p.slot) bs) (bind_all (from_spots k ps) (bind p.name (b.Variable k p.slot) bs)) (keeps_bound p.name (b.Variable k p.slot) bs (λ z. z)) (keeps_spots ps k (bind p.name (b.Variable k p.slot) bs))
-
--- the names of a LET's variables mean their words
-pub renames_variables : (ps : List Spot) (sc : Scene) (bl : List Binding) (env : Environment) (n k : ℕ) → KeepsLabels sc.bindings bl → InFrame ps
-    → RenamesVariables sc bl env (bind_all (from_spots k ps) bl) ps (m.behind n env)
-renames_variables ps sc bl env n k keeps f = (
-  keeps_both sc.bindings bl (bind_all (from_spots k ps) bl) keeps (keeps_spots ps k bl),
-  λ o bases frame low at r. variables_mean ps (record sc { bindings = bl }) (m.behind n env) o k bases frame f low at (record { each = r.each }),
-)
-
--- the variables that scoping binds
-most_within : (most : ℕ) (w : ℕ) → w ≤ most → nat_lt most w ≡ false
-most_within most w h = grind (arith, nat_tests)
-
-vector_size : (bs : List Binding) (e : Expression) → HasWordUpTo VEC_NUMBER (constant_word bs e) → words_of_start bs e ≡ worth (constant_word bs e) + 1
-vector_size bs e h =
-    let is_word = h.1 in
-    ap (λ y. words_of_vector (within VEC_NUMBER y)) is_word ∙ ap (λ (q : Bool). words_of_vector (cond q None (Some h.0))) (most_within VEC_NUMBER h.0 h.2) ∙ ap (λ y. worth y + 1) (sym is_word)
-
-pub depth_grows : (bs : List Binding) (d : ℕ) (is : Starts) → d ≤ depth_past bs d is
-depth_grows bs d t.no_starts = omega arith
-depth_grows bs d (t.value e is) = let h = depth_grows bs (d + 1) is in omega (arith, h)
-depth_grows bs d (t.vector l e is) = let h = depth_grows bs (d + worth (constant_word bs e) + 2) is in omega (arith, h)
-
--- vectors of a LET have constants that may be
-abbrev pub VectorsSound : List Binding → Starts → Type 0
-VectorsSound bs t.no_starts = Unit {0}
-VectorsSound bs (t.value e is) = VectorsSound bs is
-VectorsSound bs (t.vector l e is) = HasWordUpTo VEC_NUMBER (constant_word bs e) × VectorsSound bs is
-
-pub vectors_sound : (bs : List Binding) (p : Place) (s : ScopeSpot) (is : Starts) → SoundStarted bs p s is → VectorsSound bs is
-vectors_sound bs p s t.no_starts h = tt
-vectors_sound bs p s (t.value e is) h = vectors_sound bs (deeper 1 p) (scope_spot.behind e s) is h.1
-vectors_sound bs p s (t.vector l e is) h = (h.0, vectors_sound bs (deeper (words_of_start bs e + 1) p) (scope_spot.behind_constant e s) is h.1)
-
--- what one definition of variables binds
-pub record VariablesOf (bs : List Binding) (p : Place) (d : ℕ) (xs : List Mention) (is : Starts) : Type 0 where
-  pub are : variables_of bs p xs is ≡ from_spots p.procedure (spots_of (letters xs) (slots_of bs d is))
-  pub fit : InFrame (spots_of (letters xs) (slots_of bs d is))
-  pub procedure : (place_behind bs p is).procedure ≡ p.procedure
-  pub depth : (place_behind bs p is).depth ≡ depth_past bs d is
-
-pub variables_are : (bs : List Binding) (p : Place) (d : ℕ) (xs : List Mention) (is : Starts) → p.depth ≡ d → length xs ≡ starts is → VectorsSound bs is → depth_past bs d is ≤ FRAME_WORDS → VariablesOf bs p d xs is
-variables_are bs p d [] t.no_starts at few h low = record { are = refl; fit = tt; procedure = refl; depth = at }
-variables_are bs p d (x ∷ xs) t.no_starts at few h low = absurd (omega (arith, few))
-variables_are bs p d [] (t.value e is) at few h low = absurd (omega (arith, few))
-variables_are bs p d [] (t.vector l e is) at few h low = absurd (omega (arith, few))
-variables_are bs p d (x ∷ xs) (t.value e is) at few h low =
-    let grows = depth_grows bs (d + 1) is in
-    let at1 : (deeper 1 p).depth ≡ d + 1 = omega (arith, at, grows, low) in
-    let here : (deeper 0 p).depth ≡ d = omega (arith, at, grows, low) in
-    let in_frame : d ≤ FRAME_WORDS = omega (arith, grows, low) in
-    let few1 : length xs ≡ starts is = omega (arith, few) in
-    let more = variables_are bs (deeper 1 p) (d + 1) xs is at1 few1 h low in
-    record {
-      are = ap (λ z. record { name = x.letters; bound = b.Variable p.procedure z } ∷ variables_of bs (deeper 1 p) xs is) here ∙ ap (λ z. record { name = x.letters; bound = b.Variable p.procedure d } ∷ z) more.are;
-      fit = (in_frame, more.fit);
-      procedure = more.procedure;
-      depth = more.depth;
-    }
-variables_are bs p d (x ∷ xs) (t.vector l e is) at few h low =
-    let size : ℕ = worth (constant_word bs e) in
-    let grows = depth_grows bs (d + size + 2) is in
-    let words = vector_size bs e h.0 in
-    let at1 : (deeper (words_of_start bs e + 1) p).depth ≡ d + size + 2 = omega (arith, at, grows, low, words) in
-    let here : (deeper (words_of_start bs e) p).depth ≡ d + size + 1 = omega (arith, at, grows, low, words) in
-    let in_frame : d + size + 1 ≤ FRAME_WORDS = omega (arith, grows, low) in
-    let few1 : length xs ≡ starts is = omega (arith, few) in
-    let p1 : Place = deeper (words_of_start bs e + 1) p in
-    let more = variables_are bs p1 (d + size + 2) xs is at1 few1 h.1 low in
-    record {
-      are = ap (λ z. record { name = x.letters; bound = b.Variable p.procedure z } ∷ variables_of bs p1 xs is) here ∙ ap (λ z. record { name = x.letters; bound = b.Variable p.procedure (d + size + 1) } ∷ z) more.are;
-      fit = (in_frame, more.fit);
-      procedure = more.procedure;
-      depth = more.depth;
-    }
-
-pub past_is : (bs : List Binding) (p : Place) (s : ScopeSpot) (d : ℕ) (is : Starts) → depth_past bs d is ≡ behind_starts d (starts_named bs p s is)
-past_is bs p s d t.no_starts = refl
-past_is bs p s d (t.value e is) = past_is bs (deeper 1 p) (scope_spot.behind e s) (d + 1) is
-past_is bs p s d (t.vector l e is) = past_is bs (deeper (words_of_start bs e + 1) p) (scope_spot.behind_constant e s) (d + worth (constant_word bs e) + 2) is
-
--- all variables of a LET
-abbrev pub spots_in : List Binding → Place → ScopeSpot → ℕ → Definitions → List Spot
-spots_in bs p s d t.no_definitions = []
-spots_in bs p s d (t.define (t.variables l xs is) ds) =
-    spots_of (letters xs) (slots_of bs d is) ++ spots_in bs (place_behind bs p is) (scope_spot.behind_one_defined (t.variables l xs is) s) (behind_starts d (starts_named bs p (scope_spot.past (length xs) s) is)) ds
-spots_in bs p s d (t.define (t.routine l x fs c) ds) = spots_in bs p (scope_spot.behind_one_defined (t.routine l x fs c) s) d ds
-spots_in bs p s d (t.define (t.function l x fs e) ds) = spots_in bs p (scope_spot.behind_one_defined (t.function l x fs e) s) d ds
-
-pub definitions_grow : (bs : List Binding) (p : Place) (s : ScopeSpot) (d : ℕ) (ds : Definitions) → d ≤ behind_definitions d (definitions_named bs p s ds)
-definitions_grow bs p s d t.no_definitions = omega arith
-definitions_grow bs p s d (t.define (t.routine l x fs c) ds) = definitions_grow bs p (scope_spot.behind_one_defined (t.routine l x fs c) s) d ds
-definitions_grow bs p s d (t.define (t.function l x fs e) ds) = definitions_grow bs p (scope_spot.behind_one_defined (t.function l x fs e) s) d ds
-definitions_grow bs p s d (t.define (t.variables l xs is) ds) =
-    let d1 : ℕ = behind_starts d (starts_named bs p (scope_spot.past (length xs) s) is) in
-    let first = depth_grows bs d is in
-    let same : depth_past bs d is ≡ d1 = past_is bs p (scope_spot.past (length xs) s) d is in
-    let others = definitions_grow bs (place_behind bs p is) (scope_spot.behind_one_defined (t.variables l xs is) s) d1 ds in
-    omega (arith, first, same, others)
-
-pub record VariablesIn (bs : List Binding) (p : Place) (s : ScopeSpot) (d : ℕ) (ds : Definitions) : Type 0 where
-  pub are : variables_in_scope bs p ds ≡ from_spots p.procedure (spots_in bs p s d ds)
-  pub fit : InFrame (spots_in bs p s d ds)
-  pub procedure : (place_behind_defined bs p ds).procedure ≡ p.procedure
-  pub depth : (place_behind_defined bs p ds).depth ≡ behind_definitions d (definitions_named bs p s ds)
-
-pub variables_in : (bs : List Binding) (p : Place) (s : ScopeSpot) (d : ℕ) (ds : Definitions) → p.depth ≡ d → SoundDefined bs p s ds → RegularDefinitions ds → behind_definitions d (definitions_named bs p s ds) ≤ FRAME_WORDS → VariablesIn bs p s d ds
-variables_in bs p s d t.no_definitions at h r low = record { are = refl; fit = tt; procedure = refl; depth = at }
-variables_in bs p s d (t.define (t.routine l x fs c) ds) at h r low =
-    let more = variables_in bs p (scope_spot.behind_one_defined (t.routine l x fs c) s) d ds at h.1 r.1 low in
-    record { are = more.are; fit = more.fit; procedure = more.procedure; depth = more.depth }
-variables_in bs p s d (t.define (t.function l x fs e) ds) at h r low =
-    let more = variables_in bs p (scope_spot.behind_one_defined (t.function l x fs e) s) d ds at h.1 r.1 low in
-    record { are = more.are; fit = more.fit; procedure = more.procedure; depth = more.depth }
-variables_in bs p s d (t.define (t.variables l xs is) ds) at h r low =
-    let s0 : ScopeSpot = scope_spot.past (length xs) s in
-    let s1 : ScopeSpot = scope_spot.behind_one_defined (t.variables l xs is) s in
-    let p1 : Place = place_behind bs p is in
-    let d1 : ℕ = behind_starts d (starts_named bs p s0 is) in
-    let same : depth_past bs d is ≡ d1 = past_is bs p s0 d is in
-    let grows : d1 ≤ behind_definitions d1 (definitions_named bs p1 s1 ds) = definitions_grow bs p1 s1 d1 ds in
-    let low0 : depth_past bs d is ≤ FRAME_WORDS = omega (arith, same, grows, low) in
-    let first = variables_are bs p d xs is at r.0.0 (vectors_sound bs p s0 is h.0) low0 in
-    let more = variables_in bs p1 s1 d1 ds (first.depth ∙ same) h.1 r.1 low in
-    let here : List Spot = spots_of (letters xs) (slots_of bs d is) in
-    let others : List Spot = spots_in bs p1 s1 d1 ds in
-    record {
-      are = ap (λ z. z ++ variables_in_scope bs p1 ds) first.are ∙ ap (λ z. from_spots p.procedure here ++ z) (more.are ∙ ap (λ k. from_spots k others) first.procedure) ∙ sym (from_both p.procedure here others);
-      fit = frame_both here others first.fit more.fit;
-      procedure = more.procedure ∙ first.procedure;
-      depth = more.depth;
-    }
+    record { agree = whole2.agree; keeps = whole2.keeps; renames = whole2.renames }

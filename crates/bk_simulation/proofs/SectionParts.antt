@@ -13,8 +13,9 @@ use Rattle.bk_trans.specs.declared.around.Target.{Target}
 use Rattle.bk_trans.specs.Program as term
 use Rattle.bk_trans.specs.Parts.{Part, procedure, static_item, static_table, label_place, target_of}
 use Rattle.bk_trans.specs.Scheme.{procedure_code, data_code, word_code, entries_of, section_code}
+use Rattle.bk_trans.proofs.Scopes.{AllFound}
 use Rattle.bk_simulation.proofs.Standing.{StandsAt, written}
-use Rattle.bk_simulation.proofs.LaidExpressions.{AllFound, FoundParts}
+use Rattle.bk_simulation.proofs.LaidExpressions.{FoundParts}
 use Rattle.bk_simulation.proofs.LaidProcedures.{all_passed}
 
 targets_front : (ts xs ys : List Target) → AllFound ts (xs ++ ys) → AllFound ts xs

@@ -1,27 +1,29 @@
 -- Where code stands in a section, with the depth before it; what a label and a call have from that; and the bases of lasting objects
 -- one behind the other.
-use Rattle.std.proofs.Common.{◌≡◌, ℕ, false, zero, suc, ◌+◌, ◌≤◌, List, [], ◌∷◌, ◌++◌, length, Option, Some, None, take, drop, slice_get, refl, ap, ◌∙◌, subst, arith}
+use Rattle.std.proofs.Common.{◌≡◌, ℕ, false, zero, suc, ◌+◌, ◌<◌, ◌≤◌, List, [], ◌∷◌, ◌++◌, length, Some, take, drop, slice_get, refl, ap, ◌∙◌, subst, arith}
 use Rattle.bk_base.specs.declared.limit.TheConstants.{FRAME_WORDS}
 use Rattle.bk_ocode.specs.Depth.{next_depth, depth_behind}
 use Rattle.bk_ocode.specs.Section.{AreFaultless}
 use Rattle.bk_ocode.specs.OcodeState.{Placed}
+use Rattle.bk_ocode.specs.OcodeRun.{Program}
+use Rattle.bk_ocode.specs.WellPlaced.{IsWellPlaced}
+use Rattle.bk_simulation.proofs.BasesBelow.{AreBelow, AreSet, below_both, set_both}
 use Rattle.bk_ocode.specs.OcodeStep.{from_label}
 use Rattle.bk_ocode.specs.declared.stmt.Stmt.{Stmt}
 use Rattle.bk_ocode.specs.declared.stmt.Stmt.TheVariants.{Label}
 use Rattle.bk_ocode.proofs.Depths.{depth_within}
 use Rattle.bk_ocode.proofs.LabelsOnce.{label_has_one_place}
-use Rattle.bk_scope.specs.declared.bound.Bound.{Bound}
-use Rattle.bk_scope.specs.declared.bound.Bound.TheVariants.{Global}
-use Rattle.bk_scope.specs.Scope.{Binding, bound_in}
-use Rattle.bk_scope.specs.Constants.{named_word}
+use Rattle.bk_scope.specs.Scope.{Binding}
 use Rattle.bk_trans.specs.declared.around.Target.{Target}
 use Rattle.bk_trans.specs.Scheme.{outermost}
-use Rattle.bk_meaning.specs.Environment.{Named, sense_in, word_named, global_named}
+use Rattle.bk_meaning.specs.Environment.{Named}
 use Rattle.bk_meaning.specs.Lasting.{Lasting}
 use Rattle.bk_simulation.proofs.Memory.{BaseOf, Grown}
 use Rattle.bk_simulation.proofs.Sought.{with_names}
 use Rattle.bk_simulation.proofs.Laid.{Setting, Scene, LabelAt, CallAt, NamedIn}
-use Rattle.bk_simulation.proofs.Held.{HeldOne, HeldList, held_both, lasting_both}
+use Rattle.bk_simulation.proofs.Held.{HeldOneIn, HeldIn, held_in_both, lasting_both}
+use Rattle.bk_simulation.proofs.NamesAgree.{Agree}
+use Rattle.bk_simulation.proofs.LastingKinds.{Kind, AsKind, AreAs, as_both}
 
 -- these statements stand in the section, and this is the depth before them
 pub record StandsAt (own : Placed) (depth : ℕ) (c : List Stmt) : Type 0 where
@@ -129,54 +131,55 @@ pub record Fitting (h : Home) (g : Setting) : Type 0 where
   pub own : slice_get g.program.sections h.section ≡ Some h.own
   pub pays : h.pay ≤ g.pay
 
--- and whose lasting objects have these bases, and those that are procedures these words
+-- and whose lasting objects from this number on, which are not the global vector, have these bases, and those that are procedures
+-- these words
 pub record Suits (h : Home) (next : ℕ) (bases entries : List ℕ) (g : Setting) : Type 0 where
   pub fits : Fitting h g
+  pub some : 0 < next
   pub follow : Follow g.lasting next bases
   pub words : FollowWords g.codes.procedure next entries
-
--- names that mean the same constants in the run and in scope
-abbrev pub Agree : List Named → List Binding → Type 0
-Agree ns bs = (x : List ℕ) → word_named (sense_in ns x) ≡ named_word (bound_in bs x)
 
 -- some procedure there
 abbrev pub there_in : Home → ℕ → Scene
 there_in h k = record { section = h.section; own = h.own; targets = h.targets; bindings = h.bindings; procedure = k; around = outermost; exits = record { loop = false; switch = false } }
 
--- the global that a name means
-abbrev pub global_of : Option Bound → Option ℕ
-global_of (Some (Global (Some k))) = Some k
-global_of _ = None
-
-abbrev pub AgreeGlobals : List Named → List Binding → Type 0
-AgreeGlobals ns bs = (x : List ℕ) → global_named (sense_in ns x) ≡ global_of (bound_in bs x)
-
 -- names that mean in each run what they should there
 abbrev pub Mean : Home → Setting → List Named → Type 0
-Mean h g ns = ((k : ℕ) (bases : List ℕ) (frame : ℕ) → Grown g.lasting bases → NamedIn (there_in h k) (with_names ns 0) bases frame) × AgreeGlobals ns h.bindings
+Mean h g ns = (k : ℕ) (bases : List ℕ) (frame : ℕ) → Grown g.lasting bases → NamedIn (there_in h k) (with_names ns 0) bases frame
 
--- Lasting objects from this number on, so many, with bases: where a setting has them, this is so, and those objects are held there.
-pub record Bases (h : Home) (next many : ℕ) (objects : List Named → List Lasting) (P : Setting → Type 0) : Type 0 where
+-- where the section stands in a program, they lie below the first frame, and the words of procedures are set
+abbrev pub ArePlaced : Home → List ℕ → List ℕ → Type 0
+ArePlaced h bases entries = (program : Program) (first : ℕ) → IsWellPlaced program first FRAME_WORDS → slice_get program.sections h.section ≡ Some h.own → AreBelow first bases × AreSet entries
+
+abbrev pub IsBelow : Home → ℕ → Type 0
+IsBelow h base = (program : Program) (first : ℕ) → IsWellPlaced program first FRAME_WORDS → slice_get program.sections h.section ≡ Some h.own → base ≤ first
+
+-- Lasting objects from this number on, so many, of these kinds, with bases: where a setting has them, this is so, and those objects are
+-- held there.
+pub record Bases (h : Home) (next many : ℕ) (kinds : List Kind) (objects : List Named → List Lasting) (P : Setting → Type 0) : Type 0 where
   pub bases : List ℕ
   pub entries : List ℕ
   pub all : length bases ≡ many
   pub all_entries : length entries ≡ many
   pub count : (ns : List Named) → length (objects ns) ≡ many
   pub laid : (g : Setting) → Suits h next bases entries g → P g
-  pub held : (g : Setting) → Suits h next bases entries g → (ns : List Named) → Agree ns h.bindings → Mean h g ns → HeldList g next (objects ns)
+  pub held : (g : Setting) → Suits h next bases entries g → (ns : List Named) → Agree ns h.bindings → Mean h g ns → HeldIn g h.own next (objects ns)
+  pub alike : (g : Setting) → Suits h next bases entries g → (ns : List Named) → Agree ns h.bindings → Mean h g ns → AreAs h.own kinds (objects ns) bases entries
+  pub placed : ArePlaced h bases entries
 
 -- none
-pub no_bases : (h : Home) (next : ℕ) (P : Setting → Type 0) → ((g : Setting) → Fitting h g → P g) → Bases h next 0 (λ ns. []) P
-no_bases h next P f = record { bases = []; entries = []; all = refl; all_entries = refl; count = λ ns. refl; laid = λ g x. f g x.fits; held = λ g x ns a u. tt }
+pub no_bases : (h : Home) (next : ℕ) (P : Setting → Type 0) → ((g : Setting) → Fitting h g → P g) → Bases h next 0 [] (λ ns. []) P
+no_bases h next P f = record { bases = []; entries = []; all = refl; all_entries = refl; count = λ ns. refl; laid = λ g x. f g x.fits; held = λ g x ns a u. tt; alike = λ g x ns a u. tt; placed = λ program first well own. (tt, tt) }
 
 -- one
-pub new_base : (h : Home) (next base : ℕ) (object : List Named → Lasting) (P : Setting → Type 0) → ((g : Setting) → Fitting h g → BaseOf g.lasting next base → P g)
-    → ((g : Setting) → Fitting h g → BaseOf g.lasting next base → (ns : List Named) → Agree ns h.bindings → Mean h g ns → HeldOne g next (object ns)) → Bases h next 1 (λ ns. object ns ∷ []) P
-new_base h next base object P f k = record { bases = base ∷ []; entries = 0 ∷ []; all = refl; all_entries = refl; count = λ ns. refl; laid = λ g x. f g x.fits (x.follow.0); held = λ g x ns a u. (k g x.fits (x.follow.0) ns a u, tt) }
+pub new_base : (h : Home) (next base : ℕ) (kind : Kind) (object : List Named → Lasting) (P : Setting → Type 0) → ((ns : List Named) → Agree ns h.bindings → AsKind h.own kind (object ns) base 1) → IsBelow h base → ((g : Setting) → Fitting h g → BaseOf g.lasting next base → P g)
+    → ((g : Setting) → Fitting h g → BaseOf g.lasting next base → (ns : List Named) → Agree ns h.bindings → Mean h g ns → HeldOneIn g h.own next (object ns)) → Bases h next 1 (kind ∷ []) (λ ns. object ns ∷ []) P
+new_base h next base kind object P z low f k = record { bases = base ∷ []; entries = 1 ∷ []; all = refl; all_entries = refl; count = λ ns. refl; laid = λ g x. f g x.fits (x.follow.0); held = λ g x ns a u. (k g x.fits (x.follow.0) ns a u, tt); alike = λ g x ns a u. (z ns a, tt); placed = λ program first well own. ((low program first well own, tt), (omega arith, tt)) }
 
 -- those of one part and then those of another
-pub both_bases : (h : Home) (next n m : ℕ) {K L : List Named → List Lasting} (P Q : Setting → Type 0) → Bases h next n K P → Bases h (next + n) m L Q → Bases h next (n + m) (λ ns. K ns ++ L ns) (λ g. P g × Q g)
-both_bases h next n m {K} {L} P Q a b =
+pub both_bases : (h : Home) (next n m : ℕ) {ks ls : List Kind} {K L : List Named → List Lasting} (P Q : Setting → Type 0) → Bases h next n ks K P → Bases h (next + n) m ls L Q
+    → Bases h next (n + m) (ks ++ ls) (λ ns. K ns ++ L ns) (λ g. P g × Q g)
+both_bases h next n m {ks} {ls} {K} {L} P Q a b =
     let an = a.all in
     let bn = b.all in
     let ae = a.all_entries in
@@ -184,9 +187,9 @@ both_bases h next n m {K} {L} P Q a b =
     let l = length_both a.bases b.bases in
     let le = length_both a.entries b.entries in
     let front : (g : Setting) → Suits h next (a.bases ++ b.bases) (a.entries ++ b.entries) g → Suits h next a.bases a.entries g =
-    λ g x. record { fits = x.fits; follow = follow_first g.lasting next a.bases b.bases x.follow; words = words_first g.codes.procedure next a.entries b.entries x.words } in
+    λ g x. record { fits = x.fits; some = x.some; follow = follow_first g.lasting next a.bases b.bases x.follow; words = words_first g.codes.procedure next a.entries b.entries x.words } in
     let back : (g : Setting) → Suits h next (a.bases ++ b.bases) (a.entries ++ b.entries) g → Suits h (next + n) b.bases b.entries g =
-    λ g x. record { fits = x.fits; follow = follow_second g.lasting next n a.bases b.bases an x.follow; words = words_second g.codes.procedure next n a.entries b.entries ae x.words } in
+    λ g x. record { fits = x.fits; some = (let z = x.some in omega (arith, z)); follow = follow_second g.lasting next n a.bases b.bases an x.follow; words = words_second g.codes.procedure next n a.entries b.entries ae x.words } in
     record {
       bases = a.bases ++ b.bases;
       entries = a.entries ++ b.entries;
@@ -194,54 +197,104 @@ both_bases h next n m {K} {L} P Q a b =
       all_entries = omega (arith, ae, be, le);
       count = λ ns. let x = a.count ns in let y = b.count ns in let z = lasting_both (K ns) (L ns) in omega (arith, x, y, z);
       laid = λ g x. (a.laid g (front g x), b.laid g (back g x));
-      held = λ g x ns e u. held_both g next n (K ns) (L ns) (a.count ns) (a.held g (front g x) ns e u) (b.held g (back g x) ns e u);
+      held = λ g x ns e u. held_in_both g h.own next n (K ns) (L ns) (a.count ns) (a.held g (front g x) ns e u) (b.held g (back g x) ns e u);
+      alike = λ g x ns e u. as_both h.own ks (K ns) a.bases a.entries ls (L ns) b.bases b.entries (a.alike g (front g x) ns e u) (b.alike g (back g x) ns e u);
+      placed = λ program first well own.
+          let p = a.placed program first well own in
+          let q = b.placed program first well own in
+          (below_both first a.bases b.bases p.0 q.0, set_both a.entries b.entries p.1 q.1);
     }
 
 -- those of three
-pub three_bases : (h : Home) (next n m k : ℕ) {K L M : List Named → List Lasting} (P Q R : Setting → Type 0) → Bases h next n K P → Bases h (next + n) m L Q → Bases h (next + n + m) k M R
-    → Bases h next (n + m + k) (λ ns. K ns ++ L ns ++ M ns) (λ g. (P g × Q g) × R g)
-three_bases h next n m k {K} {L} {M} P Q R a b c =
+pub three_bases : (h : Home) (next n m k : ℕ) {ks ls ms : List Kind} {K L M : List Named → List Lasting} (P Q R : Setting → Type 0) → Bases h next n ks K P → Bases h (next + n) m ls L Q → Bases h (next + n + m) k ms M R
+    → Bases h next (n + m + k) (ks ++ ls ++ ms) (λ ns. K ns ++ L ns ++ M ns) (λ g. (P g × Q g) × R g)
+three_bases h next n m k {ks} {ls} {ms} {K} {L} {M} P Q R a b c =
     let e : next + n + m ≡ next + (n + m) = omega arith in
-    both_bases h next (n + m) k _ R (both_bases h next n m P Q a b) (subst (λ x. Bases h x k M R) e c)
+    both_bases h next (n + m) k _ R (both_bases h next n m P Q a b) (subst (λ x. Bases h x k ms M R) e c)
 
-pub bases_so : (h : Home) (next n : ℕ) {L : List Named → List Lasting} (P Q : Setting → Type 0) → ((g : Setting) → Fitting h g → P g → Q g) → Bases h next n L P → Bases h next n L Q
-bases_so h next n P Q f a = record { bases = a.bases; entries = a.entries; all = a.all; all_entries = a.all_entries; count = a.count; laid = λ g x. f g x.fits (a.laid g x); held = a.held }
+pub bases_so : (h : Home) (next n : ℕ) {ks : List Kind} {L : List Named → List Lasting} (P Q : Setting → Type 0) → ((g : Setting) → Fitting h g → P g → Q g) → Bases h next n ks L P → Bases h next n ks L Q
+bases_so h next n P Q f a = record { bases = a.bases; entries = a.entries; all = a.all; all_entries = a.all_entries; count = a.count; laid = λ g x. f g x.fits (a.laid g x); held = a.held; alike = a.alike; placed = a.placed }
 
 -- the same objects, said otherwise
-pub bases_of : (h : Home) (next n : ℕ) (K L : List Named → List Lasting) (P : Setting → Type 0) → ((ns : List Named) → K ns ≡ L ns) → Bases h next n K P → Bases h next n L P
-bases_of h next n K L P e a = record {
+pub bases_of : (h : Home) (next n : ℕ) {ks : List Kind} (K L : List Named → List Lasting) (P : Setting → Type 0) → ((ns : List Named) → K ns ≡ L ns) → Bases h next n ks K P → Bases h next n ks L P
+bases_of h next n {ks} K L P e a = record {
   bases = a.bases;
   entries = a.entries;
   all = a.all;
   all_entries = a.all_entries;
   count = λ ns. subst (λ x. length x ≡ n) (e ns) (a.count ns);
   laid = a.laid;
-  held = λ g x ns u v. subst (λ y. HeldList g next y) (e ns) (a.held g x ns u v);
+  held = λ g x ns u v. subst (λ y. HeldIn g h.own next y) (e ns) (a.held g x ns u v);
+  alike = λ g x ns u v. subst (λ y. AreAs h.own ks y a.bases a.entries) (e ns) (a.alike g x ns u v);
+  placed = a.placed;
 }
 
 -- with more names in scope inside
-pub bases_inside : (h : Home) (bs : List Binding) (next n : ℕ) {L : List Named → List Lasting} (P : Setting → Type 0) (names : List Named → List Named)
-    → ((g : Setting) (ns : List Named) → Agree ns h.bindings → Mean h g ns → Agree (names ns) bs × Mean (record h { bindings = bs }) g (names ns)) → Bases (record h { bindings = bs }) next n L P
-    → Bases h next n (λ ns. L (names ns)) P
+pub bases_inside : (h : Home) (bs : List Binding) (next n : ℕ) {ks : List Kind} {L : List Named → List Lasting} (P : Setting → Type 0) (names : List Named → List Named)
+    → ((g : Setting) (ns : List Named) → Agree ns h.bindings → Mean h g ns → Agree (names ns) bs × Mean (record h { bindings = bs }) g (names ns)) → Bases (record h { bindings = bs }) next n ks L P
+    → Bases h next n ks (λ ns. L (names ns)) P
 bases_inside h bs next n P names f a = record {
   bases = a.bases;
   entries = a.entries;
   all = a.all;
   all_entries = a.all_entries;
   count = λ ns. a.count (names ns);
-  laid = λ g x. a.laid g (record { fits = record { own = x.fits.own; pays = x.fits.pays }; follow = x.follow; words = x.words });
-  held = λ g x ns u v. let i = f g ns u v in a.held g (record { fits = record { own = x.fits.own; pays = x.fits.pays }; follow = x.follow; words = x.words }) (names ns) i.0 i.1;
+  laid = λ g x. a.laid g (record { fits = record { own = x.fits.own; pays = x.fits.pays }; some = x.some; follow = x.follow; words = x.words });
+  held = λ g x ns u v. let i = f g ns u v in a.held g (record { fits = record { own = x.fits.own; pays = x.fits.pays }; some = x.some; follow = x.follow; words = x.words }) (names ns) i.0 i.1;
+  alike = λ g x ns u v. let i = f g ns u v in a.alike g (record { fits = record { own = x.fits.own; pays = x.fits.pays }; some = x.some; follow = x.follow; words = x.words }) (names ns) i.0 i.1;
+  placed = a.placed;
 }
 
--- What is laid, and where the code goes on: with this depth before these statements.
-pub record Lies (h : Home) (next many depth : ℕ) (rest : List Stmt) (objects : List Named → List Lasting) (P : Setting → Type 0) : Type 0 where
-  pub on : StandsAt h.own depth rest
-  pub objects_are : Bases h next many objects P
+-- where their bases say so, more names are in scope inside
+pub bases_under : (h : Home) (bs : List Binding) (next n : ℕ) {ks : List Kind} {L : List Named → List Lasting} (P : Setting → Type 0) (names : List Named → List Named)
+    → ((g : Setting) → 0 < next → P g → (ns : List Named) → Agree ns h.bindings → Mean h g ns → Agree (names ns) bs × Mean (record h { bindings = bs }) g (names ns)) → Bases (record h { bindings = bs }) next n ks L P
+    → Bases h next n ks (λ ns. L (names ns)) P
+bases_under h bs next n P names f a =
+    let inner : (g : Setting) → Suits h next a.bases a.entries g → Suits (record h { bindings = bs }) next a.bases a.entries g =
+    λ g x. record { fits = record { own = x.fits.own; pays = x.fits.pays }; some = x.some; follow = x.follow; words = x.words } in
+    record {
+      bases = a.bases;
+      entries = a.entries;
+      all = a.all;
+      all_entries = a.all_entries;
+      count = λ ns. a.count (names ns);
+      laid = λ g x. a.laid g (inner g x);
+      held = λ g x ns u v. let i = f g x.some (a.laid g (inner g x)) ns u v in a.held g (inner g x) (names ns) i.0 i.1;
+      alike = λ g x ns u v. let i = f g x.some (a.laid g (inner g x)) ns u v in a.alike g (inner g x) (names ns) i.0 i.1;
+      placed = a.placed;
+    }
 
-pub lies_so : (h : Home) (next many depth : ℕ) (rest : List Stmt) {L : List Named → List Lasting} (P Q : Setting → Type 0) → ((g : Setting) → Fitting h g → P g → Q g) → Lies h next many depth rest L P → Lies h next many depth rest L Q
+-- none of them is the global vector
+pub bases_some : (h : Home) (next n : ℕ) {ks : List Kind} {L : List Named → List Lasting} (P : Setting → Type 0) → Bases h next n ks L P → Bases h next n ks L (λ g. (0 < next) × P g)
+bases_some h next n P a = record { bases = a.bases; entries = a.entries; all = a.all; all_entries = a.all_entries; count = a.count; laid = λ g x. (x.some, a.laid g x); held = a.held; alike = a.alike; placed = a.placed }
+
+-- where a step pays for more
+pub bases_paid : (h : Home) (more next n : ℕ) {ks : List Kind} {L : List Named → List Lasting} (P : Setting → Type 0) → h.pay ≤ more → Bases h next n ks L P → Bases (record h { pay = more }) next n ks L P
+bases_paid h more next n P low a =
+    let inner : (g : Setting) → Suits (record h { pay = more }) next a.bases a.entries g → Suits h next a.bases a.entries g =
+    λ g x. record { fits = record { own = x.fits.own; pays = (let z = x.fits.pays in omega (arith, z, low)) }; some = x.some; follow = x.follow; words = x.words } in
+    record {
+      bases = a.bases;
+      entries = a.entries;
+      all = a.all;
+      all_entries = a.all_entries;
+      count = a.count;
+      laid = λ g x. a.laid g (inner g x);
+      held = λ g x ns u v. a.held g (inner g x) ns u v;
+      alike = λ g x ns u v. a.alike g (inner g x) ns u v;
+      placed = a.placed;
+    }
+
+-- What is laid, and where the code goes on: with this depth before these statements.
+pub record Lies (h : Home) (next many depth : ℕ) (rest : List Stmt) (kinds : List Kind) (objects : List Named → List Lasting) (P : Setting → Type 0) : Type 0 where
+  pub on : StandsAt h.own depth rest
+  pub objects_are : Bases h next many kinds objects P
+
+pub lies_so : (h : Home) (next many depth : ℕ) (rest : List Stmt) {ks : List Kind} {L : List Named → List Lasting} (P Q : Setting → Type 0) → ((g : Setting) → Fitting h g → P g → Q g) → Lies h next many depth rest ks L P
+    → Lies h next many depth rest ks L Q
 lies_so h next many depth rest P Q f a = record { on = a.on; objects_are = bases_so h next many P Q f a.objects_are }
 
 -- one statement further
-pub lies_behind : (h : Home) (next many k depth : ℕ) (x : Stmt) (rest : List Stmt) {L : List Named → List Lasting} (P : Setting → Type 0) → next_depth k x ≡ depth → Lies h next many k (x ∷ rest) L P
-    → Lies h next many depth rest L P
+pub lies_behind : (h : Home) (next many k depth : ℕ) (x : Stmt) (rest : List Stmt) {ks : List Kind} {L : List Named → List Lasting} (P : Setting → Type 0) → next_depth k x ≡ depth → Lies h next many k (x ∷ rest) ks L P
+    → Lies h next many depth rest ks L P
 lies_behind h next many k depth x rest P e a = record { on = passed h.own k depth x rest a.on e; objects_are = a.objects_are }

@@ -1,4 +1,5 @@
--- What the types and the grammar of trees give: numbers are words, and an assignment and a LET have as many values as names.
+-- What the types and the grammar of trees give: numbers are words, an assignment and a LET have as many values as names, and
+-- variables stand in blocks alone.
 use Rattle.std.specs.Prelude.{◌≡◌, ℕ, suc, ◌<◌, ◌^◌, length}
 use Rattle.bk_syntax.specs.Tree as t
 use Rattle.bk_syntax.specs.Tree.{Expression, Expressions, Action, Actions, Declaration, Declarations, Items, Definition, Definitions, Starts}
@@ -72,5 +73,17 @@ abbrev mutual
   RegularStarts (t.value e is) = Regular e × RegularStarts is
   RegularStarts (t.vector l e is) = Regular e × RegularStarts is
 
+-- variables stand in blocks alone: outside them a LET has procedures
+abbrev pub DefineNoVariables : Definitions → Type 0
+DefineNoVariables t.no_definitions = Unit {0}
+DefineNoVariables (t.define (t.routine l x fs c) ds) = DefineNoVariables ds
+DefineNoVariables (t.define (t.function l x fs e) ds) = DefineNoVariables ds
+DefineNoVariables (t.define (t.variables l xs is) ds) = ⊥
+
+abbrev pub DeclareNoVariables : Declarations → Type 0
+DeclareNoVariables t.no_declarations = Unit {0}
+DeclareNoVariables (t.declare (t.constants l s is) ds) = DeclareNoVariables ds
+DeclareNoVariables (t.declare (t.definitions l hs) ds) = DefineNoVariables hs × DeclareNoVariables ds
+
 abbrev pub IsRegular : Declarations → Type 0
-IsRegular ds = RegularDeclarations ds
+IsRegular ds = RegularDeclarations ds × DeclareNoVariables ds

@@ -3,7 +3,7 @@ use Rattle.std.proofs.Common.{arith, ◌≡◌, ℕ, suc, ◌+◌, ◌≤◌, Li
 use Rattle.bk_base.specs.declared.limit.TheConstants.{OCODE_LABEL, OCODE_STATEMENTS, OCODE_WORDS}
 use Rattle.bk_syntax.specs.Tree.{Declarations}
 use Rattle.bk_scope.specs.Points.{Point, meaning, word, depth, wrong, claim, words_of}
-use Rattle.bk_scope.specs.Faults.{told_of, meanings, words}
+use Rattle.bk_scope.specs.Faults.{faults, told_of, meanings, words}
 use Rattle.bk_scope.specs.Sound.{SoundSection}
 use Rattle.bk_scope.proofs.Parts.{section_clean}
 use Rattle.bk_scope.proofs.Soundness.{section_sound}
@@ -68,11 +68,17 @@ accepted ds sound quiet few short small =
     typed_is_section plan (scheme (named_tree ds)) (section_typed plan ps good right short) once
     (λ l used. let h = look_set ms l used in let i = section_marked l ps in omega (arith, h, i)) short small
 
+section_quiet : (ds : Declarations) → faults ds ≡ [] → AreWords (words ds) → Quiet (told_of ds)
+section_quiet ds none are = record { all = all_quiet (told_of ds) are; claims = []; clean = section_clean ds none }
+
+-- the targets of a section without faults are found by their numbers
+pub targets_found : (ds : Declarations) → faults ds ≡ [] → AreWords (words ds) → AllFound (joined target_of (parts_of_declarations 2 1 (named_tree ds))) (joined target_of (parts_of_declarations 2 1 (named_tree ds)))
+targets_found ds none are = section_found ds (section_quiet ds none are)
+
 pub scheme_is_accepted : SchemeIsAccepted
 scheme_is_accepted ds none within are =
     let same : program_of ds (meanings ds) (words ds) ≡ named_tree ds = ap (λ x. x.part) (filling_names ds none) in
-    let quiet : Quiet (told_of ds) = record { all = all_quiet (told_of ds) are; claims = []; clean = section_clean ds none } in
-    accepted ds (section_sound ds none) quiet
+    accepted ds (section_sound ds none) (section_quiet ds none are)
     (subst (λ (xs : p.Declarations). 1 + labels_of_declarations xs ≤ OCODE_LABEL) same (labels_are_few ds (meanings ds) (words ds) within))
     (subst (λ (xs : p.Declarations). length (scheme xs) ≤ OCODE_STATEMENTS) same (statements_are_few ds (meanings ds) (words ds) within))
     (subst (λ (xs : p.Declarations). text_size (scheme xs) ≤ OCODE_WORDS) same (words_are_few ds (meanings ds) (words ds) within))

@@ -8,7 +8,7 @@ mod Ranges
 mod Rows
 mod FormRows
 mod Few
-mod Once
+pub mod Once
 mod Named
 mod Counted
 mod Marks
@@ -18,10 +18,10 @@ mod Cases
 mod Forms
 mod Marked
 mod Sections
-mod Scopes
+pub mod Scopes
 mod Told
-mod Bodies
+pub mod Bodies
 mod Nested
 mod Numbered
 mod Words
-mod Accepted
+pub mod Accepted

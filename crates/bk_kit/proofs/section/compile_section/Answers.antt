@@ -13,6 +13,7 @@ returns-in_err-code_of-clause-refuses c =
 
 pub returns-clause-compiled : goal.returns-clause-compiled
 returns-clause-compiled c = record {
+  bytes = c.are_bytes.ensures;
   tokens = section_of c.in_ok-lexed.lexed;
   lexed_as = c.in_ok-lexed.ensures.gives;
   has =

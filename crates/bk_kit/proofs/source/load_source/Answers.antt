@@ -16,9 +16,10 @@ pub returns-in_err-load-clause-refused : goal.returns-in_err-load-clause-refused
 returns-in_err-load-clause-refused g c =
     let made = c.in_ok-segments.ensures.assembled in
     let same : segments made.parts ≡ map items_of c.as_slice.result.now = made.segments_are ∙ ap (map items_of) (sym c.as_slice.ensures.value) in
-    let refused = not_loaded c.args.words (g.C.ByteIn.left c.args.source.now) (g.C.ByteIn.left c.assemble.new.source) (g.C.ByteIn.ended c.assemble.new.source) c.in_err-load.field-0.0 made.parts made.has
+    let refused = not_loaded c.args.words (g.C.ByteIn.left c.args.source.now) (g.C.ByteIn.left c.assemble.new.source) (g.C.ByteIn.ended c.assemble.new.source)
+    c.sources_run.ensures.too_small c.sources_run.ensures.startless c.requires.most c.in_err-load.field-0.0 made.parts made.has
     (λ small. rw same (c.load.ensures.too_small.0 (c.in_err-load.was ∙ ap Err small)))
-    (λ none. rw same ((c.load.ensures.no_start.0 (c.in_err-load.was ∙ ap Err none)).1)) in
+    (λ none. rw same (c.load.ensures.no_start.0 (c.in_err-load.was ∙ ap Err none))) in
     search (refused, c.from_residual-in_err-load.ensures, rules)
 
 pub returns-clause-loaded : goal.returns-clause-loaded

@@ -8,5 +8,5 @@ returns-clause-headline g c =
     let ran = rw (loads.store, loads.registers, c.words.ensures.value, c.steps.ensures.value) at c.run.ensures.ran loads.fresh in
     let room = rw c.words.ensures.value at loads.room in
     let most = rw c.words.ensures.value at c.words.ensures.within.1 in
-    source_runs c.args.limits.words _ _ _ c.ocode_runs.ensures.runs c.run.result c.args.limits.steps _ _ loads.parts (store_of c.run.new.self) (registers_of c.run.new.self)
+    source_runs c.args.limits.words _ _ _ c.sources_run.ensures.runs c.run.result c.args.limits.steps _ _ loads.parts (store_of c.run.new.self) (registers_of c.run.new.self)
     loads.has room most loads.starts ran c.run.ensures.passes (c.run.ensures.flushed loads.fresh) (c.run.ensures.cause loads.fresh)

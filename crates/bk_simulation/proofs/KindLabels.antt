@@ -1,0 +1,219 @@
+-- Words and procedures that last have labels of their own, and stand in the section that sets them.
+use Rattle.std.proofs.Common.{◌≡◌, ℕ, ◌+◌, ◌<◌, ◌≤◌, ◌==◌, Bool, true, false, cond, List, [], ◌∷◌, ◌++◌, length, map, Some, refl, sym, ap, subst, arith, slice_get, drop, eqb-true, eq-eqb}
+use Rattle.bk_base.specs.Strings.{first_bytes}
+use Rattle.bk_base.specs.Word.{signed}
+use Rattle.bk_syntax.specs.Tree.{Declarations}
+use Rattle.bk_scope.specs.declared.bound.Bound.{Bound}
+use Rattle.bk_scope.specs.declared.bound.Bound.TheVariants as b
+use Rattle.bk_ocode.specs.Lists.{joined}
+use Rattle.bk_ocode.specs.OcodeState.{Placement, Placed}
+use Rattle.bk_ocode.specs.SectionData.{item_words}
+use Rattle.bk_ocode.specs.Section.{AreFaultless}
+use Rattle.bk_ocode.specs.Typing.{sets, times_set}
+use Rattle.bk_ocode.specs.declared.stmt.Stmt.{Stmt}
+use Rattle.bk_ocode.specs.declared.stmt.Stmt.TheVariants.{DataLabel, DataNumber, DataAddress, Entry, Globals}
+use Rattle.bk_trans.specs.declared.around.Target.{Target}
+use Rattle.bk_trans.specs.Program as term
+use Rattle.bk_trans.specs.Naming.{named_tree}
+use Rattle.bk_trans.specs.Parts.{Part, procedure, static_item, static_table, label_place, target_of, parts_of_declarations}
+use Rattle.bk_trans.specs.Scheme.{procedure_code, data_code, word_code, entries_of, scheme}
+use Rattle.bk_trans.proofs.Once.{set_both, labels_are_set_once}
+use Rattle.bk_trans.proofs.Accepted.{scheme_is_accepted, targets_found}
+use Rattle.bk_simulation.specs.Placement.{IsAccepted}
+use Rattle.bk_simulation.proofs.LastingKinds.{Kind, string, words_at, entry, Alike, kinds_of_declarations, alike_declarations}
+use Rattle.bk_simulation.proofs.Standing.{first_of}
+use Rattle.bk_simulation.proofs.StringCounts.{times}
+use Rattle.bk_simulation.proofs.LaidExpressions.{DataIn, PartFound, FoundParts}
+use Rattle.bk_simulation.proofs.SectionParts.{section_parts}
+
+-- the label of a procedure's word
+abbrev pub word_label : ℕ → Bound → List ℕ
+word_label n (b.Static m) = (n + 1) ∷ []
+word_label n _ = []
+
+-- the labels of data, and those of procedures
+abbrev pub data_label : Kind → List ℕ
+data_label string = []
+data_label (words_at n vs) = n ∷ []
+data_label (entry n y) = word_label n y
+
+abbrev pub entry_label : Kind → List ℕ
+entry_label string = []
+entry_label (words_at n vs) = []
+entry_label (entry n y) = n ∷ []
+
+-- the same of a part
+abbrev part_data : Part → List ℕ
+part_data (procedure n (term.routine y x m c)) = word_label n y
+part_data (procedure n (term.function y x m e)) = word_label n y
+part_data (procedure n (term.variables is)) = []
+part_data (static_item n k) = n ∷ []
+part_data (static_table n ws) = n ∷ []
+part_data (label_place n s x) = []
+
+abbrev part_entry : Part → List ℕ
+part_entry (procedure n (term.routine y x m c)) = n ∷ []
+part_entry (procedure n (term.function y x m e)) = n ∷ []
+part_entry (procedure n (term.variables is)) = []
+part_entry (static_item n k) = []
+part_entry (static_table n ws) = []
+part_entry (label_place n s x) = []
+
+data_alike : Alike part_data data_label
+data_alike = record { of_string = refl; of_label = λ n s x. refl; of_item = λ n i. refl; of_table = λ n ws. refl; of_routine = λ n y x m c. refl; of_function = λ n y x m e. refl }
+
+entry_alike : Alike part_entry entry_label
+entry_alike = record { of_string = refl; of_label = λ n s x. refl; of_item = λ n i. refl; of_table = λ n ws. refl; of_routine = λ n y x m c. refl; of_function = λ n y x m e. refl }
+
+-- ---- each label is set once
+
+times_both : (l : ℕ) (xs ys : List ℕ) → times l (xs ++ ys) ≡ times l xs + times l ys
+times_both l [] ys = omega arith
+times_both l (x ∷ xs) ys = let h = times_both l xs ys in omega (arith, h)
+
+one_way : (a c : ℕ) → cond (a == c) 1 0 ≤ cond (c == a) 1 0
+one_way a c = picked (a == c) refl
+  where
+    picked : (q : Bool) → (a == c) ≡ q → cond q 1 0 ≤ cond (c == a) 1 0
+    picked true e = let one : ℕ = 1 in let h : cond (c == a) one 0 ≡ one = ap (λ (z : Bool). cond z one 0) (eq-eqb c a (sym (eqb-true a c e))) in omega (arith, h)
+    picked false e = omega arith
+
+-- the first statement sets it
+set_first : (l n : ℕ) (rest : List Stmt) → times l (n ∷ []) ≤ sets l (Some n) + times_set l rest
+set_first l n rest = let h = one_way n l in omega (arith, h)
+
+word_times : (l n : ℕ) (y : Bound) → times l (word_label n y) ≤ times_set l (word_code n y)
+word_times l n (b.Static m) = set_first l (n + 1) (DataAddress n ∷ [])
+word_times l n (b.Constant v) = omega arith
+word_times l n (b.Global v) = omega arith
+word_times l n (b.Variable j v) = omega arith
+word_times l n (b.Label j v) = omega arith
+
+data_times : (l : ℕ) (x : Part) → times l (part_data x) ≤ times_set l (data_code x)
+data_times l (procedure n (term.routine y x m c)) = word_times l n y
+data_times l (procedure n (term.function y x m e)) = word_times l n y
+data_times l (procedure n (term.variables is)) = omega arith
+data_times l (static_item n k) = set_first l n (DataNumber (signed k.word) ∷ [])
+data_times l (static_table n ws) = set_first l n (map (λ w. DataNumber (signed w)) ws)
+data_times l (label_place n s x) = omega arith
+
+entry_times : (l : ℕ) (ts : List Target) (x : Part) → times l (part_entry x) ≤ times_set l (procedure_code ts x)
+entry_times l ts (procedure n (term.routine y x m c)) = let h = one_way n l in omega (arith, h)
+entry_times l ts (procedure n (term.function y x m e)) = let h = one_way n l in omega (arith, h)
+entry_times l ts (procedure n (term.variables is)) = omega arith
+entry_times l ts (static_item n k) = omega arith
+entry_times l ts (static_table n ws) = omega arith
+entry_times l ts (label_place n s x) = omega arith
+
+all_times : (l : ℕ) (f : Part → List ℕ) (code : Part → List Stmt) → ((x : Part) → times l (f x) ≤ times_set l (code x)) → (ps : List Part) → times l (joined f ps) ≤ times_set l (joined code ps)
+all_times l f code each [] = omega arith
+all_times l f code each (x ∷ ps) =
+    let h = each x in
+    let more = all_times l f code each ps in
+    let u = times_both l (f x) (joined f ps) in
+    let v = set_both l (code x) (joined code ps) in
+    omega (arith, h, more, u, v)
+
+-- codes and data are set among the statements of the section
+in_scheme : (ds : Declarations) (l : ℕ) → times_set l (joined (procedure_code (joined target_of (parts_of_declarations 2 1 (named_tree ds)))) (parts_of_declarations 2 1 (named_tree ds)))
+    + times_set l (joined data_code (parts_of_declarations 2 1 (named_tree ds))) ≤ times_set l (scheme (named_tree ds))
+in_scheme ds l =
+    let ps : List Part = parts_of_declarations 2 1 (named_tree ds) in
+    let codes = joined (procedure_code (joined target_of ps)) ps in
+    let items = joined data_code ps in
+    let last = Globals (joined entries_of ps) ∷ [] in
+    let u = set_both l (codes ++ items) last in
+    let v = set_both l codes items in
+    omega (arith, u, v)
+
+pub data_labels_once : (ds : Declarations) (l : ℕ) → times l (joined data_label (kinds_of_declarations 1 (named_tree ds))) ≤ 1
+data_labels_once ds l =
+    let ps : List Part = parts_of_declarations 2 1 (named_tree ds) in
+    let same : times l (joined part_data ps) ≡ times l (joined data_label (kinds_of_declarations 1 (named_tree ds))) = ap (times l) (alike_declarations part_data data_label data_alike 2 1 (named_tree ds)) in
+    let h = all_times l part_data data_code (data_times l) ps in
+    let i = in_scheme ds l in
+    let once = (labels_are_set_once (named_tree ds) l).0 in
+    omega (arith, same, h, i, once)
+
+pub entry_labels_once : (ds : Declarations) (l : ℕ) → times l (joined entry_label (kinds_of_declarations 1 (named_tree ds))) ≤ 1
+entry_labels_once ds l =
+    let ps : List Part = parts_of_declarations 2 1 (named_tree ds) in
+    let ts : List Target = joined target_of ps in
+    let same : times l (joined part_entry ps) ≡ times l (joined entry_label (kinds_of_declarations 1 (named_tree ds))) = ap (times l) (alike_declarations part_entry entry_label entry_alike 2 1 (named_tree ds)) in
+    let h = all_times l part_entry (procedure_code ts) (entry_times l ts) ps in
+    let i = in_scheme ds l in
+    let once = (labels_are_set_once (named_tree ds) l).0 in
+    omega (arith, same, h, i, once)
+
+-- ---- they stand in the section
+
+abbrev pub WordThere : Placed → ℕ → Bound → Type 0
+WordThere own n (b.Static m) = (i : ℕ) × (rest : List Stmt) × (drop i own.stmts ≡ DataLabel (n + 1) ∷ rest) × (0 < length (item_words own.places rest))
+WordThere own n _ = Unit {0}
+
+abbrev pub IsThere : Placed → Kind → Type 0
+IsThere own string = Unit {0}
+IsThere own (words_at n vs) = (i : ℕ) × (rest : List Stmt) × (drop i own.stmts ≡ DataLabel n ∷ rest) × (0 < length vs → 0 < length (item_words own.places rest))
+IsThere own (entry n y) = WordThere own n y × (i : ℕ) × (name : List ℕ) × (slice_get own.stmts i ≡ Some (Entry n name))
+
+abbrev pub AreThere : Placed → List Kind → Type 0
+AreThere own [] = Unit {0}
+AreThere own (k ∷ ks) = IsThere own k × AreThere own ks
+
+there_both : (own : Placed) (ks ls : List Kind) → AreThere own ks → AreThere own ls → AreThere own (ks ++ ls)
+there_both own [] ls h i = i
+there_both own (k ∷ ks) ls h i = (h.0, there_both own ks ls h.1 i)
+
+-- all but strings
+abbrev part_kind : Part → List Kind
+part_kind (procedure n (term.routine y x m c)) = entry n y ∷ []
+part_kind (procedure n (term.function y x m e)) = entry n y ∷ []
+part_kind (procedure n (term.variables is)) = []
+part_kind (static_item n k) = words_at n (k.word ∷ []) ∷ []
+part_kind (static_table n ws) = words_at n ws ∷ []
+part_kind (label_place n s x) = []
+
+abbrev kind_itself : Kind → List Kind
+kind_itself string = []
+kind_itself (words_at n vs) = words_at n vs ∷ []
+kind_itself (entry n y) = entry n y ∷ []
+
+itself_alike : Alike part_kind kind_itself
+itself_alike = record { of_string = refl; of_label = λ n s x. refl; of_item = λ n i. refl; of_table = λ n ws. refl; of_routine = λ n y x m c. refl; of_function = λ n y x m e. refl }
+
+some_items : (places : Placement) (ws : List ℕ) (rest : List Stmt) → 0 < length ws → 0 < length (item_words places (map (λ w. DataNumber (signed w)) ws ++ rest))
+some_items places [] rest some = absurd (omega (arith, some))
+some_items places (w ∷ ws) rest some = omega arith
+
+word_there : (own : Placed) (n : ℕ) (y : Bound) → DataIn own (word_code n y) → WordThere own n y
+word_there own n (b.Static m) d = (d.stands.place, DataAddress n ∷ d.rest, d.stands.behind, omega arith)
+word_there own n (b.Constant v) d = tt
+word_there own n (b.Global v) d = tt
+word_there own n (b.Variable j v) d = tt
+word_there own n (b.Label j v) d = tt
+
+part_there : (own : Placed) (ts : List Target) (x : Part) → PartFound own ts x → AreThere own (part_kind x)
+part_there own ts (procedure n (term.routine y x m c)) f = ((word_there own n y f.2, f.1.stands.place, first_bytes x, (first_of own.stmts f.1.stands.place (Entry n (first_bytes x)) _ f.1.stands.behind).at), tt)
+part_there own ts (procedure n (term.function y x m e)) f = ((word_there own n y f.2, f.1.stands.place, first_bytes x, (first_of own.stmts f.1.stands.place (Entry n (first_bytes x)) _ f.1.stands.behind).at), tt)
+part_there own ts (procedure n (term.variables is)) f = tt
+part_there own ts (static_item n k) f = ((f.2.stands.place, DataNumber (signed k.word) ∷ f.2.rest, f.2.stands.behind, λ some. omega arith), tt)
+part_there own ts (static_table n ws) f = ((f.2.stands.place, map (λ w. DataNumber (signed w)) ws ++ f.2.rest, f.2.stands.behind, λ some. some_items own.places ws f.2.rest some), tt)
+part_there own ts (label_place n s x) f = tt
+
+parts_there : (own : Placed) (ts : List Target) (ps : List Part) → FoundParts own ts ps → AreThere own (joined part_kind ps)
+parts_there own ts [] f = tt
+parts_there own ts (x ∷ ps) f = there_both own (part_kind x) (joined part_kind ps) (part_there own ts x f.0) (parts_there own ts ps f.1)
+
+with_strings : (own : Placed) (ks : List Kind) → AreThere own (joined kind_itself ks) → AreThere own ks
+with_strings own [] h = tt
+with_strings own (string ∷ ks) h = (tt, with_strings own ks h)
+with_strings own (words_at n vs ∷ ks) h = (h.0, with_strings own ks h.1)
+with_strings own (entry n y ∷ ks) h = (h.0, with_strings own ks h.1)
+
+-- THE KINDS OF A SECTION stand in it
+pub kinds_there : (own : Placed) (ds : Declarations) → IsAccepted ds → own.stmts ≡ scheme (named_tree ds) → AreThere own (kinds_of_declarations 1 (named_tree ds))
+kinds_there own ds ok e =
+    let ps : List Part = parts_of_declarations 2 1 (named_tree ds) in
+    let are = subst (λ xs. AreFaultless xs) (sym e) (scheme_is_accepted ds ok.faultless ok.within ok.are_words).are_faultless in
+    with_strings own (kinds_of_declarations 1 (named_tree ds))
+    (subst (AreThere own) (alike_declarations part_kind kind_itself itself_alike 2 1 (named_tree ds)) (parts_there own (joined target_of ps) ps (section_parts own ps are e (targets_found ds ok.faultless ok.are_words))))

@@ -1,0 +1,381 @@
+-- Each command of an accepted section is laid where the scheme puts it. That VALOFs and blocks with declarations are is taken here as an
+-- argument.
+use Rattle.std.proofs.Common.{◌≡◌, ℕ, ◌+◌, ◌≤◌, false, not, List, [], ◌∷◌, ◌++◌, Some, cond, refl, sym, ap, ◌∙◌, subst, arith}
+use Rattle.std.proofs.lemmas.Bool.{false≢true}
+use Rattle.std.specs.Str.{bytes_eq}
+use Rattle.bk_syntax.specs.Grammar.{size}
+use Rattle.bk_syntax.specs.Tree as t
+use Rattle.bk_syntax.specs.Tree.{Expression, Expressions, Action, Actions, Declaration, Declarations, Definition, Definitions, Starts}
+use Rattle.bk_scope.specs.declared.place.Place.{Place}
+use Rattle.bk_scope.specs.Scope.{bound_in}
+use Rattle.bk_scope.specs.Constants.{constant_word}
+use Rattle.bk_scope.specs.Places.{deeper}
+use Rattle.bk_scope.specs.Places as place
+use Rattle.bk_scope.specs.Sound.{SoundDone, SoundDoneEach}
+use Rattle.bk_scope.specs.Spots as spot
+use Rattle.bk_scope.specs.Spots.{Spot}
+use Rattle.bk_ocode.specs.OcodeStep.{from_label}
+use Rattle.bk_ocode.specs.declared.stmt.Stmt.{Stmt}
+use Rattle.bk_ocode.specs.declared.stmt.Stmt.TheVariants.{Jump, Label, GiveResult, Stack, CallRoutine, Switch}
+use Rattle.bk_trans.specs.Labels.{labels, labels_if, labels_onto, labels_in}
+use Rattle.bk_trans.specs.Naming.{meant, term_named, condition_named, lvalues_named, command_named, commands_named}
+use Rattle.bk_trans.specs.Parts.{parts, parts_if, parts_onto, parts_in, parts_through}
+use Rattle.bk_trans.specs.Scheme.{goal_in, value_code, jump_code, command_code, through_code, cases, default_in, label_or}
+use Rattle.bk_meaning.specs.Environment.{objects, objects_of_each, objects_of_action, objects_of_actions, constant_in}
+use Rattle.bk_meaning.specs.Seeking.{the_label, the_case, the_default, same_place, stands_in}
+use Rattle.bk_simulation.specs.Regular.{RegularAction, RegularActions}
+use Rattle.bk_simulation.proofs.Weights.{weight_in, weight_through, of_light, in_light}
+use Rattle.bk_simulation.proofs.Sought.{with_names}
+use Rattle.bk_simulation.proofs.Laid.{Scene, in_loop, in_switch, pushes, jumps, count, IsLabelHere, AreActs}
+use Rattle.bk_meaning.specs.Lasting.{of_actions}
+use Rattle.bk_simulation.proofs.LastingKinds.{kinds_through}
+use Rattle.bk_simulation.proofs.Standing.{StandsAt, passed, written, label_at, call_at, label_found, home, Bases, no_bases, both_bases, three_bases, bases_so, lies_so}
+use Rattle.bk_simulation.proofs.Constants.{constant_small}
+use Rattle.bk_simulation.proofs.LaidCommands.{Doing, doing_loop, doing_switch, Leads, finds_nothing, finds_case, finds_both, switch_chosen, switch_default, switch_none, Done, DoneEach, leads_label, either_leads, same_letters}
+use Rattle.bk_simulation.proofs.LaidExpressions.{FoundParts, found_front, found_back, constants_agree, known, known_agree, names_of, InNames, stands_agree, joined_two, joined_three, joined_choice}
+use Rattle.bk_simulation.proofs.LaidCalls.{call_lies}
+use Rattle.bk_simulation.proofs.LaidValues.{ValofsLie, laid_code, laid_each}
+use Rattle.bk_simulation.proofs.LaidAssigned.{turns_lie, laid_froms, laid_stores}
+use Rattle.bk_simulation.proofs.LaidSimple.{simple_lies}
+use Rattle.bk_simulation.proofs.LaidFors.{ForBody, body_of, for_lies}
+
+-- blocks with declarations are laid
+abbrev pub BlocksLie : ℕ → Type 0
+BlocksLie pay = (sc : Scene) (p : Place) (s : Spot) (i l : ℕ) (x : Declaration) (xs : Declarations) (cs : Actions) (d n : ℕ) (c rest : List Stmt) → Doing sc p d → SoundDone sc.bindings p s (t.block l (t.declare x xs) cs)
+    → RegularAction (t.block l (t.declare x xs) cs) → weight_in (t.block l (t.declare x xs) cs) ≤ pay → FoundParts sc.own sc.targets (parts_in d n (command_named sc.bindings p s (t.block l (t.declare x xs) cs)))
+    → c ≡ command_code sc.targets sc.around d n (command_named sc.bindings p s (t.block l (t.declare x xs) cs)) ++ rest → StandsAt sc.own d c
+    → Done pay sc i (t.block l (t.declare x xs) cs) d n (command_named sc.bindings p s (t.block l (t.declare x xs) cs)) c rest
+
+mutual
+  pub laid_act : (pay : ℕ) (valofs : ValofsLie pay) (blocks : BlocksLie pay) (sc : Scene) (p : Place) (s : Spot) (i : ℕ) (x : Action) (d n : ℕ) (c rest : List Stmt) → Doing sc p d → SoundDone sc.bindings p s x → RegularAction x → weight_in x ≤ pay
+      → FoundParts sc.own sc.targets (parts_in d n (command_named sc.bindings p s x)) → c ≡ command_code sc.targets sc.around d n (command_named sc.bindings p s x) ++ rest → StandsAt sc.own d c
+      → Done pay sc i x d n (command_named sc.bindings p s x) c rest
+  laid_act pay valofs blocks sc p s i t.empty d n c rest a h r m f k st = record {
+    at = λ y. rest;
+    lies = record { on = written sc.own d c rest k st; objects_are = no_bases (home sc pay) i _ (λ g y ns u. k) };
+    finds = finds_nothing sc.own sc.targets sc.bindings d _;
+  }
+  laid_act pay valofs blocks sc p s i (t.assign l xs es) d n c rest a h r m f k st =
+      let lx = lvalues_named sc.bindings (deeper 1 p) s xs in
+      let j = i + objects_of_each xs in
+      let u = spot.behind_each xs s in
+      let stores = laid_stores pay valofs sc p s i xs d n a.around h.0 r.1 (omega arith) (found_front sc.own sc.targets (parts_onto (d + 1) n lx) _ f) in
+      let froms = laid_froms pay valofs sc p u j es d (n + labels_onto lx) st.shallow a.around h.1 r.2 (omega arith) (found_back sc.own sc.targets (parts_onto (d + 1) n lx) _ f) in
+      let x = turns_lie pay sc p p s u i j xs es d n (n + labels_onto lx) c rest r.0 stores froms k st in
+      record {
+        at = λ y. rest;
+        lies = record { on = x.on; objects_are = bases_so (home sc pay) i _ _ _ (λ g y v ns u. (x.vs, x.ss, v.1 ns u, v.0 ns u, x.turns)) (both_bases (home sc pay) i (objects_of_each xs) (objects_of_each es) _ _ x.stores x.from) };
+        finds = finds_nothing sc.own sc.targets sc.bindings d _;
+      }
+  laid_act pay valofs blocks sc p s i (t.call l e es) d n c rest a h r m f k st =
+      let s1 : Spot = spot.behind e s in
+      let z : Place = deeper (size es + 2) p in
+      let g1 = call_lies pay sc p s s1 i (CallRoutine d) e es d n c rest a.around f k st
+      (λ c1 c2 b0 f0 k0 st0. laid_each pay valofs sc (deeper 2 p) s1 (i + objects e) es (d + 2) (n + labels (term_named sc.bindings z s e)) c1 c2 b0 h.1 r.1 (omega arith) f0 k0 st0)
+      (λ c2 b0 f0 k0 st0. laid_code pay valofs sc z s i pushes e (d + 2 + count es) n c2 (CallRoutine d ∷ rest) b0 h.0 r.0 (omega arith) f0 k0 st0) in
+      record {
+        at = λ y. rest;
+        lies = record {
+          on = passed sc.own (d + 2 + count es + 1) d (CallRoutine d) rest g1.on refl;
+          objects_are = bases_so (home sc pay) i _ _ _ (λ g z0 v ns u. let x = v ns u in (x.0, x.1, x.2, x.3, x.4, call_at g sc _ (CallRoutine d) rest z0.own g1.on, g1.on.shallow)) g1.objects_are;
+        };
+        finds = finds_nothing sc.own sc.targets sc.bindings d _;
+      }
+  laid_act pay valofs blocks sc p s i (t.goto l x) d n c rest a h r m f k st =
+      let there = goal_in sc.targets (meant (bound_in sc.bindings x.letters)) in
+      let s1 = passed sc.own d there.depth (Stack there.depth) (Jump there.label ∷ Stack d ∷ rest) (written sc.own d c (Stack there.depth ∷ Jump there.label ∷ Stack d ∷ rest) k st) refl in
+      let s2 = passed sc.own there.depth there.depth (Jump there.label) (Stack d ∷ rest) s1 refl in
+      record {
+        at = λ y. rest;
+        lies = record { on = passed sc.own there.depth d (Stack d) rest s2 refl; objects_are = no_bases (home sc pay) i _ (λ g y ns u. (k, subst IsLabelHere (sym h.1) tt)) };
+        finds = finds_nothing sc.own sc.targets sc.bindings d _;
+      }
+  laid_act pay valofs blocks sc p s i (t.label l x a0) d n c rest a h r m f k st =
+      let k0 = command_named sc.bindings p (spot.past 1 s) a0 in
+      let c1 = command_code sc.targets sc.around d (n + 1) k0 ++ rest in
+      let st0 = written sc.own d c (Label n ∷ c1) k st in
+      let done = laid_act pay valofs blocks sc p (spot.past 1 s) i a0 d (n + 1) c1 rest a h.1 r (omega arith) f.1 refl (passed sc.own d d (Label n) c1 st0 refl) in
+      let fd = done.finds in
+      let found : from_label sc.own.stmts n ≡ Some c = label_found sc.own d n c1 st0 ∙ ap Some (sym k) in
+      let own_leads : Leads sc.own sc.targets sc.bindings d x c = leads_label sc.own sc.targets sc.bindings p.procedure d n x c h.0 f.0.0 found in
+      record {
+        at = λ y. cond (same_place y (the_label x)) c (done.at y);
+        lies = lies_so (home sc pay) i _ d rest _ _ (λ g z v ns u. (n, c1, done.at, k, v ns u, label_at g sc d n c1 z.own st0, (λ y. refl))) done.lies;
+        finds = record {
+          labels = λ y e. either_leads sc.own sc.targets sc.bindings d y (bytes_eq y x) (stands_in (the_label y) (known sc.bindings) a0) c (done.at (the_label y))
+              (λ same. subst (λ z. Leads sc.own sc.targets sc.bindings d z c) (sym (same_letters y x same)) own_leads) (fd.labels y) e;
+          chosen = fd.chosen;
+          others = fd.others;
+          default = fd.default;
+          no_default = fd.no_default;
+        };
+      }
+  laid_act pay valofs blocks sc p s i (t.case_of l e a0) d n c rest a h r m f k st =
+      let s1 : Spot = spot.behind_constant e (spot.past 1 s) in
+      let k0 = command_named sc.bindings p s1 a0 in
+      let c1 = command_code sc.targets sc.around d (n + 1) k0 ++ rest in
+      let st0 = written sc.own d c (Label n ∷ c1) k st in
+      let done = laid_act pay valofs blocks sc p s1 i a0 d (n + 1) c1 rest a h.2 r.1 (omega arith) f refl (passed sc.own d d (Label n) c1 st0 refl) in
+      let found : from_label sc.own.stmts n ≡ Some c = label_found sc.own d n c1 st0 ∙ ap Some (sym k) in
+      record {
+        at = λ y. cond (same_place y (the_case (constant_word sc.bindings e))) c (done.at y);
+        lies = lies_so (home sc pay) i _ d rest _ _
+            (λ g z v ns u. (n, c1, done.at, k, v ns u, label_at g sc d n c1 z.own st0, (λ y. ap (λ x. cond (same_place y (the_case x)) c (done.at y)) (sym (constants_agree ns sc.bindings i u.0 e))))) done.lies;
+        finds = finds_case sc.own sc.targets sc.bindings d n (h.1.0) (constant_in (known sc.bindings) e) (constant_word sc.bindings e) _ _ _ c done.at (constants_agree (names_of sc.bindings) sc.bindings 0 (known_agree sc.bindings) e) h.1.1 (constant_small sc.bindings a.around.words e r.0 h.1.0 h.1.1) found done.finds;
+      }
+  laid_act pay valofs blocks sc p s i (t.default l a0) d n c rest a h r m f k st =
+      let s1 : Spot = spot.past 1 s in
+      let k0 = command_named sc.bindings p s1 a0 in
+      let c1 = command_code sc.targets sc.around d (n + 1) k0 ++ rest in
+      let st0 = written sc.own d c (Label n ∷ c1) k st in
+      let done = laid_act pay valofs blocks sc p s1 i a0 d (n + 1) c1 rest a h.1 r (omega arith) f refl (passed sc.own d d (Label n) c1 st0 refl) in
+      let fd = done.finds in
+      record {
+        at = λ y. cond (same_place y the_default) c (done.at y);
+        lies = lies_so (home sc pay) i _ d rest _ _ (λ g z v ns u. (n, c1, done.at, k, v ns u, label_at g sc d n c1 z.own st0, (λ y. refl))) done.lies;
+        finds = record { labels = fd.labels; chosen = fd.chosen; others = fd.others; default = λ e0. (n, refl, label_found sc.own d n c1 st0 ∙ ap Some (sym k)); no_default = λ e0. absurd (false≢true (sym e0)) };
+      }
+  laid_act pay valofs blocks sc p s i (t.when l v e a0) d n c rest a h r m f k st =
+      let s1 : Spot = spot.behind e s in
+      let ce = condition_named sc.bindings p s e in
+      let k0 = command_named sc.bindings p s1 a0 in
+      let n0 = n + 1 + labels_if ce in
+      let code = command_code sc.targets sc.around d n0 k0 in
+      let c1 = code ++ (Label n ∷ rest) in
+      let le = laid_code pay valofs sc p s i (jumps (not v) n) e d (n + 1) c c1 a.around h.0 r.0 (omega arith) (found_front sc.own sc.targets (parts_if d (n + 1) ce) _ f) (joined_three (jump_code sc.targets d (n + 1) ce (not v) n) code (Label n ∷ []) rest c k) st in
+      let done = laid_act pay valofs blocks sc p s1 (i + objects e) a0 d n0 c1 (Label n ∷ rest) a h.1 r.1 (omega arith) (found_back sc.own sc.targets (parts_if d (n + 1) ce) _ f) refl le.on in
+      let fd = done.finds in
+      record {
+        at = done.at;
+        lies = record {
+          on = passed sc.own d d (Label n) rest done.lies.on refl;
+          objects_are = bases_so (home sc pay) i _ _ _ (λ g z x ns u. (n, c1, x.0 ns u, x.1 ns u, label_at g sc d n rest z.own done.lies.on)) (both_bases (home sc pay) i (objects e) (objects_of_action a0) _ _ le.objects_are done.lies.objects_are);
+        };
+        finds = record { labels = fd.labels; chosen = fd.chosen; others = fd.others; default = fd.default; no_default = fd.no_default };
+      }
+  laid_act pay valofs blocks sc p s i (t.test l e x y) d n c rest a h r m f k st =
+      let s1 : Spot = spot.behind e s in
+      let s2 : Spot = spot.behind_done x s1 in
+      let ce = condition_named sc.bindings p s e in
+      let kx = command_named sc.bindings p s1 x in
+      let ky = command_named sc.bindings p s2 y in
+      let nx = n + 2 + labels_if ce in
+      let ny = n + 2 + labels_if ce + labels_in kx in
+      let vx = command_code sc.targets sc.around d nx kx in
+      let vy = command_code sc.targets sc.around d ny ky in
+      let c2 = vy ++ (Label (n + 1) ∷ rest) in
+      let c1 = vx ++ (Jump (n + 1) ∷ Label n ∷ c2) in
+      let k1 = joined_choice (jump_code sc.targets d (n + 2) ce false n) vx (Jump (n + 1) ∷ Label n ∷ []) (Label (n + 1) ∷ []) vy rest c k in
+      let fe = found_front sc.own sc.targets (parts_if d (n + 2) ce ++ parts_in d nx kx) _ f in
+      let le = laid_code pay valofs sc p s i (jumps false n) e d (n + 2) c c1 a.around h.0 r.0 (omega arith) (found_front sc.own sc.targets (parts_if d (n + 2) ce) _ fe) k1 st in
+      let dx = laid_act pay valofs blocks sc p s1 (i + objects e) x d nx c1 (Jump (n + 1) ∷ Label n ∷ c2) a h.1 r.1 (omega arith) (found_back sc.own sc.targets (parts_if d (n + 2) ce) _ fe) refl le.on in
+      let sn = passed sc.own d d (Jump (n + 1)) (Label n ∷ c2) dx.lies.on refl in
+      let dy = laid_act pay valofs blocks sc p s2 (i + objects e + objects_of_action x) y d ny c2 (Label (n + 1) ∷ rest) a h.2 r.2 (omega arith) (found_back sc.own sc.targets (parts_if d (n + 2) ce ++ parts_in d nx kx) _ f) refl
+      (passed sc.own d d (Label n) c2 sn refl) in
+      record {
+        at = λ z. cond (stands_in z (known sc.bindings) x) (dx.at z) (dy.at z);
+        lies = record {
+          on = passed sc.own d d (Label (n + 1)) rest dy.lies.on refl;
+          objects_are = bases_so (home sc pay) i _ _ _ (λ g z v ns u. (
+            n,
+            n + 1,
+            c1,
+            c2,
+            dx.at,
+            dy.at,
+            v.0.0 ns u,
+            v.0.1 ns u,
+            v.1 ns u,
+            label_at g sc d n c2 z.own sn,
+            label_at g sc d (n + 1) rest z.own dy.lies.on,
+            (λ w0. ap (λ q0. cond q0 (dx.at w0) (dy.at w0)) (sym (stands_agree w0 ns sc.bindings i u x))),
+          )) (three_bases (home sc pay) i (objects e) (objects_of_action x) (objects_of_action y) _ _ _ le.objects_are dx.lies.objects_are dy.lies.objects_are);
+        };
+        finds = finds_both sc.own sc.targets sc.bindings d _ _ _ _ _ _ dx.at dy.at dx.finds dy.finds;
+      }
+  laid_act pay valofs blocks sc p s i (t.while l v e a0) d n c rest a h r m f k st =
+      let s1 : Spot = spot.behind e s in
+      let p1 : Place = place.looping p in
+      let ce = condition_named sc.bindings p s e in
+      let inside : Scene = in_loop n (n + 2) d sc in
+      let k0 = command_named sc.bindings p1 s1 a0 in
+      let n0 = n + 3 + labels_if ce in
+      let code = command_code sc.targets inside.around d n0 k0 in
+      let je = jump_code sc.targets d (n + 3) ce v (n + 1) in
+      let test = je ++ (Label (n + 2) ∷ rest) in
+      let body = code ++ (Label n ∷ test) in
+      let k1 : c ≡ Jump n ∷ Label (n + 1) ∷ body = joined_three (Jump n ∷ Label (n + 1) ∷ code) (Label n ∷ je) (Label (n + 2) ∷ []) rest c k in
+      let s0 = passed sc.own d d (Jump n) (Label (n + 1) ∷ body) (written sc.own d c (Jump n ∷ Label (n + 1) ∷ body) k1 st) refl in
+      let done = laid_act pay valofs blocks inside p1 s1 (i + objects e) a0 d n0 body (Label n ∷ test) (doing_loop sc p d n (n + 2) d a) h.1 r.1 (omega arith) (found_back sc.own sc.targets (parts_if d (n + 3) ce) _ f) refl
+      (passed sc.own d d (Label (n + 1)) body s0 refl) in
+      let le = laid_code pay valofs sc p s i (jumps v (n + 1)) e d (n + 3) test (Label (n + 2) ∷ rest) a.around h.0 r.0 (omega arith) (found_front sc.own sc.targets (parts_if d (n + 3) ce) _ f) refl
+      (passed sc.own d d (Label n) test done.lies.on refl) in
+      let fd = done.finds in
+      record {
+        at = done.at;
+        lies = record {
+          on = passed sc.own d d (Label (n + 2)) rest le.on refl;
+          objects_are = bases_so (home sc pay) i _ _ _ (λ g z x ns u. let pays = z.pays in (
+            n,
+            n + 1,
+            n + 2,
+            body,
+            test,
+            k1,
+            x.1 ns u,
+            x.0 ns u,
+            label_at g sc d n test z.own done.lies.on,
+            label_at g sc d (n + 1) body z.own s0,
+            label_at g sc d (n + 2) rest z.own le.on,
+            (let te = of_light e in let ta = in_light a0 in omega (arith, pays, m, te, ta)),
+          )) (both_bases (home sc pay) i (objects e) (objects_of_action a0) _ _ le.objects_are done.lies.objects_are);
+        };
+        finds = record { labels = fd.labels; chosen = fd.chosen; others = fd.others; default = fd.default; no_default = fd.no_default };
+      }
+  laid_act pay valofs blocks sc p s i (t.for_loop l x a1 b1 h1 a0) d n c rest a h r m f k st =
+      let b : ForBody = body_of sc p s d n x a1 b1 h1 a0 in
+      for_lies pay valofs sc p s i l x a1 b1 h1 a0 d n c rest a h r m f k st
+      (λ c0 r0 doing f0 k0 st0. laid_act pay valofs blocks b.scene b.place b.spot (i + objects a1 + objects b1) a0 (d + 2) b.first c0 r0 doing h.3 r.3 (omega arith) f0 k0 st0)
+  laid_act pay valofs blocks sc p s i (t.switch l e a0) d n c rest a h r m f k st =
+      let s1 : Spot = spot.behind e s in
+      let p1 : Place = place.switching s1.number p in
+      let s2 : Spot = spot.numbered 1 s1 in
+      let te = term_named sc.bindings p s e in
+      let inside : Scene = in_switch n d sc in
+      let k0 = command_named sc.bindings p1 s2 a0 in
+      let n0 = n + 1 + labels te in
+      let code = command_code sc.targets inside.around d n0 k0 in
+      let other = label_or n (default_in n0 k0) in
+      let cs = cases n0 k0 in
+      let c1 = code ++ (Label n ∷ rest) in
+      let k1 = joined_three (value_code sc.targets d (n + 1) te) (Switch other cs ∷ code) (Label n ∷ []) rest c k in
+      let le = laid_code pay valofs sc p s i pushes e d (n + 1) c (Switch other cs ∷ c1) a.around h.0 r.0 (omega arith) (found_front sc.own sc.targets (parts d (n + 1) te) _ f) k1 st in
+      let done = laid_act pay valofs blocks inside p1 s2 (i + objects e) a0 d n0 c1 (Label n ∷ rest) (doing_switch sc p d n d s1.number a) h.1 r.1 (omega arith) (found_back sc.own sc.targets (parts d (n + 1) te) _ f) refl
+      (passed sc.own (d + 1) d (Switch other cs) c1 le.on (omega arith)) in
+      record {
+        at = done.at;
+        lies = record {
+          on = passed sc.own d d (Label n) rest done.lies.on refl;
+          objects_are = bases_so (home sc pay) i _ _ _ (λ g z x ns u. (
+            n,
+            other,
+            cs,
+            c1,
+            x.0 ns u,
+            x.1 ns u,
+            label_at g sc d n rest z.own done.lies.on,
+            (λ v e0. switch_chosen sc.own sc.targets sc.bindings d other _ _ _ done.at v done.finds (sym (stands_agree (the_case (Some v)) ns sc.bindings (i + objects e) u a0) ∙ e0)),
+            (λ v e0 e1. switch_default sc.own sc.targets sc.bindings d n _ _ _ done.at v done.finds (sym (stands_agree (the_case (Some v)) ns sc.bindings (i + objects e) u a0) ∙ e0)
+                (sym (stands_agree the_default ns sc.bindings (i + objects e) u a0) ∙ e1)),
+            (λ v e0 e1. switch_none sc.own sc.targets sc.bindings d n _ _ _ done.at v done.finds (sym (stands_agree (the_case (Some v)) ns sc.bindings (i + objects e) u a0) ∙ e0)
+                (sym (stands_agree the_default ns sc.bindings (i + objects e) u a0) ∙ e1)),
+          )) (both_bases (home sc pay) i (objects e) (objects_of_action a0) _ _ le.objects_are done.lies.objects_are);
+        };
+        finds = record { labels = done.finds.labels; chosen = λ v more z e0. absurd (false≢true e0); others = λ v more z e0. refl; default = λ e0. absurd (false≢true e0); no_default = λ e0. refl };
+      }
+  laid_act pay valofs blocks sc p s i (t.result l e) d n c rest a h r m f k st =
+      let te = term_named sc.bindings p (spot.past 1 s) e in
+      let le = laid_code pay valofs sc p (spot.past 1 s) i pushes e d n c (GiveResult sc.around.valof ∷ rest) a.around h.1 r (omega arith) f (joined_two (value_code sc.targets d n te) (GiveResult sc.around.valof ∷ []) rest c k) st in
+      let to = a.valof h.0 in
+      record {
+        at = λ y. rest;
+        lies = record { on = passed sc.own (d + 1) d (GiveResult sc.around.valof) rest le.on (omega arith); objects_are = bases_so (home sc pay) i _ _ _ (λ g z v ns u. (to.0, v ns u, to.1)) le.objects_are };
+        finds = finds_nothing sc.own sc.targets sc.bindings d _;
+      }
+  laid_act pay valofs blocks sc p s i (t.simple l x) d n c rest a h r m f k st = simple_lies pay sc p s i l x d n c rest a h k st
+  laid_act pay valofs blocks sc p s i (t.block l t.no_declarations cs) d n c rest a h r m f k st =
+      let none : n + 0 ≡ n = omega arith in
+      let same_number : objects_of_actions cs ≡ 0 + objects_of_actions cs = omega arith in
+      let all = laid_acts pay valofs blocks sc p s i cs d n c rest a h r.1 (omega arith) (subst (λ x. FoundParts sc.own sc.targets (parts_through d x (commands_named sc.bindings p s cs))) none f) k st in
+      let fd = all.finds in
+      record {
+        at = all.at;
+        lies = record { on = all.lies.on; objects_are = subst (λ y. Bases (home sc pay) i y (kinds_through n (commands_named sc.bindings p s cs)) (λ ns. of_actions (with_names ns i) cs) (InNames sc.bindings i (λ g env. AreActs g sc d env cs all.at c rest))) same_number all.lies.objects_are };
+        finds = record { labels = fd.labels; chosen = fd.chosen; others = fd.others; default = fd.default; no_default = fd.no_default };
+      }
+  laid_act pay valofs blocks sc p s i (t.block l (t.declare x xs) cs) d n c rest a h r m f k st = blocks sc p s i l x xs cs d n c rest a h r m f k st
+  laid_act pay valofs blocks sc p s i (t.repeat l a0) d n c rest a h r m f k st =
+      let p1 : Place = place.looping p in
+      let inside : Scene = in_loop n (n + 1) d sc in
+      let k0 = command_named sc.bindings p1 s a0 in
+      let code = command_code sc.targets inside.around d (n + 2) k0 in
+      let body = code ++ (Jump n ∷ Label (n + 1) ∷ rest) in
+      let k1 : c ≡ Label n ∷ body = joined_two (Label n ∷ code) (Jump n ∷ Label (n + 1) ∷ []) rest c k in
+      let s0 = written sc.own d c (Label n ∷ body) k1 st in
+      let done = laid_act pay valofs blocks inside p1 s i a0 d (n + 2) body (Jump n ∷ Label (n + 1) ∷ rest) (doing_loop sc p d n (n + 1) d a) h r (omega arith) f refl (passed sc.own d d (Label n) body s0 refl) in
+      let s3 = passed sc.own d d (Jump n) (Label (n + 1) ∷ rest) done.lies.on refl in
+      let fd = done.finds in
+      record {
+        at = done.at;
+        lies = record {
+          on = passed sc.own d d (Label (n + 1)) rest s3 refl;
+          objects_are = bases_so (home sc pay) i _ _ _ (λ g z x ns u. let pays = z.pays in (n, n + 1, body, k1, x ns u, label_at g sc d n body z.own s0, label_at g sc d (n + 1) rest z.own s3, (let ta = in_light a0 in omega (arith, pays, m, ta)))) done.lies.objects_are;
+        };
+        finds = record { labels = fd.labels; chosen = fd.chosen; others = fd.others; default = fd.default; no_default = fd.no_default };
+      }
+  laid_act pay valofs blocks sc p s i (t.repeat_while l v a0 e) d n c rest a h r m f k st =
+      let p1 : Place = place.looping p in
+      let inside : Scene = in_loop (n + 1) (n + 2) d sc in
+      let k0 = command_named sc.bindings p1 s a0 in
+      let s1 : Spot = spot.behind_done a0 s in
+      let ce = condition_named sc.bindings p s1 e in
+      let ne = n + 3 + labels_in k0 in
+      let code = command_code sc.targets inside.around d (n + 3) k0 in
+      let je = jump_code sc.targets d ne ce v n in
+      let test = je ++ (Label (n + 2) ∷ rest) in
+      let body = code ++ (Label (n + 1) ∷ test) in
+      let k1 : c ≡ Label n ∷ body = joined_three (Label n ∷ code) (Label (n + 1) ∷ je) (Label (n + 2) ∷ []) rest c k in
+      let s0 = written sc.own d c (Label n ∷ body) k1 st in
+      let done = laid_act pay valofs blocks inside p1 s i a0 d (n + 3) body (Label (n + 1) ∷ test) (doing_loop sc p d (n + 1) (n + 2) d a) h.0 r.0 (omega arith) (found_front sc.own sc.targets (parts_in d (n + 3) k0) _ f) refl
+      (passed sc.own d d (Label n) body s0 refl) in
+      let le = laid_code pay valofs sc p s1 (i + objects_of_action a0) (jumps v n) e d ne test (Label (n + 2) ∷ rest) a.around h.1 r.1 (omega arith) (found_back sc.own sc.targets (parts_in d (n + 3) k0) _ f) refl
+      (passed sc.own d d (Label (n + 1)) test done.lies.on refl) in
+      let fd = done.finds in
+      record {
+        at = done.at;
+        lies = record {
+          on = passed sc.own d d (Label (n + 2)) rest le.on refl;
+          objects_are = bases_so (home sc pay) i _ _ _ (λ g z x ns u. let pays = z.pays in (
+            n,
+            n + 1,
+            n + 2,
+            body,
+            test,
+            k1,
+            x.0 ns u,
+            x.1 ns u,
+            label_at g sc d n body z.own s0,
+            label_at g sc d (n + 1) test z.own done.lies.on,
+            label_at g sc d (n + 2) rest z.own le.on,
+            (let te = of_light e in let ta = in_light a0 in omega (arith, pays, m, te, ta)),
+          )) (both_bases (home sc pay) i (objects_of_action a0) (objects e) _ _ done.lies.objects_are le.objects_are);
+        };
+        finds = record { labels = fd.labels; chosen = fd.chosen; others = fd.others; default = fd.default; no_default = fd.no_default };
+      }
+
+  pub laid_acts : (pay : ℕ) (valofs : ValofsLie pay) (blocks : BlocksLie pay) (sc : Scene) (p : Place) (s : Spot) (i : ℕ) (cs : Actions) (d n : ℕ) (c rest : List Stmt) → Doing sc p d → SoundDoneEach sc.bindings p s cs → RegularActions cs → weight_through cs ≤ pay
+      → FoundParts sc.own sc.targets (parts_through d n (commands_named sc.bindings p s cs)) → c ≡ through_code sc.targets sc.around d n (commands_named sc.bindings p s cs) ++ rest → StandsAt sc.own d c
+      → DoneEach pay sc i cs d n (commands_named sc.bindings p s cs) c rest
+  laid_acts pay valofs blocks sc p s i t.no_actions d n c rest a h r m f k st = record {
+    at = λ y. rest;
+    lies = record { on = written sc.own d c rest k st; objects_are = no_bases (home sc pay) i _ (λ g y ns u. k) };
+    finds = record { labels = λ x e0. absurd (false≢true e0); chosen = λ v more z e0. absurd (false≢true e0); others = λ v more z e0. refl; default = λ e0. absurd (false≢true e0); no_default = λ e0. refl };
+  }
+  laid_acts pay valofs blocks sc p s i (t.also x cs) d n c rest a h r m f k st =
+      let k0 = command_named sc.bindings p s x in
+      let s1 : Spot = spot.behind_done x s in
+      let ks = commands_named sc.bindings p s1 cs in
+      let code = command_code sc.targets sc.around d n k0 in
+      let codes = through_code sc.targets sc.around d (n + labels_in k0) ks in
+      let c1 = codes ++ rest in
+      let dx = laid_act pay valofs blocks sc p s i x d n c c1 a h.0 r.0 (omega arith) (found_front sc.own sc.targets (parts_in d n k0) _ f) (joined_two code codes rest c k) st in
+      let ds = laid_acts pay valofs blocks sc p s1 (i + objects_of_action x) cs d (n + labels_in k0) c1 rest a h.1 r.1 (omega arith) (found_back sc.own sc.targets (parts_in d n k0) _ f) refl dx.lies.on in
+      record {
+        at = λ z. cond (stands_in z (known sc.bindings) x) (dx.at z) (ds.at z);
+        lies = record {
+          on = ds.lies.on;
+          objects_are = bases_so (home sc pay) i _ _ _ (λ g z v ns u. (c1, dx.at, ds.at, v.0 ns u, v.1 ns u, (λ w0. ap (λ q0. cond q0 (dx.at w0) (ds.at w0)) (sym (stands_agree w0 ns sc.bindings i u x)))))
+              (both_bases (home sc pay) i (objects_of_action x) (objects_of_actions cs) _ _ dx.lies.objects_are ds.lies.objects_are);
+        };
+        finds = finds_both sc.own sc.targets sc.bindings d _ _ _ _ _ _ dx.at ds.at dx.finds ds.finds;
+      }

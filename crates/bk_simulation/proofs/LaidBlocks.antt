@@ -1,0 +1,135 @@
+-- Blocks with declarations are laid where the scheme puts them, and so each form is.
+use Rattle.std.proofs.Common.{◌≡◌, ℕ, zero, suc, ◌+◌, ◌≤◌, true, List, [], ◌∷◌, ◌++◌, length, refl, sym, ap, ◌∙◌, subst, arith}
+use Rattle.bk_syntax.specs.Tree as t
+use Rattle.bk_syntax.specs.Tree.{Actions, Declaration, Declarations}
+use Rattle.bk_scope.specs.declared.place.Place.{Place}
+use Rattle.bk_scope.specs.Entering.{labels_of_each}
+use Rattle.bk_scope.specs.Places as place
+use Rattle.bk_scope.specs.Scope.{Binding}
+use Rattle.bk_scope.specs.Scoping.{labels_in_scope, scope_behind, place_behind_all}
+use Rattle.bk_scope.specs.Sound.{SoundDone}
+use Rattle.bk_scope.specs.Spots as spot
+use Rattle.bk_scope.specs.Spots.{Spot, behind_declared}
+use Rattle.bk_ocode.specs.declared.stmt.Stmt.{Stmt}
+use Rattle.bk_ocode.specs.declared.stmt.Stmt.TheVariants.{Stack}
+use Rattle.bk_trans.specs.Program.{Command, Commands}
+use Rattle.bk_trans.specs.Depths.{behind_declarations}
+use Rattle.bk_trans.specs.Labels.{labels_of_declarations}
+use Rattle.bk_trans.specs.Naming.{command_named, commands_named, declarations_named}
+use Rattle.bk_trans.specs.Parts.{parts_in, parts_of_declarations}
+use Rattle.bk_trans.specs.Scheme.{command_code, through_code, declarations_code}
+use Rattle.bk_meaning.specs.Environment.{Named, label, bind_each, labelled, objects_of_actions, objects_of_declarations}
+use Rattle.bk_meaning.specs.Seeking.{Sought, the_label, stands_in_one}
+use Rattle.bk_meaning.specs.Lasting.{Lasting, of_action, of_actions, of_declarations, all_declared}
+use Rattle.bk_simulation.specs.Regular.{RegularAction}
+use Rattle.bk_simulation.proofs.Sizes.{turns_through}
+use Rattle.bk_simulation.proofs.Weights.{weight_in, through_light}
+use Rattle.bk_simulation.proofs.Sought.{with_names, label_stands_one}
+use Rattle.bk_simulation.proofs.NamesBound.{labels_named}
+use Rattle.bk_simulation.proofs.Laid.{Setting, Scene, owning, AreActs, LeadsTo, IsScope}
+use Rattle.bk_simulation.proofs.NamesAgree.{Agree}
+use Rattle.bk_simulation.proofs.LastingKinds.{Kind, kinds_through}
+use Rattle.bk_simulation.proofs.Standing.{there_in, StandsAt, passed, home, Bases, bases_inside, bases_of, bases_so, bases_paid, Lies}
+use Rattle.bk_simulation.proofs.LaidExpressions.{FoundParts, found_front, found_back, known, InNames, joined_three}
+use Rattle.bk_simulation.proofs.LaidCommands.{Doing, finds_nothing, Done, DoneEach, words_labels, agree_labels, names_bound}
+use Rattle.bk_simulation.proofs.BehindDeclarations.{next_all_declared}
+use Rattle.bk_simulation.proofs.LaidValues.{ValofsLie}
+use Rattle.bk_simulation.proofs.LaidActs.{BlocksLie, laid_acts}
+use Rattle.bk_simulation.proofs.LaidValofs.{valof_lies}
+use Rattle.bk_simulation.proofs.LaidDeclarations.{Later, declared_behind, declared_bases}
+
+-- the commands of a scope
+scope_bases : (pay : ℕ) (sc : Scene) (i : ℕ) (cs : Actions) (d n : ℕ) (k : Commands) (c rest : List Stmt) (j q : ℕ) → q ≡ sc.procedure → turns_through cs ≤ pay
+    → DoneEach pay (record sc { bindings = labels_in_scope q j (labels_of_each cs) sc.bindings }) i cs d n k c rest
+    → Bases (home sc pay) i (objects_of_actions cs) (kinds_through n k) (λ ns. of_actions (labelled cs (with_names ns i)) cs) (InNames sc.bindings i (λ g env. IsScope g sc d env cs j c rest))
+scope_bases pay sc i cs d n k c rest j q same size done =
+    let done1 = subst (λ x. DoneEach pay (record sc { bindings = labels_in_scope x j (labels_of_each cs) sc.bindings }) i cs d n k c rest) same done in
+    let xs = labels_of_each cs in
+    let within = owning j cs sc in
+    let h = home sc pay in
+    let inside = bases_inside h within.bindings i (objects_of_actions cs) _ (λ ns. (bind_each xs label (with_names ns 0)).names)
+    (λ g ns u v. ((agree_labels sc.procedure j xs ns sc.bindings 0 u).0, (λ k bases frame grown. record { each = (labels_named xs (there_in h sc.procedure) (with_names ns 0) bases frame j (v sc.procedure bases frame grown)).each }))) done1.lies.objects_are in
+    let said = bases_of h i (objects_of_actions cs) _ (λ ns. of_actions (labelled cs (with_names ns i)) cs) _ (λ ns. ap (λ e. of_actions e cs) (sym (names_bound xs label ns i))) inside in
+    bases_so h i (objects_of_actions cs) (InNames within.bindings i (λ g env. AreActs g within d env cs done1.at c rest)) _ (λ g fit v ns u.
+    let env = with_names ns i in
+    let inner = labelled cs env in
+    let agrees = agree_labels sc.procedure j xs ns sc.bindings i u in
+    let pays = fit.pays in (
+      done1.at,
+      (
+        subst (λ y. AreActs g within d (with_names inner.names y) cs done1.at c rest) (sym agrees.1) (v inner.names agrees.0),
+        omega (arith, pays, size),
+        (λ x e. done1.finds.labels x (label_stands_one x (known within.bindings) env cs ∙ e)),
+      ),
+    )) said
+
+-- what is laid behind the declarations of a block
+abbrev InBlock : ℕ → Actions → List Stmt → Later
+InBlock d cs rest g sc1 d1 env1 c1 =
+    (j : ℕ) × (at1 : Sought → List Stmt) × AreActs g (owning j cs sc1) d1 (labelled cs env1) cs at1 c1 (Stack d ∷ rest) × (turns_through cs ≤ g.pay)
+    × ((x : List ℕ) → stands_in_one (the_label x) env1 cs ≡ true → LeadsTo (owning j cs sc1) d1 x (at1 (the_label x)))
+
+block_lies : (pay : ℕ) (valofs : ValofsLie pay) (blocks : BlocksLie pay) (sc : Scene) (p : Place) (s : Spot) (i l : ℕ) (x : Declaration) (xs : Declarations) (cs : Actions) (d n : ℕ) (c rest : List Stmt) → Doing sc p d
+    → SoundDone sc.bindings p s (t.block l (t.declare x xs) cs) → RegularAction (t.block l (t.declare x xs) cs) → weight_in (t.block l (t.declare x xs) cs) ≤ suc pay
+    → FoundParts sc.own sc.targets (parts_in d n (command_named sc.bindings p s (t.block l (t.declare x xs) cs)))
+    → c ≡ command_code sc.targets sc.around d n (command_named sc.bindings p s (t.block l (t.declare x xs) cs)) ++ rest → StandsAt sc.own d c
+    → Done pay sc i (t.block l (t.declare x xs) cs) d n (command_named sc.bindings p s (t.block l (t.declare x xs) cs)) c rest
+block_lies pay valofs blocks sc p s i l x xs cs d n c rest a h r m f k st =
+    let hs : Declarations = t.declare x xs in
+    let named = declarations_named sc.bindings p s hs in
+    let u : Spot = behind_declared hs s in
+    let bs : List Binding = scope_behind sc.bindings p s hs in
+    let p1 : Place = place_behind_all sc.bindings p s hs in
+    let d1 : ℕ = behind_declarations d named in
+    let n1 : ℕ = n + labels_of_declarations named in
+    let i1 : ℕ = i + objects_of_declarations hs in
+    let sc1 : Scene = record sc { bindings = bs } in
+    let within : Scene = record sc { bindings = labels_in_scope p.procedure (u.number + 1) (labels_of_each cs) bs } in
+    let p2 : Place = place.labelled u.number p1 in
+    let s2 : Spot = spot.numbered (1 + length (labels_of_each cs)) u in
+    let ks = commands_named within.bindings p2 s2 cs in
+    let first = declarations_code sc.targets d n named in
+    let code = through_code sc.targets sc.around d1 n1 ks in
+    let c1 = code ++ (Stack d ∷ rest) in
+    let k1 = joined_three first code (Stack d ∷ []) rest c k in
+    let parts_first = found_front sc.own sc.targets (parts_of_declarations d n named) _ f in
+    let behind = declared_behind pay valofs blocks sc p s hs d n c c1 a h.0 r.0 (omega (arith, m)) parts_first k1 st in
+    let doing1 : Doing sc1 p1 d1 = behind.1 in
+    let doing : Doing within p2 d1 = record {
+      around = record { same = doing1.around.same; at = doing1.around.at; words = words_labels p.procedure (u.number + 1) (labels_of_each cs) bs doing1.around.words };
+      loop = doing1.loop;
+      switch = doing1.switch;
+      valof = doing1.valof;
+    } in
+    let done = laid_acts pay valofs blocks within p2 s2 i1 cs d1 n1 c1 (Stack d ∷ rest) doing h.1 r.1 (omega (arith, m)) (found_back sc.own sc.targets (parts_of_declarations d n named) _ f) refl behind.0 in
+    let light = through_light cs in
+    let scope = scope_bases pay sc1 i1 cs d1 n1 ks c1 (Stack d ∷ rest) (u.number + 1) p.procedure a.around.same (omega (arith, m, light)) done in
+    let later = bases_so (home sc1 pay) i1 (objects_of_actions cs) _ (λ g. (ns : List Named) → Agree ns bs → InBlock d cs rest g sc1 d1 (with_names ns i1) c1)
+    (λ g y v ns w. let z = v ns w in (u.number + 1, z.0, z.1.0, z.1.1, z.1.2)) scope in
+    let whole = declared_bases pay valofs blocks sc p s i hs d n (objects_of_actions cs) c c1 (λ ns. of_actions (labelled cs (with_names ns i1)) cs) (InBlock d cs rest) a h.0 r.0 (omega (arith, m)) parts_first k1 st later in
+    let said = bases_of (home sc pay) i (objects_of_declarations hs + objects_of_actions cs) _ (λ ns. of_action (with_names ns i) (t.block l hs cs)) _
+    (λ ns. ap (λ z. of_declarations (with_names ns i) hs ++ of_actions (labelled cs (with_names (all_declared hs (with_names ns i)).names z)) cs) (sym (next_all_declared hs (with_names ns i)))) whole in
+    record {
+      at = λ y. rest;
+      lies = record { on = passed sc.own d1 d (Stack d) rest done.lies.on refl; objects_are = bases_so (home sc pay) i _ _ _ (λ g y v ns w. v ns w) said };
+      finds = finds_nothing sc.own sc.targets sc.bindings d _;
+    }
+
+-- where a step pays for more
+lies_paid : (pay more : ℕ) (sc : Scene) (i many d : ℕ) (rest : List Stmt) {ks : List Kind} {L : List Named → List Lasting} (P : Setting → Type 0) → pay ≤ more → Lies (home sc pay) i many d rest ks L P → Lies (home sc more) i many d rest ks L P
+lies_paid pay more sc i many d rest P low a = record { on = a.on; objects_are = bases_paid (home sc pay) more i many P low a.objects_are }
+
+done_paid : (pay more : ℕ) (sc : Scene) (i l : ℕ) (x : Declaration) (xs : Declarations) (cs : Actions) (d n : ℕ) (k : Command) (c rest : List Stmt) → pay ≤ more → Done pay sc i (t.block l (t.declare x xs) cs) d n k c rest
+    → Done more sc i (t.block l (t.declare x xs) cs) d n k c rest
+done_paid pay more sc i l x xs cs d n k c rest low a = record { at = a.at; lies = lies_paid pay more sc i _ d rest _ low a.lies; finds = a.finds }
+
+-- VALOFS AND BLOCKS WITH DECLARATIONS ARE LAID: what stands in them weighs less.
+mutual
+  pub valofs_lie : (pay : ℕ) → ValofsLie pay
+  valofs_lie zero sc p s i aim l x d n c rest a h r m f k st = absurd (omega (arith, m))
+  valofs_lie (suc pay) sc p s i aim l x d n c rest a h r m f k st = lies_paid pay (suc pay) sc i _ _ rest _ (omega arith) (valof_lies pay (valofs_lie pay) (blocks_lie pay) sc p s i aim l x d n c rest a h r m f k st)
+
+  pub blocks_lie : (pay : ℕ) → BlocksLie pay
+  blocks_lie zero sc p s i l x xs cs d n c rest a h r m f k st = absurd (omega (arith, m))
+  blocks_lie (suc pay) sc p s i l x xs cs d n c rest a h r m f k st =
+      done_paid pay (suc pay) sc i l x xs cs d n _ c rest (omega arith) (block_lies pay (valofs_lie pay) (blocks_lie pay) sc p s i l x xs cs d n c rest a h r m f k st)

@@ -1,0 +1,347 @@
+-- Declarations are laid where the scheme puts them, before what is laid in their scope: MANIFEST, STATIC, GLOBAL and LET.
+use Rattle.std.proofs.Common.{◌≡◌, ℕ, ◌+◌, ◌<◌, ◌≤◌, Bool, true, false, List, [], ◌∷◌, ◌++◌, cond, refl, sym, ap, ◌∙◌, subst, arith, append_assoc}
+use Rattle.bk_syntax.specs.declared.tree.Sort.{Sort}
+use Rattle.bk_syntax.specs.declared.tree.Sort.TheVariants as sort
+use Rattle.bk_syntax.specs.Tree as t
+use Rattle.bk_syntax.specs.Tree.{Items, Declaration, Declarations, Definitions}
+use Rattle.bk_scope.specs.declared.place.Place.{Place}
+use Rattle.bk_scope.specs.Scope.{Binding, bind_all}
+use Rattle.bk_scope.specs.Scoping.{procedures_in_scope, manifests_in_scope, statics_in_scope, globals_in_scope, place_behind_defined, scope_behind_one, place_behind_one, scope_behind, place_behind_all}
+use Rattle.bk_scope.specs.Sound.{SoundDeclared, SoundOneDeclared}
+use Rattle.bk_scope.specs.Spots as spot
+use Rattle.bk_scope.specs.Spots.{Spot, procedures_in, behind_one_declared}
+use Rattle.bk_ocode.specs.declared.stmt.Stmt.{Stmt}
+use Rattle.bk_ocode.specs.declared.stmt.Stmt.TheVariants.{Store}
+use Rattle.bk_trans.specs.Depths.{behind_definitions, behind_declaration, behind_declarations, has_variables}
+use Rattle.bk_trans.specs.Labels.{labels_of_declaration}
+use Rattle.bk_trans.specs.Naming.{definitions_named, declaration_named, declarations_named}
+use Rattle.bk_trans.specs.Parts.{parts_of_definitions, parts_of_declaration, parts_of_declarations}
+use Rattle.bk_trans.specs.Scheme.{outermost, definitions_code, declaration_code, declarations_code}
+use Rattle.bk_trans.specs.declared.around.Around.{Around as Surroundings}
+use Rattle.bk_trans.proofs.Bodies.{same_defined}
+use Rattle.bk_meaning.specs.Environment.{Named, Environment, bind_procedures, within_let, objects_of_definitions, objects_of_declaration, objects_of_declarations}
+use Rattle.bk_meaning.specs.Lasting.{Lasting, declared, all_declared, of_items, of_declaration, of_declarations, of_definitions}
+use Rattle.bk_simulation.specs.Regular.{RegularItems, RegularDeclaration, RegularDeclarations, RegularDefinitions}
+use Rattle.bk_simulation.proofs.Weights.{weight_one_declared, weight_declared, weight_defined}
+use Rattle.bk_simulation.proofs.Sought.{with_names}
+use Rattle.bk_simulation.proofs.Laid.{Setting, Scene, Exits, Spot as Slot, NamedIn, defines_variables, variables_bound, Renames, IsOneDeclared, AreDeclared, AreDefined}
+use Rattle.bk_simulation.proofs.NamesAgree.{Agree}
+use Rattle.bk_simulation.proofs.LastingKinds.{Kind, kinds_of_declaration, kinds_of_declarations, kinds_of_definitions}
+use Rattle.bk_simulation.proofs.Standing.{there_in, StandsAt, passed, written, Home, home, Bases, no_bases, bases_so, bases_of, bases_under, bases_some, Lies}
+use Rattle.bk_simulation.proofs.OneBehindAnother.{then_bases}
+use Rattle.bk_simulation.proofs.LaidExpressions.{HasWords, FoundParts, found_front, found_back, Around, InNames, joined_two}
+use Rattle.bk_simulation.proofs.LaidCommands.{Doing}
+use Rattle.bk_simulation.proofs.BehindDeclarations.{words_manifests, words_statics, words_globals, words_procedures, next_declared}
+use Rattle.bk_simulation.proofs.Renamed.{static_places, AreBases, renames_manifests, renames_statics, renames_globals}
+use Rattle.bk_simulation.proofs.RenamedLets.{AreProcedures, from_spots, spots_in, variables_in, spots_words, renames_procedures, renames_variables, bound_agree, next_bound, foreign_spots, foreign_agree, foreign_mean, hidden_are}
+use Rattle.bk_simulation.proofs.LaidStatics.{statics_lie}
+use Rattle.bk_simulation.proofs.LetWords.{WordsBased, procedures_based}
+use Rattle.bk_simulation.proofs.LaidValues.{ValofsLie}
+use Rattle.bk_simulation.proofs.LaidActs.{BlocksLie}
+use Rattle.bk_simulation.proofs.LaidDefinitions.{laid_defined}
+
+-- what is laid behind declarations, in their scope
+abbrev pub Later : Type 1
+Later = Setting → Scene → ℕ → Environment → List Stmt → Type 0
+
+-- it is laid so, with names that agree, from this lasting object on
+abbrev pub LaidLater : Later → Scene → List Binding → ℕ → ℕ → List Stmt → Setting → Type 0
+LaidLater Then sc bs d i c g = (ns : List Named) → Agree ns bs → Then g (record sc { bindings = bs }) d (with_names ns i) c
+
+-- ---- MANIFEST, STATIC and GLOBAL
+
+-- any procedure of the same scope
+abbrev elsewhere : Scene → ℕ → Surroundings → Exits → Scene
+elsewhere sc k a e = record sc { procedure = k; around = a; exits = e }
+
+-- the names behind a declaration
+record NamesAfter (g : Setting) (sc : Scene) (ns : List Named) (i : ℕ) (x : Declaration) (bs : List Binding) : Type 0 where
+  pub agree : Agree (declared x (with_names ns i)).names bs
+  pub renames : Renames g sc (with_names ns i) bs (declared x (with_names ns i))
+
+constants_then : (pay : ℕ) (sc : Scene) (l : ℕ) (o : Sort) (is : Items) (i d many : ℕ) (c : List Stmt) (bs : List Binding) {ks qs : List Kind} (L : List Named → List Lasting) (Then : Later) (P : Setting → Type 0)
+    → ((g : Setting) → 0 < i → P g → (k : ℕ) (a : Surroundings) (e : Exits) (ns : List Named) → Agree ns sc.bindings → NamesAfter g (elsewhere sc k a e) ns i (t.constants l o is) bs)
+    → Bases (home sc pay) i (objects_of_declaration (t.constants l o is)) ks (λ ns. of_items (with_names ns i) o is) P
+    → Bases (record (home sc pay) { bindings = bs }) (i + objects_of_declaration (t.constants l o is)) many qs L (LaidLater Then sc bs d (i + objects_of_declaration (t.constants l o is)) c)
+    → Bases (home sc pay) i (objects_of_declaration (t.constants l o is) + many) (ks ++ qs) (λ ns. of_items (with_names ns i) o is ++ L (declared (t.constants l o is) (with_names ns i)).names)
+    (InNames sc.bindings i (λ g env. IsOneDeclared g sc d env (t.constants l o is) (Then g) c))
+constants_then pay sc l o is i d many c bs L Then P names own others =
+    let h : Home = home sc pay in
+    let x : Declaration = t.constants l o is in
+    let n : ℕ = objects_of_declaration x in
+    let there : Exits = record { loop = false; switch = false } in
+    let a = bases_some h i n P own in
+    let both = then_bases h bs i n many (λ g. (0 < i) × P g) (LaidLater Then sc bs d (i + n) c) (λ ns. (declared x (with_names ns i)).names) a
+    (λ g y ns u v. let w = a.laid g y in (
+      (names g w.0 w.1 0 outermost there ns u).agree,
+      λ k bases frame grown. record { each = ((names g w.0 w.1 k outermost there ns u).renames.1 bases frame grown (record { each = (v k bases frame grown).each })).each },
+    )) others in
+    bases_so h i (n + many) _ _ (λ g y v ns u.
+    let w = names g v.0.0 v.0.1 sc.procedure sc.around sc.exits ns u in
+    (bs, w.renames, subst (λ j. Then g (record sc { bindings = bs }) d (with_names (declared x (with_names ns i)).names j) c) (sym (next_declared x (with_names ns i))) (v.1 (declared x (with_names ns i)).names w.agree))) both
+
+pub constants_bases : (pay : ℕ) (sc : Scene) (p : Place) (s : Spot) (l : ℕ) (o : Sort) (is : Items) (i d n many : ℕ) (c : List Stmt) {qs : List Kind} (L : List Named → List Lasting) (Then : Later) → HasWords sc.bindings
+    → SoundOneDeclared sc.bindings p s (t.constants l o is) → RegularItems is → FoundParts sc.own sc.targets (parts_of_declaration d n (declaration_named sc.bindings p s (t.constants l o is)))
+    → Bases (record (home sc pay) { bindings = scope_behind_one sc.bindings p s (t.constants l o is) }) (i + objects_of_declaration (t.constants l o is)) many qs L
+    (LaidLater Then sc (scope_behind_one sc.bindings p s (t.constants l o is)) d (i + objects_of_declaration (t.constants l o is)) c)
+    → Bases (home sc pay) i (objects_of_declaration (t.constants l o is) + many) (kinds_of_declaration n (declaration_named sc.bindings p s (t.constants l o is)) ++ qs) (λ ns. of_declaration (with_names ns i) (t.constants l o is) ++ L (declared (t.constants l o is) (with_names ns i)).names)
+    (InNames sc.bindings i (λ g env. IsOneDeclared g sc d env (t.constants l o is) (Then g) c))
+constants_bases pay sc p s l sort.Manifest is i d n many c L Then w h r f b =
+    constants_then pay sc l sort.Manifest is i d many c (manifests_in_scope sc.bindings is) L Then (λ g. Unit {0})
+    (λ g some q k a e ns u. let z = renames_manifests is g (elsewhere sc k a e) ns i w u r h in record { agree = z.agree; renames = z.renames }) (no_bases (home sc pay) i _ (λ g y. tt)) b
+constants_bases pay sc p s l sort.Static is i d n many c L Then w h r f b =
+    constants_then pay sc l sort.Static is i d many c (statics_in_scope (s.number + 1) is sc.bindings) L Then (λ g. AreBases g.lasting i (static_places sc.own sc.targets (s.number + 1) is))
+    (λ g some q k a e ns u. let z = renames_statics is g (elsewhere sc k a e) ns i (s.number + 1) some u in record { agree = z.agree; renames = z.renames q }) (statics_lie (home sc pay) (spot.numbered 1 s) i i n is w r h f) b
+constants_bases pay sc p s l sort.Global is i d n many c L Then w h r f b =
+    constants_then pay sc l sort.Global is i d many c (globals_in_scope sc.bindings is sc.bindings) L Then (λ g. Unit {0})
+    (λ g some q k a e ns u. let z = renames_globals is g (elsewhere sc k a e) ns sc.bindings ns i u.0 u h in record { agree = z.agree; renames = z.renames g.vector }) (no_bases (home sc pay) i _ (λ g y. tt)) b
+
+-- ---- LET
+
+variables_here : (bs : List Binding) (p : Place) (s : Spot) (ds : Definitions) → has_variables (definitions_named bs p s ds) ≡ defines_variables ds
+variables_here bs p s t.no_definitions = refl
+variables_here bs p s (t.define (t.routine l x fs c) ds) = variables_here bs p (spot.behind_one_defined (t.routine l x fs c) s) ds
+variables_here bs p s (t.define (t.function l x fs e) ds) = variables_here bs p (spot.behind_one_defined (t.function l x fs e) s) ds
+variables_here bs p s (t.define (t.variables l xs is) ds) = refl
+
+-- STORE, where there are variables
+stored : (q : Bool) (c : List Stmt) → cond q (Store ∷ []) [] ++ c ≡ cond q (Store ∷ c) c
+stored true c = refl
+stored false c = refl
+
+behind_store : (sc : Scene) (q : Bool) (d : ℕ) (c : List Stmt) → StandsAt sc.own d (cond q (Store ∷ []) [] ++ c) → StandsAt sc.own d c
+behind_store sc true d c h = passed sc.own d d Store c h refl
+behind_store sc false d c h = h
+
+-- where the definitions of a LET are laid: its scope, the place and the spot of its definitions
+abbrev pub inner : Scene → Spot → Definitions → Scene
+inner sc s ds = record sc { bindings = procedures_in_scope (s.number + 1) ds sc.bindings }
+
+abbrev pub first_defined : Spot → Definitions → Spot
+first_defined s ds = spot.numbered (1 + procedures_in ds) s
+
+abbrev slots_here : Scene → Place → Spot → ℕ → Definitions → List Slot
+slots_here sc p s d ds = spots_in (inner sc s ds).bindings p (first_defined s ds) d ds
+
+abbrev pub depth_here : Scene → Place → Spot → ℕ → Definitions → ℕ
+depth_here sc p s d ds = behind_definitions d (definitions_named (inner sc s ds).bindings p (first_defined s ds) ds)
+
+abbrev behind_let : Scene → Place → Spot → ℕ → Definitions → List Stmt → List Stmt
+behind_let sc p s d ds c = cond (has_variables (definitions_named (inner sc s ds).bindings p (first_defined s ds) ds)) (Store ∷ []) [] ++ c
+
+-- the definitions, and the bases of procedures
+abbrev DefinedHere : Scene → Place → Spot → ℕ → ℕ → ℕ → Definitions → List Stmt → List Stmt → Setting → Type 0
+DefinedHere sc p s i n d ds c c0 g =
+    WordsBased g.lasting sc.own (inner sc s ds).bindings p (first_defined s ds) i n ds
+    × InNames (inner sc s ds).bindings i (λ g env. AreDefined g (inner sc s ds) d env ds c c0 (depth_here sc p s d ds) (slots_here sc p s d ds)) g
+
+definitions_lie : (pay : ℕ) (valofs : ValofsLie pay) (blocks : BlocksLie pay) (sc : Scene) (p : Place) (s : Spot) (i l : ℕ) (ds : Definitions) (d n : ℕ) (c c1 : List Stmt) → Around sc p d → SoundOneDeclared sc.bindings p s (t.definitions l ds)
+    → RegularDefinitions ds → weight_defined ds ≤ pay → FoundParts sc.own sc.targets (parts_of_declaration d n (declaration_named sc.bindings p s (t.definitions l ds)))
+    → c ≡ declaration_code sc.targets d n (declaration_named sc.bindings p s (t.definitions l ds)) ++ c1 → StandsAt sc.own d c
+    → Lies (home (inner sc s ds) pay) i (objects_of_definitions ds) (depth_here sc p s d ds) (behind_let sc p s d ds c1) (kinds_of_definitions n (definitions_named (inner sc s ds).bindings p (first_defined s ds) ds)) (λ ns. of_definitions (with_names ns i) ds) (DefinedHere sc p s i n d ds c (behind_let sc p s d ds c1))
+definitions_lie pay valofs blocks sc p s i l ds d n c c1 a h r m f k st =
+    let bl = (inner sc s ds).bindings in
+    let named = definitions_named bl p (first_defined s ds) ds in
+    let around : Around (inner sc s ds) p d = record { same = a.same; at = a.at; words = words_procedures (s.number + 1) ds sc.bindings a.words } in
+    laid_defined pay valofs blocks (inner sc s ds) p (first_defined s ds) i ds d n c (behind_let sc p s d ds c1) around h r m f
+    (joined_two (definitions_code sc.targets d n named) (cond (has_variables named) (Store ∷ []) []) c1 c k) st
+
+-- what stands around code behind a LET
+exits_same : (p r : Place) → (r.in_loop ≡ p.in_loop) × (r.in_switch ≡ p.in_switch) × (r.in_valof ≡ p.in_valof) → (sc : Scene) (bs : List Binding) (d e : ℕ) → Doing sc p d → r.procedure ≡ p.procedure → r.depth ≡ e → HasWords bs
+    → Doing (record sc { bindings = bs }) r e
+exits_same p r x sc bs d e a same at w = record {
+  around = record { same = same ∙ a.around.same; at = at; words = w };
+  loop = λ h. a.loop (sym x.0 ∙ h);
+  switch = λ h. a.switch (sym x.1 ∙ h);
+  valof = λ h. a.valof (sym x.2 ∙ h);
+}
+
+-- the names of the procedures, in some procedure of the scope
+procedures_mean : (sc : Scene) (p : Place) (s : Spot) (i n d : ℕ) (ds : Definitions) (c c0 : List Stmt) (g : Setting) (k : ℕ) (a : Surroundings) (e : Exits) (ns : List Named) → 0 < i → DefinedHere sc p s i n d ds c c0 g
+    → FoundParts sc.own sc.targets (parts_of_definitions d n (definitions_named (inner sc s ds).bindings p (first_defined s ds) ds)) → Agree ns sc.bindings
+    → Agree (bind_procedures ds (with_names ns i)).names (inner sc s ds).bindings × Renames g (elsewhere sc k a e) (with_names ns i) (inner sc s ds).bindings (within_let ds (with_names ns i))
+procedures_mean sc p s i n d ds c c0 g k a e ns some v f u =
+    let z = renames_procedures ds g (elsewhere sc k a e) ns i (s.number + 1) some u in
+    let based : AreProcedures g.lasting sc.own sc.targets sc.bindings i (s.number + 1) ds =
+    procedures_based g.lasting sc.own sc.targets sc.bindings (inner sc s ds).bindings p (first_defined s ds) i (s.number + 1) n d ds refl v.0 f in
+    (z.agree, (z.keeps, λ bases frame grown r. record { each = (z.means based bases frame grown r).each }))
+
+-- the names behind a LET, before the run
+let_after : (sc : Scene) (p : Place) (s : Spot) (i l d : ℕ) (ds : Definitions) (g : Setting) (k q : ℕ) (ns : List Named) → RegularDefinitions ds → Agree (bind_procedures ds (with_names ns i)).names (inner sc s ds).bindings
+    → Agree (declared (t.definitions l ds) (with_names ns i)).names (bind_all (from_spots q (slots_here sc p s d ds)) (inner sc s ds).bindings)
+    × ((bases : List ℕ) (frame : ℕ) → NamedIn (there_in (home (inner sc s ds) 0) k) (with_names (bind_procedures ds (with_names ns i)).names 0) bases frame
+    → NamedIn (there_in (home (record sc { bindings = bind_all (from_spots q (slots_here sc p s d ds)) (inner sc s ds).bindings }) 0) k) (with_names (declared (t.definitions l ds) (with_names ns i)).names 0) bases frame)
+let_after sc p s i l d ds g k q ns r u =
+    let bl = (inner sc s ds).bindings in
+    let ps = slots_here sc p s d ds in
+    let names = (bind_procedures ds (with_names ns i)).names in
+    let j : ℕ = i + objects_of_definitions ds in
+    let e = hidden_are bl p (first_defined s ds) d ds (with_names names j) r in (
+      subst (λ (z : Environment). Agree z.names (bind_all (from_spots q ps) bl)) e (foreign_agree ps names bl j q u),
+      λ bases frame v.
+          let w = foreign_mean ps (there_in (home (inner sc s ds) 0) k) (with_names names j) q bases frame (record { each = v.each }) in
+          let w1 : NamedIn (there_in (home (record sc { bindings = bind_all (from_spots q ps) bl }) 0) k) (foreign_spots ps (with_names names j)) bases frame = record { each = w.each } in
+          let w2 = subst (λ (z : Environment). NamedIn (there_in (home (record sc { bindings = bind_all (from_spots q ps) bl }) 0) k) z bases frame) e w1 in
+          record { each = w2.each },
+    )
+
+-- a LET, and what is laid behind it
+pub let_bases : (pay : ℕ) (valofs : ValofsLie pay) (blocks : BlocksLie pay) (sc : Scene) (p : Place) (s : Spot) (i l : ℕ) (ds : Definitions) (d n many : ℕ) (c c1 : List Stmt) {qs : List Kind} (L : List Named → List Lasting) (Then : Later) → Around sc p d
+    → SoundOneDeclared sc.bindings p s (t.definitions l ds) → RegularDefinitions ds → weight_defined ds ≤ pay → FoundParts sc.own sc.targets (parts_of_declaration d n (declaration_named sc.bindings p s (t.definitions l ds)))
+    → c ≡ declaration_code sc.targets d n (declaration_named sc.bindings p s (t.definitions l ds)) ++ c1 → StandsAt sc.own d c
+    → Bases (record (home sc pay) { bindings = scope_behind_one sc.bindings p s (t.definitions l ds) }) (i + objects_of_definitions ds) many qs L
+    (LaidLater Then sc (scope_behind_one sc.bindings p s (t.definitions l ds)) (depth_here sc p s d ds) (i + objects_of_definitions ds) c1)
+    → Bases (home sc pay) i (objects_of_definitions ds + many) (kinds_of_definitions n (definitions_named (inner sc s ds).bindings p (first_defined s ds) ds) ++ qs) (λ ns. of_declaration (with_names ns i) (t.definitions l ds) ++ L (declared (t.definitions l ds) (with_names ns i)).names)
+    (InNames sc.bindings i (λ g env. IsOneDeclared g sc d env (t.definitions l ds) (Then g) c))
+let_bases pay valofs blocks sc p s i l ds d n many c c1 {qs} L Then a h r m f k st b =
+    let hm : Home = home sc pay in
+    let bl = (inner sc s ds).bindings in
+    let ps = slots_here sc p s d ds in
+    let d1 : ℕ = depth_here sc p s d ds in
+    let c0 = behind_let sc p s d ds c1 in
+    let j : ℕ = i + objects_of_definitions ds in
+    let lies = definitions_lie pay valofs blocks sc p s i l ds d n c c1 a h r m f k st in
+    let vars = variables_in bl p (first_defined s ds) d ds a.at h r lies.on.shallow in
+    let q : ℕ = p.procedure in
+    let bs : List Binding = bind_all (from_spots q ps) bl in
+    let others = subst (λ (z : List Binding). Bases (record hm { bindings = bind_all z bl }) j many qs L (LaidLater Then sc (bind_all z bl) d1 j c1)) vars.are b in
+    let there : Exits = record { loop = false; switch = false } in
+    let P : Setting → Type 0 = λ g. (0 < i) × DefinedHere sc p s i n d ds c c0 g in
+    let own = bases_some hm i (objects_of_definitions ds) (DefinedHere sc p s i n d ds c c0) (bases_under hm bl i (objects_of_definitions ds) (DefinedHere sc p s i n d ds c c0) (λ ns. (bind_procedures ds (with_names ns i)).names)
+    (λ g some v ns u w. (
+      (procedures_mean sc p s i n d ds c c0 g 0 outermost there ns some v f u).0,
+      λ k bases frame grown. record { each = ((procedures_mean sc p s i n d ds c c0 g k outermost there ns some v f u).1.1 bases frame grown (record { each = (w k bases frame grown).each })).each },
+    )) lies.objects_are) in
+    let both = then_bases hm bs i (objects_of_definitions ds) many P (LaidLater Then sc bs d1 j c1) (λ ns. (declared (t.definitions l ds) (with_names ns i)).names) own
+    (λ g y ns u w.
+    let v = own.laid g y in (
+      (let_after sc p s i l d ds g 0 q ns r (procedures_mean sc p s i n d ds c c0 g 0 outermost there ns v.0 v.1 f u).0).0,
+      λ k bases frame grown.
+          let z = procedures_mean sc p s i n d ds c c0 g k outermost there ns v.0 v.1 f u in
+          (let_after sc p s i l d ds g k q ns r z.0).1 bases frame (record { each = (z.1.1 bases frame grown (record { each = (w k bases frame grown).each })).each }),
+    )) others in
+    bases_so hm i (objects_of_definitions ds + many) _ _ (λ g y v ns u.
+    let z = procedures_mean sc p s i n d ds c c0 g sc.procedure sc.around sc.exits ns v.0.0 v.0.1 f u in
+    let names = (bind_procedures ds (with_names ns i)).names in (
+      bl,
+      bs,
+      d1,
+      ps,
+      c0,
+      c1,
+      z.1,
+      renames_variables ps sc bl (within_let ds (with_names ns i)) (objects_of_definitions ds) q z.1.0 vars.fit,
+      v.0.1.1 names z.0,
+      stored (has_variables (definitions_named bl p (first_defined s ds) ds)) c1 ∙ ap (λ w. cond w (Store ∷ c1) c1) (variables_here bl p (first_defined s ds) ds),
+      lies.on.shallow,
+      (λ o some. subst (λ w. Then g (record sc { bindings = bs }) d1 (with_names (variables_bound o ps (with_names names j)).names w) c1) (sym (next_bound ps o (with_names names j)))
+          (v.1 (variables_bound o ps (with_names names j)).names (bound_agree ps names bl j o q some z.0))),
+    )) both
+
+-- ---- one declaration
+
+-- where no code stands for it
+at_code : (pay : ℕ) (sc : Scene) (i : ℕ) (x : Declaration) (d many : ℕ) (c c1 : List Stmt) (bs : List Binding) {qs : List Kind} (L : List Named → List Lasting) (Then : Later) → c ≡ c1
+    → Bases (record (home sc pay) { bindings = bs }) (i + objects_of_declaration x) many qs L (LaidLater Then sc bs d (i + objects_of_declaration x) c1)
+    → Bases (record (home sc pay) { bindings = bs }) (i + objects_of_declaration x) many qs L (LaidLater Then sc bs d (i + objects_of_declaration x) c)
+at_code pay sc i x d many c c1 bs {qs} L Then k b = subst (λ z. Bases (record (home sc pay) { bindings = bs }) (i + objects_of_declaration x) many qs L (LaidLater Then sc bs d (i + objects_of_declaration x) z)) (sym k) b
+
+pub one_bases : (pay : ℕ) (valofs : ValofsLie pay) (blocks : BlocksLie pay) (sc : Scene) (p : Place) (s : Spot) (i : ℕ) (x : Declaration) (d n many : ℕ) (c c1 : List Stmt) {qs : List Kind} (L : List Named → List Lasting) (Then : Later) → Around sc p d
+    → SoundOneDeclared sc.bindings p s x → RegularDeclaration x → weight_one_declared x ≤ pay → FoundParts sc.own sc.targets (parts_of_declaration d n (declaration_named sc.bindings p s x))
+    → c ≡ declaration_code sc.targets d n (declaration_named sc.bindings p s x) ++ c1 → StandsAt sc.own d c
+    → Bases (record (home sc pay) { bindings = scope_behind_one sc.bindings p s x }) (i + objects_of_declaration x) many qs L
+    (LaidLater Then sc (scope_behind_one sc.bindings p s x) (behind_declaration d (declaration_named sc.bindings p s x)) (i + objects_of_declaration x) c1)
+    → Bases (home sc pay) i (objects_of_declaration x + many) (kinds_of_declaration n (declaration_named sc.bindings p s x) ++ qs) (λ ns. of_declaration (with_names ns i) x ++ L (declared x (with_names ns i)).names) (InNames sc.bindings i (λ g env. IsOneDeclared g sc d env x (Then g) c))
+one_bases pay valofs blocks sc p s i (t.constants l sort.Manifest is) d n many c c1 L Then a h r m f k st b =
+    constants_bases pay sc p s l sort.Manifest is i d n many c L Then a.words h r f (at_code pay sc i (t.constants l sort.Manifest is) d many c c1 (scope_behind_one sc.bindings p s (t.constants l sort.Manifest is)) L Then k b)
+one_bases pay valofs blocks sc p s i (t.constants l sort.Static is) d n many c c1 L Then a h r m f k st b =
+    constants_bases pay sc p s l sort.Static is i d n many c L Then a.words h r f (at_code pay sc i (t.constants l sort.Static is) d many c c1 (scope_behind_one sc.bindings p s (t.constants l sort.Static is)) L Then k b)
+one_bases pay valofs blocks sc p s i (t.constants l sort.Global is) d n many c c1 L Then a h r m f k st b =
+    constants_bases pay sc p s l sort.Global is i d n many c L Then a.words h r f (at_code pay sc i (t.constants l sort.Global is) d many c c1 (scope_behind_one sc.bindings p s (t.constants l sort.Global is)) L Then k b)
+one_bases pay valofs blocks sc p s i (t.definitions l ds) d n many c c1 L Then a h r m f k st b = let_bases pay valofs blocks sc p s i l ds d n many c c1 L Then a h r m f k st b
+
+-- what stands around code behind constants
+pub behind_constants : (sc : Scene) (p : Place) (s : Spot) (l : ℕ) (o : Sort) (is : Items) (d : ℕ) → Doing sc p d → RegularItems is → Doing (record sc { bindings = scope_behind_one sc.bindings p s (t.constants l o is) }) p d
+behind_constants sc p s l sort.Manifest is d a r = exits_same p p (refl, refl, refl) sc _ d d a refl a.around.at (words_manifests sc.bindings is a.around.words r)
+behind_constants sc p s l sort.Static is d a r = exits_same p p (refl, refl, refl) sc _ d d a refl a.around.at (words_statics (s.number + 1) is sc.bindings a.around.words)
+behind_constants sc p s l sort.Global is d a r = exits_same p p (refl, refl, refl) sc _ d d a refl a.around.at (words_globals sc.bindings is sc.bindings a.around.words)
+
+-- where code goes on behind it
+pub behind_one : (pay : ℕ) (valofs : ValofsLie pay) (blocks : BlocksLie pay) (sc : Scene) (p : Place) (s : Spot) (x : Declaration) (d n : ℕ) (c c1 : List Stmt) → Doing sc p d → SoundOneDeclared sc.bindings p s x → RegularDeclaration x
+    → weight_one_declared x ≤ pay → FoundParts sc.own sc.targets (parts_of_declaration d n (declaration_named sc.bindings p s x)) → c ≡ declaration_code sc.targets d n (declaration_named sc.bindings p s x) ++ c1 → StandsAt sc.own d c
+    → StandsAt sc.own (behind_declaration d (declaration_named sc.bindings p s x)) c1
+    × Doing (record sc { bindings = scope_behind_one sc.bindings p s x }) (place_behind_one sc.bindings p s x) (behind_declaration d (declaration_named sc.bindings p s x))
+behind_one pay valofs blocks sc p s (t.constants l sort.Manifest is) d n c c1 a h r m f k st = (written sc.own d c c1 k st, behind_constants sc p s l sort.Manifest is d a r)
+behind_one pay valofs blocks sc p s (t.constants l sort.Static is) d n c c1 a h r m f k st = (written sc.own d c c1 k st, behind_constants sc p s l sort.Static is d a r)
+behind_one pay valofs blocks sc p s (t.constants l sort.Global is) d n c c1 a h r m f k st = (written sc.own d c c1 k st, behind_constants sc p s l sort.Global is d a r)
+behind_one pay valofs blocks sc p s (t.definitions l ds) d n c c1 a h r m f k st =
+    let bl = (inner sc s ds).bindings in
+    let d1 : ℕ = depth_here sc p s d ds in
+    let lies = definitions_lie pay valofs blocks sc p s 0 l ds d n c c1 a.around h r m f k st in
+    let vars = variables_in bl p (first_defined s ds) d ds a.around.at h r lies.on.shallow in
+    let words : HasWords (bind_all (from_spots p.procedure (slots_here sc p s d ds)) bl) = spots_words (slots_here sc p s d ds) p.procedure bl (words_procedures (s.number + 1) ds sc.bindings a.around.words) in
+    let same = (same_defined bl p ds).1 in (
+      behind_store sc (has_variables (definitions_named bl p (first_defined s ds) ds)) d1 c1 lies.on,
+      exits_same p (place_behind_defined bl p ds) (ap (λ z. z.loop) same, ap (λ z. z.switch) same, ap (λ z. z.valof) same) sc _ d d1 a vars.procedure vars.depth (subst (λ z. HasWords (bind_all z bl)) (sym vars.are) words),
+    )
+
+-- ---- declarations in order
+
+pub declared_behind : (pay : ℕ) (valofs : ValofsLie pay) (blocks : BlocksLie pay) (sc : Scene) (p : Place) (s : Spot) (xs : Declarations) (d n : ℕ) (c c1 : List Stmt) → Doing sc p d → SoundDeclared sc.bindings p s xs → RegularDeclarations xs
+    → weight_declared xs ≤ pay → FoundParts sc.own sc.targets (parts_of_declarations d n (declarations_named sc.bindings p s xs)) → c ≡ declarations_code sc.targets d n (declarations_named sc.bindings p s xs) ++ c1 → StandsAt sc.own d c
+    → StandsAt sc.own (behind_declarations d (declarations_named sc.bindings p s xs)) c1
+    × Doing (record sc { bindings = scope_behind sc.bindings p s xs }) (place_behind_all sc.bindings p s xs) (behind_declarations d (declarations_named sc.bindings p s xs))
+declared_behind pay valofs blocks sc p s t.no_declarations d n c c1 a h r m f k st = (written sc.own d c c1 k st, a)
+declared_behind pay valofs blocks sc p s (t.declare x xs) d n c c1 a h r m f k st =
+    let one = declaration_named sc.bindings p s x in
+    let bs = scope_behind_one sc.bindings p s x in
+    let p1 : Place = place_behind_one sc.bindings p s x in
+    let s1 : Spot = behind_one_declared x s in
+    let more = declarations_code sc.targets (behind_declaration d one) (n + labels_of_declaration one) (declarations_named bs p1 s1 xs) in
+    let first = behind_one pay valofs blocks sc p s x d n c (more ++ c1) a h.0 r.0 (omega (arith, m)) (found_front sc.own sc.targets (parts_of_declaration d n one) _ f) (joined_two (declaration_code sc.targets d n one) more c1 c k) st in
+    declared_behind pay valofs blocks (record sc { bindings = bs }) p1 s1 xs (behind_declaration d one) (n + labels_of_declaration one) (more ++ c1) c1 first.1 h.1 r.1 (omega (arith, m))
+    (found_back sc.own sc.targets (parts_of_declaration d n one) _ f) refl first.0
+
+pub declared_bases : (pay : ℕ) (valofs : ValofsLie pay) (blocks : BlocksLie pay) (sc : Scene) (p : Place) (s : Spot) (i : ℕ) (xs : Declarations) (d n many : ℕ) (c c1 : List Stmt) {qs : List Kind} (L : List Named → List Lasting) (Then : Later) → Doing sc p d
+    → SoundDeclared sc.bindings p s xs → RegularDeclarations xs → weight_declared xs ≤ pay → FoundParts sc.own sc.targets (parts_of_declarations d n (declarations_named sc.bindings p s xs))
+    → c ≡ declarations_code sc.targets d n (declarations_named sc.bindings p s xs) ++ c1 → StandsAt sc.own d c
+    → Bases (record (home sc pay) { bindings = scope_behind sc.bindings p s xs }) (i + objects_of_declarations xs) many qs L
+    (LaidLater Then sc (scope_behind sc.bindings p s xs) (behind_declarations d (declarations_named sc.bindings p s xs)) (i + objects_of_declarations xs) c1)
+    → Bases (home sc pay) i (objects_of_declarations xs + many) (kinds_of_declarations n (declarations_named sc.bindings p s xs) ++ qs) (λ ns. of_declarations (with_names ns i) xs ++ L (all_declared xs (with_names ns i)).names) (InNames sc.bindings i (λ g env. AreDeclared g sc d env xs (Then g) c))
+declared_bases pay valofs blocks sc p s i t.no_declarations d n many c c1 {qs} L Then a h r m f k st b =
+    let none : i + 0 ≡ i = omega arith in
+    let same : many ≡ 0 + many = omega arith in
+    let b1 = subst (λ z. Bases (home sc pay) z many qs L (LaidLater Then sc sc.bindings d z c1)) none b in
+    let b2 = subst (λ z. Bases (home sc pay) i many qs L (LaidLater Then sc sc.bindings d i z)) (sym k) b1 in
+    subst (λ z. Bases (home sc pay) i z qs L (LaidLater Then sc sc.bindings d i c)) same b2
+declared_bases pay valofs blocks sc p s i (t.declare x xs) d n many c c1 {qs} L Then a h r m f k st b =
+    let hm : Home = home sc pay in
+    let one = declaration_named sc.bindings p s x in
+    let bs = scope_behind_one sc.bindings p s x in
+    let p1 : Place = place_behind_one sc.bindings p s x in
+    let s1 : Spot = behind_one_declared x s in
+    let d1 : ℕ = behind_declaration d one in
+    let n1 : ℕ = n + labels_of_declaration one in
+    let ox : ℕ = objects_of_declaration x in
+    let os : ℕ = objects_of_declarations xs in
+    let named = declarations_named bs p1 s1 xs in
+    let more = declarations_code sc.targets d1 n1 named in
+    let within : Scene = record sc { bindings = bs } in
+    let own_found = found_front sc.own sc.targets (parts_of_declaration d n one) _ f in
+    let k1 = joined_two (declaration_code sc.targets d n one) more c1 c k in
+    let first = behind_one pay valofs blocks sc p s x d n c (more ++ c1) a h.0 r.0 (omega (arith, m)) own_found k1 st in
+    let further : i + (ox + os) ≡ i + ox + os = omega arith in
+    let many_more : ox + (os + many) ≡ ox + os + many = omega arith in
+    let b1 = subst (λ z. Bases (record hm { bindings = scope_behind bs p1 s1 xs }) z many qs L (LaidLater Then sc (scope_behind bs p1 s1 xs) (behind_declarations d1 named) z c1)) further b in
+    let others = declared_bases pay valofs blocks within p1 s1 (i + ox) xs d1 n1 many (more ++ c1) c1 L Then first.1 h.1 r.1 (omega (arith, m)) (found_back sc.own sc.targets (parts_of_declaration d n one) _ f) refl first.0 b1 in
+    let whole = one_bases pay valofs blocks sc p s i x d n (os + many) c (more ++ c1) (λ ns. of_declarations (with_names ns (i + ox)) xs ++ L (all_declared xs (with_names ns (i + ox))).names)
+    (λ g sc0 d0 env0 c0. AreDeclared g sc0 d0 env0 xs (Then g) c0) a.around h.0 r.0 (omega (arith, m)) own_found k1 st others in
+    let said = bases_of hm i (ox + (os + many)) _ (λ ns. of_declarations (with_names ns i) (t.declare x xs) ++ L (all_declared (t.declare x xs) (with_names ns i)).names) _ (λ ns.
+    let env : Environment = declared x (with_names ns i) in
+    ap (λ z. of_declaration (with_names ns i) x ++ (of_declarations (with_names env.names z) xs ++ L (all_declared xs (with_names env.names z)).names)) (sym (next_declared x (with_names ns i)))
+    ∙ sym (append_assoc (of_declaration (with_names ns i) x) (of_declarations env xs) (L (all_declared xs env).names))) whole in
+    let all_kinds = append_assoc (kinds_of_declaration n one) (kinds_of_declarations n1 named) qs in
+    let objects_said : List Named → List Lasting = λ ns. of_declarations (with_names ns i) (t.declare x xs) ++ L (all_declared (t.declare x xs) (with_names ns i)).names in
+    let laid_said : Setting → Type 0 = InNames sc.bindings i (λ g env. AreDeclared g sc d env (t.declare x xs) (Then g) c) in
+    subst (λ z. Bases hm i z (kinds_of_declarations n (declarations_named sc.bindings p s (t.declare x xs)) ++ qs) objects_said laid_said) many_more
+    (subst (λ z. Bases hm i (ox + (os + many)) z objects_said laid_said) (sym all_kinds) said)

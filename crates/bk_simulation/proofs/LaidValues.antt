@@ -1,0 +1,364 @@
+-- Each expression of an accepted section is laid where the scheme puts it, for a value and for a jump. That VALOFs are is taken here as
+-- an argument.
+use Rattle.std.proofs.Common.{◌≡◌, ℕ, ◌+◌, ◌≤◌, true, false, not, List, [], ◌∷◌, ◌++◌, length, map, Some, refl, sym, ◌∙◌, subst, arith, slice_get}
+use Rattle.std.proofs.lemmas.Bool.{false≢true}
+use Rattle.bk_base.specs.Strings.{first_bytes}
+use Rattle.bk_base.specs.Word.{signed}
+use Rattle.bk_syntax.specs.declared.tree.Operator.TheVariants as o
+use Rattle.bk_syntax.specs.declared.tree.Prefix.TheVariants as q
+use Rattle.bk_syntax.specs.Grammar.{line_of, size}
+use Rattle.bk_syntax.specs.Tree as t
+use Rattle.bk_syntax.specs.Tree.{Expression, Expressions, Action, Actions, Declaration, Declarations, Definition, Definitions, Starts}
+use Rattle.bk_scope.specs.declared.place.Place.{Place}
+use Rattle.bk_scope.specs.declared.role.Role.{Role}
+use Rattle.bk_scope.specs.declared.role.Role.TheVariants.{Address as Addressed}
+use Rattle.bk_scope.specs.Scope.{bound_in}
+use Rattle.bk_scope.specs.Faults.{addressed, assigned}
+use Rattle.bk_scope.specs.Names.{parenthesised}
+use Rattle.bk_scope.specs.Places.{deeper}
+use Rattle.bk_scope.specs.Sound.{Sound, SoundEach, HaveWords}
+use Rattle.bk_scope.specs.Spots as spot
+use Rattle.bk_scope.specs.Spots.{Spot}
+use Rattle.bk_ocode.specs.SectionData.{Datum, item_words}
+use Rattle.bk_ocode.specs.declared.stmt.Variable.TheVariants.{Static}
+use Rattle.bk_ocode.specs.declared.stmt.Dyadic.TheVariants as two
+use Rattle.bk_ocode.specs.declared.stmt.Monadic.TheVariants as w
+use Rattle.bk_ocode.specs.declared.stmt.Stmt.{Stmt}
+use Rattle.bk_ocode.specs.declared.stmt.Stmt.TheVariants.{DataLabel, DataNumber, Number, Query, Address, Text, Monadic, Dyadic, Assign, AssignAt, AssignByte, Label, GiveResult, TakeResult, CallFunction}
+use Rattle.bk_trans.specs.Labels.{labels, labels_if}
+use Rattle.bk_trans.specs.Naming.{meant, term_named, terms_named, condition_named, lvalue_named, words_named}
+use Rattle.bk_trans.specs.Parts.{static_table, parts, parts_each, parts_if, parts_at}
+use Rattle.bk_trans.specs.Scheme.{push, infix_code, truth_value, value_code, each_code, jump_code, address_code, store_code, variable, data_code}
+use Rattle.bk_meaning.specs.Environment.{Named, objects, objects_of_each, objects_of_action}
+use Rattle.bk_simulation.specs.Regular.{Regular, RegularEach}
+use Rattle.bk_simulation.proofs.Weights.{weight_of, weight_among}
+use Rattle.bk_simulation.proofs.Sought.{with_names}
+use Rattle.bk_simulation.proofs.Laid.{Setting, Scene, Aim, pushes, jumps, ending, count, IsCode, AreValues, IsAddress, IsStore}
+use Rattle.bk_meaning.specs.Lasting.{of_expression, of_each, constant_words, text_words}
+use Rattle.bk_simulation.proofs.Held.{InData}
+use Rattle.bk_simulation.proofs.HeldData.{statement_data, statement_below, items_are, words_small, words_agree}
+use Rattle.bk_simulation.proofs.NamesAgree.{Agree}
+use Rattle.bk_simulation.proofs.LastingKinds.{string, words_at, kinds_each, kinds_at}
+use Rattle.bk_simulation.proofs.Standing.{StandsAt, passed, at_depth, written, label_at, call_at, home, no_bases, new_base, both_bases, three_bases, bases_so, Lies, lies_behind}
+use Rattle.bk_simulation.proofs.LaidExpressions.{coded, own_parts, own_kinds, plain_lies, role, level, HasWords, FoundParts, found_front, found_back, DataIn, Around, around_deeper, InNames, plain_code, plain_parts, lies_ended, leaf_on, leaf_lies, pushed_depth, truth_depth, infix_on, joined_two, joined_three, joined_choice}
+use Rattle.bk_simulation.proofs.LaidCalls.{call_lies}
+
+-- the words of a TABLE
+table_held : (g : Setting) (sc : Scene) (n l : ℕ) (es : Expressions) (i : ℕ) (ns : List Named) → Agree ns sc.bindings → HasWords sc.bindings → RegularEach es → HaveWords sc.bindings es → DataIn sc.own (data_code (static_table n (words_named sc.bindings es)))
+    → slice_get g.program.sections sc.section ≡ Some sc.own → InData g.program (sc.own.places.label n) (constant_words (with_names ns i) es)
+table_held g sc n l es i ns u words r h f own =
+    let ws = words_named sc.bindings es in
+    let code = map (λ w. DataNumber (signed w)) ws ++ f.rest in
+    let found = statement_data g.program sc.section sc.own f.depth (DataLabel n) code (record { place = sc.own.places.label n; words = item_words sc.own.places code }) own f.stands refl in
+    subst (λ y. InData g.program (sc.own.places.label n) y) (items_are sc.own.places ws f.rest (words_small sc.bindings es words r h) f.ends ∙ sym (words_agree ns sc.bindings i es u)) found
+
+-- expressions that are VALOFs are laid
+abbrev pub ValofsLie : ℕ → Type 0
+ValofsLie pay = (sc : Scene) (p : Place) (s : Spot) (i : ℕ) (aim : Aim) (l : ℕ) (x : Action) (d n : ℕ) (c rest : List Stmt) → Around sc p d → Sound (role aim) sc.bindings p s (t.valof l x) → Regular (t.valof l x)
+    → weight_of (t.valof l x) ≤ pay → FoundParts sc.own sc.targets (own_parts sc p s d n aim (t.valof l x)) → c ≡ coded sc p s d n aim (t.valof l x) ++ rest → StandsAt sc.own d c
+    → Lies (home sc pay) i (objects_of_action x) (level aim d) rest (own_kinds sc p s n aim (t.valof l x)) (λ ns. of_expression (with_names ns i) (t.valof l x))
+    (InNames sc.bindings i (λ g env. IsCode g sc d env aim (t.valof l x) c rest))
+
+mutual
+  pub laid_code : (pay : ℕ) (valofs : ValofsLie pay) (sc : Scene) (p : Place) (s : Spot) (i : ℕ) (aim : Aim) (e : Expression) (d n : ℕ) (c rest : List Stmt) → Around sc p d → Sound (role aim) sc.bindings p s e → Regular e → weight_of e ≤ pay
+      → FoundParts sc.own sc.targets (own_parts sc p s d n aim e) → c ≡ coded sc p s d n aim e ++ rest → StandsAt sc.own d c
+      → Lies (home sc pay) i (objects e) (level aim d) rest (own_kinds sc p s n aim e) (λ ns. of_expression (with_names ns i) e) (InNames sc.bindings i (λ g env. IsCode g sc d env aim e c rest))
+  laid_code pay valofs sc p s i aim (t.name l x) d n c rest a h r m f k st =
+      let k1 = plain_code sc p s d n aim (t.name l x) c rest refl k in
+      plain_lies pay sc p s i d n aim (t.name l x) (0) rest _ refl (leaf_lies (home sc pay) i d aim c rest (push sc.targets (meant (bound_in sc.bindings x))) _ k1 (pushed_depth sc.targets d (meant (bound_in sc.bindings x))) st (λ g y ns u. k1))
+  laid_code pay valofs sc p s i aim (t.number l v) d n c rest a h r m f k st =
+      let k1 = plain_code sc p s d n aim (t.number l v) c rest refl k in
+      plain_lies pay sc p s i d n aim (t.number l v) (0) rest _ refl (leaf_lies (home sc pay) i d aim c rest (Number (signed v)) _ k1 refl st (λ g y ns u. (k1, r)))
+  laid_code pay valofs sc p s i aim (t.text l x) d n c rest a h r m f k st =
+      let k1 = plain_code sc p s d n aim (t.text l x) c rest refl k in
+      let datum : Datum = record { place = sc.own.places.text (length (ending aim rest)); words = text_words x } in
+      let there = written sc.own d c (Text (first_bytes x) ∷ ending aim rest) k1 st in
+      plain_lies pay sc p s i d n aim (t.text l x) (1) rest _ refl (record {
+        on = leaf_on sc.own d aim c rest (Text (first_bytes x)) k1 refl st;
+        objects_are = new_base (home sc pay) i datum.place string _ _ (λ ns u. tt) (statement_below sc.section sc.own d (Text (first_bytes x)) (ending aim rest) datum there refl) (λ g y z ns u. (k1, z))
+            (λ g y z ns u v. (datum.place, z, statement_data g.program sc.section sc.own d (Text (first_bytes x)) (ending aim rest) datum y.own there refl));
+      })
+  laid_code pay valofs sc p s i aim (t.truth l x) d n c rest a h r m f k st =
+      let k1 = plain_code sc p s d n aim (t.truth l x) c rest refl k in
+      plain_lies pay sc p s i d n aim (t.truth l x) (0) rest _ refl (leaf_lies (home sc pay) i d aim c rest (truth_value x) _ k1 (truth_depth d x) st (λ g y ns u. k1))
+  laid_code pay valofs sc p s i aim (t.query l) d n c rest a h r m f k st =
+      let k1 = plain_code sc p s d n aim (t.query l) c rest refl k in
+      plain_lies pay sc p s i d n aim (t.query l) (0) rest _ refl (leaf_lies (home sc pay) i d aim c rest Query _ k1 refl st (λ g y ns u. k1))
+  laid_code pay valofs sc p s i pushes (t.parens l e) d n c rest a h r m f k st = laid_code pay valofs sc p (spot.past 1 s) i pushes e d n c rest a h r (omega arith) f k st
+  laid_code pay valofs sc p s i (jumps v j) (t.parens l e) d n c rest a h r m f k st = laid_code pay valofs sc p (spot.past 1 s) i (jumps v j) e d n c rest a h r (omega arith) f k st
+  laid_code pay valofs sc p s i aim (t.unary l q.Address e) d n c rest a h r m f k st =
+      let k1 = plain_code sc p s d n aim (t.unary l q.Address e) c rest refl k in
+      let f1 = plain_parts sc p s d n aim (t.unary l q.Address e) refl f in
+      plain_lies pay sc p s i d n aim (t.unary l q.Address e) (objects e) rest _ refl (lies_ended (home sc pay) i (objects e) d aim rest _ (laid_address pay valofs sc p (spot.past 1 s) i (Addressed false (line_of e)) e d n c (ending aim rest) a h.0 h.1 r (omega arith) f1 k1 st))
+  laid_code pay valofs sc p s i aim (t.unary l q.Contents e) d n c rest a h r m f k st =
+      let k1 = plain_code sc p s d n aim (t.unary l q.Contents e) c rest refl k in
+      let f1 = plain_parts sc p s d n aim (t.unary l q.Contents e) refl f in
+      let v = value_code sc.targets d n (term_named sc.bindings p (spot.past 1 s) e) in
+      let k2 = joined_two v (Monadic w.Contents ∷ []) (ending aim rest) c k1 in
+      plain_lies pay sc p s i d n aim (t.unary l q.Contents e) (objects e) rest _ refl (lies_ended (home sc pay) i (objects e) d aim rest _
+      (lies_behind (home sc pay) i (objects e) (d + 1) (d + 1) (Monadic w.Contents) (ending aim rest) _ refl (laid_code pay valofs sc p (spot.past 1 s) i pushes e d n c (Monadic w.Contents ∷ ending aim rest) a h.1 r (omega arith) f1 k2 st)))
+  laid_code pay valofs sc p s i aim (t.unary l q.Plus e) d n c rest a h r m f k st =
+      let k1 = plain_code sc p s d n aim (t.unary l q.Plus e) c rest refl k in
+      let f1 = plain_parts sc p s d n aim (t.unary l q.Plus e) refl f in
+      let v = value_code sc.targets d n (term_named sc.bindings p (spot.past 1 s) e) in
+      let k2 = joined_two v [] (ending aim rest) c k1 in
+      plain_lies pay sc p s i d n aim (t.unary l q.Plus e) (objects e) rest _ refl (lies_ended (home sc pay) i (objects e) d aim rest _ (laid_code pay valofs sc p (spot.past 1 s) i pushes e d n c (ending aim rest) a h.1 r (omega arith) f1 k2 st))
+  laid_code pay valofs sc p s i aim (t.unary l q.Minus e) d n c rest a h r m f k st =
+      let k1 = plain_code sc p s d n aim (t.unary l q.Minus e) c rest refl k in
+      let f1 = plain_parts sc p s d n aim (t.unary l q.Minus e) refl f in
+      let v = value_code sc.targets d n (term_named sc.bindings p (spot.past 1 s) e) in
+      let k2 = joined_two v (Monadic w.Negate ∷ []) (ending aim rest) c k1 in
+      plain_lies pay sc p s i d n aim (t.unary l q.Minus e) (objects e) rest _ refl (lies_ended (home sc pay) i (objects e) d aim rest _
+      (lies_behind (home sc pay) i (objects e) (d + 1) (d + 1) (Monadic w.Negate) (ending aim rest) _ refl (laid_code pay valofs sc p (spot.past 1 s) i pushes e d n c (Monadic w.Negate ∷ ending aim rest) a h.1 r (omega arith) f1 k2 st)))
+  laid_code pay valofs sc p s i pushes (t.unary l q.Not e) d n c rest a h r m f k st =
+      let v = value_code sc.targets d n (term_named sc.bindings p (spot.past 1 s) e) in
+      let k2 = joined_two v (Monadic w.Not ∷ []) rest c k in
+      lies_behind (home sc pay) i (objects e) (d + 1) (d + 1) (Monadic w.Not) rest _ refl (laid_code pay valofs sc p (spot.past 1 s) i pushes e d n c (Monadic w.Not ∷ rest) a h.1 r (omega arith) f k2 st)
+  laid_code pay valofs sc p s i (jumps v j) (t.unary l q.Not e) d n c rest a h r m f k st = laid_code pay valofs sc p (spot.past 1 s) i (jumps (not v) j) e d n c rest a h.1 r (omega arith) f k st
+  laid_code pay valofs sc p s i (jumps false j) (t.binary l o.Both m0 x y) d n c rest a h r m f k st =
+      let s1 : Spot = spot.past 1 (spot.behind x s) in
+      let cx = condition_named sc.bindings p s x in
+      let cy = condition_named sc.bindings p s1 y in
+      let vx = jump_code sc.targets d (n + 1) cx false j in
+      let vy = jump_code sc.targets d (n + 1 + labels_if cx) cy false j in
+      let c1 = vy ++ rest in
+      let lx = laid_code pay valofs sc p s i (jumps false j) x d (n + 1) c c1 a h.0 r.0 (omega arith) (found_front sc.own sc.targets (parts_if d (n + 1) cx) _ f) (joined_two vx vy rest c k) st in
+      let ly = laid_code pay valofs sc p s1 (i + objects x) (jumps false j) y d (n + 1 + labels_if cx) c1 rest a h.1 r.1 (omega arith) (found_back sc.own sc.targets (parts_if d (n + 1) cx) _ f) refl lx.on in
+      record { on = ly.on; objects_are = bases_so (home sc pay) i _ _ _ (λ g z v ns e. (c1, v.0 ns e, v.1 ns e)) (both_bases (home sc pay) i (objects x) (objects y) _ _ lx.objects_are ly.objects_are) }
+  laid_code pay valofs sc p s i (jumps true j) (t.binary l o.Both m0 x y) d n c rest a h r m f k st =
+      let s1 : Spot = spot.past 1 (spot.behind x s) in
+      let cx = condition_named sc.bindings p s x in
+      let cy = condition_named sc.bindings p s1 y in
+      let vx = jump_code sc.targets d (n + 1) cx false n in
+      let vy = jump_code sc.targets d (n + 1 + labels_if cx) cy true j in
+      let c1 = vy ++ (Label n ∷ rest) in
+      let lx = laid_code pay valofs sc p s i (jumps false n) x d (n + 1) c c1 a h.0 r.0 (omega arith) (found_front sc.own sc.targets (parts_if d (n + 1) cx) _ f) (joined_three vx vy (Label n ∷ []) rest c k) st in
+      let ly = laid_code pay valofs sc p s1 (i + objects x) (jumps true j) y d (n + 1 + labels_if cx) c1 (Label n ∷ rest) a h.1 r.1 (omega arith) (found_back sc.own sc.targets (parts_if d (n + 1) cx) _ f) refl lx.on in
+      record {
+        on = passed sc.own d d (Label n) rest ly.on refl;
+        objects_are = bases_so (home sc pay) i _ _ _ (λ g z v ns e. (n, c1, v.0 ns e, v.1 ns e, label_at g sc d n rest z.own ly.on)) (both_bases (home sc pay) i (objects x) (objects y) _ _ lx.objects_are ly.objects_are);
+      }
+  laid_code pay valofs sc p s i (jumps true j) (t.binary l o.Either m0 x y) d n c rest a h r m f k st =
+      let s1 : Spot = spot.past 1 (spot.behind x s) in
+      let cx = condition_named sc.bindings p s x in
+      let cy = condition_named sc.bindings p s1 y in
+      let vx = jump_code sc.targets d (n + 1) cx true j in
+      let vy = jump_code sc.targets d (n + 1 + labels_if cx) cy true j in
+      let c1 = vy ++ rest in
+      let lx = laid_code pay valofs sc p s i (jumps true j) x d (n + 1) c c1 a h.0 r.0 (omega arith) (found_front sc.own sc.targets (parts_if d (n + 1) cx) _ f) (joined_two vx vy rest c k) st in
+      let ly = laid_code pay valofs sc p s1 (i + objects x) (jumps true j) y d (n + 1 + labels_if cx) c1 rest a h.1 r.1 (omega arith) (found_back sc.own sc.targets (parts_if d (n + 1) cx) _ f) refl lx.on in
+      record { on = ly.on; objects_are = bases_so (home sc pay) i _ _ _ (λ g z v ns e. (c1, v.0 ns e, v.1 ns e)) (both_bases (home sc pay) i (objects x) (objects y) _ _ lx.objects_are ly.objects_are) }
+  laid_code pay valofs sc p s i (jumps false j) (t.binary l o.Either m0 x y) d n c rest a h r m f k st =
+      let s1 : Spot = spot.past 1 (spot.behind x s) in
+      let cx = condition_named sc.bindings p s x in
+      let cy = condition_named sc.bindings p s1 y in
+      let vx = jump_code sc.targets d (n + 1) cx true n in
+      let vy = jump_code sc.targets d (n + 1 + labels_if cx) cy false j in
+      let c1 = vy ++ (Label n ∷ rest) in
+      let lx = laid_code pay valofs sc p s i (jumps true n) x d (n + 1) c c1 a h.0 r.0 (omega arith) (found_front sc.own sc.targets (parts_if d (n + 1) cx) _ f) (joined_three vx vy (Label n ∷ []) rest c k) st in
+      let ly = laid_code pay valofs sc p s1 (i + objects x) (jumps false j) y d (n + 1 + labels_if cx) c1 (Label n ∷ rest) a h.1 r.1 (omega arith) (found_back sc.own sc.targets (parts_if d (n + 1) cx) _ f) refl lx.on in
+      record {
+        on = passed sc.own d d (Label n) rest ly.on refl;
+        objects_are = bases_so (home sc pay) i _ _ _ (λ g z v ns e. (n, c1, v.0 ns e, v.1 ns e, label_at g sc d n rest z.own ly.on)) (both_bases (home sc pay) i (objects x) (objects y) _ _ lx.objects_are ly.objects_are);
+      }
+  laid_code pay valofs sc p s i pushes (t.binary l o.Both m0 x y) d n c rest a h r m f k st =
+      let s1 : Spot = spot.past 1 (spot.behind x s) in
+      let tx = term_named sc.bindings p s x in
+      let ty = term_named sc.bindings (deeper 1 p) s1 y in
+      let vx = value_code sc.targets d n tx in
+      let vy = value_code sc.targets (d + 1) (n + labels tx) ty in
+      let tail = ending (pushes) rest in
+      let k1 = k in
+      let f1 = f in
+      let c1 = vy ++ (infix_code o.Both ++ tail) in
+      let lx = laid_code pay valofs sc p s i pushes x d n c c1 a h.0 r.0 (omega arith) (found_front sc.own sc.targets (parts d n tx) _ f1) (joined_three vx vy (infix_code o.Both) tail c k1) st in
+      let ly = laid_code pay valofs sc (deeper 1 p) s1 (i + objects x) pushes y (d + 1) (n + labels tx) c1 (infix_code o.Both ++ tail) (around_deeper sc p d 1 (d + 1) refl lx.on.shallow a) h.1 r.1 (omega arith)
+      (found_back sc.own sc.targets (parts d n tx) _ f1) refl lx.on in
+      lies_ended (home sc pay) i _ d (pushes) rest _ (record {
+        on = infix_on sc.own o.Both d tail ly.on;
+        objects_are = bases_so (home sc pay) i _ _ _ (λ g z v ns u. (c1, v.0 ns u, v.1 ns u)) (both_bases (home sc pay) i (objects x) (objects y) _ _ lx.objects_are ly.objects_are);
+      })
+  laid_code pay valofs sc p s i pushes (t.binary l o.Either m0 x y) d n c rest a h r m f k st =
+      let s1 : Spot = spot.past 1 (spot.behind x s) in
+      let tx = term_named sc.bindings p s x in
+      let ty = term_named sc.bindings (deeper 1 p) s1 y in
+      let vx = value_code sc.targets d n tx in
+      let vy = value_code sc.targets (d + 1) (n + labels tx) ty in
+      let tail = ending (pushes) rest in
+      let k1 = k in
+      let f1 = f in
+      let c1 = vy ++ (infix_code o.Either ++ tail) in
+      let lx = laid_code pay valofs sc p s i pushes x d n c c1 a h.0 r.0 (omega arith) (found_front sc.own sc.targets (parts d n tx) _ f1) (joined_three vx vy (infix_code o.Either) tail c k1) st in
+      let ly = laid_code pay valofs sc (deeper 1 p) s1 (i + objects x) pushes y (d + 1) (n + labels tx) c1 (infix_code o.Either ++ tail) (around_deeper sc p d 1 (d + 1) refl lx.on.shallow a) h.1 r.1 (omega arith)
+      (found_back sc.own sc.targets (parts d n tx) _ f1) refl lx.on in
+      lies_ended (home sc pay) i _ d (pushes) rest _ (record {
+        on = infix_on sc.own o.Either d tail ly.on;
+        objects_are = bases_so (home sc pay) i _ _ _ (λ g z v ns u. (c1, v.0 ns u, v.1 ns u)) (both_bases (home sc pay) i (objects x) (objects y) _ _ lx.objects_are ly.objects_are);
+      })
+  laid_code pay valofs sc p s i pushes (t.binary l z0 m0 x y) d n c rest a h r m f k st =
+      let s1 : Spot = spot.past 1 (spot.behind x s) in
+      let tx = term_named sc.bindings p s x in
+      let ty = term_named sc.bindings (deeper 1 p) s1 y in
+      let vx = value_code sc.targets d n tx in
+      let vy = value_code sc.targets (d + 1) (n + labels tx) ty in
+      let tail = ending (pushes) rest in
+      let k1 = k in
+      let f1 = f in
+      let c1 = vy ++ (infix_code z0 ++ tail) in
+      let lx = laid_code pay valofs sc p s i pushes x d n c c1 a h.0 r.0 (omega arith) (found_front sc.own sc.targets (parts d n tx) _ f1) (joined_three vx vy (infix_code z0) tail c k1) st in
+      let ly = laid_code pay valofs sc (deeper 1 p) s1 (i + objects x) pushes y (d + 1) (n + labels tx) c1 (infix_code z0 ++ tail) (around_deeper sc p d 1 (d + 1) refl lx.on.shallow a) h.1 r.1 (omega arith)
+      (found_back sc.own sc.targets (parts d n tx) _ f1) refl lx.on in
+      lies_ended (home sc pay) i _ d (pushes) rest _ (record {
+        on = infix_on sc.own z0 d tail ly.on;
+        objects_are = bases_so (home sc pay) i _ _ _ (λ g z v ns u. (c1, v.0 ns u, v.1 ns u)) (both_bases (home sc pay) i (objects x) (objects y) _ _ lx.objects_are ly.objects_are);
+      })
+  laid_code pay valofs sc p s i (jumps v0 j) (t.binary l z0 m0 x y) d n c rest a h r m f k st =
+      let s1 : Spot = spot.past 1 (spot.behind x s) in
+      let tx = term_named sc.bindings p s x in
+      let ty = term_named sc.bindings (deeper 1 p) s1 y in
+      let vx = value_code sc.targets d n tx in
+      let vy = value_code sc.targets (d + 1) (n + labels tx) ty in
+      let tail = ending (jumps v0 j) rest in
+      let k1 = plain_code sc p s d n (jumps v0 j) (t.binary l z0 m0 x y) c rest refl k in
+      let f1 = plain_parts sc p s d n (jumps v0 j) (t.binary l z0 m0 x y) refl f in
+      let c1 = vy ++ (infix_code z0 ++ tail) in
+      let lx = laid_code pay valofs sc p s i pushes x d n c c1 a h.0 r.0 (omega arith) (found_front sc.own sc.targets (parts d n tx) _ f1) (joined_three vx vy (infix_code z0) tail c k1) st in
+      let ly = laid_code pay valofs sc (deeper 1 p) s1 (i + objects x) pushes y (d + 1) (n + labels tx) c1 (infix_code z0 ++ tail) (around_deeper sc p d 1 (d + 1) refl lx.on.shallow a) h.1 r.1 (omega arith)
+      (found_back sc.own sc.targets (parts d n tx) _ f1) refl lx.on in
+      plain_lies pay sc p s i d n (jumps v0 j) (t.binary l z0 m0 x y) (objects x + objects y) rest _ refl (lies_ended (home sc pay) i _ d (jumps v0 j) rest _ (record {
+        on = infix_on sc.own z0 d tail ly.on;
+        objects_are = bases_so (home sc pay) i _ _ _ (λ g z v ns u. (c1, v.0 ns u, v.1 ns u)) (both_bases (home sc pay) i (objects x) (objects y) _ _ lx.objects_are ly.objects_are);
+      }))
+  laid_code pay valofs sc p s i aim (t.choice l m0 e x y) d n c rest a h r m f k st =
+      let e0 : Spot = spot.past 1 (spot.behind e s) in
+      let e1 : Spot = spot.behind x e0 in
+      let ce = condition_named sc.bindings p s e in
+      let tx = term_named sc.bindings p e0 x in
+      let ty = term_named sc.bindings p e1 y in
+      let nx = n + 2 + labels_if ce in
+      let ny = n + 2 + labels_if ce + labels tx in
+      let vx = value_code sc.targets d nx tx in
+      let vy = value_code sc.targets d ny ty in
+      let k1 = plain_code sc p s d n aim (t.choice l m0 e x y) c rest refl k in
+      let f1 = plain_parts sc p s d n aim (t.choice l m0 e x y) refl f in
+      let tail = TakeResult d ∷ ending aim rest in
+      let c2 = vy ++ (GiveResult (n + 1) ∷ Label (n + 1) ∷ tail) in
+      let c1 = vx ++ (GiveResult (n + 1) ∷ Label n ∷ c2) in
+      let k2 = joined_choice (jump_code sc.targets d (n + 2) ce false n) vx (GiveResult (n + 1) ∷ Label n ∷ []) (GiveResult (n + 1) ∷ Label (n + 1) ∷ TakeResult d ∷ []) vy (ending aim rest) c k1 in
+      let fe = found_front sc.own sc.targets (parts_if d (n + 2) ce ++ parts d nx tx) _ f1 in
+      let le = laid_code pay valofs sc p s i (jumps false n) e d (n + 2) c c1 a h.0 r.0 (omega arith) (found_front sc.own sc.targets (parts_if d (n + 2) ce) _ fe) k2 st in
+      let lx = laid_code pay valofs sc p e0 (i + objects e) pushes x d nx c1 (GiveResult (n + 1) ∷ Label n ∷ c2) a h.1 r.1 (omega arith) (found_back sc.own sc.targets (parts_if d (n + 2) ce) _ fe) refl le.on in
+      let sn = passed sc.own (d + 1) d (GiveResult (n + 1)) (Label n ∷ c2) lx.on (omega arith) in
+      let ly = laid_code pay valofs sc p e1 (i + objects e + objects x) pushes y d ny c2 (GiveResult (n + 1) ∷ Label (n + 1) ∷ tail) a h.2 r.2 (omega arith) (found_back sc.own sc.targets (parts_if d (n + 2) ce ++ parts d nx tx) _ f1) refl (passed sc.own d d (Label n) c2 sn refl) in
+      let sm = passed sc.own (d + 1) d (GiveResult (n + 1)) (Label (n + 1) ∷ tail) ly.on (omega arith) in
+      plain_lies pay sc p s i d n aim (t.choice l m0 e x y) (objects e + objects x + objects y) rest _ refl (lies_ended (home sc pay) i _ d aim rest _ (record {
+        on = passed sc.own d (d + 1) (TakeResult d) (ending aim rest) (passed sc.own d d (Label (n + 1)) tail sm refl) refl;
+        objects_are = bases_so (home sc pay) i _ _ _ (λ g z v ns u. (n, n + 1, c1, c2, v.0.0 ns u, v.0.1 ns u, v.1 ns u, label_at g sc d n c2 z.own sn, label_at g sc d (n + 1) tail z.own sm))
+            (three_bases (home sc pay) i (objects e) (objects x) (objects y) _ _ _ le.objects_are lx.objects_are ly.objects_are);
+      }))
+  laid_code pay valofs sc p s i aim (t.apply l m0 e es) d n c rest a h r m f k st =
+      let k1 = plain_code sc p s d n aim (t.apply l m0 e es) c rest refl k in
+      let f1 = plain_parts sc p s d n aim (t.apply l m0 e es) refl f in
+      let s1 : Spot = spot.past 1 (spot.behind e s) in
+      let z : Place = deeper (size es + 2) p in
+      let g1 = call_lies pay sc p s s1 i (CallFunction d) e es d n c (ending aim rest) a f1 k1 st
+      (λ c1 c2 b0 f0 k0 st0. laid_each pay valofs sc (deeper 2 p) s1 (i + objects e) es (d + 2) (n + labels (term_named sc.bindings z s e)) c1 c2 b0 h.1 r.1 (omega arith) f0 k0 st0)
+      (λ c2 b0 f0 k0 st0. laid_code pay valofs sc z s i pushes e (d + 2 + count es) n c2 (CallFunction d ∷ ending aim rest) b0 h.0 r.0 (omega arith) f0 k0 st0) in
+      plain_lies pay sc p s i d n aim (t.apply l m0 e es) (objects e + objects_of_each es) rest _ refl (lies_ended (home sc pay) i _ d aim rest _ (record {
+        on = passed sc.own (d + 2 + count es + 1) (d + 1) (CallFunction d) (ending aim rest) g1.on refl;
+        objects_are = bases_so (home sc pay) i _ _ _ (λ g z v ns u. let x = v ns u in (x.0, x.1, x.2, x.3, x.4, call_at g sc _ (CallFunction d) (ending aim rest) z.own g1.on, g1.on.shallow)) g1.objects_are;
+      }))
+  laid_code pay valofs sc p s i aim (t.valof l x) d n c rest a h r m f k st = valofs sc p s i aim l x d n c rest a h r m f k st
+  laid_code pay valofs sc p s i aim (t.table l es) d n c rest a h r m f k st =
+      let k1 = plain_code sc p s d n aim (t.table l es) c rest refl k in
+      let f1 = plain_parts sc p s d n aim (t.table l es) refl f in
+      let items = map (λ w. DataNumber (signed w)) (words_named sc.bindings es) ++ f1.0.2.rest in
+      plain_lies pay sc p s i d n aim (t.table l es) (1) rest _ refl (record {
+        on = leaf_on sc.own d aim c rest (Address (Static n)) k1 refl st;
+        objects_are = new_base (home sc pay) i (sc.own.places.label n) (words_at n (words_named sc.bindings es)) _ _ (λ ns u. (refl, words_agree ns sc.bindings i es u))
+            (statement_below sc.section sc.own f1.0.2.depth (DataLabel n) items (record { place = sc.own.places.label n; words = item_words sc.own.places items }) f1.0.2.stands refl) (λ g y z ns u. (n, k1, z)) (λ g y z ns u v. (sc.own.places.label n, z, table_held g sc n l es i ns u a.words r h (f1.0.2) y.own));
+      })
+
+  pub laid_each : (pay : ℕ) (valofs : ValofsLie pay) (sc : Scene) (p : Place) (s : Spot) (i : ℕ) (es : Expressions) (d n : ℕ) (c rest : List Stmt) → Around sc p d → SoundEach 1 sc.bindings p s es → RegularEach es → weight_among es ≤ pay
+      → FoundParts sc.own sc.targets (parts_each d n (terms_named 1 sc.bindings p s es)) → c ≡ each_code sc.targets d n (terms_named 1 sc.bindings p s es) ++ rest → StandsAt sc.own d c
+      → Lies (home sc pay) i (objects_of_each es) (d + count es) rest (kinds_each n (terms_named 1 sc.bindings p s es)) (λ ns. of_each (with_names ns i) es) (InNames sc.bindings i (λ g env. AreValues g sc d env es c rest))
+  laid_each pay valofs sc p s i t.none d n c rest a h r m f k st =
+      let e : d ≡ d + 0 = omega arith in
+      record { on = at_depth sc.own d (d + 0) rest e (written sc.own d c rest k st); objects_are = no_bases (home sc pay) i _ (λ g y ns u. k) }
+  laid_each pay valofs sc p s i (t.more e es) d n c rest a h r m f k st =
+      let te = term_named sc.bindings p s e in
+      let ve = value_code sc.targets d n te in
+      let ves = each_code sc.targets (d + 1) (n + labels te) (terms_named 1 sc.bindings (deeper 1 p) (spot.behind e s) es) in
+      let c1 = ves ++ rest in
+      let le = laid_code pay valofs sc p s i pushes e d n c c1 a h.0 r.0 (omega arith) (found_front sc.own sc.targets (parts d n te) _ f) (joined_two ve ves rest c k) st in
+      let les = laid_each pay valofs sc (deeper 1 p) (spot.behind e s) (i + objects e) es (d + 1) (n + labels te) c1 rest (around_deeper sc p d 1 (d + 1) refl le.on.shallow a) h.1 r.1 (omega arith)
+      (found_back sc.own sc.targets (parts d n te) _ f) refl le.on in
+      let deep : d + 1 + count es ≡ d + (count es + 1) = omega arith in
+      record {
+        on = at_depth sc.own (d + 1 + count es) (d + (count es + 1)) rest deep les.on;
+        objects_are = bases_so (home sc pay) i _ _ _ (λ g y v ns u. (c1, v.0 ns u, v.1 ns u)) (both_bases (home sc pay) i (objects e) (objects_of_each es) _ _ le.objects_are les.objects_are);
+      }
+
+  -- an address
+  pub laid_address : (pay : ℕ) (valofs : ValofsLie pay) (sc : Scene) (p : Place) (s : Spot) (i : ℕ) (z : Role) (e : Expression) (d n : ℕ) (c rest : List Stmt) → Around sc p d → addressed sc.bindings e ≡ true → Sound z sc.bindings p s e → Regular e
+      → weight_of e ≤ pay → FoundParts sc.own sc.targets (parts_at d n (lvalue_named sc.bindings p s e)) → c ≡ address_code sc.targets d n (lvalue_named sc.bindings p s e) ++ rest → StandsAt sc.own d c
+      → Lies (home sc pay) i (objects e) (d + 1) rest (kinds_at n (lvalue_named sc.bindings p s e)) (λ ns. of_expression (with_names ns i) e) (InNames sc.bindings i (λ g env. IsAddress g sc d env e c rest))
+  laid_address pay valofs sc p s i z (t.name l x) d n c rest a y h r m f k st = leaf_lies (home sc pay) i d pushes c rest _ _ k refl st (λ g v ns u. k)
+  laid_address pay valofs sc p s i z (t.parens l e) d n c rest a y h r m f k st = laid_address pay valofs sc p (spot.past 1 s) i (parenthesised z) e d n c rest a y h r (omega arith) f k st
+  laid_address pay valofs sc p s i z (t.unary l q.Contents e) d n c rest a y h r m f k st = laid_code pay valofs sc p (spot.past 1 s) i pushes e d n c rest a h.1 r (omega arith) f k st
+  laid_address pay valofs sc p s i z (t.binary l o.Subscript m0 e x) d n c rest a y h r m f k st =
+      let s1 : Spot = spot.past 1 (spot.behind e s) in
+      let te = term_named sc.bindings p s e in
+      let tx = term_named sc.bindings (deeper 1 p) s1 x in
+      let vx = value_code sc.targets (d + 1) (n + labels te) tx in
+      let c1 = vx ++ (Dyadic two.Add ∷ rest) in
+      let k1 = joined_three (value_code sc.targets d n te) vx (Dyadic two.Add ∷ []) rest c k in
+      let le = laid_code pay valofs sc p s i pushes e d n c c1 a h.0 r.0 (omega arith) (found_front sc.own sc.targets (parts d n te) _ f) k1 st in
+      let lx = laid_code pay valofs sc (deeper 1 p) s1 (i + objects e) pushes x (d + 1) (n + labels te) c1 (Dyadic two.Add ∷ rest) (around_deeper sc p d 1 (d + 1) refl le.on.shallow a) h.1 r.1 (omega arith)
+      (found_back sc.own sc.targets (parts d n te) _ f) refl le.on in
+      record {
+        on = passed sc.own (d + 1 + 1) (d + 1) (Dyadic two.Add) rest lx.on (omega arith);
+        objects_are = bases_so (home sc pay) i _ _ _ (λ g b0 v ns u. (c1, v.0 ns u, v.1 ns u)) (both_bases (home sc pay) i (objects e) (objects x) _ _ le.objects_are lx.objects_are);
+      }
+  laid_address pay valofs sc p s i z e d n c rest a y h r m f k st = absurd (false≢true y)
+
+  -- what is stored
+  pub laid_store : (pay : ℕ) (valofs : ValofsLie pay) (sc : Scene) (p : Place) (s : Spot) (i : ℕ) (z : Role) (e : Expression) (d n : ℕ) (c rest : List Stmt) → Around sc p (d + 1) → assigned sc.bindings e ≡ true → Sound z sc.bindings p s e → Regular e
+      → weight_of e ≤ pay → FoundParts sc.own sc.targets (parts_at (d + 1) n (lvalue_named sc.bindings p s e)) → c ≡ store_code sc.targets (d + 1) n (lvalue_named sc.bindings p s e) ++ rest → StandsAt sc.own (d + 1) c
+      → Lies (home sc pay) i (objects e) d rest (kinds_at n (lvalue_named sc.bindings p s e)) (λ ns. of_expression (with_names ns i) e) (InNames sc.bindings i (λ g env. IsStore g sc (d + 1) env e c rest))
+  laid_store pay valofs sc p s i z (t.name l x) d n c rest a y h r m f k st =
+      record { on = passed sc.own (d + 1) d (Assign (variable sc.targets (meant (bound_in sc.bindings x)))) rest (written sc.own (d + 1) c _ k st) (omega arith); objects_are = no_bases (home sc pay) i _ (λ g v ns u. k) }
+  laid_store pay valofs sc p s i z (t.parens l e) d n c rest a y h r m f k st = laid_store pay valofs sc p (spot.past 1 s) i (parenthesised z) e d n c rest a y h r (omega arith) f k st
+  laid_store pay valofs sc p s i z (t.unary l q.Contents e) d n c rest a y h r m f k st =
+      let v = value_code sc.targets (d + 1) n (term_named sc.bindings p (spot.past 1 s) e) in
+      lies_behind (home sc pay) i (objects e) (d + 1 + 1) d AssignAt rest _ (omega arith) (laid_code pay valofs sc p (spot.past 1 s) i pushes e (d + 1) n c (AssignAt ∷ rest) a h.1 r (omega arith) f (joined_two v (AssignAt ∷ []) rest c k) st)
+  laid_store pay valofs sc p s i z (t.binary l o.Subscript m0 e x) d n c rest a y h r m f k st =
+      let s1 : Spot = spot.past 1 (spot.behind e s) in
+      let te = term_named sc.bindings p s e in
+      let tx = term_named sc.bindings (deeper 1 p) s1 x in
+      let vx = value_code sc.targets (d + 1 + 1) (n + labels te) tx in
+      let tail = Dyadic two.Add ∷ AssignAt ∷ rest in
+      let c1 = vx ++ tail in
+      let k1 = joined_three (value_code sc.targets (d + 1) n te) vx (Dyadic two.Add ∷ AssignAt ∷ []) rest c k in
+      let le = laid_code pay valofs sc p s i pushes e (d + 1) n c c1 a h.0 r.0 (omega arith) (found_front sc.own sc.targets (parts (d + 1) n te) _ f) k1 st in
+      let lx = laid_code pay valofs sc (deeper 1 p) s1 (i + objects e) pushes x (d + 1 + 1) (n + labels te) c1 tail (around_deeper sc p (d + 1) 1 (d + 1 + 1) refl le.on.shallow a) h.1 r.1 (omega arith)
+      (found_back sc.own sc.targets (parts (d + 1) n te) _ f) refl le.on in
+      record {
+        on = passed sc.own (d + 1 + 1) d AssignAt rest (passed sc.own (d + 1 + 1 + 1) (d + 1 + 1) (Dyadic two.Add) (AssignAt ∷ rest) lx.on (omega arith)) (omega arith);
+        objects_are = bases_so (home sc pay) i _ _ _ (λ g b0 v ns u. (c1, v.0 ns u, v.1 ns u)) (both_bases (home sc pay) i (objects e) (objects x) _ _ le.objects_are lx.objects_are);
+      }
+  laid_store pay valofs sc p s i z (t.binary l o.Byte m0 e x) d n c rest a y h r m f k st =
+      let s1 : Spot = spot.past 1 (spot.behind e s) in
+      let te = term_named sc.bindings p s e in
+      let tx = term_named sc.bindings (deeper 1 p) s1 x in
+      let vx = value_code sc.targets (d + 1 + 1) (n + labels te) tx in
+      let c1 = vx ++ (AssignByte ∷ rest) in
+      let k1 = joined_three (value_code sc.targets (d + 1) n te) vx (AssignByte ∷ []) rest c k in
+      let le = laid_code pay valofs sc p s i pushes e (d + 1) n c c1 a h.0 r.0 (omega arith) (found_front sc.own sc.targets (parts (d + 1) n te) _ f) k1 st in
+      let lx = laid_code pay valofs sc (deeper 1 p) s1 (i + objects e) pushes x (d + 1 + 1) (n + labels te) c1 (AssignByte ∷ rest) (around_deeper sc p (d + 1) 1 (d + 1 + 1) refl le.on.shallow a) h.1 r.1 (omega arith)
+      (found_back sc.own sc.targets (parts (d + 1) n te) _ f) refl le.on in
+      record {
+        on = passed sc.own (d + 1 + 1 + 1) d AssignByte rest lx.on (omega arith);
+        objects_are = bases_so (home sc pay) i _ _ _ (λ g b0 v ns u. (c1, v.0 ns u, v.1 ns u)) (both_bases (home sc pay) i (objects e) (objects x) _ _ le.objects_are lx.objects_are);
+      }
+  laid_store pay valofs sc p s i z e d n c rest a y h r m f k st = absurd (false≢true y)

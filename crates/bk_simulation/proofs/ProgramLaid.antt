@@ -1,0 +1,276 @@
+-- A program whose sections stand for accepted ones is laid.
+use Rattle.std.proofs.Common.{◌≡◌, ℕ, zero, suc, ◌+◌, ◌<◌, ◌≤◌, ◌^◌, List, [], ◌∷◌, ◌++◌, length, Option, Some, None, refl, sym, ap, ◌∙◌, subst, arith, slice_get, append_assoc}
+use Rattle.bk_base.specs.declared.limit.TheConstants.{FRAME_WORDS}
+use Rattle.bk_syntax.specs.Tree.{Declarations}
+use Rattle.bk_ocode.specs.OcodeState.{Placed}
+use Rattle.bk_ocode.specs.OcodeRun.{Program}
+use Rattle.bk_ocode.specs.Section.{AreFaultless}
+use Rattle.bk_ocode.specs.WellPlaced.{IsWellPlaced}
+use Rattle.bk_trans.proofs.Accepted.{scheme_is_accepted}
+use Rattle.bk_meaning.specs.Values as value
+use Rattle.bk_meaning.specs.Values.{stop, rdch, wrch, newline, writes, writen, writed, getbyte, putbyte, writef}
+use Rattle.bk_meaning.specs.Environment.{objects_of_declarations}
+use Rattle.bk_meaning.specs.Lasting.{Lasting, Procedure, global_vector, words, code, of_sections, program_of, procedure_of, procedure_in}
+use Rattle.bk_simulation.specs.Placement.{AreAccepted, StandFor}
+use Rattle.bk_simulation.proofs.Memory.{Codes, BaseOf}
+use Rattle.bk_simulation.proofs.Laid.{Setting}
+use Rattle.bk_simulation.proofs.Held.{HeldWord, HeldOne, HeldList}
+use Rattle.bk_simulation.proofs.HeldData.{get_behind}
+use Rattle.bk_simulation.proofs.Procedures.{IsProcedure}
+use Rattle.bk_simulation.proofs.BasesBelow.{AreBelow, AreSet}
+use Rattle.bk_simulation.proofs.LastingKinds.{Kind, string, words_at, entry, AreAs}
+use Rattle.bk_simulation.proofs.LastingStore.{library_word, IsSized, HoldsEntry, HoldsOne}
+use Rattle.bk_simulation.proofs.LaidPrograms.{setting, AreLaid}
+use Rattle.bk_simulation.proofs.SectionGlobals.{all_set_same}
+use Rattle.bk_simulation.proofs.Standing.{Follow, FollowWords}
+use Rattle.bk_simulation.proofs.SectionsLie.{SectionsLie, weights, sections_lie, all_bases, all_entries, all_counted, all_placed, AreIn, HasAll, others_suit, all_held, first_alike}
+use Rattle.bk_simulation.proofs.SectionsSet.{sections_set}
+
+-- ---- words of procedures by their numbers; other numbers have a word too
+
+abbrev pub word_in : List ℕ → ℕ → ℕ
+word_in [] n = 1
+word_in (w ∷ ws) zero = w
+word_in (w ∷ ws) (suc n) = word_in ws n
+
+pub word_set : (ws : List ℕ) → AreSet ws → (n : ℕ) → word_in ws n ≡ 0 → ⊥
+word_set [] s n e = absurd (omega (arith, e))
+word_set (w ∷ ws) s zero e = let h = s.0 in absurd (omega (arith, h, e))
+word_set (w ∷ ws) s (suc n) e = word_set ws s.1 n e
+
+pub library_set : (r : value.Routine) → library_word r ≡ 0 → ⊥
+library_set stop e = absurd (omega (arith, e))
+library_set rdch e = absurd (omega (arith, e))
+library_set wrch e = absurd (omega (arith, e))
+library_set newline e = absurd (omega (arith, e))
+library_set writes e = absurd (omega (arith, e))
+library_set writen e = absurd (omega (arith, e))
+library_set writed e = absurd (omega (arith, e))
+library_set getbyte e = absurd (omega (arith, e))
+library_set putbyte e = absurd (omega (arith, e))
+library_set writef e = absurd (omega (arith, e))
+
+abbrev pub codes_of : (ws : List ℕ) → AreSet ws → Codes
+codes_of ws s = record { procedure = word_in ws; routine = library_word; procedure_set = word_set ws s; routine_set = library_set }
+
+-- ---- lists that follow themselves
+
+one_more : {A : Type 0} (front : List A) (x : A) → length (front ++ (x ∷ [])) ≡ suc (length front)
+one_more [] x = refl
+one_more (y ∷ front) x = ap suc (one_more front x)
+
+at_front : {A : Type 0} (front xs : List A) (x : A) → slice_get (front ++ (x ∷ xs)) (length front) ≡ Some x
+at_front front xs x = let e : length front ≡ length front + 0 = omega arith in ap (slice_get (front ++ (x ∷ xs))) e ∙ get_behind front (x ∷ xs) 0
+
+word_front : (front ws : List ℕ) (w : ℕ) → word_in (front ++ (w ∷ ws)) (length front) ≡ w
+word_front [] ws w = refl
+word_front (x ∷ front) ws w = word_front front ws w
+
+follow_self : (front xs : List ℕ) → Follow (front ++ xs) (length front) xs
+follow_self front [] = tt
+follow_self front (x ∷ xs) = (
+  at_front front xs x,
+  subst (λ all. Follow all (suc (length front)) xs) (append_assoc front (x ∷ []) xs) (subst (λ n. Follow ((front ++ (x ∷ [])) ++ xs) n xs) (one_more front x) (follow_self (front ++ (x ∷ [])) xs)),
+)
+
+words_self : (front ws : List ℕ) → FollowWords (word_in (front ++ ws)) (length front) ws
+words_self front [] = tt
+words_self front (w ∷ ws) = (
+  word_front front ws w,
+  subst (λ all. FollowWords (word_in all) (suc (length front)) ws) (append_assoc front (w ∷ []) ws)
+      (subst (λ n. FollowWords (word_in ((front ++ (w ∷ [])) ++ ws)) n ws) (one_more front w) (words_self (front ++ (w ∷ [])) ws)),
+)
+
+in_self : (front owns : List Placed) → AreIn (front ++ owns) (length front) owns
+in_self front [] = tt
+in_self front (x ∷ xs) = (
+  at_front front xs x,
+  subst (λ all. AreIn all (suc (length front)) xs) (append_assoc front (x ∷ []) xs) (subst (λ n. AreIn ((front ++ (x ∷ [])) ++ xs) n xs) (one_more front x) (in_self (front ++ (x ∷ [])) xs)),
+)
+
+-- ---- what is held
+
+below_at : (top : ℕ) (xs : List ℕ) (o b : ℕ) → AreBelow top xs → slice_get xs o ≡ Some b → b ≤ top
+below_at top [] o b h e = absurd (cc)
+below_at top (x ∷ xs) zero b h e = let same : x ≡ b = (let k : Some x ≡ Some b = e in cc) in subst (λ y. y ≤ top) same h.0
+below_at top (x ∷ xs) (suc o) b h e = below_at top xs o b h.1 e
+
+held_at : (g : Setting) (i o : ℕ) (xs : List Lasting) (x : Lasting) → HeldList g i xs → slice_get xs o ≡ Some x → HeldOne g (i + o) x
+held_at g i o [] x h e = absurd (cc)
+held_at g i zero (y ∷ ys) x h e =
+    let same : y ≡ x = (let k : Some y ≡ Some x = e in cc) in
+    let here : i ≡ i + 0 = omega arith in
+    subst (λ n. HeldOne g n x) here (subst (λ z. HeldOne g i z) same h.0)
+held_at g i (suc o) (y ∷ ys) x h e = let there : suc i + o ≡ i + suc o = omega arith in subst (λ n. HeldOne g n x) there (held_at g (suc i) o ys x h.1 e)
+
+-- no part of a section is the global vector
+abbrev IsPart : Lasting → Type 0
+IsPart global_vector = ⊥
+IsPart (words ws) = Unit {0}
+IsPart (code f) = Unit {0}
+
+abbrev AreParts : List Lasting → Type 0
+AreParts [] = Unit {0}
+AreParts (x ∷ xs) = IsPart x × AreParts xs
+
+parts_both : (xs ys : List Lasting) → AreParts xs → AreParts ys → AreParts (xs ++ ys)
+parts_both [] ys h i = i
+parts_both (x ∷ xs) ys h i = (h.0, parts_both xs ys h.1 i)
+
+parts_as : (own : Placed) (ks : List Kind) (xs : List Lasting) (vs ws : List ℕ) → AreAs own ks xs vs ws → AreParts xs
+parts_as own ks [] vs ws a = tt
+parts_as own [] (x ∷ xs) vs ws a = absurd a
+parts_as own (k ∷ ks) (x ∷ xs) [] ws a = absurd a
+parts_as own (k ∷ ks) (x ∷ xs) (v ∷ vs) [] a = absurd a
+parts_as own (string ∷ ks) (words us ∷ xs) (v ∷ vs) (w ∷ ws) a = (tt, parts_as own ks xs vs ws a.1)
+parts_as own (words_at n ts ∷ ks) (words us ∷ xs) (v ∷ vs) (w ∷ ws) a = (tt, parts_as own ks xs vs ws a.1)
+parts_as own (entry n y ∷ ks) (code p ∷ xs) (v ∷ vs) (w ∷ ws) a = (tt, parts_as own ks xs vs ws a.1)
+parts_as own (string ∷ ks) (code p ∷ xs) (v ∷ vs) (w ∷ ws) a = elim (a.0) [ ]
+parts_as own (words_at n us ∷ ks) (code p ∷ xs) (v ∷ vs) (w ∷ ws) a = elim (a.0) [ ]
+parts_as own (entry n y ∷ ks) (words us ∷ xs) (v ∷ vs) (w ∷ ws) a = elim (a.0) [ ]
+parts_as own (string ∷ ks) (global_vector ∷ xs) (v ∷ vs) (w ∷ ws) a = elim (a.0) [ ]
+parts_as own (words_at n us ∷ ks) (global_vector ∷ xs) (v ∷ vs) (w ∷ ws) a = elim (a.0) [ ]
+parts_as own (entry n y ∷ ks) (global_vector ∷ xs) (v ∷ vs) (w ∷ ws) a = elim (a.0) [ ]
+
+all_parts : (g : Setting) (pay k i : ℕ) (sections : List Declarations) (owns : List Placed) (h : SectionsLie pay k i sections owns) → HasAll g pay k i sections owns h → AreParts (of_sections i sections)
+all_parts g pay k i [] owns h a = tt
+all_parts g pay k i (ds ∷ rest) [] h a = absurd h
+all_parts g pay k i (ds ∷ rest) (own ∷ others) h a =
+    parts_both _ _ (parts_as own _ _ h.0.bases h.0.entries (first_alike g pay k i ds rest own others h a)) (all_parts g pay (suc k) (i + objects_of_declarations ds) rest others h.1 (others_suit g pay k i ds rest own others h a))
+
+part_at : (xs : List Lasting) (o : ℕ) (x : Lasting) → AreParts xs → slice_get xs o ≡ Some x → IsPart x
+part_at [] o x h e = absurd (cc)
+part_at (y ∷ ys) zero x h e = let same : y ≡ x = (let k : Some y ≡ Some x = e in cc) in subst IsPart same h.0
+part_at (y ∷ ys) (suc o) x h e = part_at ys o x h.1 e
+
+one_base : (bases : List ℕ) (o b c : ℕ) → BaseOf bases o b → BaseOf bases o c → b ≡ c
+one_base bases o b c h i = let e : Some b ≡ Some c = sym h ∙ i in cc
+
+entry_holds : (g : Setting) (global : Option ℕ) (o b : ℕ) → BaseOf g.lasting o b → HeldWord g o global → HoldsEntry g.program g.first g.codes global o b
+entry_holds g None o b base h = let d = h.2 in (d.number, d.datum, d.at, d.placed ∙ one_base g.lasting o h.0 b h.1 base, d.is)
+entry_holds g (Some k) o b base h = let e = one_base g.lasting o h.0 b h.1 base in (subst (λ y. 16 ≤ y) e h.2, subst (λ y. y ≤ g.first) e h.3)
+
+held_holds : (g : Setting) (o b : ℕ) (x : Lasting) → IsPart x → BaseOf g.lasting o b → HeldOne g o x → HoldsOne g.program g.first g.codes x o b
+held_holds g o b global_vector part base h = absurd part
+held_holds g o b (words ws) part base h = let d = h.2 in (d.number, d.datum, d.at, d.placed ∙ one_base g.lasting o h.0 b h.1 base, d.is)
+held_holds g o b (code f) part base h = entry_holds g f.global o b base h.1
+
+-- ---- the program
+
+sections_faultless : (sections : List Declarations) (owns : List Placed) → AreAccepted sections → StandFor sections owns → (i : ℕ) (own : Placed) → slice_get owns i ≡ Some own → AreFaultless own.stmts
+sections_faultless [] [] ok st i own e = absurd (cc)
+sections_faultless [] (x ∷ xs) ok st i own e = absurd st
+sections_faultless (ds ∷ rest) [] ok st i own e = absurd st
+sections_faultless (ds ∷ rest) (x ∷ xs) ok st zero own e =
+    let same : x ≡ own = (let k : Some x ≡ Some own = e in cc) in
+    subst (λ (y : Placed). AreFaultless y.stmts) same (subst AreFaultless (sym st.0) (scheme_is_accepted ds ok.0.faultless ok.0.within ok.0.are_words).are_faultless)
+sections_faultless (ds ∷ rest) (x ∷ xs) ok st (suc i) own e = sections_faultless rest xs ok.1 st.1 i own e
+
+-- The sections of a program, with what lasts of them.
+pub record Together (program : Program) (first : ℕ) (sections : List Declarations) : Type 0 where
+  pub well : IsWellPlaced program first FRAME_WORDS
+  pub accepted : AreAccepted sections
+  pub stand : StandFor sections program.sections
+
+abbrev pub pay_of : List Declarations → ℕ
+pay_of sections = weights sections
+
+pub lie_together : (program : Program) (first : ℕ) (sections : List Declarations) → Together program first sections → SectionsLie (pay_of sections) 0 1 sections program.sections
+lie_together program first sections t = sections_lie (pay_of sections) 0 1 sections program.sections t.accepted t.stand (omega arith)
+
+abbrev pub own_bases : (program : Program) (first : ℕ) (sections : List Declarations) → Together program first sections → List ℕ
+own_bases program first sections t = all_bases (pay_of sections) 0 1 sections program.sections (lie_together program first sections t)
+
+abbrev pub own_entries : (program : Program) (first : ℕ) (sections : List Declarations) → Together program first sections → List ℕ
+own_entries program first sections t = all_entries (pay_of sections) 0 1 sections program.sections (lie_together program first sections t)
+
+pub placed_together : (program : Program) (first : ℕ) (sections : List Declarations) (t : Together program first sections) → AreBelow first (own_bases program first sections t) × AreSet (own_entries program first sections t)
+placed_together program first sections t = all_placed program first t.well (pay_of sections) 0 1 sections program.sections (lie_together program first sections t) (in_self [] program.sections)
+
+-- the bases of all objects, and the words of all procedures
+abbrev pub lasting_of : (program : Program) (first : ℕ) (sections : List Declarations) → Together program first sections → List ℕ
+lasting_of program first sections t = 16 ∷ own_bases program first sections t
+
+pub entries_set : (program : Program) (first : ℕ) (sections : List Declarations) (t : Together program first sections) → AreSet (1 ∷ own_entries program first sections t)
+entries_set program first sections t = (omega arith, (placed_together program first sections t).1)
+
+abbrev pub codes_together : (program : Program) (first : ℕ) (sections : List Declarations) → Together program first sections → Codes
+codes_together program first sections t = codes_of (1 ∷ own_entries program first sections t) (entries_set program first sections t)
+
+pub lasting_small : (program : Program) (first : ℕ) (sections : List Declarations) (t : Together program first sections) (o base : ℕ) → BaseOf (lasting_of program first sections t) o base → base < 2 ^ 32
+lasting_small program first sections t zero base e = let same : 16 ≡ base = (let k : Some 16 ≡ Some base = e in cc) in omega (arith, same)
+lasting_small program first sections t (suc o) base e =
+    let below = below_at first (own_bases program first sections t) o base (placed_together program first sections t).0 e in
+    let low = t.well.low in
+    omega (arith, below, low)
+
+-- the setting of the whole proof, with so many frames
+abbrev pub setting_together : (program : Program) (first : ℕ) (sections : List Declarations) → Together program first sections → ℕ → Setting
+setting_together program first sections t most =
+    setting program first t.well (codes_together program first sections t) (pay_of sections) most (lasting_of program first sections t) (lasting_small program first sections t) refl
+
+pub has_all : (program : Program) (first : ℕ) (sections : List Declarations) (t : Together program first sections) (most : ℕ)
+    → HasAll (setting_together program first sections t most) (pay_of sections) 0 1 sections program.sections (lie_together program first sections t)
+has_all program first sections t most = record {
+  own = in_self [] program.sections;
+  pays = omega arith;
+  some = omega arith;
+  follow = follow_self (16 ∷ []) (own_bases program first sections t);
+  words = words_self (1 ∷ []) (own_entries program first sections t);
+}
+
+-- two objects with words have different bases
+abbrev pub LieApart : (program : Program) (first : ℕ) (sections : List Declarations) → Together program first sections → Type 0
+LieApart program first sections t =
+    (o o1 b : ℕ) → BaseOf (lasting_of program first sections t) o b → BaseOf (lasting_of program first sections t) o1 b → IsSized (program_of sections) o → IsSized (program_of sections) o1 → o ≡ o1
+
+held_together : (program : Program) (first : ℕ) (sections : List Declarations) (t : Together program first sections) (most : ℕ) → HeldList (setting_together program first sections t most) 1 (of_sections 1 sections)
+held_together program first sections t most =
+    all_held (setting_together program first sections t most) (pay_of sections) 0 1 sections program.sections (lie_together program first sections t) (has_all program first sections t most)
+
+holds_each : (program : Program) (first : ℕ) (sections : List Declarations) (t : Together program first sections) (o b : ℕ) (x : Lasting) → slice_get (program_of sections) o ≡ Some x → BaseOf (lasting_of program first sections t) o b
+    → HoldsOne program first (codes_together program first sections t) x o b
+holds_each program first sections t zero b x e base =
+    let same : global_vector ≡ x = (let k : Some global_vector ≡ Some x = e in cc) in
+    let at : 16 ≡ b = (let k : Some 16 ≡ Some b = base in cc) in
+    subst (λ y. HoldsOne program first (codes_together program first sections t) y 0 b) same (refl, sym at)
+holds_each program first sections t (suc o) b x e base =
+    let g = setting_together program first sections t 0 in
+    let part = part_at (of_sections 1 sections) o x (all_parts g (pay_of sections) 0 1 sections program.sections (lie_together program first sections t) (has_all program first sections t 0)) e in
+    let there : 1 + o ≡ suc o = omega arith in
+    held_holds g (suc o) b x part base (subst (λ n. HeldOne g n x) there (held_at g 1 o (of_sections 1 sections) x (held_together program first sections t 0) e))
+
+procedure_here : (x : Option Lasting) (f : Procedure) → procedure_in x ≡ Some f → x ≡ Some (code f)
+procedure_here None f e = absurd (cc)
+procedure_here (Some global_vector) f e = absurd (cc)
+procedure_here (Some (words ws)) f e = absurd (cc)
+procedure_here (Some (code p)) f e = ap (λ y. Some (code y)) (let k : Some p ≡ Some f = e in cc)
+
+procedures_together : (program : Program) (first : ℕ) (sections : List Declarations) (t : Together program first sections) (most n : ℕ) (f : Procedure) → procedure_of (program_of sections) n ≡ Some f
+    → IsProcedure (setting_together program first sections t most) n f
+procedures_together program first sections t most zero f e = absurd (cc)
+procedures_together program first sections t most (suc n) f e =
+    let g = setting_together program first sections t most in
+    let there : 1 + n ≡ suc n = omega arith in
+    subst (λ k. IsProcedure g k f) there (held_at g 1 n (of_sections 1 sections) (code f) (held_together program first sections t most) (procedure_here (slice_get (of_sections 1 sections) n) f e)).0
+
+-- A PROGRAM IS LAID whose sections stand for accepted ones
+pub laid_together : (program : Program) (first : ℕ) (sections : List Declarations) (t : Together program first sections) → LieApart program first sections t → AreLaid program first t.well sections
+laid_together program first sections t apart =
+    let g = setting_together program first sections t 0 in
+    record {
+      codes = codes_together program first sections t;
+      lasting = lasting_of program first sections t;
+      low = lasting_small program first sections t;
+      pay = pay_of sections;
+      library = λ r. refl;
+      holds = record {
+        long = ap suc (all_counted (pay_of sections) 0 1 sections program.sections (lie_together program first sections t));
+        each = holds_each program first sections t;
+        globals = all_set_same (codes_together program first sections t) 1 sections program.sections t.stand (sections_faultless sections program.sections t.accepted t.stand)
+            (sections_set g (pay_of sections) 0 1 sections program.sections (lie_together program first sections t) (has_all program first sections t 0) t.stand);
+        apart = apart;
+      };
+      vector = refl;
+      procedures = λ most. record { each = procedures_together program first sections t most };
+    }

@@ -1,0 +1,132 @@
+-- What lasts of all sections of a program, one behind the other.
+use Rattle.std.proofs.Common.{◌≡◌, ℕ, suc, ◌+◌, ◌<◌, ◌≤◌, List, [], ◌∷◌, ◌++◌, length, Some, refl, arith, slice_get}
+use Rattle.bk_base.specs.declared.limit.TheConstants.{FRAME_WORDS}
+use Rattle.bk_syntax.specs.Tree.{Declarations}
+use Rattle.bk_ocode.specs.OcodeState.{Placed}
+use Rattle.bk_ocode.specs.OcodeRun.{Program}
+use Rattle.bk_ocode.specs.WellPlaced.{IsWellPlaced}
+use Rattle.bk_trans.specs.Naming.{named_tree}
+use Rattle.bk_meaning.specs.Environment.{objects_of_declarations}
+use Rattle.bk_meaning.specs.Lasting.{of_declarations, of_sections}
+use Rattle.bk_simulation.specs.Placement.{AreAccepted, StandFor}
+use Rattle.bk_simulation.proofs.Weights.{weight_declared}
+use Rattle.bk_simulation.proofs.Sought.{with_names}
+use Rattle.bk_simulation.proofs.Laid.{Setting}
+use Rattle.bk_simulation.proofs.Held.{HeldList, held_both, held_out, lasting_both}
+use Rattle.bk_simulation.proofs.BasesBelow.{AreBelow, AreSet, below_both, set_both}
+use Rattle.bk_simulation.proofs.LastingKinds.{AreAs, kinds_of_declarations}
+use Rattle.bk_simulation.proofs.NamesAgree.{Agree}
+use Rattle.bk_simulation.proofs.Standing.{home, Follow, FollowWords, follow_first, follow_second, words_first, words_second, length_both, Suits, Bases, Mean}
+use Rattle.bk_simulation.proofs.LaidSections.{section_scene, section_lies}
+
+-- what lasts of the section k, with numbers from i on
+abbrev pub SectionLies : ℕ → ℕ → Placed → ℕ → Declarations → Type 0
+SectionLies pay k own i ds =
+    Bases (home (section_scene k own ds) pay) i (objects_of_declarations ds) (kinds_of_declarations 1 (named_tree ds)) (λ ns. of_declarations (with_names ns i) ds) (λ g. Unit {0})
+
+-- and of those behind it
+abbrev pub SectionsLie : ℕ → ℕ → ℕ → List Declarations → List Placed → Type 0
+SectionsLie pay k i [] owns = Unit {0}
+SectionsLie pay k i (ds ∷ rest) [] = ⊥
+SectionsLie pay k i (ds ∷ rest) (own ∷ others) = SectionLies pay k own i ds × SectionsLie pay (suc k) (i + objects_of_declarations ds) rest others
+
+-- what a step pays for all of them
+abbrev pub weights : List Declarations → ℕ
+weights [] = 0
+weights (ds ∷ rest) = weight_declared ds + weights rest
+
+pub sections_lie : (pay k i : ℕ) (sections : List Declarations) (owns : List Placed) → AreAccepted sections → StandFor sections owns → weights sections ≤ pay → SectionsLie pay k i sections owns
+sections_lie pay k i [] owns ok st m = tt
+sections_lie pay k i (ds ∷ rest) [] ok st m = absurd st
+sections_lie pay k i (ds ∷ rest) (own ∷ others) ok st m = (section_lies k own ds pay i ok.0 st.0 (omega (arith, m)), sections_lie pay (suc k) (i + objects_of_declarations ds) rest others ok.1 st.1 (omega (arith, m)))
+
+abbrev pub all_bases : (pay k i : ℕ) (sections : List Declarations) (owns : List Placed) → SectionsLie pay k i sections owns → List ℕ
+all_bases pay k i [] owns h = []
+all_bases pay k i (ds ∷ rest) [] h = []
+all_bases pay k i (ds ∷ rest) (own ∷ others) h = h.0.bases ++ all_bases pay (suc k) (i + objects_of_declarations ds) rest others h.1
+
+abbrev pub all_entries : (pay k i : ℕ) (sections : List Declarations) (owns : List Placed) → SectionsLie pay k i sections owns → List ℕ
+all_entries pay k i [] owns h = []
+all_entries pay k i (ds ∷ rest) [] h = []
+all_entries pay k i (ds ∷ rest) (own ∷ others) h = h.0.entries ++ all_entries pay (suc k) (i + objects_of_declarations ds) rest others h.1
+
+-- these are the sections of a program from section k on
+abbrev pub AreIn : List Placed → ℕ → List Placed → Type 0
+AreIn all k [] = Unit {0}
+AreIn all k (own ∷ others) = (slice_get all k ≡ Some own) × AreIn all (suc k) others
+
+-- there are as many bases as objects
+pub all_counted : (pay k i : ℕ) (sections : List Declarations) (owns : List Placed) (h : SectionsLie pay k i sections owns) → length (all_bases pay k i sections owns h) ≡ length (of_sections i sections)
+all_counted pay k i [] owns h = refl
+all_counted pay k i (ds ∷ rest) [] h = absurd h
+all_counted pay k i (ds ∷ rest) (own ∷ others) h =
+    let n : ℕ = i + objects_of_declarations ds in
+    let a = h.0.all in
+    let c = h.0.count [] in
+    let more = all_counted pay (suc k) n rest others h.1 in
+    let u = length_both h.0.bases (all_bases pay (suc k) n rest others h.1) in
+    let v = lasting_both (of_declarations (with_names [] i) ds) (of_sections n rest) in
+    omega (arith, a, c, more, u, v)
+
+-- they lie below the first frame, and the words of procedures are set
+pub all_placed : (program : Program) (first : ℕ) → IsWellPlaced program first FRAME_WORDS → (pay k i : ℕ) (sections : List Declarations) (owns : List Placed) (h : SectionsLie pay k i sections owns) → AreIn program.sections k owns
+    → AreBelow first (all_bases pay k i sections owns h) × AreSet (all_entries pay k i sections owns h)
+all_placed program first well pay k i [] owns h own = (tt, tt)
+all_placed program first well pay k i (ds ∷ rest) [] h own = absurd h
+all_placed program first well pay k i (ds ∷ rest) (own ∷ others) h is =
+    let n : ℕ = i + objects_of_declarations ds in
+    let one = h.0.placed program first well is.0 in
+    let more = all_placed program first well pay (suc k) n rest others h.1 is.1 in
+    (below_both first h.0.bases (all_bases pay (suc k) n rest others h.1) one.0 more.0, set_both h.0.entries (all_entries pay (suc k) n rest others h.1) one.1 more.1)
+
+-- A setting that has all of them, from section k and object i on.
+pub record HasAll (g : Setting) (pay k i : ℕ) (sections : List Declarations) (owns : List Placed) (h : SectionsLie pay k i sections owns) : Type 0 where
+  pub own : AreIn g.program.sections k owns
+  pub pays : pay ≤ g.pay
+  pub some : 0 < i
+  pub follow : Follow g.lasting i (all_bases pay k i sections owns h)
+  pub words : FollowWords g.codes.procedure i (all_entries pay k i sections owns h)
+
+pub first_suits : (g : Setting) (pay k i : ℕ) (ds : Declarations) (rest : List Declarations) (own : Placed) (others : List Placed) (h : SectionsLie pay k i (ds ∷ rest) (own ∷ others)) → HasAll g pay k i (ds ∷ rest) (own ∷ others) h
+    → Suits (home (section_scene k own ds) pay) i h.0.bases h.0.entries g
+first_suits g pay k i ds rest own others h a = record {
+  fits = record { own = a.own.0; pays = a.pays };
+  some = a.some;
+  follow = follow_first g.lasting i h.0.bases (all_bases pay (suc k) (i + objects_of_declarations ds) rest others h.1) a.follow;
+  words = words_first g.codes.procedure i h.0.entries (all_entries pay (suc k) (i + objects_of_declarations ds) rest others h.1) a.words;
+}
+
+pub others_suit : (g : Setting) (pay k i : ℕ) (ds : Declarations) (rest : List Declarations) (own : Placed) (others : List Placed) (h : SectionsLie pay k i (ds ∷ rest) (own ∷ others)) → HasAll g pay k i (ds ∷ rest) (own ∷ others) h
+    → HasAll g pay (suc k) (i + objects_of_declarations ds) rest others h.1
+others_suit g pay k i ds rest own others h a =
+    let n : ℕ = i + objects_of_declarations ds in
+    let some = a.some in
+    record {
+      own = a.own.1;
+      pays = a.pays;
+      some = omega (arith, some);
+      follow = follow_second g.lasting i (objects_of_declarations ds) h.0.bases (all_bases pay (suc k) n rest others h.1) h.0.all a.follow;
+      words = words_second g.codes.procedure i (objects_of_declarations ds) h.0.entries (all_entries pay (suc k) n rest others h.1) h.0.all_entries a.words;
+    }
+
+-- a section begins with no name declared
+pub no_names : Agree [] []
+no_names = ((λ x. refl), (λ x. refl))
+
+pub none_mean : (g : Setting) (k : ℕ) (own : Placed) (ds : Declarations) (pay : ℕ) → Mean (home (section_scene k own ds) pay) g []
+none_mean g k own ds pay q bases frame grown = record { each = λ x. tt }
+
+-- WHAT LASTS OF ALL SECTIONS is held
+pub all_held : (g : Setting) (pay k i : ℕ) (sections : List Declarations) (owns : List Placed) (h : SectionsLie pay k i sections owns) → HasAll g pay k i sections owns h → HeldList g i (of_sections i sections)
+all_held g pay k i [] owns h a = tt
+all_held g pay k i (ds ∷ rest) [] h a = absurd h
+all_held g pay k i (ds ∷ rest) (own ∷ others) h a =
+    let n : ℕ = i + objects_of_declarations ds in
+    held_both g i (objects_of_declarations ds) (of_declarations (with_names [] i) ds) (of_sections n rest) (h.0.count [])
+    (held_out g own i (of_declarations (with_names [] i) ds) (h.0.held g (first_suits g pay k i ds rest own others h a) [] no_names (none_mean g k own ds pay)))
+    (all_held g pay (suc k) n rest others h.1 (others_suit g pay k i ds rest own others h a))
+
+-- each section's objects are of their kinds
+pub first_alike : (g : Setting) (pay k i : ℕ) (ds : Declarations) (rest : List Declarations) (own : Placed) (others : List Placed) (h : SectionsLie pay k i (ds ∷ rest) (own ∷ others)) → HasAll g pay k i (ds ∷ rest) (own ∷ others) h
+    → AreAs own (kinds_of_declarations 1 (named_tree ds)) (of_declarations (with_names [] i) ds) h.0.bases h.0.entries
+first_alike g pay k i ds rest own others h a = h.0.alike g (first_suits g pay k i ds rest own others h a) [] no_names (none_mean g k own ds pay)
