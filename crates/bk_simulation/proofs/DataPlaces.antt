@@ -1,5 +1,5 @@
 -- Statements with data have places of their own: where two have the same place, they are one.
-use Rattle.std.proofs.Common.{◌≡◌, ℕ, zero, suc, ◌+◌, ◌<◌, List, [], ◌∷◌, ◌++◌, length, Option, Some, None, refl, sym, ap, ◌∙◌, subst, arith, slice_get, drop, true, length-append}
+use Rattle.std.proofs.Common.{◌≡◌, ℕ, zero, suc, ◌+◌, ◌<◌, List, [], ◌∷◌, ◌++◌, length, Some, None, refl, sym, ap, ◌∙◌, subst, arith, slice_get, drop, true, length-append}
 use Rattle.bk_base.specs.declared.limit.TheConstants.{FRAME_WORDS}
 use Rattle.bk_ocode.specs.OcodeState.{Placement, Placed}
 use Rattle.bk_ocode.specs.OcodeRun.{Program}
@@ -99,6 +99,8 @@ statement_alone program first well k k1 i i1 own own1 s s1 rest rest1 d d1 h h1 
     let one = well.data_apart n n1 d.place d d1 (number_at program.sections k (number_in own.places own.stmts i) own d h a.at) (number_at program.sections k1 (number_in own1.places own1.stmts i1) own1 d1 h1 a1.at)
     (begins_in d some) (subst (λ p. is_in p d1 ≡ true) (sym same) (begins_in d1 some1)) in
     let r = one_section program.sections k k1 (number_in own.places own.stmts i) (number_in own1.places own1.stmts i1) own own1 h h1 a.within a1.within one in
-    let owns : own ≡ own1 = (let z : Some own ≡ Some own1 = sym h ∙ ap (slice_get program.sections) r.0 ∙ h1 in cc) in
-    (r.0, one_statement own.places own.stmts i i1 s s1 rest rest1 d d1 at (subst (λ (o : Placed). drop i1 o.stmts ≡ s1 ∷ rest1) (sym owns) at1) is (subst (λ (o : Placed). datum_of o.places s1 rest1 ≡ d1 ∷ []) (sym owns) is1)
-    (r.1 ∙ ap (λ (o : Placed). number_in o.places o.stmts i1) (sym owns)))
+    let owns : own ≡ own1 = (let z : Some own ≡ Some own1 = sym h ∙ ap (slice_get program.sections) r.0 ∙ h1 in cc) in (
+      r.0,
+      one_statement own.places own.stmts i i1 s s1 rest rest1 d d1 at (subst (λ (o : Placed). drop i1 o.stmts ≡ s1 ∷ rest1) (sym owns) at1) is (subst (λ (o : Placed). datum_of o.places s1 rest1 ≡ d1 ∷ []) (sym owns) is1)
+          (r.1 ∙ ap (λ (o : Placed). number_in o.places o.stmts i1) (sym owns)),
+    )

@@ -1,6 +1,5 @@
 -- Words and procedures that last have labels of their own, and stand in the section that sets them.
-use Rattle.std.proofs.Common.{◌≡◌, ℕ, suc, ◌+◌, ◌<◌, ◌≤◌, ◌==◌, Bool, true, false, cond, List, [], ◌∷◌, ◌++◌, length, map, Some, refl, sym, ap, ◌∙◌, subst, arith, slice_get, drop, eqb-true, eq-eqb}
-use Rattle.std.proofs.lemmas.Bool.{false≢true}
+use Rattle.std.proofs.Common.{◌≡◌, ℕ, ◌+◌, ◌<◌, ◌≤◌, ◌==◌, Bool, true, false, cond, List, [], ◌∷◌, ◌++◌, length, map, Some, refl, sym, ap, subst, arith, slice_get, drop, eqb-true, eq-eqb}
 use Rattle.bk_base.specs.Strings.{first_bytes}
 use Rattle.bk_base.specs.Word.{signed}
 use Rattle.bk_syntax.specs.Tree.{Declarations}
@@ -12,7 +11,7 @@ use Rattle.bk_ocode.specs.SectionData.{item_words}
 use Rattle.bk_ocode.specs.Section.{AreFaultless}
 use Rattle.bk_ocode.specs.Typing.{sets, times_set}
 use Rattle.bk_ocode.specs.declared.stmt.Stmt.{Stmt}
-use Rattle.bk_ocode.specs.declared.stmt.Stmt.TheVariants.{DataLabel, DataNumber, DataAddress, Entry, Save, Globals}
+use Rattle.bk_ocode.specs.declared.stmt.Stmt.TheVariants.{DataLabel, DataNumber, DataAddress, Entry, Globals}
 use Rattle.bk_trans.specs.declared.around.Target.{Target}
 use Rattle.bk_trans.specs.Program as term
 use Rattle.bk_trans.specs.Naming.{named_tree}
@@ -24,7 +23,7 @@ use Rattle.bk_simulation.specs.Placement.{IsAccepted}
 use Rattle.bk_simulation.proofs.LastingKinds.{Kind, string, words_at, entry, Alike, kinds_of_declarations, alike_declarations}
 use Rattle.bk_simulation.proofs.Standing.{first_of}
 use Rattle.bk_simulation.proofs.StringCounts.{times}
-use Rattle.bk_simulation.proofs.LaidExpressions.{StandsIn, DataIn, PartFound, FoundParts}
+use Rattle.bk_simulation.proofs.LaidExpressions.{DataIn, PartFound, FoundParts}
 use Rattle.bk_simulation.proofs.SectionParts.{section_parts}
 
 -- the label of a procedure's word

@@ -236,21 +236,23 @@ pub procedure_is : (pay section : ℕ) (own : Placed) (ts : List Target) (bs : L
 procedure_is pay section own ts bs k fs i many body n ks p g number ns global suits agrees word outer =
     let sc = scene_of section own ts (with_formals k 2 fs bs) k in
     let same = letters_length fs in
-    let few = p.few in
-    (record {
-      scene = sc;
-      is_own = suits.fits.own;
-      place = p.place;
-      label = n;
-      name = p.name;
-      at = p.at;
-      body = p.code;
-      behind = subst (λ z. drop (suc p.place) own.stmts ≡ Save (z + 2) ∷ p.code) (sym same) p.behind;
-      word = word;
-      few = omega (arith, few, same);
-      laid = λ o above. subst (λ z. IsBody g sc (z + 2) (bind_formals o 0 (letters fs) (with_names ns i)) body p.code) (sym same) (p.objects_are.laid g suits ns agrees o above);
-      names = λ o frame bases grown base low. formals_named (scene_of section own ts bs k) k o 0 2 fs bs (with_names ns i) bases frame refl (omega (arith, few)) base low (outer bases frame grown);
-    }, refl)
+    let few = p.few in (
+      record {
+        scene = sc;
+        is_own = suits.fits.own;
+        place = p.place;
+        label = n;
+        name = p.name;
+        at = p.at;
+        body = p.code;
+        behind = subst (λ z. drop (suc p.place) own.stmts ≡ Save (z + 2) ∷ p.code) (sym same) p.behind;
+        word = word;
+        few = omega (arith, few, same);
+        laid = λ o above. subst (λ z. IsBody g sc (z + 2) (bind_formals o 0 (letters fs) (with_names ns i)) body p.code) (sym same) (p.objects_are.laid g suits ns agrees o above);
+        names = λ o frame bases grown base low. formals_named (scene_of section own ts bs k) k o 0 2 fs bs (with_names ns i) bases frame refl (omega (arith, few)) base low (outer bases frame grown);
+      },
+      refl,
+    )
 
 -- ---- what lasts of a procedure
 

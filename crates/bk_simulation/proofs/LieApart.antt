@@ -11,21 +11,21 @@ use Rattle.bk_ocode.specs.Lists.{joined}
 use Rattle.bk_ocode.specs.Cells.{Free}
 use Rattle.bk_ocode.specs.OcodeState.{Placed, Inside, At, State}
 use Rattle.bk_ocode.specs.OcodeRun.{Program}
-use Rattle.bk_ocode.specs.SectionData.{Datum, item_words}
+use Rattle.bk_ocode.specs.SectionData.{item_words}
 use Rattle.bk_ocode.specs.WellPlaced.{IsWellPlaced}
 use Rattle.bk_ocode.specs.declared.stmt.Stmt.TheVariants.{Text, Entry, DataLabel}
 use Rattle.bk_trans.specs.Naming.{named_tree}
 use Rattle.bk_trans.specs.Scheme.{scheme}
 use Rattle.bk_meaning.specs.Environment.{objects_of_declarations}
-use Rattle.bk_meaning.specs.Lasting.{Lasting, global_vector, words, code, of_declarations, of_sections, program_of}
+use Rattle.bk_meaning.specs.Lasting.{Lasting, global_vector, words, code, of_declarations, of_sections}
 use Rattle.bk_simulation.specs.Placement.{IsAccepted, AreAccepted, StandFor}
 use Rattle.bk_simulation.proofs.Memory.{BaseOf}
 use Rattle.bk_simulation.proofs.PlacedRests.{entry_settled}
 use Rattle.bk_simulation.proofs.Sought.{with_names}
 use Rattle.bk_simulation.proofs.Laid.{Setting}
-use Rattle.bk_simulation.proofs.LastingStore.{HasEntry, HasWords, IsSized}
+use Rattle.bk_simulation.proofs.LastingStore.{HasEntry, HasWords}
 use Rattle.bk_simulation.proofs.LastingKinds.{Kind, string, words_at, entry, kinds_of_declarations, AreAs}
-use Rattle.bk_simulation.proofs.KindLabels.{data_label, entry_label, data_labels_once, entry_labels_once, AreThere, kinds_there}
+use Rattle.bk_simulation.proofs.KindLabels.{entry_label, data_labels_once, entry_labels_once, AreThere, kinds_there}
 use Rattle.bk_simulation.proofs.KindForms.{form_of, declared_forms}
 use Rattle.bk_simulation.proofs.Standing.{Follow, FollowWords}
 use Rattle.bk_simulation.proofs.StringCounts.{times, Span, in_spans, AreSpread}

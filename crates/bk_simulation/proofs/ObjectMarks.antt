@@ -1,29 +1,18 @@
 -- Which statement an object with words has: a string by what stands behind it, and words by their label. No two objects have one.
-use Rattle.std.proofs.Common.{◌≡◌, ℕ, zero, suc, ◌+◌, ◌<◌, ◌≤◌, ◌==◌, eqb-true, eq-eqb, Bool, true, false, cond, List, [], ◌∷◌, ◌++◌, length, map, Option, Some, None, slice_get, drop, refl, sym, ap, ◌∙◌, subst, arith}
+use Rattle.std.proofs.Common.{◌≡◌, ℕ, zero, suc, ◌+◌, ◌<◌, ◌≤◌, ◌==◌, eq-eqb, Bool, false, cond, List, [], ◌∷◌, length, Some, None, slice_get, drop, refl, sym, ap, ◌∙◌, subst, arith}
 use Rattle.bk_base.specs.declared.limit.TheConstants.{FRAME_WORDS}
-use Rattle.bk_base.specs.Strings.{packed, string_words}
 use Rattle.bk_scope.specs.declared.bound.Bound.{Bound}
 use Rattle.bk_scope.specs.declared.bound.Bound.TheVariants as b
 use Rattle.bk_ocode.specs.Lists.{joined}
-use Rattle.bk_ocode.specs.Cells.{Free}
-use Rattle.bk_ocode.specs.OcodeState.{Placed, Inside, At, Control, State}
+use Rattle.bk_ocode.specs.OcodeState.{Placed}
 use Rattle.bk_ocode.specs.OcodeRun.{Program}
-use Rattle.bk_ocode.specs.SectionData.{Datum, item_words, datum_of}
+use Rattle.bk_ocode.specs.SectionData.{Datum, datum_of}
 use Rattle.bk_ocode.specs.WellPlaced.{IsWellPlaced}
 use Rattle.bk_ocode.specs.declared.stmt.Stmt.{Stmt}
-use Rattle.bk_ocode.specs.declared.stmt.Stmt.TheVariants.{Text, Entry, DataLabel}
-use Rattle.bk_meaning.specs.Lasting.{Lasting, global_vector, words, code}
-use Rattle.bk_simulation.specs.GoingOn.{settled}
-use Rattle.bk_simulation.proofs.Memory.{BaseOf}
-use Rattle.bk_simulation.proofs.PlacedRests.{entry_settled}
-use Rattle.bk_simulation.proofs.Laid.{Setting}
-use Rattle.bk_simulation.proofs.LastingStore.{HasWords}
-use Rattle.bk_simulation.proofs.LastingKinds.{Kind, string, words_at, entry, AreAs}
-use Rattle.bk_simulation.proofs.KindLabels.{data_label, entry_label, IsThere, AreThere}
-use Rattle.bk_simulation.proofs.KindForms.{form_of}
-use Rattle.bk_simulation.proofs.StringCounts.{times, Span, AreSpread}
-use Rattle.bk_simulation.proofs.StringsOnce.{StringIn, SpanAt, AllSpansAt}
-use Rattle.bk_simulation.proofs.Standing.{Follow, FollowWords}
+use Rattle.bk_ocode.specs.declared.stmt.Stmt.TheVariants.{Text, DataLabel}
+use Rattle.bk_simulation.proofs.LastingKinds.{Kind, string, words_at, entry}
+use Rattle.bk_simulation.proofs.KindLabels.{data_label}
+use Rattle.bk_simulation.proofs.StringCounts.{times}
 use Rattle.bk_simulation.proofs.DataPlaces.{statement_alone}
 
 pub data Mark : Type 0 where

@@ -5,26 +5,25 @@ use Rattle.bk_syntax.specs.Tree.{Declarations}
 use Rattle.bk_ocode.specs.OcodeState.{Placed}
 use Rattle.bk_ocode.specs.OcodeRun.{Program}
 use Rattle.bk_ocode.specs.Section.{AreFaultless}
-use Rattle.bk_ocode.specs.ProgramStart.{all_globals}
 use Rattle.bk_ocode.specs.WellPlaced.{IsWellPlaced}
 use Rattle.bk_trans.proofs.Accepted.{scheme_is_accepted}
 use Rattle.bk_meaning.specs.Values as value
 use Rattle.bk_meaning.specs.Values.{stop, rdch, wrch, newline, writes, writen, writed, getbyte, putbyte, writef}
 use Rattle.bk_meaning.specs.Environment.{objects_of_declarations}
-use Rattle.bk_meaning.specs.Lasting.{Lasting, Procedure, global_vector, words, code, of_declarations, of_sections, program_of, procedure_of, procedure_in}
+use Rattle.bk_meaning.specs.Lasting.{Lasting, Procedure, global_vector, words, code, of_sections, program_of, procedure_of, procedure_in}
 use Rattle.bk_simulation.specs.Placement.{AreAccepted, StandFor}
 use Rattle.bk_simulation.proofs.Memory.{Codes, BaseOf}
 use Rattle.bk_simulation.proofs.Laid.{Setting}
-use Rattle.bk_simulation.proofs.Held.{InData, HeldWord, HeldOne, HeldList}
+use Rattle.bk_simulation.proofs.Held.{HeldWord, HeldOne, HeldList}
 use Rattle.bk_simulation.proofs.HeldData.{get_behind}
-use Rattle.bk_simulation.proofs.Procedures.{IsProcedure, Procedures}
+use Rattle.bk_simulation.proofs.Procedures.{IsProcedure}
 use Rattle.bk_simulation.proofs.BasesBelow.{AreBelow, AreSet}
 use Rattle.bk_simulation.proofs.LastingKinds.{Kind, string, words_at, entry, AreAs}
-use Rattle.bk_simulation.proofs.LastingStore.{library_word, settings, IsSized, HoldsEntry, HoldsOne, HoldsLasting}
+use Rattle.bk_simulation.proofs.LastingStore.{library_word, IsSized, HoldsEntry, HoldsOne}
 use Rattle.bk_simulation.proofs.LaidPrograms.{setting, AreLaid}
 use Rattle.bk_simulation.proofs.SectionGlobals.{all_set_same}
-use Rattle.bk_simulation.proofs.Standing.{Follow, FollowWords, length_both}
-use Rattle.bk_simulation.proofs.SectionsLie.{SectionsLie, weights, sections_lie, all_bases, all_entries, all_counted, all_placed, AreIn, HasAll, first_suits, others_suit, all_held, first_alike}
+use Rattle.bk_simulation.proofs.Standing.{Follow, FollowWords}
+use Rattle.bk_simulation.proofs.SectionsLie.{SectionsLie, weights, sections_lie, all_bases, all_entries, all_counted, all_placed, AreIn, HasAll, others_suit, all_held, first_alike}
 use Rattle.bk_simulation.proofs.SectionsSet.{sections_set}
 
 -- ---- words of procedures by their numbers; other numbers have a word too

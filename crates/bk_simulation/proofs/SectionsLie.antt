@@ -1,14 +1,13 @@
 -- What lasts of all sections of a program, one behind the other.
-use Rattle.std.proofs.Common.{◌≡◌, ℕ, zero, suc, ◌+◌, ◌<◌, ◌≤◌, List, [], ◌∷◌, ◌++◌, length, map, Option, Some, None, refl, sym, ap, ap₂, ◌∙◌, subst, arith, slice_get, append_assoc}
+use Rattle.std.proofs.Common.{◌≡◌, ℕ, suc, ◌+◌, ◌<◌, ◌≤◌, List, [], ◌∷◌, ◌++◌, length, Some, refl, arith, slice_get}
 use Rattle.bk_base.specs.declared.limit.TheConstants.{FRAME_WORDS}
 use Rattle.bk_syntax.specs.Tree.{Declarations}
 use Rattle.bk_ocode.specs.OcodeState.{Placed}
 use Rattle.bk_ocode.specs.OcodeRun.{Program}
 use Rattle.bk_ocode.specs.WellPlaced.{IsWellPlaced}
 use Rattle.bk_trans.specs.Naming.{named_tree}
-use Rattle.bk_trans.specs.Scheme.{scheme}
-use Rattle.bk_meaning.specs.Environment.{Named, objects_of_declarations}
-use Rattle.bk_meaning.specs.Lasting.{Lasting, global_vector, words, code, of_declarations, of_sections}
+use Rattle.bk_meaning.specs.Environment.{objects_of_declarations}
+use Rattle.bk_meaning.specs.Lasting.{of_declarations, of_sections}
 use Rattle.bk_simulation.specs.Placement.{AreAccepted, StandFor}
 use Rattle.bk_simulation.proofs.Weights.{weight_declared}
 use Rattle.bk_simulation.proofs.Sought.{with_names}
@@ -17,7 +16,7 @@ use Rattle.bk_simulation.proofs.Held.{HeldList, held_both, held_out, lasting_bot
 use Rattle.bk_simulation.proofs.BasesBelow.{AreBelow, AreSet, below_both, set_both}
 use Rattle.bk_simulation.proofs.LastingKinds.{AreAs, kinds_of_declarations}
 use Rattle.bk_simulation.proofs.NamesAgree.{Agree}
-use Rattle.bk_simulation.proofs.Standing.{Home, home, Follow, FollowWords, follow_first, follow_second, words_first, words_second, length_both, Suits, Bases, Mean}
+use Rattle.bk_simulation.proofs.Standing.{home, Follow, FollowWords, follow_first, follow_second, words_first, words_second, length_both, Suits, Bases, Mean}
 use Rattle.bk_simulation.proofs.LaidSections.{section_scene, section_lies}
 
 -- what lasts of the section k, with numbers from i on

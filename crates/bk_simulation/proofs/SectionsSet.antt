@@ -1,29 +1,26 @@
 -- The globals that sections set are those that their procedures set in the meaning.
 use Rattle.std.proofs.lemmas.List.{map-append}
-use Rattle.std.proofs.Common.{◌≡◌, ℕ, suc, ◌+◌, ◌<◌, List, [], ◌∷◌, ◌++◌, length, map, Option, Some, None, refl, sym, ap, ap₂, ◌∙◌, subst}
-use Rattle.bk_base.specs.declared.limit.TheConstants.{GLOBAL_NUMBER}
+use Rattle.std.proofs.Common.{◌≡◌, ℕ, suc, ◌+◌, List, [], ◌∷◌, ◌++◌, map, Option, Some, None, refl, sym, ap, ap₂, ◌∙◌}
 use Rattle.bk_syntax.specs.Tree.{Declarations}
 use Rattle.bk_scope.specs.declared.bound.Bound.{Bound}
 use Rattle.bk_scope.specs.declared.bound.Bound.TheVariants as b
 use Rattle.bk_ocode.specs.Lists.{joined}
-use Rattle.bk_ocode.specs.OcodeState.{Placed, global_place}
-use Rattle.bk_ocode.specs.SectionData.{GlobalSetting, entry_setting}
+use Rattle.bk_ocode.specs.OcodeState.{Placed}
+use Rattle.bk_ocode.specs.SectionData.{entry_setting}
 use Rattle.bk_ocode.specs.declared.stmt.GlobalEntry.{GlobalEntry}
 use Rattle.bk_trans.specs.Naming.{named_tree}
-use Rattle.bk_trans.specs.Parts.{parts_of_declarations}
 use Rattle.bk_trans.specs.Scheme.{entry_of, entries_of}
 use Rattle.bk_meaning.specs.Environment.{objects_of_declarations}
-use Rattle.bk_meaning.specs.Lasting.{Lasting, global_vector, words, code, Procedure, of_declarations, of_sections}
+use Rattle.bk_meaning.specs.Lasting.{Lasting, global_vector, words, code, of_declarations}
 use Rattle.bk_simulation.proofs.Sought.{with_names}
 use Rattle.bk_simulation.specs.Placement.{StandFor}
 use Rattle.bk_simulation.proofs.Memory.{Codes}
 use Rattle.bk_simulation.proofs.Laid.{Setting}
-use Rattle.bk_simulation.proofs.Held.{HeldOne, HeldList}
 use Rattle.bk_simulation.proofs.LastingStore.{setting_of, settings}
-use Rattle.bk_simulation.proofs.LastingKinds.{Kind, string, words_at, entry, AsKind, AreAs, Alike, bound_global, IsCalled, kinds_of_declarations, alike_declarations}
+use Rattle.bk_simulation.proofs.LastingKinds.{Kind, string, words_at, entry, AreAs, Alike, bound_global, IsCalled, kinds_of_declarations, alike_declarations}
 use Rattle.bk_simulation.proofs.Standing.{FollowWords}
-use Rattle.bk_simulation.proofs.SectionGlobals.{SetsSame, SetSame}
-use Rattle.bk_simulation.proofs.SectionsLie.{SectionLies, SectionsLie, HasAll, first_suits, others_suit, first_alike}
+use Rattle.bk_simulation.proofs.SectionGlobals.{SetSame}
+use Rattle.bk_simulation.proofs.SectionsLie.{SectionsLie, HasAll, first_suits, others_suit, first_alike}
 
 -- the global that an object of this kind sets
 abbrev kind_entries : Kind → List GlobalEntry

@@ -1,42 +1,27 @@
 -- The strings of commands: each stands in a statement of its own.
-use Rattle.std.proofs.Common.{◌≡◌, ℕ, zero, suc, ◌+◌, ◌<◌, ◌≤◌, Bool, true, false, cond, int_lt, pos, List, [], ◌∷◌, ◌++◌, length, Option, Some, None, slice_get, drop, refl, sym, ap, ◌∙◌, subst, arith, append_assoc}
+use Rattle.std.proofs.Common.{◌≡◌, ℕ, zero, suc, ◌+◌, ◌≤◌, true, List, [], ◌∷◌, ◌++◌, length, refl, sym, subst, arith}
 use Rattle.bk_base.specs.Word.{signed}
-use Rattle.bk_syntax.specs.declared.tree.Operator.{Operator}
-use Rattle.bk_syntax.specs.declared.tree.Operator.TheVariants as o
-use Rattle.bk_syntax.specs.declared.tree.Prefix.{Prefix}
-use Rattle.bk_syntax.specs.declared.tree.Prefix.TheVariants as q
 use Rattle.bk_syntax.specs.declared.tree.Simple.TheVariants as simple
-use Rattle.bk_syntax.specs.declared.tree.Sort.{Sort}
-use Rattle.bk_syntax.specs.declared.tree.Sort.TheVariants as sort
 use Rattle.bk_syntax.specs.Tree as t
 use Rattle.bk_syntax.specs.Tree.{Mention, Expression, Expressions, Action, Actions, Declaration, Declarations, Items, Definition, Definitions, Starts}
-use Rattle.bk_scope.specs.declared.bound.Bound.{Bound}
-use Rattle.bk_scope.specs.declared.bound.Bound.TheVariants as b
-use Rattle.bk_scope.specs.Scope.{Binding}
 use Rattle.bk_ocode.specs.OcodeState.{Placed}
 use Rattle.bk_ocode.specs.declared.stmt.Stmt.{Stmt}
 use Rattle.bk_ocode.specs.declared.stmt.Variable.TheVariants.{Local}
 use Rattle.bk_ocode.specs.declared.stmt.Dyadic.TheVariants as two
-use Rattle.bk_ocode.specs.declared.stmt.Stmt.TheVariants.{Label, JumpIf, Load, Number, Dyadic, Assign, Text, Stack, Jump, Store, Save, Return, ReturnItem}
-use Rattle.bk_trans.specs.declared.around.Target.{Target}
-use Rattle.bk_trans.specs.Naming.{meant}
-use Rattle.bk_trans.specs.Scheme.{push, infix_code, truth_value, test_of_step}
-use Rattle.bk_scope.specs.Scope.{bound_in}
+use Rattle.bk_ocode.specs.declared.stmt.Stmt.TheVariants.{Label, JumpIf, Load, Number, Dyadic, Assign, Stack}
+use Rattle.bk_trans.specs.Scheme.{test_of_step}
 use Rattle.bk_meaning.specs.Environment.{Environment, cell, foreign, behind, past, past_each, past_action, past_definition, labelled, within_let, constants_declared, letters, bind_each, objects, objects_of_each, objects_of_action, objects_of_actions, objects_of_declaration, objects_of_declarations, objects_of_definition, objects_of_definitions, objects_of_starts}
 use Rattle.bk_meaning.specs.Environment as m
-use Rattle.bk_meaning.specs.Lasting.{Lasting, Body, command, expression, Procedure, code, procedure_here, inside, in_scope, in_for, declared, all_declared, of_items, of_expression, of_each, of_action, of_actions, of_declaration, of_declarations, of_definition, of_definitions, of_starts}
-use Rattle.bk_meaning.specs.Calls.{bind_formals}
+use Rattle.bk_meaning.specs.Lasting.{in_scope, of_expression, of_each, of_action, of_actions}
 use Rattle.bk_meaning.specs.Seeking.{Sought}
 use Rattle.bk_meaning.specs.Scopes.{alone}
-use Rattle.bk_meaning.proofs.Numbers.{expression_counted, each_counted, action_counted, actions_counted, declaration_counted, declarations_counted, definition_counted, definitions_counted, starts_counted, statics_counted}
-use Rattle.bk_meaning.proofs.Standing.{bound-next, labelled-next, in_scope-next, declared-next, all_declared-next}
-use Rattle.bk_simulation.proofs.Laid.{Setting, Scene, Spot, Aim, pushes, jumps, Way, all_of, any_of, plain, way_of, ending, Operands, Stretch, ByTurns, in_valof, in_loop, in_switch, in_for as in_for_scene, owning, variables_bound, defines_variables, IsCode, AreValues, IsAddress, AreFrom, AreStores, IsStore, IsAct, AreActs, AreDeclared, IsOneDeclared, AreDefined, AreStarts}
+use Rattle.bk_meaning.proofs.Numbers.{expression_counted, each_counted, action_counted}
+use Rattle.bk_meaning.proofs.Standing.{labelled-next, in_scope-next}
+use Rattle.bk_simulation.proofs.Laid.{Setting, Scene, pushes, Stretch, ByTurns, in_loop, in_switch, in_for as in_for_scene, owning, AreFrom, AreStores, IsAct, AreActs}
 use Rattle.bk_simulation.proofs.Held.{HeldIn}
-use Rattle.bk_simulation.proofs.Procedures.{IsBody, IsProcedure}
-use Rattle.bk_simulation.proofs.Standing.{first_of}
-use Rattle.bk_simulation.proofs.StringCounts.{Form, a_string, some_words, a_procedure, strings_at, Span, times, in_spans, IsSpan, AreSpread, spread_append, times_both, spans_both, forms_both, Spread, Same, by_path, same_on, spread_none, spread_top, spread_bottom, spread_both, spread_back, spread_string, spread_words, spread_procedure, spread_as}
-use Rattle.bk_simulation.proofs.StringForms.{forms_of_items, forms, forms_of_each, forms_of_action, forms_of_actions, forms_of_declaration, forms_of_declarations, forms_of_definition, forms_of_definitions, forms_of_starts, push_plain, truth_plain, infix_plain, ending_plain, store_plain, test_plain, Numbered, later, same_numbers, held_front, held_back, held_third, spread_three, IsOwn}
-use Rattle.bk_simulation.proofs.Weights.{weight_of, weight_among, weight_in, weight_through, weight_declared, weight_one_declared, weight_defined, weight_one_defined, weight_started}
+use Rattle.bk_simulation.proofs.StringCounts.{Form, strings_at, Span, times, in_spans, AreSpread, spread_append, times_both, spans_both, forms_both, Spread, Same, by_path, same_on, spread_none, spread_top, spread_bottom, spread_both, spread_back, spread_as}
+use Rattle.bk_simulation.proofs.StringForms.{forms, forms_of_each, forms_of_action, forms_of_actions, test_plain, Numbered, later, same_numbers, held_front, held_back, held_third, spread_three, IsOwn}
+use Rattle.bk_simulation.proofs.Weights.{weight_among, weight_in, weight_through}
 use Rattle.bk_simulation.proofs.SpreadValues.{ActsSpread, code_spread, values_spread, store_spread}
 use Rattle.bk_simulation.proofs.SpreadDeclared.{block_spread}
 

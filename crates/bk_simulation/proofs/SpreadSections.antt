@@ -1,5 +1,5 @@
 -- The strings of a section: each stands in a statement of its own.
-use Rattle.std.proofs.Common.{◌≡◌, ℕ, suc, ◌+◌, ◌≤◌, List, [], ◌∷◌, ◌++◌, length, refl, ap, ◌∙◌, arith}
+use Rattle.std.proofs.Common.{◌≡◌, ℕ, ◌+◌, [], refl, ap, ◌∙◌, arith}
 use Rattle.bk_syntax.specs.Tree as t
 use Rattle.bk_syntax.specs.Tree.{Declarations, Definitions}
 use Rattle.bk_ocode.specs.OcodeState.{Placed}

@@ -1,38 +1,23 @@
 -- The forms of what lasts of a tree, in the order of the source; statements that are no strings; and numbers of objects.
-use Rattle.std.proofs.Common.{◌≡◌, ℕ, zero, suc, ◌+◌, ◌<◌, ◌≤◌, Bool, true, false, cond, int_lt, pos, List, [], ◌∷◌, ◌++◌, length, Option, Some, None, slice_get, drop, refl, sym, ap, ◌∙◌, subst, arith, append_assoc}
+use Rattle.std.proofs.Common.{◌≡◌, ℕ, suc, ◌+◌, Bool, true, false, cond, int_lt, pos, List, [], ◌∷◌, ◌++◌, length, Some, None, refl, ap, ◌∙◌, subst, arith, append_assoc}
 use Rattle.bk_base.specs.Word.{signed}
 use Rattle.bk_syntax.specs.declared.tree.Operator.{Operator}
 use Rattle.bk_syntax.specs.declared.tree.Operator.TheVariants as o
-use Rattle.bk_syntax.specs.declared.tree.Prefix.{Prefix}
-use Rattle.bk_syntax.specs.declared.tree.Prefix.TheVariants as q
-use Rattle.bk_syntax.specs.declared.tree.Simple.TheVariants as simple
-use Rattle.bk_syntax.specs.declared.tree.Sort.{Sort}
 use Rattle.bk_syntax.specs.declared.tree.Sort.TheVariants as sort
 use Rattle.bk_syntax.specs.Tree as t
 use Rattle.bk_syntax.specs.Tree.{Mention, Expression, Expressions, Action, Actions, Declaration, Declarations, Items, Definition, Definitions, Starts}
 use Rattle.bk_scope.specs.declared.bound.Bound.{Bound}
 use Rattle.bk_scope.specs.declared.bound.Bound.TheVariants as b
-use Rattle.bk_scope.specs.Scope.{Binding}
 use Rattle.bk_ocode.specs.OcodeState.{Placed}
 use Rattle.bk_ocode.specs.declared.stmt.Stmt.{Stmt}
-use Rattle.bk_ocode.specs.declared.stmt.Stmt.TheVariants.{Label, Text, Stack, Jump, Store, Save, Return, ReturnItem}
+use Rattle.bk_ocode.specs.declared.stmt.Stmt.TheVariants.{Store}
 use Rattle.bk_trans.specs.declared.around.Target.{Target}
-use Rattle.bk_trans.specs.Naming.{meant}
 use Rattle.bk_trans.specs.Scheme.{push, infix_code, truth_value, test_of_step}
-use Rattle.bk_scope.specs.Scope.{bound_in}
-use Rattle.bk_meaning.specs.Environment.{Environment, cell, foreign, behind, past, past_each, past_action, past_definition, labelled, within_let, constants_declared, letters, bind_each, objects, objects_of_each, objects_of_action, objects_of_actions, objects_of_declaration, objects_of_declarations, objects_of_definition, objects_of_definitions, objects_of_starts}
-use Rattle.bk_meaning.specs.Environment as m
-use Rattle.bk_meaning.specs.Lasting.{Lasting, Body, command, expression, Procedure, code, procedure_here, inside, in_scope, in_for, declared, all_declared, of_items, of_expression, of_each, of_action, of_actions, of_declaration, of_declarations, of_definition, of_definitions, of_starts}
-use Rattle.bk_meaning.specs.Calls.{bind_formals}
-use Rattle.bk_meaning.specs.Seeking.{Sought}
-use Rattle.bk_meaning.specs.Scopes.{alone}
-use Rattle.bk_meaning.proofs.Numbers.{expression_counted, each_counted, action_counted, actions_counted, declaration_counted, declarations_counted, definition_counted, definitions_counted, starts_counted, statics_counted}
-use Rattle.bk_meaning.proofs.Standing.{bound-next, labelled-next, in_scope-next, declared-next, all_declared-next}
-use Rattle.bk_simulation.proofs.Laid.{Setting, Scene, Spot, Aim, pushes, jumps, Way, all_of, any_of, plain, way_of, ending, Operands, Stretch, ByTurns, in_valof, in_loop, in_switch, in_for as in_for_scene, owning, variables_bound, defines_variables, IsCode, AreValues, IsAddress, AreFrom, AreStores, IsStore, IsAct, AreActs, AreDeclared, IsOneDeclared, AreDefined, AreStarts}
+use Rattle.bk_meaning.specs.Environment.{Environment, behind}
+use Rattle.bk_meaning.specs.Lasting.{Lasting}
+use Rattle.bk_simulation.proofs.Laid.{Setting, Scene, Aim, pushes, jumps, ending}
 use Rattle.bk_simulation.proofs.Held.{HeldIn}
-use Rattle.bk_simulation.proofs.Procedures.{IsBody, IsProcedure}
-use Rattle.bk_simulation.proofs.Standing.{first_of}
-use Rattle.bk_simulation.proofs.StringCounts.{Form, a_string, some_words, a_procedure, strings_at, Span, times, in_spans, IsSpan, AreSpread, spread_append, times_both, spans_both, forms_both, Spread, Same, by_path, same_on, spread_none, spread_top, spread_bottom, spread_both, spread_back, spread_string, spread_words, spread_procedure, spread_as}
+use Rattle.bk_simulation.proofs.StringCounts.{Form, a_string, some_words, a_procedure, Spread, Same, spread_both, spread_as}
 
 -- ---- the forms of what lasts of a tree
 

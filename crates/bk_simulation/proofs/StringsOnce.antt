@@ -1,5 +1,5 @@
 -- A string stands before the next ENTRY at most once, and those of different procedures are different.
-use Rattle.std.proofs.Common.{◌≡◌, ℕ, zero, suc, ◌+◌, ◌-◌, ◌<◌, ◌≤◌, ◌==◌, ltb, ltb-false, eqb-true, eq-eqb, Bool, true, false, cond, List, [], ◌∷◌, length, Option, Some, None, slice_get, drop, refl, sym, ap, ◌∙◌, subst, arith}
+use Rattle.std.proofs.Common.{◌≡◌, ℕ, zero, suc, ◌+◌, ◌-◌, ◌<◌, ◌≤◌, ◌==◌, ltb, ltb-false, eqb-true, eq-eqb, Bool, true, false, cond, List, [], ◌∷◌, length, Some, slice_get, drop, refl, sym, ap, ◌∙◌, subst, arith}
 use Rattle.std.proofs.lemmas.Bool.{ltb-true}
 use Rattle.std.proofs.lemmas.List.{length-drop}
 use Rattle.std.proofs.lemmas.Option.{slice_get_within}
