@@ -107,3 +107,4 @@ pub mod DataPlaces
 pub mod KindLabels
 pub mod ObjectMarks
 pub mod LieApart
+pub mod ProgramLaws
