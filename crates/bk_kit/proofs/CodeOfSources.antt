@@ -1,5 +1,5 @@
 -- The code of a source is read as the segments that it is of; and what interpreting it comes to.
-use Rattle.std.proofs.Common.{◌≡◌, ◌≢◌, inl, inr, ℕ, ◌+◌, ◌<◌, ◌≤◌, max, Bool, IsTrue, true, false, List, [], ◌∷◌, ◌++◌, map, Option, Some, None, Result, Ok, Err, length, refl, sym, ap, ◌∙◌, subst, arith, append_assoc}
+use Rattle.std.proofs.Common.{◌≡◌, ◌≢◌, ℕ, ◌+◌, ◌<◌, ◌≤◌, max, Bool, IsTrue, true, false, List, [], ◌∷◌, ◌++◌, map, Option, Some, None, Result, Ok, Err, length, refl, sym, ap, ◌∙◌, subst, arith, append_assoc}
 use Rattle.std.specs.Io.KnownBytes.{Consumes}
 use Rattle.std.proofs.lemmas.List.{append_cancel_left}
 use Rattle.bk_base.specs.declared.intcode_fault.IntcodeKind.{IntcodeKind}
@@ -10,11 +10,9 @@ use Rattle.bk_intcode.specs.declared.item.Item.{Item}
 use Rattle.bk_intcode.specs.Segment.{IsSegment, frame_of}
 use Rattle.bk_intcode.specs.Placement.{SEGMENTS, stack_start, any_starts, greatest_frame}
 use Rattle.bk_intcode_text.specs.ItemText.{item_text}
-use Rattle.bk_intcode_text.specs.FirstSaying.{Saying, segment, nothing, fault, Says, SayOneThing}
-use Rattle.bk_intcode_text.specs.SegmentText.{segment_text}
+use Rattle.bk_intcode_text.specs.FirstSaying.{segment, nothing, fault, Says, SayOneThing}
 use Rattle.bk_intcode_text.proofs.PrintedLemmas.{words_of-printed}
 use Rattle.bk_ocode.specs.Depth.{largest_depth}
-use Rattle.bk_ocode.specs.declared.stmt.Stmt.{Stmt}
 use Rattle.bk_syntax.specs.Tree.{Declarations}
 use Rattle.bk_gen.specs.BackEnd.{Part, segments, image}
 use Rattle.bk_gen.specs.StandsFor.{frame_words}
@@ -24,7 +22,7 @@ use Rattle.bk_kit.specs.Code.{intcode}
 use Rattle.bk_kit.specs.Texts.{all_words, AreWhole, parts, refused, Stands}
 use Rattle.bk_kit.specs.Texts as texts
 use Rattle.bk_kit.specs.Generating.{Generated, IsGenerated, AreGenerated, sections_of, texts_of}
-use Rattle.bk_kit.specs.Headline.{Keeps, Runs}
+use Rattle.bk_kit.specs.Headline.{Keeps}
 use Rattle.bk_kit.specs.Interpreting.{Streams, Interpreted}
 use Rattle.bk_kit.specs.Sources.{stmts_of_tree, codes_of_trees}
 use Rattle.bk_kit.specs.SourceSections.{HasParts}

@@ -1,14 +1,13 @@
 -- What the two filters write of a source, one after the other, is its code.
-use Rattle.std.proofs.Common.{◌≡◌, ℕ, ◌+◌, ◌<◌, ◌≤◌, Bool, IsTrue, true, false, List, [], ◌∷◌, ◌++◌, map, Option, Some, None, Ok, length, refl, sym, ap, ◌∙◌, subst, arith, append_assoc, append-nil, length-append}
+use Rattle.std.proofs.Common.{◌≡◌, ℕ, ◌<◌, IsTrue, List, [], ◌∷◌, ◌++◌, Option, Some, None, length, refl, sym, ap, ◌∙◌, subst, arith, append_assoc, append-nil, length-append}
 use Rattle.std.specs.Io.KnownBytes.{Appends, Consumes}
 use Rattle.std.proofs.lemmas.List.{append_cancel_left, map-append}
 use Rattle.bk_base.specs.declared.limit.TheConstants.{INPUT_BYTES}
-use Rattle.bk_base.specs.declared.ocode_fault.OcodeKind.{OcodeKind}
 use Rattle.bk_words.specs.Words.{words_of}
 use Rattle.bk_syntax.specs.Tree.{Declarations}
 use Rattle.bk_ocode.specs.FirstFault.{section, nothing, SayOneThing}
 use Rattle.bk_ocode.specs.Section.{IsSection}
-use Rattle.bk_ocode.specs.SectionText.{section_text, section_words}
+use Rattle.bk_ocode.specs.SectionText.{section_words}
 use Rattle.bk_ocode.specs.StmtRange.{AreBytes, AreTyped}
 use Rattle.bk_ocode.specs.declared.stmt.Stmt.{Stmt}
 use Rattle.bk_ocode.proofs.OneSaying.{each_stmt}
@@ -17,7 +16,6 @@ use Rattle.bk_trans.specs.Laws.{SchemeIsAccepted}
 use Rattle.bk_simulation.specs.Placement as placement
 use Rattle.bk_kit.specs.Texts.{all_words, AreWhole, parts}
 use Rattle.bk_kit.specs.Texts as texts
-use Rattle.bk_kit.specs.Telling.{Output}
 use Rattle.bk_kit.specs.ReadingSource.{Follows}
 use Rattle.bk_kit.specs.Sources.{bytes_of, trees_of, codes_of, codes_of_trees, stmts_of_tree, texts_of}
 use Rattle.bk_kit.specs.Compiling.{AreAllTyped, Compiles}

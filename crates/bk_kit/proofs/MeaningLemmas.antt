@@ -1,7 +1,7 @@
 -- Runs of the machine with segments that stand for the sections of a source, and what the source means.
-use Rattle.std.proofs.Common.{◌≡◌, ◌≢◌, ◌⊎◌, inl, inr, ℕ, zero, suc, ◌+◌, ◌*◌, ◌^◌, ◌≤◌, ◌<◌, max, ◌==◌, Bool, true, false, List, [], ◌∷◌, ◌++◌, map, Option, Some, None, Err, if◌then◌else◌, refl, sym, ap, ◌∙◌, subst, arith, ⊎_elim, append_assoc, append-nil}
+use Rattle.std.proofs.Common.{◌≡◌, ◌≢◌, ◌⊎◌, inl, inr, ℕ, zero, suc, ◌+◌, ◌*◌, ◌≤◌, ◌<◌, max, ◌==◌, Bool, true, false, List, [], ◌∷◌, ◌++◌, map, Option, Some, None, Err, if◌then◌else◌, refl, sym, ap, ◌∙◌, subst, arith, append_assoc, append-nil}
 use Rattle.std.specs.Option.{option_map_or}
-use Rattle.bk_base.specs.declared.limit.TheConstants.{STORE_MOST, FRAME_WORDS, FRAME_WORDS_LEAST}
+use Rattle.bk_base.specs.declared.limit.TheConstants.{STORE_MOST, FRAME_WORDS}
 use Rattle.bk_base.specs.declared.run_end.End.{End}
 use Rattle.bk_base.specs.declared.run_end.End.TheVariants.{StoreLimit, WriteFault}
 use Rattle.bk_base.specs.Devices.{Begins}
@@ -11,17 +11,15 @@ use Rattle.bk_intcode.specs.Runs.{Standing, Over, output_of, Ran, Blames}
 use Rattle.bk_ocode.specs.Cells.{Cell}
 use Rattle.bk_ocode.specs.Depth.{largest_depth}
 use Rattle.bk_ocode.specs.Frames.{HasFrames, start, called, HasFramesAtMost}
-use Rattle.bk_ocode.specs.Lists.{joined}
-use Rattle.bk_ocode.specs.OcodeState.{Routine, Placed, Control, Inside, Behind, At, State, Goes, Ends}
-use Rattle.bk_ocode.specs.OcodeRun.{Program, Rest, resumed_by, resumed, label_rest, resumed_in, find_rest, rests_of, run}
-use Rattle.bk_ocode.specs.declared.stmt.Stmt.{Stmt}
+use Rattle.bk_ocode.specs.OcodeState.{Routine, Placed, Control, Inside, Behind, At, State}
+use Rattle.bk_ocode.specs.OcodeRun.{Program, Rest, resumed_by, resumed, label_rest, resumed_in, find_rest, rests_of}
 use Rattle.bk_ocode.specs.SectionData.{text_size}
 use Rattle.bk_ocode.specs.WellPlaced.{IsWellPlaced}
 use Rattle.bk_syntax.specs.Tree.{Declarations}
 use Rattle.bk_meaning.specs.World as world
 use Rattle.bk_meaning.specs.Program as program
 use Rattle.bk_meaning.specs.Program.{Run, meaning}
-use Rattle.bk_simulation.specs.GoingOn.{settled_from, settled}
+use Rattle.bk_simulation.specs.GoingOn.{settled_from}
 use Rattle.bk_simulation.specs.Placement.{AreAccepted, StandFor}
 use Rattle.bk_simulation.specs.Simulation.{Begin, end_of, EndsWithin, ComesWithin, RunsOut, DoesEnd, Does, DoesFrom, StillGoes, RunsOutOnTheWay, StepsDoWhatSourcesMean, StepsGoOnWithTheirSource, StartsWithTheirSource, IsWithoutEnd, StartsSo, with_start, without_start}
 use Rattle.bk_gen.specs.BackEnd.{Part, segments, image, depth_of, own_of, parts_at, program_of, start_of, machine_after, IsPartly, going, stopped, HoldsFrames, BackEnd, BackEndHolds, PartsAreWellPlaced, PartsWithoutStart}
@@ -31,7 +29,7 @@ use Rattle.bk_kit.specs.Interpreting.{Streams, told, first_registers}
 use Rattle.bk_kit.specs.Headline.{Language, Runs, Keeps}
 use Rattle.bk_kit.specs.Sources.{stmts_of_tree, codes_of_trees}
 use Rattle.bk_kit.specs.SourceSections.{HasTrees, HasParts}
-use Rattle.bk_kit.specs.SourceMeaning.{text_of, frame_of, HasSteps, HasWords, HasNoStart, MeaningEnds, MeaningGoesOn, EnoughToEnd, EnoughToGo, image_of, meanings_with, MeaningRuns, MeaningTooSmall, MeaningStartless}
+use Rattle.bk_kit.specs.SourceMeaning.{text_of, frame_of, HasWords, HasNoStart, MeaningEnds, MeaningGoesOn, EnoughToEnd, EnoughToGo, image_of, meanings_with, MeaningRuns, MeaningTooSmall, MeaningStartless}
 use Rattle.bk_kit.proofs.LanguageRuns.{BeginsOf, Meant, runs}
 use Rattle.bk_kit.proofs.LanguageRuns as language_runs
 use Rattle.bk_kit.proofs.OcodeEnds.{ends_of_itself}

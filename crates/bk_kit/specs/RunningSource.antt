@@ -1,6 +1,5 @@
 -- What running a source comes to on the way: its segments, a machine that holds them, and what refuses it.
-use Rattle.std.specs.Prelude.{◌≡◌, ℕ, ◌+◌, ◌≤◌, Bool, true, ⊤, List, ◌++◌, Option, None, Result, Err, map}
-use Rattle.bk_base.specs.declared.run_end.End.{End}
+use Rattle.std.specs.Prelude.{◌≡◌, ℕ, ◌+◌, ◌≤◌, Bool, true, ⊤, List, ◌++◌, Option, None, Err, map}
 use Rattle.bk_intcode.specs.declared.item.Item.{Item}
 use Rattle.bk_intcode.specs.declared.machine.Machine.{Machine}
 use Rattle.bk_intcode.specs.State.{store_of, registers_of, end_of}

@@ -19,7 +19,7 @@ use Rattle.bk_trans.specs.Scheme.{scheme}
 use Rattle.bk_meaning.specs.Environment.{objects_of_declarations}
 use Rattle.bk_meaning.specs.Lasting.{Lasting, global_vector, words, code, of_declarations, of_sections}
 use Rattle.bk_simulation.specs.Placement.{IsAccepted, AreAccepted, StandFor}
-use Rattle.bk_simulation.proofs.Memory.{BaseOf}
+use Rattle.bk_simulation.proofs.Memory.{BaseOf, one_base}
 use Rattle.bk_simulation.proofs.PlacedRests.{entry_settled}
 use Rattle.bk_simulation.proofs.Sought.{with_names}
 use Rattle.bk_simulation.proofs.Laid.{Setting}
@@ -227,9 +227,6 @@ split [] ys o x e = inr (o, omega arith, e)
 split (y ∷ xs) ys zero x e = inl e
 split (y ∷ xs) ys (suc o) x e =
     ⊎_elim (λ (h : slice_get xs o ≡ Some x). inl h) (λ (h : (p : ℕ) × (o ≡ length xs + p) × (slice_get ys p ≡ Some x)). let q = h.1 in inr (h.0, omega (arith, q), h.2)) (split xs ys o x e)
-
-one_base : (bases : List ℕ) (o b c : ℕ) → BaseOf bases o b → BaseOf bases o c → b ≡ c
-one_base bases o b c h i = let e : Some b ≡ Some c = sym h ∙ i in cc
 
 -- an object of a section from k on
 record Later (g : Setting) (k o : ℕ) : Type 0 where

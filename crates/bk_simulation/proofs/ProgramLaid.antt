@@ -12,7 +12,7 @@ use Rattle.bk_meaning.specs.Values.{stop, rdch, wrch, newline, writes, writen, w
 use Rattle.bk_meaning.specs.Environment.{objects_of_declarations}
 use Rattle.bk_meaning.specs.Lasting.{Lasting, Procedure, global_vector, words, code, of_sections, program_of, procedure_of, procedure_in}
 use Rattle.bk_simulation.specs.Placement.{AreAccepted, StandFor}
-use Rattle.bk_simulation.proofs.Memory.{Codes, BaseOf}
+use Rattle.bk_simulation.proofs.Memory.{Codes, BaseOf, one_base}
 use Rattle.bk_simulation.proofs.Laid.{Setting}
 use Rattle.bk_simulation.proofs.Held.{HeldWord, HeldOne, HeldList}
 use Rattle.bk_simulation.proofs.HeldData.{get_behind}
@@ -142,9 +142,6 @@ part_at : (xs : List Lasting) (o : ℕ) (x : Lasting) → AreParts xs → slice_
 part_at [] o x h e = absurd (cc)
 part_at (y ∷ ys) zero x h e = let same : y ≡ x = (let k : Some y ≡ Some x = e in cc) in subst IsPart same h.0
 part_at (y ∷ ys) (suc o) x h e = part_at ys o x h.1 e
-
-one_base : (bases : List ℕ) (o b c : ℕ) → BaseOf bases o b → BaseOf bases o c → b ≡ c
-one_base bases o b c h i = let e : Some b ≡ Some c = sym h ∙ i in cc
 
 entry_holds : (g : Setting) (global : Option ℕ) (o b : ℕ) → BaseOf g.lasting o b → HeldWord g o global → HoldsEntry g.program g.first g.codes global o b
 entry_holds g None o b base h = let d = h.2 in (d.number, d.datum, d.at, d.placed ∙ one_base g.lasting o h.0 b h.1 base, d.is)

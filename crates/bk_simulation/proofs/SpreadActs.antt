@@ -1,5 +1,5 @@
 -- The strings of commands: each stands in a statement of its own.
-use Rattle.std.proofs.Common.{◌≡◌, ℕ, zero, suc, ◌+◌, ◌≤◌, true, List, [], ◌∷◌, ◌++◌, length, refl, sym, subst, arith}
+use Rattle.std.proofs.Common.{◌≡◌, ℕ, zero, suc, ◌+◌, ◌≤◌, true, List, [], ◌∷◌, ◌++◌, length, refl, sym, subst, arith, length-append}
 use Rattle.bk_base.specs.Word.{signed}
 use Rattle.bk_syntax.specs.declared.tree.Simple.TheVariants as simple
 use Rattle.bk_syntax.specs.Tree as t
@@ -19,7 +19,7 @@ use Rattle.bk_meaning.proofs.Numbers.{expression_counted, each_counted, action_c
 use Rattle.bk_meaning.proofs.Standing.{labelled-next, in_scope-next}
 use Rattle.bk_simulation.proofs.Laid.{Setting, Scene, pushes, Stretch, ByTurns, in_loop, in_switch, in_for as in_for_scene, owning, AreFrom, AreStores, IsAct, AreActs}
 use Rattle.bk_simulation.proofs.Held.{HeldIn}
-use Rattle.bk_simulation.proofs.StringCounts.{Form, strings_at, Span, times, in_spans, AreSpread, spread_append, times_both, spans_both, forms_both, Spread, Same, by_path, same_on, spread_none, spread_top, spread_bottom, spread_both, spread_back, spread_as}
+use Rattle.bk_simulation.proofs.StringCounts.{Form, strings_at, Span, times, in_spans, AreSpread, spread_append, times_both, spans_both, Spread, Same, by_path, same_on, spread_none, spread_top, spread_bottom, spread_both, spread_back, spread_as}
 use Rattle.bk_simulation.proofs.StringForms.{forms, forms_of_each, forms_of_action, forms_of_actions, test_plain, Numbered, later, same_numbers, held_front, held_back, held_third, spread_three, IsOwn}
 use Rattle.bk_simulation.proofs.Weights.{weight_among, weight_in, weight_through}
 use Rattle.bk_simulation.proofs.SpreadValues.{ActsSpread, code_spread, values_spread, store_spread}
@@ -57,8 +57,8 @@ turned_more g own c c1 c2 rest i m m1 fs fs1 j n n1 hs hs1 v u w =
     let l1 = w.long in
     let r = v.long in
     let r1 = w.long_too in
-    let t = forms_both fs fs1 in
-    let t1 = forms_both hs hs1 in
+    let t = length-append fs fs1 in
+    let t1 = length-append hs hs1 in
     record {
       keys = u.keys ++ w.keys;
       others = v.keys ++ w.others;
@@ -84,7 +84,7 @@ turned_all : (g : Setting) (own : Placed) (c rest : List Stmt) (i m n : ℕ) (fs
 turned_all g own c rest i m n fs hs a =
     let l = a.long in
     let r = a.long_too in
-    let t = forms_both fs hs in
+    let t = length-append fs hs in
     record {
       keys = a.keys ++ a.others;
       spans = a.spans ++ a.more;

@@ -1,5 +1,5 @@
 -- Strings of statements, counted: what is known of the strings in code, and of the procedures declared in it.
-use Rattle.std.proofs.Common.{◌≡◌, ℕ, suc, ◌+◌, ◌≤◌, ◌==◌, cond, List, [], ◌∷◌, ◌++◌, length, Some, slice_get, drop, refl, sym, ap, ◌∙◌, subst, arith}
+use Rattle.std.proofs.Common.{◌≡◌, ℕ, suc, ◌+◌, ◌≤◌, ◌==◌, cond, List, [], ◌∷◌, ◌++◌, length, Some, slice_get, drop, refl, sym, ap, ◌∙◌, subst, arith, length-append}
 use Rattle.bk_ocode.specs.OcodeState.{Placed}
 use Rattle.bk_ocode.specs.declared.stmt.Stmt.{Stmt}
 use Rattle.bk_ocode.specs.declared.stmt.Stmt.TheVariants.{Text, Entry}
@@ -71,10 +71,6 @@ pub spans_both : (q : ℕ) (xs ys : List Span) → in_spans q (xs ++ ys) ≡ in_
 spans_both q [] ys = omega arith
 spans_both q (x ∷ xs) ys = let h = spans_both q xs ys in omega (arith, h)
 
-pub forms_both : (xs ys : List Form) → length (xs ++ ys) ≡ length xs + length ys
-forms_both [] ys = omega arith
-forms_both (x ∷ xs) ys = let h = forms_both xs ys in omega (arith, h)
-
 -- Code of a section from here to there: the strings in it, and in the procedures that are declared in it, for objects from number i
 -- on. No string is counted more often than it stands there.
 pub record Spread (g : Setting) (own : Placed) (c rest : List Stmt) (i m : ℕ) (fs : List Form) : Type 0 where
@@ -126,7 +122,7 @@ pub spread_both : (g : Setting) (own : Placed) (c c1 rest : List Stmt) (i m n : 
 spread_both g own c c1 rest i m n fs hs a b =
     let l = a.long in
     let r = b.long in
-    let t = forms_both fs hs in
+    let t = length-append fs hs in
     record {
       keys = a.keys ++ b.keys;
       spans = a.spans ++ b.spans;
@@ -139,7 +135,7 @@ pub spread_back : (g : Setting) (own : Placed) (c c1 rest : List Stmt) (i m n : 
 spread_back g own c c1 rest i m n fs hs a b =
     let l = a.long in
     let r = b.long in
-    let t = forms_both fs hs in
+    let t = length-append fs hs in
     record {
       keys = a.keys ++ b.keys;
       spans = a.spans ++ b.spans;
