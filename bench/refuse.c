@@ -1,4 +1,5 @@
-/* Refuses one request for memory: the one whose number the variable REFUSE gives. Loaded before the C library. */
+/* Refuses one request for memory: the one whose number the variable REFUSE gives, and where REFUSE_ON is set each one behind it.
+ * Loaded before the C library. */
 #include <errno.h>
 #include <stddef.h>
 #include <stdlib.h>
@@ -9,13 +10,18 @@ extern void *__libc_realloc(void *, size_t);
 extern void *__libc_memalign(size_t, size_t);
 
 static long left = -1;
+static int on;
 
 static int refused(void) {
     if (left < 0) {
         const char *number = getenv("REFUSE");
         left = number ? atol(number) : 0;
+        on = getenv("REFUSE_ON") != NULL;
     }
-    return left > 0 && --left == 0;
+    if (left > 1 || !on) {
+        return left > 0 && --left == 0;
+    }
+    return left == 1;
 }
 
 void *malloc(size_t n) { return refused() ? NULL : __libc_malloc(n); }

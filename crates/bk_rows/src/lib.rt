@@ -4,11 +4,15 @@
 #[cfg(test)]
 mod command_rows;
 #[cfg(test)]
+mod device_rows;
+#[cfg(test)]
 mod devices;
 #[cfg(test)]
 mod fault_rows;
 #[cfg(test)]
 mod filter_rows;
+#[cfg(test)]
+mod hostile_rows;
 pub mod outcome;
 #[cfg(test)]
 mod program_rows;

@@ -1,0 +1,26 @@
+# Completion of bcpl for bash.
+_bcpl() {
+    local word=${COMP_WORDS[COMP_CWORD]} before=${COMP_WORDS[COMP_CWORD - 1]} options ending
+    local subcommands='compile generate run interpret help'
+    COMPREPLY=()
+    if [ "$COMP_CWORD" -eq 1 ]; then
+        mapfile -t COMPREPLY < <(compgen -W "$subcommands -h --help" -- "$word")
+        return
+    fi
+    case $before in
+        -s|-t) return ;;
+    esac
+    case ${COMP_WORDS[1]} in
+        help) mapfile -t COMPREPLY < <(compgen -W "$subcommands" -- "$word"); return ;;
+        compile|generate) mapfile -t COMPREPLY < <(compgen -W '-h --help' -- "$word"); return ;;
+        run) options='-s -t -h --help' ending=b ;;
+        interpret) options='-s -t --sizes -h --help' ending=int ;;
+        *) return ;;
+    esac
+    case $word in
+        -*) mapfile -t COMPREPLY < <(compgen -W "$options" -- "$word") ;;
+        *) compopt -o filenames
+           mapfile -t COMPREPLY < <(compgen -f -X "!*.$ending" -- "$word"; compgen -d -- "$word") ;;
+    esac
+}
+complete -F _bcpl bcpl ./bcpl

@@ -1,0 +1,2 @@
+" BCPL sources end in .b
+au BufRead,BufNewFile *.b set filetype=bcpl
