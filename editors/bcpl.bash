@@ -1,10 +1,10 @@
 # Completion of bcpl for bash.
 _bcpl() {
-    local word=${COMP_WORDS[COMP_CWORD]} before=${COMP_WORDS[COMP_CWORD - 1]} options ending
+    local word=${COMP_WORDS[COMP_CWORD]} before=${COMP_WORDS[COMP_CWORD - 1]} options='-h --help -V --version' ending
     local subcommands='compile generate run interpret help'
     COMPREPLY=()
     if [ "$COMP_CWORD" -eq 1 ]; then
-        mapfile -t COMPREPLY < <(compgen -W "$subcommands -h --help" -- "$word")
+        mapfile -t COMPREPLY < <(compgen -W "$subcommands $options" -- "$word")
         return
     fi
     case $before in

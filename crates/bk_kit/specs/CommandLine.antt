@@ -49,10 +49,14 @@ run_command = with_rule (with_rule (with_rule (new_app (codes "run")) store_rule
 abbrev pub interpret_command : App
 interpret_command = with_rule (with_rule (with_rule (with_rule (new_app (codes "interpret")) store_rule) steps_rule) sizes_rule) file_rule
 
--- `bcpl`
+-- `Command::version`
+abbrev pub with_version : App → App
+with_version app = record app { top = record app.top { has_version = true } }
+
+-- `bcpl`, which tells its version
 abbrev pub kit_command : App
 kit_command =
-    with_subcommand (with_subcommand (with_subcommand (with_subcommand (new_app (codes "bcpl")) compile_command.top) generate_command.top) run_command.top) interpret_command.top
+    with_version (with_subcommand (with_subcommand (with_subcommand (with_subcommand (new_app (codes "bcpl")) compile_command.top) generate_command.top) run_command.top) interpret_command.top)
 
 -- the name of FILE; the filters have none
 abbrev pub file_name : Order → Option (List ℕ)

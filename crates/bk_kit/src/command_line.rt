@@ -11,10 +11,71 @@ use clap::{Arg, ArgAction, ArgMatches, Command, value_parser};
 use std::alloc::{AllocError, Global};
 use std::convert::AsStr;
 
+/// The version that `--version` tells.
+const VERSION: &str = "1.0";
+
+/// What stands below the help on all.
+const KIT_NOTES: &str = "\
+Examples:
+  bcpl run examples/queens.b
+  bcpl compile < queens.b > queens.ocode
+  bcpl generate < queens.ocode > queens.int
+  bcpl interpret queens.int
+
+Exit statuses:
+  0 to 99  The program called STOP with this number. It is 0 where the program
+           ended by itself, and where a filter took all of its input.
+  100      The program called STOP with any other number.
+  101      The source is refused.
+  102      The OCODE is refused.
+  103      The INTCODE is refused.
+  104      The program divided by zero.
+  105      The store was too small, or the program left it.
+  106      The steps of the run were used up.
+  107      The program came to a word that is no operation.
+  108      There is no START.
+  109      FILE or the input could not be read.
+  110      The output could not be written.
+  111      There was no memory.
+  112      The command line is bad.
+From 101 on one line on the error stream says what happened.";
+
+/// What stands below the help on `compile`.
+const COMPILE_NOTES: &str = "\
+A section is written once it is accepted. The first one that is refused ends the
+text; a line on the error stream says why.
+
+Example:
+  bcpl compile < queens.b > queens.ocode";
+
+/// What stands below the help on `generate`.
+const GENERATE_NOTES: &str = "\
+A segment is written for each section that is accepted. The first one that is
+refused ends the text; a line on the error stream says why.
+
+Example:
+  bcpl generate < queens.ocode > queens.int";
+
+/// What stands below the help on `run`.
+const RUN_NOTES: &str = "\
+Nothing is run of a source that is refused.
+
+Examples:
+  bcpl run examples/queens.b
+  echo '2 * (3 + 4)' | bcpl run -s 8192 -t 100000 examples/calculator.b";
+
+/// What stands below the help on `interpret`.
+const INTERPRET_NOTES: &str = "\
+Nothing is run of a text that is refused.
+
+Examples:
+  bcpl interpret queens.int
+  bcpl interpret --sizes queens.int";
+
 /// Why a command line gives no order.
 #[derive(Debug, Drop)]
 pub enum LineFault {
-    /// Help was asked for; this is its text.
+    /// Help or the version was asked for; this is its text.
     Help(clap::Error),
     /// The words are no command of the kit.
     Bad,
@@ -66,7 +127,9 @@ fn sizes_flag<'a>(alloc: Global) -> Arg<'a>
 {
     Arg::new(alloc, "sizes")
         .long("sizes")
-        .help("Tell the words of the image and of the greatest frame, and run nothing")
+        .help(
+            "Write how many words stand before the stack and the greatest frame has, and run nothing",
+        )
         .action(ArgAction::SetTrue)
 }
 
@@ -86,16 +149,18 @@ fn file_argument<'a>(alloc: Global, help: &'a str) -> Arg<'a>
 fn compile_subcommand<'a>(alloc: Global) -> Command<'a>
     ensures { (app_of result ≡ compile_command) × ((fields_of result).has_globals ≡ false) }
 {
-    Command::new(alloc, "compile").about("Compiles BCPL to OCODE, from the input to the output")
+    Command::new(alloc, "compile")
+        .after_help(COMPILE_NOTES)
+        .about("Compiles the BCPL source of the input, and writes its OCODE to the output.")
 }
 
 /// `generate`
 fn generate_subcommand<'a>(alloc: Global) -> Command<'a>
     ensures { (app_of result ≡ generate_command) × ((fields_of result).has_globals ≡ false) }
 {
-    Command::new(alloc, "generate").about(
-        "Generates INTCODE from OCODE, from the input to the output",
-    )
+    Command::new(alloc, "generate")
+        .after_help(GENERATE_NOTES)
+        .about("Generates INTCODE from the OCODE of the input, and writes it to the output.")
 }
 
 /// `run`
@@ -107,7 +172,8 @@ fn run_subcommand<'a>(alloc: Global) -> Result<Command<'a>, AllocError>
             .arg(store_option(alloc))?
             .arg(steps_option(alloc))?
             .arg(file_argument(alloc, "The BCPL source"))?
-            .about("Runs a BCPL source: input and output are those of the program"),
+            .after_help(RUN_NOTES)
+            .about("Runs the BCPL source in FILE. Input and output are those of the program."),
     )
 }
 
@@ -121,7 +187,8 @@ fn interpret_subcommand<'a>(alloc: Global) -> Result<Command<'a>, AllocError>
             .arg(steps_option(alloc))?
             .arg(sizes_flag(alloc))?
             .arg(file_argument(alloc, "The INTCODE"))?
-            .about("Runs INTCODE: input and output are those of the program"),
+            .after_help(INTERPRET_NOTES)
+            .about("Runs the INTCODE in FILE. Input and output are those of the program."),
     )
 }
 
@@ -135,7 +202,10 @@ fn kit<'a>(alloc: Global) -> Result<Command<'a>, AllocError>
             .subcommand(generate_subcommand(alloc))?
             .subcommand(run_subcommand(alloc)?)?
             .subcommand(interpret_subcommand(alloc)?)?
-            .about("A portable BCPL kit"),
+            .version(VERSION)
+            .bin_name("bcpl")?
+            .after_help(KIT_NOTES)
+            .about("Compiles BCPL to OCODE, generates INTCODE from OCODE, and runs INTCODE."),
     )
 }
 
@@ -209,15 +279,15 @@ fn order_of(alloc: Global, name: &str, matches: &ArgMatches<'_>) -> Result<Order
 fn fault_of(error: clap::Error) -> LineFault {
     match error.kind() {
         ErrorKind::OutOfMemory => LineFault::Memory,
-        ErrorKind::DisplayHelp => LineFault::Help(error),
+        ErrorKind::DisplayHelp | ErrorKind::DisplayVersion => LineFault::Help(error),
         _ => LineFault::Bad,
     }
 }
 
 /// What the words of a command line ask for. The first word is the name of the program.
 ///
-/// `Help` is answered where help is asked for, `Bad` where the words are no command of the kit, a number outside the
-/// limits included.
+/// `Help` is answered where help or the version is asked for, `Bad` where the words are no command of the kit, a number
+/// outside the limits included.
 pub fn order<S: AsStr>(alloc: Global, words: &[S]) -> Result<Order, LineFault>
     // The values are those that the command of `kit_command` reads from the words.
     ensures reads { IfOk result (Reads (subcommand_of kit_command (map S.text words.now))) }

@@ -23,7 +23,6 @@ use Rattle.bk_lex.specs.declared.counting.State.{State}
 use Rattle.bk_lex.specs.Bytes.{is_letter, is_digit, is_blank}
 use Rattle.bk_lex.specs.Signs.{spelling, sign_kind}
 use Rattle.bk_lex.specs.Machine.{fresh, end_fault}
-use Rattle.bk_lex.specs.Reserved.{word_code}
 use Rattle.bk_lex.specs.Insertion.{inserted}
 use Rattle.bk_lex.specs.Counting.{state, room_for, least_room, header_rest}
 use Rattle.bk_lex.specs.Header.{header_symbols}
@@ -203,7 +202,7 @@ gap_sort : (k : Sort) (t : List ℕ) → is_dot_sort k ≡ false → what_of k t
 gap_sort blank t d e = refl
 gap_sort comment t d e = refl
 gap_sort dot t d e = absurd cc
-gap_sort word t d e = no_gap (what_of word t) _ (word_counted (word_code t)) e
+gap_sort word t d e = no_gap (what_of word t) _ (word_counted t) e
 gap_sort (number base) t d e = absurd cc
 gap_sort (bracket side) t d e = no_gap (what_of (bracket side) t) _ (bracket_counted side) e
 gap_sort string t d e = absurd cc

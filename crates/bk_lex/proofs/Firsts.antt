@@ -1,9 +1,11 @@
 -- The first byte of a piece that is put, and how many symbols it asks for and gets.
-use Rattle.std.proofs.Common.{◌≡◌, ℕ, ◌+◌, ◌-◌, ◌≤◌, Bool, true, false, cond, ◌&&◌, ◌||◌, eqb, List, [], ◌∷◌, ◌++◌, length, Option, Some, None, Ok, refl, sym, ap, subst, ◌∙◌, arith, inl, inr}
+use Rattle.std.proofs.Common.{◌≡◌, ℕ, ◌+◌, ◌-◌, ◌≤◌, Bool, true, false, cond, ◌&&◌, ◌||◌, eqb, List, [], ◌∷◌, ◌++◌, map, length, Option, Some, None, Ok, refl, sym, ap, subst, ◌∙◌, arith, inl, inr}
 use Rattle.std.proofs.lemmas.List.{length-append}
 use Rattle.bk_lex.specs.Symbol.{Symbol, symbol}
 use Rattle.bk_lex.specs.Signs.{spelling, sign_kind, is_slash}
-use Rattle.bk_lex.specs.Reserved.{Entry, reserved, find_word, word_what, word_code}
+use Rattle.std.specs.Str.{bytes_eq}
+use Rattle.std.specs.Char.{to_ascii_uppercase}
+use Rattle.bk_lex.specs.ReservedWords.{Reserved, reserved_words, find_letters, word_named}
 use Rattle.bk_lex.specs.declared.token.Kind.{Kind}
 use Rattle.bk_lex.specs.declared.token.Kind.TheVariants as kinds
 use Rattle.bk_lex.specs.declared.sign.Sign.{Sign}
@@ -112,20 +114,20 @@ at_first : (t : List ℕ) (w : What) (m : Mode) (b : ℕ) (bs : List ℕ) → t 
 at_first t w m b bs e h = (m, b, bs, e, h)
 
 -- no reserved word is a gap
-abbrev AllCounted : List Entry → Type 0
+abbrev AllCounted : List Reserved → Type 0
 AllCounted [] = Unit {0}
-AllCounted (e ∷ es) = IsCounted e.what × AllCounted es
+AllCounted (r ∷ rs) = IsCounted r.what × AllCounted rs
 
-found_counted : (es : List Entry) (code : ℕ) → AllCounted es → IsCounted (find_word es code)
-found_counted [] code h = tt
-found_counted (e ∷ es) code h = pick (eqb e.code code) (found_counted es code h.1)
+found_counted : (rs : List Reserved) (letters : List ℕ) → AllCounted rs → IsCounted (find_letters rs letters)
+found_counted [] letters h = tt
+found_counted (r ∷ rs) letters h = pick (bytes_eq letters r.letters) (found_counted rs letters h.1)
   where
-    pick : (b : Bool) → IsCounted (find_word es code) → IsCounted (cond b e.what (find_word es code))
+    pick : (b : Bool) → IsCounted (find_letters rs letters) → IsCounted (cond b r.what (find_letters rs letters))
     pick true rest = h.0
     pick false rest = rest
 
-pub word_counted : (code : ℕ) → IsCounted (word_what code)
-word_counted code = found_counted reserved code (search)
+pub word_counted : (text : List ℕ) → IsCounted (word_named text)
+word_counted text = found_counted reserved_words (map to_ascii_uppercase text) (search)
 
 pub bracket_counted : (side : Side) → IsCounted (bracket_what side)
 bracket_counted Opening = tt
@@ -172,7 +174,7 @@ piece_begins blank t h d = at_first t _ Blank h.0 [] h.1 (gap_begun Blank h.0 (b
 piece_begins comment t h d = at_first t _ (Mark signs.Slash) 47 (47 ∷ h.0) h.1 (gap_begun (Mark signs.Slash) 47 refl (λ x. refl) refl refl)
 piece_begins dot t h d = absurd (let z : true ≡ false = d in cc)
 piece_begins word [] h d = absurd h
-piece_begins word (b ∷ bs) h d = at_first (b ∷ bs) _ _ b bs refl (one_begun _ (word_what (word_code (b ∷ bs))) b (letter_goes b h.0) (λ x. refl) refl (word_counted (word_code (b ∷ bs))))
+piece_begins word (b ∷ bs) h d = at_first (b ∷ bs) _ _ b bs refl (one_begun _ (word_named (b ∷ bs)) b (letter_goes b h.0) (λ x. refl) refl (word_counted (b ∷ bs)))
 piece_begins (number base) t h d = number_begins base t h
 piece_begins (bracket side) t h d = at_first t _ Dollar 36 _ h.1 (one_begun Dollar (bracket_what side) 36 refl (λ x. refl) refl (bracket_counted side))
 piece_begins string t h d = at_first t _ (Text 0) 34 _ h.2 (one_begun (Text 0) _ 34 refl (λ x. refl) refl tt)

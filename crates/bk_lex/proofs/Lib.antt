@@ -28,3 +28,4 @@ pub mod Ranks
 pub mod Earliest
 pub mod Certain
 pub mod Letters
+pub mod WordsNamed

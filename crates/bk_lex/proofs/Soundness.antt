@@ -17,6 +17,7 @@ use Rattle.bk_lex.specs.declared.counting.Step.{Step}
 use Rattle.bk_lex.specs.declared.counting.Ended.{Ended}
 use Rattle.bk_lex.specs.Insertion.{inserted}
 use Rattle.bk_lex.specs.Reserved.{word_what}
+use Rattle.bk_lex.proofs.WordsNamed.{named_by_letters}
 use Rattle.bk_lex.specs.Machine.{piece}
 use Rattle.bk_lex.specs.Counting.{state, within, ended_what, ended_as, room_for, stepped, ◌>>=◌}
 use Rattle.bk_lex.specs.Lexing.{Section, Reading, read, read_on, put_on, at, get_line_after, inserted_symbols}
@@ -143,7 +144,7 @@ pub piece_is : (m : Mode) (k : Sort) (t : List ℕ) → Reads m t → sort_of m 
 piece_is Blank k t h e = let same : blank ≡ k = cc in ap (λ (x : Sort). what_of x t) same
 piece_is Comment k t h e = let same : comment ≡ k = cc in ap (λ (x : Sort). what_of x t) same
 piece_is Dot k t h e = let same : dot ≡ k = cc in ap (λ (x : Sort). what_of x t) same
-piece_is (Word n code) k t h e = let same : word ≡ k = cc in ap word_what h.2 ∙ ap (λ (x : Sort). what_of x t) same
+piece_is (Word n code) k t h e = let same : word ≡ k = cc in ap word_what h.2 ∙ named_by_letters t h.0 ∙ ap (λ (x : Sort). what_of x t) same
 piece_is (Number base v) k t h e = let same : number base ≡ k = cc in ap (λ (x : Sort). what_of x t) same
 piece_is (Bracket side n) k t h e = let same : bracket side ≡ k = cc in ap (λ (x : Sort). what_of x t) same
 piece_is TextEnd k t h e = let same : string ≡ k = cc in ap (λ (x : Sort). what_of x t) same

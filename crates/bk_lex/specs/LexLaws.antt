@@ -1,8 +1,7 @@
 -- Laws of sections.
-use Rattle.std.specs.Prelude.{ℕ, ◌<◌, ◌≡◌, true, nat_lt, List, map, Ok}
-use Rattle.std.specs.List.{list_all}
-use Rattle.std.specs.Char.{to_ascii_uppercase}
-use Rattle.bk_lex.specs.Reserved.{Entry, reserved, word_code}
+use Rattle.std.specs.Prelude.{ℕ, ◌≡◌, List, Ok}
+use Rattle.bk_lex.specs.ReservedWords.{word_named}
+use Rattle.bk_lex.specs.Reserved.{word_code, word_what}
 use Rattle.bk_lex.specs.Pieces.{IsWord}
 use Rattle.bk_lex.specs.Lexing.{Section, lexed}
 use Rattle.bk_lex.specs.Tokens.{IsSection}
@@ -20,7 +19,6 @@ HasOneSection = (text : List ℕ) (from : ℕ) (s t : Section) → IsSection tex
 abbrev pub HasSectionWithoutFault : Type 0
 HasSectionWithoutFault = (text : List ℕ) (from : ℕ) → ((s : Section) → IsSection text from s → NoFault from text) × (NoFault from text → (s : Section) × IsSection text from s)
 
--- Words with one code have the same letters, in any case, where the code is not 0; no reserved word has the code 0.
+-- What is found of a word by the code of its letters is what its letters are.
 abbrev pub CodeHasItsLetters : Type 0
-CodeHasItsLetters = ((t u : List ℕ) → IsWord t → IsWord u → word_code t ≡ word_code u → 0 < word_code u → map to_ascii_uppercase t ≡ map to_ascii_uppercase u)
-    × (list_all (λ (e : Entry). nat_lt 0 e.code) reserved ≡ true)
+CodeHasItsLetters = (text : List ℕ) → IsWord text → word_what (word_code text) ≡ word_named text

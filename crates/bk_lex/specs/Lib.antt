@@ -1,6 +1,7 @@
 pub mod Symbol
 pub mod Bytes
 pub mod Signs
+pub mod ReservedWords
 pub mod Reserved
 pub mod Machine
 pub mod Header

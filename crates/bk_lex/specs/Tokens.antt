@@ -5,7 +5,7 @@ use Rattle.std.specs.Str.{bytes_eq}
 use Rattle.std.specs.Char.{to_ascii_uppercase}
 use Rattle.bk_lex.specs.Symbol.{Symbol, symbol}
 use Rattle.bk_lex.specs.Signs.{sign_kind}
-use Rattle.bk_lex.specs.Reserved.{word_what, word_code}
+use Rattle.bk_lex.specs.ReservedWords.{word_named}
 use Rattle.bk_lex.specs.Machine.{bracket_what}
 use Rattle.bk_lex.specs.Insertion.{inserted}
 use Rattle.bk_lex.specs.Header.{header_symbols}
@@ -23,7 +23,7 @@ abbrev pub what_of : Sort → List ℕ → What
 what_of blank text = whats.Gap
 what_of comment text = whats.Gap
 what_of dot text = whats.Gap
-what_of word text = word_what (word_code text)
+what_of word text = word_named text
 what_of (number base) text = whats.Symbol kinds.Number
 what_of (bracket side) text = bracket_what side
 what_of string text = whats.Symbol kinds.Text

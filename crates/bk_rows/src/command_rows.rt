@@ -332,7 +332,9 @@ fn command_lines_taken(rt: HostRuntime) -> Result<(), Fail> {
 
 #[test]
 fn help(rt: HostRuntime) -> Result<(), Fail> {
-    let rows: [&[&str]; 6] = [
+    let rows: [&[&str]; 8] = [
+        &["bcpl", "-V"],
+        &["x", "--version"],
         &["bcpl", "-h"],
         &["bcpl", "--help"],
         &["bcpl", "help"],

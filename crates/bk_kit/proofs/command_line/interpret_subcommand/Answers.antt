@@ -12,4 +12,4 @@ returns c =
     let third = c.in_ok-arg-3.ensures.shape c.sizes_flag.ensures.local ∙ ap₂ with_rule second c.sizes_flag.ensures.rule in
     let fourth : app_of c.in_ok-arg-4.field-0 ≡ interpret_command = c.in_ok-arg-4.ensures.shape c.file_argument.ensures.local ∙ ap₂ with_rule third c.file_argument.ensures.rule in
     let globals : (fields_of c.in_ok-arg-4.field-0).has_globals ≡ false = search rules in
-    (ap app_of_fields c.about.ensures ∙ fourth, ap (λ f. f.has_globals) c.about.ensures ∙ globals)
+    (ap app_of_fields c.about.ensures ∙ ap app_of_fields c.after_help.ensures ∙ fourth, ap (λ f. f.has_globals) c.about.ensures ∙ ap (λ f. f.has_globals) c.after_help.ensures ∙ globals)

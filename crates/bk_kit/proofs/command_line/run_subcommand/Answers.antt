@@ -11,4 +11,4 @@ returns c =
     let second = c.in_ok-arg-2.ensures.shape c.steps_option.ensures.local ∙ ap₂ with_rule first c.steps_option.ensures.rule in
     let third : app_of c.in_ok-arg-3.field-0 ≡ run_command = c.in_ok-arg-3.ensures.shape c.file_argument.ensures.local ∙ ap₂ with_rule second c.file_argument.ensures.rule in
     let globals : (fields_of c.in_ok-arg-3.field-0).has_globals ≡ false = search rules in
-    (ap app_of_fields c.about.ensures ∙ third, ap (λ f. f.has_globals) c.about.ensures ∙ globals)
+    (ap app_of_fields c.about.ensures ∙ ap app_of_fields c.after_help.ensures ∙ third, ap (λ f. f.has_globals) c.about.ensures ∙ ap (λ f. f.has_globals) c.after_help.ensures ∙ globals)
