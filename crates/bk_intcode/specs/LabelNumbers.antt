@@ -1,7 +1,8 @@
 -- What a table of labels shows.
-use Rattle.std.specs.Prelude.{ℕ, nat_eq, unwrap_or}
-use Rattle.indexmap.specs.IndexMap.{get}
+use Rattle.std.specs.Prelude.{ℕ, unwrap_or}
+use Rattle.std.specs.BTreeMap.{get}
+use Rattle.std.specs.Ordering.{nat_cmp}
 use Rattle.bk_intcode.specs.declared.labels.Labels.{Labels}
 
 abbrev pub number_of : Labels → ℕ → ℕ
-number_of labels label = unwrap_or (get nat_eq labels.numbers label) labels.end
+number_of labels label = unwrap_or (get nat_cmp labels.numbers label) labels.end

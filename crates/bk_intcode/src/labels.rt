@@ -1,22 +1,23 @@
 //! The numbers of a segment's labels.
-ghost use Rattle.std.specs.Prelude.{◌≡◌, ℕ, ◌≤◌, ◌==◌, nat_eq, OnOk, unwrap_or, if◌then◌else◌};
-ghost use Rattle.indexmap.specs.IndexMap.{get};
+ghost use Rattle.std.specs.Prelude.{◌≡◌, ℕ, ◌≤◌, ◌==◌, OnOk, unwrap_or, if◌then◌else◌};
+ghost use Rattle.std.specs.BTreeMap.{get};
+ghost use Rattle.std.specs.Ordering.{nat_cmp};
 ghost use Rattle.bk_base.specs.declared.limit.TheConstants.{STORE_MOST};
 
 use crate::extent::Extent;
 use crate::item::Item;
 use bk_base::limit;
-use indexmap::IndexMap;
 use std::alloc::{AllocError, Global};
+use std::collections::BTreeMap;
 
 /// The numbers of a segment's labels.
 #[derive(Drop)]
 pub(crate) struct Labels {
     /// By label that is set: its number.
-    numbers: IndexMap<u32, u32>,
+    numbers: BTreeMap<u32, u32>,
     /// The address behind the segment, the number of each label that is not set.
     end: u32,
-    ghost within: { (label : ℕ) → unwrap_or (get nat_eq numbers label) end ≤ STORE_MOST },
+    ghost within: { (label : ℕ) → unwrap_or (get nat_cmp numbers label) end ≤ STORE_MOST },
 }
 
 impl Labels {
@@ -38,7 +39,7 @@ impl Labels {
         requires room { end ≤ STORE_MOST }
         ensures { IfOk result (λ labels. (label : ℕ) → number_of labels label ≡ label_number start items.now label) }
     {
-        let mut numbers = IndexMap::new(alloc);
+        let mut numbers = BTreeMap::new(alloc);
         let mut extent = Extent::at(start);
         for item in items {
             if let Item::SetLabel(label) = *item {
@@ -60,9 +61,9 @@ impl Labels {
 }
 
 /// Gives a label a number.
-fn set_number(numbers: &mut IndexMap<u32, u32>, label: u32, number: u32) -> Result<(), AllocError>
-    ensures { OnOk result ((other unset : ℕ) → unwrap_or (get nat_eq numbers.new other) unset
-        ≡ (if other == label then number else unwrap_or (get nat_eq numbers.old other) unset)) }
+fn set_number(numbers: &mut BTreeMap<u32, u32>, label: u32, number: u32) -> Result<(), AllocError>
+    ensures { OnOk result ((other unset : ℕ) → unwrap_or (get nat_cmp numbers.new other) unset
+        ≡ (if other == label then number else unwrap_or (get nat_cmp numbers.old other) unset)) }
 {
     numbers.insert(label, number).map_err(|_| AllocError)?;
     Ok(())

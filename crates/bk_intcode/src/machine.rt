@@ -43,8 +43,8 @@ impl Machine {
     ghost use Rattle.bk_intcode.specs.State.{store_of, registers_of, end_of, words_of, sizes_of};
 
     /// A machine with the segments in a store of so many words, ready to begin: `TooSmall` where less than 16 words would be
-    /// left for the stack, else `NoStart` where no segment sets global 1; both before anything grows. Its time is linear in
-    /// the items.
+    /// left for the stack, else `NoStart` where no segment sets global 1; both before anything grows. It takes the time
+    /// of a look-up for each item.
     pub fn load(alloc: Global, segments: &[Intcode], words: u32) -> Result<Machine, LoadFault>
         requires least { STORE_LEAST ≤ words }
         requires most { words ≤ STORE_MOST }

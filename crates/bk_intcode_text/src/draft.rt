@@ -8,14 +8,14 @@ ghost use Rattle.bk_intcode_text.specs.Drafts.{IsDraft};
 use bk_base::IntcodeKind;
 use bk_base::limit::INTCODE_ITEMS;
 use bk_intcode::{Intcode, Item, Operand};
-use indexmap::IndexSet;
 use std::alloc::{AllocError, Global};
+use std::collections::BTreeSet;
 
 /// The items so far, the labels that they set, and whether one gives the largest frame.
 #[derive(Drop)]
 pub struct Draft {
     items: Vec<Item>,
-    labels: IndexSet<u32>,
+    labels: BTreeSet<u32>,
     framed: bool,
 }
 
@@ -27,7 +27,7 @@ impl Draft {
     {
         Draft {
             items: Vec::new(alloc),
-            labels: IndexSet::new(alloc),
+            labels: BTreeSet::new(alloc),
             framed: false,
         }
     }

@@ -1,8 +1,8 @@
 -- A statement of which the first words were read.
 use Rattle.std.specs.Prelude.{◌≡◌, ◌≢◌, ℕ, ℤ, FitsSigned, ◌+◌, ◌<◌, ◌≤◌, ◌^◌, ◌||◌, Bool, true, false, List, [], ◌∷◌, ◌++◌, Option, Some, None, length, slice_get, ⊤, codes}
 use Rattle.std.specs.Int.{w32}
-use Rattle.std.specs.Ordering.{int_eq}
-use Rattle.indexmap.specs.IndexSet.{contains}
+use Rattle.std.specs.BTreeSet.{contains}
+use Rattle.std.specs.Ordering.{int_cmp, int_eq}
 use Rattle.bk_base.specs.Decimal.{spelling}
 use Rattle.bk_base.specs.declared.limit.TheConstants.{FRAME_WORDS, GLOBAL_NUMBER, NAME_BYTES}
 use Rattle.bk_ocode.specs.StmtText.{natural_word, label_word, byte_words, case_words, global_words, stmt_words}
@@ -101,7 +101,7 @@ pub record AreCasesUpTo (draft : CaseDraft) : Type 0 where
   pub default : IsLabel draft.default
   pub cases : AreCases draft.cases.items
   pub typed : (k : ℕ) (c : Case) → slice_get draft.cases.items k ≡ Some c → FitsSigned w32 c.value
-  pub values : (value : ℤ) → contains int_eq draft.values value ≡ has_value value draft.cases.items
+  pub values : (value : ℤ) → contains int_cmp draft.values value ≡ has_value value draft.cases.items
   pub counted : draft.count < 2 ^ 31
   pub due : length draft.cases.items ≤ draft.count
 

@@ -1,6 +1,7 @@
 -- What a table says of labels: of one that it lacks, that nothing is known.
-use Rattle.std.specs.Prelude.{ℕ, nat_eq, Option, Some, None}
-use Rattle.indexmap.specs.IndexMap.{get}
+use Rattle.std.specs.Prelude.{ℕ, Option, Some, None}
+use Rattle.std.specs.BTreeMap.{get}
+use Rattle.std.specs.Ordering.{nat_cmp}
 use Rattle.bk_ocode.specs.Context.{fresh}
 use Rattle.bk_ocode.specs.declared.standing.LabelUse.{LabelUse}
 use Rattle.bk_ocode.specs.declared.label_uses.LabelUses.{LabelUses}
@@ -9,5 +10,5 @@ abbrev pub use_or_fresh : Option LabelUse → LabelUse
 use_or_fresh (Some known) = known
 use_or_fresh None = fresh
 
-abbrev pub uses_of : LabelUses → ℕ → LabelUse
-uses_of uses label = use_or_fresh (get nat_eq uses.known label)
+unfoldable pub uses_of : LabelUses → ℕ → LabelUse
+uses_of uses label = use_or_fresh (get nat_cmp uses.known label)

@@ -17,8 +17,8 @@ use crate::keyword::{Keyword, Kind};
 use crate::stmt::{Case, GlobalEntry, Stmt, Variable};
 use bk_base::limit::{FRAME_WORDS, GLOBAL_NUMBER, NAME_BYTES, OCODE_LABEL};
 use bk_words::Gathered;
-use indexmap::IndexSet;
 use std::alloc::Global;
+use std::collections::BTreeSet;
 
 /// The largest number.
 const LARGEST: u32 = 2_147_483_647;
@@ -48,7 +48,7 @@ pub(crate) enum Owner {
 pub(crate) struct CaseDraft {
     default: u32,
     cases: Vec<Case>,
-    values: IndexSet<i32>,
+    values: BTreeSet<i32>,
     count: u32,
 }
 
@@ -368,7 +368,7 @@ fn with_default(count: u32, word: &Gathered, alloc: Global) -> Option<Step>
     Some(cases_step(CaseDraft {
         default,
         cases: Vec::new(alloc),
-        values: IndexSet::new(alloc),
+        values: BTreeSet::new(alloc),
         count,
     }))
 }

@@ -6,13 +6,13 @@ ghost use Rattle.bk_ocode.specs.Context.{fresh, changed, all_changed, what_stand
 
 use crate::standing::{Behind, JumpDepths, LabelUse, Position, Setting};
 use crate::stmt::{Case, Stmt, Variable};
-use indexmap::IndexMap;
 use std::alloc::{AllocError, Global};
+use std::collections::BTreeMap;
 
 /// A table of labels. Of one that it lacks nothing is known.
 #[derive(Drop)]
 pub(crate) struct LabelUses {
-    known: IndexMap<u32, LabelUse>,
+    known: BTreeMap<u32, LabelUse>,
 }
 
 /// What a statement is to the LAB right before it.
@@ -62,15 +62,17 @@ fn least_with(depth: u32, least: Option<u32>) -> Option<u32>
 
 impl LabelUses {
     /// Nothing is known of any label.
+    #[tactic(auto, unfolding(crate::specs::KnownUses::uses_of))]
     pub(crate) fn new(alloc: Global) -> LabelUses
         ensures { uses_of result ≡ (λ label. fresh) }
     {
         LabelUses {
-            known: IndexMap::new(alloc),
+            known: BTreeMap::new(alloc),
         }
     }
 
     /// What is known of a label.
+    #[tactic(auto, unfolding(crate::specs::KnownUses::uses_of))]
     pub(crate) fn of(&self, label: u32) -> LabelUse
         ensures { result ≡ uses_of self.now label }
     {
@@ -81,6 +83,7 @@ impl LabelUses {
     }
 
     /// From now on this is known of a label.
+    #[tactic(auto, unfolding(crate::specs::KnownUses::uses_of))]
     fn put(&mut self, label: u32, known: LabelUse) -> Result<(), AllocError>
         ensures { OnOk result (uses_of self.new ≡ changed label (λ before. known) (uses_of self.old)) }
     {

@@ -1,5 +1,6 @@
-use Rattle.std.proofs.Common.{◌≤◌, eqb, ap, ◌∙◌, arith, take, nat_eq, unwrap_or}
-use Rattle.indexmap.specs.IndexMap.{get}
+use Rattle.std.proofs.Common.{◌≤◌, eqb, ap, ◌∙◌, arith, take, unwrap_or}
+use Rattle.std.specs.BTreeMap.{get}
+use Rattle.std.specs.Ordering.{nat_cmp}
 use Rattle.bk_intcode.proofs.Reaching.{stepped, part-next, reached-size}
 use Rattle.bk_intcode.proofs.Places.{table-set, table-kept, table-all, cond_le}
 use Rattle.bk_intcode.proofs.labels.Labels.of.Goals as goal
@@ -19,7 +20,7 @@ loop-item-preserved c =
         reached = next;
         part = c.with-extent.ensures.part;
         table = rw w.numbers-is
-            (table-set c.args.start c.args.end i w.in-SetLabel.label c.loop-item.extent.next items (λ l. unwrap_or (get nat_eq c.loop-item.numbers l) c.args.end) (λ l. unwrap_or (get nat_eq w.set_number.new.numbers l) c.args.end) _
+            (table-set c.args.start c.args.end i w.in-SetLabel.label c.loop-item.extent.next items (λ l. unwrap_or (get nat_cmp c.loop-item.numbers l) c.args.end) (λ l. unwrap_or (get nat_cmp w.set_number.new.numbers l) c.args.end) _
             c.requires.whole (omega arith) w.in-SetLabel.is (ap (λ e. e.next) c.loop-item.invariant.reached ∙ reached-size c.args.start (take i items))
             c.loop-item.invariant.table (λ l. w.in_ok-set_number.ensures l c.args.end));
         within = rw w.numbers-is (λ l. rw (w.in_ok-set_number.ensures l c.args.end) (cond_le (eqb l w.in-SetLabel.label) _ _ c.args.end inside (c.loop-item.invariant.within l)));
@@ -27,7 +28,7 @@ loop-item-preserved c =
       | in_default w ↦ record {
         reached = next;
         part = c.with-extent.ensures.part;
-        table = rw w.numbers-is (table-kept c.args.start c.args.end i items (λ l. unwrap_or (get nat_eq c.loop-item.numbers l) c.args.end) _ (omega arith) w.in_default.not-SetLabel c.loop-item.invariant.table);
+        table = rw w.numbers-is (table-kept c.args.start c.args.end i items (λ l. unwrap_or (get nat_cmp c.loop-item.numbers l) c.args.end) _ (omega arith) w.in_default.not-SetLabel c.loop-item.invariant.table);
         within = rw w.numbers-is c.loop-item.invariant.within;
       }
     ]

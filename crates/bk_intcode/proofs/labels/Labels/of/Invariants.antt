@@ -1,5 +1,6 @@
-use Rattle.std.proofs.Common.{◌≡◌, ℕ, ◌<◌, ◌≤◌, take, nat_eq, unwrap_or}
-use Rattle.indexmap.specs.IndexMap.{get}
+use Rattle.std.proofs.Common.{◌≡◌, ℕ, ◌<◌, ◌≤◌, take, unwrap_or}
+use Rattle.std.specs.BTreeMap.{get}
+use Rattle.std.specs.Ordering.{nat_cmp}
 use Rattle.bk_intcode.specs.Reach.{reached_all}
 use Rattle.bk_intcode.proofs.Places.{numbered}
 use Rattle.bk_intcode.proofs.labels.Labels.of.Given as goal
@@ -8,6 +9,6 @@ abbrev pub invariant-loop-item : goal.invariant-loop-item
 invariant-loop-item l = record {
   reached : l.extent ≡ reached_all l.start (take l.item-index l.items);
   part : l.extent.filled < 4;
-  table : (label : ℕ) → unwrap_or (get nat_eq l.numbers label) l.end ≡ numbered l.start l.items l.end l.item-index label;
-  within : (label : ℕ) → unwrap_or (get nat_eq l.numbers label) l.end ≤ l.end;
+  table : (label : ℕ) → unwrap_or (get nat_cmp l.numbers label) l.end ≡ numbered l.start l.items l.end l.item-index label;
+  within : (label : ℕ) → unwrap_or (get nat_cmp l.numbers label) l.end ≤ l.end;
 }

@@ -1,4 +1,7 @@
-use Rattle.std.proofs.Common.{◌≡◌, ◌++◌, ◌∷◌, [], ◌∙◌, sym, ap, ◌==◌, ◌||◌}
+use Rattle.std.proofs.Common.{◌≡◌, ◌++◌, ◌∷◌, [], ◌∙◌, sym, ap, ◌==◌, ◌||◌, true, if◌then◌else◌}
+use Rattle.std.specs.BTreeSet.{contains}
+use Rattle.std.specs.Cmp.{unsigned_ties}
+use Rattle.std.specs.Ordering.{nat_cmp}
 use Rattle.bk_intcode.specs.declared.item.Item.{Item}
 use Rattle.bk_intcode.specs.declared.item.Item.TheVariants.{SetLabel, Frame}
 use Rattle.bk_intcode_text.proofs.DraftLemmas.{sets-other, gives_frame-other, gives_frame-frame, sets-label, cond_or}
@@ -11,7 +14,7 @@ returns-in_ok-insert-in-SetLabel-clause-draft c =
     let all : c.push.new.self.items ≡ items ++ SetLabel l ∷ [] = c.in_ok-push.ensures.items ∙ ap (λ (i : Item). items ++ i ∷ []) c.in-SetLabel.is in
     let up = c.in_ok-insert-in-SetLabel.ensures.updates in
     record {
-      labels = λ label. up.0 label ∙ cond_or (l == label) _ ∙ ap (λ b. b || (l == label)) (c.requires.labels label) ∙ sym (sets-label label items c.push.new.self.items l all);
+      labels = λ label. up.0 label ∙ ap (λ b. if b then true else contains nat_cmp c.args.self.now.labels label) (sym (unsigned_ties l label)) ∙ cond_or (l == label) _ ∙ ap (λ b. b || (l == label)) (c.requires.labels label) ∙ sym (sets-label label items c.push.new.self.items l all);
       framed = c.requires.framed ∙ sym (gives_frame-other items c.push.new.self.items (SetLabel l) all (λ n e. cc));
     }
 
