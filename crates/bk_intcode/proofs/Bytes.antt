@@ -1,7 +1,7 @@
 -- A byte fits into a word whose bytes from its place on are 0.
 use Rattle.std.proofs.Common.{◌≡◌, ℕ, zero, suc, ◌+◌, ◌-◌, ◌*◌, ◌%◌, ◌^◌, ◌<◌, ◌≤◌, List, length, get_or, set, ap, ◌∙◌, arith}
 use Rattle.std.proofs.lemmas.List.{length-set, get_or-set_same}
-use Rattle.bk_intcode.specs.Packing.{IsFilled}
+use Rattle.bk_intcode.specs.Inner.Packing.{IsFilled}
 
 pub byte-weighs : (place byte : ℕ) → place < 4 → byte < 2 ^ 8 → 2 ^ (8 * place) * byte < 2 ^ 32
 byte-weighs zero byte low small = omega arith

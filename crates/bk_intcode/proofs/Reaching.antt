@@ -13,7 +13,7 @@ use Rattle.bk_intcode.specs.declared.item.Item.TheVariants.{Instruction, SetLabe
 use Rattle.bk_intcode.specs.Instructions.{fields, instruction_at, instruction_words}
 use Rattle.bk_intcode.specs.Placement.{Growth, item_words, grown, growth, segment_size}
 use Rattle.bk_intcode.specs.declared.extent.Extent.{Extent}
-use Rattle.bk_intcode.specs.Reach.{address_size, operand_size, item_size, reached, reached_all}
+use Rattle.bk_intcode.specs.Inner.Reach.{address_size, operand_size, item_size, reached, reached_all}
 
 -- how far words reach that lie from an address on
 abbrev pub extent_of : ℕ → Growth → Extent

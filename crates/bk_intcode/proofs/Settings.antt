@@ -11,7 +11,7 @@ use Rattle.bk_intcode.specs.Segment.{IsSegment}
 use Rattle.bk_intcode.specs.SegmentItems.{items_of}
 use Rattle.bk_intcode.specs.SizeLaws.{segment_length}
 use Rattle.bk_intcode.specs.Placement.{Setting, SEGMENTS, library_settings, item_settings, segment_settings, all_settings, all_words, with_setting, segment_size, segment_words, label_number, stack_start, loaded_store}
-use Rattle.bk_intcode.specs.Placed.{placed}
+use Rattle.bk_intcode.specs.Inner.Placed.{placed}
 use Rattle.bk_intcode.specs.SegmentLaws.{segment_whole}
 use Rattle.bk_intcode.specs.LoadedWords.{AreSegments, AreBounded, settings_joined, items_bounded, segments_bounded, library_bounded, settings_length, below, below_length, stack_more}
 use Rattle.bk_intcode.proofs.Places.{got}

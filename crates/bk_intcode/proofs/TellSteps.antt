@@ -8,7 +8,7 @@ use Rattle.bk_base.specs.Word.{word_sum}
 use Rattle.bk_intcode.specs.declared.output.Directive.{Directive}
 use Rattle.bk_intcode.specs.Output.{Text, whole_text, cut_text, text_then, byte_of, string_rest, piece_text, directive, format_rest}
 use Rattle.bk_base.specs.declared.device.Failed.{Failed}
-use Rattle.bk_intcode.specs.Telling.{Telling, PutsBytes}
+use Rattle.bk_intcode.specs.Inner.Telling.{Telling, PutsBytes}
 
 -- ---- bytes
 

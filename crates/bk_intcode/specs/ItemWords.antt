@@ -8,7 +8,7 @@ use Rattle.bk_base.specs.Strings.{packed}
 use Rattle.bk_base.specs.Word.{packed_word}
 use Rattle.bk_intcode.specs.declared.item.Item.{Item}
 use Rattle.bk_intcode.specs.declared.item.Item.TheVariants.{Instruction, SetLabel, Byte, Word, LabelWord, SetGlobal, Frame, End}
-use Rattle.bk_intcode.specs.Getting.{get_inside, get_behind}
+use Rattle.bk_intcode.specs.Inner.Getting.{get_inside, get_behind}
 use Rattle.bk_intcode.specs.Placement.{Growth, item_words, grown, growth, segment_words, segment_size}
 use Rattle.bk_intcode.specs.SizeLaws.{segment_length}
 

@@ -8,7 +8,7 @@ use Rattle.std.proofs.lemmas.Option.{none-some}
 use Rattle.bk_base.specs.declared.limit.TheConstants.{GLOBAL_NUMBER}
 use Rattle.bk_intcode.specs.declared.item.Item.{Item}
 use Rattle.bk_intcode.specs.declared.item.Item.TheVariants as item
-use Rattle.bk_intcode.specs.Getting.{get_inside, get_behind, get_set_same, get_set_other, get_replicate}
+use Rattle.bk_intcode.specs.Inner.Getting.{get_inside, get_behind, get_set_same, get_set_other, get_replicate}
 use Rattle.bk_intcode.specs.Placement.{GLOBALS, LIBRARY, SEGMENTS, Setting, start_words, library_words, library_settings, item_settings, segment_settings, all_settings, all_words, segment_words, segment_size, stack_start, label_number, with_setting, unset_store, loaded_store}
 use Rattle.bk_intcode.specs.Segment.{IsItem, AreItems, IsSegment}
 use Rattle.bk_intcode.specs.SizeLaws.{segment_length}

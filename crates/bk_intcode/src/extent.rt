@@ -3,7 +3,7 @@ ghost use Rattle.std.specs.Prelude.{◌≡◌, ◌+◌, ◌≤◌, ◌<◌, Matc
 ghost use Rattle.bk_base.specs.declared.limit.TheConstants.{STORE_MOST};
 ghost use Rattle.bk_base.specs.Word.{word_of};
 ghost use Rattle.bk_intcode.specs.Placement.{segment_size};
-ghost use Rattle.bk_intcode.specs.Reach.{address_size, operand_size, item_size};
+ghost use Rattle.bk_intcode.specs.Inner.Reach.{address_size, operand_size, item_size};
 
 use crate::item::{Item, Operand};
 use bk_base::limit;
@@ -59,7 +59,7 @@ pub(crate) struct Extent {
 
 impl Extent {
     ghost use Rattle.std.specs.Prelude.{◌≡◌, ◌+◌, ◌^◌, ◌<◌};
-    ghost use Rattle.bk_intcode.specs.Reach.{reached};
+    ghost use Rattle.bk_intcode.specs.Inner.Reach.{reached};
 
     /// That of no items.
     pub(crate) fn at(start: u32) -> Extent

@@ -25,7 +25,7 @@ impl Labels {
     ghost use Rattle.bk_base.specs.declared.limit.TheConstants.{STORE_MOST};
     ghost use Rattle.bk_intcode.specs.Segment.{IsSegment};
     ghost use Rattle.bk_intcode.specs.Placement.{label_number, segment_size};
-    ghost use Rattle.bk_intcode.specs.LabelNumbers.{number_of};
+    ghost use Rattle.bk_intcode.specs.Inner.LabelNumbers.{number_of};
 
     /// Those of a segment that lies from `start` to before `end`.
     pub(crate) fn of(

@@ -2,8 +2,8 @@
 ghost use Rattle.std.specs.Prelude.{◌≡◌, ◌+◌, ◌-◌, ◌*◌, ◌%◌, ◌^◌, ◌<◌, ◌≤◌, ◌++◌, OnOk, IfOk, length, slice_index, slice_set};
 ghost use Rattle.bk_intcode.specs.Instructions.{function_number, bit, fields, instruction_at, instruction_words};
 ghost use Rattle.bk_intcode.specs.Placement.{grown, segment_words};
-ghost use Rattle.bk_intcode.specs.LabelNumbers.{number_of};
-ghost use Rattle.bk_intcode.specs.Packing.{IsFilled};
+ghost use Rattle.bk_intcode.specs.Inner.LabelNumbers.{number_of};
+ghost use Rattle.bk_intcode.specs.Inner.Packing.{IsFilled};
 
 use crate::extent::LONG_ADDRESS;
 use crate::item::{Function, Item, Operand};

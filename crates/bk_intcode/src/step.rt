@@ -3,7 +3,7 @@ ghost use Rattle.std.specs.Prelude.{◌≡◌, ◌<◌, ◌/◌, ◌^◌, slice_
 ghost use Rattle.bk_base.specs.Word.{word_sum};
 ghost use Rattle.bk_intcode.specs.Decoding.{form as form_of, form_function};
 ghost use Rattle.bk_intcode.specs.Step.{Goes, addressed, with_local, with_global, pointed, operand, matched, switched, byte_stored, called, operated, executed, step_on, step as step_of};
-ghost use Rattle.bk_intcode.specs.Effects.{turn_of, OwnEnd};
+ghost use Rattle.bk_intcode.specs.Inner.Effects.{turn_of, OwnEnd};
 
 use crate::item::Function;
 use crate::operation::{Operation, Routine, apply, operation_of};

@@ -5,7 +5,7 @@ ghost use Rattle.bk_base.specs.Decimal.{spelling};
 ghost use Rattle.bk_base.specs.Devices.{Begins};
 ghost use Rattle.bk_base.specs.Format.{aligned, width as width_of};
 ghost use Rattle.bk_intcode.specs.Output.{string_rest, string_text, piece_text, format_rest, format_text, output_text, whole_text};
-ghost use Rattle.bk_intcode.specs.Telling.{PutsText, PutsBytes};
+ghost use Rattle.bk_intcode.specs.Inner.Telling.{PutsText, PutsBytes};
 
 use crate::output::{Output, Piece, byte_at, directive_at};
 use bk_base::{ByteOut, Failed, put_all, word, word_text};

@@ -1,5 +1,5 @@
 use Rattle.std.proofs.Common.{◌≡◌, ◌<◌, ◌≤◌, take}
-use Rattle.bk_intcode.specs.Reach.{reached_all}
+use Rattle.bk_intcode.specs.Inner.Reach.{reached_all}
 use Rattle.bk_intcode.proofs.extent.segment_end.Given as goal
 
 abbrev pub invariant-loop-item : goal.invariant-loop-item

@@ -1,6 +1,6 @@
 use Rattle.std.proofs.Common.{◌+◌, ◌∙◌, arith}
 use Rattle.std.proofs.lemmas.List.{length-set}
-use Rattle.bk_intcode.specs.LabelNumbers.{number_of}
+use Rattle.bk_intcode.specs.Inner.LabelNumbers.{number_of}
 use Rattle.bk_intcode.proofs.Settings.{settings-set, settings-kept, global-within}
 use Rattle.bk_intcode.proofs.loader.set_globals.Goals as goal
 use Rattle.bk_intcode.proofs.loader.set_globals.Goals.{in-SetGlobal, in_default}

@@ -1,7 +1,7 @@
 use Rattle.std.proofs.Common.{◌≡◌, take, length}
 use Rattle.std.specs.Prelude.{fold}
 use Rattle.bk_intcode.specs.Placement.{with_setting, segment_settings}
-use Rattle.bk_intcode.specs.LabelNumbers.{number_of}
+use Rattle.bk_intcode.specs.Inner.LabelNumbers.{number_of}
 use Rattle.bk_intcode.proofs.loader.set_globals.Given as goal
 
 abbrev pub invariant-loop-item : goal.invariant-loop-item

@@ -3,7 +3,7 @@ use Rattle.std.specs.Prelude.{fold}
 use Rattle.std.proofs.lemmas.List.{take_all}
 use Rattle.bk_intcode.specs.Placement.{Growth, grown}
 use Rattle.bk_intcode.specs.declared.item.Item.{Item}
-use Rattle.bk_intcode.specs.LabelNumbers.{number_of}
+use Rattle.bk_intcode.specs.Inner.LabelNumbers.{number_of}
 use Rattle.bk_intcode.specs.ItemWords.{words_behind}
 use Rattle.bk_intcode.proofs.Growing.{growth_of}
 use Rattle.bk_intcode.proofs.packing.push_items.Goals as goal

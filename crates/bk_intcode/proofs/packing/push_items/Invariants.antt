@@ -1,8 +1,8 @@
 use Rattle.std.proofs.Common.{◌≡◌, take}
 use Rattle.std.specs.Prelude.{fold}
 use Rattle.bk_intcode.specs.Placement.{grown}
-use Rattle.bk_intcode.specs.LabelNumbers.{number_of}
-use Rattle.bk_intcode.specs.Packing.{IsFilled}
+use Rattle.bk_intcode.specs.Inner.LabelNumbers.{number_of}
+use Rattle.bk_intcode.specs.Inner.Packing.{IsFilled}
 use Rattle.bk_intcode.proofs.Growing.{growth_of}
 use Rattle.bk_intcode.proofs.packing.push_items.Given as goal
 

@@ -1,6 +1,6 @@
 use Rattle.std.proofs.Common.{Some, sym, ◌∙◌, ap}
 use Rattle.bk_base.specs.declared.run_end.End.TheVariants.{StoreLimit}
-use Rattle.bk_intcode.specs.Effects.{turn_of}
+use Rattle.bk_intcode.specs.Inner.Effects.{turn_of}
 use Rattle.bk_intcode.proofs.RunSteps.{finished_ends, paused_goes, paused_tells, finished_tells, went_part, exchanged_took, went_own, went_ask_fails}
 use Rattle.bk_intcode.proofs.run.turn.Goals as goal
 

@@ -1,7 +1,7 @@
 use Rattle.std.proofs.Common.{◌≡◌, ◌+◌, ◌-◌, ◌≤◌}
 use Rattle.bk_base.specs.Devices.{Begins}
 use Rattle.bk_intcode.specs.Output.{format_rest}
-use Rattle.bk_intcode.specs.Telling.{Telling}
+use Rattle.bk_intcode.specs.Inner.Telling.{Telling}
 use Rattle.bk_intcode.proofs.tell.tell_directives.Given as goal
 
 abbrev pub invariant-loop-i : goal.invariant-loop-i

@@ -1,5 +1,5 @@
 use Rattle.std.proofs.Common.{ap}
-use Rattle.bk_intcode.specs.CheckedSegment.{is_segment, checked}
+use Rattle.bk_intcode.specs.Inner.CheckedSegment.{is_segment, checked}
 use Rattle.bk_intcode.proofs.tests.a_string.Goals as goal
 
 pub new-requires : goal.new-requires

@@ -1,7 +1,7 @@
 use Rattle.std.proofs.Common.{◌∙◌, ◌≡◌, Bool, true, ap, rules, FitsSigned, w32, to_z, of_z}
 use Rattle.std.specs.Prelude.{◌&&◌}
 use Rattle.std.proofs.lemmas.Int.{to_z-of_z}
-use Rattle.bk_intcode.specs.CheckedSegment.{is_segment, is_word, word_is, checked}
+use Rattle.bk_intcode.specs.Inner.CheckedSegment.{is_segment, is_word, word_is, checked}
 use Rattle.bk_intcode.proofs.tests.switch.Goals as goal
 
 -- only the number of pairs does not compute
