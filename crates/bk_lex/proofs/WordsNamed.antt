@@ -29,6 +29,7 @@ same_upper b = look (ltb b 97) refl (ltb b 123) refl
   where
     stays : up b ≡ b → SameByte (up b) b
     stays e = (ap is_letter e, λ _. ap (λ (x : ℕ). x % 32) e)
+
     look : (low : Bool) → ltb b 97 ≡ low → (top : Bool) → ltb b 123 ≡ top → SameByte (up b) b
     look true l top t = stays (ap (λ (x : Bool). cond x b (cond (ltb b 123) (b - 32) b)) l)
     look false l false t = stays (ap (λ (x : Bool). cond x b (cond (ltb b 123) (b - 32) b)) l ∙ ap (λ (x : Bool). cond x (b - 32) b) t)
@@ -46,6 +47,7 @@ coded_same k a b h = look (is_letter b) refl
   where
     test : Bool
     test = ltb 0 k && ltb k (2 ^ 50)
+
     look : (l : Bool) → is_letter b ≡ l → coded k a ≡ coded k b
     look true l = ap (λ (x : Bool). cond (test && x) (k * 32 + a % 32) 0) h.0 ∙ ap (λ (x : ℕ). cond (test && is_letter b) (k * 32 + x) 0) (h.1 l)
     look false l = ap (λ (x : Bool). cond (test && x) (k * 32 + a % 32) 0) (h.0 ∙ l) ∙ never test (k * 32 + a % 32) ∙ sym (ap (λ (x : Bool). cond (test && x) (k * 32 + b % 32) 0) l ∙ never test (k * 32 + b % 32))
