@@ -7,7 +7,7 @@ use Rattle.bk_base.specs.declared.run_end.End.TheVariants.{Status, DivideByZero,
 use Rattle.bk_intcode.specs.declared.registers.Registers.{Registers}
 use Rattle.bk_intcode.specs.Runs.{Standing, Going, Over, output_of, run, Finished, Ran, Blames}
 use Rattle.bk_intcode.specs.RunLaws.{Beginning, waiting-begins, broken-begins}
-use Rattle.bk_kit.specs.Interpreting.{Streams, told}
+use Rattle.bk_kit.specs.Interpreting.{Streams, told_streams}
 use Rattle.bk_kit.specs.Headline.{Language, IsWhole, IsEnd, IsPart, NeverEnds, Reaches, TooFew, Agrees, Runs}
 
 -- A machine that is not over, or that the store stopped, with a beginning of these bytes.
@@ -129,7 +129,7 @@ module _ (language : Language) (source : List ℕ) (steps words : ℕ) (store : 
         further all behind e = e ∙ ap (λ o. o ++ behind) is ∙ append_assoc bytes more behind
 
     module _ (accepted : language.Accepted source) (starts : language.Startless source → ⊥) (store' : List ℕ) (registers : Registers) (before after : Streams) where
-      finished : (end : End) (ran : Finished end steps store first (told before) (told after))
+      finished : (end : End) (ran : Finished end steps store first (told_streams before) (told_streams after))
           → Begins before.passed after.passed → (end ≢ WriteFault → after.passed ≡ after.taken) → Blames end before.reads after.reads after.writes
           → ((rest : List ℕ) → stands (ran.read ++ rest) ≡ Over end rest ran.written → Agrees language source (ran.read ++ rest) steps words end ran.read ran.written)
           → Runs language source end steps words before after
@@ -145,7 +145,7 @@ module _ (language : Language) (source : List ℕ) (steps words : ℕ) (store : 
         blamed = blamed;
       }
 
-      broken : (end : End) (ran : Beginning steps store first (told before) (told after))
+      broken : (end : End) (ran : Beginning steps store first (told_streams before) (told_streams after))
           → Begins before.passed after.passed → (end ≢ WriteFault → after.passed ≡ after.taken) → Blames end before.reads after.reads after.writes
           → ((input : List ℕ) → IsPart language source input steps words ran.written → Agrees language source input steps words end ran.read ran.written)
           → Runs language source end steps words before after
@@ -163,7 +163,7 @@ module _ (language : Language) (source : List ℕ) (steps words : ℕ) (store : 
         blamed = blamed;
       }
 
-      pub runs : (end : End) → Ran end steps store first store' registers (told before) (told after) → Begins before.passed after.passed
+      pub runs : (end : End) → Ran end steps store first store' registers (told_streams before) (told_streams after) → Begins before.passed after.passed
           → (end ≢ WriteFault → after.passed ≡ after.taken) → Blames end before.reads after.reads after.writes → Runs language source end steps words before after
       runs (Status v) ran passes passed blamed =
           finished (Status v) ran passes passed blamed (λ rest over. is_end ran.read rest ran.written (Status v) (λ e. cc) over)
@@ -188,6 +188,6 @@ module _ (language : Language) (source : List ℕ) (steps words : ℕ) (store : 
         blamed = blamed;
       }
       runs ReadFault ran passes passed blamed =
-          broken ReadFault (waiting-begins steps store first (told before) (told after) ran) passes passed blamed (λ input part. part)
+          broken ReadFault (waiting-begins steps store first (told_streams before) (told_streams after) ran) passes passed blamed (λ input part. part)
       runs WriteFault ran passes passed blamed =
-          broken WriteFault (broken-begins steps store first (told before) (told after) ran) passes passed blamed (λ input part. part)
+          broken WriteFault (broken-begins steps store first (told_streams before) (told_streams after) ran) passes passed blamed (λ input part. part)

@@ -25,7 +25,7 @@ use Rattle.bk_simulation.specs.Simulation.{Begin, end_of, EndsWithin, ComesWithi
 use Rattle.bk_gen.specs.BackEnd.{Part, segments, image, depth_of, own_of, parts_at, program_of, start_of, machine_after, IsPartly, going, stopped, HoldsFrames, BackEnd, BackEndHolds, PartsAreWellPlaced, PartsWithoutStart}
 use Rattle.bk_gen.specs.BackEnd as back_end
 use Rattle.bk_kit.specs.declared.kit_fault.KitFault.TheVariants.{TooSmall, NoStart}
-use Rattle.bk_kit.specs.Interpreting.{Streams, told, first_registers}
+use Rattle.bk_kit.specs.Interpreting.{Streams, told_streams, first_registers}
 use Rattle.bk_kit.specs.Headline.{Language, Runs, Keeps}
 use Rattle.bk_kit.specs.Sources.{stmts_of_tree, codes_of_trees}
 use Rattle.bk_kit.specs.SourceSections.{HasTrees, HasParts}
@@ -312,7 +312,7 @@ module _ (laws : RunLaws) (image_of : List Declarations → ℕ) (parts : List P
 
       -- a run of the machine is one of the source
       pub source_run : (store : List ℕ) (registers : Registers) (before after : Streams) (end : End)
-          → Ran end steps (loaded_store words (segments parts)) (first_registers (segments parts)) store registers (told before) (told after)
+          → Ran end steps (loaded_store words (segments parts)) (first_registers (segments parts)) store registers (told_streams before) (told_streams after)
           → Begins before.passed after.passed → (end ≢ WriteFault → after.passed ≡ after.taken) → Blames end before.reads after.reads after.writes
           → Runs language source end steps words before after
       source_run store registers before after end ran passes passed blamed =

@@ -14,7 +14,7 @@ use Rattle.bk_lex.specs.declared.cutter.Cut.TheVariants.{More}
 use Rattle.bk_lex.specs.Counting.{start, step_of, finished, ◌>>=◌}
 use Rattle.bk_lex.specs.Lexing.{Section, section, Reading, read, read_on, run, end_as, begin, is_dot, lexed}
 use Rattle.bk_lex.specs.Cutting.{goes_on_from, then_on, state_behind, cut_as}
-use Rattle.bk_lex.specs.Tokens.{Ends, IsSection}
+use Rattle.bk_lex.specs.Tokens.{EndsSection, IsSection}
 use Rattle.bk_lex.proofs.Steps.{behind}
 use Rattle.bk_lex.proofs.Cuts.{read_state}
 use Rattle.bk_lex.proofs.Sound.{lexed_is_section}
@@ -79,7 +79,7 @@ whole_used bytes line s asked is ended = omega (arith, uses_all bytes (begin lin
 -- ---- a section that no `.` ends goes on to the source's end
 
 used_at_end : (text : List ℕ) (line : ℕ) (s : Section) → IsSection text line s → s.ended ≡ false → s.used ≡ length text
-used_at_end text line s is not_ended = (subst (λ (e : Bool). Ends e s.used is.0.rest (length text)) not_ended is.0.ends).1
+used_at_end text line s is not_ended = (subst (λ (e : Bool). EndsSection e s.used is.0.rest (length text)) not_ended is.0.ends).1
 
 pub ends_with_source : (bytes : List ℕ) (line : ℕ) (s : Section) (ended : Bool) → Settles bytes ended → lexed bytes line ≡ Ok s → s.ended ≡ false → ended ≡ true
 ends_with_source bytes line s true settles is not_ended = refl

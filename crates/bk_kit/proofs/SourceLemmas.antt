@@ -26,7 +26,7 @@ use Rattle.bk_gen.specs.StandsFor.{StandsFor}
 use Rattle.bk_kit.specs.declared.kit_fault.KitFault.{KitFault}
 use Rattle.bk_kit.specs.declared.kit_fault.KitFault.TheVariants.{Source, Ocode, Intcode, TooSmall, NoStart, Read, Write, Memory}
 use Rattle.bk_kit.specs.declared.section.CompiledSection.{CompiledSection}
-use Rattle.bk_kit.specs.Interpreting.{Streams, told, first_registers, is_read_fault, is_read}
+use Rattle.bk_kit.specs.Interpreting.{Streams, told_streams, first_registers, is_read_fault, is_read}
 use Rattle.bk_kit.specs.ReadingSource.{cut_behind, Settles, Follows, IsDelivered, EachSource}
 use Rattle.bk_kit.specs.Sources.{Accepted, Refused, bytes_of, trees_of, codes_of, stmts_of_tree}
 use Rattle.bk_kit.specs.CompilingSection.{codes_in, Compiled, Refuses}
@@ -215,7 +215,7 @@ module _ (words : ℕ) (old new : Option (List ℕ)) (ended : Bool) where
   -- of one that is run
   pub source_runs : MeaningRuns → (end : End) (steps : ℕ) (before after : Streams) (parts : List Part) (store : List ℕ) (registers : Registers)
       → EachSource old new ended (HasParts parts) → image parts + 16 ≤ words → words ≤ STORE_MOST → any_starts (segments parts) ≡ true
-      → Ran end steps (loaded_store words (segments parts)) (first_registers (segments parts)) store registers (told before) (told after)
+      → Ran end steps (loaded_store words (segments parts)) (first_registers (segments parts)) store registers (told_streams before) (told_streams after)
       → Begins before.passed after.passed → (end ≢ WriteFault → after.passed ≡ after.taken) → Blames end before.reads after.reads after.writes
       → Headline meanings (Ok end) steps words old new ended before after
   source_runs runs end steps before after parts store registers has room most starts ran passes passed blamed =

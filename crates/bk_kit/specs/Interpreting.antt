@@ -75,14 +75,14 @@ pub record Streams : Type 0 where
   pub reads : ℕ
   pub writes : ℕ
 
-abbrev pub told : Streams → Told
-told streams = record { left = streams.left; ended = streams.ended; taken = streams.taken }
+abbrev pub told_streams : Streams → Told
+told_streams streams = record { left = streams.left; ended = streams.ended; taken = streams.taken }
 
 -- What interpreting answers: the end of the run, behind which what was passed on before is still the beginning of what was
 -- passed on, and is all that was taken unless the output failed; or the fault of a text of which nothing was run.
 abbrev pub Interpreted : Result End KitFault → ℕ → ℕ → Option (List ℕ) → Option (List ℕ) → Bool → Streams → Streams → Type 0
 Interpreted (Ok end) steps words old new ended before after =
-    Interprets end steps words old new ended (told before) (told after)
+    Interprets end steps words old new ended (told_streams before) (told_streams after)
     × Begins before.passed after.passed × (end ≢ WriteFault → after.passed ≡ after.taken) × Blames end before.reads after.reads after.writes
 Interpreted (Err fault) steps words old new ended before after = CodeRefused fault words old new ended × (after ≡ before)
 

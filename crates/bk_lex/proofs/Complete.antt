@@ -29,7 +29,7 @@ use Rattle.bk_lex.specs.declared.scan.Lexed.{Lexed}
 use Rattle.bk_base.specs.declared.refused.Refused.{Refused}
 use Rattle.bk_lex.specs.Lexing.{Gives, Section, section, run, lexed, put_on, at, get_line_after}
 use Rattle.bk_lex.specs.Pieces.{Sort, Spelled, IsBounded, NoLonger, Piece, CutsTo}
-use Rattle.bk_lex.specs.Tokens.{what_of, header_named, Putting, putting, seen, named_as, put_as, is_dot_sort, put, puts, Ends, IsSection}
+use Rattle.bk_lex.specs.Tokens.{what_of, header_named, Putting, putting, seen, named_as, put_as, is_dot_sort, put, puts, EndsSection, IsSection}
 use Rattle.bk_lex.specs.TextFault.{waiting, weight, room}
 use Rattle.bk_lex.proofs.Walk.{walk, walk_piece, then_goes, begins, begins_goes}
 use Rattle.bk_lex.proofs.Modes.{piece_reads}
@@ -297,7 +297,7 @@ piece_run k t rest q q2 used s whats.Get (Some g) e f is p light small ih =
 
 -- what is said of the tokens of all pieces
 abbrev Finishes : Putting → List ℕ → ℕ → Section → Type 0
-Finishes last rest total s = (last.get ≡ None) × (s.symbols ≡ last.out) × (s.line ≡ last.line) × (length last.out ≤ 262144) × Ends s.ended s.used rest total × (s.used ≤ 1048576)
+Finishes last rest total s = (last.get ≡ None) × (s.symbols ≡ last.out) × (s.line ≡ last.line) × (length last.out ≤ 262144) × EndsSection s.ended s.used rest total × (s.used ≤ 1048576)
 
 pub cuts_length : (ps : List Piece) (text rest : List ℕ) → CutsTo text ps rest → length rest ≤ length text
 cuts_length [] text rest h = let e = ap (λ (x : List ℕ). length x) h in omega (arith, e)
@@ -305,7 +305,7 @@ cuts_length (p ∷ ps) text rest h =
     let e = ap (λ (x : List ℕ). length x) h.1.parts in
     omega (arith, e, length-append p.text h.0, cuts_length ps h.0 rest h.2)
 
-ends_used : (ended : Bool) (used total : ℕ) (rest : List ℕ) → Ends ended used rest total → total ≤ used + length rest
+ends_used : (ended : Bool) (used total : ℕ) (rest : List ℕ) → EndsSection ended used rest total → total ≤ used + length rest
 ends_used true used total rest h = let e = ap (λ (x : List ℕ). length x) h.1 in omega (arith, e, h.2)
 ends_used false used total rest h = omega (arith, h.1)
 
@@ -328,7 +328,7 @@ finish_end q used s none symbols line ended u out x place a bytes =
     let get = off q out x place None none a in
     rw get (ap (λ (y : Section). Ok y) (section_as s out used false place.line (symbols ∙ sym a.same) u ended (line ∙ sym a.line)))
 
-finish : (ended : Bool) (q : Putting) (rest : List ℕ) (used total : ℕ) (s : Section) → s.ended ≡ ended → q.get ≡ None → s.symbols ≡ q.out → s.line ≡ q.line → Ends ended s.used rest total → s.used ≤ 1048576 → used + length rest ≡ total → Comes q rest used s
+finish : (ended : Bool) (q : Putting) (rest : List ℕ) (used total : ℕ) (s : Section) → s.ended ≡ ended → q.get ≡ None → s.symbols ≡ q.out → s.line ≡ q.line → EndsSection ended s.used rest total → s.used ≤ 1048576 → used + length rest ≡ total → Comes q rest used s
 finish true q rest used total s e none symbols line ends small at =
     let len = ap (λ (x : List ℕ). length x) ends.1 in
     subst (λ (x : List ℕ). Comes q x used s) (sym ends.1) (finish_dot q ends.0 used s none symbols line e (omega (arith, ends.2, at, len)) small)
@@ -342,7 +342,7 @@ complete [] q last text rest used total s cuts p f at =
     let none = ap (λ (y : Putting). y.get) same ∙ f.0 in
     let symbols = f.1 ∙ ap (λ (y : Putting). y.out) (sym same) in
     let line = f.2 ∙ ap (λ (y : Putting). y.line) (sym same) in
-    finish s.ended q text used total s refl none symbols line (subst (λ (x : List ℕ). Ends s.ended s.used x total) (sym cuts) f.4) f.5 at
+    finish s.ended q text used total s refl none symbols line (subst (λ (x : List ℕ). EndsSection s.ended s.used x total) (sym cuts) f.4) f.5 at
 complete (p ∷ ps) q last text rest used total s cuts e f at =
     let n = puts_next ps (put q p) last e in
     let cut = cuts.1 in

@@ -29,7 +29,7 @@ use Rattle.bk_lex.specs.Header.{header_symbols}
 use Rattle.bk_lex.specs.declared.scan.Lexed.{Lexed}
 use Rattle.bk_lex.specs.Lexing.{Gives, Section, section_of, lexed}
 use Rattle.bk_lex.specs.Pieces.{Sort, blank, comment, dot, word, number, bracket, string, character, sign, Spelled, NoLonger, Piece, Cut, CutsTo}
-use Rattle.bk_lex.specs.Tokens.{what_of, header_named, Putting, putting, seen, put_as, is_dot_sort, put, puts, Ends as SectionEnds, IsSection}
+use Rattle.bk_lex.specs.Tokens.{what_of, header_named, Putting, putting, seen, put_as, is_dot_sort, put, puts, EndsSection as SectionEnds, IsSection}
 use Rattle.bk_lex.specs.TextFault.{Begins, InSection, Stands, is_gap, Misnames, waiting, weight, room, PassesByPiece, PassesByHeader, PassesBySign, PassesByByte, begins_symbol, PassesSymbols, PassesBytes, HasKind, HasFault, NoFault}
 use Rattle.bk_lex.proofs.Walk.{walk, walk_piece, walk_piece-append, goes_is, then_goes, begins, begins_goes}
 use Rattle.bk_lex.proofs.Modes.{or_true}

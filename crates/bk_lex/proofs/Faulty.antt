@@ -23,7 +23,7 @@ use Rattle.bk_lex.specs.declared.counting.Step.{Step}
 use Rattle.bk_lex.specs.declared.counting.Ended.{Ended}
 use Rattle.bk_lex.specs.Machine.{fresh, next, piece, end_fault}
 use Rattle.bk_lex.specs.Counting.{moved, within, past, finished, finished_as, no_get, ended, opened_as, begun, named, header_rest, stepped, ◌>>=◌}
-use Rattle.bk_lex.specs.Lexing.{Section, section, Reading, read_on, run, end_as, told, told_kind, lexed, begin, get_line_after, put_on, at}
+use Rattle.bk_lex.specs.Lexing.{Section, section, Reading, read_on, run, end_as, placed_fault, told_kind, lexed, begin, get_line_after, put_on, at}
 use Rattle.bk_lex.specs.Pieces.{Sort, Piece, NoLonger}
 use Rattle.bk_lex.specs.Tokens.{Putting, putting, seen, put_as, named_as, header_named, what_of, put, puts}
 use Rattle.bk_lex.specs.TextFault.{Begins, Stands, Misnames, PassesBytes, PassesSymbols, room, HasKind, HasFault, line_behind, line_past}
@@ -149,8 +149,8 @@ concludes_fault f total = record {
 
 abbrev pub Found : Fault → ℕ → Putting → State → Place → List ℕ → Type 0
 Found SectionTooLong total q s p text = PassesBytes q.line total p.line text ⊎ PassesSymbols q p.line text
-Found HeaderTooLong total q s p text = PassesSymbols q (told s p BadGet).line text
-Found BadGet total q s p text = Misnames q (told s p BadGet).line text
+Found HeaderTooLong total q s p text = PassesSymbols q (placed_fault s p BadGet).line text
+Found BadGet total q s p text = Misnames q (placed_fault s p BadGet).line text
 Found f total q s p text = Stands (told_kind f) q.line p.line text
 
 pub stays_here : (g : Bool) (p : Place) → cond (g && false) p.get_line p.line ≡ p.line
@@ -160,7 +160,7 @@ stays_here false p = refl
 at_line : (kind : SourceKind) (from line line2 : ℕ) (text : List ℕ) → line2 ≡ line → Stands kind from line text → Stands kind from line2 text
 at_line kind from line line2 text e h = subst (λ (l : ℕ). Stands kind from l text) (sym e) h
 
-pub found_told : (total : ℕ) (f : Fault) (s : State) (p : Place) (q : Putting) (text : List ℕ) → Found f total q s p text → Has (told s p f) total q text
+pub found_told : (total : ℕ) (f : Fault) (s : State) (p : Place) (q : Putting) (text : List ℕ) → Found f total q s p text → Has (placed_fault s p f) total q text
 found_told total SectionTooLong s p q text h = subst (λ (l : ℕ). PassesBytes q.line total l text ⊎ PassesSymbols q l text) (sym (stays_here s.get p)) h
 found_told total HeaderTooLong s p q text h = inr h
 found_told total BadGet s p q text h = h
@@ -262,12 +262,12 @@ bad_opens c more q t r (inr (inl d)) line x f =
 bad_opens c more q t r (inr (inr d)) line x f = absurd (naming_step t r.state.mode c d.0 nexts.Ends x)
 
 -- a symbol where the string of a GET is due: a `/`
-due_here : (q : Putting) (t : List ℕ) (r : Reading) → Agrees (seen q t) r.out r.state r.place → r.state.get ≡ true → (q.get ≡ Some (told r.state r.place BadGet).line)
+due_here : (q : Putting) (t : List ℕ) (r : Reading) → Agrees (seen q t) r.out r.state r.place → r.state.get ≡ true → (q.get ≡ Some (placed_fault r.state r.place BadGet).line)
 due_here q t r a on =
     let get = a.get in
     let g = get_due (seen q t).get r.state.get r.place.get_line get on in
     let line : r.place.get_line ≡ g.0 = due_line (seen q t).get g.0 r.state.get r.place.get_line g.1 get in
-    let at : (told r.state r.place BadGet).line ≡ r.place.get_line = ap (λ (b : Bool). cond (b && true) r.place.get_line r.place.line) on in
+    let at : (placed_fault r.state r.place BadGet).line ≡ r.place.get_line = ap (λ (b : Bool). cond (b && true) r.place.get_line r.place.line) on in
     sym (seen_get q t) ∙ g.1 ∙ ap (λ (k : ℕ). Some k) (sym (at ∙ line))
 
 ended_found : (total : ℕ) (rest : List ℕ) (q : Putting) (t : List ℕ) (r : Reading) (g : Fault) → Here t r.state.mode r.held q.get → Agrees (seen q t) r.out r.state r.place → ((c : ℕ) (more : List ℕ) → rest ≡ c ∷ more → next r.state.mode c ≡ nexts.Ends) → (Naming t r.state.mode → ⊥) → r.place.line ≡ line_behind t q.line → (walk_piece t ≡ nexts.Goes r.state.mode → IsWhole r.state.mode × NoLonger t rest)
@@ -288,7 +288,7 @@ ended_found total rest q t r g here a stop naming line whole e =
         passes_ended q r.place.line r.out r.state r.place t rest r.state.mode w.0.0 a d.1 w.0.1 w.1 (line ∙ same_line t r.state.mode q.line d.1 (blank lt)) lt
     long (inr (inr d)) lt = absurd (naming d.0)
 
-    slash : Here t r.state.mode r.held q.get → r.state.get ≡ true → (piece r.state.mode ≡ whats.Gap → ⊥) → Misnames q (told r.state r.place BadGet).line (t ++ rest)
+    slash : Here t r.state.mode r.held q.get → r.state.get ≡ true → (piece r.state.mode ≡ whats.Gap → ⊥) → Misnames q (placed_fault r.state r.place BadGet).line (t ++ rest)
     slash (inl d) on n = absurd (n (ap piece d.1))
     slash (inr (inl d)) on n =
         let due = due_here q t r a on in
@@ -313,7 +313,7 @@ begins_found total c more q t r m e g here a x f o b =
           let after = ended_agrees (piece r.state.mode) (seen q t) r.out r.state r.place r.held e a o in
           let due = agreed after.0 (put_on r.out e.given r.place.line r.held) e.state (at r.place.line (get_line_after r.place e.given)) after.2 p.1 in
           let line = told_line (piece r.state.mode) r.state r.place e o p.1 in
-          let fault = told r.state r.place BadGet in
+          let fault = placed_fault r.state r.place BadGet in
           piece_before (Has fault total) (RunsTo (Err fault)) (BehindTo (Err fault)) total (concludes_fault fault total) q t r c more e here x after
           (first_misnames after.0 fault.line c more m (due ∙ ap (λ (k : ℕ). Some k) (sym line)) f p.2))
     ]
@@ -337,7 +337,7 @@ named_found total c more q t r h g here a x e =
       | inr p ↦ no_err _ g p.1
     ]
   where
-    by_here : Here t r.state.mode r.held q.get → r.state.symbols < header_rest h → PassesSymbols q (told r.state r.place BadGet).line (t ++ c ∷ more)
+    by_here : Here t r.state.mode r.held q.get → r.state.symbols < header_rest h → PassesSymbols q (placed_fault r.state r.place BadGet).line (t ++ c ∷ more)
     by_here (inl d) lt = absurd (let z : nexts.Ends ≡ nexts.Names h = sym (ap (λ (k : Mode). next k c) d.1) ∙ x in cc)
     by_here (inr (inl d)) lt = absurd (no_names r.state.mode c h t (piece_reads t r.state.mode d.1) x)
     by_here (inr (inr d)) lt =
@@ -431,12 +431,12 @@ finished_found total q t r g here a line x e = look (ended r.state) refl e
     no_more : (c : ℕ) (more : List ℕ) → [] ≡ c ∷ more → next r.state.mode c ≡ nexts.Ends
     no_more c more z = absurd cc
 
-    at_end : (y : Ended) → ended r.state ≡ Ok y → y.state.get ≡ true → Misnames q (told r.state r.place BadGet).line (t ++ [])
+    at_end : (y : Ended) → ended r.state ≡ Ok y → y.state.get ≡ true → Misnames q (placed_fault r.state r.place BadGet).line (t ++ [])
     at_end y o on =
         let after = ended_agrees (piece r.state.mode) (seen q t) r.out r.state r.place r.held y a o in
         let due = agreed after.0 (put_on r.out y.given r.place.line r.held) y.state (at r.place.line (get_line_after r.place y.given)) after.2 on in
         let line = told_line (piece r.state.mode) r.state r.place y o on in
-        let fault = told r.state r.place BadGet in
+        let fault = placed_fault r.state r.place BadGet in
         end_before (Has fault total) (has_more total fault) q t r y here x after (nothing_misnames after.0 fault.line (due ∙ ap (λ (k : ℕ). Some k) (sym line)))
 
     look : (y : Result Ended Fault) → ended r.state ≡ y → (y >>= λ e. no_get e) ≡ Err g → Found g total q r.state r.place (t ++ [])

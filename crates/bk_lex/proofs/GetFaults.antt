@@ -21,7 +21,7 @@ use Rattle.bk_lex.specs.declared.scan.Place.{Place}
 use Rattle.bk_lex.specs.Insertion.{inserted}
 use Rattle.bk_lex.specs.Machine.{fresh, next, piece}
 use Rattle.bk_lex.specs.Counting.{ended_what, ended_as, state, begun, mode_begun, in_get, least_room, room_for, ◌>>=◌}
-use Rattle.bk_lex.specs.Lexing.{told, get_line_after}
+use Rattle.bk_lex.specs.Lexing.{placed_fault, get_line_after}
 use Rattle.bk_lex.specs.Pieces.{blank, comment, dot, word, number, bracket, string, character, sign}
 use Rattle.bk_lex.specs.Tokens.{Putting}
 use Rattle.bk_lex.specs.TextFault.{room, Misnames, NoGap, NoHeader}
@@ -108,10 +108,10 @@ begun_err s m b g e =
     ]
 
 -- the line of the GET is told
-pub told_line : (w : What) (s : State) (p : Place) (e : Ended) → ended_what s w ≡ Ok e → e.state.get ≡ true → (told s p BadGet).line ≡ get_line_after p e.given
+pub told_line : (w : What) (s : State) (p : Place) (e : Ended) → ended_what s w ≡ Ok e → e.state.get ≡ true → (placed_fault s p BadGet).line ≡ get_line_after p e.given
 told_line whats.Gap s p e h g = by_gap (done_is _ e h)
   where
-    by_gap : ended_as s givens.Nothing ≡ e → (told s p BadGet).line ≡ get_line_after p e.given
+    by_gap : ended_as s givens.Nothing ≡ e → (placed_fault s p BadGet).line ≡ get_line_after p e.given
     by_gap same =
         let on : s.get ≡ true = ap (λ (x : Ended). x.state.get) same ∙ g in
         ap (λ (b : Bool). cond (b && true) p.get_line p.line) on ∙ ap (λ (x : Ended). get_line_after p x.given) same

@@ -12,7 +12,7 @@ use Rattle.bk_lex.specs.declared.counting.State.{State}
 use Rattle.bk_lex.specs.declared.counting.Step.{Step}
 use Rattle.bk_lex.specs.Machine.{next}
 use Rattle.bk_lex.specs.Counting.{start, moved, within, past, ◌>>=◌}
-use Rattle.bk_lex.specs.Lexing.{Section, section, Reading, read, read_on, run, lexed, begin, told, is_dot}
+use Rattle.bk_lex.specs.Lexing.{Section, section, Reading, read, read_on, run, lexed, begin, placed_fault, is_dot}
 use Rattle.bk_lex.specs.Cutting.{goes_on_from, state_behind}
 use Rattle.bk_lex.specs.Tokens.{Putting, putting, seen}
 use Rattle.bk_lex.specs.TextFault.{PassesBytes, PassesSymbols, HasKind}
@@ -51,7 +51,7 @@ concludes_ground f total = record {
     no_answer s e = absurd cc
 
 -- past the count of bytes, a fault stands on the line of its byte
-past_line : (g : Fault) (s : State) (p : Place) → (told s p (past g)).line ≡ p.line
+past_line : (g : Fault) (s : State) (p : Place) → (placed_fault s p (past g)).line ≡ p.line
 past_line SectionTooLong s p = stays_here s.get p
 past_line HeaderTooLong s p = stays_here s.get p
 past_line BadGet s p = stays_here s.get p
@@ -75,7 +75,7 @@ only_symbols kind q line text e h = look (subst (λ (k : SourceKind). HasKind k 
     look (inl b) = absurd (omega (arith, b.over))
     look (inr x) = x
 
-ground_symbols : (f : SourceFault) (total c : ℕ) (rest : List ℕ) (q : Putting) (t : List ℕ) (r : Reading) (g : Fault) → f.kind ≡ source_kinds.SectionTooLong → Here t r.state.mode r.held q.get → Agrees (seen q t) r.out r.state r.place → moved r.state c (next r.state.mode c) ≡ Err g → told r.state r.place g ≡ f → OneGround f.line total q (t ++ c ∷ rest)
+ground_symbols : (f : SourceFault) (total c : ℕ) (rest : List ℕ) (q : Putting) (t : List ℕ) (r : Reading) (g : Fault) → f.kind ≡ source_kinds.SectionTooLong → Here t r.state.mode r.held q.get → Agrees (seen q t) r.out r.state r.place → moved r.state c (next r.state.mode c) ≡ Err g → placed_fault r.state r.place g ≡ f → OneGround f.line total q (t ++ c ∷ rest)
 ground_symbols f total c rest q t r g long here a m e =
     inr (λ more. subst (λ (x : List ℕ). PassesSymbols q f.line x) (sym (append_assoc t (c ∷ rest) more)) (
     let found : Found g 0 q r.state r.place (t ++ c ∷ (rest ++ more)) = moved_found 0 (next r.state.mode c) c (rest ++ more) q t r g here a (a.line ∙ seen_line q t) refl m in

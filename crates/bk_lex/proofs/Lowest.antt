@@ -19,7 +19,7 @@ use Rattle.bk_lex.specs.declared.counting.Step.{Step}
 use Rattle.bk_lex.specs.Bytes.{is_feed}
 use Rattle.bk_lex.specs.Machine.{fresh, next, end_fault}
 use Rattle.bk_lex.specs.Counting.{start, step_of, moved, within, past, finished, opened_as, ◌>>=◌}
-use Rattle.bk_lex.specs.Lexing.{Section, section, Reading, read, read_on, run, lexed, begin, told, told_kind, end_as, is_dot}
+use Rattle.bk_lex.specs.Lexing.{Section, section, Reading, read, read_on, run, lexed, begin, placed_fault, told_kind, end_as, is_dot}
 use Rattle.bk_lex.specs.Cutting.{goes_on_from, then_on, state_behind}
 use Rattle.bk_lex.specs.Pieces.{number, word, bracket, bracket_byte, Piece, CutsTo}
 use Rattle.bk_lex.specs.Tokens.{Putting}
@@ -64,8 +64,8 @@ along (c ∷ cs) r s more e =
       ap (λ (x : Result Step Fault). read_on r c x >>= λ q. behind q (cs ++ more)) v.1 ∙ ap (λ (d : Bool). cond d (Ok (section p.out p.used true p.place.line)) (run p (cs ++ more))) dotless ∙ a.2,
     )
 
-told_is : (r : Reading) (g : Fault) (f : SourceFault) → (let x : Result Section SourceFault = Err (told r.state r.place g) in x) ≡ Err f → f.kind ≡ told_kind g
-told_is r g f e = let same : told r.state r.place g ≡ f = cc in ap (λ (x : SourceFault). x.kind) (sym same)
+told_is : (r : Reading) (g : Fault) (f : SourceFault) → (let x : Result Section SourceFault = Err (placed_fault r.state r.place g) in x) ≡ Err f → f.kind ≡ told_kind g
+told_is r g f e = let same : placed_fault r.state r.place g ≡ f = cc in ap (λ (x : SourceFault). x.kind) (sym same)
 
 -- the fault that is told is that of the byte
 abbrev pub ByteFault : State → ℕ → SourceFault → Type 0

@@ -82,20 +82,20 @@ blank_begun get m n e h = look get (ap (mode_begun get) (sym e) ∙ h)
     look true z = ok_is z
     look false z = ok_is z
 
-abbrev Behind : Reading → ℕ → Step → Reading
-Behind r c u = read r c (fewer r.state.bytes u).state (fewer r.state.bytes u).act
+abbrev ReachedBehind : Reading → ℕ → Step → Reading
+ReachedBehind r c u = read r c (fewer r.state.bytes u).state (fewer r.state.bytes u).act
 
-first_step : (x : Next) (r : Reading) (c : ℕ) (u : Step) → next r.state.mode c ≡ x → moved r.state c x ≡ Ok u → FirstHeld r → FirstHeld (Behind r c u)
+first_step : (x : Next) (r : Reading) (c : ℕ) (u : Step) → next r.state.mode c ≡ x → moved r.state c x ≡ Ok u → FirstHeld r → FirstHeld (ReachedBehind r c u)
 first_step (nexts.Goes n) r c u e m (inl h) = absurd (blank_ends r.state.mode c n h e)
 first_step (nexts.Goes n) r c u e m (inr h) =
-    subst (λ (y : Step). FirstHeld (Behind r c y)) (done_is (stepped (with_mode r.state n) acts.Goes) u m) (inr (h.0, h.1 ++ c ∷ [], h.2, ap (λ (x : List ℕ). x ++ c ∷ []) h.3, h.4, h.5))
-first_step nexts.Ends r c u e m h = let p = opened_ok r.state c u (fresh c) refl m in subst (λ (y : Step). FirstHeld (Behind r c y)) p.6 (look (eqb c 10) refl p.1 p.0 p.2 p.3 p.5 p.7)
+    subst (λ (y : Step). FirstHeld (ReachedBehind r c y)) (done_is (stepped (with_mode r.state n) acts.Goes) u m) (inr (h.0, h.1 ++ c ∷ [], h.2, ap (λ (x : List ℕ). x ++ c ∷ []) h.3, h.4, h.5))
+first_step nexts.Ends r c u e m h = let p = opened_ok r.state c u (fresh c) refl m in subst (λ (y : Step). FirstHeld (ReachedBehind r c y)) p.6 (look (eqb c 10) refl p.1 p.0 p.2 p.3 p.5 p.7)
   where
     look : (d : Bool) → eqb c 10 ≡ d → (e : Ended) (m n : Mode) → fresh c ≡ Some m → mode_begun e.state.get m ≡ Ok n → least_room e.state m ≤ e.state.symbols
-        → FirstHeld (Behind r c (stepped (state n e.state.bytes e.state.symbols e.state.last (e.state.fed || eqb c 10) e.state.get) (acts.Begins e.given)))
+        → FirstHeld (ReachedBehind r c (stepped (state n e.state.bytes e.state.symbols e.state.last (e.state.fed || eqb c 10) e.state.get) (acts.Begins e.given)))
     look true d e m n f g le = inl (blank_begun e.state.get m n (feed_blank c m d f) g)
     look false d e m n f g le = let fed = ap (λ (y : Bool). asks e.state.last y m) (no_feed e.state.fed c d) in inr (c, [], m, refl, f, omega (arith, le, fed, same_asks e.state m))
-first_step (nexts.Names n) r c u e m h = let k = named_ok r.state n u m in subst (λ (y : Step). FirstHeld (Behind r c y)) k.1 (inl refl)
+first_step (nexts.Names n) r c u e m h = let k = named_ok r.state n u m in subst (λ (y : Step). FirstHeld (ReachedBehind r c y)) k.1 (inl refl)
 first_step (nexts.Bad f) r c u e m h = absurd (no_done f u m)
 
 -- ---- the piece that the machine is in
@@ -206,7 +206,7 @@ byte_reached s total c rest ih q t r here a g l =
     let v = stepped_on r.state c rest s g.0 in
     let w = within_ok r.state.bytes (moved r.state c (next r.state.mode c)) v.0 v.1 in
     let left = within_bytes r.state.bytes (moved r.state c (next r.state.mode c)) v.0 v.1 in
-    let states : (Behind r c w.0).state ≡ v.0.state = read_state r c (fewer r.state.bytes w.0).state (fewer r.state.bytes w.0).act ∙ ap (λ (y : Step). y.state) w.2 in
+    let states : (ReachedBehind r c w.0).state ≡ v.0.state = read_state r c (fewer r.state.bytes w.0).state (fewer r.state.bytes w.0).act ∙ ap (λ (y : Step). y.state) w.2 in
     let dotless = ap (λ (y : State). is_dot y.mode) states ∙ v.2 in
     let behind = ap (λ (y : State). state_behind (Some y) rest) states ∙ v.3 in
     step_sound (Reached s) (Going s) (GoingBehind s) total (concludes_reached s total) (next r.state.mode c) c rest ih q t r w.0 here a refl w.1 (dotless, (behind, first_step (next r.state.mode c) r c w.0 refl w.1 g.1)) (omega (arith, l.0), omega (arith, l.1, left))

@@ -14,7 +14,7 @@ use Rattle.bk_lex.specs.declared.scan.Place.{Place}
 use Rattle.bk_lex.specs.Symbol.{Symbol}
 use Rattle.bk_lex.specs.Header.{header_symbols}
 use Rattle.bk_lex.specs.Counting.{step_of, finished, ◌>>=◌}
-use Rattle.bk_lex.specs.Lexing.{Section, section, Reading, reading, read, read_on, run, told, end_as, is_dot, put_on, place_after}
+use Rattle.bk_lex.specs.Lexing.{Section, section, Reading, reading, read, read_on, run, placed_fault, end_as, is_dot, put_on, place_after}
 
 -- what the run gives behind a byte
 abbrev pub behind : Reading → List ℕ → Result Section SourceFault
@@ -30,7 +30,7 @@ pub good : (r : Reading) (text : List ℕ) (i : ℕ) (t : Step) (total : Result 
 good r text i t total lt e h = ap (λ (x : Result Step Fault). read_on r (get_or text i 0) x >>= λ q. behind q (drop (i + 1) text)) h ∙ one r text i total lt e
 
 pub bad : (r : Reading) (text : List ℕ) (i : ℕ) (f : Fault) (total : Result Section SourceFault) → i < length text → run r (drop i text) ≡ total → Err f ≡ step_of r.state (get_or text i 0)
-    → total ≡ Err (told r.state r.place f)
+    → total ≡ Err (placed_fault r.state r.place f)
 bad r text i f total lt e h = sym (ap (λ (x : Result Step Fault). read_on r (get_or text i 0) x >>= λ q. behind q (drop (i + 1) text)) h ∙ one r text i total lt e)
 
 pub goes_on : (q : Reading) (rest : List ℕ) (total : Result Section SourceFault) → false ≡ is_dot q.state.mode → behind q rest ≡ total → run q rest ≡ total
@@ -43,7 +43,7 @@ pub is_done : (r : Reading) (text : List ℕ) (i : ℕ) (total : Result Section 
 unfolding run
 is_done r text i total le e = sym e ∙ at_drop_all (run r) text i le
 
-pub end_bad : (r : Reading) (text : List ℕ) (i : ℕ) (f : Fault) (total : Result Section SourceFault) → length text ≤ i → run r (drop i text) ≡ total → Err f ≡ finished r.state → total ≡ Err (told r.state r.place f)
+pub end_bad : (r : Reading) (text : List ℕ) (i : ℕ) (f : Fault) (total : Result Section SourceFault) → length text ≤ i → run r (drop i text) ≡ total → Err f ≡ finished r.state → total ≡ Err (placed_fault r.state r.place f)
 end_bad r text i f total le e h = is_done r text i total le e ∙ ap (λ (x : Result Given Fault). end_as r x) (sym h)
 
 pub end_good : (r : Reading) (text : List ℕ) (i : ℕ) (g : Given) (total : Result Section SourceFault) → length text ≤ i → run r (drop i text) ≡ total → Ok g ≡ finished r.state → total ≡ end_as r (Ok g)

@@ -57,8 +57,8 @@ abbrev pub at : ℕ → ℕ → Place
 at line get_line = record { line = line; get_line = get_line }
 
 -- a fault of a GET whose string is due stands on the line of the GET
-abbrev pub told : State → Place → Fault → SourceFault
-told s p f = record { line = if s.get && of_get f then p.get_line else p.line; kind = told_kind f }
+abbrev pub placed_fault : State → Place → Fault → SourceFault
+placed_fault s p f = record { line = if s.get && of_get f then p.get_line else p.line; kind = told_kind f }
 
 -- a line that has reached 4294967295 stays there
 abbrev pub line_after : ℕ → ℕ → ℕ
@@ -103,11 +103,11 @@ is_dot _ = false
 
 abbrev pub read_on : Reading → ℕ → Result Step Fault → Result Reading SourceFault
 read_on r b (Ok t) = Ok (read r b t.state t.act)
-read_on r b (Err f) = Err (told r.state r.place f)
+read_on r b (Err f) = Err (placed_fault r.state r.place f)
 
 abbrev pub end_as : Reading → Result Given Fault → Result Section SourceFault
 end_as r (Ok g) = Ok (section (put_on r.out g r.place.line r.held) r.used false r.place.line)
-end_as r (Err f) = Err (told r.state r.place f)
+end_as r (Err f) = Err (placed_fault r.state r.place f)
 
 -- the `.` that ends the section, and else what follows
 unfoldable pub run : Reading → List ℕ → Result Section SourceFault

@@ -83,9 +83,9 @@ puts (Some q) [] = Some q
 puts (Some q) (p ∷ ps) = puts (put q p) ps
 
 -- how a section ends: with a `.`, behind which more may follow, or with the text
-abbrev pub Ends : Bool → ℕ → List ℕ → ℕ → Type 0
-Ends true used rest total = (more : List ℕ) × (rest ≡ 46 ∷ more) × (used + length more ≡ total)
-Ends false used rest total = (rest ≡ []) × (used ≡ total)
+abbrev pub EndsSection : Bool → ℕ → List ℕ → ℕ → Type 0
+EndsSection true used rest total = (more : List ℕ) × (rest ≡ 46 ∷ more) × (used + length more ≡ total)
+EndsSection false used rest total = (rest ≡ []) × (used ≡ total)
 
 -- from some tokens on, a text is cut into pieces that give these
 pub record CutFrom (q : Putting) (text : List ℕ) (total : ℕ) (s : Section) : Type 0 where
@@ -98,7 +98,7 @@ pub record CutFrom (q : Putting) (text : List ℕ) (total : ℕ) (s : Section) :
   pub symbols : s.symbols ≡ last.out
   pub line : s.line ≡ last.line
   pub within : length last.out ≤ 262144
-  pub ends : Ends s.ended s.used rest total
+  pub ends : EndsSection s.ended s.used rest total
 
 -- the first section of a text whose first line has the number `from`; it has at most 1,048,576 bytes, and at most 262,144
 -- symbols

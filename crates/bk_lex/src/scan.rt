@@ -5,7 +5,7 @@ ghost use Rattle.bk_lex.specs.TextFault.{NoFault};
 ghost use Rattle.bk_lex.specs.Telling.{SaysFault};
 ghost use Rattle.bk_lex.specs.Symbol.{symbols_of};
 ghost use Rattle.bk_lex.specs.Counting.{step_of, finished};
-ghost use Rattle.bk_lex.specs.Lexing.{Gives, Section, section_of, put_on, told, told_kind, line_after, place_after, lexed, is_dot};
+ghost use Rattle.bk_lex.specs.Lexing.{Gives, Section, section_of, put_on, placed_fault, told_kind, line_after, place_after, lexed, is_dot};
 
 use crate::adding::add;
 use crate::counting::{Act, Given, State, finished, start, take_byte};
@@ -52,8 +52,8 @@ struct Place {
 }
 
 /// The fault that is told. Those of a GET whose string is due stand on its line.
-fn told(state: State, place: Place, fault: Fault) -> SourceFault
-    ensures { result ≡ told state place fault }
+fn placed_fault(state: State, place: Place, fault: Fault) -> SourceFault
+    ensures { result ≡ placed_fault state place fault }
 {
     let at_get = state.get && matches!(fault, Fault::HeaderTooLong | Fault::BadGet);
     SourceFault {
@@ -151,7 +151,7 @@ fn read_section<'a>(
     for (i, byte) in text.iter().enumerate() {
         let next = match take_byte(state, *byte) {
             Ok(next) => next,
-            Err(fault) => return Err(Refused::Fault(told(state, place, fault))),
+            Err(fault) => return Err(Refused::Fault(placed_fault(state, place, fault))),
         };
         match next.act {
             Act::Goes => {}
@@ -174,7 +174,7 @@ fn read_section<'a>(
     }
     let given = match finished(state) {
         Ok(given) => given,
-        Err(fault) => return Err(Refused::Fault(told(state, place, fault))),
+        Err(fault) => return Err(Refused::Fault(placed_fault(state, place, fault))),
     };
     put(&mut tokens, given, place.line, text, start, text.len())?;
     Ok(Lexed {

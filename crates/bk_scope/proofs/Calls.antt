@@ -11,7 +11,7 @@ use Rattle.bk_scope.specs.Scope.{Binding, bind}
 use Rattle.bk_scope.specs.Found.{Found, takes, reaches}
 use Rattle.bk_scope.specs.Places.{labelled, deeper, looping}
 use Rattle.bk_scope.specs.Entering.{Stage, labels_of, labels_of_each, with_labels}
-use Rattle.bk_scope.specs.Names.{Behind, declared, evaluated, constants_found, done, each_done}
+use Rattle.bk_scope.specs.Names.{AfterDeclarations, declared, evaluated, constants_found, done, each_done}
 
 -- a call has as many arguments as its list
 pub size_is_length : (xs : List Expr) → size (expressions_in xs) ≡ length xs
@@ -23,10 +23,10 @@ block_without_declarations s p l [] cs none = refl
 block_without_declarations s p l (d ∷ ds) cs none = absurd (omega (arith, none))
 
 -- the stage behind a block's labels, where b stands behind its declarations
-abbrev pub stage_in : Place → Actions → Behind → Stage
+abbrev pub stage_in : Place → Actions → AfterDeclarations → Stage
 stage_in p cs b = with_labels p.procedure (labels_of_each cs) (record { scope = b.scope; found = takes b.found })
 
-pub block_with_declarations : (s : Stage) (p : Place) (l : ℕ) (ds : List Decl) (cs : Actions) (b : Behind) (t : Stage) → 0 < length ds → b ≡ declared s.scope p (declarations_in ds) s.found → t ≡ stage_in p cs b
+pub block_with_declarations : (s : Stage) (p : Place) (l : ℕ) (ds : List Decl) (cs : Actions) (b : AfterDeclarations) (t : Stage) → 0 < length ds → b ≡ declared s.scope p (declarations_in ds) s.found → t ≡ stage_in p cs b
     → done s.scope p (block l (declarations_in ds) cs) s.found ≡ each_done t.scope (labelled b.found.next b.place) cs t.found
 block_with_declarations s p l [] cs b t some eb et = absurd (omega (arith, some))
 block_with_declarations s p l (d ∷ ds) cs b t some eb et = rw et (rw eb refl)

@@ -15,7 +15,7 @@ use Rattle.bk_scope.specs.Constants.{constant_word}
 use Rattle.bk_scope.specs.Found.{Found, breaks, means, takes, reaches}
 use Rattle.bk_scope.specs.Places.{deeper}
 use Rattle.bk_scope.specs.Entering.{Stage}
-use Rattle.bk_scope.specs.Names.{Behind, evaluated, listed, all_listed, constant_found, bounded, within, words_of_start, manifests, statics, globals, started, declared, one_declared}
+use Rattle.bk_scope.specs.Names.{AfterDeclarations, evaluated, listed, all_listed, constant_found, bounded, within, words_of_start, manifests, statics, globals, started, declared, one_declared}
 use Rattle.bk_scope.specs.Spots.{Spot, past, numbered, behind, behind_constant, behind_one_declared, symbols, numbers, numbers_items, numbers_declared, numbers_one_declared, numbers_started}
 use Rattle.bk_scope.specs.Points.{Point, at, meaning, word}
 use Rattle.bk_scope.specs.Scoping.{manifests_in_scope, statics_in_scope, globals_in_scope, scope_behind_one, place_behind_one, scope_behind, place_behind_all}
@@ -166,7 +166,7 @@ pub declare_tied : (d : Declaration) (ds : Declarations) → DeclarationTied d �
 declare_tied d ds t u = record { scope = λ bs p s f e. (whole bs p s f e).1; place = λ bs p s f e. (whole bs p s f e).2; found = λ bs p s f e. (whole bs p s f e).0 } where
   Whole : List Binding → Place → Spot → Found → List Binding → Place → Type 0
   Whole bs p s f cs z =
-      let b : Behind = declared cs z ds (one_declared bs p d f).found in
+      let b : AfterDeclarations = declared cs z ds (one_declared bs p d f).found in
       Tied (told_declared bs p s (declare d ds)) (numbers_declared (declare d ds)) f b.found × (b.scope ≡ scope_behind bs p s (declare d ds)) × (b.place ≡ place_behind_all bs p s (declare d ds))
 
   whole : (bs : List Binding) (p : Place) (s : Spot) (f : Found) → f.next ≡ s.number → Whole bs p s f (one_declared bs p d f).scope (one_declared bs p d f).place

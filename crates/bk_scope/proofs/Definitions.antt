@@ -6,11 +6,11 @@ use Rattle.bk_scope.specs.declared.place.Place.{Place}
 use Rattle.bk_scope.specs.Scope.{Binding, bind_all}
 use Rattle.bk_scope.specs.Found.{Found, takes}
 use Rattle.bk_scope.specs.Entering.{Stage, with_labels, with_formals, with_procedures}
-use Rattle.bk_scope.specs.Names.{Behind, Defined, variables_of, all_listed, started, place_behind, defined, one_declared, one_defined}
+use Rattle.bk_scope.specs.Names.{AfterDeclarations, Defined, variables_of, all_listed, started, place_behind, defined, one_declared, one_defined}
 use Rattle.bk_scope.proofs.Leaving.{Above, both, labels_above, formals_above}
 
 -- what stands behind a declaration that leaves the place as it was
-abbrev pub at : Place → Stage → Behind
+abbrev pub at : Place → Stage → AfterDeclarations
 at p t = record { scope = t.scope; place = p; found = t.found }
 
 -- no starts make no variables
@@ -27,7 +27,7 @@ pub let_behind : (bs : List Binding) (p : Place) (f : Found) (l : ℕ) (ds : Def
     → t ≡ with_procedures ds (record { scope = bs; found = takes f })
     → d ≡ defined f.next t.scope ds (record { fresh = []; place = p; found = t.found })
     → cs ≡ bind_all d.fresh t.scope → q ≡ d.place → g ≡ d.found
-    → ◌≡◌ {A = Behind} (record { scope = cs; place = q; found = g }) (one_declared bs p (definitions l ds) f)
+    → ◌≡◌ {A = AfterDeclarations} (record { scope = cs; place = q; found = g }) (one_declared bs p (definitions l ds) f)
 let_behind bs p f l ds t d cs q g et ed ec eq eg = rw ec (rw eq (rw eg (rw ed (rw et refl))))
 
 -- what stands behind the definition of some variables, by what their names and starts made

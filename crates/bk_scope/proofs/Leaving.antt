@@ -9,7 +9,7 @@ use Rattle.bk_scope.specs.Scope.{Binding, bound_in, bind_all, is_global}
 use Rattle.bk_scope.specs.Found.{Found, takes}
 use Rattle.bk_scope.specs.Places.{kept}
 use Rattle.bk_scope.specs.Entering.{Stage, with_labels, with_formals, with_procedure, with_procedures}
-use Rattle.bk_scope.specs.Names.{Behind, manifests, statics, globals, defined, one_declared, declared}
+use Rattle.bk_scope.specs.Names.{AfterDeclarations, manifests, statics, globals, defined, one_declared, declared}
 
 -- the scope cs has these declarations inside bs
 abbrev pub Above : List Binding → List Binding → Type 0
@@ -82,5 +82,5 @@ one_declared_above bs p (definitions l ds) f =
 pub declared_above : (ds : Declarations) (bs : List Binding) (p : Place) (f : Found) → Above bs ((declared bs p ds f).scope)
 declared_above no_declarations bs p f = same bs
 declared_above (declare d ds) bs p f =
-    let b : Behind = one_declared bs p d f in
+    let b : AfterDeclarations = one_declared bs p d f in
     both bs b.scope _ (one_declared_above bs p d f) (declared_above ds b.scope b.place b.found)

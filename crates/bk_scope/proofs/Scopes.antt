@@ -9,7 +9,7 @@ use Rattle.bk_scope.specs.Scope.{Binding, bind}
 use Rattle.bk_scope.specs.Found.{Found, takes, reaches}
 use Rattle.bk_scope.specs.Places.{switching, labelled, valued}
 use Rattle.bk_scope.specs.Entering.{Stage, labels_of, labels_of_each, with_labels}
-use Rattle.bk_scope.specs.Names.{Behind, evaluated, done, each_done, declared}
+use Rattle.bk_scope.specs.Names.{AfterDeclarations, evaluated, done, each_done, declared}
 use Rattle.bk_scope.specs.Spots.{Spot, onward, numbered, behind, behind_declared, symbols, symbols_done, symbols_done_each, symbols_declared, numbers, numbers_done, numbers_done_each, numbers_declared}
 use Rattle.bk_scope.specs.Points.{Point}
 use Rattle.bk_scope.specs.Scoping.{labels_in_scope, scope_behind, place_behind_all}
@@ -96,7 +96,7 @@ CsInside cs = (bs : List Binding) (p : Place) (s : Spot) → Spans s.place (s.pl
 
 pub block_tied : (l : ℕ) (d : Declaration) (ds : Declarations) (cs : Actions) → DsTied (declare d ds) → DsInside (declare d ds) → CsTied cs → CsInside cs → CTied (block l (declare d ds) cs)
 block_tied l d ds cs td id tc ic bs p s f e =
-    let b : Behind = declared bs p (declare d ds) f in
+    let b : AfterDeclarations = declared bs p (declare d ds) f in
     let u : Spot = behind_declared (declare d ds) s in
     let one : Tied (told_declared bs p s (declare d ds)) (numbers_declared (declare d ds)) f b.found = td.found bs p s f e in
     let same : b.found.next ≡ u.number = omega (arith, one.next, e) in

@@ -39,9 +39,9 @@ misnamed m.TwoProcedures x = two_procedures x
 abbrev pub breach_of : SourceFault → Breach
 breach_of f = record { line = f.line; wrong = wrong_of f.kind }
 
-abbrev pub told : Option SourceFault → Option Breach
-told None = None
-told (Some f) = Some (breach_of f)
+abbrev pub breach_told : Option SourceFault → Option Breach
+breach_told None = None
+breach_told (Some f) = Some (breach_of f)
 
 abbrev pub first_fault : FirstFault → Option Breach
-first_fault f = told f.fault
+first_fault f = breach_told f.fault

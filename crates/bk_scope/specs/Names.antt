@@ -233,12 +233,12 @@ pub record Defined : Type 0 where
   pub found : Found
 
 -- what stands behind a declaration
-pub record Behind : Type 0 where
+pub record AfterDeclarations : Type 0 where
   pub scope : List Binding
   pub place : Place
   pub found : Found
 
-abbrev at : Place → Stage → Behind
+abbrev at : Place → Stage → AfterDeclarations
 at p s = record { scope = s.scope; place = p; found = s.found }
 
 abbrev mutual
@@ -291,7 +291,7 @@ abbrev mutual
   done bs p (simple l w) f = single p l w f
   done bs p (block l no_declarations cs) f = each_done bs p cs f
   done bs p (block l (declare d ds) cs) f =
-      let b : Behind = declared bs p (declare d ds) f in
+      let b : AfterDeclarations = declared bs p (declare d ds) f in
       let t : Stage = with_labels p.procedure (labels_of_each cs) (record { scope = b.scope; found = takes b.found }) in
       each_done t.scope (labelled b.found.next b.place) cs t.found
   done bs p (repeat l c) f = done bs (looping p) c f
@@ -301,13 +301,13 @@ abbrev mutual
   each_done bs p no_actions f = f
   each_done bs p (also c cs) f = each_done bs p cs (done bs p c f)
 
-  pub declared : List Binding → Place → Declarations → Found → Behind
+  pub declared : List Binding → Place → Declarations → Found → AfterDeclarations
   declared bs p no_declarations f = record { scope = bs; place = p; found = f }
   declared bs p (declare d ds) f =
-      let b : Behind = one_declared bs p d f in
+      let b : AfterDeclarations = one_declared bs p d f in
       declared b.scope b.place ds b.found
 
-  pub one_declared : List Binding → Place → Declaration → Found → Behind
+  pub one_declared : List Binding → Place → Declaration → Found → AfterDeclarations
   one_declared bs p (constants l s.Manifest is) f = at p (manifests f.next p.procedure is (record { scope = bs; found = takes f }))
   one_declared bs p (constants l s.Static is) f = at p (statics bs f.next p.procedure is (record { scope = bs; found = takes f }))
   one_declared bs p (constants l s.Global is) f = at p (globals bs f.next p.procedure is (record { scope = bs; found = takes f }))

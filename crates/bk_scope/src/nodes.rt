@@ -1,7 +1,7 @@
 //! Going through the nodes of a section.
 ghost use Rattle.std.specs.Prelude.{◌≡◌, ◌++◌, [], ◌∷◌, map, OnOk, IfOk};
 ghost use Rattle.bk_syntax.specs.Tree.{expression, expressions_in, action, actions_in, declaration, declarations_in, definition, definitions_in, starts_in, mention};
-ghost use Rattle.bk_scope.specs.Names.{Behind, Defined, evaluated, each_evaluated, destinations, done, each_done, declared, one_declared, defined, one_defined, started, place_behind, variables_of, words_below};
+ghost use Rattle.bk_scope.specs.Names.{AfterDeclarations, Defined, evaluated, each_evaluated, destinations, done, each_done, declared, one_declared, defined, one_defined, started, place_behind, variables_of, words_below};
 
 use crate::bound::Bound;
 use crate::claims::Claim;

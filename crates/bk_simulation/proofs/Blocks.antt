@@ -187,8 +187,8 @@ all_declared_run g m sim (t.declare h hs) env bs then s A C B z w c d w1 r le ke
     (λ env1 w2 q. all_declared_run g m sim hs env1 q.bs then s D C B z w q.c1 q.d1 w2 r q.deep q.keeps (omega arith) (omega arith) le3 le4 q.laid q.arr q.named)
 
 -- what is laid behind the declarations of a block
-abbrev Behind : Sit → Actions → List Stmt → Setting → Scene → ℕ → Environment → List Stmt → Type 0
-Behind z cs rest g sc1 d1 env1 c1 =
+abbrev BehindBlock : Sit → Actions → List Stmt → Setting → Scene → ℕ → Environment → List Stmt → Type 0
+BehindBlock z cs rest g sc1 d1 env1 c1 =
     (j : ℕ) × (at1 : Sought → List Stmt) × AreActs g (owning j cs sc1) d1 (labelled cs env1) cs at1 c1 (Stack z.depth ∷ rest) × (turns_through cs ≤ g.pay)
     × ((x : List ℕ) → stands_in_one (the_label x) env1 cs ≡ true → LeadsTo (owning j cs sc1) d1 x (at1 (the_label x)))
 
@@ -219,8 +219,8 @@ block_runs g m sim scope_after B l h hs cs z at c rest w le le' laid r =
     let st : State = state z.scene.own k.d1 (Stack z.depth ∷ rest) a.cells1 z.frame a.hand1 a.written1 w3 in
     arrived_more g s (further 1 B1) B z.scene.own z.frame w.calls (z.frame + z.depth) (store z w) rest z.depth w3 (omega arith) (omega arith)
     (arrived_step g s B1 z.scene.own z.frame w.calls (z.frame + z.depth) (store z w) (Stack z.depth ∷ rest) rest k.d1 z.depth w3 a cells2 None a.written1 (omega arith) like (stack_moves g.program st z.scene.own rest k.d1 z.depth refl)))
-    (with_ran g s B (Declared g s C z w (Behind z cs rest g)) (λ _ w1. Left g s B1 z rest w w1) (OpenExited g s B z w) (declare_all m (t.declare h hs) z.env w) _ (λ env1. adds _ (λ w1. scope_after env1 w1 cs))
-    (all_declared_run g m sim (t.declare h hs) z.env z.scene.bindings (Behind z cs rest g) s A C B z w c z.depth w r (omega arith) (λ x q. refl) (omega arith) (omega arith) (omega arith) (omega arith) laid
+    (with_ran g s B (Declared g s C z w (BehindBlock z cs rest g)) (λ _ w1. Left g s B1 z rest w w1) (OpenExited g s B z w) (declare_all m (t.declare h hs) z.env w) _ (λ env1. adds _ (λ w1. scope_after env1 w1 cs))
+    (all_declared_run g m sim (t.declare h hs) z.env z.scene.bindings (BehindBlock z cs rest g) s A C B z w c z.depth w r (omega arith) (λ x q. refl) (omega arith) (omega arith) (omega arith) (omega arith) laid
     (open_stay g A z c w (omega arith) (omega arith) r) r.named)
     (λ env1 w1 q.
     let N = for_scope cs w1 in

@@ -7,8 +7,8 @@ use Rattle.bk_syntax.specs.declared.tree.Operator.{Operator}
 use Rattle.bk_syntax.specs.declared.tree.Operator.TheVariants as o
 use Rattle.bk_syntax.specs.Tree.{Expression, Expressions, Action, Actions, Declarations, name, number, text, truth, query, parens, unary, binary, choice, apply, valof, table, none, more, empty, assign, call, goto, label, case_of, default, when, test, while, for_loop, switch, result, simple, block, repeat, repeat_while, no_declarations, declare}
 use Rattle.bk_syntax.specs.Rows.{row, inner, left, is_relation, infix_of, begins_operand, begins_command, repeats, assigns, is_comma, goes, Fails, Stops}
-use Rattle.bk_syntax.specs.Grammar.{Leaf, line_of, line_of_first, size, last, Full, Ends, Filled, if_or_unless, while_or_until, Reads, Each, Does}
-use Rattle.bk_syntax.specs.Machine.{each_then, Stack, in_block, in_binary, in_chain, in_table, in_start, in_values, State, want, have, begin, maybe, did, due, limit, linked, guarded, behind_sign, bars, give, finish, without, stepped_by, run}
+use Rattle.bk_syntax.specs.Grammar.{Leaf, line_of, line_of_first, size, last, Full, EndsCommand, Filled, if_or_unless, while_or_until, Reads, Each, Does}
+use Rattle.bk_syntax.specs.Inner.Machine.{each_then, Stack, in_block, in_binary, in_chain, in_table, in_start, in_values, State, want, have, begin, maybe, did, due, limit, linked, guarded, behind_sign, bars, give, finish, without, stepped_by, run}
 use Rattle.bk_syntax.proofs.Steps.{stepped, same_step, alike, takes, failing, failing_both, stops_alike, repeats_alike, pushes, row_le, infix_goes, push_infix, prefix_begins, leaf_begins, operand_begins, simple_begins, guard_begins, at_operand, at_item, same_eq, less_eq}
 
 -- ---- expressions
@@ -178,7 +178,7 @@ full_fails _ us h = h
 pub perhaps : (c : Action) (ts us : List Symbol) (fr st : Stack) (make : Action → Action)
     → ((l : ℕ) (s : List ℕ) (t : Kind) → without fr l s t ≡ finish st (make empty) l s t)
     → ((a : Action) (l : ℕ) (s : List ℕ) (t : Kind) → repeats t ≡ false → finish fr a l s t ≡ finish st (make a) l s t)
-    → (Filled c → run ts (begin fr) ≡ run us (did fr c)) → Does c ts us → Ends c us → run ts (maybe fr) ≡ run us (did st (make c))
+    → (Filled c → run ts (begin fr) ≡ run us (did fr c)) → Does c ts us → EndsCommand c us → run ts (maybe fr) ≡ run us (did st (make c))
 perhaps empty ts us fr st make bare made runs h ends =
     ap (λ z. run z (maybe fr)) h.0 ∙ alike us (maybe fr) (did st (make empty)) (stepped_by (did st (make empty)))
     (failing begins_command us (maybe fr) _ refl h.1 (λ l s t f. rw f (bare l s t))) (takes us (did st (make empty)))

@@ -8,11 +8,11 @@ use Rattle.bk_syntax.specs.Spelling.{tag_of}
 use Rattle.bk_syntax.specs.Brackets.{Closing, same_tag, one_more, up_to_tag, without_tag, closed_by, in_front, plain}
 use Rattle.bk_base.specs.declared.limit.TheConstants.{TREE_DEPTH}
 use Rattle.bk_syntax.specs.Limits.{depth_of_declarations}
-use Rattle.bk_syntax.specs.Sizes.{least_depth}
+use Rattle.bk_syntax.specs.Inner.Sizes.{least_depth}
 use Rattle.bk_syntax.specs.SyntaxFault.{Begins, Any, Shallow}
-use Rattle.bk_syntax.specs.Machine.{State, due, in_section, opens, closes, stepped_by, step, run}
+use Rattle.bk_syntax.specs.Inner.Machine.{State, due, in_section, opens, closes, stepped_by, step, run}
 use Rattle.bk_syntax.specs.SyntaxLaws.{reading}
-use Rattle.bk_syntax.specs.Parsing.{goes_to, leads, Behind}
+use Rattle.bk_syntax.specs.Parsing.{goes_to, leads, AfterSymbols}
 use Rattle.bk_syntax.proofs.Steps.{stepped}
 use Rattle.bk_syntax.proofs.Before.{opens_kind, closes_kind}
 use Rattle.bk_syntax.proofs.Stands.{whole_err}
@@ -211,16 +211,16 @@ goes_on_begins ts ps h p =
     (r.more, r.tree, record { plainly = r.plainly; brackets = r.brackets; section = (reads_the_grammar r.tree r.plainly).1 r.runs }, tt)
 
 -- what was read so far
-behind_completed : (ts : List Symbol) (opens : List (List ℕ)) (x : State) (b : Behind ts opens x) → Completed ts b.plainly [] (due (in_section no_declarations))
+behind_completed : (ts : List Symbol) (opens : List (List ℕ)) (x : State) (b : AfterSymbols ts opens x) → Completed ts b.plainly [] (due (in_section no_declarations))
 behind_completed ts opens x b = complete_from ts b.plainly [] (due (in_section no_declarations)) refl (plain_all ts opens x b) (λ t v e. none_left x t v (sym (reading_all ts opens x b) ∙ e))
 
-pub behind_begins : (ts : List Symbol) (opens : List (List ℕ)) (x : State) → Behind ts opens x → Begins Any ts
+pub behind_begins : (ts : List Symbol) (opens : List (List ℕ)) (x : State) → AfterSymbols ts opens x → Begins Any ts
 behind_begins ts opens x b =
     let r = behind_completed ts opens x b in
     (r.more, r.tree, record { plainly = r.plainly; brackets = r.brackets; section = (reads_the_grammar r.tree r.plainly).1 r.runs }, tt)
 
 -- where the least that goes on is no deeper than the limit, so is a section that begins with the symbols
-pub behind_shallow : (ts : List Symbol) (opens : List (List ℕ)) (x : State) → Behind ts opens x → least_depth x ≤ TREE_DEPTH → Begins Shallow ts
+pub behind_shallow : (ts : List Symbol) (opens : List (List ℕ)) (x : State) → AfterSymbols ts opens x → least_depth x ≤ TREE_DEPTH → Begins Shallow ts
 behind_shallow ts opens x b within =
     let r = behind_completed ts opens x b in
     let last : r.last ≡ x = let p = r.comes in let q = b.comes in cc in

@@ -29,12 +29,12 @@ use Rattle.bk_syntax.specs.Tree.{Declarations, declarations_in, no_declarations}
 use Rattle.bk_syntax.specs.Spelling.{tag_of}
 use Rattle.bk_syntax.specs.Brackets.{Closing, closed_by, in_front, plain_behind, plain_by, plain}
 use Rattle.bk_syntax.specs.SyntaxFault.{Stands}
-use Rattle.bk_syntax.specs.Machine.{Stack, State, due, in_section, opens, closes, stepped_by, step, whole, going, run}
-use Rattle.bk_syntax.specs.Begun.{begun_on}
-use Rattle.bk_syntax.specs.Stacked.{above, stack}
-use Rattle.bk_syntax.specs.Frames.{stack_of, state, Steps}
+use Rattle.bk_syntax.specs.Inner.Machine.{Stack, State, due, in_section, opens, closes, stepped_by, step, whole, going, run}
+use Rattle.bk_syntax.specs.Inner.Begun.{begun_on}
+use Rattle.bk_syntax.specs.Inner.Stacked.{above, stack}
+use Rattle.bk_syntax.specs.Inner.Frames.{stack_of, state, Steps}
 use Rattle.bk_syntax.specs.SyntaxLaws.{reading}
-use Rattle.bk_syntax.specs.Parsing.{tags, Closes, goes_to, steps, leads, Behind, told, Advances, Ends}
+use Rattle.bk_syntax.specs.Parsing.{tags, Closes, goes_to, steps, leads, AfterSymbols, refused_at, Advances, AnswersAtEnd}
 use Rattle.bk_syntax.proofs.Steps.{stepped}
 use Rattle.bk_syntax.proofs.Before.{opens_kind, closes_kind}
 use Rattle.bk_syntax.proofs.Stacks.{stack_none}
@@ -66,16 +66,16 @@ leads_runs [] x y us h = let same : x ≡ y = cc in ap (run us) same
 leads_runs (t ∷ ps) x y us h = let g = goes_some (leads ps) (step x t) y h in stepped x g.0 t (ps ++ us) g.1 ∙ leads_runs ps g.0 y us g.2
 
 -- what comes behind them is read from there
-pub reads : {ts : List Symbol} {opens : List (List ℕ)} {x : State} (b : Behind ts opens x) (us : List Symbol) → reading (b.plainly ++ us) ≡ run us x
+pub reads : {ts : List Symbol} {opens : List (List ℕ)} {x : State} (b : AfterSymbols ts opens x) (us : List Symbol) → reading (b.plainly ++ us) ≡ run us x
 reads {x = x} b us = leads_runs b.plainly (due (in_section no_declarations)) x us b.comes
 
 -- before the first symbol
-pub from_start : Behind [] [] (due (in_section no_declarations))
+pub from_start : AfterSymbols [] [] (due (in_section no_declarations))
 from_start = record { plainly = []; brackets = λ us. nothing_in_front (plain us []); comes = refl }
 
 -- behind one symbol more, which stands for these plain ones
-pub behind_one : (ts : List Symbol) (t : Symbol) (before after : List (List ℕ)) (x y : State) (ps : List Symbol) → Behind ts before x
-    → ((us : List Symbol) → plain (t ∷ us) before ≡ in_front ps (plain us after)) → leads ps x ≡ Some y → Behind (ts ++ t ∷ []) after y
+pub behind_one : (ts : List Symbol) (t : Symbol) (before after : List (List ℕ)) (x y : State) (ps : List Symbol) → AfterSymbols ts before x
+    → ((us : List Symbol) → plain (t ∷ us) before ≡ in_front ps (plain us after)) → leads ps x ≡ Some y → AfterSymbols (ts ++ t ∷ []) after y
 behind_one ts t before after x y ps b h g = record {
   plainly = b.plainly ++ ps;
   brackets = λ us. ap (λ z. plain z []) (append_assoc ts (t ∷ []) us) ∙ b.brackets (t ∷ us) ∙ ap (in_front b.plainly) (h us) ∙ both_in_front b.plainly ps (plain us after);
@@ -107,7 +107,7 @@ unfolding plain
 plain_end opens = refl
 
 -- a symbol at which the machine stops is an unexpected one
-pub unexpected : (ts : List Symbol) (t : Symbol) (before after : List (List ℕ)) (x : State) (n : ℕ) → Behind ts before x
+pub unexpected : (ts : List Symbol) (t : Symbol) (before after : List (List ℕ)) (x : State) (n : ℕ) → AfterSymbols ts before x
     → ((us : List Symbol) → plain (t ∷ us) before ≡ in_front (replicate n t) (plain us after)) → steps n t x ≡ None → Stands UnexpectedSymbol ts t
 unexpected ts t before after x n b h stop =
     let j = stops n t x stop in
@@ -123,7 +123,7 @@ unexpected ts t before after x n b h stop =
     ((λ w. none w.0 w.1 w.2), ((λ e. absurd cc), λ w. none w.0 w.1 w.2))
 
 -- a symbol at which the tag clause fails has a wrong tag
-pub wrong_tag : (ts : List Symbol) (t : Symbol) (before : List (List ℕ)) (x : State) → Behind ts before x → plain (t ∷ []) before ≡ None → Stands WrongSectionTag ts t
+pub wrong_tag : (ts : List Symbol) (t : Symbol) (before : List (List ℕ)) (x : State) → AfterSymbols ts before x → plain (t ∷ []) before ≡ None → Stands WrongSectionTag ts t
 wrong_tag ts t before x b h =
     let is : plain (ts ++ t ∷ []) [] ≡ None = b.brackets (t ∷ []) ∙ ap (in_front b.plainly) h in
     ((λ w. tag_stands (ts ++ t ∷ []) w.0 w.1 is w.2), is)
@@ -154,11 +154,11 @@ steps_more (suc n) t x h = let e : suc n - 1 ≡ n = omega arith in ap (λ (m : 
 
 -- a symbol is answered by as many steps as it has plain symbols
 pub answered : (r : Result Now Stop) (new : Frames) (xs : List (Bor (List ℕ))) (u : List Symbol) (t : Symbol) (before after : List (List ℕ)) (x : State) (n : ℕ)
-    → Steps (stack_of new) r (steps n t x) → tags xs ≡ after → ((us : List Symbol) → plain (t ∷ us) before ≡ in_front (replicate n t) (plain us after)) → Behind u before x
-    → Advances new xs (told r t.line) u t
+    → Steps (stack_of new) r (steps n t x) → tags xs ≡ after → ((us : List Symbol) → plain (t ∷ us) before ≡ in_front (replicate n t) (plain us after)) → AfterSymbols u before x
+    → Advances new xs (refused_at r t.line) u t
 answered (Ok now) new xs u t before after x n go are h b =
     let y = state (stack_of new) now in
-    let P : List (List ℕ) → Type 0 = λ z. Behind (u ++ t ∷ []) z y in
+    let P : List (List ℕ) → Type 0 = λ z. AfterSymbols (u ++ t ∷ []) z y in
     subst P (sym are) (behind_one u t before after x y (replicate n t) b h (leads_steps n t x ∙ go))
 answered (Err s.Memory) new xs u t before after x n go are h b = tt
 answered (Err s.Unexpected) new xs u t before after x n go are h b = (refl, unexpected u t before after x n b h go)
@@ -192,26 +192,26 @@ unfolding run
 run_end x = refl
 
 pub one_further : (ts : List Token) (i : ℕ) (t : Token) (opens : List (List ℕ)) (x : State) → i < length ts → t ≡ get_or ts i t
-    → Behind (symbols_of (take i ts) ++ symbol_of t ∷ []) opens x → Behind (symbols_of (take (i + 1) ts)) opens x
+    → AfterSymbols (symbols_of (take i ts) ++ symbol_of t ∷ []) opens x → AfterSymbols (symbols_of (take (i + 1) ts)) opens x
 one_further ts i t opens x lt at b =
-    let P : List Symbol → Type 0 = λ z. Behind z opens x in
+    let P : List Symbol → Type 0 = λ z. AfterSymbols z opens x in
     subst P (sym (ap symbols_of (take_more ts i t lt ∙ ap (λ z. take i ts ++ z ∷ []) (sym at)) ∙ map-append symbol_of (take i ts) (t ∷ []))) b
 
 -- the brackets of all the symbols
-pub plain_all : (ts : List Symbol) (opens : List (List ℕ)) (x : State) (b : Behind ts opens x) → plain ts [] ≡ Some b.plainly
+pub plain_all : (ts : List Symbol) (opens : List (List ℕ)) (x : State) (b : AfterSymbols ts opens x) → plain ts [] ≡ Some b.plainly
 plain_all ts opens x b = ap (λ z. plain z []) (sym (append-nil ts)) ∙ b.brackets [] ∙ ap (in_front b.plainly) (plain_end opens) ∙ ap Some (append-nil b.plainly)
 
-pub reading_all : (ts : List Symbol) (opens : List (List ℕ)) (x : State) (b : Behind ts opens x) → reading b.plainly ≡ run [] x
+pub reading_all : (ts : List Symbol) (opens : List (List ℕ)) (x : State) (b : AfterSymbols ts opens x) → reading b.plainly ≡ run [] x
 reading_all ts opens x b = ap reading (sym (append-nil b.plainly)) ∙ reads b []
 
 pub closed : (r : Result Now Stop) (new : Frames) (xs ys zs : List (Bor (List ℕ))) (u : List Symbol) (t : Symbol) (x : State) (n k : ℕ) → closes t.kind ≡ true → zs ≡ ys → Closes (Some n) t (tag_of t.text) zs
-    → k ≡ length ys - n → xs ≡ take k ys → Steps (stack_of new) r (steps n t x) → Behind u (tags ys) x → Advances new xs (told r t.line) u t
+    → k ≡ length ys - n → xs ≡ take k ys → Steps (stack_of new) r (steps n t x) → AfterSymbols u (tags ys) x → Advances new xs (refused_at r t.line) u t
 closed r new xs ys zs u t x n k holds same h left is go b =
     let P : List (Bor (List ℕ)) → Type 0 = λ z. Closes (Some n) t (tag_of t.text) z in
     let q : closed_by t (tag_of t.text) (tags ys) ≡ Some (record { closings = replicate n t; still = tags (take (length ys - n) ys) }) = subst P same h in
     answered r new xs u t (tags ys) (tags (take (length ys - n) ys)) x n go (ap tags (is ∙ ap (λ (j : ℕ). take j ys) left)) (λ us. plain_close t us (tags ys) _ holds q) b
 
-pub not_closed : (ys zs : List (Bor (List ℕ))) (u : List Symbol) (t : Symbol) (x : State) → closes t.kind ≡ true → zs ≡ ys → Closes None t (tag_of t.text) zs → Behind u (tags ys) x → Stands WrongSectionTag u t
+pub not_closed : (ys zs : List (Bor (List ℕ))) (u : List Symbol) (t : Symbol) (x : State) → closes t.kind ≡ true → zs ≡ ys → Closes None t (tag_of t.text) zs → AfterSymbols u (tags ys) x → Stands WrongSectionTag u t
 not_closed ys zs u t x holds same h b =
     let P : List (Bor (List ℕ)) → Type 0 = λ z. Closes None t (tag_of t.text) z in
     wrong_tag u t (tags ys) x b (plain_close t [] (tags ys) None holds (subst P same h))
@@ -226,15 +226,15 @@ unfolding stack
 whole_empty ds [] h = refl
 whole_empty ds (x ∷ xs) h = absurd (omega arith)
 
-pub ends_wrong : (q : Refused SourceFault) (r : Result Declarations (List Symbol)) (end : ℕ) → q ≡ Fault (record { line = end; kind = UnexpectedSymbol }) → r ≡ Err [] → Ends (Err q) r end
-ends_wrong q r end is h = let P : Refused SourceFault → Type 0 = λ z. Ends (Err z) r end in subst P (sym is) (h, refl, refl)
+pub ends_wrong : (q : Refused SourceFault) (r : Result Declarations (List Symbol)) (end : ℕ) → q ≡ Fault (record { line = end; kind = UnexpectedSymbol }) → r ≡ Err [] → AnswersAtEnd (Err q) r end
+ends_wrong q r end is h = let P : Refused SourceFault → Type 0 = λ z. AnswersAtEnd (Err z) r end in subst P (sym is) (h, refl, refl)
 
-pub from_nothing : (ds : List Decl) (xs : List Frame) (ys : List (Bor (List ℕ))) → ds ≡ [] → xs ≡ [] → ys ≡ [] → Behind [] (tags ys) (due (stack ds xs))
+pub from_nothing : (ds : List Decl) (xs : List Frame) (ys : List (Bor (List ℕ))) → ds ≡ [] → xs ≡ [] → ys ≡ [] → AfterSymbols [] (tags ys) (due (stack ds xs))
 from_nothing ds xs ys none nothing closed_all =
     let at : stack ds xs ≡ in_section no_declarations = ap (λ z. stack z xs) none ∙ ap (stack []) nothing ∙ stack_none [] in
-    let P : Stack → Type 0 = λ z. Behind [] (tags ys) (due z) in
-    let Q : List (List ℕ) → Type 0 = λ z. Behind [] z (due (in_section no_declarations)) in
+    let P : Stack → Type 0 = λ z. AfterSymbols [] (tags ys) (due z) in
+    let Q : List (List ℕ) → Type 0 = λ z. AfterSymbols [] z (due (in_section no_declarations)) in
     subst P (sym at) (subst Q (sym (ap tags closed_all ∙ tags_none)) from_start)
 
-pub all_read : (ts : List Token) (i : ℕ) (opens : List (List ℕ)) (x : State) → i ≡ length ts → Behind (symbols_of (take i ts)) opens x → Behind (symbols_of ts) opens x
-all_read ts i opens x is b = let P : List Token → Type 0 = λ z. Behind (symbols_of z) opens x in subst P (ap (λ (n : ℕ). take n ts) is ∙ take-length ts) b
+pub all_read : (ts : List Token) (i : ℕ) (opens : List (List ℕ)) (x : State) → i ≡ length ts → AfterSymbols (symbols_of (take i ts)) opens x → AfterSymbols (symbols_of ts) opens x
+all_read ts i opens x is b = let P : List Token → Type 0 = λ z. AfterSymbols (symbols_of z) opens x in subst P (ap (λ (n : ℕ). take n ts) is ∙ take-length ts) b

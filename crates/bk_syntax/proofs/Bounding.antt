@@ -13,7 +13,7 @@ use Rattle.bk_syntax.specs.Tree.{Mention, Expression, Expressions, Action, Actio
 use Rattle.bk_syntax.specs.declared.tree.Operator.TheVariants.{Both}
 use Rattle.bk_syntax.specs.Rows.{inner, behind, is_relation, infix_of, sort_of, begins_command, repeats, assigns, is_and, is_comma, goes, prefix_of}
 use Rattle.bk_syntax.specs.Grammar.{line_of, line_of_first, line_of_names, line_of_action, size, start_count, last}
-use Rattle.bk_syntax.specs.Machine.{each_then, actions_then, declarations_then, items_then, definitions_then, starts_then, Stack, in_section, in_block, in_let, at_name, at_formals, at_formal, at_formal_end, at_head, at_variable, at_variable_end, at_starts, at_opening, at_items, at_sign, at_goto, at_for, at_forward, at_default, in_parens, in_unary, in_binary, in_chain, in_then, in_else, in_args, in_table, in_start, in_dests, in_values, in_guard, in_test, in_result, in_while, in_from, in_to, in_by, in_item, in_function, in_value, in_vector, in_valof, in_label, in_guarded, in_default, in_do, in_or, in_for, in_routine, State, want, have, begin, maybe, did, due, linked, infixed, push, is_close, is_colon, is_do, is_or, is_to, is_equal, is_semicolon, opens, closes, is_vec, is_let, is_open, is_sign_of, if_is, named, guarded, behind_sign, no_args, bars, take_operand, take_command, sorted, take_declaration, take_in_section, in_head, take_in_block, declared, declared_by, defined_by, again, dests, labelled, is_call, call_of, in_constants, to_or_do, give, finish, without, inside, in_names, in_formals, headed, take_item, take_due, step, prefixed, counted, whole, run, stepped_by}
+use Rattle.bk_syntax.specs.Inner.Machine.{each_then, actions_then, declarations_then, items_then, definitions_then, starts_then, Stack, in_section, in_block, in_let, at_name, at_formals, at_formal, at_formal_end, at_head, at_variable, at_variable_end, at_starts, at_opening, at_items, at_sign, at_goto, at_for, at_forward, at_default, in_parens, in_unary, in_binary, in_chain, in_then, in_else, in_args, in_table, in_start, in_dests, in_values, in_guard, in_test, in_result, in_while, in_from, in_to, in_by, in_item, in_function, in_value, in_vector, in_valof, in_label, in_guarded, in_default, in_do, in_or, in_for, in_routine, State, want, have, begin, maybe, did, due, linked, infixed, push, is_close, is_colon, is_do, is_or, is_to, is_equal, is_semicolon, opens, closes, is_vec, is_let, is_open, is_sign_of, if_is, named, guarded, behind_sign, no_args, bars, take_operand, take_command, sorted, take_declaration, take_in_section, in_head, take_in_block, declared, declared_by, defined_by, again, dests, labelled, is_call, call_of, in_constants, to_or_do, give, finish, without, inside, in_names, in_formals, headed, take_item, take_due, step, prefixed, counted, whole, run, stepped_by}
 use Rattle.bk_syntax.proofs.Before.{falls, behind_ok, inner_ok}
 use Rattle.bk_syntax.proofs.Steps.{repeated, less_eq, size_then, count_then}
 use Rattle.bk_syntax.proofs.Exact.{going_ok}
@@ -25,7 +25,7 @@ use Rattle.bk_syntax.specs.declared.frame.Needs.{Needs}
 use Rattle.bk_syntax.specs.declared.frame.Needs.TheVariants.{Nothing, Assignment, Comma}
 use Rattle.bk_syntax.specs.declared.tree.Prefix.{Prefix}
 use Rattle.bk_syntax.specs.Limits.{depth, depth_of_each, depth_of_action, depth_of_declaration, depth_of_declarations, depth_of_items, depth_of_definition, nodes, nodes_of_each, nodes_of_action, nodes_of_declaration, nodes_of_declarations, nodes_of_items, nodes_of_definition}
-use Rattle.bk_syntax.specs.Sizes.{bound, over_depth, over_nodes, start_depth, start_nodes, form_of, carried, call_ended, table_ended, needs, wanted, awaited, due_items, least_depth, least_nodes}
+use Rattle.bk_syntax.specs.Inner.Sizes.{bound, over_depth, over_nodes, start_depth, start_nodes, form_of, carried, call_ended, table_ended, needs, wanted, awaited, due_items, least_depth, least_nodes}
 use Rattle.bk_syntax.proofs.Trees.{each_depth, each_nodes, actions_depth, actions_nodes, declarations_depth, declarations_nodes, definitions_depth, definitions_nodes, items_depth, items_nodes, starts_depth, starts_nodes}
 use Rattle.bk_syntax.proofs.Turns.{guarded_depth, guarded_nodes}
 use Rattle.bk_syntax.proofs.Rises.{depth_up, nodes_up, is_tabled, plain_ends, Under, raise, grow, start_depth_most, start_nodes_most, carried_depth, carried_nodes, carried_ends}

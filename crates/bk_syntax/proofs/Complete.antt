@@ -9,8 +9,8 @@ use Rattle.bk_syntax.specs.declared.tree.Sort.{Sort}
 use Rattle.bk_syntax.specs.declared.symbols.Guard.TheVariants as g
 use Rattle.bk_syntax.specs.Tree.{Mention, Expression, Expressions, Action, Actions, Declaration, Declarations, Items, Definition, Definitions, Starts, name, number, text, truth, query, parens, unary, binary, choice, apply, valof, table, none, more, empty, assign, call, goto, label, case_of, default, when, test, while, for_loop, switch, result, simple, block, repeat, repeat_while, no_actions, also, constants, definitions, no_declarations, declare, no_items, item, routine, function, variables, no_definitions, define, no_starts, value, vector}
 use Rattle.bk_syntax.specs.Rows.{inner, left, behind, infix_of, sort_of, begins_operand, repeats, is_and, is_comma, goes, Fails}
-use Rattle.bk_syntax.specs.Grammar.{Spelled, Names, Formals, Semis, line_of, line_of_first, line_of_names, line_of_action, size, start_count, Filled, if_or_unless, while_or_until, repeats_while, Reads, Each, Does, Body, Parted, Heads, Declares, Listed, Defined, Defines, Started, Section}
-use Rattle.bk_syntax.specs.Machine.{each_then, actions_then, declarations_then, items_then, definitions_then, starts_then, Stack, in_section, in_block, in_let, at_name, at_formals, at_formal, at_formal_end, at_head, at_variable, at_variable_end, at_starts, at_opening, at_items, at_sign, at_goto, at_for, at_forward, at_default, in_parens, in_unary, in_binary, in_chain, in_then, in_else, in_args, in_table, in_start, in_dests, in_values, in_guard, in_test, in_result, in_while, in_from, in_to, in_by, in_item, in_function, in_value, in_vector, in_valof, in_label, in_guarded, in_default, in_do, in_or, in_for, in_routine, State, want, have, begin, maybe, did, due, limit, is_vec, named, guarded, behind_sign, take_command, sorted, declared, declared_by, defined_by, again, finish, inside, in_names, take_item, take_due, step, run}
+use Rattle.bk_syntax.specs.Grammar.{SpellsName, Names, Formals, Semis, line_of, line_of_first, line_of_names, line_of_action, size, start_count, Filled, if_or_unless, while_or_until, repeats_while, Reads, Each, Does, Body, Parted, Heads, Declares, Listed, Defined, Defines, Started, Section}
+use Rattle.bk_syntax.specs.Inner.Machine.{each_then, actions_then, declarations_then, items_then, definitions_then, starts_then, Stack, in_section, in_block, in_let, at_name, at_formals, at_formal, at_formal_end, at_head, at_variable, at_variable_end, at_starts, at_opening, at_items, at_sign, at_goto, at_for, at_forward, at_default, in_parens, in_unary, in_binary, in_chain, in_then, in_else, in_args, in_table, in_start, in_dests, in_values, in_guard, in_test, in_result, in_while, in_from, in_to, in_by, in_item, in_function, in_value, in_vector, in_valof, in_label, in_guarded, in_default, in_do, in_or, in_for, in_routine, State, want, have, begin, maybe, did, due, limit, is_vec, named, guarded, behind_sign, take_command, sorted, declared, declared_by, defined_by, again, finish, inside, in_names, take_item, take_due, step, run}
 use Rattle.bk_syntax.proofs.Steps.{stepped, Takes, alike, failing, stops_alike, repeats_alike, pushes, repeated, left_le, leaf_step, prefix_step, simple_step, guard_step, sign_step, same_eq, less_eq, each_end, actions_end, declarations_end, declarations_all, items_end, definitions_end, value_end, vector_end, size_then, count_then}
 use Rattle.bk_syntax.proofs.Begin.{Free, Opens, joins, joins_chain, row_6, free_left, each_stops, at_infix, at_open, at_arrow, at_comma, table_ends, opens_read, opens_each, opens_does, at_first, opened, item_starts, full_filled, full_fails, perhaps, guarded_when, guarded_while, begins_if, begins_while, call_ends, value_ends, value_more}
 
@@ -61,10 +61,10 @@ section_semis ds (t ∷ ts) us (inr h) =
     let e : step (due (in_section ds)) t ≡ Some (due (in_section ds)) = rw h.0 refl in
     stepped (due (in_section ds)) _ t ts e ∙ section_semis ds ts us h.1
 
-named_step : (n : Symbol) (l : ℕ) (x : List ℕ) (f : Mention → State) → Spelled l x n → named n.kind n.line n.text f ≡ Some (f (record { line = l; letters = x }))
+named_step : (n : Symbol) (l : ℕ) (x : List ℕ) (f : Mention → State) → SpellsName l x n → named n.kind n.line n.text f ≡ Some (f (record { line = l; letters = x }))
 named_step n l x f h = rw (h.0, h.1, h.2) refl
 
-named_mention : (n : Symbol) (m : Mention) (f : Mention → State) → Spelled m.line m.letters n → named n.kind n.line n.text f ≡ Some (f m)
+named_mention : (n : Symbol) (m : Mention) (f : Mention → State) → SpellsName m.line m.letters n → named n.kind n.line n.text f ≡ Some (f m)
 named_mention n m f h = named_step n m.line m.letters f h
 
 repeats_step : (b : Bool) (st : Stack) (c : Action) (l : ℕ) (x : List ℕ) (t : Kind) → t ≡ repeats_while b → finish st c l x t ≡ Some (want (in_while b c st))
@@ -118,7 +118,7 @@ inside_is : (fr : Stack) (l : ℕ) (es : Definitions) → Head true fr → insid
 inside_is (in_block m f ds no_actions st) l es h = refl
 inside_is fr l es h = absurd h
 
-item_name : (m : ℕ) (s : Sort) (zs : Items) (fr : Stack) (n : Symbol) (l : ℕ) (x : List ℕ) → Spelled l x n → take_item m s zs fr n.line n.text n.kind ≡ Some (due (at_sign m s zs (record { line = l; letters = x }) fr))
+item_name : (m : ℕ) (s : Sort) (zs : Items) (fr : Stack) (n : Symbol) (l : ℕ) (x : List ℕ) → SpellsName l x n → take_item m s zs fr n.line n.text n.kind ≡ Some (due (at_sign m s zs (record { line = l; letters = x }) fr))
 item_name m s no_items fr n l x h = named_step n l x (λ y. due (at_sign m s no_items y fr)) h
 item_name m s (item a b c zs) fr n l x h = rw (h.0, h.1, h.2) refl
 

@@ -16,8 +16,8 @@ use Rattle.bk_syntax.specs.Limits.{depth, depth_of_each, depth_of_action, depth_
 use Rattle.bk_syntax.specs.Rows.{inner, behind}
 use Rattle.bk_syntax.specs.Grammar.{line_of, line_of_action, size, start_count}
 use Rattle.bk_syntax.specs.Brackets.{in_front}
-use Rattle.bk_syntax.specs.Machine.{each_then, actions_then, declarations_then, items_then, definitions_then, Stack, in_section, in_block, in_let, at_name, at_formals, at_formal, at_formal_end, at_head, at_variable, at_variable_end, at_starts, at_opening, at_items, at_sign, at_goto, at_for, at_forward, at_default, in_parens, in_unary, in_binary, in_chain, in_then, in_else, in_args, in_table, in_start, in_dests, in_values, in_guard, in_test, in_result, in_while, in_from, in_to, in_by, in_item, in_function, in_value, in_vector, in_valof, in_label, in_guarded, in_default, in_do, in_or, in_for, in_routine, State, want, have, begin, maybe, did, due, push, bars, declared, declared_by, give, stepped_by}
-use Rattle.bk_syntax.specs.Sizes.{needs, form_of, carried, start_depth, wanted, over_depth, bound, least_depth}
+use Rattle.bk_syntax.specs.Inner.Machine.{each_then, actions_then, declarations_then, items_then, definitions_then, Stack, in_section, in_block, in_let, at_name, at_formals, at_formal, at_formal_end, at_head, at_variable, at_variable_end, at_starts, at_opening, at_items, at_sign, at_goto, at_for, at_forward, at_default, in_parens, in_unary, in_binary, in_chain, in_then, in_else, in_args, in_table, in_start, in_dests, in_values, in_guard, in_test, in_result, in_while, in_from, in_to, in_by, in_item, in_function, in_value, in_vector, in_valof, in_label, in_guarded, in_default, in_do, in_or, in_for, in_routine, State, want, have, begin, maybe, did, due, push, bars, declared, declared_by, give, stepped_by}
+use Rattle.bk_syntax.specs.Inner.Sizes.{needs, form_of, carried, start_depth, wanted, over_depth, bound, least_depth}
 use Rattle.bk_syntax.proofs.Steps.{stepped, repeated, size_then}
 use Rattle.bk_syntax.proofs.Turns.{unary_done, binary_done}
 use Rattle.bk_syntax.proofs.Trees.{each_depth, actions_depth, declarations_depth, definitions_depth, items_depth}

@@ -9,7 +9,7 @@ use Rattle.bk_syntax.specs.declared.tree.Item.{Item}
 use Rattle.bk_syntax.specs.declared.tree.Def.{Def}
 use Rattle.bk_syntax.specs.declared.tree.Init.{Init}
 use Rattle.bk_syntax.specs.Tree.{none, more, no_actions, also, no_declarations, declare, no_definitions, define, mention, expression, expressions_in, action, actions_in, declaration, declarations_in, items_in, definition, definitions_in, starts_in}
-use Rattle.bk_syntax.specs.Machine.{each_then, actions_then, declarations_then, items_then, definitions_then, starts_then}
+use Rattle.bk_syntax.specs.Inner.Machine.{each_then, actions_then, declarations_then, items_then, definitions_then, starts_then}
 use Rattle.bk_syntax.proofs.Trees.{expressions_push, actions_push, declarations_push, items_push, definitions_push, starts_push, names_push}
 
 next : {A : Type 0} {B : Type 0} (L : List A → B) (P : B → A → B) (push : (zs : List A) (z : A) → L (zs ++ z ∷ []) ≡ P (L zs) z) (xs ys : List A) (i : ℕ) (x y : A) → i < length xs → x ≡ get_or xs i x → L ys ≡ L (take i xs) → ((b : B) → P b y ≡ P b x) → L (ys ++ y ∷ []) ≡ L (take (i + 1) xs)

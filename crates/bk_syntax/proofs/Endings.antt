@@ -18,8 +18,8 @@ use Rattle.bk_syntax.specs.Limits.{depth, depth_of_each, depth_of_action, depth_
 use Rattle.bk_syntax.specs.Rows.{begins_command, repeats, assigns, is_comma, goes, Fails, Stops}
 use Rattle.bk_syntax.specs.Grammar.{line_of_first, line_of_names, line_of_action, size, start_count}
 use Rattle.bk_syntax.specs.Brackets.{one_more, up_to_tag, closed_by, in_front, plain}
-use Rattle.bk_syntax.specs.Machine.{each_then, starts_then, Stack, at_starts, in_table, in_values, in_guard, in_value, in_vector, in_label, in_guarded, in_default, State, want, have, begin, maybe, did, due, push, guarded, opens, closes, counted, defined_by, give, finish, stepped_by, run}
-use Rattle.bk_syntax.specs.Sizes.{needs, form_of, table_ended, owed, over_depth, bound}
+use Rattle.bk_syntax.specs.Inner.Machine.{each_then, starts_then, Stack, at_starts, in_table, in_values, in_guard, in_value, in_vector, in_label, in_guarded, in_default, State, want, have, begin, maybe, did, due, push, guarded, opens, closes, counted, defined_by, give, finish, stepped_by, run}
+use Rattle.bk_syntax.specs.Inner.Sizes.{needs, form_of, table_ended, owed, over_depth, bound}
 use Rattle.bk_syntax.proofs.Steps.{stepped, alike, takes, failing_both, repeated, same_eq, less_eq, size_then, count_then}
 use Rattle.bk_syntax.proofs.Openings.{one_tag}
 use Rattle.bk_syntax.proofs.Turns.{guarded_depth}

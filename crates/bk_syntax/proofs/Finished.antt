@@ -14,13 +14,13 @@ use Rattle.bk_syntax.specs.declared.tree.Operator.TheVariants.{Both}
 use Rattle.bk_syntax.specs.Tree.{Expression, Action, Definition, Declarations, unary, binary, choice, apply, table, call, assign, result, repeat_while, function, variables, value, vector, valof, label, default, test, for_loop, routine, empty, none, more, no_starts, no_items, item, declare, no_declarations, definitions, define, no_definitions}
 use Rattle.bk_syntax.specs.declared.frame.Frame.{Frame}
 use Rattle.bk_syntax.specs.declared.tree.Decl.{Decl}
-use Rattle.bk_syntax.specs.Stacked.{stack}
+use Rattle.bk_syntax.specs.Inner.Stacked.{stack}
 use Rattle.bk_syntax.proofs.Stacks.{stack_none}
 use Rattle.bk_syntax.specs.Grammar.{line_of, line_of_first, line_of_names, line_of_action, size, start_count}
 use Rattle.bk_syntax.specs.Limits.{Within, depth, depth_of_each, depth_of_action, depth_of_declarations, depth_of_definition, depth_of_starts, nodes, nodes_of_each, nodes_of_action, nodes_of_declarations, nodes_of_definition, nodes_of_starts}
-use Rattle.bk_syntax.specs.Machine.{Stack, State, want, have, maybe, did, due, in_section, in_block, in_let, at_name, at_starts, at_items, in_unary, in_binary, in_chain, in_else, in_table, in_start, in_values, in_guard, in_result, in_while, in_function, in_value, in_vector, in_valof, in_label, in_guarded, in_default, in_or, in_for, in_routine, give, finish, defined_by, stepped_by, counted, guarded, each_then, starts_then, definitions_then, declarations_then, inside}
+use Rattle.bk_syntax.specs.Inner.Machine.{Stack, State, want, have, maybe, did, due, in_section, in_block, in_let, at_name, at_starts, at_items, in_unary, in_binary, in_chain, in_else, in_table, in_start, in_values, in_guard, in_result, in_while, in_function, in_value, in_vector, in_valof, in_label, in_guarded, in_default, in_or, in_for, in_routine, give, finish, defined_by, stepped_by, counted, guarded, each_then, starts_then, definitions_then, declarations_then, inside}
 use Rattle.bk_syntax.specs.Bounds.{Bounded}
-use Rattle.bk_syntax.specs.Sizes.{needs, carried, start_depth, start_nodes, bound, over_depth, over_nodes, form_of, owed, least_depth, least_nodes}
+use Rattle.bk_syntax.specs.Inner.Sizes.{needs, carried, start_depth, start_nodes, bound, over_depth, over_nodes, form_of, owed, least_depth, least_nodes}
 use Rattle.bk_syntax.proofs.Rises.{grow}
 use Rattle.bk_syntax.proofs.Trees.{each_depth, each_nodes, declarations_depth, declarations_nodes, definitions_depth, definitions_nodes, starts_depth, starts_nodes}
 use Rattle.bk_syntax.proofs.Moves.{eq_is}

@@ -19,10 +19,10 @@ use Rattle.bk_syntax.specs.declared.frame.Member.{Member}
 use Rattle.bk_syntax.specs.declared.frame.Clause.{Clause}
 use Rattle.bk_syntax.specs.declared.frame.Place.{Place}
 use Rattle.bk_syntax.specs.declared.frame.Point.{Point}
-use Rattle.bk_syntax.specs.Machine.{Stack, in_section, inside, limit, give}
-use Rattle.bk_syntax.specs.Begun.{begun_on, phrase_on, member_on, clause_on, place_on, point_on}
-use Rattle.bk_syntax.specs.Stacked.{stack}
-use Rattle.bk_syntax.specs.Frames.{is_let_begun, is_block_begun}
+use Rattle.bk_syntax.specs.Inner.Machine.{Stack, in_section, inside, limit, give}
+use Rattle.bk_syntax.specs.Inner.Begun.{begun_on, phrase_on, member_on, clause_on, place_on, point_on}
+use Rattle.bk_syntax.specs.Inner.Stacked.{stack}
+use Rattle.bk_syntax.specs.Inner.Frames.{is_let_begun, is_block_begun}
 use Rattle.bk_syntax.proofs.Stacks.{stack_take}
 
 inside_one : (x : Begun) (ds : Declarations) → inside (begun_on x (in_section ds)) ≡ false

@@ -18,10 +18,10 @@ use Rattle.bk_syntax.specs.declared.frame.Point.TheVariants as t
 use Rattle.bk_syntax.specs.declared.tree.Decl.{Decl}
 use Rattle.bk_syntax.specs.declared.size.Form.{Form}
 use Rattle.bk_syntax.specs.declared.size.Form.TheVariants.{Tabled, Other}
-use Rattle.bk_syntax.specs.Machine.{Stack, in_section}
-use Rattle.bk_syntax.specs.Sizes.{needs, carried, kept, kept_size, bound, over_depth, over_nodes, lifted, composed, IsRise, IsLift, size_of_declarations}
-use Rattle.bk_syntax.specs.Begun.{begun_on, passed, form_above}
-use Rattle.bk_syntax.specs.Stacked.{stack, lift_of, IsBelow, Lifts}
+use Rattle.bk_syntax.specs.Inner.Machine.{Stack, in_section}
+use Rattle.bk_syntax.specs.Inner.Sizes.{needs, carried, kept, kept_size, bound, over_depth, over_nodes, lifted, composed, IsRise, IsLift, size_of_declarations}
+use Rattle.bk_syntax.specs.Inner.Begun.{begun_on, passed, form_above}
+use Rattle.bk_syntax.specs.Inner.Stacked.{stack, lift_of, IsBelow, Lifts}
 use Rattle.bk_syntax.proofs.Sizes.{sizes_are, lifted_twice}
 use Rattle.bk_syntax.proofs.Stacks.{stack_take, stack_none}
 

@@ -4,8 +4,8 @@ use Rattle.bk_lex.specs.declared.token.Kind.TheVariants as k
 use Rattle.bk_lex.specs.Symbol.{Symbol}
 use Rattle.bk_syntax.specs.Tree.{Mention, Expression, Expressions, Action, Actions, Declaration, Declarations, Items, Definition, Definitions, Starts, none, more, block, no_actions, also, no_declarations, declare, no_items, item, no_definitions, define, no_starts, value, vector}
 use Rattle.bk_syntax.specs.Rows.{is_and, goes, Fails, Stops}
-use Rattle.bk_syntax.specs.Grammar.{Spelled, Names, Formals, Semis, Full, Reads, Each, Does, Body, Parted, Heads, Declares, Listed, Defined, Defines, Started}
-use Rattle.bk_syntax.specs.Machine.{each_then, actions_then, declarations_then, items_then, definitions_then, starts_then}
+use Rattle.bk_syntax.specs.Grammar.{SpellsName, Names, Formals, Semis, Full, Reads, Each, Does, Body, Parted, Heads, Declares, Listed, Defined, Defines, Started}
+use Rattle.bk_syntax.specs.Inner.Machine.{each_then, actions_then, declarations_then, items_then, definitions_then, starts_then}
 use Rattle.bk_syntax.proofs.Before.{Commas, NamesThen, StartsThen, ItemsThen, DefinitionsThen, PartedThen, BodyThen, Some_ds, Inside}
 
 pub semis_refl : (a : List Symbol) → Semis a a
@@ -109,7 +109,7 @@ each_of none e a y us h r stops = let P : List Symbol → Type 0 = λ x. Reads 1
 each_of (more x none) e a y us h r stops = (h.0, h.1, h.2, h.3, each_of none e h.1 y us h.4 r stops)
 each_of (more x (more z es)) e a y us h r stops = (h.0, h.1, h.2, h.3, each_of (more z es) e h.1 y us h.4 r stops)
 
-pub names_snoc : (xs : List Mention) (x : Mention) (a : List Symbol) (t : Symbol) (z : List Symbol) → NamesThen xs a (t ∷ z) → Spelled x.line x.letters t → Names (xs ++ x ∷ []) a z
+pub names_snoc : (xs : List Mention) (x : Mention) (a : List Symbol) (t : Symbol) (z : List Symbol) → NamesThen xs a (t ∷ z) → SpellsName x.line x.letters t → Names (xs ++ x ∷ []) a z
 names_snoc [] x a t z h r = (t, h, r)
 names_snoc (y ∷ []) x a t z h r = (h.0, h.1, h.2, h.3, h.4, h.5, names_snoc [] x h.2 t z h.6 r)
 names_snoc (y ∷ (w ∷ ys)) x a t z h r = (h.0, h.1, h.2, h.3, h.4, h.5, names_snoc (w ∷ ys) x h.2 t z h.6 r)
@@ -123,12 +123,12 @@ pub formals_of : (xs : List Mention) (a : List Symbol) (c : Symbol) (z : List Sy
 formals_of [] a c z h is = absurd h
 formals_of (x ∷ xs) a c z h is = (c, is, h)
 
-pub items_snoc : (xs : Items) (l : ℕ) (x : List ℕ) (e : Expression) (a : List Symbol) (n q : Symbol) (ms : List Symbol) (d : Symbol) (us : List Symbol) → ItemsThen xs a (n ∷ q ∷ ms) → Spelled l x n → (q.kind ≡ k.Equal) ⊎ (q.kind ≡ k.Colon)
+pub items_snoc : (xs : Items) (l : ℕ) (x : List ℕ) (e : Expression) (a : List Symbol) (n q : Symbol) (ms : List Symbol) (d : Symbol) (us : List Symbol) → ItemsThen xs a (n ∷ q ∷ ms) → SpellsName l x n → (q.kind ≡ k.Equal) ⊎ (q.kind ≡ k.Colon)
     → Reads 12 e ms (d ∷ us) → d.kind ≡ k.Semicolon → ItemsThen (items_then xs (item l x e no_items)) a us
 items_snoc no_items l x e a n q ms d us h s i r c = (n, q, ms, d, us, us, h, s, i, r, c, semis_refl us, refl)
 items_snoc (item m y f xs) l x e a n q ms d us h s i r c = (h.0, h.1, h.2, h.3, h.4, h.5, h.6, h.7, h.8, h.9, h.10, h.11, items_snoc xs l x e h.5 n q ms d us h.12 s i r c)
 
-pub items_last : (xs : Items) (l : ℕ) (x : List ℕ) (e : Expression) (a : List Symbol) (n q : Symbol) (ms us : List Symbol) → ItemsThen xs a (n ∷ q ∷ ms) → Spelled l x n → (q.kind ≡ k.Equal) ⊎ (q.kind ≡ k.Colon)
+pub items_last : (xs : Items) (l : ℕ) (x : List ℕ) (e : Expression) (a : List Symbol) (n q : Symbol) (ms us : List Symbol) → ItemsThen xs a (n ∷ q ∷ ms) → SpellsName l x n → (q.kind ≡ k.Equal) ⊎ (q.kind ≡ k.Colon)
     → Reads 12 e ms us → Stops 12 us → Listed (items_then xs (item l x e no_items)) a us
 items_last no_items l x e a n q ms us h s i r stops = (n, q, ms, us, h, s, i, r, stops, semis_refl us)
 items_last (item m y f no_items) l x e a n q ms us h s i r stops = (h.0, h.1, h.2, h.3, h.4, h.5, h.6, h.7, h.8, h.9, h.10, h.11, items_last no_items l x e h.5 n q ms us h.12 s i r stops)

@@ -16,8 +16,8 @@ use Rattle.bk_syntax.specs.declared.symbols.Guard.TheVariants as g
 use Rattle.bk_syntax.specs.Tree.{Mention, Expression, Expressions, Action, Actions, Declaration, Declarations, Items, Definition, name, number, text, truth, query, apply, none, more, empty, simple, block, repeat, no_actions, also, constants, definitions, no_declarations, declare, no_definitions, define}
 use Rattle.bk_lex.specs.Values.{upper_name, number_word, string_bytes, character_byte}
 use Rattle.bk_syntax.specs.Rows.{row, left, is_relation, infix_of, prefix_of, leaf, simple_of, sort_of, guard_of, sign_of, repeats, is_and, goes, Fails}
-use Rattle.bk_syntax.specs.Grammar.{line_of, line_of_action, last, Full, Ends, Filled, Reads, Does, Declares, Defines}
-use Rattle.bk_syntax.specs.Machine.{declarations_then, definitions_then, Stack, in_section, in_block, in_let, at_opening, at_items, at_goto, at_for, at_default, in_parens, in_unary, in_binary, in_chain, in_then, in_args, in_table, in_start, in_dests, in_values, in_guard, in_test, in_result, in_while, in_by, in_valof, in_label, in_guarded, in_for, State, want, have, begin, maybe, did, due, limit, linked, infixed, push, is_semicolon, closes, is_let, is_sign_of, guarded, behind_sign, prefixed, no_args, bars, leaved, take_operand, take_start, take_command, sorted, take_declaration, take_in_section, in_head, take_in_block, declared, declared_by, defined_by, again, dests, labelled, in_constants, to_or_do, inside}
+use Rattle.bk_syntax.specs.Grammar.{line_of, line_of_action, last, Full, EndsCommand, Filled, Reads, Does, Declares, Defines}
+use Rattle.bk_syntax.specs.Inner.Machine.{declarations_then, definitions_then, Stack, in_section, in_block, in_let, at_opening, at_items, at_goto, at_for, at_default, in_parens, in_unary, in_binary, in_chain, in_then, in_args, in_table, in_start, in_dests, in_values, in_guard, in_test, in_result, in_while, in_by, in_valof, in_label, in_guarded, in_for, State, want, have, begin, maybe, did, due, limit, linked, infixed, push, is_semicolon, closes, is_let, is_sign_of, guarded, behind_sign, prefixed, no_args, bars, leaved, take_operand, take_start, take_command, sorted, take_declaration, take_in_section, in_head, take_in_block, declared, declared_by, defined_by, again, dests, labelled, in_constants, to_or_do, inside}
 use Rattle.bk_syntax.proofs.Begin.{row_6}
 use Rattle.bk_syntax.proofs.Steps.{infix_goes}
 use Rattle.bk_syntax.proofs.Complete.{after}
@@ -152,7 +152,7 @@ pub full_of : (c : Action) (us : List Symbol) → Filled c → Fails repeats us 
 full_of empty us f h = absurd f
 full_of _ us f h = h
 
-pub ends_of : (c : Action) (us : List Symbol) → Filled c → Fails repeats us → Ends c us
+pub ends_of : (c : Action) (us : List Symbol) → Filled c → Fails repeats us → EndsCommand c us
 ends_of empty us f h = absurd f
 ends_of _ us f h = h
 

@@ -1,11 +1,11 @@
 -- A larger part makes a larger whole.
 use Rattle.std.proofs.Common.{◌≡◌, ◌≤◌, ℕ, ◌+◌, max, Bool, true, false, refl, arith}
-use Rattle.bk_syntax.specs.Machine.{Stack, in_section, in_block, in_let, at_name, at_formals, at_formal, at_formal_end, at_head, at_variable, at_variable_end, at_starts, at_opening, at_items, at_sign, at_goto, at_for, at_forward, at_default, in_parens, in_unary, in_binary, in_chain, in_then, in_else, in_args, in_table, in_start, in_dests, in_values, in_guard, in_test, in_result, in_while, in_from, in_to, in_by, in_item, in_function, in_value, in_vector, in_valof, in_label, in_guarded, in_default, in_do, in_or, in_for, in_routine}
+use Rattle.bk_syntax.specs.Inner.Machine.{Stack, in_section, in_block, in_let, at_name, at_formals, at_formal, at_formal_end, at_head, at_variable, at_variable_end, at_starts, at_opening, at_items, at_sign, at_goto, at_for, at_forward, at_default, in_parens, in_unary, in_binary, in_chain, in_then, in_else, in_args, in_table, in_start, in_dests, in_values, in_guard, in_test, in_result, in_while, in_from, in_to, in_by, in_item, in_function, in_value, in_vector, in_valof, in_label, in_guarded, in_default, in_do, in_or, in_for, in_routine}
 use Rattle.bk_syntax.specs.declared.size.Form.{Form}
 use Rattle.bk_syntax.specs.declared.size.Form.TheVariants.{Label, Call, Callable, Tabled, Other}
 use Rattle.bk_syntax.specs.declared.frame.Needs.{Needs}
 use Rattle.bk_syntax.specs.declared.frame.Needs.TheVariants.{Nothing, Comma}
-use Rattle.bk_syntax.specs.Sizes.{bound, over_depth, over_nodes, start_depth, start_nodes, carried, call_ended, table_ended, needs}
+use Rattle.bk_syntax.specs.Inner.Sizes.{bound, over_depth, over_nodes, start_depth, start_nodes, carried, call_ended, table_ended, needs}
 
 pub carried_depth : (q : Needs) (f : Form) (d : ℕ) → start_depth q (carried f) d ≡ max 1 d + 1
 carried_depth q Tabled d = refl

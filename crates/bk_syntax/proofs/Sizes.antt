@@ -2,7 +2,7 @@
 use Rattle.std.proofs.Common.{◌≡◌, ℕ, ◌+◌, max, ap, ◌∙◌, arith}
 use Rattle.bk_syntax.specs.declared.frame.Size.{Size}
 use Rattle.bk_syntax.specs.declared.frame.Lift.{Lift}
-use Rattle.bk_syntax.specs.Sizes.{kept, kept_size, both_of, node_of, lifted, composed}
+use Rattle.bk_syntax.specs.Inner.Sizes.{kept, kept_size, both_of, node_of, lifted, composed}
 
 max_kept : (a b : ℕ) → max (kept a) (kept b) ≡ kept (max a b)
 max_kept a b = omega arith

@@ -8,7 +8,7 @@ use Rattle.bk_syntax.specs.declared.tree.Operator.TheVariants as o
 use Rattle.bk_syntax.specs.Tree.{Expression, Expressions, Action, name, parens, unary, binary, choice, apply, valof, table, none, more, assign, label, default, test, for_loop, result, block, repeat_while, no_actions, also, constants, no_items, item, routine, function, variables, no_starts, value, vector}
 use Rattle.bk_syntax.specs.Rows.{row, inner, left, behind, infix_of, repeats, assigns, is_comma, goes, Fails, Stops}
 use Rattle.bk_syntax.specs.Grammar.{line_of, line_of_first, line_of_names, line_of_action, size, start_count, Filled, Reads, Each, Does}
-use Rattle.bk_syntax.specs.Machine.{each_then, actions_then, items_then, starts_then, Stack, in_block, at_starts, in_parens, in_unary, in_binary, in_chain, in_then, in_else, in_args, in_table, in_start, in_dests, in_values, in_guard, in_test, in_result, in_while, in_from, in_to, in_by, in_item, in_function, in_value, in_vector, in_valof, in_label, in_guarded, in_default, in_do, in_or, in_for, in_routine, State, want, have, begin, did, due, limit, is_close, is_colon, is_do, is_or, is_to, is_semicolon, closes, is_sign_of, guarded, behind_sign, labelled, is_call, call_of, give, finish}
+use Rattle.bk_syntax.specs.Inner.Machine.{each_then, actions_then, items_then, starts_then, Stack, in_block, at_starts, in_parens, in_unary, in_binary, in_chain, in_then, in_else, in_args, in_table, in_start, in_dests, in_values, in_guard, in_test, in_result, in_while, in_from, in_to, in_by, in_item, in_function, in_value, in_vector, in_valof, in_label, in_guarded, in_default, in_do, in_or, in_for, in_routine, State, want, have, begin, did, due, limit, is_close, is_colon, is_do, is_or, is_to, is_semicolon, closes, is_sign_of, guarded, behind_sign, labelled, is_call, call_of, give, finish}
 use Rattle.bk_syntax.proofs.Steps.{inner_is, size_then, count_then}
 use Rattle.bk_syntax.proofs.Before.{is_close_kind, is_comma_kind, is_colon_kind, is_do_kind, is_or_kind, is_to_kind, is_semicolon_kind, closes_kind, Ready, Before, Inv, mono, split, to, if_at, Reached, row_11, falls, limit_ok}
 use Rattle.bk_syntax.proofs.Lists.{inside_more, inside_then, commas_snoc, each_of, items_snoc, items_last, value_snoc, vector_snoc, value_last, vector_last}

@@ -5,9 +5,9 @@ use Rattle.std.proofs.lemmas.List.{take_more}
 use Rattle.bk_syntax.specs.declared.frame.Frame.{Frame}
 use Rattle.bk_syntax.specs.declared.tree.Decl.{Decl}
 use Rattle.bk_syntax.specs.Tree.{declarations_in}
-use Rattle.bk_syntax.specs.Machine.{Stack, in_section}
-use Rattle.bk_syntax.specs.Begun.{begun_on}
-use Rattle.bk_syntax.specs.Stacked.{above, stack, IsBelow, Lifts}
+use Rattle.bk_syntax.specs.Inner.Machine.{Stack, in_section}
+use Rattle.bk_syntax.specs.Inner.Begun.{begun_on}
+use Rattle.bk_syntax.specs.Inner.Stacked.{above, stack, IsBelow, Lifts}
 
 above_push : (st : Stack) (xs : List Frame) (x : Frame) → above st (xs ++ x ∷ []) ≡ begun_on x.begun (above st xs)
 above_push st [] x = refl

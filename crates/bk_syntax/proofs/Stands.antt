@@ -4,7 +4,7 @@ use Rattle.bk_lex.specs.Symbol.{Symbol}
 use Rattle.bk_syntax.specs.Tree.{Declarations, no_declarations}
 use Rattle.bk_syntax.specs.Grammar.{Section}
 use Rattle.bk_syntax.specs.SyntaxFault.{IsSection}
-use Rattle.bk_syntax.specs.Machine.{State, due, in_section, stepped_by, step, whole, going, run}
+use Rattle.bk_syntax.specs.Inner.Machine.{State, due, in_section, stepped_by, step, whole, going, run}
 use Rattle.bk_lex.specs.declared.token.Kind.TheVariants as k
 use Rattle.bk_syntax.proofs.Steps.{stepped}
 use Rattle.bk_syntax.specs.SyntaxLaws.{reading}

@@ -14,7 +14,7 @@ use Rattle.bk_syntax.specs.declared.symbols.Guard.TheVariants as g
 use Rattle.bk_syntax.specs.Tree.{Expression, Expressions, Action, Actions, Declaration, Declarations, Items, Definition, Definitions, Starts, none, more, simple, no_actions, also, no_declarations, declare, no_items, item, no_definitions, define, no_starts, value, vector}
 use Rattle.bk_syntax.specs.Rows.{row, inner, left, is_relation, infix_of, prefix_of, leaf, simple_of, guard_of, sign_of, begins_operand, begins_command, repeats, goes, Fails, Stops}
 use Rattle.bk_syntax.specs.Grammar.{size, start_count, last}
-use Rattle.bk_syntax.specs.Machine.{each_then, actions_then, declarations_then, items_then, definitions_then, starts_then, Stack, in_section, in_block, in_unary, in_binary, in_start, in_guard, in_guarded, State, want, have, did, limit, linked, infixed, push, behind_sign, prefixed, leaved, take_operand, take_start, take_command, in_head, take_in_block, again, give, finish, stepped_by, step, whole, going, run}
+use Rattle.bk_syntax.specs.Inner.Machine.{each_then, actions_then, declarations_then, items_then, definitions_then, starts_then, Stack, in_section, in_block, in_unary, in_binary, in_start, in_guard, in_guarded, State, want, have, did, limit, linked, infixed, push, behind_sign, prefixed, leaved, take_operand, take_start, take_command, in_head, take_in_block, again, give, finish, stepped_by, step, whole, going, run}
 
 -- one step
 pub stepped : (x next : State) (t : Symbol) (ts : List Symbol) → step x t ≡ Some next → run (t ∷ ts) x ≡ run ts next

@@ -8,8 +8,8 @@ use Rattle.bk_syntax.specs.declared.symbols.Guard.TheVariants as g
 use Rattle.bk_syntax.specs.Tree.{Mention, Items, empty, goto, label, case_of, default, constants, no_items, item, no_starts}
 use Rattle.bk_lex.specs.Values.{upper_name}
 use Rattle.bk_syntax.specs.Rows.{begins_command}
-use Rattle.bk_syntax.specs.Grammar.{Spelled, Names}
-use Rattle.bk_syntax.specs.Machine.{Stack, in_section, in_block, in_let, at_name, at_formals, at_formal, at_formal_end, at_head, at_variable, at_variable_end, at_starts, at_opening, at_items, at_sign, at_goto, at_for, at_forward, at_default, in_from, in_item, in_function, in_value, in_vector, in_label, in_guarded, in_default, in_routine, State, want, have, begin, maybe, did, due, is_close, is_colon, is_equal, is_semicolon, opens, closes, is_vec, is_open, named, without, inside, in_names, in_formals, headed, take_item, take_due, step}
+use Rattle.bk_syntax.specs.Grammar.{SpellsName, Names}
+use Rattle.bk_syntax.specs.Inner.Machine.{Stack, in_section, in_block, in_let, at_name, at_formals, at_formal, at_formal_end, at_head, at_variable, at_variable_end, at_starts, at_opening, at_items, at_sign, at_goto, at_for, at_forward, at_default, in_from, in_item, in_function, in_value, in_vector, in_label, in_guarded, in_default, in_routine, State, want, have, begin, maybe, did, due, is_close, is_colon, is_equal, is_semicolon, opens, closes, is_vec, is_open, named, without, inside, in_names, in_formals, headed, take_item, take_due, step}
 use Rattle.bk_syntax.proofs.Before.{is_close_kind, is_colon_kind, is_equal_kind, is_semicolon_kind, opens_kind, closes_kind, is_vec_kind, is_open_kind, Ready, Before, May_miss, Inv, split, some_state, to, if_at}
 use Rattle.bk_syntax.proofs.Lists.{names_snoc, names_comma, formals_of, items_semi, items_shut}
 use Rattle.bk_syntax.proofs.Moves.{operand_at, command_at, section_at, block_at, declared_at}
@@ -21,7 +21,7 @@ mention_at _ l x f n h = absurd cc
 
 -- a symbol that is a name
 as_name : (t : Symbol) (f : Mention → State) (n : State) (a us : List Symbol) → named t.kind t.line t.text f ≡ Some n
-    → ((m : Mention) → Spelled m.line m.letters t → Inv (f m) a us) → Inv n a us
+    → ((m : Mention) → SpellsName m.line m.letters t → Inv (f m) a us) → Inv n a us
 as_name t f n a us h i = let m = mention_at t.kind t.line t.text f n h in to (f (record { line = t.line; letters = upper_name t.text })) n a us m.1 (i (record { line = t.line; letters = upper_name t.text }) (m.0, refl, refl))
 
 names_at : (y : Kind) (xs : List Mention) (st : Stack) (n : State) (a us : List Symbol) → in_names xs st y ≡ Some n → (y ≡ k.Comma → Inv (due (at_variable xs st)) a us) → (y ≡ k.Equal → Inv (due (at_starts xs no_starts st)) a us) → Inv n a us
@@ -53,7 +53,7 @@ item_at m s (item l x e is) st t n a us b h = elim (split (is_semicolon t.kind) 
   ]
 ]
 
-names_first : (xs : List Mention) (x : Mention) (ms : List Symbol) (t : Symbol) (z : List Symbol) → xs ≡ x ∷ [] → ms ≡ t ∷ z → Spelled x.line x.letters t → Names xs ms z
+names_first : (xs : List Mention) (x : Mention) (ms : List Symbol) (t : Symbol) (z : List Symbol) → xs ≡ x ∷ [] → ms ≡ t ∷ z → SpellsName x.line x.letters t → Names xs ms z
 names_first xs x ms t z h e s = let P : List Mention → Type 0 = λ y. Names y ms z in subst P (sym h) (t, e, s)
 
 due_at : (st : Stack) (t : Symbol) (n : State) (a us : List Symbol) → Before st a (t ∷ us) → take_due st t.line t.text t.kind ≡ Some n → Inv n a us

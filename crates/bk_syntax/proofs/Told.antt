@@ -13,14 +13,14 @@ use Rattle.bk_syntax.specs.declared.frames.Frames.{Frames}
 use Rattle.bk_syntax.specs.declared.section.Section.{Section}
 use Rattle.bk_syntax.specs.Tree.{Declarations, no_declarations}
 use Rattle.bk_syntax.specs.Limits.{Within, depth_of_declarations, nodes_of_declarations}
-use Rattle.bk_syntax.specs.Sizes.{least_depth, least_nodes}
+use Rattle.bk_syntax.specs.Inner.Sizes.{least_depth, least_nodes}
 use Rattle.bk_syntax.specs.Brackets.{plain}
 use Rattle.bk_syntax.specs.SyntaxLaws.{reading}
 use Rattle.bk_syntax.specs.Grammar as G
 use Rattle.bk_syntax.specs.SyntaxFault.{IsSection, Begins, Shallow, Stands}
-use Rattle.bk_syntax.specs.Machine.{State, due, in_section, step, run}
+use Rattle.bk_syntax.specs.Inner.Machine.{State, due, in_section, step, run}
 use Rattle.bk_syntax.specs.Bounds.{Bounded, Passed}
-use Rattle.bk_syntax.specs.Parsing.{leads, Behind, IsLimit, Advances, declarations_of, Ends, Parses, Gives}
+use Rattle.bk_syntax.specs.Parsing.{leads, AfterSymbols, IsLimit, Advances, declarations_of, AnswersAtEnd, Parses, Gives}
 use Rattle.bk_syntax.proofs.Stands.{one_tree, end_stands}
 use Rattle.bk_syntax.proofs.Exact.{reads_the_grammar}
 use Rattle.bk_syntax.proofs.Tags.{tag_stands}
@@ -35,14 +35,14 @@ leads_sound [] x y h is = let same : x ≡ y = cc in subst Sound same h
 leads_sound (t ∷ ps) x y h is = let g = goes_some (leads ps) (step x t) y is in leads_sound ps g.0 y (step_sound x g.0 t h g.1).1 g.2
 
 -- a section that begins with the symbols is no smaller than what is least behind them
-least_of : (ts us : List Symbol) (opens : List (List ℕ)) (x : State) (ds : Declarations) → Behind ts opens x → IsSection ds (ts ++ us)
+least_of : (ts us : List Symbol) (opens : List (List ℕ)) (x : State) (ds : Declarations) → AfterSymbols ts opens x → IsSection ds (ts ++ us)
     → (least_depth x ≤ depth_of_declarations ds) × (least_nodes x ≤ nodes_of_declarations ds)
 least_of ts us opens x ds b is =
     let r = in_front_some b.plainly (plain us opens) is.plainly (sym (b.brackets us) ∙ is.brackets) in
     let whole : reading is.plainly ≡ Ok ds = complete ds is.plainly is.section in
     run_up r.0 x ds (leads_sound b.plainly (due (in_section no_declarations)) x tt b.comes) (sym (reads b r.0) ∙ ap reading (sym r.2) ∙ whole)
 
-limit_stands : (kind : SourceKind) (u : List Symbol) (t : Symbol) (opens : List (List ℕ)) (x : State) → IsLimit kind → Behind (u ++ t ∷ []) opens x → Passed kind x → Stands kind u t
+limit_stands : (kind : SourceKind) (u : List Symbol) (t : Symbol) (opens : List (List ℕ)) (x : State) → IsLimit kind → AfterSymbols (u ++ t ∷ []) opens x → Passed kind x → Stands kind u t
 limit_stands NestedTooDeeply u t opens x h b over =
     let deep : Begins Shallow (u ++ t ∷ []) → ⊥ = λ w. let a = (least_of (u ++ t ∷ []) w.0 opens x w.1 b w.2).0 in let c = w.3 in omega (arith, a, c, over) in
     (λ w. deep (w.0, w.1, w.2, w.3.0), (behind_begins (u ++ t ∷ []) opens x b, deep))
@@ -53,14 +53,14 @@ limit_stands _ u t opens x h b over = absurd h
 
 -- a limit is told where it stands
 pub limit_told : (kind : SourceKind) (q : Refused SourceFault) (new : Frames) (xs : List (Bor (List ℕ))) (u : List Symbol) (t : Symbol) (opens : List (List ℕ)) (x : State) → IsLimit kind
-    → q ≡ Fault (record { line = t.line; kind = kind }) → Behind (u ++ t ∷ []) opens x → Passed kind x → Advances new xs (Err q) u t
+    → q ≡ Fault (record { line = t.line; kind = kind }) → AfterSymbols (u ++ t ∷ []) opens x → Passed kind x → Advances new xs (Err q) u t
 limit_told kind q new xs u t opens x limits is b over =
     let P : Refused SourceFault → Type 0 = λ z. Advances new xs (Err z) u t in
     subst P (sym is) (refl, limit_stands kind u t opens x limits b over)
 
 -- a fault that is told at one of the symbols
 pub told_of : (r : Refused SourceFault) (new : Frames) (xs : List (Bor (List ℕ))) (ts : List Token) (i : ℕ) (t : Token) (end : ℕ) (opens : List (List ℕ)) (x : State) → i < length ts → t ≡ get_or ts i t
-    → Behind (symbols_of (take i ts)) opens x → Bounded x → Advances new xs (Err r) (symbols_of (take i ts)) (symbol_of t) → Parses (Err r) (symbols_of ts) end
+    → AfterSymbols (symbols_of (take i ts)) opens x → Bounded x → Advances new xs (Err r) (symbols_of (take i ts)) (symbol_of t) → Parses (Err r) (symbols_of ts) end
 told_of (Fault f) new xs ts i t end opens x lt at b w h = inl (record {
   before = symbols_of (take i ts);
   at = symbol_of t;
@@ -75,7 +75,7 @@ told_of Memory new xs ts i t end opens x lt at b w h = tt
 told_of Device new xs ts i t end opens x lt at b w h = absurd h
 
 -- what is answered behind them all
-pub ended : (r : Result Section (Refused SourceFault)) (ts : List Symbol) (opens : List (List ℕ)) (x : State) (end : ℕ) → Behind ts opens x → Bounded x → Ends r (run [] x) end → Parses r ts end
+pub ended : (r : Result Section (Refused SourceFault)) (ts : List Symbol) (opens : List (List ℕ)) (x : State) (end : ℕ) → AfterSymbols ts opens x → Bounded x → AnswersAtEnd r (run [] x) end → Parses r ts end
 ended (Ok s) ts opens x end b w h = record {
   plainly = b.plainly;
   brackets = plain_all ts opens x b;

@@ -20,7 +20,7 @@ use Rattle.bk_syntax.specs.declared.tree.Def.{Row_of-Init, end_of-Init, more_of-
 use Rattle.bk_syntax.specs.declared.tree.Init.TheVariants as b
 use Rattle.bk_syntax.specs.declared.tree.Command.TheBlock.{hidden-the_row-Expr-0, hidden-the_row-Decl-1, hidden-the_row-Command-2, hidden-the_row-Item-3, hidden-the_row-Def-4, hidden-the_row-Init-5}
 use Rattle.bk_syntax.specs.Tree.{Expression, Expressions, Action, Actions, Declaration, Declarations, Items, Definition, Definitions, Starts, no_items, no_starts, apply, table, none, more, assign, call, for_loop, block, no_actions, also, constants, definitions, no_declarations, declare, item, variables, no_definitions, define, value, vector, mention, expression, expressions, action, actions, declaration, declarations, items, definition, definitions_of, starts, expressions_in, step_in, actions_in, declarations_in, items_in, definitions_in, starts_in}
-use Rattle.bk_syntax.specs.Machine.{each_then, actions_then, declarations_then, items_then, definitions_then, starts_then}
+use Rattle.bk_syntax.specs.Inner.Machine.{each_then, actions_then, declarations_then, items_then, definitions_then, starts_then}
 use Rattle.bk_syntax.specs.Grammar.{size, start_count}
 use Rattle.bk_syntax.specs.Limits.{depth, depth_of_each, depth_of_action, depth_of_actions, depth_of_declaration, depth_of_declarations, depth_of_items, depth_of_definition, depth_of_definitions, depth_of_starts, nodes, nodes_of_each, nodes_of_action, nodes_of_actions, nodes_of_declaration, nodes_of_declarations, nodes_of_items, nodes_of_definition, nodes_of_definitions, nodes_of_starts}
 

@@ -19,15 +19,15 @@ use Rattle.bk_syntax.specs.declared.tree.Item.TheVariants as i
 use Rattle.bk_syntax.specs.Tree.{expressions_in, items_in, actions_in, call, Mention, Expression, Expressions, Action, Items, Declaration, name, number, text, truth, query, parens, unary, binary, choice, apply, valof, table, simple, repeat, constants, none, more, no_items, item, no_starts}
 use Rattle.bk_syntax.specs.Rows.{leaf, goes, assigns, inner, behind, infix_of, prefix_of, simple_of, guard_of, is_arrow, is_both, is_comma, is_name, declaring_of, opening_of, heading_of, repetition_of}
 use Rattle.bk_syntax.specs.Grammar.{last, line_of, line_of_action}
-use Rattle.bk_syntax.specs.Machine.{Stack, State, push, infixed, want, have, begin, due, did, in_args, in_then, in_parens, in_unary, in_valof, in_table, in_start, in_guard, in_dests, in_values, in_by, in_for, in_routine, in_function, in_while, at_variable, at_starts, at_formal, at_head, at_items, is_open, is_assign, is_equal, is_close, is_be, is_by, is_do, is_semicolon, closes, bars, no_args, take_operand, take_command, dests, in_names, in_formals, headed, to_or_do, in_constants, declared, again, named, in_section, in_block, take_declaration, declared_by, take_due, take_item, at_sign, give, finish, in_head, in_binary, guarded}
+use Rattle.bk_syntax.specs.Inner.Machine.{Stack, State, push, infixed, want, have, begin, due, did, in_args, in_then, in_parens, in_unary, in_valof, in_table, in_start, in_guard, in_dests, in_values, in_by, in_for, in_routine, in_function, in_while, at_variable, at_starts, at_formal, at_head, at_items, is_open, is_assign, is_equal, is_close, is_be, is_by, is_do, is_semicolon, closes, bars, no_args, take_operand, take_command, dests, in_names, in_formals, headed, to_or_do, in_constants, declared, again, named, in_section, in_block, take_declaration, declared_by, take_due, take_item, at_sign, give, finish, in_head, in_binary, guarded}
 use Rattle.bk_syntax.specs.declared.tree.Sort.{Sort}
 use Rattle.bk_lex.specs.Values.{upper_name}
 use Rattle.bk_syntax.specs.declared.symbols.Repetition.{Repetition}
 use Rattle.bk_syntax.specs.declared.symbols.Repetition.TheVariants as r
 use Rattle.bk_syntax.specs.declared.symbols.Declaring.{Declaring}
-use Rattle.bk_syntax.specs.Frames.{related, heads, declaring}
-use Rattle.bk_syntax.specs.Sizes.{are_none}
-use Rattle.bk_syntax.specs.Sizes.{are_no_items}
+use Rattle.bk_syntax.specs.Inner.Frames.{related, heads, declaring}
+use Rattle.bk_syntax.specs.Inner.Sizes.{are_none}
+use Rattle.bk_syntax.specs.Inner.Sizes.{are_no_items}
 
 abbrev pub pushed : Stack → Expression → ℕ → Option Operator → Bool → Bool → Option State
 pushed st e l (Some o) round arrow = infixed st e l (Some o)

@@ -3,8 +3,8 @@ use Rattle.std.specs.Prelude.{◌<◌, ◌≤◌}
 use Rattle.bk_base.specs.declared.limit.TheConstants.{TREE_DEPTH, TREE_NODES}
 use Rattle.bk_base.specs.declared.source_fault.SourceKind.{SourceKind}
 use Rattle.bk_base.specs.declared.source_fault.SourceKind.TheVariants.{NestedTooDeeply, TooManyNodes}
-use Rattle.bk_syntax.specs.Machine.{State}
-use Rattle.bk_syntax.specs.Sizes.{least_depth, least_nodes}
+use Rattle.bk_syntax.specs.Inner.Machine.{State}
+use Rattle.bk_syntax.specs.Inner.Sizes.{least_depth, least_nodes}
 
 -- what goes on from here at least is within the limits
 abbrev pub Bounded : State → Type 0

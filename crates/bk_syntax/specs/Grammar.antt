@@ -17,14 +17,14 @@ abbrev pub Leaf : Expression → List Symbol → List Symbol → Type 0
 Leaf e ts us = (t : Symbol) × (ts ≡ t ∷ us) × (leaf t.kind t.line t.text ≡ Some e)
 
 -- a name in any letter case
-abbrev pub Spelled : ℕ → List ℕ → Symbol → Type 0
-Spelled line letters t = (t.kind ≡ k.Name) × (t.line ≡ line) × (upper_name t.text ≡ letters)
+abbrev pub SpellsName : ℕ → List ℕ → Symbol → Type 0
+SpellsName line letters t = (t.kind ≡ k.Name) × (t.line ≡ line) × (upper_name t.text ≡ letters)
 
 -- at least one name, with commas between
 abbrev pub Names : List Mention → List Symbol → List Symbol → Type 0
 Names [] ts us = ⊥
-Names (x ∷ []) ts us = (t : Symbol) × (ts ≡ t ∷ us) × Spelled x.line x.letters t
-Names (x ∷ (y ∷ xs)) ts us = (t : Symbol) × (d : Symbol) × (ms : List Symbol) × (ts ≡ t ∷ d ∷ ms) × Spelled x.line x.letters t × (d.kind ≡ k.Comma) × Names (y ∷ xs) ms us
+Names (x ∷ []) ts us = (t : Symbol) × (ts ≡ t ∷ us) × SpellsName x.line x.letters t
+Names (x ∷ (y ∷ xs)) ts us = (t : Symbol) × (d : Symbol) × (ms : List Symbol) × (ts ≡ t ∷ d ∷ ms) × SpellsName x.line x.letters t × (d.kind ≡ k.Comma) × Names (y ∷ xs) ms us
 
 -- names in parentheses, or none, behind the `(`
 abbrev pub Formals : List Mention → List Symbol → List Symbol → Type 0
@@ -100,9 +100,9 @@ Full empty us = ⊥
 Full c us = Fails repeats us
 
 -- the same, or an empty one
-abbrev pub Ends : Action → List Symbol → Type 0
-Ends empty us = Unit {0}
-Ends c us = Fails repeats us
+abbrev pub EndsCommand : Action → List Symbol → Type 0
+EndsCommand empty us = Unit {0}
+EndsCommand c us = Fails repeats us
 
 abbrev pub Filled : Action → Type 0
 Filled empty = ⊥
@@ -152,15 +152,15 @@ abbrev mutual
   Does (assign l xs es) ts us = (t : Symbol) × (ms : List Symbol) × (t.kind ≡ k.Assign) × (size xs ≡ size es) × (l ≡ line_of_first xs) × Each xs ts (t ∷ ms) × Each es ms us
   Does (call l f none) ts us = (t : Symbol) × (c : Symbol) × (t.kind ≡ k.Open) × (l ≡ line_of f) × (c.kind ≡ k.Close) × Reads 0 f ts (t ∷ c ∷ us) × Stops 12 us × Fails assigns us
   Does (call l f (more e es)) ts us = (t : Symbol) × (ms : List Symbol) × (c : Symbol) × (t.kind ≡ k.Open) × (l ≡ line_of f) × (c.kind ≡ k.Close) × Reads 0 f ts (t ∷ ms) × Each (more e es) ms (c ∷ us) × Stops 12 us × Fails assigns us
-  Does (goto l x) ts us = (t : Symbol) × (n : Symbol) × (ts ≡ t ∷ n ∷ us) × (t.kind ≡ k.Goto) × (t.line ≡ l) × Spelled x.line x.letters n
-  Does (label l x c) ts us = (n : Symbol) × (d : Symbol) × (ms : List Symbol) × (ts ≡ n ∷ d ∷ ms) × Spelled l x n × (d.kind ≡ k.Colon) × Does c ms us × Ends c us
-  Does (case_of l e c) ts us = (t : Symbol) × (ms : List Symbol) × (d : Symbol) × (ns : List Symbol) × (ts ≡ t ∷ ms) × (guard_of t.kind ≡ Some (g.Case)) × (t.line ≡ l) × Reads 12 e ms (d ∷ ns) × (d.kind ≡ sign_of (g.Case)) × Does c ns us × Ends c us
-  Does (default l c) ts us = (t : Symbol) × (d : Symbol) × (ms : List Symbol) × (ts ≡ t ∷ d ∷ ms) × (t.kind ≡ k.Default) × (t.line ≡ l) × (d.kind ≡ k.Colon) × Does c ms us × Ends c us
+  Does (goto l x) ts us = (t : Symbol) × (n : Symbol) × (ts ≡ t ∷ n ∷ us) × (t.kind ≡ k.Goto) × (t.line ≡ l) × SpellsName x.line x.letters n
+  Does (label l x c) ts us = (n : Symbol) × (d : Symbol) × (ms : List Symbol) × (ts ≡ n ∷ d ∷ ms) × SpellsName l x n × (d.kind ≡ k.Colon) × Does c ms us × EndsCommand c us
+  Does (case_of l e c) ts us = (t : Symbol) × (ms : List Symbol) × (d : Symbol) × (ns : List Symbol) × (ts ≡ t ∷ ms) × (guard_of t.kind ≡ Some (g.Case)) × (t.line ≡ l) × Reads 12 e ms (d ∷ ns) × (d.kind ≡ sign_of (g.Case)) × Does c ns us × EndsCommand c us
+  Does (default l c) ts us = (t : Symbol) × (d : Symbol) × (ms : List Symbol) × (ts ≡ t ∷ d ∷ ms) × (t.kind ≡ k.Default) × (t.line ≡ l) × (d.kind ≡ k.Colon) × Does c ms us × EndsCommand c us
   Does (when l b e c) ts us = (t : Symbol) × (ms : List Symbol) × (d : Symbol) × (ns : List Symbol) × (ts ≡ t ∷ ms) × (guard_of t.kind ≡ Some (if_or_unless b)) × (t.line ≡ l) × Reads 12 e ms (d ∷ ns) × (d.kind ≡ sign_of (if_or_unless b)) × Does c ns us × Full c us
   Does (test l e a b) ts us = (t : Symbol) × (ms : List Symbol) × (d : Symbol) × (ns : List Symbol) × (o : Symbol) × (rs : List Symbol) × (ts ≡ t ∷ ms) × (t.kind ≡ k.Test) × (t.line ≡ l) × Reads 12 e ms (d ∷ ns) × (d.kind ≡ k.Do) × Does a ns (o ∷ rs) × Full a (o ∷ rs) × (o.kind ≡ k.Or) × Does b rs us × Full b us
   Does (while l b e c) ts us = (t : Symbol) × (ms : List Symbol) × (d : Symbol) × (ns : List Symbol) × (ts ≡ t ∷ ms) × (guard_of t.kind ≡ Some (while_or_until b)) × (t.line ≡ l) × Reads 12 e ms (d ∷ ns) × (d.kind ≡ sign_of (while_or_until b)) × Does c ns us × Full c us
-  Does (for_loop l x a b none c) ts us = (t : Symbol) × (n : Symbol) × (q : Symbol) × (ms : List Symbol) × (o : Symbol) × (ns : List Symbol) × (d : Symbol) × (rs : List Symbol) × (ts ≡ t ∷ n ∷ q ∷ ms) × (t.kind ≡ k.For) × (t.line ≡ l) × Spelled x.line x.letters n × (q.kind ≡ k.Equal) × Reads 12 a ms (o ∷ ns) × (o.kind ≡ k.To) × Reads 12 b ns (d ∷ rs) × (d.kind ≡ k.Do) × Does c rs us × Full c us
-  Does (for_loop l x a b (more h none) c) ts us = (t : Symbol) × (n : Symbol) × (q : Symbol) × (ms : List Symbol) × (o : Symbol) × (ns : List Symbol) × (y : Symbol) × (qs : List Symbol) × (d : Symbol) × (rs : List Symbol) × (ts ≡ t ∷ n ∷ q ∷ ms) × (t.kind ≡ k.For) × (t.line ≡ l) × Spelled x.line x.letters n × (q.kind ≡ k.Equal) × Reads 12 a ms (o ∷ ns) × (o.kind ≡ k.To) × Reads 12 b ns (y ∷ qs) × (y.kind ≡ k.By) × Reads 12 h qs (d ∷ rs) × (d.kind ≡ k.Do) × Does c rs us × Full c us
+  Does (for_loop l x a b none c) ts us = (t : Symbol) × (n : Symbol) × (q : Symbol) × (ms : List Symbol) × (o : Symbol) × (ns : List Symbol) × (d : Symbol) × (rs : List Symbol) × (ts ≡ t ∷ n ∷ q ∷ ms) × (t.kind ≡ k.For) × (t.line ≡ l) × SpellsName x.line x.letters n × (q.kind ≡ k.Equal) × Reads 12 a ms (o ∷ ns) × (o.kind ≡ k.To) × Reads 12 b ns (d ∷ rs) × (d.kind ≡ k.Do) × Does c rs us × Full c us
+  Does (for_loop l x a b (more h none) c) ts us = (t : Symbol) × (n : Symbol) × (q : Symbol) × (ms : List Symbol) × (o : Symbol) × (ns : List Symbol) × (y : Symbol) × (qs : List Symbol) × (d : Symbol) × (rs : List Symbol) × (ts ≡ t ∷ n ∷ q ∷ ms) × (t.kind ≡ k.For) × (t.line ≡ l) × SpellsName x.line x.letters n × (q.kind ≡ k.Equal) × Reads 12 a ms (o ∷ ns) × (o.kind ≡ k.To) × Reads 12 b ns (y ∷ qs) × (y.kind ≡ k.By) × Reads 12 h qs (d ∷ rs) × (d.kind ≡ k.Do) × Does c rs us × Full c us
   Does (for_loop l x a b (more h (more i hs)) c) ts us = ⊥
   Does (switch l e c) ts us = (t : Symbol) × (ms : List Symbol) × (d : Symbol) × (ns : List Symbol) × (ts ≡ t ∷ ms) × (guard_of t.kind ≡ Some (g.SwitchOn)) × (t.line ≡ l) × Reads 12 e ms (d ∷ ns) × (d.kind ≡ sign_of (g.SwitchOn)) × Does c ns us × Full c us
   Does (result l e) ts us = (t : Symbol) × (ms : List Symbol) × (ts ≡ t ∷ ms) × (t.kind ≡ k.ResultIs) × (t.line ≡ l) × Reads 12 e ms us × Stops 12 us
@@ -192,8 +192,8 @@ abbrev mutual
   -- at least one item, with semicolons between and behind
   pub Listed : Items → List Symbol → List Symbol → Type 0
   Listed no_items ts us = ⊥
-  Listed (item l x e no_items) ts us = (n : Symbol) × (q : Symbol) × (ms : List Symbol) × (ns : List Symbol) × (ts ≡ n ∷ q ∷ ms) × Spelled l x n × ((q.kind ≡ k.Equal) ⊎ (q.kind ≡ k.Colon)) × Reads 12 e ms ns × Stops 12 ns × Semis ns us
-  Listed (item l x e (item m y f is)) ts us = (n : Symbol) × (q : Symbol) × (ms : List Symbol) × (d : Symbol) × (ns : List Symbol) × (rs : List Symbol) × (ts ≡ n ∷ q ∷ ms) × Spelled l x n × ((q.kind ≡ k.Equal) ⊎ (q.kind ≡ k.Colon)) × Reads 12 e ms (d ∷ ns) × (d.kind ≡ k.Semicolon) × Semis ns rs × Listed (item m y f is) rs us
+  Listed (item l x e no_items) ts us = (n : Symbol) × (q : Symbol) × (ms : List Symbol) × (ns : List Symbol) × (ts ≡ n ∷ q ∷ ms) × SpellsName l x n × ((q.kind ≡ k.Equal) ⊎ (q.kind ≡ k.Colon)) × Reads 12 e ms ns × Stops 12 ns × Semis ns us
+  Listed (item l x e (item m y f is)) ts us = (n : Symbol) × (q : Symbol) × (ms : List Symbol) × (d : Symbol) × (ns : List Symbol) × (rs : List Symbol) × (ts ≡ n ∷ q ∷ ms) × SpellsName l x n × ((q.kind ≡ k.Equal) ⊎ (q.kind ≡ k.Colon)) × Reads 12 e ms (d ∷ ns) × (d.kind ≡ k.Semicolon) × Semis ns rs × Listed (item m y f is) rs us
 
   -- at least one definition, with AND between
   pub Defined : Bool → Definitions → List Symbol → List Symbol → Type 0
@@ -203,8 +203,8 @@ abbrev mutual
 
   -- variables stand in blocks alone
   pub Defines : Bool → Definition → List Symbol → List Symbol → Type 0
-  Defines inside (routine l x fs c) ts us = (n : Symbol) × (o : Symbol) × (ms : List Symbol) × (t : Symbol) × (ns : List Symbol) × (ts ≡ n ∷ o ∷ ms) × Spelled l x n × (o.kind ≡ k.Open) × Formals fs ms (t ∷ ns) × (t.kind ≡ k.Be) × Does c ns us × Full c us
-  Defines inside (function l x fs e) ts us = (n : Symbol) × (o : Symbol) × (ms : List Symbol) × (t : Symbol) × (ns : List Symbol) × (ts ≡ n ∷ o ∷ ms) × Spelled l x n × (o.kind ≡ k.Open) × Formals fs ms (t ∷ ns) × (t.kind ≡ k.Equal) × Reads 12 e ns us × Stops 12 us
+  Defines inside (routine l x fs c) ts us = (n : Symbol) × (o : Symbol) × (ms : List Symbol) × (t : Symbol) × (ns : List Symbol) × (ts ≡ n ∷ o ∷ ms) × SpellsName l x n × (o.kind ≡ k.Open) × Formals fs ms (t ∷ ns) × (t.kind ≡ k.Be) × Does c ns us × Full c us
+  Defines inside (function l x fs e) ts us = (n : Symbol) × (o : Symbol) × (ms : List Symbol) × (t : Symbol) × (ns : List Symbol) × (ts ≡ n ∷ o ∷ ms) × SpellsName l x n × (o.kind ≡ k.Open) × Formals fs ms (t ∷ ns) × (t.kind ≡ k.Equal) × Reads 12 e ns us × Stops 12 us
   Defines inside (variables l xs is) ts us = (inside ≡ true) × (t : Symbol) × (ms : List Symbol) × (t.kind ≡ k.Equal) × (l ≡ line_of_names xs) × (length xs ≡ start_count is) × Names xs ts (t ∷ ms) × Started is ms us
 
   -- at least one item of a LET, with commas between

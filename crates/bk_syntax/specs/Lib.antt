@@ -5,11 +5,7 @@ pub mod Brackets
 pub mod Grammar
 pub mod Limits
 pub mod SyntaxFault
-pub mod Machine
-pub mod Sizes
+pub mod Inner
 pub mod Bounds
 pub mod SyntaxLaws
-pub mod Begun
-pub mod Stacked
-pub mod Frames
 pub mod Parsing

@@ -17,8 +17,8 @@ use Rattle.bk_syntax.specs.Tree.{Declarations, declarations_in, no_declarations}
 use Rattle.bk_syntax.specs.Limits.{Within}
 use Rattle.bk_syntax.specs.Brackets.{closed_by, in_front, plain}
 use Rattle.bk_syntax.specs.SyntaxFault.{IsSection, Begins, Shallow, Stands, StandsAtEnd}
-use Rattle.bk_syntax.specs.Machine.{State, due, in_section, step}
-use Rattle.bk_syntax.specs.Frames.{stack_of, state}
+use Rattle.bk_syntax.specs.Inner.Machine.{State, due, in_section, step}
+use Rattle.bk_syntax.specs.Inner.Frames.{stack_of, state}
 
 -- the tags of the open sections in upper case, the innermost first
 abbrev pub tags_on : List (List ℕ) → List (Bor (List ℕ)) → List (List ℕ)
@@ -48,7 +48,7 @@ leads [] x = Some x
 leads (t ∷ ts) x = goes_to (leads ts) (step x t)
 
 -- behind these symbols these sections are open, and the machine is in this state
-pub record Behind (ts : List Symbol) (opens : List (List ℕ)) (x : State) : Type 0 where
+pub record AfterSymbols (ts : List Symbol) (opens : List (List ℕ)) (x : State) : Type 0 where
   pub plainly : List Symbol
   pub brackets : (us : List Symbol) → plain (ts ++ us) [] ≡ in_front plainly (plain us opens)
   pub comes : leads plainly (due (in_section no_declarations)) ≡ Some x
@@ -59,14 +59,14 @@ IsLimit TooManyNodes = Unit {0}
 IsLimit _ = ⊥
 
 -- what a symbol on this line is answered
-abbrev pub told : Result Now Stop → ℕ → Result Now (Refused SourceFault)
-told (Ok now) line = Ok now
-told (Err s.Memory) line = Err Memory
-told (Err s.Unexpected) line = Err (Fault (record { line = line; kind = UnexpectedSymbol }))
+abbrev pub refused_at : Result Now Stop → ℕ → Result Now (Refused SourceFault)
+refused_at (Ok now) line = Ok now
+refused_at (Err s.Memory) line = Err Memory
+refused_at (Err s.Unexpected) line = Err (Fault (record { line = line; kind = UnexpectedSymbol }))
 
 -- the answer to a further symbol t behind u
 abbrev pub Advances : Frames → List (Bor (List ℕ)) → Result Now (Refused SourceFault) → List Symbol → Symbol → Type 0
-Advances new opens (Ok now) u t = Behind (u ++ t ∷ []) (tags opens) (state (stack_of new) now)
+Advances new opens (Ok now) u t = AfterSymbols (u ++ t ∷ []) (tags opens) (state (stack_of new) now)
 Advances new opens (Err (Fault f)) u t = (f.line ≡ t.line) × Stands f.kind u t
 Advances new opens (Err Memory) u t = Unit {0}
 Advances new opens (Err Device) u t = ⊥
@@ -76,11 +76,11 @@ abbrev pub declarations_of : Section → Declarations
 declarations_of x = declarations_in x.decls.items
 
 -- the answer at the end
-abbrev pub Ends : Result Section (Refused SourceFault) → Result Declarations (List Symbol) → ℕ → Type 0
-Ends (Ok x) r end = r ≡ Ok (declarations_of x)
-Ends (Err (Fault f)) r end = (r ≡ Err []) × (f.kind ≡ UnexpectedSymbol) × (f.line ≡ end)
-Ends (Err Memory) r end = Unit {0}
-Ends (Err Device) r end = ⊥
+abbrev pub AnswersAtEnd : Result Section (Refused SourceFault) → Result Declarations (List Symbol) → ℕ → Type 0
+AnswersAtEnd (Ok x) r end = r ≡ Ok (declarations_of x)
+AnswersAtEnd (Err (Fault f)) r end = (r ≡ Err []) × (f.kind ≡ UnexpectedSymbol) × (f.line ≡ end)
+AnswersAtEnd (Err Memory) r end = Unit {0}
+AnswersAtEnd (Err Device) r end = ⊥
 
 -- a fault that is told at a symbol stands there, and a section within the limit of depth begins with the symbols before it
 pub record ToldAt (f : SourceFault) (ts : List Symbol) : Type 0 where

@@ -5,7 +5,7 @@ use Rattle.bk_syntax.specs.Tree.{Declarations, no_declarations}
 use Rattle.bk_syntax.specs.Grammar.{Section}
 use Rattle.bk_syntax.specs.Brackets.{plain}
 use Rattle.bk_syntax.specs.SyntaxFault.{IsSection, Begins, Any}
-use Rattle.bk_syntax.specs.Machine.{due, in_section, run}
+use Rattle.bk_syntax.specs.Inner.Machine.{due, in_section, run}
 
 -- what the machine reads of plain symbols: their tree, or the symbols from the first on with which it does not go on
 abbrev pub reading : List Symbol → Result Declarations (List Symbol)

@@ -4,12 +4,12 @@ ghost use Rattle.bk_syntax.specs.Tree.{expression, expressions_in, action, menti
 ghost use Rattle.bk_syntax.specs.Rows.{goes, repeats};
 ghost use Rattle.bk_syntax.specs.declared.frame.Begun.TheVariants as Begun;
 ghost use Rattle.bk_syntax.specs.declared.frame.Phrase.TheVariants as p;
-ghost use Rattle.bk_syntax.specs.Sizes.{size_of, size_of_action, both_of, node_of};
-ghost use Rattle.bk_syntax.specs.Begun.{held_in};
+ghost use Rattle.bk_syntax.specs.Inner.Sizes.{size_of, size_of_action, both_of, node_of};
+ghost use Rattle.bk_syntax.specs.Inner.Begun.{held_in};
 ghost use Rattle.bk_syntax.specs.Grammar.{line_of_action, line_of_first, size};
-ghost use Rattle.bk_syntax.specs.Machine.{Stack, each_then, limit, give, finish, again, dests, guarded, behind_sign, take_command, in_start, in_values, in_guard, in_to};
-ghost use Rattle.bk_syntax.specs.Begun.{phrase_on, clause_on};
-ghost use Rattle.bk_syntax.specs.Frames.{stack_of, state, heads, Steps, Answers, Lowers, Falls};
+ghost use Rattle.bk_syntax.specs.Inner.Machine.{Stack, each_then, limit, give, finish, again, dests, guarded, behind_sign, take_command, in_start, in_values, in_guard, in_to};
+ghost use Rattle.bk_syntax.specs.Inner.Begun.{phrase_on, clause_on};
+ghost use Rattle.bk_syntax.specs.Inner.Frames.{stack_of, state, heads, Steps, Answers, Lowers, Falls};
 
 use crate::expressions::{due, due_at, line_of, operand, want_in, wants_command, whole};
 use crate::frame::{

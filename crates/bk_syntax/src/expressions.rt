@@ -3,17 +3,17 @@ ghost use Rattle.std.specs.Prelude.{◌≡◌, ◌+◌, IfOk, Some, None, Option
 ghost use Rattle.bk_syntax.specs.declared.tree.Operator.TheVariants.{Both};
 ghost use Rattle.bk_syntax.specs.declared.frame.Begun.TheVariants as Begun;
 ghost use Rattle.bk_syntax.specs.declared.frame.Operand.TheVariants as o;
-ghost use Rattle.bk_syntax.specs.Sizes.{IsLeaf, size_of, size_if, both_of, node_of};
-ghost use Rattle.bk_syntax.specs.Begun.{held_in};
+ghost use Rattle.bk_syntax.specs.Inner.Sizes.{IsLeaf, size_of, size_if, both_of, node_of};
+ghost use Rattle.bk_syntax.specs.Inner.Begun.{held_in};
 ghost use Rattle.bk_syntax.specs.Tree.{Expression, expression, expressions_in, binary};
 ghost use Rattle.bk_syntax.specs.Rows.{leaf, goes};
-ghost use Rattle.bk_syntax.specs.Frames.{related};
-ghost use Rattle.bk_syntax.specs.Sizes.{are_none};
+ghost use Rattle.bk_syntax.specs.Inner.Frames.{related};
+ghost use Rattle.bk_syntax.specs.Inner.Sizes.{are_none};
 ghost use Rattle.bk_syntax.specs.Grammar.{line_of, last};
-ghost use Rattle.bk_syntax.specs.Machine.{Stack, limit, push, infixed, in_chain, in_args, in_table, bars, no_args, take_operand, give, want, begin, due, have};
-ghost use Rattle.bk_syntax.specs.Begun.{begun_on, operand_on, phrase_on, member_on, clause_on, place_on, point_on};
-ghost use Rattle.bk_syntax.specs.Stacked.{stack};
-ghost use Rattle.bk_syntax.specs.Frames.{stack_of, state, Steps, Answers, Lowers, Falls};
+ghost use Rattle.bk_syntax.specs.Inner.Machine.{Stack, limit, push, infixed, in_chain, in_args, in_table, bars, no_args, take_operand, give, want, begin, due, have};
+ghost use Rattle.bk_syntax.specs.Inner.Begun.{begun_on, operand_on, phrase_on, member_on, clause_on, place_on, point_on};
+ghost use Rattle.bk_syntax.specs.Inner.Stacked.{stack};
+ghost use Rattle.bk_syntax.specs.Inner.Frames.{stack_of, state, Steps, Answers, Lowers, Falls};
 
 use crate::copy::copy;
 use crate::frame::{

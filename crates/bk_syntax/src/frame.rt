@@ -2,8 +2,8 @@
 ghost use Rattle.std.specs.Prelude.{◌≡◌};
 ghost use Rattle.bk_syntax.specs.Tree.{expression, action, definition};
 ghost use Rattle.bk_syntax.specs.Grammar.{last};
-ghost use Rattle.bk_syntax.specs.Sizes.{size_of, size_if, size_of_action, size_of_definition};
-ghost use Rattle.bk_syntax.specs.Begun.{held_in};
+ghost use Rattle.bk_syntax.specs.Inner.Sizes.{size_of, size_if, size_of_action, size_of_definition};
+ghost use Rattle.bk_syntax.specs.Inner.Begun.{held_in};
 
 use crate::symbols::Guard;
 use crate::tree::{Command, Decl, Def, Expr, Init, Item, Name, Operator, Prefix, Sort};

@@ -1,9 +1,9 @@
 //! The list of what was begun.
 ghost use Rattle.std.specs.Prelude.{◌≡◌, ◌+◌, ℕ, [], MatchOption, IfOk, vec_len};
 ghost use Rattle.bk_syntax.specs.Tree.{declarations_in};
-ghost use Rattle.bk_syntax.specs.Sizes.{size_of_declarations};
-ghost use Rattle.bk_syntax.specs.Begun.{begun_on, held_in};
-ghost use Rattle.bk_syntax.specs.Stacked.{Lifts};
+ghost use Rattle.bk_syntax.specs.Inner.Sizes.{size_of_declarations};
+ghost use Rattle.bk_syntax.specs.Inner.Begun.{begun_on, held_in};
+ghost use Rattle.bk_syntax.specs.Inner.Stacked.{Lifts};
 
 use crate::frame::{Frame, Size};
 use crate::tree::Decl;

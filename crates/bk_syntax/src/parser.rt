@@ -6,10 +6,10 @@ ghost use Rattle.bk_lex.specs.Values.{upper_name};
 ghost use Rattle.bk_syntax.specs.Tree.{Declarations, expression, action, declarations_in};
 ghost use Rattle.bk_syntax.specs.Spelling.{tag_of};
 ghost use Rattle.bk_syntax.specs.Rows.{goes};
-ghost use Rattle.bk_syntax.specs.Machine.{limit, opens, closes, give, finish, without, stepped_by, whole, run, due, in_section};
-ghost use Rattle.bk_syntax.specs.Begun.{begun_on, held_in};
-ghost use Rattle.bk_syntax.specs.Frames.{stack_of, state, flow, Steps, Answers, Lowers, Falls};
-ghost use Rattle.bk_syntax.specs.Parsing.{tags, Closes, steps, Behind, told, IsLimit, Advances, declarations_of, Ends, Parses, Gives};
+ghost use Rattle.bk_syntax.specs.Inner.Machine.{limit, opens, closes, give, finish, without, stepped_by, whole, run, due, in_section};
+ghost use Rattle.bk_syntax.specs.Inner.Begun.{begun_on, held_in};
+ghost use Rattle.bk_syntax.specs.Inner.Frames.{stack_of, state, flow, Steps, Answers, Lowers, Falls};
+ghost use Rattle.bk_syntax.specs.Parsing.{tags, Closes, steps, AfterSymbols, refused_at, IsLimit, Advances, declarations_of, AnswersAtEnd, Parses, Gives};
 ghost use Rattle.bk_syntax.specs.SyntaxFault.{IsSection};
 ghost use Rattle.bk_syntax.specs.Limits.{Within};
 ghost use Rattle.bk_syntax.specs.Bounds.{Bounded, Passed};
@@ -246,8 +246,8 @@ fn fault(line: Line, kind: SourceKind) -> Refused<SourceFault>
 }
 
 /// What a symbol on this line is answered.
-fn told(taken: Result<Now, Stop>, line: Line) -> Result<Now, Refused<SourceFault>>
-    ensures { result ≡ told taken line }
+fn refused_at(taken: Result<Now, Stop>, line: Line) -> Result<Now, Refused<SourceFault>>
+    ensures { result ≡ refused_at taken line }
 {
     match taken {
         Ok(now) => Ok(now),
@@ -302,12 +302,12 @@ fn close<'a>(
     token: &Token<'a>,
 ) -> Result<Now, Refused<SourceFault>>
     requires { closes token.now.kind ≡ true }
-    ensures { (u : List Symbol) → Behind u (tags opened.old.items) (state (stack_of frames.old) now) → Advances frames.new opened.new.items result u (symbol_of token.now) }
+    ensures { (u : List Symbol) → AfterSymbols u (tags opened.old.items) (state (stack_of frames.old) now) → Advances frames.new opened.new.items result u (symbol_of token.now) }
 {
     match closings(opened.as_slice(), token.text) {
         Some(times) => {
             opened.truncate(opened.len().saturating_sub(times));
-            told(repeat_step(alloc, frames, now, token, times), token.line)
+            refused_at(repeat_step(alloc, frames, now, token, times), token.line)
         }
         None => Err(fault(token.line, SourceKind::WrongSectionTag)),
     }
@@ -322,10 +322,10 @@ fn open_section<'a>(
     token: &Token<'a>,
 ) -> Result<Now, Refused<SourceFault>>
     requires { opens token.now.kind ≡ true }
-    ensures { (u : List Symbol) → Behind u (tags opened.old.items) (state (stack_of frames.old) now) → Advances frames.new opened.new.items result u (symbol_of token.now) }
+    ensures { (u : List Symbol) → AfterSymbols u (tags opened.old.items) (state (stack_of frames.old) now) → Advances frames.new opened.new.items result u (symbol_of token.now) }
 {
     match opened.push(tag(token.text)) {
-        Ok(()) => told(repeat_step(alloc, frames, now, token, 1), token.line),
+        Ok(()) => refused_at(repeat_step(alloc, frames, now, token, 1), token.line),
         Err(_) => Err(Refused::Memory),
     }
 }
@@ -338,7 +338,7 @@ fn take<'a>(
     now: Now,
     token: &Token<'a>,
 ) -> Result<Now, Refused<SourceFault>>
-    ensures { (u : List Symbol) → Behind u (tags opened.old.items) (state (stack_of frames.old) now) → Advances frames.new opened.new.items result u (symbol_of token.now) }
+    ensures { (u : List Symbol) → AfterSymbols u (tags opened.old.items) (state (stack_of frames.old) now) → Advances frames.new opened.new.items result u (symbol_of token.now) }
 {
     if closes(token.kind) {
         return close(alloc, frames, opened, now, token);
@@ -346,7 +346,7 @@ fn take<'a>(
     if opens(token.kind) {
         return open_section(alloc, frames, opened, now, token);
     }
-    told(repeat_step(alloc, frames, now, token, 1), token.line)
+    refused_at(repeat_step(alloc, frames, now, token, 1), token.line)
 }
 
 /// What stands on the frames behind the next symbol.
@@ -358,7 +358,7 @@ fn advance<'a>(
     token: &Token<'a>,
 ) -> Result<Now, Refused<SourceFault>>
     ensures bounded { IfOk result (λ now. Bounded (state (stack_of frames.new) now)) }
-    ensures goes { (u : List Symbol) → Behind u (tags opened.old.items) (state (stack_of frames.old) now) → Advances frames.new opened.new.items result u (symbol_of token.now) }
+    ensures goes { (u : List Symbol) → AfterSymbols u (tags opened.old.items) (state (stack_of frames.old) now) → Advances frames.new opened.new.items result u (symbol_of token.now) }
 {
     match take(alloc, frames, opened, now, token) {
         Ok(after) => match limit(frames, &after) {
@@ -372,7 +372,7 @@ fn advance<'a>(
 /// The section, if it is whole here, where its end is on this line.
 fn whole(frames: Frames, now: Now, end: Line) -> Result<Section, Refused<SourceFault>>
     requires { (ds : Declarations) → state (stack_of frames) now ≡ due (in_section ds) → Within ds }
-    ensures { Ends result (whole (Some (state (stack_of frames) now))) end }
+    ensures { AnswersAtEnd result (whole (Some (state (stack_of frames) now))) end }
 {
     let Frames {
         decls,
@@ -398,7 +398,7 @@ fn at_end(
     end: Line,
 ) -> Result<Section, Refused<SourceFault>>
     requires { Bounded (state (stack_of frames) now) }
-    ensures { Ends result (run [] (state (stack_of frames) now)) end }
+    ensures { AnswersAtEnd result (run [] (state (stack_of frames) now)) end }
 {
     let mut frames = frames;
     let last = Token {

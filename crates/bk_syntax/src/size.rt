@@ -2,13 +2,13 @@
 ghost use Rattle.std.specs.Prelude.{◌≡◌, ◌+◌, ◌-◌, ℕ, max, min, cond, nat_lt};
 ghost use Rattle.bk_syntax.specs.declared.frame.Begun.TheVariants as b;
 ghost use Rattle.bk_syntax.specs.Tree.{expression, expressions_in, items_in};
-ghost use Rattle.bk_syntax.specs.Machine.{Stack, in_start};
+ghost use Rattle.bk_syntax.specs.Inner.Machine.{Stack, in_start};
 ghost use Rattle.bk_syntax.specs.declared.size.Form.{Form};
 ghost use Rattle.bk_syntax.specs.declared.frame.Needs.TheVariants.{Comma};
-ghost use Rattle.bk_syntax.specs.Sizes.{kept, kept_size, needs, form_of, carried, call_ended, table_ended, size_of, owed, are_no_items, due_items, both_of, node_of, lifted, composed, bound, over_depth, over_nodes, are_none, wanted, awaited, least_size, IsRise, IsLift};
-ghost use Rattle.bk_syntax.specs.Begun.{operand_on, phrase_on, member_on, clause_on, place_on, point_on, begun_on, passed, held_in};
-ghost use Rattle.bk_syntax.specs.Stacked.{lift_of, IsBelow};
-ghost use Rattle.bk_syntax.specs.Frames.{stack_of, state};
+ghost use Rattle.bk_syntax.specs.Inner.Sizes.{kept, kept_size, needs, form_of, carried, call_ended, table_ended, size_of, owed, are_no_items, due_items, both_of, node_of, lifted, composed, bound, over_depth, over_nodes, are_none, wanted, awaited, least_size, IsRise, IsLift};
+ghost use Rattle.bk_syntax.specs.Inner.Begun.{operand_on, phrase_on, member_on, clause_on, place_on, point_on, begun_on, passed, held_in};
+ghost use Rattle.bk_syntax.specs.Inner.Stacked.{lift_of, IsBelow};
+ghost use Rattle.bk_syntax.specs.Inner.Frames.{stack_of, state};
 
 use crate::frame::{
     Begun, Clause, Frame, Lift, Member, Needs, Now, Operand, Phrase, Place, Point, Size,

@@ -1,7 +1,7 @@
 //! What a symbol may be in the grammar.
 
 ghost use Rattle.std.specs.Prelude.{◌≡◌};
-ghost use Rattle.bk_syntax.specs.Machine.{is_sign_of, is_close, is_assign, is_colon, is_do, is_or, is_to, is_by, is_be, is_equal, is_semicolon, opens, closes, is_vec, is_open};
+ghost use Rattle.bk_syntax.specs.Inner.Machine.{is_sign_of, is_close, is_assign, is_colon, is_do, is_or, is_to, is_by, is_be, is_equal, is_semicolon, opens, closes, is_vec, is_open};
 ghost use Rattle.bk_syntax.specs.Rows.{infix_of, prefix_of, inner, is_comma, is_and, assigns, repeats, is_relation, behind, goes, simple_of, guard_of, is_arrow, is_both, is_name, declaring_of, repetition_of, opening_of, heading_of, begins_operand, begins_command};
 
 use crate::tree::{Operator, Prefix, Simple, Sort};

@@ -1,7 +1,7 @@
 //! The top of the list of what was begun.
 ghost use Rattle.std.specs.Prelude.{◌≡◌, ◌+◌, [], MatchOption, IfOk, vec_len};
-ghost use Rattle.bk_syntax.specs.Begun.{begun_on, held_in};
-ghost use Rattle.bk_syntax.specs.Frames.{stack_of};
+ghost use Rattle.bk_syntax.specs.Inner.Begun.{begun_on, held_in};
+ghost use Rattle.bk_syntax.specs.Inner.Frames.{stack_of};
 
 use crate::frame::{Begun, Frame, Size};
 use crate::frames::Frames;

@@ -7,7 +7,7 @@ use Rattle.bk_lex.proofs.scan.read_section.Goals.{in-Goes, in-Begins+in_ok-put-i
 
 pub returns-in-Err : goal.returns-in-Err
 returns-in-Err c =
-    let e = c.told.ensures in
+    let e = c.placed_fault.ensures in
     rw e (bad (reading _ _ _ _ _) c.args.text.now c.loop-i.i c.in-Err.fault _ c.loop-i-test.true c.loop-i.invariant.same c.in-Err.ensures)
 
 pub returns-then-is_dot : goal.returns-then-is_dot
@@ -36,7 +36,7 @@ loop-i-preserved c =
 
 pub returns-in-Err-finished : goal.returns-in-Err-finished
 returns-in-Err-finished c =
-    let e = c.told-in-Err-finished.ensures in
+    let e = c.placed_fault-in-Err-finished.ensures in
     rw e (end_bad (reading _ _ _ _ _) c.args.text.now c.loop-i.i c.in-Err-finished.fault _ c.loop-i-test.false c.loop-i.invariant.same c.in-Err-finished.ensures)
 
 pub returns : goal.returns

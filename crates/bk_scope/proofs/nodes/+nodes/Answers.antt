@@ -7,7 +7,7 @@ use Rattle.bk_syntax.proofs.Trees.{Constants_is, Let_is, Variables_is, Apply_is,
 use Rattle.bk_scope.specs.Scope.{bind_all, Binding, bind}
 use Rattle.bk_scope.specs.Found.{takes, Found, reaches}
 use Rattle.bk_scope.specs.Entering.{labels_of, with_labels, with_formals, with_procedures, Stage, labels_of_each}
-use Rattle.bk_scope.specs.Names.{Behind, Defined, evaluated, each_evaluated, done, each_done, declared, defined, variables_of, all_listed, manifests, statics, globals, without_word, constants_found}
+use Rattle.bk_scope.specs.Names.{AfterDeclarations, Defined, evaluated, each_evaluated, done, each_done, declared, defined, variables_of, all_listed, manifests, statics, globals, without_word, constants_found}
 use Rattle.bk_scope.proofs.Leaving.{Above, back, longer, formals_above, same, one_above, declared_above}
 use Rattle.bk_scope.proofs.Definitions.{at, no_variables, body_above, let_behind, variables_behind}
 use Rattle.bk_scope.proofs.nodes.+nodes.Goals as goal
@@ -40,7 +40,7 @@ act-leave-requires-else-is_empty t c =
     let k = c.args.place.procedure in
     let was = c.args.walk.now in
     let labels = labels_of_each (actions_in b.commands.items) in
-    let behind : Behind = declared was.scope c.args.place (declarations_in b.decls.items) was.found in
+    let behind : AfterDeclarations = declared was.scope c.args.place (declarations_in b.decls.items) was.found in
     let at : Stage = record { scope = behind.scope; found = c.takes-else-is_empty.new.self } in
     let told : record { scope = c.declare_each.new.walk.scope; place = c.in_ok-inner-in-Block.inner; found = c.declare_each.new.walk.found } ≡ behind = first_of (search rules, grind (arith, common_steps)) in
     let entered_raw : c.enter_labels_of_each.new.walk ≡ with_labels k labels (record { scope = c.walk-else-is_empty-2.inside.table; found = c.takes-else-is_empty.new.self }) = first_of (search rules, grind (arith, common_steps)) in
@@ -119,7 +119,7 @@ act-returns-in_ok-act_each-in-Block t c =
     let k = c.args.place.procedure in
     let was = c.args.walk.now in
     let labels = labels_of_each (actions_in b.commands.items) in
-    let behind : Behind = declared was.scope c.args.place (declarations_in b.decls.items) was.found in
+    let behind : AfterDeclarations = declared was.scope c.args.place (declarations_in b.decls.items) was.found in
     let at : Stage = record { scope = behind.scope; found = c.takes-else-is_empty.new.self } in
     let told : record { scope = c.declare_each.new.walk.scope; place = c.in_ok-inner-in-Block.inner; found = c.declare_each.new.walk.found } ≡ behind = first_of (search rules, grind (arith, common_steps)) in
     let entered_raw : c.enter_labels_of_each.new.walk ≡ with_labels k labels (record { scope = c.walk-else-is_empty-2.inside.table; found = c.takes-else-is_empty.new.self }) = first_of (search rules, grind (arith, common_steps)) in

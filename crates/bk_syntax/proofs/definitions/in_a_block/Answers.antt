@@ -1,5 +1,5 @@
 use Rattle.std.proofs.Common.{false, cond, sym, ap, ◌∙◌, arith}
-use Rattle.bk_syntax.specs.Frames.{is_let_begun}
+use Rattle.bk_syntax.specs.Inner.Frames.{is_let_begun}
 use Rattle.bk_syntax.proofs.Insides.{inside_short, inside_at}
 use Rattle.bk_syntax.proofs.definitions.in_a_block.Goals as goal
 

@@ -2,10 +2,10 @@ use Rattle.std.proofs.Common.{◌≡◌, false, rules, sym, ap, ◌∙◌}
 use Rattle.bk_syntax.specs.Tree.{expression, unary, binary}
 use Rattle.bk_syntax.specs.Rows.{goes, behind, inner}
 use Rattle.bk_syntax.specs.Grammar.{line_of, last}
-use Rattle.bk_syntax.specs.Sizes.{size_if}
-use Rattle.bk_syntax.specs.Machine.{limit, give}
-use Rattle.bk_syntax.specs.Begun.{operand_on}
-use Rattle.bk_syntax.specs.Frames.{stack_of}
+use Rattle.bk_syntax.specs.Inner.Sizes.{size_if}
+use Rattle.bk_syntax.specs.Inner.Machine.{limit, give}
+use Rattle.bk_syntax.specs.Inner.Begun.{operand_on}
+use Rattle.bk_syntax.specs.Inner.Frames.{stack_of}
 use Rattle.bk_syntax.proofs.Turns.{unary_done, binary_done}
 use Rattle.bk_syntax.proofs.expressions.complete.Goals as goal
 

@@ -1,6 +1,6 @@
 use Rattle.std.proofs.Common.{◌≡◌, ◌+◌, ◌-◌, take, sym, ap, ◌∙◌, arith}
-use Rattle.bk_syntax.specs.Machine.{bars}
-use Rattle.bk_syntax.specs.Stacked.{stack}
+use Rattle.bk_syntax.specs.Inner.Machine.{bars}
+use Rattle.bk_syntax.specs.Inner.Stacked.{stack}
 use Rattle.bk_syntax.proofs.Stacks.{stack_take}
 use Rattle.bk_syntax.proofs.expressions.is_barred.Goals as goal
 

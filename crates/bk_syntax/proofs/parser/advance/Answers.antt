@@ -1,5 +1,5 @@
 use Rattle.bk_lex.specs.Symbol.{symbol_of}
-use Rattle.bk_syntax.specs.Frames.{stack_of, state}
+use Rattle.bk_syntax.specs.Inner.Frames.{stack_of, state}
 use Rattle.bk_syntax.specs.Parsing.{tags}
 use Rattle.bk_syntax.proofs.Told.{limit_told}
 use Rattle.bk_syntax.proofs.parser.advance.Goals as goal

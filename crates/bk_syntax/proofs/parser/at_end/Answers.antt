@@ -2,9 +2,9 @@ use Rattle.std.proofs.Common.{ℕ, Some, List, [], Result, sym, ap, subst, ◌�
 use Rattle.bk_lex.specs.declared.token.Kind.TheVariants as k
 use Rattle.bk_lex.specs.Symbol.{Symbol}
 use Rattle.bk_syntax.specs.Tree.{Declarations}
-use Rattle.bk_syntax.specs.Machine.{stepped_by, whole}
-use Rattle.bk_syntax.specs.Frames.{stack_of, state}
-use Rattle.bk_syntax.specs.Parsing.{Ends}
+use Rattle.bk_syntax.specs.Inner.Machine.{stepped_by, whole}
+use Rattle.bk_syntax.specs.Inner.Frames.{stack_of, state}
+use Rattle.bk_syntax.specs.Parsing.{AnswersAtEnd}
 use Rattle.bk_syntax.proofs.Finished.{ends_within}
 use Rattle.bk_syntax.proofs.Behind.{run_end, ends_wrong}
 use Rattle.bk_syntax.proofs.parser.at_end.Goals as goal
@@ -17,7 +17,7 @@ whole-requires c =
 pub returns-in-Ok : goal.returns-in-Ok
 returns-in-Ok c =
     let x = state (stack_of c.args.frames) c.args.now in
-    let P : Result Declarations (List Symbol) → Type 0 = λ r. Ends c.whole.result r c.args.end in
+    let P : Result Declarations (List Symbol) → Type 0 = λ r. AnswersAtEnd c.whole.result r c.args.end in
     subst P (sym (run_end x ∙ ap (λ (l : ℕ). whole (stepped_by x l [] k.Semicolon)) (sym c.first.ensures) ∙ ap whole c.in-Ok.ensures)) c.whole.ensures
 
 pub returns : goal.returns

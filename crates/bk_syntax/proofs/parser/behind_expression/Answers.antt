@@ -1,9 +1,9 @@
 use Rattle.std.proofs.Common.{◌≡◌, Option, true, sym, ap, subst, ◌∙◌}
 use Rattle.bk_syntax.specs.Tree.{expression}
 use Rattle.bk_syntax.specs.Rows.{goes}
-use Rattle.bk_syntax.specs.Machine.{State, limit, push, give}
-use Rattle.bk_syntax.specs.Begun.{begun_on}
-use Rattle.bk_syntax.specs.Frames.{stack_of, Flows}
+use Rattle.bk_syntax.specs.Inner.Machine.{State, limit, push, give}
+use Rattle.bk_syntax.specs.Inner.Begun.{begun_on}
+use Rattle.bk_syntax.specs.Inner.Frames.{stack_of, Flows}
 use Rattle.bk_syntax.proofs.Steps.{pushes}
 use Rattle.bk_syntax.proofs.parser.behind_expression.Goals as goal
 

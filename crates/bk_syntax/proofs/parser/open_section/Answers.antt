@@ -4,7 +4,7 @@ use Rattle.bk_base.specs.declared.refused.Refused.{Refused}
 use Rattle.bk_lex.specs.Symbol.{symbol_of}
 use Rattle.bk_syntax.specs.declared.frame.Now.{Now}
 use Rattle.bk_syntax.specs.Spelling.{tag_of}
-use Rattle.bk_syntax.specs.Frames.{stack_of, state}
+use Rattle.bk_syntax.specs.Inner.Frames.{stack_of, state}
 use Rattle.bk_syntax.specs.Parsing.{tags, Advances}
 use Rattle.bk_syntax.proofs.Openings.{tags_push}
 use Rattle.bk_syntax.proofs.Behind.{answered, plain_open}
@@ -16,5 +16,5 @@ returns-in-Ok c = λ u b.
     let before = tags c.args.opened.now.items in
     let P : Result Now (Refused SourceFault) → Type 0 = λ r. Advances c.repeat_step.new.frames c.push.new.self.items r u t in
     let more = ap tags c.in-Ok.ensures.items ∙ tags_push c.args.opened.now.items c.tag.result ∙ ap (λ (z : List ℕ). z ∷ before) c.tag.ensures in
-    subst P (sym c.told.ensures) (answered c.repeat_step.result c.repeat_step.new.frames c.push.new.self.items u t before (tag_of t.text ∷ before) (state (stack_of c.args.frames.now) c.args.now)
+    subst P (sym c.refused_at.ensures) (answered c.repeat_step.result c.repeat_step.new.frames c.push.new.self.items u t before (tag_of t.text ∷ before) (state (stack_of c.args.frames.now) c.args.now)
     1 c.repeat_step.ensures more (λ us. plain_open t us before c.requires) b)

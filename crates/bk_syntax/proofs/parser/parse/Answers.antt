@@ -1,6 +1,6 @@
 use Rattle.std.proofs.Common.{Err, take, arith}
 use Rattle.bk_lex.specs.Symbol.{symbols_of}
-use Rattle.bk_syntax.specs.Frames.{stack_of, state}
+use Rattle.bk_syntax.specs.Inner.Frames.{stack_of, state}
 use Rattle.bk_syntax.specs.Parsing.{tags}
 use Rattle.bk_syntax.proofs.Behind.{from_nothing, one_further, all_read}
 use Rattle.bk_syntax.proofs.Told.{told_of, ended, gives_only}

@@ -1,5 +1,5 @@
 use Rattle.std.proofs.Common.{ap, sym, ◌∙◌}
-use Rattle.bk_syntax.specs.Sizes.{awaited}
+use Rattle.bk_syntax.specs.Inner.Sizes.{awaited}
 use Rattle.bk_syntax.proofs.Lifts.{last_on, none_on}
 use Rattle.bk_syntax.proofs.size.awaited.Goals as goal
 

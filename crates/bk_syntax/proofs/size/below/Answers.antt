@@ -1,9 +1,9 @@
 use Rattle.std.proofs.Common.{◌≡◌, sym, subst, ap, ◌∙◌}
 use Rattle.bk_syntax.specs.declared.frame.Lift.{Lift}
-use Rattle.bk_syntax.specs.Sizes.{composed, IsLift}
-use Rattle.bk_syntax.specs.Begun.{passed}
-use Rattle.bk_syntax.specs.Stacked.{lift_of}
-use Rattle.bk_syntax.specs.Frames.{stack_of}
+use Rattle.bk_syntax.specs.Inner.Sizes.{composed, IsLift}
+use Rattle.bk_syntax.specs.Inner.Begun.{passed}
+use Rattle.bk_syntax.specs.Inner.Stacked.{lift_of}
+use Rattle.bk_syntax.specs.Inner.Frames.{stack_of}
 use Rattle.bk_syntax.proofs.Lifts.{lift_last, lift_section}
 use Rattle.bk_syntax.proofs.size.below.Goals as goal
 

@@ -1,5 +1,5 @@
 use Rattle.std.proofs.Common.{◌∙◌}
-use Rattle.bk_syntax.specs.Frames.{stack_of}
+use Rattle.bk_syntax.specs.Inner.Frames.{stack_of}
 use Rattle.bk_syntax.proofs.Lifts.{lifted_by}
 use Rattle.bk_syntax.proofs.size.least_with.Goals as goal
 

@@ -1,8 +1,8 @@
 use Rattle.std.proofs.Common.{◌≡◌, sym, subst}
 use Rattle.bk_syntax.specs.declared.frame.Begun.{Begun}
-use Rattle.bk_syntax.specs.Machine.{Stack}
-use Rattle.bk_syntax.specs.Sizes.{needs, IsRise}
-use Rattle.bk_syntax.specs.Begun.{begun_on}
+use Rattle.bk_syntax.specs.Inner.Machine.{Stack}
+use Rattle.bk_syntax.specs.Inner.Sizes.{needs, IsRise}
+use Rattle.bk_syntax.specs.Inner.Begun.{begun_on}
 use Rattle.bk_syntax.proofs.size.lift.Goals as goal
 
 pub returns-in-Operand : goal.returns-in-Operand

@@ -1,8 +1,8 @@
 use Rattle.std.proofs.Common.{◌≡◌, sym, subst}
 use Rattle.bk_syntax.specs.declared.frame.Phrase.{Phrase}
-use Rattle.bk_syntax.specs.Machine.{Stack}
-use Rattle.bk_syntax.specs.Sizes.{needs, IsRise}
-use Rattle.bk_syntax.specs.Begun.{phrase_on}
+use Rattle.bk_syntax.specs.Inner.Machine.{Stack}
+use Rattle.bk_syntax.specs.Inner.Sizes.{needs, IsRise}
+use Rattle.bk_syntax.specs.Inner.Begun.{phrase_on}
 use Rattle.bk_syntax.proofs.size.lift_phrase.Goals as goal
 
 pub returns-in-Start : goal.returns-in-Start

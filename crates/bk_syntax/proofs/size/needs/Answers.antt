@@ -1,5 +1,5 @@
 use Rattle.std.proofs.Common.{ap, sym, ◌∙◌}
-use Rattle.bk_syntax.specs.Sizes.{needs}
+use Rattle.bk_syntax.specs.Inner.Sizes.{needs}
 use Rattle.bk_syntax.proofs.Lifts.{last_on, none_on, last_below}
 use Rattle.bk_syntax.proofs.size.needs.Goals as goal
 

@@ -1,5 +1,5 @@
 use Rattle.std.proofs.Common.{ap, sym, ◌∙◌}
-use Rattle.bk_syntax.specs.Sizes.{wanted}
+use Rattle.bk_syntax.specs.Inner.Sizes.{wanted}
 use Rattle.bk_syntax.proofs.Lifts.{last_on, none_on}
 use Rattle.bk_syntax.proofs.size.wanted.Goals as goal
 

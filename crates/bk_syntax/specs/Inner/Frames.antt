@@ -20,9 +20,9 @@ use Rattle.bk_syntax.specs.declared.tree.Name.{Name}
 use Rattle.bk_syntax.specs.declared.symbols.Declaring.{Declaring}
 use Rattle.bk_syntax.specs.declared.symbols.Declaring.TheVariants as g
 use Rattle.bk_syntax.specs.Rows.{is_relation, is_name}
-use Rattle.bk_syntax.specs.Stacked.{stack}
+use Rattle.bk_syntax.specs.Inner.Stacked.{stack}
 use Rattle.bk_syntax.specs.Tree.{Expression, binary, no_declarations, no_actions, no_definitions, mention, expression, action, definition}
-use Rattle.bk_syntax.specs.Machine.{Stack, State, in_block, in_let, at_opening, at_goto, at_for, at_default, in_test, in_result, want, have, begin, maybe, did, due, give, finish, defined_by}
+use Rattle.bk_syntax.specs.Inner.Machine.{Stack, State, in_block, in_let, at_opening, at_goto, at_for, at_default, in_test, in_result, want, have, begin, maybe, did, due, give, finish, defined_by}
 
 abbrev pub stack_of : Frames → Stack
 stack_of x = stack x.decls.items x.above.items

@@ -3,12 +3,12 @@ use Rattle.std.specs.Prelude.{ℕ, ◌≡◌, Some, List, [], ◌∷◌, slice_g
 use Rattle.bk_syntax.specs.declared.frame.Frame.{Frame}
 use Rattle.bk_syntax.specs.declared.tree.Decl.{Decl}
 use Rattle.bk_syntax.specs.Tree.{declarations_in}
-use Rattle.bk_syntax.specs.Machine.{Stack, in_section}
+use Rattle.bk_syntax.specs.Inner.Machine.{Stack, in_section}
 use Rattle.bk_syntax.specs.declared.frame.Lift.{Lift}
 use Rattle.bk_syntax.specs.declared.size.Form.{Form}
 use Rattle.bk_syntax.specs.declared.size.Form.TheVariants.{Tabled}
-use Rattle.bk_syntax.specs.Sizes.{needs, IsLift}
-use Rattle.bk_syntax.specs.Begun.{begun_on, form_above}
+use Rattle.bk_syntax.specs.Inner.Sizes.{needs, IsLift}
+use Rattle.bk_syntax.specs.Inner.Begun.{begun_on, form_above}
 
 -- the last one is on top
 abbrev pub above : Stack → List Frame → Stack
