@@ -1,81 +1,89 @@
 -- What the program holds as claimed is what the definitions hold as claimed.
-use Rattle.std.proofs.Common.{◌≡◌, Bool, true, false, cond, not, ◌&&◌, ◌||◌, ◌==◌, bytes_eq, List, [], ◌∷◌, ◌++◌, map, reverse, refl, sym, ap, ◌∙◌, if◌then◌else◌}
+use Rattle.std.proofs.Common.{◌≡◌, ℕ, Ordering, Less, Equal, Greater, Bool, true, false, cond, ◌||◌, ◌==◌, bytes_eq, List, [], ◌∷◌, ◌++◌, map, reverse, refl, sym, ap, ◌∙◌}
+use Rattle.std.proofs.lemmas.Cmp.{eq_by_cmp_equiv, nat_cmp_total, nat_list_eq_equiv}
 use Rattle.std.proofs.lemmas.List.{map-append, reverse-append}
-use Rattle.std.proofs.lemmas.List.Folds.{list_any-append}
+use Rattle.std.proofs.lemmas.Map.Text.{is_eq-slice_cmp}
+use Rattle.std.specs.BTreeMap.{is_at}
+use Rattle.std.specs.BTreeSet.{contains, Updates}
+use Rattle.std.specs.Cmp.{unsigned_tied}
+use Rattle.std.specs.Cmp.Lexicographic.{slice_cmp}
 use Rattle.std.specs.List.{list_any}
-use Rattle.indexmap.specs.IndexSet.{insert_key}
+use Rattle.std.specs.Ordering.{is_eq, nat_cmp, ordering_then}
+use Rattle.bk_scope.specs.Claims.{claim_of, claims_in, HasClaims}
 use Rattle.bk_scope.specs.Found as found
 use Rattle.bk_scope.specs.Found.{is_claimed, same_claim}
-use Rattle.bk_scope.specs.Claims.{claim_of}
 use Rattle.bk_scope.specs.declared.claims.Claim.{Claim}
 use Rattle.bk_scope.specs.declared.claims.Claim.TheVariants.{Naming, Choosing, Defaulting, Setting}
-use Rattle.bk_scope.specs.contracts.claims.ClaimPartialEq.TheImpl.{eq-value}
+use Rattle.bk_scope.specs.declared.claims.Claims.TheInside.{Inside}
+use Rattle.bk_scope.specs.contracts.claims.ClaimOrd.TheImpl.{cmp-value}
 
--- the definitions' claims of these, the newest first
-abbrev pub claims_in : List Claim → List found.Claim
-claims_in cs = reverse (map claim_of cs)
+both_tied : (a b : Ordering) (p q : Bool) → is_eq a ≡ p → is_eq b ≡ q → is_eq (ordering_then a b) ≡ cond p q false
+both_tied Less b p q e f = ap (λ r. cond r q false) e
+both_tied Equal b p q e f = f ∙ ap (λ r. cond r q false) e
+both_tied Greater b p q e f = ap (λ r. cond r q false) e
 
-and_cond : (a b : Bool) → (a && b) ≡ cond a b false
-and_cond true b = refl
-and_cond false b = refl
-
--- two claims are equal where they are the same to the definitions
-pub equal-is-same : (c d : Claim) → eq-value.it c d ≡ same_claim (claim_of c) (claim_of d)
-equal-is-same (Naming n x) (Naming m y) = and_cond (n == m) (bytes_eq x.now y.now)
+-- the order tells claims apart where the definitions do
+equal-is-same : (c d : Claim) → is_eq (cmp-value.it c d) ≡ same_claim (claim_of c) (claim_of d)
+equal-is-same (Naming n x) (Naming m y) = both_tied (nat_cmp n m) (slice_cmp nat_cmp x.now y.now) (n == m) (bytes_eq x.now y.now) (unsigned_tied n m) (is_eq-slice_cmp x.now y.now)
 equal-is-same (Naming n x) (Choosing m v) = refl
 equal-is-same (Naming n x) (Defaulting m) = refl
 equal-is-same (Naming n x) (Setting h) = refl
 equal-is-same (Choosing n w) (Naming m y) = refl
-equal-is-same (Choosing n w) (Choosing m v) = and_cond (n == m) (w == v)
+equal-is-same (Choosing n w) (Choosing m v) = both_tied (nat_cmp n m) (nat_cmp w v) (n == m) (w == v) (unsigned_tied n m) (unsigned_tied w v)
 equal-is-same (Choosing n w) (Defaulting m) = refl
 equal-is-same (Choosing n w) (Setting h) = refl
 equal-is-same (Defaulting n) (Naming m y) = refl
 equal-is-same (Defaulting n) (Choosing m v) = refl
-equal-is-same (Defaulting n) (Defaulting m) = refl
+equal-is-same (Defaulting n) (Defaulting m) = unsigned_tied n m
 equal-is-same (Defaulting n) (Setting h) = refl
 equal-is-same (Setting g) (Naming m y) = refl
 equal-is-same (Setting g) (Choosing m v) = refl
 equal-is-same (Setting g) (Defaulting m) = refl
-equal-is-same (Setting g) (Setting h) = refl
+equal-is-same (Setting g) (Setting h) = unsigned_tied g h
 
-or_cond : (a b : Bool) → (a || b) ≡ cond a true b
-or_cond true b = refl
-or_cond false b = refl
+turned : (n m : ℕ) → (n == m) ≡ (m == n)
+turned n m = sym (unsigned_tied n m) ∙ (eq_by_cmp_equiv nat_cmp_total).symm n m ∙ unsigned_tied m n
 
-is_claimed-any : (c : found.Claim) (ds : List found.Claim) → is_claimed c ds ≡ list_any (same_claim c) ds
-is_claimed-any c [] = refl
-is_claimed-any c (d ∷ ds) = ap (cond (same_claim c d) true) (is_claimed-any c ds) ∙ sym (or_cond (same_claim c d) (list_any (same_claim c) ds))
+both_turned : (a b c d : Bool) → a ≡ b → c ≡ d → cond a c false ≡ cond b d false
+both_turned a b c d e f = ap (λ p. cond p c false) e ∙ ap (λ q. cond b q false) f
 
-or_last : (a b : Bool) → (a || (b || false)) ≡ (b || a)
-or_last true true = refl
-or_last true false = refl
-or_last false true = refl
-or_last false false = refl
+same-turned : (c d : found.Claim) → same_claim c d ≡ same_claim d c
+same-turned (found.naming n x) (found.naming m y) = both_turned (n == m) (m == n) (bytes_eq x y) (bytes_eq y x) (turned n m) (nat_list_eq_equiv.symm x y)
+same-turned (found.naming n x) (found.choosing m v) = refl
+same-turned (found.naming n x) (found.defaulting m) = refl
+same-turned (found.naming n x) (found.setting h) = refl
+same-turned (found.choosing n w) (found.naming m y) = refl
+same-turned (found.choosing n w) (found.choosing m v) = both_turned (n == m) (m == n) (w == v) (v == w) (turned n m) (turned w v)
+same-turned (found.choosing n w) (found.defaulting m) = refl
+same-turned (found.choosing n w) (found.setting h) = refl
+same-turned (found.defaulting n) (found.naming m y) = refl
+same-turned (found.defaulting n) (found.choosing m v) = refl
+same-turned (found.defaulting n) (found.defaulting m) = turned n m
+same-turned (found.defaulting n) (found.setting h) = refl
+same-turned (found.setting g) (found.naming m y) = refl
+same-turned (found.setting g) (found.choosing m v) = refl
+same-turned (found.setting g) (found.defaulting m) = refl
+same-turned (found.setting g) (found.setting h) = turned g h
 
-claims_in-before : (c : Claim) (cs : List Claim) → claims_in (c ∷ cs) ≡ claims_in cs ++ claim_of c ∷ []
-claims_in-before c cs = reverse-append (claim_of c ∷ []) (map claim_of cs)
+any-same : (c : Claim) (ks : List Claim) → list_any (is_at (cmp-value.it c)) ks ≡ list_any (λ d. same_claim (claim_of c) (claim_of d)) ks
+any-same c [] = refl
+any-same c (d ∷ ds) = ap (λ b. b || list_any (is_at (cmp-value.it c)) ds) (equal-is-same c d) ∙ ap (λ b. same_claim (claim_of c) (claim_of d) || b) (any-same c ds)
+
+contained : (t : Inside) (c : Claim) → HasClaims t → contains cmp-value.it t.claimed c ≡ is_claimed (claim_of c) (claims_in t.in_turn.items)
+contained t c h = any-same c t.claimed.keys ∙ h c
+
+-- a claim is in the set where the definitions say that it is claimed
+pub claimed-contained : (t : Inside) (c : Claim) (seen : List found.Claim) (b : Bool) → HasClaims t → claims_in t.in_turn.items ≡ seen → b ≡ contains cmp-value.it t.claimed c → is_claimed (claim_of c) seen ≡ b
+claimed-contained t c seen b h view found = ap (is_claimed (claim_of c)) (sym view) ∙ sym (contained t c h) ∙ sym found
 
 claims_in-behind : (c : Claim) (cs : List Claim) → claims_in (cs ++ c ∷ []) ≡ claim_of c ∷ claims_in cs
 claims_in-behind c cs = ap reverse (map-append claim_of cs (c ∷ [])) ∙ reverse-append (map claim_of cs) (claim_of c ∷ [])
 
-any-claims_in : (c : Claim) (cs : List Claim) → list_any (same_claim (claim_of c)) (claims_in cs) ≡ list_any (eq-value.it c) cs
-any-claims_in c [] = refl
-any-claims_in c (d ∷ ds) =
-    let same = same_claim (claim_of c) in
-    ap (list_any same) (claims_in-before d ds)
-    ∙ list_any-append same (claims_in ds) (claim_of d ∷ [])
-    ∙ or_last (list_any same (claims_in ds)) (same (claim_of d))
-    ∙ ap (λ b. b || list_any same (claims_in ds)) (sym (equal-is-same c d))
-    ∙ ap (λ b. eq-value.it c d || b) (any-claims_in c ds)
-
--- a claim is in the set where the definitions say that it is claimed
-pub claimed-contained : (c : Claim) (cs : List Claim) → is_claimed (claim_of c) (claims_in cs) ≡ list_any (eq-value.it c) cs
-claimed-contained c cs = is_claimed-any (claim_of c) (claims_in cs) ∙ any-claims_in c cs
-
--- the claims once one is inserted: one more, if it was new
-pub claims_in-inserted : (c : Claim) (cs : List Claim) → claims_in (insert_key eq-value.it cs c) ≡ cond (not (list_any (eq-value.it c) cs)) (claim_of c ∷ claims_in cs) (claims_in cs)
-claims_in-inserted c cs = by (list_any (eq-value.it c) cs)
-  where
-    by : (b : Bool) → claims_in (if b then cs else (cs ++ c ∷ [])) ≡ cond (not b) (claim_of c ∷ claims_in cs) (claims_in cs)
-    by true = refl
-    by false = claims_in-behind c cs
+-- one claim more
+pub HasClaims-more : (t u : Inside) (c : Claim) → HasClaims t → Updates cmp-value.it t.claimed u.claimed c true → u.in_turn.items ≡ t.in_turn.items ++ c ∷ [] → HasClaims u
+HasClaims-more t u c h updates items q =
+    sym (any-same q u.claimed.keys)
+    ∙ updates.0 q
+    ∙ ap (λ b. cond b true (contains cmp-value.it t.claimed q)) (equal-is-same c q ∙ same-turned (claim_of c) (claim_of q))
+    ∙ ap (cond (same_claim (claim_of q) (claim_of c)) true) (contained t q h)
+    ∙ sym (ap (is_claimed (claim_of q)) (ap claims_in items ∙ claims_in-behind c t.in_turn.items))

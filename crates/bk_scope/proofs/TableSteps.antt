@@ -3,10 +3,12 @@ use Rattle.std.proofs.Common.{◌≡◌, ℕ, ◌+◌, ◌-◌, ◌<◌, Bool, t
 use Rattle.std.specs.Prelude.{reverse}
 use Rattle.std.specs.Option.{option_flatten}
 use Rattle.std.specs.Str.{bytes_eq}
-use Rattle.std.specs.HashMap.{get_by, UpdatesBy}
+use Rattle.std.specs.BTreeMap.{get_by, UpdatesBy}
+use Rattle.std.specs.Cmp.Lexicographic.{slice_cmp}
+use Rattle.std.specs.Ordering.{nat_cmp}
 use Rattle.std.proofs.lemmas.Bool.{cases_Bool, cond-true, cond-false}
 use Rattle.std.proofs.lemmas.List.{reverse-append, length-map, length-reverse, length-drop, drop-drop, reverse-reverse, get_or_at, get_or_append_left}
-use Rattle.std.proofs.lemmas.Map.Text.{hash_map_updates_str}
+use Rattle.std.proofs.lemmas.Map.Text.{btree_map_updates_str}
 use Rattle.std.proofs.lemmas.Slice.Eq.{bytes_eq-Decides}
 use Rattle.bk_scope.specs.Scope.{Binding, bound_in}
 use Rattle.bk_scope.specs.declared.table.Entry.{Entry}
@@ -21,7 +23,7 @@ length-scope_of es = length-map (reverse es) binding_of ∙ length-reverse es
 
 -- the map's place for one name is changed
 abbrev pub Puts : Inside → List ℕ → Option ℕ → Inside → Type 0
-Puts t x o u = UpdatesBy (λ a b. bytes_eq a.now b.now) (λ k. bytes_eq x k.now) t.innermost u.innermost (Some o)
+Puts t x o u = UpdatesBy (λ a b. slice_cmp nat_cmp a.now b.now) (λ k. slice_cmp nat_cmp x k.now) t.innermost u.innermost (Some o)
 
 flatten-cond : (b : Bool) (o : Option ℕ) (p : Option (Option ℕ)) → option_flatten (cond b (Some o) p) ≡ cond b o (option_flatten p)
 flatten-cond true o p = refl
@@ -29,8 +31,8 @@ flatten-cond false o p = refl
 
 mapped_place-put : (t u : Inside) (x : List ℕ) (o : Option ℕ) → Puts t x o u → (y : List ℕ) → mapped_place u y ≡ cond (bytes_eq x y) o (mapped_place t y)
 mapped_place-put t u x o puts y =
-    ap option_flatten (hash_map_updates_str x t.innermost u.innermost (Some o) puts y)
-    ∙ flatten-cond (bytes_eq x y) o (get_by (λ k. bytes_eq y k.now) t.innermost)
+    ap option_flatten (btree_map_updates_str x t.innermost u.innermost (Some o) puts y)
+    ∙ flatten-cond (bytes_eq x y) o (get_by (λ k. slice_cmp nat_cmp y k.now) t.innermost)
 
 -- one binding more
 pub IsTable-push : (t u : Inside) (e : Entry) (i : ℕ) → IsTable t → u.bindings.items ≡ t.bindings.items ++ e ∷ [] → i ≡ length t.bindings.items
@@ -71,9 +73,9 @@ IsSome-flatten None i h = let f : ◌≡◌ {A = Option ℕ} None (Some i) = h i
 IsSome-flatten (Some p) i h = search rules
 
 -- the map has the name of the innermost binding
-pub IsSome-innermost : (t : Inside) (es : List Entry) (e : Entry) → IsTable t → t.bindings.items ≡ es ++ e ∷ [] → IsSome (get_by (λ k. bytes_eq e.name.now k.now) t.innermost)
+pub IsSome-innermost : (t : Inside) (es : List Entry) (e : Entry) → IsTable t → t.bindings.items ≡ es ++ e ∷ [] → IsSome (get_by (λ k. slice_cmp nat_cmp e.name.now k.now) t.innermost)
 IsSome-innermost t es e before items =
-    IsSome-flatten (get_by (λ k. bytes_eq e.name.now k.now) t.innermost) (length (scope_of es))
+    IsSome-flatten (get_by (λ k. slice_cmp nat_cmp e.name.now k.now) t.innermost) (length (scope_of es))
     (before.places e.name.now ∙ ap (λ bs. place_in bs e.name.now) (ap scope_of items ∙ scope_of-push es e)
     ∙ cond-true _ (Some (length (scope_of es))) (place_in (scope_of es) e.name.now) ((bytes_eq-Decides e.name.now e.name.now).1 refl))
 

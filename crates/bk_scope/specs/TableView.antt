@@ -1,8 +1,10 @@
 -- What a table of names holds: the bindings in scope, and of each name the place of the innermost.
 use Rattle.std.specs.Prelude.{◌≡◌, ℕ, cond, Option, Some, None, List, [], ◌∷◌, map, reverse, length}
+use Rattle.std.specs.BTreeMap.{get_by}
 use Rattle.std.specs.Option.{option_flatten}
+use Rattle.std.specs.Ordering.{nat_cmp}
+use Rattle.std.specs.Cmp.Lexicographic.{slice_cmp}
 use Rattle.std.specs.Str.{bytes_eq}
-use Rattle.indexmap.specs.IndexMap.{get_by}
 use Rattle.bk_scope.specs.Scope.{Binding}
 use Rattle.bk_scope.specs.declared.table.Entry.{Entry}
 use Rattle.bk_scope.specs.declared.table.Table.TheInside.{Inside}
@@ -26,7 +28,7 @@ HaveHidden (e ∷ es) = (e.hidden ≡ place_in (map binding_of es) e.name.now) �
 
 -- the place that the map has for a name
 abbrev pub mapped_place : Inside → List ℕ → Option ℕ
-mapped_place t x = option_flatten (get_by (λ k. bytes_eq x k.now) t.innermost)
+mapped_place t x = option_flatten (get_by (λ k. slice_cmp nat_cmp x k.now) t.innermost)
 
 pub record IsTable (t : Inside) : Type 0 where
   pub places : (x : List ℕ) → mapped_place t x ≡ place_in (scope_of t.bindings.items) x

@@ -1,13 +1,14 @@
 //! What may be claimed once in a section.
 ghost use Rattle.std.specs.Prelude.{◌≡◌, not, cond, false, [], ◌∷◌, IfOk, OnErr};
 ghost use Rattle.bk_scope.specs.Found.{is_claimed};
-ghost use Rattle.bk_scope.specs.Claims.{claim_of, claims_of};
+ghost use Rattle.bk_scope.specs.Claims.{claim_of};
 
-use indexmap::IndexSet;
 use std::alloc::{AllocError, Global};
+use std::collections::BTreeSet;
+use std::marker::Model;
 
 /// What may be claimed once in a section.
-#[derive(Clone, Copy, PartialEq, Eq, Hash)]
+#[derive(Clone, Copy, PartialEq, Eq, PartialOrd, Ord)]
 pub enum Claim<'a> {
     /// A name, in the list of names of this number.
     Naming(u32, &'a [u8]),
@@ -19,29 +20,56 @@ pub enum Claim<'a> {
     Setting(u32),
 }
 
-/// What was claimed so far.
+/// What was claimed so far, which contracts see as the list of it, the newest first.
 #[derive(Drop)]
 pub struct Claims<'a> {
-    claimed: IndexSet<Claim<'a>>,
+    /// What was claimed, by order.
+    claimed: BTreeSet<Claim<'a>>,
+    /// The same, the newest last.
+    in_turn: Vec<Claim<'a>>,
+}
+
+impl<'a> Model for Claims<'a> {
+    ghost use Rattle.std.specs.Prelude.{List};
+    ghost use Rattle.bk_scope.specs.Found.{Claim};
+
+    ghost Value = { List Claim };
+
+    ghost use Rattle.bk_scope.specs.Claims.{claims_in, HasClaims};
+
+    ghost view = { λ c. claims_in c.in_turn.items };
+
+    ghost invariant = { HasClaims };
 }
 
 impl<'a> Claims<'a> {
     /// Nothing is claimed.
     pub fn new(alloc: Global) -> Claims<'a>
-        ensures { claims_of result ≡ [] }
+        ensures { result ≡ [] }
     {
         Claims {
-            claimed: IndexSet::new(alloc),
+            claimed: BTreeSet::new(alloc),
+            in_turn: Vec::new(alloc),
         }
     }
 
     /// Claims it; whether nothing had claimed it before.
     pub fn claim(&mut self, claim: Claim<'a>) -> Result<bool, AllocError>
-        ensures first { IfOk result (λ new. new ≡ not (is_claimed (claim_of claim.entry) (claims_of self.old))) }
-        ensures claims { IfOk result (λ new. claims_of self.new ≡ cond new (claim_of claim.entry ∷ claims_of self.old) (claims_of self.old)) }
-        ensures kept { OnErr result (claims_of self.new ≡ claims_of self.old) }
-        ensures absent { OnErr result (is_claimed (claim_of claim.entry) (claims_of self.old) ≡ false) }
+        ensures first { IfOk result (λ new. new ≡ not (is_claimed (claim_of claim.entry) self.old)) }
+        ensures claims { IfOk result (λ new. self.new ≡ cond new (claim_of claim.entry ∷ self.old) self.old) }
+        ensures kept { OnErr result (self.new ≡ self.old) }
+        ensures absent { OnErr result (is_claimed (claim_of claim.entry) self.old ≡ false) }
     {
-        Ok(self.claimed.insert(claim)?)
+        if self.claimed.contains(&claim) {
+            return Ok(false);
+        }
+        self.in_turn.push(claim)?;
+        match self.claimed.insert(claim) {
+            Ok(_) => Ok(true),
+            Err(_) => {
+                self.in_turn.pop();
+                Err(AllocError)
+            }
+        }
     }
 }

@@ -58,11 +58,10 @@ pub struct Findings<'a> {
 impl<'a> Model for Findings<'a> {
     ghost use Rattle.bk_scope.specs.Found.{Found};
     ghost use Rattle.bk_scope.specs.FirstFault.{first_fault};
-    ghost use Rattle.bk_scope.specs.Claims.{claims_of};
 
     ghost Value = { Found };
 
-    ghost view = { λ f. record { first = first_fault f.first; claims = claims_of f.claims; meanings = f.meanings.items; words = f.words.items; next = f.next; deepest = f.deepest } };
+    ghost view = { λ f. record { first = first_fault f.first; claims = f.claims; meanings = f.meanings.items; words = f.words.items; next = f.next; deepest = f.deepest } };
 }
 
 impl<'a> Findings<'a> {

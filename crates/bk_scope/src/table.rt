@@ -4,15 +4,15 @@ ghost use Rattle.bk_scope.specs.Scope.{bind, bound_in};
 ghost use Rattle.bk_scope.specs.TableView.{place_in};
 
 use crate::bound::Bound;
-use indexmap::IndexMap;
 use std::alloc::{AllocError, Global};
+use std::collections::BTreeMap;
 use std::marker::Model;
 
 /// The declarations in scope, which contracts see as the list of them, the innermost first.
 #[derive(Drop)]
 pub struct Table<'a> {
     /// Of each name that was bound, the place in `bindings` of the innermost binding that is in scope, if any.
-    innermost: IndexMap<&'a [u8], Option<usize>>,
+    innermost: BTreeMap<&'a [u8], Option<usize>>,
     /// The bindings in scope, the outermost first.
     bindings: Vec<Entry<'a>>,
 }
@@ -45,7 +45,7 @@ impl<'a> Table<'a> {
         ensures { result ≡ [] }
     {
         Table {
-            innermost: IndexMap::new(alloc),
+            innermost: BTreeMap::new(alloc),
             bindings: Vec::new(alloc),
         }
     }

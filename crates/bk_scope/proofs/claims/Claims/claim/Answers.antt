@@ -1,19 +1,24 @@
-use Rattle.std.proofs.Common.{rules, ◌∙◌, sym, ap, not, cond, ◌∷◌}
-use Rattle.bk_scope.specs.Claims.{claim_of}
-use Rattle.bk_scope.proofs.Claimed.{claimed-contained, claims_in, claims_in-inserted}
+use Rattle.std.proofs.Common.{rules, ◌∙◌, sym, ap, not}
+use Rattle.bk_scope.proofs.Claimed.{claimed-contained, HasClaims-more}
 use Rattle.bk_scope.proofs.claims.Claims.claim.Goals as goal
 
-pub returns-clause-first : goal.returns-clause-first
-returns-clause-first c = c.in_ok-insert.ensures.added ∙ sym (ap not (claimed-contained c.args.claim c.args.self.now.claimed.keys))
+pub returns-then-contains-clause-first : goal.returns-then-contains-clause-first
+returns-then-contains-clause-first c =
+    ap not (sym (claimed-contained c.self.inside c.args.claim c.args.self.now _ c.self.invariant c.self.view_is (sym c.if-contains.true ∙ c.contains.ensures)))
 
-pub returns-clause-claims : goal.returns-clause-claims
-returns-clause-claims c =
-    let cs = c.args.self.now.claimed.keys in
-    ap claims_in c.in_ok-insert.ensures.keys
-    ∙ claims_in-inserted c.args.claim cs
-    ∙ sym (ap (λ b. cond b (claim_of c.args.claim ∷ claims_in cs) (claims_in cs)) c.in_ok-insert.ensures.added)
-
-pub returns-in_err-insert-clause-absent : goal.returns-in_err-insert-clause-absent
-returns-in_err-insert-clause-absent c =
-    let absent = claimed-contained c.args.claim c.args.self.now.claimed.keys ∙ c.in_err-insert.ensures.absent in
+pub returns-in_err-push-clause-absent : goal.returns-in_err-push-clause-absent
+returns-in_err-push-clause-absent c =
+    let absent = claimed-contained c.self.inside c.args.claim c.args.self.now _ c.self.invariant c.self.view_is (sym c.if-contains.false ∙ c.contains.ensures) in
     search (rules, absent)
+
+pub invariant_of-self-in-Ok : goal.invariant_of-self-in-Ok
+invariant_of-self-in-Ok c =
+    HasClaims-more c.self.inside (record { claimed = c.insert.new.self; in_turn = c.push.new.self }) c.args.claim c.self.invariant c.in-Ok.ensures.updates c.in_ok-push.ensures.items
+
+pub returns-in-Ok-clause-first : goal.returns-in-Ok-clause-first
+returns-in-Ok-clause-first c =
+    ap not (sym (claimed-contained c.self.inside c.args.claim c.args.self.now _ c.self.invariant c.self.view_is (sym c.if-contains.false ∙ c.contains.ensures)))
+
+pub returns-in-Err-clause-absent : goal.returns-in-Err-clause-absent
+returns-in-Err-clause-absent c =
+    claimed-contained c.self.inside c.args.claim c.args.self.now _ c.self.invariant c.self.view_is (sym c.if-contains.false ∙ c.contains.ensures)
