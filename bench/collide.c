@@ -1,4 +1,4 @@
-/* Names and numbers that the tables of bcpl put in few places: their hash has a fixed seed. Prints one a line.
+/* Names and numbers that the toolchain's tables by hash put in few places: their hash has a fixed seed. Prints one a line.
  * collide names LENGTH BITS COUNT: names of this length whose hashes end in the same bits
  * collide numbers FROM TO BITS BELOW COUNT: numbers the last bits of whose hashes are below this */
 #include <stdint.h>
