@@ -3,6 +3,7 @@
 
 mod laws;
 mod parts;
+mod pending;
 pub mod plain;
 mod segment;
 mod statement;
