@@ -1,9 +1,13 @@
 //! From OCODE to INTCODE.
 #![tactic(auto)]
 
+mod kept;
 mod laws;
+mod operator;
 mod parts;
+mod pending;
 pub mod plain;
+mod section;
 mod segment;
 mod statement;
 mod table;

@@ -21,16 +21,43 @@ fn section_of(alloc: Global, text: &[u8]) -> Result<Ocode, Fail> {
     }
 }
 
-/// The segments of sections, one a text.
-fn segments_of(alloc: Global, texts: &[&[u8]]) -> Result<Vec<Intcode>, Fail> {
+/// The segments of sections, one a text, by one of the generators.
+fn segments_of(alloc: Global, texts: &[&[u8]], keeps: bool) -> Result<Vec<Intcode>, Fail> {
     let mut segments = Vec::new(alloc);
     for text in texts {
-        segments.push(generate(alloc, &section_of(alloc, text)?)?)?;
+        let section = section_of(alloc, text)?;
+        segments.push(if keeps {
+            generate(alloc, &section)?
+        } else {
+            plain::generate(alloc, &section)?
+        })?;
     }
     Ok(segments)
 }
 
-/// Runs sections, and compares what they end with and what they write.
+/// Runs sections by one of the generators, and compares what they end with and what they write.
+fn runs_by(
+    rt: &impl Abort,
+    alloc: Global,
+    texts: &[&[u8]],
+    keeps: bool,
+    steps: u64,
+    input: &[u8],
+    end: End,
+    output: &[u8],
+) -> Result<(), Fail> {
+    let segments = segments_of(alloc, texts, keeps)?;
+    let mut machine = Machine::load(alloc, &segments, WORDS)?;
+    let mut input = Reader512::new(input);
+    let mut bytes = Vec::new(alloc);
+    let mut out = Writer512::new(&mut bytes);
+    assert_eq!(rt; machine.run(steps, &mut input, &mut out), end);
+    drop(out);
+    assert_eq!(rt; bytes.as_slice(), output);
+    Ok(())
+}
+
+/// Runs sections by both generators: bytes and end are the same.
 fn runs(
     rt: &impl Abort,
     alloc: Global,
@@ -40,15 +67,8 @@ fn runs(
     end: End,
     output: &[u8],
 ) -> Result<(), Fail> {
-    let segments = segments_of(alloc, texts)?;
-    let mut machine = Machine::load(alloc, &segments, WORDS)?;
-    let mut input = Reader512::new(input);
-    let mut bytes = Vec::new(alloc);
-    let mut out = Writer512::new(&mut bytes);
-    assert_eq!(rt; machine.run(steps, &mut input, &mut out), end);
-    drop(out);
-    assert_eq!(rt; bytes.as_slice(), output);
-    Ok(())
+    runs_by(rt, alloc, texts, false, steps, input, end, output)?;
+    runs_by(rt, alloc, texts, true, steps, input, end, output)
 }
 
 /// Runs one section to its end with 0.
@@ -263,16 +283,22 @@ fn ends(rt: HostRuntime) -> Result<(), Fail> {
         End::StoreLimit,
         b"",
     )?;
-    // a round is five statements: a LAB, a STACK, LN, LG with RTAP, and a JUMP
-    runs(
-        &rt,
-        rt.alloc(),
-        &[b"ENTRY L1 0 SAVE 2 LAB L2 STACK 4 LN 65 LG 4 RTAP 2 JUMP L2 RTRN ENDPROC GLOBAL 1 1 L1"],
-        30,
-        b"",
-        End::StepLimit,
-        b"AAA",
-    )
+    // a round is five statements: a LAB, a STACK, LN, LG with RTAP, and a JUMP; it takes nine steps, or seven
+    for (keeps, output) in [(false, b"AAA".as_slice()), (true, b"AAAA".as_slice())] {
+        runs_by(
+            &rt,
+            rt.alloc(),
+            &[
+                b"ENTRY L1 0 SAVE 2 LAB L2 STACK 4 LN 65 LG 4 RTAP 2 JUMP L2 RTRN ENDPROC GLOBAL 1 1 L1",
+            ],
+            keeps,
+            30,
+            b"",
+            End::StepLimit,
+            output,
+        )?;
+    }
+    Ok(())
 }
 
 #[test]
@@ -287,13 +313,13 @@ fn frames(rt: HostRuntime) -> Result<(), Fail> {
             65_535,
         ),
     ] {
-        let segments = segments_of(rt.alloc(), &[text])?;
+        let segments = segments_of(rt.alloc(), &[text], true)?;
         assert_eq!(rt;
             Machine::load(rt.alloc(), &segments, WORDS)?.sizes().frame,
             frame
         );
     }
-    let segments = segments_of(rt.alloc(), &[b"GLOBAL 0"])?;
+    let segments = segments_of(rt.alloc(), &[b"GLOBAL 0"], true)?;
     assert!(rt;
         matches!(
             Machine::load(rt.alloc(), &segments, WORDS),
@@ -303,15 +329,22 @@ fn frames(rt: HostRuntime) -> Result<(), Fail> {
     Ok(())
 }
 
+/// Three of the sections above, in which items stay pending.
 #[test]
-fn plain_items(rt: HostRuntime) -> Result<(), Fail> {
-    let section = section_of(
-        rt.alloc(),
-        b"ENTRY L1 0 SAVE 2 STACK 4 LN 65 LG 4 RTAP 2 RTRN ENDPROC GLOBAL 1 1 L1",
-    )?;
-    assert_eq!(rt;
-        plain::generate(rt.alloc(), &section)?.items(),
-        generate(rt.alloc(), &section)?.items()
-    );
+fn fewer_items(rt: HostRuntime) -> Result<(), Fail> {
+    for text in [
+        b"ENTRY L1 5 83 84 65 82 84 SAVE 2 LN 1 LN 3 STORE JUMP L2 LAB L3 STACK 6 LP 2 LG 7 RTAP 4 LAB L4 LP 2 LN 1 PLUS SP 2 \
+        LAB L2 LP 2 LP 3 LE JT L3 LAB L5 STACK 2 RTRN ENDPROC GLOBAL 1 1 L1"
+            .as_slice(),
+        b"ENTRY L1 0 SAVE 2 LSTR 2 72 73 STORE STACK 5 LP 2 LN 2 GETBYTE LG 4 RTAP 3 LN 74 LP 2 LN 1 PUTBYTE STACK 5 LP 2 LG 6 \
+        RTAP 3 RTRN ENDPROC GLOBAL 1 1 L1"
+            .as_slice(),
+        b"ENTRY L1 6 68 79 85 66 76 69 SAVE 3 LP 2 LP 2 PLUS FNRN ENDPROC GLOBAL 1 100 L1".as_slice(),
+    ] {
+        let section = section_of(rt.alloc(), text)?;
+        let kept = generate(rt.alloc(), &section)?;
+        let plain = plain::generate(rt.alloc(), &section)?;
+        assert!(rt; kept.items().len() < plain.items().len());
+    }
     Ok(())
 }
