@@ -13,3 +13,4 @@ pub mod Begun
 pub mod Stacked
 pub mod Frames
 pub mod Parsing
+pub mod Completions
