@@ -28,3 +28,4 @@ pub mod Lifts
 pub mod Finished
 pub mod Rises
 pub mod Bounding
+pub mod Lowering
