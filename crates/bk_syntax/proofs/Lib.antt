@@ -29,3 +29,4 @@ pub mod Finished
 pub mod Rises
 pub mod Bounding
 pub mod Lowering
+pub mod Covering

@@ -1,0 +1,292 @@
+-- A step of the machine leads to nothing that could not be completed before it.
+use Rattle.std.proofs.Common.{◌≡◌, ◌≤◌, ℕ, ◌+◌, ◌-◌, max, Bool, true, false, cond, ◌==◌, length, Option, Some, None, refl, sym, ap, subst, ◌⊎◌, inl, inr, List, [], ◌∷◌, ◌++◌, length-append, Ok, ◌∙◌, arith}
+use Rattle.bk_lex.specs.Symbol.{Symbol}
+use Rattle.bk_lex.specs.declared.token.Kind.{Kind}
+use Rattle.bk_lex.specs.declared.token.Kind.TheVariants as k
+use Rattle.bk_syntax.specs.declared.tree.Operator.{Operator}
+use Rattle.bk_syntax.specs.declared.tree.Operator.TheVariants.{Both}
+use Rattle.bk_syntax.specs.declared.tree.Prefix.{Prefix}
+use Rattle.bk_syntax.specs.declared.tree.Sort.{Sort}
+use Rattle.bk_syntax.specs.declared.symbols.Guard.{Guard}
+use Rattle.bk_syntax.specs.declared.symbols.Guard.TheVariants as g
+use Rattle.bk_syntax.specs.declared.size.Form.{Form}
+use Rattle.bk_syntax.specs.declared.size.Form.TheVariants.{Label, Call, Callable, Tabled, Other}
+use Rattle.bk_syntax.specs.Tree.{Mention, Expression, Expressions, Action, Actions, Declaration, Declarations, Items, Definition, Starts, name, parens, unary, binary, choice, apply, valof, table, none, more, empty, assign, label, default, test, for_loop, result, block, repeat, repeat_while, no_actions, also, constants, definitions, no_declarations, declare, no_items, item, routine, function, variables, no_definitions, define, no_starts, value, vector, call, goto}
+use Rattle.bk_syntax.specs.Limits.{depth, depth_of_each, depth_of_action, depth_of_actions, depth_of_declaration, depth_of_declarations, depth_of_items, depth_of_definition, depth_of_definitions, depth_of_starts, nodes, nodes_of_each, nodes_of_action, nodes_of_actions, nodes_of_declaration, nodes_of_declarations, nodes_of_items, nodes_of_definition, nodes_of_definitions, nodes_of_starts}
+use Rattle.bk_syntax.specs.Rows.{inner, behind, is_relation, infix_of, prefix_of, sort_of, begins_command, repeats, assigns, is_and, is_comma, goes}
+use Rattle.bk_syntax.specs.Grammar.{line_of, line_of_first, line_of_names, line_of_action, size, start_count, last}
+use Rattle.bk_syntax.specs.Machine.{each_then, actions_then, declarations_then, items_then, definitions_then, starts_then, Stack, in_section, in_block, in_let, at_name, at_formals, at_formal, at_formal_end, at_head, at_variable, at_variable_end, at_starts, at_opening, at_items, at_sign, at_goto, at_for, at_forward, at_default, in_parens, in_unary, in_binary, in_chain, in_then, in_else, in_args, in_table, in_start, in_dests, in_values, in_guard, in_test, in_result, in_while, in_from, in_to, in_by, in_item, in_function, in_value, in_vector, in_valof, in_label, in_guarded, in_default, in_do, in_or, in_for, in_routine, State, want, have, begin, maybe, did, due, linked, infixed, push, is_close, is_colon, is_do, is_or, is_to, is_equal, is_semicolon, opens, closes, is_vec, is_let, is_open, is_sign_of, if_is, named, guarded, behind_sign, no_args, bars, take_operand, take_command, sorted, take_declaration, take_in_section, in_head, take_in_block, declared, declared_by, defined_by, again, dests, labelled, is_call, call_of, in_constants, to_or_do, give, finish, without, inside, in_names, in_formals, headed, take_item, take_due, step, prefixed, counted, whole, run, stepped_by, going}
+use Rattle.bk_syntax.specs.Sizes.{form_of, owed}
+use Rattle.bk_syntax.specs.Completions as nx
+use Rattle.bk_syntax.specs.Completions.{Next, Any, AtClosing, AtListing, AtArgument, AtAssignment, Unlisted, AtPart, If, Closed, Started, Answered, Whole, Guarded, Gives, Does, Defines, Declares, Wants, Misses, Lists, Due, Completes}
+use Rattle.bk_syntax.proofs.Before.{falls, behind_ok, inner_ok}
+use Rattle.bk_syntax.proofs.Steps.{repeated, size_then, count_then}
+use Rattle.bk_syntax.proofs.Trees.{each_depth, each_nodes, actions_depth, actions_nodes, declarations_depth, declarations_nodes, definitions_depth, definitions_nodes, items_depth, items_nodes, starts_depth, starts_nodes}
+use Rattle.bk_syntax.proofs.Turns.{guarded_depth, guarded_nodes}
+use Rattle.bk_syntax.proofs.Lowering.{Down, Falls, any, closed_falls, any_falls, any_closed, whole_falls, gives_falls, does_falls, defines_fall, declares_fall}
+
+-- where what comes can be completed, so can what was before it
+abbrev pub Leads : (ℕ → ℕ → Type 0) → Type 0 → Option State → Type 0
+Leads P X None = Unit {0}
+Leads P X (Some y) = Completes P y → X
+
+-- ---- unions
+
+unclosed : (F : ℕ → ℕ → Next → Type 0) → Falls F → (d n : ℕ) → (c : Next) → Closed F d n c → Any (F d n)
+unclosed F f d n nx.closing h = (nx.closing, h)
+unclosed F f d n nx.assigning h = (nx.assigning, h)
+unclosed F f d n nx.listing h = (nx.listing, h)
+unclosed F f d n nx.going h = absurd h
+unclosed F f d n nx.repeating h = any_falls F f d (d + 1) n (n + 1) (omega arith) (omega arith) h
+
+-- a command that an expression ends, as one
+opened : (F : ℕ → ℕ → Next → Type 0) → Falls F → (d e n m : ℕ) → d ≤ e → n ≤ m → Any (Closed F e m) → Any (F d n)
+opened F f d e n m p q h = any_falls F f d e n m p q (unclosed F f e m h.0 h.1)
+
+started_label : (F : ℕ → ℕ → Next → Type 0) → Falls F → (f : Form) (d n : ℕ) → 1 ≤ d → 1 ≤ n → (c : Next) → Started F f d n c → Any (Started F Label 1 1)
+started_label F k f d n p q nx.assigning h = (nx.assigning, any_closed F k (max 1 1 + 1) (max d 1 + 1) (1 + 2) (n + 2) (omega arith) (omega (arith, q)) h)
+started_label F k f d n p q nx.listing h = (nx.listing, any_closed F k (max 1 1 + 1) (max d 1 + 1) (1 + 4) (n + 4) (omega arith) (omega (arith, q)) h)
+started_label F k Label d n p q nx.closing h = (nx.closing, h)
+started_label F k Call d n p q nx.closing h = (nx.closing, inl (nx.closing, k 1 d 1 n p q nx.closing h))
+started_label F k Call d n p q nx.repeating h = (nx.closing, inl (nx.repeating, any_falls F k (1 + 1) (d + 1) (1 + 1) (n + 1) (omega (arith, p)) (omega (arith, q)) h))
+started_label F k Label d n p q nx.going h = absurd h
+started_label F k Label d n p q nx.repeating h = absurd h
+started_label F k Call d n p q nx.going h = absurd h
+started_label F k Callable d n p q nx.closing h = absurd h
+started_label F k Callable d n p q nx.going h = absurd h
+started_label F k Callable d n p q nx.repeating h = absurd h
+started_label F k Tabled d n p q nx.closing h = absurd h
+started_label F k Tabled d n p q nx.going h = absurd h
+started_label F k Tabled d n p q nx.repeating h = absurd h
+started_label F k Other d n p q nx.closing h = absurd h
+started_label F k Other d n p q nx.going h = absurd h
+started_label F k Other d n p q nx.repeating h = absurd h
+
+-- a name is the least operand
+least : (P : ℕ → ℕ → Type 0) → Down P → (st : Stack) (f : Form) (d n : ℕ) → 1 ≤ d → 1 ≤ n → (c : Next) → Gives P st f d n c → Any (Gives P st Label 1 1)
+least P w (in_start st) f d n p q c h = started_label (Does P st) (does_falls P w st) f d n p q c h
+least P w (in_parens l st) f d n p q c h = (c, gives_falls P w (in_parens l st) Label 1 d 1 n p q c h)
+least P w (in_args s x es st) f d n p q c h = (c, gives_falls P w (in_args s x es st) Label 1 d 1 n p q c h)
+least P w st f d n p q c h = (c, gives_falls P w st Label 1 d 1 n p q c h)
+
+least_whole : (P : ℕ → ℕ → Type 0) → Down P → (st : Stack) (f : Form) (d n : ℕ) → 1 ≤ d → 1 ≤ n → Whole (Gives P st) f d n → Any (Gives P st Label 1 1)
+least_whole P w st f d n p q (inl h) = least P w st f d n p q h.0 h.1
+least_whole P w st f d n p q (inr h) = least P w st Call (d + 1) (n + 1) (omega arith) (omega arith) h.0 h.1
+
+wants : (P : ℕ → ℕ → Type 0) → Down P → (st : Stack) → Any (Gives P st Label 1 1) → Wants P st
+wants P w (in_args s x none st) (nx.closing, h) = whole_falls (Gives P st) (gives_falls P w st) Call (depth x + 1) (max (depth x) (max 0 1) + 1) (nodes x + 1) (nodes x + (0 + 1) + 1) (omega arith) (omega arith) h
+wants P w (in_args s x none st) (nx.listing, h) = whole_falls (Gives P st) (gives_falls P w st) Call (depth x + 1) (max (depth x) (max 0 (max 1 1)) + 1) (nodes x + 1) (nodes x + (0 + 1) + 2) (omega arith) (omega arith) h
+wants P w (in_args s x none st) (nx.assigning, h) = absurd h
+wants P w (in_args s x none st) (nx.going, h) = absurd h
+wants P w (in_args s x none st) (nx.repeating, h) = absurd h
+wants P w (in_args s x (more y ys) st) h = h
+wants P w st h = h
+
+-- a destination with more behind it can be called
+started_call : (F : ℕ → ℕ → Next → Type 0) (d n : ℕ) (c : Next) → Started F Other d n c → Started F Call d n c
+started_call F d n nx.assigning h = h
+started_call F d n nx.listing h = h
+started_call F d n nx.closing h = absurd h
+started_call F d n nx.going h = absurd h
+started_call F d n nx.repeating h = absurd h
+
+called : (P : ℕ → ℕ → Type 0) (st : Stack) (d n : ℕ) (c : Next) → Gives P st Other d n c → Gives P st Call d n c
+called P (in_start st) d n c h = started_call (Does P st) d n c h
+called P (in_parens l st) d n c h = h
+called P st d n c h = h
+
+-- ---- steps
+
+leads_if : (P : ℕ → ℕ → Type 0) (X : Type 0) (b : Bool) (x y : Option State) → (b ≡ true → Leads P X x) → (b ≡ false → Leads P X y) → Leads P X (cond b x y)
+leads_if P X true x y h j = h refl
+leads_if P X false x y h j = j refl
+
+leads_by : (P : ℕ → ℕ → Type 0) (X Y : Type 0) (r : Option State) → (X → Y) → Leads P X r → Leads P Y r
+leads_by P X Y None f h = tt
+leads_by P X Y (Some y) f h = λ c. f (h c)
+
+leads_named : (P : ℕ → ℕ → Type 0) (X : Type 0) (t : Kind) (l : ℕ) (x : List ℕ) (f : Mention → State) → ((y : Mention) → Completes P (f y) → X) → Leads P X (named t l x f)
+leads_named P X k.Name l x f h = h _
+leads_named P X _ l x f h = tt
+
+from_closing : {X : Type 0} → Any (AtClosing X) → X
+from_closing (nx.closing, h) = h
+from_closing (nx.assigning, h) = absurd h
+from_closing (nx.listing, h) = absurd h
+from_closing (nx.going, h) = absurd h
+from_closing (nx.repeating, h) = absurd h
+
+from_listing : {X : Type 0} → Any (AtListing X) → X
+from_listing (nx.listing, h) = h
+from_listing (nx.assigning, h) = absurd h
+from_listing (nx.closing, h) = absurd h
+from_listing (nx.going, h) = absurd h
+from_listing (nx.repeating, h) = absurd h
+
+again_leads : (P : ℕ → ℕ → Type 0) → Down P → (t : Kind) (st : Stack) (c : Action) → Leads P (Any (Does P st (depth_of_action c + 1) (nodes_of_action c + 1))) (again st c t)
+again_leads P w k.Repeat st c = λ h. h
+again_leads P w k.RepeatWhile st c = λ h. opened (Does P st) (does_falls P w st) (depth_of_action c + 1) (max (depth_of_action c) 1 + 1) (nodes_of_action c + 1) (nodes_of_action c + 1 + 1) (omega arith) (omega arith) h
+again_leads P w k.RepeatUntil st c = λ h. opened (Does P st) (does_falls P w st) (depth_of_action c + 1) (max (depth_of_action c) 1 + 1) (nodes_of_action c + 1) (nodes_of_action c + 1 + 1) (omega arith) (omega arith) h
+again_leads P w _ st c = tt
+
+-- ---- an operand is due
+
+valof_least : (P : ℕ → ℕ → Type 0) → Down P → (st : Stack) → Any (Answered (Gives P st) 1 1) → Any (Gives P st Label 1 1)
+valof_least P w st (nx.going, h) = least P w st Call 3 3 (omega arith) (omega arith) h.0 h.1
+valof_least P w st (nx.repeating, h) = absurd h
+valof_least P w st (nx.closing, h) = least P w st Callable 2 2 (omega arith) (omega arith) nx.closing h
+valof_least P w st (nx.assigning, h) = least P w st Callable 2 2 (omega arith) (omega arith) nx.assigning h
+valof_least P w st (nx.listing, h) = least P w st Callable 2 2 (omega arith) (omega arith) nx.listing h
+
+unlisted_least : (P : ℕ → ℕ → Type 0) → Down P → (st : Stack) (d n : ℕ) → 1 ≤ d → 1 ≤ n → Any (Unlisted (Gives P st Other d n)) → Any (Gives P st Label 1 1)
+unlisted_least P w st d n p q (nx.listing, h) = absurd h
+unlisted_least P w st d n p q (nx.closing, h) = least P w st Other d n p q nx.closing h
+unlisted_least P w st d n p q (nx.assigning, h) = least P w st Other d n p q nx.assigning h
+unlisted_least P w st d n p q (nx.going, h) = least P w st Other d n p q nx.going h
+unlisted_least P w st d n p q (nx.repeating, h) = least P w st Other d n p q nx.repeating h
+
+table_least : (P : ℕ → ℕ → Type 0) → Down P → (l : ℕ) (st : Stack) → Any (Gives P (in_table l none st) Label 1 1) → Any (Gives P st Label 1 1)
+table_least P w l st (nx.listing, h) = unlisted_least P w st (max 0 (max 1 1) + 1) (0 + 1 + 2) (omega arith) (omega arith) h
+table_least P w l st (nx.closing, h) = least P w st Other (max 0 1 + 1) (0 + 1 + 1) (omega arith) (omega arith) nx.closing h
+table_least P w l st (nx.assigning, h) = least P w st Other (max 0 1 + 1) (0 + 1 + 1) (omega arith) (omega arith) nx.assigning h
+table_least P w l st (nx.going, h) = least P w st Other (max 0 1 + 1) (0 + 1 + 1) (omega arith) (omega arith) nx.going h
+table_least P w l st (nx.repeating, h) = least P w st Other (max 0 1 + 1) (0 + 1 + 1) (omega arith) (omega arith) nx.repeating h
+
+no_args_leads : (P : ℕ → ℕ → Type 0) → Down P → (st : Stack) → Leads P (Wants P st) (no_args st)
+no_args_leads P w (in_args s x none st) = λ h. whole_falls (Gives P st) (gives_falls P w st) Call (depth x + 1) (max (depth x) 0 + 1) (nodes x + 1) (nodes x + 0 + 1) (omega arith) (omega arith) h
+no_args_leads P w (in_args s x (more y ys) st) = tt
+no_args_leads P w _ = tt
+
+prefixed_leads : (P : ℕ → ℕ → Type 0) → Down P → (z : Option Prefix) (st : Stack) (l : ℕ) → Leads P (Wants P st) (prefixed st l z)
+prefixed_leads P w None st l = tt
+prefixed_leads P w (Some p) st l = λ h. wants P w st (least P w st Other 2 2 (omega arith) (omega arith) h.0 h.1)
+
+leaf_leads : (P : ℕ → ℕ → Type 0) → Down P → (st : Stack) (f : Form) → Whole (Gives P st) f 1 1 → Wants P st
+leaf_leads P w st f h = wants P w st (least_whole P w st f 1 1 (omega arith) (omega arith) h)
+
+operand_leads : (P : ℕ → ℕ → Type 0) → Down P → (t : Kind) (st : Stack) (l : ℕ) (x : List ℕ) → Leads P (Wants P st) (take_operand st l x t)
+operand_leads P w k.Open st l x = λ h. wants P w st (least_whole P w st Callable 2 2 (omega arith) (omega arith) (from_closing h))
+operand_leads P w k.Close st l x = no_args_leads P w st
+operand_leads P w k.Valof st l x = λ h. wants P w st (valof_least P w st h)
+operand_leads P w k.Table st l x = leads_if P (Wants P st) (bars st) None (Some (want (in_table l none st))) (λ e. tt) (λ e h. wants P w st (table_least P w l st h))
+operand_leads P w k.Name st l x = λ h. leaf_leads P w st Label h
+operand_leads P w k.Number st l x = λ h. leaf_leads P w st Callable h
+operand_leads P w k.Text st l x = λ h. leaf_leads P w st Callable h
+operand_leads P w k.Character st l x = λ h. leaf_leads P w st Callable h
+operand_leads P w k.True st l x = λ h. leaf_leads P w st Callable h
+operand_leads P w k.False st l x = λ h. leaf_leads P w st Callable h
+operand_leads P w k.Query st l x = λ h. leaf_leads P w st Callable h
+operand_leads P w t st l x = prefixed_leads P w (prefix_of t) st l
+
+-- ---- a command is due
+
+started_any : (F : ℕ → ℕ → Next → Type 0) → Falls F → Any (Started F Label 1 1) → Any (F 1 1)
+started_any F f (nx.assigning, h) = opened F f 1 (max 1 1 + 1) 1 (1 + 2) (omega arith) (omega arith) h
+started_any F f (nx.listing, h) = opened F f 1 (max 1 1 + 1) 1 (1 + 4) (omega arith) (omega arith) h
+started_any F f (nx.closing, inl h) = opened F f 1 1 1 1 (omega arith) (omega arith) h
+started_any F f (nx.closing, inr h) = any_falls F f 1 2 1 2 (omega arith) (omega arith) h
+started_any F f (nx.going, h) = absurd h
+started_any F f (nx.repeating, h) = absurd h
+
+guarded_any : (gd : Guard) (F : ℕ → ℕ → Next → Type 0) → Falls F → Guarded gd F 1 1 → Any (F 1 1)
+guarded_any g.Case F f (inl h) = opened F f 1 2 1 2 (omega arith) (omega arith) h
+guarded_any g.Case F f (inr h) = any_falls F f 1 (max 1 1 + 1) 1 (1 + 2) (omega arith) (omega arith) h
+guarded_any _ F f h = any_falls F f 1 (max 1 1 + 1) 1 (1 + 2) (omega arith) (omega arith) h
+
+command_leads : (P : ℕ → ℕ → Type 0) → Down P → (t : Kind) (st : Stack) (l : ℕ) (x : List ℕ) → Leads P (Any (Does P st 1 1)) (take_command st l x t)
+command_leads P w k.Goto st l x = λ h. h
+command_leads P w k.Test st l x = λ h. any_falls (Does P st) (does_falls P w st) 1 (max 1 1 + 1) 1 (1 + 3) (omega arith) (omega arith) (from_closing h)
+command_leads P w k.For st l x = λ h. any_falls (Does P st) (does_falls P w st) 1 2 1 4 (omega arith) (omega arith) h
+command_leads P w k.ResultIs st l x = λ h. opened (Does P st) (does_falls P w st) 1 2 1 2 (omega arith) (omega arith) h
+command_leads P w k.Default st l x = λ h. elim h [
+  | inl a ↦ opened (Does P st) (does_falls P w st) 1 1 1 1 (omega arith) (omega arith) a
+  | inr b ↦ any_falls (Does P st) (does_falls P w st) 1 2 1 2 (omega arith) (omega arith) b
+]
+command_leads P w k.SectionOpen st l x = λ h. any_falls (Does P st) (does_falls P w st) 1 (max 0 (max 0 0) + 1) 1 (0 + (0 + 0) + 1) (omega arith) (omega arith) h
+command_leads P w k.Break st l x = λ h. h
+command_leads P w k.Loop st l x = λ h. h
+command_leads P w k.EndCase st l x = λ h. h
+command_leads P w k.Return st l x = λ h. h
+command_leads P w k.Finish st l x = λ h. h
+command_leads P w k.If st l x = λ h. guarded_any g.If (Does P st) (does_falls P w st) (from_closing h)
+command_leads P w k.Unless st l x = λ h. guarded_any g.Unless (Does P st) (does_falls P w st) (from_closing h)
+command_leads P w k.While st l x = λ h. guarded_any g.While (Does P st) (does_falls P w st) (from_closing h)
+command_leads P w k.Until st l x = λ h. guarded_any g.Until (Does P st) (does_falls P w st) (from_closing h)
+command_leads P w k.SwitchOn st l x = λ h. guarded_any g.SwitchOn (Does P st) (does_falls P w st) (from_closing h)
+command_leads P w k.Case st l x = λ h. guarded_any g.Case (Does P st) (does_falls P w st) (from_closing h)
+command_leads P w t st l x = leads_by P (Wants P (in_start st)) (Any (Does P st 1 1)) (take_operand (in_start st) l x t) (started_any (Does P st) (does_falls P w st)) (operand_leads P w t (in_start st) l x)
+
+-- ---- declarations
+
+sorted_leads : (P : ℕ → ℕ → Type 0) → Down P → (z : Option Sort) (st : Stack) (l : ℕ) (other : Option State) → Leads P (Declares P st 0 0) other → Leads P (Declares P st 0 0) (sorted st l z other)
+sorted_leads P w None st l other h = h
+sorted_leads P w (Some s) st l other h = λ j. declares_fall P w st 0 2 0 2 (omega arith) (omega arith) j
+
+declaration_leads : (P : ℕ → ℕ → Type 0) → Down P → (t : Kind) (st : Stack) (l : ℕ) (other : Option State) → Leads P (Declares P st 0 0) other → Leads P (Declares P st 0 0) (take_declaration st l t other)
+declaration_leads P w t st l other h =
+    leads_if P (Declares P st 0 0) (is_let t) (Some (due (in_let l no_definitions st))) (sorted st l (sort_of t) other)
+    (λ e j. declares_fall P w st 0 (max 0 2) 0 (0 + 2) (omega arith) (omega arith) j)
+    (λ e. sorted_leads P w (sort_of t) st l other h)
+
+section_leads : (P : ℕ → ℕ → Type 0) → Down P → (t : Kind) (ds : Declarations) (l : ℕ) → Leads P (Declares P (in_section ds) 0 0) (take_in_section ds l t)
+section_leads P w t ds l =
+    leads_if P (Declares P (in_section ds) 0 0) (is_semicolon t) (Some (due (in_section ds))) (take_declaration (in_section ds) l t None) (λ e h. h)
+    (λ e. declaration_leads P w t (in_section ds) l None tt)
+
+block_leads : (P : ℕ → ℕ → Type 0) → Down P → (t : Kind) (b : ℕ) (free : Bool) (ds : Declarations) (cs : Actions) (st : Stack) (l : ℕ) (x : List ℕ) → Leads P (Declares P (in_block b free ds cs st) 0 0) (take_in_block b free ds cs st l x t)
+block_leads P w t b free ds cs st l x =
+    let here : Stack = in_block b free ds cs st in
+    let X : Type 0 = Declares P here 0 0 in
+    let rest : Option State = cond free (take_command here l x t) None in
+    let command : Leads P X rest = leads_if P X free (take_command here l x t) None
+        (λ e. leads_by P (Any (Does P here 1 1)) X (take_command here l x t)
+            (λ h. any_falls (Does P st) (does_falls P w st) (max (depth_of_declarations ds) (max (depth_of_actions cs) 0) + 1) (max (depth_of_declarations ds) (max (depth_of_actions cs) 1) + 1) (nodes_of_declarations ds + (nodes_of_actions cs + 0) + 1) (nodes_of_declarations ds + (nodes_of_actions cs + 1) + 1) (omega arith) (omega arith) (from_closing h))
+            (command_leads P w t here l x))
+        (λ e. tt) in
+    leads_if P X (is_semicolon t) (Some (due (in_block b true ds cs st))) _ (λ e h. h)
+    (λ e. leads_if P X (closes t) (Some (did st (block b ds cs))) _
+        (λ c h. any_falls (Does P st) (does_falls P w st) (max (depth_of_declarations ds) (max (depth_of_actions cs) 0) + 1) (max (depth_of_declarations ds) (depth_of_actions cs) + 1) (nodes_of_declarations ds + (nodes_of_actions cs + 0) + 1) (nodes_of_declarations ds + nodes_of_actions cs + 1) (omega arith) (omega arith) h)
+        (λ c. leads_if P X (in_head cs) (take_declaration here l t rest) rest (λ d. declaration_leads P w t here l rest command) (λ d. command)))
+
+declared_by_leads : (P : ℕ → ℕ → Type 0) → Down P → (t : Kind) (st : Stack) (d : Declaration) (l : ℕ) (x : List ℕ) → Leads P (Declares P st (depth_of_declaration d) (nodes_of_declaration d)) (declared_by st d l x t)
+declared_by_leads P w t (in_section ds) d l x =
+    let es = declarations_then ds (declare d no_declarations) in
+    let a = declarations_depth ds d in
+    let b = declarations_nodes ds d in
+    leads_by P (Declares P (in_section es) 0 0) (Declares P (in_section ds) (depth_of_declaration d) (nodes_of_declaration d)) (take_in_section es l t)
+    (λ h. w (max (depth_of_declarations ds) (depth_of_declaration d)) (max (depth_of_declarations es) 0) (nodes_of_declarations ds + nodes_of_declaration d) (nodes_of_declarations es + 0) (omega (arith, a)) (omega (arith, b)) h)
+    (section_leads P w t es l)
+declared_by_leads P w t (in_block b free ds cs st) d l x =
+    let es = declarations_then ds (declare d no_declarations) in
+    let p = declarations_depth ds d in
+    let q = declarations_nodes ds d in
+    leads_by P (Declares P (in_block b false es cs st) 0 0) (Declares P (in_block b free ds cs st) (depth_of_declaration d) (nodes_of_declaration d)) (take_in_block b false es cs st l x t)
+    (λ h. any_falls (Does P st) (does_falls P w st) (max (depth_of_declarations ds) (max (depth_of_actions cs) (depth_of_declaration d)) + 1) (max (depth_of_declarations es) (max (depth_of_actions cs) 0) + 1) (nodes_of_declarations ds + (nodes_of_actions cs + nodes_of_declaration d) + 1) (nodes_of_declarations es + (nodes_of_actions cs + 0) + 1) (omega (arith, p)) (omega (arith, q)) h)
+    (block_leads P w t b false es cs st l x)
+declared_by_leads P w t _ d l x = tt
+
+declared_leads : (P : ℕ → ℕ → Type 0) → Down P → (st : Stack) (d : Declaration) → Leads P (Declares P st (depth_of_declaration d) (nodes_of_declaration d)) (declared st d)
+declared_leads P w (in_section ds) d =
+    let es = declarations_then ds (declare d no_declarations) in
+    let a = declarations_depth ds d in
+    let b = declarations_nodes ds d in
+    λ h. w (max (depth_of_declarations ds) (depth_of_declaration d)) (max (depth_of_declarations es) 0) (nodes_of_declarations ds + nodes_of_declaration d) (nodes_of_declarations es + 0) (omega (arith, a)) (omega (arith, b)) h
+declared_leads P w (in_block b free ds cs st) d =
+    let es = declarations_then ds (declare d no_declarations) in
+    let p = declarations_depth ds d in
+    let q = declarations_nodes ds d in
+    λ h. any_falls (Does P st) (does_falls P w st) (max (depth_of_declarations ds) (max (depth_of_actions cs) (depth_of_declaration d)) + 1) (max (depth_of_declarations es) (max (depth_of_actions cs) 0) + 1) (nodes_of_declarations ds + (nodes_of_actions cs + nodes_of_declaration d) + 1) (nodes_of_declarations es + (nodes_of_actions cs + 0) + 1) (omega (arith, p)) (omega (arith, q)) h
+declared_leads P w _ d = tt
+
+defined_leads : (P : ℕ → ℕ → Type 0) → Down P → (t : Kind) (st : Stack) (d : Definition) (l : ℕ) (x : List ℕ) → Leads P (Defines P st (depth_of_definition d) (nodes_of_definition d)) (defined_by st d l x t)
+defined_leads P w t (in_let m ds st) d l x =
+    let es = definitions_then ds (define d no_definitions) in
+    let a = definitions_depth ds d in
+    let b = definitions_nodes ds d in
+    let X : Type 0 = Declares P st (max (depth_of_definitions ds) (depth_of_definition d)) (nodes_of_definitions ds + nodes_of_definition d) in
+    leads_if P X (is_and t) (Some (due (in_let m es st))) (declared_by st (definitions m es) l x t)
+    (λ e h. declares_fall P w st (max (depth_of_definitions ds) (depth_of_definition d)) (max (depth_of_definitions es) 2) (nodes_of_definitions ds + nodes_of_definition d) (nodes_of_definitions es + 2) (omega (arith, a)) (omega (arith, b)) h)
+    (λ e. leads_by P (Declares P st (depth_of_definitions es) (nodes_of_definitions es)) X (declared_by st (definitions m es) l x t)
+        (λ h. declares_fall P w st (max (depth_of_definitions ds) (depth_of_definition d)) (depth_of_definitions es) (nodes_of_definitions ds + nodes_of_definition d) (nodes_of_definitions es) (omega (arith, a)) (omega (arith, b)) h)
+        (declared_by_leads P w t st (definitions m es) l x))
+defined_leads P w t _ d l x = tt
