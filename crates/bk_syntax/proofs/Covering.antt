@@ -1,4 +1,5 @@
 -- A step of the machine leads to nothing that could not be completed before it.
+use Rattle.std.proofs.lemmas.Bool.Decides.{nat_tests}
 use Rattle.std.proofs.Common.{◌≡◌, ◌≤◌, ℕ, ◌+◌, ◌-◌, max, Bool, true, false, cond, ◌==◌, length, Option, Some, None, refl, sym, ap, subst, ◌⊎◌, inl, inr, List, [], ◌∷◌, ◌++◌, length-append, Ok, ◌∙◌, arith}
 use Rattle.bk_lex.specs.Symbol.{Symbol}
 use Rattle.bk_lex.specs.declared.token.Kind.{Kind}
@@ -290,3 +291,252 @@ defined_leads P w t (in_let m ds st) d l x =
         (λ h. declares_fall P w st (max (depth_of_definitions ds) (depth_of_definition d)) (depth_of_definitions es) (nodes_of_definitions ds + nodes_of_definition d) (nodes_of_definitions es) (omega (arith, a)) (omega (arith, b)) h)
         (declared_by_leads P w t st (definitions m es) l x))
 defined_leads P w t _ d l x = tt
+
+-- ---- what is complete
+
+eq_is : (m n : ℕ) → (m == n) ≡ true → m ≡ n
+eq_is m n h = grind (arith, nat_tests, h)
+
+leads_none : (P : ℕ → ℕ → Type 0) (X : Type 0) (r : Option State) → r ≡ None → Leads P X r
+leads_none P X None h = tt
+leads_none P X (Some y) h = absurd cc
+
+counted_leads : (P : ℕ → ℕ → Type 0) (b : Bool) (F G : Next → Type 0) (c : Next) (r : Option State) (t : Kind) (y : State) → Leads P (F c) r → (is_comma t ≡ true → Leads P (G c) (Some y)) → Leads P (If b F G c) (counted b r t y)
+counted_leads P true F G c r t y h j = h
+counted_leads P false F G c r t y h j = leads_if P (G c) (is_comma t) (Some y) None j (λ e. tt)
+
+values_by : (P : ℕ → ℕ → Type 0) → Down P → (b : Bool) (xs ys : Expressions) (st : Stack) (d n : ℕ) → (b ≡ true → size xs ≡ size ys + 1)
+    → Any (If b (Closed (Does P st) (max (depth_of_each xs) (max (depth_of_each ys) d) + 1) (nodes_of_each xs + (nodes_of_each ys + n) + 1)) (AtListing (Any (Closed (Does P st) (max (depth_of_each xs) (max (depth_of_each ys) (max d 1)) + 1) (nodes_of_each xs + (nodes_of_each ys + n) + owed (size xs) (size ys) + 1)))))
+    → Any (Closed (Does P st) (max (depth_of_each xs) (max (depth_of_each ys) d) + 1) (nodes_of_each xs + (nodes_of_each ys + n) + owed (size xs) (size ys) + 1))
+values_by P w true xs ys st d n is h = let e = is refl in any_closed (Does P st) (does_falls P w st) (max (depth_of_each xs) (max (depth_of_each ys) d) + 1) (max (depth_of_each xs) (max (depth_of_each ys) d) + 1) (nodes_of_each xs + (nodes_of_each ys + n) + owed (size xs) (size ys) + 1) (nodes_of_each xs + (nodes_of_each ys + n) + 1) (omega arith) (omega (arith, e)) h
+values_by P w false xs ys st d n is h = any_closed (Does P st) (does_falls P w st) (max (depth_of_each xs) (max (depth_of_each ys) d) + 1) (max (depth_of_each xs) (max (depth_of_each ys) (max d 1)) + 1) (nodes_of_each xs + (nodes_of_each ys + n) + owed (size xs) (size ys) + 1) (nodes_of_each xs + (nodes_of_each ys + n) + owed (size xs) (size ys) + 1) (omega arith) (omega arith) (from_listing h)
+
+-- the values that are due, the first of them a name
+values_any : (P : ℕ → ℕ → Type 0) → Down P → (xs ys : Expressions) (st : Stack) → Any (Gives P (in_values xs ys st) Label 1 1) → Any (Closed (Does P st) (max (depth_of_each xs) (max (depth_of_each ys) 1) + 1) (nodes_of_each xs + (nodes_of_each ys + 1) + owed (size xs) (size ys) + 1))
+values_any P w xs ys st h = values_by P w (size xs == size ys + 1) xs ys st 1 1 (eq_is (size xs) (size ys + 1)) h
+
+dests_any : (P : ℕ → ℕ → Type 0) → Down P → (xs : Expressions) (st : Stack) → Any (Gives P (in_dests xs st) Label 1 1) → Any (Closed (Does P st) (max (depth_of_each xs) 1 + 1) (nodes_of_each xs + size xs + 3))
+dests_any P w xs st (nx.assigning, h) = any_closed (Does P st) (does_falls P w st) (max (depth_of_each xs) 1 + 1) (max (max (depth_of_each xs) 1) 1 + 1) (nodes_of_each xs + size xs + 3) (nodes_of_each xs + 1 + size xs + 2) (omega arith) (omega arith) h
+dests_any P w xs st (nx.listing, h) = any_closed (Does P st) (does_falls P w st) (max (depth_of_each xs) 1 + 1) (max (max (depth_of_each xs) 1) 1 + 1) (nodes_of_each xs + size xs + 3) (nodes_of_each xs + 1 + size xs + 4) (omega arith) (omega arith) h
+dests_any P w xs st (nx.closing, h) = absurd h
+dests_any P w xs st (nx.going, h) = absurd h
+dests_any P w xs st (nx.repeating, h) = absurd h
+
+-- a symbol that ends no definition and begins no declaration
+abbrev Plain : Kind → Type 0
+Plain t = (is_and t ≡ false) × (is_let t ≡ false) × (sort_of t ≡ None) × (is_semicolon t ≡ false) × (closes t ≡ false)
+
+nothing : (b : Bool) (x : Option State) → cond b x x ≡ x
+nothing true x = refl
+nothing false x = refl
+
+declared_none : (st : Stack) (d : Declaration) (l : ℕ) (x : List ℕ) (t : Kind) → Plain t → declared_by st d l x t ≡ None
+declared_none (in_section ds) d l x t h = let a = h.1 in let b = h.2 in let c = h.3 in rw c (rw a (rw b refl))
+declared_none (in_block b free ds cs st) d l x t h = let a = h.1 in let e = h.2 in let c = h.3 in let f = h.4 in rw c (rw f (rw a (rw e (nothing (in_head cs) None))))
+declared_none _ d l x t h = refl
+
+defined_none : (st : Stack) (d : Definition) (l : ℕ) (x : List ℕ) (t : Kind) → Plain t → defined_by st d l x t ≡ None
+defined_none (in_let m ds st) d l x t h = let a = h.0 in rw a (declared_none st (definitions m (definitions_then ds (define d no_definitions))) l x t h)
+defined_none _ d l x t h = refl
+
+
+assign_sign : (gd : Guard) → is_sign_of gd k.Assign ≡ false
+assign_sign g.SwitchOn = refl
+assign_sign g.Case = refl
+assign_sign _ = refl
+
+mutual
+  give_assign : (P : ℕ → ℕ → Type 0) → Down P → (st : Stack) (e : Expression) (l : ℕ) (x : List ℕ) → Leads P (Gives P st (form_of e) (depth e) (nodes e) nx.assigning) (give st e l x k.Assign)
+  give_assign P w (in_unary m p st) e l x = give_assign P w st (unary m p e) l x
+  give_assign P w (in_binary q s a st) e l x = give_assign P w st (binary (line_of a) q s a e) l x
+  give_assign P w (in_chain q s a b st) e l x = give_assign P w st (binary (line_of a) Both s a (binary (line_of b) q s b e)) l x
+  give_assign P w (in_else s y a st) e l x = give_assign P w st (choice (line_of y) s y a e) l x
+  give_assign P w (in_table m es st) e l x = leads_by P (Gives P st Other (depth_of_each (each_then es (more e none)) + 1) (nodes_of_each (each_then es (more e none)) + 1) nx.assigning) (Gives P st Other (max (depth_of_each es) (depth e) + 1) (nodes_of_each es + nodes e + 1) nx.assigning) (give st (table m (each_then es (more e none))) l x k.Assign)
+      (let a = each_depth es e in let b = each_nodes es e in gives_falls P w st Other (max (depth_of_each es) (depth e) + 1) (depth_of_each (each_then es (more e none)) + 1) (nodes_of_each es + nodes e + 1) (nodes_of_each (each_then es (more e none)) + 1) (omega (arith, a)) (omega (arith, b)) nx.assigning) (give_assign P w st (table m (each_then es (more e none))) l x)
+  give_assign P w (in_start st) e l x = λ h. any_closed (Does P st) (does_falls P w st) (max (depth e) 1 + 1) (max (max (depth e) 0) (max 0 1) + 1) (nodes e + 2) (nodes e + 0 + (0 + 1) + owed (0 + 1) 0 + 1) (omega arith) (omega arith) (values_any P w (more e none) none st h)
+  give_assign P w (in_dests xs st) e l x = let a = each_depth xs e in let b = each_nodes xs e in let z = size_then xs (more e none) in let zs : Expressions = each_then xs (more e none) in λ h. any_closed (Does P st) (does_falls P w st) (max (max (depth_of_each xs) 1) (depth e) + 1) (max (depth_of_each zs) (max 0 1) + 1) (nodes_of_each xs + nodes e + size xs + 2) (nodes_of_each zs + (0 + 1) + owed (size zs) 0 + 1) (omega (arith, a)) (omega (arith, b, z)) (values_any P w zs none st h)
+  give_assign P w (in_values xs ys st) e l x =
+      let zs : Expressions = each_then ys (more e none) in
+      let a = each_depth ys e in
+      let b = each_nodes ys e in
+      counted_leads P (size xs == size ys + 1) (Closed (Does P st) (max (depth_of_each xs) (max (depth_of_each ys) (depth e)) + 1) (nodes_of_each xs + (nodes_of_each ys + nodes e) + 1)) (AtListing (Any (Closed (Does P st) (max (depth_of_each xs) (max (depth_of_each ys) (max (depth e) 1)) + 1) (nodes_of_each xs + (nodes_of_each ys + nodes e) + owed (size xs) (size ys) + 1)))) nx.assigning
+      (finish st (assign (line_of_first xs) xs zs) l x k.Assign) k.Assign (want (in_values xs zs st))
+      (leads_by P (Does P st (max (depth_of_each xs) (depth_of_each (each_then ys (more e none))) + 1) (nodes_of_each xs + nodes_of_each (each_then ys (more e none)) + 1) nx.assigning) (Does P st (max (depth_of_each xs) (max (depth_of_each ys) (depth e)) + 1) (nodes_of_each xs + (nodes_of_each ys + nodes e) + 1) nx.assigning) (finish st (assign (line_of_first xs) xs zs) l x k.Assign) (does_falls P w st (max (depth_of_each xs) (max (depth_of_each ys) (depth e)) + 1) (max (depth_of_each xs) (depth_of_each (each_then ys (more e none))) + 1) (nodes_of_each xs + (nodes_of_each ys + nodes e) + 1) (nodes_of_each xs + nodes_of_each (each_then ys (more e none)) + 1) (omega (arith, a)) (omega (arith, b)) nx.assigning) (finish_assign P w st (assign (line_of_first xs) xs zs) l x))
+      (λ j. absurd cc)
+  give_assign P w (in_guard gd m st) e l x = leads_if P (AtClosing (Guarded gd (Does P st) (depth e) (nodes e)) nx.assigning) (is_sign_of gd k.Assign) (Some (behind_sign gd (in_guarded gd m e st))) None (λ j. absurd (let s = assign_sign gd in cc)) (λ j. tt)
+  give_assign P w (in_result m st) e l x = finish_assign P w st (result m e) l x
+  give_assign P w (in_while b a st) e l x = finish_assign P w st (repeat_while (line_of_action a) b a e) l x
+  give_assign P w (in_function y fs st) e l x = leads_none P (AtClosing (Defines P st (depth e + 1) (nodes e + 1)) nx.assigning) (defined_by st (function y.line y.letters fs e) l x k.Assign) (defined_none st (function y.line y.letters fs e) l x k.Assign (refl, refl, refl, refl, refl))
+  give_assign P w (in_value xs is st) e l x =
+      let js : Starts = starts_then is (value e no_starts) in
+      let whole_of : Definition = variables (line_of_names xs) xs js in
+      counted_leads P (length xs == start_count is + 1) (AtClosing (Defines P st (max (depth_of_starts is) (depth e) + 1) (nodes_of_starts is + nodes e + 1)))
+      (AtListing (Defines P st (max (depth_of_starts is) (max (depth e) 1) + 1) (nodes_of_starts is + nodes e + owed (length xs) (start_count is) + 1))) nx.assigning (defined_by st whole_of l x k.Assign) k.Assign (due (at_starts xs js st))
+      (leads_none P ⊥ (defined_by st whole_of l x k.Assign) (defined_none st whole_of l x k.Assign (refl, refl, refl, refl, refl)))
+      (λ j. absurd cc)
+  give_assign P w (in_vector m xs is st) e l x =
+      let js : Starts = starts_then is (vector m e no_starts) in
+      let whole_of : Definition = variables (line_of_names xs) xs js in
+      counted_leads P (length xs == start_count is + 1) (AtClosing (Defines P st (max (depth_of_starts is) (depth e) + 1) (nodes_of_starts is + nodes e + 1)))
+      (AtListing (Defines P st (max (depth_of_starts is) (max (depth e) 1) + 1) (nodes_of_starts is + nodes e + owed (length xs) (start_count is) + 1))) nx.assigning (defined_by st whole_of l x k.Assign) k.Assign (due (at_starts xs js st))
+      (leads_none P ⊥ (defined_by st whole_of l x k.Assign) (defined_none st whole_of l x k.Assign (refl, refl, refl, refl, refl)))
+      (λ j. absurd cc)
+  give_assign P w _ e l x = tt
+
+  finish_assign : (P : ℕ → ℕ → Type 0) → Down P → (st : Stack) (c : Action) (l : ℕ) (x : List ℕ) → Leads P (Does P st (depth_of_action c) (nodes_of_action c) nx.assigning) (finish st c l x k.Assign)
+  finish_assign P w (in_valof m st) c l x = give_assign P w st (valof m c) l x
+  finish_assign P w (in_label m y st) c l x = finish_assign P w st (label m y c) l x
+  finish_assign P w (in_guarded gd m e st) c l x =
+      let a = guarded_depth gd m e c in
+      let b = guarded_nodes gd m e c in
+      leads_by P (Does P st (depth_of_action (guarded gd m e c)) (nodes_of_action (guarded gd m e c)) nx.assigning) (Does P st (max (depth e) (depth_of_action c) + 1) (nodes e + nodes_of_action c + 1) nx.assigning) (finish st (guarded gd m e c) l x k.Assign)
+      (does_falls P w st (max (depth e) (depth_of_action c) + 1) (depth_of_action (guarded gd m e c)) (nodes e + nodes_of_action c + 1) (nodes_of_action (guarded gd m e c)) (omega (arith, a)) (omega (arith, b)) nx.assigning) (finish_assign P w st (guarded gd m e c) l x)
+  finish_assign P w (in_default m st) c l x = finish_assign P w st (default m c) l x
+  finish_assign P w (in_or m e a st) c l x = finish_assign P w st (test m e a c) l x
+  finish_assign P w (in_for m y a b z st) c l x = finish_assign P w st (for_loop m y a b z c) l x
+  finish_assign P w (in_routine y fs st) c l x = leads_none P ⊥ (defined_by st (routine y.line y.letters fs c) l x k.Assign) (defined_none st (routine y.line y.letters fs c) l x k.Assign (refl, refl, refl, refl, refl))
+  finish_assign P w _ c l x = tt
+
+repeat_sign : (gd : Guard) → is_sign_of gd k.Repeat ≡ false
+repeat_sign g.SwitchOn = refl
+repeat_sign g.Case = refl
+repeat_sign _ = refl
+
+
+finish_repeat : (P : ℕ → ℕ → Type 0) → Down P → (st : Stack) (c : Action) (l : ℕ) (x : List ℕ) → Leads P (Any (Does P st (depth_of_action c + 1) (nodes_of_action c + 1))) (finish st c l x k.Repeat)
+finish_repeat P w st c l x = let Q : Option State → Type 0 = λ z. Leads P (Any (Does P st (depth_of_action c + 1) (nodes_of_action c + 1))) z in subst Q (sym (repeated st c l x k.Repeat refl)) (again_leads P w k.Repeat st c)
+
+
+give_repeat : (P : ℕ → ℕ → Type 0) → Down P → (st : Stack) (e : Expression) (l : ℕ) (x : List ℕ) → Leads P (Gives P st (form_of e) (depth e) (nodes e) nx.repeating) (give st e l x k.Repeat)
+give_repeat P w (in_unary m p st) e l x = give_repeat P w st (unary m p e) l x
+give_repeat P w (in_binary q s a st) e l x = give_repeat P w st (binary (line_of a) q s a e) l x
+give_repeat P w (in_chain q s a b st) e l x = give_repeat P w st (binary (line_of a) Both s a (binary (line_of b) q s b e)) l x
+give_repeat P w (in_else s y a st) e l x = give_repeat P w st (choice (line_of y) s y a e) l x
+give_repeat P w (in_table m es st) e l x = leads_by P (Gives P st Other (depth_of_each (each_then es (more e none)) + 1) (nodes_of_each (each_then es (more e none)) + 1) nx.repeating) (Gives P st Other (max (depth_of_each es) (depth e) + 1) (nodes_of_each es + nodes e + 1) nx.repeating) (give st (table m (each_then es (more e none))) l x k.Repeat)
+      (let a = each_depth es e in let b = each_nodes es e in gives_falls P w st Other (max (depth_of_each es) (depth e) + 1) (depth_of_each (each_then es (more e none)) + 1) (nodes_of_each es + nodes e + 1) (nodes_of_each (each_then es (more e none)) + 1) (omega (arith, a)) (omega (arith, b)) nx.repeating) (give_repeat P w st (table m (each_then es (more e none))) l x)
+give_repeat P w (in_start st) (apply m s y es) l x = finish_repeat P w st (call m y es) l x
+give_repeat P w (in_start st) e l x = tt
+give_repeat P w (in_dests xs st) e l x = tt
+give_repeat P w (in_values xs ys st) e l x =
+      let zs : Expressions = each_then ys (more e none) in
+      let a = each_depth ys e in
+      let b = each_nodes ys e in
+      counted_leads P (size xs == size ys + 1) (Closed (Does P st) (max (depth_of_each xs) (max (depth_of_each ys) (depth e)) + 1) (nodes_of_each xs + (nodes_of_each ys + nodes e) + 1)) (AtListing (Any (Closed (Does P st) (max (depth_of_each xs) (max (depth_of_each ys) (max (depth e) 1)) + 1) (nodes_of_each xs + (nodes_of_each ys + nodes e) + owed (size xs) (size ys) + 1)))) nx.repeating
+      (finish st (assign (line_of_first xs) xs zs) l x k.Repeat) k.Repeat (want (in_values xs zs st))
+      (leads_by P (Any (Does P st (max (depth_of_each xs) (depth_of_each (each_then ys (more e none))) + 1 + 1) (nodes_of_each xs + nodes_of_each (each_then ys (more e none)) + 1 + 1))) (Any (Does P st (max (depth_of_each xs) (max (depth_of_each ys) (depth e)) + 1 + 1) (nodes_of_each xs + (nodes_of_each ys + nodes e) + 1 + 1))) (finish st (assign (line_of_first xs) xs zs) l x k.Repeat) (any_falls (Does P st) (does_falls P w st) (max (depth_of_each xs) (max (depth_of_each ys) (depth e)) + 1 + 1) (max (depth_of_each xs) (depth_of_each (each_then ys (more e none))) + 1 + 1) (nodes_of_each xs + (nodes_of_each ys + nodes e) + 1 + 1) (nodes_of_each xs + nodes_of_each (each_then ys (more e none)) + 1 + 1) (omega (arith, a)) (omega (arith, b))) (finish_repeat P w st (assign (line_of_first xs) xs zs) l x))
+      (λ j. absurd cc)
+give_repeat P w (in_guard gd m st) e l x = leads_if P (AtClosing (Guarded gd (Does P st) (depth e) (nodes e)) nx.repeating) (is_sign_of gd k.Repeat) (Some (behind_sign gd (in_guarded gd m e st))) None (λ j. absurd (let s = repeat_sign gd in cc)) (λ j. tt)
+give_repeat P w (in_result m st) e l x = finish_repeat P w st (result m e) l x
+give_repeat P w (in_while b a st) e l x = finish_repeat P w st (repeat_while (line_of_action a) b a e) l x
+give_repeat P w (in_function y fs st) e l x = leads_none P (AtClosing (Defines P st (depth e + 1) (nodes e + 1)) nx.repeating) (defined_by st (function y.line y.letters fs e) l x k.Repeat) (defined_none st (function y.line y.letters fs e) l x k.Repeat (refl, refl, refl, refl, refl))
+give_repeat P w (in_value xs is st) e l x =
+      let js : Starts = starts_then is (value e no_starts) in
+      let whole_of : Definition = variables (line_of_names xs) xs js in
+      counted_leads P (length xs == start_count is + 1) (AtClosing (Defines P st (max (depth_of_starts is) (depth e) + 1) (nodes_of_starts is + nodes e + 1)))
+      (AtListing (Defines P st (max (depth_of_starts is) (max (depth e) 1) + 1) (nodes_of_starts is + nodes e + owed (length xs) (start_count is) + 1))) nx.repeating (defined_by st whole_of l x k.Repeat) k.Repeat (due (at_starts xs js st))
+      (leads_none P ⊥ (defined_by st whole_of l x k.Repeat) (defined_none st whole_of l x k.Repeat (refl, refl, refl, refl, refl)))
+      (λ j. absurd cc)
+give_repeat P w (in_vector m xs is st) e l x =
+      let js : Starts = starts_then is (vector m e no_starts) in
+      let whole_of : Definition = variables (line_of_names xs) xs js in
+      counted_leads P (length xs == start_count is + 1) (AtClosing (Defines P st (max (depth_of_starts is) (depth e) + 1) (nodes_of_starts is + nodes e + 1)))
+      (AtListing (Defines P st (max (depth_of_starts is) (max (depth e) 1) + 1) (nodes_of_starts is + nodes e + owed (length xs) (start_count is) + 1))) nx.repeating (defined_by st whole_of l x k.Repeat) k.Repeat (due (at_starts xs js st))
+      (leads_none P ⊥ (defined_by st whole_of l x k.Repeat) (defined_none st whole_of l x k.Repeat (refl, refl, refl, refl, refl)))
+      (λ j. absurd cc)
+give_repeat P w _ e l x = tt
+
+repeat_while_sign : (gd : Guard) → is_sign_of gd k.RepeatWhile ≡ false
+repeat_while_sign g.SwitchOn = refl
+repeat_while_sign g.Case = refl
+repeat_while_sign _ = refl
+
+
+finish_repeat_while : (P : ℕ → ℕ → Type 0) → Down P → (st : Stack) (c : Action) (l : ℕ) (x : List ℕ) → Leads P (Any (Does P st (depth_of_action c + 1) (nodes_of_action c + 1))) (finish st c l x k.RepeatWhile)
+finish_repeat_while P w st c l x = let Q : Option State → Type 0 = λ z. Leads P (Any (Does P st (depth_of_action c + 1) (nodes_of_action c + 1))) z in subst Q (sym (repeated st c l x k.RepeatWhile refl)) (again_leads P w k.RepeatWhile st c)
+
+
+give_repeat_while : (P : ℕ → ℕ → Type 0) → Down P → (st : Stack) (e : Expression) (l : ℕ) (x : List ℕ) → Leads P (Gives P st (form_of e) (depth e) (nodes e) nx.repeating) (give st e l x k.RepeatWhile)
+give_repeat_while P w (in_unary m p st) e l x = give_repeat_while P w st (unary m p e) l x
+give_repeat_while P w (in_binary q s a st) e l x = give_repeat_while P w st (binary (line_of a) q s a e) l x
+give_repeat_while P w (in_chain q s a b st) e l x = give_repeat_while P w st (binary (line_of a) Both s a (binary (line_of b) q s b e)) l x
+give_repeat_while P w (in_else s y a st) e l x = give_repeat_while P w st (choice (line_of y) s y a e) l x
+give_repeat_while P w (in_table m es st) e l x = leads_by P (Gives P st Other (depth_of_each (each_then es (more e none)) + 1) (nodes_of_each (each_then es (more e none)) + 1) nx.repeating) (Gives P st Other (max (depth_of_each es) (depth e) + 1) (nodes_of_each es + nodes e + 1) nx.repeating) (give st (table m (each_then es (more e none))) l x k.RepeatWhile)
+      (let a = each_depth es e in let b = each_nodes es e in gives_falls P w st Other (max (depth_of_each es) (depth e) + 1) (depth_of_each (each_then es (more e none)) + 1) (nodes_of_each es + nodes e + 1) (nodes_of_each (each_then es (more e none)) + 1) (omega (arith, a)) (omega (arith, b)) nx.repeating) (give_repeat_while P w st (table m (each_then es (more e none))) l x)
+give_repeat_while P w (in_start st) (apply m s y es) l x = finish_repeat_while P w st (call m y es) l x
+give_repeat_while P w (in_start st) e l x = tt
+give_repeat_while P w (in_dests xs st) e l x = tt
+give_repeat_while P w (in_values xs ys st) e l x =
+      let zs : Expressions = each_then ys (more e none) in
+      let a = each_depth ys e in
+      let b = each_nodes ys e in
+      counted_leads P (size xs == size ys + 1) (Closed (Does P st) (max (depth_of_each xs) (max (depth_of_each ys) (depth e)) + 1) (nodes_of_each xs + (nodes_of_each ys + nodes e) + 1)) (AtListing (Any (Closed (Does P st) (max (depth_of_each xs) (max (depth_of_each ys) (max (depth e) 1)) + 1) (nodes_of_each xs + (nodes_of_each ys + nodes e) + owed (size xs) (size ys) + 1)))) nx.repeating
+      (finish st (assign (line_of_first xs) xs zs) l x k.RepeatWhile) k.RepeatWhile (want (in_values xs zs st))
+      (leads_by P (Any (Does P st (max (depth_of_each xs) (depth_of_each (each_then ys (more e none))) + 1 + 1) (nodes_of_each xs + nodes_of_each (each_then ys (more e none)) + 1 + 1))) (Any (Does P st (max (depth_of_each xs) (max (depth_of_each ys) (depth e)) + 1 + 1) (nodes_of_each xs + (nodes_of_each ys + nodes e) + 1 + 1))) (finish st (assign (line_of_first xs) xs zs) l x k.RepeatWhile) (any_falls (Does P st) (does_falls P w st) (max (depth_of_each xs) (max (depth_of_each ys) (depth e)) + 1 + 1) (max (depth_of_each xs) (depth_of_each (each_then ys (more e none))) + 1 + 1) (nodes_of_each xs + (nodes_of_each ys + nodes e) + 1 + 1) (nodes_of_each xs + nodes_of_each (each_then ys (more e none)) + 1 + 1) (omega (arith, a)) (omega (arith, b))) (finish_repeat_while P w st (assign (line_of_first xs) xs zs) l x))
+      (λ j. absurd cc)
+give_repeat_while P w (in_guard gd m st) e l x = leads_if P (AtClosing (Guarded gd (Does P st) (depth e) (nodes e)) nx.repeating) (is_sign_of gd k.RepeatWhile) (Some (behind_sign gd (in_guarded gd m e st))) None (λ j. absurd (let s = repeat_while_sign gd in cc)) (λ j. tt)
+give_repeat_while P w (in_result m st) e l x = finish_repeat_while P w st (result m e) l x
+give_repeat_while P w (in_while b a st) e l x = finish_repeat_while P w st (repeat_while (line_of_action a) b a e) l x
+give_repeat_while P w (in_function y fs st) e l x = leads_none P (AtClosing (Defines P st (depth e + 1) (nodes e + 1)) nx.repeating) (defined_by st (function y.line y.letters fs e) l x k.RepeatWhile) (defined_none st (function y.line y.letters fs e) l x k.RepeatWhile (refl, refl, refl, refl, refl))
+give_repeat_while P w (in_value xs is st) e l x =
+      let js : Starts = starts_then is (value e no_starts) in
+      let whole_of : Definition = variables (line_of_names xs) xs js in
+      counted_leads P (length xs == start_count is + 1) (AtClosing (Defines P st (max (depth_of_starts is) (depth e) + 1) (nodes_of_starts is + nodes e + 1)))
+      (AtListing (Defines P st (max (depth_of_starts is) (max (depth e) 1) + 1) (nodes_of_starts is + nodes e + owed (length xs) (start_count is) + 1))) nx.repeating (defined_by st whole_of l x k.RepeatWhile) k.RepeatWhile (due (at_starts xs js st))
+      (leads_none P ⊥ (defined_by st whole_of l x k.RepeatWhile) (defined_none st whole_of l x k.RepeatWhile (refl, refl, refl, refl, refl)))
+      (λ j. absurd cc)
+give_repeat_while P w (in_vector m xs is st) e l x =
+      let js : Starts = starts_then is (vector m e no_starts) in
+      let whole_of : Definition = variables (line_of_names xs) xs js in
+      counted_leads P (length xs == start_count is + 1) (AtClosing (Defines P st (max (depth_of_starts is) (depth e) + 1) (nodes_of_starts is + nodes e + 1)))
+      (AtListing (Defines P st (max (depth_of_starts is) (max (depth e) 1) + 1) (nodes_of_starts is + nodes e + owed (length xs) (start_count is) + 1))) nx.repeating (defined_by st whole_of l x k.RepeatWhile) k.RepeatWhile (due (at_starts xs js st))
+      (leads_none P ⊥ (defined_by st whole_of l x k.RepeatWhile) (defined_none st whole_of l x k.RepeatWhile (refl, refl, refl, refl, refl)))
+      (λ j. absurd cc)
+give_repeat_while P w _ e l x = tt
+
+repeat_until_sign : (gd : Guard) → is_sign_of gd k.RepeatUntil ≡ false
+repeat_until_sign g.SwitchOn = refl
+repeat_until_sign g.Case = refl
+repeat_until_sign _ = refl
+
+
+finish_repeat_until : (P : ℕ → ℕ → Type 0) → Down P → (st : Stack) (c : Action) (l : ℕ) (x : List ℕ) → Leads P (Any (Does P st (depth_of_action c + 1) (nodes_of_action c + 1))) (finish st c l x k.RepeatUntil)
+finish_repeat_until P w st c l x = let Q : Option State → Type 0 = λ z. Leads P (Any (Does P st (depth_of_action c + 1) (nodes_of_action c + 1))) z in subst Q (sym (repeated st c l x k.RepeatUntil refl)) (again_leads P w k.RepeatUntil st c)
+
+
+give_repeat_until : (P : ℕ → ℕ → Type 0) → Down P → (st : Stack) (e : Expression) (l : ℕ) (x : List ℕ) → Leads P (Gives P st (form_of e) (depth e) (nodes e) nx.repeating) (give st e l x k.RepeatUntil)
+give_repeat_until P w (in_unary m p st) e l x = give_repeat_until P w st (unary m p e) l x
+give_repeat_until P w (in_binary q s a st) e l x = give_repeat_until P w st (binary (line_of a) q s a e) l x
+give_repeat_until P w (in_chain q s a b st) e l x = give_repeat_until P w st (binary (line_of a) Both s a (binary (line_of b) q s b e)) l x
+give_repeat_until P w (in_else s y a st) e l x = give_repeat_until P w st (choice (line_of y) s y a e) l x
+give_repeat_until P w (in_table m es st) e l x = leads_by P (Gives P st Other (depth_of_each (each_then es (more e none)) + 1) (nodes_of_each (each_then es (more e none)) + 1) nx.repeating) (Gives P st Other (max (depth_of_each es) (depth e) + 1) (nodes_of_each es + nodes e + 1) nx.repeating) (give st (table m (each_then es (more e none))) l x k.RepeatUntil)
+      (let a = each_depth es e in let b = each_nodes es e in gives_falls P w st Other (max (depth_of_each es) (depth e) + 1) (depth_of_each (each_then es (more e none)) + 1) (nodes_of_each es + nodes e + 1) (nodes_of_each (each_then es (more e none)) + 1) (omega (arith, a)) (omega (arith, b)) nx.repeating) (give_repeat_until P w st (table m (each_then es (more e none))) l x)
+give_repeat_until P w (in_start st) (apply m s y es) l x = finish_repeat_until P w st (call m y es) l x
+give_repeat_until P w (in_start st) e l x = tt
+give_repeat_until P w (in_dests xs st) e l x = tt
+give_repeat_until P w (in_values xs ys st) e l x =
+      let zs : Expressions = each_then ys (more e none) in
+      let a = each_depth ys e in
+      let b = each_nodes ys e in
+      counted_leads P (size xs == size ys + 1) (Closed (Does P st) (max (depth_of_each xs) (max (depth_of_each ys) (depth e)) + 1) (nodes_of_each xs + (nodes_of_each ys + nodes e) + 1)) (AtListing (Any (Closed (Does P st) (max (depth_of_each xs) (max (depth_of_each ys) (max (depth e) 1)) + 1) (nodes_of_each xs + (nodes_of_each ys + nodes e) + owed (size xs) (size ys) + 1)))) nx.repeating
+      (finish st (assign (line_of_first xs) xs zs) l x k.RepeatUntil) k.RepeatUntil (want (in_values xs zs st))
+      (leads_by P (Any (Does P st (max (depth_of_each xs) (depth_of_each (each_then ys (more e none))) + 1 + 1) (nodes_of_each xs + nodes_of_each (each_then ys (more e none)) + 1 + 1))) (Any (Does P st (max (depth_of_each xs) (max (depth_of_each ys) (depth e)) + 1 + 1) (nodes_of_each xs + (nodes_of_each ys + nodes e) + 1 + 1))) (finish st (assign (line_of_first xs) xs zs) l x k.RepeatUntil) (any_falls (Does P st) (does_falls P w st) (max (depth_of_each xs) (max (depth_of_each ys) (depth e)) + 1 + 1) (max (depth_of_each xs) (depth_of_each (each_then ys (more e none))) + 1 + 1) (nodes_of_each xs + (nodes_of_each ys + nodes e) + 1 + 1) (nodes_of_each xs + nodes_of_each (each_then ys (more e none)) + 1 + 1) (omega (arith, a)) (omega (arith, b))) (finish_repeat_until P w st (assign (line_of_first xs) xs zs) l x))
+      (λ j. absurd cc)
+give_repeat_until P w (in_guard gd m st) e l x = leads_if P (AtClosing (Guarded gd (Does P st) (depth e) (nodes e)) nx.repeating) (is_sign_of gd k.RepeatUntil) (Some (behind_sign gd (in_guarded gd m e st))) None (λ j. absurd (let s = repeat_until_sign gd in cc)) (λ j. tt)
+give_repeat_until P w (in_result m st) e l x = finish_repeat_until P w st (result m e) l x
+give_repeat_until P w (in_while b a st) e l x = finish_repeat_until P w st (repeat_while (line_of_action a) b a e) l x
+give_repeat_until P w (in_function y fs st) e l x = leads_none P (AtClosing (Defines P st (depth e + 1) (nodes e + 1)) nx.repeating) (defined_by st (function y.line y.letters fs e) l x k.RepeatUntil) (defined_none st (function y.line y.letters fs e) l x k.RepeatUntil (refl, refl, refl, refl, refl))
+give_repeat_until P w (in_value xs is st) e l x =
+      let js : Starts = starts_then is (value e no_starts) in
+      let whole_of : Definition = variables (line_of_names xs) xs js in
+      counted_leads P (length xs == start_count is + 1) (AtClosing (Defines P st (max (depth_of_starts is) (depth e) + 1) (nodes_of_starts is + nodes e + 1)))
+      (AtListing (Defines P st (max (depth_of_starts is) (max (depth e) 1) + 1) (nodes_of_starts is + nodes e + owed (length xs) (start_count is) + 1))) nx.repeating (defined_by st whole_of l x k.RepeatUntil) k.RepeatUntil (due (at_starts xs js st))
+      (leads_none P ⊥ (defined_by st whole_of l x k.RepeatUntil) (defined_none st whole_of l x k.RepeatUntil (refl, refl, refl, refl, refl)))
+      (λ j. absurd cc)
+give_repeat_until P w (in_vector m xs is st) e l x =
+      let js : Starts = starts_then is (vector m e no_starts) in
+      let whole_of : Definition = variables (line_of_names xs) xs js in
+      counted_leads P (length xs == start_count is + 1) (AtClosing (Defines P st (max (depth_of_starts is) (depth e) + 1) (nodes_of_starts is + nodes e + 1)))
+      (AtListing (Defines P st (max (depth_of_starts is) (max (depth e) 1) + 1) (nodes_of_starts is + nodes e + owed (length xs) (start_count is) + 1))) nx.repeating (defined_by st whole_of l x k.RepeatUntil) k.RepeatUntil (due (at_starts xs js st))
+      (leads_none P ⊥ (defined_by st whole_of l x k.RepeatUntil) (defined_none st whole_of l x k.RepeatUntil (refl, refl, refl, refl, refl)))
+      (λ j. absurd cc)
+give_repeat_until P w _ e l x = tt
