@@ -19,12 +19,12 @@ use Rattle.bk_syntax.specs.Grammar.{line_of, line_of_first, line_of_names, line_
 use Rattle.bk_syntax.specs.Machine.{each_then, actions_then, declarations_then, items_then, definitions_then, starts_then, Stack, in_section, in_block, in_let, at_name, at_formals, at_formal, at_formal_end, at_head, at_variable, at_variable_end, at_starts, at_opening, at_items, at_sign, at_goto, at_for, at_forward, at_default, in_parens, in_unary, in_binary, in_chain, in_then, in_else, in_args, in_table, in_start, in_dests, in_values, in_guard, in_test, in_result, in_while, in_from, in_to, in_by, in_item, in_function, in_value, in_vector, in_valof, in_label, in_guarded, in_default, in_do, in_or, in_for, in_routine, State, want, have, begin, maybe, did, due, linked, infixed, push, is_close, is_colon, is_do, is_or, is_to, is_equal, is_semicolon, opens, closes, is_vec, is_let, is_open, is_sign_of, if_is, named, guarded, behind_sign, no_args, bars, take_operand, take_command, sorted, take_declaration, take_in_section, in_head, take_in_block, declared, declared_by, defined_by, again, dests, labelled, is_call, call_of, in_constants, to_or_do, give, finish, without, inside, in_names, in_formals, headed, take_item, take_due, step, prefixed, counted, whole, run, stepped_by, going}
 use Rattle.bk_syntax.specs.Sizes.{form_of, owed}
 use Rattle.bk_syntax.specs.Completions as nx
-use Rattle.bk_syntax.specs.Completions.{Next, Any, AtClosing, AtListing, AtArgument, AtAssignment, Unlisted, AtPart, If, Closed, Started, Answered, Whole, Guarded, Gives, Does, Defines, Declares, Wants, Misses, Lists, Due, Completes}
+use Rattle.bk_syntax.specs.Completions.{Next, Any, AtClosing, AtListing, AtArgument, AtAssignment, Unlisted, AtPart, If, Closed, Missing, Started, Answered, Whole, Guarded, Gives, Does, Defines, Declares, Wants, Misses, Lists, Due, Completes}
 use Rattle.bk_syntax.proofs.Before.{falls, behind_ok, inner_ok}
 use Rattle.bk_syntax.proofs.Steps.{repeated, size_then, count_then}
 use Rattle.bk_syntax.proofs.Trees.{each_depth, each_nodes, actions_depth, actions_nodes, declarations_depth, declarations_nodes, definitions_depth, definitions_nodes, items_depth, items_nodes, starts_depth, starts_nodes}
 use Rattle.bk_syntax.proofs.Turns.{guarded_depth, guarded_nodes}
-use Rattle.bk_syntax.proofs.Lowering.{Down, Falls, any, closed_falls, any_falls, any_closed, whole_falls, gives_falls, does_falls, defines_fall, declares_fall}
+use Rattle.bk_syntax.proofs.Lowering.{Down, Falls, any, closed_falls, any_falls, any_closed, any_missing, whole_falls, gives_falls, does_falls, defines_fall, declares_fall}
 
 -- where what comes can be completed, so can what was before it
 abbrev pub Leads : (ℕ → ℕ → Type 0) → Type 0 → Option State → Type 0
@@ -38,11 +38,23 @@ unclosed F f d n nx.closing h = (nx.closing, h)
 unclosed F f d n nx.assigning h = (nx.assigning, h)
 unclosed F f d n nx.listing h = (nx.listing, h)
 unclosed F f d n nx.going h = absurd h
+unclosed F f d n nx.operating h = absurd h
 unclosed F f d n nx.repeating h = any_falls F f d (d + 1) n (n + 1) (omega arith) (omega arith) h
 
 -- a command that an expression ends, as one
 opened : (F : ℕ → ℕ → Next → Type 0) → Falls F → (d e n m : ℕ) → d ≤ e → n ≤ m → Any (Closed F e m) → Any (F d n)
 opened F f d e n m p q h = any_falls F f d e n m p q (unclosed F f e m h.0 h.1)
+
+unmissing : (F : ℕ → ℕ → Next → Type 0) → Falls F → (d n : ℕ) → (c : Next) → Missing F d n c → Any (F d n)
+unmissing F f d n nx.closing h = (nx.closing, h)
+unmissing F f d n nx.assigning h = (nx.assigning, h)
+unmissing F f d n nx.listing h = (nx.listing, h)
+unmissing F f d n nx.going h = absurd h
+unmissing F f d n nx.operating h = (nx.operating, h)
+unmissing F f d n nx.repeating h = any_falls F f d (d + 1) n (n + 1) (omega arith) (omega arith) h
+
+missed : (F : ℕ → ℕ → Next → Type 0) → Falls F → (d e n m : ℕ) → d ≤ e → n ≤ m → Any (Missing F e m) → Any (F d n)
+missed F f d e n m p q h = any_falls F f d e n m p q (unmissing F f e m h.0 h.1)
 
 started_label : (F : ℕ → ℕ → Next → Type 0) → Falls F → (f : Form) (d n : ℕ) → 1 ≤ d → 1 ≤ n → (c : Next) → Started F f d n c → Any (Started F Label 1 1)
 started_label F k f d n p q nx.assigning h = (nx.assigning, any_closed F k (max 1 1 + 1) (max d 1 + 1) (1 + 2) (n + 2) (omega arith) (omega (arith, q)) h)
@@ -51,16 +63,21 @@ started_label F k Label d n p q nx.closing h = (nx.closing, h)
 started_label F k Call d n p q nx.closing h = (nx.closing, inl (nx.closing, k 1 d 1 n p q nx.closing h))
 started_label F k Call d n p q nx.repeating h = (nx.closing, inl (nx.repeating, any_falls F k (1 + 1) (d + 1) (1 + 1) (n + 1) (omega (arith, p)) (omega (arith, q)) h))
 started_label F k Label d n p q nx.going h = absurd h
+started_label F k Label d n p q nx.operating h = absurd h
 started_label F k Label d n p q nx.repeating h = absurd h
 started_label F k Call d n p q nx.going h = absurd h
+started_label F k Call d n p q nx.operating h = absurd h
 started_label F k Callable d n p q nx.closing h = absurd h
 started_label F k Callable d n p q nx.going h = absurd h
+started_label F k Callable d n p q nx.operating h = absurd h
 started_label F k Callable d n p q nx.repeating h = absurd h
 started_label F k Tabled d n p q nx.closing h = absurd h
 started_label F k Tabled d n p q nx.going h = absurd h
+started_label F k Tabled d n p q nx.operating h = absurd h
 started_label F k Tabled d n p q nx.repeating h = absurd h
 started_label F k Other d n p q nx.closing h = absurd h
 started_label F k Other d n p q nx.going h = absurd h
+started_label F k Other d n p q nx.operating h = absurd h
 started_label F k Other d n p q nx.repeating h = absurd h
 
 -- a name is the least operand
@@ -79,6 +96,7 @@ wants P w (in_args s x none st) (nx.closing, h) = whole_falls (Gives P st) (give
 wants P w (in_args s x none st) (nx.listing, h) = whole_falls (Gives P st) (gives_falls P w st) Call (depth x + 1) (max (depth x) (max 0 (max 1 1)) + 1) (nodes x + 1) (nodes x + (0 + 1) + 2) (omega arith) (omega arith) h
 wants P w (in_args s x none st) (nx.assigning, h) = absurd h
 wants P w (in_args s x none st) (nx.going, h) = absurd h
+wants P w (in_args s x none st) (nx.operating, h) = absurd h
 wants P w (in_args s x none st) (nx.repeating, h) = absurd h
 wants P w (in_args s x (more y ys) st) h = h
 wants P w st h = h
@@ -89,6 +107,7 @@ started_call F d n nx.assigning h = h
 started_call F d n nx.listing h = h
 started_call F d n nx.closing h = absurd h
 started_call F d n nx.going h = absurd h
+started_call F d n nx.operating h = absurd h
 started_call F d n nx.repeating h = absurd h
 
 called : (P : ℕ → ℕ → Type 0) (st : Stack) (d n : ℕ) (c : Next) → Gives P st Other d n c → Gives P st Call d n c
@@ -115,6 +134,7 @@ from_closing (nx.closing, h) = h
 from_closing (nx.assigning, h) = absurd h
 from_closing (nx.listing, h) = absurd h
 from_closing (nx.going, h) = absurd h
+from_closing (nx.operating, h) = absurd h
 from_closing (nx.repeating, h) = absurd h
 
 from_listing : {X : Type 0} → Any (AtListing X) → X
@@ -122,6 +142,7 @@ from_listing (nx.listing, h) = h
 from_listing (nx.assigning, h) = absurd h
 from_listing (nx.closing, h) = absurd h
 from_listing (nx.going, h) = absurd h
+from_listing (nx.operating, h) = absurd h
 from_listing (nx.repeating, h) = absurd h
 
 again_leads : (P : ℕ → ℕ → Type 0) → Down P → (t : Kind) (st : Stack) (c : Action) → Leads P (Any (Does P st (depth_of_action c + 1) (nodes_of_action c + 1))) (again st c t)
@@ -134,6 +155,7 @@ again_leads P w _ st c = tt
 
 valof_least : (P : ℕ → ℕ → Type 0) → Down P → (st : Stack) → Any (Answered (Gives P st) 1 1) → Any (Gives P st Label 1 1)
 valof_least P w st (nx.going, h) = least P w st Call 3 3 (omega arith) (omega arith) h.0 h.1
+valof_least P w st (nx.operating, h) = least P w st Other 3 4 (omega arith) (omega arith) h.0 h.1
 valof_least P w st (nx.repeating, h) = absurd h
 valof_least P w st (nx.closing, h) = least P w st Callable 2 2 (omega arith) (omega arith) nx.closing h
 valof_least P w st (nx.assigning, h) = least P w st Callable 2 2 (omega arith) (omega arith) nx.assigning h
@@ -144,6 +166,7 @@ unlisted_least P w st d n p q (nx.listing, h) = absurd h
 unlisted_least P w st d n p q (nx.closing, h) = least P w st Other d n p q nx.closing h
 unlisted_least P w st d n p q (nx.assigning, h) = least P w st Other d n p q nx.assigning h
 unlisted_least P w st d n p q (nx.going, h) = least P w st Other d n p q nx.going h
+unlisted_least P w st d n p q (nx.operating, h) = least P w st Other d n p q nx.operating h
 unlisted_least P w st d n p q (nx.repeating, h) = least P w st Other d n p q nx.repeating h
 
 table_least : (P : ℕ → ℕ → Type 0) → Down P → (l : ℕ) (st : Stack) → Any (Gives P (in_table l none st) Label 1 1) → Any (Gives P st Label 1 1)
@@ -151,6 +174,7 @@ table_least P w l st (nx.listing, h) = unlisted_least P w st (max 0 (max 1 1) + 
 table_least P w l st (nx.closing, h) = least P w st Other (max 0 1 + 1) (0 + 1 + 1) (omega arith) (omega arith) nx.closing h
 table_least P w l st (nx.assigning, h) = least P w st Other (max 0 1 + 1) (0 + 1 + 1) (omega arith) (omega arith) nx.assigning h
 table_least P w l st (nx.going, h) = least P w st Other (max 0 1 + 1) (0 + 1 + 1) (omega arith) (omega arith) nx.going h
+table_least P w l st (nx.operating, h) = least P w st Other (max 0 1 + 1) (0 + 1 + 1) (omega arith) (omega arith) nx.operating h
 table_least P w l st (nx.repeating, h) = least P w st Other (max 0 1 + 1) (0 + 1 + 1) (omega arith) (omega arith) nx.repeating h
 
 no_args_leads : (P : ℕ → ℕ → Type 0) → Down P → (st : Stack) → Leads P (Wants P st) (no_args st)
@@ -184,13 +208,14 @@ operand_leads P w t st l x = prefixed_leads P w (prefix_of t) st l
 started_any : (F : ℕ → ℕ → Next → Type 0) → Falls F → Any (Started F Label 1 1) → Any (F 1 1)
 started_any F f (nx.assigning, h) = opened F f 1 (max 1 1 + 1) 1 (1 + 2) (omega arith) (omega arith) h
 started_any F f (nx.listing, h) = opened F f 1 (max 1 1 + 1) 1 (1 + 4) (omega arith) (omega arith) h
-started_any F f (nx.closing, inl h) = opened F f 1 1 1 1 (omega arith) (omega arith) h
+started_any F f (nx.closing, inl h) = missed F f 1 1 1 1 (omega arith) (omega arith) h
 started_any F f (nx.closing, inr h) = any_falls F f 1 2 1 2 (omega arith) (omega arith) h
 started_any F f (nx.going, h) = absurd h
+started_any F f (nx.operating, h) = absurd h
 started_any F f (nx.repeating, h) = absurd h
 
 guarded_any : (gd : Guard) (F : ℕ → ℕ → Next → Type 0) → Falls F → Guarded gd F 1 1 → Any (F 1 1)
-guarded_any g.Case F f (inl h) = opened F f 1 2 1 2 (omega arith) (omega arith) h
+guarded_any g.Case F f (inl h) = missed F f 1 2 1 2 (omega arith) (omega arith) h
 guarded_any g.Case F f (inr h) = any_falls F f 1 (max 1 1 + 1) 1 (1 + 2) (omega arith) (omega arith) h
 guarded_any _ F f h = any_falls F f 1 (max 1 1 + 1) 1 (1 + 2) (omega arith) (omega arith) h
 
@@ -200,7 +225,7 @@ command_leads P w k.Test st l x = λ h. any_falls (Does P st) (does_falls P w st
 command_leads P w k.For st l x = λ h. any_falls (Does P st) (does_falls P w st) 1 2 1 4 (omega arith) (omega arith) h
 command_leads P w k.ResultIs st l x = λ h. opened (Does P st) (does_falls P w st) 1 2 1 2 (omega arith) (omega arith) h
 command_leads P w k.Default st l x = λ h. elim h [
-  | inl a ↦ opened (Does P st) (does_falls P w st) 1 1 1 1 (omega arith) (omega arith) a
+  | inl a ↦ missed (Does P st) (does_falls P w st) 1 1 1 1 (omega arith) (omega arith) a
   | inr b ↦ any_falls (Does P st) (does_falls P w st) 1 2 1 2 (omega arith) (omega arith) b
 ]
 command_leads P w k.SectionOpen st l x = λ h. any_falls (Does P st) (does_falls P w st) 1 (max 0 (max 0 0) + 1) 1 (0 + (0 + 0) + 1) (omega arith) (omega arith) h
@@ -320,6 +345,7 @@ dests_any P w xs st (nx.assigning, h) = any_closed (Does P st) (does_falls P w s
 dests_any P w xs st (nx.listing, h) = any_closed (Does P st) (does_falls P w st) (max (depth_of_each xs) 1 + 1) (max (max (depth_of_each xs) 1) 1 + 1) (nodes_of_each xs + size xs + 3) (nodes_of_each xs + 1 + size xs + 4) (omega arith) (omega arith) h
 dests_any P w xs st (nx.closing, h) = absurd h
 dests_any P w xs st (nx.going, h) = absurd h
+dests_any P w xs st (nx.operating, h) = absurd h
 dests_any P w xs st (nx.repeating, h) = absurd h
 
 -- a symbol that ends no definition and begins no declaration

@@ -8,7 +8,7 @@ use Rattle.bk_syntax.specs.Limits.{depth, depth_of_each, depth_of_action, depth_
 use Rattle.bk_syntax.specs.Grammar.{size, start_count}
 use Rattle.bk_syntax.specs.Machine.{Stack, in_section, in_block, in_let, in_parens, in_unary, in_binary, in_chain, in_then, in_else, in_args, in_table, in_start, in_dests, in_values, in_guard, in_test, in_result, in_while, in_from, in_to, in_by, in_item, in_function, in_value, in_vector, in_valof, in_label, in_guarded, in_default, in_do, in_or, in_for, in_routine}
 use Rattle.bk_syntax.specs.Sizes.{owed}
-use Rattle.bk_syntax.specs.Completions.{Next, closing, assigning, listing, going, repeating, Any, AtClosing, AtListing, AtArgument, AtAssignment, Unlisted, AtPart, If, Closed, Started, Answered, Whole, Guarded, Gives, Does, Defines, Declares}
+use Rattle.bk_syntax.specs.Completions.{Next, closing, assigning, listing, going, repeating, operating, Any, AtClosing, AtListing, AtArgument, AtAssignment, Unlisted, AtPart, If, Closed, Missing, Started, Answered, Whole, Guarded, Gives, Does, Defines, Declares}
 
 -- a smaller section has the property too
 abbrev pub Down : (ℕ → ℕ → Type 0) → Type 0
@@ -22,6 +22,7 @@ at_closing f closing h = f h
 at_closing f assigning h = h
 at_closing f listing h = h
 at_closing f going h = h
+at_closing f operating h = h
 at_closing f repeating h = h
 
 pub at_listing : {X Y : Type 0} → (X → Y) → (c : Next) → AtListing X c → AtListing Y c
@@ -29,6 +30,7 @@ at_listing f listing h = f h
 at_listing f closing h = h
 at_listing f assigning h = h
 at_listing f going h = h
+at_listing f operating h = h
 at_listing f repeating h = h
 
 pub at_argument : {X Y A B : Type 0} → (X → Y) → (A → B) → (c : Next) → AtArgument X A c → AtArgument Y B c
@@ -36,6 +38,7 @@ at_argument f k closing h = f h
 at_argument f k listing h = k h
 at_argument f k assigning h = h
 at_argument f k going h = h
+at_argument f k operating h = h
 at_argument f k repeating h = h
 
 pub at_assignment : {X Y A B : Type 0} → (X → Y) → (A → B) → (c : Next) → AtAssignment X A c → AtAssignment Y B c
@@ -43,6 +46,7 @@ at_assignment f k assigning h = f h
 at_assignment f k listing h = k h
 at_assignment f k closing h = h
 at_assignment f k going h = h
+at_assignment f k operating h = h
 at_assignment f k repeating h = h
 
 pub any : {F G : Next → Type 0} → ((c : Next) → F c → G c) → Any F → Any G
@@ -53,6 +57,7 @@ unlisted f listing h = h
 unlisted f closing h = f closing h
 unlisted f assigning h = f assigning h
 unlisted f going h = f going h
+unlisted f operating h = f operating h
 unlisted f repeating h = f repeating h
 
 pub at_part : {F G A B : Next → Type 0} → ((c : Next) → F c → G c) → ((c : Next) → A c → B c) → (c : Next) → AtPart F A c → AtPart G B c
@@ -60,6 +65,7 @@ at_part f k listing h = any (unlisted k) h
 at_part f k closing h = f closing h
 at_part f k assigning h = f assigning h
 at_part f k going h = f going h
+at_part f k operating h = f operating h
 at_part f k repeating h = f repeating h
 
 pub either : {F G A B : Next → Type 0} → (b : Bool) → ((c : Next) → F c → G c) → ((c : Next) → A c → B c) → (c : Next) → If b F A c → If b G B c
@@ -71,10 +77,22 @@ closed_falls F f d e n m p q closing h = f d e n m p q closing h
 closed_falls F f d e n m p q assigning h = f d e n m p q assigning h
 closed_falls F f d e n m p q listing h = f d e n m p q listing h
 closed_falls F f d e n m p q going h = h
+closed_falls F f d e n m p q operating h = h
 closed_falls F f d e n m p q repeating h = any (f (d + 1) (e + 1) (n + 1) (m + 1) (omega (arith, p)) (omega (arith, q))) h
+
+pub missing_falls : (F : ℕ → ℕ → Next → Type 0) → Falls F → Falls (Missing F)
+missing_falls F f d e n m p q closing h = f d e n m p q closing h
+missing_falls F f d e n m p q assigning h = f d e n m p q assigning h
+missing_falls F f d e n m p q listing h = f d e n m p q listing h
+missing_falls F f d e n m p q going h = h
+missing_falls F f d e n m p q operating h = f d e n m p q operating h
+missing_falls F f d e n m p q repeating h = any (f (d + 1) (e + 1) (n + 1) (m + 1) (omega (arith, p)) (omega (arith, q))) h
 
 pub any_falls : (F : ℕ → ℕ → Next → Type 0) → Falls F → (d e n m : ℕ) → d ≤ e → n ≤ m → Any (F e m) → Any (F d n)
 any_falls F f d e n m p q h = any (f d e n m p q) h
+
+pub any_missing : (F : ℕ → ℕ → Next → Type 0) → Falls F → (d e n m : ℕ) → d ≤ e → n ≤ m → Any (Missing F e m) → Any (Missing F d n)
+any_missing F f d e n m p q h = any (missing_falls F f d e n m p q) h
 
 pub any_closed : (F : ℕ → ℕ → Next → Type 0) → Falls F → (d e n m : ℕ) → d ≤ e → n ≤ m → Any (Closed F e m) → Any (Closed F d n)
 any_closed F f d e n m p q h = any (closed_falls F f d e n m p q) h
@@ -86,20 +104,26 @@ started_falls F k Label d e n m p q closing h = h
 started_falls F k Call d e n m p q closing h = k d e n m p q closing h
 started_falls F k Call d e n m p q repeating h = any_falls F k (d + 1) (e + 1) (n + 1) (m + 1) (omega (arith, p)) (omega (arith, q)) h
 started_falls F k Label d e n m p q going h = h
+started_falls F k Label d e n m p q operating h = h
 started_falls F k Label d e n m p q repeating h = h
 started_falls F k Call d e n m p q going h = h
+started_falls F k Call d e n m p q operating h = h
 started_falls F k Callable d e n m p q closing h = h
 started_falls F k Callable d e n m p q going h = h
+started_falls F k Callable d e n m p q operating h = h
 started_falls F k Callable d e n m p q repeating h = h
 started_falls F k Tabled d e n m p q closing h = h
 started_falls F k Tabled d e n m p q going h = h
+started_falls F k Tabled d e n m p q operating h = h
 started_falls F k Tabled d e n m p q repeating h = h
 started_falls F k Other d e n m p q closing h = h
 started_falls F k Other d e n m p q going h = h
+started_falls F k Other d e n m p q operating h = h
 started_falls F k Other d e n m p q repeating h = h
 
 answered_falls : (G : Form → ℕ → ℕ → Next → Type 0) → ((f : Form) → Falls (G f)) → Falls (Answered G)
 answered_falls G k d e n m p q going h = any (k Call (d + 2) (e + 2) (n + 2) (m + 2) (omega (arith, p)) (omega (arith, q))) h
+answered_falls G k d e n m p q operating h = any (k Other (d + 2) (e + 2) (n + 3) (m + 3) (omega (arith, p)) (omega (arith, q))) h
 answered_falls G k d e n m p q repeating h = h
 answered_falls G k d e n m p q closing h = k Callable (d + 1) (e + 1) (n + 1) (m + 1) (omega (arith, p)) (omega (arith, q)) closing h
 answered_falls G k d e n m p q assigning h = k Callable (d + 1) (e + 1) (n + 1) (m + 1) (omega (arith, p)) (omega (arith, q)) assigning h
@@ -110,7 +134,7 @@ whole_falls G k f d e n m p q (inl h) = inl (any (k f d e n m p q) h)
 whole_falls G k f d e n m p q (inr h) = inr (any (k Call (d + 1) (e + 1) (n + 1) (m + 1) (omega (arith, p)) (omega (arith, q))) h)
 
 guarded_falls : (gd : Guard) (F : ℕ → ℕ → Next → Type 0) → Falls F → (d e n m : ℕ) → d ≤ e → n ≤ m → Guarded gd F e m → Guarded gd F d n
-guarded_falls g.Case F k d e n m p q (inl h) = inl (any_closed F k (d + 1) (e + 1) (n + 1) (m + 1) (omega (arith, p)) (omega (arith, q)) h)
+guarded_falls g.Case F k d e n m p q (inl h) = inl (any_missing F k (d + 1) (e + 1) (n + 1) (m + 1) (omega (arith, p)) (omega (arith, q)) h)
 guarded_falls g.Case F k d e n m p q (inr h) = inr (any_falls F k (max d 1 + 1) (max e 1 + 1) (n + 2) (m + 2) (omega (arith, p)) (omega (arith, q)) h)
 guarded_falls _ F k d e n m p q h = any_falls F k (max d 1 + 1) (max e 1 + 1) (n + 2) (m + 2) (omega (arith, p)) (omega (arith, q)) h
 

@@ -11,13 +11,15 @@ use Rattle.bk_syntax.specs.Grammar.{size, start_count}
 use Rattle.bk_syntax.specs.Machine.{Stack, State, in_section, in_block, in_let, at_name, at_formals, at_formal, at_formal_end, at_head, at_variable, at_variable_end, at_starts, at_opening, at_items, at_sign, at_goto, at_for, at_forward, at_default, in_parens, in_unary, in_binary, in_chain, in_then, in_else, in_args, in_table, in_start, in_dests, in_values, in_guard, in_test, in_result, in_while, in_from, in_to, in_by, in_item, in_function, in_value, in_vector, in_valof, in_label, in_guarded, in_default, in_do, in_or, in_for, in_routine, want, have, begin, maybe, did, due}
 use Rattle.bk_syntax.specs.Sizes.{form_of, owed}
 
--- the symbol behind a part, by what within the part takes it as its own: nothing, a call or a list, an expression, a command
+-- the symbol behind a part, by what within the part takes it as its own: nothing, a call, a call or a TABLE, an expression, a
+-- command; the last is an operator that begins no command, so that it may come where a command is missing
 pub data Next : Type 0 where
   closing : Next
   assigning : Next
   listing : Next
   going : Next
   repeating : Next
+  operating : Next
 
 -- whatever comes next
 abbrev pub Any : (Next → Type 0) → Type 0
@@ -59,14 +61,21 @@ If false F G c = G c
 -- behind a command that an expression ends: an expression goes on, so that a REPEAT has to come before what does not
 abbrev pub Closed : (ℕ → ℕ → Next → Type 0) → ℕ → ℕ → Next → Type 0
 Closed F d n going = ⊥
+Closed F d n operating = ⊥
 Closed F d n repeating = Any (F (d + 1) (n + 1))
 Closed F d n c = F d n c
+
+-- where no command comes behind a colon: what begins one, as `(` does, would be taken for it
+abbrev pub Missing : (ℕ → ℕ → Next → Type 0) → ℕ → ℕ → Next → Type 0
+Missing F d n going = ⊥
+Missing F d n repeating = Any (F (d + 1) (n + 1))
+Missing F d n c = F d n c
 
 -- behind an expression at the start of a command: it is a destination, a label with a command or without, or a call
 abbrev pub Started : (ℕ → ℕ → Next → Type 0) → Form → ℕ → ℕ → Next → Type 0
 Started F f d n assigning = Any (Closed F (max d 1 + 1) (n + 2))
 Started F f d n listing = Any (Closed F (max d 1 + 1) (n + 4))
-Started F Label d n closing = Any (Closed F 1 1) ⊎ Any (F 2 2)
+Started F Label d n closing = Any (Missing F 1 1) ⊎ Any (F 2 2)
 Started F Call d n closing = F d n closing
 Started F Call d n repeating = Any (F (d + 1) (n + 1))
 Started F _ d n _ = ⊥
@@ -74,6 +83,7 @@ Started F _ d n _ = ⊥
 -- behind the command of a VALOF, which may be called
 abbrev pub Answered : (Form → ℕ → ℕ → Next → Type 0) → ℕ → ℕ → Next → Type 0
 Answered G d n going = Any (G Call (d + 2) (n + 2))
+Answered G d n operating = Any (G Other (d + 2) (n + 3))
 Answered G d n repeating = ⊥
 Answered G d n c = G Callable (d + 1) (n + 1) c
 
@@ -83,7 +93,7 @@ Whole G f d n = Any (G f d n) ⊎ Any (G Call (d + 1) (n + 1))
 
 -- behind the sign of a guard: behind that of a CASE no command need come
 abbrev pub Guarded : Guard → (ℕ → ℕ → Next → Type 0) → ℕ → ℕ → Type 0
-Guarded g.Case F d n = Any (Closed F (d + 1) (n + 1)) ⊎ Any (F (max d 1 + 1) (n + 2))
+Guarded g.Case F d n = Any (Missing F (d + 1) (n + 1)) ⊎ Any (F (max d 1 + 1) (n + 2))
 Guarded _ F d n = Any (F (max d 1 + 1) (n + 2))
 
 abbrev mutual
@@ -155,9 +165,9 @@ Wants P st = Any (Gives P st Label 1 1)
 
 -- no command comes behind a colon
 abbrev pub Misses : (ℕ → ℕ → Type 0) → Stack → Type 0
-Misses P (in_label l x st) = Any (Closed (Does P st) 1 1)
-Misses P (in_guarded k l e st) = Any (Closed (Does P st) (depth e + 1) (nodes e + 1))
-Misses P (in_default l st) = Any (Closed (Does P st) 1 1)
+Misses P (in_label l x st) = Any (Missing (Does P st) 1 1)
+Misses P (in_guarded k l e st) = Any (Missing (Does P st) (depth e + 1) (nodes e + 1))
+Misses P (in_default l st) = Any (Missing (Does P st) 1 1)
 Misses P _ = ⊥
 
 -- the least item, where none came
@@ -184,7 +194,7 @@ Due P (at_sign l q is x st) = Declares P st (max 2 (depth_of_items is)) (nodes_o
 Due P (at_goto l st) = Any (Does P st 1 1)
 Due P (at_for l st) = Any (Does P st 2 4)
 Due P (at_forward l x st) = Any (Does P st 2 4)
-Due P (at_default l st) = Any (Closed (Does P st) 1 1) ⊎ Any (Does P st 2 2)
+Due P (at_default l st) = Any (Missing (Does P st) 1 1) ⊎ Any (Does P st 2 2)
 Due P _ = ⊥
 
 -- a section with P goes on from this state
