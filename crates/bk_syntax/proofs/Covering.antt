@@ -24,7 +24,7 @@ use Rattle.bk_syntax.proofs.Before.{falls, behind_ok, inner_ok}
 use Rattle.bk_syntax.proofs.Steps.{repeated, size_then, count_then}
 use Rattle.bk_syntax.proofs.Trees.{each_depth, each_nodes, actions_depth, actions_nodes, declarations_depth, declarations_nodes, definitions_depth, definitions_nodes, items_depth, items_nodes, starts_depth, starts_nodes}
 use Rattle.bk_syntax.proofs.Turns.{guarded_depth, guarded_nodes}
-use Rattle.bk_syntax.proofs.Lowering.{Down, Falls, any, closed_falls, any_falls, any_closed, any_missing, whole_falls, gives_falls, does_falls, defines_fall, declares_fall}
+use Rattle.bk_syntax.proofs.Lowering.{Down, Falls, any, unlisted, closed_falls, any_falls, any_closed, any_missing, whole_falls, gives_falls, does_falls, defines_fall, declares_fall}
 
 -- where what comes can be completed, so can what was before it
 abbrev pub Leads : (ℕ → ℕ → Type 0) → Type 0 → Option State → Type 0
@@ -566,3 +566,120 @@ give_repeat_until P w (in_vector m xs is st) e l x =
       (leads_none P ⊥ (defined_by st whole_of l x k.RepeatUntil) (defined_none st whole_of l x k.RepeatUntil (refl, refl, refl, refl, refl)))
       (λ j. absurd cc)
 give_repeat_until P w _ e l x = tt
+
+parts_any : {F G H : Next → Type 0} → ((c : Next) → F c → H c) → ((c : Next) → G c → H c) → Any (AtPart F G) → Any (Unlisted H)
+parts_any f k (nx.listing, h) = any (unlisted k) h
+parts_any f k (nx.closing, h) = (nx.closing, f nx.closing h)
+parts_any f k (nx.assigning, h) = (nx.assigning, f nx.assigning h)
+parts_any f k (nx.going, h) = (nx.going, f nx.going h)
+parts_any f k (nx.operating, h) = (nx.operating, f nx.operating h)
+parts_any f k (nx.repeating, h) = (nx.repeating, f nx.repeating h)
+
+
+-- ---- a comma
+
+args_due : (P : ℕ → ℕ → Type 0) → Down P → (s : ℕ) (y : Expression) (zs : Expressions) (st : Stack) → 1 ≤ size zs → Wants P (in_args s y zs st) → Whole (Gives P st) Call (max (depth y) (max (depth_of_each zs) 1) + 1) (nodes y + (nodes_of_each zs + 1) + 1)
+args_due P w s y none st some h = absurd (omega (arith, some))
+args_due P w s y (more z zs) st some (nx.closing, h) = h
+args_due P w s y (more z zs) st some (nx.listing, h) = whole_falls (Gives P st) (gives_falls P w st) Call (max (depth y) (max (depth_of_each (more z zs)) 1) + 1) (max (depth y) (max (depth_of_each (more z zs)) (max 1 1)) + 1) (nodes y + (nodes_of_each (more z zs) + 1) + 1) (nodes y + (nodes_of_each (more z zs) + 1) + 2) (omega arith) (omega arith) h
+args_due P w s y (more z zs) st some (nx.assigning, h) = absurd h
+args_due P w s y (more z zs) st some (nx.going, h) = absurd h
+args_due P w s y (more z zs) st some (nx.operating, h) = absurd h
+args_due P w s y (more z zs) st some (nx.repeating, h) = absurd h
+
+args_any : (P : ℕ → ℕ → Type 0) → Down P → (s : ℕ) (y : Expression) (es : Expressions) (st : Stack) (e : Expression) → Wants P (in_args s y (each_then es (more e none)) st) → Whole (Gives P st) Call (max (depth y) (max (depth_of_each es) (max (depth e) 1)) + 1) (nodes y + (nodes_of_each es + nodes e) + 2)
+args_any P w s y es st e h =
+    let zs : Expressions = each_then es (more e none) in
+    let a = each_depth es e in
+    let b = each_nodes es e in
+    let z = size_then es (more e none) in
+    whole_falls (Gives P st) (gives_falls P w st) Call (max (depth y) (max (depth_of_each es) (max (depth e) 1)) + 1) (max (depth y) (max (depth_of_each zs) 1) + 1) (nodes y + (nodes_of_each es + nodes e) + 2) (nodes y + (nodes_of_each zs + 1) + 1) (omega (arith, a)) (omega (arith, b)) (args_due P w s y zs st (omega (arith, z)) h)
+
+table_any : (P : ℕ → ℕ → Type 0) → Down P → (m : ℕ) (es : Expressions) (st : Stack) (e : Expression) → Any (Gives P (in_table m (each_then es (more e none)) st) Label 1 1) → Any (Unlisted (Gives P st Other (max (depth_of_each es) (max (depth e) 1) + 1) (nodes_of_each es + nodes e + 2)))
+table_any P w m es st e h =
+    let zs : Expressions = each_then es (more e none) in
+    let a = each_depth es e in
+    let b = each_nodes es e in
+    let f : (c : Next) → Gives P st Other (max (depth_of_each zs) 1 + 1) (nodes_of_each zs + 1 + 1) c → Gives P st Other (max (depth_of_each es) (max (depth e) 1) + 1) (nodes_of_each es + nodes e + 2) c = gives_falls P w st Other (max (depth_of_each es) (max (depth e) 1) + 1) (max (depth_of_each zs) 1 + 1) (nodes_of_each es + nodes e + 2) (nodes_of_each zs + 1 + 1) (omega (arith, a)) (omega (arith, b)) in
+    let k : (c : Next) → Gives P st Other (max (depth_of_each zs) (max 1 1) + 1) (nodes_of_each zs + 1 + 2) c → Gives P st Other (max (depth_of_each es) (max (depth e) 1) + 1) (nodes_of_each es + nodes e + 2) c = gives_falls P w st Other (max (depth_of_each es) (max (depth e) 1) + 1) (max (depth_of_each zs) (max 1 1) + 1) (nodes_of_each es + nodes e + 2) (nodes_of_each zs + 1 + 2) (omega (arith, a)) (omega (arith, b)) in
+    parts_any f k h
+
+values_more : (P : ℕ → ℕ → Type 0) → Down P → (xs ys : Expressions) (st : Stack) (e : Expression) → Any (Gives P (in_values xs (each_then ys (more e none)) st) Label 1 1) → Any (Closed (Does P st) (max (depth_of_each xs) (max (depth_of_each ys) (max (depth e) 1)) + 1) (nodes_of_each xs + (nodes_of_each ys + nodes e) + owed (size xs) (size ys) + 1))
+values_more P w xs ys st e h =
+    let zs : Expressions = each_then ys (more e none) in
+    let a = each_depth ys e in
+    let b = each_nodes ys e in
+    let z = size_then ys (more e none) in
+    any_closed (Does P st) (does_falls P w st) (max (depth_of_each xs) (max (depth_of_each ys) (max (depth e) 1)) + 1) (max (depth_of_each xs) (max (depth_of_each zs) 1) + 1) (nodes_of_each xs + (nodes_of_each ys + nodes e) + owed (size xs) (size ys) + 1) (nodes_of_each xs + (nodes_of_each zs + 1) + owed (size xs) (size zs) + 1) (omega (arith, a)) (omega (arith, b, z)) (values_any P w xs zs st h)
+
+starts_by : (P : ℕ → ℕ → Type 0) → Down P → (b : Bool) (many : ℕ) (js : Starts) (st : Stack) → (b ≡ true → many ≡ start_count js + 1)
+    → Any (If b (AtClosing (Defines P st (max (depth_of_starts js) 1 + 1) (nodes_of_starts js + 1 + 1))) (AtListing (Defines P st (max (depth_of_starts js) (max 1 1) + 1) (nodes_of_starts js + 1 + owed many (start_count js) + 1))))
+    → Defines P st (max (depth_of_starts js) 1 + 1) (nodes_of_starts js + 1 + owed many (start_count js) + 1)
+starts_by P w true many js st is h = let e = is refl in defines_fall P w st (max (depth_of_starts js) 1 + 1) (max (depth_of_starts js) 1 + 1) (nodes_of_starts js + 1 + owed many (start_count js) + 1) (nodes_of_starts js + 1 + 1) (omega arith) (omega (arith, e)) (from_closing h)
+starts_by P w false many js st is h = defines_fall P w st (max (depth_of_starts js) 1 + 1) (max (depth_of_starts js) (max 1 1) + 1) (nodes_of_starts js + 1 + owed many (start_count js) + 1) (nodes_of_starts js + 1 + owed many (start_count js) + 1) (omega arith) (omega arith) (from_listing h)
+
+starts_any : (P : ℕ → ℕ → Type 0) → Down P → (xs : List Mention) (js : Starts) (st : Stack) → Any (Gives P (in_value xs js st) Label 1 1) → Defines P st (max (depth_of_starts js) 1 + 1) (nodes_of_starts js + 1 + owed (length xs) (start_count js) + 1)
+starts_any P w xs js st h = starts_by P w (length xs == start_count js + 1) (length xs) js st (eq_is (length xs) (start_count js + 1)) h
+
+starts_more : (P : ℕ → ℕ → Type 0) → Down P → (xs : List Mention) (is js : Starts) (st : Stack) (d n : ℕ) → depth_of_starts js ≡ max (depth_of_starts is) (max d 0) → nodes_of_starts js ≡ nodes_of_starts is + (n + 0) → start_count js ≡ start_count is + (0 + 1)
+    → Any (Gives P (in_value xs js st) Label 1 1) → Defines P st (max (depth_of_starts is) (max d 1) + 1) (nodes_of_starts is + n + owed (length xs) (start_count is) + 1)
+starts_more P w xs is js st d n a b c h = defines_fall P w st (max (depth_of_starts is) (max d 1) + 1) (max (depth_of_starts js) 1 + 1) (nodes_of_starts is + n + owed (length xs) (start_count is) + 1) (nodes_of_starts js + 1 + owed (length xs) (start_count js) + 1) (omega (arith, a)) (omega (arith, b, c)) (starts_any P w xs js st h)
+
+
+comma_sign : (gd : Guard) → is_sign_of gd k.Comma ≡ false
+comma_sign g.SwitchOn = refl
+comma_sign g.Case = refl
+comma_sign _ = refl
+
+mutual
+  give_comma : (P : ℕ → ℕ → Type 0) → Down P → (st : Stack) (e : Expression) (l : ℕ) (x : List ℕ) → Leads P (Gives P st (form_of e) (depth e) (nodes e) nx.listing) (give st e l x k.Comma)
+  give_comma P w (in_unary m p st) e l x = give_comma P w st (unary m p e) l x
+  give_comma P w (in_binary q s a st) e l x = give_comma P w st (binary (line_of a) q s a e) l x
+  give_comma P w (in_chain q s a b st) e l x = give_comma P w st (binary (line_of a) Both s a (binary (line_of b) q s b e)) l x
+  give_comma P w (in_else s y a st) e l x = give_comma P w st (choice (line_of y) s y a e) l x
+  give_comma P w (in_then s y st) e l x = λ h. any_falls (Gives P st Other) (gives_falls P w st Other) (max (depth y) (max (depth e) 1) + 1) (max (depth y) (max (depth e) 1) + 1) (nodes y + nodes e + 2) (nodes y + nodes e + 1 + 1) (omega arith) (omega arith) h
+  give_comma P w (in_args s y es st) e l x = let a = each_depth es e in let b = each_nodes es e in λ h. args_any P w s y es st e h
+  give_comma P w (in_table m es st) e l x = λ h. table_any P w m es st e h
+  give_comma P w (in_start st) e l x = λ h. any_closed (Does P st) (does_falls P w st) (max (depth e) 1 + 1) (max (max (depth e) 0) 1 + 1) (nodes e + 4) (nodes e + 0 + (0 + 1) + 3) (omega arith) (omega arith) (dests_any P w (more e none) st h)
+  give_comma P w (in_dests xs st) e l x = let a = each_depth xs e in let b = each_nodes xs e in let z = size_then xs (more e none) in let zs : Expressions = each_then xs (more e none) in λ h. any_closed (Does P st) (does_falls P w st) (max (max (depth_of_each xs) 1) (depth e) + 1) (max (depth_of_each zs) 1 + 1) (nodes_of_each xs + nodes e + size xs + 4) (nodes_of_each zs + size zs + 3) (omega (arith, a)) (omega (arith, b, z)) (dests_any P w zs st h)
+  give_comma P w (in_values xs ys st) e l x =
+      let zs : Expressions = each_then ys (more e none) in
+      let a = each_depth ys e in
+      let b = each_nodes ys e in
+      counted_leads P (size xs == size ys + 1) (Closed (Does P st) (max (depth_of_each xs) (max (depth_of_each ys) (depth e)) + 1) (nodes_of_each xs + (nodes_of_each ys + nodes e) + 1)) (AtListing (Any (Closed (Does P st) (max (depth_of_each xs) (max (depth_of_each ys) (max (depth e) 1)) + 1) (nodes_of_each xs + (nodes_of_each ys + nodes e) + owed (size xs) (size ys) + 1)))) nx.listing
+      (finish st (assign (line_of_first xs) xs zs) l x k.Comma) k.Comma (want (in_values xs zs st))
+      (leads_by P (Does P st (max (depth_of_each xs) (depth_of_each (each_then ys (more e none))) + 1) (nodes_of_each xs + nodes_of_each (each_then ys (more e none)) + 1) nx.listing) (Does P st (max (depth_of_each xs) (max (depth_of_each ys) (depth e)) + 1) (nodes_of_each xs + (nodes_of_each ys + nodes e) + 1) nx.listing) (finish st (assign (line_of_first xs) xs zs) l x k.Comma) (does_falls P w st (max (depth_of_each xs) (max (depth_of_each ys) (depth e)) + 1) (max (depth_of_each xs) (depth_of_each (each_then ys (more e none))) + 1) (nodes_of_each xs + (nodes_of_each ys + nodes e) + 1) (nodes_of_each xs + nodes_of_each (each_then ys (more e none)) + 1) (omega (arith, a)) (omega (arith, b)) nx.listing) (finish_comma P w st (assign (line_of_first xs) xs zs) l x))
+      (λ j h. values_more P w xs ys st e h)
+  give_comma P w (in_guard gd m st) e l x = leads_if P (AtClosing (Guarded gd (Does P st) (depth e) (nodes e)) nx.listing) (is_sign_of gd k.Comma) (Some (behind_sign gd (in_guarded gd m e st))) None (λ j. absurd (let s = comma_sign gd in cc)) (λ j. tt)
+  give_comma P w (in_result m st) e l x = finish_comma P w st (result m e) l x
+  give_comma P w (in_while b a st) e l x = finish_comma P w st (repeat_while (line_of_action a) b a e) l x
+  give_comma P w (in_function y fs st) e l x = leads_none P (AtClosing (Defines P st (depth e + 1) (nodes e + 1)) nx.listing) (defined_by st (function y.line y.letters fs e) l x k.Comma) (defined_none st (function y.line y.letters fs e) l x k.Comma (refl, refl, refl, refl, refl))
+  give_comma P w (in_value xs is st) e l x =
+      let js : Starts = starts_then is (value e no_starts) in
+      let whole_of : Definition = variables (line_of_names xs) xs js in
+      counted_leads P (length xs == start_count is + 1) (AtClosing (Defines P st (max (depth_of_starts is) (depth e) + 1) (nodes_of_starts is + nodes e + 1)))
+      (AtListing (Defines P st (max (depth_of_starts is) (max (depth e) 1) + 1) (nodes_of_starts is + nodes e + owed (length xs) (start_count is) + 1))) nx.listing (defined_by st whole_of l x k.Comma) k.Comma (due (at_starts xs js st))
+      (leads_none P ⊥ (defined_by st whole_of l x k.Comma) (defined_none st whole_of l x k.Comma (refl, refl, refl, refl, refl)))
+      (λ j h. starts_more P w xs is (starts_then is (value e no_starts)) st (depth e) (nodes e) (starts_depth is (value e no_starts)) (starts_nodes is (value e no_starts)) (count_then is (value e no_starts)) h)
+  give_comma P w (in_vector m xs is st) e l x =
+      let js : Starts = starts_then is (vector m e no_starts) in
+      let whole_of : Definition = variables (line_of_names xs) xs js in
+      counted_leads P (length xs == start_count is + 1) (AtClosing (Defines P st (max (depth_of_starts is) (depth e) + 1) (nodes_of_starts is + nodes e + 1)))
+      (AtListing (Defines P st (max (depth_of_starts is) (max (depth e) 1) + 1) (nodes_of_starts is + nodes e + owed (length xs) (start_count is) + 1))) nx.listing (defined_by st whole_of l x k.Comma) k.Comma (due (at_starts xs js st))
+      (leads_none P ⊥ (defined_by st whole_of l x k.Comma) (defined_none st whole_of l x k.Comma (refl, refl, refl, refl, refl)))
+      (λ j h. starts_more P w xs is (starts_then is (vector m e no_starts)) st (depth e) (nodes e) (starts_depth is (vector m e no_starts)) (starts_nodes is (vector m e no_starts)) (count_then is (vector m e no_starts)) h)
+  give_comma P w _ e l x = tt
+
+  finish_comma : (P : ℕ → ℕ → Type 0) → Down P → (st : Stack) (c : Action) (l : ℕ) (x : List ℕ) → Leads P (Does P st (depth_of_action c) (nodes_of_action c) nx.listing) (finish st c l x k.Comma)
+  finish_comma P w (in_valof m st) c l x = give_comma P w st (valof m c) l x
+  finish_comma P w (in_label m y st) c l x = finish_comma P w st (label m y c) l x
+  finish_comma P w (in_guarded gd m e st) c l x =
+      let a = guarded_depth gd m e c in
+      let b = guarded_nodes gd m e c in
+      leads_by P (Does P st (depth_of_action (guarded gd m e c)) (nodes_of_action (guarded gd m e c)) nx.listing) (Does P st (max (depth e) (depth_of_action c) + 1) (nodes e + nodes_of_action c + 1) nx.listing) (finish st (guarded gd m e c) l x k.Comma)
+      (does_falls P w st (max (depth e) (depth_of_action c) + 1) (depth_of_action (guarded gd m e c)) (nodes e + nodes_of_action c + 1) (nodes_of_action (guarded gd m e c)) (omega (arith, a)) (omega (arith, b)) nx.listing) (finish_comma P w st (guarded gd m e c) l x)
+  finish_comma P w (in_default m st) c l x = finish_comma P w st (default m c) l x
+  finish_comma P w (in_or m e a st) c l x = finish_comma P w st (test m e a c) l x
+  finish_comma P w (in_for m y a b z st) c l x = finish_comma P w st (for_loop m y a b z c) l x
+  finish_comma P w (in_routine y fs st) c l x = leads_none P ⊥ (defined_by st (routine y.line y.letters fs c) l x k.Comma) (defined_none st (routine y.line y.letters fs c) l x k.Comma (refl, refl, refl, refl, refl))
+  finish_comma P w _ c l x = tt
