@@ -21,7 +21,7 @@ use Rattle.bk_syntax.specs.Sizes.{form_of, owed}
 use Rattle.bk_syntax.specs.Completions as nx
 use Rattle.bk_syntax.specs.Completions.{Next, Any, AtClosing, AtListing, AtArgument, AtAssignment, Unlisted, AtPart, If, Closed, Missing, Started, Answered, Whole, Guarded, Gives, Does, Defines, Declares, Wants, Misses, Lists, Due, Completes}
 use Rattle.bk_syntax.proofs.Before.{falls, behind_ok, inner_ok}
-use Rattle.bk_syntax.proofs.Steps.{repeated, size_then, count_then}
+use Rattle.bk_syntax.proofs.Steps.{pushes, repeated, size_then, count_then}
 use Rattle.bk_syntax.proofs.Trees.{each_depth, each_nodes, actions_depth, actions_nodes, declarations_depth, declarations_nodes, definitions_depth, definitions_nodes, items_depth, items_nodes, starts_depth, starts_nodes}
 use Rattle.bk_syntax.proofs.Turns.{guarded_depth, guarded_nodes}
 use Rattle.bk_syntax.proofs.Lowering.{Down, Falls, any, unlisted, closed_falls, any_falls, any_closed, any_missing, whole_falls, gives_falls, does_falls, defines_fall, declares_fall}
@@ -683,3 +683,225 @@ mutual
   finish_comma P w (in_for m y a b z st) c l x = finish_comma P w st (for_loop m y a b z c) l x
   finish_comma P w (in_routine y fs st) c l x = leads_none P ⊥ (defined_by st (routine y.line y.letters fs c) l x k.Comma) (defined_none st (routine y.line y.letters fs c) l x k.Comma (refl, refl, refl, refl, refl))
   finish_comma P w _ c l x = tt
+
+-- ---- a symbol with which an expression goes on
+
+-- it ends nothing
+abbrev Inner : Kind → Type 0
+Inner t = Plain t × (repeats t ≡ false) × (is_or t ≡ false)
+
+inner_of : (t : Kind) → goes 12 t ≡ true → Inner t
+inner_of k.And h = absurd cc
+inner_of k.Let h = absurd cc
+inner_of k.Manifest h = absurd cc
+inner_of k.Static h = absurd cc
+inner_of k.Global h = absurd cc
+inner_of k.Semicolon h = absurd cc
+inner_of k.SectionClose h = absurd cc
+inner_of k.Or h = absurd cc
+inner_of k.Repeat h = absurd cc
+inner_of k.RepeatWhile h = absurd cc
+inner_of k.RepeatUntil h = absurd cc
+inner_of _ h = ((refl, refl, refl, refl, refl), refl, refl)
+
+call_opens : (P : ℕ → ℕ → Type 0) → Down P → (st : Stack) (e : Expression) (l : ℕ) → Wants P (in_args l e none st) → Any (Gives P st Call (depth e + 1) (nodes e + 1))
+call_opens P w st e l (inl h) = h
+call_opens P w st e l (inr h) = any_falls (Gives P st Call) (gives_falls P w st Call) (depth e + 1) (depth e + 1 + 1) (nodes e + 1) (nodes e + 1 + 1) (omega arith) (omega arith) h
+
+open_leads : (P : ℕ → ℕ → Type 0) → Down P → (st : Stack) (e : Expression) (l : ℕ) (x : List ℕ) → Leads P (Any (Gives P st Call (depth e + 1) (nodes e + 1))) (give st e l x k.Open)
+open_leads P w st e l x = let Q : Option State → Type 0 = λ z. Leads P (Any (Gives P st Call (depth e + 1) (nodes e + 1))) z in subst Q (sym (pushes st e l x k.Open refl)) (call_opens P w st e l)
+
+linked_leads : (P : ℕ → ℕ → Type 0) → Down P → (z : Option Expression) (q : Operator) (s : ℕ) (e : Expression) (st : Stack) → Leads P (Any (Gives P st Other (depth e + 1) (nodes e + 2))) (Some (linked q s e st z))
+linked_leads P w None q s e st = λ h. any_falls (Gives P st Other) (gives_falls P w st Other) (depth e + 1) (max (depth e) 1 + 1) (nodes e + 2) (nodes e + 1 + 1) (omega arith) (omega arith) h
+linked_leads P w (Some b) q s e st = λ h. any_falls (Gives P st Other) (gives_falls P w st Other) (depth e + 1) (max (depth e) (max (depth b) 1 + 1) + 1) (nodes e + 2) (nodes e + (nodes b + 1 + 1) + 1) (omega arith) (omega arith) h
+
+relation_leads : (P : ℕ → ℕ → Type 0) (X : Type 0) (b : Bool) (x y : State) → Leads P X (Some x) → Leads P X (Some y) → Leads P X (Some (cond b x y))
+relation_leads P X true x y h j = h
+relation_leads P X false x y h j = j
+
+infixed_leads : (P : ℕ → ℕ → Type 0) → Down P → (z : Option Operator) (st : Stack) (e : Expression) (s : ℕ) → Leads P (Any (Gives P st Other (depth e + 1) (nodes e + 2))) (infixed st e s z)
+infixed_leads P w None st e s = tt
+infixed_leads P w (Some q) st e s =
+    relation_leads P (Any (Gives P st Other (depth e + 1) (nodes e + 2))) (is_relation q) (linked q s e st (last e)) (want (in_binary q s e st)) (linked_leads P w (last e) q s e st)
+    (λ h. any_falls (Gives P st Other) (gives_falls P w st Other) (depth e + 1) (max (depth e) 1 + 1) (nodes e + 2) (nodes e + 1 + 1) (omega arith) (omega arith) h)
+
+push_leads : (P : ℕ → ℕ → Type 0) → Down P → (t : Kind) → is_open t ≡ false → (st : Stack) (e : Expression) (l : ℕ) → Leads P (Any (Gives P st Other (depth e + 1) (nodes e + 2))) (push st e t l)
+push_leads P w k.Open o st e l = absurd cc
+push_leads P w k.Arrow o st e l = λ h. any_falls (Gives P st Other) (gives_falls P w st Other) (depth e + 1) (max (depth e) (max 1 1) + 1) (nodes e + 2) (nodes e + 1 + 2) (omega arith) (omega arith) (from_listing h)
+push_leads P w t o st e l = infixed_leads P w (infix_of t) st e l
+
+operator_leads : (P : ℕ → ℕ → Type 0) → Down P → (t : Kind) → goes 12 t ≡ true → is_open t ≡ false → (st : Stack) (e : Expression) (l : ℕ) (x : List ℕ) → Leads P (Any (Gives P st Other (depth e + 1) (nodes e + 2))) (give st e l x t)
+operator_leads P w t g o (in_unary m p st) e l x = leads_if P (Any (Gives P st Other (depth e + 1 + 1) (nodes e + 2 + 1))) (goes (behind p) t) (push (in_unary m p st) e t l) (give st (unary m p e) l x t) (λ j. push_leads P w t o (in_unary m p st) e l)
+    (λ j. leads_by P (Any (Gives P st Other (depth e + 1 + 1) (nodes e + 1 + 2))) (Any (Gives P st Other (depth e + 1 + 1) (nodes e + 2 + 1))) (give st (unary m p e) l x t) (any_falls (Gives P st Other) (gives_falls P w st Other) (depth e + 1 + 1) (depth e + 1 + 1) (nodes e + 2 + 1) (nodes e + 1 + 2) (omega arith) (omega arith)) (operator_leads P w t g o st (unary m p e) l x))
+operator_leads P w t g o (in_binary q s a st) e l x = let whole_of : Expression = binary (line_of a) q s a e in leads_if P (Any (Gives P st Other (max (depth a) (depth e + 1) + 1) (nodes a + (nodes e + 2) + 1))) (goes (inner q) t) (push (in_binary q s a st) e t l) (give st whole_of l x t) (λ j. push_leads P w t o (in_binary q s a st) e l)
+    (λ j. leads_by P (Any (Gives P st Other (depth whole_of + 1) (nodes whole_of + 2))) (Any (Gives P st Other (max (depth a) (depth e + 1) + 1) (nodes a + (nodes e + 2) + 1))) (give st whole_of l x t) (any_falls (Gives P st Other) (gives_falls P w st Other) (max (depth a) (depth e + 1) + 1) (max (depth a) (depth e) + 1 + 1) (nodes a + (nodes e + 2) + 1) (nodes a + nodes e + 1 + 2) (omega arith) (omega arith)) (operator_leads P w t g o st whole_of l x))
+operator_leads P w t g o (in_chain q s a b st) e l x = let whole_of : Expression = binary (line_of a) Both s a (binary (line_of b) q s b e) in leads_if P (Any (Gives P st Other (max (depth a) (max (depth b) (depth e + 1) + 1) + 1) (nodes a + (nodes b + (nodes e + 2) + 1) + 1))) (goes 5 t) (push (in_chain q s a b st) e t l) (give st whole_of l x t) (λ j. push_leads P w t o (in_chain q s a b st) e l)
+    (λ j. leads_by P (Any (Gives P st Other (depth whole_of + 1) (nodes whole_of + 2))) (Any (Gives P st Other (max (depth a) (max (depth b) (depth e + 1) + 1) + 1) (nodes a + (nodes b + (nodes e + 2) + 1) + 1))) (give st whole_of l x t) (any_falls (Gives P st Other) (gives_falls P w st Other) (max (depth a) (max (depth b) (depth e + 1) + 1) + 1) (max (depth a) (max (depth b) (depth e) + 1) + 1 + 1) (nodes a + (nodes b + (nodes e + 2) + 1) + 1) (nodes a + (nodes b + nodes e + 1) + 1 + 2) (omega arith) (omega arith)) (operator_leads P w t g o st whole_of l x))
+operator_leads P w t g o st e l x = let Q : Option State → Type 0 = λ z. Leads P (Any (Gives P st Other (depth e + 1) (nodes e + 2))) z in subst Q (sym (pushes st e l x t g)) (push_leads P w t o st e l)
+
+finish_operator : (P : ℕ → ℕ → Type 0) → Down P → (t : Kind) → goes 12 t ≡ true → is_open t ≡ false → (st : Stack) (c : Action) (l : ℕ) (x : List ℕ) → Leads P (Does P st (depth_of_action c) (nodes_of_action c) nx.operating) (finish st c l x t)
+finish_operator P w t g o (in_valof m st) c l x = let r = (inner_of t g).1 in rw r
+    (leads_by P (Any (Gives P st Other (depth_of_action c + 1 + 1) (nodes_of_action c + 1 + 2))) (Any (Gives P st Other (depth_of_action c + 2) (nodes_of_action c + 3))) (give st (valof m c) l x t) (any_falls (Gives P st Other) (gives_falls P w st Other) (depth_of_action c + 2) (depth_of_action c + 1 + 1) (nodes_of_action c + 3) (nodes_of_action c + 1 + 2) (omega arith) (omega arith)) (operator_leads P w t g o st (valof m c) l x))
+finish_operator P w t g o (in_label m y st) c l x = let r = (inner_of t g).1 in rw r (finish_operator P w t g o st (label m y c) l x)
+finish_operator P w t g o (in_guarded gd m e st) c l x =
+    let r = (inner_of t g).1 in
+    let a = guarded_depth gd m e c in
+    let b = guarded_nodes gd m e c in
+    rw r (leads_by P (Does P st (depth_of_action (guarded gd m e c)) (nodes_of_action (guarded gd m e c)) nx.operating) (Does P st (max (depth e) (depth_of_action c) + 1) (nodes e + nodes_of_action c + 1) nx.operating) (finish st (guarded gd m e c) l x t)
+    (does_falls P w st (max (depth e) (depth_of_action c) + 1) (depth_of_action (guarded gd m e c)) (nodes e + nodes_of_action c + 1) (nodes_of_action (guarded gd m e c)) (omega (arith, a)) (omega (arith, b)) nx.operating) (finish_operator P w t g o st (guarded gd m e c) l x))
+finish_operator P w t g o (in_default m st) c l x = let r = (inner_of t g).1 in rw r (finish_operator P w t g o st (default m c) l x)
+finish_operator P w t g o (in_or m e a st) c l x = let r = (inner_of t g).1 in rw r (finish_operator P w t g o st (test m e a c) l x)
+finish_operator P w t g o (in_for m y a b z st) c l x = let r = (inner_of t g).1 in rw r (finish_operator P w t g o st (for_loop m y a b z c) l x)
+finish_operator P w t g o (in_do m e st) c l x = let r = (inner_of t g).1 in let f = (inner_of t g).2 in rw (r, f) tt
+finish_operator P w t g o (in_routine y fs st) c l x = let r = (inner_of t g).1 in rw r (leads_none P ⊥ (defined_by st (routine y.line y.letters fs c) l x t) (defined_none st (routine y.line y.letters fs c) l x t (inner_of t g).0))
+finish_operator P w t g o (in_block b free ds cs st) c l x = let r = (inner_of t g).1 in let f = (inner_of t g).0.3 in let d = (inner_of t g).0.4 in rw (r, f, d) tt
+finish_operator P w t g o st c l x = let r = (inner_of t g).1 in rw r tt
+
+finish_open : (P : ℕ → ℕ → Type 0) → Down P → (st : Stack) (c : Action) (l : ℕ) (x : List ℕ) → Leads P (Does P st (depth_of_action c) (nodes_of_action c) nx.going) (finish st c l x k.Open)
+finish_open P w (in_valof m st) c l x = leads_by P (Any (Gives P st Call (depth_of_action c + 1 + 1) (nodes_of_action c + 1 + 1))) (Any (Gives P st Call (depth_of_action c + 2) (nodes_of_action c + 2))) (give st (valof m c) l x k.Open) (any_falls (Gives P st Call) (gives_falls P w st Call) (depth_of_action c + 2) (depth_of_action c + 1 + 1) (nodes_of_action c + 2) (nodes_of_action c + 1 + 1) (omega arith) (omega arith)) (open_leads P w st (valof m c) l x)
+finish_open P w (in_label m y st) c l x = finish_open P w st (label m y c) l x
+finish_open P w (in_guarded gd m e st) c l x =
+    let a = guarded_depth gd m e c in
+    let b = guarded_nodes gd m e c in
+    leads_by P (Does P st (depth_of_action (guarded gd m e c)) (nodes_of_action (guarded gd m e c)) nx.going) (Does P st (max (depth e) (depth_of_action c) + 1) (nodes e + nodes_of_action c + 1) nx.going) (finish st (guarded gd m e c) l x k.Open)
+    (does_falls P w st (max (depth e) (depth_of_action c) + 1) (depth_of_action (guarded gd m e c)) (nodes e + nodes_of_action c + 1) (nodes_of_action (guarded gd m e c)) (omega (arith, a)) (omega (arith, b)) nx.going) (finish_open P w st (guarded gd m e c) l x)
+finish_open P w (in_default m st) c l x = finish_open P w st (default m c) l x
+finish_open P w (in_or m e a st) c l x = finish_open P w st (test m e a c) l x
+finish_open P w (in_for m y a b z st) c l x = finish_open P w st (for_loop m y a b z c) l x
+finish_open P w (in_routine y fs st) c l x = leads_none P ⊥ (defined_by st (routine y.line y.letters fs c) l x k.Open) (defined_none st (routine y.line y.letters fs c) l x k.Open (refl, refl, refl, refl, refl))
+finish_open P w _ c l x = tt
+
+-- ---- a symbol that goes through all
+
+no_comma : (t : Kind) → assigns t ≡ false → is_comma t ≡ false
+no_comma k.Comma h = absurd cc
+no_comma _ h = refl
+
+no_dests : (t : Kind) (xs : Expressions) (st : Stack) → assigns t ≡ false → dests xs st t ≡ None
+no_dests k.Comma xs st h = absurd cc
+no_dests k.Assign xs st h = absurd cc
+no_dests _ xs st h = refl
+
+start_leads : (P : ℕ → ℕ → Type 0) (st : Stack) (e : Expression) (l : ℕ) (x : List ℕ) (t : Kind) → ((c : Action) → Leads P (Does P st (depth_of_action c) (nodes_of_action c) nx.closing) (finish st c l x t))
+    → Leads P (Started (Does P st) (form_of e) (depth e) (nodes e) nx.closing) (cond (is_call e) (finish st (call_of e) l x t) (cond (is_colon t) (labelled e st) None))
+start_leads P st (apply m s f es) l x t h = h (call m f es)
+start_leads P st (name m y) l x t h = leads_if P (Started (Does P st) Label 1 1 nx.closing) (is_colon t) (Some (maybe (in_label m y st))) None (λ e j. j) (λ e. tt)
+start_leads P st e l x t h = leads_if P (Started (Does P st) (form_of e) (depth e) (nodes e) nx.closing) (is_colon t) None None (λ a. tt) (λ a. tt)
+
+guard_leads : (P : ℕ → ℕ → Type 0) → Down P → (gd : Guard) (m : ℕ) (e : Expression) (st : Stack) → Completes P (behind_sign gd (in_guarded gd m e st)) → Guarded gd (Does P st) (depth e) (nodes e)
+guard_leads P w g.Case m e st (inl h) = inl h
+guard_leads P w g.Case m e st (inr h) = inr (any_falls (Does P st) (does_falls P w st) (max (depth e) 1 + 1) (max (depth e) 1 + 1) (nodes e + 2) (nodes e + 1 + 1) (omega arith) (omega arith) h)
+guard_leads P w _ m e st h = any_falls (Does P st) (does_falls P w st) (max (depth e) 1 + 1) (max (depth e) 1 + 1) (nodes e + 2) (nodes e + 1 + 1) (omega arith) (omega arith) h
+
+limit_leads : (P : ℕ → ℕ → Type 0) → Down P → (t : Kind) (m : ℕ) (y : Mention) (a e : Expression) (st : Stack) → Leads P (Any (Does P st (max (depth a) (max (depth e) 1) + 1) (nodes a + nodes e + 2))) (to_or_do m y a e st t)
+limit_leads P w k.By m y a e st = λ h. any_falls (Does P st) (does_falls P w st) (max (depth a) (max (depth e) 1) + 1) (max (depth a) (max (depth e) (max 1 1)) + 1) (nodes a + nodes e + 2) (nodes a + nodes e + 1 + 2) (omega arith) (omega arith) (from_closing h)
+limit_leads P w k.Do m y a e st = λ h. any_falls (Does P st) (does_falls P w st) (max (depth a) (max (depth e) 1) + 1) (max (depth a) (max (depth e) (max 0 1)) + 1) (nodes a + nodes e + 2) (nodes a + nodes e + 0 + 1 + 1) (omega arith) (omega arith) h
+limit_leads P w _ m y a e st = tt
+
+listed_leads : (P : ℕ → ℕ → Type 0) → Down P → (js : Items) (st : Stack) → Lists P st js → Declares P st (depth_of_items js) (nodes_of_items js)
+listed_leads P w no_items st h = declares_fall P w st 0 2 0 2 (omega arith) (omega arith) h
+listed_leads P w (item l y e is) st h = h
+
+constants_leads : (P : ℕ → ℕ → Type 0) → Down P → (t : Kind) (m : ℕ) (s : Sort) (js : Items) (st : Stack) → Leads P (Declares P st (depth_of_items js) (nodes_of_items js)) (in_constants m s js st t)
+constants_leads P w k.Semicolon m s js st = listed_leads P w js st
+constants_leads P w k.SectionClose m s js st = declared_leads P w st (constants m s js)
+constants_leads P w _ m s js st = tt
+
+mutual
+  give_close : (P : ℕ → ℕ → Type 0) → Down P → (t : Kind) → goes 12 t ≡ false → repeats t ≡ false → assigns t ≡ false → (st : Stack) (e : Expression) (l : ℕ) (x : List ℕ) → Leads P (Gives P st (form_of e) (depth e) (nodes e) nx.closing) (give st e l x t)
+  give_close P w t g r a (in_parens m st) e l x = rw g (leads_if P (Whole (Gives P st) Callable (depth e + 1) (nodes e + 1)) (is_close t) (Some (have st (parens m e))) None (λ j h. h) (λ j. tt))
+  give_close P w t g r a (in_unary m p st) e l x = let low = falls (behind p) 12 t (behind_ok p).1 g in rw low (give_close P w t g r a st (unary m p e) l x)
+  give_close P w t g r a (in_binary q s y st) e l x = let low = falls (inner q) 12 t (inner_ok q).1 g in rw low (give_close P w t g r a st (binary (line_of y) q s y e) l x)
+  give_close P w t g r a (in_chain q s y b st) e l x = let low = falls 5 12 t (omega arith) g in rw low (give_close P w t g r a st (binary (line_of y) Both s y (binary (line_of b) q s b e)) l x)
+  give_close P w t g r a (in_then s y st) e l x = let c = no_comma t a in rw (g, c) tt
+  give_close P w t g r a (in_else s y b st) e l x = rw g (give_close P w t g r a st (choice (line_of y) s y b e) l x)
+  give_close P w t g r a (in_args s y es st) e l x =
+      let c = no_comma t a in
+      let zs : Expressions = each_then es (more e none) in
+      let p = each_depth es e in
+      let q = each_nodes es e in
+      let X : Type 0 = Whole (Gives P st) Call (max (depth y) (max (depth_of_each es) (depth e)) + 1) (nodes y + (nodes_of_each es + nodes e) + 1) in
+      rw (g, c) (leads_if P X (is_close t) (Some (have st (apply (line_of y) s y zs))) None
+      (λ j h. whole_falls (Gives P st) (gives_falls P w st) Call (max (depth y) (max (depth_of_each es) (depth e)) + 1) (max (depth y) (depth_of_each zs) + 1) (nodes y + (nodes_of_each es + nodes e) + 1) (nodes y + nodes_of_each zs + 1) (omega (arith, p)) (omega (arith, q)) h) (λ j. tt))
+  give_close P w t g r a (in_table m es st) e l x =
+      let c = no_comma t a in
+      let zs : Expressions = each_then es (more e none) in
+      let p = each_depth es e in
+      let q = each_nodes es e in
+      rw (g, c) (leads_by P (Gives P st Other (depth_of_each zs + 1) (nodes_of_each zs + 1) nx.closing) (Gives P st Other (max (depth_of_each es) (depth e) + 1) (nodes_of_each es + nodes e + 1) nx.closing) (give st (table m zs) l x t)
+      (gives_falls P w st Other (max (depth_of_each es) (depth e) + 1) (depth_of_each zs + 1) (nodes_of_each es + nodes e + 1) (nodes_of_each zs + 1) (omega (arith, p)) (omega (arith, q)) nx.closing) (give_close P w t g r a st (table m zs) l x))
+  give_close P w t g r a (in_start st) e l x = rw (g, a) (start_leads P st e l x t (λ c. finish_close P w t g r a st c l x))
+  give_close P w t g r a (in_dests xs st) e l x = let d = no_dests t (each_then xs (more e none)) st a in rw (g, d) tt
+  give_close P w t g r a (in_values xs ys st) e l x =
+      let zs : Expressions = each_then ys (more e none) in
+      let p = each_depth ys e in
+      let q = each_nodes ys e in
+      let c = no_comma t a in
+      rw g (counted_leads P (size xs == size ys + 1) (Closed (Does P st) (max (depth_of_each xs) (max (depth_of_each ys) (depth e)) + 1) (nodes_of_each xs + (nodes_of_each ys + nodes e) + 1)) (AtListing (Any (Closed (Does P st) (max (depth_of_each xs) (max (depth_of_each ys) (max (depth e) 1)) + 1) (nodes_of_each xs + (nodes_of_each ys + nodes e) + owed (size xs) (size ys) + 1)))) nx.closing
+      (finish st (assign (line_of_first xs) xs zs) l x t) t (want (in_values xs zs st))
+      (leads_by P (Does P st (max (depth_of_each xs) (depth_of_each zs) + 1) (nodes_of_each xs + nodes_of_each zs + 1) nx.closing) (Does P st (max (depth_of_each xs) (max (depth_of_each ys) (depth e)) + 1) (nodes_of_each xs + (nodes_of_each ys + nodes e) + 1) nx.closing) (finish st (assign (line_of_first xs) xs zs) l x t)
+      (does_falls P w st (max (depth_of_each xs) (max (depth_of_each ys) (depth e)) + 1) (max (depth_of_each xs) (depth_of_each zs) + 1) (nodes_of_each xs + (nodes_of_each ys + nodes e) + 1) (nodes_of_each xs + nodes_of_each zs + 1) (omega (arith, p)) (omega (arith, q)) nx.closing) (finish_close P w t g r a st (assign (line_of_first xs) xs zs) l x))
+      (λ j. absurd (let d = c in cc)))
+  give_close P w t g r a (in_guard gd m st) e l x = rw g (leads_if P (Guarded gd (Does P st) (depth e) (nodes e)) (is_sign_of gd t) (Some (behind_sign gd (in_guarded gd m e st))) None (λ j. guard_leads P w gd m e st) (λ j. tt))
+  give_close P w t g r a (in_test m st) e l x = rw g (leads_if P (Any (Does P st (max (depth e) 1 + 1) (nodes e + 3))) (is_do t) (Some (begin (in_do m e st))) None
+      (λ j h. any_falls (Does P st) (does_falls P w st) (max (depth e) 1 + 1) (max (depth e) (max 1 1) + 1) (nodes e + 3) (nodes e + 1 + 2) (omega arith) (omega arith) (from_closing h)) (λ j. tt))
+  give_close P w t g r a (in_result m st) e l x = rw g (finish_close P w t g r a st (result m e) l x)
+  give_close P w t g r a (in_while b y st) e l x = rw g (finish_close P w t g r a st (repeat_while (line_of_action y) b y e) l x)
+  give_close P w t g r a (in_from m y st) e l x = rw g (leads_if P (Any (Does P st (max (depth e) 1 + 1) (nodes e + 3))) (is_to t) (Some (want (in_to m y e st))) None
+      (λ j h. any_falls (Does P st) (does_falls P w st) (max (depth e) 1 + 1) (max (depth e) (max 1 1) + 1) (nodes e + 3) (nodes e + 1 + 2) (omega arith) (omega arith) (from_closing h)) (λ j. tt))
+  give_close P w t g r a (in_to m y b st) e l x = rw g (limit_leads P w t m y b e st)
+  give_close P w t g r a (in_by m y b z st) e l x = rw g (leads_if P (Any (Does P st (max (depth b) (max (depth z) (max (depth e) 1)) + 1) (nodes b + nodes z + nodes e + 2))) (is_do t) (Some (begin (in_for m y b z (more e none) st))) None
+      (λ j h. any_falls (Does P st) (does_falls P w st) (max (depth b) (max (depth z) (max (depth e) 1)) + 1) (max (depth b) (max (depth z) (max (max (depth e) 0) 1)) + 1) (nodes b + nodes z + nodes e + 2) (nodes b + nodes z + (nodes e + 0) + 1 + 1) (omega arith) (omega arith) h) (λ j. tt))
+  give_close P w t g r a (in_item m s is y st) e l x =
+      let js : Items = items_then is (item y.line y.letters e no_items) in
+      let p = items_depth is (item y.line y.letters e no_items) in
+      let q = items_nodes is (item y.line y.letters e no_items) in
+      rw g (leads_by P (Declares P st (depth_of_items js) (nodes_of_items js)) (Declares P st (max (depth_of_items is) (depth e + 1)) (nodes_of_items is + (nodes e + 1))) (in_constants m s js st t)
+      (declares_fall P w st (max (depth_of_items is) (depth e + 1)) (depth_of_items js) (nodes_of_items is + (nodes e + 1)) (nodes_of_items js) (omega (arith, p)) (omega (arith, q))) (constants_leads P w t m s js st))
+  give_close P w t g r a (in_function y fs st) e l x = rw g (defined_leads P w t st (function y.line y.letters fs e) l x)
+  give_close P w t g r a (in_value xs is st) e l x =
+      let js : Starts = starts_then is (value e no_starts) in
+      let p = starts_depth is (value e no_starts) in
+      let q = starts_nodes is (value e no_starts) in
+      let c = no_comma t a in
+      rw g (counted_leads P (length xs == start_count is + 1) (AtClosing (Defines P st (max (depth_of_starts is) (depth e) + 1) (nodes_of_starts is + nodes e + 1)))
+      (AtListing (Defines P st (max (depth_of_starts is) (max (depth e) 1) + 1) (nodes_of_starts is + nodes e + owed (length xs) (start_count is) + 1))) nx.closing (defined_by st (variables (line_of_names xs) xs js) l x t) t (due (at_starts xs js st))
+      (leads_by P (Defines P st (depth_of_starts js + 1) (nodes_of_starts js + 1)) (Defines P st (max (depth_of_starts is) (depth e) + 1) (nodes_of_starts is + nodes e + 1)) (defined_by st (variables (line_of_names xs) xs js) l x t)
+      (defines_fall P w st (max (depth_of_starts is) (depth e) + 1) (depth_of_starts js + 1) (nodes_of_starts is + nodes e + 1) (nodes_of_starts js + 1) (omega (arith, p)) (omega (arith, q))) (defined_leads P w t st (variables (line_of_names xs) xs js) l x))
+      (λ j. absurd (let d = c in cc)))
+  give_close P w t g r a (in_vector m xs is st) e l x =
+      let js : Starts = starts_then is (vector m e no_starts) in
+      let p = starts_depth is (vector m e no_starts) in
+      let q = starts_nodes is (vector m e no_starts) in
+      let c = no_comma t a in
+      rw g (counted_leads P (length xs == start_count is + 1) (AtClosing (Defines P st (max (depth_of_starts is) (depth e) + 1) (nodes_of_starts is + nodes e + 1)))
+      (AtListing (Defines P st (max (depth_of_starts is) (max (depth e) 1) + 1) (nodes_of_starts is + nodes e + owed (length xs) (start_count is) + 1))) nx.closing (defined_by st (variables (line_of_names xs) xs js) l x t) t (due (at_starts xs js st))
+      (leads_by P (Defines P st (depth_of_starts js + 1) (nodes_of_starts js + 1)) (Defines P st (max (depth_of_starts is) (depth e) + 1) (nodes_of_starts is + nodes e + 1)) (defined_by st (variables (line_of_names xs) xs js) l x t)
+      (defines_fall P w st (max (depth_of_starts is) (depth e) + 1) (depth_of_starts js + 1) (nodes_of_starts is + nodes e + 1) (nodes_of_starts js + 1) (omega (arith, p)) (omega (arith, q))) (defined_leads P w t st (variables (line_of_names xs) xs js) l x))
+      (λ j. absurd (let d = c in cc)))
+  give_close P w t g r a _ e l x = rw g tt
+
+  finish_close : (P : ℕ → ℕ → Type 0) → Down P → (t : Kind) → goes 12 t ≡ false → repeats t ≡ false → assigns t ≡ false → (st : Stack) (c : Action) (l : ℕ) (x : List ℕ) → Leads P (Does P st (depth_of_action c) (nodes_of_action c) nx.closing) (finish st c l x t)
+  finish_close P w t g r a (in_valof m st) c l x = rw r (give_close P w t g r a st (valof m c) l x)
+  finish_close P w t g r a (in_label m y st) c l x = rw r (finish_close P w t g r a st (label m y c) l x)
+  finish_close P w t g r a (in_guarded gd m e st) c l x =
+      let p = guarded_depth gd m e c in
+      let q = guarded_nodes gd m e c in
+      rw r (leads_by P (Does P st (depth_of_action (guarded gd m e c)) (nodes_of_action (guarded gd m e c)) nx.closing) (Does P st (max (depth e) (depth_of_action c) + 1) (nodes e + nodes_of_action c + 1) nx.closing) (finish st (guarded gd m e c) l x t)
+      (does_falls P w st (max (depth e) (depth_of_action c) + 1) (depth_of_action (guarded gd m e c)) (nodes e + nodes_of_action c + 1) (nodes_of_action (guarded gd m e c)) (omega (arith, p)) (omega (arith, q)) nx.closing) (finish_close P w t g r a st (guarded gd m e c) l x))
+  finish_close P w t g r a (in_default m st) c l x = rw r (finish_close P w t g r a st (default m c) l x)
+  finish_close P w t g r a (in_do m e st) c l x = rw r (leads_if P (Any (Does P st (max (depth e) (max (depth_of_action c) 1) + 1) (nodes e + nodes_of_action c + 2))) (is_or t) (Some (begin (in_or m e c st))) None
+      (λ j h. any_falls (Does P st) (does_falls P w st) (max (depth e) (max (depth_of_action c) 1) + 1) (max (depth e) (max (depth_of_action c) 1) + 1) (nodes e + nodes_of_action c + 2) (nodes e + nodes_of_action c + 1 + 1) (omega arith) (omega arith) h) (λ j. tt))
+  finish_close P w t g r a (in_or m e y st) c l x = rw r (finish_close P w t g r a st (test m e y c) l x)
+  finish_close P w t g r a (in_for m y b z u st) c l x = rw r (finish_close P w t g r a st (for_loop m y b z u c) l x)
+  finish_close P w t g r a (in_routine y fs st) c l x = rw r (defined_leads P w t st (routine y.line y.letters fs c) l x)
+  finish_close P w t g r a (in_block b free ds cs st) c l x =
+      let zs : Actions = actions_then cs (also c no_actions) in
+      let p = actions_depth cs c in
+      let q = actions_nodes cs c in
+      let X : Type 0 = Any (Does P st (max (depth_of_declarations ds) (max (depth_of_actions cs) (depth_of_action c)) + 1) (nodes_of_declarations ds + (nodes_of_actions cs + nodes_of_action c) + 1)) in
+      rw r (leads_if P X (is_semicolon t) (Some (due (in_block b true ds zs st))) (cond (closes t) (Some (did st (block b ds zs))) None)
+      (λ j h. any_falls (Does P st) (does_falls P w st) (max (depth_of_declarations ds) (max (depth_of_actions cs) (depth_of_action c)) + 1) (max (depth_of_declarations ds) (max (depth_of_actions zs) 0) + 1) (nodes_of_declarations ds + (nodes_of_actions cs + nodes_of_action c) + 1) (nodes_of_declarations ds + (nodes_of_actions zs + 0) + 1) (omega (arith, p)) (omega (arith, q)) h)
+      (λ j. leads_if P X (closes t) (Some (did st (block b ds zs))) None
+      (λ i h. any_falls (Does P st) (does_falls P w st) (max (depth_of_declarations ds) (max (depth_of_actions cs) (depth_of_action c)) + 1) (max (depth_of_declarations ds) (depth_of_actions zs) + 1) (nodes_of_declarations ds + (nodes_of_actions cs + nodes_of_action c) + 1) (nodes_of_declarations ds + nodes_of_actions zs + 1) (omega (arith, p)) (omega (arith, q)) h) (λ i. tt)))
+  finish_close P w t g r a _ c l x = rw r tt
