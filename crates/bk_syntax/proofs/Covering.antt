@@ -1,6 +1,6 @@
 -- A step of the machine leads to nothing that could not be completed before it.
 use Rattle.std.proofs.lemmas.Bool.Decides.{nat_tests}
-use Rattle.std.proofs.Common.{◌≡◌, ◌≤◌, ℕ, ◌+◌, ◌-◌, max, Bool, true, false, cond, ◌==◌, length, Option, Some, None, refl, sym, ap, subst, ◌⊎◌, inl, inr, List, [], ◌∷◌, ◌++◌, length-append, Ok, ◌∙◌, arith}
+use Rattle.std.proofs.Common.{◌≡◌, ◌≤◌, ℕ, ◌+◌, ◌-◌, max, Bool, true, false, cond, ◌==◌, length, Option, Some, None, refl, sym, ap, subst, ◌⊎◌, inl, inr, List, [], ◌∷◌, ◌++◌, length-append, Result, Ok, ◌∙◌, arith}
 use Rattle.bk_lex.specs.Symbol.{Symbol}
 use Rattle.bk_lex.specs.declared.token.Kind.{Kind}
 use Rattle.bk_lex.specs.declared.token.Kind.TheVariants as k
@@ -905,3 +905,184 @@ mutual
       (λ j. leads_if P X (closes t) (Some (did st (block b ds zs))) None
       (λ i h. any_falls (Does P st) (does_falls P w st) (max (depth_of_declarations ds) (max (depth_of_actions cs) (depth_of_action c)) + 1) (max (depth_of_declarations ds) (depth_of_actions zs) + 1) (nodes_of_declarations ds + (nodes_of_actions cs + nodes_of_action c) + 1) (nodes_of_declarations ds + nodes_of_actions zs + 1) (omega (arith, p)) (omega (arith, q)) h) (λ i. tt)))
   finish_close P w t g r a _ c l x = rw r tt
+
+-- ---- where a symbol is due
+
+names_lead : (P : ℕ → ℕ → Type 0) → Down P → (t : Kind) (xs : List Mention) (st : Stack) → Leads P (Defines P st 2 (length xs + 1)) (in_names xs st t)
+names_lead P w k.Comma xs st = λ h. defines_fall P w st 2 2 (length xs + 1) (length xs + 2) (omega arith) (omega arith) h
+names_lead P w k.Equal xs st = λ h. defines_fall P w st 2 (max 0 1 + 1) (length xs + 1) (0 + 1 + owed (length xs) 0 + 1) (omega arith) (omega arith) (starts_any P w xs no_starts st h)
+names_lead P w _ xs st = tt
+
+formals_lead : (P : ℕ → ℕ → Type 0) (t : Kind) (y : Mention) (fs : List Mention) (st : Stack) → Leads P (Defines P st 2 2) (in_formals y fs st t)
+formals_lead P k.Comma y fs st = λ h. h
+formals_lead P k.Close y fs st = λ h. h
+formals_lead P _ y fs st = tt
+
+headed_leads : (P : ℕ → ℕ → Type 0) (t : Kind) (y : Mention) (fs : List Mention) (st : Stack) → Leads P (Defines P st 2 2) (headed y fs st t)
+headed_leads P k.Be y fs st = λ h. from_closing h
+headed_leads P k.Equal y fs st = λ h. from_closing h
+headed_leads P _ y fs st = tt
+
+item_leads : (P : ℕ → ℕ → Type 0) → Down P → (t : Kind) (m : ℕ) (s : Sort) (is : Items) (st : Stack) (l : ℕ) (x : List ℕ) → Leads P (Lists P st is) (take_item m s is st l x t)
+item_leads P w t m s no_items st l x = leads_named P (Declares P st 2 2) t l x (λ y. due (at_sign m s no_items y st)) (λ y h. declares_fall P w st 2 (max 2 0) 2 (0 + 2) (omega arith) (omega arith) h)
+item_leads P w t m s (item b y e is) st l x =
+    let js : Items = item b y e is in
+    let X : Type 0 = Declares P st (depth_of_items js) (nodes_of_items js) in
+    leads_if P X (is_semicolon t) (Some (due (at_items m s js st))) _ (λ j h. h)
+    (λ j. leads_if P X (closes t) (declared st (constants m s js)) _ (λ i. declared_leads P w st (constants m s js))
+    (λ i. leads_named P X t l x (λ z. due (at_sign m s js z st)) (λ z h. declares_fall P w st (depth_of_items js) (max 2 (depth_of_items js)) (nodes_of_items js) (nodes_of_items js + 2) (omega arith) (omega arith) h)))
+
+sign_leads : (P : ℕ → ℕ → Type 0) → Down P → (is : Items) (st : Stack) → Any (AtClosing (Declares P st (max (depth_of_items is) (1 + 1)) (nodes_of_items is + (1 + 1)))) → Declares P st (max 2 (depth_of_items is)) (nodes_of_items is + 2)
+sign_leads P w is st h = declares_fall P w st (max 2 (depth_of_items is)) (max (depth_of_items is) (1 + 1)) (nodes_of_items is + 2) (nodes_of_items is + (1 + 1)) (omega arith) (omega arith) (from_closing h)
+
+due_leads : (P : ℕ → ℕ → Type 0) → Down P → (t : Kind) (st : Stack) (l : ℕ) (x : List ℕ) → Leads P (Due P st) (take_due st l x t)
+due_leads P w t (in_section ds) l x = section_leads P w t ds l
+due_leads P w t (in_block b free ds cs st) l x = block_leads P w t b free ds cs st l x
+due_leads P w t (in_let m ds st) l x = leads_named P (Defines P (in_let m ds st) 2 2) t l x (λ y. due (at_name y (in_let m ds st))) (λ y h. h)
+due_leads P w t (at_name y st) l x =
+    leads_if P (Defines P st 2 2) (is_open t) (Some (due (at_formals y st))) _ (λ j h. h)
+    (λ j. leads_if P (Defines P st 2 2) (inside st) (in_names (y ∷ []) st t) None (λ i. leads_by P (Defines P st 2 (length (y ∷ []) + 1)) (Defines P st 2 2) (in_names (y ∷ []) st t) (defines_fall P w st 2 2 2 (length (y ∷ []) + 1) (omega arith) (omega arith)) (names_lead P w t (y ∷ []) st)) (λ i. tt))
+due_leads P w t (at_formals y st) l x = leads_if P (Defines P st 2 2) (is_close t) (Some (due (at_head y [] st))) _ (λ j h. h) (λ j. leads_named P (Defines P st 2 2) t l x (λ f. due (at_formal_end y (f ∷ []) st)) (λ f h. h))
+due_leads P w t (at_formal y fs st) l x = leads_named P (Defines P st 2 2) t l x (λ f. due (at_formal_end y (fs ++ f ∷ []) st)) (λ f h. h)
+due_leads P w t (at_formal_end y fs st) l x = formals_lead P t y fs st
+due_leads P w t (at_head y fs st) l x = headed_leads P t y fs st
+due_leads P w t (at_variable xs st) l x = leads_named P (Defines P st 2 (length xs + 2)) t l x (λ y. due (at_variable_end (xs ++ y ∷ []) st)) (λ y h. let z = length-append xs (y ∷ []) in defines_fall P w st 2 2 (length xs + 2) (length (xs ++ y ∷ []) + 1) (omega arith) (omega (arith, z)) h)
+due_leads P w t (at_variable_end xs st) l x = names_lead P w t xs st
+due_leads P w t (at_starts xs is st) l x = leads_if P (Any (Gives P (in_value xs is st) Label 1 1)) (is_vec t) (Some (want (in_vector l xs is st))) (take_operand (in_value xs is st) l x t) (λ j h. h) (λ j. operand_leads P w t (in_value xs is st) l x)
+due_leads P w t (at_opening m s st) l x = leads_if P (Declares P st 2 2) (opens t) (Some (due (at_items m s no_items st))) None (λ j h. h) (λ j. tt)
+due_leads P w t (at_items m s is st) l x = item_leads P w t m s is st l x
+due_leads P w t (at_sign m s is y st) l x =
+    let X : Type 0 = Declares P st (max 2 (depth_of_items is)) (nodes_of_items is + 2) in
+    leads_if P X (is_equal t) (Some (want (in_item m s is y st))) _ (λ j. sign_leads P w is st)
+    (λ j. leads_if P X (is_colon t) (Some (want (in_item m s is y st))) None (λ i. sign_leads P w is st) (λ i. tt))
+due_leads P w t (at_goto m st) l x = leads_named P (Any (Does P st 1 1)) t l x (λ y. did st (goto m y)) (λ y h. h)
+due_leads P w t (at_for m st) l x = leads_named P (Any (Does P st 2 4)) t l x (λ y. due (at_forward m y st)) (λ y h. h)
+due_leads P w t (at_forward m y st) l x = leads_if P (Any (Does P st 2 4)) (is_equal t) (Some (want (in_from m y st))) None (λ j h. any_falls (Does P st) (does_falls P w st) 2 (max 1 1 + 1) 4 (1 + 3) (omega arith) (omega arith) (from_closing h)) (λ j. tt)
+due_leads P w t (at_default m st) l x = leads_if P (Due P (at_default m st)) (is_colon t) (Some (maybe (in_default m st))) None (λ j h. h) (λ j. tt)
+due_leads P w t _ l x = tt
+
+-- ---- any symbol
+
+-- what holds of each class holds of each symbol
+by_class : (Q : Kind → Type 0) → Q k.Assign → Q k.Comma → Q k.Repeat → Q k.RepeatWhile → Q k.RepeatUntil → Q k.Open
+    → ((t : Kind) → goes 12 t ≡ true → is_open t ≡ false → Q t) → ((t : Kind) → goes 12 t ≡ false → repeats t ≡ false → assigns t ≡ false → Q t) → (t : Kind) → Q t
+by_class Q a b c d e o f h k.Assign = a
+by_class Q a b c d e o f h k.Comma = b
+by_class Q a b c d e o f h k.Repeat = c
+by_class Q a b c d e o f h k.RepeatWhile = d
+by_class Q a b c d e o f h k.RepeatUntil = e
+by_class Q a b c d e o f h k.Open = o
+by_class Q a b c d e o f h k.Arrow = f k.Arrow refl refl
+by_class Q a b c d e o f h k.Bang = f k.Bang refl refl
+by_class Q a b c d e o f h k.Percent = f k.Percent refl refl
+by_class Q a b c d e o f h k.Star = f k.Star refl refl
+by_class Q a b c d e o f h k.Slash = f k.Slash refl refl
+by_class Q a b c d e o f h k.Rem = f k.Rem refl refl
+by_class Q a b c d e o f h k.Plus = f k.Plus refl refl
+by_class Q a b c d e o f h k.Minus = f k.Minus refl refl
+by_class Q a b c d e o f h k.Equal = f k.Equal refl refl
+by_class Q a b c d e o f h k.NotEqual = f k.NotEqual refl refl
+by_class Q a b c d e o f h k.Less = f k.Less refl refl
+by_class Q a b c d e o f h k.Greater = f k.Greater refl refl
+by_class Q a b c d e o f h k.LessEqual = f k.LessEqual refl refl
+by_class Q a b c d e o f h k.GreaterEqual = f k.GreaterEqual refl refl
+by_class Q a b c d e o f h k.ShiftLeft = f k.ShiftLeft refl refl
+by_class Q a b c d e o f h k.ShiftRight = f k.ShiftRight refl refl
+by_class Q a b c d e o f h k.Ampersand = f k.Ampersand refl refl
+by_class Q a b c d e o f h k.Bar = f k.Bar refl refl
+by_class Q a b c d e o f h k.Eqv = f k.Eqv refl refl
+by_class Q a b c d e o f h k.Neqv = f k.Neqv refl refl
+by_class Q a b c d e o f h t = h t refl refl refl
+
+operated : (P : ℕ → ℕ → Type 0) → Down P → (st : Stack) (d n : ℕ) → Any (Gives P st Other (d + 1) (n + 2)) → Any (Gives P st Call (d + 1) (n + 1))
+operated P w st d n h = any_falls (Gives P st Call) (gives_falls P w st Call) (d + 1) (d + 1) (n + 1) (n + 2) (omega arith) (omega arith) (h.0, called P st (d + 1) (n + 2) h.0 h.1)
+
+have_leads : (P : ℕ → ℕ → Type 0) → Down P → (st : Stack) (e : Expression) (l : ℕ) (x : List ℕ) (t : Kind) → Leads P (Whole (Gives P st) (form_of e) (depth e) (nodes e)) (give st e l x t)
+have_leads P w st e l x =
+    let X : Type 0 = Whole (Gives P st) (form_of e) (depth e) (nodes e) in
+    let at : (c : Next) → Gives P st (form_of e) (depth e) (nodes e) c → X = λ c h. inl (c, h) in
+    by_class (λ t. Leads P X (give st e l x t))
+    (leads_by P (Gives P st (form_of e) (depth e) (nodes e) nx.assigning) X (give st e l x k.Assign) (at nx.assigning) (give_assign P w st e l x))
+    (leads_by P (Gives P st (form_of e) (depth e) (nodes e) nx.listing) X (give st e l x k.Comma) (at nx.listing) (give_comma P w st e l x))
+    (leads_by P (Gives P st (form_of e) (depth e) (nodes e) nx.repeating) X (give st e l x k.Repeat) (at nx.repeating) (give_repeat P w st e l x))
+    (leads_by P (Gives P st (form_of e) (depth e) (nodes e) nx.repeating) X (give st e l x k.RepeatWhile) (at nx.repeating) (give_repeat_while P w st e l x))
+    (leads_by P (Gives P st (form_of e) (depth e) (nodes e) nx.repeating) X (give st e l x k.RepeatUntil) (at nx.repeating) (give_repeat_until P w st e l x))
+    (leads_by P (Any (Gives P st Call (depth e + 1) (nodes e + 1))) X (give st e l x k.Open) (λ h. inr h) (open_leads P w st e l x))
+    (λ t g o. leads_by P (Any (Gives P st Other (depth e + 1) (nodes e + 2))) X (give st e l x t) (λ h. inr (operated P w st (depth e) (nodes e) h)) (operator_leads P w t g o st e l x))
+    (λ t g r a. leads_by P (Gives P st (form_of e) (depth e) (nodes e) nx.closing) X (give st e l x t) (at nx.closing) (give_close P w t g r a st e l x))
+
+did_leads : (P : ℕ → ℕ → Type 0) → Down P → (st : Stack) (c : Action) (l : ℕ) (x : List ℕ) (t : Kind) → Leads P (Any (Does P st (depth_of_action c) (nodes_of_action c))) (finish st c l x t)
+did_leads P w st c l x =
+    let F : ℕ → ℕ → Next → Type 0 = Does P st in
+    let d : ℕ = depth_of_action c in
+    let m : ℕ = nodes_of_action c in
+    let X : Type 0 = Any (F d m) in
+    let at : (z : Next) → F d m z → X = λ z h. (z, h) in
+    let more_of : Any (F (d + 1) (m + 1)) → X = any_falls F (does_falls P w st) d (d + 1) m (m + 1) (omega arith) (omega arith) in
+    by_class (λ t. Leads P X (finish st c l x t))
+    (leads_by P (F d m nx.assigning) X (finish st c l x k.Assign) (at nx.assigning) (finish_assign P w st c l x))
+    (leads_by P (F d m nx.listing) X (finish st c l x k.Comma) (at nx.listing) (finish_comma P w st c l x))
+    (leads_by P (Any (F (d + 1) (m + 1))) X (finish st c l x k.Repeat) more_of (finish_repeat P w st c l x))
+    (leads_by P (Any (F (d + 1) (m + 1))) X (finish st c l x k.RepeatWhile) more_of (finish_repeat_while P w st c l x))
+    (leads_by P (Any (F (d + 1) (m + 1))) X (finish st c l x k.RepeatUntil) more_of (finish_repeat_until P w st c l x))
+    (leads_by P (F d m nx.going) X (finish st c l x k.Open) (at nx.going) (finish_open P w st c l x))
+    (λ t g o. leads_by P (F d m nx.operating) X (finish st c l x t) (at nx.operating) (finish_operator P w t g o st c l x))
+    (λ t g r a. leads_by P (F d m nx.closing) X (finish st c l x t) (at nx.closing) (finish_close P w t g r a st c l x))
+
+-- where a command is missing behind a colon
+empty_leads : (P : ℕ → ℕ → Type 0) → Down P → (st : Stack) (c : Action) (l : ℕ) (x : List ℕ) (t : Kind) → begins_command t ≡ false → Leads P (Any (Missing (Does P st) (depth_of_action c) (nodes_of_action c))) (finish st c l x t)
+empty_leads P w st c l x =
+    let F : ℕ → ℕ → Next → Type 0 = Does P st in
+    let d : ℕ = depth_of_action c in
+    let m : ℕ = nodes_of_action c in
+    let X : Type 0 = Any (Missing F d m) in
+    by_class (λ t. begins_command t ≡ false → Leads P X (finish st c l x t))
+    (λ b. leads_by P (F d m nx.assigning) X (finish st c l x k.Assign) (λ h. (nx.assigning, h)) (finish_assign P w st c l x))
+    (λ b. leads_by P (F d m nx.listing) X (finish st c l x k.Comma) (λ h. (nx.listing, h)) (finish_comma P w st c l x))
+    (λ b. leads_by P (Any (F (d + 1) (m + 1))) X (finish st c l x k.Repeat) (λ h. (nx.repeating, h)) (finish_repeat P w st c l x))
+    (λ b. leads_by P (Any (F (d + 1) (m + 1))) X (finish st c l x k.RepeatWhile) (λ h. (nx.repeating, h)) (finish_repeat_while P w st c l x))
+    (λ b. leads_by P (Any (F (d + 1) (m + 1))) X (finish st c l x k.RepeatUntil) (λ h. (nx.repeating, h)) (finish_repeat_until P w st c l x))
+    (λ b. absurd cc)
+    (λ t g o b. leads_by P (F d m nx.operating) X (finish st c l x t) (λ h. (nx.operating, h)) (finish_operator P w t g o st c l x))
+    (λ t g r a b. leads_by P (F d m nx.closing) X (finish st c l x t) (λ h. (nx.closing, h)) (finish_close P w t g r a st c l x))
+
+missing_leads : (P : ℕ → ℕ → Type 0) → Down P → (st : Stack) (l : ℕ) (x : List ℕ) (t : Kind) → begins_command t ≡ false → Leads P (Misses P st) (without st l x t)
+missing_leads P w (in_label m y st) l x t b = empty_leads P w st (label m y empty) l x t b
+missing_leads P w (in_guarded gd m e st) l x t b =
+    let a = guarded_depth gd m e empty in
+    let z = guarded_nodes gd m e empty in
+    leads_by P (Any (Missing (Does P st) (depth_of_action (guarded gd m e empty)) (nodes_of_action (guarded gd m e empty)))) (Any (Missing (Does P st) (depth e + 1) (nodes e + 1))) (finish st (guarded gd m e empty) l x t)
+    (any_missing (Does P st) (does_falls P w st) (depth e + 1) (depth_of_action (guarded gd m e empty)) (nodes e + 1) (nodes_of_action (guarded gd m e empty)) (omega (arith, a)) (omega (arith, z))) (empty_leads P w st (guarded gd m e empty) l x t b)
+missing_leads P w (in_default m st) l x t b = empty_leads P w st (default m empty) l x t b
+missing_leads P w _ l x t b = tt
+
+pub step_leads : (P : ℕ → ℕ → Type 0) → Down P → (x : State) (l : ℕ) (s : List ℕ) (t : Kind) → Leads P (Completes P x) (stepped_by x l s t)
+step_leads P w (want st) l s t = operand_leads P w t st l s
+step_leads P w (have st e) l s t = have_leads P w st e l s t
+step_leads P w (begin st) l s t = command_leads P w t st l s
+step_leads P w (maybe st) l s t = leads_if P (Completes P (maybe st)) (begins_command t) (take_command st l s t) (without st l s t)
+    (λ b. leads_by P (Any (Does P st 1 1)) (Completes P (maybe st)) (take_command st l s t) (λ h. inr h) (command_leads P w t st l s))
+    (λ b. leads_by P (Misses P st) (Completes P (maybe st)) (without st l s t) (λ h. inl h) (missing_leads P w st l s t b))
+step_leads P w (did st c) l s t = did_leads P w st c l s t
+step_leads P w (due st) l s t = due_leads P w t st l s
+
+-- ---- all the symbols
+
+whole_leads : (P : ℕ → ℕ → Type 0) → Down P → (X : Type 0) (r : Option State) (ds : Declarations) → Leads P X r → whole r ≡ Ok ds → P (depth_of_declarations ds) (nodes_of_declarations ds) → X
+whole_leads P w X None ds h is p = absurd cc
+whole_leads P w X (Some (due (in_section es))) ds h is p =
+    let same : ds ≡ es = cc in
+    let Q : Declarations → Type 0 = λ z. P (depth_of_declarations z) (nodes_of_declarations z) in
+    h (w (max (depth_of_declarations es) 0) (depth_of_declarations es) (nodes_of_declarations es + 0) (nodes_of_declarations es) (omega arith) (omega arith) (subst Q same p))
+whole_leads P w X (Some (due _)) ds h is p = absurd cc
+whole_leads P w X (Some _) ds h is p = absurd cc
+
+going_leads : (P : ℕ → ℕ → Type 0) (X : Type 0) (ts : List Symbol) (r : Option State) (f : State → Result Declarations (List Symbol)) (ds : Declarations) → Leads P X r → going ts f r ≡ Ok ds → ((y : State) → f y ≡ Ok ds → Completes P y) → X
+going_leads P X ts None f ds h is j = absurd cc
+going_leads P X ts (Some y) f ds h is j = h (j y is)
+
+-- each section that is read from a state on is one to which it can be completed
+pub run_completes : (P : ℕ → ℕ → Type 0) → Down P → (ts : List Symbol) (x : State) (ds : Declarations) → run ts x ≡ Ok ds → P (depth_of_declarations ds) (nodes_of_declarations ds) → Completes P x
+unfolding run
+run_completes P w [] x ds is p = whole_leads P w (Completes P x) (stepped_by x 1 [] k.Semicolon) ds (step_leads P w x 1 [] k.Semicolon) is p
+run_completes P w (t ∷ ts) x ds is p = going_leads P (Completes P x) (t ∷ ts) (step x t) (run ts) ds (step_leads P w x t.line t.text t.kind) is (λ y r. run_completes P w ts y ds r p)
