@@ -6,6 +6,8 @@ use Rattle.bk_lex.specs.declared.token.Kind.{Kind}
 use Rattle.bk_lex.specs.declared.token.Kind.TheVariants as k
 use Rattle.bk_syntax.specs.declared.tree.Operator.{Operator}
 use Rattle.bk_syntax.specs.declared.tree.Operator.TheVariants.{Both}
+use Rattle.bk_syntax.specs.declared.tree.Operator.TheVariants as ops
+use Rattle.std.specs.Prelude.{nat_lt}
 use Rattle.bk_syntax.specs.declared.tree.Prefix.{Prefix}
 use Rattle.bk_syntax.specs.declared.tree.Sort.{Sort}
 use Rattle.bk_syntax.specs.declared.symbols.Guard.{Guard}
@@ -19,7 +21,7 @@ use Rattle.bk_syntax.specs.Grammar.{line_of, line_of_first, line_of_names, line_
 use Rattle.bk_syntax.specs.Machine.{each_then, actions_then, declarations_then, items_then, definitions_then, starts_then, Stack, in_section, in_block, in_let, at_name, at_formals, at_formal, at_formal_end, at_head, at_variable, at_variable_end, at_starts, at_opening, at_items, at_sign, at_goto, at_for, at_forward, at_default, in_parens, in_unary, in_binary, in_chain, in_then, in_else, in_args, in_table, in_start, in_dests, in_values, in_guard, in_test, in_result, in_while, in_from, in_to, in_by, in_item, in_function, in_value, in_vector, in_valof, in_label, in_guarded, in_default, in_do, in_or, in_for, in_routine, State, want, have, begin, maybe, did, due, linked, infixed, push, is_close, is_colon, is_do, is_or, is_to, is_equal, is_semicolon, opens, closes, is_vec, is_let, is_open, is_sign_of, if_is, named, guarded, behind_sign, no_args, bars, take_operand, take_command, sorted, take_declaration, take_in_section, in_head, take_in_block, declared, declared_by, defined_by, again, dests, labelled, is_call, call_of, in_constants, to_or_do, give, finish, without, inside, in_names, in_formals, headed, take_item, take_due, step, prefixed, counted, whole, run, stepped_by, going}
 use Rattle.bk_syntax.specs.Sizes.{form_of, owed}
 use Rattle.bk_syntax.specs.Completions as nx
-use Rattle.bk_syntax.specs.Completions.{Next, Any, AtClosing, AtListing, AtArgument, AtAssignment, Unlisted, AtPart, If, Closed, Missing, Started, Answered, Whole, Guarded, Gives, Does, Defines, Declares, Wants, Misses, Lists, Due, Completes}
+use Rattle.bk_syntax.specs.Completions.{Next, Any, AtClosing, AtListing, AtArgument, AtAssignment, Unlisted, AtPart, If, Closed, Missing, Started, Answered, Whole, Guarded, Taken, Gives, Does, Operates, Defines, Declares, Wants, Misses, Lists, Due, Completes}
 use Rattle.bk_syntax.proofs.Before.{falls, behind_ok, inner_ok}
 use Rattle.bk_syntax.proofs.Steps.{pushes, repeated, size_then, count_then}
 use Rattle.bk_syntax.proofs.Trees.{each_depth, each_nodes, actions_depth, actions_nodes, declarations_depth, declarations_nodes, definitions_depth, definitions_nodes, items_depth, items_nodes, starts_depth, starts_nodes}
@@ -153,9 +155,19 @@ again_leads P w _ st c = tt
 
 -- ---- an operand is due
 
-valof_least : (P : ℕ → ℕ → Type 0) → Down P → (st : Stack) → Any (Answered (Gives P st) 1 1) → Any (Gives P st Label 1 1)
+operates_by : (P : ℕ → ℕ → Type 0) → Down P → (b : Bool) (o : Operator) (s : ℕ) (a : Expression) (st : Stack) (d n : ℕ) → Taken b (Any (Gives P st Other (max (depth a) (d + 1) + 1) (nodes a + (n + 2) + 1))) (Operates P st (Gives P st) (max (depth a) d + 1) (nodes a + n + 1))
+    → (Operates P st (Gives P st) (max (depth a) d + 1) (nodes a + n + 1) → Any (Gives P st Other (max (depth a) d + 1 + 1) (nodes a + n + 1 + 2))) → Any (Gives P st Other (max (depth a) (d + 1) + 1) (nodes a + (n + 2) + 1))
+operates_by P w true o s a st d n h f = h
+operates_by P w false o s a st d n h f = any_falls (Gives P st Other) (gives_falls P w st Other) (max (depth a) (d + 1) + 1) (max (depth a) d + 1 + 1) (nodes a + (n + 2) + 1) (nodes a + n + 1 + 2) (omega arith) (omega arith) (f h)
+
+-- an operator is taken on no stack that could not go on with it
+operates_any : (P : ℕ → ℕ → Type 0) → Down P → (st : Stack) (d n : ℕ) → Operates P st (Gives P st) d n → Any (Gives P st Other (d + 1) (n + 2))
+operates_any P w (in_binary o s a st) d n h = operates_by P w (nat_lt 1 (inner o)) o s a st d n h (operates_any P w st (max (depth a) d + 1) (nodes a + n + 1))
+operates_any P w st d n h = h
+
+valof_least : (P : ℕ → ℕ → Type 0) → Down P → (st : Stack) → Any (Answered (Gives P st) (Operates P st (Gives P st)) 1 1) → Any (Gives P st Label 1 1)
 valof_least P w st (nx.going, h) = least P w st Call 3 3 (omega arith) (omega arith) h.0 h.1
-valof_least P w st (nx.operating, h) = least P w st Other 3 4 (omega arith) (omega arith) h.0 h.1
+valof_least P w st (nx.operating, h) = let y = operates_any P w st 2 2 h in least P w st Other 3 4 (omega arith) (omega arith) y.0 y.1
 valof_least P w st (nx.repeating, h) = absurd h
 valof_least P w st (nx.closing, h) = least P w st Callable 2 2 (omega arith) (omega arith) nx.closing h
 valof_least P w st (nx.assigning, h) = least P w st Callable 2 2 (omega arith) (omega arith) nx.assigning h
@@ -730,18 +742,35 @@ push_leads P w k.Open o st e l = absurd cc
 push_leads P w k.Arrow o st e l = λ h. any_falls (Gives P st Other) (gives_falls P w st Other) (depth e + 1) (max (depth e) (max 1 1) + 1) (nodes e + 2) (nodes e + 1 + 2) (omega arith) (omega arith) (from_listing h)
 push_leads P w t o st e l = infixed_leads P w (infix_of t) st e l
 
-operator_leads : (P : ℕ → ℕ → Type 0) → Down P → (t : Kind) → goes 12 t ≡ true → is_open t ≡ false → (st : Stack) (e : Expression) (l : ℕ) (x : List ℕ) → Leads P (Any (Gives P st Other (depth e + 1) (nodes e + 2))) (give st e l x t)
+none_goes : (t : Kind) → is_open t ≡ false → goes 1 t ≡ false
+none_goes k.Open h = absurd cc
+none_goes _ h = refl
+
+goes_tight : (q : Operator) (t : Kind) → is_open t ≡ false → goes (inner q) t ≡ true → nat_lt 1 (inner q) ≡ true
+goes_tight ops.Subscript t o h = absurd (let z = none_goes t o in cc)
+goes_tight ops.Byte t o h = absurd (let z = none_goes t o in cc)
+goes_tight _ t o h = refl
+
+push_binary : (P : ℕ → ℕ → Type 0) → Down P → (t : Kind) → is_open t ≡ false → (q : Operator) (s : ℕ) (a : Expression) (st : Stack) (e : Expression) (l : ℕ) → goes (inner q) t ≡ true → Leads P (Operates P (in_binary q s a st) (Gives P (in_binary q s a st)) (depth e) (nodes e)) (push (in_binary q s a st) e t l)
+push_binary P w t o q s a st e l h =
+    let Q : Bool → Type 0 = λ z. Leads P (Taken z (Any (Gives P st Other (max (depth a) (depth e + 1) + 1) (nodes a + (nodes e + 2) + 1))) (Operates P st (Gives P st) (max (depth a) (depth e) + 1) (nodes a + nodes e + 1))) (push (in_binary q s a st) e t l) in
+    subst Q (sym (goes_tight q t o h)) (push_leads P w t o (in_binary q s a st) e l)
+
+pass_binary : (P : ℕ → ℕ → Type 0) → Down P → (b : Bool) (a : Expression) (st : Stack) (d n : ℕ) → Operates P st (Gives P st) (max (depth a) d + 1) (nodes a + n + 1) → Taken b (Any (Gives P st Other (max (depth a) (d + 1) + 1) (nodes a + (n + 2) + 1))) (Operates P st (Gives P st) (max (depth a) d + 1) (nodes a + n + 1))
+pass_binary P w true a st d n h = any_falls (Gives P st Other) (gives_falls P w st Other) (max (depth a) (d + 1) + 1) (max (depth a) d + 1 + 1) (nodes a + (n + 2) + 1) (nodes a + n + 1 + 2) (omega arith) (omega arith) (operates_any P w st (max (depth a) d + 1) (nodes a + n + 1) h)
+pass_binary P w false a st d n h = h
+
+operator_leads : (P : ℕ → ℕ → Type 0) → Down P → (t : Kind) → goes 12 t ≡ true → is_open t ≡ false → (st : Stack) (e : Expression) (l : ℕ) (x : List ℕ) → Leads P (Operates P st (Gives P st) (depth e) (nodes e)) (give st e l x t)
 operator_leads P w t g o (in_unary m p st) e l x = leads_if P (Any (Gives P st Other (depth e + 1 + 1) (nodes e + 2 + 1))) (goes (behind p) t) (push (in_unary m p st) e t l) (give st (unary m p e) l x t) (λ j. push_leads P w t o (in_unary m p st) e l)
-    (λ j. leads_by P (Any (Gives P st Other (depth e + 1 + 1) (nodes e + 1 + 2))) (Any (Gives P st Other (depth e + 1 + 1) (nodes e + 2 + 1))) (give st (unary m p e) l x t) (any_falls (Gives P st Other) (gives_falls P w st Other) (depth e + 1 + 1) (depth e + 1 + 1) (nodes e + 2 + 1) (nodes e + 1 + 2) (omega arith) (omega arith)) (operator_leads P w t g o st (unary m p e) l x))
-operator_leads P w t g o (in_binary q s a st) e l x = let whole_of : Expression = binary (line_of a) q s a e in leads_if P (Any (Gives P st Other (max (depth a) (depth e + 1) + 1) (nodes a + (nodes e + 2) + 1))) (goes (inner q) t) (push (in_binary q s a st) e t l) (give st whole_of l x t) (λ j. push_leads P w t o (in_binary q s a st) e l)
-    (λ j. leads_by P (Any (Gives P st Other (depth whole_of + 1) (nodes whole_of + 2))) (Any (Gives P st Other (max (depth a) (depth e + 1) + 1) (nodes a + (nodes e + 2) + 1))) (give st whole_of l x t) (any_falls (Gives P st Other) (gives_falls P w st Other) (max (depth a) (depth e + 1) + 1) (max (depth a) (depth e) + 1 + 1) (nodes a + (nodes e + 2) + 1) (nodes a + nodes e + 1 + 2) (omega arith) (omega arith)) (operator_leads P w t g o st whole_of l x))
+    (λ j. leads_by P (Operates P st (Gives P st) (depth e + 1) (nodes e + 1)) (Any (Gives P st Other (depth e + 1 + 1) (nodes e + 2 + 1))) (give st (unary m p e) l x t) (λ h. any_falls (Gives P st Other) (gives_falls P w st Other) (depth e + 1 + 1) (depth e + 1 + 1) (nodes e + 2 + 1) (nodes e + 1 + 2) (omega arith) (omega arith) (operates_any P w st (depth e + 1) (nodes e + 1) h)) (operator_leads P w t g o st (unary m p e) l x))
+operator_leads P w t g o (in_binary q s a st) e l x = let whole_of : Expression = binary (line_of a) q s a e in leads_if P (Operates P (in_binary q s a st) (Gives P (in_binary q s a st)) (depth e) (nodes e)) (goes (inner q) t) (push (in_binary q s a st) e t l) (give st whole_of l x t) (λ j. push_binary P w t o q s a st e l j)
+    (λ j. leads_by P (Operates P st (Gives P st) (max (depth a) (depth e) + 1) (nodes a + nodes e + 1)) (Operates P (in_binary q s a st) (Gives P (in_binary q s a st)) (depth e) (nodes e)) (give st whole_of l x t) (pass_binary P w (nat_lt 1 (inner q)) a st (depth e) (nodes e)) (operator_leads P w t g o st whole_of l x))
 operator_leads P w t g o (in_chain q s a b st) e l x = let whole_of : Expression = binary (line_of a) Both s a (binary (line_of b) q s b e) in leads_if P (Any (Gives P st Other (max (depth a) (max (depth b) (depth e + 1) + 1) + 1) (nodes a + (nodes b + (nodes e + 2) + 1) + 1))) (goes 5 t) (push (in_chain q s a b st) e t l) (give st whole_of l x t) (λ j. push_leads P w t o (in_chain q s a b st) e l)
-    (λ j. leads_by P (Any (Gives P st Other (depth whole_of + 1) (nodes whole_of + 2))) (Any (Gives P st Other (max (depth a) (max (depth b) (depth e + 1) + 1) + 1) (nodes a + (nodes b + (nodes e + 2) + 1) + 1))) (give st whole_of l x t) (any_falls (Gives P st Other) (gives_falls P w st Other) (max (depth a) (max (depth b) (depth e + 1) + 1) + 1) (max (depth a) (max (depth b) (depth e) + 1) + 1 + 1) (nodes a + (nodes b + (nodes e + 2) + 1) + 1) (nodes a + (nodes b + nodes e + 1) + 1 + 2) (omega arith) (omega arith)) (operator_leads P w t g o st whole_of l x))
-operator_leads P w t g o st e l x = let Q : Option State → Type 0 = λ z. Leads P (Any (Gives P st Other (depth e + 1) (nodes e + 2))) z in subst Q (sym (pushes st e l x t g)) (push_leads P w t o st e l)
+    (λ j. leads_by P (Operates P st (Gives P st) (depth whole_of) (nodes whole_of)) (Any (Gives P st Other (max (depth a) (max (depth b) (depth e + 1) + 1) + 1) (nodes a + (nodes b + (nodes e + 2) + 1) + 1))) (give st whole_of l x t) (λ h. any_falls (Gives P st Other) (gives_falls P w st Other) (max (depth a) (max (depth b) (depth e + 1) + 1) + 1) (max (depth a) (max (depth b) (depth e) + 1) + 1 + 1) (nodes a + (nodes b + (nodes e + 2) + 1) + 1) (nodes a + (nodes b + nodes e + 1) + 1 + 2) (omega arith) (omega arith) (operates_any P w st (max (depth a) (max (depth b) (depth e) + 1) + 1) (nodes a + (nodes b + nodes e + 1) + 1) h)) (operator_leads P w t g o st whole_of l x))
+operator_leads P w t g o st e l x = let Q : Option State → Type 0 = λ z. Leads P (Operates P st (Gives P st) (depth e) (nodes e)) z in subst Q (sym (pushes st e l x t g)) (push_leads P w t o st e l)
 
 finish_operator : (P : ℕ → ℕ → Type 0) → Down P → (t : Kind) → goes 12 t ≡ true → is_open t ≡ false → (st : Stack) (c : Action) (l : ℕ) (x : List ℕ) → Leads P (Does P st (depth_of_action c) (nodes_of_action c) nx.operating) (finish st c l x t)
-finish_operator P w t g o (in_valof m st) c l x = let r = (inner_of t g).1 in rw r
-    (leads_by P (Any (Gives P st Other (depth_of_action c + 1 + 1) (nodes_of_action c + 1 + 2))) (Any (Gives P st Other (depth_of_action c + 2) (nodes_of_action c + 3))) (give st (valof m c) l x t) (any_falls (Gives P st Other) (gives_falls P w st Other) (depth_of_action c + 2) (depth_of_action c + 1 + 1) (nodes_of_action c + 3) (nodes_of_action c + 1 + 2) (omega arith) (omega arith)) (operator_leads P w t g o st (valof m c) l x))
+finish_operator P w t g o (in_valof m st) c l x = let r = (inner_of t g).1 in rw r (operator_leads P w t g o st (valof m c) l x)
 finish_operator P w t g o (in_label m y st) c l x = let r = (inner_of t g).1 in rw r (finish_operator P w t g o st (label m y c) l x)
 finish_operator P w t g o (in_guarded gd m e st) c l x =
     let r = (inner_of t g).1 in
@@ -1008,7 +1037,7 @@ have_leads P w st e l x =
     (leads_by P (Gives P st (form_of e) (depth e) (nodes e) nx.repeating) X (give st e l x k.RepeatWhile) (at nx.repeating) (give_repeat_while P w st e l x))
     (leads_by P (Gives P st (form_of e) (depth e) (nodes e) nx.repeating) X (give st e l x k.RepeatUntil) (at nx.repeating) (give_repeat_until P w st e l x))
     (leads_by P (Any (Gives P st Call (depth e + 1) (nodes e + 1))) X (give st e l x k.Open) (λ h. inr h) (open_leads P w st e l x))
-    (λ t g o. leads_by P (Any (Gives P st Other (depth e + 1) (nodes e + 2))) X (give st e l x t) (λ h. inr (operated P w st (depth e) (nodes e) h)) (operator_leads P w t g o st e l x))
+    (λ t g o. leads_by P (Operates P st (Gives P st) (depth e) (nodes e)) X (give st e l x t) (λ h. inr (operated P w st (depth e) (nodes e) (operates_any P w st (depth e) (nodes e) h))) (operator_leads P w t g o st e l x))
     (λ t g r a. leads_by P (Gives P st (form_of e) (depth e) (nodes e) nx.closing) X (give st e l x t) (at nx.closing) (give_close P w t g r a st e l x))
 
 did_leads : (P : ℕ → ℕ → Type 0) → Down P → (st : Stack) (c : Action) (l : ℕ) (x : List ℕ) (t : Kind) → Leads P (Any (Does P st (depth_of_action c) (nodes_of_action c))) (finish st c l x t)

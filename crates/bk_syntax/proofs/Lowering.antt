@@ -5,10 +5,12 @@ use Rattle.bk_syntax.specs.declared.symbols.Guard.TheVariants as g
 use Rattle.bk_syntax.specs.declared.size.Form.{Form}
 use Rattle.bk_syntax.specs.declared.size.Form.TheVariants.{Label, Call, Callable, Tabled, Other}
 use Rattle.bk_syntax.specs.Limits.{depth, depth_of_each, depth_of_action, depth_of_actions, depth_of_declarations, depth_of_items, depth_of_definitions, depth_of_starts, nodes, nodes_of_each, nodes_of_action, nodes_of_actions, nodes_of_declarations, nodes_of_items, nodes_of_definitions, nodes_of_starts}
+use Rattle.std.specs.Prelude.{nat_lt}
+use Rattle.bk_syntax.specs.Rows.{inner}
 use Rattle.bk_syntax.specs.Grammar.{size, start_count}
 use Rattle.bk_syntax.specs.Machine.{Stack, in_section, in_block, in_let, in_parens, in_unary, in_binary, in_chain, in_then, in_else, in_args, in_table, in_start, in_dests, in_values, in_guard, in_test, in_result, in_while, in_from, in_to, in_by, in_item, in_function, in_value, in_vector, in_valof, in_label, in_guarded, in_default, in_do, in_or, in_for, in_routine}
 use Rattle.bk_syntax.specs.Sizes.{owed}
-use Rattle.bk_syntax.specs.Completions.{Next, closing, assigning, listing, going, repeating, operating, Any, AtClosing, AtListing, AtArgument, AtAssignment, Unlisted, AtPart, If, Closed, Missing, Started, Answered, Whole, Guarded, Gives, Does, Defines, Declares}
+use Rattle.bk_syntax.specs.Completions.{Next, closing, assigning, listing, going, repeating, operating, Any, AtClosing, AtListing, AtArgument, AtAssignment, Unlisted, AtPart, If, Closed, Missing, Started, Answered, Whole, Guarded, Taken, Gives, Does, Operates, Defines, Declares}
 
 -- a smaller section has the property too
 abbrev pub Down : (ℕ → ℕ → Type 0) → Type 0
@@ -121,17 +123,21 @@ started_falls F k Other d e n m p q going h = h
 started_falls F k Other d e n m p q operating h = h
 started_falls F k Other d e n m p q repeating h = h
 
-answered_falls : (G : Form → ℕ → ℕ → Next → Type 0) → ((f : Form) → Falls (G f)) → Falls (Answered G)
-answered_falls G k d e n m p q going h = any (k Call (d + 2) (e + 2) (n + 2) (m + 2) (omega (arith, p)) (omega (arith, q))) h
-answered_falls G k d e n m p q operating h = any (k Other (d + 2) (e + 2) (n + 3) (m + 3) (omega (arith, p)) (omega (arith, q))) h
-answered_falls G k d e n m p q repeating h = h
-answered_falls G k d e n m p q closing h = k Callable (d + 1) (e + 1) (n + 1) (m + 1) (omega (arith, p)) (omega (arith, q)) closing h
-answered_falls G k d e n m p q assigning h = k Callable (d + 1) (e + 1) (n + 1) (m + 1) (omega (arith, p)) (omega (arith, q)) assigning h
-answered_falls G k d e n m p q listing h = k Callable (d + 1) (e + 1) (n + 1) (m + 1) (omega (arith, p)) (omega (arith, q)) listing h
+answered_falls : (G : Form → ℕ → ℕ → Next → Type 0) → ((f : Form) → Falls (G f)) → (H : ℕ → ℕ → Type 0) → Down H → Falls (Answered G H)
+answered_falls G k H j d e n m p q going h = any (k Call (d + 2) (e + 2) (n + 2) (m + 2) (omega (arith, p)) (omega (arith, q))) h
+answered_falls G k H j d e n m p q operating h = j (d + 1) (e + 1) (n + 1) (m + 1) (omega (arith, p)) (omega (arith, q)) h
+answered_falls G k H j d e n m p q repeating h = h
+answered_falls G k H j d e n m p q closing h = k Callable (d + 1) (e + 1) (n + 1) (m + 1) (omega (arith, p)) (omega (arith, q)) closing h
+answered_falls G k H j d e n m p q assigning h = k Callable (d + 1) (e + 1) (n + 1) (m + 1) (omega (arith, p)) (omega (arith, q)) assigning h
+answered_falls G k H j d e n m p q listing h = k Callable (d + 1) (e + 1) (n + 1) (m + 1) (omega (arith, p)) (omega (arith, q)) listing h
 
 pub whole_falls : (G : Form → ℕ → ℕ → Next → Type 0) → ((f : Form) → Falls (G f)) → (f : Form) → (d e n m : ℕ) → d ≤ e → n ≤ m → Whole G f e m → Whole G f d n
 whole_falls G k f d e n m p q (inl h) = inl (any (k f d e n m p q) h)
 whole_falls G k f d e n m p q (inr h) = inr (any (k Call (d + 1) (e + 1) (n + 1) (m + 1) (omega (arith, p)) (omega (arith, q))) h)
+
+taken : {X Y A B : Type 0} → (b : Bool) → (X → Y) → (A → B) → Taken b X A → Taken b Y B
+taken true f k h = f h
+taken false f k h = k h
 
 guarded_falls : (gd : Guard) (F : ℕ → ℕ → Next → Type 0) → Falls F → (d e n m : ℕ) → d ≤ e → n ≤ m → Guarded gd F e m → Guarded gd F d n
 guarded_falls g.Case F k d e n m p q (inl h) = inl (any_missing F k (d + 1) (e + 1) (n + 1) (m + 1) (omega (arith, p)) (omega (arith, q)) h)
@@ -178,7 +184,7 @@ mutual
   gives_falls P w _ f d e n m p q c h = h
 
   pub does_falls : (P : ℕ → ℕ → Type 0) → Down P → (st : Stack) → Falls (Does P st)
-  does_falls P w (in_valof l st) d e n m p q c h = answered_falls (Gives P st) (gives_falls P w st) d e n m p q c h
+  does_falls P w (in_valof l st) d e n m p q c h = answered_falls (Gives P st) (gives_falls P w st) (Operates P st (Gives P st)) (operates_fall P w st (gives_falls P w st)) d e n m p q c h
   does_falls P w (in_label l x st) d e n m p q c h = does_falls P w st (d + 1) (e + 1) (n + 1) (m + 1) (omega (arith, p)) (omega (arith, q)) c h
   does_falls P w (in_guarded k l x st) d e n m p q c h = does_falls P w st (max (depth x) d + 1) (max (depth x) e + 1) (nodes x + n + 1) (nodes x + m + 1) (omega (arith, p)) (omega (arith, q)) c h
   does_falls P w (in_default l st) d e n m p q c h = does_falls P w st (d + 1) (e + 1) (n + 1) (m + 1) (omega (arith, p)) (omega (arith, q)) c h
@@ -188,6 +194,10 @@ mutual
   does_falls P w (in_routine x fs st) d e n m p q c h = at_closing (defines_fall P w st (d + 1) (e + 1) (n + 1) (m + 1) (omega (arith, p)) (omega (arith, q))) c h
   does_falls P w (in_block l b ds cs st) d e n m p q c h = at_closing (any_falls (Does P st) (does_falls P w st) (max (depth_of_declarations ds) (max (depth_of_actions cs) d) + 1) (max (depth_of_declarations ds) (max (depth_of_actions cs) e) + 1) (nodes_of_declarations ds + (nodes_of_actions cs + n) + 1) (nodes_of_declarations ds + (nodes_of_actions cs + m) + 1) (omega (arith, p)) (omega (arith, q))) c h
   does_falls P w _ d e n m p q c h = h
+
+  pub operates_fall : (P : ℕ → ℕ → Type 0) → Down P → (st : Stack) → ((f : Form) → Falls (Gives P st f)) → Down (Operates P st (Gives P st))
+  operates_fall P w (in_binary o s a st) f d e n m p q h = taken (nat_lt 1 (inner o)) (any_falls (Gives P st Other) (gives_falls P w st Other) (max (depth a) (d + 1) + 1) (max (depth a) (e + 1) + 1) (nodes a + (n + 2) + 1) (nodes a + (m + 2) + 1) (omega (arith, p)) (omega (arith, q))) (operates_fall P w st (gives_falls P w st) (max (depth a) d + 1) (max (depth a) e + 1) (nodes a + n + 1) (nodes a + m + 1) (omega (arith, p)) (omega (arith, q))) h
+  operates_fall P w st f d e n m p q h = any_falls (Gives P st Other) (f Other) (d + 1) (e + 1) (n + 2) (m + 2) (omega (arith, p)) (omega (arith, q)) h
 
   pub defines_fall : (P : ℕ → ℕ → Type 0) → Down P → (st : Stack) (d e n m : ℕ) → d ≤ e → n ≤ m → Defines P st e m → Defines P st d n
   defines_fall P w (in_let l ds st) d e n m p q h = declares_fall P w st (max (depth_of_definitions ds) d) (max (depth_of_definitions ds) e) (nodes_of_definitions ds + n) (nodes_of_definitions ds + m) (omega (arith, p)) (omega (arith, q)) h

@@ -1,12 +1,13 @@
 -- How a beginning can be completed: what a state of the reading machine can still become, by the symbol that comes next.
 -- `P` is what is asked of the depth and the nodes of the whole section.
-use Rattle.std.specs.Prelude.{ℕ, ◌+◌, ◌==◌, ◌⊎◌, max, Bool, true, false, length}
+use Rattle.std.specs.Prelude.{ℕ, ◌+◌, ◌==◌, ◌⊎◌, max, nat_lt, Bool, true, false, length}
 use Rattle.bk_syntax.specs.declared.symbols.Guard.{Guard}
 use Rattle.bk_syntax.specs.declared.symbols.Guard.TheVariants as g
 use Rattle.bk_syntax.specs.declared.size.Form.{Form}
 use Rattle.bk_syntax.specs.declared.size.Form.TheVariants.{Label, Call, Callable, Other}
 use Rattle.bk_syntax.specs.Tree.{Items, Declarations, no_items, item, none}
 use Rattle.bk_syntax.specs.Limits.{depth, depth_of_each, depth_of_action, depth_of_actions, depth_of_declarations, depth_of_items, depth_of_definitions, depth_of_starts, nodes, nodes_of_each, nodes_of_action, nodes_of_actions, nodes_of_declarations, nodes_of_items, nodes_of_definitions, nodes_of_starts}
+use Rattle.bk_syntax.specs.Rows.{inner}
 use Rattle.bk_syntax.specs.Grammar.{size, start_count}
 use Rattle.bk_syntax.specs.Machine.{Stack, State, in_section, in_block, in_let, at_name, at_formals, at_formal, at_formal_end, at_head, at_variable, at_variable_end, at_starts, at_opening, at_items, at_sign, at_goto, at_for, at_forward, at_default, in_parens, in_unary, in_binary, in_chain, in_then, in_else, in_args, in_table, in_start, in_dests, in_values, in_guard, in_test, in_result, in_while, in_from, in_to, in_by, in_item, in_function, in_value, in_vector, in_valof, in_label, in_guarded, in_default, in_do, in_or, in_for, in_routine, want, have, begin, maybe, did, due}
 use Rattle.bk_syntax.specs.Sizes.{form_of, owed}
@@ -81,11 +82,11 @@ Started F Call d n repeating = Any (F (d + 1) (n + 1))
 Started F _ d n _ = ⊥
 
 -- behind the command of a VALOF, which may be called
-abbrev pub Answered : (Form → ℕ → ℕ → Next → Type 0) → ℕ → ℕ → Next → Type 0
-Answered G d n going = Any (G Call (d + 2) (n + 2))
-Answered G d n operating = Any (G Other (d + 2) (n + 3))
-Answered G d n repeating = ⊥
-Answered G d n c = G Callable (d + 1) (n + 1) c
+abbrev pub Answered : (Form → ℕ → ℕ → Next → Type 0) → (ℕ → ℕ → Type 0) → ℕ → ℕ → Next → Type 0
+Answered G H d n going = Any (G Call (d + 2) (n + 2))
+Answered G H d n operating = H (d + 1) (n + 1)
+Answered G H d n repeating = ⊥
+Answered G H d n c = G Callable (d + 1) (n + 1) c
 
 -- an expression that may be called
 abbrev pub Whole : (Form → ℕ → ℕ → Next → Type 0) → Form → ℕ → ℕ → Type 0
@@ -95,6 +96,11 @@ Whole G f d n = Any (G f d n) ⊎ Any (G Call (d + 1) (n + 1))
 abbrev pub Guarded : Guard → (ℕ → ℕ → Next → Type 0) → ℕ → ℕ → Type 0
 Guarded g.Case F d n = Any (Missing F (d + 1) (n + 1)) ⊎ Any (F (max d 1 + 1) (n + 2))
 Guarded _ F d n = Any (F (max d 1 + 1) (n + 2))
+
+-- one or the other
+abbrev pub Taken : Bool → Type 0 → Type 0 → Type 0
+Taken true X Y = X
+Taken false X Y = Y
 
 abbrev mutual
   -- on this stack an expression of this form, depth and number of nodes is complete, and such a symbol comes next: a
@@ -136,7 +142,7 @@ abbrev mutual
 
   -- the same of a command; behind one that is repeated comes what comes behind it
   pub Does : (ℕ → ℕ → Type 0) → Stack → ℕ → ℕ → Next → Type 0
-  Does P (in_valof l st) d n c = Answered (Gives P st) d n c
+  Does P (in_valof l st) d n c = Answered (Gives P st) (Operates P st (Gives P st)) d n c
   Does P (in_label l x st) d n c = Does P st (d + 1) (n + 1) c
   Does P (in_guarded k l e st) d n c = Does P st (max (depth e) d + 1) (nodes e + n + 1) c
   Does P (in_default l st) d n c = Does P st (d + 1) (n + 1) c
@@ -146,6 +152,12 @@ abbrev mutual
   Does P (in_routine x fs st) d n c = AtClosing (Defines P st (d + 1) (n + 1)) c
   Does P (in_block l b ds cs st) d n c = AtClosing (Any (Does P st (max (depth_of_declarations ds) (max (depth_of_actions cs) d) + 1) (nodes_of_declarations ds + (nodes_of_actions cs + n) + 1))) c
   Does P _ d n c = ⊥
+
+  -- behind an expression on this stack, where G is Gives of it, an operator comes that begins no command, and a name; `%` is the tightest, and goes on all but the
+  -- right operand of its own row
+  pub Operates : (ℕ → ℕ → Type 0) → Stack → (Form → ℕ → ℕ → Next → Type 0) → ℕ → ℕ → Type 0
+  Operates P (in_binary o s a st) G d n = Taken (nat_lt 1 (inner o)) (Any (G Other (d + 1) (n + 2))) (Operates P st (Gives P st) (max (depth a) d + 1) (nodes a + n + 1))
+  Operates P st G d n = Any (G Other (d + 1) (n + 2))
 
   -- the same of a definition
   pub Defines : (ℕ → ℕ → Type 0) → Stack → ℕ → ℕ → Type 0
