@@ -9,3 +9,4 @@ pub mod Inner
 pub mod Bounds
 pub mod SyntaxLaws
 pub mod Parsing
+pub mod Completions
