@@ -18,10 +18,10 @@ use Rattle.bk_syntax.specs.Tree.{Mention, Expression, Expressions, Action, Actio
 use Rattle.bk_syntax.specs.Limits.{depth, depth_of_each, depth_of_action, depth_of_actions, depth_of_declaration, depth_of_declarations, depth_of_items, depth_of_definition, depth_of_definitions, depth_of_starts, nodes, nodes_of_each, nodes_of_action, nodes_of_actions, nodes_of_declaration, nodes_of_declarations, nodes_of_items, nodes_of_definition, nodes_of_definitions, nodes_of_starts}
 use Rattle.bk_syntax.specs.Rows.{inner, behind, is_relation, infix_of, prefix_of, sort_of, begins_command, repeats, assigns, is_and, is_comma, goes}
 use Rattle.bk_syntax.specs.Grammar.{line_of, line_of_first, line_of_names, line_of_action, size, start_count, last}
-use Rattle.bk_syntax.specs.Machine.{each_then, actions_then, declarations_then, items_then, definitions_then, starts_then, Stack, in_section, in_block, in_let, at_name, at_formals, at_formal, at_formal_end, at_head, at_variable, at_variable_end, at_starts, at_opening, at_items, at_sign, at_goto, at_for, at_forward, at_default, in_parens, in_unary, in_binary, in_chain, in_then, in_else, in_args, in_table, in_start, in_dests, in_values, in_guard, in_test, in_result, in_while, in_from, in_to, in_by, in_item, in_function, in_value, in_vector, in_valof, in_label, in_guarded, in_default, in_do, in_or, in_for, in_routine, State, want, have, begin, maybe, did, due, linked, infixed, push, is_close, is_colon, is_do, is_or, is_to, is_equal, is_semicolon, opens, closes, is_vec, is_let, is_open, is_sign_of, if_is, named, guarded, behind_sign, no_args, bars, take_operand, take_command, sorted, take_declaration, take_in_section, in_head, take_in_block, declared, declared_by, defined_by, again, dests, labelled, is_call, call_of, in_constants, to_or_do, give, finish, without, inside, in_names, in_formals, headed, take_item, take_due, step, prefixed, counted, whole, run, stepped_by, going}
-use Rattle.bk_syntax.specs.Sizes.{form_of, owed}
-use Rattle.bk_syntax.specs.Completions as nx
-use Rattle.bk_syntax.specs.Completions.{Next, Any, AtClosing, AtListing, AtArgument, AtAssignment, Unlisted, AtPart, If, Closed, Missing, Started, Answered, Whole, Guarded, Taken, Gives, Does, Operates, Defines, Declares, Wants, Misses, Lists, Due, Completes}
+use Rattle.bk_syntax.specs.Inner.Machine.{each_then, actions_then, declarations_then, items_then, definitions_then, starts_then, Stack, in_section, in_block, in_let, at_name, at_formals, at_formal, at_formal_end, at_head, at_variable, at_variable_end, at_starts, at_opening, at_items, at_sign, at_goto, at_for, at_forward, at_default, in_parens, in_unary, in_binary, in_chain, in_then, in_else, in_args, in_table, in_start, in_dests, in_values, in_guard, in_test, in_result, in_while, in_from, in_to, in_by, in_item, in_function, in_value, in_vector, in_valof, in_label, in_guarded, in_default, in_do, in_or, in_for, in_routine, State, want, have, begin, maybe, did, due, linked, infixed, push, is_close, is_colon, is_do, is_or, is_to, is_equal, is_semicolon, opens, closes, is_vec, is_let, is_open, is_sign_of, if_is, named, guarded, behind_sign, no_args, bars, take_operand, take_command, sorted, take_declaration, take_in_section, in_head, take_in_block, declared, declared_by, defined_by, again, dests, labelled, is_call, call_of, in_constants, to_or_do, give, finish, without, inside, in_names, in_formals, headed, take_item, take_due, step, prefixed, counted, whole, run, stepped_by, going}
+use Rattle.bk_syntax.specs.Inner.Sizes.{form_of, owed}
+use Rattle.bk_syntax.specs.Inner.WaysOn as nx
+use Rattle.bk_syntax.specs.Inner.WaysOn.{Next, Any, AtClosing, AtListing, AtArgument, AtAssignment, Unlisted, AtPart, If, Closed, Missing, Started, Answered, Whole, Guarded, Taken, Gives, Does, Operates, Defines, Declares, Wants, Misses, Lists, Due, Completes}
 use Rattle.bk_syntax.proofs.Before.{falls, behind_ok, inner_ok}
 use Rattle.bk_syntax.proofs.Steps.{pushes, repeated, size_then, count_then}
 use Rattle.bk_syntax.proofs.Trees.{each_depth, each_nodes, actions_depth, actions_nodes, declarations_depth, declarations_nodes, definitions_depth, definitions_nodes, items_depth, items_nodes, starts_depth, starts_nodes}
@@ -277,14 +277,14 @@ block_leads P w t b free ds cs st l x =
     let X : Type 0 = Declares P here 0 0 in
     let rest : Option State = cond free (take_command here l x t) None in
     let command : Leads P X rest = leads_if P X free (take_command here l x t) None
-        (λ e. leads_by P (Any (Does P here 1 1)) X (take_command here l x t)
-            (λ h. any_falls (Does P st) (does_falls P w st) (max (depth_of_declarations ds) (max (depth_of_actions cs) 0) + 1) (max (depth_of_declarations ds) (max (depth_of_actions cs) 1) + 1) (nodes_of_declarations ds + (nodes_of_actions cs + 0) + 1) (nodes_of_declarations ds + (nodes_of_actions cs + 1) + 1) (omega arith) (omega arith) (from_closing h))
-            (command_leads P w t here l x))
-        (λ e. tt) in
+    (λ e. leads_by P (Any (Does P here 1 1)) X (take_command here l x t)
+    (λ h. any_falls (Does P st) (does_falls P w st) (max (depth_of_declarations ds) (max (depth_of_actions cs) 0) + 1) (max (depth_of_declarations ds) (max (depth_of_actions cs) 1) + 1) (nodes_of_declarations ds + (nodes_of_actions cs + 0) + 1) (nodes_of_declarations ds + (nodes_of_actions cs + 1) + 1) (omega arith) (omega arith) (from_closing h))
+    (command_leads P w t here l x))
+    (λ e. tt) in
     leads_if P X (is_semicolon t) (Some (due (in_block b true ds cs st))) _ (λ e h. h)
     (λ e. leads_if P X (closes t) (Some (did st (block b ds cs))) _
-        (λ c h. any_falls (Does P st) (does_falls P w st) (max (depth_of_declarations ds) (max (depth_of_actions cs) 0) + 1) (max (depth_of_declarations ds) (depth_of_actions cs) + 1) (nodes_of_declarations ds + (nodes_of_actions cs + 0) + 1) (nodes_of_declarations ds + nodes_of_actions cs + 1) (omega arith) (omega arith) h)
-        (λ c. leads_if P X (in_head cs) (take_declaration here l t rest) rest (λ d. declaration_leads P w t here l rest command) (λ d. command)))
+    (λ c h. any_falls (Does P st) (does_falls P w st) (max (depth_of_declarations ds) (max (depth_of_actions cs) 0) + 1) (max (depth_of_declarations ds) (depth_of_actions cs) + 1) (nodes_of_declarations ds + (nodes_of_actions cs + 0) + 1) (nodes_of_declarations ds + nodes_of_actions cs + 1) (omega arith) (omega arith) h)
+    (λ c. leads_if P X (in_head cs) (take_declaration here l t rest) rest (λ d. declaration_leads P w t here l rest command) (λ d. command)))
 
 declared_by_leads : (P : ℕ → ℕ → Type 0) → Down P → (t : Kind) (st : Stack) (d : Declaration) (l : ℕ) (x : List ℕ) → Leads P (Declares P st (depth_of_declaration d) (nodes_of_declaration d)) (declared_by st d l x t)
 declared_by_leads P w t (in_section ds) d l x =
@@ -325,8 +325,8 @@ defined_leads P w t (in_let m ds st) d l x =
     leads_if P X (is_and t) (Some (due (in_let m es st))) (declared_by st (definitions m es) l x t)
     (λ e h. declares_fall P w st (max (depth_of_definitions ds) (depth_of_definition d)) (max (depth_of_definitions es) 2) (nodes_of_definitions ds + nodes_of_definition d) (nodes_of_definitions es + 2) (omega (arith, a)) (omega (arith, b)) h)
     (λ e. leads_by P (Declares P st (depth_of_definitions es) (nodes_of_definitions es)) X (declared_by st (definitions m es) l x t)
-        (λ h. declares_fall P w st (max (depth_of_definitions ds) (depth_of_definition d)) (depth_of_definitions es) (nodes_of_definitions ds + nodes_of_definition d) (nodes_of_definitions es) (omega (arith, a)) (omega (arith, b)) h)
-        (declared_by_leads P w t st (definitions m es) l x))
+    (λ h. declares_fall P w st (max (depth_of_definitions ds) (depth_of_definition d)) (depth_of_definitions es) (nodes_of_definitions ds + nodes_of_definition d) (nodes_of_definitions es) (omega (arith, a)) (omega (arith, b)) h)
+    (declared_by_leads P w t st (definitions m es) l x))
 defined_leads P w t _ d l x = tt
 
 -- ---- what is complete
@@ -376,7 +376,6 @@ declared_none _ d l x t h = refl
 defined_none : (st : Stack) (d : Definition) (l : ℕ) (x : List ℕ) (t : Kind) → Plain t → defined_by st d l x t ≡ None
 defined_none (in_let m ds st) d l x t h = let a = h.0 in rw a (declared_none st (definitions m (definitions_then ds (define d no_definitions))) l x t h)
 defined_none _ d l x t h = refl
-
 
 assign_sign : (gd : Guard) → is_sign_of gd k.Assign ≡ false
 assign_sign g.SwitchOn = refl
@@ -440,10 +439,8 @@ repeat_sign g.SwitchOn = refl
 repeat_sign g.Case = refl
 repeat_sign _ = refl
 
-
 finish_repeat : (P : ℕ → ℕ → Type 0) → Down P → (st : Stack) (c : Action) (l : ℕ) (x : List ℕ) → Leads P (Any (Does P st (depth_of_action c + 1) (nodes_of_action c + 1))) (finish st c l x k.Repeat)
 finish_repeat P w st c l x = let Q : Option State → Type 0 = λ z. Leads P (Any (Does P st (depth_of_action c + 1) (nodes_of_action c + 1))) z in subst Q (sym (repeated st c l x k.Repeat refl)) (again_leads P w k.Repeat st c)
-
 
 give_repeat : (P : ℕ → ℕ → Type 0) → Down P → (st : Stack) (e : Expression) (l : ℕ) (x : List ℕ) → Leads P (Gives P st (form_of e) (depth e) (nodes e) nx.repeating) (give st e l x k.Repeat)
 give_repeat P w (in_unary m p st) e l x = give_repeat P w st (unary m p e) l x
@@ -451,36 +448,36 @@ give_repeat P w (in_binary q s a st) e l x = give_repeat P w st (binary (line_of
 give_repeat P w (in_chain q s a b st) e l x = give_repeat P w st (binary (line_of a) Both s a (binary (line_of b) q s b e)) l x
 give_repeat P w (in_else s y a st) e l x = give_repeat P w st (choice (line_of y) s y a e) l x
 give_repeat P w (in_table m es st) e l x = leads_by P (Gives P st Other (depth_of_each (each_then es (more e none)) + 1) (nodes_of_each (each_then es (more e none)) + 1) nx.repeating) (Gives P st Other (max (depth_of_each es) (depth e) + 1) (nodes_of_each es + nodes e + 1) nx.repeating) (give st (table m (each_then es (more e none))) l x k.Repeat)
-      (let a = each_depth es e in let b = each_nodes es e in gives_falls P w st Other (max (depth_of_each es) (depth e) + 1) (depth_of_each (each_then es (more e none)) + 1) (nodes_of_each es + nodes e + 1) (nodes_of_each (each_then es (more e none)) + 1) (omega (arith, a)) (omega (arith, b)) nx.repeating) (give_repeat P w st (table m (each_then es (more e none))) l x)
+    (let a = each_depth es e in let b = each_nodes es e in gives_falls P w st Other (max (depth_of_each es) (depth e) + 1) (depth_of_each (each_then es (more e none)) + 1) (nodes_of_each es + nodes e + 1) (nodes_of_each (each_then es (more e none)) + 1) (omega (arith, a)) (omega (arith, b)) nx.repeating) (give_repeat P w st (table m (each_then es (more e none))) l x)
 give_repeat P w (in_start st) (apply m s y es) l x = finish_repeat P w st (call m y es) l x
 give_repeat P w (in_start st) e l x = tt
 give_repeat P w (in_dests xs st) e l x = tt
 give_repeat P w (in_values xs ys st) e l x =
-      let zs : Expressions = each_then ys (more e none) in
-      let a = each_depth ys e in
-      let b = each_nodes ys e in
-      counted_leads P (size xs == size ys + 1) (Closed (Does P st) (max (depth_of_each xs) (max (depth_of_each ys) (depth e)) + 1) (nodes_of_each xs + (nodes_of_each ys + nodes e) + 1)) (AtListing (Any (Closed (Does P st) (max (depth_of_each xs) (max (depth_of_each ys) (max (depth e) 1)) + 1) (nodes_of_each xs + (nodes_of_each ys + nodes e) + owed (size xs) (size ys) + 1)))) nx.repeating
-      (finish st (assign (line_of_first xs) xs zs) l x k.Repeat) k.Repeat (want (in_values xs zs st))
-      (leads_by P (Any (Does P st (max (depth_of_each xs) (depth_of_each (each_then ys (more e none))) + 1 + 1) (nodes_of_each xs + nodes_of_each (each_then ys (more e none)) + 1 + 1))) (Any (Does P st (max (depth_of_each xs) (max (depth_of_each ys) (depth e)) + 1 + 1) (nodes_of_each xs + (nodes_of_each ys + nodes e) + 1 + 1))) (finish st (assign (line_of_first xs) xs zs) l x k.Repeat) (any_falls (Does P st) (does_falls P w st) (max (depth_of_each xs) (max (depth_of_each ys) (depth e)) + 1 + 1) (max (depth_of_each xs) (depth_of_each (each_then ys (more e none))) + 1 + 1) (nodes_of_each xs + (nodes_of_each ys + nodes e) + 1 + 1) (nodes_of_each xs + nodes_of_each (each_then ys (more e none)) + 1 + 1) (omega (arith, a)) (omega (arith, b))) (finish_repeat P w st (assign (line_of_first xs) xs zs) l x))
-      (λ j. absurd cc)
+    let zs : Expressions = each_then ys (more e none) in
+    let a = each_depth ys e in
+    let b = each_nodes ys e in
+    counted_leads P (size xs == size ys + 1) (Closed (Does P st) (max (depth_of_each xs) (max (depth_of_each ys) (depth e)) + 1) (nodes_of_each xs + (nodes_of_each ys + nodes e) + 1)) (AtListing (Any (Closed (Does P st) (max (depth_of_each xs) (max (depth_of_each ys) (max (depth e) 1)) + 1) (nodes_of_each xs + (nodes_of_each ys + nodes e) + owed (size xs) (size ys) + 1)))) nx.repeating
+    (finish st (assign (line_of_first xs) xs zs) l x k.Repeat) k.Repeat (want (in_values xs zs st))
+    (leads_by P (Any (Does P st (max (depth_of_each xs) (depth_of_each (each_then ys (more e none))) + 1 + 1) (nodes_of_each xs + nodes_of_each (each_then ys (more e none)) + 1 + 1))) (Any (Does P st (max (depth_of_each xs) (max (depth_of_each ys) (depth e)) + 1 + 1) (nodes_of_each xs + (nodes_of_each ys + nodes e) + 1 + 1))) (finish st (assign (line_of_first xs) xs zs) l x k.Repeat) (any_falls (Does P st) (does_falls P w st) (max (depth_of_each xs) (max (depth_of_each ys) (depth e)) + 1 + 1) (max (depth_of_each xs) (depth_of_each (each_then ys (more e none))) + 1 + 1) (nodes_of_each xs + (nodes_of_each ys + nodes e) + 1 + 1) (nodes_of_each xs + nodes_of_each (each_then ys (more e none)) + 1 + 1) (omega (arith, a)) (omega (arith, b))) (finish_repeat P w st (assign (line_of_first xs) xs zs) l x))
+    (λ j. absurd cc)
 give_repeat P w (in_guard gd m st) e l x = leads_if P (AtClosing (Guarded gd (Does P st) (depth e) (nodes e)) nx.repeating) (is_sign_of gd k.Repeat) (Some (behind_sign gd (in_guarded gd m e st))) None (λ j. absurd (let s = repeat_sign gd in cc)) (λ j. tt)
 give_repeat P w (in_result m st) e l x = finish_repeat P w st (result m e) l x
 give_repeat P w (in_while b a st) e l x = finish_repeat P w st (repeat_while (line_of_action a) b a e) l x
 give_repeat P w (in_function y fs st) e l x = leads_none P (AtClosing (Defines P st (depth e + 1) (nodes e + 1)) nx.repeating) (defined_by st (function y.line y.letters fs e) l x k.Repeat) (defined_none st (function y.line y.letters fs e) l x k.Repeat (refl, refl, refl, refl, refl))
 give_repeat P w (in_value xs is st) e l x =
-      let js : Starts = starts_then is (value e no_starts) in
-      let whole_of : Definition = variables (line_of_names xs) xs js in
-      counted_leads P (length xs == start_count is + 1) (AtClosing (Defines P st (max (depth_of_starts is) (depth e) + 1) (nodes_of_starts is + nodes e + 1)))
-      (AtListing (Defines P st (max (depth_of_starts is) (max (depth e) 1) + 1) (nodes_of_starts is + nodes e + owed (length xs) (start_count is) + 1))) nx.repeating (defined_by st whole_of l x k.Repeat) k.Repeat (due (at_starts xs js st))
-      (leads_none P ⊥ (defined_by st whole_of l x k.Repeat) (defined_none st whole_of l x k.Repeat (refl, refl, refl, refl, refl)))
-      (λ j. absurd cc)
+    let js : Starts = starts_then is (value e no_starts) in
+    let whole_of : Definition = variables (line_of_names xs) xs js in
+    counted_leads P (length xs == start_count is + 1) (AtClosing (Defines P st (max (depth_of_starts is) (depth e) + 1) (nodes_of_starts is + nodes e + 1)))
+    (AtListing (Defines P st (max (depth_of_starts is) (max (depth e) 1) + 1) (nodes_of_starts is + nodes e + owed (length xs) (start_count is) + 1))) nx.repeating (defined_by st whole_of l x k.Repeat) k.Repeat (due (at_starts xs js st))
+    (leads_none P ⊥ (defined_by st whole_of l x k.Repeat) (defined_none st whole_of l x k.Repeat (refl, refl, refl, refl, refl)))
+    (λ j. absurd cc)
 give_repeat P w (in_vector m xs is st) e l x =
-      let js : Starts = starts_then is (vector m e no_starts) in
-      let whole_of : Definition = variables (line_of_names xs) xs js in
-      counted_leads P (length xs == start_count is + 1) (AtClosing (Defines P st (max (depth_of_starts is) (depth e) + 1) (nodes_of_starts is + nodes e + 1)))
-      (AtListing (Defines P st (max (depth_of_starts is) (max (depth e) 1) + 1) (nodes_of_starts is + nodes e + owed (length xs) (start_count is) + 1))) nx.repeating (defined_by st whole_of l x k.Repeat) k.Repeat (due (at_starts xs js st))
-      (leads_none P ⊥ (defined_by st whole_of l x k.Repeat) (defined_none st whole_of l x k.Repeat (refl, refl, refl, refl, refl)))
-      (λ j. absurd cc)
+    let js : Starts = starts_then is (vector m e no_starts) in
+    let whole_of : Definition = variables (line_of_names xs) xs js in
+    counted_leads P (length xs == start_count is + 1) (AtClosing (Defines P st (max (depth_of_starts is) (depth e) + 1) (nodes_of_starts is + nodes e + 1)))
+    (AtListing (Defines P st (max (depth_of_starts is) (max (depth e) 1) + 1) (nodes_of_starts is + nodes e + owed (length xs) (start_count is) + 1))) nx.repeating (defined_by st whole_of l x k.Repeat) k.Repeat (due (at_starts xs js st))
+    (leads_none P ⊥ (defined_by st whole_of l x k.Repeat) (defined_none st whole_of l x k.Repeat (refl, refl, refl, refl, refl)))
+    (λ j. absurd cc)
 give_repeat P w _ e l x = tt
 
 repeat_while_sign : (gd : Guard) → is_sign_of gd k.RepeatWhile ≡ false
@@ -488,10 +485,8 @@ repeat_while_sign g.SwitchOn = refl
 repeat_while_sign g.Case = refl
 repeat_while_sign _ = refl
 
-
 finish_repeat_while : (P : ℕ → ℕ → Type 0) → Down P → (st : Stack) (c : Action) (l : ℕ) (x : List ℕ) → Leads P (Any (Does P st (depth_of_action c + 1) (nodes_of_action c + 1))) (finish st c l x k.RepeatWhile)
 finish_repeat_while P w st c l x = let Q : Option State → Type 0 = λ z. Leads P (Any (Does P st (depth_of_action c + 1) (nodes_of_action c + 1))) z in subst Q (sym (repeated st c l x k.RepeatWhile refl)) (again_leads P w k.RepeatWhile st c)
-
 
 give_repeat_while : (P : ℕ → ℕ → Type 0) → Down P → (st : Stack) (e : Expression) (l : ℕ) (x : List ℕ) → Leads P (Gives P st (form_of e) (depth e) (nodes e) nx.repeating) (give st e l x k.RepeatWhile)
 give_repeat_while P w (in_unary m p st) e l x = give_repeat_while P w st (unary m p e) l x
@@ -499,36 +494,36 @@ give_repeat_while P w (in_binary q s a st) e l x = give_repeat_while P w st (bin
 give_repeat_while P w (in_chain q s a b st) e l x = give_repeat_while P w st (binary (line_of a) Both s a (binary (line_of b) q s b e)) l x
 give_repeat_while P w (in_else s y a st) e l x = give_repeat_while P w st (choice (line_of y) s y a e) l x
 give_repeat_while P w (in_table m es st) e l x = leads_by P (Gives P st Other (depth_of_each (each_then es (more e none)) + 1) (nodes_of_each (each_then es (more e none)) + 1) nx.repeating) (Gives P st Other (max (depth_of_each es) (depth e) + 1) (nodes_of_each es + nodes e + 1) nx.repeating) (give st (table m (each_then es (more e none))) l x k.RepeatWhile)
-      (let a = each_depth es e in let b = each_nodes es e in gives_falls P w st Other (max (depth_of_each es) (depth e) + 1) (depth_of_each (each_then es (more e none)) + 1) (nodes_of_each es + nodes e + 1) (nodes_of_each (each_then es (more e none)) + 1) (omega (arith, a)) (omega (arith, b)) nx.repeating) (give_repeat_while P w st (table m (each_then es (more e none))) l x)
+    (let a = each_depth es e in let b = each_nodes es e in gives_falls P w st Other (max (depth_of_each es) (depth e) + 1) (depth_of_each (each_then es (more e none)) + 1) (nodes_of_each es + nodes e + 1) (nodes_of_each (each_then es (more e none)) + 1) (omega (arith, a)) (omega (arith, b)) nx.repeating) (give_repeat_while P w st (table m (each_then es (more e none))) l x)
 give_repeat_while P w (in_start st) (apply m s y es) l x = finish_repeat_while P w st (call m y es) l x
 give_repeat_while P w (in_start st) e l x = tt
 give_repeat_while P w (in_dests xs st) e l x = tt
 give_repeat_while P w (in_values xs ys st) e l x =
-      let zs : Expressions = each_then ys (more e none) in
-      let a = each_depth ys e in
-      let b = each_nodes ys e in
-      counted_leads P (size xs == size ys + 1) (Closed (Does P st) (max (depth_of_each xs) (max (depth_of_each ys) (depth e)) + 1) (nodes_of_each xs + (nodes_of_each ys + nodes e) + 1)) (AtListing (Any (Closed (Does P st) (max (depth_of_each xs) (max (depth_of_each ys) (max (depth e) 1)) + 1) (nodes_of_each xs + (nodes_of_each ys + nodes e) + owed (size xs) (size ys) + 1)))) nx.repeating
-      (finish st (assign (line_of_first xs) xs zs) l x k.RepeatWhile) k.RepeatWhile (want (in_values xs zs st))
-      (leads_by P (Any (Does P st (max (depth_of_each xs) (depth_of_each (each_then ys (more e none))) + 1 + 1) (nodes_of_each xs + nodes_of_each (each_then ys (more e none)) + 1 + 1))) (Any (Does P st (max (depth_of_each xs) (max (depth_of_each ys) (depth e)) + 1 + 1) (nodes_of_each xs + (nodes_of_each ys + nodes e) + 1 + 1))) (finish st (assign (line_of_first xs) xs zs) l x k.RepeatWhile) (any_falls (Does P st) (does_falls P w st) (max (depth_of_each xs) (max (depth_of_each ys) (depth e)) + 1 + 1) (max (depth_of_each xs) (depth_of_each (each_then ys (more e none))) + 1 + 1) (nodes_of_each xs + (nodes_of_each ys + nodes e) + 1 + 1) (nodes_of_each xs + nodes_of_each (each_then ys (more e none)) + 1 + 1) (omega (arith, a)) (omega (arith, b))) (finish_repeat_while P w st (assign (line_of_first xs) xs zs) l x))
-      (λ j. absurd cc)
+    let zs : Expressions = each_then ys (more e none) in
+    let a = each_depth ys e in
+    let b = each_nodes ys e in
+    counted_leads P (size xs == size ys + 1) (Closed (Does P st) (max (depth_of_each xs) (max (depth_of_each ys) (depth e)) + 1) (nodes_of_each xs + (nodes_of_each ys + nodes e) + 1)) (AtListing (Any (Closed (Does P st) (max (depth_of_each xs) (max (depth_of_each ys) (max (depth e) 1)) + 1) (nodes_of_each xs + (nodes_of_each ys + nodes e) + owed (size xs) (size ys) + 1)))) nx.repeating
+    (finish st (assign (line_of_first xs) xs zs) l x k.RepeatWhile) k.RepeatWhile (want (in_values xs zs st))
+    (leads_by P (Any (Does P st (max (depth_of_each xs) (depth_of_each (each_then ys (more e none))) + 1 + 1) (nodes_of_each xs + nodes_of_each (each_then ys (more e none)) + 1 + 1))) (Any (Does P st (max (depth_of_each xs) (max (depth_of_each ys) (depth e)) + 1 + 1) (nodes_of_each xs + (nodes_of_each ys + nodes e) + 1 + 1))) (finish st (assign (line_of_first xs) xs zs) l x k.RepeatWhile) (any_falls (Does P st) (does_falls P w st) (max (depth_of_each xs) (max (depth_of_each ys) (depth e)) + 1 + 1) (max (depth_of_each xs) (depth_of_each (each_then ys (more e none))) + 1 + 1) (nodes_of_each xs + (nodes_of_each ys + nodes e) + 1 + 1) (nodes_of_each xs + nodes_of_each (each_then ys (more e none)) + 1 + 1) (omega (arith, a)) (omega (arith, b))) (finish_repeat_while P w st (assign (line_of_first xs) xs zs) l x))
+    (λ j. absurd cc)
 give_repeat_while P w (in_guard gd m st) e l x = leads_if P (AtClosing (Guarded gd (Does P st) (depth e) (nodes e)) nx.repeating) (is_sign_of gd k.RepeatWhile) (Some (behind_sign gd (in_guarded gd m e st))) None (λ j. absurd (let s = repeat_while_sign gd in cc)) (λ j. tt)
 give_repeat_while P w (in_result m st) e l x = finish_repeat_while P w st (result m e) l x
 give_repeat_while P w (in_while b a st) e l x = finish_repeat_while P w st (repeat_while (line_of_action a) b a e) l x
 give_repeat_while P w (in_function y fs st) e l x = leads_none P (AtClosing (Defines P st (depth e + 1) (nodes e + 1)) nx.repeating) (defined_by st (function y.line y.letters fs e) l x k.RepeatWhile) (defined_none st (function y.line y.letters fs e) l x k.RepeatWhile (refl, refl, refl, refl, refl))
 give_repeat_while P w (in_value xs is st) e l x =
-      let js : Starts = starts_then is (value e no_starts) in
-      let whole_of : Definition = variables (line_of_names xs) xs js in
-      counted_leads P (length xs == start_count is + 1) (AtClosing (Defines P st (max (depth_of_starts is) (depth e) + 1) (nodes_of_starts is + nodes e + 1)))
-      (AtListing (Defines P st (max (depth_of_starts is) (max (depth e) 1) + 1) (nodes_of_starts is + nodes e + owed (length xs) (start_count is) + 1))) nx.repeating (defined_by st whole_of l x k.RepeatWhile) k.RepeatWhile (due (at_starts xs js st))
-      (leads_none P ⊥ (defined_by st whole_of l x k.RepeatWhile) (defined_none st whole_of l x k.RepeatWhile (refl, refl, refl, refl, refl)))
-      (λ j. absurd cc)
+    let js : Starts = starts_then is (value e no_starts) in
+    let whole_of : Definition = variables (line_of_names xs) xs js in
+    counted_leads P (length xs == start_count is + 1) (AtClosing (Defines P st (max (depth_of_starts is) (depth e) + 1) (nodes_of_starts is + nodes e + 1)))
+    (AtListing (Defines P st (max (depth_of_starts is) (max (depth e) 1) + 1) (nodes_of_starts is + nodes e + owed (length xs) (start_count is) + 1))) nx.repeating (defined_by st whole_of l x k.RepeatWhile) k.RepeatWhile (due (at_starts xs js st))
+    (leads_none P ⊥ (defined_by st whole_of l x k.RepeatWhile) (defined_none st whole_of l x k.RepeatWhile (refl, refl, refl, refl, refl)))
+    (λ j. absurd cc)
 give_repeat_while P w (in_vector m xs is st) e l x =
-      let js : Starts = starts_then is (vector m e no_starts) in
-      let whole_of : Definition = variables (line_of_names xs) xs js in
-      counted_leads P (length xs == start_count is + 1) (AtClosing (Defines P st (max (depth_of_starts is) (depth e) + 1) (nodes_of_starts is + nodes e + 1)))
-      (AtListing (Defines P st (max (depth_of_starts is) (max (depth e) 1) + 1) (nodes_of_starts is + nodes e + owed (length xs) (start_count is) + 1))) nx.repeating (defined_by st whole_of l x k.RepeatWhile) k.RepeatWhile (due (at_starts xs js st))
-      (leads_none P ⊥ (defined_by st whole_of l x k.RepeatWhile) (defined_none st whole_of l x k.RepeatWhile (refl, refl, refl, refl, refl)))
-      (λ j. absurd cc)
+    let js : Starts = starts_then is (vector m e no_starts) in
+    let whole_of : Definition = variables (line_of_names xs) xs js in
+    counted_leads P (length xs == start_count is + 1) (AtClosing (Defines P st (max (depth_of_starts is) (depth e) + 1) (nodes_of_starts is + nodes e + 1)))
+    (AtListing (Defines P st (max (depth_of_starts is) (max (depth e) 1) + 1) (nodes_of_starts is + nodes e + owed (length xs) (start_count is) + 1))) nx.repeating (defined_by st whole_of l x k.RepeatWhile) k.RepeatWhile (due (at_starts xs js st))
+    (leads_none P ⊥ (defined_by st whole_of l x k.RepeatWhile) (defined_none st whole_of l x k.RepeatWhile (refl, refl, refl, refl, refl)))
+    (λ j. absurd cc)
 give_repeat_while P w _ e l x = tt
 
 repeat_until_sign : (gd : Guard) → is_sign_of gd k.RepeatUntil ≡ false
@@ -536,10 +531,8 @@ repeat_until_sign g.SwitchOn = refl
 repeat_until_sign g.Case = refl
 repeat_until_sign _ = refl
 
-
 finish_repeat_until : (P : ℕ → ℕ → Type 0) → Down P → (st : Stack) (c : Action) (l : ℕ) (x : List ℕ) → Leads P (Any (Does P st (depth_of_action c + 1) (nodes_of_action c + 1))) (finish st c l x k.RepeatUntil)
 finish_repeat_until P w st c l x = let Q : Option State → Type 0 = λ z. Leads P (Any (Does P st (depth_of_action c + 1) (nodes_of_action c + 1))) z in subst Q (sym (repeated st c l x k.RepeatUntil refl)) (again_leads P w k.RepeatUntil st c)
-
 
 give_repeat_until : (P : ℕ → ℕ → Type 0) → Down P → (st : Stack) (e : Expression) (l : ℕ) (x : List ℕ) → Leads P (Gives P st (form_of e) (depth e) (nodes e) nx.repeating) (give st e l x k.RepeatUntil)
 give_repeat_until P w (in_unary m p st) e l x = give_repeat_until P w st (unary m p e) l x
@@ -547,36 +540,36 @@ give_repeat_until P w (in_binary q s a st) e l x = give_repeat_until P w st (bin
 give_repeat_until P w (in_chain q s a b st) e l x = give_repeat_until P w st (binary (line_of a) Both s a (binary (line_of b) q s b e)) l x
 give_repeat_until P w (in_else s y a st) e l x = give_repeat_until P w st (choice (line_of y) s y a e) l x
 give_repeat_until P w (in_table m es st) e l x = leads_by P (Gives P st Other (depth_of_each (each_then es (more e none)) + 1) (nodes_of_each (each_then es (more e none)) + 1) nx.repeating) (Gives P st Other (max (depth_of_each es) (depth e) + 1) (nodes_of_each es + nodes e + 1) nx.repeating) (give st (table m (each_then es (more e none))) l x k.RepeatUntil)
-      (let a = each_depth es e in let b = each_nodes es e in gives_falls P w st Other (max (depth_of_each es) (depth e) + 1) (depth_of_each (each_then es (more e none)) + 1) (nodes_of_each es + nodes e + 1) (nodes_of_each (each_then es (more e none)) + 1) (omega (arith, a)) (omega (arith, b)) nx.repeating) (give_repeat_until P w st (table m (each_then es (more e none))) l x)
+    (let a = each_depth es e in let b = each_nodes es e in gives_falls P w st Other (max (depth_of_each es) (depth e) + 1) (depth_of_each (each_then es (more e none)) + 1) (nodes_of_each es + nodes e + 1) (nodes_of_each (each_then es (more e none)) + 1) (omega (arith, a)) (omega (arith, b)) nx.repeating) (give_repeat_until P w st (table m (each_then es (more e none))) l x)
 give_repeat_until P w (in_start st) (apply m s y es) l x = finish_repeat_until P w st (call m y es) l x
 give_repeat_until P w (in_start st) e l x = tt
 give_repeat_until P w (in_dests xs st) e l x = tt
 give_repeat_until P w (in_values xs ys st) e l x =
-      let zs : Expressions = each_then ys (more e none) in
-      let a = each_depth ys e in
-      let b = each_nodes ys e in
-      counted_leads P (size xs == size ys + 1) (Closed (Does P st) (max (depth_of_each xs) (max (depth_of_each ys) (depth e)) + 1) (nodes_of_each xs + (nodes_of_each ys + nodes e) + 1)) (AtListing (Any (Closed (Does P st) (max (depth_of_each xs) (max (depth_of_each ys) (max (depth e) 1)) + 1) (nodes_of_each xs + (nodes_of_each ys + nodes e) + owed (size xs) (size ys) + 1)))) nx.repeating
-      (finish st (assign (line_of_first xs) xs zs) l x k.RepeatUntil) k.RepeatUntil (want (in_values xs zs st))
-      (leads_by P (Any (Does P st (max (depth_of_each xs) (depth_of_each (each_then ys (more e none))) + 1 + 1) (nodes_of_each xs + nodes_of_each (each_then ys (more e none)) + 1 + 1))) (Any (Does P st (max (depth_of_each xs) (max (depth_of_each ys) (depth e)) + 1 + 1) (nodes_of_each xs + (nodes_of_each ys + nodes e) + 1 + 1))) (finish st (assign (line_of_first xs) xs zs) l x k.RepeatUntil) (any_falls (Does P st) (does_falls P w st) (max (depth_of_each xs) (max (depth_of_each ys) (depth e)) + 1 + 1) (max (depth_of_each xs) (depth_of_each (each_then ys (more e none))) + 1 + 1) (nodes_of_each xs + (nodes_of_each ys + nodes e) + 1 + 1) (nodes_of_each xs + nodes_of_each (each_then ys (more e none)) + 1 + 1) (omega (arith, a)) (omega (arith, b))) (finish_repeat_until P w st (assign (line_of_first xs) xs zs) l x))
-      (λ j. absurd cc)
+    let zs : Expressions = each_then ys (more e none) in
+    let a = each_depth ys e in
+    let b = each_nodes ys e in
+    counted_leads P (size xs == size ys + 1) (Closed (Does P st) (max (depth_of_each xs) (max (depth_of_each ys) (depth e)) + 1) (nodes_of_each xs + (nodes_of_each ys + nodes e) + 1)) (AtListing (Any (Closed (Does P st) (max (depth_of_each xs) (max (depth_of_each ys) (max (depth e) 1)) + 1) (nodes_of_each xs + (nodes_of_each ys + nodes e) + owed (size xs) (size ys) + 1)))) nx.repeating
+    (finish st (assign (line_of_first xs) xs zs) l x k.RepeatUntil) k.RepeatUntil (want (in_values xs zs st))
+    (leads_by P (Any (Does P st (max (depth_of_each xs) (depth_of_each (each_then ys (more e none))) + 1 + 1) (nodes_of_each xs + nodes_of_each (each_then ys (more e none)) + 1 + 1))) (Any (Does P st (max (depth_of_each xs) (max (depth_of_each ys) (depth e)) + 1 + 1) (nodes_of_each xs + (nodes_of_each ys + nodes e) + 1 + 1))) (finish st (assign (line_of_first xs) xs zs) l x k.RepeatUntil) (any_falls (Does P st) (does_falls P w st) (max (depth_of_each xs) (max (depth_of_each ys) (depth e)) + 1 + 1) (max (depth_of_each xs) (depth_of_each (each_then ys (more e none))) + 1 + 1) (nodes_of_each xs + (nodes_of_each ys + nodes e) + 1 + 1) (nodes_of_each xs + nodes_of_each (each_then ys (more e none)) + 1 + 1) (omega (arith, a)) (omega (arith, b))) (finish_repeat_until P w st (assign (line_of_first xs) xs zs) l x))
+    (λ j. absurd cc)
 give_repeat_until P w (in_guard gd m st) e l x = leads_if P (AtClosing (Guarded gd (Does P st) (depth e) (nodes e)) nx.repeating) (is_sign_of gd k.RepeatUntil) (Some (behind_sign gd (in_guarded gd m e st))) None (λ j. absurd (let s = repeat_until_sign gd in cc)) (λ j. tt)
 give_repeat_until P w (in_result m st) e l x = finish_repeat_until P w st (result m e) l x
 give_repeat_until P w (in_while b a st) e l x = finish_repeat_until P w st (repeat_while (line_of_action a) b a e) l x
 give_repeat_until P w (in_function y fs st) e l x = leads_none P (AtClosing (Defines P st (depth e + 1) (nodes e + 1)) nx.repeating) (defined_by st (function y.line y.letters fs e) l x k.RepeatUntil) (defined_none st (function y.line y.letters fs e) l x k.RepeatUntil (refl, refl, refl, refl, refl))
 give_repeat_until P w (in_value xs is st) e l x =
-      let js : Starts = starts_then is (value e no_starts) in
-      let whole_of : Definition = variables (line_of_names xs) xs js in
-      counted_leads P (length xs == start_count is + 1) (AtClosing (Defines P st (max (depth_of_starts is) (depth e) + 1) (nodes_of_starts is + nodes e + 1)))
-      (AtListing (Defines P st (max (depth_of_starts is) (max (depth e) 1) + 1) (nodes_of_starts is + nodes e + owed (length xs) (start_count is) + 1))) nx.repeating (defined_by st whole_of l x k.RepeatUntil) k.RepeatUntil (due (at_starts xs js st))
-      (leads_none P ⊥ (defined_by st whole_of l x k.RepeatUntil) (defined_none st whole_of l x k.RepeatUntil (refl, refl, refl, refl, refl)))
-      (λ j. absurd cc)
+    let js : Starts = starts_then is (value e no_starts) in
+    let whole_of : Definition = variables (line_of_names xs) xs js in
+    counted_leads P (length xs == start_count is + 1) (AtClosing (Defines P st (max (depth_of_starts is) (depth e) + 1) (nodes_of_starts is + nodes e + 1)))
+    (AtListing (Defines P st (max (depth_of_starts is) (max (depth e) 1) + 1) (nodes_of_starts is + nodes e + owed (length xs) (start_count is) + 1))) nx.repeating (defined_by st whole_of l x k.RepeatUntil) k.RepeatUntil (due (at_starts xs js st))
+    (leads_none P ⊥ (defined_by st whole_of l x k.RepeatUntil) (defined_none st whole_of l x k.RepeatUntil (refl, refl, refl, refl, refl)))
+    (λ j. absurd cc)
 give_repeat_until P w (in_vector m xs is st) e l x =
-      let js : Starts = starts_then is (vector m e no_starts) in
-      let whole_of : Definition = variables (line_of_names xs) xs js in
-      counted_leads P (length xs == start_count is + 1) (AtClosing (Defines P st (max (depth_of_starts is) (depth e) + 1) (nodes_of_starts is + nodes e + 1)))
-      (AtListing (Defines P st (max (depth_of_starts is) (max (depth e) 1) + 1) (nodes_of_starts is + nodes e + owed (length xs) (start_count is) + 1))) nx.repeating (defined_by st whole_of l x k.RepeatUntil) k.RepeatUntil (due (at_starts xs js st))
-      (leads_none P ⊥ (defined_by st whole_of l x k.RepeatUntil) (defined_none st whole_of l x k.RepeatUntil (refl, refl, refl, refl, refl)))
-      (λ j. absurd cc)
+    let js : Starts = starts_then is (vector m e no_starts) in
+    let whole_of : Definition = variables (line_of_names xs) xs js in
+    counted_leads P (length xs == start_count is + 1) (AtClosing (Defines P st (max (depth_of_starts is) (depth e) + 1) (nodes_of_starts is + nodes e + 1)))
+    (AtListing (Defines P st (max (depth_of_starts is) (max (depth e) 1) + 1) (nodes_of_starts is + nodes e + owed (length xs) (start_count is) + 1))) nx.repeating (defined_by st whole_of l x k.RepeatUntil) k.RepeatUntil (due (at_starts xs js st))
+    (leads_none P ⊥ (defined_by st whole_of l x k.RepeatUntil) (defined_none st whole_of l x k.RepeatUntil (refl, refl, refl, refl, refl)))
+    (λ j. absurd cc)
 give_repeat_until P w _ e l x = tt
 
 parts_any : {F G H : Next → Type 0} → ((c : Next) → F c → H c) → ((c : Next) → G c → H c) → Any (AtPart F G) → Any (Unlisted H)
@@ -586,7 +579,6 @@ parts_any f k (nx.assigning, h) = (nx.assigning, f nx.assigning h)
 parts_any f k (nx.going, h) = (nx.going, f nx.going h)
 parts_any f k (nx.operating, h) = (nx.operating, f nx.operating h)
 parts_any f k (nx.repeating, h) = (nx.repeating, f nx.repeating h)
-
 
 -- ---- a comma
 
@@ -636,7 +628,6 @@ starts_any P w xs js st h = starts_by P w (length xs == start_count js + 1) (len
 starts_more : (P : ℕ → ℕ → Type 0) → Down P → (xs : List Mention) (is js : Starts) (st : Stack) (d n : ℕ) → depth_of_starts js ≡ max (depth_of_starts is) (max d 0) → nodes_of_starts js ≡ nodes_of_starts is + (n + 0) → start_count js ≡ start_count is + (0 + 1)
     → Any (Gives P (in_value xs js st) Label 1 1) → Defines P st (max (depth_of_starts is) (max d 1) + 1) (nodes_of_starts is + n + owed (length xs) (start_count is) + 1)
 starts_more P w xs is js st d n a b c h = defines_fall P w st (max (depth_of_starts is) (max d 1) + 1) (max (depth_of_starts js) 1 + 1) (nodes_of_starts is + n + owed (length xs) (start_count is) + 1) (nodes_of_starts js + 1 + owed (length xs) (start_count js) + 1) (omega (arith, a)) (omega (arith, b, c)) (starts_any P w xs js st h)
-
 
 comma_sign : (gd : Guard) → is_sign_of gd k.Comma ≡ false
 comma_sign g.SwitchOn = refl

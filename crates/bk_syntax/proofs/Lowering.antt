@@ -8,9 +8,9 @@ use Rattle.bk_syntax.specs.Limits.{depth, depth_of_each, depth_of_action, depth_
 use Rattle.std.specs.Prelude.{nat_lt}
 use Rattle.bk_syntax.specs.Rows.{inner}
 use Rattle.bk_syntax.specs.Grammar.{size, start_count}
-use Rattle.bk_syntax.specs.Machine.{Stack, in_section, in_block, in_let, in_parens, in_unary, in_binary, in_chain, in_then, in_else, in_args, in_table, in_start, in_dests, in_values, in_guard, in_test, in_result, in_while, in_from, in_to, in_by, in_item, in_function, in_value, in_vector, in_valof, in_label, in_guarded, in_default, in_do, in_or, in_for, in_routine}
-use Rattle.bk_syntax.specs.Sizes.{owed}
-use Rattle.bk_syntax.specs.Completions.{Next, closing, assigning, listing, going, repeating, operating, Any, AtClosing, AtListing, AtArgument, AtAssignment, Unlisted, AtPart, If, Closed, Missing, Started, Answered, Whole, Guarded, Taken, Gives, Does, Operates, Defines, Declares}
+use Rattle.bk_syntax.specs.Inner.Machine.{Stack, in_section, in_block, in_let, in_parens, in_unary, in_binary, in_chain, in_then, in_else, in_args, in_table, in_start, in_dests, in_values, in_guard, in_test, in_result, in_while, in_from, in_to, in_by, in_item, in_function, in_value, in_vector, in_valof, in_label, in_guarded, in_default, in_do, in_or, in_for, in_routine}
+use Rattle.bk_syntax.specs.Inner.Sizes.{owed}
+use Rattle.bk_syntax.specs.Inner.WaysOn.{Next, closing, assigning, listing, going, repeating, operating, Any, AtClosing, AtListing, AtArgument, AtAssignment, Unlisted, AtPart, If, Closed, Missing, Started, Answered, Whole, Guarded, Taken, Gives, Does, Operates, Defines, Declares}
 
 -- a smaller section has the property too
 abbrev pub Down : (ℕ → ℕ → Type 0) → Type 0
@@ -143,7 +143,6 @@ guarded_falls : (gd : Guard) (F : ℕ → ℕ → Next → Type 0) → Falls F �
 guarded_falls g.Case F k d e n m p q (inl h) = inl (any_missing F k (d + 1) (e + 1) (n + 1) (m + 1) (omega (arith, p)) (omega (arith, q)) h)
 guarded_falls g.Case F k d e n m p q (inr h) = inr (any_falls F k (max d 1 + 1) (max e 1 + 1) (n + 2) (m + 2) (omega (arith, p)) (omega (arith, q)) h)
 guarded_falls _ F k d e n m p q h = any_falls F k (max d 1 + 1) (max e 1 + 1) (n + 2) (m + 2) (omega (arith, p)) (omega (arith, q)) h
-
 
 mutual
   pub gives_falls : (P : ℕ → ℕ → Type 0) → Down P → (st : Stack) (f : Form) → Falls (Gives P st f)

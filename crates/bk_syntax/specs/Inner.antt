@@ -4,3 +4,4 @@ pub mod Sizes
 pub mod Begun
 pub mod Stacked
 pub mod Frames
+pub mod WaysOn

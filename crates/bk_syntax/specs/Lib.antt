@@ -9,4 +9,3 @@ pub mod Inner
 pub mod Bounds
 pub mod SyntaxLaws
 pub mod Parsing
-pub mod Completions

@@ -9,8 +9,8 @@ use Rattle.bk_syntax.specs.Tree.{Items, Declarations, no_items, item, none}
 use Rattle.bk_syntax.specs.Limits.{depth, depth_of_each, depth_of_action, depth_of_actions, depth_of_declarations, depth_of_items, depth_of_definitions, depth_of_starts, nodes, nodes_of_each, nodes_of_action, nodes_of_actions, nodes_of_declarations, nodes_of_items, nodes_of_definitions, nodes_of_starts}
 use Rattle.bk_syntax.specs.Rows.{inner}
 use Rattle.bk_syntax.specs.Grammar.{size, start_count}
-use Rattle.bk_syntax.specs.Machine.{Stack, State, in_section, in_block, in_let, at_name, at_formals, at_formal, at_formal_end, at_head, at_variable, at_variable_end, at_starts, at_opening, at_items, at_sign, at_goto, at_for, at_forward, at_default, in_parens, in_unary, in_binary, in_chain, in_then, in_else, in_args, in_table, in_start, in_dests, in_values, in_guard, in_test, in_result, in_while, in_from, in_to, in_by, in_item, in_function, in_value, in_vector, in_valof, in_label, in_guarded, in_default, in_do, in_or, in_for, in_routine, want, have, begin, maybe, did, due}
-use Rattle.bk_syntax.specs.Sizes.{form_of, owed}
+use Rattle.bk_syntax.specs.Inner.Machine.{Stack, State, in_section, in_block, in_let, at_name, at_formals, at_formal, at_formal_end, at_head, at_variable, at_variable_end, at_starts, at_opening, at_items, at_sign, at_goto, at_for, at_forward, at_default, in_parens, in_unary, in_binary, in_chain, in_then, in_else, in_args, in_table, in_start, in_dests, in_values, in_guard, in_test, in_result, in_while, in_from, in_to, in_by, in_item, in_function, in_value, in_vector, in_valof, in_label, in_guarded, in_default, in_do, in_or, in_for, in_routine, want, have, begin, maybe, did, due}
+use Rattle.bk_syntax.specs.Inner.Sizes.{form_of, owed}
 
 -- the symbol behind a part, by what within the part takes it as its own: nothing, a call, a call or a TABLE, an expression, a
 -- command; the last is an operator that begins no command, so that it may come where a command is missing
