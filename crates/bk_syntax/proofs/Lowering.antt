@@ -1,5 +1,5 @@
 -- What can be completed with a part can be completed with a smaller one.
-use Rattle.std.proofs.Common.{◌≡◌, ◌≤◌, ℕ, ◌+◌, max, Bool, true, false, ◌==◌, length, ◌⊎◌, inl, inr, arith}
+use Rattle.std.proofs.Common.{◌≤◌, ℕ, ◌+◌, max, Bool, true, false, ◌==◌, length, inl, inr, arith}
 use Rattle.bk_syntax.specs.declared.symbols.Guard.{Guard}
 use Rattle.bk_syntax.specs.declared.symbols.Guard.TheVariants as g
 use Rattle.bk_syntax.specs.declared.size.Form.{Form}

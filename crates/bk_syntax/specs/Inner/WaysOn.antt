@@ -5,7 +5,7 @@ use Rattle.bk_syntax.specs.declared.symbols.Guard.{Guard}
 use Rattle.bk_syntax.specs.declared.symbols.Guard.TheVariants as g
 use Rattle.bk_syntax.specs.declared.size.Form.{Form}
 use Rattle.bk_syntax.specs.declared.size.Form.TheVariants.{Label, Call, Callable, Other}
-use Rattle.bk_syntax.specs.Tree.{Items, Declarations, no_items, item, none}
+use Rattle.bk_syntax.specs.Tree.{Items, no_items, item, none}
 use Rattle.bk_syntax.specs.Limits.{depth, depth_of_each, depth_of_action, depth_of_actions, depth_of_declarations, depth_of_items, depth_of_definitions, depth_of_starts, nodes, nodes_of_each, nodes_of_action, nodes_of_actions, nodes_of_declarations, nodes_of_items, nodes_of_definitions, nodes_of_starts}
 use Rattle.bk_syntax.specs.Rows.{inner}
 use Rattle.bk_syntax.specs.Grammar.{size, start_count}
