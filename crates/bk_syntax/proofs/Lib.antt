@@ -28,3 +28,5 @@ pub mod Lifts
 pub mod Finished
 pub mod Rises
 pub mod Bounding
+pub mod Lowering
+pub mod Covering

@@ -15,7 +15,7 @@ use Rattle.bk_syntax.specs.Tree.{Declarations, no_declarations}
 use Rattle.bk_syntax.specs.Limits.{Within, depth_of_declarations, nodes_of_declarations}
 use Rattle.bk_syntax.specs.Inner.Sizes.{least_depth, least_nodes}
 use Rattle.bk_syntax.specs.Brackets.{plain}
-use Rattle.bk_syntax.specs.SyntaxLaws.{reading}
+use Rattle.bk_syntax.specs.SyntaxLaws.{reading, AtMost, BeginsCompletes}
 use Rattle.bk_syntax.specs.Grammar as G
 use Rattle.bk_syntax.specs.SyntaxFault.{IsSection, Begins, Shallow, Stands}
 use Rattle.bk_syntax.specs.Inner.Machine.{State, due, in_section, step, run}
@@ -26,6 +26,8 @@ use Rattle.bk_syntax.proofs.Exact.{reads_the_grammar}
 use Rattle.bk_syntax.proofs.Tags.{tag_stands}
 use Rattle.bk_syntax.proofs.Behind.{goes_some, reads, plain_all, reading_all}
 use Rattle.bk_syntax.proofs.Bounding.{Sound, step_sound, run_up}
+use Rattle.bk_syntax.proofs.Lowering.{Down}
+use Rattle.bk_syntax.proofs.Covering.{run_completes}
 use Rattle.bk_syntax.proofs.Complete.{complete}
 use Rattle.bk_syntax.proofs.Begun.{in_front_some, behind_begins, behind_shallow}
 
@@ -34,13 +36,28 @@ leads_sound : (ps : List Symbol) (x y : State) → Sound x → leads ps x ≡ So
 leads_sound [] x y h is = let same : x ≡ y = cc in subst Sound same h
 leads_sound (t ∷ ps) x y h is = let g = goes_some (leads ps) (step x t) y is in leads_sound ps g.0 y (step_sound x g.0 t h g.1).1 g.2
 
+-- what a section has behind the symbols with which it begins is read from there
+rest_runs : (ts us : List Symbol) (opens : List (List ℕ)) (x : State) (ds : Declarations) → AfterSymbols ts opens x → IsSection ds (ts ++ us) → (rest : List Symbol) × (run rest x ≡ Ok ds)
+rest_runs ts us opens x ds b is =
+    let r = in_front_some b.plainly (plain us opens) is.plainly (sym (b.brackets us) ∙ is.brackets) in
+    let whole : reading is.plainly ≡ Ok ds = complete ds is.plainly is.section in
+    (r.0, sym (reads b r.0) ∙ ap reading (sym r.2) ∙ whole)
+
 -- a section that begins with the symbols is no smaller than what is least behind them
 least_of : (ts us : List Symbol) (opens : List (List ℕ)) (x : State) (ds : Declarations) → AfterSymbols ts opens x → IsSection ds (ts ++ us)
     → (least_depth x ≤ depth_of_declarations ds) × (least_nodes x ≤ nodes_of_declarations ds)
 least_of ts us opens x ds b is =
-    let r = in_front_some b.plainly (plain us opens) is.plainly (sym (b.brackets us) ∙ is.brackets) in
-    let whole : reading is.plainly ≡ Ok ds = complete ds is.plainly is.section in
-    run_up r.0 x ds (leads_sound b.plainly (due (in_section no_declarations)) x tt b.comes) (sym (reads b r.0) ∙ ap reading (sym r.2) ∙ whole)
+    let r = rest_runs ts us opens x ds b is in
+    run_up r.0 x ds (leads_sound b.plainly (due (in_section no_declarations)) x tt b.comes) r.1
+
+at_most_down : (levels most : ℕ) → Down (AtMost levels most)
+at_most_down levels most d e n m i j h = let p = h.0 in let q = h.1 in (omega (arith, i, p), omega (arith, j, q))
+
+-- and where it is within some bounds, the state behind them completes these
+pub begins_completes : BeginsCompletes
+begins_completes ts opens x levels most b w =
+    let r = rest_runs ts w.0 opens x w.1 b w.2 in
+    run_completes (AtMost levels most) (at_most_down levels most) r.0 x w.1 r.1 w.3
 
 limit_stands : (kind : SourceKind) (u : List Symbol) (t : Symbol) (opens : List (List ℕ)) (x : State) → IsLimit kind → AfterSymbols (u ++ t ∷ []) opens x → Passed kind x → Stands kind u t
 limit_stands NestedTooDeeply u t opens x h b over =

@@ -1,6 +1,8 @@
--- The machine of frames that the parser is, views of what it keeps, and the sizes that it reckons: no definition of the language.
+-- The machine of frames that the parser is, views of what it keeps, the sizes that it reckons, and what its states can still
+-- become: no definition of the language.
 pub mod Machine
 pub mod Sizes
 pub mod Begun
 pub mod Stacked
 pub mod Frames
+pub mod WaysOn

@@ -1,5 +1,5 @@
 //! Laws of the grammar, which the parser and the crates above rest on.
-ghost use Rattle.bk_syntax.specs.SyntaxLaws.{ReadsTheGrammar, HaveOneTree, TagFaultStands, SymbolFaultStands, EndFaultStands, GoesOnBegins};
+ghost use Rattle.bk_syntax.specs.SyntaxLaws.{ReadsTheGrammar, HaveOneTree, TagFaultStands, SymbolFaultStands, EndFaultStands, GoesOnBegins, BeginsCompletes};
 
 /// The reading machine reads just the trees of the grammar.
 pub fn reads_the_grammar()
@@ -29,4 +29,9 @@ pub fn end_fault_stands()
 /// Where the machine goes on, a section begins.
 pub fn goes_on_begins()
     ensures { GoesOnBegins }
+{}
+
+/// Where a section within some bounds of depth and nodes begins, the machine behind its beginning has a way on within them.
+pub fn begins_completes()
+    ensures { BeginsCompletes }
 {}
