@@ -1,15 +1,14 @@
 -- Symbols with which the machine goes on begin a section.
-use Rattle.std.proofs.Common.{◌≡◌, ◌≤◌, arith, ℕ, Bool, true, false, cond, List, [], ◌∷◌, ◌++◌, Option, Some, None, Ok, Err, refl, sym, ap, subst, ◌∙◌}
+use Rattle.std.proofs.Common.{◌≡◌, ◌≤◌, arith, ℕ, Bool, true, false, cond, List, [], ◌∷◌, ◌++◌, Option, Some, None, Err, refl, sym, ap, subst, ◌∙◌}
 use Rattle.bk_lex.specs.declared.token.Kind.{Kind}
 use Rattle.bk_lex.specs.declared.token.Kind.TheVariants as k
 use Rattle.bk_lex.specs.Symbol.{Symbol}
-use Rattle.bk_syntax.specs.Tree.{Declarations, no_declarations}
+use Rattle.bk_syntax.specs.Tree.{no_declarations}
 use Rattle.bk_syntax.specs.Spelling.{tag_of}
 use Rattle.bk_syntax.specs.Brackets.{Closing, same_tag, one_more, up_to_tag, without_tag, closed_by, in_front, plain}
-use Rattle.bk_base.specs.declared.limit.TheConstants.{TREE_DEPTH}
-use Rattle.bk_syntax.specs.Limits.{depth_of_declarations}
-use Rattle.bk_syntax.specs.Inner.Sizes.{least_depth}
-use Rattle.bk_syntax.specs.SyntaxFault.{Begins, Any, Shallow}
+use Rattle.bk_syntax.specs.Limits.{depth_of_declarations, nodes_of_declarations}
+use Rattle.bk_syntax.specs.Inner.WaysOn.{Completes}
+use Rattle.bk_syntax.specs.SyntaxFault.{Begins, Any}
 use Rattle.bk_syntax.specs.Inner.Machine.{State, due, in_section, opens, closes, stepped_by, step, run}
 use Rattle.bk_syntax.specs.SyntaxLaws.{reading}
 use Rattle.bk_syntax.specs.Parsing.{goes_to, leads, AfterSymbols}
@@ -17,10 +16,12 @@ use Rattle.bk_syntax.proofs.Steps.{stepped}
 use Rattle.bk_syntax.proofs.Before.{opens_kind, closes_kind}
 use Rattle.bk_syntax.proofs.Stands.{whole_err}
 use Rattle.bk_syntax.proofs.Exact.{reads_the_grammar}
-use Rattle.bk_syntax.proofs.Behind.{leads_both, leads_runs, plain_end, plain_open, plain_other, plain_close, plain_all, reading_all, run_end, stopped}
+use Rattle.bk_syntax.proofs.Behind.{nothing_in_front, both_in_front, leads_both, leads_runs, plain_end, plain_open, plain_other, plain_close, plain_all, reading_all, run_end, stopped}
 use Rattle.bk_syntax.proofs.Fits.{Tagged, Fits, Fit, FitUnder, After}
 use Rattle.bk_syntax.proofs.Fitting.{step_fits}
-use Rattle.bk_syntax.proofs.Completions.{state_ends}
+use Rattle.bk_syntax.proofs.Onward.{Way}
+use Rattle.bk_syntax.proofs.Attained.{state_way}
+use Rattle.bk_syntax.proofs.Possible.{Always, possible}
 
 -- the machine stops at none of these symbols
 abbrev Passes : List Symbol → State → Type 0
@@ -161,69 +162,59 @@ pass_symbol : (b : Bool) (t : Symbol) (ts ps : List Symbol) (os : List (List ℕ
 pass_symbol true t ts ps os x c f h p = pass_close t ts ps os x (closed_by t (tag_of t.text) os) c f refl h p
 pass_symbol false t ts ps os x c f h p = pass_open (opens t.kind) t ts ps os x refl c f h p
 
--- these symbols, plainly these, lead to a state, and with more of them they are read to the end of a section that is no deeper
--- than the least that goes on from there
-record Completed (ts ps : List Symbol) (os : List (List ℕ)) (x : State) : Type 0 where
+-- these symbols, plainly these, lead to a state that fits the sections that are open there
+record Walked (ts ps : List Symbol) (os : List (List ℕ)) (x : State) : Type 0 where
   last : State
+  left : List (List ℕ)
+  fits : Fits last left
   comes : leads ps x ≡ Some last
-  more : List Symbol
-  plainly : List Symbol
-  brackets : plain (ts ++ more) os ≡ Some plainly
-  tree : Declarations
-  runs : run plainly x ≡ Ok tree
-  depth : depth_of_declarations tree ≤ least_depth last
+  brackets : (us : List Symbol) → plain (ts ++ us) os ≡ in_front ps (plain us left)
 
-complete_from : (ts ps : List Symbol) (os : List (List ℕ)) (x : State) → Fits x os → plain ts os ≡ Some ps → Passes ps x → Completed ts ps os x
-complete_from [] ps os x f h p =
+walked : (ts ps : List Symbol) (os : List (List ℕ)) (x : State) → Fits x os → plain ts os ≡ Some ps → Passes ps x → Walked ts ps os x
+walked [] ps os x f h p =
     let none : ps ≡ [] = let q = plain_end os in cc in
-    let e = state_ends x os f in
-    record {
-      last = x;
-      comes = ap (λ z. leads z x) none;
-      more = e.symbols;
-      plainly = e.symbols;
-      brackets = e.brackets;
-      tree = e.tree;
-      runs = e.runs;
-      depth = e.depth;
-    }
-complete_from (t ∷ ts) ps os x f h p =
+    record { last = x; left = os; fits = f; comes = ap (λ z. leads z x) none; brackets = λ us. nothing_in_front (plain us os) ∙ ap (λ z. in_front z (plain us os)) (sym none) }
+walked (t ∷ ts) ps os x f h p =
     let s = pass_symbol (closes t.kind) t ts ps os x refl f h p in
-    let r = complete_from ts s.rest s.left s.walk.next s.walk.fits s.others s.passes in
+    let r = walked ts s.rest s.left s.walk.next s.walk.fits s.others s.passes in
     record {
       last = r.last;
+      left = r.left;
+      fits = r.fits;
       comes = ap (λ z. leads z x) s.parts ∙ leads_both s.closings s.rest x s.walk.next s.walk.comes ∙ r.comes;
-      more = r.more;
-      plainly = s.closings ++ r.plainly;
-      brackets = s.brackets (ts ++ r.more) ∙ ap (in_front s.closings) r.brackets;
-      tree = r.tree;
-      runs = leads_runs s.closings x s.walk.next r.plainly s.walk.comes ∙ r.runs;
-      depth = r.depth;
+      brackets = λ us. s.brackets (ts ++ us) ∙ ap (in_front s.closings) (r.brackets us) ∙ both_in_front s.closings s.rest (plain us r.left) ∙ ap (λ z. in_front z (plain us r.left)) (sym s.parts);
     }
+
+-- a way on from there makes a section of them
+begins_with : (P : ℕ → ℕ → Type 0) (ts ps : List Symbol) → plain ts [] ≡ Some ps → Passes ps (due (in_section no_declarations))
+    → ((os : List (List ℕ)) (x : State) → leads ps (due (in_section no_declarations)) ≡ Some x → Fits x os → Way P os x) → Begins (λ ds. P (depth_of_declarations ds) (nodes_of_declarations ds)) ts
+begins_with P ts ps h p f =
+    let start : State = due (in_section no_declarations) in
+    let w = walked ts ps [] start refl h p in
+    let e = f w.left w.last w.comes w.fits in
+    let section = (reads_the_grammar e.tree (ps ++ e.symbols)).1 (leads_runs ps start w.last e.symbols w.comes ∙ e.runs) in
+    (e.symbols, e.tree, record { plainly = ps ++ e.symbols; brackets = w.brackets e.symbols ∙ ap (in_front ps) e.brackets; section = section }, e.has)
 
 -- behind all the symbols nothing is left at which the machine could stop
 none_left : (x : State) → Passes [] x
 none_left x t v e = let w = whole_err (stepped_by x 1 [] k.Semicolon) (t ∷ v) (sym (run_end x) ∙ e) in absurd cc
 
 pub goes_on_begins : (ts ps : List Symbol) → plain ts [] ≡ Some ps → ((t : Symbol) (v : List Symbol) → reading ps ≡ Err (t ∷ v) → ⊥) → Begins Any ts
-goes_on_begins ts ps h p =
-    let r = complete_from ts ps [] (due (in_section no_declarations)) refl h p in
-    (r.more, r.tree, record { plainly = r.plainly; brackets = r.brackets; section = (reads_the_grammar r.tree r.plainly).1 r.runs }, tt)
+goes_on_begins ts ps h p = begins_with Always ts ps h p (λ os x c f. state_way Always os x f (possible x os f))
 
--- what was read so far
-behind_completed : (ts : List Symbol) (opens : List (List ℕ)) (x : State) (b : AfterSymbols ts opens x) → Completed ts b.plainly [] (due (in_section no_declarations))
-behind_completed ts opens x b = complete_from ts b.plainly [] (due (in_section no_declarations)) refl (plain_all ts opens x b) (λ t v e. none_left x t v (sym (reading_all ts opens x b) ∙ e))
+-- a way on from the state behind what was read so far
+behind_with : (P : ℕ → ℕ → Type 0) (ts : List Symbol) (opens : List (List ℕ)) (x : State) → AfterSymbols ts opens x → ((os : List (List ℕ)) → Fits x os → Way P os x) → Begins (λ ds. P (depth_of_declarations ds) (nodes_of_declarations ds)) ts
+behind_with P ts opens x b g =
+    begins_with P ts b.plainly (plain_all ts opens x b) (λ t v e. none_left x t v (sym (reading_all ts opens x b) ∙ e))
+    (λ os y c f.
+    let is : y ≡ x = let p = c in let q = b.comes in cc in
+    let Q : State → Type 0 = λ z. Way P os z in
+    let F : State → Type 0 = λ z. Fits z os in
+    subst Q (sym is) (g os (subst F is f)))
 
 pub behind_begins : (ts : List Symbol) (opens : List (List ℕ)) (x : State) → AfterSymbols ts opens x → Begins Any ts
-behind_begins ts opens x b =
-    let r = behind_completed ts opens x b in
-    (r.more, r.tree, record { plainly = r.plainly; brackets = r.brackets; section = (reads_the_grammar r.tree r.plainly).1 r.runs }, tt)
+behind_begins ts opens x b = behind_with Always ts opens x b (λ os f. state_way Always os x f (possible x os f))
 
--- where the least that goes on is no deeper than the limit, so is a section that begins with the symbols
-pub behind_shallow : (ts : List Symbol) (opens : List (List ℕ)) (x : State) → AfterSymbols ts opens x → least_depth x ≤ TREE_DEPTH → Begins Shallow ts
-behind_shallow ts opens x b within =
-    let r = behind_completed ts opens x b in
-    let last : r.last ≡ x = let p = r.comes in let q = b.comes in cc in
-    let P : State → Type 0 = λ z. depth_of_declarations r.tree ≤ least_depth z in
-    let d = subst P last r.depth in
-    (r.more, r.tree, record { plainly = r.plainly; brackets = r.brackets; section = (reads_the_grammar r.tree r.plainly).1 r.runs }, omega (arith, d, within))
+-- what can be completed behind the symbols begins with them
+pub completes_begins_with : (P : ℕ → ℕ → Type 0) (ts : List Symbol) (opens : List (List ℕ)) (x : State) → AfterSymbols ts opens x → Completes P x → Begins (λ ds. P (depth_of_declarations ds) (nodes_of_declarations ds)) ts
+completes_begins_with P ts opens x b h = behind_with P ts opens x b (λ os f. state_way P os x f h)

@@ -41,11 +41,11 @@ use Rattle.bk_syntax.proofs.Stacks.{stack_none}
 use Rattle.bk_syntax.proofs.Openings.{tags_none}
 use Rattle.bk_syntax.proofs.Tags.{tag_stands, symbol_stands}
 
-nothing_in_front : (r : Option (List Symbol)) → r ≡ in_front [] r
+pub nothing_in_front : (r : Option (List Symbol)) → r ≡ in_front [] r
 nothing_in_front None = refl
 nothing_in_front (Some us) = refl
 
-both_in_front : (ps qs : List Symbol) (r : Option (List Symbol)) → in_front ps (in_front qs r) ≡ in_front (ps ++ qs) r
+pub both_in_front : (ps qs : List Symbol) (r : Option (List Symbol)) → in_front ps (in_front qs r) ≡ in_front (ps ++ qs) r
 both_in_front ps qs None = refl
 both_in_front ps qs (Some us) = ap Some (sym (append_assoc ps qs us))
 

@@ -13,7 +13,7 @@ use Rattle.bk_syntax.specs.declared.tree.Sort.{Sort}
 use Rattle.bk_syntax.specs.declared.symbols.Guard.{Guard}
 use Rattle.bk_syntax.specs.declared.symbols.Guard.TheVariants as g
 use Rattle.bk_syntax.specs.declared.size.Form.{Form}
-use Rattle.bk_syntax.specs.declared.size.Form.TheVariants.{Label, Call, Callable, Tabled, Other}
+use Rattle.bk_syntax.specs.declared.size.Form.TheVariants.{Label, Call, Callable, Other}
 use Rattle.bk_syntax.specs.Tree.{Mention, Expression, Expressions, Action, Actions, Declaration, Declarations, Items, Definition, Starts, name, parens, unary, binary, choice, apply, valof, table, none, more, empty, assign, label, default, test, for_loop, result, block, repeat_while, no_actions, also, constants, definitions, no_declarations, declare, no_items, item, routine, function, variables, no_definitions, define, no_starts, value, vector, call, goto}
 use Rattle.bk_syntax.specs.Limits.{depth, depth_of_each, depth_of_action, depth_of_actions, depth_of_declaration, depth_of_declarations, depth_of_items, depth_of_definition, depth_of_definitions, depth_of_starts, nodes, nodes_of_each, nodes_of_action, nodes_of_actions, nodes_of_declaration, nodes_of_declarations, nodes_of_items, nodes_of_definition, nodes_of_definitions, nodes_of_starts}
 use Rattle.bk_syntax.specs.Rows.{inner, behind, is_relation, infix_of, prefix_of, sort_of, begins_command, repeats, assigns, is_and, is_comma, goes}
@@ -23,7 +23,7 @@ use Rattle.bk_syntax.specs.Inner.Sizes.{form_of, owed}
 use Rattle.bk_syntax.specs.Inner.WaysOn as nx
 use Rattle.bk_syntax.specs.Inner.WaysOn.{Next, Any, AtClosing, AtListing, AtArgument, AtAssignment, Unlisted, AtPart, If, Closed, Missing, Started, Answered, Whole, Guarded, Taken, Gives, Does, Operates, Defines, Declares, Wants, Misses, Lists, Due, Completes}
 use Rattle.bk_syntax.proofs.Before.{falls, behind_ok, inner_ok}
-use Rattle.bk_syntax.proofs.Steps.{pushes, repeated, size_then, count_then}
+use Rattle.bk_syntax.proofs.Steps.{pushes, repeated, size_then, count_then, no_comma}
 use Rattle.bk_syntax.proofs.Trees.{each_depth, each_nodes, actions_depth, actions_nodes, declarations_depth, declarations_nodes, definitions_depth, definitions_nodes, items_depth, items_nodes, starts_depth, starts_nodes}
 use Rattle.bk_syntax.proofs.Turns.{guarded_depth, guarded_nodes}
 use Rattle.bk_syntax.proofs.Lowering.{Down, Falls, any, unlisted, any_falls, any_closed, any_missing, whole_falls, gives_falls, does_falls, defines_fall, declares_fall}
@@ -73,10 +73,6 @@ started_label F k Callable d n p q nx.closing h = absurd h
 started_label F k Callable d n p q nx.going h = absurd h
 started_label F k Callable d n p q nx.operating h = absurd h
 started_label F k Callable d n p q nx.repeating h = absurd h
-started_label F k Tabled d n p q nx.closing h = absurd h
-started_label F k Tabled d n p q nx.going h = absurd h
-started_label F k Tabled d n p q nx.operating h = absurd h
-started_label F k Tabled d n p q nx.repeating h = absurd h
 started_label F k Other d n p q nx.closing h = absurd h
 started_label F k Other d n p q nx.going h = absurd h
 started_label F k Other d n p q nx.operating h = absurd h
@@ -93,7 +89,7 @@ least_whole : (P : ℕ → ℕ → Type 0) → Down P → (st : Stack) (f : Form
 least_whole P w st f d n p q (inl h) = least P w st f d n p q h.0 h.1
 least_whole P w st f d n p q (inr h) = least P w st Call (d + 1) (n + 1) (omega arith) (omega arith) h.0 h.1
 
-wants : (P : ℕ → ℕ → Type 0) → Down P → (st : Stack) → Any (Gives P st Label 1 1) → Wants P st
+pub wants : (P : ℕ → ℕ → Type 0) → Down P → (st : Stack) → Any (Gives P st Label 1 1) → Wants P st
 wants P w (in_args s x none st) (nx.closing, h) = whole_falls (Gives P st) (gives_falls P w st) Call (depth x + 1) (max (depth x) (max 0 1) + 1) (nodes x + 1) (nodes x + (0 + 1) + 1) (omega arith) (omega arith) h
 wants P w (in_args s x none st) (nx.listing, h) = whole_falls (Gives P st) (gives_falls P w st) Call (depth x + 1) (max (depth x) (max 0 (max 1 1)) + 1) (nodes x + 1) (nodes x + (0 + 1) + 2) (omega arith) (omega arith) h
 wants P w (in_args s x none st) (nx.assigning, h) = absurd h
@@ -792,10 +788,6 @@ finish_open P w (in_routine y fs st) c l x = leads_none P ⊥ (defined_by st (ro
 finish_open P w _ c l x = tt
 
 -- ---- a symbol that goes through all
-
-no_comma : (t : Kind) → assigns t ≡ false → is_comma t ≡ false
-no_comma k.Comma h = absurd cc
-no_comma _ h = refl
 
 no_dests : (t : Kind) (xs : Expressions) (st : Stack) → assigns t ≡ false → dests xs st t ≡ None
 no_dests k.Comma xs st h = absurd cc

@@ -3,18 +3,25 @@ use Rattle.std.proofs.Common.{◌≤◌, ℕ, ◌+◌, max, Bool, true, false, �
 use Rattle.bk_syntax.specs.declared.symbols.Guard.{Guard}
 use Rattle.bk_syntax.specs.declared.symbols.Guard.TheVariants as g
 use Rattle.bk_syntax.specs.declared.size.Form.{Form}
-use Rattle.bk_syntax.specs.declared.size.Form.TheVariants.{Label, Call, Callable, Tabled, Other}
+use Rattle.bk_syntax.specs.declared.size.Form.TheVariants.{Label, Call, Callable, Other}
 use Rattle.bk_syntax.specs.Limits.{depth, depth_of_each, depth_of_action, depth_of_actions, depth_of_declarations, depth_of_items, depth_of_definitions, depth_of_starts, nodes, nodes_of_each, nodes_of_action, nodes_of_actions, nodes_of_declarations, nodes_of_items, nodes_of_definitions, nodes_of_starts}
 use Rattle.std.specs.Prelude.{nat_lt}
 use Rattle.bk_syntax.specs.Rows.{inner}
 use Rattle.bk_syntax.specs.Grammar.{size, start_count}
 use Rattle.bk_syntax.specs.Inner.Machine.{Stack, in_section, in_block, in_let, in_parens, in_unary, in_binary, in_chain, in_then, in_else, in_args, in_table, in_start, in_dests, in_values, in_guard, in_test, in_result, in_while, in_from, in_to, in_by, in_item, in_function, in_value, in_vector, in_valof, in_label, in_guarded, in_default, in_do, in_or, in_for, in_routine}
 use Rattle.bk_syntax.specs.Inner.Sizes.{owed}
+use Rattle.bk_syntax.specs.Bounds.{AtMost, LevelsAtMost}
 use Rattle.bk_syntax.specs.Inner.WaysOn.{Next, closing, assigning, listing, going, repeating, operating, Any, AtClosing, AtListing, AtArgument, AtAssignment, Unlisted, AtPart, If, Closed, Missing, Started, Answered, Whole, Guarded, Taken, Gives, Does, Operates, Defines, Declares}
 
 -- a smaller section has the property too
 abbrev pub Down : (ℕ → ℕ → Type 0) → Type 0
 Down P = (d e n m : ℕ) → d ≤ e → n ≤ m → P e m → P d n
+
+pub at_most_down : (levels most : ℕ) → Down (AtMost levels most)
+at_most_down levels most d e n m i j h = let p = h.0 in let q = h.1 in (omega (arith, i, p), omega (arith, j, q))
+
+pub levels_down : (levels : ℕ) → Down (LevelsAtMost levels)
+levels_down levels d e n m i j h = omega (arith, i, h)
 
 abbrev pub Falls : (ℕ → ℕ → Next → Type 0) → Type 0
 Falls F = (d e n m : ℕ) → d ≤ e → n ≤ m → (c : Next) → F e m c → F d n c
@@ -114,10 +121,6 @@ started_falls F k Callable d e n m p q closing h = h
 started_falls F k Callable d e n m p q going h = h
 started_falls F k Callable d e n m p q operating h = h
 started_falls F k Callable d e n m p q repeating h = h
-started_falls F k Tabled d e n m p q closing h = h
-started_falls F k Tabled d e n m p q going h = h
-started_falls F k Tabled d e n m p q operating h = h
-started_falls F k Tabled d e n m p q repeating h = h
 started_falls F k Other d e n m p q closing h = h
 started_falls F k Other d e n m p q going h = h
 started_falls F k Other d e n m p q operating h = h

@@ -1,8 +1,7 @@
 -- The arithmetic of sizes that are kept.
 use Rattle.std.proofs.Common.{◌≡◌, ℕ, ◌+◌, max, ap, ◌∙◌, arith}
 use Rattle.bk_syntax.specs.declared.frame.Size.{Size}
-use Rattle.bk_syntax.specs.declared.frame.Lift.{Lift}
-use Rattle.bk_syntax.specs.Inner.Sizes.{kept, kept_size, both_of, node_of, lifted, composed}
+use Rattle.bk_syntax.specs.Inner.Sizes.{kept, kept_size, both_of, node_of}
 
 max_kept : (a b : ℕ) → max (kept a) (kept b) ≡ kept (max a b)
 max_kept a b = omega arith
@@ -12,12 +11,6 @@ plus_kept a b = omega arith
 
 suc_kept : (a : ℕ) → kept (kept a + 1) ≡ kept (a + 1)
 suc_kept a = omega arith
-
-lifted_depth : (f r g s d : ℕ) → max (max f (kept (r + g))) (kept (kept (r + s) + d)) ≡ max f (kept (r + max g (kept (s + d))))
-lifted_depth f r g s d = omega arith
-
-lifted_nodes : (a b n : ℕ) → kept (kept (a + b) + n) ≡ kept (a + kept (b + n))
-lifted_nodes a b n = omega arith
 
 abbrev sized : ℕ → ℕ → Size
 sized d n = record { depth = d; nodes = n }
@@ -30,6 +23,3 @@ both_kept d n e m = sizes_are (max_kept d e) (plus_kept n m)
 
 pub node_kept : (d n : ℕ) → node_of (kept_size d n) ≡ kept_size (d + 1) (n + 1)
 node_kept d n = sizes_are (suc_kept d) (suc_kept n)
-
-pub lifted_twice : (x y : Lift) (a : Size) → lifted (composed x y) a ≡ lifted x (lifted y a)
-lifted_twice x y a = sizes_are (lifted_depth x.floor x.rise y.floor y.rise a.depth) (lifted_nodes x.nodes y.nodes a.nodes)

@@ -12,7 +12,7 @@ use Rattle.bk_syntax.specs.declared.tree.Simple.{Simple}
 use Rattle.bk_syntax.specs.declared.symbols.Guard.{Guard}
 use Rattle.bk_syntax.specs.declared.symbols.Guard.TheVariants as g
 use Rattle.bk_syntax.specs.Tree.{Expression, Expressions, Action, Actions, Declaration, Declarations, Items, Definition, Definitions, Starts, none, more, simple, no_actions, also, no_declarations, declare, no_items, item, no_definitions, define, no_starts, value, vector}
-use Rattle.bk_syntax.specs.Rows.{row, inner, left, is_relation, infix_of, prefix_of, leaf, simple_of, guard_of, sign_of, begins_operand, begins_command, repeats, goes, Fails, Stops}
+use Rattle.bk_syntax.specs.Rows.{row, inner, left, is_relation, infix_of, prefix_of, leaf, simple_of, guard_of, sign_of, begins_operand, begins_command, repeats, assigns, is_comma, goes, Fails, Stops}
 use Rattle.bk_syntax.specs.Grammar.{size, start_count, last}
 use Rattle.bk_syntax.specs.Inner.Machine.{each_then, actions_then, declarations_then, items_then, definitions_then, starts_then, Stack, in_section, in_block, in_unary, in_binary, in_start, in_guard, in_guarded, State, want, have, did, limit, linked, infixed, push, behind_sign, prefixed, leaved, take_operand, take_start, take_command, in_head, take_in_block, again, give, finish, stepped_by, step, whole, going, run}
 
@@ -281,3 +281,8 @@ pub count_then : (xs ys : Starts) → start_count (starts_then xs ys) ≡ start_
 count_then no_starts ys = omega arith
 count_then (value x xs) ys = let h = count_then xs ys in omega arith
 count_then (vector l x xs) ys = let h = count_then xs ys in omega arith
+
+-- what is not for an assignment is no comma
+pub no_comma : (t : Kind) → assigns t ≡ false → is_comma t ≡ false
+no_comma k.Comma h = absurd cc
+no_comma _ h = refl

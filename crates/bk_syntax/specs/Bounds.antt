@@ -1,17 +1,28 @@
 -- How a state of the reading machine stands to the limits of a section.
-use Rattle.std.specs.Prelude.{◌<◌, ◌≤◌}
+use Rattle.std.specs.Prelude.{ℕ, ◌≤◌}
 use Rattle.bk_base.specs.declared.limit.TheConstants.{TREE_DEPTH, TREE_NODES}
 use Rattle.bk_base.specs.declared.source_fault.SourceKind.{SourceKind}
 use Rattle.bk_base.specs.declared.source_fault.SourceKind.TheVariants.{NestedTooDeeply, TooManyNodes}
 use Rattle.bk_syntax.specs.Inner.Machine.{State}
-use Rattle.bk_syntax.specs.Inner.Sizes.{least_depth, least_nodes}
+use Rattle.bk_syntax.specs.Inner.WaysOn.{Completes}
 
--- what goes on from here at least is within the limits
+-- so many levels and nodes are within these bounds
+abbrev pub AtMost : ℕ → ℕ → ℕ → ℕ → Type 0
+AtMost levels most d n = (d ≤ levels) × (n ≤ most)
+
+abbrev pub LevelsAtMost : ℕ → ℕ → ℕ → Type 0
+LevelsAtMost levels d n = d ≤ levels
+
+-- a section within both limits goes on from here
 abbrev pub Bounded : State → Type 0
-Bounded x = (least_depth x ≤ TREE_DEPTH) × (least_nodes x ≤ TREE_NODES)
+Bounded x = Completes (AtMost TREE_DEPTH TREE_NODES) x
 
--- it passes the limit of this kind, and none that is told before it
+-- and one within that of depth
+abbrev pub BoundedInDepth : State → Type 0
+BoundedInDepth x = Completes (LevelsAtMost TREE_DEPTH) x
+
+-- every section that goes on passes the limit of this kind, and not every one passes that which is told before it
 abbrev pub Passed : SourceKind → State → Type 0
-Passed NestedTooDeeply x = TREE_DEPTH < least_depth x
-Passed TooManyNodes x = (least_depth x ≤ TREE_DEPTH) × (TREE_NODES < least_nodes x)
+Passed NestedTooDeeply x = BoundedInDepth x → ⊥
+Passed TooManyNodes x = BoundedInDepth x × (Bounded x → ⊥)
 Passed _ x = ⊥

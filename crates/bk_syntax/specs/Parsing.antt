@@ -16,7 +16,7 @@ use Rattle.bk_syntax.specs.declared.section.Section.{Section}
 use Rattle.bk_syntax.specs.Tree.{Declarations, declarations_in, no_declarations}
 use Rattle.bk_syntax.specs.Limits.{Within}
 use Rattle.bk_syntax.specs.Brackets.{closed_by, in_front, plain}
-use Rattle.bk_syntax.specs.SyntaxFault.{IsSection, Begins, Shallow, Stands, StandsAtEnd}
+use Rattle.bk_syntax.specs.SyntaxFault.{IsSection, Begins, Stands, First, StandsAtEnd}
 use Rattle.bk_syntax.specs.Inner.Machine.{State, due, in_section, step}
 use Rattle.bk_syntax.specs.Inner.Frames.{stack_of, state}
 
@@ -82,22 +82,21 @@ AnswersAtEnd (Err (Fault f)) r end = (r ≡ Err []) × (f.kind ≡ UnexpectedSym
 AnswersAtEnd (Err Memory) r end = Unit {0}
 AnswersAtEnd (Err Device) r end = ⊥
 
--- a fault that is told at a symbol stands there, and a section within the limit of depth begins with the symbols before it
+-- a fault that is told at a symbol stands there, and at no symbol before it: a section within the limits begins with those
 pub record ToldAt (f : SourceFault) (ts : List Symbol) : Type 0 where
   pub before : List Symbol
   pub at : Symbol
   pub more : List Symbol
   pub parts : ts ≡ before ++ at ∷ more
   pub line : f.line ≡ at.line
-  pub begins : Begins Shallow before
-  pub stands : Stands f.kind before at
+  pub first : First f.kind before at
 
--- a fault that is told at the end, which is on this line: the symbols are no section, and one within the limit of depth begins
--- with them
+-- a fault that is told at the end, which is on this line: the symbols are no section, and one within the limits begins with
+-- them
 pub record ToldAtEnd (f : SourceFault) (ts : List Symbol) (end : ℕ) : Type 0 where
   pub kind : f.kind ≡ UnexpectedSymbol
   pub line : f.line ≡ end
-  pub begins : Begins Shallow ts
+  pub begins : Begins Within ts
   pub stands : StandsAtEnd ts
 
 -- what is answered of these symbols, which end on this line

@@ -1,5 +1,5 @@
 -- Laws of the grammar, and of the machine that reads it symbol after symbol.
-use Rattle.std.specs.Prelude.{ℕ, ◌≡◌, ◌≤◌, List, [], ◌∷◌, ◌++◌, None, Some, Result, Ok, Err}
+use Rattle.std.specs.Prelude.{ℕ, ◌≡◌, List, [], ◌∷◌, ◌++◌, None, Some, Result, Ok, Err}
 use Rattle.bk_lex.specs.Symbol.{Symbol}
 use Rattle.bk_syntax.specs.Tree.{Declarations, no_declarations}
 use Rattle.bk_syntax.specs.Grammar.{Section}
@@ -8,6 +8,7 @@ use Rattle.bk_syntax.specs.Brackets.{plain}
 use Rattle.bk_syntax.specs.SyntaxFault.{IsSection, Begins, Any}
 use Rattle.bk_syntax.specs.Inner.Machine.{State, due, in_section, run}
 use Rattle.bk_syntax.specs.Inner.WaysOn.{Completes}
+use Rattle.bk_syntax.specs.Bounds.{AtMost}
 use Rattle.bk_syntax.specs.Parsing.{AfterSymbols}
 
 -- what the machine reads of plain symbols: their tree, or the symbols from the first on with which it does not go on
@@ -39,12 +40,12 @@ EndFaultStands = (ts rest : List Symbol) → reading ts ≡ Err rest → (ds : D
 abbrev pub GoesOnBegins : Type 0
 GoesOnBegins = (ts ps : List Symbol) → plain ts [] ≡ Some ps → ((t : Symbol) (v : List Symbol) → reading ps ≡ Err (t ∷ v) → ⊥) → Begins Any ts
 
--- so many levels and nodes are within these bounds
-abbrev pub AtMost : ℕ → ℕ → ℕ → ℕ → Type 0
-AtMost levels most d n = (d ≤ levels) × (n ≤ most)
-
 -- Where a section within some bounds begins with the symbols, the state of the machine behind them completes these bounds.
--- The other direction, that each way on is one of a section, is not proved.
 abbrev pub BeginsCompletes : Type 0
 BeginsCompletes = (ts : List Symbol) (opens : List (List ℕ)) (x : State) (levels most : ℕ) → AfterSymbols ts opens x
     → Begins (λ ds. AtMost levels most (depth_of_declarations ds) (nodes_of_declarations ds)) ts → Completes (AtMost levels most) x
+
+-- Where that state completes these bounds, a section within them begins so.
+abbrev pub CompletesBegins : Type 0
+CompletesBegins = (ts : List Symbol) (opens : List (List ℕ)) (x : State) (levels most : ℕ) → AfterSymbols ts opens x → Completes (AtMost levels most) x
+    → Begins (λ ds. AtMost levels most (depth_of_declarations ds) (nodes_of_declarations ds)) ts

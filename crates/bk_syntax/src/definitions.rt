@@ -87,9 +87,7 @@ fn declare(frames: &mut Frames, decl: Decl, size: Size) -> Result<(), Stop>
     let Frame {
         begun,
         held,
-        needs: _,
-        below: _,
-        tabled: _,
+        rooms: _,
     } = top;
     match begun {
         Begun::Place(place) => declare_in(frames, place, held, decl, size),
@@ -274,9 +272,7 @@ pub fn complete_definition(
     let Frame {
         begun,
         held,
-        needs: _,
-        below: _,
-        tabled: _,
+        rooms: _,
     } = top;
     match begun {
         Begun::Place(place) => define_in(alloc, frames, place, held, done, token),
@@ -747,9 +743,7 @@ pub fn at_place(alloc: Global, frames: &mut Frames, token: &Token) -> Result<Now
     let Frame {
         begun,
         held,
-        needs: _,
-        below: _,
-        tabled: _,
+        rooms: _,
     } = top;
     match begun {
         Begun::Place(place) => due_in(alloc, frames, place, held, token),

@@ -317,9 +317,7 @@ fn no_arguments(frames: &mut Frames) -> Result<Now, Stop>
     let Frame {
         begun,
         held,
-        needs: _,
-        below: _,
-        tabled: _,
+        rooms: _,
     } = top;
     let Begun::Operand(operand) = begun else {
         return Err(Stop::Unexpected);

@@ -5,6 +5,7 @@ ghost use Rattle.bk_syntax.specs.Grammar.{last};
 ghost use Rattle.bk_syntax.specs.Inner.Sizes.{size_of, size_if, size_of_action, size_of_definition};
 ghost use Rattle.bk_syntax.specs.Inner.Begun.{held_in};
 
+use crate::room::Room;
 use crate::symbols::Guard;
 use crate::tree::{Command, Decl, Def, Expr, Init, Item, Name, Operator, Prefix, Sort};
 use bk_base::Line;
@@ -16,26 +17,6 @@ pub struct Size {
     /// The greatest number of nodes inside one another.
     pub depth: u32,
     /// The number of nodes.
-    pub nodes: u32,
-}
-
-/// What has to come behind a part, so that the section goes on.
-#[derive(Clone, Copy, Debug, PartialEq, Eq)]
-pub enum Needs {
-    /// No symbol that a command within it could take as its own.
-    Nothing,
-    /// A `:=`.
-    Assignment,
-    /// A `,`.
-    Comma,
-}
-
-/// How a whole depends on a part of it: it is at least `floor` deep, at least `rise` deeper than the part, and has
-/// `nodes` nodes more.
-#[derive(Clone, Copy, Debug, PartialEq, Eq)]
-pub struct Lift {
-    pub floor: u32,
-    pub rise: u32,
     pub nodes: u32,
 }
 
@@ -148,15 +129,12 @@ pub enum Begun {
     Point(Point),
 }
 
-/// What was begun, with the depth and the nodes of the parts that it holds, what has to come behind it, and how the whole
-/// depends on it, also where a TABLE ends it.
+/// What was begun, with the depth and the nodes of the parts that it holds, and the room for the part that is read.
 #[derive(Drop)]
 pub struct Frame {
     pub begun: Begun,
     pub held: Size,
-    pub needs: Needs,
-    pub below: Lift,
-    pub tabled: Lift,
+    pub rooms: Vec<Room>,
     ghost holds: { held ≡ held_in begun },
 }
 

@@ -3,10 +3,11 @@ ghost use Rattle.std.specs.Prelude.{◌≡◌, ◌+◌, ℕ, [], MatchOption, If
 ghost use Rattle.bk_syntax.specs.Tree.{declarations_in};
 ghost use Rattle.bk_syntax.specs.Inner.Sizes.{size_of_declarations};
 ghost use Rattle.bk_syntax.specs.Inner.Begun.{begun_on, held_in};
-ghost use Rattle.bk_syntax.specs.Inner.Stacked.{Lifts};
+ghost use Rattle.bk_syntax.specs.Inner.Stacked.{Roomy};
 
 use crate::frame::{Frame, Size};
 use crate::tree::Decl;
+use std::alloc::Global;
 
 /// What was begun: the section, with its declarations and their size, and above it the rest, the last one on top.
 #[derive(Drop)]
@@ -14,6 +15,7 @@ pub struct Frames {
     pub decls: Vec<Decl>,
     pub held: Size,
     pub above: Vec<Frame>,
+    pub alloc: Global,
     ghost holds: { held ≡ size_of_declarations (declarations_in decls.items) },
-    ghost lifts: { Lifts decls.items above.items },
+    ghost roomy: { Roomy decls.items above.items },
 }

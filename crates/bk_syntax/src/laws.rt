@@ -1,5 +1,5 @@
 //! Laws of the grammar, which the parser and the crates above rest on.
-ghost use Rattle.bk_syntax.specs.SyntaxLaws.{ReadsTheGrammar, HaveOneTree, TagFaultStands, SymbolFaultStands, EndFaultStands, GoesOnBegins, BeginsCompletes};
+ghost use Rattle.bk_syntax.specs.SyntaxLaws.{ReadsTheGrammar, HaveOneTree, TagFaultStands, SymbolFaultStands, EndFaultStands, GoesOnBegins, BeginsCompletes, CompletesBegins};
 
 /// The reading machine reads just the trees of the grammar.
 pub fn reads_the_grammar()
@@ -34,4 +34,10 @@ pub fn goes_on_begins()
 /// Where a section within some bounds of depth and nodes begins, the machine behind its beginning has a way on within them.
 pub fn begins_completes()
     ensures { BeginsCompletes }
+{}
+
+/// Where the machine behind the beginning of a section has a way on within some bounds of depth and nodes, a section within
+/// them begins so.
+pub fn completes_begins()
+    ensures { CompletesBegins }
 {}

@@ -8,8 +8,11 @@ mod expressions;
 mod frame;
 mod frames;
 mod laws;
+mod limits;
 mod make;
 mod parser;
+mod room;
+mod rooms;
 mod section;
 mod size;
 mod spelling;
@@ -20,10 +23,12 @@ mod top;
 pub mod tree;
 #[cfg(test)]
 mod tree_tests;
+mod way;
+mod ways;
 
 pub use laws::{
-    end_fault_stands, goes_on_begins, have_one_tree, reads_the_grammar, symbol_fault_stands,
-    tag_fault_stands,
+    begins_completes, completes_begins, end_fault_stands, goes_on_begins, have_one_tree,
+    reads_the_grammar, symbol_fault_stands, tag_fault_stands,
 };
 pub use parser::parse;
 pub use section::Section;

@@ -19,16 +19,16 @@ use crate::definitions::{at_place, complete_command, complete_definition, comple
 use crate::expressions::{complete, extends, go_on, operand};
 use crate::frame::{Begun, Clause, Done, Flow, Frame, Now, Size, Sized, Stop};
 use crate::frames::Frames;
+use crate::limits::{is_bounded, is_bounded_in_depth};
 use crate::section::Section;
-use crate::size::{NOTHING, least};
+use crate::size::NOTHING;
 use crate::spelling::{same_tag, tag};
 use crate::symbols::{closes, goes_on, opens, repeats, starts_command};
-use crate::top::{begun, pop};
+use crate::top::pop;
 use crate::tree::Command;
-use bk_base::limit::{TREE_DEPTH, TREE_NODES};
 use bk_base::{Line, Refused, SourceFault, SourceKind};
 use bk_lex::{Kind, Token};
-use std::alloc::Global;
+use std::alloc::{AllocError, Global};
 
 /// An expression is complete in what was begun, with which the symbol behind it does not go on.
 fn complete_part(
@@ -54,6 +54,16 @@ fn complete_part(
     }
 }
 
+/// Whether an expression on these frames goes on with this symbol.
+fn goes_on_with(frames: &Frames, kind: Kind) -> bool
+    ensures { result ≡ goes (limit (stack_of frames.now)) kind }
+{
+    match frames.above.last() {
+        Some(top) => extends(&top.begun, kind),
+        None => goes_on(12, kind),
+    }
+}
+
 /// An expression is complete so far, and a symbol comes behind it.
 #[tactic(auto, using(crate::proofs::Stacks::frames_laws))]
 fn behind_expression(
@@ -65,24 +75,18 @@ fn behind_expression(
     ensures answers { Answers frames.new result token.now (give (stack_of frames.old) (expression sized.expr)) }
     ensures falls { Falls frames.old frames.new result }
 {
+    if goes_on_with(frames, token.kind) {
+        return go_on(alloc, frames, sized, token);
+    }
     let Some(top) = pop(frames) else {
-        if goes_on(12, token.kind) {
-            return go_on(alloc, frames, sized, token);
-        }
         return Err(Stop::Unexpected);
     };
     let Frame {
-        begun: part,
+        begun,
         held,
-        needs: _,
-        below: _,
-        tabled: _,
+        rooms: _,
     } = top;
-    if extends(&part, token.kind) {
-        begun(frames, part, held)?;
-        return go_on(alloc, frames, sized, token);
-    }
-    complete_part(alloc, frames, part, held, sized, token)
+    complete_part(alloc, frames, begun, held, sized, token)
 }
 
 /// A command is complete so far, and a symbol comes behind it.
@@ -105,9 +109,7 @@ fn behind_command(
     let Frame {
         begun,
         held,
-        needs: _,
-        below: _,
-        tabled: _,
+        rooms: _,
     } = top;
     match begun {
         Begun::Clause(clause) => complete_clause(alloc, frames, clause, held, done, token),
@@ -128,9 +130,7 @@ fn without_command(alloc: Global, frames: &mut Frames, token: &Token) -> Result<
     let Frame {
         begun,
         held,
-        needs: _,
-        below: _,
-        tabled: _,
+        rooms: _,
     } = top;
     let Begun::Clause(clause) = begun else {
         return Err(Stop::Unexpected);
@@ -280,17 +280,16 @@ fn repeat_step(
 }
 
 /// The limit that every section from here on passes.
-fn limit(frames: &Frames, now: &Now) -> Option<SourceKind>
-    ensures { MatchOption result (Bounded (state (stack_of frames.now) now.now)) (λ kind. IsLimit kind × Passed kind (state (stack_of frames.now) now.now)) }
+fn limit(frames: &Frames, now: &Now) -> Result<Option<SourceKind>, AllocError>
+    ensures { IfOk result (λ told. MatchOption told (Bounded (state (stack_of frames.now) now.now)) (λ kind. IsLimit kind × Passed kind (state (stack_of frames.now) now.now))) }
 {
-    let size = least(frames, now);
-    if size.depth > TREE_DEPTH {
-        return Some(SourceKind::NestedTooDeeply);
+    if is_bounded(frames, now)? {
+        return Ok(None);
     }
-    if size.nodes > TREE_NODES {
-        return Some(SourceKind::TooManyNodes);
+    if is_bounded_in_depth(frames, now)? {
+        return Ok(Some(SourceKind::TooManyNodes));
     }
-    None
+    Ok(Some(SourceKind::NestedTooDeeply))
 }
 
 /// A `$)`: it closes sections, each as a `$)` without a tag.
@@ -362,8 +361,9 @@ fn advance<'a>(
 {
     match take(alloc, frames, opened, now, token) {
         Ok(after) => match limit(frames, &after) {
-            Some(kind) => Err(fault(token.line, kind)),
-            None => Ok(after),
+            Ok(Some(kind)) => Err(fault(token.line, kind)),
+            Ok(None) => Ok(after),
+            Err(_) => Err(Refused::Memory),
         },
         Err(refused) => Err(refused),
     }
@@ -378,6 +378,7 @@ fn whole(frames: Frames, now: Now, end: Line) -> Result<Section, Refused<SourceF
         decls,
         held: _,
         above,
+        alloc: _,
     } = frames;
     match now {
         Now::Due => {
@@ -413,13 +414,11 @@ fn at_end(
     }
 }
 
-/// The section that these symbols are, the end of which is on line `end`, or the fault that stands at a symbol: up to and
-/// with it no section within the limits begins.
-///
-/// It is the first such symbol, save that *too many nodes* may be told some symbols later than it could be.
+/// The section that these symbols are, the end of which is on line `end`, or the fault that stands at a symbol: the first such
+/// that up to and with it no section within the limits begins.
 pub fn parse(alloc: Global, tokens: &[Token], end: Line) -> Result<Section, Refused<SourceFault>>
-    // What is answered is a tree of the symbols, or a fault that stands, where a section within the depth begins with the
-    // symbols before it.
+    // What is answered is a tree of the symbols, or the first fault: a section within the limits begins with the symbols
+    // before it.
     ensures parses { Parses result (symbols_of tokens.now) end }
     // The tree is within the limits.
     ensures within { IfOk result (λ section. Within (declarations_of section)) }
@@ -430,6 +429,7 @@ pub fn parse(alloc: Global, tokens: &[Token], end: Line) -> Result<Section, Refu
         decls: Vec::new(alloc),
         held: NOTHING,
         above: Vec::new(alloc),
+        alloc,
     };
     let mut opened = Vec::new(alloc);
     let mut now = Now::Due;

@@ -211,6 +211,164 @@ fn past_limits(rt: HostRuntime) -> Result<(), Fail> {
     Ok(())
 }
 
+/// A constant with 8 * 2^`folds` - 7 nodes, as an item: the operand between two relations is counted twice.
+fn constant(text: &mut Vec<u8>, folds: u32) -> Result<(), AllocError> {
+    text.extend_from_slice(b" A = ")?;
+    for _ in 0..folds {
+        text.extend_from_slice(b"1 < (")?;
+    }
+    text.push(b'1')?;
+    for _ in 0..folds {
+        text.extend_from_slice(b") < 1")?;
+    }
+    text.push(b';')?;
+    Ok(())
+}
+
+/// Items of MANIFEST with so many nodes, from 3 on.
+fn items(text: &mut Vec<u8>, nodes: usize) -> Result<(), AllocError> {
+    let mut left = nodes;
+    if left % 2 == 1 {
+        text.extend_from_slice(b" A = -1;")?;
+        left = left.saturating_sub(3);
+    }
+    for i in 0..13u32 {
+        let folds = 12u32.saturating_sub(i);
+        let size = (8usize << folds).saturating_sub(6);
+        for _ in 0..left / size.max(1) {
+            constant(text, folds)?;
+        }
+        left %= size.max(1);
+    }
+    Ok(())
+}
+
+/// A routine with so many IFs around this command, behind as many constants as leave `left` nodes for it. It may have
+/// 199 - `ifs` levels.
+fn nearly_full(
+    alloc: Global,
+    left: usize,
+    ifs: usize,
+    command: &[u8],
+) -> Result<Vec<u8>, AllocError> {
+    let mut text = Vec::new(alloc);
+    text.extend_from_slice(b"MANIFEST $(")?;
+    // One node for the routine, two for an IF.
+    items(
+        &mut text,
+        65_535usize
+            .saturating_sub(left)
+            .saturating_sub(ifs.saturating_mul(2)),
+    )?;
+    text.extend_from_slice(b" $) LET F() BE ")?;
+    for _ in 0..ifs {
+        text.extend_from_slice(b"IF A DO ")?;
+    }
+    text.extend_from_slice(command)?;
+    Ok(text)
+}
+
+/// The last command that is within both limits, by the nodes that are left for it and the IFs around it.
+#[test]
+fn within_both(rt: HostRuntime) -> Result<(), Fail> {
+    let rows: [(usize, usize, &[u8]); 5] = [
+        // 9 nodes in 7 levels, and 8 in 8
+        (9, 192, b"VALOF VALOF F() REPEAT := ? := ?"),
+        (8, 191, b"VALOF VALOF F() REPEAT () REPEAT ()"),
+        (10, 192, b"R := A -> VALOF RESULTIS TABLE 1 REPEAT, 2"),
+        (
+            13,
+            0,
+            b"R := A -> VALOF RESULTIS TABLE VALOF C: % D REPEAT, 2",
+        ),
+        (6, 0, b"VALOF VALOF FINISH () REPEAT ()"),
+    ];
+    for (left, ifs, command) in rows {
+        let text = nearly_full(rt.alloc(), left, ifs, command)?;
+        assert_eq!(rt; read(rt.alloc(), text.as_slice()), Ok(2));
+    }
+    Ok(())
+}
+
+/// What is told of a text of one line.
+fn told(alloc: Global, text: &[u8]) -> Option<SourceKind> {
+    match read(alloc, text) {
+        Err(Refused::Fault(fault)) => Some(fault.kind),
+        _ => None,
+    }
+}
+
+/// A command that is within each limit, and none that is within both: with the last symbol here none goes on, and before
+/// it the text is only not complete.
+#[test]
+fn past_both(rt: HostRuntime) -> Result<(), Fail> {
+    let rows: [(usize, usize, &[u8], &[u8], SourceKind); 7] = [
+        (
+            9,
+            192,
+            b"VALOF VALOF F() REPEAT",
+            b"(",
+            SourceKind::NestedTooDeeply,
+        ),
+        (
+            8,
+            191,
+            b"VALOF VALOF F() REPEAT",
+            b":=",
+            SourceKind::TooManyNodes,
+        ),
+        // F alone may be a label, with 7 nodes in 5 levels.
+        (8, 192, b"VALOF VALOF F", b"(", SourceKind::TooManyNodes),
+        (7, 191, b"VALOF VALOF F", b"(", SourceKind::TooManyNodes),
+        // A TABLE takes the comma, and a REPEAT has to end it.
+        (
+            9,
+            0,
+            b"R := A -> VALOF RESULTIS",
+            b" TABLE",
+            SourceKind::TooManyNodes,
+        ),
+        // The inner VALOF takes that REPEAT. A label would leave the comma to the TABLE, with 12 nodes; a call takes it.
+        (
+            13,
+            0,
+            b"R := A -> VALOF RESULTIS TABLE VALOF C",
+            b"(",
+            SourceKind::TooManyNodes,
+        ),
+        (5, 0, b"VALOF", b" VALOF", SourceKind::TooManyNodes),
+    ];
+    for (left, ifs, command, symbol, kind) in rows {
+        let mut text = nearly_full(rt.alloc(), left, ifs, command)?;
+        assert_eq!(rt;
+            told(rt.alloc(), text.as_slice()),
+            Some(SourceKind::UnexpectedSymbol)
+        );
+        text.extend_from_slice(symbol)?;
+        assert_eq!(rt; told(rt.alloc(), text.as_slice()), Some(kind));
+    }
+    Ok(())
+}
+
+/// Each VALOF behind the first takes three nodes more, as in `VALOF VALOF FINISH () REPEAT ()`.
+#[test]
+fn valof_in_valof(rt: HostRuntime) -> Result<(), Fail> {
+    let mut text = nearly_full(rt.alloc(), 190, 0, b"")?;
+    for _ in 0..63 {
+        text.extend_from_slice(b"VALOF ")?;
+    }
+    assert_eq!(rt;
+        told(rt.alloc(), text.as_slice()),
+        Some(SourceKind::UnexpectedSymbol)
+    );
+    text.extend_from_slice(b"VALOF")?;
+    assert_eq!(rt;
+        told(rt.alloc(), text.as_slice()),
+        Some(SourceKind::TooManyNodes)
+    );
+    Ok(())
+}
+
 /// As many brackets as a section may have symbols, which take no more memory than two hundred.
 #[test]
 fn brackets_alone(rt: HostRuntime) -> Result<(), Fail> {

@@ -5,7 +5,7 @@ ghost use Rattle.bk_syntax.specs.Inner.Frames.{stack_of};
 
 use crate::frame::{Begun, Frame, Size};
 use crate::frames::Frames;
-use crate::size::frame;
+use crate::limits::rooms_above;
 use std::alloc::AllocError;
 
 /// Puts on top what was begun, with these parts.
@@ -15,7 +15,8 @@ pub fn begun(frames: &mut Frames, begun: Begun, held: Size) -> Result<(), AllocE
     ensures stack { IfOk result (λ _. stack_of frames.new ≡ begun_on begun (stack_of frames.old)) }
     ensures length { IfOk result (λ _. vec_len frames.new.above ≡ vec_len frames.old.above + 1) }
 {
-    let frame = frame(frames, begun, held);
+    let rooms = rooms_above(frames, &begun, held)?;
+    let frame = Frame { begun, held, rooms };
     frames.above.push(frame)?;
     Ok(())
 }

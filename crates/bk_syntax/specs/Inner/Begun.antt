@@ -17,9 +17,7 @@ use Rattle.bk_syntax.specs.declared.frame.Begun.TheVariants as b
 use Rattle.bk_syntax.specs.Tree.{no_declarations, mention, expression, expressions_in, step_in, action, actions_in, declarations_in, items_in, definitions_in, starts_in}
 use Rattle.bk_syntax.specs.Inner.Machine.{Stack, in_section, in_block, in_let, at_name, at_formals, at_formal, at_formal_end, at_head, at_variable, at_variable_end, at_starts, at_opening, at_items, at_sign, at_goto, at_for, at_forward, at_default, in_parens, in_unary, in_binary, in_chain, in_then, in_else, in_args, in_table, in_start, in_dests, in_values, in_guard, in_test, in_result, in_while, in_from, in_to, in_by, in_item, in_function, in_value, in_vector, in_valof, in_label, in_guarded, in_default, in_do, in_or, in_for, in_routine}
 use Rattle.bk_syntax.specs.declared.frame.Size.{Size}
-use Rattle.bk_syntax.specs.declared.size.Form.{Form}
-use Rattle.bk_syntax.specs.declared.size.Form.TheVariants as y
-use Rattle.bk_syntax.specs.Inner.Sizes.{carried, held_of}
+use Rattle.bk_syntax.specs.Inner.Sizes.{held_of}
 
 abbrev pub operand_on : Operand → Stack → Stack
 operand_on (o.Parens l) st = in_parens l st
@@ -87,22 +85,6 @@ begun_on (b.Member x) st = member_on x st
 begun_on (b.Clause x) st = clause_on x st
 begun_on (b.Place x) st = place_on x st
 begun_on (b.Point x) st = point_on x st
-
--- the form of what was begun, where a part of this form ends it
-abbrev pub passed : Begun → Form → Form
-passed (b.Operand (o.Unary l q)) f = carried f
-passed (b.Operand (o.Binary q l x)) f = carried f
-passed (b.Operand (o.Chain q l x y)) f = carried f
-passed (b.Operand (o.Else l x y)) f = carried f
-passed (b.Operand (o.Table l es)) f = y.Tabled
-passed (b.Operand (o.Args l x es)) f = y.Call
-passed (b.Operand (o.Parens l)) f = y.Callable
-passed (b.Clause (c.Valof l)) f = y.Callable
-passed _ f = y.Other
-
--- the form of what was begun
-abbrev pub form_above : Begun → Form
-form_above x = passed x y.Other
 
 -- the size of the parts that it holds
 abbrev pub held_in : Begun → Size

@@ -4,7 +4,8 @@ use Rattle.bk_syntax.specs.Parsing.{tags}
 use Rattle.bk_syntax.proofs.Told.{limit_told}
 use Rattle.bk_syntax.proofs.parser.advance.Goals as goal
 
-pub returns-in-Some-clause-goes : goal.returns-in-Some-clause-goes
-returns-in-Some-clause-goes c = λ u b.
-    limit_told c.in-Some.kind c.fault.result c.take.new.frames c.take.new.opened.items u (symbol_of c.args.token.now)
-    (tags c.take.new.opened.items) (state (stack_of c.take.new.frames) c.in-Ok.after) c.in-Some.ensures.0 c.fault.ensures (c.in-Ok.ensures u b) c.in-Some.ensures.1
+pub returns-in-Ok-Some-clause-goes : goal.returns-in-Ok-Some-clause-goes
+returns-in-Ok-Some-clause-goes c = λ u b.
+    let told = rw c.in-Ok-Some.field-0-is at c.in-Ok-Some.ensures in
+    limit_told c.in-Ok-Some.kind c.fault.result c.take.new.frames c.take.new.opened.items u (symbol_of c.args.token.now)
+    (tags c.take.new.opened.items) (state (stack_of c.take.new.frames) c.in-Ok.after) told.0 c.fault.ensures (c.in-Ok.ensures u b) told.1

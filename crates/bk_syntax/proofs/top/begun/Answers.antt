@@ -1,7 +1,7 @@
-use Rattle.bk_syntax.proofs.Stacks.{lifts_pushed}
+use Rattle.bk_syntax.proofs.Stacks.{rooms_pushed}
 use Rattle.bk_syntax.proofs.top.begun.Goals as goal
 
-pub invariant_of-frames-clause-lifts : goal.invariant_of-frames-clause-lifts
-invariant_of-frames-clause-lifts c =
+pub invariant_of-frames-clause-roomy : goal.invariant_of-frames-clause-roomy
+invariant_of-frames-clause-roomy c =
     let x = c.args.frames.now in
-    lifts_pushed _ x.decls.items x.above.items _ _ c.push.ensures.items x.lifts c.frame-frame.ensures.below
+    rooms_pushed _ x.decls.items x.above.items _ _ c.push.ensures.items x.roomy c.in_ok-rooms.ensures

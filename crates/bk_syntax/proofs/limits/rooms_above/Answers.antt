@@ -1,0 +1,25 @@
+use Rattle.std.proofs.Common.{◌≡◌, false, true, refl, sym, subst, ap, ◌∙◌, List}
+use Rattle.bk_syntax.specs.declared.room.Room.{Room}
+use Rattle.bk_syntax.specs.Tree.{declarations_in}
+use Rattle.bk_syntax.specs.Inner.Machine.{Stack, in_section}
+use Rattle.bk_syntax.specs.Inner.Rooms.{is_tight, AreRooms}
+use Rattle.bk_syntax.specs.Inner.Frames.{stack_of}
+use Rattle.bk_syntax.proofs.Stacks.{top_rooms, is_tight_top, none_on}
+use Rattle.bk_syntax.proofs.limits.rooms_above.Goals as goal
+
+pub returns-in_ok-rooms-in-Some : goal.returns-in_ok-rooms-in-Some
+returns-in_ok-rooms-in-Some c =
+    let x = c.args.frames.now in
+    let top = c.in-Some.top.now in
+    let is = rw c.deref.ensures.value at c.in-Some.ensures.value in
+    let P : List Room → Type 0 = λ z. AreRooms true (stack_of x) z in
+    c.in_ok-rooms-in-Some.ensures (stack_of x) (is_tight_top x.decls.items x.above.items top c.is_tight-tight.result is c.is_tight-tight.ensures) (subst P (sym c.as_slice-below.ensures.value) (top_rooms x.decls.items x.above.items top is x.roomy))
+
+pub returns-in_ok-rooms-in-None : goal.returns-in_ok-rooms-in-None
+returns-in_ok-rooms-in-None c =
+    let x = c.args.frames.now in
+    let is = rw c.deref.ensures.value at c.in-None.ensures.value in
+    let on = none_on x.decls.items x.above.items is in
+    let P : List Room → Type 0 = λ z. AreRooms true (stack_of x) z in
+    let Q : Stack → Type 0 = λ z. AreRooms true z c.in_ok-below-in-None.below.items in
+    c.in_ok-rooms-in-None.ensures (stack_of x) (ap is_tight (sym on)) (subst P (sym c.as_slice.ensures.value) (subst Q (sym on) (c.in_ok-below-in-None.ensures (declarations_in x.decls.items) x.holds)))

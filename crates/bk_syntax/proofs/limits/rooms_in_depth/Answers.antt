@@ -1,0 +1,29 @@
+use Rattle.std.proofs.Common.{◌≡◌, ◌+◌, false, take, refl, sym, subst, ap, ◌∙◌, List, arith}
+use Rattle.bk_syntax.specs.declared.room.Room.{Room}
+use Rattle.bk_syntax.specs.Tree.{declarations_in}
+use Rattle.bk_syntax.specs.Inner.Machine.{Stack}
+use Rattle.bk_syntax.specs.Inner.Stacked.{stack}
+use Rattle.bk_syntax.specs.Inner.Rooms.{is_tight, AreRooms}
+use Rattle.bk_syntax.proofs.Stacks.{stack_take, stack_none}
+use Rattle.bk_syntax.proofs.limits.rooms_in_depth.Goals as goal
+
+pub loop-frame-init : goal.loop-frame-init
+loop-frame-init c =
+    let x = c.args.frames.now in
+    let on = sym (stack_none x.decls.items) in
+    let Q : Stack → Type 0 = λ z. AreRooms false z c.in_ok-rooms.rooms.items in
+    record { tight = ap is_tight on; rooms = subst Q on (c.in_ok-rooms.ensures (declarations_in x.decls.items) x.holds) }
+
+pub loop-frame-preserved : goal.loop-frame-preserved
+loop-frame-preserved c =
+    let x = c.args.frames.now in
+    let i = c.loop-frame.frame-index in
+    let st = stack x.decls.items (take i x.above.items) in
+    let is = rw c.deref-frame-items.ensures.value at c.frame-item.is in
+    let on = sym (stack_take x.decls.items x.above.items i c.frame-item.result (omega arith) is) in
+    let P : List Room → Type 0 = λ z. AreRooms false st z in
+    let Q : Stack → Type 0 = λ z. AreRooms false z c.in_ok-rooms-2.rooms.items in
+    record {
+      tight = c.is_tight-tight.ensures st ∙ ap is_tight on;
+      rooms = subst Q on (c.in_ok-rooms-2.ensures st c.loop-frame.invariant.tight (subst P (sym c.as_slice.ensures.value) c.loop-frame.invariant.rooms));
+    }

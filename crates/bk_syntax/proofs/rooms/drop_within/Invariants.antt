@@ -1,0 +1,9 @@
+use Rattle.std.proofs.Common.{◌≤◌, ◌-◌, vec_len}
+use Rattle.bk_syntax.specs.Inner.Rooms.{AreBeside}
+use Rattle.bk_syntax.proofs.rooms.drop_within.Given as goal
+
+abbrev pub invariant-loop-i : goal.invariant-loop-i
+invariant-loop-i l = record { in_range : l.i ≤ vec_len l.rooms; beside : AreBeside l.room l.initial.rooms.items l.rooms.items }
+
+abbrev pub decreases-loop-i : goal.decreases-loop-i
+decreases-loop-i l = vec_len l.rooms - l.i

@@ -1,0 +1,20 @@
+use Rattle.std.proofs.Common.{◌≡◌, ℕ, ◌+◌, max, min, Bool, true, false, refl, sym, subst, arith}
+use Rattle.bk_syntax.specs.declared.symbols.Guard.{Guard}
+use Rattle.bk_syntax.specs.declared.symbols.Guard.TheVariants as g
+use Rattle.bk_syntax.specs.declared.room.Whom.TheVariants.{Expression, Command, Operated, Call}
+use Rattle.bk_syntax.specs.declared.room.Next.TheVariants.{Closing, Operating, Going}
+use Rattle.bk_syntax.specs.declared.way.Link.TheVariants as l
+use Rattle.bk_syntax.specs.declared.way.Way.{Way}
+use Rattle.bk_syntax.specs.declared.way.Ways.{Ways}
+use Rattle.bk_syntax.specs.declared.way.Ways.TheVariants.{One, Two, Three}
+use Rattle.bk_syntax.specs.Inner.Rooms.{IsKept, AreKept, node, deep, ways_of_guard, ways_of_valof}
+use Rattle.bk_syntax.proofs.ways.ways_of_valof.Goals as goal
+
+as_known : (t u : Bool) (x : Ways) → t ≡ u → AreKept x (ways_of_valof u) → AreKept x (ways_of_valof t)
+as_known t u x e h = let P : Bool → Type 0 = λ z. AreKept x (ways_of_valof z) in subst P (sym e) h
+
+pub returns-then-tight_below : goal.returns-then-tight_below
+returns-then-tight_below c = as_known c.args.tight_below true (Three c.node-ended.result c.deep-called.result c.node-operated.result) c.if-tight_below.true (c.node-ended.ensures 0 0 0 refl refl, c.deep-called.ensures 0 0 refl, c.node-operated.ensures 0 0 0 refl refl)
+
+pub returns : goal.returns
+returns c = as_known c.args.tight_below false (Three c.node-ended.result c.deep-called.result c.deep-operated.result) c.if-tight_below.false (c.node-ended.ensures 0 0 0 refl refl, c.deep-called.ensures 0 0 refl, c.deep-operated.ensures 0 0 refl)

@@ -1,0 +1,52 @@
+//! Room for a part: how deep and how large it may be, so that the section stays within its limits.
+ghost use Rattle.std.specs.Prelude.{◌≤◌};
+ghost use Rattle.bk_base.specs.declared.limit.TheConstants.{TREE_DEPTH, TREE_NODES};
+
+/// What a part of a section is.
+#[derive(Clone, Copy)]
+pub enum Whom {
+    /// An expression of any form.
+    Expression,
+    /// A name, which may be a label.
+    Label,
+    /// A call, which may be a command.
+    Call,
+    /// An expression with which an operator behind a VALOF goes on.
+    Operated,
+    Command,
+    /// No command behind a colon.
+    Missing,
+    Definition,
+    Declaration,
+    /// The symbol that is due.
+    Due,
+    /// The `)` of a call without arguments.
+    Closed,
+}
+
+/// The symbol behind a part, by what within the part takes it as its own.
+#[derive(Clone, Copy)]
+pub enum Next {
+    /// Nothing takes it.
+    Closing,
+    /// A `:=`, which a call takes.
+    Assigning,
+    /// A comma, which a call or a TABLE takes.
+    Listing,
+    /// What an expression takes.
+    Going,
+    /// What a command takes.
+    Repeating,
+    /// An operator that begins no command.
+    Operating,
+}
+
+/// Room for a part, behind which such a symbol comes: it may be at most so deep and have at most so many nodes.
+#[derive(Clone, Copy)]
+pub struct Room {
+    pub whom: Whom,
+    pub next: Next,
+    pub depth: u32,
+    pub nodes: u32,
+    ghost small: { (depth ≤ TREE_DEPTH) × (nodes ≤ TREE_NODES) },
+}
