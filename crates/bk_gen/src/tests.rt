@@ -159,6 +159,26 @@ fn jumps(rt: HostRuntime) -> Result<(), Fail> {
         ENDPROC GLOBAL 1 1 L1",
         b"B",
     )?;
+    // jumps on comparisons with 0: of 0 and of 5 by = and by ~=, if true and if false; the letters are those that are not jumped over
+    writes(
+        &rt,
+        rt.alloc(),
+        b"ENTRY L1 0 SAVE 2 LN 0 LN 5 STORE \
+        STACK 4 LP 2 LN 0 EQ JT L2 STACK 6 LN 65 LG 4 RTAP 4 LAB L2 STACK 4 LP 3 LN 0 EQ JT L3 STACK 6 LN 66 LG 4 RTAP 4 LAB L3 \
+        STACK 4 LP 2 LN 0 EQ JF L4 STACK 6 LN 67 LG 4 RTAP 4 LAB L4 STACK 4 LP 3 LN 0 EQ JF L5 STACK 6 LN 68 LG 4 RTAP 4 LAB L5 \
+        STACK 4 LP 2 FALSE NE JT L6 STACK 6 LN 69 LG 4 RTAP 4 LAB L6 STACK 4 LP 3 FALSE NE JT L7 STACK 6 LN 70 LG 4 RTAP 4 LAB L7 \
+        STACK 4 LP 2 FALSE NE JF L8 STACK 6 LN 71 LG 4 RTAP 4 LAB L8 STACK 4 LP 3 FALSE NE JF L9 STACK 6 LN 72 LG 4 RTAP 4 LAB L9 \
+        STACK 4 RTRN ENDPROC GLOBAL 1 1 L1",
+        b"BCEH",
+    )?;
+    // comparisons with 0 whose values are used
+    writes(
+        &rt,
+        rt.alloc(),
+        b"ENTRY L1 0 SAVE 2 LN 0 LN 5 STORE STACK 6 LP 2 LN 0 EQ LG 7 RTAP 4 STACK 6 LP 3 LN 0 NE LP 2 FALSE NE MINUS LG 7 RTAP 4 \
+        STACK 6 LP 2 LN 0 EQ NEG LG 7 RTAP 4 RTRN ENDPROC GLOBAL 1 1 L1",
+        b"-1-11",
+    )?;
     // a result from one of two places
     writes(
         &rt,
