@@ -60,16 +60,17 @@ impl<'a> Claims<'a> {
         ensures kept { OnErr result (self.new ≡ self.old) }
         ensures absent { OnErr result (is_claimed (claim_of claim.entry) self.old ≡ false) }
     {
-        if self.claimed.contains(&claim) {
+        if self.in_turn.reserve(1).is_err() {
+            // No memory is asked for where it was claimed before.
+            if self.claimed.contains(&claim) {
+                return Ok(false);
+            }
+            return Err(AllocError);
+        }
+        if !self.claimed.insert(claim)? {
             return Ok(false);
         }
         self.in_turn.push(claim)?;
-        match self.claimed.insert(claim) {
-            Ok(_) => Ok(true),
-            Err(_) => {
-                self.in_turn.pop();
-                Err(AllocError)
-            }
-        }
+        Ok(true)
     }
 }

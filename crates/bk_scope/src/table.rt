@@ -55,20 +55,15 @@ impl<'a> Table<'a> {
         ensures bound { OnOk result (self.new ≡ bind name.now bound self.old) }
         ensures unbound { OnErr result (self.new ≡ self.old) }
     {
+        self.bindings.reserve(1)?;
         let place = self.bindings.len();
-        let hidden = self.place(name);
+        let hidden = self.innermost.insert(name, Some(place))?.flatten();
         self.bindings.push(Entry {
             name,
             bound,
             hidden,
         })?;
-        match self.innermost.insert(name, Some(place)) {
-            Ok(_) => Ok(()),
-            Err(_) => {
-                self.bindings.pop();
-                Err(AllocError)
-            }
-        }
+        Ok(())
     }
 
     /// How many bindings are in scope, to come back to.

@@ -1,9 +1,11 @@
-use Rattle.std.proofs.Common.{◌∙◌, sym, ap, arith}
-use Rattle.bk_scope.specs.TableView.{place_in}
+use Rattle.std.proofs.Common.{◌++◌, ◌∷◌, [], ◌∙◌, ap, arith}
+use Rattle.std.specs.Option.{option_flatten}
 use Rattle.bk_scope.proofs.TableSteps.{IsTable-push}
 use Rattle.bk_scope.proofs.table.Table.bind.Goals as goal
 
-pub invariant_of-self-in-Ok : goal.invariant_of-self-in-Ok
-invariant_of-self-in-Ok c =
-    IsTable-push c.self.inside (record { innermost = c.insert.new.self; bindings = c.push.new.self }) _ c.len-place.result c.self.invariant c.in_ok-push.ensures.items
-    (omega arith) (c.place-hidden.ensures ∙ ap (λ bs. place_in bs c.args.name.now) (sym c.self.view_is)) c.in-Ok.ensures.updates
+pub invariant_of-self-2 : goal.invariant_of-self-2
+invariant_of-self-2 c =
+    IsTable-push c.self.inside (record { innermost = c.insert.new.self; bindings = c.push.new.self }) (record { name = c.args.name; bound = c.args.bound; hidden = c.flatten-hidden.result }) c.len-place.result c.self.invariant
+    (c.in_ok-push.ensures.items ∙ ap (λ es. es ++ record { name = c.args.name; bound = c.args.bound; hidden = c.flatten-hidden.result } ∷ []) c.reserve.ensures.items)
+    (omega arith)
+    (c.flatten-hidden.ensures ∙ ap option_flatten c.in_ok-insert.ensures.old ∙ c.self.invariant.places c.args.name.now) c.in_ok-insert.ensures.updates
