@@ -1,4 +1,5 @@
-//! The programs of the examples: each by `bcpl run` and through the filters, with the output that is shown for it.
+//! The programs of the examples: each by `bcpl run` and, with the plain generator, through the filters, with the output that is
+//! shown for it.
 use bk_rows::outcome::{INTERPRET, Outcome, RUN, filtered, outcome_of};
 use std::{fs, io};
 
@@ -45,15 +46,15 @@ fn is_shown(outcome: &Outcome, output: &[u8]) -> bool {
     outcome.status == 0 && outcome.output.as_slice() == output && outcome.line.is_empty()
 }
 
-/// Whether the example writes what is shown for it, in both ways.
+/// Whether the example writes what is shown for it, by each of the generators.
 fn is_as_shown(rt: &HostRuntime, name: &str) -> io::Result<bool> {
     let alloc = rt.alloc();
     let source = file(rt, name, ".b")?;
     let input = file(rt, name, ".in").unwrap_or(Vec::new(alloc));
     let shown = file(rt, name, ".out")?;
     let run = outcome_of(alloc, &RUN, source.as_slice(), input.as_slice())?;
-    let through = filtered(alloc, source.as_slice(), &INTERPRET, input.as_slice())?;
-    Ok(is_shown(&run, shown.as_slice()) && is_shown(&through, shown.as_slice()))
+    let plain = filtered(alloc, source.as_slice(), true, &INTERPRET, input.as_slice())?;
+    Ok(is_shown(&run, shown.as_slice()) && is_shown(&plain, shown.as_slice()))
 }
 
 /// Tells of each example whether it writes what is shown for it; answers whether all do.

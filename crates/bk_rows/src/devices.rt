@@ -115,8 +115,8 @@ pub fn check(
     Ok(())
 }
 
-/// Checks that a source gives this status, this output and this line, by `bcpl run` and through the filters. Where it is refused
-/// the filters may have written the text of sections before.
+/// Checks that a source gives this status, this output and this line, by `bcpl run` and through the filters, with each of the
+/// generators. Where it is refused the filters may have written the text of sections before.
 pub fn check_source(
     rt: &impl Abort,
     alloc: Global,
@@ -127,12 +127,14 @@ pub fn check_source(
     line: &[u8],
 ) -> Result<(), Fail> {
     check(rt, alloc, &RUN, source, input, status, output, line)?;
-    let outcome = filtered(alloc, source, &INTERPRET, input)?;
-    assert_eq!(rt; outcome.status, status);
-    if status != 101 {
-        assert_eq!(rt; outcome.output.as_slice(), output);
+    for is_plain in [false, true] {
+        let outcome = filtered(alloc, source, is_plain, &INTERPRET, input)?;
+        assert_eq!(rt; outcome.status, status);
+        if status != 101 {
+            assert_eq!(rt; outcome.output.as_slice(), output);
+        }
+        assert_eq!(rt; outcome.line.as_slice(), line);
     }
-    assert_eq!(rt; outcome.line.as_slice(), line);
     Ok(())
 }
 

@@ -1,6 +1,9 @@
-//! What comes of words, and of a source in two ways.
-use bk_base::{Reader512, Writer512};
+//! What comes of words, and of a source through the filters, with each of the generators.
+use bk_base::{ByteOut, Reader512, Writer512};
+use bk_gen::plain;
+use bk_intcode_text::print;
 use bk_kit::{order, refuse, serve};
+use bk_ocode::read_section;
 use std::alloc::{AllocError, Global};
 
 /// The words that run FILE as a source.
@@ -54,10 +57,43 @@ pub fn outcome_of(
     })
 }
 
-/// What comes of a source through the two filters and the interpreter: of the first of them that does not give status 0.
+/// Writes the segments that the plain generator gives for the sections of a text, and answers the status that the second filter
+/// has for such an answer.
+fn put_plain<O: ByteOut>(alloc: Global, code: &[u8], out: &mut O) -> Result<u8, AllocError> {
+    let mut input = Reader512::new(code);
+    for _ in 0..usize::MAX {
+        let section = match read_section(alloc, &mut input) {
+            Ok(Some(section)) => section,
+            Ok(None) => break,
+            Err(_) => return Ok(102),
+        };
+        let segment = plain::generate(alloc, &section)?;
+        if print(&segment, out).is_err() {
+            return Ok(110);
+        }
+    }
+    Ok(if out.flush().is_ok() { 0 } else { 110 })
+}
+
+/// What comes of a text of OCODE through the plain generator in the place of the second filter. It tells of no fault.
+fn plain_outcome(alloc: Global, code: &[u8]) -> Result<Outcome, AllocError> {
+    let mut output = Vec::new(alloc);
+    let mut out = Writer512::new(&mut output);
+    let status = put_plain(alloc, code, &mut out)?;
+    drop(out);
+    Ok(Outcome {
+        status,
+        output,
+        line: Vec::new(alloc),
+    })
+}
+
+/// What comes of a source through the two filters and the interpreter: of the first of them that does not give status 0. The
+/// plain generator may stand for the second filter.
 pub fn filtered(
     alloc: Global,
     source: &[u8],
+    is_plain: bool,
     words: &[&str],
     input: &[u8],
 ) -> Result<Outcome, AllocError> {
@@ -65,7 +101,12 @@ pub fn filtered(
     if compiled.status != 0 {
         return Ok(compiled);
     }
-    let generated = outcome_of(alloc, &GENERATE, b"", compiled.output.as_slice())?;
+    let code = compiled.output.as_slice();
+    let generated = if is_plain {
+        plain_outcome(alloc, code)?
+    } else {
+        outcome_of(alloc, &GENERATE, b"", code)?
+    };
     if generated.status != 0 {
         return Ok(generated);
     }

@@ -1,4 +1,5 @@
-//! Rows of the language: programs that are run by `bcpl run` and through the two filters, and what they write.
+//! Rows of the language: programs that are run by `bcpl run` and, with each of the generators, through the two filters, and what
+//! they write.
 use crate::devices::{check, check_commands, check_source, check_written};
 use crate::outcome::{Outcome, filtered, outcome_of};
 use std::alloc::{AllocError, Global};
@@ -252,7 +253,7 @@ fn thousand_steps(alloc: Global, source: &[u8], whole: bool) -> Result<Outcome, 
         outcome_of(alloc, &["bcpl", "run", "-t", "1000", "f"], source, b"")
     } else {
         let words = ["bcpl", "interpret", "-t", "1000", "f"];
-        filtered(alloc, source, &words, b"")
+        filtered(alloc, source, false, &words, b"")
     }
 }
 
