@@ -11,8 +11,6 @@ mod section;
 mod segment;
 mod statement;
 mod table;
-#[cfg(test)]
-mod tests;
 
 pub use laws::{back_end, parts_are_well_placed, parts_without_start};
 pub use segment::generate;

@@ -6,11 +6,7 @@ mod item_word;
 mod laws;
 mod meaning;
 mod printing;
-#[cfg(test)]
-mod program_tests;
 mod reading;
-#[cfg(test)]
-mod tests;
 mod words;
 
 pub use laws::{

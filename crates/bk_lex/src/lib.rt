@@ -10,8 +10,6 @@ mod machine;
 mod reserved;
 mod scan;
 mod sign;
-#[cfg(test)]
-mod tests;
 mod token;
 mod values;
 

@@ -17,8 +17,6 @@ mod reading;
 mod section;
 mod standing;
 mod stmt;
-#[cfg(test)]
-mod tests;
 
 pub use byte_string::ByteString;
 pub use case_list::CaseList;

@@ -1,5 +1,6 @@
 //! Rows of the command line and of `bcpl interpret`: words, FILE, input, and what comes of them.
-use crate::devices::{Short, Slow, check};
+use crate::checks::check;
+use bk_back_rows::devices::{Short, Slow};
 use bk_base::{
     IntcodeFault, IntcodeKind, Limits, Line, OcodeFault, OcodeKind, Reader512, SourceFault,
     SourceKind, Writer512,

@@ -1,6 +1,6 @@
 //! Rows of devices that fail at each call: four programs through each way, read and written byte by byte.
-use crate::devices::{Short, Slow};
 use crate::outcome::{COMPILE, GENERATE, INTERPRET, Outcome, RUN, outcome_of};
+use bk_back_rows::devices::{Short, Slow};
 use bk_base::{Reader512, Writer512};
 use bk_kit::{order, serve};
 use std::alloc::Global;

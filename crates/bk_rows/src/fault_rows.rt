@@ -1,5 +1,5 @@
 //! Rows of sources that are refused: the line and the fault, by `bcpl run` and by `bcpl compile`.
-use crate::devices::{check, check_source};
+use crate::checks::{check, check_source};
 use crate::outcome::RUN;
 use std::alloc::{AllocError, Global};
 use std::test::Fail;

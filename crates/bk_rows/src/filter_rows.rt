@@ -1,6 +1,7 @@
 //! Rows of the two filters: texts, and the texts that come of them.
-use crate::devices::{Refusing, Slow, check};
+use crate::checks::{Refusing, check};
 use crate::outcome::{COMPILE, GENERATE, outcome_of};
+use bk_back_rows::devices::Slow;
 use bk_base::Reader512;
 use bk_kit::{KitFault, compile, generate_all};
 use std::test::Fail;

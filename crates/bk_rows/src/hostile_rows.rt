@@ -1,5 +1,5 @@
 //! Rows of hostile texts: code that runs over its own words, and sources of brackets alone.
-use crate::devices::check;
+use crate::checks::check;
 use crate::outcome::{INTERPRET, RUN};
 use std::test::Fail;
 

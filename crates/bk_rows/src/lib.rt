@@ -2,11 +2,11 @@
 #![tactic(auto)]
 
 #[cfg(test)]
+mod checks;
+#[cfg(test)]
 mod command_rows;
 #[cfg(test)]
 mod device_rows;
-#[cfg(test)]
-mod devices;
 #[cfg(test)]
 mod fault_rows;
 #[cfg(test)]

@@ -1,6 +1,6 @@
 //! Rows of the language: programs that are run by `bcpl run` and, with each of the generators, through the two filters, and what
 //! they write.
-use crate::devices::{check, check_commands, check_source, check_written};
+use crate::checks::{check, check_commands, check_source, check_written};
 use crate::outcome::{Outcome, filtered, outcome_of};
 use std::alloc::{AllocError, Global};
 use std::test::Fail;

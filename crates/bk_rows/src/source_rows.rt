@@ -1,6 +1,7 @@
 //! Rows of `bcpl run` with limits, and with devices that fail.
-use crate::devices::{Short, Slow, check};
+use crate::checks::check;
 use crate::outcome::RUN;
+use bk_back_rows::devices::{Short, Slow};
 use bk_base::{ByteIn, Reader512, Writer512};
 use bk_kit::{LineFault, Order, order, serve};
 use std::alloc::Global;

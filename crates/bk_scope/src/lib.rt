@@ -19,8 +19,6 @@ mod resolving;
 mod role;
 mod section_names;
 mod table;
-#[cfg(test)]
-mod tests;
 mod walk;
 
 pub use bound::Bound;

@@ -17,12 +17,8 @@ mod section;
 mod size;
 mod spelling;
 mod symbols;
-#[cfg(test)]
-mod tests;
 mod top;
 pub mod tree;
-#[cfg(test)]
-mod tree_tests;
 mod way;
 mod ways;
 

@@ -13,8 +13,6 @@ mod pieces;
 mod places;
 mod short;
 mod statements;
-#[cfg(test)]
-mod tests;
 mod translating;
 mod way;
 mod writer;

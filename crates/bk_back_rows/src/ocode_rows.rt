@@ -1,65 +1,8 @@
 //! Tests: rows of texts with what they are, each statement, each limit, and devices that fail.
-use crate::{Ocode, print, read_section};
+use crate::devices::{Short, Slow};
 use bk_base::{ByteOut, OcodeFault, OcodeKind, Reader512, Refused, Writer512};
-use std::io;
-use std::io::{ErrorKind, Read, Write};
+use bk_ocode::{Ocode, print, read_section};
 use std::test::Fail;
-
-/// Gives one byte a read, and fails at a read.
-#[derive(Drop)]
-struct Slow<'a> {
-    bytes: &'a [u8],
-    reads: usize,
-}
-
-impl Read for Slow<'_> {
-    fn read(&mut self, buf: &mut [u8]) -> io::Result<usize> {
-        if self.reads == 0 {
-            return Err(io::Error::from(ErrorKind::Other));
-        }
-        self.reads -= 1;
-        if buf.is_empty() {
-            return Ok(0);
-        }
-        match self.bytes {
-            [] => Ok(0),
-            [first, rest @ ..] => {
-                buf[0] = *first;
-                self.bytes = rest;
-                Ok(1)
-            }
-        }
-    }
-}
-
-/// Takes so many bytes, one a write, and then fails.
-#[derive(Drop)]
-struct Short<'a> {
-    bytes: &'a mut Vec<u8>,
-    room: usize,
-}
-
-impl Write for Short<'_> {
-    fn write(&mut self, buf: &[u8]) -> io::Result<usize> {
-        if self.room == 0 {
-            return Err(io::Error::from(ErrorKind::Other));
-        }
-        match buf {
-            [] => Ok(0),
-            [first, ..] => {
-                if self.bytes.push(*first).is_err() {
-                    return Err(io::Error::from(ErrorKind::OutOfMemory));
-                }
-                self.room -= 1;
-                Ok(1)
-            }
-        }
-    }
-
-    fn flush(&mut self) -> io::Result<()> {
-        Ok(())
-    }
-}
 
 /// How many statements a text's first section has, 0 where only blanks are left, or its fault.
 fn count(rt: &HostRuntime, text: &[u8]) -> Result<usize, Refused<OcodeFault>> {

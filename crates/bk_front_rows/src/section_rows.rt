@@ -1,7 +1,8 @@
 //! Sections that are taken and refused, from bytes on.
-use crate::parse;
+
 use bk_base::{Line, Refused, SourceFault, SourceKind};
 use bk_lex::lex;
+use bk_syntax::parse;
 use std::alloc::{AllocError, Global};
 use std::test::Fail;
 

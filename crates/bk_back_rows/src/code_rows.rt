@@ -1,7 +1,7 @@
 //! Sections through `generate` and the machine: each statement, each routine of the library, and the ends of runs. What they
 //! write is worked out by hand.
-use crate::{generate, plain};
 use bk_base::{End, Reader512, Writer512};
+use bk_gen::{generate, plain};
 use bk_intcode::{Intcode, LoadFault, Machine};
 use bk_ocode::{Ocode, read_section};
 use std::alloc::Global;

@@ -1,7 +1,7 @@
 //! Tests of what no clause says: rows of texts with their tokens or their fault, and each limit at its last good value
 //! and the next.
-use crate::{Cut, Cutter, Kind, Lexed, character_byte, lex, number_word, string_bytes};
 use bk_base::{Line, Refused};
+use bk_lex::{Cut, Cutter, Kind, Lexed, character_byte, lex, number_word, string_bytes};
 use std::test::Fail;
 
 const MOST_BYTES: usize = 1_048_576;

@@ -1,9 +1,8 @@
 //! Whole programs, read, printed and read again; printing on a device that fails; memory that is refused.
-use crate::{print, read_segment};
+use crate::devices::Short;
 use bk_base::{ByteOut, IntcodeFault, Reader512, Refused, Writer512};
 use bk_intcode::Intcode;
-use std::io;
-use std::io::{ErrorKind, Write};
+use bk_intcode_text::{print, read_segment};
 use std::test::Fail;
 
 /// The numbers of Fibonacci.
@@ -59,35 +58,6 @@ fn segment_of(rt: &HostRuntime, text: &[u8]) -> Result<Intcode, Refused<IntcodeF
     match read_segment(rt.alloc(), &mut input)? {
         Some(segment) => Ok(segment),
         None => Err(Refused::Device),
-    }
-}
-
-/// Takes so many bytes, one a write, and then fails.
-#[derive(Drop)]
-struct Short<'a> {
-    bytes: &'a mut Vec<u8>,
-    room: usize,
-}
-
-impl Write for Short<'_> {
-    fn write(&mut self, buf: &[u8]) -> io::Result<usize> {
-        if self.room == 0 {
-            return Err(io::Error::from(ErrorKind::Other));
-        }
-        match buf {
-            [] => Ok(0),
-            [first, ..] => {
-                if self.bytes.push(*first).is_err() {
-                    return Err(io::Error::from(ErrorKind::OutOfMemory));
-                }
-                self.room -= 1;
-                Ok(1)
-            }
-        }
-    }
-
-    fn flush(&mut self) -> io::Result<()> {
-        Ok(())
     }
 }
 

@@ -1,8 +1,8 @@
 //! Which tree symbols are: each operator beside each other, prefixes, choices.
-use crate::tree::{Command, Decl, Def, Expr, Operator, Prefix};
-use crate::{Section, parse};
 use bk_base::{Line, Refused, SourceFault};
 use bk_lex::lex;
+use bk_syntax::tree::{Command, Decl, Def, Expr, Operator, Prefix};
+use bk_syntax::{Section, parse};
 use std::test::Fail;
 
 /// The row of the relations, which chain.

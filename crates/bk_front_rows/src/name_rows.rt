@@ -1,7 +1,7 @@
 //! Sections from bytes on: what is wrong with their names and constants, and what these are.
-use crate::{Bound, resolve};
 use bk_base::{Line, Refused, SourceFault, SourceKind};
 use bk_lex::lex;
+use bk_scope::{Bound, resolve};
 use bk_syntax::parse;
 use std::alloc::{AllocError, Global};
 use std::test::Fail;

@@ -1,10 +1,10 @@
 //! Sections from bytes on: the text of their translation, word for word.
-use crate::translate;
 use bk_base::{ByteOut, Line, Refused, SourceFault, Writer512};
 use bk_lex::lex;
 use bk_ocode::{Ocode, print};
 use bk_scope::resolve;
 use bk_syntax::parse;
+use bk_trans::translate;
 use std::alloc::Global;
 use std::test::Fail;
 

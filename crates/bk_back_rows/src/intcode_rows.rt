@@ -1,37 +1,9 @@
 //! Tests of what no clause says: rows of texts with what they are, and devices that fail.
-use crate::{print, read_segment};
+use crate::devices::Slow;
 use bk_base::{ByteOut, IntcodeFault, IntcodeKind, Reader512, Refused, Writer512};
 use bk_intcode::{Function, Intcode, Item, Operand};
-use std::io;
-use std::io::{ErrorKind, Read};
+use bk_intcode_text::{print, read_segment};
 use std::test::Fail;
-
-/// Gives one byte a read, and fails at a read.
-#[derive(Drop)]
-struct Slow<'a> {
-    bytes: &'a [u8],
-    reads: usize,
-}
-
-impl Read for Slow<'_> {
-    fn read(&mut self, buf: &mut [u8]) -> io::Result<usize> {
-        if self.reads == 0 {
-            return Err(io::Error::from(ErrorKind::Other));
-        }
-        self.reads -= 1;
-        if buf.is_empty() {
-            return Ok(0);
-        }
-        match self.bytes {
-            [] => Ok(0),
-            [first, rest @ ..] => {
-                buf[0] = *first;
-                self.bytes = rest;
-                Ok(1)
-            }
-        }
-    }
-}
 
 /// How many items a text's first segment has, 0 where only blanks are left, or its fault.
 fn count(rt: &HostRuntime, text: &[u8]) -> Result<usize, Refused<IntcodeFault>> {

@@ -1,0 +1,14 @@
+//! Rows of sources through the front end: their symbols, trees, names and statements, each with what has to come of it. Tests
+//! alone, of what no clause says, so that the crates below are proved once.
+#![tactic(auto)]
+
+#[cfg(test)]
+mod name_rows;
+#[cfg(test)]
+mod section_rows;
+#[cfg(test)]
+mod statement_rows;
+#[cfg(test)]
+mod token_rows;
+#[cfg(test)]
+mod tree_rows;
