@@ -11,9 +11,17 @@ use Rattle.bk_syntax.specs.declared.room.Room.{Room}
 use Rattle.bk_syntax.specs.declared.way.Way.{Way}
 use Rattle.bk_syntax.specs.declared.way.Met.{Met}
 use Rattle.bk_syntax.specs.Inner.Sizes.{kept}
-use Rattle.bk_syntax.specs.Inner.Rooms.{whom_number, next_number, next_of, is_next, serves, fits, holds, covered, counted, raised, Within, IsCovered, AreBeside, AreAdded, IsKept, leads, by_room, by_way}
+use Rattle.bk_syntax.specs.Inner.Rooms.{whom_number, next_number, next_of, is_next, serves, fits, holds, covered, counted, raised, Within, AreAdded, IsKept, leads, by_room, by_way}
 use Rattle.bk_syntax.specs.Inner.WaysOn as w
 use Rattle.bk_syntax.proofs.Links.{both, first, second, left, right}
+
+-- so it is of some room of the list
+abbrev pub IsCovered : Room → List Room → Type 0
+IsCovered r rs = (x : Whom) (c : w.Next) (d n : ℕ) → holds r x c d n ≡ true → covered rs x c d n ≡ true
+
+-- the rooms of the one list and those of the other are as good, beside this one
+abbrev pub AreBeside : Room → List Room → List Room → Type 0
+AreBeside r rs ss = (x : Whom) (c : w.Next) (d n : ℕ) → (holds r x c d n || covered rs x c d n) ≡ (holds r x c d n || covered ss x c d n)
 
 whom_of : ℕ → Whom
 whom_of zero = Expression
@@ -125,6 +133,17 @@ already false true h = absurd (let e = h refl in cc)
 
 pub added_none : (rs : List Room) (r : Room) → IsCovered r rs → (x : Whom) (c : w.Next) (d n : ℕ) → covered rs x c d n ≡ (covered rs x c d n || holds r x c d n)
 added_none rs r h x c d n = already (covered rs x c d n) (holds r x c d n) (h x c d n)
+
+-- one room less, after others
+pub dropped_behind : (r z : Room) (old now new : List Room) (i : ℕ) → AreBeside r old now → i < length now → Within z r → z ≡ get_or now i z → new ≡ remove now i → AreBeside r old new
+dropped_behind r z old now new i h lt k is e x c d n =
+    let P : List Room → Type 0 = λ y. AreBeside r now y in
+    let f : AreBeside r now new = subst P (sym e) (dropped now i r z lt k is) in
+    h x c d n ∙ f x c d n
+
+-- it lies within one of those that are left
+pub held_already : (rs ss : List Room) (r z : Room) (i : ℕ) → AreBeside r rs ss → i < length ss → Within r z → z ≡ get_or ss i z → (x : Whom) (c : w.Next) (d n : ℕ) → covered ss x c d n ≡ (covered rs x c d n || holds r x c d n)
+held_already rs ss r z i h lt k is x c d n = added_none ss r (covered_at ss i r z lt k is) x c d n ∙ or_swap (covered ss x c d n) (holds r x c d n) ∙ sym (h x c d n) ∙ or_swap (holds r x c d n) (covered rs x c d n)
 
 -- ---- what a way leaves
 

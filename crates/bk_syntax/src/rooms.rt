@@ -1,7 +1,7 @@
 //! Lists of rooms.
 ghost use Rattle.std.specs.Prelude.{◌≡◌, ◌&&◌, ◌+◌, ◌≤◌, ℕ, true, Some, IfOk};
 ghost use Rattle.bk_syntax.specs.Inner.Sizes.{kept, kept_size};
-ghost use Rattle.bk_syntax.specs.Inner.Rooms.{whom_number, next_number, serves, counted, raised, fits, has_room, holds_if, Within, IsCovered, AreBeside, IsAdded, AreAdded, IsKept, AreKept, by_room, by_way, by_ways, leads};
+ghost use Rattle.bk_syntax.specs.Inner.Rooms.{whom_number, next_number, serves, counted, raised, fits, has_room, holds_if, Within, IsAdded, AreAdded, IsKept, AreKept, by_room, by_way, by_ways, leads, keeps_symbol};
 ghost use Rattle.bk_syntax.specs.declared.way.Way.{Way};
 ghost use Rattle.bk_syntax.specs.declared.way.Ways.{Ways};
 ghost use Rattle.bk_syntax.specs.declared.room.Whom.{Whom};
@@ -10,7 +10,7 @@ ghost use Rattle.bk_syntax.specs.Inner.WaysOn as w;
 use crate::frame::Size;
 use crate::room::{Next, Room, Whom};
 use crate::size::plus;
-use crate::way::{Met, Way, Ways, reached};
+use crate::way::{Link, Met, Way, Ways, reached};
 use std::alloc::AllocError;
 
 fn whom_number(whom: Whom) -> u8
@@ -99,40 +99,21 @@ fn is_within(inner: &Room, outer: &Room) -> bool
     true
 }
 
-/// Whether the room lies within one of these.
-fn is_covered(rooms: &[Room], room: &Room) -> bool
-    ensures { result ≡ true → IsCovered room.now rooms.now }
-{
-    for other in rooms {
-        if is_within(room, other) {
-            return true;
-        }
-    }
-    false
-}
-
-/// Leaves out the rooms that lie within this one.
-fn drop_within(rooms: &mut Vec<Room>, room: &Room)
-    ensures { AreBeside room.now rooms.old.items rooms.new.items }
+/// Adds a room, of which only those are kept that lie within no other.
+fn add(rooms: &mut Vec<Room>, room: Room) -> Result<(), AllocError>
+    ensures { IfOk result (λ _. IsAdded room rooms.old.items rooms.new.items) }
 {
     let mut i = 0;
     while i < rooms.len() {
-        if is_within(&rooms[i], room) {
+        if is_within(&room, &rooms[i]) {
+            return Ok(());
+        }
+        if is_within(&rooms[i], &room) {
             rooms.remove(i);
         } else {
             i += 1;
         }
     }
-}
-
-/// Adds a room, of which only those are kept that lie within no other.
-fn add(rooms: &mut Vec<Room>, room: Room) -> Result<(), AllocError>
-    ensures { IfOk result (λ _. IsAdded room rooms.old.items rooms.new.items) }
-{
-    if is_covered(rooms, &room) {
-        return Ok(());
-    }
-    drop_within(rooms, &room);
     rooms.push(room)?;
     Ok(())
 }
@@ -182,12 +163,28 @@ fn left_of(way: &Way, room: &Room, counts: bool) -> Option<Room>
     }
 }
 
+/// Whether the symbol behind a part is the one behind the whole: of rooms that lie apart, such a way leaves rooms that do.
+fn keeps_symbol(link: Link) -> bool
+    ensures { result ≡ keeps_symbol link }
+{
+    match link {
+        Link::Each | Link::Unlisted | Link::Ended | Link::Closing => true,
+        _ => false,
+    }
+}
+
 /// Adds the room that a way leaves of one.
 fn add_left(rooms: &mut Vec<Room>, way: &Way, room: &Room, counts: bool) -> Result<(), AllocError>
     ensures { IfOk result (λ _. (e : Way) → IsKept way.now e → AreAdded (by_room counts e room.now) rooms.old.items rooms.new.items) }
 {
     match left_of(way, room, counts) {
-        Some(left) => add(rooms, left),
+        Some(left) => {
+            if keeps_symbol(way.link) {
+                rooms.push(left)?;
+                return Ok(());
+            }
+            add(rooms, left)
+        }
         None => Ok(()),
     }
 }

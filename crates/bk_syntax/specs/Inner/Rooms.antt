@@ -100,14 +100,6 @@ holds_if (Some r) x c d n = holds r x c d n
 abbrev pub Within : Room → Room → Type 0
 Within r s = (x : Whom) (c : w.Next) (d n : ℕ) → holds r x c d n ≡ true → holds s x c d n ≡ true
 
--- so it is of some room of the list
-abbrev pub IsCovered : Room → List Room → Type 0
-IsCovered r rs = (x : Whom) (c : w.Next) (d n : ℕ) → holds r x c d n ≡ true → covered rs x c d n ≡ true
-
--- the rooms of the one list and those of the other are as good, beside this one
-abbrev pub AreBeside : Room → List Room → List Room → Type 0
-AreBeside r rs ss = (x : Whom) (c : w.Next) (d n : ℕ) → (holds r x c d n || covered rs x c d n) ≡ (holds r x c d n || covered ss x c d n)
-
 -- this room more
 abbrev pub IsAdded : Room → List Room → List Room → Type 0
 IsAdded r rs ss = (x : Whom) (c : w.Next) (d n : ℕ) → covered ss x c d n ≡ (covered rs x c d n || holds r x c d n)
@@ -142,6 +134,14 @@ raised false n = n
 
 abbrev pub met : Next → Bool → Option Met
 met c m = Some (record { next = c; more = m })
+
+-- the symbol behind the part is the one behind the whole
+abbrev pub keeps_symbol : Link → Bool
+keeps_symbol l.Each = true
+keeps_symbol l.Unlisted = true
+keeps_symbol l.Ended = true
+keeps_symbol l.Closing = true
+keeps_symbol _ = false
 
 -- the symbol behind a part where this one comes behind the whole
 abbrev pub reached : Link → Next → Option Met

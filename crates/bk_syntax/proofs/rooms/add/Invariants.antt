@@ -1,6 +1,6 @@
 use Rattle.std.proofs.Common.{◌≤◌, ◌-◌, vec_len}
-use Rattle.bk_syntax.specs.Inner.Rooms.{AreBeside}
-use Rattle.bk_syntax.proofs.rooms.drop_within.Given as goal
+use Rattle.bk_syntax.proofs.Roomy.{AreBeside}
+use Rattle.bk_syntax.proofs.rooms.add.Given as goal
 
 abbrev pub invariant-loop-i : goal.invariant-loop-i
 invariant-loop-i l = record { in_range : l.i ≤ vec_len l.rooms; beside : AreBeside l.room l.initial.rooms.items l.rooms.items }
