@@ -1,5 +1,5 @@
 -- What a state asks for, as rooms.
-use Rattle.std.proofs.Common.{◌≡◌, ◌⊎◌, ◌↔◌, inl, inr, ℕ, ◌+◌, Bool, true, false, ◌&&◌, ◌||◌, List, [], ◌∷◌, refl, sym, subst, ap, ◌∙◌}
+use Rattle.std.proofs.Common.{◌≡◌, ◌⊎◌, ◌↔◌, inl, inr, ℕ, ◌+◌, Bool, true, ◌&&◌, ◌||◌, List, [], ◌∷◌, refl, sym, ◌∙◌}
 use Rattle.bk_syntax.specs.declared.room.Whom.{Whom}
 use Rattle.bk_syntax.specs.declared.room.Whom.TheVariants.{Expression, Label, Call, Command, Missing, Due, Closed}
 use Rattle.bk_syntax.specs.declared.room.Room.{Room}
@@ -10,10 +10,10 @@ use Rattle.bk_syntax.specs.Tree.{Action, none, more}
 use Rattle.bk_syntax.specs.Limits.{depth, nodes, depth_of_action, nodes_of_action}
 use Rattle.bk_syntax.specs.Inner.Machine.{Stack, in_args, want, have, begin, maybe, did, due}
 use Rattle.bk_syntax.specs.Inner.Sizes.{form_of}
-use Rattle.bk_syntax.specs.Inner.Rooms.{Limit, counted, next_of, is_next, serves, fits, holds, covered, has_room, whom_of, Part, Closes, Sized, AreRooms, goes_on}
+use Rattle.bk_syntax.specs.Inner.Rooms.{Limit, counted, next_of, is_next, serves, fits, holds, covered, has_room, whom_of, Part, Closes, Sized, AreRooms}
 use Rattle.bk_syntax.specs.Inner.WaysOn as w
 use Rattle.bk_syntax.specs.Inner.WaysOn.{Any, Whole, Gives, Does, Wants, Misses, Completes}
-use Rattle.bk_syntax.proofs.Links.{both, first, second, left, right, either_of, next_in}
+use Rattle.bk_syntax.proofs.Links.{both, second, left, right, either_of, next_in}
 use Rattle.bk_syntax.proofs.Joints.{limit_down, via, either, any_closing, plain}
 use Rattle.bk_syntax.proofs.Decides.{decides}
 use Rattle.bk_syntax.proofs.Covering.{wants}

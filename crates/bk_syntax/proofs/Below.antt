@@ -1,6 +1,5 @@
 -- The rooms that ways leave of those below are the rooms of the stack.
-use Rattle.std.proofs.Common.{◌≡◌, ◌≤◌, ◌<◌, ◌⊎◌, ◌↔◌, inl, inr, ℕ, zero, suc, ◌+◌, ◌-◌, max, min, leb, Bool, true, false, ◌&&◌, ◌||◌, Option, Some, None, List, [], ◌∷◌, ◌++◌, length, refl, sym, subst, ap, ◌∙◌, arith}
-use Rattle.std.proofs.lemmas.Bool.Decides.{nat_tests}
+use Rattle.std.proofs.Common.{◌≡◌, ℕ, ◌+◌, max, Bool, true, false, ◌&&◌, ◌||◌, Option, Some, None, List, [], ◌∷◌, refl, sym, ap, ◌∙◌, arith}
 use Rattle.bk_syntax.specs.declared.frame.Begun.{Begun}
 use Rattle.bk_syntax.specs.declared.frame.Begun.TheVariants as b
 use Rattle.bk_syntax.specs.declared.frame.Operand.TheVariants as o
@@ -10,7 +9,6 @@ use Rattle.bk_syntax.specs.declared.frame.Clause.TheVariants as c
 use Rattle.bk_syntax.specs.declared.frame.Place.TheVariants as a
 use Rattle.bk_syntax.specs.declared.frame.Point.TheVariants as t
 use Rattle.bk_syntax.specs.declared.room.Whom.{Whom}
-use Rattle.bk_syntax.specs.declared.room.Whom.TheVariants as who
 use Rattle.bk_syntax.specs.declared.room.Next.{Next}
 use Rattle.bk_syntax.specs.declared.room.Next.TheVariants.{Closing, Assigning, Listing, Going, Repeating, Operating}
 use Rattle.bk_syntax.specs.declared.room.Room.{Room}
@@ -21,7 +19,7 @@ use Rattle.bk_syntax.specs.declared.way.Ways.TheVariants.{One, Two, Three, Five}
 use Rattle.bk_syntax.specs.declared.way.Met.{Met}
 use Rattle.bk_syntax.specs.Inner.Machine.{Stack}
 use Rattle.bk_syntax.specs.Inner.Begun.{begun_on}
-use Rattle.bk_syntax.specs.Inner.Rooms.{next_of, is_next, serves, holds, covered, counted, raised, reached, some_next, led_met, led_by, led_way, led, Test, goes_on, ways, AreRooms, AreAdded, leads, by_room, by_way, by_ways}
+use Rattle.bk_syntax.specs.Inner.Rooms.{next_of, is_next, serves, holds, covered, counted, raised, reached, some_next, led_met, led_by, led_way, led, goes_on, ways, AreRooms, AreAdded, leads, by_room, by_way, by_ways}
 use Rattle.bk_syntax.specs.Inner.WaysOn as w
 use Rattle.bk_syntax.proofs.Links.{next_in}
 

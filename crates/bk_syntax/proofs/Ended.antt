@@ -1,5 +1,5 @@
 -- What the end completes is no larger than any other completion.
-use Rattle.std.proofs.Common.{◌≡◌, ◌≤◌, ◌+◌, ◌==◌, max, length, ℕ, List, [], Bool, true, false, cond, Option, Some, None, refl, sym, subst, inl, inr, arith}
+use Rattle.std.proofs.Common.{◌≡◌, ◌≤◌, ◌+◌, ◌==◌, max, length, ℕ, List, [], Bool, true, false, cond, Option, Some, None, refl, subst, inl, inr, arith}
 use Rattle.std.specs.Prelude.{nat_lt}
 use Rattle.bk_lex.specs.declared.token.Kind.TheVariants as k
 use Rattle.bk_syntax.specs.declared.size.Form.{Form}
@@ -12,7 +12,7 @@ use Rattle.bk_syntax.specs.Grammar.{line_of, line_of_first, line_of_names, line_
 use Rattle.bk_syntax.specs.Limits.{depth, depth_of_each, depth_of_action, depth_of_declarations, depth_of_definition, depth_of_definitions, depth_of_starts, nodes, nodes_of_each, nodes_of_action, nodes_of_declarations, nodes_of_definition, nodes_of_definitions, nodes_of_starts}
 use Rattle.bk_syntax.specs.Inner.Machine.{Stack, State, want, have, maybe, did, due, in_section, in_block, in_let, at_name, at_starts, at_items, in_unary, in_binary, in_chain, in_else, in_table, in_start, in_values, in_guard, in_result, in_while, in_function, in_value, in_vector, in_valof, in_label, in_guarded, in_default, in_or, in_for, in_routine, give, finish, defined_by, stepped_by, counted, guarded, each_then, starts_then, definitions_then, declarations_then, inside}
 use Rattle.bk_syntax.specs.Inner.Sizes.{form_of}
-use Rattle.bk_syntax.specs.Inner.WaysOn.{Next, closing, assigning, listing, going, repeating, operating, Any, AtClosing, AtPart, If, Unlisted, Closed, Missing, Started, Answered, Whole, Taken, Gives, Does, Operates, Defines, Declares, Misses, Due, Completes}
+use Rattle.bk_syntax.specs.Inner.WaysOn.{Next, closing, assigning, listing, going, repeating, operating, Any, AtClosing, AtPart, If, Unlisted, Closed, Missing, Started, Answered, Whole, Taken, Gives, Does, Operates, Defines, Completes}
 use Rattle.bk_syntax.proofs.Trees.{each_depth, each_nodes, declarations_depth, declarations_nodes, definitions_depth, definitions_nodes, starts_depth, starts_nodes}
 use Rattle.bk_syntax.proofs.Turns.{guarded_depth, guarded_nodes}
 use Rattle.bk_syntax.proofs.Lowering.{Down}

@@ -1,5 +1,5 @@
 -- The section at the end is within the limits, and so is the empty one.
-use Rattle.std.proofs.Common.{◌≡◌, ◌≤◌, List, [], Some, sym, subst, ap, ◌∙◌, Result, Ok, Err, arith}
+use Rattle.std.proofs.Common.{◌≡◌, List, [], Some, sym, subst, ap, ◌∙◌, Result, Ok, Err, arith}
 use Rattle.std.specs.Prelude.{IfOk}
 use Rattle.bk_base.specs.declared.limit.TheConstants.{TREE_DEPTH, TREE_NODES}
 use Rattle.bk_base.specs.declared.source_fault.SourceFault.{SourceFault}

@@ -1,31 +1,20 @@
 -- The ways on, taken apart.
-use Rattle.std.proofs.Common.{◌≡◌, ◌≤◌, ◌⊎◌, ◌↔◌, inl, inr, ℕ, ◌+◌, ◌-◌, ◌==◌, max, min, not, Bool, true, false, ◌&&◌, ◌||◌, List, length, refl, sym, subst, ap, arith}
+use Rattle.std.proofs.Common.{◌≡◌, ◌⊎◌, ◌↔◌, inl, inr, ℕ, ◌+◌, ◌==◌, max, not, Bool, true, false, ◌||◌, refl, arith}
 use Rattle.std.specs.Prelude.{nat_lt}
 use Rattle.std.proofs.lemmas.Bool.Decides.{nat_tests}
 use Rattle.bk_base.specs.declared.limit.TheConstants.{TREE_DEPTH, TREE_NODES}
-use Rattle.bk_syntax.specs.declared.tree.Operator.{Operator}
-use Rattle.bk_syntax.specs.declared.tree.Prefix.{Prefix}
-use Rattle.bk_syntax.specs.declared.tree.Sort.{Sort}
-use Rattle.bk_syntax.specs.declared.symbols.Guard.{Guard}
-use Rattle.bk_syntax.specs.declared.symbols.Guard.TheVariants as g
 use Rattle.bk_syntax.specs.declared.room.Whom.{Whom}
-use Rattle.bk_syntax.specs.declared.room.Whom.TheVariants.{Expression, Label, Call, Operated, Command, Missing, Definition, Declaration, Due, Closed}
-use Rattle.bk_syntax.specs.declared.room.Next.TheVariants.{Closing, Assigning, Listing, Going, Repeating, Operating}
-use Rattle.bk_syntax.specs.declared.way.Link.{Link}
-use Rattle.bk_syntax.specs.declared.way.Link.TheVariants as l
+use Rattle.bk_syntax.specs.declared.room.Whom.TheVariants.{Expression}
 use Rattle.bk_syntax.specs.declared.size.Form.{Form}
 use Rattle.bk_syntax.specs.declared.size.Form.TheVariants as f
-use Rattle.bk_syntax.specs.Tree.{Mention, Expressions, Action, Actions, Declarations, Items, Definitions, Starts, none, more, no_items, item}
-use Rattle.bk_syntax.specs.Limits.{depth, depth_of_each, depth_of_action, depth_of_actions, depth_of_declarations, depth_of_items, depth_of_definitions, depth_of_starts, nodes, nodes_of_each, nodes_of_action, nodes_of_actions, nodes_of_declarations, nodes_of_items, nodes_of_definitions, nodes_of_starts}
 use Rattle.bk_syntax.specs.Rows.{inner}
-use Rattle.bk_syntax.specs.Grammar.{size, start_count}
-use Rattle.bk_syntax.specs.Inner.Machine.{Stack, in_section, in_block, in_let, at_name, at_formals, at_formal, at_formal_end, at_head, at_variable, at_variable_end, at_starts, at_opening, at_items, at_sign, at_goto, at_for, at_forward, at_default, in_parens, in_unary, in_binary, in_chain, in_then, in_else, in_args, in_table, in_start, in_dests, in_values, in_guard, in_test, in_result, in_while, in_from, in_to, in_by, in_item, in_function, in_value, in_vector, in_valof, in_label, in_guarded, in_default, in_do, in_or, in_for, in_routine}
+use Rattle.bk_syntax.specs.Inner.Machine.{Stack, in_parens, in_binary, in_start}
 use Rattle.bk_syntax.specs.Inner.Sizes.{owed}
-use Rattle.bk_syntax.specs.Inner.Rooms.{Limit, counted, is_tight, Tight, Closes, Part, Sized, Test, led, led_by, goes_on, ways_of_binary, ways_of_values, ways_of_starts, ways_of_valof}
+use Rattle.bk_syntax.specs.Inner.Rooms.{Limit, is_tight, Tight, Part, Sized, goes_on}
 use Rattle.bk_syntax.specs.Inner.WaysOn as w
 use Rattle.bk_syntax.specs.Inner.WaysOn.{Any, AtClosing, AtListing, AtArgument, AtAssignment, AtPart, Unlisted, If, Started, Answered, Whole, Taken, Gives, Does, Operates, Defines, Declares, Misses}
-use Rattle.bk_syntax.proofs.Lowering.{Down, at_most_down, levels_down, Falls, at_closing, any, gives_falls, does_falls, operates_fall, defines_fall, declares_fall, any_falls}
-use Rattle.bk_syntax.proofs.Links.{At, at_in, at_of, Ended, Led, Decided, link_test, either_of, left, right}
+use Rattle.bk_syntax.proofs.Lowering.{Down, at_most_down, levels_down, Falls, at_closing, gives_falls, operates_fall, defines_fall, declares_fall, any_falls}
+use Rattle.bk_syntax.proofs.Links.{At, at_in, at_of, Ended, Decided, either_of, left, right}
 
 abbrev pub Rooms : Bool → Stack → Type 0
 Rooms b st = (x : Whom) (c : w.Next) (d n : ℕ) → Sized x d n → Part (Limit b) st x c d n ↔ (goes_on b st x c d n ≡ true)

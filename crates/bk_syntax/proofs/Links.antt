@@ -1,5 +1,5 @@
 -- What the links of ways come to.
-use Rattle.std.proofs.Common.{◌≡◌, ◌≤◌, ◌⊎◌, ◌↔◌, inl, inr, ℕ, ◌+◌, max, Bool, true, false, ◌&&◌, ◌||◌, Option, Some, None, refl, sym, subst, ap, arith}
+use Rattle.std.proofs.Common.{◌≡◌, ◌⊎◌, ◌↔◌, inl, inr, ℕ, ◌+◌, Bool, true, false, ◌&&◌, ◌||◌, Option, Some, None, refl, sym, subst, arith}
 use Rattle.bk_syntax.specs.declared.room.Next.{Next}
 use Rattle.bk_syntax.specs.declared.room.Next.TheVariants.{Closing, Assigning, Listing, Going, Repeating, Operating}
 use Rattle.bk_syntax.specs.declared.way.Link.{Link}
@@ -8,7 +8,7 @@ use Rattle.bk_syntax.specs.declared.way.Met.{Met}
 use Rattle.bk_syntax.specs.Inner.Rooms.{next_of, is_next, some_next, led_met, led_by, reached, raised}
 use Rattle.bk_syntax.specs.Inner.WaysOn as w
 use Rattle.bk_syntax.specs.Inner.WaysOn.{Any, AtClosing, AtListing, AtArgument, AtAssignment, AtPart, Unlisted, If, Closed, Missing, Started, Answered, Whole, Taken}
-use Rattle.bk_syntax.proofs.Lowering.{Falls, any_falls}
+use Rattle.bk_syntax.proofs.Lowering.{Falls}
 
 -- ---- tests
 

@@ -1,5 +1,5 @@
 -- Lists of rooms, and the rooms that ways leave of them.
-use Rattle.std.proofs.Common.{◌≡◌, ◌≤◌, ◌<◌, ◌⊎◌, inl, inr, ℕ, zero, suc, ◌+◌, ◌-◌, max, min, leb, Bool, true, false, ◌&&◌, ◌||◌, Option, Some, None, List, [], ◌∷◌, ◌++◌, length, get_or, take, refl, sym, subst, ap, ◌∙◌, arith}
+use Rattle.std.proofs.Common.{◌≡◌, ◌≤◌, ◌<◌, ℕ, zero, suc, ◌+◌, ◌-◌, max, leb, Bool, true, false, ◌&&◌, ◌||◌, Option, Some, None, List, [], ◌∷◌, ◌++◌, length, get_or, take, refl, sym, subst, ap, ◌∙◌, arith}
 use Rattle.std.specs.List.{remove}
 use Rattle.std.proofs.lemmas.List.{take_more, take_all}
 use Rattle.std.proofs.lemmas.Bool.Decides.{nat_tests}
@@ -11,7 +11,7 @@ use Rattle.bk_syntax.specs.declared.room.Room.{Room}
 use Rattle.bk_syntax.specs.declared.way.Way.{Way}
 use Rattle.bk_syntax.specs.declared.way.Met.{Met}
 use Rattle.bk_syntax.specs.Inner.Sizes.{kept}
-use Rattle.bk_syntax.specs.Inner.Rooms.{whom_number, next_number, next_of, is_next, serves, fits, holds, covered, counted, raised, Within, AreAdded, IsKept, leads, by_room, by_way}
+use Rattle.bk_syntax.specs.Inner.Rooms.{whom_number, next_number, next_of, is_next, serves, holds, covered, counted, raised, Within, AreAdded, IsKept, leads, by_room, by_way}
 use Rattle.bk_syntax.specs.Inner.WaysOn as w
 use Rattle.bk_syntax.proofs.Links.{both, first, second, left, right}
 

@@ -1,5 +1,5 @@
 -- What is told of the symbols, and what is answered behind them all.
-use Rattle.std.proofs.Common.{◌≡◌, ◌≤◌, Some, arith, ℕ, ◌+◌, ◌<◌, length, get_or, take, drop, List, [], ◌∷◌, ◌++◌, Result, Ok, Err, refl, sym, ap, subst, ◌∙◌, inl, inr, append_assoc}
+use Rattle.std.proofs.Common.{◌≡◌, ℕ, ◌+◌, ◌<◌, length, get_or, take, drop, List, [], ◌∷◌, ◌++◌, Result, Ok, Err, refl, sym, ap, subst, ◌∙◌, inl, inr, append_assoc}
 use Rattle.std.proofs.lemmas.List.{map-append, take-append-drop, at_drop_more}
 use Rattle.std.specs.Borrow.{Bor}
 use Rattle.bk_base.specs.declared.limit.TheConstants.{TREE_DEPTH, TREE_NODES}
@@ -12,20 +12,20 @@ use Rattle.bk_lex.specs.declared.token.Token.{Token}
 use Rattle.bk_lex.specs.Symbol.{Symbol, symbol_of, symbols_of}
 use Rattle.bk_syntax.specs.declared.frames.Frames.{Frames}
 use Rattle.bk_syntax.specs.declared.section.Section.{Section}
-use Rattle.bk_syntax.specs.Tree.{Declarations, no_declarations}
+use Rattle.bk_syntax.specs.Tree.{Declarations}
 use Rattle.bk_syntax.specs.Limits.{Within, depth_of_declarations, nodes_of_declarations}
 use Rattle.bk_syntax.specs.Inner.WaysOn.{Completes}
 use Rattle.bk_syntax.specs.Brackets.{plain}
 use Rattle.bk_syntax.specs.SyntaxLaws.{reading, BeginsCompletes, CompletesBegins}
 use Rattle.bk_syntax.specs.Grammar as G
 use Rattle.bk_syntax.specs.SyntaxFault.{IsSection, Begins, Shallow, Stands}
-use Rattle.bk_syntax.specs.Inner.Machine.{State, due, in_section, step, run}
+use Rattle.bk_syntax.specs.Inner.Machine.{State, run}
 use Rattle.bk_syntax.specs.Bounds.{AtMost, LevelsAtMost, Bounded, Passed}
-use Rattle.bk_syntax.specs.Parsing.{leads, AfterSymbols, IsLimit, Advances, declarations_of, AnswersAtEnd, Parses, Gives}
+use Rattle.bk_syntax.specs.Parsing.{AfterSymbols, IsLimit, Advances, declarations_of, AnswersAtEnd, Parses, Gives}
 use Rattle.bk_syntax.proofs.Stands.{one_tree, end_stands}
 use Rattle.bk_syntax.proofs.Exact.{reads_the_grammar}
 use Rattle.bk_syntax.proofs.Tags.{tag_stands}
-use Rattle.bk_syntax.proofs.Behind.{goes_some, reads, plain_all, reading_all}
+use Rattle.bk_syntax.proofs.Behind.{reads, plain_all, reading_all}
 use Rattle.bk_syntax.proofs.Lowering.{Down, at_most_down, levels_down}
 use Rattle.bk_syntax.proofs.Covering.{run_completes}
 use Rattle.bk_syntax.proofs.Complete.{complete}

@@ -1,6 +1,6 @@
 -- Room for a part of a section: of what depth and how many nodes it may be, so that the section can be completed with P; and
 -- the ways in which a part goes on in what was begun around it, by which the room in each is that below it less its own node.
-use Rattle.std.specs.Prelude.{ℕ, ◌+◌, ◌-◌, ◌≡◌, ◌==◌, ◌⊎◌, ◌&&◌, ◌||◌, max, min, nat_lt, nat_le, not, Bool, true, false, cond, Option, Some, None, List, [], ◌∷◌, length}
+use Rattle.std.specs.Prelude.{ℕ, ◌+◌, ◌≡◌, ◌==◌, ◌&&◌, ◌||◌, max, min, nat_lt, nat_le, not, Bool, true, false, cond, Option, Some, None, List, [], ◌∷◌, length}
 use Rattle.bk_base.specs.declared.limit.TheConstants.{TREE_DEPTH, TREE_NODES}
 use Rattle.bk_syntax.specs.declared.symbols.Guard.{Guard}
 use Rattle.bk_syntax.specs.declared.symbols.Guard.TheVariants as g
@@ -22,7 +22,7 @@ use Rattle.bk_syntax.specs.Rows.{inner}
 use Rattle.bk_syntax.specs.Grammar.{size, start_count}
 use Rattle.bk_syntax.specs.Limits.{depth, nodes, depth_of_declarations, nodes_of_declarations}
 use Rattle.bk_syntax.specs.Bounds.{AtMost, LevelsAtMost}
-use Rattle.bk_syntax.specs.Inner.Machine.{Stack, State, in_section, in_block, in_let, at_name, at_formals, at_formal, at_formal_end, at_head, at_variable, at_variable_end, at_starts, at_opening, at_items, at_sign, at_goto, at_for, at_forward, at_default, in_parens, in_unary, in_binary, in_chain, in_then, in_else, in_args, in_table, in_start, in_dests, in_values, in_guard, in_test, in_result, in_while, in_from, in_to, in_by, in_item, in_function, in_value, in_vector, in_valof, in_label, in_guarded, in_default, in_do, in_or, in_for, in_routine}
+use Rattle.bk_syntax.specs.Inner.Machine.{Stack, in_section, in_block, in_let, at_name, at_formals, at_formal, at_formal_end, at_head, at_variable, at_variable_end, at_starts, at_opening, at_items, at_sign, at_goto, at_for, at_forward, at_default, in_parens, in_unary, in_binary, in_chain, in_then, in_else, in_args, in_table, in_start, in_dests, in_values, in_guard, in_test, in_result, in_while, in_from, in_to, in_by, in_item, in_function, in_value, in_vector, in_valof, in_label, in_guarded, in_default, in_do, in_or, in_for, in_routine}
 use Rattle.bk_syntax.specs.Inner.Sizes.{kept, held_depth, held_nodes, owed, are_none, due_items}
 use Rattle.bk_syntax.specs.Inner.WaysOn as w
 use Rattle.bk_syntax.specs.Inner.WaysOn.{Whole, Taken, Gives, Does, Operates, Defines, Declares, Misses, AtClosing}

@@ -1,12 +1,12 @@
 -- Sizes as the parser keeps them, in 32 bits each, and those of the parts that what was begun holds.
-use Rattle.std.specs.Prelude.{ℕ, ◌+◌, ◌-◌, ◌≡◌, max, min, Option, Some, None, Bool, true, false, cond, nat_lt, length}
+use Rattle.std.specs.Prelude.{ℕ, ◌+◌, ◌-◌, ◌≡◌, max, min, Option, Some, None, Bool, true, false, cond}
 use Rattle.bk_syntax.specs.declared.frame.Size.{Size}
 use Rattle.bk_syntax.specs.declared.size.Form.{Form}
 use Rattle.bk_syntax.specs.declared.size.Form.TheVariants.{Label, Call, Callable, Other}
 use Rattle.bk_syntax.specs.Tree.{Expression, Expressions, Action, Items, Definition, Declaration, Declarations, name, number, text, truth, query, parens, apply, valof, none, more, no_items, item}
 use Rattle.bk_syntax.specs.Limits.{depth, depth_of_each, depth_of_action, depth_of_actions, depth_of_declaration, depth_of_declarations, depth_of_items, depth_of_definition, depth_of_definitions, depth_of_starts, nodes, nodes_of_each, nodes_of_action, nodes_of_actions, nodes_of_declaration, nodes_of_declarations, nodes_of_items, nodes_of_definition, nodes_of_definitions, nodes_of_starts}
-use Rattle.bk_syntax.specs.Grammar.{size, start_count, last}
-use Rattle.bk_syntax.specs.Inner.Machine.{Stack, State, in_section, in_block, in_let, at_name, at_formals, at_formal, at_formal_end, at_head, at_variable, at_variable_end, at_starts, at_opening, at_items, at_sign, at_goto, at_for, at_forward, at_default, in_parens, in_unary, in_binary, in_chain, in_then, in_else, in_args, in_table, in_start, in_dests, in_values, in_guard, in_test, in_result, in_while, in_from, in_to, in_by, in_item, in_function, in_value, in_vector, in_valof, in_label, in_guarded, in_default, in_do, in_or, in_for, in_routine, want, have, begin, maybe, did, due}
+use Rattle.bk_syntax.specs.Grammar.{last}
+use Rattle.bk_syntax.specs.Inner.Machine.{Stack, in_section, in_block, in_let, at_starts, at_items, at_sign, in_binary, in_chain, in_then, in_else, in_args, in_table, in_dests, in_values, in_while, in_to, in_by, in_item, in_value, in_vector, in_guarded, in_do, in_or, in_for}
 
 -- a number as it is kept: the greatest one stands for all above it
 abbrev pub kept : ℕ → ℕ

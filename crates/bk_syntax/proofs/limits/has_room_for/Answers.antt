@@ -1,4 +1,4 @@
-use Rattle.std.proofs.Common.{◌≡◌, ◌↔◌, Bool, true, false, ◌||◌, ℕ, ◌+◌, refl, sym, subst, ap, ◌∙◌}
+use Rattle.std.proofs.Common.{◌≡◌, ◌↔◌, Bool, true, ◌||◌, ◌+◌, refl, sym, subst, ap, ◌∙◌}
 use Rattle.bk_syntax.specs.declared.frame.Now.{Now}
 use Rattle.bk_syntax.specs.declared.room.Whom.TheVariants.{Call}
 use Rattle.bk_syntax.specs.Tree.{expression, action}

@@ -1,10 +1,10 @@
-use Rattle.std.proofs.Common.{◌≡◌, false, true, refl, sym, subst, ap, ◌∙◌, List}
+use Rattle.std.proofs.Common.{true, sym, subst, List}
 use Rattle.bk_syntax.specs.declared.room.Room.{Room}
 use Rattle.bk_syntax.specs.Tree.{declarations_in}
-use Rattle.bk_syntax.specs.Inner.Machine.{Stack, in_section}
-use Rattle.bk_syntax.specs.Inner.Rooms.{is_tight, AreRooms}
+use Rattle.bk_syntax.specs.Inner.Machine.{Stack}
+use Rattle.bk_syntax.specs.Inner.Rooms.{AreRooms}
 use Rattle.bk_syntax.specs.Inner.Frames.{stack_of}
-use Rattle.bk_syntax.proofs.Stacks.{top_rooms, is_tight_top, none_on}
+use Rattle.bk_syntax.proofs.Stacks.{top_rooms, none_on}
 use Rattle.bk_syntax.proofs.limits.is_bounded.Goals as goal
 
 pub returns-in-Some : goal.returns-in-Some

@@ -1,7 +1,7 @@
-use Rattle.std.proofs.Common.{◌≡◌, false, true, refl, sym, subst, ap, ◌∙◌, List}
+use Rattle.std.proofs.Common.{true, sym, subst, ap, List}
 use Rattle.bk_syntax.specs.declared.room.Room.{Room}
 use Rattle.bk_syntax.specs.Tree.{declarations_in}
-use Rattle.bk_syntax.specs.Inner.Machine.{Stack, in_section}
+use Rattle.bk_syntax.specs.Inner.Machine.{Stack}
 use Rattle.bk_syntax.specs.Inner.Rooms.{is_tight, AreRooms}
 use Rattle.bk_syntax.specs.Inner.Frames.{stack_of}
 use Rattle.bk_syntax.proofs.Stacks.{top_rooms, is_tight_top, none_on}

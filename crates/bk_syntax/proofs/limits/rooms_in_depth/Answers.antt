@@ -1,4 +1,4 @@
-use Rattle.std.proofs.Common.{◌≡◌, ◌+◌, false, take, refl, sym, subst, ap, ◌∙◌, List, arith}
+use Rattle.std.proofs.Common.{false, take, sym, subst, ap, ◌∙◌, List, arith}
 use Rattle.bk_syntax.specs.declared.room.Room.{Room}
 use Rattle.bk_syntax.specs.Tree.{declarations_in}
 use Rattle.bk_syntax.specs.Inner.Machine.{Stack}

@@ -1,4 +1,4 @@
-use Rattle.std.proofs.Common.{subst, List, []}
+use Rattle.std.proofs.Common.{subst, List}
 use Rattle.bk_syntax.specs.declared.room.Room.{Room}
 use Rattle.bk_syntax.specs.Inner.Begun.{begun_on}
 use Rattle.bk_syntax.specs.Inner.Rooms.{ways, by_ways, AreAdded}

@@ -1,4 +1,4 @@
-use Rattle.std.proofs.Common.{◌≡◌, Option, true, sym, ap, subst, ◌∙◌}
+use Rattle.std.proofs.Common.{Option, sym, subst, ◌∙◌}
 use Rattle.bk_syntax.specs.Tree.{expression}
 use Rattle.bk_syntax.specs.Inner.Machine.{State}
 use Rattle.bk_syntax.specs.Inner.Frames.{stack_of, Flows}

@@ -1,4 +1,4 @@
-use Rattle.std.proofs.Common.{◌≤◌, arith}
+use Rattle.std.proofs.Common.{arith}
 use Rattle.bk_syntax.proofs.Roomy.{dropped_behind, held_already, pushed}
 use Rattle.bk_syntax.proofs.rooms.add.Goals as goal
 

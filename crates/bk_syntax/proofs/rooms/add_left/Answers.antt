@@ -1,4 +1,4 @@
-use Rattle.std.proofs.Common.{◌≡◌, Bool, ◌||◌, Option, ap, refl, sym, ◌∙◌}
+use Rattle.std.proofs.Common.{Bool, ◌||◌, Option, ap, refl, sym, ◌∙◌}
 use Rattle.bk_syntax.specs.declared.room.Room.{Room}
 use Rattle.bk_syntax.specs.Inner.Rooms.{covered, holds_if}
 use Rattle.bk_syntax.proofs.Roomy.{pushed}

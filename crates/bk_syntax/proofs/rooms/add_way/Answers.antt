@@ -1,5 +1,5 @@
-use Rattle.std.proofs.Common.{◌≡◌, ◌≤◌, ◌<◌, ℕ, ◌+◌, Bool, true, false, refl, sym, ap, ◌∙◌, arith}
-use Rattle.bk_syntax.proofs.Roomy.{within_by, covered_at, dropped, pushed, added_none, by_way_more, by_way_all}
+use Rattle.std.proofs.Common.{arith}
+use Rattle.bk_syntax.proofs.Roomy.{by_way_more, by_way_all}
 use Rattle.bk_syntax.proofs.rooms.add_way.Goals as goal
 
 pub loop-room-preserved : goal.loop-room-preserved

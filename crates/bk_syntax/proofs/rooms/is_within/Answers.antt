@@ -1,5 +1,5 @@
-use Rattle.std.proofs.Common.{◌≡◌, ◌≤◌, ◌<◌, ℕ, ◌+◌, Bool, true, false, refl, sym, ap, ◌∙◌, arith}
-use Rattle.bk_syntax.proofs.Roomy.{within_by, by_way_more}
+use Rattle.std.proofs.Common.{arith}
+use Rattle.bk_syntax.proofs.Roomy.{within_by}
 use Rattle.bk_syntax.proofs.rooms.is_within.Goals as goal
 
 pub returns : goal.returns

@@ -1,5 +1,5 @@
-use Rattle.std.proofs.Common.{◌≡◌, ◌≤◌, ◌<◌, ℕ, ◌+◌, Bool, true, false, refl, sym, ap, ◌∙◌, arith}
-use Rattle.bk_syntax.proofs.Roomy.{within_by, covered_at, dropped, pushed, added_none, unserved, above_floor, above_rise, above_nodes, leaves, by_way_more}
+use Rattle.std.proofs.Common.{arith}
+use Rattle.bk_syntax.proofs.Roomy.{above_floor, above_rise, above_nodes, leaves}
 use Rattle.bk_syntax.proofs.rooms.left_by.Goals as goal
 
 pub returns-then-floor-room : goal.returns-then-floor-room

@@ -1,5 +1,5 @@
-use Rattle.std.proofs.Common.{◌≡◌, ◌≤◌, ◌<◌, ℕ, ◌+◌, Bool, true, false, sym, ap, ◌∙◌, arith}
-use Rattle.bk_syntax.proofs.Roomy.{within_by, covered_at, dropped, pushed, added_none, unserved, above_floor, above_rise, above_nodes, leaves, by_way_more}
+use Rattle.std.proofs.Common.{◌≡◌}
+use Rattle.bk_syntax.proofs.Roomy.{unserved}
 use Rattle.bk_syntax.proofs.rooms.left_of.Goals as goal
 
 pub returns-then-not-serves : goal.returns-then-not-serves
