@@ -1,5 +1,5 @@
 //! Reading a source, a section at a time.
-ghost use Rattle.std.specs.Prelude.{ℕ, List, ◌≡◌, ◌<◌, ◌≤◌, ◌⊎◌, IfOk, IfErr, if◌then◌else◌};
+ghost use Rattle.std.specs.Prelude.{ℕ, List, ◌≡◌, ◌<◌, ◌≤◌, ◌⊎◌, ◌++◌, ◌∷◌, [], OnOk, IfOk, IfErr, if◌then◌else◌};
 ghost use Rattle.bk_base.specs.declared.limit.TheConstants.{INPUT_BYTES};
 ghost use Rattle.bk_lex.specs.declared.cutter.Cut.TheVariants.{More};
 ghost use Rattle.bk_kit.specs.Interpreting.{is_read};
@@ -9,7 +9,21 @@ use crate::kit_fault::KitFault;
 use bk_base::ByteIn;
 use bk_base::limit::{INPUT_BYTES, SECTION_BYTES};
 use bk_lex::{Cut, Cutter};
-use std::alloc::Global;
+use std::alloc::{AllocError, Global};
+
+/// How many bytes a text has room for at first.
+const FIRST_BYTES: usize = 256;
+
+/// One byte more.
+fn push_byte(text: &mut Vec<u8>, byte: u8) -> Result<(), AllocError>
+    ensures { OnOk result (text.new.items ≡ text.old.items ++ byte ∷ []) }
+{
+    if text.is_empty() {
+        text.reserve(FIRST_BYTES)?;
+    }
+    text.push(byte)?;
+    Ok(())
+}
 
 /// Reads the next section of a source, its `.` included, up to where a fault of it is certain, or to the end. `taken` counts
 /// the bytes that were read of the source, of which one call reads `limit::INPUT_BYTES` at most.
@@ -37,7 +51,7 @@ pub fn read_section<C: ByteIn>(
             Err(_) => return Err(KitFault::Read),
         };
         *taken += 1;
-        let Ok(()) = text.push(byte) else {
+        let Ok(()) = push_byte(&mut text, byte) else {
             return Err(KitFault::Memory);
         };
         if cutter.step(byte) == Cut::End {

@@ -133,6 +133,9 @@ pub fn lex<'a>(alloc: Global, text: &'a [u8], from: Line) -> Result<Lexed<'a>, R
     read_section(alloc, text, from)
 }
 
+/// How many tokens a list has room for at first.
+const FIRST_TOKENS: usize = 32;
+
 /// The tokens of the first section, or its fault, by the machine.
 fn read_section<'a>(
     alloc: Global,
@@ -141,7 +144,7 @@ fn read_section<'a>(
 ) -> Result<Lexed<'a>, Refused<SourceFault>>
     ensures { Gives result (lexed text.now from) }
 {
-    let mut tokens = Vec::new(alloc);
+    let mut tokens = Vec::with_capacity(alloc, FIRST_TOKENS)?;
     let mut state = start();
     let mut start = 0;
     let mut place = Place {

@@ -1,14 +1,12 @@
 -- What the program holds as claimed is what the definitions hold as claimed.
-use Rattle.std.proofs.Common.{◌≡◌, ℕ, Ordering, Less, Equal, Greater, Bool, true, false, cond, ◌||◌, ◌==◌, bytes_eq, List, [], ◌∷◌, ◌++◌, map, reverse, refl, sym, ap, ◌∙◌}
+use Rattle.std.proofs.Common.{◌≡◌, ℕ, Bool, true, false, cond, ◌||◌, ◌==◌, bytes_eq, List, [], ◌∷◌, ◌++◌, map, reverse, refl, sym, ap, ◌∙◌}
 use Rattle.std.proofs.lemmas.Cmp.{eq_by_cmp_equiv, nat_cmp_total, nat_list_eq_equiv}
 use Rattle.std.proofs.lemmas.List.{map-append, reverse-append}
-use Rattle.std.proofs.lemmas.Map.Text.{is_eq-slice_cmp}
 use Rattle.std.specs.BTreeMap.{is_at}
 use Rattle.std.specs.BTreeSet.{contains, Updates}
 use Rattle.std.specs.Cmp.{unsigned_tied}
-use Rattle.std.specs.Cmp.Lexicographic.{slice_cmp}
 use Rattle.std.specs.List.{list_any}
-use Rattle.std.specs.Ordering.{is_eq, nat_cmp, ordering_then}
+use Rattle.std.specs.Ordering.{is_eq, nat_cmp}
 use Rattle.bk_scope.specs.Claims.{claim_of, claims_in, HasClaims}
 use Rattle.bk_scope.specs.Found as found
 use Rattle.bk_scope.specs.Found.{is_claimed, same_claim}
@@ -16,15 +14,12 @@ use Rattle.bk_scope.specs.declared.claims.Claim.{Claim}
 use Rattle.bk_scope.specs.declared.claims.Claim.TheVariants.{Naming, Choosing, Defaulting, Setting}
 use Rattle.bk_scope.specs.declared.claims.Claims.TheInside.{Inside}
 use Rattle.bk_scope.specs.contracts.claims.ClaimOrd.TheImpl.{cmp-value}
-
-both_tied : (a b : Ordering) (p q : Bool) → is_eq a ≡ p → is_eq b ≡ q → is_eq (ordering_then a b) ≡ cond p q false
-both_tied Less b p q e f = ap (λ r. cond r q false) e
-both_tied Equal b p q e f = f ∙ ap (λ r. cond r q false) e
-both_tied Greater b p q e f = ap (λ r. cond r q false) e
+use Rattle.bk_scope.specs.contracts.name_key.NameKeyOrd.TheImpl.{cmp-value as keys}
+use Rattle.bk_scope.proofs.Keys.{both_tied, same_letters}
 
 -- the order tells claims apart where the definitions do
 equal-is-same : (c d : Claim) → is_eq (cmp-value.it c d) ≡ same_claim (claim_of c) (claim_of d)
-equal-is-same (Naming n x) (Naming m y) = both_tied (nat_cmp n m) (slice_cmp nat_cmp x.now y.now) (n == m) (bytes_eq x.now y.now) (unsigned_tied n m) (is_eq-slice_cmp x.now y.now)
+equal-is-same (Naming n x) (Naming m y) = both_tied (nat_cmp n m) (keys.it x y) (n == m) (bytes_eq x.letters.now y.letters.now) (unsigned_tied n m) (same_letters x y)
 equal-is-same (Naming n x) (Choosing m v) = refl
 equal-is-same (Naming n x) (Defaulting m) = refl
 equal-is-same (Naming n x) (Setting h) = refl

@@ -5,6 +5,7 @@ pub mod Firsts
 pub mod Rows
 pub mod RowsOfTests
 pub mod RowsOfFaults
+pub mod Keys
 pub mod Claimed
 pub mod TableSteps
 pub mod Calls

@@ -4,16 +4,17 @@ use Rattle.std.specs.Prelude.{reverse}
 use Rattle.std.specs.Option.{option_flatten}
 use Rattle.std.specs.Str.{bytes_eq}
 use Rattle.std.specs.BTreeMap.{get_by, UpdatesBy}
-use Rattle.std.specs.Cmp.Lexicographic.{slice_cmp}
-use Rattle.std.specs.Ordering.{nat_cmp}
+use Rattle.std.specs.Map.{lookup}
 use Rattle.std.proofs.lemmas.Bool.{cases_Bool, cond-true, cond-false}
 use Rattle.std.proofs.lemmas.List.{reverse-append, length-map, length-reverse, length-drop, drop-drop, reverse-reverse, get_or_at, get_or_append_left}
-use Rattle.std.proofs.lemmas.Map.Text.{btree_map_updates_str}
 use Rattle.std.proofs.lemmas.Slice.Eq.{bytes_eq-Decides}
 use Rattle.bk_scope.specs.Scope.{Binding, bound_in}
+use Rattle.bk_scope.specs.declared.name_key.NameKey.{NameKey}
 use Rattle.bk_scope.specs.declared.table.Entry.{Entry}
 use Rattle.bk_scope.specs.declared.table.Table.TheInside.{Inside}
 use Rattle.bk_scope.specs.TableView.{binding_of, scope_of, place_in, HaveHidden, mapped_place, IsTable}
+use Rattle.bk_scope.specs.contracts.name_key.NameKeyOrd.TheImpl.{cmp-value}
+use Rattle.bk_scope.proofs.Keys.{found_by_letters, updates_letters}
 
 scope_of-push : (es : List Entry) (e : Entry) → scope_of (es ++ e ∷ []) ≡ binding_of e ∷ scope_of es
 scope_of-push es e = ap (map binding_of) (reverse-append es (e ∷ []))
@@ -22,28 +23,32 @@ pub length-scope_of : (es : List Entry) → length (scope_of es) ≡ length es
 length-scope_of es = length-map (reverse es) binding_of ∙ length-reverse es
 
 -- the map's place for one name is changed
-abbrev pub Puts : Inside → List ℕ → Option ℕ → Inside → Type 0
-Puts t x o u = UpdatesBy (λ a b. slice_cmp nat_cmp a.now b.now) (λ k. slice_cmp nat_cmp x k.now) t.innermost u.innermost (Some o)
+abbrev pub Puts : Inside → NameKey → Option ℕ → Inside → Type 0
+Puts t k o u = UpdatesBy cmp-value.it (cmp-value.it k) t.innermost u.innermost (Some o)
 
 flatten-cond : (b : Bool) (o : Option ℕ) (p : Option (Option ℕ)) → option_flatten (cond b (Some o) p) ≡ cond b o (option_flatten p)
 flatten-cond true o p = refl
 flatten-cond false o p = refl
 
-mapped_place-put : (t u : Inside) (x : List ℕ) (o : Option ℕ) → Puts t x o u → (y : List ℕ) → mapped_place u y ≡ cond (bytes_eq x y) o (mapped_place t y)
-mapped_place-put t u x o puts y =
-    ap option_flatten (btree_map_updates_str x t.innermost u.innermost (Some o) puts y)
-    ∙ flatten-cond (bytes_eq x y) o (get_by (λ k. slice_cmp nat_cmp y k.now) t.innermost)
+mapped_place-put : (t u : Inside) (k : NameKey) (o : Option ℕ) → Puts t k o u → (y : List ℕ) → mapped_place u y ≡ cond (bytes_eq k.letters.now y) o (mapped_place t y)
+mapped_place-put t u k o puts y =
+    ap option_flatten (updates_letters k t.innermost u.innermost (Some o) puts y)
+    ∙ flatten-cond (bytes_eq k.letters.now y) o (lookup (λ (l : NameKey). bytes_eq y l.letters.now) t.innermost.entries)
+
+-- a key is looked up as its letters are
+pub found_place : (t : Inside) (k : NameKey) → option_flatten (get_by (cmp-value.it k) t.innermost) ≡ mapped_place t k.letters.now
+found_place t k = ap option_flatten (found_by_letters k t.innermost.entries)
 
 -- one binding more
 pub IsTable-push : (t u : Inside) (e : Entry) (i : ℕ) → IsTable t → u.bindings.items ≡ t.bindings.items ++ e ∷ [] → i ≡ length t.bindings.items
-    → e.hidden ≡ place_in (scope_of t.bindings.items) e.name.now → Puts t e.name.now (Some i) u → IsTable u
+    → e.hidden ≡ place_in (scope_of t.bindings.items) e.name.letters.now → Puts t e.name (Some i) u → IsTable u
 IsTable-push t u e i before items last hidden puts =
     let es = t.bindings.items in
     let P : List Entry → Type 0 = HaveHidden in
     record {
-      places = λ x. mapped_place-put t u e.name.now (Some i) puts x
-          ∙ ap (λ o. cond (bytes_eq e.name.now x) (Some i) o) (before.places x)
-          ∙ ap (λ k. cond (bytes_eq e.name.now x) (Some k) (place_in (scope_of es) x)) (last ∙ sym (length-scope_of es))
+      places = λ x. mapped_place-put t u e.name (Some i) puts x
+          ∙ ap (λ o. cond (bytes_eq e.name.letters.now x) (Some i) o) (before.places x)
+          ∙ ap (λ k. cond (bytes_eq e.name.letters.now x) (Some k) (place_in (scope_of es) x)) (last ∙ sym (length-scope_of es))
           ∙ sym (ap (λ bs. place_in bs x) (ap scope_of items ∙ scope_of-push es e));
       hidden = subst P (sym (ap reverse items ∙ reverse-append es (e ∷ []))) (hidden, before.hidden);
     }
@@ -56,14 +61,14 @@ place_in-uncovered bs x y k o h before hidden =
     (cases_Bool (bytes_eq x y))
 
 -- one binding less
-pub IsTable-pop : (t u : Inside) (e : Entry) → IsTable t → t.bindings.items ≡ u.bindings.items ++ e ∷ [] → Puts t e.name.now e.hidden u → IsTable u
+pub IsTable-pop : (t u : Inside) (e : Entry) → IsTable t → t.bindings.items ≡ u.bindings.items ++ e ∷ [] → Puts t e.name e.hidden u → IsTable u
 IsTable-pop t u e before items puts =
     let es = u.bindings.items in
     let P : List Entry → Type 0 = HaveHidden in
     let rest : HaveHidden (e ∷ reverse es) = subst P (ap reverse items ∙ reverse-append es (e ∷ [])) before.hidden in
     record {
-      places = λ x. mapped_place-put t u e.name.now e.hidden puts x
-          ∙ place_in-uncovered (scope_of es) e.name.now x (length (scope_of es)) (mapped_place t x) e.hidden
+      places = λ x. mapped_place-put t u e.name e.hidden puts x
+          ∙ place_in-uncovered (scope_of es) e.name.letters.now x (length (scope_of es)) (mapped_place t x) e.hidden
           (before.places x ∙ ap (λ bs. place_in bs x) (ap scope_of items ∙ scope_of-push es e)) rest.0;
       hidden = rest.1;
     }
@@ -73,11 +78,11 @@ IsSome-flatten None i h = let f : ◌≡◌ {A = Option ℕ} None (Some i) = h i
 IsSome-flatten (Some p) i h = search rules
 
 -- the map has the name of the innermost binding
-pub IsSome-innermost : (t : Inside) (es : List Entry) (e : Entry) → IsTable t → t.bindings.items ≡ es ++ e ∷ [] → IsSome (get_by (λ k. slice_cmp nat_cmp e.name.now k.now) t.innermost)
+pub IsSome-innermost : (t : Inside) (es : List Entry) (e : Entry) → IsTable t → t.bindings.items ≡ es ++ e ∷ [] → IsSome (get_by (cmp-value.it e.name) t.innermost)
 IsSome-innermost t es e before items =
-    IsSome-flatten (get_by (λ k. slice_cmp nat_cmp e.name.now k.now) t.innermost) (length (scope_of es))
-    (before.places e.name.now ∙ ap (λ bs. place_in bs e.name.now) (ap scope_of items ∙ scope_of-push es e)
-    ∙ cond-true _ (Some (length (scope_of es))) (place_in (scope_of es) e.name.now) ((bytes_eq-Decides e.name.now e.name.now).1 refl))
+    IsSome-flatten (get_by (cmp-value.it e.name) t.innermost) (length (scope_of es))
+    (found_place t e.name ∙ before.places e.name.letters.now ∙ ap (λ bs. place_in bs e.name.letters.now) (ap scope_of items ∙ scope_of-push es e)
+    ∙ cond-true _ (Some (length (scope_of es))) (place_in (scope_of es) e.name.letters.now) ((bytes_eq-Decides e.name.letters.now e.name.letters.now).1 refl))
 
 -- what is left of a list, with one less, is what is left of the list
 pub drop-one_less : (s t u : List Binding) → t ≡ drop (length s - length t) s → u ≡ drop 1 t → 0 < length t → u ≡ drop (length s - length u) s
@@ -122,7 +127,12 @@ bound_at_reversed (e ∷ es) x i d h =
     cond-false _ (Some e.bound) (bound_in bs x) f
     ∙ bound_at_reversed es x i d rest
     ∙ ap (λ (r : Entry). Some r.bound) (sym (ap (λ l. get_or l i d) (reverse-append (e ∷ []) es) ∙ get_or_append_left (reverse es) (e ∷ []) d i below)))
-    (cases_Bool (bytes_eq e.name.now x))
+    (cases_Bool (bytes_eq e.name.letters.now x))
 
 pub bound_at_place : (es : List Entry) (x : List ℕ) (i : ℕ) (d : Entry) → place_in (scope_of es) x ≡ Some i → bound_in (scope_of es) x ≡ Some (get_or es i d).bound
 bound_at_place es x i d h = bound_at_reversed (reverse es) x i d h ∙ ap (λ l. Some (get_or l i d).bound) (reverse-reverse es)
+
+-- what the map has at a key is the place of the name's innermost binding
+pub place_by_key : (t : Inside) (k : NameKey) (x : List ℕ) (bs : List Binding) → IsTable t → scope_of t.bindings.items ≡ bs → k.letters.now ≡ x
+    → option_flatten (get_by (cmp-value.it k) t.innermost) ≡ place_in bs x
+place_by_key t k x bs is view same = found_place t k ∙ is.places k.letters.now ∙ ap (place_in (scope_of t.bindings.items)) same ∙ ap (λ cs. place_in cs x) view

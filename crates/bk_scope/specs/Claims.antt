@@ -8,7 +8,7 @@ use Rattle.bk_scope.specs.declared.claims.Claim.TheVariants.{Naming, Choosing, D
 use Rattle.bk_scope.specs.declared.claims.Claims.TheInside.{Inside}
 
 abbrev pub claim_of : Claim → found.Claim
-claim_of (Naming list name) = found.naming list name.now
+claim_of (Naming list name) = found.naming list name.letters.now
 claim_of (Choosing switch word) = found.choosing switch word
 claim_of (Defaulting switch) = found.defaulting switch
 claim_of (Setting global) = found.setting global

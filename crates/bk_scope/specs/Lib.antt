@@ -16,6 +16,7 @@ pub mod Given
 pub mod Few
 pub mod Known
 pub mod Resolution
+pub mod NameKey
 pub mod TableView
 pub mod FreshView
 pub mod FirstFault

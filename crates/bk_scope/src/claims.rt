@@ -3,6 +3,7 @@ ghost use Rattle.std.specs.Prelude.{◌≡◌, not, cond, false, [], ◌∷◌, 
 ghost use Rattle.bk_scope.specs.Found.{is_claimed};
 ghost use Rattle.bk_scope.specs.Claims.{claim_of};
 
+use crate::name_key::NameKey;
 use std::alloc::{AllocError, Global};
 use std::collections::BTreeSet;
 use std::marker::Model;
@@ -11,7 +12,7 @@ use std::marker::Model;
 #[derive(Clone, Copy, PartialEq, Eq, PartialOrd, Ord)]
 pub enum Claim<'a> {
     /// A name, in the list of names of this number.
-    Naming(u32, &'a [u8]),
+    Naming(u32, NameKey<'a>),
     /// A word, by the CASEs of the SWITCHON of this number.
     Choosing(u32, u32),
     /// The DEFAULT of the SWITCHON of this number.

@@ -17,10 +17,10 @@ use std::alloc::{AllocError, Global};
 
 /// The word of an expression where a constant is asked for, with these declarations in scope, in the procedure of this number.
 /// What is wrong with it is told; a name whose own constant is wrong has no word, and is not wrong itself.
-pub fn constant_of(
+pub fn constant_of<'a>(
     alloc: Global,
-    expr: &Expr,
-    table: &Table,
+    expr: &'a Expr,
+    table: &Table<'a>,
     procedure: u32,
     first: &mut FirstFault,
 ) -> Result<Option<u32>, AllocError>

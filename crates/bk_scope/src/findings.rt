@@ -12,6 +12,7 @@ use crate::bound::Bound;
 use crate::claims::{Claim, Claims};
 use crate::constant::constant_of;
 use crate::first_fault::{FirstFault, Misnaming};
+use crate::name_key::NameKey;
 use crate::place::kept_depth;
 use crate::table::Table;
 use bk_base::limit::FRAME_WORDS;
@@ -108,7 +109,7 @@ impl<'a> Findings<'a> {
     pub fn lists(&mut self, list: u32, line: Line, name: &'a [u8]) -> Result<(), AllocError>
         ensures { OnOk result (self.new ≡ listed list line name.now self.old) }
     {
-        if !self.claims.claim(Claim::Naming(list, name))? {
+        if !self.claims.claim(Claim::Naming(list, NameKey::new(name)))? {
             self.misnames(line, Misnaming::DeclaredTwice, name)?;
         }
         Ok(())
@@ -227,7 +228,7 @@ impl<'a> Findings<'a> {
         &mut self,
         table: &Table<'a>,
         procedure: u32,
-        expr: &Expr,
+        expr: &'a Expr,
     ) -> Result<Option<u32>, AllocError>
         ensures word { IfOk result (λ word. word ≡ constant_word table.now (expression expr.now)) }
         ensures found { OnOk result (self.new ≡ constant_found table.now procedure (expression expr.now) self.old) }

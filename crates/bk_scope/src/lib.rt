@@ -11,6 +11,7 @@ mod fresh;
 mod heads;
 mod items;
 mod laws;
+mod name_key;
 mod naming;
 mod nodes;
 mod operands;

@@ -90,7 +90,7 @@ fn has_address(bound: Option<Bound>) -> bool
 }
 
 /// Whether the first symbol of an expression is a name with which something is wrong.
-fn begins_wrong(table: &Table, procedure: u32, expr: &Expr) -> bool
+fn begins_wrong<'a>(table: &Table<'a>, procedure: u32, expr: &'a Expr) -> bool
     ensures { result ≡ BeginsWrong table.now procedure (expression expr.now) }
 {
     match expr {
@@ -103,13 +103,13 @@ fn begins_wrong(table: &Table, procedure: u32, expr: &Expr) -> bool
 }
 
 /// An expression has no address where one is asked for; its first symbol is on this line, and may be a parenthesis.
-fn unassignable(
-    table: &Table,
+fn unassignable<'a>(
+    table: &Table<'a>,
     findings: &mut Findings,
     procedure: u32,
     parenthesis: bool,
     line: Line,
-    expr: &Expr,
+    expr: &'a Expr,
 )
     ensures { findings.new ≡ Unassignable table.now procedure parenthesis line (expression expr.now) findings.old }
 {
@@ -119,12 +119,12 @@ fn unassignable(
 }
 
 /// An expression that has no word of its own is wrong where one is asked for.
-pub fn without_word(
-    table: &Table,
+pub fn without_word<'a>(
+    table: &Table<'a>,
     findings: &mut Findings,
     role: &Role,
     procedure: u32,
-    expr: &Expr,
+    expr: &'a Expr,
 )
     ensures { findings.new ≡ WithoutWord role.now table.now procedure (expression expr.now) findings.old }
 {
@@ -137,12 +137,12 @@ pub fn without_word(
 }
 
 /// A byte is wrong where an address is asked for.
-pub fn without_address(
-    table: &Table,
+pub fn without_address<'a>(
+    table: &Table<'a>,
     findings: &mut Findings,
     role: &Role,
     procedure: u32,
-    expr: &Expr,
+    expr: &'a Expr,
 )
     ensures { findings.new ≡ WithoutAddress role.now table.now procedure (expression expr.now) findings.old }
 {
@@ -152,14 +152,14 @@ pub fn without_address(
 }
 
 /// A name at its place.
-pub fn name_at(
-    table: &Table,
+pub fn name_at<'a>(
+    table: &Table<'a>,
     findings: &mut Findings,
     role: &Role,
     place: Place,
     line: Line,
-    letters: &[u8],
-    expr: &Expr,
+    letters: &'a [u8],
+    expr: &'a Expr,
 ) -> Result<(), AllocError>
     requires { expression expr.now ≡ name line letters.now }
     ensures { OnOk result (findings.new ≡ Named role.now table.now place line letters.now (bound_in table.now letters.now) findings.old) }

@@ -43,13 +43,13 @@ pub fn place_of_second(operator: Operator, role: &Role, place: Place) -> Place
 }
 
 /// What a prefix gives may have no word where one is asked for.
-pub fn fit_prefix(
-    table: &Table,
+pub fn fit_prefix<'a>(
+    table: &Table<'a>,
     findings: &mut Findings,
     prefix: Prefix,
     role: &Role,
     procedure: u32,
-    expr: &Expr,
+    expr: &'a Expr,
 )
     ensures { findings.new ≡ FitPrefix prefix role.now table.now procedure (expression expr.now) findings.old }
 {
@@ -59,13 +59,13 @@ pub fn fit_prefix(
 }
 
 /// What an operator gives may have no word where one is asked for.
-pub fn fit_infix(
-    table: &Table,
+pub fn fit_infix<'a>(
+    table: &Table<'a>,
     findings: &mut Findings,
     operator: Operator,
     role: &Role,
     procedure: u32,
-    expr: &Expr,
+    expr: &'a Expr,
 )
     ensures { findings.new ≡ FitInfix operator role.now table.now procedure (expression expr.now) findings.old }
 {

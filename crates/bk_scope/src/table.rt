@@ -4,6 +4,7 @@ ghost use Rattle.bk_scope.specs.Scope.{bind, bound_in};
 ghost use Rattle.bk_scope.specs.TableView.{place_in};
 
 use crate::bound::Bound;
+use crate::name_key::NameKey;
 use std::alloc::{AllocError, Global};
 use std::collections::BTreeMap;
 use std::marker::Model;
@@ -12,7 +13,7 @@ use std::marker::Model;
 #[derive(Drop)]
 pub struct Table<'a> {
     /// Of each name that was bound, the place in `bindings` of the innermost binding that is in scope, if any.
-    innermost: BTreeMap<&'a [u8], Option<usize>>,
+    innermost: BTreeMap<NameKey<'a>, Option<usize>>,
     /// The bindings in scope, the outermost first.
     bindings: Vec<Entry<'a>>,
 }
@@ -20,7 +21,7 @@ pub struct Table<'a> {
 /// A binding.
 #[derive(Clone, Copy)]
 struct Entry<'a> {
-    name: &'a [u8],
+    name: NameKey<'a>,
     bound: Bound,
     /// The place of the binding that this one hides.
     hidden: Option<usize>,
@@ -57,6 +58,7 @@ impl<'a> Table<'a> {
     {
         self.bindings.reserve(1)?;
         let place = self.bindings.len();
+        let name = NameKey::new(name);
         let hidden = self.innermost.insert(name, Some(place))?.flatten();
         self.bindings.push(Entry {
             name,
@@ -84,7 +86,7 @@ impl<'a> Table<'a> {
     }
 
     /// What a name means.
-    pub fn find(&self, name: &[u8]) -> Option<Bound>
+    pub fn find(&self, name: &'a [u8]) -> Option<Bound>
         ensures { result ≡ bound_in self.now name.now }
     {
         let place = self.place(name)?;
@@ -92,10 +94,10 @@ impl<'a> Table<'a> {
     }
 
     /// The place of a name's innermost binding.
-    fn place(&self, name: &[u8]) -> Option<usize>
+    fn place(&self, name: &'a [u8]) -> Option<usize>
         ensures { result ≡ place_in self.now name.now }
     {
-        self.innermost.get(name).copied().flatten()
+        self.innermost.get(&NameKey::new(name)).copied().flatten()
     }
 
     /// Takes the innermost binding out. What it hid is in scope again.
@@ -104,6 +106,6 @@ impl<'a> Table<'a> {
         ensures { self.new ≡ drop 1 self.old }
     {
         let entry = self.bindings.pop().unwrap();
-        *self.innermost.get_mut(entry.name).unwrap() = entry.hidden;
+        *self.innermost.get_mut(&entry.name).unwrap() = entry.hidden;
     }
 }

@@ -5,7 +5,7 @@ ghost use Rattle.bk_syntax.specs.Grammar.{last};
 ghost use Rattle.bk_syntax.specs.Inner.Sizes.{size_of, size_if, size_of_action, size_of_definition};
 ghost use Rattle.bk_syntax.specs.Inner.Begun.{held_in};
 
-use crate::room::Room;
+use crate::room::Rooms;
 use crate::symbols::Guard;
 use crate::tree::{Command, Decl, Def, Expr, Init, Item, Name, Operator, Prefix, Sort};
 use bk_base::Line;
@@ -134,7 +134,7 @@ pub enum Begun {
 pub struct Frame {
     pub begun: Begun,
     pub held: Size,
-    pub rooms: Vec<Room>,
+    pub rooms: Rooms,
     ghost holds: { held ≡ held_in begun },
 }
 

@@ -11,15 +11,12 @@ ghost use Rattle.bk_syntax.specs.Inner.Frames.{stack_of, state};
 
 use crate::frame::{Begun, Now, Size};
 use crate::frames::Frames;
-use crate::room::{Next, Room, Whom};
+use crate::room::{Next, Room, Rooms, Whom};
 use crate::rooms::{add_ways, counted, has_room};
 use crate::size::{Form, LEAF, NOTHING, form_of, of_node};
 use crate::ways::{is_tight, ways};
 use bk_base::limit::{TREE_DEPTH, TREE_NODES};
 use std::alloc::{AllocError, Global};
-
-/// How many rooms most frames have at most.
-const USUAL_ROOMS: usize = 6;
 
 /// The rooms of what was begun, with these parts, by those below it; there an operator behind a VALOF may go on more than
 /// the operand that the VALOF is. Nodes are counted, or not.
@@ -30,21 +27,21 @@ fn rooms_on(
     tight_below: bool,
     below: &[Room],
     counts: bool,
-) -> Result<Vec<Room>, AllocError>
+) -> Result<Rooms, AllocError>
     requires { held ≡ held_in begun.now }
     ensures { IfOk result (λ rooms. (st : Stack) → tight_below ≡ is_tight st → AreRooms counts st below.now → AreRooms counts (begun_on begun.now st) rooms.items) }
 {
-    let mut rooms = Vec::with_capacity(alloc, USUAL_ROOMS)?;
+    let mut rooms = Rooms::new(alloc);
     let ways = ways(begun, held, tight_below);
     add_ways(&mut rooms, &ways, below, counts)?;
     Ok(rooms)
 }
 
 /// The rooms of a section with declarations of this size.
-fn rooms_of_section(alloc: Global, held: Size, counts: bool) -> Result<Vec<Room>, AllocError>
+fn rooms_of_section(alloc: Global, held: Size, counts: bool) -> Result<Rooms, AllocError>
     ensures { IfOk result (λ rooms. (ds : Declarations) → held ≡ size_of_declarations ds → AreRooms counts (in_section ds) rooms.items) }
 {
-    let mut rooms = Vec::new(alloc);
+    let mut rooms = Rooms::new(alloc);
     let nodes = counted(counts, held.nodes);
     if held.depth > TREE_DEPTH {
         return Ok(rooms);
@@ -119,7 +116,7 @@ fn has_room_for(rooms: &[Room], counts: bool, now: &Now) -> bool
 }
 
 /// The rooms of what was begun, with these parts, above these frames.
-pub fn rooms_above(frames: &Frames, begun: &Begun, held: Size) -> Result<Vec<Room>, AllocError>
+pub fn rooms_above(frames: &Frames, begun: &Begun, held: Size) -> Result<Rooms, AllocError>
     requires { held ≡ held_in begun.now }
     ensures { IfOk result (λ rooms. AreRooms true (begun_on begun.now (stack_of frames.now)) rooms.items) }
 {
@@ -152,7 +149,7 @@ pub fn is_bounded(frames: &Frames, now: &Now) -> Result<bool, AllocError>
 }
 
 /// The rooms of these frames where nodes are not counted.
-fn rooms_in_depth(frames: &Frames) -> Result<Vec<Room>, AllocError>
+fn rooms_in_depth(frames: &Frames) -> Result<Rooms, AllocError>
     ensures { IfOk result (λ rooms. AreRooms false (stack_of frames.now) rooms.items) }
 {
     let mut rooms = rooms_of_section(frames.alloc, frames.held, false)?;

@@ -2,6 +2,8 @@
 ghost use Rattle.std.specs.Prelude.{◌≤◌};
 ghost use Rattle.bk_base.specs.declared.limit.TheConstants.{TREE_DEPTH, TREE_NODES};
 
+use smallvec::SmallVec;
+
 /// What a part of a section is.
 #[derive(Clone, Copy)]
 pub enum Whom {
@@ -50,3 +52,26 @@ pub struct Room {
     pub nodes: u32,
     ghost small: { (depth ≤ TREE_DEPTH) × (nodes ≤ TREE_NODES) },
 }
+
+impl Default for Room {
+    ghost use Rattle.std.specs.Prelude.{◌≡◌};
+
+    /// Room for nothing.
+    fn default() -> Room
+        ensures depth { result.depth ≡ 0 }
+        ensures nodes { result.nodes ≡ 0 }
+    {
+        Room {
+            whom: Whom::Expression,
+            next: Next::Closing,
+            depth: 0,
+            nodes: 0,
+        }
+    }
+}
+
+/// How many rooms most of what is begun has at most. They are kept without an allocation of their own.
+const USUAL_ROOMS: usize = 6;
+
+/// The rooms of what was begun.
+pub type Rooms = SmallVec<Room, USUAL_ROOMS>;

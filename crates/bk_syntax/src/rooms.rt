@@ -8,7 +8,7 @@ ghost use Rattle.bk_syntax.specs.declared.room.Whom.{Whom};
 ghost use Rattle.bk_syntax.specs.Inner.WaysOn as w;
 
 use crate::frame::Size;
-use crate::room::{Next, Room, Whom};
+use crate::room::{Next, Room, Rooms, Whom};
 use crate::size::plus;
 use crate::way::{Link, Met, Way, Ways, reached};
 use std::alloc::AllocError;
@@ -100,15 +100,16 @@ fn is_within(inner: &Room, outer: &Room) -> bool
 }
 
 /// Adds a room, of which only those are kept that lie within no other.
-fn add(rooms: &mut Vec<Room>, room: Room) -> Result<(), AllocError>
+fn add(rooms: &mut Rooms, room: Room) -> Result<(), AllocError>
     ensures { IfOk result (λ _. IsAdded room rooms.old.items rooms.new.items) }
 {
     let mut i = 0;
     while i < rooms.len() {
-        if is_within(&room, &rooms[i]) {
+        let other = rooms.as_slice()[i];
+        if is_within(&room, &other) {
             return Ok(());
         }
-        if is_within(&rooms[i], &room) {
+        if is_within(&other, &room) {
             rooms.remove(i);
         } else {
             i += 1;
@@ -174,7 +175,7 @@ fn keeps_symbol(link: Link) -> bool
 }
 
 /// Adds the room that a way leaves of one.
-fn add_left(rooms: &mut Vec<Room>, way: &Way, room: &Room, counts: bool) -> Result<(), AllocError>
+fn add_left(rooms: &mut Rooms, way: &Way, room: &Room, counts: bool) -> Result<(), AllocError>
     ensures { IfOk result (λ _. (e : Way) → IsKept way.now e → AreAdded (by_room counts e room.now) rooms.old.items rooms.new.items) }
 {
     match left_of(way, room, counts) {
@@ -190,7 +191,7 @@ fn add_left(rooms: &mut Vec<Room>, way: &Way, room: &Room, counts: bool) -> Resu
 }
 
 /// Adds the rooms that a way leaves of these.
-fn add_way(rooms: &mut Vec<Room>, way: &Way, below: &[Room], counts: bool) -> Result<(), AllocError>
+fn add_way(rooms: &mut Rooms, way: &Way, below: &[Room], counts: bool) -> Result<(), AllocError>
     ensures { IfOk result (λ _. (e : Way) → IsKept way.now e → AreAdded (by_way counts e below.now) rooms.old.items rooms.new.items) }
 {
     for room in below {
@@ -201,7 +202,7 @@ fn add_way(rooms: &mut Vec<Room>, way: &Way, below: &[Room], counts: bool) -> Re
 
 /// Adds the rooms that the ways leave of these.
 pub fn add_ways(
-    rooms: &mut Vec<Room>,
+    rooms: &mut Rooms,
     ways: &Ways,
     below: &[Room],
     counts: bool,

@@ -34,7 +34,7 @@ returns-then-eq-clause-read g c =
     let more = delivered_more c.loop.text.items c.in-Ok-Some.byte _ _ _ c.loop.taken c.args.taken.now c.loop.cutter.state v.delivered one v.at v.goes_on v.asked v.taken v.within in
     let end : c.step.result ≡ End = search rules in
     let settled = subst (λ x. Means x (c.loop.text.items ++ c.in-Ok-Some.byte ∷ [])) end (c.step.ensures.means c.loop.text.items v.at) in
-    rw c.in-Ok.ensures.items (more, λ short line rest follows. settled line rest)
+    rw c.in-Ok.ensures (more, λ short line rest follows. settled line rest)
 
 pub loop-preserved : goal.loop-preserved
 loop-preserved g c =
@@ -43,7 +43,7 @@ loop-preserved g c =
     let more = delivered_more c.loop.text.items c.in-Ok-Some.byte _ _ _ c.loop.taken c.args.taken.now c.loop.cutter.state v.delivered one v.at v.goes_on v.asked v.taken v.within in
     let goes : c.step.result ≡ More = search rules in
     let means = subst (λ x. Means x (c.loop.text.items ++ c.in-Ok-Some.byte ∷ [])) goes (c.step.ensures.means c.loop.text.items v.at) in
-    rw c.in-Ok.ensures.items record {
+    rw c.in-Ok.ensures record {
       delivered = more.delivered;
       at = c.step.ensures.at c.loop.text.items v.at;
       goes_on = sym c.step.ensures.says ∙ goes;

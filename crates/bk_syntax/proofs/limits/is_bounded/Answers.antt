@@ -13,7 +13,7 @@ returns-in-Some c =
     let top = c.in-Some.top.now in
     let is = rw c.deref.ensures.value at c.in-Some.ensures.value in
     let P : List Room → Type 0 = λ z. AreRooms true (stack_of x) z in
-    c.has_room_for.ensures (stack_of x) (subst P (sym c.as_slice.ensures.value) (top_rooms x.decls.items x.above.items top is x.roomy))
+    c.has_room_for.ensures (stack_of x) (subst P (sym c.as_slice.ensures) (top_rooms x.decls.items x.above.items top is x.roomy))
 
 pub returns-in_ok-rooms-in-None : goal.returns-in_ok-rooms-in-None
 returns-in_ok-rooms-in-None c =
@@ -22,4 +22,4 @@ returns-in_ok-rooms-in-None c =
     let on = none_on x.decls.items x.above.items is in
     let P : List Room → Type 0 = λ z. AreRooms true (stack_of x) z in
     let Q : Stack → Type 0 = λ z. AreRooms true z c.in_ok-rooms-in-None.rooms.items in
-    c.has_room_for-in-None.ensures (stack_of x) (subst P (sym c.as_slice-in-None.ensures.value) (subst Q (sym on) (c.in_ok-rooms-in-None.ensures (declarations_in x.decls.items) x.holds)))
+    c.has_room_for-in-None.ensures (stack_of x) (subst P (sym c.as_slice-in-None.ensures) (subst Q (sym on) (c.in_ok-rooms-in-None.ensures (declarations_in x.decls.items) x.holds)))

@@ -25,5 +25,5 @@ loop-frame-preserved c =
     let Q : Stack → Type 0 = λ z. AreRooms false z c.in_ok-rooms-2.rooms.items in
     record {
       tight = c.is_tight-tight.ensures st ∙ ap is_tight on;
-      rooms = subst Q on (c.in_ok-rooms-2.ensures st c.loop-frame.invariant.tight (subst P (sym c.as_slice.ensures.value) c.loop-frame.invariant.rooms));
+      rooms = subst Q on (c.in_ok-rooms-2.ensures st c.loop-frame.invariant.tight (subst P (sym c.as_slice.ensures) c.loop-frame.invariant.rooms));
     }

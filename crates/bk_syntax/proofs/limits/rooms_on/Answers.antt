@@ -11,4 +11,4 @@ returns c st t h =
     let x = c.args.begun.now in
     let below = c.args.below.now in
     let P : List Room → Type 0 = λ z. AreAdded (by_ways b (ways (begun_on x st)) below) z c.add_ways.new.rooms.items in
-    rooms_above b x st below c.add_ways.new.rooms.items h (subst P c.in_ok-rooms.ensures.items (c.in_ok-add_ways.ensures (ways (begun_on x st)) (c.ways-ways.ensures st t)))
+    rooms_above b x st below c.add_ways.new.rooms.items h (subst P c.new-rooms.ensures.items (c.in_ok-add_ways.ensures (ways (begun_on x st)) (c.ways-ways.ensures st t)))

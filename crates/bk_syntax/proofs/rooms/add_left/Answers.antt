@@ -8,5 +8,5 @@ pub returns-then-keeps_symbol : goal.returns-then-keeps_symbol
 returns-then-keeps_symbol c e h x k d n =
     let rs = c.args.rooms.now.items in
     let f : Option Room → Bool = λ o. covered rs x k d n || holds_if o x k d n in
-    pushed rs rs c.push.new.self.items c.in-Some.left (λ y a b i. refl) c.in_ok-push-in-Some.ensures.items x k d n
+    pushed rs rs c.push.new.self.items c.in-Some.left (λ y a b i. refl) c.in_ok-push-in-Some.ensures.ok x k d n
     ∙ (ap f (sym c.in-Some.is) ∙ ap (λ z. covered rs x k d n || z) (c.left_of.ensures e h x k d n))
