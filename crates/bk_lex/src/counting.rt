@@ -1,7 +1,9 @@
 //! The machine with what it counts beside the pieces: bytes and symbols, what stands between neighbours, and GET.
-ghost use Rattle.std.specs.Prelude.{◌≡◌};
+ghost use Rattle.std.specs.Prelude.{◌≡◌, true, Ok};
+ghost use Rattle.bk_lex.specs.Bytes.{is_blank};
 ghost use Rattle.bk_lex.specs.Insertion.{ends_operand, ends_command, begins_command, begins_statement, inserted};
 ghost use Rattle.bk_lex.specs.Machine.{next};
+ghost use Rattle.bk_lex.specs.declared.machine.Mode.TheVariants.{Blank};
 ghost use Rattle.bk_lex.specs.Counting.{step_of, ended, ended_symbol, begun, finished, start, moved, header_rest, in_get, room_for, past, least_room, named, opened};
 
 use crate::machine::{Fault, Header, Mode, Next, begin, end_fault, follow, what_of};
@@ -314,11 +316,38 @@ fn opened(state: State, byte: u8) -> Result<Step, Fault>
     })
 }
 
+/// Whether a byte is a blank.
+#[inline(always)]
+fn is_blank(byte: u8) -> bool
+    ensures { result ≡ is_blank byte }
+{
+    matches!(byte, b' ' | b'\t' | b'\n' | 12 | b'\r')
+}
+
+/// A blank behind a blank, which is a piece of its own.
+#[inline(always)]
+fn blank_again(state: State, byte: u8) -> Step
+    requires behind { state.mode ≡ Blank }
+    requires blank { is_blank byte ≡ true }
+    ensures { Ok result ≡ moved state byte (next state.mode byte) }
+{
+    Step {
+        state: State {
+            fed: state.fed || byte == b'\n',
+            ..state
+        },
+        act: Act::Begins(Given::Nothing),
+    }
+}
+
 /// What a byte does, whatever the number of bytes.
 #[inline(always)]
 fn moved(state: State, byte: u8) -> Result<Step, Fault>
     ensures { result ≡ moved state byte (next state.mode byte) }
 {
+    if matches!(state.mode, Mode::Blank) && is_blank(byte) {
+        return Ok(blank_again(state, byte));
+    }
     match follow(state.mode, byte) {
         Next::Goes(mode) => Ok(Step {
             state: State { mode, ..state },

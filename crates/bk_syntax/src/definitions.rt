@@ -12,23 +12,25 @@ ghost use Rattle.bk_syntax.specs.Limits.{depth_of_starts, nodes_of_starts, depth
 ghost use Rattle.bk_syntax.specs.Grammar.{line_of_names, start_count};
 ghost use Rattle.bk_syntax.specs.Inner.Machine.{Stack, actions_then, items_then, starts_then, limit, give, finish, defined_by, declared, in_constants, in_commands, in_names, in_formals, headed, in_head, in_block, in_section, in_let, inside, counted, take_in_block, take_in_section, take_item, take_due, at_name, at_formals, at_formal, at_variable, at_starts, due};
 ghost use Rattle.bk_syntax.specs.Inner.Begun.{member_on, place_on, point_on};
+ghost use Rattle.bk_syntax.specs.Inner.Rooms.{AreRooms};
 ghost use Rattle.bk_syntax.specs.Inner.Frames.{stack_of, state, Steps, Answers, Lowers, NamedBy, Declares, declaring, is_let_begun, is_block_begun};
 ghost use Rattle.bk_syntax.specs.Inner.Sizes.{are_no_items};
 
 use crate::commands::{command, did};
-use crate::expressions::{due, due_at, operand, want_for, want_in, wants_command};
+use crate::expressions::{due, due_at, due_still, operand, want_for, want_in, wants_command};
 use crate::frame::{
     Begun, Clause, Defined, Done, Flow, Frame, Member, Now, Phrase, Place, Point, Size, Sized, Stop,
 };
 use crate::frames::Frames;
 use crate::make::{self, block, constants, let_of};
+use crate::room::Rooms;
 use crate::size::{NOTHING, are_no_items, both, of_node};
 use crate::spelling::name;
 use crate::symbols::{
     Declaring, closes, declares_with, is_and, is_be, is_close, is_colon, is_comma, is_equal,
     is_name, is_open, is_semicolon, is_vec, opens,
 };
-use crate::top::{begun, pop};
+use crate::top::{begun, begun_still, pop};
 use crate::tree::{Command, Decl, Def, Expr, Init, Item, Name, Sort};
 use bk_base::Line;
 use bk_lex::Token;
@@ -333,23 +335,23 @@ fn in_block(
     decls: Vec<Decl>,
     commands: Vec<Command>,
     held: Size,
+    rooms: Rooms,
     token: &Token,
 ) -> Result<Now, Stop>
-    requires { held ≡ held_in (Begun.Place (p.Block line free decls commands)) }
+    requires held { held ≡ held_in (Begun.Place (p.Block line free decls commands)) }
+    requires rooms { AreRooms true (place_on (p.Block line free decls commands) (stack_of frames.old)) rooms.items }
     ensures { Steps (stack_of frames.new) result (take_in_block line free (declarations_in decls.items) (actions_in commands.items) (stack_of frames.old) token.now.line token.now.text.now token.now.kind) }
 {
     if is_semicolon(token.kind) {
-        return Ok(due(frames, Place::Block(line, true, decls, commands), held)?);
+        let block = Place::Block(line, true, decls, commands);
+        return Ok(due_still(frames, block, held, rooms)?);
     }
     if closes(token.kind) {
         return Ok(Now::Did(did(block(line, decls, commands), held)));
     }
     let head = in_head(&commands);
-    begun(
-        frames,
-        Begun::Place(Place::Block(line, free, decls, commands)),
-        held,
-    )?;
+    let block = Place::Block(line, free, decls, commands);
+    begun_still(frames, Begun::Place(block), held, rooms)?;
     if head {
         if let Some(what) = declares_with(token.kind) {
             return Ok(declaration(alloc, frames, what, token.line)?);
@@ -478,11 +480,18 @@ fn both_of(a: bool, b: bool) -> bool
 }
 
 /// Behind the name of a definition. Variables stand in blocks alone.
-fn named(alloc: Global, frames: &mut Frames, name: Name, token: &Token) -> Result<Now, Stop>
+fn named(
+    alloc: Global,
+    frames: &mut Frames,
+    name: Name,
+    rooms: Rooms,
+    token: &Token,
+) -> Result<Now, Stop>
+    requires { AreRooms true (place_on (p.Named name) (stack_of frames.old)) rooms.items }
     ensures { Steps (stack_of frames.new) result (take_due (at_name (mention name) (stack_of frames.old)) token.now.line token.now.text.now token.now.kind) }
 {
     if is_open(token.kind) {
-        return Ok(due(frames, Place::Formals(name), NOTHING)?);
+        return Ok(due_still(frames, Place::Formals(name), NOTHING, rooms)?);
     }
     if !in_a_block(frames) {
         return Err(Stop::Unexpected);
@@ -494,18 +503,27 @@ fn named(alloc: Global, frames: &mut Frames, name: Name, token: &Token) -> Resul
 
 /// Behind the parenthesis of a procedure.
 #[tactic(auto, using(crate::proofs::Turns::named_cases))]
-fn formals(alloc: Global, frames: &mut Frames, name: Name, token: &Token) -> Result<Now, Stop>
+fn formals(
+    alloc: Global,
+    frames: &mut Frames,
+    name: Name,
+    rooms: Rooms,
+    token: &Token,
+) -> Result<Now, Stop>
+    requires { AreRooms true (place_on (p.Formals name) (stack_of frames.old)) rooms.items }
     ensures { Steps (stack_of frames.new) result (take_due (at_formals (mention name) (stack_of frames.old)) token.now.line token.now.text.now token.now.kind) }
 {
     if is_close(token.kind) {
-        return Ok(due(frames, Place::Headed(name, Vec::new(alloc)), NOTHING)?);
+        let headed = Place::Headed(name, Vec::new(alloc));
+        return Ok(due_still(frames, headed, NOTHING, rooms)?);
     }
     let Some(formal) = name_of(alloc, token)? else {
         return Err(Stop::Unexpected);
     };
     let mut formals = Vec::new(alloc);
     formals.push(formal)?;
-    Ok(due(frames, Place::FormalEnd(name, formals), NOTHING)?)
+    let end = Place::FormalEnd(name, formals);
+    Ok(due_still(frames, end, NOTHING, rooms)?)
 }
 
 /// A formal is due.
@@ -515,8 +533,10 @@ fn formal(
     frames: &mut Frames,
     name: Name,
     formals: Vec<Name>,
+    rooms: Rooms,
     token: &Token,
 ) -> Result<Now, Stop>
+    requires { AreRooms true (place_on (p.Formal name formals) (stack_of frames.old)) rooms.items }
     ensures { Steps (stack_of frames.new) result (take_due (at_formal (mention name) (map mention formals.items) (stack_of frames.old)) token.now.line token.now.text.now token.now.kind) }
 {
     let Some(formal) = name_of(alloc, token)? else {
@@ -524,7 +544,8 @@ fn formal(
     };
     let mut formals = formals;
     formals.push(formal)?;
-    Ok(due(frames, Place::FormalEnd(name, formals), NOTHING)?)
+    let end = Place::FormalEnd(name, formals);
+    Ok(due_still(frames, end, NOTHING, rooms)?)
 }
 
 /// Behind a formal.
@@ -533,15 +554,19 @@ fn formal_end(
     frames: &mut Frames,
     name: Name,
     formals: Vec<Name>,
+    rooms: Rooms,
     token: &Token,
 ) -> Result<Now, Stop>
+    requires { AreRooms true (place_on (p.FormalEnd name formals) (stack_of frames.old)) rooms.items }
     ensures { Steps (stack_of frames.new) result (in_formals (mention name) (map mention formals.items) (stack_of frames.old) token.now.kind) }
 {
     if is_comma(token.kind) {
-        return Ok(due(frames, Place::Formal(name, formals), NOTHING)?);
+        let next = Place::Formal(name, formals);
+        return Ok(due_still(frames, next, NOTHING, rooms)?);
     }
     if is_close(token.kind) {
-        return Ok(due(frames, Place::Headed(name, formals), NOTHING)?);
+        let headed = Place::Headed(name, formals);
+        return Ok(due_still(frames, headed, NOTHING, rooms)?);
     }
     Err(Stop::Unexpected)
 }
@@ -605,15 +630,17 @@ fn in_let(
     line: Line,
     defs: Vec<Def>,
     held: Size,
+    rooms: Rooms,
     token: &Token,
 ) -> Result<Now, Stop>
-    requires { held ≡ held_in (Begun.Place (p.Let line defs)) }
+    requires held { held ≡ held_in (Begun.Place (p.Let line defs)) }
+    requires rooms { AreRooms true (place_on (p.Let line defs) (stack_of frames.old)) rooms.items }
     ensures { Steps (stack_of frames.new) result (take_due (in_let line (definitions_in defs.items) (stack_of frames.old)) token.now.line token.now.text.now token.now.kind) }
 {
     let Some(name) = name_of(alloc, token)? else {
         return Err(Stop::Unexpected);
     };
-    begun(frames, Begun::Place(Place::Let(line, defs)), held)?;
+    begun_still(frames, Begun::Place(Place::Let(line, defs)), held, rooms)?;
     Ok(due(frames, Place::Named(name), NOTHING)?)
 }
 
@@ -623,20 +650,24 @@ fn due_in(
     frames: &mut Frames,
     place: Place,
     held: Size,
+    rooms: Rooms,
     token: &Token,
 ) -> Result<Now, Stop>
-    requires { held ≡ held_in (Begun.Place place) }
+    requires held { held ≡ held_in (Begun.Place place) }
+    requires rooms { AreRooms true (place_on place (stack_of frames.old)) rooms.items }
     ensures { Steps (stack_of frames.new) result (take_due (place_on place (stack_of frames.old)) token.now.line token.now.text.now token.now.kind) }
 {
     match place {
         Place::Block(line, free, decls, commands) => {
-            in_block(alloc, frames, line, free, decls, commands, held, token)
+            in_block(
+                alloc, frames, line, free, decls, commands, held, rooms, token,
+            )
         }
-        Place::Let(line, defs) => in_let(alloc, frames, line, defs, held, token),
-        Place::Named(name) => named(alloc, frames, name, token),
-        Place::Formals(name) => formals(alloc, frames, name, token),
-        Place::Formal(name, formals) => formal(alloc, frames, name, formals, token),
-        Place::FormalEnd(name, formals) => formal_end(frames, name, formals, token),
+        Place::Let(line, defs) => in_let(alloc, frames, line, defs, held, rooms, token),
+        Place::Named(name) => named(alloc, frames, name, rooms, token),
+        Place::Formals(name) => formals(alloc, frames, name, rooms, token),
+        Place::Formal(name, formals) => formal(alloc, frames, name, formals, rooms, token),
+        Place::FormalEnd(name, formals) => formal_end(frames, name, formals, rooms, token),
         Place::Headed(name, formals) => headed(frames, name, formals, token),
         Place::Variable(names) => variable(alloc, frames, names, token),
         Place::VariableEnd(names) => variables(alloc, frames, names, token),
@@ -740,13 +771,9 @@ pub fn at_place(alloc: Global, frames: &mut Frames, token: &Token) -> Result<Now
     let Some(top) = pop(frames) else {
         return in_section(alloc, frames, token);
     };
-    let Frame {
-        begun,
-        held,
-        rooms: _,
-    } = top;
+    let Frame { begun, held, rooms } = top;
     match begun {
-        Begun::Place(place) => due_in(alloc, frames, place, held, token),
+        Begun::Place(place) => due_in(alloc, frames, place, held, rooms, token),
         Begun::Point(point) => due_within(alloc, frames, point, held, token),
         _ => Err(Stop::Unexpected),
     }

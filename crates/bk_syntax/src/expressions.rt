@@ -1,5 +1,5 @@
 //! Reading expressions.
-ghost use Rattle.std.specs.Prelude.{◌≡◌, ◌+◌, IfOk, Some, None, Option, MatchOption, option_map, unwrap_or, nat_lt, IfSome, cond, false, ℕ};
+ghost use Rattle.std.specs.Prelude.{◌≡◌, ◌+◌, IfOk, Some, None, Option, MatchOption, option_map, unwrap_or, nat_lt, IfSome, cond, true, false, ℕ};
 ghost use Rattle.bk_syntax.specs.declared.tree.Operator.TheVariants.{Both};
 ghost use Rattle.bk_syntax.specs.declared.frame.Begun.TheVariants as Begun;
 ghost use Rattle.bk_syntax.specs.declared.frame.Operand.TheVariants as o;
@@ -12,6 +12,7 @@ ghost use Rattle.bk_syntax.specs.Inner.Sizes.{are_none};
 ghost use Rattle.bk_syntax.specs.Grammar.{line_of, last};
 ghost use Rattle.bk_syntax.specs.Inner.Machine.{Stack, limit, push, infixed, in_chain, in_args, in_table, bars, no_args, take_operand, give, want, begin, due, have};
 ghost use Rattle.bk_syntax.specs.Inner.Begun.{begun_on, operand_on, phrase_on, member_on, clause_on, place_on, point_on};
+ghost use Rattle.bk_syntax.specs.Inner.Rooms.{AreRooms};
 ghost use Rattle.bk_syntax.specs.Inner.Stacked.{stack};
 ghost use Rattle.bk_syntax.specs.Inner.Frames.{stack_of, state, Steps, Answers, Lowers, Falls};
 
@@ -21,13 +22,14 @@ use crate::frame::{
 };
 use crate::frames::Frames;
 use crate::make::{apply, table};
+use crate::room::Rooms;
 use crate::size::{LEAF, NOTHING, are_none, both, of_node};
 use crate::spelling::name;
 use crate::symbols::{
     Opening, goes_on, infix, inner_row, is_arrow, is_both, is_close, is_comma, is_open, opens_with,
     prefix, relates, row_behind,
 };
-use crate::top::{begun, pop};
+use crate::top::{begun, begun_still, pop};
 use crate::tree::{Expr, Operator};
 use bk_base::Line;
 use bk_lex::{Kind, Token, character_byte, number_word, string_bytes};
@@ -84,6 +86,21 @@ pub fn due(frames: &mut Frames, place: Place, held: Size) -> Result<Now, AllocEr
     ensures { IfOk result (λ now. state (stack_of frames.new) now ≡ due (place_on place (stack_of frames.old))) }
 {
     begun(frames, Begun::Place(place), held)?;
+    Ok(Now::Due)
+}
+
+/// Puts on top a place of a block or a definition, where a symbol is due, in the room that was there before.
+pub fn due_still(
+    frames: &mut Frames,
+    place: Place,
+    held: Size,
+    rooms: Rooms,
+) -> Result<Now, AllocError>
+    requires held { held ≡ held_in (Begun.Place place) }
+    requires rooms { AreRooms true (place_on place (stack_of frames.old)) rooms.items }
+    ensures { IfOk result (λ now. state (stack_of frames.new) now ≡ due (place_on place (stack_of frames.old))) }
+{
+    begun_still(frames, Begun::Place(place), held, rooms)?;
     Ok(Now::Due)
 }
 

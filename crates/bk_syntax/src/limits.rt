@@ -1,5 +1,5 @@
 //! Whether a section within the limits goes on.
-ghost use Rattle.std.specs.Prelude.{◌≡◌, ◌↔◌, ◌||◌, ℕ, true, false, Some, None, IfOk, MatchOption};
+ghost use Rattle.std.specs.Prelude.{◌≡◌, ◌↔◌, ◌||◌, ℕ, [], true, false, Some, None, IfOk, OnOk, MatchOption};
 ghost use Rattle.bk_base.specs.declared.source_fault.SourceKind.TheVariants.{NestedTooDeeply, TooManyNodes};
 ghost use Rattle.bk_syntax.specs.Tree.{Declarations};
 ghost use Rattle.bk_syntax.specs.Inner.Machine.{Stack, in_section};
@@ -18,23 +18,23 @@ use crate::ways::{is_tight, ways};
 use bk_base::limit::{TREE_DEPTH, TREE_NODES};
 use std::alloc::{AllocError, Global};
 
-/// The rooms of what was begun, with these parts, by those below it; there an operator behind a VALOF may go on more than
-/// the operand that the VALOF is. Nodes are counted, or not.
-fn rooms_on(
-    alloc: Global,
+/// Adds the rooms of what was begun, with these parts, by those below it; there an operator behind a VALOF may go on more
+/// than the operand that the VALOF is. Nodes are counted, or not.
+fn add_rooms_on(
+    rooms: &mut Rooms,
     begun: &Begun,
     held: Size,
     tight_below: bool,
     below: &[Room],
     counts: bool,
-) -> Result<Rooms, AllocError>
-    requires { held ≡ held_in begun.now }
-    ensures { IfOk result (λ rooms. (st : Stack) → tight_below ≡ is_tight st → AreRooms counts st below.now → AreRooms counts (begun_on begun.now st) rooms.items) }
+) -> Result<(), AllocError>
+    requires held { held ≡ held_in begun.now }
+    requires none { rooms.old.items ≡ [] }
+    ensures { OnOk result ((st : Stack) → tight_below ≡ is_tight st → AreRooms counts st below.now → AreRooms counts (begun_on begun.now st) rooms.new.items) }
 {
-    let mut rooms = Rooms::new(alloc);
     let ways = ways(begun, held, tight_below);
-    add_ways(&mut rooms, &ways, below, counts)?;
-    Ok(rooms)
+    add_ways(rooms, &ways, below, counts)?;
+    Ok(())
 }
 
 /// The rooms of a section with declarations of this size.
@@ -115,22 +115,28 @@ fn has_room_for(rooms: &[Room], counts: bool, now: &Now) -> bool
     }
 }
 
-/// The rooms of what was begun, with these parts, above these frames.
-pub fn rooms_above(frames: &Frames, begun: &Begun, held: Size) -> Result<Rooms, AllocError>
-    requires { held ≡ held_in begun.now }
-    ensures { IfOk result (λ rooms. AreRooms true (begun_on begun.now (stack_of frames.now)) rooms.items) }
+/// Adds the rooms of what was begun, with these parts, above these frames.
+pub fn add_rooms_above(
+    rooms: &mut Rooms,
+    frames: &Frames,
+    begun: &Begun,
+    held: Size,
+) -> Result<(), AllocError>
+    requires held { held ≡ held_in begun.now }
+    requires none { rooms.old.items ≡ [] }
+    ensures { OnOk result (AreRooms true (begun_on begun.now (stack_of frames.now)) rooms.new.items) }
 {
     match frames.above.last() {
         Some(top) => {
             let tight = is_tight(&top.begun);
             let below = top.rooms.as_slice();
-            let rooms = rooms_on(frames.alloc, begun, held, tight, below, true)?;
-            Ok(rooms)
+            add_rooms_on(rooms, begun, held, tight, below, true)?;
+            Ok(())
         }
         None => {
             let below = rooms_of_section(frames.alloc, frames.held, true)?;
-            let rooms = rooms_on(frames.alloc, begun, held, false, below.as_slice(), true)?;
-            Ok(rooms)
+            add_rooms_on(rooms, begun, held, false, below.as_slice(), true)?;
+            Ok(())
         }
     }
 }
@@ -156,8 +162,9 @@ fn rooms_in_depth(frames: &Frames) -> Result<Rooms, AllocError>
     let mut tight = false;
     for frame in &frames.above {
         let below = rooms;
-        rooms = rooms_on(
-            frames.alloc,
+        rooms = Rooms::new(frames.alloc);
+        add_rooms_on(
+            &mut rooms,
             &frame.begun,
             frame.held,
             tight,
@@ -170,6 +177,8 @@ fn rooms_in_depth(frames: &Frames) -> Result<Rooms, AllocError>
 }
 
 /// Whether a section within the depth goes on.
+#[cold]
+#[inline(never)]
 pub fn is_bounded_in_depth(frames: &Frames, now: &Now) -> Result<bool, AllocError>
     ensures { IfOk result (λ bounded. Completes (Limit false) (state (stack_of frames.now) now.now) ↔ (bounded ≡ true)) }
 {

@@ -22,8 +22,8 @@ loop-frame-preserved c =
     let is = rw c.deref-frame-items.ensures.value at c.frame-item.is in
     let on = sym (stack_take x.decls.items x.above.items i c.frame-item.result (omega arith) is) in
     let P : List Room → Type 0 = λ z. AreRooms false st z in
-    let Q : Stack → Type 0 = λ z. AreRooms false z c.in_ok-rooms-2.rooms.items in
+    let Q : Stack → Type 0 = λ z. AreRooms false z c.add_rooms_on.new.rooms.items in
     record {
       tight = c.is_tight-tight.ensures st ∙ ap is_tight on;
-      rooms = subst Q on (c.in_ok-rooms-2.ensures st c.loop-frame.invariant.tight (subst P (sym c.as_slice.ensures) c.loop-frame.invariant.rooms));
+      rooms = subst Q on (c.in_ok-add_rooms_on.ensures st c.loop-frame.invariant.tight (subst P (sym c.as_slice.ensures) c.loop-frame.invariant.rooms));
     }

@@ -3,7 +3,7 @@ use Rattle.bk_syntax.specs.declared.room.Room.{Room}
 use Rattle.bk_syntax.specs.Inner.Begun.{begun_on}
 use Rattle.bk_syntax.specs.Inner.Rooms.{ways, by_ways, AreAdded}
 use Rattle.bk_syntax.proofs.Below.{rooms_above}
-use Rattle.bk_syntax.proofs.limits.rooms_on.Goals as goal
+use Rattle.bk_syntax.proofs.limits.add_rooms_on.Goals as goal
 
 pub returns : goal.returns
 returns c st t h =
@@ -11,4 +11,4 @@ returns c st t h =
     let x = c.args.begun.now in
     let below = c.args.below.now in
     let P : List Room → Type 0 = λ z. AreAdded (by_ways b (ways (begun_on x st)) below) z c.add_ways.new.rooms.items in
-    rooms_above b x st below c.add_ways.new.rooms.items h (subst P c.new-rooms.ensures.items (c.in_ok-add_ways.ensures (ways (begun_on x st)) (c.ways-ways.ensures st t)))
+    rooms_above b x st below c.add_ways.new.rooms.items h (subst P c.requires.none (c.in_ok-add_ways.ensures (ways (begun_on x st)) (c.ways-ways.ensures st t)))
