@@ -22,6 +22,7 @@ pub struct Cutter {
 }
 
 /// Where the machine is behind a byte, unless the section ends there or ended before.
+#[inline(always)]
 fn after(state: Option<State>, byte: u8) -> Option<State>
     ensures { result ≡ then_on state byte }
 {
@@ -32,6 +33,7 @@ fn after(state: Option<State>, byte: u8) -> Option<State>
 }
 
 /// What is said where the machine is there, or nowhere.
+#[inline(always)]
 fn cut_as(state: Option<State>) -> Cut
     ensures { result ≡ cut_as state }
 {
@@ -54,6 +56,7 @@ impl Cutter {
     /// Takes the next byte of the section. `End` comes at the `.` that ends a section without a fault, or where a fault
     /// is certain, and at byte 1,048,577 at the latest. Then `lex` of the bytes so far answers what it answers of every
     /// text that begins with them, and each further step answers `End`.
+    #[inline(always)]
     pub fn step(&mut self, byte: u8) -> Cut
         // It stands behind one byte more.
         ensures at { (before : List ℕ) → IsAt self.old before → IsAt self.new (before ++ byte ∷ []) }

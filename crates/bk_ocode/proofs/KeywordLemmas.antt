@@ -19,64 +19,64 @@ use Rattle.bk_ocode.specs.declared.keyword.Keyword.TheVariants.{Number, True, Fa
 
 abbrev pub keywords : List Keyword
 keywords =
+    (Load kinds.Local) ∷
     Number ∷
-    True ∷
-    False ∷
-    Query ∷
-    Text ∷
-    LoadByte ∷
-    AssignAt ∷
-    AssignByte ∷
-    Jump ∷
+    (Load kinds.Global) ∷
+    (Assign kinds.Local) ∷
+    (Load kinds.Static) ∷
     Label ∷
-    GiveResult ∷
-    TakeResult ∷
     Stack ∷
-    Store ∷
-    Entry ∷
-    Save ∷
-    CallFunction ∷
+    (JumpIf false) ∷
+    (Dyadic dyadic.Add) ∷
     CallRoutine ∷
+    Store ∷
+    Jump ∷
+    CallFunction ∷
+    (Monadic monadic.Contents) ∷
+    (Dyadic dyadic.Equal) ∷
+    (Assign kinds.Global) ∷
+    (Assign kinds.Static) ∷
+    AssignAt ∷
+    Text ∷
+    (Dyadic dyadic.Subtract) ∷
+    (Dyadic dyadic.Multiply) ∷
     ReturnItem ∷
     Return ∷
+    Entry ∷
+    Save ∷
     EndProcedure ∷
-    Switch ∷
-    Finish ∷
+    (JumpIf true) ∷
+    GiveResult ∷
+    TakeResult ∷
+    (Dyadic dyadic.Less) ∷
+    (Dyadic dyadic.AtMost) ∷
+    (Dyadic dyadic.Greater) ∷
+    (Dyadic dyadic.AtLeast) ∷
+    (Dyadic dyadic.Unequal) ∷
+    (Dyadic dyadic.And) ∷
+    (Dyadic dyadic.Or) ∷
+    (Monadic monadic.Not) ∷
+    (Monadic monadic.Negate) ∷
+    (Dyadic dyadic.Divide) ∷
+    (Dyadic dyadic.Remainder) ∷
+    LoadByte ∷
+    AssignByte ∷
+    (Address kinds.Local) ∷
+    (Address kinds.Static) ∷
+    (Address kinds.Global) ∷
+    True ∷
+    False ∷
     DataLabel ∷
     DataNumber ∷
     DataAddress ∷
-    Globals ∷
-    (Load kinds.Local) ∷
-    (Load kinds.Global) ∷
-    (Load kinds.Static) ∷
-    (Address kinds.Local) ∷
-    (Address kinds.Global) ∷
-    (Address kinds.Static) ∷
-    (Assign kinds.Local) ∷
-    (Assign kinds.Global) ∷
-    (Assign kinds.Static) ∷
-    (Monadic monadic.Contents) ∷
-    (Monadic monadic.Negate) ∷
-    (Monadic monadic.Not) ∷
-    (Dyadic dyadic.Multiply) ∷
-    (Dyadic dyadic.Divide) ∷
-    (Dyadic dyadic.Remainder) ∷
-    (Dyadic dyadic.Add) ∷
-    (Dyadic dyadic.Subtract) ∷
-    (Dyadic dyadic.Equal) ∷
-    (Dyadic dyadic.Unequal) ∷
-    (Dyadic dyadic.Less) ∷
-    (Dyadic dyadic.Greater) ∷
-    (Dyadic dyadic.AtMost) ∷
-    (Dyadic dyadic.AtLeast) ∷
+    Switch ∷
     (Dyadic dyadic.ShiftLeft) ∷
     (Dyadic dyadic.ShiftRight) ∷
-    (Dyadic dyadic.And) ∷
-    (Dyadic dyadic.Or) ∷
     (Dyadic dyadic.Eqv) ∷
     (Dyadic dyadic.Neqv) ∷
-    (JumpIf true) ∷
-    (JumpIf false) ∷ []
+    Query ∷
+    Finish ∷
+    Globals ∷ []
 
 -- each is found
 pub all_found : (k : Keyword) → find_keyword keywords (keyword_text k) ≡ Some k

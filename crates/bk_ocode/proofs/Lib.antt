@@ -1,5 +1,6 @@
 pub mod Parts
 pub mod DraftLemmas
+pub mod Uses
 pub mod KeywordLemmas
 pub mod SameStmts
 pub mod NextWords

@@ -1,7 +1,9 @@
 //! What is known of the labels of a section that is being read.
-ghost use Rattle.std.specs.Prelude.{◌≡◌, map, OnOk};
+ghost use Rattle.std.specs.Prelude.{◌≡◌, ◌+◌, ◌<◌, ◌^◌, length, map, OnOk};
+ghost use Rattle.std.specs.BTreeMap.{get};
+ghost use Rattle.std.specs.Ordering.{nat_cmp};
 ghost use Rattle.bk_ocode.specs.Labels.{static_label};
-ghost use Rattle.bk_ocode.specs.KnownUses.{uses_of};
+ghost use Rattle.bk_ocode.specs.KnownUses.{use_or, uses_of};
 ghost use Rattle.bk_ocode.specs.Context.{fresh, changed, all_changed, what_stands, label_followed, labels_named, with_depth, least_result, set_by, followed, jumped, given, mentioned};
 
 use crate::standing::{Behind, JumpDepths, LabelUse, Position, Setting};
@@ -12,8 +14,14 @@ use std::collections::BTreeMap;
 /// A table of labels. Of one that it lacks nothing is known.
 #[derive(Drop)]
 pub(crate) struct LabelUses {
-    known: BTreeMap<u32, LabelUse>,
+    /// What is known of the low labels. Most texts number theirs in turn, and have no others.
+    low: Vec<LabelUse>,
+    /// What is known of the others.
+    high: BTreeMap<u32, LabelUse>,
 }
+
+/// How many labels become low ones, at most, before one that is named.
+const FEW: usize = 8;
 
 /// What a statement is to the LAB right before it.
 fn behind_label(stmt: &Stmt) -> Behind
@@ -67,7 +75,18 @@ impl LabelUses {
         ensures { uses_of result ≡ (λ label. fresh) }
     {
         LabelUses {
-            known: BTreeMap::new(alloc),
+            low: Vec::new(alloc),
+            high: BTreeMap::new(alloc),
+        }
+    }
+
+    /// What is known of a label, if it is a high one.
+    fn of_high(&self, label: u32) -> LabelUse
+        ensures { result ≡ use_or fresh (get nat_cmp self.now.high label) }
+    {
+        match self.high.get(&label) {
+            Some(known) => *known,
+            None => unknown(),
         }
     }
 
@@ -76,10 +95,35 @@ impl LabelUses {
     pub(crate) fn of(&self, label: u32) -> LabelUse
         ensures { result ≡ uses_of self.now label }
     {
-        match self.known.get(&label) {
+        match self.low.get(label as usize) {
             Some(known) => *known,
-            None => unknown(),
+            None => self.of_high(label),
         }
+    }
+
+    /// One more label is a low one.
+    fn lower(&mut self) -> Result<(), AllocError>
+        requires { length self.old.low.items < 2 ^ 32 }
+        ensures uses { OnOk result (uses_of self.new ≡ uses_of self.old) }
+        ensures one { OnOk result (length self.new.low.items ≡ length self.old.low.items + 1) }
+    {
+        let known = self.of_high(self.low.len() as u32);
+        self.low.push(known)?;
+        Ok(())
+    }
+
+    /// Makes a label a low one, if few lie between it and the low ones.
+    fn reach(&mut self, label: u32) -> Result<(), AllocError>
+        ensures { OnOk result (uses_of self.new ≡ uses_of self.old) }
+    {
+        let label = label as usize;
+        if label > self.low.len() + FEW {
+            return Ok(());
+        }
+        while self.low.len() <= label {
+            self.lower()?;
+        }
+        Ok(())
     }
 
     /// From now on this is known of a label.
@@ -87,7 +131,12 @@ impl LabelUses {
     fn put(&mut self, label: u32, known: LabelUse) -> Result<(), AllocError>
         ensures { OnOk result (uses_of self.new ≡ changed label (λ before. known) (uses_of self.old)) }
     {
-        self.known.insert(label, known)?;
+        self.reach(label)?;
+        if (label as usize) < self.low.len() {
+            self.low[label as usize] = known;
+            return Ok(());
+        }
+        self.high.insert(label, known)?;
         Ok(())
     }
 
