@@ -293,7 +293,6 @@ fn limit(frames: &Frames, now: &Now) -> Result<Option<SourceKind>, AllocError>
 }
 
 /// A `$)`: it closes sections, each as a `$)` without a tag.
-#[inline(never)]
 fn close<'a>(
     alloc: Global,
     frames: &mut Frames,
@@ -314,7 +313,6 @@ fn close<'a>(
 }
 
 /// A `$(`: it opens a section.
-#[inline(never)]
 fn open_section<'a>(
     alloc: Global,
     frames: &mut Frames,
@@ -418,7 +416,6 @@ fn at_end(
 
 /// The section that these symbols are, the end of which is on line `end`, or the fault that stands at a symbol: the first such
 /// that up to and with it no section within the limits begins.
-#[inline(never)]
 pub fn parse(alloc: Global, tokens: &[Token], end: Line) -> Result<Section, Refused<SourceFault>>
     // What is answered is a tree of the symbols, or the first fault: a section within the limits begins with the symbols
     // before it.
