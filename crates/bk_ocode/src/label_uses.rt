@@ -18,10 +18,12 @@ pub(crate) struct LabelUses {
     low: Vec<LabelUse>,
     /// What is known of the others.
     high: BTreeMap<u32, LabelUse>,
+    /// How often something became known.
+    changes: usize,
 }
 
-/// How many labels become low ones, at most, before one that is named.
-const FEW: usize = 8;
+/// How many changes more a label may be ahead of, at two labels a change, to become a low one.
+const AHEAD: usize = 32;
 
 /// What a statement is to the LAB right before it.
 fn behind_label(stmt: &Stmt) -> Behind
@@ -77,6 +79,7 @@ impl LabelUses {
         LabelUses {
             low: Vec::new(alloc),
             high: BTreeMap::new(alloc),
+            changes: 0,
         }
     }
 
@@ -112,12 +115,12 @@ impl LabelUses {
         Ok(())
     }
 
-    /// Makes a label a low one, if few lie between it and the low ones.
+    /// Makes a label a low one, unless the low ones would be many more than what is known.
     fn reach(&mut self, label: u32) -> Result<(), AllocError>
         ensures { OnOk result (uses_of self.new ≡ uses_of self.old) }
     {
         let label = label as usize;
-        if label > self.low.len() + FEW {
+        if label / 2 > self.changes.saturating_add(AHEAD) {
             return Ok(());
         }
         while self.low.len() <= label {
@@ -131,6 +134,7 @@ impl LabelUses {
     fn put(&mut self, label: u32, known: LabelUse) -> Result<(), AllocError>
         ensures { OnOk result (uses_of self.new ≡ changed label (λ before. known) (uses_of self.old)) }
     {
+        self.changes = self.changes.saturating_add(1);
         self.reach(label)?;
         if (label as usize) < self.low.len() {
             self.low[label as usize] = known;
