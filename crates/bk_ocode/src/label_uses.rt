@@ -22,7 +22,7 @@ pub(crate) struct LabelUses {
     changes: usize,
 }
 
-/// How many changes more a label may be ahead of, at two labels a change, to become a low one.
+/// How many changes the list of low labels may run ahead, with two labels for each.
 const AHEAD: usize = 32;
 
 /// What a statement is to the LAB right before it.
@@ -115,7 +115,7 @@ impl LabelUses {
         Ok(())
     }
 
-    /// Makes a label a low one, unless the low ones would be many more than what is known.
+    /// Makes a label a low one, unless the list would then be long for what is known.
     fn reach(&mut self, label: u32) -> Result<(), AllocError>
         ensures { OnOk result (uses_of self.new ≡ uses_of self.old) }
     {
