@@ -1,4 +1,4 @@
-use Rattle.std.proofs.Common.{◌≡◌, ℕ, ◌==◌, Option, Some, ◌∙◌, sym, ap, if◌then◌else◌, arith}
+use Rattle.std.proofs.Common.{ℕ, Some, ◌∙◌, sym, ap, if◌then◌else◌, arith}
 use Rattle.std.proofs.Math.Path.{fun_ext}
 use Rattle.std.specs.BTreeMap.{get}
 use Rattle.std.specs.Cmp.{unsigned_ties}
