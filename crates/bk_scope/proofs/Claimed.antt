@@ -1,5 +1,5 @@
 -- What the program holds as claimed is what the definitions hold as claimed.
-use Rattle.std.proofs.Common.{◌≡◌, ℕ, Bool, true, false, cond, ◌||◌, ◌==◌, bytes_eq, List, [], ◌∷◌, ◌++◌, map, reverse, refl, sym, ap, ◌∙◌}
+use Rattle.std.proofs.Common.{◌≡◌, ◌⊎◌, inl, inr, ⊎_elim, subst, ℕ, Bool, true, false, cond, ◌||◌, ◌==◌, bytes_eq, List, [], ◌∷◌, ◌++◌, map, reverse, refl, sym, ap, ◌∙◌}
 use Rattle.std.proofs.lemmas.Cmp.{eq_by_cmp_equiv, nat_cmp_total, nat_list_eq_equiv}
 use Rattle.std.proofs.lemmas.List.{map-append, reverse-append}
 use Rattle.std.specs.BTreeMap.{is_at}
@@ -7,15 +7,34 @@ use Rattle.std.specs.BTreeSet.{contains, Updates}
 use Rattle.std.specs.Cmp.{unsigned_tied}
 use Rattle.std.specs.List.{list_any}
 use Rattle.std.specs.Ordering.{is_eq, nat_cmp}
-use Rattle.bk_scope.specs.Claims.{claim_of, claims_in, HasClaims}
+use Rattle.bk_scope.specs.Claims.{claim_of, claims_in, has, HasClaims}
 use Rattle.bk_scope.specs.Found as found
 use Rattle.bk_scope.specs.Found.{is_claimed, same_claim}
+use Rattle.bk_scope.specs.declared.claims.Listed.{Listed}
 use Rattle.bk_scope.specs.declared.claims.Claim.{Claim}
 use Rattle.bk_scope.specs.declared.claims.Claim.TheVariants.{Naming, Choosing, Defaulting, Setting}
+use Rattle.bk_scope.specs.declared.claims.ClaimSet.{ClaimSet}
 use Rattle.bk_scope.specs.declared.claims.Claims.TheInside.{Inside}
+use Rattle.bk_scope.specs.contracts.claims.ListedOrd.TheImpl.{cmp-value as listed}
 use Rattle.bk_scope.specs.contracts.claims.ClaimOrd.TheImpl.{cmp-value}
 use Rattle.bk_scope.specs.contracts.name_key.NameKeyOrd.TheImpl.{cmp-value as keys}
 use Rattle.bk_scope.proofs.Keys.{both_tied, same_letters}
+
+swapped : (p q : Bool) → cond q p false ≡ cond p q false
+swapped true true = refl
+swapped true false = refl
+swapped false true = refl
+swapped false false = refl
+
+-- the claim of a name in a list
+abbrev pub listed_of : Listed → found.Claim
+listed_of l = claim_of (Naming l.list l.name)
+
+-- the order tells names in lists apart where the definitions do
+listed-is-same : (k l : Listed) → is_eq (listed.it k l) ≡ same_claim (listed_of k) (listed_of l)
+listed-is-same k l =
+    both_tied (keys.it k.name l.name) (nat_cmp k.list l.list) (bytes_eq k.name.letters.now l.name.letters.now) (k.list == l.list) (same_letters k.name l.name) (unsigned_tied k.list l.list)
+    ∙ swapped (k.list == l.list) (bytes_eq k.name.letters.now l.name.letters.now)
 
 -- the order tells claims apart where the definitions do
 equal-is-same : (c d : Claim) → is_eq (cmp-value.it c d) ≡ same_claim (claim_of c) (claim_of d)
@@ -60,25 +79,70 @@ same-turned (found.setting g) (found.choosing m v) = refl
 same-turned (found.setting g) (found.defaulting m) = refl
 same-turned (found.setting g) (found.setting h) = turned g h
 
+any-listed : (k : Listed) (ls : List Listed) → list_any (is_at (listed.it k)) ls ≡ list_any (λ l. same_claim (listed_of k) (listed_of l)) ls
+any-listed k [] = refl
+any-listed k (l ∷ ls) = ap (λ b. b || list_any (is_at (listed.it k)) ls) (listed-is-same k l) ∙ ap (λ b. same_claim (listed_of k) (listed_of l) || b) (any-listed k ls)
+
 any-same : (c : Claim) (ks : List Claim) → list_any (is_at (cmp-value.it c)) ks ≡ list_any (λ d. same_claim (claim_of c) (claim_of d)) ks
 any-same c [] = refl
 any-same c (d ∷ ds) = ap (λ b. b || list_any (is_at (cmp-value.it c)) ds) (equal-is-same c d) ∙ ap (λ b. same_claim (claim_of c) (claim_of d) || b) (any-same c ds)
 
-contained : (t : Inside) (c : Claim) → HasClaims t → contains cmp-value.it t.claimed c ≡ is_claimed (claim_of c) (claims_in t.in_turn.items)
-contained t c h = any-same c t.claimed.keys ∙ h c
+-- names in lists are where the set has them
+pub listed-had : (s : ClaimSet) (k : Listed) → contains listed.it s.listed k ≡ has s (Naming k.list k.name)
+listed-had s k = any-listed k s.listed.keys
+
+-- a claim that is no name in a list
+abbrev pub IsOther : Claim → Type 0
+IsOther c = ((n : ℕ) × (w : ℕ) × (c ≡ Choosing n w)) ⊎ (((n : ℕ) × (c ≡ Defaulting n)) ⊎ ((g : ℕ) × (c ≡ Setting g)))
+
+by-other : (P : Claim → Type 0) → ((n w : ℕ) → P (Choosing n w)) → ((n : ℕ) → P (Defaulting n)) → ((g : ℕ) → P (Setting g)) → (c : Claim) → IsOther c → P c
+by-other P chooses defaults sets c other =
+    ⊎_elim (λ o. subst P (sym o.2) (chooses o.0 o.1)) (λ o. ⊎_elim (λ d. subst P (sym d.1) (defaults d.0)) (λ g. subst P (sym g.1) (sets g.0)) o) other
+
+-- the others are where the set has them
+pub other-had : (s : ClaimSet) (c : Claim) → IsOther c → contains cmp-value.it s.others c ≡ has s c
+other-had s =
+    by-other (λ c. contains cmp-value.it s.others c ≡ has s c) (λ n w. any-same (Choosing n w) s.others.keys) (λ n. any-same (Defaulting n) s.others.keys) (λ g. any-same (Setting g) s.others.keys)
+
+-- one name more
+pub listed-more : (s u : ClaimSet) (k : Listed) → Updates listed.it s.listed u.listed k true → u.others ≡ s.others → (q : Claim) → has u q ≡ cond (same_claim (listed_of k) (claim_of q)) true (has s q)
+listed-more s u k updates kept (Naming n x) =
+    let l : Listed = record { name = x; list = n } in
+    sym (listed-had u l)
+    ∙ updates.0 l
+    ∙ ap (λ b. cond b true (contains listed.it s.listed l)) (listed-is-same k l)
+    ∙ ap (cond (same_claim (listed_of k) (listed_of l)) true) (listed-had s l)
+listed-more s u k updates kept (Choosing n w) = ap (λ o. list_any (λ d. same_claim (found.choosing n w) (claim_of d)) o.keys) kept
+listed-more s u k updates kept (Defaulting n) = ap (λ o. list_any (λ d. same_claim (found.defaulting n) (claim_of d)) o.keys) kept
+listed-more s u k updates kept (Setting g) = ap (λ o. list_any (λ d. same_claim (found.setting g) (claim_of d)) o.keys) kept
+
+other-updated : (s u : ClaimSet) (c q : Claim) → IsOther q → Updates cmp-value.it s.others u.others c true → has u q ≡ cond (same_claim (claim_of c) (claim_of q)) true (has s q)
+other-updated s u c q other updates =
+    sym (other-had u q other)
+    ∙ updates.0 q
+    ∙ ap (λ b. cond b true (contains cmp-value.it s.others q)) (equal-is-same c q)
+    ∙ ap (cond (same_claim (claim_of c) (claim_of q)) true) (other-had s q other)
+
+-- one more of the others
+pub other-more : (s u : ClaimSet) (c : Claim) → IsOther c → Updates cmp-value.it s.others u.others c true → u.listed ≡ s.listed → (q : Claim) → has u q ≡ cond (same_claim (claim_of c) (claim_of q)) true (has s q)
+other-more s u c other updates kept (Naming m x) =
+    ap (λ o. list_any (λ l. same_claim (claim_of (Naming m x)) (listed_of l)) o.keys) kept
+    ∙ sym (ap (λ b. cond b true (has s (Naming m x))) (by-other (λ d. same_claim (claim_of d) (claim_of (Naming m x)) ≡ false) (λ n w. refl) (λ n. refl) (λ g. refl) c other))
+other-more s u c other updates kept (Choosing n w) = other-updated s u c (Choosing n w) (inl (n, w, refl)) updates
+other-more s u c other updates kept (Defaulting n) = other-updated s u c (Defaulting n) (inr (inl (n, refl))) updates
+other-more s u c other updates kept (Setting g) = other-updated s u c (Setting g) (inr (inr (g, refl))) updates
 
 -- a claim is in the set where the definitions say that it is claimed
-pub claimed-contained : (t : Inside) (c : Claim) (seen : List found.Claim) (b : Bool) → HasClaims t → claims_in t.in_turn.items ≡ seen → b ≡ contains cmp-value.it t.claimed c → is_claimed (claim_of c) seen ≡ b
-claimed-contained t c seen b h view found = ap (is_claimed (claim_of c)) (sym view) ∙ sym (contained t c h) ∙ sym found
+pub claimed-contained : (t : Inside) (c : Claim) (seen : List found.Claim) (b : Bool) → HasClaims t → claims_in t.in_turn.items ≡ seen → b ≡ has t.claimed c → is_claimed (claim_of c) seen ≡ b
+claimed-contained t c seen b h view found = ap (is_claimed (claim_of c)) (sym view) ∙ sym (h c) ∙ sym found
 
 claims_in-behind : (c : Claim) (cs : List Claim) → claims_in (cs ++ c ∷ []) ≡ claim_of c ∷ claims_in cs
 claims_in-behind c cs = ap reverse (map-append claim_of cs (c ∷ [])) ∙ reverse-append (map claim_of cs) (claim_of c ∷ [])
 
 -- one claim more
-pub HasClaims-more : (t u : Inside) (c : Claim) → HasClaims t → Updates cmp-value.it t.claimed u.claimed c true → u.in_turn.items ≡ t.in_turn.items ++ c ∷ [] → HasClaims u
-HasClaims-more t u c h updates items q =
-    sym (any-same q u.claimed.keys)
-    ∙ updates.0 q
-    ∙ ap (λ b. cond b true (contains cmp-value.it t.claimed q)) (equal-is-same c q ∙ same-turned (claim_of c) (claim_of q))
-    ∙ ap (cond (same_claim (claim_of q) (claim_of c)) true) (contained t q h)
+pub HasClaims-more : (t u : Inside) (c : Claim) → HasClaims t → ((q : Claim) → has u.claimed q ≡ cond (same_claim (claim_of c) (claim_of q)) true (has t.claimed q)) → u.in_turn.items ≡ t.in_turn.items ++ c ∷ [] → HasClaims u
+HasClaims-more t u c h more items q =
+    more q
+    ∙ ap (λ b. cond b true (has t.claimed q)) (same-turned (claim_of c) (claim_of q))
+    ∙ ap (cond (same_claim (claim_of q) (claim_of c)) true) (h q)
     ∙ sym (ap (is_claimed (claim_of q)) (ap claims_in items ∙ claims_in-behind c t.in_turn.items))

@@ -1,7 +1,8 @@
 //! What may be claimed once in a section.
-ghost use Rattle.std.specs.Prelude.{◌≡◌, not, cond, false, [], ◌∷◌, IfOk, OnErr};
-ghost use Rattle.bk_scope.specs.Found.{is_claimed};
-ghost use Rattle.bk_scope.specs.Claims.{claim_of};
+ghost use Rattle.std.specs.Prelude.{◌≡◌, not, cond, false, true, [], ◌∷◌, IfOk, OnOk, OnErr};
+ghost use Rattle.bk_scope.specs.declared.claims.Claim.{Claim};
+ghost use Rattle.bk_scope.specs.Found.{is_claimed, same_claim};
+ghost use Rattle.bk_scope.specs.Claims.{claim_of, has};
 
 use crate::name_key::NameKey;
 use std::alloc::{AllocError, Global};
@@ -21,11 +22,70 @@ pub enum Claim<'a> {
     Setting(u32),
 }
 
+/// A name in a list of names. Names differ more often than the numbers of their lists, and are compared first.
+#[derive(Clone, Copy, PartialEq, Eq, PartialOrd, Ord)]
+struct Listed<'a> {
+    name: NameKey<'a>,
+    /// The number of the list.
+    list: u32,
+}
+
+/// A set of claims.
+#[derive(Drop)]
+struct ClaimSet<'a> {
+    /// The names in lists, by order. They are apart from the others, since a section has many.
+    listed: BTreeSet<Listed<'a>>,
+    /// The others, by order.
+    others: BTreeSet<Claim<'a>>,
+}
+
+impl<'a> ClaimSet<'a> {
+    /// Without claims.
+    fn new(alloc: Global) -> ClaimSet<'a>
+        ensures { (c : Claim) → has result c ≡ false }
+    {
+        ClaimSet {
+            listed: BTreeSet::new(alloc),
+            others: BTreeSet::new(alloc),
+        }
+    }
+
+    /// Whether it has this claim.
+    fn contains(&self, claim: &Claim<'a>) -> bool
+        ensures { result ≡ has self.now claim.now }
+    {
+        match claim {
+            Claim::Naming(list, name) => self.listed.contains(&Listed {
+                name: *name,
+                list: *list,
+            }),
+            Claim::Choosing(_, _) | Claim::Defaulting(_) | Claim::Setting(_) => {
+                self.others.contains(claim)
+            }
+        }
+    }
+
+    /// Adds a claim; whether it had it not before.
+    fn insert(&mut self, claim: Claim<'a>) -> Result<bool, AllocError>
+        ensures new { IfOk result (λ new. new ≡ not (has self.old claim.entry)) }
+        ensures more { OnOk result ((c : Claim) → has self.new c ≡ cond (same_claim (claim_of claim.entry) (claim_of c)) true (has self.old c)) }
+        ensures kept { OnErr result ((c : Claim) → has self.new c ≡ has self.old c) }
+        ensures absent { OnErr result (has self.old claim.entry ≡ false) }
+    {
+        match claim {
+            Claim::Naming(list, name) => Ok(self.listed.insert(Listed { name, list })?),
+            Claim::Choosing(_, _) | Claim::Defaulting(_) | Claim::Setting(_) => {
+                Ok(self.others.insert(claim)?)
+            }
+        }
+    }
+}
+
 /// What was claimed so far, which contracts see as the list of it, the newest first.
 #[derive(Drop)]
 pub struct Claims<'a> {
-    /// What was claimed, by order.
-    claimed: BTreeSet<Claim<'a>>,
+    /// What was claimed, as a set.
+    claimed: ClaimSet<'a>,
     /// The same, the newest last.
     in_turn: Vec<Claim<'a>>,
 }
@@ -49,7 +109,7 @@ impl<'a> Claims<'a> {
         ensures { result ≡ [] }
     {
         Claims {
-            claimed: BTreeSet::new(alloc),
+            claimed: ClaimSet::new(alloc),
             in_turn: Vec::new(alloc),
         }
     }
