@@ -8,7 +8,7 @@ ghost use Rattle.bk_trans.specs.Labels.{labels_of_procedure};
 use crate::around::{Around, Target};
 use crate::short::first_bytes;
 use crate::statements::{after, test_of_step};
-use crate::writer::{Choices, Writing};
+use crate::writer::{Choices, FIRST_STMTS, Writing};
 use bk_ocode::{Case, Dyadic, GlobalEntry, Stmt, Variable};
 use bk_scope::Bound;
 use bk_syntax::tree::Simple;
@@ -174,6 +174,7 @@ impl<'a> Writing<'a> {
         ensures begun { OnOk result (self.new ≡ begins_procedure name.now formals self.old) }
     {
         let outside = self.step_out();
+        self.code.reserve(FIRST_STMTS)?;
         let bound = self.meaning();
         let label = self.labels(procedure_labels(bound));
         self.put_entry(label, bound)?;
@@ -202,7 +203,12 @@ impl<'a> Writing<'a> {
         self.procedures.append(&mut own)?;
         self.procedures.push(last)?;
         self.procedures.push(Stmt::EndProcedure)?;
-        self.procedures.append(&mut inner)
+        self.procedures.append(&mut inner)?;
+        if self.code.is_empty() {
+            // What is written next has the room of the body.
+            self.code = own;
+        }
+        Ok(())
     }
 
     /// What stands before the body of a FOR.

@@ -8,14 +8,13 @@ ghost use Rattle.bk_ocode.specs.Section.{IsSection};
 ghost use Rattle.bk_ocode.specs.SectionStmts.{stmts_of};
 ghost use Rattle.bk_syntax.specs.Parsing.{declarations_of};
 ghost use Rattle.bk_trans.specs.Scheme.{scheme};
-ghost use Rattle.bk_trans.specs.Writing.{AreWritten, starting, section_written, ending};
+ghost use Rattle.bk_trans.specs.Writing.{AreWritten, starting, ending};
 
-use crate::around::Goal;
 use crate::fitting::{stmts_fit, words_fit};
 use crate::given::Given;
 use crate::nodes::declare_each;
 use crate::places::places_of;
-use crate::writer::Writing;
+use crate::writer::{FIRST_STMTS, Writing};
 use bk_ocode::{GlobalList, Ocode, Stmt};
 use bk_scope::{Bound, Resolved};
 use bk_syntax::tree::Decl;
@@ -40,6 +39,21 @@ impl<'a> Writing<'a> {
         }
     }
 
+    /// Nothing again, in the room of what was written.
+    fn restart(&mut self, left: Given<'a>)
+        ensures { self.new ≡ starting left.entry }
+    {
+        self.code.clear();
+        self.procedures.clear();
+        self.data_words.clear();
+        self.entries.clear();
+        self.targets.clear();
+        self.cases.clear();
+        self.default_label = None;
+        self.left = left;
+        self.next = 1;
+    }
+
     /// The statements of a section that was written.
     fn end(self) -> Result<Vec<Stmt>, AllocError>
         ensures { IfOk result (λ stmts. stmts.items ≡ ending self.entry) }
@@ -58,34 +72,22 @@ impl<'a> Writing<'a> {
     }
 }
 
-/// What is written of a section, where its declarations went to these places.
-fn write_section<'a>(
+/// Writes a section twice: first to find where its declarations go, and then with these places.
+fn write_twice<'a>(
     alloc: Global,
-    goals: &[Goal],
     decls: &[Decl],
     meanings: &'a [Bound],
     words: &'a [u32],
-) -> Result<Writing<'a>, AllocError>
-    ensures { IfOk result (λ out. out ≡ section_written goals.now (declarations_in decls.now) (record { meanings = meanings.now; words = words.now })) }
-{
-    let mut out = Writing::new(alloc, Given::new(meanings, words));
-    let _depth = declare_each(&mut out, goals, 2, decls)?;
-    Ok(out)
-}
-
-/// Writes a section twice: first to find where its declarations go, and then with these places.
-fn write_twice(
-    alloc: Global,
-    decls: &[Decl],
-    meanings: &[Bound],
-    words: &[u32],
 ) -> Result<Vec<Stmt>, AllocError>
     ensures { IfOk result (λ stmts. AreWritten (declarations_in decls.now) (record { meanings = meanings.now; words = words.now }) stmts.items) }
 {
-    let found = write_section(alloc, &[], decls, meanings, words)?;
-    let goals = places_of(alloc, &found.targets)?;
-    drop(found);
-    write_section(alloc, &goals, decls, meanings, words)?.end()
+    let mut out = Writing::new(alloc, Given::new(meanings, words));
+    out.procedures.reserve(FIRST_STMTS)?;
+    let _depth = declare_each(&mut out, &[], 2, decls)?;
+    let goals = places_of(alloc, &out.targets)?;
+    out.restart(Given::new(meanings, words));
+    let _depth = declare_each(&mut out, &goals, 2, decls)?;
+    out.end()
 }
 
 /// The statements of a section: those of the scheme, where labels, slots and depths are words.

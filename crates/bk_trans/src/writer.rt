@@ -16,6 +16,9 @@ use std::alloc::{AllocError, Global};
 use std::marker::Model;
 use std::mem;
 
+/// How many statements a section and a procedure have room for at first.
+pub const FIRST_STMTS: usize = 32;
+
 /// The statements so far, what stands by itself, what is left of the meanings and words, and the label that is next.
 #[derive(Drop)]
 pub struct Writing<'a> {
@@ -171,11 +174,14 @@ impl<'a> Writing<'a> {
         self.left.constant()
     }
 
-    /// What was written is set aside; what follows is written by itself.
+    /// What was written is set aside; what follows is written by itself. Where nothing was written, the room for it stays.
     pub fn aside(&mut self) -> Vec<Stmt>
         ensures code { result.items ≡ self.old.code }
         ensures aside { self.new ≡ with_code [] self.old }
     {
+        if self.code.is_empty() {
+            return Vec::new(self.alloc);
+        }
         mem::replace(&mut self.code, Vec::new(self.alloc))
     }
 
