@@ -34,7 +34,7 @@ use Rattle.bk_syntax.specs.Inner.Begun.{begun_on}
 use Rattle.bk_syntax.specs.Inner.Stacked.{above, stack}
 use Rattle.bk_syntax.specs.Inner.Frames.{stack_of, state, Steps}
 use Rattle.bk_syntax.specs.SyntaxLaws.{reading}
-use Rattle.bk_syntax.specs.Parsing.{tags, Closes, goes_to, steps, leads, AfterSymbols, refused_at, Advances, AnswersAtEnd}
+use Rattle.bk_syntax.specs.Parsing.{tags, Closes, goes_to, steps, leads, AfterSymbols, answered, reached, why_of, Advances, AnswersAtEnd}
 use Rattle.bk_syntax.proofs.Steps.{stepped}
 use Rattle.bk_syntax.proofs.Before.{opens_kind, closes_kind}
 use Rattle.bk_syntax.proofs.Stacks.{stack_none}
@@ -153,15 +153,15 @@ steps_more zero t x h = absurd (omega arith)
 steps_more (suc n) t x h = let e : suc n - 1 ≡ n = omega arith in ap (λ (m : ℕ). goes_to (steps m t) (step x t)) (sym e)
 
 -- a symbol is answered by as many steps as it has plain symbols
-pub answered : (r : Result Now Stop) (new : Frames) (xs : List (Bor (List ℕ))) (u : List Symbol) (t : Symbol) (before after : List (List ℕ)) (x : State) (n : ℕ)
-    → Steps (stack_of new) r (steps n t x) → tags xs ≡ after → ((us : List Symbol) → plain (t ∷ us) before ≡ in_front (replicate n t) (plain us after)) → AfterSymbols u before x
-    → Advances new xs (refused_at r t.line) u t
-answered (Ok now) new xs u t before after x n go are h b =
+pub step_answered : (r : Result Unit Stop) (now : Now) (new : Frames) (xs : List (Bor (List ℕ))) (u : List Symbol) (t : Symbol) (before after : List (List ℕ)) (x : State) (n : ℕ)
+    → Steps (stack_of new) (reached r now) (steps n t x) → tags xs ≡ after → ((us : List Symbol) → plain (t ∷ us) before ≡ in_front (replicate n t) (plain us after)) → AfterSymbols u before x
+    → Advances new xs (answered (reached (why_of r) now) t.line) u t
+step_answered (Ok _) now new xs u t before after x n go are h b =
     let y = state (stack_of new) now in
     let P : List (List ℕ) → Type 0 = λ z. AfterSymbols (u ++ t ∷ []) z y in
     subst P (sym are) (behind_one u t before after x y (replicate n t) b h (leads_steps n t x ∙ go))
-answered (Err s.Memory) new xs u t before after x n go are h b = tt
-answered (Err s.Unexpected) new xs u t before after x n go are h b = (refl, unexpected u t before after x n b h go)
+step_answered (Err s.Memory) now new xs u t before after x n go are h b = tt
+step_answered (Err s.Unexpected) now new xs u t before after x n go are h b = (refl, unexpected u t before after x n b h go)
 
 last_begun : (st : Stack) (x : Frame) (xs : List Frame) → (y : Begun) × (below : Stack) × (above st (x ∷ xs) ≡ begun_on y below)
 last_begun st x [] = (x.begun, st, refl)
@@ -204,12 +204,12 @@ plain_all ts opens x b = ap (λ z. plain z []) (sym (append-nil ts)) ∙ b.brack
 pub reading_all : (ts : List Symbol) (opens : List (List ℕ)) (x : State) (b : AfterSymbols ts opens x) → reading b.plainly ≡ run [] x
 reading_all ts opens x b = ap reading (sym (append-nil b.plainly)) ∙ reads b []
 
-pub closed : (r : Result Now Stop) (new : Frames) (xs ys zs : List (Bor (List ℕ))) (u : List Symbol) (t : Symbol) (x : State) (n k : ℕ) → closes t.kind ≡ true → zs ≡ ys → Closes (Some n) t (tag_of t.text) zs
-    → k ≡ length ys - n → xs ≡ take k ys → Steps (stack_of new) r (steps n t x) → AfterSymbols u (tags ys) x → Advances new xs (refused_at r t.line) u t
-closed r new xs ys zs u t x n k holds same h left is go b =
+pub closed : (r : Result Unit Stop) (now : Now) (new : Frames) (xs ys zs : List (Bor (List ℕ))) (u : List Symbol) (t : Symbol) (x : State) (n k : ℕ) → closes t.kind ≡ true → zs ≡ ys → Closes (Some n) t (tag_of t.text) zs
+    → k ≡ length ys - n → xs ≡ take k ys → Steps (stack_of new) (reached r now) (steps n t x) → AfterSymbols u (tags ys) x → Advances new xs (answered (reached (why_of r) now) t.line) u t
+closed r now new xs ys zs u t x n k holds same h left is go b =
     let P : List (Bor (List ℕ)) → Type 0 = λ z. Closes (Some n) t (tag_of t.text) z in
     let q : closed_by t (tag_of t.text) (tags ys) ≡ Some (record { closings = replicate n t; still = tags (take (length ys - n) ys) }) = subst P same h in
-    answered r new xs u t (tags ys) (tags (take (length ys - n) ys)) x n go (ap tags (is ∙ ap (λ (j : ℕ). take j ys) left)) (λ us. plain_close t us (tags ys) _ holds q) b
+    step_answered r now new xs u t (tags ys) (tags (take (length ys - n) ys)) x n go (ap tags (is ∙ ap (λ (j : ℕ). take j ys) left)) (λ us. plain_close t us (tags ys) _ holds q) b
 
 pub not_closed : (ys zs : List (Bor (List ℕ))) (u : List Symbol) (t : Symbol) (x : State) → closes t.kind ≡ true → zs ≡ ys → Closes None t (tag_of t.text) zs → AfterSymbols u (tags ys) x → Stands WrongSectionTag u t
 not_closed ys zs u t x holds same h b =

@@ -1,5 +1,5 @@
 -- What is told of the symbols, and what is answered behind them all.
-use Rattle.std.proofs.Common.{◌≡◌, ℕ, ◌+◌, ◌<◌, length, get_or, take, drop, List, [], ◌∷◌, ◌++◌, Result, Ok, Err, refl, sym, ap, subst, ◌∙◌, inl, inr, append_assoc}
+use Rattle.std.proofs.Common.{◌≡◌, ℕ, ◌+◌, ◌<◌, length, get_or, take, drop, List, [], ◌∷◌, ◌++◌, Result, Ok, Err, IfErr, refl, sym, ap, subst, ◌∙◌, inl, inr, append_assoc}
 use Rattle.std.proofs.lemmas.List.{map-append, take-append-drop, at_drop_more}
 use Rattle.std.specs.Borrow.{Bor}
 use Rattle.bk_base.specs.declared.limit.TheConstants.{TREE_DEPTH, TREE_NODES}
@@ -10,7 +10,10 @@ use Rattle.bk_base.specs.declared.refused.Refused.{Refused}
 use Rattle.bk_base.specs.declared.refused.Refused.TheVariants.{Fault, Memory, Device}
 use Rattle.bk_lex.specs.declared.token.Token.{Token}
 use Rattle.bk_lex.specs.Symbol.{Symbol, symbol_of, symbols_of}
+use Rattle.bk_syntax.specs.declared.frame.Now.{Now}
 use Rattle.bk_syntax.specs.declared.frames.Frames.{Frames}
+use Rattle.bk_syntax.specs.declared.why.Why.{Why}
+use Rattle.bk_syntax.specs.declared.why.Why.TheVariants as w
 use Rattle.bk_syntax.specs.declared.section.Section.{Section}
 use Rattle.bk_syntax.specs.Tree.{Declarations}
 use Rattle.bk_syntax.specs.Limits.{Within, depth_of_declarations, nodes_of_declarations}
@@ -20,8 +23,9 @@ use Rattle.bk_syntax.specs.SyntaxLaws.{reading, BeginsCompletes, CompletesBegins
 use Rattle.bk_syntax.specs.Grammar as G
 use Rattle.bk_syntax.specs.SyntaxFault.{IsSection, Begins, Shallow, Stands}
 use Rattle.bk_syntax.specs.Inner.Machine.{State, run}
+use Rattle.bk_syntax.specs.Inner.Frames.{stack_of, state}
 use Rattle.bk_syntax.specs.Bounds.{AtMost, LevelsAtMost, Bounded, Passed}
-use Rattle.bk_syntax.specs.Parsing.{AfterSymbols, IsLimit, Advances, declarations_of, AnswersAtEnd, Parses, Gives}
+use Rattle.bk_syntax.specs.Parsing.{tags, AfterSymbols, IsLimit, told, answered, reached, IsPassed, Advances, declarations_of, AnswersAtEnd, Parses, Gives}
 use Rattle.bk_syntax.proofs.Stands.{one_tree, end_stands}
 use Rattle.bk_syntax.proofs.Exact.{reads_the_grammar}
 use Rattle.bk_syntax.proofs.Tags.{tag_stands}
@@ -62,11 +66,18 @@ limit_stands TooManyNodes u t opens x h b over =
 limit_stands _ u t opens x h b over = absurd h
 
 -- a limit is told where it stands
-pub limit_told : (kind : SourceKind) (q : Refused SourceFault) (new : Frames) (xs : List (Bor (List ℕ))) (u : List Symbol) (t : Symbol) (opens : List (List ℕ)) (x : State) → IsLimit kind
-    → q ≡ Fault (record { line = t.line; kind = kind }) → AfterSymbols (u ++ t ∷ []) opens x → Passed kind x → Advances new xs (Err q) u t
-limit_told kind q new xs u t opens x limits is b over =
-    let P : Refused SourceFault → Type 0 = λ z. Advances new xs (Err z) u t in
-    subst P (sym is) (refl, limit_stands kind u t opens x limits b over)
+limit_told : (why : Why) (new : Frames) (xs : List (Bor (List ℕ))) (u : List Symbol) (t : Symbol) (opens : List (List ℕ)) (x : State) → AfterSymbols (u ++ t ∷ []) opens x → IsPassed why x
+    → Advances new xs (Err (told why t.line)) u t
+limit_told w.Memory new xs u t opens x b over = tt
+limit_told w.NestedTooDeeply new xs u t opens x b over = (refl, limit_stands NestedTooDeeply u t opens x tt b over)
+limit_told w.TooManyNodes new xs u t opens x b over = (refl, limit_stands TooManyNodes u t opens x tt b over)
+limit_told w.Unexpected new xs u t opens x b over = absurd over
+limit_told w.WrongSectionTag new xs u t opens x b over = absurd over
+
+pub limited : (r : Result Unit Why) (after : Now) (new : Frames) (xs : List (Bor (List ℕ))) (u : List Symbol) (t : Symbol) → AfterSymbols (u ++ t ∷ []) (tags xs) (state (stack_of new) after)
+    → IfErr r (λ why. IsPassed why (state (stack_of new) after)) → Advances new xs (answered (reached r after) t.line) u t
+limited (Ok _) after new xs u t b over = b
+limited (Err why) after new xs u t b over = limit_told why new xs u t (tags xs) (state (stack_of new) after) b over
 
 -- a fault that is told at one of the symbols
 pub told_of : (r : Refused SourceFault) (new : Frames) (xs : List (Bor (List ℕ))) (ts : List Token) (i : ℕ) (t : Token) (end : ℕ) (opens : List (List ℕ)) (x : State) → i < length ts → t ≡ get_or ts i t

@@ -3,7 +3,7 @@ use Rattle.std.specs.Prelude.{ℕ, zero, suc, ◌≡◌, ◌⊎◌, Option, Some
 use Rattle.std.specs.Borrow.{Bor}
 use Rattle.bk_base.specs.declared.source_fault.SourceFault.{SourceFault}
 use Rattle.bk_base.specs.declared.source_fault.SourceKind.{SourceKind}
-use Rattle.bk_base.specs.declared.source_fault.SourceKind.TheVariants.{UnexpectedSymbol, NestedTooDeeply, TooManyNodes}
+use Rattle.bk_base.specs.declared.source_fault.SourceKind.TheVariants.{UnexpectedSymbol, WrongSectionTag, NestedTooDeeply, TooManyNodes}
 use Rattle.bk_base.specs.declared.refused.Refused.{Refused}
 use Rattle.bk_base.specs.declared.refused.Refused.TheVariants.{Fault, Memory, Device}
 use Rattle.bk_lex.specs.Symbol.{Symbol}
@@ -12,9 +12,12 @@ use Rattle.bk_syntax.specs.declared.frames.Frames.{Frames}
 use Rattle.bk_syntax.specs.declared.frame.Now.{Now}
 use Rattle.bk_syntax.specs.declared.frame.Stop.{Stop}
 use Rattle.bk_syntax.specs.declared.frame.Stop.TheVariants as s
+use Rattle.bk_syntax.specs.declared.why.Why.{Why}
+use Rattle.bk_syntax.specs.declared.why.Why.TheVariants as w
 use Rattle.bk_syntax.specs.declared.section.Section.{Section}
 use Rattle.bk_syntax.specs.Tree.{Declarations, declarations_in, no_declarations}
 use Rattle.bk_syntax.specs.Limits.{Within}
+use Rattle.bk_syntax.specs.Bounds.{Passed}
 use Rattle.bk_syntax.specs.Brackets.{closed_by, in_front, plain}
 use Rattle.bk_syntax.specs.SyntaxFault.{IsSection, Begins, Stands, First, StandsAtEnd}
 use Rattle.bk_syntax.specs.Inner.Machine.{State, due, in_section, step}
@@ -58,11 +61,35 @@ IsLimit NestedTooDeeply = Unit {0}
 IsLimit TooManyNodes = Unit {0}
 IsLimit _ = ⊥
 
--- what a symbol on this line is answered
-abbrev pub refused_at : Result Now Stop → ℕ → Result Now (Refused SourceFault)
-refused_at (Ok now) line = Ok now
-refused_at (Err s.Memory) line = Err Memory
-refused_at (Err s.Unexpected) line = Err (Fault (record { line = line; kind = UnexpectedSymbol }))
+-- what is told of why symbols are refused, on this line
+abbrev pub told : Why → ℕ → Refused SourceFault
+told w.Memory line = Memory
+told w.Unexpected line = Fault (record { line = line; kind = UnexpectedSymbol })
+told w.WrongSectionTag line = Fault (record { line = line; kind = WrongSectionTag })
+told w.NestedTooDeeply line = Fault (record { line = line; kind = NestedTooDeeply })
+told w.TooManyNodes line = Fault (record { line = line; kind = TooManyNodes })
+
+abbrev pub answered : Result Now Why → ℕ → Result Now (Refused SourceFault)
+answered (Ok now) line = Ok now
+answered (Err why) line = Err (told why line)
+
+-- why a symbol is refused, without its line
+abbrev pub why_of : Result Unit Stop → Result Unit Why
+why_of (Ok x) = Ok x
+why_of (Err s.Memory) = Err w.Memory
+why_of (Err s.Unexpected) = Err w.Unexpected
+
+-- what a symbol is answered, where what stands on the frames then is at its place
+abbrev pub reached : {E : Type 0} → Result Unit E → Now → Result Now E
+reached (Ok _) now = Ok now
+reached (Err why) now = Err why
+
+-- the limit that a section passes in this state
+abbrev pub IsPassed : Why → State → Type 0
+IsPassed w.Memory x = Unit {0}
+IsPassed w.NestedTooDeeply x = Passed NestedTooDeeply x
+IsPassed w.TooManyNodes x = Passed TooManyNodes x
+IsPassed _ x = ⊥
 
 -- the answer to a further symbol t behind u
 abbrev pub Advances : Frames → List (Bor (List ℕ)) → Result Now (Refused SourceFault) → List Symbol → Symbol → Type 0

@@ -21,6 +21,7 @@ mod top;
 pub mod tree;
 mod way;
 mod ways;
+mod why;
 
 pub use laws::{
     begins_completes, completes_begins, end_fault_stands, goes_on_begins, have_one_tree,

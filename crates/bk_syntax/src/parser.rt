@@ -1,6 +1,5 @@
 //! The parser: one pass over the symbols, with a list of what was begun.
-ghost use Rattle.std.specs.Prelude.{◌≡◌, ◌<◌, true, false, Some, [], List, length, MatchOption, IfOk};
-ghost use Rattle.bk_base.specs.declared.refused.Refused.TheVariants as Refused;
+ghost use Rattle.std.specs.Prelude.{◌≡◌, ◌<◌, true, false, Some, [], List, length, IfOk, IfErr, OnOk};
 ghost use Rattle.bk_lex.specs.Symbol.{Symbol, symbol_of, symbols_of};
 ghost use Rattle.bk_lex.specs.Values.{upper_name};
 ghost use Rattle.bk_syntax.specs.Tree.{Declarations, expression, action, declarations_in};
@@ -9,10 +8,10 @@ ghost use Rattle.bk_syntax.specs.Rows.{goes};
 ghost use Rattle.bk_syntax.specs.Inner.Machine.{limit, opens, closes, give, finish, without, stepped_by, whole, run, due, in_section};
 ghost use Rattle.bk_syntax.specs.Inner.Begun.{begun_on, held_in};
 ghost use Rattle.bk_syntax.specs.Inner.Frames.{stack_of, state, flow, Steps, Answers, Lowers, Falls};
-ghost use Rattle.bk_syntax.specs.Parsing.{tags, Closes, steps, AfterSymbols, refused_at, IsLimit, Advances, declarations_of, AnswersAtEnd, Parses, Gives};
+ghost use Rattle.bk_syntax.specs.Parsing.{tags, Closes, steps, AfterSymbols, why_of, answered, reached, IsPassed, Advances, declarations_of, AnswersAtEnd, Parses, Gives};
 ghost use Rattle.bk_syntax.specs.SyntaxFault.{IsSection};
 ghost use Rattle.bk_syntax.specs.Limits.{Within};
-ghost use Rattle.bk_syntax.specs.Bounds.{Bounded, Passed};
+ghost use Rattle.bk_syntax.specs.Bounds.{Bounded};
 
 use crate::commands::{again, command, complete_clause, complete_phrase, did, guarded};
 use crate::definitions::{at_place, complete_command, complete_definition, complete_member};
@@ -26,9 +25,11 @@ use crate::spelling::{same_tag, tag};
 use crate::symbols::{closes, goes_on, opens, repeats, starts_command};
 use crate::top::pop;
 use crate::tree::Command;
-use bk_base::{Line, Refused, SourceFault, SourceKind};
+use crate::why::{Why, told};
+use bk_base::{Line, Refused, SourceFault};
 use bk_lex::{Kind, Token};
-use std::alloc::{AllocError, Global};
+use std::alloc::Global;
+use std::mem;
 
 /// An expression is complete in what was begun, with which the symbol behind it does not go on.
 fn complete_part(
@@ -179,11 +180,24 @@ fn step_over(alloc: Global, frames: &mut Frames, token: &Token) -> Result<Now, S
     }
 }
 
-/// The next symbol, a section bracket once for each section that it opens or closes.
-fn step(alloc: Global, frames: &mut Frames, now: Now, token: &Token) -> Result<Now, Stop>
-    ensures { Steps (stack_of frames.new) result (stepped_by (state (stack_of frames.old) now) token.now.line token.now.text.now token.now.kind) }
+/// What stands on the frames now, where a symbol was taken.
+fn stands(now: &mut Now, taken: Result<Now, Stop>) -> Result<(), Stop>
+    ensures { reached result now.new ≡ taken }
 {
-    match now {
+    match taken {
+        Ok(after) => {
+            *now = after;
+            Ok(())
+        }
+        Err(stop) => Err(stop),
+    }
+}
+
+/// Takes the next symbol, a section bracket once for each section that it opens or closes.
+fn step(alloc: Global, frames: &mut Frames, now: &mut Now, token: &Token) -> Result<(), Stop>
+    ensures { Steps (stack_of frames.new) (reached result now.new) (stepped_by (state (stack_of frames.old) now.old) token.now.line token.now.text.now token.now.kind) }
+{
+    let taken = match mem::replace(now, Now::Due) {
         Now::Want => operand(alloc, frames, token),
         Now::Have(sized) => settle(alloc, frames, Flow::Gives(sized), token),
         Now::Begin => command(alloc, frames, token),
@@ -196,7 +210,8 @@ fn step(alloc: Global, frames: &mut Frames, now: Now, token: &Token) -> Result<N
         }
         Now::Did(done) => settle(alloc, frames, Flow::Does(done), token),
         Now::Due => at_place(alloc, frames, token),
-    }
+    };
+    stands(now, taken)
 }
 
 /// How many open sections a `$)` without a tag closes: one, or None where the innermost has a tag.
@@ -239,57 +254,51 @@ fn closings(opened: &[&[u8]], text: &[u8]) -> Option<usize>
     closings_tagged(opened, wanted)
 }
 
-fn fault(line: Line, kind: SourceKind) -> Refused<SourceFault>
-    ensures { result ≡ Refused.Fault (record { line = line; kind = kind }) }
-{
-    Refused::Fault(SourceFault { line, kind })
-}
-
-/// What a symbol on this line is answered.
-fn refused_at(taken: Result<Now, Stop>, line: Line) -> Result<Now, Refused<SourceFault>>
-    ensures { result ≡ refused_at taken line }
+/// Why a symbol is refused, without its line.
+fn why_of(taken: Result<(), Stop>) -> Result<(), Why>
+    ensures { result ≡ why_of taken }
 {
     match taken {
-        Ok(now) => Ok(now),
-        Err(Stop::Memory) => Err(Refused::Memory),
-        Err(Stop::Unexpected) => Err(fault(line, SourceKind::UnexpectedSymbol)),
+        Ok(()) => Ok(()),
+        Err(Stop::Memory) => Err(Why::Memory),
+        Err(Stop::Unexpected) => Err(Why::Unexpected),
     }
 }
 
-/// The symbol, so often.
+/// Takes the symbol, so often.
 fn repeat_step(
     alloc: Global,
     frames: &mut Frames,
-    now: Now,
+    now: &mut Now,
     token: &Token,
     times: usize,
-) -> Result<Now, Stop>
-    ensures { Steps (stack_of frames.new) result (steps times (symbol_of token.now) (state (stack_of frames.old) now)) }
+) -> Result<(), Stop>
+    ensures { Steps (stack_of frames.new) (reached result now.new) (steps times (symbol_of token.now) (state (stack_of frames.old) now.old)) }
 {
-    let mut now = now;
     let mut left = times;
     while left > 0 {
         left -= 1;
         match step(alloc, frames, now, token) {
-            Ok(after) => now = after,
+            Ok(()) => {}
             Err(Stop::Memory) => return Err(Stop::Memory),
             Err(Stop::Unexpected) => return Err(Stop::Unexpected),
         }
     }
-    Ok(now)
+    Ok(())
 }
 
-/// The limit that every section from here on passes.
-fn limit(frames: &Frames, now: &Now) -> Result<Option<SourceKind>, AllocError>
-    ensures { IfOk result (λ told. MatchOption told (Bounded (state (stack_of frames.now) now.now)) (λ kind. IsLimit kind × Passed kind (state (stack_of frames.now) now.now))) }
+/// Whether a section within the limits begins so, or why none does.
+fn limit(frames: &Frames, now: &Now) -> Result<(), Why>
+    ensures bounded { OnOk result (Bounded (state (stack_of frames.now) now.now)) }
+    ensures passed { IfErr result (λ why. IsPassed why (state (stack_of frames.now) now.now)) }
 {
     if is_bounded(frames, now)? {
-        return Ok(None);
+        return Ok(());
     }
     if is_bounded_in_depth(frames, now)? {
-        return Ok(Some(SourceKind::TooManyNodes));
+        return Err(Why::TooManyNodes);
     }
-    Ok(Some(SourceKind::NestedTooDeeply))
+    Err(Why::NestedTooDeeply)
 }
 
 /// A `$)`: it closes sections, each as a `$)` without a tag.
@@ -297,18 +306,18 @@ fn close<'a>(
     alloc: Global,
     frames: &mut Frames,
     opened: &mut Vec<&'a [u8]>,
-    now: Now,
+    now: &mut Now,
     token: &Token<'a>,
-) -> Result<Now, Refused<SourceFault>>
+) -> Result<(), Why>
     requires { closes token.now.kind ≡ true }
-    ensures { (u : List Symbol) → AfterSymbols u (tags opened.old.items) (state (stack_of frames.old) now) → Advances frames.new opened.new.items result u (symbol_of token.now) }
+    ensures { (u : List Symbol) → AfterSymbols u (tags opened.old.items) (state (stack_of frames.old) now.old) → Advances frames.new opened.new.items (answered (reached result now.new) token.now.line) u (symbol_of token.now) }
 {
     match closings(opened.as_slice(), token.text) {
         Some(times) => {
             opened.truncate(opened.len().saturating_sub(times));
-            refused_at(repeat_step(alloc, frames, now, token, times), token.line)
+            why_of(repeat_step(alloc, frames, now, token, times))
         }
-        None => Err(fault(token.line, SourceKind::WrongSectionTag)),
+        None => Err(Why::WrongSectionTag),
     }
 }
 
@@ -317,15 +326,15 @@ fn open_section<'a>(
     alloc: Global,
     frames: &mut Frames,
     opened: &mut Vec<&'a [u8]>,
-    now: Now,
+    now: &mut Now,
     token: &Token<'a>,
-) -> Result<Now, Refused<SourceFault>>
+) -> Result<(), Why>
     requires { opens token.now.kind ≡ true }
-    ensures { (u : List Symbol) → AfterSymbols u (tags opened.old.items) (state (stack_of frames.old) now) → Advances frames.new opened.new.items result u (symbol_of token.now) }
+    ensures { (u : List Symbol) → AfterSymbols u (tags opened.old.items) (state (stack_of frames.old) now.old) → Advances frames.new opened.new.items (answered (reached result now.new) token.now.line) u (symbol_of token.now) }
 {
     match opened.push(tag(token.text)) {
-        Ok(()) => refused_at(repeat_step(alloc, frames, now, token, 1), token.line),
-        Err(_) => Err(Refused::Memory),
+        Ok(()) => why_of(repeat_step(alloc, frames, now, token, 1)),
+        Err(_) => Err(Why::Memory),
     }
 }
 
@@ -334,10 +343,10 @@ fn take<'a>(
     alloc: Global,
     frames: &mut Frames,
     opened: &mut Vec<&'a [u8]>,
-    now: Now,
+    now: &mut Now,
     token: &Token<'a>,
-) -> Result<Now, Refused<SourceFault>>
-    ensures { (u : List Symbol) → AfterSymbols u (tags opened.old.items) (state (stack_of frames.old) now) → Advances frames.new opened.new.items result u (symbol_of token.now) }
+) -> Result<(), Why>
+    ensures { (u : List Symbol) → AfterSymbols u (tags opened.old.items) (state (stack_of frames.old) now.old) → Advances frames.new opened.new.items (answered (reached result now.new) token.now.line) u (symbol_of token.now) }
 {
     if closes(token.kind) {
         return close(alloc, frames, opened, now, token);
@@ -345,28 +354,22 @@ fn take<'a>(
     if opens(token.kind) {
         return open_section(alloc, frames, opened, now, token);
     }
-    refused_at(repeat_step(alloc, frames, now, token, 1), token.line)
+    why_of(repeat_step(alloc, frames, now, token, 1))
 }
 
-/// What stands on the frames behind the next symbol.
+/// Takes the next symbol, behind which this stands on the frames.
 fn advance<'a>(
     alloc: Global,
     frames: &mut Frames,
     opened: &mut Vec<&'a [u8]>,
-    now: Now,
+    now: &mut Now,
     token: &Token<'a>,
-) -> Result<Now, Refused<SourceFault>>
-    ensures bounded { IfOk result (λ now. Bounded (state (stack_of frames.new) now)) }
-    ensures goes { (u : List Symbol) → AfterSymbols u (tags opened.old.items) (state (stack_of frames.old) now) → Advances frames.new opened.new.items result u (symbol_of token.now) }
+) -> Result<(), Why>
+    ensures bounded { OnOk result (Bounded (state (stack_of frames.new) now.new)) }
+    ensures goes { (u : List Symbol) → AfterSymbols u (tags opened.old.items) (state (stack_of frames.old) now.old) → Advances frames.new opened.new.items (answered (reached result now.new) token.now.line) u (symbol_of token.now) }
 {
-    match take(alloc, frames, opened, now, token) {
-        Ok(after) => match limit(frames, &after) {
-            Ok(Some(kind)) => Err(fault(token.line, kind)),
-            Ok(None) => Ok(after),
-            Err(_) => Err(Refused::Memory),
-        },
-        Err(refused) => Err(refused),
-    }
+    take(alloc, frames, opened, now, token)?;
+    limit(frames, now)
 }
 
 /// The section, if it is whole here, where its end is on this line.
@@ -385,9 +388,9 @@ fn whole(frames: Frames, now: Now, end: Line) -> Result<Section, Refused<SourceF
             if above.is_empty() {
                 return Ok(Section::new(decls));
             }
-            Err(fault(end, SourceKind::UnexpectedSymbol))
+            Err(told(Why::Unexpected, end))
         }
-        _ => Err(fault(end, SourceKind::UnexpectedSymbol)),
+        _ => Err(told(Why::Unexpected, end)),
     }
 }
 
@@ -402,15 +405,16 @@ fn at_end(
     ensures { AnswersAtEnd result (run [] (state (stack_of frames) now)) end }
 {
     let mut frames = frames;
+    let mut now = now;
     let last = Token {
         kind: Kind::Semicolon,
         line: Line::first(),
         text: &[],
     };
-    match step(alloc, &mut frames, now, &last) {
-        Ok(now) => whole(frames, now, end),
+    match step(alloc, &mut frames, &mut now, &last) {
+        Ok(()) => whole(frames, now, end),
         Err(Stop::Memory) => Err(Refused::Memory),
-        Err(Stop::Unexpected) => Err(fault(end, SourceKind::UnexpectedSymbol)),
+        Err(Stop::Unexpected) => Err(told(Why::Unexpected, end)),
     }
 }
 
@@ -434,9 +438,8 @@ pub fn parse(alloc: Global, tokens: &[Token], end: Line) -> Result<Section, Refu
     let mut opened = Vec::new(alloc);
     let mut now = Now::Due;
     for token in tokens {
-        match advance(alloc, &mut frames, &mut opened, now, token) {
-            Ok(after) => now = after,
-            Err(refused) => return Err(refused),
+        if let Err(why) = advance(alloc, &mut frames, &mut opened, &mut now, token) {
+            return Err(told(why, token.line));
         }
     }
     at_end(alloc, frames, now, end)

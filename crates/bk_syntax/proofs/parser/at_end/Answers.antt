@@ -23,5 +23,5 @@ returns-in-Ok c =
 pub returns : goal.returns
 returns c =
     let x = state (stack_of c.args.frames) c.args.now in
-    ends_wrong _ _ _ c.fault.ensures (run_end x ∙ ap (λ (l : ℕ). whole (stepped_by x l [] k.Semicolon)) (sym c.first.ensures)
+    ends_wrong _ _ _ c.told.ensures (run_end x ∙ ap (λ (l : ℕ). whole (stepped_by x l [] k.Semicolon)) (sym c.first.ensures)
     ∙ ap whole (rw c.in-Err-Unexpected.field-0-is at c.in-Err-Unexpected.ensures))

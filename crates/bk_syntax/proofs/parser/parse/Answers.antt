@@ -1,7 +1,7 @@
 use Rattle.std.proofs.Common.{Err, take, arith}
 use Rattle.bk_lex.specs.Symbol.{symbols_of}
 use Rattle.bk_syntax.specs.Inner.Frames.{stack_of, state}
-use Rattle.bk_syntax.specs.Parsing.{tags}
+use Rattle.bk_syntax.specs.Parsing.{tags, told}
 use Rattle.bk_syntax.proofs.Behind.{from_nothing, one_further, all_read}
 use Rattle.bk_syntax.proofs.Told.{told_of, ended, gives_only}
 use Rattle.bk_syntax.proofs.Finished.{empty_bounded, within_limits}
@@ -16,20 +16,22 @@ loop-token-init c = (
 pub loop-token-preserved : goal.loop-token-preserved
 loop-token-preserved c =
     let ts = c.args.tokens.now in
-    let i = c.loop-token.token-index in (
-      one_further ts i c.token-item.result (tags c.advance.new.opened.items) (state (stack_of c.advance.new.frames) c.in-Ok.after) c.loop-token-test.true c.token-item.is
-          (c.in-Ok.ensures.goes (symbols_of (take i ts)) c.loop-token.invariant.0),
-      c.in-Ok.ensures.bounded,
+    let i = c.loop-token.token-index in
+    let further = rw c.in_default.is at c.advance.ensures in (
+      one_further ts i c.token-item.result (tags c.advance.new.opened.items) (state (stack_of c.advance.new.frames) c.advance.new.now) c.loop-token-test.true c.token-item.is
+          (further.goes (symbols_of (take i ts)) c.loop-token.invariant.0),
+      further.bounded,
     )
 
 pub returns-in-Err : goal.returns-in-Err
 returns-in-Err c =
     let ts = c.args.tokens.now in
     let i = c.loop-token.token-index in
-    let p = told_of c.in-Err.refused c.advance.new.frames c.advance.new.opened.items ts i c.token-item.result c.args.end
+    let r = told c.in-Err.why c.token-item.result.line in
+    let p = told_of r c.advance.new.frames c.advance.new.opened.items ts i c.token-item.result c.args.end
     (tags c.loop-token.opened.items) (state (stack_of c.loop-token.frames) c.loop-token.now) c.loop-token-test.true c.token-item.is c.loop-token.invariant.0 c.loop-token.invariant.1
     (c.in-Err.ensures.goes (symbols_of (take i ts)) c.loop-token.invariant.0) in
-    record { parses = p; within = tt; only = gives_only (Err c.in-Err.refused) (symbols_of ts) c.args.end p }
+    rw c.told.ensures (record { parses = p; within = tt; only = gives_only (Err r) (symbols_of ts) c.args.end p })
 
 pub returns : goal.returns
 returns c =

@@ -22,4 +22,4 @@ pub returns-in-Due : goal.returns-in-Due
 returns-in-Due c =
     let x = c.args.frames in
     let some : 0 < vec_len x.above = is_more _ _ c.is_empty.ensures c.if-is_empty.false in
-    ends_wrong _ _ _ c.fault.ensures (ap (λ n. whole (Some (state (stack_of x) n))) c.in-Due.is ∙ not_whole x.decls.items x.above.items (omega (arith, some)))
+    ends_wrong _ _ _ c.told.ensures (ap (λ n. whole (Some (state (stack_of x) n))) c.in-Due.is ∙ not_whole x.decls.items x.above.items (omega (arith, some)))
