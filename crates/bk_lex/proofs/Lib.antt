@@ -27,5 +27,6 @@ pub mod BesideGet
 pub mod Ranks
 pub mod Earliest
 pub mod Certain
+pub mod LeastRooms
 pub mod Letters
 pub mod WordsNamed

@@ -1,5 +1,5 @@
 //! The machine with what it counts beside the pieces: bytes and symbols, what stands between neighbours, and GET.
-ghost use Rattle.std.specs.Prelude.{◌≡◌, true, Ok};
+ghost use Rattle.std.specs.Prelude.{◌≡◌, nat_lt, true, Ok};
 ghost use Rattle.bk_lex.specs.Bytes.{is_blank};
 ghost use Rattle.bk_lex.specs.Insertion.{ends_operand, ends_command, begins_command, begins_statement, inserted};
 ghost use Rattle.bk_lex.specs.Machine.{next};
@@ -247,12 +247,24 @@ fn least_room(state: State, mode: Mode) -> u32
     }
 }
 
+/// The most symbols that a piece is for certain.
+const MOST_ROOM: u32 = 2;
+
+/// Whether a piece that begins so is more symbols than the section may have. Most sections may have many more, so that how
+/// many the piece is need not be known.
+#[inline(always)]
+fn has_no_room(state: State, mode: Mode) -> bool
+    ensures { result ≡ nat_lt state.symbols (least_room state mode) }
+{
+    state.symbols < MOST_ROOM && state.symbols < least_room(state, mode)
+}
+
 /// The state behind the first byte of a piece.
 #[inline(always)]
 fn begun(state: State, mode: Mode, byte: u8) -> Result<State, Fault>
     ensures { result ≡ begun state mode byte }
 {
-    if least_room(state, mode) > state.symbols {
+    if has_no_room(state, mode) {
         return Err(Fault::SectionTooLong);
     }
     let mode = if state.get { in_get(mode)? } else { mode };
