@@ -17,19 +17,20 @@ pub const SECTION_BYTES: u32 = 1_048_576;
 /// The most symbols of a section, those of the header and the inserted ones counted.
 pub const SECTION_SYMBOLS: u32 = 262_144;
 
-/// Where the machine is in a section.
+/// Where the machine is in a section. The fields of a byte stand apart: the compiler keeps those that stand together in one
+/// word, and takes them out of it and puts them back at each byte.
 #[derive(Clone, Copy, Debug, PartialEq, Eq)]
 pub struct State {
     /// What the bytes since the last piece are.
     pub mode: Mode,
-    /// How many bytes more the section may have.
-    pub bytes: u32,
-    /// How many symbols more the section may have.
-    pub symbols: u32,
     /// The last symbol.
     pub last: Option<Kind>,
+    /// How many bytes more the section may have.
+    pub bytes: u32,
     /// Whether a line feed came since the last symbol.
     pub fed: bool,
+    /// How many symbols more the section may have.
+    pub symbols: u32,
     /// Whether the string of a GET is due, or has begun.
     pub get: bool,
 }
