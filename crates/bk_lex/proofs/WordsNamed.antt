@@ -1,5 +1,5 @@
 -- A word is found by its code where its letters are.
-use Rattle.std.proofs.Common.{◌≡◌, ℕ, ◌+◌, ◌-◌, ◌*◌, ◌%◌, ◌^◌, ◌<◌, ◌≤◌, Bool, true, false, cond, ◌&&◌, eqb, ltb, List, [], ◌∷◌, map, refl, sym, ap, subst, ◌∙◌, arith, inl, inr}
+use Rattle.std.proofs.Common.{◌≡◌, ℕ, ◌+◌, ◌-◌, ◌*◌, ◌%◌, ◌^◌, ◌<◌, ◌≤◌, Bool, true, false, cond, ◌&&◌, eqb, ltb, List, [], ◌∷◌, map, refl, sym, ap, ◌∙◌, arith}
 use Rattle.std.specs.List.{list_all}
 use Rattle.std.specs.Str.{bytes_eq}
 use Rattle.std.specs.Char.{to_ascii_uppercase}
@@ -11,7 +11,7 @@ use Rattle.bk_lex.specs.Bytes.{is_letter, is_name_byte}
 use Rattle.bk_lex.specs.Pieces.{IsWord}
 use Rattle.bk_lex.specs.declared.reserved.What.{What}
 use Rattle.bk_lex.specs.ReservedWords.{Reserved, reserved_words, find_letters, word_named}
-use Rattle.bk_lex.specs.Reserved.{Entry, coded, code_from, word_code, coded_word, find_word, word_what}
+use Rattle.bk_lex.specs.Reserved.{coded, code_from, word_code, coded_word, find_word, word_what}
 use Rattle.bk_lex.proofs.Modes.{and_both}
 use Rattle.bk_lex.proofs.Letters.{same_letters}
 
