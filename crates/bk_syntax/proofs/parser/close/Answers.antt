@@ -1,4 +1,4 @@
-use Rattle.std.proofs.Common.{Result, Err, refl, sym, subst, arith}
+use Rattle.std.proofs.Common.{Result, refl, sym, subst, arith}
 use Rattle.bk_lex.specs.Symbol.{symbol_of}
 use Rattle.bk_syntax.specs.declared.why.Why.{Why}
 use Rattle.bk_syntax.specs.Inner.Frames.{stack_of, state}
