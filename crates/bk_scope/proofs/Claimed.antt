@@ -79,17 +79,16 @@ same-turned (found.setting g) (found.choosing m v) = refl
 same-turned (found.setting g) (found.defaulting m) = refl
 same-turned (found.setting g) (found.setting h) = turned g h
 
-any-listed : (k : Listed) (ls : List Listed) → list_any (is_at (listed.it k)) ls ≡ list_any (λ l. same_claim (listed_of k) (listed_of l)) ls
-any-listed k [] = refl
-any-listed k (l ∷ ls) = ap (λ b. b || list_any (is_at (listed.it k)) ls) (listed-is-same k l) ∙ ap (λ b. same_claim (listed_of k) (listed_of l) || b) (any-listed k ls)
+any-alike : {A : Type 0} (f g : A → Bool) → ((x : A) → f x ≡ g x) → (xs : List A) → list_any f xs ≡ list_any g xs
+any-alike f g alike [] = refl
+any-alike f g alike (x ∷ xs) = ap (λ b. b || list_any f xs) (alike x) ∙ ap (λ b. g x || b) (any-alike f g alike xs)
 
-any-same : (c : Claim) (ks : List Claim) → list_any (is_at (cmp-value.it c)) ks ≡ list_any (λ d. same_claim (claim_of c) (claim_of d)) ks
-any-same c [] = refl
-any-same c (d ∷ ds) = ap (λ b. b || list_any (is_at (cmp-value.it c)) ds) (equal-is-same c d) ∙ ap (λ b. same_claim (claim_of c) (claim_of d) || b) (any-same c ds)
+any-same : (c : Claim) (ds : List Claim) → list_any (is_at (cmp-value.it c)) ds ≡ list_any (λ d. same_claim (claim_of c) (claim_of d)) ds
+any-same c ds = any-alike (is_at (cmp-value.it c)) (λ d. same_claim (claim_of c) (claim_of d)) (equal-is-same c) ds
 
 -- names in lists are where the set has them
 pub listed-had : (s : ClaimSet) (k : Listed) → contains listed.it s.listed k ≡ has s (Naming k.list k.name)
-listed-had s k = any-listed k s.listed.keys
+listed-had s k = any-alike (is_at (listed.it k)) (λ l. same_claim (listed_of k) (listed_of l)) (listed-is-same k) s.listed.keys
 
 -- a claim that is no name in a list
 abbrev pub IsOther : Claim → Type 0
