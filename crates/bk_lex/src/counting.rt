@@ -17,8 +17,10 @@ pub const SECTION_BYTES: u32 = 1_048_576;
 /// The most symbols of a section, those of the header and the inserted ones counted.
 pub const SECTION_SYMBOLS: u32 = 262_144;
 
-/// Where the machine is in a section. The fields of a byte stand apart: the compiler keeps those that stand together in one
-/// word, and takes them out of it and puts them back at each byte.
+/// Where the machine is in a section.
+///
+/// No two fields of one byte stand side by side. The compiler would keep those in one word, take it apart, and put it together
+/// again, at each byte of the text.
 #[derive(Clone, Copy, Debug, PartialEq, Eq)]
 pub struct State {
     /// What the bytes since the last piece are.

@@ -74,6 +74,7 @@ limit_told w.TooManyNodes new xs u t opens x b over = (refl, limit_stands TooMan
 limit_told w.Unexpected new xs u t opens x b over = absurd over
 limit_told w.WrongSectionTag new xs u t opens x b over = absurd over
 
+-- what is answered where the limits were looked at behind a symbol
 pub limited : (r : Result Unit Why) (after : Now) (new : Frames) (xs : List (Bor (List ℕ))) (u : List Symbol) (t : Symbol) → AfterSymbols (u ++ t ∷ []) (tags xs) (state (stack_of new) after)
     → IfErr r (λ why. IsPassed why (state (stack_of new) after)) → Advances new xs (answered (reached r after) t.line) u t
 limited (Ok _) after new xs u t b over = b

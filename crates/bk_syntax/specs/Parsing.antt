@@ -69,6 +69,7 @@ told w.WrongSectionTag line = Fault (record { line = line; kind = WrongSectionTa
 told w.NestedTooDeeply line = Fault (record { line = line; kind = NestedTooDeeply })
 told w.TooManyNodes line = Fault (record { line = line; kind = TooManyNodes })
 
+-- what a symbol on this line is answered
 abbrev pub answered : Result Now Why → ℕ → Result Now (Refused SourceFault)
 answered (Ok now) line = Ok now
 answered (Err why) line = Err (told why line)

@@ -357,7 +357,7 @@ fn take<'a>(
     why_of(repeat_step(alloc, frames, now, token, 1))
 }
 
-/// Takes the next symbol, behind which this stands on the frames.
+/// Takes the next symbol, behind which a section within the limits goes on.
 fn advance<'a>(
     alloc: Global,
     frames: &mut Frames,
