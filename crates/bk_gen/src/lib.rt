@@ -7,6 +7,7 @@ mod operator;
 mod parts;
 mod pending;
 pub mod plain;
+mod push;
 mod section;
 mod segment;
 mod statement;

@@ -1,17 +1,24 @@
 //! The table of a switch.
-ghost use Rattle.std.specs.Prelude.{◌≡◌, ◌<◌, ◌^◌, ◌++◌, OnOk, length, take};
+ghost use Rattle.std.specs.Prelude.{◌≡◌, ◌<◌, ◌^◌, ◌++◌, ◌∷◌, [], OnOk, length, take};
 ghost use Rattle.bk_gen.specs.PlainCode.{pairs, table};
 
+use crate::push::push_two;
 use bk_intcode::Item;
 use bk_ocode::Case;
 use std::alloc::AllocError;
+
+/// A value, and its label.
+fn push_pair(items: &mut Vec<Item>, case: Case) -> Result<(), AllocError>
+    ensures { OnOk result (items.new.items ≡ items.old.items ++ pairs (case ∷ [])) }
+{
+    push_two(items, Item::Word(case.value), Item::LabelWord(case.label))
+}
 
 fn push_pairs(items: &mut Vec<Item>, cases: &[Case]) -> Result<(), AllocError>
     ensures { OnOk result (items.new.items ≡ items.old.items ++ pairs cases.now) }
 {
     for case in cases {
-        items.push(Item::Word(case.value))?;
-        items.push(Item::LabelWord(case.label))?;
+        push_pair(items, *case)?;
     }
     Ok(())
 }
