@@ -4,7 +4,7 @@ use bk_base::{End, Reader512, Writer512};
 use bk_gen::{generate, plain};
 use bk_intcode::{Intcode, LoadFault, Machine};
 use bk_ocode::{Ocode, read_section};
-use std::alloc::Global;
+use std::alloc::{AllocError, Global};
 use std::process::Abort;
 use std::test::Fail;
 
@@ -21,18 +21,35 @@ fn section_of(alloc: Global, text: &[u8]) -> Result<Ocode, Fail> {
     }
 }
 
+/// The segment of a section, by one of the generators.
+fn segment_of(alloc: Global, section: &Ocode, keeps: bool) -> Result<Intcode, AllocError> {
+    if keeps {
+        generate(alloc, section)
+    } else {
+        plain::generate(alloc, section)
+    }
+}
+
+/// The segment of a text's first section.
+fn segment_of_text(alloc: Global, text: &[u8], keeps: bool) -> Result<Intcode, Fail> {
+    let section = section_of(alloc, text)?;
+    Ok(segment_of(alloc, &section, keeps)?)
+}
+
 /// The segments of sections, one a text, by one of the generators.
 fn segments_of(alloc: Global, texts: &[&[u8]], keeps: bool) -> Result<Vec<Intcode>, Fail> {
     let mut segments = Vec::new(alloc);
     for text in texts {
-        let section = section_of(alloc, text)?;
-        segments.push(if keeps {
-            generate(alloc, &section)?
-        } else {
-            plain::generate(alloc, &section)?
-        })?;
+        segments.push(segment_of_text(alloc, text, keeps)?)?;
     }
     Ok(segments)
+}
+
+/// Runs a machine, and answers what it ends with.
+fn end_of(machine: &mut Machine, steps: u64, input: &[u8], bytes: &mut Vec<u8>) -> End {
+    let mut input = Reader512::new(input);
+    let mut out = Writer512::new(bytes);
+    machine.run(steps, &mut input, &mut out)
 }
 
 /// Runs sections by one of the generators, and compares what they end with and what they write.
@@ -48,11 +65,8 @@ fn runs_by(
 ) -> Result<(), Fail> {
     let segments = segments_of(alloc, texts, keeps)?;
     let mut machine = Machine::load(alloc, &segments, WORDS)?;
-    let mut input = Reader512::new(input);
     let mut bytes = Vec::new(alloc);
-    let mut out = Writer512::new(&mut bytes);
-    assert_eq!(rt; machine.run(steps, &mut input, &mut out), end);
-    drop(out);
+    assert_eq!(rt; end_of(&mut machine, steps, input, &mut bytes), end);
     assert_eq!(rt; bytes.as_slice(), output);
     Ok(())
 }
@@ -350,21 +364,26 @@ fn frames(rt: HostRuntime) -> Result<(), Fail> {
 }
 
 /// Three of the sections above, in which items stay pending.
+static PENDING: [&[u8]; 3] = [
+    b"ENTRY L1 5 83 84 65 82 84 SAVE 2 LN 1 LN 3 STORE JUMP L2 LAB L3 STACK 6 LP 2 LG 7 RTAP 4 LAB L4 LP 2 LN 1 PLUS SP 2 \
+        LAB L2 LP 2 LP 3 LE JT L3 LAB L5 STACK 2 RTRN ENDPROC GLOBAL 1 1 L1",
+    b"ENTRY L1 0 SAVE 2 LSTR 2 72 73 STORE STACK 5 LP 2 LN 2 GETBYTE LG 4 RTAP 3 LN 74 LP 2 LN 1 PUTBYTE STACK 5 LP 2 LG 6 \
+        RTAP 3 RTRN ENDPROC GLOBAL 1 1 L1",
+    b"ENTRY L1 6 68 79 85 66 76 69 SAVE 3 LP 2 LP 2 PLUS FNRN ENDPROC GLOBAL 1 100 L1",
+];
+
+/// How many items come of a text's first section.
+fn count(alloc: Global, text: &[u8], keeps: bool) -> Result<usize, Fail> {
+    let segment = segment_of_text(alloc, text, keeps)?;
+    Ok(segment.items().len())
+}
+
 #[test]
 fn fewer_items(rt: HostRuntime) -> Result<(), Fail> {
-    for text in [
-        b"ENTRY L1 5 83 84 65 82 84 SAVE 2 LN 1 LN 3 STORE JUMP L2 LAB L3 STACK 6 LP 2 LG 7 RTAP 4 LAB L4 LP 2 LN 1 PLUS SP 2 \
-        LAB L2 LP 2 LP 3 LE JT L3 LAB L5 STACK 2 RTRN ENDPROC GLOBAL 1 1 L1"
-            .as_slice(),
-        b"ENTRY L1 0 SAVE 2 LSTR 2 72 73 STORE STACK 5 LP 2 LN 2 GETBYTE LG 4 RTAP 3 LN 74 LP 2 LN 1 PUTBYTE STACK 5 LP 2 LG 6 \
-        RTAP 3 RTRN ENDPROC GLOBAL 1 1 L1"
-            .as_slice(),
-        b"ENTRY L1 6 68 79 85 66 76 69 SAVE 3 LP 2 LP 2 PLUS FNRN ENDPROC GLOBAL 1 100 L1".as_slice(),
-    ] {
-        let section = section_of(rt.alloc(), text)?;
-        let kept = generate(rt.alloc(), &section)?;
-        let plain = plain::generate(rt.alloc(), &section)?;
-        assert!(rt; kept.items().len() < plain.items().len());
+    for text in &PENDING {
+        let kept = count(rt.alloc(), text, true)?;
+        let plain = count(rt.alloc(), text, false)?;
+        assert!(rt; kept < plain);
     }
     Ok(())
 }

@@ -118,25 +118,37 @@ fn each_beginning(rt: HostRuntime) -> Result<(), Fail> {
     Ok(())
 }
 
+/// First bytes of long words, with the fault.
+static FIRSTS: [(u8, IntcodeKind); 6] = [
+    (b'1', IntcodeKind::BadNumber),
+    (b'C', IntcodeKind::BadNumber),
+    (b'G', IntcodeKind::BadNumber),
+    (b'Z', IntcodeKind::BadNumber),
+    (b'-', IntcodeKind::BadLetter),
+    (b'z', IntcodeKind::BadLetter),
+];
+
+/// A word of so many bytes, all `1` but the first, and another one.
+fn long_word(rt: &HostRuntime, first: u8, len: usize) -> Result<Vec<u8>, Fail> {
+    let mut text = vec![in rt.alloc(); b'1'; len]?;
+    if !text.is_empty() {
+        text[0] = first;
+    }
+    text.extend_from_slice(b" Z")?;
+    Ok(text)
+}
+
 #[test]
 fn long_words(rt: HostRuntime) -> Result<(), Fail> {
     for len in [16, 17, 100_000] {
-        for (first, kind) in [
-            (b'1', IntcodeKind::BadNumber),
-            (b'C', IntcodeKind::BadNumber),
-            (b'G', IntcodeKind::BadNumber),
-            (b'Z', IntcodeKind::BadNumber),
-            (b'-', IntcodeKind::BadLetter),
-            (b'z', IntcodeKind::BadLetter),
-        ] {
-            let mut text = vec![in rt.alloc(); b'1'; len]?;
-            if !text.is_empty() {
-                text[0] = first;
-            }
-            text.extend_from_slice(b" Z")?;
+        for (first, kind) in &FIRSTS {
+            let text = long_word(&rt, *first, len)?;
             assert_eq!(rt;
                 count(&rt, text.as_slice()),
-                Err(Refused::Fault(IntcodeFault { item: 1, kind }))
+                Err(Refused::Fault(IntcodeFault {
+                    item: 1,
+                    kind: *kind
+                }))
             );
         }
     }

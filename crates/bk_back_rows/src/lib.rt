@@ -3,11 +3,19 @@
 #![tactic(auto)]
 
 #[cfg(test)]
+mod base_rows;
+#[cfg(test)]
 mod code_rows;
 pub mod devices;
 #[cfg(test)]
 mod intcode_rows;
 #[cfg(test)]
+mod machine_rows;
+#[cfg(test)]
 mod ocode_rows;
 #[cfg(test)]
 mod program_rows;
+#[cfg(test)]
+mod run_rows;
+#[cfg(test)]
+mod store_rows;

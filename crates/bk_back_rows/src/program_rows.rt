@@ -61,6 +61,34 @@ fn segment_of(rt: &HostRuntime, text: &[u8]) -> Result<Intcode, Refused<IntcodeF
     }
 }
 
+/// How many items the segment of a text has.
+fn count(rt: &HostRuntime, text: &[u8]) -> Result<usize, Refused<IntcodeFault>> {
+    let segment = segment_of(rt, text)?;
+    Ok(segment.items().len())
+}
+
+/// Writes a segment as text, and says whether all was written.
+fn put(segment: &Intcode, text: &mut Vec<u8>) -> bool {
+    let mut out = Writer512::new(text);
+    print(segment, &mut out).is_ok() && out.flush().is_ok()
+}
+
+/// Whether a text has just the items of this segment.
+fn has_items(rt: &HostRuntime, text: &[u8], segment: &Intcode) -> bool {
+    match segment_of(rt, text) {
+        Ok(again) => again.items() == segment.items(),
+        Err(_) => false,
+    }
+}
+
+/// Whether this text is what a segment is printed as, and has its items.
+fn prints_as(rt: &HostRuntime, segment: &Intcode, text: &[u8]) -> bool {
+    let mut printed = Vec::new(rt.alloc());
+    put(segment, &mut printed)
+        && printed.as_slice() == text
+        && has_items(rt, printed.as_slice(), segment)
+}
+
 #[test]
 fn read_printed_and_read_again(rt: HostRuntime) -> Result<(), Fail> {
     for (text, items) in [(FIB, 41), (QUEENS, 104), (SIEVE, 105), (SORT, 245)] {
@@ -68,18 +96,18 @@ fn read_printed_and_read_again(rt: HostRuntime) -> Result<(), Fail> {
             return Err(Fail::from("not read"));
         };
         assert_eq!(rt; segment.items().len(), items);
-        let mut printed = Vec::new(rt.alloc());
-        let mut out = Writer512::new(&mut printed);
-        assert!(rt; print(&segment, &mut out).is_ok());
-        assert!(rt; out.flush().is_ok());
-        drop(out);
-        assert_eq!(rt; printed.as_slice(), text);
-        let Ok(again) = segment_of(&rt, printed.as_slice()) else {
-            return Err(Fail::from("not read again"));
-        };
-        assert_eq!(rt; again.items(), segment.items());
+        assert!(rt; prints_as(&rt, &segment, text));
     }
     Ok(())
+}
+
+/// Whether a segment is printed, at once or at a second try, on a device that fails behind so many bytes.
+fn prints_short(segment: &Intcode, passed: &mut Vec<u8>, room: usize) -> bool {
+    let mut out = Writer512::new(Short {
+        bytes: passed,
+        room,
+    });
+    (print(segment, &mut out).is_ok() && out.flush().is_ok()) || print(segment, &mut out).is_ok()
 }
 
 #[test]
@@ -89,14 +117,7 @@ fn a_write_that_fails(rt: HostRuntime) -> Result<(), Fail> {
     };
     for room in 0..FIB.len() {
         let mut passed = Vec::new(rt.alloc());
-        let mut out = Writer512::new(Short {
-            bytes: &mut passed,
-            room,
-        });
-        let printed = print(&segment, &mut out).is_ok() && out.flush().is_ok();
-        assert!(rt; !printed);
-        assert!(rt; print(&segment, &mut out).is_err());
-        drop(out);
+        assert!(rt; !prints_short(&segment, &mut passed, room));
         assert_eq!(rt; Some(passed.as_slice()), FIB.get(..room));
     }
     Ok(())
@@ -104,8 +125,8 @@ fn a_write_that_fails(rt: HostRuntime) -> Result<(), Fail> {
 
 #[test]
 fn no_memory_or_the_segment(rt: HostRuntime) -> Result<(), Fail> {
-    match segment_of(&rt, QUEENS) {
-        Ok(segment) => assert_eq!(rt; segment.items().len(), 104),
+    match count(&rt, QUEENS) {
+        Ok(items) => assert_eq!(rt; items, 104),
         Err(refused) => assert_eq!(rt; refused, Refused::Memory),
     }
     Ok(())

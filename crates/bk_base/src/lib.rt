@@ -10,8 +10,6 @@ mod reader;
 mod refused;
 mod run_end;
 mod source_fault;
-#[cfg(test)]
-mod tests;
 pub mod word;
 mod writer;
 

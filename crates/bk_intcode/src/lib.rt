@@ -13,14 +13,10 @@ mod output;
 mod packing;
 mod registers;
 mod run;
-#[cfg(test)]
-mod run_tests;
 mod segment;
 mod step;
 mod store;
 mod tell;
-#[cfg(test)]
-mod tests;
 
 pub use item::{Function, Item, Operand};
 pub use laws::{

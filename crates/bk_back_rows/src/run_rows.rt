@@ -1,7 +1,7 @@
 //! Each operator on two numbers, and runs whose devices fail.
-use crate::machine::Machine;
-use crate::tests::{MANY, WORDS, check, computes, reads_twice};
+use crate::machine_rows::{MANY, WORDS, check, computes, reads_twice};
 use bk_base::{ByteIn, ByteOut, End, Reader512, Writer512};
+use bk_intcode::Machine;
 use std::alloc::Global;
 use std::cell::Cell;
 use std::io;

@@ -1,5 +1,5 @@
 //! What no clause says: devices that fail at each call, the texts of faults, and each public call once.
-use crate::{
+use bk_base::{
     ByteIn, ByteOut, End, Failed, IntcodeFault, IntcodeKind, Limits, Line, OcodeFault, OcodeKind,
     Reader512, Refused, SourceFault, SourceKind, Writer512, put_all, read_word, word, word_text,
 };

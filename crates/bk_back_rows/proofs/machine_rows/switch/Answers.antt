@@ -2,7 +2,7 @@ use Rattle.std.proofs.Common.{◌∙◌, ◌≡◌, Bool, true, ap, rules, FitsS
 use Rattle.std.specs.Prelude.{◌&&◌}
 use Rattle.std.proofs.lemmas.Int.{to_z-of_z}
 use Rattle.bk_intcode.specs.Inner.CheckedSegment.{is_segment, is_word, word_is, checked}
-use Rattle.bk_intcode.proofs.tests.switch.Goals as goal
+use Rattle.bk_back_rows.proofs.machine_rows.switch.Goals as goal
 
 -- only the number of pairs does not compute
 pub new-requires : goal.new-requires

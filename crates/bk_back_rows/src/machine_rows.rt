@@ -1,8 +1,6 @@
 //! Runs of small programs, whose answers are worked out by hand.
-use crate::item::{Function, Item, Operand};
-use crate::machine::Machine;
-use crate::segment::Intcode;
 use bk_base::{End, Reader512, Writer512};
+use bk_intcode::{Function, Intcode, Item, Machine, Operand};
 use std::alloc::Global;
 use std::process::Abort;
 use std::test::Fail;
