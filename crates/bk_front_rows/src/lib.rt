@@ -7,6 +7,8 @@ mod name_rows;
 #[cfg(test)]
 mod section_rows;
 #[cfg(test)]
+mod sections;
+#[cfg(test)]
 mod statement_rows;
 #[cfg(test)]
 mod token_rows;

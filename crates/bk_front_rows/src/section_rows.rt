@@ -1,15 +1,13 @@
 //! Sections that are taken and refused, from bytes on.
 
+use crate::sections::section_of;
 use bk_base::{Line, Refused, SourceFault, SourceKind};
-use bk_lex::lex;
-use bk_syntax::parse;
 use std::alloc::{AllocError, Global};
 use std::test::Fail;
 
 /// Reads the first section of a text; what becomes of it, and how many declarations it has.
 fn read(alloc: Global, text: &[u8]) -> Result<usize, Refused<SourceFault>> {
-    let lexed = lex(alloc, text, Line::first())?;
-    let section = parse(alloc, lexed.tokens.as_slice(), lexed.line)?;
+    let section = section_of(alloc, text)?;
     Ok(section.decls().len())
 }
 

@@ -1,7 +1,8 @@
 //! Tests of what no clause says: rows of texts with their tokens or their fault, and each limit at its last good value
 //! and the next.
 use bk_base::{Line, Refused};
-use bk_lex::{Cut, Cutter, Kind, Lexed, character_byte, lex, number_word, string_bytes};
+use bk_lex::{Cut, Cutter, Kind, Lexed, Token, character_byte, lex, number_word, string_bytes};
+use std::alloc::{AllocError, Global};
 use std::test::Fail;
 
 const MOST_BYTES: usize = 1_048_576;
@@ -429,43 +430,95 @@ static HEADERS: [(&[u8], &[u8], bool, &[u8]); 8] = [
     (b"$)\nGET \"LIBHDR\"IF", b"$) @2 ", false, b"IF 17"),
 ];
 
-/// Tokens as text: the spelling of each, with `^` before an inserted one, and the line where it is not that of the token
-/// before; behind them a `.` if one ended the section, and the bytes used.
-fn listed(rt: &HostRuntime, lexed: &Lexed, from: Line) -> Result<String, Fail> {
-    let mut out = String::new(rt.alloc());
+/// Appends a number.
+fn put_number(out: &mut String, alloc: Global, number: usize) -> Result<(), AllocError> {
+    let digits = format!(in alloc; "{}", number)?;
+    out.push_str(digits.as_str())
+}
+
+/// Appends `@` and a line.
+fn put_line(out: &mut String, alloc: Global, line: Line) -> Result<(), AllocError> {
+    let digits = format!(in alloc; "@{}", line)?;
+    out.push_str(digits.as_str())
+}
+
+/// Appends the spelling of a token, with `^` before an inserted one.
+fn put_token(out: &mut String, token: &Token<'_>) -> Result<(), AllocError> {
+    if token.text.is_empty() {
+        out.push_str(if token.kind == Kind::Do { "^DO" } else { "^;" })?;
+    }
+    for byte in token.text {
+        out.push(char::from(*byte))?;
+    }
+    out.push(' ')
+}
+
+/// Appends tokens, each with its line where that is not the line of the token before, and answers the last line.
+fn put_tokens(
+    out: &mut String,
+    alloc: Global,
+    tokens: &[Token<'_>],
+    from: Line,
+) -> Result<Line, AllocError> {
     let mut line = from;
-    for token in &lexed.tokens {
+    for token in tokens {
         if token.line != line {
             line = token.line;
-            out.push_str(format!(in rt.alloc(); "@{} ", line)?.as_str())?;
+            put_line(out, alloc, line)?;
+            out.push(' ')?;
         }
-        if token.text.is_empty() {
-            out.push_str(if token.kind == Kind::Do { "^DO" } else { "^;" })?;
-        }
-        for byte in token.text {
-            out.push(char::from(*byte))?;
-        }
-        out.push(' ')?;
+        put_token(out, token)?;
     }
+    Ok(line)
+}
+
+/// Appends the end of a section behind this line: a `.` if one ended it, the bytes used, and its line if that is another.
+fn put_end(
+    out: &mut String,
+    alloc: Global,
+    lexed: &Lexed<'_>,
+    line: Line,
+) -> Result<(), AllocError> {
     if lexed.ended {
         out.push('.')?;
     }
-    out.push_str(format!(in rt.alloc(); "{}", lexed.used)?.as_str())?;
+    put_number(out, alloc, lexed.used)?;
     if lexed.line != line {
-        out.push_str(format!(in rt.alloc(); "@{}", lexed.line)?.as_str())?;
+        put_line(out, alloc, lexed.line)?;
     }
+    Ok(())
+}
+
+/// Tokens as text: the spelling of each, with `^` before an inserted one, and the line where it is not that of the token
+/// before; behind them a `.` if one ended the section, and the bytes used.
+fn listed(alloc: Global, lexed: &Lexed<'_>, from: Line) -> Result<String, AllocError> {
+    let mut out = String::new(alloc);
+    let line = put_tokens(&mut out, alloc, lexed.tokens.as_slice(), from)?;
+    put_end(&mut out, alloc, lexed, line)?;
     Ok(out)
 }
 
 /// What is told of a text: its tokens, or how many if `counted`, or its fault.
-fn told(rt: &HostRuntime, text: &[u8], from: u32, counted: bool) -> Result<String, Fail> {
+fn told(alloc: Global, text: &[u8], from: u32, counted: bool) -> Result<String, AllocError> {
     let from = Line::new(from.max(1));
-    match lex(rt.alloc(), text, from) {
-        Ok(lexed) if counted => Ok(format!(in rt.alloc(); "{} tokens", lexed.tokens.len())?),
-        Ok(lexed) => listed(rt, &lexed, from),
-        Err(Refused::Fault(fault)) => Ok(format!(in rt.alloc(); "{}", fault)?),
-        Err(_) => Err(Fail::from("refused")),
+    match lex(alloc, text, from) {
+        Ok(lexed) if counted => format!(in alloc; "{} tokens", lexed.tokens.len()),
+        Ok(lexed) => listed(alloc, &lexed, from),
+        Err(Refused::Fault(fault)) => format!(in alloc; "{}", fault),
+        Err(_) => Err(AllocError),
     }
+}
+
+/// Whether this is told of a text.
+fn tells(
+    alloc: Global,
+    text: &[u8],
+    from: u32,
+    counted: bool,
+    expected: &[u8],
+) -> Result<bool, AllocError> {
+    let answer = told(alloc, text, from, counted)?;
+    Ok(answer.as_bytes() == expected)
 }
 
 /// The number of a short text's tokens, or 100 and the number of its fault.
@@ -480,12 +533,11 @@ fn outcome(rt: &HostRuntime, text: &[u8]) -> Result<usize, Fail> {
 /// The first row of a table whose text gives something else. The tables are large, so what loops over one takes it as an
 /// argument.
 fn wrong_text(
-    rt: &HostRuntime,
+    alloc: Global,
     rows: &[(&'static [u8], &'static [u8])],
-) -> Result<Option<usize>, Fail> {
+) -> Result<Option<usize>, AllocError> {
     for (i, (text, expected)) in rows.iter().enumerate() {
-        let answer = told(rt, text, 1, false)?;
-        if answer.as_bytes() != *expected {
+        if !tells(alloc, text, 1, false, expected)? {
             return Ok(Some(i));
         }
     }
@@ -494,44 +546,71 @@ fn wrong_text(
 
 #[test]
 fn texts(rt: HostRuntime) -> Result<(), Fail> {
-    assert_eq!(rt; wrong_text(&rt, &TEXTS)?, None);
-    let answer = told(&rt, b"A\nB\nC .", 4_294_967_294, false)?;
-    assert_eq!(rt; answer.as_bytes(), b"A @4294967295 ^; B ^; C .7".as_slice());
+    assert_eq!(rt; wrong_text(rt.alloc(), &TEXTS)?, None);
+    Ok(())
+}
+
+#[test]
+fn the_last_line(rt: HostRuntime) -> Result<(), Fail> {
+    let expected = b"A @4294967295 ^; B ^; C .7";
+    assert!(rt; tells(rt.alloc(), b"A\nB\nC .", 4_294_967_294, false, expected)?);
     Ok(())
 }
 
 #[test]
 fn faults(rt: HostRuntime) -> Result<(), Fail> {
-    assert_eq!(rt; wrong_text(&rt, &FAULTS)?, None);
+    assert_eq!(rt; wrong_text(rt.alloc(), &FAULTS)?, None);
     Ok(())
+}
+
+/// The tokens of a header, between others.
+fn with_header(
+    alloc: Global,
+    before: &[u8],
+    formatted: bool,
+    behind: &[u8],
+) -> Result<Vec<u8>, AllocError> {
+    let mut tokens = Vec::new(alloc);
+    tokens.extend_from_slice(before)?;
+    tokens.extend_from_slice(if formatted { FORMATTED } else { PLAIN })?;
+    tokens.extend_from_slice(behind)?;
+    Ok(tokens)
 }
 
 #[test]
 fn headers(rt: HostRuntime) -> Result<(), Fail> {
     for (text, before, formatted, behind) in &HEADERS {
-        let mut expected = Vec::new(rt.alloc());
-        expected.extend_from_slice(before)?;
-        expected.extend_from_slice(if *formatted { FORMATTED } else { PLAIN })?;
-        expected.extend_from_slice(behind)?;
-        let answer = told(&rt, text, 1, false)?;
-        assert_eq!(rt; answer.as_bytes(), expected.as_slice());
+        let expected = with_header(rt.alloc(), before, *formatted, behind)?;
+        assert!(rt; tells(rt.alloc(), text, 1, false, expected.as_slice())?);
     }
     Ok(())
 }
 
+/// A text of one byte so many times, with bytes before and behind.
+fn long_text(
+    alloc: Global,
+    before: &[u8],
+    byte: u8,
+    times: usize,
+    behind: &[u8],
+) -> Result<Vec<u8>, AllocError> {
+    let mut text = Vec::new(alloc);
+    text.extend_from_slice(before)?;
+    for _ in 0..times {
+        text.push(byte)?;
+    }
+    text.extend_from_slice(behind)?;
+    Ok(text)
+}
+
 /// The same of texts whose tokens are counted.
 fn wrong_long(
-    rt: &HostRuntime,
+    alloc: Global,
     rows: &[(&'static [u8], u8, usize, &'static [u8], &'static [u8])],
-) -> Result<Option<usize>, Fail> {
+) -> Result<Option<usize>, AllocError> {
     for (i, (before, byte, times, behind, expected)) in rows.iter().enumerate() {
-        let mut repeated = vec![in rt.alloc(); *byte; *times]?;
-        let mut text = Vec::new(rt.alloc());
-        text.extend_from_slice(before)?;
-        text.append(&mut repeated)?;
-        text.extend_from_slice(behind)?;
-        let answer = told(rt, text.as_slice(), 1, true)?;
-        if answer.as_bytes() != *expected {
+        let text = long_text(alloc, before, *byte, *times, behind)?;
+        if !tells(alloc, text.as_slice(), 1, true, expected)? {
             return Ok(Some(i));
         }
     }
@@ -540,7 +619,7 @@ fn wrong_long(
 
 #[test]
 fn long_texts(rt: HostRuntime) -> Result<(), Fail> {
-    assert_eq!(rt; wrong_long(&rt, &LONG_TEXTS)?, None);
+    assert_eq!(rt; wrong_long(rt.alloc(), &LONG_TEXTS)?, None);
     Ok(())
 }
 
@@ -634,32 +713,43 @@ fn reserved_words(rt: HostRuntime) -> Result<(), Fail> {
     Ok(())
 }
 
-#[test]
-fn cuts(rt: HostRuntime) -> Result<(), Fail> {
-    let rows: [(&[u8], usize); 12] = [
-        (b"A := 1 . B", 8),
-        (b".", 1),
-        (b"1.", 2),
-        (b"A.B .", 5),
-        (b"\".\" // .\n.", 10),
-        (b"_ .", 1),
-        (b"'*Q'.", 3),
-        (b"#8", 2),
-        (b"GET A .", 5),
-        (b"GET \"LIBHDR\" .", 14),
-        (b"A B", 0),
-        (b"\"A", 0),
-    ];
-    for (text, at) in rows {
-        let mut cutter = Cutter::new();
-        let mut ended = 0;
-        for (i, byte) in text.iter().enumerate() {
-            if cutter.step(*byte) == Cut::End && ended == 0 {
-                ended = i + 1;
-            }
+/// Texts, and how many bytes of them a section takes, 0 where it does not end.
+static CUTS: [(&[u8], usize); 12] = [
+    (b"A := 1 . B", 8),
+    (b".", 1),
+    (b"1.", 2),
+    (b"A.B .", 5),
+    (b"\".\" // .\n.", 10),
+    (b"_ .", 1),
+    (b"'*Q'.", 3),
+    (b"#8", 2),
+    (b"GET A .", 5),
+    (b"GET \"LIBHDR\" .", 14),
+    (b"A B", 0),
+    (b"\"A", 0),
+];
+
+/// How many bytes of a text a section takes, 0 where it does not end.
+fn cut(text: &[u8]) -> usize {
+    let mut cutter = Cutter::new();
+    let mut ended = 0;
+    for (i, byte) in text.iter().enumerate() {
+        if cutter.step(*byte) == Cut::End && ended == 0 {
+            ended = i + 1;
         }
-        assert_eq!(rt; ended, at);
     }
+    ended
+}
+
+#[test]
+fn cuts(rt: HostRuntime) {
+    for (text, at) in &CUTS {
+        assert_eq!(rt; cut(text), *at);
+    }
+}
+
+#[test]
+fn the_longest_section(rt: HostRuntime) {
     let mut cutter = Cutter::new();
     let mut more = 0;
     for i in 0..1_048_580u32 {
@@ -668,51 +758,61 @@ fn cuts(rt: HostRuntime) -> Result<(), Fail> {
         }
     }
     assert_eq!(rt; more, 1_048_576);
-    Ok(())
 }
 
+static NUMBERS: [(&[u8], u32); 9] = [
+    (b"0", 0),
+    (b"72", 72),
+    (b"4294967295", 4_294_967_295),
+    (b"#17", 15),
+    (b"#37777777777", 4_294_967_295),
+    (b"#X1f", 31),
+    (b"#xFFFFFFFF", 4_294_967_295),
+    (b"#X0aA", 170),
+    (b"007", 7),
+];
+
 #[test]
-fn values(rt: HostRuntime) -> Result<(), Fail> {
-    let numbers: [(&[u8], u32); 9] = [
-        (b"0", 0),
-        (b"72", 72),
-        (b"4294967295", 4_294_967_295),
-        (b"#17", 15),
-        (b"#37777777777", 4_294_967_295),
-        (b"#X1f", 31),
-        (b"#xFFFFFFFF", 4_294_967_295),
-        (b"#X0aA", 170),
-        (b"007", 7),
-    ];
-    for (text, word) in numbers {
-        assert_eq!(rt; number_word(text), word);
+fn number_values(rt: HostRuntime) {
+    for (text, word) in &NUMBERS {
+        assert_eq!(rt; number_word(text), *word);
     }
-    let characters: [(&[u8], u8); 11] = [
-        (b"'A'", b'A'),
-        (b"'a'", b'a'),
-        (b"'\"'", b'"'),
-        (b"'*N'", 10),
-        (b"'*t'", 9),
-        (b"'*S'", 32),
-        (b"'*b'", 8),
-        (b"'*P'", 12),
-        (b"'*C'", 13),
-        (b"'**'", b'*'),
-        (b"'*''", b'\''),
-    ];
-    for (text, byte) in characters {
-        assert_eq!(rt; character_byte(text), byte);
+}
+
+static CHARACTERS: [(&[u8], u8); 11] = [
+    (b"'A'", b'A'),
+    (b"'a'", b'a'),
+    (b"'\"'", b'"'),
+    (b"'*N'", 10),
+    (b"'*t'", 9),
+    (b"'*S'", 32),
+    (b"'*b'", 8),
+    (b"'*P'", 12),
+    (b"'*C'", 13),
+    (b"'**'", b'*'),
+    (b"'*''", b'\''),
+];
+
+#[test]
+fn character_values(rt: HostRuntime) {
+    for (text, byte) in &CHARACTERS {
+        assert_eq!(rt; character_byte(text), *byte);
     }
-    let strings: [(&[u8], &[u8]); 5] = [
-        (b"\"\"", b""),
-        (b"\"HI\"", b"HI"),
-        (b"\"A*NB*\"C'\"", b"A\nB\"C'"),
-        (b"\"***S*\"\"", b"* \""),
-        (b"\"//.\"", b"//."),
-    ];
-    for (text, bytes) in strings {
+}
+
+static STRINGS: [(&[u8], &[u8]); 5] = [
+    (b"\"\"", b""),
+    (b"\"HI\"", b"HI"),
+    (b"\"A*NB*\"C'\"", b"A\nB\"C'"),
+    (b"\"***S*\"\"", b"* \""),
+    (b"\"//.\"", b"//."),
+];
+
+#[test]
+fn string_values(rt: HostRuntime) -> Result<(), Fail> {
+    for (text, bytes) in &STRINGS {
         let value = string_bytes(rt.alloc(), text)?;
-        assert_eq!(rt; value.as_slice(), bytes);
+        assert_eq!(rt; value.as_slice(), *bytes);
     }
     Ok(())
 }

@@ -1,8 +1,8 @@
 //! Which tree symbols are: each operator beside each other, prefixes, choices.
-use bk_base::{Line, Refused, SourceFault};
-use bk_lex::lex;
-use bk_syntax::tree::{Command, Decl, Def, Expr, Operator, Prefix};
-use bk_syntax::{Section, parse};
+use crate::sections::section_of;
+use bk_tree::{Command, Decl, Def, Expr, Operator, Prefix, Section};
+use std::alloc::{AllocError, Global};
+use std::process::Abort;
 use std::test::Fail;
 
 /// The row of the relations, which chain.
@@ -97,19 +97,18 @@ fn show(out: &mut String, expr: &Expr) -> Result<(), Fail> {
     Ok(())
 }
 
-/// The section that a text is.
-fn section(rt: &HostRuntime, text: &[u8]) -> Result<Section, Refused<SourceFault>> {
-    let lexed = lex(rt.alloc(), text, Line::first())?;
-    parse(rt.alloc(), lexed.tokens.as_slice(), lexed.line)
+/// Texts one behind the other.
+fn joined(alloc: Global, parts: &[&str]) -> Result<String, AllocError> {
+    let mut out = String::new(alloc);
+    for part in parts {
+        out.push_str(part)?;
+    }
+    Ok(out)
 }
 
-/// The tree of an expression, as text.
-fn tree(rt: &HostRuntime, text: &str) -> Result<String, Fail> {
-    let source = format!(in rt.alloc(); "LET F() = {}", text)?;
-    let Ok(section) = section(rt, source.as_bytes()) else {
-        return Err(Fail::from("refused"));
-    };
-    let mut out = String::new(rt.alloc());
+/// The tree of what the first procedure of a section gives, as text.
+fn first_body(alloc: Global, section: &Section) -> Result<String, Fail> {
+    let mut out = String::new(alloc);
     if let Some(Decl::Let(_, defs)) = section.decls().first() {
         if let Some(Def::Function(_, _, _, body)) = defs.first() {
             show(&mut out, body)?;
@@ -118,46 +117,82 @@ fn tree(rt: &HostRuntime, text: &str) -> Result<String, Fail> {
     Ok(out)
 }
 
+/// The tree of an expression, as text.
+fn tree(alloc: Global, text: &str) -> Result<String, Fail> {
+    let source = joined(alloc, &["LET F() = ", text])?;
+    match section_of(alloc, source.as_bytes()) {
+        Ok(section) => first_body(alloc, &section),
+        Err(_) => Err(Fail::from("refused")),
+    }
+}
+
+/// Checks the tree of an expression.
+fn check_tree(rt: &impl Abort, alloc: Global, text: &str, expected: &str) -> Result<(), Fail> {
+    let shown = tree(alloc, text)?;
+    assert_eq!(rt; shown.as_str(), expected);
+    Ok(())
+}
+
 /// The tree of two operators beside each other, by their rows.
-fn pair(rt: &HostRuntime, first: usize, second: usize) -> Result<String, Fail> {
+fn pair(alloc: Global, first: usize, second: usize) -> Result<String, AllocError> {
     let (a, _, tighter) = OPERATORS[first % 19];
     let (b, _, looser) = OPERATORS[second % 19];
     if tighter == RELATIONS && looser == RELATIONS {
-        return Ok(format!(in rt.alloc(); "[[A{}B]&[B{}C]]", a, b)?);
+        return joined(alloc, &["[[A", a, "B]&[B", b, "C]]"]);
     }
     if tighter <= looser {
-        return Ok(format!(in rt.alloc(); "[[A{}B]{}C]", a, b)?);
+        return joined(alloc, &["[[A", a, "B]", b, "C]"]);
     }
-    Ok(format!(in rt.alloc(); "[A{}[B{}C]]", a, b)?)
+    joined(alloc, &["[A", a, "[B", b, "C]]"])
+}
+
+/// Checks two operators beside each other.
+fn check_pair(rt: &impl Abort, alloc: Global, first: usize, second: usize) -> Result<(), Fail> {
+    let (a, b) = (OPERATORS[first % 19].0, OPERATORS[second % 19].0);
+    let text = joined(alloc, &["A", a, "B", b, "C"])?;
+    let expected = pair(alloc, first, second)?;
+    check_tree(rt, alloc, text.as_str(), expected.as_str())
 }
 
 #[test]
 fn pairs_of_operators(rt: HostRuntime) -> Result<(), Fail> {
     for i in 0..19 {
         for j in 0..19 {
-            let text = format!(in rt.alloc(); "A{}B{}C", OPERATORS[i].0, OPERATORS[j].0)?;
-            let expected = pair(&rt, i, j)?;
-            assert_eq!(rt; tree(&rt, text.as_str())?.as_str(), expected.as_str());
+            check_pair(&rt, rt.alloc(), i, j)?;
         }
     }
     Ok(())
 }
 
 /// The tree of an operator, a prefix and another operator, by their rows.
-fn around(rt: &HostRuntime, first: usize, prefix: usize, second: usize) -> Result<String, Fail> {
+fn around(alloc: Global, first: usize, prefix: usize, second: usize) -> Result<String, AllocError> {
     let (a, _, tighter) = OPERATORS[first % 19];
     let (p, _, row) = PREFIXES[prefix % 5];
     let (b, _, looser) = OPERATORS[second % 19];
     if looser < row {
-        return Ok(format!(in rt.alloc(); "[A{}[{}[B{}C]]]", a, p, b)?);
+        return joined(alloc, &["[A", a, "[", p, "[B", b, "C]]]"]);
     }
     if tighter == RELATIONS && looser == RELATIONS {
-        return Ok(format!(in rt.alloc(); "[[A{}[{}B]]&[[{}B]{}C]]", a, p, p, b)?);
+        return joined(alloc, &["[[A", a, "[", p, "B]]&[[", p, "B]", b, "C]]"]);
     }
     if tighter <= looser {
-        return Ok(format!(in rt.alloc(); "[[A{}[{}B]]{}C]", a, p, b)?);
+        return joined(alloc, &["[[A", a, "[", p, "B]]", b, "C]"]);
     }
-    Ok(format!(in rt.alloc(); "[A{}[[{}B]{}C]]", a, p, b)?)
+    joined(alloc, &["[A", a, "[[", p, "B]", b, "C]]"])
+}
+
+/// Checks a prefix between two operators.
+fn check_around(
+    rt: &impl Abort,
+    alloc: Global,
+    first: usize,
+    prefix: usize,
+    second: usize,
+) -> Result<(), Fail> {
+    let (a, b) = (OPERATORS[first % 19].0, OPERATORS[second % 19].0);
+    let text = joined(alloc, &["A", a, " ", PREFIXES[prefix % 5].0, "B", b, "C"])?;
+    let expected = around(alloc, first, prefix, second)?;
+    check_tree(rt, alloc, text.as_str(), expected.as_str())
 }
 
 #[test]
@@ -165,41 +200,38 @@ fn prefixes_between_operators(rt: HostRuntime) -> Result<(), Fail> {
     for i in 0..19 {
         for k in 0..5 {
             for j in 0..19 {
-                let text = format!(in rt.alloc();
-                    "A{} {}B{}C",
-                    OPERATORS[i].0, PREFIXES[k].0, OPERATORS[j].0
-                )?;
-                let expected = around(&rt, i, k, j)?;
-                assert_eq!(rt; tree(&rt, text.as_str())?.as_str(), expected.as_str());
+                check_around(&rt, rt.alloc(), i, k, j)?;
             }
         }
     }
     Ok(())
 }
 
+/// Expressions with their trees.
+static EXPRESSIONS: [(&str, &str); 10] = [
+    ("-A!B", "[-[A!B]]"),
+    ("!A!B", "[![A!B]]"),
+    ("@V!A", "[@[V!A]]"),
+    ("NOT A = B", "[ NOT [A=B]]"),
+    ("A + -B * C", "[A+[-[B*C]]]"),
+    ("A < B < C", "[[A<B]&[B<C]]"),
+    ("A < B < C < D", "[[[A<B]&[B<C]]&[C<D]]"),
+    ("A -> B, C -> D, E", "[A->B,[C->D,E]]"),
+    ("A | B -> C, D", "[[A|B]->C,D]"),
+    ("A -> B -> C, D, E", "[A->[B->C,D],E]"),
+];
+
 #[test]
 fn rows_of_expressions(rt: HostRuntime) -> Result<(), Fail> {
-    let rows = [
-        ("-A!B", "[-[A!B]]"),
-        ("!A!B", "[![A!B]]"),
-        ("@V!A", "[@[V!A]]"),
-        ("NOT A = B", "[ NOT [A=B]]"),
-        ("A + -B * C", "[A+[-[B*C]]]"),
-        ("A < B < C", "[[A<B]&[B<C]]"),
-        ("A < B < C < D", "[[[A<B]&[B<C]]&[C<D]]"),
-        ("A -> B, C -> D, E", "[A->B,[C->D,E]]"),
-        ("A | B -> C, D", "[[A|B]->C,D]"),
-        ("A -> B -> C, D, E", "[A->[B->C,D],E]"),
-    ];
-    for (text, expected) in rows {
-        assert_eq!(rt; tree(&rt, text)?.as_str(), expected);
+    for (text, expected) in &EXPRESSIONS {
+        check_tree(&rt, rt.alloc(), text, expected)?;
     }
     Ok(())
 }
 
 #[test]
 fn repeat_belongs_to_the_command_before(rt: HostRuntime) -> Result<(), Fail> {
-    let Ok(section) = section(&rt, b"LET F() BE IF A DO B() REPEAT") else {
+    let Ok(section) = section_of(rt.alloc(), b"LET F() BE IF A DO B() REPEAT") else {
         return Err(Fail::from("refused"));
     };
     let Some(Decl::Let(_, defs)) = section.decls().first() else {

@@ -2,7 +2,7 @@
 use Rattle.std.proofs.Common.{ℕ, suc, List, [], ◌∷◌, ◌++◌, refl, sym, subst, append_assoc}
 use Rattle.bk_lex.specs.Symbol.{Symbol}
 use Rattle.bk_lex.specs.Lexing.{Section}
-use Rattle.bk_syntax.specs.Tree.{Declarations}
+use Rattle.bk_tree.specs.Tree.{Declarations}
 use Rattle.bk_ocode.specs.StmtRange.{AreBytes}
 use Rattle.bk_simulation.specs.Placement as placement
 use Rattle.bk_kit.specs.Sources.{IsTree, Means, Accepted, WholeSection, bytes_of, trees_of, AreAccepted}

@@ -13,7 +13,7 @@ use Rattle.bk_intcode_text.specs.ItemText.{item_text}
 use Rattle.bk_intcode_text.specs.FirstSaying.{segment, nothing, fault, Says, SayOneThing}
 use Rattle.bk_intcode_text.proofs.PrintedLemmas.{words_of-printed}
 use Rattle.bk_ocode.specs.Depth.{largest_depth}
-use Rattle.bk_syntax.specs.Tree.{Declarations}
+use Rattle.bk_tree.specs.Tree.{Declarations}
 use Rattle.bk_gen.specs.BackEnd.{Part, segments, image}
 use Rattle.bk_gen.specs.StandsFor.{frame_words}
 use Rattle.bk_kit.specs.declared.kit_fault.KitFault.{KitFault}

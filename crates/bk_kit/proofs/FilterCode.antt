@@ -4,7 +4,7 @@ use Rattle.std.specs.Io.KnownBytes.{Appends, Consumes}
 use Rattle.std.proofs.lemmas.List.{append_cancel_left, map-append}
 use Rattle.bk_base.specs.declared.limit.TheConstants.{INPUT_BYTES}
 use Rattle.bk_words.specs.Words.{words_of}
-use Rattle.bk_syntax.specs.Tree.{Declarations}
+use Rattle.bk_tree.specs.Tree.{Declarations}
 use Rattle.bk_ocode.specs.FirstFault.{section, nothing, SayOneThing}
 use Rattle.bk_ocode.specs.Section.{IsSection}
 use Rattle.bk_ocode.specs.SectionText.{section_words}

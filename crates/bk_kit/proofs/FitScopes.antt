@@ -1,9 +1,9 @@
 -- The constants in scope are words where a section's tree is regular.
 use Rattle.std.proofs.Common.{◌≡◌, ℕ, ◌+◌, ◌<◌, ◌^◌, Bool, true, false, List, [], ◌∷◌, ◌++◌, Option, Some, None, cond, refl, subst}
 use Rattle.std.specs.Str.{bytes_eq}
-use Rattle.bk_syntax.specs.declared.tree.Sort.TheVariants as sort
-use Rattle.bk_syntax.specs.Tree as t
-use Rattle.bk_syntax.specs.Tree.{Mention, Expression, Declaration, Declarations, Items, Definitions, Starts}
+use Rattle.bk_tree.specs.declared.tree.Sort.TheVariants as sort
+use Rattle.bk_tree.specs.Tree as t
+use Rattle.bk_tree.specs.Tree.{Mention, Expression, Declaration, Declarations, Items, Definitions, Starts}
 use Rattle.bk_scope.specs.declared.bound.Bound.{Bound}
 use Rattle.bk_scope.specs.declared.bound.Bound.TheVariants as b
 use Rattle.bk_scope.specs.declared.place.Place.{Place}

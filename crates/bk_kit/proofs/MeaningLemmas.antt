@@ -15,7 +15,7 @@ use Rattle.bk_ocode.specs.OcodeState.{Routine, Placed, Control, Inside, Behind, 
 use Rattle.bk_ocode.specs.OcodeRun.{Program, Rest, resumed_by, resumed, label_rest, resumed_in, find_rest, rests_of}
 use Rattle.bk_ocode.specs.SectionData.{text_size}
 use Rattle.bk_ocode.specs.WellPlaced.{IsWellPlaced}
-use Rattle.bk_syntax.specs.Tree.{Declarations}
+use Rattle.bk_tree.specs.Tree.{Declarations}
 use Rattle.bk_meaning.specs.World as world
 use Rattle.bk_meaning.specs.Program as program
 use Rattle.bk_meaning.specs.Program.{Run, meaning}

@@ -2,7 +2,7 @@
 use Rattle.std.proofs.Common.{◌≡◌, ℕ, false, List, [], ◌∷◌, ◌++◌, sym, ap, ap₂, ◌∙◌, subst, append_assoc}
 use Rattle.bk_lex.specs.Symbol.{Symbol}
 use Rattle.bk_lex.specs.Lexing.{Section}
-use Rattle.bk_syntax.specs.Tree.{Declarations}
+use Rattle.bk_tree.specs.Tree.{Declarations}
 use Rattle.bk_syntax.proofs.Stands.{one_tree}
 use Rattle.bk_kit.specs.Sources.{Means, Accepted, WholeSection, bytes_of, trees_of, line_behind, AreAccepted}
 use Rattle.bk_kit.specs.SourceSections.{HasTrees}

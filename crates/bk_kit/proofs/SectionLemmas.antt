@@ -8,11 +8,12 @@ use Rattle.bk_lex.specs.declared.scan.Lexed.{Lexed}
 use Rattle.bk_lex.specs.declared.token.Token.{Token}
 use Rattle.bk_lex.specs.Symbol.{Symbol, symbols_of}
 use Rattle.bk_lex.specs.Lexing.{section_of, lexed}
-use Rattle.bk_syntax.specs.declared.section.Section.{Section}
-use Rattle.bk_syntax.specs.Tree.{Declarations}
-use Rattle.bk_syntax.specs.Limits.{Within}
-use Rattle.bk_syntax.specs.SyntaxFault.{IsSection}
-use Rattle.bk_syntax.specs.Parsing.{declarations_of, Parses, Gives}
+use Rattle.bk_tree.specs.declared.section.Section.{Section}
+use Rattle.bk_tree.specs.Tree.{Declarations}
+use Rattle.bk_tree.specs.Limits.{Within}
+use Rattle.bk_grammar.specs.SyntaxFault.{IsSection}
+use Rattle.bk_syntax.specs.Parsing.{Parses, Gives}
+use Rattle.bk_tree.specs.Section.{declarations_of}
 use Rattle.bk_scope.specs.Points.{first_told}
 use Rattle.bk_scope.specs.Faults.{faults}
 use Rattle.bk_scope.specs.FirstFault.{breach_of}

@@ -20,10 +20,10 @@ use Rattle.bk_lex.specs.Lexing.{Section, inserted_symbols}
 use Rattle.bk_lex.specs.Insertion.{inserted}
 use Rattle.bk_lex.specs.Pieces.{Piece, CutsTo}
 use Rattle.bk_lex.specs.Tokens.{what_of, header_named, Putting, putting, seen, named_as, put_as, is_dot_sort, put, puts, IsSection}
-use Rattle.bk_syntax.specs.Tree as t
-use Rattle.bk_syntax.specs.Rows.{leaf}
-use Rattle.bk_syntax.specs.Spelling.{tag_of}
-use Rattle.bk_syntax.specs.Brackets.{same_tag, Closing, one_more, up_to_tag, closed_by, in_front, plain_behind, plain_by, plain}
+use Rattle.bk_tree.specs.Tree as t
+use Rattle.bk_grammar.specs.Rows.{leaf}
+use Rattle.bk_grammar.specs.Spelling.{tag_of}
+use Rattle.bk_grammar.specs.Brackets.{same_tag, Closing, one_more, up_to_tag, closed_by, in_front, plain_behind, plain_by, plain}
 
 -- ---- numbers and characters
 

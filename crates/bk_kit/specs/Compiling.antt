@@ -5,7 +5,7 @@ use Rattle.bk_base.specs.declared.limit.TheConstants.{INPUT_BYTES}
 use Rattle.bk_base.specs.Devices.{Begins}
 use Rattle.bk_lex.specs.declared.cutter.Cut.TheVariants.{More}
 use Rattle.bk_lex.specs.Lexing.{Section}
-use Rattle.bk_syntax.specs.Tree.{Declarations}
+use Rattle.bk_tree.specs.Tree.{Declarations}
 use Rattle.bk_ocode.specs.StmtRange.{AreBytes, AreTyped}
 use Rattle.bk_ocode.specs.declared.stmt.Stmt.{Stmt}
 use Rattle.bk_kit.specs.declared.kit_fault.KitFault.{KitFault}

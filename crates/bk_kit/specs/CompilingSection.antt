@@ -6,7 +6,7 @@ use Rattle.bk_base.specs.declared.refused.Refused.TheVariants.{Fault, Device}
 use Rattle.bk_base.specs.declared.source_fault.SourceFault.{SourceFault}
 use Rattle.bk_lex.specs.Symbol.{Symbol}
 use Rattle.bk_lex.specs.Lexing.{Section, lexed}
-use Rattle.bk_syntax.specs.Tree.{Declarations}
+use Rattle.bk_tree.specs.Tree.{Declarations}
 use Rattle.bk_syntax.specs.Parsing.{ToldAt, ToldAtEnd}
 use Rattle.bk_ocode.specs.StmtRange.{AreBytes}
 use Rattle.bk_ocode.specs.SectionStmts.{stmts_of}

@@ -11,7 +11,7 @@ use Rattle.bk_intcode.specs.Runs.{Ran, Blames}
 use Rattle.bk_gen.specs.BackEnd.{Part, segments, image}
 use Rattle.bk_ocode.specs.Depth.{largest_depth}
 use Rattle.bk_ocode.specs.SectionData.{text_size}
-use Rattle.bk_syntax.specs.Tree.{Declarations}
+use Rattle.bk_tree.specs.Tree.{Declarations}
 use Rattle.bk_meaning.specs.Values.{address}
 use Rattle.bk_meaning.specs.Memory.{read}
 use Rattle.bk_meaning.specs.Environment.{globals_object}

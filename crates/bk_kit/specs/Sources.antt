@@ -6,9 +6,9 @@ use Rattle.bk_lex.specs.Lexing.{Section}
 use Rattle.bk_lex.specs.Tokens.{IsSection}
 use Rattle.bk_lex.specs.TextFault.{HasFault}
 use Rattle.bk_lex.specs.Telling.{Told}
-use Rattle.bk_syntax.specs.Tree.{Declarations}
-use Rattle.bk_syntax.specs.Limits.{Within}
-use Rattle.bk_syntax.specs.SyntaxFault as syntax
+use Rattle.bk_tree.specs.Tree.{Declarations}
+use Rattle.bk_tree.specs.Limits.{Within}
+use Rattle.bk_grammar.specs.SyntaxFault as syntax
 use Rattle.bk_syntax.specs.Parsing.{ToldAt, ToldAtEnd}
 use Rattle.bk_scope.specs.Points.{first_told}
 use Rattle.bk_scope.specs.Faults.{faults}

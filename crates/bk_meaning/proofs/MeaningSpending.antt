@@ -1,7 +1,7 @@
 -- A run is cut off only where no turn is left.
 use Rattle.std.proofs.Common.{ℕ, zero, suc, ◌≤◌, subst, arith}
-use Rattle.bk_syntax.specs.Tree as t
-use Rattle.bk_syntax.specs.Tree.{Action}
+use Rattle.bk_tree.specs.Tree as t
+use Rattle.bk_tree.specs.Tree.{Action}
 use Rattle.bk_meaning.specs.World.{World, Outcome, going, turn}
 use Rattle.bk_meaning.specs.Environment.{Environment}
 use Rattle.bk_meaning.specs.Seeking.{Mode}

@@ -1,7 +1,7 @@
 -- More turns change nothing of what a program means.
 use Rattle.std.proofs.Common.{ℕ, zero, suc, ◌≤◌, List, [], length, Option, Some, None, arith}
-use Rattle.bk_syntax.specs.Tree as t
-use Rattle.bk_syntax.specs.Tree.{Expression, Action, Actions, Declarations}
+use Rattle.bk_tree.specs.Tree as t
+use Rattle.bk_tree.specs.Tree.{Expression, Action, Actions, Declarations}
 use Rattle.bk_meaning.specs.Values.{Value, address}
 use Rattle.bk_meaning.specs.Memory.{read}
 use Rattle.bk_meaning.specs.World.{World, Outcome, gives, leaves, ends, undefined, going, Done}

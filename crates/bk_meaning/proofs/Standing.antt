@@ -2,10 +2,10 @@
 use Rattle.std.proofs.Common.{◌≡◌, ℕ, zero, suc, ◌+◌, List, [], ◌∷◌, ◌++◌, length, Some, refl, sym, ap, ◌∙◌, append_assoc, arith}
 use Rattle.std.proofs.lemmas.List.{append-nil, length-append}
 use Rattle.std.specs.Prelude.{slice_get}
-use Rattle.bk_syntax.specs.declared.tree.Sort.{Sort}
-use Rattle.bk_syntax.specs.declared.tree.Sort.TheVariants as s
-use Rattle.bk_syntax.specs.Tree as t
-use Rattle.bk_syntax.specs.Tree.{Expression, Expressions, Action, Actions, Declaration, Declarations, Items, Definition, Definitions, Starts}
+use Rattle.bk_tree.specs.declared.tree.Sort.{Sort}
+use Rattle.bk_tree.specs.declared.tree.Sort.TheVariants as s
+use Rattle.bk_tree.specs.Tree as t
+use Rattle.bk_tree.specs.Tree.{Expression, Expressions, Action, Actions, Declaration, Declarations, Items, Definition, Definitions, Starts}
 use Rattle.bk_scope.specs.Entering.{labels_of_each}
 use Rattle.bk_meaning.specs.Environment.{Sense, cell, label, foreign, Environment, bind, bind_each, behind, count, letters, manifests, statics, globals, sense_of_constant, sense_of_global, past, past_each, past_action, past_definition, constant_in, labelled, within_let, objects_of_declaration, objects_of_declarations, objects_of_definitions}
 use Rattle.bk_meaning.specs.Lasting.{Lasting, global_vector, static_words, of_items, variables_hidden, declared, all_declared, inside, in_scope, in_for, of_expression, of_each, of_action, of_actions, of_declaration, of_declarations, of_definition, of_definitions, of_starts, of_sections, Program, program_of}

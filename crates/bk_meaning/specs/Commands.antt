@@ -1,9 +1,9 @@
 -- Commands: what each does, forwards or from a place in it that is sought.
 use Rattle.std.specs.Prelude.{Some, length}
-use Rattle.bk_syntax.specs.declared.tree.Simple.{Simple}
-use Rattle.bk_syntax.specs.declared.tree.Simple.TheVariants as k
-use Rattle.bk_syntax.specs.Tree as t
-use Rattle.bk_syntax.specs.Tree.{Mention, Expression, Expressions, Action, Actions, Declaration, Declarations, Definition, Definitions, Starts}
+use Rattle.bk_tree.specs.declared.tree.Simple.{Simple}
+use Rattle.bk_tree.specs.declared.tree.Simple.TheVariants as k
+use Rattle.bk_tree.specs.Tree as t
+use Rattle.bk_tree.specs.Tree.{Mention, Expression, Expressions, Action, Actions, Declaration, Declarations, Definition, Definitions, Starts}
 use Rattle.bk_meaning.specs.Values.{Value, number}
 use Rattle.bk_meaning.specs.World.{World, status, Exit, break, loop, endcase, goto, result, return, Outcome, leaves, ends, undefined, each_way, with, Done, done, given, either, closing}
 use Rattle.bk_meaning.specs.Environment.{Environment, past, past_each, past_action, constant_in}

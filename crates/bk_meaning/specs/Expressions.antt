@@ -2,11 +2,11 @@
 use Rattle.std.specs.Prelude.{Bool, true, false, not}
 use Rattle.std.specs.Option.{option_map}
 use Rattle.bk_base.specs.Word.{truth as truth_word}
-use Rattle.bk_syntax.specs.declared.tree.Operator.{Operator}
-use Rattle.bk_syntax.specs.declared.tree.Operator.TheVariants as o
-use Rattle.bk_syntax.specs.declared.tree.Prefix.TheVariants as q
-use Rattle.bk_syntax.specs.Tree as t
-use Rattle.bk_syntax.specs.Tree.{Mention, Expression, Expressions, Action, Actions, Declaration, Declarations, Definition, Definitions, Starts}
+use Rattle.bk_tree.specs.declared.tree.Operator.{Operator}
+use Rattle.bk_tree.specs.declared.tree.Operator.TheVariants as o
+use Rattle.bk_tree.specs.declared.tree.Prefix.TheVariants as q
+use Rattle.bk_tree.specs.Tree as t
+use Rattle.bk_tree.specs.Tree.{Mention, Expression, Expressions, Action, Actions, Declaration, Declarations, Definition, Definitions, Starts}
 use Rattle.bk_meaning.specs.Values.{Value, number, address, unset}
 use Rattle.bk_meaning.specs.Memory.{read_byte}
 use Rattle.bk_meaning.specs.World.{World, Exit, result, Outcome, gives, leaves, undefined, each_way, with, Done, given, either}

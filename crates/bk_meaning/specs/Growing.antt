@@ -1,6 +1,6 @@
 -- What only grows while a program runs, seen from any world on; and what a part of it that is gone through leaves as it was.
 use Rattle.std.specs.Prelude.{◌≡◌, ℕ, ◌≤◌, ◌<◌, IsTrue, Option, Some, None, List, [], ◌++◌, length, map}
-use Rattle.bk_syntax.specs.Tree.{Expression, Action, Actions, Declarations}
+use Rattle.bk_tree.specs.Tree.{Expression, Action, Actions, Declarations}
 use Rattle.bk_meaning.specs.Values.{Value}
 use Rattle.bk_meaning.specs.Memory.{Object, living, dead, Memory, lives}
 use Rattle.bk_meaning.specs.World.{World, Outcome, gives, leaves, ends, undefined, going}

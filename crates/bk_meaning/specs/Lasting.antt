@@ -2,10 +2,10 @@
 -- order of the source. The nth of them, from 0, is object n, and procedure n if it is one.
 use Rattle.std.specs.Prelude.{ℕ, suc, ◌+◌, Option, Some, None, unwrap_or, List, [], ◌∷◌, ◌++◌, map, replicate, slice_get, slice_set}
 use Rattle.bk_base.specs.Strings.{string_words, first_bytes}
-use Rattle.bk_syntax.specs.declared.tree.Sort.{Sort}
-use Rattle.bk_syntax.specs.declared.tree.Sort.TheVariants as s
-use Rattle.bk_syntax.specs.Tree as t
-use Rattle.bk_syntax.specs.Tree.{Mention, Expression, Expressions, Action, Actions, Declaration, Declarations, Items, Definition, Definitions, Starts}
+use Rattle.bk_tree.specs.declared.tree.Sort.{Sort}
+use Rattle.bk_tree.specs.declared.tree.Sort.TheVariants as s
+use Rattle.bk_tree.specs.Tree as t
+use Rattle.bk_tree.specs.Tree.{Mention, Expression, Expressions, Action, Actions, Declaration, Declarations, Items, Definition, Definitions, Starts}
 use Rattle.bk_meaning.specs.Values.{stop, rdch, wrch, newline, writes, writen, writed, getbyte, putbyte, writef, number, procedure, routine, unset, Cell, holds}
 use Rattle.bk_meaning.specs.Memory.{Memory, Object, living}
 use Rattle.bk_meaning.specs.Environment.{Environment, foreign, sense_of, bind, bind_each, behind, past, past_each, past_action, past_definition, constant_in, labelled, global_named, within_let, constants_declared, letters, objects_of_definitions, objects_of_declarations}

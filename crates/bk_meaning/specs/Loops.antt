@@ -1,9 +1,9 @@
 -- Loops: WHILE, UNTIL, REPEAT, REPEATWHILE, REPEATUNTIL and FOR.
 use Rattle.std.specs.Prelude.{ℕ, ◌^◌, nat_lt, Bool, true, false, not, cond, Option, Some, List, [], ◌∷◌, length}
-use Rattle.bk_syntax.specs.declared.tree.Operator.{Operator}
-use Rattle.bk_syntax.specs.declared.tree.Operator.TheVariants as o
-use Rattle.bk_syntax.specs.Tree as t
-use Rattle.bk_syntax.specs.Tree.{Mention, Expression, Expressions, Action, Actions, Declaration, Declarations, Definition, Definitions, Starts}
+use Rattle.bk_tree.specs.declared.tree.Operator.{Operator}
+use Rattle.bk_tree.specs.declared.tree.Operator.TheVariants as o
+use Rattle.bk_tree.specs.Tree as t
+use Rattle.bk_tree.specs.Tree.{Mention, Expression, Expressions, Action, Actions, Declaration, Declarations, Definition, Definitions, Starts}
 use Rattle.bk_meaning.specs.Values.{Value, number, address, holds}
 use Rattle.bk_meaning.specs.World.{World, Exit, break, loop, Outcome, leaves, each_way, with, Done, done, either, turn, making, closing}
 use Rattle.bk_meaning.specs.Operators.{operate}

@@ -1,10 +1,10 @@
 -- What lasts stands at its number: where a run makes the address of a string, a table or a static word, or comes to a procedure,
 -- the list of what lasts has it at the number that the environment gives there; and a tree has as many as are counted for it.
 use Rattle.std.specs.Prelude.{◌≡◌, ℕ, suc, ◌+◌, Some, unwrap_or, List, [], ◌∷◌, length, slice_get}
-use Rattle.bk_syntax.specs.declared.tree.Sort.{Sort}
-use Rattle.bk_syntax.specs.declared.tree.Sort.TheVariants as s
-use Rattle.bk_syntax.specs.Tree as t
-use Rattle.bk_syntax.specs.Tree.{Mention, Expression, Expressions, Action, Actions, Declaration, Declarations, Items, Definition, Definitions, Starts}
+use Rattle.bk_tree.specs.declared.tree.Sort.{Sort}
+use Rattle.bk_tree.specs.declared.tree.Sort.TheVariants as s
+use Rattle.bk_tree.specs.Tree as t
+use Rattle.bk_tree.specs.Tree.{Mention, Expression, Expressions, Action, Actions, Declaration, Declarations, Items, Definition, Definitions, Starts}
 use Rattle.bk_meaning.specs.Environment.{Environment, past, past_each, past_action, past_definition, constant_in, labelled, within_let, objects_of_declarations}
 use Rattle.bk_meaning.specs.Lasting.{command, expression, Lasting, words, text_words, constant_words, declared, all_declared, procedure_here, inside, in_scope, in_for, of_declarations, Program, program_of}
 

@@ -4,9 +4,9 @@
 use Rattle.std.specs.Prelude.{ℕ, ◌==◌, nat_le, Bool, true, false, not, cond, Option, Some, None, List, length}
 use Rattle.std.specs.Option.{option_map}
 use Rattle.bk_base.specs.Word.{truth, word_sum, word_difference}
-use Rattle.bk_syntax.specs.declared.tree.Operator.{Operator}
-use Rattle.bk_syntax.specs.declared.tree.Operator.TheVariants as o
-use Rattle.bk_syntax.specs.declared.tree.Prefix.{Prefix}
+use Rattle.bk_tree.specs.declared.tree.Operator.{Operator}
+use Rattle.bk_tree.specs.declared.tree.Operator.TheVariants as o
+use Rattle.bk_tree.specs.declared.tree.Prefix.{Prefix}
 use Rattle.bk_scope.specs.Constants.{prefix_word, infix_word, divides_by_zero}
 use Rattle.bk_meaning.specs.Values.{Value, number, address, procedure, routine, unset, Cell}
 use Rattle.bk_meaning.specs.Memory.{Memory, cells_at, lives}

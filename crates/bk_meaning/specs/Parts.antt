@@ -1,7 +1,7 @@
 -- The parts of the meaning: where the nodes inside a node have theirs, each node has its own. From here on p is the program, m
 -- the meanings of the nodes inside, env what the names mean, w the world before and u an outcome.
 use Rattle.std.specs.Prelude.{ℕ, Bool, Option, Some}
-use Rattle.bk_syntax.specs.Tree.{Expression, Action, Actions}
+use Rattle.bk_tree.specs.Tree.{Expression, Action, Actions}
 use Rattle.bk_meaning.specs.Values.{Value, number, address}
 use Rattle.bk_meaning.specs.Memory.{read, write, write_byte}
 use Rattle.bk_meaning.specs.World.{World, Outcome, gives, undefined, Done, given, changes}

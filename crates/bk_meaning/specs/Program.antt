@@ -1,7 +1,7 @@
 -- What a program means: its sections, the input, and how many turns there are.
 use Rattle.std.specs.Prelude.{ℕ, zero, suc, Option, Some, None, List, []}
-use Rattle.bk_syntax.specs.Tree as t
-use Rattle.bk_syntax.specs.Tree.{Expression, Action, Declarations}
+use Rattle.bk_tree.specs.Tree as t
+use Rattle.bk_tree.specs.Tree.{Expression, Action, Declarations}
 use Rattle.bk_meaning.specs.Values.{Value, address}
 use Rattle.bk_meaning.specs.Memory.{read}
 use Rattle.bk_meaning.specs.World.{World, End, status, no_start, Outcome, gives, leaves, ends, undefined, going, Done, done, turn}

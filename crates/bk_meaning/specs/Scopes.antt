@@ -1,8 +1,8 @@
 -- Commands in order, and scopes: the body of a procedure, of a VALOF and of a FOR, and the commands of a block with
 -- declarations own their labels.
 use Rattle.std.specs.Prelude.{ℕ, List}
-use Rattle.bk_syntax.specs.Tree as t
-use Rattle.bk_syntax.specs.Tree.{Mention, Expression, Expressions, Action, Actions, Declaration, Declarations, Definition, Definitions, Starts}
+use Rattle.bk_tree.specs.Tree as t
+use Rattle.bk_tree.specs.Tree.{Mention, Expression, Expressions, Action, Actions, Declaration, Declarations, Definition, Definitions, Starts}
 use Rattle.bk_meaning.specs.World.{World, Exit, goto, Outcome, leaves, each_way, with, Done, done, either}
 use Rattle.bk_meaning.specs.Environment.{Environment, past_action, labelled}
 use Rattle.bk_meaning.specs.Seeking.{the_label, Mode, forwards, seeking, stands_in, stands_in_one}

@@ -1,8 +1,8 @@
 -- Seeking a label, or the place of a CASE or DEFAULT, in commands: where it stands, seeking can come to it.
 use Rattle.std.specs.Prelude.{ℕ, ◌==◌, Bool, true, false, ◌||◌, cond, Option, Some, List}
 use Rattle.std.specs.Str.{bytes_eq}
-use Rattle.bk_syntax.specs.Tree as t
-use Rattle.bk_syntax.specs.Tree.{Action, Actions}
+use Rattle.bk_tree.specs.Tree as t
+use Rattle.bk_tree.specs.Tree.{Action, Actions}
 use Rattle.bk_meaning.specs.Environment.{Environment, constant_in}
 
 pub data Sought : Type 0 where

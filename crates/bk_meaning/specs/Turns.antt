@@ -1,7 +1,7 @@
 -- What more turns change of a run: nothing, but that a run which was cut off goes on. What was written stays a beginning, and
 -- the input is taken from its front.
 use Rattle.std.specs.Prelude.{◌≡◌, ℕ, ◌≤◌, List, []}
-use Rattle.bk_syntax.specs.Tree.{Declarations}
+use Rattle.bk_tree.specs.Tree.{Declarations}
 use Rattle.bk_meaning.specs.World.{World, going}
 use Rattle.bk_meaning.specs.Values.{Value}
 use Rattle.bk_meaning.specs.Lasting.{Program}

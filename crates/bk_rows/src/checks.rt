@@ -1,6 +1,8 @@
 //! Checks of what comes of words and sources, and a device that refuses each byte.
-use crate::outcome::{INTERPRET, RUN, filtered, outcome_of};
-use bk_base::{ByteOut, Failed};
+use crate::outcome::{INTERPRET, Outcome, RUN, filtered, outcome_of};
+use bk_back_rows::devices::Short;
+use bk_base::{ByteIn, ByteOut, Failed, Writer512};
+use bk_kit::{Order, order, serve};
 use std::alloc::Global;
 use std::process::Abort;
 use std::test::Fail;
@@ -39,6 +41,63 @@ impl ByteOut for Refusing {
     }
 }
 
+/// The order of words that are right.
+pub fn asked(alloc: Global, words: &[&str]) -> Result<Order, Fail> {
+    match order(alloc, words) {
+        Ok(asked) => Ok(asked),
+        Err(_) => Err(Fail::from("refused")),
+    }
+}
+
+/// Serves an order whose output fails behind so many bytes, and answers the status.
+fn serve_short<F: ByteIn, I: ByteIn>(
+    alloc: Global,
+    asked: &Order,
+    file: &mut F,
+    input: &mut I,
+    room: usize,
+    output: &mut Vec<u8>,
+    line: &mut Vec<u8>,
+) -> u8 {
+    let mut out = Writer512::new(Short {
+        bytes: output,
+        room,
+    });
+    let mut err = Writer512::new(line);
+    serve(alloc, asked, file, input, &mut out, &mut err)
+}
+
+/// What comes of an order whose output fails behind so many bytes.
+pub fn served_short<F: ByteIn, I: ByteIn>(
+    alloc: Global,
+    asked: &Order,
+    file: &mut F,
+    input: &mut I,
+    room: usize,
+) -> Outcome {
+    let mut output = Vec::new(alloc);
+    let mut line = Vec::new(alloc);
+    let status = serve_short(alloc, asked, file, input, room, &mut output, &mut line);
+    Outcome {
+        status,
+        output,
+        line,
+    }
+}
+
+/// Checks an outcome: its status, its output and its line.
+pub fn check_outcome(rt: &impl Abort, outcome: &Outcome, status: u8, output: &[u8], line: &[u8]) {
+    assert_eq!(rt; outcome.status, status);
+    assert_eq!(rt; outcome.output.as_slice(), output);
+    assert_eq!(rt; outcome.line.as_slice(), line);
+}
+
+/// Checks the status and the line of an outcome.
+pub fn check_fault(rt: &impl Abort, outcome: &Outcome, status: u8, line: &[u8]) {
+    assert_eq!(rt; outcome.status, status);
+    assert_eq!(rt; outcome.line.as_slice(), line);
+}
+
 /// Checks that the words give this status, this output and this line.
 pub fn check(
     rt: &impl Abort,
@@ -51,9 +110,7 @@ pub fn check(
     line: &[u8],
 ) -> Result<(), Fail> {
     let outcome = outcome_of(alloc, words, file, input)?;
-    assert_eq!(rt; outcome.status, status);
-    assert_eq!(rt; outcome.output.as_slice(), output);
-    assert_eq!(rt; outcome.line.as_slice(), line);
+    check_outcome(rt, &outcome, status, output, line);
     Ok(())
 }
 

@@ -1,11 +1,13 @@
 //! Rows of the command line and of `bcpl interpret`: words, FILE, input, and what comes of them.
-use crate::checks::check;
+use crate::checks::{asked, check, check_fault, check_outcome, served_short};
+use crate::outcome::{INTERPRET, Outcome, served};
 use bk_back_rows::devices::{Short, Slow};
 use bk_base::{
     IntcodeFault, IntcodeKind, Limits, Line, OcodeFault, OcodeKind, Reader512, SourceFault,
     SourceKind, Writer512,
 };
 use bk_kit::{KitFault, LineFault, Order, order, serve};
+use std::alloc::{AllocError, Global};
 use std::test::Fail;
 
 const HI: &[u8] = b"1 LL2 SP4 LIG6 K2 X4 2 C3 C72 C73 C33 G1L1 Z";
@@ -14,32 +16,37 @@ const LETTER: &[u8] = b"1 L65 SP4 LIG4 K2 X4 G1L1 Z";
 // copies its input, and ends with the status -1 of the end
 const COPY: &[u8] = b"1 LIG3 K2 SP2 L-1 LIP2 X10 TL2 LIP2 SP5 LIG4 K3 JL1 2 X4 G1L1 Z";
 
+/// Codes and their input, with the status, the output and the line.
+static RUNS: [(&[u8], &[u8], u8, &[u8], &[u8]); 8] = [
+    (HI, b"", 0, b"HI!", b""),
+    (b"", b"", 108, b"", b"no START\n"),
+    (LETTER, b"", 0, b"A", b""),
+    (b"1 X99 G1L1 Z", b"", 107, b"", b"bad operation\n"),
+    (b"1 L7 L0 X6 G1L1 Z", b"", 104, b"", b"division by zero\n"),
+    (b"1 K2 G1L1 Z", b"", 105, b"", b"store limit\n"),
+    (b"1 J4194304 G1L1 Z", b"", 105, b"", b"store limit\n"),
+    (COPY, b"as it is", 0, b"as it is", b""),
+];
+
 #[test]
 fn runs(rt: HostRuntime) -> Result<(), Fail> {
-    let words = ["bcpl", "interpret", "f"];
-    check(&rt, rt.alloc(), &words, HI, b"", 0, b"HI!", b"")?;
-    check(&rt, rt.alloc(), &words, b"", b"", 108, b"", b"no START\n")?;
-    check(&rt, rt.alloc(), &words, LETTER, b"", 0, b"A", b"")?;
-    check(
-        &rt,
-        rt.alloc(),
-        &words,
-        b"1 X99 G1L1 Z",
-        b"",
-        107,
-        b"",
-        b"bad operation\n",
-    )?;
-    check(
-        &rt,
-        rt.alloc(),
-        &words,
-        b"1 L7 L0 X6 G1L1 Z",
-        b"",
-        104,
-        b"",
-        b"division by zero\n",
-    )?;
+    for (text, input, status, output, line) in &RUNS {
+        check(
+            &rt,
+            rt.alloc(),
+            &INTERPRET,
+            text,
+            input,
+            *status,
+            output,
+            line,
+        )?;
+    }
+    Ok(())
+}
+
+#[test]
+fn thousand_steps(rt: HostRuntime) -> Result<(), Fail> {
     check(
         &rt,
         rt.alloc(),
@@ -49,38 +56,7 @@ fn runs(rt: HostRuntime) -> Result<(), Fail> {
         106,
         b"",
         b"step limit\n",
-    )?;
-    check(
-        &rt,
-        rt.alloc(),
-        &words,
-        b"1 K2 G1L1 Z",
-        b"",
-        105,
-        b"",
-        b"store limit\n",
-    )?;
-    check(
-        &rt,
-        rt.alloc(),
-        &words,
-        b"1 J4194304 G1L1 Z",
-        b"",
-        105,
-        b"",
-        b"store limit\n",
-    )?;
-    check(
-        &rt,
-        rt.alloc(),
-        &words,
-        COPY,
-        b"as it is",
-        0,
-        b"as it is",
-        b"",
-    )?;
-    Ok(())
+    )
 }
 
 #[test]
@@ -180,32 +156,34 @@ fn stops(rt: HostRuntime) -> Result<(), Fail> {
     Ok(())
 }
 
+/// A code of one operation and so many words of data.
+fn code_with_data(alloc: Global, words: usize) -> Result<Vec<u8>, AllocError> {
+    let mut text = Vec::new(alloc);
+    text.extend_from_slice(b"1 X22 G1L1")?;
+    for _ in 0..words {
+        text.extend_from_slice(b" D0")?;
+    }
+    text.extend_from_slice(b" Z")?;
+    Ok(text)
+}
+
 #[test]
 fn stores(rt: HostRuntime) -> Result<(), Fail> {
     // 3046 words of code from word 1034 on leave 16 words of 4096
-    let mut text = Vec::new(rt.alloc());
-    text.extend_from_slice(b"1 X22 G1L1")?;
-    for _ in 0..3045 {
-        text.extend_from_slice(b" D0")?;
-    }
-    let mut longer = text.clone()?;
-    text.extend_from_slice(b" Z")?;
-    longer.extend_from_slice(b" D0 Z")?;
+    let text = code_with_data(rt.alloc(), 3045)?;
     let words = ["bcpl", "interpret", "-s", "4096", "f"];
-    check(&rt, rt.alloc(), &words, text.as_slice(), b"", 0, b"", b"")?;
-    check(
-        &rt,
-        rt.alloc(),
-        &words,
-        longer.as_slice(),
-        b"",
-        105,
-        b"",
-        b"store too small\n",
-    )?;
+    check(&rt, rt.alloc(), &words, text.as_slice(), b"", 0, b"", b"")
+}
+
+#[test]
+fn stores_of_one_word_more(rt: HostRuntime) -> Result<(), Fail> {
+    let text = code_with_data(rt.alloc(), 3046)?;
+    let longer = text.as_slice();
+    let words = ["bcpl", "interpret", "-s", "4096", "f"];
+    let line: &[u8] = b"store too small\n";
+    check(&rt, rt.alloc(), &words, longer, b"", 105, b"", line)?;
     let words = ["bcpl", "interpret", "-s", "4097", "f"];
-    check(&rt, rt.alloc(), &words, longer.as_slice(), b"", 0, b"", b"")?;
-    Ok(())
+    check(&rt, rt.alloc(), &words, longer, b"", 0, b"", b"")
 }
 
 #[test]
@@ -350,129 +328,92 @@ fn help(rt: HostRuntime) -> Result<(), Fail> {
     Ok(())
 }
 
+/// What comes of the code of a letter that cannot be read behind so many reads.
+fn letter_read(alloc: Global, asked: &Order, reads: usize) -> Outcome {
+    let mut code = Reader512::new(Slow {
+        bytes: LETTER,
+        reads,
+    });
+    served(alloc, asked, &mut code, &mut Reader512::new(b"".as_slice()))
+}
+
 #[test]
 fn a_code_that_cannot_be_read(rt: HostRuntime) -> Result<(), Fail> {
-    let asked = order(rt.alloc(), &["bcpl", "interpret", "f"]);
-    let Ok(asked) = asked else {
-        return Err(Fail::from("refused"));
-    };
+    let asked = asked(rt.alloc(), &INTERPRET)?;
     // all bytes and the end are read at the last
     for reads in 0..LETTER.len() + 2 {
-        let mut output = Vec::new(rt.alloc());
-        let mut line = Vec::new(rt.alloc());
-        let mut out = Writer512::new(&mut output);
-        let mut err = Writer512::new(&mut line);
-        let status = serve(
-            rt.alloc(),
-            &asked,
-            &mut Reader512::new(Slow {
-                bytes: LETTER,
-                reads,
-            }),
-            &mut Reader512::new(b"".as_slice()),
-            &mut out,
-            &mut err,
-        );
-        drop(out);
-        drop(err);
-        let whole = reads == LETTER.len() + 1;
-        let letter: &[u8] = if whole { b"A" } else { b"" };
-        let told: &[u8] = if whole { b"" } else { b"read fault\n" };
-        assert_eq!(rt; status, if whole { 0 } else { 109 });
-        assert_eq!(rt; output.as_slice(), letter);
-        assert_eq!(rt; line.as_slice(), told);
+        let got = letter_read(rt.alloc(), &asked, reads);
+        if reads == LETTER.len() + 1 {
+            check_outcome(&rt, &got, 0, b"A", b"");
+        } else {
+            check_outcome(&rt, &got, 109, b"", b"read fault\n");
+        }
     }
     Ok(())
+}
+
+/// What comes of a copy of an input that cannot be read behind so many reads.
+fn copy_read(alloc: Global, asked: &Order, bytes: &[u8], reads: usize) -> Outcome {
+    let mut input = Reader512::new(Slow { bytes, reads });
+    served(alloc, asked, &mut Reader512::new(COPY), &mut input)
 }
 
 #[test]
 fn an_input_that_cannot_be_read(rt: HostRuntime) -> Result<(), Fail> {
-    let asked = order(rt.alloc(), &["bcpl", "interpret", "f"]);
-    let Ok(asked) = asked else {
-        return Err(Fail::from("refused"));
-    };
+    let asked = asked(rt.alloc(), &INTERPRET)?;
     let text: &[u8] = b"abc";
     for reads in 0..5 {
-        let mut output = Vec::new(rt.alloc());
-        let mut line = Vec::new(rt.alloc());
-        let mut out = Writer512::new(&mut output);
-        let mut err = Writer512::new(&mut line);
-        let status = serve(
-            rt.alloc(),
-            &asked,
-            &mut Reader512::new(COPY),
-            &mut Reader512::new(Slow { bytes: text, reads }),
-            &mut out,
-            &mut err,
-        );
-        drop(out);
-        drop(err);
+        let got = copy_read(rt.alloc(), &asked, text, reads);
         let whole = reads == 4;
         let told: &[u8] = if whole { b"" } else { b"read fault\n" };
-        assert_eq!(rt; status, if whole { 0 } else { 109 });
-        assert_eq!(rt; Some(output.as_slice()), text.get(..reads.min(3)));
-        assert_eq!(rt; line.as_slice(), told);
+        check_fault(&rt, &got, if whole { 0 } else { 109 }, told);
+        assert_eq!(rt; Some(got.output.as_slice()), text.get(..reads.min(3)));
     }
     Ok(())
+}
+
+/// What comes of the code of HI where the output fails behind so many bytes.
+fn hi_written(alloc: Global, asked: &Order, room: usize) -> Outcome {
+    let mut code = Reader512::new(HI);
+    let mut input = Reader512::new(b"".as_slice());
+    served_short(alloc, asked, &mut code, &mut input, room)
 }
 
 #[test]
 fn an_output_that_cannot_be_written(rt: HostRuntime) -> Result<(), Fail> {
-    let asked = order(rt.alloc(), &["bcpl", "interpret", "f"]);
-    let Ok(asked) = asked else {
-        return Err(Fail::from("refused"));
-    };
+    let asked = asked(rt.alloc(), &INTERPRET)?;
     let whole: &[u8] = b"HI!";
     for room in 0..4 {
-        let mut output = Vec::new(rt.alloc());
-        let mut line = Vec::new(rt.alloc());
-        let mut out = Writer512::new(Short {
-            bytes: &mut output,
-            room,
-        });
-        let mut err = Writer512::new(&mut line);
-        let status = serve(
-            rt.alloc(),
-            &asked,
-            &mut Reader512::new(HI),
-            &mut Reader512::new(b"".as_slice()),
-            &mut out,
-            &mut err,
-        );
-        drop(out);
-        drop(err);
+        let got = hi_written(rt.alloc(), &asked, room);
         let told: &[u8] = if room == 3 { b"" } else { b"write fault\n" };
-        assert_eq!(rt; status, if room == 3 { 0 } else { 110 });
-        assert_eq!(rt; Some(output.as_slice()), whole.get(..room));
-        assert_eq!(rt; line.as_slice(), told);
+        check_fault(&rt, &got, if room == 3 { 0 } else { 110 }, told);
+        assert_eq!(rt; Some(got.output.as_slice()), whole.get(..room));
     }
     Ok(())
 }
 
+/// Serves an order over no bytes whose error stream fails behind so many, and answers the status.
+fn serve_nothing(
+    alloc: Global,
+    asked: &Order,
+    output: &mut Vec<u8>,
+    line: &mut Vec<u8>,
+    room: usize,
+) -> u8 {
+    let mut nothing = Reader512::new(b"".as_slice());
+    let mut input = Reader512::new(b"".as_slice());
+    let mut out = Writer512::new(output);
+    let mut err = Writer512::new(Short { bytes: line, room });
+    serve(alloc, asked, &mut nothing, &mut input, &mut out, &mut err)
+}
+
 #[test]
 fn an_error_stream_that_fails(rt: HostRuntime) -> Result<(), Fail> {
-    let asked = order(rt.alloc(), &["bcpl", "interpret", "f"]);
-    let Ok(asked) = asked else {
-        return Err(Fail::from("refused"));
-    };
+    let asked = asked(rt.alloc(), &INTERPRET)?;
     for room in 0..9 {
         let mut output = Vec::new(rt.alloc());
         let mut line = Vec::new(rt.alloc());
-        let mut out = Writer512::new(&mut output);
-        let mut err = Writer512::new(Short {
-            bytes: &mut line,
-            room,
-        });
-        let status = serve(
-            rt.alloc(),
-            &asked,
-            &mut Reader512::new(b"".as_slice()),
-            &mut Reader512::new(b"".as_slice()),
-            &mut out,
-            &mut err,
-        );
-        drop(out);
-        drop(err);
+        let status = serve_nothing(rt.alloc(), &asked, &mut output, &mut line, room);
         assert_eq!(rt; status, 108);
         assert_eq!(rt; Some(line.as_slice()), b"no START\n".get(..room));
     }

@@ -4,6 +4,7 @@ use crate::outcome::{COMPILE, GENERATE, outcome_of};
 use bk_back_rows::devices::Slow;
 use bk_base::Reader512;
 use bk_kit::{KitFault, compile, generate_all};
+use std::alloc::Global;
 use std::test::Fail;
 
 /// START that does nothing, and its code.
@@ -102,16 +103,32 @@ fn generated(rt: HostRuntime) -> Result<(), Fail> {
     Ok(())
 }
 
+/// Whether the first filter says that nothing can be written where the output refuses each byte.
+fn refuses_code(alloc: Global, source: &mut Slow<'_>) -> bool {
+    let mut out = Refusing { failed: false };
+    let answer = compile(alloc, &mut Reader512::new(source), &mut out);
+    matches!(answer, Err(KitFault::Write))
+}
+
 #[test]
-fn one_section_is_read_before_the_output_fails(rt: HostRuntime) -> Result<(), Fail> {
+fn one_section_is_read_before_the_code_is_refused(rt: HostRuntime) {
     let mut source = Slow {
         bytes: WRONG_SECOND,
         reads: 1000,
     };
-    let mut out = Refusing { failed: false };
-    let answer = compile(rt.alloc(), &mut Reader512::new(&mut source), &mut out);
-    assert!(&rt; matches!(answer, Err(KitFault::Write)));
+    assert!(&rt; refuses_code(rt.alloc(), &mut source));
     assert!(&rt; source.bytes.starts_with(b"\nGET"));
+}
+
+/// The same of the second filter.
+fn refuses_segments(alloc: Global, code: &mut Slow<'_>) -> bool {
+    let mut out = Refusing { failed: false };
+    let answer = generate_all(alloc, &mut Reader512::new(code), &mut out);
+    matches!(answer, Err(KitFault::Write))
+}
+
+#[test]
+fn one_section_is_read_before_the_segments_are_refused(rt: HostRuntime) -> Result<(), Fail> {
     let mut text = Vec::new(rt.alloc());
     text.extend_from_slice(FINISHED)?;
     text.extend_from_slice(FIRST_CODE)?;
@@ -119,9 +136,7 @@ fn one_section_is_read_before_the_output_fails(rt: HostRuntime) -> Result<(), Fa
         bytes: text.as_slice(),
         reads: 1000,
     };
-    let mut out = Refusing { failed: false };
-    let answer = generate_all(rt.alloc(), &mut Reader512::new(&mut code), &mut out);
-    assert!(&rt; matches!(answer, Err(KitFault::Write)));
+    assert!(&rt; refuses_segments(rt.alloc(), &mut code));
     assert!(&rt; code.bytes.starts_with(FIRST_CODE));
     Ok(())
 }

@@ -1,9 +1,9 @@
 //! What comes of words, and of a source through the filters, with each of the generators.
-use bk_base::{ByteOut, Reader512, Writer512};
+use bk_base::{ByteIn, ByteOut, Reader512, Writer512};
 use bk_gen::plain;
 use bk_intcode_text::print;
-use bk_kit::{order, refuse, serve};
-use bk_ocode::read_section;
+use bk_kit::{LineFault, Order, order, refuse, serve};
+use bk_ocode::{Ocode, read_section};
 use std::alloc::{AllocError, Global};
 
 /// The words that run FILE as a source.
@@ -26,6 +26,61 @@ pub struct Outcome {
     pub line: Vec<u8>,
 }
 
+/// Serves an order, with memory for the output and the error stream, and answers the status.
+fn serve_into<F: ByteIn, I: ByteIn>(
+    alloc: Global,
+    asked: &Order,
+    file: &mut F,
+    input: &mut I,
+    output: &mut Vec<u8>,
+    line: &mut Vec<u8>,
+) -> u8 {
+    let mut out = Writer512::new(output);
+    let mut err = Writer512::new(line);
+    serve(alloc, asked, file, input, &mut out, &mut err)
+}
+
+/// What comes of an order.
+pub fn served<F: ByteIn, I: ByteIn>(
+    alloc: Global,
+    asked: &Order,
+    file: &mut F,
+    input: &mut I,
+) -> Outcome {
+    let mut output = Vec::new(alloc);
+    let mut line = Vec::new(alloc);
+    let status = serve_into(alloc, asked, file, input, &mut output, &mut line);
+    Outcome {
+        status,
+        output,
+        line,
+    }
+}
+
+/// What comes of an order over memory.
+fn served_bytes(alloc: Global, asked: &Order, file: &[u8], input: &[u8]) -> Outcome {
+    let mut file = Reader512::new(file);
+    let mut input = Reader512::new(input);
+    served(alloc, asked, &mut file, &mut input)
+}
+
+/// Writes the line of words that give no order, and answers the status.
+fn refuse_into(fault: &LineFault, line: &mut Vec<u8>) -> u8 {
+    let mut err = Writer512::new(line);
+    refuse(fault, &mut err)
+}
+
+/// What comes of words that give no order.
+fn refused(alloc: Global, fault: &LineFault) -> Outcome {
+    let mut line = Vec::new(alloc);
+    let status = refuse_into(fault, &mut line);
+    Outcome {
+        status,
+        output: Vec::new(alloc),
+        line,
+    }
+}
+
 /// Serves the words over memory.
 pub fn outcome_of(
     alloc: Global,
@@ -33,28 +88,20 @@ pub fn outcome_of(
     file: &[u8],
     input: &[u8],
 ) -> Result<Outcome, AllocError> {
-    let mut output = Vec::new(alloc);
-    let mut line = Vec::new(alloc);
-    let mut out = Writer512::new(&mut output);
-    let mut err = Writer512::new(&mut line);
-    let status = match order(alloc, words) {
-        Ok(order) => serve(
-            alloc,
-            &order,
-            &mut Reader512::new(file),
-            &mut Reader512::new(input),
-            &mut out,
-            &mut err,
-        ),
-        Err(fault) => refuse(&fault, &mut err),
-    };
-    drop(out);
-    drop(err);
-    Ok(Outcome {
-        status,
-        output,
-        line,
-    })
+    match order(alloc, words) {
+        Ok(asked) => Ok(served_bytes(alloc, &asked, file, input)),
+        Err(fault) => Ok(refused(alloc, &fault)),
+    }
+}
+
+/// Writes the segment that the plain generator gives for a section, and says whether it was written.
+fn put_segment<O: ByteOut>(
+    alloc: Global,
+    section: &Ocode,
+    out: &mut O,
+) -> Result<bool, AllocError> {
+    let segment = plain::generate(alloc, section)?;
+    Ok(print(&segment, out).is_ok())
 }
 
 /// Writes the segments that the plain generator gives for the sections of a text, and answers the status that the second filter
@@ -67,8 +114,7 @@ fn put_plain<O: ByteOut>(alloc: Global, code: &[u8], out: &mut O) -> Result<u8, 
             Ok(None) => break,
             Err(_) => return Ok(102),
         };
-        let segment = plain::generate(alloc, &section)?;
-        if print(&segment, out).is_err() {
+        if !put_segment(alloc, &section, out)? {
             return Ok(110);
         }
     }

@@ -1,10 +1,9 @@
 //! Rows of `bcpl run` with limits, and with devices that fail.
-use crate::checks::check;
+use crate::checks::{asked, check};
 use crate::outcome::RUN;
 use bk_back_rows::devices::{Short, Slow};
 use bk_base::{ByteIn, Reader512, Writer512};
-use bk_kit::{LineFault, Order, order, serve};
-use std::alloc::Global;
+use bk_kit::{LineFault, order, serve};
 use std::test::Fail;
 
 const HI: &[u8] = b"GET \"LIBHDR\" LET START() BE $( WRCH(72); WRCH(73); STOP(3) $)";
@@ -55,17 +54,9 @@ fn steps_and_words(rt: HostRuntime) -> Result<(), Fail> {
     )
 }
 
-/// The order that runs a source.
-fn run_order(alloc: Global) -> Result<Order, Fail> {
-    match order(alloc, &RUN) {
-        Ok(asked) => Ok(asked),
-        Err(_) => Err(Fail::from("refused")),
-    }
-}
-
 #[test]
 fn a_source_that_cannot_be_read(rt: HostRuntime) -> Result<(), Fail> {
-    let asked = run_order(rt.alloc())?;
+    let asked = asked(rt.alloc(), &RUN)?;
     // all bytes and the end are read at the last
     for reads in 0..HI.len() + 2 {
         let mut output = [0; 4];
@@ -102,7 +93,7 @@ $)
 
 #[test]
 fn an_input_that_cannot_be_read(rt: HostRuntime) -> Result<(), Fail> {
-    let asked = run_order(rt.alloc())?;
+    let asked = asked(rt.alloc(), &RUN)?;
     let text: &[u8] = b"abc";
     for reads in 0..5 {
         let mut output = [0; 4];
@@ -131,7 +122,7 @@ fn an_input_that_cannot_be_read(rt: HostRuntime) -> Result<(), Fail> {
 
 #[test]
 fn no_more_is_read_than_the_program_asks_for(rt: HostRuntime) -> Result<(), Fail> {
-    let asked = run_order(rt.alloc())?;
+    let asked = asked(rt.alloc(), &RUN)?;
     let mut output = [0; 4];
     let mut line = [0; 16];
     let mut out = Writer512::new(output.as_mut_slice());
@@ -163,7 +154,7 @@ const HELLO: &[u8] = b"GET \"LIBHDR\" LET START() BE WRITES(\"HELLO\")";
 
 #[test]
 fn an_output_that_cannot_be_written(rt: HostRuntime) -> Result<(), Fail> {
-    let asked = run_order(rt.alloc())?;
+    let asked = asked(rt.alloc(), &RUN)?;
     let whole: &[u8] = b"HELLO";
     for room in 0..6 {
         let mut output = Vec::new(rt.alloc());

@@ -1,8 +1,8 @@
 -- The pass and what is told, where a word is asked for: that an expression has none is told in front of it.
 use Rattle.std.proofs.Common.{◌≡◌, ℕ, ◌+◌, ◌<◌, ◌==◌, Bool, true, false, cond, not, Option, Some, None, List, [], ◌∷◌, ◌++◌, length, ◌≤◌, refl, sym, ap, ◌∙◌, subst, arith}
 use Rattle.std.proofs.lemmas.Bool.{false≢true}
-use Rattle.bk_syntax.specs.Tree.{Expression, name, number, text, truth, query, parens, unary, binary, choice, apply, valof, table}
-use Rattle.bk_syntax.specs.Grammar.{size}
+use Rattle.bk_tree.specs.Tree.{Expression, name, number, text, truth, query, parens, unary, binary, choice, apply, valof, table}
+use Rattle.bk_tree.specs.Parts.{size}
 use Rattle.bk_scope.specs.declared.bound.Bound.{Bound}
 use Rattle.bk_scope.specs.declared.bound.Bound.TheVariants.{Constant, Global, Static, Variable, Label}
 use Rattle.bk_scope.specs.declared.place.Place.{Place}

@@ -1,10 +1,10 @@
 -- The pass and what is told: commands.
 use Rattle.std.proofs.Common.{◌≡◌, ℕ, ◌+◌, ◌==◌, Bool, true, false, cond, Option, Some, None, List, [], ◌∷◌, ◌++◌, length, refl, sym, ap, ◌∙◌, subst, arith}
 use Rattle.std.proofs.lemmas.List.{append-nil}
-use Rattle.bk_syntax.specs.declared.tree.Simple.{Simple}
-use Rattle.bk_syntax.specs.declared.tree.Simple.TheVariants as w
-use Rattle.bk_syntax.specs.Tree.{Mention, Expression, Expressions, Action, Actions, empty, assign, call, goto, label, case_of, default, when, test, while, for_loop, result, simple, block, repeat, repeat_while, no_actions, also, no_declarations}
-use Rattle.bk_syntax.specs.Grammar.{size}
+use Rattle.bk_tree.specs.declared.tree.Simple.{Simple}
+use Rattle.bk_tree.specs.declared.tree.Simple.TheVariants as w
+use Rattle.bk_tree.specs.Tree.{Mention, Expression, Expressions, Action, Actions, empty, assign, call, goto, label, case_of, default, when, test, while, for_loop, result, simple, block, repeat, repeat_while, no_actions, also, no_declarations}
+use Rattle.bk_tree.specs.Parts.{size}
 use Rattle.bk_scope.specs.declared.bound.Bound.{Bound}
 use Rattle.bk_scope.specs.declared.bound.Bound.TheVariants.{Constant, Global, Static, Variable, Label}
 use Rattle.bk_scope.specs.declared.place.Place.{Place}

@@ -3,9 +3,9 @@ use Rattle.std.proofs.Common.{◌≡◌, ℕ, ◌+◌, Bool, true, false, cond, 
 use Rattle.std.specs.Prelude.{nat_lt}
 use Rattle.std.proofs.lemmas.List.{append-nil}
 use Rattle.bk_base.specs.declared.limit.TheConstants.{GLOBAL_NUMBER, VEC_NUMBER}
-use Rattle.bk_syntax.specs.declared.tree.Sort.TheVariants as sort
-use Rattle.bk_syntax.specs.Tree.{Mention, Expression, Declaration, Declarations, Items, Definitions, Starts, constants, definitions, no_declarations, declare, no_items, item, variables, no_starts, value, vector}
-use Rattle.bk_syntax.specs.Grammar.{line_of}
+use Rattle.bk_tree.specs.declared.tree.Sort.TheVariants as sort
+use Rattle.bk_tree.specs.Tree.{Mention, Expression, Declaration, Declarations, Items, Definitions, Starts, constants, definitions, no_declarations, declare, no_items, item, variables, no_starts, value, vector}
+use Rattle.bk_tree.specs.Parts.{line_of}
 use Rattle.bk_scope.specs.declared.bound.Bound.TheVariants.{Constant, Global, Static}
 use Rattle.bk_scope.specs.declared.place.Place.{Place}
 use Rattle.bk_scope.specs.declared.role.Role.TheVariants.{Value}

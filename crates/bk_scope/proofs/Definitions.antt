@@ -1,13 +1,12 @@
 -- What stands behind a declaration and a definition.
 use Rattle.std.proofs.Common.{◌≡◌, ℕ, List, [], ◌∷◌, ◌++◌, Result, Ok, Err, OnOk, IfOk, refl}
 use Rattle.std.specs.declared.alloc.AllocError.{AllocError}
-use Rattle.bk_syntax.specs.Tree.{Mention, Definitions, definitions, Starts, no_starts, variables}
+use Rattle.bk_tree.specs.Tree.{Mention, Definitions, definitions, Starts, no_starts, variables}
 use Rattle.bk_scope.specs.declared.place.Place.{Place}
 use Rattle.bk_scope.specs.Scope.{Binding, bind_all}
 use Rattle.bk_scope.specs.Found.{Found, takes}
-use Rattle.bk_scope.specs.Entering.{Stage, with_labels, with_formals, with_procedures}
+use Rattle.bk_scope.specs.Entering.{Stage, with_procedures}
 use Rattle.bk_scope.specs.Names.{AfterDeclarations, Defined, variables_of, all_listed, started, place_behind, defined, one_declared, one_defined}
-use Rattle.bk_scope.proofs.Leaving.{Above, both, labels_above, formals_above}
 
 -- what stands behind a declaration that leaves the place as it was
 abbrev pub at : Place → Stage → AfterDeclarations
@@ -17,10 +16,6 @@ at p t = record { scope = t.scope; place = p; found = t.found }
 pub no_variables : (bs : List Binding) (p : Place) (xs : List Mention) → variables_of bs p xs no_starts ≡ []
 no_variables bs p [] = refl
 no_variables bs p (x ∷ xs) = refl
-
--- the labels of a body stand inside its formals, and those inside what was in scope
-pub body_above : (k d n : ℕ) (fs : List Mention) (xs : List (List ℕ)) (bs : List Binding) (t : Stage) → t.scope ≡ with_formals k d fs bs → Above bs ((with_labels n xs t).scope)
-body_above k d n fs xs bs t is = both bs t.scope _ (rw is (formals_above k d fs bs)) (labels_above n xs t)
 
 -- what stands behind a LET, by what its procedures and its definitions made
 pub let_behind : (bs : List Binding) (p : Place) (f : Found) (l : ℕ) (ds : Definitions) (t : Stage) (d : Defined) (cs : List Binding) (q : Place) (g : Found)

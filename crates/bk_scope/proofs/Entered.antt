@@ -1,11 +1,11 @@
 -- Names that come into scope one after another: what is left of them, one name further.
 use Rattle.std.proofs.Common.{arith, ◌≡◌, ℕ, ◌+◌, ◌<◌, List, [], ◌∷◌, ◌++◌, length, get_or, drop, map, refl, sym, ap, ◌∙◌}
 use Rattle.std.proofs.lemmas.List.{at_drop_more}
-use Rattle.bk_syntax.specs.declared.tree.Name.{Name}
-use Rattle.bk_syntax.specs.declared.tree.Command.{Command}
-use Rattle.bk_syntax.specs.declared.tree.Def.{Def}
-use Rattle.bk_syntax.specs.declared.tree.Decl.{Decl}
-use Rattle.bk_syntax.specs.Tree.{Actions, block, define, mention, action, actions_in, declarations_in, definition, definitions_in}
+use Rattle.bk_tree.specs.declared.tree.Name.{Name}
+use Rattle.bk_tree.specs.declared.tree.Command.{Command}
+use Rattle.bk_tree.specs.declared.tree.Def.{Def}
+use Rattle.bk_tree.specs.declared.tree.Decl.{Decl}
+use Rattle.bk_tree.specs.Tree.{Actions, block, define, mention, action, actions_in, declarations_in, definition, definitions_in}
 use Rattle.bk_scope.specs.declared.bound.Bound.TheVariants.{Variable, Label}
 use Rattle.bk_scope.specs.Scope.{Binding, bind}
 use Rattle.bk_scope.specs.Places.{kept}

@@ -4,7 +4,7 @@ use Rattle.std.proofs.Common.{◌≡◌, ℕ, ◌+◌, ◌≤◌, ◌<◌, Bool,
 use Rattle.std.specs.Str.{bytes_eq}
 use Rattle.std.proofs.lemmas.Option.{none-some}
 use Rattle.bk_base.specs.declared.limit.TheConstants.{GLOBAL_NUMBER, FRAME_WORDS}
-use Rattle.bk_syntax.specs.Tree.{Mention, Definitions, routine, function, variables, no_definitions, define}
+use Rattle.bk_tree.specs.Tree.{Mention, Definitions, routine, function, variables, no_definitions, define}
 use Rattle.bk_scope.specs.declared.bound.Bound.{Bound}
 use Rattle.bk_scope.specs.declared.bound.Bound.TheVariants.{Constant, Global, Static, Variable, Label}
 use Rattle.bk_scope.specs.Scope.{Binding, bound_in, bind, bind_all, is_global}

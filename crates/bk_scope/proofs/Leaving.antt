@@ -2,8 +2,8 @@
 use Rattle.std.proofs.Common.{arith, ◌≡◌, ℕ, ◌+◌, ◌-◌, ◌≤◌, Bool, true, false, cond, List, [], ◌∷◌, ◌++◌, length, drop, refl, sym, ap, ◌∙◌}
 use Rattle.std.proofs.lemmas.List.{append_assoc, length-append}
 use Rattle.std.proofs.Math.Seq.{drop-append_seam}
-use Rattle.bk_syntax.specs.declared.tree.Sort.TheVariants as s
-use Rattle.bk_syntax.specs.Tree.{Mention, Items, no_items, item, Definitions, no_definitions, define, routine, function, variables, Declaration, Declarations, no_declarations, declare, constants, definitions}
+use Rattle.bk_tree.specs.declared.tree.Sort.TheVariants as s
+use Rattle.bk_tree.specs.Tree.{Mention, Items, no_items, item, Definitions, no_definitions, define, routine, function, variables, Declaration, Declarations, no_declarations, declare, constants, definitions}
 use Rattle.bk_scope.specs.declared.place.Place.{Place}
 use Rattle.bk_scope.specs.Scope.{Binding, bound_in, bind_all, is_global}
 use Rattle.bk_scope.specs.Found.{Found, takes}

@@ -1,7 +1,7 @@
 -- The pass and what is told: the definitions of a LET.
 use Rattle.std.proofs.Common.{◌≡◌, ℕ, ◌+◌, List, [], ◌++◌, refl, sym, ap, ◌∙◌, subst, append_assoc, arith}
 use Rattle.std.proofs.lemmas.List.{append-nil}
-use Rattle.bk_syntax.specs.Tree.{Mention, Expression, Action, Definition, Definitions, definitions, routine, function, variables, no_definitions, define}
+use Rattle.bk_tree.specs.Tree.{Mention, Expression, Action, Definition, Definitions, definitions, routine, function, variables, no_definitions, define}
 use Rattle.bk_scope.specs.declared.place.Place.{Place}
 use Rattle.bk_scope.specs.Scope.{Binding, bind_all}
 use Rattle.bk_scope.specs.Found.{Found, takes}

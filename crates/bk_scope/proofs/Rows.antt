@@ -1,9 +1,9 @@
 -- Worked rows: what is found wrong in small sections.
 use Rattle.std.proofs.Common.{◌≡◌, ℕ, Some, [], ◌∷◌, refl}
-use Rattle.bk_syntax.specs.declared.tree.Operator.TheVariants as o
-use Rattle.bk_syntax.specs.declared.tree.Simple.TheVariants as w
-use Rattle.bk_syntax.specs.declared.tree.Sort.TheVariants as s
-use Rattle.bk_syntax.specs.Tree.{Mention, Expression, Action, Declaration, Declarations, name, number, binary, valof, none, more, empty, assign, call, case_of, switch, simple, block, no_actions, also, constants, definitions, no_declarations, declare, no_items, item, routine, function, variables, no_definitions, define, no_starts, value, vector}
+use Rattle.bk_tree.specs.declared.tree.Operator.TheVariants as o
+use Rattle.bk_tree.specs.declared.tree.Simple.TheVariants as w
+use Rattle.bk_tree.specs.declared.tree.Sort.TheVariants as s
+use Rattle.bk_tree.specs.Tree.{Mention, Expression, Action, Declaration, Declarations, name, number, binary, valof, none, more, empty, assign, call, case_of, switch, simple, block, no_actions, also, constants, definitions, no_declarations, declare, no_items, item, routine, function, variables, no_definitions, define, no_starts, value, vector}
 use Rattle.bk_scope.specs.Wrong.{Wrong, Breach, text_of, declared_twice, dynamic_name, divided_by_zero, case_repeated, no_loop, no_result_or_return, vec_out_of_range, frame_too_large, two_procedures}
 use Rattle.bk_scope.specs.Points.{first_told}
 use Rattle.bk_scope.specs.Faults.{faults}

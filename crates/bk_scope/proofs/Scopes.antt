@@ -1,7 +1,7 @@
 -- The pass and what is told, where names come into scope: VALOF, SWITCHON, a block with declarations.
 use Rattle.std.proofs.Common.{◌≡◌, ℕ, ◌+◌, List, [], ◌∷◌, length, refl, sym, ap, ◌∙◌, subst, arith}
 use Rattle.std.proofs.lemmas.List.{append-nil}
-use Rattle.bk_syntax.specs.Tree.{Expression, Action, Actions, Declaration, Declarations, valof, switch, block, declare}
+use Rattle.bk_tree.specs.Tree.{Expression, Action, Actions, Declaration, Declarations, valof, switch, block, declare}
 use Rattle.bk_scope.specs.declared.bound.Bound.TheVariants.{Label}
 use Rattle.bk_scope.specs.declared.place.Place.{Place}
 use Rattle.bk_scope.specs.declared.role.Role.TheVariants.{Value}

@@ -1,8 +1,8 @@
 -- THE PASS AND WHAT IS TOLD, for each node and for a section.
 use Rattle.std.proofs.Common.{◌≡◌, ◌+◌, None, List, [], ◌∷◌, refl, sym, ◌∙◌}
 use Rattle.std.proofs.lemmas.Option.{none-some}
-use Rattle.bk_syntax.specs.declared.tree.Sort.TheVariants as sort
-use Rattle.bk_syntax.specs.Tree.{Expression, Expressions, Action, Actions, Declaration, Declarations, Definition, Definitions, Starts, name, number, text, truth, query, parens, unary, binary, choice, apply, valof, table, none, more, empty, assign, call, goto, label, case_of, default, when, test, while, for_loop, switch, result, simple, block, repeat, repeat_while, no_actions, also, constants, definitions, no_declarations, declare, routine, function, variables, no_definitions, define, no_starts, value, vector}
+use Rattle.bk_tree.specs.declared.tree.Sort.TheVariants as sort
+use Rattle.bk_tree.specs.Tree.{Expression, Expressions, Action, Actions, Declaration, Declarations, Definition, Definitions, Starts, name, number, text, truth, query, parens, unary, binary, choice, apply, valof, table, none, more, empty, assign, call, goto, label, case_of, default, when, test, while, for_loop, switch, result, simple, block, repeat, repeat_while, no_actions, also, constants, definitions, no_declarations, declare, routine, function, variables, no_definitions, define, no_starts, value, vector}
 use Rattle.bk_scope.specs.Names.{nothing, found_in}
 use Rattle.bk_scope.specs.Places.{outermost}
 use Rattle.bk_scope.specs.Spots.{beginning, numbers_declared}

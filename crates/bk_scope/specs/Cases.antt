@@ -1,7 +1,7 @@
 -- The CASEs that belong to a SWITCHON: those of the commands whose labels belong together with its own, but of no SWITCHON
 -- inside.
 use Rattle.std.specs.Prelude.{◌≡◌, ℕ, ◌+◌, ◌≤◌, Option, Some, None, List, [], ◌∷◌, ◌++◌}
-use Rattle.bk_syntax.specs.Tree.{Expression, Action, Actions, label, case_of, default, when, test, while, switch, block, repeat, repeat_while, no_actions, also, no_declarations}
+use Rattle.bk_tree.specs.Tree.{Expression, Action, Actions, label, case_of, default, when, test, while, switch, block, repeat, repeat_while, no_actions, also, no_declarations}
 use Rattle.bk_scope.specs.declared.place.Place.{Place}
 use Rattle.bk_scope.specs.Scope.{Binding}
 use Rattle.bk_scope.specs.Constants.{constant_word}

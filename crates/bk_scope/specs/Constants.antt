@@ -3,11 +3,11 @@
 use Rattle.std.specs.Prelude.{ℕ, Bool, true, false, cond, ◌==◌, Option, Some, None, List, [], ◌∷◌, ◌++◌}
 use Rattle.std.specs.Option.{option_and_then}
 use Rattle.bk_base.specs.Word.{truth as truth_word, word_sum, word_difference, word_product, word_negation, word_quotient, word_remainder, word_equal, word_unequal, word_less, word_greater, word_at_most, word_at_least, word_left_shift, word_right_shift, word_not, word_and, word_or, word_eqv, word_neqv}
-use Rattle.bk_syntax.specs.declared.tree.Operator.{Operator}
-use Rattle.bk_syntax.specs.declared.tree.Operator.TheVariants as o
-use Rattle.bk_syntax.specs.declared.tree.Prefix.{Prefix}
-use Rattle.bk_syntax.specs.declared.tree.Prefix.TheVariants as p
-use Rattle.bk_syntax.specs.Tree.{Expression, name, number, text, truth, query, parens, unary, binary, choice, apply, valof, table}
+use Rattle.bk_tree.specs.declared.tree.Operator.{Operator}
+use Rattle.bk_tree.specs.declared.tree.Operator.TheVariants as o
+use Rattle.bk_tree.specs.declared.tree.Prefix.{Prefix}
+use Rattle.bk_tree.specs.declared.tree.Prefix.TheVariants as p
+use Rattle.bk_tree.specs.Tree.{Expression, name, number, text, truth, query, parens, unary, binary, choice, apply, valof, table}
 use Rattle.bk_scope.specs.declared.bound.Bound.{Bound}
 use Rattle.bk_scope.specs.declared.bound.Bound.TheVariants.{Constant, Variable}
 use Rattle.bk_scope.specs.Scope.{Binding, bound_in}

@@ -1,6 +1,6 @@
 -- Names that come into scope together: the labels of some commands, the formals of a procedure, the procedures of a LET.
 use Rattle.std.specs.Prelude.{ℕ, ◌+◌, cond, List, [], ◌∷◌, ◌++◌}
-use Rattle.bk_syntax.specs.Tree.{Mention, Action, Actions, Definitions, label, case_of, default, when, test, while, switch, block, repeat, repeat_while, no_actions, also, no_declarations, routine, function, variables, no_definitions, define}
+use Rattle.bk_tree.specs.Tree.{Mention, Action, Actions, Definitions, label, case_of, default, when, test, while, switch, block, repeat, repeat_while, no_actions, also, no_declarations, routine, function, variables, no_definitions, define}
 use Rattle.bk_scope.specs.declared.bound.Bound.TheVariants.{Static, Variable, Label}
 use Rattle.bk_scope.specs.Scope.{Binding, bound_in, bind, is_global}
 use Rattle.bk_scope.specs.Places.{kept}

@@ -2,8 +2,8 @@
 -- asks.
 use Rattle.std.specs.Prelude.{◌*◌, ◌≤◌}
 use Rattle.bk_base.specs.declared.limit.TheConstants.{TREE_NODES}
-use Rattle.bk_syntax.specs.Tree.{Expression, Expressions, Action, Actions, Declaration, Declarations, Definition, Definitions, Starts, parens, unary, binary, choice, apply, valof, none, more, assign, call, label, case_of, default, when, test, while, for_loop, switch, result, block, repeat, repeat_while, no_actions, also, constants, definitions, no_declarations, declare, no_items, routine, function, variables, no_definitions, define, no_starts, value, vector}
-use Rattle.bk_syntax.specs.Limits.{Within}
+use Rattle.bk_tree.specs.Tree.{Expression, Expressions, Action, Actions, Declaration, Declarations, Definition, Definitions, Starts, parens, unary, binary, choice, apply, valof, none, more, assign, call, label, case_of, default, when, test, while, for_loop, switch, result, block, repeat, repeat_while, no_actions, also, constants, definitions, no_declarations, declare, no_items, routine, function, variables, no_definitions, define, no_starts, value, vector}
+use Rattle.bk_tree.specs.Limits.{Within}
 use Rattle.bk_scope.specs.Spots.{numbers_declared}
 
 -- no declaration is empty

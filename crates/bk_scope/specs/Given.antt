@@ -1,8 +1,8 @@
 -- The numbers that are given to declarations: to labels where their commands begin, to the procedures of a LET at the LET, to
 -- the items of STATIC, and to each procedure as the owner of its frame and labels.
 use Rattle.std.specs.Prelude.{ℕ, zero, suc, ◌+◌, List, [], ◌∷◌, ◌++◌, length}
-use Rattle.bk_syntax.specs.declared.tree.Sort.TheVariants as sort
-use Rattle.bk_syntax.specs.Tree.{Expression, Expressions, Action, Actions, Declaration, Declarations, Definition, Definitions, Starts, parens, unary, binary, choice, apply, valof, none, more, assign, call, label, case_of, default, when, test, while, for_loop, switch, result, block, repeat, repeat_while, no_actions, also, constants, definitions, no_declarations, declare, routine, function, variables, no_definitions, define, no_starts, value, vector}
+use Rattle.bk_tree.specs.declared.tree.Sort.TheVariants as sort
+use Rattle.bk_tree.specs.Tree.{Expression, Expressions, Action, Actions, Declaration, Declarations, Definition, Definitions, Starts, parens, unary, binary, choice, apply, valof, none, more, assign, call, label, case_of, default, when, test, while, for_loop, switch, result, block, repeat, repeat_while, no_actions, also, constants, definitions, no_declarations, declare, routine, function, variables, no_definitions, define, no_starts, value, vector}
 use Rattle.bk_scope.specs.Entering.{labels_of, labels_of_each}
 use Rattle.bk_scope.specs.Spots.{Spot, procedures_in, numbers_items, numbered, behind, behind_each, behind_done, behind_declared, behind_one_declared, behind_one_defined, beginning}
 use Rattle.bk_scope.specs.Cases.{AllDiffer}

@@ -1,6 +1,6 @@
 -- What a resolved section keeps.
 use Rattle.std.specs.Prelude.{◌≡◌, ℕ, ◌+◌, ◌<◌, ◌^◌, List, []}
-use Rattle.bk_syntax.specs.Tree.{Declarations}
+use Rattle.bk_tree.specs.Tree.{Declarations}
 use Rattle.bk_scope.specs.declared.bound.Bound.{Bound}
 use Rattle.bk_scope.specs.Spots.{numbers_declared}
 use Rattle.bk_scope.specs.Faults.{faults, meanings, words}

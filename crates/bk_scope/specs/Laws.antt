@@ -1,6 +1,6 @@
 -- What the layers above need of a section without faults, and the laws that give it to them.
 use Rattle.std.specs.Prelude.{◌≡◌, List, [], ◌∷◌, ◌++◌}
-use Rattle.bk_syntax.specs.Tree.{Declarations}
+use Rattle.bk_tree.specs.Tree.{Declarations}
 use Rattle.bk_scope.specs.Found.{Claim}
 use Rattle.bk_scope.specs.Points.{Point, wrong, claims_behind, judged, meanings_of, words_of}
 use Rattle.bk_scope.specs.Faults.{told_of, faults}

@@ -3,7 +3,7 @@ use Rattle.std.specs.Prelude.{◌≡◌, Some, [], Result, Ok, Err}
 use Rattle.bk_base.specs.declared.source_fault.SourceFault.{SourceFault}
 use Rattle.bk_base.specs.declared.refused.Refused.{Refused}
 use Rattle.bk_base.specs.declared.refused.Refused.TheVariants.{Fault, Memory, Device}
-use Rattle.bk_syntax.specs.Tree.{Declarations}
+use Rattle.bk_tree.specs.Tree.{Declarations}
 use Rattle.bk_scope.specs.declared.section_names.Resolved.{Resolved}
 use Rattle.bk_scope.specs.Points.{first_told}
 use Rattle.bk_scope.specs.Faults.{faults, meanings, words}

@@ -1,8 +1,8 @@
 -- What comes into scope.
 use Rattle.std.specs.Prelude.{ℕ, ◌+◌, cond, List, [], ◌∷◌, ◌++◌}
 use Rattle.bk_base.specs.declared.limit.TheConstants.{GLOBAL_NUMBER}
-use Rattle.bk_syntax.specs.declared.tree.Sort.TheVariants as o
-use Rattle.bk_syntax.specs.Tree.{Declaration, Declarations, Items, Definition, Definitions, constants, definitions, no_declarations, declare, no_items, item, routine, function, variables, no_definitions, define}
+use Rattle.bk_tree.specs.declared.tree.Sort.TheVariants as o
+use Rattle.bk_tree.specs.Tree.{Declaration, Declarations, Items, Definition, Definitions, constants, definitions, no_declarations, declare, no_items, item, routine, function, variables, no_definitions, define}
 use Rattle.bk_scope.specs.declared.bound.Bound.TheVariants.{Constant, Global, Static, Label}
 use Rattle.bk_scope.specs.declared.place.Place.{Place}
 use Rattle.bk_scope.specs.Scope.{Binding, bound_in, bind, bind_all, is_global}

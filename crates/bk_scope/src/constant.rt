@@ -1,8 +1,8 @@
 //! Constants: their words, and what is wrong with them first.
 ghost use Rattle.std.specs.Prelude.{◌≡◌, Some, None, cond, OnOk, IfOk};
 ghost use Rattle.std.specs.Option.{option_and_then};
-ghost use Rattle.bk_syntax.specs.Tree.{expression};
-ghost use Rattle.bk_syntax.specs.declared.tree.Operator.TheVariants.{Over, Rem};
+ghost use Rattle.bk_tree.specs.Tree.{expression};
+ghost use Rattle.bk_tree.specs.declared.tree.Operator.TheVariants.{Over, Rem};
 ghost use Rattle.bk_scope.specs.Constants.{named_word, prefix_word, infix_word, constant_word, is_prefix_of_constants as of_constants, is_infix_of_constants as between_constants, divides as is_division, divides_by_zero, wrong_name, wrongs};
 ghost use Rattle.bk_scope.specs.Wrong.{not_constant, divided_by_zero};
 ghost use Rattle.bk_scope.specs.FirstFault.{first_fault};
@@ -12,7 +12,7 @@ use crate::bound::Bound;
 use crate::first_fault::{FirstFault, Misnaming};
 use crate::table::Table;
 use bk_base::{Line, SourceKind, word};
-use bk_syntax::tree::{Expr, Operator, Prefix};
+use bk_tree::{Expr, Operator, Prefix};
 use std::alloc::{AllocError, Global};
 
 /// The word of an expression where a constant is asked for, with these declarations in scope, in the procedure of this number.

@@ -1,6 +1,6 @@
 //! Names that come into scope together.
 ghost use Rattle.std.specs.Prelude.{◌≡◌, [], ◌∷◌, OnOk, map};
-ghost use Rattle.bk_syntax.specs.Tree.{mention, action, actions_in, definitions_in};
+ghost use Rattle.bk_tree.specs.Tree.{mention, action, actions_in, definitions_in};
 ghost use Rattle.bk_scope.specs.Entering.{with_labels, labels_of, labels_of_each, with_formals, with_procedure, with_procedures};
 ghost use Rattle.bk_scope.specs.Names.{all_listed};
 
@@ -8,7 +8,7 @@ use crate::bound::Bound;
 use crate::findings::Findings;
 use crate::place::kept_depth;
 use crate::walk::Walk;
-use bk_syntax::tree::{Command, Def, Name};
+use bk_tree::{Command, Def, Name};
 use std::alloc::AllocError;
 
 /// A label of a procedure comes into scope.

@@ -1,6 +1,6 @@
 //! What is found as one goes through a section.
 ghost use Rattle.std.specs.Prelude.{◌≡◌, ◌<◌, ◌+◌, ◌-◌, ◌^◌, None, Some, IfOk, IfErr, OnOk};
-ghost use Rattle.bk_syntax.specs.Tree.{expression};
+ghost use Rattle.bk_tree.specs.Tree.{expression};
 ghost use Rattle.bk_scope.specs.Wrong.{text_of};
 ghost use Rattle.bk_scope.specs.FirstFault.{first_fault, wrong_of, misnamed, breach_of};
 ghost use Rattle.bk_scope.specs.Claims.{claim_of};
@@ -17,7 +17,7 @@ use crate::place::kept_depth;
 use crate::table::Table;
 use bk_base::limit::FRAME_WORDS;
 use bk_base::{Line, SourceFault, SourceKind};
-use bk_syntax::tree::Expr;
+use bk_tree::Expr;
 use std::alloc::{AllocError, Global};
 use std::marker::Model;
 use std::mem;

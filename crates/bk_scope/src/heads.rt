@@ -1,16 +1,19 @@
 //! What stands at the head of a command or a definition.
-ghost use Rattle.std.specs.Prelude.{◌≡◌, OnOk, IfOk, map};
-ghost use Rattle.bk_syntax.specs.Tree.{expression, mention};
+ghost use Rattle.std.specs.Prelude.{◌≡◌, ◌+◌, ◌-◌, ◌≤◌, OnOk, IfOk, cond, drop, length, map};
+ghost use Rattle.bk_tree.specs.Tree.{expression, mention, step_in};
 ghost use Rattle.bk_scope.specs.FirstFault.{first_fault};
 ghost use Rattle.bk_scope.specs.Scope.{bound_in};
-ghost use Rattle.bk_scope.specs.Names.{switched, chosen, defaulted, single as Single, listed, named_as, headed, bounded, words_of_start, constant_found};
-ghost use Rattle.bk_scope.specs.Wrong.{vec_out_of_range};
+ghost use Rattle.bk_scope.specs.Found.{Found, breaks, takes, reaches, behind};
+ghost use Rattle.bk_scope.specs.Entering.{with_formals};
+ghost use Rattle.bk_scope.specs.Names.{switched, chosen, defaulted, single as Single, listed, all_listed, sets, named_as, headed, frame_wrong, bounded, words_of_start, constant_found, constants_found};
+ghost use Rattle.bk_scope.specs.Wrong.{vec_out_of_range, no_result_or_return};
 ghost use Rattle.bk_scope.specs.Constants.{constant_word};
-ghost use Rattle.bk_syntax.specs.Grammar.{line_of as LineOf};
+ghost use Rattle.bk_tree.specs.Parts.{line_of as LineOf};
 ghost use Rattle.bk_base.specs.declared.limit.TheConstants.{VEC_NUMBER as VecNumber};
 
+use crate::bound::Bound;
 use crate::claims::Claim;
-use crate::entering::list_names;
+use crate::entering::{enter_formals, list_names};
 use crate::findings::{Findings, Opened};
 use crate::items::line_of;
 use crate::place::{Place, kept_depth};
@@ -18,7 +21,7 @@ use crate::table::Table;
 use crate::walk::Walk;
 use bk_base::limit::VEC_NUMBER;
 use bk_base::{Line, SourceKind};
-use bk_syntax::tree::{Expr, Name, Simple};
+use bk_tree::{Expr, Name, Simple};
 use std::alloc::AllocError;
 
 /// A label, in the list of this number, and what it means.
@@ -41,6 +44,56 @@ pub fn in_switch(findings: &mut Findings, switch: Option<u32>, line: Line)
 {
     if switch.is_none() {
         findings.breaks(line, SourceKind::NoSwitchon);
+    }
+}
+
+/// What stands before the command of a CASE.
+pub fn case<'a>(
+    walk: &mut Walk<'a>,
+    place: Place,
+    line: Line,
+    expr: &'a Expr,
+) -> Result<(), AllocError>
+    ensures { OnOk result (walk.new ≡ record { scope = walk.old.scope; found = chosen place.switch line (constant_word walk.old.scope (expression expr.now)) (constant_found walk.old.scope place.procedure (expression expr.now) (switched place.switch line walk.old.found)) }) }
+{
+    in_switch(&mut walk.findings, place.switch, line);
+    let word = walk.findings.constant(&walk.table, place.procedure, expr)?;
+    choose(&mut walk.findings, place.switch, line, word)
+}
+
+/// What stands before the command of a DEFAULT.
+pub fn default<'a>(
+    findings: &mut Findings<'a>,
+    switch: Option<u32>,
+    line: Line,
+) -> Result<(), AllocError>
+    ensures { OnOk result (findings.new ≡ defaulted switch line (switched switch line findings.old)) }
+{
+    in_switch(findings, switch, line);
+    choose_default(findings, switch, line)
+}
+
+/// The step of a FOR, if it has one; the words of its frame are reached.
+pub fn step<'a>(
+    walk: &mut Walk<'a>,
+    place: Place,
+    by: &'a Option<Box<Expr>>,
+) -> Result<(), AllocError>
+    ensures { OnOk result (walk.new ≡ record { scope = walk.old.scope; found = reaches (place.depth + 4) (constants_found walk.old.scope place.procedure (step_in by.now) walk.old.found) }) }
+{
+    if let Some(step) = by {
+        walk.findings.constant(&walk.table, place.procedure, step)?;
+    }
+    walk.findings.reaches(place.depth, 4);
+    Ok(())
+}
+
+/// A RESULTIS is wrong where it stands in no VALOF.
+pub fn in_valof(findings: &mut Findings, place: Place, line: Line)
+    ensures { findings.new ≡ cond place.in_valof findings.old (breaks line no_result_or_return findings.old) }
+{
+    if !place.in_valof {
+        findings.breaks(line, SourceKind::NoResultOrReturn);
     }
 }
 
@@ -121,6 +174,21 @@ pub fn vector<'a>(walk: &mut Walk<'a>, procedure: u32, expr: &'a Expr) -> Result
     }
 }
 
+/// The global that a procedure's name sets, and its formals, which are the list of this number.
+fn formals_of<'a>(
+    findings: &mut Findings<'a>,
+    list: u32,
+    line: Line,
+    name: &'a [u8],
+    bound: Option<Bound>,
+    formals: &'a [Name],
+) -> Result<(), AllocError>
+    ensures { OnOk result (findings.new ≡ all_listed list (map mention formals.now) (sets line name.now bound findings.old)) }
+{
+    findings.sets(line, name, bound)?;
+    list_names(findings, list, formals)
+}
+
 /// A procedure's name and its formals, which are the list of this number: its frame begins.
 pub fn head<'a>(
     walk: &mut Walk<'a>,
@@ -136,7 +204,52 @@ pub fn head<'a>(
     let bound = walk.table.find(name);
     walk.findings.names(bound)?;
     let opened = walk.findings.opens(kept_depth(formals.len() + 2));
-    walk.findings.sets(line, name, bound)?;
-    list_names(&mut walk.findings, list, formals)?;
+    formals_of(&mut walk.findings, list, line, name, bound, formals)?;
     Ok(opened)
+}
+
+/// A procedure that is gone through.
+#[derive(Drop)]
+pub struct Procedure {
+    /// Its number.
+    pub number: u32,
+    /// How many bindings are in scope around it.
+    mark: usize,
+    /// What was found before it.
+    opened: Opened,
+}
+
+/// A procedure of the list of this number begins: its name is listed there, and its formals come into scope.
+pub fn begin<'a>(
+    walk: &mut Walk<'a>,
+    list: u32,
+    line: Line,
+    name: &'a [u8],
+    formals: &'a [Name],
+) -> Result<Procedure, AllocError>
+    ensures walk { let f : Found = listed list line name.now walk.old.found in OnOk result (walk.new ≡ record { scope = with_formals f.next 2 (map mention formals.now) walk.old.scope; found = headed f.next line name.now (map mention formals.now) (bound_in walk.old.scope name.now) (takes f) }) }
+    ensures number { IfOk result (λ procedure. procedure.number ≡ (listed list line name.now walk.old.found).next) }
+    ensures mark { IfOk result (λ procedure. procedure.mark ≡ length walk.old.scope) }
+    ensures first { IfOk result (λ procedure. first_fault procedure.opened.first ≡ (listed list line name.now walk.old.found).first) }
+    ensures deepest { IfOk result (λ procedure. procedure.opened.deepest ≡ (listed list line name.now walk.old.found).deepest) }
+{
+    let mark = walk.table.mark();
+    walk.findings.lists(list, line, name)?;
+    let number = walk.findings.takes()?;
+    let opened = head(walk, number, line, name, formals)?;
+    enter_formals(walk, number, formals)?;
+    Ok(Procedure {
+        number,
+        mark,
+        opened,
+    })
+}
+
+/// The procedure whose name is on this line ends: its formals are no longer in scope.
+pub fn end(walk: &mut Walk, procedure: Procedure, line: Line)
+    requires { procedure.mark ≤ length walk.old.scope }
+    ensures { walk.new ≡ record { scope = drop (length walk.old.scope - procedure.mark) walk.old.scope; found = behind (first_fault procedure.opened.first) procedure.opened.deepest (frame_wrong line walk.old.found) walk.old.found } }
+{
+    walk.table.leave(procedure.mark);
+    walk.findings.closes(procedure.opened, line);
 }

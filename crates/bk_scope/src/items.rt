@@ -1,9 +1,12 @@
 //! The items of MANIFEST, STATIC and GLOBAL, and other places where constants are asked for.
 ghost use Rattle.std.specs.Prelude.{◌≡◌, List, OnOk, IfOk};
-ghost use Rattle.bk_syntax.specs.Tree.{expression, expressions_in, items_in};
-ghost use Rattle.bk_syntax.specs.Grammar.{line_of as first_line};
+ghost use Rattle.bk_tree.specs.Tree.{expression, expressions_in, items_in};
+ghost use Rattle.bk_tree.specs.Parts.{line_of as first_line};
 ghost use Rattle.bk_scope.specs.Scope.{Binding, bind_all};
-ghost use Rattle.bk_scope.specs.Names.{bounded, within, constants_found, manifests as through_manifests, statics as through_statics, globals as through_globals};
+ghost use Rattle.bk_scope.specs.Found.{Found, takes, means};
+ghost use Rattle.bk_scope.specs.Constants.{constant_word};
+ghost use Rattle.bk_scope.specs.declared.bound.Bound.TheVariants.{Static, Global};
+ghost use Rattle.bk_scope.specs.Names.{bounded, within, listed, constant_found, constants_found, manifests as through_manifests, statics as through_statics, globals as through_globals};
 ghost use Rattle.bk_scope.specs.Wrong.{global_out_of_range};
 ghost use Rattle.bk_base.specs.declared.limit.TheConstants.{GLOBAL_NUMBER};
 
@@ -14,7 +17,7 @@ use crate::table::Table;
 use crate::walk::Walk;
 use bk_base::limit::GLOBAL_NUMBER;
 use bk_base::{Line, SourceKind};
-use bk_syntax::tree::{Expr, Item};
+use bk_tree::{Expr, Item};
 use std::alloc::AllocError;
 
 /// Expressions where constants are asked for.
@@ -107,13 +110,30 @@ fn fresh_statics<'a>(
 {
     let mut fresh = Fresh::new(findings.alloc());
     for Item::Item(line, name, expr) in items {
-        findings.lists(list, *line, name)?;
-        let _word = findings.constant(table, procedure, expr)?;
-        let bound = Bound::Static(findings.takes()?);
-        findings.means(bound)?;
+        let bound = static_of(findings, table, list, procedure, *line, name, expr)?;
         fresh.add(name, bound)?;
     }
     Ok(fresh)
+}
+
+/// What the name of an item of STATIC will mean.
+fn static_of<'a>(
+    findings: &mut Findings<'a>,
+    table: &Table<'a>,
+    list: u32,
+    procedure: u32,
+    line: Line,
+    name: &'a [u8],
+    expr: &'a Expr,
+) -> Result<Bound, AllocError>
+    ensures bound { let g : Found = constant_found table.now procedure (expression expr.now) (listed list line name.now findings.old) in IfOk result (λ bound. bound ≡ Static g.next) }
+    ensures found { let g : Found = constant_found table.now procedure (expression expr.now) (listed list line name.now findings.old) in OnOk result (findings.new ≡ takes (means (Static g.next) g)) }
+{
+    findings.lists(list, line, name)?;
+    let _word = findings.constant(table, procedure, expr)?;
+    let bound = Bound::Static(findings.takes()?);
+    findings.means(bound)?;
+    Ok(bound)
 }
 
 /// Goes through the items of GLOBAL while none is in scope; what they will mean.
@@ -129,12 +149,28 @@ fn fresh_globals<'a>(
 {
     let mut fresh = Fresh::new(findings.alloc());
     for Item::Item(line, name, expr) in items {
-        findings.lists(list, *line, name)?;
-        let word = findings.constant(table, procedure, expr)?;
-        let bound = Bound::Global(global_of(findings, line_of(expr), word));
+        let bound = named_global(findings, table, list, procedure, *line, name, expr)?;
         fresh.add(name, bound)?;
     }
     Ok(fresh)
+}
+
+/// What the name of an item of GLOBAL will mean.
+fn named_global<'a>(
+    findings: &mut Findings<'a>,
+    table: &Table<'a>,
+    list: u32,
+    procedure: u32,
+    line: Line,
+    name: &'a [u8],
+    expr: &'a Expr,
+) -> Result<Bound, AllocError>
+    ensures bound { IfOk result (λ bound. bound ≡ Global (within GLOBAL_NUMBER (constant_word table.now (expression expr.now)))) }
+    ensures found { OnOk result (findings.new ≡ bounded GLOBAL_NUMBER (first_line (expression expr.now)) global_out_of_range (constant_word table.now (expression expr.now)) (constant_found table.now procedure (expression expr.now) (listed list line name.now findings.old))) }
+{
+    findings.lists(list, line, name)?;
+    let word = findings.constant(table, procedure, expr)?;
+    Ok(Bound::Global(global_of(findings, line_of(expr), word)))
 }
 
 /// The number of a global whose constant has this word, if it has one; that it is too large is told on this line.

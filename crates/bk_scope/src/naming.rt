@@ -1,6 +1,6 @@
 //! Names where they are used.
 ghost use Rattle.std.specs.Prelude.{◌≡◌, OnOk};
-ghost use Rattle.bk_syntax.specs.Tree.{expression, name};
+ghost use Rattle.bk_tree.specs.Tree.{expression, name};
 ghost use Rattle.bk_scope.specs.Scope.{bound_in, has_address as HasAddress};
 ghost use Rattle.bk_scope.specs.Names.{used, reached, is_usable as IsUsable, begins_wrong as BeginsWrong, unassignable as Unassignable, without_word as WithoutWord, without_address as WithoutAddress, named as Named};
 
@@ -11,7 +11,7 @@ use crate::place::Place;
 use crate::role::Role;
 use crate::table::Table;
 use bk_base::{Line, SourceKind};
-use bk_syntax::tree::Expr;
+use bk_tree::Expr;
 use std::alloc::AllocError;
 
 /// A name that means this is used in a procedure: another one's variable and a label are wrong.

@@ -1,23 +1,25 @@
 //! Going through the nodes of a section.
 ghost use Rattle.std.specs.Prelude.{◌≡◌, ◌++◌, [], ◌∷◌, map, OnOk, IfOk};
-ghost use Rattle.bk_syntax.specs.Tree.{expression, expressions_in, action, actions_in, declaration, declarations_in, definition, definitions_in, starts_in, mention};
+ghost use Rattle.bk_tree.specs.Tree.{expression, expressions_in, action, actions_in, declaration, declarations_in, definition, definitions_in, starts_in, mention};
+ghost use Rattle.bk_scope.specs.Scope.{bind};
+ghost use Rattle.bk_scope.specs.Found.{takes};
+ghost use Rattle.bk_scope.specs.Places.{deeper, looping, labelled};
+ghost use Rattle.bk_scope.specs.Entering.{Stage, with_labels, labels_of, labels_of_each};
+ghost use Rattle.bk_scope.specs.declared.bound.Bound.TheVariants.{Variable};
 ghost use Rattle.bk_scope.specs.Names.{AfterDeclarations, Defined, evaluated, each_evaluated, destinations, done, each_done, declared, one_declared, defined, one_defined, started, place_behind, variables_of, words_below};
 
 use crate::bound::Bound;
 use crate::claims::Claim;
-use crate::entering::{
-    enter_formals, enter_labels, enter_labels_of_each, enter_procedures, list_names,
-};
+use crate::entering::{enter_labels, enter_labels_of_each, enter_procedures, list_names};
 use crate::fresh::Fresh;
-use crate::heads::{choose, choose_default, head, in_switch, label, single, vector};
+use crate::heads::{begin, case, default, end, in_valof, label, single, step, vector};
 use crate::items::{constants, globals, line_of, manifests, statics};
 use crate::naming::{go_to, name_at, without_word};
 use crate::operands::{fit_infix, fit_prefix, place_of_second, role_of_operand, role_of_operands};
 use crate::place::Place;
 use crate::role::Role;
 use crate::walk::Walk;
-use bk_base::SourceKind;
-use bk_syntax::tree::{Command, Decl, Def, Expr, Init, Name, Sort};
+use bk_tree::{Command, Decl, Def, Expr, Init, Name, Sort};
 use std::alloc::AllocError;
 
 /// An expression.
@@ -90,12 +92,7 @@ pub fn evaluate<'a>(
         }
         Expr::Valof(_, command) => {
             without_word(&walk.table, &mut walk.findings, role, place.procedure, expr);
-            let mark = walk.table.mark();
-            let labels = walk.findings.takes()?;
-            enter_labels(walk, place.procedure, command)?;
-            let inner = place.valued().labelled(labels);
-            act(walk, inner, command)?;
-            walk.table.leave(mark);
+            act_inside(walk, place.valued(), command)?;
             walk.findings.reaches(place.depth, 1);
             Ok(())
         }
@@ -175,14 +172,11 @@ pub fn act<'a>(walk: &mut Walk<'a>, place: Place, command: &'a Command) -> Resul
             act(walk, place, body)
         }
         Command::Case(line, expr, body) => {
-            in_switch(&mut walk.findings, place.switch, *line);
-            let word = walk.findings.constant(&walk.table, place.procedure, expr)?;
-            choose(&mut walk.findings, place.switch, *line, word)?;
+            case(walk, place, *line, expr)?;
             act(walk, place, body)
         }
         Command::Default(line, body) => {
-            in_switch(&mut walk.findings, place.switch, *line);
-            choose_default(&mut walk.findings, place.switch, *line)?;
+            default(&mut walk.findings, place.switch, *line)?;
             act(walk, place, body)
         }
         Command::If(_, _, condition, body) => {
@@ -201,17 +195,8 @@ pub fn act<'a>(walk: &mut Walk<'a>, place: Place, command: &'a Command) -> Resul
         Command::For(_, name, from, to, by, body) => {
             evaluate(walk, &Role::Value, place, from)?;
             evaluate(walk, &Role::Value, place.deeper(1), to)?;
-            if let Some(step) = by {
-                walk.findings.constant(&walk.table, place.procedure, step)?;
-            }
-            walk.findings.reaches(place.depth, 4);
-            let mark = walk.table.mark();
-            let labels = walk.findings.takes()?;
-            walk.table.bind(&name.letters, Bound::Variable(place.procedure, place.depth))?;
-            enter_labels(walk, place.procedure, body)?;
-            act(walk, place.deeper(2).looping().labelled(labels), body)?;
-            walk.table.leave(mark);
-            Ok(())
+            step(walk, place, by)?;
+            act_for(walk, place, name, body)
         }
         Command::SwitchOn(_, expr, body) => {
             evaluate(walk, &Role::Value, place, expr)?;
@@ -219,9 +204,7 @@ pub fn act<'a>(walk: &mut Walk<'a>, place: Place, command: &'a Command) -> Resul
             act(walk, place.switching(number), body)
         }
         Command::ResultIs(line, expr) => {
-            if !place.in_valof {
-                walk.findings.breaks(*line, SourceKind::NoResultOrReturn);
-            }
+            in_valof(&mut walk.findings, place, *line);
             evaluate(walk, &Role::Value, place, expr)
         }
         Command::Simple(line, word) => {
@@ -234,9 +217,7 @@ pub fn act<'a>(walk: &mut Walk<'a>, place: Place, command: &'a Command) -> Resul
             } else {
                 let mark = walk.table.mark();
                 let inner = declare_each(walk, place, decls)?;
-                let labels = walk.findings.takes()?;
-                enter_labels_of_each(walk, place.procedure, commands)?;
-                act_each(walk, inner.labelled(labels), commands)?;
+                act_each_labelled(walk, place.procedure, inner, commands)?;
                 walk.table.leave(mark);
                 Ok(())
             }
@@ -247,6 +228,54 @@ pub fn act<'a>(walk: &mut Walk<'a>, place: Place, command: &'a Command) -> Resul
             evaluate(walk, &Role::Truth, place, condition)
         }
     }
+}
+
+/// A command whose labels come into scope, and are left again behind it.
+#[cycle(nodes)]
+fn act_inside<'a>(walk: &mut Walk<'a>, place: Place, command: &'a Command) -> Result<(), AllocError>
+    ensures { let t : Stage = with_labels place.procedure (labels_of (action command.now)) (record { scope = walk.old.scope; found = takes walk.old.found }) in
+        OnOk result (walk.new ≡ record { scope = walk.old.scope; found = done t.scope (labelled walk.old.found.next place) (action command.now) t.found }) }
+{
+    let mark = walk.table.mark();
+    let labels = walk.findings.takes()?;
+    enter_labels(walk, place.procedure, command)?;
+    act(walk, place.labelled(labels), command)?;
+    walk.table.leave(mark);
+    Ok(())
+}
+
+/// The command of a FOR, with its variable in scope.
+#[cycle(nodes)]
+fn act_for<'a>(
+    walk: &mut Walk<'a>,
+    place: Place,
+    name: &'a Name,
+    body: &'a Command,
+) -> Result<(), AllocError>
+    ensures { let t : Stage = with_labels place.procedure (labels_of (action body.now)) (record { scope = bind ((mention name.now).letters) (Variable place.procedure place.depth) walk.old.scope; found = takes walk.old.found }) in
+        OnOk result (walk.new ≡ record { scope = walk.old.scope; found = done t.scope (labelled walk.old.found.next (looping (deeper 2 place))) (action body.now) t.found }) }
+{
+    let mark = walk.table.mark();
+    walk.table.bind(&name.letters, Bound::Variable(place.procedure, place.depth))?;
+    act_inside(walk, place.deeper(2).looping(), body)?;
+    walk.table.leave(mark);
+    Ok(())
+}
+
+/// Commands one after another, whose labels in this procedure come into scope.
+#[cycle(nodes)]
+fn act_each_labelled<'a>(
+    walk: &mut Walk<'a>,
+    procedure: u32,
+    place: Place,
+    commands: &'a [Command],
+) -> Result<(), AllocError>
+    ensures { let t : Stage = with_labels procedure (labels_of_each (actions_in commands.now)) (record { scope = walk.old.scope; found = takes walk.old.found }) in
+        OnOk result (walk.new ≡ record { scope = t.scope; found = each_done t.scope (labelled walk.old.found.next place) (actions_in commands.now) t.found }) }
+{
+    let labels = walk.findings.takes()?;
+    enter_labels_of_each(walk, procedure, commands)?;
+    act_each(walk, place.labelled(labels), commands)
 }
 
 /// Commands one after another.
@@ -338,36 +367,17 @@ fn define<'a>(
 {
     match def {
         Def::Routine(line, name, formals, body) => {
-            walk.findings.lists(list, *line, name)?;
-            let number = walk.findings.takes()?;
-            let opened = head(walk, number, *line, name, formals)?;
-            let mark = walk.table.mark();
-            enter_formals(walk, number, formals)?;
-            let labels = walk.findings.takes()?;
-            enter_labels(walk, number, body)?;
-            act(
-                walk,
-                Place::called(true, number, formals.len()).labelled(labels),
-                body,
-            )?;
-            walk.table.leave(mark);
-            walk.findings.closes(opened, *line);
+            let procedure = begin(walk, list, *line, name, formals)?;
+            let inner = Place::called(true, procedure.number, formals.len());
+            act_inside(walk, inner, body)?;
+            end(walk, procedure, *line);
             Ok(place)
         }
         Def::Function(line, name, formals, body) => {
-            walk.findings.lists(list, *line, name)?;
-            let number = walk.findings.takes()?;
-            let opened = head(walk, number, *line, name, formals)?;
-            let mark = walk.table.mark();
-            enter_formals(walk, number, formals)?;
-            evaluate(
-                walk,
-                &Role::Value,
-                Place::called(false, number, formals.len()),
-                body,
-            )?;
-            walk.table.leave(mark);
-            walk.findings.closes(opened, *line);
+            let procedure = begin(walk, list, *line, name, formals)?;
+            let inner = Place::called(false, procedure.number, formals.len());
+            evaluate(walk, &Role::Value, inner, body)?;
+            end(walk, procedure, *line);
             Ok(place)
         }
         Def::Variables(_, names, starts) => {

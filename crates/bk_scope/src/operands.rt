@@ -1,6 +1,6 @@
 //! What the parts of an expression are there for.
 ghost use Rattle.std.specs.Prelude.{◌≡◌};
-ghost use Rattle.bk_syntax.specs.Tree.{expression};
+ghost use Rattle.bk_tree.specs.Tree.{expression};
 ghost use Rattle.bk_scope.specs.Names.{role_of_operand as RoleOfOperand, role_of_operands as RoleOfOperands, place_of_second as PlaceOfSecond, fit_prefix as FitPrefix, fit_infix as FitInfix};
 
 use crate::findings::Findings;
@@ -9,7 +9,7 @@ use crate::naming::{without_address, without_word};
 use crate::place::Place;
 use crate::role::Role;
 use crate::table::Table;
-use bk_syntax::tree::{Expr, Operator, Prefix};
+use bk_tree::{Expr, Operator, Prefix};
 
 /// The role of a prefix's operand.
 pub fn role_of_operand(prefix: Prefix, role: &Role, operand: &Expr) -> Role

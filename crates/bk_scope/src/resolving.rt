@@ -1,6 +1,6 @@
 //! What the names and constants of a section are.
 ghost use Rattle.std.specs.Prelude.{◌≡◌, IfOk};
-ghost use Rattle.bk_syntax.specs.Parsing.{declarations_of};
+ghost use Rattle.bk_tree.specs.Section.{declarations_of};
 ghost use Rattle.bk_scope.specs.Resolution.{Resolves};
 
 use crate::findings::{Findings, Known};
@@ -10,7 +10,7 @@ use crate::section_names::Resolved;
 use crate::table::Table;
 use crate::walk::Walk;
 use bk_base::{Refused, SourceFault};
-use bk_syntax::Section;
+use bk_tree::Section;
 use std::alloc::Global;
 
 /// What the names of a section mean and what its constants are, or the first of its faults: by place, and at one place by

@@ -1,10 +1,10 @@
 //! A section whose names and constants are known.
 ghost use Rattle.std.specs.Prelude.{◌≡◌};
-ghost use Rattle.bk_syntax.specs.Parsing.{declarations_of};
+ghost use Rattle.bk_tree.specs.Section.{declarations_of};
 ghost use Rattle.bk_scope.specs.Known.{Known};
 
 use crate::bound::Bound;
-use bk_syntax::Section;
+use bk_tree::Section;
 
 /// A section without faults, with what its names mean and what its constants are.
 #[derive(Drop)]

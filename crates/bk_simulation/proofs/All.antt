@@ -7,14 +7,14 @@ use Rattle.bk_ocode.specs.declared.stmt.Stmt.{Stmt}
 use Rattle.bk_ocode.specs.declared.stmt.Stmt.TheVariants.{Monadic, JumpIf, Assign, AssignAt, AssignByte, Stack, CallRoutine}
 use Rattle.bk_base.specs.declared.limit.TheConstants.{FRAME_WORDS}
 use Rattle.bk_trans.specs.Scheme.{infix_code}
-use Rattle.bk_syntax.specs.declared.tree.Operator.{Operator}
-use Rattle.bk_syntax.specs.declared.tree.Operator.TheVariants as o
-use Rattle.bk_syntax.specs.declared.tree.Prefix.TheVariants as q
-use Rattle.bk_syntax.specs.declared.tree.Simple.TheVariants as k
-use Rattle.bk_syntax.specs.Tree as t
-use Rattle.bk_syntax.specs.Tree.{Expression, Expressions, Action, Actions}
+use Rattle.bk_tree.specs.declared.tree.Operator.{Operator}
+use Rattle.bk_tree.specs.declared.tree.Operator.TheVariants as o
+use Rattle.bk_tree.specs.declared.tree.Prefix.TheVariants as q
+use Rattle.bk_tree.specs.declared.tree.Simple.TheVariants as k
+use Rattle.bk_tree.specs.Tree as t
+use Rattle.bk_tree.specs.Tree.{Expression, Expressions, Action, Actions}
 use Rattle.std.specs.Option.{option_map}
-use Rattle.bk_syntax.specs.declared.tree.Prefix.{Prefix}
+use Rattle.bk_tree.specs.declared.tree.Prefix.{Prefix}
 use Rattle.bk_scope.specs.Constants.{infix_word, divides_by_zero}
 use Rattle.bk_meaning.specs.Values.{Value, number, address, procedure, routine, unset}
 use Rattle.bk_meaning.specs.Operators.{sum, on_numbers, operate_prefix}

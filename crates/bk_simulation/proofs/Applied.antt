@@ -3,7 +3,7 @@ use Rattle.std.proofs.Common.{◌≡◌, ℕ, suc, ◌+◌, ◌-◌, ◌*◌, �
 use Rattle.std.specs.Option.{option_map_or}
 use Rattle.std.proofs.lemmas.Option.{slice_get_within}
 use Rattle.bk_base.specs.declared.limit.TheConstants.{FRAME_WORDS}
-use Rattle.bk_syntax.specs.Tree.{Expression, Expressions, Action}
+use Rattle.bk_tree.specs.Tree.{Expression, Expressions, Action}
 use Rattle.bk_ocode.specs.Cells.{Word, Cell, content_of, below, settle}
 use Rattle.bk_ocode.specs.OcodeState as ocode
 use Rattle.bk_ocode.specs.OcodeState.{Placed, Callables, Inside, At, State}

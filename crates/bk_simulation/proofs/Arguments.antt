@@ -1,7 +1,7 @@
 -- The arguments of a call, from left to right.
 use Rattle.std.proofs.Common.{◌≡◌, ℕ, zero, suc, ◌+◌, ◌-◌, ◌*◌, ◌≤◌, List, ◌∷◌, length, Some, None, refl, subst, arith, inl, slice_get}
-use Rattle.bk_syntax.specs.Tree as t
-use Rattle.bk_syntax.specs.Tree.{Expression, Expressions}
+use Rattle.bk_tree.specs.Tree as t
+use Rattle.bk_tree.specs.Tree.{Expression, Expressions}
 use Rattle.bk_ocode.specs.Cells.{content_of}
 use Rattle.bk_ocode.specs.OcodeState.{State}
 use Rattle.bk_ocode.specs.declared.stmt.Stmt.{Stmt}

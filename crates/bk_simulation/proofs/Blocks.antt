@@ -1,8 +1,8 @@
 -- Blocks with declarations.
 use Rattle.std.proofs.Common.{◌≡◌, ℕ, suc, ◌+◌, ◌-◌, ◌*◌, ◌<◌, ◌≤◌, Bool, true, false, cond, List, [], ◌∷◌, length, None, refl, sym, ap, ◌∙◌, subst, arith, inl}
 use Rattle.bk_base.specs.declared.limit.TheConstants.{FRAME_WORDS}
-use Rattle.bk_syntax.specs.Tree as t
-use Rattle.bk_syntax.specs.Tree.{Actions, Declaration, Declarations, Definitions}
+use Rattle.bk_tree.specs.Tree as t
+use Rattle.bk_tree.specs.Tree.{Actions, Declaration, Declarations, Definitions}
 use Rattle.bk_scope.specs.Scope.{Binding}
 use Rattle.bk_ocode.specs.Cells.{Cell, content_of, below, settle}
 use Rattle.bk_ocode.specs.OcodeState.{Inside, State}

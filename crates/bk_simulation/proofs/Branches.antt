@@ -3,7 +3,7 @@ use Rattle.std.proofs.Common.{◌≡◌, ℕ, ◌+◌, ◌-◌, ◌*◌, ◌≤�
 use Rattle.bk_ocode.specs.OcodeState.{State}
 use Rattle.bk_ocode.specs.declared.stmt.Stmt.{Stmt}
 use Rattle.bk_ocode.specs.declared.stmt.Stmt.TheVariants.{Label, Jump}
-use Rattle.bk_syntax.specs.Tree.{Expression, Action}
+use Rattle.bk_tree.specs.Tree.{Expression, Action}
 use Rattle.bk_meaning.specs.Environment.{Environment, past, past_action}
 use Rattle.bk_meaning.specs.Seeking.{Sought, Mode, forwards, seeking, stands_in}
 use Rattle.bk_meaning.specs.World.{World, done, with, either}

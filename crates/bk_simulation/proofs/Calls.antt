@@ -1,6 +1,6 @@
 -- Calls of procedures: their frame, their body, and back.
 use Rattle.std.proofs.Common.{◌≡◌, ℕ, ◌+◌, ◌-◌, ◌*◌, ◌≤◌, Bool, List, ◌∷◌, length, Option, Some, None, refl, ap, arith, inl, inr, slice_get}
-use Rattle.bk_syntax.specs.Tree.{Action}
+use Rattle.bk_tree.specs.Tree.{Action}
 use Rattle.bk_ocode.specs.Cells.{Content, Word, content_of}
 use Rattle.bk_ocode.specs.OcodeState.{Inside, State, Goes}
 use Rattle.bk_ocode.specs.OcodeRun.{in_hand, program_step}

@@ -8,7 +8,7 @@ use Rattle.bk_ocode.specs.OcodeStep.{from_label}
 use Rattle.bk_ocode.specs.declared.stmt.Stmt.{Stmt}
 use Rattle.bk_ocode.specs.declared.stmt.Stmt.TheVariants.{Label, Stack, GiveResult, Return, Finish}
 use Rattle.bk_trans.specs.Scheme.{go}
-use Rattle.bk_syntax.specs.Tree.{Expression, Action}
+use Rattle.bk_tree.specs.Tree.{Expression, Action}
 use Rattle.bk_meaning.specs.Environment.{Environment}
 use Rattle.bk_meaning.specs.Seeking.{Sought, Mode, forwards, seeking, same_place, at_place, stands_in}
 use Rattle.bk_meaning.specs.World.{World, Exit, break, loop, endcase, goto, result, return, status, Outcome, leaves, ends, Done, with}

@@ -4,7 +4,7 @@ use Rattle.bk_ocode.specs.OcodeState.{State}
 use Rattle.bk_ocode.specs.OcodeStep.{from_label}
 use Rattle.bk_ocode.specs.declared.stmt.Stmt.{Stmt}
 use Rattle.bk_ocode.specs.declared.stmt.Stmt.TheVariants.{Label, GiveResult, TakeResult}
-use Rattle.bk_syntax.specs.Tree.{Expression}
+use Rattle.bk_tree.specs.Tree.{Expression}
 use Rattle.bk_meaning.specs.Environment.{Environment, past}
 use Rattle.bk_meaning.specs.World.{World, Outcome, gives, with, either}
 use Rattle.bk_meaning.specs.Growing.{history}

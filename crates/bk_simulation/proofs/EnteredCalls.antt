@@ -5,7 +5,7 @@ use Rattle.std.specs.Option.{option_map_or}
 use Rattle.std.proofs.lemmas.Bool.Decides.{nat_tests}
 use Rattle.std.proofs.lemmas.Option.{slice_get_within}
 use Rattle.bk_base.specs.declared.limit.TheConstants.{FRAME_WORDS}
-use Rattle.bk_syntax.specs.Tree.{Action}
+use Rattle.bk_tree.specs.Tree.{Action}
 use Rattle.bk_ocode.specs.Cells.{Word, Cell, content_of}
 use Rattle.bk_ocode.specs.OcodeState.{Placed, Routine, Callables, Inside, State}
 use Rattle.bk_ocode.specs.OcodeStep.{slot, can_be_called}

@@ -14,8 +14,8 @@ use Rattle.bk_ocode.specs.declared.stmt.Stmt.{Stmt}
 use Rattle.bk_ocode.specs.declared.stmt.Stmt.TheVariants.{Label, Load, JumpIf, Jump, Store as Store_stmt, Stack}
 use Rattle.bk_trans.specs.Scheme.{variable, test_of_step}
 use Rattle.bk_trans.specs.Naming.{meant}
-use Rattle.bk_syntax.specs.Tree as t
-use Rattle.bk_syntax.specs.Tree.{Mention, Expression, Expressions, Action}
+use Rattle.bk_tree.specs.Tree as t
+use Rattle.bk_tree.specs.Tree.{Mention, Expression, Expressions, Action}
 use Rattle.bk_meaning.specs.Values.{Value, Cell as Cell_of, holds}
 use Rattle.bk_meaning.specs.Environment.{Environment, cell, bind, past}
 use Rattle.bk_meaning.specs.World.{World, Exit, Outcome, Done, done, given, with, either, making, forgetting}

@@ -4,7 +4,7 @@ use Rattle.bk_ocode.specs.OcodeState.{State}
 use Rattle.bk_ocode.specs.declared.stmt.Stmt.{Stmt}
 use Rattle.bk_ocode.specs.declared.stmt.Stmt.TheVariants.{Label}
 use Rattle.bk_trans.specs.Scheme.{goal}
-use Rattle.bk_syntax.specs.Tree.{Action}
+use Rattle.bk_tree.specs.Tree.{Action}
 use Rattle.bk_meaning.specs.Values.{Value}
 use Rattle.bk_meaning.specs.Environment.{Environment}
 use Rattle.bk_meaning.specs.Seeking.{forwards}

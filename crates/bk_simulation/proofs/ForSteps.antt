@@ -3,7 +3,7 @@ use Rattle.std.proofs.Common.{◌≡◌, ℕ, ◌+◌, ◌*◌, ◌<◌, ◌≤�
 use Rattle.std.proofs.lemmas.Bool.Decides.{nat_tests}
 use Rattle.std.proofs.lemmas.Int.{ints}
 use Rattle.bk_base.specs.Word.{signed, word_of}
-use Rattle.bk_syntax.specs.declared.tree.Operator.TheVariants as op
+use Rattle.bk_tree.specs.declared.tree.Operator.TheVariants as op
 use Rattle.bk_ocode.specs.Cells.{Word, content_of}
 use Rattle.bk_ocode.specs.OcodeState.{State}
 use Rattle.bk_ocode.specs.OcodeStep.{from_label}

@@ -2,7 +2,7 @@
 use Rattle.std.proofs.Common.{◌≡◌, ℕ, ◌+◌, ◌<◌, ◌≤◌, ◌==◌, Bool, true, false, cond, List, [], ◌∷◌, ◌++◌, length, map, Some, refl, sym, ap, subst, arith, slice_get, drop, eqb-true, eq-eqb}
 use Rattle.bk_base.specs.Strings.{first_bytes}
 use Rattle.bk_base.specs.Word.{signed}
-use Rattle.bk_syntax.specs.Tree.{Declarations}
+use Rattle.bk_tree.specs.Tree.{Declarations}
 use Rattle.bk_scope.specs.declared.bound.Bound.{Bound}
 use Rattle.bk_scope.specs.declared.bound.Bound.TheVariants as b
 use Rattle.bk_ocode.specs.Lists.{joined}

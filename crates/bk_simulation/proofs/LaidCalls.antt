@@ -1,8 +1,8 @@
 -- A call is laid where the scheme puts it, where its arguments and what it calls are.
 use Rattle.std.proofs.Common.{◌≡◌, ℕ, ◌+◌, List, [], ◌∷◌, ◌++◌, refl, ap, subst, arith}
-use Rattle.bk_syntax.specs.Grammar.{size}
-use Rattle.bk_syntax.specs.Tree as t
-use Rattle.bk_syntax.specs.Tree.{Expression, Expressions, Action, Actions, Declaration, Declarations, Definition, Definitions, Starts}
+use Rattle.bk_tree.specs.Parts.{size}
+use Rattle.bk_tree.specs.Tree as t
+use Rattle.bk_tree.specs.Tree.{Expression, Expressions, Action, Actions, Declaration, Declarations, Definition, Definitions, Starts}
 use Rattle.bk_scope.specs.declared.place.Place.{Place}
 use Rattle.bk_scope.specs.Scope.{Binding}
 use Rattle.bk_scope.specs.Places.{deeper}

@@ -1,9 +1,9 @@
 -- Declarations are laid where the scheme puts them, before what is laid in their scope: MANIFEST, STATIC, GLOBAL and LET.
 use Rattle.std.proofs.Common.{◌≡◌, ℕ, ◌+◌, ◌<◌, ◌≤◌, Bool, true, false, List, [], ◌∷◌, ◌++◌, cond, refl, sym, ap, ◌∙◌, subst, arith, append_assoc}
-use Rattle.bk_syntax.specs.declared.tree.Sort.{Sort}
-use Rattle.bk_syntax.specs.declared.tree.Sort.TheVariants as sort
-use Rattle.bk_syntax.specs.Tree as t
-use Rattle.bk_syntax.specs.Tree.{Items, Declaration, Declarations, Definitions}
+use Rattle.bk_tree.specs.declared.tree.Sort.{Sort}
+use Rattle.bk_tree.specs.declared.tree.Sort.TheVariants as sort
+use Rattle.bk_tree.specs.Tree as t
+use Rattle.bk_tree.specs.Tree.{Items, Declaration, Declarations, Definitions}
 use Rattle.bk_scope.specs.declared.place.Place.{Place}
 use Rattle.bk_scope.specs.Scope.{Binding, bind_all}
 use Rattle.bk_scope.specs.Scoping.{procedures_in_scope, manifests_in_scope, statics_in_scope, globals_in_scope, place_behind_defined, scope_behind_one, place_behind_one, scope_behind, place_behind_all}

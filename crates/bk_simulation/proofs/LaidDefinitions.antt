@@ -1,8 +1,8 @@
 -- The definitions of a LET are laid where the scheme puts them.
 use Rattle.std.proofs.Common.{◌≡◌, ℕ, ◌+◌, ◌≤◌, true, false, List, ◌∷◌, ◌++◌, length, Option, Some, None, cond, refl, sym, ap, ◌∙◌, subst, arith, le-ltb}
 use Rattle.bk_base.specs.declared.limit.TheConstants.{VEC_NUMBER}
-use Rattle.bk_syntax.specs.Tree as t
-use Rattle.bk_syntax.specs.Tree.{Expression, Expressions, Action, Actions, Declaration, Declarations, Definition, Definitions, Starts}
+use Rattle.bk_tree.specs.Tree as t
+use Rattle.bk_tree.specs.Tree.{Expression, Expressions, Action, Actions, Declaration, Declarations, Definition, Definitions, Starts}
 use Rattle.bk_scope.specs.declared.place.Place.{Place}
 use Rattle.bk_scope.specs.Scope.{Binding, bound_in}
 use Rattle.bk_scope.specs.Constants.{constant_word}

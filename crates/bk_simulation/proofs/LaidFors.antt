@@ -1,8 +1,8 @@
 -- A FOR is laid where the scheme puts it, where its body is.
 use Rattle.std.proofs.Common.{◌≡◌, ℕ, ◌+◌, ◌<◌, ◌≤◌, ◌^◌, Bool, true, false, List, [], ◌∷◌, ◌++◌, length, Some, cond, refl, sym, ap, ap₂, ◌∙◌, subst, arith, int_lt, pos}
 use Rattle.bk_base.specs.Word.{signed}
-use Rattle.bk_syntax.specs.Tree as t
-use Rattle.bk_syntax.specs.Tree.{Expression, Expressions, Action, Actions, Declaration, Declarations, Definition, Definitions, Starts}
+use Rattle.bk_tree.specs.Tree as t
+use Rattle.bk_tree.specs.Tree.{Expression, Expressions, Action, Actions, Declaration, Declarations, Definition, Definitions, Starts}
 use Rattle.bk_scope.specs.declared.bound.Bound.TheVariants as b
 use Rattle.bk_scope.specs.declared.place.Place.{Place}
 use Rattle.bk_scope.specs.Scope.{Binding, bind}
@@ -36,7 +36,7 @@ use Rattle.bk_simulation.proofs.Standing.{there_in, bases_inside, StandsAt, pass
 use Rattle.bk_simulation.proofs.Constants.{constant_small}
 use Rattle.bk_simulation.proofs.LaidCommands.{Doing, finds_nothing, Done, words_labels, words_variable, alone_lies}
 use Rattle.bk_simulation.proofs.LaidExpressions.{HasWords, FoundParts, found_front, found_back, around_deeper, constants_agree, InNames, joined_choice}
-use Rattle.bk_syntax.specs.Tree.{Mention}
+use Rattle.bk_tree.specs.Tree.{Mention}
 use Rattle.bk_trans.specs.Program.{Command}
 use Rattle.bk_simulation.proofs.LaidValues.{ValofsLie, laid_code}
 

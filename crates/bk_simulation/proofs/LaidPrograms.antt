@@ -1,7 +1,7 @@
 -- A program whose procedures are laid, and that holds what lasts, does what its sections mean.
 use Rattle.std.proofs.Common.{◌≡◌, ℕ, ◌<◌, ◌^◌, List, Some, refl, ap, ◌∙◌, ⊎_elim}
 use Rattle.bk_base.specs.declared.limit.TheConstants.{FRAME_WORDS}
-use Rattle.bk_syntax.specs.Tree.{Declarations}
+use Rattle.bk_tree.specs.Tree.{Declarations}
 use Rattle.std.specs.Option.{option_map}
 use Rattle.bk_ocode.specs.Access.{number_in}
 use Rattle.bk_ocode.specs.OcodeRun.{Program}

@@ -1,10 +1,10 @@
 -- What lasts of a section lies where the scheme puts it.
 use Rattle.std.proofs.Common.{◌≡◌, ℕ, ◌+◌, ◌≤◌, false, List, [], ◌∷◌, ◌++◌, cond, refl, sym, ap, ◌∙◌, subst, arith}
 use Rattle.std.proofs.lemmas.Bool.{false≢true}
-use Rattle.bk_syntax.specs.declared.tree.Sort.{Sort}
-use Rattle.bk_syntax.specs.declared.tree.Sort.TheVariants as sort
-use Rattle.bk_syntax.specs.Tree as t
-use Rattle.bk_syntax.specs.Tree.{Items, Declaration, Declarations, Definitions}
+use Rattle.bk_tree.specs.declared.tree.Sort.{Sort}
+use Rattle.bk_tree.specs.declared.tree.Sort.TheVariants as sort
+use Rattle.bk_tree.specs.Tree as t
+use Rattle.bk_tree.specs.Tree.{Items, Declaration, Declarations, Definitions}
 use Rattle.bk_scope.specs.declared.place.Place.{Place}
 use Rattle.bk_scope.specs.Places as place
 use Rattle.bk_scope.specs.Scope.{Binding}

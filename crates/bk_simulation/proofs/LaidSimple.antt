@@ -1,8 +1,8 @@
 -- Commands of one word are laid where the scheme puts them.
 use Rattle.std.proofs.Common.{◌≡◌, ℕ, List, ◌∷◌, ◌++◌, refl}
-use Rattle.bk_syntax.specs.declared.tree.Simple.TheVariants as simple
-use Rattle.bk_syntax.specs.Tree as t
-use Rattle.bk_syntax.specs.Tree.{Expression, Expressions, Action, Actions, Declaration, Declarations, Definition, Definitions, Starts}
+use Rattle.bk_tree.specs.declared.tree.Simple.TheVariants as simple
+use Rattle.bk_tree.specs.Tree as t
+use Rattle.bk_tree.specs.Tree.{Expression, Expressions, Action, Actions, Declaration, Declarations, Definition, Definitions, Starts}
 use Rattle.bk_scope.specs.declared.place.Place.{Place}
 use Rattle.bk_scope.specs.Sound.{SoundDone}
 use Rattle.bk_scope.specs.Spots.{Spot}
@@ -13,7 +13,7 @@ use Rattle.bk_trans.specs.Scheme.{command_code}
 use Rattle.bk_simulation.proofs.Laid.{Scene}
 use Rattle.bk_simulation.proofs.Standing.{StandsAt, passed, written, home, no_bases}
 use Rattle.bk_simulation.proofs.LaidCommands.{Doing, finds_nothing, Done}
-use Rattle.bk_syntax.specs.declared.tree.Simple.{Simple}
+use Rattle.bk_tree.specs.declared.tree.Simple.{Simple}
 
 -- a command of one word
 pub simple_lies : (pay : ℕ) (sc : Scene) (p : Place) (s : Spot) (i l : ℕ) (x : Simple) (d n : ℕ) (c rest : List Stmt) → Doing sc p d → SoundDone sc.bindings p s (t.simple l x)

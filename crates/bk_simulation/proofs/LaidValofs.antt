@@ -1,8 +1,8 @@
 -- A VALOF is laid where the scheme puts it, where lighter forms are.
 use Rattle.std.proofs.Common.{◌≡◌, ℕ, suc, ◌+◌, ◌≤◌, List, [], ◌∷◌, ◌++◌, length, refl, arith}
 use Rattle.std.proofs.lemmas.Bool.{false≢true}
-use Rattle.bk_syntax.specs.Tree as t
-use Rattle.bk_syntax.specs.Tree.{Expression, Expressions, Action, Actions, Declaration, Declarations, Definition, Definitions, Starts}
+use Rattle.bk_tree.specs.Tree as t
+use Rattle.bk_tree.specs.Tree.{Expression, Expressions, Action, Actions, Declaration, Declarations, Definition, Definitions, Starts}
 use Rattle.bk_scope.specs.declared.place.Place.{Place}
 use Rattle.bk_scope.specs.Entering.{labels_of}
 use Rattle.bk_scope.specs.Places.{deeper}

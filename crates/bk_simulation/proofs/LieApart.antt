@@ -2,7 +2,7 @@
 use Rattle.std.proofs.Common.{◌≡◌, ◌⊎◌, inl, inr, ⊎_elim, ℕ, zero, suc, ◌+◌, ◌<◌, ◌≤◌, List, [], ◌∷◌, ◌++◌, length, map, Option, Some, None, slice_get, drop, cond, Bool, eq-eqb, refl, sym, ap, ◌∙◌, subst, arith}
 use Rattle.bk_base.specs.declared.limit.TheConstants.{FRAME_WORDS}
 use Rattle.bk_base.specs.Strings.{string_words}
-use Rattle.bk_syntax.specs.Tree.{Declarations}
+use Rattle.bk_tree.specs.Tree.{Declarations}
 use Rattle.bk_scope.specs.Places.{outermost}
 use Rattle.bk_scope.specs.Spots.{beginning}
 use Rattle.bk_scope.specs.declared.bound.Bound.TheVariants as b

@@ -1,8 +1,8 @@
 -- With any number of turns each form does what it means.
 use Rattle.std.proofs.Common.{ℕ, zero, suc, ◌≤◌, List, refl, ◌∙◌, subst, arith, ◌⊎◌, inl}
 use Rattle.bk_ocode.specs.declared.stmt.Stmt.{Stmt}
-use Rattle.bk_syntax.specs.Tree as t
-use Rattle.bk_syntax.specs.Tree.{Action}
+use Rattle.bk_tree.specs.Tree as t
+use Rattle.bk_tree.specs.Tree.{Action}
 use Rattle.bk_meaning.specs.Lasting.{Program}
 use Rattle.bk_meaning.specs.Seeking.{Sought, Mode, forwards, seeking}
 use Rattle.bk_meaning.specs.World.{World}

@@ -1,6 +1,6 @@
 -- One value and two, and what is done with them.
 use Rattle.std.proofs.Common.{◌+◌, ◌-◌, ◌*◌, ◌≤◌, List, refl, arith}
-use Rattle.bk_syntax.specs.Tree.{Expression}
+use Rattle.bk_tree.specs.Tree.{Expression}
 use Rattle.bk_ocode.specs.Cells.{content_of}
 use Rattle.bk_ocode.specs.OcodeState.{State}
 use Rattle.bk_ocode.specs.declared.stmt.Stmt.{Stmt}

@@ -7,9 +7,9 @@ use Rattle.std.proofs.lemmas.Bool.{eqb-true}
 use Rattle.std.proofs.lemmas.Bool.Decides.{nat_tests}
 use Rattle.bk_base.specs.Word.{signed, truth, word_sum, word_difference, word_quotient, word_remainder, word_less, word_greater, word_at_most, word_at_least, word_negation, word_not}
 use Rattle.bk_scope.specs.Constants.{infix_word}
-use Rattle.bk_syntax.specs.declared.tree.Operator.{Operator}
-use Rattle.bk_syntax.specs.declared.tree.Operator.TheVariants as o
-use Rattle.bk_syntax.specs.declared.tree.Prefix.TheVariants as q
+use Rattle.bk_tree.specs.declared.tree.Operator.{Operator}
+use Rattle.bk_tree.specs.declared.tree.Operator.TheVariants as o
+use Rattle.bk_tree.specs.declared.tree.Prefix.TheVariants as q
 use Rattle.bk_meaning.specs.Values.{Value, number, address, procedure, routine, unset, Cell as Cell_of}
 use Rattle.bk_meaning.specs.Memory.{cells_at, lives}
 use Rattle.bk_meaning.specs.World.{World, Outcome, gives, leaves, ends, undefined, going, divide_by_zero, given, either}

@@ -2,9 +2,9 @@
 use Rattle.std.proofs.Common.{◌≡◌, ℕ, ◌+◌, ◌<◌, ◌≤◌, List, ◌∷◌, ◌++◌, Option, Some, None, refl, sym, ap, subst, arith, inl}
 use Rattle.std.specs.Option.{option_map}
 use Rattle.bk_base.specs.Word.{word_negation, word_not}
-use Rattle.bk_syntax.specs.declared.tree.Operator.{Operator}
-use Rattle.bk_syntax.specs.declared.tree.Operator.TheVariants as o
-use Rattle.bk_syntax.specs.declared.tree.Prefix.TheVariants as q
+use Rattle.bk_tree.specs.declared.tree.Operator.{Operator}
+use Rattle.bk_tree.specs.declared.tree.Operator.TheVariants as o
+use Rattle.bk_tree.specs.declared.tree.Prefix.TheVariants as q
 use Rattle.bk_ocode.specs.Cells.{Word, content_of}
 use Rattle.bk_ocode.specs.OcodeState.{Inside, State}
 use Rattle.bk_ocode.specs.OcodeStep.{dyadic_word}

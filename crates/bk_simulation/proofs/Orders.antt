@@ -1,8 +1,8 @@
 -- Commands in order, and what seeking finds in them.
 use Rattle.std.proofs.Common.{◌≡◌, ◌+◌, ◌*◌, Bool, true, false, ◌||◌, cond, List, [], refl, sym, ap, ◌∙◌, subst, arith, inl}
 use Rattle.bk_ocode.specs.declared.stmt.Stmt.{Stmt}
-use Rattle.bk_syntax.specs.Tree as t
-use Rattle.bk_syntax.specs.Tree.{Action, Actions}
+use Rattle.bk_tree.specs.Tree as t
+use Rattle.bk_tree.specs.Tree.{Action, Actions}
 use Rattle.bk_meaning.specs.Environment.{Environment, past_action}
 use Rattle.bk_meaning.specs.Seeking.{Sought, Mode, forwards, seeking, stands_in, stands_in_one}
 use Rattle.bk_meaning.specs.World.{World, with, either}

@@ -6,7 +6,7 @@ use Rattle.bk_ocode.specs.OcodeStep.{named_place}
 use Rattle.bk_ocode.specs.declared.stmt.Dyadic.TheVariants as two
 use Rattle.bk_ocode.specs.declared.stmt.Stmt.{Stmt}
 use Rattle.bk_ocode.specs.declared.stmt.Stmt.TheVariants.{Address, Dyadic, Assign, AssignAt, AssignByte}
-use Rattle.bk_syntax.specs.Tree.{Expression}
+use Rattle.bk_tree.specs.Tree.{Expression}
 use Rattle.bk_meaning.specs.Values.{Value, address}
 use Rattle.bk_meaning.specs.Operators.{sum}
 use Rattle.bk_meaning.specs.Environment.{Sense, constant, cell, label, foreign, sense_of, past}

@@ -1,7 +1,7 @@
 -- THE LAWS OF PROGRAMS: the steps of OCODE do what the source means.
 use Rattle.std.proofs.Common.{ℕ, List}
 use Rattle.bk_base.specs.declared.limit.TheConstants.{FRAME_WORDS}
-use Rattle.bk_syntax.specs.Tree.{Declarations}
+use Rattle.bk_tree.specs.Tree.{Declarations}
 use Rattle.bk_ocode.specs.OcodeRun.{Program}
 use Rattle.bk_ocode.specs.WellPlaced.{IsWellPlaced}
 use Rattle.bk_simulation.specs.Placement.{AreAccepted, StandFor}

@@ -5,7 +5,7 @@ use Rattle.bk_ocode.specs.OcodeState.{State}
 use Rattle.bk_ocode.specs.declared.stmt.Stmt.{Stmt}
 use Rattle.bk_trans.specs.Naming.{meant}
 use Rattle.bk_trans.specs.Scheme.{goal_in}
-use Rattle.bk_syntax.specs.Tree.{Actions}
+use Rattle.bk_tree.specs.Tree.{Actions}
 use Rattle.bk_meaning.specs.Environment.{Environment, labelled}
 use Rattle.bk_meaning.specs.Seeking.{Sought, the_label, Mode, seeking, stands_in_one}
 use Rattle.bk_meaning.specs.World.{World, Exit, break, loop, endcase, goto, result, return, Outcome, gives, leaves, ends, undefined, going, each_way, either}

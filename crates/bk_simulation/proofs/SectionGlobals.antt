@@ -1,6 +1,6 @@
 -- The globals that a section sets are those of the one GLOBAL at its end; settings, section by section.
 use Rattle.std.proofs.Common.{◌≡◌, ℕ, suc, ◌+◌, Bool, true, false, not, List, [], ◌∷◌, ◌++◌, length, map, Some, None, refl, sym, ap, ◌∙◌, subst, if◌then◌else◌, arith, slice_get, take, append_assoc, append-nil}
-use Rattle.bk_syntax.specs.Tree.{Declarations}
+use Rattle.bk_tree.specs.Tree.{Declarations}
 use Rattle.bk_ocode.specs.Context.{Context, at_start, after, after_all, context_of}
 use Rattle.bk_ocode.specs.Faults.{misplaced, label_not_set, label_set_twice, depths_disagree, slot_above, too_long, stmt_fault}
 use Rattle.bk_ocode.specs.Places.{role, may_stand, position_behind}

@@ -1,7 +1,7 @@
 -- The globals that sections set are those that their procedures set in the meaning.
 use Rattle.std.proofs.lemmas.List.{map-append}
 use Rattle.std.proofs.Common.{◌≡◌, ℕ, suc, ◌+◌, List, [], ◌∷◌, ◌++◌, map, Option, Some, None, refl, sym, ap, ap₂, ◌∙◌}
-use Rattle.bk_syntax.specs.Tree.{Declarations}
+use Rattle.bk_tree.specs.Tree.{Declarations}
 use Rattle.bk_scope.specs.declared.bound.Bound.{Bound}
 use Rattle.bk_scope.specs.declared.bound.Bound.TheVariants as b
 use Rattle.bk_ocode.specs.Lists.{joined}

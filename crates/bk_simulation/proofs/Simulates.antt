@@ -6,8 +6,8 @@ use Rattle.bk_ocode.specs.OcodeStep.{from_label}
 use Rattle.bk_ocode.specs.declared.stmt.Stmt.{Stmt}
 use Rattle.bk_ocode.specs.declared.stmt.Stmt.TheVariants.{Assign, AssignAt, AssignByte}
 use Rattle.bk_ocode.specs.declared.stmt.Variable.{Variable}
-use Rattle.bk_syntax.specs.Tree as t
-use Rattle.bk_syntax.specs.Tree.{Expression, Expressions, Action, Actions}
+use Rattle.bk_tree.specs.Tree as t
+use Rattle.bk_tree.specs.Tree.{Expression, Expressions, Action, Actions}
 use Rattle.bk_meaning.specs.Values.{Value, address}
 use Rattle.bk_meaning.specs.Environment.{labelled}
 use Rattle.bk_meaning.specs.Seeking.{Sought, Mode}

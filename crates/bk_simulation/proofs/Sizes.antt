@@ -1,8 +1,8 @@
 -- How many turns the nodes of a tree take at most where each is gone through once: one for each, one more for what comes before a
 -- further round of a loop.
 use Rattle.std.proofs.Common.{ℕ, ◌+◌}
-use Rattle.bk_syntax.specs.Tree as t
-use Rattle.bk_syntax.specs.Tree.{Expression, Expressions, Action, Actions, Declaration, Declarations, Definition, Definitions, Starts}
+use Rattle.bk_tree.specs.Tree as t
+use Rattle.bk_tree.specs.Tree.{Expression, Expressions, Action, Actions, Declaration, Declarations, Definition, Definitions, Starts}
 
 abbrev mutual
   pub turns_of : Expression → ℕ

@@ -1,9 +1,9 @@
 -- The strings of commands: each stands in a statement of its own.
 use Rattle.std.proofs.Common.{◌≡◌, ℕ, zero, suc, ◌+◌, ◌≤◌, true, List, [], ◌∷◌, ◌++◌, length, refl, sym, subst, arith, length-append}
 use Rattle.bk_base.specs.Word.{signed}
-use Rattle.bk_syntax.specs.declared.tree.Simple.TheVariants as simple
-use Rattle.bk_syntax.specs.Tree as t
-use Rattle.bk_syntax.specs.Tree.{Mention, Expression, Expressions, Action, Actions, Declaration, Declarations, Items, Definition, Definitions, Starts}
+use Rattle.bk_tree.specs.declared.tree.Simple.TheVariants as simple
+use Rattle.bk_tree.specs.Tree as t
+use Rattle.bk_tree.specs.Tree.{Mention, Expression, Expressions, Action, Actions, Declaration, Declarations, Items, Definition, Definitions, Starts}
 use Rattle.bk_ocode.specs.OcodeState.{Placed}
 use Rattle.bk_ocode.specs.declared.stmt.Stmt.{Stmt}
 use Rattle.bk_ocode.specs.declared.stmt.Variable.TheVariants.{Local}

@@ -1,7 +1,7 @@
 -- The strings of a section: each stands in a statement of its own.
 use Rattle.std.proofs.Common.{◌≡◌, ℕ, ◌+◌, [], refl, ap, ◌∙◌, arith}
-use Rattle.bk_syntax.specs.Tree as t
-use Rattle.bk_syntax.specs.Tree.{Declarations, Definitions}
+use Rattle.bk_tree.specs.Tree as t
+use Rattle.bk_tree.specs.Tree.{Declarations, Definitions}
 use Rattle.bk_ocode.specs.OcodeState.{Placed}
 use Rattle.bk_meaning.specs.Environment.{Environment, past_definition, within_let, objects_of_declaration, objects_of_declarations, objects_of_definition, objects_of_definitions}
 use Rattle.bk_meaning.specs.Lasting.{declared, of_declaration, of_declarations, of_definition, of_definitions}

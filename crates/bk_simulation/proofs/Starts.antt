@@ -2,8 +2,8 @@
 use Rattle.std.proofs.Common.{◌≡◌, ◌≢◌, ℕ, zero, suc, ◌+◌, ◌-◌, ◌<◌, ◌≤◌, ◌%◌, ◌^◌, List, [], ◌∷◌, ◌++◌, length, Option, Some, None, refl, sym, ap, ◌∙◌, subst, arith, ⊎_elim, inl, inr, slice_get}
 use Rattle.std.specs.Prelude.{replicate}
 use Rattle.bk_base.specs.declared.limit.TheConstants.{FRAME_WORDS}
-use Rattle.bk_syntax.specs.Tree as t
-use Rattle.bk_syntax.specs.Tree.{Expression, Starts}
+use Rattle.bk_tree.specs.Tree as t
+use Rattle.bk_tree.specs.Tree.{Expression, Starts}
 use Rattle.bk_scope.specs.Scope.{Binding}
 use Rattle.bk_ocode.specs.Cells.{Content, Word, Variable, Temporary, Cell, Held, content_of, write, below, settle}
 use Rattle.bk_ocode.specs.OcodeState.{Placed, Inside, State}

@@ -7,8 +7,8 @@ use Rattle.bk_ocode.specs.declared.stmt.Case.{Case}
 use Rattle.bk_ocode.specs.declared.stmt.Stmt.{Stmt}
 use Rattle.bk_ocode.specs.declared.stmt.Stmt.TheVariants.{Label, Switch}
 use Rattle.bk_trans.specs.Scheme.{goal}
-use Rattle.bk_syntax.specs.Tree as t
-use Rattle.bk_syntax.specs.Tree.{Expression, Action}
+use Rattle.bk_tree.specs.Tree as t
+use Rattle.bk_tree.specs.Tree.{Expression, Action}
 use Rattle.bk_meaning.specs.Values.{Value, number, address, procedure, routine, unset}
 use Rattle.bk_meaning.specs.Environment.{Environment, past}
 use Rattle.bk_meaning.specs.Seeking.{Sought, the_case, the_default, Mode, seeking, is_label, stands_in}

@@ -6,7 +6,7 @@ use Rattle.std.specs.Option.{option_map_or}
 use Rattle.bk_ocode.specs.declared.stmt.Stmt.{Stmt}
 use Rattle.bk_ocode.specs.declared.stmt.Stmt.TheVariants.{Label, TakeResult}
 use Rattle.bk_trans.specs.declared.around.Around.{Around}
-use Rattle.bk_syntax.specs.Tree.{Action}
+use Rattle.bk_tree.specs.Tree.{Action}
 use Rattle.bk_meaning.specs.Values.{Value, unset}
 use Rattle.bk_meaning.specs.Seeking.{forwards}
 use Rattle.bk_meaning.specs.World.{World, Exit, break, loop, endcase, goto, result, return}

@@ -1,7 +1,7 @@
 -- How many turns the nodes of a tree take at most, those in the bodies of its procedures among them.
 use Rattle.std.proofs.Common.{ℕ, ◌+◌, ◌≤◌, arith}
-use Rattle.bk_syntax.specs.Tree as t
-use Rattle.bk_syntax.specs.Tree.{Expression, Expressions, Action, Actions, Declaration, Declarations, Definition, Definitions, Starts}
+use Rattle.bk_tree.specs.Tree as t
+use Rattle.bk_tree.specs.Tree.{Expression, Expressions, Action, Actions, Declaration, Declarations, Definition, Definitions, Starts}
 use Rattle.bk_simulation.proofs.Sizes.{turns_of, turns_among, turns_in, turns_through, turns_declared, turns_one_declared, turns_defined, turns_one_defined, turns_started}
 
 abbrev mutual

@@ -1,7 +1,7 @@
 -- Accepted sections, and the statements that stand for them.
 use Rattle.std.specs.Prelude.{◌≡◌, List, [], ◌∷◌}
-use Rattle.bk_syntax.specs.Tree.{Declarations}
-use Rattle.bk_syntax.specs.Limits.{Within}
+use Rattle.bk_tree.specs.Tree.{Declarations}
+use Rattle.bk_tree.specs.Limits.{Within}
 use Rattle.bk_scope.specs.Faults.{faults, words}
 use Rattle.bk_ocode.specs.OcodeState.{Placed}
 use Rattle.bk_trans.specs.Naming.{named_tree}

@@ -1,9 +1,9 @@
 -- What the types and the grammar of trees give: numbers are words, an assignment and a LET have as many values as names, and
 -- variables stand in blocks alone.
 use Rattle.std.specs.Prelude.{◌≡◌, ℕ, suc, ◌<◌, ◌^◌, length}
-use Rattle.bk_syntax.specs.Tree as t
-use Rattle.bk_syntax.specs.Tree.{Expression, Expressions, Action, Actions, Declaration, Declarations, Items, Definition, Definitions, Starts}
-use Rattle.bk_syntax.specs.Grammar.{size}
+use Rattle.bk_tree.specs.Tree as t
+use Rattle.bk_tree.specs.Tree.{Expression, Expressions, Action, Actions, Declaration, Declarations, Items, Definition, Definitions, Starts}
+use Rattle.bk_tree.specs.Parts.{size}
 
 abbrev pub starts : Starts → ℕ
 starts t.no_starts = 0

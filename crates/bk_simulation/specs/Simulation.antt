@@ -6,7 +6,7 @@ use Rattle.bk_base.specs.declared.limit.TheConstants.{FRAME_WORDS}
 use Rattle.bk_base.specs.declared.run_end.End.{End}
 use Rattle.bk_base.specs.declared.run_end.End.TheVariants.{Status, DivideByZero}
 use Rattle.bk_base.specs.Word.{signed}
-use Rattle.bk_syntax.specs.Tree.{Declarations}
+use Rattle.bk_tree.specs.Tree.{Declarations}
 use Rattle.bk_ocode.specs.OcodeState.{Placed, Inside, State, Goes, Ends}
 use Rattle.bk_ocode.specs.OcodeRun.{Program, run}
 use Rattle.bk_ocode.specs.ProgramStart.{first_state}

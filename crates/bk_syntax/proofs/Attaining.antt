@@ -3,18 +3,19 @@ use Rattle.std.proofs.Common.{◌≡◌, ◌≤◌, ◌<◌, ℕ, zero, suc, ◌
 use Rattle.std.proofs.lemmas.Bool.Decides.{nat_tests}
 use Rattle.bk_lex.specs.declared.token.Kind.{Kind}
 use Rattle.bk_lex.specs.declared.token.Kind.TheVariants as k
-use Rattle.bk_syntax.specs.declared.symbols.Guard.{Guard}
-use Rattle.bk_syntax.specs.declared.symbols.Guard.TheVariants as g
-use Rattle.bk_syntax.specs.Tree.{Mention, Expression, Expressions, Action, Starts, name, apply, none, more, empty, assign, call, label, test, for_loop, repeat, variables, no_starts, value, vector}
-use Rattle.bk_syntax.specs.Limits.{depth, depth_of_each, depth_of_action, depth_of_starts, nodes, nodes_of_each, nodes_of_action, nodes_of_starts}
-use Rattle.bk_syntax.specs.Rows.{begins_command, repeats, goes}
-use Rattle.bk_syntax.specs.Grammar.{line_of_first, line_of_names, line_of_action, size, start_count}
-use Rattle.bk_syntax.specs.Inner.Machine.{each_then, starts_then, Stack, at_starts, in_start, in_dests, in_values, in_guard, in_test, in_from, in_to, in_by, in_value, in_vector, in_label, in_guarded, in_do, in_or, in_for, State, want, have, begin, maybe, did, due, push, guarded, counted, defined_by, give, finish, stepped_by}
-use Rattle.bk_syntax.specs.Inner.Sizes.{form_of, owed}
-use Rattle.bk_syntax.specs.Inner.WaysOn.{Next, closing, assigning, listing, going, repeating, operating, Any, AtClosing, AtListing, If, Closed, Missing, Started, Guarded, Gives, Does, Defines}
-use Rattle.bk_syntax.proofs.Steps.{repeated, same_eq, less_eq, size_then, count_then}
-use Rattle.bk_syntax.proofs.Turns.{call_done, guarded_depth, guarded_nodes}
-use Rattle.bk_syntax.proofs.Trees.{each_depth, each_nodes, starts_depth, starts_nodes}
+use Rattle.bk_grammar.specs.declared.symbols.Guard.{Guard}
+use Rattle.bk_grammar.specs.declared.symbols.Guard.TheVariants as g
+use Rattle.bk_tree.specs.Tree.{Mention, Expression, Expressions, Action, Starts, name, apply, none, more, empty, assign, call, label, test, for_loop, repeat, variables, no_starts, value, vector}
+use Rattle.bk_tree.specs.Limits.{depth, depth_of_each, depth_of_action, depth_of_starts, nodes, nodes_of_each, nodes_of_action, nodes_of_starts}
+use Rattle.bk_grammar.specs.Rows.{begins_command, repeats, goes}
+use Rattle.bk_tree.specs.Parts.{line_of_first, line_of_names, line_of_action, size, start_count}
+use Rattle.bk_grammar.specs.Machine.{Stack, at_starts, in_start, in_dests, in_values, in_guard, in_test, in_from, in_to, in_by, in_value, in_vector, in_label, in_guarded, in_do, in_or, in_for, State, want, have, begin, maybe, did, due, push, guarded, counted, defined_by, give, finish, stepped_by}
+use Rattle.bk_tree.specs.Parts.{each_then, starts_then}
+use Rattle.bk_frames.specs.Sizes.{form_of, owed}
+use Rattle.bk_frames.specs.WaysOn.{Next, closing, assigning, listing, going, repeating, operating, Any, AtClosing, AtListing, If, Closed, Missing, Started, Guarded, Gives, Does, Defines}
+use Rattle.bk_grammar.proofs.Steps.{repeated, same_eq, less_eq, size_then, count_then}
+use Rattle.bk_frames.proofs.Turns.{call_done, guarded_depth, guarded_nodes}
+use Rattle.bk_tree.proofs.Trees.{each_depth, each_nodes, starts_depth, starts_nodes}
 use Rattle.bk_syntax.proofs.Onward.{Way, WayBy, sized, step_on, step_by, same_by, at_close, at_comma, ends_expression, leaves_command, DoesOn, DefinesOn, done, name_here, break_here, name_on, break_on, depth_some}
 use Rattle.bk_syntax.proofs.Operands.{does_leave}
 
@@ -105,9 +106,6 @@ values_way {P = P} (suc n) os xs ys st e g is h =
     (name_on os (in_values xs zs st) (values_way n os xs zs st name_here g (omega (arith, is, z))
     (sized (λ i j. Any (Closed (Does P st) i j)) (max (depth_of_each xs) (max (depth_of_each ys) (max (depth e) (min 1 (suc n)))) + 1) (max (depth_of_each xs) (max (depth_of_each zs) (max 1 (min 1 n))) + 1)
     (nodes_of_each xs + (nodes_of_each ys + nodes e) + suc n + 1) (nodes_of_each xs + (nodes_of_each zs + 1) + n + 1) (omega (arith, p)) (omega (arith, q)) h)))
-
-eq_is : (m n : ℕ) → (m == n) ≡ true → m ≡ n
-eq_is m n h = grind (arith, nat_tests, h)
 
 less_is : (m n : ℕ) → (m == n) ≡ false → n ≤ m → n < m
 less_is m n h le = grind (arith, nat_tests, h, le)

@@ -11,33 +11,33 @@ use Rattle.bk_lex.specs.declared.token.Kind.{Kind}
 use Rattle.bk_lex.specs.declared.token.Kind.TheVariants as k
 use Rattle.bk_lex.specs.declared.token.Token.{Token}
 use Rattle.bk_lex.specs.Symbol.{Symbol, symbol_of, symbols_of}
-use Rattle.bk_syntax.specs.declared.frame.Operand.TheVariants as o
-use Rattle.bk_syntax.specs.declared.frame.Phrase.TheVariants as p
-use Rattle.bk_syntax.specs.declared.frame.Member.TheVariants as m
-use Rattle.bk_syntax.specs.declared.frame.Clause.TheVariants as c
-use Rattle.bk_syntax.specs.declared.frame.Place.TheVariants as a
-use Rattle.bk_syntax.specs.declared.frame.Point.TheVariants as t
-use Rattle.bk_syntax.specs.declared.frame.Begun.{Begun}
-use Rattle.bk_syntax.specs.declared.frame.Begun.TheVariants as b
-use Rattle.bk_syntax.specs.declared.frame.Frame.{Frame}
-use Rattle.bk_syntax.specs.declared.frames.Frames.{Frames}
-use Rattle.bk_syntax.specs.declared.frame.Now.{Now}
-use Rattle.bk_syntax.specs.declared.frame.Stop.{Stop}
-use Rattle.bk_syntax.specs.declared.frame.Stop.TheVariants as s
-use Rattle.bk_syntax.specs.declared.tree.Decl.{Decl}
-use Rattle.bk_syntax.specs.Tree.{Declarations, declarations_in, no_declarations}
-use Rattle.bk_syntax.specs.Spelling.{tag_of}
-use Rattle.bk_syntax.specs.Brackets.{Closing, closed_by, in_front, plain_behind, plain_by, plain}
-use Rattle.bk_syntax.specs.SyntaxFault.{Stands}
-use Rattle.bk_syntax.specs.Inner.Machine.{Stack, State, due, in_section, opens, closes, stepped_by, step, whole, going, run}
-use Rattle.bk_syntax.specs.Inner.Begun.{begun_on}
-use Rattle.bk_syntax.specs.Inner.Stacked.{above, stack}
-use Rattle.bk_syntax.specs.Inner.Frames.{stack_of, state, Steps}
+use Rattle.bk_frames.specs.declared.frame.Operand.TheVariants as o
+use Rattle.bk_frames.specs.declared.frame.Phrase.TheVariants as p
+use Rattle.bk_frames.specs.declared.frame.Member.TheVariants as m
+use Rattle.bk_frames.specs.declared.frame.Clause.TheVariants as c
+use Rattle.bk_frames.specs.declared.frame.Place.TheVariants as a
+use Rattle.bk_frames.specs.declared.frame.Point.TheVariants as t
+use Rattle.bk_frames.specs.declared.frame.Begun.{Begun}
+use Rattle.bk_frames.specs.declared.frame.Begun.TheVariants as b
+use Rattle.bk_frames.specs.declared.frame.Frame.{Frame}
+use Rattle.bk_frames.specs.declared.frames.Frames.{Frames}
+use Rattle.bk_frames.specs.declared.frame.Now.{Now}
+use Rattle.bk_frames.specs.declared.frame.Stop.{Stop}
+use Rattle.bk_frames.specs.declared.frame.Stop.TheVariants as s
+use Rattle.bk_tree.specs.declared.tree.Decl.{Decl}
+use Rattle.bk_tree.specs.Tree.{Declarations, declarations_in, no_declarations}
+use Rattle.bk_grammar.specs.Spelling.{tag_of}
+use Rattle.bk_grammar.specs.Brackets.{Closing, closed_by, in_front, plain_behind, plain_by, plain}
+use Rattle.bk_grammar.specs.SyntaxFault.{Stands}
+use Rattle.bk_grammar.specs.Machine.{Stack, State, due, in_section, opens, closes, stepped_by, step, whole, going, run}
+use Rattle.bk_frames.specs.Begun.{begun_on}
+use Rattle.bk_frames.specs.Stacked.{above, stack}
+use Rattle.bk_frames.specs.Frames.{stack_of, state, Steps}
 use Rattle.bk_syntax.specs.SyntaxLaws.{reading}
 use Rattle.bk_syntax.specs.Parsing.{tags, Closes, goes_to, steps, leads, AfterSymbols, answered, reached, why_of, Advances, AnswersAtEnd}
-use Rattle.bk_syntax.proofs.Steps.{stepped}
-use Rattle.bk_syntax.proofs.Before.{opens_kind, closes_kind}
-use Rattle.bk_syntax.proofs.Stacks.{stack_none}
+use Rattle.bk_grammar.proofs.Steps.{stepped}
+use Rattle.bk_grammar.proofs.Before.{opens_kind, closes_kind}
+use Rattle.bk_frames.proofs.Stacks.{stack_none}
 use Rattle.bk_syntax.proofs.Openings.{tags_none}
 use Rattle.bk_syntax.proofs.Tags.{tag_stands, symbol_stands}
 

@@ -3,10 +3,10 @@ use Rattle.std.proofs.Common.{◌≡◌, ℕ, true, List, [], ◌∷◌, Ok, Err
 use Rattle.bk_lex.specs.declared.token.Kind.{Kind}
 use Rattle.bk_lex.specs.declared.token.Kind.TheVariants as k
 use Rattle.bk_lex.specs.Symbol.{Symbol}
-use Rattle.bk_syntax.specs.declared.tree.Operator.TheVariants as o
-use Rattle.bk_syntax.specs.declared.tree.Prefix.TheVariants as p
-use Rattle.bk_syntax.specs.Tree.{Expression, Action, name, unary, binary, choice, call, when, repeat, block, label, empty, none, also, no_actions, no_declarations, declare, definitions, define, no_definitions, routine, function}
-use Rattle.bk_syntax.specs.Inner.Machine.{run}
+use Rattle.bk_tree.specs.declared.tree.Operator.TheVariants as o
+use Rattle.bk_tree.specs.declared.tree.Prefix.TheVariants as p
+use Rattle.bk_tree.specs.Tree.{Expression, Action, name, unary, binary, choice, call, when, repeat, block, label, empty, none, also, no_actions, no_declarations, declare, definitions, define, no_definitions, routine, function}
+use Rattle.bk_grammar.specs.Machine.{run}
 use Rattle.bk_syntax.specs.SyntaxLaws.{reading}
 
 -- the name of this letter

@@ -4,18 +4,18 @@ use Rattle.bk_lex.specs.declared.token.Kind.{Kind}
 use Rattle.bk_lex.specs.declared.token.Kind.TheVariants as k
 use Rattle.bk_lex.specs.Symbol.{Symbol, symbol}
 use Rattle.bk_lex.specs.Values.{upper_name}
-use Rattle.bk_syntax.specs.declared.tree.Simple.TheVariants as w
-use Rattle.bk_syntax.specs.Tree.{Mention, Expression, Action, Declarations, Definition, Declaration, name, simple}
-use Rattle.bk_syntax.specs.Limits.{depth, depth_of_action, depth_of_declarations, depth_of_definition, nodes, nodes_of_action, nodes_of_declarations, nodes_of_definition}
-use Rattle.bk_syntax.specs.Rows.{begins_command, repeats, assigns, goes}
-use Rattle.bk_syntax.specs.Brackets.{one_more, up_to_tag, closed_by, in_front, plain}
-use Rattle.bk_syntax.specs.Inner.Machine.{Stack, State, want, have, begin, did, opens, closes, declared, declared_by, defined_by, stepped_by, run}
-use Rattle.bk_syntax.specs.Inner.Sizes.{form_of}
-use Rattle.bk_syntax.specs.Inner.WaysOn.{Next, closing, assigning, listing, going, repeating, operating, Any, AtClosing, AtListing, AtArgument, AtAssignment, Gives, Does, Defines}
-use Rattle.bk_syntax.proofs.Steps.{Takes, stepped, alike, takes}
-use Rattle.bk_syntax.proofs.Openings.{one_tag}
+use Rattle.bk_tree.specs.declared.tree.Simple.TheVariants as w
+use Rattle.bk_tree.specs.Tree.{Mention, Expression, Action, Declarations, Definition, Declaration, name, simple}
+use Rattle.bk_tree.specs.Limits.{depth, depth_of_action, depth_of_declarations, depth_of_definition, nodes, nodes_of_action, nodes_of_declarations, nodes_of_definition}
+use Rattle.bk_grammar.specs.Rows.{begins_command, repeats, assigns, goes}
+use Rattle.bk_grammar.specs.Brackets.{one_more, up_to_tag, closed_by, in_front, plain}
+use Rattle.bk_grammar.specs.Machine.{Stack, State, want, have, begin, did, opens, closes, declared, declared_by, defined_by, stepped_by, run}
+use Rattle.bk_frames.specs.Sizes.{form_of}
+use Rattle.bk_frames.specs.WaysOn.{Next, closing, assigning, listing, going, repeating, operating, Any, AtClosing, AtListing, AtArgument, AtAssignment, Gives, Does, Defines}
+use Rattle.bk_grammar.proofs.Steps.{Takes, stepped, alike, takes}
+use Rattle.bk_grammar.proofs.SameTags.{one_tag}
 use Rattle.bk_syntax.proofs.Behind.{plain_end, plain_open, plain_other, plain_close}
-use Rattle.bk_syntax.proofs.Fits.{Tagged}
+use Rattle.bk_grammar.proofs.Fits.{Tagged}
 
 -- ---- ways on
 

@@ -1,16 +1,13 @@
 -- The open sections, and what a `$)` closes of them.
-use Rattle.std.proofs.Common.{◌≡◌, ℕ, zero, suc, ◌+◌, ◌-◌, ◌<◌, Bool, true, false, cond, Option, Some, None, List, [], ◌∷◌, ◌++◌, length, get_or, take, replicate, map, IsTrue, ◌==◌, ◌↔◌, refl, sym, ap, ◌∙◌, arith}
-use Rattle.std.specs.Char.{to_ascii_lowercase, to_ascii_uppercase}
-use Rattle.std.proofs.lemmas.Str.Ascii.{lowercase-uppercase}
-use Rattle.std.proofs.lemmas.Bool.Decides.{nat_tests}
+use Rattle.std.proofs.Common.{◌≡◌, ℕ, zero, suc, ◌+◌, ◌-◌, ◌<◌, Bool, true, false, cond, Option, Some, None, List, [], ◌∷◌, ◌++◌, length, get_or, take, replicate, ◌==◌, refl, sym, ap, ◌∙◌, arith}
 use Rattle.std.proofs.Math.Seq.{take-length}
 use Rattle.std.proofs.lemmas.List.{take_more}
 use Rattle.std.specs.Borrow.{Bor}
 use Rattle.bk_lex.specs.Symbol.{Symbol}
 use Rattle.bk_lex.specs.Values.{upper_name}
-use Rattle.bk_syntax.specs.Brackets.{Closing, same_tag, one_more, up_to_tag, without_tag, closed_by}
+use Rattle.bk_grammar.specs.Brackets.{Closing, same_tag, one_more, up_to_tag, without_tag, closed_by}
 use Rattle.bk_syntax.specs.Parsing.{tags_on, tags}
-use Rattle.bk_syntax.proofs.Moves.{eq_is}
+use Rattle.bk_tree.proofs.Counts.{is_zero, is_more}
 
 on_push : (opens : List (List ℕ)) (xs : List (Bor (List ℕ))) (x : Bor (List ℕ)) → tags_on opens (xs ++ x ∷ []) ≡ upper_name x.now ∷ tags_on opens xs
 on_push opens [] x = refl
@@ -59,49 +56,6 @@ more_none (suc n) t = more_none n t
 more_some : (n m k : ℕ) (t : Symbol) (opens : List (List ℕ)) → k ≡ m + n → closing_more n t (Some (record { closings = replicate m t; still = opens })) ≡ Some (record { closings = replicate k t; still = opens })
 more_some zero m k t opens is = let same : m ≡ k = omega arith in ap (λ (j : ℕ). Some (record { closings = replicate j t; still = opens })) same
 more_some (suc n) m k t opens is = more_some n (suc m) k t opens (omega arith)
-
--- letter case is ignored
-upper_lower : (c : ℕ) → to_ascii_uppercase (to_ascii_lowercase c) ≡ to_ascii_uppercase c
-upper_lower c = grind (arith, nat_tests)
-
-all_upper : (xs : List ℕ) → upper_name (map to_ascii_lowercase xs) ≡ upper_name xs
-all_upper [] = refl
-all_upper (x ∷ xs) = let a = upper_lower x in let b = all_upper xs in cc
-
-all_lower : (xs : List ℕ) → map to_ascii_lowercase (upper_name xs) ≡ map to_ascii_lowercase xs
-all_lower [] = refl
-all_lower (x ∷ xs) = let a = lowercase-uppercase x in let b = all_lower xs in cc
-
-both_true : (b r : Bool) → cond b r false ≡ true → (b ≡ true) × (r ≡ true)
-both_true true r h = (refl, h)
-both_true false r h = absurd cc
-
-tags_are : (xs ys : List ℕ) → same_tag xs ys ≡ true → xs ≡ ys
-tags_are [] [] h = refl
-tags_are [] (y ∷ ys) h = absurd cc
-tags_are (x ∷ xs) [] h = absurd cc
-tags_are (x ∷ xs) (y ∷ ys) h = let p = both_true (x == y) (same_tag xs ys) h in let e = eq_is x y p.0 in let r = tags_are xs ys p.1 in cc
-
-one_number : (n : ℕ) → (n == n) ≡ true
-one_number n = grind (arith, nat_tests)
-
-pub one_tag : (xs : List ℕ) → same_tag xs xs ≡ true
-one_tag [] = refl
-one_tag (x ∷ xs) = ap (λ b. cond b (same_tag xs xs) false) (one_number x) ∙ one_tag xs
-
-not_true : (r : Bool) → (r ≡ true → ⊥) → false ≡ r
-not_true true h = absurd (h refl)
-not_true false h = refl
-
-pub same_case : (r : Bool) (a b : List ℕ) → (IsTrue r ↔ (map to_ascii_lowercase a ≡ map to_ascii_lowercase b)) → r ≡ same_tag (upper_name a) (upper_name b)
-same_case true a b h = sym (ap (same_tag (upper_name a)) (sym (sym (all_upper a) ∙ ap upper_name (h.0 refl) ∙ all_upper b)) ∙ one_tag (upper_name a))
-same_case false a b h = not_true (same_tag (upper_name a) (upper_name b)) (λ e. let f : false ≡ true = h.1 (sym (all_lower a) ∙ ap (map to_ascii_lowercase) (tags_are (upper_name a) (upper_name b) e) ∙ all_lower b) in absurd cc)
-
-pub is_zero : (n : ℕ) (r : Bool) → r ≡ (n == 0) → r ≡ true → n ≡ 0
-is_zero n r is holds = eq_is n 0 (sym is ∙ holds)
-
-pub is_more : (n : ℕ) (r : Bool) → r ≡ (n == 0) → r ≡ false → 0 < n
-is_more n r is none = let h : (n == 0) ≡ false = sym is ∙ none in grind (arith, nat_tests)
 
 -- One open section more is looked at, with none of the tag inside it: it has the tag, or it has not.
 module _ (xs : List (Bor (List ℕ))) (i m : ℕ) (d : Bor (List ℕ)) (t : Symbol) (w : List ℕ) (r : Bool) where

@@ -3,23 +3,24 @@ use Rattle.std.proofs.Common.{◌≡◌, ℕ, ◌+◌, max, Bool, true, false, L
 use Rattle.std.specs.Prelude.{nat_lt}
 use Rattle.bk_lex.specs.declared.token.Kind.{Kind}
 use Rattle.bk_lex.specs.declared.token.Kind.TheVariants as k
-use Rattle.bk_syntax.specs.declared.tree.Operator.{Operator}
-use Rattle.bk_syntax.specs.declared.tree.Operator.TheVariants as o
-use Rattle.bk_syntax.specs.declared.tree.Prefix.{Prefix}
-use Rattle.bk_syntax.specs.declared.tree.Prefix.TheVariants as p
-use Rattle.bk_syntax.specs.declared.size.Form.{Form}
-use Rattle.bk_syntax.specs.declared.size.Form.TheVariants.{Label, Call, Callable, Other}
-use Rattle.bk_syntax.specs.Tree.{Expression, Expressions, binary, choice, apply, table, none, more}
-use Rattle.bk_syntax.specs.Limits.{depth, depth_of_each, depth_of_action, nodes, nodes_of_each, nodes_of_action}
-use Rattle.bk_syntax.specs.Rows.{inner, behind, is_comma, goes}
-use Rattle.bk_syntax.specs.Grammar.{line_of, size, start_count}
-use Rattle.bk_syntax.specs.Inner.Machine.{each_then, Stack, in_unary, in_binary, in_chain, in_then, in_else, in_args, in_table, in_start, in_values, in_value, in_vector, in_label, in_guarded, in_default, in_or, in_for, State, want, have, limit, give, stepped_by}
-use Rattle.bk_syntax.specs.Inner.Sizes.{form_of}
-use Rattle.bk_syntax.specs.Inner.WaysOn.{Next, closing, assigning, listing, going, repeating, operating, Any, Unlisted, If, Whole, Taken, Gives, Does, Operates}
-use Rattle.bk_syntax.proofs.Steps.{pushes, no_comma}
-use Rattle.bk_syntax.proofs.Before.{falls}
-use Rattle.bk_syntax.proofs.Turns.{binary_done}
-use Rattle.bk_syntax.proofs.Trees.{each_depth, each_nodes}
+use Rattle.bk_tree.specs.declared.tree.Operator.{Operator}
+use Rattle.bk_tree.specs.declared.tree.Operator.TheVariants as o
+use Rattle.bk_tree.specs.declared.tree.Prefix.{Prefix}
+use Rattle.bk_tree.specs.declared.tree.Prefix.TheVariants as p
+use Rattle.bk_frames.specs.declared.size.Form.{Form}
+use Rattle.bk_frames.specs.declared.size.Form.TheVariants.{Label, Call, Callable, Other}
+use Rattle.bk_tree.specs.Tree.{Expression, Expressions, binary, choice, apply, table, none, more}
+use Rattle.bk_tree.specs.Limits.{depth, depth_of_each, depth_of_action, nodes, nodes_of_each, nodes_of_action}
+use Rattle.bk_grammar.specs.Rows.{inner, behind, is_comma, goes}
+use Rattle.bk_tree.specs.Parts.{line_of, size, start_count}
+use Rattle.bk_grammar.specs.Machine.{Stack, in_unary, in_binary, in_chain, in_then, in_else, in_args, in_table, in_start, in_values, in_value, in_vector, in_label, in_guarded, in_default, in_or, in_for, State, want, have, limit, give, stepped_by}
+use Rattle.bk_tree.specs.Parts.{each_then}
+use Rattle.bk_frames.specs.Sizes.{form_of}
+use Rattle.bk_frames.specs.WaysOn.{Next, closing, assigning, listing, going, repeating, operating, Any, Unlisted, If, Whole, Taken, Gives, Does, Operates}
+use Rattle.bk_grammar.proofs.Steps.{pushes, no_comma}
+use Rattle.bk_grammar.proofs.Before.{falls}
+use Rattle.bk_frames.proofs.Turns.{binary_done}
+use Rattle.bk_tree.proofs.Trees.{each_depth, each_nodes}
 use Rattle.bk_syntax.proofs.Onward.{Way, WayBy, IsOf, sized, step_on, step_by, same_by, at_argument, Ends, Leaves, ends_expression, GivesOn, given, name_here, name_on, depth_some}
 
 -- ---- no symbol comes that the part would take

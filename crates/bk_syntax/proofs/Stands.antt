@@ -1,14 +1,14 @@
 -- A list of symbols has at most one tree, and a fault stands whatever follows.
 use Rattle.std.proofs.Common.{◌≡◌, ◌≤◌, List, [], ◌∷◌, ◌++◌, Option, Some, None, Result, Err, length, refl, ap, ◌∙◌, ◌⊎◌, inl, inr, length-append, arith}
 use Rattle.bk_lex.specs.Symbol.{Symbol}
-use Rattle.bk_syntax.specs.Tree.{Declarations, no_declarations}
-use Rattle.bk_syntax.specs.Grammar.{Section}
-use Rattle.bk_syntax.specs.SyntaxFault.{IsSection}
-use Rattle.bk_syntax.specs.Inner.Machine.{State, due, in_section, stepped_by, step, whole, going, run}
+use Rattle.bk_tree.specs.Tree.{Declarations, no_declarations}
+use Rattle.bk_grammar.specs.Grammar.{Section}
+use Rattle.bk_grammar.specs.SyntaxFault.{IsSection}
+use Rattle.bk_grammar.specs.Machine.{State, due, in_section, stepped_by, step, whole, going, run}
 use Rattle.bk_lex.specs.declared.token.Kind.TheVariants as k
-use Rattle.bk_syntax.proofs.Steps.{stepped}
+use Rattle.bk_grammar.proofs.Steps.{stepped}
 use Rattle.bk_syntax.specs.SyntaxLaws.{reading}
-use Rattle.bk_syntax.proofs.Complete.{complete}
+use Rattle.bk_grammar.proofs.Complete.{complete}
 
 -- at most one tree of plain symbols
 pub one_plain : (ds es : Declarations) (ts : List Symbol) → Section ds ts → Section es ts → ds ≡ es

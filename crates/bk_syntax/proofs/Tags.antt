@@ -3,11 +3,11 @@ use Rattle.std.proofs.Common.{◌≡◌, ℕ, List, [], ◌∷◌, ◌++◌, Opt
 use Rattle.bk_lex.specs.declared.token.Kind.{Kind}
 use Rattle.bk_lex.specs.declared.token.Kind.TheVariants as k
 use Rattle.bk_lex.specs.Symbol.{Symbol}
-use Rattle.bk_syntax.specs.Tree.{Declarations}
-use Rattle.bk_syntax.specs.Spelling.{tag_of}
-use Rattle.bk_syntax.specs.Grammar.{Section}
-use Rattle.bk_syntax.specs.Brackets.{plain, plain_by, plain_behind, in_front, closed_by, Closing}
-use Rattle.bk_syntax.specs.SyntaxFault.{IsSection}
+use Rattle.bk_tree.specs.Tree.{Declarations}
+use Rattle.bk_grammar.specs.Spelling.{tag_of}
+use Rattle.bk_grammar.specs.Grammar.{Section}
+use Rattle.bk_grammar.specs.Brackets.{plain, plain_by, plain_behind, in_front, closed_by, Closing}
+use Rattle.bk_grammar.specs.SyntaxFault.{IsSection}
 use Rattle.bk_syntax.specs.SyntaxLaws.{reading}
 use Rattle.bk_syntax.proofs.Stands.{fault_stands}
 

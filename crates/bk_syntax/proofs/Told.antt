@@ -10,29 +10,30 @@ use Rattle.bk_base.specs.declared.refused.Refused.{Refused}
 use Rattle.bk_base.specs.declared.refused.Refused.TheVariants.{Fault, Memory, Device}
 use Rattle.bk_lex.specs.declared.token.Token.{Token}
 use Rattle.bk_lex.specs.Symbol.{Symbol, symbol_of, symbols_of}
-use Rattle.bk_syntax.specs.declared.frame.Now.{Now}
-use Rattle.bk_syntax.specs.declared.frames.Frames.{Frames}
+use Rattle.bk_frames.specs.declared.frame.Now.{Now}
+use Rattle.bk_frames.specs.declared.frames.Frames.{Frames}
 use Rattle.bk_syntax.specs.declared.why.Why.{Why}
 use Rattle.bk_syntax.specs.declared.why.Why.TheVariants as w
-use Rattle.bk_syntax.specs.declared.section.Section.{Section}
-use Rattle.bk_syntax.specs.Tree.{Declarations}
-use Rattle.bk_syntax.specs.Limits.{Within, depth_of_declarations, nodes_of_declarations}
-use Rattle.bk_syntax.specs.Inner.WaysOn.{Completes}
-use Rattle.bk_syntax.specs.Brackets.{plain}
+use Rattle.bk_tree.specs.declared.section.Section.{Section}
+use Rattle.bk_tree.specs.Tree.{Declarations}
+use Rattle.bk_tree.specs.Limits.{Within, depth_of_declarations, nodes_of_declarations}
+use Rattle.bk_frames.specs.WaysOn.{Completes}
+use Rattle.bk_grammar.specs.Brackets.{plain}
 use Rattle.bk_syntax.specs.SyntaxLaws.{reading, BeginsCompletes, CompletesBegins}
-use Rattle.bk_syntax.specs.Grammar as G
-use Rattle.bk_syntax.specs.SyntaxFault.{IsSection, Begins, Shallow, Stands}
-use Rattle.bk_syntax.specs.Inner.Machine.{State, run}
-use Rattle.bk_syntax.specs.Inner.Frames.{stack_of, state}
-use Rattle.bk_syntax.specs.Bounds.{AtMost, LevelsAtMost, Bounded, Passed}
-use Rattle.bk_syntax.specs.Parsing.{tags, AfterSymbols, IsLimit, told, answered, reached, IsPassed, Advances, declarations_of, AnswersAtEnd, Parses, Gives}
+use Rattle.bk_grammar.specs.Grammar as G
+use Rattle.bk_grammar.specs.SyntaxFault.{IsSection, Begins, Shallow, Stands}
+use Rattle.bk_grammar.specs.Machine.{State, run}
+use Rattle.bk_frames.specs.Frames.{stack_of, state}
+use Rattle.bk_frames.specs.Bounds.{AtMost, LevelsAtMost, Bounded, Passed}
+use Rattle.bk_syntax.specs.Parsing.{tags, AfterSymbols, IsLimit, told, answered, reached, IsPassed, Advances, AnswersAtEnd, Parses, Gives}
+use Rattle.bk_tree.specs.Section.{declarations_of}
 use Rattle.bk_syntax.proofs.Stands.{one_tree, end_stands}
 use Rattle.bk_syntax.proofs.Exact.{reads_the_grammar}
 use Rattle.bk_syntax.proofs.Tags.{tag_stands}
 use Rattle.bk_syntax.proofs.Behind.{reads, plain_all, reading_all}
-use Rattle.bk_syntax.proofs.Lowering.{Down, at_most_down, levels_down}
-use Rattle.bk_syntax.proofs.Covering.{run_completes}
-use Rattle.bk_syntax.proofs.Complete.{complete}
+use Rattle.bk_frames.proofs.Lowering.{Down, at_most_down, levels_down}
+use Rattle.bk_frames.proofs.Covering.{run_completes}
+use Rattle.bk_grammar.proofs.Complete.{complete}
 use Rattle.bk_syntax.proofs.Begun.{in_front_some, completes_begins_with, behind_begins}
 
 -- what a section has behind the symbols with which it begins is read from there

@@ -1,11 +1,2 @@
-pub mod Tree
-pub mod Spelling
-pub mod Rows
-pub mod Brackets
-pub mod Grammar
-pub mod Limits
-pub mod SyntaxFault
-pub mod Inner
-pub mod Bounds
 pub mod SyntaxLaws
 pub mod Parsing

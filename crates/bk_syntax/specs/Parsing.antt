@@ -8,20 +8,21 @@ use Rattle.bk_base.specs.declared.refused.Refused.{Refused}
 use Rattle.bk_base.specs.declared.refused.Refused.TheVariants.{Fault, Memory, Device}
 use Rattle.bk_lex.specs.Symbol.{Symbol}
 use Rattle.bk_lex.specs.Values.{upper_name}
-use Rattle.bk_syntax.specs.declared.frames.Frames.{Frames}
-use Rattle.bk_syntax.specs.declared.frame.Now.{Now}
-use Rattle.bk_syntax.specs.declared.frame.Stop.{Stop}
-use Rattle.bk_syntax.specs.declared.frame.Stop.TheVariants as s
+use Rattle.bk_frames.specs.declared.frames.Frames.{Frames}
+use Rattle.bk_frames.specs.declared.frame.Now.{Now}
+use Rattle.bk_frames.specs.declared.frame.Stop.{Stop}
+use Rattle.bk_frames.specs.declared.frame.Stop.TheVariants as s
 use Rattle.bk_syntax.specs.declared.why.Why.{Why}
 use Rattle.bk_syntax.specs.declared.why.Why.TheVariants as w
-use Rattle.bk_syntax.specs.declared.section.Section.{Section}
-use Rattle.bk_syntax.specs.Tree.{Declarations, declarations_in, no_declarations}
-use Rattle.bk_syntax.specs.Limits.{Within}
-use Rattle.bk_syntax.specs.Bounds.{Passed}
-use Rattle.bk_syntax.specs.Brackets.{closed_by, in_front, plain}
-use Rattle.bk_syntax.specs.SyntaxFault.{IsSection, Begins, Stands, First, StandsAtEnd}
-use Rattle.bk_syntax.specs.Inner.Machine.{State, due, in_section, step}
-use Rattle.bk_syntax.specs.Inner.Frames.{stack_of, state}
+use Rattle.bk_tree.specs.declared.section.Section.{Section}
+use Rattle.bk_tree.specs.Tree.{Declarations, no_declarations}
+use Rattle.bk_tree.specs.Section.{declarations_of}
+use Rattle.bk_tree.specs.Limits.{Within}
+use Rattle.bk_frames.specs.Bounds.{Passed}
+use Rattle.bk_grammar.specs.Brackets.{closed_by, in_front, plain}
+use Rattle.bk_grammar.specs.SyntaxFault.{IsSection, Begins, Stands, First, StandsAtEnd}
+use Rattle.bk_grammar.specs.Machine.{State, due, in_section, step}
+use Rattle.bk_frames.specs.Frames.{stack_of, state}
 
 -- the tags of the open sections in upper case, the innermost first
 abbrev pub tags_on : List (List ℕ) → List (Bor (List ℕ)) → List (List ℕ)
@@ -98,10 +99,6 @@ Advances new opens (Ok now) u t = AfterSymbols (u ++ t ∷ []) (tags opens) (sta
 Advances new opens (Err (Fault f)) u t = (f.line ≡ t.line) × Stands f.kind u t
 Advances new opens (Err Memory) u t = Unit {0}
 Advances new opens (Err Device) u t = ⊥
-
--- the tree of a section
-abbrev pub declarations_of : Section → Declarations
-declarations_of x = declarations_in x.decls.items
 
 -- the answer at the end
 abbrev pub AnswersAtEnd : Result Section (Refused SourceFault) → Result Declarations (List Symbol) → ℕ → Type 0

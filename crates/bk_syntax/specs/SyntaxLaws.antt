@@ -1,14 +1,14 @@
 -- Laws of the grammar, and of the machine that reads it symbol after symbol.
 use Rattle.std.specs.Prelude.{ℕ, ◌≡◌, List, [], ◌∷◌, ◌++◌, None, Some, Result, Ok, Err}
 use Rattle.bk_lex.specs.Symbol.{Symbol}
-use Rattle.bk_syntax.specs.Tree.{Declarations, no_declarations}
-use Rattle.bk_syntax.specs.Grammar.{Section}
-use Rattle.bk_syntax.specs.Limits.{depth_of_declarations, nodes_of_declarations}
-use Rattle.bk_syntax.specs.Brackets.{plain}
-use Rattle.bk_syntax.specs.SyntaxFault.{IsSection, Begins, Any}
-use Rattle.bk_syntax.specs.Inner.Machine.{State, due, in_section, run}
-use Rattle.bk_syntax.specs.Inner.WaysOn.{Completes}
-use Rattle.bk_syntax.specs.Bounds.{AtMost}
+use Rattle.bk_tree.specs.Tree.{Declarations, no_declarations}
+use Rattle.bk_grammar.specs.Grammar.{Section}
+use Rattle.bk_tree.specs.Limits.{depth_of_declarations, nodes_of_declarations}
+use Rattle.bk_grammar.specs.Brackets.{plain}
+use Rattle.bk_grammar.specs.SyntaxFault.{IsSection, Begins, Any}
+use Rattle.bk_grammar.specs.Machine.{State, due, in_section, run}
+use Rattle.bk_frames.specs.WaysOn.{Completes}
+use Rattle.bk_frames.specs.Bounds.{AtMost}
 use Rattle.bk_syntax.specs.Parsing.{AfterSymbols}
 
 -- what the machine reads of plain symbols: their tree, or the symbols from the first on with which it does not go on

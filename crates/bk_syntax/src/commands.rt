@@ -1,31 +1,32 @@
 //! Reading commands.
 ghost use Rattle.std.specs.Prelude.{◌≡◌, ◌+◌, ◌==◌, IfOk, Some, None, Option, false, ℕ};
-ghost use Rattle.bk_syntax.specs.Tree.{expression, expressions_in, action, mention, more, none};
-ghost use Rattle.bk_syntax.specs.Rows.{goes, repeats};
-ghost use Rattle.bk_syntax.specs.declared.frame.Begun.TheVariants as Begun;
-ghost use Rattle.bk_syntax.specs.declared.frame.Phrase.TheVariants as p;
-ghost use Rattle.bk_syntax.specs.Inner.Sizes.{size_of, size_of_action, both_of, node_of};
-ghost use Rattle.bk_syntax.specs.Inner.Begun.{held_in};
-ghost use Rattle.bk_syntax.specs.Grammar.{line_of_action, line_of_first, size};
-ghost use Rattle.bk_syntax.specs.Inner.Machine.{Stack, each_then, limit, give, finish, again, dests, guarded, behind_sign, take_command, in_start, in_values, in_guard, in_to};
-ghost use Rattle.bk_syntax.specs.Inner.Begun.{phrase_on, clause_on};
-ghost use Rattle.bk_syntax.specs.Inner.Frames.{stack_of, state, heads, Steps, Answers, Lowers, Falls};
+ghost use Rattle.bk_tree.specs.Tree.{expression, expressions_in, action, mention, more, none};
+ghost use Rattle.bk_grammar.specs.Rows.{goes, repeats};
+ghost use Rattle.bk_frames.specs.declared.frame.Begun.TheVariants as Begun;
+ghost use Rattle.bk_frames.specs.declared.frame.Phrase.TheVariants as p;
+ghost use Rattle.bk_frames.specs.Sizes.{size_of, size_of_action, both_of, node_of};
+ghost use Rattle.bk_frames.specs.Begun.{held_in};
+ghost use Rattle.bk_tree.specs.Parts.{line_of_action, line_of_first, size};
+ghost use Rattle.bk_grammar.specs.Machine.{Stack, limit, give, finish, again, dests, guarded, behind_sign, take_command, in_start, in_values, in_guard, in_to};
+ghost use Rattle.bk_tree.specs.Parts.{each_then};
+ghost use Rattle.bk_frames.specs.Begun.{phrase_on, clause_on};
+ghost use Rattle.bk_frames.specs.Frames.{stack_of, state, heads, Steps, Answers, Lowers, Falls};
 
 use crate::expressions::{due, due_at, line_of, operand, want_in, wants_command, whole};
-use crate::frame::{
+use bk_base::Line;
+use bk_frames::frame::{
     Begun, Clause, Defined, Done, Flow, Now, Phrase, Place, Point, Size, Sized, Stop,
 };
-use crate::frames::Frames;
-use crate::make::{assign, call, for_loop};
-use crate::size::{LEAF, NOTHING, both, of_node};
-use crate::symbols::{
+use bk_frames::frames::Frames;
+use bk_frames::size::{LEAF, NOTHING, both, of_node};
+use bk_frames::top::begun;
+use bk_grammar::symbols::{
     Guard, Heading, Repetition, assigns, guard_begun, heads_with, is_assign, is_by, is_colon,
     is_comma, is_do, is_or, is_sign, is_to, repetition_begun, simple,
 };
-use crate::top::begun;
-use crate::tree::{Command, Def, Expr, Name};
-use bk_base::Line;
 use bk_lex::Token;
+use bk_tree::make::{assign, call, for_loop};
+use bk_tree::{Command, Def, Expr, Name};
 use std::alloc::{AllocError, Global};
 
 /// A command that is a node with these parts.
@@ -87,7 +88,7 @@ fn headed(
 }
 
 /// A command is due, and this symbol comes.
-#[tactic(auto, using(crate::proofs::Turns::command_cases))]
+#[tactic(auto, using(bk_frames::proofs::Turns::command_cases))]
 pub fn command(alloc: Global, frames: &mut Frames, token: &Token) -> Result<Now, Stop>
     ensures { Steps (stack_of frames.new) result (take_command (stack_of frames.old) token.now.line token.now.text.now token.now.kind) }
 {
@@ -121,7 +122,7 @@ pub fn guarded(guard: Guard, line: Line, condition: Box<Expr>, command: Box<Comm
 }
 
 /// A destination is complete.
-#[tactic(auto, using(crate::proofs::Turns::dests_cases, crate::proofs::Trees::one_more, crate::proofs::Trees::more_sizes))]
+#[tactic(auto, using(bk_frames::proofs::Turns::dests_cases, bk_tree::proofs::Trees::one_more, bk_tree::proofs::Trees::more_sizes))]
 fn further(
     alloc: Global,
     frames: &mut Frames,
@@ -194,7 +195,7 @@ fn line_of_list(exprs: &[Expr]) -> Line
 }
 
 /// Whether one value more makes as many as the destinations are.
-#[tactic(auto, using(crate::proofs::Trees::expressions_count))]
+#[tactic(auto, using(bk_tree::proofs::Trees::expressions_count))]
 fn is_last(dests: &[Expr], values: &[Expr]) -> bool
     ensures { result ≡ (size (expressions_in dests.now) == size (expressions_in values.now) + 1) }
 {
@@ -202,7 +203,7 @@ fn is_last(dests: &[Expr], values: &[Expr]) -> bool
 }
 
 /// A value is complete.
-#[tactic(auto, using(crate::proofs::Trees::one_more, crate::proofs::Trees::more_sizes))]
+#[tactic(auto, using(bk_tree::proofs::Trees::one_more, bk_tree::proofs::Trees::more_sizes))]
 fn valued(
     frames: &mut Frames,
     dests: Vec<Expr>,
@@ -267,7 +268,7 @@ fn guards(
 }
 
 /// The limit of a FOR is complete.
-#[tactic(auto, using(crate::proofs::Turns::limit_cases))]
+#[tactic(auto, using(bk_frames::proofs::Turns::limit_cases))]
 fn limited(
     alloc: Global,
     frames: &mut Frames,
@@ -356,7 +357,7 @@ pub fn complete_phrase(
 }
 
 /// The command goes on with REPEAT, REPEATWHILE or REPEATUNTIL.
-#[tactic(auto, using(crate::proofs::Turns::again_cases))]
+#[tactic(auto, using(bk_frames::proofs::Turns::again_cases))]
 pub fn again(alloc: Global, frames: &mut Frames, done: Done, token: &Token) -> Result<Flow, Stop>
     ensures answers { Answers frames.new result token.now (λ l x. again (stack_of frames.old) (action done.command)) }
     ensures falls { Falls frames.old frames.new result }
@@ -373,7 +374,7 @@ pub fn again(alloc: Global, frames: &mut Frames, done: Done, token: &Token) -> R
 }
 
 /// A command is complete, which the symbol behind it does not repeat.
-#[tactic(auto, using(crate::proofs::Turns::guarded_sizes))]
+#[tactic(auto, using(bk_frames::proofs::Turns::guarded_sizes))]
 pub fn complete_clause(
     alloc: Global,
     frames: &mut Frames,

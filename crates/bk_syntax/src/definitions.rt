@@ -1,39 +1,40 @@
 //! Reading declarations, definitions and blocks.
 ghost use Rattle.std.specs.Prelude.{◌≡◌, ◌+◌, ◌++◌, ◌==◌, [], ◌∷◌, IfOk, Some, None, Option, Bool, cond, false, true, map, length, ℕ};
-ghost use Rattle.bk_syntax.specs.Tree.{expression, action, actions_in, declaration, declarations_in, definition, definitions_in, items_in, starts_in, mention, variables, also, no_actions, no_declarations, no_definitions};
-ghost use Rattle.bk_syntax.specs.Rows.{goes, repeats};
-ghost use Rattle.bk_syntax.specs.declared.frame.Begun.TheVariants as Begun;
-ghost use Rattle.bk_syntax.specs.declared.frame.Place.TheVariants as p;
-ghost use Rattle.bk_syntax.specs.declared.frame.Point.TheVariants as t;
-ghost use Rattle.bk_syntax.specs.declared.frame.Member.TheVariants as m;
-ghost use Rattle.bk_syntax.specs.Inner.Begun.{held_in};
-ghost use Rattle.bk_syntax.specs.Inner.Sizes.{size_of_action, size_of_declaration, both_of, node_of, kept_size};
-ghost use Rattle.bk_syntax.specs.Limits.{depth_of_starts, nodes_of_starts, depth_of_items, nodes_of_items};
-ghost use Rattle.bk_syntax.specs.Grammar.{line_of_names, start_count};
-ghost use Rattle.bk_syntax.specs.Inner.Machine.{Stack, actions_then, items_then, starts_then, limit, give, finish, defined_by, declared, in_constants, in_commands, in_names, in_formals, headed, in_head, in_block, in_section, in_let, inside, counted, take_in_block, take_in_section, take_item, take_due, at_name, at_formals, at_formal, at_variable, at_starts, due};
-ghost use Rattle.bk_syntax.specs.Inner.Begun.{member_on, place_on, point_on};
-ghost use Rattle.bk_syntax.specs.Inner.Rooms.{AreRooms};
-ghost use Rattle.bk_syntax.specs.Inner.Frames.{stack_of, state, Steps, Answers, Lowers, NamedBy, Declares, declaring, is_let_begun, is_block_begun};
-ghost use Rattle.bk_syntax.specs.Inner.Sizes.{are_no_items};
+ghost use Rattle.bk_tree.specs.Tree.{expression, action, actions_in, declaration, declarations_in, definition, definitions_in, items_in, starts_in, mention, variables, also, no_actions, no_declarations, no_definitions};
+ghost use Rattle.bk_grammar.specs.Rows.{goes, repeats};
+ghost use Rattle.bk_frames.specs.declared.frame.Begun.TheVariants as Begun;
+ghost use Rattle.bk_frames.specs.declared.frame.Place.TheVariants as p;
+ghost use Rattle.bk_frames.specs.declared.frame.Point.TheVariants as t;
+ghost use Rattle.bk_frames.specs.declared.frame.Member.TheVariants as m;
+ghost use Rattle.bk_frames.specs.Begun.{held_in};
+ghost use Rattle.bk_frames.specs.Sizes.{size_of_action, size_of_declaration, both_of, node_of, kept_size};
+ghost use Rattle.bk_tree.specs.Limits.{depth_of_starts, nodes_of_starts, depth_of_items, nodes_of_items};
+ghost use Rattle.bk_tree.specs.Parts.{line_of_names, start_count};
+ghost use Rattle.bk_grammar.specs.Machine.{Stack, limit, give, finish, defined_by, declared, in_constants, in_commands, in_names, in_formals, headed, in_head, in_block, in_section, in_let, inside, counted, take_in_block, take_in_section, take_item, take_due, at_name, at_formals, at_formal, at_variable, at_starts, due};
+ghost use Rattle.bk_tree.specs.Parts.{actions_then, items_then, starts_then};
+ghost use Rattle.bk_frames.specs.Begun.{member_on, place_on, point_on};
+ghost use Rattle.bk_frames.specs.Rooms.{AreRooms};
+ghost use Rattle.bk_frames.specs.Frames.{stack_of, state, Steps, Answers, Lowers, NamedBy, Declares, declaring, is_let_begun, is_block_begun};
+ghost use Rattle.bk_frames.specs.Sizes.{are_no_items};
 
 use crate::commands::{command, did};
 use crate::expressions::{due, due_at, due_still, operand, want_for, want_in, wants_command};
-use crate::frame::{
+use bk_base::Line;
+use bk_frames::frame::{
     Begun, Clause, Defined, Done, Flow, Frame, Member, Now, Phrase, Place, Point, Size, Sized, Stop,
 };
-use crate::frames::Frames;
-use crate::make::{self, block, constants, let_of};
-use crate::room::Rooms;
-use crate::size::{NOTHING, are_no_items, both, of_node};
-use crate::spelling::name;
-use crate::symbols::{
+use bk_frames::frames::Frames;
+use bk_frames::room::Rooms;
+use bk_frames::size::{NOTHING, are_no_items, both, of_node};
+use bk_frames::top::{begun, begun_still, pop};
+use bk_grammar::spelling::name;
+use bk_grammar::symbols::{
     Declaring, closes, declares_with, is_and, is_be, is_close, is_colon, is_comma, is_equal,
     is_name, is_open, is_semicolon, is_vec, opens,
 };
-use crate::top::{begun, begun_still, pop};
-use crate::tree::{Command, Decl, Def, Expr, Init, Item, Name, Sort};
-use bk_base::Line;
 use bk_lex::Token;
+use bk_tree::make::{self, block, constants, let_of};
+use bk_tree::{Command, Decl, Def, Expr, Init, Item, Name, Sort};
 use std::alloc::{AllocError, Global};
 
 /// The name that a symbol is, if it is one.
@@ -51,7 +52,7 @@ fn name_of(alloc: Global, token: &Token) -> Result<Option<Name>, AllocError>
 }
 
 /// Puts a declaration behind those of the block that was on top.
-#[tactic(auto, using(crate::proofs::Trees::one_more, crate::proofs::Trees::more_sizes))]
+#[tactic(auto, using(bk_tree::proofs::Trees::one_more, bk_tree::proofs::Trees::more_sizes))]
 fn declare_in(
     frames: &mut Frames,
     place: Place,
@@ -76,7 +77,7 @@ fn declare_in(
 }
 
 /// Puts a declaration behind those of the section or the block on top.
-#[tactic(auto, using(crate::proofs::Stacks::frames_laws, crate::proofs::Trees::one_more, crate::proofs::Trees::more_sizes))]
+#[tactic(auto, using(bk_frames::proofs::Stacks::frames_laws, bk_tree::proofs::Trees::one_more, bk_tree::proofs::Trees::more_sizes))]
 fn declare(frames: &mut Frames, decl: Decl, size: Size) -> Result<(), Stop>
     requires { size ≡ size_of_declaration (declaration decl) }
     ensures { Declares (stack_of frames.new) result (declared (stack_of frames.old) (declaration decl)) }
@@ -101,7 +102,7 @@ fn declare(frames: &mut Frames, decl: Decl, size: Size) -> Result<(), Stop>
 }
 
 /// Whether one item more makes as many as the names are.
-#[tactic(auto, using(crate::proofs::Trees::counts))]
+#[tactic(auto, using(bk_tree::proofs::Trees::counts))]
 fn is_last(names: &[Name], inits: &[Init]) -> bool
     ensures { result ≡ (length (map mention names.now) == start_count (starts_in inits.now) + 1) }
 {
@@ -119,7 +120,7 @@ fn line_of_names(names: &[Name]) -> Line
 }
 
 /// The items of a LET, one more.
-#[tactic(auto, using(crate::proofs::Trees::one_more, crate::proofs::Trees::more_sizes))]
+#[tactic(auto, using(bk_tree::proofs::Trees::one_more, bk_tree::proofs::Trees::more_sizes))]
 fn initialised(
     frames: &mut Frames,
     names: Vec<Name>,
@@ -149,7 +150,7 @@ fn initialised(
 }
 
 /// The constant of an item is complete.
-#[tactic(auto, using(crate::proofs::Turns::constants_cases, crate::proofs::Trees::one_more, crate::proofs::Trees::more_sizes))]
+#[tactic(auto, using(bk_frames::proofs::Turns::constants_cases, bk_tree::proofs::Trees::one_more, bk_tree::proofs::Trees::more_sizes))]
 fn constant(
     frames: &mut Frames,
     line: Line,
@@ -179,7 +180,7 @@ fn constant(
 }
 
 /// An expression of a definition or an item is complete, with which the symbol behind it does not go on.
-#[tactic(auto, using(crate::proofs::Trees::more_sizes))]
+#[tactic(auto, using(bk_tree::proofs::Trees::more_sizes))]
 pub fn complete_member(
     alloc: Global,
     frames: &mut Frames,
@@ -228,7 +229,7 @@ pub fn complete_member(
 }
 
 /// A definition is complete in what was on top, and a symbol comes behind it.
-#[tactic(auto, using(crate::proofs::Trees::one_more, crate::proofs::Turns::declared_then, crate::proofs::Trees::more_sizes))]
+#[tactic(auto, using(bk_tree::proofs::Trees::one_more, bk_frames::proofs::Turns::declared_then, bk_tree::proofs::Trees::more_sizes))]
 fn define_in(
     alloc: Global,
     frames: &mut Frames,
@@ -259,7 +260,7 @@ fn define_in(
 }
 
 /// A definition is complete, and a symbol comes behind it: AND, or what follows the LET.
-#[tactic(auto, using(crate::proofs::Stacks::frames_laws))]
+#[tactic(auto, using(bk_frames::proofs::Stacks::frames_laws))]
 pub fn complete_definition(
     alloc: Global,
     frames: &mut Frames,
@@ -301,7 +302,7 @@ fn declaration(
 }
 
 /// A symbol between the declarations of a section.
-#[tactic(auto, using(crate::proofs::Turns::declaration_cases))]
+#[tactic(auto, using(bk_frames::proofs::Turns::declaration_cases))]
 fn in_section(alloc: Global, frames: &mut Frames, token: &Token) -> Result<Now, Stop>
     requires { stack_of frames.old ≡ in_section (declarations_in frames.old.decls.items) }
     ensures { Steps (stack_of frames.new) result (take_in_section (declarations_in frames.old.decls.items) token.now.line token.now.kind) }
@@ -326,7 +327,7 @@ fn in_head(commands: &[Command]) -> bool
 }
 
 /// A symbol in a block, where no command goes on.
-#[tactic(auto, using(crate::proofs::Turns::declaration_cases))]
+#[tactic(auto, using(bk_frames::proofs::Turns::declaration_cases))]
 fn in_block(
     alloc: Global,
     frames: &mut Frames,
@@ -364,7 +365,7 @@ fn in_block(
 }
 
 /// A command of a block is complete, which the symbol behind it does not repeat.
-#[tactic(auto, using(crate::proofs::Trees::one_more, crate::proofs::Trees::more_sizes))]
+#[tactic(auto, using(bk_tree::proofs::Trees::one_more, bk_tree::proofs::Trees::more_sizes))]
 fn in_commands(
     frames: &mut Frames,
     line: Line,
@@ -421,7 +422,7 @@ pub fn complete_command(
 }
 
 /// Behind a name of variables.
-#[tactic(auto, using(crate::proofs::Turns::names_cases))]
+#[tactic(auto, using(bk_frames::proofs::Turns::names_cases))]
 fn variables(
     alloc: Global,
     frames: &mut Frames,
@@ -502,7 +503,7 @@ fn named(
 }
 
 /// Behind the parenthesis of a procedure.
-#[tactic(auto, using(crate::proofs::Turns::named_cases))]
+#[tactic(auto, using(bk_frames::proofs::Turns::named_cases))]
 fn formals(
     alloc: Global,
     frames: &mut Frames,
@@ -527,7 +528,7 @@ fn formals(
 }
 
 /// A formal is due.
-#[tactic(auto, using(crate::proofs::Turns::named_cases, crate::proofs::Trees::one_more))]
+#[tactic(auto, using(bk_frames::proofs::Turns::named_cases, bk_tree::proofs::Trees::one_more))]
 fn formal(
     alloc: Global,
     frames: &mut Frames,
@@ -549,7 +550,7 @@ fn formal(
 }
 
 /// Behind a formal.
-#[tactic(auto, using(crate::proofs::Turns::formals_cases))]
+#[tactic(auto, using(bk_frames::proofs::Turns::formals_cases))]
 fn formal_end(
     frames: &mut Frames,
     name: Name,
@@ -572,7 +573,7 @@ fn formal_end(
 }
 
 /// Behind the formals.
-#[tactic(auto, using(crate::proofs::Turns::headed_cases))]
+#[tactic(auto, using(bk_frames::proofs::Turns::headed_cases))]
 fn headed(frames: &mut Frames, name: Name, formals: Vec<Name>, token: &Token) -> Result<Now, Stop>
     ensures { Steps (stack_of frames.new) result (headed (mention name) (map mention formals.items) (stack_of frames.old) token.now.kind) }
 {
@@ -586,7 +587,7 @@ fn headed(frames: &mut Frames, name: Name, formals: Vec<Name>, token: &Token) ->
 }
 
 /// A name of a further variable is due.
-#[tactic(auto, using(crate::proofs::Turns::named_cases, crate::proofs::Trees::one_more))]
+#[tactic(auto, using(bk_frames::proofs::Turns::named_cases, bk_tree::proofs::Trees::one_more))]
 fn variable(
     alloc: Global,
     frames: &mut Frames,
@@ -623,7 +624,7 @@ fn init(
 }
 
 /// The name of a definition is due.
-#[tactic(auto, using(crate::proofs::Turns::named_cases))]
+#[tactic(auto, using(bk_frames::proofs::Turns::named_cases))]
 fn in_let(
     alloc: Global,
     frames: &mut Frames,
@@ -676,7 +677,7 @@ fn due_in(
 }
 
 /// Between the items of a declaration.
-#[tactic(auto, using(crate::proofs::Turns::named_cases, crate::proofs::Turns::items_cases))]
+#[tactic(auto, using(bk_frames::proofs::Turns::named_cases, bk_frames::proofs::Turns::items_cases))]
 fn between_items(
     alloc: Global,
     frames: &mut Frames,
@@ -708,7 +709,7 @@ fn between_items(
 }
 
 /// A place of a declaration with constants or of a command, where this symbol comes.
-#[tactic(auto, using(crate::proofs::Turns::named_cases))]
+#[tactic(auto, using(bk_frames::proofs::Turns::named_cases))]
 fn due_within(
     alloc: Global,
     frames: &mut Frames,
@@ -764,7 +765,7 @@ fn due_within(
 }
 
 /// A symbol is due, and this one comes.
-#[tactic(auto, using(crate::proofs::Stacks::frames_laws))]
+#[tactic(auto, using(bk_frames::proofs::Stacks::frames_laws))]
 pub fn at_place(alloc: Global, frames: &mut Frames, token: &Token) -> Result<Now, Stop>
     ensures { Steps (stack_of frames.new) result (take_due (stack_of frames.old) token.now.line token.now.text.now token.now.kind) }
 {

@@ -1,38 +1,38 @@
 //! Reading expressions.
 ghost use Rattle.std.specs.Prelude.{◌≡◌, ◌+◌, IfOk, Some, None, Option, MatchOption, option_map, unwrap_or, nat_lt, IfSome, cond, true, false, ℕ};
-ghost use Rattle.bk_syntax.specs.declared.tree.Operator.TheVariants.{Both};
-ghost use Rattle.bk_syntax.specs.declared.frame.Begun.TheVariants as Begun;
-ghost use Rattle.bk_syntax.specs.declared.frame.Operand.TheVariants as o;
-ghost use Rattle.bk_syntax.specs.Inner.Sizes.{IsLeaf, size_of, size_if, both_of, node_of};
-ghost use Rattle.bk_syntax.specs.Inner.Begun.{held_in};
-ghost use Rattle.bk_syntax.specs.Tree.{Expression, expression, expressions_in, binary};
-ghost use Rattle.bk_syntax.specs.Rows.{leaf, goes};
-ghost use Rattle.bk_syntax.specs.Inner.Frames.{related};
-ghost use Rattle.bk_syntax.specs.Inner.Sizes.{are_none};
-ghost use Rattle.bk_syntax.specs.Grammar.{line_of, last};
-ghost use Rattle.bk_syntax.specs.Inner.Machine.{Stack, limit, push, infixed, in_chain, in_args, in_table, bars, no_args, take_operand, give, want, begin, due, have};
-ghost use Rattle.bk_syntax.specs.Inner.Begun.{begun_on, operand_on, phrase_on, member_on, clause_on, place_on, point_on};
-ghost use Rattle.bk_syntax.specs.Inner.Rooms.{AreRooms};
-ghost use Rattle.bk_syntax.specs.Inner.Stacked.{stack};
-ghost use Rattle.bk_syntax.specs.Inner.Frames.{stack_of, state, Steps, Answers, Lowers, Falls};
+ghost use Rattle.bk_tree.specs.declared.tree.Operator.TheVariants.{Both};
+ghost use Rattle.bk_frames.specs.declared.frame.Begun.TheVariants as Begun;
+ghost use Rattle.bk_frames.specs.declared.frame.Operand.TheVariants as o;
+ghost use Rattle.bk_frames.specs.Sizes.{IsLeaf, size_of, size_if, both_of, node_of};
+ghost use Rattle.bk_frames.specs.Begun.{held_in};
+ghost use Rattle.bk_tree.specs.Tree.{Expression, expression, expressions_in, binary};
+ghost use Rattle.bk_grammar.specs.Rows.{leaf, goes};
+ghost use Rattle.bk_frames.specs.Frames.{related};
+ghost use Rattle.bk_frames.specs.Sizes.{are_none};
+ghost use Rattle.bk_grammar.specs.Grammar.{last};
+ghost use Rattle.bk_tree.specs.Parts.{line_of};
+ghost use Rattle.bk_grammar.specs.Machine.{Stack, limit, push, infixed, in_chain, in_args, in_table, bars, no_args, take_operand, give, want, begin, due, have};
+ghost use Rattle.bk_frames.specs.Begun.{begun_on, operand_on, phrase_on, member_on, clause_on, place_on, point_on};
+ghost use Rattle.bk_frames.specs.Rooms.{AreRooms};
+ghost use Rattle.bk_frames.specs.Stacked.{stack};
+ghost use Rattle.bk_frames.specs.Frames.{stack_of, state, Steps, Answers, Lowers, Falls};
 
-use crate::copy::copy;
-use crate::frame::{
+use bk_base::Line;
+use bk_frames::frame::{
     Begun, Clause, Flow, Frame, Member, Now, Operand, Phrase, Place, Point, Size, Sized, Stop,
 };
-use crate::frames::Frames;
-use crate::make::{apply, table};
-use crate::room::Rooms;
-use crate::size::{LEAF, NOTHING, are_none, both, of_node};
-use crate::spelling::name;
-use crate::symbols::{
+use bk_frames::frames::Frames;
+use bk_frames::room::Rooms;
+use bk_frames::size::{LEAF, NOTHING, are_none, both, of_node};
+use bk_frames::top::{begun, begun_still, pop};
+use bk_grammar::spelling::name;
+use bk_grammar::symbols::{
     Opening, goes_on, infix, inner_row, is_arrow, is_both, is_close, is_comma, is_open, opens_with,
     prefix, relates, row_behind,
 };
-use crate::top::{begun, begun_still, pop};
-use crate::tree::{Expr, Operator};
-use bk_base::Line;
 use bk_lex::{Kind, Token, character_byte, number_word, string_bytes};
+use bk_tree::make::{apply, table};
+use bk_tree::{Expr, Operator, copy};
 use std::alloc::{AllocError, Global};
 
 /// Puts on top an expression that was begun, whose operand is due.
@@ -160,7 +160,7 @@ fn related(expr: &Expr) -> Option<&Expr>
 }
 
 /// The operand that a further relation shares, if the expression is a relation.
-#[tactic(auto, using(crate::proofs::Turns::last_cases))]
+#[tactic(auto, using(bk_frames::proofs::Turns::last_cases))]
 fn shared(expr: &Expr) -> Option<&Expr>
     ensures { MatchOption result (last (expression expr.now) ≡ None) (λ right. last (expression expr.now) ≡ Some (expression right.now)) }
 {
@@ -215,7 +215,7 @@ fn go_on_infix(
 }
 
 /// The expression goes on with the symbol.
-#[tactic(auto, using(crate::proofs::Turns::push_cases))]
+#[tactic(auto, using(bk_frames::proofs::Turns::push_cases))]
 pub fn go_on(alloc: Global, frames: &mut Frames, sized: Sized, token: &Token) -> Result<Flow, Stop>
     ensures answers { Answers frames.new result token.now (λ l x kind. push (stack_of frames.old) (expression sized.expr) kind l) }
     ensures falls { Falls frames.old frames.new result }
@@ -287,7 +287,7 @@ fn owes(whole: usize, done: usize) -> bool
 }
 
 /// Whether a comma is owed behind what is on top of this, if this says it.
-#[tactic(auto, using(crate::proofs::Trees::counts))]
+#[tactic(auto, using(bk_tree::proofs::Trees::counts))]
 fn barring(begun: &Begun) -> Option<bool>
     ensures { (st : Stack) → bars (begun_on begun.now st) ≡ unwrap_or result (bars st) }
 {
@@ -308,7 +308,7 @@ fn barring(begun: &Begun) -> Option<bool>
 }
 
 /// Whether a comma is owed behind the expression that is read now, so that no TABLE may end it.
-#[tactic(auto, using(crate::proofs::Stacks::stack_none))]
+#[tactic(auto, using(bk_frames::proofs::Stacks::stack_none))]
 fn is_barred(frames: &Frames) -> bool
     ensures { result ≡ bars (stack_of frames.now) }
 {
@@ -324,7 +324,7 @@ fn is_barred(frames: &Frames) -> bool
 }
 
 /// A `)` where an argument is due.
-#[tactic(auto, using(crate::proofs::Stacks::frames_laws, crate::proofs::Turns::no_args_cases))]
+#[tactic(auto, using(bk_frames::proofs::Stacks::frames_laws, bk_frames::proofs::Turns::no_args_cases))]
 fn no_arguments(frames: &mut Frames) -> Result<Now, Stop>
     ensures { Steps (stack_of frames.new) result (no_args (stack_of frames.old)) }
 {
@@ -352,7 +352,7 @@ fn no_arguments(frames: &mut Frames) -> Result<Now, Stop>
 }
 
 /// An operand is due, and this symbol comes.
-#[tactic(auto, using(crate::proofs::Turns::operand_cases))]
+#[tactic(auto, using(bk_frames::proofs::Turns::operand_cases))]
 pub fn operand(alloc: Global, frames: &mut Frames, token: &Token) -> Result<Now, Stop>
     ensures { Steps (stack_of frames.new) result (take_operand (stack_of frames.old) token.now.line token.now.text.now token.now.kind) }
 {
@@ -377,7 +377,7 @@ pub fn operand(alloc: Global, frames: &mut Frames, token: &Token) -> Result<Now,
 }
 
 /// An argument is complete.
-#[tactic(auto, using(crate::proofs::Trees::one_more, crate::proofs::Trees::more_sizes))]
+#[tactic(auto, using(bk_tree::proofs::Trees::one_more, bk_tree::proofs::Trees::more_sizes))]
 fn argument(
     frames: &mut Frames,
     sign: Line,
@@ -405,7 +405,7 @@ fn argument(
 }
 
 /// A number of a TABLE is complete.
-#[tactic(auto, using(crate::proofs::Trees::one_more, crate::proofs::Trees::more_sizes))]
+#[tactic(auto, using(bk_tree::proofs::Trees::one_more, bk_tree::proofs::Trees::more_sizes))]
 fn entry(
     frames: &mut Frames,
     line: Line,
@@ -428,7 +428,7 @@ fn entry(
 }
 
 /// The size of the operand that a further relation would share with this right operand.
-#[tactic(auto, using(crate::proofs::Turns::last_cases, crate::proofs::Turns::related_last))]
+#[tactic(auto, using(bk_frames::proofs::Turns::last_cases, bk_frames::proofs::Turns::related_last))]
 fn shared_size(operator: Operator, right: &Sized) -> Size
     ensures { (l m : ℕ) (a : Expression) → result ≡ size_if (last (binary l operator m a (expression right.now.expr))) }
 {

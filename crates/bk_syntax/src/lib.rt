@@ -1,26 +1,11 @@
-//! Trees of BCPL sections, the grammar, and a parser.
+//! The parser: the one tree of a section, or a fault.
 #![tactic(auto)]
 
 mod commands;
-mod copy;
 mod definitions;
 mod expressions;
-mod frame;
-mod frames;
 mod laws;
-mod limits;
-mod make;
 mod parser;
-mod room;
-mod rooms;
-mod section;
-mod size;
-mod spelling;
-mod symbols;
-mod top;
-pub mod tree;
-mod way;
-mod ways;
 mod why;
 
 pub use laws::{
@@ -28,4 +13,3 @@ pub use laws::{
     reads_the_grammar, symbol_fault_stands, tag_fault_stands,
 };
 pub use parser::parse;
-pub use section::Section;

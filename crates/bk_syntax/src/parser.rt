@@ -2,32 +2,32 @@
 ghost use Rattle.std.specs.Prelude.{◌≡◌, ◌<◌, true, false, Some, [], List, length, IfOk, IfErr, OnOk};
 ghost use Rattle.bk_lex.specs.Symbol.{Symbol, symbol_of, symbols_of};
 ghost use Rattle.bk_lex.specs.Values.{upper_name};
-ghost use Rattle.bk_syntax.specs.Tree.{Declarations, expression, action, declarations_in};
-ghost use Rattle.bk_syntax.specs.Spelling.{tag_of};
-ghost use Rattle.bk_syntax.specs.Rows.{goes};
-ghost use Rattle.bk_syntax.specs.Inner.Machine.{limit, opens, closes, give, finish, without, stepped_by, whole, run, due, in_section};
-ghost use Rattle.bk_syntax.specs.Inner.Begun.{begun_on, held_in};
-ghost use Rattle.bk_syntax.specs.Inner.Frames.{stack_of, state, flow, Steps, Answers, Lowers, Falls};
-ghost use Rattle.bk_syntax.specs.Parsing.{tags, Closes, steps, AfterSymbols, why_of, answered, reached, IsPassed, Advances, declarations_of, AnswersAtEnd, Parses, Gives};
-ghost use Rattle.bk_syntax.specs.SyntaxFault.{IsSection};
-ghost use Rattle.bk_syntax.specs.Limits.{Within};
-ghost use Rattle.bk_syntax.specs.Bounds.{Bounded};
+ghost use Rattle.bk_tree.specs.Tree.{Declarations, expression, action, declarations_in};
+ghost use Rattle.bk_grammar.specs.Spelling.{tag_of};
+ghost use Rattle.bk_grammar.specs.Rows.{goes};
+ghost use Rattle.bk_grammar.specs.Machine.{limit, opens, closes, give, finish, without, stepped_by, whole, run, due, in_section};
+ghost use Rattle.bk_frames.specs.Begun.{begun_on, held_in};
+ghost use Rattle.bk_frames.specs.Frames.{stack_of, state, flow, Steps, Answers, Lowers, Falls};
+ghost use Rattle.bk_syntax.specs.Parsing.{tags, Closes, steps, AfterSymbols, why_of, answered, reached, IsPassed, Advances, AnswersAtEnd, Parses, Gives};
+ghost use Rattle.bk_tree.specs.Section.{declarations_of};
+ghost use Rattle.bk_grammar.specs.SyntaxFault.{IsSection};
+ghost use Rattle.bk_tree.specs.Limits.{Within};
+ghost use Rattle.bk_frames.specs.Bounds.{Bounded};
 
 use crate::commands::{again, command, complete_clause, complete_phrase, did, guarded};
 use crate::definitions::{at_place, complete_command, complete_definition, complete_member};
 use crate::expressions::{complete, extends, go_on, operand};
-use crate::frame::{Begun, Clause, Done, Flow, Frame, Now, Size, Sized, Stop};
-use crate::frames::Frames;
-use crate::limits::{is_bounded, is_bounded_in_depth};
-use crate::section::Section;
-use crate::size::NOTHING;
-use crate::spelling::{same_tag, tag};
-use crate::symbols::{closes, goes_on, opens, repeats, starts_command};
-use crate::top::pop;
-use crate::tree::Command;
 use crate::why::{Why, told};
 use bk_base::{Line, Refused, SourceFault};
+use bk_frames::frame::{Begun, Clause, Done, Flow, Frame, Now, Size, Sized, Stop};
+use bk_frames::frames::Frames;
+use bk_frames::limits::{is_bounded, is_bounded_in_depth};
+use bk_frames::size::NOTHING;
+use bk_frames::top::pop;
+use bk_grammar::spelling::{same_tag, tag};
+use bk_grammar::symbols::{closes, goes_on, opens, repeats, starts_command};
 use bk_lex::{Kind, Token};
+use bk_tree::{Command, Section};
 use std::alloc::Global;
 use std::mem;
 
@@ -66,7 +66,7 @@ fn goes_on_with(frames: &Frames, kind: Kind) -> bool
 }
 
 /// An expression is complete so far, and a symbol comes behind it.
-#[tactic(auto, using(crate::proofs::Stacks::frames_laws))]
+#[tactic(auto, using(bk_frames::proofs::Stacks::frames_laws))]
 fn behind_expression(
     alloc: Global,
     frames: &mut Frames,
@@ -91,7 +91,7 @@ fn behind_expression(
 }
 
 /// A command is complete so far, and a symbol comes behind it.
-#[tactic(auto, using(crate::proofs::Stacks::frames_laws))]
+#[tactic(auto, using(bk_frames::proofs::Stacks::frames_laws))]
 fn behind_command(
     alloc: Global,
     frames: &mut Frames,
@@ -121,7 +121,7 @@ fn behind_command(
 }
 
 /// No command behind a colon, and a symbol that begins none.
-#[tactic(auto, using(crate::proofs::Stacks::frames_laws, crate::proofs::Turns::guarded_sizes))]
+#[tactic(auto, using(bk_frames::proofs::Stacks::frames_laws, bk_frames::proofs::Turns::guarded_sizes))]
 fn without_command(alloc: Global, frames: &mut Frames, token: &Token) -> Result<Flow, Stop>
     ensures { Answers frames.new result token.now (without (stack_of frames.old)) }
 {

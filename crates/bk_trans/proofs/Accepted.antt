@@ -1,7 +1,7 @@
 -- The scheme's statements of a section without faults are an accepted section.
 use Rattle.std.proofs.Common.{arith, ◌≡◌, ℕ, suc, ◌+◌, ◌≤◌, List, [], ◌∷◌, ◌++◌, length, refl, ap, subst}
 use Rattle.bk_base.specs.declared.limit.TheConstants.{OCODE_LABEL, OCODE_STATEMENTS, OCODE_WORDS}
-use Rattle.bk_syntax.specs.Tree.{Declarations}
+use Rattle.bk_tree.specs.Tree.{Declarations}
 use Rattle.bk_scope.specs.Points.{Point, meaning, word, depth, wrong, claim, words_of}
 use Rattle.bk_scope.specs.Faults.{faults, told_of, meanings, words}
 use Rattle.bk_scope.specs.Sound.{SoundSection}

@@ -3,9 +3,9 @@ use Rattle.std.proofs.Common.{◌≡◌, ℕ, ◌+◌, true, Option, Some, None,
 use Rattle.std.proofs.lemmas.List.{append-nil}
 use Rattle.bk_base.specs.Strings.{first_bytes}
 use Rattle.bk_base.specs.Word.{signed}
-use Rattle.bk_syntax.specs.declared.tree.Operator.{Operator}
-use Rattle.bk_syntax.specs.declared.tree.Operator.TheVariants as o
-use Rattle.bk_syntax.specs.Tree.{Expressions, Items, no_items, item}
+use Rattle.bk_tree.specs.declared.tree.Operator.{Operator}
+use Rattle.bk_tree.specs.declared.tree.Operator.TheVariants as o
+use Rattle.bk_tree.specs.Tree.{Expressions, Items, no_items, item}
 use Rattle.bk_scope.specs.declared.bound.Bound.{Bound}
 use Rattle.bk_scope.specs.declared.bound.Bound.TheVariants as b
 use Rattle.bk_ocode.specs.declared.stmt.Variable.TheVariants.{Local, Static}

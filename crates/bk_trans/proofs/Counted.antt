@@ -1,14 +1,14 @@
 -- A section has few statements: a node gives fifteen at most, in its own code and in what stands by itself behind it.
 use Rattle.std.proofs.Common.{arith, ◌≡◌, ◌≤◌, ℕ, ◌+◌, ◌*◌, Bool, true, false, not, cond, List, [], ◌∷◌, ◌++◌, length, map, refl, ap}
 use Rattle.bk_base.specs.Word.{signed}
-use Rattle.bk_syntax.specs.declared.tree.Operator.{Operator}
-use Rattle.bk_syntax.specs.declared.tree.Operator.TheVariants as o
-use Rattle.bk_syntax.specs.declared.tree.Prefix.{Prefix}
-use Rattle.bk_syntax.specs.declared.tree.Prefix.TheVariants as q
-use Rattle.bk_syntax.specs.declared.tree.Simple.TheVariants as w
-use Rattle.bk_syntax.specs.declared.tree.Sort.TheVariants as s
-use Rattle.bk_syntax.specs.Tree.{Expression, Expressions, Action, Actions, Declaration, Declarations, Items, Definition, Definitions, Starts, name, number, text, truth, query, parens, unary, binary, choice, apply, valof, table, none, more, empty, assign, call, goto, label, case_of, default, when, test, while, for_loop, switch, result, simple, block, repeat, repeat_while, no_actions, also, constants, definitions, no_declarations, declare, no_items, item, routine, function, variables, no_definitions, define, no_starts, value, vector}
-use Rattle.bk_syntax.specs.Limits.{nodes, nodes_of_each, nodes_of_action, nodes_of_actions, nodes_of_declaration, nodes_of_declarations, nodes_of_items, nodes_of_definition, nodes_of_definitions, nodes_of_starts}
+use Rattle.bk_tree.specs.declared.tree.Operator.{Operator}
+use Rattle.bk_tree.specs.declared.tree.Operator.TheVariants as o
+use Rattle.bk_tree.specs.declared.tree.Prefix.{Prefix}
+use Rattle.bk_tree.specs.declared.tree.Prefix.TheVariants as q
+use Rattle.bk_tree.specs.declared.tree.Simple.TheVariants as w
+use Rattle.bk_tree.specs.declared.tree.Sort.TheVariants as s
+use Rattle.bk_tree.specs.Tree.{Expression, Expressions, Action, Actions, Declaration, Declarations, Items, Definition, Definitions, Starts, name, number, text, truth, query, parens, unary, binary, choice, apply, valof, table, none, more, empty, assign, call, goto, label, case_of, default, when, test, while, for_loop, switch, result, simple, block, repeat, repeat_while, no_actions, also, constants, definitions, no_declarations, declare, no_items, item, routine, function, variables, no_definitions, define, no_starts, value, vector}
+use Rattle.bk_tree.specs.Limits.{nodes, nodes_of_each, nodes_of_action, nodes_of_actions, nodes_of_declaration, nodes_of_declarations, nodes_of_items, nodes_of_definition, nodes_of_definitions, nodes_of_starts}
 use Rattle.bk_scope.specs.declared.bound.Bound.{Bound}
 use Rattle.bk_scope.specs.declared.bound.Bound.TheVariants as b
 use Rattle.bk_ocode.specs.declared.stmt.Stmt.{Stmt}

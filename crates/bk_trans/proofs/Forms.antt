@@ -4,7 +4,7 @@ use Rattle.std.proofs.Common.{arith, ◌≡◌, ℕ, ◌+◌, ◌-◌, ◌≤◌
 use Rattle.std.specs.Bool.{⊤}
 use Rattle.bk_base.specs.Word.{signed}
 use Rattle.bk_base.specs.declared.limit.TheConstants.{FRAME_WORDS, OCODE_LABEL}
-use Rattle.bk_syntax.specs.declared.tree.Simple.TheVariants as w
+use Rattle.bk_tree.specs.declared.tree.Simple.TheVariants as w
 use Rattle.bk_scope.specs.declared.bound.Bound.TheVariants as b
 use Rattle.bk_ocode.specs.declared.stmt.Variable.TheVariants as v
 use Rattle.bk_ocode.specs.declared.stmt.Dyadic.TheVariants as two

@@ -3,7 +3,7 @@
 use Rattle.std.proofs.Common.{◌≡◌, ℕ, ◌+◌, ◌<◌, ◌≤◌, ◌^◌, Bool, true, false, Some, None, List, [], ◌∷◌, ◌++◌}
 use Rattle.std.specs.Bool.{⊤}
 use Rattle.bk_base.specs.declared.limit.TheConstants.{FRAME_WORDS, GLOBAL_NUMBER}
-use Rattle.bk_syntax.specs.declared.tree.Simple.TheVariants as w
+use Rattle.bk_tree.specs.declared.tree.Simple.TheVariants as w
 use Rattle.bk_scope.specs.declared.bound.Bound.{Bound}
 use Rattle.bk_scope.specs.declared.bound.Bound.TheVariants as b
 use Rattle.bk_scope.specs.Cases.{AllDiffer}

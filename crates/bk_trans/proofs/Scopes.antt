@@ -5,7 +5,7 @@ use Rattle.std.specs.Bool.{⊤}
 use Rattle.std.specs.Str.{bytes_eq}
 use Rattle.std.proofs.lemmas.Slice.Eq.{bytes_eq-Decides}
 use Rattle.bk_base.specs.declared.limit.TheConstants.{OCODE_LABEL}
-use Rattle.bk_syntax.specs.Tree.{Action, Actions, Items, Definitions, empty, assign, call, goto, label, case_of, default, when, test, while, for_loop, switch, result, simple, block, repeat, repeat_while, no_actions, also, no_declarations, declare, no_items, item, routine, function, variables, no_definitions, define}
+use Rattle.bk_tree.specs.Tree.{Action, Actions, Items, Definitions, empty, assign, call, goto, label, case_of, default, when, test, while, for_loop, switch, result, simple, block, repeat, repeat_while, no_actions, also, no_declarations, declare, no_items, item, routine, function, variables, no_definitions, define}
 use Rattle.bk_scope.specs.declared.bound.Bound.{Bound}
 use Rattle.bk_scope.specs.declared.bound.Bound.TheVariants.{Static, Label}
 use Rattle.bk_scope.specs.declared.place.Place.{Place}

@@ -1,12 +1,12 @@
 -- The statements that are written of a section are the scheme's, in words.
 use Rattle.std.proofs.Common.{◌≡◌, ℕ, ◌==◌, Bool, true, false, cond, List, [], ◌∷◌, map, refl, sym, ap, ◌∙◌}
-use Rattle.bk_syntax.specs.Tree.{Declarations}
+use Rattle.bk_tree.specs.Tree.{Declarations}
 use Rattle.bk_scope.specs.declared.bound.Bound.{Bound}
 use Rattle.bk_scope.specs.Faults.{meanings, words}
 use Rattle.bk_scope.specs.Known.{Known}
 use Rattle.bk_ocode.specs.declared.stmt.Stmt.{Stmt}
 use Rattle.bk_ocode.specs.declared.stmt.Stmt.TheVariants.{Globals}
-use Rattle.bk_syntax.specs.Limits.{Within}
+use Rattle.bk_tree.specs.Limits.{Within}
 use Rattle.bk_ocode.specs.Section.{IsSection}
 use Rattle.bk_ocode.specs.Lists.{joined}
 use Rattle.bk_trans.specs.declared.around.Goal.{Goal}

@@ -1,8 +1,8 @@
 -- Laws of the scheme, over the named tree of a section.
 use Rattle.std.specs.Prelude.{ℕ, ◌+◌, ◌≡◌, ◌<◌, ◌≤◌, ◌^◌, Some, List, [], length, slice_get}
 use Rattle.bk_base.specs.declared.limit.TheConstants.{OCODE_LABEL, OCODE_STATEMENTS, OCODE_WORDS}
-use Rattle.bk_syntax.specs.Tree.{Declarations}
-use Rattle.bk_syntax.specs.Limits.{Within}
+use Rattle.bk_tree.specs.Tree.{Declarations}
+use Rattle.bk_tree.specs.Limits.{Within}
 use Rattle.bk_scope.specs.declared.bound.Bound.{Bound}
 use Rattle.bk_scope.specs.Faults.{faults, meanings, words}
 use Rattle.bk_ocode.specs.Section.{IsSection}

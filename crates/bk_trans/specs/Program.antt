@@ -2,9 +2,9 @@
 -- its word. Names that are only declared are gone. Conditions, and what is assigned to or asked for its address, are kinds of
 -- their own.
 use Rattle.std.specs.Prelude.{ℕ, Bool, List}
-use Rattle.bk_syntax.specs.declared.tree.Operator.{Operator}
-use Rattle.bk_syntax.specs.declared.tree.Prefix.{Prefix}
-use Rattle.bk_syntax.specs.declared.tree.Simple.{Simple}
+use Rattle.bk_tree.specs.declared.tree.Operator.{Operator}
+use Rattle.bk_tree.specs.declared.tree.Prefix.{Prefix}
+use Rattle.bk_tree.specs.declared.tree.Simple.{Simple}
 use Rattle.bk_scope.specs.declared.bound.Bound.{Bound}
 
 -- an item of STATIC: what its name means, and its word

@@ -1,7 +1,7 @@
 //! Static words: the items of STATIC, and tables.
 ghost use Rattle.std.specs.Prelude.{◌≡◌, ◌++◌, map, OnOk};
 ghost use Rattle.bk_base.specs.Word.{signed};
-ghost use Rattle.bk_syntax.specs.Tree.{expressions_in, items_in, step_in};
+ghost use Rattle.bk_tree.specs.Tree.{expressions_in, items_in, step_in};
 ghost use Rattle.bk_ocode.specs.declared.stmt.Stmt.TheVariants.{DataNumber};
 ghost use Rattle.bk_trans.specs.Filling.{constants_of, step_of as StepOf};
 ghost use Rattle.bk_trans.specs.Writing.{puts_table, puts_items, puts_item, past_items, past_step};
@@ -9,7 +9,7 @@ ghost use Rattle.bk_trans.specs.Writing.{puts_table, puts_items, puts_item, past
 use crate::given::Given;
 use crate::writer::Writing;
 use bk_ocode::{Stmt, Variable};
-use bk_syntax::tree::{Expr, Item};
+use bk_tree::{Expr, Item};
 use std::alloc::AllocError;
 
 /// The words of constants, as data.

@@ -1,6 +1,6 @@
 //! Going through the nodes of a section.
 ghost use Rattle.std.specs.Prelude.{◌≡◌, [], ◌∷◌, OnOk, IfOk};
-ghost use Rattle.bk_syntax.specs.Tree.{expression, expressions_in, action, actions_in, declaration, declarations_in, definition, definitions_in, starts_in};
+ghost use Rattle.bk_tree.specs.Tree.{expression, expressions_in, action, actions_in, declaration, declarations_in, definition, definitions_in, starts_in};
 ghost use Rattle.bk_trans.specs.Writing.{written, each_written, address_written, store_written, stores_written, values_written, act_written, each_act_written, declared, one_declared, defined, one_defined, started, reached, any_variables, acted_apart, each_acted_apart};
 
 use crate::aim::Aim;
@@ -11,7 +11,7 @@ use crate::statements::{after, place_in, truth_value, word_of};
 use crate::way::{Access, Way, access_by, way_through};
 use crate::writer::Writing;
 use bk_ocode::{Dyadic, Stmt, Variable};
-use bk_syntax::tree::{Command, Decl, Def, Expr, Init, Prefix, Sort};
+use bk_tree::{Command, Decl, Def, Expr, Init, Prefix, Sort};
 use std::alloc::AllocError;
 
 /// An expression, for an aim.

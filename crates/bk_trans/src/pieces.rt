@@ -11,7 +11,7 @@ use crate::statements::{after, test_of_step};
 use crate::writer::{Choices, FIRST_STMTS, Writing};
 use bk_ocode::{Case, Dyadic, GlobalEntry, Stmt, Variable};
 use bk_scope::Bound;
-use bk_syntax::tree::Simple;
+use bk_tree::Simple;
 use std::alloc::AllocError;
 use std::marker::Model;
 use std::mem;

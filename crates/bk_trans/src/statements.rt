@@ -7,7 +7,7 @@ ghost use Rattle.bk_ocode.specs.declared.stmt.Stmt.TheVariants as stmts;
 use crate::around::Goal;
 use bk_ocode::{Dyadic, Monadic, Stmt, Variable};
 use bk_scope::Bound;
-use bk_syntax::tree::{Operator, Prefix};
+use bk_tree::{Operator, Prefix};
 use std::alloc::AllocError;
 
 /// A label or a depth so much behind. It wraps.

@@ -1,12 +1,12 @@
 //! The statements of a section.
 ghost use Rattle.std.specs.Prelude.{◌≡◌, [], IfOk};
-ghost use Rattle.bk_syntax.specs.Tree.{declarations_in};
+ghost use Rattle.bk_tree.specs.Tree.{declarations_in};
 ghost use Rattle.bk_trans.specs.Alike.{in_words};
 ghost use Rattle.bk_trans.specs.Naming.{named_tree};
 ghost use Rattle.bk_ocode.specs.StmtRange.{AreTyped};
 ghost use Rattle.bk_ocode.specs.Section.{IsSection};
 ghost use Rattle.bk_ocode.specs.SectionStmts.{stmts_of};
-ghost use Rattle.bk_syntax.specs.Parsing.{declarations_of};
+ghost use Rattle.bk_tree.specs.Section.{declarations_of};
 ghost use Rattle.bk_trans.specs.Scheme.{scheme};
 ghost use Rattle.bk_trans.specs.Writing.{AreWritten, starting, ending};
 
@@ -17,7 +17,7 @@ use crate::places::places_of;
 use crate::writer::{FIRST_STMTS, Writing};
 use bk_ocode::{GlobalList, Ocode, Stmt};
 use bk_scope::{Bound, Resolved};
-use bk_syntax::tree::Decl;
+use bk_tree::Decl;
 use std::alloc::{AllocError, Global};
 
 impl<'a> Writing<'a> {

@@ -3,7 +3,7 @@ ghost use Rattle.std.specs.Prelude.{◌≡◌};
 ghost use Rattle.bk_trans.specs.Writing.{way_of, access_of};
 
 use crate::aim::Aim;
-use bk_syntax::tree::Operator;
+use bk_tree::Operator;
 
 /// How the operands of an operator are gone through.
 #[derive(Clone, Copy)]

@@ -11,7 +11,7 @@ use crate::given::Given;
 use crate::statements::{after, label_or, push_of, put_infix, put_prefix};
 use bk_ocode::{Case, CaseList, GlobalEntry, Monadic, Stmt};
 use bk_scope::Bound;
-use bk_syntax::tree::{Operator, Prefix};
+use bk_tree::{Operator, Prefix};
 use std::alloc::{AllocError, Global};
 use std::marker::Model;
 use std::mem;

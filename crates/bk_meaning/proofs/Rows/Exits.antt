@@ -1,8 +1,8 @@
 -- Exits out of a VALOF, and what they leave behind.
 use Rattle.std.specs.Prelude.{◌≡◌, true, List, [], ◌∷◌, ◌++◌, refl}
-use Rattle.bk_syntax.specs.declared.tree.Operator.TheVariants as o
-use Rattle.bk_syntax.specs.declared.tree.Simple.TheVariants as k
-use Rattle.bk_syntax.specs.Tree.{Declarations}
+use Rattle.bk_tree.specs.declared.tree.Operator.TheVariants as o
+use Rattle.bk_tree.specs.declared.tree.Simple.TheVariants as k
+use Rattle.bk_tree.specs.Tree.{Declarations}
 use Rattle.bk_meaning.specs.World.{status, divide_by_zero}
 use Rattle.bk_meaning.specs.Library.{digits}
 use Rattle.bk_meaning.specs.Program.{Ends, Going, Undefined, meaning}

@@ -1,8 +1,8 @@
 -- WRITEF, and numbers in columns.
 use Rattle.std.specs.Prelude.{◌≡◌, List, [], ◌∷◌, ◌++◌, refl}
 use Rattle.bk_base.specs.Format.{aligned}
-use Rattle.bk_syntax.specs.declared.tree.Prefix.TheVariants as q
-use Rattle.bk_syntax.specs.Tree.{Declarations}
+use Rattle.bk_tree.specs.declared.tree.Prefix.TheVariants as q
+use Rattle.bk_tree.specs.Tree.{Declarations}
 use Rattle.bk_meaning.specs.World.{status}
 use Rattle.bk_meaning.specs.Library.{digits}
 use Rattle.bk_meaning.specs.Program.{Ends, Going, meaning}

@@ -1,10 +1,10 @@
 -- In which order things are done, and how often.
 use Rattle.std.specs.Prelude.{◌≡◌, true, false, List, [], ◌∷◌, refl}
-use Rattle.bk_syntax.specs.declared.tree.Operator.TheVariants as o
-use Rattle.bk_syntax.specs.declared.tree.Prefix.TheVariants as q
-use Rattle.bk_syntax.specs.declared.tree.Simple.TheVariants as k
-use Rattle.bk_syntax.specs.declared.tree.Sort.TheVariants as s
-use Rattle.bk_syntax.specs.Tree.{Declarations}
+use Rattle.bk_tree.specs.declared.tree.Operator.TheVariants as o
+use Rattle.bk_tree.specs.declared.tree.Prefix.TheVariants as q
+use Rattle.bk_tree.specs.declared.tree.Simple.TheVariants as k
+use Rattle.bk_tree.specs.declared.tree.Sort.TheVariants as s
+use Rattle.bk_tree.specs.Tree.{Declarations}
 use Rattle.bk_meaning.specs.World.{status}
 use Rattle.bk_meaning.specs.Program.{Ends, Going, meaning}
 use Rattle.bk_meaning.proofs.Rows.Nodes.{named, number, text, truth, parens, unary, binary, choice, apply, valof, assign, call, case, default, when, test, while, for_loop, switch, result, simple, compound, block, repeat, repeat_while, constants, item, lets, routine, function, variables, value, vector, with_header}

@@ -1,9 +1,9 @@
 -- GOTO and SWITCHON into each form of command that can be entered.
 use Rattle.std.specs.Prelude.{◌≡◌, true, false, List, [], ◌∷◌, refl}
-use Rattle.bk_syntax.specs.declared.tree.Operator.TheVariants as o
-use Rattle.bk_syntax.specs.declared.tree.Simple.TheVariants as k
-use Rattle.bk_syntax.specs.declared.tree.Sort.TheVariants as s
-use Rattle.bk_syntax.specs.Tree.{Declarations}
+use Rattle.bk_tree.specs.declared.tree.Operator.TheVariants as o
+use Rattle.bk_tree.specs.declared.tree.Simple.TheVariants as k
+use Rattle.bk_tree.specs.declared.tree.Sort.TheVariants as s
+use Rattle.bk_tree.specs.Tree.{Declarations}
 use Rattle.bk_meaning.specs.World.{status}
 use Rattle.bk_meaning.specs.Program.{Ends, Going, meaning}
 use Rattle.bk_meaning.proofs.Rows.Nodes.{named, number, truth, binary, assign, call, goto, label, case, default, when, test, while, for_loop, switch, simple, compound, block, repeat, repeat_while, constants, item, lets, routine, variables, value, vector, with_header}

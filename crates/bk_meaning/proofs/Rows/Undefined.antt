@@ -1,9 +1,9 @@
 -- Acts that are undefined, a kind each; the turn before, the run still goes on.
 use Rattle.std.specs.Prelude.{◌≡◌, true, List, [], ◌∷◌, refl}
-use Rattle.bk_syntax.specs.declared.tree.Operator.TheVariants as o
-use Rattle.bk_syntax.specs.declared.tree.Prefix.TheVariants as q
-use Rattle.bk_syntax.specs.declared.tree.Sort.TheVariants as s
-use Rattle.bk_syntax.specs.Tree.{Declarations}
+use Rattle.bk_tree.specs.declared.tree.Operator.TheVariants as o
+use Rattle.bk_tree.specs.declared.tree.Prefix.TheVariants as q
+use Rattle.bk_tree.specs.declared.tree.Sort.TheVariants as s
+use Rattle.bk_tree.specs.Tree.{Declarations}
 use Rattle.bk_meaning.specs.Program.{Going, Undefined, meaning}
 use Rattle.bk_meaning.proofs.Rows.Nodes.{named, number, text, query, parens, unary, binary, apply, assign, call, default, when, for_loop, switch, compound, block, constants, item, lets, routine, function, variables, value, vector, with_header}
 use Rattle.bk_meaning.proofs.Rows.Names as n

@@ -1,5 +1,5 @@
 use Rattle.std.proofs.Common.{ap, sym, ◌∙◌}
-use Rattle.bk_syntax.specs.Tree.{expression}
+use Rattle.bk_tree.specs.Tree.{expression}
 use Rattle.bk_scope.specs.FirstFault.{first_fault}
 use Rattle.bk_scope.proofs.Worded.{told_behind}
 use Rattle.bk_scope.proofs.constant.+constant_of.Goals as goal

@@ -1,5 +1,5 @@
 use Rattle.std.proofs.Common.{◌≡◌, drop}
-use Rattle.bk_syntax.specs.Tree.{actions_in}
+use Rattle.bk_tree.specs.Tree.{actions_in}
 use Rattle.bk_scope.specs.Entering.{with_labels, labels_of_each}
 use Rattle.bk_scope.proofs.entering.+labels.Given as goal
 

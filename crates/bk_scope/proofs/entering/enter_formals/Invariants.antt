@@ -1,5 +1,5 @@
 use Rattle.std.proofs.Common.{◌≡◌, map, drop}
-use Rattle.bk_syntax.specs.Tree.{mention}
+use Rattle.bk_tree.specs.Tree.{mention}
 use Rattle.bk_scope.specs.Found.{Found}
 use Rattle.bk_scope.specs.Entering.{with_formals}
 use Rattle.bk_scope.proofs.entering.enter_formals.Given as goal

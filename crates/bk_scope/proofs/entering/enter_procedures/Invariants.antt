@@ -1,5 +1,5 @@
 use Rattle.std.proofs.Common.{◌≡◌, drop}
-use Rattle.bk_syntax.specs.Tree.{definitions_in}
+use Rattle.bk_tree.specs.Tree.{definitions_in}
 use Rattle.bk_scope.specs.Entering.{with_procedures}
 use Rattle.bk_scope.proofs.entering.enter_procedures.Given as goal
 

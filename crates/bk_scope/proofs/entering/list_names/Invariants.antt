@@ -1,5 +1,5 @@
 use Rattle.std.proofs.Common.{◌≡◌, map, drop}
-use Rattle.bk_syntax.specs.Tree.{mention}
+use Rattle.bk_tree.specs.Tree.{mention}
 use Rattle.bk_scope.specs.Names.{all_listed}
 use Rattle.bk_scope.proofs.entering.list_names.Given as goal
 

@@ -1,5 +1,5 @@
 use Rattle.std.proofs.Common.{◌≡◌, drop}
-use Rattle.bk_syntax.specs.Tree.{expressions_in}
+use Rattle.bk_tree.specs.Tree.{expressions_in}
 use Rattle.bk_scope.specs.Names.{constants_found}
 use Rattle.bk_scope.proofs.items.constants.Given as goal
 

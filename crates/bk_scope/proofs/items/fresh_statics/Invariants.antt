@@ -1,5 +1,5 @@
 use Rattle.std.proofs.Common.{◌≡◌, List, drop}
-use Rattle.bk_syntax.specs.Tree.{items_in}
+use Rattle.bk_tree.specs.Tree.{items_in}
 use Rattle.bk_scope.specs.Scope.{Binding}
 use Rattle.bk_scope.specs.Names.{statics}
 use Rattle.bk_scope.specs.Scope.{bind_all}

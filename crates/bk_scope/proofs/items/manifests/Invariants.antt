@@ -1,5 +1,5 @@
 use Rattle.std.proofs.Common.{◌≡◌, drop}
-use Rattle.bk_syntax.specs.Tree.{items_in}
+use Rattle.bk_tree.specs.Tree.{items_in}
 use Rattle.bk_scope.specs.Names.{manifests}
 use Rattle.bk_scope.proofs.items.manifests.Given as goal
 

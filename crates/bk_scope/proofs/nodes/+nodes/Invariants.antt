@@ -1,5 +1,5 @@
 use Rattle.std.proofs.Common.{◌≡◌, ◌++◌, map, drop}
-use Rattle.bk_syntax.specs.Tree.{expressions_in, actions_in, declarations_in, definitions_in, starts_in, mention}
+use Rattle.bk_tree.specs.Tree.{expressions_in, actions_in, declarations_in, definitions_in, starts_in, mention}
 use Rattle.bk_scope.specs.Names.{each_evaluated, destinations, each_done, declared, defined, started, place_behind, variables_of}
 use Rattle.bk_scope.proofs.nodes.+nodes.Given as goal
 

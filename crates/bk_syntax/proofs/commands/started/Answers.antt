@@ -1,11 +1,11 @@
 use Rattle.std.proofs.Common.{◌≡◌, false, rules, sym, ap, ◌∙◌}
-use Rattle.bk_syntax.specs.Tree.{expression}
-use Rattle.bk_syntax.specs.Rows.{assigns}
-use Rattle.bk_syntax.specs.Inner.Sizes.{size_of, size_of_action}
-use Rattle.bk_syntax.specs.Inner.Machine.{give, finish, in_start}
-use Rattle.bk_syntax.specs.Inner.Frames.{stack_of}
-use Rattle.bk_syntax.proofs.Trees.{Apply_is}
-use Rattle.bk_syntax.proofs.Turns.{call_done}
+use Rattle.bk_tree.specs.Tree.{expression}
+use Rattle.bk_grammar.specs.Rows.{assigns}
+use Rattle.bk_frames.specs.Sizes.{size_of, size_of_action}
+use Rattle.bk_grammar.specs.Machine.{give, finish, in_start}
+use Rattle.bk_frames.specs.Frames.{stack_of}
+use Rattle.bk_tree.proofs.Trees.{Apply_is}
+use Rattle.bk_frames.proofs.Turns.{call_done}
 use Rattle.bk_syntax.proofs.commands.started.Goals as goal
 
 pub returns-in-Apply-clause-answers : goal.returns-in-Apply-clause-answers

@@ -1,12 +1,13 @@
 use Rattle.std.proofs.Common.{◌≡◌, false, rules, sym, ap, ◌∙◌}
-use Rattle.bk_syntax.specs.Tree.{expression, unary, binary}
-use Rattle.bk_syntax.specs.Rows.{goes, behind, inner}
-use Rattle.bk_syntax.specs.Grammar.{line_of, last}
-use Rattle.bk_syntax.specs.Inner.Sizes.{size_if}
-use Rattle.bk_syntax.specs.Inner.Machine.{limit, give}
-use Rattle.bk_syntax.specs.Inner.Begun.{operand_on}
-use Rattle.bk_syntax.specs.Inner.Frames.{stack_of}
-use Rattle.bk_syntax.proofs.Turns.{unary_done, binary_done}
+use Rattle.bk_tree.specs.Tree.{expression, unary, binary}
+use Rattle.bk_grammar.specs.Rows.{goes, behind, inner}
+use Rattle.bk_grammar.specs.Grammar.{last}
+use Rattle.bk_tree.specs.Parts.{line_of}
+use Rattle.bk_frames.specs.Sizes.{size_if}
+use Rattle.bk_grammar.specs.Machine.{limit, give}
+use Rattle.bk_frames.specs.Begun.{operand_on}
+use Rattle.bk_frames.specs.Frames.{stack_of}
+use Rattle.bk_frames.proofs.Turns.{unary_done, binary_done}
 use Rattle.bk_syntax.proofs.expressions.complete.Goals as goal
 
 pub returns-in_ok-operand-in-Unary-clause-flows : goal.returns-in_ok-operand-in-Unary-clause-flows

@@ -1,8 +1,8 @@
 use Rattle.std.proofs.Common.{Option, sym, subst, ◌∙◌}
-use Rattle.bk_syntax.specs.Tree.{expression}
-use Rattle.bk_syntax.specs.Inner.Machine.{State}
-use Rattle.bk_syntax.specs.Inner.Frames.{stack_of, Flows}
-use Rattle.bk_syntax.proofs.Steps.{pushes}
+use Rattle.bk_tree.specs.Tree.{expression}
+use Rattle.bk_grammar.specs.Machine.{State}
+use Rattle.bk_frames.specs.Frames.{stack_of, Flows}
+use Rattle.bk_grammar.proofs.Steps.{pushes}
 use Rattle.bk_syntax.proofs.parser.behind_expression.Goals as goal
 
 pub returns-then-goes_on_with-clause-answers : goal.returns-then-goes_on_with-clause-answers

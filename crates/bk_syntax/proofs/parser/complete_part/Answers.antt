@@ -1,9 +1,9 @@
 use Rattle.std.proofs.Common.{sym, ap, ◌∙◌}
-use Rattle.bk_syntax.specs.Rows.{goes}
-use Rattle.bk_syntax.specs.Inner.Machine.{limit}
-use Rattle.bk_syntax.specs.Inner.Begun.{begun_on}
-use Rattle.bk_syntax.specs.Inner.Frames.{stack_of}
-use Rattle.bk_syntax.proofs.Insides.{limit_phrase, limit_member}
+use Rattle.bk_grammar.specs.Rows.{goes}
+use Rattle.bk_grammar.specs.Machine.{limit}
+use Rattle.bk_frames.specs.Begun.{begun_on}
+use Rattle.bk_frames.specs.Frames.{stack_of}
+use Rattle.bk_frames.proofs.Insides.{limit_phrase, limit_member}
 use Rattle.bk_syntax.proofs.parser.complete_part.Goals as goal
 
 pub complete-requires-clause-stops : goal.complete-requires-clause-stops

@@ -1,8 +1,8 @@
 use Rattle.std.proofs.Common.{List, ◌∷◌, ℕ, Result, sym, ap, subst, ◌∙◌}
 use Rattle.bk_lex.specs.Symbol.{symbol_of}
 use Rattle.bk_syntax.specs.declared.why.Why.{Why}
-use Rattle.bk_syntax.specs.Spelling.{tag_of}
-use Rattle.bk_syntax.specs.Inner.Frames.{stack_of, state}
+use Rattle.bk_grammar.specs.Spelling.{tag_of}
+use Rattle.bk_frames.specs.Frames.{stack_of, state}
 use Rattle.bk_syntax.specs.Parsing.{tags, answered, reached, Advances}
 use Rattle.bk_syntax.proofs.Openings.{tags_push}
 use Rattle.bk_syntax.proofs.Behind.{step_answered, plain_open}

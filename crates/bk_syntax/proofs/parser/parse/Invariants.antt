@@ -1,7 +1,7 @@
 use Rattle.std.proofs.Common.{take}
 use Rattle.bk_lex.specs.Symbol.{symbols_of}
-use Rattle.bk_syntax.specs.Inner.Frames.{stack_of, state}
-use Rattle.bk_syntax.specs.Bounds.{Bounded}
+use Rattle.bk_frames.specs.Frames.{stack_of, state}
+use Rattle.bk_frames.specs.Bounds.{Bounded}
 use Rattle.bk_syntax.specs.Parsing.{tags, AfterSymbols}
 use Rattle.bk_syntax.proofs.parser.parse.Given as goal
 

@@ -1,5 +1,5 @@
 use Rattle.std.proofs.Common.{◌≡◌}
-use Rattle.bk_syntax.specs.Inner.Frames.{stack_of, flow, rank}
+use Rattle.bk_frames.specs.Frames.{stack_of, flow, rank}
 use Rattle.bk_syntax.proofs.parser.settle.Given as goal
 
 abbrev pub invariant-loop-flow : goal.invariant-loop-flow

@@ -1,7 +1,7 @@
 use Rattle.std.proofs.Common.{Result, refl, sym, subst, ◌∙◌}
 use Rattle.bk_lex.specs.Symbol.{symbol_of}
 use Rattle.bk_syntax.specs.declared.why.Why.{Why}
-use Rattle.bk_syntax.specs.Inner.Frames.{stack_of, state}
+use Rattle.bk_frames.specs.Frames.{stack_of, state}
 use Rattle.bk_syntax.specs.Parsing.{tags, answered, reached, Advances}
 use Rattle.bk_syntax.proofs.Behind.{step_answered, plain_other}
 use Rattle.bk_syntax.proofs.parser.take.Goals as goal

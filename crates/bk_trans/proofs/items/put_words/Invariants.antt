@@ -1,6 +1,6 @@
 use Rattle.std.proofs.Common.{◌≡◌, ◌++◌, map, drop}
 use Rattle.bk_base.specs.Word.{signed}
-use Rattle.bk_syntax.specs.Tree.{expressions_in}
+use Rattle.bk_tree.specs.Tree.{expressions_in}
 use Rattle.bk_ocode.specs.declared.stmt.Stmt.TheVariants.{DataNumber}
 use Rattle.bk_trans.specs.Filling.{constants_of}
 use Rattle.bk_trans.proofs.items.put_words.Given as goal

@@ -1,5 +1,5 @@
 use Rattle.std.proofs.Common.{◌≡◌, drop}
-use Rattle.bk_syntax.specs.Tree.{definitions_in}
+use Rattle.bk_tree.specs.Tree.{definitions_in}
 use Rattle.bk_trans.specs.Writing.{any_variables}
 use Rattle.bk_trans.proofs.nodes.has_variables.Given as goal
 

@@ -1,7 +1,7 @@
 use Rattle.std.proofs.Common.{◌≡◌, ap, ◌∙◌}
-use Rattle.bk_syntax.specs.Tree.{declarations_in}
-use Rattle.bk_syntax.specs.Parsing.{declarations_of}
-use Rattle.bk_syntax.specs.Limits.{Within}
+use Rattle.bk_tree.specs.Tree.{declarations_in}
+use Rattle.bk_tree.specs.Section.{declarations_of}
+use Rattle.bk_tree.specs.Limits.{Within}
 use Rattle.bk_trans.specs.Laws.{AreWords}
 use Rattle.bk_trans.proofs.WholeSections.{accepted}
 use Rattle.bk_trans.proofs.translating.is_accepted.Goals as goal

@@ -1,7 +1,7 @@
 use Rattle.std.proofs.Common.{rules, arith, ◌≡◌, ap, ◌∙◌}
 use Rattle.std.proofs.lemmas.Grind.{common_steps}
-use Rattle.bk_syntax.specs.Tree.{declarations_in}
-use Rattle.bk_syntax.specs.Parsing.{declarations_of}
+use Rattle.bk_tree.specs.Tree.{declarations_in}
+use Rattle.bk_tree.specs.Section.{declarations_of}
 use Rattle.bk_trans.specs.Fitting.{AllFit}
 use Rattle.bk_trans.specs.Writing.{AreWritten}
 use Rattle.bk_trans.proofs.FittingLemmas.{all_are_typed}

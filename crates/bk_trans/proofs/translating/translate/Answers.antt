@@ -1,5 +1,5 @@
 use Rattle.std.proofs.Common.{◌≡◌, ◌∙◌}
-use Rattle.bk_syntax.specs.Parsing.{declarations_of}
+use Rattle.bk_tree.specs.Section.{declarations_of}
 use Rattle.bk_trans.specs.Naming.{named_tree}
 use Rattle.bk_trans.specs.Scheme.{scheme}
 use Rattle.bk_trans.proofs.WholeSections.{exact}

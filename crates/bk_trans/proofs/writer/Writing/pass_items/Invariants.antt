@@ -1,5 +1,5 @@
 use Rattle.std.proofs.Common.{◌≡◌, drop}
-use Rattle.bk_syntax.specs.Tree.{items_in}
+use Rattle.bk_tree.specs.Tree.{items_in}
 use Rattle.bk_trans.specs.Writing.{past_items}
 use Rattle.bk_trans.proofs.writer.Writing.pass_items.Given as goal
 

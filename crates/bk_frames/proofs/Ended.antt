@@ -1,0 +1,251 @@
+-- What the end completes is no larger than any other completion.
+use Rattle.std.proofs.Common.{◌≡◌, ◌≤◌, ◌+◌, ◌==◌, max, length, ℕ, List, [], Bool, true, false, cond, Option, Some, None, refl, subst, inl, inr, arith}
+use Rattle.std.specs.Prelude.{nat_lt}
+use Rattle.bk_lex.specs.declared.token.Kind.TheVariants as k
+use Rattle.bk_frames.specs.declared.size.Form.{Form}
+use Rattle.bk_frames.specs.declared.size.Form.TheVariants.{Label, Call, Callable, Other}
+use Rattle.bk_grammar.specs.declared.symbols.Guard.TheVariants as g
+use Rattle.bk_tree.specs.declared.tree.Operator.TheVariants.{Both}
+use Rattle.bk_tree.specs.Tree.{Expression, Expressions, Action, Definition, Declarations, name, number, text, truth, query, parens, unary, binary, choice, apply, table, call, assign, result, repeat_while, function, variables, value, vector, valof, label, default, test, for_loop, routine, empty, none, more, no_starts, no_items, item, declare, no_declarations, definitions, define, no_definitions}
+use Rattle.bk_grammar.specs.Rows.{inner}
+use Rattle.bk_tree.specs.Parts.{line_of, line_of_first, line_of_names, line_of_action, size, start_count}
+use Rattle.bk_tree.specs.Limits.{depth, depth_of_each, depth_of_action, depth_of_declarations, depth_of_definition, depth_of_definitions, depth_of_starts, nodes, nodes_of_each, nodes_of_action, nodes_of_declarations, nodes_of_definition, nodes_of_definitions, nodes_of_starts}
+use Rattle.bk_grammar.specs.Machine.{Stack, State, want, have, maybe, did, due, in_section, in_block, in_let, at_name, at_starts, at_items, in_unary, in_binary, in_chain, in_else, in_table, in_start, in_values, in_guard, in_result, in_while, in_function, in_value, in_vector, in_valof, in_label, in_guarded, in_default, in_or, in_for, in_routine, give, finish, defined_by, stepped_by, counted, guarded, inside}
+use Rattle.bk_tree.specs.Parts.{each_then, starts_then, definitions_then, declarations_then}
+use Rattle.bk_frames.specs.Sizes.{form_of}
+use Rattle.bk_frames.specs.WaysOn.{Next, closing, assigning, listing, going, repeating, operating, Any, AtClosing, AtPart, If, Unlisted, Closed, Missing, Started, Answered, Whole, Taken, Gives, Does, Operates, Defines, Completes}
+use Rattle.bk_tree.proofs.Trees.{each_depth, each_nodes, declarations_depth, declarations_nodes, definitions_depth, definitions_nodes, starts_depth, starts_nodes}
+use Rattle.bk_frames.proofs.Turns.{guarded_depth, guarded_nodes}
+use Rattle.bk_frames.proofs.Lowering.{Down}
+
+abbrev Ended : Option State → Declarations → Type 0
+Ended x ds = x ≡ Some (due (in_section ds))
+
+-- the section has the property
+abbrev Has : (ℕ → ℕ → Type 0) → Declarations → Type 0
+Has P ds = P (depth_of_declarations ds) (nodes_of_declarations ds)
+
+-- each way on with a part of at least this depth and so many nodes comes to a section that is no smaller
+abbrev NoLess : (ℕ → ℕ → Type 0) → Declarations → (ℕ → ℕ → Next → Type 0) → ℕ → ℕ → Type 0
+NoLess P ds F a b = (d n : ℕ) → a ≤ d → b ≤ n → (c : Next) → F d n c → Has P ds
+
+counted_is : (b : Bool) (whole : Option State) (next : State) (ds : Declarations) → Ended (counted b whole k.Semicolon next) ds → (b ≡ true) × Ended whole ds
+counted_is true whole next ds h = (refl, h)
+counted_is false whole next ds h = absurd cc
+
+section_is : (gs ds : Declarations) → Ended (Some (due (in_section gs))) ds → gs ≡ ds
+section_is gs ds h = cc
+
+-- ---- unions
+
+closed_has : (P : ℕ → ℕ → Type 0) (ds : Declarations) (F : ℕ → ℕ → Next → Type 0) (a b : ℕ) → NoLess P ds F a b → NoLess P ds (Closed F) a b
+closed_has P ds F a b f d n p q repeating h = f (d + 1) (n + 1) (omega (arith, p)) (omega (arith, q)) h.0 h.1
+closed_has P ds F a b f d n p q going h = absurd h
+closed_has P ds F a b f d n p q operating h = absurd h
+closed_has P ds F a b f d n p q closing h = f d n p q closing h
+closed_has P ds F a b f d n p q assigning h = f d n p q assigning h
+closed_has P ds F a b f d n p q listing h = f d n p q listing h
+
+missing_has : (P : ℕ → ℕ → Type 0) (ds : Declarations) (F : ℕ → ℕ → Next → Type 0) (a b : ℕ) → NoLess P ds F a b → NoLess P ds (Missing F) a b
+missing_has P ds F a b f d n p q repeating h = f (d + 1) (n + 1) (omega (arith, p)) (omega (arith, q)) h.0 h.1
+missing_has P ds F a b f d n p q going h = absurd h
+missing_has P ds F a b f d n p q operating h = f d n p q operating h
+missing_has P ds F a b f d n p q closing h = f d n p q closing h
+missing_has P ds F a b f d n p q assigning h = f d n p q assigning h
+missing_has P ds F a b f d n p q listing h = f d n p q listing h
+
+-- behind a call at the start of a command
+started_has : (P : ℕ → ℕ → Type 0) (ds : Declarations) (F : ℕ → ℕ → Next → Type 0) (a b : ℕ) → NoLess P ds F a b → (f : Form) → (f ≡ Label → ⊥) → NoLess P ds (Started F f) a b
+started_has P ds F a b w Label other d n p q c h = absurd (other refl)
+started_has P ds F a b w f other d n p q assigning h = closed_has P ds F a b w (max d 1 + 1) (n + 2) (omega (arith, p)) (omega (arith, q)) h.0 h.1
+started_has P ds F a b w f other d n p q listing h = closed_has P ds F a b w (max d 1 + 1) (n + 4) (omega (arith, p)) (omega (arith, q)) h.0 h.1
+started_has P ds F a b w Call other d n p q closing h = w d n p q closing h
+started_has P ds F a b w Call other d n p q repeating h = w (d + 1) (n + 1) (omega (arith, p)) (omega (arith, q)) h.0 h.1
+started_has P ds F a b w _ other d n p q _ h = absurd h
+
+unlisted_has : (X : Type 0) (F : Next → Type 0) → ((c : Next) → F c → X) → Any (Unlisted F) → X
+unlisted_has X F f (closing, h) = f closing h
+unlisted_has X F f (assigning, h) = f assigning h
+unlisted_has X F f (listing, h) = absurd h
+unlisted_has X F f (going, h) = f going h
+unlisted_has X F f (repeating, h) = f repeating h
+unlisted_has X F f (operating, h) = f operating h
+
+part_has : (X : Type 0) (F G : Next → Type 0) → ((c : Next) → F c → X) → ((c : Next) → G c → X) → (c : Next) → AtPart F G c → X
+part_has X F G f j listing h = unlisted_has X G j h
+part_has X F G f j closing h = f closing h
+part_has X F G f j assigning h = f assigning h
+part_has X F G f j going h = f going h
+part_has X F G f j repeating h = f repeating h
+part_has X F G f j operating h = f operating h
+
+at_closing_has : (X Y : Type 0) → (Y → X) → (c : Next) → AtClosing Y c → X
+at_closing_has X Y f closing h = f h
+at_closing_has X Y f _ h = absurd h
+
+answered_has : (P : ℕ → ℕ → Type 0) (ds : Declarations) (G : Form → ℕ → ℕ → Next → Type 0) (H : ℕ → ℕ → Type 0) (a b : ℕ) → ((f : Form) → (f ≡ Label → ⊥) → NoLess P ds (G f) (a + 1) (b + 1)) → ((d n : ℕ) → a + 1 ≤ d → b + 1 ≤ n → H d n → Has P ds)
+    → NoLess P ds (Answered G H) a b
+answered_has P ds G H a b f j d n p q going h = f Call (λ e. cc) (d + 2) (n + 2) (omega (arith, p)) (omega (arith, q)) h.0 h.1
+answered_has P ds G H a b f j d n p q operating h = j (d + 1) (n + 1) (omega (arith, p)) (omega (arith, q)) h
+answered_has P ds G H a b f j d n p q repeating h = absurd h
+answered_has P ds G H a b f j d n p q closing h = f Callable (λ e. cc) (d + 1) (n + 1) (omega (arith, p)) (omega (arith, q)) closing h
+answered_has P ds G H a b f j d n p q assigning h = f Callable (λ e. cc) (d + 1) (n + 1) (omega (arith, p)) (omega (arith, q)) assigning h
+answered_has P ds G H a b f j d n p q listing h = f Callable (λ e. cc) (d + 1) (n + 1) (omega (arith, p)) (omega (arith, q)) listing h
+
+taken_has : (b : Bool) (X Y Z : Type 0) → (Y → X) → (Z → X) → Taken b Y Z → X
+taken_has true X Y Z f j h = f h
+taken_has false X Y Z f j h = j h
+
+-- the last value is complete
+values_have : (P : ℕ → ℕ → Type 0) (ds : Declarations) (F : ℕ → ℕ → Next → Type 0) (a b : ℕ) (X : Next → Type 0) (last : Bool) → last ≡ true → NoLess P ds F a b → (d n : ℕ) → a ≤ d → b ≤ n → (c : Next) → If last (Closed F d n) X c → Has P ds
+values_have P ds F a b X true is f d n p q c h = closed_has P ds F a b f d n p q c h
+values_have P ds F a b X false is f d n p q c h = absurd cc
+
+starts_have : (X Y : Type 0) (Z : Next → Type 0) (last : Bool) → last ≡ true → (Y → X) → (c : Next) → If last (AtClosing Y) Z c → X
+starts_have X Y Z true is f c h = at_closing_has X Y f c h
+starts_have X Y Z false is f c h = absurd cc
+
+-- ---- by the stack
+
+-- a name is no call
+abbrev Apart : Form → Expression → Type 0
+Apart Label (apply m s x es) = ⊥
+Apart _ _ = Unit {0}
+
+no_label : (f : Form) (m s : ℕ) (x : Expression) (es : Expressions) → Apart f (apply m s x es) → f ≡ Label → ⊥
+no_label Label m s x es a h = a
+no_label _ m s x es a h = cc
+
+not_call : (f : Form) (m : ℕ) (y : Action) → Apart f (valof m y)
+not_call Label m y = tt
+not_call _ m y = tt
+
+-- a definition is complete
+defines : (P : ℕ → ℕ → Type 0) → Down P → (st : Stack) (y : Definition) (l : ℕ) (x : List ℕ) (ds : Declarations) → Ended (defined_by st y l x k.Semicolon) ds
+    → (d n : ℕ) → depth_of_definition y ≤ d → nodes_of_definition y ≤ n → Defines P st d n → Has P ds
+defines P w (in_let m es (in_section gs)) y l x ds h d n p q i =
+    let whole = definitions m (definitions_then es (define y no_definitions)) in
+    let same : declarations_then gs (declare whole no_declarations) ≡ ds = section_is _ _ h in
+    let a = declarations_depth gs whole in
+    let b = declarations_nodes gs whole in
+    let e = definitions_depth es y in
+    let f = definitions_nodes es y in
+    subst (Has P) same (w _ (max (depth_of_declarations gs) (max (depth_of_definitions es) d)) _ (nodes_of_declarations gs + (nodes_of_definitions es + n)) (omega (arith, a, e, p)) (omega (arith, b, f, q)) i)
+defines P w (in_let m es (in_block b free fs cs st)) y l x ds h d n p q i = absurd cc
+defines P w (in_let m es _) y l x ds h d n p q i = absurd cc
+defines P w _ y l x ds h d n p q i = absurd cc
+
+mutual
+  -- an expression is complete
+  gives : (P : ℕ → ℕ → Type 0) → Down P → (st : Stack) (f : Form) (e : Expression) (l : ℕ) (x : List ℕ) (ds : Declarations) → Ended (give st e l x k.Semicolon) ds → Apart f e → NoLess P ds (Gives P st f) (depth e) (nodes e)
+  gives P w (in_unary m o st) f e l x ds h a d n p q c i = gives P w st Other (unary m o e) l x ds h tt (d + 1) (n + 1) (omega (arith, p)) (omega (arith, q)) c i
+  gives P w (in_binary o s y st) f e l x ds h a d n p q c i = gives P w st Other (binary (line_of y) o s y e) l x ds h tt (max (depth y) d + 1) (nodes y + n + 1) (omega (arith, p)) (omega (arith, q)) c i
+  gives P w (in_chain o s y z st) f e l x ds h a d n p q c i =
+      gives P w st Other (binary (line_of y) Both s y (binary (line_of z) o s z e)) l x ds h tt (max (depth y) (max (depth z) d + 1) + 1) (nodes y + (nodes z + n + 1) + 1) (omega (arith, p)) (omega (arith, q)) c i
+  gives P w (in_else s y z st) f e l x ds h a d n p q c i = gives P w st Other (choice (line_of y) s y z e) l x ds h tt (max (depth y) (max (depth z) d) + 1) (nodes y + nodes z + n + 1) (omega (arith, p)) (omega (arith, q)) c i
+  gives P w (in_table m es st) f e l x ds h a d n p q c i =
+      let u = each_depth es e in
+      let v = each_nodes es e in
+      part_has (Has P ds) _ _
+      (gives P w st Other (table m (each_then es (more e none))) l x ds h tt (max (depth_of_each es) d + 1) (nodes_of_each es + n + 1) (omega (arith, p, u)) (omega (arith, q, v)))
+      (gives P w st Other (table m (each_then es (more e none))) l x ds h tt (max (depth_of_each es) (max d 1) + 1) (nodes_of_each es + n + 2) (omega (arith, p, u)) (omega (arith, q, v))) c i
+  gives P w (in_start st) f (apply m s y es) l x ds h a d n p q c i =
+      started_has P ds (Does P st) (depth (apply m s y es)) (nodes (apply m s y es)) (finishes P w st (call m y es) l x ds h) f (no_label f m s y es a) d n p q c i
+  gives P w (in_start st) f _ l x ds h a d n p q c i = absurd cc
+  gives P w (in_values xs ys st) f e l x ds h a d n p q c i =
+      let z = counted_is (size xs == size ys + 1) (finish st (assign (line_of_first xs) xs (each_then ys (more e none))) l x k.Semicolon) (want (in_values xs (each_then ys (more e none)) st)) ds h in
+      let u = each_depth ys e in
+      let v = each_nodes ys e in
+      values_have P ds (Does P st) _ _ _ (size xs == size ys + 1) z.0 (finishes P w st (assign (line_of_first xs) xs (each_then ys (more e none))) l x ds z.1)
+      (max (depth_of_each xs) (max (depth_of_each ys) d) + 1) (nodes_of_each xs + (nodes_of_each ys + n) + 1) (omega (arith, p, u)) (omega (arith, q, v)) c i
+  gives P w (in_guard g.SwitchOn m st) f e l x ds h a d n p q c i = absurd cc
+  gives P w (in_guard g.Case m st) f e l x ds h a d n p q c i = absurd cc
+  gives P w (in_guard _ m st) f e l x ds h a d n p q c i = absurd cc
+  gives P w (in_result m st) f e l x ds h a d n p q c i = closed_has P ds (Does P st) _ _ (finishes P w st (result m e) l x ds h) (d + 1) (n + 1) (omega (arith, p)) (omega (arith, q)) c i
+  gives P w (in_while b y st) f e l x ds h a d n p q c i =
+      closed_has P ds (Does P st) _ _ (finishes P w st (repeat_while (line_of_action y) b y e) l x ds h) (max (depth_of_action y) d + 1) (nodes_of_action y + n + 1) (omega (arith, p)) (omega (arith, q)) c i
+  gives P w (in_function m fs st) f e l x ds h a d n p q c i = at_closing_has (Has P ds) _ (defines P w st (function m.line m.letters fs e) l x ds h (d + 1) (n + 1) (omega (arith, p)) (omega (arith, q))) c i
+  gives P w (in_value ns is st) f e l x ds h a d n p q c i =
+      let z = counted_is (length ns == start_count is + 1) (defined_by st (variables (line_of_names ns) ns (starts_then is (value e no_starts))) l x k.Semicolon) (due (at_starts ns (starts_then is (value e no_starts)) st)) ds h in
+      let u = starts_depth is (value e no_starts) in
+      let v = starts_nodes is (value e no_starts) in
+      starts_have (Has P ds) _ _ (length ns == start_count is + 1) z.0
+      (defines P w st (variables (line_of_names ns) ns (starts_then is (value e no_starts))) l x ds z.1 (max (depth_of_starts is) d + 1) (nodes_of_starts is + n + 1) (omega (arith, p, u)) (omega (arith, q, v))) c i
+  gives P w (in_vector m ns is st) f e l x ds h a d n p q c i =
+      let z = counted_is (length ns == start_count is + 1) (defined_by st (variables (line_of_names ns) ns (starts_then is (vector m e no_starts))) l x k.Semicolon) (due (at_starts ns (starts_then is (vector m e no_starts)) st)) ds h in
+      let u = starts_depth is (vector m e no_starts) in
+      let v = starts_nodes is (vector m e no_starts) in
+      starts_have (Has P ds) _ _ (length ns == start_count is + 1) z.0
+      (defines P w st (variables (line_of_names ns) ns (starts_then is (vector m e no_starts))) l x ds z.1 (max (depth_of_starts is) d + 1) (nodes_of_starts is + n + 1) (omega (arith, p, u)) (omega (arith, q, v))) c i
+  gives P w _ f e l x ds h a d n p q c i = absurd cc
+
+  -- a command is complete
+  finishes : (P : ℕ → ℕ → Type 0) → Down P → (st : Stack) (y : Action) (l : ℕ) (x : List ℕ) (ds : Declarations) → Ended (finish st y l x k.Semicolon) ds → NoLess P ds (Does P st) (depth_of_action y) (nodes_of_action y)
+  finishes P w (in_valof m st) y l x ds h d n p q c i =
+      answered_has P ds (Gives P st) (Operates P st (Gives P st)) (depth_of_action y) (nodes_of_action y) (λ f other. gives P w st f (valof m y) l x ds h (not_call f m y))
+      (operates P w st (valof m y) l x ds h (gives P w st Other (valof m y) l x ds h tt)) d n p q c i
+  finishes P w (in_label m z st) y l x ds h d n p q c i = finishes P w st (label m z y) l x ds h (d + 1) (n + 1) (omega (arith, p)) (omega (arith, q)) c i
+  finishes P w (in_guarded gd m e st) y l x ds h d n p q c i =
+      let u = guarded_depth gd m e y in
+      let v = guarded_nodes gd m e y in
+      finishes P w st (guarded gd m e y) l x ds h (max (depth e) d + 1) (nodes e + n + 1) (omega (arith, p, u)) (omega (arith, q, v)) c i
+  finishes P w (in_default m st) y l x ds h d n p q c i = finishes P w st (default m y) l x ds h (d + 1) (n + 1) (omega (arith, p)) (omega (arith, q)) c i
+  finishes P w (in_or m e a st) y l x ds h d n p q c i = finishes P w st (test m e a y) l x ds h (max (depth e) (max (depth_of_action a) d) + 1) (nodes e + nodes_of_action a + n + 1) (omega (arith, p)) (omega (arith, q)) c i
+  finishes P w (in_for m z a b t st) y l x ds h d n p q c i =
+      finishes P w st (for_loop m z a b t y) l x ds h (max (depth a) (max (depth b) (max (depth_of_each t) d)) + 1) (nodes a + nodes b + nodes_of_each t + n + 1) (omega (arith, p)) (omega (arith, q)) c i
+  finishes P w (in_routine m fs st) y l x ds h d n p q c i = at_closing_has (Has P ds) _ (defines P w st (routine m.line m.letters fs y) l x ds h (d + 1) (n + 1) (omega (arith, p)) (omega (arith, q))) c i
+  finishes P w _ y l x ds h d n p q c i = absurd cc
+
+  -- an operator comes behind an expression that is complete
+  operates : (P : ℕ → ℕ → Type 0) → Down P → (st : Stack) (e : Expression) (l : ℕ) (x : List ℕ) (ds : Declarations) → Ended (give st e l x k.Semicolon) ds → NoLess P ds (Gives P st Other) (depth e) (nodes e)
+      → (d n : ℕ) → depth e ≤ d → nodes e ≤ n → Operates P st (Gives P st) d n → Has P ds
+  operates P w (in_binary o s y st) e l x ds h f d n p q i =
+      taken_has (nat_lt 1 (inner o)) (Has P ds) _ _ (λ j. f (d + 1) (n + 2) (omega (arith, p)) (omega (arith, q)) j.0 j.1)
+      (operates P w st (binary (line_of y) o s y e) l x ds h (gives P w st Other (binary (line_of y) o s y e) l x ds h tt) (max (depth y) d + 1) (nodes y + n + 1) (omega (arith, p)) (omega (arith, q))) i
+  operates P w _ e l x ds h f d n p q i = f (d + 1) (n + 2) (omega (arith, p)) (omega (arith, q)) i.0 i.1
+
+inside_not : (b : Bool) (ds : Declarations) → Ended (cond b None None) ds → ⊥
+inside_not true ds h = cc
+inside_not false ds h = cc
+
+form_apart : (e : Expression) → Apart (form_of e) e
+form_apart (name l x) = tt
+form_apart (number l n) = tt
+form_apart (text l x) = tt
+form_apart (truth l b) = tt
+form_apart (query l) = tt
+form_apart (parens l e) = tt
+form_apart (valof l c) = tt
+form_apart _ = tt
+
+whole_has : (P : ℕ → ℕ → Type 0) (ds : Declarations) (F : Form → ℕ → ℕ → Next → Type 0) (f : Form) (a b : ℕ) → NoLess P ds (F f) a b → NoLess P ds (F Call) a b → Whole F f a b → Has P ds
+whole_has P ds F f a b i j (inl h) = i a b (omega arith) (omega arith) h.0 h.1
+whole_has P ds F f a b i j (inr h) = j (a + 1) (b + 1) (omega arith) (omega arith) h.0 h.1
+
+missed : (P : ℕ → ℕ → Type 0) (ds : Declarations) (F : ℕ → ℕ → Next → Type 0) (G : ℕ → ℕ → Next → Type 0) (a b : ℕ) → NoLess P ds F a b → Any (Missing F a b) → Has P ds
+missed P ds F G a b f h = missing_has P ds F a b f a b (omega arith) (omega arith) h.0 h.1
+
+-- the section is whole behind a semicolon
+pub ends : (P : ℕ → ℕ → Type 0) → Down P → (x : State) (ds : Declarations) → Ended (stepped_by x 1 [] k.Semicolon) ds → Completes P x → Has P ds
+ends P w (have st e) ds h i = whole_has P ds (Gives P st) (form_of e) (depth e) (nodes e) (gives P w st (form_of e) e 1 [] ds h (form_apart e)) (gives P w st Call e 1 [] ds h tt) i
+ends P w (did st c) ds h i = finishes P w st c 1 [] ds h (depth_of_action c) (nodes_of_action c) (omega arith) (omega arith) i.0 i.1
+ends P w (due (in_section gs)) ds h i =
+    subst (Has P) (section_is gs ds h) (w _ (max (depth_of_declarations gs) 0) _ (nodes_of_declarations gs + 0) (omega arith) (omega arith) i)
+ends P w (due (at_name n st)) ds h i = absurd (inside_not (inside st) ds h)
+ends P w (due (at_items m s no_items st)) ds h i = absurd cc
+ends P w (due (at_items m s (item b y e is) st)) ds h i = absurd cc
+ends P w (due _) ds h i = absurd cc
+ends P w (maybe (in_label m n st)) ds h (inl i) = missed P ds (Does P st) (Does P st) 1 1 (finishes P w st (label m n empty) 1 [] ds h) i
+ends P w (maybe (in_label m n st)) ds h (inr i) = finishes P w st (label m n empty) 1 [] ds h 2 2 (omega arith) (omega arith) i.0 i.1
+ends P w (maybe (in_guarded gd m e st)) ds h (inl i) =
+    let u = guarded_depth gd m e empty in
+    let v = guarded_nodes gd m e empty in
+    missing_has P ds (Does P st) _ _ (finishes P w st (guarded gd m e empty) 1 [] ds h) (depth e + 1) (nodes e + 1) (omega (arith, u)) (omega (arith, v)) i.0 i.1
+ends P w (maybe (in_guarded gd m e st)) ds h (inr i) =
+    let u = guarded_depth gd m e empty in
+    let v = guarded_nodes gd m e empty in
+    finishes P w st (guarded gd m e empty) 1 [] ds h (max (depth e) 1 + 1) (nodes e + 1 + 1) (omega (arith, u)) (omega (arith, v)) i.0 i.1
+ends P w (maybe (in_default m st)) ds h (inl i) = missed P ds (Does P st) (Does P st) 1 1 (finishes P w st (default m empty) 1 [] ds h) i
+ends P w (maybe (in_default m st)) ds h (inr i) = finishes P w st (default m empty) 1 [] ds h 2 2 (omega arith) (omega arith) i.0 i.1
+ends P w (maybe _) ds h i = absurd cc
+ends P w _ ds h i = absurd cc

@@ -1,0 +1,32 @@
+-- The section at the end is within the limits, and so is the empty one.
+use Rattle.std.proofs.Common.{◌≡◌, List, [], Some, sym, subst, ap, ◌∙◌, Result, Ok, Err, arith}
+use Rattle.std.specs.Prelude.{IfOk}
+use Rattle.bk_base.specs.declared.limit.TheConstants.{TREE_DEPTH, TREE_NODES}
+use Rattle.bk_base.specs.declared.source_fault.SourceFault.{SourceFault}
+use Rattle.bk_base.specs.declared.refused.Refused.{Refused}
+use Rattle.bk_lex.specs.declared.token.Kind.TheVariants as k
+use Rattle.bk_tree.specs.declared.section.Section.{Section}
+use Rattle.bk_frames.specs.declared.frame.Frame.{Frame}
+use Rattle.bk_tree.specs.declared.tree.Decl.{Decl}
+use Rattle.bk_tree.specs.Tree.{Declarations, no_declarations}
+use Rattle.bk_tree.specs.Limits.{Within}
+use Rattle.bk_grammar.specs.Machine.{Stack, State, due, in_section, stepped_by}
+use Rattle.bk_frames.specs.Stacked.{stack}
+use Rattle.bk_frames.specs.Bounds.{AtMost, Bounded}
+use Rattle.bk_tree.specs.Section.{declarations_of}
+use Rattle.bk_frames.proofs.Stacks.{stack_none}
+use Rattle.bk_frames.proofs.Lowering.{at_most_down}
+use Rattle.bk_frames.proofs.Ended.{ends}
+
+pub ends_within : (x : State) (ds : Declarations) → Bounded x → stepped_by x 1 [] k.Semicolon ≡ Some (due (in_section ds)) → Within ds
+ends_within x ds b h = ends (AtMost TREE_DEPTH TREE_NODES) (at_most_down TREE_DEPTH TREE_NODES) x ds h b
+
+pub empty_bounded : (ds : List Decl) (xs : List Frame) → ds ≡ [] → xs ≡ [] → Bounded (due (stack ds xs))
+empty_bounded ds xs no_decls nothing =
+    let at : stack ds xs ≡ in_section no_declarations = ap (λ z. stack z xs) no_decls ∙ ap (stack []) nothing ∙ stack_none [] in
+    let P : Stack → Type 0 = λ z. Bounded (due z) in
+    subst P (sym at) (omega arith, omega arith)
+
+pub within_limits : (r : Result Section (Refused SourceFault)) → IfOk r (λ x. Within (declarations_of x))
+within_limits (Ok x) = x.within
+within_limits (Err e) = tt

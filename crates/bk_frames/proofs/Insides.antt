@@ -1,0 +1,105 @@
+-- Whether a LET stands in a block, by the two frames on top.
+use Rattle.std.proofs.Common.{◌≡◌, ℕ, ◌+◌, ◌-◌, ◌<◌, ◌≤◌, false, cond, None, List, [], ◌∷◌, length, get_or, take, refl, sym, ap, ◌∙◌, arith}
+use Rattle.std.proofs.Math.Seq.{take-length}
+use Rattle.bk_frames.specs.declared.frame.Operand.TheVariants as o
+use Rattle.bk_frames.specs.declared.frame.Phrase.TheVariants as p
+use Rattle.bk_frames.specs.declared.frame.Member.TheVariants as m
+use Rattle.bk_frames.specs.declared.frame.Clause.TheVariants as c
+use Rattle.bk_frames.specs.declared.frame.Place.TheVariants as a
+use Rattle.bk_frames.specs.declared.frame.Point.TheVariants as t
+use Rattle.bk_frames.specs.declared.frame.Begun.{Begun}
+use Rattle.bk_frames.specs.declared.frame.Begun.TheVariants as b
+use Rattle.bk_frames.specs.declared.frame.Frame.{Frame}
+use Rattle.bk_tree.specs.declared.tree.Decl.{Decl}
+use Rattle.bk_lex.specs.declared.token.Kind.{Kind}
+use Rattle.bk_tree.specs.Tree.{Declarations, Expression, declarations_in}
+use Rattle.bk_grammar.specs.Rows.{goes}
+use Rattle.bk_frames.specs.declared.frame.Phrase.{Phrase}
+use Rattle.bk_frames.specs.declared.frame.Member.{Member}
+use Rattle.bk_frames.specs.declared.frame.Clause.{Clause}
+use Rattle.bk_frames.specs.declared.frame.Place.{Place}
+use Rattle.bk_frames.specs.declared.frame.Point.{Point}
+use Rattle.bk_grammar.specs.Machine.{Stack, in_section, inside, limit, give}
+use Rattle.bk_frames.specs.Begun.{begun_on, phrase_on, member_on, clause_on, place_on, point_on}
+use Rattle.bk_frames.specs.Stacked.{stack}
+use Rattle.bk_frames.specs.Frames.{is_let_begun, is_block_begun}
+use Rattle.bk_frames.proofs.Stacks.{stack_take}
+
+inside_one : (x : Begun) (ds : Declarations) → inside (begun_on x (in_section ds)) ≡ false
+inside_one (b.Operand (o.Parens l)) ds = refl
+inside_one (b.Operand _) ds = refl
+inside_one (b.Phrase p.Start) ds = refl
+inside_one (b.Phrase _) ds = refl
+inside_one (b.Member (m.Function n fs)) ds = refl
+inside_one (b.Member _) ds = refl
+inside_one (b.Clause (c.Valof l)) ds = refl
+inside_one (b.Clause _) ds = refl
+inside_one (b.Place (a.Let l xs)) ds = refl
+inside_one (b.Place _) ds = refl
+inside_one (b.Point (t.Goto l)) ds = refl
+inside_one (b.Point _) ds = refl
+
+pub inside_short : (ds : List Decl) (xs : List Frame) → length xs < 2 → inside (stack ds xs) ≡ false
+unfolding stack
+inside_short ds [] h = refl
+inside_short ds (x ∷ []) h = inside_one x.begun (declarations_in ds)
+inside_short ds (x ∷ (y ∷ xs)) h = absurd (omega arith)
+
+let_in : (y : Begun) (l : ℕ) (xs : _) (st : Stack) → inside (begun_on (b.Place (a.Let l xs)) (begun_on y st)) ≡ is_block_begun y
+let_in (b.Operand (o.Parens l)) m xs st = refl
+let_in (b.Operand _) m xs st = refl
+let_in (b.Phrase p.Start) m xs st = refl
+let_in (b.Phrase _) m xs st = refl
+let_in (b.Member (m.Function n fs)) l xs st = refl
+let_in (b.Member _) l xs st = refl
+let_in (b.Clause (c.Valof l)) m xs st = refl
+let_in (b.Clause _) m xs st = refl
+let_in (b.Place (a.Block l q ds cs)) m xs st = refl
+let_in (b.Place _) m xs st = refl
+let_in (b.Point (t.Goto l)) m xs st = refl
+let_in (b.Point _) m xs st = refl
+
+inside_two : (x y : Begun) (st : Stack) → inside (begun_on x (begun_on y st)) ≡ cond (is_let_begun x) (is_block_begun y) false
+inside_two (b.Operand (o.Parens l)) y st = refl
+inside_two (b.Operand _) y st = refl
+inside_two (b.Phrase p.Start) y st = refl
+inside_two (b.Phrase _) y st = refl
+inside_two (b.Member (m.Function n fs)) y st = refl
+inside_two (b.Member _) y st = refl
+inside_two (b.Clause (c.Valof l)) y st = refl
+inside_two (b.Clause _) y st = refl
+inside_two (b.Place (a.Let l xs)) y st = let_in y l xs st
+inside_two (b.Place _) y st = refl
+inside_two (b.Point (t.Goto l)) y st = refl
+inside_two (b.Point _) y st = refl
+
+pub inside_at : (ds : List Decl) (xs : List Frame) (n : ℕ) (x y : Frame) → n ≡ length xs → 2 ≤ n → x ≡ get_or xs (n - 1) x → y ≡ get_or xs (n - 2) y → inside (stack ds xs) ≡ cond (is_let_begun x.begun) (is_block_begun y.begun) false
+inside_at ds xs n x y is two at_x at_y =
+    let one : n - 1 + 1 ≡ length xs = omega arith in
+    let back : n - 2 + 1 ≡ n - 1 = omega arith in
+    let first = stack_take ds xs (n - 1) x (omega arith) at_x in
+    let second = stack_take ds xs (n - 2) y (omega arith) at_y in
+    ap (λ zs. inside (stack ds zs)) (sym (take-length xs)) ∙ ap (λ k. inside (stack ds (take k xs))) (sym one) ∙ ap inside first
+    ∙ ap (λ k. inside (begun_on x.begun (stack ds (take k xs)))) (sym back) ∙ ap (λ st. inside (begun_on x.begun st)) second
+    ∙ inside_two x.begun y.begun (stack ds (take (n - 2) xs))
+
+pub limit_phrase : (x : Phrase) (st : Stack) → limit (phrase_on x st) ≡ 12
+limit_phrase p.Start st = refl
+limit_phrase _ st = refl
+
+pub limit_member : (x : Member) (st : Stack) → limit (member_on x st) ≡ 12
+limit_member (m.Function n fs) st = refl
+limit_member _ st = refl
+
+-- no expression of these is read
+pub clause_takes_none : (y : Clause) (st : Stack) (e : Expression) (l : ℕ) (x : List ℕ) (t : Kind) → goes (limit (clause_on y st)) t ≡ false → give (clause_on y st) e l x t ≡ None
+clause_takes_none (c.Valof m) st e l x t h = rw h refl
+clause_takes_none _ st e l x t h = rw h refl
+
+pub place_takes_none : (y : Place) (st : Stack) (e : Expression) (l : ℕ) (x : List ℕ) (t : Kind) → goes (limit (place_on y st)) t ≡ false → give (place_on y st) e l x t ≡ None
+place_takes_none (a.Let m xs) st e l x t h = rw h refl
+place_takes_none _ st e l x t h = rw h refl
+
+pub point_takes_none : (y : Point) (st : Stack) (e : Expression) (l : ℕ) (x : List ℕ) (t : Kind) → goes (limit (point_on y st)) t ≡ false → give (point_on y st) e l x t ≡ None
+point_takes_none (t.Goto m) st e l x k h = rw h refl
+point_takes_none _ st e l x k h = rw h refl

@@ -1,0 +1,17 @@
+pub mod Stacks
+pub mod Turns
+pub mod Insides
+pub mod Possible
+pub mod Ended
+pub mod Sizes
+pub mod Finished
+pub mod Lowering
+pub mod Covering
+pub mod Links
+pub mod Joints
+pub mod Phrases
+pub mod Clauses
+pub mod Decides
+pub mod Roomy
+pub mod Below
+pub mod Asks

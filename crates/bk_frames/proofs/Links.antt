@@ -1,0 +1,359 @@
+-- What the links of ways come to.
+use Rattle.std.proofs.Common.{◌≡◌, ◌⊎◌, ◌↔◌, inl, inr, ℕ, ◌+◌, Bool, true, false, ◌&&◌, ◌||◌, Option, Some, None, refl, sym, subst, arith}
+use Rattle.bk_frames.specs.declared.room.Next.{Next}
+use Rattle.bk_frames.specs.declared.room.Next.TheVariants.{Closing, Assigning, Listing, Going, Repeating, Operating}
+use Rattle.bk_frames.specs.declared.way.Link.{Link}
+use Rattle.bk_frames.specs.declared.way.Link.TheVariants as l
+use Rattle.bk_frames.specs.declared.way.Met.{Met}
+use Rattle.bk_frames.specs.Rooms.{next_of, is_next, some_next, led_met, led_by, reached, raised}
+use Rattle.bk_frames.specs.WaysOn as w
+use Rattle.bk_frames.specs.WaysOn.{Any, AtClosing, AtListing, AtArgument, AtAssignment, AtPart, Unlisted, If, Closed, Missing, Started, Answered, Whole, Taken}
+use Rattle.bk_frames.proofs.Lowering.{Falls}
+
+-- ---- tests
+
+pub both : {a b : Bool} → a ≡ true → b ≡ true → a && b ≡ true
+both {a = true} {b = true} p q = refl
+both {a = false} p q = p
+both {a = true} {b = false} p q = q
+
+pub first : (a b : Bool) → a && b ≡ true → a ≡ true
+first true b p = refl
+first false b p = p
+
+pub second : (a b : Bool) → a && b ≡ true → b ≡ true
+second true b p = p
+second false b p = absurd cc
+
+pub left : (a b : Bool) → a ≡ true → a || b ≡ true
+left true b p = refl
+left false b p = absurd cc
+
+pub right : (a b : Bool) → b ≡ true → a || b ≡ true
+right true b p = refl
+right false b p = p
+
+pub either_of : (a b : Bool) → a || b ≡ true → (a ≡ true) ⊎ (b ≡ true)
+either_of true b p = inl refl
+either_of false b p = inr p
+
+pub next_in : (c : w.Next) → is_next c c ≡ true
+next_in w.closing = refl
+next_in w.assigning = refl
+next_in w.listing = refl
+next_in w.going = refl
+next_in w.repeating = refl
+next_in w.operating = refl
+
+pub next_is : (a c : w.Next) → is_next a c ≡ true → a ≡ c
+next_is w.closing w.closing p = refl
+next_is w.assigning w.assigning p = refl
+next_is w.listing w.listing p = refl
+next_is w.going w.going p = refl
+next_is w.repeating w.repeating p = refl
+next_is w.operating w.operating p = refl
+next_is _ _ p = absurd cc
+
+-- ---- some symbol
+
+abbrev next_5 : (Next → Bool) → Bool
+next_5 f = f Repeating || f Operating
+
+abbrev next_4 : (Next → Bool) → Bool
+next_4 f = f Going || next_5 f
+
+abbrev next_3 : (Next → Bool) → Bool
+next_3 f = f Listing || next_4 f
+
+abbrev next_2 : (Next → Bool) → Bool
+next_2 f = f Assigning || next_3 f
+
+pub some_in : (f : Next → Bool) (k : Next) → f k ≡ true → some_next f ≡ true
+some_in f Closing p = left (f Closing) (next_2 f) p
+some_in f Assigning p = right (f Closing) (next_2 f) (left (f Assigning) (next_3 f) p)
+some_in f Listing p = right (f Closing) (next_2 f) (right (f Assigning) (next_3 f) (left (f Listing) (next_4 f) p))
+some_in f Going p = right (f Closing) (next_2 f) (right (f Assigning) (next_3 f) (right (f Listing) (next_4 f) (left (f Going) (next_5 f) p)))
+some_in f Repeating p = right (f Closing) (next_2 f) (right (f Assigning) (next_3 f) (right (f Listing) (next_4 f) (right (f Going) (next_5 f) (left (f Repeating) (f Operating) p))))
+some_in f Operating p = right (f Closing) (next_2 f) (right (f Assigning) (next_3 f) (right (f Listing) (next_4 f) (right (f Going) (next_5 f) (right (f Repeating) (f Operating) p))))
+
+abbrev Sum : (Next → Bool) → Type 0
+Sum f = (k : Next) × (f k ≡ true)
+
+sum_5 : (f : Next → Bool) → (f Repeating ≡ true) ⊎ (f Operating ≡ true) → Sum f
+sum_5 f (inl p) = (Repeating, p)
+sum_5 f (inr p) = (Operating, p)
+
+sum_4 : (f : Next → Bool) → (f Going ≡ true) ⊎ (f Repeating || f Operating ≡ true) → Sum f
+sum_4 f (inl p) = (Going, p)
+sum_4 f (inr p) = sum_5 f (either_of _ _ p)
+
+sum_3 : (f : Next → Bool) → (f Listing ≡ true) ⊎ (f Going || (f Repeating || f Operating) ≡ true) → Sum f
+sum_3 f (inl p) = (Listing, p)
+sum_3 f (inr p) = sum_4 f (either_of _ _ p)
+
+sum_2 : (f : Next → Bool) → (f Assigning ≡ true) ⊎ (f Listing || (f Going || (f Repeating || f Operating)) ≡ true) → Sum f
+sum_2 f (inl p) = (Assigning, p)
+sum_2 f (inr p) = sum_3 f (either_of _ _ p)
+
+sum_1 : (f : Next → Bool) → (f Closing ≡ true) ⊎ (f Assigning || (f Listing || (f Going || (f Repeating || f Operating))) ≡ true) → Sum f
+sum_1 f (inl p) = (Closing, p)
+sum_1 f (inr p) = sum_2 f (either_of _ _ p)
+
+pub some_of : (f : Next → Bool) → some_next f ≡ true → Sum f
+some_of f p = sum_1 f (either_of _ _ p)
+
+abbrev pub from : w.Next → Next
+from w.closing = Closing
+from w.assigning = Assigning
+from w.listing = Listing
+from w.going = Going
+from w.repeating = Repeating
+from w.operating = Operating
+
+pub from_is : (c : w.Next) → next_of (from c) ≡ c
+from_is w.closing = refl
+from_is w.assigning = refl
+from_is w.listing = refl
+from_is w.going = refl
+from_is w.repeating = refl
+from_is w.operating = refl
+
+-- ---- where a symbol comes
+
+abbrev pub At : w.Next → Type 0 → w.Next → Type 0
+At w.closing X c = AtClosing X c
+At w.listing X c = AtListing X c
+At k X c = (k ≡ c) × X
+
+pub at_in : {X : Type 0} → (k c : w.Next) → k ≡ c → X → At k X c
+at_in {X = X} w.closing c e x = let P : w.Next → Type 0 = λ z. AtClosing X z in subst P e x
+at_in {X = X} w.listing c e x = let P : w.Next → Type 0 = λ z. AtListing X z in subst P e x
+at_in w.assigning c e x = (e, x)
+at_in w.going c e x = (e, x)
+at_in w.repeating c e x = (e, x)
+at_in w.operating c e x = (e, x)
+
+pub at_of : {X : Type 0} → (k c : w.Next) → At k X c → (k ≡ c) × X
+at_of w.closing w.closing x = (refl, x)
+at_of w.listing w.listing x = (refl, x)
+at_of w.closing w.assigning x = absurd x
+at_of w.closing w.listing x = absurd x
+at_of w.closing w.going x = absurd x
+at_of w.closing w.repeating x = absurd x
+at_of w.closing w.operating x = absurd x
+at_of w.listing w.closing x = absurd x
+at_of w.listing w.assigning x = absurd x
+at_of w.listing w.going x = absurd x
+at_of w.listing w.repeating x = absurd x
+at_of w.listing w.operating x = absurd x
+at_of w.assigning c x = x
+at_of w.going c x = x
+at_of w.repeating c x = x
+at_of w.operating c x = x
+
+abbrev pub Ended : (w.Next → Type 0) → w.Next → Type 0
+Ended F w.closing = F w.closing
+Ended F w.assigning = F w.assigning
+Ended F w.listing = F w.listing
+Ended F _ = ⊥
+
+-- ---- links
+
+-- the test decides it
+abbrev pub Decided : (ℕ → ℕ → w.Next → Type 0) → (w.Next → ℕ → ℕ → Bool) → Type 0
+Decided F t = (c : w.Next) (d n : ℕ) → F d n c ↔ (t c d n ≡ true)
+
+abbrev pub Led : Link → (ℕ → ℕ → w.Next → Type 0) → ℕ → ℕ → w.Next → Type 0
+Led l.Each F d n c = F d n c
+Led l.Unlisted F d n c = Unlisted (F d n) c
+Led l.Ended F d n c = Ended (F d n) c
+Led l.Closing F d n c = AtClosing (F d n w.closing) c
+Led (l.Then k) F d n c = At (next_of k) (Any (F d n)) c
+Led (l.ThenUnlisted k) F d n c = At (next_of k) (Any (Unlisted (F d n))) c
+Led (l.ThenClosed k) F d n c = At (next_of k) (Any (Closed F d n)) c
+Led (l.ThenMissing k) F d n c = At (next_of k) (Any (Missing F d n)) c
+
+-- by a symbol behind the whole
+abbrev Reaches : Option Met → (ℕ → ℕ → Type 0) → ℕ → ℕ → w.Next → Type 0
+Reaches None G d n c = ⊥
+Reaches (Some m) G d n c = (next_of m.next ≡ c) × G (raised m.more d) (raised m.more n)
+
+abbrev Reached : Link → (ℕ → ℕ → w.Next → Type 0) → ℕ → ℕ → w.Next → Type 0
+Reached k F d n c = (j : Next) × Reaches (reached k j) (λ e m. F e m (next_of j)) d n c
+
+met_in : (o : Option Met) (G : ℕ → ℕ → Type 0) (t : ℕ → ℕ → Bool) → ((d n : ℕ) → G d n ↔ (t d n ≡ true)) → (d n : ℕ) (c : w.Next) → Reaches o G d n c → led_met o t d n c ≡ true
+met_in None G t h d n c x = absurd x
+met_in (Some m) G t h d n c x = let P : w.Next → Type 0 = λ z. is_next (next_of m.next) z ≡ true in both ((h (raised m.more d) (raised m.more n)).0 x.1) (subst P x.0 (next_in (next_of m.next)))
+
+met_of : (o : Option Met) (G : ℕ → ℕ → Type 0) (t : ℕ → ℕ → Bool) → ((d n : ℕ) → G d n ↔ (t d n ≡ true)) → (d n : ℕ) (c : w.Next) → led_met o t d n c ≡ true → Reaches o G d n c
+met_of None G t h d n c x = absurd cc
+met_of (Some m) G t h d n c x = (next_is (next_of m.next) c (second _ _ x), (h (raised m.more d) (raised m.more n)).1 (first _ _ x))
+
+reached_in : (k : Link) (F : ℕ → ℕ → w.Next → Type 0) (t : w.Next → ℕ → ℕ → Bool) → Decided F t → (d n : ℕ) (c : w.Next) → Reached k F d n c → led_by k t d n c ≡ true
+reached_in k F t h d n c x = some_in (λ j. led_met (reached k j) (t (next_of j)) d n c) x.0 (met_in (reached k x.0) (λ e m. F e m (next_of x.0)) (t (next_of x.0)) (h (next_of x.0)) d n c x.1)
+
+reached_of : (k : Link) (F : ℕ → ℕ → w.Next → Type 0) (t : w.Next → ℕ → ℕ → Bool) → Decided F t → (d n : ℕ) (c : w.Next) → led_by k t d n c ≡ true → Reached k F d n c
+reached_of k F t h d n c x =
+    let s : Sum (λ j. led_met (reached k j) (t (next_of j)) d n c) = some_of (λ j. led_met (reached k j) (t (next_of j)) d n c) x in
+    (s.0, met_of (reached k s.0) (λ e m. F e m (next_of s.0)) (t (next_of s.0)) (h (next_of s.0)) d n c s.1)
+
+-- each link in the words of the ways on
+
+each_in : (F : ℕ → ℕ → w.Next → Type 0) (d n : ℕ) (c : w.Next) → F d n c → Reached l.Each F d n c
+each_in F d n w.closing x = (Closing, (refl, x))
+each_in F d n w.assigning x = (Assigning, (refl, x))
+each_in F d n w.listing x = (Listing, (refl, x))
+each_in F d n w.going x = (Going, (refl, x))
+each_in F d n w.repeating x = (Repeating, (refl, x))
+each_in F d n w.operating x = (Operating, (refl, x))
+
+moved : (G : w.Next → Type 0) (a c : w.Next) → a ≡ c → G a → G c
+moved G a c e x = subst G e x
+
+each_of : (F : ℕ → ℕ → w.Next → Type 0) (d n : ℕ) (c : w.Next) → Reached l.Each F d n c → F d n c
+each_of F d n c x = moved (F d n) (next_of x.0) c x.1.0 x.1.1
+
+unlisted_in : (F : ℕ → ℕ → w.Next → Type 0) (d n : ℕ) (c : w.Next) → Unlisted (F d n) c → Reached l.Unlisted F d n c
+unlisted_in F d n w.closing x = (Closing, (refl, x))
+unlisted_in F d n w.assigning x = (Assigning, (refl, x))
+unlisted_in F d n w.listing x = absurd x
+unlisted_in F d n w.going x = (Going, (refl, x))
+unlisted_in F d n w.repeating x = (Repeating, (refl, x))
+unlisted_in F d n w.operating x = (Operating, (refl, x))
+
+unlisted_of : (F : ℕ → ℕ → w.Next → Type 0) (d n : ℕ) (c : w.Next) → Reached l.Unlisted F d n c → Unlisted (F d n) c
+unlisted_of F d n c (Closing, x) = moved (Unlisted (F d n)) w.closing c x.0 x.1
+unlisted_of F d n c (Assigning, x) = moved (Unlisted (F d n)) w.assigning c x.0 x.1
+unlisted_of F d n c (Listing, x) = absurd x
+unlisted_of F d n c (Going, x) = moved (Unlisted (F d n)) w.going c x.0 x.1
+unlisted_of F d n c (Repeating, x) = moved (Unlisted (F d n)) w.repeating c x.0 x.1
+unlisted_of F d n c (Operating, x) = moved (Unlisted (F d n)) w.operating c x.0 x.1
+
+ended_in : (F : ℕ → ℕ → w.Next → Type 0) (d n : ℕ) (c : w.Next) → Ended (F d n) c → Reached l.Ended F d n c
+ended_in F d n w.closing x = (Closing, (refl, x))
+ended_in F d n w.assigning x = (Assigning, (refl, x))
+ended_in F d n w.listing x = (Listing, (refl, x))
+ended_in F d n w.going x = absurd x
+ended_in F d n w.repeating x = absurd x
+ended_in F d n w.operating x = absurd x
+
+ended_of : (F : ℕ → ℕ → w.Next → Type 0) (d n : ℕ) (c : w.Next) → Reached l.Ended F d n c → Ended (F d n) c
+ended_of F d n c (Closing, x) = moved (Ended (F d n)) w.closing c x.0 x.1
+ended_of F d n c (Assigning, x) = moved (Ended (F d n)) w.assigning c x.0 x.1
+ended_of F d n c (Listing, x) = moved (Ended (F d n)) w.listing c x.0 x.1
+ended_of F d n c (Going, x) = absurd x
+ended_of F d n c (Repeating, x) = absurd x
+ended_of F d n c (Operating, x) = absurd x
+
+closing_in : (F : ℕ → ℕ → w.Next → Type 0) (d n : ℕ) (c : w.Next) → AtClosing (F d n w.closing) c → Reached l.Closing F d n c
+closing_in F d n c x = let y : (w.closing ≡ c) × F d n w.closing = at_of w.closing c x in (Closing, y)
+
+closing_of : (F : ℕ → ℕ → w.Next → Type 0) (d n : ℕ) (c : w.Next) → Reached l.Closing F d n c → AtClosing (F d n w.closing) c
+closing_of F d n c (Closing, x) = at_in w.closing c x.0 x.1
+closing_of F d n c (Assigning, x) = absurd x
+closing_of F d n c (Listing, x) = absurd x
+closing_of F d n c (Going, x) = absurd x
+closing_of F d n c (Repeating, x) = absurd x
+closing_of F d n c (Operating, x) = absurd x
+
+then_in : (k : Next) (F : ℕ → ℕ → w.Next → Type 0) (d n : ℕ) (c : w.Next) → next_of k ≡ c → Any (F d n) → Reached (l.Then k) F d n c
+then_in k F d n c e x = (from x.0, (e, moved (F d n) x.0 (next_of (from x.0)) (sym (from_is x.0)) x.1))
+
+then_of : (k : Next) (F : ℕ → ℕ → w.Next → Type 0) (d n : ℕ) (c : w.Next) → Reached (l.Then k) F d n c → At (next_of k) (Any (F d n)) c
+then_of k F d n c x = at_in (next_of k) c x.1.0 (next_of x.0, x.1.1)
+
+then_unlisted_in : (k : Next) (F : ℕ → ℕ → w.Next → Type 0) (d n : ℕ) (c : w.Next) → next_of k ≡ c → Any (Unlisted (F d n)) → Reached (l.ThenUnlisted k) F d n c
+then_unlisted_in k F d n c e (w.closing, x) = (Closing, (e, x))
+then_unlisted_in k F d n c e (w.assigning, x) = (Assigning, (e, x))
+then_unlisted_in k F d n c e (w.listing, x) = absurd x
+then_unlisted_in k F d n c e (w.going, x) = (Going, (e, x))
+then_unlisted_in k F d n c e (w.repeating, x) = (Repeating, (e, x))
+then_unlisted_in k F d n c e (w.operating, x) = (Operating, (e, x))
+
+then_unlisted_of : (k : Next) (F : ℕ → ℕ → w.Next → Type 0) (d n : ℕ) (c : w.Next) → Reached (l.ThenUnlisted k) F d n c → At (next_of k) (Any (Unlisted (F d n))) c
+then_unlisted_of k F d n c (Closing, x) = at_in (next_of k) c x.0 (w.closing, x.1)
+then_unlisted_of k F d n c (Assigning, x) = at_in (next_of k) c x.0 (w.assigning, x.1)
+then_unlisted_of k F d n c (Listing, x) = absurd x
+then_unlisted_of k F d n c (Going, x) = at_in (next_of k) c x.0 (w.going, x.1)
+then_unlisted_of k F d n c (Repeating, x) = at_in (next_of k) c x.0 (w.repeating, x.1)
+then_unlisted_of k F d n c (Operating, x) = at_in (next_of k) c x.0 (w.operating, x.1)
+
+-- one command more around it is no better where none has to be
+one_more : (F : ℕ → ℕ → w.Next → Type 0) → Falls F → (k : Next) (d n : ℕ) (c : w.Next) → next_of k ≡ c → Any (F (d + 1) (n + 1)) → Reached (l.ThenClosed k) F d n c
+one_more F f k d n c e (w.closing, x) = (Closing, (e, f d (d + 1) n (n + 1) (omega arith) (omega arith) w.closing x))
+one_more F f k d n c e (w.assigning, x) = (Assigning, (e, f d (d + 1) n (n + 1) (omega arith) (omega arith) w.assigning x))
+one_more F f k d n c e (w.listing, x) = (Listing, (e, f d (d + 1) n (n + 1) (omega arith) (omega arith) w.listing x))
+one_more F f k d n c e (w.going, x) = (Going, (e, x))
+one_more F f k d n c e (w.repeating, x) = (Repeating, (e, x))
+one_more F f k d n c e (w.operating, x) = (Operating, (e, x))
+
+then_closed_in : (F : ℕ → ℕ → w.Next → Type 0) → Falls F → (k : Next) (d n : ℕ) (c : w.Next) → next_of k ≡ c → Any (Closed F d n) → Reached (l.ThenClosed k) F d n c
+then_closed_in F f k d n c e (w.closing, x) = (Closing, (e, x))
+then_closed_in F f k d n c e (w.assigning, x) = (Assigning, (e, x))
+then_closed_in F f k d n c e (w.listing, x) = (Listing, (e, x))
+then_closed_in F f k d n c e (w.going, x) = absurd x
+then_closed_in F f k d n c e (w.repeating, x) = one_more F f k d n c e x
+then_closed_in F f k d n c e (w.operating, x) = absurd x
+
+then_closed_of : (F : ℕ → ℕ → w.Next → Type 0) (k : Next) (d n : ℕ) (c : w.Next) → Reached (l.ThenClosed k) F d n c → At (next_of k) (Any (Closed F d n)) c
+then_closed_of F k d n c (Closing, x) = at_in (next_of k) c x.0 (w.closing, x.1)
+then_closed_of F k d n c (Assigning, x) = at_in (next_of k) c x.0 (w.assigning, x.1)
+then_closed_of F k d n c (Listing, x) = at_in (next_of k) c x.0 (w.listing, x.1)
+then_closed_of F k d n c (Going, x) = at_in (next_of k) c x.0 (w.repeating, (w.going, x.1))
+then_closed_of F k d n c (Repeating, x) = at_in (next_of k) c x.0 (w.repeating, (w.repeating, x.1))
+then_closed_of F k d n c (Operating, x) = at_in (next_of k) c x.0 (w.repeating, (w.operating, x.1))
+
+one_more_missing : (F : ℕ → ℕ → w.Next → Type 0) → Falls F → (k : Next) (d n : ℕ) (c : w.Next) → next_of k ≡ c → Any (F (d + 1) (n + 1)) → Reached (l.ThenMissing k) F d n c
+one_more_missing F f k d n c e (w.closing, x) = (Closing, (e, f d (d + 1) n (n + 1) (omega arith) (omega arith) w.closing x))
+one_more_missing F f k d n c e (w.assigning, x) = (Assigning, (e, f d (d + 1) n (n + 1) (omega arith) (omega arith) w.assigning x))
+one_more_missing F f k d n c e (w.listing, x) = (Listing, (e, f d (d + 1) n (n + 1) (omega arith) (omega arith) w.listing x))
+one_more_missing F f k d n c e (w.going, x) = (Going, (e, x))
+one_more_missing F f k d n c e (w.repeating, x) = (Repeating, (e, x))
+one_more_missing F f k d n c e (w.operating, x) = (Operating, (e, f d (d + 1) n (n + 1) (omega arith) (omega arith) w.operating x))
+
+then_missing_in : (F : ℕ → ℕ → w.Next → Type 0) → Falls F → (k : Next) (d n : ℕ) (c : w.Next) → next_of k ≡ c → Any (Missing F d n) → Reached (l.ThenMissing k) F d n c
+then_missing_in F f k d n c e (w.closing, x) = (Closing, (e, x))
+then_missing_in F f k d n c e (w.assigning, x) = (Assigning, (e, x))
+then_missing_in F f k d n c e (w.listing, x) = (Listing, (e, x))
+then_missing_in F f k d n c e (w.going, x) = absurd x
+then_missing_in F f k d n c e (w.repeating, x) = one_more_missing F f k d n c e x
+then_missing_in F f k d n c e (w.operating, x) = (Operating, (e, x))
+
+then_missing_of : (F : ℕ → ℕ → w.Next → Type 0) (k : Next) (d n : ℕ) (c : w.Next) → Reached (l.ThenMissing k) F d n c → At (next_of k) (Any (Missing F d n)) c
+then_missing_of F k d n c (Closing, x) = at_in (next_of k) c x.0 (w.closing, x.1)
+then_missing_of F k d n c (Assigning, x) = at_in (next_of k) c x.0 (w.assigning, x.1)
+then_missing_of F k d n c (Listing, x) = at_in (next_of k) c x.0 (w.listing, x.1)
+then_missing_of F k d n c (Going, x) = at_in (next_of k) c x.0 (w.repeating, (w.going, x.1))
+then_missing_of F k d n c (Repeating, x) = at_in (next_of k) c x.0 (w.repeating, (w.repeating, x.1))
+then_missing_of F k d n c (Operating, x) = at_in (next_of k) c x.0 (w.operating, x.1)
+
+-- ---- the test of a link
+
+link_in : (k : Link) (F : ℕ → ℕ → w.Next → Type 0) → Falls F → (d n : ℕ) (c : w.Next) → Led k F d n c → Reached k F d n c
+link_in l.Each F f d n c x = each_in F d n c x
+link_in l.Unlisted F f d n c x = unlisted_in F d n c x
+link_in l.Ended F f d n c x = ended_in F d n c x
+link_in l.Closing F f d n c x = closing_in F d n c x
+link_in (l.Then k) F f d n c x = let y : (next_of k ≡ c) × Any (F d n) = at_of (next_of k) c x in then_in k F d n c y.0 y.1
+link_in (l.ThenUnlisted k) F f d n c x = let y : (next_of k ≡ c) × Any (Unlisted (F d n)) = at_of (next_of k) c x in then_unlisted_in k F d n c y.0 y.1
+link_in (l.ThenClosed k) F f d n c x = let y : (next_of k ≡ c) × Any (Closed F d n) = at_of (next_of k) c x in then_closed_in F f k d n c y.0 y.1
+link_in (l.ThenMissing k) F f d n c x = let y : (next_of k ≡ c) × Any (Missing F d n) = at_of (next_of k) c x in then_missing_in F f k d n c y.0 y.1
+
+link_of : (k : Link) (F : ℕ → ℕ → w.Next → Type 0) (d n : ℕ) (c : w.Next) → Reached k F d n c → Led k F d n c
+link_of l.Each F d n c x = each_of F d n c x
+link_of l.Unlisted F d n c x = unlisted_of F d n c x
+link_of l.Ended F d n c x = ended_of F d n c x
+link_of l.Closing F d n c x = closing_of F d n c x
+link_of (l.Then k) F d n c x = then_of k F d n c x
+link_of (l.ThenUnlisted k) F d n c x = then_unlisted_of k F d n c x
+link_of (l.ThenClosed k) F d n c x = then_closed_of F k d n c x
+link_of (l.ThenMissing k) F d n c x = then_missing_of F k d n c x
+
+-- the test of a link decides what comes behind it, where the depth and the nodes are the same numbers
+pub link_test : (k : Link) (F : ℕ → ℕ → w.Next → Type 0) → Falls F → (t : w.Next → ℕ → ℕ → Bool) → Decided F t → (d e n m : ℕ) (c : w.Next) → d ≡ e → n ≡ m → Led k F d n c ↔ (led_by k t e m c ≡ true)
+link_test k F f t h d e n m c p q =
+    let G : ℕ → ℕ → Type 0 = λ a b. Led k F d n c ↔ (led_by k t a b c ≡ true) in
+    let g : G d n = (λ x. reached_in k F t h d n c (link_in k F f d n c x), λ x. link_of k F d n c (reached_of k F t h d n c x)) in
+    let H : ℕ → Type 0 = λ a. G a n in
+    let I : ℕ → Type 0 = λ b. G e b in
+    subst I q (subst H p g)

@@ -1,0 +1,211 @@
+-- What can be completed with a part can be completed with a smaller one.
+use Rattle.std.proofs.Common.{◌≤◌, ℕ, ◌+◌, max, Bool, true, false, ◌==◌, length, inl, inr, arith}
+use Rattle.bk_grammar.specs.declared.symbols.Guard.{Guard}
+use Rattle.bk_grammar.specs.declared.symbols.Guard.TheVariants as g
+use Rattle.bk_frames.specs.declared.size.Form.{Form}
+use Rattle.bk_frames.specs.declared.size.Form.TheVariants.{Label, Call, Callable, Other}
+use Rattle.bk_tree.specs.Limits.{depth, depth_of_each, depth_of_action, depth_of_actions, depth_of_declarations, depth_of_items, depth_of_definitions, depth_of_starts, nodes, nodes_of_each, nodes_of_action, nodes_of_actions, nodes_of_declarations, nodes_of_items, nodes_of_definitions, nodes_of_starts}
+use Rattle.std.specs.Prelude.{nat_lt}
+use Rattle.bk_grammar.specs.Rows.{inner}
+use Rattle.bk_tree.specs.Parts.{size, start_count}
+use Rattle.bk_grammar.specs.Machine.{Stack, in_section, in_block, in_let, in_parens, in_unary, in_binary, in_chain, in_then, in_else, in_args, in_table, in_start, in_dests, in_values, in_guard, in_test, in_result, in_while, in_from, in_to, in_by, in_item, in_function, in_value, in_vector, in_valof, in_label, in_guarded, in_default, in_do, in_or, in_for, in_routine}
+use Rattle.bk_frames.specs.Sizes.{owed}
+use Rattle.bk_frames.specs.Bounds.{AtMost, LevelsAtMost}
+use Rattle.bk_frames.specs.WaysOn.{Next, closing, assigning, listing, going, repeating, operating, Any, AtClosing, AtListing, AtArgument, AtAssignment, Unlisted, AtPart, If, Closed, Missing, Started, Answered, Whole, Guarded, Taken, Gives, Does, Operates, Defines, Declares}
+
+-- a smaller section has the property too
+abbrev pub Down : (ℕ → ℕ → Type 0) → Type 0
+Down P = (d e n m : ℕ) → d ≤ e → n ≤ m → P e m → P d n
+
+pub at_most_down : (levels most : ℕ) → Down (AtMost levels most)
+at_most_down levels most d e n m i j h = let p = h.0 in let q = h.1 in (omega (arith, i, p), omega (arith, j, q))
+
+pub levels_down : (levels : ℕ) → Down (LevelsAtMost levels)
+levels_down levels d e n m i j h = omega (arith, i, h)
+
+abbrev pub Falls : (ℕ → ℕ → Next → Type 0) → Type 0
+Falls F = (d e n m : ℕ) → d ≤ e → n ≤ m → (c : Next) → F e m c → F d n c
+
+pub at_closing : {X Y : Type 0} → (X → Y) → (c : Next) → AtClosing X c → AtClosing Y c
+at_closing f closing h = f h
+at_closing f assigning h = h
+at_closing f listing h = h
+at_closing f going h = h
+at_closing f operating h = h
+at_closing f repeating h = h
+
+pub at_listing : {X Y : Type 0} → (X → Y) → (c : Next) → AtListing X c → AtListing Y c
+at_listing f listing h = f h
+at_listing f closing h = h
+at_listing f assigning h = h
+at_listing f going h = h
+at_listing f operating h = h
+at_listing f repeating h = h
+
+pub at_argument : {X Y A B : Type 0} → (X → Y) → (A → B) → (c : Next) → AtArgument X A c → AtArgument Y B c
+at_argument f k closing h = f h
+at_argument f k listing h = k h
+at_argument f k assigning h = h
+at_argument f k going h = h
+at_argument f k operating h = h
+at_argument f k repeating h = h
+
+pub at_assignment : {X Y A B : Type 0} → (X → Y) → (A → B) → (c : Next) → AtAssignment X A c → AtAssignment Y B c
+at_assignment f k assigning h = f h
+at_assignment f k listing h = k h
+at_assignment f k closing h = h
+at_assignment f k going h = h
+at_assignment f k operating h = h
+at_assignment f k repeating h = h
+
+pub any : {F G : Next → Type 0} → ((c : Next) → F c → G c) → Any F → Any G
+any f h = (h.0, f h.0 h.1)
+
+pub unlisted : {F G : Next → Type 0} → ((c : Next) → F c → G c) → (c : Next) → Unlisted F c → Unlisted G c
+unlisted f listing h = h
+unlisted f closing h = f closing h
+unlisted f assigning h = f assigning h
+unlisted f going h = f going h
+unlisted f operating h = f operating h
+unlisted f repeating h = f repeating h
+
+pub at_part : {F G A B : Next → Type 0} → ((c : Next) → F c → G c) → ((c : Next) → A c → B c) → (c : Next) → AtPart F A c → AtPart G B c
+at_part f k listing h = any (unlisted k) h
+at_part f k closing h = f closing h
+at_part f k assigning h = f assigning h
+at_part f k going h = f going h
+at_part f k operating h = f operating h
+at_part f k repeating h = f repeating h
+
+pub either : {F G A B : Next → Type 0} → (b : Bool) → ((c : Next) → F c → G c) → ((c : Next) → A c → B c) → (c : Next) → If b F A c → If b G B c
+either true f k c h = f c h
+either false f k c h = k c h
+
+pub closed_falls : (F : ℕ → ℕ → Next → Type 0) → Falls F → Falls (Closed F)
+closed_falls F f d e n m p q closing h = f d e n m p q closing h
+closed_falls F f d e n m p q assigning h = f d e n m p q assigning h
+closed_falls F f d e n m p q listing h = f d e n m p q listing h
+closed_falls F f d e n m p q going h = h
+closed_falls F f d e n m p q operating h = h
+closed_falls F f d e n m p q repeating h = any (f (d + 1) (e + 1) (n + 1) (m + 1) (omega (arith, p)) (omega (arith, q))) h
+
+pub missing_falls : (F : ℕ → ℕ → Next → Type 0) → Falls F → Falls (Missing F)
+missing_falls F f d e n m p q closing h = f d e n m p q closing h
+missing_falls F f d e n m p q assigning h = f d e n m p q assigning h
+missing_falls F f d e n m p q listing h = f d e n m p q listing h
+missing_falls F f d e n m p q going h = h
+missing_falls F f d e n m p q operating h = f d e n m p q operating h
+missing_falls F f d e n m p q repeating h = any (f (d + 1) (e + 1) (n + 1) (m + 1) (omega (arith, p)) (omega (arith, q))) h
+
+pub any_falls : (F : ℕ → ℕ → Next → Type 0) → Falls F → (d e n m : ℕ) → d ≤ e → n ≤ m → Any (F e m) → Any (F d n)
+any_falls F f d e n m p q h = any (f d e n m p q) h
+
+pub any_missing : (F : ℕ → ℕ → Next → Type 0) → Falls F → (d e n m : ℕ) → d ≤ e → n ≤ m → Any (Missing F e m) → Any (Missing F d n)
+any_missing F f d e n m p q h = any (missing_falls F f d e n m p q) h
+
+pub any_closed : (F : ℕ → ℕ → Next → Type 0) → Falls F → (d e n m : ℕ) → d ≤ e → n ≤ m → Any (Closed F e m) → Any (Closed F d n)
+any_closed F f d e n m p q h = any (closed_falls F f d e n m p q) h
+
+started_falls : (F : ℕ → ℕ → Next → Type 0) → Falls F → (f : Form) → Falls (Started F f)
+started_falls F k f d e n m p q assigning h = any_closed F k (max d 1 + 1) (max e 1 + 1) (n + 2) (m + 2) (omega (arith, p)) (omega (arith, q)) h
+started_falls F k f d e n m p q listing h = any_closed F k (max d 1 + 1) (max e 1 + 1) (n + 4) (m + 4) (omega (arith, p)) (omega (arith, q)) h
+started_falls F k Label d e n m p q closing h = h
+started_falls F k Call d e n m p q closing h = k d e n m p q closing h
+started_falls F k Call d e n m p q repeating h = any_falls F k (d + 1) (e + 1) (n + 1) (m + 1) (omega (arith, p)) (omega (arith, q)) h
+started_falls F k Label d e n m p q going h = h
+started_falls F k Label d e n m p q operating h = h
+started_falls F k Label d e n m p q repeating h = h
+started_falls F k Call d e n m p q going h = h
+started_falls F k Call d e n m p q operating h = h
+started_falls F k Callable d e n m p q closing h = h
+started_falls F k Callable d e n m p q going h = h
+started_falls F k Callable d e n m p q operating h = h
+started_falls F k Callable d e n m p q repeating h = h
+started_falls F k Other d e n m p q closing h = h
+started_falls F k Other d e n m p q going h = h
+started_falls F k Other d e n m p q operating h = h
+started_falls F k Other d e n m p q repeating h = h
+
+answered_falls : (G : Form → ℕ → ℕ → Next → Type 0) → ((f : Form) → Falls (G f)) → (H : ℕ → ℕ → Type 0) → Down H → Falls (Answered G H)
+answered_falls G k H j d e n m p q going h = any (k Call (d + 2) (e + 2) (n + 2) (m + 2) (omega (arith, p)) (omega (arith, q))) h
+answered_falls G k H j d e n m p q operating h = j (d + 1) (e + 1) (n + 1) (m + 1) (omega (arith, p)) (omega (arith, q)) h
+answered_falls G k H j d e n m p q repeating h = h
+answered_falls G k H j d e n m p q closing h = k Callable (d + 1) (e + 1) (n + 1) (m + 1) (omega (arith, p)) (omega (arith, q)) closing h
+answered_falls G k H j d e n m p q assigning h = k Callable (d + 1) (e + 1) (n + 1) (m + 1) (omega (arith, p)) (omega (arith, q)) assigning h
+answered_falls G k H j d e n m p q listing h = k Callable (d + 1) (e + 1) (n + 1) (m + 1) (omega (arith, p)) (omega (arith, q)) listing h
+
+pub whole_falls : (G : Form → ℕ → ℕ → Next → Type 0) → ((f : Form) → Falls (G f)) → (f : Form) → (d e n m : ℕ) → d ≤ e → n ≤ m → Whole G f e m → Whole G f d n
+whole_falls G k f d e n m p q (inl h) = inl (any (k f d e n m p q) h)
+whole_falls G k f d e n m p q (inr h) = inr (any (k Call (d + 1) (e + 1) (n + 1) (m + 1) (omega (arith, p)) (omega (arith, q))) h)
+
+taken : {X Y A B : Type 0} → (b : Bool) → (X → Y) → (A → B) → Taken b X A → Taken b Y B
+taken true f k h = f h
+taken false f k h = k h
+
+guarded_falls : (gd : Guard) (F : ℕ → ℕ → Next → Type 0) → Falls F → (d e n m : ℕ) → d ≤ e → n ≤ m → Guarded gd F e m → Guarded gd F d n
+guarded_falls g.Case F k d e n m p q (inl h) = inl (any_missing F k (d + 1) (e + 1) (n + 1) (m + 1) (omega (arith, p)) (omega (arith, q)) h)
+guarded_falls g.Case F k d e n m p q (inr h) = inr (any_falls F k (max d 1 + 1) (max e 1 + 1) (n + 2) (m + 2) (omega (arith, p)) (omega (arith, q)) h)
+guarded_falls _ F k d e n m p q h = any_falls F k (max d 1 + 1) (max e 1 + 1) (n + 2) (m + 2) (omega (arith, p)) (omega (arith, q)) h
+
+mutual
+  pub gives_falls : (P : ℕ → ℕ → Type 0) → Down P → (st : Stack) (f : Form) → Falls (Gives P st f)
+  gives_falls P w (in_parens l st) f d e n m p q c h = at_closing (whole_falls (Gives P st) (gives_falls P w st) Callable (d + 1) (e + 1) (n + 1) (m + 1) (omega (arith, p)) (omega (arith, q))) c h
+  gives_falls P w (in_unary l x st) f d e n m p q c h = gives_falls P w st Other (d + 1) (e + 1) (n + 1) (m + 1) (omega (arith, p)) (omega (arith, q)) c h
+  gives_falls P w (in_binary o s a st) f d e n m p q c h = gives_falls P w st Other (max (depth a) d + 1) (max (depth a) e + 1) (nodes a + n + 1) (nodes a + m + 1) (omega (arith, p)) (omega (arith, q)) c h
+  gives_falls P w (in_chain o s a b st) f d e n m p q c h = gives_falls P w st Other (max (depth a) (max (depth b) d + 1) + 1) (max (depth a) (max (depth b) e + 1) + 1) (nodes a + (nodes b + n + 1) + 1) (nodes a + (nodes b + m + 1) + 1) (omega (arith, p)) (omega (arith, q)) c h
+  gives_falls P w (in_then s x st) f d e n m p q c h = at_listing (any_falls (Gives P st Other) (gives_falls P w st Other) (max (depth x) (max d 1) + 1) (max (depth x) (max e 1) + 1) (nodes x + n + 2) (nodes x + m + 2) (omega (arith, p)) (omega (arith, q))) c h
+  gives_falls P w (in_else s x a st) f d e n m p q c h = gives_falls P w st Other (max (depth x) (max (depth a) d) + 1) (max (depth x) (max (depth a) e) + 1) (nodes x + nodes a + n + 1) (nodes x + nodes a + m + 1) (omega (arith, p)) (omega (arith, q)) c h
+  gives_falls P w (in_args s x es st) f d e n m p q c h =
+      at_argument (whole_falls (Gives P st) (gives_falls P w st) Call (max (depth x) (max (depth_of_each es) d) + 1) (max (depth x) (max (depth_of_each es) e) + 1) (nodes x + (nodes_of_each es + n) + 1) (nodes x + (nodes_of_each es + m) + 1) (omega (arith, p)) (omega (arith, q)))
+      (whole_falls (Gives P st) (gives_falls P w st) Call (max (depth x) (max (depth_of_each es) (max d 1)) + 1) (max (depth x) (max (depth_of_each es) (max e 1)) + 1) (nodes x + (nodes_of_each es + n) + 2) (nodes x + (nodes_of_each es + m) + 2) (omega (arith, p)) (omega (arith, q))) c h
+  gives_falls P w (in_table l es st) f d e n m p q c h =
+      at_part (gives_falls P w st Other (max (depth_of_each es) d + 1) (max (depth_of_each es) e + 1) (nodes_of_each es + n + 1) (nodes_of_each es + m + 1) (omega (arith, p)) (omega (arith, q)))
+      (gives_falls P w st Other (max (depth_of_each es) (max d 1) + 1) (max (depth_of_each es) (max e 1) + 1) (nodes_of_each es + n + 2) (nodes_of_each es + m + 2) (omega (arith, p)) (omega (arith, q))) c h
+  gives_falls P w (in_start st) f d e n m p q c h = started_falls (Does P st) (does_falls P w st) f d e n m p q c h
+  gives_falls P w (in_dests xs st) f d e n m p q c h =
+      at_assignment (any_closed (Does P st) (does_falls P w st) (max (max (depth_of_each xs) 1) d + 1) (max (max (depth_of_each xs) 1) e + 1) (nodes_of_each xs + n + size xs + 2) (nodes_of_each xs + m + size xs + 2) (omega (arith, p)) (omega (arith, q)))
+      (any_closed (Does P st) (does_falls P w st) (max (max (depth_of_each xs) 1) d + 1) (max (max (depth_of_each xs) 1) e + 1) (nodes_of_each xs + n + size xs + 4) (nodes_of_each xs + m + size xs + 4) (omega (arith, p)) (omega (arith, q))) c h
+  gives_falls P w (in_values xs ys st) f d e n m p q c h =
+      either (size xs == size ys + 1) (closed_falls (Does P st) (does_falls P w st) (max (depth_of_each xs) (max (depth_of_each ys) d) + 1) (max (depth_of_each xs) (max (depth_of_each ys) e) + 1) (nodes_of_each xs + (nodes_of_each ys + n) + 1) (nodes_of_each xs + (nodes_of_each ys + m) + 1) (omega (arith, p)) (omega (arith, q)))
+      (at_listing (any_closed (Does P st) (does_falls P w st) (max (depth_of_each xs) (max (depth_of_each ys) (max d 1)) + 1) (max (depth_of_each xs) (max (depth_of_each ys) (max e 1)) + 1) (nodes_of_each xs + (nodes_of_each ys + n) + owed (size xs) (size ys) + 1) (nodes_of_each xs + (nodes_of_each ys + m) + owed (size xs) (size ys) + 1) (omega (arith, p)) (omega (arith, q)))) c h
+  gives_falls P w (in_guard k l st) f d e n m p q c h = at_closing (guarded_falls k (Does P st) (does_falls P w st) d e n m p q) c h
+  gives_falls P w (in_test l st) f d e n m p q c h = at_closing (any_falls (Does P st) (does_falls P w st) (max d 1 + 1) (max e 1 + 1) (n + 3) (m + 3) (omega (arith, p)) (omega (arith, q))) c h
+  gives_falls P w (in_result l st) f d e n m p q c h = closed_falls (Does P st) (does_falls P w st) (d + 1) (e + 1) (n + 1) (m + 1) (omega (arith, p)) (omega (arith, q)) c h
+  gives_falls P w (in_while b a st) f d e n m p q c h = closed_falls (Does P st) (does_falls P w st) (max (depth_of_action a) d + 1) (max (depth_of_action a) e + 1) (nodes_of_action a + n + 1) (nodes_of_action a + m + 1) (omega (arith, p)) (omega (arith, q)) c h
+  gives_falls P w (in_from l x st) f d e n m p q c h = at_closing (any_falls (Does P st) (does_falls P w st) (max d 1 + 1) (max e 1 + 1) (n + 3) (m + 3) (omega (arith, p)) (omega (arith, q))) c h
+  gives_falls P w (in_to l x a st) f d e n m p q c h = at_closing (any_falls (Does P st) (does_falls P w st) (max (depth a) (max d 1) + 1) (max (depth a) (max e 1) + 1) (nodes a + n + 2) (nodes a + m + 2) (omega (arith, p)) (omega (arith, q))) c h
+  gives_falls P w (in_by l x a b st) f d e n m p q c h = at_closing (any_falls (Does P st) (does_falls P w st) (max (depth a) (max (depth b) (max d 1)) + 1) (max (depth a) (max (depth b) (max e 1)) + 1) (nodes a + nodes b + n + 2) (nodes a + nodes b + m + 2) (omega (arith, p)) (omega (arith, q))) c h
+  gives_falls P w (in_item l s is x st) f d e n m p q c h = at_closing (declares_fall P w st (max (depth_of_items is) (d + 1)) (max (depth_of_items is) (e + 1)) (nodes_of_items is + (n + 1)) (nodes_of_items is + (m + 1)) (omega (arith, p)) (omega (arith, q))) c h
+  gives_falls P w (in_function x fs st) f d e n m p q c h = at_closing (defines_fall P w st (d + 1) (e + 1) (n + 1) (m + 1) (omega (arith, p)) (omega (arith, q))) c h
+  gives_falls P w (in_value xs is st) f d e n m p q c h =
+      either (length xs == start_count is + 1) (at_closing (defines_fall P w st (max (depth_of_starts is) d + 1) (max (depth_of_starts is) e + 1) (nodes_of_starts is + n + 1) (nodes_of_starts is + m + 1) (omega (arith, p)) (omega (arith, q))))
+      (at_listing (defines_fall P w st (max (depth_of_starts is) (max d 1) + 1) (max (depth_of_starts is) (max e 1) + 1) (nodes_of_starts is + n + owed (length xs) (start_count is) + 1) (nodes_of_starts is + m + owed (length xs) (start_count is) + 1) (omega (arith, p)) (omega (arith, q)))) c h
+  gives_falls P w (in_vector l xs is st) f d e n m p q c h =
+      either (length xs == start_count is + 1) (at_closing (defines_fall P w st (max (depth_of_starts is) d + 1) (max (depth_of_starts is) e + 1) (nodes_of_starts is + n + 1) (nodes_of_starts is + m + 1) (omega (arith, p)) (omega (arith, q))))
+      (at_listing (defines_fall P w st (max (depth_of_starts is) (max d 1) + 1) (max (depth_of_starts is) (max e 1) + 1) (nodes_of_starts is + n + owed (length xs) (start_count is) + 1) (nodes_of_starts is + m + owed (length xs) (start_count is) + 1) (omega (arith, p)) (omega (arith, q)))) c h
+  gives_falls P w _ f d e n m p q c h = h
+
+  pub does_falls : (P : ℕ → ℕ → Type 0) → Down P → (st : Stack) → Falls (Does P st)
+  does_falls P w (in_valof l st) d e n m p q c h = answered_falls (Gives P st) (gives_falls P w st) (Operates P st (Gives P st)) (operates_fall P w st (gives_falls P w st)) d e n m p q c h
+  does_falls P w (in_label l x st) d e n m p q c h = does_falls P w st (d + 1) (e + 1) (n + 1) (m + 1) (omega (arith, p)) (omega (arith, q)) c h
+  does_falls P w (in_guarded k l x st) d e n m p q c h = does_falls P w st (max (depth x) d + 1) (max (depth x) e + 1) (nodes x + n + 1) (nodes x + m + 1) (omega (arith, p)) (omega (arith, q)) c h
+  does_falls P w (in_default l st) d e n m p q c h = does_falls P w st (d + 1) (e + 1) (n + 1) (m + 1) (omega (arith, p)) (omega (arith, q)) c h
+  does_falls P w (in_do l x st) d e n m p q c h = at_closing (any_falls (Does P st) (does_falls P w st) (max (depth x) (max d 1) + 1) (max (depth x) (max e 1) + 1) (nodes x + n + 2) (nodes x + m + 2) (omega (arith, p)) (omega (arith, q))) c h
+  does_falls P w (in_or l x a st) d e n m p q c h = does_falls P w st (max (depth x) (max (depth_of_action a) d) + 1) (max (depth x) (max (depth_of_action a) e) + 1) (nodes x + nodes_of_action a + n + 1) (nodes x + nodes_of_action a + m + 1) (omega (arith, p)) (omega (arith, q)) c h
+  does_falls P w (in_for l x a b y st) d e n m p q c h = does_falls P w st (max (depth a) (max (depth b) (max (depth_of_each y) d)) + 1) (max (depth a) (max (depth b) (max (depth_of_each y) e)) + 1) (nodes a + nodes b + nodes_of_each y + n + 1) (nodes a + nodes b + nodes_of_each y + m + 1) (omega (arith, p)) (omega (arith, q)) c h
+  does_falls P w (in_routine x fs st) d e n m p q c h = at_closing (defines_fall P w st (d + 1) (e + 1) (n + 1) (m + 1) (omega (arith, p)) (omega (arith, q))) c h
+  does_falls P w (in_block l b ds cs st) d e n m p q c h = at_closing (any_falls (Does P st) (does_falls P w st) (max (depth_of_declarations ds) (max (depth_of_actions cs) d) + 1) (max (depth_of_declarations ds) (max (depth_of_actions cs) e) + 1) (nodes_of_declarations ds + (nodes_of_actions cs + n) + 1) (nodes_of_declarations ds + (nodes_of_actions cs + m) + 1) (omega (arith, p)) (omega (arith, q))) c h
+  does_falls P w _ d e n m p q c h = h
+
+  pub operates_fall : (P : ℕ → ℕ → Type 0) → Down P → (st : Stack) → ((f : Form) → Falls (Gives P st f)) → Down (Operates P st (Gives P st))
+  operates_fall P w (in_binary o s a st) f d e n m p q h = taken (nat_lt 1 (inner o)) (any_falls (Gives P st Other) (gives_falls P w st Other) (max (depth a) (d + 1) + 1) (max (depth a) (e + 1) + 1) (nodes a + (n + 2) + 1) (nodes a + (m + 2) + 1) (omega (arith, p)) (omega (arith, q))) (operates_fall P w st (gives_falls P w st) (max (depth a) d + 1) (max (depth a) e + 1) (nodes a + n + 1) (nodes a + m + 1) (omega (arith, p)) (omega (arith, q))) h
+  operates_fall P w st f d e n m p q h = any_falls (Gives P st Other) (f Other) (d + 1) (e + 1) (n + 2) (m + 2) (omega (arith, p)) (omega (arith, q)) h
+
+  pub defines_fall : (P : ℕ → ℕ → Type 0) → Down P → (st : Stack) (d e n m : ℕ) → d ≤ e → n ≤ m → Defines P st e m → Defines P st d n
+  defines_fall P w (in_let l ds st) d e n m p q h = declares_fall P w st (max (depth_of_definitions ds) d) (max (depth_of_definitions ds) e) (nodes_of_definitions ds + n) (nodes_of_definitions ds + m) (omega (arith, p)) (omega (arith, q)) h
+  defines_fall P w _ d e n m p q h = h
+
+  pub declares_fall : (P : ℕ → ℕ → Type 0) → Down P → (st : Stack) (d e n m : ℕ) → d ≤ e → n ≤ m → Declares P st e m → Declares P st d n
+  declares_fall P w (in_section ds) d e n m p q h = w (max (depth_of_declarations ds) d) (max (depth_of_declarations ds) e) (nodes_of_declarations ds + n) (nodes_of_declarations ds + m) (omega (arith, p)) (omega (arith, q)) h
+  declares_fall P w (in_block l b ds cs st) d e n m p q h = any_falls (Does P st) (does_falls P w st) (max (depth_of_declarations ds) (max (depth_of_actions cs) d) + 1) (max (depth_of_declarations ds) (max (depth_of_actions cs) e) + 1) (nodes_of_declarations ds + (nodes_of_actions cs + n) + 1) (nodes_of_declarations ds + (nodes_of_actions cs + m) + 1) (omega (arith, p)) (omega (arith, q)) h
+  declares_fall P w _ d e n m p q h = h

@@ -1,0 +1,28 @@
+-- How a state of the reading machine stands to the limits of a section.
+use Rattle.std.specs.Prelude.{ℕ, ◌≤◌}
+use Rattle.bk_base.specs.declared.limit.TheConstants.{TREE_DEPTH, TREE_NODES}
+use Rattle.bk_base.specs.declared.source_fault.SourceKind.{SourceKind}
+use Rattle.bk_base.specs.declared.source_fault.SourceKind.TheVariants.{NestedTooDeeply, TooManyNodes}
+use Rattle.bk_grammar.specs.Machine.{State}
+use Rattle.bk_frames.specs.WaysOn.{Completes}
+
+-- so many levels and nodes are within these bounds
+abbrev pub AtMost : ℕ → ℕ → ℕ → ℕ → Type 0
+AtMost levels most d n = (d ≤ levels) × (n ≤ most)
+
+abbrev pub LevelsAtMost : ℕ → ℕ → ℕ → Type 0
+LevelsAtMost levels d n = d ≤ levels
+
+-- a section within both limits goes on from here
+abbrev pub Bounded : State → Type 0
+Bounded x = Completes (AtMost TREE_DEPTH TREE_NODES) x
+
+-- and one within that of depth
+abbrev pub BoundedInDepth : State → Type 0
+BoundedInDepth x = Completes (LevelsAtMost TREE_DEPTH) x
+
+-- every section that goes on passes the limit of this kind, and not every one passes that which is told before it
+abbrev pub Passed : SourceKind → State → Type 0
+Passed NestedTooDeeply x = BoundedInDepth x → ⊥
+Passed TooManyNodes x = BoundedInDepth x × (Bounded x → ⊥)
+Passed _ x = ⊥

@@ -1,0 +1,120 @@
+-- What the parser has begun and reads now, as the stack and the state of the reading machine; and what a call answers, as
+-- a step of that machine. The depths and the numbers of nodes that the parser keeps are left out.
+use Rattle.std.specs.Prelude.{ℕ, ◌+◌, Bool, true, false, cond, ◌≡◌, Option, Some, None, List, Result, Ok, Err, vec_len}
+use Rattle.bk_lex.specs.declared.token.Kind.{Kind}
+use Rattle.bk_lex.specs.declared.token.Token.{Token}
+use Rattle.bk_grammar.specs.declared.symbols.Heading.{Heading}
+use Rattle.bk_grammar.specs.declared.symbols.Heading.TheVariants as h
+use Rattle.bk_frames.specs.declared.frame.Place.TheVariants as a
+use Rattle.bk_frames.specs.declared.frame.Begun.{Begun}
+use Rattle.bk_frames.specs.declared.frame.Begun.TheVariants as b
+use Rattle.bk_frames.specs.declared.frames.Frames.{Frames}
+use Rattle.bk_frames.specs.declared.frame.Now.{Now}
+use Rattle.bk_frames.specs.declared.frame.Now.TheVariants as n
+use Rattle.bk_frames.specs.declared.frame.Flow.{Flow}
+use Rattle.bk_frames.specs.declared.frame.Flow.TheVariants as f
+use Rattle.bk_frames.specs.declared.frame.Stop.{Stop}
+use Rattle.bk_frames.specs.declared.frame.Stop.TheVariants as s
+use Rattle.bk_lex.specs.Values.{upper_name}
+use Rattle.bk_tree.specs.declared.tree.Name.{Name}
+use Rattle.bk_grammar.specs.declared.symbols.Declaring.{Declaring}
+use Rattle.bk_grammar.specs.declared.symbols.Declaring.TheVariants as g
+use Rattle.bk_grammar.specs.Rows.{is_relation, is_name}
+use Rattle.bk_frames.specs.Stacked.{stack}
+use Rattle.bk_tree.specs.Tree.{Expression, binary, no_declarations, no_actions, no_definitions, mention, expression, action, definition}
+use Rattle.bk_grammar.specs.Machine.{Stack, State, in_block, in_let, at_opening, at_goto, at_for, at_default, in_test, in_result, want, have, begin, maybe, did, due, give, finish, defined_by}
+
+abbrev pub stack_of : Frames → Stack
+stack_of x = stack x.decls.items x.above.items
+
+abbrev pub state : Stack → Now → State
+state st n.Want = want st
+state st (n.Have x) = have st (expression x.expr)
+state st n.Begin = begin st
+state st n.Maybe = maybe st
+state st (n.Did x) = did st (action x.command)
+state st n.Due = due st
+
+-- what was put on top
+abbrev pub Puts : Stack → Result Unit Stop → Stack → Type 0
+Puts st (Ok u) next = st ≡ next
+Puts st (Err s.Memory) next = Unit {0}
+Puts st (Err s.Unexpected) next = ⊥
+
+-- an answer with these frames, as a step of the machine: an unexpected symbol is one with which it does not go on
+abbrev pub Steps : Stack → Result Now Stop → Option State → Type 0
+Steps st (Ok now) next = next ≡ Some (state st now)
+Steps st (Err s.Memory) next = Unit {0}
+Steps st (Err s.Unexpected) next = next ≡ None
+
+-- how a part that is complete goes on below, with a symbol behind it
+abbrev pub flow : Stack → Flow → ℕ → List ℕ → Kind → Option State
+flow st (f.Stay now) l x t = Some (state st now)
+flow st (f.Gives y) l x t = give st (expression y.expr) l x t
+flow st (f.Does y) l x t = finish st (action y.command) l x t
+flow st (f.Defines y) l x t = defined_by st (definition y.def) l x t
+
+abbrev pub Flows : Stack → Result Flow Stop → ℕ → List ℕ → Kind → Option State → Type 0
+Flows st (Ok y) l x t next = next ≡ flow st y l x t
+Flows st (Err s.Memory) l x t next = Unit {0}
+Flows st (Err s.Unexpected) l x t next = next ≡ None
+
+-- the same, behind this token
+abbrev pub Answers : Frames → Result Flow Stop → Token → (ℕ → List ℕ → Kind → Option State) → Type 0
+Answers new result t next = Flows (stack_of new) result t.line t.text.now t.kind (next t.line t.text.now t.kind)
+
+-- what a command with a word of its own is to begin with
+abbrev pub heads : Stack → ℕ → Heading → State
+heads st l h.Goto = due (at_goto l st)
+heads st l h.Test = want (in_test l st)
+heads st l h.For = due (at_for l st)
+heads st l h.ResultIs = want (in_result l st)
+heads st l h.Default = due (at_default l st)
+heads st l h.Block = due (in_block l true no_declarations no_actions st)
+
+-- a part that is complete took no frame more
+abbrev pub Lowers : Frames → Frames → Result Flow Stop → Type 0
+Lowers old new (Ok (f.Gives y)) = vec_len new.above ≡ vec_len old.above
+Lowers old new (Ok (f.Does y)) = vec_len new.above ≡ vec_len old.above
+Lowers old new _ = Unit {0}
+
+-- a part that is complete took a frame away
+abbrev pub Falls : Frames → Frames → Result Flow Stop → Type 0
+Falls old new (Ok (f.Gives y)) = vec_len new.above + 1 ≡ vec_len old.above
+Falls old new (Ok (f.Does y)) = vec_len new.above + 1 ≡ vec_len old.above
+Falls old new _ = Unit {0}
+
+-- the right operand of a relation
+abbrev pub related : Expression → Option Expression
+related (binary l q m x y) = cond (is_relation q) (Some y) None
+related _ = None
+
+-- the name that a token is, if it is one
+abbrev pub NamedBy : Option Name → Token → Type 0
+NamedBy None t = is_name t.kind ≡ false
+NamedBy (Some x) t = (is_name t.kind ≡ true) × (mention x ≡ record { line = t.line; letters = upper_name t.text.now })
+
+-- what a complete declaration leaves: a symbol is due
+abbrev pub Declares : Stack → Result Unit Stop → Option State → Type 0
+Declares st (Ok u) next = next ≡ Some (due st)
+Declares st (Err s.Memory) next = Unit {0}
+Declares st (Err s.Unexpected) next = next ≡ None
+
+-- what a declaration is to begin with
+abbrev pub declaring : Stack → ℕ → Declaring → State
+declaring st l g.Let = due (in_let l no_definitions st)
+declaring st l (g.Constants q) = due (at_opening l q st)
+
+-- how often at most a part that is complete can complete a larger one
+abbrev pub rank : Frames → Flow → ℕ
+rank x (f.Gives y) = vec_len x.above + 1
+rank x (f.Does y) = vec_len x.above + 1
+rank x _ = 0
+
+abbrev pub is_let_begun : Begun → Bool
+is_let_begun (b.Place (a.Let l xs)) = true
+is_let_begun _ = false
+
+abbrev pub is_block_begun : Begun → Bool
+is_block_begun (b.Place (a.Block l q ds cs)) = true
+is_block_begun _ = false

@@ -1,0 +1,224 @@
+//! What was begun and is not yet complete.
+ghost use Rattle.std.specs.Prelude.{◌≡◌};
+ghost use Rattle.bk_tree.specs.Tree.{expression, action, definition};
+ghost use Rattle.bk_grammar.specs.Grammar.{last};
+ghost use Rattle.bk_frames.specs.Sizes.{size_of, size_if, size_of_action, size_of_definition};
+ghost use Rattle.bk_frames.specs.Begun.{held_in};
+
+use crate::room::Rooms;
+use bk_base::Line;
+use bk_grammar::symbols::Guard;
+use bk_tree::{Command, Decl, Def, Expr, Init, Item, Name, Operator, Prefix, Sort};
+use std::alloc::{AllocError, AllocFailed};
+
+/// How deep and how large a part of a tree is.
+#[derive(Clone, Copy, Debug, PartialEq, Eq)]
+pub struct Size {
+    /// The greatest number of nodes inside one another.
+    pub depth: u32,
+    /// The number of nodes.
+    pub nodes: u32,
+}
+
+/// An expression that was begun; an operand of it is read now.
+#[derive(Drop)]
+pub enum Operand {
+    Parens(Line),
+    Unary(Line, Prefix),
+    /// The operator, its line and the left operand.
+    Binary(Operator, Line, Box<Expr>),
+    /// The same with the copy of the operand that two relations share.
+    Chain(Operator, Line, Box<Expr>, Box<Expr>),
+    /// The line of the arrow and the condition.
+    Then(Line, Box<Expr>),
+    Else(Line, Box<Expr>, Box<Expr>),
+    /// The line of the parenthesis, the procedure and the arguments so far.
+    Args(Line, Box<Expr>, Vec<Expr>),
+    Table(Line, Vec<Expr>),
+}
+
+/// A command that was begun; an expression of it is read now.
+#[derive(Drop)]
+pub enum Phrase {
+    /// The first expression of a command.
+    Start,
+    /// A destination behind these.
+    Dests(Vec<Expr>),
+    /// A value behind these, for the destinations.
+    Values(Vec<Expr>, Vec<Expr>),
+    Guard(Guard, Line),
+    Test(Line),
+    ResultIs(Line),
+    /// The condition of REPEATWHILE (true) or REPEATUNTIL (false).
+    RepeatWhile(bool, Box<Command>),
+    /// The start, the limit and the step of FOR.
+    From(Line, Name),
+    To(Line, Name, Box<Expr>),
+    By(Line, Name, Box<Expr>, Box<Expr>),
+}
+
+/// An item or a definition that was begun; an expression of it is read now.
+#[derive(Drop)]
+pub enum Member {
+    /// The constant of an item behind the items so far.
+    Item(Line, Sort, Vec<Item>, Name),
+    Function(Name, Vec<Name>),
+    /// An item of a LET behind these, a VEC with its line.
+    Value(Vec<Name>, Vec<Init>),
+    Vector(Line, Vec<Name>, Vec<Init>),
+}
+
+/// A command or definition that was begun; a command of it is read now.
+#[derive(Drop)]
+pub enum Clause {
+    Valof(Line),
+    Label(Line, Vec<u8>),
+    Guarded(Guard, Line, Box<Expr>),
+    Default(Line),
+    Then(Line, Box<Expr>),
+    Else(Line, Box<Expr>, Box<Command>),
+    For(Line, Name, Box<Expr>, Box<Expr>, Option<Box<Expr>>),
+    Routine(Name, Vec<Name>),
+}
+
+/// A place in a block or a definition, where a symbol is due.
+#[derive(Drop)]
+pub enum Place {
+    /// In a block; whether a command may come.
+    Block(Line, bool, Vec<Decl>, Vec<Command>),
+    /// The name of a definition, behind these.
+    Let(Line, Vec<Def>),
+    /// Behind that name.
+    Named(Name),
+    /// Behind the `(` of a procedure.
+    Formals(Name),
+    /// Behind a `,` between formals, and behind a formal.
+    Formal(Name, Vec<Name>),
+    FormalEnd(Name, Vec<Name>),
+    /// Behind the `)`.
+    Headed(Name, Vec<Name>),
+    /// Behind a `,` between the names of variables, and behind a further name.
+    Variable(Vec<Name>),
+    VariableEnd(Vec<Name>),
+    /// Behind the `=` or a `,` between the items of a LET.
+    Inits(Vec<Name>, Vec<Init>),
+}
+
+/// A place in MANIFEST, STATIC or GLOBAL, or in a command, where a symbol is due.
+#[derive(Drop)]
+pub enum Point {
+    /// Behind MANIFEST, STATIC or GLOBAL.
+    Opening(Line, Sort),
+    /// Between the items, and behind the name of one.
+    Items(Line, Sort, Vec<Item>),
+    Signed(Line, Sort, Vec<Item>, Name),
+    Goto(Line),
+    For(Line),
+    Forward(Line, Name),
+    Default(Line),
+}
+
+/// What was begun, by what is read now.
+#[derive(Drop)]
+pub enum Begun {
+    Operand(Operand),
+    Phrase(Phrase),
+    Member(Member),
+    Clause(Clause),
+    Place(Place),
+    Point(Point),
+}
+
+/// What was begun, with the depth and the nodes of the parts that it holds, and the room for the part that is read.
+#[derive(Drop)]
+pub struct Frame {
+    pub begun: Begun,
+    pub held: Size,
+    pub rooms: Rooms,
+    ghost holds: { held ≡ held_in begun },
+}
+
+/// An expression that is complete so far, with its size and that of the operand which a further relation would share.
+#[derive(Drop)]
+pub struct Sized {
+    pub expr: Expr,
+    pub size: Size,
+    pub right: Size,
+    ghost sizes: { size ≡ size_of (expression expr) },
+    ghost shares: { right ≡ size_if (last (expression expr)) },
+}
+
+/// A command that is complete so far, with its size.
+#[derive(Drop)]
+pub struct Done {
+    pub command: Command,
+    pub size: Size,
+    ghost sizes: { size ≡ size_of_action (action command) },
+}
+
+/// A definition that is complete, with its size.
+#[derive(Drop)]
+pub struct Defined {
+    pub def: Def,
+    pub size: Size,
+    ghost sizes: { size ≡ size_of_definition (definition def) },
+}
+
+/// What stands on the frames.
+#[derive(Drop)]
+pub enum Now {
+    /// An operand is due.
+    Want,
+    /// An expression that may go on.
+    Have(Sized),
+    /// A command is due.
+    Begin,
+    /// A command may come.
+    Maybe,
+    /// A command that may go on.
+    Did(Done),
+    /// A symbol is due, as the last frame says.
+    Due,
+}
+
+/// What becomes of a part when a symbol comes behind it.
+#[derive(Drop)]
+pub enum Flow {
+    /// It stands so.
+    Stay(Now),
+    /// It completed this expression, behind which the symbol comes.
+    Gives(Sized),
+    /// It completed this command.
+    Does(Done),
+    /// It completed this definition.
+    Defines(Defined),
+}
+
+/// Why a symbol is refused.
+#[derive(Debug, Drop)]
+pub enum Stop {
+    Memory,
+    Unexpected,
+}
+
+impl From<AllocError> for Stop {
+    ghost use Rattle.std.specs.Prelude.{◌≡◌};
+    ghost use Rattle.bk_frames.specs.declared.frame.Stop.TheVariants.{Memory};
+
+    ghost from_gives = { λ _ stop. stop ≡ Memory };
+
+    fn from(_error: AllocError) -> Stop {
+        Stop::Memory
+    }
+}
+
+impl<T: Drop> From<AllocFailed<T>> for Stop {
+    ghost use Rattle.std.specs.Prelude.{◌≡◌};
+    ghost use Rattle.bk_frames.specs.declared.frame.Stop.TheVariants.{Memory};
+
+    ghost from_gives = { λ _ stop. stop ≡ Memory };
+
+    fn from(_error: AllocFailed<T>) -> Stop {
+        Stop::Memory
+    }
+}

@@ -1,0 +1,21 @@
+//! The list of what was begun.
+ghost use Rattle.std.specs.Prelude.{◌≡◌, ◌+◌, ℕ, [], MatchOption, IfOk, vec_len};
+ghost use Rattle.bk_tree.specs.Tree.{declarations_in};
+ghost use Rattle.bk_frames.specs.Sizes.{size_of_declarations};
+ghost use Rattle.bk_frames.specs.Begun.{begun_on, held_in};
+ghost use Rattle.bk_frames.specs.Stacked.{Roomy};
+
+use crate::frame::{Frame, Size};
+use bk_tree::Decl;
+use std::alloc::Global;
+
+/// What was begun: the section, with its declarations and their size, and above it the rest, the last one on top.
+#[derive(Drop)]
+pub struct Frames {
+    pub decls: Vec<Decl>,
+    pub held: Size,
+    pub above: Vec<Frame>,
+    pub alloc: Global,
+    ghost holds: { held ≡ size_of_declarations (declarations_in decls.items) },
+    ghost roomy: { Roomy decls.items above.items },
+}

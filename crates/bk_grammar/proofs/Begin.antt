@@ -1,0 +1,218 @@
+-- What the grammar allows is read.
+use Rattle.std.proofs.Common.{◌≡◌, ℕ, ◌+◌, ◌<◌, ◌≤◌, Bool, true, false, cond, List, ◌∷◌, Some, None, refl, sym, ap, subst, ◌∙◌, inl, inr, arith}
+use Rattle.bk_lex.specs.declared.token.Kind.{Kind}
+use Rattle.bk_lex.specs.declared.token.Kind.TheVariants as k
+use Rattle.bk_lex.specs.Symbol.{Symbol}
+use Rattle.bk_tree.specs.declared.tree.Operator.{Operator}
+use Rattle.bk_tree.specs.declared.tree.Operator.TheVariants as o
+use Rattle.bk_tree.specs.Tree.{Expression, Expressions, Action, Actions, Declarations, name, number, text, truth, query, parens, unary, binary, choice, apply, valof, table, none, more, empty, assign, call, goto, label, case_of, default, when, test, while, for_loop, switch, result, simple, block, repeat, repeat_while, no_declarations, declare}
+use Rattle.bk_grammar.specs.Rows.{row, inner, left, is_relation, infix_of, begins_operand, begins_command, repeats, assigns, is_comma, goes, Fails, Stops}
+use Rattle.bk_grammar.specs.Grammar.{Leaf, last, Full, EndsCommand, Filled, if_or_unless, while_or_until, Reads, Each, Does}
+use Rattle.bk_tree.specs.Parts.{line_of, line_of_first, size}
+use Rattle.bk_grammar.specs.Machine.{Stack, in_block, in_binary, in_chain, in_table, in_start, in_values, State, want, have, begin, maybe, did, due, limit, linked, guarded, behind_sign, bars, give, finish, without, stepped_by, run}
+use Rattle.bk_tree.specs.Parts.{each_then}
+use Rattle.bk_grammar.proofs.Steps.{stepped, same_step, alike, takes, failing, failing_both, stops_alike, repeats_alike, pushes, row_le, infix_goes, push_infix, prefix_begins, leaf_begins, operand_begins, simple_begins, guard_begins, at_operand, at_item, same_eq, less_eq}
+
+-- ---- expressions
+
+-- an infix operator within the rows is taken
+pub takes_infix : (st : Stack) (a : Expression) (q : Operator) (t : Symbol) (ms : List Symbol) → infix_of t.kind ≡ Some q → row q ≤ limit st
+    → run (t ∷ ms) (have st a) ≡ run ms (cond (is_relation q) (linked q t.line a st (last a)) (want (in_binary q t.line a st)))
+takes_infix st a q t ms is le =
+    stepped (have st a) _ t ms (pushes st a t.line t.text t.kind (infix_goes t.kind q (limit st) is le) ∙ push_infix t.kind q st a t.line is)
+
+pub cond_pick : (b : Bool) (x y : State) → (b ≡ true → x ≡ y) → cond b x y ≡ y
+cond_pick true x y h = h refl
+cond_pick false x y h = refl
+
+pub plain_link : (q : Operator) (s : ℕ) (a : Expression) (st : Stack) → (is_relation q ≡ true → last a ≡ None) → cond (is_relation q) (linked q s a st (last a)) (want (in_binary q s a st)) ≡ want (in_binary q s a st)
+plain_link q s a st free = cond_pick (is_relation q) (linked q s a st (last a)) (want (in_binary q s a st)) (λ h. ap (linked q s a st) (free h))
+
+pub lines : (l s m n : ℕ) (q : Operator) (a b : Expression) → m ≡ l → n ≡ s → binary m q n a b ≡ binary l q s a b
+lines l s m n q a b h j = rw (h, j) refl
+
+-- a wanted right operand, with what stands left of it, makes the whole
+pub joins : (st : Stack) (l s : ℕ) (a b : Expression) (q : Operator) (t : Symbol) (ms us : List Symbol) → infix_of t.kind ≡ Some q → t.line ≡ s → l ≡ line_of a → row q ≤ limit st → (is_relation q ≡ true → last a ≡ None)
+    → run ms (want (in_binary q t.line a st)) ≡ run us (have (in_binary q t.line a st) b) → Stops (inner q) us → run (t ∷ ms) (have st a) ≡ run us (have st (binary l q s a b))
+joins st l s a b q t ms us is at from le free right stops =
+    takes_infix st a q t ms is le ∙ ap (run ms) (plain_link q t.line a st free) ∙ right
+    ∙ stops_alike (inner q) us (have (in_binary q t.line a st) b) (have st (binary (line_of a) q t.line a b)) stops (λ m x y h. rw h refl)
+    ∙ ap (λ e. run us (have st e)) (lines l s (line_of a) t.line q a b (sym from) at)
+
+pub chain_lines : (l s m n : ℕ) (q : Operator) (a b c : Expression) (t : ℕ) → t ≡ s → n ≡ s → l ≡ line_of a → m ≡ line_of b
+    → binary (line_of a) o.Both t a (binary (line_of b) q t b c) ≡ binary l o.Both s a (binary m q n b c)
+chain_lines l s m n q a b c t h j p r = rw (h, j, p, r) refl
+
+pub joins_chain : (st : Stack) (l s m n : ℕ) (a b c : Expression) (q : Operator) (t : Symbol) (ms us : List Symbol) → infix_of t.kind ≡ Some q → t.line ≡ s → n ≡ s → l ≡ line_of a → m ≡ line_of b → row q ≤ limit st
+    → is_relation q ≡ true → last a ≡ Some b → run ms (want (in_chain q t.line a b st)) ≡ run us (have (in_chain q t.line a b st) c) → Stops 5 us
+    → run (t ∷ ms) (have st a) ≡ run us (have st (binary l o.Both s a (binary m q n b c)))
+joins_chain st l s m n a b c q t ms us is at also_at from shared_from le rel shares right stops =
+    let e : cond (is_relation q) (linked q t.line a st (last a)) (want (in_binary q t.line a st)) ≡ want (in_chain q t.line a b st) = rw (rel, shares) refl in
+    takes_infix st a q t ms is le ∙ ap (run ms) e ∙ right
+    ∙ stops_alike 5 us (have (in_chain q t.line a b st) c) (have st (binary (line_of a) o.Both t.line a (binary (line_of b) q t.line b c))) stops (λ i x y h. rw h refl)
+    ∙ ap (λ e. run us (have st e)) (chain_lines l s m n q a b c t.line at also_at from shared_from)
+
+pub row_6 : (q : Operator) → is_relation q ≡ true → row q ≡ 6
+row_6 o.Subscript h = cc
+row_6 _ h = cc
+
+pub last_none : (a : Expression) (ts us : List Symbol) → Reads 5 a ts us → last a ≡ None
+last_none (binary l o.Both s x (binary m q n b c)) ts us (inl h) = absurd (omega arith)
+last_none (binary l o.Both s x (binary m q n b c)) ts us (inr h) = absurd (omega arith)
+last_none (binary l q s a b) ts us h = first_of (cc, grind arith)
+last_none (name l n) ts us h = refl
+last_none _ ts us h = refl
+
+-- the left operand of a relation is none
+pub free_left : (q : Operator) (a : Expression) (ts us : List Symbol) → Reads (left q) a ts us → is_relation q ≡ true → last a ≡ None
+free_left q a ts us h r = let P : ℕ → Type 0 = λ rows. Reads rows a ts us in last_none a ts us (subst P (rw r refl) h)
+
+pub each_stops : (xs : Expressions) (ts us : List Symbol) → Each xs ts us → Stops 12 us
+each_stops none ts us h = absurd h
+each_stops (more x none) ts us h = h.1
+each_stops (more x (more y ys)) ts us h = each_stops (more y ys) h.1 us h.4
+
+-- where a comma is owed, one comes, or else the expression goes on
+abbrev pub Free : Stack → List Symbol → Type 0
+Free st us = Stops 12 us → Fails is_comma us → bars st ≡ false
+
+pub at_goes : (st : Stack) (t : Symbol) (ms : List Symbol) → goes 12 t.kind ≡ true → Free st (t ∷ ms)
+at_goes st t ms h = λ stops plain. absurd cc
+
+pub at_infix : (st : Stack) (q : Operator) (t : Symbol) (ms : List Symbol) → infix_of t.kind ≡ Some q → Free st (t ∷ ms)
+at_infix st q t ms h = at_goes st t ms (infix_goes t.kind q 12 h (let r = row_le q in omega arith))
+
+pub at_open : (st : Stack) (t : Symbol) (ms : List Symbol) → t.kind ≡ k.Open → Free st (t ∷ ms)
+at_open st t ms h = at_goes st t ms (ap (goes 12) h)
+
+pub at_arrow : (st : Stack) (t : Symbol) (ms : List Symbol) → t.kind ≡ k.Arrow → Free st (t ∷ ms)
+at_arrow st t ms h = at_goes st t ms (ap (goes 12) h)
+
+pub at_comma : (st : Stack) (t : Symbol) (ms : List Symbol) → t.kind ≡ k.Comma → Free st (t ∷ ms)
+at_comma st t ms h = λ stops plain. let e : is_comma t.kind ≡ true = ap is_comma h in absurd cc
+
+pub table_ends : (l : ℕ) (es : Expressions) (x : Expression) (us : List Symbol) (st : Stack) → Stops 12 us → Fails is_comma us → run us (have (in_table l es st) x) ≡ run us (have st (table l (each_then es (more x none))))
+table_ends l es x us st stops bare =
+    alike us (have (in_table l es st) x) (have st (table l (each_then es (more x none)))) (stepped_by (have st (table l (each_then es (more x none)))))
+    (failing_both (goes 12) is_comma us (have (in_table l es st) x) _ refl refl stops bare (λ m s t h j. rw (h, j) refl)) (takes us (have st (table l (each_then es (more x none)))))
+
+-- ---- how commands begin
+
+-- the first symbol passes a test
+pub record Opens (passes : Kind → Bool) (ts : List Symbol) : Type 0 where
+  pub first : Symbol
+  pub rest : List Symbol
+  pub is : ts ≡ first ∷ rest
+  pub good : passes first.kind ≡ true
+
+pub opens_leaf : (e : Expression) (ts us : List Symbol) → Leaf e ts us → Opens begins_operand ts
+opens_leaf e ts us h = record { first = h.0; rest = us; is = h.1; good = leaf_begins h.0.kind h.0.line h.0.text e h.2 }
+
+pub opens_read : (rows : ℕ) (e : Expression) (ts us : List Symbol) → Reads rows e ts us → Opens begins_operand ts
+opens_read rows (name l n) ts us h = opens_leaf (name l n) ts us h
+opens_read rows (number l n) ts us h = opens_leaf (number l n) ts us h
+opens_read rows (text l n) ts us h = opens_leaf (text l n) ts us h
+opens_read rows (truth l n) ts us h = opens_leaf (truth l n) ts us h
+opens_read rows (query l) ts us h = opens_leaf (query l) ts us h
+opens_read rows (parens l x) ts us h = record { first = h.0; rest = h.1; is = h.3; good = ap begins_operand h.4 }
+opens_read rows (unary l p x) ts us h = record { first = h.1; rest = h.2; is = h.3; good = prefix_begins h.1.kind p h.4 }
+opens_read rows (binary l o.Both s x (binary m q n b c)) ts us (inl h) = opens_read 9 x ts (h.1 ∷ h.2) h.6
+opens_read rows (binary l o.Both s x (binary m q n b c)) ts us (inr h) = opens_read 6 x ts (h.1 ∷ h.2) h.10
+opens_read rows (binary l q s a b) ts us h = opens_read (left q) a ts (h.1 ∷ h.2) h.6
+opens_read rows (choice l s c a b) ts us h = opens_read 11 c ts (h.1 ∷ h.2) h.9
+opens_read rows (apply l s f none) ts us h = opens_read 0 f ts (h.0 ∷ h.1 ∷ us) h.6
+opens_read rows (apply l s f (more x xs)) ts us h = opens_read 0 f ts (h.0 ∷ h.1) h.7
+opens_read rows (valof l c) ts us h = record { first = h.0; rest = h.1; is = h.2; good = ap begins_operand h.3 }
+opens_read rows (table l xs) ts us h = record { first = h.0; rest = h.1; is = h.2; good = ap begins_operand h.3 }
+
+pub widen : (ts : List Symbol) → Opens begins_operand ts → Opens begins_command ts
+widen ts h = record { first = h.first; rest = h.rest; is = h.is; good = operand_begins h.first.kind h.good }
+
+pub opens_each : (xs : Expressions) (ts us : List Symbol) → Each xs ts us → Opens begins_operand ts
+opens_each none ts us h = absurd h
+opens_each (more x none) ts us h = opens_read 12 x ts us h.0
+opens_each (more x (more y ys)) ts us h = opens_read 12 x ts (h.0 ∷ h.1) h.3
+
+pub opens_does : (c : Action) (ts us : List Symbol) → Filled c → Does c ts us → Opens begins_command ts
+opens_does empty ts us full h = absurd full
+opens_does (assign l xs ys) ts us full h = widen ts (opens_each xs ts (h.0 ∷ h.1) h.5)
+opens_does (call l f none) ts us full h = widen ts (opens_read 0 f ts (h.0 ∷ h.1 ∷ us) h.5)
+opens_does (call l f (more x xs)) ts us full h = widen ts (opens_read 0 f ts (h.0 ∷ h.1) h.6)
+opens_does (goto l x) ts us full h = record { first = h.0; rest = h.1 ∷ us; is = h.2; good = ap begins_command h.3 }
+opens_does (label l x c) ts us full h = record { first = h.0; rest = h.1 ∷ h.2; is = h.3; good = ap begins_command h.4.0 }
+opens_does (case_of l e c) ts us full h = record { first = h.0; rest = h.1; is = h.4; good = guard_begins h.0.kind _ h.5 }
+opens_does (default l c) ts us full h = record { first = h.0; rest = h.1 ∷ h.2; is = h.3; good = ap begins_command h.4 }
+opens_does (when l b e c) ts us full h = record { first = h.0; rest = h.1; is = h.4; good = guard_begins h.0.kind _ h.5 }
+opens_does (test l e a b) ts us full h = record { first = h.0; rest = h.1; is = h.6; good = ap begins_command h.7 }
+opens_does (while l b e c) ts us full h = record { first = h.0; rest = h.1; is = h.4; good = guard_begins h.0.kind _ h.5 }
+opens_does (for_loop l x a b none c) ts us full h = record { first = h.0; rest = h.1 ∷ h.2 ∷ h.3; is = h.8; good = ap begins_command h.9 }
+opens_does (for_loop l x a b (more i none) c) ts us full h = record { first = h.0; rest = h.1 ∷ h.2 ∷ h.3; is = h.10; good = ap begins_command h.11 }
+opens_does (for_loop l x a b (more i (more j is)) c) ts us full h = absurd h
+opens_does (switch l e c) ts us full h = record { first = h.0; rest = h.1; is = h.4; good = guard_begins h.0.kind _ h.5 }
+opens_does (result l e) ts us full h = record { first = h.0; rest = h.1; is = h.2; good = ap begins_command h.3 }
+opens_does (simple l w) ts us full h = record { first = h.0; rest = us; is = h.1; good = simple_begins h.0.kind w h.2 }
+opens_does (block l no_declarations cs) ts us full h = record { first = h.0; rest = h.1; is = h.3; good = ap begins_command h.4 }
+opens_does (block l (declare d ds) cs) ts us full h = record { first = h.0; rest = h.1; is = h.4; good = ap begins_command h.5 }
+opens_does (repeat l c) ts us full h = opens_does c ts (h.0 ∷ us) h.3 h.4
+opens_does (repeat_while l b c e) ts us full h = opens_does c ts (h.0 ∷ h.1) h.4 h.5
+
+-- two states that take the first symbol alike
+pub at_first : (passes : Kind → Bool) (ts : List Symbol) (x y : State) → Opens passes ts → ((l : ℕ) (s : List ℕ) (t : Kind) → passes t ≡ true → stepped_by x l s t ≡ stepped_by y l s t) → run ts x ≡ run ts y
+at_first passes ts x y h f =
+    ap (λ z. run z x) h.is ∙ same_step h.first h.rest x y (f h.first.line h.first.text h.first.kind h.good) ∙ ap (λ z. run z y) (sym h.is)
+
+pub opened : (st : Stack) (ts : List Symbol) → Opens begins_operand ts → run ts (begin st) ≡ run ts (want (in_start st))
+opened st ts h = at_first begins_operand ts (begin st) (want (in_start st)) h (λ l s t good. at_operand t st l s good)
+
+pub item_starts : (b : ℕ) (ds : Declarations) (cs : Actions) (st : Stack) (ts : List Symbol) → Opens begins_command ts → run ts (due (in_block b true ds cs st)) ≡ run ts (begin (in_block b true ds cs st))
+item_starts b ds cs st ts h = at_first begins_command ts (due (in_block b true ds cs st)) (begin (in_block b true ds cs st)) h (λ l s t good. at_item t b ds cs st l s good)
+
+pub full_filled : (c : Action) (us : List Symbol) → Full c us → Filled c
+full_filled empty us h = h
+full_filled _ us h = tt
+
+pub full_fails : (c : Action) (us : List Symbol) → Full c us → Fails repeats us
+full_fails empty us h = absurd h
+full_fails (goto l x) us h = h
+full_fails _ us h = h
+
+-- a command behind a colon, or none
+pub perhaps : (c : Action) (ts us : List Symbol) (fr st : Stack) (make : Action → Action)
+    → ((l : ℕ) (s : List ℕ) (t : Kind) → without fr l s t ≡ finish st (make empty) l s t)
+    → ((a : Action) (l : ℕ) (s : List ℕ) (t : Kind) → repeats t ≡ false → finish fr a l s t ≡ finish st (make a) l s t)
+    → (Filled c → run ts (begin fr) ≡ run us (did fr c)) → Does c ts us → EndsCommand c us → run ts (maybe fr) ≡ run us (did st (make c))
+perhaps empty ts us fr st make bare made runs h ends =
+    ap (λ z. run z (maybe fr)) h.0 ∙ alike us (maybe fr) (did st (make empty)) (stepped_by (did st (make empty)))
+    (failing begins_command us (maybe fr) _ refl h.1 (λ l s t f. rw f (bare l s t))) (takes us (did st (make empty)))
+perhaps c ts us fr st make bare made runs h ends =
+    at_first begins_command ts (maybe fr) (begin fr) (opens_does c ts us tt h) (λ l s t good. rw good refl)
+    ∙ runs tt ∙ repeats_alike us (did fr c) (did st (make c)) ends (λ l s t f. made c l s t f)
+
+pub guarded_when : (b : Bool) (l : ℕ) (e : Expression) (c : Action) → guarded (if_or_unless b) l e c ≡ when l b e c
+guarded_when true l e c = refl
+guarded_when false l e c = refl
+
+pub guarded_while : (b : Bool) (l : ℕ) (e : Expression) (c : Action) → guarded (while_or_until b) l e c ≡ while l b e c
+guarded_while true l e c = refl
+guarded_while false l e c = refl
+
+pub begins_if : (b : Bool) (st : Stack) → behind_sign (if_or_unless b) st ≡ begin st
+begins_if true st = refl
+begins_if false st = refl
+
+pub begins_while : (b : Bool) (st : Stack) → behind_sign (while_or_until b) st ≡ begin st
+begins_while true st = refl
+begins_while false st = refl
+
+pub call_ends : (st : Stack) (m s : ℕ) (f : Expression) (es : Expressions) (us : List Symbol) → Stops 12 us → Fails assigns us → run us (have (in_start st) (apply m s f es)) ≡ run us (did st (call m f es))
+call_ends st m s f es us stops fails =
+    alike us (have (in_start st) (apply m s f es)) (did st (call m f es)) (stepped_by (did st (call m f es)))
+    (failing_both (goes 12) assigns us (have (in_start st) (apply m s f es)) _ refl refl stops fails (λ l x t h j. rw (h, j) refl)) (takes us (did st (call m f es)))
+
+pub value_ends : (xs zs : Expressions) (y : Expression) (us : List Symbol) (st : Stack) → size xs ≡ size zs + 1 → Stops 12 us
+    → run us (have (in_values xs zs st) y) ≡ run us (did st (assign (line_of_first xs) xs (each_then zs (more y none))))
+value_ends xs zs y us st n stops =
+    stops_alike 12 us (have (in_values xs zs st) y) (did st (assign (line_of_first xs) xs (each_then zs (more y none)))) stops (λ l x t h. rw (h, same_eq (size xs) (size zs + 1) n) refl)
+
+pub value_more : (xs zs : Expressions) (y : Expression) (l : ℕ) (x : List ℕ) (t : Kind) (st : Stack) → size zs + 1 < size xs → t ≡ k.Comma → give (in_values xs zs st) y l x t ≡ Some (want (in_values xs (each_then zs (more y none)) st))
+value_more xs zs y l x t st n is = rw (is, less_eq (size xs) (size zs + 1) n) refl

@@ -1,0 +1,11 @@
+pub mod Steps
+pub mod Begin
+pub mod Complete
+pub mod Before
+pub mod Lists
+pub mod Moves
+pub mod Sound
+pub mod StepsSound
+pub mod Fits
+pub mod Fitting
+pub mod SameTags

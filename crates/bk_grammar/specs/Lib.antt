@@ -1,0 +1,6 @@
+pub mod Spelling
+pub mod Rows
+pub mod Brackets
+pub mod Grammar
+pub mod SyntaxFault
+pub mod Machine

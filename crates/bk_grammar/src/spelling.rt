@@ -1,0 +1,34 @@
+//! What the texts of symbols mean, beside the values that bk_lex gives.
+ghost use Rattle.std.specs.Prelude.{◌≡◌, IfOk, List, ℕ, map};
+ghost use Rattle.std.specs.Char.{to_ascii_uppercase};
+ghost use Rattle.bk_lex.specs.Values.{upper_name};
+ghost use Rattle.bk_grammar.specs.Spelling.{tag_of};
+ghost use Rattle.bk_grammar.specs.Brackets.{same_tag};
+
+use std::alloc::{AllocError, Global};
+
+/// A name in upper case.
+pub fn name(alloc: Global, text: &[u8]) -> Result<Vec<u8>, AllocError>
+    ensures { IfOk result (λ letters. letters.items ≡ upper_name text.now) }
+{
+    text.iter()
+        .map(|byte| byte.to_ascii_uppercase())
+        .collect(alloc)
+}
+
+/// The tag of a section bracket as it is spelled, empty if it has none.
+pub fn tag(text: &[u8]) -> &[u8]
+    ensures { upper_name result.now ≡ tag_of text.now }
+{
+    match text {
+        [_, _, tag @ ..] => tag,
+        _ => &[],
+    }
+}
+
+/// Whether two tags are one, letter case ignored.
+pub fn same_tag(a: &[u8], b: &[u8]) -> bool
+    ensures { result ≡ same_tag (upper_name a.now) (upper_name b.now) }
+{
+    a.eq_ignore_ascii_case(b)
+}

@@ -1,5 +1,0 @@
-use Rattle.bk_syntax.proofs.Trees.{Apply_is}
-use Rattle.bk_syntax.proofs.make.apply.Goals as goal
-
-pub returns : goal.returns
-returns c = Apply_is c.args.line c.args.sign c.args.callee c.args.items

@@ -1,5 +1,0 @@
-use Rattle.bk_syntax.proofs.Trees.{Block_is}
-use Rattle.bk_syntax.proofs.make.block.Goals as goal
-
-pub returns : goal.returns
-returns c = Block_is c.args.line c.args.decls c.args.commands

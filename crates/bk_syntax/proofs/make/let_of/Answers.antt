@@ -1,5 +1,0 @@
-use Rattle.bk_syntax.proofs.Trees.{Let_is}
-use Rattle.bk_syntax.proofs.make.let_of.Goals as goal
-
-pub returns : goal.returns
-returns c = Let_is c.args.line c.args.defs

@@ -1,5 +1,0 @@
-use Rattle.bk_syntax.proofs.Turns.{some_items}
-use Rattle.bk_syntax.proofs.size.are_no_items.Goals as goal
-
-pub returns-in_default : goal.returns-in_default
-returns-in_default c = some_items c.args.items.now c.in_default.len_at_least

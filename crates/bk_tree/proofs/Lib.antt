@@ -1,0 +1,3 @@
+pub mod Counts
+pub mod Trees
+pub mod Copies

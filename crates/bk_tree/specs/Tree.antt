@@ -1,0 +1,204 @@
+-- Trees of a section, without where they lie in memory. Each node but an empty command begins with the line of its
+-- first symbol; a name is its bytes in upper case.
+use Rattle.std.specs.Prelude.{ℕ, Bool, Option, Some, None, List, [], ◌∷◌, map, Box}
+use Rattle.std.specs.Global.{Global}
+use Rattle.bk_tree.specs.declared.tree.Name.{Name}
+use Rattle.bk_tree.specs.declared.tree.Operator.{Operator}
+use Rattle.bk_tree.specs.declared.tree.Prefix.{Prefix}
+use Rattle.bk_tree.specs.declared.tree.Simple.{Simple}
+use Rattle.bk_tree.specs.declared.tree.Sort.{Sort}
+use Rattle.bk_tree.specs.declared.tree.Expr.{Expr, Row_of-Expr, end_of-Expr, more_of-Expr}
+use Rattle.bk_tree.specs.declared.tree.Expr.TheVariants as e
+use Rattle.bk_tree.specs.declared.tree.Command.{Command, Row_of-Command, end_of-Command, more_of-Command, Row_of-Decl, end_of-Decl, more_of-Decl, Held-Command-For-4, None', Some'}
+use Rattle.bk_tree.specs.declared.tree.Command.TheVariants as c
+use Rattle.bk_tree.specs.declared.tree.Decl.{Decl, Row_of-Item, end_of-Item, more_of-Item, Row_of-Def, end_of-Def, more_of-Def}
+use Rattle.bk_tree.specs.declared.tree.Decl.TheVariants as d
+use Rattle.bk_tree.specs.declared.tree.Item.{Item}
+use Rattle.bk_tree.specs.declared.tree.Item.TheVariants as i
+use Rattle.bk_tree.specs.declared.tree.Def.{Def, Row_of-Init, end_of-Init, more_of-Init}
+use Rattle.bk_tree.specs.declared.tree.Def.TheVariants as f
+use Rattle.bk_tree.specs.declared.tree.Init.{Init}
+use Rattle.bk_tree.specs.declared.tree.Init.TheVariants as b
+
+-- a name where it stands
+pub record Mention : Type 0 where
+  pub line : ℕ
+  pub letters : List ℕ
+
+mutual
+  -- an operator between two operands has a line of its own, the second number; so have an arrow and a call's parenthesis
+  pub data Expression : Type 0 where
+    name : ℕ → List ℕ → Expression
+    number : ℕ → ℕ → Expression
+    text : ℕ → List ℕ → Expression
+    truth : ℕ → Bool → Expression
+    query : ℕ → Expression
+    parens : ℕ → Expression → Expression
+    unary : ℕ → Prefix → Expression → Expression
+    binary : ℕ → Operator → ℕ → Expression → Expression → Expression
+    choice : ℕ → ℕ → Expression → Expression → Expression → Expression
+    apply : ℕ → ℕ → Expression → Expressions → Expression
+    valof : ℕ → Action → Expression
+    table : ℕ → Expressions → Expression
+
+  pub data Expressions : Type 0 where
+    none : Expressions
+    more : Expression → Expressions → Expressions
+
+  -- the truth says IF and not UNLESS, WHILE and not UNTIL, REPEATWHILE and not REPEATUNTIL
+  pub data Action : Type 0 where
+    empty : Action
+    assign : ℕ → Expressions → Expressions → Action
+    call : ℕ → Expression → Expressions → Action
+    goto : ℕ → Mention → Action
+    label : ℕ → List ℕ → Action → Action
+    case_of : ℕ → Expression → Action → Action
+    default : ℕ → Action → Action
+    when : ℕ → Bool → Expression → Action → Action
+    test : ℕ → Expression → Action → Action → Action
+    while : ℕ → Bool → Expression → Action → Action
+    for_loop : ℕ → Mention → Expression → Expression → Expressions → Action → Action
+    switch : ℕ → Expression → Action → Action
+    result : ℕ → Expression → Action
+    simple : ℕ → Simple → Action
+    block : ℕ → Declarations → Actions → Action
+    repeat : ℕ → Action → Action
+    repeat_while : ℕ → Bool → Action → Expression → Action
+
+  pub data Actions : Type 0 where
+    no_actions : Actions
+    also : Action → Actions → Actions
+
+  pub data Declaration : Type 0 where
+    constants : ℕ → Sort → Items → Declaration
+    definitions : ℕ → Definitions → Declaration
+
+  pub data Declarations : Type 0 where
+    no_declarations : Declarations
+    declare : Declaration → Declarations → Declarations
+
+  -- items: the line and the name of each, and its constant
+  pub data Items : Type 0 where
+    no_items : Items
+    item : ℕ → List ℕ → Expression → Items → Items
+
+  pub data Definition : Type 0 where
+    routine : ℕ → List ℕ → List Mention → Action → Definition
+    function : ℕ → List ℕ → List Mention → Expression → Definition
+    variables : ℕ → List Mention → Starts → Definition
+
+  pub data Definitions : Type 0 where
+    no_definitions : Definitions
+    define : Definition → Definitions → Definitions
+
+  -- what variables begin with: a value, or a vector with the line of its VEC
+  pub data Starts : Type 0 where
+    no_starts : Starts
+    value : Expression → Starts → Starts
+    vector : ℕ → Expression → Starts → Starts
+
+-- the tree of what lies in memory
+abbrev pub mention : Name → Mention
+mention x = record { line = x.line; letters = x.letters.items }
+
+abbrev mutual
+  pub expression : Expr → Expression
+  expression (e.Name l x) = name l x.items
+  expression (e.Number l n) = number l n
+  expression (e.Text l x) = text l x.items
+  expression (e.Truth l b) = truth l b
+  expression (e.Query l) = query l
+  expression (e.Parens' l p x) = parens l (expression x)
+  expression (e.Unary' l o p x) = unary l o (expression x)
+  expression (e.Binary' l o s p x q y) = binary l o s (expression x) (expression y)
+  expression (e.Choice' l s p z q x r y) = choice l s (expression z) (expression x) (expression y)
+  expression (e.Apply' l s p x q es) = apply l s (expression x) (expressions es)
+  expression (e.Valof' l p a) = valof l (action a)
+  expression (e.Table' l q es) = table l (expressions es)
+
+  pub expressions : {m : _} → Row_of-Expr m → Expressions
+  expressions end_of-Expr = none
+  expressions (more_of-Expr x xs) = more (expression x) (expressions xs)
+
+  pub action : Command → Action
+  action c.Empty = empty
+  action (c.Assign' l p xs q es) = assign l (expressions xs) (expressions es)
+  action (c.Call' l p x q es) = call l (expression x) (expressions es)
+  action (c.Goto l x) = goto l (mention x)
+  action (c.Label' l x p a) = label l x.items (action a)
+  action (c.Case' l p x q a) = case_of l (expression x) (action a)
+  action (c.Default' l p a) = default l (action a)
+  action (c.If' l b p x q a) = when l b (expression x) (action a)
+  action (c.Test' l p x q a r o) = test l (expression x) (action a) (action o)
+  action (c.While' l b p x q a) = while l b (expression x) (action a)
+  action (c.For' l n p x q y h r a) = for_loop l (mention n) (expression x) (expression y) (step h) (action a)
+  action (c.SwitchOn' l p x q a) = switch l (expression x) (action a)
+  action (c.ResultIs' l p x) = result l (expression x)
+  action (c.Simple l w) = simple l w
+  action (c.Block' l p ds q cs) = block l (declarations ds) (actions cs)
+  action (c.Repeat' l p a) = repeat l (action a)
+  action (c.RepeatWhile' l b p a q x) = repeat_while l b (action a) (expression x)
+
+  pub step : Held-Command-For-4 → Expressions
+  step None' = none
+  step (Some' p x) = more (expression x) none
+
+  pub actions : {m : _} → Row_of-Command m → Actions
+  actions end_of-Command = no_actions
+  actions (more_of-Command a cs) = also (action a) (actions cs)
+
+  pub declarations : {m : _} → Row_of-Decl m → Declarations
+  declarations end_of-Decl = no_declarations
+  declarations (more_of-Decl x ds) = declare (declaration x) (declarations ds)
+
+  pub declaration : Decl → Declaration
+  declaration (d.Constants' l s p is) = constants l s (items is)
+  declaration (d.Let' l p ds) = definitions l (definitions_of ds)
+
+  pub items : {m : _} → Row_of-Item m → Items
+  items end_of-Item = no_items
+  items (more_of-Item (i.Item l x y) is) = item l x.items (expression y) (items is)
+
+  pub definitions_of : {m : _} → Row_of-Def m → Definitions
+  definitions_of end_of-Def = no_definitions
+  definitions_of (more_of-Def x ds) = define (definition x) (definitions_of ds)
+
+  pub definition : Def → Definition
+  definition (f.Routine' l x xs p a) = routine l x.items (map mention xs.items) (action a)
+  definition (f.Function' l x xs p y) = function l x.items (map mention xs.items) (expression y)
+  definition (f.Variables' l xs p is) = variables l (map mention xs.items) (starts is)
+
+  pub starts : {m : _} → Row_of-Init m → Starts
+  starts end_of-Init = no_starts
+  starts (more_of-Init (b.Value y) is) = value (expression y) (starts is)
+  starts (more_of-Init (b.Vector l y) is) = vector l (expression y) (starts is)
+
+-- lists of trees that lie in memory
+abbrev pub expressions_in : List Expr → Expressions
+expressions_in [] = none
+expressions_in (x ∷ xs) = more (expression x) (expressions_in xs)
+
+abbrev pub step_in : Option (Box Expr Global) → Expressions
+step_in None = none
+step_in (Some x) = more (expression x.value) none
+
+abbrev pub actions_in : List Command → Actions
+actions_in [] = no_actions
+actions_in (c ∷ cs) = also (action c) (actions_in cs)
+
+abbrev pub declarations_in : List Decl → Declarations
+declarations_in [] = no_declarations
+declarations_in (d ∷ ds) = declare (declaration d) (declarations_in ds)
+
+abbrev pub items_in : List Item → Items
+items_in [] = no_items
+items_in ((i.Item l x y) ∷ is) = item l x.items (expression y) (items_in is)
+
+abbrev pub definitions_in : List Def → Definitions
+definitions_in [] = no_definitions
+definitions_in (d ∷ ds) = define (definition d) (definitions_in ds)
+
+abbrev pub starts_in : List Init → Starts
+starts_in [] = no_starts
+starts_in ((b.Value y) ∷ is) = value (expression y) (starts_in is)
+starts_in ((b.Vector l y) ∷ is) = vector l (expression y) (starts_in is)

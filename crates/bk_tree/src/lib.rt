@@ -1,0 +1,11 @@
+//! Trees of BCPL sections, and their limits.
+#![tactic(auto)]
+
+mod copying;
+pub mod make;
+mod section;
+mod tree;
+
+pub use copying::copy;
+pub use section::Section;
+pub use tree::{Command, Decl, Def, Expr, Init, Item, Name, Operator, Prefix, Simple, Sort};
