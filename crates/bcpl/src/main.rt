@@ -1,18 +1,23 @@
 //! The program: it makes the devices, opens FILE, prints help, and leaves the rest to the library.
 #![tactic(auto)]
 
+mod by_lines;
 mod opened;
 
 use bk_base::{Reader512, Writer512};
 use bk_kit::{LineFault, order, refuse, serve};
+use by_lines::ByLines;
 use opened::Opened;
+use std::io::IsTerminal;
 use std::process::ExitCode;
 use std::{env, fs};
 
 fn main(rt: HostRuntime) -> ExitCode {
     let alloc = rt.alloc();
     let mut input = Reader512::new(rt.stdin());
-    let mut out = Writer512::new(rt.stdout());
+    let stdout = rt.stdout();
+    let is_shown = stdout.is_terminal();
+    let mut out = ByLines::new(Writer512::new(stdout), is_shown);
     let mut err = Writer512::new(rt.stderr());
     let Ok(args) = env::args(&rt) else {
         return ExitCode::from(refuse(&LineFault::Memory, &mut err));
