@@ -1,0 +1,4 @@
+// Writes `Hello, world!` and the end of its line.
+GET "LIBHDR"
+
+LET START() BE WRITES("Hello, world!*N")

@@ -1,0 +1,16 @@
+GET "LIBHDR2"
+MANIFEST $( NAME = 0; AGE = 1; NEXT = 2; SIZE = 2 $)
+
+LET MAKE(P, N, A, Q) = VALOF
+$( NAME!P, AGE!P, NEXT!P := N, A, Q
+   RESULTIS P
+$)
+
+LET START() BE
+$( LET P, Q = VEC SIZE, VEC SIZE
+   LET LIST = MAKE(P, "Ada", 36, MAKE(Q, "Alan", 41, 0))
+   UNTIL LIST = 0 DO
+   $( WRITEF("%S is %N*N", NAME!LIST, AGE!LIST)
+      LIST := NEXT!LIST
+   $)
+$)

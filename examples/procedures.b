@@ -1,0 +1,29 @@
+GET "LIBHDR2"
+
+LET SQUARE(X) = X * X
+
+LET POWER(X, N) = VALOF
+$( IF N = 0 RESULTIS 1
+   TEST N REM 2 = 0
+   THEN RESULTIS SQUARE(POWER(X, N / 2))
+   ELSE RESULTIS X * POWER(X, N - 1)
+$)
+
+LET ISEVEN(N) = N = 0 -> TRUE, ISODD(N - 1)
+AND ISODD(N) = N = 0 -> FALSE, ISEVEN(N - 1)
+
+LET SWAP(P, Q) BE
+$( LET T = !P
+   !P := !Q
+   !Q := T
+$)
+
+LET TWICE(F, X) = F(F(X))
+
+LET START() BE
+$( LET A, B = 3, 4
+   SWAP(@A, @B)
+   WRITEF("%N %N*N", A, B)
+   WRITEF("%N %N*N", POWER(2, 10), TWICE(SQUARE, 3))
+   IF ISEVEN(10) DO WRITES("even*N")
+$)

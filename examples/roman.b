@@ -1,0 +1,34 @@
+// Tables of words and of strings: some numbers as the Romans wrote them.
+GET "LIBHDR"
+
+LET ROMAN(N) BE
+$( LET VALUES = TABLE 1000, 900, 500, 400, 100, 90, 50, 40, 10, 9, 5, 4, 1
+   FOR I = 0 TO 12 DO
+      UNTIL N < VALUES!I DO
+      $( WRITES(SIGN(I))
+         N := N - VALUES!I
+      $)
+$)
+
+AND SIGN(I) = VALOF
+SWITCHON I INTO
+$( CASE 0:  RESULTIS "M"
+   CASE 1:  RESULTIS "CM"
+   CASE 2:  RESULTIS "D"
+   CASE 3:  RESULTIS "CD"
+   CASE 4:  RESULTIS "C"
+   CASE 5:  RESULTIS "XC"
+   CASE 6:  RESULTIS "L"
+   CASE 7:  RESULTIS "XL"
+   CASE 8:  RESULTIS "X"
+   CASE 9:  RESULTIS "IX"
+   CASE 10: RESULTIS "V"
+   CASE 11: RESULTIS "IV"
+   DEFAULT: RESULTIS "I"
+$)
+
+LET START() BE
+$( LET YEARS = TABLE 4, 9, 1949, 1966, 1980, 1999, 2024
+   FOR I = 0 TO 6 DO
+   $( WRITED(YEARS!I, 4); WRITES(" = "); ROMAN(YEARS!I); NEWLINE() $)
+$)

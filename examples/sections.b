@@ -1,0 +1,19 @@
+// Two sections, which share globals alone.
+GET "LIBHDR"
+GLOBAL $( GREET:100; TIMES:101 $)
+STATIC $( CALLS = 0 $)
+
+LET GREET(NAME) BE
+$( CALLS := CALLS + 1
+   WRITES("HELLO, "); WRITES(NAME); NEWLINE()
+$)
+
+LET TIMES() = CALLS
+.
+GET "LIBHDR"
+GLOBAL $( GREET:100; TIMES:101 $)
+
+LET START() BE
+$( GREET("ADA"); GREET("MARTIN")
+   WRITEN(TIMES()); NEWLINE()
+$)
