@@ -1,24 +1,22 @@
-//! Output that a terminal shows line by line.
+//! Output that a terminal shows.
 ghost use Rattle.std.specs.Prelude.{◌≡◌};
 
 use bk_base::{ByteOut, Failed};
 
-/// An output. Where `shown`, it passes on what it holds before it takes a line feed, so that a line is seen as soon as it
-/// is complete.
+/// An output that passes on what it holds before it takes a line feed, so that a line is seen as soon as it is complete.
 #[derive(Drop)]
 pub struct ByLines<O> {
     out: O,
-    shown: bool,
 }
 
 impl<O: ByteOut> ByLines<O> {
-    /// The output `out`, whose lines a terminal shows or not.
-    pub fn new(out: O, shown: bool) -> ByLines<O>
+    /// The output `out`, line by line.
+    pub fn new(out: O) -> ByLines<O>
         ensures taken { ⟦<ByLines<O> as ByteOut>⟧.taken result ≡ O.taken out }
         ensures passed { ⟦<ByLines<O> as ByteOut>⟧.passed result ≡ O.passed out }
         ensures faults { ⟦<ByLines<O> as ByteOut>⟧.faults result ≡ O.faults out }
     {
-        ByLines { out, shown }
+        ByLines { out }
     }
 }
 
@@ -29,9 +27,8 @@ impl<O: ByteOut> ByteOut for ByLines<O> {
 
     ghost faults = { λ s. O.faults s.out };
 
-    #[inline]
     fn put(&mut self, byte: u8) -> Result<(), Failed> {
-        if byte == b'\n' && self.shown {
+        if byte == b'\n' {
             self.out.flush()?;
             return self.out.put(byte);
         }
@@ -42,7 +39,6 @@ impl<O: ByteOut> ByteOut for ByLines<O> {
         self.out.flush()
     }
 
-    #[inline]
     fn failures(&self) -> u32 {
         self.out.failures()
     }

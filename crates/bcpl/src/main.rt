@@ -4,28 +4,34 @@
 mod by_lines;
 mod opened;
 
-use bk_base::{Reader512, Writer512};
-use bk_kit::{LineFault, order, refuse, serve};
+use bk_base::{ByteOut, Reader512, Writer512};
+use bk_kit::{LineFault, Order, order, refuse, serve};
 use by_lines::ByLines;
 use opened::Opened;
 use std::io::IsTerminal;
 use std::process::ExitCode;
 use std::{env, fs};
 
-fn main(rt: HostRuntime) -> ExitCode {
-    let alloc = rt.alloc();
+/// Does what is ordered, with these streams for output and lines, and answers the status.
+fn done<O: ByteOut, E: ByteOut>(rt: &HostRuntime, order: &Order, out: &mut O, err: &mut E) -> u8 {
+    let opened = match order.file() {
+        Some(name) => fs::open(rt, name).ok(),
+        None => None,
+    };
+    let mut file = Reader512::new(Opened::new(opened));
     let mut input = Reader512::new(rt.stdin());
-    let stdout = rt.stdout();
-    let is_shown = stdout.is_terminal();
-    let mut out = ByLines::new(Writer512::new(stdout), is_shown);
+    serve(rt.alloc(), order, &mut file, &mut input, out, err)
+}
+
+fn main(rt: HostRuntime) -> ExitCode {
     let mut err = Writer512::new(rt.stderr());
     let Ok(args) = env::args(&rt) else {
         return ExitCode::from(refuse(&LineFault::Memory, &mut err));
     };
-    let Ok(words) = args.collect::<Vec<String>>(alloc) else {
+    let Ok(words) = args.collect::<Vec<String>>(rt.alloc()) else {
         return ExitCode::from(refuse(&LineFault::Memory, &mut err));
     };
-    let order = match order(alloc, words.as_slice()) {
+    let order = match order(rt.alloc(), words.as_slice()) {
         Ok(order) => order,
         Err(fault) => {
             if let LineFault::Help(help) = &fault {
@@ -34,10 +40,13 @@ fn main(rt: HostRuntime) -> ExitCode {
             return ExitCode::from(refuse(&fault, &mut err));
         }
     };
-    let opened = match order.file() {
-        Some(name) => fs::open(&rt, name).ok(),
-        None => None,
+    let stdout = rt.stdout();
+    let status = if stdout.is_terminal() {
+        let mut out = ByLines::new(Writer512::new(stdout));
+        done(&rt, &order, &mut out, &mut err)
+    } else {
+        let mut out = Writer512::new(stdout);
+        done(&rt, &order, &mut out, &mut err)
     };
-    let mut file = Reader512::new(Opened::new(opened));
-    ExitCode::from(serve(alloc, &order, &mut file, &mut input, &mut out, &mut err))
+    ExitCode::from(status)
 }
