@@ -1,22 +1,56 @@
-//! Output that a terminal shows.
-ghost use Rattle.std.specs.Prelude.{◌≡◌};
+//! Output that a terminal may show.
+ghost use Rattle.std.specs.Prelude.{◌≡◌, OnOk, OnErr};
+ghost use Rattle.std.specs.Io.KnownBytes.{Keeps};
+ghost use Rattle.bk_base.specs.Devices.{Begins};
 
 use bk_base::{ByteOut, Failed};
 
-/// An output that passes on what it holds before it takes a line feed, so that a line is seen as soon as it is complete.
+/// An output. Where a terminal shows it, it passes on what it holds before it takes a line feed, so that a line is seen as
+/// soon as it is complete.
 #[derive(Drop)]
 pub struct ByLines<O> {
     out: O,
+    is_shown: bool,
 }
 
 impl<O: ByteOut> ByLines<O> {
-    /// The output `out`, line by line.
-    pub fn new(out: O) -> ByLines<O>
+    /// The output `out`, which a terminal shows or not.
+    pub fn new(out: O, is_shown: bool) -> ByLines<O>
         ensures taken { ⟦<ByLines<O> as ByteOut>⟧.taken result ≡ O.taken out }
         ensures passed { ⟦<ByLines<O> as ByteOut>⟧.passed result ≡ O.passed out }
         ensures faults { ⟦<ByLines<O> as ByteOut>⟧.faults result ≡ O.faults out }
     {
-        ByLines { out }
+        ByLines { out, is_shown }
+    }
+
+    /// A line is complete: what is held is passed on where a terminal shows it. It is a function of its own, so that no time goes
+    /// to it at other bytes.
+    #[cold]
+    #[inline(never)]
+    fn end_line(&mut self) -> Result<(), Failed>
+        ensures keeps { Keeps (O.taken self.old.out) (O.taken self.new.out) }
+        ensures passes { Begins (O.passed self.old.out) (O.passed self.new.out) }
+        ensures failed { OnErr result (O.faults self.new.out ≡ 1) }
+        ensures failed_again { O.faults self.old.out ≡ 1 → (O.faults self.new.out ≡ 1) × Keeps (O.passed self.old.out) (O.passed self.new.out) }
+    {
+        if self.is_shown {
+            return self.out.flush();
+        }
+        Ok(())
+    }
+
+    /// The same where this byte is a line feed.
+    #[inline(always)]
+    fn before(&mut self, byte: u8) -> Result<(), Failed>
+        ensures keeps { Keeps (O.taken self.old.out) (O.taken self.new.out) }
+        ensures passes { Begins (O.passed self.old.out) (O.passed self.new.out) }
+        ensures failed { OnErr result (O.faults self.new.out ≡ 1) }
+        ensures failed_again { O.faults self.old.out ≡ 1 → (O.faults self.new.out ≡ 1) × Keeps (O.passed self.old.out) (O.passed self.new.out) }
+    {
+        if byte == b'\n' {
+            return self.end_line();
+        }
+        Ok(())
     }
 }
 
@@ -27,11 +61,9 @@ impl<O: ByteOut> ByteOut for ByLines<O> {
 
     ghost faults = { λ s. O.faults s.out };
 
+    #[inline(always)]
     fn put(&mut self, byte: u8) -> Result<(), Failed> {
-        if byte == b'\n' {
-            self.out.flush()?;
-            return self.out.put(byte);
-        }
+        self.before(byte)?;
         self.out.put(byte)
     }
 
@@ -39,6 +71,7 @@ impl<O: ByteOut> ByteOut for ByLines<O> {
         self.out.flush()
     }
 
+    #[inline]
     fn failures(&self) -> u32 {
         self.out.failures()
     }

@@ -41,12 +41,7 @@ fn main(rt: HostRuntime) -> ExitCode {
         }
     };
     let stdout = rt.stdout();
-    let status = if stdout.is_terminal() {
-        let mut out = ByLines::new(Writer512::new(stdout));
-        done(&rt, &order, &mut out, &mut err)
-    } else {
-        let mut out = Writer512::new(stdout);
-        done(&rt, &order, &mut out, &mut err)
-    };
-    ExitCode::from(status)
+    let is_shown = stdout.is_terminal();
+    let mut out = ByLines::new(Writer512::new(stdout), is_shown);
+    ExitCode::from(done(&rt, &order, &mut out, &mut err))
 }
