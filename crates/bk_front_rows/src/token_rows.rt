@@ -521,6 +521,33 @@ fn tells(
     Ok(answer.as_bytes() == expected)
 }
 
+/// Texts with the places of their tokens: the first ones, how many then lie nowhere in the text, and the last ones.
+static PLACES: [(&[u8], &[u8], usize, &[u8]); 3] = [
+    (
+        b"A\nGET \"LIBHDR\" // x\n  B := 1 .",
+        b"0 ",
+        54,
+        b"22 24 27 ",
+    ),
+    (b"A\n\tB", b"0 ", 1, b"3 "),
+    (b"\tIF A GOTO L", b"1 4 ", 1, b"6 11 "),
+];
+
+/// The places of tokens, with `-` for one that lies nowhere in the text.
+fn places_listed(alloc: Global, tokens: &[Token<'_>]) -> Result<String, AllocError> {
+    let mut out = String::new(alloc);
+    for token in tokens {
+        match token.place {
+            Some(place) => {
+                put_number(&mut out, alloc, place as usize)?;
+                out.push(' ')?;
+            }
+            None => out.push('-')?,
+        }
+    }
+    Ok(out)
+}
+
 /// The number of a short text's tokens, or 100 and the number of its fault.
 fn outcome(rt: &HostRuntime, text: &[u8]) -> Result<usize, Fail> {
     match lex(rt.alloc(), text, Line::first()) {
@@ -615,6 +642,19 @@ fn wrong_long(
         }
     }
     Ok(None)
+}
+
+#[test]
+fn places(rt: HostRuntime) -> Result<(), Fail> {
+    for (text, before, nowhere, behind) in &PLACES {
+        let expected = long_text(rt.alloc(), before, b'-', *nowhere, behind)?;
+        let Ok(lexed) = lex(rt.alloc(), text, Line::first()) else {
+            return Err(Fail::from("refused"));
+        };
+        let places = places_listed(rt.alloc(), lexed.tokens.as_slice())?;
+        assert_eq!(rt; places.as_bytes(), expected.as_slice());
+    }
+    Ok(())
 }
 
 #[test]

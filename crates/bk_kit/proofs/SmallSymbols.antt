@@ -1,5 +1,5 @@
 -- What numbers and characters of a section stand for are words, where its text is of bytes.
-use Rattle.std.proofs.Common.{◌≡◌, ℕ, ◌+◌, ◌*◌, ◌<◌, ◌%◌, ◌^◌, ◌==◌, ◌||◌, nat_lt, Bool, true, false, List, [], ◌∷◌, ◌++◌, Option, Some, None, cond, if◌then◌else◌, refl, sym, ap, subst, arith}
+use Rattle.std.proofs.Common.{◌≡◌, ℕ, ◌+◌, ◌-◌, ◌*◌, ◌<◌, ◌%◌, ◌^◌, ◌==◌, ◌||◌, nat_lt, Bool, true, false, List, [], ◌∷◌, ◌++◌, Option, Some, None, cond, if◌then◌else◌, refl, sym, ap, subst, arith, length}
 use Rattle.std.proofs.lemmas.Bool.{ltb-true, and_parts}
 use Rattle.std.proofs.lemmas.Nat.{mod_below}
 use Rattle.std.specs.List.{list_all}
@@ -107,16 +107,17 @@ inserted_small (Some kind) line = (omega arith, tt)
 
 named_small : (q r : Putting) (g : ℕ) (o : Option Header) → AreSmall q.out → named_as q g o ≡ Some r → AreSmall r.out
 named_small q r g None h e = absurd cc
-named_small q r g (Some x) h e = subst AreSmall (ap (λ (p : Putting). p.out) (let same : putting (q.out ++ header_symbols x g) (Some k.SectionClose) q.fed q.line None ≡ r = cc in same)) (small_both q.out (header_symbols x g) h (header_small x g))
+named_small q r g (Some x) h e = subst AreSmall (ap (λ (p : Putting). p.out) (let same : putting (q.out ++ header_symbols x g) (Some k.SectionClose) q.fed q.line None q.used ≡ r = cc in same)) (small_both q.out (header_symbols x g) h (header_small x g))
 
 put_as_small : (q r : Putting) (text : List ℕ) (what : What) (get : Option ℕ) → Bytes text → AreSmall q.out → put_as q text what get ≡ Some r → AreSmall r.out
 put_as_small q r text whats.Gap get b h e = subst AreSmall (ap (λ (p : Putting). p.out) (let same : q ≡ r = cc in same)) h
 put_as_small q r text (whats.Symbol kind) None b h e =
     let more : List Symbol = inserted_symbols (inserted q.last kind q.fed) q.line in
-    let same : putting (q.out ++ more ++ symbol kind q.line text ∷ []) (Some kind) false q.line None ≡ r = cc in
-    subst AreSmall (ap (λ (p : Putting). p.out) same) (small_both (q.out ++ more) (symbol kind q.line text ∷ []) (small_both q.out more h (inserted_small (inserted q.last kind q.fed) q.line)) (character_small text b, tt))
+    let here : Symbol = symbol kind q.line (Some (q.used - length text)) text in
+    let same : putting (q.out ++ more ++ here ∷ []) (Some kind) false q.line None q.used ≡ r = cc in
+    subst AreSmall (ap (λ (p : Putting). p.out) same) (small_both (q.out ++ more) (here ∷ []) (small_both q.out more h (inserted_small (inserted q.last kind q.fed) q.line)) (character_small text b, tt))
 put_as_small q r text (whats.Symbol kind) (Some g) b h e = named_small q r g (header_named text) h e
-put_as_small q r text whats.Get None b h e = subst AreSmall (ap (λ (p : Putting). p.out) (let same : putting q.out q.last false q.line (Some q.line) ≡ r = cc in same)) h
+put_as_small q r text whats.Get None b h e = subst AreSmall (ap (λ (p : Putting). p.out) (let same : putting q.out q.last false q.line (Some q.line) q.used ≡ r = cc in same)) h
 put_as_small q r text whats.Get (Some g) b h e = absurd cc
 
 put_small : (q r : Putting) (p : Piece) → Bytes p.text → AreSmall q.out → put q p ≡ Some r → AreSmall r.out
@@ -143,7 +144,7 @@ puts_small (p ∷ ps) q r text rest cut b h e =
 pub symbols_small : (text : List ℕ) (line : ℕ) (s : Section) → Bytes text → IsSection text line s → AreSmall s.symbols
 symbols_small text line s b is =
     let c = is.0 in
-    subst AreSmall (sym c.symbols) (puts_small c.pieces (putting [] None false line None) c.last text c.rest c.cut b tt c.tokens)
+    subst AreSmall (sym c.symbols) (puts_small c.pieces (putting [] None false line None 0) c.last text c.rest c.cut b tt c.tokens)
 
 -- ---- plain symbols
 

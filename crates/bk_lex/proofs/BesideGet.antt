@@ -69,7 +69,7 @@ piece_stays q line k t m g s is w f light fits =
 
 -- ---- a `/`
 
-pub slash_next : (q : Putting) (t tail : List ℕ) (r : Reading) (line : ℕ) → Agrees (seen q t) r.out r.state r.place → walk_piece t ≡ nexts.Goes r.state.mode → OnlyGap r.state.mode → q.get ≡ Some line → FirstFits q t → (piece r.state.mode ≡ whats.Gap → ⊥) → room r.state.last r.state.fed (piece r.state.mode) ≤ r.state.symbols → IsWhole r.state.mode → NoLonger t tail → ((bs : List ℕ) → tail ≡ 47 ∷ bs → ⊥)
+pub slash_next : (q : Putting) (t tail : List ℕ) (r : Reading) (line : ℕ) → Agrees (seen q t) r.out r.state r.place r.used → walk_piece t ≡ nexts.Goes r.state.mode → OnlyGap r.state.mode → q.get ≡ Some line → FirstFits q t → (piece r.state.mode ≡ whats.Gap → ⊥) → room r.state.last r.state.fed (piece r.state.mode) ≤ r.state.symbols → IsWhole r.state.mode → NoLonger t tail → ((bs : List ℕ) → tail ≡ 47 ∷ bs → ⊥)
     → NoPut q (t ++ tail) × ((n : ℕ) → PassesNext q n (t ++ tail) → ⊥)
 slash_next q t tail r line a w only g f n le whole longest other =
     let reads = piece_reads t r.state.mode w in
@@ -130,7 +130,7 @@ first_stays q line c m g s light f e bad = look m (fresh_reads c m e) (begun_wal
 heads : (b c : ℕ) (xs ys : List ℕ) → b ∷ xs ≡ c ∷ ys → b ≡ c
 heads b c xs ys e = cc
 
-begun_fits : (q : Putting) (out : List Symbol) (x : State) (place : Place) (c : ℕ) (m : Mode) → Agrees q out x place → fresh c ≡ Some m → least_room x m ≤ x.symbols → FirstFits q (c ∷ [])
+begun_fits : {used : ℕ} (q : Putting) (out : List Symbol) (x : State) (place : Place) (c : ℕ) (m : Mode) → Agrees q out x place used → fresh c ≡ Some m → least_room x m ≤ x.symbols → FirstFits q (c ∷ [])
 begun_fits q out x place c m a f le b rest n e g =
     let mode : m ≡ n = some_same m n (sym f ∙ ap fresh (heads c b [] rest e) ∙ g) in
     let least = ap (λ (k : Mode). asks x.last x.fed k) mode in
@@ -194,11 +194,11 @@ pending_first q t m p w = look p.1
     look (inl e) = absurd (let z : nexts.Ends ≡ nexts.Goes m = ap walk_piece (sym e) ∙ w in cc)
     look (inr h) = h.3
 
-some_due : (q : Putting) (t : List ℕ) (out : List Symbol) (x : State) (place : Place) → Agrees (seen q t) out x place → x.get ≡ true → (g : ℕ) × (q.get ≡ Some g)
+some_due : {used : ℕ} (q : Putting) (t : List ℕ) (out : List Symbol) (x : State) (place : Place) → Agrees (seen q t) out x place used → x.get ≡ true → (g : ℕ) × (q.get ≡ Some g)
 some_due q t out x place a on = let g = get_due (seen q t).get x.get place.get_line a.get on in (g.0, sym (seen_get q t) ∙ g.1)
 
 -- a `/` where the string is due
-slash_stays : (q : Putting) (t : List ℕ) (r : Reading) (c : ℕ) → Here t r.state.mode r.held q.get → Agrees (seen q t) r.out r.state r.place → Pending q t → next r.state.mode c ≡ nexts.Ends → r.state.get ≡ true → (piece r.state.mode ≡ whats.Gap → ⊥) → room r.state.last r.state.fed (piece r.state.mode) ≤ r.state.symbols → Stays q (t ++ c ∷ [])
+slash_stays : (q : Putting) (t : List ℕ) (r : Reading) (c : ℕ) → Here t r.state.mode r.held q.get → Agrees (seen q t) r.out r.state r.place r.used → Pending q t → next r.state.mode c ≡ nexts.Ends → r.state.get ≡ true → (piece r.state.mode ≡ whats.Gap → ⊥) → room r.state.last r.state.fed (piece r.state.mode) ≤ r.state.symbols → Stays q (t ++ c ∷ [])
 slash_stays q t r c (inl d) a p x on n le = absurd (n (ap piece d.1))
 slash_stays q t r c (inr (inr d)) a p x on n le = absurd (naming_step t r.state.mode c d.0 nexts.Ends x)
 slash_stays q t r c (inr (inl d)) a p x on n le =
@@ -221,10 +221,10 @@ way_concludes rest last total = record {
 }
 
 -- a byte that may not begin where the string is due
-begin_stays : (q : Putting) (t : List ℕ) (r : Reading) (c : ℕ) (m : Mode) (e : Ended) → Here t r.state.mode r.held q.get → Agrees (seen q t) r.out r.state r.place → next r.state.mode c ≡ nexts.Ends → fresh c ≡ Some m → ended r.state ≡ Ok e → e.state.get ≡ true → in_get m ≡ Err BadGet → least_room e.state m ≤ e.state.symbols → Stays q (t ++ c ∷ [])
+begin_stays : (q : Putting) (t : List ℕ) (r : Reading) (c : ℕ) (m : Mode) (e : Ended) → Here t r.state.mode r.held q.get → Agrees (seen q t) r.out r.state r.place r.used → next r.state.mode c ≡ nexts.Ends → fresh c ≡ Some m → ended r.state ≡ Ok e → e.state.get ≡ true → in_get m ≡ Err BadGet → least_room e.state m ≤ e.state.symbols → Stays q (t ++ c ∷ [])
 begin_stays q t r c m e here a x f o on bad le =
     let after = ended_agrees (piece r.state.mode) (seen q t) r.out r.state r.place r.held e a o in
-    let out = put_on r.out e.given r.place.line r.held in
+    let out = put_on r.out e.given r.place.line r.used r.held in
     let place = at r.place.line (get_line_after r.place e.given) in
     let g = get_due after.0.get e.state.get place.get_line after.2.get on in
     let light : weight after.0 ≤ 262144 = omega (arith, after.2.count) in
@@ -232,7 +232,7 @@ begin_stays q t r c m e here a x f o on bad le =
     stays_behind q after.0 (t ++ c ∷ []) (c ∷ []) (λ more. subst (λ (y : List ℕ). Way q y (c ∷ more) after.0) (sym (append_assoc t (c ∷ []) more)) (
     piece_before (λ q text. Way q text (c ∷ more) after.0) Nowhere Nowhere 0 (way_concludes (c ∷ more) after.0 0) q t r c more e here x after record { pieces = []; cut = refl; tokens = refl })) s
 
-ends_stays : (o : Option Mode) (q : Putting) (t : List ℕ) (r : Reading) (c : ℕ) → Here t r.state.mode r.held q.get → Agrees (seen q t) r.out r.state r.place → Pending q t → next r.state.mode c ≡ nexts.Ends → fresh c ≡ o → within r.state.bytes (opened_as r.state c o) ≡ Err BadGet → Stays q (t ++ c ∷ [])
+ends_stays : (o : Option Mode) (q : Putting) (t : List ℕ) (r : Reading) (c : ℕ) → Here t r.state.mode r.held q.get → Agrees (seen q t) r.out r.state r.place r.used → Pending q t → next r.state.mode c ≡ nexts.Ends → fresh c ≡ o → within r.state.bytes (opened_as r.state c o) ≡ Err BadGet → Stays q (t ++ c ∷ [])
 ends_stays None q t r c here a p x f e = absurd (let z : BadByte ≡ BadGet = only_get r.state.bytes BadByte e in cc)
 ends_stays (Some m) q t r c here a p x f e = look (ended r.state) refl e
   where
@@ -269,7 +269,7 @@ named_stays {A = A} n st h e = look (ltb st.symbols (header_rest h)) e
     look true z = absurd (let y : HeaderTooLong ≡ BadGet = only_get n HeaderTooLong z in cc)
     look false z = within_good n u z
 
-step_stays : (x : Next) (q : Putting) (t : List ℕ) (r : Reading) (c : ℕ) → Here t r.state.mode r.held q.get → Agrees (seen q t) r.out r.state r.place → Pending q t → next r.state.mode c ≡ x → within r.state.bytes (moved r.state c x) ≡ Err BadGet → Stays q (t ++ c ∷ [])
+step_stays : (x : Next) (q : Putting) (t : List ℕ) (r : Reading) (c : ℕ) → Here t r.state.mode r.held q.get → Agrees (seen q t) r.out r.state r.place r.used → Pending q t → next r.state.mode c ≡ x → within r.state.bytes (moved r.state c x) ≡ Err BadGet → Stays q (t ++ c ∷ [])
 step_stays (nexts.Goes n) q t r c here a p x e = within_good r.state.bytes (stepped (with_mode r.state n) acts.Goes) e
 step_stays nexts.Ends q t r c here a p x e = ends_stays (fresh c) q t r c here a p x refl e
 step_stays (nexts.Names h) q t r c here a p x e = named_stays r.state.bytes r.state h e
@@ -307,7 +307,7 @@ end_kinds (Name n) e = cc
 abbrev EndStays : Putting → List ℕ → Type 0
 EndStays q t = (rest : List ℕ) × (q2 : Putting) × Way q (t ++ []) rest q2 × NoPut q2 rest × (weight q2 ≤ 262144) × ((line : ℕ) → PassesNext q2 line rest → ⊥)
 
-slash_ends : (q : Putting) (t : List ℕ) (r : Reading) → Here t r.state.mode r.held q.get → Agrees (seen q t) r.out r.state r.place → Pending q t → end_fault r.state.mode ≡ None → r.state.get ≡ true → (piece r.state.mode ≡ whats.Gap → ⊥) → room r.state.last r.state.fed (piece r.state.mode) ≤ r.state.symbols → EndStays q t
+slash_ends : (q : Putting) (t : List ℕ) (r : Reading) → Here t r.state.mode r.held q.get → Agrees (seen q t) r.out r.state r.place r.used → Pending q t → end_fault r.state.mode ≡ None → r.state.get ≡ true → (piece r.state.mode ≡ whats.Gap → ⊥) → room r.state.last r.state.fed (piece r.state.mode) ≤ r.state.symbols → EndStays q t
 slash_ends q t r (inl d) a p x on n le = absurd (n (ap piece d.1))
 slash_ends q t r (inr (inr d)) a p x on n le = absurd (let z : Some BadString ≡ None = sym (ap end_fault d.0.2) ∙ x in cc)
 slash_ends q t r (inr (inl d)) a p x on n le =
@@ -320,14 +320,14 @@ slash_ends q t r (inr (inl d)) a p x on n le =
     nothing : (bs : List ℕ) → [] ≡ 47 ∷ bs → ⊥
     nothing bs e = cc
 
-whole_ends : (q : Putting) (t : List ℕ) (r : Reading) (e : Ended) → Here t r.state.mode r.held q.get → Agrees (seen q t) r.out r.state r.place → end_fault r.state.mode ≡ None → ended r.state ≡ Ok e → EndStays q t
+whole_ends : (q : Putting) (t : List ℕ) (r : Reading) (e : Ended) → Here t r.state.mode r.held q.get → Agrees (seen q t) r.out r.state r.place r.used → end_fault r.state.mode ≡ None → ended r.state ≡ Ok e → EndStays q t
 whole_ends q t r e here a x o =
     let after = ended_agrees (piece r.state.mode) (seen q t) r.out r.state r.place r.held e a o in
     let light : weight after.0 ≤ 262144 = omega (arith, after.2.count) in
     let w = end_before (λ q text. Way q text [] after.0) (λ q q2 k t rest is longest e w. way_more q q2 after.0 k t rest [] is longest e w) q t r e here x after (record { pieces = []; cut = refl; tokens = refl }) in
     ([], after.0, w, no_cut_put after.0 [] (end_no_cut [] (inl refl)), light, λ line. nil_symbols after.0 line light)
 
-finish_stays : (o : Option Fault) (q : Putting) (t : List ℕ) (r : Reading) → Here t r.state.mode r.held q.get → Agrees (seen q t) r.out r.state r.place → Pending q t → end_fault r.state.mode ≡ o → finished_as r.state o ≡ Err BadGet → EndStays q t
+finish_stays : (o : Option Fault) (q : Putting) (t : List ℕ) (r : Reading) → Here t r.state.mode r.held q.get → Agrees (seen q t) r.out r.state r.place r.used → Pending q t → end_fault r.state.mode ≡ o → finished_as r.state o ≡ Err BadGet → EndStays q t
 finish_stays (Some f) q t r here a p x e = absurd (end_kinds r.state.mode (x ∙ ap (λ (y : Fault). Some y) (err_is f BadGet e)))
 finish_stays None q t r here a p x e = look (ended r.state) refl e
   where

@@ -27,7 +27,7 @@ use Rattle.bk_lex.specs.Machine.{fresh, next, piece}
 use Rattle.bk_lex.specs.Counting.{start, state, with_mode, ended_what, ended_as, room_for, mode_begun, header_rest}
 use Rattle.bk_lex.specs.declared.scan.Lexed.{Lexed}
 use Rattle.bk_base.specs.declared.refused.Refused.{Refused}
-use Rattle.bk_lex.specs.Lexing.{Gives, Section, section, run, lexed, put_on, at, get_line_after}
+use Rattle.bk_lex.specs.Lexing.{Gives, Section, section, run, lexed, put_on, at, get_line_after, line_after}
 use Rattle.bk_lex.specs.Pieces.{Sort, Spelled, IsBounded, NoLonger, Piece, CutsTo}
 use Rattle.bk_lex.specs.Tokens.{what_of, header_named, Putting, putting, seen, named_as, put_as, is_dot_sort, put, puts, EndsSection, IsSection}
 use Rattle.bk_lex.specs.TextFault.{waiting, weight, room}
@@ -35,7 +35,7 @@ use Rattle.bk_lex.proofs.Walk.{walk, walk_piece, then_goes, begins, begins_goes}
 use Rattle.bk_lex.proofs.Modes.{piece_reads}
 use Rattle.bk_lex.proofs.Naming.{name_plain}
 use Rattle.bk_lex.proofs.Soundness.{GetAgrees, Agrees, ended_agrees, piece_is}
-use Rattle.bk_lex.proofs.Onward.{begun_agrees, some_put, header_length}
+use Rattle.bk_lex.proofs.Onward.{some_put, header_length}
 use Rattle.bk_lex.proofs.Stops.{longest_stops, bounded_over, Stops}
 use Rattle.bk_lex.proofs.Runs.{has_room, run_goes, gone_on, resting, first_on, run_first, run_ends, named_on, run_named}
 use Rattle.bk_lex.proofs.Firsts.{Begun, piece_begins, no_put, weight_same, insertion_length, PutOf, put_of, puts_next, puts_weight}
@@ -54,7 +54,7 @@ put_room q q2 t whats.Gap get e o h = omega (arith, weight_same q q2 h)
 put_room q q2 t (whats.Symbol k) None e o h =
     let same = weight_same _ q2 h in
     let wait : waiting q.get ≡ 0 = ap waiting e in
-    omega (arith, same, wait, insertion_length (inserted q.last k q.fed) q.out q.line (symbol k q.line t))
+    omega (arith, same, wait, insertion_length (inserted q.last k q.fed) q.out q.line (symbol k q.line (Some (q.used - length t)) t))
 put_room q q2 t (whats.Symbol k) (Some g) e o h = absurd o
 put_room q q2 t whats.Get None e o h =
     let same = weight_same _ q2 h in
@@ -62,10 +62,10 @@ put_room q q2 t whats.Get None e o h =
     omega (arith, same, wait)
 put_room q q2 t whats.Get (Some g) e o h = absurd o
 
-pub rooms_same : (q : Putting) (out : List Symbol) (x : State) (place : Place) (w : What) (f g : Bool) → Agrees q out x place → f ≡ g → room x.last f w ≡ room q.last g w
+pub rooms_same : {used : ℕ} (q : Putting) (out : List Symbol) (x : State) (place : Place) (w : What) (f g : Bool) → Agrees q out x place used → f ≡ g → room x.last f w ≡ room q.last g w
 rooms_same q out x place w f g a e = ap (λ (y : Bool). room x.last y w) e ∙ ap (λ y. room y g w) a.last
 
-off : (q : Putting) (out : List Symbol) (x : State) (place : Place) (get : Option ℕ) → q.get ≡ get → Agrees q out x place → GetAgrees get x.get place.get_line
+off : {used : ℕ} (q : Putting) (out : List Symbol) (x : State) (place : Place) (get : Option ℕ) → q.get ≡ get → Agrees q out x place used → GetAgrees get x.get place.get_line
 off q out x place get e a = subst (λ (o : Option ℕ). GetAgrees o x.get place.get_line) e a.get
 
 abbrev pub EndsWell : State → What → Type 0
@@ -91,7 +91,7 @@ mode_well whats.Get (Some g) x line m o a h = absurd o
 
 -- what the run gives between pieces, behind these tokens
 abbrev pub Comes : Putting → List ℕ → ℕ → Section → Type 0
-Comes q rest used s = (out : List Symbol) (x : State) (place : Place) → Agrees q out x place → x.bytes + used ≡ 1048576 → run (resting out x place used) rest ≡ Ok s
+Comes q rest used s = (out : List Symbol) (x : State) (place : Place) → Agrees q out x place used → x.bytes + used ≡ 1048576 → run (resting out x place used) rest ≡ Ok s
 
 same_mode : (m n : Mode) → (let o : Option Mode = Some m in o) ≡ Some n → m ≡ n
 same_mode m n e = cc
@@ -122,15 +122,15 @@ ordinary_from k b bs rest q q2 used s m n begun w is stop o p light small ih out
     let two = ap (λ (d : Bool). cond d (Ok (section r.out r.used true r.place.line)) (run r (bs ++ rest))) begun.2 in
     let three = run_goes bs r n rest w (omega (arith, bytes, small)) in
     let r2 = gone_on r bs n in
-    let a2 : Agrees q3 out r2.state r2.place = begun_agrees q out x place.line place.get_line n r2.state.bytes b a in
+    let used_is : (used + 1) + length bs ≡ used + length (b ∷ bs) = omega arith in
+    let a2 : Agrees q3 out r2.state r2.place r2.used = record { same = a.same; last = a.last; fed = feds; line = ap (λ (l : ℕ). line_after b l) a.line; get = a.get; count = a.count; bytes = used_is ∙ ap (λ (k : ℕ). k + length (b ∷ bs)) a.bytes } in
     let well = ends_well what r2.state q.get place.get_line get o fits in
     let after = ended_agrees what q3 out r2.state r2.place (b ∷ bs) well.0 a2 well.1 in
     let same : after.0 ≡ q2 = some_put after.0 q2 (sym after.1 ∙ p) in
     let left : well.0.state.bytes + (used + length (b ∷ bs)) ≡ 1048576 = omega (arith, well.2, bytes, small) in
-    let used_is : (used + 1) + length bs ≡ used + length (b ∷ bs) = omega arith in
-    let out2 = put_on out well.0.given r2.place.line (b ∷ bs) in
+    let out2 = put_on out well.0.given r2.place.line r2.used (b ∷ bs) in
     let place2 = at r2.place.line (get_line_after r2.place well.0.given) in
-    let behind : run (resting out2 well.0.state place2 (used + length (b ∷ bs))) rest ≡ Ok s = ih out2 well.0.state place2 (subst (λ (y : Putting). Agrees y out2 well.0.state place2) same after.2) left in
+    let behind : run (resting out2 well.0.state place2 (used + length (b ∷ bs))) rest ≡ Ok s = ih out2 well.0.state place2 (subst (λ (k : ℕ). Agrees q2 out2 well.0.state place2 k) used_is (subst (λ (y : Putting). Agrees y out2 well.0.state place2 r2.used) same after.2)) left in
     one ∙ two ∙ three ∙ run_ends rest r2 well.0 s stop (ap (ended_what r2.state) is ∙ well.1) well.2 (ap (λ (u : ℕ). run (resting out2 well.0.state place2 u) rest) used_is ∙ behind)
 
 -- ---- the string of a GET
@@ -213,13 +213,13 @@ header_text t h e = look (bytes_eq up (codes "\"LIBHDR\"")) (bytes_eq up (codes 
         subst (λ (x : Header). HeaderText t x) same (header_at t (codes "LIBHDR2") Formatted (search (arith)) refl ((bytes_eq-Decides up (codes "\"LIBHDR2\"")).0 g))
     look false false f g = none_header h (sym (ap (λ (y : Bool). cond y (Some Plain) (cond (bytes_eq up (codes "\"LIBHDR2\"")) (Some Formatted) None)) f ∙ ap (λ (y : Bool). cond y (Some Formatted) None) g) ∙ e)
 
-pub named_as_some : (q q2 : Putting) (g : ℕ) (o : Option Header) → named_as q g o ≡ Some q2 → (h : Header) × (o ≡ Some h) × (putting (q.out ++ header_symbols h g) (Some kinds.SectionClose) q.fed q.line None ≡ q2)
+pub named_as_some : (q q2 : Putting) (g : ℕ) (o : Option Header) → named_as q g o ≡ Some q2 → (h : Header) × (o ≡ Some h) × (putting (q.out ++ header_symbols h g) (Some kinds.SectionClose) q.fed q.line None q.used ≡ q2)
 named_as_some q q2 g None e = no_put q2 e
 named_as_some q q2 g (Some h) e = (h, refl, some_put _ q2 e)
 
 -- the run over a header's string, up to its last quote
 named_from : (u rest : List ℕ) (q q2 : Putting) (used g n : ℕ) (h : Header) (s : Section) → walk (Name 0) u ≡ nexts.Goes (Name n) → next (Name n) 34 ≡ nexts.Names h → q.get ≡ Some g
-    → putting (q.out ++ header_symbols h g) (Some kinds.SectionClose) (q.fed || false) q.line None ≡ q2 → weight q2 ≤ 262144 → used + length (34 ∷ u ++ 34 ∷ []) ≤ 1048576 → Comes q2 rest (used + length (34 ∷ u ++ 34 ∷ [])) s → Comes q (34 ∷ u ++ 34 ∷ rest) used s
+    → putting (q.out ++ header_symbols h g) (Some kinds.SectionClose) (q.fed || false) q.line None (q.used + length (34 ∷ u ++ 34 ∷ [])) ≡ q2 → weight q2 ≤ 262144 → used + length (34 ∷ u ++ 34 ∷ []) ≤ 1048576 → Comes q2 rest (used + length (34 ∷ u ++ 34 ∷ [])) s → Comes q (34 ∷ u ++ 34 ∷ rest) used s
 named_from u rest q q2 used g n h s w x due p light small ih out st place a bytes =
     let get = off q out st place (Some g) due a in
     let len = length-append u (34 ∷ []) in
@@ -237,10 +237,10 @@ named_from u rest q q2 used g n h s w x due p light small ih out st place a byte
     let four = run_named r2 34 h rest x fits (omega (arith, bytes, small, len)) in
     let r3 = named_on r2 34 h in
     let outs : out ++ header_symbols h place.get_line ≡ q.out ++ header_symbols h g = ap (λ (y : List Symbol). y ++ header_symbols h place.get_line) a.same ∙ ap (λ (y : ℕ). q.out ++ header_symbols h y) get.1 in
-    let agrees : Agrees (putting (q.out ++ header_symbols h g) (Some kinds.SectionClose) (q.fed || false) q.line None) r3.out r3.state r3.place = record { same = outs; last = refl; fed = ap (λ (f : Bool). f || false) a.fed; line = a.line; get = refl; count = omega (arith, a.count, wait, heavy, head, fits) } in
+    let agrees : Agrees (putting (q.out ++ header_symbols h g) (Some kinds.SectionClose) (q.fed || false) q.line None (q.used + length (34 ∷ u ++ 34 ∷ []))) r3.out r3.state r3.place (used + length (34 ∷ u ++ 34 ∷ [])) = record { same = outs; last = refl; fed = ap (λ (f : Bool). f || false) a.fed; line = a.line; get = refl; count = omega (arith, a.count, wait, heavy, head, fits); bytes = ap (λ (k : ℕ). k + length (34 ∷ u ++ 34 ∷ [])) a.bytes } in
     let used_is : ((used + 1) + length u) + 1 ≡ used + length (34 ∷ u ++ 34 ∷ []) = omega (arith, len) in
     let left : r3.state.bytes + (used + length (34 ∷ u ++ 34 ∷ [])) ≡ 1048576 = omega (arith, bytes, small, len) in
-    let behind = ih r3.out r3.state r3.place (subst (λ (y : Putting). Agrees y r3.out r3.state r3.place) p agrees) left in
+    let behind = ih r3.out r3.state r3.place (subst (λ (y : Putting). Agrees y r3.out r3.state r3.place (used + length (34 ∷ u ++ 34 ∷ []))) p agrees) left in
     one ∙ three ∙ four ∙ run_ends rest r3 (ended_as r3.state givens.Nothing) s (blank_stops rest) refl refl (ap (λ (k : ℕ). run (resting r3.out r3.state r3.place k) rest) used_is ∙ behind)
   where
     header_large : (h : Header) → 1 ≤ header_rest h
@@ -280,7 +280,7 @@ piece_named t rest q q2 used g s due p light small ih =
     let h = header_text t n.0 n.1 in
     subst (λ (y : List ℕ). Comes q (y ++ rest) used s) (sym h.2) (
     subst (λ (y : List ℕ). Comes q y used s) (sym (append_assoc (34 ∷ h.0) (34 ∷ []) rest)) (
-    named_from h.0 rest q q2 used g h.1 n.0 s h.3 h.4 due (subst (λ (y : List ℕ). putting ((seen q y).out ++ header_symbols n.0 g) (Some kinds.SectionClose) (seen q y).fed (seen q y).line None ≡ q2) h.2 n.2) light
+    named_from h.0 rest q q2 used g h.1 n.0 s h.3 h.4 due (subst (λ (y : List ℕ). putting ((seen q y).out ++ header_symbols n.0 g) (Some kinds.SectionClose) (seen q y).fed (seen q y).line None (seen q y).used ≡ q2) h.2 n.2) light
     (subst (λ (y : List ℕ). used + length y ≤ 1048576) h.2 small) (subst (λ (y : List ℕ). Comes q2 rest (used + length y) s) h.2 ih)))
 
 pub piece_run : (k : Sort) (t rest : List ℕ) (q q2 : Putting) (used : ℕ) (s : Section) (w : What) (get : Option ℕ) → what_of k t ≡ w → q.get ≡ get → Whole k t rest → PutOf q (record { sort = k; text = t }) q2 → weight q2 ≤ 262144 → used + length t ≤ 1048576 → Comes q2 rest (used + length t) s
@@ -358,7 +358,7 @@ complete (p ∷ ps) q last text rest used total s cuts e f at =
 pub section_is_lexed : (text : List ℕ) (from : ℕ) (s : Section) → IsSection text from s → lexed text from ≡ Ok s
 section_is_lexed text from s h =
     let c = h.0 in
-    complete c.pieces (putting [] None false from None) c.last text c.rest 0 (length text) s c.cut c.tokens (c.no_get, c.symbols, c.line, c.within, c.ends, h.1) (omega arith) [] start (at from from) (record { same = refl; last = refl; fed = refl; line = refl; get = refl; count = refl }) refl
+    complete c.pieces (putting [] None false from None 0) c.last text c.rest 0 (length text) s c.cut c.tokens (c.no_get, c.symbols, c.line, c.within, c.ends, h.1) (omega arith) [] start (at from from) (record { same = refl; last = refl; fed = refl; line = refl; get = refl; count = refl; bytes = refl }) refl
 
 pub one_section : (text : List ℕ) (from : ℕ) (s t : Section) → IsSection text from s → IsSection text from t → s ≡ t
 one_section text from s t h k = same s t (sym (section_is_lexed text from s h) ∙ section_is_lexed text from t k)

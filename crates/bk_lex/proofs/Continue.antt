@@ -216,7 +216,7 @@ due_done : (q : Putting) (g : ℕ) → q.get ≡ Some g → (q2 : Putting) × Wa
 due_done q g e =
     let q1 = seen q (10 ∷ []) in
     let q3 = seen q1 (codes "\"LIBHDR\"") in
-    let q2 = putting (q3.out ++ header_symbols Plain g) (Some kinds.SectionClose) q3.fed q3.line None in
+    let q2 = putting (q3.out ++ header_symbols Plain g) (Some kinds.SectionClose) q3.fed q3.line None q3.used in
     let last : Way q1 (codes "\"LIBHDR\"") [] q2 = way_last q1 q2 string (codes "\"LIBHDR\"") string_piece (put_is q1 (codes "\"LIBHDR\"") string (whats.Symbol kinds.Text) (Some g) refl refl e) in
     (q2, way_more q q1 q2 blank (10 ∷ []) (codes "\"LIBHDR\"") [] blank_piece (ends_longest Blank (10 ∷ []) 34 (codes "LIBHDR\"") (blank_walk 10 refl) refl) (put_is q (10 ∷ []) blank whats.Gap (Some g) refl refl e) last, refl)
 
@@ -336,7 +336,7 @@ naming_well q t n g d e =
     let is = piece_at (Text size) TextEnd t more string w (name_walk size d.3) refl in
     let named : header_named (t ++ more) ≡ Some Formatted = ap (λ (x : List ℕ). header_named (x ++ more)) d.1 ∙ name_done d.0 more (take size (codes "LIBHDR2")) d.4 (rest_upper size d.3) in
     let q1 = seen q (t ++ more) in
-    let q2 = putting (q1.out ++ header_symbols Formatted g) (Some kinds.SectionClose) q1.fed q1.line None in
+    let q2 = putting (q1.out ++ header_symbols Formatted g) (Some kinds.SectionClose) q1.fed q1.line None q1.used in
     let puts_it = put_is q (t ++ more) string (whats.Symbol kinds.Text) (Some g) refl refl e ∙ ap (λ (o : Option Header). named_as q1 g o) named in
     let w2 = way_last q q2 string (t ++ more) is puts_it in
     (more, inr (q2, subst (λ (x : List ℕ). Way q x [] q2) (append-nil (t ++ more)) w2, refl))

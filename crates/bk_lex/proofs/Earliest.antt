@@ -14,7 +14,7 @@ use Rattle.bk_lex.proofs.Continue.{stands_without, get_without, symbols_without}
 use Rattle.bk_lex.proofs.Reach.{Reached, reached}
 
 abbrev first : ℕ → Putting
-first from = putting [] None false from None
+first from = putting [] None false from None 0
 
 none_as : (s : State) (from line : ℕ) (front : List ℕ) → length front ≤ 1048576 → Reached s (first from) front → (kind : SourceKind) → CertainAs kind from line front → ⊥
 none_as s from line front le r source_kinds.SectionTooLong (inl c) = let b = c [] in omega (arith, b.over, length-append front [], le)

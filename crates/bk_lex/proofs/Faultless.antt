@@ -211,7 +211,7 @@ gap_sort (sign s) t d e = absurd cc
 
 -- where the string is due, what is put is a gap or the string
 abbrev PutDue : Putting → Piece → Putting → ℕ → Type 0
-PutDue q p q2 line = (is_gap p.sort ≡ true) ⊎ ((h : Header) × (header_named p.text ≡ Some h) × (putting ((seen q p.text).out ++ header_symbols h line) (Some kinds.SectionClose) (seen q p.text).fed (seen q p.text).line None ≡ q2))
+PutDue q p q2 line = (is_gap p.sort ≡ true) ⊎ ((h : Header) × (header_named p.text ≡ Some h) × (putting ((seen q p.text).out ++ header_symbols h line) (Some kinds.SectionClose) (seen q p.text).fed (seen q p.text).line None (seen q p.text).used ≡ q2))
 
 put_due : (q q2 : Putting) (p : Piece) (line : ℕ) → q.get ≡ Some line → put q p ≡ Some q2 → PutDue q p q2 line
 put_due q q2 p line g e =
@@ -255,7 +255,7 @@ large_header : (h : Header) → 2 ≤ header_rest h
 large_header Plain = omega arith
 large_header Formatted = omega arith
 
-named_heavy : (q q2 : Putting) (g : ℕ) (h : Header) → q.get ≡ Some g → putting (q.out ++ header_symbols h g) (Some kinds.SectionClose) q.fed q.line None ≡ q2 → weight q2 ≡ weight q + header_rest h
+named_heavy : (q q2 : Putting) (g : ℕ) (h : Header) → q.get ≡ Some g → putting (q.out ++ header_symbols h g) (Some kinds.SectionClose) q.fed q.line None q.used ≡ q2 → weight q2 ≡ weight q + header_rest h
 named_heavy q q2 g h e p =
     let same = ap weight p in
     let wait : waiting q.get ≡ 1 = ap waiting e in
@@ -571,7 +571,7 @@ no_kind total q text n kind line h = n.stands kind line h
 pub section_faultless : (text : List ℕ) (from : ℕ) (s : Section) → IsSection text from s → (f : SourceFault) → HasFault from f text → ⊥
 section_faultless text from s h f fault =
     let c = h.0 in
-    let q = putting [] None false from None in
+    let q = putting [] None false from None 0 in
     let total = length text in
     let w : Way q text c.rest c.last = record { pieces = c.pieces; cut = c.cut; tokens = c.tokens } in
     let e = section_end s.ended s.used total c.rest c.ends in

@@ -235,7 +235,7 @@ no_byte c more e = (c, more, refl, no_quote 34 (Text 0) refl, no_quote 39 Quote 
 
 -- a bad byte behind a piece, or behind none
 -- the line of the GET whose string is due
-agreed : (q : Putting) (out : List Symbol) (x : State) (p : Place) → Agrees q out x p → x.get ≡ true → q.get ≡ Some p.get_line
+agreed : {used : ℕ} (q : Putting) (out : List Symbol) (x : State) (p : Place) → Agrees q out x p used → x.get ≡ true → q.get ≡ Some p.get_line
 agreed q out x p a on =
     let get = a.get in
     let g = get_due q.get x.get p.get_line get on in
@@ -262,7 +262,7 @@ bad_opens c more q t r (inr (inl d)) line x f =
 bad_opens c more q t r (inr (inr d)) line x f = absurd (naming_step t r.state.mode c d.0 nexts.Ends x)
 
 -- a symbol where the string of a GET is due: a `/`
-due_here : (q : Putting) (t : List ℕ) (r : Reading) → Agrees (seen q t) r.out r.state r.place → r.state.get ≡ true → (q.get ≡ Some (placed_fault r.state r.place BadGet).line)
+due_here : (q : Putting) (t : List ℕ) (r : Reading) → Agrees (seen q t) r.out r.state r.place r.used → r.state.get ≡ true → (q.get ≡ Some (placed_fault r.state r.place BadGet).line)
 due_here q t r a on =
     let get = a.get in
     let g = get_due (seen q t).get r.state.get r.place.get_line get on in
@@ -270,7 +270,7 @@ due_here q t r a on =
     let at : (placed_fault r.state r.place BadGet).line ≡ r.place.get_line = ap (λ (b : Bool). cond (b && true) r.place.get_line r.place.line) on in
     sym (seen_get q t) ∙ g.1 ∙ ap (λ (k : ℕ). Some k) (sym (at ∙ line))
 
-ended_found : (total : ℕ) (rest : List ℕ) (q : Putting) (t : List ℕ) (r : Reading) (g : Fault) → Here t r.state.mode r.held q.get → Agrees (seen q t) r.out r.state r.place → ((c : ℕ) (more : List ℕ) → rest ≡ c ∷ more → next r.state.mode c ≡ nexts.Ends) → (Naming t r.state.mode → ⊥) → r.place.line ≡ line_behind t q.line → (walk_piece t ≡ nexts.Goes r.state.mode → IsWhole r.state.mode × NoLonger t rest)
+ended_found : (total : ℕ) (rest : List ℕ) (q : Putting) (t : List ℕ) (r : Reading) (g : Fault) → Here t r.state.mode r.held q.get → Agrees (seen q t) r.out r.state r.place r.used → ((c : ℕ) (more : List ℕ) → rest ≡ c ∷ more → next r.state.mode c ≡ nexts.Ends) → (Naming t r.state.mode → ⊥) → r.place.line ≡ line_behind t q.line → (walk_piece t ≡ nexts.Goes r.state.mode → IsWhole r.state.mode × NoLonger t rest)
     → ended r.state ≡ Err g → Found g total q r.state r.place (t ++ rest)
 ended_found total rest q t r g here a stop naming line whole e =
     elim (ended_err (piece r.state.mode) r.state g e) [
@@ -300,7 +300,7 @@ ended_found total rest q t r g here a stop naming line whole e =
 naming_stops : (t : List ℕ) (m : Mode) (c : ℕ) → next m c ≡ nexts.Ends → Naming t m → ⊥
 naming_stops t m c x d = naming_step t m c d nexts.Ends x
 
-begins_found : (total : ℕ) (c : ℕ) (more : List ℕ) (q : Putting) (t : List ℕ) (r : Reading) (m : Mode) (e : Ended) (g : Fault) → Here t r.state.mode r.held q.get → Agrees (seen q t) r.out r.state r.place → next r.state.mode c ≡ nexts.Ends → fresh c ≡ Some m → ended r.state ≡ Ok e
+begins_found : (total : ℕ) (c : ℕ) (more : List ℕ) (q : Putting) (t : List ℕ) (r : Reading) (m : Mode) (e : Ended) (g : Fault) → Here t r.state.mode r.held q.get → Agrees (seen q t) r.out r.state r.place r.used → next r.state.mode c ≡ nexts.Ends → fresh c ≡ Some m → ended r.state ≡ Ok e
     → begun e.state m c ≡ Err g → Found g total q r.state r.place (t ++ c ∷ more)
 begins_found total c more q t r m e g here a x f o b =
     elim (begun_err e.state m c g b) [
@@ -308,17 +308,17 @@ begins_found total c more q t r m e g here a x f o b =
           let after = ended_agrees (piece r.state.mode) (seen q t) r.out r.state r.place r.held e a o in
           let fault : SourceFault = record { line = r.place.line; kind = source_kinds.SectionTooLong } in
           piece_before (Has fault total) (RunsTo (Err fault)) (BehindTo (Err fault)) total (concludes_fault fault total) q t r c more e here x after
-          (inr (passes_begun after.0 (put_on r.out e.given r.place.line r.held) e.state (at r.place.line (get_line_after r.place e.given)) c more m after.2 f p.1)))
+          (inr (passes_begun after.0 (put_on r.out e.given r.place.line r.used r.held) e.state (at r.place.line (get_line_after r.place e.given)) c more m after.2 f p.1)))
       | inr p ↦ found_as total BadGet g q r.state r.place (t ++ c ∷ more) (sym p.0) (
           let after = ended_agrees (piece r.state.mode) (seen q t) r.out r.state r.place r.held e a o in
-          let due = agreed after.0 (put_on r.out e.given r.place.line r.held) e.state (at r.place.line (get_line_after r.place e.given)) after.2 p.1 in
+          let due = agreed after.0 (put_on r.out e.given r.place.line r.used r.held) e.state (at r.place.line (get_line_after r.place e.given)) after.2 p.1 in
           let line = told_line (piece r.state.mode) r.state r.place e o p.1 in
           let fault = placed_fault r.state r.place BadGet in
           piece_before (Has fault total) (RunsTo (Err fault)) (BehindTo (Err fault)) total (concludes_fault fault total) q t r c more e here x after
           (first_misnames after.0 fault.line c more m (due ∙ ap (λ (k : ℕ). Some k) (sym line)) f p.2))
     ]
 
-opens_found : (total : ℕ) (o : Option Mode) (c : ℕ) (more : List ℕ) (q : Putting) (t : List ℕ) (r : Reading) (g : Fault) → Here t r.state.mode r.held q.get → Agrees (seen q t) r.out r.state r.place → r.place.line ≡ line_behind t q.line → next r.state.mode c ≡ nexts.Ends → fresh c ≡ o
+opens_found : (total : ℕ) (o : Option Mode) (c : ℕ) (more : List ℕ) (q : Putting) (t : List ℕ) (r : Reading) (g : Fault) → Here t r.state.mode r.held q.get → Agrees (seen q t) r.out r.state r.place r.used → r.place.line ≡ line_behind t q.line → next r.state.mode c ≡ nexts.Ends → fresh c ≡ o
     → opened_as r.state c o ≡ Err g → Found g total q r.state r.place (t ++ c ∷ more)
 opens_found total None c more q t r g here a line x f e = found_as total BadByte g q r.state r.place (t ++ c ∷ more) (err_is BadByte g e) (bad_opens c more q t r here line x f)
 opens_found total (Some m) c more q t r g here a line x f e = look (ended r.state) refl e
@@ -330,7 +330,7 @@ opens_found total (Some m) c more q t r g here a line x f e = look (ended r.stat
     look (Err h) o z = ended_found total (c ∷ more) q t r g here a (λ b bs w. ap (next r.state.mode) (sym (heads_are b bs w)) ∙ x) (naming_stops t r.state.mode c x) line (λ w. (whole_at_end r.state.mode c t (piece_reads t r.state.mode w) x, ends_longest r.state.mode t c more w x)) (o ∙ ap lexer_error (err_is h g z))
     look (Ok y) o z = begins_found total c more q t r m y g here a x f o (good_err (begun y.state m c) (λ t. stepped t (acts.Begins y.given)) g z)
 
-named_found : (total : ℕ) (c : ℕ) (more : List ℕ) (q : Putting) (t : List ℕ) (r : Reading) (h : Header) (g : Fault) → Here t r.state.mode r.held q.get → Agrees (seen q t) r.out r.state r.place → next r.state.mode c ≡ nexts.Names h → named r.state h ≡ Err g → Found g total q r.state r.place (t ++ c ∷ more)
+named_found : (total : ℕ) (c : ℕ) (more : List ℕ) (q : Putting) (t : List ℕ) (r : Reading) (h : Header) (g : Fault) → Here t r.state.mode r.held q.get → Agrees (seen q t) r.out r.state r.place r.used → next r.state.mode c ≡ nexts.Names h → named r.state h ≡ Err g → Found g total q r.state r.place (t ++ c ∷ more)
 named_found total c more q t r h g here a x e =
     elim (picks (ltb r.state.symbols (header_rest h)) (Err HeaderTooLong) _ (Err g) e) [
       | inl p ↦ found_as total HeaderTooLong g q r.state r.place (t ++ c ∷ more) (err_is HeaderTooLong g p.1) (by_here here (ltb-true r.state.symbols (header_rest h) p.0))
@@ -344,7 +344,7 @@ named_found total c more q t r h g here a x e =
         let due = due_here q t r a (on_get (seen q t).get r.state.get r.place.get_line d.1.0 (seen_get q t ∙ d.1.1) a.get) in
         passes_named q _ r.out r.state r.place t c more h a due (naming_step t r.state.mode c d.0 (nexts.Names h) x) lt
 
-bad_found : (total : ℕ) (c : ℕ) (more : List ℕ) (q : Putting) (t : List ℕ) (r : Reading) (g : Fault) → Here t r.state.mode r.held q.get → Agrees (seen q t) r.out r.state r.place → r.place.line ≡ line_behind t q.line → next r.state.mode c ≡ nexts.Bad g → Found g total q r.state r.place (t ++ c ∷ more)
+bad_found : (total : ℕ) (c : ℕ) (more : List ℕ) (q : Putting) (t : List ℕ) (r : Reading) (g : Fault) → Here t r.state.mode r.held q.get → Agrees (seen q t) r.out r.state r.place r.used → r.place.line ≡ line_behind t q.line → next r.state.mode c ≡ nexts.Bad g → Found g total q r.state r.place (t ++ c ∷ more)
 bad_found total c more q t r g (inl d) a line x = absurd (not_blank r.state.mode c g x d.1)
 bad_found total c more q t r g (inr (inl d)) a line x =
     found_begins total g q r.state r.place (t ++ c ∷ more) (bad_begins r.state.mode t c more g (piece_reads t r.state.mode d.1) d.1 x) (line ∙ same_line t r.state.mode q.line d.1 (not_blank r.state.mode c g x))
@@ -354,7 +354,7 @@ bad_found total c more q t r g (inr (inr d)) a line x =
       | inr p ↦ found_as total BadString g q r.state r.place (t ++ c ∷ more) (sym p.0) (found_begins total BadString q r.state r.place (t ++ c ∷ more) p.1 (line ∙ quote_line d.0.0 t q.line d.0.1))
     ]
 
-pub moved_found : (total : ℕ) (x : Next) (c : ℕ) (more : List ℕ) (q : Putting) (t : List ℕ) (r : Reading) (g : Fault) → Here t r.state.mode r.held q.get → Agrees (seen q t) r.out r.state r.place → r.place.line ≡ line_behind t q.line → next r.state.mode c ≡ x → moved r.state c x ≡ Err g → Found g total q r.state r.place (t ++ c ∷ more)
+pub moved_found : (total : ℕ) (x : Next) (c : ℕ) (more : List ℕ) (q : Putting) (t : List ℕ) (r : Reading) (g : Fault) → Here t r.state.mode r.held q.get → Agrees (seen q t) r.out r.state r.place r.used → r.place.line ≡ line_behind t q.line → next r.state.mode c ≡ x → moved r.state c x ≡ Err g → Found g total q r.state r.place (t ++ c ∷ more)
 moved_found total (nexts.Goes n) c more q t r g here a line x e = no_err _ g e
 moved_found total nexts.Ends c more q t r g here a line x e = opens_found total (fresh c) c more q t r g here a line x refl e
 moved_found total (nexts.Names h) c more q t r g here a line x e = named_found total c more q t r h g here a x e
@@ -390,7 +390,7 @@ bytes_here total c more q t r (inr (inl d)) line l = look (next r.state.mode c) 
     look (nexts.Names h) x = on (λ e. let z : nexts.Names h ≡ nexts.Ends = sym x ∙ e in cc)
     look (nexts.Bad f) x = on (λ e. let z : nexts.Bad f ≡ nexts.Ends = sym x ∙ e in cc)
 
-step_faulty : (y : Result Step Fault) (f : SourceFault) (total c : ℕ) (more : List ℕ) (ih : Follows (Has f total) (RunsTo (Err f)) total more) (q : Putting) (t : List ℕ) (r : Reading) → Here t r.state.mode r.held q.get → Agrees (seen q t) r.out r.state r.place
+step_faulty : (y : Result Step Fault) (f : SourceFault) (total c : ℕ) (more : List ℕ) (ih : Follows (Has f total) (RunsTo (Err f)) total more) (q : Putting) (t : List ℕ) (r : Reading) → Here t r.state.mode r.held q.get → Agrees (seen q t) r.out r.state r.place r.used
     → Counted r.state.bytes r.used (c ∷ more) total → moved r.state c (next r.state.mode c) ≡ y → (read_on r c (within r.state.bytes y) >>= λ p. behind p more) ≡ Err f → Has f total q (t ++ c ∷ more)
 step_faulty (Err g) f total c more ih q t r here a l m h =
     err_says total (ltb r.state.bytes 1) g r c more f q (t ++ c ∷ more) (λ d. bytes_here total c more q t r here (a.line ∙ seen_line q t) (omega (arith, l.0, l.1, ltb-true r.state.bytes 1 d)))
@@ -425,7 +425,7 @@ end_found total q t r g (inr (inr d)) line e =
 naming_ends : (t : List ℕ) (m : Mode) → end_fault m ≡ None → Naming t m → ⊥
 naming_ends t m x d = let z : Some BadString ≡ None = sym (ap end_fault d.2) ∙ x in cc
 
-finished_found : (total : ℕ) (q : Putting) (t : List ℕ) (r : Reading) (g : Fault) → Here t r.state.mode r.held q.get → Agrees (seen q t) r.out r.state r.place → r.place.line ≡ line_behind t q.line → end_fault r.state.mode ≡ None → (ended r.state >>= λ e. no_get e) ≡ Err g → Found g total q r.state r.place (t ++ [])
+finished_found : (total : ℕ) (q : Putting) (t : List ℕ) (r : Reading) (g : Fault) → Here t r.state.mode r.held q.get → Agrees (seen q t) r.out r.state r.place r.used → r.place.line ≡ line_behind t q.line → end_fault r.state.mode ≡ None → (ended r.state >>= λ e. no_get e) ≡ Err g → Found g total q r.state r.place (t ++ [])
 finished_found total q t r g here a line x e = look (ended r.state) refl e
   where
     no_more : (c : ℕ) (more : List ℕ) → [] ≡ c ∷ more → next r.state.mode c ≡ nexts.Ends
@@ -434,7 +434,7 @@ finished_found total q t r g here a line x e = look (ended r.state) refl e
     at_end : (y : Ended) → ended r.state ≡ Ok y → y.state.get ≡ true → Misnames q (placed_fault r.state r.place BadGet).line (t ++ [])
     at_end y o on =
         let after = ended_agrees (piece r.state.mode) (seen q t) r.out r.state r.place r.held y a o in
-        let due = agreed after.0 (put_on r.out y.given r.place.line r.held) y.state (at r.place.line (get_line_after r.place y.given)) after.2 on in
+        let due = agreed after.0 (put_on r.out y.given r.place.line r.used r.held) y.state (at r.place.line (get_line_after r.place y.given)) after.2 on in
         let line = told_line (piece r.state.mode) r.state r.place y o on in
         let fault = placed_fault r.state r.place BadGet in
         end_before (Has fault total) (has_more total fault) q t r y here x after (nothing_misnames after.0 fault.line (due ∙ ap (λ (k : ℕ). Some k) (sym line)))
@@ -447,11 +447,11 @@ finished_found total q t r g here a line x e = look (ended r.state) refl e
           | inr p ↦ no_err y.given g p.1
         ]
 
-last_found : (total : ℕ) (o : Option Fault) (q : Putting) (t : List ℕ) (r : Reading) (g : Fault) → Here t r.state.mode r.held q.get → Agrees (seen q t) r.out r.state r.place → r.place.line ≡ line_behind t q.line → end_fault r.state.mode ≡ o → finished_as r.state o ≡ Err g → Found g total q r.state r.place (t ++ [])
+last_found : (total : ℕ) (o : Option Fault) (q : Putting) (t : List ℕ) (r : Reading) (g : Fault) → Here t r.state.mode r.held q.get → Agrees (seen q t) r.out r.state r.place r.used → r.place.line ≡ line_behind t q.line → end_fault r.state.mode ≡ o → finished_as r.state o ≡ Err g → Found g total q r.state r.place (t ++ [])
 last_found total (Some f) q t r g here a line x e = found_as total f g q r.state r.place (t ++ []) (err_is f g e) (end_found total q t r f here line x)
 last_found total None q t r g here a line x e = finished_found total q t r g here a line x e
 
-end_says : (total : ℕ) (y : Result Given Fault) (f : SourceFault) (q : Putting) (t : List ℕ) (r : Reading) → Here t r.state.mode r.held q.get → Agrees (seen q t) r.out r.state r.place → r.place.line ≡ line_behind t q.line → finished r.state ≡ y → end_as r y ≡ Err f → Has f total q (t ++ [])
+end_says : (total : ℕ) (y : Result Given Fault) (f : SourceFault) (q : Putting) (t : List ℕ) (r : Reading) → Here t r.state.mode r.held q.get → Agrees (seen q t) r.out r.state r.place r.used → r.place.line ≡ line_behind t q.line → finished r.state ≡ y → end_as r y ≡ Err f → Has f total q (t ++ [])
 end_says total (Err g) f q t r here a line x e = told_has total _ f q (t ++ []) e (found_told total g r.state r.place q (t ++ []) (last_found total (end_fault r.state.mode) q t r g here a line refl x))
 end_says total (Ok g) f q t r here a line x e = no_answer e
   where
@@ -468,4 +468,4 @@ faulty f total (c ∷ more) q t r here a h l = byte_faulty f total c more (fault
 
 pub lexed_has_fault : (text : List ℕ) (from : ℕ) (f : SourceFault) → lexed text from ≡ Err f → HasFault from f text
 lexed_has_fault text from f h =
-    faulty f (length text) text (putting [] None false from None) [] (begin from) (inl (refl, refl)) record { same = refl; last = refl; fed = refl; line = refl; get = refl; count = refl } h (omega arith, refl)
+    faulty f (length text) text (putting [] None false from None 0) [] (begin from) (inl (refl, refl)) record { same = refl; last = refl; fed = refl; line = refl; get = refl; count = refl; bytes = refl } h (omega arith, refl)

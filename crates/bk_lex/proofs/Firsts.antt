@@ -188,7 +188,7 @@ no_put q e = absurd cc
 
 pub insertion_length : (o : Option Kind) (out : List Symbol) (line : ℕ) (x : Symbol) → length (out ++ inserted_symbols o line ++ x ∷ []) ≡ length out + room_for o
 insertion_length None out line x = omega (arith, length-append (out ++ []) (x ∷ []), length-append out [])
-insertion_length (Some k) out line x = omega (arith, length-append (out ++ symbol k line [] ∷ []) (x ∷ []), length-append out (symbol k line [] ∷ []))
+insertion_length (Some k) out line x = omega (arith, length-append (out ++ symbol k line None [] ∷ []) (x ∷ []), length-append out (symbol k line None [] ∷ []))
 
 pub weight_same : (q q2 : Putting) → (let o : Option Putting = Some q in o) ≡ Some q2 → weight q ≡ weight q2
 weight_same q q2 e = ap weight (some_put q q2 e)
@@ -205,7 +205,7 @@ put_weight q q2 t whats.Gap get e h = omega (arith, weight_same q q2 h)
 put_weight q q2 t (whats.Symbol k) None e h =
     let same = weight_same _ q2 h in
     let wait : waiting q.get ≡ 0 = ap waiting e in
-    omega (arith, same, wait, insertion_length (inserted q.last k q.fed) q.out q.line (symbol k q.line t))
+    omega (arith, same, wait, insertion_length (inserted q.last k q.fed) q.out q.line (symbol k q.line (Some (q.used - length t)) t))
 put_weight q q2 t (whats.Symbol k) (Some g) e h = named_weight q q2 g (header_named t) e h
 put_weight q q2 t whats.Get None e h =
     let same = weight_same _ q2 h in

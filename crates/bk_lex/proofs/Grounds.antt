@@ -63,7 +63,7 @@ past_line NameTooLong s p = stays_here s.get p
 past_line TagTooLong s p = stays_here s.get p
 
 -- where no byte is left
-ground_bytes : (line total c : ℕ) (rest : List ℕ) (q : Putting) (t : List ℕ) (r : Reading) → Here t r.state.mode r.held q.get → Agrees (seen q t) r.out r.state r.place → Counted r.state.bytes r.used (c ∷ rest) total → ltb r.state.bytes 1 ≡ true → r.place.line ≡ line → OneGround line total q (t ++ c ∷ rest)
+ground_bytes : (line total c : ℕ) (rest : List ℕ) (q : Putting) (t : List ℕ) (r : Reading) → Here t r.state.mode r.held q.get → Agrees (seen q t) r.out r.state r.place r.used → Counted r.state.bytes r.used (c ∷ rest) total → ltb r.state.bytes 1 ≡ true → r.place.line ≡ line → OneGround line total q (t ++ c ∷ rest)
 ground_bytes line total c rest q t r here a l d e =
     inl (λ more. subst (λ (x : List ℕ). PassesBytes q.line (total + length more) line x) (sym (append_assoc t (c ∷ rest) more)) (subst (λ (y : ℕ). PassesBytes q.line (total + length more) y (t ++ c ∷ (rest ++ more))) e (bytes_here (total + length more) c (rest ++ more) q t r here (a.line ∙ seen_line q t) (omega (arith, l.0, l.1, ltb-true r.state.bytes 1 d, length-append rest more)))))
 
@@ -75,13 +75,13 @@ only_symbols kind q line text e h = look (subst (λ (k : SourceKind). HasKind k 
     look (inl b) = absurd (omega (arith, b.over))
     look (inr x) = x
 
-ground_symbols : (f : SourceFault) (total c : ℕ) (rest : List ℕ) (q : Putting) (t : List ℕ) (r : Reading) (g : Fault) → f.kind ≡ source_kinds.SectionTooLong → Here t r.state.mode r.held q.get → Agrees (seen q t) r.out r.state r.place → moved r.state c (next r.state.mode c) ≡ Err g → placed_fault r.state r.place g ≡ f → OneGround f.line total q (t ++ c ∷ rest)
+ground_symbols : (f : SourceFault) (total c : ℕ) (rest : List ℕ) (q : Putting) (t : List ℕ) (r : Reading) (g : Fault) → f.kind ≡ source_kinds.SectionTooLong → Here t r.state.mode r.held q.get → Agrees (seen q t) r.out r.state r.place r.used → moved r.state c (next r.state.mode c) ≡ Err g → placed_fault r.state r.place g ≡ f → OneGround f.line total q (t ++ c ∷ rest)
 ground_symbols f total c rest q t r g long here a m e =
     inr (λ more. subst (λ (x : List ℕ). PassesSymbols q f.line x) (sym (append_assoc t (c ∷ rest) more)) (
     let found : Found g 0 q r.state r.place (t ++ c ∷ (rest ++ more)) = moved_found 0 (next r.state.mode c) c (rest ++ more) q t r g here a (a.line ∙ seen_line q t) refl m in
     only_symbols f.kind q f.line (t ++ c ∷ (rest ++ more)) long (subst (λ (x : SourceFault). Has x 0 q (t ++ c ∷ (rest ++ more))) e (found_told 0 g r.state r.place q (t ++ c ∷ (rest ++ more)) found))))
 
-step_ground : (y : Result Step Fault) (f : SourceFault) (total c : ℕ) (rest : List ℕ) (ih : Follows (OneGround f.line total) (Stopping f) total rest) (q : Putting) (t : List ℕ) (r : Reading) → f.kind ≡ source_kinds.SectionTooLong → Here t r.state.mode r.held q.get → Agrees (seen q t) r.out r.state r.place
+step_ground : (y : Result Step Fault) (f : SourceFault) (total c : ℕ) (rest : List ℕ) (ih : Follows (OneGround f.line total) (Stopping f) total rest) (q : Putting) (t : List ℕ) (r : Reading) → f.kind ≡ source_kinds.SectionTooLong → Here t r.state.mode r.held q.get → Agrees (seen q t) r.out r.state r.place r.used
     → Counted r.state.bytes r.used (c ∷ rest) total → moved r.state c (next r.state.mode c) ≡ y → (read_on r c (within r.state.bytes y) >>= λ p. behind p rest) ≡ Err f → state_behind (goes_on_from (within r.state.bytes y)) rest ≡ None → OneGround f.line total q (t ++ c ∷ rest)
 step_ground (Err g) f total c rest ih q t r long here a l m h n = look (ltb r.state.bytes 1) refl h
   where
@@ -111,8 +111,8 @@ grounds f total [] long q t r here a g l = no_stop g.1
 grounds f total (c ∷ rest) long q t r here a g l = byte_ground f total c rest long (grounds f total rest long) q t r here a g l
 
 pub one_ground : (text : List ℕ) (from : ℕ) (f : SourceFault) → lexed text from ≡ Err f → state_behind (Some start) text ≡ None → f.kind ≡ source_kinds.SectionTooLong → CertainBytes from f.line text ⊎ CertainSymbols from f.line text
-one_ground text from f h n long = look (grounds f (length text) text long (putting [] None false from None) [] (begin from) (inl (refl, refl)) record { same = refl; last = refl; fed = refl; line = refl; get = refl; count = refl } (h, n) (omega arith, refl))
+one_ground text from f h n long = look (grounds f (length text) text long (putting [] None false from None 0) [] (begin from) (inl (refl, refl)) record { same = refl; last = refl; fed = refl; line = refl; get = refl; count = refl; bytes = refl } (h, n) (omega arith, refl))
   where
-    look : OneGround f.line (length text) (putting [] None false from None) text → CertainBytes from f.line text ⊎ CertainSymbols from f.line text
+    look : OneGround f.line (length text) (putting [] None false from None 0) text → CertainBytes from f.line text ⊎ CertainSymbols from f.line text
     look (inl b) = inl (λ more. subst (λ (k : ℕ). PassesBytes from k f.line (text ++ more)) (sym (length-append text more)) (b more))
     look (inr x) = inr x

@@ -13,6 +13,7 @@ pub mod Stops
 pub mod Runs
 pub mod Firsts
 pub mod Complete
+pub mod Placed
 pub mod FaultBegins
 pub mod GetFaults
 pub mod LongFaults

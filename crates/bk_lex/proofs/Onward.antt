@@ -82,10 +82,10 @@ before_any C b q q2 k t rest is longest e h = b q q2 k t rest is (subst (λ (x :
 pub record Concludes (C : Putting → List ℕ → Type 0) (G B : Reading → List ℕ → Type 0) (total : ℕ) : Type 0 where
   pub before : BeforeAny C
   pub goes : (p : Reading) (more : List ℕ) → is_dot p.state.mode ≡ false → B p more → G p more
-  pub at_dot : (more : List ℕ) (q : Putting) (out : List Symbol) (x : State) (k line gl used : ℕ) → Agrees q out x (at line gl) → x.get ≡ false → B (begun_at out x Dot k 46 line gl used) more → Counted k (used + 1) more total → C q (46 ∷ more)
+  pub at_dot : (more : List ℕ) (q : Putting) (out : List Symbol) (x : State) (k line gl used : ℕ) → Agrees q out x (at line gl) used → x.get ≡ false → B (begun_at out x Dot k 46 line gl used) more → Counted k (used + 1) more total → C q (46 ∷ more)
 
 abbrev pub Follows : (Putting → List ℕ → Type 0) → (Reading → List ℕ → Type 0) → ℕ → List ℕ → Type 0
-Follows C G total rest = (q : Putting) (t : List ℕ) (r : Reading) → Here t r.state.mode r.held q.get → Agrees (seen q t) r.out r.state r.place → G r rest → Counted r.state.bytes r.used rest total → C q (t ++ rest)
+Follows C G total rest = (q : Putting) (t : List ℕ) (r : Reading) → Here t r.state.mode r.held q.get → Agrees (seen q t) r.out r.state r.place r.used → G r rest → Counted r.state.bytes r.used rest total → C q (t ++ rest)
 
 -- that the run comes to an answer
 abbrev pub RunsTo : Result Section SourceFault → Reading → List ℕ → Type 0
@@ -133,14 +133,14 @@ some_put q q2 e = cc
 
 -- ---- a byte that begins a piece
 
-pub begun_agrees : (q : Putting) (out : List Symbol) (x : State) (line gl : ℕ) (n : Mode) (k c : ℕ) → Agrees q out x (at line gl) → Agrees (seen q (c ∷ [])) out (state n k x.symbols x.last (x.fed || eqb c 10) x.get) (at (line_after c line) gl)
-begun_agrees q out x line gl n k c a = record { same = a.same; last = a.last; fed = ap (λ (f : Bool). f || eqb c 10) a.fed; line = ap (λ (l : ℕ). line_after c l) a.line; get = a.get; count = a.count }
+begun_agrees : {used : ℕ} (q : Putting) (out : List Symbol) (x : State) (line gl : ℕ) (n : Mode) (k c : ℕ) → Agrees q out x (at line gl) used → Agrees (seen q (c ∷ [])) out (state n k x.symbols x.last (x.fed || eqb c 10) x.get) (at (line_after c line) gl) (used + 1)
+begun_agrees q out x line gl n k c a = record { same = a.same; last = a.last; fed = ap (λ (f : Bool). f || eqb c 10) a.fed; line = ap (λ (l : ℕ). line_after c l) a.line; get = a.get; count = a.count; bytes = ap (λ (k : ℕ). k + 1) a.bytes }
 
 begun_walk : (c : ℕ) (m : Mode) → fresh c ≡ Some m → walk_piece (c ∷ []) ≡ nexts.Goes m
 unfolding walk walk_piece
 begun_walk c m e = rw e refl
 
-go_sound : (C : Putting → List ℕ → Type 0) (G B : Reading → List ℕ → Type 0) (total : ℕ) (g0 : Concludes C G B total) (c : ℕ) (more : List ℕ) (ih : Follows C G total more) (q : Putting) (out : List Symbol) (x : State) (n : Mode) (k line gl used : ℕ) → Agrees q out x (at line gl) → Here (c ∷ []) n (c ∷ []) q.get → is_dot n ≡ false
+go_sound : (C : Putting → List ℕ → Type 0) (G B : Reading → List ℕ → Type 0) (total : ℕ) (g0 : Concludes C G B total) (c : ℕ) (more : List ℕ) (ih : Follows C G total more) (q : Putting) (out : List Symbol) (x : State) (n : Mode) (k line gl used : ℕ) → Agrees q out x (at line gl) used → Here (c ∷ []) n (c ∷ []) q.get → is_dot n ≡ false
     → B (begun_at out x n k c line gl used) more → Counted k (used + 1) more total → C q (c ∷ more)
 go_sound C G B total g0 c more ih q out x n k line gl used a here d h u =
     ih q (c ∷ []) (begun_at out x n k c line gl used) here (begun_agrees q out x line gl n k c a)
@@ -175,7 +175,7 @@ get_due None get line h e = absurd (let z : false ≡ true = sym h ∙ e in cc)
 get_due (Some g) get line h e = (g, refl)
 
 -- the `.` that ends the section
-dot_at : (C : Putting → List ℕ → Type 0) (G B : Reading → List ℕ → Type 0) (total : ℕ) (g0 : Concludes C G B total) (c : ℕ) (more : List ℕ) (q : Putting) (out : List Symbol) (x : State) (n : Mode) (k line gl used : ℕ) → Agrees q out x (at line gl) → x.get ≡ false → n ≡ Dot → c ≡ 46
+dot_at : (C : Putting → List ℕ → Type 0) (G B : Reading → List ℕ → Type 0) (total : ℕ) (g0 : Concludes C G B total) (c : ℕ) (more : List ℕ) (q : Putting) (out : List Symbol) (x : State) (n : Mode) (k line gl used : ℕ) → Agrees q out x (at line gl) used → x.get ≡ false → n ≡ Dot → c ≡ 46
     → B (begun_at out x n k c line gl used) more → Counted k (used + 1) more total → C q (c ∷ more)
 dot_at C G B total g0 c more q out x n k line gl used a g d e h u =
     let h2 : B (begun_at out x Dot k 46 line gl used) more = subst (λ (b : ℕ). B (begun_at out x Dot k b line gl used) more) e (subst (λ (m : Mode). B (begun_at out x m k c line gl used) more) d h) in
@@ -192,7 +192,7 @@ gap_due : (o : Option ℕ) (m : Mode) → OnlyGap m → InDue o m
 gap_due None m h = tt
 gap_due (Some g) m h = h
 
-free_sound : (C : Putting → List ℕ → Type 0) (G B : Reading → List ℕ → Type 0) (total : ℕ) (g0 : Concludes C G B total) (c : ℕ) (more : List ℕ) (ih : Follows C G total more) (q : Putting) (out : List Symbol) (x : State) (n : Mode) (k line gl used : ℕ) → Agrees q out x (at line gl) → fresh c ≡ Some n → x.get ≡ false
+free_sound : (C : Putting → List ℕ → Type 0) (G B : Reading → List ℕ → Type 0) (total : ℕ) (g0 : Concludes C G B total) (c : ℕ) (more : List ℕ) (ih : Follows C G total more) (q : Putting) (out : List Symbol) (x : State) (n : Mode) (k line gl used : ℕ) → Agrees q out x (at line gl) used → fresh c ≡ Some n → x.get ≡ false
     → B (begun_at out x n k c line gl used) more → Counted k (used + 1) more total → C q (c ∷ more)
 free_sound C G B total g0 c more ih q out x n k line gl used a f g h u = look (is_dot n) refl
   where
@@ -240,7 +240,7 @@ in_get_ok c (Name k) n f e = absurd (no_mode BadGet n e)
 naming_at : (c : ℕ) (n : Mode) → c ≡ 34 → n ≡ Name 0 → Naming (c ∷ []) n
 naming_at c n e f = subst (λ (x : ℕ). Naming (x ∷ []) n) (sym e) (subst (λ (m : Mode). Naming (34 ∷ []) m) (sym f) naming_begins)
 
-due_sound : (C : Putting → List ℕ → Type 0) (G B : Reading → List ℕ → Type 0) (total : ℕ) (g0 : Concludes C G B total) (c : ℕ) (more : List ℕ) (ih : Follows C G total more) (q : Putting) (out : List Symbol) (x : State) (m n : Mode) (k line gl used : ℕ) → Agrees q out x (at line gl) → fresh c ≡ Some m → x.get ≡ true → in_get m ≡ Ok n
+due_sound : (C : Putting → List ℕ → Type 0) (G B : Reading → List ℕ → Type 0) (total : ℕ) (g0 : Concludes C G B total) (c : ℕ) (more : List ℕ) (ih : Follows C G total more) (q : Putting) (out : List Symbol) (x : State) (m n : Mode) (k line gl used : ℕ) → Agrees q out x (at line gl) used → fresh c ≡ Some m → x.get ≡ true → in_get m ≡ Ok n
     → B (begun_at out x n k c line gl used) more → Counted k (used + 1) more total → C q (c ∷ more)
 due_sound C G B total g0 c more ih q out x m n k line gl used a f g e h u =
     elim (in_get_ok c m n f e) [
@@ -248,7 +248,7 @@ due_sound C G B total g0 c more ih q out x m n k line gl used a f g e h u =
       | inr p ↦ go_sound C G B total g0 c more ih q out x n k line gl used a (inr (inr (naming_at c n p.0 p.1, get_due q.get x.get gl a.get g, refl))) (ap is_dot p.1) h u
     ]
 
-begin_sound : (C : Putting → List ℕ → Type 0) (G B : Reading → List ℕ → Type 0) (total : ℕ) (g0 : Concludes C G B total) (get : Bool) (c : ℕ) (more : List ℕ) (ih : Follows C G total more) (q : Putting) (out : List Symbol) (x : State) (m n : Mode) (k line gl used : ℕ) → Agrees q out x (at line gl) → fresh c ≡ Some m → x.get ≡ get → mode_begun get m ≡ Ok n
+begin_sound : (C : Putting → List ℕ → Type 0) (G B : Reading → List ℕ → Type 0) (total : ℕ) (g0 : Concludes C G B total) (get : Bool) (c : ℕ) (more : List ℕ) (ih : Follows C G total more) (q : Putting) (out : List Symbol) (x : State) (m n : Mode) (k line gl used : ℕ) → Agrees q out x (at line gl) used → fresh c ≡ Some m → x.get ≡ get → mode_begun get m ≡ Ok n
     → B (begun_at out x n k c line gl used) more → Counted k (used + 1) more total → C q (c ∷ more)
 begin_sound C G B total g0 true c more ih q out x m n k line gl used a f g e h u = due_sound C G B total g0 c more ih q out x m n k line gl used a f g e h u
 begin_sound C G B total g0 false c more ih q out x m n k line gl used a f g e h u =
@@ -282,7 +282,7 @@ abbrev StepGives : Reading → ℕ → List ℕ → Step → (Reading → List �
 StepGives r c more u B = B (read r c (fewer r.state.bytes u).state (fewer r.state.bytes u).act) more
 
 -- a byte that ends a piece and begins another, or ends the section
-pub piece_before : (C : Putting → List ℕ → Type 0) (G B : Reading → List ℕ → Type 0) (total : ℕ) (g0 : Concludes C G B total) (q : Putting) (t : List ℕ) (r : Reading) (c : ℕ) (more : List ℕ) (e : Ended) → Here t r.state.mode r.held q.get → next r.state.mode c ≡ nexts.Ends → (a : AfterPiece (seen q t) r.held (piece r.state.mode) r.out r.place e)
+pub piece_before : (C : Putting → List ℕ → Type 0) (G B : Reading → List ℕ → Type 0) (total : ℕ) (g0 : Concludes C G B total) (q : Putting) (t : List ℕ) (r : Reading) (c : ℕ) (more : List ℕ) (e : Ended) → Here t r.state.mode r.held q.get → next r.state.mode c ≡ nexts.Ends → (a : AfterPiece (seen q t) r.held (piece r.state.mode) r.out r.place r.used e)
     → C a.0 (c ∷ more) → C q (t ++ c ∷ more)
 piece_before C G B total g0 q t r c more e (inl d) x a h =
     let gap : put_as q r.held (piece Blank) q.get ≡ Some a.0 = subst (λ (m : Mode). put_as q r.held (piece m) q.get ≡ Some a.0) d.1 (subst (λ (y : List ℕ). put_as (seen q y) r.held (piece r.state.mode) (seen q y).get ≡ Some a.0) d.0 a.1) in
@@ -296,7 +296,7 @@ piece_before C G B total g0 q t r c more e (inr (inr d)) x a h = absurd (naming_
 
 -- the same at the text's end
 pub end_before : (C : Putting → List ℕ → Type 0) (b0 : Before C) (q : Putting) (t : List ℕ) (r : Reading) (e : Ended) → Here t r.state.mode r.held q.get → end_fault r.state.mode ≡ None
-    → (a : AfterPiece (seen q t) r.held (piece r.state.mode) r.out r.place e) → C a.0 [] → C q (t ++ [])
+    → (a : AfterPiece (seen q t) r.held (piece r.state.mode) r.out r.place r.used e) → C a.0 [] → C q (t ++ [])
 end_before C b0 q t r e (inl d) f a h =
     let gap : put_as q r.held (piece Blank) q.get ≡ Some a.0 = subst (λ (m : Mode). put_as q r.held (piece m) q.get ≡ Some a.0) d.1 (subst (λ (x : List ℕ). put_as (seen q x) r.held (piece r.state.mode) (seen q x).get ≡ Some a.0) d.0 a.1) in
     let same = some_put q a.0 gap in
@@ -307,16 +307,16 @@ end_before C b0 q t r e (inr (inl d)) f a h =
     b0 q a.0 w.0 t [] (reads_piece r.state.mode w.0 t reads w.1) (nothing_longest t) (piece_put q t r.held r.state.mode w.0 a.0 d.0 (no_dot_sort r.state.mode w.0 d.2 w.1) (piece_is r.state.mode w.0 t reads w.1) a.1) h
 end_before C b0 q t r e (inr (inr d)) f a h = absurd (let z : end_fault (Name (length d.0.0)) ≡ None = subst (λ (m : Mode). end_fault m ≡ None) d.0.2 f in cc)
 
-ends_sound : (C : Putting → List ℕ → Type 0) (G B : Reading → List ℕ → Type 0) (total : ℕ) (g0 : Concludes C G B total) (c : ℕ) (more : List ℕ) (ih : Follows C G total more) (q : Putting) (t : List ℕ) (r : Reading) (u : Step) → Here t r.state.mode r.held q.get → Agrees (seen q t) r.out r.state r.place → next r.state.mode c ≡ nexts.Ends
+ends_sound : (C : Putting → List ℕ → Type 0) (G B : Reading → List ℕ → Type 0) (total : ℕ) (g0 : Concludes C G B total) (c : ℕ) (more : List ℕ) (ih : Follows C G total more) (q : Putting) (t : List ℕ) (r : Reading) (u : Step) → Here t r.state.mode r.held q.get → Agrees (seen q t) r.out r.state r.place r.used → next r.state.mode c ≡ nexts.Ends
     → opened r.state c ≡ Ok u → StepGives r c more u B → Counted (r.state.bytes - 1) (r.used + 1) more total → C q (t ++ c ∷ more)
 ends_sound C G B total g0 c more ih q t r u here a x o h l =
     let p = opened_ok r.state c u (fresh c) refl o in
     let e = p.1 in
     let after = ended_agrees (piece r.state.mode) (seen q t) r.out r.state r.place r.held e a p.4 in
-    let h2 : B (begun_at (put_on r.out e.given r.place.line r.held) e.state p.2 (r.state.bytes - 1) c r.place.line (get_line_after r.place e.given) r.used) more =
+    let h2 : B (begun_at (put_on r.out e.given r.place.line r.used r.held) e.state p.2 (r.state.bytes - 1) c r.place.line (get_line_after r.place e.given) r.used) more =
     subst (λ (y : Step). StepGives r c more y B) (sym p.6) h in
     piece_before C G B total g0 q t r c more e here x after
-    (begin_sound C G B total g0 e.state.get c more ih after.0 (put_on r.out e.given r.place.line r.held) e.state p.0 p.2 (r.state.bytes - 1) r.place.line (get_line_after r.place e.given) r.used after.2 p.3 refl p.5 h2 l)
+    (begin_sound C G B total g0 e.state.get c more ih after.0 (put_on r.out e.given r.place.line r.used r.held) e.state p.0 p.2 (r.state.bytes - 1) r.place.line (get_line_after r.place e.given) r.used after.2 p.3 refl p.5 h2 l)
 
 -- a byte that goes on with a piece
 not_dot : (n : Mode) (b : ℕ) (bs : List ℕ) (c : ℕ) → Reads n (b ∷ bs ++ c ∷ []) → is_dot n ≡ false
@@ -366,17 +366,25 @@ goes_here q t m n held c get (inr (inr d)) e =
     let s : Naming (t ++ c ∷ []) n = naming_step t m c d.0 (nexts.Goes n) e in
     (inr (inr (s, d.1, ap (λ (x : List ℕ). x ++ c ∷ []) d.2)), ap is_dot s.2, (34, d.0.0, d.0.1))
 
-pub seen_more : (q : Putting) (t : List ℕ) (b : ℕ) (bs : List ℕ) (c : ℕ) → t ≡ b ∷ bs → seen q (t ++ c ∷ []) ≡ seen q t
-seen_more q t b bs c e = ap (λ (x : List ℕ). seen q (x ++ c ∷ [])) e ∙ ap (λ (x : List ℕ). seen q x) (sym e)
+-- the same with a byte more
+abbrev longer : Putting → Putting
+longer q = putting q.out q.last q.fed q.line q.get (q.used + 1)
 
-goes_sound : (C : Putting → List ℕ → Type 0) (G B : Reading → List ℕ → Type 0) (total : ℕ) (g0 : Concludes C G B total) (c : ℕ) (more : List ℕ) (ih : Follows C G total more) (q : Putting) (t : List ℕ) (r : Reading) (n : Mode) → Here t r.state.mode r.held q.get → Agrees (seen q t) r.out r.state r.place → next r.state.mode c ≡ nexts.Goes n
+seen_more : (q : Putting) (t : List ℕ) (b : ℕ) (bs : List ℕ) (c : ℕ) → t ≡ b ∷ bs → seen q (t ++ c ∷ []) ≡ longer (seen q t)
+seen_more q t b bs c e =
+    let len : q.used + length (b ∷ bs ++ c ∷ []) ≡ (q.used + length (b ∷ bs)) + 1 = omega (arith, length-append (b ∷ bs) (c ∷ [])) in
+    ap (λ (x : List ℕ). seen q (x ++ c ∷ [])) e
+    ∙ ap (λ (k : ℕ). putting q.out q.last (q.fed || eqb b 10) (line_after b q.line) q.get k) len
+    ∙ ap (λ (x : List ℕ). longer (seen q x)) (sym e)
+
+goes_sound : (C : Putting → List ℕ → Type 0) (G B : Reading → List ℕ → Type 0) (total : ℕ) (g0 : Concludes C G B total) (c : ℕ) (more : List ℕ) (ih : Follows C G total more) (q : Putting) (t : List ℕ) (r : Reading) (n : Mode) → Here t r.state.mode r.held q.get → Agrees (seen q t) r.out r.state r.place r.used → next r.state.mode c ≡ nexts.Goes n
     → StepGives r c more (stepped (with_mode r.state n) acts.Goes) B → Counted (r.state.bytes - 1) (r.used + 1) more total → C q (t ++ c ∷ more)
 goes_sound C G B total g0 c more ih q t r n here a x h l =
     let g = goes_here q t r.state.mode n r.held c q.get here x in
     let p : Reading = reading r.out (state n (r.state.bytes - 1) r.state.symbols r.state.last r.state.fed r.state.get) (r.held ++ c ∷ []) r.place (r.used + 1) in
     let run_on : G p more = g0.goes p more g.1 h in
-    let a2 : Agrees (seen q t) p.out p.state p.place = record { same = a.same; last = a.last; fed = a.fed; line = a.line; get = a.get; count = a.count } in
-    let a3 : Agrees (seen q (t ++ c ∷ [])) p.out p.state p.place = subst (λ (y : Putting). Agrees y p.out p.state p.place) (sym (seen_more q t g.2.0 g.2.1 c g.2.2)) a2 in
+    let a2 : Agrees (longer (seen q t)) p.out p.state p.place p.used = record { same = a.same; last = a.last; fed = a.fed; line = a.line; get = a.get; count = a.count; bytes = ap (λ (k : ℕ). k + 1) a.bytes } in
+    let a3 : Agrees (seen q (t ++ c ∷ [])) p.out p.state p.place p.used = subst (λ (y : Putting). Agrees y p.out p.state p.place p.used) (sym (seen_more q t g.2.0 g.2.1 c g.2.2)) a2 in
     subst (λ (y : List ℕ). C q y) (append_assoc t (c ∷ []) more) (ih q (t ++ c ∷ []) p g.0 a3 run_on l)
 
 -- the last byte of the string of a GET
@@ -434,7 +442,7 @@ string_longest t (c ∷ more) w = ends_longest TextEnd t c more w refl
 pub due_line : (o : Option ℕ) (g : ℕ) (get : Bool) (line : ℕ) → o ≡ Some g → GetAgrees o get line → line ≡ g
 due_line o g get line e h = let s : GetAgrees (Some g) get line = subst (λ (x : Option ℕ). GetAgrees x get line) e h in s.1
 
-names_sound : (C : Putting → List ℕ → Type 0) (G B : Reading → List ℕ → Type 0) (total : ℕ) (g0 : Concludes C G B total) (c : ℕ) (more : List ℕ) (ih : Follows C G total more) (q : Putting) (t : List ℕ) (r : Reading) (h : Header) (u : Step) → Here t r.state.mode r.held q.get → Agrees (seen q t) r.out r.state r.place → next r.state.mode c ≡ nexts.Names h
+names_sound : (C : Putting → List ℕ → Type 0) (G B : Reading → List ℕ → Type 0) (total : ℕ) (g0 : Concludes C G B total) (c : ℕ) (more : List ℕ) (ih : Follows C G total more) (q : Putting) (t : List ℕ) (r : Reading) (h : Header) (u : Step) → Here t r.state.mode r.held q.get → Agrees (seen q t) r.out r.state r.place r.used → next r.state.mode c ≡ nexts.Names h
     → named r.state h ≡ Ok u → StepGives r c more u B → Counted (r.state.bytes - 1) (r.used + 1) more total → C q (t ++ c ∷ more)
 names_sound C G B total g0 c more ih q t r h u (inl d) a x n g l = absurd (let z : nexts.Ends ≡ nexts.Names h = ap (λ (y : Mode). next y c) (sym d.1) ∙ x in cc)
 names_sound C G B total g0 c more ih q t r h u (inr (inl d)) a x n g l = absurd (no_names r.state.mode c h t (piece_reads t r.state.mode d.1) x)
@@ -444,7 +452,7 @@ names_sound C G B total g0 c more ih q t r h u (inr (inr d)) a x n g l =
     let k = named_ok r.state h u n in
     let q3 = seen q t in
     let more_seen = seen_more q t 34 d.0.0 c d.0.1 in
-    let q2 : Putting = putting (q3.out ++ header_symbols h line) (Some kinds.SectionClose) q3.fed q3.line None in
+    let q2 : Putting = putting (q3.out ++ header_symbols h line) (Some kinds.SectionClose) q3.fed q3.line None (q3.used + 1) in
     let due : q3.get ≡ Some line = seen_get q t ∙ d.1.1 in
     let at_line : r.place.get_line ≡ line = due_line q3.get line r.state.get r.place.get_line due a.get in
     let p : Reading = reading (r.out ++ header_symbols h r.place.get_line) (state Blank (r.state.bytes - 1) (r.state.symbols - header_rest h) (Some kinds.SectionClose) r.state.fed false) (r.held ++ c ∷ []) r.place (r.used + 1) in
@@ -452,18 +460,18 @@ names_sound C G B total g0 c more ih q t r h u (inr (inr d)) a x n g l =
     let len = header_length h line in
     let wait : waiting q3.get ≡ 1 = ap waiting due in
     let outs : r.out ++ header_symbols h r.place.get_line ≡ q3.out ++ header_symbols h line = ap (λ (y : List Symbol). y ++ header_symbols h r.place.get_line) a.same ∙ ap (λ (y : ℕ). q3.out ++ header_symbols h y) at_line in
-    let agrees : Agrees (seen q2 []) p.out p.state p.place = record { same = outs; last = refl; fed = a.fed; line = a.line; get = refl; count = omega (arith, len, wait, k.0, a.count, length-append q3.out (header_symbols h line)) } in
+    let agrees : Agrees (seen q2 []) p.out p.state p.place p.used = record { same = outs; last = refl; fed = a.fed; line = a.line; get = refl; count = omega (arith, len, wait, k.0, a.count, length-append q3.out (header_symbols h line)); bytes = ap (λ (k : ℕ). k + 1) a.bytes } in
     let rest = ih q2 [] p (inl (refl, refl)) agrees run_on l in
     let spelled : IsPiece string (t ++ c ∷ []) = ((whole.0, length whole.0, whole.1, whole.2), (whole.0, length whole.0, whole.1, whole.2, whole.3)) in
     let put_is : put q (record { sort = string; text = t ++ c ∷ [] }) ≡ Some q2 =
     ap (λ (o : Option ℕ). put_as (seen q (t ++ c ∷ [])) (t ++ c ∷ []) (whats.Symbol kinds.Text) o) d.1.1
     ∙ ap (λ (o : Option Header). named_as (seen q (t ++ c ∷ [])) line o) whole.4
-    ∙ ap (λ (y : Putting). Some (putting (y.out ++ header_symbols h line) (Some kinds.SectionClose) y.fed y.line None)) more_seen in
+    ∙ ap (λ (y : Putting). Some (putting (y.out ++ header_symbols h line) (Some kinds.SectionClose) y.fed y.line None y.used)) more_seen in
     subst (λ (y : List ℕ). C q y) (append_assoc t (c ∷ []) more) (g0.before q q2 string (t ++ c ∷ []) more spelled (λ tail. string_longest (t ++ c ∷ []) (more ++ tail) (names_walk (t ++ c ∷ []) h whole)) put_is rest)
 
 -- ---- one byte, whatever it does
 
-pub step_sound : (C : Putting → List ℕ → Type 0) (G B : Reading → List ℕ → Type 0) (total : ℕ) (g0 : Concludes C G B total) (x : Next) (c : ℕ) (more : List ℕ) (ih : Follows C G total more) (q : Putting) (t : List ℕ) (r : Reading) (u : Step) → Here t r.state.mode r.held q.get → Agrees (seen q t) r.out r.state r.place → next r.state.mode c ≡ x
+pub step_sound : (C : Putting → List ℕ → Type 0) (G B : Reading → List ℕ → Type 0) (total : ℕ) (g0 : Concludes C G B total) (x : Next) (c : ℕ) (more : List ℕ) (ih : Follows C G total more) (q : Putting) (t : List ℕ) (r : Reading) (u : Step) → Here t r.state.mode r.held q.get → Agrees (seen q t) r.out r.state r.place r.used → next r.state.mode c ≡ x
     → moved r.state c x ≡ Ok u → StepGives r c more u B → Counted (r.state.bytes - 1) (r.used + 1) more total → C q (t ++ c ∷ more)
 step_sound C G B total g0 (nexts.Goes n) c more ih q t r u here a x m g l = goes_sound C G B total g0 c more ih q t r n here a x (subst (λ (y : Step). StepGives r c more y B) (sym (done_is _ u m)) g) l
 step_sound C G B total g0 nexts.Ends c more ih q t r u here a x m g l = ends_sound C G B total g0 c more ih q t r u here a x m g l

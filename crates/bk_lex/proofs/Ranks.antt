@@ -31,7 +31,7 @@ use Rattle.bk_lex.proofs.Lowest.{ByteFault, EndFault, first_number, one_kind, lo
 use Rattle.bk_lex.proofs.BesideGet.{get_within, get_stays, end_symbols}
 
 abbrev first : ℕ → Putting
-first from = putting [] None false from None
+first from = putting [] None false from None 0
 
 all_numbers : (g : Fault) → source_number (told_kind g) ≤ 8
 all_numbers BadByte = omega arith

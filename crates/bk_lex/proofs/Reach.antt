@@ -112,7 +112,7 @@ Pending q t = (weight q ≤ 262144) × ((t ≡ []) ⊎ ((m : Mode) × (walk_piec
 heads : (b c : ℕ) (xs ys : List ℕ) → b ∷ xs ≡ c ∷ ys → b ≡ c
 heads b c xs ys e = cc
 
-pending_fits : (q : Putting) (t : List ℕ) (r : Reading) → Agrees (seen q t) r.out r.state r.place → r.held ≡ t → (r.state.mode ≡ Blank → walk_piece t ≡ nexts.Goes Blank) → FirstHeld r → FirstFits q t
+pending_fits : (q : Putting) (t : List ℕ) (r : Reading) → Agrees (seen q t) r.out r.state r.place r.used → r.held ≡ t → (r.state.mode ≡ Blank → walk_piece t ≡ nexts.Goes Blank) → FirstHeld r → FirstFits q t
 pending_fits q t r a e w (inl h) b rest m x f =
     let reads : Reads Blank t = piece_reads t Blank (w h) in
     let same : reads.0 ≡ b = heads reads.0 b [] rest (sym reads.1 ∙ x) in
@@ -141,7 +141,7 @@ naming_due : (o : Option ℕ) (t : List ℕ) (m n : Mode) → Naming t n → Due
 naming_due None t m n h = tt
 naming_due (Some g) t m n h = inr (n, h)
 
-pending : (q : Putting) (t : List ℕ) (r : Reading) → Here t r.state.mode r.held q.get → Agrees (seen q t) r.out r.state r.place → FirstHeld r → Pending q t
+pending : (q : Putting) (t : List ℕ) (r : Reading) → Here t r.state.mode r.held q.get → Agrees (seen q t) r.out r.state r.place r.used → FirstHeld r → Pending q t
 pending q t r (inl d) a h = (omega (arith, a.count, seen_weight q t), inl d.0)
 pending q t r (inr (inl d)) a h = (
   omega (arith, a.count, seen_weight q t),
@@ -159,7 +159,7 @@ pending q t r (inr (inr d)) a h = (
 
 -- behind pieces, a text goes on with what the machine is in, whatever follows
 abbrev pub Reached : State → Putting → List ℕ → Type 0
-Reached s q text = (q2 : Putting) × (t : List ℕ) × ((more : List ℕ) → Way q (text ++ more) (t ++ more) q2) × Pending q2 t × ((r : Reading) × (r.state ≡ s) × Here t r.state.mode r.held q2.get × Agrees (seen q2 t) r.out r.state r.place)
+Reached s q text = (q2 : Putting) × (t : List ℕ) × ((more : List ℕ) → Way q (text ++ more) (t ++ more) q2) × Pending q2 t × ((r : Reading) × (r.state ≡ s) × Here t r.state.mode r.held q2.get × Agrees (seen q2 t) r.out r.state r.place r.used)
 
 abbrev Going : State → Reading → List ℕ → Type 0
 Going s r rest = (state_behind (Some r.state) rest ≡ Some s) × FirstHeld r
@@ -180,7 +180,7 @@ concludes_reached s total = record {
     no_dot : true ≡ false → ⊥
     no_dot z = cc
 
-here_reached : (s : State) (q : Putting) (t : List ℕ) (r : Reading) → Here t r.state.mode r.held q.get → Agrees (seen q t) r.out r.state r.place → r.state ≡ s → Pending q t → Reached s q (t ++ [])
+here_reached : (s : State) (q : Putting) (t : List ℕ) (r : Reading) → Here t r.state.mode r.held q.get → Agrees (seen q t) r.out r.state r.place r.used → r.state ≡ s → Pending q t → Reached s q (t ++ [])
 here_reached s q t r here a e p = (q, t, λ more. record { pieces = []; cut = ap (λ (x : List ℕ). x ++ more) (append-nil t); tokens = refl }, p, (r, e, here, a))
 
 abbrev pub Stepped : State → ℕ → List ℕ → State → Type 0
@@ -219,6 +219,6 @@ reaches s total [] q t r here a g l = here_reached s q t r here a (some_state r.
     some_state x y e = cc
 reaches s total (c ∷ rest) q t r here a g l = byte_reached s total c rest (reaches s total rest) q t r here a g l
 
-pub reached : (front : List ℕ) (from : ℕ) (s : State) → state_behind (Some start) front ≡ Some s → Reached s (putting [] None false from None) front
+pub reached : (front : List ℕ) (from : ℕ) (s : State) → state_behind (Some start) front ≡ Some s → Reached s (putting [] None false from None 0) front
 reached front from s e =
-    reaches s (length front) front (putting [] None false from None) [] (begin from) (inl (refl, refl)) record { same = refl; last = refl; fed = refl; line = refl; get = refl; count = refl } (e, inl refl) (omega arith, refl)
+    reaches s (length front) front (putting [] None false from None 0) [] (begin from) (inl (refl, refl)) record { same = refl; last = refl; fed = refl; line = refl; get = refl; count = refl; bytes = refl } (e, inl refl) (omega arith, refl)

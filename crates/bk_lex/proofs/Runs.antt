@@ -161,7 +161,7 @@ run_first out x place used b m n rest f g h k =
 -- ---- the end of a piece
 
 abbrev ended_on : Reading → Ended → Reading
-ended_on r e = resting (put_on r.out e.given r.place.line r.held) e.state (at r.place.line (get_line_after r.place e.given)) r.used
+ended_on r e = resting (put_on r.out e.given r.place.line r.used r.held) e.state (at r.place.line (get_line_after r.place e.given)) r.used
 
 no_section : {A : Type 0} (f : SourceFault) (s : Section) → (let x : Result Section SourceFault = Err f in x) ≡ Ok s → A
 no_section f s e = absurd cc

@@ -29,7 +29,7 @@ same_section a b e = cc
 
 -- ---- what is left is empty
 
-nothing_left : (q : Putting) (s : Section) (total used : ℕ) (out : List Symbol) (st : State) (place : Place) → Agrees q out st place → st.get ≡ false → section out used false place.line ≡ s → used ≡ total → CutFrom q [] total s
+nothing_left : (q : Putting) (s : Section) (total used : ℕ) (out : List Symbol) (st : State) (place : Place) → Agrees q out st place used → st.get ≡ false → section out used false place.line ≡ s → used ≡ total → CutFrom q [] total s
 nothing_left q s total used out st place a g e u =
     subst (λ (x : Section). CutFrom q [] total x) e record {
       pieces = [];
@@ -50,7 +50,7 @@ nothing_left q s total used out st place a g e u =
 
 -- ---- a cutting is concluded
 
-dot_cut : (total : ℕ) (s : Section) (more : List ℕ) (q : Putting) (out : List Symbol) (x : State) (k line gl used : ℕ) → Agrees q out x (at line gl) → x.get ≡ false → (let a : Result Section SourceFault = Ok (section out (used + 1) true line) in a) ≡ Ok s → Counted k (used + 1) more total
+dot_cut : (total : ℕ) (s : Section) (more : List ℕ) (q : Putting) (out : List Symbol) (x : State) (k line gl used : ℕ) → Agrees q out x (at line gl) used → x.get ≡ false → (let a : Result Section SourceFault = Ok (section out (used + 1) true line) in a) ≡ Ok s → Counted k (used + 1) more total
     → CutFrom q (46 ∷ more) total s
 dot_cut total s more q out x k line gl used a g h u =
     subst (λ (y : Section). CutFrom q (46 ∷ more) total y) (same_section _ s h) record {
@@ -78,7 +78,7 @@ concludes_cut total s = record {
 
 -- ---- the text's end
 
-end_ok : (r : Reading) (x : Result Given Fault) (s : Section) → end_as r x ≡ Ok s → (g : Given) × (x ≡ Ok g) × (section (put_on r.out g r.place.line r.held) r.used false r.place.line ≡ s)
+end_ok : (r : Reading) (x : Result Given Fault) (s : Section) → end_as r x ≡ Ok s → (g : Given) × (x ≡ Ok g) × (section (put_on r.out g r.place.line r.used r.held) r.used false r.place.line ≡ s)
 end_ok r (Ok g) s e = (g, refl, cc)
 end_ok r (Err f) s e = absurd cc
 
@@ -93,8 +93,8 @@ no_get_ok e g h =
       | inr p ↦ (p.0, done_is e.given g p.1)
     ]
 
-end_here : (q : Putting) (t : List ℕ) (r : Reading) (s : Section) (total : ℕ) (e : Ended) → Here t r.state.mode r.held q.get → end_fault r.state.mode ≡ None → AfterPiece (seen q t) r.held (piece r.state.mode) r.out r.place e → e.state.get ≡ false
-    → section (put_on r.out e.given r.place.line r.held) r.used false r.place.line ≡ s → r.used ≡ total → CutFrom q (t ++ []) total s
+end_here : (q : Putting) (t : List ℕ) (r : Reading) (s : Section) (total : ℕ) (e : Ended) → Here t r.state.mode r.held q.get → end_fault r.state.mode ≡ None → AfterPiece (seen q t) r.held (piece r.state.mode) r.out r.place r.used e → e.state.get ≡ false
+    → section (put_on r.out e.given r.place.line r.used r.held) r.used false r.place.line ≡ s → r.used ≡ total → CutFrom q (t ++ []) total s
 end_here q t r s total e here f a g h u = end_before (λ q text. CutFrom q text total s) (cut_before total s) q t r e here f a (nothing_left a.0 s total r.used _ e.state _ a.2 g h u)
 
 sound_end : (total : ℕ) (s : Section) → Follows (λ q text. CutFrom q text total s) (RunsTo (Ok s)) total []
@@ -105,7 +105,7 @@ sound_end total s q t r here a h u =
     let z = ok_bind (ended r.state) (λ e. no_get e) x.0 y.1 in
     let w = no_get_ok z.0 x.0 z.2 in
     let after = ended_agrees (piece r.state.mode) (seen q t) r.out r.state r.place r.held z.0 a z.1 in
-    end_here q t r s total z.0 here y.0 after w.0 (ap (λ (g : Given). section (put_on r.out g r.place.line r.held) r.used false r.place.line) w.1 ∙ x.2) (omega (arith, u.0))
+    end_here q t r s total z.0 here y.0 after w.0 (ap (λ (g : Given). section (put_on r.out g r.place.line r.used r.held) r.used false r.place.line) w.1 ∙ x.2) (omega (arith, u.0))
 
 pub within_bytes : (n : ℕ) (y : Result Step Fault) (t : Step) → within n y ≡ Ok t → (t.state.bytes + 1 ≡ n)
 within_bytes n (Ok u) t e =
@@ -169,7 +169,7 @@ bounded (c ∷ more) r s e h = bounded_byte c more (bounded more) r s e h
 
 pub lexed_is_section : (text : List ℕ) (from : ℕ) (s : Section) → lexed text from ≡ Ok s → IsSection text from s
 lexed_is_section text from s h = (
-  sound (length text) s text (putting [] None false from None) [] (begin from) (inl (refl, refl)) record { same = refl; last = refl; fed = refl; line = refl; get = refl; count = refl } h (omega arith, refl),
+  sound (length text) s text (putting [] None false from None 0) [] (begin from) (inl (refl, refl)) record { same = refl; last = refl; fed = refl; line = refl; get = refl; count = refl; bytes = refl } h (omega arith, refl),
   bounded text (begin from) s refl h,
 )
 

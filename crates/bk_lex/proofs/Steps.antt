@@ -81,7 +81,7 @@ pub joined_goes : (text : List ℕ) (i : ℕ) (out : List Symbol) (s : State) (s
 joined_goes text i out s start place t total h e = (omega (arith, h.0), rw (← (grows text start i h.0 h.1)) (acted text i out s start place t Goes total h e))
 
 pub joined_begins : (text : List ℕ) (i : ℕ) (out : List Symbol) (s : State) (start : ℕ) (place : Place) (t : Step) (total : Result Section SourceFault) (g : Given) → Before text i out s start place t total → t.act ≡ Begins g
-    → Joined text i (put_on out g place.line (slice_range text start i)) i (place_after place g (get_or text i 0)) t total
+    → Joined text i (put_on out g place.line i (slice_range text start i)) i (place_after place g (get_or text i 0)) t total
 joined_begins text i out s start place t total g h e = (omega arith, rw (← (single text i h.1)) (acted text i out s start place t (Begins g) total h e))
 
 pub joined_names : (text : List ℕ) (i : ℕ) (out : List Symbol) (s : State) (start : ℕ) (place : Place) (t : Step) (total : Result Section SourceFault) (n : Header) → Before text i out s start place t total → t.act ≡ Names n

@@ -2,7 +2,7 @@
 --   GLOBAL $( START:1; STOP:2; RDCH:3; WRCH:4; NEWLINE:5; WRITES:6; WRITEN:7; WRITED:8; GETBYTE:9; PUTBYTE:10 $)
 --   MANIFEST $( ENDSTREAMCH=-1; BYTESPERWORD=4 $)
 -- LIBHDR2 has `; WRITEF:11` behind PUTBYTE:10.
-use Rattle.std.specs.Prelude.{ℕ, List, [], ◌∷◌, ◌++◌, map, codes}
+use Rattle.std.specs.Prelude.{ℕ, None, List, [], ◌∷◌, ◌++◌, map, codes}
 use Rattle.bk_lex.specs.Symbol.{Symbol}
 use Rattle.bk_lex.specs.declared.token.Kind.{Kind}
 use Rattle.bk_lex.specs.declared.token.Kind.TheVariants as kinds
@@ -90,9 +90,9 @@ given_of row = record { kind = row.kind; text = row.text.now }
 abbrev pub givens_of : List Given → List Spelled
 givens_of rows = map given_of rows
 
--- symbols on one line
+-- symbols on one line, which lie nowhere in the source
 abbrev pub given_on : ℕ → List Spelled → List Symbol
-given_on line rows = map (λ (g : Spelled). record { kind = g.kind; line = line; text = g.text }) rows
+given_on line rows = map (λ (g : Spelled). record { kind = g.kind; line = line; place = None; text = g.text }) rows
 
 abbrev pub header_symbols : Header → ℕ → List Symbol
 header_symbols Plain line = given_on line globals ++ given_on line manifests

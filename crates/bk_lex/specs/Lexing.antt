@@ -1,5 +1,5 @@
 -- The machine over the bytes of a text: the tokens of its first section, or the fault that is told.
-use Rattle.std.specs.Prelude.{ℕ, ◌+◌, ◌-◌, ◌^◌, ◌≡◌, min, Bool, true, false, ◌==◌, ◌&&◌, if◌then◌else◌, Option, Some, None, List, [], ◌∷◌, ◌++◌, Result, Ok, Err}
+use Rattle.std.specs.Prelude.{ℕ, ◌+◌, ◌-◌, ◌^◌, ◌≡◌, min, Bool, true, false, ◌==◌, ◌&&◌, if◌then◌else◌, Option, Some, None, List, [], ◌∷◌, ◌++◌, length, Result, Ok, Err}
 use Rattle.bk_base.specs.declared.source_fault.SourceFault.{SourceFault}
 use Rattle.bk_base.specs.declared.source_fault.SourceKind.{SourceKind}
 use Rattle.bk_base.specs.declared.source_fault.SourceKind.TheVariants as source_kinds
@@ -64,14 +64,16 @@ placed_fault s p f = record { line = if s.get && of_get f then p.get_line else p
 abbrev pub line_after : ℕ → ℕ → ℕ
 line_after b line = if b == 10 then min (line + 1) (2 ^ 32 - 1) else line
 
+-- what is inserted lies nowhere in the source
 abbrev pub inserted_symbols : Option Kind → ℕ → List Symbol
 inserted_symbols None line = []
-inserted_symbols (Some k) line = symbol k line [] ∷ []
+inserted_symbols (Some k) line = symbol k line None [] ∷ []
 
-abbrev pub put_on : List Symbol → Given → ℕ → List ℕ → List Symbol
-put_on out givens.Nothing line text = out
-put_on out (givens.Symbol insertion kind) line text = out ++ inserted_symbols insertion line ++ symbol kind line text ∷ []
-put_on out givens.Get line text = out
+-- what a piece gives, where so many bytes came up to its end
+abbrev pub put_on : List Symbol → Given → ℕ → ℕ → List ℕ → List Symbol
+put_on out givens.Nothing line used text = out
+put_on out (givens.Symbol insertion kind) line used text = out ++ inserted_symbols insertion line ++ symbol kind line (Some (used - length text)) text ∷ []
+put_on out givens.Get line used text = out
 
 abbrev pub get_line_after : Place → Given → ℕ
 get_line_after p givens.Get = p.line
@@ -94,7 +96,7 @@ reading out state held place used = record { out = out; state = state; held = he
 -- behind a byte
 abbrev pub read : Reading → ℕ → State → Act → Reading
 read r b s acts.Goes = reading r.out s (r.held ++ b ∷ []) r.place (r.used + 1)
-read r b s (acts.Begins g) = reading (put_on r.out g r.place.line r.held) s (b ∷ []) (place_after r.place g b) (r.used + 1)
+read r b s (acts.Begins g) = reading (put_on r.out g r.place.line r.used r.held) s (b ∷ []) (place_after r.place g b) (r.used + 1)
 read r b s (acts.Names h) = reading (r.out ++ header_symbols h r.place.get_line) s (r.held ++ b ∷ []) r.place (r.used + 1)
 
 abbrev pub is_dot : Mode → Bool
@@ -106,7 +108,7 @@ read_on r b (Ok t) = Ok (read r b t.state t.act)
 read_on r b (Err f) = Err (placed_fault r.state r.place f)
 
 abbrev pub end_as : Reading → Result Given Fault → Result Section SourceFault
-end_as r (Ok g) = Ok (section (put_on r.out g r.place.line r.held) r.used false r.place.line)
+end_as r (Ok g) = Ok (section (put_on r.out g r.place.line r.used r.held) r.used false r.place.line)
 end_as r (Err f) = Err (placed_fault r.state r.place f)
 
 -- the `.` that ends the section, and else what follows

@@ -11,6 +11,7 @@ pub mod Lexing
 pub mod Cutting
 pub mod Pieces
 pub mod Tokens
+pub mod Places
 pub mod Values
 pub mod TextFault
 pub mod Telling

@@ -15,13 +15,13 @@ abbrev pub CertainBytes : ℕ → ℕ → List ℕ → Type 0
 CertainBytes from line front = (more : List ℕ) → PassesBytes from (length (front ++ more)) line (front ++ more)
 
 abbrev pub CertainSymbols : ℕ → ℕ → List ℕ → Type 0
-CertainSymbols from line front = (more : List ℕ) → PassesSymbols (putting [] None false from None) line (front ++ more)
+CertainSymbols from line front = (more : List ℕ) → PassesSymbols (putting [] None false from None 0) line (front ++ more)
 
 -- certain on one ground: every text that begins so has the fault; of a section too long, every one has too many bytes, or
 -- every one too many symbols
 abbrev pub CertainAs : SourceKind → ℕ → ℕ → List ℕ → Type 0
 CertainAs SectionTooLong from line front = CertainBytes from line front ⊎ CertainSymbols from line front
-CertainAs kind from line front = (more : List ℕ) → HasKind kind (length (front ++ more)) (putting [] None false from None) line (front ++ more)
+CertainAs kind from line front = (more : List ℕ) → HasKind kind (length (front ++ more)) (putting [] None false from None 0) line (front ++ more)
 
 abbrev pub Certain : ℕ → SourceFault → List ℕ → Type 0
 Certain from f front = CertainAs f.kind from f.line front

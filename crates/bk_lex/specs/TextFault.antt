@@ -162,7 +162,7 @@ HasKind kind total q line text = Stands kind q.line line text
 
 -- a text whose first line has the number `from` has a fault in its first section
 abbrev pub HasFault : ℕ → SourceFault → List ℕ → Type 0
-HasFault from f text = HasKind f.kind (length text) (putting [] None false from None) f.line text
+HasFault from f text = HasKind f.kind (length text) (putting [] None false from None 0) f.line text
 
 -- and none at all
 abbrev pub NoFault : ℕ → List ℕ → Type 0

@@ -1,6 +1,6 @@
--- The tokens that pieces are: the symbols with their lines, the header in the place of each GET, and what is inserted
--- between neighbours.
-use Rattle.std.specs.Prelude.{ℕ, ◌+◌, ◌≤◌, ◌≡◌, Bool, true, false, ◌==◌, ◌||◌, if◌then◌else◌, Option, Some, None, List, [], ◌∷◌, ◌++◌, map, length, codes}
+-- The tokens that pieces are: the symbols with their lines and where they lie, the header in the place of each GET, and
+-- what is inserted between neighbours.
+use Rattle.std.specs.Prelude.{ℕ, ◌+◌, ◌-◌, ◌≤◌, ◌≡◌, Bool, true, false, ◌==◌, ◌||◌, if◌then◌else◌, Option, Some, None, List, [], ◌∷◌, ◌++◌, map, length, codes}
 use Rattle.std.specs.Str.{bytes_eq}
 use Rattle.std.specs.Char.{to_ascii_uppercase}
 use Rattle.bk_lex.specs.Symbol.{Symbol, symbol}
@@ -40,33 +40,35 @@ header_spelled text =
 abbrev pub header_named : List ℕ → Option Header
 header_named text = header_spelled (map to_ascii_uppercase text)
 
--- the tokens of the pieces so far: the last symbol, whether a line feed came since, the line, and the line of a GET whose
--- string is due
+-- the tokens of the pieces so far: the last symbol, whether a line feed came since, the line, the line of a GET whose
+-- string is due, and how many bytes the pieces have
 pub record Putting : Type 0 where
   pub out : List Symbol
   pub last : Option Kind
   pub fed : Bool
   pub line : ℕ
   pub get : Option ℕ
+  pub used : ℕ
 
-abbrev pub putting : List Symbol → Option Kind → Bool → ℕ → Option ℕ → Putting
-putting out last fed line get = record { out = out; last = last; fed = fed; line = line; get = get }
+abbrev pub putting : List Symbol → Option Kind → Bool → ℕ → Option ℕ → ℕ → Putting
+putting out last fed line get used = record { out = out; last = last; fed = fed; line = line; get = get; used = used }
 
--- a line feed, a piece of its own, ends the line; no other piece begins with one
+-- the bytes of a piece are counted; a line feed, a piece of its own, ends the line, and no other piece begins with one
 abbrev pub seen : Putting → List ℕ → Putting
 seen q [] = q
-seen q (b ∷ bs) = putting q.out q.last (q.fed || b == 10) (line_after b q.line) q.get
+seen q (b ∷ bs) = putting q.out q.last (q.fed || b == 10) (line_after b q.line) q.get (q.used + length (b ∷ bs))
 
 abbrev pub named_as : Putting → ℕ → Option Header → Option Putting
 named_as q g None = None
-named_as q g (Some h) = Some (putting (q.out ++ header_symbols h g) (Some kinds.SectionClose) q.fed q.line None)
+named_as q g (Some h) = Some (putting (q.out ++ header_symbols h g) (Some kinds.SectionClose) q.fed q.line None q.used)
 
--- a piece is put: a gap gives nothing; behind a GET a string that names a header is due, and nothing else may be
+-- a piece is put behind its count: a symbol lies where its bytes begin, and a gap gives nothing; behind a GET a string
+-- that names a header is due, and nothing else may be
 abbrev pub put_as : Putting → List ℕ → What → Option ℕ → Option Putting
 put_as q text whats.Gap get = Some q
-put_as q text (whats.Symbol k) None = Some (putting (q.out ++ inserted_symbols (inserted q.last k q.fed) q.line ++ symbol k q.line text ∷ []) (Some k) false q.line None)
+put_as q text (whats.Symbol k) None = Some (putting (q.out ++ inserted_symbols (inserted q.last k q.fed) q.line ++ symbol k q.line (Some (q.used - length text)) text ∷ []) (Some k) false q.line None q.used)
 put_as q text (whats.Symbol k) (Some g) = named_as q g (header_named text)
-put_as q text whats.Get None = Some (putting q.out q.last false q.line (Some q.line))
+put_as q text whats.Get None = Some (putting q.out q.last false q.line (Some q.line) q.used)
 put_as q text whats.Get (Some g) = None
 
 abbrev pub is_dot_sort : Sort → Bool
@@ -103,4 +105,4 @@ pub record CutFrom (q : Putting) (text : List ℕ) (total : ℕ) (s : Section) :
 -- the first section of a text whose first line has the number `from`; it has at most 1,048,576 bytes, and at most 262,144
 -- symbols
 abbrev pub IsSection : List ℕ → ℕ → Section → Type 0
-IsSection text from s = CutFrom (putting [] None false from None) text (length text) s × (s.used ≤ 1048576)
+IsSection text from s = CutFrom (putting [] None false from None 0) text (length text) s × (s.used ≤ 1048576)

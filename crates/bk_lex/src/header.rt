@@ -256,7 +256,7 @@ static MANIFESTS: [Given; 12] = [
     },
 ];
 
-/// Adds symbols of a header, on the line of the GET.
+/// Adds symbols of a header, on the line of the GET and at no place.
 fn put_rows<'a>(
     out: &mut Vec<Token<'a>>,
     rows: &'static [Given],
@@ -265,12 +265,15 @@ fn put_rows<'a>(
     ensures { OnOk result (symbols_of out.new.items ≡ symbols_of out.old.items ++ given_on line (givens_of rows.now)) }
 {
     for row in rows {
-        add(out, row.kind, line, row.text)?;
+        add(out, row.kind, line, None, row.text)?;
     }
     Ok(())
 }
 
-/// Adds the symbols of a header, on the line of the GET.
+/// Adds the symbols of a header, on the line of the GET. It is a function of its own, so that the loop over the bytes of a text has
+/// the registers to itself.
+#[cold]
+#[inline(never)]
 pub fn put_header<'a>(
     out: &mut Vec<Token<'a>>,
     header: Header,

@@ -1,6 +1,7 @@
 //! The tokens of a section.
-ghost use Rattle.std.specs.Prelude.{◌≡◌, ◌++◌, ◌∷◌, [], OnOk, IfOk, IfErr, Ok, ◌≤◌, length, slice_range};
+ghost use Rattle.std.specs.Prelude.{◌≡◌, ◌++◌, ◌∷◌, [], OnOk, IfOk, IfErr, Ok, ◌<◌, ◌≤◌, ◌^◌, length, slice_range};
 ghost use Rattle.bk_lex.specs.Tokens.{IsSection};
+ghost use Rattle.bk_lex.specs.Places.{LieInOrder};
 ghost use Rattle.bk_lex.specs.TextFault.{NoFault};
 ghost use Rattle.bk_lex.specs.Telling.{SaysFault};
 ghost use Rattle.bk_lex.specs.Symbol.{symbols_of};
@@ -89,15 +90,16 @@ fn put<'a>(
 ) -> Result<(), AllocError>
     requires order { start ≤ end }
     requires within { end ≤ length text.now }
-    ensures { OnOk result (symbols_of out.new.items ≡ put_on (symbols_of out.old.items) given line (slice_range text.now start end)) }
+    requires small { start < 2 ^ 32 }
+    ensures { OnOk result (symbols_of out.new.items ≡ put_on (symbols_of out.old.items) given line end (slice_range text.now start end)) }
 {
     let Given::Symbol(insertion, kind) = given else {
         return Ok(());
     };
     if let Some(inserted) = insertion {
-        add(out, inserted, line, &[])?;
+        add(out, inserted, line, None, &[])?;
     }
-    add(out, kind, line, &text[start..end])
+    add(out, kind, line, Some(start as u32), &text[start..end])
 }
 
 /// The place behind a byte that begins a piece.
@@ -124,6 +126,8 @@ pub fn lex<'a>(alloc: Global, text: &'a [u8], from: Line) -> Result<Lexed<'a>, R
     ensures tokens { IfOk result (λ l. IsSection text.now from (section_of l)) }
     // Where the text's first section is cut so, it is given, unless memory runs out.
     ensures only { (s : Section) → IsSection text.now from s → Gives result (Ok s) }
+    // A token that has a place has the bytes that stand there in the text, and lies behind those before it.
+    ensures places { IfOk result (λ l. LieInOrder text.now (symbols_of l.tokens.items)) }
     // A text that is taken has no fault.
     ensures faultless { IfOk result (λ l. NoFault from text.now) }
     // A fault stands in the first section, on the line that is told. It is the first that a byte makes certain, whatever

@@ -110,13 +110,18 @@ pub enum Kind {
     Query,
 }
 
-/// A symbol, with the line on which it begins and its bytes as the source spells them.
+/// A symbol, with the line on which it begins, the place where it lies, and its bytes as the source spells them.
 ///
 /// The symbols of a GET have slices of the header and the line of the GET; an inserted `;` or
-/// DO is empty and has the line of the symbol behind it.
+/// DO is empty and has the line of the symbol behind it. Both lie nowhere in the source and have no place.
 #[derive(Clone, Copy, Debug)]
 pub struct Token<'a> {
     pub kind: Kind,
     pub line: Line,
+    /// How many bytes of the section's text stand before it, by this project's own choice. `None` where it does not lie
+    /// in that text.
+    pub place: Option<u32>,
+    /// Its bytes. Those of a symbol with a place are equal to the bytes there; a fault's column rests on the place and
+    /// not on where this slice points.
     pub text: &'a [u8],
 }

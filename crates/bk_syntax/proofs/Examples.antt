@@ -1,5 +1,5 @@
 -- Worked rows, read by the machine.
-use Rattle.std.proofs.Common.{◌≡◌, ℕ, true, List, [], ◌∷◌, Ok, Err, refl}
+use Rattle.std.proofs.Common.{◌≡◌, ℕ, true, List, [], ◌∷◌, None, Ok, Err, refl}
 use Rattle.bk_lex.specs.declared.token.Kind.{Kind}
 use Rattle.bk_lex.specs.declared.token.Kind.TheVariants as k
 use Rattle.bk_lex.specs.Symbol.{Symbol}
@@ -11,10 +11,10 @@ use Rattle.bk_syntax.specs.SyntaxLaws.{reading}
 
 -- the name of this letter
 abbrev v : ℕ → Symbol
-v letter = record { kind = k.Name; line = 1; text = letter ∷ [] }
+v letter = record { kind = k.Name; line = 1; place = None; text = letter ∷ [] }
 
 abbrev s : Kind → Symbol
-s kind = record { kind = kind; line = 1; text = [] }
+s kind = record { kind = kind; line = 1; place = None; text = [] }
 
 abbrev n : ℕ → Expression
 n letter = name 1 (letter ∷ [])

@@ -1,5 +1,5 @@
 -- Ways on: symbols that lead from a state of the machine to the end of a section, by the class of the first of them.
-use Rattle.std.proofs.Common.{◌≡◌, ◌≤◌, ℕ, arith, false, cond, List, [], ◌∷◌, Option, Some, Ok, refl, subst, ap, ◌∙◌}
+use Rattle.std.proofs.Common.{◌≡◌, ◌≤◌, ℕ, arith, false, cond, List, [], ◌∷◌, Option, Some, None, Ok, refl, subst, ap, ◌∙◌}
 use Rattle.bk_lex.specs.declared.token.Kind.{Kind}
 use Rattle.bk_lex.specs.declared.token.Kind.TheVariants as k
 use Rattle.bk_lex.specs.Symbol.{Symbol, symbol}
@@ -52,7 +52,7 @@ sized F d e n m p q h = let G : ℕ → Type 0 = λ x. F x n in subst (F e) q (s
 -- ---- one symbol before the others
 
 unfoldable pub step_on : {P : ℕ → ℕ → Type 0} (y : Kind) (os : List (List ℕ)) (x z : State) → opens y ≡ false → closes y ≡ false → stepped_by x 1 [] y ≡ Some z → Way P os z → Way P os x
-step_on y os x z o c h e = let t : Symbol = symbol y 1 [] in record {
+step_on y os x z o c h e = let t : Symbol = symbol y 1 None [] in record {
   symbols = t ∷ e.symbols;
   brackets = plain_other t e.symbols os o c ∙ ap (in_front (t ∷ [])) e.brackets;
   tree = e.tree;
@@ -66,7 +66,7 @@ step_by n y os x z f o c h e = record { way = step_on y os x z o c h e; first = 
 
 -- an opening without a tag
 pub open_on : {P : ℕ → ℕ → Type 0} (os : List (List ℕ)) (x z : State) → stepped_by x 1 [] k.SectionOpen ≡ Some z → Way P ([] ∷ os) z → Way P os x
-open_on os x z h e = let t : Symbol = symbol k.SectionOpen 1 [] in record {
+open_on os x z h e = let t : Symbol = symbol k.SectionOpen 1 None [] in record {
   symbols = t ∷ e.symbols;
   brackets = plain_open t e.symbols os refl ∙ ap (in_front (t ∷ [])) e.brackets;
   tree = e.tree;
@@ -81,7 +81,7 @@ closes_one t (x ∷ xs) os = ap (λ b. cond b (Some (record { closings = t ∷ [
 -- a closing with the innermost tag
 pub shut_by : {P : ℕ → ℕ → Type 0} (tag : List ℕ) (os : List (List ℕ)) (x z : State) → Tagged tag → ((l : ℕ) (s : List ℕ) → stepped_by x l s k.SectionClose ≡ Some z) → Way P os z → WayBy P closing (tag ∷ os) x
 shut_by tag os x z has h e =
-    let t : Symbol = symbol k.SectionClose 1 (0 ∷ 0 ∷ has.0) in
+    let t : Symbol = symbol k.SectionClose 1 None (0 ∷ 0 ∷ has.0) in
     record {
       way = record {
         symbols = t ∷ e.symbols;

@@ -409,6 +409,7 @@ fn at_end(
     let last = Token {
         kind: Kind::Semicolon,
         line: Line::first(),
+        place: None,
         text: &[],
     };
     match step(alloc, &mut frames, &mut now, &last) {

@@ -1,6 +1,7 @@
-use Rattle.std.proofs.Common.{◌≡◌, ◌+◌, length, slice_range, arith}
+use Rattle.std.proofs.Common.{◌≡◌, ◌+◌, length, slice_range, sym, arith}
 use Rattle.bk_lex.specs.Symbol.{symbols_of}
 use Rattle.bk_lex.specs.Lexing.{reading, lexed}
+use Rattle.bk_lex.proofs.Sound.{within_bytes}
 use Rattle.bk_lex.proofs.Steps.{bad, stops, goes_on, end_bad, end_good, joined_goes, joined_begins, joined_names, Joined, Before}
 use Rattle.bk_lex.proofs.scan.read_section.Goals as goal
 use Rattle.bk_lex.proofs.scan.read_section.Goals.{in-Goes, in-Begins+in_ok-put-in-Begins, in-Names+in_ok-put_header-in-Names}
@@ -32,7 +33,8 @@ loop-i-preserved c =
       | in-Begins+in_ok-put-in-Begins w ↦ rw (w.tokens-is, w.start-is, w.place-is, w.in_ok-put-in-Begins.ensures, w.place_after-place.ensures) (joined_begins text i (symbols_of c.loop-i.tokens.items) c.loop-i.state c.loop-i.start c.loop-i.place c.in-Ok.next (lexed text c.args.from) w.in-Begins.given before w.in-Begins.is)
       | in-Names+in_ok-put_header-in-Names w ↦ rw (w.tokens-is, w.start-is, w.place-is, w.in_ok-put_header-in-Names.ensures) (joined_names text i (symbols_of c.loop-i.tokens.items) c.loop-i.state c.loop-i.start c.loop-i.place c.in-Ok.next (lexed text c.args.from) w.in-Names.header before w.in-Names.is)
     ] in
-    record { order = j.0; same = goes_on (reading (symbols_of c.match-next.tokens.items) c.in-Ok.next.state (slice_range text c.match-next.start (i + 1)) c.match-next.place (i + 1)) _ _ c.if-is_dot.ensures j.1 }
+    let left = within_bytes c.loop-i.state.bytes _ c.in-Ok.next (sym c.in-Ok.ensures) in
+    record { order = j.0; counted = omega (arith, left, c.loop-i.invariant.counted); same = goes_on (reading (symbols_of c.match-next.tokens.items) c.in-Ok.next.state (slice_range text c.match-next.start (i + 1)) c.match-next.place (i + 1)) _ _ c.if-is_dot.ensures j.1 }
 
 pub returns-in-Err-finished : goal.returns-in-Err-finished
 returns-in-Err-finished c =
