@@ -12,7 +12,7 @@ use Rattle.bk_scope.specs.declared.role.Role.TheVariants.{Value, Truth}
 use Rattle.bk_scope.specs.Scope.{Binding, bound_in, bind}
 use Rattle.bk_scope.specs.Wrong.{Wrong, text_of, case_repeated, default_repeated, dynamic_name, label_not_here, no_loop, no_switchon, no_result_or_return}
 use Rattle.bk_scope.specs.Constants.{constant_word, wrongs}
-use Rattle.bk_scope.specs.Found.{Found, choosing, defaulting, is_claimed, else_first, first_of, breaks_first, breaks, claims_new, holds, takes, reaches}
+use Rattle.bk_scope.specs.Found.{Found, choosing, defaulting, is_claimed, else_first, first_of, breaks_first, breaks, claims_new, holds, reaches}
 use Rattle.bk_scope.specs.Places.{deeper, looping, labelled}
 use Rattle.bk_scope.specs.Entering.{Stage, labels_of}
 use Rattle.bk_scope.specs.Names.{evaluated, destinations, done, reached, listed, named_as, switched, chosen, defaulted, single, constant_found, constants_found}
@@ -23,7 +23,7 @@ use Rattle.bk_scope.specs.Faults.{unless, gone_to, chosen_at, defaulted_at, sing
 use Rattle.bk_scope.proofs.Worded.{no_wrong}
 use Rattle.bk_scope.proofs.Tied.{Tied, Spans, broken, both, wider, behind_it, else_none, nothing_told}
 use Rattle.bk_scope.proofs.Operators.{ETied, EsTied, CTied}
-use Rattle.bk_scope.proofs.Scopes.{CsTied, moved, moved_tied, recount, no_span, with_labels_is, pushed_tied, pushed_spans}
+use Rattle.bk_scope.proofs.Scopes.{CsTied, moved, moved_tied, recount, no_span, labels_taken, pushed_tied, pushed_spans}
 use Rattle.bk_scope.proofs.Procedures.{claim_tied, listed_tied, one_spans}
 use Rattle.bk_scope.proofs.Constants.{lower_one, constant_right, constant_tied, whole_spans, unless_spans, each_constant_tied, each_constant_spans}
 use Rattle.bk_scope.proofs.Standing.{inside, each_inside, destinations_inside, done_inside, each_done_inside, meaning_spans, chosen_spans, defaulted_spans}
@@ -105,65 +105,65 @@ case_head e (Some m) (Some v) l bs k s f a =
 
 -- COMMANDS
 pub empty_tied : CTied empty
-empty_tied bs p s f e = nothing_told f
+empty_tied bs p s f e fits = nothing_told f
 
 pub assign_tied : (l : ℕ) (xs es : Expressions) → DestinationsTied xs → EsTied es → CTied (assign l xs es)
-assign_tied l xs es t u bs p s f e =
-    let one : Tied (told_destinations bs (deeper 1 p) s xs) (numbers_each xs) f (destinations bs (deeper 1 p) xs f) = t bs (deeper 1 p) s f e in
-    behind_it (destinations_inside xs bs (deeper 1 p) s) (each_inside es 0 bs p (behind_each xs s)) (omega arith) one (u 0 bs p (behind_each xs s) (destinations bs (deeper 1 p) xs f) (omega (arith, one.next, e)))
+assign_tied l xs es t u bs p s f e fits =
+    let one : Tied (told_destinations bs (deeper 1 p) s xs) (numbers_each xs) f (destinations bs (deeper 1 p) xs f) = t bs (deeper 1 p) s f e (omega (arith, fits)) in
+    behind_it (destinations_inside xs bs (deeper 1 p) s) (each_inside es 0 bs p (behind_each xs s)) (omega arith) one (u 0 bs p (behind_each xs s) (destinations bs (deeper 1 p) xs f) (omega (arith, one.next, e)) (omega (arith, fits)))
 
 pub routine_call_tied : (l : ℕ) (e : Expression) (es : Expressions) → ETied e → EsTied es → CTied (call l e es)
-routine_call_tied l e es t u bs p s f a =
+routine_call_tied l e es t u bs p s f a fits =
     let w : Place = deeper (size es + 2) p in
     let g : Found = evaluated Value bs w e f in
-    let one : Tied (told Value bs w s e) (numbers e) f g = t Value tt bs w s f a in
-    behind_it (inside e Value bs w s) (each_inside es 1 bs (deeper 2 p) (behind e s)) (omega arith) one (u 1 bs (deeper 2 p) (behind e s) g (omega (arith, one.next, a)))
+    let one : Tied (told Value bs w s e) (numbers e) f g = t Value tt bs w s f a (omega (arith, fits)) in
+    behind_it (inside e Value bs w s) (each_inside es 1 bs (deeper 2 p) (behind e s)) (omega arith) one (u 1 bs (deeper 2 p) (behind e s) g (omega (arith, one.next, a)) (omega (arith, fits)))
 
 pub goto_tied : (l : ℕ) (x : Mention) → CTied (goto l x)
-goto_tied l x bs p s f e = gone_tied p.procedure s.place x.line x.letters (bound_in bs x.letters) f
+goto_tied l x bs p s f e fits = gone_tied p.procedure s.place x.line x.letters (bound_in bs x.letters) f
 
 pub label_tied : (l : ℕ) (x : List ℕ) (c : Action) → CTied c → CTied (label l x c)
-label_tied l x c t bs p s f e =
+label_tied l x c t bs p s f e fits =
     let g : Found = listed p.labels l x f in
     let h : Found = named_as (bound_in bs x) g in
     let head : Tied (one_of p.labels s.place l x ++ its_meaning (bound_in bs x)) 0 f h = recount 0 (behind_it (one_spans p.labels s.place l x) (meaning_spans (s.place + 1) (bound_in bs x)) (omega arith) (listed_tied p.labels s.place l x f) (named_tied (bound_in bs x) g)) (omega arith) in
-    recount (numbers_done c) (behind_it (both (one_spans p.labels s.place l x) (meaning_spans (s.place + 1) (bound_in bs x)) (omega arith) (omega arith)) (done_inside c bs p (past 1 s)) (omega arith) head (t bs p (past 1 s) h (omega (arith, head.next, e)))) (omega arith)
+    recount (numbers_done c) (behind_it (both (one_spans p.labels s.place l x) (meaning_spans (s.place + 1) (bound_in bs x)) (omega arith) (omega arith)) (done_inside c bs p (past 1 s)) (omega arith) head (t bs p (past 1 s) h (omega (arith, head.next, e)) (omega (arith, fits)))) (omega arith)
 
 pub case_tied : (l : ℕ) (e : Expression) (c : Action) → CTied c → CTied (case_of l e c)
-case_tied l e c t bs p s f a =
+case_tied l e c t bs p s f a fits =
     let h : Found = chosen p.switch l (constant_word bs e) (constant_found bs p.procedure e (switched p.switch l f)) in
     let head : Tied (chosen_at p.switch s.place l (constant_word bs e) ++ constant bs p.procedure (past 1 s) e) 0 f h = case_head e p.switch (constant_word bs e) l bs p.procedure s f refl in
     let u : Spot = behind_constant e (past 1 s) in
-    recount (numbers_done c) (behind_it (both (chosen_spans p.switch s.place l (constant_word bs e)) (whole_spans e bs p.procedure (past 1 s)) (omega arith) (omega arith)) (done_inside c bs p u) (omega arith) head (t bs p u h (omega (arith, head.next, a)))) (omega arith)
+    recount (numbers_done c) (behind_it (both (chosen_spans p.switch s.place l (constant_word bs e)) (whole_spans e bs p.procedure (past 1 s)) (omega arith) (omega arith)) (done_inside c bs p u) (omega arith) head (t bs p u h (omega (arith, head.next, a)) (omega (arith, fits)))) (omega arith)
 
 pub default_tied : (l : ℕ) (c : Action) → CTied c → CTied (default l c)
-default_tied l c t bs p s f e =
+default_tied l c t bs p s f e fits =
     let h : Found = defaulted p.switch l (switched p.switch l f) in
     let head : Tied (defaulted_at p.switch s.place l) 0 f h = defaulted_tied p.switch s.place l f in
-    recount (numbers_done c) (behind_it (defaulted_spans p.switch s.place l) (done_inside c bs p (past 1 s)) (omega arith) head (t bs p (past 1 s) h (omega (arith, head.next, e)))) (omega arith)
+    recount (numbers_done c) (behind_it (defaulted_spans p.switch s.place l) (done_inside c bs p (past 1 s)) (omega arith) head (t bs p (past 1 s) h (omega (arith, head.next, e)) (omega (arith, fits)))) (omega arith)
 
 pub when_tied : (l : ℕ) (b : Bool) (e : Expression) (c : Action) → ETied e → CTied c → CTied (when l b e c)
-when_tied l b e c t u bs p s f a =
-    let one : Tied (told Truth bs p s e) (numbers e) f (evaluated Truth bs p e f) = t Truth tt bs p s f a in
-    behind_it (inside e Truth bs p s) (done_inside c bs p (behind e s)) (omega arith) one (u bs p (behind e s) (evaluated Truth bs p e f) (omega (arith, one.next, a)))
+when_tied l b e c t u bs p s f a fits =
+    let one : Tied (told Truth bs p s e) (numbers e) f (evaluated Truth bs p e f) = t Truth tt bs p s f a (omega (arith, fits)) in
+    behind_it (inside e Truth bs p s) (done_inside c bs p (behind e s)) (omega arith) one (u bs p (behind e s) (evaluated Truth bs p e f) (omega (arith, one.next, a)) (omega (arith, fits)))
 
 pub test_tied : (l : ℕ) (e : Expression) (c d : Action) → ETied e → CTied c → CTied d → CTied (test l e c d)
-test_tied l e c d t u v bs p s f a =
+test_tied l e c d t u v bs p s f a fits =
     let g : Found = evaluated Truth bs p e f in
     let h : Found = done bs p c g in
     let i : Spot = behind_done c (behind e s) in
-    let one : Tied (told Truth bs p s e) (numbers e) f g = t Truth tt bs p s f a in
-    let two : Tied (told_done bs p (behind e s) c) (numbers_done c) g h = u bs p (behind e s) g (omega (arith, one.next, a)) in
+    let one : Tied (told Truth bs p s e) (numbers e) f g = t Truth tt bs p s f a (omega (arith, fits)) in
+    let two : Tied (told_done bs p (behind e s) c) (numbers_done c) g h = u bs p (behind e s) g (omega (arith, one.next, a)) (omega (arith, fits)) in
     recount _ (behind_it (both (inside e Truth bs p s) (done_inside c bs p (behind e s)) (omega arith) (omega arith)) (done_inside d bs p i) (omega arith)
-    (behind_it (inside e Truth bs p s) (done_inside c bs p (behind e s)) (omega arith) one two) (v bs p i h (omega (arith, one.next, two.next, a)))) (omega arith)
+    (behind_it (inside e Truth bs p s) (done_inside c bs p (behind e s)) (omega arith) one two) (v bs p i h (omega (arith, one.next, two.next, a)) (omega (arith, fits)))) (omega arith)
 
 pub while_tied : (l : ℕ) (b : Bool) (e : Expression) (c : Action) → ETied e → CTied c → CTied (while l b e c)
-while_tied l b e c t u bs p s f a =
-    let one : Tied (told Truth bs p s e) (numbers e) f (evaluated Truth bs p e f) = t Truth tt bs p s f a in
-    behind_it (inside e Truth bs p s) (done_inside c bs (looping p) (behind e s)) (omega arith) one (u bs (looping p) (behind e s) (evaluated Truth bs p e f) (omega (arith, one.next, a)))
+while_tied l b e c t u bs p s f a fits =
+    let one : Tied (told Truth bs p s e) (numbers e) f (evaluated Truth bs p e f) = t Truth tt bs p s f a (omega (arith, fits)) in
+    behind_it (inside e Truth bs p s) (done_inside c bs (looping p) (behind e s)) (omega arith) one (u bs (looping p) (behind e s) (evaluated Truth bs p e f) (omega (arith, one.next, a)) (omega (arith, fits)))
 
 pub for_tied : (l : ℕ) (x : Mention) (a b : Expression) (h : Expressions) (c : Action) → ETied a → ETied b → CTied c → CTied (for_loop l x a b h c)
-for_tied l x a b h c ta tb tc bs p s f e =
+for_tied l x a b h c ta tb tc bs p s f e fits =
     let f1 : Found = evaluated Value bs p a f in
     let f2 : Found = evaluated Value bs (deeper 1 p) b f1 in
     let f3 : Found = constants_found bs p.procedure h f2 in
@@ -172,8 +172,8 @@ for_tied l x a b h c ta tb tc bs p s f e =
     let u : Spot = onward (symbols_each h) 0 v in
     let L : ℕ = length (labels_of c) in
     let zs : List Binding = bind x.letters (Variable p.procedure p.depth) bs in
-    let one : Tied (told Value bs p s a) (numbers a) f f1 = ta Value tt bs p s f e in
-    let two : Tied (told Value bs (deeper 1 p) (behind a s) b) (numbers b) f1 f2 = tb Value tt bs (deeper 1 p) (behind a s) f1 (omega (arith, one.next, e)) in
+    let one : Tied (told Value bs p s a) (numbers a) f f1 = ta Value tt bs p s f e (omega (arith, fits)) in
+    let two : Tied (told Value bs (deeper 1 p) (behind a s) b) (numbers b) f1 f2 = tb Value tt bs (deeper 1 p) (behind a s) f1 (omega (arith, one.next, e)) (omega (arith, fits)) in
     let head : Tied (told Value bs p s a ++ told Value bs (deeper 1 p) (behind a s) b) (numbers a + numbers b) f f2 = behind_it (inside a Value bs p s) (inside b Value bs (deeper 1 p) (behind a s)) (omega arith) one two in
     let head_spans : Spans s.place v.place (told Value bs p s a ++ told Value bs (deeper 1 p) (behind a s) b) = wider _ _ (both (inside a Value bs p s) (inside b Value bs (deeper 1 p) (behind a s)) (omega arith) (omega arith)) (omega arith) (omega arith) in
     let step_spans : Spans v.place u.place (each_constant bs p.procedure v h) = each_constant_spans h bs p.procedure v in
@@ -185,39 +185,39 @@ for_tied l x a b h c ta tb tc bs p s f e =
     let xs : List Binding = labels_in_scope p.procedure (u.number + 1) (labels_of c) zs in
     let g' : Found = moved ((g.next + 1) + L) g in
     let i : Spot = numbered (1 + L) u in
-    let body : Tied (told_done xs q i c) (numbers_done c) g' (done xs q c g') = tc xs q i g' (omega (arith, same)) in
+    let body : Tied (told_done xs q i c) (numbers_done c) g' (done xs q c g') = tc xs q i g' (omega (arith, same)) (omega (arith, fits)) in
     let start_spans : Spans s.place u.place (told Value bs p s a ++ told Value bs (deeper 1 p) (behind a s) b ++ each_constant bs p.procedure v h ++ pushed p 4) = both (both head_spans step_spans (omega arith) (omega arith)) (pushed_spans u.place p 4) (omega arith) (omega arith) in
     let all : Tied (told_done bs p s (for_loop l x a b h c)) (numbers_done (for_loop l x a b h c)) f (done xs q c g') =
     recount _ (behind_it start_spans (done_inside c xs q i) (omega arith) start (behind_it (no_span u.place) (done_inside c xs q i) (omega arith) (moved_tied (1 + L) g'.next g (omega arith)) body)) (omega arith) in
     let T : Found → Type 0 = Tied (told_done bs p s (for_loop l x a b h c)) (numbers_done (for_loop l x a b h c)) f in
-    subst (λ (t : Stage). T (done t.scope (labelled g.next (looping (deeper 2 p))) c t.found)) (sym (with_labels_is p.procedure (labels_of c) zs (takes g)))
+    subst (λ (t : Stage). T (done t.scope (labelled g.next (looping (deeper 2 p))) c t.found)) (sym (labels_taken p.procedure (labels_of c) zs g (omega (arith, same, fits))))
     (subst (λ n. T (done (labels_in_scope p.procedure (n + 1) (labels_of c) zs) (labelled n (looping (deeper 2 p))) c g')) (sym same) all)
 
 pub result_tied : (l : ℕ) (e : Expression) → ETied e → CTied (result l e)
-result_tied l e t bs p s f a =
+result_tied l e t bs p s f a fits =
     let g : Found = cond p.in_valof f (breaks l no_result_or_return f) in
     let one : Tied (unless p.in_valof (at s.place l no_result_or_return)) 0 f g = unless_broken p.in_valof s.place l no_result_or_return f in
-    recount (numbers e) (behind_it (unless_spans p.in_valof s.place l no_result_or_return) (inside e Value bs p (past 1 s)) (omega arith) one (t Value tt bs p (past 1 s) g (omega (arith, one.next, a)))) (omega arith)
+    recount (numbers e) (behind_it (unless_spans p.in_valof s.place l no_result_or_return) (inside e Value bs p (past 1 s)) (omega arith) one (t Value tt bs p (past 1 s) g (omega (arith, one.next, a)) (omega (arith, fits)))) (omega arith)
 
 pub simple_tied : (l : ℕ) (k : Simple) → CTied (simple l k)
-simple_tied l k bs p s f e = single_tied p s.place l k f
+simple_tied l k bs p s f e fits = single_tied p s.place l k f
 
 pub bare_tied : (l : ℕ) (cs : Actions) → CsTied cs → CTied (block l no_declarations cs)
-bare_tied l cs t bs p s f e = t bs p s f e
+bare_tied l cs t bs p s f e fits = t bs p s f e fits
 
 pub repeat_tied : (l : ℕ) (c : Action) → CTied c → CTied (repeat l c)
-repeat_tied l c t bs p s f e = t bs (looping p) s f e
+repeat_tied l c t bs p s f e fits = t bs (looping p) s f e fits
 
 pub repeat_while_tied : (l : ℕ) (b : Bool) (c : Action) (e : Expression) → CTied c → ETied e → CTied (repeat_while l b c e)
-repeat_while_tied l b c e t u bs p s f a =
+repeat_while_tied l b c e t u bs p s f a fits =
     let g : Found = done bs (looping p) c f in
-    let one : Tied (told_done bs (looping p) s c) (numbers_done c) f g = t bs (looping p) s f a in
-    behind_it (done_inside c bs (looping p) s) (inside e Truth bs p (behind_done c s)) (omega arith) one (u Truth tt bs p (behind_done c s) g (omega (arith, one.next, a)))
+    let one : Tied (told_done bs (looping p) s c) (numbers_done c) f g = t bs (looping p) s f a (omega (arith, fits)) in
+    behind_it (done_inside c bs (looping p) s) (inside e Truth bs p (behind_done c s)) (omega arith) one (u Truth tt bs p (behind_done c s) g (omega (arith, one.next, a)) (omega (arith, fits)))
 
 pub no_actions_tied : CsTied no_actions
-no_actions_tied bs p s f e = nothing_told f
+no_actions_tied bs p s f e fits = nothing_told f
 
 pub also_tied : (c : Action) (cs : Actions) → CTied c → CsTied cs → CsTied (also c cs)
-also_tied c cs t u bs p s f e =
-    let one : Tied (told_done bs p s c) (numbers_done c) f (done bs p c f) = t bs p s f e in
-    behind_it (done_inside c bs p s) (each_done_inside cs bs p (behind_done c s)) (omega arith) one (u bs p (behind_done c s) (done bs p c f) (omega (arith, one.next, e)))
+also_tied c cs t u bs p s f e fits =
+    let one : Tied (told_done bs p s c) (numbers_done c) f (done bs p c f) = t bs p s f e (omega (arith, fits)) in
+    behind_it (done_inside c bs p s) (each_done_inside cs bs p (behind_done c s)) (omega arith) one (u bs p (behind_done c s) (done bs p c f) (omega (arith, one.next, e)) (omega (arith, fits)))

@@ -5,79 +5,79 @@ use Rattle.bk_tree.specs.Tree.{Expression, Expressions, Action, Actions, Declara
 use Rattle.bk_tree.specs.Limits.{nodes, nodes_of_each, nodes_of_action, nodes_of_actions, nodes_of_declaration, nodes_of_declarations, nodes_of_items, nodes_of_definitions, nodes_of_starts}
 use Rattle.bk_scope.specs.Entering.{labels_of, labels_of_each}
 use Rattle.bk_scope.specs.Spots.{procedures_in, numbers, numbers_each, numbers_done, numbers_done_each, numbers_declared, numbers_one_declared, numbers_items, numbers_defined, numbers_started}
-use Rattle.bk_scope.specs.Few.{Filled, FilledEach, FilledDone, FilledDoneEach, FilledDeclared, FilledOneDeclared, FilledDefined, FilledStarted, FewNumbers}
+use Rattle.bk_scope.specs.Few.{FewNumbers}
 
 few_items : (is : Items) → numbers_items sort.Static is ≤ nodes_of_items is
 few_items no_items = omega arith
 few_items (item l x e is) = omega (arith, few_items is)
 
 mutual
-  few : (e : Expression) → Filled e → numbers e ≤ 4 * nodes e
-  few (name l x) h = omega arith
-  few (number l n) h = omega arith
-  few (text l x) h = omega arith
-  few (truth l b) h = omega arith
-  few (query l) h = omega arith
-  few (table l es) h = omega arith
-  few (parens l e) h = omega (arith, few e h)
-  few (unary l o e) h = omega (arith, few e h)
-  few (binary l o m a b) h = omega (arith, few a h.0, few b h.1)
-  few (choice l m c a b) h = omega (arith, few c h.0, few a h.1, few b h.2)
-  few (apply l m e es) h = omega (arith, few e h.0, few_each es h.1)
-  few (valof l c) h = omega (arith, few_done c h)
+  few : (e : Expression) → numbers e ≤ 4 * nodes e
+  few (name l x) = omega arith
+  few (number l n) = omega arith
+  few (text l x) = omega arith
+  few (truth l b) = omega arith
+  few (query l) = omega arith
+  few (table l es) = omega arith
+  few (parens l e) = omega (arith, few e)
+  few (unary l o e) = omega (arith, few e)
+  few (binary l o m a b) = omega (arith, few a, few b)
+  few (choice l m c a b) = omega (arith, few c, few a, few b)
+  few (apply l m e es) = omega (arith, few e, few_each es)
+  few (valof l c) = omega (arith, few_done c)
 
-  few_each : (es : Expressions) → FilledEach es → numbers_each es ≤ 4 * nodes_of_each es
-  few_each none h = omega arith
-  few_each (more e es) h = omega (arith, few e h.0, few_each es h.1)
+  few_each : (es : Expressions) → numbers_each es ≤ 4 * nodes_of_each es
+  few_each none = omega arith
+  few_each (more e es) = omega (arith, few e, few_each es)
 
-  few_done : (c : Action) → FilledDone c → numbers_done c + length (labels_of c) ≤ 4 * nodes_of_action c
-  few_done empty h = omega arith
-  few_done (goto l x) h = omega arith
-  few_done (simple l k) h = omega arith
-  few_done (assign l xs es) h = omega (arith, few_each xs h.0, few_each es h.1)
-  few_done (call l e es) h = omega (arith, few e h.0, few_each es h.1)
-  few_done (label l x c) h = omega (arith, few_done c h)
-  few_done (case_of l e c) h = omega (arith, few_done c h)
-  few_done (default l c) h = omega (arith, few_done c h)
-  few_done (when l b e c) h = omega (arith, few e h.0, few_done c h.1)
-  few_done (test l e a b) h = omega (arith, few e h.0, few_done a h.1, few_done b h.2, length-append (labels_of a) (labels_of b))
-  few_done (while l b e c) h = omega (arith, few e h.0, few_done c h.1)
-  few_done (for_loop l x a b s c) h = omega (arith, few a h.0, few b h.1, few_done c h.2)
-  few_done (switch l e c) h = omega (arith, few e h.0, few_done c h.1)
-  few_done (result l e) h = omega (arith, few e h)
-  few_done (block l no_declarations cs) h = omega (arith, few_done_each cs h.1)
-  few_done (block l (declare d ds) cs) h = omega (arith, few_one_declared d h.0.0, few_declared ds h.0.1, few_done_each cs h.1)
-  few_done (repeat l c) h = omega (arith, few_done c h)
-  few_done (repeat_while l b c e) h = omega (arith, few_done c h.0, few e h.1)
+  few_done : (c : Action) → numbers_done c + length (labels_of c) ≤ 4 * nodes_of_action c
+  few_done empty = omega arith
+  few_done (goto l x) = omega arith
+  few_done (simple l k) = omega arith
+  few_done (assign l xs es) = omega (arith, few_each xs, few_each es)
+  few_done (call l e es) = omega (arith, few e, few_each es)
+  few_done (label l x c) = omega (arith, few_done c)
+  few_done (case_of l e c) = omega (arith, few_done c)
+  few_done (default l c) = omega (arith, few_done c)
+  few_done (when l b e c) = omega (arith, few e, few_done c)
+  few_done (test l e a b) = omega (arith, few e, few_done a, few_done b, length-append (labels_of a) (labels_of b))
+  few_done (while l b e c) = omega (arith, few e, few_done c)
+  few_done (for_loop l x a b s c) = omega (arith, few a, few b, few_done c)
+  few_done (switch l e c) = omega (arith, few e, few_done c)
+  few_done (result l e) = omega (arith, few e)
+  few_done (block l no_declarations cs) = omega (arith, few_done_each cs)
+  few_done (block l (declare d ds) cs) = omega (arith, few_one_declared d, few_declared ds, few_done_each cs)
+  few_done (repeat l c) = omega (arith, few_done c)
+  few_done (repeat_while l b c e) = omega (arith, few_done c, few e)
 
-  few_done_each : (cs : Actions) → FilledDoneEach cs → numbers_done_each cs + length (labels_of_each cs) ≤ 4 * nodes_of_actions cs
-  few_done_each no_actions h = omega arith
-  few_done_each (also c cs) h = omega (arith, few_done c h.0, few_done_each cs h.1, length-append (labels_of c) (labels_of_each cs))
+  few_done_each : (cs : Actions) → numbers_done_each cs + length (labels_of_each cs) ≤ 4 * nodes_of_actions cs
+  few_done_each no_actions = omega arith
+  few_done_each (also c cs) = omega (arith, few_done c, few_done_each cs, length-append (labels_of c) (labels_of_each cs))
 
-  few_declared : (ds : Declarations) → FilledDeclared ds → numbers_declared ds ≤ 4 * nodes_of_declarations ds
-  few_declared no_declarations h = omega arith
-  few_declared (declare d ds) h = omega (arith, few_one_declared d h.0, few_declared ds h.1)
+  few_declared : (ds : Declarations) → numbers_declared ds ≤ 4 * nodes_of_declarations ds
+  few_declared no_declarations = omega arith
+  few_declared (declare d ds) = omega (arith, few_one_declared d, few_declared ds)
 
-  few_one_declared : (d : Declaration) → FilledOneDeclared d → numbers_one_declared d ≤ 4 * nodes_of_declaration d
-  few_one_declared (constants l o no_items) h = absurd h
-  few_one_declared (constants l sort.Static (item m x e is)) h = omega (arith, few_items is)
-  few_one_declared (constants l sort.Manifest (item m x e is)) h = omega arith
-  few_one_declared (constants l sort.Global (item m x e is)) h = omega arith
-  few_one_declared (definitions l no_definitions) h = absurd h
-  few_one_declared (definitions l (define (routine m x fs c) ds)) h = omega (arith, few_done c h.0, few_defined ds h.1)
-  few_one_declared (definitions l (define (function m x fs e) ds)) h = omega (arith, few e h.0, few_defined ds h.1)
-  few_one_declared (definitions l (define (variables m xs is) ds)) h = omega (arith, few_started is h.0, few_defined ds h.1)
+  few_one_declared : (d : Declaration) → numbers_one_declared d ≤ 4 * nodes_of_declaration d
+  few_one_declared (constants l o no_items) = omega arith
+  few_one_declared (constants l sort.Static (item m x e is)) = omega (arith, few_items is)
+  few_one_declared (constants l sort.Manifest (item m x e is)) = omega arith
+  few_one_declared (constants l sort.Global (item m x e is)) = omega arith
+  few_one_declared (definitions l no_definitions) = omega arith
+  few_one_declared (definitions l (define (routine m x fs c) ds)) = omega (arith, few_done c, few_defined ds)
+  few_one_declared (definitions l (define (function m x fs e) ds)) = omega (arith, few e, few_defined ds)
+  few_one_declared (definitions l (define (variables m xs is) ds)) = omega (arith, few_started is, few_defined ds)
 
-  few_defined : (ds : Definitions) → FilledDefined ds → procedures_in ds + numbers_defined ds ≤ 4 * nodes_of_definitions ds
-  few_defined no_definitions h = omega arith
-  few_defined (define (routine m x fs c) ds) h = omega (arith, few_done c h.0, few_defined ds h.1)
-  few_defined (define (function m x fs e) ds) h = omega (arith, few e h.0, few_defined ds h.1)
-  few_defined (define (variables m xs is) ds) h = omega (arith, few_started is h.0, few_defined ds h.1)
+  few_defined : (ds : Definitions) → procedures_in ds + numbers_defined ds ≤ 4 * nodes_of_definitions ds
+  few_defined no_definitions = omega arith
+  few_defined (define (routine m x fs c) ds) = omega (arith, few_done c, few_defined ds)
+  few_defined (define (function m x fs e) ds) = omega (arith, few e, few_defined ds)
+  few_defined (define (variables m xs is) ds) = omega (arith, few_started is, few_defined ds)
 
-  few_started : (is : Starts) → FilledStarted is → numbers_started is ≤ 4 * nodes_of_starts is
-  few_started no_starts h = omega arith
-  few_started (value e is) h = omega (arith, few e h.0, few_started is h.1)
-  few_started (vector l e is) h = omega (arith, few_started is h)
+  few_started : (is : Starts) → numbers_started is ≤ 4 * nodes_of_starts is
+  few_started no_starts = omega arith
+  few_started (value e is) = omega (arith, few e, few_started is)
+  few_started (vector l e is) = omega (arith, few_started is)
 
 pub few_numbers : FewNumbers
-few_numbers ds h w = omega (arith, few_declared ds h, w.1)
+few_numbers ds w = omega (arith, few_declared ds, w.1)

@@ -1,10 +1,10 @@
 -- The pass and what is told: items, what variables begin with, declarations.
-use Rattle.std.proofs.Common.{◌≡◌, ℕ, ◌+◌, Bool, true, false, cond, Option, Some, None, List, [], ◌∷◌, ◌++◌, length, refl, sym, ap, ◌∙◌, append_assoc, subst, arith}
+use Rattle.std.proofs.Common.{◌≡◌, ℕ, ◌+◌, ◌^◌, ◌<◌, Bool, true, false, cond, Option, Some, None, List, [], ◌∷◌, ◌++◌, length, refl, sym, ap, ◌∙◌, append_assoc, subst, arith}
 use Rattle.std.specs.Prelude.{nat_lt}
 use Rattle.std.proofs.lemmas.List.{append-nil}
 use Rattle.bk_base.specs.declared.limit.TheConstants.{GLOBAL_NUMBER, VEC_NUMBER}
 use Rattle.bk_tree.specs.declared.tree.Sort.TheVariants as sort
-use Rattle.bk_tree.specs.Tree.{Mention, Expression, Declaration, Declarations, Items, Definitions, Starts, constants, definitions, no_declarations, declare, no_items, item, variables, no_starts, value, vector}
+use Rattle.bk_tree.specs.Tree.{Mention, Expression, Declaration, Declarations, Items, Definitions, Starts, constants, definitions, no_declarations, declare, no_items, item, no_definitions, define, variables, no_starts, value, vector}
 use Rattle.bk_tree.specs.Parts.{line_of}
 use Rattle.bk_scope.specs.declared.bound.Bound.TheVariants.{Constant, Global, Static}
 use Rattle.bk_scope.specs.declared.place.Place.{Place}
@@ -72,10 +72,10 @@ manifest_tied (item l x e is) m bs k s f =
     (recount 0 (behind_it (item_spans m l x e bs k s) (manifest_spans is m cs k u) (omega arith) (item_tied m l x e bs k s f) r.0) (omega arith), r.1)
 
 -- STATIC
-pub static_tied : (is : Items) (m : ℕ) (bs : List Binding) (k : ℕ) (s : Spot) (cs : List Binding) (f : Found) → f.next ≡ s.number
+pub static_tied : (is : Items) (m : ℕ) (bs : List Binding) (k : ℕ) (s : Spot) (cs : List Binding) (f : Found) → f.next ≡ s.number → s.number + numbers_items sort.Static is < 2 ^ 32
     → Tied (static_items m bs k s is) (numbers_items sort.Static is) f (statics bs m k is (stage cs f)).found × ((statics bs m k is (stage cs f)).scope ≡ statics_in_scope s.number is cs)
-static_tied no_items m bs k s cs f a = (nothing_told f, refl)
-static_tied (item l x e is) m bs k s cs f a =
+static_tied no_items m bs k s cs f a fits = (nothing_told f, refl)
+static_tied (item l x e is) m bs k s cs f a fits =
     let g : Found = constant_found bs k e (listed m l x f) in
     let one : Tied (one_of m s.place l x ++ constant bs k (past 1 s) e) 0 f g = item_tied m l x e bs k s f in
     let same : g.next ≡ s.number = omega (arith, one.next, a) in
@@ -83,12 +83,12 @@ static_tied (item l x e is) m bs k s cs f a =
     let ds : List Binding = bind x (Static s.number) cs in
     let u : Spot = numbered 1 (behind_constant e (past 1 s)) in
     let z : Spans (s.place + 1 + symbols e) (s.place + 1 + symbols e) (meaning (Static s.number) ∷ []) = meaning_spans (s.place + 1 + symbols e) (Some (Static s.number)) in
-    let r : Tied (static_items m bs k u is) (numbers_items sort.Static is) (takes h) (statics bs m k is (stage ds (takes h))).found × ((statics bs m k is (stage ds (takes h))).scope ≡ statics_in_scope u.number is ds) = static_tied is m bs k u ds (takes h) (omega (arith, same)) in
+    let r : Tied (static_items m bs k u is) (numbers_items sort.Static is) (takes h) (statics bs m k is (stage ds (takes h))).found × ((statics bs m k is (stage ds (takes h))).scope ≡ statics_in_scope u.number is ds) = static_tied is m bs k u ds (takes h) (omega (arith, same, fits)) (omega (arith, fits)) in
     let head : Tied (one_of m s.place l x ++ constant bs k (past 1 s) e ++ (meaning (Static s.number) ∷ [])) 0 f h = recount 0 (behind_it (item_spans m l x e bs k s) z (omega arith) one (meant (Static s.number) g)) (omega arith) in
     let head_spans : Spans s.place (s.place + 1 + symbols e) (one_of m s.place l x ++ constant bs k (past 1 s) e ++ (meaning (Static s.number) ∷ [])) = both (item_spans m l x e bs k s) z (omega arith) (omega arith) in
     subst (λ n. Tied (static_items m bs k s (item l x e is)) (numbers_items sort.Static (item l x e is)) f (statics bs m k is (stage (bind x (Static n) cs) (takes (means (Static n) g)))).found
     × ((statics bs m k is (stage (bind x (Static n) cs) (takes (means (Static n) g)))).scope ≡ statics_in_scope s.number (item l x e is) cs)) (sym same)
-    (recount _ (behind_it head_spans (static_spans is m bs k u) (omega arith) head (behind_it (no_span (s.place + 1 + symbols e)) (static_spans is m bs k u) (omega arith) (moved_tied 1 (h.next + 1) h refl) r.0)) (omega arith), r.1 ∙ ap (λ n. statics_in_scope n is ds) (omega arith))
+    (recount _ (behind_it head_spans (static_spans is m bs k u) (omega arith) head (behind_it (no_span (s.place + 1 + symbols e)) (static_spans is m bs k u) (omega arith) (moved_tied 1 (takes h).next h (omega (arith, same, fits))) r.0)) (omega arith), r.1 ∙ ap (λ n. statics_in_scope n is ds) (omega arith))
 
 -- GLOBAL
 pub global_tied : (is : Items) (m : ℕ) (bs : List Binding) (k : ℕ) (s : Spot) (cs : List Binding) (f : Found)
@@ -110,90 +110,93 @@ global_tied (item l x e is) m bs k s cs f =
       r.1,
     )
 
-manifests_take_none : (is : Items) → numbers_items sort.Manifest is ≡ 0
-manifests_take_none no_items = refl
-manifests_take_none (item l x e is) = refl
-
-globals_take_none : (is : Items) → numbers_items sort.Global is ≡ 0
-globals_take_none no_items = refl
-globals_take_none (item l x e is) = refl
-
 -- a declaration
 pub record DeclarationTied (d : Declaration) : Type 0 where
-  pub scope : (bs : List Binding) (p : Place) (s : Spot) (f : Found) → f.next ≡ s.number → (one_declared bs p d f).scope ≡ scope_behind_one bs p s d
-  pub place : (bs : List Binding) (p : Place) (s : Spot) (f : Found) → f.next ≡ s.number → (one_declared bs p d f).place ≡ place_behind_one bs p s d
-  pub found : (bs : List Binding) (p : Place) (s : Spot) (f : Found) → f.next ≡ s.number → Tied (told_one_declared bs p s d) (numbers_one_declared d) f (one_declared bs p d f).found
+  pub scope : (bs : List Binding) (p : Place) (s : Spot) (f : Found) → f.next ≡ s.number → s.number + numbers_one_declared d < 2 ^ 32 → (one_declared bs p d f).scope ≡ scope_behind_one bs p s d
+  pub place : (bs : List Binding) (p : Place) (s : Spot) (f : Found) → f.next ≡ s.number → s.number + numbers_one_declared d < 2 ^ 32 → (one_declared bs p d f).place ≡ place_behind_one bs p s d
+  pub found : (bs : List Binding) (p : Place) (s : Spot) (f : Found) → f.next ≡ s.number → s.number + numbers_one_declared d < 2 ^ 32 → Tied (told_one_declared bs p s d) (numbers_one_declared d) f (one_declared bs p d f).found
 
 pub manifest_declared : (l : ℕ) (is : Items) → DeclarationTied (constants l sort.Manifest is)
-manifest_declared l is = record {
-  scope = λ bs p s f e. (manifest_tied is f.next bs p.procedure s (takes f)).1;
-  place = λ bs p s f e. refl;
-  found = λ bs p s f e.
-      subst (λ m. Tied (manifest_items s.number bs p.procedure (numbered 1 s) is) (1 + numbers_items sort.Manifest is) f (manifests m p.procedure is (stage bs (takes f))).found) (sym e)
-      (recount (1 + numbers_items sort.Manifest is) (behind_it (no_span s.place) (manifest_spans is s.number bs p.procedure (numbered 1 s)) (omega arith) (moved_tied 1 (f.next + 1) f refl) ((manifest_tied is s.number bs p.procedure (numbered 1 s) (takes f)).0)) (omega (arith, manifests_take_none is)));
-}
+manifest_declared l no_items = record { scope = λ bs p s f e fits. refl; place = λ bs p s f e fits. refl; found = λ bs p s f e fits. nothing_told f }
+manifest_declared l (item m x c js) =
+    let is : Items = item m x c js in
+    record {
+      scope = λ bs p s f e fits. (manifest_tied is f.next bs p.procedure s (takes f)).1;
+      place = λ bs p s f e fits. refl;
+      found = λ bs p s f e fits.
+          subst (λ n. Tied (manifest_items s.number bs p.procedure (numbered 1 s) is) 1 f (manifests n p.procedure is (stage bs (takes f))).found) (sym e)
+          (behind_it (no_span s.place) (manifest_spans is s.number bs p.procedure (numbered 1 s)) (omega arith) (moved_tied 1 (takes f).next f (omega (arith, e, fits))) ((manifest_tied is s.number bs p.procedure (numbered 1 s) (takes f)).0));
+    }
 
 pub static_declared : (l : ℕ) (is : Items) → DeclarationTied (constants l sort.Static is)
-static_declared l is = record {
-  scope = λ bs p s f e. (static_tied is f.next bs p.procedure (numbered 1 s) bs (takes f) (omega (arith, e))).1;
-  place = λ bs p s f e. refl;
-  found = λ bs p s f e.
-      subst (λ m. Tied (static_items s.number bs p.procedure (numbered 1 s) is) (1 + numbers_items sort.Static is) f (statics bs m p.procedure is (stage bs (takes f))).found) (sym e)
-      (behind_it (no_span s.place) (static_spans is s.number bs p.procedure (numbered 1 s)) (omega arith) (moved_tied 1 (f.next + 1) f refl) ((static_tied is s.number bs p.procedure (numbered 1 s) bs (takes f) (omega (arith, e))).0));
-}
+static_declared l no_items = record { scope = λ bs p s f e fits. refl; place = λ bs p s f e fits. refl; found = λ bs p s f e fits. nothing_told f }
+static_declared l (item m x c js) =
+    let is : Items = item m x c js in
+    record {
+      scope = λ bs p s f e fits. (static_tied is f.next bs p.procedure (numbered 1 s) bs (takes f) (omega (arith, e, fits)) (omega (arith, fits))).1;
+      place = λ bs p s f e fits. refl;
+      found = λ bs p s f e fits.
+          subst (λ n. Tied (static_items s.number bs p.procedure (numbered 1 s) is) (1 + numbers_items sort.Static is) f (statics bs n p.procedure is (stage bs (takes f))).found) (sym e)
+          (behind_it (no_span s.place) (static_spans is s.number bs p.procedure (numbered 1 s)) (omega arith) (moved_tied 1 (takes f).next f (omega (arith, e, fits))) ((static_tied is s.number bs p.procedure (numbered 1 s) bs (takes f) (omega (arith, e, fits)) (omega (arith, fits))).0));
+    }
 
 pub global_declared : (l : ℕ) (is : Items) → DeclarationTied (constants l sort.Global is)
-global_declared l is = record {
-  scope = λ bs p s f e. (global_tied is f.next bs p.procedure s bs (takes f)).1;
-  place = λ bs p s f e. refl;
-  found = λ bs p s f e.
-      subst (λ m. Tied (global_items s.number bs p.procedure (numbered 1 s) is) (1 + numbers_items sort.Global is) f (globals bs m p.procedure is (stage bs (takes f))).found) (sym e)
-      (recount (1 + numbers_items sort.Global is) (behind_it (no_span s.place) (global_spans is s.number bs p.procedure (numbered 1 s)) (omega arith) (moved_tied 1 (f.next + 1) f refl) ((global_tied is s.number bs p.procedure (numbered 1 s) bs (takes f)).0)) (omega (arith, globals_take_none is)));
-}
+global_declared l no_items = record { scope = λ bs p s f e fits. refl; place = λ bs p s f e fits. refl; found = λ bs p s f e fits. nothing_told f }
+global_declared l (item m x c js) =
+    let is : Items = item m x c js in
+    record {
+      scope = λ bs p s f e fits. (global_tied is f.next bs p.procedure s bs (takes f)).1;
+      place = λ bs p s f e fits. refl;
+      found = λ bs p s f e fits.
+          subst (λ n. Tied (global_items s.number bs p.procedure (numbered 1 s) is) 1 f (globals bs n p.procedure is (stage bs (takes f))).found) (sym e)
+          (behind_it (no_span s.place) (global_spans is s.number bs p.procedure (numbered 1 s)) (omega arith) (moved_tied 1 (takes f).next f (omega (arith, e, fits))) ((global_tied is s.number bs p.procedure (numbered 1 s) bs (takes f)).0));
+    }
 
 pub let_declared : (l : ℕ) (ds : Definitions) → AllTied ds → DeclarationTied (definitions l ds)
-let_declared l ds t = record {
-  scope = λ bs p s f e. (let_told l ds t (defined_inside ds) bs p s f e).1;
-  place = λ bs p s f e. (let_told l ds t (defined_inside ds) bs p s f e).2;
-  found = λ bs p s f e. (let_told l ds t (defined_inside ds) bs p s f e).0;
+let_declared l no_definitions t = record { scope = λ bs p s f e fits. refl; place = λ bs p s f e fits. refl; found = λ bs p s f e fits. nothing_told f }
+let_declared l (define x xs) t = record {
+  scope = λ bs p s f e fits. (let_told l x xs t (defined_inside (define x xs)) bs p s f e fits).1;
+  place = λ bs p s f e fits. (let_told l x xs t (defined_inside (define x xs)) bs p s f e fits).2;
+  found = λ bs p s f e fits. (let_told l x xs t (defined_inside (define x xs)) bs p s f e fits).0;
 }
 
 -- declarations one behind another
 pub no_declarations_tied : DsTied no_declarations
-no_declarations_tied = record { scope = λ bs p s f e. refl; place = λ bs p s f e. refl; found = λ bs p s f e. nothing_told f }
+no_declarations_tied = record { scope = λ bs p s f e fits. refl; place = λ bs p s f e fits. refl; found = λ bs p s f e fits. nothing_told f }
 
 pub declare_tied : (d : Declaration) (ds : Declarations) → DeclarationTied d → DsTied ds → DsTied (declare d ds)
-declare_tied d ds t u = record { scope = λ bs p s f e. (whole bs p s f e).1; place = λ bs p s f e. (whole bs p s f e).2; found = λ bs p s f e. (whole bs p s f e).0 } where
+declare_tied d ds t u = record { scope = λ bs p s f e fits. (whole bs p s f e fits).1; place = λ bs p s f e fits. (whole bs p s f e fits).2; found = λ bs p s f e fits. (whole bs p s f e fits).0 } where
   Whole : List Binding → Place → Spot → Found → List Binding → Place → Type 0
   Whole bs p s f cs z =
       let b : AfterDeclarations = declared cs z ds (one_declared bs p d f).found in
       Tied (told_declared bs p s (declare d ds)) (numbers_declared (declare d ds)) f b.found × (b.scope ≡ scope_behind bs p s (declare d ds)) × (b.place ≡ place_behind_all bs p s (declare d ds))
 
-  whole : (bs : List Binding) (p : Place) (s : Spot) (f : Found) → f.next ≡ s.number → Whole bs p s f (one_declared bs p d f).scope (one_declared bs p d f).place
-  whole bs p s f e =
+  whole : (bs : List Binding) (p : Place) (s : Spot) (f : Found) → f.next ≡ s.number → s.number + numbers_declared (declare d ds) < 2 ^ 32 → Whole bs p s f (one_declared bs p d f).scope (one_declared bs p d f).place
+  whole bs p s f e fits =
       let g : Found = (one_declared bs p d f).found in
       let cs : List Binding = scope_behind_one bs p s d in
       let z : Place = place_behind_one bs p s d in
       let v : Spot = behind_one_declared d s in
-      let one : Tied (told_one_declared bs p s d) (numbers_one_declared d) f g = t.found bs p s f e in
+      let one : Tied (told_one_declared bs p s d) (numbers_one_declared d) f g = t.found bs p s f e (omega (arith, fits)) in
       let same : g.next ≡ v.number = omega (arith, one.next, e) in
-      let here : Whole bs p s f cs z = (behind_it (one_declared_inside d bs p s) (declared_inside ds cs z v) (omega arith) one (u.found cs z v g same), u.scope cs z v g same, u.place cs z v g same) in
-      subst (λ xs. Whole bs p s f xs (one_declared bs p d f).place) (sym (t.scope bs p s f e)) (subst (λ (y : Place). Whole bs p s f cs y) (sym (t.place bs p s f e)) here)
+      let rest : v.number + numbers_declared ds < 2 ^ 32 = omega (arith, fits) in
+      let here : Whole bs p s f cs z = (behind_it (one_declared_inside d bs p s) (declared_inside ds cs z v) (omega arith) one (u.found cs z v g same rest), u.scope cs z v g same rest, u.place cs z v g same rest) in
+      subst (λ xs. Whole bs p s f xs (one_declared bs p d f).place) (sym (t.scope bs p s f e (omega (arith, fits)))) (subst (λ (y : Place). Whole bs p s f cs y) (sym (t.place bs p s f e (omega (arith, fits)))) here)
 
 -- what variables begin with
 abbrev pub StartsTied : Starts → Type 0
-StartsTied is = (bs : List Binding) (p : Place) (s : Spot) (f : Found) → f.next ≡ s.number → Tied (told_started bs p s is) (numbers_started is) f (started bs p is f)
+StartsTied is = (bs : List Binding) (p : Place) (s : Spot) (f : Found) → f.next ≡ s.number → s.number + numbers_started is < 2 ^ 32 → Tied (told_started bs p s is) (numbers_started is) f (started bs p is f)
 
 pub no_starts_tied : StartsTied no_starts
-no_starts_tied bs p s f e = nothing_told f
+no_starts_tied bs p s f e fits = nothing_told f
 
 pub value_start_tied : (e : Expression) (is : Starts) → ETied e → StartsTied is → StartsTied (value e is)
-value_start_tied e is t u bs p s f a =
-    let one : Tied (told Value bs p s e) (numbers e) f (evaluated Value bs p e f) = t Value tt bs p s f a in
-    behind_it (inside e Value bs p s) (started_inside is bs (deeper 1 p) (behind e s)) (omega arith) one (u bs (deeper 1 p) (behind e s) (evaluated Value bs p e f) (omega (arith, one.next, a)))
+value_start_tied e is t u bs p s f a fits =
+    let one : Tied (told Value bs p s e) (numbers e) f (evaluated Value bs p e f) = t Value tt bs p s f a (omega (arith, fits)) in
+    behind_it (inside e Value bs p s) (started_inside is bs (deeper 1 p) (behind e s)) (omega arith) one (u bs (deeper 1 p) (behind e s) (evaluated Value bs p e f) (omega (arith, one.next, a)) (omega (arith, fits)))
 
 pub vector_start_tied : (l : ℕ) (e : Expression) (is : Starts) → StartsTied is → StartsTied (vector l e is)
-vector_start_tied l e is u bs p s f a =
+vector_start_tied l e is u bs p s f a fits =
     let w : ℕ = words_of_start bs e in
     let g : Found = bounded VEC_NUMBER (line_of e) vec_out_of_range (constant_word bs e) (constant_found bs p.procedure e f) in
     let v : Spot = behind_constant e s in
@@ -202,7 +205,7 @@ vector_start_tied l e is u bs p s f a =
     let xs_spans : Spans s.place v.place xs = bounded_spans VEC_NUMBER vec_out_of_range e bs p.procedure s in
     let one : Tied (xs ++ pushed p (w + 1)) (0 + 0) f (reaches (p.depth + (w + 1)) g) =
     behind_it xs_spans (pushed_spans v.place p (w + 1)) (omega arith) (bounded_tied VEC_NUMBER vec_out_of_range e bs p.procedure s f) (pushed_tied p (w + 1) g) in
-    let two : Tied (told_started bs q v is) (numbers_started is) (reaches (p.depth + (w + 1)) g) (started bs q is (reaches (p.depth + (w + 1)) g)) = u bs q v (reaches (p.depth + (w + 1)) g) (omega (arith, one.next, a)) in
+    let two : Tied (told_started bs q v is) (numbers_started is) (reaches (p.depth + (w + 1)) g) (started bs q is (reaches (p.depth + (w + 1)) g)) = u bs q v (reaches (p.depth + (w + 1)) g) (omega (arith, one.next, a)) (omega (arith, fits)) in
     subst (λ d. Tied (told_started bs p s (vector l e is)) (numbers_started is) f (started bs q is (reaches d g))) (omega arith)
     (recount (numbers_started is) (behind_it (both xs_spans (pushed_spans v.place p (w + 1)) (omega arith) (omega arith)) (started_inside is bs q v) (omega arith) one two) (omega arith))
 
@@ -211,8 +214,8 @@ pub variables_tied : (l : ℕ) (xs : List Mention) (is : Starts) → StartsTied 
 variables_tied l xs is t = record {
   fresh = λ m bs p zs f. refl;
   place = λ m bs p zs f. refl;
-  found = λ m bs p s zs f e.
+  found = λ m bs p s zs f e fits.
       let g : Found = all_listed m xs f in
       let one : Tied (each_of m s.place xs) 0 f g = each_tied m s.place xs f in
-      recount (numbers_started is) (behind_it (each_spans m s.place xs) (started_inside is bs p (past (length xs) s)) (omega arith) one (t bs p (past (length xs) s) g (omega (arith, one.next, e)))) (omega arith);
+      recount (numbers_started is) (behind_it (each_spans m s.place xs) (started_inside is bs p (past (length xs) s)) (omega arith) one (t bs p (past (length xs) s) g (omega (arith, one.next, e)) (omega (arith, fits)))) (omega arith);
 }

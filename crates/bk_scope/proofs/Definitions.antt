@@ -1,12 +1,17 @@
 -- What stands behind a declaration and a definition.
-use Rattle.std.proofs.Common.{◌≡◌, ℕ, List, [], ◌∷◌, ◌++◌, Result, Ok, Err, OnOk, IfOk, refl}
+use Rattle.std.proofs.Common.{◌≡◌, ℕ, ◌<◌, List, [], ◌∷◌, ◌++◌, length, Result, Ok, Err, OnOk, IfOk, refl, arith}
 use Rattle.std.specs.declared.alloc.AllocError.{AllocError}
-use Rattle.bk_tree.specs.Tree.{Mention, Definitions, definitions, Starts, no_starts, variables}
+use Rattle.bk_tree.specs.declared.tree.Def.{Def}
+use Rattle.bk_tree.specs.declared.tree.Item.{Item}
+use Rattle.bk_tree.specs.declared.tree.Item.TheVariants as i
+use Rattle.bk_tree.specs.declared.tree.Sort.{Sort}
+use Rattle.bk_tree.specs.declared.tree.Sort.TheVariants as s
+use Rattle.bk_tree.specs.Tree.{Mention, constants, definitions, items_in, definitions_in, Starts, no_starts, variables}
 use Rattle.bk_scope.specs.declared.place.Place.{Place}
 use Rattle.bk_scope.specs.Scope.{Binding, bind_all}
 use Rattle.bk_scope.specs.Found.{Found, takes}
 use Rattle.bk_scope.specs.Entering.{Stage, with_procedures}
-use Rattle.bk_scope.specs.Names.{AfterDeclarations, Defined, variables_of, all_listed, started, place_behind, defined, one_declared, one_defined}
+use Rattle.bk_scope.specs.Names.{AfterDeclarations, Defined, manifests, statics, globals, variables_of, all_listed, started, place_behind, defined, one_declared, one_defined}
 
 -- what stands behind a declaration that leaves the place as it was
 abbrev pub at : Place → Stage → AfterDeclarations
@@ -17,13 +22,36 @@ pub no_variables : (bs : List Binding) (p : Place) (xs : List Mention) → varia
 no_variables bs p [] = refl
 no_variables bs p (x ∷ xs) = refl
 
+-- what stands behind a declaration of nothing
+pub no_items_behind : (bs : List Binding) (p : Place) (f : Found) (l : ℕ) (w : Sort) (xs : List Item) → length xs ≡ 0 → ◌≡◌ {A = AfterDeclarations} (record { scope = bs; place = p; found = f }) (one_declared bs p (constants l w (items_in xs)) f)
+no_items_behind bs p f l w [] none = refl
+no_items_behind bs p f l w (x ∷ xs) none = absurd (omega (arith, none))
+
+pub no_definitions_behind : (bs : List Binding) (p : Place) (f : Found) (l : ℕ) (xs : List Def) → length xs ≡ 0 → ◌≡◌ {A = AfterDeclarations} (record { scope = bs; place = p; found = f }) (one_declared bs p (definitions l (definitions_in xs)) f)
+no_definitions_behind bs p f l [] none = refl
+no_definitions_behind bs p f l (x ∷ xs) none = absurd (omega (arith, none))
+
+-- what stands behind some items
+pub manifests_behind : (bs : List Binding) (p : Place) (f : Found) (l : ℕ) (xs : List Item) → 0 < length xs → at p (manifests f.next p.procedure (items_in xs) (record { scope = bs; found = takes f })) ≡ one_declared bs p (constants l s.Manifest (items_in xs)) f
+manifests_behind bs p f l [] some = absurd (omega (arith, some))
+manifests_behind bs p f l ((i.Item m x e) ∷ xs) some = refl
+
+pub statics_behind : (bs : List Binding) (p : Place) (f : Found) (l : ℕ) (xs : List Item) → 0 < length xs → at p (statics bs f.next p.procedure (items_in xs) (record { scope = bs; found = takes f })) ≡ one_declared bs p (constants l s.Static (items_in xs)) f
+statics_behind bs p f l [] some = absurd (omega (arith, some))
+statics_behind bs p f l ((i.Item m x e) ∷ xs) some = refl
+
+pub globals_behind : (bs : List Binding) (p : Place) (f : Found) (l : ℕ) (xs : List Item) → 0 < length xs → at p (globals bs f.next p.procedure (items_in xs) (record { scope = bs; found = takes f })) ≡ one_declared bs p (constants l s.Global (items_in xs)) f
+globals_behind bs p f l [] some = absurd (omega (arith, some))
+globals_behind bs p f l ((i.Item m x e) ∷ xs) some = refl
+
 -- what stands behind a LET, by what its procedures and its definitions made
-pub let_behind : (bs : List Binding) (p : Place) (f : Found) (l : ℕ) (ds : Definitions) (t : Stage) (d : Defined) (cs : List Binding) (q : Place) (g : Found)
-    → t ≡ with_procedures ds (record { scope = bs; found = takes f })
-    → d ≡ defined f.next t.scope ds (record { fresh = []; place = p; found = t.found })
+pub let_behind : (bs : List Binding) (p : Place) (f : Found) (l : ℕ) (xs : List Def) (t : Stage) (d : Defined) (cs : List Binding) (q : Place) (g : Found) → 0 < length xs
+    → t ≡ with_procedures (definitions_in xs) (record { scope = bs; found = takes f })
+    → d ≡ defined f.next t.scope (definitions_in xs) (record { fresh = []; place = p; found = t.found })
     → cs ≡ bind_all d.fresh t.scope → q ≡ d.place → g ≡ d.found
-    → ◌≡◌ {A = AfterDeclarations} (record { scope = cs; place = q; found = g }) (one_declared bs p (definitions l ds) f)
-let_behind bs p f l ds t d cs q g et ed ec eq eg = rw ec (rw eq (rw eg (rw ed (rw et refl))))
+    → ◌≡◌ {A = AfterDeclarations} (record { scope = cs; place = q; found = g }) (one_declared bs p (definitions l (definitions_in xs)) f)
+let_behind bs p f l [] t d cs q g some et ed ec eq eg = absurd (omega (arith, some))
+let_behind bs p f l (x ∷ xs) t d cs q g some et ed ec eq eg = rw ec (rw eq (rw eg (rw ed (rw et refl))))
 
 -- what stands behind the definition of some variables, by what their names and starts made
 pub variables_behind : (n : ℕ) (bs : List Binding) (d : Defined) (l : ℕ) (xs : List Mention) (is : Starts) (r : Result Place AllocError) (gs : List Binding) (h : Found)

@@ -1,5 +1,5 @@
 -- The pass and what is told: expressions, in each role.
-use Rattle.std.proofs.Common.{◌≡◌, ℕ, ◌+◌, ◌<◌, ◌==◌, Bool, true, false, cond, Option, Some, None, List, [], ◌∷◌, ◌++◌, refl, sym, subst, arith}
+use Rattle.std.proofs.Common.{◌≡◌, ℕ, ◌+◌, ◌^◌, ◌<◌, ◌==◌, Bool, true, false, cond, Option, Some, None, List, [], ◌∷◌, ◌++◌, refl, sym, subst, arith}
 use Rattle.std.proofs.lemmas.List.{append-nil}
 use Rattle.bk_tree.specs.declared.tree.Operator.{Operator}
 use Rattle.bk_tree.specs.declared.tree.Operator.TheVariants as o
@@ -29,9 +29,9 @@ use Rattle.bk_scope.proofs.Assignable.{Begins, unassignable_tied}
 
 -- an expression where a word is asked for
 pub record WTied (e : Expression) : Type 0 where
-  pub address : (b : Bool) (l : ℕ) (bs : List Binding) (p : Place) (s : Spot) (n : ℕ) (f : Found) → Begins b n s.place → f.next ≡ s.number
+  pub address : (b : Bool) (l : ℕ) (bs : List Binding) (p : Place) (s : Spot) (n : ℕ) (f : Found) → Begins b n s.place → f.next ≡ s.number → s.number + numbers e < 2 ^ 32
       → Tied (unless (addressed bs e) (at n l not_assignable) ++ told (Address b l) bs p s e) (numbers e) f (evaluated (Address b l) bs p e f)
-  pub destination : (b : Bool) (l : ℕ) (bs : List Binding) (p : Place) (s : Spot) (n : ℕ) (f : Found) → Begins b n s.place → f.next ≡ s.number
+  pub destination : (b : Bool) (l : ℕ) (bs : List Binding) (p : Place) (s : Spot) (n : ℕ) (f : Found) → Begins b n s.place → f.next ≡ s.number → s.number + numbers e < 2 ^ 32
       → Tied (unless (assigned bs e) (at n l not_assignable) ++ told (Destination b l) bs p s e) (numbers e) f (evaluated (Destination b l) bs p e f)
 
 pub record ExpressionTied (e : Expression) : Type 0 where
@@ -64,10 +64,10 @@ name_set : (l : ℕ) (x : List ℕ) (bs : List Binding) (p : Place) (n : ℕ) (f
 name_set l x bs p n f = subst (λ xs. Tied xs 0 f (used p.procedure l x (bound_in bs x) f)) (sym (append-nil (used_at p.procedure n l x (bound_in bs x)))) (used_tied p.procedure n l x (bound_in bs x) f)
 
 name_plain : (l : ℕ) (x : List ℕ) → ETied (name l x)
-name_plain l x Value h bs p s f e = name_deep l x bs p s.place f
-name_plain l x Truth h bs p s f e = name_deep l x bs p s.place f
-name_plain l x (Address b m) h bs p s f e = absurd h
-name_plain l x (Destination b m) h bs p s f e = absurd h
+name_plain l x Value h bs p s f e fits = name_deep l x bs p s.place f
+name_plain l x Truth h bs p s f e fits = name_deep l x bs p s.place f
+name_plain l x (Address b m) h bs p s f e fits = absurd h
+name_plain l x (Destination b m) h bs p s f e fits = absurd h
 
 name_address : (q : Bool) (b : Bool) (m l : ℕ) (x : List ℕ) (bs : List Binding) (p : Place) (s : Spot) (n : ℕ) (f : Found) → Begins b n s.place → f.next ≡ s.number
     → Tied (unless q (at n m not_assignable) ++ told (Address b m) bs p s (name l x)) 0 f (reaches (p.depth + 1) (used p.procedure l x (bound_in bs x) (cond q f (unassignable bs p.procedure b m (name l x) f))))
@@ -87,8 +87,8 @@ pub name_tied : (l : ℕ) (x : List ℕ) → ExpressionTied (name l x)
 name_tied l x = record {
   plain = name_plain l x;
   word = record {
-    address = λ b m bs p s n f z a. name_address (has_address (bound_in bs x)) b m l x bs p s n f z a;
-    destination = λ b m bs p s n f z a. name_destination (has_address (bound_in bs x)) b m l x bs p s n f refl z a;
+    address = λ b m bs p s n f z a fits. name_address (has_address (bound_in bs x)) b m l x bs p s n f z a;
+    destination = λ b m bs p s n f z a fits. name_destination (has_address (bound_in bs x)) b m l x bs p s n f refl z a;
   };
 }
 
@@ -98,37 +98,37 @@ leaf e r h bs p f = subst (λ v. Tied (pushed p 1) 0 f (reaches (p.depth + 1) v)
 
 pub number_tied : (l m : ℕ) → ExpressionTied (number l m)
 number_tied l m = record {
-  plain = λ r h bs p s f e. leaf (number l m) r h bs p f;
+  plain = λ r h bs p s f e fits. leaf (number l m) r h bs p f;
   word = record {
-    address = λ b i bs p s n f z a. unassignable_tied b (number l m) (Address b i) bs p s n i 0 f (reaches (p.depth + 1)) z (λ h c. pushed_tied p 1 h) a;
-    destination = λ b i bs p s n f z a. unassignable_tied b (number l m) (Destination b i) bs p s n i 0 f (reaches (p.depth + 1)) z (λ h c. pushed_tied p 1 h) a;
+    address = λ b i bs p s n f z a fits. unassignable_tied b (number l m) (Address b i) bs p s n i 0 f (reaches (p.depth + 1)) z (λ h c. pushed_tied p 1 h) a;
+    destination = λ b i bs p s n f z a fits. unassignable_tied b (number l m) (Destination b i) bs p s n i 0 f (reaches (p.depth + 1)) z (λ h c. pushed_tied p 1 h) a;
   };
 }
 
 pub text_tied : (l : ℕ) (x : List ℕ) → ExpressionTied (text l x)
 text_tied l x = record {
-  plain = λ r h bs p s f e. leaf (text l x) r h bs p f;
+  plain = λ r h bs p s f e fits. leaf (text l x) r h bs p f;
   word = record {
-    address = λ b i bs p s n f z a. unassignable_tied b (text l x) (Address b i) bs p s n i 0 f (reaches (p.depth + 1)) z (λ h c. pushed_tied p 1 h) a;
-    destination = λ b i bs p s n f z a. unassignable_tied b (text l x) (Destination b i) bs p s n i 0 f (reaches (p.depth + 1)) z (λ h c. pushed_tied p 1 h) a;
+    address = λ b i bs p s n f z a fits. unassignable_tied b (text l x) (Address b i) bs p s n i 0 f (reaches (p.depth + 1)) z (λ h c. pushed_tied p 1 h) a;
+    destination = λ b i bs p s n f z a fits. unassignable_tied b (text l x) (Destination b i) bs p s n i 0 f (reaches (p.depth + 1)) z (λ h c. pushed_tied p 1 h) a;
   };
 }
 
 pub truth_tied : (l : ℕ) (t : Bool) → ExpressionTied (truth l t)
 truth_tied l t = record {
-  plain = λ r h bs p s f e. leaf (truth l t) r h bs p f;
+  plain = λ r h bs p s f e fits. leaf (truth l t) r h bs p f;
   word = record {
-    address = λ b i bs p s n f z a. unassignable_tied b (truth l t) (Address b i) bs p s n i 0 f (reaches (p.depth + 1)) z (λ h c. pushed_tied p 1 h) a;
-    destination = λ b i bs p s n f z a. unassignable_tied b (truth l t) (Destination b i) bs p s n i 0 f (reaches (p.depth + 1)) z (λ h c. pushed_tied p 1 h) a;
+    address = λ b i bs p s n f z a fits. unassignable_tied b (truth l t) (Address b i) bs p s n i 0 f (reaches (p.depth + 1)) z (λ h c. pushed_tied p 1 h) a;
+    destination = λ b i bs p s n f z a fits. unassignable_tied b (truth l t) (Destination b i) bs p s n i 0 f (reaches (p.depth + 1)) z (λ h c. pushed_tied p 1 h) a;
   };
 }
 
 pub query_tied : (l : ℕ) → ExpressionTied (query l)
 query_tied l = record {
-  plain = λ r h bs p s f e. leaf (query l) r h bs p f;
+  plain = λ r h bs p s f e fits. leaf (query l) r h bs p f;
   word = record {
-    address = λ b i bs p s n f z a. unassignable_tied b (query l) (Address b i) bs p s n i 0 f (reaches (p.depth + 1)) z (λ h c. pushed_tied p 1 h) a;
-    destination = λ b i bs p s n f z a. unassignable_tied b (query l) (Destination b i) bs p s n i 0 f (reaches (p.depth + 1)) z (λ h c. pushed_tied p 1 h) a;
+    address = λ b i bs p s n f z a fits. unassignable_tied b (query l) (Address b i) bs p s n i 0 f (reaches (p.depth + 1)) z (λ h c. pushed_tied p 1 h) a;
+    destination = λ b i bs p s n f z a fits. unassignable_tied b (query l) (Destination b i) bs p s n i 0 f (reaches (p.depth + 1)) z (λ h c. pushed_tied p 1 h) a;
   };
 }
 
@@ -145,38 +145,38 @@ begins_before false n m h = omega (arith, h)
 
 pub parens_tied : (l : ℕ) (e : Expression) → ExpressionTied e → ExpressionTied (parens l e)
 parens_tied l e t = record {
-  plain = λ r h bs p s f a. t.plain (parenthesised r) (parens_plain r h) bs p (past 1 s) f (omega (arith, a));
+  plain = λ r h bs p s f a fits. t.plain (parenthesised r) (parens_plain r h) bs p (past 1 s) f (omega (arith, a)) (omega (arith, fits));
   word = record {
-    address = λ b i bs p s n f z a. t.word.address true i bs p (past 1 s) n f (begins_before b n s.place z) (omega (arith, a));
-    destination = λ b i bs p s n f z a. t.word.destination true i bs p (past 1 s) n f (begins_before b n s.place z) (omega (arith, a));
+    address = λ b i bs p s n f z a fits. t.word.address true i bs p (past 1 s) n f (begins_before b n s.place z) (omega (arith, a)) (omega (arith, fits));
+    destination = λ b i bs p s n f z a fits. t.word.destination true i bs p (past 1 s) n f (begins_before b n s.place z) (omega (arith, a)) (omega (arith, fits));
   };
 }
 
 -- prefixes
 unary_plain : (f : Prefix) (l : ℕ) (e : Expression) → ExpressionTied e → ETied (unary l f e)
-unary_plain q.Contents l e t r h bs p s f a = t.plain Value tt bs p (past 1 s) f (omega (arith, a))
-unary_plain q.Address l e t r h bs p s f a =
+unary_plain q.Contents l e t r h bs p s f a fits = t.plain Value tt bs p (past 1 s) f (omega (arith, a)) (omega (arith, fits))
+unary_plain q.Address l e t r h bs p s f a fits =
     subst (λ v. Tied (told r bs p s (unary l q.Address e)) (numbers e) f (evaluated (Address false (line_of e)) bs p e v)) (sym (without_plain r bs p.procedure (unary l q.Address e) f h))
-    (t.word.address false (line_of e) bs p (past 1 s) (past 1 s).place f refl (omega (arith, a)))
-unary_plain q.Plus l e t r h bs p s f a = subst (λ v. Tied (told r bs p s (unary l q.Plus e)) (numbers e) f (evaluated Value bs p e v)) (sym (without_plain r bs p.procedure (unary l q.Plus e) f h)) (t.plain Value tt bs p (past 1 s) f (omega (arith, a)))
-unary_plain q.Minus l e t r h bs p s f a = subst (λ v. Tied (told r bs p s (unary l q.Minus e)) (numbers e) f (evaluated Value bs p e v)) (sym (without_plain r bs p.procedure (unary l q.Minus e) f h)) (t.plain Value tt bs p (past 1 s) f (omega (arith, a)))
-unary_plain q.Not l e t Value h bs p s f a = t.plain Value tt bs p (past 1 s) f (omega (arith, a))
-unary_plain q.Not l e t Truth h bs p s f a = t.plain Truth tt bs p (past 1 s) f (omega (arith, a))
-unary_plain q.Not l e t (Address b i) h bs p s f a = absurd h
-unary_plain q.Not l e t (Destination b i) h bs p s f a = absurd h
+    (t.word.address false (line_of e) bs p (past 1 s) (past 1 s).place f refl (omega (arith, a)) (omega (arith, fits)))
+unary_plain q.Plus l e t r h bs p s f a fits = subst (λ v. Tied (told r bs p s (unary l q.Plus e)) (numbers e) f (evaluated Value bs p e v)) (sym (without_plain r bs p.procedure (unary l q.Plus e) f h)) (t.plain Value tt bs p (past 1 s) f (omega (arith, a)) (omega (arith, fits)))
+unary_plain q.Minus l e t r h bs p s f a fits = subst (λ v. Tied (told r bs p s (unary l q.Minus e)) (numbers e) f (evaluated Value bs p e v)) (sym (without_plain r bs p.procedure (unary l q.Minus e) f h)) (t.plain Value tt bs p (past 1 s) f (omega (arith, a)) (omega (arith, fits)))
+unary_plain q.Not l e t Value h bs p s f a fits = t.plain Value tt bs p (past 1 s) f (omega (arith, a)) (omega (arith, fits))
+unary_plain q.Not l e t Truth h bs p s f a fits = t.plain Truth tt bs p (past 1 s) f (omega (arith, a)) (omega (arith, fits))
+unary_plain q.Not l e t (Address b i) h bs p s f a fits = absurd h
+unary_plain q.Not l e t (Destination b i) h bs p s f a fits = absurd h
 
 unary_word : (f : Prefix) (l : ℕ) (e : Expression) → ExpressionTied e → WTied (unary l f e)
 unary_word q.Contents l e t = record {
-  address = λ b i bs p s n f z a. t.plain Value tt bs p (past 1 s) f (omega (arith, a));
-  destination = λ b i bs p s n f z a. t.plain Value tt bs p (past 1 s) f (omega (arith, a));
+  address = λ b i bs p s n f z a fits. t.plain Value tt bs p (past 1 s) f (omega (arith, a)) (omega (arith, fits));
+  destination = λ b i bs p s n f z a fits. t.plain Value tt bs p (past 1 s) f (omega (arith, a)) (omega (arith, fits));
 }
 unary_word q.Address l e t = record {
-  address = λ b i bs p s n f z a. unassignable_tied b (unary l q.Address e) (Address b i) bs p s n i (numbers e) f (λ h. evaluated (Address false (line_of e)) bs p e h) z (λ h c. t.word.address false (line_of e) bs p (past 1 s) (past 1 s).place h refl (omega (arith, c))) a;
-  destination = λ b i bs p s n f z a. unassignable_tied b (unary l q.Address e) (Destination b i) bs p s n i (numbers e) f (λ h. evaluated (Address false (line_of e)) bs p e h) z (λ h c. t.word.address false (line_of e) bs p (past 1 s) (past 1 s).place h refl (omega (arith, c))) a;
+  address = λ b i bs p s n f z a fits. unassignable_tied b (unary l q.Address e) (Address b i) bs p s n i (numbers e) f (λ h. evaluated (Address false (line_of e)) bs p e h) z (λ h c. t.word.address false (line_of e) bs p (past 1 s) (past 1 s).place h refl (omega (arith, c)) (omega (arith, fits))) a;
+  destination = λ b i bs p s n f z a fits. unassignable_tied b (unary l q.Address e) (Destination b i) bs p s n i (numbers e) f (λ h. evaluated (Address false (line_of e)) bs p e h) z (λ h c. t.word.address false (line_of e) bs p (past 1 s) (past 1 s).place h refl (omega (arith, c)) (omega (arith, fits))) a;
 }
 unary_word f l e t = record {
-  address = λ b i bs p s n g z a. unassignable_tied b (unary l f e) (Address b i) bs p s n i (numbers e) g (λ h. evaluated Value bs p e h) z (λ h c. t.plain Value tt bs p (past 1 s) h (omega (arith, c))) a;
-  destination = λ b i bs p s n g z a. unassignable_tied b (unary l f e) (Destination b i) bs p s n i (numbers e) g (λ h. evaluated Value bs p e h) z (λ h c. t.plain Value tt bs p (past 1 s) h (omega (arith, c))) a;
+  address = λ b i bs p s n g z a fits. unassignable_tied b (unary l f e) (Address b i) bs p s n i (numbers e) g (λ h. evaluated Value bs p e h) z (λ h c. t.plain Value tt bs p (past 1 s) h (omega (arith, c)) (omega (arith, fits))) a;
+  destination = λ b i bs p s n g z a fits. unassignable_tied b (unary l f e) (Destination b i) bs p s n i (numbers e) g (λ h. evaluated Value bs p e h) z (λ h c. t.plain Value tt bs p (past 1 s) h (omega (arith, c)) (omega (arith, fits))) a;
 }
 
 pub unary_tied : (f : Prefix) (l : ℕ) (e : Expression) → ExpressionTied e → ExpressionTied (unary l f e)
@@ -185,16 +185,16 @@ unary_tied f l e t = record { plain = unary_plain f l e t; word = unary_word f l
 -- operators
 binary_word : (f : Operator) (l m : ℕ) (c d : Expression) → ETied (binary l f m c d) → WTied (binary l f m c d)
 binary_word o.Subscript l m c d t = record {
-  address = λ b i bs p s n f z a. t Value tt bs p s f a;
-  destination = λ b i bs p s n f z a. t Value tt bs p s f a;
+  address = λ b i bs p s n f z a fits. t Value tt bs p s f a fits;
+  destination = λ b i bs p s n f z a fits. t Value tt bs p s f a fits;
 }
 binary_word o.Byte l m c d t = record {
-  address = λ b i bs p s n f z a. unassignable_tied b (binary l o.Byte m c d) (Address b i) bs p s n i (numbers c + numbers d) f (λ h. evaluated Value bs p (binary l o.Byte m c d) h) z (λ h k. t Value tt bs p s h k) a;
-  destination = λ b i bs p s n f z a. t Value tt bs p s f a;
+  address = λ b i bs p s n f z a fits. unassignable_tied b (binary l o.Byte m c d) (Address b i) bs p s n i (numbers c + numbers d) f (λ h. evaluated Value bs p (binary l o.Byte m c d) h) z (λ h k. t Value tt bs p s h k fits) a;
+  destination = λ b i bs p s n f z a fits. t Value tt bs p s f a fits;
 }
 binary_word q l m c d t = record {
-  address = λ b i bs p s n f z a. unassignable_tied b (binary l q m c d) (Address b i) bs p s n i (numbers c + numbers d) f (λ h. evaluated Value bs p (binary l q m c d) h) z (λ h k. t Value tt bs p s h k) a;
-  destination = λ b i bs p s n f z a. unassignable_tied b (binary l q m c d) (Destination b i) bs p s n i (numbers c + numbers d) f (λ h. evaluated Value bs p (binary l q m c d) h) z (λ h k. t Value tt bs p s h k) a;
+  address = λ b i bs p s n f z a fits. unassignable_tied b (binary l q m c d) (Address b i) bs p s n i (numbers c + numbers d) f (λ h. evaluated Value bs p (binary l q m c d) h) z (λ h k. t Value tt bs p s h k fits) a;
+  destination = λ b i bs p s n f z a fits. unassignable_tied b (binary l q m c d) (Destination b i) bs p s n i (numbers c + numbers d) f (λ h. evaluated Value bs p (binary l q m c d) h) z (λ h k. t Value tt bs p s h k fits) a;
 }
 
 pub infix_tied : (f : Operator) (l m : ℕ) (a b : Expression) → ExpressionTied a → ExpressionTied b → ExpressionTied (binary l f m a b)
@@ -203,19 +203,19 @@ infix_tied f l m a b t u =
     record { plain = z; word = binary_word f l m a b z }
 
 -- what has no word of its own, whatever the role
-without_tied : (e : Expression) → ETied e → ((b : Bool) (l : ℕ) (bs : List Binding) (p : Place) (s : Spot) (n : ℕ) (f : Found) → Begins b n s.place → f.next ≡ s.number
+without_tied : (e : Expression) → ETied e → ((b : Bool) (l : ℕ) (bs : List Binding) (p : Place) (s : Spot) (n : ℕ) (f : Found) → Begins b n s.place → f.next ≡ s.number → s.number + numbers e < 2 ^ 32
     → Tied (at n l not_assignable ++ told Value bs p s e) (numbers e) f (evaluated Value bs p e (unassignable bs p.procedure b l e f)))
-without_tied e t b l bs p s n f z a = unassignable_tied b e Value bs p s n l (numbers e) f (λ h. evaluated Value bs p e h) z (λ h c. t Value tt bs p s h c) a
+without_tied e t b l bs p s n f z a fits = unassignable_tied b e Value bs p s n l (numbers e) f (λ h. evaluated Value bs p e h) z (λ h c. t Value tt bs p s h c fits) a
 
 choice_plain : (l m : ℕ) (c a b : Expression) → ETied c → ETied a → ETied b → ETied (choice l m c a b)
-choice_plain l m c a b tc ta tb r h bs p s f e =
+choice_plain l m c a b tc ta tb r h bs p s f e fits =
     let g : Found = evaluated Truth bs p c f in
     let i : Found = evaluated Value bs p a g in
     let u : Spot = past 1 (behind c s) in
     let v : Spot = behind a u in
-    let one : Tied (told Truth bs p s c) (numbers c) f g = tc Truth tt bs p s f e in
-    let two : Tied (told Value bs p u a) (numbers a) g i = ta Value tt bs p u g (omega (arith, one.next, e)) in
-    let three : Tied (told Value bs p v b) (numbers b) i (evaluated Value bs p b i) = tb Value tt bs p v i (omega (arith, one.next, two.next, e)) in
+    let one : Tied (told Truth bs p s c) (numbers c) f g = tc Truth tt bs p s f e (omega (arith, fits)) in
+    let two : Tied (told Value bs p u a) (numbers a) g i = ta Value tt bs p u g (omega (arith, one.next, e)) (omega (arith, fits)) in
+    let three : Tied (told Value bs p v b) (numbers b) i (evaluated Value bs p b i) = tb Value tt bs p v i (omega (arith, one.next, two.next, e)) (omega (arith, fits)) in
     subst (λ w. Tied (told r bs p s (choice l m c a b)) (numbers (choice l m c a b)) f (evaluated Value bs p b (evaluated Value bs p a (evaluated Truth bs p c w))))
     (sym (without_plain r bs p.procedure (choice l m c a b) f h))
     (recount _ (behind_it (both (inside c Truth bs p s) (inside a Value bs p u) (omega arith) (omega arith)) (inside b Value bs p v) (omega arith)
@@ -237,7 +237,7 @@ value_tied l c t =
     record { plain = z; word = record { address = without_tied (valof l c) z; destination = without_tied (valof l c) z } }
 
 table_plain : (l : ℕ) (es : Expressions) → ETied (table l es)
-table_plain l es r h bs p s f e =
+table_plain l es r h bs p s f e fits =
     let g : Found = constants_found bs p.procedure es f in
     subst (λ w. Tied (told r bs p s (table l es)) 0 f (reaches (p.depth + 1) (constants_found bs p.procedure es w))) (sym (without_plain r bs p.procedure (table l es) f h))
     (recount 0 (behind_it (each_constant_spans es bs p.procedure (past 1 s)) (pushed_spans (s.place + 1 + symbols_each es) p 1) (omega arith) (each_constant_tied es bs p.procedure (past 1 s) f) (pushed_tied p 1 g)) (omega arith))
@@ -247,23 +247,23 @@ table_tied l es = record { plain = table_plain l es; word = record { address = w
 
 -- expressions one behind another
 pub no_more_tied : EsTied none
-no_more_tied n bs p s f e = nothing_told f
+no_more_tied n bs p s f e fits = nothing_told f
 
 pub more_tied : (e : Expression) (es : Expressions) → ETied e → EsTied es → EsTied (more e es)
-more_tied e es t u n bs p s f a =
+more_tied e es t u n bs p s f a fits =
     let g : Found = evaluated Value bs p e f in
-    let one : Tied (told Value bs p s e) (numbers e) f g = t Value tt bs p s f a in
-    behind_it (inside e Value bs p s) (each_inside es n bs (deeper n p) (behind e s)) (omega arith) one (u n bs (deeper n p) (behind e s) g (omega (arith, one.next, a)))
+    let one : Tied (told Value bs p s e) (numbers e) f g = t Value tt bs p s f a (omega (arith, fits)) in
+    behind_it (inside e Value bs p s) (each_inside es n bs (deeper n p) (behind e s)) (omega arith) one (u n bs (deeper n p) (behind e s) g (omega (arith, one.next, a)) (omega (arith, fits)))
 
 -- destinations
 abbrev pub DestinationsTied : Expressions → Type 0
-DestinationsTied es = (bs : List Binding) (p : Place) (s : Spot) (f : Found) → f.next ≡ s.number → Tied (told_destinations bs p s es) (numbers_each es) f (destinations bs p es f)
+DestinationsTied es = (bs : List Binding) (p : Place) (s : Spot) (f : Found) → f.next ≡ s.number → s.number + numbers_each es < 2 ^ 32 → Tied (told_destinations bs p s es) (numbers_each es) f (destinations bs p es f)
 
 pub no_destinations_tied : DestinationsTied none
-no_destinations_tied bs p s f e = nothing_told f
+no_destinations_tied bs p s f e fits = nothing_told f
 
 pub destinations_tied : (e : Expression) (es : Expressions) → WTied e → DestinationsTied es → DestinationsTied (more e es)
-destinations_tied e es t u bs p s f a =
+destinations_tied e es t u bs p s f a fits =
     let g : Found = evaluated (Destination false (line_of e)) bs p e f in
-    let one : Tied (unless (assigned bs e) (at s.place (line_of e) not_assignable) ++ told (Destination false (line_of e)) bs p s e) (numbers e) f g = t.destination false (line_of e) bs p s s.place f refl a in
-    behind_it (destination_inside e bs p s) (destinations_inside es bs p (behind e s)) (omega arith) one (u bs p (behind e s) g (omega (arith, one.next, a)))
+    let one : Tied (unless (assigned bs e) (at s.place (line_of e) not_assignable) ++ told (Destination false (line_of e)) bs p s e) (numbers e) f g = t.destination false (line_of e) bs p s s.place f refl a (omega (arith, fits)) in
+    behind_it (destination_inside e bs p s) (destinations_inside es bs p (behind e s)) (omega arith) one (u bs p (behind e s) g (omega (arith, one.next, a)) (omega (arith, fits)))

@@ -72,10 +72,13 @@ globals_above bs n k no_items t = same t.scope
 globals_above bs n k (item l x e is) t = one_above _ t.scope _ (globals_above bs n k is _)
 
 one_declared_above : (bs : List Binding) (p : Place) (d : Declaration) (f : Found) → Above bs ((one_declared bs p d f).scope)
-one_declared_above bs p (constants l s.Manifest is) f = manifests_above f.next p.procedure is _
-one_declared_above bs p (constants l s.Static is) f = statics_above bs f.next p.procedure is _
-one_declared_above bs p (constants l s.Global is) f = globals_above bs f.next p.procedure is _
-one_declared_above bs p (definitions l ds) f =
+one_declared_above bs p (constants l w no_items) f = same bs
+one_declared_above bs p (constants l s.Manifest (item m x e is)) f = manifests_above f.next p.procedure (item m x e is) (record { scope = bs; found = takes f })
+one_declared_above bs p (constants l s.Static (item m x e is)) f = statics_above bs f.next p.procedure (item m x e is) (record { scope = bs; found = takes f })
+one_declared_above bs p (constants l s.Global (item m x e is)) f = globals_above bs f.next p.procedure (item m x e is) (record { scope = bs; found = takes f })
+one_declared_above bs p (definitions l no_definitions) f = same bs
+one_declared_above bs p (definitions l (define x xs)) f =
+    let ds : Definitions = define x xs in
     let t : Stage = with_procedures ds (record { scope = bs; found = takes f }) in
     both bs t.scope _ (procedures_above ds (record { scope = bs; found = takes f })) (all_above ((defined f.next t.scope ds (record { fresh = []; place = p; found = t.found })).fresh) t.scope)
 

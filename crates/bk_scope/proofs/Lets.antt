@@ -1,5 +1,5 @@
 -- The pass and what is told: the definitions of a LET.
-use Rattle.std.proofs.Common.{◌≡◌, ℕ, ◌+◌, List, [], ◌++◌, refl, sym, ap, ◌∙◌, subst, append_assoc, arith}
+use Rattle.std.proofs.Common.{◌≡◌, ℕ, ◌+◌, ◌^◌, ◌<◌, List, [], ◌++◌, refl, sym, ap, ◌∙◌, subst, append_assoc, arith}
 use Rattle.std.proofs.lemmas.List.{append-nil}
 use Rattle.bk_tree.specs.Tree.{Mention, Expression, Action, Definition, Definitions, definitions, routine, function, variables, no_definitions, define}
 use Rattle.bk_scope.specs.declared.place.Place.{Place}
@@ -12,18 +12,23 @@ use Rattle.bk_scope.specs.Scoping.{procedure_in_scope, procedures_in_scope, plac
 use Rattle.bk_scope.specs.Faults.{told_one_defined, told_defined, told_one_declared}
 use Rattle.bk_scope.proofs.Tied.{Tied, Spans, behind_it, nothing_told}
 use Rattle.bk_scope.proofs.Operators.{ETied, EInside, CTied, CInside}
-use Rattle.bk_scope.proofs.Scopes.{moved, moved_tied, no_span}
+use Rattle.bk_scope.proofs.Scopes.{moved, moved_tied, no_span, taken}
 use Rattle.bk_scope.proofs.Procedures.{routine_tied, function_tied}
 
-pub with_procedures_is : (ds : Definitions) (bs : List Binding) (f : Found) → with_procedures ds (record { scope = bs; found = f }) ≡ record { scope = procedures_in_scope f.next ds bs; found = moved (f.next + procedures_in ds) f }
-with_procedures_is no_definitions bs f = ap (λ n. record { scope = bs; found = moved n f }) (omega arith)
-with_procedures_is (define (routine l x fs c) ds) bs f =
-    with_procedures_is ds (procedure_in_scope f.next x bs) (takes f)
+with_procedures_is : (ds : Definitions) (bs : List Binding) (f : Found) → f.next + procedures_in ds < 2 ^ 32 → with_procedures ds (record { scope = bs; found = f }) ≡ record { scope = procedures_in_scope f.next ds bs; found = moved (f.next + procedures_in ds) f }
+with_procedures_is no_definitions bs f fits = ap (λ n. record { scope = bs; found = moved n f }) (omega arith)
+with_procedures_is (define (routine l x fs c) ds) bs f fits =
+    ap (λ g. with_procedures ds (record { scope = procedure_in_scope f.next x bs; found = g })) (taken f (omega (arith, fits)))
+    ∙ with_procedures_is ds (procedure_in_scope f.next x bs) (moved (f.next + 1) f) (omega (arith, fits))
     ∙ ap (λ n. record { scope = procedures_in_scope (f.next + 1) ds (procedure_in_scope f.next x bs); found = moved n f }) (omega arith)
-with_procedures_is (define (function l x fs c) ds) bs f =
-    with_procedures_is ds (procedure_in_scope f.next x bs) (takes f)
+with_procedures_is (define (function l x fs c) ds) bs f fits =
+    ap (λ g. with_procedures ds (record { scope = procedure_in_scope f.next x bs; found = g })) (taken f (omega (arith, fits)))
+    ∙ with_procedures_is ds (procedure_in_scope f.next x bs) (moved (f.next + 1) f) (omega (arith, fits))
     ∙ ap (λ n. record { scope = procedures_in_scope (f.next + 1) ds (procedure_in_scope f.next x bs); found = moved n f }) (omega arith)
-with_procedures_is (define (variables l xs is) ds) bs f = with_procedures_is ds bs f
+with_procedures_is (define (variables l xs is) ds) bs f fits = with_procedures_is ds bs f fits
+
+procedures_taken : (ds : Definitions) (bs : List Binding) (f : Found) → (f.next + 1) + procedures_in ds < 2 ^ 32 → with_procedures ds (record { scope = bs; found = takes f }) ≡ record { scope = procedures_in_scope (f.next + 1) ds bs; found = moved ((f.next + 1) + procedures_in ds) f }
+procedures_taken ds bs f fits = ap (λ g. with_procedures ds (record { scope = bs; found = g })) (taken f (omega (arith, fits))) ∙ with_procedures_is ds bs (moved (f.next + 1) f) fits
 
 abbrev pub fresh_of : List Binding → Place → Definition → List Binding
 fresh_of bs p (variables l xs is) = variables_of bs p xs is
@@ -40,7 +45,7 @@ start zs p f = record { fresh = zs; place = p; found = f }
 pub record OneTied (d : Definition) : Type 0 where
   pub fresh : (m : ℕ) (bs : List Binding) (p : Place) (zs : List Binding) (f : Found) → (one_defined m bs d (start zs p f)).fresh ≡ zs ++ fresh_of bs p d
   pub place : (m : ℕ) (bs : List Binding) (p : Place) (zs : List Binding) (f : Found) → (one_defined m bs d (start zs p f)).place ≡ place_behind_one_defined bs p d
-  pub found : (m : ℕ) (bs : List Binding) (p : Place) (s : Spot) (zs : List Binding) (f : Found) → f.next ≡ s.number → Tied (told_one_defined m bs p s d) (numbers_one_defined d) f (one_defined m bs d (start zs p f)).found
+  pub found : (m : ℕ) (bs : List Binding) (p : Place) (s : Spot) (zs : List Binding) (f : Found) → f.next ≡ s.number → s.number + numbers_one_defined d < 2 ^ 32 → Tied (told_one_defined m bs p s d) (numbers_one_defined d) f (one_defined m bs d (start zs p f)).found
 
 abbrev pub OneInside : Definition → Type 0
 OneInside d = (m : ℕ) (bs : List Binding) (p : Place) (s : Spot) → Spans s.place (s.place + symbols_one_defined d) (told_one_defined m bs p s d)
@@ -48,19 +53,19 @@ OneInside d = (m : ℕ) (bs : List Binding) (p : Place) (s : Spot) → Spans s.p
 pub record AllTied (ds : Definitions) : Type 0 where
   pub fresh : (m : ℕ) (bs : List Binding) (p : Place) (zs : List Binding) (f : Found) → (defined m bs ds (start zs p f)).fresh ≡ zs ++ variables_in_scope bs p ds
   pub place : (m : ℕ) (bs : List Binding) (p : Place) (zs : List Binding) (f : Found) → (defined m bs ds (start zs p f)).place ≡ place_behind_defined bs p ds
-  pub found : (m : ℕ) (bs : List Binding) (p : Place) (s : Spot) (zs : List Binding) (f : Found) → f.next ≡ s.number → Tied (told_defined m bs p s ds) (numbers_defined ds) f (defined m bs ds (start zs p f)).found
+  pub found : (m : ℕ) (bs : List Binding) (p : Place) (s : Spot) (zs : List Binding) (f : Found) → f.next ≡ s.number → s.number + numbers_defined ds < 2 ^ 32 → Tied (told_defined m bs p s ds) (numbers_defined ds) f (defined m bs ds (start zs p f)).found
 
 abbrev pub AllInside : Definitions → Type 0
 AllInside ds = (m : ℕ) (bs : List Binding) (p : Place) (s : Spot) → Spans s.place (s.place + symbols_defined ds) (told_defined m bs p s ds)
 
 pub routine_one : (l : ℕ) (x : List ℕ) (fs : List Mention) (c : Action) → CTied c → CInside c → OneTied (routine l x fs c)
-routine_one l x fs c t i = record { fresh = λ m bs p zs f. sym (append-nil zs); place = λ m bs p zs f. refl; found = λ m bs p s zs f e. routine_tied m l x fs c t i bs p s (start zs p f) e }
+routine_one l x fs c t i = record { fresh = λ m bs p zs f. sym (append-nil zs); place = λ m bs p zs f. refl; found = λ m bs p s zs f e fits. routine_tied m l x fs c t i bs p s (start zs p f) e fits }
 
 pub function_one : (l : ℕ) (x : List ℕ) (fs : List Mention) (a : Expression) → ETied a → EInside a → OneTied (function l x fs a)
-function_one l x fs a t i = record { fresh = λ m bs p zs f. sym (append-nil zs); place = λ m bs p zs f. refl; found = λ m bs p s zs f e. function_tied m l x fs a t i bs p s (start zs p f) e }
+function_one l x fs a t i = record { fresh = λ m bs p zs f. sym (append-nil zs); place = λ m bs p zs f. refl; found = λ m bs p s zs f e fits. function_tied m l x fs a t i bs p s (start zs p f) e fits }
 
 pub none_tied : AllTied no_definitions
-none_tied = record { fresh = λ m bs p zs f. sym (append-nil zs); place = λ m bs p zs f. refl; found = λ m bs p s zs f e. nothing_told f }
+none_tied = record { fresh = λ m bs p zs f. sym (append-nil zs); place = λ m bs p zs f. refl; found = λ m bs p s zs f e fits. nothing_told f }
 
 pub define_tied : (d : Definition) (ds : Definitions) → OneTied d → OneInside d → AllTied ds → AllInside ds → AllTied (define d ds)
 define_tied d ds t i u j = record {
@@ -73,22 +78,23 @@ define_tied d ds t i u j = record {
   place = λ m bs p zs f.
       let r : Defined = one_defined m bs d (start zs p f) in
       u.place m bs r.place r.fresh r.found ∙ ap (λ (q : Place). place_behind_defined bs q ds) (t.place m bs p zs f);
-  found = λ m bs p s zs f e.
+  found = λ m bs p s zs f e fits.
       let r : Defined = one_defined m bs d (start zs p f) in
       let z : Place = place_behind_one_defined bs p d in
       let v : Spot = behind_one_defined d s in
-      let one : Tied (told_one_defined m bs p s d) (numbers_one_defined d) f r.found = t.found m bs p s zs f e in
+      let one : Tied (told_one_defined m bs p s d) (numbers_one_defined d) f r.found = t.found m bs p s zs f e (omega (arith, fits)) in
       let two : Tied (told_defined m bs z v ds) (numbers_defined ds) r.found (defined m bs ds r).found =
-      subst (λ (q : Place). Tied (told_defined m bs q v ds) (numbers_defined ds) r.found (defined m bs ds r).found) (t.place m bs p zs f) (u.found m bs r.place v r.fresh r.found (omega (arith, one.next, e))) in
+      subst (λ (q : Place). Tied (told_defined m bs q v ds) (numbers_defined ds) r.found (defined m bs ds r).found) (t.place m bs p zs f) (u.found m bs r.place v r.fresh r.found (omega (arith, one.next, e)) (omega (arith, fits))) in
       behind_it (i m bs p s) (j m bs z v) (omega arith) one two;
 }
 
 -- A LET: what is told, what comes into scope, and where the frame goes on
-pub let_told : (l : ℕ) (ds : Definitions) → AllTied ds → AllInside ds → (bs : List Binding) (p : Place) (s : Spot) (f : Found) → f.next ≡ s.number
-    → Tied (told_one_declared bs p s (definitions l ds)) (numbers_one_declared (definitions l ds)) f (one_declared bs p (definitions l ds) f).found
-    × ((one_declared bs p (definitions l ds) f).scope ≡ scope_behind_one bs p s (definitions l ds))
-    × ((one_declared bs p (definitions l ds) f).place ≡ place_behind_one bs p s (definitions l ds))
-let_told l ds t i bs p s f e =
+pub let_told : (l : ℕ) (x : Definition) (xs : Definitions) → AllTied (define x xs) → AllInside (define x xs) → (bs : List Binding) (p : Place) (s : Spot) (f : Found) → f.next ≡ s.number → s.number + numbers_one_declared (definitions l (define x xs)) < 2 ^ 32
+    → Tied (told_one_declared bs p s (definitions l (define x xs))) (numbers_one_declared (definitions l (define x xs))) f (one_declared bs p (definitions l (define x xs)) f).found
+    × ((one_declared bs p (definitions l (define x xs)) f).scope ≡ scope_behind_one bs p s (definitions l (define x xs)))
+    × ((one_declared bs p (definitions l (define x xs)) f).place ≡ place_behind_one bs p s (definitions l (define x xs)))
+let_told l x xs t i bs p s f e fits =
+    let ds : Definitions = define x xs in
     let W : ℕ → List Binding → Found → Type 0 = λ m cs g.
     Tied (told_one_declared bs p s (definitions l ds)) (numbers_one_declared (definitions l ds)) f (defined m cs ds (start [] p g)).found
     × (bind_all (defined m cs ds (start [] p g)).fresh cs ≡ scope_behind_one bs p s (definitions l ds))
@@ -96,11 +102,11 @@ let_told l ds t i bs p s f e =
     let cs : List Binding = procedures_in_scope (s.number + 1) ds bs in
     let g : Found = moved ((f.next + 1) + procedures_in ds) f in
     let u : Spot = numbered (1 + procedures_in ds) s in
-    let body : Tied (told_defined s.number cs p u ds) (numbers_defined ds) g (defined s.number cs ds (start [] p g)).found = t.found s.number cs p u [] g (omega (arith, e)) in
+    let body : Tied (told_defined s.number cs p u ds) (numbers_defined ds) g (defined s.number cs ds (start [] p g)).found = t.found s.number cs p u [] g (omega (arith, e)) (omega (arith, fits)) in
     let here : W s.number cs g = (
       behind_it (no_span s.place) (i s.number cs p u) (omega arith) (moved_tied (1 + procedures_in ds) g.next f (omega arith)) body,
       ap (λ ys. bind_all ys cs) (t.fresh s.number cs p [] g),
       t.place s.number cs p [] g,
     ) in
-    subst (λ (v : Stage). W f.next v.scope v.found) (sym (with_procedures_is ds bs (takes f)))
+    subst (λ (v : Stage). W f.next v.scope v.found) (sym (procedures_taken ds bs f (omega (arith, e, fits))))
     (subst (λ n. W n (procedures_in_scope (n + 1) ds bs) g) (sym e) here)

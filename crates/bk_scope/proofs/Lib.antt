@@ -27,10 +27,10 @@ pub mod Assignable
 pub mod Expressions
 pub mod Commands
 pub mod Declared
+pub mod Counting
 pub mod Whole
 pub mod Fits
 pub mod Safe
 pub mod Soundness
 pub mod Repeated
 pub mod Numbers
-pub mod Counting

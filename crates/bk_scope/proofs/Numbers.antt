@@ -1,7 +1,7 @@
 -- Numbers rise in the order in which they are given, and so differ.
 use Rattle.std.proofs.Common.{◌≡◌, ℕ, zero, suc, ◌+◌, ◌≤◌, ◌<◌, List, [], ◌∷◌, ◌++◌, length, refl, arith}
 use Rattle.bk_tree.specs.declared.tree.Sort.TheVariants as sort
-use Rattle.bk_tree.specs.Tree.{Expression, Expressions, Action, Actions, Declaration, Declarations, Definition, Definitions, Starts, name, number, text, truth, query, parens, unary, binary, choice, apply, valof, table, none, more, empty, assign, call, goto, label, case_of, default, when, test, while, for_loop, switch, result, simple, block, repeat, repeat_while, no_actions, also, constants, definitions, no_declarations, declare, routine, function, variables, no_definitions, define, no_starts, value, vector}
+use Rattle.bk_tree.specs.Tree.{Expression, Expressions, Action, Actions, Declaration, Declarations, Definition, Definitions, Starts, name, number, text, truth, query, parens, unary, binary, choice, apply, valof, table, none, more, empty, assign, call, goto, label, case_of, default, when, test, while, for_loop, switch, result, simple, block, repeat, repeat_while, no_actions, also, constants, definitions, no_declarations, declare, no_items, item, routine, function, variables, no_definitions, define, no_starts, value, vector}
 use Rattle.bk_scope.specs.Entering.{labels_of, labels_of_each}
 use Rattle.bk_scope.specs.Spots.{Spot, procedures_in, numbers, numbers_each, numbers_done, numbers_done_each, numbers_declared, numbers_one_declared, numbers_items, numbers_defined, numbers_one_defined, numbers_started, numbered, behind, behind_each, behind_done, behind_declared, behind_one_declared, behind_one_defined, beginning}
 use Rattle.bk_scope.specs.Cases.{NoneOf, AllDiffer}
@@ -56,6 +56,11 @@ counted_rise n k = record { all = rising_counted k n }
 -- a number, and those behind it
 own : {xs : List ℕ} (n k j : ℕ) → k + 1 ≤ j → Rises (n + 1) k xs → Rises n j (n ∷ xs)
 own {xs = xs} n k j h a = record { all = (omega arith, higher (n + 1) (n + 1 + k) (n + j) xs (omega (arith, h)) a.all) }
+
+-- a LET, by its definitions
+let_rises : (l : ℕ) (ds : Definitions) (s : Spot) → Rises (numbered (1 + procedures_in ds) s).number (numbers_defined ds) (given_defined (numbered (1 + procedures_in ds) s) ds) → Rises s.number (numbers_one_declared (definitions l ds)) (given_one_declared s (definitions l ds))
+let_rises l no_definitions s h = nothing_rises _ _
+let_rises l (define d ds) s h = more_rises _ _ (both_rise (counted_rise (s.number + 1) (procedures_in (define d ds))) h (omega arith)) (omega arith) (omega arith)
 
 mutual
   rise : (e : Expression) (s : Spot) → Rises s.number (numbers e) (given s e)
@@ -115,10 +120,11 @@ mutual
   rise_declared (declare d ds) s = both_rise (rise_one_declared d s) (rise_declared ds (behind_one_declared d s)) refl
 
   rise_one_declared : (d : Declaration) (s : Spot) → Rises s.number (numbers_one_declared d) (given_one_declared s d)
-  rise_one_declared (constants l sort.Static is) s = more_rises _ _ (counted_rise (s.number + 1) (numbers_items sort.Static is)) (omega arith) (omega arith)
+  rise_one_declared (constants l sort.Static no_items) s = nothing_rises _ _
+  rise_one_declared (constants l sort.Static (item m x e is)) s = more_rises _ _ (counted_rise (s.number + 1) (numbers_items sort.Static (item m x e is))) (omega arith) (omega arith)
   rise_one_declared (constants l sort.Manifest is) s = nothing_rises _ _
   rise_one_declared (constants l sort.Global is) s = nothing_rises _ _
-  rise_one_declared (definitions l ds) s = more_rises _ _ (both_rise (counted_rise (s.number + 1) (procedures_in ds)) (rise_defined ds (numbered (1 + procedures_in ds) s)) (omega arith)) (omega arith) (omega arith)
+  rise_one_declared (definitions l ds) s = let_rises l ds s (rise_defined ds (numbered (1 + procedures_in ds) s))
 
   rise_defined : (ds : Definitions) (s : Spot) → Rises s.number (numbers_defined ds) (given_defined s ds)
   rise_defined no_definitions s = nothing_rises _ _

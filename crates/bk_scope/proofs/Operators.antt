@@ -1,5 +1,5 @@
 -- The pass and what is told: operators and calls.
-use Rattle.std.proofs.Common.{◌≡◌, ℕ, ◌+◌, List, refl, sym, subst, arith}
+use Rattle.std.proofs.Common.{◌≡◌, ℕ, ◌+◌, ◌^◌, ◌<◌, List, refl, sym, subst, arith}
 use Rattle.bk_tree.specs.declared.tree.Operator.{Operator}
 use Rattle.bk_tree.specs.declared.tree.Operator.TheVariants as o
 use Rattle.bk_tree.specs.Tree.{Expression, Expressions, Action, binary, apply}
@@ -22,19 +22,19 @@ Plain Truth = Unit {0}
 Plain _ = ⊥
 
 abbrev pub ETied : Expression → Type 0
-ETied e = (r : Role) → Plain r → (bs : List Binding) (p : Place) (s : Spot) (f : Found) → f.next ≡ s.number → Tied (told r bs p s e) (numbers e) f (evaluated r bs p e f)
+ETied e = (r : Role) → Plain r → (bs : List Binding) (p : Place) (s : Spot) (f : Found) → f.next ≡ s.number → s.number + numbers e < 2 ^ 32 → Tied (told r bs p s e) (numbers e) f (evaluated r bs p e f)
 
 abbrev pub EInside : Expression → Type 0
 EInside e = (r : Role) (bs : List Binding) (p : Place) (s : Spot) → Spans s.place (s.place + symbols e) (told r bs p s e)
 
 abbrev pub EsTied : Expressions → Type 0
-EsTied es = (n : ℕ) (bs : List Binding) (p : Place) (s : Spot) (f : Found) → f.next ≡ s.number → Tied (told_each n bs p s es) (numbers_each es) f (each_evaluated n bs p es f)
+EsTied es = (n : ℕ) (bs : List Binding) (p : Place) (s : Spot) (f : Found) → f.next ≡ s.number → s.number + numbers_each es < 2 ^ 32 → Tied (told_each n bs p s es) (numbers_each es) f (each_evaluated n bs p es f)
 
 abbrev pub EsInside : Expressions → Type 0
 EsInside es = (n : ℕ) (bs : List Binding) (p : Place) (s : Spot) → Spans s.place (s.place + symbols_each es) (told_each n bs p s es)
 
 abbrev pub CTied : Action → Type 0
-CTied c = (bs : List Binding) (p : Place) (s : Spot) (f : Found) → f.next ≡ s.number → Tied (told_done bs p s c) (numbers_done c) f (done bs p c f)
+CTied c = (bs : List Binding) (p : Place) (s : Spot) (f : Found) → f.next ≡ s.number → s.number + numbers_done c < 2 ^ 32 → Tied (told_done bs p s c) (numbers_done c) f (done bs p c f)
 
 abbrev pub CInside : Action → Type 0
 CInside c = (bs : List Binding) (p : Place) (s : Spot) → Spans s.place (s.place + symbols_done c) (told_done bs p s c)
@@ -62,12 +62,12 @@ operands_plain _ (Address b l) h = absurd h
 operands_plain _ (Destination b l) h = absurd h
 
 pub binary_tied : (l m : ℕ) (q : Operator) (a b : Expression) → ETied a → EInside a → ETied b → EInside b → ETied (binary l q m a b)
-binary_tied l m q a b ta ia tb ib r h bs p s f e =
+binary_tied l m q a b ta ia tb ib r h bs p s f e fits =
     let g : Found = evaluated (role_of_operands q r) bs p a f in
-    let one : Tied (told (role_of_operands q r) bs p s a) (numbers a) f g = ta (role_of_operands q r) (operands_plain q r h) bs p s f e in
+    let one : Tied (told (role_of_operands q r) bs p s a) (numbers a) f g = ta (role_of_operands q r) (operands_plain q r h) bs p s f e (omega (arith, fits)) in
     let z : Place = place_of_second q r p in
     let u : Spot = past 1 (behind a s) in
-    let two : Tied (told (role_of_operands q r) bs z u b) (numbers b) g (evaluated (role_of_operands q r) bs z b g) = tb (role_of_operands q r) (operands_plain q r h) bs z u g (omega (arith, one.next, e)) in
+    let two : Tied (told (role_of_operands q r) bs z u b) (numbers b) g (evaluated (role_of_operands q r) bs z b g) = tb (role_of_operands q r) (operands_plain q r h) bs z u g (omega (arith, one.next, e)) (omega (arith, fits)) in
     subst (λ v. Tied (told r bs p s (binary l q m a b)) (numbers a + numbers b) f (evaluated (role_of_operands q r) bs z b (evaluated (role_of_operands q r) bs p a v)))
     (sym (fit_plain q r bs p.procedure (binary l q m a b) f h))
     (behind_it (ia _ bs p s) (ib (role_of_operands q r) bs z u) (omega arith) one two)
@@ -84,11 +84,11 @@ without_plain (Address b l) bs k e f h = absurd h
 without_plain (Destination b l) bs k e f h = absurd h
 
 pub apply_tied : (l m : ℕ) (a : Expression) (es : Expressions) → ETied a → EInside a → EsTied es → EsInside es → ETied (apply l m a es)
-apply_tied l m a es ta ia tb ib r h bs p s f e =
+apply_tied l m a es ta ia tb ib r h bs p s f e fits =
     let w : Place = deeper (size es + 2) p in
     let g : Found = evaluated Value bs w a f in
-    let one : Tied (told Value bs w s a) (numbers a) f g = ta Value tt bs w s f e in
+    let one : Tied (told Value bs w s a) (numbers a) f g = ta Value tt bs w s f e (omega (arith, fits)) in
     let u : Spot = past 1 (behind a s) in
     subst (λ v. Tied (told r bs p s (apply l m a es)) (numbers a + numbers_each es) f (each_evaluated 1 bs (deeper 2 p) es (evaluated Value bs w a v)))
     (sym (without_plain r bs p.procedure (apply l m a es) f h))
-    (behind_it (ia Value bs w s) (ib 1 bs (deeper 2 p) u) (omega arith) one (tb 1 bs (deeper 2 p) u g (omega (arith, one.next, e))))
+    (behind_it (ia Value bs w s) (ib 1 bs (deeper 2 p) u) (omega arith) one (tb 1 bs (deeper 2 p) u g (omega (arith, one.next, e)) (omega (arith, fits))))

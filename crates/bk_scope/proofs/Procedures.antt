@@ -1,5 +1,5 @@
 -- The pass and what is told: procedures.
-use Rattle.std.proofs.Common.{◌≡◌, ℕ, ◌+◌, ◌*◌, ◌≤◌, Bool, true, false, cond, Option, Some, None, List, [], ◌∷◌, ◌++◌, length, refl, sym, ap, ◌∙◌, subst, append_assoc, arith}
+use Rattle.std.proofs.Common.{◌≡◌, ℕ, ◌+◌, ◌*◌, ◌^◌, ◌≤◌, ◌<◌, Bool, true, false, cond, Option, Some, None, List, [], ◌∷◌, ◌++◌, length, refl, sym, ap, ◌∙◌, subst, append_assoc, arith}
 use Rattle.std.specs.Prelude.{nat_lt}
 use Rattle.std.proofs.lemmas.List.{append-nil}
 use Rattle.bk_base.specs.declared.limit.TheConstants.{FRAME_WORDS}
@@ -21,7 +21,7 @@ use Rattle.bk_scope.specs.Faults.{told, told_done, told_one_defined, one_of, eac
 use Rattle.bk_scope.proofs.Lists.{Inside, AllInside, inside_append, inside_wider, judged_inside, order_apart, first_append, meanings_append}
 use Rattle.bk_scope.proofs.Tied.{Tied, Spans, both, wider, behind_it, else_none, nothing_told, then}
 use Rattle.bk_scope.proofs.Operators.{ETied, EInside, CTied, CInside}
-use Rattle.bk_scope.proofs.Scopes.{moved, moved_tied, recount, no_span, with_labels_is}
+use Rattle.bk_scope.proofs.Scopes.{moved, moved_tied, recount, no_span, labels_taken}
 
 -- a claim
 once_first : (b : Bool) (c : Claim) (x : Fault) (f : Found) → (cond b (breaks x.line x.wrong f) (claims_new c f)).first ≡ else_first f.first (first_told (in_order (cond b (x ∷ []) [] ++ [])))
@@ -186,12 +186,12 @@ flat_inside n m (wrong f ∷ xs) h = (h.0, h.1, flat_inside n m xs h.2)
 flat_inside n m (claim c f ∷ xs) h = (h.0, h.1, flat_inside n m xs h.2)
 
 -- a procedure behind its name, where all that is told of it inside is `xs`
-inside_tied : (n l j e d : ℕ) (y : Option Bound) (xs : List Point) (f h : Found) → Inside (32 * n + 27) e xs → Tied xs j (opens d (named_as y (takes f))) h
+inside_tied : (n l j e d : ℕ) (y : Option Bound) (xs : List Point) (f h : Found) → f.next + 1 < 2 ^ 32 → Inside (32 * n + 27) e xs → Tied xs j (opens d (named_as y (takes f))) h
     → Tied (its_frame n l (deepest d xs) ++ (its_meaning y ++ without_depths xs)) (1 + j) f (behind f.first f.deepest (frame_wrong l h) h)
-inside_tied n l j e d y xs f h a t =
+inside_tied n l j e d y xs f h fits a t =
     let q : Bool = nat_lt FRAME_WORDS (deepest d xs) in
     let zs : List Point = its_meaning y ++ without_depths xs in
-    let v : ((named_as y (takes f)).claims ≡ f.claims) × ((named_as y (takes f)).meanings ≡ f.meanings ++ meanings_of (its_meaning y)) × ((named_as y (takes f)).words ≡ f.words) × ((named_as y (takes f)).next ≡ f.next + 1) = named_found y (takes f) in
+    let v : ((named_as y (takes f)).claims ≡ f.claims) × ((named_as y (takes f)).meanings ≡ f.meanings ++ meanings_of (its_meaning y)) × ((named_as y (takes f)).words ≡ f.words) × ((named_as y (takes f)).next ≡ (takes f).next) = named_found y (takes f) in
     let rest : judged f.claims zs ≡ judged f.claims xs = name_judged y (without_depths xs) f.claims ∙ flat_judged xs f.claims in
     record {
       first =
@@ -207,14 +207,14 @@ inside_tied n l j e d y xs f h a t =
           t.meanings ∙ ap (λ c. c ++ meanings_of xs) v.1 ∙ append_assoc f.meanings (meanings_of (its_meaning y)) (meanings_of xs)
           ∙ ap (λ c. f.meanings ++ c) (sym (frame_meanings n l zs q ∙ meanings_append (its_meaning y) (without_depths xs) ∙ ap (λ c. meanings_of (its_meaning y) ++ c) (flat_meanings xs)));
       words = t.words ∙ ap (λ c. c ++ words_of xs) v.2 ∙ ap (λ c. f.words ++ c) (sym (frame_words n l zs q ∙ name_words y (without_depths xs) ∙ flat_words xs));
-      next = omega (arith, t.next, v.3);
+      next = omega (arith, t.next, v.3, fits);
       deepest = sym (frame_deepest n l zs q f.deepest ∙ name_deepest y (without_depths xs) f.deepest ∙ flat_deepest xs f.deepest);
     }
 
 pub procedure_tied : (m k l i j : ℕ) (s : Spot) (x : List ℕ) (fs : List Mention) (y : Option Bound) (body : List Point) (f h : Found)
-    → Spans (s.place + 1 + length fs) (s.place + 1 + length fs + i) body → Tied body j (headed k l x fs y (takes (listed m l x f))) h
+    → f.next + 1 < 2 ^ 32 → Spans (s.place + 1 + length fs) (s.place + 1 + length fs + i) body → Tied body j (headed k l x fs y (takes (listed m l x f))) h
     → Tied (procedure m k s l x fs y body) (1 + j) f (behind (listed m l x f).first (listed m l x f).deepest (frame_wrong l h) h)
-procedure_tied m k l i j s x fs y body f h a t =
+procedure_tied m k l i j s x fs y body f h fits a t =
     let n : ℕ = s.place in
     let e : ℕ = 32 * (n + 1 + length fs + i) in
     let f1 : Found = opens (kept (length fs + 2)) (named_as y (takes (listed m l x f))) in
@@ -228,7 +228,7 @@ procedure_tied m k l i j s x fs y body f h a t =
     let q : Bool = nat_lt FRAME_WORDS (deepest (kept (length fs + 2)) xs) in
     recount (1 + j) (then (32 * n) (32 * n + 15) e _ _ (one_of m n l x) _ f (listed m l x f) _ (omega arith, omega arith, tt)
     (frame_inside n l (its_meaning y ++ without_depths xs) q e (name_inside y (without_depths xs) (32 * n + 15) e (flat_inside (32 * n + 15) e xs (inside_wider (32 * n + 27) e (32 * n + 15) e xs (omega arith) (omega arith) where_inside))) (omega arith))
-    (listed_tied m n l x f) (inside_tied n l (0 + (0 + j)) e _ y xs (listed m l x f) h where_inside told_inside)) (omega arith)
+    (listed_tied m n l x f) (inside_tied n l (0 + (0 + j)) e _ y xs (listed m l x f) h (omega (arith, (listed_tied m n l x f).next, fits)) where_inside told_inside)) (omega arith)
 
 headed_next : (k l : ℕ) (x : List ℕ) (fs : List Mention) (y : Option Bound) (f : Found) → (headed k l x fs y f).next ≡ f.next
 headed_next k l x fs y f =
@@ -236,9 +236,9 @@ headed_next k l x fs y f =
     omega (arith, (each_tied k 0 fs (sets l x y f1)).next, (global_tied 0 l x y f1).next, (named_found y f).3)
 
 -- A FUNCTION
-pub function_tied : (m l : ℕ) (x : List ℕ) (fs : List Mention) (a : Expression) → ETied a → EInside a → (bs : List Binding) (p : Place) (s : Spot) (d : Defined) → d.found.next ≡ s.number
+pub function_tied : (m l : ℕ) (x : List ℕ) (fs : List Mention) (a : Expression) → ETied a → EInside a → (bs : List Binding) (p : Place) (s : Spot) (d : Defined) → d.found.next ≡ s.number → s.number + (1 + numbers a) < 2 ^ 32
     → Tied (told_one_defined m bs p s (function l x fs a)) (1 + numbers a) d.found (one_defined m bs (function l x fs a) d).found
-function_tied m l x fs a ta ia bs p s d e =
+function_tied m l x fs a ta ia bs p s d e fits =
     let f : Found = listed m l x d.found in
     let same : f.next ≡ s.number = omega (arith, (listed_tied m s.place l x d.found).next, e) in
     let u : Spot = onward (1 + length fs) 1 s in
@@ -248,26 +248,26 @@ function_tied m l x fs a ta ia bs p s d e =
     let g : Found = headed k l x fs (bound_in bs x) (takes f) in
     let cs : List Binding = with_formals k 2 fs bs in
     let q : Place = called false k (length fs) in
-    let g_next : g.next ≡ u.number = omega (arith, headed_next k l x fs (bound_in bs x) (takes f), same) in
+    let g_next : g.next ≡ u.number = omega (arith, headed_next k l x fs (bound_in bs x) (takes f), same, fits) in
     subst T (sym same)
-    (procedure_tied m k l (symbols a) (numbers a) s x fs (bound_in bs x) (told Value cs q u a) d.found (evaluated Value cs q a g) (wider _ _ (ia Value cs q u) (omega arith) (omega arith)) (ta Value tt cs q u g g_next))
+    (procedure_tied m k l (symbols a) (numbers a) s x fs (bound_in bs x) (told Value cs q u a) d.found (evaluated Value cs q a g) (omega (arith, e, fits)) (wider _ _ (ia Value cs q u) (omega arith) (omega arith)) (ta Value tt cs q u g g_next (omega (arith, fits))))
 
 -- A ROUTINE
-pub routine_tied : (m l : ℕ) (x : List ℕ) (fs : List Mention) (c : Action) → CTied c → CInside c → (bs : List Binding) (p : Place) (s : Spot) (d : Defined) → d.found.next ≡ s.number
+pub routine_tied : (m l : ℕ) (x : List ℕ) (fs : List Mention) (c : Action) → CTied c → CInside c → (bs : List Binding) (p : Place) (s : Spot) (d : Defined) → d.found.next ≡ s.number → s.number + ((2 + length (labels_of c)) + numbers_done c) < 2 ^ 32
     → Tied (told_one_defined m bs p s (routine l x fs c)) ((2 + length (labels_of c)) + numbers_done c) d.found (one_defined m bs (routine l x fs c) d).found
-routine_tied m l x fs c tc ic bs p s d e =
+routine_tied m l x fs c tc ic bs p s d e fits =
     let f : Found = listed m l x d.found in
     let same : f.next ≡ s.number = omega (arith, (listed_tied m s.place l x d.found).next, e) in
     let k : ℕ = s.number in
     let L : ℕ = length (labels_of c) in
     let u : Spot = onward (1 + length fs) (2 + L) s in
     let g : Found = headed k l x fs (bound_in bs x) (takes f) in
-    let g_next : g.next ≡ k + 1 = omega (arith, headed_next k l x fs (bound_in bs x) (takes f), same) in
+    let g_next : g.next ≡ k + 1 = omega (arith, headed_next k l x fs (bound_in bs x) (takes f), same, fits) in
     let zs : List Binding = with_formals k 2 fs bs in
     let cs : List Binding = labels_in_scope k (k + 2) (labels_of c) zs in
     let q : Place = labelled (k + 1) (called true k (length fs)) in
     let g' : Found = moved ((g.next + 1) + L) g in
-    let body : Tied (told_done cs q u c) (numbers_done c) g' (done cs q c g') = tc cs q u g' (omega (arith, g_next)) in
+    let body : Tied (told_done cs q u c) (numbers_done c) g' (done cs q c g') = tc cs q u g' (omega (arith, g_next)) (omega (arith, fits)) in
     let all : Tied (told_done cs q u c) ((1 + L) + numbers_done c) g (done cs q c g') = behind_it (no_span u.place) (ic cs q u) (omega arith) (moved_tied (1 + L) g'.next g (omega arith)) body in
     let whole : Found → Type 0 = λ h. Tied (told_one_defined m bs p s (routine l x fs c)) ((2 + L) + numbers_done c) d.found (behind f.first f.deepest (frame_wrong l h) h) in
     let T : ℕ → Type 0 = λ j.
@@ -275,10 +275,10 @@ routine_tied m l x fs c tc ic bs p s d e =
     let t : Stage = with_labels j (labels_of c) (record { scope = with_formals j 2 fs bs; found = takes v }) in
     whole (done t.scope (labelled v.next (called true j (length fs))) c t.found) in
     subst T (sym same)
-    (subst (λ (t : Stage). whole (done t.scope (labelled g.next (called true k (length fs))) c t.found)) (sym (with_labels_is k (labels_of c) zs (takes g)))
+    (subst (λ (t : Stage). whole (done t.scope (labelled g.next (called true k (length fs))) c t.found)) (sym (labels_taken k (labels_of c) zs g (omega (arith, g_next, fits))))
     (subst (λ n. whole (done (labels_in_scope k n (labels_of c) zs) (labelled g.next (called true k (length fs))) c g')) (let e' : k + 2 ≡ g.next + 1 = omega (arith, g_next) in e')
     (subst (λ n. whole (done cs (labelled n (called true k (length fs))) c g')) (sym g_next)
-    (recount _ (procedure_tied m k l (symbols_done c) ((1 + L) + numbers_done c) s x fs (bound_in bs x) (told_done cs q u c) d.found (done cs q c g') (wider _ _ (ic cs q u) (omega arith) (omega arith)) all) (omega arith)))))
+    (recount _ (procedure_tied m k l (symbols_done c) ((1 + L) + numbers_done c) s x fs (bound_in bs x) (told_done cs q u c) d.found (done cs q c g') (omega (arith, e, fits)) (wider _ _ (ic cs q u) (omega arith) (omega arith)) all) (omega arith)))))
 
 -- where a procedure's points stand
 pub procedure_spans : (m k l i : ℕ) (s : Spot) (x : List ℕ) (fs : List Mention) (y : Option Bound) (body : List Point) → Spans (s.place + 1 + length fs) (s.place + 1 + length fs + i) body

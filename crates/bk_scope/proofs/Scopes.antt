@@ -1,5 +1,5 @@
 -- The pass and what is told, where names come into scope: VALOF, SWITCHON, a block with declarations.
-use Rattle.std.proofs.Common.{◌≡◌, ℕ, ◌+◌, List, [], ◌∷◌, length, refl, sym, ap, ◌∙◌, subst, arith}
+use Rattle.std.proofs.Common.{◌≡◌, ℕ, ◌+◌, ◌^◌, ◌<◌, List, [], ◌∷◌, length, refl, sym, ap, ◌∙◌, subst, arith}
 use Rattle.std.proofs.lemmas.List.{append-nil}
 use Rattle.bk_tree.specs.Tree.{Expression, Action, Actions, Declaration, Declarations, valof, switch, block, declare}
 use Rattle.bk_scope.specs.declared.bound.Bound.TheVariants.{Label}
@@ -37,12 +37,20 @@ pushed_tied p d f = record { first = sym (else_none f.first); claims = refl; mea
 pub pushed_spans : (n : ℕ) (p : Place) (d : ℕ) → Spans n n (pushed p d)
 pushed_spans n p d = record { inside = tt }
 
+-- where a number is taken that is not the last
+pub taken : (f : Found) → f.next + 1 < 2 ^ 32 → takes f ≡ moved (f.next + 1) f
+taken f fits = ap (λ n. moved n f) (omega (arith, fits))
+
 -- labels
-pub with_labels_is : (k : ℕ) (xs : List (List ℕ)) (bs : List Binding) (f : Found) → with_labels k xs (record { scope = bs; found = f }) ≡ record { scope = labels_in_scope k f.next xs bs; found = moved (f.next + length xs) f }
-with_labels_is k [] bs f = ap (λ n. record { scope = bs; found = moved n f }) (omega arith)
-with_labels_is k (x ∷ xs) bs f =
-    with_labels_is k xs (bind x (Label k f.next) bs) (takes f)
+with_labels_is : (k : ℕ) (xs : List (List ℕ)) (bs : List Binding) (f : Found) → f.next + length xs < 2 ^ 32 → with_labels k xs (record { scope = bs; found = f }) ≡ record { scope = labels_in_scope k f.next xs bs; found = moved (f.next + length xs) f }
+with_labels_is k [] bs f fits = ap (λ n. record { scope = bs; found = moved n f }) (omega arith)
+with_labels_is k (x ∷ xs) bs f fits =
+    ap (λ g. with_labels k xs (record { scope = bind x (Label k f.next) bs; found = g })) (taken f (omega (arith, fits)))
+    ∙ with_labels_is k xs (bind x (Label k f.next) bs) (moved (f.next + 1) f) (omega (arith, fits))
     ∙ ap (λ n. record { scope = labels_in_scope k (f.next + 1) xs (bind x (Label k f.next) bs); found = moved n f }) (omega arith)
+
+pub labels_taken : (k : ℕ) (xs : List (List ℕ)) (bs : List Binding) (f : Found) → (f.next + 1) + length xs < 2 ^ 32 → with_labels k xs (record { scope = bs; found = takes f }) ≡ record { scope = labels_in_scope k (f.next + 1) xs bs; found = moved ((f.next + 1) + length xs) f }
+labels_taken k xs bs f fits = ap (λ g. with_labels k xs (record { scope = bs; found = g })) (taken f (omega (arith, fits))) ∙ with_labels_is k xs bs (moved (f.next + 1) f) fits
 
 -- where f.next is the number of the spot
 at_spot : {i : ℕ} {f g : Found} (told_at : Spot → List Point) → ((n : ℕ) → Tied (told_at (record { place = n; number = f.next })) i f g) → (s : Spot) → f.next ≡ s.number → Tied (told_at s) i f g
@@ -50,65 +58,65 @@ at_spot {i = i} {f = f} {g = g} told_at t s e = subst (λ m. Tied (told_at (reco
 
 -- VALOF
 pub valof_tied : (l : ℕ) (c : Action) → CTied c → CInside c → ETied (valof l c)
-valof_tied l c tc ic r h bs p s f e = at_spot (λ u. told r bs p u (valof l c)) here s e where
+valof_tied l c tc ic r h bs p s f e fits = at_spot (λ u. told r bs p u (valof l c)) here s e where
   here : (n : ℕ) → Tied (told r bs p (record { place = n; number = f.next }) (valof l c)) (numbers (valof l c)) f (evaluated r bs p (valof l c) f)
   here n =
       let q : Place = labelled f.next (valued p) in
       let u : Spot = onward 1 (1 + length (labels_of c)) (record { place = n; number = f.next }) in
       let g : Found = moved ((f.next + 1) + length (labels_of c)) f in
       let cs : List Binding = labels_in_scope p.procedure (f.next + 1) (labels_of c) bs in
-      let body : Tied (told_done cs q u c) (numbers_done c) g (done cs q c g) = tc cs q u g (omega arith) in
+      let body : Tied (told_done cs q u c) (numbers_done c) g (done cs q c g) = tc cs q u g (omega arith) (omega (arith, fits, e)) in
       let all : Tied (told_done cs q u c) ((1 + length (labels_of c)) + numbers_done c) f (done cs q c g) = behind_it (no_span n) (ic cs q u) (omega arith) (moved_tied (1 + length (labels_of c)) g.next f (omega arith)) body in
       subst (λ v. Tied (told r bs p (record { place = n; number = f.next }) (valof l c)) (numbers (valof l c)) f
       (let t : Stage = with_labels p.procedure (labels_of c) (record { scope = bs; found = takes v }) in reaches (p.depth + 1) (done t.scope (labelled v.next (valued p)) c t.found)))
       (sym (without_plain r bs p.procedure (valof l c) f h))
       (subst (λ (t : Stage). Tied (told r bs p (record { place = n; number = f.next }) (valof l c)) (numbers (valof l c)) f (reaches (p.depth + 1) (done t.scope q c t.found)))
-      (sym (with_labels_is p.procedure (labels_of c) bs (takes f)))
+      (sym (labels_taken p.procedure (labels_of c) bs f (omega (arith, fits, e))))
       (recount _ (behind_it (ic cs q u) (pushed_spans (u.place + symbols_done c) p 1) (omega arith) all (pushed_tied p 1 (done cs q c g))) (omega arith)))
 
 -- SWITCHON
 pub switch_tied : (l : ℕ) (a : Expression) (c : Action) → ETied a → EInside a → CTied c → CInside c → CTied (switch l a c)
-switch_tied l a c ta ia tc ic bs p s f e =
+switch_tied l a c ta ia tc ic bs p s f e fits =
     let g : Found = evaluated Value bs p a f in
-    let one : Tied (told Value bs p s a) (numbers a) f g = ta Value tt bs p s f e in
+    let one : Tied (told Value bs p s a) (numbers a) f g = ta Value tt bs p s f e (omega (arith, fits)) in
     let u : Spot = numbered 1 (behind a s) in
     let m : ℕ = (behind a s).number in
     let same : g.next ≡ m = omega (arith, one.next, e) in
-    let two : Tied (told_done bs (switching m p) u c) (numbers_done c) (takes g) (done bs (switching m p) c (takes g)) = tc bs (switching m p) u (takes g) (omega (arith, same)) in
+    let two : Tied (told_done bs (switching m p) u c) (numbers_done c) (takes g) (done bs (switching m p) c (takes g)) = tc bs (switching m p) u (takes g) (omega (arith, same, fits)) (omega (arith, fits)) in
     subst (λ n. Tied (told_done bs p s (switch l a c)) (numbers_done (switch l a c)) f (done bs (switching n p) c (takes g))) (sym same)
     (behind_it (ia Value bs p s) (ic bs (switching m p) u) (omega arith) one
-    (behind_it (no_span (s.place + symbols a)) (ic bs (switching m p) u) (omega arith) (moved_tied 1 (g.next + 1) g refl) two))
+    (behind_it (no_span (s.place + symbols a)) (ic bs (switching m p) u) (omega arith) (moved_tied 1 (takes g).next g (omega (arith, same, fits))) two))
 
 -- a block with declarations
 pub record DsTied (ds : Declarations) : Type 0 where
-  pub scope : (bs : List Binding) (p : Place) (s : Spot) (f : Found) → f.next ≡ s.number → (declared bs p ds f).scope ≡ scope_behind bs p s ds
-  pub place : (bs : List Binding) (p : Place) (s : Spot) (f : Found) → f.next ≡ s.number → (declared bs p ds f).place ≡ place_behind_all bs p s ds
-  pub found : (bs : List Binding) (p : Place) (s : Spot) (f : Found) → f.next ≡ s.number → Tied (told_declared bs p s ds) (numbers_declared ds) f (declared bs p ds f).found
+  pub scope : (bs : List Binding) (p : Place) (s : Spot) (f : Found) → f.next ≡ s.number → s.number + numbers_declared ds < 2 ^ 32 → (declared bs p ds f).scope ≡ scope_behind bs p s ds
+  pub place : (bs : List Binding) (p : Place) (s : Spot) (f : Found) → f.next ≡ s.number → s.number + numbers_declared ds < 2 ^ 32 → (declared bs p ds f).place ≡ place_behind_all bs p s ds
+  pub found : (bs : List Binding) (p : Place) (s : Spot) (f : Found) → f.next ≡ s.number → s.number + numbers_declared ds < 2 ^ 32 → Tied (told_declared bs p s ds) (numbers_declared ds) f (declared bs p ds f).found
 
 abbrev pub DsInside : Declarations → Type 0
 DsInside ds = (bs : List Binding) (p : Place) (s : Spot) → Spans s.place (s.place + symbols_declared ds) (told_declared bs p s ds)
 
 abbrev pub CsTied : Actions → Type 0
-CsTied cs = (bs : List Binding) (p : Place) (s : Spot) (f : Found) → f.next ≡ s.number → Tied (told_done_each bs p s cs) (numbers_done_each cs) f (each_done bs p cs f)
+CsTied cs = (bs : List Binding) (p : Place) (s : Spot) (f : Found) → f.next ≡ s.number → s.number + numbers_done_each cs < 2 ^ 32 → Tied (told_done_each bs p s cs) (numbers_done_each cs) f (each_done bs p cs f)
 
 abbrev pub CsInside : Actions → Type 0
 CsInside cs = (bs : List Binding) (p : Place) (s : Spot) → Spans s.place (s.place + symbols_done_each cs) (told_done_each bs p s cs)
 
 pub block_tied : (l : ℕ) (d : Declaration) (ds : Declarations) (cs : Actions) → DsTied (declare d ds) → DsInside (declare d ds) → CsTied cs → CsInside cs → CTied (block l (declare d ds) cs)
-block_tied l d ds cs td id tc ic bs p s f e =
+block_tied l d ds cs td id tc ic bs p s f e fits =
     let b : AfterDeclarations = declared bs p (declare d ds) f in
     let u : Spot = behind_declared (declare d ds) s in
-    let one : Tied (told_declared bs p s (declare d ds)) (numbers_declared (declare d ds)) f b.found = td.found bs p s f e in
+    let one : Tied (told_declared bs p s (declare d ds)) (numbers_declared (declare d ds)) f b.found = td.found bs p s f e (omega (arith, fits)) in
     let same : b.found.next ≡ u.number = omega (arith, one.next, e) in
     let q : Place = labelled u.number (place_behind_all bs p s (declare d ds)) in
     let xs : List Binding = labels_in_scope p.procedure (u.number + 1) (labels_of_each cs) (scope_behind bs p s (declare d ds)) in
     let v : Spot = numbered (1 + length (labels_of_each cs)) u in
     let g : Found = moved ((b.found.next + 1) + length (labels_of_each cs)) b.found in
-    let body : Tied (told_done_each xs q v cs) (numbers_done_each cs) g (each_done xs q cs g) = tc xs q v g (omega (arith, same)) in
+    let body : Tied (told_done_each xs q v cs) (numbers_done_each cs) g (each_done xs q cs g) = tc xs q v g (omega (arith, same)) (omega (arith, fits)) in
     let all : Tied (told_done bs p s (block l (declare d ds) cs)) (numbers_done (block l (declare d ds) cs)) f (each_done xs q cs g) =
     behind_it (id bs p s) (ic xs q v) (omega arith) one (behind_it (no_span (s.place + symbols_declared (declare d ds))) (ic xs q v) (omega arith) (moved_tied (1 + length (labels_of_each cs)) g.next b.found (omega arith)) body) in
     let T : Found → Type 0 = Tied (told_done bs p s (block l (declare d ds) cs)) (numbers_done (block l (declare d ds) cs)) f in
-    subst (λ (t : Stage). T (each_done t.scope (labelled b.found.next b.place) cs t.found)) (sym (with_labels_is p.procedure (labels_of_each cs) b.scope (takes b.found)))
-    (subst (λ zs. T (each_done (labels_in_scope p.procedure (b.found.next + 1) (labels_of_each cs) zs) (labelled b.found.next b.place) cs g)) (sym (td.scope bs p s f e))
-    (subst (λ z. T (each_done (labels_in_scope p.procedure (b.found.next + 1) (labels_of_each cs) (scope_behind bs p s (declare d ds))) (labelled b.found.next z) cs g)) (sym (td.place bs p s f e))
+    subst (λ (t : Stage). T (each_done t.scope (labelled b.found.next b.place) cs t.found)) (sym (labels_taken p.procedure (labels_of_each cs) b.scope b.found (omega (arith, same, fits))))
+    (subst (λ zs. T (each_done (labels_in_scope p.procedure (b.found.next + 1) (labels_of_each cs) zs) (labelled b.found.next b.place) cs g)) (sym (td.scope bs p s f e (omega (arith, fits))))
+    (subst (λ z. T (each_done (labels_in_scope p.procedure (b.found.next + 1) (labels_of_each cs) (scope_behind bs p s (declare d ds))) (labelled b.found.next z) cs g)) (sym (td.place bs p s f e (omega (arith, fits))))
     (subst (λ n. T (each_done (labels_in_scope p.procedure (n + 1) (labels_of_each cs) (scope_behind bs p s (declare d ds))) (labelled n (place_behind_all bs p s (declare d ds))) cs g)) (sym same) all)))

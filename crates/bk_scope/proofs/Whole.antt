@@ -1,14 +1,16 @@
 -- THE PASS AND WHAT IS TOLD, for each node and for a section.
-use Rattle.std.proofs.Common.{◌≡◌, ◌+◌, None, List, [], ◌∷◌, refl, sym, ◌∙◌}
+use Rattle.std.proofs.Common.{◌≡◌, ◌+◌, ◌^◌, ◌<◌, None, List, [], ◌∷◌, refl, sym, ◌∙◌, arith}
 use Rattle.std.proofs.lemmas.Option.{none-some}
 use Rattle.bk_tree.specs.declared.tree.Sort.TheVariants as sort
 use Rattle.bk_tree.specs.Tree.{Expression, Expressions, Action, Actions, Declaration, Declarations, Definition, Definitions, Starts, name, number, text, truth, query, parens, unary, binary, choice, apply, valof, table, none, more, empty, assign, call, goto, label, case_of, default, when, test, while, for_loop, switch, result, simple, block, repeat, repeat_while, no_actions, also, constants, definitions, no_declarations, declare, routine, function, variables, no_definitions, define, no_starts, value, vector}
+use Rattle.bk_tree.specs.Limits.{Within}
 use Rattle.bk_scope.specs.Names.{nothing, found_in}
 use Rattle.bk_scope.specs.Places.{outermost}
 use Rattle.bk_scope.specs.Spots.{beginning, numbers_declared}
 use Rattle.bk_scope.specs.Points.{Fault, first_told}
 use Rattle.bk_scope.specs.Faults.{told_of, faults, meanings, words}
 use Rattle.bk_scope.proofs.Tied.{Tied}
+use Rattle.bk_scope.proofs.Counting.{few_numbers}
 use Rattle.bk_scope.proofs.Operators.{EsTied, CTied}
 use Rattle.bk_scope.proofs.Scopes.{DsTied, CsTied, switch_tied, block_tied}
 use Rattle.bk_scope.proofs.Lets.{OneTied, AllTied, routine_one, function_one, none_tied, define_tied}
@@ -88,26 +90,27 @@ mutual
   starts_tied (value e is) = value_start_tied e is ((expression_tied e).plain) (starts_tied is)
   starts_tied (vector l e is) = vector_start_tied l e is (starts_tied is)
 
--- A SECTION: the pass finds the first of the faults, and what the names mean, and the words of the constants
-pub section_tied : (ds : Declarations) → Tied (told_of ds) (numbers_declared ds) nothing (found_in ds)
-section_tied ds = (declarations_tied ds).found [] outermost beginning nothing refl
+-- a section within the limits has numbers enough
+pub numbers_fit : (ds : Declarations) → Within ds → 1 + numbers_declared ds < 2 ^ 32
+numbers_fit ds h = omega (arith, few_numbers ds h)
 
-pub first_found : (ds : Declarations) → (found_in ds).first ≡ first_told (faults ds)
-first_found ds = (section_tied ds).first
+-- A SECTION: the pass finds the first of the faults, and what the names mean, and the words of the constants
+pub section_tied : (ds : Declarations) → Within ds → Tied (told_of ds) (numbers_declared ds) nothing (found_in ds)
+section_tied ds h = (declarations_tied ds).found [] outermost beginning nothing refl (numbers_fit ds h)
+
+pub first_found : (ds : Declarations) → Within ds → (found_in ds).first ≡ first_told (faults ds)
+first_found ds h = (section_tied ds h).first
 
 -- where the pass finds none, there is none
 none_told : (fs : List Fault) → first_told fs ≡ None → fs ≡ []
 none_told [] h = refl
 none_told (f ∷ fs) h = absurd (none-some _ (sym h))
 
-pub none_found : (ds : Declarations) → (found_in ds).first ≡ None → faults ds ≡ []
-none_found ds h = none_told (faults ds) (sym (first_found ds) ∙ h)
+pub none_found : (ds : Declarations) → Within ds → (found_in ds).first ≡ None → faults ds ≡ []
+none_found ds h e = none_told (faults ds) (sym (first_found ds h) ∙ e)
 
-pub meanings_found : (ds : Declarations) → (found_in ds).meanings ≡ meanings ds
-meanings_found ds = (section_tied ds).meanings
+pub meanings_found : (ds : Declarations) → Within ds → (found_in ds).meanings ≡ meanings ds
+meanings_found ds h = (section_tied ds h).meanings
 
-pub words_found : (ds : Declarations) → (found_in ds).words ≡ words ds
-words_found ds = (section_tied ds).words
-
-pub numbers_found : (ds : Declarations) → (found_in ds).next ≡ 1 + numbers_declared ds
-numbers_found ds = (section_tied ds).next
+pub words_found : (ds : Declarations) → Within ds → (found_in ds).words ≡ words ds
+words_found ds h = (section_tied ds h).words

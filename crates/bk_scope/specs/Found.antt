@@ -1,5 +1,5 @@
 -- What is found as one goes through a section in the source's order.
-use Rattle.std.specs.Prelude.{ℕ, ◌+◌, ◌==◌, max, Bool, true, false, cond, Option, Some, None, List, [], ◌∷◌, ◌++◌}
+use Rattle.std.specs.Prelude.{ℕ, ◌+◌, ◌%◌, ◌^◌, ◌==◌, max, Bool, true, false, cond, Option, Some, None, List, [], ◌∷◌, ◌++◌}
 use Rattle.std.specs.Str.{bytes_eq}
 use Rattle.bk_scope.specs.declared.bound.Bound.{Bound}
 use Rattle.bk_scope.specs.Wrong.{Breach, Wrong}
@@ -67,9 +67,9 @@ abbrev pub holds : Option ℕ → Found → Found
 holds None f = f
 holds (Some w) f = record { first = f.first; claims = f.claims; meanings = f.meanings; words = f.words ++ (w ∷ []); next = f.next; deepest = f.deepest }
 
--- the number behind this one
+-- The number behind this one. Numbers are words; a section within the limits does not come to the last of them.
 abbrev pub number_behind : ℕ → ℕ
-number_behind n = n + 1
+number_behind n = (n + 1) % 2 ^ 32
 
 -- takes a number
 abbrev pub takes : Found → Found

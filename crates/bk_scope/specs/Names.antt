@@ -307,10 +307,13 @@ abbrev mutual
       let b : AfterDeclarations = one_declared bs p d f in
       declared b.scope b.place ds b.found
 
+  -- a declaration of nothing takes no number
   pub one_declared : List Binding → Place → Declaration → Found → AfterDeclarations
+  one_declared bs p (constants l w no_items) f = at p (record { scope = bs; found = f })
   one_declared bs p (constants l s.Manifest is) f = at p (manifests f.next p.procedure is (record { scope = bs; found = takes f }))
   one_declared bs p (constants l s.Static is) f = at p (statics bs f.next p.procedure is (record { scope = bs; found = takes f }))
   one_declared bs p (constants l s.Global is) f = at p (globals bs f.next p.procedure is (record { scope = bs; found = takes f }))
+  one_declared bs p (definitions l no_definitions) f = at p (record { scope = bs; found = f })
   one_declared bs p (definitions l ds) f =
       let t : Stage = with_procedures ds (record { scope = bs; found = takes f }) in
       let d : Defined = defined f.next t.scope ds (record { fresh = []; place = p; found = t.found }) in

@@ -15,7 +15,7 @@ use std::alloc::AllocError;
 fn enter_label<'a>(walk: &mut Walk<'a>, procedure: u32, letters: &'a [u8]) -> Result<(), AllocError>
     ensures { OnOk result (walk.new ≡ with_labels procedure (letters.now ∷ []) walk.old) }
 {
-    let number = walk.findings.takes()?;
+    let number = walk.findings.takes();
     walk.table.bind(letters, Bound::Label(procedure, number))
 }
 
@@ -100,7 +100,7 @@ pub fn enter_formals<'a>(
 fn enter_procedure<'a>(walk: &mut Walk<'a>, letters: &'a [u8]) -> Result<(), AllocError>
     ensures { OnOk result (walk.new ≡ with_procedure letters.now walk.old) }
 {
-    let number = walk.findings.takes()?;
+    let number = walk.findings.takes();
     if let Some(Bound::Global(_)) = walk.table.find(letters) {
         return Ok(());
     }

@@ -1,5 +1,5 @@
 //! What is found as one goes through a section.
-ghost use Rattle.std.specs.Prelude.{◌≡◌, ◌<◌, ◌+◌, ◌-◌, ◌^◌, None, Some, IfOk, IfErr, OnOk};
+ghost use Rattle.std.specs.Prelude.{◌≡◌, ◌+◌, None, Some, IfOk, IfErr, OnOk};
 ghost use Rattle.bk_tree.specs.Tree.{expression};
 ghost use Rattle.bk_scope.specs.Wrong.{text_of};
 ghost use Rattle.bk_scope.specs.FirstFault.{first_fault, wrong_of, misnamed, breach_of};
@@ -175,20 +175,15 @@ impl<'a> Findings<'a> {
         Ok(())
     }
 
-    /// Takes the number that is next. More than 4294967295 numbers would need more memory than there is.
-    pub fn takes(&mut self) -> Result<u32, AllocError>
-        ensures number { IfOk result (λ number. number ≡ self.old.next) }
-        ensures taken { OnOk result (self.new ≡ takes self.old) }
-        ensures refused { IfErr result (λ error. self.old.next ≡ 2 ^ 32 - 1) }
+    /// Takes the number that is next. A section within the limits does not come to the last number.
+    #[inline]
+    pub fn takes(&mut self) -> u32
+        ensures number { result ≡ self.old.next }
+        ensures taken { self.new ≡ takes self.old }
     {
         let number = self.next;
-        match number.checked_add(1) {
-            None => Err(AllocError),
-            Some(next) => {
-                self.next = next;
-                Ok(number)
-            }
-        }
+        self.next = number.wrapping_add(1);
+        number
     }
 
     /// The frame is this deep, and so many words deeper.
@@ -243,7 +238,6 @@ impl<'a> Findings<'a> {
         ensures right { OnOk result (self.entry.first ≡ None) }
         ensures known { IfOk result (λ known. (known.meanings.items ≡ self.entry.meanings) × (known.words.items ≡ self.entry.words)) }
         ensures wrong { IfErr result (λ fault. self.entry.first ≡ Some (breach_of fault)) }
-        ensures fits { self.entry.next < 2 ^ 32 }
     {
         match self.first.fault() {
             None => Ok(Known {

@@ -25,6 +25,7 @@ use bk_tree::{Expr, Name, Simple};
 use std::alloc::AllocError;
 
 /// A label, in the list of this number, and what it means.
+#[inline]
 pub fn label<'a>(
     findings: &mut Findings<'a>,
     table: &Table<'a>,
@@ -39,6 +40,7 @@ pub fn label<'a>(
 }
 
 /// A CASE or a DEFAULT is wrong where it stands in no SWITCHON.
+#[inline]
 pub fn in_switch(findings: &mut Findings, switch: Option<u32>, line: Line)
     ensures { findings.new ≡ switched switch line findings.old }
 {
@@ -48,6 +50,7 @@ pub fn in_switch(findings: &mut Findings, switch: Option<u32>, line: Line)
 }
 
 /// What stands before the command of a CASE.
+#[inline]
 pub fn case<'a>(
     walk: &mut Walk<'a>,
     place: Place,
@@ -62,6 +65,7 @@ pub fn case<'a>(
 }
 
 /// What stands before the command of a DEFAULT.
+#[inline]
 pub fn default<'a>(
     findings: &mut Findings<'a>,
     switch: Option<u32>,
@@ -74,6 +78,7 @@ pub fn default<'a>(
 }
 
 /// The step of a FOR, if it has one; the words of its frame are reached.
+#[inline]
 pub fn step<'a>(
     walk: &mut Walk<'a>,
     place: Place,
@@ -89,6 +94,7 @@ pub fn step<'a>(
 }
 
 /// A RESULTIS is wrong where it stands in no VALOF.
+#[inline]
 pub fn in_valof(findings: &mut Findings, place: Place, line: Line)
     ensures { findings.new ≡ cond place.in_valof findings.old (breaks line no_result_or_return findings.old) }
 {
@@ -98,6 +104,7 @@ pub fn in_valof(findings: &mut Findings, place: Place, line: Line)
 }
 
 /// A CASE of this word, if its constant has one.
+#[inline]
 pub fn choose<'a>(
     findings: &mut Findings<'a>,
     switch: Option<u32>,
@@ -117,6 +124,7 @@ pub fn choose<'a>(
 }
 
 /// A DEFAULT.
+#[inline]
 pub fn choose_default<'a>(
     findings: &mut Findings<'a>,
     switch: Option<u32>,
@@ -175,6 +183,7 @@ pub fn vector<'a>(walk: &mut Walk<'a>, procedure: u32, expr: &'a Expr) -> Result
 }
 
 /// The global that a procedure's name sets, and its formals, which are the list of this number.
+#[inline]
 fn formals_of<'a>(
     findings: &mut Findings<'a>,
     list: u32,
@@ -190,6 +199,7 @@ fn formals_of<'a>(
 }
 
 /// A procedure's name and its formals, which are the list of this number: its frame begins.
+#[inline]
 pub fn head<'a>(
     walk: &mut Walk<'a>,
     list: u32,
@@ -220,6 +230,7 @@ pub struct Procedure {
 }
 
 /// A procedure of the list of this number begins: its name is listed there, and its formals come into scope.
+#[inline]
 pub fn begin<'a>(
     walk: &mut Walk<'a>,
     list: u32,
@@ -235,7 +246,7 @@ pub fn begin<'a>(
 {
     let mark = walk.table.mark();
     walk.findings.lists(list, line, name)?;
-    let number = walk.findings.takes()?;
+    let number = walk.findings.takes();
     let opened = head(walk, number, line, name, formals)?;
     enter_formals(walk, number, formals)?;
     Ok(Procedure {
@@ -246,6 +257,7 @@ pub fn begin<'a>(
 }
 
 /// The procedure whose name is on this line ends: its formals are no longer in scope.
+#[inline]
 pub fn end(walk: &mut Walk, procedure: Procedure, line: Line)
     requires { procedure.mark ≤ length walk.old.scope }
     ensures { walk.new ≡ record { scope = drop (length walk.old.scope - procedure.mark) walk.old.scope; found = behind (first_fault procedure.opened.first) procedure.opened.deepest (frame_wrong line walk.old.found) walk.old.found } }

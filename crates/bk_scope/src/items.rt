@@ -117,6 +117,7 @@ fn fresh_statics<'a>(
 }
 
 /// What the name of an item of STATIC will mean.
+#[inline]
 fn static_of<'a>(
     findings: &mut Findings<'a>,
     table: &Table<'a>,
@@ -131,7 +132,7 @@ fn static_of<'a>(
 {
     findings.lists(list, line, name)?;
     let _word = findings.constant(table, procedure, expr)?;
-    let bound = Bound::Static(findings.takes()?);
+    let bound = Bound::Static(findings.takes());
     findings.means(bound)?;
     Ok(bound)
 }
@@ -156,6 +157,7 @@ fn fresh_globals<'a>(
 }
 
 /// What the name of an item of GLOBAL will mean.
+#[inline]
 fn named_global<'a>(
     findings: &mut Findings<'a>,
     table: &Table<'a>,

@@ -200,7 +200,7 @@ pub fn act<'a>(walk: &mut Walk<'a>, place: Place, command: &'a Command) -> Resul
         }
         Command::SwitchOn(_, expr, body) => {
             evaluate(walk, &Role::Value, place, expr)?;
-            let number = walk.findings.takes()?;
+            let number = walk.findings.takes();
             act(walk, place.switching(number), body)
         }
         Command::ResultIs(line, expr) => {
@@ -232,12 +232,13 @@ pub fn act<'a>(walk: &mut Walk<'a>, place: Place, command: &'a Command) -> Resul
 
 /// A command whose labels come into scope, and are left again behind it.
 #[cycle(nodes)]
+#[inline]
 fn act_inside<'a>(walk: &mut Walk<'a>, place: Place, command: &'a Command) -> Result<(), AllocError>
     ensures { let t : Stage = with_labels place.procedure (labels_of (action command.now)) (record { scope = walk.old.scope; found = takes walk.old.found }) in
         OnOk result (walk.new ≡ record { scope = walk.old.scope; found = done t.scope (labelled walk.old.found.next place) (action command.now) t.found }) }
 {
     let mark = walk.table.mark();
-    let labels = walk.findings.takes()?;
+    let labels = walk.findings.takes();
     enter_labels(walk, place.procedure, command)?;
     act(walk, place.labelled(labels), command)?;
     walk.table.leave(mark);
@@ -246,6 +247,7 @@ fn act_inside<'a>(walk: &mut Walk<'a>, place: Place, command: &'a Command) -> Re
 
 /// The command of a FOR, with its variable in scope.
 #[cycle(nodes)]
+#[inline]
 fn act_for<'a>(
     walk: &mut Walk<'a>,
     place: Place,
@@ -273,7 +275,7 @@ fn act_each_labelled<'a>(
     ensures { let t : Stage = with_labels procedure (labels_of_each (actions_in commands.now)) (record { scope = walk.old.scope; found = takes walk.old.found }) in
         OnOk result (walk.new ≡ record { scope = t.scope; found = each_done t.scope (labelled walk.old.found.next place) (actions_in commands.now) t.found }) }
 {
-    let labels = walk.findings.takes()?;
+    let labels = walk.findings.takes();
     enter_labels_of_each(walk, procedure, commands)?;
     act_each(walk, place.labelled(labels), commands)
 }
@@ -314,9 +316,12 @@ pub fn declare_each<'a>(
 fn declare<'a>(walk: &mut Walk<'a>, place: Place, decl: &'a Decl) -> Result<Place, AllocError>
     ensures { IfOk result (λ behind. (record { scope = walk.new.scope; place = behind; found = walk.new.found }) ≡ one_declared walk.old.scope place (declaration decl.now) walk.old.found) }
 {
-    let list = walk.findings.takes()?;
     match decl {
         Decl::Constants(_, sort, items) => {
+            if items.is_empty() {
+                return Ok(place);
+            }
+            let list = walk.findings.takes();
             match sort {
                 Sort::Manifest => manifests(walk, list, place.procedure, items)?,
                 Sort::Static => statics(walk, list, place.procedure, items)?,
@@ -325,6 +330,10 @@ fn declare<'a>(walk: &mut Walk<'a>, place: Place, decl: &'a Decl) -> Result<Plac
             Ok(place)
         }
         Decl::Let(_, defs) => {
+            if defs.is_empty() {
+                return Ok(place);
+            }
+            let list = walk.findings.takes();
             enter_procedures(walk, defs)?;
             let mut fresh = Fresh::new(walk.alloc);
             let behind = define_each(walk, list, place, defs, &mut fresh)?;

@@ -15,7 +15,7 @@ use std::alloc::Global;
 
 /// What the names of a section mean and what its constants are, or the first of its faults: by place, and at one place by
 /// the number of the kind.
-#[tactic(auto, using(crate::proofs::Whole::first_found, crate::proofs::Whole::none_found, crate::proofs::Whole::meanings_found, crate::proofs::Whole::words_found, crate::proofs::Whole::numbers_found))]
+#[tactic(auto, using(crate::proofs::Whole::first_found, crate::proofs::Whole::none_found, crate::proofs::Whole::meanings_found, crate::proofs::Whole::words_found, crate::proofs::Whole::numbers_fit))]
 pub fn resolve(alloc: Global, section: &Section) -> Result<Resolved<'_>, Refused<SourceFault>>
     // What is answered is what the section says, or the first of its faults.
     ensures resolves { Resolves result (declarations_of section.now) }

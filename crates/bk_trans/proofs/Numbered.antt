@@ -329,6 +329,12 @@ items_numbered m bs s no_items n = omega arith
 items_numbered m bs s (item l x e is) n =
     let h = items_numbered m bs (spots.numbered 1 (behind_constant e (past 1 s))) is (n + 1) in let o = own m s.number in omega (arith, h, o)
 
+-- a LET of nothing takes no number, and has no parts
+count_let : (m : ℕ) (bs : List Binding) (p : Place) (s : Spot) (l : ℕ) (ds : Definitions) (d n : ℕ) → parts_numbered m (parts_of_declaration d n (declaration_named bs p s (definitions l ds))) + beyond m (s.number + ((1 + procedures_in ds) + numbers_defined ds)) ≤ beyond m s.number
+    → parts_numbered m (parts_of_declaration d n (declaration_named bs p s (definitions l ds))) + beyond m (s.number + numbers_one_declared (definitions l ds)) ≤ beyond m s.number
+count_let m bs p s l no_definitions d n h = omega arith
+count_let m bs p s l (define x xs) d n h = h
+
 -- EACH NODE: the numbers of its targets are those of labels around, and others from its own place on, each once
 mutual
   count_term : (m : ℕ) (bs : List Binding) (p : Place) (s : Spot) (e : Expression) (d n : ℕ) → Quiet (told Value bs p s e) → parts_numbered m (parts d n (term_named bs p s e)) + beyond m (s.number + numbers e) ≤ beyond m s.number
@@ -554,13 +560,14 @@ mutual
 
   count_one_declared : (m : ℕ) (bs : List Binding) (p : Place) (s : Spot) (x : Declaration) (d n : ℕ) → Quiet (told_one_declared bs p s x) → parts_numbered m (parts_of_declaration d n (declaration_named bs p s x)) + beyond m (s.number + numbers_one_declared x) ≤ beyond m s.number
   count_one_declared m bs p s (constants l sort.Manifest is) d n f = omega arith
-  count_one_declared m bs p s (constants l sort.Static is) d n f = let h = items_numbered m bs (spots.numbered 1 s) is n in omega (arith, h)
+  count_one_declared m bs p s (constants l sort.Static no_items) d n f = omega arith
+  count_one_declared m bs p s (constants l sort.Static (item i x e is)) d n f = let h = items_numbered m bs (spots.numbered 1 s) (item i x e is) n in omega (arith, h)
   count_one_declared m bs p s (constants l sort.Global is) d n f = omega arith
   count_one_declared m bs p s (definitions l ds) d n f =
       let cs = procedures_in_scope (s.number + 1) ds bs in
       let v : Spot = spots.numbered (1 + procedures_in ds) s in
       let h = count_defined m s.number cs p v ds d n f in
-      let i = procedures_numbered m (s.number + 1) ds bs (procedures_distinct s.number cs p v ds f) in omega (arith, h, i)
+      let i = procedures_numbered m (s.number + 1) ds bs (procedures_distinct s.number cs p v ds f) in count_let m bs p s l ds d n (omega (arith, h, i))
 
   count_defined : (m : ℕ) (k : ℕ) (bs : List Binding) (p : Place) (s : Spot) (ds : Definitions) (d n : ℕ) → Quiet (told_defined k bs p s ds) → parts_numbered m (parts_of_definitions d n (definitions_named bs p s ds)) + beyond m (s.number + numbers_defined ds) ≤ beyond m s.number + own_procedures m bs ds
   count_defined m k bs p s no_definitions d n f = omega arith

@@ -9,13 +9,13 @@ use Rattle.bk_scope.specs.Found.{takes}
 use Rattle.bk_scope.specs.Entering.{labels_of, with_labels, with_formals, with_procedures, Stage, labels_of_each}
 use Rattle.bk_scope.specs.Names.{AfterDeclarations, Defined, evaluated, each_evaluated, done, each_done, declared, defined, variables_of, all_listed, listed, manifests, statics, globals, without_word}
 use Rattle.bk_scope.proofs.Leaving.{Above, back, longer, formals_above, same, declared_above}
-use Rattle.bk_scope.proofs.Definitions.{at, no_variables, let_behind, variables_behind}
+use Rattle.bk_scope.proofs.Definitions.{at, no_variables, no_items_behind, no_definitions_behind, manifests_behind, statics_behind, globals_behind, let_behind, variables_behind}
 use Rattle.bk_scope.proofs.nodes.+nodes.Goals as goal
 use Rattle.std.specs.Vec.{vec_len}
 use Rattle.bk_tree.specs.Parts.{size}
 use Rattle.bk_tree.proofs.Counts.{is_zero, is_more}
 use Rattle.bk_scope.specs.declared.role.Role.TheVariants.{Value}
-use Rattle.bk_scope.specs.Places.{deeper, labelled}
+use Rattle.bk_scope.specs.Places.{deeper}
 use Rattle.bk_scope.proofs.Calls.{size_is_length, block_without_declarations, block_with_declarations, stage_in, block_behind, stage_by_parts}
 use Rattle.bk_scope.proofs.Inside.{longer_inside, back_outside}
 
@@ -23,7 +23,7 @@ pub act_inside-leave-requires : goal.act_inside-leave-requires
 act_inside-leave-requires t c =
     let a = action c.args.command.now in
     let around = c.walk.inside.table in
-    let at : Stage = record { scope = around; found = c.takes.new.self } in
+    let at : Stage = record { scope = around; found = c.takes-labels.new.self } in
     let entered : c.enter_labels.new.walk ≡ with_labels c.args.place.procedure (labels_of a) at = first_of (search rules, grind (arith, common_steps)) in
     let through : c.act.new.walk ≡ record { scope = c.enter_labels.new.walk.scope; found = done c.enter_labels.new.walk.scope c.labelled.result a c.enter_labels.new.walk.found } = first_of (search rules, grind (arith, common_steps)) in
     let kept : c.walk-2.inside.table ≡ c.enter_labels.new.walk.scope = ap (λ s. s.scope) c.walk-2.view_is ∙ ap (λ s. s.scope) through in
@@ -33,7 +33,7 @@ pub act_inside-returns : goal.act_inside-returns
 act_inside-returns t c =
     let a = action c.args.command.now in
     let around = c.walk.inside.table in
-    let at : Stage = record { scope = around; found = c.takes.new.self } in
+    let at : Stage = record { scope = around; found = c.takes-labels.new.self } in
     let entered : c.enter_labels.new.walk ≡ with_labels c.args.place.procedure (labels_of a) at = first_of (search rules, grind (arith, common_steps)) in
     let through : c.act.new.walk ≡ record { scope = c.enter_labels.new.walk.scope; found = done c.enter_labels.new.walk.scope c.labelled.result a c.enter_labels.new.walk.found } = first_of (search rules, grind (arith, common_steps)) in
     let kept : c.walk-2.inside.table ≡ c.enter_labels.new.walk.scope = ap (λ s. s.scope) c.walk-2.view_is ∙ ap (λ s. s.scope) through in
@@ -156,30 +156,48 @@ act-returns-then-is_empty t c =
     in
     rw bare (first_of (search rules, grind (arith, common_steps)))
 
+pub declare-returns-then-is_empty : goal.declare-returns-then-is_empty
+declare-returns-then-is_empty t c =
+    let d = c.in-Constants in
+    let none : vec_len d.items ≡ 0 = is_zero _ _ c.is_empty.ensures c.if-is_empty.true in
+    let whole : declaration c.args.decl.now ≡ constants d.field-0 d.sort (items_in d.items.items) = cc (Constants_is d.field-0 d.sort d.items) in
+    rw whole (no_items_behind c.args.walk.now.scope c.args.place c.args.walk.now.found d.field-0 d.sort d.items.items (omega (arith, none)))
+
+pub declare-returns-then-is_empty-2 : goal.declare-returns-then-is_empty-2
+declare-returns-then-is_empty-2 t c =
+    let d = c.in-Let in
+    let none : vec_len d.defs ≡ 0 = is_zero _ _ c.is_empty-in-Let.ensures c.if-is_empty-2.true in
+    let whole : declaration c.args.decl.now ≡ definitions d.field-0 (definitions_in d.defs.items) = cc (Let_is d.field-0 d.defs) in
+    rw whole (no_definitions_behind c.args.walk.now.scope c.args.place c.args.walk.now.found d.field-0 d.defs.items (omega (arith, none)))
+
 pub declare-returns-in_ok-manifests-in-Manifest : goal.declare-returns-in_ok-manifests-in-Manifest
 declare-returns-in_ok-manifests-in-Manifest t c =
     let d = c.in-Constants in
+    let some : 0 < vec_len d.items = is_more _ _ c.is_empty.ensures c.if-is_empty.false in
     let whole : declaration c.args.decl.now ≡ constants d.field-0 s.Manifest (items_in d.items.items) = cc (Constants_is d.field-0 d.sort d.items) in
     let told : c.manifests.new.walk ≡ manifests c.args.walk.now.found.next c.args.place.procedure (items_in d.items.items) (record { scope = c.args.walk.now.scope; found = takes c.args.walk.now.found }) = first_of (search rules, grind (arith, common_steps)) in
-    rw whole (ap (at c.args.place) told)
+    rw whole (ap (at c.args.place) told ∙ manifests_behind c.args.walk.now.scope c.args.place c.args.walk.now.found d.field-0 d.items.items (omega (arith, some)))
 
 pub declare-returns-in_ok-statics-in-Static : goal.declare-returns-in_ok-statics-in-Static
 declare-returns-in_ok-statics-in-Static t c =
     let d = c.in-Constants in
+    let some : 0 < vec_len d.items = is_more _ _ c.is_empty.ensures c.if-is_empty.false in
     let whole : declaration c.args.decl.now ≡ constants d.field-0 s.Static (items_in d.items.items) = cc (Constants_is d.field-0 d.sort d.items) in
     let told : c.statics.new.walk ≡ statics c.args.walk.now.scope c.args.walk.now.found.next c.args.place.procedure (items_in d.items.items) (record { scope = c.args.walk.now.scope; found = takes c.args.walk.now.found }) = first_of (search rules, grind (arith, common_steps)) in
-    rw whole (ap (at c.args.place) told)
+    rw whole (ap (at c.args.place) told ∙ statics_behind c.args.walk.now.scope c.args.place c.args.walk.now.found d.field-0 d.items.items (omega (arith, some)))
 
 pub declare-returns-in_ok-globals-in-Global : goal.declare-returns-in_ok-globals-in-Global
 declare-returns-in_ok-globals-in-Global t c =
     let d = c.in-Constants in
+    let some : 0 < vec_len d.items = is_more _ _ c.is_empty.ensures c.if-is_empty.false in
     let whole : declaration c.args.decl.now ≡ constants d.field-0 s.Global (items_in d.items.items) = cc (Constants_is d.field-0 d.sort d.items) in
     let told : c.globals.new.walk ≡ globals c.args.walk.now.scope c.args.walk.now.found.next c.args.place.procedure (items_in d.items.items) (record { scope = c.args.walk.now.scope; found = takes c.args.walk.now.found }) = first_of (search rules, grind (arith, common_steps)) in
-    rw whole (ap (at c.args.place) told)
+    rw whole (ap (at c.args.place) told ∙ globals_behind c.args.walk.now.scope c.args.place c.args.walk.now.found d.field-0 d.items.items (omega (arith, some)))
 
 pub declare-returns-in_ok-enter-in-Let : goal.declare-returns-in_ok-enter-in-Let
 declare-returns-in_ok-enter-in-Let t c =
     let d = c.in-Let in
+    let some : 0 < vec_len d.defs = is_more _ _ c.is_empty-in-Let.ensures c.if-is_empty-2.false in
     let ds = definitions_in d.defs.items in
     let bs = c.args.walk.now.scope in
     let f = c.args.walk.now.found in
@@ -188,8 +206,8 @@ declare-returns-in_ok-enter-in-Let t c =
     let entered : t ≡ with_procedures ds (record { scope = bs; found = takes f }) = first_of (search rules, grind (arith, common_steps)) in
     let made : ◌≡◌ {A = Defined} (record { fresh = c.define_each.new.fresh; place = c.in_ok-behind-in-Let.behind; found = c.define_each.new.walk.found }) (defined f.next t.scope ds (record { fresh = []; place = c.args.place; found = t.found })) = first_of (search rules, grind (arith, common_steps)) in
     let scope : c.enter.new.table ≡ bind_all c.define_each.new.fresh t.scope = first_of (search rules, grind (arith, common_steps)) in
-    let found : c.walk-in-Let-2.inside.findings ≡ c.define_each.new.walk.found = first_of (search rules, grind (arith, common_steps)) in
-    rw whole (let_behind bs c.args.place f d.field-0 ds t _ _ _ _ entered made scope refl found)
+    let found : c.walk-in-Let-3.inside.findings ≡ c.define_each.new.walk.found = first_of (search rules, grind (arith, common_steps)) in
+    rw whole (let_behind bs c.args.place f d.field-0 d.defs.items t _ _ _ _ (omega (arith, some)) entered made scope refl found)
 
 pub define-returns-in_ok-list_names-in-Variables-clause-found :
     goal.define-returns-in_ok-list_names-in-Variables-clause-found
