@@ -23,8 +23,8 @@ impl<O: ByteOut> ByLines<O> {
         ByLines { out, is_shown }
     }
 
-    /// A line is complete: what is held is passed on where a terminal shows it. It is a function of its own, so that no time goes
-    /// to it at other bytes.
+    /// A line that a terminal shows is complete: what is held is passed on. It is a function of its own, so that no time goes to it
+    /// at other bytes.
     #[cold]
     #[inline(never)]
     fn end_line(&mut self) -> Result<(), Failed>
@@ -33,13 +33,10 @@ impl<O: ByteOut> ByLines<O> {
         ensures failed { OnErr result (O.faults self.new.out ≡ 1) }
         ensures failed_again { O.faults self.old.out ≡ 1 → (O.faults self.new.out ≡ 1) × Keeps (O.passed self.old.out) (O.passed self.new.out) }
     {
-        if self.is_shown {
-            return self.out.flush();
-        }
-        Ok(())
+        self.out.flush()
     }
 
-    /// The same where this byte is a line feed.
+    /// The same where this byte is a line feed that a terminal shows.
     #[inline(always)]
     fn before(&mut self, byte: u8) -> Result<(), Failed>
         ensures keeps { Keeps (O.taken self.old.out) (O.taken self.new.out) }
@@ -47,7 +44,7 @@ impl<O: ByteOut> ByLines<O> {
         ensures failed { OnErr result (O.faults self.new.out ≡ 1) }
         ensures failed_again { O.faults self.old.out ≡ 1 → (O.faults self.new.out ≡ 1) × Keeps (O.passed self.old.out) (O.passed self.new.out) }
     {
-        if byte == b'\n' {
+        if byte == b'\n' && self.is_shown {
             return self.end_line();
         }
         Ok(())

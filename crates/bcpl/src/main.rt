@@ -7,15 +7,15 @@ mod opened;
 use bk_base::{ByteOut, Reader512, Writer512};
 use bk_kit::{LineFault, Order, order, refuse, serve};
 use by_lines::ByLines;
-use opened::Opened;
-use std::io::IsTerminal;
+use opened::{Opened, open};
+use std::io::{ErrorKind, IsTerminal};
 use std::process::ExitCode;
-use std::{env, fs};
+use std::{env, io};
 
 /// Does what is ordered, with these streams for output and lines, and answers the status.
 fn done<O: ByteOut, E: ByteOut>(rt: &HostRuntime, order: &Order, out: &mut O, err: &mut E) -> u8 {
     let opened = match order.file() {
-        Some(name) => fs::open(rt, name).ok(),
+        Some(name) => open(rt, name).ok(),
         None => None,
     };
     let mut file = Reader512::new(Opened::new(opened));
@@ -23,10 +23,19 @@ fn done<O: ByteOut, E: ByteOut>(rt: &HostRuntime, order: &Order, out: &mut O, er
     serve(rt.alloc(), order, &mut file, &mut input, out, err)
 }
 
+/// What is told where the words of the command line can't be had: memory was refused, or one of them is not UTF-8.
+fn unread(error: &io::Error) -> LineFault {
+    match error.kind() {
+        ErrorKind::OutOfMemory => LineFault::Memory,
+        _ => LineFault::Bad,
+    }
+}
+
 fn main(rt: HostRuntime) -> ExitCode {
     let mut err = Writer512::new(rt.stderr());
-    let Ok(args) = env::args(&rt) else {
-        return ExitCode::from(refuse(&LineFault::Memory, &mut err));
+    let args = match env::args(&rt) {
+        Ok(args) => args,
+        Err(error) => return ExitCode::from(refuse(&unread(&error), &mut err)),
     };
     let Ok(words) = args.collect::<Vec<String>>(rt.alloc()) else {
         return ExitCode::from(refuse(&LineFault::Memory, &mut err));

@@ -1,6 +1,21 @@
 //! FILE, whether it could be opened or not.
+use std::fs::File;
 use std::io;
 use std::io::{ErrorKind, Read};
+use std::os::fd::AsRawFd;
+
+/// The number of standard error, the last of the standard streams.
+const LAST_STREAM: i32 = 2;
+
+/// Opens FILE. Where a standard stream is closed, the system gives its number to the file that is opened next: FILE takes
+/// another, so that it is not read as the program's input.
+pub fn open(rt: &HostRuntime, name: &str) -> io::Result<File> {
+    let file = File::open(rt, name)?;
+    if file.as_raw_fd() <= LAST_STREAM {
+        return file.try_clone();
+    }
+    Ok(file)
+}
 
 /// A file that was opened, or one that could not be, of which each read fails.
 #[derive(Drop)]

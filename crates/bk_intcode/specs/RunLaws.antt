@@ -7,7 +7,7 @@ use Rattle.bk_intcode.specs.declared.registers.Registers.{Registers}
 use Rattle.bk_intcode.specs.Output.{Text, output_text}
 use Rattle.bk_intcode.specs.Step.{Turn, Goes, Tells, Asks, Ends, step}
 use Rattle.bk_intcode.specs.declared.output.Output.{Output}
-use Rattle.bk_intcode.specs.Runs.{Standing, Going, Over, next_byte, behind_next, after, run, output_of, Told, Exchanged, Follows, Leads, Paused, Finished, Waiting, CutShort, Broken}
+use Rattle.bk_intcode.specs.Runs.{Standing, Going, Over, next_byte, behind_next, after, run, output_of, Told, Exchanged, Follows, Leads, FlushesFirst, Paused, Finished, Waiting, CutShort, Broken}
 
 -- where a run stands after m steps more
 abbrev pub onwards : ℕ → Standing → Standing
@@ -135,14 +135,15 @@ onwards-shrinks m (Going store r input written) = run-shrinks m store r input wr
 onwards-shrinks m (Over e input written) = omega arith
 
 -- What was written begins what the n steps write, whatever input follows the bytes that were read.
-pub record Beginning (n : ℕ) (store : List ℕ) (r : Registers) (old new : Told) : Type 0 where
+pub record Beginning (Holds : List ℕ → Type 0) (n : ℕ) (store : List ℕ) (r : Registers) (old new : Told) : Type 0 where
   pub read : List ℕ
   pub written : List ℕ
   pub exchanged : Exchanged old new read written
+  pub flushes : FlushesFirst Holds n store r old new read
   pub begins : (rest before : List ℕ) → Follows new rest
       → (more : List ℕ) × (output_of (run n store r (read ++ rest) before) ≡ (before ++ written) ++ more)
 
-module _ (n : ℕ) (store : List ℕ) (r : Registers) (old new : Told) where
+module _ (Holds : List ℕ → Type 0) (n : ℕ) (store : List ℕ) (r : Registers) (old new : Told) where
   -- behind the first steps of n
   behind_steps : (steps : ℕ) (store' : List ℕ) (r' : Registers) (read written : List ℕ) → steps ≤ n → Leads steps store r store' r' new read written
       → (rest before : List ℕ) → Follows new rest → run n store r (read ++ rest) before ≡ run (n - steps) store' r' rest (before ++ written)
@@ -152,11 +153,12 @@ module _ (n : ℕ) (store : List ℕ) (r : Registers) (old new : Told) where
       ∙ ap (λ s. onwards (n - steps) s) (leads rest before follows)
 
   -- after a fault of the input what was written begins what the run writes without it
-  pub waiting-begins : Waiting n store r old new → Beginning n store r old new
+  pub waiting-begins : Waiting Holds n store r old new → Beginning Holds n store r old new
   waiting-begins p = record {
     read = p.read;
     written = p.written;
     exchanged = p.exchanged;
+    flushes = p.flushes;
     begins = λ rest before follows.
         let within = p.within in
         let here = behind_steps p.steps p.store' p.r' p.read p.written (omega arith) p.leads rest before follows in
@@ -172,11 +174,12 @@ module _ (n : ℕ) (store : List ℕ) (r : Registers) (old new : Told) where
       let more = tells_begins m (run_begins m) (output_text store'' what) store'' r'' rest before in
       (more.0, ap (λ i. output_of (run i store' r' rest before)) one ∙ ap (λ t. output_of (after (run m) t rest before)) tells ∙ more.1)
 
-  cut-beginning : CutShort n store r old new → Beginning n store r old new
+  cut-beginning : CutShort Holds n store r old new → Beginning Holds n store r old new
   cut-beginning p = record {
     read = p.read;
     written = p.written ++ p.begun;
     exchanged = p.exchanged;
+    flushes = p.flushes;
     begins = λ rest before follows.
         let within = p.within in
         let one : n - p.steps ≡ suc (n - p.steps - 1) = omega arith in
@@ -190,24 +193,26 @@ module _ (n : ℕ) (store : List ℕ) (r : Registers) (old new : Told) where
       regrouped : (a b c d e : List ℕ) → ((a ++ b) ++ (c ++ d)) ++ e ≡ (a ++ (b ++ c)) ++ (d ++ e)
       regrouped a b c d e = simp append_assoc
 
-  paused-beginning : (store' : List ℕ) (r' : Registers) → Paused n store r store' r' old new → Beginning n store r old new
+  paused-beginning : (store' : List ℕ) (r' : Registers) → Paused Holds n store r store' r' old new → Beginning Holds n store r old new
   paused-beginning store' r' p = record {
     read = p.read;
     written = p.written;
     exchanged = p.exchanged;
+    flushes = p.flushes;
     begins = λ rest before follows. ([], ap output_of (p.leads rest before follows) ∙ sym (append-nil (before ++ p.written)));
   }
 
-  finished-beginning : (e : End) → Finished e n store r old new → Beginning n store r old new
+  finished-beginning : (e : End) → Finished Holds e n store r old new → Beginning Holds n store r old new
   finished-beginning e p = record {
     read = p.read;
     written = p.written;
     exchanged = p.exchanged;
+    flushes = p.flushes;
     begins = λ rest before follows. ([], ap output_of (p.ends rest before follows) ∙ sym (append-nil (before ++ p.written)));
   }
 
   -- after a fault of the output what was written begins what the run writes without it
-  pub broken-begins : Broken n store r old new → Beginning n store r old new
+  pub broken-begins : Broken Holds n store r old new → Beginning Holds n store r old new
   broken-begins (inl (inl cut)) = cut-beginning cut
   broken-begins (inl (inr waiting)) = waiting-begins waiting
   broken-begins (inr (inl paused)) = paused-beginning paused.0 paused.1 paused.2

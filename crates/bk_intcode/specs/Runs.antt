@@ -1,6 +1,7 @@
 -- Runs of the machine, one step after another, with the bytes that they read and write.
-use Rattle.std.specs.Prelude.{◌≡◌, ℕ, zero, suc, ◌<◌, ◌≤◌, ◌⊎◌, ◌^◌, ◌-◌, List, [], ◌∷◌, ◌++◌, Option, Bool, IsTrue, ⊤, if◌then◌else◌}
-use Rattle.std.specs.Io.KnownBytes.{Consumes, Appends}
+use Rattle.std.specs.Prelude.{◌≡◌, ℕ, zero, suc, ◌<◌, ◌≤◌, ◌⊎◌, ◌^◌, ◌-◌, List, [], ◌∷◌, ◌++◌, Option, Bool, false, IsTrue, ⊤, if◌then◌else◌}
+use Rattle.std.specs.Io.KnownBytes.{append_known, Consumes, Appends}
+use Rattle.bk_base.specs.Devices.{Begins}
 use Rattle.bk_base.specs.declared.run_end.End.{End}
 use Rattle.bk_base.specs.declared.run_end.End.TheVariants.{Status, DivideByZero, StoreLimit, StepLimit, BadOperation, ReadFault, WriteFault}
 use Rattle.bk_intcode.specs.declared.registers.Registers.{Registers}
@@ -41,11 +42,14 @@ abbrev pub output_of : Standing → List ℕ
 output_of (Going store r input written) = written
 output_of (Over e input written) = written
 
--- What devices tell at a moment: the bytes left, and whether the end was told; the bytes taken.
+-- What devices tell at a moment: the bytes left, those of them that the reader holds, and whether the end was told; the bytes
+-- taken, and those of them that were passed on.
 pub record Told : Type 0 where
   pub left : Option (List ℕ)
+  pub held : List ℕ
   pub ended : Bool
   pub taken : Option (List ℕ)
+  pub passed : Option (List ℕ)
 
 -- Between two moments these bytes were delivered and these taken. Once the end was told nothing more is delivered.
 pub record Exchanged (old new : Told) (read written : List ℕ) : Type 0 where
@@ -62,25 +66,68 @@ abbrev pub Leads : ℕ → List ℕ → Registers → List ℕ → Registers →
 Leads n store r store' r' new read written =
     (rest before : List ℕ) → Follows new rest → run n store r (read ++ rest) before ≡ Going store' r' rest (before ++ written)
 
+-- A reader of this type can hold these bytes, given what each holds.
+abbrev pub HeldBy : {I : Type 0} → (I → List ℕ) → List ℕ → Type 0
+HeldBy {I} held bytes = (reader : I) × (held reader ≡ bytes)
+
+-- These bytes were held, and the end was not told anew, as where the reader did not ask its device.
+abbrev pub NotAsked : Told → Told → List ℕ → Type 0
+NotAsked old new read = (old.held ≡ read ++ new.held) × (new.ended ≡ old.ended)
+
+-- The reader asked its device, and these bytes were read since: none, where the device told the end or failed; else the byte
+-- that was asked for, and then bytes that the reader held. Holds says what a reader can hold.
+abbrev pub SinceAsk : (List ℕ → Type 0) → Told → List ℕ → Type 0
+SinceAsk Holds new [] = new.held ≡ []
+SinceAsk Holds new (byte ∷ others) = Holds (others ++ new.held) × (new.ended ≡ false)
+
+-- Fewer than n steps lead to a step that asks for a byte, by these bytes, whatever input follows.
+pub record LeadsToAsk (n : ℕ) (store : List ℕ) (r : Registers) (read written : List ℕ) : Type 0 where
+  pub steps : ℕ
+  pub within : steps < n
+  pub store' : List ℕ
+  pub r' : Registers
+  pub leads : (rest before : List ℕ) → run steps store r (read ++ rest) before ≡ Going store' r' rest (before ++ written)
+  pub store'' : List ℕ
+  pub r'' : Registers
+  pub asks : step store' r' ≡ Asks store'' r''
+
+-- The reader last asked its device at this step, before the end was told. All that was written before the step was passed on.
+pub record LastAsk (Holds : List ℕ → Type 0) (n : ℕ) (store : List ℕ) (r : Registers) (old new : Told) (read : List ℕ) : Type 0 where
+  pub earlier : List ℕ
+  pub since : List ℕ
+  pub parts : read ≡ earlier ++ since
+  pub written : List ℕ
+  pub leads : LeadsToAsk n store r earlier written
+  pub unended : old.ended ≡ false
+  pub asked : SinceAsk Holds new since
+  pub passed : Begins (append_known old.taken written) new.passed
+
+-- All that was written before the reader last asked its device, and was given a byte or the end, was passed on.
+abbrev pub FlushesFirst : (List ℕ → Type 0) → ℕ → List ℕ → Registers → Told → Told → List ℕ → Type 0
+FlushesFirst Holds n store r old new read = NotAsked old new read ⊎ LastAsk Holds n store r old new read
+
 -- all steps were done
-pub record Paused (n : ℕ) (store : List ℕ) (r : Registers) (store' : List ℕ) (r' : Registers) (old new : Told) : Type 0 where
+pub record Paused (Holds : List ℕ → Type 0) (n : ℕ) (store : List ℕ) (r : Registers) (store' : List ℕ) (r' : Registers) (old new : Told) : Type 0 where
   pub read : List ℕ
   pub written : List ℕ
   pub exchanged : Exchanged old new read written
+  pub flushes : FlushesFirst Holds n store r old new read
   pub leads : Leads n store r store' r' new read written
 
 -- the run ended of itself, within n steps
-pub record Finished (e : End) (n : ℕ) (store : List ℕ) (r : Registers) (old new : Told) : Type 0 where
+pub record Finished (Holds : List ℕ → Type 0) (e : End) (n : ℕ) (store : List ℕ) (r : Registers) (old new : Told) : Type 0 where
   pub read : List ℕ
   pub written : List ℕ
   pub exchanged : Exchanged old new read written
+  pub flushes : FlushesFirst Holds n store r old new read
   pub ends : (rest before : List ℕ) → Follows new rest → run n store r (read ++ rest) before ≡ Over e rest (before ++ written)
 
 -- The run came to a step that asks for a byte, by these bytes and no more.
-pub record Waiting (n : ℕ) (store : List ℕ) (r : Registers) (old new : Told) : Type 0 where
+pub record Waiting (Holds : List ℕ → Type 0) (n : ℕ) (store : List ℕ) (r : Registers) (old new : Told) : Type 0 where
   pub read : List ℕ
   pub written : List ℕ
   pub exchanged : Exchanged old new read written
+  pub flushes : FlushesFirst Holds n store r old new read
   pub steps : ℕ
   pub store' : List ℕ
   pub r' : Registers
@@ -91,11 +138,12 @@ pub record Waiting (n : ℕ) (store : List ℕ) (r : Registers) (old new : Told)
   pub asks : step store' r' ≡ Asks store'' r''
 
 -- The run came to a step that writes a text, of which a beginning was taken.
-pub record CutShort (n : ℕ) (store : List ℕ) (r : Registers) (old new : Told) : Type 0 where
+pub record CutShort (Holds : List ℕ → Type 0) (n : ℕ) (store : List ℕ) (r : Registers) (old new : Told) : Type 0 where
   pub read : List ℕ
   pub written : List ℕ
   pub begun : List ℕ
   pub exchanged : Exchanged old new read (written ++ begun)
+  pub flushes : FlushesFirst Holds n store r old new read
   pub steps : ℕ
   pub store' : List ℕ
   pub r' : Registers
@@ -109,24 +157,29 @@ pub record CutShort (n : ℕ) (store : List ℕ) (r : Registers) (old new : Told
   pub begins : (output_text store'' what).bytes ≡ begun ++ left
 
 -- The output failed on the way: at a step that writes, or at the flush before a byte is asked for, which is not read then.
-abbrev pub FailedOnTheWay : ℕ → List ℕ → Registers → Told → Told → Type 0
-FailedOnTheWay n store r old new = CutShort n store r old new ⊎ Waiting n store r old new
+abbrev pub FailedOnTheWay : (List ℕ → Type 0) → ℕ → List ℕ → Registers → Told → Told → Type 0
+FailedOnTheWay Holds n store r old new = CutShort Holds n store r old new ⊎ Waiting Holds n store r old new
 
 -- All steps were done, or the run had ended of itself, and the flush failed.
-abbrev pub FailedAtTheEnd : ℕ → List ℕ → Registers → Told → Told → Type 0
-FailedAtTheEnd n store r old new =
-    ((store' : List ℕ) × (r' : Registers) × Paused n store r store' r' old new) ⊎ ((e : End) × Finished e n store r old new)
+abbrev pub FailedAtTheEnd : (List ℕ → Type 0) → ℕ → List ℕ → Registers → Told → Told → Type 0
+FailedAtTheEnd Holds n store r old new =
+    ((store' : List ℕ) × (r' : Registers) × Paused Holds n store r store' r' old new) ⊎ ((e : End) × Finished Holds e n store r old new)
 
 -- The output failed, or the flush behind a read that had failed.
-abbrev pub Broken : ℕ → List ℕ → Registers → Told → Told → Type 0
-Broken n store r old new = FailedOnTheWay n store r old new ⊎ FailedAtTheEnd n store r old new
+abbrev pub Broken : (List ℕ → Type 0) → ℕ → List ℕ → Registers → Told → Told → Type 0
+Broken Holds n store r old new = FailedOnTheWay Holds n store r old new ⊎ FailedAtTheEnd Holds n store r old new
+
+-- one call delivered these bytes: they were held, or the reader asked its device
+abbrev pub CameBy : (List ℕ → Type 0) → Told → Told → List ℕ → Type 0
+CameBy Holds old new read = NotAsked old new read ⊎ ((old.held ≡ []) × (old.ended ≡ false) × SinceAsk Holds new read)
 
 -- an answer to a step that asks: a word for the bytes delivered and what follows them
-pub record Answered (word : ℕ) (old new : Told) : Type 0 where
+pub record Answered (Holds : List ℕ → Type 0) (word : ℕ) (old new : Told) : Type 0 where
   pub read : List ℕ
   pub exchanged : Exchanged old new read []
   pub word_is : (rest : List ℕ) → Follows new rest → next_byte (read ++ rest) ≡ word
   pub behind_is : (rest : List ℕ) → Follows new rest → behind_next (read ++ rest) ≡ rest
+  pub came : CameBy Holds old new read
 
 -- a call that asks fails by the input, or by the flush of the output before it
 abbrev pub AskFails : End → (reads reads' writes' : ℕ) → Type 0
@@ -145,22 +198,22 @@ IsOwn ReadFault = ⊥
 IsOwn WriteFault = ⊥
 
 -- how a run of at most n steps went, by its end; a fault of the output is told by what is passed along
-abbrev pub RanOr : Type 0 → End → ℕ → List ℕ → Registers → List ℕ → Registers → Told → Told → Type 0
-RanOr fails StepLimit n store r store' r' old new = Paused n store r store' r' old new
-RanOr fails ReadFault n store r store' r' old new = Waiting n store r old new
-RanOr fails WriteFault n store r store' r' old new = fails
-RanOr fails (Status v) n store r store' r' old new = Finished (Status v) n store r old new
-RanOr fails DivideByZero n store r store' r' old new = Finished DivideByZero n store r old new
-RanOr fails StoreLimit n store r store' r' old new = Finished StoreLimit n store r old new
-RanOr fails BadOperation n store r store' r' old new = Finished BadOperation n store r old new
+abbrev pub RanOr : (List ℕ → Type 0) → Type 0 → End → ℕ → List ℕ → Registers → List ℕ → Registers → Told → Told → Type 0
+RanOr Holds fails StepLimit n store r store' r' old new = Paused Holds n store r store' r' old new
+RanOr Holds fails ReadFault n store r store' r' old new = Waiting Holds n store r old new
+RanOr Holds fails WriteFault n store r store' r' old new = fails
+RanOr Holds fails (Status v) n store r store' r' old new = Finished Holds (Status v) n store r old new
+RanOr Holds fails DivideByZero n store r store' r' old new = Finished Holds DivideByZero n store r old new
+RanOr Holds fails StoreLimit n store r store' r' old new = Finished Holds StoreLimit n store r old new
+RanOr Holds fails BadOperation n store r store' r' old new = Finished Holds BadOperation n store r old new
 
 -- a run before the flush at its end
-abbrev pub Went : End → ℕ → List ℕ → Registers → List ℕ → Registers → Told → Told → Type 0
-Went e n store r store' r' old new = RanOr (FailedOnTheWay n store r old new) e n store r store' r' old new
+abbrev pub Went : (List ℕ → Type 0) → End → ℕ → List ℕ → Registers → List ℕ → Registers → Told → Told → Type 0
+Went Holds e n store r store' r' old new = RanOr Holds (FailedOnTheWay Holds n store r old new) e n store r store' r' old new
 
 -- a run and the flush at its end
-abbrev pub Ran : End → ℕ → List ℕ → Registers → List ℕ → Registers → Told → Told → Type 0
-Ran e n store r store' r' old new = RanOr (Broken n store r old new) e n store r store' r' old new
+abbrev pub Ran : (List ℕ → Type 0) → End → ℕ → List ℕ → Registers → List ℕ → Registers → Told → Told → Type 0
+Ran Holds e n store r store' r' old new = RanOr Holds (Broken Holds n store r old new) e n store r store' r' old new
 
 -- How often the devices failed, behind a run and the flush at its end: the input in a run that ends with its fault alone, and
 -- not before, unless the flush failed behind that; the output in one that ends with its fault alone.

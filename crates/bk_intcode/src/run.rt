@@ -3,7 +3,7 @@ ghost use Rattle.std.specs.Prelude.{◌≡◌, ◌≢◌, false, [], IfOk, IfErr
 ghost use Rattle.std.specs.Io.KnownBytes.{Keeps};
 ghost use Rattle.bk_base.specs.declared.run_end.End.TheVariants.{ReadFault, WriteFault, StepLimit};
 ghost use Rattle.bk_base.specs.Devices.{Begins};
-ghost use Rattle.bk_intcode.specs.Runs.{Answered, AskFails, Went, BlamesBefore};
+ghost use Rattle.bk_intcode.specs.Runs.{HeldBy, Answered, AskFails, Went, BlamesBefore};
 
 use crate::registers::Registers;
 use crate::step::{Effect, step};
@@ -15,11 +15,13 @@ use bk_base::{ByteIn, ByteOut, End};
 #[cold]
 #[inline(never)]
 fn ask<I: ByteIn, O: ByteOut>(input: &mut I, out: &mut O) -> Result<u32, End>
-    ensures answered { IfOk result (λ word. Answered word
-        (record { left = I.left input.old; ended = I.ended input.old; taken = O.taken out.old })
-        (record { left = I.left input.new; ended = I.ended input.new; taken = O.taken out.new })) }
+    ensures answered { IfOk result (λ word. Answered (HeldBy I.held) word
+        (record { left = I.left input.old; held = I.held input.old; ended = I.ended input.old; taken = O.taken out.old; passed = O.passed out.old })
+        (record { left = I.left input.new; held = I.held input.new; ended = I.ended input.new; taken = O.taken out.new; passed = O.passed out.new })) }
     ensures still { OnErr result (Keeps (I.left input.old) (I.left input.new) × (I.ended input.new ≡ I.ended input.old)
-        × Keeps (O.taken out.old) (O.taken out.new)) }
+        × (I.held input.new ≡ I.held input.old) × Keeps (O.taken out.old) (O.taken out.new)) }
+    ensures unready { OnErr result ((I.held input.old ≡ []) × (I.ended input.old ≡ false)) }
+    ensures sound { IfOk result (λ _. I.faults input.old ≡ 0) }
 
     ensures flushed { I.held input.old ≡ [] → I.ended input.old ≡ false → I.faults input.old ≡ 0
         → result ≢ Err WriteFault → O.passed out.new ≡ O.taken out.new }
@@ -46,9 +48,9 @@ fn turn<I: ByteIn, O: ByteOut>(
     input: &mut I,
     out: &mut O,
 ) -> Option<End>
-    ensures went { Went (unwrap_or result StepLimit) 1 store.old r.old store.new r.new
-        (record { left = I.left input.old; ended = I.ended input.old; taken = O.taken out.old })
-        (record { left = I.left input.new; ended = I.ended input.new; taken = O.taken out.new }) }
+    ensures went { Went (HeldBy I.held) (unwrap_or result StepLimit) 1 store.old r.old store.new r.new
+        (record { left = I.left input.old; held = I.held input.old; ended = I.ended input.old; taken = O.taken out.old; passed = O.passed out.old })
+        (record { left = I.left input.new; held = I.held input.new; ended = I.ended input.new; taken = O.taken out.new; passed = O.passed out.new }) }
     ensures over { IfSome result (λ e. e ≢ StepLimit) }
     ensures passes { Begins (O.passed out.old) (O.passed out.new) }
     ensures cause { BlamesBefore (unwrap_or result StepLimit) (I.faults input.old) (I.faults input.new) (O.faults out.new) }
@@ -83,9 +85,9 @@ pub fn go<I: ByteIn, O: ByteOut>(
     input: &mut I,
     out: &mut O,
 ) -> End
-    ensures went { Went result steps store.old r.old store.new r.new
-        (record { left = I.left input.old; ended = I.ended input.old; taken = O.taken out.old })
-        (record { left = I.left input.new; ended = I.ended input.new; taken = O.taken out.new }) }
+    ensures went { Went (HeldBy I.held) result steps store.old r.old store.new r.new
+        (record { left = I.left input.old; held = I.held input.old; ended = I.ended input.old; taken = O.taken out.old; passed = O.passed out.old })
+        (record { left = I.left input.new; held = I.held input.new; ended = I.ended input.new; taken = O.taken out.new; passed = O.passed out.new }) }
     ensures passes { Begins (O.passed out.old) (O.passed out.new) }
     ensures cause { BlamesBefore result (I.faults input.old) (I.faults input.new) (O.faults out.new) }
 {

@@ -191,7 +191,7 @@ module _ (count : ℕ) (old now new : Option (List ℕ)) (was ended : Bool) (rea
             counted = omega (arith, front.counted, length-append front.sections (last ∷ []));
             read = subst (λ (l : List (List Stmt)). text.Read ocode l (bytes_of (front.sections ++ last ∷ [])) ended) (sym all)
                 (subst (λ (l : List ℕ). text.Read ocode (sections_of front.sections ++ stmts_of section ∷ []) l ended) (sym bytes)
-                (read_more ocode (sections_of front.sections) (bytes_of front.sections) was front.read answers.0 ended not_over (stmts_of section) answers.2.0
+                (read_more ocode (sections_of front.sections) (bytes_of front.sections) was front.read answers.0 ended not_over (stmts_of section) (answers.2.0, answers.2.1)
                 (λ more over. words_of-all (answers.0 ++ more) answers.0 more (AtEnd ended (length answers.0)) (section_words (stmts_of section)) refl answers.2.2 over)));
             takes = subst (λ (l : List ℕ). Appends before.taken after'.taken l) (sym (texts_push front.sections last))
                 (Appends-trans before.taken after.taken after'.taken (texts_of front.sections) (segment_text (items_of segment)) front.takes puts);

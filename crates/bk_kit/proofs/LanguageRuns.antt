@@ -1,5 +1,5 @@
 -- A run of the machine is one of a source, where the machine does what the source means in a language.
-use Rattle.std.proofs.Common.{◌≡◌, ◌≢◌, ℕ, ◌⊎◌, inl, inr, List, [], ◌++◌, sym, ap, ◌∙◌, subst, append_assoc, append-nil}
+use Rattle.std.proofs.Common.{◌≡◌, ◌≢◌, ℕ, ◌⊎◌, inl, inr, List, [], ◌∷◌, ◌++◌, refl, sym, ap, ap₂, ◌∙◌, subst, append_assoc, append-nil}
 use Rattle.std.proofs.lemmas.List.{append_cancel_right}
 use Rattle.bk_base.specs.Devices.{Begins}
 use Rattle.bk_base.specs.declared.run_end.End.{End}
@@ -8,7 +8,7 @@ use Rattle.bk_intcode.specs.declared.registers.Registers.{Registers}
 use Rattle.bk_intcode.specs.Runs.{Standing, Going, Over, output_of, run, Finished, Ran, Blames}
 use Rattle.bk_intcode.specs.RunLaws.{Beginning, waiting-begins, broken-begins}
 use Rattle.bk_kit.specs.Interpreting.{Streams, told_streams}
-use Rattle.bk_kit.specs.Headline.{Language, IsWhole, IsEnd, IsPart, NeverEnds, Reaches, TooFew, Agrees, Runs}
+use Rattle.bk_kit.specs.Headline.{Language, OneBegins, IsWhole, IsEnd, IsPart, NeverEnds, Reaches, Covers, TooFew, Agrees, Runs}
 
 -- A machine that is not over, or that the store stopped, with a beginning of these bytes.
 pub data BeginsOf (bytes : List ℕ) : Standing → Type 0 where
@@ -36,6 +36,20 @@ the_parts e f a b c d same = (cc, cc, cc)
 not_going : (m : Standing) (e : End) (a b store c d : List ℕ) (r : Registers) → m ≡ Going store r c d → m ≡ Over e a b → ⊥
 not_going m e a b store c d r first second = let same = sym first ∙ second in cc
 
+-- of two that begin the same, one begins the other
+one_begins : (a b c d : List ℕ) → a ++ c ≡ b ++ d → OneBegins a b
+one_begins [] b c d e = inr (b, refl)
+one_begins (x ∷ a) [] c d e = inl (x ∷ a, refl)
+one_begins (x ∷ a) (y ∷ b) c d e =
+    let h : x ∷ (a ++ c) ≡ y ∷ (b ++ d) = e in
+    let head : x ≡ y = cc in
+    let tail : a ++ c ≡ b ++ d = cc in
+    by_case head (one_begins a b c d tail)
+  where
+    by_case : x ≡ y → OneBegins a b → OneBegins (x ∷ a) (y ∷ b)
+    by_case head (inl more) = inl (more.0, ap₂ (λ z l. z ∷ l) head more.1)
+    by_case head (inr more) = inr (more.0, ap₂ (λ z l. z ∷ l) (sym head) more.1)
+
 module _ (language : Language) (source : List ℕ) (steps words : ℕ) (store : List ℕ) (first : Registers) where
   -- where the machine stands at the end of its steps
   abbrev stands : List ℕ → Standing
@@ -50,6 +64,8 @@ module _ (language : Language) (source : List ℕ) (steps words : ℕ) (store : 
     pub enough : language.Enough source input steps words → (end : End) × (left bytes : List ℕ) × (stands input ≡ Over end left bytes) × (end ≢ StoreLimit)
     -- and has written what so many turns write
     pub written : Reaches language source input steps words (output_of (stands input))
+    -- whatever so many turns write, it is on its way there, or has written that
+    pub so_far : (turns : ℕ) (bytes : List ℕ) → language.GoesOn source input turns bytes → BeginsOf bytes (stands input) ⊎ ((more : List ℕ) × (output_of (stands input) ≡ bytes ++ more))
     -- where the meaning goes on for ever, it is somewhere within it
     pub never : NeverEnds language source input steps words → (turns : ℕ) × (bytes : List ℕ) × language.GoesOn source input turns bytes × BeginsOf bytes (stands input)
 
@@ -71,7 +87,12 @@ module _ (language : Language) (source : List ℕ) (steps words : ℕ) (store : 
           let within = (meant input).never never in
           let begins = begins_as within.1 (stands input) within.3 in
           (within.0, within.1, begins.0, within.2, begins.1);
+      of_any = λ turns bytes goes. one_of bytes ((meant input).so_far turns bytes goes);
     }
+      where
+        one_of : (bytes : List ℕ) → BeginsOf bytes (stands input) ⊎ ((more : List ℕ) × (output_of (stands input) ≡ bytes ++ more)) → OneBegins bytes (output_of (stands input))
+        one_of bytes (inl begins) = inl (begins_as bytes (stands input) begins)
+        one_of bytes (inr more) = inr more
 
     few_where_going : (input store' left now : List ℕ) (r : Registers) → stands input ≡ Going store' r left now → TooFew language source input steps words
     few_where_going input store' left now r goes enough =
@@ -100,11 +121,18 @@ module _ (language : Language) (source : List ℕ) (steps words : ℕ) (store : 
             (sym same.0, append_cancel_right taken read rest (ap (λ l. taken ++ l) same.1 ∙ sym took), sym same.2)
         by_case left took (inr begins) = absurd (own (begins_over all (stands (read ++ rest)) end rest bytes over begins))
 
+    covers : (input left now : List ℕ) (end : End) → end ≢ StoreLimit → stands input ≡ Over end left now → Covers language source input steps words now
+    covers input left now end own over turns bytes goes = by_case ((meant input).so_far turns bytes goes)
+      where
+        by_case : BeginsOf bytes (stands input) ⊎ ((more : List ℕ) × (output_of (stands input) ≡ bytes ++ more)) → (more : List ℕ) × (now ≡ bytes ++ more)
+        by_case (inl begins) = absurd (own (begins_over bytes (stands input) end left now over begins))
+        by_case (inr more) = (more.0, sym (ap output_of over) ∙ more.1)
+
     is_end : (read rest bytes : List ℕ) (end : End) → end ≢ StoreLimit → stands (read ++ rest) ≡ Over end rest bytes → IsEnd language source (read ++ rest) steps words end read bytes
     is_end read rest bytes end own over = (
       whole read rest bytes end own over,
       never_over (read ++ rest) end rest bytes own over,
-      subst (Reaches language source (read ++ rest) steps words) (ap output_of over) (meant (read ++ rest)).written,
+      covers (read ++ rest) rest bytes end own over,
     )
 
     -- the machine came to no end of itself
@@ -123,13 +151,18 @@ module _ (language : Language) (source : List ℕ) (steps words : ℕ) (store : 
         record {
           of_end = λ taken all end ends. let e = p.of_end taken all end ends in (more ++ e.0, further all e.0 e.1);
           of_turns = λ never. let e = p.of_turns never in (e.0, e.1, more ++ e.2, e.3, further e.1 e.2 e.4);
+          of_any = λ turns all goes. shorter all (p.of_any turns all goes);
         }
       where
         further : (all behind : List ℕ) → all ≡ output_of (stands input) ++ behind → all ≡ bytes ++ (more ++ behind)
         further all behind e = e ∙ ap (λ o. o ++ behind) is ∙ append_assoc bytes more behind
 
-    module _ (accepted : language.Accepted source) (starts : language.Startless source → ⊥) (store' : List ℕ) (registers : Registers) (before after : Streams) where
-      finished : (end : End) (ran : Finished end steps store first (told_streams before) (told_streams after))
+        shorter : (all : List ℕ) → OneBegins all (output_of (stands input)) → OneBegins all bytes
+        shorter all (inl behind) = inl (more ++ behind.0, further all behind.0 behind.1)
+        shorter all (inr behind) = one_begins all bytes behind.0 more (sym behind.1 ∙ is)
+
+    module _ (Holds : List ℕ → Type 0) (accepted : language.Accepted source) (starts : language.Startless source → ⊥) (store' : List ℕ) (registers : Registers) (before after : Streams) where
+      finished : (end : End) (ran : Finished Holds end steps store first (told_streams before) (told_streams after))
           → Begins before.passed after.passed → (end ≢ WriteFault → after.passed ≡ after.taken) → Blames end before.reads after.reads after.writes
           → ((rest : List ℕ) → stands (ran.read ++ rest) ≡ Over end rest ran.written → Agrees language source (ran.read ++ rest) steps words end ran.read ran.written)
           → Runs language source end steps words before after
@@ -145,7 +178,7 @@ module _ (language : Language) (source : List ℕ) (steps words : ℕ) (store : 
         blamed = blamed;
       }
 
-      broken : (end : End) (ran : Beginning steps store first (told_streams before) (told_streams after))
+      broken : (end : End) (ran : Beginning Holds steps store first (told_streams before) (told_streams after))
           → Begins before.passed after.passed → (end ≢ WriteFault → after.passed ≡ after.taken) → Blames end before.reads after.reads after.writes
           → ((input : List ℕ) → IsPart language source input steps words ran.written → Agrees language source input steps words end ran.read ran.written)
           → Runs language source end steps words before after
@@ -163,7 +196,7 @@ module _ (language : Language) (source : List ℕ) (steps words : ℕ) (store : 
         blamed = blamed;
       }
 
-      pub runs : (end : End) → Ran end steps store first store' registers (told_streams before) (told_streams after) → Begins before.passed after.passed
+      pub runs : (end : End) → Ran Holds end steps store first store' registers (told_streams before) (told_streams after) → Begins before.passed after.passed
           → (end ≢ WriteFault → after.passed ≡ after.taken) → Blames end before.reads after.reads after.writes → Runs language source end steps words before after
       runs (Status v) ran passes passed blamed =
           finished (Status v) ran passes passed blamed (λ rest over. is_end ran.read rest ran.written (Status v) (λ e. cc) over)
@@ -188,6 +221,6 @@ module _ (language : Language) (source : List ℕ) (steps words : ℕ) (store : 
         blamed = blamed;
       }
       runs ReadFault ran passes passed blamed =
-          broken ReadFault (waiting-begins steps store first (told_streams before) (told_streams after) ran) passes passed blamed (λ input part. part)
+          broken ReadFault (waiting-begins Holds steps store first (told_streams before) (told_streams after) ran) passes passed blamed (λ input part. part)
       runs WriteFault ran passes passed blamed =
-          broken WriteFault (broken-begins steps store first (told_streams before) (told_streams after) ran) passes passed blamed (λ input part. part)
+          broken WriteFault (broken-begins Holds steps store first (told_streams before) (told_streams after) ran) passes passed blamed (λ input part. part)

@@ -1,8 +1,16 @@
 -- Numbers and limits that a command line gives.
-use Rattle.std.proofs.Common.{◌≡◌, ◌∙◌, ℕ, List, Bool, true, false, Bor, option_map, Option, None, Some, Result, Ok, IfSome, refl, sym, ap, subst}
+use Rattle.std.proofs.Common.{◌≡◌, ◌∙◌, ◌⊎◌, inl, inr, ℕ, ◌<◌, ◌^◌, List, [], Bool, true, false, Bor, option_map, Option, None, Some, Result, Ok, Err, IfErr, IfSome, IsSome, codes, length, refl, sym, ap, subst, arith}
 use Rattle.std.specs.Str.Parse.{ParsesUnsigned, ParsesBool}
-use Rattle.clap.specs.Words.{Text, ReadsOne}
-use Rattle.bk_kit.specs.CommandLine.{ReadsNumber, truth_text}
+use Rattle.clap.specs.Faults.{is_simple_and_free, fault_of}
+use Rattle.clap.specs.Words.{App, Row, Text, ReadsOne, IsAmong, one_of, subcommand_of, takes}
+use Rattle.clap.specs.declared.error.kind.ErrorKind.{ErrorKind}
+use Rattle.clap.specs.declared.error.kind.ErrorKind.TheVariants as kind
+use Rattle.bk_kit.specs.declared.command_line.LineFault.{LineFault}
+use Rattle.bk_kit.specs.declared.command_line.LineFault.TheVariants.{Help, Bad, Memory}
+use Rattle.bk_kit.specs.declared.orders.Order.{Order}
+use Rattle.bk_kit.specs.declared.orders.Order.TheVariants.{Compile, Generate, Run, Interpret, Sizes}
+use Rattle.bk_base.specs.Bounds.{Bounds}
+use Rattle.bk_kit.specs.CommandLine.{ReadsNumber, ReadsLimits, AreLimits, truth_text, kit_command, IsOrder, RefusesValues, IsHelp, IsFaultOf, Refuses}
 
 -- what `get_one` gives is the number that its text spells
 pub number_of : {E : Type 0} (k : ℕ) (G : List ℕ → Result ℕ E → Type 0) (text : Option Text) (rows : Option Text) (given : Option ℕ) (number : ℕ) → text ≡ rows → given ≡ Some number
@@ -29,3 +37,86 @@ truth_of E (Some t) rows (Some false) same none value = sym same ∙ ap Some (va
 pub text_of : (given : Option (Bor Text)) (value rows : Option Text) → option_map (λ s. s.now) given ≡ value → value ≡ rows → IfSome given (λ s. rows ≡ Some s.now)
 text_of None value rows is same = tt
 text_of (Some s) value rows is same = sym same ∙ sym is
+
+-- `get_one` gives a number where its text spells one that its type has
+pub number_given : {E : Type 0} (k : ℕ) (G : List ℕ → Result ℕ E → Type 0) (text rows : Option Text) (given : Option ℕ) (number : ℕ) → text ≡ rows → number < 2 ^ k → ReadsNumber rows number
+    → ((t : List ℕ) → text ≡ Some t → ReadsOne G t given) → ((u : List ℕ) (x : Result ℕ E) → G u x → ParsesUnsigned k 10 u x) → given ≡ Some number
+number_given {E} k G text None given number same fits reads value only = absurd reads
+number_given {E} k G text (Some t) given number same fits reads value only = by_case given (value t same)
+  where
+    by_case : (o : Option ℕ) → ReadsOne G t o → o ≡ Some number
+    by_case None read = absurd (only t (Err read.0) read.1 (reads.0, subst (λ (n : ℕ). n < 2 ^ k) reads.1 fits))
+    by_case (Some v) read = ap Some ((only t (Ok v) read).1 ∙ sym reads.1)
+
+-- and a truth value where its text names one
+pub truth_given : (E : Type 0) (text rows : Option Text) (given : Option Bool) (asked : Bool) → text ≡ rows → rows ≡ Some (truth_text asked)
+    → ((t : List ℕ) → text ≡ Some t → ReadsOne {E = E} (ParsesBool {E = E}) t given) → IsSome given
+truth_given E text rows given asked same is value = by_case given asked (value (truth_text asked) (same ∙ is))
+  where
+    by_case : (o : Option Bool) (b : Bool) → ReadsOne {E = E} (ParsesBool {E = E}) (truth_text b) o → IsSome o
+    by_case (Some v) b read = refl
+    by_case None true read = absurd (read.1.0 refl)
+    by_case None false read = absurd (read.1.1 refl)
+
+-- a text that is there is given
+pub text_given : (given : Option (Bor Text)) (value rows : Option Text) (name : Text) → option_map (λ s. s.now) given ≡ value → value ≡ rows → rows ≡ Some name → IsSome given
+text_given (Some s) value rows name is same there = refl
+text_given None value rows name is same there = absurd (let e : None ≡ Some name = is ∙ same ∙ there in cc)
+
+pub some_given : {A : Type 0} (o : Option A) (a : A) → o ≡ Some a → IsSome o
+some_given (Some b) a is = refl
+some_given None a is = absurd cc
+
+-- ---- why words give no order
+
+-- the values of `interpret` where nothing says whether the sizes are asked for
+pub sizes_refused : (rows : List Row) (asked : Option Bool) → asked ≡ None → ((b : Bool) → one_of (codes "sizes") rows ≡ Some (truth_text b) → IsSome asked)
+    → RefusesValues (Some (codes "interpret", rows)) Bad
+sizes_refused rows asked none given (Compile, limits, reads) = let e : 9 ≡ 7 = ap (λ (t : Text). length t) reads in omega (arith, e)
+sizes_refused rows asked none given (Generate, limits, reads) = let e : 9 ≡ 8 = ap (λ (t : Text). length t) reads in omega (arith, e)
+sizes_refused rows asked none given (Run bounds file, limits, reads) = let e : 9 ≡ 3 = ap (λ (t : Text). length t) reads.0 in omega (arith, e)
+sizes_refused rows asked none given (Interpret bounds file, limits, reads) = let e : IsSome {T = Bool} None = subst (λ (o : Option Bool). IsSome o) none (given false reads.1) in cc
+sizes_refused rows asked none given (Sizes words file, limits, reads) = let e : IsSome {T = Bool} None = subst (λ (o : Option Bool). IsSome o) none (given true reads.1) in cc
+
+-- and where they have no limits
+pub limits_refused : (rows : List Row) (read : Option Bounds) → read ≡ None → ((limits : Bounds) → AreLimits limits → ReadsLimits rows limits → IsSome read)
+    → RefusesValues (Some (codes "interpret", rows)) Bad
+limits_refused rows read none given (Compile, limits, reads) = let e : 9 ≡ 7 = ap (λ (t : Text). length t) reads in omega (arith, e)
+limits_refused rows read none given (Generate, limits, reads) = let e : 9 ≡ 8 = ap (λ (t : Text). length t) reads in omega (arith, e)
+limits_refused rows read none given (Run bounds file, limits, reads) = let e : 9 ≡ 3 = ap (λ (t : Text). length t) reads.0 in omega (arith, e)
+limits_refused rows read none given (Interpret bounds file, limits, reads) =
+    let e : IsSome {T = Bounds} None = subst (λ (o : Option Bounds). IsSome o) none (given bounds limits reads.2) in cc
+limits_refused rows read none given (Sizes words file, limits, reads) =
+    let found = reads.2 in
+    let bounds : Bounds = record { steps = found.0; words = words } in
+    let e : IsSome {T = Bounds} None = subst (λ (o : Option Bounds). IsSome o) none (given bounds (found.1, found.2, limits.0, limits.1) found.3) in cc
+
+-- the kit's command is one whose faults clap tells
+pub faults_told : (app : App) (A : App → Type 0) → app ≡ kit_command → (is_simple_and_free app ≡ true → A app) → A kit_command
+faults_told app A same told = subst A same (told (subst (λ a. is_simple_and_free a ≡ true) (sym same) refl))
+
+-- clap gives no values
+pub words_refused : (app : App) (words : List Text) (k : ErrorKind) (fault : LineFault) → app ≡ kit_command → (takes app words ≡ true → k ≡ kind.OutOfMemory)
+    → (is_simple_and_free app ≡ true → (k ≡ kind.OutOfMemory) ⊎ IsAmong k (fault_of app words)) → IsFaultOf k fault → Refuses words fault
+words_refused app words k fault same passes kinds is =
+    by_fault fault (λ taken. passes (subst (λ a. takes a words ≡ true) (sym same) taken))
+    (faults_told app (λ a. (k ≡ kind.OutOfMemory) ⊎ IsAmong k (fault_of a words)) same kinds) is
+  where
+    differ : IsHelp k → k ≡ kind.OutOfMemory → ⊥
+    differ (inl help) memory = let e = sym help ∙ memory in cc
+    differ (inr told) memory = let e = sym told ∙ memory in cc
+
+    by_fault : (fault : LineFault) → (takes kit_command words ≡ true → k ≡ kind.OutOfMemory) → (k ≡ kind.OutOfMemory) ⊎ IsAmong k (fault_of kit_command words) → IsFaultOf k fault → Refuses words fault
+    by_fault (Help help) passes (inl memory) is = absurd (differ is memory)
+    by_fault (Help help) passes (inr among) is = ((λ taken. differ is (passes taken)), (k, among, is))
+    by_fault Bad passes (inl memory) is = absurd (is.0 memory)
+    by_fault Bad passes (inr among) is = inl ((λ taken. is.0 (passes taken)), (k, among, is.1))
+    by_fault Memory passes kinds is = tt
+
+-- the values give no order
+pub values_refused : (result : Result Order LineFault) (words : List Text) (found : Option (Text × List Row)) → subcommand_of kit_command words ≡ found → fault_of kit_command words ≡ []
+    → IfErr result (RefusesValues found) → IfErr result (Refuses words)
+values_refused (Ok order) words found same none refused = tt
+values_refused (Err (Help help)) words found same none refused = absurd refused
+values_refused (Err Bad) words found same none refused = inr (none, λ order. refused (subst IsOrder same order))
+values_refused (Err Memory) words found same none refused = tt

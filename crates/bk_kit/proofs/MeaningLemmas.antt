@@ -25,11 +25,12 @@ use Rattle.bk_simulation.specs.Simulation.{Begin, end_of, EndsWithin, ComesWithi
 use Rattle.bk_gen.specs.BackEnd.{Part, segments, image, depth_of, own_of, parts_at, program_of, start_of, machine_after, IsPartly, going, stopped, HoldsFrames, BackEnd, BackEndHolds, PartsAreWellPlaced, PartsWithoutStart}
 use Rattle.bk_gen.specs.BackEnd as back_end
 use Rattle.bk_kit.specs.declared.kit_fault.KitFault.TheVariants.{TooSmall, NoStart}
-use Rattle.bk_kit.specs.Interpreting.{Streams, told_streams, first_registers}
+use Rattle.bk_kit.specs.Interpreting.{AnyBytes, Streams, told_streams, first_registers}
 use Rattle.bk_kit.specs.Headline.{Language, Runs, Keeps}
 use Rattle.bk_kit.specs.Sources.{stmts_of_tree, codes_of_trees}
 use Rattle.bk_kit.specs.SourceSections.{HasTrees, HasParts}
-use Rattle.bk_kit.specs.SourceMeaning.{text_of, frame_of, HasWords, HasNoStart, MeaningEnds, MeaningGoesOn, EnoughToEnd, EnoughToGo, image_of, meanings_with, MeaningRuns, MeaningTooSmall, MeaningStartless}
+use Rattle.bk_kit.specs.SourceMeaning as of_trees
+use Rattle.bk_kit.specs.SourceMeaning.{text_of, frame_of, HasWords, HasFramesOf, HasNoStart, MeaningEnds, MeaningGoesOn, EnoughToEnd, EnoughToGo, Placing, StepsToEnd, StepsToGo, image_of, meanings_with, MeaningRuns, MeaningTooSmall, MeaningStartless}
 use Rattle.bk_kit.proofs.LanguageRuns.{BeginsOf, Meant, runs}
 use Rattle.bk_kit.proofs.LanguageRuns as language_runs
 use Rattle.bk_kit.proofs.OcodeEnds.{ends_of_itself}
@@ -65,6 +66,18 @@ depth_within (p ∷ parts) [] e = absurd (let h : p.stmts ∷ map (λ (q : Part)
 depth_within (p ∷ parts) (tree ∷ trees) e =
     let h = first_of p parts tree trees e in
     larger (largest_depth p.stmts) (largest_depth (stmts_of_tree tree)) (depth_of parts) (frame_of trees) (ap largest_depth h.0) (depth_within parts trees h.1)
+  where
+    larger : (a b m n : ℕ) → a ≡ b → m ≤ n → max a m ≤ max b n
+    larger a b m n e le = omega arith
+
+-- which has a floor
+own_depth_within : (parts : List Part) (trees : List Declarations) → AreOf parts trees → depth_of parts ≤ of_trees.depth_of trees
+own_depth_within [] [] e = omega arith
+own_depth_within [] (tree ∷ trees) e = absurd (let h : [] ≡ stmts_of_tree tree ∷ codes_of_trees trees = e in cc)
+own_depth_within (p ∷ parts) [] e = absurd (let h : p.stmts ∷ map (λ (q : Part). q.stmts) parts ≡ [] = e in cc)
+own_depth_within (p ∷ parts) (tree ∷ trees) e =
+    let h = first_of p parts tree trees e in
+    larger (largest_depth p.stmts) (largest_depth (stmts_of_tree tree)) (depth_of parts) (of_trees.depth_of trees) (ap largest_depth h.0) (own_depth_within parts trees h.1)
   where
     larger : (a b m n : ℕ) → a ≡ b → m ≤ n → max a m ≤ max b n
     larger a b m n e le = omega arith
@@ -159,22 +172,44 @@ module _ (laws : RunLaws) (image_of : List Declarations → ℕ) (parts : List P
       let m = more_frames (calls + 1) (depth_of parts + 16) (frame_of trees + 16) (omega (arith, d)) in
       omega (arith, fits, m, has)
 
+  holds_frames_of : (d : ℕ) → HasFramesOf (image_of trees) trees d words → HoldsFrames parts words d
+  holds_frames_of d has =
+      let low = own_depth_within parts trees taken.2 in
+      let m = more_frames (d + 1) (depth_of parts + 16) (of_trees.depth_of trees + 16) (omega (arith, low)) in
+      omega (arith, fits, m, has)
+
   -- and at least the image and 16 words
   not_small : (calls : ℕ) → HasWords (image_of trees) trees calls words → words < image parts + 16 → ⊥
   not_small calls has small =
       let m = more_frames (calls + 1) 16 (frame_of trees + 16) (omega arith) in
       omega (arith, fits, m, has, small)
 
+  not_small_of : (d : ℕ) → HasFramesOf (image_of trees) trees d words → words < image parts + 16 → ⊥
+  not_small_of d has small =
+      let m = more_frames (d + 1) 16 (of_trees.depth_of trees + 16) (omega arith) in
+      omega (arith, fits, m, has, small)
+
+  small_to_end : (input : List ℕ) → words < image parts + 16 → EnoughToEnd trees input (image_of trees) steps words ⊎ StepsToEnd trees input (image_of trees) steps words → ⊥
+  small_to_end input small (inl enough) = not_small enough.calls enough.has_words small
+  small_to_end input small (inr enough) = not_small_of enough.d enough.has_words small
+
+  small_to_go : (input : List ℕ) (turns : ℕ) → words < image parts + 16 → EnoughToGo trees input (image_of trees) turns steps words ⊎ StepsToGo trees input (image_of trees) turns steps words → ⊥
+  small_to_go input turns small (inl enough) = not_small enough.calls enough.has_words small
+  small_to_go input turns small (inr enough) = not_small_of enough.d enough.has_words small
+
   pub too_small : (streams : Streams) → words < image parts + 16 → Keeps language source (Err TooSmall) steps words streams streams
   too_small streams small = (
     (trees, taken.1),
-    (λ holds. not_small 0 (subst (λ l. HasWords (image_of l) l 0 words) (same_trees holds.0 holds.1) holds.2) small),
+    (λ holds. no_room (subst (λ l. image_of l + 16 ≤ words) (same_trees holds.0 holds.1) holds.2)),
     (λ input. (
-      (λ enough. not_small (subst (λ l. EnoughToEnd l input (image_of l) steps words) (same_trees enough.0 enough.1) enough.2).calls (subst (λ l. EnoughToEnd l input (image_of l) steps words) (same_trees enough.0 enough.1) enough.2).has_words small),
-      (λ turns enough. not_small (subst (λ l. EnoughToGo l input (image_of l) turns steps words) (same_trees enough.0 enough.1) enough.2).calls (subst (λ l. EnoughToGo l input (image_of l) turns steps words) (same_trees enough.0 enough.1) enough.2).has_words small),
+      (λ enough. small_to_end input small (subst (λ l. EnoughToEnd l input (image_of l) steps words ⊎ StepsToEnd l input (image_of l) steps words) (same_trees enough.0 enough.1) enough.2)),
+      (λ turns enough. small_to_go input turns small (subst (λ l. EnoughToGo l input (image_of l) turns steps words ⊎ StepsToGo l input (image_of l) turns steps words) (same_trees enough.0 enough.1) enough.2)),
     )),
     refl,
   )
+    where
+      no_room : image_of trees + 16 ≤ words → ⊥
+      no_room has = omega (arith, fits, has, small)
 
   module _ (room : image parts + 16 ≤ words) (most : words ≤ STORE_MOST) where
     abbrev placed : Program
@@ -263,6 +298,35 @@ module _ (laws : RunLaws) (image_of : List Declarations → ℕ) (parts : List P
                 by_machine (inr partly) = inr (partly_begins y.last stands bytes (record { rest = []; is = sym y.wrote ∙ sym (append-nil y.last.output) }) partly)
             by_case (inr r) = inr (out_partly ends.calls bytes r)
 
+        -- the loader's placement
+        abbrev placing : Placing trees input (image_of trees)
+        placing = record { placed = placed; first = image parts; low = fits; stands = stands_for; well = well; state = first; begins = of_back.1 }
+
+        enough_steps : StepsToEnd trees input (image_of trees) steps words → (end : End) × (left bytes : List ℕ) × (stands ≡ Over end left bytes) × (end ≢ StoreLimit)
+        enough_steps enough =
+            let h = enough.ends placing in
+            let y = h.3 in
+            let w = y.within in
+            let s = enough.has_steps in (
+              h.2,
+              y.last.input,
+              y.last.output,
+              of_back.2.enough y.steps enough.d steps h.2 y.last y.ends (few y.steps enough.d y.frames) (omega (arith, w, s)) (holds_frames_of enough.d enough.has_words),
+              ends_of_itself placed y.steps first y.last h.2 y.ends,
+            )
+
+        written_steps : (n : ℕ) (bytes : List ℕ) → MeaningGoesOn trees input n bytes → StepsToGo trees input (image_of trees) n steps words → (more : List ℕ) × (output_of stands ≡ bytes ++ more)
+        written_steps n bytes goes enough =
+            let h = enough.comes placing in
+            let y = h.2 in
+            let w = y.within in
+            let s = enough.has_steps in
+            let more = of_back.2.written y.steps enough.d steps y.now y.goes (few y.steps enough.d y.frames) (omega (arith, w, s)) (holds_frames_of enough.d enough.has_words) in
+            (h.0 ++ more.0, more.1 ∙ ap (λ o. o ++ more.0) (y.wrote ∙ ap (λ b. b ++ h.0) same) ∙ append_assoc bytes h.0 more.0)
+          where
+            same : enough.bytes ≡ bytes
+            same = let z : program.Going enough.bytes enough.left enough.calls ≡ program.Going bytes goes.left goes.calls = sym enough.means ∙ goes.means in cc
+
         enough_of : EnoughToEnd trees input (image_of trees) steps words → (end : End) × (left bytes : List ℕ) × (stands ≡ Over end left bytes) × (end ≢ StoreLimit)
         enough_of enough = by_case (ends_so enough.turns enough.bytes enough.left enough.calls enough.last enough.end enough.means enough.is)
           where
@@ -291,17 +355,40 @@ module _ (laws : RunLaws) (image_of : List Declarations → ℕ) (parts : List P
                 (more.0, more.1 ∙ ap (λ o. o ++ more.0) (y.wrote ∙ same))
             by_case (inr r) = absurd (not_out enough.calls enough.bytes enough.has_words r)
 
+        so_far_of : (n : ℕ) (bytes : List ℕ) → MeaningGoesOn trees input n bytes → BeginsOf bytes stands ⊎ ((more : List ℕ) × (output_of stands ≡ bytes ++ more))
+        so_far_of n bytes goes = by_case (goes_so n bytes goes.left goes.calls goes.means)
+          where
+            by_case : ComesWithin placed (image parts) first (16 * n + 16) goes.calls bytes goes.left ⊎ RunsOut placed (image parts) first goes.calls bytes → BeginsOf bytes stands ⊎ ((more : List ℕ) × (output_of stands ≡ bytes ++ more))
+            by_case (inl y) = by_machine (of_back.2.so_far y.steps steps y.now y.goes)
+              where
+                by_machine : IsPartly y.now stands ⊎ ((more : List ℕ) × (output_of stands ≡ y.now.output ++ more)) → BeginsOf bytes stands ⊎ ((more : List ℕ) × (output_of stands ≡ bytes ++ more))
+                by_machine (inl partly) = inl (partly_begins y.now stands bytes (record { rest = []; is = sym y.wrote ∙ sym (append-nil y.now.output) }) partly)
+                by_machine (inr more) = inr (more.0, more.1 ∙ ap (λ o. o ++ more.0) y.wrote)
+            by_case (inr r) = inl (out_partly goes.calls bytes r)
+
         pub meant : Meant language source steps words (loaded_store words (segments parts)) (first_registers (segments parts)) input
         meant = record {
           less = λ took bytes end ends.
               let ends' : MeaningEnds trees input ends.2.0 took bytes end = subst (λ l. MeaningEnds l input ends.2.0 took bytes end) (same_trees ends.0 ends.1) ends.2.1 in
               (ends'.left, ends'.took, less_of ends.2.0 took bytes end ends');
-          enough = λ enough. enough_of (subst (λ l. EnoughToEnd l input (image_of l) steps words) (same_trees enough.0 enough.1) enough.2);
+          enough = λ enough. enough_either (subst (λ l. EnoughToEnd l input (image_of l) steps words ⊎ StepsToEnd l input (image_of l) steps words) (same_trees enough.0 enough.1) enough.2);
           written = λ n bytes goes enough.
-              written_of n bytes (subst (λ l. MeaningGoesOn l input n bytes) (same_trees goes.0 goes.1) goes.2) (subst (λ l. EnoughToGo l input (image_of l) n steps words) (same_trees enough.0 enough.1) enough.2);
+              written_either n bytes (subst (λ l. MeaningGoesOn l input n bytes) (same_trees goes.0 goes.1) goes.2)
+              (subst (λ l. EnoughToGo l input (image_of l) n steps words ⊎ StepsToGo l input (image_of l) n steps words) (same_trees enough.0 enough.1) enough.2);
+          so_far = λ n bytes goes. so_far_of n bytes (subst (λ l. MeaningGoesOn l input n bytes) (same_trees goes.0 goes.1) goes.2);
           never = λ never. never_of (λ n. let goes = (never n).1 in let here : MeaningGoesOn trees input n (never n).0 = subst (λ l. MeaningGoesOn l input n (never n).0) (same_trees goes.0 goes.1) goes.2 in ((never n).0, here.left, here.calls, here.means));
         }
           where
+            enough_either : EnoughToEnd trees input (image_of trees) steps words ⊎ StepsToEnd trees input (image_of trees) steps words
+                → (end : End) × (left bytes : List ℕ) × (stands ≡ Over end left bytes) × (end ≢ StoreLimit)
+            enough_either (inl enough) = enough_of enough
+            enough_either (inr enough) = enough_steps enough
+
+            written_either : (n : ℕ) (bytes : List ℕ) → MeaningGoesOn trees input n bytes → EnoughToGo trees input (image_of trees) n steps words ⊎ StepsToGo trees input (image_of trees) n steps words
+                → (more : List ℕ) × (output_of stands ≡ bytes ++ more)
+            written_either n bytes goes (inl enough) = written_of n bytes goes enough
+            written_either n bytes goes (inr enough) = written_steps n bytes goes enough
+
             never_of : IsWithoutEnd trees input → (turns : ℕ) × (bytes : List ℕ) × language.GoesOn source input turns bytes × BeginsOf bytes stands
             never_of without = by_case (laws.goes_on trees placed (image parts) input first accepted stands_for well of_back.1 without (of_back.3 steps).0)
               where
@@ -312,11 +399,11 @@ module _ (laws : RunLaws) (image_of : List Declarations → ℕ) (parts : List P
 
       -- a run of the machine is one of the source
       pub source_run : (store : List ℕ) (registers : Registers) (before after : Streams) (end : End)
-          → Ran end steps (loaded_store words (segments parts)) (first_registers (segments parts)) store registers (told_streams before) (told_streams after)
+          → Ran AnyBytes end steps (loaded_store words (segments parts)) (first_registers (segments parts)) store registers (told_streams before) (told_streams after)
           → Begins before.passed after.passed → (end ≢ WriteFault → after.passed ≡ after.taken) → Blames end before.reads after.reads after.writes
           → Runs language source end steps words before after
       source_run store registers before after end ran passes passed blamed =
-          runs language source steps words (loaded_store words (segments parts)) (first_registers (segments parts)) meant (trees, taken.1)
+          runs language source steps words (loaded_store words (segments parts)) (first_registers (segments parts)) meant AnyBytes (trees, taken.1)
           (λ none. has_start none.0 none.1 none.2) store registers before after end ran passes passed blamed
 
 -- The laws, from those below.

@@ -18,7 +18,7 @@ use Rattle.bk_intcode.specs.declared.load_fault.LoadFault.{LoadFault}
 use Rattle.bk_intcode.specs.declared.load_fault.LoadFault.TheVariants as load
 use Rattle.bk_intcode.specs.declared.registers.Registers.{Registers}
 use Rattle.bk_intcode.specs.SegmentItems.{items_of}
-use Rattle.bk_intcode.specs.Placement.{any_starts, loaded_store}
+use Rattle.bk_intcode.specs.Placement.{SEGMENTS, stack_start, any_starts, loaded_store}
 use Rattle.bk_intcode.specs.Runs.{Ran, Blames}
 use Rattle.bk_intcode.specs.SegmentLaws.{segment_whole}
 use Rattle.bk_gen.specs.BackEnd.{Part, segments, image, items_of_part}
@@ -26,13 +26,13 @@ use Rattle.bk_gen.specs.StandsFor.{StandsFor}
 use Rattle.bk_kit.specs.declared.kit_fault.KitFault.{KitFault}
 use Rattle.bk_kit.specs.declared.kit_fault.KitFault.TheVariants.{Source, Ocode, Intcode, TooSmall, NoStart, Read, Write, Memory}
 use Rattle.bk_kit.specs.declared.section.CompiledSection.{CompiledSection}
-use Rattle.bk_kit.specs.Interpreting.{Streams, told_streams, first_registers, is_read_fault, is_read}
+use Rattle.bk_kit.specs.Interpreting.{AnyBytes, Streams, told_streams, first_registers, is_read_fault, is_read}
 use Rattle.bk_kit.specs.ReadingSource.{cut_behind, Settles, Follows, IsDelivered, EachSource}
 use Rattle.bk_kit.specs.Sources.{Accepted, Refused, bytes_of, trees_of, codes_of, stmts_of_tree}
 use Rattle.bk_kit.specs.CompilingSection.{codes_in, Compiled, Refuses}
 use Rattle.bk_kit.specs.Loading.{load_refused}
 use Rattle.bk_kit.specs.SourceSections.{IsRefused, HasParts}
-use Rattle.bk_kit.specs.RunningSource.{stmts_of_parts, Stand, Generated, Assembled, NotAssembled, RefusesSource, ReadsSource}
+use Rattle.bk_kit.specs.RunningSource.{stmts_of_parts, Stand, Generated, Assembled, NotAssembled, RefusesSource, ReadsSource, NotLoaded}
 use Rattle.bk_kit.specs.Headline.{Headline}
 use Rattle.bk_kit.specs.SourceMeaning.{meanings, MeaningRuns, MeaningTooSmall, MeaningStartless}
 use Rattle.bk_kit.proofs.SourceSectionLemmas.{meaning_refuses, has_delivered, refused_delivered}
@@ -202,6 +202,24 @@ module _ (words : ℕ) (old new : Option (List ℕ)) (ended : Bool) where
   not_assembled (Ocode section fault) refused steps before = absurd refused
   not_assembled (Intcode segment fault) refused steps before = absurd refused
 
+  -- nor are its segments loaded
+  pub none_loaded : (fault : KitFault) → NotAssembled fault old new ended → NotLoaded fault words old new ended
+  none_loaded (Source fault) refused = tt
+  none_loaded Read refused = tt
+  none_loaded Memory refused = tt
+  none_loaded TooSmall refused = absurd refused
+  none_loaded NoStart refused = absurd refused
+  none_loaded Write refused = absurd refused
+  none_loaded (Ocode section fault) refused = absurd refused
+  none_loaded (Intcode segment fault) refused = absurd refused
+
+  pub segments_not_loaded : (fault : LoadFault) (all : List (List Item)) → Assembled all old new ended
+      → (fault ≡ load.TooSmall → words < stack_start SEGMENTS all + 16) → (fault ≡ load.NoStart → (stack_start SEGMENTS all + 16 ≤ words) × (any_starts all ≡ false))
+      → NotLoaded (load_refused fault) words old new ended
+  segments_not_loaded load.TooSmall all made low none = (all, made, low refl)
+  segments_not_loaded load.NoStart all made low none = (all, made, (none refl).0, (none refl).1)
+  segments_not_loaded load.Memory all made low none = tt
+
   -- of one whose segments are not loaded
   pub not_loaded : MeaningTooSmall → MeaningStartless → words ≤ STORE_MOST → (fault : LoadFault) (parts : List Part) → EachSource old new ended (HasParts parts)
       → (fault ≡ load.TooSmall → words < image parts + 16) → (fault ≡ load.NoStart → (image parts + 16 ≤ words) × (any_starts (segments parts) ≡ false))
@@ -215,7 +233,7 @@ module _ (words : ℕ) (old new : Option (List ℕ)) (ended : Bool) where
   -- of one that is run
   pub source_runs : MeaningRuns → (end : End) (steps : ℕ) (before after : Streams) (parts : List Part) (store : List ℕ) (registers : Registers)
       → EachSource old new ended (HasParts parts) → image parts + 16 ≤ words → words ≤ STORE_MOST → any_starts (segments parts) ≡ true
-      → Ran end steps (loaded_store words (segments parts)) (first_registers (segments parts)) store registers (told_streams before) (told_streams after)
+      → Ran AnyBytes end steps (loaded_store words (segments parts)) (first_registers (segments parts)) store registers (told_streams before) (told_streams after)
       → Begins before.passed after.passed → (end ≢ WriteFault → after.passed ≡ after.taken) → Blames end before.reads after.reads after.writes
       → Headline meanings (Ok end) steps words old new ended before after
   source_runs runs end steps before after parts store registers has room most starts ran passes passed blamed =

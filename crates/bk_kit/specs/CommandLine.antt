@@ -1,10 +1,16 @@
 -- The command line: its subcommands with their options, and what an order reads of the words.
-use Rattle.std.specs.Prelude.{◌≡◌, ℕ, pos, Bool, true, false, List, [], ◌∷◌, Option, None, Some, codes, string_bytes}
+use Rattle.std.specs.Prelude.{◌≡◌, ◌≢◌, ◌⊎◌, ℕ, ◌≤◌, ⊤, pos, Bool, true, false, List, [], ◌∷◌, Option, None, Some, codes, string_bytes}
 use Rattle.std.specs.Str.Parse.{IsNumeral, digits_value, without_leading_plus}
-use Rattle.clap.specs.Words.{App, Row, Rule, Text, new_app, new_rule, one_of, first_of, with_rule, with_subcommand}
+use Rattle.clap.specs.Faults.{fault_of}
+use Rattle.clap.specs.Words.{App, Row, Rule, Text, IsAmong, new_app, new_rule, one_of, first_of, subcommand_of, takes, with_rule, with_subcommand}
+use Rattle.clap.specs.declared.error.kind.ErrorKind.{ErrorKind}
+use Rattle.clap.specs.declared.error.kind.ErrorKind.TheVariants as kind
 use Rattle.clap.specs.declared.builder.ArgAction.TheVariants.{Set, SetTrue}
 use Rattle.clap.specs.declared.builder.ValueParser.TheVariants as vp
 use Rattle.bk_base.specs.Bounds.{Bounds}
+use Rattle.bk_base.specs.declared.limit.TheConstants.{STEPS_MOST, STORE_LEAST, STORE_MOST}
+use Rattle.bk_kit.specs.declared.command_line.LineFault.{LineFault}
+use Rattle.bk_kit.specs.declared.command_line.LineFault.TheVariants.{Help, Bad, Memory}
 use Rattle.bk_kit.specs.declared.orders.Order.{Order}
 use Rattle.bk_kit.specs.declared.orders.Order.TheVariants.{Compile, Generate, Run, Interpret, Sizes}
 
@@ -64,7 +70,7 @@ file_name Compile = None
 file_name Generate = None
 file_name (Run limits name) = Some (string_bytes name)
 file_name (Interpret limits name) = Some (string_bytes name)
-file_name (Sizes limits name) = Some (string_bytes name)
+file_name (Sizes words name) = Some (string_bytes name)
 
 -- the text of a truth value
 abbrev pub truth_text : Bool → Text
@@ -80,6 +86,10 @@ ReadsNumber (Some text) number =
 abbrev pub ReadsLimits : List Row → Bounds → Type 0
 ReadsLimits rows limits = ReadsNumber (one_of (codes "words") rows) limits.words × ReadsNumber (one_of (codes "steps") rows) limits.steps
 
+-- the words of the store alone; `-t` gives a number of steps too
+abbrev pub ReadsWords : List Row → ℕ → Type 0
+ReadsWords rows words = (steps : ℕ) × (1 ≤ steps) × (steps ≤ STEPS_MOST) × ReadsLimits rows (record { steps = steps; words = words })
+
 -- An order is read from the subcommand that the words name, and the values that they give it.
 abbrev pub Reads : Option (Text × List Row) → Order → Type 0
 Reads None order = ⊥
@@ -90,6 +100,49 @@ Reads (Some found) (Run limits file) =
 Reads (Some found) (Interpret limits file) =
     (found.0 ≡ codes "interpret") × (one_of (codes "sizes") found.1 ≡ Some (truth_text false))
     × ReadsLimits found.1 limits × (first_of (codes "file") found.1 ≡ Some (string_bytes file))
-Reads (Some found) (Sizes limits file) =
+Reads (Some found) (Sizes words file) =
     (found.0 ≡ codes "interpret") × (one_of (codes "sizes") found.1 ≡ Some (truth_text true))
-    × ReadsLimits found.1 limits × (first_of (codes "file") found.1 ≡ Some (string_bytes file))
+    × ReadsWords found.1 words × (first_of (codes "file") found.1 ≡ Some (string_bytes file))
+
+-- ---- why words give no order
+
+abbrev pub AreLimits : Bounds → Type 0
+AreLimits limits = (1 ≤ limits.steps) × (limits.steps ≤ STEPS_MOST) × (STORE_LEAST ≤ limits.words) × (limits.words ≤ STORE_MOST)
+
+abbrev pub HasLimits : Order → Type 0
+HasLimits Compile = ⊤
+HasLimits Generate = ⊤
+HasLimits (Run limits file) = AreLimits limits
+HasLimits (Interpret limits file) = AreLimits limits
+HasLimits (Sizes words file) = (STORE_LEAST ≤ words) × (words ≤ STORE_MOST)
+
+-- the subcommand and its values are those of an order
+abbrev pub IsOrder : Option (Text × List Row) → Type 0
+IsOrder found = (order : Order) × HasLimits order × Reads found order
+
+-- a fault of the values
+abbrev pub RefusesValues : Option (Text × List Row) → LineFault → Type 0
+RefusesValues found (Help help) = ⊥
+RefusesValues found Bad = IsOrder found → ⊥
+RefusesValues found Memory = ⊤
+
+-- a fault that stands for an error of clap, by its kind
+abbrev pub IsHelp : ErrorKind → Type 0
+IsHelp k = (k ≡ kind.DisplayHelp) ⊎ (k ≡ kind.DisplayVersion)
+
+abbrev pub IsFaultOf : ErrorKind → LineFault → Type 0
+IsFaultOf k (Help help) = IsHelp k
+IsFaultOf k Bad = (k ≢ kind.OutOfMemory) × (IsHelp k → ⊥)
+IsFaultOf k Memory = k ≡ kind.OutOfMemory
+
+-- The command does not take the words, for a fault of such a kind.
+abbrev pub FailsAs : List Text → (ErrorKind → Type 0) → Type 0
+FailsAs words Is = (takes kit_command words ≡ true → ⊥) × ((k : ErrorKind) × IsAmong k (fault_of kit_command words) × Is k)
+
+-- `Help` comes where the command does not take the words but asks for help or the version; `Bad` where it does not take them for another
+-- fault, or where it finds no fault and they say no order.
+abbrev pub Refuses : List Text → LineFault → Type 0
+Refuses words (Help help) = FailsAs words IsHelp
+Refuses words Bad =
+    FailsAs words (λ k. IsHelp k → ⊥) ⊎ ((fault_of kit_command words ≡ []) × (IsOrder (subcommand_of kit_command words) → ⊥))
+Refuses words Memory = ⊤

@@ -27,9 +27,9 @@ use Rattle.bk_kit.specs.Telling.{Output}
 use Rattle.bk_kit.specs.Filters.{Puts, Ends}
 use Rattle.bk_kit.specs.Texts.{Format, parts, refused, part_number, SaysWhateverFollows}
 
--- sections of OCODE as parts of a text
+-- sections of OCODE as parts of a text, with numbers and bytes of their types
 abbrev pub ocode : Format (List Stmt) OcodeKind
-ocode = record { Whole = IsSection; words = section_words; Refuses = λ statement kind words. first.Says (first.fault statement kind) words }
+ocode = record { Whole = λ stmts. IsSection stmts × AreTyped stmts; words = section_words; Refuses = λ statement kind words. first.Says (first.fault statement kind) words }
 
 -- what the kit answers of a section behind so many others that is refused
 abbrev pub ocode_refused : ℕ → Refused OcodeFault → KitFault

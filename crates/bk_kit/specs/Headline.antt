@@ -1,6 +1,6 @@
 -- What running a source promises, for any language: the bytes and the end of the source's meaning with enough steps and words,
 -- and a beginning of the bytes with less.
-use Rattle.std.specs.Prelude.{◌≡◌, ◌≢◌, ℕ, Bool, List, ◌++◌, Option, Result, Ok, Err}
+use Rattle.std.specs.Prelude.{◌≡◌, ◌≢◌, ◌⊎◌, ℕ, Bool, List, ◌++◌, Option, Result, Ok, Err}
 use Rattle.bk_base.specs.Devices.{Begins}
 use Rattle.bk_base.specs.declared.run_end.End.{End}
 use Rattle.bk_base.specs.declared.run_end.End.TheVariants.{Status, DivideByZero, StoreLimit, StepLimit, BadOperation, ReadFault, WriteFault}
@@ -23,12 +23,16 @@ pub record Language : Type 1 where
   pub Ends : (source input taken bytes : List ℕ) → End → Type 0
   -- with this input the meaning has written these bytes after so many turns, and goes on
   pub GoesOn : (source input : List ℕ) → ℕ → List ℕ → Type 0
-  -- so many words hold the source before its run, and one frame
+  -- so many words hold the source before its run, and 16 words more
   pub Holds : List ℕ → ℕ → Type 0
   -- so many steps and words are enough for the meaning's end
   pub Enough : (source input : List ℕ) → (steps words : ℕ) → Type 0
   -- so many steps and words are enough for so many turns
   pub EnoughFor : (source input : List ℕ) → ℕ → (steps words : ℕ) → Type 0
+
+-- One begins the other.
+abbrev pub OneBegins : List ℕ → List ℕ → Type 0
+OneBegins some others = ((more : List ℕ) × (some ≡ others ++ more)) ⊎ ((more : List ℕ) × (others ≡ some ++ more))
 
 module _ (language : Language) (source input : List ℕ) (steps words : ℕ) where
   -- The meaning ends so, with just these bytes.
@@ -40,19 +44,25 @@ module _ (language : Language) (source input : List ℕ) (steps words : ℕ) whe
   abbrev pub NeverEnds : Type 0
   NeverEnds = (turns : ℕ) → (bytes : List ℕ) × language.GoesOn source input turns bytes
 
-  -- These bytes begin those of the meaning: of its end, or of some number of turns where it goes on for ever.
+  -- These bytes begin those of the meaning: of its end, or of some number of turns where it goes on for ever. With those of any number
+  -- of turns, also of a meaning that is undefined later, one begins the other.
   pub record IsPart (written : List ℕ) : Type 0 where
     pub of_end : (taken bytes : List ℕ) (last : End) → language.Ends source input taken bytes last → (more : List ℕ) × (bytes ≡ written ++ more)
     pub of_turns : NeverEnds → (turns : ℕ) × (bytes more : List ℕ) × language.GoesOn source input turns bytes × (bytes ≡ written ++ more)
+    pub of_any : (turns : ℕ) (bytes : List ℕ) → language.GoesOn source input turns bytes → OneBegins bytes written
 
   -- What the meaning writes in the turns for which there were enough steps and words was written.
   abbrev pub Reaches : List ℕ → Type 0
   Reaches written = (turns : ℕ) (bytes : List ℕ) → language.GoesOn source input turns bytes → language.EnoughFor source input turns steps words
       → (more : List ℕ) × (written ≡ bytes ++ more)
 
+  -- What the meaning writes in any number of turns was written, also of a meaning that is undefined later.
+  abbrev pub Covers : List ℕ → Type 0
+  Covers written = (turns : ℕ) (bytes : List ℕ) → language.GoesOn source input turns bytes → (more : List ℕ) × (written ≡ bytes ++ more)
+
   -- an end that only a meaning that ends has
   abbrev pub IsEnd : End → List ℕ → List ℕ → Type 0
-  IsEnd end read written = IsWhole end read written × (NeverEnds → ⊥) × Reaches written
+  IsEnd end read written = IsWhole end read written × (NeverEnds → ⊥) × Covers written
 
   -- not enough for the meaning's end
   abbrev pub TooFew : Type 0

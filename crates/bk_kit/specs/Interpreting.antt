@@ -57,18 +57,23 @@ pub record Loads (machine : Machine) (words : ℕ) (old new : Option (List ℕ))
   pub fresh : end_of machine ≡ None
   pub sizes : sizes_of machine ≡ record { image = stack_start SEGMENTS all; frame = greatest_frame all }
 
--- The segments of the text were loaded and run, and the run ended so.
-pub record Interprets (end : End) (steps words : ℕ) (old new : Option (List ℕ)) (ended : Bool) (before after : Told) : Type 0 where
+-- a reader that can hold any bytes
+abbrev pub AnyBytes : List ℕ → Type 0
+AnyBytes bytes = ⊤
+
+-- The segments of the text were loaded and run, and the run ended so. Holds says what the reader of the input can hold.
+pub record Interprets (Holds : List ℕ → Type 0) (end : End) (steps words : ℕ) (old new : Option (List ℕ)) (ended : Bool) (before after : Told) : Type 0 where
   pub all : List (List Item)
   pub loadable : Loadable all words old new ended
   pub store : List ℕ
   pub registers : Registers
-  pub ran : Ran end steps (loaded_store words all) (first_registers all) store registers before after
+  pub ran : Ran Holds end steps (loaded_store words all) (first_registers all) store registers before after
 
--- What input and output tell at a moment: the bytes left, and whether the end was told; the bytes taken, and those passed
--- on; how often each failed.
+-- What input and output tell at a moment: the bytes left, those of them that the reader holds, and whether the end was told; the
+-- bytes taken, and those passed on; how often each failed.
 pub record Streams : Type 0 where
   pub left : Option (List ℕ)
+  pub held : List ℕ
   pub ended : Bool
   pub taken : Option (List ℕ)
   pub passed : Option (List ℕ)
@@ -76,15 +81,15 @@ pub record Streams : Type 0 where
   pub writes : ℕ
 
 abbrev pub told_streams : Streams → Told
-told_streams streams = record { left = streams.left; ended = streams.ended; taken = streams.taken }
+told_streams streams = record { left = streams.left; held = streams.held; ended = streams.ended; taken = streams.taken; passed = streams.passed }
 
 -- What interpreting answers: the end of the run, behind which what was passed on before is still the beginning of what was
 -- passed on, and is all that was taken unless the output failed; or the fault of a text of which nothing was run.
-abbrev pub Interpreted : Result End KitFault → ℕ → ℕ → Option (List ℕ) → Option (List ℕ) → Bool → Streams → Streams → Type 0
-Interpreted (Ok end) steps words old new ended before after =
-    Interprets end steps words old new ended (told_streams before) (told_streams after)
+abbrev pub Interpreted : (List ℕ → Type 0) → Result End KitFault → ℕ → ℕ → Option (List ℕ) → Option (List ℕ) → Bool → Streams → Streams → Type 0
+Interpreted Holds (Ok end) steps words old new ended before after =
+    Interprets Holds end steps words old new ended (told_streams before) (told_streams after)
     × Begins before.passed after.passed × (end ≢ WriteFault → after.passed ≡ after.taken) × Blames end before.reads after.reads after.writes
-Interpreted (Err fault) steps words old new ended before after = CodeRefused fault words old new ended × (after ≡ before)
+Interpreted Holds (Err fault) steps words old new ended before after = CodeRefused fault words old new ended × (after ≡ before)
 
 -- the fault of a read
 abbrev pub is_read_fault : KitFault → Bool

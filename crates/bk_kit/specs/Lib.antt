@@ -4,6 +4,7 @@ pub mod Loading
 pub mod Texts
 pub mod Code
 pub mod Interpreting
+pub mod AnyReader
 pub mod Headline
 pub mod RunningSource
 pub mod Statuses

@@ -1,15 +1,18 @@
 -- What running a source comes to on the way: its segments, a machine that holds them, and what refuses it.
-use Rattle.std.specs.Prelude.{◌≡◌, ℕ, ◌+◌, ◌≤◌, Bool, true, ⊤, List, ◌++◌, Option, None, Err, map}
+use Rattle.std.specs.Prelude.{◌≡◌, ℕ, ◌+◌, ◌<◌, ◌≤◌, Bool, true, false, ⊤, List, ◌++◌, Option, None, Result, Ok, Err, map}
+use Rattle.bk_base.specs.declared.run_end.End.{End}
 use Rattle.bk_intcode.specs.declared.item.Item.{Item}
 use Rattle.bk_intcode.specs.declared.machine.Machine.{Machine}
+use Rattle.bk_intcode.specs.declared.registers.Registers.{Registers}
 use Rattle.bk_intcode.specs.State.{store_of, registers_of, end_of}
-use Rattle.bk_intcode.specs.Placement.{any_starts, loaded_store}
+use Rattle.bk_intcode.specs.Placement.{SEGMENTS, stack_start, any_starts, loaded_store}
+use Rattle.bk_intcode.specs.Runs.{Ran}
 use Rattle.bk_lex.specs.declared.cutter.Cut.TheVariants.{More}
 use Rattle.bk_ocode.specs.declared.stmt.Stmt.{Stmt}
 use Rattle.bk_gen.specs.BackEnd.{Part, segments, image}
 use Rattle.bk_kit.specs.declared.kit_fault.KitFault.{KitFault}
 use Rattle.bk_kit.specs.declared.kit_fault.KitFault.TheVariants.{Source, Ocode, Intcode, TooSmall, NoStart, Read, Write, Memory}
-use Rattle.bk_kit.specs.Interpreting.{Streams, first_registers}
+use Rattle.bk_kit.specs.Interpreting.{Streams, told_streams, HasRoom, first_registers}
 use Rattle.bk_kit.specs.Headline.{Headline}
 use Rattle.bk_kit.specs.ReadingSource.{cut_behind, EachSource}
 use Rattle.bk_kit.specs.Compiling.{Delivered}
@@ -65,3 +68,28 @@ pub record LoadsSource (machine : Machine) (words : ℕ) (old new : Option (List
 -- What refuses a source before anything runs, whatever the steps, the input and the output.
 abbrev pub RefusesSource : KitFault → ℕ → Option (List ℕ) → Option (List ℕ) → Bool → Type 0
 RefusesSource fault words old new ended = (steps : ℕ) (before : Streams) → Headline meanings (Err fault) steps words old new ended before before
+
+-- ---- limits
+
+-- Segments that stand for the sections of the source were loaded into a store of just so many words and run for at most so many steps, and
+-- for just so many where the end is `StepLimit`. At each end the bytes read and written are those of the run. Holds says what the reader
+-- of the input can hold.
+pub record RunsSegments (Holds : List ℕ → Type 0) (end : End) (steps words : ℕ) (old new : Option (List ℕ)) (ended : Bool) (before after : Streams) : Type 0 where
+  pub all : List (List Item)
+  pub assembled : Assembled all old new ended
+  pub room : HasRoom words all
+  pub starts : any_starts all ≡ true
+  pub store : List ℕ
+  pub registers : Registers
+  pub ran : Ran Holds end steps (loaded_store words all) (first_registers all) store registers (told_streams before) (told_streams after)
+
+-- Why such segments are not loaded: they leave less than 16 words for the stack; or else, none sets START.
+abbrev pub NotLoaded : KitFault → ℕ → Option (List ℕ) → Option (List ℕ) → Bool → Type 0
+NotLoaded TooSmall words old new ended = (all : List (List Item)) × Assembled all old new ended × (words < stack_start SEGMENTS all + 16)
+NotLoaded NoStart words old new ended = (all : List (List Item)) × Assembled all old new ended × HasRoom words all × (any_starts all ≡ false)
+NotLoaded fault words old new ended = ⊤
+
+-- THE LIMITS. What the loader and the machine answer, for any meaning.
+abbrev pub KeepsLimits : (List ℕ → Type 0) → Result End KitFault → (steps words : ℕ) → Option (List ℕ) → Option (List ℕ) → Bool → Streams → Streams → Type 0
+KeepsLimits Holds (Ok end) steps words old new ended before after = RunsSegments Holds end steps words old new ended before after
+KeepsLimits Holds (Err fault) steps words old new ended before after = NotLoaded fault words old new ended

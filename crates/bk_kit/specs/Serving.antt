@@ -1,5 +1,5 @@
 -- What serving an order comes to: what it asks for, the exit status, and the line on the error stream.
-use Rattle.std.specs.Prelude.{◌≡◌, ℕ, List, Option, Bool, Result}
+use Rattle.std.specs.Prelude.{◌≡◌, ℕ, ⊤, List, Option, Bool, Result, if◌then◌else◌}
 use Rattle.bk_base.specs.declared.run_end.End.{End}
 use Rattle.bk_kit.specs.declared.kit_fault.KitFault.{KitFault}
 use Rattle.bk_kit.specs.declared.orders.Order.{Order}
@@ -8,9 +8,9 @@ use Rattle.bk_kit.specs.Interpreting.{Streams, Interpreted, is_read}
 use Rattle.bk_kit.specs.Headline.{Headline}
 use Rattle.bk_kit.specs.Compiling.{Compiles}
 use Rattle.bk_kit.specs.Generating.{Generates}
-use Rattle.bk_kit.specs.RunningSource.{ReadsSource}
+use Rattle.bk_kit.specs.RunningSource.{ReadsSource, KeepsLimits}
 use Rattle.bk_kit.specs.SourceMeaning.{meanings}
-use Rattle.bk_kit.specs.Sizes.{Reports}
+use Rattle.bk_kit.specs.Sizes.{store_words, Reports}
 use Rattle.bk_kit.specs.Statuses.{run_status, run_line, done_status, done_line}
 use Rattle.bk_kit.specs.Telling.{Output, Tells}
 
@@ -18,21 +18,37 @@ use Rattle.bk_kit.specs.Telling.{Output, Tells}
 abbrev pub output_of : Streams → Output
 output_of streams = record { taken = streams.taken; passed = streams.passed; faults = streams.writes }
 
-abbrev pub Serves : Order → ℕ → Option (List ℕ) → Option (List ℕ) → Bool → Streams → Streams → Output → Output → Type 0
--- the filters go from the input to the output, and leave FILE as it is
-Serves Compile status old new ended before after err_before err_after =
+-- FILE failed where the answer says that it could not be read, and nowhere else
+abbrev pub Fails : {T : Type 0} → Result T KitFault → ℕ → Type 0
+Fails answer faults = faults ≡ (if is_read answer then 1 else 0)
+
+-- `faults` counts the failures of FILE; Holds says what the reader of the input can hold.
+abbrev pub Serves : (List ℕ → Type 0) → Order → ℕ → Option (List ℕ) → Option (List ℕ) → Bool → (faults : ℕ) → Streams → Streams → Output → Output → Type 0
+-- the filters go from the input to the output
+Serves Holds Compile status old new ended faults before after err_before err_after =
     (answer : Result (Unit {0}) KitFault) × Compiles answer before.left after.left after.ended after.reads (output_of before) (output_of after)
-    × (status ≡ done_status answer) × Tells (done_line answer) err_before err_after × (new ≡ old)
-Serves Generate status old new ended before after err_before err_after =
-    (answer : Result (Unit {0}) KitFault) × Generates answer before.left after.left after.ended after.reads (output_of before) (output_of after)
-    × (status ≡ done_status answer) × Tells (done_line answer) err_before err_after × (new ≡ old)
-Serves (Run limits name) status old new ended before after err_before err_after =
-    (answer : Result End KitFault) × Headline meanings answer limits.steps limits.words old new ended before after × ReadsSource (is_read answer) old new
-    × (status ≡ run_status answer) × Tells (run_line answer) err_before err_after
-Serves (Interpret limits name) status old new ended before after err_before err_after =
-    (answer : Result End KitFault) × Interpreted answer limits.steps limits.words old new ended before after
-    × (status ≡ run_status answer) × Tells (run_line answer) err_before err_after
-Serves (Sizes limits name) status old new ended before after err_before err_after =
-    (answer : Result (Unit {0}) KitFault) × Reports answer limits.words old new ended (output_of before) (output_of after)
     × (status ≡ done_status answer) × Tells (done_line answer) err_before err_after
-    × (after.left ≡ before.left) × (after.ended ≡ before.ended) × (after.reads ≡ before.reads)
+Serves Holds Generate status old new ended faults before after err_before err_after =
+    (answer : Result (Unit {0}) KitFault) × Generates answer before.left after.left after.ended after.reads (output_of before) (output_of after)
+    × (status ≡ done_status answer) × Tells (done_line answer) err_before err_after
+Serves Holds (Run limits name) status old new ended faults before after err_before err_after =
+    (answer : Result End KitFault) × Headline meanings answer limits.steps limits.words old new ended before after
+    × KeepsLimits Holds answer limits.steps limits.words old new ended before after
+    × ReadsSource (is_read answer) old new × Fails answer faults
+    × (status ≡ run_status answer) × Tells (run_line answer) err_before err_after
+Serves Holds (Interpret limits name) status old new ended faults before after err_before err_after =
+    (answer : Result End KitFault) × Interpreted Holds answer limits.steps limits.words old new ended before after × Fails answer faults
+    × (status ≡ run_status answer) × Tells (run_line answer) err_before err_after
+Serves Holds (Sizes words name) status old new ended faults before after err_before err_after =
+    (answer : Result (Unit {0}) KitFault) × Reports answer (store_words words) old new ended (output_of before) (output_of after) × Fails answer faults
+    × (status ≡ done_status answer) × Tells (done_line answer) err_before err_after
+
+-- The filters ask nothing of FILE, and `--sizes` nothing of the input.
+abbrev pub LeavesFile : {F : Type 0} → Order → F → F → Type 0
+LeavesFile Compile old new = new ≡ old
+LeavesFile Generate old new = new ≡ old
+LeavesFile order old new = ⊤
+
+abbrev pub LeavesInput : {I : Type 0} → Order → I → I → Type 0
+LeavesInput (Sizes words name) old new = new ≡ old
+LeavesInput order old new = ⊤

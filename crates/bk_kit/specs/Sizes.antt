@@ -1,7 +1,8 @@
 -- The report of what segments need.
-use Rattle.std.specs.Prelude.{◌≡◌, ℕ, List, ◌++◌, Option, Bool, Result, Ok, Err, codes, decimal}
+use Rattle.std.specs.Prelude.{◌≡◌, ℕ, min, max, List, ◌++◌, Option, Bool, Result, Ok, Err, codes, decimal}
 use Rattle.std.specs.Io.KnownBytes.{Appends}
 use Rattle.bk_base.specs.Devices.{AppendsPart}
+use Rattle.bk_base.specs.declared.limit.TheConstants.{STORE_LEAST, STORE_MOST}
 use Rattle.bk_intcode.specs.declared.item.Item.{Item}
 use Rattle.bk_intcode.specs.declared.machine.Sizes.{Sizes}
 use Rattle.bk_intcode.specs.Placement.{SEGMENTS, stack_start, greatest_frame}
@@ -22,6 +23,10 @@ pub record Needs (sizes : Sizes) (words : ℕ) (old new : Option (List ℕ)) (en
   pub all : List (List Item)
   pub loadable : Loadable all words old new ended
   pub are : sizes ≡ sizes_of_segments all
+
+-- How many words the store has for which so many were asked: the nearest number within the limits.
+abbrev pub store_words : ℕ → ℕ
+store_words words = min (max words STORE_LEAST) STORE_MOST
 
 -- What a report comes to: the line is written and passed on, or in part where the output failed, or the text is refused
 -- and nothing is written.

@@ -1,40 +1,44 @@
--- The code of a source: texts of segments that stand for its sections, as the two filters write them one after the other, and what
--- interpreting it comes to.
-use Rattle.std.specs.Prelude.{◌≡◌, ◌≢◌, ℕ, ◌<◌, ◌≤◌, Bool, IsTrue, List, [], Option, Some, Result, Ok, length, map}
+-- The code of a source: texts of segments that stand for its sections, what interpreting it comes to, and that the filters write it.
+use Rattle.std.specs.Prelude.{◌≡◌, ◌≢◌, ℕ, ◌<◌, ◌≤◌, Bool, IsTrue, ⊤, List, [], ◌∷◌, Option, Some, Result, Ok, Err, OnOk, length}
 use Rattle.std.specs.Io.KnownBytes.{Appends}
 use Rattle.bk_base.specs.declared.limit.TheConstants.{INPUT_BYTES, STORE_MOST}
 use Rattle.bk_base.specs.declared.run_end.End.{End}
-use Rattle.bk_intcode.specs.declared.item.Item.{Item}
-use Rattle.bk_intcode.specs.Placement.{SEGMENTS, stack_start, greatest_frame}
+use Rattle.bk_words.specs.Words.{words_of}
+use Rattle.bk_intcode.specs.Placement.{greatest_frame}
+use Rattle.bk_gen.specs.BackEnd.{Part, segments, image}
+use Rattle.bk_gen.specs.StandsFor.{EndsWithFrame, frame_words}
 use Rattle.bk_tree.specs.Tree.{Declarations}
 use Rattle.bk_kit.specs.declared.kit_fault.KitFault.{KitFault}
+use Rattle.bk_kit.specs.declared.kit_fault.KitFault.TheVariants.{TooSmall, NoStart, Read, Write, Memory}
 use Rattle.bk_kit.specs.Headline.{Keeps}
 use Rattle.bk_kit.specs.Telling.{Output}
 use Rattle.bk_kit.specs.ReadingSource.{EachSource}
+use Rattle.bk_kit.specs.Texts.{all_words}
+use Rattle.bk_kit.specs.Code.{intcode}
 use Rattle.bk_kit.specs.Compiling.{Compiles}
-use Rattle.bk_kit.specs.Generating.{Generated, AreGenerated, sections_of, texts_of, Generates}
-use Rattle.bk_kit.specs.Interpreting.{Streams, Interpreted}
-use Rattle.bk_kit.specs.Sources.{codes_of_trees}
-use Rattle.bk_kit.specs.SourceSections.{HasTrees}
-use Rattle.bk_kit.specs.SourceMeaning.{frame_of, meanings_with}
+use Rattle.bk_kit.specs.Generating.{Generates}
+use Rattle.bk_kit.specs.Interpreting.{AnyBytes, Streams, Interpreted}
+use Rattle.bk_kit.specs.Sizes.{sizes_line, Reports}
+use Rattle.bk_kit.specs.SourceSections.{HasTrees, HasParts}
+use Rattle.bk_kit.specs.SourceMeaning.{frame_of, image_of, meanings_with}
 
--- The text of one segment after another, each of which stands for its section of the source.
+-- A text of segments of which each stands for its section of the source: their words, with any blanks between them.
 pub record IsCodeOf (source code : List ℕ) : Type 0 where
-  pub trees : List Declarations
-  pub has : HasTrees source trees
-  pub generated : List Generated
-  pub are : AreGenerated generated
-  pub sections : sections_of generated ≡ codes_of_trees trees
-  pub text : code ≡ texts_of generated
+  pub parts : List Part
+  pub has : HasParts parts source
+  pub words : words_of code ≡ all_words intcode (segments parts)
 
--- generating from this text writes the code of this source
+-- Each segment tells the largest depth of its section.
+abbrev pub TellFrames : List Part → Type 0
+TellFrames [] = ⊤
+TellFrames (p ∷ rest) = EndsWithFrame p.items (frame_words p.stmts) × TellFrames rest
+
+-- generating from this text writes the code of this source, which tells its frames
 abbrev pub WritesCode : List ℕ → List ℕ → Type 0
 WritesCode source text =
     (left : Option (List ℕ)) (ended : Bool) (faults : ℕ) (before after : Output) (done : Unit {0}) → length text < INPUT_BYTES → (IsTrue ended → left ≡ Some [])
-    → Generates (Ok done) (Some text) left ended faults before after → (code : List ℕ) × IsCodeOf source code × Appends before.taken after.taken code
-
-abbrev pub segments_of : List Generated → List (List Item)
-segments_of generated = map (λ (g : Generated). g.items) generated
+    → Generates (Ok done) (Some text) left ended faults before after
+    → (code : List ℕ) × Appends before.taken after.taken code × ((is : IsCodeOf source code) × TellFrames is.parts)
 
 -- The filters, one after the other. Where `compile` is answered Ok, what it wrote is a text; and where `generate_all` is answered Ok on a
 -- device that holds just this text, what it wrote is the code of the source.
@@ -43,13 +47,65 @@ FiltersWriteCode = (old new : Option (List ℕ)) (ended : Bool) (reads : ℕ) (b
     → EachSource old new ended (λ source. (text : List ℕ) × Appends before.taken after.taken text × WritesCode source text)
 
 -- Interpreting the code of a source, where the device holds just that, promises of the source what running it does; the words before
--- the stack are those up to its first word.
+-- the stack are those up to its first word. It speaks of a reader that can hold any bytes, as each is (`AnyReader`).
 abbrev pub InterpretsSources : Type 0
 InterpretsSources = (source code : List ℕ) (is : IsCodeOf source code) (answer : Result End KitFault) (steps words : ℕ) (new : Option (List ℕ)) (ended : Bool) (before after : Streams)
     → length code < INPUT_BYTES → words ≤ STORE_MOST → (IsTrue ended → new ≡ Some [])
-    → Interpreted answer steps words (Some code) new ended before after
-    → Keeps (meanings_with (λ trees. stack_start SEGMENTS (segments_of is.generated))) source answer steps words before after
+    → Interpreted AnyBytes answer steps words (Some code) new ended before after
+    → Keeps (meanings_with (λ trees. image is.parts)) source answer steps words before after
 
--- The largest frame that is reported of the code is the number of the source.
+-- The largest frame that is reported of code that tells its frames is the number of the source.
 abbrev pub FramesAreOfSources : Type 0
-FramesAreOfSources = (source code : List ℕ) (is : IsCodeOf source code) → is.trees ≢ [] → greatest_frame (segments_of is.generated) ≡ frame_of is.trees
+FramesAreOfSources = (source code : List ℕ) (is : IsCodeOf source code) → TellFrames is.parts → is.has.0 ≢ [] → greatest_frame (segments is.parts) ≡ frame_of is.has.0
+
+-- ---- one after another
+
+-- nothing is refused: the answer is Ok, or tells of a device or of memory
+abbrev pub IsNotRefused : {T : Type 0} → Result T KitFault → Type 0
+IsNotRefused (Ok done) = ⊤
+IsNotRefused (Err Read) = ⊤
+IsNotRefused (Err Write) = ⊤
+IsNotRefused (Err Memory) = ⊤
+IsNotRefused (Err fault) = ⊥
+
+-- no segment is refused: the answer may be that none sets START, or that the store is too small
+abbrev pub FindsNoFault : {T : Type 0} → Result T KitFault → Type 0
+FindsNoFault (Err TooSmall) = ⊤
+FindsNoFault (Err NoStart) = ⊤
+FindsNoFault answer = IsNotRefused answer
+
+-- An accepted source with its trees. Each call finds a device that holds just what the call before it wrote.
+module _ (source : List ℕ) (trees : List Declarations) where
+  -- `interpret` keeps the headline of the source on this text, with so many words before the stack, and no more than `run_source`. `sizes`
+  -- writes this number of the text, and the largest frame of the source.
+  pub record RunsAs (code : List ℕ) : Type 0 where
+    pub before_stack : ℕ
+    pub within : before_stack ≤ image_of trees
+    pub interprets : (answer : Result End KitFault) (steps words : ℕ) (new : Option (List ℕ)) (ended : Bool) (before after : Streams)
+        → length code < INPUT_BYTES → words ≤ STORE_MOST → (IsTrue ended → new ≡ Some [])
+        → Interpreted AnyBytes answer steps words (Some code) new ended before after
+        → Keeps (meanings_with (λ trees. before_stack)) source answer steps words before after
+    pub sizes : (answer : Result (Unit {0}) KitFault) (words : ℕ) (new : Option (List ℕ)) (ended : Bool) (before after : Output)
+        → length code < INPUT_BYTES → (IsTrue ended → new ≡ Some [])
+        → Reports answer words (Some code) new ended before after
+        → FindsNoFault answer × OnOk answer (Appends before.taken after.taken (sizes_line (record { image = before_stack; frame = frame_of trees })))
+
+  -- `generate_all` does not refuse this text, and what it writes of it runs so.
+  abbrev pub GeneratesAs : List ℕ → Type 0
+  GeneratesAs text =
+      (answer : Result (Unit {0}) KitFault) (new : Option (List ℕ)) (ended : Bool) (reads : ℕ) (before after : Output)
+      → length text < INPUT_BYTES → (IsTrue ended → new ≡ Some [])
+      → Generates answer (Some text) new ended reads before after
+      → IsNotRefused answer × OnOk answer ((code : List ℕ) × Appends before.taken after.taken code × RunsAs code)
+
+  -- `compile` does not refuse the source, and of what it writes `generate_all` writes such code.
+  abbrev pub CompilesAs : Type 0
+  CompilesAs =
+      (answer : Result (Unit {0}) KitFault) (new : Option (List ℕ)) (ended : Bool) (reads : ℕ) (before after : Output)
+      → length source < INPUT_BYTES → (IsTrue ended → new ≡ Some [])
+      → Compiles answer (Some source) new ended reads before after
+      → IsNotRefused answer × OnOk answer ((text : List ℕ) × Appends before.taken after.taken text × GeneratesAs text)
+
+-- `compile`, `generate_all`, and `interpret` or `sizes`, one after another.
+abbrev pub OneAfterAnother : Type 0
+OneAfterAnother = (source : List ℕ) (trees : List Declarations) → HasTrees source trees → CompilesAs source trees

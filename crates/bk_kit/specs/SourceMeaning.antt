@@ -1,7 +1,7 @@
 -- What accepted sources mean, and which steps and words are enough to run them, by the numbers of the sources alone.
-use Rattle.std.specs.Prelude.{◌≡◌, ◌≢◌, ℕ, ◌+◌, ◌*◌, ◌<◌, ◌≤◌, max, true, false, List, [], ◌∷◌, ◌++◌, Some, None, Err}
+use Rattle.std.specs.Prelude.{◌≡◌, ◌≢◌, ◌⊎◌, ℕ, ◌+◌, ◌*◌, ◌<◌, ◌≤◌, max, true, false, List, [], ◌∷◌, ◌++◌, Some, None, Err}
 use Rattle.bk_base.specs.Devices.{Begins}
-use Rattle.bk_base.specs.declared.limit.TheConstants.{FRAME_WORDS_LEAST, STORE_MOST}
+use Rattle.bk_base.specs.declared.limit.TheConstants.{FRAME_WORDS, FRAME_WORDS_LEAST, STORE_MOST}
 use Rattle.bk_base.specs.declared.run_end.End.{End}
 use Rattle.bk_base.specs.declared.run_end.End.TheVariants.{WriteFault}
 use Rattle.bk_base.specs.declared.source_fault.SourceFault.{SourceFault}
@@ -11,6 +11,10 @@ use Rattle.bk_intcode.specs.Runs.{Ran, Blames}
 use Rattle.bk_gen.specs.BackEnd.{Part, segments, image}
 use Rattle.bk_ocode.specs.Depth.{largest_depth}
 use Rattle.bk_ocode.specs.SectionData.{text_size}
+use Rattle.bk_ocode.specs.OcodeState.{State}
+use Rattle.bk_ocode.specs.OcodeRun.{Program}
+use Rattle.bk_ocode.specs.ProgramStart.{first_state}
+use Rattle.bk_ocode.specs.WellPlaced.{IsWellPlaced}
 use Rattle.bk_tree.specs.Tree.{Declarations}
 use Rattle.bk_meaning.specs.Values.{address}
 use Rattle.bk_meaning.specs.Memory.{read}
@@ -19,9 +23,10 @@ use Rattle.bk_meaning.specs.Lasting.{program_of, first_memory}
 use Rattle.bk_meaning.specs.World as world
 use Rattle.bk_meaning.specs.Program as program
 use Rattle.bk_meaning.specs.Program.{meaning}
-use Rattle.bk_simulation.specs.Simulation.{end_of}
+use Rattle.bk_simulation.specs.Placement.{StandFor}
+use Rattle.bk_simulation.specs.Simulation.{end_of, EndsWithin, ComesWithin}
 use Rattle.bk_kit.specs.declared.kit_fault.KitFault.TheVariants.{Source, TooSmall, NoStart}
-use Rattle.bk_kit.specs.Interpreting.{Streams, told_streams, first_registers}
+use Rattle.bk_kit.specs.Interpreting.{AnyBytes, Streams, told_streams, first_registers}
 use Rattle.bk_kit.specs.Headline.{Language, Runs, Keeps}
 use Rattle.bk_kit.specs.Sources.{stmts_of_tree}
 use Rattle.bk_kit.specs.SourceSections.{HasTrees, HasParts, IsRefused}
@@ -33,7 +38,12 @@ abbrev pub text_of : List Declarations → ℕ
 text_of [] = 0
 text_of (tree ∷ trees) = text_size (stmts_of_tree tree) + text_of trees
 
--- the largest depth in them, and 16 where all are less
+-- the largest depth in them
+abbrev pub depth_of : List Declarations → ℕ
+depth_of [] = 0
+depth_of (tree ∷ trees) = max (largest_depth (stmts_of_tree tree)) (depth_of trees)
+
+-- the same, and 16 where all are less
 abbrev pub frame_of : List Declarations → ℕ
 frame_of [] = FRAME_WORDS_LEAST
 frame_of (tree ∷ trees) = max (largest_depth (stmts_of_tree tree)) (frame_of trees)
@@ -49,6 +59,24 @@ HasSteps turns steps = 256 * turns + 272 ≤ steps
 
 abbrev pub HasWords : ℕ → List Declarations → ℕ → ℕ → Type 0
 HasWords image trees calls words = image + (calls + 1) * (frame_of trees + 16) ≤ words
+
+-- The same by steps of OCODE: so many steps of the machine are enough for q steps, and so many words for d frames at once.
+abbrev pub HasStepsOf : ℕ → ℕ → Type 0
+HasStepsOf q steps = 16 * q + 16 ≤ steps
+
+abbrev pub HasFramesOf : ℕ → List Declarations → ℕ → ℕ → Type 0
+HasFramesOf image trees d words = image + (d + 1) * (depth_of trees + 16) ≤ words
+
+-- The statements that the scheme gives to the trees, placed anywhere as one program, before its first step. START's frame begins behind
+-- so many words at most.
+pub record Placing (trees : List Declarations) (input : List ℕ) (image : ℕ) : Type 0 where
+  pub placed : Program
+  pub first : ℕ
+  pub low : first ≤ image
+  pub stands : StandFor trees placed.sections
+  pub well : IsWellPlaced placed first FRAME_WORDS
+  pub state : State
+  pub begins : first_state placed first input ≡ Some state
 
 -- ---- the meaning of its trees
 
@@ -94,8 +122,29 @@ module _ (trees : List Declarations) (input : List ℕ) where
     pub has_steps : HasSteps turns steps
     pub has_words : HasWords image trees calls words
 
+  -- Enough for the end, by steps of OCODE: wherever the statements are placed, they end within q steps, with d frames at once at most.
+  pub record StepsToEnd (image steps words : ℕ) : Type 0 where
+    pub q : ℕ
+    pub d : ℕ
+    pub ends : (at : Placing trees input image) → (bytes left : List ℕ) × (end : End) × EndsWithin at.placed at.first at.state q d bytes left end
+    pub has_steps : HasStepsOf q steps
+    pub has_words : HasFramesOf image trees d words
+
+  -- Enough for these turns: within q steps all is written that they write.
+  pub record StepsToGo (image turns steps words : ℕ) : Type 0 where
+    pub q : ℕ
+    pub d : ℕ
+    pub bytes : List ℕ
+    pub left : List ℕ
+    pub calls : ℕ
+    pub means : meaning trees input turns ≡ program.Going bytes left calls
+    pub comes : (at : Placing trees input image) → (more behind : List ℕ) × ComesWithin at.placed at.first at.state q d (bytes ++ more) behind
+    pub has_steps : HasStepsOf q steps
+    pub has_words : HasFramesOf image trees d words
+
 -- THE LANGUAGE. An accepted source means what the trees of its sections mean; a source is refused for the fault of its first section
--- that is not accepted. What is enough to run a source depends on how many words stand before the stack for these trees.
+-- that is not accepted. What is enough to run a source depends on how many words stand before the stack for these trees; it is told by
+-- turns and calls of the meaning, and by steps and frames of OCODE.
 abbrev pub meanings_with : (List Declarations → ℕ) → Language
 meanings_with image = record {
   Accepted = λ source. (trees : List Declarations) × HasTrees source trees;
@@ -103,9 +152,9 @@ meanings_with image = record {
   Startless = λ source. (trees : List Declarations) × HasTrees source trees × HasNoStart trees;
   Ends = λ source input taken bytes end. (trees : List Declarations) × HasTrees source trees × ((turns : ℕ) × MeaningEnds trees input turns taken bytes end);
   GoesOn = λ source input turns bytes. (trees : List Declarations) × HasTrees source trees × MeaningGoesOn trees input turns bytes;
-  Holds = λ source words. (trees : List Declarations) × HasTrees source trees × HasWords (image trees) trees 0 words;
-  Enough = λ source input steps words. (trees : List Declarations) × HasTrees source trees × EnoughToEnd trees input (image trees) steps words;
-  EnoughFor = λ source input turns steps words. (trees : List Declarations) × HasTrees source trees × EnoughToGo trees input (image trees) turns steps words;
+  Holds = λ source words. (trees : List Declarations) × HasTrees source trees × (image trees + 16 ≤ words);
+  Enough = λ source input steps words. (trees : List Declarations) × HasTrees source trees × (EnoughToEnd trees input (image trees) steps words ⊎ StepsToEnd trees input (image trees) steps words);
+  EnoughFor = λ source input turns steps words. (trees : List Declarations) × HasTrees source trees × (EnoughToGo trees input (image trees) turns steps words ⊎ StepsToGo trees input (image trees) turns steps words);
 }
 
 abbrev pub meanings : Language
@@ -117,7 +166,7 @@ meanings = meanings_with image_of
 abbrev pub MeaningRuns : Type 0
 MeaningRuns = (parts : List Part) (source : List ℕ) (end : End) (steps words : ℕ) (store : List ℕ) (registers : Registers) (before after : Streams)
     → HasParts parts source → image parts + 16 ≤ words → words ≤ STORE_MOST → any_starts (segments parts) ≡ true
-    → Ran end steps (loaded_store words (segments parts)) (first_registers (segments parts)) store registers (told_streams before) (told_streams after)
+    → Ran AnyBytes end steps (loaded_store words (segments parts)) (first_registers (segments parts)) store registers (told_streams before) (told_streams after)
     → Begins before.passed after.passed → (end ≢ WriteFault → after.passed ≡ after.taken) → Blames end before.reads after.reads after.writes
     → Runs meanings source end steps words before after
 

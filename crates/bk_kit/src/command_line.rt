@@ -1,8 +1,10 @@
 //! Reading a command line.
-ghost use Rattle.std.specs.Prelude.{◌≡◌, map, IfOk, IfSome, false, Some, codes};
-ghost use Rattle.clap.specs.Words.{app_of, rule_of, rows_of, found_of, first_of, one_of, subcommand_of};
+ghost use Rattle.std.specs.Prelude.{◌≡◌, map, Bool, IfOk, IfErr, IfSome, IsSome, false, Some, codes};
+ghost use Rattle.bk_base.specs.Bounds.{Bounds};
+ghost use Rattle.clap.specs.Values.{kind_of};
+ghost use Rattle.clap.specs.Words.{Text, app_of, rule_of, rows_of, found_of, first_of, one_of, subcommand_of};
 ghost use Rattle.clap.specs.declared.builder.Command.TheViews.{out-Command as fields_of};
-ghost use Rattle.bk_kit.specs.CommandLine.{store_rule, steps_rule, sizes_rule, file_rule, compile_command, generate_command, run_command, interpret_command, kit_command, truth_text, ReadsLimits, Reads};
+ghost use Rattle.bk_kit.specs.CommandLine.{store_rule, steps_rule, sizes_rule, file_rule, compile_command, generate_command, run_command, interpret_command, kit_command, truth_text, ReadsLimits, Reads, AreLimits, RefusesValues, IsFaultOf, Refuses};
 
 use crate::orders::Order;
 use bk_base::Limits;
@@ -211,7 +213,8 @@ fn kit<'a>(alloc: Global) -> Result<Command<'a>, AllocError>
 
 /// The limits that the words give.
 fn limits_of(matches: &ArgMatches<'_>) -> Option<Limits>
-    ensures { IfSome result (λ limits. ReadsLimits (rows_of (found_of matches.now)) limits) }
+    ensures reads { IfSome result (λ limits. ReadsLimits (rows_of (found_of matches.now)) limits) }
+    ensures given { (limits : Bounds) → AreLimits limits → ReadsLimits (rows_of (found_of matches.now)) limits → IsSome result }
 {
     let words = matches.get_one::<u32>("words")?;
     let steps = matches.get_one::<u64>("steps")?;
@@ -220,21 +223,24 @@ fn limits_of(matches: &ArgMatches<'_>) -> Option<Limits>
 
 /// The name of FILE.
 fn file_of<'a>(matches: &ArgMatches<'a>) -> Option<&'a str>
-    ensures { IfSome result (λ file. first_of (codes "file") (rows_of (found_of matches.now)) ≡ Some file.now) }
+    ensures reads { IfSome result (λ file. first_of (codes "file") (rows_of (found_of matches.now)) ≡ Some file.now) }
+    ensures given { (name : Text) → first_of (codes "file") (rows_of (found_of matches.now)) ≡ Some name → IsSome result }
 {
     matches.get_str("file")
 }
 
 /// Whether the sizes are asked for.
 fn sizes_asked(matches: &ArgMatches<'_>) -> Option<bool>
-    ensures { IfSome result (λ asked. one_of (codes "sizes") (rows_of (found_of matches.now)) ≡ Some (truth_text asked)) }
+    ensures reads { IfSome result (λ asked. one_of (codes "sizes") (rows_of (found_of matches.now)) ≡ Some (truth_text asked)) }
+    ensures given { (asked : Bool) → one_of (codes "sizes") (rows_of (found_of matches.now)) ≡ Some (truth_text asked) → IsSome result }
 {
     matches.get_one::<bool>("sizes")
 }
 
 /// What the values of `run` ask for.
 fn run_order(alloc: Global, matches: &ArgMatches<'_>) -> Result<Order, LineFault>
-    ensures { IfOk result (Reads (Some (codes "run", rows_of (found_of matches.now)))) }
+    ensures reads { IfOk result (Reads (Some (codes "run", rows_of (found_of matches.now)))) }
+    ensures refuses { IfErr result (RefusesValues (Some (codes "run", rows_of (found_of matches.now)))) }
 {
     let limits = limits_of(matches).ok_or(LineFault::Bad)?;
     let file = file_of(matches).ok_or(LineFault::Bad)?;
@@ -243,14 +249,15 @@ fn run_order(alloc: Global, matches: &ArgMatches<'_>) -> Result<Order, LineFault
 
 /// What the values of `interpret` ask for.
 fn interpret_order(alloc: Global, matches: &ArgMatches<'_>) -> Result<Order, LineFault>
-    ensures { IfOk result (Reads (Some (codes "interpret", rows_of (found_of matches.now)))) }
+    ensures reads { IfOk result (Reads (Some (codes "interpret", rows_of (found_of matches.now)))) }
+    ensures refuses { IfErr result (RefusesValues (Some (codes "interpret", rows_of (found_of matches.now)))) }
 {
     let limits = limits_of(matches).ok_or(LineFault::Bad)?;
     let file = file_of(matches).ok_or(LineFault::Bad)?;
     let sizes = sizes_asked(matches).ok_or(LineFault::Bad)?;
     let file = String::from_str(alloc, file)?;
     if sizes {
-        Ok(Order::Sizes(limits, file))
+        Ok(Order::Sizes(limits.words(), file))
     } else {
         Ok(Order::Interpret(limits, file))
     }
@@ -258,7 +265,8 @@ fn interpret_order(alloc: Global, matches: &ArgMatches<'_>) -> Result<Order, Lin
 
 /// What a subcommand and its values ask for.
 fn order_of(alloc: Global, name: &str, matches: &ArgMatches<'_>) -> Result<Order, LineFault>
-    ensures { IfOk result (Reads (Some (name.now, rows_of (found_of matches.now)))) }
+    ensures reads { IfOk result (Reads (Some (name.now, rows_of (found_of matches.now)))) }
+    ensures refuses { IfErr result (RefusesValues (Some (name.now, rows_of (found_of matches.now)))) }
 {
     if name == "compile" {
         return Ok(Order::Compile);
@@ -276,7 +284,9 @@ fn order_of(alloc: Global, name: &str, matches: &ArgMatches<'_>) -> Result<Order
 }
 
 /// Why clap gives no values.
-fn fault_of(error: clap::Error) -> LineFault {
+fn fault_of(error: clap::Error) -> LineFault
+    ensures { IsFaultOf (kind_of error) result }
+{
     match error.kind() {
         ErrorKind::OutOfMemory => LineFault::Memory,
         ErrorKind::DisplayHelp | ErrorKind::DisplayVersion => LineFault::Help(error),
@@ -291,6 +301,8 @@ fn fault_of(error: clap::Error) -> LineFault {
 pub fn order<S: AsStr>(alloc: Global, words: &[S]) -> Result<Order, LineFault>
     // The values are those that the command of `kit_command` reads from the words.
     ensures reads { IfOk result (Reads (subcommand_of kit_command (map S.text words.now))) }
+    // `Bad` comes for no words that it takes and that say an order.
+    ensures refuses { IfErr result (Refuses (map S.text words.now)) }
 {
     let matches = match kit(alloc)?.try_get_matches_from(words) {
         Ok(matches) => matches,

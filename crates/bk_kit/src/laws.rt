@@ -1,6 +1,6 @@
 //! The laws of running sources.
 ghost use Rattle.bk_kit.specs.SourceMeaning.{MeaningRuns, MeaningTooSmall, MeaningStartless, MeaningRefuses};
-ghost use Rattle.bk_kit.specs.SourceCode.{FiltersWriteCode, InterpretsSources, FramesAreOfSources};
+ghost use Rattle.bk_kit.specs.SourceCode.{FiltersWriteCode, InterpretsSources, FramesAreOfSources, OneAfterAnother};
 
 use bk_gen::{back_end, parts_are_well_placed, parts_without_start};
 use bk_simulation::{
@@ -33,12 +33,28 @@ pub fn filters_write_code()
     bk_ocode::one_saying();
 }
 
-/// The code of a source: interpreting texts of segments that stand for its sections promises what running it promises, with the first
-/// word of the stack as the words before it; and the frame that is reported of the code is that of the source.
+/// The code of a source: interpreting a text of any segments that stand for its sections promises what running it promises, with the first
+/// word of the stack as the words before it; and where they tell their frames, the frame that is reported is that of the source.
 pub fn codes_run()
     ensures interprets { InterpretsSources }
     ensures frames { FramesAreOfSources }
 {
+    bk_intcode_text::one_saying();
+    back_end();
+    parts_are_well_placed();
+    parts_without_start();
+    steps_do_what_sources_mean();
+    steps_go_on_with_their_source();
+    programs_start_with_their_source();
+}
+
+/// One after another, each on just what the one before wrote: `compile` does not refuse an accepted source, nor `generate_all` the text that
+/// it writes; `interpret` keeps the headline of the source on the code that comes of it, and `sizes` writes its numbers.
+pub fn one_after_another()
+    ensures { OneAfterAnother }
+{
+    scheme_is_accepted();
+    bk_ocode::one_saying();
     bk_intcode_text::one_saying();
     back_end();
     parts_are_well_placed();

@@ -20,7 +20,7 @@ pub use command_line::{LineFault, order};
 pub use compiler::compile;
 pub use generator::generate_all;
 pub use kit_fault::KitFault;
-pub use laws::{codes_run, filters_write_code, sources_run};
+pub use laws::{codes_run, filters_write_code, one_after_another, sources_run};
 pub use orders::Order;
 pub use runner::{interpret, sizes};
 pub use service::{refuse, serve};

@@ -12,8 +12,9 @@ pub enum Order {
     Run(Limits, String),
     /// `bcpl interpret`: run the INTCODE in FILE.
     Interpret(Limits, String),
-    /// `bcpl interpret --sizes`: tell what the INTCODE in FILE needs. The steps are not used.
-    Sizes(Limits, String),
+    /// `bcpl interpret --sizes`: tell what the INTCODE in FILE needs in a store of so many words. The steps that `-t` gives are
+    /// not used.
+    Sizes(u32, String),
 }
 
 impl Order {

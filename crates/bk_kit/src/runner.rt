@@ -2,12 +2,14 @@
 ghost use Rattle.std.specs.Prelude.{◌≡◌, OnErr, OnOk, if◌then◌else◌};
 ghost use Rattle.std.specs.Io.KnownBytes.{Appends};
 ghost use Rattle.bk_base.specs.Devices.{AppendsPart};
+ghost use Rattle.bk_intcode.specs.Runs.{HeldBy};
 ghost use Rattle.bk_kit.specs.Interpreting.{Interpreted, is_read};
-ghost use Rattle.bk_kit.specs.Sizes.{sizes_line, Reports};
+ghost use Rattle.bk_kit.specs.Sizes.{sizes_line, store_words, Reports};
 
 use crate::code::load_code;
 use crate::kit_fault::KitFault;
 use crate::pieces::put_pieces;
+use bk_base::limit::{STORE_LEAST, STORE_MOST};
 use bk_base::{ByteIn, ByteOut, End, Failed, Limits};
 use bk_intcode::Sizes;
 use itoa::Buffer;
@@ -23,9 +25,9 @@ pub fn interpret<C: ByteIn, I: ByteIn, O: ByteOut>(
     input: &mut I,
     out: &mut O,
 ) -> Result<End, KitFault>
-    ensures interpreted { Interpreted result limits.steps limits.words (C.left code.old) (C.left code.new) (C.ended code.new)
-        (record { left = I.left input.old; ended = I.ended input.old; taken = O.taken out.old; passed = O.passed out.old; reads = I.faults input.old; writes = O.faults out.old })
-        (record { left = I.left input.new; ended = I.ended input.new; taken = O.taken out.new; passed = O.passed out.new; reads = I.faults input.new; writes = O.faults out.new }) }
+    ensures interpreted { Interpreted (HeldBy I.held) result limits.steps limits.words (C.left code.old) (C.left code.new) (C.ended code.new)
+        (record { left = I.left input.old; held = I.held input.old; ended = I.ended input.old; taken = O.taken out.old; passed = O.passed out.old; reads = I.faults input.old; writes = O.faults out.old })
+        (record { left = I.left input.new; held = I.held input.new; ended = I.ended input.new; taken = O.taken out.new; passed = O.passed out.new; reads = I.faults input.new; writes = O.faults out.new }) }
     ensures runs_nothing { OnErr result ((input.new ≡ input.old) × (out.new ≡ out.old)) }
     ensures read_fails { C.faults code.new ≡ (if is_read result then 1 else 0) }
 {
@@ -63,20 +65,21 @@ fn report<O: ByteOut>(sizes: Sizes, out: &mut O) -> Result<(), Failed>
     out.flush()
 }
 
-/// Reads and loads a text of INTCODE as `interpret` does, runs nothing, and writes what its segments need as a line, as
-/// `image 1039, frame 16`: the first word of the stack, and the greatest depth of a frame, in words.
+/// Reads a text of INTCODE and loads it into a store of so many words as `interpret` does, runs nothing, and writes what its
+/// segments need as a line, as `image 1039, frame 16`: the first word of the stack, and the greatest depth of a frame, in
+/// words. For a number of words that no store has the nearest one counts.
 pub fn sizes<C: ByteIn, O: ByteOut>(
     alloc: Global,
     code: &mut C,
-    limits: Limits,
+    words: u32,
     out: &mut O,
 ) -> Result<(), KitFault>
-    ensures reports { Reports result limits.words (C.left code.old) (C.left code.new) (C.ended code.new)
+    ensures reports { Reports result (store_words words) (C.left code.old) (C.left code.new) (C.ended code.new)
         (record { taken = O.taken out.old; passed = O.passed out.old; faults = O.faults out.old })
         (record { taken = O.taken out.new; passed = O.passed out.new; faults = O.faults out.new }) }
     ensures read_fails { C.faults code.new ≡ (if is_read result then 1 else 0) }
 {
-    let machine = load_code(alloc, code, limits.words())?;
+    let machine = load_code(alloc, code, words.max(STORE_LEAST).min(STORE_MOST))?;
     if report(machine.sizes(), out).is_err() {
         return Err(KitFault::Write);
     }

@@ -1,6 +1,7 @@
 //! Serving an order.
 ghost use Rattle.std.specs.Prelude.{◌≡◌};
-ghost use Rattle.bk_kit.specs.Serving.{Serves};
+ghost use Rattle.bk_intcode.specs.Runs.{HeldBy};
+ghost use Rattle.bk_kit.specs.Serving.{Serves, LeavesFile, LeavesInput};
 ghost use Rattle.bk_kit.specs.Statuses.{refusal_status, refusal_line};
 ghost use Rattle.bk_kit.specs.Telling.{Tells};
 
@@ -26,11 +27,13 @@ pub fn serve<F: ByteIn, I: ByteIn, O: ByteOut, E: ByteOut>(
     out: &mut O,
     err: &mut E,
 ) -> u8
-    ensures { Serves order.now result (F.left file.old) (F.left file.new) (F.ended file.new)
-        (record { left = I.left input.old; ended = I.ended input.old; taken = O.taken out.old; passed = O.passed out.old; reads = I.faults input.old; writes = O.faults out.old })
-        (record { left = I.left input.new; ended = I.ended input.new; taken = O.taken out.new; passed = O.passed out.new; reads = I.faults input.new; writes = O.faults out.new })
+    ensures serves { Serves (HeldBy I.held) order.now result (F.left file.old) (F.left file.new) (F.ended file.new) (F.faults file.new)
+        (record { left = I.left input.old; held = I.held input.old; ended = I.ended input.old; taken = O.taken out.old; passed = O.passed out.old; reads = I.faults input.old; writes = O.faults out.old })
+        (record { left = I.left input.new; held = I.held input.new; ended = I.ended input.new; taken = O.taken out.new; passed = O.passed out.new; reads = I.faults input.new; writes = O.faults out.new })
         (record { taken = E.taken err.old; passed = E.passed err.old; faults = E.faults err.old })
         (record { taken = E.taken err.new; passed = E.passed err.new; faults = E.faults err.new }) }
+    ensures leaves_file { LeavesFile order.now file.old file.new }
+    ensures leaves_input { LeavesInput order.now input.old input.new }
 {
     match order {
         Order::Compile => tell_done(&compile(alloc, input, out), err),
@@ -43,8 +46,8 @@ pub fn serve<F: ByteIn, I: ByteIn, O: ByteOut, E: ByteOut>(
             let answer = interpret(alloc, file, *limits, input, out);
             tell_run(&answer, err)
         }
-        Order::Sizes(limits, _) => {
-            let answer = sizes(alloc, file, *limits, out);
+        Order::Sizes(words, _) => {
+            let answer = sizes(alloc, file, *words, out);
             tell_done(&answer, err)
         }
     }

@@ -1,10 +1,11 @@
 //! Running a source.
 ghost use Rattle.std.specs.Prelude.{◌≡◌, ◌≤◌, IfOk, IfErr, OnOk, OnErr, map, if◌then◌else◌};
 ghost use Rattle.bk_base.specs.declared.limit.TheConstants.{STORE_LEAST, STORE_MOST};
+ghost use Rattle.bk_intcode.specs.Runs.{HeldBy};
 ghost use Rattle.bk_intcode.specs.SegmentItems.{items_of};
 ghost use Rattle.bk_kit.specs.Interpreting.{is_read};
 ghost use Rattle.bk_kit.specs.CompilingSection.{codes_in};
-ghost use Rattle.bk_kit.specs.RunningSource.{Generated, Assembled, NotAssembled, LoadsSource, RefusesSource, ReadsSource};
+ghost use Rattle.bk_kit.specs.RunningSource.{Generated, Assembled, NotAssembled, LoadsSource, RefusesSource, ReadsSource, NotLoaded, KeepsLimits};
 ghost use Rattle.bk_kit.specs.Headline.{Headline};
 ghost use Rattle.bk_kit.specs.SourceMeaning.{meanings};
 
@@ -66,6 +67,7 @@ fn load_source<C: ByteIn>(alloc: Global, source: &mut C, words: u32) -> Result<M
     requires most { words ≤ STORE_MOST }
     ensures loaded { IfOk result (λ machine. LoadsSource machine words (C.left source.old) (C.left source.new) (C.ended source.new)) }
     ensures refused { IfErr result (λ fault. RefusesSource fault words (C.left source.old) (C.left source.new) (C.ended source.new)) }
+    ensures not_loaded { IfErr result (λ fault. NotLoaded fault words (C.left source.old) (C.left source.new) (C.ended source.new)) }
     ensures delivered { ReadsSource (is_read result) (C.left source.old) (C.left source.new) }
     ensures failures { C.faults source.new ≡ (if is_read result then 1 else 0) }
 {
@@ -77,7 +79,8 @@ fn load_source<C: ByteIn>(alloc: Global, source: &mut C, words: u32) -> Result<M
 /// Compiles a source, a section after another, loads the segments of all, and runs them with this input and output.
 ///
 /// Its contract is the headline: with enough steps and words the run of an accepted source writes exactly the bytes of its meaning
-/// and gives its end. `docs/HEADLINE.md` goes through it word by word.
+/// and gives its end. `docs/HEADLINE.md` goes through it word by word. For any source it keeps its limits: each answer of a run is that of
+/// segments that stand for the sections, loaded into just so many words and run for at most so many steps.
 ///
 /// Nothing is run unless all sections were accepted and loaded. Where the source is refused or cannot be read, neither input
 /// nor output is touched, and no byte of the source is asked for behind the section that is refused. `TooSmall` and
@@ -90,8 +93,11 @@ pub fn run_source<C: ByteIn, I: ByteIn, O: ByteOut>(
     out: &mut O,
 ) -> Result<End, KitFault>
     ensures headline { Headline meanings result limits.steps limits.words (C.left source.old) (C.left source.new) (C.ended source.new)
-        (record { left = I.left input.old; ended = I.ended input.old; taken = O.taken out.old; passed = O.passed out.old; reads = I.faults input.old; writes = O.faults out.old })
-        (record { left = I.left input.new; ended = I.ended input.new; taken = O.taken out.new; passed = O.passed out.new; reads = I.faults input.new; writes = O.faults out.new }) }
+        (record { left = I.left input.old; held = I.held input.old; ended = I.ended input.old; taken = O.taken out.old; passed = O.passed out.old; reads = I.faults input.old; writes = O.faults out.old })
+        (record { left = I.left input.new; held = I.held input.new; ended = I.ended input.new; taken = O.taken out.new; passed = O.passed out.new; reads = I.faults input.new; writes = O.faults out.new }) }
+    ensures keeps_limits { KeepsLimits (HeldBy I.held) result limits.steps limits.words (C.left source.old) (C.left source.new) (C.ended source.new)
+        (record { left = I.left input.old; held = I.held input.old; ended = I.ended input.old; taken = O.taken out.old; passed = O.passed out.old; reads = I.faults input.old; writes = O.faults out.old })
+        (record { left = I.left input.new; held = I.held input.new; ended = I.ended input.new; taken = O.taken out.new; passed = O.passed out.new; reads = I.faults input.new; writes = O.faults out.new }) }
     ensures delivered { ReadsSource (is_read result) (C.left source.old) (C.left source.new) }
     ensures runs_nothing { OnErr result ((input.new ≡ input.old) × (out.new ≡ out.old)) }
     ensures read_fails { C.faults source.new ≡ (if is_read result then 1 else 0) }

@@ -4,13 +4,29 @@ use Rattle.bk_intcode.specs.declared.item.Item.{Item}
 use Rattle.bk_intcode.specs.SegmentItems.{items_of}
 use Rattle.bk_intcode.specs.Placement.{SEGMENTS, stack_start, any_starts}
 use Rattle.bk_gen.specs.BackEnd.{segments}
-use Rattle.bk_kit.proofs.SourceLemmas.{not_assembled, not_loaded}
+use Rattle.bk_kit.specs.RunningSource.{Assembled}
+use Rattle.bk_kit.proofs.SourceLemmas.{not_assembled, not_loaded, none_loaded, segments_not_loaded}
 use Rattle.bk_kit.proofs.source.load_source.Goals as goal
 
 pub returns-in_err-segments-clause-refused : goal.returns-in_err-segments-clause-refused
 returns-in_err-segments-clause-refused g c =
     let refused = not_assembled c.args.words _ _ _ c.in_err-segments.field-0.0 c.in_err-segments.ensures.refused in
     search (refused, c.from_residual.ensures, rules)
+
+pub returns-in_err-segments-clause-not_loaded : goal.returns-in_err-segments-clause-not_loaded
+returns-in_err-segments-clause-not_loaded g c =
+    let none = none_loaded c.args.words _ _ _ c.in_err-segments.field-0.0 c.in_err-segments.ensures.refused in
+    search (none, c.from_residual.ensures, rules)
+
+pub returns-in_err-load-clause-not_loaded : goal.returns-in_err-load-clause-not_loaded
+returns-in_err-load-clause-not_loaded g c =
+    let made : Assembled (map items_of c.as_slice.result.now) (g.C.ByteIn.left c.args.source.now) (g.C.ByteIn.left c.assemble.new.source) (g.C.ByteIn.ended c.assemble.new.source) =
+    rw (← c.as_slice.ensures.value) at c.in_ok-segments.ensures.assembled in
+    let none = segments_not_loaded c.args.words (g.C.ByteIn.left c.args.source.now) (g.C.ByteIn.left c.assemble.new.source) (g.C.ByteIn.ended c.assemble.new.source)
+    c.in_err-load.field-0.0 (map items_of c.as_slice.result.now) made
+    (λ small. c.load.ensures.too_small.0 (c.in_err-load.was ∙ ap Err small))
+    (λ none. c.load.ensures.no_start.0 (c.in_err-load.was ∙ ap Err none)) in
+    search (none, c.from_residual-in_err-load.ensures, rules)
 
 pub returns-in_err-load-clause-refused : goal.returns-in_err-load-clause-refused
 returns-in_err-load-clause-refused g c =

@@ -6,7 +6,14 @@ use Rattle.bk_intcode.proofs.machine.Machine.run.Goals as goal
 
 pub returns-then-ne-clause-ran : goal.returns-then-ne-clause-ran
 returns-then-ne-clause-ran g c = λ none.
-    went_flushed _ _ _ _ _ _ _ _ (record { left = Keeps-refl _; ended = refl; taken = c.finish-end.ensures.kept }) _ _
+    went_flushed _ _ _ _ _ _ _ _ _
+    (record { left = Keeps-refl _; held = refl; ended = refl; taken = c.finish-end.ensures.kept; passes = c.finish-end.ensures.passes }) _ _
+    c.finish-end.ensures.same c.drive-end.ensures.went
+
+pub returns-else-ne-clause-ran : goal.returns-else-ne-clause-ran
+returns-else-ne-clause-ran g c = λ none.
+    went_flushed _ _ _ _ _ _ _ _ _
+    (record { left = Keeps-refl _; held = refl; ended = refl; taken = c.finish-end.ensures.kept; passes = c.finish-end.ensures.passes }) _ _
     c.finish-end.ensures.same c.drive-end.ensures.went
 
 pub returns-then-ne-clause-passes : goal.returns-then-ne-clause-passes

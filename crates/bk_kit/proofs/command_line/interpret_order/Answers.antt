@@ -1,0 +1,19 @@
+use Rattle.std.proofs.Common.{rules, ◌≡◌, None}
+use Rattle.clap.specs.Words.{rows_of, found_of}
+use Rattle.bk_kit.specs.declared.command_line.LineFault.TheVariants.{Bad}
+use Rattle.bk_kit.proofs.LineLemmas.{limits_refused, sizes_refused}
+use Rattle.bk_kit.proofs.command_line.interpret_order.Goals as goal
+
+pub returns-in_err-limits-clause-refuses : goal.returns-in_err-limits-clause-refuses
+returns-in_err-limits-clause-refuses c =
+    let none : c.limits_of.result ≡ None = search rules in
+    let refused = limits_refused (rows_of (found_of c.args.matches.now)) c.limits_of.result none c.limits_of.ensures.given in
+    let bad : c.in_err-limits.field-0.0 ≡ Bad = search rules in
+    search (refused, bad, rules)
+
+pub returns-in_err-sizes-clause-refuses : goal.returns-in_err-sizes-clause-refuses
+returns-in_err-sizes-clause-refuses c =
+    let none : c.sizes_asked.result ≡ None = search rules in
+    let refused = sizes_refused (rows_of (found_of c.args.matches.now)) c.sizes_asked.result none c.sizes_asked.ensures.given in
+    let bad : c.in_err-sizes.field-0.0 ≡ Bad = search rules in
+    search (refused, bad, rules)
