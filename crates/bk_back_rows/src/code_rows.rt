@@ -12,6 +12,17 @@ const WORDS: u32 = 4_096;
 
 const MANY: u64 = 1_000_000;
 
+/// Copies its input, and then writes the number that the input's end gives.
+const COPYING: &[u8] =
+    b"ENTRY L1 0 SAVE 2 STACK 4 LG 3 FNAP 2 STORE JUMP L3 LAB L2 STACK 5 LP 2 LG 4 RTAP 3 STACK 5 LG 3 FNAP 3 SP 2 \
+        LAB L3 LP 2 LN -1 NE JT L2 STACK 5 STACK 7 LG 3 FNAP 5 LG 7 RTAP 3 RTRN ENDPROC GLOBAL 1 1 L1";
+
+/// The left operand of a sum is taken before the call on its right changes the variable.
+const LEFT_FIRST: &[u8] =
+    b"ENTRY L1 1 70 SAVE 3 LN 10 LP 2 STIND LN 1 RES L3 LAB L3 RSTACK 3 FNRN ENDPROC ENTRY L4 5 83 84 65 82 84 SAVE 2 LN 5 \
+        STORE STACK 5 LP 2 STACK 8 LLP 2 LL L2 FNAP 6 PLUS LG 7 RTAP 3 STACK 5 LN 32 LG 4 RTAP 3 STACK 5 LP 2 LG 7 RTAP 3 STACK 2 \
+        RTRN ENDPROC DATALAB L2 ITEML L1 GLOBAL 1 1 L4";
+
 /// The first section of a text.
 fn section_of(alloc: Global, text: &[u8]) -> Result<Ocode, Fail> {
     let mut input = Reader512::new(text);
@@ -207,14 +218,7 @@ fn jumps(rt: HostRuntime) -> Result<(), Fail> {
 #[test]
 fn calls(rt: HostRuntime) -> Result<(), Fail> {
     // the left operand comes first
-    writes(
-        &rt,
-        rt.alloc(),
-        b"ENTRY L1 1 70 SAVE 3 LN 10 LP 2 STIND LN 1 RES L3 LAB L3 RSTACK 3 FNRN ENDPROC ENTRY L4 5 83 84 65 82 84 SAVE 2 LN 5 \
-        STORE STACK 5 LP 2 STACK 8 LLP 2 LL L2 FNAP 6 PLUS LG 7 RTAP 3 STACK 5 LN 32 LG 4 RTAP 3 STACK 5 LP 2 LG 7 RTAP 3 STACK 2 \
-        RTRN ENDPROC DATALAB L2 ITEML L1 GLOBAL 1 1 L4",
-        b"6 10",
-    )?;
+    writes(&rt, rt.alloc(), LEFT_FIRST, b"6 10")?;
     // a procedure of another section
     runs(
         &rt,
@@ -246,13 +250,10 @@ fn switches(rt: HostRuntime) -> Result<(), Fail> {
 #[test]
 fn library(rt: HostRuntime) -> Result<(), Fail> {
     // copying
-    let copying =
-        b"ENTRY L1 0 SAVE 2 STACK 4 LG 3 FNAP 2 STORE JUMP L3 LAB L2 STACK 5 LP 2 LG 4 RTAP 3 STACK 5 LG 3 FNAP 3 SP 2 \
-        LAB L3 LP 2 LN -1 NE JT L2 STACK 5 STACK 7 LG 3 FNAP 5 LG 7 RTAP 3 RTRN ENDPROC GLOBAL 1 1 L1";
     runs(
         &rt,
         rt.alloc(),
-        &[copying],
+        &[COPYING],
         MANY,
         b"\x00copied\xff",
         End::Status(0),
@@ -261,7 +262,7 @@ fn library(rt: HostRuntime) -> Result<(), Fail> {
     runs(
         &rt,
         rt.alloc(),
-        &[copying],
+        &[COPYING],
         MANY,
         b"",
         End::Status(0),
@@ -363,8 +364,10 @@ fn frames(rt: HostRuntime) -> Result<(), Fail> {
     Ok(())
 }
 
-/// Three of the sections above, in which items stay pending.
-static PENDING: [&[u8]; 3] = [
+/// Sections in which items stay pending: copying, the left operand first, a FOR, bytes of a string, and a sum.
+static PENDING: [&[u8]; 5] = [
+    COPYING,
+    LEFT_FIRST,
     b"ENTRY L1 5 83 84 65 82 84 SAVE 2 LN 1 LN 3 STORE JUMP L2 LAB L3 STACK 6 LP 2 LG 7 RTAP 4 LAB L4 LP 2 LN 1 PLUS SP 2 \
         LAB L2 LP 2 LP 3 LE JT L3 LAB L5 STACK 2 RTRN ENDPROC GLOBAL 1 1 L1",
     b"ENTRY L1 0 SAVE 2 LSTR 2 72 73 STORE STACK 5 LP 2 LN 2 GETBYTE LG 4 RTAP 3 LN 74 LP 2 LN 1 PUTBYTE STACK 5 LP 2 LG 6 \

@@ -1,7 +1,10 @@
 //! Rows of the language: programs that are run by `bcpl run` and, with each of the generators, through the two filters, and what
 //! they write.
 use crate::checks::{check, check_commands, check_source, check_written};
-use crate::outcome::{Outcome, filtered, outcome_of};
+use crate::outcome::{COMPILE, GENERATE, Outcome, filtered, outcome_of};
+use bk_base::{End, Reader512, Writer512};
+use bk_intcode::Machine;
+use bk_intcode_text::read_segment;
 use std::alloc::{AllocError, Global};
 use std::test::Fail;
 
@@ -24,7 +27,7 @@ $( LET C = RDCH()
 $)
 ";
 
-/// Runs a source in so many steps and in the least store, or interprets its code so.
+/// Runs a source in so many steps and in the least store.
 fn within(alloc: Global, source: &[u8], steps: &str, input: &[u8]) -> Result<Outcome, AllocError> {
     outcome_of(
         alloc,
@@ -35,8 +38,9 @@ fn within(alloc: Global, source: &[u8], steps: &str, input: &[u8]) -> Result<Out
 }
 
 /// In n turns, with d calls active at once, a meaning that ends has its end in 256 n + 272 steps and in the words before the
-/// stack with d + 1 frames of the largest depth and 16 words, here far less than the least store. The turns, one for each node
-/// that is come to and one for each further round of a loop, and the calls are counted by hand.
+/// stack with d + 1 frames of the largest depth and 16 words, here far less than the least store; `bench/bounds` tries programs
+/// that need more. The turns, one for each node that is come to and one for each further round of a loop, and the calls are
+/// counted by hand.
 #[test]
 fn ends_within_their_numbers(rt: HostRuntime) -> Result<(), Fail> {
     let alloc = rt.alloc();
@@ -269,6 +273,40 @@ fn a_program_without_end(rt: HostRuntime) -> Result<(), Fail> {
         assert_eq!(&rt; *byte, b'A');
     }
     assert_eq!(&rt; first, second);
+    Ok(())
+}
+
+/// The machine of a source, through the filters.
+fn machine_of(alloc: Global, source: &[u8]) -> Result<Machine, Fail> {
+    let code = outcome_of(alloc, &COMPILE, b"", source)?;
+    let segments = outcome_of(alloc, &GENERATE, b"", code.output.as_slice())?;
+    let mut text = Reader512::new(segments.output.as_slice());
+    match read_segment(alloc, &mut text) {
+        Ok(Some(segment)) => Ok(Machine::load(alloc, &[segment], 4096)?),
+        _ => Err(Fail::from("no segment")),
+    }
+}
+
+/// Runs a machine without input for so many steps more.
+fn run_on(machine: &mut Machine, steps: u64, output: &mut Vec<u8>) -> End {
+    let mut input = Reader512::new(b"".as_slice());
+    let mut out = Writer512::new(output);
+    machine.run(steps, &mut input, &mut out)
+}
+
+#[test]
+fn a_run_that_is_gone_on_with(rt: HostRuntime) -> Result<(), Fail> {
+    let alloc = rt.alloc();
+    let source = b"GET \"LIBHDR\" LET START() BE WRCH('A') REPEAT";
+    let mut once = machine_of(alloc, source)?;
+    let mut twice = machine_of(alloc, source)?;
+    let mut all = Vec::new(alloc);
+    let mut parts = Vec::new(alloc);
+    assert_eq!(&rt; run_on(&mut once, 2000, &mut all), End::StepLimit);
+    assert_eq!(&rt; run_on(&mut twice, 1000, &mut parts), End::StepLimit);
+    assert!(&rt; all.as_slice().starts_with(parts.as_slice()) && parts.len() < all.len());
+    assert_eq!(&rt; run_on(&mut twice, 1000, &mut parts), End::StepLimit);
+    assert_eq!(&rt; parts.as_slice(), all.as_slice());
     Ok(())
 }
 
