@@ -6,7 +6,8 @@ import subprocess
 import sys
 
 HERE = os.path.dirname(os.path.dirname(os.path.abspath(__file__)))
-BCPL = subprocess.run([os.path.join(HERE, "bcpl"), "--which"], stdout=subprocess.PIPE, text=True, check=True).stdout.strip()
+# the program that the variable BCPL names, else the one that `./bcpl` would run
+BCPL = os.environ.get("BCPL") or subprocess.run([os.path.join(HERE, "bcpl"), "--which"], stdout=subprocess.PIPE, text=True, check=True).stdout.strip()
 
 NAME = rb"[A-Z][A-Z0-9.]{0,254}"
 SOURCE = rb"line [1-9][0-9]*: (bad byte|bad string|bad escape|number over 32 bits|name over 255 bytes|section tag over 255 bytes|section too long|bad GET|unexpected symbol|wrong section tag|nested too deeply|too many nodes|not declared: N|declared twice: N|dynamic name used in a procedure: N|not a constant|constant divided by zero|CASE repeated|DEFAULT repeated|no loop here|no SWITCHON here|RESULTIS or RETURN not here|label not here: N|global outside 0 to 999|VEC outside 0 to 32767|frame over 65535 words|not assignable|two procedures for one global: N)\n".replace(b": N", b": " + NAME)

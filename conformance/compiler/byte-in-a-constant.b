@@ -1,0 +1,2 @@
+MANIFEST $( A = 1
+   B = A%0 $)

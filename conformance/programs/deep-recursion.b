@@ -1,0 +1,3 @@
+GET "LIBHDR"
+LET F(N) = N = 0 -> 0, F(N - 1)
+LET START() BE WRITEN(F(300))

@@ -1,0 +1,2 @@
+GET "LIBHDR"
+LET START() BE $( STOP(1); WRCH(65) $)
