@@ -1,224 +1,151 @@
-/* intcode: the assembler and the machine of docs/INTCODE.md in portable C, for whoever carries INTCODE to a new machine. It takes the
- * words of `bcpl interpret`, and has its lines and statuses:
- *     intcode interpret [-s WORDS] [-t STEPS] [--sizes] FILE
- * It is written from that page alone and not proved; conformance/run tries it. The output is flushed before each byte that is read:
- * a system that can tell whether a byte waits may do that only where none does. */
+/* intcode: the assembler and the machine of docs/INTCODE.md in portable C99. It is written from the page alone and is not proved.
+ *     intcode interpret [-s WORDS] [-t STEPS] [--sizes] [-v] [--ocode FILE] FILE
+ * does what `bcpl interpret` does. -v lists each step on the error stream; --ocode gives the OCODE text of the same program, for the names
+ * of procedures in that list. The output is flushed before each byte that is read, also where a byte waits. */
 #include <inttypes.h>
 #include <stdio.h>
 #include <stdlib.h>
 #include <string.h>
 
 typedef uint32_t Word;
-enum { START_OF_SEGMENTS = 1034, GLOBALS = 16, LABELS = 2000000, ITEMS = 64000000, FRAME = 65535 };
-typedef struct { char kind; uint8_t flags; int32_t number; Word global; } Item; /* kind: a function's letter, or : C D M G Q; M a label's number */
-enum { INDIRECT = 1, FROM_P = 2, FROM_G = 4, LABEL = 8 };
+enum { GLOBALS = 16, LIBRARY = 1016, SEGMENTS = 1034, LABELS = 2000000, ITEMS = 64000000, FRAME = 65535 };
+enum { ADDRESS = 0x1FFFFFF, LONG = 1 << 25, FROM_G = 1 << 26, FROM_P = 1 << 27, INDIRECT = 1 << 28, FUNCTION = 29 };
 static const char FUNCTIONS[] = "LSAJTFKX";
-static const char *const FAULTS[] = {"", "bad letter", "bad number", "byte over 255", "label not set", "label set twice", "truncated", "too long", "frame given twice"};
+typedef struct { char kind; int has_label; Word word, global, number; } Item; /* kind: its first letter, or ':' where it sets a label */
+typedef struct { Word c, p, a, b; } Registers;
 
-static Word *store, words = 262144, stack = START_OF_SEGMENTS, frame, places[LABELS + 1];
-static int has_start;
-static Item *items;
-static size_t room;
+static Word *store, size = 262144, stack = SEGMENTS, frame;
+static struct { unsigned long segment; Word where; } labels[LABELS + 1]; /* the segment that set the label last, counted from 1 */
+static struct use { Word where, word, label; } *uses; /* the words of a segment to which the number of a label is added */
+static char **names; /* the name of the procedure that begins at each word, or NULL */
+static int column; /* how many bytes of a line of the list are written */
 
+/* Passes the output on and ends the run; the line may be NULL. */
 static void end(int status, const char *line) {
-    if ((fflush(stdout) != 0 || ferror(stdout)) && status != 112) {
-        status = 110;
-        line = "write fault";
-    }
-    if (line) fprintf(stderr, "%s\n", line);
+    if ((fflush(stdout) != 0 || ferror(stdout)) && status != 112) status = 110, line = "write fault";
+    fprintf(stderr, "%s%s%s", column ? "\n" : "", line ? line : "", line ? "\n" : "");
     exit(status);
 }
+static void *memory(void *found) { if (!found) end(111, "no memory"); return found; }
+static void put(Word where, Word word) { if (where < size) store[where] = word; }
 
-/* ---- reading */
-
-/* A number spelled one way; returns what stands after it, or NULL. */
-static const char *number(const char *s, int64_t least, int64_t most, int64_t *value) {
-    int sign = *s == '-';
-    const char *digits = s + sign;
-    size_t n = strspn(digits, "0123456789");
-    if (n == 0 || n > 10 || (digits[0] == '0' && (n > 1 || sign))) return NULL;
-    *value = strtoll(s, NULL, 10);
-    return *value < least || *value > most ? NULL : digits + n;
+/* Reads a number that is spelled one way. Returns what follows it, or NULL where it is misspelt or outside the range. */
+static const char *number(const char *s, int64_t least, int64_t most, int64_t *n) {
+    const char *digits = s + (*s == '-');
+    size_t count = strspn(digits, "0123456789");
+    if (count == 0 || count > 13 || (*digits == '0' && (count > 1 || digits > s))) return NULL;
+    *n = strtoll(s, NULL, 10);
+    return *n < least || *n > most ? NULL : digits + count;
 }
 
-/* The item of a word, or the number of its fault. */
-static int item_of(const char *s, Item *item) {
-    int64_t n = 0, label = 0;
-    const char *rest = s + 1;
-    memset(item, 0, sizeof *item);
-    if (*s >= '0' && *s <= '9') {
-        item->kind = ':';
-        rest = number(s, 1, LABELS, &n);
-    } else if (*s && strchr(FUNCTIONS, *s)) {
-        item->kind = *s;
-        if (*rest == 'I') item->flags |= INDIRECT, rest++;
-        if (*rest == 'L') {
-            item->flags |= LABEL;
-            rest = number(rest + 1, 1, LABELS, &n);
-        } else {
-            if (*rest == 'P') item->flags |= FROM_P, rest++;
-            else if (*rest == 'G') item->flags |= FROM_G, rest++;
-            rest = number(rest, INT32_MIN, INT32_MAX, &n);
-        }
-    } else if (*s == 'C') {
-        item->kind = 'C';
-        rest = number(rest, 0, INT32_MAX, &n);
-        if (rest && !*rest && n > 255) return 3;
-    } else if (*s == 'D') {
-        item->kind = *rest == 'L' ? 'M' : 'D';
-        rest = *rest == 'L' ? number(rest + 1, 1, LABELS, &n) : number(rest, INT32_MIN, INT32_MAX, &n);
-        if (item->kind == 'M') item->flags = LABEL;
-    } else if (*s == 'G') {
-        item->kind = 'G';
-        item->flags = LABEL;
-        rest = number(rest, 0, 999, &label);
-        item->global = (Word)label;
-        rest = rest && *rest == 'L' ? number(rest + 1, 1, LABELS, &n) : NULL;
-    } else if (*s == 'Q') {
-        item->kind = 'Q';
-        rest = number(rest, 16, FRAME, &n);
-    } else if (*s == 'Z') {
-        item->kind = 'Z';
-    } else {
-        return 1;
-    }
-    item->number = (int32_t)n;
-    return rest && !*rest ? 0 : 2;
+/* Reads the item of a word. Returns its fault, or NULL. */
+static const char *read_item(const char *s, Item *i) {
+    int64_t n = 0, least = INT32_MIN, most = INT32_MAX;
+    const char *function = strchr(FUNCTIONS, *s);
+    *i = (Item){.kind = *s};
+    if (*s >= '0' && *s <= '9') i->kind = ':', least = 1, most = LABELS;
+    else if (function) {
+        i->word = (Word)(function - FUNCTIONS) << FUNCTION;
+        if (*++s == 'I') i->word |= INDIRECT, s++;
+        if (*s == 'P') i->word |= FROM_P, s++;
+        else if (*s == 'G') i->word |= FROM_G, s++;
+        else i->has_label = *s == 'L';
+    } else if (*s == 'C') s++, least = 0;
+    else if (*s == 'D') i->has_label = *++s == 'L';
+    else if (*s == 'G') {
+        if (!(s = number(s + 1, 0, 999, &n)) || *s != 'L') return "bad number";
+        i->global = (Word)n, i->has_label = 1;
+    } else if (*s == 'Q') s++, least = 16, most = FRAME;
+    else return *s != 'Z' ? "bad letter" : s[1] ? "bad number" : NULL;
+    if (i->has_label) s++, least = 1, most = LABELS;
+    s = number(s, least, most, &n);
+    i->number = (Word)n;
+    return !s || *s ? "bad number" : i->kind == 'C' && n > 255 ? "byte over 255" : NULL;
 }
 
-/* The next word, cut at 19 bytes (no item has more); 0 at the end of the text. */
-static int next_word(FILE *file, char *word) {
+static int is_blank(int c) { return c == ' ' || (c >= 9 && c <= 13 && c != 11); }
+
+/* Reads the next word, cut at 19 bytes (no item has more). Returns 0 at the end of the text. */
+static int read_word(FILE *file, char *word) {
     int c = getc(file), n = 0;
-    while (c == ' ' || (c >= 9 && c <= 13 && c != 11)) c = getc(file);
-    for (; c != EOF && c != ' ' && !(c >= 9 && c <= 13 && c != 11); c = getc(file))
+    while (is_blank(c)) c = getc(file);
+    for (; c != EOF && !is_blank(c); c = getc(file))
         if (n < 19) word[n++] = c ? (char)c : '?'; /* (a byte 0 ends a word in C, and no item has one) */
     word[n] = 0;
     if (ferror(file)) end(109, "read fault");
     return n > 0;
 }
 
-static void refuse(unsigned long segment, size_t item, int fault) {
-    char line[80];
-    snprintf(line, sizeof line, "segment %lu, item %lu: %s", segment, (unsigned long)item, FAULTS[fault]);
-    end(103, line);
-}
-
-/* How many words an instruction takes, and the word that it needs; the address may be a word behind it. */
-static int long_address(const Item *i) { return !(i->flags & LABEL) && (Word)i->number > 0x1FFFFFF; }
-
-/* Puts a word, where the store reaches. */
-static void put(Word at, Word word) {
-    if (at < words) store[at] = word;
-}
-
-/* Goes through the items of a segment from the first word on; the first time (place) labels are set, the second time words are put. */
-static Word lay(size_t count, Word at, int place) {
-    int filled = 0;
-    for (size_t k = 0; k < count; k++) {
-        Item *i = &items[k];
-        Word value = i->flags & LABEL ? places[i->number] : (Word)i->number;
-        if (i->kind == 'C') {
-            if (filled == 0 && !place) put(at, 0);
-            if (!place && at < words) store[at] |= value << 8 * filled;
-            filled = (filled + 1) % 4;
-            if (filled == 0) at++;
-            continue;
-        }
-        if (filled) at++, filled = 0;
-        if (i->kind == ':' && place) places[i->number] = at;
-        else if (i->kind == 'D' || i->kind == 'M') {
-            if (!place) put(at, value);
-            at++;
-        } else if (strchr(FUNCTIONS, i->kind)) {
-            Word w = (Word)(strchr(FUNCTIONS, i->kind) - FUNCTIONS) << 29 | (Word)(i->flags & 7 & INDIRECT ? 1u << 28 : 0) | (i->flags & FROM_P ? 1u << 27 : 0) | (i->flags & FROM_G ? 1u << 26 : 0);
-            if (!place) put(at, long_address(i) ? w | 1u << 25 : w | value);
-            at++;
-            if (long_address(i)) {
-                if (!place) put(at, value);
-                at++;
-            }
-        }
+/* Reads the names in the next section of an OCODE text. A label of ENTRY has to have the same number in the segment. */
+static void read_names(FILE *code, unsigned long segment) {
+    char word[20];
+    unsigned label, count, c;
+    while (code && fscanf(code, "%19s", word) == 1 && strcmp(word, "GLOBAL") != 0) {
+        if (strcmp(word, "ENTRY") != 0 || fscanf(code, " L%6u %3u", &label, &count) != 2) continue;
+        char *name = memory(calloc(count + 1, 1));
+        for (unsigned k = 0; k < count && fscanf(code, "%3u", &c) == 1; k++) name[k] = (char)(c > 32 && c < 127 ? c : '?');
+        if (labels[label].segment == segment && labels[label].where < size) names[labels[label].where] = name;
     }
-    return filled ? at + 1 : at;
 }
 
-/* Reads a segment behind its first word and lays it from `stack` on. */
-static void segment(FILE *file, unsigned long which, char *word) {
-    size_t count = 0;
-    Word deepest = 0;
-    for (;;) {
-        Item item;
-        int fault = item_of(word, &item);
-        if (!fault && item.kind == ':' && places[item.number]) fault = 5;
-        if (!fault && count == ITEMS) fault = 7;
-        if (!fault && item.kind == 'Q' && deepest) fault = 8;
-        if (!fault && item.kind == 'Z')
-            for (size_t k = 0; k < count && !fault; k++)
-                if (items[k].flags & LABEL && !places[items[k].number]) fault = 4;
-        if (fault) refuse(which, count + 1, fault);
-        if (item.kind == 'Z') break;
-        if (count == room) {
-            room = room ? 2 * room : 1024;
-            items = realloc(items, room * sizeof *items);
-            if (!items) end(111, "no memory");
+/* Reads a segment from its first word on, and lays it from the word `stack` on. A word with a label gets its number at the end. */
+static void read_segment(FILE *file, unsigned long segment, char *word) {
+    static size_t room;
+    size_t count = 0, used = 0;
+    Word next = stack, bytes = 0, in_bytes = 0, deepest = 0;
+    Item i;
+    for (int more = 1; ; more = read_word(file, word)) {
+        const char *fault = more ? read_item(word, &i) : "truncated";
+        for (size_t k = 0; !fault && i.kind == 'Z' && k < used; k++)
+            if (labels[uses[k].label].segment != segment) fault = "label not set";
+        if (!fault && i.kind == ':' && labels[i.number].segment == segment) fault = "label set twice";
+        if (!fault && count == ITEMS) fault = "too long";
+        if (!fault && i.kind == 'Q' && deepest) fault = "frame given twice";
+        count++;
+        if (fault) fprintf(stderr, "segment %lu, item %zu: %s\n", segment, count, fault), end(103, NULL);
+        if (i.kind != 'C' && in_bytes) next++, bytes = in_bytes = 0; /* any other item ends a run of bytes */
+        if (i.kind == 'Z') break;
+        Word where = i.kind == 'G' ? GLOBALS + i.global : next;
+        if (i.kind == ':') labels[i.number].segment = segment, labels[i.number].where = next;
+        else if (i.kind == 'Q') deepest = i.number;
+        else if (i.kind == 'C') {
+            put(next, bytes |= i.number << 8 * in_bytes);
+            if (++in_bytes == 4) next++, bytes = in_bytes = 0;
+        } else if (i.kind != 'G') {
+            if (i.kind != 'D' && !i.has_label && i.number > ADDRESS) put(next++, i.word | LONG), i.word = 0;
+            put(next++, i.word + i.number);
         }
-        if (item.kind == ':') places[item.number] = 1;
-        if (item.kind == 'Q') deepest = (Word)item.number;
-        items[count++] = item;
-        if (!next_word(file, word)) refuse(which, count + 1, 6);
+        if (i.has_label && used == room) uses = memory(realloc(uses, (room = 2 * room + 1024) * sizeof *uses));
+        if (i.has_label) uses[used++] = (struct use){where, i.word, i.number};
     }
-    lay(count, stack, 1);
-    Word behind = lay(count, stack, 0);
-    for (size_t k = 0; k < count; k++)
-        if (items[k].kind == 'G') {
-            put(GLOBALS + items[k].global, places[items[k].number]);
-            has_start |= items[k].global == 1;
-        }
-    for (size_t k = 0; k < count; k++)
-        if (items[k].kind == ':') places[items[k].number] = 0;
-    stack = behind > words ? words : behind; /* (too small then, whatever follows) */
-    if (!deepest) deepest = FRAME;
-    if (deepest > frame) frame = deepest;
+    for (size_t k = 0; k < used; k++) put(uses[k].where, uses[k].word + labels[uses[k].label].where);
+    stack = next < size ? next : size; /* (a store of no more words is too small, whatever follows) */
+    if (frame < (deepest ? deepest : FRAME)) frame = deepest ? deepest : FRAME;
 }
 
-/* ---- the machine */
-
-static Word at(Word address) {
-    if (address >= words) end(105, "store limit");
-    return store[address];
-}
-static void set(Word address, Word word) {
-    at(address);
-    store[address] = word;
-}
-static Word place_of(Word s, Word i) { return s + (i >> 2 | (i & 0x80000000 ? 0xC0000000 : 0)); }
-static Word byte(Word s, Word i) { return at(place_of(s, i)) >> 8 * (i & 3) & 255; }
+/* The word at an address. (The loop of `run` has the store and its size in variables of its own, which is faster.) */
+static Word *cell(Word *words, Word count, Word address) { if (address >= count) end(105, "store limit"); return words + address; }
+static Word at(Word address) { return *cell(store, size, address); }
+static Word *byte_place(Word s, Word i) { return cell(store, size, s + (i >> 2 | (i & 0x80000000 ? 0xC0000000 : 0))); }
+static Word byte(Word s, Word i) { return *byte_place(s, i) >> 8 * (i & 3) & 255; }
 static void set_byte(Word s, Word i, Word value) {
-    Word shift = 8 * (i & 3), old = at(place_of(s, i));
-    set(place_of(s, i), (old & ~(255u << shift)) | (value & 255) << shift);
+    Word *word = byte_place(s, i), shift = 8 * (i & 3);
+    *word = (*word & ~((Word)255 << shift)) | (value & 255) << shift;
 }
-static void write_byte(Word c) {
-    if (putchar((int)(c & 255)) == EOF) end(110, "write fault");
+static void write_byte(Word c) { if (putchar((int)(c & 255)) == EOF) end(110, "write fault"); }
+static void write_number(Word n, int32_t width) {
+    if (printf("%*" PRId32, width < 0 ? 0 : width > 255 ? 255 : (int)width, (int32_t)n) < 0) end(110, "write fault");
 }
-static void write_number(Word value, int width) {
-    char digits[16];
-    int n = snprintf(digits, sizeof digits, "%" PRId32, (int32_t)value);
-    for (int k = n; k < width; k++) write_byte(' ');
-    for (int k = 0; k < n; k++) write_byte((Word)digits[k]);
-}
-static void write_string(Word s) {
-    Word n = byte(s, 0);
-    for (Word i = 1; i <= n; i++) write_byte(byte(s, i));
-}
-static void write_format(Word p) {
-    Word s = at(p + 2), n = byte(s, 0), argument = p + 3;
-    for (Word i = 1; i <= n; i++) {
-        Word c = byte(s, i), d = c == '%' && i < n ? byte(s, i + 1) & (Word)~0x20 : 0;
-        if (c == '%' && i < n && byte(s, i + 1) == '%') write_byte('%'), i++;
-        else if (d == 'S') write_string(at(argument++)), i++;
-        else if (d == 'N') write_number(at(argument++), 0), i++;
-        else if (d == 'C') write_byte(at(argument++)), i++;
-        else if (d == 'I' && i + 1 < n && byte(s, i + 2) - '0' < 10) write_number(at(argument++), (int)(byte(s, i + 2) - '0')), i += 2;
+static void write_string(Word s) { for (Word i = 1, n = byte(s, 0); i <= n; i++) write_byte(byte(s, i)); }
+static void write_format(Word s, Word argument) {
+    for (Word i = 1, n = byte(s, 0); i <= n; i++) {
+        Word c = byte(s, i), next = c == '%' && i < n ? byte(s, i + 1) : 0, letter = next & ~(Word)32; /* (the capital) */
+        Word digit = letter == 'I' && i + 1 < n ? byte(s, i + 2) - '0' : 10;
+        if (next == '%') write_byte('%'), i++;
+        else if (letter == 'S') write_string(at(argument++)), i++;
+        else if (letter == 'N') write_number(at(argument++), 0), i++;
+        else if (letter == 'C') write_byte(at(argument++)), i++;
+        else if (digit < 10) write_number(at(argument++), (int32_t)digit), i += 2;
         else write_byte(c);
     }
 }
@@ -227,120 +154,96 @@ static Word read_byte(void) {
     if (fflush(stdout) != 0) end(110, "write fault");
     int c = ended ? EOF : getchar();
     if (c == EOF && ferror(stdin)) end(109, "read fault");
-    ended |= c == EOF;
-    return c == EOF ? 0xFFFFFFFF : (Word)c;
+    return (ended = c == EOF) ? 0 - (Word)1 : (Word)c;
 }
-static Word truth(int t) { return t ? 0xFFFFFFFF : 0; }
-static Word quotient(Word b, Word a, int remainder) {
-    if (a == 0) end(104, "division by zero");
-    if (a == 0xFFFFFFFF) return remainder ? 0 : 0 - b;
-    return (Word)(remainder ? (int32_t)b % (int32_t)a : (int32_t)b / (int32_t)a);
+static int64_t divisor(int32_t y) { if (y == 0) end(104, "division by zero"); return y; }
+static Word switched(Word c, Word a) {
+    Word otherwise = at(c + 1);
+    for (int32_t n = (int32_t)at(c); n > 0; n--) {
+        Word label = at((c += 2) + 1);
+        if (at(c) == a) return label;
+    }
+    return otherwise;
 }
 
-static void run(uint64_t steps) {
-    Word c = 1, p = stack, a = 0, b = 0;
+/* Does so many steps, and returns after them. */
+static void run(Registers *registers, int64_t steps) {
+#define AT(address) (*cell(words, count, address))
+    Word *const words = store;
+    Word count = size, c = registers->c, p = registers->p, a = registers->a, b = registers->b;
     while (steps-- > 0) {
-        Word w = at(c++), d = w & 0x1FFFFFF;
-        if (w >> 25 & 1) d = at(c++);
-        if (w >> 27 & 1) d += p;
-        if (w >> 26 & 1) d += GLOBALS;
-        if (w >> 28 & 1) d = at(d);
+        Word w = AT(c++), d = w & ADDRESS;
+        if (w & LONG) d = AT(c++);
+        if (w & FROM_P) d += p;
+        if (w & FROM_G) d += GLOBALS;
+        if (w & INDIRECT) d = AT(d);
         int32_t x = (int32_t)b, y = (int32_t)a;
-        switch (w >> 29) {
-        case 0: b = a; a = d; continue;
-        case 1: set(d, a); continue;
-        case 2: a += d; continue;
-        case 3: c = d; continue;
-        case 4: if (a) c = d; continue;
-        case 5: if (!a) c = d; continue;
-        case 6: d += p; set(d, p); set(d + 1, c); p = d; c = a; continue;
+        switch (w >> FUNCTION) {
+        case 0: b = a; a = d; continue;             case 1: AT(d) = a; continue;                case 2: a += d; continue;
+        case 3: c = d; continue;                    case 4: if (a) c = d; continue;             case 5: if (!a) c = d; continue;
+        case 6: d += p; AT(d) = p; AT(d + 1) = c; p = d; c = a; continue;
         }
         switch (d) {
-        case 1: a = at(a); break;
-        case 2: a = 0 - a; break;
-        case 3: a = ~a; break;
-        case 4: c = at(p + 1); p = at(p); break;
-        case 5: a = b * a; break;
-        case 6: a = quotient(b, a, 0); break;
-        case 7: a = quotient(b, a, 1); break;
-        case 8: a = b + a; break;
-        case 9: a = b - a; break;
-        case 10: a = truth(b == a); break;
-        case 11: a = truth(b != a); break;
-        case 12: a = truth(x < y); break;
-        case 13: a = truth(x >= y); break;
-        case 14: a = truth(x > y); break;
-        case 15: a = truth(x <= y); break;
-        case 16: a = a > 31 ? 0 : b << a; break;
-        case 17: a = a > 31 ? 0 : b >> a; break;
-        case 18: a = b & a; break;
-        case 19: a = b | a; break;
-        case 20: a = b ^ a; break;
-        case 21: a = ~(b ^ a); break;
-        case 22: end(0, NULL); break;
-        case 23: {
-            Word n = at(c), k = c + 2, to = at(c + 1);
-            for (Word i = 0; (int32_t)n > 0 && i < n; i++, k += 2) {
-                Word value = at(k), label = at(k + 1);
-                if (value == a) { to = label; break; }
-            }
-            c = to;
-            break;
-        }
-        case 24: { Word status = at(p + 2); end(status < 100 ? (int)status : 100, NULL); break; }
-        case 25: a = read_byte(); break;
-        case 26: write_byte(at(p + 2)); break;
-        case 27: write_byte('\n'); break;
-        case 28: write_string(at(p + 2)); break;
-        case 29: write_number(at(p + 2), 0); break;
-        case 30: { Word v = at(p + 2); int32_t width = (int32_t)at(p + 3); write_number(v, width > 255 ? 255 : width); break; }
-        case 31: { Word s = at(p + 2); a = byte(s, at(p + 3)); break; }
-        case 32: { Word s = at(p + 2), i = at(p + 3); set_byte(s, i, at(p + 4)); break; }
-        case 33: write_format(p); break;
-        case 40: a = byte(b, a); break;
-        case 41: { Word n = at(c++); set_byte(b, a, at(p + n)); break; }
-        default: end(107, "bad operation");
+        case 1: a = AT(a); break;                   case 2: a = 0 - a; break;                   case 3: a = ~a; break;
+        case 4: c = AT(p + 1); p = AT(p); break;    case 5: a = b * a; break;                   case 6: a = (Word)(x / divisor(y)); break;
+        case 7: a = (Word)(x % divisor(y)); break;  case 8: a = b + a; break;                   case 9: a = b - a; break;
+        case 10: a = 0 - (Word)(x == y); break;     case 11: a = 0 - (Word)(x != y); break;     case 12: a = 0 - (Word)(x < y); break;
+        case 13: a = 0 - (Word)(x >= y); break;     case 14: a = 0 - (Word)(x > y); break;      case 15: a = 0 - (Word)(x <= y); break;
+        case 16: a = a > 31 ? 0 : b << a; break;    case 17: a = a > 31 ? 0 : b >> a; break;    case 18: a = b & a; break;
+        case 19: a = b | a; break;                  case 20: a = b ^ a; break;                  case 21: a = ~(b ^ a); break;
+        case 22: end(0, NULL); break;               case 23: c = switched(c, a); break;
+        case 24: a = AT(p + 2); end(a < 100 ? (int)a : 100, NULL); break;                       case 25: a = read_byte(); break;
+        case 26: write_byte(AT(p + 2)); break;      case 27: write_byte('\n'); break;           case 28: write_string(AT(p + 2)); break;
+        case 29: write_number(AT(p + 2), 0); break; case 30: write_number(AT(p + 2), (int32_t)AT(p + 3)); break;
+        case 31: a = byte(AT(p + 2), AT(p + 3)); break;     case 32: set_byte(AT(p + 2), AT(p + 3), AT(p + 4)); break;
+        case 33: write_format(AT(p + 2), p + 3); break;     case 40: a = byte(b, a); break;
+        case 41: set_byte(b, a, AT(p + AT(c++))); break;    default: end(107, "bad operation");
         }
     }
-    end(106, "step limit");
+    *registers = (Registers){c, p, a, b};
+}
+
+/* Does so many steps, and lists each: its number, C, the instruction, and the registers after it. The name of an entry stands before it. */
+static void list(Registers *r, int64_t steps) {
+    for (int64_t n = 1; n <= steps; n++, column = 0) {
+        Word c = r->c, w = c < size ? store[c] : 0, d = !(w & LONG) ? w & ADDRESS : c + 1 < size ? store[c + 1] : 0;
+        if (c < size && names[c]) fprintf(stderr, "%s:\n", names[c]);
+        column = fprintf(stderr, "%9" PRId64 " %7" PRIu32 "  %c%s%s%s%" PRId32, n, c, c < size ? FUNCTIONS[w >> FUNCTION] : '?',
+                         w & INDIRECT ? "I" : "", w & FROM_P ? "P" : "", w & FROM_G ? "G" : "", (int32_t)d);
+        run(r, 1);
+        fprintf(stderr, "%*s A %-11" PRId32 " B %-11" PRId32 " P %" PRIu32 "\n", 32 - column, "", (int32_t)r->a, (int32_t)r->b, r->p);
+    }
 }
 
 int main(int argc, char **argv) {
-    uint64_t steps = 1000000000;
-    int64_t value;
-    int sizes = 0, k = argc > 1 && strcmp(argv[1], "interpret") == 0 ? 2 : 1;
-    for (; k < argc - 1; k++) {
-        const char *rest = NULL;
-        if (strcmp(argv[k], "--sizes") == 0) { sizes = 1; continue; }
-        if (strcmp(argv[k], "-s") == 0 && (rest = number(argv[k + 1], 4096, 4194304, &value))) words = (Word)value;
-        else if (strcmp(argv[k], "-t") == 0) {
-            char *behind;
-            unsigned long long n = strtoull(argv[k + 1], &behind, 10);
-            if (n >= 1 && n <= 1000000000000 && strspn(argv[k + 1], "0123456789") == strlen(argv[k + 1])) steps = n, rest = behind;
-        }
+    int64_t steps = 0, words = 0, sizes = 0, verbose = 0;
+    const char *path = NULL, *code = NULL;
+    for (int k = argc > 1 && strcmp(argv[1], "interpret") == 0 ? 2 : 1; k < argc; k++) {
+        const char *option = argv[k], *value = k + 1 < argc ? argv[k + 1] : "", *rest = "";
+        if (*option != '-' && !path) path = option;
+        else if (strcmp(option, "--sizes") == 0 && !sizes) sizes = 1;
+        else if (strcmp(option, "-v") == 0 && !verbose) verbose = 1;
+        else if (strcmp(option, "--ocode") == 0 && !code && *value) code = value, k++;
+        else if (strcmp(option, "-s") == 0 && !words) rest = number(value, 4096, 4194304, &words), k++;
+        else if (strcmp(option, "-t") == 0 && !steps) rest = number(value, 1, 1000000000000, &steps), k++;
+        else rest = NULL;
         if (!rest || *rest) end(112, "bad command line");
-        k++;
     }
-    if (k != argc - 1) end(112, "bad command line");
-    FILE *file = fopen(argv[k], "rb");
-    if (!file) end(109, "read fault");
-    store = calloc(words, sizeof *store);
-    if (!store) end(111, "no memory");
-    put(1, 0x14000001), put(2, 6u << 29), put(3, 7u << 29 | 22), put(4, 7u << 29 | 33), put(5, 7u << 29 | 4);
-    for (Word g = 2; g <= 10; g++) {
-        put(GLOBALS + g, 1016 + 2 * (g - 2));
-        put(1016 + 2 * (g - 2), 7u << 29 | (g + 22));
-        put(1017 + 2 * (g - 2), 7u << 29 | 4);
-    }
-    put(GLOBALS + 11, 4);
+    if (!path) end(112, "bad command line");
+    FILE *file = fopen(path, "rb"), *ocode = code ? fopen(code, "rb") : NULL;
+    if (!file || (code && !ocode)) end(109, "read fault");
+    if (words) size = (Word)words;
+    store = memory(calloc(size, sizeof *store));
+    names = memory(calloc(size, sizeof *names));
+    const Word X = (Word)7 << FUNCTION;
+    put(1, INDIRECT | FROM_G | 1), put(2, (Word)6 << FUNCTION), put(3, X | 22), put(4, X | 33), put(5, X | 4), put(GLOBALS + 11, 4);
+    for (Word g = 2, r = LIBRARY; g <= 10; g++, r += 2) put(GLOBALS + g, r), put(r, X | (g + 22)), put(r + 1, X | 4);
     char word[20];
-    for (unsigned long which = 1; next_word(file, word); which++) segment(file, which, word);
-    if (stack + 16 > words) end(105, "store too small");
-    if (!has_start) end(108, "no START");
-    if (sizes) {
-        printf("image %lu, frame %lu\n", (unsigned long)stack, (unsigned long)frame);
-        end(0, NULL);
-    }
-    run(steps);
-    return 0;
+    for (unsigned long segment = 1; read_word(file, word); segment++) read_segment(file, segment, word), read_names(ocode, segment);
+    if (stack + 16 > size) end(105, "store too small");
+    if (!store[GLOBALS + 1]) end(108, "no START");
+    if (sizes) printf("image %" PRIu32 ", frame %" PRIu32 "\n", stack, frame), end(0, NULL);
+    Registers registers = {.c = 1, .p = stack};
+    (verbose ? list : run)(&registers, steps ? steps : 1000000000);
+    end(106, "step limit");
 }

@@ -1,15 +1,11 @@
-//! Rows of sources through the front end: their symbols, trees, names and statements, each with what has to come of it. Tests
-//! alone, of what no clause says, so that the crates below are proved once.
+//! Rows of sources through the front end: their symbols, trees and names, each with what has to come of it. Tests alone, of what no
+//! text shows, so that the crates below are proved once.
 #![tactic(auto)]
 
 #[cfg(test)]
 mod name_rows;
 #[cfg(test)]
-mod section_rows;
-#[cfg(test)]
 mod sections;
-#[cfg(test)]
-mod statement_rows;
 #[cfg(test)]
 mod token_rows;
 #[cfg(test)]

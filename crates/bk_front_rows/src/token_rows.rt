@@ -1,13 +1,8 @@
-//! Tests of what no clause says: rows of texts with their tokens or their fault, and each limit at its last good value
-//! and the next.
+//! Rows of texts with their tokens: spelling, line, place and value of each, and where a section ends.
 use bk_base::{Line, Refused};
 use bk_lex::{Cut, Cutter, Kind, Lexed, Token, character_byte, lex, number_word, string_bytes};
 use std::alloc::{AllocError, Global};
 use std::test::Fail;
-
-const MOST_BYTES: usize = 1_048_576;
-
-const MOST_SYMBOLS: usize = 262_144;
 
 /// Texts with their tokens, as `listed` writes them.
 static TEXTS: [(&[u8], &[u8]); 53] = [
@@ -72,78 +67,6 @@ static TEXTS: [(&[u8], &[u8]); 53] = [
     (b"#1.$", b"#1 .3"),
 ];
 
-/// Texts with their fault.
-static FAULTS: [(&[u8], &[u8]); 68] = [
-    (b"_", b"line 1: bad byte"),
-    (b"A\n\n_", b"line 3: bad byte"),
-    (b"#", b"line 1: bad byte"),
-    (b"#\n", b"line 1: bad byte"),
-    (b"#8", b"line 1: bad byte"),
-    (b"#X", b"line 1: bad byte"),
-    (b"#Xg", b"line 1: bad byte"),
-    (b"$", b"line 1: bad byte"),
-    (b"$A", b"line 1: bad byte"),
-    (b"\\", b"line 1: bad byte"),
-    (b"{", b"line 1: bad byte"),
-    (b"\x0b", b"line 1: bad byte"),
-    (b"A\xc3", b"line 1: bad byte"),
-    (b"\"AB\n", b"line 1: bad string"),
-    (b"\"AB\r", b"line 1: bad string"),
-    (b"\"AB", b"line 1: bad string"),
-    (b"\"AB*", b"line 1: bad string"),
-    (b"\"AB*\n", b"line 1: bad string"),
-    (b"'", b"line 1: bad string"),
-    (b"''", b"line 1: bad string"),
-    (b"'A", b"line 1: bad string"),
-    (b"'AB'", b"line 1: bad string"),
-    (b"'\n'", b"line 1: bad string"),
-    (b"'*", b"line 1: bad string"),
-    (b"'*N", b"line 1: bad string"),
-    (b"'*\n", b"line 1: bad string"),
-    (b"'*Q'", b"line 1: bad escape"),
-    (b"\n\"*Q\"", b"line 2: bad escape"),
-    (b"\"A*", b"line 1: bad string"),
-    (b"4294967296", b"line 1: number over 32 bits"),
-    (b"04294967296", b"line 1: number over 32 bits"),
-    (b"#40000000000", b"line 1: number over 32 bits"),
-    (b"#X100000000", b"line 1: number over 32 bits"),
-    (b"GET \"X\"", b"line 1: bad GET"),
-    (b"GET", b"line 1: bad GET"),
-    (b"\nGET\n\n", b"line 2: bad GET"),
-    (b"GET\n\n\"X\"", b"line 1: bad GET"),
-    (b"GET A", b"line 1: bad GET"),
-    (b"GET .", b"line 1: bad GET"),
-    (b"GET \"LIB\"", b"line 1: bad GET"),
-    (b"GET \"LIBHDR3\"", b"line 1: bad GET"),
-    (b"GET \"LIBHDR22\"", b"line 1: bad GET"),
-    (b"GET \"LIBHDR \"", b"line 1: bad GET"),
-    (b"GET \"\"", b"line 1: bad GET"),
-    (b"GET 'L'", b"line 1: bad GET"),
-    (b"GET GET \"LIBHDR\"", b"line 1: bad GET"),
-    (b"GET \"*Q\"", b"line 1: bad GET"),
-    (b"GET \"*", b"line 1: bad GET"),
-    (b"GET \"LIB\n", b"line 1: bad string"),
-    (b"GET \"LIB", b"line 1: bad string"),
-    (b"GET\n\"LIB\n", b"line 2: bad string"),
-    (b"GET \"LIBHDR", b"line 1: bad string"),
-    (b"GET _", b"line 1: bad byte"),
-    (b"GET_", b"line 1: bad byte"),
-    (b"GET /_", b"line 1: bad byte"),
-    (b"GET #_", b"line 1: bad GET"),
-    (b"GET $", b"line 1: bad GET"),
-    (b"GET / _", b"line 1: bad GET"),
-    (b"GET /", b"line 1: bad GET"),
-    (b"GET //", b"line 1: bad GET"),
-    (b"GET /\n_", b"line 1: bad GET"),
-    (b"GET 4294967296", b"line 1: bad GET"),
-    (b"'*Q' _", b"line 1: bad escape"),
-    (b"_ '*Q'", b"line 1: bad byte"),
-    (b"\"A\nB_", b"line 1: bad string"),
-    (b"A _ .", b"line 1: bad byte"),
-    (b"A._", b"line 1: bad byte"),
-    (b"1_.", b"line 1: bad byte"),
-];
-
 /// Words that are one symbol, with its kind.
 static WORDS: [(&[u8], Kind); 60] = [
     (b"AND", Kind::And),
@@ -206,210 +129,6 @@ static WORDS: [(&[u8], Kind); 60] = [
     (b"$)A", Kind::SectionClose),
     (b"~", Kind::Not),
     (b"~=", Kind::NotEqual),
-];
-
-/// Texts of one byte so many times, with bytes before and behind, and the number of their tokens or their fault.
-static LONG_TEXTS: [(&[u8], u8, usize, &[u8], &[u8]); 62] = [
-    (b"GET \"LIBHDR", b'"', 1, b"", b"53 tokens"),
-    (b"GET \"LIBHDR2", b'"', 1, b"", b"57 tokens"),
-    (b"", b'A', 255, b"", b"1 tokens"),
-    (b"", b'A', 256, b"", b"line 1: name over 255 bytes"),
-    (b"\nA", b'.', 255, b"", b"line 2: name over 255 bytes"),
-    (b"$(", b'1', 255, b" .", b"1 tokens"),
-    (b"$(", b'1', 256, b"", b"line 1: section tag over 255 bytes"),
-    (b"$)", b'a', 255, b"", b"1 tokens"),
-    (b"$)", b'a', 256, b"", b"line 1: section tag over 255 bytes"),
-    (b"\"", b'a', 255, b"\"", b"1 tokens"),
-    (b"\"*N", b'a', 254, b"\"", b"1 tokens"),
-    (b"\"", b'a', 255, b"a", b"line 1: bad string"),
-    (b"\"", b'a', 255, b"a\"", b"line 1: bad string"),
-    (b"\"", b'a', 255, b"*N", b"line 1: bad string"),
-    (b"\"", b'a', 255, b"", b"line 1: bad string"),
-    (b"\"", b'a', 255, b"\n", b"line 1: bad string"),
-    (b"\"", b'a', 255, b"*", b"line 1: bad string"),
-    (b"\"", b'a', 255, b"*\n", b"line 1: bad string"),
-    (b"\"", b'a', 255, b"*Q", b"line 1: bad escape"),
-    (b"#X", b'0', 1000, b"1", b"1 tokens"),
-    (b"", b' ', MOST_BYTES, b"", b"0 tokens"),
-    (b"", b' ', MOST_BYTES - 1, b". ", b"0 tokens"),
-    (b"", b' ', MOST_BYTES - 1, b"1", b"1 tokens"),
-    (
-        b"\n",
-        b' ',
-        MOST_BYTES - 1,
-        b" ",
-        b"line 2: section too long",
-    ),
-    (
-        b"\n",
-        b' ',
-        MOST_BYTES - 1,
-        b".",
-        b"line 2: section too long",
-    ),
-    (
-        b"\n",
-        b' ',
-        MOST_BYTES - 1,
-        b"A",
-        b"line 2: section too long",
-    ),
-    (
-        b"\n",
-        b' ',
-        MOST_BYTES - 1,
-        b"/",
-        b"line 2: section too long",
-    ),
-    (
-        b"\n",
-        b' ',
-        MOST_BYTES - 1,
-        b"#",
-        b"line 2: section too long",
-    ),
-    (
-        b"\n",
-        b' ',
-        MOST_BYTES - 1,
-        b"\"",
-        b"line 2: section too long",
-    ),
-    (b"", b' ', MOST_BYTES, b"_", b"line 1: bad byte"),
-    (
-        b"",
-        b' ',
-        MOST_BYTES - 3,
-        b"GETA",
-        b"line 1: section too long",
-    ),
-    (
-        b"",
-        b' ',
-        MOST_BYTES - 3,
-        b"GET\"",
-        b"line 1: section too long",
-    ),
-    (
-        b"",
-        b' ',
-        MOST_BYTES - 3,
-        b"GET(",
-        b"line 1: section too long",
-    ),
-    (
-        b"",
-        b'\n',
-        MOST_BYTES,
-        b" ",
-        b"line 1048577: section too long",
-    ),
-    (b"", b'+', MOST_SYMBOLS, b"//A\n .", b"262144 tokens"),
-    (b"", b'+', MOST_SYMBOLS, b"\n+", b"line 2: section too long"),
-    (b"", b'+', MOST_SYMBOLS, b"A", b"line 1: section too long"),
-    (b"", b'+', MOST_SYMBOLS, b"/", b"line 1: section too long"),
-    (b"", b'+', MOST_SYMBOLS, b"/A", b"line 1: section too long"),
-    (b"", b'+', MOST_SYMBOLS, b"/.", b"line 1: section too long"),
-    (b"", b'+', MOST_SYMBOLS, b"#_", b"line 1: section too long"),
-    (b"", b'+', MOST_SYMBOLS, b"\"", b"line 1: section too long"),
-    (b"", b'+', MOST_SYMBOLS, b"GET", b"line 1: section too long"),
-    (
-        b"",
-        b'+',
-        MOST_SYMBOLS,
-        b"'*Q'",
-        b"line 1: section too long",
-    ),
-    (b"", b'+', MOST_SYMBOLS, b"$", b"line 1: section too long"),
-    (b"", b'+', MOST_SYMBOLS, b"_", b"line 1: bad byte"),
-    (b"", b'+', MOST_SYMBOLS, b"/_", b"line 1: bad byte"),
-    (
-        b"",
-        b'+',
-        MOST_SYMBOLS - 54,
-        b"GET \"LIBHDR\"+ //",
-        b"262144 tokens",
-    ),
-    (
-        b"",
-        b'+',
-        MOST_SYMBOLS - 53,
-        b"GET \"LIBHDR\"+",
-        b"line 1: section too long",
-    ),
-    (
-        b"",
-        b'+',
-        MOST_SYMBOLS - 52,
-        b"GET\n\"LIBHDR\"_",
-        b"line 1: section too long",
-    ),
-    (
-        b"",
-        b'+',
-        MOST_SYMBOLS - 53,
-        b"GET \"LIBHDR2\"",
-        b"line 1: section too long",
-    ),
-    (
-        b"",
-        b'+',
-        MOST_SYMBOLS - 1,
-        b"GET\n\"",
-        b"line 2: section too long",
-    ),
-    (
-        b"",
-        b'+',
-        MOST_SYMBOLS - 1,
-        b"GET A",
-        b"line 1: section too long",
-    ),
-    (b"", b'+', MOST_SYMBOLS - 3, b"A\nB", b"262144 tokens"),
-    (
-        b"",
-        b'+',
-        MOST_SYMBOLS - 2,
-        b"A\nB",
-        b"line 2: section too long",
-    ),
-    (
-        b"",
-        b'+',
-        MOST_SYMBOLS - 2,
-        b"A\n1",
-        b"line 2: section too long",
-    ),
-    (
-        b"",
-        b'+',
-        MOST_SYMBOLS - 2,
-        b"A\n(",
-        b"line 2: section too long",
-    ),
-    (
-        b"",
-        b'+',
-        MOST_SYMBOLS - 2,
-        b"A\n!",
-        b"line 2: section too long",
-    ),
-    (
-        b"",
-        b'+',
-        MOST_SYMBOLS - 2,
-        b"A IF",
-        b"line 1: section too long",
-    ),
-    (b"", b'+', MOST_SYMBOLS - 2, b"A IFX", b"262144 tokens"),
-    (
-        b"",
-        b'+',
-        MOST_SYMBOLS - 2,
-        b"A\n(_",
-        b"line 2: section too long",
-    ),
-    (b"", b'+', MOST_SYMBOLS - 2, b"A\nB_", b"line 2: bad byte"),
 ];
 
 static PLAIN: &[u8] =
@@ -584,12 +303,6 @@ fn the_last_line(rt: HostRuntime) -> Result<(), Fail> {
     Ok(())
 }
 
-#[test]
-fn faults(rt: HostRuntime) -> Result<(), Fail> {
-    assert_eq!(rt; wrong_text(rt.alloc(), &FAULTS)?, None);
-    Ok(())
-}
-
 /// The tokens of a header, between others.
 fn with_header(
     alloc: Global,
@@ -630,20 +343,6 @@ fn long_text(
     Ok(text)
 }
 
-/// The same of texts whose tokens are counted.
-fn wrong_long(
-    alloc: Global,
-    rows: &[(&'static [u8], u8, usize, &'static [u8], &'static [u8])],
-) -> Result<Option<usize>, AllocError> {
-    for (i, (before, byte, times, behind, expected)) in rows.iter().enumerate() {
-        let text = long_text(alloc, before, *byte, *times, behind)?;
-        if !tells(alloc, text.as_slice(), 1, true, expected)? {
-            return Ok(Some(i));
-        }
-    }
-    Ok(None)
-}
-
 #[test]
 fn places(rt: HostRuntime) -> Result<(), Fail> {
     for (text, before, nowhere, behind) in &PLACES {
@@ -654,12 +353,6 @@ fn places(rt: HostRuntime) -> Result<(), Fail> {
         let places = places_listed(rt.alloc(), lexed.tokens.as_slice())?;
         assert_eq!(rt; places.as_bytes(), expected.as_slice());
     }
-    Ok(())
-}
-
-#[test]
-fn long_texts(rt: HostRuntime) -> Result<(), Fail> {
-    assert_eq!(rt; wrong_long(rt.alloc(), &LONG_TEXTS)?, None);
     Ok(())
 }
 

@@ -1,13 +1,13 @@
-//! Rows of the command line and of `bcpl interpret`: words, FILE, input, and what comes of them.
+//! Rows of the command line, and `bcpl interpret` on devices that fail.
 use crate::checks::{asked, check, check_fault, check_outcome, served_short};
+use crate::devices::{Short, Slow};
 use crate::outcome::{INTERPRET, Outcome, served};
-use bk_back_rows::devices::{Short, Slow};
 use bk_base::{
     IntcodeFault, IntcodeKind, Limits, Line, OcodeFault, OcodeKind, Reader512, SourceFault,
     SourceKind, Writer512,
 };
 use bk_kit::{KitFault, LineFault, Order, order, serve};
-use std::alloc::{AllocError, Global};
+use std::alloc::Global;
 use std::test::Fail;
 
 const HI: &[u8] = b"1 LL2 SP4 LIG6 K2 X4 2 C3 C72 C73 C33 G1L1 Z";
@@ -15,215 +15,6 @@ const HI: &[u8] = b"1 LL2 SP4 LIG6 K2 X4 2 C3 C72 C73 C33 G1L1 Z";
 const LETTER: &[u8] = b"1 L65 SP4 LIG4 K2 X4 G1L1 Z";
 // copies its input, and ends with the status -1 of the end
 const COPY: &[u8] = b"1 LIG3 K2 SP2 L-1 LIP2 X10 TL2 LIP2 SP5 LIG4 K3 JL1 2 X4 G1L1 Z";
-
-/// Codes and their input, with the status, the output and the line.
-static RUNS: [(&[u8], &[u8], u8, &[u8], &[u8]); 8] = [
-    (HI, b"", 0, b"HI!", b""),
-    (b"", b"", 108, b"", b"no START\n"),
-    (LETTER, b"", 0, b"A", b""),
-    (b"1 X99 G1L1 Z", b"", 107, b"", b"bad operation\n"),
-    (b"1 L7 L0 X6 G1L1 Z", b"", 104, b"", b"division by zero\n"),
-    (b"1 K2 G1L1 Z", b"", 105, b"", b"store limit\n"),
-    (b"1 J4194304 G1L1 Z", b"", 105, b"", b"store limit\n"),
-    (COPY, b"as it is", 0, b"as it is", b""),
-];
-
-#[test]
-fn runs(rt: HostRuntime) -> Result<(), Fail> {
-    for (text, input, status, output, line) in &RUNS {
-        check(
-            &rt,
-            rt.alloc(),
-            &INTERPRET,
-            text,
-            input,
-            *status,
-            output,
-            line,
-        )?;
-    }
-    Ok(())
-}
-
-#[test]
-fn thousand_steps(rt: HostRuntime) -> Result<(), Fail> {
-    check(
-        &rt,
-        rt.alloc(),
-        &["bcpl", "interpret", "-t", "1000", "f"],
-        b"1 JL1 G1L1 Z",
-        b"",
-        106,
-        b"",
-        b"step limit\n",
-    )
-}
-
-#[test]
-fn refused_code(rt: HostRuntime) -> Result<(), Fail> {
-    let words = ["bcpl", "interpret", "f"];
-    check(
-        &rt,
-        rt.alloc(),
-        &words,
-        b"1 L65 SP4 G1L1",
-        b"",
-        103,
-        b"",
-        b"segment 1, item 5: truncated\n",
-    )?;
-    check(
-        &rt,
-        rt.alloc(),
-        &words,
-        b"1 L65 SP4 LIG4 K2 X4 G1L1 Z z",
-        b"",
-        103,
-        b"",
-        b"segment 2, item 1: bad letter\n",
-    )?;
-    check(
-        &rt,
-        rt.alloc(),
-        &words,
-        b"Z 5 5",
-        b"",
-        103,
-        b"",
-        b"segment 2, item 2: label set twice\n",
-    )?;
-    Ok(())
-}
-
-#[test]
-fn segments_together(rt: HostRuntime) -> Result<(), Fail> {
-    let words = ["bcpl", "interpret", "f"];
-    // the second segment's routine for global 100 is called by the first
-    let text: &[u8] = b"1 LIG100 K2 X4 G1L1 Z\n7 L66 SP4 LIG4 K2 X4 G100L7 Z";
-    check(&rt, rt.alloc(), &words, text, b"", 0, b"B", b"")?;
-    // the later setting of a global counts
-    let text: &[u8] = b"1 X99 G1L1 Z 1 L67 SP4 LIG4 K2 X4 G1L1 Z";
-    check(&rt, rt.alloc(), &words, text, b"", 0, b"C", b"")?;
-    Ok(())
-}
-
-#[test]
-fn steps(rt: HostRuntime) -> Result<(), Fail> {
-    let rows: [(&str, u8, &[u8]); 4] = [
-        ("10", 0, b"A"),
-        ("9", 106, b"A"),
-        ("7", 106, b"A"),
-        ("6", 106, b""),
-    ];
-    for (steps, status, output) in rows {
-        let line: &[u8] = if status == 0 { b"" } else { b"step limit\n" };
-        check(
-            &rt,
-            rt.alloc(),
-            &["bcpl", "interpret", "-t", steps, "f"],
-            LETTER,
-            b"",
-            status,
-            output,
-            line,
-        )?;
-    }
-    Ok(())
-}
-
-#[test]
-fn stops(rt: HostRuntime) -> Result<(), Fail> {
-    let rows: [(&[u8], u8); 6] = [
-        (b"1 L0 SP4 LIG2 K2 G1L1 Z", 0),
-        (b"1 L99 SP4 LIG2 K2 G1L1 Z", 99),
-        (b"1 L100 SP4 LIG2 K2 G1L1 Z", 100),
-        (b"1 L-1 SP4 LIG2 K2 G1L1 Z", 100),
-        (b"1 L-2147483648 SP4 LIG2 K2 G1L1 Z", 100),
-        (b"1 L2147483647 SP4 LIG2 K2 G1L1 Z", 100),
-    ];
-    for (text, status) in rows {
-        check(
-            &rt,
-            rt.alloc(),
-            &["bcpl", "interpret", "f"],
-            text,
-            b"",
-            status,
-            b"",
-            b"",
-        )?;
-    }
-    Ok(())
-}
-
-/// A code of one operation and so many words of data.
-fn code_with_data(alloc: Global, words: usize) -> Result<Vec<u8>, AllocError> {
-    let mut text = Vec::new(alloc);
-    text.extend_from_slice(b"1 X22 G1L1")?;
-    for _ in 0..words {
-        text.extend_from_slice(b" D0")?;
-    }
-    text.extend_from_slice(b" Z")?;
-    Ok(text)
-}
-
-#[test]
-fn stores(rt: HostRuntime) -> Result<(), Fail> {
-    // 3046 words of code from word 1034 on leave 16 words of 4096
-    let text = code_with_data(rt.alloc(), 3045)?;
-    let words = ["bcpl", "interpret", "-s", "4096", "f"];
-    check(&rt, rt.alloc(), &words, text.as_slice(), b"", 0, b"", b"")
-}
-
-#[test]
-fn stores_of_one_word_more(rt: HostRuntime) -> Result<(), Fail> {
-    let text = code_with_data(rt.alloc(), 3046)?;
-    let longer = text.as_slice();
-    let words = ["bcpl", "interpret", "-s", "4096", "f"];
-    let line: &[u8] = b"store too small\n";
-    check(&rt, rt.alloc(), &words, longer, b"", 105, b"", line)?;
-    let words = ["bcpl", "interpret", "-s", "4097", "f"];
-    check(&rt, rt.alloc(), &words, longer, b"", 0, b"", b"")
-}
-
-#[test]
-fn sizes(rt: HostRuntime) -> Result<(), Fail> {
-    let words = ["bcpl", "interpret", "--sizes", "f"];
-    let text: &[u8] = b"1 L65 SP4 LIG4 K2 X4 Q16 G1L1 Z";
-    check(
-        &rt,
-        rt.alloc(),
-        &words,
-        text,
-        b"",
-        0,
-        b"image 1039, frame 16\n",
-        b"",
-    )?;
-    let words = ["bcpl", "interpret", "-t", "1", "-s", "4096", "--sizes", "f"];
-    check(
-        &rt,
-        rt.alloc(),
-        &words,
-        text,
-        b"",
-        0,
-        b"image 1039, frame 16\n",
-        b"",
-    )?;
-    check(&rt, rt.alloc(), &words, b"", b"", 108, b"", b"no START\n")?;
-    check(
-        &rt,
-        rt.alloc(),
-        &words,
-        b"?",
-        b"",
-        103,
-        b"",
-        b"segment 1, item 1: bad letter\n",
-    )?;
-    Ok(())
-}
 
 #[test]
 fn command_lines_refused(rt: HostRuntime) -> Result<(), Fail> {
@@ -464,39 +255,6 @@ fn lines_of_faults(rt: HostRuntime) -> Result<(), Fail> {
         assert!(rt; bk_base::ByteOut::flush(&mut out).is_ok());
         drop(out);
         assert_eq!(rt; written.as_slice(), *line);
-    }
-    Ok(())
-}
-
-#[test]
-fn no_memory_or_the_answer(rt: HostRuntime) -> Result<(), Fail> {
-    let asked = order(rt.alloc(), &["bcpl", "interpret", "f"]);
-    let asked = match asked {
-        Ok(asked) => asked,
-        Err(LineFault::Memory) => return Ok(()),
-        Err(_) => return Err(Fail::from("refused")),
-    };
-    let mut bytes = [0; 16];
-    let mut out = Writer512::new(bytes.as_mut_slice());
-    let mut told = [0; 16];
-    let mut err = Writer512::new(told.as_mut_slice());
-    let status = serve(
-        rt.alloc(),
-        &asked,
-        &mut Reader512::new(HI),
-        &mut Reader512::new(b"".as_slice()),
-        &mut out,
-        &mut err,
-    );
-    drop(out);
-    drop(err);
-    if status == 111 {
-        assert!(rt; bytes.starts_with(b"\0"));
-        assert!(rt; told.starts_with(b"no memory\n\0"));
-    } else {
-        assert_eq!(rt; status, 0);
-        assert!(rt; bytes.starts_with(b"HI!\0"));
-        assert!(rt; told.starts_with(b"\0"));
     }
     Ok(())
 }

@@ -1,7 +1,7 @@
 //! Rows of devices that fail at each call: four programs through each way, read and written byte by byte.
 use crate::checks::{asked, check_fault, check_outcome, served_short};
+use crate::devices::Slow;
 use crate::outcome::{COMPILE, GENERATE, INTERPRET, Outcome, RUN, outcome_of};
-use bk_back_rows::devices::Slow;
 use bk_base::Reader512;
 use bk_kit::Order;
 use std::alloc::Global;

@@ -1,6 +1,9 @@
-//! Rows: whole programs and command lines, each with what has to come of it. Tests alone, but for what runs them.
+//! Rows of command lines, and of devices that fail: buffers, texts, the machine, the filters and whole programs over them. Tests
+//! alone, but for what runs a command over memory.
 #![tactic(auto)]
 
+#[cfg(test)]
+mod buffer_rows;
 #[cfg(test)]
 mod checks;
 #[cfg(test)]
@@ -8,13 +11,13 @@ mod command_rows;
 #[cfg(test)]
 mod device_rows;
 #[cfg(test)]
-mod fault_rows;
+mod devices;
 #[cfg(test)]
 mod filter_rows;
 #[cfg(test)]
-mod hostile_rows;
+mod machine_rows;
 pub mod outcome;
 #[cfg(test)]
-mod program_rows;
-#[cfg(test)]
 mod source_rows;
+#[cfg(test)]
+mod text_rows;

@@ -122,7 +122,7 @@ fn put_plain<O: ByteOut>(alloc: Global, code: &[u8], out: &mut O) -> Result<u8, 
 }
 
 /// What comes of a text of OCODE through the plain generator in the place of the second filter. It tells of no fault.
-fn plain_outcome(alloc: Global, code: &[u8]) -> Result<Outcome, AllocError> {
+pub fn plain_outcome(alloc: Global, code: &[u8]) -> Result<Outcome, AllocError> {
     let mut output = Vec::new(alloc);
     let mut out = Writer512::new(&mut output);
     let status = put_plain(alloc, code, &mut out)?;

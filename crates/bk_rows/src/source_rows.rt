@@ -1,58 +1,12 @@
-//! Rows of `bcpl run` with limits, and with devices that fail.
-use crate::checks::{asked, check};
+//! `bcpl run` on devices that fail.
+use crate::checks::asked;
+use crate::devices::{Short, Slow};
 use crate::outcome::RUN;
-use bk_back_rows::devices::{Short, Slow};
 use bk_base::{ByteIn, Reader512, Writer512};
-use bk_kit::{LineFault, order, serve};
+use bk_kit::serve;
 use std::test::Fail;
 
 const HI: &[u8] = b"GET \"LIBHDR\" LET START() BE $( WRCH(72); WRCH(73); STOP(3) $)";
-
-#[test]
-fn steps_and_words(rt: HostRuntime) -> Result<(), Fail> {
-    let alloc = rt.alloc();
-    let line: &[u8] = b"step limit\n";
-    check(
-        &rt,
-        alloc,
-        &["bcpl", "run", "-t", "1", "f"],
-        HI,
-        b"",
-        106,
-        b"",
-        line,
-    )?;
-    check(
-        &rt,
-        alloc,
-        &["bcpl", "run", "-t", "1000", "f"],
-        HI,
-        b"",
-        3,
-        b"HI",
-        b"",
-    )?;
-    check(
-        &rt,
-        alloc,
-        &["bcpl", "run", "-s", "4096", "f"],
-        HI,
-        b"",
-        3,
-        b"HI",
-        b"",
-    )?;
-    check(
-        &rt,
-        alloc,
-        &["bcpl", "run", "-s", "4095", "f"],
-        HI,
-        b"",
-        112,
-        b"",
-        b"bad command line\n",
-    )
-}
 
 #[test]
 fn a_source_that_cannot_be_read(rt: HostRuntime) -> Result<(), Fail> {
@@ -178,38 +132,6 @@ fn an_output_that_cannot_be_written(rt: HostRuntime) -> Result<(), Fail> {
         assert_eq!(rt; status, if room == 5 { 0 } else { 110 });
         assert_eq!(rt; Some(output.as_slice()), whole.get(..room));
         assert!(rt; line.starts_with(told));
-    }
-    Ok(())
-}
-
-#[test]
-fn no_memory_or_hi(rt: HostRuntime) -> Result<(), Fail> {
-    let asked = match order(rt.alloc(), &RUN) {
-        Ok(asked) => asked,
-        Err(LineFault::Memory) => return Ok(()),
-        Err(_) => return Err(Fail::from("refused")),
-    };
-    let mut bytes = [0; 16];
-    let mut out = Writer512::new(bytes.as_mut_slice());
-    let mut told = [0; 16];
-    let mut err = Writer512::new(told.as_mut_slice());
-    let status = serve(
-        rt.alloc(),
-        &asked,
-        &mut Reader512::new(HI),
-        &mut Reader512::new(b"".as_slice()),
-        &mut out,
-        &mut err,
-    );
-    drop(out);
-    drop(err);
-    if status == 111 {
-        assert!(rt; bytes.starts_with(b"\0"));
-        assert!(rt; told.starts_with(b"no memory\n\0"));
-    } else {
-        assert_eq!(rt; status, 3);
-        assert!(rt; bytes.starts_with(b"HI\0"));
-        assert!(rt; told.starts_with(b"\0"));
     }
     Ok(())
 }

@@ -1,2 +1,0 @@
-MANIFEST $( A = 1
-   B = A%0 $)

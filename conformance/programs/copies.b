@@ -1,6 +1,0 @@
-GET "LIBHDR"
-LET START() BE
-$( LET C = RDCH()
-   UNTIL C = ENDSTREAMCH DO $( WRCH(C); C := RDCH() $)
-   WRITEN(RDCH())
-$)

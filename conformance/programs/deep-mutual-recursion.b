@@ -1,4 +1,0 @@
-GET "LIBHDR"
-LET EVEN(N) = N = 0 -> 1, ODD(N - 1)
-AND ODD(N) = N = 0 -> 0, EVEN(N - 1)
-LET START() BE WRITEN(EVEN(200))

@@ -1,3 +1,0 @@
-GET "LIBHDR"
-LET F(N) = N = 0 -> 0, F(N - 1)
-LET START() BE WRITEN(F(300))

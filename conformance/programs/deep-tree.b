@@ -1,7 +1,0 @@
-GET "LIBHDR"
-LET T(N) = VALOF
-$( LET S, V = 1, VEC 200
-   FOR I = 1 TO 2 DO IF N > 0 DO S := S + T(N - 1)
-   RESULTIS S
-$)
-LET START() BE WRITEN(T(8))

@@ -1,8 +1,0 @@
-GET "LIBHDR"
-LET R(N) BE
-$( LET V = VEC 20
-   V!0 := N
-   UNLESS N = 0 DO R(N - 1)
-   WRITEN(V!0)
-$)
-LET START() BE R(60)

@@ -1,2 +1,0 @@
-GET "LIBHDR"
-LET START() BE $( STOP(1); WRCH(65) $)
