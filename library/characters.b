@@ -1,0 +1,20 @@
+// characters.b: letters without regard to their case, and the order of strings.
+GLOBAL $( CAPITALCH:910; COMPCH:911; COMPSTRING:912 $)
+
+// CAPITALCH(C) is the capital of a letter from a to z, and C otherwise.
+LET CAPITALCH(C) = 'a' <= C <= 'z' -> C - 'a' + 'A', C
+
+// COMPCH(A, B) is below 0, 0 or above 0 as A is before B, the same or after it, with the case of letters ignored.
+AND COMPCH(A, B) = CAPITALCH(A) - CAPITALCH(B)
+
+// COMPSTRING(S, T) is below 0, 0 or above 0 as the string S is before T, the same or after it, with the case of letters
+// ignored. A string that begins another is before it.
+AND COMPSTRING(S, T) = VALOF
+$( LET M, N = S%0, T%0
+   FOR I = 1 TO M < N -> M, N DO
+   $( LET ORDER = COMPCH(S%I, T%I)
+      UNLESS ORDER = 0 DO RESULTIS ORDER
+   $)
+   RESULTIS M - N
+$)
+.

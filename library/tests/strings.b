@@ -1,0 +1,22 @@
+GET "LIBHDR2"
+GLOBAL $( PACKSTRING:915; UNPACKSTRING:916; COPYSTRING:917; CONCAT:918; APPEND:919 $)
+LET START() BE
+$( LET V, S, R = VEC 256, VEC 63, VEC 63
+   UNPACKSTRING("HELLO", V)
+   WRITEF("%N %C%C*N", V!0, V!1, V!5)
+   V!1 := 'J'
+   WRITEF("%N ", PACKSTRING(V, S))
+   WRITEF("%S %N*N", S, S!1)
+   COPYSTRING("AB", R)
+   WRITEF("%S %N*N", R, R!0)
+   WRITEF("%S*N", CONCAT("", "", R))
+   WRITEF("%S %N*N", CONCAT("ABC", "DEFG", R), R!1)
+   APPEND(R, R)
+   WRITEF("%S*N", R)
+   // 250 bytes and 10 more
+   FOR I = 1 TO 250 DO V!I := '0' + I REM 10
+   V!0 := 250
+   WRITEF("%N ", PACKSTRING(V, S))
+   APPEND(S, "ABCDEFGHIJ")
+   WRITEF("%N %C%C%C*N", S%0, S%250, S%251, S%255)
+$)
