@@ -1,7 +1,7 @@
-//! Rows of the command line, and `bcpl interpret` on devices that fail.
-use crate::checks::{asked, check, check_fault, check_outcome, served_short};
-use crate::devices::{Short, Slow};
-use crate::outcome::{INTERPRET, Outcome, served};
+//! Rows of the command line, and of the lines of faults.
+use crate::checks::{asked, check};
+use crate::devices::Short;
+use crate::outcome::INTERPRET;
 use bk_base::{
     IntcodeFault, IntcodeKind, Limits, Line, OcodeFault, OcodeKind, Reader512, SourceFault,
     SourceKind, Writer512,
@@ -11,10 +11,6 @@ use std::alloc::Global;
 use std::test::Fail;
 
 const HI: &[u8] = b"1 LL2 SP4 LIG6 K2 X4 2 C3 C72 C73 C33 G1L1 Z";
-
-const LETTER: &[u8] = b"1 L65 SP4 LIG4 K2 X4 G1L1 Z";
-// copies its input, and ends with the status -1 of the end
-const COPY: &[u8] = b"1 LIG3 K2 SP2 L-1 LIP2 X10 TL2 LIP2 SP5 LIG4 K3 JL1 2 X4 G1L1 Z";
 
 #[test]
 fn command_lines_refused(rt: HostRuntime) -> Result<(), Fail> {
@@ -115,70 +111,6 @@ fn help(rt: HostRuntime) -> Result<(), Fail> {
     for words in rows {
         assert!(rt; matches!(order(rt.alloc(), words), Err(LineFault::Help(_))));
         check(&rt, rt.alloc(), words, HI, b"", 0, b"", b"")?;
-    }
-    Ok(())
-}
-
-/// What comes of the code of a letter that cannot be read behind so many reads.
-fn letter_read(alloc: Global, asked: &Order, reads: usize) -> Outcome {
-    let mut code = Reader512::new(Slow {
-        bytes: LETTER,
-        reads,
-    });
-    served(alloc, asked, &mut code, &mut Reader512::new(b"".as_slice()))
-}
-
-#[test]
-fn a_code_that_cannot_be_read(rt: HostRuntime) -> Result<(), Fail> {
-    let asked = asked(rt.alloc(), &INTERPRET)?;
-    // all bytes and the end are read at the last
-    for reads in 0..LETTER.len() + 2 {
-        let got = letter_read(rt.alloc(), &asked, reads);
-        if reads == LETTER.len() + 1 {
-            check_outcome(&rt, &got, 0, b"A", b"");
-        } else {
-            check_outcome(&rt, &got, 109, b"", b"read fault\n");
-        }
-    }
-    Ok(())
-}
-
-/// What comes of a copy of an input that cannot be read behind so many reads.
-fn copy_read(alloc: Global, asked: &Order, bytes: &[u8], reads: usize) -> Outcome {
-    let mut input = Reader512::new(Slow { bytes, reads });
-    served(alloc, asked, &mut Reader512::new(COPY), &mut input)
-}
-
-#[test]
-fn an_input_that_cannot_be_read(rt: HostRuntime) -> Result<(), Fail> {
-    let asked = asked(rt.alloc(), &INTERPRET)?;
-    let text: &[u8] = b"abc";
-    for reads in 0..5 {
-        let got = copy_read(rt.alloc(), &asked, text, reads);
-        let whole = reads == 4;
-        let told: &[u8] = if whole { b"" } else { b"read fault\n" };
-        check_fault(&rt, &got, if whole { 0 } else { 109 }, told);
-        assert_eq!(rt; Some(got.output.as_slice()), text.get(..reads.min(3)));
-    }
-    Ok(())
-}
-
-/// What comes of the code of HI where the output fails behind so many bytes.
-fn hi_written(alloc: Global, asked: &Order, room: usize) -> Outcome {
-    let mut code = Reader512::new(HI);
-    let mut input = Reader512::new(b"".as_slice());
-    served_short(alloc, asked, &mut code, &mut input, room)
-}
-
-#[test]
-fn an_output_that_cannot_be_written(rt: HostRuntime) -> Result<(), Fail> {
-    let asked = asked(rt.alloc(), &INTERPRET)?;
-    let whole: &[u8] = b"HI!";
-    for room in 0..4 {
-        let got = hi_written(rt.alloc(), &asked, room);
-        let told: &[u8] = if room == 3 { b"" } else { b"write fault\n" };
-        check_fault(&rt, &got, if room == 3 { 0 } else { 110 }, told);
-        assert_eq!(rt; Some(got.output.as_slice()), whole.get(..room));
     }
     Ok(())
 }

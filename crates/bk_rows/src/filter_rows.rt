@@ -1,8 +1,9 @@
-//! How much the two filters read before they are refused the output.
-use crate::checks::Refusing;
+//! How much the filters read before they are refused the output, and how much `bcpl run` reads of its input.
+use crate::checks::{Refusing, asked};
 use crate::devices::Slow;
-use bk_base::Reader512;
-use bk_kit::{KitFault, compile, generate_all};
+use crate::outcome::RUN;
+use bk_base::{ByteIn, Reader512, Writer512};
+use bk_kit::{KitFault, compile, generate_all, serve};
 use std::alloc::Global;
 use std::test::Fail;
 
@@ -54,5 +55,34 @@ fn one_section_is_read_before_the_segments_are_refused(rt: HostRuntime) -> Resul
     };
     assert!(&rt; refuses_segments(rt.alloc(), &mut code));
     assert!(&rt; code.bytes.starts_with(FIRST_CODE));
+    Ok(())
+}
+
+#[test]
+fn no_more_is_read_than_the_program_asks_for(rt: HostRuntime) -> Result<(), Fail> {
+    let asked = asked(rt.alloc(), &RUN)?;
+    let mut output = [0; 4];
+    let mut line = [0; 16];
+    let mut out = Writer512::new(output.as_mut_slice());
+    let mut err = Writer512::new(line.as_mut_slice());
+    let source: &[u8] = b"GET \"LIBHDR\" LET START() BE $( WRCH(RDCH()); STOP(0) $)";
+    let mut input = Reader512::new(Slow {
+        bytes: b"A",
+        reads: 1,
+    });
+    let status = serve(
+        rt.alloc(),
+        &asked,
+        &mut Reader512::new(source),
+        &mut input,
+        &mut out,
+        &mut err,
+    );
+    drop(out);
+    drop(err);
+    assert_eq!(&rt; status, 0);
+    assert!(&rt; output.starts_with(b"A\0"));
+    assert!(&rt; line.starts_with(b"\0"));
+    assert_eq!(&rt; input.failures(), 0);
     Ok(())
 }

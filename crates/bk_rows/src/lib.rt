@@ -18,6 +18,4 @@ mod filter_rows;
 mod machine_rows;
 pub mod outcome;
 #[cfg(test)]
-mod source_rows;
-#[cfg(test)]
 mod text_rows;
