@@ -1,0 +1,4 @@
+pub mod Bound
+pub mod Counted
+pub mod Listed
+pub mod Packed

@@ -1,0 +1,27 @@
+use Rattle.std.proofs.Common.{rules, arith, ◌≡◌, ◌<◌, [], ap, ◌∙◌}
+use Rattle.std.specs.Vec.{vec_len}
+use Rattle.std.proofs.lemmas.Grind.{common_steps}
+use Rattle.bk_tree.specs.Tree.{action, actions_in}
+use Rattle.bk_tree.proofs.Trees.{Block_is}
+use Rattle.bk_tree.proofs.Counts.{is_zero, is_more}
+use Rattle.bk_scope.specs.Entering.{labels_of, labels_of_each}
+use Rattle.bk_scope.proofs.Entered.{labels_of_bare, labels_of_own}
+use Rattle.bk_lasting.proofs.scopes.+labels.Goals as goal
+
+pub bind_labels-returns-then-is_empty : goal.bind_labels-returns-then-is_empty
+bind_labels-returns-then-is_empty t c =
+    let b = c.in-Block in
+    let none : vec_len b.decls ≡ 0 = is_zero _ _ c.is_empty.ensures c.if-is_empty.true in
+    let bare : labels_of (action c.args.command.now) ≡ labels_of_each (actions_in b.commands.items) =
+    ap (λ x. labels_of (action x)) b.is ∙ ap labels_of (Block_is b.field-0 b.decls b.commands) ∙ labels_of_bare b.field-0 b.decls.items (actions_in b.commands.items) (omega (arith, none))
+    in
+    rw bare (first_of (search rules, grind (arith, common_steps)))
+
+pub bind_labels-returns-else-is_empty : goal.bind_labels-returns-else-is_empty
+bind_labels-returns-else-is_empty t c =
+    let b = c.in-Block in
+    let some : 0 < vec_len b.decls = is_more _ _ c.is_empty.ensures c.if-is_empty.false in
+    let own : labels_of (action c.args.command.now) ≡ [] =
+    ap (λ x. labels_of (action x)) b.is ∙ ap labels_of (Block_is b.field-0 b.decls b.commands) ∙ labels_of_own b.field-0 b.decls.items (actions_in b.commands.items) (omega (arith, some))
+    in
+    rw own (first_of (search rules, grind (arith, common_steps)))

@@ -1,0 +1,8 @@
+use Rattle.std.proofs.Common.{◌≡◌, drop}
+use Rattle.bk_tree.specs.Tree.{actions_in}
+use Rattle.bk_meaning.specs.Environment.{labelled}
+use Rattle.bk_lasting.specs.Views.{env_in}
+use Rattle.bk_lasting.proofs.scopes.+labels.Given as goal
+
+abbrev pub invariant-labelled-loop-command : goal.invariant-labelled-loop-command
+invariant-labelled-loop-command l = labelled (actions_in (drop l.command-index l.commands)) (env_in l.env) ≡ labelled (actions_in l.commands) (env_in l.initial.env)

@@ -1,0 +1,6 @@
+use Rattle.std.proofs.Common.{◌≡◌, ◌*◌, ◌++◌, drop}
+use Rattle.bk_base.specs.Strings.{packed}
+use Rattle.bk_lasting.proofs.text.packed.Given as goal
+
+abbrev pub invariant-loop-i : goal.invariant-loop-i
+invariant-loop-i l = l.words.items ++ packed (drop (4 * l.i) l.bytes) ≡ packed l.bytes

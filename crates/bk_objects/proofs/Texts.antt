@@ -1,0 +1,38 @@
+-- Texts that grow.
+use Rattle.std.proofs.Common.{◌≡◌, ℕ, zero, suc, ◌+◌, ◌-◌, Option, Some, None, List, [], ◌∷◌, ◌++◌, length, take, drop, min, refl, ap, sym, append-nil, append_assoc}
+use Rattle.std.specs.Option.{option_map}
+use Rattle.std.proofs.lemmas.List.{take_rest, drop_min}
+use Rattle.bk_base.specs.Format.{FormatPart, further, part_at, parts_behind, parts}
+use Rattle.bk_meaning.specs.Values.{Value, number}
+use Rattle.bk_meaning.specs.Memory.{Memory, read_byte}
+use Rattle.bk_meaning.specs.Library.{bytes_from}
+
+-- a text that grew, and what is still to come
+pub behind_byte : (text : List ℕ) (b : ℕ) (rest : Option (List ℕ)) → option_map (λ bs. text ++ bs) (option_map (λ bs. b ∷ bs) rest) ≡ option_map (λ bs. (text ++ b ∷ []) ++ bs) rest
+behind_byte text b None = refl
+behind_byte text b (Some bs) = ap (λ x. Some x) (sym (append_assoc text (b ∷ []) bs))
+
+pub behind_bytes : (text first : List ℕ) (rest : Option (List ℕ)) → option_map (λ bs. text ++ bs) (option_map (λ bs. first ++ bs) rest) ≡ option_map (λ bs. (text ++ first) ++ bs) rest
+behind_bytes text first None = refl
+behind_bytes text first (Some bs) = ap (λ x. Some x) (sym (append_assoc text first bs))
+
+-- the bytes of a string
+pub bytes_more : (n k : ℕ) (m : Memory) (a : Value) (i b : ℕ) (text : List ℕ) → n ≡ suc k → Some b ≡ read_byte m a (number i) → option_map (λ bs. text ++ bs) (bytes_from n m a i) ≡ option_map (λ bs. (text ++ b ∷ []) ++ bs) (bytes_from k m a (i + 1))
+bytes_more n k m a i b text e is = rw (e, ← is) (behind_byte text b (bytes_from k m a (i + 1)))
+
+pub bytes_cut : (n k : ℕ) (m : Memory) (a : Value) (i : ℕ) (text : List ℕ) → n ≡ suc k → None ≡ read_byte m a (number i) → option_map (λ bs. text ++ bs) (bytes_from n m a i) ≡ None
+bytes_cut n k m a i text e is = rw (e, ← is) refl
+
+pub bytes_end : (n : ℕ) (m : Memory) (a : Value) (i : ℕ) (text : List ℕ) → n ≡ 0 → option_map (λ bs. text ++ bs) (bytes_from n m a i) ≡ Some text
+bytes_end n m a i text e = rw e (ap (λ x. Some x) (append-nil text))
+
+-- the parts of a format
+pub parts_skipped : (n : ℕ) (bytes : List ℕ) → parts_behind n bytes ≡ parts (drop n bytes)
+parts_skipped zero bytes = refl
+parts_skipped (suc n) [] = refl
+parts_skipped (suc n) (b ∷ rest) = parts_skipped n rest
+
+-- the part that a byte begins, and the bytes behind it
+pub parts_more : (b : ℕ) (behind rest : List ℕ) (q : FormatPart) (n k : ℕ) → rest ≡ b ∷ behind → q ≡ part_at b behind → n ≡ further q → k ≡ min n (length behind) → parts rest ≡ q ∷ parts (take (length behind - k) (drop k behind))
+parts_more b behind rest q n k is part more least =
+    rw (is, take_rest behind k, least, drop_min n behind, more, part) (ap (λ ps. part_at b behind ∷ ps) (parts_skipped (further (part_at b behind)) behind))

@@ -1,0 +1,39 @@
+//! What comes of an operation on values.
+
+use crate::worth::Worth;
+
+/// Why an operation is undefined.
+#[derive(Clone, Copy, Debug, PartialEq, Eq)]
+pub enum Reason {
+    /// It reads a cell or a byte that was not set.
+    NotSet,
+    /// It reads a cell of which only some bytes were set.
+    PartlySet,
+    /// It uses a cell at this distance from the first cell of an object, and the object has so many cells.
+    Outside(u32, usize),
+    /// It uses an object that is dead.
+    Dead,
+    /// It needs an address.
+    NoAddress,
+    /// It needs a number.
+    NoNumber,
+    /// It needs two addresses in one object.
+    Apart,
+    /// It calls what is no procedure.
+    NoProcedure,
+    /// It needs an argument that is missing.
+    Argument,
+    /// It needs the place of an expression that has none.
+    NoPlace,
+}
+
+/// What comes of an operation on values.
+#[derive(Clone, Copy, Debug)]
+pub enum Computed {
+    /// It gives this value.
+    Value(Worth),
+    /// It divides by zero, which ends the program.
+    DivideByZero,
+    /// It is undefined.
+    Undefined(Reason),
+}

@@ -1,0 +1,18 @@
+//! Values and memory, as programs use them: what the meaning of programs says of them, as functions.
+#![tactic(auto)]
+
+mod bytes;
+mod computed;
+mod format;
+mod library;
+mod operators;
+mod store;
+mod text;
+mod worth;
+
+pub use bytes::{put, read_byte, write, write_byte};
+pub use computed::{Computed, Reason};
+pub use library::{Effect, perform};
+pub use operators::{calculated, combine, prefixed, read, sum, truth_of};
+pub use store::Store;
+pub use worth::{Cell, Place, Routine, Worth};

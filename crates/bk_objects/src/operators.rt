@@ -1,0 +1,305 @@
+//! Operators on values.
+ghost use Rattle.std.specs.Prelude.{◌≡◌, ◌==◌, Option, Some, is_ok};
+ghost use Rattle.std.specs.Option.{option_map};
+ghost use Rattle.std.specs.Result.{result_ok};
+ghost use Rattle.bk_scope.specs.Constants.{infix_word};
+ghost use Rattle.bk_meaning.specs.Values.{number};
+ghost use Rattle.bk_meaning.specs.World.{World, given};
+ghost use Rattle.bk_meaning.specs.Parts.{fetch};
+ghost use Rattle.bk_meaning.specs.Operators as o;
+ghost use Rattle.bk_meaning.specs.Operators.{living_address, in_one, on_numbers, truth_of_value, operate_prefix};
+ghost use Rattle.bk_meaning.specs.Expressions.{combined};
+ghost use Rattle.bk_objects.specs.Views.{value_in, cell_in, outcome_of, given_by};
+
+use crate::bytes::read_byte;
+use crate::computed::{Computed, Reason};
+use crate::store::Store;
+use crate::worth::{Cell, Worth};
+use bk_base::word;
+use bk_tree::{Operator, Prefix};
+
+/// The word of an operator between two words. `!`, `%` and a division by zero have none.
+pub fn calculated(operator: Operator, x: u32, y: u32) -> Option<u32>
+    ensures { result ≡ infix_word operator x y }
+{
+    match operator {
+        Operator::Subscript | Operator::Byte => None,
+        Operator::Times => Some(word::product(x, y)),
+        Operator::Over => {
+            if y == 0 {
+                None
+            } else {
+                Some(word::quotient(x, y))
+            }
+        }
+        Operator::Rem => {
+            if y == 0 {
+                None
+            } else {
+                Some(word::remainder(x, y))
+            }
+        }
+        Operator::Add => Some(word::sum(x, y)),
+        Operator::Subtract => Some(word::difference(x, y)),
+        Operator::Equal => Some(word::equal(x, y)),
+        Operator::Unequal => Some(word::unequal(x, y)),
+        Operator::Less => Some(word::less(x, y)),
+        Operator::Greater => Some(word::greater(x, y)),
+        Operator::AtMost => Some(word::at_most(x, y)),
+        Operator::AtLeast => Some(word::at_least(x, y)),
+        Operator::ShiftLeft => Some(word::left_shift(x, y)),
+        Operator::ShiftRight => Some(word::right_shift(x, y)),
+        Operator::Both => Some(word::bitwise_and(x, y)),
+        Operator::Either => Some(word::bitwise_or(x, y)),
+        Operator::Same => Some(word::bitwise_eqv(x, y)),
+        Operator::Differ => Some(word::bitwise_neqv(x, y)),
+    }
+}
+
+/// Why no operator for numbers has a value here.
+fn no_numbers(x: Worth, y: Worth) -> Reason {
+    match (x, y) {
+        (Worth::Unset, _) | (_, Worth::Unset) => Reason::NotSet,
+        _ => Reason::NoNumber,
+    }
+}
+
+/// Why there is no cell at an address.
+pub fn no_cell(store: &Store, object: u64, offset: u32) -> Reason {
+    match store.size(object) {
+        None => Reason::Dead,
+        Some(size) => Reason::Outside(offset, size),
+    }
+}
+
+/// The value at an address.
+pub fn read(store: &Store, at: Worth) -> Computed
+    ensures { (w : World) → w.memory ≡ store.now → outcome_of result w ≡ fetch (value_in at) w }
+{
+    let Worth::Address(object, offset) = at else {
+        return Computed::Undefined(Reason::NoAddress);
+    };
+    match store.cell(object, offset) {
+        None => Computed::Undefined(no_cell(store, object, offset)),
+        Some(Cell::Places(_, _, _, _)) => Computed::Undefined(Reason::PartlySet),
+        Some(Cell::Holds(Worth::Unset)) => Computed::Undefined(Reason::NotSet),
+        Some(Cell::Holds(worth)) => Computed::Value(worth),
+    }
+}
+
+/// What a prefix before a value gives.
+pub fn prefixed(prefix: Prefix, x: Worth) -> Computed
+    ensures { (w : World) → outcome_of result w ≡ operate_prefix prefix (value_in x) w }
+{
+    let Worth::Number(word) = x else {
+        return Computed::Undefined(no_numbers(x, x));
+    };
+    match prefix {
+        Prefix::Contents | Prefix::Address => Computed::Undefined(Reason::NoNumber),
+        Prefix::Plus => Computed::Value(x),
+        Prefix::Minus => Computed::Value(Worth::Number(word::negation(word))),
+        Prefix::Not => Computed::Value(Worth::Number(word::bitwise_not(word))),
+    }
+}
+
+/// Whether an object lives and has so many cells.
+fn within(store: &Store, object: u64, offset: u32) -> Result<(), Reason>
+    ensures { is_ok result ≡ o.within store.now object offset }
+{
+    match store.size(object) {
+        None => Err(Reason::Dead),
+        Some(size) if offset as usize > size => Err(Reason::Outside(offset, size)),
+        Some(_) => Ok(()),
+    }
+}
+
+/// Whether a value counts as true.
+pub fn truth_of(store: &Store, x: Worth) -> Result<bool, Reason>
+    ensures { result_ok result ≡ truth_of_value store.now (value_in x) }
+{
+    match x {
+        Worth::Number(n) => Ok(n != 0),
+        Worth::Procedure(_) | Worth::Routine(_) => Ok(true),
+        Worth::Unset => Err(Reason::NotSet),
+        Worth::Address(object, offset) => {
+            within(store, object, offset)?;
+            Ok(true)
+        }
+    }
+}
+
+/// An address in a living object.
+fn living(store: &Store, object: u64, offset: u32) -> Result<Worth, Reason>
+    ensures { given_by result ≡ living_address store.now object offset }
+{
+    match store.size(object) {
+        Some(_) => Ok(Worth::Address(object, offset)),
+        None => Err(Reason::Dead),
+    }
+}
+
+/// The sum of two numbers, or of an address and a number.
+pub fn sum(store: &Store, x: Worth, y: Worth) -> Result<Worth, Reason>
+    ensures { given_by result ≡ o.sum store.now (value_in x) (value_in y) }
+{
+    match (x, y) {
+        (Worth::Number(x), Worth::Number(y)) => Ok(Worth::Number(word::sum(x, y))),
+        (Worth::Address(object, offset), Worth::Number(n)) => {
+            living(store, object, word::sum(offset, n))
+        }
+        (Worth::Number(n), Worth::Address(object, offset)) => {
+            living(store, object, word::sum(n, offset))
+        }
+        _ => Err(no_numbers(x, y)),
+    }
+}
+
+/// Whether two objects are one, which lives.
+fn one(store: &Store, a: u64, b: u64) -> Result<(), Reason>
+    ensures { result_ok result ≡ in_one store.now a b (Some tt) }
+{
+    if a != b {
+        return Err(Reason::Apart);
+    }
+    match store.size(a) {
+        Some(_) => Ok(()),
+        None => Err(Reason::Dead),
+    }
+}
+
+/// The difference of two numbers, of an address and a number, or of two addresses in one object.
+fn difference(store: &Store, x: Worth, y: Worth) -> Result<Worth, Reason>
+    ensures { given_by result ≡ o.difference store.now (value_in x) (value_in y) }
+{
+    match (x, y) {
+        (Worth::Number(x), Worth::Number(y)) => Ok(Worth::Number(word::difference(x, y))),
+        (Worth::Address(object, offset), Worth::Number(n)) => {
+            living(store, object, word::difference(offset, n))
+        }
+        (Worth::Address(a, i), Worth::Address(b, j)) => {
+            one(store, a, b)?;
+            Ok(Worth::Number(word::difference(i, j)))
+        }
+        _ => Err(no_numbers(x, y)),
+    }
+}
+
+/// Whether a number equals another value.
+fn equals_zero(store: &Store, n: u32, x: Worth) -> Result<bool, Reason>
+    ensures { result_ok result ≡ o.equals_zero store.now n (value_in x) }
+{
+    if n != 0 {
+        return Err(no_numbers(x, x));
+    }
+    Ok(!truth_of(store, x)?)
+}
+
+/// Whether two values are equal.
+fn equal(store: &Store, x: Worth, y: Worth) -> Result<bool, Reason>
+    ensures { result_ok result ≡ o.equal store.now (value_in x) (value_in y) }
+{
+    match x {
+        Worth::Number(n) => match y {
+            Worth::Number(m) => Ok(n == m),
+            _ => equals_zero(store, n, y),
+        },
+        Worth::Address(a, i) => match y {
+            Worth::Address(b, j) => {
+                one(store, a, b)?;
+                Ok(i == j)
+            }
+            Worth::Number(n) => equals_zero(store, n, x),
+            _ => Err(no_numbers(x, y)),
+        },
+        _ => match y {
+            Worth::Number(n) => equals_zero(store, n, x),
+            _ => Err(no_numbers(x, y)),
+        },
+    }
+}
+
+/// What an operator of order gives of two words.
+fn on_offsets(operator: Operator, x: u32, y: u32) -> Result<Worth, Reason>
+    ensures { given_by result ≡ option_map number (infix_word operator x y) }
+{
+    match calculated(operator, x, y) {
+        Some(word) => Ok(Worth::Number(word)),
+        None => Err(Reason::NoNumber),
+    }
+}
+
+/// The order of two numbers, or of two addresses in one object.
+fn ordered(store: &Store, operator: Operator, x: Worth, y: Worth) -> Result<Worth, Reason>
+    ensures { given_by result ≡ o.ordered operator store.now (value_in x) (value_in y) }
+{
+    match (x, y) {
+        (Worth::Number(x), Worth::Number(y)) => on_offsets(operator, x, y),
+        (Worth::Address(a, i), Worth::Address(b, j)) => {
+            one(store, a, b)?;
+            within(store, a, i)?;
+            within(store, a, j)?;
+            on_offsets(operator, i, j)
+        }
+        _ => Err(no_numbers(x, y)),
+    }
+}
+
+/// What an operator that is there for numbers alone gives.
+fn on_words(operator: Operator, x: Worth, y: Worth) -> Computed
+    ensures { (w : World) → outcome_of result w ≡ on_numbers operator (value_in x) (value_in y) w }
+{
+    let (Worth::Number(a), Worth::Number(b)) = (x, y) else {
+        return Computed::Undefined(no_numbers(x, y));
+    };
+    if matches!(operator, Operator::Over | Operator::Rem) && b == 0 {
+        return Computed::DivideByZero;
+    }
+    match calculated(operator, a, b) {
+        Some(word) => Computed::Value(Worth::Number(word)),
+        None => Computed::Undefined(Reason::NoNumber),
+    }
+}
+
+/// The value that was given.
+fn given_value(value: Result<Worth, Reason>) -> Computed
+    ensures { (w : World) → outcome_of result w ≡ given (given_by value) w }
+{
+    match value {
+        Ok(x) => Computed::Value(x),
+        Err(reason) => Computed::Undefined(reason),
+    }
+}
+
+/// The number of the truth that was given.
+fn given_truth(truth: Result<bool, Reason>) -> Computed
+    ensures { (w : World) → outcome_of result w ≡ given (option_map o.truth_number (result_ok truth)) w }
+{
+    match truth {
+        Ok(holds) => Computed::Value(Worth::Number(word::truth_of(holds))),
+        Err(reason) => Computed::Undefined(reason),
+    }
+}
+
+/// What an operator between two values gives.
+pub fn combine(store: &Store, operator: Operator, x: Worth, y: Worth) -> Computed
+    ensures { (w : World) → w.memory ≡ store.now → outcome_of result w ≡ combined operator (value_in x) (value_in y) w }
+{
+    match operator {
+        Operator::Subscript => match sum(store, x, y) {
+            Ok(at) => read(store, at),
+            Err(reason) => Computed::Undefined(reason),
+        },
+        Operator::Byte => match read_byte(store, x, y) {
+            Ok(byte) => Computed::Value(Worth::Number(u32::from(byte))),
+            Err(reason) => Computed::Undefined(reason),
+        },
+        Operator::Add => given_value(sum(store, x, y)),
+        Operator::Subtract => given_value(difference(store, x, y)),
+        Operator::Equal => given_truth(equal(store, x, y)),
+        Operator::Unequal => given_truth(equal(store, x, y).map(|holds| !holds)),
+        Operator::Less | Operator::Greater | Operator::AtMost | Operator::AtLeast => {
+            given_value(ordered(store, operator, x, y))
+        }
+        _ => on_words(operator, x, y),
+    }
+}

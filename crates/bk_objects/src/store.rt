@@ -1,0 +1,189 @@
+//! Memory.
+ghost use Rattle.std.specs.Prelude.{◌≡◌, ◌≢◌, ◌-◌, ◌<◌, ◌≤◌, Some, None, IfSome, IfNone, OnOk, OnErr, All, length, map, replicate, [], if◌then◌else◌};
+ghost use Rattle.std.specs.Bool.{OnFalse};
+ghost use Rattle.std.specs.List.{HoldsAt, AllWithin};
+ghost use Rattle.std.specs.Option.{option_map};
+ghost use Rattle.bk_meaning.specs.Values.{address, holds, unset};
+ghost use Rattle.bk_meaning.specs.Memory as m;
+ghost use Rattle.bk_objects.specs.Views.{cell_in};
+ghost use Rattle.bk_objects.specs.Memories.{Grow, Within, found};
+
+use crate::worth::{Cell, Worth};
+use std::alloc::{AllocError, Global};
+use std::marker::Model;
+
+/// An object that lives.
+#[derive(Clone, Copy)]
+struct Life {
+    number: u64,
+    /// Where its cells begin among all.
+    start: usize,
+    /// How many cells it has.
+    len: usize,
+}
+
+/// Where an object stands among those that live.
+fn place(lives: &[Life], object: u64) -> Option<usize>
+    requires { Grow lives.now }
+    ensures some { IfSome result (λ i. (i < length lives.now) × HoldsAt (λ l. l.number ≡ object) lives.now i) }
+    ensures none { IfNone result (All (λ l. l.number ≢ object) lives.now) }
+{
+    // An object that lasts stands at its number.
+    if let Some(life) = lives.get(object as usize)
+        && life.number == object
+    {
+        return Some(object as usize);
+    }
+    lives.binary_search_by_key(&object, |life| life.number).ok()
+}
+
+/// The cells of an object that lives.
+fn cells_of<'a>(lives: &[Life], cells: &'a [Cell], object: u64) -> Option<&'a [Cell]>
+    requires { Within lives.now cells.now }
+    ensures { option_map (λ part. map cell_in part.now) result ≡ m.cells_of (Some (found cells.now lives.now object)) }
+{
+    let life = lives[place(lives, object)?];
+    let (_, behind) = cells.split_at(life.start);
+    let (own, _) = behind.split_at(life.len);
+    Some(own)
+}
+
+/// How many objects are left where those from a number on die.
+fn left(lives: &[Life], from: u64) -> usize
+    ensures within { result ≤ length lives.now }
+    ensures dead { AllWithin (λ l. from ≤ l.number) lives.now result (length lives.now) }
+    ensures living { 0 < result → HoldsAt (λ l. l.number < from) lives.now (result - 1) }
+{
+    let mut count = lives.len();
+    while count > 0 && lives[count - 1].number >= from {
+        count -= 1;
+    }
+    count
+}
+
+/// Memory: objects by their numbers, each living with its cells or dead. Only objects that live take memory.
+#[derive(Drop)]
+pub struct Store {
+    /// The objects that live, by their numbers, which grow.
+    lives: Vec<Life>,
+    /// The cells of the objects that live, one object behind another.
+    cells: Vec<Cell>,
+    /// How many objects were made.
+    made: u64,
+}
+
+impl Model for Store {
+    ghost use Rattle.std.specs.Prelude.{length};
+    ghost use Rattle.bk_meaning.specs.Memory.{Memory};
+    ghost use Rattle.bk_objects.specs.Memories.{memory_of, Laid};
+
+    ghost Value = { Memory };
+
+    ghost view = { λ s. memory_of s.cells.items s.lives.items s.made };
+
+    ghost invariant = { λ s. Laid 0 0 s.lives.items s.made (length s.cells.items) };
+}
+
+impl Store {
+    /// Memory in which no object was made.
+    pub fn new(alloc: Global) -> Store
+        ensures { result ≡ [] }
+    {
+        Store {
+            lives: Vec::new(alloc),
+            cells: Vec::new(alloc),
+            made: 0,
+        }
+    }
+
+    /// How many objects were made: the number of the next one.
+    pub fn made(&self) -> u64
+        ensures { result ≡ length self.now }
+    {
+        self.made
+    }
+
+    /// The cell at a distance from the first cell of an object, if the object lives and has it.
+    pub fn cell(&self, object: u64, offset: u32) -> Option<Cell>
+        ensures { option_map cell_in result ≡ m.cell_at self.now (address object offset) }
+    {
+        cells_of(&self.lives, &self.cells, object)?
+            .get(offset as usize)
+            .copied()
+    }
+
+    /// How many cells an object has, if it lives.
+    pub fn size(&self, object: u64) -> Option<usize>
+        ensures { result ≡ option_map length (m.cells_at self.now object) }
+    {
+        Some(cells_of(&self.lives, &self.cells, object)?.len())
+    }
+
+    /// Makes an object of these cells. Memory may be refused, and so is an object behind the number 2^64 - 2.
+    pub fn make(&mut self, cells: &[Cell]) -> Result<(), AllocError>
+        ensures made { OnOk result (self.new ≡ m.made (map cell_in cells.now) self.old) }
+        ensures unchanged { OnErr result (self.new ≡ self.old) }
+    {
+        let next = self.made.checked_add(1).ok_or(AllocError)?;
+        let start = self.cells.len();
+        self.cells.extend_from_slice(cells)?;
+        let number = self.made;
+        let len = cells.len();
+        self.lives.push(Life { number, start, len })?;
+        self.made = next;
+        Ok(())
+    }
+
+    /// Makes an object of so many cells that hold nothing set. Memory may be refused, and so is an object behind the
+    /// number 2^64 - 2.
+    pub fn make_unset(&mut self, count: usize) -> Result<(), AllocError>
+        ensures made { OnOk result (self.new ≡ m.made (replicate count (holds unset)) self.old) }
+        ensures unchanged { OnErr result (self.new ≡ self.old) }
+    {
+        let next = self.made.checked_add(1).ok_or(AllocError)?;
+        let start = self.cells.len();
+        let end = start.checked_add(count).ok_or(AllocError)?;
+        self.cells.resize(end, Cell::Holds(Worth::Unset))?;
+        let number = self.made;
+        self.lives.push(Life {
+            number,
+            start,
+            len: count,
+        })?;
+        self.made = next;
+        Ok(())
+    }
+
+    /// How many cells take memory. The meaning does not know this number.
+    pub fn cells_in_use(&self) -> usize {
+        self.cells.len()
+    }
+
+    /// Ends the life of each object from this number on.
+    pub fn forget(&mut self, from: u64)
+        ensures { self.new ≡ m.dead_from from self.old }
+    {
+        let count = left(&self.lives, from);
+        if count < self.lives.len() {
+            let start = self.lives[count].start;
+            self.cells.truncate(start);
+            self.lives.truncate(count);
+        }
+    }
+
+    /// Puts a cell in the place of one of an object that lives. False says that there is none, and nothing changes.
+    pub fn set(&mut self, object: u64, offset: u32, cell: Cell) -> bool
+        ensures cell { (if result then Some self.new else None) ≡ m.with_cell self.old (address object offset) (cell_in cell) }
+        ensures unchanged { OnFalse result (self.new ≡ self.old) }
+    {
+        let Some(place) = place(&self.lives, object) else {
+            return false;
+        };
+        let life = self.lives[place];
+        if offset as usize >= life.len {
+            return false;
+        }
+        self.cells[life.start + offset as usize] = cell;
+        true
+    }
+}
