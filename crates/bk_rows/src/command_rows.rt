@@ -14,23 +14,18 @@ const HI: &[u8] = b"1 LL2 SP4 LIG6 K2 X4 2 C3 C72 C73 C33 G1L1 Z";
 
 #[test]
 fn command_lines_refused(rt: HostRuntime) -> Result<(), Fail> {
-    let rows: [&[&str]; 26] = [
+    let rows: [&[&str]; 21] = [
         &["bcpl"],
         &["bcpl", "run"],
         &["bcpl", "run", "f", "g"],
         &["bcpl", "run", "--sizes", "f"],
-        &["bcpl", "run", "-t", "0", "f"],
         &[],
         &["bcpl", "interpret"],
         &["bcpl", "interpret", "f", "g"],
-        &["bcpl", "interpret", "-s", "4095", "f"],
-        &["bcpl", "interpret", "-s", "4194305", "f"],
         &["bcpl", "interpret", "-s", "4294967296", "f"],
         &["bcpl", "interpret", "-s", "-4096", "f"],
         &["bcpl", "interpret", "-s", "", "f"],
         &["bcpl", "interpret", "-s", "x", "f"],
-        &["bcpl", "interpret", "-t", "0", "f"],
-        &["bcpl", "interpret", "-t", "1000000000001", "f"],
         &["bcpl", "interpret", "-t", "18446744073709551616", "f"],
         &["bcpl", "interpret", "-t", "5", "-t", "6", "f"],
         &["bcpl", "interpret", "-s", "5000", "-s", "5000", "f"],
