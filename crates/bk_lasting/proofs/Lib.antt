@@ -1,3 +1,4 @@
+pub mod Begun
 pub mod Bound
 pub mod Counted
 pub mod Listed

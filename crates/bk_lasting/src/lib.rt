@@ -3,6 +3,7 @@
 
 mod counting;
 mod env;
+mod memory;
 mod operators;
 mod program;
 mod scopes;
@@ -15,6 +16,7 @@ pub use counting::{
     count_each, count_starts,
 };
 pub use env::{Env, GLOBALS_OBJECT, Node, Sense};
+pub use memory::first_memory;
 pub use program::{Body, Lasting, Procedure};
 pub use scopes::{
     all_declared, constant, constants, declared, global_named, hide, in_block, in_for, in_scope,

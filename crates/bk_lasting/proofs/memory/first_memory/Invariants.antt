@@ -1,0 +1,7 @@
+use Rattle.std.proofs.Common.{◌≡◌, ◌++◌, length, drop, map}
+use Rattle.bk_meaning.specs.Lasting.{objects_from, first_memory}
+use Rattle.bk_lasting.specs.Views.{lasting_in}
+use Rattle.bk_lasting.proofs.memory.first_memory.Given as goal
+
+abbrev pub invariant-loop-lasting : goal.invariant-loop-lasting
+invariant-loop-lasting l = l.store ++ objects_from (map lasting_in l.program) (length l.store) (map lasting_in (drop l.lasting-index l.program)) ≡ first_memory (map lasting_in l.program)

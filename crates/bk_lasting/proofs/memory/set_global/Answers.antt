@@ -1,0 +1,8 @@
+use Rattle.std.proofs.Common.{set, map, ap, ◌∙◌}
+use Rattle.std.proofs.lemmas.List.{map-set}
+use Rattle.bk_objects.specs.Views.{cell_in}
+use Rattle.bk_lasting.proofs.memory.set_global.Goals as goal
+
+pub returns-then-global-cells : goal.returns-then-global-cells
+returns-then-global-cells c =
+    rw c.in-Some.is (map-set cell_in c.args.cells.now c.in-Some.global c.procedure_cell.result ∙ ap (λ x. set (map cell_in c.args.cells.now) c.in-Some.global x) c.procedure_cell.ensures)
