@@ -1,0 +1,27 @@
+-- The turn that a command takes.
+use Rattle.std.proofs.Common.{◌≡◌, ℕ, ◌-◌, ◌<◌, true, false, refl, sym, ◌∙◌}
+use Rattle.bk_tree.specs.Tree as t
+use Rattle.bk_tree.specs.Tree.{Action}
+use Rattle.bk_meaning.specs.World.{World, Outcome, Done, done, going, turn}
+use Rattle.bk_meaning.specs.Environment.{Environment}
+use Rattle.bk_meaning.specs.Seeking.{Mode}
+use Rattle.bk_meaning.specs.Lasting.{Program}
+use Rattle.bk_meaning.specs.Commands.{act_of}
+use Rattle.bk_meaning.specs.Program.{turn_for}
+use Rattle.bk_check.specs.Full.{full}
+use Rattle.bk_check.specs.Plain.{takes_no_turn}
+use Rattle.bk_check.proofs.Turns.{full_act, turn_left, turn_none}
+
+takes_turn : (c : Action) (w : World) (go : World → Outcome Done) → takes_no_turn c ≡ false → turn_for c w go ≡ turn w go
+takes_turn t.empty w go is = absurd (cc is)
+takes_turn c w go is = refl
+
+pub act_empty : (p : Program) (c : Action) (mode : Mode) (env : Environment) (w : World) → takes_no_turn c ≡ true → done w ≡ (full p).act c mode env w
+act_empty p t.empty mode env w is = sym (full_act p t.empty mode env w)
+act_empty p c mode env w is = absurd (cc is)
+
+pub act_left : (p : Program) (c : Action) (mode : Mode) (env : Environment) (w : World) → takes_no_turn c ≡ false → 0 < w.turns → act_of p (full p) c mode env (record w { turns = w.turns - 1 }) ≡ (full p).act c mode env w
+act_left p c mode env w is lt = turn_left w (λ w. act_of p (full p) c mode env w) lt ∙ sym (full_act p c mode env w ∙ takes_turn c w (λ w. act_of p (full p) c mode env w) is)
+
+pub act_none : (p : Program) (c : Action) (mode : Mode) (env : Environment) (w : World) → takes_no_turn c ≡ false → w.turns ≡ 0 → going w ≡ (full p).act c mode env w
+act_none p c mode env w is none = turn_none w (λ w. act_of p (full p) c mode env w) none ∙ sym (full_act p c mode env w ∙ takes_turn c w (λ w. act_of p (full p) c mode env w) is)

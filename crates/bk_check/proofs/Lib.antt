@@ -1,0 +1,12 @@
+pub mod Acts
+pub mod Alike
+pub mod Entering
+pub mod Formals
+pub mod ForLoops
+pub mod Lets
+pub mod Outcomes
+pub mod Resuming
+pub mod Scoped
+pub mod Seeks
+pub mod Turns
+pub mod Vectors

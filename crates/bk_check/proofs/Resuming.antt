@@ -1,0 +1,136 @@
+-- Frames, resumed: where one was pushed, it goes on with what is asked for.
+use Rattle.std.proofs.Common.{◌≡◌, ℕ, Bool, List, [], ◌∷◌, ◌++◌, Result, Ok, Err, IfOk, refl, ap, sym, subst, ◌∙◌}
+use Rattle.bk_meaning.specs.Values.{Value}
+use Rattle.bk_meaning.specs.World.{World, Exit, Outcome, gives, leaves, ends, undefined, going, each_way, with, Done, done, closing}
+use Rattle.bk_meaning.specs.Lasting.{Program}
+use Rattle.bk_meaning.specs.Parts.{Target}
+use Rattle.bk_check.specs.declared.frame.Next.{Next}
+use Rattle.bk_check.specs.declared.frame.OnValue.{OnValue}
+use Rattle.bk_check.specs.declared.frame.OnValue.TheVariants as v
+use Rattle.bk_check.specs.declared.frame.OnTruth.{OnTruth}
+use Rattle.bk_check.specs.declared.frame.OnTruth.TheVariants as o
+use Rattle.bk_check.specs.declared.frame.OnTarget.{OnTarget}
+use Rattle.bk_check.specs.declared.frame.OnTarget.TheVariants as a
+use Rattle.bk_check.specs.declared.frame.OnDone.{OnDone}
+use Rattle.bk_check.specs.declared.frame.OnDone.TheVariants as d
+use Rattle.bk_check.specs.declared.frame.Frame.{Frame}
+use Rattle.bk_check.specs.declared.frame.Frame.TheVariants as f
+use Rattle.bk_check.specs.Worlds.{Bytes}
+use Rattle.bk_check.specs.Resume.{Given, a_value, a_truth, a_target, is_done, done_tag, tag, value_goes, truth_goes, target_goes, done_goes, returned, resume, resumed, Comes}
+
+pub resumed-push : (p : Program) (fs : List Frame) (f : Frame) (u : Outcome Given) → resumed p (fs ++ f ∷ []) u ≡ resumed p fs (resume p f u)
+unfolding resumed
+resumed-push p [] f u = refl
+resumed-push p (g ∷ fs) f u = ap (resume p g) (resumed-push p fs f u)
+
+pushed : (p : Program) (fs gs : List Frame) (f : Frame) (u v : Outcome Given) → gs ≡ fs ++ f ∷ [] → resume p f u ≡ v → resumed p gs u ≡ resumed p fs v
+pushed p fs gs f u v is e = ap (λ xs. resumed p xs u) is ∙ resumed-push p fs f u ∙ ap (resumed p fs) e
+
+by_value : (p : Program) (g : OnValue) (u : Outcome Value) → resume p (f.Value g) (tag a_value u) ≡ value_goes p g u
+by_value p g (gives v w) = refl
+by_value p (v.Contents l) (leaves x w) = refl
+by_value p g (leaves x w) = refl
+by_value p (v.Contents l) (ends e w) = refl
+by_value p g (ends e w) = refl
+by_value p (v.Contents l) undefined = refl
+by_value p g undefined = refl
+by_value p (v.Contents l) (going w) = refl
+by_value p g (going w) = refl
+
+pub pushed_value : (p : Program) (fs gs : List Frame) (g : OnValue) (u : Outcome Value) → gs ≡ fs ++ f.Value g ∷ [] → resumed p gs (tag a_value u) ≡ resumed p fs (value_goes p g u)
+pushed_value p fs gs g u is = pushed p fs gs (f.Value g) _ _ is (by_value p g u)
+
+by_truth : (p : Program) (g : OnTruth) (u : Outcome Bool) → resume p (f.Truth g) (tag a_truth u) ≡ truth_goes p g u
+by_truth p g (gives v w) = refl
+by_truth p o.Not (leaves x w) = refl
+by_truth p g (leaves x w) = refl
+by_truth p o.Not (ends e w) = refl
+by_truth p g (ends e w) = refl
+by_truth p o.Not undefined = refl
+by_truth p g undefined = refl
+by_truth p o.Not (going w) = refl
+by_truth p g (going w) = refl
+
+pub pushed_truth : (p : Program) (fs gs : List Frame) (g : OnTruth) (u : Outcome Bool) → gs ≡ fs ++ f.Truth g ∷ [] → resumed p gs (tag a_truth u) ≡ resumed p fs (truth_goes p g u)
+pushed_truth p fs gs g u is = pushed p fs gs (f.Truth g) _ _ is (by_truth p g u)
+
+by_target : (p : Program) (g : OnTarget) (u : Outcome Target) → resume p (f.Target g) (tag a_target u) ≡ target_goes p g u
+by_target p g (gives v w) = refl
+by_target p (a.Address l) (leaves x w) = refl
+by_target p g (leaves x w) = refl
+by_target p (a.Address l) (ends e w) = refl
+by_target p g (ends e w) = refl
+by_target p (a.Address l) undefined = refl
+by_target p g undefined = refl
+by_target p (a.Address l) (going w) = refl
+by_target p g (going w) = refl
+
+pub pushed_target : (p : Program) (fs gs : List Frame) (g : OnTarget) (u : Outcome Target) → gs ≡ fs ++ f.Target g ∷ [] → resumed p gs (tag a_target u) ≡ resumed p fs (target_goes p g u)
+pushed_target p fs gs g u is = pushed p fs gs (f.Target g) _ _ is (by_target p g u)
+
+by_done : (p : Program) (g : OnDone) (u : Outcome Done) → resume p (f.Done g) (tag done_tag u) ≡ done_goes p g u
+by_done p g (gives v w) = refl
+by_done p d.Body (leaves x w) = refl
+by_done p g (leaves x w) = refl
+by_done p d.Body (ends e w) = refl
+by_done p g (ends e w) = refl
+by_done p d.Body undefined = refl
+by_done p g undefined = refl
+by_done p d.Body (going w) = refl
+by_done p g (going w) = refl
+
+pub pushed_done : (p : Program) (fs gs : List Frame) (g : OnDone) (u : Outcome Done) → gs ≡ fs ++ f.Done g ∷ [] → resumed p gs (tag done_tag u) ≡ resumed p fs (done_goes p g u)
+pushed_done p fs gs g u is = pushed p fs gs (f.Done g) _ _ is (by_done p g u)
+
+by_return : (p : Program) (l n : ℕ) (u : Outcome Value) → resume p (f.Returned l n) (tag a_value u) ≡ tag a_value (returned n u)
+by_return p l n (gives v w) = refl
+by_return p l n (leaves x w) = refl
+by_return p l n (ends e w) = refl
+by_return p l n undefined = refl
+by_return p l n (going w) = refl
+
+pub pushed_return : (p : Program) (fs gs : List Frame) (l n : ℕ) (u : Outcome Value) → gs ≡ fs ++ f.Returned l n ∷ [] → resumed p gs (tag a_value u) ≡ resumed p fs (tag a_value (returned n u))
+pushed_return p fs gs l n u is = pushed p fs gs (f.Returned l n) _ _ is (by_return p l n u)
+
+value_closes : (p : Program) (n : ℕ) (u : Outcome Value) → resume p (f.Closing n) (tag a_value u) ≡ tag a_value (closing n u)
+value_closes p n (gives v w) = refl
+value_closes p n (leaves x w) = refl
+value_closes p n (ends e w) = refl
+value_closes p n undefined = refl
+value_closes p n (going w) = refl
+
+pub pushed_closing_value : (p : Program) (fs gs : List Frame) (n : ℕ) (u : Outcome Value) → gs ≡ fs ++ f.Closing n ∷ [] → resumed p gs (tag a_value u) ≡ resumed p fs (tag a_value (closing n u))
+pushed_closing_value p fs gs n u is = pushed p fs gs (f.Closing n) _ _ is (value_closes p n u)
+
+done_closes : (p : Program) (n : ℕ) (u : Outcome Done) → resume p (f.Closing n) (tag done_tag u) ≡ tag done_tag (closing n u)
+done_closes p n (gives v w) = refl
+done_closes p n (leaves x w) = refl
+done_closes p n (ends e w) = refl
+done_closes p n undefined = refl
+done_closes p n (going w) = refl
+
+pub pushed_closing : (p : Program) (fs gs : List Frame) (n : ℕ) (u : Outcome Done) → gs ≡ fs ++ f.Closing n ∷ [] → resumed p gs (tag done_tag u) ≡ resumed p fs (tag done_tag (closing n u))
+pushed_closing p fs gs n u is = pushed p fs gs (f.Closing n) _ _ is (done_closes p n u)
+
+-- what was popped goes on
+pub popped : (p : Program) (fs gs : List Frame) (f : Frame) (u : Outcome Given) → gs ≡ fs ++ f ∷ [] → resumed p fs (resume p f u) ≡ resumed p gs u
+popped p fs gs f u is = sym (pushed p fs gs f u (resume p f u) is refl)
+
+-- what comes to this comes to what is the same
+pub comes_same : (p : Program) (fs : List Frame) (next : Next) (w : World) (u v : Outcome Given) → u ≡ v → Comes p fs next w u → Comes p fs next w v
+comes_same p fs next w u v e h = h ∙ e
+
+-- a step that comes to this comes to what is the same
+pub meets : {E : Type 0} (r : Result Next E) (fs : List Frame) (there : Bytes → World) (u v : Program → Bytes → Outcome Given) → ((p : Program) (b : Bytes) → u p b ≡ v p b) → IfOk r (λ next. (p : Program) (b : Bytes) → Comes p fs next (there b) (u p b)) → IfOk r (λ next. (p : Program) (b : Bytes) → Comes p fs next (there b) (v p b))
+meets (Ok next) fs there u v e h = λ p b. h p b ∙ e p b
+meets (Err x) fs there u v e h = h
+
+-- the same of the program that runs
+pub meets_in : {E : Type 0} (p : Program) (r : Result Next E) (fs : List Frame) (there : Bytes → World) (u v : Bytes → Outcome Given) → ((b : Bytes) → u b ≡ v b) → IfOk r (λ next. (b : Bytes) → Comes p fs next (there b) (u b)) → IfOk r (λ next. (b : Bytes) → Comes p fs next (there b) (v b))
+meets_in p (Ok next) fs there u v e h = λ b. h b ∙ e b
+meets_in p (Err x) fs there u v e h = h
+
+-- the same of a step that comes to this at each line
+pub meets_at : {E : Type 0} (r : Result Next E) (fs : List Frame) (there : Bytes → World) (u : Program → Bytes → ℕ → Outcome Given) (v : Program → Bytes → Outcome Given) (l : ℕ) → ((p : Program) (b : Bytes) → u p b l ≡ v p b) → IfOk r (λ next. (p : Program) (b : Bytes) (l : ℕ) → Comes p fs next (there b) (u p b l)) → IfOk r (λ next. (p : Program) (b : Bytes) → Comes p fs next (there b) (v p b))
+meets_at (Ok next) fs there u v l e h = λ p b. h p b l ∙ e p b
+meets_at (Err x) fs there u v l e h = h

@@ -1,0 +1,25 @@
+use Rattle.std.proofs.Common.{◌≡◌, List, ap, sym, ◌∙◌}
+use Rattle.bk_tree.specs.declared.tree.Item.{Item}
+use Rattle.bk_tree.specs.declared.tree.Def.{Def}
+use Rattle.bk_tree.specs.Tree as t
+use Rattle.bk_tree.specs.Tree.{Declaration, declaration, declarations_in, actions_in, items_in, definitions_in}
+use Rattle.bk_tree.proofs.Trees.{Constants_is, Let_is}
+use Rattle.bk_lasting.specs.Views.{env_in}
+use Rattle.bk_check.specs.Worlds.{world}
+use Rattle.bk_check.specs.Resume.{tag, done_tag, resumed, declared_then}
+use Rattle.bk_check.proofs.Resuming.{meets_at}
+use Rattle.bk_check.proofs.blocks.declare_one.Goals as goal
+
+pub returns-in-Constants : goal.returns-in-Constants
+returns-in-Constants c =
+    let e : declaration c.args.first.now ≡ t.constants c.in-Constants.field-0 c.in-Constants.sort (items_in c.in-Constants.items.items) = ap declaration c.in-Constants.is ∙ Constants_is c.in-Constants.field-0 c.in-Constants.sort c.in-Constants.items in
+    meets_at c.declare_constants.result _ (λ b. world c.declare_constants.new.m b) _ _ c.in-Constants.field-0
+    (λ p b. ap (λ (d : Declaration). resumed p c.args.m.now.frames.items (tag done_tag (declared_then p (t.declare d (declarations_in c.args.rest.now)) (actions_in c.args.commands.now) (env_in c.args.env) (world c.args.m.now b))))
+    (ap (λ (xs : List Item). t.constants c.in-Constants.field-0 c.in-Constants.sort (items_in xs)) c.deref.ensures.value ∙ sym e)) c.declare_constants.ensures
+
+pub returns-in-Let : goal.returns-in-Let
+returns-in-Let c =
+    let e : declaration c.args.first.now ≡ t.definitions c.in-Let.field-0 (definitions_in c.in-Let.defs.items) = ap declaration c.in-Let.is ∙ Let_is c.in-Let.field-0 c.in-Let.defs in
+    meets_at c.declare_let.result _ (λ b. world c.declare_let.new.m b) _ _ c.in-Let.field-0
+    (λ p b. ap (λ (d : Declaration). resumed p c.args.m.now.frames.items (tag done_tag (declared_then p (t.declare d (declarations_in c.args.rest.now)) (actions_in c.args.commands.now) (env_in c.args.env) (world c.args.m.now b))))
+    (ap (λ (xs : List Def). t.definitions c.in-Let.field-0 (definitions_in xs)) c.deref-in-Let.ensures.value ∙ sym e)) c.declare_let.ensures

@@ -1,0 +1,24 @@
+use Rattle.std.proofs.Common.{◌≡◌, ◌+◌, max, ap, ◌∙◌, arith}
+use Rattle.bk_meaning.specs.Values.{Value}
+use Rattle.bk_meaning.specs.World.{Outcome}
+use Rattle.bk_meaning.specs.Calls.{called}
+use Rattle.bk_check.specs.Full.{full}
+use Rattle.bk_check.specs.Views.{program_in}
+use Rattle.bk_objects.specs.Views.{value_in}
+use Rattle.bk_check.specs.Worlds.{world}
+use Rattle.bk_check.specs.Resume.{tag, a_value, resumed, list_value}
+use Rattle.bk_check.proofs.Resuming.{meets_in, pushed_return}
+use Rattle.bk_check.proofs.Entering.{counted}
+use Rattle.bk_check.proofs.calls.call.Goals as goal
+
+pub returns : goal.returns
+returns c =
+    let p = program_in c.args.program.now in
+    let f = value_in c.args.callee in
+    let vs = list_value c.args.values.items in
+    let n : c.in_ok-m.field-0 ≡ c.args.m.now.calls + 1 = grind arith in
+    let k : c.max-m.result ≡ max c.args.m.now.most_calls (c.args.m.now.calls + 1) = grind arith in
+    meets_in p c.called.result _ (λ b. world c.called.new.m b) _ _
+    (λ b. let w = world c.args.m.now b in
+    pushed_return p c.args.m.now.frames.items _ c.args.line c.args.m.now.calls (called p (full p) f vs (record w { calls = c.in_ok-m.field-0; most_calls = c.max-m.result })) c.in_ok-push.ensures.items
+    ∙ ap (λ (u : Outcome Value). resumed p c.args.m.now.frames.items (tag a_value u)) (counted p f vs w c.in_ok-m.field-0 c.max-m.result n k)) c.called.ensures

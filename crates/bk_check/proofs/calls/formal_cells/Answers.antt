@@ -1,0 +1,21 @@
+use Rattle.std.proofs.Common.{◌≡◌, ◌<◌, ◌++◌, ◌∷◌, [], List, length, map, drop, ap, sym, ◌∙◌, ◌+◌, arith}
+use Rattle.std.specs.Prelude.{slice_get, unwrap_or}
+use Rattle.bk_meaning.specs.Calls.{formal_cells}
+use Rattle.bk_objects.specs.declared.worth.Worth.{Worth}
+use Rattle.bk_objects.specs.declared.worth.Worth.TheVariants.{Unset}
+use Rattle.bk_objects.specs.declared.worth.Cell.{Cell}
+use Rattle.bk_objects.specs.declared.worth.Cell.TheVariants.{Holds}
+use Rattle.bk_check.specs.Views.{letters_in}
+use Rattle.bk_objects.specs.Views.{cell_in}
+use Rattle.bk_check.specs.Resume.{list_value}
+use Rattle.bk_check.proofs.Formals.{formal_step}
+use Rattle.bk_check.proofs.calls.formal_cells.Goals as goal
+
+pub loop-i-preserved : goal.loop-i-preserved
+loop-i-preserved c =
+    let i = c.loop-i.i in
+    let lt : i < length c.args.formals.now = grind arith in
+    let pushed : c.push.new.self.items ≡ c.loop-i.cells.items ++ Holds (unwrap_or (slice_get c.args.values.now i) Unset) ∷ [] = c.in_ok-push.ensures.items ∙ ap (λ (x : Worth). c.loop-i.cells.items ++ Holds x ∷ []) c.argument-value.ensures in
+    ap (λ (xs : List Cell). map cell_in xs ++ formal_cells (letters_in (drop (i + 1) c.args.formals.now)) (list_value (drop (i + 1) c.args.values.now))) pushed
+    ∙ formal_step c.loop-i.cells.items c.args.formals.now c.args.values.now i lt
+    ∙ c.loop-i.invariant

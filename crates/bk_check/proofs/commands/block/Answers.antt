@@ -1,0 +1,16 @@
+use Rattle.std.proofs.Common.{◌≡◌, ◌<◌, length, ap, ◌∙◌, arith}
+use Rattle.bk_tree.specs.Tree.{actions_in, declarations_in}
+use Rattle.bk_meaning.specs.World.{Outcome, Done}
+use Rattle.bk_check.specs.Views.{mode_in}
+use Rattle.bk_lasting.specs.Views.{env_in}
+use Rattle.bk_check.specs.Worlds.{world}
+use Rattle.bk_check.specs.Resume.{tag, done_tag, resumed, declared_then}
+use Rattle.bk_check.proofs.Resuming.{pushed_closing}
+use Rattle.bk_check.proofs.Scoped.{block_is}
+use Rattle.bk_check.proofs.commands.block.Goals as goal
+
+pub returns-in_ok-push-in-Some : goal.returns-in_ok-push-in-Some
+returns-in_ok-push-in-Some c = λ p b l.
+    let some : 0 < length c.args.decls.now = grind arith in
+    pushed_closing p c.args.m.now.frames.items c.push.new.self.items c.made.result (declared_then p (declarations_in c.args.decls.now) (actions_in c.args.commands.now) (env_in c.args.env) (world c.args.m.now b)) c.in_ok-push-in-Some.ensures.items
+    ∙ ap (λ (u : Outcome Done). resumed p c.args.m.now.frames.items (tag done_tag u)) (block_is p l c.args.decls.now (actions_in c.args.commands.now) (mode_in c.args.mode) (env_in c.args.env) (world c.args.m.now b) c.made.result some c.made.ensures)

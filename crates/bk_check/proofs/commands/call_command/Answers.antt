@@ -1,0 +1,12 @@
+use Rattle.bk_tree.specs.Tree.{expression, expressions_in}
+use Rattle.bk_meaning.specs.Calls.{applied}
+use Rattle.bk_check.specs.declared.frame.OnValue.TheVariants as v
+use Rattle.bk_check.specs.Full.{full}
+use Rattle.bk_lasting.specs.Views.{env_in}
+use Rattle.bk_check.specs.Worlds.{world}
+use Rattle.bk_check.proofs.Resuming.{meets, pushed_value}
+use Rattle.bk_check.proofs.commands.call_command.Goals as goal
+
+pub returns : goal.returns
+returns c = meets c.apply.result _ (λ b. world c.apply.new.self b) _ _
+    (λ p b. pushed_value p _ _ v.Dropped (applied p (full p) (expression c.args.callee.now) (expressions_in c.args.items.now) (env_in c.args.env) (world c.args.m.now b)) c.in_ok-push.ensures.items) c.apply.ensures

@@ -1,0 +1,19 @@
+use Rattle.std.proofs.Common.{◌≡◌, ap, ◌∙◌}
+use Rattle.bk_tree.specs.Tree.{actions_in}
+use Rattle.bk_meaning.specs.World.{Outcome, Done}
+use Rattle.bk_meaning.specs.Scopes.{in_order}
+use Rattle.bk_check.specs.declared.frame.OnDone.TheVariants as d
+use Rattle.bk_check.specs.Full.{full}
+use Rattle.bk_check.specs.Views.{mode_in}
+use Rattle.bk_lasting.specs.Views.{env_in}
+use Rattle.bk_check.specs.Worlds.{world}
+use Rattle.bk_check.specs.Resume.{tag, done_tag, resumed}
+use Rattle.bk_check.proofs.Resuming.{pushed_done}
+use Rattle.bk_check.proofs.Scoped.{scope_is}
+use Rattle.bk_check.proofs.commands.scope.Goals as goal
+
+pub returns : goal.returns
+returns c = λ p b.
+    let cs = actions_in c.args.commands.now in
+    pushed_done p c.args.m.now.frames.items c.push.new.self.items (d.Scope c.args.commands c.in_ok-again.field-0) (in_order (full p) cs (mode_in c.args.mode) (env_in c.in_ok-inside.inside) (world c.args.m.now b)) c.in_ok-push.ensures.items
+    ∙ ap (λ (u : Outcome Done). resumed p c.args.m.now.frames.items (tag done_tag u)) (scope_is p cs (mode_in c.args.mode) (env_in c.args.env) (env_in c.in_ok-again.field-0) (env_in c.in_ok-inside.inside) (world c.args.m.now b) c.in_ok-again.ensures c.in_ok-inside.ensures)

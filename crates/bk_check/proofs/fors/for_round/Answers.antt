@@ -1,0 +1,18 @@
+use Rattle.std.proofs.Common.{ap, ◌∙◌}
+use Rattle.bk_tree.specs.Tree.{action}
+use Rattle.bk_meaning.specs.Environment.{Environment}
+use Rattle.bk_meaning.specs.Seeking.{forwards}
+use Rattle.bk_meaning.specs.Scopes.{scope_of, alone}
+use Rattle.bk_meaning.specs.Loops.{again}
+use Rattle.bk_check.specs.declared.frame.OnDone.TheVariants as d
+use Rattle.bk_check.specs.Full.{full}
+use Rattle.bk_lasting.specs.Views.{env_in}
+use Rattle.bk_check.specs.Worlds.{world}
+use Rattle.bk_check.specs.Resume.{tag, done_tag, resumed, next_for}
+use Rattle.bk_check.proofs.Resuming.{meets, pushed_done}
+use Rattle.bk_check.proofs.fors.for_round.Goals as goal
+
+pub returns : goal.returns
+returns c = meets c.alone.result _ (λ b. world c.alone.new.self b) _ _
+    (λ p b. pushed_done p _ _ (d.ForRound c.args.run) (scope_of (full p) (alone (action c.args.run.body.now)) forwards (env_in c.in_ok-env.env) (world c.args.m.now b)) c.in_ok-push.ensures.items
+    ∙ ap (λ (x : Environment). resumed p c.args.m.now.frames.items (tag done_tag (again (scope_of (full p) (alone (action c.args.run.body.now)) forwards x (world c.args.m.now b)) (next_for p c.args.run)))) c.in_ok-env.ensures) c.alone.ensures

@@ -1,0 +1,21 @@
+use Rattle.std.proofs.Common.{◌-◌, ◌<◌, ap, sym, ◌∙◌, arith}
+use Rattle.bk_tree.specs.Tree.{action}
+use Rattle.bk_meaning.specs.World.{World, Outcome, Done}
+use Rattle.bk_check.specs.Full.{full}
+use Rattle.bk_objects.specs.Views.{value_in}
+use Rattle.bk_lasting.specs.Views.{env_in}
+use Rattle.bk_check.specs.Worlds.{world}
+use Rattle.bk_check.specs.Resume.{tag, done_tag, resumed}
+use Rattle.bk_check.proofs.Resuming.{meets}
+use Rattle.bk_check.proofs.Turns.{full_for_rounds, turn_left}
+use Rattle.bk_check.proofs.fors.further_round.Goals as goal
+
+pub returns : goal.returns
+returns c =
+    let lt : 0 < c.args.m.now.turns = grind arith in
+    let f = c.args.run in
+    meets c.for_round.result _ (λ b. world c.for_round.new.m b) _ _
+    (λ p b. let w = world c.args.m.now b in
+    ap (λ (u : Outcome Done). resumed p c.args.m.now.frames.items (tag done_tag u))
+    (sym (full_for_rounds p (action f.body.now) f.object (value_in f.limit) f.step (env_in f.env) (record w { turns = w.turns - 1 }))
+    ∙ turn_left w (λ (w : World). (full p).for_rounds (action f.body.now) f.object (value_in f.limit) f.step (env_in f.env) w) lt)) c.for_round.ensures

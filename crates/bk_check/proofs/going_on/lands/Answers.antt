@@ -1,0 +1,22 @@
+use Rattle.std.proofs.Common.{◌≡◌, true, false, ap, sym, ◌∙◌}
+use Rattle.bk_tree.specs.Tree.{actions_in}
+use Rattle.bk_meaning.specs.World.{Outcome, Done}
+use Rattle.bk_meaning.specs.Seeking.{the_label, stands_in, stands_in_one}
+use Rattle.bk_meaning.specs.Scopes.{alone}
+use Rattle.bk_lasting.specs.Views.{env_in}
+use Rattle.bk_check.specs.Worlds.{world}
+use Rattle.bk_check.specs.Resume.{tag, done_tag, resumed}
+use Rattle.bk_check.proofs.Resuming.{meets}
+use Rattle.bk_check.proofs.Scoped.{land_here, land_past, stands_alone}
+use Rattle.bk_check.proofs.going_on.lands.Goals as goal
+
+pub returns-then-stands_in_one : goal.returns-then-stands_in_one
+returns-then-stands_in_one c =
+    let is : stands_in_one (the_label c.args.label.now) (env_in c.args.env) (actions_in c.args.commands.now) ≡ true = sym c.stands_in_one.ensures ∙ c.if-stands_in_one.true in
+    meets c.scope.result _ (λ b. world c.scope.new.m b) _ _
+    (λ p b. ap (λ (u : Outcome Done). resumed p c.args.m.now.frames.items (tag done_tag u)) (land_here p (actions_in c.args.commands.now) (env_in c.args.env) c.args.label.now (world c.args.m.now b) is)) c.scope.ensures
+
+pub returns : goal.returns
+returns c =
+    let is : stands_in_one (the_label c.args.label.now) (env_in c.args.env) (actions_in c.args.commands.now) ≡ false = sym c.stands_in_one.ensures ∙ c.if-stands_in_one.false in
+    λ p b. ap (λ (u : Outcome Done). resumed p c.args.m.now.frames.items (tag done_tag u)) (land_past p (actions_in c.args.commands.now) (env_in c.args.env) c.args.label.now (world c.args.m.now b) is)

@@ -1,0 +1,9 @@
+use Rattle.bk_meaning.specs.World.{leaves}
+use Rattle.bk_check.specs.Worlds.{world}
+use Rattle.bk_check.specs.Resume.{exit_in}
+use Rattle.bk_check.proofs.Resuming.{meets, popped}
+use Rattle.bk_check.proofs.going_on.left.Goals as goal
+
+pub returns-in-Some : goal.returns-in-Some
+returns-in-Some c = meets c.frame_left.result _ (λ b. world c.frame_left.new.m b) _ _
+    (λ p b. popped p _ _ c.in-Some.frame (leaves (exit_in c.args.exit) (world c.args.m.now b)) c.in-Some.ensures.items) c.frame_left.ensures

@@ -1,0 +1,22 @@
+use Rattle.std.proofs.Common.{◌≡◌, ◌<◌, length, ap, sym, ◌∙◌, arith}
+use Rattle.bk_tree.specs.Tree.{Action, Actions, action, actions_in, declarations_in, block}
+use Rattle.bk_tree.proofs.Trees.{Block_is}
+use Rattle.bk_meaning.specs.Seeking as q
+use Rattle.bk_check.specs.Views.{sought_in}
+use Rattle.bk_lasting.specs.Views.{env_in}
+use Rattle.bk_check.proofs.Seeks.{no_head, a_head}
+use Rattle.bk_check.proofs.seeking.+seeking.Goals as goal
+
+pub stands_in-returns-then-is_empty : goal.stands_in-returns-then-is_empty
+stands_in-returns-then-is_empty t c =
+    let e : action c.args.command.now ≡ block c.in-Block.field-0 (declarations_in c.in-Block.ds.items) (actions_in c.in-Block.cs.items) =
+    ap action c.in-Block.is ∙ Block_is c.in-Block.field-0 c.in-Block.ds c.in-Block.cs in
+    let none : length c.in-Block.ds.items ≡ 0 = grind arith in
+    rw (e, ← c.deref-then-is_empty.ensures.value) (c.stands_in_one.ensures ∙ no_head (sought_in c.args.sought) (env_in c.args.env.now) c.in-Block.field-0 c.in-Block.ds.items (actions_in c.deref-then-is_empty.result.now) none)
+
+pub stands_in-returns-else-is_empty : goal.stands_in-returns-else-is_empty
+stands_in-returns-else-is_empty t c =
+    let e : action c.args.command.now ≡ block c.in-Block.field-0 (declarations_in c.in-Block.ds.items) (actions_in c.in-Block.cs.items) =
+    ap action c.in-Block.is ∙ Block_is c.in-Block.field-0 c.in-Block.ds c.in-Block.cs in
+    let some : 0 < length c.in-Block.ds.items = grind arith in
+    c.if-is_empty.false ∙ rw e (a_head (sought_in c.args.sought) (env_in c.args.env.now) c.in-Block.field-0 c.in-Block.ds.items (actions_in c.in-Block.cs.items) some)

@@ -1,0 +1,6 @@
+pub mod Views
+pub mod Full
+pub mod Plain
+pub mod Resume
+pub mod Worlds
+pub mod Fors

@@ -1,0 +1,417 @@
+//! Blocks: what the declarations at the head of one do.
+ghost use Rattle.std.specs.Prelude.{◌≡◌, ℕ, IfOk, List, [], map, ◌∷◌};
+ghost use Rattle.bk_tree.specs.Tree as t;
+ghost use Rattle.bk_tree.specs.Tree.{declaration, declarations_in, definition, definitions_in, actions_in, items_in, starts_in, expression};
+ghost use Rattle.bk_meaning.specs.World.{World, gives, with, turn, remembering};
+ghost use Rattle.bk_meaning.specs.Environment.{constant_in};
+ghost use Rattle.bk_meaning.specs.Lasting.{Program};
+ghost use Rattle.bk_meaning.specs.Blocks as k;
+ghost use Rattle.bk_check.specs.Full.{full};
+ghost use Rattle.bk_check.specs.Views.{letters_in, start_in};
+ghost use Rattle.bk_objects.specs.Views.{value_in};
+ghost use Rattle.bk_lasting.specs.Views.{env_in};
+ghost use Rattle.bk_check.specs.Worlds.{Bytes, world};
+ghost use Rattle.bk_check.specs.Resume.{tag, done_tag, Comes, resumed, declared_then, bound_then, defined_then, started_then, starting_then, variables_then, vector_then};
+
+use crate::commands::scope;
+use crate::frame::{Frame, Let, Next, OnValue, Start};
+use crate::machine::Machine;
+use bk_base::Line;
+use bk_lasting::{Env, Sense, constant, constants, count, count_def, count_defs, within_let};
+use bk_objects::{Cell, Reason, Store, Worth};
+use bk_tree::{Command, Decl, Def, Expr, Init, Item, Name, Sort};
+use std::alloc::{AllocError, Global};
+
+/// The declarations of a block, one after another, and then its commands.
+pub fn declare<'a>(
+    m: &mut Machine<'a>,
+    decls: &'a [Decl],
+    commands: &'a [Command],
+    env: Env<'a>,
+) -> Result<Next<'a>, AllocError>
+    ensures { IfOk result (λ next. (p : Program) (b : Bytes) →
+        Comes p m.new.frames.items next (world m.new b)
+        (resumed p m.old.frames.items (tag done_tag (declared_then p (declarations_in decls.now) (actions_in commands.now) (env_in env.entry) (world m.old b))))) }
+{
+    match decls.split_first() {
+        None => scope(m, commands, None, env),
+        Some((first, rest)) => declare_one(m, first, rest, commands, env),
+    }
+}
+
+/// A declaration, and what is behind it.
+fn declare_one<'a>(
+    m: &mut Machine<'a>,
+    first: &'a Decl,
+    rest: &'a [Decl],
+    commands: &'a [Command],
+    env: Env<'a>,
+) -> Result<Next<'a>, AllocError>
+    ensures { IfOk result (λ next. (p : Program) (b : Bytes) →
+        Comes p m.new.frames.items next (world m.new b)
+        (resumed p m.old.frames.items (tag done_tag (declared_then p (t.declare (declaration first.now) (declarations_in rest.now)) (actions_in commands.now) (env_in env.entry) (world m.old b))))) }
+{
+    match first {
+        Decl::Constants(_, sort, items) => declare_constants(m, *sort, items, rest, commands, env),
+        Decl::Let(_, defs) => declare_let(m, defs, rest, commands, env),
+    }
+}
+
+/// MANIFEST, STATIC or GLOBAL.
+fn declare_constants<'a>(
+    m: &mut Machine<'a>,
+    sort: Sort,
+    items: &'a [Item],
+    rest: &'a [Decl],
+    commands: &'a [Command],
+    env: Env<'a>,
+) -> Result<Next<'a>, AllocError>
+    ensures { IfOk result (λ next. (p : Program) (b : Bytes) (l : ℕ) →
+        Comes p m.new.frames.items next (world m.new b)
+        (resumed p m.old.frames.items (tag done_tag (declared_then p (t.declare (t.constants l sort (items_in items.now)) (declarations_in rest.now)) (actions_in commands.now) (env_in env.entry) (world m.old b))))) }
+{
+    let inside = constants(m.alloc, sort, items, env)?;
+    Ok(Next::Declare(rest, commands, inside))
+}
+
+/// LET: the definitions see its procedures.
+fn declare_let<'a>(
+    m: &mut Machine<'a>,
+    defs: &'a [Def],
+    rest: &'a [Decl],
+    commands: &'a [Command],
+    env: Env<'a>,
+) -> Result<Next<'a>, AllocError>
+    ensures { IfOk result (λ next. (p : Program) (b : Bytes) (l : ℕ) →
+        Comes p m.new.frames.items next (world m.new b)
+        (resumed p m.old.frames.items (tag done_tag (declared_then p (t.declare (t.definitions l (definitions_in defs.now)) (declarations_in rest.now)) (actions_in commands.now) (env_in env.entry) (world m.old b))))) }
+{
+    let here = within_let(m.alloc, defs, env)?;
+    let count = count_defs(defs)?;
+    let behind = here.again()?.behind(count)?;
+    let starts = Vec::new(m.alloc);
+    Ok(Next::Define(Let {
+        starts,
+        defs,
+        here,
+        behind,
+        decls: rest,
+        commands,
+    }))
+}
+
+/// The definitions that are left of a LET. Behind the last one the variables come into being.
+pub fn define<'a>(m: &mut Machine<'a>, rest: Let<'a>) -> Result<Next<'a>, AllocError>
+    ensures { IfOk result (λ next. (p : Program) (b : Bytes) →
+        Comes p m.new.frames.items next (world m.new b)
+        (resumed p m.old.frames.items (tag done_tag (defined_then p rest.entry (world m.old b))))) }
+{
+    match rest.defs.split_first() {
+        None => begin_scope(m, rest),
+        Some((first, others)) => define_behind(m, first, others, rest),
+    }
+}
+
+/// The first of the definitions, with those behind it.
+fn define_behind<'a>(
+    m: &mut Machine<'a>,
+    first: &'a Def,
+    others: &'a [Def],
+    rest: Let<'a>,
+) -> Result<Next<'a>, AllocError>
+    ensures { IfOk result (λ next. (p : Program) (b : Bytes) →
+        Comes p m.new.frames.items next (world m.new b)
+        (resumed p m.old.frames.items (tag done_tag (with (k.let_values (full p) (t.define (definition first.now) (definitions_in others.now)) (env_in rest.entry.here) (world m.old b)) (λ ss w. bound_then p rest.entry ss w))))) }
+{
+    let Let {
+        starts,
+        defs: _,
+        here,
+        behind,
+        decls,
+        commands,
+    } = rest;
+    define_one(
+        m,
+        first,
+        Let {
+            starts,
+            defs: others,
+            here,
+            behind,
+            decls,
+            commands,
+        },
+    )
+}
+
+/// The variables of a LET, and what is behind it.
+fn begin_scope<'a>(m: &mut Machine<'a>, rest: Let<'a>) -> Result<Next<'a>, AllocError>
+    ensures { IfOk result (λ next. (p : Program) (b : Bytes) →
+        Comes p m.new.frames.items next (world m.new b)
+        (resumed p m.old.frames.items (tag done_tag (bound_then p rest.entry [] (world m.old b))))) }
+{
+    let Let {
+        starts,
+        defs: _,
+        here: _,
+        behind,
+        decls,
+        commands,
+    } = rest;
+    let inside = bind_starts(m.alloc, &mut m.store, &starts, behind)?;
+    Ok(Next::Declare(decls, commands, inside))
+}
+
+/// A definition, and those behind it.
+fn define_one<'a>(
+    m: &mut Machine<'a>,
+    first: &'a Def,
+    rest: Let<'a>,
+) -> Result<Next<'a>, AllocError>
+    ensures { IfOk result (λ next. (p : Program) (b : Bytes) →
+        Comes p m.new.frames.items next (world m.new b)
+        (resumed p m.old.frames.items (tag done_tag (with (k.let_values (full p) (t.define (definition first.now) (definitions_in rest.entry.defs.now)) (env_in rest.entry.here) (world m.old b)) (λ ss w. bound_then p rest.entry ss w))))) }
+{
+    let count = count_def(first)?;
+    let there = rest.here.again()?.behind(count)?;
+    match first {
+        Def::Routine(_, _, _, _) => Ok(pass(there, rest)),
+        Def::Function(_, _, _, _) => Ok(pass(there, rest)),
+        Def::Variables(_, names, inits) => Ok(variables(m, names, inits, there, rest)),
+    }
+}
+
+/// Behind a procedure.
+fn pass<'a>(there: Env<'a>, rest: Let<'a>) -> Next<'a>
+    ensures { (p : Program) (fs : List Frame) (w : World) → Comes p fs result w (resumed p fs (tag done_tag
+        (with (k.let_values (full p) (definitions_in rest.entry.defs.now) (env_in there.entry) w) (λ ss w. bound_then p rest.entry ss w)))) }
+{
+    let Let {
+        starts,
+        defs,
+        here: _,
+        behind,
+        decls,
+        commands,
+    } = rest;
+    Next::Define(Let {
+        starts,
+        defs,
+        here: there,
+        behind,
+        decls,
+        commands,
+    })
+}
+
+/// Variables, whose values take a turn.
+fn variables<'a>(
+    m: &mut Machine<'a>,
+    names: &'a [Name],
+    inits: &'a [Init],
+    there: Env<'a>,
+    rest: Let<'a>,
+) -> Next<'a>
+    ensures { (p : Program) (b : Bytes) → Comes p m.new.frames.items result (world m.new b) (resumed p m.old.frames.items (tag done_tag
+        (turn (world m.old b) (variables_then p (starts_in inits.now) (letters_in names.now) (env_in there.entry) rest.entry)))) }
+{
+    if m.turns == 0 {
+        return Next::Going;
+    }
+    m.turns -= 1;
+    let Let {
+        starts,
+        defs,
+        here,
+        behind,
+        decls,
+        commands,
+    } = rest;
+    Next::Starts(
+        inits,
+        here,
+        names,
+        Let {
+            starts,
+            defs,
+            here: there,
+            behind,
+            decls,
+            commands,
+        },
+    )
+}
+
+/// Variables: each is an object of one cell.
+fn bind_starts<'a>(
+    alloc: Global,
+    store: &mut Store,
+    starts: &[Start<'a>],
+    env: Env<'a>,
+) -> Result<Env<'a>, AllocError>
+    ensures { IfOk result (λ inside. (w : World) → w.memory ≡ store.old → k.bind_variables (map start_in starts.now) (env_in env.entry) w ≡ gives (env_in inside) (remembering store.new w)) }
+{
+    let mut env = env;
+    for start in starts {
+        let object = store.made();
+        store.make(&[Cell::Holds(start.value)])?;
+        env = env.bind(alloc, start.name, Sense::Cell(object, 0))?;
+    }
+    Ok(env)
+}
+
+/// What variables begin with, from one of them on.
+pub fn starts<'a>(
+    m: &mut Machine<'a>,
+    inits: &'a [Init],
+    here: Env<'a>,
+    names: &'a [Name],
+    rest: Let<'a>,
+) -> Result<Next<'a>, AllocError>
+    ensures { IfOk result (λ next. (p : Program) (b : Bytes) →
+        Comes p m.new.frames.items next (world m.new b)
+        (resumed p m.old.frames.items (tag done_tag (starting_then p (starts_in inits.now) (env_in here.entry) (letters_in names.now) rest.entry (world m.old b))))) }
+{
+    match inits.split_first() {
+        None => Ok(no_start(names, rest)),
+        Some((first, others)) => start_one(m, first, others, here, names, rest),
+    }
+}
+
+/// Where no variable is left.
+fn no_start<'a>(names: &'a [Name], rest: Let<'a>) -> Next<'a>
+    ensures { (p : Program) (fs : List Frame) (w : World) → Comes p fs result w (resumed p fs (tag done_tag (started_then p rest.entry (letters_in names.now) [] w))) }
+{
+    match names.split_first() {
+        None => Next::Define(rest),
+        Some(_) => Next::Define(rest),
+    }
+}
+
+/// What one variable begins with, and those behind it.
+fn start_one<'a>(
+    m: &mut Machine<'a>,
+    first: &'a Init,
+    others: &'a [Init],
+    here: Env<'a>,
+    names: &'a [Name],
+    rest: Let<'a>,
+) -> Result<Next<'a>, AllocError>
+    ensures { IfOk result (λ next. (p : Program) (b : Bytes) →
+        Comes p m.new.frames.items next (world m.new b)
+        (resumed p m.old.frames.items (tag done_tag (starting_then p (starts_in (first.now ∷ others.now)) (env_in here.entry) (letters_in names.now) rest.entry (world m.old b))))) }
+{
+    match first {
+        Init::Value(value) => start_value(m, value, others, here, names, rest),
+        Init::Vector(line, size) => vector(m, *line, size, others, here, names, rest),
+    }
+}
+
+/// A variable that begins with a value.
+fn start_value<'a>(
+    m: &mut Machine<'a>,
+    value: &'a Expr,
+    others: &'a [Init],
+    here: Env<'a>,
+    names: &'a [Name],
+    rest: Let<'a>,
+) -> Result<Next<'a>, AllocError>
+    ensures { IfOk result (λ next. (p : Program) (b : Bytes) →
+        Comes p m.new.frames.items next (world m.new b)
+        (resumed p m.old.frames.items (tag done_tag (starting_then p (t.value (expression value.now) (starts_in others.now)) (env_in here.entry) (letters_in names.now) rest.entry (world m.old b))))) }
+{
+    let count = count(value)?;
+    let behind = here.again()?.behind(count)?;
+    m.first_value(OnValue::Starts(others, behind, names, rest), value, here)
+}
+
+/// A VEC, which takes a turn: its object is made.
+fn vector<'a>(
+    m: &mut Machine<'a>,
+    line: Line,
+    size: &'a Expr,
+    others: &'a [Init],
+    here: Env<'a>,
+    names: &'a [Name],
+    rest: Let<'a>,
+) -> Result<Next<'a>, AllocError>
+    ensures { IfOk result (λ next. (p : Program) (b : Bytes) →
+        Comes p m.new.frames.items next (world m.new b)
+        (resumed p m.old.frames.items (tag done_tag (turn (world m.old b) (vector_then p (constant_in (env_in here.entry) (expression size.now)) (starts_in others.now) (env_in here.entry) (letters_in names.now) rest.entry))))) }
+{
+    if m.turns == 0 {
+        return Ok(Next::Going);
+    }
+    m.turns -= 1;
+    let last = constant(&here, size);
+    make_vector(m, line, last, others, here, names, rest)
+}
+
+/// The object of a VEC, whose last place has this number.
+fn make_vector<'a>(
+    m: &mut Machine<'a>,
+    line: Line,
+    last: Option<u32>,
+    others: &'a [Init],
+    here: Env<'a>,
+    names: &'a [Name],
+    rest: Let<'a>,
+) -> Result<Next<'a>, AllocError>
+    ensures { IfOk result (λ next. (p : Program) (b : Bytes) →
+        Comes p m.new.frames.items next (world m.new b)
+        (resumed p m.old.frames.items (tag done_tag (vector_then p last (starts_in others.now) (env_in here.entry) (letters_in names.now) rest.entry (world m.old b))))) }
+{
+    match last {
+        None => Ok(Next::Undefined(line, Reason::NoNumber)),
+        Some(last) => {
+            let object = m.store.made();
+            let length = last as usize + 1;
+            m.store.make_unset(length)?;
+            named(others, here, names, Worth::Address(object, 0), rest)
+        }
+    }
+}
+
+/// A value for the next of these names.
+pub fn named<'a>(
+    inits: &'a [Init],
+    here: Env<'a>,
+    names: &'a [Name],
+    value: Worth,
+    rest: Let<'a>,
+) -> Result<Next<'a>, AllocError>
+    ensures { IfOk result (λ next. (p : Program) (fs : List Frame) (w : World) → Comes p fs next w
+        (resumed p fs (tag done_tag (with (with (k.starts (full p) (starts_in inits.now) (env_in here.entry) w) (λ vs w. gives (value_in value ∷ vs) w)) (λ vs w. started_then p rest.entry (letters_in names.now) vs w))))) }
+{
+    match names.split_first() {
+        None => Ok(Next::Starts(inits, here, names, rest)),
+        Some((first, others)) => {
+            let Let {
+                mut starts,
+                defs,
+                here: there,
+                behind,
+                decls,
+                commands,
+            } = rest;
+            starts.push(Start {
+                name: &first.letters,
+                value,
+            })?;
+            Ok(Next::Starts(
+                inits,
+                here,
+                others,
+                Let {
+                    starts,
+                    defs,
+                    here: there,
+                    behind,
+                    decls,
+                    commands,
+                },
+            ))
+        }
+    }
+}

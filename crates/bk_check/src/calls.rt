@@ -1,0 +1,149 @@
+//! Calls, of a procedure of the program and of a library routine.
+ghost use Rattle.std.specs.Prelude.{◌≡◌, IfOk, Some, map, slice_get, unwrap_or};
+ghost use Rattle.bk_objects.specs.declared.worth.Worth.TheVariants.{Unset};
+ghost use Rattle.std.specs.Option.{option_map};
+ghost use Rattle.bk_meaning.specs.Environment.{Environment};
+ghost use Rattle.bk_meaning.specs.Lasting.{Program, procedure_of};
+ghost use Rattle.bk_meaning.specs.Calls as c;
+ghost use Rattle.bk_check.specs.Full.{full};
+ghost use Rattle.bk_check.specs.Views.{letters_in, program_in};
+ghost use Rattle.bk_objects.specs.Views.{value_in, cell_in};
+ghost use Rattle.bk_lasting.specs.Views.{env_in, body_in, procedure_in};
+ghost use Rattle.bk_check.specs.Worlds.{Bytes, world};
+ghost use Rattle.bk_check.specs.Resume.{tag, a_value, Comes, resumed, list_value};
+
+use crate::frame::{Frame, Next, OnDone};
+use crate::machine::Machine;
+use bk_base::Line;
+use bk_lasting::{Body, Env, Lasting, Procedure, Sense};
+use bk_objects::{Cell, Reason, Worth};
+use bk_tree::Name;
+use std::alloc::{AllocError, Global};
+
+/// The procedure of this number, if it is one.
+fn procedure<'a>(program: &'a [Lasting<'a>], number: u64) -> Option<&'a Procedure<'a>>
+    ensures { option_map (λ q. procedure_in q.now) result ≡ procedure_of (program_in program.now) number }
+{
+    match program.get(number as usize) {
+        Some(Lasting::Code(procedure)) => Some(procedure),
+        Some(Lasting::Globals) => None,
+        Some(Lasting::Words(_)) => None,
+        None => None,
+    }
+}
+
+/// An argument by its number, from 0; a missing one is unset.
+fn argument(values: &[Worth], i: usize) -> Worth
+    ensures { result ≡ unwrap_or (slice_get values.now i) Unset }
+{
+    match values.get(i) {
+        Some(value) => *value,
+        None => Worth::Unset,
+    }
+}
+
+/// The cells of formals: a missing argument is unset, and further ones are dropped.
+fn formal_cells(alloc: Global, formals: &[Name], values: &[Worth]) -> Result<Vec<Cell>, AllocError>
+    ensures { IfOk result (λ cells. map cell_in cells.items ≡ c.formal_cells (letters_in formals.now) (list_value values.now)) }
+{
+    let mut cells = Vec::with_capacity(alloc, formals.len())?;
+    for i in 0..formals.len() {
+        let value = argument(values, i);
+        cells.push(Cell::Holds(value))?;
+    }
+    Ok(cells)
+}
+
+/// With the formals, which are the cells of an object.
+fn bind_formals<'a>(
+    alloc: Global,
+    object: u64,
+    formals: &'a [Name],
+    env: Env<'a>,
+) -> Result<Env<'a>, AllocError>
+    ensures { IfOk result (λ inside. env_in inside ≡ c.bind_formals object 0 (letters_in formals.now) (env_in env.entry)) }
+{
+    let mut env = env;
+    let mut offset: u32 = 0;
+    for formal in formals {
+        env = env.bind(alloc, &formal.letters, Sense::Cell(object, offset))?;
+        offset = offset.checked_add(1).ok_or(AllocError)?;
+    }
+    Ok(env)
+}
+
+/// The body of a procedure.
+fn body<'a>(m: &mut Machine<'a>, body: Body<'a>, env: Env<'a>) -> Result<Next<'a>, AllocError>
+    ensures { IfOk result (λ next. (p : Program) (b : Bytes) →
+        Comes p m.new.frames.items next (world m.new b)
+        (resumed p m.old.frames.items (tag a_value (c.run_body (full p) (body_in body.entry) (env_in env.entry) (world m.old b))))) }
+{
+    match body {
+        Body::Command(command) => {
+            m.frames.push(Frame::Done(OnDone::Body))?;
+            m.alone(command, None, env)
+        }
+        Body::Value(value) => Ok(Next::Value(value, env)),
+    }
+}
+
+/// A procedure that is called.
+fn enter<'a>(
+    m: &mut Machine<'a>,
+    procedure: &'a Procedure<'a>,
+    values: Vec<Worth>,
+) -> Result<Next<'a>, AllocError>
+    ensures { IfOk result (λ next. (p : Program) (b : Bytes) →
+        Comes p m.new.frames.items next (world m.new b)
+        (resumed p m.old.frames.items (tag a_value (c.enter (full p) (Some (procedure_in procedure.now)) (list_value values.items) (world m.old b))))) }
+{
+    let object = m.store.made();
+    m.frames.push(Frame::Closing(object))?;
+    let env = bind_formals(m.alloc, object, procedure.formals, procedure.env.again()?)?;
+    let cells = formal_cells(m.alloc, procedure.formals, &values)?;
+    m.store.make(&cells)?;
+    body(m, procedure.body, env)
+}
+
+/// What is called.
+fn called<'a>(
+    m: &mut Machine<'a>,
+    program: &'a [Lasting<'a>],
+    line: Line,
+    callee: Worth,
+    values: Vec<Worth>,
+) -> Result<Next<'a>, AllocError>
+    ensures { IfOk result (λ next. (b : Bytes) →
+        Comes (program_in program.now) m.new.frames.items next (world m.new b)
+        (resumed (program_in program.now) m.old.frames.items (tag a_value (c.called (program_in program.now) (full (program_in program.now)) (value_in callee) (list_value values.items) (world m.old b))))) }
+{
+    match callee {
+        Worth::Routine(routine) => Ok(Next::Library(line, routine, values)),
+        Worth::Procedure(number) => match procedure(program, number) {
+            Some(procedure) => enter(m, procedure, values),
+            None => Ok(Next::Undefined(line, Reason::NoProcedure)),
+        },
+        Worth::Number(_) => Ok(Next::Undefined(line, Reason::NoProcedure)),
+        Worth::Address(_, _) => Ok(Next::Undefined(line, Reason::NoProcedure)),
+        Worth::Unset => Ok(Next::Undefined(line, Reason::NoProcedure)),
+    }
+}
+
+/// A call. While it runs a further call is active.
+pub fn call<'a>(
+    m: &mut Machine<'a>,
+    program: &'a [Lasting<'a>],
+    line: Line,
+    callee: Worth,
+    values: Vec<Worth>,
+) -> Result<Next<'a>, AllocError>
+    ensures { IfOk result (λ next. (b : Bytes) →
+        Comes (program_in program.now) m.new.frames.items next (world m.new b)
+        (resumed (program_in program.now) m.old.frames.items (tag a_value (c.call (program_in program.now) (full (program_in program.now)) (value_in callee) (list_value values.items) (world m.old b))))) }
+{
+    let calls = m.calls;
+    m.frames.push(Frame::Returned(line, calls))?;
+    m.calls = calls.checked_add(1).ok_or(AllocError)?;
+    m.most_calls = m.most_calls.max(m.calls);
+    called(m, program, line, callee, values)
+}

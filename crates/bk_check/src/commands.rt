@@ -1,0 +1,389 @@
+//! Commands: what a machine does for each, from its beginning or from a place in it that is sought.
+ghost use Rattle.std.specs.Prelude.{◌≡◌, ℕ, IfOk, List};
+ghost use Rattle.bk_tree.specs.Tree as t;
+ghost use Rattle.bk_tree.specs.Tree.{action, actions_in, expression, expressions_in, declarations_in, step_in, mention};
+ghost use Rattle.bk_meaning.specs.World.{World, with, done};
+ghost use Rattle.bk_meaning.specs.Environment.{past_each};
+ghost use Rattle.bk_meaning.specs.Lasting.{Program};
+ghost use Rattle.bk_meaning.specs.Seeking.{Mode};
+ghost use Rattle.bk_meaning.specs.Loops.{step_of as step_of_for};
+ghost use Rattle.bk_meaning.specs.Scopes as s;
+ghost use Rattle.bk_meaning.specs.Calls.{applied};
+ghost use Rattle.bk_meaning.specs.Commands as c;
+ghost use Rattle.bk_check.specs.Full.{full};
+ghost use Rattle.bk_check.specs.Plain.{takes_no_turn};
+ghost use Rattle.bk_check.specs.Views.{mode_in};
+ghost use Rattle.bk_objects.specs.Views.{value_in};
+ghost use Rattle.bk_lasting.specs.Views.{env_in};
+ghost use Rattle.bk_check.specs.Worlds.{Bytes, world};
+ghost use Rattle.bk_check.specs.Resume.{tag, done_tag, Comes, resumed, begun_loop};
+
+use crate::frame::{Exit, Frame, Next, OnDone, OnTruth, OnValue, Sought, Thing};
+use crate::loops::round;
+use crate::machine::Machine;
+use crate::seeking::{at_case, at_default, at_label, stands_in};
+use bk_base::Line;
+use bk_lasting::{Env, constant, count, count_command, count_each, labelled};
+use bk_objects::{Reason, Worth};
+use bk_tree::{Command, Decl, Expr, Name, Simple};
+use std::alloc::AllocError;
+
+/// A command that is done.
+pub fn act<'a>(
+    m: &mut Machine<'a>,
+    command: &'a Command,
+    mode: Option<Sought<'a>>,
+    env: Env<'a>,
+) -> Result<Next<'a>, AllocError>
+    ensures { IfOk result (λ next. (p : Program) (b : Bytes) →
+        Comes p m.new.frames.items next (world m.new b)
+        (resumed p m.old.frames.items (tag done_tag ((full p).act (action command.now) (mode_in mode.entry) (env_in env.entry) (world m.old b))))) }
+{
+    if is_empty(command) {
+        return Ok(Next::Gives(Thing::Done));
+    }
+    if m.turns == 0 {
+        return Ok(Next::Going);
+    }
+    m.turns -= 1;
+    act_inside(m, command, mode, env)
+}
+
+/// Whether a command is the empty one, which takes no turn.
+fn is_empty(command: &Command) -> bool
+    ensures { result ≡ takes_no_turn (action command.now) }
+{
+    matches!(command, Command::Empty)
+}
+
+/// A command, its turn taken.
+fn act_inside<'a>(
+    m: &mut Machine<'a>,
+    command: &'a Command,
+    mode: Option<Sought<'a>>,
+    env: Env<'a>,
+) -> Result<Next<'a>, AllocError>
+    ensures { IfOk result (λ next. (p : Program) (b : Bytes) →
+        Comes p m.new.frames.items next (world m.new b)
+        (resumed p m.old.frames.items (tag done_tag (c.act_of p (full p) (action command.now) (mode_in mode.entry) (env_in env.entry) (world m.old b))))) }
+{
+    match command {
+        Command::Empty => Ok(Next::Gives(Thing::Done)),
+        Command::Assign(line, dests, values) => assign(m, *line, dests, values, env),
+        Command::Call(line, callee, items) => call_command(m, *line, callee, items, env),
+        Command::Goto(_, name) => Ok(Next::Leaves(Exit::Goto(&name.letters))),
+        Command::Label(_, name, inside) => Ok(Next::Act(inside, at_label(mode, name), env)),
+        Command::Case(_, e, inside) => {
+            let word = constant(&env, e);
+            Ok(Next::Act(inside, at_case(mode, word), env))
+        }
+        Command::Default(_, inside) => Ok(Next::Act(inside, at_default(mode), env)),
+        Command::If(_, truth, condition, inside) => when(m, *truth, condition, inside, mode, env),
+        Command::Test(_, condition, a, b) => test(m, condition, a, b, mode, env),
+        Command::While(_, truth, condition, _) => while_command(
+            m, command, *truth, condition, mode, env,
+        ),
+        Command::Repeat(_, _) => round(m, command, mode, env),
+        Command::RepeatWhile(_, _, _, _) => round(m, command, mode, env),
+        Command::For(line, name, a, b, by, body) => for_command(
+            m, *line, name, a, b, by, body, env,
+        ),
+        Command::SwitchOn(line, value, inside) => switch(m, *line, value, inside, mode, env),
+        Command::ResultIs(_, value) => m.first_value(OnValue::Result, value, env),
+        Command::Simple(_, word) => Ok(simple(*word)),
+        Command::Block(_, decls, commands) => block(m, decls, commands, mode, env),
+    }
+}
+
+/// The step of a FOR, if it is a constant.
+fn step_of(env: &Env, by: &Option<Box<Expr>>) -> Option<u32>
+    ensures { result ≡ step_of_for (env_in env.now) (step_in by.now) }
+{
+    match by {
+        None => Some(1),
+        Some(step) => constant(env, step),
+    }
+}
+
+/// `Es := Es`
+fn assign<'a>(
+    m: &mut Machine<'a>,
+    line: Line,
+    dests: &'a [Expr],
+    values: &'a [Expr],
+    env: Env<'a>,
+) -> Result<Next<'a>, AllocError>
+    ensures { IfOk result (λ next. (p : Program) (b : Bytes) →
+        Comes p m.new.frames.items next (world m.new b)
+        (resumed p m.old.frames.items (tag done_tag (c.assigned (full p) (expressions_in dests.now) (env_in env.entry) (expressions_in values.now) (past_each (expressions_in dests.now) (env_in env.entry)) (world m.old b))))) }
+{
+    let behind = env.again()?.behind(count_each(dests)?)?;
+    assigned(m, line, dests, env, values, behind)
+}
+
+/// A command that is a call.
+fn call_command<'a>(
+    m: &mut Machine<'a>,
+    line: Line,
+    callee: &'a Expr,
+    items: &'a [Expr],
+    env: Env<'a>,
+) -> Result<Next<'a>, AllocError>
+    ensures { IfOk result (λ next. (p : Program) (b : Bytes) →
+        Comes p m.new.frames.items next (world m.new b)
+        (resumed p m.old.frames.items (tag done_tag (with (applied p (full p) (expression callee.now) (expressions_in items.now) (env_in env.entry) (world m.old b)) (λ _ w. done w))))) }
+{
+    m.frames.push(Frame::Value(OnValue::Dropped))?;
+    m.apply(line, callee, items, env)
+}
+
+/// FOR.
+fn for_command<'a>(
+    m: &mut Machine<'a>,
+    line: Line,
+    name: &'a Name,
+    first: &'a Expr,
+    last: &'a Expr,
+    by: &'a Option<Box<Expr>>,
+    body: &'a Command,
+    env: Env<'a>,
+) -> Result<Next<'a>, AllocError>
+    ensures { IfOk result (λ next. (p : Program) (bytes : Bytes) (l : ℕ) (mode : Mode) →
+        Comes p m.new.frames.items next (world m.new bytes)
+        (resumed p m.old.frames.items (tag done_tag (c.act_of p (full p) (t.for_loop l (mention name.now) (expression first.now) (expression last.now) (step_in by.now) (action body.now)) mode (env_in env.entry) (world m.old bytes))))) }
+{
+    let behind = env.again()?.behind(count(first)?)?;
+    let step = step_of(&env, by);
+    m.first_value(
+        OnValue::ForStart(line, name, last, behind, body, step),
+        first,
+        env,
+    )
+}
+
+/// SWITCHON.
+fn switch<'a>(
+    m: &mut Machine<'a>,
+    line: Line,
+    value: &'a Expr,
+    inside: &'a Command,
+    mode: Option<Sought<'a>>,
+    env: Env<'a>,
+) -> Result<Next<'a>, AllocError>
+    ensures { IfOk result (λ next. (p : Program) (bytes : Bytes) (l : ℕ) →
+        Comes p m.new.frames.items next (world m.new bytes)
+        (resumed p m.old.frames.items (tag done_tag (c.act_of p (full p) (t.switch l (expression value.now) (action inside.now)) (mode_in mode.entry) (env_in env.entry) (world m.old bytes))))) }
+{
+    let behind = env.again()?.behind(count(value)?)?;
+    match mode {
+        None => m.first_value(OnValue::Switch(line, inside, behind), value, env),
+        Some(sought) => m.first_act(OnDone::Cases, inside, Some(sought), behind),
+    }
+}
+
+/// IF (true) or UNLESS (false).
+fn when<'a>(
+    m: &mut Machine<'a>,
+    truth: bool,
+    condition: &'a Expr,
+    inside: &'a Command,
+    mode: Option<Sought<'a>>,
+    env: Env<'a>,
+) -> Result<Next<'a>, AllocError>
+    ensures { IfOk result (λ next. (p : Program) (bytes : Bytes) (l : ℕ) →
+        Comes p m.new.frames.items next (world m.new bytes)
+        (resumed p m.old.frames.items (tag done_tag (c.act_of p (full p) (t.when l truth (expression condition.now) (action inside.now)) (mode_in mode.entry) (env_in env.entry) (world m.old bytes))))) }
+{
+    let behind = env.again()?.behind(count(condition)?)?;
+    match mode {
+        None => m.first_truth(OnTruth::When(truth, inside, behind), condition, env),
+        Some(sought) => Ok(Next::Act(inside, Some(sought), behind)),
+    }
+}
+
+/// WHILE (true) or UNTIL (false).
+fn while_command<'a>(
+    m: &mut Machine<'a>,
+    command: &'a Command,
+    truth: bool,
+    condition: &'a Expr,
+    mode: Option<Sought<'a>>,
+    env: Env<'a>,
+) -> Result<Next<'a>, AllocError>
+    ensures { IfOk result (λ next. (p : Program) (b : Bytes) →
+        Comes p m.new.frames.items next (world m.new b)
+        (resumed p m.old.frames.items (tag done_tag (begun_loop p truth (expression condition.now) (action command.now) (mode_in mode.entry) (env_in env.entry) (world m.old b))))) }
+{
+    match mode {
+        None => {
+            let again = env.again()?;
+            m.first_truth(OnTruth::First(truth, command, again), condition, env)
+        }
+        Some(sought) => round(m, command, Some(sought), env),
+    }
+}
+
+/// A command of one word.
+fn simple<'a>(word: Simple) -> Next<'a>
+    ensures { (p : Program) (fs : List Frame) (w : World) → Comes p fs result w (resumed p fs (tag done_tag (c.simple_exit word w))) }
+{
+    match word {
+        Simple::Break => Next::Leaves(Exit::Break),
+        Simple::Loop => Next::Leaves(Exit::Loop),
+        Simple::EndCase => Next::Leaves(Exit::EndCase),
+        Simple::Return => Next::Leaves(Exit::Return),
+        Simple::Finish => Next::Status(0),
+    }
+}
+
+/// TEST.
+fn test<'a>(
+    m: &mut Machine<'a>,
+    condition: &'a Expr,
+    a: &'a Command,
+    b: &'a Command,
+    mode: Option<Sought<'a>>,
+    env: Env<'a>,
+) -> Result<Next<'a>, AllocError>
+    ensures { IfOk result (λ next. (p : Program) (bytes : Bytes) (l : ℕ) →
+        Comes p m.new.frames.items next (world m.new bytes)
+        (resumed p m.old.frames.items (tag done_tag (c.act_of p (full p) (t.test l (expression condition.now) (action a.now) (action b.now)) (mode_in mode.entry) (env_in env.entry) (world m.old bytes))))) }
+{
+    let behind = env.again()?.behind(count(condition)?)?;
+    match mode {
+        None => m.first_truth(OnTruth::Test(a, b, behind), condition, env),
+        Some(sought) => {
+            if stands_in(sought, &env, a) {
+                Ok(Next::Act(a, Some(sought), behind))
+            } else {
+                let further = behind.behind(count_command(a)?)?;
+                Ok(Next::Act(b, Some(sought), further))
+            }
+        }
+    }
+}
+
+/// Assignments, one after another.
+pub fn assigned<'a>(
+    m: &mut Machine<'a>,
+    line: Line,
+    dests: &'a [Expr],
+    there: Env<'a>,
+    values: &'a [Expr],
+    env: Env<'a>,
+) -> Result<Next<'a>, AllocError>
+    ensures { IfOk result (λ next. (p : Program) (b : Bytes) →
+        Comes p m.new.frames.items next (world m.new b)
+        (resumed p m.old.frames.items (tag done_tag (c.assigned (full p) (expressions_in dests.now) (env_in there.entry) (expressions_in values.now) (env_in env.entry) (world m.old b))))) }
+{
+    match dests.split_first() {
+        None => Ok(Next::Gives(Thing::Done)),
+        Some(_) => match values.split_first() {
+            None => Ok(Next::Gives(Thing::Done)),
+            Some((first, rest)) => {
+                let behind = env.again()?.behind(count(first)?)?;
+                m.first_value(
+                    OnValue::Assigned(line, dests, there, rest, behind),
+                    first,
+                    env,
+                )
+            }
+        },
+    }
+}
+
+/// Commands in order. Seeking passes over those in which the place does not stand.
+pub fn in_order<'a>(
+    m: &mut Machine<'a>,
+    commands: &'a [Command],
+    mode: Option<Sought<'a>>,
+    env: Env<'a>,
+) -> Result<Next<'a>, AllocError>
+    ensures { IfOk result (λ next. (p : Program) (b : Bytes) →
+        Comes p m.new.frames.items next (world m.new b)
+        (resumed p m.old.frames.items (tag done_tag (s.in_order (full p) (actions_in commands.now) (mode_in mode.entry) (env_in env.entry) (world m.old b))))) }
+{
+    match commands.split_first() {
+        None => Ok(Next::Gives(Thing::Done)),
+        Some((first, rest)) => {
+            let behind = env.again()?.behind(count_command(first)?)?;
+            match mode {
+                None => m.first_act(OnDone::Behind(rest, behind), first, None, env),
+                Some(sought) => {
+                    if stands_in(sought, &env, first) {
+                        m.first_act(OnDone::Behind(rest, behind), first, Some(sought), env)
+                    } else {
+                        Ok(Next::InOrder(rest, Some(sought), behind))
+                    }
+                }
+            }
+        }
+    }
+}
+
+/// The commands of a scope, which owns their labels.
+pub fn scope<'a>(
+    m: &mut Machine<'a>,
+    commands: &'a [Command],
+    mode: Option<Sought<'a>>,
+    env: Env<'a>,
+) -> Result<Next<'a>, AllocError>
+    ensures { IfOk result (λ next. (p : Program) (b : Bytes) →
+        Comes p m.new.frames.items next (world m.new b)
+        (resumed p m.old.frames.items (tag done_tag (s.scope_of (full p) (actions_in commands.now) (mode_in mode.entry) (env_in env.entry) (world m.old b))))) }
+{
+    m.frames
+        .push(Frame::Done(OnDone::Scope(commands, env.again()?)))?;
+    let inside = labelled(m.alloc, commands, env)?;
+    Ok(Next::InOrder(commands, mode, inside))
+}
+
+/// A block. One with declarations is a scope, and its objects die behind it.
+fn block<'a>(
+    m: &mut Machine<'a>,
+    decls: &'a [Decl],
+    commands: &'a [Command],
+    mode: Option<Sought<'a>>,
+    env: Env<'a>,
+) -> Result<Next<'a>, AllocError>
+    ensures { IfOk result (λ next. (p : Program) (b : Bytes) (l : ℕ) →
+        Comes p m.new.frames.items next (world m.new b)
+        (resumed p m.old.frames.items (tag done_tag (c.act_of p (full p) (t.block l (declarations_in decls.now) (actions_in commands.now)) (mode_in mode.entry) (env_in env.entry) (world m.old b))))) }
+{
+    match decls.split_first() {
+        None => Ok(Next::InOrder(commands, mode, env)),
+        Some(_) => {
+            m.frames.push(Frame::Closing(m.store.made()))?;
+            Ok(Next::Declare(decls, commands, env))
+        }
+    }
+}
+
+/// The command of a SWITCHON, from the CASE of a value, else from the DEFAULT.
+pub fn choose_case<'a>(
+    m: &mut Machine<'a>,
+    line: Line,
+    value: Worth,
+    command: &'a Command,
+    env: Env<'a>,
+) -> Result<Next<'a>, AllocError>
+    ensures { IfOk result (λ next. (p : Program) (b : Bytes) →
+        Comes p m.new.frames.items next (world m.new b)
+        (resumed p m.old.frames.items (tag done_tag (c.choose_case (full p) (value_in value) (action command.now) (env_in env.entry) (world m.old b))))) }
+{
+    match value {
+        Worth::Number(n) => {
+            if stands_in(Sought::Case(n), &env, command) {
+                m.first_act(OnDone::Cases, command, Some(Sought::Case(n)), env)
+            } else if stands_in(Sought::Default, &env, command) {
+                m.first_act(OnDone::Cases, command, Some(Sought::Default), env)
+            } else {
+                Ok(Next::Gives(Thing::Done))
+            }
+        }
+        Worth::Address(_, _) => Ok(Next::Undefined(line, Reason::NoNumber)),
+        Worth::Procedure(_) => Ok(Next::Undefined(line, Reason::NoNumber)),
+        Worth::Routine(_) => Ok(Next::Undefined(line, Reason::NoNumber)),
+        Worth::Unset => Ok(Next::Undefined(line, Reason::NoNumber)),
+    }
+}

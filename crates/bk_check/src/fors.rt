@@ -1,0 +1,243 @@
+//! FOR: the variable, which is an object, is compared with the limit, and the step is added to it.
+ghost use Rattle.std.specs.Prelude.{◌≡◌, IfOk, OnOk, ◌∷◌, []};
+ghost use Rattle.bk_meaning.specs.Memory.{made};
+ghost use Rattle.bk_tree.specs.Tree.{action};
+ghost use Rattle.bk_meaning.specs.World.{World, Outcome, Done, with, given};
+ghost use Rattle.bk_meaning.specs.Lasting.{Program};
+ghost use Rattle.bk_meaning.specs.Values.{address, holds};
+ghost use Rattle.bk_meaning.specs.Parts;
+ghost use Rattle.bk_meaning.specs.Loops.{for_rounds_of, for_loop, for_test as test_of, for_step as step_of, relation as relates};
+ghost use Rattle.bk_check.specs.Full.{full};
+ghost use Rattle.bk_objects.specs.Views.{value_in};
+ghost use Rattle.bk_lasting.specs.Views.{env_in};
+ghost use Rattle.bk_check.specs.Worlds.{Bytes, world};
+ghost use Rattle.bk_check.specs.Resume.{tag, done_tag, Comes, resumed, next_for as behind_for, further_for};
+ghost use Rattle.bk_objects.specs.Views.{outcome_of};
+ghost use Rattle.bk_check.specs.Fors.{tested as tested_by, stepped as stepped_by, truth_then, limit_then};
+
+use crate::frame::{For, Frame, Next, OnDone, Thing};
+use crate::machine::Machine;
+use bk_base::Line;
+use bk_lasting::{Env, Sense};
+use bk_objects::{Cell, Computed, Place, Reason, Store, Worth, combine, put, read, truth_of};
+use bk_tree::{Command, Name, Operator};
+use std::alloc::AllocError;
+
+/// What the test of a FOR gives.
+#[derive(Clone, Copy)]
+pub enum Tested {
+    Holds(bool),
+    DivideByZero,
+    Undefined(Reason),
+}
+
+/// What the step of a FOR gives.
+#[derive(Clone, Copy)]
+pub enum Stepped {
+    Done,
+    DivideByZero,
+    Undefined(Reason),
+}
+
+/// What the variable of a FOR is compared by.
+fn relation(step: u32) -> Operator
+    ensures { result ≡ relates step }
+{
+    if step < 0x8000_0000 {
+        Operator::AtMost
+    } else {
+        Operator::AtLeast
+    }
+}
+
+/// The truth of what was compared.
+fn judged(store: &Store, came: Computed) -> Tested
+    ensures { (w : World) (go : World → Outcome Done) → w.memory ≡ store.now → tested_by go result w ≡ with (outcome_of came w) (truth_then go) }
+{
+    match came {
+        Computed::Value(x) => match truth_of(store, x) {
+            Ok(truth) => Tested::Holds(truth),
+            Err(reason) => Tested::Undefined(reason),
+        },
+        Computed::DivideByZero => Tested::DivideByZero,
+        Computed::Undefined(reason) => Tested::Undefined(reason),
+    }
+}
+
+/// The variable against the limit.
+fn compared(store: &Store, step: u32, came: Computed, limit: Worth) -> Tested
+    ensures { (w : World) (go : World → Outcome Done) → w.memory ≡ store.now → tested_by go result w ≡ with (outcome_of came w) (limit_then go step (value_in limit)) }
+{
+    match came {
+        Computed::Value(x) => judged(store, combine(store, relation(step), x, limit)),
+        Computed::DivideByZero => Tested::DivideByZero,
+        Computed::Undefined(reason) => Tested::Undefined(reason),
+    }
+}
+
+/// The test of a FOR.
+fn try_limit(store: &Store, object: u64, limit: Worth, step: u32) -> Tested
+    ensures { (w : World) (go : World → Outcome Done) → w.memory ≡ store.now → tested_by go result w ≡ test_of object (value_in limit) step go w }
+{
+    compared(store, step, read(store, Worth::Address(object, 0)), limit)
+}
+
+/// A value goes to the variable.
+fn put_sum(store: &mut Store, object: u64, came: Computed) -> Stepped
+    ensures { (w : World) → w.memory ≡ store.old → stepped_by result store.new w ≡ with (outcome_of came w) (Parts.store (Parts.at (address object 0))) }
+{
+    match came {
+        Computed::Value(x) => match put(store, Place::Cell(Worth::Address(object, 0)), x) {
+            Ok(()) => Stepped::Done,
+            Err(reason) => Stepped::Undefined(reason),
+        },
+        Computed::DivideByZero => Stepped::DivideByZero,
+        Computed::Undefined(reason) => Stepped::Undefined(reason),
+    }
+}
+
+/// The step is added to the variable.
+fn add_step(store: &mut Store, object: u64, step: u32) -> Stepped
+    ensures { (w : World) → w.memory ≡ store.old → stepped_by result store.new w ≡ step_of object step w }
+{
+    match read(store, Worth::Address(object, 0)) {
+        Computed::Value(x) => {
+            let sum = combine(store, Operator::Add, x, Worth::Number(step));
+            put_sum(store, object, sum)
+        }
+        Computed::DivideByZero => Stepped::DivideByZero,
+        Computed::Undefined(reason) => Stepped::Undefined(reason),
+    }
+}
+
+/// A FOR whose first value, limit and step are known.
+pub fn begin_for<'a>(
+    m: &mut Machine<'a>,
+    line: Line,
+    name: &'a Name,
+    env: Env<'a>,
+    start: Worth,
+    limit: Worth,
+    body: &'a Command,
+    step: Option<u32>,
+) -> Result<Next<'a>, AllocError>
+    ensures { IfOk result (λ next. (p : Program) (b : Bytes) →
+        Comes p m.new.frames.items next (world m.new b)
+        (resumed p m.old.frames.items (tag done_tag (with (given step (world m.old b)) (λ n w. for_loop (full p) name.now.letters.items (action body.now) (value_in start) (value_in limit) n (env_in env.entry) w))))) }
+{
+    match step {
+        None => Ok(Next::Undefined(line, Reason::NoNumber)),
+        Some(step) => begin_by(m, line, name, env, start, limit, body, step),
+    }
+}
+
+/// A FOR with this step: its variable is made, and dies behind it.
+fn begin_by<'a>(
+    m: &mut Machine<'a>,
+    line: Line,
+    name: &'a Name,
+    env: Env<'a>,
+    start: Worth,
+    limit: Worth,
+    body: &'a Command,
+    step: u32,
+) -> Result<Next<'a>, AllocError>
+    ensures { IfOk result (λ next. (p : Program) (b : Bytes) →
+        Comes p m.new.frames.items next (world m.new b)
+        (resumed p m.old.frames.items (tag done_tag (for_loop (full p) name.now.letters.items (action body.now) (value_in start) (value_in limit) step (env_in env.entry) (world m.old b))))) }
+{
+    let object = m.store.made();
+    m.frames.push(Frame::Closing(object))?;
+    make_one(&mut m.store, start)?;
+    let inside = env.bind(m.alloc, &name.letters, Sense::Cell(object, 0))?;
+    first_round(
+        m,
+        For {
+            line,
+            object,
+            limit,
+            step,
+            body,
+            env: inside,
+        },
+    )
+}
+
+/// An object of one cell.
+fn make_one(store: &mut Store, value: Worth) -> Result<(), AllocError>
+    ensures made { OnOk result (store.new ≡ made (holds (value_in value) ∷ []) store.old) }
+{
+    store.make(&[Cell::Holds(value)])
+}
+
+/// The test and the first round of a FOR.
+fn first_round<'a>(m: &mut Machine<'a>, run: For<'a>) -> Result<Next<'a>, AllocError>
+    ensures { IfOk result (λ next. (p : Program) (b : Bytes) →
+        Comes p m.new.frames.items next (world m.new b)
+        (resumed p m.old.frames.items (tag done_tag (test_of run.entry.object (value_in run.entry.limit) run.entry.step (λ w. for_rounds_of (full p) (action run.entry.body.now) run.entry.object (value_in run.entry.limit) run.entry.step (env_in run.entry.env) w) (world m.old b))))) }
+{
+    match try_limit(&m.store, run.object, run.limit, run.step) {
+        Tested::Holds(truth) => if truth {
+            for_round(m, run)
+        } else {
+            Ok(Next::Gives(Thing::Done))
+        },
+        Tested::DivideByZero => Ok(Next::DivideByZero),
+        Tested::Undefined(reason) => Ok(Next::Undefined(run.line, reason)),
+    }
+}
+
+/// The rounds of a FOR, from one on.
+fn for_round<'a>(m: &mut Machine<'a>, run: For<'a>) -> Result<Next<'a>, AllocError>
+    ensures { IfOk result (λ next. (p : Program) (b : Bytes) →
+        Comes p m.new.frames.items next (world m.new b)
+        (resumed p m.old.frames.items (tag done_tag (for_rounds_of (full p) (action run.entry.body.now) run.entry.object (value_in run.entry.limit) run.entry.step (env_in run.entry.env) (world m.old b))))) }
+{
+    let body = run.body;
+    let env = run.env.again()?;
+    m.frames.push(Frame::Done(OnDone::ForRound(run)))?;
+    m.alone(body, None, env)
+}
+
+/// A further round of a FOR, which takes a turn.
+fn further_round<'a>(m: &mut Machine<'a>, run: For<'a>) -> Result<Next<'a>, AllocError>
+    ensures { IfOk result (λ next. (p : Program) (b : Bytes) →
+        Comes p m.new.frames.items next (world m.new b)
+        (resumed p m.old.frames.items (tag done_tag (further_for p run.entry (world m.old b))))) }
+{
+    if m.turns == 0 {
+        return Ok(Next::Going);
+    }
+    m.turns -= 1;
+    for_round(m, run)
+}
+
+/// The test behind a round.
+fn test_again<'a>(m: &mut Machine<'a>, run: For<'a>) -> Result<Next<'a>, AllocError>
+    ensures { IfOk result (λ next. (p : Program) (b : Bytes) →
+        Comes p m.new.frames.items next (world m.new b)
+        (resumed p m.old.frames.items (tag done_tag (test_of run.entry.object (value_in run.entry.limit) run.entry.step (further_for p run.entry) (world m.old b))))) }
+{
+    match try_limit(&m.store, run.object, run.limit, run.step) {
+        Tested::Holds(truth) => if truth {
+            further_round(m, run)
+        } else {
+            Ok(Next::Gives(Thing::Done))
+        },
+        Tested::DivideByZero => Ok(Next::DivideByZero),
+        Tested::Undefined(reason) => Ok(Next::Undefined(run.line, reason)),
+    }
+}
+
+/// Behind a round of a FOR.
+pub fn next_for<'a>(m: &mut Machine<'a>, run: For<'a>) -> Result<Next<'a>, AllocError>
+    ensures { IfOk result (λ next. (p : Program) (b : Bytes) →
+        Comes p m.new.frames.items next (world m.new b)
+        (resumed p m.old.frames.items (tag done_tag (behind_for p run.entry (world m.old b))))) }
+{
+    match add_step(&mut m.store, run.object, run.step) {
+        Stepped::Done => test_again(m, run),
+        Stepped::DivideByZero => Ok(Next::DivideByZero),
+        Stepped::Undefined(reason) => Ok(Next::Undefined(run.line, reason)),
+    }
+}

@@ -1,0 +1,199 @@
+//! What is still to be done.
+
+use bk_base::Line;
+use bk_lasting::Env;
+use bk_objects::{Place, Reason, Routine, Worth};
+use bk_tree::{Command, Decl, Def, Expr, Init, Name, Operator, Prefix};
+
+/// What was given.
+#[derive(Clone, Copy, Debug)]
+pub enum Thing {
+    Value(Worth),
+    Truth(bool),
+    Target(Place),
+    /// A command is done.
+    Done,
+}
+
+/// How a part is left.
+#[derive(Clone, Copy)]
+pub enum Exit<'a> {
+    Break,
+    Loop,
+    EndCase,
+    Goto(&'a [u8]),
+    Result(Worth),
+    Return,
+}
+
+/// A place in a command that is sought.
+#[derive(Clone, Copy)]
+pub enum Sought<'a> {
+    Label(&'a [u8]),
+    /// The CASE with this word.
+    Case(u32),
+    Default,
+}
+
+/// What goes on with a value.
+#[derive(Drop)]
+pub enum OnValue<'a> {
+    /// `!`, with the address.
+    Contents(Line),
+    /// Another prefix.
+    Prefix(Line, Prefix),
+    /// An operator, with its first operand.
+    Left(Line, Operator, &'a Expr, Env<'a>),
+    /// With its second, too.
+    Right(Line, Operator, Worth),
+    /// The value of a condition.
+    Judge(Line),
+    /// The address of a place.
+    At,
+    /// The vector, and the offset behind it.
+    Vector(Line, &'a Expr, Env<'a>),
+    Offset(Line, Worth),
+    /// The string, and the number of its byte behind it.
+    String(&'a Expr, Env<'a>),
+    Byte(Worth),
+    /// An argument: those behind it and what the names mean there; those before; the procedure.
+    Argument(Line, &'a [Expr], Env<'a>, Vec<Worth>, &'a Expr, Env<'a>),
+    /// The procedure, with its arguments.
+    Callee(Line, Vec<Worth>),
+    /// The value of a command that is a call.
+    Dropped,
+    /// The value of RESULTIS.
+    Result,
+    /// The value of an assignment: the destinations, and the values behind it.
+    Assigned(Line, &'a [Expr], Env<'a>, &'a [Expr], Env<'a>),
+    /// The value of SWITCHON, and its command.
+    Switch(Line, &'a Command, Env<'a>),
+    /// The first value of a FOR: the variable, the limit, the command and the step.
+    ForStart(Line, &'a Name, &'a Expr, Env<'a>, &'a Command, Option<u32>),
+    /// Its limit.
+    ForLimit(Line, &'a Name, Env<'a>, Worth, &'a Command, Option<u32>),
+    /// What a variable of LET begins with: what those behind it begin with, and the names from this one on.
+    Starts(&'a [Init], Env<'a>, &'a [Name], Let<'a>),
+}
+
+/// What goes on with a truth.
+#[derive(Drop)]
+pub enum OnTruth<'a> {
+    /// Of these values, the first or the second.
+    Choice(&'a Expr, &'a Expr, Env<'a>),
+    Not,
+    And(&'a Expr, Env<'a>),
+    Or(&'a Expr, Env<'a>),
+    /// IF (true) or UNLESS (false).
+    When(bool, &'a Command, Env<'a>),
+    Test(&'a Command, &'a Command, Env<'a>),
+    /// The first round of a loop.
+    First(bool, &'a Command, Env<'a>),
+    /// A further round.
+    Further(bool, &'a Command, Env<'a>),
+}
+
+/// What goes on with a place.
+#[derive(Drop)]
+pub enum OnTarget<'a> {
+    /// `@`
+    Address(Line),
+    /// This value goes there; the assignments behind it.
+    Put(Line, Worth, &'a [Expr], Env<'a>, &'a [Expr], Env<'a>),
+}
+
+/// What goes on behind a command.
+#[derive(Drop)]
+pub enum OnDone<'a> {
+    /// The commands behind it.
+    Behind(&'a [Command], Env<'a>),
+    /// The body of a procedure with BE is done.
+    Body,
+    /// The command of a VALOF is done.
+    Valof,
+    /// The commands of a scope.
+    Scope(&'a [Command], Env<'a>),
+    /// A scope with this one command.
+    Alone(&'a Command, Env<'a>),
+    /// The command of a SWITCHON.
+    Cases,
+    /// A round of a loop.
+    Round(&'a Command, Env<'a>),
+    /// A round of a FOR.
+    ForRound(For<'a>),
+}
+
+/// What is to be done with what the part inside gives.
+#[derive(Drop)]
+pub enum Frame<'a> {
+    Value(OnValue<'a>),
+    Truth(OnTruth<'a>),
+    Target(OnTarget<'a>),
+    Done(OnDone<'a>),
+    /// So many calls are active again.
+    Returned(Line, u64),
+    /// The objects from a number on die.
+    Closing(u64),
+}
+
+/// A FOR that runs.
+#[derive(Drop)]
+pub struct For<'a> {
+    pub line: Line,
+    /// The number of its variable, which is an object.
+    pub object: u64,
+    pub limit: Worth,
+    pub step: u32,
+    pub body: &'a Command,
+    pub env: Env<'a>,
+}
+
+/// A variable, and what it begins with.
+#[derive(Clone, Copy)]
+pub struct Start<'a> {
+    pub name: &'a [u8],
+    pub value: Worth,
+}
+
+/// A LET of a block, as far as it is done.
+#[derive(Drop)]
+pub struct Let<'a> {
+    /// The variables that have their values.
+    pub starts: Vec<Start<'a>>,
+    /// The definitions that are left, and what names mean there.
+    pub defs: &'a [Def],
+    pub here: Env<'a>,
+    /// What names mean behind the LET, but for its variables.
+    pub behind: Env<'a>,
+    /// The declarations and the commands behind it.
+    pub decls: &'a [Decl],
+    pub commands: &'a [Command],
+}
+
+/// What comes next.
+#[derive(Drop)]
+pub enum Next<'a> {
+    Value(&'a Expr, Env<'a>),
+    Truth(&'a Expr, Env<'a>),
+    Target(&'a Expr, Env<'a>),
+    /// A command, from its beginning or from a place in it that is sought.
+    Act(&'a Command, Option<Sought<'a>>, Env<'a>),
+    /// Commands in order.
+    InOrder(&'a [Command], Option<Sought<'a>>, Env<'a>),
+    /// The declarations of a block, and its commands.
+    Declare(&'a [Decl], &'a [Command], Env<'a>),
+    /// The definitions that are left of a LET.
+    Define(Let<'a>),
+    /// What variables begin with, and their names.
+    Starts(&'a [Init], Env<'a>, &'a [Name], Let<'a>),
+    Gives(Thing),
+    Leaves(Exit<'a>),
+    /// A routine of the library is called.
+    Library(Line, Routine, Vec<Worth>),
+    /// The program ends with this status.
+    Status(u32),
+    DivideByZero,
+    Undefined(Line, Reason),
+    /// No turn is left.
+    Going,
+}

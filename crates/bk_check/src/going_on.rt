@@ -1,0 +1,469 @@
+//! Frames go on with what the parts inside gave.
+ghost use Rattle.std.specs.Prelude.{◌≡◌, IfOk, List};
+ghost use Rattle.bk_tree.specs.Tree.{action, actions_in, expressions_in};
+ghost use Rattle.bk_meaning.specs.World.{World, goto, gives, leaves, undefined, done};
+ghost use Rattle.bk_meaning.specs.Scopes.{alone};
+ghost use Rattle.bk_meaning.specs.Lasting.{Program};
+ghost use Rattle.bk_check.specs.Full.{full};
+ghost use Rattle.bk_check.specs.Views.{program_in};
+ghost use Rattle.bk_objects.specs.Views.{value_in};
+ghost use Rattle.bk_lasting.specs.Views.{env_in};
+ghost use Rattle.bk_check.specs.Worlds.{Bytes, world};
+ghost use Rattle.bk_check.specs.Resume.{tag, done_tag, exit_in, thing_in, lands as landing_in, Comes, resumed, resume_value, resume_truth, resume_target, resume_done, resume_left, resume_given, value_goes, truth_goes, target_goes, done_goes, done_left, assigned_to};
+ghost use Rattle.bk_objects.specs.Views.{place_in};
+
+use crate::blocks::named;
+use crate::calls::call;
+use crate::commands::{assigned, choose_case, scope};
+use crate::fors::{begin_for, next_for};
+use crate::frame::{Exit, Frame, Next, OnDone, OnTarget, OnTruth, OnValue, Sought, Thing};
+use crate::loops::{further_round, next_round, round};
+use crate::machine::{Machine, came};
+use crate::seeking::{stands_in, stands_in_one};
+use bk_base::Line;
+use bk_lasting::{Env, Lasting, count, count_command};
+use bk_objects::{Place, Reason, Worth, prefixed, put};
+use bk_tree::{Command, Expr};
+use std::alloc::AllocError;
+
+/// What goes on with a value.
+fn with_value<'a>(
+    m: &mut Machine<'a>,
+    program: &'a [Lasting<'a>],
+    frame: OnValue<'a>,
+    x: Worth,
+) -> Result<Next<'a>, AllocError>
+    ensures { IfOk result (λ next. (b : Bytes) →
+        Comes (program_in program.now) m.new.frames.items next (world m.new b)
+        (resumed (program_in program.now) m.old.frames.items (value_goes (program_in program.now) frame.entry (gives (value_in x) (world m.old b))))) }
+{
+    match frame {
+        OnValue::Contents(line) => Ok(m.fetched(line, x)),
+        OnValue::Prefix(line, prefix) => Ok(came(line, prefixed(prefix, x))),
+        OnValue::Left(line, operator, b, env) => m.first_value(
+            OnValue::Right(line, operator, x),
+            b,
+            env,
+        ),
+        OnValue::Right(line, operator, first) => Ok(m.combined(line, operator, first, x)),
+        OnValue::Judge(line) => Ok(m.truth_given(line, x)),
+        OnValue::At => Ok(Next::Gives(Thing::Target(Place::Cell(x)))),
+        OnValue::Vector(line, b, env) => m.first_value(OnValue::Offset(line, x), b, env),
+        OnValue::Offset(line, first) => Ok(m.place_given(line, first, x)),
+        OnValue::String(b, env) => m.first_value(OnValue::Byte(x), b, env),
+        OnValue::Byte(first) => Ok(Next::Gives(Thing::Target(Place::Byte(first, x)))),
+        OnValue::Argument(line, items, here, before, callee, env) => {
+            let mut before = before;
+            before.push(x)?;
+            m.arguments(line, items, here, before, callee, env)
+        }
+        OnValue::Callee(line, values) => call(m, program, line, x, values),
+        OnValue::Dropped => Ok(Next::Gives(Thing::Done)),
+        OnValue::Result => Ok(Next::Leaves(Exit::Result(x))),
+        OnValue::Assigned(line, dests, there, values, env) => put_first(
+            m, line, x, dests, there, values, env,
+        ),
+        OnValue::Switch(line, command, env) => choose_case(m, line, x, command, env),
+        OnValue::ForStart(line, name, limit, env, body, step) => {
+            let behind = env.again()?.behind(count(limit)?)?;
+            m.first_value(
+                OnValue::ForLimit(line, name, behind, x, body, step),
+                limit,
+                env,
+            )
+        }
+        OnValue::ForLimit(line, name, env, start, body, step) => begin_for(
+            m, line, name, env, start, x, body, step,
+        ),
+        OnValue::Starts(inits, here, names, rest) => named(inits, here, names, x, rest),
+    }
+}
+
+/// A value goes to the first of these destinations; the assignments behind it.
+fn put_first<'a>(
+    m: &mut Machine<'a>,
+    line: Line,
+    x: Worth,
+    dests: &'a [Expr],
+    there: Env<'a>,
+    values: &'a [Expr],
+    env: Env<'a>,
+) -> Result<Next<'a>, AllocError>
+    ensures { IfOk result (λ next. (p : Program) (b : Bytes) →
+        Comes p m.new.frames.items next (world m.new b)
+        (resumed p m.old.frames.items (tag done_tag (assigned_to (full p) (value_in x) (expressions_in dests.now) (env_in there.entry) (expressions_in values.now) (env_in env.entry) (world m.old b))))) }
+{
+    match dests.split_first() {
+        Some((first, rest)) => {
+            let behind = there.again()?.behind(count(first)?)?;
+            m.first_target(
+                OnTarget::Put(line, x, rest, behind, values, env),
+                first,
+                there,
+            )
+        }
+        None => Ok(Next::Gives(Thing::Done)),
+    }
+}
+
+/// What goes on with a truth.
+fn with_truth<'a>(m: &mut Machine<'a>, frame: OnTruth<'a>, x: bool) -> Result<Next<'a>, AllocError>
+    ensures { IfOk result (λ next. (p : Program) (b : Bytes) →
+        Comes p m.new.frames.items next (world m.new b)
+        (resumed p m.old.frames.items (truth_goes p frame.entry (gives x (world m.old b))))) }
+{
+    match frame {
+        OnTruth::Choice(a, b, env) => {
+            if x {
+                Ok(Next::Value(a, env))
+            } else {
+                let behind = env.behind(count(a)?)?;
+                Ok(Next::Value(b, behind))
+            }
+        }
+        OnTruth::Not => Ok(Next::Gives(Thing::Truth(!x))),
+        OnTruth::And(b, env) => if x {
+            Ok(Next::Truth(b, env))
+        } else {
+            Ok(Next::Gives(Thing::Truth(false)))
+        },
+        OnTruth::Or(b, env) => if x {
+            Ok(Next::Gives(Thing::Truth(true)))
+        } else {
+            Ok(Next::Truth(b, env))
+        },
+        OnTruth::When(truth, command, env) => if truth == x {
+            Ok(Next::Act(command, None, env))
+        } else {
+            Ok(Next::Gives(Thing::Done))
+        },
+        OnTruth::Test(a, b, env) => {
+            if x {
+                Ok(Next::Act(a, None, env))
+            } else {
+                let behind = env.behind(count_command(a)?)?;
+                Ok(Next::Act(b, None, behind))
+            }
+        }
+        OnTruth::First(truth, command, env) => if truth == x {
+            round(m, command, None, env)
+        } else {
+            Ok(Next::Gives(Thing::Done))
+        },
+        OnTruth::Further(truth, command, env) => if truth == x {
+            further_round(m, command, env)
+        } else {
+            Ok(Next::Gives(Thing::Done))
+        },
+    }
+}
+
+/// What goes on with a place.
+fn with_target<'a>(
+    m: &mut Machine<'a>,
+    frame: OnTarget<'a>,
+    x: Place,
+) -> Result<Next<'a>, AllocError>
+    ensures { IfOk result (λ next. (p : Program) (b : Bytes) →
+        Comes p m.new.frames.items next (world m.new b)
+        (resumed p m.old.frames.items (target_goes p frame.entry (gives (place_in x) (world m.old b))))) }
+{
+    match frame {
+        OnTarget::Address(line) => match x {
+            Place::Cell(at) => Ok(Next::Gives(Thing::Value(at))),
+            Place::Byte(_, _) => Ok(Next::Undefined(line, Reason::NoPlace)),
+        },
+        OnTarget::Put(line, value, dests, there, values, env) => match put(&mut m.store, x, value) {
+            Ok(()) => assigned(m, line, dests, there, values, env),
+            Err(reason) => Ok(Next::Undefined(line, reason)),
+        },
+    }
+}
+
+/// What goes on behind a command.
+fn with_done<'a>(m: &mut Machine<'a>, frame: OnDone<'a>) -> Result<Next<'a>, AllocError>
+    ensures { IfOk result (λ next. (p : Program) (b : Bytes) →
+        Comes p m.new.frames.items next (world m.new b)
+        (resumed p m.old.frames.items (done_goes p frame.entry (done (world m.old b))))) }
+{
+    match frame {
+        OnDone::Behind(commands, env) => Ok(Next::InOrder(commands, None, env)),
+        OnDone::Body => Ok(Next::Gives(Thing::Value(Worth::Unset))),
+        OnDone::Valof => Ok(Next::Gives(Thing::Value(Worth::Unset))),
+        OnDone::Scope(_, _) => Ok(Next::Gives(Thing::Done)),
+        OnDone::Alone(_, _) => Ok(Next::Gives(Thing::Done)),
+        OnDone::Cases => Ok(Next::Gives(Thing::Done)),
+        OnDone::Round(command, env) => next_round(m, command, env),
+        OnDone::ForRound(run) => next_for(m, run),
+    }
+}
+
+/// Where a part is left behind which this goes on.
+fn with_exit<'a>(
+    m: &mut Machine<'a>,
+    frame: OnDone<'a>,
+    exit: Exit<'a>,
+) -> Result<Next<'a>, AllocError>
+    ensures { IfOk result (λ next. (p : Program) (b : Bytes) →
+        Comes p m.new.frames.items next (world m.new b)
+        (resumed p m.old.frames.items (done_left p frame.entry (exit_in exit.entry) (world m.old b)))) }
+{
+    match frame {
+        OnDone::Behind(_, _) => Ok(Next::Leaves(exit)),
+        OnDone::Body => match exit {
+            Exit::Return => Ok(Next::Gives(Thing::Value(Worth::Unset))),
+            Exit::Break => Ok(Next::Leaves(Exit::Break)),
+            Exit::Loop => Ok(Next::Leaves(Exit::Loop)),
+            Exit::EndCase => Ok(Next::Leaves(Exit::EndCase)),
+            Exit::Goto(label) => Ok(Next::Leaves(Exit::Goto(label))),
+            Exit::Result(x) => Ok(Next::Leaves(Exit::Result(x))),
+        },
+        OnDone::Valof => match exit {
+            Exit::Result(x) => Ok(Next::Gives(Thing::Value(x))),
+            Exit::Break => Ok(Next::Leaves(Exit::Break)),
+            Exit::Loop => Ok(Next::Leaves(Exit::Loop)),
+            Exit::EndCase => Ok(Next::Leaves(Exit::EndCase)),
+            Exit::Goto(label) => Ok(Next::Leaves(Exit::Goto(label))),
+            Exit::Return => Ok(Next::Leaves(Exit::Return)),
+        },
+        OnDone::Scope(commands, env) => match exit {
+            Exit::Goto(label) => lands(m, commands, env, label),
+            Exit::Break => Ok(Next::Leaves(Exit::Break)),
+            Exit::Loop => Ok(Next::Leaves(Exit::Loop)),
+            Exit::EndCase => Ok(Next::Leaves(Exit::EndCase)),
+            Exit::Result(x) => Ok(Next::Leaves(Exit::Result(x))),
+            Exit::Return => Ok(Next::Leaves(Exit::Return)),
+        },
+        OnDone::Alone(command, env) => match exit {
+            Exit::Goto(label) => lands_alone(m, command, env, label),
+            Exit::Break => Ok(Next::Leaves(Exit::Break)),
+            Exit::Loop => Ok(Next::Leaves(Exit::Loop)),
+            Exit::EndCase => Ok(Next::Leaves(Exit::EndCase)),
+            Exit::Result(x) => Ok(Next::Leaves(Exit::Result(x))),
+            Exit::Return => Ok(Next::Leaves(Exit::Return)),
+        },
+        OnDone::Cases => match exit {
+            Exit::EndCase => Ok(Next::Gives(Thing::Done)),
+            Exit::Break => Ok(Next::Leaves(Exit::Break)),
+            Exit::Loop => Ok(Next::Leaves(Exit::Loop)),
+            Exit::Goto(label) => Ok(Next::Leaves(Exit::Goto(label))),
+            Exit::Result(x) => Ok(Next::Leaves(Exit::Result(x))),
+            Exit::Return => Ok(Next::Leaves(Exit::Return)),
+        },
+        OnDone::Round(command, env) => match exit {
+            Exit::Loop => next_round(m, command, env),
+            Exit::Break => Ok(Next::Gives(Thing::Done)),
+            Exit::EndCase => Ok(Next::Leaves(Exit::EndCase)),
+            Exit::Goto(label) => Ok(Next::Leaves(Exit::Goto(label))),
+            Exit::Result(x) => Ok(Next::Leaves(Exit::Result(x))),
+            Exit::Return => Ok(Next::Leaves(Exit::Return)),
+        },
+        OnDone::ForRound(run) => match exit {
+            Exit::Loop => next_for(m, run),
+            Exit::Break => Ok(Next::Gives(Thing::Done)),
+            Exit::EndCase => Ok(Next::Leaves(Exit::EndCase)),
+            Exit::Goto(label) => Ok(Next::Leaves(Exit::Goto(label))),
+            Exit::Result(x) => Ok(Next::Leaves(Exit::Result(x))),
+            Exit::Return => Ok(Next::Leaves(Exit::Return)),
+        },
+    }
+}
+
+/// A GOTO that comes to a scope: it lands at a label of the scope, or goes on outwards.
+fn lands<'a>(
+    m: &mut Machine<'a>,
+    commands: &'a [Command],
+    env: Env<'a>,
+    label: &'a [u8],
+) -> Result<Next<'a>, AllocError>
+    ensures { IfOk result (λ next. (p : Program) (b : Bytes) →
+        Comes p m.new.frames.items next (world m.new b)
+        (resumed p m.old.frames.items (tag done_tag (landing_in p (actions_in commands.now) (env_in env.entry) (goto label.now) (world m.old b))))) }
+{
+    if stands_in_one(Sought::Label(label), &env, commands) {
+        scope(m, commands, Some(Sought::Label(label)), env)
+    } else {
+        Ok(Next::Leaves(Exit::Goto(label)))
+    }
+}
+
+/// The same at a scope with one command.
+fn lands_alone<'a>(
+    m: &mut Machine<'a>,
+    command: &'a Command,
+    env: Env<'a>,
+    label: &'a [u8],
+) -> Result<Next<'a>, AllocError>
+    ensures { IfOk result (λ next. (p : Program) (b : Bytes) →
+        Comes p m.new.frames.items next (world m.new b)
+        (resumed p m.old.frames.items (tag done_tag (landing_in p (alone (action command.now)) (env_in env.entry) (goto label.now) (world m.old b))))) }
+{
+    if stands_in(Sought::Label(label), &env, command) {
+        m.alone(command, Some(Sought::Label(label)), env)
+    } else {
+        Ok(Next::Leaves(Exit::Goto(label)))
+    }
+}
+
+/// What a frame does not go on with.
+fn wrong<'a>() -> Result<Next<'a>, AllocError>
+    ensures { IfOk result (λ next. (p : Program) (fs : List Frame) (w : World) → Comes p fs next w (resumed p fs undefined)) }
+{
+    Ok(Next::Undefined(Line::first(), Reason::NoPlace))
+}
+
+/// A frame goes on with a value.
+fn frame_with_value<'a>(
+    m: &mut Machine<'a>,
+    program: &'a [Lasting<'a>],
+    frame: Frame<'a>,
+    x: Worth,
+) -> Result<Next<'a>, AllocError>
+    ensures { IfOk result (λ next. (b : Bytes) →
+        Comes (program_in program.now) m.new.frames.items next (world m.new b)
+        (resumed (program_in program.now) m.old.frames.items (resume_value (program_in program.now) frame.entry (gives (value_in x) (world m.old b))))) }
+{
+    match frame {
+        Frame::Value(inside) => with_value(m, program, inside, x),
+        Frame::Returned(_, calls) => {
+            m.calls = calls;
+            Ok(Next::Gives(Thing::Value(x)))
+        }
+        Frame::Closing(object) => {
+            m.store.forget(object);
+            Ok(Next::Gives(Thing::Value(x)))
+        }
+        Frame::Truth(_) => wrong(),
+        Frame::Target(_) => wrong(),
+        Frame::Done(_) => wrong(),
+    }
+}
+
+/// A frame goes on with a truth.
+fn frame_with_truth<'a>(
+    m: &mut Machine<'a>,
+    frame: Frame<'a>,
+    x: bool,
+) -> Result<Next<'a>, AllocError>
+    ensures { IfOk result (λ next. (p : Program) (b : Bytes) →
+        Comes p m.new.frames.items next (world m.new b)
+        (resumed p m.old.frames.items (resume_truth p frame.entry (gives x (world m.old b))))) }
+{
+    match frame {
+        Frame::Truth(inside) => with_truth(m, inside, x),
+        Frame::Value(_) => wrong(),
+        Frame::Target(_) => wrong(),
+        Frame::Done(_) => wrong(),
+        Frame::Returned(_, _) => wrong(),
+        Frame::Closing(_) => wrong(),
+    }
+}
+
+/// A frame goes on with a place.
+fn frame_with_target<'a>(
+    m: &mut Machine<'a>,
+    frame: Frame<'a>,
+    x: Place,
+) -> Result<Next<'a>, AllocError>
+    ensures { IfOk result (λ next. (p : Program) (b : Bytes) →
+        Comes p m.new.frames.items next (world m.new b)
+        (resumed p m.old.frames.items (resume_target p frame.entry (gives (place_in x) (world m.old b))))) }
+{
+    match frame {
+        Frame::Target(inside) => with_target(m, inside, x),
+        Frame::Value(_) => wrong(),
+        Frame::Truth(_) => wrong(),
+        Frame::Done(_) => wrong(),
+        Frame::Returned(_, _) => wrong(),
+        Frame::Closing(_) => wrong(),
+    }
+}
+
+/// A frame goes on behind a command.
+fn frame_with_done<'a>(m: &mut Machine<'a>, frame: Frame<'a>) -> Result<Next<'a>, AllocError>
+    ensures { IfOk result (λ next. (p : Program) (b : Bytes) →
+        Comes p m.new.frames.items next (world m.new b)
+        (resumed p m.old.frames.items (resume_done p frame.entry (done (world m.old b))))) }
+{
+    match frame {
+        Frame::Done(inside) => with_done(m, inside),
+        Frame::Closing(object) => {
+            m.store.forget(object);
+            Ok(Next::Gives(Thing::Done))
+        }
+        Frame::Value(_) => wrong(),
+        Frame::Truth(_) => wrong(),
+        Frame::Target(_) => wrong(),
+        Frame::Returned(_, _) => wrong(),
+    }
+}
+
+/// A frame goes on with what was given.
+fn frame_with<'a>(
+    m: &mut Machine<'a>,
+    program: &'a [Lasting<'a>],
+    frame: Frame<'a>,
+    thing: Thing,
+) -> Result<Next<'a>, AllocError>
+    ensures { IfOk result (λ next. (b : Bytes) →
+        Comes (program_in program.now) m.new.frames.items next (world m.new b)
+        (resumed (program_in program.now) m.old.frames.items (resume_given (program_in program.now) frame.entry (thing_in thing) (world m.old b)))) }
+{
+    match thing {
+        Thing::Value(x) => frame_with_value(m, program, frame, x),
+        Thing::Truth(x) => frame_with_truth(m, frame, x),
+        Thing::Target(x) => frame_with_target(m, frame, x),
+        Thing::Done => frame_with_done(m, frame),
+    }
+}
+
+/// A frame goes on where a part is left.
+fn frame_left<'a>(
+    m: &mut Machine<'a>,
+    frame: Frame<'a>,
+    exit: Exit<'a>,
+) -> Result<Next<'a>, AllocError>
+    ensures { IfOk result (λ next. (p : Program) (b : Bytes) →
+        Comes p m.new.frames.items next (world m.new b)
+        (resumed p m.old.frames.items (resume_left p frame.entry (exit_in exit.entry) (world m.old b)))) }
+{
+    match frame {
+        Frame::Done(inside) => with_exit(m, inside, exit),
+        Frame::Returned(line, _) => Ok(Next::Undefined(line, Reason::NoPlace)),
+        Frame::Closing(object) => {
+            m.store.forget(object);
+            Ok(Next::Leaves(exit))
+        }
+        Frame::Value(_) => Ok(Next::Leaves(exit)),
+        Frame::Truth(_) => Ok(Next::Leaves(exit)),
+        Frame::Target(_) => Ok(Next::Leaves(exit)),
+    }
+}
+
+/// What was given goes to the innermost frame.
+pub fn given<'a>(
+    m: &mut Machine<'a>,
+    program: &'a [Lasting<'a>],
+    thing: Thing,
+) -> Result<Next<'a>, AllocError>
+    ensures { IfOk result (λ next. (b : Bytes) →
+        Comes (program_in program.now) m.new.frames.items next (world m.new b)
+        (resumed (program_in program.now) m.old.frames.items (gives (thing_in thing) (world m.old b)))) }
+{
+    match m.frames.pop() {
+        Some(frame) => frame_with(m, program, frame, thing),
+        None => Ok(Next::Gives(thing)),
+    }
+}
+
+/// An exit goes to the innermost frame.
+pub fn left<'a>(m: &mut Machine<'a>, exit: Exit<'a>) -> Result<Next<'a>, AllocError>
+    ensures { IfOk result (λ next. (p : Program) (b : Bytes) →
+        Comes p m.new.frames.items next (world m.new b)
+        (resumed p m.old.frames.items (leaves (exit_in exit.entry) (world m.old b)))) }
+{
+    match m.frames.pop() {
+        Some(frame) => frame_left(m, frame, exit),
+        None => Ok(Next::Leaves(exit)),
+    }
+}

@@ -1,0 +1,17 @@
+//! The meaning of programs, done: values, memory, and what is to be done with them.
+#![tactic(auto)]
+
+mod blocks;
+mod calls;
+mod commands;
+mod fors;
+mod frame;
+mod going_on;
+mod loops;
+mod machine;
+mod seeking;
+mod steps;
+
+pub use frame::{Exit, Frame, Next, Thing};
+pub use machine::Machine;
+pub use steps::step;

@@ -1,0 +1,169 @@
+//! Loops: WHILE, UNTIL, REPEAT, REPEATWHILE and REPEATUNTIL.
+ghost use Rattle.std.specs.Prelude.{◌≡◌, IfOk};
+ghost use Rattle.bk_tree.specs.Tree.{action, expression};
+ghost use Rattle.bk_meaning.specs.World.{turn};
+ghost use Rattle.bk_meaning.specs.Lasting.{Program};
+ghost use Rattle.bk_meaning.specs.Seeking.{forwards};
+ghost use Rattle.bk_meaning.specs.Loops.{rounds_of, again, where_truth};
+ghost use Rattle.bk_meaning.specs.Environment.{past, past_action};
+ghost use Rattle.bk_check.specs.Full.{full};
+ghost use Rattle.bk_check.specs.Views.{mode_in};
+ghost use Rattle.bk_lasting.specs.Views.{env_in};
+ghost use Rattle.bk_check.specs.Worlds.{Bytes, world};
+ghost use Rattle.bk_check.specs.Resume.{tag, done_tag, Comes, resumed, next_round as behind_round};
+
+use crate::frame::{Next, OnDone, OnTruth, Sought, Thing};
+use crate::machine::Machine;
+use bk_lasting::{Env, count, count_command};
+use bk_tree::{Command, Expr};
+use std::alloc::AllocError;
+
+/// A round of a loop, and those after it.
+pub fn round<'a>(
+    m: &mut Machine<'a>,
+    command: &'a Command,
+    mode: Option<Sought<'a>>,
+    env: Env<'a>,
+) -> Result<Next<'a>, AllocError>
+    ensures { IfOk result (λ next. (p : Program) (b : Bytes) →
+        Comes p m.new.frames.items next (world m.new b)
+        (resumed p m.old.frames.items (tag done_tag (rounds_of (full p) (action command.now) (mode_in mode.entry) (env_in env.entry) (world m.old b))))) }
+{
+    match command {
+        Command::While(_, _, condition, inside) => while_round(
+            m, command, condition, inside, mode, env,
+        ),
+        Command::Repeat(_, inside) => repeat_round(m, command, inside, mode, env),
+        Command::RepeatWhile(_, _, inside, _) => repeat_round(m, command, inside, mode, env),
+        Command::Empty
+        | Command::Assign(_, _, _)
+        | Command::Call(_, _, _)
+        | Command::Goto(_, _)
+        | Command::Label(_, _, _)
+        | Command::Case(_, _, _)
+        | Command::Default(_, _)
+        | Command::If(_, _, _, _)
+        | Command::Test(_, _, _, _)
+        | Command::For(_, _, _, _, _, _)
+        | Command::SwitchOn(_, _, _)
+        | Command::ResultIs(_, _)
+        | Command::Simple(_, _)
+        | Command::Block(_, _, _) => Ok(Next::Gives(Thing::Done)),
+    }
+}
+
+/// A round of WHILE or UNTIL.
+fn while_round<'a>(
+    m: &mut Machine<'a>,
+    command: &'a Command,
+    condition: &'a Expr,
+    inside: &'a Command,
+    mode: Option<Sought<'a>>,
+    env: Env<'a>,
+) -> Result<Next<'a>, AllocError>
+    ensures { IfOk result (λ next. (p : Program) (b : Bytes) →
+        Comes p m.new.frames.items next (world m.new b)
+        (resumed p m.old.frames.items (tag done_tag (again ((full p).act (action inside.now) (mode_in mode.entry) (past (expression condition.now) (env_in env.entry)) (world m.old b)) (behind_round p (action command.now) (env_in env.entry)))))) }
+{
+    let behind = env.again()?.behind(count(condition)?)?;
+    m.first_act(OnDone::Round(command, env), inside, mode, behind)
+}
+
+/// A round of another loop.
+fn repeat_round<'a>(
+    m: &mut Machine<'a>,
+    command: &'a Command,
+    inside: &'a Command,
+    mode: Option<Sought<'a>>,
+    env: Env<'a>,
+) -> Result<Next<'a>, AllocError>
+    ensures { IfOk result (λ next. (p : Program) (b : Bytes) →
+        Comes p m.new.frames.items next (world m.new b)
+        (resumed p m.old.frames.items (tag done_tag (again ((full p).act (action inside.now) (mode_in mode.entry) (env_in env.entry) (world m.old b)) (behind_round p (action command.now) (env_in env.entry)))))) }
+{
+    let outside = env.again()?;
+    m.first_act(OnDone::Round(command, outside), inside, mode, env)
+}
+
+/// A further round of a loop, which takes a turn.
+pub fn further_round<'a>(
+    m: &mut Machine<'a>,
+    command: &'a Command,
+    env: Env<'a>,
+) -> Result<Next<'a>, AllocError>
+    ensures { IfOk result (λ next. (p : Program) (b : Bytes) →
+        Comes p m.new.frames.items next (world m.new b)
+        (resumed p m.old.frames.items (tag done_tag (turn (world m.old b) (λ w. (full p).rounds (action command.now) forwards (env_in env.entry) w))))) }
+{
+    if m.turns == 0 {
+        return Ok(Next::Going);
+    }
+    m.turns -= 1;
+    round(m, command, None, env)
+}
+
+/// The condition of WHILE or UNTIL behind a round.
+fn next_while<'a>(
+    m: &mut Machine<'a>,
+    command: &'a Command,
+    truth: bool,
+    condition: &'a Expr,
+    env: Env<'a>,
+) -> Result<Next<'a>, AllocError>
+    ensures { IfOk result (λ next. (p : Program) (b : Bytes) →
+        Comes p m.new.frames.items next (world m.new b)
+        (resumed p m.old.frames.items (tag done_tag (where_truth (full p) truth (expression condition.now) (env_in env.entry) (λ w. turn w (λ w. (full p).rounds (action command.now) forwards (env_in env.entry) w)) (world m.old b))))) }
+{
+    let outside = env.again()?;
+    m.first_truth(OnTruth::Further(truth, command, outside), condition, env)
+}
+
+/// The condition of REPEATWHILE or REPEATUNTIL behind a round.
+fn next_repeat_while<'a>(
+    m: &mut Machine<'a>,
+    command: &'a Command,
+    truth: bool,
+    inside: &'a Command,
+    condition: &'a Expr,
+    env: Env<'a>,
+) -> Result<Next<'a>, AllocError>
+    ensures { IfOk result (λ next. (p : Program) (b : Bytes) →
+        Comes p m.new.frames.items next (world m.new b)
+        (resumed p m.old.frames.items (tag done_tag (where_truth (full p) truth (expression condition.now) (past_action (action inside.now) (env_in env.entry)) (λ w. turn w (λ w. (full p).rounds (action command.now) forwards (env_in env.entry) w)) (world m.old b))))) }
+{
+    let behind = env.again()?.behind(count_command(inside)?)?;
+    m.first_truth(OnTruth::Further(truth, command, env), condition, behind)
+}
+
+/// The rounds of a loop behind one.
+pub fn next_round<'a>(
+    m: &mut Machine<'a>,
+    command: &'a Command,
+    env: Env<'a>,
+) -> Result<Next<'a>, AllocError>
+    ensures { IfOk result (λ next. (p : Program) (b : Bytes) →
+        Comes p m.new.frames.items next (world m.new b)
+        (resumed p m.old.frames.items (tag done_tag (behind_round p (action command.now) (env_in env.entry) (world m.old b))))) }
+{
+    match command {
+        Command::While(_, truth, condition, _) => next_while(m, command, *truth, condition, env),
+        Command::Repeat(_, _) => further_round(m, command, env),
+        Command::RepeatWhile(_, truth, inside, condition) => next_repeat_while(
+            m, command, *truth, inside, condition, env,
+        ),
+        Command::Empty
+        | Command::Assign(_, _, _)
+        | Command::Call(_, _, _)
+        | Command::Goto(_, _)
+        | Command::Label(_, _, _)
+        | Command::Case(_, _, _)
+        | Command::Default(_, _)
+        | Command::If(_, _, _, _)
+        | Command::Test(_, _, _, _)
+        | Command::For(_, _, _, _, _, _)
+        | Command::SwitchOn(_, _, _)
+        | Command::ResultIs(_, _)
+        | Command::Simple(_, _)
+        | Command::Block(_, _, _) => Ok(Next::Gives(Thing::Done)),
+    }
+}

@@ -1,0 +1,425 @@
+//! Expressions: what a machine does for a value, a truth or a place.
+ghost use Rattle.std.specs.Prelude.{◌≡◌, IfOk, List};
+ghost use Rattle.std.specs.Option.{option_map};
+ghost use Rattle.bk_tree.specs.Tree.{expression, expressions_in, action};
+ghost use Rattle.bk_meaning.specs.World.{World, gives, given, with};
+ghost use Rattle.bk_meaning.specs.Lasting.{Program};
+ghost use Rattle.bk_meaning.specs.Parts;
+ghost use Rattle.bk_meaning.specs.Seeking.{forwards};
+ghost use Rattle.bk_meaning.specs.Scopes.{in_order, scope_of, alone};
+ghost use Rattle.bk_meaning.specs.Calls.{applied};
+ghost use Rattle.bk_meaning.specs.Operators.{sum as sum_of};
+ghost use Rattle.bk_meaning.specs.Expressions.{value_of, truth_of, target_of, result_of, judged, combined as combination};
+ghost use Rattle.bk_check.specs.Full.{full};
+ghost use Rattle.bk_check.specs.Views.{mode_in};
+ghost use Rattle.bk_objects.specs.Views.{value_in};
+ghost use Rattle.bk_lasting.specs.Views.{env_in, sense_in};
+ghost use Rattle.bk_check.specs.Worlds.{Bytes, world};
+ghost use Rattle.bk_check.specs.Resume.{tag, done_tag, a_value, a_truth, a_target, Comes, resumed, value_goes, truth_goes, target_goes, done_goes, list_value, applied_behind};
+ghost use Rattle.bk_objects.specs.Views.{outcome_of};
+
+use crate::frame::{Frame, Next, OnDone, OnTarget, OnTruth, OnValue, Sought, Thing};
+use crate::seeking::stands_in;
+use bk_base::{Line, word};
+use bk_lasting::{Env, Sense, count, in_scope};
+use bk_objects::{Computed, Place, Reason, Store, Worth, combine, read, sum, truth_of};
+use bk_tree::{Command, Expr, Operator, Prefix};
+use std::alloc::{AllocError, Global};
+
+/// What is to be done, and the world.
+#[derive(Drop)]
+pub struct Machine<'a> {
+    pub alloc: Global,
+    /// The innermost last.
+    pub frames: Vec<Frame<'a>>,
+    pub store: Store,
+    pub calls: u64,
+    pub most_calls: u64,
+    pub turns: u64,
+}
+
+/// What an operation gave, as what comes next.
+pub fn came<'a>(line: Line, came: Computed) -> Next<'a>
+    ensures { (p : Program) (m : Machine) (b : Bytes) → Comes p m.frames.items result (world m b) (resumed p m.frames.items (tag a_value (outcome_of came (world m b)))) }
+{
+    match came {
+        Computed::Value(worth) => Next::Gives(Thing::Value(worth)),
+        Computed::DivideByZero => Next::DivideByZero,
+        Computed::Undefined(reason) => Next::Undefined(line, reason),
+    }
+}
+
+impl<'a> Machine<'a> {
+    /// A value is asked for, and this frame goes on with it.
+    pub fn first_value(
+        &mut self,
+        frame: OnValue<'a>,
+        expr: &'a Expr,
+        env: Env<'a>,
+    ) -> Result<Next<'a>, AllocError>
+        ensures { IfOk result (λ next. (p : Program) (b : Bytes) →
+            Comes p self.new.frames.items next (world self.new b)
+            (resumed p self.old.frames.items (value_goes p frame.entry ((full p).value (expression expr.now) (env_in env.entry) (world self.old b))))) }
+    {
+        self.frames.push(Frame::Value(frame))?;
+        Ok(Next::Value(expr, env))
+    }
+
+    /// A truth is asked for.
+    pub fn first_truth(
+        &mut self,
+        frame: OnTruth<'a>,
+        expr: &'a Expr,
+        env: Env<'a>,
+    ) -> Result<Next<'a>, AllocError>
+        ensures { IfOk result (λ next. (p : Program) (b : Bytes) →
+            Comes p self.new.frames.items next (world self.new b)
+            (resumed p self.old.frames.items (truth_goes p frame.entry ((full p).truth (expression expr.now) (env_in env.entry) (world self.old b))))) }
+    {
+        self.frames.push(Frame::Truth(frame))?;
+        Ok(Next::Truth(expr, env))
+    }
+
+    /// A place is asked for.
+    pub fn first_target(
+        &mut self,
+        frame: OnTarget<'a>,
+        expr: &'a Expr,
+        env: Env<'a>,
+    ) -> Result<Next<'a>, AllocError>
+        ensures { IfOk result (λ next. (p : Program) (b : Bytes) →
+            Comes p self.new.frames.items next (world self.new b)
+            (resumed p self.old.frames.items (target_goes p frame.entry ((full p).target (expression expr.now) (env_in env.entry) (world self.old b))))) }
+    {
+        self.frames.push(Frame::Target(frame))?;
+        Ok(Next::Target(expr, env))
+    }
+
+    /// A command is done first.
+    pub fn first_act(
+        &mut self,
+        frame: OnDone<'a>,
+        command: &'a Command,
+        mode: Option<Sought<'a>>,
+        env: Env<'a>,
+    ) -> Result<Next<'a>, AllocError>
+        ensures { IfOk result (λ next. (p : Program) (b : Bytes) →
+            Comes p self.new.frames.items next (world self.new b)
+            (resumed p self.old.frames.items (done_goes p frame.entry ((full p).act (action command.now) (mode_in mode.entry) (env_in env.entry) (world self.old b))))) }
+    {
+        self.frames.push(Frame::Done(frame))?;
+        Ok(Next::Act(command, mode, env))
+    }
+
+    /// An expression whose value is asked for, its turn taken.
+    fn value_inside(&mut self, expr: &'a Expr, env: Env<'a>) -> Result<Next<'a>, AllocError>
+        ensures { IfOk result (λ next. (p : Program) (b : Bytes) →
+            Comes p self.new.frames.items next (world self.new b)
+            (resumed p self.old.frames.items (tag a_value (value_of p (full p) (expression expr.now) (env_in env.entry) (world self.old b))))) }
+    {
+        match expr {
+            Expr::Name(line, name) => Ok(self.named(*line, env.sense(name))),
+            Expr::Number(_, number) => Ok(Next::Gives(Thing::Value(Worth::Number(*number)))),
+            Expr::Truth(_, truth) => Ok(Next::Gives(Thing::Value(Worth::Number(word::truth_of(
+                *truth,
+            ))))),
+            Expr::Query(_) => Ok(Next::Gives(Thing::Value(Worth::Unset))),
+            Expr::Text(_, _) | Expr::Table(_, _) => Ok(Next::Gives(Thing::Value(Worth::Address(
+                env.next, 0,
+            )))),
+            Expr::Parens(_, inside) => Ok(Next::Value(inside, env)),
+            Expr::Unary(line, prefix, operand) => match prefix {
+                Prefix::Contents => self.first_value(OnValue::Contents(*line), operand, env),
+                Prefix::Address => self.first_target(OnTarget::Address(*line), operand, env),
+                Prefix::Plus => self.first_value(
+                    OnValue::Prefix(*line, Prefix::Plus),
+                    operand,
+                    env,
+                ),
+                Prefix::Minus => self.first_value(
+                    OnValue::Prefix(*line, Prefix::Minus),
+                    operand,
+                    env,
+                ),
+                Prefix::Not => self.first_value(OnValue::Prefix(*line, Prefix::Not), operand, env),
+            },
+            Expr::Binary(_, operator, line, a, b) => {
+                let behind = env.again()?.behind(count(a)?)?;
+                self.first_value(OnValue::Left(*line, *operator, b, behind), a, env)
+            }
+            Expr::Choice(_, _, c, a, b) => {
+                let behind = env.again()?.behind(count(c)?)?;
+                self.first_truth(OnTruth::Choice(a, b, behind), c, env)
+            }
+            Expr::Apply(_, line, callee, items) => self.apply(*line, callee, items, env),
+            Expr::Valof(_, command) => self.valof(command, env),
+        }
+    }
+
+    /// What stands at an address.
+    pub fn fetched(&self, line: Line, at: Worth) -> Next<'a>
+        ensures { (p : Program) (b : Bytes) → Comes p self.now.frames.items result (world self.now b)
+            (resumed p self.now.frames.items (tag a_value (Parts.fetch (value_in at) (world self.now b)))) }
+    {
+        came(line, read(&self.store, at))
+    }
+
+    /// An operator between two values.
+    pub fn combined(&self, line: Line, operator: Operator, x: Worth, y: Worth) -> Next<'a>
+        ensures { (p : Program) (b : Bytes) → Comes p self.now.frames.items result (world self.now b)
+            (resumed p self.now.frames.items (tag a_value (combination operator (value_in x) (value_in y) (world self.now b)))) }
+    {
+        came(line, combine(&self.store, operator, x, y))
+    }
+
+    /// The truth of a value.
+    pub fn truth_given(&self, line: Line, x: Worth) -> Next<'a>
+        ensures { (p : Program) (b : Bytes) → Comes p self.now.frames.items result (world self.now b)
+            (resumed p self.now.frames.items (tag a_truth (judged (value_in x) (world self.now b)))) }
+    {
+        match truth_of(&self.store, x) {
+            Ok(truth) => Next::Gives(Thing::Truth(truth)),
+            Err(reason) => Next::Undefined(line, reason),
+        }
+    }
+
+    /// The place that a vector and an offset are.
+    pub fn place_given(&self, line: Line, x: Worth, y: Worth) -> Next<'a>
+        ensures { (p : Program) (b : Bytes) → Comes p self.now.frames.items result (world self.now b)
+            (resumed p self.now.frames.items (tag a_target (with (given (sum_of (world self.now b).memory (value_in x) (value_in y)) (world self.now b)) (λ a w. gives (Parts.at a) w)))) }
+    {
+        match sum(&self.store, x, y) {
+            Ok(at) => Next::Gives(Thing::Target(Place::Cell(at))),
+            Err(reason) => Next::Undefined(line, reason),
+        }
+    }
+
+    /// A name whose value is asked for.
+    fn named(&self, line: Line, sense: Option<Sense>) -> Next<'a>
+        ensures { (p : Program) (b : Bytes) → Comes p self.now.frames.items result (world self.now b)
+            (resumed p self.now.frames.items (tag a_value (Parts.named (option_map sense_in sense) (world self.now b)))) }
+    {
+        match sense {
+            Some(Sense::Constant(word)) => Next::Gives(Thing::Value(Worth::Number(word))),
+            Some(Sense::Cell(object, offset)) => self.fetched(line, Worth::Address(object, offset)),
+            Some(Sense::Label) | Some(Sense::Foreign) | None => Next::Undefined(
+                line,
+                Reason::NoPlace,
+            ),
+        }
+    }
+
+    /// The arguments, and then the procedure.
+    pub fn apply(
+        &mut self,
+        line: Line,
+        callee: &'a Expr,
+        items: &'a [Expr],
+        env: Env<'a>,
+    ) -> Result<Next<'a>, AllocError>
+        ensures { IfOk result (λ next. (p : Program) (b : Bytes) →
+            Comes p self.new.frames.items next (world self.new b)
+            (resumed p self.old.frames.items (tag a_value (applied p (full p) (expression callee.now) (expressions_in items.now) (env_in env.entry) (world self.old b))))) }
+    {
+        let here = env.again()?.behind(count(callee)?)?;
+        self.arguments(line, items, here, Vec::new(self.alloc), callee, env)
+    }
+
+    /// The arguments that are left, behind those before.
+    pub fn arguments(
+        &mut self,
+        line: Line,
+        items: &'a [Expr],
+        here: Env<'a>,
+        before: Vec<Worth>,
+        callee: &'a Expr,
+        env: Env<'a>,
+    ) -> Result<Next<'a>, AllocError>
+        ensures { IfOk result (λ next. (p : Program) (b : Bytes) →
+            Comes p self.new.frames.items next (world self.new b)
+            (resumed p self.old.frames.items (tag a_value (applied_behind p (list_value before.items) (expressions_in items.now) (env_in here.entry) (expression callee.now) (env_in env.entry) (world self.old b))))) }
+    {
+        match items.split_first() {
+            Some((first, rest)) => {
+                let behind = here.again()?.behind(count(first)?)?;
+                self.first_value(
+                    OnValue::Argument(line, rest, behind, before, callee, env),
+                    first,
+                    here,
+                )
+            }
+            None => self.first_value(OnValue::Callee(line, before), callee, env),
+        }
+    }
+
+    /// The command of a VALOF.
+    fn valof(&mut self, command: &'a Command, env: Env<'a>) -> Result<Next<'a>, AllocError>
+        ensures { IfOk result (λ next. (p : Program) (b : Bytes) →
+            Comes p self.new.frames.items next (world self.new b)
+            (resumed p self.old.frames.items (tag a_value (result_of (scope_of (full p) (alone (action command.now)) forwards (env_in env.entry) (world self.old b)))))) }
+    {
+        self.frames.push(Frame::Done(OnDone::Valof))?;
+        self.alone(command, None, env)
+    }
+
+    /// One command as a scope of its own, from its beginning or from a place in it that is sought.
+    pub fn alone(
+        &mut self,
+        command: &'a Command,
+        mode: Option<Sought<'a>>,
+        env: Env<'a>,
+    ) -> Result<Next<'a>, AllocError>
+        ensures { IfOk result (λ next. (p : Program) (b : Bytes) →
+            Comes p self.new.frames.items next (world self.new b)
+            (resumed p self.old.frames.items (tag done_tag (scope_of (full p) (alone (action command.now)) (mode_in mode.entry) (env_in env.entry) (world self.old b))))) }
+    {
+        self.frames
+            .push(Frame::Done(OnDone::Alone(command, env.again()?)))?;
+        let inside = in_scope(self.alloc, command, env)?;
+        Ok(from_place(command, mode, inside))
+    }
+
+    /// An expression that is judged by its value.
+    fn judged(&mut self, expr: &'a Expr, env: Env<'a>) -> Result<Next<'a>, AllocError>
+        ensures { IfOk result (λ next. (p : Program) (b : Bytes) →
+            Comes p self.new.frames.items next (world self.new b)
+            (resumed p self.old.frames.items (tag a_truth (with (value_of p (full p) (expression expr.now) (env_in env.entry) (world self.old b)) judged)))) }
+    {
+        self.frames
+            .push(Frame::Value(OnValue::Judge(line_of(expr))))?;
+        self.value_inside(expr, env)
+    }
+
+    /// An expression whose value is asked for.
+    pub fn value(&mut self, expr: &'a Expr, env: Env<'a>) -> Result<Next<'a>, AllocError>
+        ensures { IfOk result (λ next. (p : Program) (b : Bytes) →
+            Comes p self.new.frames.items next (world self.new b)
+            (resumed p self.old.frames.items (tag a_value ((full p).value (expression expr.now) (env_in env.entry) (world self.old b))))) }
+    {
+        if self.turns == 0 {
+            return Ok(Next::Going);
+        }
+        self.turns -= 1;
+        self.value_inside(expr, env)
+    }
+
+    /// An expression whose truth is asked for.
+    pub fn truth(&mut self, expr: &'a Expr, env: Env<'a>) -> Result<Next<'a>, AllocError>
+        ensures { IfOk result (λ next. (p : Program) (b : Bytes) →
+            Comes p self.new.frames.items next (world self.new b)
+            (resumed p self.old.frames.items (tag a_truth ((full p).truth (expression expr.now) (env_in env.entry) (world self.old b))))) }
+    {
+        if self.turns == 0 {
+            return Ok(Next::Going);
+        }
+        self.turns -= 1;
+        self.truth_inside(expr, env)
+    }
+
+    /// A destination.
+    pub fn target(&mut self, expr: &'a Expr, env: Env<'a>) -> Result<Next<'a>, AllocError>
+        ensures { IfOk result (λ next. (p : Program) (b : Bytes) →
+            Comes p self.new.frames.items next (world self.new b)
+            (resumed p self.old.frames.items (tag a_target ((full p).target (expression expr.now) (env_in env.entry) (world self.old b))))) }
+    {
+        if self.turns == 0 {
+            return Ok(Next::Going);
+        }
+        self.turns -= 1;
+        self.target_inside(expr, env)
+    }
+
+    /// An expression whose truth is asked for, its turn taken.
+    fn truth_inside(&mut self, expr: &'a Expr, env: Env<'a>) -> Result<Next<'a>, AllocError>
+        ensures { IfOk result (λ next. (p : Program) (b : Bytes) →
+            Comes p self.new.frames.items next (world self.new b)
+            (resumed p self.old.frames.items (tag a_truth (truth_of p (full p) (expression expr.now) (env_in env.entry) (world self.old b))))) }
+    {
+        match expr {
+            Expr::Parens(_, inside) => Ok(Next::Truth(inside, env)),
+            Expr::Unary(_, prefix, operand) => match prefix {
+                Prefix::Not => self.first_truth(OnTruth::Not, operand, env),
+                Prefix::Contents | Prefix::Address | Prefix::Plus | Prefix::Minus => self.judged(
+                    expr, env,
+                ),
+            },
+            Expr::Binary(_, operator, _, a, b) => match operator {
+                Operator::Both => {
+                    let behind = env.again()?.behind(count(a)?)?;
+                    self.first_truth(OnTruth::And(b, behind), a, env)
+                }
+                Operator::Either => {
+                    let behind = env.again()?.behind(count(a)?)?;
+                    self.first_truth(OnTruth::Or(b, behind), a, env)
+                }
+                _ => self.judged(expr, env),
+            },
+            _ => self.judged(expr, env),
+        }
+    }
+
+    /// A destination, its turn taken.
+    fn target_inside(&mut self, expr: &'a Expr, env: Env<'a>) -> Result<Next<'a>, AllocError>
+        ensures { IfOk result (λ next. (p : Program) (b : Bytes) →
+            Comes p self.new.frames.items next (world self.new b)
+            (resumed p self.old.frames.items (tag a_target (target_of (full p) (expression expr.now) (env_in env.entry) (world self.old b))))) }
+    {
+        match expr {
+            Expr::Name(line, name) => match env.sense(name) {
+                Some(Sense::Cell(object, offset)) => Ok(Next::Gives(Thing::Target(Place::Cell(
+                    Worth::Address(object, offset),
+                )))),
+                _ => Ok(Next::Undefined(*line, Reason::NoPlace)),
+            },
+            Expr::Parens(_, inside) => Ok(Next::Target(inside, env)),
+            Expr::Unary(_, Prefix::Contents, operand) => self.first_value(
+                OnValue::At,
+                operand,
+                env,
+            ),
+            Expr::Binary(_, Operator::Subscript, line, a, b) => {
+                let behind = env.again()?.behind(count(a)?)?;
+                self.first_value(OnValue::Vector(*line, b, behind), a, env)
+            }
+            Expr::Binary(_, Operator::Byte, _, a, b) => {
+                let behind = env.again()?.behind(count(a)?)?;
+                self.first_value(OnValue::String(b, behind), a, env)
+            }
+            _ => Ok(Next::Undefined(line_of(expr), Reason::NoPlace)),
+        }
+    }
+}
+
+/// A command in its scope, or nothing where the place that is sought does not stand in it.
+fn from_place<'a>(command: &'a Command, mode: Option<Sought<'a>>, env: Env<'a>) -> Next<'a>
+    ensures { (p : Program) (fs : List Frame) (w : World) → Comes p fs result w (resumed p fs (tag done_tag (in_order (full p) (alone (action command.now)) (mode_in mode.entry) (env_in env.entry) w))) }
+{
+    match mode {
+        None => Next::Act(command, None, env),
+        Some(sought) => {
+            if stands_in(sought, &env, command) {
+                Next::Act(command, mode, env)
+            } else {
+                Next::Gives(Thing::Done)
+            }
+        }
+    }
+}
+
+/// The line of an expression.
+pub fn line_of(expr: &Expr) -> Line {
+    match expr {
+        Expr::Name(line, _)
+        | Expr::Number(line, _)
+        | Expr::Text(line, _)
+        | Expr::Truth(line, _)
+        | Expr::Query(line)
+        | Expr::Parens(line, _)
+        | Expr::Unary(line, _, _)
+        | Expr::Binary(_, _, line, _, _)
+        | Expr::Choice(line, _, _, _, _)
+        | Expr::Apply(line, _, _, _)
+        | Expr::Valof(line, _)
+        | Expr::Table(line, _) => *line,
+    }
+}

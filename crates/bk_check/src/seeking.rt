@@ -1,0 +1,132 @@
+//! Seeking a label, or the place of a CASE or DEFAULT, in commands.
+ghost use Rattle.std.specs.Prelude.{◌≡◌, Option};
+ghost use Rattle.bk_tree.specs.Tree.{action, actions_in, expression};
+ghost use Rattle.bk_meaning.specs.Environment.{constant_in};
+ghost use Rattle.bk_meaning.specs.Seeking as q;
+ghost use Rattle.bk_check.specs.Views.{sought_in, mode_in};
+ghost use Rattle.bk_lasting.specs.Views.{env_in};
+
+use crate::frame::Sought;
+use bk_lasting::{Env, constant};
+use bk_tree::Command;
+
+/// Whether a label is sought.
+fn is_label(sought: Sought, label: &[u8]) -> bool
+    ensures { result ≡ q.same_place (sought_in sought.entry) (q.the_label label.now) }
+{
+    match sought {
+        Sought::Label(name) => name == label,
+        Sought::Case(_) => false,
+        Sought::Default => false,
+    }
+}
+
+/// Whether the CASE with this word is sought.
+fn is_case(sought: Sought, word: Option<u32>) -> bool
+    ensures { result ≡ q.same_place (sought_in sought.entry) (q.the_case word) }
+{
+    match sought {
+        Sought::Label(_) => false,
+        Sought::Case(x) => match word {
+            Some(y) => x == y,
+            None => false,
+        },
+        Sought::Default => false,
+    }
+}
+
+/// Whether a DEFAULT is sought.
+fn is_default(sought: Sought) -> bool
+    ensures { result ≡ q.same_place (sought_in sought.entry) q.the_default }
+{
+    match sought {
+        Sought::Label(_) => false,
+        Sought::Case(_) => false,
+        Sought::Default => true,
+    }
+}
+
+/// Whether the place stands in a command, where seeking comes to it.
+#[cycle(seeking)]
+pub fn stands_in(sought: Sought, env: &Env, command: &Command) -> bool
+    ensures { result ≡ q.stands_in (sought_in sought.entry) (env_in env.now) (action command.now) }
+{
+    match command {
+        Command::Label(_, name, c) => is_label(sought, name) || stands_in(sought, env, c),
+        Command::Case(_, e, c) => is_case(sought, constant(env, e)) || stands_in(sought, env, c),
+        Command::Default(_, c) => is_default(sought) || stands_in(sought, env, c),
+        Command::If(_, _, _, c) => stands_in(sought, env, c),
+        Command::While(_, _, _, c) => stands_in(sought, env, c),
+        Command::Repeat(_, c) => stands_in(sought, env, c),
+        Command::RepeatWhile(_, _, c, _) => stands_in(sought, env, c),
+        Command::Test(_, _, a, b) => stands_in(sought, env, a) || stands_in(sought, env, b),
+        Command::SwitchOn(_, _, c) => match sought {
+            Sought::Label(_) => stands_in(sought, env, c),
+            Sought::Case(_) => false,
+            Sought::Default => false,
+        },
+        Command::Block(_, ds, cs) => ds.is_empty() && stands_in_one(sought, env, cs),
+        Command::Empty => false,
+        Command::Assign(_, _, _) => false,
+        Command::Call(_, _, _) => false,
+        Command::Goto(_, _) => false,
+        Command::For(_, _, _, _, _, _) => false,
+        Command::ResultIs(_, _) => false,
+        Command::Simple(_, _) => false,
+    }
+}
+
+/// Whether it stands in one of these commands.
+#[cycle(seeking)]
+pub fn stands_in_one(sought: Sought, env: &Env, commands: &[Command]) -> bool
+    ensures { result ≡ q.stands_in_one (sought_in sought.entry) (env_in env.now) (actions_in commands.now) }
+{
+    for c in commands {
+        if stands_in(sought, env, c) {
+            return true;
+        }
+    }
+    false
+}
+
+/// How to go on behind a label.
+pub fn at_label<'a>(mode: Option<Sought<'a>>, label: &[u8]) -> Option<Sought<'a>>
+    ensures { mode_in result ≡ q.at_place (q.the_label label.now) (mode_in mode.entry) }
+{
+    match mode {
+        None => None,
+        Some(sought) => if is_label(sought, label) {
+            None
+        } else {
+            Some(sought)
+        },
+    }
+}
+
+/// How to go on behind a CASE.
+pub fn at_case<'a>(mode: Option<Sought<'a>>, word: Option<u32>) -> Option<Sought<'a>>
+    ensures { mode_in result ≡ q.at_place (q.the_case word) (mode_in mode.entry) }
+{
+    match mode {
+        None => None,
+        Some(sought) => if is_case(sought, word) {
+            None
+        } else {
+            Some(sought)
+        },
+    }
+}
+
+/// How to go on behind a DEFAULT.
+pub fn at_default(mode: Option<Sought>) -> Option<Sought>
+    ensures { mode_in result ≡ q.at_place q.the_default (mode_in mode.entry) }
+{
+    match mode {
+        None => None,
+        Some(sought) => if is_default(sought) {
+            None
+        } else {
+            Some(sought)
+        },
+    }
+}

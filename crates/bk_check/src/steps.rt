@@ -1,0 +1,42 @@
+//! The steps of a run.
+ghost use Rattle.std.specs.Prelude.{◌≡◌, IfOk};
+ghost use Rattle.bk_check.specs.Views.{program_in};
+ghost use Rattle.bk_check.specs.Worlds.{Bytes, world};
+ghost use Rattle.bk_check.specs.Resume.{Comes, resumed, outcome_next};
+
+use crate::blocks::{declare, define, starts};
+use crate::commands::{act, in_order};
+use crate::frame::Next;
+use crate::going_on::{given, left};
+use crate::machine::Machine;
+use bk_lasting::Lasting;
+use std::alloc::AllocError;
+
+/// Goes on with what comes next. What a library routine gives, and the end of a run, stay as they are.
+pub fn step<'a>(
+    m: &mut Machine<'a>,
+    program: &'a [Lasting<'a>],
+    next: Next<'a>,
+) -> Result<Next<'a>, AllocError>
+    ensures { IfOk result (λ after. (b : Bytes) →
+        Comes (program_in program.now) m.new.frames.items after (world m.new b)
+        (resumed (program_in program.now) m.old.frames.items (outcome_next (program_in program.now) next.entry (world m.old b)))) }
+{
+    match next {
+        Next::Value(expr, env) => m.value(expr, env),
+        Next::Truth(expr, env) => m.truth(expr, env),
+        Next::Target(expr, env) => m.target(expr, env),
+        Next::Act(command, mode, env) => act(m, command, mode, env),
+        Next::InOrder(commands, mode, env) => in_order(m, commands, mode, env),
+        Next::Declare(decls, commands, env) => declare(m, decls, commands, env),
+        Next::Define(rest) => define(m, rest),
+        Next::Starts(inits, here, names, rest) => starts(m, inits, here, names, rest),
+        Next::Gives(thing) => given(m, program, thing),
+        Next::Leaves(exit) => left(m, exit),
+        Next::Library(line, routine, values) => Ok(Next::Library(line, routine, values)),
+        Next::Status(status) => Ok(Next::Status(status)),
+        Next::DivideByZero => Ok(Next::DivideByZero),
+        Next::Undefined(line, reason) => Ok(Next::Undefined(line, reason)),
+        Next::Going => Ok(Next::Going),
+    }
+}
