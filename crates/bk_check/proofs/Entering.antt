@@ -8,7 +8,7 @@ use Rattle.bk_meaning.specs.Lasting.{Procedure, Program}
 use Rattle.bk_meaning.specs.Calls.{formal_cells, bind_formals, run_body, called, call}
 use Rattle.bk_meaning.specs.Calls as c
 use Rattle.std.specs.Prelude.{Some}
-use Rattle.bk_check.specs.Full.{full}
+use Rattle.bk_meaning.specs.Full.{full}
 use Rattle.bk_check.specs.Resume.{returned}
 
 pub entered : (p : Program) (q : Procedure) (vs : List Value) (w : World) (n : ℕ) (env : Environment) (m : Memory) → n ≡ length w.memory → env ≡ bind_formals n 0 q.formals q.env → m ≡ made (formal_cells q.formals vs) w.memory →

@@ -7,7 +7,7 @@ use Rattle.bk_meaning.specs.World.{World, Outcome, gives, with, Done, turn, turn
 use Rattle.bk_meaning.specs.Environment.{Environment, past, past_definition, constant_in, letters}
 use Rattle.bk_meaning.specs.Lasting.{Program}
 use Rattle.bk_meaning.specs.Blocks.{Start, starts, make_vec, paired, let_values}
-use Rattle.bk_check.specs.Full.{full}
+use Rattle.bk_meaning.specs.Full.{full}
 use Rattle.bk_check.proofs.Outcomes.{with_with, with_each, with_turn}
 
 variables_turn : (p : Program) (l : ℕ) (xs : List Mention) (is : Starts) (ds : Definitions) (here : Environment) (go : List Start → World → Outcome Done) (w : World) →

@@ -1,5 +1,5 @@
 pub mod Acts
-pub mod Alike
+pub mod Arguments
 pub mod Entering
 pub mod Formals
 pub mod ForLoops
@@ -8,5 +8,4 @@ pub mod Outcomes
 pub mod Resuming
 pub mod Scoped
 pub mod Seeks
-pub mod Turns
 pub mod Vectors

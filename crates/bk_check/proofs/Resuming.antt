@@ -4,6 +4,7 @@ use Rattle.bk_meaning.specs.Values.{Value}
 use Rattle.bk_meaning.specs.World.{World, Exit, Outcome, gives, leaves, ends, undefined, going, each_way, with, Done, done, closing}
 use Rattle.bk_meaning.specs.Lasting.{Program}
 use Rattle.bk_meaning.specs.Parts.{Target}
+use Rattle.bk_check.specs.declared.frame.Call.{Call}
 use Rattle.bk_check.specs.declared.frame.Next.{Next}
 use Rattle.bk_check.specs.declared.frame.OnValue.{OnValue}
 use Rattle.bk_check.specs.declared.frame.OnValue.TheVariants as v
@@ -82,15 +83,15 @@ by_done p g (going w) = refl
 pub pushed_done : (p : Program) (fs gs : List Frame) (g : OnDone) (u : Outcome Done) → gs ≡ fs ++ f.Done g ∷ [] → resumed p gs (tag done_tag u) ≡ resumed p fs (done_goes p g u)
 pushed_done p fs gs g u is = pushed p fs gs (f.Done g) _ _ is (by_done p g u)
 
-by_return : (p : Program) (l n : ℕ) (u : Outcome Value) → resume p (f.Returned l n) (tag a_value u) ≡ tag a_value (returned n u)
-by_return p l n (gives v w) = refl
-by_return p l n (leaves x w) = refl
-by_return p l n (ends e w) = refl
-by_return p l n undefined = refl
-by_return p l n (going w) = refl
+by_return : (p : Program) (c : Call) (u : Outcome Value) → resume p (f.Returned c) (tag a_value u) ≡ tag a_value (returned c.calls u)
+by_return p c (gives v w) = refl
+by_return p c (leaves x w) = refl
+by_return p c (ends e w) = refl
+by_return p c undefined = refl
+by_return p c (going w) = refl
 
-pub pushed_return : (p : Program) (fs gs : List Frame) (l n : ℕ) (u : Outcome Value) → gs ≡ fs ++ f.Returned l n ∷ [] → resumed p gs (tag a_value u) ≡ resumed p fs (tag a_value (returned n u))
-pushed_return p fs gs l n u is = pushed p fs gs (f.Returned l n) _ _ is (by_return p l n u)
+pub pushed_return : (p : Program) (fs gs : List Frame) (c : Call) (u : Outcome Value) → gs ≡ fs ++ f.Returned c ∷ [] → resumed p gs (tag a_value u) ≡ resumed p fs (tag a_value (returned c.calls u))
+pushed_return p fs gs c u is = pushed p fs gs (f.Returned c) _ _ is (by_return p c u)
 
 value_closes : (p : Program) (n : ℕ) (u : Outcome Value) → resume p (f.Closing n) (tag a_value u) ≡ tag a_value (closing n u)
 value_closes p n (gives v w) = refl
@@ -129,6 +130,11 @@ meets (Err x) fs there u v e h = h
 pub meets_in : {E : Type 0} (p : Program) (r : Result Next E) (fs : List Frame) (there : Bytes → World) (u v : Bytes → Outcome Given) → ((b : Bytes) → u b ≡ v b) → IfOk r (λ next. (b : Bytes) → Comes p fs next (there b) (u b)) → IfOk r (λ next. (b : Bytes) → Comes p fs next (there b) (v b))
 meets_in p (Ok next) fs there u v e h = λ b. h b ∙ e b
 meets_in p (Err x) fs there u v e h = h
+
+-- a step that comes to this in each program
+pub meets_for : {E : Type 0} (p : Program) (r : Result Next E) (fs : List Frame) (there : Bytes → World) (u : Program → Bytes → Outcome Given) (v : Bytes → Outcome Given) → ((b : Bytes) → u p b ≡ v b) → IfOk r (λ next. (p : Program) (b : Bytes) → Comes p fs next (there b) (u p b)) → IfOk r (λ next. (b : Bytes) → Comes p fs next (there b) (v b))
+meets_for p (Ok next) fs there u v e h = λ b. h p b ∙ e b
+meets_for p (Err x) fs there u v e h = h
 
 -- the same of a step that comes to this at each line
 pub meets_at : {E : Type 0} (r : Result Next E) (fs : List Frame) (there : Bytes → World) (u : Program → Bytes → ℕ → Outcome Given) (v : Program → Bytes → Outcome Given) (l : ℕ) → ((p : Program) (b : Bytes) → u p b l ≡ v p b) → IfOk r (λ next. (p : Program) (b : Bytes) (l : ℕ) → Comes p fs next (there b) (u p b l)) → IfOk r (λ next. (p : Program) (b : Bytes) → Comes p fs next (there b) (v p b))

@@ -10,7 +10,7 @@ use Rattle.bk_meaning.specs.Blocks.{starts, vec_cells}
 use Rattle.bk_check.specs.declared.frame.Frame.{Frame}
 use Rattle.bk_check.specs.declared.frame.Let.{Let}
 use Rattle.bk_check.specs.declared.frame.Next.{Next}
-use Rattle.bk_check.specs.Full.{full}
+use Rattle.bk_meaning.specs.Full.{full}
 use Rattle.bk_check.specs.Worlds.{Bytes}
 use Rattle.bk_check.specs.Resume.{Given, tag, done_tag, resumed, started_then, vector_then, Comes}
 

@@ -1,5 +1,4 @@
 pub mod Views
-pub mod Full
 pub mod Plain
 pub mod Resume
 pub mod Worlds

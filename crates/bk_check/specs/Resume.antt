@@ -44,7 +44,7 @@ use Rattle.bk_check.specs.Views.{letters_in, mode_in, start_in}
 use Rattle.bk_objects.specs.Views.{value_in, routine_in}
 use Rattle.bk_lasting.specs.Views.{env_in}
 use Rattle.bk_objects.specs.Views.{place_in}
-use Rattle.bk_check.specs.Full.{full}
+use Rattle.bk_meaning.specs.Full.{full}
 
 -- what the parts inside give
 pub data Given : Type 0 where
@@ -73,16 +73,16 @@ exit_in (x.Goto name) = goto name.now
 exit_in (x.Result v) = result (value_in v)
 exit_in x.Return = return
 
--- the arguments that are left behind these, then the procedure
+-- the arguments that are left after these, then the procedure
 abbrev pub applied_behind : Program → List Value → Expressions → Environment → Expression → Environment → World → Outcome Value
 applied_behind p before es here f env w = with (values (full p) es here w) (λ vs w. with ((full p).value f env w) (λ g w. call p (full p) g (before ++ vs) w))
 
--- a value, at the first of these destinations; and the assignments behind it
+-- a value, at the first of these destinations; and the assignments after it
 abbrev pub assigned_to : Meanings → Value → Expressions → Environment → Expressions → Environment → World → Outcome Done
 assigned_to m v (t.more x xs) there es env w = with (m.target x there w) (λ a w. with (store a v w) (λ _ w. assigned m xs (past x there) es env w))
 assigned_to m v t.none there es env w = done w
 
--- the rounds of a loop behind one
+-- the rounds of a loop after one
 abbrev pub next_round : Program → Action → Environment → World → Outcome Done
 next_round p (t.while l b e c) env w = where_truth (full p) b e env (λ w. turn w (λ w. (full p).rounds (t.while l b e c) forwards env w)) w
 next_round p (t.repeat l c) env w = turn w (λ w. (full p).rounds (t.repeat l c) forwards env w)
@@ -118,35 +118,35 @@ started_then p l names vs w = with (let_values (full p) (definitions_in l.defs.n
 abbrev pub starting_then : Program → Starts → Environment → List (List ℕ) → Let → World → Outcome Done
 starting_then p is here names l w = with (b.starts (full p) is here w) (λ vs w. started_then p l names vs w)
 
--- Variables of a LET: what they begin with, and the definitions behind them; and a VEC among that.
+-- Variables of a LET: what they begin with, and the definitions after them; and a VEC among that.
 abbrev pub variables_then : Program → Starts → List (List ℕ) → Environment → Let → World → Outcome Done
 variables_then p is names there l w = with (b.starts (full p) is (env_in l.here) w) (λ vs w. with (let_values (full p) (definitions_in l.defs.now) there w) (λ more w. bound_then p l (paired names vs ++ more) w))
 
 abbrev pub vector_then : Program → Option ℕ → Starts → Environment → List (List ℕ) → Let → World → Outcome Done
 vector_then p size is here names l w = with (make_vec size w) (λ v w. with (with (b.starts (full p) is here w) (λ vs w. gives (v ∷ vs) w)) (λ vs w. started_then p l names vs w))
 
--- What goes on with a value, a truth, a place, and behind a command.
+-- What goes on with a value, a truth, a place, and after a command.
 abbrev pub value_goes : Program → OnValue → Outcome Value → Outcome Given
-value_goes p (v.Contents line) u = tag a_value (with u fetch)
-value_goes p (v.Prefix line q) u = tag a_value (with u (operate_prefix q))
-value_goes p (v.Left line q b env) u = tag a_value (with u (λ x w. with ((full p).value (expression b.now) (env_in env) w) (combined q x)))
-value_goes p (v.Right line q x) u = tag a_value (with u (combined q (value_in x)))
-value_goes p (v.Judge line) u = tag a_truth (with u judged)
+value_goes p (v.Contents e) u = tag a_value (with u fetch)
+value_goes p (v.Prefix e q) u = tag a_value (with u (operate_prefix q))
+value_goes p (v.Left e q b env) u = tag a_value (with u (λ x w. with ((full p).value (expression b.now) (env_in env) w) (combined q x)))
+value_goes p (v.Right e q x) u = tag a_value (with u (combined q (value_in x)))
+value_goes p (v.Judge e) u = tag a_truth (with u judged)
 value_goes p v.At u = tag a_target (with u (λ a w. gives (at a) w))
-value_goes p (v.Vector line b env) u = tag a_target (with u (λ x w. with ((full p).value (expression b.now) (env_in env) w) (λ y w. with (given (sum w.memory x y) w) (λ a w. gives (at a) w))))
-value_goes p (v.Offset line x) u = tag a_target (with u (λ y w. with (given (sum w.memory (value_in x) y) w) (λ a w. gives (at a) w)))
+value_goes p (v.Vector e b env) u = tag a_target (with u (λ x w. with ((full p).value (expression b.now) (env_in env) w) (λ y w. with (given (sum w.memory x y) w) (λ a w. gives (at a) w))))
+value_goes p (v.Offset e x) u = tag a_target (with u (λ y w. with (given (sum w.memory (value_in x) y) w) (λ a w. gives (at a) w)))
 value_goes p (v.String b env) u = tag a_target (with u (λ x w. with ((full p).value (expression b.now) (env_in env) w) (λ y w. gives (byte_at x y) w)))
 value_goes p (v.Byte x) u = tag a_target (with u (λ y w. gives (byte_at (value_in x) y) w))
 value_goes p (v.Argument line es here before callee env) u = tag a_value (with u (λ v w. with (values (full p) (expressions_in es.now) (env_in here) w) (λ vs w.
     with ((full p).value (expression callee.now) (env_in env) w) (λ g w. call p (full p) g (map value_in before.items ++ v ∷ vs) w))))
-value_goes p (v.Callee line before) u = tag a_value (with u (λ g w. call p (full p) g (map value_in before.items) w))
+value_goes p (v.Callee line e before) u = tag a_value (with u (λ g w. call p (full p) g (map value_in before.items) w))
 value_goes p v.Dropped u = tag done_tag (with u (λ _ w. done w))
 value_goes p v.Result u = tag done_tag (with u (λ v w. leaves (result v) w))
-value_goes p (v.Assigned line xs there es env) u = tag done_tag (with u (λ v w. assigned_to (full p) v (expressions_in xs.now) (env_in there) (expressions_in es.now) (env_in env) w))
-value_goes p (v.Switch line c env) u = tag done_tag (with u (λ v w. choose_case (full p) v (action c.now) (env_in env) w))
-value_goes p (v.ForStart line x e env c step) u = tag done_tag (with u (λ v w. with ((full p).value (expression e.now) (env_in env) w) (λ h w. with (given step w) (λ n w.
+value_goes p (v.Assigned xs there es env) u = tag done_tag (with u (λ v w. assigned_to (full p) v (expressions_in xs.now) (env_in there) (expressions_in es.now) (env_in env) w))
+value_goes p (v.Switch e c env) u = tag done_tag (with u (λ v w. choose_case (full p) v (action c.now) (env_in env) w))
+value_goes p (v.ForStart x e env c step) u = tag done_tag (with u (λ v w. with ((full p).value (expression e.now) (env_in env) w) (λ h w. with (given step w) (λ n w.
     for_loop (full p) x.now.letters.items (action c.now) v h n (past (expression e.now) (env_in env)) w))))
-value_goes p (v.ForLimit line x env start c step) u = tag done_tag (with u (λ h w. with (given step w) (λ n w. for_loop (full p) x.now.letters.items (action c.now) (value_in start) h n (env_in env) w)))
+value_goes p (v.ForLimit x env start c step) u = tag done_tag (with u (λ h w. with (given step w) (λ n w. for_loop (full p) x.now.letters.items (action c.now) (value_in start) h n (env_in env) w)))
 value_goes p (v.Starts is here names l) u = tag done_tag (with u (λ v w. with (with (b.starts (full p) (starts_in is.now) (env_in here) w) (λ vs w. gives (v ∷ vs) w)) (λ vs w. started_then p l (letters_in names.now) vs w)))
 
 abbrev pub truth_goes : Program → OnTruth → Outcome Bool → Outcome Given
@@ -160,14 +160,14 @@ truth_goes p (o.First b c env) u = tag done_tag (with u (λ x w. either (same_tr
 truth_goes p (o.Further b c env) u = tag done_tag (with u (λ x w. either (same_truth b x) (λ w. turn w (λ w. (full p).rounds (action c.now) forwards (env_in env) w)) done w))
 
 abbrev pub target_goes : Program → OnTarget → Outcome Target → Outcome Given
-target_goes p (a.Address line) u = tag a_value (with u address_in)
-target_goes p (a.Put line v xs there es env) u = tag done_tag (with u (λ a w. with (store a (value_in v) w) (λ _ w. assigned (full p) (expressions_in xs.now) (env_in there) (expressions_in es.now) (env_in env) w)))
+target_goes p (a.Address e) u = tag a_value (with u address_in)
+target_goes p (a.Put e v xs there es env) u = tag done_tag (with u (λ a w. with (store a (value_in v) w) (λ _ w. assigned (full p) (expressions_in xs.now) (env_in there) (expressions_in es.now) (env_in env) w)))
 
 abbrev pub lands : Program → Actions → Environment → Exit → World → Outcome Done
 lands p cs env x w = landing cs env (λ x w. (full p).scope cs (seeking (the_label x)) env w) x w
 
 abbrev pub done_goes : Program → OnDone → Outcome Done → Outcome Given
-done_goes p (d.Behind cs env) u = tag done_tag (with u (λ _ w. in_order (full p) (actions_in cs.now) forwards (env_in env) w))
+done_goes p (d.After cs env) u = tag done_tag (with u (λ _ w. in_order (full p) (actions_in cs.now) forwards (env_in env) w))
 done_goes p d.Body u = tag a_value (each_way (λ _ w. gives unset w) return_exit u)
 done_goes p d.Valof u = tag a_value (result_of u)
 done_goes p (d.Scope cs env) u = tag done_tag (each_way (λ _ w. done w) (lands p (actions_in cs.now) (env_in env)) u)
@@ -178,7 +178,7 @@ done_goes p (d.ForRound f) u = tag done_tag (again u (next_for p f))
 
 -- where a part is left
 abbrev pub done_left : Program → OnDone → Exit → World → Outcome Given
-done_left p (d.Behind cs env) x w = leaves x w
+done_left p (d.After cs env) x w = leaves x w
 done_left p d.Body x w = tag a_value (return_exit x w)
 done_left p d.Valof x w = tag a_value (result_exit x w)
 done_left p (d.Scope cs env) x w = tag done_tag (lands p (actions_in cs.now) (env_in env) x w)
@@ -189,7 +189,7 @@ done_left p (d.ForRound f) x w = tag done_tag (round_exit (next_for p f) x w)
 
 abbrev pub resume_left : Program → Frame → Exit → World → Outcome Given
 resume_left p (f.Done g) x w = done_left p g x w
-resume_left p (f.Returned line n) x w = undefined
+resume_left p (f.Returned c) x w = undefined
 resume_left p (f.Closing n) x w = leaves x (forgetting n w)
 resume_left p f x w = leaves x w
 
@@ -199,7 +199,7 @@ returned n u = each_way (λ v after. gives v (calls_back n after)) (λ x w. unde
 
 abbrev pub resume_value : Program → Frame → Outcome Value → Outcome Given
 resume_value p (f.Value g) u = value_goes p g u
-resume_value p (f.Returned line n) u = tag a_value (returned n u)
+resume_value p (f.Returned c) u = tag a_value (returned c.calls u)
 resume_value p (f.Closing n) u = tag a_value (closing n u)
 resume_value p f u = each_way (λ _ w. undefined) (resume_left p f) u
 
@@ -244,9 +244,9 @@ outcome_next p (n.Gives t) w = gives (thing_in t) w
 outcome_next p (n.Leaves x) w = leaves (exit_in x) w
 outcome_next p (n.Library line r vs) w = tag a_value (library (routine_in r) (map value_in vs.items) w)
 outcome_next p (n.Status k) w = ends (status k) w
-outcome_next p n.DivideByZero w = ends divide_by_zero w
-outcome_next p (n.Undefined line why) w = undefined
-outcome_next p n.Going w = going w
+outcome_next p (n.DivideByZero s) w = ends divide_by_zero w
+outcome_next p (n.Undefined s why) w = undefined
+outcome_next p (n.Going line) w = going w
 
 abbrev pub ok_of : {A E : Type 0} → Result A E → Option A
 ok_of (Ok v) = Some v

@@ -6,7 +6,7 @@ ghost use Rattle.bk_meaning.specs.World.{World, gives, with, turn, remembering};
 ghost use Rattle.bk_meaning.specs.Environment.{constant_in};
 ghost use Rattle.bk_meaning.specs.Lasting.{Program};
 ghost use Rattle.bk_meaning.specs.Blocks as k;
-ghost use Rattle.bk_check.specs.Full.{full};
+ghost use Rattle.bk_meaning.specs.Full.{full};
 ghost use Rattle.bk_check.specs.Views.{letters_in, start_in};
 ghost use Rattle.bk_objects.specs.Views.{value_in};
 ghost use Rattle.bk_lasting.specs.Views.{env_in};
@@ -14,7 +14,7 @@ ghost use Rattle.bk_check.specs.Worlds.{Bytes, world};
 ghost use Rattle.bk_check.specs.Resume.{tag, done_tag, Comes, resumed, declared_then, bound_then, defined_then, started_then, starting_then, variables_then, vector_then};
 
 use crate::commands::scope;
-use crate::frame::{Frame, Let, Next, OnValue, Start};
+use crate::frame::{Frame, Let, Next, OnValue, Start, Subject};
 use crate::machine::Machine;
 use bk_base::Line;
 use bk_lasting::{Env, Sense, constant, constants, count, count_def, count_defs, within_let};
@@ -39,7 +39,7 @@ pub fn declare<'a>(
     }
 }
 
-/// A declaration, and what is behind it.
+/// A declaration, and what is after it.
 fn declare_one<'a>(
     m: &mut Machine<'a>,
     first: &'a Decl,
@@ -112,7 +112,7 @@ pub fn define<'a>(m: &mut Machine<'a>, rest: Let<'a>) -> Result<Next<'a>, AllocE
     }
 }
 
-/// The first of the definitions, with those behind it.
+/// The first of the definitions, with those after it.
 fn define_behind<'a>(
     m: &mut Machine<'a>,
     first: &'a Def,
@@ -145,7 +145,7 @@ fn define_behind<'a>(
     )
 }
 
-/// The variables of a LET, and what is behind it.
+/// The variables of a LET, and what is after it.
 fn begin_scope<'a>(m: &mut Machine<'a>, rest: Let<'a>) -> Result<Next<'a>, AllocError>
     ensures { IfOk result (λ next. (p : Program) (b : Bytes) →
         Comes p m.new.frames.items next (world m.new b)
@@ -163,7 +163,7 @@ fn begin_scope<'a>(m: &mut Machine<'a>, rest: Let<'a>) -> Result<Next<'a>, Alloc
     Ok(Next::Declare(decls, commands, inside))
 }
 
-/// A definition, and those behind it.
+/// A definition, and those after it.
 fn define_one<'a>(
     m: &mut Machine<'a>,
     first: &'a Def,
@@ -178,7 +178,7 @@ fn define_one<'a>(
     match first {
         Def::Routine(_, _, _, _) => Ok(pass(there, rest)),
         Def::Function(_, _, _, _) => Ok(pass(there, rest)),
-        Def::Variables(_, names, inits) => Ok(variables(m, names, inits, there, rest)),
+        Def::Variables(line, names, inits) => Ok(variables(m, *line, names, inits, there, rest)),
     }
 }
 
@@ -208,6 +208,7 @@ fn pass<'a>(there: Env<'a>, rest: Let<'a>) -> Next<'a>
 /// Variables, whose values take a turn.
 fn variables<'a>(
     m: &mut Machine<'a>,
+    line: Line,
     names: &'a [Name],
     inits: &'a [Init],
     there: Env<'a>,
@@ -217,7 +218,7 @@ fn variables<'a>(
         (turn (world m.old b) (variables_then p (starts_in inits.now) (letters_in names.now) (env_in there.entry) rest.entry)))) }
 {
     if m.turns == 0 {
-        return Next::Going;
+        return Next::Going(line);
     }
     m.turns -= 1;
     let Let {
@@ -289,7 +290,7 @@ fn no_start<'a>(names: &'a [Name], rest: Let<'a>) -> Next<'a>
     }
 }
 
-/// What one variable begins with, and those behind it.
+/// What one variable begins with, and those after it.
 fn start_one<'a>(
     m: &mut Machine<'a>,
     first: &'a Init,
@@ -341,17 +342,17 @@ fn vector<'a>(
         (resumed p m.old.frames.items (tag done_tag (turn (world m.old b) (vector_then p (constant_in (env_in here.entry) (expression size.now)) (starts_in others.now) (env_in here.entry) (letters_in names.now) rest.entry))))) }
 {
     if m.turns == 0 {
-        return Ok(Next::Going);
+        return Ok(Next::Going(line));
     }
     m.turns -= 1;
     let last = constant(&here, size);
-    make_vector(m, line, last, others, here, names, rest)
+    make_vector(m, size, last, others, here, names, rest)
 }
 
 /// The object of a VEC, whose last place has this number.
 fn make_vector<'a>(
     m: &mut Machine<'a>,
-    line: Line,
+    size: &'a Expr,
     last: Option<u32>,
     others: &'a [Init],
     here: Env<'a>,
@@ -363,7 +364,7 @@ fn make_vector<'a>(
         (resumed p m.old.frames.items (tag done_tag (vector_then p last (starts_in others.now) (env_in here.entry) (letters_in names.now) rest.entry (world m.old b))))) }
 {
     match last {
-        None => Ok(Next::Undefined(line, Reason::NoNumber)),
+        None => Ok(Next::Undefined(Subject::Expr(size), Reason::NoNumber(Worth::Unset))),
         Some(last) => {
             let object = m.store.made();
             let length = last as usize + 1;

@@ -5,23 +5,24 @@ ghost use Rattle.std.specs.Option.{option_map};
 ghost use Rattle.bk_meaning.specs.Environment.{Environment};
 ghost use Rattle.bk_meaning.specs.Lasting.{Program, procedure_of};
 ghost use Rattle.bk_meaning.specs.Calls as c;
-ghost use Rattle.bk_check.specs.Full.{full};
+ghost use Rattle.bk_meaning.specs.Full.{full};
 ghost use Rattle.bk_check.specs.Views.{letters_in, program_in};
 ghost use Rattle.bk_objects.specs.Views.{value_in, cell_in};
 ghost use Rattle.bk_lasting.specs.Views.{env_in, body_in, procedure_in};
 ghost use Rattle.bk_check.specs.Worlds.{Bytes, world};
-ghost use Rattle.bk_check.specs.Resume.{tag, a_value, Comes, resumed, list_value};
+ghost use Rattle.bk_meaning.specs.World.{World, undefined};
+ghost use Rattle.bk_check.specs.Resume.{tag, a_value, Comes, resumed, outcome_next, list_value};
 
-use crate::frame::{Frame, Next, OnDone};
+use crate::frame::{Call, Frame, Next, OnDone, Subject};
 use crate::machine::Machine;
 use bk_base::Line;
 use bk_lasting::{Body, Env, Lasting, Procedure, Sense};
 use bk_objects::{Cell, Reason, Worth};
-use bk_tree::Name;
+use bk_tree::{Expr, Name};
 use std::alloc::{AllocError, Global};
 
 /// The procedure of this number, if it is one.
-fn procedure<'a>(program: &'a [Lasting<'a>], number: u64) -> Option<&'a Procedure<'a>>
+fn procedure<'a, 'p>(program: &'p [Lasting<'a>], number: u64) -> Option<&'p Procedure<'a>>
     ensures { option_map (λ q. procedure_in q.now) result ≡ procedure_of (program_in program.now) number }
 {
     match program.get(number as usize) {
@@ -90,7 +91,7 @@ fn body<'a>(m: &mut Machine<'a>, body: Body<'a>, env: Env<'a>) -> Result<Next<'a
 /// A procedure that is called.
 fn enter<'a>(
     m: &mut Machine<'a>,
-    procedure: &'a Procedure<'a>,
+    procedure: &Procedure<'a>,
     values: Vec<Worth>,
 ) -> Result<Next<'a>, AllocError>
     ensures { IfOk result (λ next. (p : Program) (b : Bytes) →
@@ -105,11 +106,23 @@ fn enter<'a>(
     body(m, procedure.body, env)
 }
 
+/// A call of what is no procedure.
+fn no_procedure<'a>(line: Line, expr: Option<&'a Expr>, callee: Worth) -> Next<'a>
+    ensures { (p : Program) (w : World) → outcome_next p result w ≡ undefined }
+{
+    let subject = match expr {
+        Some(expr) => Subject::Call(line, expr),
+        None => Subject::Nothing,
+    };
+    Next::Undefined(subject, Reason::NoProcedure(callee))
+}
+
 /// What is called.
 fn called<'a>(
     m: &mut Machine<'a>,
-    program: &'a [Lasting<'a>],
+    program: &[Lasting<'a>],
     line: Line,
+    expr: Option<&'a Expr>,
     callee: Worth,
     values: Vec<Worth>,
 ) -> Result<Next<'a>, AllocError>
@@ -121,19 +134,20 @@ fn called<'a>(
         Worth::Routine(routine) => Ok(Next::Library(line, routine, values)),
         Worth::Procedure(number) => match procedure(program, number) {
             Some(procedure) => enter(m, procedure, values),
-            None => Ok(Next::Undefined(line, Reason::NoProcedure)),
+            None => Ok(no_procedure(line, expr, callee)),
         },
-        Worth::Number(_) => Ok(Next::Undefined(line, Reason::NoProcedure)),
-        Worth::Address(_, _) => Ok(Next::Undefined(line, Reason::NoProcedure)),
-        Worth::Unset => Ok(Next::Undefined(line, Reason::NoProcedure)),
+        Worth::Number(_) => Ok(no_procedure(line, expr, callee)),
+        Worth::Address(_, _) => Ok(no_procedure(line, expr, callee)),
+        Worth::Unset => Ok(no_procedure(line, expr, callee)),
     }
 }
 
 /// A call. While it runs a further call is active.
 pub fn call<'a>(
     m: &mut Machine<'a>,
-    program: &'a [Lasting<'a>],
+    program: &[Lasting<'a>],
     line: Line,
+    expr: Option<&'a Expr>,
     callee: Worth,
     values: Vec<Worth>,
 ) -> Result<Next<'a>, AllocError>
@@ -142,8 +156,13 @@ pub fn call<'a>(
         (resumed (program_in program.now) m.old.frames.items (tag a_value (c.call (program_in program.now) (full (program_in program.now)) (value_in callee) (list_value values.items) (world m.old b))))) }
 {
     let calls = m.calls;
-    m.frames.push(Frame::Returned(line, calls))?;
+    m.frames.push(Frame::Returned(Call {
+        line,
+        callee,
+        arguments: values.len(),
+        calls,
+    }))?;
     m.calls = calls.checked_add(1).ok_or(AllocError)?;
     m.most_calls = m.most_calls.max(m.calls);
-    called(m, program, line, callee, values)
+    called(m, program, line, expr, callee, values)
 }

@@ -10,7 +10,7 @@ ghost use Rattle.bk_meaning.specs.Loops.{step_of as step_of_for};
 ghost use Rattle.bk_meaning.specs.Scopes as s;
 ghost use Rattle.bk_meaning.specs.Calls.{applied};
 ghost use Rattle.bk_meaning.specs.Commands as c;
-ghost use Rattle.bk_check.specs.Full.{full};
+ghost use Rattle.bk_meaning.specs.Full.{full};
 ghost use Rattle.bk_check.specs.Plain.{takes_no_turn};
 ghost use Rattle.bk_check.specs.Views.{mode_in};
 ghost use Rattle.bk_objects.specs.Views.{value_in};
@@ -18,7 +18,7 @@ ghost use Rattle.bk_lasting.specs.Views.{env_in};
 ghost use Rattle.bk_check.specs.Worlds.{Bytes, world};
 ghost use Rattle.bk_check.specs.Resume.{tag, done_tag, Comes, resumed, begun_loop};
 
-use crate::frame::{Exit, Frame, Next, OnDone, OnTruth, OnValue, Sought, Thing};
+use crate::frame::{Exit, Frame, Next, OnDone, OnTruth, OnValue, Sought, Subject, Thing};
 use crate::loops::round;
 use crate::machine::Machine;
 use crate::seeking::{at_case, at_default, at_label, stands_in};
@@ -43,7 +43,7 @@ pub fn act<'a>(
         return Ok(Next::Gives(Thing::Done));
     }
     if m.turns == 0 {
-        return Ok(Next::Going);
+        return Ok(Next::Going(line_of_command(command)));
     }
     m.turns -= 1;
     act_inside(m, command, mode, env)
@@ -69,7 +69,7 @@ fn act_inside<'a>(
 {
     match command {
         Command::Empty => Ok(Next::Gives(Thing::Done)),
-        Command::Assign(line, dests, values) => assign(m, *line, dests, values, env),
+        Command::Assign(_, dests, values) => assign(m, dests, values, env),
         Command::Call(line, callee, items) => call_command(m, *line, callee, items, env),
         Command::Goto(_, name) => Ok(Next::Leaves(Exit::Goto(&name.letters))),
         Command::Label(_, name, inside) => Ok(Next::Act(inside, at_label(mode, name), env)),
@@ -85,10 +85,8 @@ fn act_inside<'a>(
         ),
         Command::Repeat(_, _) => round(m, command, mode, env),
         Command::RepeatWhile(_, _, _, _) => round(m, command, mode, env),
-        Command::For(line, name, a, b, by, body) => for_command(
-            m, *line, name, a, b, by, body, env,
-        ),
-        Command::SwitchOn(line, value, inside) => switch(m, *line, value, inside, mode, env),
+        Command::For(_, name, a, b, by, body) => for_command(m, name, a, b, by, body, env),
+        Command::SwitchOn(_, value, inside) => switch(m, value, inside, mode, env),
         Command::ResultIs(_, value) => m.first_value(OnValue::Result, value, env),
         Command::Simple(_, word) => Ok(simple(*word)),
         Command::Block(_, decls, commands) => block(m, decls, commands, mode, env),
@@ -108,7 +106,6 @@ fn step_of(env: &Env, by: &Option<Box<Expr>>) -> Option<u32>
 /// `Es := Es`
 fn assign<'a>(
     m: &mut Machine<'a>,
-    line: Line,
     dests: &'a [Expr],
     values: &'a [Expr],
     env: Env<'a>,
@@ -118,7 +115,7 @@ fn assign<'a>(
         (resumed p m.old.frames.items (tag done_tag (c.assigned (full p) (expressions_in dests.now) (env_in env.entry) (expressions_in values.now) (past_each (expressions_in dests.now) (env_in env.entry)) (world m.old b))))) }
 {
     let behind = env.again()?.behind(count_each(dests)?)?;
-    assigned(m, line, dests, env, values, behind)
+    assigned(m, dests, env, values, behind)
 }
 
 /// A command that is a call.
@@ -140,7 +137,6 @@ fn call_command<'a>(
 /// FOR.
 fn for_command<'a>(
     m: &mut Machine<'a>,
-    line: Line,
     name: &'a Name,
     first: &'a Expr,
     last: &'a Expr,
@@ -155,7 +151,7 @@ fn for_command<'a>(
     let behind = env.again()?.behind(count(first)?)?;
     let step = step_of(&env, by);
     m.first_value(
-        OnValue::ForStart(line, name, last, behind, body, step),
+        OnValue::ForStart(name, last, behind, body, step),
         first,
         env,
     )
@@ -164,7 +160,6 @@ fn for_command<'a>(
 /// SWITCHON.
 fn switch<'a>(
     m: &mut Machine<'a>,
-    line: Line,
     value: &'a Expr,
     inside: &'a Command,
     mode: Option<Sought<'a>>,
@@ -176,7 +171,7 @@ fn switch<'a>(
 {
     let behind = env.again()?.behind(count(value)?)?;
     match mode {
-        None => m.first_value(OnValue::Switch(line, inside, behind), value, env),
+        None => m.first_value(OnValue::Switch(value, inside, behind), value, env),
         Some(sought) => m.first_act(OnDone::Cases, inside, Some(sought), behind),
     }
 }
@@ -266,7 +261,6 @@ fn test<'a>(
 /// Assignments, one after another.
 pub fn assigned<'a>(
     m: &mut Machine<'a>,
-    line: Line,
     dests: &'a [Expr],
     there: Env<'a>,
     values: &'a [Expr],
@@ -282,11 +276,7 @@ pub fn assigned<'a>(
             None => Ok(Next::Gives(Thing::Done)),
             Some((first, rest)) => {
                 let behind = env.again()?.behind(count(first)?)?;
-                m.first_value(
-                    OnValue::Assigned(line, dests, there, rest, behind),
-                    first,
-                    env,
-                )
+                m.first_value(OnValue::Assigned(dests, there, rest, behind), first, env)
             }
         },
     }
@@ -308,10 +298,10 @@ pub fn in_order<'a>(
         Some((first, rest)) => {
             let behind = env.again()?.behind(count_command(first)?)?;
             match mode {
-                None => m.first_act(OnDone::Behind(rest, behind), first, None, env),
+                None => m.first_act(OnDone::After(rest, behind), first, None, env),
                 Some(sought) => {
                     if stands_in(sought, &env, first) {
-                        m.first_act(OnDone::Behind(rest, behind), first, Some(sought), env)
+                        m.first_act(OnDone::After(rest, behind), first, Some(sought), env)
                     } else {
                         Ok(Next::InOrder(rest, Some(sought), behind))
                     }
@@ -338,7 +328,7 @@ pub fn scope<'a>(
     Ok(Next::InOrder(commands, mode, inside))
 }
 
-/// A block. One with declarations is a scope, and its objects die behind it.
+/// A block. One with declarations is a scope, and its objects die after it.
 fn block<'a>(
     m: &mut Machine<'a>,
     decls: &'a [Decl],
@@ -362,7 +352,7 @@ fn block<'a>(
 /// The command of a SWITCHON, from the CASE of a value, else from the DEFAULT.
 pub fn choose_case<'a>(
     m: &mut Machine<'a>,
-    line: Line,
+    expr: &'a Expr,
     value: Worth,
     command: &'a Command,
     env: Env<'a>,
@@ -381,9 +371,32 @@ pub fn choose_case<'a>(
                 Ok(Next::Gives(Thing::Done))
             }
         }
-        Worth::Address(_, _) => Ok(Next::Undefined(line, Reason::NoNumber)),
-        Worth::Procedure(_) => Ok(Next::Undefined(line, Reason::NoNumber)),
-        Worth::Routine(_) => Ok(Next::Undefined(line, Reason::NoNumber)),
-        Worth::Unset => Ok(Next::Undefined(line, Reason::NoNumber)),
+        Worth::Address(_, _) => Ok(Next::Undefined(Subject::Switch(expr), Reason::NoNumber(value))),
+        Worth::Procedure(_) => Ok(Next::Undefined(Subject::Switch(expr), Reason::NoNumber(value))),
+        Worth::Routine(_) => Ok(Next::Undefined(Subject::Switch(expr), Reason::NoNumber(value))),
+        Worth::Unset => Ok(Next::Undefined(Subject::Switch(expr), Reason::NoNumber(value))),
+    }
+}
+
+/// The line of a command.
+pub fn line_of_command(command: &Command) -> Line {
+    match command {
+        Command::Empty => Line::first(),
+        Command::Assign(line, _, _)
+        | Command::Call(line, _, _)
+        | Command::Goto(line, _)
+        | Command::Label(line, _, _)
+        | Command::Case(line, _, _)
+        | Command::Default(line, _)
+        | Command::If(line, _, _, _)
+        | Command::Test(line, _, _, _)
+        | Command::While(line, _, _, _)
+        | Command::For(line, _, _, _, _, _)
+        | Command::SwitchOn(line, _, _)
+        | Command::ResultIs(line, _)
+        | Command::Simple(line, _)
+        | Command::Block(line, _, _)
+        | Command::Repeat(line, _)
+        | Command::RepeatWhile(line, _, _, _) => *line,
     }
 }

@@ -7,7 +7,7 @@ ghost use Rattle.bk_meaning.specs.Lasting.{Program};
 ghost use Rattle.bk_meaning.specs.Values.{address, holds};
 ghost use Rattle.bk_meaning.specs.Parts;
 ghost use Rattle.bk_meaning.specs.Loops.{for_rounds_of, for_loop, for_test as test_of, for_step as step_of, relation as relates};
-ghost use Rattle.bk_check.specs.Full.{full};
+ghost use Rattle.bk_meaning.specs.Full.{full};
 ghost use Rattle.bk_objects.specs.Views.{value_in};
 ghost use Rattle.bk_lasting.specs.Views.{env_in};
 ghost use Rattle.bk_check.specs.Worlds.{Bytes, world};
@@ -15,9 +15,8 @@ ghost use Rattle.bk_check.specs.Resume.{tag, done_tag, Comes, resumed, next_for 
 ghost use Rattle.bk_objects.specs.Views.{outcome_of};
 ghost use Rattle.bk_check.specs.Fors.{tested as tested_by, stepped as stepped_by, truth_then, limit_then};
 
-use crate::frame::{For, Frame, Next, OnDone, Thing};
+use crate::frame::{For, Frame, Next, OnDone, Subject, Thing};
 use crate::machine::Machine;
-use bk_base::Line;
 use bk_lasting::{Env, Sense};
 use bk_objects::{Cell, Computed, Place, Reason, Store, Worth, combine, put, read, truth_of};
 use bk_tree::{Command, Name, Operator};
@@ -113,7 +112,6 @@ fn add_step(store: &mut Store, object: u64, step: u32) -> Stepped
 /// A FOR whose first value, limit and step are known.
 pub fn begin_for<'a>(
     m: &mut Machine<'a>,
-    line: Line,
     name: &'a Name,
     env: Env<'a>,
     start: Worth,
@@ -126,15 +124,14 @@ pub fn begin_for<'a>(
         (resumed p m.old.frames.items (tag done_tag (with (given step (world m.old b)) (λ n w. for_loop (full p) name.now.letters.items (action body.now) (value_in start) (value_in limit) n (env_in env.entry) w))))) }
 {
     match step {
-        None => Ok(Next::Undefined(line, Reason::NoNumber)),
-        Some(step) => begin_by(m, line, name, env, start, limit, body, step),
+        None => Ok(Next::Undefined(Subject::Variable(name), Reason::NoNumber(start))),
+        Some(step) => begin_by(m, name, env, start, limit, body, step),
     }
 }
 
-/// A FOR with this step: its variable is made, and dies behind it.
+/// A FOR with this step: its variable is made, and dies after it.
 fn begin_by<'a>(
     m: &mut Machine<'a>,
-    line: Line,
     name: &'a Name,
     env: Env<'a>,
     start: Worth,
@@ -153,7 +150,7 @@ fn begin_by<'a>(
     first_round(
         m,
         For {
-            line,
+            name,
             object,
             limit,
             step,
@@ -182,8 +179,8 @@ fn first_round<'a>(m: &mut Machine<'a>, run: For<'a>) -> Result<Next<'a>, AllocE
         } else {
             Ok(Next::Gives(Thing::Done))
         },
-        Tested::DivideByZero => Ok(Next::DivideByZero),
-        Tested::Undefined(reason) => Ok(Next::Undefined(run.line, reason)),
+        Tested::DivideByZero => Ok(Next::DivideByZero(Subject::Variable(run.name))),
+        Tested::Undefined(reason) => Ok(Next::Undefined(Subject::Variable(run.name), reason)),
     }
 }
 
@@ -206,13 +203,13 @@ fn further_round<'a>(m: &mut Machine<'a>, run: For<'a>) -> Result<Next<'a>, Allo
         (resumed p m.old.frames.items (tag done_tag (further_for p run.entry (world m.old b))))) }
 {
     if m.turns == 0 {
-        return Ok(Next::Going);
+        return Ok(Next::Going(run.name.line));
     }
     m.turns -= 1;
     for_round(m, run)
 }
 
-/// The test behind a round.
+/// The test after a round.
 fn test_again<'a>(m: &mut Machine<'a>, run: For<'a>) -> Result<Next<'a>, AllocError>
     ensures { IfOk result (λ next. (p : Program) (b : Bytes) →
         Comes p m.new.frames.items next (world m.new b)
@@ -224,8 +221,8 @@ fn test_again<'a>(m: &mut Machine<'a>, run: For<'a>) -> Result<Next<'a>, AllocEr
         } else {
             Ok(Next::Gives(Thing::Done))
         },
-        Tested::DivideByZero => Ok(Next::DivideByZero),
-        Tested::Undefined(reason) => Ok(Next::Undefined(run.line, reason)),
+        Tested::DivideByZero => Ok(Next::DivideByZero(Subject::Variable(run.name))),
+        Tested::Undefined(reason) => Ok(Next::Undefined(Subject::Variable(run.name), reason)),
     }
 }
 
@@ -237,7 +234,7 @@ pub fn next_for<'a>(m: &mut Machine<'a>, run: For<'a>) -> Result<Next<'a>, Alloc
 {
     match add_step(&mut m.store, run.object, run.step) {
         Stepped::Done => test_again(m, run),
-        Stepped::DivideByZero => Ok(Next::DivideByZero),
-        Stepped::Undefined(reason) => Ok(Next::Undefined(run.line, reason)),
+        Stepped::DivideByZero => Ok(Next::DivideByZero(Subject::Variable(run.name))),
+        Stepped::Undefined(reason) => Ok(Next::Undefined(Subject::Variable(run.name), reason)),
     }
 }

@@ -35,44 +35,76 @@ pub enum Sought<'a> {
     Default,
 }
 
+/// What an undefined act is done with.
+#[derive(Clone, Copy)]
+pub enum Subject<'a> {
+    /// The value or the place of an expression.
+    Expr(&'a Expr),
+    /// The truth of an expression.
+    Condition(&'a Expr),
+    /// The value of the expression of a SWITCHON.
+    Switch(&'a Expr),
+    /// The variable of a FOR.
+    Variable(&'a Name),
+    /// A call on this line, and what is called.
+    Call(Line, &'a Expr),
+    /// A routine of the library, called on this line.
+    Library(Line, Routine),
+    /// No part of the source.
+    Nothing,
+}
+
+/// A call that is active.
+#[derive(Clone, Copy)]
+pub struct Call {
+    /// The line of its parenthesis.
+    pub line: Line,
+    /// What is called.
+    pub callee: Worth,
+    /// How many arguments it has.
+    pub arguments: usize,
+    /// How many calls were active before it.
+    pub calls: u64,
+}
+
 /// What goes on with a value.
 #[derive(Drop)]
 pub enum OnValue<'a> {
     /// `!`, with the address.
-    Contents(Line),
+    Contents(&'a Expr),
     /// Another prefix.
-    Prefix(Line, Prefix),
+    Prefix(&'a Expr, Prefix),
     /// An operator, with its first operand.
-    Left(Line, Operator, &'a Expr, Env<'a>),
+    Left(&'a Expr, Operator, &'a Expr, Env<'a>),
     /// With its second, too.
-    Right(Line, Operator, Worth),
+    Right(&'a Expr, Operator, Worth),
     /// The value of a condition.
-    Judge(Line),
+    Judge(&'a Expr),
     /// The address of a place.
     At,
-    /// The vector, and the offset behind it.
-    Vector(Line, &'a Expr, Env<'a>),
-    Offset(Line, Worth),
-    /// The string, and the number of its byte behind it.
+    /// The vector, and the offset after it.
+    Vector(&'a Expr, &'a Expr, Env<'a>),
+    Offset(&'a Expr, Worth),
+    /// The string, and the number of its byte after it.
     String(&'a Expr, Env<'a>),
     Byte(Worth),
-    /// An argument: those behind it and what the names mean there; those before; the procedure.
+    /// An argument: those after it and what the names mean there; those before; the procedure.
     Argument(Line, &'a [Expr], Env<'a>, Vec<Worth>, &'a Expr, Env<'a>),
     /// The procedure, with its arguments.
-    Callee(Line, Vec<Worth>),
+    Callee(Line, &'a Expr, Vec<Worth>),
     /// The value of a command that is a call.
     Dropped,
     /// The value of RESULTIS.
     Result,
-    /// The value of an assignment: the destinations, and the values behind it.
-    Assigned(Line, &'a [Expr], Env<'a>, &'a [Expr], Env<'a>),
+    /// The value of an assignment: the destinations, and the values after it.
+    Assigned(&'a [Expr], Env<'a>, &'a [Expr], Env<'a>),
     /// The value of SWITCHON, and its command.
-    Switch(Line, &'a Command, Env<'a>),
+    Switch(&'a Expr, &'a Command, Env<'a>),
     /// The first value of a FOR: the variable, the limit, the command and the step.
-    ForStart(Line, &'a Name, &'a Expr, Env<'a>, &'a Command, Option<u32>),
+    ForStart(&'a Name, &'a Expr, Env<'a>, &'a Command, Option<u32>),
     /// Its limit.
-    ForLimit(Line, &'a Name, Env<'a>, Worth, &'a Command, Option<u32>),
-    /// What a variable of LET begins with: what those behind it begin with, and the names from this one on.
+    ForLimit(&'a Name, Env<'a>, Worth, &'a Command, Option<u32>),
+    /// What a variable of LET begins with: what those after it begin with, and the names from this one on.
     Starts(&'a [Init], Env<'a>, &'a [Name], Let<'a>),
 }
 
@@ -97,16 +129,16 @@ pub enum OnTruth<'a> {
 #[derive(Drop)]
 pub enum OnTarget<'a> {
     /// `@`
-    Address(Line),
-    /// This value goes there; the assignments behind it.
-    Put(Line, Worth, &'a [Expr], Env<'a>, &'a [Expr], Env<'a>),
+    Address(&'a Expr),
+    /// This value goes to this destination; the assignments after it.
+    Put(&'a Expr, Worth, &'a [Expr], Env<'a>, &'a [Expr], Env<'a>),
 }
 
-/// What goes on behind a command.
+/// What goes on after a command.
 #[derive(Drop)]
 pub enum OnDone<'a> {
-    /// The commands behind it.
-    Behind(&'a [Command], Env<'a>),
+    /// The commands after it.
+    After(&'a [Command], Env<'a>),
     /// The body of a procedure with BE is done.
     Body,
     /// The command of a VALOF is done.
@@ -130,8 +162,8 @@ pub enum Frame<'a> {
     Truth(OnTruth<'a>),
     Target(OnTarget<'a>),
     Done(OnDone<'a>),
-    /// So many calls are active again.
-    Returned(Line, u64),
+    /// A call ends.
+    Returned(Call),
     /// The objects from a number on die.
     Closing(u64),
 }
@@ -139,7 +171,7 @@ pub enum Frame<'a> {
 /// A FOR that runs.
 #[derive(Drop)]
 pub struct For<'a> {
-    pub line: Line,
+    pub name: &'a Name,
     /// The number of its variable, which is an object.
     pub object: u64,
     pub limit: Worth,
@@ -163,9 +195,9 @@ pub struct Let<'a> {
     /// The definitions that are left, and what names mean there.
     pub defs: &'a [Def],
     pub here: Env<'a>,
-    /// What names mean behind the LET, but for its variables.
+    /// What names mean after the LET, but for its variables.
     pub behind: Env<'a>,
-    /// The declarations and the commands behind it.
+    /// The declarations and the commands after it.
     pub decls: &'a [Decl],
     pub commands: &'a [Command],
 }
@@ -192,8 +224,8 @@ pub enum Next<'a> {
     Library(Line, Routine, Vec<Worth>),
     /// The program ends with this status.
     Status(u32),
-    DivideByZero,
-    Undefined(Line, Reason),
-    /// No turn is left.
-    Going,
+    DivideByZero(Subject<'a>),
+    Undefined(Subject<'a>, Reason),
+    /// No turn is left for what is on this line.
+    Going(Line),
 }

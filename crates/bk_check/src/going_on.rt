@@ -4,7 +4,7 @@ ghost use Rattle.bk_tree.specs.Tree.{action, actions_in, expressions_in};
 ghost use Rattle.bk_meaning.specs.World.{World, goto, gives, leaves, undefined, done};
 ghost use Rattle.bk_meaning.specs.Scopes.{alone};
 ghost use Rattle.bk_meaning.specs.Lasting.{Program};
-ghost use Rattle.bk_check.specs.Full.{full};
+ghost use Rattle.bk_meaning.specs.Full.{full};
 ghost use Rattle.bk_check.specs.Views.{program_in};
 ghost use Rattle.bk_objects.specs.Views.{value_in};
 ghost use Rattle.bk_lasting.specs.Views.{env_in};
@@ -16,11 +16,10 @@ use crate::blocks::named;
 use crate::calls::call;
 use crate::commands::{assigned, choose_case, scope};
 use crate::fors::{begin_for, next_for};
-use crate::frame::{Exit, Frame, Next, OnDone, OnTarget, OnTruth, OnValue, Sought, Thing};
+use crate::frame::{Exit, Frame, Next, OnDone, OnTarget, OnTruth, OnValue, Sought, Subject, Thing};
 use crate::loops::{further_round, next_round, round};
 use crate::machine::{Machine, came};
 use crate::seeking::{stands_in, stands_in_one};
-use bk_base::Line;
 use bk_lasting::{Env, Lasting, count, count_command};
 use bk_objects::{Place, Reason, Worth, prefixed, put};
 use bk_tree::{Command, Expr};
@@ -29,7 +28,7 @@ use std::alloc::AllocError;
 /// What goes on with a value.
 fn with_value<'a>(
     m: &mut Machine<'a>,
-    program: &'a [Lasting<'a>],
+    program: &[Lasting<'a>],
     frame: OnValue<'a>,
     x: Worth,
 ) -> Result<Next<'a>, AllocError>
@@ -38,18 +37,18 @@ fn with_value<'a>(
         (resumed (program_in program.now) m.old.frames.items (value_goes (program_in program.now) frame.entry (gives (value_in x) (world m.old b))))) }
 {
     match frame {
-        OnValue::Contents(line) => Ok(m.fetched(line, x)),
-        OnValue::Prefix(line, prefix) => Ok(came(line, prefixed(prefix, x))),
-        OnValue::Left(line, operator, b, env) => m.first_value(
-            OnValue::Right(line, operator, x),
+        OnValue::Contents(expr) => Ok(m.fetched(expr, x)),
+        OnValue::Prefix(expr, prefix) => Ok(came(expr, prefixed(prefix, x))),
+        OnValue::Left(expr, operator, b, env) => m.first_value(
+            OnValue::Right(expr, operator, x),
             b,
             env,
         ),
-        OnValue::Right(line, operator, first) => Ok(m.combined(line, operator, first, x)),
-        OnValue::Judge(line) => Ok(m.truth_given(line, x)),
+        OnValue::Right(expr, operator, first) => Ok(m.combined(expr, operator, first, x)),
+        OnValue::Judge(expr) => Ok(m.truth_given(expr, x)),
         OnValue::At => Ok(Next::Gives(Thing::Target(Place::Cell(x)))),
-        OnValue::Vector(line, b, env) => m.first_value(OnValue::Offset(line, x), b, env),
-        OnValue::Offset(line, first) => Ok(m.place_given(line, first, x)),
+        OnValue::Vector(expr, b, env) => m.first_value(OnValue::Offset(expr, x), b, env),
+        OnValue::Offset(expr, first) => Ok(m.place_given(expr, first, x)),
         OnValue::String(b, env) => m.first_value(OnValue::Byte(x), b, env),
         OnValue::Byte(first) => Ok(Next::Gives(Thing::Target(Place::Byte(first, x)))),
         OnValue::Argument(line, items, here, before, callee, env) => {
@@ -57,32 +56,25 @@ fn with_value<'a>(
             before.push(x)?;
             m.arguments(line, items, here, before, callee, env)
         }
-        OnValue::Callee(line, values) => call(m, program, line, x, values),
+        OnValue::Callee(line, expr, values) => { call(m, program, line, Some(expr), x, values) },
         OnValue::Dropped => Ok(Next::Gives(Thing::Done)),
         OnValue::Result => Ok(Next::Leaves(Exit::Result(x))),
-        OnValue::Assigned(line, dests, there, values, env) => put_first(
-            m, line, x, dests, there, values, env,
-        ),
-        OnValue::Switch(line, command, env) => choose_case(m, line, x, command, env),
-        OnValue::ForStart(line, name, limit, env, body, step) => {
+        OnValue::Assigned(dests, there, values, env) => put_first(m, x, dests, there, values, env),
+        OnValue::Switch(expr, command, env) => choose_case(m, expr, x, command, env),
+        OnValue::ForStart(name, limit, env, body, step) => {
             let behind = env.again()?.behind(count(limit)?)?;
-            m.first_value(
-                OnValue::ForLimit(line, name, behind, x, body, step),
-                limit,
-                env,
-            )
+            m.first_value(OnValue::ForLimit(name, behind, x, body, step), limit, env)
         }
-        OnValue::ForLimit(line, name, env, start, body, step) => begin_for(
-            m, line, name, env, start, x, body, step,
-        ),
+        OnValue::ForLimit(name, env, start, body, step) => {
+            begin_for(m, name, env, start, x, body, step)
+        },
         OnValue::Starts(inits, here, names, rest) => named(inits, here, names, x, rest),
     }
 }
 
-/// A value goes to the first of these destinations; the assignments behind it.
+/// A value goes to the first of these destinations; the assignments after it.
 fn put_first<'a>(
     m: &mut Machine<'a>,
-    line: Line,
     x: Worth,
     dests: &'a [Expr],
     there: Env<'a>,
@@ -97,7 +89,7 @@ fn put_first<'a>(
         Some((first, rest)) => {
             let behind = there.again()?.behind(count(first)?)?;
             m.first_target(
-                OnTarget::Put(line, x, rest, behind, values, env),
+                OnTarget::Put(first, x, rest, behind, values, env),
                 first,
                 there,
             )
@@ -169,25 +161,25 @@ fn with_target<'a>(
         (resumed p m.old.frames.items (target_goes p frame.entry (gives (place_in x) (world m.old b))))) }
 {
     match frame {
-        OnTarget::Address(line) => match x {
+        OnTarget::Address(expr) => match x {
             Place::Cell(at) => Ok(Next::Gives(Thing::Value(at))),
-            Place::Byte(_, _) => Ok(Next::Undefined(line, Reason::NoPlace)),
+            Place::Byte(_, _) => Ok(Next::Undefined(Subject::Expr(expr), Reason::NoPlace)),
         },
-        OnTarget::Put(line, value, dests, there, values, env) => match put(&mut m.store, x, value) {
-            Ok(()) => assigned(m, line, dests, there, values, env),
-            Err(reason) => Ok(Next::Undefined(line, reason)),
+        OnTarget::Put(dest, value, dests, there, values, env) => match put(&mut m.store, x, value) {
+            Ok(()) => assigned(m, dests, there, values, env),
+            Err(reason) => Ok(Next::Undefined(Subject::Expr(dest), reason)),
         },
     }
 }
 
-/// What goes on behind a command.
+/// What goes on after a command.
 fn with_done<'a>(m: &mut Machine<'a>, frame: OnDone<'a>) -> Result<Next<'a>, AllocError>
     ensures { IfOk result (λ next. (p : Program) (b : Bytes) →
         Comes p m.new.frames.items next (world m.new b)
         (resumed p m.old.frames.items (done_goes p frame.entry (done (world m.old b))))) }
 {
     match frame {
-        OnDone::Behind(commands, env) => Ok(Next::InOrder(commands, None, env)),
+        OnDone::After(commands, env) => Ok(Next::InOrder(commands, None, env)),
         OnDone::Body => Ok(Next::Gives(Thing::Value(Worth::Unset))),
         OnDone::Valof => Ok(Next::Gives(Thing::Value(Worth::Unset))),
         OnDone::Scope(_, _) => Ok(Next::Gives(Thing::Done)),
@@ -198,7 +190,7 @@ fn with_done<'a>(m: &mut Machine<'a>, frame: OnDone<'a>) -> Result<Next<'a>, All
     }
 }
 
-/// Where a part is left behind which this goes on.
+/// Where a part is left, and this goes on.
 fn with_exit<'a>(
     m: &mut Machine<'a>,
     frame: OnDone<'a>,
@@ -209,7 +201,7 @@ fn with_exit<'a>(
         (resumed p m.old.frames.items (done_left p frame.entry (exit_in exit.entry) (world m.old b)))) }
 {
     match frame {
-        OnDone::Behind(_, _) => Ok(Next::Leaves(exit)),
+        OnDone::After(_, _) => Ok(Next::Leaves(exit)),
         OnDone::Body => match exit {
             Exit::Return => Ok(Next::Gives(Thing::Value(Worth::Unset))),
             Exit::Break => Ok(Next::Leaves(Exit::Break)),
@@ -309,13 +301,13 @@ fn lands_alone<'a>(
 fn wrong<'a>() -> Result<Next<'a>, AllocError>
     ensures { IfOk result (λ next. (p : Program) (fs : List Frame) (w : World) → Comes p fs next w (resumed p fs undefined)) }
 {
-    Ok(Next::Undefined(Line::first(), Reason::NoPlace))
+    Ok(Next::Undefined(Subject::Nothing, Reason::NoPlace))
 }
 
 /// A frame goes on with a value.
 fn frame_with_value<'a>(
     m: &mut Machine<'a>,
-    program: &'a [Lasting<'a>],
+    program: &[Lasting<'a>],
     frame: Frame<'a>,
     x: Worth,
 ) -> Result<Next<'a>, AllocError>
@@ -325,8 +317,8 @@ fn frame_with_value<'a>(
 {
     match frame {
         Frame::Value(inside) => with_value(m, program, inside, x),
-        Frame::Returned(_, calls) => {
-            m.calls = calls;
+        Frame::Returned(call) => {
+            m.calls = call.calls;
             Ok(Next::Gives(Thing::Value(x)))
         }
         Frame::Closing(object) => {
@@ -354,7 +346,7 @@ fn frame_with_truth<'a>(
         Frame::Value(_) => wrong(),
         Frame::Target(_) => wrong(),
         Frame::Done(_) => wrong(),
-        Frame::Returned(_, _) => wrong(),
+        Frame::Returned(_) => wrong(),
         Frame::Closing(_) => wrong(),
     }
 }
@@ -374,12 +366,12 @@ fn frame_with_target<'a>(
         Frame::Value(_) => wrong(),
         Frame::Truth(_) => wrong(),
         Frame::Done(_) => wrong(),
-        Frame::Returned(_, _) => wrong(),
+        Frame::Returned(_) => wrong(),
         Frame::Closing(_) => wrong(),
     }
 }
 
-/// A frame goes on behind a command.
+/// A frame goes on after a command.
 fn frame_with_done<'a>(m: &mut Machine<'a>, frame: Frame<'a>) -> Result<Next<'a>, AllocError>
     ensures { IfOk result (λ next. (p : Program) (b : Bytes) →
         Comes p m.new.frames.items next (world m.new b)
@@ -394,14 +386,14 @@ fn frame_with_done<'a>(m: &mut Machine<'a>, frame: Frame<'a>) -> Result<Next<'a>
         Frame::Value(_) => wrong(),
         Frame::Truth(_) => wrong(),
         Frame::Target(_) => wrong(),
-        Frame::Returned(_, _) => wrong(),
+        Frame::Returned(_) => wrong(),
     }
 }
 
 /// A frame goes on with what was given.
 fn frame_with<'a>(
     m: &mut Machine<'a>,
-    program: &'a [Lasting<'a>],
+    program: &[Lasting<'a>],
     frame: Frame<'a>,
     thing: Thing,
 ) -> Result<Next<'a>, AllocError>
@@ -429,7 +421,7 @@ fn frame_left<'a>(
 {
     match frame {
         Frame::Done(inside) => with_exit(m, inside, exit),
-        Frame::Returned(line, _) => Ok(Next::Undefined(line, Reason::NoPlace)),
+        Frame::Returned(_) => Ok(Next::Undefined(Subject::Nothing, Reason::NoPlace)),
         Frame::Closing(object) => {
             m.store.forget(object);
             Ok(Next::Leaves(exit))
@@ -443,7 +435,7 @@ fn frame_left<'a>(
 /// What was given goes to the innermost frame.
 pub fn given<'a>(
     m: &mut Machine<'a>,
-    program: &'a [Lasting<'a>],
+    program: &[Lasting<'a>],
     thing: Thing,
 ) -> Result<Next<'a>, AllocError>
     ensures { IfOk result (λ next. (b : Bytes) →

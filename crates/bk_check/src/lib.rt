@@ -12,6 +12,7 @@ mod machine;
 mod seeking;
 mod steps;
 
-pub use frame::{Exit, Frame, Next, Thing};
-pub use machine::Machine;
+pub use calls::call;
+pub use frame::{Call, Exit, Frame, Next, Subject, Thing};
+pub use machine::{Machine, line_of};
 pub use steps::step;

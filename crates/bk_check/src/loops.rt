@@ -6,12 +6,13 @@ ghost use Rattle.bk_meaning.specs.Lasting.{Program};
 ghost use Rattle.bk_meaning.specs.Seeking.{forwards};
 ghost use Rattle.bk_meaning.specs.Loops.{rounds_of, again, where_truth};
 ghost use Rattle.bk_meaning.specs.Environment.{past, past_action};
-ghost use Rattle.bk_check.specs.Full.{full};
+ghost use Rattle.bk_meaning.specs.Full.{full};
 ghost use Rattle.bk_check.specs.Views.{mode_in};
 ghost use Rattle.bk_lasting.specs.Views.{env_in};
 ghost use Rattle.bk_check.specs.Worlds.{Bytes, world};
 ghost use Rattle.bk_check.specs.Resume.{tag, done_tag, Comes, resumed, next_round as behind_round};
 
+use crate::commands::line_of_command;
 use crate::frame::{Next, OnDone, OnTruth, Sought, Thing};
 use crate::machine::Machine;
 use bk_lasting::{Env, count, count_command};
@@ -96,13 +97,13 @@ pub fn further_round<'a>(
         (resumed p m.old.frames.items (tag done_tag (turn (world m.old b) (λ w. (full p).rounds (action command.now) forwards (env_in env.entry) w))))) }
 {
     if m.turns == 0 {
-        return Ok(Next::Going);
+        return Ok(Next::Going(line_of_command(command)));
     }
     m.turns -= 1;
     round(m, command, None, env)
 }
 
-/// The condition of WHILE or UNTIL behind a round.
+/// The condition of WHILE or UNTIL after a round.
 fn next_while<'a>(
     m: &mut Machine<'a>,
     command: &'a Command,
@@ -118,7 +119,7 @@ fn next_while<'a>(
     m.first_truth(OnTruth::Further(truth, command, outside), condition, env)
 }
 
-/// The condition of REPEATWHILE or REPEATUNTIL behind a round.
+/// The condition of REPEATWHILE or REPEATUNTIL after a round.
 fn next_repeat_while<'a>(
     m: &mut Machine<'a>,
     command: &'a Command,
@@ -135,7 +136,7 @@ fn next_repeat_while<'a>(
     m.first_truth(OnTruth::Further(truth, command, env), condition, behind)
 }
 
-/// The rounds of a loop behind one.
+/// The rounds of a loop after one.
 pub fn next_round<'a>(
     m: &mut Machine<'a>,
     command: &'a Command,

@@ -10,7 +10,7 @@ ghost use Rattle.bk_meaning.specs.Scopes.{in_order, scope_of, alone};
 ghost use Rattle.bk_meaning.specs.Calls.{applied};
 ghost use Rattle.bk_meaning.specs.Operators.{sum as sum_of};
 ghost use Rattle.bk_meaning.specs.Expressions.{value_of, truth_of, target_of, result_of, judged, combined as combination};
-ghost use Rattle.bk_check.specs.Full.{full};
+ghost use Rattle.bk_meaning.specs.Full.{full};
 ghost use Rattle.bk_check.specs.Views.{mode_in};
 ghost use Rattle.bk_objects.specs.Views.{value_in};
 ghost use Rattle.bk_lasting.specs.Views.{env_in, sense_in};
@@ -18,7 +18,7 @@ ghost use Rattle.bk_check.specs.Worlds.{Bytes, world};
 ghost use Rattle.bk_check.specs.Resume.{tag, done_tag, a_value, a_truth, a_target, Comes, resumed, value_goes, truth_goes, target_goes, done_goes, list_value, applied_behind};
 ghost use Rattle.bk_objects.specs.Views.{outcome_of};
 
-use crate::frame::{Frame, Next, OnDone, OnTarget, OnTruth, OnValue, Sought, Thing};
+use crate::frame::{Frame, Next, OnDone, OnTarget, OnTruth, OnValue, Sought, Subject, Thing};
 use crate::seeking::stands_in;
 use bk_base::{Line, word};
 use bk_lasting::{Env, Sense, count, in_scope};
@@ -39,13 +39,13 @@ pub struct Machine<'a> {
 }
 
 /// What an operation gave, as what comes next.
-pub fn came<'a>(line: Line, came: Computed) -> Next<'a>
+pub fn came<'a>(expr: &'a Expr, came: Computed) -> Next<'a>
     ensures { (p : Program) (m : Machine) (b : Bytes) → Comes p m.frames.items result (world m b) (resumed p m.frames.items (tag a_value (outcome_of came (world m b)))) }
 {
     match came {
         Computed::Value(worth) => Next::Gives(Thing::Value(worth)),
-        Computed::DivideByZero => Next::DivideByZero,
-        Computed::Undefined(reason) => Next::Undefined(line, reason),
+        Computed::DivideByZero => Next::DivideByZero(Subject::Expr(expr)),
+        Computed::Undefined(reason) => Next::Undefined(Subject::Expr(expr), reason),
     }
 }
 
@@ -118,7 +118,7 @@ impl<'a> Machine<'a> {
             (resumed p self.old.frames.items (tag a_value (value_of p (full p) (expression expr.now) (env_in env.entry) (world self.old b))))) }
     {
         match expr {
-            Expr::Name(line, name) => Ok(self.named(*line, env.sense(name))),
+            Expr::Name(_, name) => Ok(self.named(expr, env.sense(name))),
             Expr::Number(_, number) => Ok(Next::Gives(Thing::Value(Worth::Number(*number)))),
             Expr::Truth(_, truth) => Ok(Next::Gives(Thing::Value(Worth::Number(word::truth_of(
                 *truth,
@@ -128,24 +128,20 @@ impl<'a> Machine<'a> {
                 env.next, 0,
             )))),
             Expr::Parens(_, inside) => Ok(Next::Value(inside, env)),
-            Expr::Unary(line, prefix, operand) => match prefix {
-                Prefix::Contents => self.first_value(OnValue::Contents(*line), operand, env),
-                Prefix::Address => self.first_target(OnTarget::Address(*line), operand, env),
-                Prefix::Plus => self.first_value(
-                    OnValue::Prefix(*line, Prefix::Plus),
-                    operand,
-                    env,
-                ),
+            Expr::Unary(_, prefix, operand) => match prefix {
+                Prefix::Contents => self.first_value(OnValue::Contents(expr), operand, env),
+                Prefix::Address => self.first_target(OnTarget::Address(expr), operand, env),
+                Prefix::Plus => self.first_value(OnValue::Prefix(expr, Prefix::Plus), operand, env),
                 Prefix::Minus => self.first_value(
-                    OnValue::Prefix(*line, Prefix::Minus),
+                    OnValue::Prefix(expr, Prefix::Minus),
                     operand,
                     env,
                 ),
-                Prefix::Not => self.first_value(OnValue::Prefix(*line, Prefix::Not), operand, env),
+                Prefix::Not => self.first_value(OnValue::Prefix(expr, Prefix::Not), operand, env),
             },
-            Expr::Binary(_, operator, line, a, b) => {
+            Expr::Binary(_, operator, _, a, b) => {
                 let behind = env.again()?.behind(count(a)?)?;
-                self.first_value(OnValue::Left(*line, *operator, b, behind), a, env)
+                self.first_value(OnValue::Left(expr, *operator, b, behind), a, env)
             }
             Expr::Choice(_, _, c, a, b) => {
                 let behind = env.again()?.behind(count(c)?)?;
@@ -157,53 +153,53 @@ impl<'a> Machine<'a> {
     }
 
     /// What stands at an address.
-    pub fn fetched(&self, line: Line, at: Worth) -> Next<'a>
+    pub fn fetched(&self, expr: &'a Expr, at: Worth) -> Next<'a>
         ensures { (p : Program) (b : Bytes) → Comes p self.now.frames.items result (world self.now b)
             (resumed p self.now.frames.items (tag a_value (Parts.fetch (value_in at) (world self.now b)))) }
     {
-        came(line, read(&self.store, at))
+        came(expr, read(&self.store, at))
     }
 
     /// An operator between two values.
-    pub fn combined(&self, line: Line, operator: Operator, x: Worth, y: Worth) -> Next<'a>
+    pub fn combined(&self, expr: &'a Expr, operator: Operator, x: Worth, y: Worth) -> Next<'a>
         ensures { (p : Program) (b : Bytes) → Comes p self.now.frames.items result (world self.now b)
             (resumed p self.now.frames.items (tag a_value (combination operator (value_in x) (value_in y) (world self.now b)))) }
     {
-        came(line, combine(&self.store, operator, x, y))
+        came(expr, combine(&self.store, operator, x, y))
     }
 
     /// The truth of a value.
-    pub fn truth_given(&self, line: Line, x: Worth) -> Next<'a>
+    pub fn truth_given(&self, expr: &'a Expr, x: Worth) -> Next<'a>
         ensures { (p : Program) (b : Bytes) → Comes p self.now.frames.items result (world self.now b)
             (resumed p self.now.frames.items (tag a_truth (judged (value_in x) (world self.now b)))) }
     {
         match truth_of(&self.store, x) {
             Ok(truth) => Next::Gives(Thing::Truth(truth)),
-            Err(reason) => Next::Undefined(line, reason),
+            Err(reason) => Next::Undefined(Subject::Condition(expr), reason),
         }
     }
 
     /// The place that a vector and an offset are.
-    pub fn place_given(&self, line: Line, x: Worth, y: Worth) -> Next<'a>
+    pub fn place_given(&self, expr: &'a Expr, x: Worth, y: Worth) -> Next<'a>
         ensures { (p : Program) (b : Bytes) → Comes p self.now.frames.items result (world self.now b)
             (resumed p self.now.frames.items (tag a_target (with (given (sum_of (world self.now b).memory (value_in x) (value_in y)) (world self.now b)) (λ a w. gives (Parts.at a) w)))) }
     {
         match sum(&self.store, x, y) {
             Ok(at) => Next::Gives(Thing::Target(Place::Cell(at))),
-            Err(reason) => Next::Undefined(line, reason),
+            Err(reason) => Next::Undefined(Subject::Expr(expr), reason),
         }
     }
 
     /// A name whose value is asked for.
-    fn named(&self, line: Line, sense: Option<Sense>) -> Next<'a>
+    fn named(&self, expr: &'a Expr, sense: Option<Sense>) -> Next<'a>
         ensures { (p : Program) (b : Bytes) → Comes p self.now.frames.items result (world self.now b)
             (resumed p self.now.frames.items (tag a_value (Parts.named (option_map sense_in sense) (world self.now b)))) }
     {
         match sense {
             Some(Sense::Constant(word)) => Next::Gives(Thing::Value(Worth::Number(word))),
-            Some(Sense::Cell(object, offset)) => self.fetched(line, Worth::Address(object, offset)),
+            Some(Sense::Cell(object, offset)) => self.fetched(expr, Worth::Address(object, offset)),
             Some(Sense::Label) | Some(Sense::Foreign) | None => Next::Undefined(
-                line,
+                Subject::Expr(expr),
                 Reason::NoPlace,
             ),
         }
@@ -225,7 +221,7 @@ impl<'a> Machine<'a> {
         self.arguments(line, items, here, Vec::new(self.alloc), callee, env)
     }
 
-    /// The arguments that are left, behind those before.
+    /// The arguments that are left, after those before.
     pub fn arguments(
         &mut self,
         line: Line,
@@ -248,7 +244,7 @@ impl<'a> Machine<'a> {
                     here,
                 )
             }
-            None => self.first_value(OnValue::Callee(line, before), callee, env),
+            None => self.first_value(OnValue::Callee(line, callee, before), callee, env),
         }
     }
 
@@ -285,8 +281,7 @@ impl<'a> Machine<'a> {
             Comes p self.new.frames.items next (world self.new b)
             (resumed p self.old.frames.items (tag a_truth (with (value_of p (full p) (expression expr.now) (env_in env.entry) (world self.old b)) judged)))) }
     {
-        self.frames
-            .push(Frame::Value(OnValue::Judge(line_of(expr))))?;
+        self.frames.push(Frame::Value(OnValue::Judge(expr)))?;
         self.value_inside(expr, env)
     }
 
@@ -297,7 +292,7 @@ impl<'a> Machine<'a> {
             (resumed p self.old.frames.items (tag a_value ((full p).value (expression expr.now) (env_in env.entry) (world self.old b))))) }
     {
         if self.turns == 0 {
-            return Ok(Next::Going);
+            return Ok(Next::Going(line_of(expr)));
         }
         self.turns -= 1;
         self.value_inside(expr, env)
@@ -310,7 +305,7 @@ impl<'a> Machine<'a> {
             (resumed p self.old.frames.items (tag a_truth ((full p).truth (expression expr.now) (env_in env.entry) (world self.old b))))) }
     {
         if self.turns == 0 {
-            return Ok(Next::Going);
+            return Ok(Next::Going(line_of(expr)));
         }
         self.turns -= 1;
         self.truth_inside(expr, env)
@@ -323,7 +318,7 @@ impl<'a> Machine<'a> {
             (resumed p self.old.frames.items (tag a_target ((full p).target (expression expr.now) (env_in env.entry) (world self.old b))))) }
     {
         if self.turns == 0 {
-            return Ok(Next::Going);
+            return Ok(Next::Going(line_of(expr)));
         }
         self.turns -= 1;
         self.target_inside(expr, env)
@@ -365,11 +360,11 @@ impl<'a> Machine<'a> {
             (resumed p self.old.frames.items (tag a_target (target_of (full p) (expression expr.now) (env_in env.entry) (world self.old b))))) }
     {
         match expr {
-            Expr::Name(line, name) => match env.sense(name) {
+            Expr::Name(_, name) => match env.sense(name) {
                 Some(Sense::Cell(object, offset)) => Ok(Next::Gives(Thing::Target(Place::Cell(
                     Worth::Address(object, offset),
                 )))),
-                _ => Ok(Next::Undefined(*line, Reason::NoPlace)),
+                _ => Ok(Next::Undefined(Subject::Expr(expr), Reason::NoPlace)),
             },
             Expr::Parens(_, inside) => Ok(Next::Target(inside, env)),
             Expr::Unary(_, Prefix::Contents, operand) => self.first_value(
@@ -377,15 +372,15 @@ impl<'a> Machine<'a> {
                 operand,
                 env,
             ),
-            Expr::Binary(_, Operator::Subscript, line, a, b) => {
+            Expr::Binary(_, Operator::Subscript, _, a, b) => {
                 let behind = env.again()?.behind(count(a)?)?;
-                self.first_value(OnValue::Vector(*line, b, behind), a, env)
+                self.first_value(OnValue::Vector(expr, b, behind), a, env)
             }
             Expr::Binary(_, Operator::Byte, _, a, b) => {
                 let behind = env.again()?.behind(count(a)?)?;
                 self.first_value(OnValue::String(b, behind), a, env)
             }
-            _ => Ok(Next::Undefined(line_of(expr), Reason::NoPlace)),
+            _ => Ok(Next::Undefined(Subject::Expr(expr), Reason::NoPlace)),
         }
     }
 }

@@ -89,7 +89,7 @@ pub fn stands_in_one(sought: Sought, env: &Env, commands: &[Command]) -> bool
     false
 }
 
-/// How to go on behind a label.
+/// How to go on after a label.
 pub fn at_label<'a>(mode: Option<Sought<'a>>, label: &[u8]) -> Option<Sought<'a>>
     ensures { mode_in result ≡ q.at_place (q.the_label label.now) (mode_in mode.entry) }
 {
@@ -103,7 +103,7 @@ pub fn at_label<'a>(mode: Option<Sought<'a>>, label: &[u8]) -> Option<Sought<'a>
     }
 }
 
-/// How to go on behind a CASE.
+/// How to go on after a CASE.
 pub fn at_case<'a>(mode: Option<Sought<'a>>, word: Option<u32>) -> Option<Sought<'a>>
     ensures { mode_in result ≡ q.at_place (q.the_case word) (mode_in mode.entry) }
 {
@@ -117,7 +117,7 @@ pub fn at_case<'a>(mode: Option<Sought<'a>>, word: Option<u32>) -> Option<Sought
     }
 }
 
-/// How to go on behind a DEFAULT.
+/// How to go on after a DEFAULT.
 pub fn at_default(mode: Option<Sought>) -> Option<Sought>
     ensures { mode_in result ≡ q.at_place q.the_default (mode_in mode.entry) }
 {

@@ -15,7 +15,7 @@ use std::alloc::AllocError;
 /// Goes on with what comes next. What a library routine gives, and the end of a run, stay as they are.
 pub fn step<'a>(
     m: &mut Machine<'a>,
-    program: &'a [Lasting<'a>],
+    program: &[Lasting<'a>],
     next: Next<'a>,
 ) -> Result<Next<'a>, AllocError>
     ensures { IfOk result (λ after. (b : Bytes) →
@@ -35,8 +35,8 @@ pub fn step<'a>(
         Next::Leaves(exit) => left(m, exit),
         Next::Library(line, routine, values) => Ok(Next::Library(line, routine, values)),
         Next::Status(status) => Ok(Next::Status(status)),
-        Next::DivideByZero => Ok(Next::DivideByZero),
-        Next::Undefined(line, reason) => Ok(Next::Undefined(line, reason)),
-        Next::Going => Ok(Next::Going),
+        Next::DivideByZero(subject) => Ok(Next::DivideByZero(subject)),
+        Next::Undefined(subject, reason) => Ok(Next::Undefined(subject, reason)),
+        Next::Going(line) => Ok(Next::Going(line)),
     }
 }

@@ -45,7 +45,7 @@ objects_next program store new xs i x lt is made =
     ∙ append_assoc store _ _
     ∙ one_further (λ zs. store ++ objects_from program (length store) (map lasting_in zs)) xs i x lt is
 
--- the globals of the library, and so many behind them that are unset
+-- the globals of the library, and so many after them that are unset
 copies : (n : ℕ) (x : Cell) → map cell_in (replicate n x) ≡ replicate n (cell_in x)
 copies zero x = refl
 copies (suc n) x = ap (λ xs. cell_in x ∷ xs) (copies n x)

@@ -31,7 +31,7 @@ fn procedure_cell(number: u64) -> Cell
     Cell::Holds(Worth::Procedure(number))
 }
 
-/// The globals of the library, which are the first of all: the routines, behind two that are unset.
+/// The globals of the library, which are the first of all: the routines, after two that are unset.
 fn library_cells(alloc: Global) -> Result<Vec<Cell>, AllocError>
     ensures { IfOk result (λ cells. map cell_in cells.items ≡ library_cells) }
 {
@@ -51,7 +51,7 @@ fn library_cells(alloc: Global) -> Result<Vec<Cell>, AllocError>
     ]?)
 }
 
-/// Sets this global, if there is one, to the procedure with this number. A global behind the last changes nothing.
+/// Sets this global, if there is one, to the procedure with this number. A global after the last changes nothing.
 fn set_global(cells: &mut [Cell], global: Option<u32>, number: u64)
     ensures { map cell_in cells.new ≡ set_global global number (map cell_in cells.old) }
 {

@@ -15,6 +15,8 @@ pub enum Body<'a> {
 /// A procedure.
 #[derive(Drop)]
 pub struct Procedure<'a> {
+    /// Its name.
+    pub name: &'a [u8],
     /// Its formals.
     pub formals: &'a [Name],
     /// Its body.

@@ -155,7 +155,7 @@ fn bind_procedure<'a>(alloc: Global, def: &'a Def, env: Env<'a>) -> Result<Env<'
     }
 }
 
-/// The names with those of all procedures of a LET, behind all that its definitions have.
+/// The names with those of all procedures of a LET, after all that its definitions have.
 #[tactic(auto, using(crate::proofs::Bound::procedures_next))]
 fn bind_procedures<'a>(alloc: Global, defs: &'a [Def], env: Env<'a>) -> Result<Env<'a>, AllocError>
     ensures { IfOk result (λ after. env_in after ≡ bind_procedures (definitions_in defs.now) (env_in env.entry)) }
@@ -234,7 +234,7 @@ fn globals<'a>(alloc: Global, items: &'a [Item], env: Env<'a>) -> Result<Env<'a>
     Ok(env)
 }
 
-/// What names mean behind a declaration with constants.
+/// What names mean after a declaration with constants.
 pub fn constants<'a>(
     alloc: Global,
     sort: Sort,
@@ -287,7 +287,7 @@ fn hide_all_variables<'a>(
     Ok(env)
 }
 
-/// What names mean behind a declaration.
+/// What names mean after a declaration.
 pub fn declared<'a>(alloc: Global, decl: &'a Decl, env: Env<'a>) -> Result<Env<'a>, AllocError>
     ensures { IfOk result (λ after. env_in after ≡ declared (declaration decl.now) (env_in env.entry)) }
 {
@@ -301,7 +301,7 @@ pub fn declared<'a>(alloc: Global, decl: &'a Decl, env: Env<'a>) -> Result<Env<'
     }
 }
 
-/// What names mean behind some declarations.
+/// What names mean after some declarations.
 #[tactic(auto, using(crate::proofs::Bound::declared_next))]
 pub fn all_declared<'a>(
     alloc: Global,
@@ -317,7 +317,7 @@ pub fn all_declared<'a>(
     Ok(env)
 }
 
-/// What names mean behind an expression.
+/// What names mean after an expression.
 pub fn past<'a>(env: &Env<'a>, expr: &Expr) -> Result<Env<'a>, AllocError>
     ensures { IfOk result (λ after. env_in after ≡ past (expression expr.now) (env_in env.now)) }
 {
@@ -325,7 +325,7 @@ pub fn past<'a>(env: &Env<'a>, expr: &Expr) -> Result<Env<'a>, AllocError>
     env.again()?.behind(more)
 }
 
-/// What names mean behind some expressions.
+/// What names mean after some expressions.
 pub fn past_each<'a>(env: &Env<'a>, exprs: &[Expr]) -> Result<Env<'a>, AllocError>
     ensures { IfOk result (λ after. env_in after ≡ past_each (expressions_in exprs.now) (env_in env.now)) }
 {
@@ -333,7 +333,7 @@ pub fn past_each<'a>(env: &Env<'a>, exprs: &[Expr]) -> Result<Env<'a>, AllocErro
     env.again()?.behind(more)
 }
 
-/// What names mean behind a command.
+/// What names mean after a command.
 pub fn past_command<'a>(env: &Env<'a>, command: &Command) -> Result<Env<'a>, AllocError>
     ensures { IfOk result (λ after. env_in after ≡ past_action (action command.now) (env_in env.now)) }
 {
@@ -341,7 +341,7 @@ pub fn past_command<'a>(env: &Env<'a>, command: &Command) -> Result<Env<'a>, All
     env.again()?.behind(more)
 }
 
-/// What names mean behind a definition.
+/// What names mean after a definition.
 pub fn past_def<'a>(env: &Env<'a>, def: &Def) -> Result<Env<'a>, AllocError>
     ensures { IfOk result (λ after. env_in after ≡ past_definition (definition def.now) (env_in env.now)) }
 {
@@ -370,7 +370,7 @@ pub fn inside<'a>(alloc: Global, formals: &'a [Name], env: &Env<'a>) -> Result<E
     hide(alloc, formals, env)
 }
 
-/// What names mean in the commands of a block behind these declarations.
+/// What names mean in the commands of a block after these declarations.
 pub fn in_block<'a>(
     alloc: Global,
     decls: &'a [Decl],

@@ -8,14 +8,14 @@ use bk_base::limit::NAME_BYTES;
 use bk_base::word;
 use std::alloc::{AllocError, Global};
 
-/// The byte at this place; 0 behind the end.
+/// The byte at this place; 0 after the end.
 fn byte_at(bytes: &[u8], i: usize) -> u8
     ensures { result ≡ get_or bytes.now i 0 }
 {
     bytes.get(i).copied().unwrap_or(0)
 }
 
-/// The word of the four bytes from this place on, with zeros behind the end.
+/// The word of the four bytes from this place on, with zeros after the end.
 fn word_at(bytes: &[u8], i: usize) -> u32
     requires { i < length bytes.now }
     ensures { result ≡ packed_word (get_or bytes.now i 0) (get_or bytes.now (i + 1) 0) (get_or bytes.now (i + 2) 0) (get_or bytes.now (i + 3) 0) }

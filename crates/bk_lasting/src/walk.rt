@@ -43,7 +43,7 @@ fn one_word<'a>(alloc: Global, word: u32) -> Result<Lasting<'a>, AllocError>
 
 /// A procedure that is defined where names mean this.
 fn procedure_here<'a>(
-    name: &[u8],
+    name: &'a [u8],
     formals: &'a [Name],
     body: Body<'a>,
     env: &Env<'a>,
@@ -51,6 +51,7 @@ fn procedure_here<'a>(
     ensures { IfOk result (λ made. lasting_in made ≡ procedure_here name.now (map mention formals.now) (body_in body.entry) (env_in env.now)) }
 {
     Ok(Lasting::Code(Procedure {
+        name,
         formals,
         body,
         env: env.again()?.behind(1)?,

@@ -15,6 +15,7 @@ pub mod Loops
 pub mod Blocks
 pub mod Commands
 pub mod Program
+pub mod Full
 -- Laws of it.
 pub mod Growing
 pub mod Turns

@@ -18,7 +18,7 @@ use Rattle.bk_objects.specs.declared.worth.Cell.{Cell}
 use Rattle.bk_objects.specs.Views.{cell_in}
 use Rattle.bk_objects.specs.Memories.{object_in, found, memory_of, Laid}
 
--- Numbers that grow, and cells one behind another.
+-- Numbers that grow, and cells one after another.
 pub Laid-order : (n s : ℕ) (ls : List Life) (m e : ℕ) → Laid n s ls m e → n ≤ m
 Laid-order n s [] m e h = h.0
 Laid-order n s (l ∷ ls) m e h = omega (arith, h.0, Laid-order (l.number + 1) (l.start + l.len) ls m e h.2)
@@ -346,7 +346,7 @@ pub on_err : {T E : Type 0} (r : Result T E) (P : Type 0) → P → OnErr r P
 on_err (Ok x) P p = tt
 on_err (Err e) P p = p
 
--- so many copies of a cell behind the others
+-- so many copies of a cell after the others
 pub cells-resized : (cells : List Cell) (n len count : ℕ) (x : Cell) → len ≡ length cells → n ≡ len + count → take n cells ++ replicate (n - len) x ≡ cells ++ replicate count x
 cells-resized cells n len count x is sum =
     let copies : n - len ≡ count = omega arith in

@@ -32,7 +32,7 @@ parts_skipped zero bytes = refl
 parts_skipped (suc n) [] = refl
 parts_skipped (suc n) (b ∷ rest) = parts_skipped n rest
 
--- the part that a byte begins, and the bytes behind it
+-- the part that a byte begins, and the bytes after it
 pub parts_more : (b : ℕ) (behind rest : List ℕ) (q : FormatPart) (n k : ℕ) → rest ≡ b ∷ behind → q ≡ part_at b behind → n ≡ further q → k ≡ min n (length behind) → parts rest ≡ q ∷ parts (take (length behind - k) (drop k behind))
 parts_more b behind rest q n k is part more least =
     rw (is, take_rest behind k, least, drop_min n behind, more, part) (ap (λ ps. part_at b behind ∷ ps) (parts_skipped (further (part_at b behind)) behind))

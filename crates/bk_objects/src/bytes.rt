@@ -21,8 +21,8 @@ fn byte_in(cell: Cell, i: u32) -> Result<u8, Reason>
 {
     match cell {
         Cell::Holds(Worth::Number(n)) => Ok(word::byte(n, i)),
-        Cell::Holds(Worth::Unset) => Err(Reason::NotSet),
-        Cell::Holds(_) => Err(Reason::NoNumber),
+        Cell::Holds(Worth::Unset) => Err(Reason::NotSet(Worth::Unset)),
+        Cell::Holds(worth) => Err(Reason::NoNumber(worth)),
         Cell::Places(a, b, c, d) => {
             let byte = match i {
                 0 => a,
@@ -30,7 +30,7 @@ fn byte_in(cell: Cell, i: u32) -> Result<u8, Reason>
                 2 => c,
                 _ => d,
             };
-            byte.ok_or(Reason::NotSet)
+            byte.ok_or(Reason::NotSet(Worth::Unset))
         }
     }
 }
@@ -40,10 +40,10 @@ pub fn read_byte(store: &Store, at: Worth, i: Worth) -> Result<u8, Reason>
     ensures { result_ok result ≡ m.read_byte store.now (value_in at) (value_in i) }
 {
     let Worth::Number(i) = i else {
-        return Err(Reason::NoNumber);
+        return Err(Reason::NoNumber(i));
     };
     let Worth::Address(object, offset) = at else {
-        return Err(Reason::NoAddress);
+        return Err(Reason::NoAddress(at));
     };
     let offset = word::sum(offset, word::distance_of_byte(i));
     match store.cell(object, offset) {
@@ -111,7 +111,7 @@ pub fn write(store: &mut Store, at: Worth, x: Worth) -> Result<(), Reason>
     ensures unchanged { OnErr result (store.new ≡ store.old) }
 {
     let Worth::Address(object, offset) = at else {
-        return Err(Reason::NoAddress);
+        return Err(Reason::NoAddress(at));
     };
     if store.set(object, offset, Cell::Holds(x)) {
         Ok(())
@@ -126,20 +126,20 @@ pub fn write_byte(store: &mut Store, at: Worth, i: Worth, x: Worth) -> Result<()
     ensures unchanged { OnErr result (store.new ≡ store.old) }
 {
     let Worth::Number(i) = i else {
-        return Err(Reason::NoNumber);
+        return Err(Reason::NoNumber(i));
     };
     let Worth::Number(x) = x else {
-        return Err(Reason::NoNumber);
+        return Err(Reason::NoNumber(x));
     };
     let Worth::Address(object, offset) = at else {
-        return Err(Reason::NoAddress);
+        return Err(Reason::NoAddress(at));
     };
     let offset = word::sum(offset, word::distance_of_byte(i));
     let Some(cell) = store.cell(object, offset) else {
         return Err(no_cell(store, object, offset));
     };
     let Some(cell) = with_byte(cell, word::place_of_byte(i), (x % 256) as u8) else {
-        return Err(Reason::NoNumber);
+        return Err(Reason::PartlySet);
     };
     if store.set(object, offset, cell) {
         Ok(())

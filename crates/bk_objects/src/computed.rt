@@ -3,24 +3,24 @@
 use crate::worth::Worth;
 
 /// Why an operation is undefined.
-#[derive(Clone, Copy, Debug, PartialEq, Eq)]
+#[derive(Clone, Copy, Debug)]
 pub enum Reason {
-    /// It reads a cell or a byte that was not set.
-    NotSet,
+    /// It reads what was not set: the cell at this address, or another value or byte.
+    NotSet(Worth),
     /// It reads a cell of which only some bytes were set.
     PartlySet,
     /// It uses a cell at this distance from the first cell of an object, and the object has so many cells.
     Outside(u32, usize),
     /// It uses an object that is dead.
     Dead,
-    /// It needs an address.
-    NoAddress,
-    /// It needs a number.
-    NoNumber,
+    /// It needs an address, and this value is none.
+    NoAddress(Worth),
+    /// It needs a number, and this value is none, or one that does not go with the other operand.
+    NoNumber(Worth),
     /// It needs two addresses in one object.
     Apart,
-    /// It calls what is no procedure.
-    NoProcedure,
+    /// It calls this value, which is no procedure.
+    NoProcedure(Worth),
     /// It needs an argument that is missing.
     Argument,
     /// It needs the place of an expression that has none.

@@ -38,7 +38,7 @@ fn is_digit(byte: u8) -> bool
     48 <= byte && byte <= 57
 }
 
-/// The part that `%I` and the bytes behind it begin.
+/// The part that `%I` and the bytes after it begin.
 fn column(behind: &[u8]) -> Part
     ensures { part_in result ≡ f.column_or_percent behind.now }
 {
@@ -48,7 +48,7 @@ fn column(behind: &[u8]) -> Part
     }
 }
 
-/// The part that `%` and the bytes behind it begin.
+/// The part that `%` and the bytes after it begin.
 fn directive(behind: &[u8]) -> Part
     ensures { part_in result ≡ f.directive behind.now }
 {
@@ -65,7 +65,7 @@ fn directive(behind: &[u8]) -> Part
     }
 }
 
-/// The part that a byte and the bytes behind it begin.
+/// The part that a byte and the bytes after it begin.
 pub fn part_at(byte: u8, behind: &[u8]) -> Part
     ensures { part_in result ≡ f.part_at byte behind.now }
 {

@@ -35,7 +35,7 @@ fn stop(arguments: &[Worth]) -> Effect
     match arguments {
         [] => Effect::Undefined(Reason::Argument),
         [Worth::Number(status), ..] => Effect::Stops(*status),
-        [_, ..] => Effect::Undefined(Reason::NoNumber),
+        [x, ..] => Effect::Undefined(Reason::NoNumber(*x)),
     }
 }
 
@@ -50,7 +50,7 @@ fn wrch(alloc: Global, arguments: &[Worth]) -> Result<Effect, AllocError>
             text.push((*number % 256) as u8)?;
             Ok(Effect::Writes(text))
         }
-        [_, ..] => Ok(Effect::Undefined(Reason::NoNumber)),
+        [x, ..] => Ok(Effect::Undefined(Reason::NoNumber(*x))),
     }
 }
 
@@ -79,7 +79,7 @@ fn writen(alloc: Global, arguments: &[Worth]) -> Result<Effect, AllocError>
             add_digits(*number, &mut text)?;
             Ok(Effect::Writes(text))
         }
-        [_, ..] => Ok(Effect::Undefined(Reason::NoNumber)),
+        [x, ..] => Ok(Effect::Undefined(Reason::NoNumber(*x))),
     }
 }
 
@@ -94,7 +94,8 @@ fn writed(alloc: Global, arguments: &[Worth]) -> Result<Effect, AllocError>
             add_aligned(*number, *width, &mut text)?;
             Ok(Effect::Writes(text))
         }
-        [_, _, ..] => Ok(Effect::Undefined(Reason::NoNumber)),
+        [Worth::Number(_), x, ..] => Ok(Effect::Undefined(Reason::NoNumber(*x))),
+        [x, _, ..] => Ok(Effect::Undefined(Reason::NoNumber(*x))),
     }
 }
 

@@ -59,8 +59,9 @@ pub fn calculated(operator: Operator, x: u32, y: u32) -> Option<u32>
 /// Why no operator for numbers has a value here.
 fn no_numbers(x: Worth, y: Worth) -> Reason {
     match (x, y) {
-        (Worth::Unset, _) | (_, Worth::Unset) => Reason::NotSet,
-        _ => Reason::NoNumber,
+        (Worth::Unset, _) | (_, Worth::Unset) => Reason::NotSet(Worth::Unset),
+        (Worth::Number(_), _) => Reason::NoNumber(y),
+        _ => Reason::NoNumber(x),
     }
 }
 
@@ -77,12 +78,12 @@ pub fn read(store: &Store, at: Worth) -> Computed
     ensures { (w : World) → w.memory ≡ store.now → outcome_of result w ≡ fetch (value_in at) w }
 {
     let Worth::Address(object, offset) = at else {
-        return Computed::Undefined(Reason::NoAddress);
+        return Computed::Undefined(Reason::NoAddress(at));
     };
     match store.cell(object, offset) {
         None => Computed::Undefined(no_cell(store, object, offset)),
         Some(Cell::Places(_, _, _, _)) => Computed::Undefined(Reason::PartlySet),
-        Some(Cell::Holds(Worth::Unset)) => Computed::Undefined(Reason::NotSet),
+        Some(Cell::Holds(Worth::Unset)) => Computed::Undefined(Reason::NotSet(at)),
         Some(Cell::Holds(worth)) => Computed::Value(worth),
     }
 }
@@ -95,7 +96,7 @@ pub fn prefixed(prefix: Prefix, x: Worth) -> Computed
         return Computed::Undefined(no_numbers(x, x));
     };
     match prefix {
-        Prefix::Contents | Prefix::Address => Computed::Undefined(Reason::NoNumber),
+        Prefix::Contents | Prefix::Address => Computed::Undefined(Reason::NoNumber(x)),
         Prefix::Plus => Computed::Value(x),
         Prefix::Minus => Computed::Value(Worth::Number(word::negation(word))),
         Prefix::Not => Computed::Value(Worth::Number(word::bitwise_not(word))),
@@ -120,7 +121,7 @@ pub fn truth_of(store: &Store, x: Worth) -> Result<bool, Reason>
     match x {
         Worth::Number(n) => Ok(n != 0),
         Worth::Procedure(_) | Worth::Routine(_) => Ok(true),
-        Worth::Unset => Err(Reason::NotSet),
+        Worth::Unset => Err(Reason::NotSet(Worth::Unset)),
         Worth::Address(object, offset) => {
             within(store, object, offset)?;
             Ok(true)
@@ -224,7 +225,7 @@ fn on_offsets(operator: Operator, x: u32, y: u32) -> Result<Worth, Reason>
 {
     match calculated(operator, x, y) {
         Some(word) => Ok(Worth::Number(word)),
-        None => Err(Reason::NoNumber),
+        None => Err(Reason::NoNumber(Worth::Number(x))),
     }
 }
 
@@ -256,7 +257,7 @@ fn on_words(operator: Operator, x: Worth, y: Worth) -> Computed
     }
     match calculated(operator, a, b) {
         Some(word) => Computed::Value(Worth::Number(word)),
-        None => Computed::Undefined(Reason::NoNumber),
+        None => Computed::Undefined(Reason::NoNumber(x)),
     }
 }
 

@@ -66,7 +66,7 @@ fn left(lives: &[Life], from: u64) -> usize
 pub struct Store {
     /// The objects that live, by their numbers, which grow.
     lives: Vec<Life>,
-    /// The cells of the objects that live, one object behind another.
+    /// The cells of the objects that live, one object after another.
     cells: Vec<Cell>,
     /// How many objects were made.
     made: u64,
@@ -119,7 +119,7 @@ impl Store {
         Some(cells_of(&self.lives, &self.cells, object)?.len())
     }
 
-    /// Makes an object of these cells. Memory may be refused, and so is an object behind the number 2^64 - 2.
+    /// Makes an object of these cells. Memory may be refused, and so is an object after the number 2^64 - 2.
     pub fn make(&mut self, cells: &[Cell]) -> Result<(), AllocError>
         ensures made { OnOk result (self.new ≡ m.made (map cell_in cells.now) self.old) }
         ensures unchanged { OnErr result (self.new ≡ self.old) }
@@ -134,7 +134,7 @@ impl Store {
         Ok(())
     }
 
-    /// Makes an object of so many cells that hold nothing set. Memory may be refused, and so is an object behind the
+    /// Makes an object of so many cells that hold nothing set. Memory may be refused, and so is an object after the
     /// number 2^64 - 2.
     pub fn make_unset(&mut self, count: usize) -> Result<(), AllocError>
         ensures made { OnOk result (self.new ≡ m.made (replicate count (holds unset)) self.old) }

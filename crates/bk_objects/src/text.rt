@@ -98,18 +98,18 @@ fn add_argument(
         return add_string(store, x, text);
     }
     let Worth::Number(number) = x else {
-        return Ok(Err(Reason::NoNumber));
+        return Ok(Err(Reason::NoNumber(x)));
     };
     match part {
         Part::Number => add_digits(number, text)?,
         Part::Character => text.push((number % 256) as u8)?,
         Part::Column(width) => add_aligned(number, u32::from(width), text)?,
-        Part::Byte(_) | Part::Percent | Part::String => return Ok(Err(Reason::NoNumber)),
+        Part::Byte(_) | Part::Percent | Part::String => return Ok(Err(Reason::NoNumber(x))),
     }
     Ok(Ok(()))
 }
 
-/// Adds what a part of a format writes, and gives the arguments behind those that it takes.
+/// Adds what a part of a format writes, and gives the arguments after those that it takes.
 fn add_part<'a>(
     store: &Store,
     part: Part,

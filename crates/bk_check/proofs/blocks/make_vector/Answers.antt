@@ -4,7 +4,7 @@ use Rattle.bk_meaning.specs.Values.{address}
 use Rattle.bk_meaning.specs.Memory.{made}
 use Rattle.bk_meaning.specs.World.{Outcome, Done, gives, with}
 use Rattle.bk_meaning.specs.Blocks.{starts, vec_cells}
-use Rattle.bk_check.specs.Full.{full}
+use Rattle.bk_meaning.specs.Full.{full}
 use Rattle.bk_check.specs.Views.{letters_in}
 use Rattle.bk_lasting.specs.Views.{env_in}
 use Rattle.bk_check.specs.Worlds.{world}

@@ -3,7 +3,7 @@ use Rattle.bk_tree.specs.Tree.{expression, starts_in}
 use Rattle.bk_meaning.specs.World.{Outcome, Done, gives, with}
 use Rattle.bk_meaning.specs.Environment.{Environment, objects, behind, past}
 use Rattle.bk_meaning.specs.Blocks.{starts}
-use Rattle.bk_check.specs.Full.{full}
+use Rattle.bk_meaning.specs.Full.{full}
 use Rattle.bk_check.specs.Views.{letters_in}
 use Rattle.bk_lasting.specs.Views.{env_in}
 use Rattle.bk_check.specs.Worlds.{world}

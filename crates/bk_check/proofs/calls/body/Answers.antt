@@ -5,7 +5,7 @@ use Rattle.bk_meaning.specs.Scopes.{scope_of, alone}
 use Rattle.bk_meaning.specs.Calls.{run_body}
 use Rattle.bk_lasting.specs.declared.program.Body.{Body}
 use Rattle.bk_check.specs.declared.frame.OnDone.TheVariants as d
-use Rattle.bk_check.specs.Full.{full}
+use Rattle.bk_meaning.specs.Full.{full}
 use Rattle.bk_lasting.specs.Views.{env_in, body_in}
 use Rattle.bk_check.specs.Worlds.{world}
 use Rattle.bk_check.specs.Resume.{tag, a_value, resumed}

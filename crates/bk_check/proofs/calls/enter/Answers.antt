@@ -8,7 +8,7 @@ use Rattle.bk_meaning.specs.Calls.{formal_cells, bind_formals, run_body}
 use Rattle.bk_objects.specs.declared.worth.Worth.{Worth}
 use Rattle.bk_objects.specs.declared.worth.Cell.{Cell}
 use Rattle.bk_objects.specs.Views.{cell_in}
-use Rattle.bk_check.specs.Full.{full}
+use Rattle.bk_meaning.specs.Full.{full}
 use Rattle.bk_lasting.specs.Views.{env_in, procedure_in}
 use Rattle.bk_check.specs.Worlds.{world}
 use Rattle.bk_check.specs.Resume.{tag, a_value, resumed, list_value}

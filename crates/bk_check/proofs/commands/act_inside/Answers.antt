@@ -8,7 +8,7 @@ use Rattle.bk_meaning.specs.Commands.{act_of}
 use Rattle.bk_meaning.specs.Lasting.{Program}
 use Rattle.bk_check.specs.declared.frame.Next.{Next}
 use Rattle.bk_check.specs.declared.frame.Frame.{Frame}
-use Rattle.bk_check.specs.Full.{full}
+use Rattle.bk_meaning.specs.Full.{full}
 use Rattle.bk_check.specs.Views.{mode_in}
 use Rattle.bk_lasting.specs.Views.{env_in}
 use Rattle.bk_check.specs.Worlds.{Bytes, world}
@@ -23,8 +23,8 @@ in_mode (Err x) fs there u mode h = h
 
 pub returns-in-Assign : goal.returns-in-Assign
 returns-in-Assign c =
-    let e : t.assign c.in-Assign.line (expressions_in c.deref.result.now) (expressions_in c.deref-in-Assign.result.now) ≡ action c.args.command.now =
-    rw (c.deref.ensures.value, c.deref-in-Assign.ensures.value) (sym (ap action c.in-Assign.is ∙ Assign_is c.in-Assign.line c.in-Assign.dests c.in-Assign.values)) in
+    let e : t.assign c.in-Assign.field-0 (expressions_in c.deref.result.now) (expressions_in c.deref-in-Assign.result.now) ≡ action c.args.command.now =
+    rw (c.deref.ensures.value, c.deref-in-Assign.ensures.value) (sym (ap action c.in-Assign.is ∙ Assign_is c.in-Assign.field-0 c.in-Assign.dests c.in-Assign.values)) in
     meets c.assign.result _ (λ b. world c.assign.new.m b) _ _
     (λ p b. ap (λ (x : Action). resumed p c.args.m.now.frames.items (tag done_tag (act_of p (full p) x (mode_in c.args.mode) (env_in c.args.env) (world c.args.m.now b)))) e) c.assign.ensures
 
@@ -51,17 +51,17 @@ returns-in-Test c =
 
 pub returns-in-For : goal.returns-in-For
 returns-in-For c =
-    let e : t.for_loop c.in-For.line (mention c.in-For.name) (expression c.deref-in-For.result.now) (expression c.deref-in-For-2.result.now) (step_in c.in-For.by) (action c.deref-in-For-3.result.now) ≡ action c.args.command.now =
-    rw (c.deref-in-For.ensures, c.deref-in-For-2.ensures, c.deref-in-For-3.ensures) (sym (ap action c.in-For.is ∙ For_is c.in-For.line c.in-For.name c.in-For.a c.in-For.b c.in-For.by c.in-For.body)) in
-    meets_at c.for_command.result _ (λ b. world c.for_command.new.m b) _ _ c.in-For.line
+    let e : t.for_loop c.in-For.field-0 (mention c.in-For.name) (expression c.deref-in-For.result.now) (expression c.deref-in-For-2.result.now) (step_in c.in-For.by) (action c.deref-in-For-3.result.now) ≡ action c.args.command.now =
+    rw (c.deref-in-For.ensures, c.deref-in-For-2.ensures, c.deref-in-For-3.ensures) (sym (ap action c.in-For.is ∙ For_is c.in-For.field-0 c.in-For.name c.in-For.a c.in-For.b c.in-For.by c.in-For.body)) in
+    meets_at c.for_command.result _ (λ b. world c.for_command.new.m b) _ _ c.in-For.field-0
     (λ p b. ap (λ (x : Action). resumed p c.args.m.now.frames.items (tag done_tag (act_of p (full p) x (mode_in c.args.mode) (env_in c.args.env) (world c.args.m.now b)))) e)
     (in_mode c.for_command.result _ (λ b. world c.for_command.new.m b) _ (mode_in c.args.mode) c.for_command.ensures)
 
 pub returns-in-SwitchOn : goal.returns-in-SwitchOn
 returns-in-SwitchOn c =
-    let e : t.switch c.in-SwitchOn.line (expression c.deref-in-SwitchOn.result.now) (action c.deref-in-SwitchOn-2.result.now) ≡ action c.args.command.now =
+    let e : t.switch c.in-SwitchOn.field-0 (expression c.deref-in-SwitchOn.result.now) (action c.deref-in-SwitchOn-2.result.now) ≡ action c.args.command.now =
     rw (c.deref-in-SwitchOn.ensures, c.deref-in-SwitchOn-2.ensures) (sym (ap action c.in-SwitchOn.is)) in
-    meets_at c.switch.result _ (λ b. world c.switch.new.m b) _ _ c.in-SwitchOn.line
+    meets_at c.switch.result _ (λ b. world c.switch.new.m b) _ _ c.in-SwitchOn.field-0
     (λ p b. ap (λ (x : Action). resumed p c.args.m.now.frames.items (tag done_tag (act_of p (full p) x (mode_in c.args.mode) (env_in c.args.env) (world c.args.m.now b)))) e) c.switch.ensures
 
 pub returns : goal.returns

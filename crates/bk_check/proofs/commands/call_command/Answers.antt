@@ -1,7 +1,7 @@
 use Rattle.bk_tree.specs.Tree.{expression, expressions_in}
 use Rattle.bk_meaning.specs.Calls.{applied}
 use Rattle.bk_check.specs.declared.frame.OnValue.TheVariants as v
-use Rattle.bk_check.specs.Full.{full}
+use Rattle.bk_meaning.specs.Full.{full}
 use Rattle.bk_lasting.specs.Views.{env_in}
 use Rattle.bk_check.specs.Worlds.{world}
 use Rattle.bk_check.proofs.Resuming.{meets, pushed_value}

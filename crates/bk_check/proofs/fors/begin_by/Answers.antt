@@ -3,7 +3,7 @@ use Rattle.bk_tree.specs.Tree.{action}
 use Rattle.bk_meaning.specs.World.{Outcome, Done, remembering}
 use Rattle.bk_meaning.specs.Environment.{bind, cell}
 use Rattle.bk_meaning.specs.Loops.{for_test, for_rounds_of}
-use Rattle.bk_check.specs.Full.{full}
+use Rattle.bk_meaning.specs.Full.{full}
 use Rattle.bk_objects.specs.Views.{value_in}
 use Rattle.bk_lasting.specs.Views.{env_in}
 use Rattle.bk_check.specs.Worlds.{world}

@@ -4,7 +4,7 @@ use Rattle.bk_meaning.specs.World.{Outcome, Done, done, either}
 use Rattle.bk_meaning.specs.Loops.{for_rounds_of}
 use Rattle.bk_check.specs.declared.fors.Tested.{Tested}
 use Rattle.bk_check.specs.Fors.{tested}
-use Rattle.bk_check.specs.Full.{full}
+use Rattle.bk_meaning.specs.Full.{full}
 use Rattle.bk_objects.specs.Views.{value_in}
 use Rattle.bk_lasting.specs.Views.{env_in}
 use Rattle.bk_check.specs.Worlds.{world}

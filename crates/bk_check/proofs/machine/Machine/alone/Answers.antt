@@ -3,7 +3,7 @@ use Rattle.bk_tree.specs.Tree.{action}
 use Rattle.bk_meaning.specs.World.{Outcome, Done}
 use Rattle.bk_meaning.specs.Scopes.{in_order, alone}
 use Rattle.bk_check.specs.declared.frame.OnDone.TheVariants as d
-use Rattle.bk_check.specs.Full.{full}
+use Rattle.bk_meaning.specs.Full.{full}
 use Rattle.bk_check.specs.Views.{mode_in}
 use Rattle.bk_lasting.specs.Views.{env_in}
 use Rattle.bk_check.specs.Worlds.{world}

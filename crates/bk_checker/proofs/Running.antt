@@ -1,0 +1,480 @@
+-- Runs over devices: steps one after another, and what the whole comes to.
+use Rattle.std.specs.Prelude.{IsErr}
+use Rattle.std.proofs.Common.{◌≡◌, ℕ, ◌≤◌, ◌^◌, ◌-◌, Vec, map, Bool, true, false, IsTrue, Result, Ok, Err, IfOk, IfErr, OnOk, OnErr, is_err, arith, List, [], ◌∷◌, ◌++◌, Option, None, Some, refl, sym, ap, subst, ◌∙◌, append_assoc, append-nil}
+use Rattle.std.specs.Io.KnownBytes.{Consumes, Appends, Keeps}
+use Rattle.std.proofs.KnownBytes.{Consumes-nil, Consumes-kept, Consumes-trans, Appends-nil, Appends-trans, Appends-kept}
+use Rattle.bk_tree.specs.Tree.{Declarations}
+use Rattle.bk_meaning.specs.Values.{Value, address, number}
+use Rattle.bk_meaning.specs.Memory.{Memory, read}
+use Rattle.bk_meaning.specs.World.{World, End, Outcome, gives, leaves, ends, undefined, going, divide_by_zero, given}
+use Rattle.bk_meaning.specs.Environment.{globals_object}
+use Rattle.std.specs.Global.{Global}
+use Rattle.bk_meaning.specs.World.{remembering}
+use Rattle.bk_meaning.specs.Library.{takes_byte, library}
+use Rattle.bk_objects.specs.declared.worth.Routine.{Routine}
+use Rattle.bk_objects.specs.declared.worth.Worth.{Worth}
+use Rattle.bk_objects.specs.declared.worth.Worth.TheVariants as w
+use Rattle.bk_objects.specs.declared.library.Effect.{Effect}
+use Rattle.bk_objects.specs.declared.library.Effect.TheVariants as t
+use Rattle.bk_meaning.specs.Parts.{fetch}
+use Rattle.bk_objects.specs.declared.computed.Computed.{Computed}
+use Rattle.bk_objects.specs.declared.computed.Computed.TheVariants as k
+use Rattle.bk_objects.specs.Views.{value_in, routine_in, outcome_of}
+use Rattle.bk_objects.specs.Texts.{outcome_in}
+use Rattle.bk_check.specs.declared.frame.Thing.TheVariants as g
+use Rattle.bk_meaning.specs.Lasting.{Program, program_of, first_memory}
+use Rattle.bk_meaning.specs.Calls.{call}
+use Rattle.bk_meaning.specs.Program.{Run, means, run_of, first_world, started, meaning}
+use Rattle.bk_meaning.specs.Full.{full}
+use Rattle.bk_meaning.specs.Growing.{History, history, Grows, After}
+use Rattle.bk_meaning.specs.Turns.{shown, RunGoesOn}
+use Rattle.bk_meaning.proofs.MeaningTies.{reads_from_the_front}
+use Rattle.bk_meaning.proofs.NoDepth.{full_call}
+use Rattle.bk_checker.proofs.Growth.{resumed_after, whole_after, called_after}
+use Rattle.bk_check.specs.declared.frame.Frame.{Frame}
+use Rattle.bk_check.specs.declared.frame.Next.{Next}
+use Rattle.bk_check.specs.declared.frame.Next.TheVariants as n
+use Rattle.bk_check.specs.declared.machine.Machine.{Machine}
+use Rattle.bk_checker.specs.declared.report.Verdict.{Verdict}
+use Rattle.bk_checker.specs.declared.report.Verdict.TheVariants as v
+use Rattle.bk_check.specs.Worlds.{Bytes, world}
+use Rattle.bk_check.specs.Resume.{Given, a_value, tag, resume, resumed, outcome_next, Comes}
+use Rattle.bk_checker.specs.Checks.{Told, Exchanged, Follows, Shows, Checks, over, verdict_of, run_given, Answered, Moves, Begun, Runs, ChecksPart, RunsPart, Reaches}
+
+-- ---- an end stays an end
+
+ends_stays : (p : Program) (fs : List Frame) (e : End) (w : World) → resumed p fs (ends e w) ≡ ends e w
+unfolding resumed
+ends_stays p [] e w = refl
+ends_stays p (f ∷ fs) e w = ap (resume p f) (ends_stays p fs e w)
+
+undefined_stays : (p : Program) (fs : List Frame) → resumed p fs undefined ≡ undefined
+unfolding resumed
+undefined_stays p [] = refl
+undefined_stays p (f ∷ fs) = ap (resume p f) (undefined_stays p fs)
+
+going_stays : (p : Program) (fs : List Frame) (w : World) → resumed p fs (going w) ≡ going w
+unfolding resumed
+going_stays p [] w = refl
+going_stays p (f ∷ fs) w = ap (resume p f) (going_stays p fs w)
+
+over_is : (p : Program) (fs : List Frame) (next : Next) (w : World) → over fs next ≡ true → resumed p fs (outcome_next p next w) ≡ outcome_next p next w
+unfolding resumed
+over_is p fs (n.Status k) w is = ends_stays p fs _ w
+over_is p fs (n.DivideByZero s) w is = ends_stays p fs _ w
+over_is p fs (n.Undefined s why) w is = undefined_stays p fs
+over_is p fs (n.Going line) w is = going_stays p fs w
+over_is p [] (n.Gives t) w is = refl
+over_is p [] (n.Leaves x) w is = refl
+over_is p fs next w is = absurd (cc is)
+
+-- the verdict of what ends a run is that of the run
+shows_verdict : (p : Program) (fs : List Frame) (next : Next) (w : World) → over fs next ≡ true → Shows (verdict_of next) (run_given (outcome_next p next w)) w.input w.output
+shows_verdict p fs (n.Status k) w is = (w.most_calls, refl)
+shows_verdict p fs (n.DivideByZero s) w is = (w.most_calls, refl)
+shows_verdict p fs (n.Undefined s why) w is = refl
+shows_verdict p fs (n.Going line) w is = (w.most_calls, refl)
+shows_verdict p [] (n.Gives (g.Value x)) w is = (w.most_calls, refl)
+shows_verdict p [] (n.Gives t) w is = refl
+shows_verdict p [] (n.Leaves x) w is = refl
+shows_verdict p fs next w is = absurd (cc is)
+
+run_given_value : (u : Outcome Value) → run_given (tag a_value u) ≡ run_of u
+run_given_value (gives x w) = refl
+run_given_value (leaves x w) = refl
+run_given_value (ends e w) = refl
+run_given_value undefined = refl
+run_given_value (going w) = refl
+
+-- ---- what is exchanged
+
+pub exchanged_none : (told : Told) → Exchanged told told [] []
+exchanged_none told = record { delivered = Consumes-nil told.left; took = Appends-nil told.taken; stays = λ ended. (refl, ended) }
+
+both_none : (read more : List ℕ) → read ≡ [] → more ≡ [] → read ++ more ≡ []
+both_none read more none nothing = ap (λ l. l ++ more) none ∙ nothing
+
+pub exchanged_then : (old mid new : Told) (read more written further : List ℕ) → Exchanged old mid read written → Exchanged mid new more further → Exchanged old new (read ++ more) (written ++ further)
+exchanged_then old mid new read more written further first second = record {
+  delivered = Consumes-trans old.left mid.left new.left read more first.delivered second.delivered;
+  took = Appends-trans old.taken mid.taken new.taken written further first.took second.took;
+  stays = λ ended. let one = first.stays ended in let two = second.stays one.1 in (both_none read more one.0 two.0, two.1);
+}
+
+-- ---- steps
+
+-- with nothing more written
+pub unwritten : (p : Program) (fs : List Frame) (next : Next) (m : Machine) (rest before : List ℕ) (u : Outcome Given)
+    → Comes p fs next (world m (record { input = rest; output = before })) u → Comes p fs next (world m (record { input = rest; output = before ++ [] })) u
+unwritten p fs next m rest before u comes =
+    subst (λ (l : List ℕ). Comes p fs next (world m (record { input = rest; output = l })) u) (sym (append-nil before)) comes
+
+-- a step that the devices have no part in
+pub moves_still : (p : Program) (m : Machine) (next : Next) (m' : Machine) (next' : Next) (told : Told)
+    → ((b : Bytes) → Comes p m'.frames.items next' (world m' b) (resumed p m.frames.items (outcome_next p next (world m b))))
+    → Moves p m next m' next' told told
+moves_still p m next m' next' told comes = record {
+  read = [];
+  written = [];
+  exchanged = exchanged_none told;
+  comes = λ rest before follows. unwritten p m'.frames.items next' m' rest before _ (comes (record { input = rest; output = before }));
+}
+
+pub moves_none : (p : Program) (m : Machine) (next : Next) (told : Told) → Moves p m next m next told told
+moves_none p m next told = moves_still p m next m next told (λ b. refl)
+
+follows_both : (mid new : Told) (more further rest : List ℕ) → Exchanged mid new more further → Follows new rest → Follows mid (more ++ rest)
+follows_both mid new more further rest second follows = λ ended. let two = second.stays ended in both_none more rest two.0 (follows two.1)
+
+pub moves_then : (p : Program) (m : Machine) (next : Next) (m' : Machine) (next' : Next) (m'' : Machine) (next'' : Next) (old mid new : Told)
+    → Moves p m next m' next' old mid → Moves p m' next' m'' next'' mid new → Moves p m next m'' next'' old new
+moves_then p m next m' next' m'' next'' old mid new first second = record {
+  read = first.read ++ second.read;
+  written = first.written ++ second.written;
+  exchanged = exchanged_then old mid new first.read second.read first.written second.written first.exchanged second.exchanged;
+  comes = λ rest before follows.
+      let one = first.comes (second.read ++ rest) before (follows_both mid new second.read second.written rest second.exchanged follows) in
+      let two = second.comes rest (before ++ first.written) follows in
+      ap (λ (l : List ℕ). resumed p m''.frames.items (outcome_next p next'' (world m'' (record { input = rest; output = l })))) (sym (append_assoc before first.written second.written))
+      ∙ two ∙ one
+      ∙ ap (λ (l : List ℕ). resumed p m.frames.items (outcome_next p next (world m (record { input = l; output = before })))) (sym (append_assoc first.read second.read rest));
+}
+
+-- ---- the whole
+
+-- a machine before a run is in the first world
+begun_world : (p : Program) (turns : ℕ) (m : Machine) (input : List ℕ) → Begun p turns m → world m (record { input = input; output = [] }) ≡ first_world p input turns
+begun_world p turns m input begun =
+    ap (λ (s : Memory). record { memory = s; input = input; output = []; calls = m.calls; most_calls = m.most_calls; turns = m.turns }) begun.store
+    ∙ ap (λ (k : ℕ). record { memory = first_memory p; input = input; output = []; calls = k; most_calls = m.most_calls; turns = m.turns }) begun.calls
+    ∙ ap (λ (k : ℕ). record { memory = first_memory p; input = input; output = []; calls = 0; most_calls = k; turns = m.turns }) begun.most_calls
+    ∙ ap (λ (k : ℕ). record { memory = first_memory p; input = input; output = []; calls = 0; most_calls = 0; turns = k }) begun.has_turns
+
+no_frames : (p : Program) (fs : List Frame) (u : Outcome Given) → fs ≡ [] → resumed p fs u ≡ u
+unfolding resumed
+no_frames p fs u none = ap (λ (gs : List Frame). resumed p gs u) none
+
+pub run_shows : (p : Program) (start : Value) (turns : ℕ) (m m' m'' : Machine) (first last : Next) (verdict : Verdict) (old new : Told)
+    → Begun p turns m
+    → ((b : Bytes) → Comes p m'.frames.items first (world m' b) (resumed p m.frames.items (tag a_value (call p (full p) start [] (world m b)))))
+    → Moves p m' first m'' last old new → over m''.frames.items last ≡ true
+    → verdict ≡ verdict_of last
+    → Runs p start turns verdict old new
+run_shows p start turns m m' m'' first last verdict old new begun calls moves is told = record {
+  read = moves.read;
+  written = moves.written;
+  exchanged = moves.exchanged;
+  shows = λ rest follows.
+      let w = world m'' (record { input = rest; output = moves.written }) in
+      let input = moves.read ++ rest in
+      let there = world m (record { input = input; output = [] }) in
+      let comes : outcome_next p last w ≡ tag a_value (call p (full p) start [] there) =
+      sym (over_is p m''.frames.items last w is) ∙ moves.comes rest [] follows ∙ calls (record { input = input; output = [] }) ∙ no_frames p m.frames.items (tag a_value (call p (full p) start [] there)) begun.frames in
+      let whole : run_given (outcome_next p last w) ≡ run_of (call p (means p turns) start [] (first_world p input turns)) =
+      ap run_given comes ∙ run_given_value (call p (full p) start [] there)
+      ∙ ap (λ (x : World). run_of (call p (full p) start [] x)) (begun_world p turns m input begun)
+      ∙ sym (ap run_of (full_call p turns start [] (first_world p input turns) (omega arith))) in
+      subst (λ (r : Run). Shows verdict r rest moves.written) whole (subst (λ (v : Verdict). Shows v (run_given (outcome_next p last w)) rest moves.written) (sym told) (shows_verdict p m''.frames.items last w is));
+}
+
+-- what is given is there
+given_some : {A : Type 0} (x : Option A) (a : A) (w : World) → gives a w ≡ given x w → x ≡ Some a
+given_some None a w is = absurd (cc is)
+given_some (Some b) a w is = let same : a ≡ b = cc in ap Some (sym same)
+
+given_none : {A : Type 0} (x : Option A) (w : World) → undefined ≡ given x w → x ≡ None
+given_none None w is = refl
+given_none (Some b) w is = absurd (cc is)
+
+given_no_end : {A : Type 0} (x : Option A) (e : End) (w : World) → ends e w ≡ given x w → ⊥
+given_no_end None e w is = cc
+given_no_end (Some b) e w is = cc
+
+-- the first world, whatever its input
+abbrev some_world : Memory → World
+some_world m = record { memory = m; input = []; output = []; calls = 0; most_calls = 0; turns = 0 }
+
+module _ (sections : List Declarations) (p : Program) (turns : ℕ) (is : p ≡ program_of sections) where
+  abbrev starting : List ℕ → Option Value → Run
+  starting input start = started p start (first_world p input turns) turns
+
+  pub means_so : (input : List ℕ) (start : Option Value) → read (first_memory p) (address globals_object 1) ≡ start → starting input start ≡ meaning sections input turns
+  means_so input start found = sym (ap (starting input) found) ∙ ap (λ (q : Program). started q (read (first_memory q) (address globals_object 1)) (first_world q input turns) turns) is
+
+  pub checks_start : (start : Value) (verdict : Verdict) (old new : Told) → read (first_memory p) (address globals_object 1) ≡ Some start → Runs p start turns verdict old new → Checks sections turns verdict old new
+  checks_start start verdict old new found runs = record {
+    read = runs.read;
+    written = runs.written;
+    exchanged = runs.exchanged;
+    shows = λ rest follows. subst (λ (r : Run). Shows verdict r rest runs.written) (means_so (runs.read ++ rest) (Some start) found) (runs.shows rest follows);
+  }
+
+  pub checks_none : (verdict : Verdict) (old new : Told) → read (first_memory p) (address globals_object 1) ≡ None → verdict ≡ v.NoStart
+      → Exchanged old new [] [] → Checks sections turns verdict old new
+  checks_none verdict old new found none exchanged = record {
+    read = [];
+    written = [];
+    exchanged = exchanged;
+    shows = λ rest follows. rw none (0, sym (means_so rest None found));
+  }
+
+-- ---- calls of the library
+
+taken_none : (old new : Told) → Keeps old.taken new.taken → Appends old.taken new.taken []
+taken_none old new keeps = Appends-kept old.taken old.taken new.taken [] (Appends-nil old.taken) keeps
+
+-- the input is at its end
+pub answered_end : (old new : Told) → Consumes old.left new.left [] → Keeps old.taken new.taken → new.ended ≡ true → Answered (2 ^ 32 - 1) old new
+answered_end old new delivered keeps ended = record {
+  read = [];
+  exchanged = record { delivered = delivered; took = taken_none old new keeps; stays = λ told. (refl, ended) };
+  takes = λ rest w follows is.
+      ap (λ (i : List ℕ). takes_byte i w) (is ∙ follows ended) ∙ ap (λ (i : List ℕ). gives (number (2 ^ 32 - 1)) (record w { input = i })) is;
+}
+
+-- the input gives a byte
+pub answered_byte : (old new : Told) (b : ℕ) → Consumes old.left new.left (b ∷ []) → Keeps old.taken new.taken → (IsTrue old.ended → ⊥) → Answered b old new
+answered_byte old new b delivered keeps open_ = record {
+  read = b ∷ [];
+  exchanged = record { delivered = delivered; took = taken_none old new keeps; stays = λ told. absurd (open_ told) };
+  takes = λ rest w follows is. ap (λ (i : List ℕ). takes_byte i w) is;
+}
+
+module _ (p : Program) (m m' : Machine) (line : ℕ) (r : Routine) (vs : Vec Worth Global) (e : Effect)
+    (frames : m'.frames.items ≡ m.frames.items) (same : (b : Bytes) → world m' b ≡ remembering m'.store (world m b))
+    (law : (w : World) → w.memory ≡ m.store → outcome_in e (remembering m'.store w) ≡ library (routine_in r) (map value_in vs.items) w) where
+  called : (b : Bytes) → tag a_value (outcome_in e (world m' b)) ≡ outcome_next p (n.Library line r vs) (world m b)
+  called b = ap (λ (w : World). tag a_value (outcome_in e w)) (same b) ∙ ap (tag a_value) (law (world m b) refl)
+
+  framed : (u v : Outcome Given) → u ≡ v → resumed p m'.frames.items u ≡ resumed p m.frames.items v
+  framed u v is = ap (λ (fs : List Frame). resumed p fs u) frames ∙ ap (resumed p m.frames.items) is
+
+  -- it needs no device
+  pub library_still : (next : Next) (told : Told) → ((w : World) → outcome_next p next w ≡ tag a_value (outcome_in e w)) → Moves p m (n.Library line r vs) m' next told told
+  library_still next told does = moves_still p m (n.Library line r vs) m' next told (λ b. framed _ _ (does (world m' b) ∙ called b))
+
+  -- it takes a byte
+  pub library_takes : (word : ℕ) (old new : Told) → e ≡ t.TakesByte → Answered word old new → Moves p m (n.Library line r vs) m' (n.Gives (g.Value (w.Number word))) old new
+  library_takes word old new is answered = record {
+    read = answered.read;
+    written = [];
+    exchanged = answered.exchanged;
+    comes = λ rest before follows. unwritten p m'.frames.items (n.Gives (g.Value (w.Number word))) m' rest before _
+        (framed _ _ (
+        ap (tag a_value) (sym (answered.takes rest (world m' (record { input = answered.read ++ rest; output = before })) follows refl))
+        ∙ ap (λ (x : Effect). tag a_value (outcome_in x (world m' (record { input = answered.read ++ rest; output = before })))) (sym is)
+        ∙ called (record { input = answered.read ++ rest; output = before })));
+  }
+
+  -- it writes a text
+  pub library_writes : (text : Vec ℕ Global) (old new : Told) → e ≡ t.Writes text → Exchanged old new [] text.items → Moves p m (n.Library line r vs) m' (n.Gives (g.Value w.Unset)) old new
+  library_writes text old new is exchanged = record {
+    read = [];
+    written = text.items;
+    exchanged = exchanged;
+    comes = λ rest before follows. framed _ _ (
+        ap (λ (x : Effect). tag a_value (outcome_in x (world m' (record { input = rest; output = before })))) (sym is)
+        ∙ called (record { input = rest; output = before }));
+  }
+
+-- nothing was delivered or taken
+pub exchanged_still : (old new : Told) → Keeps old.left new.left → new.ended ≡ old.ended → Keeps old.taken new.taken → Exchanged old new [] []
+exchanged_still old new left ended taken = record {
+  delivered = Consumes-kept old.left old.left new.left [] (Consumes-nil old.left) left;
+  took = taken_none old new taken;
+  stays = λ told. (refl, ended ∙ told);
+}
+
+-- the input was not asked
+pub exchanged_took : (left : Option (List ℕ)) (ended : Bool) (old new : Option (List ℕ)) (text : List ℕ) → Appends old new text
+    → Exchanged (record { left = left; ended = ended; taken = old }) (record { left = left; ended = ended; taken = new }) [] text
+exchanged_took left ended old new text appends = record { delivered = Consumes-nil left; took = appends; stays = λ told. (refl, told) }
+
+-- ---- a run that is given up
+
+still_grows : (before rest : List ℕ) (w : World) → w.output ≡ before → w.input ≡ rest → Grows (shown (before ++ []) rest 0) (history w)
+still_grows before rest w wrote left = record {
+  written = [];
+  output = wrote ∙ sym (append-nil before) ∙ sym (append-nil (before ++ []));
+  taken = [];
+  input = sym left;
+  most_calls = omega arith;
+}
+
+-- nothing was exchanged
+pub reaches_still : (p : Program) (m : Machine) (next : Next) (old new : Told) → Exchanged old new [] [] → Reaches p m next old new
+reaches_still p m next old new exchanged = record {
+  read = [];
+  written = [];
+  exchanged = exchanged;
+  grows = λ rest before follows. whole_after p m.frames.items next (shown (before ++ []) rest 0) (world m (record { input = rest; output = before })) (still_grows before rest (world m (record { input = rest; output = before })) refl refl);
+}
+
+-- after a step
+pub reaches_after : (p : Program) (m : Machine) (next : Next) (m' : Machine) (next' : Next) (old mid new : Told)
+    → Moves p m next m' next' old mid → Reaches p m' next' mid new → Reaches p m next old new
+reaches_after p m next m' next' old mid new first second = record {
+  read = first.read ++ second.read;
+  written = first.written ++ second.written;
+  exchanged = exchanged_then old mid new first.read second.read first.written second.written first.exchanged second.exchanged;
+  grows = λ rest before follows.
+      let one = first.comes (second.read ++ rest) before (follows_both mid new second.read second.written rest second.exchanged follows) in
+      let two = second.grows rest (before ++ first.written) follows in
+      subst (λ (l : List ℕ). After (shown l rest 0) (resumed p m.frames.items (outcome_next p next (world m (record { input = (first.read ++ second.read) ++ rest; output = before })))))
+      (append_assoc before first.written second.written)
+      (subst (λ (u : Outcome Given). After (shown ((before ++ first.written) ++ second.written) rest 0) u)
+      (one ∙ ap (λ (l : List ℕ). resumed p m.frames.items (outcome_next p next (world m (record { input = l; output = before })))) (sym (append_assoc first.read second.read rest))) two);
+}
+
+-- a part of a text was written
+part_grows : (before part others : List ℕ) (text : List ℕ) (w : World) → text ≡ part ++ others → Grows (shown (before ++ part) w.input 0) (shown (before ++ text) w.input w.most_calls)
+part_grows before part others text w whole = record {
+  written = others;
+  output = ap (λ (l : List ℕ). before ++ l) whole ∙ sym (append_assoc before part others);
+  taken = [];
+  input = refl;
+  most_calls = omega arith;
+}
+
+pub reaches_part : (p : Program) (m : Machine) (line : ℕ) (r : Routine) (vs : Vec Worth Global) (s : Memory) (text : Vec ℕ Global) (old new : Told) (part others : List ℕ)
+    → ((w : World) → w.memory ≡ m.store → outcome_in (t.Writes text) (remembering s w) ≡ library (routine_in r) (map value_in vs.items) w)
+    → text.items ≡ part ++ others → Exchanged old new [] part → Reaches p m (n.Library line r vs) old new
+reaches_part p m line r vs s text old new part others law whole exchanged = record {
+  read = [];
+  written = part;
+  exchanged = exchanged;
+  grows = λ rest before follows.
+      let w = world m (record { input = rest; output = before }) in
+      resumed_after p m.frames.items (shown (before ++ part) rest 0) (outcome_next p (n.Library line r vs) w)
+      (subst (λ (u : Outcome Value). After (shown (before ++ part) rest 0) (tag a_value u)) (law w refl) (part_grows before part others text.items w whole));
+}
+
+run_goes_on : (h : History) (u : Outcome Value) → After h (tag a_value u) → RunGoesOn h (run_of u)
+run_goes_on h (gives v w) g = g
+run_goes_on h (leaves x w) g = tt
+run_goes_on h (ends e w) g = g
+run_goes_on h undefined g = tt
+run_goes_on h (going w) g = g
+
+pub run_part : (p : Program) (start : Value) (turns : ℕ) (m m' : Machine) (first : Next) (old new : Told)
+    → Begun p turns m
+    → ((b : Bytes) → Comes p m'.frames.items first (world m' b) (resumed p m.frames.items (tag a_value (call p (full p) start [] (world m b)))))
+    → Reaches p m' first old new → RunsPart p start turns old new
+run_part p start turns m m' first old new begun calls reaches = record {
+  read = reaches.read;
+  written = reaches.written;
+  exchanged = reaches.exchanged;
+  goes_on = λ rest follows.
+      let input = reaches.read ++ rest in
+      let there = world m (record { input = input; output = [] }) in
+      let comes = calls (record { input = input; output = [] }) ∙ no_frames p m.frames.items (tag a_value (call p (full p) start [] there)) begun.frames in
+      let on : RunGoesOn (shown reaches.written rest 0) (run_of (call p (full p) start [] there)) =
+      run_goes_on (shown reaches.written rest 0) (call p (full p) start [] there) (subst (λ (u : Outcome Given). After (shown reaches.written rest 0) u) comes (reaches.grows rest [] follows)) in
+      subst (RunGoesOn (shown reaches.written rest 0)) (
+      ap (λ (x : World). run_of (call p (full p) start [] x)) (begun_world p turns m input begun)
+      ∙ sym (ap run_of (full_call p turns start [] (first_world p input turns) (omega arith)))) on;
+}
+
+module _ (sections : List Declarations) (p : Program) (turns : ℕ) (is : p ≡ program_of sections) where
+  pub checks_part : (start : Value) (old new : Told) → read (first_memory p) (address globals_object 1) ≡ Some start → RunsPart p start turns old new → ChecksPart sections turns old new
+  checks_part start old new found runs = record {
+    read = runs.read;
+    written = runs.written;
+    exchanged = runs.exchanged;
+    goes_on = λ rest follows. subst (RunGoesOn (shown runs.written rest 0)) (means_so sections p turns is (runs.read ++ rest) (Some start) found) (runs.goes_on rest follows);
+  }
+
+-- nothing was exchanged
+pub nothing_yet : (sections : List Declarations) (turns : ℕ) (old new : Told) → Exchanged old new [] [] → ChecksPart sections turns old new
+nothing_yet sections turns old new exchanged = record {
+  read = [];
+  written = [];
+  exchanged = exchanged;
+  goes_on = λ rest follows. reads_from_the_front sections rest turns;
+}
+
+pub nothing_run : (p : Program) (start : Value) (turns : ℕ) (old new : Told) → Exchanged old new [] [] → RunsPart p start turns old new
+nothing_run p start turns old new exchanged = record {
+  read = [];
+  written = [];
+  exchanged = exchanged;
+  goes_on = λ rest follows.
+      let w = first_world p rest turns in
+      subst (λ (u : Outcome Value). RunGoesOn (shown [] rest 0) (run_of u)) (sym (full_call p turns start [] w (omega arith)))
+      (run_goes_on (shown [] rest 0) (call p (full p) start [] w) (called_after p start [] (shown [] rest 0) w (still_grows [] rest w refl refl)));
+}
+
+-- ---- results
+
+pub if_err : {T E P : Type 0} (r : Result T E) → P → IfErr r (λ _. P)
+if_err (Ok v) h = tt
+if_err (Err e) h = h
+
+pub not_ok : {T E : Type 0} (P : T → Type 0) (r : Result T E) → IsErr r → IfOk r P
+not_ok P (Ok v) is = absurd (cc is)
+not_ok P (Err e) is = tt
+
+pub of_err : {T E P : Type 0} (r : Result T E) → is_err r ≡ true → OnErr r P → P
+of_err (Ok v) is h = absurd (cc is)
+of_err (Err e) is h = h
+
+pub of_ok : {T E P : Type 0} (r : Result T E) → is_err r ≡ false → OnOk r P → P
+of_ok (Ok v) is h = h
+of_ok (Err e) is h = absurd (cc is)
+
+-- ---- a flush after a run
+
+exchanged_kept : (old mid : Told) (taken : Option (List ℕ)) (read written : List ℕ) → Keeps mid.taken taken → Exchanged old mid read written → Exchanged old (record mid { taken = taken }) read written
+exchanged_kept old mid taken read written keeps exchanged = record {
+  delivered = exchanged.delivered;
+  took = Appends-kept old.taken mid.taken taken written exchanged.took keeps;
+  stays = exchanged.stays;
+}
+
+pub runs_kept : (p : Program) (start : Value) (turns : ℕ) (verdict : Verdict) (old mid : Told) (taken : Option (List ℕ)) → Keeps mid.taken taken → Runs p start turns verdict old mid → Runs p start turns verdict old (record mid { taken = taken })
+runs_kept p start turns verdict old mid taken keeps runs = record {
+  read = runs.read;
+  written = runs.written;
+  exchanged = exchanged_kept old mid taken runs.read runs.written keeps runs.exchanged;
+  shows = runs.shows;
+}
+
+pub part_kept : (p : Program) (start : Value) (turns : ℕ) (old mid : Told) (taken : Option (List ℕ)) → Keeps mid.taken taken → RunsPart p start turns old mid → RunsPart p start turns old (record mid { taken = taken })
+part_kept p start turns old mid taken keeps runs = record {
+  read = runs.read;
+  written = runs.written;
+  exchanged = exchanged_kept old mid taken runs.read runs.written keeps runs.exchanged;
+  goes_on = runs.goes_on;
+}
+
+pub ok_map : {T E : Type 0} (P Q : T → Type 0) (r : Result T E) → ((v : T) → P v → Q v) → IfOk r P → IfOk r Q
+ok_map P Q (Ok v) f h = f v h
+ok_map P Q (Err e) f h = tt
+
+pub err_map : {T E : Type 0} (P Q : E → Type 0) (r : Result T E) → ((e : E) → P e → Q e) → IfErr r P → IfErr r Q
+err_map P Q (Ok v) f h = tt
+err_map P Q (Err e) f h = f e h
+
+pub on_ok : {T E P : Type 0} (r : Result T E) → P → OnOk r P
+on_ok (Ok v) h = h
+on_ok (Err e) h = tt
+
+-- ---- START
+
+module _ (p : Program) (turns : ℕ) (m : Machine) (begun : Begun p turns m) (came : Computed)
+    (law : (w : World) → w.memory ≡ m.store → outcome_of came w ≡ fetch (address globals_object 1) w) where
+  pub start_found : (x : Worth) → came ≡ k.Value x → read (first_memory p) (address globals_object 1) ≡ Some (value_in x)
+  start_found x is =
+      ap (λ (s : Memory). read s (address globals_object 1)) (sym begun.store)
+      ∙ given_some (read m.store (address globals_object 1)) (value_in x) (some_world m.store) (sym (ap (λ (y : Computed). outcome_of y (some_world m.store)) is) ∙ law (some_world m.store) refl)
+
+  start_missing : read m.store (address globals_object 1) ≡ None → read (first_memory p) (address globals_object 1) ≡ None
+  start_missing none = ap (λ (s : Memory). read s (address globals_object 1)) (sym begun.store) ∙ none
+
+  pub no_start_found : ((x : Worth) → came ≡ k.Value x → ⊥) → read (first_memory p) (address globals_object 1) ≡ None
+  no_start_found not = by came refl
+    where
+      by : (y : Computed) → came ≡ y → read (first_memory p) (address globals_object 1) ≡ None
+      by (k.Value x) is = absurd (not x is)
+      by k.DivideByZero is = absurd (given_no_end (read m.store (address globals_object 1)) divide_by_zero (some_world m.store) (sym (ap (λ (y : Computed). outcome_of y (some_world m.store)) is) ∙ law (some_world m.store) refl))
+      by (k.Undefined why) is = start_missing (given_none (read m.store (address globals_object 1)) (some_world m.store) (sym (ap (λ (y : Computed). outcome_of y (some_world m.store)) is) ∙ law (some_world m.store) refl))

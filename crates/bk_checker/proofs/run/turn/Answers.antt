@@ -1,0 +1,23 @@
+use Rattle.std.proofs.Common.{rules, refl}
+use Rattle.bk_base.specs.DeviceLaws.{Begins-refl}
+use Rattle.bk_check.specs.Views.{program_in}
+use Rattle.bk_checker.proofs.Running.{moves_still, reaches_still, exchanged_none, if_err, not_ok}
+use Rattle.bk_checker.proofs.run.turn.Goals as goal
+
+pub returns-in_err-step-in_default : goal.returns-in_err-step-in_default
+returns-in_err-step-in_default g c = record {
+  moves = not_ok _ c.from_residual.result c.from_residual.ensures.0;
+  part = if_err c.from_residual.result (reaches_still (program_in c.args.program.now) c.args.m.now c.args.next _ _ (exchanged_none _));
+  passes = Begins-refl _;
+  sound = not_ok _ c.from_residual.result c.from_residual.ensures.0;
+  cause = search (c.from_residual.ensures, rules);
+}
+
+pub returns-in_ok-step-in_default : goal.returns-in_ok-step-in_default
+returns-in_ok-step-in_default g c = record {
+  moves = moves_still (program_in c.args.program.now) c.args.m.now c.args.next c.step.new.m c.in_ok-step-in_default.field-0 _ c.in_ok-step-in_default.ensures;
+  part = tt;
+  passes = Begins-refl _;
+  sound = refl;
+  cause = tt;
+}

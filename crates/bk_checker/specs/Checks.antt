@@ -1,0 +1,147 @@
+-- What a check answers: the verdict of the meaning, with the bytes that it reads and writes.
+use Rattle.std.specs.Prelude.{◌≡◌, ℕ, Bool, true, false, IsTrue, List, [], ◌∷◌, ◌++◌, Option}
+use Rattle.std.specs.Io.KnownBytes.{Consumes, Appends}
+use Rattle.bk_tree.specs.Tree.{Declarations}
+use Rattle.bk_meaning.specs.World.{World, Outcome, gives, leaves, ends, undefined, going, status, divide_by_zero, no_start}
+use Rattle.bk_meaning.specs.Values.{number}
+use Rattle.bk_meaning.specs.Library.{takes_byte}
+use Rattle.bk_meaning.specs.Values.{Value}
+use Rattle.bk_meaning.specs.Calls.{call}
+use Rattle.bk_meaning.specs.Lasting.{Program, first_memory}
+use Rattle.bk_meaning.specs.Program.{Run, Ends, Going, Undefined, means, run_of, first_world, meaning}
+use Rattle.bk_meaning.specs.Growing.{After}
+use Rattle.bk_meaning.specs.Turns.{shown, RunGoesOn}
+use Rattle.bk_check.specs.declared.frame.Frame.{Frame}
+use Rattle.bk_check.specs.declared.frame.Thing.TheVariants as g
+use Rattle.bk_check.specs.declared.frame.Next.{Next}
+use Rattle.bk_check.specs.declared.frame.Next.TheVariants as n
+use Rattle.bk_check.specs.declared.machine.Machine.{Machine}
+use Rattle.bk_checker.specs.declared.report.Verdict.{Verdict}
+use Rattle.bk_checker.specs.declared.report.Verdict.TheVariants as v
+use Rattle.bk_checker.specs.declared.report.CheckFault.{CheckFault}
+use Rattle.bk_checker.specs.declared.report.CheckFault.TheVariants as x
+use Rattle.bk_check.specs.Worlds.{world}
+use Rattle.bk_check.specs.Resume.{Given, a_value, Comes, resumed, outcome_next}
+
+-- What the devices tell at a moment: the bytes left of the input and whether its end was told; the bytes that the output took.
+pub record Told : Type 0 where
+  pub left : Option (List ℕ)
+  pub ended : Bool
+  pub taken : Option (List ℕ)
+
+-- Between two moments the input delivered these bytes, and the output took these. After the end nothing is delivered.
+pub record Exchanged (old new : Told) (read written : List ℕ) : Type 0 where
+  pub delivered : Consumes old.left new.left read
+  pub took : Appends old.taken new.taken written
+  pub stays : IsTrue old.ended → (read ≡ []) × IsTrue new.ended
+
+-- Whatever may follow the bytes delivered: nothing, where the end was told.
+abbrev pub Follows : Told → List ℕ → Type 0
+Follows new rest = IsTrue new.ended → rest ≡ []
+
+-- The verdict is that of a run, which left this input and wrote these bytes.
+abbrev pub Shows : Verdict → Run → List ℕ → List ℕ → Type 0
+Shows (v.Status k) run left bytes = (calls : ℕ) × (run ≡ Ends bytes left calls (status k))
+Shows v.DivideByZero run left bytes = (calls : ℕ) × (run ≡ Ends bytes left calls divide_by_zero)
+Shows v.NoStart run left bytes = (calls : ℕ) × (run ≡ Ends bytes left calls no_start)
+Shows v.Undefined run left bytes = run ≡ Undefined
+Shows v.Turns run left bytes = (calls : ℕ) × (run ≡ Going bytes left calls)
+
+-- THE CHECK. With so many turns the meaning of these sections has this verdict: whatever follows the bytes that were read, it reads
+-- just these bytes and writes just those that were written.
+pub record Checks (sections : List Declarations) (turns : ℕ) (verdict : Verdict) (old new : Told) : Type 0 where
+  pub read : List ℕ
+  pub written : List ℕ
+  pub exchanged : Exchanged old new read written
+  pub shows : (rest : List ℕ) → Follows new rest → Shows verdict (meaning sections (read ++ rest) turns) rest written
+
+-- Which device failed where a check was given up: the input once, the output never before; or the output. Nothing failed where memory
+-- was refused or the limit of frames and cells was reached.
+abbrev pub Blames : CheckFault → (reads reads' writes' : ℕ) → Type 0
+Blames x.Read reads reads' writes' = reads' ≡ 1
+Blames x.Write reads reads' writes' = writes' ≡ 1
+Blames x.Memory reads reads' writes' = reads' ≡ reads
+Blames x.TooDeep reads reads' writes' = reads' ≡ reads
+
+-- ---- on the way
+
+-- what comes next ends the run
+abbrev pub over : List Frame → Next → Bool
+over fs (n.Status k) = true
+over fs (n.DivideByZero s) = true
+over fs (n.Undefined s why) = true
+over fs (n.Going line) = true
+over [] (n.Gives t) = true
+over [] (n.Leaves x) = true
+over fs next = false
+
+-- and this is its verdict
+abbrev pub verdict_of : Next → Verdict
+verdict_of (n.Status k) = v.Status k
+verdict_of (n.DivideByZero s) = v.DivideByZero
+verdict_of (n.Going line) = v.Turns
+verdict_of (n.Gives (g.Value x)) = v.Status 0
+verdict_of next = v.Undefined
+
+-- how a run ends whose call of START comes to this
+abbrev pub run_given : Outcome Given → Run
+run_given (gives (a_value v) w) = Ends w.output w.input w.most_calls (status 0)
+run_given (gives t w) = Undefined
+run_given (leaves x w) = Undefined
+run_given (ends e w) = Ends w.output w.input w.most_calls e
+run_given undefined = Undefined
+run_given (going w) = Going w.output w.input w.most_calls
+
+-- an answer to RDCH
+pub record Answered (word : ℕ) (old new : Told) : Type 0 where
+  pub read : List ℕ
+  pub exchanged : Exchanged old new read []
+  pub takes : (rest : List ℕ) (w : World) → Follows new rest → w.input ≡ read ++ rest → takes_byte w.input w ≡ gives (number word) (record w { input = rest })
+
+-- From one moment to another nothing changed of what the whole comes to, but that these bytes were read and written.
+pub record Moves (p : Program) (m : Machine) (next : Next) (m' : Machine) (next' : Next) (old new : Told) : Type 0 where
+  pub read : List ℕ
+  pub written : List ℕ
+  pub exchanged : Exchanged old new read written
+  pub comes : (rest before : List ℕ) → Follows new rest →
+      Comes p m'.frames.items next' (world m' (record { input = rest; output = before ++ written }))
+      (resumed p m.frames.items (outcome_next p next (world m (record { input = read ++ rest; output = before }))))
+
+-- a machine before the run of a program
+pub record Begun (p : Program) (turns : ℕ) (m : Machine) : Type 0 where
+  pub frames : m.frames.items ≡ []
+  pub store : m.store ≡ first_memory p
+  pub calls : m.calls ≡ 0
+  pub most_calls : m.most_calls ≡ 0
+  pub has_turns : m.turns ≡ turns
+
+-- the verdict is that of the call of START
+pub record Runs (p : Program) (start : Value) (turns : ℕ) (verdict : Verdict) (old new : Told) : Type 0 where
+  pub read : List ℕ
+  pub written : List ℕ
+  pub exchanged : Exchanged old new read written
+  pub shows : (rest : List ℕ) → Follows new rest → Shows verdict (run_of (call p (means p turns) start [] (first_world p (read ++ rest) turns))) rest written
+
+-- ---- a check that was given up
+
+-- What was read and written begins what the meaning reads and writes, whatever follows, where the meaning does nothing undefined.
+pub record ChecksPart (sections : List Declarations) (turns : ℕ) (old new : Told) : Type 0 where
+  pub read : List ℕ
+  pub written : List ℕ
+  pub exchanged : Exchanged old new read written
+  pub goes_on : (rest : List ℕ) → Follows new rest → RunGoesOn (shown written rest 0) (meaning sections (read ++ rest) turns)
+
+-- the same of the call of START
+pub record RunsPart (p : Program) (start : Value) (turns : ℕ) (old new : Told) : Type 0 where
+  pub read : List ℕ
+  pub written : List ℕ
+  pub exchanged : Exchanged old new read written
+  pub goes_on : (rest : List ℕ) → Follows new rest → RunGoesOn (shown written rest 0) (run_of (call p (means p turns) start [] (first_world p (read ++ rest) turns)))
+
+-- and of what the whole comes to
+pub record Reaches (p : Program) (m : Machine) (next : Next) (old new : Told) : Type 0 where
+  pub read : List ℕ
+  pub written : List ℕ
+  pub exchanged : Exchanged old new read written
+  pub grows : (rest before : List ℕ) → Follows new rest →
+      After (shown (before ++ written) rest 0) (resumed p m.frames.items (outcome_next p next (world m (record { input = read ++ rest; output = before }))))

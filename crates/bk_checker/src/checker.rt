@@ -1,0 +1,147 @@
+//! Checks of programs.
+ghost use Rattle.std.specs.Prelude.{◌≡◌, ℕ, List, map, IfOk, IfErr, OnOk};
+ghost use Rattle.std.specs.Io.KnownBytes.{Keeps};
+ghost use Rattle.bk_base.specs.Devices.{Begins};
+ghost use Rattle.bk_tree.specs.Section.{declarations_of};
+ghost use Rattle.bk_tree.specs.Tree.{Declarations};
+ghost use Rattle.bk_meaning.specs.Lasting.{program_of as program_in_sections};
+ghost use Rattle.bk_checker.specs.declared.report.Verdict.TheVariants.{NoStart};
+ghost use Rattle.bk_checker.specs.declared.report.CheckFault.TheVariants.{Write};
+ghost use Rattle.bk_objects.specs.Views.{value_in};
+ghost use Rattle.bk_check.specs.Views.{program_in};
+ghost use Rattle.bk_checker.specs.Checks.{Checks, Blames, Begun, Runs, ChecksPart, RunsPart};
+
+use crate::explain::{explain, given_up};
+use crate::report::{CheckFault, GivenUp, Report, Verdict};
+use crate::run::{go, verdict};
+use bk_base::{ByteIn, ByteOut, Line};
+use bk_check::{Machine, call};
+use bk_lasting::{GLOBALS_OBJECT, Lasting, first_memory, program_of};
+use bk_objects::{Computed, Worth, read};
+use bk_tree::Section;
+use std::alloc::{AllocError, Global};
+
+/// The machine before the run of a program.
+fn first_machine<'a>(
+    alloc: Global,
+    program: &[Lasting],
+    turns: u64,
+) -> Result<Machine<'a>, AllocError>
+    ensures { IfOk result (λ m. Begun (program_in program.now) turns m) }
+{
+    Ok(Machine {
+        alloc,
+        frames: Vec::new(alloc),
+        store: first_memory(alloc, program)?,
+        calls: 0,
+        most_calls: 0,
+        turns,
+    })
+}
+
+/// Calls START, and steps up to the end.
+fn check_start<'a, I: ByteIn, O: ByteOut>(
+    m: &mut Machine<'a>,
+    program: &[Lasting<'a>],
+    start: Worth,
+    input: &mut I,
+    out: &mut O,
+) -> Result<Report, GivenUp>
+    ensures shows { IfOk result (λ report. (turns : ℕ) → Begun (program_in program.now) turns m.old
+        → Runs (program_in program.now) (value_in start) turns report.verdict
+        (record { left = I.left input.old; ended = I.ended input.old; taken = O.taken out.old })
+        (record { left = I.left input.new; ended = I.ended input.new; taken = O.taken out.new })) }
+    ensures flushed { OnOk result (O.passed out.new ≡ O.taken out.new) }
+    ensures part { IfErr result (λ _. (turns : ℕ) → Begun (program_in program.now) turns m.old
+        → RunsPart (program_in program.now) (value_in start) turns
+        (record { left = I.left input.old; ended = I.ended input.old; taken = O.taken out.old })
+        (record { left = I.left input.new; ended = I.ended input.new; taken = O.taken out.new })) }
+    ensures passes { Begins (O.passed out.old) (O.passed out.new) }
+    ensures sound { OnOk result (I.faults input.new ≡ I.faults input.old) }
+    ensures cause { IfErr result (λ stop. Blames stop.fault (I.faults input.old) (I.faults input.new) (O.faults out.new)) }
+{
+    let arguments = Vec::new(m.alloc);
+    let first = call(m, program, Line::first(), None, start, arguments)?;
+    let came = go(m, program, first, input, out);
+    let flushed = out.flush();
+    let last = match came {
+        Ok(last) => last,
+        Err(fault) => return Err(given_up(m, program, fault)),
+    };
+    if flushed.is_err() {
+        return Err(GivenUp::from(CheckFault::Write));
+    }
+    Ok(explain(m, program, &last)?)
+}
+
+/// Where the program has no START.
+fn no_start<O: ByteOut>(alloc: Global, out: &mut O) -> Result<Report, GivenUp>
+    ensures verdict { IfOk result (λ report. report.verdict ≡ NoStart) }
+    ensures flushed { OnOk result (O.passed out.new ≡ O.taken out.new) }
+    ensures keeps { Keeps (O.taken out.old) (O.taken out.new) }
+    ensures passes { Begins (O.passed out.old) (O.passed out.new) }
+    ensures failed { IfErr result (λ stop. (stop.fault ≡ Write) × (O.faults out.new ≡ 1)) }
+{
+    if out.flush().is_err() {
+        return Err(GivenUp::from(CheckFault::Write));
+    }
+    Ok(Report {
+        verdict: Verdict::NoStart,
+        line: Line::first(),
+        what: Vec::new(alloc),
+        calls: Vec::new(alloc),
+    })
+}
+
+/// Runs a program from its START, if it has one.
+fn check_program<'a, I: ByteIn, O: ByteOut>(
+    alloc: Global,
+    program: &[Lasting<'a>],
+    turns: u64,
+    input: &mut I,
+    out: &mut O,
+) -> Result<Report, GivenUp>
+    ensures checks { IfOk result (λ report. (sections : List Declarations) → program_in program.now ≡ program_in_sections sections → Checks sections turns report.verdict
+        (record { left = I.left input.old; ended = I.ended input.old; taken = O.taken out.old })
+        (record { left = I.left input.new; ended = I.ended input.new; taken = O.taken out.new })) }
+    ensures flushed { OnOk result (O.passed out.new ≡ O.taken out.new) }
+    ensures part { IfErr result (λ _. (sections : List Declarations) → program_in program.now ≡ program_in_sections sections → ChecksPart sections turns
+        (record { left = I.left input.old; ended = I.ended input.old; taken = O.taken out.old })
+        (record { left = I.left input.new; ended = I.ended input.new; taken = O.taken out.new })) }
+    ensures passes { Begins (O.passed out.old) (O.passed out.new) }
+    ensures sound { OnOk result (I.faults input.new ≡ I.faults input.old) }
+    ensures cause { IfErr result (λ stop. Blames stop.fault (I.faults input.old) (I.faults input.new) (O.faults out.new)) }
+{
+    let mut m = first_machine(alloc, program, turns)?;
+    match read(&m.store, Worth::Address(GLOBALS_OBJECT, 1)) {
+        Computed::Value(start) => check_start(&mut m, program, start, input, out),
+        _ => no_start(alloc, out),
+    }
+}
+
+/// Does what the sections mean, in so many turns, with this input and output: the verdict of their meaning, and what a person
+/// is told of it.
+///
+/// Output is flushed before the input is asked where none of it is held, and at each end. What was written before an undefined act
+/// stays written.
+pub fn check<I: ByteIn, O: ByteOut>(
+    alloc: Global,
+    sections: &[Section],
+    turns: u64,
+    input: &mut I,
+    out: &mut O,
+) -> Result<Report, GivenUp>
+    ensures checks { IfOk result (λ report. Checks (map declarations_of sections.now) turns report.verdict
+        (record { left = I.left input.old; ended = I.ended input.old; taken = O.taken out.old })
+        (record { left = I.left input.new; ended = I.ended input.new; taken = O.taken out.new })) }
+    ensures flushed { OnOk result (O.passed out.new ≡ O.taken out.new) }
+    ensures part { IfErr result (λ _. ChecksPart (map declarations_of sections.now) turns
+        (record { left = I.left input.old; ended = I.ended input.old; taken = O.taken out.old })
+        (record { left = I.left input.new; ended = I.ended input.new; taken = O.taken out.new })) }
+    ensures passes { Begins (O.passed out.old) (O.passed out.new) }
+    ensures sound { OnOk result (I.faults input.new ≡ I.faults input.old) }
+    ensures cause { IfErr result (λ stop. Blames stop.fault (I.faults input.old) (I.faults input.new) (O.faults out.new)) }
+{
+    let program = program_of(alloc, sections)?;
+    check_program(alloc, &program, turns, input, out)
+}

@@ -1,0 +1,11 @@
+//! The meaning of programs, run over devices: the verdict of a program, and what a person is told of it.
+#![tactic(auto)]
+
+mod checker;
+mod explain;
+mod report;
+mod run;
+
+pub use checker::check;
+pub use report::{CheckFault, GivenUp, Report, Verdict};
+pub use run::{CELLS, FRAMES};

@@ -1,0 +1,89 @@
+//! What a check answers.
+
+use bk_base::Line;
+use std::alloc::AllocError;
+
+/// How a check ends.
+#[derive(Clone, Copy, Debug)]
+pub enum Verdict {
+    /// The program ends with this status.
+    Status(u32),
+    /// The program ends with a division by zero.
+    DivideByZero,
+    /// The program has no START.
+    NoStart,
+    /// The program does what is undefined.
+    Undefined,
+    /// The program goes on after all turns.
+    Turns,
+}
+
+/// Why a check gives no verdict.
+#[derive(Clone, Copy, Debug)]
+pub enum CheckFault {
+    /// A growth was refused.
+    Memory,
+    /// More is to be done, or more lives, than the limits of a check.
+    TooDeep,
+    /// The input failed.
+    Read,
+    /// The output failed.
+    Write,
+}
+
+impl From<AllocError> for CheckFault {
+    ghost use Rattle.std.specs.Prelude.{◌≡◌};
+    ghost use Rattle.bk_checker.specs.declared.report.CheckFault.TheVariants.{Memory};
+
+    ghost from_gives = { λ _ fault. fault ≡ Memory };
+
+    fn from(_error: AllocError) -> CheckFault {
+        CheckFault::Memory
+    }
+}
+
+/// Why a check was given up, and what a person is told of it.
+#[derive(Debug, Drop)]
+pub struct GivenUp {
+    /// Why.
+    pub fault: CheckFault,
+    /// The calls that were active where the limits were reached, a line each, innermost first: ten at most.
+    pub calls: Option<Vec<u8>>,
+}
+
+impl From<CheckFault> for GivenUp {
+    ghost use Rattle.std.specs.Prelude.{◌≡◌};
+
+    ghost from_gives = { λ fault given. given.fault ≡ fault };
+
+    fn from(fault: CheckFault) -> GivenUp {
+        GivenUp { fault, calls: None }
+    }
+}
+
+impl From<AllocError> for GivenUp {
+    ghost use Rattle.std.specs.Prelude.{◌≡◌};
+    ghost use Rattle.bk_checker.specs.declared.report.CheckFault.TheVariants.{Memory};
+
+    ghost from_gives = { λ _ given. given.fault ≡ Memory };
+
+    fn from(_error: AllocError) -> GivenUp {
+        GivenUp {
+            fault: CheckFault::Memory,
+            calls: None,
+        }
+    }
+}
+
+/// The verdict of a check, and what a person is told of it.
+#[derive(Debug, Drop)]
+pub struct Report {
+    /// The verdict.
+    pub verdict: Verdict,
+    /// The line of the source on which the run stopped.
+    pub line: Line,
+    /// What went wrong there, without the end of the line; nothing where the program ends with a status.
+    pub what: Vec<u8>,
+    /// The calls that were active, a line each, innermost first: ten at most.
+    pub calls: Vec<u8>,
+}

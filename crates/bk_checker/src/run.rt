@@ -1,0 +1,176 @@
+//! Runs of the meaning over devices.
+ghost use Rattle.std.specs.Prelude.{◌≡◌, ℕ, true, IfOk, IfErr, OnOk, OnErr, List};
+ghost use Rattle.std.specs.Io.KnownBytes.{Keeps};
+ghost use Rattle.bk_base.specs.Devices.{Begins};
+ghost use Rattle.bk_meaning.specs.World.{World};
+ghost use Rattle.bk_meaning.specs.Lasting.{Program};
+ghost use Rattle.bk_check.specs.declared.frame.Frame.{Frame};
+ghost use Rattle.bk_check.specs.declared.frame.Next.TheVariants as n;
+ghost use Rattle.bk_check.specs.Views.{program_in};
+ghost use Rattle.bk_check.specs.Resume.{outcome_next};
+ghost use Rattle.bk_checker.specs.Checks.{Blames, over, verdict_of, Answered, Moves, Reaches};
+
+use crate::report::{CheckFault, Verdict};
+use bk_base::{ByteIn, ByteOut, Line, put_all};
+use bk_check::{Machine, Next, Subject, Thing, step};
+use bk_lasting::{Lasting, constant};
+use bk_objects::{Effect, Routine, Worth, perform};
+use bk_tree::Init;
+
+/// How many frames are at most on the stack of a check.
+pub const FRAMES: usize = 4_194_304;
+
+/// How many cells live at most in a check: the words of the largest store of a run.
+pub const CELLS: usize = 16_777_216;
+
+/// The next byte, or -1 at the end. Where the input is not ready, the output is flushed first; if that fails, the input
+/// is not asked.
+#[inline(never)]
+fn ask<I: ByteIn, O: ByteOut>(input: &mut I, out: &mut O) -> Result<u32, CheckFault>
+    ensures answered { IfOk result (λ word. Answered word
+        (record { left = I.left input.old; ended = I.ended input.old; taken = O.taken out.old })
+        (record { left = I.left input.new; ended = I.ended input.new; taken = O.taken out.new })) }
+    ensures still { OnErr result (Keeps (I.left input.old) (I.left input.new) × (I.ended input.new ≡ I.ended input.old) × Keeps (O.taken out.old) (O.taken out.new)) }
+    ensures passes { Begins (O.passed out.old) (O.passed out.new) }
+    ensures sound { OnOk result (I.faults input.new ≡ I.faults input.old) }
+    ensures cause { IfErr result (λ fault. Blames fault (I.faults input.old) (I.faults input.new) (O.faults out.new)) }
+{
+    if !input.ready() && out.flush().is_err() {
+        return Err(CheckFault::Write);
+    }
+    match input.next() {
+        Err(_) => Err(CheckFault::Read),
+        Ok(None) => Ok(0xFFFF_FFFF),
+        Ok(Some(byte)) => Ok(u32::from(byte)),
+    }
+}
+
+/// A call of a routine of the library.
+fn library<'a, I: ByteIn, O: ByteOut>(
+    m: &mut Machine<'a>,
+    line: Line,
+    routine: Routine,
+    values: &Vec<Worth>,
+    input: &mut I,
+    out: &mut O,
+) -> Result<Next<'a>, CheckFault>
+    ensures moves { IfOk result (λ after. (p : Program) → Moves p m.old (n.Library line routine values.now) m.new after
+        (record { left = I.left input.old; ended = I.ended input.old; taken = O.taken out.old })
+        (record { left = I.left input.new; ended = I.ended input.new; taken = O.taken out.new })) }
+    ensures part { IfErr result (λ _. (p : Program) → Reaches p m.old (n.Library line routine values.now)
+        (record { left = I.left input.old; ended = I.ended input.old; taken = O.taken out.old })
+        (record { left = I.left input.new; ended = I.ended input.new; taken = O.taken out.new })) }
+    ensures passes { Begins (O.passed out.old) (O.passed out.new) }
+    ensures sound { OnOk result (I.faults input.new ≡ I.faults input.old) }
+    ensures cause { IfErr result (λ fault. Blames fault (I.faults input.old) (I.faults input.new) (O.faults out.new)) }
+{
+    match perform(m.alloc, &mut m.store, routine, values)? {
+        Effect::Stops(status) => Ok(Next::Status(status)),
+        Effect::TakesByte => {
+            let word = ask(input, out)?;
+            Ok(Next::Gives(Thing::Value(Worth::Number(word))))
+        }
+        Effect::Writes(text) => {
+            if put_all(out, &text).is_err() {
+                return Err(CheckFault::Write);
+            }
+            Ok(Next::Gives(Thing::Value(Worth::Unset)))
+        }
+        Effect::Gives(x) => Ok(Next::Gives(Thing::Value(x))),
+        Effect::Undefined(reason) => Ok(Next::Undefined(Subject::Library(line, routine), reason)),
+    }
+}
+
+/// One step, with what it leaves to do to the devices.
+fn turn<'a, I: ByteIn, O: ByteOut>(
+    m: &mut Machine<'a>,
+    program: &[Lasting<'a>],
+    next: Next<'a>,
+    input: &mut I,
+    out: &mut O,
+) -> Result<Next<'a>, CheckFault>
+    ensures moves { IfOk result (λ after. Moves (program_in program.now) m.old next.entry m.new after
+        (record { left = I.left input.old; ended = I.ended input.old; taken = O.taken out.old })
+        (record { left = I.left input.new; ended = I.ended input.new; taken = O.taken out.new })) }
+    ensures part { IfErr result (λ _. Reaches (program_in program.now) m.old next.entry
+        (record { left = I.left input.old; ended = I.ended input.old; taken = O.taken out.old })
+        (record { left = I.left input.new; ended = I.ended input.new; taken = O.taken out.new })) }
+    ensures passes { Begins (O.passed out.old) (O.passed out.new) }
+    ensures sound { OnOk result (I.faults input.new ≡ I.faults input.old) }
+    ensures cause { IfErr result (λ fault. Blames fault (I.faults input.old) (I.faults input.new) (O.faults out.new)) }
+{
+    match next {
+        Next::Library(line, routine, values) => library(m, line, routine, &values, input, out),
+        _ => Ok(step(m, program, next)?),
+    }
+}
+
+/// Whether a run ends here.
+fn is_over<'a>(m: &Machine<'a>, next: &Next<'a>) -> bool
+    ensures { result ≡ over m.now.frames.items next.now }
+{
+    match next {
+        Next::Status(_) | Next::DivideByZero(_) | Next::Undefined(_, _) | Next::Going(_) => true,
+        Next::Gives(_) | Next::Leaves(_) => m.frames.is_empty(),
+        _ => false,
+    }
+}
+
+/// The verdict of what ends a run.
+pub fn verdict(next: &Next) -> Verdict
+    ensures { result ≡ verdict_of next.now }
+{
+    match next {
+        Next::Gives(Thing::Value(_)) => Verdict::Status(0),
+        Next::Status(status) => Verdict::Status(*status),
+        Next::DivideByZero(_) => Verdict::DivideByZero,
+        Next::Going(_) => Verdict::Turns,
+        _ => Verdict::Undefined,
+    }
+}
+
+/// Whether a step would come to more frames or cells than the limits of a check.
+fn is_too_deep(m: &Machine, next: &Next) -> bool {
+    if m.frames.len() > FRAMES || m.store.cells_in_use() > CELLS {
+        return true;
+    }
+    match next {
+        Next::Starts([Init::Vector(_, size), ..], here, _, _) => match constant(here, size) {
+            Some(last) => last as usize > CELLS.saturating_sub(m.store.cells_in_use()),
+            None => false,
+        },
+        _ => false,
+    }
+}
+
+/// Steps up to the end of a run: what ends it. A check takes fewer than 2^64 of them.
+pub fn go<'a, I: ByteIn, O: ByteOut>(
+    m: &mut Machine<'a>,
+    program: &[Lasting<'a>],
+    first: Next<'a>,
+    input: &mut I,
+    out: &mut O,
+) -> Result<Next<'a>, CheckFault>
+    ensures moves { IfOk result (λ last. Moves (program_in program.now) m.old first.entry m.new last
+        (record { left = I.left input.old; ended = I.ended input.old; taken = O.taken out.old })
+        (record { left = I.left input.new; ended = I.ended input.new; taken = O.taken out.new })) }
+    ensures ended { IfOk result (λ last. over m.new.frames.items last ≡ true) }
+    ensures part { IfErr result (λ _. Reaches (program_in program.now) m.old first.entry
+        (record { left = I.left input.old; ended = I.ended input.old; taken = O.taken out.old })
+        (record { left = I.left input.new; ended = I.ended input.new; taken = O.taken out.new })) }
+    ensures passes { Begins (O.passed out.old) (O.passed out.new) }
+    ensures sound { OnOk result (I.faults input.new ≡ I.faults input.old) }
+    ensures cause { IfErr result (λ fault. Blames fault (I.faults input.old) (I.faults input.new) (O.faults out.new)) }
+{
+    let mut next = first;
+    for i in 0..u64::MAX {
+        if is_over(m, &next) {
+            return Ok(next);
+        }
+        if is_too_deep(m, &next) {
+            return Err(CheckFault::TooDeep);
+        }
+        next = turn(m, program, next, input, out)?;
+    }
+    Err(CheckFault::TooDeep)
+}

@@ -1,0 +1,215 @@
+//! What is missing, and what could stand in the place of the refused symbol.
+
+use crate::scene::Scene;
+use crate::sentence::{Sentence, Told};
+use bk_lex::Kind;
+use std::alloc::AllocError;
+
+/// A symbol that may be due, and how it is spelled.
+struct Due {
+    kind: Kind,
+    spelling: &'static [u8],
+}
+
+/// Symbols that are tried before the refused one.
+static MISSING: [Due; 11] = [
+    Due {
+        kind: Kind::Be,
+        spelling: b"BE",
+    },
+    Due {
+        kind: Kind::Into,
+        spelling: b"INTO",
+    },
+    Due {
+        kind: Kind::To,
+        spelling: b"TO",
+    },
+    Due {
+        kind: Kind::Do,
+        spelling: b"DO",
+    },
+    Due {
+        kind: Kind::Valof,
+        spelling: b"VALOF",
+    },
+    Due {
+        kind: Kind::Close,
+        spelling: b")",
+    },
+    Due {
+        kind: Kind::Colon,
+        spelling: b":",
+    },
+    Due {
+        kind: Kind::Comma,
+        spelling: b",",
+    },
+    Due {
+        kind: Kind::Semicolon,
+        spelling: b";",
+    },
+    Due {
+        kind: Kind::SectionOpen,
+        spelling: b"$(",
+    },
+    Due {
+        kind: Kind::SectionClose,
+        spelling: b"$)",
+    },
+];
+
+/// Symbols of which it is told that they could stand in the place of the refused one.
+static POSSIBLE: [Due; 16] = [
+    Due {
+        kind: Kind::Be,
+        spelling: b"BE",
+    },
+    Due {
+        kind: Kind::Into,
+        spelling: b"INTO",
+    },
+    Due {
+        kind: Kind::To,
+        spelling: b"TO",
+    },
+    Due {
+        kind: Kind::Do,
+        spelling: b"DO",
+    },
+    Due {
+        kind: Kind::By,
+        spelling: b"BY",
+    },
+    Due {
+        kind: Kind::Or,
+        spelling: b"ELSE",
+    },
+    Due {
+        kind: Kind::Assign,
+        spelling: b":=",
+    },
+    Due {
+        kind: Kind::Equal,
+        spelling: b"=",
+    },
+    Due {
+        kind: Kind::Open,
+        spelling: b"(",
+    },
+    Due {
+        kind: Kind::Close,
+        spelling: b")",
+    },
+    Due {
+        kind: Kind::Comma,
+        spelling: b",",
+    },
+    Due {
+        kind: Kind::Colon,
+        spelling: b":",
+    },
+    Due {
+        kind: Kind::Semicolon,
+        spelling: b";",
+    },
+    Due {
+        kind: Kind::SectionOpen,
+        spelling: b"$(",
+    },
+    Due {
+        kind: Kind::SectionClose,
+        spelling: b"$)",
+    },
+    Due {
+        kind: Kind::Let,
+        spelling: b"LET",
+    },
+];
+
+/// Whether a `$(` or a comma may be missing, which would fit in most places.
+fn may_miss(scene: &Scene, kind: Kind) -> bool {
+    match kind {
+        Kind::Comma => scene.nearest(Kind::Open).is_some() || scene.nearest(Kind::Table).is_some(),
+        Kind::Colon => scene.nearest(Kind::Case).is_some()
+            || scene.before(1) == Some(Kind::Default),
+        Kind::SectionOpen => !matches!(scene.refused(), Some(Kind::SectionClose) | None),
+        _ => true,
+    }
+}
+
+/// What is told where one symbol is missing.
+pub fn tell_missing(scene: &Scene) -> Result<Option<Told>, AllocError> {
+    for due in &MISSING {
+        if may_miss(scene, due.kind) && scene.lacks(&[due.kind])? {
+            return Ok(Some(tell_due(scene, due)?));
+        }
+    }
+    Ok(None)
+}
+
+/// What is told of a missing symbol.
+fn tell_due(scene: &Scene, due: &Due) -> Result<Told, AllocError> {
+    let sentence = scene.sentence().quote(due.spelling)?.say(match due.kind {
+        Kind::Do => " (or `THEN`) is missing before ",
+        Kind::Be => " (or `=`) is missing before ",
+        _ => " is missing before ",
+    })?;
+    tell_gap(scene, sentence)
+}
+
+/// The sentence with the refused symbol after it, at the gap before that symbol.
+fn tell_gap(scene: &Scene, sentence: Sentence) -> Result<Told, AllocError> {
+    let sentence = scene.name_refused(sentence)?;
+    let at = scene.gap();
+    let sentence = if scene.refused().is_none() || at == scene.spot(scene.at) {
+        sentence
+    } else {
+        sentence.say(" of ")?.line(scene.line(scene.at))?
+    };
+    Ok(Told { at, sentence })
+}
+
+/// What is due at the refused symbol, in words, if it is an operand, a name or a command.
+fn due_in_words(scene: &Scene) -> Result<Option<&'static str>, AllocError> {
+    let has_number = scene.takes(Kind::Number)?;
+    let has_name = scene.takes(Kind::Name)?;
+    let has_command = scene.takes(Kind::While)?;
+    Ok(if has_command {
+        Some("a command is due before ")
+    } else if has_number {
+        Some("an expression is due before ")
+    } else if has_name {
+        Some("a name is due before ")
+    } else {
+        None
+    })
+}
+
+/// What is told where nothing else is known.
+pub fn tell_due_here(scene: &Scene) -> Result<Told, AllocError> {
+    if let Some(words) = due_in_words(scene)? {
+        return tell_gap(scene, scene.sentence().say(words)?);
+    }
+    let sentence = scene.name_refused(scene.sentence())?.say(" can't go here")?;
+    let sentence = put_possible(scene, sentence)?;
+    Ok(scene.told(scene.at, sentence))
+}
+
+/// How many symbols are told at most.
+const MOST: usize = 4;
+
+/// The sentence with the symbols after it that could stand in the place of the refused one.
+fn put_possible(scene: &Scene, sentence: Sentence) -> Result<Sentence, AllocError> {
+    let mut sentence = sentence;
+    let mut count = 0;
+    for due in &POSSIBLE {
+        if count < MOST && scene.takes(due.kind)? {
+            sentence = sentence
+                .say(if count == 0 { "; what could is " } else { ", " })?
+                .quote(due.spelling)?;
+            count += 1;
+        }
+    }
+    Ok(sentence)
+}

@@ -1,0 +1,82 @@
+//! Where the lines of a text begin.
+
+use bk_base::Line;
+use std::alloc::{AllocError, Global};
+
+/// The deepest indentation that is told from a deeper one.
+const DEEPEST: usize = 240;
+
+/// Where the lines of a text begin.
+#[derive(Drop)]
+pub struct Lines {
+    /// The number of the first line.
+    from: Line,
+    /// How many bytes of the text stand before each line.
+    starts: Vec<usize>,
+}
+
+impl Lines {
+    /// The lines of a text whose first line has this number.
+    pub fn new(alloc: Global, text: &[u8], from: Line) -> Result<Lines, AllocError> {
+        let mut starts = Vec::new(alloc);
+        starts.push(0)?;
+        for (i, byte) in text.iter().enumerate() {
+            if *byte == b'\n' {
+                starts.push(i.saturating_add(1))?;
+            }
+        }
+        Ok(Lines { from, starts })
+    }
+
+    /// Where a line begins.
+    pub fn start(&self, line: Line) -> Option<usize> {
+        let index = line.number().checked_sub(self.from.number())?;
+        self.starts.get(index as usize).copied()
+    }
+
+    /// How many blanks a line of the text begins with.
+    pub fn indentation(&self, text: &[u8], line: Line) -> usize {
+        let Some(start) = self.start(line) else {
+            return 0;
+        };
+        for i in 0..DEEPEST {
+            match text.get(start.saturating_add(i)) {
+                Some(b' ' | b'\t') => {}
+                _ => return i,
+            }
+        }
+        DEEPEST
+    }
+
+    /// Whether nothing but blanks is before this place on this line.
+    pub fn is_first(&self, text: &[u8], line: Line, place: usize) -> bool {
+        match self.start(line) {
+            Some(start) => start.saturating_add(self.indentation(text, line)) == place,
+            None => false,
+        }
+    }
+}
+
+/// Where the line begins that this place is on.
+pub fn line_start(text: &[u8], at: usize) -> usize {
+    let mut start = 0;
+    for (i, byte) in text.iter().enumerate() {
+        if i >= at {
+            return start;
+        }
+        if *byte == b'\n' {
+            start = i.saturating_add(1);
+        }
+    }
+    start
+}
+
+/// Where the line ends that this place is on, without what ends it.
+pub fn line_end(text: &[u8], at: usize) -> usize {
+    for (i, byte) in text.iter().enumerate() {
+        if i >= at && matches!(*byte, b'\n' | b'\r') {
+            return i;
+        }
+    }
+    text.len()
+}

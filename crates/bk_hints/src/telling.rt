@@ -1,0 +1,86 @@
+//! What a person is told of a fault.
+
+use crate::bytes::tell_bytes;
+use crate::lines::Lines;
+use crate::meanings::tell_meaning;
+use crate::page::page;
+use crate::scene::{Scene, refused_at};
+use crate::sentence::Told;
+use crate::syntax::tell_syntax;
+use bk_base::{Line, Refused, SourceFault, SourceKind};
+use bk_lex::{Lexed, lex};
+use std::alloc::{AllocError, Global};
+
+/// Whether a fault is at a symbol.
+fn is_of_syntax(kind: &SourceKind) -> bool {
+    matches!(
+        kind,
+        SourceKind::UnexpectedSymbol
+            | SourceKind::WrongSectionTag
+            | SourceKind::NestedTooDeeply
+            | SourceKind::TooManyNodes
+    )
+}
+
+/// What is told of a section that has symbols.
+fn tell_section(
+    alloc: Global,
+    text: &[u8],
+    lines: &Lines,
+    lexed: &Lexed,
+    fault: &SourceFault,
+) -> Result<Told, AllocError> {
+    let tokens = lexed.tokens.as_slice();
+    let of_syntax = is_of_syntax(&fault.kind);
+    let at = if of_syntax {
+        refused_at(alloc, tokens)?
+    } else {
+        tokens.len()
+    };
+    let scene = Scene {
+        alloc,
+        text,
+        lines,
+        tokens,
+        at,
+        dot: if lexed.ended {
+            lexed.used.checked_sub(1)
+        } else {
+            None
+        },
+    };
+    if of_syntax {
+        tell_syntax(&scene, &fault.kind)
+    } else {
+        tell_meaning(&scene, fault)
+    }
+}
+
+/// What is told of a fault.
+fn tell(
+    alloc: Global,
+    text: &[u8],
+    lines: &Lines,
+    from: Line,
+    fault: &SourceFault,
+) -> Result<Told, AllocError> {
+    match lex(alloc, text, from) {
+        Ok(lexed) => tell_section(alloc, text, lines, &lexed, fault),
+        Err(Refused::Fault(found)) => tell_bytes(alloc, text, lines, &found),
+        Err(_) => Err(AllocError),
+    }
+}
+
+/// What a person is told of a fault: the line of the source, a caret under the symbol or byte, and a sentence.
+///
+/// `text` is the text of a section as it was read, whose first line has the number `from`; it may end where the fault is certain.
+pub fn hint(
+    alloc: Global,
+    text: &[u8],
+    from: Line,
+    fault: &SourceFault,
+) -> Result<Vec<u8>, AllocError> {
+    let lines = Lines::new(alloc, text, from)?;
+    let told = tell(alloc, text, &lines, from, fault)?;
+    page(alloc, text, told)
+}
