@@ -14,7 +14,7 @@ SOURCE = rb"line [1-9][0-9]*: (bad byte|bad string|bad escape|number over 32 bit
 OCODE = rb"section [1-9][0-9]*, statement [1-9][0-9]*: (bad word|bad number|truncated|label not set|label set twice|depths disagree|slot above the depth|too long)\n"
 INTCODE = rb"segment [1-9][0-9]*, item [1-9][0-9]*: (bad letter|bad number|byte over 255|label not set|label set twice|truncated|too long|frame given twice)\n"
 # the lines of each status from 101 on
-LINES = {101: SOURCE, 102: OCODE, 103: INTCODE, 104: rb"division by zero\n", 105: rb"(store too small|store limit)\n", 106: rb"step limit\n",
+LINES = {101: SOURCE, 102: OCODE, 103: INTCODE, 104: rb"division by zero\n", 105: rb"(store too small|store limit|too deep)\n", 106: rb"step limit\n",
          107: rb"bad operation\n", 108: rb"no START\n", 109: rb"read fault\n", 110: rb"write fault\n", 111: rb"no memory\n", 112: rb"bad command line\n"}
 
 # four programs, each with its input, the source of the sections before its last, and what it writes

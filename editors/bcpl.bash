@@ -1,7 +1,7 @@
 # Completion of bcpl for bash.
 _bcpl() {
     local word=${COMP_WORDS[COMP_CWORD]} before=${COMP_WORDS[COMP_CWORD - 1]} options='-h --help -V --version' ending
-    local subcommands='compile generate run interpret help'
+    local subcommands='compile generate run check interpret help'
     COMPREPLY=()
     if [ "$COMP_CWORD" -eq 1 ]; then
         mapfile -t COMPREPLY < <(compgen -W "$subcommands $options" -- "$word")
@@ -14,6 +14,7 @@ _bcpl() {
         help) mapfile -t COMPREPLY < <(compgen -W "$subcommands" -- "$word"); return ;;
         compile|generate) mapfile -t COMPREPLY < <(compgen -W '-h --help' -- "$word"); return ;;
         run) options='-s -t -h --help' ending=b ;;
+        check) options='-t -h --help' ending=b ;;
         interpret) options='-s -t --sizes -h --help' ending=int ;;
         *) return ;;
     esac

@@ -1,6 +1,12 @@
 -- Numbers and limits that a command line gives.
-use Rattle.std.proofs.Common.{◌≡◌, ◌∙◌, ◌⊎◌, inl, inr, ℕ, ◌<◌, ◌^◌, List, [], Bool, true, false, Bor, option_map, Option, None, Some, Result, Ok, Err, IfErr, IfSome, IsSome, codes, length, refl, sym, ap, subst, arith}
+use Rattle.std.proofs.Common.{◌≡◌, ◌∙◌, ◌⊎◌, inl, inr, ℕ, ◌<◌, ◌^◌, List, [], Bool, true, false, Bor, option_map, Option, None, Some, Result, Ok, Err, IfErr, IfSome, IsSome, codes, length, refl, sym, ap, ap₂, subst, arith}
 use Rattle.std.specs.Str.Parse.{ParsesUnsigned, ParsesBool}
+use Rattle.std.specs.Prelude.{Box}
+use Rattle.std.specs.Box.{box_value}
+use Rattle.clap.specs.declared.parser.matches.ArgMatches.{ArgMatches}
+use Rattle.clap.specs.declared.parser.matches.ArgMatches.TheViews.{out-ArgMatches, out-SubCommand}
+use Rattle.clap.specs.declared.parser.matches.SubCommand.{SubCommand}
+use Rattle.clap.specs.Words.{rows_of, found_of, subcommand_name_of, subcommand_rows, subcommand_rows_of}
 use Rattle.clap.specs.Faults.{is_simple_and_free, fault_of}
 use Rattle.clap.specs.Words.{App, Row, Text, ReadsOne, IsAmong, one_of, subcommand_of, takes}
 use Rattle.clap.specs.declared.error.kind.ErrorKind.{ErrorKind}
@@ -8,7 +14,7 @@ use Rattle.clap.specs.declared.error.kind.ErrorKind.TheVariants as kind
 use Rattle.bk_kit.specs.declared.command_line.LineFault.{LineFault}
 use Rattle.bk_kit.specs.declared.command_line.LineFault.TheVariants.{Help, Bad, Memory}
 use Rattle.bk_kit.specs.declared.orders.Order.{Order}
-use Rattle.bk_kit.specs.declared.orders.Order.TheVariants.{Compile, Generate, Run, Interpret, Sizes}
+use Rattle.bk_kit.specs.declared.orders.Order.TheVariants.{Compile, Generate, Run, Check, Interpret, Sizes}
 use Rattle.bk_base.specs.Bounds.{Bounds}
 use Rattle.bk_kit.specs.CommandLine.{ReadsNumber, ReadsLimits, AreLimits, truth_text, kit_command, IsOrder, RefusesValues, IsHelp, IsFaultOf, Refuses}
 
@@ -67,6 +73,23 @@ pub some_given : {A : Type 0} (o : Option A) (a : A) → o ≡ Some a → IsSome
 some_given (Some b) a is = refl
 some_given None a is = absurd cc
 
+-- the subcommand that a parse met, by its name and its rows
+names_same : {Z : Type 0} (o : Option (Box SubCommand Z)) → option_map (λ b. (out-SubCommand (box_value b)).name.now) o ≡ option_map (λ p. p.0) (subcommand_rows o)
+names_same None = refl
+names_same (Some b) = refl
+
+pair_of : {A B : Type 0} (o : Option (A × B)) (a : A) (b : B) → Some a ≡ option_map (λ p. p.0) o → Some b ≡ option_map (λ p. p.1) o → o ≡ Some (a, b)
+pair_of None a b first second = absurd (cc first)
+pair_of (Some p) a b first second = let x : a ≡ p.0 = cc in let y : b ≡ p.1 = cc in ap₂ (λ u v. Some (u, v)) (sym x) (sym y)
+
+pub found_subcommand : (m : ArgMatches) (r : Option (Bor (List ℕ) × Bor ArgMatches)) (name : Bor (List ℕ)) (values : Bor ArgMatches)
+    → option_map (λ p. p.0.now) r ≡ subcommand_name_of m → option_map (λ p. rows_of (found_of p.1.now)) r ≡ option_map (λ p. p.1) (subcommand_rows_of m)
+    → r ≡ Some (name, values) → subcommand_rows_of m ≡ Some (name.now, rows_of (found_of values.now))
+found_subcommand m r name values names rows is =
+    pair_of (subcommand_rows_of m) name.now (rows_of (found_of values.now))
+    (sym (ap (option_map (λ p. p.0.now)) is) ∙ names ∙ names_same (out-ArgMatches m).subcommand)
+    (sym (ap (option_map (λ p. rows_of (found_of p.1.now))) is) ∙ rows)
+
 -- ---- why words give no order
 
 -- the values of `interpret` where nothing says whether the sizes are asked for
@@ -75,6 +98,7 @@ pub sizes_refused : (rows : List Row) (asked : Option Bool) → asked ≡ None �
 sizes_refused rows asked none given (Compile, limits, reads) = let e : 9 ≡ 7 = ap (λ (t : Text). length t) reads in omega (arith, e)
 sizes_refused rows asked none given (Generate, limits, reads) = let e : 9 ≡ 8 = ap (λ (t : Text). length t) reads in omega (arith, e)
 sizes_refused rows asked none given (Run bounds file, limits, reads) = let e : 9 ≡ 3 = ap (λ (t : Text). length t) reads.0 in omega (arith, e)
+sizes_refused rows asked none given (Check turns file, limits, reads) = let e : 9 ≡ 5 = ap (λ (t : Text). length t) reads.0 in omega (arith, e)
 sizes_refused rows asked none given (Interpret bounds file, limits, reads) = let e : IsSome {T = Bool} None = subst (λ (o : Option Bool). IsSome o) none (given false reads.1) in cc
 sizes_refused rows asked none given (Sizes words file, limits, reads) = let e : IsSome {T = Bool} None = subst (λ (o : Option Bool). IsSome o) none (given true reads.1) in cc
 
@@ -84,6 +108,7 @@ pub limits_refused : (rows : List Row) (read : Option Bounds) → read ≡ None 
 limits_refused rows read none given (Compile, limits, reads) = let e : 9 ≡ 7 = ap (λ (t : Text). length t) reads in omega (arith, e)
 limits_refused rows read none given (Generate, limits, reads) = let e : 9 ≡ 8 = ap (λ (t : Text). length t) reads in omega (arith, e)
 limits_refused rows read none given (Run bounds file, limits, reads) = let e : 9 ≡ 3 = ap (λ (t : Text). length t) reads.0 in omega (arith, e)
+limits_refused rows read none given (Check turns file, limits, reads) = let e : 9 ≡ 5 = ap (λ (t : Text). length t) reads.0 in omega (arith, e)
 limits_refused rows read none given (Interpret bounds file, limits, reads) =
     let e : IsSome {T = Bounds} None = subst (λ (o : Option Bounds). IsSome o) none (given bounds limits reads.2) in cc
 limits_refused rows read none given (Sizes words file, limits, reads) =

@@ -16,12 +16,12 @@ use Rattle.bk_lex.proofs.Certain.{lexed_told}
 use Rattle.bk_lex.proofs.Sound.{lexed_is_section}
 use Rattle.bk_lex.proofs.Complete.{section_is_lexed}
 use Rattle.bk_ocode.specs.StmtRange.{AreBytes}
-use Rattle.bk_ocode.specs.declared.section.Ocode as o
 use Rattle.bk_ocode.specs.declared.stmt.Stmt.{Stmt}
 use Rattle.bk_ocode.proofs.SectionProp.{section_whole}
 use Rattle.bk_tree.specs.Tree.{Declarations}
 use Rattle.bk_kit.specs.declared.kit_fault.KitFault.TheVariants.{Source}
 use Rattle.bk_kit.specs.declared.section.CompiledSection.{CompiledSection}
+use Rattle.bk_kit.specs.declared.section.SectionCode.{SectionCode}
 use Rattle.bk_kit.specs.ReadingSource.{Settles, IsDelivered}
 use Rattle.bk_kit.specs.Sources as sources
 use Rattle.bk_kit.specs.Sources.{Accepted, Refused, WholeSection, bytes_of, trees_of, codes_of, codes_of_trees, stmts_of_tree, line_behind, AreAccepted}
@@ -135,9 +135,9 @@ pub typed_both : (first second : List (List Stmt)) → AreAllTyped first → Are
 typed_both [] second are also = also
 typed_both (stmts ∷ first) second are also = (are.0, typed_both first second are.1 also)
 
-pub typed_in : (code : Option o.Ocode) → AreAllTyped (codes_in code)
+pub typed_in : (code : Option SectionCode) → AreAllTyped (codes_in code)
 typed_in None = tt
-typed_in (Some code) = ((section_whole code).1, tt)
+typed_in (Some section) = ((section_whole section.code).1, tt)
 
 -- ---- the sections so far
 
@@ -189,8 +189,8 @@ module _ (old now new : Option (List ℕ)) (taken taken' line : ℕ) (passed : P
       omega (arith, here.counted, whole_used text line compiled.tokens here.asked compiled.lexed_as ends.0, used_some text line compiled.tokens compiled.lexed_as ends.0)
 
   -- one more, where another follows
-  pub passed_on : (c : CompiledSection) → Compiled c text line → (next : ℕ) → c.next ≡ Some next
-      → (more : Passed old new taken' next) × (codes_of more.sections ≡ codes_of passed.sections ++ codes_in c.code)
+  pub passed_on : (c : CompiledSection) (compiled : Compiled c text line) → (next : ℕ) → c.next ≡ Some next
+      → (more : Passed old new taken' next) × (codes_of more.sections ≡ codes_of passed.sections ++ codes_in c.code) × (trees_of more.sections ≡ trees_of passed.sections ++ compiled.has.trees)
   passed_on c compiled next some =
       let ends = is_ended compiled.tokens next (sym some ∙ compiled.next) in
       let settled = dot_settles text line compiled.tokens compiled.lexed_as ends.0 in
@@ -209,4 +209,5 @@ module _ (old now new : Option (List ℕ)) (taken taken' line : ℕ) (passed : P
           at = ends.1 ∙ sym (line_push 1 passed.sections last);
         },
         codes,
+        trees_push passed.sections last,
       )

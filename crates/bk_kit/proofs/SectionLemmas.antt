@@ -69,16 +69,17 @@ section_refuses k.Read text from l is some refuses = absurd refuses
 section_refuses k.Write text from l is some refuses = absurd refuses
 
 -- or it has this meaning
-pub code_some : (symbols : List Symbol) (stmts : List Stmt) → symbols ≢ [] → Translates symbols stmts → HasCode symbols (stmts ∷ [])
-code_some [] stmts some translates = absurd (some refl)
-code_some (symbol ∷ symbols) stmts some translates = record {
+pub code_some : (symbols : List Symbol) (stmts : List Stmt) (tree : Declarations) → symbols ≢ [] → Translates symbols stmts tree → HasCode symbols (stmts ∷ []) (tree ∷ [])
+code_some [] stmts tree some translates = absurd (some refl)
+code_some (symbol ∷ symbols) stmts tree some translates = record {
   trees = translates.tree ∷ [];
+  trees_are = ap (λ (t : Declarations). t ∷ []) translates.tree_is;
   means = (translates.tree, translates.is, refl);
   code = ap (λ (s : List Stmt). s ∷ []) translates.code;
 }
 
-pub code_none : (symbols : List Symbol) → symbols ≡ [] → HasCode symbols []
-code_none [] none = record { trees = []; means = refl; code = refl }
+pub code_none : (symbols : List Symbol) → symbols ≡ [] → HasCode symbols [] []
+code_none [] none = record { trees = []; trees_are = refl; means = refl; code = refl }
 code_none (symbol ∷ symbols) none = absurd cc
 
 -- whether there are symbols

@@ -26,12 +26,14 @@ use Rattle.bk_gen.specs.StandsFor.{StandsFor}
 use Rattle.bk_kit.specs.declared.kit_fault.KitFault.{KitFault}
 use Rattle.bk_kit.specs.declared.kit_fault.KitFault.TheVariants.{Source, Ocode, Intcode, TooSmall, NoStart, Read, Write, Memory}
 use Rattle.bk_kit.specs.declared.section.CompiledSection.{CompiledSection}
+use Rattle.bk_kit.specs.declared.section.SectionCode.{SectionCode}
+use Rattle.bk_tree.specs.Tree.{Declarations}
 use Rattle.bk_kit.specs.Interpreting.{AnyBytes, Streams, told_streams, first_registers, is_read_fault, is_read}
 use Rattle.bk_kit.specs.ReadingSource.{cut_behind, Settles, Follows, IsDelivered, EachSource}
 use Rattle.bk_kit.specs.Sources.{Accepted, Refused, bytes_of, trees_of, codes_of, stmts_of_tree}
-use Rattle.bk_kit.specs.CompilingSection.{codes_in, Compiled, Refuses}
+use Rattle.bk_kit.specs.CompilingSection.{codes_in, trees_in, Compiled, Refuses}
 use Rattle.bk_kit.specs.Loading.{load_refused}
-use Rattle.bk_kit.specs.SourceSections.{IsRefused, HasParts}
+use Rattle.bk_kit.specs.SourceSections.{HasTrees, IsRefused, HasParts}
 use Rattle.bk_kit.specs.RunningSource.{stmts_of_parts, Stand, Generated, Assembled, NotAssembled, RefusesSource, ReadsSource, NotLoaded}
 use Rattle.bk_kit.specs.Headline.{Headline}
 use Rattle.bk_kit.specs.SourceMeaning.{meanings, MeaningRuns, MeaningTooSmall, MeaningStartless}
@@ -62,12 +64,12 @@ part_of code segment stands = record {
 }
 
 -- it is one more
-pub generated_one : (before : List i.Intcode) (code : o.Ocode) (segment : i.Intcode) → StandsFor (items_of segment) (stmts_of code)
-    → Generated (map items_of before) (map items_of (before ++ segment ∷ [])) (codes_in (Some code))
-generated_one before code segment stands = (
+pub generated_one : (before : List i.Intcode) (section : SectionCode) (segment : i.Intcode) → StandsFor (items_of segment) (stmts_of section.code)
+    → Generated (map items_of before) (map items_of (before ++ segment ∷ [])) (codes_in (Some section))
+generated_one before section segment stands = (
   items_of segment ∷ [],
   map-append items_of before (segment ∷ []),
-  record { parts = part_of code segment stands ∷ []; segments_are = refl; stmts_are = refl },
+  record { parts = part_of section.code segment stands ∷ []; segments_are = refl; stmts_are = refl },
 )
 
 -- or none
@@ -97,15 +99,24 @@ gathered_none known faults = record {
   readable = inl (omega arith);
 }
 
-module _ (old now new : Option (List ℕ)) (ended : Bool) (taken taken' line : ℕ) (all : List (List Item)) (faults : ℕ) (gathered : Gathered old now taken line all faults)
+-- The same, with their trees.
+pub record WithTrees (old now : Option (List ℕ)) (taken line : ℕ) (trees : List Declarations) (faults : ℕ) : Type 0 where
+  pub passed : Passed old now taken line
+  pub trees_are : trees_of passed.sections ≡ trees
+  pub readable : (taken < INPUT_BYTES) ⊎ (faults ≡ 0)
+
+pub trees_none : (known : Option (List ℕ)) (faults : ℕ) → WithTrees known known 0 1 [] faults
+trees_none known faults = record { passed = passed_none known; trees_are = refl; readable = inl (omega arith) }
+
+module _ (old now new : Option (List ℕ)) (ended : Bool) (taken taken' line : ℕ) (passed : Passed old now taken line)
     (text : List ℕ) (here : IsDelivered text now new taken taken') (most : taken' ≤ INPUT_BYTES) where
   -- what holds of the sections and this text, whatever follows
-  each : (Holds : List ℕ → Type 0) → (taken' < INPUT_BYTES → (rest : List ℕ) → Follows ended rest → Holds ((bytes_of gathered.passed.sections ++ text) ++ rest)) → EachSource old new ended Holds
+  each : (Holds : List ℕ → Type 0) → (taken' < INPUT_BYTES → (rest : List ℕ) → Follows ended rest → Holds ((bytes_of passed.sections ++ text) ++ rest)) → EachSource old new ended Holds
   each Holds holds =
-      let counted = all_counted old now new taken taken' line gathered.passed text here in
+      let counted = all_counted old now new taken taken' line passed text here in
       record {
-        text = bytes_of gathered.passed.sections ++ text;
-        delivered = all_delivered old now new taken taken' line gathered.passed text here;
+        text = bytes_of passed.sections ++ text;
+        delivered = all_delivered old now new taken taken' line passed text here;
         within = omega (arith, counted, most);
         holds = λ short. holds (omega (arith, counted, short));
       }
@@ -119,11 +130,11 @@ module _ (old now new : Option (List ℕ)) (ended : Bool) (taken taken' line : �
   pub stops_reading : (fault : KitFault) → (fault ≡ Memory) ⊎ ((fault ≡ Read) × (cut_behind text ≡ More))
       → ReadsSource (is_read_fault fault) old new
   stops_reading fault (inl memory) = record {
-    front = passed_and_part old now new taken taken' line gathered.passed text here most;
+    front = passed_and_part old now new taken taken' line passed text here most;
     goes_on = λ is. absurd (let other : false ≡ true = rw memory at is in cc);
   }
   stops_reading fault (inr failed) = record {
-    front = passed_and_part old now new taken taken' line gathered.passed text here most;
+    front = passed_and_part old now new taken taken' line passed text here most;
     goes_on = λ is. failed.1;
   }
 
@@ -135,8 +146,8 @@ module _ (old now new : Option (List ℕ)) (ended : Bool) (taken taken' line : �
     -- the section is refused
     pub not_compiled : (fault : KitFault) → Refuses fault text line → NotAssembled fault old new ended
     not_compiled (Source fault) refuses = each (λ source. IsRefused source fault) (λ short rest follows.
-        refused_delivered gathered.passed.sections text rest (gathered.passed.accepted (text ++ rest)) fault
-        (subst (λ (l : ℕ). Refused fault (text ++ rest) l) gathered.passed.at (refused_as (text ++ rest) line fault (refuses_behind text rest line fault (settles short line rest follows) refuses))))
+        refused_delivered passed.sections text rest (passed.accepted (text ++ rest)) fault
+        (subst (λ (l : ℕ). Refused fault (text ++ rest) l) passed.at (refused_as (text ++ rest) line fault (refuses_behind text rest line fault (settles short line rest follows) refuses))))
     not_compiled Memory refuses = no_memory
     not_compiled (Ocode number fault) refuses = absurd refuses
     not_compiled (Intcode number fault) refuses = absurd refuses
@@ -145,41 +156,62 @@ module _ (old now new : Option (List ℕ)) (ended : Bool) (taken taken' line : �
     not_compiled Read refuses = absurd refuses
     not_compiled Write refuses = absurd refuses
 
-    module _ (c : CompiledSection) (compiled : Compiled c text line) (all' : List (List Item)) (generated : Generated all all' (codes_in c.code)) where
-      stand : Stand all' (codes_of gathered.passed.sections ++ codes_in c.code)
-      stand = subst (λ s. Stand s (codes_of gathered.passed.sections ++ codes_in c.code)) (sym generated.1)
-          (stand_both all generated.0 (codes_of gathered.passed.sections) (codes_in c.code) gathered.stand generated.2)
-
-      -- another follows
-      pub goes_on : (next faults' : ℕ) → c.next ≡ Some next → faults' ≡ 0 → Gathered old new taken' next all' faults'
-      goes_on next faults' some none =
-          let more = passed_on old now new taken taken' line gathered.passed text here c compiled next some in
-          record {
-            passed = more.0;
-            stand = subst (Stand all') (sym more.1) stand;
-            readable = inr none;
-          }
-
+    module _ (c : CompiledSection) (compiled : Compiled c text line) where
       -- the source is of bytes, which nothing follows
-      all_bytes : c.next ≡ None → taken' < INPUT_BYTES → (rest : List ℕ) → Follows ended rest → AreBytes ((bytes_of gathered.passed.sections ++ text) ++ rest)
+      all_bytes : c.next ≡ None → taken' < INPUT_BYTES → (rest : List ℕ) → Follows ended rest → AreBytes ((bytes_of passed.sections ++ text) ++ rest)
       all_bytes none short rest follows =
           let over = ends_with_source text line compiled.tokens ended (settles short) compiled.lexed_as (not_ended compiled.tokens (sym none ∙ compiled.next)) in
           let nothing : rest ≡ [] = follows over in
-          subst AreBytes (sym (append-nil (bytes_of gathered.passed.sections ++ text)) ∙ ap (λ r. (bytes_of gathered.passed.sections ++ text) ++ r) (sym nothing)) (bytes_both (bytes_of gathered.passed.sections) text gathered.passed.bytes compiled.bytes)
+          subst AreBytes (sym (append-nil (bytes_of passed.sections ++ text)) ∙ ap (λ r. (bytes_of passed.sections ++ text) ++ r) (sym nothing)) (bytes_both (bytes_of passed.sections) text passed.bytes compiled.bytes)
 
-      -- it is the last
-      pub is_last : c.next ≡ None → Assembled all' old new ended
-      is_last none = record {
-        parts = stand.parts;
-        segments_are = stand.segments_are;
-        has = each (HasParts stand.parts) (λ short rest follows. (
-          trees_of gathered.passed.sections ++ compiled.has.trees,
-          has_delivered gathered.passed.sections text rest (gathered.passed.accepted (text ++ rest)) compiled.tokens compiled.has.trees (all_bytes none short rest follows)
-              (subst (λ (l : ℕ). Accepted (text ++ rest) l compiled.tokens compiled.has.trees) gathered.passed.at (takes_as text line ended c compiled (settles short) rest follows))
-              (not_ended compiled.tokens (sym none ∙ compiled.next)),
-          stand.stmts_are ∙ ap (λ l. codes_of gathered.passed.sections ++ l) compiled.has.code ∙ sym (map-append stmts_of_tree (trees_of gathered.passed.sections) compiled.has.trees),
-        ));
-      }
+      -- the trees of all, where it is the last
+      last_trees : c.next ≡ None → taken' < INPUT_BYTES → (rest : List ℕ) → Follows ended rest → HasTrees ((bytes_of passed.sections ++ text) ++ rest) (trees_of passed.sections ++ compiled.has.trees)
+      last_trees none short rest follows =
+          has_delivered passed.sections text rest (passed.accepted (text ++ rest)) compiled.tokens compiled.has.trees (all_bytes none short rest follows)
+          (subst (λ (l : ℕ). Accepted (text ++ rest) l compiled.tokens compiled.has.trees) passed.at (takes_as text line ended c compiled (settles short) rest follows))
+          (not_ended compiled.tokens (sym none ∙ compiled.next))
+
+      module _ (trees : List Declarations) (are : trees_of passed.sections ≡ trees) where
+        with_its_tree : trees_of passed.sections ++ compiled.has.trees ≡ trees ++ trees_in c.code
+        with_its_tree = ap (λ l. l ++ compiled.has.trees) are ∙ ap (λ l. trees ++ l) compiled.has.trees_are
+
+        -- another follows
+        pub trees_go_on : (next faults' : ℕ) → c.next ≡ Some next → faults' ≡ 0 → WithTrees old new taken' next (trees ++ trees_in c.code) faults'
+        trees_go_on next faults' some none =
+            let more = passed_on old now new taken taken' line passed text here c compiled next some in
+            record { passed = more.0; trees_are = more.2 ∙ with_its_tree; readable = inr none }
+
+        -- it is the last
+        pub trees_end : c.next ≡ None → EachSource old new ended (λ source. HasTrees source (trees ++ trees_in c.code))
+        trees_end none = each (λ source. HasTrees source (trees ++ trees_in c.code)) (λ short rest follows.
+            subst (HasTrees ((bytes_of passed.sections ++ text) ++ rest)) with_its_tree (last_trees none short rest follows))
+
+      module _ (all all' : List (List Item)) (before : Stand all (codes_of passed.sections)) (generated : Generated all all' (codes_in c.code)) where
+        stand : Stand all' (codes_of passed.sections ++ codes_in c.code)
+        stand = subst (λ s. Stand s (codes_of passed.sections ++ codes_in c.code)) (sym generated.1)
+            (stand_both all generated.0 (codes_of passed.sections) (codes_in c.code) before generated.2)
+
+        -- another follows
+        pub goes_on : (next faults' : ℕ) → c.next ≡ Some next → faults' ≡ 0 → Gathered old new taken' next all' faults'
+        goes_on next faults' some none =
+            let more = passed_on old now new taken taken' line passed text here c compiled next some in
+            record {
+              passed = more.0;
+              stand = subst (Stand all') (sym more.1) stand;
+              readable = inr none;
+            }
+
+        -- it is the last
+        pub is_last : c.next ≡ None → Assembled all' old new ended
+        is_last none = record {
+          parts = stand.parts;
+          segments_are = stand.segments_are;
+          has = each (HasParts stand.parts) (λ short rest follows. (
+            trees_of passed.sections ++ compiled.has.trees,
+            last_trees none short rest follows,
+            stand.stmts_are ∙ ap (λ l. codes_of passed.sections ++ l) compiled.has.code ∙ sym (map-append stmts_of_tree (trees_of passed.sections) compiled.has.trees),
+          ));
+        }
 
 -- ---- what is answered
 

@@ -12,7 +12,7 @@ use Rattle.bk_base.specs.declared.limit.TheConstants.{STEPS_MOST, STORE_LEAST, S
 use Rattle.bk_kit.specs.declared.command_line.LineFault.{LineFault}
 use Rattle.bk_kit.specs.declared.command_line.LineFault.TheVariants.{Help, Bad, Memory}
 use Rattle.bk_kit.specs.declared.orders.Order.{Order}
-use Rattle.bk_kit.specs.declared.orders.Order.TheVariants.{Compile, Generate, Run, Interpret, Sizes}
+use Rattle.bk_kit.specs.declared.orders.Order.TheVariants.{Compile, Generate, Run, Check, Interpret, Sizes}
 
 -- `-s WORDS`, from 4096 to 4194304, 262144 unless it is given
 abbrev pub store_rule : Rule
@@ -30,6 +30,15 @@ steps_rule = record (new_rule (codes "steps")) {
   value_names = 1;
   parser = Some (vp.Unsigned 1 1000000000000);
   defaults = codes "1000000000" ∷ [];
+}
+
+-- `-t TURNS`, from 1 to 10 ^ 12, 10 ^ 8 unless it is given
+abbrev pub turns_rule : Rule
+turns_rule = record (new_rule (codes "turns")) {
+  short = Some 116;
+  value_names = 1;
+  parser = Some (vp.Unsigned 1 1000000000000);
+  defaults = codes "100000000" ∷ [];
 }
 
 -- `--sizes`
@@ -51,6 +60,10 @@ generate_command = new_app (codes "generate")
 abbrev pub run_command : App
 run_command = with_rule (with_rule (with_rule (new_app (codes "run")) store_rule) steps_rule) file_rule
 
+-- `check [-t TURNS] FILE`
+abbrev pub check_command : App
+check_command = with_rule (with_rule (new_app (codes "check")) turns_rule) file_rule
+
 -- `interpret [-s WORDS] [-t STEPS] [--sizes] FILE`
 abbrev pub interpret_command : App
 interpret_command = with_rule (with_rule (with_rule (with_rule (new_app (codes "interpret")) store_rule) steps_rule) sizes_rule) file_rule
@@ -62,13 +75,14 @@ with_version app = record app { top = record app.top { has_version = true } }
 -- `bcpl`, which tells its version
 abbrev pub kit_command : App
 kit_command =
-    with_version (with_subcommand (with_subcommand (with_subcommand (with_subcommand (new_app (codes "bcpl")) compile_command.top) generate_command.top) run_command.top) interpret_command.top)
+    with_version (with_subcommand (with_subcommand (with_subcommand (with_subcommand (with_subcommand (new_app (codes "bcpl")) compile_command.top) generate_command.top) run_command.top) check_command.top) interpret_command.top)
 
 -- the name of FILE; the filters have none
 abbrev pub file_name : Order → Option (List ℕ)
 file_name Compile = None
 file_name Generate = None
 file_name (Run limits name) = Some (string_bytes name)
+file_name (Check turns name) = Some (string_bytes name)
 file_name (Interpret limits name) = Some (string_bytes name)
 file_name (Sizes words name) = Some (string_bytes name)
 
@@ -97,6 +111,8 @@ Reads (Some found) Compile = found.0 ≡ codes "compile"
 Reads (Some found) Generate = found.0 ≡ codes "generate"
 Reads (Some found) (Run limits file) =
     (found.0 ≡ codes "run") × ReadsLimits found.1 limits × (first_of (codes "file") found.1 ≡ Some (string_bytes file))
+Reads (Some found) (Check turns file) =
+    (found.0 ≡ codes "check") × ReadsNumber (one_of (codes "turns") found.1) turns × (first_of (codes "file") found.1 ≡ Some (string_bytes file))
 Reads (Some found) (Interpret limits file) =
     (found.0 ≡ codes "interpret") × (one_of (codes "sizes") found.1 ≡ Some (truth_text false))
     × ReadsLimits found.1 limits × (first_of (codes "file") found.1 ≡ Some (string_bytes file))
@@ -113,6 +129,7 @@ abbrev pub HasLimits : Order → Type 0
 HasLimits Compile = ⊤
 HasLimits Generate = ⊤
 HasLimits (Run limits file) = AreLimits limits
+HasLimits (Check turns file) = (1 ≤ turns) × (turns ≤ STEPS_MOST)
 HasLimits (Interpret limits file) = AreLimits limits
 HasLimits (Sizes words file) = (STORE_LEAST ≤ words) × (words ≤ STORE_MOST)
 

@@ -10,11 +10,12 @@ use Rattle.bk_tree.specs.Tree.{Declarations}
 use Rattle.bk_syntax.specs.Parsing.{ToldAt, ToldAtEnd}
 use Rattle.bk_ocode.specs.StmtRange.{AreBytes}
 use Rattle.bk_ocode.specs.SectionStmts.{stmts_of}
-use Rattle.bk_ocode.specs.declared.section.Ocode as o
+use Rattle.bk_tree.specs.Section.{declarations_of}
 use Rattle.bk_ocode.specs.declared.stmt.Stmt.{Stmt}
 use Rattle.bk_kit.specs.declared.kit_fault.KitFault.{KitFault}
 use Rattle.bk_kit.specs.declared.kit_fault.KitFault.TheVariants.{Source, Ocode, Intcode, TooSmall, NoStart, Read, Write, Memory}
 use Rattle.bk_kit.specs.declared.section.CompiledSection.{CompiledSection}
+use Rattle.bk_kit.specs.declared.section.SectionCode.{SectionCode}
 use Rattle.bk_kit.specs.Sources.{IsTree, Means, Misnames, stmts_of_tree, codes_of_trees}
 
 -- what the kit answers of a source that is refused
@@ -23,19 +24,25 @@ source_refused (Fault fault) = Source fault
 source_refused refused.Memory = Memory
 source_refused Device = Read
 
-abbrev pub codes_in : Option o.Ocode → List (List Stmt)
+abbrev pub codes_in : Option SectionCode → List (List Stmt)
 codes_in None = []
-codes_in (Some code) = stmts_of code ∷ []
+codes_in (Some section) = stmts_of section.code ∷ []
 
--- These are the statements of a section's symbols.
-pub record Translates (symbols : List Symbol) (stmts : List Stmt) : Type 0 where
+abbrev pub trees_in : Option SectionCode → List Declarations
+trees_in None = []
+trees_in (Some section) = declarations_of section.tree ∷ []
+
+-- These are the statements of a section's symbols, and this is its tree.
+pub record Translates (symbols : List Symbol) (stmts : List Stmt) (kept : Declarations) : Type 0 where
   pub tree : Declarations
+  pub tree_is : tree ≡ kept
   pub is : IsTree tree symbols
   pub code : stmts ≡ stmts_of_tree tree
 
--- They are accepted, with these statements.
-pub record HasCode (symbols : List Symbol) (codes : List (List Stmt)) : Type 0 where
+-- They are accepted, with these statements and trees.
+pub record HasCode (symbols : List Symbol) (codes : List (List Stmt)) (kept : List Declarations) : Type 0 where
   pub trees : List Declarations
+  pub trees_are : trees ≡ kept
   pub means : Means symbols trees
   pub code : codes ≡ codes_of_trees trees
 
@@ -45,7 +52,7 @@ pub record Compiled (c : CompiledSection) (text : List ℕ) (from : ℕ) : Type 
   pub bytes : AreBytes text
   pub tokens : Section
   pub lexed_as : lexed text from ≡ Ok tokens
-  pub has : HasCode tokens.symbols (codes_in c.code)
+  pub has : HasCode tokens.symbols (codes_in c.code) (trees_in c.code)
   pub next : c.next ≡ (if tokens.ended then Some tokens.line else None)
 
 -- These symbols are no section without faults: of its syntax, or else of its names.

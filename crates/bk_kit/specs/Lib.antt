@@ -19,5 +19,6 @@ pub mod SourceMeaning
 pub mod SourceCode
 pub mod Generating
 pub mod Sizes
+pub mod Checking
 pub mod Serving
 pub mod CommandLine

@@ -1,15 +1,19 @@
 -- What serving an order comes to: what it asks for, the exit status, and the line on the error stream.
 use Rattle.std.specs.Prelude.{◌≡◌, ℕ, ⊤, List, Option, Bool, Result, if◌then◌else◌}
+use Rattle.bk_base.specs.Devices.{Begins}
 use Rattle.bk_base.specs.declared.run_end.End.{End}
 use Rattle.bk_kit.specs.declared.kit_fault.KitFault.{KitFault}
 use Rattle.bk_kit.specs.declared.orders.Order.{Order}
-use Rattle.bk_kit.specs.declared.orders.Order.TheVariants.{Compile, Generate, Run, Interpret, Sizes}
+use Rattle.bk_kit.specs.declared.orders.Order.TheVariants.{Compile, Generate, Run, Check, Interpret, Sizes}
 use Rattle.bk_kit.specs.Interpreting.{Streams, Interpreted, is_read}
 use Rattle.bk_kit.specs.Headline.{Headline}
 use Rattle.bk_kit.specs.Compiling.{Compiles}
 use Rattle.bk_kit.specs.Generating.{Generates}
 use Rattle.bk_kit.specs.RunningSource.{ReadsSource, KeepsLimits}
 use Rattle.bk_kit.specs.SourceMeaning.{meanings}
+use Rattle.bk_checker.specs.declared.report.Report.{Report}
+use Rattle.bk_kit.specs.declared.checker.NotChecked.{NotChecked}
+use Rattle.bk_kit.specs.Checking.{fails_check, ChecksSource, check_status, TellsCheck}
 use Rattle.bk_kit.specs.Sizes.{store_words, Reports}
 use Rattle.bk_kit.specs.Statuses.{run_status, run_line, done_status, done_line}
 use Rattle.bk_kit.specs.Telling.{Output, Tells}
@@ -36,6 +40,10 @@ Serves Holds (Run limits name) status old new ended faults before after err_befo
     × KeepsLimits Holds answer limits.steps limits.words old new ended before after
     × ReadsSource (is_read answer) old new × Fails answer faults
     × (status ≡ run_status answer) × Tells (run_line answer) err_before err_after
+Serves Holds (Check turns name) status old new ended faults before after err_before err_after =
+    (answer : Result Report NotChecked) × ChecksSource answer turns old new ended before after × Begins before.passed after.passed
+    × ReadsSource (fails_check answer) old new × (faults ≡ (if fails_check answer then 1 else 0))
+    × (status ≡ check_status answer) × TellsCheck answer err_before err_after
 Serves Holds (Interpret limits name) status old new ended faults before after err_before err_after =
     (answer : Result End KitFault) × Interpreted Holds answer limits.steps limits.words old new ended before after × Fails answer faults
     × (status ≡ run_status answer) × Tells (run_line answer) err_before err_after

@@ -1,10 +1,11 @@
 //! Reading a command line.
-ghost use Rattle.std.specs.Prelude.{◌≡◌, map, Bool, IfOk, IfErr, IfSome, IsSome, false, Some, codes};
+ghost use Rattle.std.specs.Prelude.{◌≡◌, ◌≤◌, ℕ, map, Bool, IfOk, IfErr, IfSome, IsSome, false, Some, codes};
+ghost use Rattle.bk_base.specs.declared.limit.TheConstants.{STEPS_MOST};
 ghost use Rattle.bk_base.specs.Bounds.{Bounds};
 ghost use Rattle.clap.specs.Values.{kind_of};
 ghost use Rattle.clap.specs.Words.{Text, app_of, rule_of, rows_of, found_of, first_of, one_of, subcommand_of};
 ghost use Rattle.clap.specs.declared.builder.Command.TheViews.{out-Command as fields_of};
-ghost use Rattle.bk_kit.specs.CommandLine.{store_rule, steps_rule, sizes_rule, file_rule, compile_command, generate_command, run_command, interpret_command, kit_command, truth_text, ReadsLimits, Reads, AreLimits, RefusesValues, IsFaultOf, Refuses};
+ghost use Rattle.bk_kit.specs.CommandLine.{store_rule, steps_rule, turns_rule, sizes_rule, file_rule, compile_command, generate_command, run_command, check_command, interpret_command, kit_command, truth_text, ReadsNumber, ReadsLimits, Reads, AreLimits, RefusesValues, IsFaultOf, Refuses};
 
 use crate::orders::Order;
 use bk_base::Limits;
@@ -19,6 +20,7 @@ const VERSION: &str = "1.0";
 /// What stands below the help on all.
 const KIT_NOTES: &str = "\
 Examples:
+  bcpl check examples/queens.b
   bcpl run examples/queens.b
   bcpl compile < queens.b > queens.ocode
   bcpl generate < queens.ocode > queens.int
@@ -40,6 +42,7 @@ Exit statuses:
   110      The output could not be written.
   111      There was no memory.
   112      The command line is bad.
+  113      The program did what is undefined (bcpl check alone).
 From 101 on one line on the error stream says what happened.";
 
 /// What stands below the help on `compile`.
@@ -65,6 +68,18 @@ Nothing is run of a source that is refused.
 Examples:
   bcpl run examples/queens.b
   echo '2 * (3 + 4)' | bcpl run -s 8192 -t 100000 examples/calculator.b";
+
+/// What stands below the help on `check`.
+const CHECK_NOTES: &str = "\
+Input and output are those of the program; all else is told on the error stream.
+The check ends with the status of `run`, or with 113 where the program does what
+is undefined: it uses a variable that was never set, a word outside its vector,
+an argument that is missing, or the like. A check takes about thirty times as
+long as a run.
+
+Examples:
+  bcpl check examples/queens.b
+  echo '2 * (3 + 4)' | bcpl check -t 100000 examples/calculator.b";
 
 /// What stands below the help on `interpret`.
 const INTERPRET_NOTES: &str = "\
@@ -120,6 +135,19 @@ fn steps_option<'a>(alloc: Global) -> Arg<'a>
         .help("The most steps of the run, from 1 to 1000000000000")
         .value_parser(value_parser!(u64).range(1..=1_000_000_000_000))
         .default_value("1000000000")
+}
+
+/// `-t TURNS`
+fn turns_option<'a>(alloc: Global) -> Arg<'a>
+    ensures rule { rule_of result ≡ turns_rule }
+    ensures local { result.global ≡ false }
+{
+    Arg::new(alloc, "turns")
+        .short('t')
+        .value_name("TURNS")
+        .help("The most turns of the check, from 1 to 1000000000000")
+        .value_parser(value_parser!(u64).range(1..=1_000_000_000_000))
+        .default_value("100000000")
 }
 
 /// `--sizes`
@@ -179,6 +207,21 @@ fn run_subcommand<'a>(alloc: Global) -> Result<Command<'a>, AllocError>
     )
 }
 
+/// `check`
+fn check_subcommand<'a>(alloc: Global) -> Result<Command<'a>, AllocError>
+    ensures { IfOk result (λ command. (app_of command ≡ check_command) × ((fields_of command).has_globals ≡ false)) }
+{
+    Ok(
+        Command::new(alloc, "check")
+            .arg(turns_option(alloc))?
+            .arg(file_argument(alloc, "The BCPL source"))?
+            .after_help(CHECK_NOTES)
+            .about(
+                "Does what the BCPL source in FILE means, step by step, and tells what goes wrong and where.",
+            ),
+    )
+}
+
 /// `interpret`
 fn interpret_subcommand<'a>(alloc: Global) -> Result<Command<'a>, AllocError>
     ensures { IfOk result (λ command. (app_of command ≡ interpret_command) × ((fields_of command).has_globals ≡ false)) }
@@ -203,6 +246,7 @@ fn kit<'a>(alloc: Global) -> Result<Command<'a>, AllocError>
             .subcommand(compile_subcommand(alloc))?
             .subcommand(generate_subcommand(alloc))?
             .subcommand(run_subcommand(alloc)?)?
+            .subcommand(check_subcommand(alloc)?)?
             .subcommand(interpret_subcommand(alloc)?)?
             .version(VERSION)
             .bin_name("bcpl")?
@@ -219,6 +263,14 @@ fn limits_of(matches: &ArgMatches<'_>) -> Option<Limits>
     let words = matches.get_one::<u32>("words")?;
     let steps = matches.get_one::<u64>("steps")?;
     Limits::new(steps, words)
+}
+
+/// The turns that the words give.
+fn turns_of(matches: &ArgMatches<'_>) -> Option<u64>
+    ensures reads { IfSome result (λ turns. ReadsNumber (one_of (codes "turns") (rows_of (found_of matches.now))) turns) }
+    ensures given { (turns : ℕ) → turns ≤ STEPS_MOST → ReadsNumber (one_of (codes "turns") (rows_of (found_of matches.now))) turns → IsSome result }
+{
+    matches.get_one::<u64>("turns")
 }
 
 /// The name of FILE.
@@ -245,6 +297,16 @@ fn run_order(alloc: Global, matches: &ArgMatches<'_>) -> Result<Order, LineFault
     let limits = limits_of(matches).ok_or(LineFault::Bad)?;
     let file = file_of(matches).ok_or(LineFault::Bad)?;
     Ok(Order::Run(limits, String::from_str(alloc, file)?))
+}
+
+/// What the values of `check` ask for.
+fn check_order(alloc: Global, matches: &ArgMatches<'_>) -> Result<Order, LineFault>
+    ensures reads { IfOk result (Reads (Some (codes "check", rows_of (found_of matches.now)))) }
+    ensures refuses { IfErr result (RefusesValues (Some (codes "check", rows_of (found_of matches.now)))) }
+{
+    let turns = turns_of(matches).ok_or(LineFault::Bad)?;
+    let file = file_of(matches).ok_or(LineFault::Bad)?;
+    Ok(Order::Check(turns, String::from_str(alloc, file)?))
 }
 
 /// What the values of `interpret` ask for.
@@ -276,6 +338,9 @@ fn order_of(alloc: Global, name: &str, matches: &ArgMatches<'_>) -> Result<Order
     }
     if name == "run" {
         return run_order(alloc, matches);
+    }
+    if name == "check" {
+        return check_order(alloc, matches);
     }
     if name == "interpret" {
         return interpret_order(alloc, matches);

@@ -8,21 +8,21 @@ ghost use Rattle.bk_kit.specs.Compiling.{Compiles, PutsSections};
 
 use crate::kit_fault::KitFault;
 use crate::reading::read_section;
-use crate::section::compile_section;
+use crate::section::{SectionCode, compile_section};
 use bk_base::{ByteIn, ByteOut, Failed, Line};
-use bk_ocode::{Ocode, print};
+use bk_ocode::print;
 use std::alloc::Global;
 
 /// Writes the code of a section, if it has any.
-fn put_code<O: ByteOut>(code: &Option<Ocode>, out: &mut O) -> Result<(), Failed>
-    ensures takes { OnOk result (Appends (O.taken out.old) (O.taken out.new) (texts_of (codes_in code.now))) }
-    ensures part { OnErr result (AppendsPart (O.taken out.old) (O.taken out.new) (texts_of (codes_in code.now))) }
+fn put_code<O: ByteOut>(section: &Option<SectionCode>, out: &mut O) -> Result<(), Failed>
+    ensures takes { OnOk result (Appends (O.taken out.old) (O.taken out.new) (texts_of (codes_in section.now))) }
+    ensures part { OnErr result (AppendsPart (O.taken out.old) (O.taken out.new) (texts_of (codes_in section.now))) }
     ensures passes { Begins (O.passed out.old) (O.passed out.new) }
     ensures same_failures { OnOk result (O.faults out.new ≡ O.faults out.old) }
     ensures failed { OnErr result (O.faults out.new ≡ 1) }
 {
-    match code {
-        Some(code) => print(code, out),
+    match section {
+        Some(section) => print(&section.code, out),
         None => Ok(()),
     }
 }

@@ -1,6 +1,7 @@
 //! The kit: its filters and its runner over any devices, and its command line.
 #![tactic(auto)]
 
+mod checker;
 mod code;
 mod command_line;
 mod compiler;
@@ -16,6 +17,7 @@ mod service;
 mod source;
 mod status;
 
+pub use checker::{NotChecked, Refusal, check_source};
 pub use command_line::{LineFault, order};
 pub use compiler::compile;
 pub use generator::generate_all;

@@ -10,6 +10,8 @@ pub enum Order {
     Generate,
     /// `bcpl run`: run the BCPL source in FILE.
     Run(Limits, String),
+    /// `bcpl check`: do what the BCPL source in FILE means, in so many turns, and tell what goes wrong.
+    Check(u64, String),
     /// `bcpl interpret`: run the INTCODE in FILE.
     Interpret(Limits, String),
     /// `bcpl interpret --sizes`: tell what the INTCODE in FILE needs in a store of so many words. The steps that `-t` gives are
@@ -28,9 +30,10 @@ impl Order {
     {
         match self {
             Order::Compile | Order::Generate => None,
-            Order::Run(_, file) | Order::Interpret(_, file) | Order::Sizes(_, file) => Some(
-                file.as_str(),
-            ),
+            Order::Run(_, file)
+            | Order::Check(_, file)
+            | Order::Interpret(_, file)
+            | Order::Sizes(_, file) => Some(file.as_str()),
         }
     }
 }

@@ -2,6 +2,7 @@
 ghost use Rattle.std.specs.Prelude.{ℕ, List, ◌≡◌, IfOk, IfErr, map};
 ghost use Rattle.bk_lex.specs.Symbol.{symbols_of};
 ghost use Rattle.bk_ocode.specs.StmtRange.{AreBytes};
+ghost use Rattle.bk_tree.specs.Section.{declarations_of};
 ghost use Rattle.bk_ocode.specs.SectionStmts.{stmts_of};
 ghost use Rattle.bk_kit.specs.CompilingSection.{Translates, Compiled, Refuses, RefusesSymbols};
 
@@ -12,25 +13,38 @@ use bk_ocode::Ocode;
 use bk_scope::resolve;
 use bk_syntax::parse;
 use bk_trans::translate;
+use bk_tree::Section;
 use std::alloc::Global;
 
+/// The tree and the code of a section.
+#[derive(Drop)]
+pub struct SectionCode {
+    /// The tree.
+    pub tree: Section,
+    /// The code.
+    pub code: Ocode,
+}
+
 /// A section of a source, compiled.
-#[derive(Debug, Drop)]
+#[derive(Drop)]
 pub struct CompiledSection {
-    /// Its code; none of a section without symbols.
-    pub code: Option<Ocode>,
+    /// Its tree and code; none of a section without symbols.
+    pub code: Option<SectionCode>,
     /// The line on which the next section begins, where a `.` ended this one.
     pub next: Option<Line>,
 }
 
-/// The code of the symbols of a section, the end of which is on line `end`.
-fn code_of(alloc: Global, symbols: &[Token], end: Line) -> Result<Ocode, KitFault>
-    ensures translates { IfOk result (λ code. Translates (symbols_of symbols.now) (stmts_of code)) }
+/// The tree and the code of the symbols of a section, the end of which is on line `end`.
+fn code_of(alloc: Global, symbols: &[Token], end: Line) -> Result<SectionCode, KitFault>
+    ensures translates { IfOk result (λ section. Translates (symbols_of symbols.now) (stmts_of section.code) (declarations_of section.tree)) }
     ensures refuses { IfErr result (λ fault. RefusesSymbols fault (symbols_of symbols.now) end) }
 {
-    let section = parse(alloc, symbols, end)?;
-    let resolved = resolve(alloc, &section)?;
-    Ok(translate(alloc, &resolved)?)
+    let tree = parse(alloc, symbols, end)?;
+    let code = {
+        let resolved = resolve(alloc, &tree)?;
+        translate(alloc, &resolved)?
+    };
+    Ok(SectionCode { tree, code })
 }
 
 /// Bytes are such, as their type has it.

@@ -5,13 +5,14 @@ ghost use Rattle.bk_kit.specs.Serving.{Serves, LeavesFile, LeavesInput};
 ghost use Rattle.bk_kit.specs.Statuses.{refusal_status, refusal_line};
 ghost use Rattle.bk_kit.specs.Telling.{Tells};
 
+use crate::checker::check_source;
 use crate::command_line::LineFault;
 use crate::compiler::compile;
 use crate::generator::generate_all;
 use crate::orders::Order;
 use crate::runner::{interpret, sizes};
 use crate::source::run_source;
-use crate::status::{tell_done, tell_run, tell_text};
+use crate::status::{tell_check, tell_done, tell_run, tell_text};
 use bk_base::{ByteIn, ByteOut};
 use std::alloc::Global;
 
@@ -41,6 +42,10 @@ pub fn serve<F: ByteIn, I: ByteIn, O: ByteOut, E: ByteOut>(
         Order::Run(limits, _) => {
             let answer = run_source(alloc, file, *limits, input, out);
             tell_run(&answer, err)
+        }
+        Order::Check(turns, name) => {
+            let answer = check_source(alloc, file, *turns, input, out);
+            tell_check(&answer, name.as_str(), err)
         }
         Order::Interpret(limits, _) => {
             let answer = interpret(alloc, file, *limits, input, out);

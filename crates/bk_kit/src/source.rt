@@ -12,24 +12,23 @@ ghost use Rattle.bk_kit.specs.SourceMeaning.{meanings};
 use crate::kit_fault::KitFault;
 use crate::laws::sources_run;
 use crate::reading::read_section;
-use crate::section::compile_section;
+use crate::section::{SectionCode, compile_section};
 use bk_base::{ByteIn, ByteOut, End, Limits, Line};
 use bk_gen::generate;
 use bk_intcode::{Intcode, Machine};
-use bk_ocode::Ocode;
 use std::alloc::{AllocError, Global};
 
 /// Generates the segment of a section's code, if it has any, behind those of the sections before.
 fn push_segment(
     alloc: Global,
-    code: &Option<Ocode>,
+    section: &Option<SectionCode>,
     segments: &mut Vec<Intcode>,
 ) -> Result<(), AllocError>
-    ensures generated { OnOk result (Generated (map items_of segments.old.items) (map items_of segments.new.items) (codes_in code.now)) }
+    ensures generated { OnOk result (Generated (map items_of segments.old.items) (map items_of segments.new.items) (codes_in section.now)) }
 {
-    match code {
-        Some(code) => {
-            let segment = generate(alloc, code)?;
+    match section {
+        Some(section) => {
+            let segment = generate(alloc, &section.code)?;
             segments.push(segment)?;
             Ok(())
         }

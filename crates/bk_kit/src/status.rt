@@ -3,9 +3,15 @@ ghost use Rattle.std.specs.Prelude.{◌≡◌};
 ghost use Rattle.bk_kit.specs.FaultLine.{fault_text, line_of};
 ghost use Rattle.bk_kit.specs.Statuses.{stop_status, end_status, end_line, fault_status, run_status, run_line, done_status, done_line};
 ghost use Rattle.bk_kit.specs.Telling.{TellsLine, Tells};
+ghost use Rattle.bk_kit.specs.Pieces.{joined};
+ghost use Rattle.bk_kit.specs.Checking.{verdict_status, check_fault_status, check_fault_text, check_status, TellsText, TellsVerdict, TellsCheck};
 
+use crate::checker::NotChecked;
 use crate::kit_fault::{KitFault, put_text};
+use crate::pieces::put_pieces;
 use bk_base::{ByteOut, End};
+use bk_checker::{CheckFault, GivenUp, Report, Verdict};
+use itoa::Buffer;
 
 /// The status for STOP of a number.
 fn status_of_stop(number: i32) -> u8
@@ -119,5 +125,125 @@ pub fn tell_done<E: ByteOut>(answer: &Result<(), KitFault>, err: &mut E) -> u8
     match answer {
         Ok(()) => 0,
         Err(fault) => tell_fault(fault, err),
+    }
+}
+
+/// Writes pieces of text on the error stream and passes them on. A failure of that stream changes nothing.
+fn tell_pieces<E: ByteOut>(pieces: &[&[u8]], err: &mut E)
+    ensures { TellsLine (joined pieces.now)
+        (record { taken = E.taken err.old; passed = E.passed err.old; faults = E.faults err.old })
+        (record { taken = E.taken err.new; passed = E.passed err.new; faults = E.faults err.new }) }
+{
+    if put_pieces(err, pieces).is_ok() {
+        let _passed = err.flush();
+    }
+}
+
+/// Writes what went wrong in a check: the name of FILE, the number of the line, what kind of thing it is, what it is, and the calls that
+/// were active.
+fn tell_parts<'a, E: ByteOut>(
+    file: &'a [u8],
+    line: &'a [u8],
+    kind: &'a [u8],
+    what: &'a [u8],
+    calls: &'a [u8],
+    err: &mut E,
+)
+    ensures { TellsText
+        (record { taken = E.taken err.old; passed = E.passed err.old; faults = E.faults err.old })
+        (record { taken = E.taken err.new; passed = E.passed err.new; faults = E.faults err.new }) }
+{
+    tell_pieces(&[file, b":", line, b": ", kind, what, b"\n", calls], err)
+}
+
+/// Writes what went wrong in a check.
+fn tell_stop<E: ByteOut>(report: &Report, kind: &str, file: &str, err: &mut E)
+    ensures { TellsText
+        (record { taken = E.taken err.old; passed = E.passed err.old; faults = E.faults err.old })
+        (record { taken = E.taken err.new; passed = E.passed err.new; faults = E.faults err.new }) }
+{
+    let mut line = Buffer::new();
+    tell_parts(
+        file.as_bytes(),
+        line.format(report.line.number()).as_bytes(),
+        kind.as_bytes(),
+        report.what.as_slice(),
+        report.calls.as_slice(),
+        err,
+    )
+}
+
+/// The status for a verdict.
+fn status_of_verdict(verdict: Verdict) -> u8
+    ensures { result ≡ verdict_status verdict }
+{
+    match verdict {
+        Verdict::Status(word) => if word < 100 { word as u8 } else { 100 },
+        Verdict::DivideByZero => 104,
+        Verdict::NoStart => 108,
+        Verdict::Undefined => 113,
+        Verdict::Turns => 106,
+    }
+}
+
+/// Writes what is told of a verdict on the error stream.
+fn tell_verdict<E: ByteOut>(report: &Report, file: &str, err: &mut E)
+    ensures { TellsVerdict report.now.verdict
+        (record { taken = E.taken err.old; passed = E.passed err.old; faults = E.faults err.old })
+        (record { taken = E.taken err.new; passed = E.passed err.new; faults = E.faults err.new }) }
+{
+    match report.verdict {
+        Verdict::Status(_) => {}
+        Verdict::NoStart => tell_line("no START", err),
+        Verdict::DivideByZero | Verdict::Turns => tell_stop(report, "", file, err),
+        Verdict::Undefined => tell_stop(report, "undefined: ", file, err),
+    }
+}
+
+/// Writes the line for a check that was given up, and answers the status.
+fn tell_check_fault<E: ByteOut>(fault: CheckFault, err: &mut E) -> u8
+    ensures status { result ≡ check_fault_status fault }
+    ensures line { TellsLine (line_of (check_fault_text fault))
+        (record { taken = E.taken err.old; passed = E.passed err.old; faults = E.faults err.old })
+        (record { taken = E.taken err.new; passed = E.passed err.new; faults = E.faults err.new }) }
+{
+    match fault {
+        CheckFault::Memory => tell_text("no memory", 111, err),
+        CheckFault::TooDeep => tell_text("too deep", 105, err),
+        CheckFault::Read => tell_text("read fault", 109, err),
+        CheckFault::Write => tell_text("write fault", 110, err),
+    }
+}
+
+/// The lines of the calls that were active where a check was given up; none where they are not known.
+fn calls_of(stop: &GivenUp) -> &[u8] {
+    match &stop.calls {
+        Some(calls) => calls.as_slice(),
+        None => &[],
+    }
+}
+
+/// Writes what is told of the answer of a check on the error stream, and answers the status. `file` is the name of FILE.
+pub fn tell_check<E: ByteOut>(answer: &Result<Report, NotChecked>, file: &str, err: &mut E) -> u8
+    ensures status { result ≡ check_status answer.now }
+    ensures told { TellsCheck answer.now
+        (record { taken = E.taken err.old; passed = E.passed err.old; faults = E.faults err.old })
+        (record { taken = E.taken err.new; passed = E.passed err.new; faults = E.faults err.new }) }
+{
+    match answer {
+        Ok(report) => {
+            tell_verdict(report, file, err);
+            status_of_verdict(report.verdict)
+        }
+        Err(NotChecked::Text(refusal)) => {
+            let status = tell_fault(&refusal.fault, err);
+            tell_pieces(&[refusal.hint.as_slice()], err);
+            status
+        }
+        Err(NotChecked::Run(stop)) => {
+            let status = tell_check_fault(stop.fault, err);
+            tell_pieces(&[calls_of(stop)], err);
+            status
+        }
     }
 }

@@ -1,4 +1,4 @@
-use Rattle.std.proofs.Common.{◌∙◌, ap, rules}
+use Rattle.std.proofs.Common.{◌∙◌, ap, refl, rules}
 use Rattle.bk_tree.specs.declared.section.Section.{Section}
 use Rattle.bk_tree.specs.Section.{declarations_of}
 use Rattle.bk_trans.specs.Naming.{named_tree}
@@ -6,24 +6,25 @@ use Rattle.bk_trans.specs.Scheme.{scheme}
 use Rattle.bk_kit.proofs.SectionLemmas.{parse_refuses, resolve_refuses}
 use Rattle.bk_kit.proofs.section.code_of.Goals as goal
 
-pub returns-in_err-section-clause-refuses : goal.returns-in_err-section-clause-refuses
-returns-in_err-section-clause-refuses c =
-    let refuses = parse_refuses _ c.args.end c.in_err-section.field-0.0 c.in_err-section.ensures.parses c.in_err-section.ensures.only in
+pub returns-in_err-tree-clause-refuses : goal.returns-in_err-tree-clause-refuses
+returns-in_err-tree-clause-refuses c =
+    let refuses = parse_refuses _ c.args.end c.in_err-tree.field-0.0 c.in_err-tree.ensures.parses c.in_err-tree.ensures.only in
     search rules
 
 pub returns-in_err-resolved-clause-refuses : goal.returns-in_err-resolved-clause-refuses
 returns-in_err-resolved-clause-refuses c =
-    let parsed = c.in_ok-section.ensures in
-    let refuses = resolve_refuses _ c.args.end c.in_ok-section.section c.in_err-resolved.field-0.0 parsed.parses parsed.within parsed.only c.in_err-resolved.ensures.resolves in
+    let parsed = c.in_ok-tree.ensures in
+    let refuses = resolve_refuses _ c.args.end c.in_ok-tree.tree c.in_err-resolved.field-0.0 parsed.parses parsed.within parsed.only c.in_err-resolved.ensures.resolves in
     search rules
 
 pub returns-clause-translates : goal.returns-clause-translates
 returns-clause-translates c = record {
-  tree = declarations_of c.in_ok-section.section;
+  tree = declarations_of c.in_ok-tree.tree;
+  tree_is = refl;
   is = record {
-    section = c.in_ok-section.ensures.parses;
-    within = c.in_ok-section.ensures.within;
+    section = c.in_ok-tree.ensures.parses;
+    within = c.in_ok-tree.ensures.within;
     faultless = c.in_ok-resolved.ensures.resolves.0;
   };
-  code = c.in_ok-translate.ensures ∙ ap (λ (x : Section). scheme (named_tree (declarations_of x))) c.in_ok-resolved.ensures.section;
+  code = c.in_ok-code.ensures ∙ ap (λ (x : Section). scheme (named_tree (declarations_of x))) c.in_ok-resolved.ensures.section;
 }

@@ -24,7 +24,7 @@ returns-clause-compiled c = record {
         | else-is_empty+in_ok-code_of w ↦
             let some = some_symbols c.in_ok-lexed.lexed.tokens.items (sym (rw c.as_slice-symbols.ensures.value at c.is_empty.ensures) ∙ w.if-is_empty.false) in
             let translates = rw c.as_slice-symbols.ensures.value at w.in_ok-code_of.ensures.translates in
-            rw w.code-is (code_some _ _ some translates)
+            rw w.code-is (code_some _ _ _ some translates)
       ];
   next =
       elim c.if-lexed.branch [

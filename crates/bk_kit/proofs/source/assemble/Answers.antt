@@ -10,13 +10,13 @@ loop-segments-init g c = rw (c.first-line.ensures, c.new-segments.ensures.items)
 pub returns-in_err-text-clause-refused : goal.returns-in_err-text-clause-refused
 returns-in_err-text-clause-refused g c =
     let read = c.in_err-text.ensures.fault in
-    let refused = not_read _ _ _ (g.C.ByteIn.ended c.read_section.new.source) _ c.read_section.new.taken c.loop-segments.line _ _ c.loop-segments.invariant read.0 read.1 c.read_section.ensures.within c.in_err-text.field-0.0 read.2 in
+    let refused = not_read _ _ _ (g.C.ByteIn.ended c.read_section.new.source) _ c.read_section.new.taken c.loop-segments.line c.loop-segments.invariant.passed read.0 read.1 c.read_section.ensures.within c.in_err-text.field-0.0 read.2 in
     search (refused, c.from_residual.ensures, rules)
 
 pub returns-in_err-text-clause-delivered : goal.returns-in_err-text-clause-delivered
 returns-in_err-text-clause-delivered g c =
     let read = c.in_err-text.ensures.fault in
-    let reads = stops_reading _ _ _ (g.C.ByteIn.ended c.read_section.new.source) _ c.read_section.new.taken c.loop-segments.line _ _ c.loop-segments.invariant read.0 read.1 c.read_section.ensures.within c.in_err-text.field-0.0 read.2 in
+    let reads = stops_reading _ _ _ (g.C.ByteIn.ended c.read_section.new.source) _ c.read_section.new.taken c.loop-segments.line c.loop-segments.invariant.passed read.0 read.1 c.read_section.ensures.within c.in_err-text.field-0.0 read.2 in
     let same : IfErr c.from_residual.result (λ f. f ≡ c.in_err-text.field-0.0) = search (c.from_residual.ensures, rules) in
     fails_as _ _ _ _ c.from_residual.ensures.0 same reads
 
@@ -24,20 +24,20 @@ pub returns-in_err-section-clause-refused : goal.returns-in_err-section-clause-r
 returns-in_err-section-clause-refused g c =
     let read = c.in_ok-text.ensures.read in
     let refuses = subst (λ (t : List ℕ). Refuses c.in_err-section.field-0.0 t c.loop-segments.line) c.as_slice.ensures.value c.in_err-section.ensures.refuses in
-    let refused = not_compiled _ _ _ _ _ c.read_section.new.taken c.loop-segments.line _ _ c.loop-segments.invariant c.in_ok-text.text.items read.0 c.read_section.ensures.within read.1 c.in_err-section.field-0.0 refuses in
+    let refused = not_compiled _ _ _ _ _ c.read_section.new.taken c.loop-segments.line c.loop-segments.invariant.passed c.in_ok-text.text.items read.0 c.read_section.ensures.within read.1 c.in_err-section.field-0.0 refuses in
     search (refused, c.from_residual-in_err-section.ensures, rules)
 
 pub returns-in_default-clause-refused : goal.returns-in_default-clause-refused
 returns-in_default-clause-refused g c =
     let read = c.in_ok-text.ensures.read in
-    no_memory _ _ _ (g.C.ByteIn.ended c.read_section.new.source) _ c.read_section.new.taken c.loop-segments.line _ _ c.loop-segments.invariant c.in_ok-text.text.items read.0 c.read_section.ensures.within
+    no_memory _ _ _ (g.C.ByteIn.ended c.read_section.new.source) _ c.read_section.new.taken c.loop-segments.line c.loop-segments.invariant.passed c.in_ok-text.text.items read.0 c.read_section.ensures.within
 
 pub returns-in-None-clause-assembled : goal.returns-in-None-clause-assembled
 returns-in-None-clause-assembled g c =
     let read = c.in_ok-text.ensures.read in
     let compiled = subst (λ (t : List ℕ). Compiled c.in_ok-section.section t c.loop-segments.line) c.as_slice.ensures.value c.in_ok-section.ensures.compiled in
-    is_last _ _ _ _ _ c.read_section.new.taken c.loop-segments.line _ _ c.loop-segments.invariant c.in_ok-text.text.items read.0 c.read_section.ensures.within read.1
-    c.in_ok-section.section compiled _ c.in-Ok.ensures.generated c.in-None.is
+    is_last _ _ _ _ _ c.read_section.new.taken c.loop-segments.line c.loop-segments.invariant.passed c.in_ok-text.text.items read.0 c.read_section.ensures.within read.1
+    c.in_ok-section.section compiled _ _ c.loop-segments.invariant.stand c.in-Ok.ensures.generated c.in-None.is
 
 pub loop-segments-smaller : goal.loop-segments-smaller
 loop-segments-smaller g c =
@@ -50,5 +50,5 @@ pub loop-segments-preserved : goal.loop-segments-preserved
 loop-segments-preserved g c =
     let read = c.in_ok-text.ensures.read in
     let compiled = subst (λ (t : List ℕ). Compiled c.in_ok-section.section t c.loop-segments.line) c.as_slice.ensures.value c.in_ok-section.ensures.compiled in
-    goes_on _ _ _ _ _ c.read_section.new.taken c.loop-segments.line _ _ c.loop-segments.invariant c.in_ok-text.text.items read.0 c.read_section.ensures.within read.1
-    c.in_ok-section.section compiled _ c.in-Ok.ensures.generated c.in-Some.next _ c.in-Some.is (c.in_ok-text.ensures.failures c.loop-segments.invariant.readable)
+    goes_on _ _ _ _ _ c.read_section.new.taken c.loop-segments.line c.loop-segments.invariant.passed c.in_ok-text.text.items read.0 c.read_section.ensures.within read.1
+    c.in_ok-section.section compiled _ _ c.loop-segments.invariant.stand c.in-Ok.ensures.generated c.in-Some.next _ c.in-Some.is (c.in_ok-text.ensures.failures c.loop-segments.invariant.readable)

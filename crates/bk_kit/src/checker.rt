@@ -1,0 +1,128 @@
+//! The checker.
+ghost use Rattle.std.specs.Prelude.{◌≡◌, ◌++◌, map, IfOk, IfErr, OnOk, if◌then◌else◌};
+ghost use Rattle.bk_base.specs.Devices.{Begins};
+ghost use Rattle.bk_tree.specs.Section.{declarations_of};
+ghost use Rattle.bk_kit.specs.CompilingSection.{trees_in};
+ghost use Rattle.bk_kit.specs.RunningSource.{NotAssembled, ReadsSource};
+ghost use Rattle.bk_kit.specs.Checking.{fails_reading, fails_check, HasTheseTrees, ChecksSource, Untouched};
+
+use crate::kit_fault::KitFault;
+use crate::reading::read_section;
+use crate::section::{SectionCode, compile_section};
+use bk_base::{ByteIn, ByteOut, Line};
+use bk_checker::{GivenUp, Report, check};
+use bk_hints::hint;
+use bk_tree::Section;
+use std::alloc::{AllocError, Global};
+
+/// A fault of a source, and what a person is told of it.
+#[derive(Debug, Drop)]
+pub struct Refusal {
+    /// The fault.
+    pub fault: KitFault,
+    /// Lines of text, each with its end: the line of the source, the place, and what is meant; nothing where there is none.
+    pub hint: Vec<u8>,
+}
+
+/// Why a check of a source gives no verdict.
+#[derive(Debug, Drop)]
+pub enum NotChecked {
+    /// The source is refused or cannot be read; nothing is done.
+    Text(Refusal),
+    /// The run of the meaning was given up.
+    Run(GivenUp),
+}
+
+/// A fault without a hint.
+fn no_hint(alloc: Global, fault: KitFault) -> Refusal
+    ensures { result.fault ≡ fault }
+{
+    Refusal {
+        fault,
+        hint: Vec::new(alloc),
+    }
+}
+
+/// A fault of a section of this text, whose first line has the number `line`, with what a person is told of it.
+fn refused(alloc: Global, text: &[u8], line: Line, fault: KitFault) -> Refusal
+    ensures { result.fault ≡ fault }
+{
+    let lines = match &fault {
+        KitFault::Source(told) => hint(alloc, text, line, told),
+        _ => Ok(Vec::new(alloc)),
+    };
+    match lines {
+        Ok(hint) => Refusal { fault, hint },
+        Err(_) => no_hint(alloc, fault),
+    }
+}
+
+/// Adds the tree of a section, if it has one.
+fn push_tree(section: Option<SectionCode>, trees: &mut Vec<Section>) -> Result<(), AllocError>
+    ensures { OnOk result (map declarations_of trees.new.items ≡ map declarations_of trees.old.items ++ trees_in section) }
+{
+    match section {
+        Some(section) => {
+            trees.push(section.tree)?;
+            Ok(())
+        }
+        None => Ok(()),
+    }
+}
+
+/// The trees of all sections of a source that have symbols.
+fn read_trees<C: ByteIn>(alloc: Global, source: &mut C) -> Result<Vec<Section>, Refusal>
+    ensures trees { IfOk result (λ list. HasTheseTrees (map declarations_of list.items) (C.left source.old) (C.left source.new) (C.ended source.new)) }
+    ensures refused { IfErr result (λ refusal. NotAssembled refusal.fault (C.left source.old) (C.left source.new) (C.ended source.new)) }
+    ensures delivered { ReadsSource (fails_reading result) (C.left source.old) (C.left source.new) }
+    ensures failures { C.faults source.new ≡ (if fails_reading result then 1 else 0) }
+{
+    let mut trees = Vec::new(alloc);
+    let mut taken = 0;
+    let mut line = Line::first();
+    loop {
+        let text = match read_section(alloc, source, &mut taken) {
+            Ok(text) => text,
+            Err(fault) => return Err(no_hint(alloc, fault)),
+        };
+        let section = match compile_section(alloc, text.as_slice(), line) {
+            Ok(section) => section,
+            Err(fault) => return Err(refused(alloc, text.as_slice(), line, fault)),
+        };
+        let next = section.next;
+        let Ok(()) = push_tree(section.code, &mut trees) else {
+            return Err(no_hint(alloc, KitFault::Memory));
+        };
+        match next {
+            Some(next) => line = next,
+            None => return Ok(trees),
+        }
+    }
+}
+
+/// Does what a source means, in so many turns, with this input and output: the verdict of its meaning, and what a person is told of
+/// it. A source that is refused is refused as `run_source` refuses it, and nothing is done of it.
+pub fn check_source<C: ByteIn, I: ByteIn, O: ByteOut>(
+    alloc: Global,
+    source: &mut C,
+    turns: u64,
+    input: &mut I,
+    out: &mut O,
+) -> Result<Report, NotChecked>
+    ensures checks { ChecksSource result turns (C.left source.old) (C.left source.new) (C.ended source.new)
+        (record { left = I.left input.old; held = I.held input.old; ended = I.ended input.old; taken = O.taken out.old; passed = O.passed out.old; reads = I.faults input.old; writes = O.faults out.old })
+        (record { left = I.left input.new; held = I.held input.new; ended = I.ended input.new; taken = O.taken out.new; passed = O.passed out.new; reads = I.faults input.new; writes = O.faults out.new }) }
+    ensures untouched { IfErr result (λ stopped. Untouched stopped input.old input.new out.old out.new) }
+    ensures passes { Begins (O.passed out.old) (O.passed out.new) }
+    ensures delivered { ReadsSource (fails_check result) (C.left source.old) (C.left source.new) }
+    ensures read_fails { C.faults source.new ≡ (if fails_check result then 1 else 0) }
+{
+    let trees = match read_trees(alloc, source) {
+        Ok(trees) => trees,
+        Err(refusal) => return Err(NotChecked::Text(refusal)),
+    };
+    match check(alloc, trees.as_slice(), turns, input, out) {
+        Ok(report) => Ok(report),
+        Err(stop) => Err(NotChecked::Run(stop)),
+    }
+}
