@@ -1,5 +1,5 @@
 -- The turn that a command takes.
-use Rattle.std.proofs.Common.{◌≡◌, ℕ, ◌-◌, ◌<◌, true, false, refl, sym, ◌∙◌}
+use Rattle.std.proofs.Common.{◌≡◌, ◌-◌, ◌<◌, true, false, refl, sym, ◌∙◌}
 use Rattle.bk_tree.specs.Tree as t
 use Rattle.bk_tree.specs.Tree.{Action}
 use Rattle.bk_meaning.specs.World.{World, Outcome, Done, done, going, turn}

@@ -1,5 +1,5 @@
 -- A FOR that begins.
-use Rattle.std.proofs.Common.{◌≡◌, ℕ, List, [], ◌∷◌, length, refl, ap, ◌∙◌}
+use Rattle.std.proofs.Common.{◌≡◌, ℕ, List, [], ◌∷◌, length, ap, ◌∙◌}
 use Rattle.bk_tree.specs.Tree.{Action}
 use Rattle.bk_meaning.specs.Values.{Value, holds}
 use Rattle.bk_meaning.specs.Memory.{Memory, made}

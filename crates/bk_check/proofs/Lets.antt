@@ -1,13 +1,19 @@
 -- A LET, done in steps.
-use Rattle.std.proofs.Common.{◌≡◌, ℕ, zero, suc, List, ◌∷◌, ◌++◌, refl, ap, sym, ◌∙◌}
+use Rattle.std.specs.Global.{Global}
+use Rattle.std.proofs.Common.{◌≡◌, ℕ, zero, suc, Vec, List, [], ◌∷◌, ◌++◌, map, refl, ap, sym, ◌∙◌}
 use Rattle.bk_tree.specs.Tree as t
-use Rattle.bk_tree.specs.Tree.{Mention, Expression, Definition, Definitions, Starts}
+use Rattle.bk_tree.specs.Tree.{Mention, Expression, Definition, Definitions, Starts, definitions_in, declarations_in, actions_in}
 use Rattle.bk_meaning.specs.Values.{Value}
 use Rattle.bk_meaning.specs.World.{World, Outcome, gives, with, Done, turn, turn_of}
 use Rattle.bk_meaning.specs.Environment.{Environment, past, past_definition, constant_in, letters}
 use Rattle.bk_meaning.specs.Lasting.{Program}
-use Rattle.bk_meaning.specs.Blocks.{Start, starts, make_vec, paired, let_values}
+use Rattle.bk_meaning.specs.Blocks.{Start, starts, make_vec, paired, let_values, bind_variables}
 use Rattle.bk_meaning.specs.Full.{full}
+use Rattle.bk_lasting.specs.Views.{env_in}
+use Rattle.bk_check.specs.declared.frame.Let.{Let}
+use Rattle.bk_check.specs.declared.frame.Start as f
+use Rattle.bk_check.specs.Views.{start_in}
+use Rattle.bk_check.specs.Resume.{declared_then, started_then, starting_then}
 use Rattle.bk_check.proofs.Outcomes.{with_with, with_each, with_turn}
 
 variables_turn : (p : Program) (l : ℕ) (xs : List Mention) (is : Starts) (ds : Definitions) (here : Environment) (go : List Start → World → Outcome Done) (w : World) →
@@ -46,3 +52,23 @@ pub vector_is : (p : Program) (l : ℕ) (e : Expression) (is : Starts) (here : E
 vector_is p l e is here go w = sym (
     with_with (turn w (λ w. make_vec (constant_in here e) w)) (λ v w. with (starts (full p) is here w) (λ vs w. gives (v ∷ vs) w)) go
     ∙ with_turn w (λ w. make_vec (constant_in here e) w) (λ v w. with (with (starts (full p) is here w) (λ vs w. gives (v ∷ vs) w)) go))
+
+-- a variable more has its value
+one_more : (xs : List f.Start) (x : f.Start) (ys : List f.Start) (ss : List Start) → ys ≡ xs ++ x ∷ [] → map start_in ys ++ ss ≡ map start_in xs ++ start_in x ∷ ss
+one_more xs x ys ss is = ap (λ (zs : List f.Start). map start_in zs ++ ss) is ∙ by xs
+  where
+    by : (zs : List f.Start) → map start_in (zs ++ x ∷ []) ++ ss ≡ map start_in zs ++ start_in x ∷ ss
+    by [] = refl
+    by (z ∷ zs) = ap (λ (rest : List Start). start_in z ∷ rest) (by zs)
+
+pub named_then : (p : Program) (is : Starts) (here : Environment) (names others : List (List ℕ)) (x : f.Start) (l l' : Let) (more : Vec f.Start Global) (w : World) →
+    l' ≡ l → names ≡ x.name.now ∷ others → more.items ≡ l'.starts.items ++ x ∷ [] →
+    starting_then p is here others (record l' { starts = more }) w ≡ with (with (starts (full p) is here w) (λ vs w. gives ((start_in x).value ∷ vs) w)) (λ vs w. started_then p l names vs w)
+named_then p is here names others x l l' more w same named is_more =
+    with_each (starts (full p) is here w) _ _ (λ vs w.
+    with_each (let_values (full p) (definitions_in l'.defs.now) (env_in l'.here) w) _ _ (λ ss w.
+    ap (λ (zs : List Start). with (bind_variables zs (env_in l'.behind) w) (λ env w. declared_then p (declarations_in l'.decls.now) (actions_in l'.commands.now) env w))
+    (one_more l'.starts.items x more.items (paired others vs ++ ss) is_more))
+    ∙ ap (λ (m : Let). started_then p m (x.name.now ∷ others) ((start_in x).value ∷ vs) w) same
+    ∙ ap (λ (xs : List (List ℕ)). started_then p l xs ((start_in x).value ∷ vs) w) (sym named))
+    ∙ sym (with_with (starts (full p) is here w) (λ vs w. gives ((start_in x).value ∷ vs) w) (λ vs w. started_then p l names vs w))

@@ -1,7 +1,9 @@
 -- Frames, resumed: where one was pushed, it goes on with what is asked for.
-use Rattle.std.proofs.Common.{◌≡◌, ℕ, Bool, List, [], ◌∷◌, ◌++◌, Result, Ok, Err, IfOk, refl, ap, sym, subst, ◌∙◌}
+use Rattle.std.proofs.Common.{◌≡◌, ℕ, ◌+◌, Bool, List, [], ◌∷◌, ◌++◌, Option, Some, None, IfSome, Result, Ok, Err, IfOk, refl, ap, sym, ◌∙◌, arith}
+use Rattle.bk_tree.specs.Tree.{Expression}
+use Rattle.bk_meaning.specs.Environment.{Environment, objects, past}
 use Rattle.bk_meaning.specs.Values.{Value}
-use Rattle.bk_meaning.specs.World.{World, Exit, Outcome, gives, leaves, ends, undefined, going, each_way, with, Done, done, closing}
+use Rattle.bk_meaning.specs.World.{World, Outcome, gives, leaves, ends, undefined, going, Done, closing}
 use Rattle.bk_meaning.specs.Lasting.{Program}
 use Rattle.bk_meaning.specs.Parts.{Target}
 use Rattle.bk_check.specs.declared.frame.Call.{Call}
@@ -17,7 +19,7 @@ use Rattle.bk_check.specs.declared.frame.OnDone.TheVariants as d
 use Rattle.bk_check.specs.declared.frame.Frame.{Frame}
 use Rattle.bk_check.specs.declared.frame.Frame.TheVariants as f
 use Rattle.bk_check.specs.Worlds.{Bytes}
-use Rattle.bk_check.specs.Resume.{Given, a_value, a_truth, a_target, is_done, done_tag, tag, value_goes, truth_goes, target_goes, done_goes, returned, resume, resumed, Comes}
+use Rattle.bk_check.specs.Resume.{Given, a_value, a_truth, a_target, done_tag, tag, value_goes, truth_goes, target_goes, done_goes, returned, resume, resumed, Comes}
 
 pub resumed-push : (p : Program) (fs : List Frame) (f : Frame) (u : Outcome Given) → resumed p (fs ++ f ∷ []) u ≡ resumed p fs (resume p f u)
 unfolding resumed
@@ -120,6 +122,15 @@ popped p fs gs f u is = sym (pushed p fs gs f u (resume p f u) is refl)
 -- what comes to this comes to what is the same
 pub comes_same : (p : Program) (fs : List Frame) (next : Next) (w : World) (u v : Outcome Given) → u ≡ v → Comes p fs next w u → Comes p fs next w v
 comes_same p fs next w u v e h = h ∙ e
+
+-- what holds of what is there
+pub some_map : {A : Type 0} (P Q : A → Type 0) (o : Option A) → ((x : A) → P x → Q x) → IfSome o P → IfSome o Q
+some_map P Q None f h = tt
+some_map P Q (Some x) f h = f x h
+
+-- after an expression in which nothing lasts
+pub past_none : (e : Expression) (env : Environment) → objects e ≡ 0 → past e env ≡ env
+past_none e env none = ap (λ (n : ℕ). record env { next = n }) (let same : env.next + objects e ≡ env.next = omega (arith, none) in same)
 
 -- a step that comes to this comes to what is the same
 pub meets : {E : Type 0} (r : Result Next E) (fs : List Frame) (there : Bytes → World) (u v : Program → Bytes → Outcome Given) → ((p : Program) (b : Bytes) → u p b ≡ v p b) → IfOk r (λ next. (p : Program) (b : Bytes) → Comes p fs next (there b) (u p b)) → IfOk r (λ next. (p : Program) (b : Bytes) → Comes p fs next (there b) (v p b))

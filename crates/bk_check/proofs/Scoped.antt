@@ -1,5 +1,5 @@
 -- Scopes and blocks, by what is pushed for them.
-use Rattle.std.proofs.Common.{◌≡◌, ℕ, ◌<◌, Bool, true, false, ◌||◌, List, [], ◌∷◌, length, refl, sym, ap, ◌∙◌, arith}
+use Rattle.std.proofs.Common.{◌≡◌, ℕ, ◌<◌, Bool, true, false, ◌||◌, List, [], ◌∷◌, length, sym, ap, ◌∙◌, arith}
 use Rattle.bk_tree.specs.declared.tree.Decl.{Decl}
 use Rattle.bk_tree.specs.Tree.{Action, Actions, block, declarations_in}
 use Rattle.bk_meaning.specs.World.{World, goto, leaves, each_way, either, done, closing}

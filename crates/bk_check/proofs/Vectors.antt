@@ -1,7 +1,7 @@
 -- A VEC, whose object is made.
-use Rattle.std.proofs.Common.{◌≡◌, ℕ, Option, Some, List, ◌∷◌, length, Result, Ok, Err, IfOk, refl, ap, sym, ◌∙◌}
+use Rattle.std.proofs.Common.{◌≡◌, ℕ, Option, Some, List, ◌∷◌, length, Result, Ok, Err, IfOk, ap, sym, ◌∙◌}
 use Rattle.bk_tree.specs.Tree.{Starts}
-use Rattle.bk_meaning.specs.Values.{Value, address}
+use Rattle.bk_meaning.specs.Values.{address}
 use Rattle.bk_meaning.specs.Memory.{Memory, made}
 use Rattle.bk_meaning.specs.World.{World, Outcome, Done, gives, with, remembering}
 use Rattle.bk_meaning.specs.Environment.{Environment}

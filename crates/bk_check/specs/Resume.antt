@@ -3,7 +3,7 @@ use Rattle.std.specs.Prelude.{◌≡◌, ℕ, Bool, true, false, not, map, Optio
 use Rattle.bk_tree.specs.Tree as t
 use Rattle.bk_tree.specs.Tree.{Expression, Expressions, Action, Actions, Declarations, Starts, expression, expressions_in, action, actions_in, declarations_in, definitions_in, starts_in}
 use Rattle.bk_meaning.specs.Values.{Value, unset}
-use Rattle.bk_meaning.specs.World.{World, Exit, break, loop, endcase, goto, result, return, End, status, divide_by_zero, Outcome, gives, leaves, ends, undefined, going, each_way, with, either, given, Done, done, closing, calls_back, forgetting, turn}
+use Rattle.bk_meaning.specs.World.{World, Exit, break, loop, endcase, goto, result, return, status, divide_by_zero, Outcome, gives, leaves, ends, undefined, going, each_way, with, either, given, Done, done, closing, calls_back, forgetting, turn}
 use Rattle.bk_meaning.specs.Operators.{sum, operate_prefix}
 use Rattle.bk_meaning.specs.Seeking.{the_label, Mode, forwards, seeking}
 use Rattle.bk_meaning.specs.Environment.{Environment, past, past_action}
@@ -17,8 +17,6 @@ use Rattle.bk_meaning.specs.Commands.{assigned, case_exit, ended_case, choose_ca
 use Rattle.bk_meaning.specs.Lasting.{Program}
 use Rattle.bk_meaning.specs.Parts.{Target, at, byte_at, Meanings, fetch, store}
 use Rattle.bk_meaning.specs.Expressions.{combined, address_in, judged, result_of, result_exit}
-use Rattle.bk_objects.specs.declared.worth.Place.{Place}
-use Rattle.bk_objects.specs.declared.worth.Place.TheVariants as l
 use Rattle.bk_check.specs.declared.frame.Thing.{Thing}
 use Rattle.bk_check.specs.declared.frame.Thing.TheVariants as g
 use Rattle.bk_check.specs.declared.frame.Exit.{Exit as Left}
@@ -37,8 +35,6 @@ use Rattle.bk_check.specs.declared.frame.For.{For}
 use Rattle.bk_check.specs.declared.frame.Let.{Let}
 use Rattle.bk_check.specs.declared.frame.Next.{Next}
 use Rattle.bk_check.specs.declared.frame.Next.TheVariants as n
-use Rattle.bk_objects.specs.declared.computed.Computed.{Computed}
-use Rattle.bk_objects.specs.declared.computed.Computed.TheVariants as k
 use Rattle.bk_objects.specs.declared.worth.Worth.{Worth}
 use Rattle.bk_check.specs.Views.{letters_in, mode_in, start_in}
 use Rattle.bk_objects.specs.Views.{value_in, routine_in}
@@ -147,7 +143,7 @@ value_goes p (v.Switch e c env) u = tag done_tag (with u (λ v w. choose_case (f
 value_goes p (v.ForStart x e env c step) u = tag done_tag (with u (λ v w. with ((full p).value (expression e.now) (env_in env) w) (λ h w. with (given step w) (λ n w.
     for_loop (full p) x.now.letters.items (action c.now) v h n (past (expression e.now) (env_in env)) w))))
 value_goes p (v.ForLimit x env start c step) u = tag done_tag (with u (λ h w. with (given step w) (λ n w. for_loop (full p) x.now.letters.items (action c.now) (value_in start) h n (env_in env) w)))
-value_goes p (v.Starts is here names l) u = tag done_tag (with u (λ v w. with (with (b.starts (full p) (starts_in is.now) (env_in here) w) (λ vs w. gives (v ∷ vs) w)) (λ vs w. started_then p l (letters_in names.now) vs w)))
+value_goes p (v.Starts is here names l) u = tag done_tag (with u (λ v w. with (with (b.starts (full p) (starts_in is.now) (env_in here) w) (λ vs w. gives (v ∷ vs) w)) (λ vs w. started_then p l.value (letters_in names.now) vs w)))
 
 abbrev pub truth_goes : Program → OnTruth → Outcome Bool → Outcome Given
 truth_goes p (o.Choice a b env) u = tag a_value (with u (λ x w. either x (λ w. (full p).value (expression a.now) (env_in env) w) (λ w. (full p).value (expression b.now) (past (expression a.now) (env_in env)) w) w))
@@ -238,8 +234,8 @@ outcome_next p (n.Target e env) w = tag a_target ((full p).target (expression e.
 outcome_next p (n.Act c mode env) w = tag done_tag ((full p).act (action c.now) (mode_in mode) (env_in env) w)
 outcome_next p (n.InOrder cs mode env) w = tag done_tag (in_order (full p) (actions_in cs.now) (mode_in mode) (env_in env) w)
 outcome_next p (n.Declare ds cs env) w = tag done_tag (declared_then p (declarations_in ds.now) (actions_in cs.now) (env_in env) w)
-outcome_next p (n.Define l) w = tag done_tag (defined_then p l w)
-outcome_next p (n.Starts is here names l) w = tag done_tag (starting_then p (starts_in is.now) (env_in here) (letters_in names.now) l w)
+outcome_next p (n.Define l) w = tag done_tag (defined_then p l.value w)
+outcome_next p (n.Starts is here names l) w = tag done_tag (starting_then p (starts_in is.now) (env_in here) (letters_in names.now) l.value w)
 outcome_next p (n.Gives t) w = gives (thing_in t) w
 outcome_next p (n.Leaves x) w = leaves (exit_in x) w
 outcome_next p (n.Library line r vs) w = tag a_value (library (routine_in r) (map value_in vs.items) w)

@@ -1,5 +1,5 @@
 -- What the values of the program are as those of the definitions.
-use Rattle.std.specs.Prelude.{ℕ, Option, Some, None, List, [], ◌∷◌, map}
+use Rattle.std.specs.Prelude.{ℕ, Option, Some, None, List, map}
 use Rattle.bk_tree.specs.declared.tree.Name.{Name}
 use Rattle.bk_tree.specs.Tree.{mention}
 use Rattle.bk_meaning.specs.Environment.{letters}

@@ -21,8 +21,10 @@ use bk_lasting::{Env, Sense, constant, constants, count, count_def, count_defs, 
 use bk_objects::{Cell, Reason, Store, Worth};
 use bk_tree::{Command, Decl, Def, Expr, Init, Item, Name, Sort};
 use std::alloc::{AllocError, Global};
+use std::mem::replace;
 
 /// The declarations of a block, one after another, and then its commands.
+#[inline(never)]
 pub fn declare<'a>(
     m: &mut Machine<'a>,
     decls: &'a [Decl],
@@ -58,6 +60,7 @@ fn declare_one<'a>(
 }
 
 /// MANIFEST, STATIC or GLOBAL.
+#[inline(never)]
 fn declare_constants<'a>(
     m: &mut Machine<'a>,
     sort: Sort,
@@ -75,6 +78,7 @@ fn declare_constants<'a>(
 }
 
 /// LET: the definitions see its procedures.
+#[inline(never)]
 fn declare_let<'a>(
     m: &mut Machine<'a>,
     defs: &'a [Def],
@@ -90,21 +94,23 @@ fn declare_let<'a>(
     let count = count_defs(defs)?;
     let behind = here.again()?.behind(count)?;
     let starts = Vec::new(m.alloc);
-    Ok(Next::Define(Let {
+    let rest = Let {
         starts,
         defs,
         here,
         behind,
         decls: rest,
         commands,
-    }))
+    };
+    Ok(Next::Define(Box::new(m.alloc, rest)?))
 }
 
 /// The definitions that are left of a LET. Behind the last one the variables come into being.
-pub fn define<'a>(m: &mut Machine<'a>, rest: Let<'a>) -> Result<Next<'a>, AllocError>
+#[inline(never)]
+pub fn define<'a>(m: &mut Machine<'a>, rest: Box<Let<'a>>) -> Result<Next<'a>, AllocError>
     ensures { IfOk result (λ next. (p : Program) (b : Bytes) →
         Comes p m.new.frames.items next (world m.new b)
-        (resumed p m.old.frames.items (tag done_tag (defined_then p rest.entry (world m.old b))))) }
+        (resumed p m.old.frames.items (tag done_tag (defined_then p rest.entry.value (world m.old b))))) }
 {
     match rest.defs.split_first() {
         None => begin_scope(m, rest),
@@ -117,61 +123,37 @@ fn define_behind<'a>(
     m: &mut Machine<'a>,
     first: &'a Def,
     others: &'a [Def],
-    rest: Let<'a>,
+    rest: Box<Let<'a>>,
 ) -> Result<Next<'a>, AllocError>
     ensures { IfOk result (λ next. (p : Program) (b : Bytes) →
         Comes p m.new.frames.items next (world m.new b)
-        (resumed p m.old.frames.items (tag done_tag (with (k.let_values (full p) (t.define (definition first.now) (definitions_in others.now)) (env_in rest.entry.here) (world m.old b)) (λ ss w. bound_then p rest.entry ss w))))) }
+        (resumed p m.old.frames.items (tag done_tag (with (k.let_values (full p) (t.define (definition first.now) (definitions_in others.now)) (env_in rest.entry.value.here) (world m.old b)) (λ ss w. bound_then p rest.entry.value ss w))))) }
 {
-    let Let {
-        starts,
-        defs: _,
-        here,
-        behind,
-        decls,
-        commands,
-    } = rest;
-    define_one(
-        m,
-        first,
-        Let {
-            starts,
-            defs: others,
-            here,
-            behind,
-            decls,
-            commands,
-        },
-    )
+    let mut rest = rest;
+    rest.defs = others;
+    define_one(m, first, rest)
 }
 
 /// The variables of a LET, and what is after it.
-fn begin_scope<'a>(m: &mut Machine<'a>, rest: Let<'a>) -> Result<Next<'a>, AllocError>
+fn begin_scope<'a>(m: &mut Machine<'a>, rest: Box<Let<'a>>) -> Result<Next<'a>, AllocError>
     ensures { IfOk result (λ next. (p : Program) (b : Bytes) →
         Comes p m.new.frames.items next (world m.new b)
-        (resumed p m.old.frames.items (tag done_tag (bound_then p rest.entry [] (world m.old b))))) }
+        (resumed p m.old.frames.items (tag done_tag (bound_then p rest.entry.value [] (world m.old b))))) }
 {
-    let Let {
-        starts,
-        defs: _,
-        here: _,
-        behind,
-        decls,
-        commands,
-    } = rest;
-    let inside = bind_starts(m.alloc, &mut m.store, &starts, behind)?;
-    Ok(Next::Declare(decls, commands, inside))
+    let behind = rest.behind.again()?;
+    let inside = bind_starts(m.alloc, &mut m.store, &rest.starts, behind)?;
+    Ok(Next::Declare(rest.decls, rest.commands, inside))
 }
 
 /// A definition, and those after it.
 fn define_one<'a>(
     m: &mut Machine<'a>,
     first: &'a Def,
-    rest: Let<'a>,
+    rest: Box<Let<'a>>,
 ) -> Result<Next<'a>, AllocError>
     ensures { IfOk result (λ next. (p : Program) (b : Bytes) →
         Comes p m.new.frames.items next (world m.new b)
-        (resumed p m.old.frames.items (tag done_tag (with (k.let_values (full p) (t.define (definition first.now) (definitions_in rest.entry.defs.now)) (env_in rest.entry.here) (world m.old b)) (λ ss w. bound_then p rest.entry ss w))))) }
+        (resumed p m.old.frames.items (tag done_tag (with (k.let_values (full p) (t.define (definition first.now) (definitions_in rest.entry.value.defs.now)) (env_in rest.entry.value.here) (world m.old b)) (λ ss w. bound_then p rest.entry.value ss w))))) }
 {
     let count = count_def(first)?;
     let there = rest.here.again()?.behind(count)?;
@@ -183,26 +165,13 @@ fn define_one<'a>(
 }
 
 /// Behind a procedure.
-fn pass<'a>(there: Env<'a>, rest: Let<'a>) -> Next<'a>
+fn pass<'a>(there: Env<'a>, rest: Box<Let<'a>>) -> Next<'a>
     ensures { (p : Program) (fs : List Frame) (w : World) → Comes p fs result w (resumed p fs (tag done_tag
-        (with (k.let_values (full p) (definitions_in rest.entry.defs.now) (env_in there.entry) w) (λ ss w. bound_then p rest.entry ss w)))) }
+        (with (k.let_values (full p) (definitions_in rest.entry.value.defs.now) (env_in there.entry) w) (λ ss w. bound_then p rest.entry.value ss w)))) }
 {
-    let Let {
-        starts,
-        defs,
-        here: _,
-        behind,
-        decls,
-        commands,
-    } = rest;
-    Next::Define(Let {
-        starts,
-        defs,
-        here: there,
-        behind,
-        decls,
-        commands,
-    })
+    let mut rest = rest;
+    rest.here = there;
+    Next::Define(rest)
 }
 
 /// Variables, whose values take a turn.
@@ -212,39 +181,22 @@ fn variables<'a>(
     names: &'a [Name],
     inits: &'a [Init],
     there: Env<'a>,
-    rest: Let<'a>,
+    rest: Box<Let<'a>>,
 ) -> Next<'a>
     ensures { (p : Program) (b : Bytes) → Comes p m.new.frames.items result (world m.new b) (resumed p m.old.frames.items (tag done_tag
-        (turn (world m.old b) (variables_then p (starts_in inits.now) (letters_in names.now) (env_in there.entry) rest.entry)))) }
+        (turn (world m.old b) (variables_then p (starts_in inits.now) (letters_in names.now) (env_in there.entry) rest.entry.value)))) }
 {
     if m.turns == 0 {
         return Next::Going(line);
     }
     m.turns -= 1;
-    let Let {
-        starts,
-        defs,
-        here,
-        behind,
-        decls,
-        commands,
-    } = rest;
-    Next::Starts(
-        inits,
-        here,
-        names,
-        Let {
-            starts,
-            defs,
-            here: there,
-            behind,
-            decls,
-            commands,
-        },
-    )
+    let mut rest = rest;
+    let here = replace(&mut rest.here, there);
+    Next::Starts(inits, here, names, rest)
 }
 
 /// Variables: each is an object of one cell.
+#[inline(never)]
 fn bind_starts<'a>(
     alloc: Global,
     store: &mut Store,
@@ -263,16 +215,17 @@ fn bind_starts<'a>(
 }
 
 /// What variables begin with, from one of them on.
+#[inline(never)]
 pub fn starts<'a>(
     m: &mut Machine<'a>,
     inits: &'a [Init],
     here: Env<'a>,
     names: &'a [Name],
-    rest: Let<'a>,
+    rest: Box<Let<'a>>,
 ) -> Result<Next<'a>, AllocError>
     ensures { IfOk result (λ next. (p : Program) (b : Bytes) →
         Comes p m.new.frames.items next (world m.new b)
-        (resumed p m.old.frames.items (tag done_tag (starting_then p (starts_in inits.now) (env_in here.entry) (letters_in names.now) rest.entry (world m.old b))))) }
+        (resumed p m.old.frames.items (tag done_tag (starting_then p (starts_in inits.now) (env_in here.entry) (letters_in names.now) rest.entry.value (world m.old b))))) }
 {
     match inits.split_first() {
         None => Ok(no_start(names, rest)),
@@ -281,8 +234,8 @@ pub fn starts<'a>(
 }
 
 /// Where no variable is left.
-fn no_start<'a>(names: &'a [Name], rest: Let<'a>) -> Next<'a>
-    ensures { (p : Program) (fs : List Frame) (w : World) → Comes p fs result w (resumed p fs (tag done_tag (started_then p rest.entry (letters_in names.now) [] w))) }
+fn no_start<'a>(names: &'a [Name], rest: Box<Let<'a>>) -> Next<'a>
+    ensures { (p : Program) (fs : List Frame) (w : World) → Comes p fs result w (resumed p fs (tag done_tag (started_then p rest.entry.value (letters_in names.now) [] w))) }
 {
     match names.split_first() {
         None => Next::Define(rest),
@@ -297,11 +250,11 @@ fn start_one<'a>(
     others: &'a [Init],
     here: Env<'a>,
     names: &'a [Name],
-    rest: Let<'a>,
+    rest: Box<Let<'a>>,
 ) -> Result<Next<'a>, AllocError>
     ensures { IfOk result (λ next. (p : Program) (b : Bytes) →
         Comes p m.new.frames.items next (world m.new b)
-        (resumed p m.old.frames.items (tag done_tag (starting_then p (starts_in (first.now ∷ others.now)) (env_in here.entry) (letters_in names.now) rest.entry (world m.old b))))) }
+        (resumed p m.old.frames.items (tag done_tag (starting_then p (starts_in (first.now ∷ others.now)) (env_in here.entry) (letters_in names.now) rest.entry.value (world m.old b))))) }
 {
     match first {
         Init::Value(value) => start_value(m, value, others, here, names, rest),
@@ -316,11 +269,11 @@ fn start_value<'a>(
     others: &'a [Init],
     here: Env<'a>,
     names: &'a [Name],
-    rest: Let<'a>,
+    rest: Box<Let<'a>>,
 ) -> Result<Next<'a>, AllocError>
     ensures { IfOk result (λ next. (p : Program) (b : Bytes) →
         Comes p m.new.frames.items next (world m.new b)
-        (resumed p m.old.frames.items (tag done_tag (starting_then p (t.value (expression value.now) (starts_in others.now)) (env_in here.entry) (letters_in names.now) rest.entry (world m.old b))))) }
+        (resumed p m.old.frames.items (tag done_tag (starting_then p (t.value (expression value.now) (starts_in others.now)) (env_in here.entry) (letters_in names.now) rest.entry.value (world m.old b))))) }
 {
     let count = count(value)?;
     let behind = here.again()?.behind(count)?;
@@ -335,11 +288,11 @@ fn vector<'a>(
     others: &'a [Init],
     here: Env<'a>,
     names: &'a [Name],
-    rest: Let<'a>,
+    rest: Box<Let<'a>>,
 ) -> Result<Next<'a>, AllocError>
     ensures { IfOk result (λ next. (p : Program) (b : Bytes) →
         Comes p m.new.frames.items next (world m.new b)
-        (resumed p m.old.frames.items (tag done_tag (turn (world m.old b) (vector_then p (constant_in (env_in here.entry) (expression size.now)) (starts_in others.now) (env_in here.entry) (letters_in names.now) rest.entry))))) }
+        (resumed p m.old.frames.items (tag done_tag (turn (world m.old b) (vector_then p (constant_in (env_in here.entry) (expression size.now)) (starts_in others.now) (env_in here.entry) (letters_in names.now) rest.entry.value))))) }
 {
     if m.turns == 0 {
         return Ok(Next::Going(line));
@@ -357,11 +310,11 @@ fn make_vector<'a>(
     others: &'a [Init],
     here: Env<'a>,
     names: &'a [Name],
-    rest: Let<'a>,
+    rest: Box<Let<'a>>,
 ) -> Result<Next<'a>, AllocError>
     ensures { IfOk result (λ next. (p : Program) (b : Bytes) →
         Comes p m.new.frames.items next (world m.new b)
-        (resumed p m.old.frames.items (tag done_tag (vector_then p last (starts_in others.now) (env_in here.entry) (letters_in names.now) rest.entry (world m.old b))))) }
+        (resumed p m.old.frames.items (tag done_tag (vector_then p last (starts_in others.now) (env_in here.entry) (letters_in names.now) rest.entry.value (world m.old b))))) }
 {
     match last {
         None => Ok(Next::Undefined(Subject::Expr(size), Reason::NoNumber(Worth::Unset))),
@@ -375,44 +328,26 @@ fn make_vector<'a>(
 }
 
 /// A value for the next of these names.
+#[inline(never)]
 pub fn named<'a>(
     inits: &'a [Init],
     here: Env<'a>,
     names: &'a [Name],
     value: Worth,
-    rest: Let<'a>,
+    rest: Box<Let<'a>>,
 ) -> Result<Next<'a>, AllocError>
     ensures { IfOk result (λ next. (p : Program) (fs : List Frame) (w : World) → Comes p fs next w
-        (resumed p fs (tag done_tag (with (with (k.starts (full p) (starts_in inits.now) (env_in here.entry) w) (λ vs w. gives (value_in value ∷ vs) w)) (λ vs w. started_then p rest.entry (letters_in names.now) vs w))))) }
+        (resumed p fs (tag done_tag (with (with (k.starts (full p) (starts_in inits.now) (env_in here.entry) w) (λ vs w. gives (value_in value ∷ vs) w)) (λ vs w. started_then p rest.entry.value (letters_in names.now) vs w))))) }
 {
     match names.split_first() {
         None => Ok(Next::Starts(inits, here, names, rest)),
         Some((first, others)) => {
-            let Let {
-                mut starts,
-                defs,
-                here: there,
-                behind,
-                decls,
-                commands,
-            } = rest;
-            starts.push(Start {
+            let mut rest = rest;
+            rest.starts.push(Start {
                 name: &first.letters,
                 value,
             })?;
-            Ok(Next::Starts(
-                inits,
-                here,
-                others,
-                Let {
-                    starts,
-                    defs,
-                    here: there,
-                    behind,
-                    decls,
-                    commands,
-                },
-            ))
+            Ok(Next::Starts(inits, here, others, rest))
         }
     }
 }

@@ -89,6 +89,7 @@ fn body<'a>(m: &mut Machine<'a>, body: Body<'a>, env: Env<'a>) -> Result<Next<'a
 }
 
 /// A procedure that is called.
+#[inline(never)]
 fn enter<'a>(
     m: &mut Machine<'a>,
     procedure: &Procedure<'a>,
@@ -118,6 +119,7 @@ fn no_procedure<'a>(line: Line, expr: Option<&'a Expr>, callee: Worth) -> Next<'
 }
 
 /// What is called.
+#[inline(never)]
 fn called<'a>(
     m: &mut Machine<'a>,
     program: &[Lasting<'a>],
@@ -143,6 +145,7 @@ fn called<'a>(
 }
 
 /// A call. While it runs a further call is active.
+#[inline(never)]
 pub fn call<'a>(
     m: &mut Machine<'a>,
     program: &[Lasting<'a>],

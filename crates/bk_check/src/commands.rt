@@ -29,6 +29,7 @@ use bk_tree::{Command, Decl, Expr, Name, Simple};
 use std::alloc::AllocError;
 
 /// A command that is done.
+#[inline(never)]
 pub fn act<'a>(
     m: &mut Machine<'a>,
     command: &'a Command,
@@ -104,6 +105,7 @@ fn step_of(env: &Env, by: &Option<Box<Expr>>) -> Option<u32>
 }
 
 /// `Es := Es`
+#[inline(never)]
 fn assign<'a>(
     m: &mut Machine<'a>,
     dests: &'a [Expr],
@@ -119,6 +121,7 @@ fn assign<'a>(
 }
 
 /// A command that is a call.
+#[inline(never)]
 fn call_command<'a>(
     m: &mut Machine<'a>,
     line: Line,
@@ -135,6 +138,7 @@ fn call_command<'a>(
 }
 
 /// FOR.
+#[inline(never)]
 fn for_command<'a>(
     m: &mut Machine<'a>,
     name: &'a Name,
@@ -158,6 +162,7 @@ fn for_command<'a>(
 }
 
 /// SWITCHON.
+#[inline(never)]
 fn switch<'a>(
     m: &mut Machine<'a>,
     value: &'a Expr,
@@ -177,6 +182,7 @@ fn switch<'a>(
 }
 
 /// IF (true) or UNLESS (false).
+#[inline(never)]
 fn when<'a>(
     m: &mut Machine<'a>,
     truth: bool,
@@ -197,6 +203,7 @@ fn when<'a>(
 }
 
 /// WHILE (true) or UNTIL (false).
+#[inline(never)]
 fn while_command<'a>(
     m: &mut Machine<'a>,
     command: &'a Command,
@@ -232,6 +239,7 @@ fn simple<'a>(word: Simple) -> Next<'a>
 }
 
 /// TEST.
+#[inline(never)]
 fn test<'a>(
     m: &mut Machine<'a>,
     condition: &'a Expr,
@@ -259,6 +267,7 @@ fn test<'a>(
 }
 
 /// Assignments, one after another.
+#[inline(never)]
 pub fn assigned<'a>(
     m: &mut Machine<'a>,
     dests: &'a [Expr],
@@ -283,6 +292,7 @@ pub fn assigned<'a>(
 }
 
 /// Commands in order. Seeking passes over those in which the place does not stand.
+#[inline(never)]
 pub fn in_order<'a>(
     m: &mut Machine<'a>,
     commands: &'a [Command],
@@ -312,6 +322,7 @@ pub fn in_order<'a>(
 }
 
 /// The commands of a scope, which owns their labels.
+#[inline(never)]
 pub fn scope<'a>(
     m: &mut Machine<'a>,
     commands: &'a [Command],
@@ -329,6 +340,7 @@ pub fn scope<'a>(
 }
 
 /// A block. One with declarations is a scope, and its objects die after it.
+#[inline(never)]
 fn block<'a>(
     m: &mut Machine<'a>,
     decls: &'a [Decl],
@@ -350,6 +362,7 @@ fn block<'a>(
 }
 
 /// The command of a SWITCHON, from the CASE of a value, else from the DEFAULT.
+#[inline(never)]
 pub fn choose_case<'a>(
     m: &mut Machine<'a>,
     expr: &'a Expr,

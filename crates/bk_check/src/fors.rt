@@ -110,6 +110,7 @@ fn add_step(store: &mut Store, object: u64, step: u32) -> Stepped
 }
 
 /// A FOR whose first value, limit and step are known.
+#[inline(never)]
 pub fn begin_for<'a>(
     m: &mut Machine<'a>,
     name: &'a Name,
@@ -185,6 +186,7 @@ fn first_round<'a>(m: &mut Machine<'a>, run: For<'a>) -> Result<Next<'a>, AllocE
 }
 
 /// The rounds of a FOR, from one on.
+#[inline(never)]
 fn for_round<'a>(m: &mut Machine<'a>, run: For<'a>) -> Result<Next<'a>, AllocError>
     ensures { IfOk result (λ next. (p : Program) (b : Bytes) →
         Comes p m.new.frames.items next (world m.new b)
@@ -227,6 +229,7 @@ fn test_again<'a>(m: &mut Machine<'a>, run: For<'a>) -> Result<Next<'a>, AllocEr
 }
 
 /// Behind a round of a FOR.
+#[inline(never)]
 pub fn next_for<'a>(m: &mut Machine<'a>, run: For<'a>) -> Result<Next<'a>, AllocError>
     ensures { IfOk result (λ next. (p : Program) (b : Bytes) →
         Comes p m.new.frames.items next (world m.new b)

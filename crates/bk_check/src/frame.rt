@@ -105,7 +105,7 @@ pub enum OnValue<'a> {
     /// Its limit.
     ForLimit(&'a Name, Env<'a>, Worth, &'a Command, Option<u32>),
     /// What a variable of LET begins with: what those after it begin with, and the names from this one on.
-    Starts(&'a [Init], Env<'a>, &'a [Name], Let<'a>),
+    Starts(&'a [Init], Env<'a>, &'a [Name], Box<Let<'a>>),
 }
 
 /// What goes on with a truth.
@@ -215,9 +215,9 @@ pub enum Next<'a> {
     /// The declarations of a block, and its commands.
     Declare(&'a [Decl], &'a [Command], Env<'a>),
     /// The definitions that are left of a LET.
-    Define(Let<'a>),
+    Define(Box<Let<'a>>),
     /// What variables begin with, and their names.
-    Starts(&'a [Init], Env<'a>, &'a [Name], Let<'a>),
+    Starts(&'a [Init], Env<'a>, &'a [Name], Box<Let<'a>>),
     Gives(Thing),
     Leaves(Exit<'a>),
     /// A routine of the library is called.

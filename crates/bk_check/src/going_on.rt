@@ -39,11 +39,7 @@ fn with_value<'a>(
     match frame {
         OnValue::Contents(expr) => Ok(m.fetched(expr, x)),
         OnValue::Prefix(expr, prefix) => Ok(came(expr, prefixed(prefix, x))),
-        OnValue::Left(expr, operator, b, env) => m.first_value(
-            OnValue::Right(expr, operator, x),
-            b,
-            env,
-        ),
+        OnValue::Left(expr, operator, b, env) => m.second(expr, operator, x, b, env),
         OnValue::Right(expr, operator, first) => Ok(m.combined(expr, operator, first, x)),
         OnValue::Judge(expr) => Ok(m.truth_given(expr, x)),
         OnValue::At => Ok(Next::Gives(Thing::Target(Place::Cell(x)))),
@@ -73,6 +69,7 @@ fn with_value<'a>(
 }
 
 /// A value goes to the first of these destinations; the assignments after it.
+#[inline(never)]
 fn put_first<'a>(
     m: &mut Machine<'a>,
     x: Worth,
@@ -99,6 +96,7 @@ fn put_first<'a>(
 }
 
 /// What goes on with a truth.
+#[inline(never)]
 fn with_truth<'a>(m: &mut Machine<'a>, frame: OnTruth<'a>, x: bool) -> Result<Next<'a>, AllocError>
     ensures { IfOk result (λ next. (p : Program) (b : Bytes) →
         Comes p m.new.frames.items next (world m.new b)
@@ -151,6 +149,7 @@ fn with_truth<'a>(m: &mut Machine<'a>, frame: OnTruth<'a>, x: bool) -> Result<Ne
 }
 
 /// What goes on with a place.
+#[inline(never)]
 fn with_target<'a>(
     m: &mut Machine<'a>,
     frame: OnTarget<'a>,
@@ -173,6 +172,7 @@ fn with_target<'a>(
 }
 
 /// What goes on after a command.
+#[inline(never)]
 fn with_done<'a>(m: &mut Machine<'a>, frame: OnDone<'a>) -> Result<Next<'a>, AllocError>
     ensures { IfOk result (λ next. (p : Program) (b : Bytes) →
         Comes p m.new.frames.items next (world m.new b)
@@ -191,6 +191,7 @@ fn with_done<'a>(m: &mut Machine<'a>, frame: OnDone<'a>) -> Result<Next<'a>, All
 }
 
 /// Where a part is left, and this goes on.
+#[inline(never)]
 fn with_exit<'a>(
     m: &mut Machine<'a>,
     frame: OnDone<'a>,
@@ -298,6 +299,7 @@ fn lands_alone<'a>(
 }
 
 /// What a frame does not go on with.
+#[inline(never)]
 fn wrong<'a>() -> Result<Next<'a>, AllocError>
     ensures { IfOk result (λ next. (p : Program) (fs : List Frame) (w : World) → Comes p fs next w (resumed p fs undefined)) }
 {
@@ -410,6 +412,7 @@ fn frame_with<'a>(
 }
 
 /// A frame goes on where a part is left.
+#[inline(never)]
 fn frame_left<'a>(
     m: &mut Machine<'a>,
     frame: Frame<'a>,
@@ -433,6 +436,7 @@ fn frame_left<'a>(
 }
 
 /// What was given goes to the innermost frame.
+#[inline(never)]
 pub fn given<'a>(
     m: &mut Machine<'a>,
     program: &[Lasting<'a>],
@@ -449,6 +453,7 @@ pub fn given<'a>(
 }
 
 /// An exit goes to the innermost frame.
+#[inline(never)]
 pub fn left<'a>(m: &mut Machine<'a>, exit: Exit<'a>) -> Result<Next<'a>, AllocError>
     ensures { IfOk result (λ next. (p : Program) (b : Bytes) →
         Comes p m.new.frames.items next (world m.new b)

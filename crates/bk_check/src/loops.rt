@@ -20,6 +20,7 @@ use bk_tree::{Command, Expr};
 use std::alloc::AllocError;
 
 /// A round of a loop, and those after it.
+#[inline(never)]
 pub fn round<'a>(
     m: &mut Machine<'a>,
     command: &'a Command,
@@ -87,6 +88,7 @@ fn repeat_round<'a>(
 }
 
 /// A further round of a loop, which takes a turn.
+#[inline(never)]
 pub fn further_round<'a>(
     m: &mut Machine<'a>,
     command: &'a Command,
@@ -137,6 +139,7 @@ fn next_repeat_while<'a>(
 }
 
 /// The rounds of a loop after one.
+#[inline(never)]
 pub fn next_round<'a>(
     m: &mut Machine<'a>,
     command: &'a Command,

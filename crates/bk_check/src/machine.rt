@@ -1,5 +1,5 @@
 //! Expressions: what a machine does for a value, a truth or a place.
-ghost use Rattle.std.specs.Prelude.{◌≡◌, IfOk, List};
+ghost use Rattle.std.specs.Prelude.{◌≡◌, IfOk, IfSome, ◌<◌, ◌-◌, List};
 ghost use Rattle.std.specs.Option.{option_map};
 ghost use Rattle.bk_tree.specs.Tree.{expression, expressions_in, action};
 ghost use Rattle.bk_meaning.specs.World.{World, gives, given, with};
@@ -8,6 +8,7 @@ ghost use Rattle.bk_meaning.specs.Parts;
 ghost use Rattle.bk_meaning.specs.Seeking.{forwards};
 ghost use Rattle.bk_meaning.specs.Scopes.{in_order, scope_of, alone};
 ghost use Rattle.bk_meaning.specs.Calls.{applied};
+ghost use Rattle.bk_meaning.specs.Environment.{objects, past};
 ghost use Rattle.bk_meaning.specs.Operators.{sum as sum_of};
 ghost use Rattle.bk_meaning.specs.Expressions.{value_of, truth_of, target_of, result_of, judged, combined as combination};
 ghost use Rattle.bk_meaning.specs.Full.{full};
@@ -49,7 +50,109 @@ pub fn came<'a>(expr: &'a Expr, came: Computed) -> Next<'a>
     }
 }
 
+/// The value of a name that means this, if it has one.
+fn known_name(store: &Store, sense: Option<Sense>) -> Option<Worth>
+    ensures { IfSome result (λ x. (w : World) → w.memory ≡ store.now → Parts.named (option_map sense_in sense) w ≡ gives (value_in x) w) }
+{
+    match sense {
+        Some(Sense::Constant(word)) => Some(Worth::Number(word)),
+        Some(Sense::Cell(object, offset)) => match read(store, Worth::Address(object, offset)) {
+            Computed::Value(x) => Some(x),
+            Computed::DivideByZero | Computed::Undefined(_) => None,
+        },
+        Some(Sense::Label) | Some(Sense::Foreign) | None => None,
+    }
+}
+
+/// The value of an expression that is a name or a number, if it has one.
+fn known(store: &Store, expr: &Expr, env: &Env) -> Option<Worth>
+    ensures value { IfSome result (λ x. (p : Program) (w : World) → w.memory ≡ store.now → value_of p (full p) (expression expr.now) (env_in env.now) w ≡ gives (value_in x) w) }
+    ensures lasting { IfSome result (λ _. objects (expression expr.now) ≡ 0) }
+{
+    match expr {
+        Expr::Number(_, number) => Some(Worth::Number(*number)),
+        Expr::Name(_, name) => known_name(store, env.sense(name)),
+        _ => None,
+    }
+}
+
 impl<'a> Machine<'a> {
+    /// The value of a name or a number, for which no frame is needed. Where it has none, or no turn is left, the way by a frame
+    /// says why.
+    fn leaf(&self, expr: &Expr, env: &Env) -> Option<Worth>
+        ensures left { IfSome result (λ _. 0 < self.now.turns) }
+        ensures value { IfSome result (λ x. (p : Program) (b : Bytes) → (full p).value (expression expr.now) (env_in env.now) (world self.now b) ≡ gives (value_in x) (record (world self.now b) { turns = self.now.turns - 1 })) }
+        ensures lasting { IfSome result (λ _. objects (expression expr.now) ≡ 0) }
+    {
+        if self.turns == 0 {
+            return None;
+        }
+        known(&self.store, expr, env)
+    }
+
+    /// The operands of an operator, and what it gives.
+    fn operands(
+        &mut self,
+        expr: &'a Expr,
+        operator: Operator,
+        a: &'a Expr,
+        b: &'a Expr,
+        env: Env<'a>,
+    ) -> Result<Next<'a>, AllocError>
+        ensures { IfOk result (λ next. (p : Program) (bytes : Bytes) →
+            Comes p self.new.frames.items next (world self.new bytes)
+            (resumed p self.old.frames.items (tag a_value (with ((full p).value (expression a.now) (env_in env.entry) (world self.old bytes))
+            (λ x w. with ((full p).value (expression b.now) (past (expression a.now) (env_in env.entry)) w) (combination operator x)))))) }
+    {
+        match self.leaf(a, &env) {
+            Some(x) => {
+                self.turns -= 1;
+                self.second(expr, operator, x, b, env)
+            }
+            None => self.first(expr, operator, a, b, env),
+        }
+    }
+
+    /// The first operand of an operator, by a frame.
+    fn first(
+        &mut self,
+        expr: &'a Expr,
+        operator: Operator,
+        a: &'a Expr,
+        b: &'a Expr,
+        env: Env<'a>,
+    ) -> Result<Next<'a>, AllocError>
+        ensures { IfOk result (λ next. (p : Program) (bytes : Bytes) →
+            Comes p self.new.frames.items next (world self.new bytes)
+            (resumed p self.old.frames.items (tag a_value (with ((full p).value (expression a.now) (env_in env.entry) (world self.old bytes))
+            (λ x w. with ((full p).value (expression b.now) (past (expression a.now) (env_in env.entry)) w) (combination operator x)))))) }
+    {
+        let behind = env.again()?.behind(count(a)?)?;
+        self.first_value(OnValue::Left(expr, operator, b, behind), a, env)
+    }
+
+    /// The second operand of an operator, and what it gives.
+    pub fn second(
+        &mut self,
+        expr: &'a Expr,
+        operator: Operator,
+        x: Worth,
+        b: &'a Expr,
+        env: Env<'a>,
+    ) -> Result<Next<'a>, AllocError>
+        ensures { IfOk result (λ next. (p : Program) (bytes : Bytes) →
+            Comes p self.new.frames.items next (world self.new bytes)
+            (resumed p self.old.frames.items (tag a_value (with ((full p).value (expression b.now) (env_in env.entry) (world self.old bytes)) (combination operator (value_in x)))))) }
+    {
+        match self.leaf(b, &env) {
+            Some(y) => {
+                self.turns -= 1;
+                Ok(self.combined(expr, operator, x, y))
+            }
+            None => self.first_value(OnValue::Right(expr, operator, x), b, env),
+        }
+    }
+
     /// A value is asked for, and this frame goes on with it.
     pub fn first_value(
         &mut self,
@@ -139,10 +242,7 @@ impl<'a> Machine<'a> {
                 ),
                 Prefix::Not => self.first_value(OnValue::Prefix(expr, Prefix::Not), operand, env),
             },
-            Expr::Binary(_, operator, _, a, b) => {
-                let behind = env.again()?.behind(count(a)?)?;
-                self.first_value(OnValue::Left(expr, *operator, b, behind), a, env)
-            }
+            Expr::Binary(_, operator, _, a, b) => self.operands(expr, *operator, a, b, env),
             Expr::Choice(_, _, c, a, b) => {
                 let behind = env.again()?.behind(count(c)?)?;
                 self.first_truth(OnTruth::Choice(a, b, behind), c, env)
@@ -161,6 +261,7 @@ impl<'a> Machine<'a> {
     }
 
     /// An operator between two values.
+    #[inline(never)]
     pub fn combined(&self, expr: &'a Expr, operator: Operator, x: Worth, y: Worth) -> Next<'a>
         ensures { (p : Program) (b : Bytes) → Comes p self.now.frames.items result (world self.now b)
             (resumed p self.now.frames.items (tag a_value (combination operator (value_in x) (value_in y) (world self.now b)))) }
@@ -206,6 +307,7 @@ impl<'a> Machine<'a> {
     }
 
     /// The arguments, and then the procedure.
+    #[inline(never)]
     pub fn apply(
         &mut self,
         line: Line,
@@ -222,6 +324,7 @@ impl<'a> Machine<'a> {
     }
 
     /// The arguments that are left, after those before.
+    #[inline(never)]
     pub fn arguments(
         &mut self,
         line: Line,
@@ -249,6 +352,7 @@ impl<'a> Machine<'a> {
     }
 
     /// The command of a VALOF.
+    #[inline(never)]
     fn valof(&mut self, command: &'a Command, env: Env<'a>) -> Result<Next<'a>, AllocError>
         ensures { IfOk result (λ next. (p : Program) (b : Bytes) →
             Comes p self.new.frames.items next (world self.new b)
@@ -259,6 +363,7 @@ impl<'a> Machine<'a> {
     }
 
     /// One command as a scope of its own, from its beginning or from a place in it that is sought.
+    #[inline(never)]
     pub fn alone(
         &mut self,
         command: &'a Command,
@@ -276,6 +381,7 @@ impl<'a> Machine<'a> {
     }
 
     /// An expression that is judged by its value.
+    #[inline(never)]
     fn judged(&mut self, expr: &'a Expr, env: Env<'a>) -> Result<Next<'a>, AllocError>
         ensures { IfOk result (λ next. (p : Program) (b : Bytes) →
             Comes p self.new.frames.items next (world self.new b)
@@ -286,6 +392,7 @@ impl<'a> Machine<'a> {
     }
 
     /// An expression whose value is asked for.
+    #[inline(never)]
     pub fn value(&mut self, expr: &'a Expr, env: Env<'a>) -> Result<Next<'a>, AllocError>
         ensures { IfOk result (λ next. (p : Program) (b : Bytes) →
             Comes p self.new.frames.items next (world self.new b)
@@ -299,6 +406,7 @@ impl<'a> Machine<'a> {
     }
 
     /// An expression whose truth is asked for.
+    #[inline(never)]
     pub fn truth(&mut self, expr: &'a Expr, env: Env<'a>) -> Result<Next<'a>, AllocError>
         ensures { IfOk result (λ next. (p : Program) (b : Bytes) →
             Comes p self.new.frames.items next (world self.new b)
@@ -312,6 +420,7 @@ impl<'a> Machine<'a> {
     }
 
     /// A destination.
+    #[inline(never)]
     pub fn target(&mut self, expr: &'a Expr, env: Env<'a>) -> Result<Next<'a>, AllocError>
         ensures { IfOk result (λ next. (p : Program) (b : Bytes) →
             Comes p self.new.frames.items next (world self.new b)

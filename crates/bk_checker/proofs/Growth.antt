@@ -1,28 +1,26 @@
 -- What was written begins what is written then, whatever is still to be done.
-use Rattle.std.proofs.Common.{◌≡◌, ℕ, suc, ◌≤◌, Bool, not, Option, List, [], ◌∷◌, ◌++◌, map, arith}
+use Rattle.std.proofs.Common.{ℕ, suc, Bool, not, Option, List, [], ◌∷◌, ◌++◌, map, arith}
 use Rattle.bk_tree.specs.Tree as t
 use Rattle.bk_tree.specs.Tree.{Expression, Expressions, Action, Actions, Declarations, Starts, expression, expressions_in, action, actions_in, declarations_in, definitions_in, starts_in}
 use Rattle.bk_meaning.specs.Values.{Value, unset}
-use Rattle.bk_meaning.specs.Memory.{Memory}
-use Rattle.bk_meaning.specs.World.{World, Exit, break, loop, return, result, Outcome, gives, leaves, ends, undefined, going, each_way, with, given, either, Done, done, turn}
+use Rattle.bk_meaning.specs.World.{World, Exit, break, loop, result, Outcome, gives, leaves, ends, undefined, going, with, given, either, Done, done}
 use Rattle.bk_meaning.specs.Environment.{Environment, past, past_action}
 use Rattle.bk_meaning.specs.Operators.{sum}
 use Rattle.bk_meaning.specs.Seeking.{the_label, Mode, forwards, seeking}
 use Rattle.bk_meaning.specs.Lasting.{Program}
-use Rattle.bk_meaning.specs.Parts.{Target, at, byte_at, fetch, store}
-use Rattle.bk_meaning.specs.Calls.{values, call}
-use Rattle.bk_meaning.specs.Loops.{same_truth, rounds_of, for_loop, where_truth, round_exit}
+use Rattle.bk_meaning.specs.Parts.{Target, at, byte_at}
+use Rattle.bk_meaning.specs.Calls.{call}
+use Rattle.bk_meaning.specs.Loops.{same_truth, for_loop, round_exit}
 use Rattle.bk_meaning.specs.Blocks as b
 use Rattle.bk_meaning.specs.Blocks.{make_vec}
 use Rattle.bk_meaning.specs.Scopes.{alone}
-use Rattle.bk_meaning.specs.Expressions.{judged}
 use Rattle.bk_meaning.specs.Growing.{History, history, Grows, After}
 use Rattle.bk_meaning.specs.Full.{full}
-use Rattle.bk_meaning.proofs.After.{stays, earlier, Adds, adds, with_after, each_way_after, given_after, either_after, turn_after, closing_after}
+use Rattle.bk_meaning.proofs.After.{stays, earlier, Adds, adds, with_after, each_way_after, given_after, either_after}
 use Rattle.bk_meaning.proofs.Ties.{Ties, ties, ties_add}
-use Rattle.bk_meaning.proofs.NodeTies.{AllTied, done_ties, fetch_ties, combined_ties, operate_prefix_ties, judged_ties, address_in_ties, values_ties, call_ties, assigned_ties, store_ties, choose_case_ties, rounds_of_ties, for_loop_ties, for_test_ties, for_step_ties, where_truth_ties, turn_ties, round_exit_ties, in_order_ties, landing_ties, result_ties, return_ties, case_exit_ties, starts_ties, let_values_ties, bind_variables_ties, declare_all_ties, scope_ties, make_vec_ties, library_ties}
+use Rattle.bk_meaning.proofs.NodeTies.{AllTied, done_ties, fetch_ties, combined_ties, operate_prefix_ties, judged_ties, address_in_ties, values_ties, call_ties, assigned_ties, store_ties, choose_case_ties, rounds_of_ties, for_loop_ties, for_test_ties, for_step_ties, where_truth_ties, turn_ties, in_order_ties, landing_ties, result_ties, return_ties, case_exit_ties, starts_ties, let_values_ties, bind_variables_ties, declare_all_ties, scope_ties, library_ties}
 use Rattle.bk_meaning.proofs.MeaningTies.{means_tied}
-use Rattle.bk_objects.specs.Views.{value_in, place_in, routine_in}
+use Rattle.bk_objects.specs.Views.{value_in, routine_in}
 use Rattle.bk_lasting.specs.Views.{env_in}
 use Rattle.bk_check.specs.declared.frame.OnValue.{OnValue}
 use Rattle.bk_check.specs.declared.frame.OnValue.TheVariants as v
@@ -39,7 +37,7 @@ use Rattle.bk_check.specs.declared.frame.Let.{Let}
 use Rattle.bk_check.specs.declared.frame.Next.{Next}
 use Rattle.bk_check.specs.declared.frame.Next.TheVariants as n
 use Rattle.bk_check.specs.Views.{letters_in, mode_in, start_in}
-use Rattle.bk_check.specs.Resume.{Given, a_value, a_truth, a_target, is_done, done_tag, tag, resume, resumed, resume_given, resume_left, resume_value, resume_truth, resume_target, resume_done, value_goes, truth_goes, target_goes, done_goes, done_left, lands, next_round, next_for, further_for, bound_then, defined_then, started_then, starting_then, declared_then, outcome_next, thing_in, exit_in, assigned_to}
+use Rattle.bk_check.specs.Resume.{Given, a_value, a_truth, a_target, is_done, done_tag, tag, resumed, resume_given, resume_left, value_goes, truth_goes, target_goes, done_goes, done_left, next_round, next_for, bound_then, defined_then, started_then, starting_then, declared_then, outcome_next, thing_in, exit_in, assigned_to}
 
 -- the meaning with no depth only adds to what is written
 full_tied : (p : Program) → AllTied (full p) (full p)
@@ -138,7 +136,7 @@ module _ (p : Program) where
   value_on (v.Switch e c env) x = tag_adds done_tag _ (ties_add _ _ (choose_case_ties (full p) (full p) g x (action c.now) (env_in env)))
   value_on (v.ForStart name e env c step) x = tag_adds done_tag _ (by _ _ (value (expression e.now) (env_in env)) (λ h. for_on name.now.letters.items (action c.now) (past (expression e.now) (env_in env)) step x h))
   value_on (v.ForLimit name env start c step) x = tag_adds done_tag _ (for_on name.now.letters.items (action c.now) (env_in env) step (value_in start) x)
-  value_on (v.Starts is here names l) x = tag_adds done_tag _ (by _ _ (by _ _ (ties_add _ _ (starts_ties (full p) (full p) g (starts_in is.now) (env_in here))) (λ vs. still (x ∷ vs))) (λ vs. started l (letters_in names.now) vs))
+  value_on (v.Starts is here names l) x = tag_adds done_tag _ (by _ _ (by _ _ (ties_add _ _ (starts_ties (full p) (full p) g (starts_in is.now) (env_in here))) (λ vs. still (x ∷ vs))) (λ vs. started l.value (letters_in names.now) vs))
 
   -- with a truth
   truth_on : (k : OnTruth) (x : Bool) → Adds (λ w. truth_goes p k (gives x w))
@@ -222,8 +220,8 @@ module _ (p : Program) where
   next_on (n.Act c mode env) = tag_adds done_tag _ (act (action c.now) (mode_in mode) (env_in env))
   next_on (n.InOrder cs mode env) = tag_adds done_tag _ (ties_add _ _ (in_order_ties (full p) (full p) g (actions_in cs.now) (mode_in mode) (env_in env)))
   next_on (n.Declare ds cs env) = tag_adds done_tag _ (by _ _ (ties_add _ _ (declare_all_ties (full p) (full p) g (declarations_in ds.now) (env_in env))) (λ env. ties_add _ _ (scope_ties (full p) (full p) g (actions_in cs.now) forwards env)))
-  next_on (n.Define l) = tag_adds done_tag _ (defined l)
-  next_on (n.Starts is here names l) = tag_adds done_tag _ (starting (starts_in is.now) (env_in here) (letters_in names.now) l)
+  next_on (n.Define l) = tag_adds done_tag _ (defined l.value)
+  next_on (n.Starts is here names l) = tag_adds done_tag _ (starting (starts_in is.now) (env_in here) (letters_in names.now) l.value)
   next_on (n.Gives t) = still (thing_in t)
   next_on (n.Leaves x) = left (exit_in x)
   next_on (n.Library line r vs) = tag_adds a_value _ (ties_add _ _ (library_ties (routine_in r) (map value_in vs.items)))

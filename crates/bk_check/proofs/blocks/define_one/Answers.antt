@@ -6,6 +6,7 @@ use Rattle.bk_tree.proofs.Trees.{Variables_is}
 use Rattle.bk_meaning.specs.World.{Outcome, Done}
 use Rattle.bk_meaning.specs.Environment.{Environment, objects_of_definition, behind, past_definition}
 use Rattle.bk_lasting.specs.Views.{env_in}
+use Rattle.bk_check.specs.declared.frame.Let.{Let}
 use Rattle.bk_check.specs.Worlds.{world}
 use Rattle.bk_check.specs.Resume.{tag, done_tag, resumed, bound_then}
 use Rattle.bk_check.proofs.Lets.{let_turn}
@@ -13,11 +14,12 @@ use Rattle.bk_check.proofs.blocks.define_one.Goals as goal
 
 pub returns-in-Variables : goal.returns-in-Variables
 returns-in-Variables c = λ p b.
-    let e : definition c.args.first.now ≡ variables c.in-Variables.line (map mention c.deref.result.now) (starts_in c.deref-in-Variables.result.now) =
+    let e : definition c.args.first.now ≡ variables c.in-Variables.line (map mention c.deref-in-Variables.result.now) (starts_in c.deref-in-Variables-2.result.now) =
     ap definition c.in-Variables.is ∙ Variables_is c.in-Variables.line c.in-Variables.names c.in-Variables.inits
-    ∙ sym (ap (λ (xs : List Name). variables c.in-Variables.line (map mention xs) (starts_in c.deref-in-Variables.result.now)) c.deref.ensures.value
-    ∙ ap (λ (xs : List Init). variables c.in-Variables.line (map mention c.in-Variables.names.items) (starts_in xs)) c.deref-in-Variables.ensures.value) in
-    let h : env_in c.in_ok-there.there ≡ past_definition (definition c.args.first.now) (env_in c.args.rest.here) =
-    c.in_ok-there.ensures ∙ ap (λ (n : ℕ). behind n (env_in c.in_ok-again.field-0)) c.in_ok-count.ensures ∙ ap (λ (x : Environment). behind (objects_of_definition (definition c.args.first.now)) x) c.in_ok-again.ensures in
+    ∙ sym (ap (λ (xs : List Name). variables c.in-Variables.line (map mention xs) (starts_in c.deref-in-Variables-2.result.now)) c.deref-in-Variables.ensures.value
+    ∙ ap (λ (xs : List Init). variables c.in-Variables.line (map mention c.in-Variables.names.items) (starts_in xs)) c.deref-in-Variables-2.ensures.value) in
+    let h : env_in c.in_ok-there.there ≡ past_definition (definition c.args.first.now) (env_in c.args.rest.value.here) =
+    c.in_ok-there.ensures ∙ ap (λ (n : ℕ). behind n (env_in c.in_ok-again.field-0)) c.in_ok-count.ensures ∙ ap (λ (x : Environment). behind (objects_of_definition (definition c.args.first.now)) x) c.in_ok-again.ensures
+    ∙ ap (λ (l : Let). behind (objects_of_definition (definition c.args.first.now)) (env_in l.here)) c.deref.ensures in
     c.variables.ensures p b ∙ ap (λ (u : Outcome Done). resumed p c.args.m.now.frames.items (tag done_tag u))
-    (let_turn p c.in-Variables.line (map mention c.deref.result.now) (starts_in c.deref-in-Variables.result.now) (definitions_in c.args.rest.defs.now) (env_in c.args.rest.here) (env_in c.in_ok-there.there) (λ ss w. bound_then p c.args.rest ss w) (world c.args.m.now b) (definition c.args.first.now) e h)
+    (let_turn p c.in-Variables.line (map mention c.deref-in-Variables.result.now) (starts_in c.deref-in-Variables-2.result.now) (definitions_in c.args.rest.value.defs.now) (env_in c.args.rest.value.here) (env_in c.in_ok-there.there) (λ ss w. bound_then p c.args.rest.value ss w) (world c.args.m.now b) (definition c.args.first.now) e h)

@@ -1,4 +1,4 @@
-use Rattle.std.proofs.Common.{◌≡◌, ◌∷◌, ap, ◌∙◌}
+use Rattle.std.proofs.Common.{◌≡◌, ◌∷◌, ap}
 use Rattle.bk_tree.specs.Tree.{starts_in}
 use Rattle.bk_meaning.specs.Values.{address}
 use Rattle.bk_meaning.specs.Memory.{made}
@@ -16,8 +16,8 @@ pub returns : goal.returns
 returns c =
     let mem : c.make_unset.new.self ≡ made (vec_cells c.in-Some.last) c.args.m.now.store = c.in_ok-make_unset-in-Some.ensures.made in
     meets_there c.named.result c.args.m.now.frames.items (λ b. record (world c.args.m.now b) { memory = c.make_unset.new.self })
-    (λ p w. with (with (starts (full p) (starts_in c.args.others.now) (env_in c.args.here) w) (λ vs w. gives (address c.made-object.result 0 ∷ vs) w)) (λ vs w. started_then p c.args.rest (letters_in c.args.names.now) vs w))
+    (λ p w. with (with (starts (full p) (starts_in c.args.others.now) (env_in c.args.here) w) (λ vs w. gives (address c.made-object.result 0 ∷ vs) w)) (λ vs w. started_then p c.args.rest.value (letters_in c.args.names.now) vs w))
     _
     (λ p b. ap (λ (u : Outcome Done). resumed p c.args.m.now.frames.items (tag done_tag u))
-    (vector_made p c.args.last c.in-Some.last c.made-object.result c.make_unset.new.self (starts_in c.args.others.now) (env_in c.args.here) (letters_in c.args.names.now) c.args.rest (world c.args.m.now b) c.in-Some.is c.made-object.ensures mem))
+    (vector_made p c.args.last c.in-Some.last c.made-object.result c.make_unset.new.self (starts_in c.args.others.now) (env_in c.args.here) (letters_in c.args.names.now) c.args.rest.value (world c.args.m.now b) c.in-Some.is c.made-object.ensures mem))
     c.named.ensures

@@ -1,4 +1,4 @@
-use Rattle.std.proofs.Common.{◌≡◌, ap, sym, ◌∙◌}
+use Rattle.std.proofs.Common.{ap, sym, ◌∙◌}
 use Rattle.bk_tree.specs.Tree.{action}
 use Rattle.bk_meaning.specs.Seeking.{forwards}
 use Rattle.bk_meaning.specs.Scopes.{scope_of, alone}

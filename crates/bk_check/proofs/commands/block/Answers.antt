@@ -1,4 +1,4 @@
-use Rattle.std.proofs.Common.{◌≡◌, ◌<◌, length, ap, ◌∙◌, arith}
+use Rattle.std.proofs.Common.{◌<◌, length, ap, ◌∙◌, arith}
 use Rattle.bk_tree.specs.Tree.{actions_in, declarations_in}
 use Rattle.bk_meaning.specs.World.{Outcome, Done}
 use Rattle.bk_check.specs.Views.{mode_in}

@@ -1,7 +1,7 @@
 use Rattle.std.proofs.Common.{◌≡◌, true, false, ap, sym, ◌∙◌}
 use Rattle.bk_tree.specs.Tree.{action}
 use Rattle.bk_meaning.specs.World.{Outcome, Done}
-use Rattle.bk_meaning.specs.Seeking.{the_label, stands_in, stands_in_one}
+use Rattle.bk_meaning.specs.Seeking.{the_label, stands_in}
 use Rattle.bk_meaning.specs.Scopes.{alone}
 use Rattle.bk_lasting.specs.Views.{env_in}
 use Rattle.bk_check.specs.Worlds.{world}

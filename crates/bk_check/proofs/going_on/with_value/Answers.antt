@@ -1,4 +1,4 @@
-use Rattle.std.proofs.Common.{◌≡◌, ap, sym, ◌∙◌}
+use Rattle.std.proofs.Common.{ap, sym, ◌∙◌}
 use Rattle.bk_tree.specs.Tree.{expression, expressions_in}
 use Rattle.bk_meaning.specs.Values.{Value}
 use Rattle.bk_meaning.specs.World.{Outcome, gives}

@@ -1,4 +1,4 @@
-use Rattle.std.proofs.Common.{◌≡◌, ◌-◌, ◌<◌, ap, sym, ◌∙◌, arith}
+use Rattle.std.proofs.Common.{◌-◌, ◌<◌, ap, sym, ◌∙◌, arith}
 use Rattle.bk_tree.specs.Tree.{action}
 use Rattle.bk_meaning.specs.World.{World, Outcome, Done}
 use Rattle.bk_meaning.specs.Seeking.{forwards}

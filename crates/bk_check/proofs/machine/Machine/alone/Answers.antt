@@ -1,4 +1,4 @@
-use Rattle.std.proofs.Common.{◌≡◌, ap, ◌∙◌}
+use Rattle.std.proofs.Common.{ap, ◌∙◌}
 use Rattle.bk_tree.specs.Tree.{action}
 use Rattle.bk_meaning.specs.World.{Outcome, Done}
 use Rattle.bk_meaning.specs.Scopes.{in_order, alone}

@@ -1,5 +1,5 @@
 use Rattle.std.proofs.Common.{◌≡◌, ap, ◌∙◌}
-use Rattle.bk_tree.specs.Tree.{Expression, expression, expressions_in, apply}
+use Rattle.bk_tree.specs.Tree.{expression, expressions_in, apply}
 use Rattle.bk_tree.proofs.Trees.{Apply_is}
 use Rattle.bk_check.proofs.machine.Machine.value_inside.Goals as goal
 
