@@ -1,6 +1,6 @@
 -- Runs over devices: steps one after another, and what the whole comes to.
 use Rattle.std.specs.Prelude.{IsErr}
-use Rattle.std.proofs.Common.{◌≡◌, ℕ, ◌≤◌, ◌^◌, ◌-◌, Vec, map, Bool, true, false, IsTrue, Result, Ok, Err, IfOk, IfErr, OnOk, OnErr, is_err, arith, List, [], ◌∷◌, ◌++◌, Option, None, Some, refl, sym, ap, subst, ◌∙◌, append_assoc, append-nil}
+use Rattle.std.proofs.Common.{◌≡◌, ℕ, ◌^◌, ◌-◌, Vec, map, Bool, true, false, IsTrue, Result, Ok, Err, IfOk, IfErr, OnOk, OnErr, is_err, arith, List, [], ◌∷◌, ◌++◌, Option, None, Some, refl, sym, ap, subst, ◌∙◌, append_assoc, append-nil}
 use Rattle.std.specs.Io.KnownBytes.{Consumes, Appends, Keeps}
 use Rattle.std.proofs.KnownBytes.{Consumes-nil, Consumes-kept, Consumes-trans, Appends-nil, Appends-trans, Appends-kept}
 use Rattle.bk_tree.specs.Tree.{Declarations}
@@ -37,9 +37,11 @@ use Rattle.bk_check.specs.declared.frame.Next.TheVariants as n
 use Rattle.bk_check.specs.declared.machine.Machine.{Machine}
 use Rattle.bk_checker.specs.declared.report.Verdict.{Verdict}
 use Rattle.bk_checker.specs.declared.report.Verdict.TheVariants as v
+use Rattle.bk_checker.specs.declared.report.CheckFault.{CheckFault}
+use Rattle.bk_checker.specs.declared.report.CheckFault.TheVariants as x
 use Rattle.bk_check.specs.Worlds.{Bytes, world}
 use Rattle.bk_check.specs.Resume.{Given, a_value, tag, resume, resumed, outcome_next, Comes}
-use Rattle.bk_checker.specs.Checks.{Told, Exchanged, Follows, Shows, Checks, over, verdict_of, run_given, Answered, Moves, Begun, Runs, ChecksPart, RunsPart, Reaches}
+use Rattle.bk_checker.specs.Checks.{Told, Exchanged, Follows, Shows, Checks, over, verdict_of, run_given, Answered, Moves, Begun, Runs, ChecksPart, RunsPart, Reaches, Flushed}
 
 -- ---- an end stays an end
 
@@ -326,6 +328,12 @@ reaches_after p m next m' next' old mid new first second = record {
       (one ∙ ap (λ (l : List ℕ). resumed p m.frames.items (outcome_next p next (world m (record { input = l; output = before })))) (sym (append_assoc first.read second.read rest))) two);
 }
 
+-- whether the run went on to its end or not
+pub reaches_either : {E : Type 0} (p : Program) (m : Machine) (next : Next) (m' : Machine) (old new : Told) (r : Result Next E)
+    → IfOk r (λ last. Moves p m next m' last old new) → IfErr r (λ _. Reaches p m next old new) → Reaches p m next old new
+reaches_either p m next m' old new (Ok last) moves part = reaches_after p m next m' last old new new moves (reaches_still p m' last new new (exchanged_none new))
+reaches_either p m next m' old new (Err e) moves part = part
+
 -- a part of a text was written
 part_grows : (before part others : List ℕ) (text : List ℕ) (w : World) → text ≡ part ++ others → Grows (shown (before ++ part) w.input 0) (shown (before ++ text) w.input w.most_calls)
 part_grows before part others text w whole = record {
@@ -447,6 +455,13 @@ part_kept p start turns old mid taken keeps runs = record {
   goes_on = runs.goes_on;
 }
 
+-- what was passed on in every case was so in each
+pub flushed_all : (f : CheckFault) (passed taken : Option (List ℕ)) → passed ≡ taken → Flushed f passed taken
+flushed_all x.Read passed taken is = is
+flushed_all x.TooDeep passed taken is = is
+flushed_all x.Write passed taken is = tt
+flushed_all x.Memory passed taken is = tt
+
 pub ok_map : {T E : Type 0} (P Q : T → Type 0) (r : Result T E) → ((v : T) → P v → Q v) → IfOk r P → IfOk r Q
 ok_map P Q (Ok v) f h = f v h
 ok_map P Q (Err e) f h = tt
@@ -455,9 +470,9 @@ pub err_map : {T E : Type 0} (P Q : E → Type 0) (r : Result T E) → ((e : E) 
 err_map P Q (Ok v) f h = tt
 err_map P Q (Err e) f h = f e h
 
-pub on_ok : {T E P : Type 0} (r : Result T E) → P → OnOk r P
-on_ok (Ok v) h = h
-on_ok (Err e) h = tt
+pub on_ok_map : {T E P Q : Type 0} (r : Result T E) → (P → Q) → OnOk r P → OnOk r Q
+on_ok_map (Ok v) f h = f h
+on_ok_map (Err e) f h = tt
 
 -- ---- START
 

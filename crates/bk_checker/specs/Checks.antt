@@ -1,5 +1,5 @@
 -- What a check answers: the verdict of the meaning, with the bytes that it reads and writes.
-use Rattle.std.specs.Prelude.{◌≡◌, ℕ, Bool, true, false, IsTrue, List, [], ◌∷◌, ◌++◌, Option}
+use Rattle.std.specs.Prelude.{◌≡◌, ℕ, ⊤, Bool, true, false, IsTrue, List, [], ◌++◌, Option}
 use Rattle.std.specs.Io.KnownBytes.{Consumes, Appends}
 use Rattle.bk_tree.specs.Tree.{Declarations}
 use Rattle.bk_meaning.specs.World.{World, Outcome, gives, leaves, ends, undefined, going, status, divide_by_zero, no_start}
@@ -55,13 +55,20 @@ pub record Checks (sections : List Declarations) (turns : ℕ) (verdict : Verdic
   pub exchanged : Exchanged old new read written
   pub shows : (rest : List ℕ) → Follows new rest → Shows verdict (meaning sections (read ++ rest) turns) rest written
 
--- Which device failed where a check was given up: the input once, the output never before; or the output. Nothing failed where memory
--- was refused or the limit of frames and cells was reached.
-abbrev pub Blames : CheckFault → (reads reads' writes' : ℕ) → Type 0
-Blames x.Read reads reads' writes' = reads' ≡ 1
-Blames x.Write reads reads' writes' = writes' ≡ 1
-Blames x.Memory reads reads' writes' = reads' ≡ reads
-Blames x.TooDeep reads reads' writes' = reads' ≡ reads
+-- How often the devices have failed, before and after a check that was given up: the input failed, and the output did not; or the output
+-- failed; or neither failed, where memory was refused or the limit of frames and cells was reached.
+abbrev pub Blames : CheckFault → (reads reads' writes writes' : ℕ) → Type 0
+Blames x.Read reads reads' writes writes' = (reads' ≡ 1) × (writes' ≡ writes)
+Blames x.Write reads reads' writes writes' = writes' ≡ 1
+Blames x.Memory reads reads' writes writes' = (reads' ≡ reads) × (writes' ≡ writes)
+Blames x.TooDeep reads reads' writes writes' = (reads' ≡ reads) × (writes' ≡ writes)
+
+-- All that was written was passed on, where the input failed or the limit was reached.
+abbrev pub Flushed : CheckFault → (passed taken : Option (List ℕ)) → Type 0
+Flushed x.Read passed taken = passed ≡ taken
+Flushed x.TooDeep passed taken = passed ≡ taken
+Flushed x.Write passed taken = ⊤
+Flushed x.Memory passed taken = ⊤
 
 -- ---- on the way
 

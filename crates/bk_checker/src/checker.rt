@@ -9,11 +9,12 @@ ghost use Rattle.bk_checker.specs.declared.report.Verdict.TheVariants.{NoStart};
 ghost use Rattle.bk_checker.specs.declared.report.CheckFault.TheVariants.{Write};
 ghost use Rattle.bk_objects.specs.Views.{value_in};
 ghost use Rattle.bk_check.specs.Views.{program_in};
-ghost use Rattle.bk_checker.specs.Checks.{Checks, Blames, Begun, Runs, ChecksPart, RunsPart};
+ghost use Rattle.bk_checker.specs.Checks.{Checks, Blames, Flushed, Begun, Runs, ChecksPart, RunsPart};
 
 use crate::explain::{explain, given_up};
-use crate::report::{CheckFault, GivenUp, Report, Verdict};
-use crate::run::{go, verdict};
+use crate::remarks::remarks_on;
+use crate::report::{GivenUp, Report, Verdict};
+use crate::run::{flush, go, verdict};
 use bk_base::{ByteIn, ByteOut, Line};
 use bk_check::{Machine, call};
 use bk_lasting::{GLOBALS_OBJECT, Lasting, first_memory, program_of};
@@ -52,26 +53,23 @@ fn check_start<'a, I: ByteIn, O: ByteOut>(
         (record { left = I.left input.old; ended = I.ended input.old; taken = O.taken out.old })
         (record { left = I.left input.new; ended = I.ended input.new; taken = O.taken out.new })) }
     ensures flushed { OnOk result (O.passed out.new ≡ O.taken out.new) }
+    ensures flushed_where_given_up { IfErr result (λ stop. Flushed stop.fault (O.passed out.new) (O.taken out.new)) }
     ensures part { IfErr result (λ _. (turns : ℕ) → Begun (program_in program.now) turns m.old
         → RunsPart (program_in program.now) (value_in start) turns
         (record { left = I.left input.old; ended = I.ended input.old; taken = O.taken out.old })
         (record { left = I.left input.new; ended = I.ended input.new; taken = O.taken out.new })) }
     ensures passes { Begins (O.passed out.old) (O.passed out.new) }
-    ensures sound { OnOk result (I.faults input.new ≡ I.faults input.old) }
-    ensures cause { IfErr result (λ stop. Blames stop.fault (I.faults input.old) (I.faults input.new) (O.faults out.new)) }
+    ensures sound { OnOk result ((I.faults input.new ≡ I.faults input.old) × (O.faults out.new ≡ O.faults out.old)) }
+    ensures cause { IfErr result (λ stop. Blames stop.fault (I.faults input.old) (I.faults input.new) (O.faults out.old) (O.faults out.new)) }
 {
     let arguments = Vec::new(m.alloc);
     let first = call(m, program, Line::first(), None, start, arguments)?;
     let came = go(m, program, first, input, out);
-    let flushed = out.flush();
-    let last = match came {
-        Ok(last) => last,
-        Err(fault) => return Err(given_up(m, program, fault)),
-    };
-    if flushed.is_err() {
-        return Err(GivenUp::from(CheckFault::Write));
+    flush(out)?;
+    match came {
+        Ok(last) => Ok(explain(m, program, &last)?),
+        Err(fault) => Err(given_up(m, program, fault)),
     }
-    Ok(explain(m, program, &last)?)
 }
 
 /// Where the program has no START.
@@ -80,16 +78,16 @@ fn no_start<O: ByteOut>(alloc: Global, out: &mut O) -> Result<Report, GivenUp>
     ensures flushed { OnOk result (O.passed out.new ≡ O.taken out.new) }
     ensures keeps { Keeps (O.taken out.old) (O.taken out.new) }
     ensures passes { Begins (O.passed out.old) (O.passed out.new) }
+    ensures sound { OnOk result (O.faults out.new ≡ O.faults out.old) }
     ensures failed { IfErr result (λ stop. (stop.fault ≡ Write) × (O.faults out.new ≡ 1)) }
 {
-    if out.flush().is_err() {
-        return Err(GivenUp::from(CheckFault::Write));
-    }
+    flush(out)?;
     Ok(Report {
         verdict: Verdict::NoStart,
         line: Line::first(),
         what: Vec::new(alloc),
         calls: Vec::new(alloc),
+        remarks: Vec::new(alloc),
     })
 }
 
@@ -105,12 +103,13 @@ fn check_program<'a, I: ByteIn, O: ByteOut>(
         (record { left = I.left input.old; ended = I.ended input.old; taken = O.taken out.old })
         (record { left = I.left input.new; ended = I.ended input.new; taken = O.taken out.new })) }
     ensures flushed { OnOk result (O.passed out.new ≡ O.taken out.new) }
+    ensures flushed_where_given_up { IfErr result (λ stop. Flushed stop.fault (O.passed out.new) (O.taken out.new)) }
     ensures part { IfErr result (λ _. (sections : List Declarations) → program_in program.now ≡ program_in_sections sections → ChecksPart sections turns
         (record { left = I.left input.old; ended = I.ended input.old; taken = O.taken out.old })
         (record { left = I.left input.new; ended = I.ended input.new; taken = O.taken out.new })) }
     ensures passes { Begins (O.passed out.old) (O.passed out.new) }
-    ensures sound { OnOk result (I.faults input.new ≡ I.faults input.old) }
-    ensures cause { IfErr result (λ stop. Blames stop.fault (I.faults input.old) (I.faults input.new) (O.faults out.new)) }
+    ensures sound { OnOk result ((I.faults input.new ≡ I.faults input.old) × (O.faults out.new ≡ O.faults out.old)) }
+    ensures cause { IfErr result (λ stop. Blames stop.fault (I.faults input.old) (I.faults input.new) (O.faults out.old) (O.faults out.new)) }
 {
     let mut m = first_machine(alloc, program, turns)?;
     match read(&m.store, Worth::Address(GLOBALS_OBJECT, 1)) {
@@ -135,13 +134,17 @@ pub fn check<I: ByteIn, O: ByteOut>(
         (record { left = I.left input.old; ended = I.ended input.old; taken = O.taken out.old })
         (record { left = I.left input.new; ended = I.ended input.new; taken = O.taken out.new })) }
     ensures flushed { OnOk result (O.passed out.new ≡ O.taken out.new) }
+    ensures flushed_where_given_up { IfErr result (λ stop. Flushed stop.fault (O.passed out.new) (O.taken out.new)) }
     ensures part { IfErr result (λ _. ChecksPart (map declarations_of sections.now) turns
         (record { left = I.left input.old; ended = I.ended input.old; taken = O.taken out.old })
         (record { left = I.left input.new; ended = I.ended input.new; taken = O.taken out.new })) }
     ensures passes { Begins (O.passed out.old) (O.passed out.new) }
-    ensures sound { OnOk result (I.faults input.new ≡ I.faults input.old) }
-    ensures cause { IfErr result (λ stop. Blames stop.fault (I.faults input.old) (I.faults input.new) (O.faults out.new)) }
+    ensures sound { OnOk result ((I.faults input.new ≡ I.faults input.old) × (O.faults out.new ≡ O.faults out.old)) }
+    ensures cause { IfErr result (λ stop. Blames stop.fault (I.faults input.old) (I.faults input.new) (O.faults out.old) (O.faults out.new)) }
 {
+    let remarks = remarks_on(alloc, sections)?;
     let program = program_of(alloc, sections)?;
-    check_program(alloc, &program, turns, input, out)
+    let mut report = check_program(alloc, &program, turns, input, out)?;
+    report.remarks = remarks;
+    Ok(report)
 }

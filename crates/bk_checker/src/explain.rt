@@ -16,7 +16,7 @@ use std::alloc::AllocError;
 const CALLS: usize = 10;
 
 /// Adds pieces of text.
-fn add(text: &mut Vec<u8>, pieces: &[&[u8]]) -> Result<(), AllocError> {
+pub fn add(text: &mut Vec<u8>, pieces: &[&[u8]]) -> Result<(), AllocError> {
     for piece in pieces {
         text.extend_from_slice(piece)?;
     }
@@ -464,7 +464,7 @@ fn call_before(frames: &[Frame], from: usize) -> Option<(usize, Call)> {
     for k in 0..from {
         let i = from - 1 - k;
         if let Some(Frame::Returned(call)) = frames.get(i)
-            && !matches!(call.callee, Worth::Routine(_))
+            && matches!(call.callee, Worth::Procedure(_))
         {
             return Some((i, *call));
         }
@@ -561,5 +561,6 @@ pub fn explain<'a>(
         line,
         what,
         calls,
+        remarks: Vec::new(m.alloc),
     })
 }

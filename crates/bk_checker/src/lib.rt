@@ -3,9 +3,11 @@
 
 mod checker;
 mod explain;
+mod remarks;
 mod report;
 mod run;
 
 pub use checker::check;
+pub use remarks::Remark;
 pub use report::{CheckFault, GivenUp, Report, Verdict};
 pub use run::{CELLS, FRAMES};

@@ -1,5 +1,6 @@
 //! What a check answers.
 
+use crate::remarks::Remark;
 use bk_base::Line;
 use std::alloc::AllocError;
 
@@ -86,4 +87,6 @@ pub struct Report {
     pub what: Vec<u8>,
     /// The calls that were active, a line each, innermost first: ten at most.
     pub calls: Vec<u8>,
+    /// What is suspicious in the source, in its order: ten things at most.
+    pub remarks: Vec<Remark>,
 }

@@ -8,6 +8,7 @@ ghost use Rattle.bk_check.specs.declared.frame.Frame.{Frame};
 ghost use Rattle.bk_check.specs.declared.frame.Next.TheVariants as n;
 ghost use Rattle.bk_check.specs.Views.{program_in};
 ghost use Rattle.bk_check.specs.Resume.{outcome_next};
+ghost use Rattle.bk_checker.specs.declared.report.CheckFault.TheVariants.{Write};
 ghost use Rattle.bk_checker.specs.Checks.{Blames, over, verdict_of, Answered, Moves, Reaches};
 
 use crate::report::{CheckFault, Verdict};
@@ -23,6 +24,20 @@ pub const FRAMES: usize = 4_194_304;
 /// How many cells live at most in a check: the words of the largest store of a run.
 pub const CELLS: usize = 16_777_216;
 
+/// Passes on what the output holds.
+pub fn flush<O: ByteOut>(out: &mut O) -> Result<(), CheckFault>
+    ensures all { OnOk result (O.passed out.new ≡ O.taken out.new) }
+    ensures keeps { Keeps (O.taken out.old) (O.taken out.new) }
+    ensures passes { Begins (O.passed out.old) (O.passed out.new) }
+    ensures sound { OnOk result ((O.faults out.old ≡ 0) × (O.faults out.new ≡ 0)) }
+    ensures cause { IfErr result (λ fault. (fault ≡ Write) × (O.faults out.new ≡ 1)) }
+{
+    match out.flush() {
+        Ok(()) => Ok(()),
+        Err(_) => Err(CheckFault::Write),
+    }
+}
+
 /// The next byte, or -1 at the end. Where the input is not ready, the output is flushed first; if that fails, the input
 /// is not asked.
 #[inline(never)]
@@ -32,11 +47,11 @@ fn ask<I: ByteIn, O: ByteOut>(input: &mut I, out: &mut O) -> Result<u32, CheckFa
         (record { left = I.left input.new; ended = I.ended input.new; taken = O.taken out.new })) }
     ensures still { OnErr result (Keeps (I.left input.old) (I.left input.new) × (I.ended input.new ≡ I.ended input.old) × Keeps (O.taken out.old) (O.taken out.new)) }
     ensures passes { Begins (O.passed out.old) (O.passed out.new) }
-    ensures sound { OnOk result (I.faults input.new ≡ I.faults input.old) }
-    ensures cause { IfErr result (λ fault. Blames fault (I.faults input.old) (I.faults input.new) (O.faults out.new)) }
+    ensures sound { OnOk result ((I.faults input.new ≡ I.faults input.old) × (O.faults out.new ≡ O.faults out.old)) }
+    ensures cause { IfErr result (λ fault. Blames fault (I.faults input.old) (I.faults input.new) (O.faults out.old) (O.faults out.new)) }
 {
-    if !input.ready() && out.flush().is_err() {
-        return Err(CheckFault::Write);
+    if !input.ready() {
+        flush(out)?;
     }
     match input.next() {
         Err(_) => Err(CheckFault::Read),
@@ -61,8 +76,8 @@ fn library<'a, I: ByteIn, O: ByteOut>(
         (record { left = I.left input.old; ended = I.ended input.old; taken = O.taken out.old })
         (record { left = I.left input.new; ended = I.ended input.new; taken = O.taken out.new })) }
     ensures passes { Begins (O.passed out.old) (O.passed out.new) }
-    ensures sound { OnOk result (I.faults input.new ≡ I.faults input.old) }
-    ensures cause { IfErr result (λ fault. Blames fault (I.faults input.old) (I.faults input.new) (O.faults out.new)) }
+    ensures sound { OnOk result ((I.faults input.new ≡ I.faults input.old) × (O.faults out.new ≡ O.faults out.old)) }
+    ensures cause { IfErr result (λ fault. Blames fault (I.faults input.old) (I.faults input.new) (O.faults out.old) (O.faults out.new)) }
 {
     match perform(m.alloc, &mut m.store, routine, values)? {
         Effect::Stops(status) => Ok(Next::Status(status)),
@@ -96,8 +111,8 @@ fn turn<'a, I: ByteIn, O: ByteOut>(
         (record { left = I.left input.old; ended = I.ended input.old; taken = O.taken out.old })
         (record { left = I.left input.new; ended = I.ended input.new; taken = O.taken out.new })) }
     ensures passes { Begins (O.passed out.old) (O.passed out.new) }
-    ensures sound { OnOk result (I.faults input.new ≡ I.faults input.old) }
-    ensures cause { IfErr result (λ fault. Blames fault (I.faults input.old) (I.faults input.new) (O.faults out.new)) }
+    ensures sound { OnOk result ((I.faults input.new ≡ I.faults input.old) × (O.faults out.new ≡ O.faults out.old)) }
+    ensures cause { IfErr result (λ fault. Blames fault (I.faults input.old) (I.faults input.new) (O.faults out.old) (O.faults out.new)) }
 {
     match next {
         Next::Library(line, routine, values) => library(m, line, routine, &values, input, out),
@@ -159,8 +174,8 @@ pub fn go<'a, I: ByteIn, O: ByteOut>(
         (record { left = I.left input.old; ended = I.ended input.old; taken = O.taken out.old })
         (record { left = I.left input.new; ended = I.ended input.new; taken = O.taken out.new })) }
     ensures passes { Begins (O.passed out.old) (O.passed out.new) }
-    ensures sound { OnOk result (I.faults input.new ≡ I.faults input.old) }
-    ensures cause { IfErr result (λ fault. Blames fault (I.faults input.old) (I.faults input.new) (O.faults out.new)) }
+    ensures sound { OnOk result ((I.faults input.new ≡ I.faults input.old) × (O.faults out.new ≡ O.faults out.old)) }
+    ensures cause { IfErr result (λ fault. Blames fault (I.faults input.old) (I.faults input.new) (O.faults out.old) (O.faults out.new)) }
 {
     let mut next = first;
     for i in 0..u64::MAX {

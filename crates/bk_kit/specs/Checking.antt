@@ -1,12 +1,13 @@
 -- What checking a source comes to: the verdict of its meaning, or a fault of its text, or why there is no verdict.
-use Rattle.std.specs.Prelude.{◌≡◌, ℕ, nat_lt, ⊤, Bool, false, List, [], Option, None, Some, Result, Ok, Err, codes, if◌then◌else◌}
+use Rattle.std.specs.Prelude.{◌≡◌, ℕ, nat_lt, ⊤, Bool, false, List, [], ◌∷◌, Option, None, Some, Result, Ok, Err, codes, if◌then◌else◌}
 use Rattle.bk_tree.specs.Tree.{Declarations}
 use Rattle.bk_checker.specs.declared.report.Verdict.{Verdict}
 use Rattle.bk_checker.specs.declared.report.Verdict.TheVariants as v
 use Rattle.bk_checker.specs.declared.report.CheckFault.{CheckFault}
 use Rattle.bk_checker.specs.declared.report.CheckFault.TheVariants as x
 use Rattle.bk_checker.specs.declared.report.Report.{Report}
-use Rattle.bk_checker.specs.Checks.{Told, Checks, ChecksPart, Blames}
+use Rattle.bk_checker.specs.declared.remarks.Remark.{Remark}
+use Rattle.bk_checker.specs.Checks.{Told, Checks, ChecksPart, Blames, Flushed}
 use Rattle.bk_kit.specs.declared.kit_fault.KitFault.{KitFault}
 use Rattle.bk_kit.specs.declared.checker.Refusal.{Refusal}
 use Rattle.bk_kit.specs.declared.checker.NotChecked.{NotChecked}
@@ -45,11 +46,11 @@ pub record ChecksTrees (verdict : Verdict) (turns : ℕ) (old new : Option (List
 -- THE CHECK. Nothing is done of a source that is refused.
 abbrev pub ChecksSource : Result Report NotChecked → ℕ → Option (List ℕ) → Option (List ℕ) → Bool → Streams → Streams → Type 0
 ChecksSource (Ok report) turns old new ended before after =
-    ChecksTrees report.verdict turns old new ended before after × (after.passed ≡ after.taken) × (after.reads ≡ before.reads)
-ChecksSource (Err (n.Text refusal)) turns old new ended before after = NotAssembled refusal.fault old new ended
+    ChecksTrees report.verdict turns old new ended before after × (after.passed ≡ after.taken) × (after.reads ≡ before.reads) × (after.writes ≡ before.writes)
+ChecksSource (Err (n.Text refusal)) turns old new ended before after = NotAssembled refusal.fault old new ended × (after ≡ before)
 ChecksSource (Err (n.Run stop)) turns old new ended before after =
     ((trees : List Declarations) × HasTheseTrees trees old new ended × ChecksPart trees turns (told_of before) (told_of after))
-    × Blames stop.fault before.reads after.reads after.writes
+    × Blames stop.fault before.reads after.reads before.writes after.writes × Flushed stop.fault after.passed after.taken
 
 -- ---- statuses and lines
 
@@ -82,6 +83,11 @@ check_status (Err (n.Run stop)) = check_fault_status stop.fault
 abbrev pub TellsText : Output → Output → Type 0
 TellsText old new = (text : List ℕ) × TellsLine text old new
 
+-- What is suspicious in the source is told after the rest, in a text each; where nothing is, nothing is told.
+abbrev pub TellsRemarks : List Remark → Output → Output → Type 0
+TellsRemarks [] old new = new ≡ old
+TellsRemarks (r ∷ rs) old new = (mid : Output) × TellsText old mid × TellsRemarks rs mid new
+
 -- The program's own end is told by its status alone. What went wrong is told in a text; of a fault of the source the line is told
 -- first that each call tells of it.
 abbrev pub TellsVerdict : Verdict → Output → Output → Type 0
@@ -92,7 +98,7 @@ TellsVerdict v.Undefined old new = TellsText old new
 TellsVerdict v.Turns old new = TellsText old new
 
 abbrev pub TellsCheck : Result Report NotChecked → Output → Output → Type 0
-TellsCheck (Ok report) old new = TellsVerdict report.verdict old new
+TellsCheck (Ok report) old new = (mid : Output) × TellsVerdict report.verdict old mid × TellsRemarks report.remarks.items mid new
 TellsCheck (Err (n.Text refusal)) old new = (mid : Output) × TellsLine (line_of (fault_text refusal.fault)) old mid × TellsText mid new
 TellsCheck (Err (n.Run stop)) old new = (mid : Output) × TellsLine (line_of (check_fault_text stop.fault)) old mid × TellsText mid new
 

@@ -74,8 +74,8 @@ const CHECK_NOTES: &str = "\
 Input and output are those of the program; all else is told on the error stream.
 The check ends with the status of `run`, or with 113 where the program does what
 is undefined: it uses a variable that was never set, a word outside its vector,
-an argument that is missing, or the like. A check takes about thirty times as
-long as a run.
+an argument that is missing, or the like. What is suspicious in the text is told
+after the run. A check takes much longer than a run.
 
 Examples:
   bcpl check examples/queens.b

@@ -4,13 +4,13 @@ ghost use Rattle.bk_kit.specs.FaultLine.{fault_text, line_of};
 ghost use Rattle.bk_kit.specs.Statuses.{stop_status, end_status, end_line, fault_status, run_status, run_line, done_status, done_line};
 ghost use Rattle.bk_kit.specs.Telling.{TellsLine, Tells};
 ghost use Rattle.bk_kit.specs.Pieces.{joined};
-ghost use Rattle.bk_kit.specs.Checking.{verdict_status, check_fault_status, check_fault_text, check_status, TellsText, TellsVerdict, TellsCheck};
+ghost use Rattle.bk_kit.specs.Checking.{verdict_status, check_fault_status, check_fault_text, check_status, TellsText, TellsRemarks, TellsVerdict, TellsCheck};
 
 use crate::checker::NotChecked;
 use crate::kit_fault::{KitFault, put_text};
 use crate::pieces::put_pieces;
-use bk_base::{ByteOut, End};
-use bk_checker::{CheckFault, GivenUp, Report, Verdict};
+use bk_base::{ByteOut, End, Line};
+use bk_checker::{CheckFault, GivenUp, Remark, Report, Verdict};
 use itoa::Buffer;
 
 /// The status for STOP of a number.
@@ -156,21 +156,45 @@ fn tell_parts<'a, E: ByteOut>(
     tell_pieces(&[file, b":", line, b": ", kind, what, b"\n", calls], err)
 }
 
+/// Writes what there is to say of a line of FILE, and further lines.
+fn tell_at<E: ByteOut>(line: Line, kind: &str, what: &[u8], further: &[u8], file: &str, err: &mut E)
+    ensures { TellsText
+        (record { taken = E.taken err.old; passed = E.passed err.old; faults = E.faults err.old })
+        (record { taken = E.taken err.new; passed = E.passed err.new; faults = E.faults err.new }) }
+{
+    let mut number = Buffer::new();
+    tell_parts(
+        file.as_bytes(),
+        number.format(line.number()).as_bytes(),
+        kind.as_bytes(),
+        what,
+        further,
+        err,
+    )
+}
+
 /// Writes what went wrong in a check.
 fn tell_stop<E: ByteOut>(report: &Report, kind: &str, file: &str, err: &mut E)
     ensures { TellsText
         (record { taken = E.taken err.old; passed = E.passed err.old; faults = E.faults err.old })
         (record { taken = E.taken err.new; passed = E.passed err.new; faults = E.faults err.new }) }
 {
-    let mut line = Buffer::new();
-    tell_parts(
-        file.as_bytes(),
-        line.format(report.line.number()).as_bytes(),
-        kind.as_bytes(),
-        report.what.as_slice(),
-        report.calls.as_slice(),
-        err,
-    )
+    tell_at(report.line, kind, &report.what, &report.calls, file, err)
+}
+
+/// Writes what is suspicious in the source, a line for each thing.
+fn tell_remarks<E: ByteOut>(remarks: &[Remark], file: &str, err: &mut E)
+    ensures { TellsRemarks remarks.now
+        (record { taken = E.taken err.old; passed = E.passed err.old; faults = E.faults err.old })
+        (record { taken = E.taken err.new; passed = E.passed err.new; faults = E.faults err.new }) }
+{
+    match remarks.split_first() {
+        None => {}
+        Some((first, rest)) => {
+            tell_at(first.line, "suspicious: ", &first.text, &[], file, err);
+            tell_remarks(rest, file, err)
+        }
+    }
 }
 
 /// The status for a verdict.
@@ -233,6 +257,7 @@ pub fn tell_check<E: ByteOut>(answer: &Result<Report, NotChecked>, file: &str, e
     match answer {
         Ok(report) => {
             tell_verdict(report, file, err);
+            tell_remarks(&report.remarks, file, err);
             status_of_verdict(report.verdict)
         }
         Err(NotChecked::Text(refusal)) => {

@@ -1,10 +1,10 @@
-use Rattle.std.proofs.Common.{◌≡◌, refl, sym, subst}
+use Rattle.std.proofs.Common.{refl, sym, subst}
 use Rattle.std.proofs.KnownBytes.{Keeps-refl}
 use Rattle.bk_objects.specs.Views.{value_in}
 use Rattle.bk_check.specs.Views.{program_in}
 use Rattle.bk_checker.specs.declared.report.CheckFault.{CheckFault}
-use Rattle.bk_checker.specs.Checks.{Blames}
-use Rattle.bk_checker.proofs.Running.{nothing_yet, exchanged_none, exchanged_still, checks_start, checks_part, checks_none, start_found, no_start_found, ok_map, err_map, if_err, on_ok}
+use Rattle.bk_checker.specs.Checks.{Blames, Flushed}
+use Rattle.bk_checker.proofs.Running.{nothing_yet, exchanged_none, exchanged_still, checks_start, checks_part, checks_none, start_found, no_start_found, ok_map, err_map, if_err, on_ok_map}
 use Rattle.bk_checker.proofs.checker.check_program.Goals as goal
 
 pub returns-in_err-m-clause-part : goal.returns-in_err-m-clause-part
@@ -30,8 +30,9 @@ returns g c =
       checks = ok_map _ _ c.no_start.result (λ report none sections is.
           checks_none sections p c.args.turns is report.verdict _ _ (no_start_found p c.args.turns c.in_ok-m.m c.in_ok-m.ensures c.read.result c.read.ensures c.in_default.not-Value) none same) c.no_start.ensures.verdict;
       flushed = c.no_start.ensures.flushed;
+      flushed_where_given_up = err_map _ _ c.no_start.result (λ stop failed. subst (λ (f : CheckFault). Flushed f (g.O.ByteOut.passed c.no_start.new.out) (g.O.ByteOut.taken c.no_start.new.out)) (sym failed.0) tt) c.no_start.ensures.failed;
       part = if_err c.no_start.result (λ sections is. nothing_yet sections c.args.turns _ _ same);
       passes = c.no_start.ensures.passes;
-      sound = on_ok c.no_start.result refl;
-      cause = err_map _ _ c.no_start.result (λ stop failed. subst (λ (f : CheckFault). Blames f (g.I.ByteIn.faults c.args.input.now) (g.I.ByteIn.faults c.args.input.now) (g.O.ByteOut.faults c.no_start.new.out)) (sym failed.0) failed.1) c.no_start.ensures.failed;
+      sound = on_ok_map c.no_start.result (λ same. (refl, same)) c.no_start.ensures.sound;
+      cause = err_map _ _ c.no_start.result (λ stop failed. subst (λ (f : CheckFault). Blames f (g.I.ByteIn.faults c.args.input.now) (g.I.ByteIn.faults c.args.input.now) (g.O.ByteOut.faults c.args.out.now) (g.O.ByteOut.faults c.no_start.new.out)) (sym failed.0) failed.1) c.no_start.ensures.failed;
     }

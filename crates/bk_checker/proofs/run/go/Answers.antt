@@ -5,7 +5,7 @@ use Rattle.bk_checker.proofs.Running.{moves_none, moves_then, reaches_still, rea
 use Rattle.bk_checker.proofs.run.go.Goals as goal
 
 pub loop-i-init : goal.loop-i-init
-loop-i-init g c = record { moves = moves_none _ _ _ _; passes = Begins-refl _; unblamed = refl }
+loop-i-init g c = record { moves = moves_none _ _ _ _; passes = Begins-refl _; unblamed = (refl, refl) }
 
 pub returns-then-is_over-clause-moves : goal.returns-then-is_over-clause-moves
 returns-then-is_over-clause-moves g c = c.loop-i.invariant.moves
@@ -33,14 +33,16 @@ returns-in_err-next-clause-passes g c = Begins-trans _ _ _ c.loop-i.invariant.pa
 
 pub returns-in_err-next-clause-cause : goal.returns-in_err-next-clause-cause
 returns-in_err-next-clause-cause g c =
-    let blamed : Blames c.in_err-next.field-0.0 (g.I.ByteIn.faults c.args.input.now) (g.I.ByteIn.faults c.turn.new.input) (g.O.ByteOut.faults c.turn.new.out) = rw c.loop-i.invariant.unblamed at c.in_err-next.ensures.cause in
+    let same = c.loop-i.invariant.unblamed in
+    let blamed : Blames c.in_err-next.field-0.0 (g.I.ByteIn.faults c.args.input.now) (g.I.ByteIn.faults c.turn.new.input) (g.O.ByteOut.faults c.args.out.now) (g.O.ByteOut.faults c.turn.new.out) =
+    rw same.0 at (rw same.1 at c.in_err-next.ensures.cause) in
     search (blamed, c.from_residual.ensures, rules)
 
 pub loop-i-preserved : goal.loop-i-preserved
 loop-i-preserved g c = record {
   moves = moves_then _ _ _ _ _ _ _ _ _ _ c.loop-i.invariant.moves c.in_ok-next.ensures.moves;
   passes = Begins-trans _ _ _ c.loop-i.invariant.passes c.turn.ensures.passes;
-  unblamed = c.in_ok-next.ensures.sound ∙ c.loop-i.invariant.unblamed;
+  unblamed = (c.in_ok-next.ensures.sound.0 ∙ c.loop-i.invariant.unblamed.0, c.in_ok-next.ensures.sound.1 ∙ c.loop-i.invariant.unblamed.1);
 }
 
 pub returns-clause-part : goal.returns-clause-part

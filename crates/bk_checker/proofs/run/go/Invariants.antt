@@ -10,5 +10,5 @@ invariant-loop-i g l = record {
       (record { left = g.I.ByteIn.left l.initial.input; ended = g.I.ByteIn.ended l.initial.input; taken = g.O.ByteOut.taken l.initial.out })
       (record { left = g.I.ByteIn.left l.input; ended = g.I.ByteIn.ended l.input; taken = g.O.ByteOut.taken l.out });
   passes : Begins (g.O.ByteOut.passed l.initial.out) (g.O.ByteOut.passed l.out);
-  unblamed : g.I.ByteIn.faults l.input ≡ g.I.ByteIn.faults l.initial.input;
+  unblamed : (g.I.ByteIn.faults l.input ≡ g.I.ByteIn.faults l.initial.input) × (g.O.ByteOut.faults l.out ≡ g.O.ByteOut.faults l.initial.out);
 }

@@ -1,7 +1,6 @@
 use Rattle.std.proofs.Common.{◌≡◌, refl, sym, ap, ◌∙◌}
 use Rattle.bk_meaning.specs.World.{World, remembering}
 use Rattle.bk_objects.specs.declared.library.Effect.{Effect}
-use Rattle.bk_objects.specs.declared.worth.Worth.TheVariants as w
 use Rattle.bk_objects.specs.Texts.{outcome_in}
 use Rattle.bk_check.specs.declared.frame.Next.TheVariants as n
 use Rattle.bk_check.specs.declared.frame.Thing.TheVariants as h

@@ -18,6 +18,6 @@ returns-in_ok-step-in_default g c = record {
   moves = moves_still (program_in c.args.program.now) c.args.m.now c.args.next c.step.new.m c.in_ok-step-in_default.field-0 _ c.in_ok-step-in_default.ensures;
   part = tt;
   passes = Begins-refl _;
-  sound = refl;
+  sound = (refl, refl);
   cause = tt;
 }
