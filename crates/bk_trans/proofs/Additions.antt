@@ -1,6 +1,6 @@
 -- What single pieces add to what was written: names, labels, words of data, switches and procedures.
 use Rattle.std.proofs.Common.{◌≡◌, ℕ, ◌+◌, true, Option, Some, None, List, [], ◌∷◌, ◌++◌, map, length, refl, sym, ap, ◌∙◌, append_assoc, arith}
-use Rattle.std.proofs.lemmas.List.{append-nil}
+use Rattle.std.proofs.lemmas.List.{append-nil, map-append}
 use Rattle.bk_base.specs.Strings.{first_bytes}
 use Rattle.bk_base.specs.Word.{signed}
 use Rattle.bk_tree.specs.declared.tree.Operator.{Operator}
@@ -16,6 +16,7 @@ use Rattle.bk_ocode.specs.declared.stmt.Stmt.TheVariants.{Number, Load, Address,
 use Rattle.bk_ocode.specs.Lists.{joined}
 use Rattle.bk_trans.specs.declared.aim.Aim.TheVariants as aim
 use Rattle.bk_trans.specs.declared.way.Way.TheVariants as way
+use Rattle.bk_trans.specs.declared.draft.Draft.TheVariants.{Ready}
 use Rattle.bk_trans.specs.declared.around.Goal.{Goal}
 use Rattle.bk_trans.specs.declared.around.Around.{Around}
 use Rattle.bk_trans.specs.declared.around.Target.{Target}
@@ -25,7 +26,7 @@ use Rattle.bk_trans.specs.Filling.{Supply, meaning, constant, constants_of, step
 use Rattle.bk_trans.specs.Labels as n
 use Rattle.bk_trans.specs.Parts.{Part, static_item, static_table, label_place, parts_of_items, target_of, target_of_word, target_of_label}
 use Rattle.bk_trans.specs.Scheme.{goal, goal_of, goal_in, variable, push, outermost, valued, looping, switching, go, test_of_step, first_of, label_or, procedure_code, data_code, entries_of, word_code, entry_of}
-use Rattle.bk_trans.specs.Writing.{Writing, after, place_of, place_in, word_of, push_of, with_code, with_choices, no_choices, with_left, takes_labels, past_meaning, puts_label, puts_case, puts_default, puts_table, puts_item, puts_items, way_of, puts_switch, before_body, steps_on, goes_on, outside_of, inside, puts_entry, begins_procedure, ends_procedure}
+use Rattle.bk_trans.specs.Writing.{Writing, after, place_of, word_of, push_of, goto_code, settled_word, settled, with_code, with_choices, no_choices, with_left, takes_labels, past_meaning, puts_label, puts_case, puts_default, puts_table, puts_item, puts_items, way_of, puts_switch, before_body, steps_on, goes_on, outside_of, inside, puts_entry, begins_procedure, ends_procedure}
 use Rattle.bk_trans.proofs.Adds.{Near, near, near_after, near_is, Alike, alike, alike_is, is_alike, alike_both, label_in_words, first_none, At, Adds, nothing, then, put, labelled, renumbered, resumed, unchosen}
 
 -- places that are the same in words
@@ -61,7 +62,7 @@ go_near x y s t h k = and (ap Stack h.depths.same) (and (ap Jump h.labels.same) 
 
 module _ (gs : List Goal) (ts : List Target) (placed : Placed gs ts) where
   -- the words of names
-  pub variable_near : (x : Bound) → variable_in_words (word_of gs x) ≡ variable_in_words (variable ts x)
+  pub variable_near : (x : Bound) → variable_in_words (settled_word gs (word_of x)) ≡ variable_in_words (variable ts x)
   variable_near (b.Constant v) = refl
   variable_near (b.Global None) = refl
   variable_near (b.Global (Some g)) = refl
@@ -69,7 +70,7 @@ module _ (gs : List Goal) (ts : List Target) (placed : Placed gs ts) where
   variable_near (b.Variable k i) = refl
   variable_near (b.Label k m) = refl
 
-  pub push_near : (x : Bound) → stmt_in_words (push_of gs x) ≡ stmt_in_words (push ts x)
+  pub push_near : (x : Bound) → stmt_in_words (settled gs (push_of x)) ≡ stmt_in_words (push ts x)
   push_near (b.Constant None) = refl
   push_near (b.Constant (Some v)) = refl
   push_near (b.Global None) = refl
@@ -78,17 +79,17 @@ module _ (gs : List Goal) (ts : List Target) (placed : Placed gs ts) where
   push_near (b.Variable k i) = refl
   push_near (b.Label k m) = refl
 
-  pub place_near : (x : Bound) → NearGoal (place_in gs x) (goal_in ts x)
-  place_near (b.Constant v) = near_goal (goal 0 0)
-  place_near (b.Global g) = near_goal (goal 0 0)
-  place_near (b.Static m) = near_goal (goal 0 0)
-  place_near (b.Variable k i) = near_goal (goal 0 0)
-  place_near (b.Label k m) = placed.at_number m
+  pub goto_near : (x : Bound) {s t : ℕ} → Near s t → Alike stmt_in_words (map (settled gs) (goto_code s x)) (go (goal_in ts x) t)
+  goto_near (b.Constant v) {s} {t} h = go_near (goal 0 0) (goal 0 0) s t (near_goal _) h
+  goto_near (b.Global g) {s} {t} h = go_near (goal 0 0) (goal 0 0) s t (near_goal _) h
+  goto_near (b.Static m) {s} {t} h = go_near (goal 0 0) (goal 0 0) s t (near_goal _) h
+  goto_near (b.Variable k i) {s} {t} h = go_near (goal 0 0) (goal 0 0) s t (near_goal _) h
+  goto_near (b.Label k m) {s} {t} h = go_near (place_of gs m) (goal_of ts m) s t (placed.at_number m) h
 
 -- taking a meaning, and a word
-pub took_meaning : {ts : List Target} {w : Writing} {g : Supply} {n : ℕ} → At w g n → Adds ts w [] [] [] None (meaning g).left n (past_meaning w)
-took_meaning {ts} {w} {g} at =
-    let a = nothing {ts = ts} at in
+pub took_meaning : {gs : List Goal} {ts : List Target} {w : Writing} {g : Supply} {n : ℕ} → At w g n → Adds gs ts w [] [] [] None (meaning g).left n (past_meaning w)
+took_meaning {gs} {ts} {w} {g} at =
+    let a = nothing {gs = gs} {ts = ts} at in
     record {
       its_code = a.its_code;
       its_procedures = a.its_procedures;
@@ -100,9 +101,9 @@ took_meaning {ts} {w} {g} at =
       at = record { left = ap (λ s. (meaning s).left) at.left; next = at.next };
     }
 
-pub took : {ts : List Target} {w : Writing} {g : Supply} {n : ℕ} (h : Supply → Supply) → At w g n → Adds ts w [] [] [] None (h g) n (with_left (h w.left) w)
-took {ts} {w} {g} h at =
-    let a = nothing {ts = ts} at in
+pub took : {gs : List Goal} {ts : List Target} {w : Writing} {g : Supply} {n : ℕ} (h : Supply → Supply) → At w g n → Adds gs ts w [] [] [] None (h g) n (with_left (h w.left) w)
+took {gs} {ts} {w} {g} h at =
+    let a = nothing {gs = gs} {ts = ts} at in
     record {
       its_code = a.its_code;
       its_procedures = a.its_procedures;
@@ -143,10 +144,10 @@ label_near (b.Variable k i) h ns = record { same = refl }
 label_near (b.Label k m) {j} {l} {s} {t} h ns = record { same = ap (λ i. record { number = m; label = i; depth = word s } ∷ []) h.same ∙ ap (λ i. record { number = m; label = word l; depth = i } ∷ []) ns.same }
 
 -- a label that a GOTO may go to
-pub put_label : {ts : List Target} {w : Writing} {g : Supply} {k s t : ℕ} → At w g k → Near s t
-    → Adds ts w (Label k ∷ []) (label_place k t (meaning g).part ∷ []) [] None (meaning g).left (k + 1) (puts_label s w)
-put_label {ts} {w} {g} {k} {s} {t} at ns =
-    let a = put (then (took_meaning {ts = ts} at) (labelled 1 (took_meaning {ts = ts} at).at)) (same {s = Label w.next} {r = Label k} (ap Label at.next.same)) in
+pub put_label : {gs : List Goal} {ts : List Target} {w : Writing} {g : Supply} {k s t : ℕ} → At w g k → Near s t
+    → Adds gs ts w (Label k ∷ []) (label_place k t (meaning g).part ∷ []) [] None (meaning g).left (k + 1) (puts_label s w)
+put_label {gs} {ts} {w} {g} {k} {s} {t} at ns =
+    let a = put (then (took_meaning {gs = gs} {ts = ts} at) (labelled 1 (took_meaning {gs = gs} {ts = ts} at).at)) (same {s = Label w.next} {r = Label k} (ap Label at.next.same)) in
     record {
       its_code = a.its_code;
       its_procedures = a.its_procedures;
@@ -159,10 +160,10 @@ put_label {ts} {w} {g} {k} {s} {t} at ns =
       at = record { left = a.at.left; next = a.at.next };
     }
 
-pub put_case : {ts : List Target} {w : Writing} {g : Supply} {k : ℕ} → At w g k
-    → Adds ts w (Label k ∷ []) [] (record { value = signed (constant g).part; label = k } ∷ []) None (constant g).left (k + 1) (puts_case w)
-put_case {ts} {w} {g} {k} at =
-    let a = put (then (took {ts = ts} (λ x. (constant x).left) at) (labelled 1 (took {ts = ts} (λ x. (constant x).left) at).at)) (same {s = Label w.next} {r = Label k} (ap Label at.next.same)) in
+pub put_case : {gs : List Goal} {ts : List Target} {w : Writing} {g : Supply} {k : ℕ} → At w g k
+    → Adds gs ts w (Label k ∷ []) [] (record { value = signed (constant g).part; label = k } ∷ []) None (constant g).left (k + 1) (puts_case w)
+put_case {gs} {ts} {w} {g} {k} at =
+    let a = put (then (took {gs = gs} {ts = ts} (λ x. (constant x).left) at) (labelled 1 (took {gs = gs} {ts = ts} (λ x. (constant x).left) at).at)) (same {s = Label w.next} {r = Label k} (ap Label at.next.same)) in
     record {
       its_code = a.its_code;
       its_procedures = a.its_procedures;
@@ -178,9 +179,9 @@ pub default_near : (x : Option ℕ) {j l : ℕ} → Near j l → label_in_words 
 default_near None h = ap Some h.same
 default_near (Some m) h = refl
 
-pub put_default : {ts : List Target} {w : Writing} {g : Supply} {k : ℕ} → At w g k → Adds ts w (Label k ∷ []) [] [] (Some k) g (k + 1) (puts_default w)
-put_default {ts} {w} {g} {k} at =
-    let a = put (labelled {ts = ts} 1 at) (same {s = Label w.next} {r = Label k} (ap Label at.next.same)) in
+pub put_default : {gs : List Goal} {ts : List Target} {w : Writing} {g : Supply} {k : ℕ} → At w g k → Adds gs ts w (Label k ∷ []) [] [] (Some k) g (k + 1) (puts_default w)
+put_default {gs} {ts} {w} {g} {k} at =
+    let a = put (labelled {gs = gs} {ts = ts} 1 at) (same {s = Label w.next} {r = Label k} (ap Label at.next.same)) in
     record {
       its_code = a.its_code;
       its_procedures = a.its_procedures;
@@ -193,11 +194,11 @@ put_default {ts} {w} {g} {k} at =
     }
 
 -- items of STATIC, and tables
-pub put_item : {ts : List Target} {w : Writing} {g : Supply} {k : ℕ} → At w g k
-    → Adds ts w [] (static_item k (record { bound = (meaning (constant g).left).part; word = (constant g).part }) ∷ []) [] None (meaning (constant g).left).left (k + 1) (puts_item w)
-put_item {ts} {w} {g} {k} at =
-    let one_word = took {ts = ts} (λ x. (constant x).left) at in
-    let a = then one_word (then (took_meaning {ts = ts} one_word.at) (labelled 1 (took_meaning {ts = ts} one_word.at).at)) in
+pub put_item : {gs : List Goal} {ts : List Target} {w : Writing} {g : Supply} {k : ℕ} → At w g k
+    → Adds gs ts w [] (static_item k (record { bound = (meaning (constant g).left).part; word = (constant g).part }) ∷ []) [] None (meaning (constant g).left).left (k + 1) (puts_item w)
+put_item {gs} {ts} {w} {g} {k} at =
+    let one_word = took {gs = gs} {ts = ts} (λ x. (constant x).left) at in
+    let a = then one_word (then (took_meaning {gs = gs} {ts = ts} one_word.at) (labelled 1 (took_meaning {gs = gs} {ts = ts} one_word.at).at)) in
     record {
       its_code = a.its_code;
       its_procedures = a.its_procedures;
@@ -209,19 +210,19 @@ put_item {ts} {w} {g} {k} at =
       at = record { left = a.at.left; next = a.at.next };
     }
 
-pub put_items : {ts : List Target} (is : Items) {w : Writing} {g : Supply} {k : ℕ} → At w g k
-    → Adds ts w [] (parts_of_items k (f.static_items is g).part) [] None (f.static_items is g).left (k + length (f.static_items is g).part) (puts_items is w)
+pub put_items : {gs : List Goal} {ts : List Target} (is : Items) {w : Writing} {g : Supply} {k : ℕ} → At w g k
+    → Adds gs ts w [] (parts_of_items k (f.static_items is g).part) [] None (f.static_items is g).left (k + length (f.static_items is g).part) (puts_items is w)
 put_items no_items at = renumbered (nothing at) (omega arith)
-put_items {ts} (item l x e is) at = let first = put_item {ts = ts} at in renumbered (then first (put_items is first.at)) (omega arith)
+put_items {gs} {ts} (item l x e is) at = let first = put_item {gs = gs} {ts = ts} at in renumbered (then first (put_items is first.at)) (omega arith)
 
 pub no_parts : (is : Items) (g : Supply) → (dropped is g).part ≡ []
 no_parts no_items g = refl
 no_parts (item l x e is) g = no_parts is (constant g).left
 
-pub put_table : {ts : List Target} (es : Expressions) {w : Writing} {g : Supply} {k : ℕ} → At w g k
-    → Adds ts w (Address (Static k) ∷ []) (static_table k (constants_of es g).part ∷ []) [] None (constants_of es g).left (k + 1) (puts_table es w)
-put_table {ts} es {w} {g} {k} at =
-    let own = labelled {ts = ts} 1 at in
+pub put_table : {gs : List Goal} {ts : List Target} (es : Expressions) {w : Writing} {g : Supply} {k : ℕ} → At w g k
+    → Adds gs ts w (Address (Static k) ∷ []) (static_table k (constants_of es g).part ∷ []) [] None (constants_of es g).left (k + 1) (puts_table es w)
+put_table {gs} {ts} es {w} {g} {k} at =
+    let own = labelled {gs = gs} {ts = ts} 1 at in
     let a = put (then own (took (λ x. (constants_of es x).left) own.at)) (same {s = Address (Static w.next)} {r = Address (Static k)} (ap (λ x. Address (Static x)) at.next.same)) in
     record {
       its_code = a.its_code;
@@ -242,16 +243,19 @@ label_or_near h (Some m) None e = absurd cc
 label_or_near h (Some m) (Some i) e = cc
 
 -- a SWITCHON: its body was written aside, behind its value
-pub switched : {ts : List Target} {w v u : Writing} {c e : List Stmt} {ps qs : List Part} {ks : List Case} {x : Option ℕ} {g h : Supply} {k i j l : ℕ} → Near j l
-    → Adds ts w c ps [] None g k v → Adds ts (with_choices no_choices (with_code [] v)) e qs ks x h i u
-    → Adds ts w (c ++ Switch (label_or l x) ks ∷ e ++ Label l ∷ []) (ps ++ qs) [] None h i (puts_switch j v.code v.choices u)
-switched {ts} {w} {v} {u} {c} {e} {ps} {qs} {ks} {x} {g} {h} {k} {i} {j} {l} near_label a b =
+pub switched : {gs : List Goal} {ts : List Target} {w v u : Writing} {c e : List Stmt} {ps qs : List Part} {ks : List Case} {x : Option ℕ} {g h : Supply} {k i j l : ℕ} → Near j l
+    → Adds gs ts w c ps [] None g k v → Adds gs ts (with_choices no_choices (with_code [] v)) e qs ks x h i u
+    → Adds gs ts w (c ++ Switch (label_or l x) ks ∷ e ++ Label l ∷ []) (ps ++ qs) [] None h i (puts_switch j v.code v.choices u)
+switched {gs} {ts} {w} {v} {u} {c} {e} {ps} {qs} {ks} {x} {g} {h} {k} {i} {j} {l} near_label a b =
     let inner = then a (unchosen no_choices (resumed b)) in
     let choice : stmt_in_words (Switch (label_or j u.choices.default_label) u.choices.cases) ≡ stmt_in_words (Switch (label_or l x) ks) = ap (λ z. Switch z (map case_in_words u.choices.cases)) (label_or_near near_label _ _ b.its_default) ∙ ap (λ z. Switch (word (label_or l x)) z) b.its_cases.same in
-    let body : Alike stmt_in_words (Switch (label_or j u.choices.default_label) u.choices.cases ∷ u.code) (Switch (label_or l x) ks ∷ e) = and choice b.its_code in
+    let own : Stmt = Switch (label_or j u.choices.default_label) u.choices.cases in
+    let body : Alike stmt_in_words (own ∷ map (settled gs) u.code) (Switch (label_or l x) ks ∷ e) = and choice b.its_code in
+    let before = map (settled gs) w.code in
     record {
-      its_code = alike_is (alike_both (alike_both a.its_code body) (one (Label j) (Label l) (ap Label near_label.same)))
-          (ap (λ z. z ++ Label l ∷ []) (append_assoc w.code c (Switch (label_or l x) ks ∷ e)) ∙ append_assoc w.code (c ++ Switch (label_or l x) ks ∷ e) (Label l ∷ []));
+      its_code = is_alike (map-append (settled gs) (v.code ++ Ready own ∷ u.code) (Ready (Label j) ∷ []) ∙ ap (λ z. z ++ Label j ∷ []) (map-append (settled gs) v.code (Ready own ∷ u.code)))
+          (alike_is (alike_both (alike_both a.its_code body) (one (Label j) (Label l) (ap Label near_label.same)))
+          (ap (λ z. z ++ Label l ∷ []) (append_assoc before c (Switch (label_or l x) ks ∷ e)) ∙ append_assoc before (c ++ Switch (label_or l x) ks ∷ e) (Label l ∷ [])));
       its_procedures = inner.its_procedures;
       its_data = inner.its_data;
       its_entries = inner.its_entries;
@@ -311,22 +315,26 @@ begun_at x formals {w} {g} {k} at =
       next = record { same = ap word e.next ∙ (near_after (n.labels_of_procedure (meaning w.left).part) at.next).same ∙ ap (λ s. word (k + n.labels_of_procedure (meaning s).part)) at.left };
     }
 
-pub procedure_done : {ts : List Target} {w v : Writing} {body : List Stmt} {ps : List Part} {ks : List Case} {y : Option ℕ} {g h : Supply} {k i : ℕ} (part : Part) (x : List ℕ) (formals : ℕ) (return : Stmt) → At w g k
-    → Adds ts (begins_procedure x formals w) body ps ks y h i v
+pub procedure_done : {gs : List Goal} {ts : List Target} {w v : Writing} {body : List Stmt} {ps : List Part} {ks : List Case} {y : Option ℕ} {g h : Supply} {k i : ℕ} (part : Part) (x : List ℕ) (formals : ℕ) (return : Stmt) → At w g k
+    → Adds gs ts (begins_procedure x formals w) body ps ks y h i v
     → procedure_code ts part ≡ Entry k (first_bytes x) ∷ Save (formals + 2) ∷ body ++ return ∷ EndProcedure ∷ []
     → data_code part ≡ word_code k (meaning g).part → entries_of part ≡ entry_of k (meaning g).part → target_of part ≡ target_of_word (k + 1) (meaning g).part
-    → Adds ts w [] (part ∷ ps) [] None h i (ends_procedure return (outside_of w) v)
-procedure_done {ts} {w} {v} {body} {ps} {ks} {y} {g} {h} {k} {i} part x formals return at a is_code is_data is_entries is_targets =
+    → Adds gs ts w [] (part ∷ ps) [] None h i (ends_procedure return (outside_of w) v)
+procedure_done {gs} {ts} {w} {v} {body} {ps} {ks} {y} {g} {h} {k} {i} part x formals return at a is_code is_data is_entries is_targets =
     let e = entered (meaning w.left).part w.next (entering w) in
-    let none = nothing {ts = ts} at in
+    let none = nothing {gs = gs} {ts = ts} at in
     let head : Alike stmt_in_words (Entry w.next (first_bytes x) ∷ Save (after 2 formals) ∷ []) (Entry k (first_bytes x) ∷ Save (formals + 2) ∷ []) =
     and (ap (λ z. Entry z (first_bytes x)) at.next.same) (one (Save (after 2 formals)) (Save (formals + 2)) (ap Save (near_is (near_after formals (near 2)) (omega arith)).same)) in
-    let code : Alike stmt_in_words v.code (Entry k (first_bytes x) ∷ Save (formals + 2) ∷ body) = record { same = a.its_code.same ∙ ap (λ z. map stmt_in_words (z ++ Entry w.next (first_bytes x) ∷ [] ++ Save (after 2 formals) ∷ [] ++ body)) e.code ∙ (alike_both head (alike stmt_in_words body)).same } in
-    let inner : Alike stmt_in_words v.apart.procedures (joined (procedure_code ts) ps) = record { same = a.its_procedures.same ∙ ap (λ z. map stmt_in_words (z ++ joined (procedure_code ts) ps)) e.procedures } in
-    let whole : Alike stmt_in_words (v.code ++ return ∷ EndProcedure ∷ [] ++ v.apart.procedures) (procedure_code ts part ++ joined (procedure_code ts) ps) = alike_is (alike_both (alike_both code (alike stmt_in_words (return ∷ EndProcedure ∷ []))) inner) (ap (λ z. z ++ joined (procedure_code ts) ps) (sym is_code)) in
+    let code : Alike stmt_in_words (map (settled gs) v.code) (Entry k (first_bytes x) ∷ Save (formals + 2) ∷ body) =
+    record { same = a.its_code.same ∙ ap (λ z. map stmt_in_words (map (settled gs) (z ++ Ready (Entry w.next (first_bytes x)) ∷ [] ++ Ready (Save (after 2 formals)) ∷ []) ++ body)) e.code ∙ (alike_both head (alike stmt_in_words body)).same } in
+    let inner : Alike stmt_in_words (map (settled gs) v.apart.procedures) (joined (procedure_code ts) ps) = record { same = a.its_procedures.same ∙ ap (λ z. map stmt_in_words (map (settled gs) z ++ joined (procedure_code ts) ps)) e.procedures } in
+    let whole : Alike stmt_in_words (map (settled gs) v.code ++ return ∷ EndProcedure ∷ [] ++ map (settled gs) v.apart.procedures) (procedure_code ts part ++ joined (procedure_code ts) ps) = alike_is (alike_both (alike_both code (alike stmt_in_words (return ∷ EndProcedure ∷ []))) inner) (ap (λ z. z ++ joined (procedure_code ts) ps) (sym is_code)) in
+    let all_settled : map (settled gs) (w.apart.procedures ++ v.code ++ Ready return ∷ Ready EndProcedure ∷ [] ++ v.apart.procedures) ≡ map (settled gs) w.apart.procedures ++ map (settled gs) v.code ++ return ∷ EndProcedure ∷ [] ++ map (settled gs) v.apart.procedures =
+    map-append (settled gs) (w.apart.procedures ++ v.code ++ Ready return ∷ Ready EndProcedure ∷ []) v.apart.procedures
+    ∙ ap (λ z. z ++ map (settled gs) v.apart.procedures) (map-append (settled gs) (w.apart.procedures ++ v.code) (Ready return ∷ Ready EndProcedure ∷ []) ∙ ap (λ z. z ++ return ∷ EndProcedure ∷ []) (map-append (settled gs) w.apart.procedures v.code)) in
     record {
       its_code = none.its_code;
-      its_procedures = is_alike (ap (λ z. z ++ v.apart.procedures) (append_assoc w.apart.procedures v.code (return ∷ EndProcedure ∷ [])) ∙ append_assoc w.apart.procedures (v.code ++ return ∷ EndProcedure ∷ []) v.apart.procedures) (alike_both (alike stmt_in_words w.apart.procedures) whole);
+      its_procedures = is_alike (all_settled ∙ ap (λ z. z ++ map (settled gs) v.apart.procedures) (append_assoc (map (settled gs) w.apart.procedures) (map (settled gs) v.code) (return ∷ EndProcedure ∷ [])) ∙ append_assoc (map (settled gs) w.apart.procedures) (map (settled gs) v.code ++ return ∷ EndProcedure ∷ []) (map (settled gs) v.apart.procedures)) (alike_both (alike stmt_in_words (map (settled gs) w.apart.procedures)) whole);
       its_data = record {
         same = a.its_data.same ∙ ap (λ z. map stmt_in_words (z ++ joined data_code ps)) e.data_words
             ∙ (is_alike (append_assoc w.apart.data_words (word_written w.next (meaning w.left).part) (joined data_code ps)) (alike_both (alike stmt_in_words w.apart.data_words) (alike_both (is_alike (ap (λ z. word_written w.next (meaning z).part) at.left) (alike_is (words_near (meaning g).part at.next) (sym is_data))) (alike stmt_in_words (joined data_code ps))))).same;
@@ -360,8 +368,8 @@ goes_near k {j} {l} {s} {t} h ns = and {s = Label j} {r = Label l} (ap Label h.s
     (one (Stack s) (Stack t) (ap Stack ns.same)))))))
 
 -- choices with none behind them
-pub tail_cases : {ts : List Target} {w v : Writing} {c : List Stmt} {ps : List Part} {ks : List Case} {x : Option ℕ} {g : Supply} {k : ℕ} → Adds ts w c ps (ks ++ []) (first_of x None) g k v → Adds ts w c ps ks x g k v
-tail_cases {ts} {w} {v} {c} {ps} {ks} {x} a = rw (← append-nil ks) (rw (← first_none x) a)
+pub tail_cases : {gs : List Goal} {ts : List Target} {w v : Writing} {c : List Stmt} {ps : List Part} {ks : List Case} {x : Option ℕ} {g : Supply} {k : ℕ} → Adds gs ts w c ps (ks ++ []) (first_of x None) g k v → Adds gs ts w c ps ks x g k v
+tail_cases {gs} {ts} {w} {v} {c} {ps} {ks} {x} a = rw (← append-nil ks) (rw (← first_none x) a)
 
 -- what has no label and no word stays as it is
 pub ways_of_values : (x : Operator) (k : ℕ) → way_of x aim.Value k ≡ way.Plain

@@ -6,12 +6,15 @@ use Rattle.std.proofs.lemmas.List.{append-nil, map-append}
 use Rattle.bk_ocode.specs.declared.stmt.Case.{Case}
 use Rattle.bk_ocode.specs.declared.stmt.Stmt.{Stmt}
 use Rattle.bk_ocode.specs.Lists.{joined}
+use Rattle.bk_trans.specs.declared.around.Goal.{Goal}
 use Rattle.bk_trans.specs.declared.around.Target.{Target}
+use Rattle.bk_trans.specs.declared.draft.Draft.{Draft}
+use Rattle.bk_trans.specs.declared.draft.Draft.TheVariants.{Ready}
 use Rattle.bk_trans.specs.Alike.{word, case_in_words, entry_in_words, target_in_words, stmt_in_words}
 use Rattle.bk_trans.specs.Filling.{Supply}
 use Rattle.bk_trans.specs.Parts.{Part, target_of}
 use Rattle.bk_trans.specs.Scheme.{first_of, procedure_code, data_code, entries_of}
-use Rattle.bk_trans.specs.Writing.{Writing, after, puts_all, with_code, with_choices, takes_labels}
+use Rattle.bk_trans.specs.Writing.{Writing, after, settled, puts_drafts, puts_all, with_code, with_choices, takes_labels}
 
 -- numbers that are the same word
 pub record Near (a b : ℕ) : Type 0 where
@@ -73,9 +76,9 @@ pub record At (w : Writing) (g : Supply) (n : ℕ) : Type 0 where
   pub next : Near w.next n
 
 -- what was added to w, where it came to v
-pub record Adds (ts : List Target) (w : Writing) (code : List Stmt) (parts : List Part) (cases : List Case) (default : Option ℕ) (g : Supply) (n : ℕ) (v : Writing) : Type 0 where
-  pub its_code : Alike stmt_in_words v.code (w.code ++ code)
-  pub its_procedures : Alike stmt_in_words v.apart.procedures (w.apart.procedures ++ joined (procedure_code ts) parts)
+pub record Adds (gs : List Goal) (ts : List Target) (w : Writing) (code : List Stmt) (parts : List Part) (cases : List Case) (default : Option ℕ) (g : Supply) (n : ℕ) (v : Writing) : Type 0 where
+  pub its_code : Alike stmt_in_words (map (settled gs) v.code) (map (settled gs) w.code ++ code)
+  pub its_procedures : Alike stmt_in_words (map (settled gs) v.apart.procedures) (map (settled gs) w.apart.procedures ++ joined (procedure_code ts) parts)
   pub its_data : Alike stmt_in_words v.apart.data_words (w.apart.data_words ++ joined data_code parts)
   pub its_entries : Alike entry_in_words v.apart.entries (w.apart.entries ++ joined entries_of parts)
   pub its_targets : Alike target_in_words v.apart.targets (w.apart.targets ++ joined target_of parts)
@@ -86,10 +89,10 @@ pub record Adds (ts : List Target) (w : Writing) (code : List Stmt) (parts : Lis
 same_list : {A : Type 0} (f : A → A) (xs : List A) → Alike f xs (xs ++ [])
 same_list f xs = alike_is (alike f xs) (sym (append-nil xs))
 
-pub nothing : {ts : List Target} {w : Writing} {g : Supply} {n : ℕ} → At w g n → Adds ts w [] [] [] None g n w
-nothing {ts} {w} at = record {
-  its_code = same_list stmt_in_words w.code;
-  its_procedures = same_list stmt_in_words w.apart.procedures;
+pub nothing : {gs : List Goal} {ts : List Target} {w : Writing} {g : Supply} {n : ℕ} → At w g n → Adds gs ts w [] [] [] None g n w
+nothing {gs} {ts} {w} at = record {
+  its_code = same_list stmt_in_words (map (settled gs) w.code);
+  its_procedures = same_list stmt_in_words (map (settled gs) w.apart.procedures);
   its_data = same_list stmt_in_words w.apart.data_words;
   its_entries = same_list entry_in_words w.apart.entries;
   its_targets = same_list target_in_words w.apart.targets;
@@ -99,11 +102,11 @@ nothing {ts} {w} at = record {
 }
 
 -- one part behind another
-pub then : {ts : List Target} {w v u : Writing} {c d : List Stmt} {ps qs : List Part} {ks js : List Case} {x y : Option ℕ} {g h : Supply} {n m : ℕ}
-    → Adds ts w c ps ks x g n v → Adds ts v d qs js y h m u → Adds ts w (c ++ d) (ps ++ qs) (ks ++ js) (first_of x y) h m u
-then {ts} {w} {v} {u} {c} {d} {ps} {qs} {ks} {js} {x} {y} a b = record {
+pub then : {gs : List Goal} {ts : List Target} {w v u : Writing} {c d : List Stmt} {ps qs : List Part} {ks js : List Case} {x y : Option ℕ} {g h : Supply} {n m : ℕ}
+    → Adds gs ts w c ps ks x g n v → Adds gs ts v d qs js y h m u → Adds gs ts w (c ++ d) (ps ++ qs) (ks ++ js) (first_of x y) h m u
+then {gs} {ts} {w} {v} {u} {c} {d} {ps} {qs} {ks} {js} {x} {y} a b = record {
   its_code = alike_more _ _ _ a.its_code b.its_code;
-  its_procedures = alike_is (alike_more _ _ _ a.its_procedures b.its_procedures) (ap (λ l. w.apart.procedures ++ l) (sym (joined_both (procedure_code ts) ps qs)));
+  its_procedures = alike_is (alike_more _ _ _ a.its_procedures b.its_procedures) (ap (λ l. map (settled gs) w.apart.procedures ++ l) (sym (joined_both (procedure_code ts) ps qs)));
   its_data = alike_is (alike_more _ _ _ a.its_data b.its_data) (ap (λ l. w.apart.data_words ++ l) (sym (joined_both data_code ps qs)));
   its_entries = alike_is (alike_more _ _ _ a.its_entries b.its_entries) (ap (λ l. w.apart.entries ++ l) (sym (joined_both entries_of ps qs)));
   its_targets = alike_is (alike_more _ _ _ a.its_targets b.its_targets) (ap (λ l. w.apart.targets ++ l) (sym (joined_both target_of ps qs)));
@@ -112,11 +115,15 @@ then {ts} {w} {v} {u} {c} {d} {ps} {qs} {ks} {js} {x} {y} a b = record {
   at = b.at;
 }
 
--- statements more
-pub put : {ts : List Target} {w v : Writing} {c : List Stmt} {ps : List Part} {ks : List Case} {x : Option ℕ} {g : Supply} {n : ℕ} {ss rs : List Stmt}
-    → Adds ts w c ps ks x g n v → Alike stmt_in_words ss rs → Adds ts w (c ++ rs) ps ks x g n (puts_all ss v)
-put {ts} {w} {v} {c} a h = record {
-  its_code = alike_is (alike_both a.its_code h) (append_assoc w.code c _);
+-- drafts more, and statements
+settled_ready : (gs : List Goal) (ss : List Stmt) → map (settled gs) (map Ready ss) ≡ ss
+settled_ready gs [] = refl
+settled_ready gs (s ∷ ss) = ap (λ l. s ∷ l) (settled_ready gs ss)
+
+pub put_drafts : {gs : List Goal} {ts : List Target} {w v : Writing} {c : List Stmt} {ps : List Part} {ks : List Case} {x : Option ℕ} {g : Supply} {n : ℕ} {rs : List Stmt} (ds : List Draft)
+    → Adds gs ts w c ps ks x g n v → Alike stmt_in_words (map (settled gs) ds) rs → Adds gs ts w (c ++ rs) ps ks x g n (puts_drafts ds v)
+put_drafts {gs} {ts} {w} {v} {c} {ps} {ks} {x} {g} {n} {rs} ds a h = record {
+  its_code = is_alike (map-append (settled gs) v.code ds) (alike_is (alike_both a.its_code h) (append_assoc (map (settled gs) w.code) c rs));
   its_procedures = a.its_procedures;
   its_data = a.its_data;
   its_entries = a.its_entries;
@@ -126,10 +133,14 @@ put {ts} {w} {v} {c} a h = record {
   at = record { left = a.at.left; next = a.at.next };
 }
 
+pub put : {gs : List Goal} {ts : List Target} {w v : Writing} {c : List Stmt} {ps : List Part} {ks : List Case} {x : Option ℕ} {g : Supply} {n : ℕ} {ss rs : List Stmt}
+    → Adds gs ts w c ps ks x g n v → Alike stmt_in_words ss rs → Adds gs ts w (c ++ rs) ps ks x g n (puts_all ss v)
+put {gs} {ts} {w} {v} {c} {ps} {ks} {x} {g} {n} {ss} a h = put_drafts (map Ready ss) a (is_alike (settled_ready gs ss) h)
+
 -- labels
-pub labelled : {ts : List Target} {w : Writing} {g : Supply} {n : ℕ} (k : ℕ) → At w g n → Adds ts w [] [] [] None g (n + k) (takes_labels k w)
-labelled {ts} {w} k at =
-    let a = nothing {ts = ts} at in
+pub labelled : {gs : List Goal} {ts : List Target} {w : Writing} {g : Supply} {n : ℕ} (k : ℕ) → At w g n → Adds gs ts w [] [] [] None g (n + k) (takes_labels k w)
+labelled {gs} {ts} {w} k at =
+    let a = nothing {gs = gs} {ts = ts} at in
     record {
       its_code = a.its_code;
       its_procedures = a.its_procedures;
@@ -142,15 +153,15 @@ labelled {ts} {w} k at =
     }
 
 -- so many labels were taken
-pub renumbered : {ts : List Target} {w v : Writing} {c : List Stmt} {ps : List Part} {ks : List Case} {x : Option ℕ} {g : Supply} {n m : ℕ}
-    → Adds ts w c ps ks x g n v → n ≡ m → Adds ts w c ps ks x g m v
+pub renumbered : {gs : List Goal} {ts : List Target} {w v : Writing} {c : List Stmt} {ps : List Part} {ks : List Case} {x : Option ℕ} {g : Supply} {n m : ℕ}
+    → Adds gs ts w c ps ks x g n v → n ≡ m → Adds gs ts w c ps ks x g m v
 renumbered a e = rw (← e) a
 
 -- what was written aside, from where the code was nothing: it stays, and what was written before comes back
-pub resumed : {ts : List Target} {w v : Writing} {c : List Stmt} {ps : List Part} {ks : List Case} {x : Option ℕ} {g : Supply} {n : ℕ}
-    → Adds ts (with_code [] w) c ps ks x g n v → Adds ts w [] ps ks x g n (with_code w.code v)
-resumed {ts} {w} a = record {
-  its_code = same_list stmt_in_words w.code;
+pub resumed : {gs : List Goal} {ts : List Target} {w v : Writing} {c : List Stmt} {ps : List Part} {ks : List Case} {x : Option ℕ} {g : Supply} {n : ℕ}
+    → Adds gs ts (with_code [] w) c ps ks x g n v → Adds gs ts w [] ps ks x g n (with_code w.code v)
+resumed {gs} {ts} {w} a = record {
+  its_code = same_list stmt_in_words (map (settled gs) w.code);
   its_procedures = a.its_procedures;
   its_data = a.its_data;
   its_entries = a.its_entries;
@@ -161,9 +172,9 @@ resumed {ts} {w} a = record {
 }
 
 -- choices that were made inside stay there
-pub unchosen : {ts : List Target} {w v : Writing} {c : List Stmt} {ps : List Part} {g : Supply} {n : ℕ} {ks : List Case} {x : Option ℕ} (none : _)
-    → Adds ts (with_choices none w) c ps ks x g n v → Adds ts w c ps [] None g n (with_choices w.choices v)
-unchosen {ts} {w} none a = record {
+pub unchosen : {gs : List Goal} {ts : List Target} {w v : Writing} {c : List Stmt} {ps : List Part} {g : Supply} {n : ℕ} {ks : List Case} {x : Option ℕ} (none : _)
+    → Adds gs ts (with_choices none w) c ps ks x g n v → Adds gs ts w c ps [] None g n (with_choices w.choices v)
+unchosen {gs} {ts} {w} none a = record {
   its_code = a.its_code;
   its_procedures = a.its_procedures;
   its_data = a.its_data;
@@ -175,11 +186,15 @@ unchosen {ts} {w} none a = record {
 }
 
 -- the same code, put together in another way
-pub recoded : {ts : List Target} {w v : Writing} {c d : List Stmt} {ps : List Part} {ks : List Case} {x : Option ℕ} {g : Supply} {n : ℕ}
-    → Adds ts w c ps ks x g n v → c ≡ d → Adds ts w d ps ks x g n v
+pub recoded : {gs : List Goal} {ts : List Target} {w v : Writing} {c d : List Stmt} {ps : List Part} {ks : List Case} {x : Option ℕ} {g : Supply} {n : ℕ}
+    → Adds gs ts w c ps ks x g n v → c ≡ d → Adds gs ts w d ps ks x g n v
 recoded a e = rw (← e) a
 
--- statements more, and more behind them
-pub put_twice : {ts : List Target} {w v : Writing} {c : List Stmt} {ps : List Part} {ks : List Case} {x : Option ℕ} {g : Supply} {n : ℕ} {ss rs us vs : List Stmt}
-    → Adds ts w c ps ks x g n v → Alike stmt_in_words ss rs → Alike stmt_in_words us vs → Adds ts w (c ++ (rs ++ vs)) ps ks x g n (puts_all us (puts_all ss v))
-put_twice {ts} {w} {v} {c} {ps} {ks} {x} {g} {n} {ss} {rs} {us} {vs} a h i = recoded (put (put a h) i) (append_assoc c rs vs)
+-- statements more, and drafts or statements behind them
+pub put_both : {gs : List Goal} {ts : List Target} {w v : Writing} {c : List Stmt} {ps : List Part} {ks : List Case} {x : Option ℕ} {g : Supply} {n : ℕ} {ss rs vs : List Stmt} (ds : List Draft)
+    → Adds gs ts w c ps ks x g n v → Alike stmt_in_words ss rs → Alike stmt_in_words (map (settled gs) ds) vs → Adds gs ts w (c ++ (rs ++ vs)) ps ks x g n (puts_drafts ds (puts_all ss v))
+put_both {gs} {ts} {w} {v} {c} {ps} {ks} {x} {g} {n} {ss} {rs} {vs} ds a h i = recoded (put_drafts ds (put a h) i) (append_assoc c rs vs)
+
+pub put_twice : {gs : List Goal} {ts : List Target} {w v : Writing} {c : List Stmt} {ps : List Part} {ks : List Case} {x : Option ℕ} {g : Supply} {n : ℕ} {ss rs us vs : List Stmt}
+    → Adds gs ts w c ps ks x g n v → Alike stmt_in_words ss rs → Alike stmt_in_words us vs → Adds gs ts w (c ++ (rs ++ vs)) ps ks x g n (puts_all us (puts_all ss v))
+put_twice {gs} {ts} {w} {v} {c} {ps} {ks} {x} {g} {n} {ss} {rs} {us} a h i = put_both (map Ready us) a h (is_alike (settled_ready gs us) i)

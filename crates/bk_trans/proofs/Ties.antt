@@ -16,6 +16,7 @@ use Rattle.bk_ocode.specs.declared.stmt.Dyadic.TheVariants as d
 use Rattle.bk_ocode.specs.declared.stmt.Stmt.{Stmt}
 use Rattle.bk_ocode.specs.declared.stmt.Stmt.TheVariants.{Number, Query, Address, Text, Dyadic, Assign, AssignAt, AssignByte, Jump, JumpIf, Label, GiveResult, TakeResult, Stack, Store, CallFunction, CallRoutine, ReturnItem, Return, Finish}
 use Rattle.bk_trans.specs.declared.aim.Aim.TheVariants as aim
+use Rattle.bk_trans.specs.declared.draft.Draft.{Draft}
 use Rattle.bk_trans.specs.declared.around.Goal.{Goal}
 use Rattle.bk_trans.specs.declared.around.Around.{Around}
 use Rattle.bk_trans.specs.declared.around.Target.{Target}
@@ -26,10 +27,10 @@ use Rattle.bk_trans.specs.Filling.{Supply, meaning, constant, constants_of, step
 use Rattle.bk_trans.specs.Labels as n
 use Rattle.bk_trans.specs.Depths as depths
 use Rattle.bk_trans.specs.Parts.{Part, procedure, parts, parts_each, parts_if, parts_at, parts_onto, parts_from, parts_in, parts_through, parts_of_declarations, parts_of_declaration, parts_of_definitions, parts_of_definition, parts_of_starts}
-use Rattle.bk_trans.specs.Scheme.{outermost, valued, prefix_code, infix_code, truth_value, go, cases, cases_through, default_in, default_through, by_turns, value_code, each_code, jump_code, address_code, store_code, value_codes, store_codes, command_code, through_code, declarations_code, declaration_code, definitions_code, definition_code, starts_code}
-use Rattle.bk_trans.specs.Writing.{Writing, Stored, Reached, reached, after, place_in, word_of, push_of, puts_all, puts, with_code, with_choices, no_choices, takes_labels, written, each_written, address_written, store_written, stores_written, values_written, act_written, each_act_written, declared, one_declared, defined, one_defined, started, any_variables, steps_on, goes_on, begins_procedure}
-use Rattle.bk_trans.proofs.Adds.{Near, near, near_after, near_is, alike, is_alike, At, Adds, nothing, then, put, put_twice, labelled, renumbered, resumed, unchosen, recoded}
-use Rattle.bk_trans.proofs.Additions.{NearAround, Placed, one, same, and, go_near, variable_near, push_near, place_near, took_meaning, took, in_valof, in_loop, in_switch, in_procedure, put_label, put_case, put_default, put_items, no_parts, put_table, switched, begun_at, procedure_done, before_near, steps_near, goes_near, tail_cases, ways_of_values}
+use Rattle.bk_trans.specs.Scheme.{outermost, valued, prefix_code, infix_code, truth_value, cases, cases_through, default_in, default_through, by_turns, value_code, each_code, jump_code, address_code, store_code, value_codes, store_codes, command_code, through_code, declarations_code, declaration_code, definitions_code, definition_code, starts_code}
+use Rattle.bk_trans.specs.Writing.{Writing, Stored, Reached, reached, after, settled_word, settled, word_of, push_of, goto_code, puts_drafts, puts, with_code, with_choices, no_choices, takes_labels, written, each_written, address_written, store_written, stores_written, values_written, act_written, each_act_written, declared, one_declared, defined, one_defined, started, any_variables, steps_on, goes_on, begins_procedure}
+use Rattle.bk_trans.proofs.Adds.{Near, near, near_after, near_is, alike, is_alike, At, Adds, nothing, then, put, put_drafts, put_both, put_twice, labelled, renumbered, resumed, unchosen, recoded}
+use Rattle.bk_trans.proofs.Additions.{NearAround, Placed, one, same, and, go_near, variable_near, push_near, goto_near, took_meaning, took, in_valof, in_loop, in_switch, in_procedure, put_label, put_case, put_default, put_items, no_parts, put_table, switched, begun_at, procedure_done, before_near, steps_near, goes_near, tail_cases, ways_of_values}
 
 -- as many arguments as expressions
 counted : (es : Expressions) (g : Supply) → depths.count (f.terms es g).part ≡ size es
@@ -39,48 +40,48 @@ counted (more e es) g = ap (λ k. k + 1) (counted es (f.term e g).left)
 module _ (gs : List Goal) (ts : List Target) (placed : Placed gs ts) where
   abbrev Valued : Expression → Type 0
   Valued e = (s t : ℕ) (w : Writing) (g : Supply) (k : ℕ) → Near s t → At w g k
-      → Adds ts w (value_code ts t k (f.term e g).part) (parts t k (f.term e g).part) [] None (f.term e g).left (k + n.labels (f.term e g).part) (written gs s aim.Value e w)
+      → Adds gs ts w (value_code ts t k (f.term e g).part) (parts t k (f.term e g).part) [] None (f.term e g).left (k + n.labels (f.term e g).part) (written s aim.Value e w)
 
   abbrev Tested : Expression → Type 0
   Tested e = (s t : ℕ) (w : Writing) (g : Supply) (k : ℕ) → Near s t → At w g k → (z : Bool) (l j : ℕ) → Near l j
-      → Adds ts w (jump_code ts t k (f.condition e g).part z j) (parts_if t k (f.condition e g).part) [] None (f.condition e g).left (k + n.labels_if (f.condition e g).part) (written gs s (aim.Jump z l) e w)
+      → Adds gs ts w (jump_code ts t k (f.condition e g).part z j) (parts_if t k (f.condition e g).part) [] None (f.condition e g).left (k + n.labels_if (f.condition e g).part) (written s (aim.Jump z l) e w)
 
   record Tied (e : Expression) : Type 0 where
     pub value : Valued e
     pub jump : Tested e
 
   -- a value, and a jump by it
-  jumping : {w v : Writing} {c : List Stmt} {ps : List Part} {g : Supply} {k : ℕ} (z : Bool) {l j : ℕ} → Near l j → Adds ts w c ps [] None g k v
-      → Adds ts w (c ++ JumpIf z j ∷ []) ps [] None g k (puts (JumpIf z l) v)
+  jumping : {w v : Writing} {c : List Stmt} {ps : List Part} {g : Supply} {k : ℕ} (z : Bool) {l j : ℕ} → Near l j → Adds gs ts w c ps [] None g k v
+      → Adds gs ts w (c ++ JumpIf z j ∷ []) ps [] None g k (puts (JumpIf z l) v)
   jumping z {l} {j} h a = put a (one (JumpIf z l) (JumpIf z j) (ap (JumpIf z) h.same))
 
   -- an operator that is no `&` or `|`, or whose value is pushed
   two_values : (x : Operator) (l m : ℕ) (e h : Expression) → Tied e → Tied h → Valued (binary l x m e h)
   two_values x l m e h te th s t w g k ns at =
       let first = te.value s t w g k ns at in
-      let second = th.value (after s 1) (t + 1) (written gs s aim.Value e w) (f.term e g).left (k + n.labels (f.term e g).part) (near_after 1 ns) first.at in
+      let second = th.value (after s 1) (t + 1) (written s aim.Value e w) (f.term e g).left (k + n.labels (f.term e g).part) (near_after 1 ns) first.at in
       let all = put (then first second) (alike stmt_in_words (infix_code x)) in
       rw (ways_of_values x w.next) (renumbered all (omega arith))
 
   -- `&` and `|` in a condition
   both_tested : (l m : ℕ) (e h : Expression) → Tied e → Tied h → Tested (binary l o.Both m e h)
   both_tested l m e h te th s t w g k ns at true x j near_label =
-      let own = labelled {ts = ts} 1 at in
+      let own = labelled {gs = gs} {ts = ts} 1 at in
       let first = then own (te.jump s t (takes_labels 1 w) g (k + 1) ns own.at false w.next k at.next) in
       let all = then first (th.jump s t _ _ _ ns first.at true x j near_label) in
       renumbered (put all (same {s = Label w.next} {r = Label k} (ap Label at.next.same))) (omega arith)
   both_tested l m e h te th s t w g k ns at false x j near_label =
-      let own = labelled {ts = ts} 1 at in
+      let own = labelled {gs = gs} {ts = ts} 1 at in
       let first = then own (te.jump s t (takes_labels 1 w) g (k + 1) ns own.at false x j near_label) in
       renumbered (then first (th.jump s t _ _ _ ns first.at false x j near_label)) (omega arith)
 
   either_tested : (l m : ℕ) (e h : Expression) → Tied e → Tied h → Tested (binary l o.Either m e h)
   either_tested l m e h te th s t w g k ns at true x j near_label =
-      let own = labelled {ts = ts} 1 at in
+      let own = labelled {gs = gs} {ts = ts} 1 at in
       let first = then own (te.jump s t (takes_labels 1 w) g (k + 1) ns own.at true x j near_label) in
       renumbered (then first (th.jump s t _ _ _ ns first.at true x j near_label)) (omega arith)
   either_tested l m e h te th s t w g k ns at false x j near_label =
-      let own = labelled {ts = ts} 1 at in
+      let own = labelled {gs = gs} {ts = ts} 1 at in
       let first = then own (te.jump s t (takes_labels 1 w) g (k + 1) ns own.at true w.next k at.next) in
       let all = then first (th.jump s t _ _ _ ns first.at false x j near_label) in
       renumbered (put all (same {s = Label w.next} {r = Label k} (ap Label at.next.same))) (omega arith)
@@ -88,23 +89,23 @@ module _ (gs : List Goal) (ts : List Target) (placed : Placed gs ts) where
   -- what is tied of destinations, lists, commands and declarations
   abbrev Addressed : Expression → Type 0
   Addressed e = (s t : ℕ) (w : Writing) (g : Supply) (k : ℕ) → Near s t → At w g k
-      → Adds ts w (address_code ts t k (f.lvalue e g).part) (parts_at t k (f.lvalue e g).part) [] None (f.lvalue e g).left (k + n.labels_at (f.lvalue e g).part) (address_written gs s e w)
+      → Adds gs ts w (address_code ts t k (f.lvalue e g).part) (parts_at t k (f.lvalue e g).part) [] None (f.lvalue e g).left (k + n.labels_at (f.lvalue e g).part) (address_written s e w)
 
   abbrev Set_tie : Expression → Type 0
   Set_tie e = (s t : ℕ) (w : Writing) (g : Supply) (k : ℕ) → Near s t → At w g k
-      → Adds ts w (store_code ts t k (f.lvalue e g).part) (parts_at t k (f.lvalue e g).part) [] None (f.lvalue e g).left (k + n.labels_at (f.lvalue e g).part) (store_written gs s e w)
+      → Adds gs ts w (store_code ts t k (f.lvalue e g).part) (parts_at t k (f.lvalue e g).part) [] None (f.lvalue e g).left (k + n.labels_at (f.lvalue e g).part) (store_written s e w)
 
   record Reaching (e : Expression) : Type 0 where
     pub address : Addressed e
     pub store : Set_tie e
 
-  leaf : (x y : Stmt) {w : Writing} {g : Supply} {k : ℕ} → stmt_in_words x ≡ stmt_in_words y → At w g k → Adds ts w (y ∷ []) [] [] None g (k + 0) (puts x w)
+  leaf : (x y : Stmt) {w : Writing} {g : Supply} {k : ℕ} → stmt_in_words x ≡ stmt_in_words y → At w g k → Adds gs ts w (y ∷ []) [] [] None g (k + 0) (puts x w)
   leaf x y e at = renumbered (put (nothing at) (one x y e)) (omega arith)
 
   named_value : (l : ℕ) (x : List ℕ) → Valued (name l x)
-  named_value l x s t w g k ns at = renumbered (put (took_meaning at) (is_alike (ap (λ z. push_of gs (meaning z).part ∷ []) at.left) (one _ _ (push_near gs ts placed (meaning g).part)))) (omega arith)
+  named_value l x s t w g k ns at = renumbered (put_drafts _ (took_meaning at) (is_alike (ap (λ z. settled gs (push_of (meaning z).part) ∷ []) at.left) (one _ _ (push_near gs ts placed (meaning g).part)))) (omega arith)
 
-  nowhere : (e : Expression) → ((g : Supply) → f.lvalue e g ≡ f.filled p.nowhere g) → ((s : ℕ) (w : Writing) → address_written gs s e w ≡ w) → ((s : ℕ) (w : Writing) → store_written gs s e w ≡ w) → Reaching e
+  nowhere : (e : Expression) → ((g : Supply) → f.lvalue e g ≡ f.filled p.nowhere g) → ((s : ℕ) (w : Writing) → address_written s e w ≡ w) → ((s : ℕ) (w : Writing) → store_written s e w ≡ w) → Reaching e
   nowhere e is at_all not_at_all = record {
     address = λ s t w g k ns at. rw (is g) (rw (at_all s w) (renumbered (nothing at) (omega arith)));
     store = λ s t w g k ns at. rw (is g) (rw (not_at_all s w) (renumbered (nothing at) (omega arith)));
@@ -112,13 +113,13 @@ module _ (gs : List Goal) (ts : List Target) (placed : Placed gs ts) where
 
   abbrev Eached : Expressions → Type 0
   Eached es = (s t : ℕ) (w : Writing) (g : Supply) (k : ℕ) → Near s t → At w g k
-      → Adds ts w (each_code ts t k (f.terms es g).part) (parts_each t k (f.terms es g).part) [] None (f.terms es g).left (k + n.labels_each (f.terms es g).part) (each_written gs s es w)
+      → Adds gs ts w (each_code ts t k (f.terms es g).part) (parts_each t k (f.terms es g).part) [] None (f.terms es g).left (k + n.labels_each (f.terms es g).part) (each_written s es w)
 
   -- two operands, one behind the other
   two_behind : (a c : Expression) → Tied a → Tied c → (s t : ℕ) (w : Writing) (g : Supply) (k : ℕ) → Near s t → At w g k
-      → Adds ts w (value_code ts t k (f.term a g).part ++ value_code ts (t + 1) (k + n.labels (f.term a g).part) (f.term c (f.term a g).left).part)
+      → Adds gs ts w (value_code ts t k (f.term a g).part ++ value_code ts (t + 1) (k + n.labels (f.term a g).part) (f.term c (f.term a g).left).part)
       (parts t k (f.term a g).part ++ parts (t + 1) (k + n.labels (f.term a g).part) (f.term c (f.term a g).left).part) [] None (f.term c (f.term a g).left).left
-      (k + (n.labels (f.term a g).part + n.labels (f.term c (f.term a g).left).part)) (written gs (after s 1) aim.Value c (written gs s aim.Value a w))
+      (k + (n.labels (f.term a g).part + n.labels (f.term c (f.term a g).left).part)) (written (after s 1) aim.Value c (written s aim.Value a w))
   two_behind a c ta tc s t w g k ns at =
       let first = ta.value s t w g k ns at in
       renumbered (then first (tc.value (after s 1) (t + 1) _ _ _ (near_after 1 ns) first.at)) (omega arith)
@@ -126,10 +127,10 @@ module _ (gs : List Goal) (ts : List Target) (placed : Placed gs ts) where
   -- a choice
   chosen : (l m : ℕ) (c a b : Expression) → Tied c → Tied a → Tied b → Valued (choice l m c a b)
   chosen l m c a b tc ta tb s t w g k ns at =
-      let own = labelled {ts = ts} 2 at in
+      let own = labelled {gs = gs} {ts = ts} 2 at in
       let test = then own (tc.jump s t (takes_labels 2 w) g (k + 2) ns own.at false w.next k at.next) in
       let yes = then test (ta.value s t _ _ _ ns test.at) in
-      let between = put (nothing {ts = ts} yes.at) (and {s = GiveResult (after w.next 1)} {r = GiveResult (k + 1)} (ap GiveResult (near_after 1 at.next).same) (one (Label w.next) (Label k) (ap Label at.next.same))) in
+      let between = put (nothing {gs = gs} {ts = ts} yes.at) (and {s = GiveResult (after w.next 1)} {r = GiveResult (k + 1)} (ap GiveResult (near_after 1 at.next).same) (one (Label w.next) (Label k) (ap Label at.next.same))) in
       let no = then between (tb.value s t _ _ _ ns between.at) in
       let ends = and {s = GiveResult (after w.next 1)} {r = GiveResult (k + 1)} (ap GiveResult (near_after 1 at.next).same)
       (and {s = Label (after w.next 1)} {r = Label (k + 1)} (ap Label (near_after 1 at.next).same) (one (TakeResult s) (TakeResult t) (ap TakeResult ns.same))) in
@@ -137,102 +138,105 @@ module _ (gs : List Goal) (ts : List Target) (placed : Placed gs ts) where
 
   -- the arguments of a call and what is called, before the call itself
   calling : (e : Expression) (es : Expressions) → Tied e → Eached es → (s t : ℕ) (w : Writing) (g : Supply) (k : ℕ) → Near s t → At w g k
-      → Adds ts w (Stack (t + 2) ∷ each_code ts (t + 2) (k + n.labels (f.term e g).part) (f.terms es (f.term e g).left).part ++ value_code ts (t + 2 + depths.count (f.terms es (f.term e g).left).part) k (f.term e g).part)
+      → Adds gs ts w (Stack (t + 2) ∷ each_code ts (t + 2) (k + n.labels (f.term e g).part) (f.terms es (f.term e g).left).part ++ value_code ts (t + 2 + depths.count (f.terms es (f.term e g).left).part) k (f.term e g).part)
       (parts (t + 2 + depths.count (f.terms es (f.term e g).left).part) k (f.term e g).part ++ parts_each (t + 2) (k + n.labels (f.term e g).part) (f.terms es (f.term e g).left).part) [] None
       (f.terms es (f.term e g).left).left (k + (n.labels (f.term e g).part + n.labels_each (f.terms es (f.term e g).left).part))
-      (puts_all (written gs (after s (size es + 2)) aim.Value e (with_code [] w)).code (each_written gs (after s 2) es (puts (Stack (after s 2)) (with_code w.code (written gs (after s (size es + 2)) aim.Value e (with_code [] w))))))
+      (puts_drafts (written (after s (size es + 2)) aim.Value e (with_code [] w)).code (each_written (after s 2) es (puts (Stack (after s 2)) (with_code w.code (written (after s (size es + 2)) aim.Value e (with_code [] w))))))
   calling e es te tes s t w g k ns at =
       let c = depths.count (f.terms es (f.term e g).left).part in
       let many : c ≡ size es = counted es (f.term e g).left in
       let deeper : t + (size es + 2) ≡ t + 2 + c = omega (arith, many) in
       let callee = te.value (after s (size es + 2)) (t + 2 + c) (with_code [] w) g k (near_is (near_after (size es + 2) ns) deeper) (record { left = at.left; next = at.next }) in
       let stacked = put (resumed callee) (same {s = Stack (after s 2)} {r = Stack (t + 2)} (ap Stack (near_after 2 ns).same)) in
-      renumbered (put (then stacked (tes (after s 2) (t + 2) _ _ _ (near_after 2 ns) stacked.at)) (record { same = callee.its_code.same })) (omega arith)
+      renumbered (put_drafts _ (then stacked (tes (after s 2) (t + 2) _ _ _ (near_after 2 ns) stacked.at)) (record { same = callee.its_code.same })) (omega arith)
 
   abbrev Acted : Action → Type 0
   Acted c = (x y : Around) (s t : ℕ) (w : Writing) (g : Supply) (k : ℕ) → NearAround x y → Near s t → At w g k
-      → Adds ts w (command_code ts y t k (f.command c g).part) (parts_in t k (f.command c g).part) (cases k (f.command c g).part) (default_in k (f.command c g).part) (f.command c g).left
-      (k + n.labels_in (f.command c g).part) (act_written gs x s c w)
+      → Adds gs ts w (command_code ts y t k (f.command c g).part) (parts_in t k (f.command c g).part) (cases k (f.command c g).part) (default_in k (f.command c g).part) (f.command c g).left
+      (k + n.labels_in (f.command c g).part) (act_written x s c w)
 
   abbrev Acted_each : Actions → Type 0
   Acted_each cs = (x y : Around) (s t : ℕ) (w : Writing) (g : Supply) (k : ℕ) → NearAround x y → Near s t → At w g k
-      → Adds ts w (through_code ts y t k (f.commands cs g).part) (parts_through t k (f.commands cs g).part) (cases_through k (f.commands cs g).part) (default_through k (f.commands cs g).part) (f.commands cs g).left
-      (k + n.labels_through (f.commands cs g).part) (each_act_written gs x s cs w)
+      → Adds gs ts w (through_code ts y t k (f.commands cs g).part) (parts_through t k (f.commands cs g).part) (cases_through k (f.commands cs g).part) (default_through k (f.commands cs g).part) (f.commands cs g).left
+      (k + n.labels_through (f.commands cs g).part) (each_act_written x s cs w)
 
   at_choices : {w : Writing} {g : Supply} {k : ℕ} → At w g k → At (with_choices no_choices w) g k
   at_choices at = record { left = at.left; next = at.next }
 
   valof_value : (l : ℕ) (c : Action) → Acted c → Valued (valof l c)
   valof_value l c tc s t w g k ns at =
-      let own = labelled {ts = ts} 1 at in
+      let own = labelled {gs = gs} {ts = ts} 1 at in
       let body = unchosen no_choices (tc (valued w.next) (valued k) s t (with_choices no_choices (takes_labels 1 w)) g (k + 1) (in_valof at.next) ns (at_choices own.at)) in
       let ends = put (put (then own body) (same {s = Label w.next} {r = Label k} (ap Label at.next.same))) (same {s = TakeResult s} {r = TakeResult t} (ap TakeResult ns.same)) in
       renumbered (recoded ends (append_assoc _ (Label k ∷ []) (TakeResult t ∷ []))) (omega arith)
 
   -- with choices of its own
   acted_alone : (c : Action) → Acted c → (x y : Around) (s t : ℕ) (v : Writing) (g : Supply) (k : ℕ) → NearAround x y → Near s t → At v g k
-      → Adds ts v (command_code ts y t k (f.command c g).part) (parts_in t k (f.command c g).part) [] None (f.command c g).left (k + n.labels_in (f.command c g).part)
-      (with_choices v.choices (act_written gs x s c (with_choices no_choices v)))
+      → Adds gs ts v (command_code ts y t k (f.command c g).part) (parts_in t k (f.command c g).part) [] None (f.command c g).left (k + n.labels_in (f.command c g).part)
+      (with_choices v.choices (act_written x s c (with_choices no_choices v)))
   acted_alone c tc x y s t v g k na ns at = unchosen no_choices (tc x y s t (with_choices no_choices v) g k na ns (at_choices at))
 
   acted_each_alone : (cs : Actions) → Acted_each cs → (x y : Around) (s t : ℕ) (v : Writing) (g : Supply) (k : ℕ) → NearAround x y → Near s t → At v g k
-      → Adds ts v (through_code ts y t k (f.commands cs g).part) (parts_through t k (f.commands cs g).part) [] None (f.commands cs g).left (k + n.labels_through (f.commands cs g).part)
-      (with_choices v.choices (each_act_written gs x s cs (with_choices no_choices v)))
+      → Adds gs ts v (through_code ts y t k (f.commands cs g).part) (parts_through t k (f.commands cs g).part) [] None (f.commands cs g).left (k + n.labels_through (f.commands cs g).part)
+      (with_choices v.choices (each_act_written x s cs (with_choices no_choices v)))
   acted_each_alone cs tc x y s t v g k na ns at = unchosen no_choices (tc x y s t (with_choices no_choices v) g k na ns (at_choices at))
 
   acted_aside : (c : Action) → Acted c → (x y : Around) (s t : ℕ) (v : Writing) (g : Supply) (k : ℕ) → NearAround x y → Near s t → At v g k
-      → Adds ts (with_choices no_choices (with_code [] v)) (command_code ts y t k (f.command c g).part) (parts_in t k (f.command c g).part) (cases k (f.command c g).part) (default_in k (f.command c g).part)
-      (f.command c g).left (k + n.labels_in (f.command c g).part) (act_written gs x s c (with_choices no_choices (with_code [] v)))
+      → Adds gs ts (with_choices no_choices (with_code [] v)) (command_code ts y t k (f.command c g).part) (parts_in t k (f.command c g).part) (cases k (f.command c g).part) (default_in k (f.command c g).part)
+      (f.command c g).left (k + n.labels_in (f.command c g).part) (act_written x s c (with_choices no_choices (with_code [] v)))
   acted_aside c tc x y s t v g k na ns at = tc x y s t (with_choices no_choices (with_code [] v)) g k na ns (record { left = at.left; next = at.next })
 
   -- destinations, written aside
+  abbrev Same_codes : List (List Draft) → List (List Stmt) → Type 0
+  Same_codes ds ss = map (map stmt_in_words) (map (map (settled gs)) ds) ≡ map (map stmt_in_words) ss
+
   record Stores (w : Writing) (before : List (List Stmt)) (codes : List (List Stmt)) (ps : List Part) (g : Supply) (k : ℕ) (r : Stored) : Type 0 where
-    pub codes_are : map (map stmt_in_words) r.codes ≡ map (map stmt_in_words) (before ++ codes)
-    pub writing_is : Adds ts w [] ps [] None g k r.writing
+    pub codes_are : Same_codes r.codes (before ++ codes)
+    pub writing_is : Adds gs ts w [] ps [] None g k r.writing
 
   abbrev Stores_each : Expressions → Type 0
-  Stores_each es = (s t : ℕ) (r : Stored) (before : List (List Stmt)) (g : Supply) (k : ℕ) → Near s t → At r.writing g k → map (map stmt_in_words) r.codes ≡ map (map stmt_in_words) before
-      → Stores r.writing before (store_codes ts t k (f.lvalues es g).part) (parts_onto t k (f.lvalues es g).part) (f.lvalues es g).left (k + n.labels_onto (f.lvalues es g).part) (stores_written gs s es r)
+  Stores_each es = (s t : ℕ) (r : Stored) (before : List (List Stmt)) (g : Supply) (k : ℕ) → Near s t → At r.writing g k → Same_codes r.codes before
+      → Stores r.writing before (store_codes ts t k (f.lvalues es g).part) (parts_onto t k (f.lvalues es g).part) (f.lvalues es g).left (k + n.labels_onto (f.lvalues es g).part) (stores_written s es r)
 
   -- values, with destinations behind them
   abbrev Sets_each : Expressions → Type 0
-  Sets_each es = (s t : ℕ) (w : Writing) (xs ys : List (List Stmt)) (g : Supply) (k : ℕ) → Near s t → At w g k → map (map stmt_in_words) xs ≡ map (map stmt_in_words) ys
-      → Adds ts w (by_turns (value_codes ts t k (f.terms es g).part) ys) (parts_from t k (f.terms es g).part) [] None (f.terms es g).left (k + n.labels_each (f.terms es g).part) (values_written gs s es xs w)
+  Sets_each es = (s t : ℕ) (w : Writing) (xs : List (List Draft)) (ys : List (List Stmt)) (g : Supply) (k : ℕ) → Near s t → At w g k → Same_codes xs ys
+      → Adds gs ts w (by_turns (value_codes ts t k (f.terms es g).part) ys) (parts_from t k (f.terms es g).part) [] None (f.terms es g).left (k + n.labels_each (f.terms es g).part) (values_written s es xs w)
 
   -- declarations, and the depth behind them
   pub record Declares (w : Writing) (code : List Stmt) (ps : List Part) (t : ℕ) (g : Supply) (k : ℕ) (r : Reached) : Type 0 where
-    pub writing_is : Adds ts w code ps [] None g k r.writing
+    pub writing_is : Adds gs ts w code ps [] None g k r.writing
     pub depth_is : Near r.depth t
 
   abbrev pub Declared : Declarations → Type 0
   Declared ds = (r : Reached) (t : ℕ) (g : Supply) (k : ℕ) → Near r.depth t → At r.writing g k
       → Declares r.writing (declarations_code ts t k (f.all_declared ds g).part) (parts_of_declarations t k (f.all_declared ds g).part) (depths.behind_declarations t (f.all_declared ds g).part) (f.all_declared ds g).left
-      (k + n.labels_of_declarations (f.all_declared ds g).part) (declared gs ds r)
+      (k + n.labels_of_declarations (f.all_declared ds g).part) (declared ds r)
 
   abbrev Declared_one : Declaration → Type 0
   Declared_one ds = (r : Reached) (t : ℕ) (g : Supply) (k : ℕ) → Near r.depth t → At r.writing g k
       → Declares r.writing (declaration_code ts t k (f.declared ds g).part) (parts_of_declaration t k (f.declared ds g).part) (depths.behind_declaration t (f.declared ds g).part) (f.declared ds g).left
-      (k + n.labels_of_declaration (f.declared ds g).part) (one_declared gs ds r)
+      (k + n.labels_of_declaration (f.declared ds g).part) (one_declared ds r)
 
   abbrev Defined : Definitions → Type 0
   Defined ds = (r : Reached) (t : ℕ) (g : Supply) (k : ℕ) → Near r.depth t → At r.writing g k
       → Declares r.writing (definitions_code ts t k (f.all_defined ds g).part) (parts_of_definitions t k (f.all_defined ds g).part) (depths.behind_definitions t (f.all_defined ds g).part) (f.all_defined ds g).left
-      (k + n.labels_of_definitions (f.all_defined ds g).part) (defined gs ds r)
+      (k + n.labels_of_definitions (f.all_defined ds g).part) (defined ds r)
 
   abbrev Defined_one : Definition → Type 0
   Defined_one ds = (r : Reached) (t : ℕ) (g : Supply) (k : ℕ) → Near r.depth t → At r.writing g k
       → Declares r.writing (definition_code ts t k (f.defined ds g).part) (parts_of_definition t k (f.defined ds g).part) (depths.behind_definition t (f.defined ds g).part) (f.defined ds g).left
-      (k + n.labels_of_definition (f.defined ds g).part) (one_defined gs ds r)
+      (k + n.labels_of_definition (f.defined ds g).part) (one_defined ds r)
 
   abbrev Started : Starts → Type 0
   Started is = (r : Reached) (t : ℕ) (g : Supply) (k : ℕ) → Near r.depth t → At r.writing g k
       → Declares r.writing (starts_code ts t k (f.starts is g).part) (parts_of_starts t k (f.starts is g).part) (depths.behind_starts t (f.starts is g).part) (f.starts is g).left
-      (k + n.labels_of_starts (f.starts is g).part) (started gs is r)
+      (k + n.labels_of_starts (f.starts is g).part) (started is r)
 
-  heads_are : (x y : List Stmt) (xs ys : List (List Stmt)) → map (map stmt_in_words) (x ∷ xs) ≡ map (map stmt_in_words) (y ∷ ys) → map stmt_in_words x ≡ map stmt_in_words y
+  heads_are : (x : List Draft) (y : List Stmt) (xs : List (List Draft)) (ys : List (List Stmt)) → Same_codes (x ∷ xs) (y ∷ ys) → map stmt_in_words (map (settled gs) x) ≡ map stmt_in_words y
   heads_are x y xs ys h = cc
 
-  tails_are : (x y : List Stmt) (xs ys : List (List Stmt)) → map (map stmt_in_words) (x ∷ xs) ≡ map (map stmt_in_words) (y ∷ ys) → map (map stmt_in_words) xs ≡ map (map stmt_in_words) ys
+  tails_are : (x : List Draft) (y : List Stmt) (xs : List (List Draft)) (ys : List (List Stmt)) → Same_codes (x ∷ xs) (y ∷ ys) → Same_codes xs ys
   tails_are x y xs ys h = cc
 
   no_turns : (xs : List (List Stmt)) → by_turns xs [] ≡ []
@@ -245,7 +249,7 @@ module _ (gs : List Goal) (ts : List Target) (placed : Placed gs ts) where
   same_variables (define (function l x fs e) ds) g = same_variables ds (f.defined (function l x fs e) g).left
   same_variables (define (variables l xs is) ds) g = refl
 
-  put_store : (z : Bool) {w v : Writing} {c : List Stmt} {ps : List Part} {g : Supply} {k : ℕ} → Adds ts w c ps [] None g k v → Adds ts w (c ++ cond z (Store ∷ []) []) ps [] None g k (cond z (puts Store v) v)
+  put_store : (z : Bool) {w v : Writing} {c : List Stmt} {ps : List Part} {g : Supply} {k : ℕ} → Adds gs ts w c ps [] None g k v → Adds gs ts w (c ++ cond z (Store ∷ []) []) ps [] None g k (cond z (puts Store v) v)
   put_store true a = put a (alike stmt_in_words (Store ∷ []))
   put_store false a = recoded a (sym (append-nil _))
 
@@ -336,8 +340,8 @@ module _ (gs : List Goal) (ts : List Target) (placed : Placed gs ts) where
 
     reaching : (e : Expression) → Reaching e
     reaching (name l x) = record {
-      address = λ s t w g k ns at. renumbered (put (took_meaning at) (is_alike (ap (λ z. Address (word_of gs (meaning z).part) ∷ []) at.left) (one _ _ (ap Address (variable_near gs ts placed (meaning g).part))))) (omega arith);
-      store = λ s t w g k ns at. renumbered (put (took_meaning at) (is_alike (ap (λ z. Assign (word_of gs (meaning z).part) ∷ []) at.left) (one _ _ (ap Assign (variable_near gs ts placed (meaning g).part))))) (omega arith);
+      address = λ s t w g k ns at. renumbered (put_drafts _ (took_meaning at) (is_alike (ap (λ z. Address (settled_word gs (word_of (meaning z).part)) ∷ []) at.left) (one _ _ (ap Address (variable_near gs ts placed (meaning g).part))))) (omega arith);
+      store = λ s t w g k ns at. renumbered (put_drafts _ (took_meaning at) (is_alike (ap (λ z. Assign (settled_word gs (word_of (meaning z).part)) ∷ []) at.left) (one _ _ (ap Assign (variable_near gs ts placed (meaning g).part))))) (omega arith);
     }
     reaching (parens l e) = record { address = (reaching e).address; store = (reaching e).store }
     reaching (unary l q.Contents e) = record {
@@ -387,11 +391,12 @@ module _ (gs : List Goal) (ts : List Target) (placed : Placed gs ts) where
     stored (more e es) s t r before g k ns at h =
         let one_store = (reaching e).store s t (with_code [] r.writing) g k ns (record { left = at.left; next = at.next }) in
         let code = store_code ts t k (f.lvalue e g).part in
-        let written_one : Writing = store_written gs s e (with_code [] r.writing) in
+        let written_one : Writing = store_written s e (with_code [] r.writing) in
         let next : Stored = record { codes = r.codes ++ written_one.code ∷ []; writing = with_code r.writing.code written_one } in
         let first = resumed one_store in
-        let codes : map (map stmt_in_words) (r.codes ++ written_one.code ∷ []) ≡ map (map stmt_in_words) (before ++ code ∷ []) =
-        map-append (map stmt_in_words) r.codes (written_one.code ∷ []) ∙ ap (λ z. z ++ map stmt_in_words written_one.code ∷ []) h ∙ ap (λ z. map (map stmt_in_words) before ++ z ∷ []) one_store.its_code.same
+        let codes : Same_codes (r.codes ++ written_one.code ∷ []) (before ++ code ∷ []) =
+        ap (map (map stmt_in_words)) (map-append (map (settled gs)) r.codes (written_one.code ∷ [])) ∙ map-append (map stmt_in_words) (map (map (settled gs)) r.codes) (map (settled gs) written_one.code ∷ [])
+        ∙ ap (λ z. z ++ map stmt_in_words (map (settled gs) written_one.code) ∷ []) h ∙ ap (λ z. map (map stmt_in_words) before ++ z ∷ []) one_store.its_code.same
         ∙ sym (map-append (map stmt_in_words) before (code ∷ [])) in
         let rest = stored es s t next (before ++ code ∷ []) _ _ ns first.at codes in
         record {
@@ -408,7 +413,7 @@ module _ (gs : List Goal) (ts : List Target) (placed : Placed gs ts) where
     set (more e es) s t w [] (y ∷ ys) g k ns at h = absurd cc
     set (more e es) s t w (x ∷ xs) [] g k ns at h = absurd cc
     set (more e es) s t w (x ∷ xs) (y ∷ ys) g k ns at h =
-        let first = put ((tied e).value s t w g k ns at) (record { same = heads_are x y xs ys h }) in
+        let first = put_drafts _ ((tied e).value s t w g k ns at) (record { same = heads_are x y xs ys h }) in
         let rest = set es s t _ xs ys _ _ ns first.at (tails_are x y xs ys h) in
         renumbered (then first rest) (omega arith)
 
@@ -420,40 +425,40 @@ module _ (gs : List Goal) (ts : List Target) (placed : Placed gs ts) where
         renumbered (then onto.writing_is values) (omega arith)
     acted (call l e es) x y s t w g k na ns at = put (calling e es (tied e) (tied_each es) s t w g k ns at) (same {s = CallRoutine s} {r = CallRoutine t} (ap CallRoutine ns.same))
     acted (goto l x) y z s t w g k na ns at =
-        renumbered (put (took_meaning at) (is_alike (ap (λ v. go (place_in gs (meaning v).part) s) at.left) (go_near _ _ s t (place_near gs ts placed (meaning g).part) ns))) (omega arith)
+        renumbered (put_drafts _ (took_meaning at) (is_alike (ap (λ v. map (settled gs) (goto_code s (meaning v).part)) at.left) (goto_near gs ts placed (meaning g).part ns))) (omega arith)
     acted (label l x c) y z s t w g k na ns at =
-        let first = put_label {ts = ts} {w = w} {g = g} {k = k} {s = s} {t = t} at ns in
+        let first = put_label {gs = gs} {ts = ts} {w = w} {g = g} {k = k} {s = s} {t = t} at ns in
         renumbered (then first (acted c y z s t _ _ _ na ns first.at)) (omega arith)
     acted (case_of l e c) y z s t w g k na ns at =
-        let first = put_case {ts = ts} {w = w} {g = g} {k = k} at in
+        let first = put_case {gs = gs} {ts = ts} {w = w} {g = g} {k = k} at in
         renumbered (then first (acted c y z s t _ _ _ na ns first.at)) (omega arith)
     acted (default l c) y z s t w g k na ns at =
-        let first = put_default {ts = ts} {w = w} {g = g} {k = k} at in
+        let first = put_default {gs = gs} {ts = ts} {w = w} {g = g} {k = k} at in
         renumbered (then first (acted c y z s t _ _ _ na ns first.at)) (omega arith)
     acted (when l v e c) y z s t w g k na ns at =
-        let own = labelled {ts = ts} 1 at in
+        let own = labelled {gs = gs} {ts = ts} 1 at in
         let test = then own ((tied e).jump s t (takes_labels 1 w) g (k + 1) ns own.at (not v) w.next k at.next) in
         let body = then test (acted c y z s t _ _ _ na ns test.at) in
         renumbered (put body (same {s = Label w.next} {r = Label k} (ap Label at.next.same))) (omega arith)
     acted (test l e a c) y z s t w g k na ns at =
-        let own = labelled {ts = ts} 2 at in
+        let own = labelled {gs = gs} {ts = ts} 2 at in
         let test = then own ((tied e).jump s t (takes_labels 2 w) g (k + 2) ns own.at false w.next k at.next) in
         let yes = then test (acted a y z s t _ _ _ na ns test.at) in
-        let between = put (put (nothing {ts = ts} yes.at) (same {s = Jump (after w.next 1)} {r = Jump (k + 1)} (ap Jump (near_after 1 at.next).same))) (same {s = Label w.next} {r = Label k} (ap Label at.next.same)) in
+        let between = put (put (nothing {gs = gs} {ts = ts} yes.at) (same {s = Jump (after w.next 1)} {r = Jump (k + 1)} (ap Jump (near_after 1 at.next).same))) (same {s = Label w.next} {r = Label k} (ap Label at.next.same)) in
         let no = then between (acted c y z s t _ _ _ na ns between.at) in
         renumbered (put (then yes no) (same {s = Label (after w.next 1)} {r = Label (k + 1)} (ap Label (near_after 1 at.next).same))) (omega arith)
     acted (while l v e c) y z s t w g k na ns at =
-        let own = labelled {ts = ts} 3 at in
+        let own = labelled {gs = gs} {ts = ts} 3 at in
         let test = (tied e).jump s t (with_code [] (takes_labels 3 w)) g (k + 3) ns (record { left = own.at.left; next = own.at.next }) v (after w.next 1) (k + 1) (near_after 1 at.next) in
         let begins = put (put (then own (resumed test)) (same {s = Jump w.next} {r = Jump k} (ap Jump at.next.same))) (same {s = Label (after w.next 1)} {r = Label (k + 1)} (ap Label (near_after 1 at.next).same)) in
         let body = then begins (acted c _ _ s t _ _ _ (in_loop at.next (near_after 2 at.next) ns na) ns begins.at) in
-        let tests = put_twice body (same {s = Label w.next} {r = Label k} (ap Label at.next.same)) (record { same = test.its_code.same }) in
+        let tests = put_both (written s (aim.Jump v (after w.next 1)) e (with_code [] (takes_labels 3 w))).code body (same {s = Label w.next} {r = Label k} (ap Label at.next.same)) (record { same = test.its_code.same }) in
         renumbered (put tests (same {s = Label (after w.next 2)} {r = Label (k + 2)} (ap Label (near_after 2 at.next).same))) (omega arith)
     acted (for_loop l x a e h c) y z s t w g k na ns at =
-        let own = labelled {ts = ts} 4 at in
+        let own = labelled {gs = gs} {ts = ts} 4 at in
         let start = then own ((tied a).value s t (takes_labels 4 w) g (k + 4) ns own.at) in
         let limit = then start ((tied e).value (after s 1) (t + 1) _ _ _ (near_after 1 ns) start.at) in
-        let step = took {ts = ts} (λ v. (step_of h v).left) limit.at in
+        let step = took {gs = gs} {ts = ts} (λ v. (step_of h v).left) limit.at in
         let begins = put step (before_near at.next) in
         let body = acted_alone c (acted c) _ _ (after s 2) (t + 2) _ _ _ (in_loop (near_after 2 at.next) (near_after 3 at.next) (near_after 2 ns) na) (near_after 2 ns) begins.at in
         let by : ℕ = (step_of h (f.term e (f.term a g).left).left).part in
@@ -461,7 +466,7 @@ module _ (gs : List Goal) (ts : List Target) (placed : Placed gs ts) where
         let goes = is_alike (ap (λ v. goes_on w.next s (step_of h v).part) limit.at.left) (goes_near by at.next ns) in
         renumbered (put_twice (then limit (then begins body)) steps goes) (omega arith)
     acted (switch l e c) y z s t w g k na ns at =
-        let own = labelled {ts = ts} 1 at in
+        let own = labelled {gs = gs} {ts = ts} 1 at in
         let first = then own ((tied e).value s t (takes_labels 1 w) g (k + 1) ns own.at) in
         let body = acted_aside c (acted c) _ _ s t _ _ _ (in_switch at.next ns na) ns first.at in
         renumbered (switched at.next first body) (omega arith)
@@ -479,14 +484,14 @@ module _ (gs : List Goal) (ts : List Target) (placed : Placed gs ts) where
         let body = acted_each_alone cs (acted_each cs) y z _ _ _ _ _ na heads.depth_is heads.writing_is.at in
         renumbered (put (then heads.writing_is body) (same {s = Stack s} {r = Stack t} (ap Stack ns.same))) (omega arith)
     acted (repeat l c) y z s t w g k na ns at =
-        let own = put (labelled {ts = ts} 2 at) (same {s = Label w.next} {r = Label k} (ap Label at.next.same)) in
+        let own = put (labelled {gs = gs} {ts = ts} 2 at) (same {s = Label w.next} {r = Label k} (ap Label at.next.same)) in
         let body = then own (acted c _ _ s t _ _ _ (in_loop at.next (near_after 1 at.next) ns na) ns own.at) in
         let ends = put_twice body (same {s = Jump w.next} {r = Jump k} (ap Jump at.next.same)) (same {s = Label (after w.next 1)} {r = Label (k + 1)} (ap Label (near_after 1 at.next).same)) in
         renumbered ends (omega arith)
     acted (repeat_while l v c e) y z s t w g k na ns at =
-        let own = put (labelled {ts = ts} 3 at) (same {s = Label w.next} {r = Label k} (ap Label at.next.same)) in
+        let own = put (labelled {gs = gs} {ts = ts} 3 at) (same {s = Label w.next} {r = Label k} (ap Label at.next.same)) in
         let body = then own (acted c _ _ s t _ _ _ (in_loop (near_after 1 at.next) (near_after 2 at.next) ns na) ns own.at) in
-        let between = put (nothing {ts = ts} body.at) (same {s = Label (after w.next 1)} {r = Label (k + 1)} (ap Label (near_after 1 at.next).same)) in
+        let between = put (nothing {gs = gs} {ts = ts} body.at) (same {s = Label (after w.next 1)} {r = Label (k + 1)} (ap Label (near_after 1 at.next).same)) in
         let test = then between ((tied e).jump s t _ _ _ ns between.at v w.next k at.next) in
         renumbered (put (tail_cases (then body test)) (same {s = Label (after w.next 2)} {r = Label (k + 2)} (ap Label (near_after 2 at.next).same))) (omega arith)
 
@@ -531,12 +536,12 @@ module _ (gs : List Goal) (ts : List Target) (placed : Placed gs ts) where
     begun no_starts r t g k ns at = record { writing_is = renumbered (nothing at) (omega arith); depth_is = ns }
     begun (value e is) r t g k ns at =
         let first = (tied e).value r.depth t r.writing g k ns at in
-        let rest = begun is (reached (after r.depth 1) (written gs r.depth aim.Value e r.writing)) (t + 1) _ _ (near_after 1 ns) first.at in
+        let rest = begun is (reached (after r.depth 1) (written r.depth aim.Value e r.writing)) (t + 1) _ _ (near_after 1 ns) first.at in
         record { writing_is = renumbered (then first rest.writing_is) (omega arith); depth_is = rest.depth_is }
     begun (vector l e is) r t g k ns at =
         let v : ℕ = (constant g).part in
         let same_word : (constant r.writing.left).part ≡ v = ap (λ x. (constant x).part) at.left in
         let near_top : Near (after r.depth ((constant r.writing.left).part + 1)) (t + v + 1) = near_is (near_after _ ns) (omega (arith, same_word)) in
-        let words = put (took {ts = ts} (λ x. (constant x).left) at) (and {s = Stack (after r.depth ((constant r.writing.left).part + 1))} {r = Stack (t + v + 1)} (ap Stack near_top.same) (one (Address (Local r.depth)) (Address (Local t)) (ap (λ x. Address (Local x)) ns.same))) in
+        let words = put (took {gs = gs} {ts = ts} (λ x. (constant x).left) at) (and {s = Stack (after r.depth ((constant r.writing.left).part + 1))} {r = Stack (t + v + 1)} (ap Stack near_top.same) (one (Address (Local r.depth)) (Address (Local t)) (ap (λ x. Address (Local x)) ns.same))) in
         let rest = begun is (reached (after r.depth ((constant r.writing.left).part + 2)) _) (t + v + 2) _ _ (near_is (near_after _ ns) (omega (arith, same_word))) words.at in
         record { writing_is = renumbered (then words rest.writing_is) (omega arith); depth_is = rest.depth_is }

@@ -53,17 +53,17 @@ module _ (ds : Declarations) (g : Supply) where
   its_parts = parts_of_declarations 2 1 (f.all_declared ds g).part
 
   -- where its declarations went is found by writing it once
-  found : map target_in_words (section_written [] ds g).apart.targets ≡ map target_in_words (joined target_of its_parts)
+  found : map target_in_words (section_written ds g).apart.targets ≡ map target_in_words (joined target_of its_parts)
   found = (all_declared [] [] nowhere ds (reached 2 (starting g)) 2 g 1 (near 2) (record { left = refl; next = near 1 })).writing_is.its_targets.same
 
   -- and so the statements are those of the scheme
   pub section_alike : (stmts : List Stmt) → AreWritten ds g stmts → in_words stmts ≡ in_words (scheme (f.all_declared ds g).part)
   section_alike stmts w =
       let ts : List Target = joined target_of its_parts in
-      let placed : Placed w.goals ts = record { at_number = λ m. rw (w.places m) (goals_near (section_written [] ds g).apart.targets ts found m) } in
+      let placed : Placed w.goals ts = record { at_number = λ m. rw (w.places m) (goals_near (section_written ds g).apart.targets ts found m) } in
       let all = (all_declared w.goals ts placed ds (reached 2 (starting g)) 2 g 1 (near 2) (record { left = refl; next = near 1 })).writing_is in
-      let globals : stmt_in_words (Globals (section_written w.goals ds g).apart.entries) ≡ stmt_in_words (Globals (joined entries_of its_parts)) = ap Globals all.its_entries.same in
-      let last : Alike stmt_in_words (Globals (section_written w.goals ds g).apart.entries ∷ []) (Globals (joined entries_of its_parts) ∷ []) = record { same = ap (λ x. x ∷ []) globals } in
+      let globals : stmt_in_words (Globals (section_written ds g).apart.entries) ≡ stmt_in_words (Globals (joined entries_of its_parts)) = ap Globals all.its_entries.same in
+      let last : Alike stmt_in_words (Globals (section_written ds g).apart.entries ∷ []) (Globals (joined entries_of its_parts) ∷ []) = record { same = ap (λ x. x ∷ []) globals } in
       ap (map stmt_in_words) w.are ∙ (alike_both (alike_both (record { same = all.its_procedures.same }) (record { same = all.its_data.same })) last).same
 
 -- of a section without faults, with its meanings and words

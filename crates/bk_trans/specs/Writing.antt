@@ -4,7 +4,8 @@
 --
 -- What the scheme has in another order is written aside and put where it belongs: the operand that is called behind its
 -- arguments, the condition of a WHILE behind its body, destinations behind their values, a procedure behind the one around it.
--- Labels and depths are words, and wrap.
+-- A name may mean a word or a label that is set further on: the draft of its statement has the number of the declaration, and is
+-- settled at the end. Labels and depths are words, and wrap.
 use Rattle.std.specs.Prelude.{◌≡◌, ℕ, ◌+◌, pos, ◌%◌, ◌^◌, Bool, true, false, not, cond, Option, Some, None, List, [], ◌∷◌, ◌++◌, length, map, get_or}
 use Rattle.bk_base.specs.Strings.{first_bytes}
 use Rattle.bk_base.specs.Word.{signed}
@@ -32,6 +33,9 @@ use Rattle.bk_trans.specs.declared.way.Way.{Way}
 use Rattle.bk_trans.specs.declared.way.Way.TheVariants as way
 use Rattle.bk_trans.specs.declared.way.Access.{Access}
 use Rattle.bk_trans.specs.declared.way.Access.TheVariants as access
+use Rattle.bk_trans.specs.declared.draft.Draft.{Draft}
+use Rattle.bk_trans.specs.declared.draft.Draft.TheVariants as draft
+use Rattle.bk_trans.specs.declared.draft.Draft.TheVariants.{Ready}
 use Rattle.bk_trans.specs.declared.around.Goal.{Goal}
 use Rattle.bk_trans.specs.declared.around.Around.{Around}
 use Rattle.bk_trans.specs.declared.around.Target.{Target}
@@ -43,7 +47,7 @@ use Rattle.bk_trans.specs.Scheme.{goal, goal_of, outermost, valued, looping, swi
 -- what stands by itself in the code: the procedures inside the one that is written, data, the globals that procedures set, and
 -- where declarations went
 pub record Apart : Type 0 where
-  pub procedures : List Stmt
+  pub procedures : List Draft
   pub data_words : List Stmt
   pub entries : List GlobalEntry
   pub targets : List Target
@@ -54,7 +58,7 @@ pub record Choices : Type 0 where
   pub default_label : Option ℕ
 
 pub record Writing : Type 0 where
-  pub code : List Stmt
+  pub code : List Draft
   pub apart : Apart
   pub choices : Choices
   pub left : Supply
@@ -68,32 +72,49 @@ after n k = (n + k) % 2 ^ 32
 abbrev pub place_of : List Goal → ℕ → Goal
 place_of gs m = get_or gs m (goal 0 0)
 
-abbrev pub place_in : List Goal → Bound → Goal
-place_in gs (b.Label k m) = place_of gs m
-place_in gs _ = goal 0 0
-
--- the word of a name
-abbrev pub word_of : List Goal → Bound → Variable
-word_of gs (b.Global (Some g)) = Global g
-word_of gs (b.Static m) = Static ((place_of gs m).label)
-word_of gs (b.Variable k d) = Local d
-word_of gs _ = Local 0
+-- the word of a name; a static one has the number of its declaration
+abbrev pub word_of : Bound → Variable
+word_of (b.Global (Some g)) = Global g
+word_of (b.Static m) = Static m
+word_of (b.Variable k d) = Local d
+word_of _ = Local 0
 
 -- pushes what a name means
-abbrev pub push_of : List Goal → Bound → Stmt
-push_of gs (b.Constant (Some w)) = Number (signed w)
-push_of gs (b.Constant None) = Number (pos 0)
-push_of gs x = Load (word_of gs x)
+abbrev pub push_of : Bound → Draft
+push_of (b.Constant (Some w)) = Ready (Number (signed w))
+push_of (b.Constant None) = Ready (Number (pos 0))
+push_of x = draft.Load (word_of x)
 
--- statements more
+-- a GOTO to a name, from the depth s
+abbrev pub goto_code : ℕ → Bound → List Draft
+goto_code s (b.Label k m) = draft.Stack m ∷ draft.Jump m ∷ Ready (Stack s) ∷ []
+goto_code s _ = map Ready (go (goal 0 0) s)
+
+-- a draft as a statement, where declarations went to these places
+abbrev pub settled_word : List Goal → Variable → Variable
+settled_word gs (Static m) = Static ((place_of gs m).label)
+settled_word gs x = x
+
+abbrev pub settled : List Goal → Draft → Stmt
+settled gs (Ready s) = s
+settled gs (draft.Load x) = Load (settled_word gs x)
+settled gs (draft.Address x) = Address (settled_word gs x)
+settled gs (draft.Assign x) = Assign (settled_word gs x)
+settled gs (draft.Stack m) = Stack ((place_of gs m).depth)
+settled gs (draft.Jump m) = Jump ((place_of gs m).label)
+
+-- drafts and statements more
+abbrev pub puts_drafts : List Draft → Writing → Writing
+puts_drafts ds w = record { code = w.code ++ ds; apart = w.apart; choices = w.choices; left = w.left; next = w.next }
+
 abbrev pub puts_all : List Stmt → Writing → Writing
-puts_all ss w = record { code = w.code ++ ss; apart = w.apart; choices = w.choices; left = w.left; next = w.next }
+puts_all ss w = puts_drafts (map Ready ss) w
 
 abbrev pub puts : Stmt → Writing → Writing
 puts s w = puts_all (s ∷ []) w
 
--- other statements in their place
-abbrev pub with_code : List Stmt → Writing → Writing
+-- other drafts in their place
+abbrev pub with_code : List Draft → Writing → Writing
 with_code ss w = record { code = ss; apart = w.apart; choices = w.choices; left = w.left; next = w.next }
 
 abbrev pub with_choices : Choices → Writing → Writing
@@ -129,8 +150,12 @@ abbrev pub adds_targets : List Target → Writing → Writing
 adds_targets ts w = with_apart (record { procedures = w.apart.procedures; data_words = w.apart.data_words; entries = w.apart.entries; targets = w.apart.targets ++ ts }) w
 
 -- what a name means is pushed
-abbrev pub puts_name : List Goal → Writing → Writing
-puts_name gs w = puts (push_of gs (meaning w.left).part) (past_meaning w)
+abbrev pub puts_name : Writing → Writing
+puts_name w = puts_drafts (push_of (meaning w.left).part ∷ []) (past_meaning w)
+
+-- a GOTO to what a name means
+abbrev pub puts_goto : ℕ → Writing → Writing
+puts_goto s w = puts_drafts (goto_code s (meaning w.left).part) (past_meaning w)
 
 -- how the operands of an operator are gone through: for their values, or both for a jump, with a label of its own behind them
 -- or not
@@ -255,14 +280,14 @@ abbrev pub ends_for : ℕ → ℕ → ℕ → Writing → Writing
 ends_for n s k w = puts_all (goes_on n s k) (puts_all (steps_on n s k) w)
 
 -- a SWITCHON: its body was written aside with its choices, behind these statements, in these choices
-abbrev pub puts_switch : ℕ → List Stmt → Choices → Writing → Writing
+abbrev pub puts_switch : ℕ → List Draft → Choices → Writing → Writing
 puts_switch n before around body =
-    record { code = before ++ Switch (label_or n body.choices.default_label) body.choices.cases ∷ body.code ++ Label n ∷ []; apart = body.apart; choices = around; left = body.left; next = body.next }
+    record { code = before ++ Ready (Switch (label_or n body.choices.default_label) body.choices.cases) ∷ body.code ++ Ready (Label n) ∷ []; apart = body.apart; choices = around; left = body.left; next = body.next }
 
 -- what is written around a procedure
 pub record Outside : Type 0 where
-  pub code : List Stmt
-  pub procedures : List Stmt
+  pub code : List Draft
+  pub procedures : List Draft
   pub choices : Choices
 
 abbrev pub outside_of : Writing → Outside
@@ -287,7 +312,7 @@ ends_procedure return around body =
     record {
       code = around.code;
       apart = record {
-        procedures = around.procedures ++ body.code ++ (return ∷ EndProcedure ∷ []) ++ body.apart.procedures;
+        procedures = around.procedures ++ body.code ++ (Ready return ∷ Ready EndProcedure ∷ []) ++ body.apart.procedures;
         data_words = body.apart.data_words;
         entries = body.apart.entries;
         targets = body.apart.targets;
@@ -305,7 +330,7 @@ any_variables (define _ ds) = any_variables ds
 
 -- destinations that were written, and what is behind them
 pub record Stored : Type 0 where
-  pub codes : List (List Stmt)
+  pub codes : List (List Draft)
   pub writing : Writing
 
 -- declarations that were written, and the depth behind them
@@ -317,161 +342,161 @@ abbrev pub reached : ℕ → Writing → Reached
 reached s w = record { depth = s; writing = w }
 
 abbrev mutual
-  pub written : List Goal → ℕ → Aim → Expression → Writing → Writing
-  written gs s a (name l x) w = aimed a (puts_name gs w)
-  written gs s a (number l n) w = aimed a (puts (Number (signed n)) w)
-  written gs s a (text l x) w = aimed a (puts (Text (first_bytes x)) w)
-  written gs s a (truth l t) w = aimed a (puts (truth_value t) w)
-  written gs s a (query l) w = aimed a (puts Query w)
-  written gs s a (parens l e) w = written gs s a e w
-  written gs s a (unary l q.Address e) w = aimed a (address_written gs s e w)
-  written gs s a (unary l q.Not e) w = puts_not a (written gs s (negated a) e w)
-  written gs s a (unary l f e) w = aimed a (puts_all (prefix_code f) (written gs s aim.Value e w))
-  written gs s a (binary l f m x y) w =
+  pub written : ℕ → Aim → Expression → Writing → Writing
+  written s a (name l x) w = aimed a (puts_name w)
+  written s a (number l n) w = aimed a (puts (Number (signed n)) w)
+  written s a (text l x) w = aimed a (puts (Text (first_bytes x)) w)
+  written s a (truth l t) w = aimed a (puts (truth_value t) w)
+  written s a (query l) w = aimed a (puts Query w)
+  written s a (parens l e) w = written s a e w
+  written s a (unary l q.Address e) w = aimed a (address_written s e w)
+  written s a (unary l q.Not e) w = puts_not a (written s (negated a) e w)
+  written s a (unary l f e) w = aimed a (puts_all (prefix_code f) (written s aim.Value e w))
+  written s a (binary l f m x y) w =
       let t : Way = way_of f a w.next in
-      by_way t (aimed a (puts_all (infix_code f) (written gs (after s 1) aim.Value y (written gs s aim.Value x w))))
-      (ends_way t w.next (written gs s (second_aim t) y (written gs s (first_aim t) x (takes_labels 1 w))))
-  written gs s a (choice l m c x y) w =
+      by_way t (aimed a (puts_all (infix_code f) (written (after s 1) aim.Value y (written s aim.Value x w))))
+      (ends_way t w.next (written s (second_aim t) y (written s (first_aim t) x (takes_labels 1 w))))
+  written s a (choice l m c x y) w =
       let n : ℕ = w.next in
-      aimed a (puts_all (ends_choice (after n 1) s) (written gs s aim.Value y (puts_all (begins_other n (after n 1)) (written gs s aim.Value x (written gs s (aim.Jump false n) c (takes_labels 2 w))))))
-  written gs s a (apply l m e es) w =
-      let callee : Writing = written gs (after s (size es + 2)) aim.Value e (with_code [] w) in
-      aimed a (puts (CallFunction s) (puts_all callee.code (each_written gs (after s 2) es (puts (Stack (after s 2)) (with_code w.code callee)))))
-  written gs s a (valof l c) w =
+      aimed a (puts_all (ends_choice (after n 1) s) (written s aim.Value y (puts_all (begins_other n (after n 1)) (written s aim.Value x (written s (aim.Jump false n) c (takes_labels 2 w))))))
+  written s a (apply l m e es) w =
+      let callee : Writing = written (after s (size es + 2)) aim.Value e (with_code [] w) in
+      aimed a (puts (CallFunction s) (puts_drafts callee.code (each_written (after s 2) es (puts (Stack (after s 2)) (with_code w.code callee)))))
+  written s a (valof l c) w =
       let n : ℕ = w.next in
-      aimed a (puts (TakeResult s) (puts (Label n) (with_choices (takes_labels 1 w).choices (act_written gs (valued n) s c (with_choices no_choices (takes_labels 1 w))))))
-  written gs s a (table l es) w = aimed a (puts_table es w)
+      aimed a (puts (TakeResult s) (puts (Label n) (with_choices (takes_labels 1 w).choices (act_written (valued n) s c (with_choices no_choices (takes_labels 1 w))))))
+  written s a (table l es) w = aimed a (puts_table es w)
 
-  pub each_written : List Goal → ℕ → Expressions → Writing → Writing
-  each_written gs s none w = w
-  each_written gs s (more e es) w = each_written gs (after s 1) es (written gs s aim.Value e w)
+  pub each_written : ℕ → Expressions → Writing → Writing
+  each_written s none w = w
+  each_written s (more e es) w = each_written (after s 1) es (written s aim.Value e w)
 
-  pub address_written : List Goal → ℕ → Expression → Writing → Writing
-  address_written gs s (name l x) w = puts (Address (word_of gs (meaning w.left).part)) (past_meaning w)
-  address_written gs s (parens l e) w = address_written gs s e w
-  address_written gs s (unary l q.Contents e) w = written gs s aim.Value e w
-  address_written gs s (binary l f m x y) w =
-      puts_address (access_of f) w (written gs (after s 1) aim.Value y (written gs s aim.Value x w)) (written gs (after s 1) aim.Value y (written gs s aim.Value x (with_code [] w)))
-  address_written gs s _ w = w
+  pub address_written : ℕ → Expression → Writing → Writing
+  address_written s (name l x) w = puts_drafts (draft.Address (word_of (meaning w.left).part) ∷ []) (past_meaning w)
+  address_written s (parens l e) w = address_written s e w
+  address_written s (unary l q.Contents e) w = written s aim.Value e w
+  address_written s (binary l f m x y) w =
+      puts_address (access_of f) w (written (after s 1) aim.Value y (written s aim.Value x w)) (written (after s 1) aim.Value y (written s aim.Value x (with_code [] w)))
+  address_written s _ w = w
 
-  pub store_written : List Goal → ℕ → Expression → Writing → Writing
-  store_written gs s (name l x) w = puts (Assign (word_of gs (meaning w.left).part)) (past_meaning w)
-  store_written gs s (parens l e) w = store_written gs s e w
-  store_written gs s (unary l q.Contents e) w = puts AssignAt (written gs s aim.Value e w)
-  store_written gs s (binary l f m x y) w = puts_store (access_of f) w (written gs (after s 1) aim.Value y (written gs s aim.Value x w))
-  store_written gs s _ w = w
+  pub store_written : ℕ → Expression → Writing → Writing
+  store_written s (name l x) w = puts_drafts (draft.Assign (word_of (meaning w.left).part) ∷ []) (past_meaning w)
+  store_written s (parens l e) w = store_written s e w
+  store_written s (unary l q.Contents e) w = puts AssignAt (written s aim.Value e w)
+  store_written s (binary l f m x y) w = puts_store (access_of f) w (written (after s 1) aim.Value y (written s aim.Value x w))
+  store_written s _ w = w
 
   -- each destination is written apart
-  pub stores_written : List Goal → ℕ → Expressions → Stored → Stored
-  stores_written gs s none r = r
-  stores_written gs s (more e es) r =
-      let one : Writing = store_written gs s e (with_code [] r.writing) in
-      stores_written gs s es (record { codes = r.codes ++ one.code ∷ []; writing = with_code r.writing.code one })
+  pub stores_written : ℕ → Expressions → Stored → Stored
+  stores_written s none r = r
+  stores_written s (more e es) r =
+      let one : Writing = store_written s e (with_code [] r.writing) in
+      stores_written s es (record { codes = r.codes ++ one.code ∷ []; writing = with_code r.writing.code one })
 
   -- values, and behind each its destination; where there is none, the value is left out
-  pub values_written : List Goal → ℕ → Expressions → List (List Stmt) → Writing → Writing
-  values_written gs s none codes w = w
-  values_written gs s (more e es) [] w = values_written gs s es [] (with_code w.code (written gs s aim.Value e (with_code [] w)))
-  values_written gs s (more e es) (c ∷ cs) w = values_written gs s es cs (puts_all c (written gs s aim.Value e w))
+  pub values_written : ℕ → Expressions → List (List Draft) → Writing → Writing
+  values_written s none codes w = w
+  values_written s (more e es) [] w = values_written s es [] (with_code w.code (written s aim.Value e (with_code [] w)))
+  values_written s (more e es) (c ∷ cs) w = values_written s es cs (puts_drafts c (written s aim.Value e w))
 
-  pub act_written : List Goal → Around → ℕ → Action → Writing → Writing
-  act_written gs a s empty w = w
-  act_written gs a s (assign l xs es) w =
-      let r : Stored = stores_written gs (after s 1) xs (record { codes = []; writing = w }) in
-      values_written gs s es r.codes r.writing
-  act_written gs a s (call l e es) w =
-      let callee : Writing = written gs (after s (size es + 2)) aim.Value e (with_code [] w) in
-      puts (CallRoutine s) (puts_all callee.code (each_written gs (after s 2) es (puts (Stack (after s 2)) (with_code w.code callee))))
-  act_written gs a s (goto l x) w = puts_all (go (place_in gs (meaning w.left).part) s) (past_meaning w)
-  act_written gs a s (label l x c) w = act_written gs a s c (puts_label s w)
-  act_written gs a s (case_of l e c) w = act_written gs a s c (puts_case w)
-  act_written gs a s (default l c) w = act_written gs a s c (puts_default w)
-  act_written gs a s (when l t e c) w =
+  pub act_written : Around → ℕ → Action → Writing → Writing
+  act_written a s empty w = w
+  act_written a s (assign l xs es) w =
+      let r : Stored = stores_written (after s 1) xs (record { codes = []; writing = w }) in
+      values_written s es r.codes r.writing
+  act_written a s (call l e es) w =
+      let callee : Writing = written (after s (size es + 2)) aim.Value e (with_code [] w) in
+      puts (CallRoutine s) (puts_drafts callee.code (each_written (after s 2) es (puts (Stack (after s 2)) (with_code w.code callee))))
+  act_written a s (goto l x) w = puts_goto s w
+  act_written a s (label l x c) w = act_written a s c (puts_label s w)
+  act_written a s (case_of l e c) w = act_written a s c (puts_case w)
+  act_written a s (default l c) w = act_written a s c (puts_default w)
+  act_written a s (when l t e c) w =
       let n : ℕ = w.next in
-      puts (Label n) (act_written gs a s c (written gs s (aim.Jump (not t) n) e (takes_labels 1 w)))
-  act_written gs a s (test l e c x) w =
+      puts (Label n) (act_written a s c (written s (aim.Jump (not t) n) e (takes_labels 1 w)))
+  act_written a s (test l e c x) w =
       let n : ℕ = w.next in
-      puts (Label (after n 1)) (act_written gs a s x (puts (Label n) (puts (Jump (after n 1)) (act_written gs a s c (written gs s (aim.Jump false n) e (takes_labels 2 w))))))
-  act_written gs a s (while l t e c) w =
+      puts (Label (after n 1)) (act_written a s x (puts (Label n) (puts (Jump (after n 1)) (act_written a s c (written s (aim.Jump false n) e (takes_labels 2 w))))))
+  act_written a s (while l t e c) w =
       let n : ℕ = w.next in
-      let tested : Writing = written gs s (aim.Jump t (after n 1)) e (with_code [] (takes_labels 3 w)) in
-      puts (Label (after n 2)) (puts_all tested.code (puts (Label n) (act_written gs (looping n (after n 2) s a) s c (puts (Label (after n 1)) (puts (Jump n) (with_code w.code tested))))))
-  act_written gs a s (for_loop l x e f h c) w =
+      let tested : Writing = written s (aim.Jump t (after n 1)) e (with_code [] (takes_labels 3 w)) in
+      puts (Label (after n 2)) (puts_drafts tested.code (puts (Label n) (act_written (looping n (after n 2) s a) s c (puts (Label (after n 1)) (puts (Jump n) (with_code w.code tested))))))
+  act_written a s (for_loop l x e f h c) w =
       let n : ℕ = w.next in
-      let ranged : Writing = written gs (after s 1) aim.Value f (written gs s aim.Value e (takes_labels 4 w)) in
+      let ranged : Writing = written (after s 1) aim.Value f (written s aim.Value e (takes_labels 4 w)) in
       let begun : Writing = puts_all (before_body n) (past_step h ranged) in
-      ends_for n s (step_of h ranged.left).part (with_choices begun.choices (act_written gs (looping (after n 2) (after n 3) (after s 2) a) (after s 2) c (with_choices no_choices begun)))
-  act_written gs a s (switch l e c) w =
+      ends_for n s (step_of h ranged.left).part (with_choices begun.choices (act_written (looping (after n 2) (after n 3) (after s 2) a) (after s 2) c (with_choices no_choices begun)))
+  act_written a s (switch l e c) w =
       let n : ℕ = w.next in
-      let valued : Writing = written gs s aim.Value e (takes_labels 1 w) in
-      puts_switch n valued.code valued.choices (act_written gs (switching n s a) s c (with_choices no_choices (with_code [] valued)))
-  act_written gs a s (result l e) w = puts (GiveResult a.valof) (written gs s aim.Value e w)
-  act_written gs a s (simple l x) w = puts_all (simple_code a s x) w
-  act_written gs a s (block l no_declarations cs) w = each_act_written gs a s cs w
-  act_written gs a s (block l (declare d ds) cs) w =
-      let r : Reached = declared gs (declare d ds) (reached s w) in
-      puts (Stack s) (with_choices r.writing.choices (each_act_written gs a r.depth cs (with_choices no_choices r.writing)))
-  act_written gs a s (repeat l c) w =
+      let valued : Writing = written s aim.Value e (takes_labels 1 w) in
+      puts_switch n valued.code valued.choices (act_written (switching n s a) s c (with_choices no_choices (with_code [] valued)))
+  act_written a s (result l e) w = puts (GiveResult a.valof) (written s aim.Value e w)
+  act_written a s (simple l x) w = puts_all (simple_code a s x) w
+  act_written a s (block l no_declarations cs) w = each_act_written a s cs w
+  act_written a s (block l (declare d ds) cs) w =
+      let r : Reached = declared (declare d ds) (reached s w) in
+      puts (Stack s) (with_choices r.writing.choices (each_act_written a r.depth cs (with_choices no_choices r.writing)))
+  act_written a s (repeat l c) w =
       let n : ℕ = w.next in
-      puts (Label (after n 1)) (puts (Jump n) (act_written gs (looping n (after n 1) s a) s c (puts (Label n) (takes_labels 2 w))))
-  act_written gs a s (repeat_while l t c e) w =
+      puts (Label (after n 1)) (puts (Jump n) (act_written (looping n (after n 1) s a) s c (puts (Label n) (takes_labels 2 w))))
+  act_written a s (repeat_while l t c e) w =
       let n : ℕ = w.next in
-      puts (Label (after n 2)) (written gs s (aim.Jump t n) e (puts (Label (after n 1)) (act_written gs (looping (after n 1) (after n 2) s a) s c (puts (Label n) (takes_labels 3 w)))))
+      puts (Label (after n 2)) (written s (aim.Jump t n) e (puts (Label (after n 1)) (act_written (looping (after n 1) (after n 2) s a) s c (puts (Label n) (takes_labels 3 w)))))
 
-  pub each_act_written : List Goal → Around → ℕ → Actions → Writing → Writing
-  each_act_written gs a s no_actions w = w
-  each_act_written gs a s (also c cs) w = each_act_written gs a s cs (act_written gs a s c w)
+  pub each_act_written : Around → ℕ → Actions → Writing → Writing
+  each_act_written a s no_actions w = w
+  each_act_written a s (also c cs) w = each_act_written a s cs (act_written a s c w)
 
-  pub declared : List Goal → Declarations → Reached → Reached
-  declared gs no_declarations r = r
-  declared gs (declare d ds) r = declared gs ds (one_declared gs d r)
+  pub declared : Declarations → Reached → Reached
+  declared no_declarations r = r
+  declared (declare d ds) r = declared ds (one_declared d r)
 
-  pub one_declared : List Goal → Declaration → Reached → Reached
-  one_declared gs (constants l sort.Static is) r = reached r.depth (puts_items is r.writing)
-  one_declared gs (constants l o is) r = reached r.depth (past_items is r.writing)
-  one_declared gs (definitions l ds) r =
-      let t : Reached = defined gs ds r in
+  pub one_declared : Declaration → Reached → Reached
+  one_declared (constants l sort.Static is) r = reached r.depth (puts_items is r.writing)
+  one_declared (constants l o is) r = reached r.depth (past_items is r.writing)
+  one_declared (definitions l ds) r =
+      let t : Reached = defined ds r in
       reached t.depth (cond (any_variables ds) (puts Store t.writing) t.writing)
 
-  pub defined : List Goal → Definitions → Reached → Reached
-  defined gs no_definitions r = r
-  defined gs (define d ds) r = defined gs ds (one_defined gs d r)
+  pub defined : Definitions → Reached → Reached
+  defined no_definitions r = r
+  defined (define d ds) r = defined ds (one_defined d r)
 
-  pub one_defined : List Goal → Definition → Reached → Reached
-  one_defined gs (routine l x fs c) r = reached r.depth (ends_procedure Return (outside_of r.writing) (act_written gs outermost (after 2 (length fs)) c (begins_procedure x (length fs) r.writing)))
-  one_defined gs (function l x fs e) r = reached r.depth (ends_procedure ReturnItem (outside_of r.writing) (written gs (after 2 (length fs)) aim.Value e (begins_procedure x (length fs) r.writing)))
-  one_defined gs (variables l xs is) r = started gs is r
+  pub one_defined : Definition → Reached → Reached
+  one_defined (routine l x fs c) r = reached r.depth (ends_procedure Return (outside_of r.writing) (act_written outermost (after 2 (length fs)) c (begins_procedure x (length fs) r.writing)))
+  one_defined (function l x fs e) r = reached r.depth (ends_procedure ReturnItem (outside_of r.writing) (written (after 2 (length fs)) aim.Value e (begins_procedure x (length fs) r.writing)))
+  one_defined (variables l xs is) r = started is r
 
-  pub started : List Goal → Starts → Reached → Reached
-  started gs no_starts r = r
-  started gs (value e is) r = started gs is (reached (after r.depth 1) (written gs r.depth aim.Value e r.writing))
-  started gs (vector l e is) r =
+  pub started : Starts → Reached → Reached
+  started no_starts r = r
+  started (value e is) r = started is (reached (after r.depth 1) (written r.depth aim.Value e r.writing))
+  started (vector l e is) r =
       let k : ℕ = (constant r.writing.left).part in
-      started gs is (reached (after r.depth (k + 2)) (puts_all (Stack (after r.depth (k + 1)) ∷ Address (Local r.depth) ∷ []) (past_word r.writing)))
+      started is (reached (after r.depth (k + 2)) (puts_all (Stack (after r.depth (k + 1)) ∷ Address (Local r.depth) ∷ []) (past_word r.writing)))
 
 -- a command and commands whose choices are their own
-abbrev pub acted_apart : List Goal → Around → ℕ → Action → Writing → Writing
-acted_apart gs a s c w = with_choices w.choices (act_written gs a s c (with_choices no_choices w))
+abbrev pub acted_apart : Around → ℕ → Action → Writing → Writing
+acted_apart a s c w = with_choices w.choices (act_written a s c (with_choices no_choices w))
 
-abbrev pub each_acted_apart : List Goal → Around → ℕ → Actions → Writing → Writing
-each_acted_apart gs a s cs w = with_choices w.choices (each_act_written gs a s cs (with_choices no_choices w))
+abbrev pub each_acted_apart : Around → ℕ → Actions → Writing → Writing
+each_acted_apart a s cs w = with_choices w.choices (each_act_written a s cs (with_choices no_choices w))
 
--- a section: what is written of it from nothing on, where its declarations went to these places, and its statements
+-- a section: what is written of it from nothing on, and its statements, where declarations went to these places
 abbrev pub starting : Supply → Writing
 starting g = record { code = []; apart = record { procedures = []; data_words = []; entries = []; targets = [] }; choices = no_choices; left = g; next = 1 }
 
-abbrev pub section_written : List Goal → Declarations → Supply → Writing
-section_written gs ds g = (declared gs ds (reached 2 (starting g))).writing
+abbrev pub section_written : Declarations → Supply → Writing
+section_written ds g = (declared ds (reached 2 (starting g))).writing
 
-abbrev pub ending : Writing → List Stmt
-ending w = w.apart.procedures ++ w.apart.data_words ++ Globals w.apart.entries ∷ []
+abbrev pub ending : List Goal → Writing → List Stmt
+ending gs w = map (settled gs) w.apart.procedures ++ w.apart.data_words ++ Globals w.apart.entries ∷ []
 
 -- the places of all numbers, where these declarations went
 abbrev pub PlacesOf : List Goal → List Target → Type 0
 PlacesOf gs ts = (m : ℕ) → place_of gs m ≡ goal_of ts m
 
--- the statements of a section, where the places are those that are found by writing it once without any
+-- the statements of a section, where the places are those to which its declarations went
 pub record AreWritten (ds : Declarations) (g : Supply) (stmts : List Stmt) : Type 0 where
   pub goals : List Goal
-  pub places : PlacesOf goals (section_written [] ds g).apart.targets
-  pub are : stmts ≡ ending (section_written goals ds g)
+  pub places : PlacesOf goals (section_written ds g).apart.targets
+  pub are : stmts ≡ ending goals (section_written ds g)

@@ -2,22 +2,22 @@
 ghost use Rattle.std.specs.Prelude.{◌≡◌, ◌++◌, ◌∷◌, [], OnOk};
 ghost use Rattle.bk_trans.specs.Codes.{TakesFirst};
 
-use bk_ocode::Stmt;
+use crate::draft::Draft;
 use std::alloc::{AllocError, Global};
 use std::collections::VecDeque;
 use std::marker::Model;
 
-/// Stretches of code, which contracts see as the list of their statements.
+/// Stretches of code, which contracts see as the list of their drafts.
 #[derive(Drop)]
 pub struct Codes {
-    codes: VecDeque<Vec<Stmt>>,
+    codes: VecDeque<Vec<Draft>>,
 }
 
 impl Model for Codes {
     ghost use Rattle.std.specs.Prelude.{List, map};
-    ghost use Rattle.bk_ocode.specs.declared.stmt.Stmt.{Stmt as Statement};
+    ghost use Rattle.bk_trans.specs.declared.draft.Draft.{Draft as Drafted};
 
-    ghost Value = { List (List Statement) };
+    ghost Value = { List (List Drafted) };
 
     ghost view = { λ c. map (λ code. code.items) c.codes.items };
 }
@@ -33,7 +33,7 @@ impl Codes {
     }
 
     /// One more.
-    pub fn push(&mut self, code: Vec<Stmt>) -> Result<(), AllocError>
+    pub fn push(&mut self, code: Vec<Draft>) -> Result<(), AllocError>
         ensures { OnOk result (self.new ≡ self.old ++ code.items ∷ []) }
     {
         self.codes.push_back(code)?;
@@ -41,7 +41,7 @@ impl Codes {
     }
 
     /// Takes the first.
-    pub fn take_first(&mut self) -> Option<Vec<Stmt>>
+    pub fn take_first(&mut self) -> Option<Vec<Draft>>
         ensures { TakesFirst result self.old self.new }
     {
         self.codes.pop_front()

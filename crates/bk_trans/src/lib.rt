@@ -4,6 +4,7 @@
 mod aim;
 mod around;
 mod codes;
+mod draft;
 mod fitting;
 mod given;
 mod items;

@@ -4,10 +4,11 @@ ghost use Rattle.bk_tree.specs.Tree.{expression, expressions_in, action, actions
 ghost use Rattle.bk_trans.specs.Writing.{written, each_written, address_written, store_written, stores_written, values_written, act_written, each_act_written, declared, one_declared, defined, one_defined, started, reached, any_variables, acted_apart, each_acted_apart};
 
 use crate::aim::Aim;
-use crate::around::{Around, Goal};
+use crate::around::Around;
 use crate::codes::Codes;
+use crate::draft::Draft;
 use crate::short::first_bytes;
-use crate::statements::{after, place_in, truth_value, word_of};
+use crate::statements::{after, truth_value, word_of};
 use crate::way::{Access, Way, access_by, way_through};
 use crate::writer::Writing;
 use bk_ocode::{Dyadic, Stmt, Variable};
@@ -16,18 +17,12 @@ use std::alloc::AllocError;
 
 /// An expression, for an aim.
 #[cycle(nodes)]
-pub fn value(
-    out: &mut Writing<'_>,
-    goals: &[Goal],
-    depth: u32,
-    aim: Aim,
-    expr: &Expr,
-) -> Result<(), AllocError>
-    ensures { OnOk result (out.new ≡ written goals.now depth aim (expression expr.now) out.old) }
+pub fn value(out: &mut Writing<'_>, depth: u32, aim: Aim, expr: &Expr) -> Result<(), AllocError>
+    ensures { OnOk result (out.new ≡ written depth aim (expression expr.now) out.old) }
 {
     match expr {
         Expr::Name(_, _) => {
-            out.put_name(goals)?;
+            out.put_name()?;
             out.serve(aim)
         }
         Expr::Number(_, word) => {
@@ -50,32 +45,32 @@ pub fn value(
             out.put(Stmt::Query)?;
             out.serve(aim)
         }
-        Expr::Parens(_, inside) => value(out, goals, depth, aim, inside),
+        Expr::Parens(_, inside) => value(out, depth, aim, inside),
         Expr::Unary(_, Prefix::Address, operand) => {
-            address(out, goals, depth, operand)?;
+            address(out, depth, operand)?;
             out.serve(aim)
         }
         Expr::Unary(_, Prefix::Not, operand) => {
-            value(out, goals, depth, aim.negated(), operand)?;
+            value(out, depth, aim.negated(), operand)?;
             out.put_not(aim)
         }
         Expr::Unary(_, prefix, operand) => {
-            value(out, goals, depth, Aim::Value, operand)?;
+            value(out, depth, Aim::Value, operand)?;
             out.put_prefix(*prefix)?;
             out.serve(aim)
         }
         Expr::Binary(_, operator, _, left, right) => {
             match way_through(*operator, aim, out.next) {
                 Way::Plain => {
-                    value(out, goals, depth, Aim::Value, left)?;
-                    value(out, goals, after(depth, 1), Aim::Value, right)?;
+                    value(out, depth, Aim::Value, left)?;
+                    value(out, after(depth, 1), Aim::Value, right)?;
                     out.put_operator(*operator)?;
                     out.serve(aim)
                 }
                 Way::Short(first, second, sets) => {
                     let label = out.labels(1);
-                    value(out, goals, depth, first, left)?;
-                    value(out, goals, depth, second, right)?;
+                    value(out, depth, first, left)?;
+                    value(out, depth, second, right)?;
                     if sets {
                         out.put(Stmt::Label { label })?;
                     }
@@ -86,35 +81,29 @@ pub fn value(
         Expr::Choice(_, _, condition, yes, no) => {
             let first = out.labels(2);
             let second = after(first, 1);
-            value(out, goals, depth, Aim::Jump(false, first), condition)?;
-            value(out, goals, depth, Aim::Value, yes)?;
+            value(out, depth, Aim::Jump(false, first), condition)?;
+            value(out, depth, Aim::Value, yes)?;
             out.begin_other(first, second)?;
-            value(out, goals, depth, Aim::Value, no)?;
+            value(out, depth, Aim::Value, no)?;
             out.end_choice(second, depth)?;
             out.serve(aim)
         }
         Expr::Apply(_, _, callee, arguments) => {
             // What is called has the first labels, and stands behind the arguments.
             let before = out.aside();
-            value(
-                out,
-                goals,
-                after(depth, arguments.len() + 2),
-                Aim::Value,
-                callee,
-            )?;
+            value(out, after(depth, arguments.len() + 2), Aim::Value, callee)?;
             let called = out.resume(before);
             out.put(Stmt::Stack {
                 depth: after(depth, 2),
             })?;
-            each_value(out, goals, after(depth, 2), arguments)?;
+            each_value(out, after(depth, 2), arguments)?;
             out.put_all(called)?;
             out.put(Stmt::CallFunction { frame: depth })?;
             out.serve(aim)
         }
         Expr::Valof(_, command) => {
             let label = out.labels(1);
-            act_apart(out, goals, Around::valued(label), depth, command)?;
+            act_apart(out, Around::valued(label), depth, command)?;
             out.put(Stmt::Label { label })?;
             out.put(Stmt::TakeResult { depth })?;
             out.serve(aim)
@@ -128,17 +117,12 @@ pub fn value(
 
 /// Values one after another are pushed.
 #[cycle(nodes)]
-fn each_value(
-    out: &mut Writing<'_>,
-    goals: &[Goal],
-    depth: u32,
-    exprs: &[Expr],
-) -> Result<(), AllocError>
-    ensures { OnOk result (out.new ≡ each_written goals.now depth (expressions_in exprs.now) out.old) }
+fn each_value(out: &mut Writing<'_>, depth: u32, exprs: &[Expr]) -> Result<(), AllocError>
+    ensures { OnOk result (out.new ≡ each_written depth (expressions_in exprs.now) out.old) }
 {
     let mut next = depth;
     for expr in exprs {
-        value(out, goals, next, Aim::Value, expr)?;
+        value(out, next, Aim::Value, expr)?;
         next = after(next, 1);
     }
     Ok(())
@@ -146,24 +130,20 @@ fn each_value(
 
 /// The address of a word is pushed.
 #[cycle(nodes)]
-fn address(out: &mut Writing<'_>, goals: &[Goal], depth: u32, expr: &Expr) -> Result<(), AllocError>
-    ensures { OnOk result (out.new ≡ address_written goals.now depth (expression expr.now) out.old) }
+fn address(out: &mut Writing<'_>, depth: u32, expr: &Expr) -> Result<(), AllocError>
+    ensures { OnOk result (out.new ≡ address_written depth (expression expr.now) out.old) }
 {
     match expr {
         Expr::Name(_, _) => {
             let bound = out.meaning();
-            out.put(Stmt::Address {
-                of: word_of(goals, bound),
-            })
+            out.put_draft(Draft::Address(word_of(bound)))
         }
-        Expr::Parens(_, inside) => address(out, goals, depth, inside),
-        Expr::Unary(_, Prefix::Contents, operand) => {
-            value(out, goals, depth, Aim::Value, operand)
-        }
+        Expr::Parens(_, inside) => address(out, depth, inside),
+        Expr::Unary(_, Prefix::Contents, operand) => { value(out, depth, Aim::Value, operand) }
         Expr::Binary(_, operator, _, left, right) => match access_by(*operator) {
             Access::Word => {
-                value(out, goals, depth, Aim::Value, left)?;
-                value(out, goals, after(depth, 1), Aim::Value, right)?;
+                value(out, depth, Aim::Value, left)?;
+                value(out, after(depth, 1), Aim::Value, right)?;
                 out.put(Stmt::Dyadic {
                     operator: Dyadic::Add,
                 })
@@ -171,8 +151,8 @@ fn address(out: &mut Writing<'_>, goals: &[Goal], depth: u32, expr: &Expr) -> Re
             // A byte has no address, which is a fault.
             Access::Byte => {
                 let before = out.aside();
-                value(out, goals, depth, Aim::Value, left)?;
-                value(out, goals, after(depth, 1), Aim::Value, right)?;
+                value(out, depth, Aim::Value, left)?;
+                value(out, after(depth, 1), Aim::Value, right)?;
                 let _written = out.resume(before);
                 Ok(())
             }
@@ -184,33 +164,31 @@ fn address(out: &mut Writing<'_>, goals: &[Goal], depth: u32, expr: &Expr) -> Re
 
 /// The value on top is put into a word or a byte.
 #[cycle(nodes)]
-fn store(out: &mut Writing<'_>, goals: &[Goal], depth: u32, expr: &Expr) -> Result<(), AllocError>
-    ensures { OnOk result (out.new ≡ store_written goals.now depth (expression expr.now) out.old) }
+fn store(out: &mut Writing<'_>, depth: u32, expr: &Expr) -> Result<(), AllocError>
+    ensures { OnOk result (out.new ≡ store_written depth (expression expr.now) out.old) }
 {
     match expr {
         Expr::Name(_, _) => {
             let bound = out.meaning();
-            out.put(Stmt::Assign {
-                to: word_of(goals, bound),
-            })
+            out.put_draft(Draft::Assign(word_of(bound)))
         }
-        Expr::Parens(_, inside) => store(out, goals, depth, inside),
+        Expr::Parens(_, inside) => store(out, depth, inside),
         Expr::Unary(_, Prefix::Contents, operand) => {
-            value(out, goals, depth, Aim::Value, operand)?;
+            value(out, depth, Aim::Value, operand)?;
             out.put(Stmt::AssignAt)
         }
         Expr::Binary(_, operator, _, left, right) => match access_by(*operator) {
             Access::Word => {
-                value(out, goals, depth, Aim::Value, left)?;
-                value(out, goals, after(depth, 1), Aim::Value, right)?;
+                value(out, depth, Aim::Value, left)?;
+                value(out, after(depth, 1), Aim::Value, right)?;
                 out.put(Stmt::Dyadic {
                     operator: Dyadic::Add,
                 })?;
                 out.put(Stmt::AssignAt)
             }
             Access::Byte => {
-                value(out, goals, depth, Aim::Value, left)?;
-                value(out, goals, after(depth, 1), Aim::Value, right)?;
+                value(out, depth, Aim::Value, left)?;
+                value(out, after(depth, 1), Aim::Value, right)?;
                 out.put(Stmt::AssignByte)
             }
             Access::Nothing => Ok(()),
@@ -223,16 +201,15 @@ fn store(out: &mut Writing<'_>, goals: &[Goal], depth: u32, expr: &Expr) -> Resu
 #[cycle(nodes)]
 fn each_store(
     out: &mut Writing<'_>,
-    goals: &[Goal],
     depth: u32,
     exprs: &[Expr],
     codes: &mut Codes,
 ) -> Result<(), AllocError>
-    ensures { OnOk result ((record { codes = codes.new; writing = out.new }) ≡ stores_written goals.now depth (expressions_in exprs.now) (record { codes = codes.old; writing = out.old })) }
+    ensures { OnOk result ((record { codes = codes.new; writing = out.new }) ≡ stores_written depth (expressions_in exprs.now) (record { codes = codes.old; writing = out.old })) }
 {
     for expr in exprs {
         let before = out.aside();
-        store(out, goals, depth, expr)?;
+        store(out, depth, expr)?;
         codes.push(out.resume(before))?;
     }
     Ok(())
@@ -242,22 +219,21 @@ fn each_store(
 #[cycle(nodes)]
 fn each_stored(
     out: &mut Writing<'_>,
-    goals: &[Goal],
     depth: u32,
     exprs: &[Expr],
     codes: &mut Codes,
 ) -> Result<(), AllocError>
-    ensures { OnOk result (out.new ≡ values_written goals.now depth (expressions_in exprs.now) codes.old out.old) }
+    ensures { OnOk result (out.new ≡ values_written depth (expressions_in exprs.now) codes.old out.old) }
 {
     for expr in exprs {
         match codes.take_first() {
             Some(code) => {
-                value(out, goals, depth, Aim::Value, expr)?;
+                value(out, depth, Aim::Value, expr)?;
                 out.put_all(code)?;
             }
             None => {
                 let before = out.aside();
-                value(out, goals, depth, Aim::Value, expr)?;
+                value(out, depth, Aim::Value, expr)?;
                 let _written = out.resume(before);
             }
         }
@@ -269,68 +245,58 @@ fn each_stored(
 #[cycle(nodes)]
 pub fn act(
     out: &mut Writing<'_>,
-    goals: &[Goal],
     around: Around,
     depth: u32,
     command: &Command,
 ) -> Result<(), AllocError>
-    ensures { OnOk result (out.new ≡ act_written goals.now around depth (action command.now) out.old) }
+    ensures { OnOk result (out.new ≡ act_written around depth (action command.now) out.old) }
 {
     match command {
         Command::Empty => Ok(()),
         Command::Assign(_, destinations, values) => {
             let mut codes = Codes::new(out.alloc);
-            each_store(out, goals, after(depth, 1), destinations, &mut codes)?;
-            each_stored(out, goals, depth, values, &mut codes)
+            each_store(out, after(depth, 1), destinations, &mut codes)?;
+            each_stored(out, depth, values, &mut codes)
         }
         Command::Call(_, callee, arguments) => {
             // What is called has the first labels, and stands behind the arguments.
             let before = out.aside();
-            value(
-                out,
-                goals,
-                after(depth, arguments.len() + 2),
-                Aim::Value,
-                callee,
-            )?;
+            value(out, after(depth, arguments.len() + 2), Aim::Value, callee)?;
             let called = out.resume(before);
             out.put(Stmt::Stack {
                 depth: after(depth, 2),
             })?;
-            each_value(out, goals, after(depth, 2), arguments)?;
+            each_value(out, after(depth, 2), arguments)?;
             out.put_all(called)?;
             out.put(Stmt::CallRoutine { frame: depth })
         }
-        Command::Goto(_, _) => {
-            let bound = out.meaning();
-            out.go(place_in(goals, bound), depth)
-        }
+        Command::Goto(_, _) => { out.put_goto(depth) }
         Command::Label(_, _, body) => {
             out.put_label(depth)?;
-            act(out, goals, around, depth, body)
+            act(out, around, depth, body)
         }
         Command::Case(_, _, body) => {
             out.put_case()?;
-            act(out, goals, around, depth, body)
+            act(out, around, depth, body)
         }
         Command::Default(_, body) => {
             out.put_default()?;
-            act(out, goals, around, depth, body)
+            act(out, around, depth, body)
         }
         Command::If(_, sense, condition, body) => {
             let first = out.labels(1);
-            value(out, goals, depth, Aim::Jump(!*sense, first), condition)?;
-            act(out, goals, around, depth, body)?;
+            value(out, depth, Aim::Jump(!*sense, first), condition)?;
+            act(out, around, depth, body)?;
             out.put(Stmt::Label { label: first })
         }
         Command::Test(_, condition, yes, no) => {
             let first = out.labels(2);
             let second = after(first, 1);
-            value(out, goals, depth, Aim::Jump(false, first), condition)?;
-            act(out, goals, around, depth, yes)?;
+            value(out, depth, Aim::Jump(false, first), condition)?;
+            act(out, around, depth, yes)?;
             out.put(Stmt::Jump { label: second })?;
             out.put(Stmt::Label { label: first })?;
-            act(out, goals, around, depth, no)?;
+            act(out, around, depth, no)?;
             out.put(Stmt::Label { label: second })
         }
         Command::While(_, sense, condition, body) => {
@@ -338,36 +304,36 @@ pub fn act(
             let second = after(first, 1);
             let third = after(first, 2);
             let before = out.aside();
-            value(out, goals, depth, Aim::Jump(*sense, second), condition)?;
+            value(out, depth, Aim::Jump(*sense, second), condition)?;
             let test = out.resume(before);
             out.put(Stmt::Jump { label: first })?;
             out.put(Stmt::Label { label: second })?;
-            act(out, goals, around.looping(first, third, depth), depth, body)?;
+            act(out, around.looping(first, third, depth), depth, body)?;
             out.put(Stmt::Label { label: first })?;
             out.put_all(test)?;
             out.put(Stmt::Label { label: third })
         }
         Command::For(_, _, from, to, by, body) => {
             let first = out.labels(4);
-            value(out, goals, depth, Aim::Value, from)?;
-            value(out, goals, after(depth, 1), Aim::Value, to)?;
+            value(out, depth, Aim::Value, from)?;
+            value(out, after(depth, 1), Aim::Value, to)?;
             let step = out.step(by);
             out.begin_for(first)?;
             let inside = after(depth, 2);
             let inner = around.looping(after(first, 2), after(first, 3), inside);
-            act_apart(out, goals, inner, inside, body)?;
+            act_apart(out, inner, inside, body)?;
             out.end_for(first, depth, step)
         }
         Command::SwitchOn(_, expr, body) => {
             let label = out.labels(1);
-            value(out, goals, depth, Aim::Value, expr)?;
+            value(out, depth, Aim::Value, expr)?;
             let before = out.aside();
             let choices = out.leave_switch();
-            act(out, goals, around.switching(label, depth), depth, body)?;
+            act(out, around.switching(label, depth), depth, body)?;
             out.end_switch(label, before, choices)
         }
         Command::ResultIs(_, expr) => {
-            value(out, goals, depth, Aim::Value, expr)?;
+            value(out, depth, Aim::Value, expr)?;
             out.put(Stmt::GiveResult {
                 label: around.valof,
             })
@@ -375,10 +341,10 @@ pub fn act(
         Command::Simple(_, word) => out.put_simple(around, depth, *word),
         Command::Block(_, decls, commands) => {
             if decls.is_empty() {
-                each_act(out, goals, around, depth, commands)
+                each_act(out, around, depth, commands)
             } else {
-                let inside = declare_each(out, goals, depth, decls)?;
-                each_act_apart(out, goals, around, inside, commands)?;
+                let inside = declare_each(out, depth, decls)?;
+                each_act_apart(out, around, inside, commands)?;
                 out.put(Stmt::Stack { depth })
             }
         }
@@ -386,13 +352,7 @@ pub fn act(
             let first = out.labels(2);
             let second = after(first, 1);
             out.put(Stmt::Label { label: first })?;
-            act(
-                out,
-                goals,
-                around.looping(first, second, depth),
-                depth,
-                body,
-            )?;
+            act(out, around.looping(first, second, depth), depth, body)?;
             out.put(Stmt::Jump { label: first })?;
             out.put(Stmt::Label { label: second })
         }
@@ -401,15 +361,9 @@ pub fn act(
             let second = after(first, 1);
             let third = after(first, 2);
             out.put(Stmt::Label { label: first })?;
-            act(
-                out,
-                goals,
-                around.looping(second, third, depth),
-                depth,
-                body,
-            )?;
+            act(out, around.looping(second, third, depth), depth, body)?;
             out.put(Stmt::Label { label: second })?;
-            value(out, goals, depth, Aim::Jump(*sense, first), condition)?;
+            value(out, depth, Aim::Jump(*sense, first), condition)?;
             out.put(Stmt::Label { label: third })
         }
     }
@@ -419,15 +373,14 @@ pub fn act(
 #[cycle(nodes)]
 fn act_apart(
     out: &mut Writing<'_>,
-    goals: &[Goal],
     around: Around,
     depth: u32,
     command: &Command,
 ) -> Result<(), AllocError>
-    ensures { OnOk result (out.new ≡ acted_apart goals.now around depth (action command.now) out.old) }
+    ensures { OnOk result (out.new ≡ acted_apart around depth (action command.now) out.old) }
 {
     let choices = out.leave_switch();
-    act(out, goals, around, depth, command)?;
+    act(out, around, depth, command)?;
     let _made = out.return_to_switch(choices);
     Ok(())
 }
@@ -436,15 +389,14 @@ fn act_apart(
 #[cycle(nodes)]
 fn each_act_apart(
     out: &mut Writing<'_>,
-    goals: &[Goal],
     around: Around,
     depth: u32,
     commands: &[Command],
 ) -> Result<(), AllocError>
-    ensures { OnOk result (out.new ≡ each_acted_apart goals.now around depth (actions_in commands.now) out.old) }
+    ensures { OnOk result (out.new ≡ each_acted_apart around depth (actions_in commands.now) out.old) }
 {
     let choices = out.leave_switch();
-    each_act(out, goals, around, depth, commands)?;
+    each_act(out, around, depth, commands)?;
     let _made = out.return_to_switch(choices);
     Ok(())
 }
@@ -453,45 +405,34 @@ fn each_act_apart(
 #[cycle(nodes)]
 fn each_act(
     out: &mut Writing<'_>,
-    goals: &[Goal],
     around: Around,
     depth: u32,
     commands: &[Command],
 ) -> Result<(), AllocError>
-    ensures { OnOk result (out.new ≡ each_act_written goals.now around depth (actions_in commands.now) out.old) }
+    ensures { OnOk result (out.new ≡ each_act_written around depth (actions_in commands.now) out.old) }
 {
     for command in commands {
-        act(out, goals, around, depth, command)?;
+        act(out, around, depth, command)?;
     }
     Ok(())
 }
 
 /// Declarations one after another, and the depth behind them.
 #[cycle(nodes)]
-pub fn declare_each(
-    out: &mut Writing<'_>,
-    goals: &[Goal],
-    depth: u32,
-    decls: &[Decl],
-) -> Result<u32, AllocError>
-    ensures { IfOk result (λ behind. reached behind out.new ≡ declared goals.now (declarations_in decls.now) (reached depth out.old)) }
+pub fn declare_each(out: &mut Writing<'_>, depth: u32, decls: &[Decl]) -> Result<u32, AllocError>
+    ensures { IfOk result (λ behind. reached behind out.new ≡ declared (declarations_in decls.now) (reached depth out.old)) }
 {
     let mut behind = depth;
     for decl in decls {
-        behind = declare(out, goals, behind, decl)?;
+        behind = declare(out, behind, decl)?;
     }
     Ok(behind)
 }
 
 /// A declaration, and the depth behind it.
 #[cycle(nodes)]
-fn declare(
-    out: &mut Writing<'_>,
-    goals: &[Goal],
-    depth: u32,
-    decl: &Decl,
-) -> Result<u32, AllocError>
-    ensures { IfOk result (λ behind. reached behind out.new ≡ one_declared goals.now (declaration decl.now) (reached depth out.old)) }
+fn declare(out: &mut Writing<'_>, depth: u32, decl: &Decl) -> Result<u32, AllocError>
+    ensures { IfOk result (λ behind. reached behind out.new ≡ one_declared (declaration decl.now) (reached depth out.old)) }
 {
     match decl {
         Decl::Constants(_, sort, items) => {
@@ -503,7 +444,7 @@ fn declare(
             Ok(depth)
         }
         Decl::Let(_, defs) => {
-            let behind = define_each(out, goals, depth, defs)?;
+            let behind = define_each(out, depth, defs)?;
             if has_variables(defs) {
                 out.put(Stmt::Store)?;
             }
@@ -514,79 +455,58 @@ fn declare(
 
 /// Definitions one after another, and the depth behind them.
 #[cycle(nodes)]
-fn define_each(
-    out: &mut Writing<'_>,
-    goals: &[Goal],
-    depth: u32,
-    defs: &[Def],
-) -> Result<u32, AllocError>
-    ensures { IfOk result (λ behind. reached behind out.new ≡ defined goals.now (definitions_in defs.now) (reached depth out.old)) }
+fn define_each(out: &mut Writing<'_>, depth: u32, defs: &[Def]) -> Result<u32, AllocError>
+    ensures { IfOk result (λ behind. reached behind out.new ≡ defined (definitions_in defs.now) (reached depth out.old)) }
 {
     let mut behind = depth;
     for def in defs {
-        behind = define(out, goals, behind, def)?;
+        behind = define(out, behind, def)?;
     }
     Ok(behind)
 }
 
 /// A definition, and the depth behind it.
 #[cycle(nodes)]
-fn define(out: &mut Writing<'_>, goals: &[Goal], depth: u32, def: &Def) -> Result<u32, AllocError>
-    ensures { IfOk result (λ behind. reached behind out.new ≡ one_defined goals.now (definition def.now) (reached depth out.old)) }
+fn define(out: &mut Writing<'_>, depth: u32, def: &Def) -> Result<u32, AllocError>
+    ensures { IfOk result (λ behind. reached behind out.new ≡ one_defined (definition def.now) (reached depth out.old)) }
 {
     match def {
         Def::Routine(_, name, formals, body) => {
             let outside = out.begin_procedure(name, formals.len())?;
-            act(
-                out,
-                goals,
-                Around::outermost(),
-                after(2, formals.len()),
-                body,
-            )?;
+            act(out, Around::outermost(), after(2, formals.len()), body)?;
             out.end_procedure(outside, Stmt::Return)?;
             Ok(depth)
         }
         Def::Function(_, name, formals, body) => {
             let outside = out.begin_procedure(name, formals.len())?;
-            value(out, goals, after(2, formals.len()), Aim::Value, body)?;
+            value(out, after(2, formals.len()), Aim::Value, body)?;
             out.end_procedure(outside, Stmt::ReturnItem)?;
             Ok(depth)
         }
-        Def::Variables(_, _, starts) => start_each(out, goals, depth, starts),
+        Def::Variables(_, _, starts) => start_each(out, depth, starts),
     }
 }
 
 /// What variables begin with, one after another, and the depth behind them.
 #[cycle(nodes)]
-fn start_each(
-    out: &mut Writing<'_>,
-    goals: &[Goal],
-    depth: u32,
-    starts: &[Init],
-) -> Result<u32, AllocError>
-    ensures { IfOk result (λ behind. reached behind out.new ≡ started goals.now (starts_in starts.now) (reached depth out.old)) }
+fn start_each(out: &mut Writing<'_>, depth: u32, starts: &[Init]) -> Result<u32, AllocError>
+    ensures { IfOk result (λ behind. reached behind out.new ≡ started (starts_in starts.now) (reached depth out.old)) }
 {
     let mut behind = depth;
     for start in starts {
-        behind = start_one(out, goals, behind, start)?;
+        behind = start_one(out, behind, start)?;
     }
     Ok(behind)
 }
 
 /// What a variable begins with, and the depth behind it.
 #[cycle(nodes)]
-fn start_one(
-    out: &mut Writing<'_>,
-    goals: &[Goal],
-    depth: u32,
-    start: &Init,
-) -> Result<u32, AllocError>
-    ensures { IfOk result (λ behind. reached behind out.new ≡ started goals.now (starts_in (start.now ∷ [])) (reached depth out.old)) }
+fn start_one(out: &mut Writing<'_>, depth: u32, start: &Init) -> Result<u32, AllocError>
+    ensures { IfOk result (λ behind. reached behind out.new ≡ started (starts_in (start.now ∷ [])) (reached depth out.old)) }
 {
     match start {
         Init::Value(expr) => {
-            value(out, goals, depth, Aim::Value, expr)?;
+            value(out, depth, Aim::Value, expr)?;
             Ok(after(depth, 1))
         }
         Init::Vector(_, _) => {

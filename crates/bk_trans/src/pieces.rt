@@ -6,6 +6,7 @@ ghost use Rattle.bk_ocode.specs.declared.stmt.Stmt.TheVariants.{DataLabel, DataA
 ghost use Rattle.bk_trans.specs.Labels.{labels_of_procedure};
 
 use crate::around::{Around, Target};
+use crate::draft::Draft;
 use crate::short::first_bytes;
 use crate::statements::{after, test_of_step};
 use crate::writer::{Choices, FIRST_STMTS, Writing};
@@ -19,8 +20,8 @@ use std::mem;
 /// What is written around a procedure.
 #[derive(Drop)]
 pub struct Outside {
-    code: Vec<Stmt>,
-    procedures: Vec<Stmt>,
+    code: Vec<Draft>,
+    procedures: Vec<Draft>,
     choices: Choices,
 }
 
@@ -109,7 +110,7 @@ impl<'a> Writing<'a> {
     pub fn end_switch(
         &mut self,
         label: u32,
-        before: Vec<Stmt>,
+        before: Vec<Draft>,
         around: Choices,
     ) -> Result<(), AllocError>
         ensures { OnOk result (self.new ≡ puts_switch label before.items around self.old) }
@@ -201,8 +202,8 @@ impl<'a> Writing<'a> {
         let _made = self.return_to_switch(choices);
         let mut inner = mem::replace(&mut self.procedures, procedures);
         self.procedures.append(&mut own)?;
-        self.procedures.push(last)?;
-        self.procedures.push(Stmt::EndProcedure)?;
+        self.procedures.push(Draft::Ready(last))?;
+        self.procedures.push(Draft::Ready(Stmt::EndProcedure))?;
         self.procedures.append(&mut inner)?;
         if self.code.is_empty() {
             // What is written next has the room of the body.

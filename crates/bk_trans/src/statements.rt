@@ -1,10 +1,11 @@
 //! The statements of names and operators.
-ghost use Rattle.std.specs.Prelude.{◌≡◌, ◌++◌, ◌∷◌, [], OnOk};
+ghost use Rattle.std.specs.Prelude.{◌≡◌, ◌++◌, ◌∷◌, [], map, OnOk};
 ghost use Rattle.bk_trans.specs.Scheme.{prefix_code, infix_code, truth_value as TruthValue, test_of_step as TestOfStep, label_or as LabelOr};
-ghost use Rattle.bk_trans.specs.Writing.{after as After, place_of as PlaceOf, place_in as PlaceIn, word_of as WordOf, push_of as PushOf};
+ghost use Rattle.bk_trans.specs.Writing.{after as After, word_of as WordOf, push_of as PushOf};
 ghost use Rattle.bk_ocode.specs.declared.stmt.Stmt.TheVariants as stmts;
+ghost use Rattle.bk_trans.specs.declared.draft.Draft.TheVariants.{Ready};
 
-use crate::around::Goal;
+use crate::draft::Draft;
 use bk_ocode::{Dyadic, Monadic, Stmt, Variable};
 use bk_scope::Bound;
 use bk_tree::{Operator, Prefix};
@@ -17,50 +18,28 @@ pub fn after(number: u32, more: usize) -> u32
     number.wrapping_add((more % 0x1_0000_0000) as u32)
 }
 
-/// Where the declaration of this number went.
-fn place_of(goals: &[Goal], number: u32) -> Goal
-    ensures { result ≡ PlaceOf goals.now number }
-{
-    match goals.get(number as usize) {
-        Some(goal) => *goal,
-        None => Goal { label: 0, depth: 0 },
-    }
-}
-
-/// Where a GOTO to a name goes.
-pub fn place_in(goals: &[Goal], bound: Bound) -> Goal
-    ensures { result ≡ PlaceIn goals.now bound }
-{
-    match bound {
-        Bound::Label(_, number) => place_of(goals, number),
-        _ => Goal { label: 0, depth: 0 },
-    }
-}
-
-/// The word of a name.
-pub fn word_of(goals: &[Goal], bound: Bound) -> Variable
-    ensures { result ≡ WordOf goals.now bound }
+/// The word of a name; a static one has the number of its declaration for a label.
+pub fn word_of(bound: Bound) -> Variable
+    ensures { result ≡ WordOf bound }
 {
     match bound {
         Bound::Global(Some(number)) => Variable::Global(number),
-        Bound::Static(number) => Variable::Static(place_of(goals, number).label),
+        Bound::Static(number) => Variable::Static(number),
         Bound::Variable(_, depth) => Variable::Local(depth),
         _ => Variable::Local(0),
     }
 }
 
-/// The statement that pushes what a name means.
-pub fn push_of(goals: &[Goal], bound: Bound) -> Stmt
-    ensures { result ≡ PushOf goals.now bound }
+/// What pushes what a name means.
+pub fn push_of(bound: Bound) -> Draft
+    ensures { result ≡ PushOf bound }
 {
     match bound {
-        Bound::Constant(Some(word)) => Stmt::Number {
+        Bound::Constant(Some(word)) => Draft::Ready(Stmt::Number {
             value: word.cast_signed(),
-        },
-        Bound::Constant(None) => Stmt::Number { value: 0 },
-        other => Stmt::Load {
-            from: word_of(goals, other),
-        },
+        }),
+        Bound::Constant(None) => Draft::Ready(Stmt::Number { value: 0 }),
+        other => Draft::Load(word_of(other)),
     }
 }
 
@@ -94,16 +73,16 @@ pub fn label_or(label: u32, default: Option<u32>) -> u32
 }
 
 /// One statement more.
-pub fn put(code: &mut Vec<Stmt>, stmt: Stmt) -> Result<(), AllocError>
-    ensures { OnOk result (code.new.items ≡ code.old.items ++ stmt ∷ []) }
+pub fn put(code: &mut Vec<Draft>, stmt: Stmt) -> Result<(), AllocError>
+    ensures { OnOk result (code.new.items ≡ code.old.items ++ Ready stmt ∷ []) }
 {
-    code.push(stmt)?;
+    code.push(Draft::Ready(stmt))?;
     Ok(())
 }
 
 /// What a prefix does with the top item.
-pub fn put_prefix(code: &mut Vec<Stmt>, prefix: Prefix) -> Result<(), AllocError>
-    ensures { OnOk result (code.new.items ≡ code.old.items ++ prefix_code prefix) }
+pub fn put_prefix(code: &mut Vec<Draft>, prefix: Prefix) -> Result<(), AllocError>
+    ensures { OnOk result (code.new.items ≡ code.old.items ++ map Ready (prefix_code prefix)) }
 {
     match prefix {
         Prefix::Contents => put(
@@ -129,15 +108,15 @@ pub fn put_prefix(code: &mut Vec<Stmt>, prefix: Prefix) -> Result<(), AllocError
 }
 
 /// An operator on the two top items.
-fn put_dyadic(code: &mut Vec<Stmt>, operator: Dyadic) -> Result<(), AllocError>
-    ensures { OnOk result (code.new.items ≡ code.old.items ++ stmts.Dyadic operator ∷ []) }
+fn put_dyadic(code: &mut Vec<Draft>, operator: Dyadic) -> Result<(), AllocError>
+    ensures { OnOk result (code.new.items ≡ code.old.items ++ Ready (stmts.Dyadic operator) ∷ []) }
 {
     put(code, Stmt::Dyadic { operator })
 }
 
 /// What an operator does with the two top items.
-pub fn put_infix(code: &mut Vec<Stmt>, operator: Operator) -> Result<(), AllocError>
-    ensures { OnOk result (code.new.items ≡ code.old.items ++ infix_code operator) }
+pub fn put_infix(code: &mut Vec<Draft>, operator: Operator) -> Result<(), AllocError>
+    ensures { OnOk result (code.new.items ≡ code.old.items ++ map Ready (infix_code operator)) }
 {
     match operator {
         Operator::Subscript => {

@@ -10,6 +10,8 @@ ghost use Rattle.bk_tree.specs.Section.{declarations_of};
 ghost use Rattle.bk_trans.specs.Scheme.{scheme};
 ghost use Rattle.bk_trans.specs.Writing.{AreWritten, starting, ending};
 
+use crate::around::Goal;
+use crate::draft::settle;
 use crate::fitting::{stmts_fit, words_fit};
 use crate::given::Given;
 use crate::nodes::declare_each;
@@ -39,41 +41,28 @@ impl<'a> Writing<'a> {
         }
     }
 
-    /// Nothing again, in the room of what was written.
-    fn restart(&mut self, left: Given<'a>)
-        ensures { self.new ≡ starting left.entry }
-    {
-        self.code.clear();
-        self.procedures.clear();
-        self.data_words.clear();
-        self.entries.clear();
-        self.targets.clear();
-        self.cases.clear();
-        self.default_label = None;
-        self.left = left;
-        self.next = 1;
-    }
-
-    /// The statements of a section that was written.
-    fn end(self) -> Result<Vec<Stmt>, AllocError>
-        ensures { IfOk result (λ stmts. stmts.items ≡ ending self.entry) }
+    /// The statements of a section that was written, where its declarations went to these places.
+    fn end(self, goals: &[Goal]) -> Result<Vec<Stmt>, AllocError>
+        ensures { IfOk result (λ stmts. stmts.items ≡ ending goals.now self.entry) }
     {
         let Writing {
-            mut procedures,
+            alloc,
+            procedures,
             mut data_words,
             entries,
             ..
         } = self;
-        procedures.append(&mut data_words)?;
-        procedures.push(Stmt::Globals {
+        let mut stmts = settle(alloc, goals, procedures)?;
+        stmts.append(&mut data_words)?;
+        stmts.push(Stmt::Globals {
             entries: GlobalList::new(entries),
         })?;
-        Ok(procedures)
+        Ok(stmts)
     }
 }
 
-/// Writes a section twice: first to find where its declarations go, and then with these places.
-fn write_twice<'a>(
+/// Writes a section: first in drafts, which are settled once it is known where all its declarations went.
+fn write<'a>(
     alloc: Global,
     decls: &[Decl],
     meanings: &'a [Bound],
@@ -83,11 +72,9 @@ fn write_twice<'a>(
 {
     let mut out = Writing::new(alloc, Given::new(meanings, words));
     out.procedures.reserve(FIRST_STMTS)?;
-    let _depth = declare_each(&mut out, &[], 2, decls)?;
+    let _depth = declare_each(&mut out, 2, decls)?;
     let goals = places_of(alloc, &out.targets)?;
-    out.restart(Given::new(meanings, words));
-    let _depth = declare_each(&mut out, &goals, 2, decls)?;
-    out.end()
+    out.end(&goals)
 }
 
 /// The statements of a section: those of the scheme, where labels, slots and depths are words.
@@ -98,7 +85,7 @@ fn statements_of(alloc: Global, resolved: &Resolved<'_>) -> Result<Vec<Stmt>, Al
 {
     resolved.is_known();
     let decls = resolved.section().decls();
-    let stmts = write_twice(alloc, decls, resolved.meanings(), resolved.words())?;
+    let stmts = write(alloc, decls, resolved.meanings(), resolved.words())?;
     stmts_fit(&stmts);
     Ok(stmts)
 }

@@ -1,12 +1,13 @@
 //! What is written while one goes through a section.
-ghost use Rattle.std.specs.Prelude.{◌≡◌, [], OnOk};
+ghost use Rattle.std.specs.Prelude.{◌≡◌, [], ◌∷◌, OnOk};
 ghost use Rattle.bk_trans.specs.Filling.{meaning as Meaning, constant as Constant};
 ghost use Rattle.bk_trans.specs.Scheme.{prefix_code, infix_code, go as Go, label_or as LabelOr};
 ghost use Rattle.bk_ocode.specs.declared.stmt.Stmt.TheVariants.{Switch};
-ghost use Rattle.bk_trans.specs.Writing.{puts, puts_all, puts_name, puts_not, takes_labels, with_code, with_choices, no_choices, aimed, past_meaning, past_word};
+ghost use Rattle.bk_trans.specs.Writing.{puts, puts_all, puts_drafts, puts_name, puts_goto, goto_code, puts_not, takes_labels, with_code, with_choices, no_choices, aimed, past_meaning, past_word};
 
 use crate::aim::Aim;
 use crate::around::{Goal, Target};
+use crate::draft::Draft;
 use crate::given::Given;
 use crate::statements::{after, label_or, push_of, put_infix, put_prefix};
 use bk_ocode::{Case, CaseList, GlobalEntry, Monadic, Stmt};
@@ -19,12 +20,12 @@ use std::mem;
 /// How many statements a section and a procedure have room for at first.
 pub const FIRST_STMTS: usize = 32;
 
-/// The statements so far, what stands by itself, what is left of the meanings and words, and the label that is next.
+/// The drafts so far, what stands by itself, what is left of the meanings and words, and the label that is next.
 #[derive(Drop)]
 pub struct Writing<'a> {
     pub alloc: Global,
-    pub code: Vec<Stmt>,
-    pub procedures: Vec<Stmt>,
+    pub code: Vec<Draft>,
+    pub procedures: Vec<Draft>,
     pub data_words: Vec<Stmt>,
     pub entries: Vec<GlobalEntry>,
     pub targets: Vec<Target>,
@@ -80,27 +81,34 @@ impl Choices {
 }
 
 impl<'a> Writing<'a> {
-    /// Statements more.
-    pub fn put_all(&mut self, mut code: Vec<Stmt>) -> Result<(), AllocError>
-        ensures { OnOk result (self.new ≡ puts_all code.items self.old) }
+    /// Drafts more.
+    pub fn put_all(&mut self, mut code: Vec<Draft>) -> Result<(), AllocError>
+        ensures { OnOk result (self.new ≡ puts_drafts code.items self.old) }
     {
         self.code.append(&mut code)
+    }
+
+    /// One draft more.
+    pub fn put_draft(&mut self, draft: Draft) -> Result<(), AllocError>
+        ensures { OnOk result (self.new ≡ puts_drafts (draft ∷ []) self.old) }
+    {
+        self.code.push(draft)?;
+        Ok(())
     }
 
     /// One statement more.
     pub fn put(&mut self, stmt: Stmt) -> Result<(), AllocError>
         ensures { OnOk result (self.new ≡ puts stmt self.old) }
     {
-        self.code.push(stmt)?;
-        Ok(())
+        self.put_draft(Draft::Ready(stmt))
     }
 
     /// What a name means is pushed.
-    pub fn put_name(&mut self, goals: &[Goal]) -> Result<(), AllocError>
-        ensures { OnOk result (self.new ≡ puts_name goals.now self.old) }
+    pub fn put_name(&mut self) -> Result<(), AllocError>
+        ensures { OnOk result (self.new ≡ puts_name self.old) }
     {
         let bound = self.left.meaning();
-        self.put(push_of(goals, bound))
+        self.put_draft(push_of(bound))
     }
 
     /// What a prefix does with the top item.
@@ -148,6 +156,27 @@ impl<'a> Writing<'a> {
         self.put(Stmt::Stack { depth })
     }
 
+    /// A jump to the label that a name means.
+    fn go_to(&mut self, bound: Bound, depth: u32) -> Result<(), AllocError>
+        ensures { OnOk result (self.new ≡ puts_drafts (goto_code depth bound) self.old) }
+    {
+        if let Bound::Label(_, number) = bound {
+            self.put_draft(Draft::Stack(number))?;
+            self.put_draft(Draft::Jump(number))?;
+            self.put(Stmt::Stack { depth })
+        } else {
+            self.go(Goal::new(0, 0), depth)
+        }
+    }
+
+    /// A GOTO to a name.
+    pub fn put_goto(&mut self, depth: u32) -> Result<(), AllocError>
+        ensures { OnOk result (self.new ≡ puts_goto depth self.old) }
+    {
+        let bound = self.meaning();
+        self.go_to(bound, depth)
+    }
+
     /// Takes so many labels; the first of them.
     pub fn labels(&mut self, count: usize) -> u32
         ensures first { result ≡ self.old.next }
@@ -175,7 +204,7 @@ impl<'a> Writing<'a> {
     }
 
     /// What was written is set aside; what follows is written by itself. Where nothing was written, the room for it stays.
-    pub fn aside(&mut self) -> Vec<Stmt>
+    pub fn aside(&mut self) -> Vec<Draft>
         ensures code { result.items ≡ self.old.code }
         ensures aside { self.new ≡ with_code [] self.old }
     {
@@ -186,7 +215,7 @@ impl<'a> Writing<'a> {
     }
 
     /// One goes on behind what was set aside; what was written by itself.
-    pub fn resume(&mut self, code: Vec<Stmt>) -> Vec<Stmt>
+    pub fn resume(&mut self, code: Vec<Draft>) -> Vec<Draft>
         ensures code { result.items ≡ self.old.code }
         ensures resumed { self.new ≡ with_code code.items self.old }
     {

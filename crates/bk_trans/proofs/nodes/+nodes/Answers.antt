@@ -10,7 +10,7 @@ use Rattle.bk_ocode.specs.declared.stmt.Stmt.TheVariants.{Stack, Store, CallFunc
 use Rattle.bk_trans.specs.declared.aim.Aim.TheVariants as aim
 use Rattle.bk_trans.specs.Filling.{step_of}
 use Rattle.bk_trans.specs.Scheme.{looping}
-use Rattle.bk_trans.specs.Writing.{Reached, reached, after, puts, puts_all, with_code, takes_labels, past_step, before_body, ends_for, aimed, written, each_written, act_written, each_act_written, acted_apart, declared, defined, any_variables}
+use Rattle.bk_trans.specs.Writing.{Reached, reached, after, puts, puts_drafts, puts_all, with_code, takes_labels, past_step, before_body, ends_for, aimed, written, each_written, act_written, each_act_written, acted_apart, declared, defined, any_variables}
 use Rattle.bk_trans.proofs.Blocks.{without_declarations, with_declarations, block_in, with_variables, apply_written, for_written}
 use Rattle.bk_trans.proofs.nodes.+nodes.Goals as goal
 
@@ -30,65 +30,61 @@ act-returns-in_ok-put_all-in-Call t c =
 pub act-returns-in_ok-act_apart-in-For : goal.act-returns-in_ok-act_apart-in-For
 act-returns-in_ok-act_apart-in-For t c =
     let b = c.in-For in
-    let gs = c.args.goals.now in
     let s = c.args.depth in
     let n = c.labels-first-in-For.result in
     let e1 : n ≡ c.args.out.now.next = first_of (search rules, grind (arith, common_steps)) in
     let e2 : c.labels-first-in-For.new.self ≡ takes_labels 4 c.args.out.now = first_of (search rules, grind (arith, common_steps)) in
-    let e3 : c.value-in-For.new.out ≡ written gs s aim.Value (expression b.from.value) c.labels-first-in-For.new.self = first_of (search rules, grind (arith, common_steps)) in
-    let e4 : c.value-in-For-2.new.out ≡ written gs (after s 1) aim.Value (expression b.to.value) c.value-in-For.new.out = first_of (search rules, grind (arith, common_steps)) in
+    let e3 : c.value-in-For.new.out ≡ written s aim.Value (expression b.from.value) c.labels-first-in-For.new.self = first_of (search rules, grind (arith, common_steps)) in
+    let e4 : c.value-in-For-2.new.out ≡ written (after s 1) aim.Value (expression b.to.value) c.value-in-For.new.out = first_of (search rules, grind (arith, common_steps)) in
     let e5 : c.step-step.result ≡ (step_of (step_in b.by) c.value-in-For-2.new.out.left).part = first_of (search rules, grind (arith, common_steps)) in
     let e6 : c.step-step.new.self ≡ past_step (step_in b.by) c.value-in-For-2.new.out = first_of (search rules, grind (arith, common_steps)) in
     let e7 : c.begin_for.new.self ≡ puts_all (before_body n) c.step-step.new.self = first_of (search rules, grind (arith, common_steps)) in
     let e8 : c.looping-inner.result ≡ looping (after n 2) (after n 3) (after s 2) c.args.around = first_of (search rules, grind (arith, common_steps)) in
-    let e9 : c.act_apart.new.out ≡ acted_apart gs c.looping-inner.result (after s 2) (action b.body.value) c.begin_for.new.self = first_of (search rules, grind (arith, common_steps)) in
-    let is : act_written gs c.args.around s (action c.args.command.now) c.args.out.now ≡ ends_for n s c.step-step.result c.act_apart.new.out =
-    ap (λ x. act_written gs c.args.around s (action x) c.args.out.now) b.is ∙ ap (λ x. act_written gs c.args.around s x c.args.out.now) (For_is b.field-0 b.field-1 b.from b.to b.by b.body)
-    ∙ for_written gs c.args.around c.looping-inner.result s b.field-0 (mention b.field-1) (expression b.from.value) (expression b.to.value) (step_in b.by) (action b.body.value) c.args.out.now _ _ _ _ _ _ n _ e1 e2 e3 e4 e5 e6 e7 e8 e9
+    let e9 : c.act_apart.new.out ≡ acted_apart c.looping-inner.result (after s 2) (action b.body.value) c.begin_for.new.self = first_of (search rules, grind (arith, common_steps)) in
+    let is : act_written c.args.around s (action c.args.command.now) c.args.out.now ≡ ends_for n s c.step-step.result c.act_apart.new.out =
+    ap (λ x. act_written c.args.around s (action x) c.args.out.now) b.is ∙ ap (λ x. act_written c.args.around s x c.args.out.now) (For_is b.field-0 b.field-1 b.from b.to b.by b.body)
+    ∙ for_written c.args.around c.looping-inner.result s b.field-0 (mention b.field-1) (expression b.from.value) (expression b.to.value) (step_in b.by) (action b.body.value) c.args.out.now _ _ _ _ _ _ n _ e1 e2 e3 e4 e5 e6 e7 e8 e9
     in
     rw is (first_of (search rules, grind (arith, common_steps)))
 
 pub act-returns-then-is_empty : goal.act-returns-then-is_empty
 act-returns-then-is_empty t c =
     let b = c.in-Block in
-    let gs = c.args.goals.now in
     let none : vec_len b.decls ≡ 0 = is_zero _ _ c.is_empty.ensures c.if-is_empty.true in
-    let is : act_written gs c.args.around c.args.depth (action c.args.command.now) c.args.out.now ≡ each_act_written gs c.args.around c.args.depth (actions_in b.commands.items) c.args.out.now =
-    ap (λ x. act_written gs c.args.around c.args.depth (action x) c.args.out.now) b.is ∙ ap (λ x. act_written gs c.args.around c.args.depth x c.args.out.now) (Block_is b.field-0 b.decls b.commands)
-    ∙ without_declarations gs c.args.around c.args.depth b.field-0 b.decls.items (actions_in b.commands.items) c.args.out.now (omega (arith, none))
+    let is : act_written c.args.around c.args.depth (action c.args.command.now) c.args.out.now ≡ each_act_written c.args.around c.args.depth (actions_in b.commands.items) c.args.out.now =
+    ap (λ x. act_written c.args.around c.args.depth (action x) c.args.out.now) b.is ∙ ap (λ x. act_written c.args.around c.args.depth x c.args.out.now) (Block_is b.field-0 b.decls b.commands)
+    ∙ without_declarations c.args.around c.args.depth b.field-0 b.decls.items (actions_in b.commands.items) c.args.out.now (omega (arith, none))
     in
     rw is (first_of (search rules, grind (arith, common_steps)))
 
 pub act-returns-in_ok-each_act_apart-in-Block : goal.act-returns-in_ok-each_act_apart-in-Block
 act-returns-in_ok-each_act_apart-in-Block t c =
     let b = c.in-Block in
-    let gs = c.args.goals.now in
     let some : 0 < vec_len b.decls = is_more _ _ c.is_empty.ensures c.if-is_empty.false in
-    let told : ◌≡◌ {A = Reached} (reached c.in_ok-inside-in-Block.inside c.declare_each.new.out) (declared gs (declarations_in b.decls.items) (reached c.args.depth c.args.out.now)) = first_of (search rules, grind (arith, common_steps)) in
-    let is : act_written gs c.args.around c.args.depth (action c.args.command.now) c.args.out.now ≡ block_in gs c.args.around c.args.depth (actions_in b.commands.items) (reached c.in_ok-inside-in-Block.inside c.declare_each.new.out) =
-    ap (λ x. act_written gs c.args.around c.args.depth (action x) c.args.out.now) b.is ∙ ap (λ x. act_written gs c.args.around c.args.depth x c.args.out.now) (Block_is b.field-0 b.decls b.commands)
-    ∙ with_declarations gs c.args.around c.args.depth b.field-0 b.decls.items (actions_in b.commands.items) c.args.out.now (omega (arith, some))
-    ∙ ap (block_in gs c.args.around c.args.depth (actions_in b.commands.items)) (sym told)
+    let told : ◌≡◌ {A = Reached} (reached c.in_ok-inside-in-Block.inside c.declare_each.new.out) (declared (declarations_in b.decls.items) (reached c.args.depth c.args.out.now)) = first_of (search rules, grind (arith, common_steps)) in
+    let is : act_written c.args.around c.args.depth (action c.args.command.now) c.args.out.now ≡ block_in c.args.around c.args.depth (actions_in b.commands.items) (reached c.in_ok-inside-in-Block.inside c.declare_each.new.out) =
+    ap (λ x. act_written c.args.around c.args.depth (action x) c.args.out.now) b.is ∙ ap (λ x. act_written c.args.around c.args.depth x c.args.out.now) (Block_is b.field-0 b.decls b.commands)
+    ∙ with_declarations c.args.around c.args.depth b.field-0 b.decls.items (actions_in b.commands.items) c.args.out.now (omega (arith, some))
+    ∙ ap (block_in c.args.around c.args.depth (actions_in b.commands.items)) (sym told)
     in
     rw is (first_of (search rules, grind (arith, common_steps)))
 
 pub value-returns-in_ok-put-in-Apply-2 : goal.value-returns-in_ok-put-in-Apply-2
 value-returns-in_ok-put-in-Apply-2 t c =
     let b = c.in-Apply in
-    let gs = c.args.goals.now in
     let s = c.args.depth in
     let es = expressions_in b.arguments.items in
     let many : size es ≡ c.len.result = expressions_count b.arguments.items ∙ first_of (search rules, grind (arith, common_steps)) in
-    let e1 : c.value-in-Apply.new.out ≡ written gs (after s (size es + 2)) aim.Value (expression b.callee.value) (with_code [] c.args.out.now) = rw many (first_of (search rules, grind (arith, common_steps))) in
+    let e1 : c.value-in-Apply.new.out ≡ written (after s (size es + 2)) aim.Value (expression b.callee.value) (with_code [] c.args.out.now) = rw many (first_of (search rules, grind (arith, common_steps))) in
     let e2 : c.resume-called.new.self ≡ with_code c.args.out.now.code c.value-in-Apply.new.out = first_of (search rules, grind (arith, common_steps)) in
     let e3 : c.put-in-Apply.new.self ≡ puts (Stack (after s 2)) c.resume-called.new.self = first_of (search rules, grind (arith, common_steps)) in
-    let e4 : c.each_value.new.out ≡ each_written gs (after s 2) es c.put-in-Apply.new.self = first_of (search rules, grind (arith, common_steps)) in
+    let e4 : c.each_value.new.out ≡ each_written (after s 2) es c.put-in-Apply.new.self = first_of (search rules, grind (arith, common_steps)) in
     let e5 : c.resume-called.result.items ≡ c.value-in-Apply.new.out.code = first_of (search rules, grind (arith, common_steps)) in
-    let e6 : c.put_all.new.self ≡ puts_all c.resume-called.result.items c.each_value.new.out = first_of (search rules, grind (arith, common_steps)) in
+    let e6 : c.put_all.new.self ≡ puts_drafts c.resume-called.result.items c.each_value.new.out = first_of (search rules, grind (arith, common_steps)) in
     let e7 : c.put-in-Apply-2.new.self ≡ puts (CallFunction s) c.put_all.new.self = first_of (search rules, grind (arith, common_steps)) in
-    let is : written gs s c.args.aim (expression c.args.expr.now) c.args.out.now ≡ aimed c.args.aim c.put-in-Apply-2.new.self =
-    ap (λ x. written gs s c.args.aim (expression x) c.args.out.now) b.is ∙ ap (λ x. written gs s c.args.aim x c.args.out.now) (Apply_is b.field-0 b.field-1 b.callee b.arguments)
-    ∙ apply_written gs s c.args.aim b.field-0 b.field-1 (expression b.callee.value) es c.args.out.now _ _ _ _ _ _ _ e1 e2 e3 e4 e5 e6 e7
+    let is : written s c.args.aim (expression c.args.expr.now) c.args.out.now ≡ aimed c.args.aim c.put-in-Apply-2.new.self =
+    ap (λ x. written s c.args.aim (expression x) c.args.out.now) b.is ∙ ap (λ x. written s c.args.aim x c.args.out.now) (Apply_is b.field-0 b.field-1 b.callee b.arguments)
+    ∙ apply_written s c.args.aim b.field-0 b.field-1 (expression b.callee.value) es c.args.out.now _ _ _ _ _ _ _ e1 e2 e3 e4 e5 e6 e7
     in
     rw is (first_of (search rules, grind (arith, common_steps)))
 
@@ -119,13 +115,12 @@ declare-returns-in-Global t c =
 pub declare-returns-in_ok-put-in-Let : goal.declare-returns-in_ok-put-in-Let
 declare-returns-in_ok-put-in-Let t c =
     let d = c.in-Let in
-    let gs = c.args.goals.now in
     let ds = definitions_in d.defs.items in
     let whole : declaration c.args.decl.now ≡ definitions d.field-0 ds = cc (Let_is d.field-0 d.defs) in
-    let made : ◌≡◌ {A = Reached} (reached c.in_ok-behind-in-Let.behind c.define_each.new.out) (defined gs ds (reached c.args.depth c.args.out.now)) = first_of (search rules, grind (arith, common_steps)) in
+    let made : ◌≡◌ {A = Reached} (reached c.in_ok-behind-in-Let.behind c.define_each.new.out) (defined ds (reached c.args.depth c.args.out.now)) = first_of (search rules, grind (arith, common_steps)) in
     let has : any_variables ds ≡ true = first_of (search rules, grind (arith, common_steps)) in
     let put : c.put.new.self ≡ puts Store c.define_each.new.out = first_of (search rules, grind (arith, common_steps)) in
-    rw whole (with_variables gs d.field-0 ds (reached c.args.depth c.args.out.now) c.in_ok-behind-in-Let.behind c.define_each.new.out c.put.new.self made has put)
+    rw whole (with_variables d.field-0 ds (reached c.args.depth c.args.out.now) c.in_ok-behind-in-Let.behind c.define_each.new.out c.put.new.self made has put)
 
 pub declare-returns-else-has_variables : goal.declare-returns-else-has_variables
 declare-returns-else-has_variables t c =
