@@ -74,14 +74,18 @@ written_is_alike ds ms ws stmts k w =
     let same : ◌≡◌ {A = Supply} (record { meanings = ms; words = ws }) its_own = ap (λ x. record { meanings = x; words = ws }) k.meanings_are ∙ ap (λ x. record { meanings = meanings ds; words = x }) k.words_are in
     section_alike ds (record { meanings = ms; words = ws }) stmts w ∙ ap (λ g. in_words (scheme (f.all_declared ds g).part)) same ∙ ap (λ r. in_words (scheme r.part)) (filling_names ds k.faultless)
 
-pub written_is : (ds : Declarations) (ms : List Bound) (ws : List ℕ) (stmts : List Stmt) → Known ds ms ws → AreWritten ds (record { meanings = ms; words = ws }) stmts → AllFit stmts
-    → stmts ≡ in_words (scheme (named_tree ds))
-written_is ds ms ws stmts k w h = sym (all_are stmts h) ∙ written_is_alike ds ms ws stmts k w
+-- the statements of a section within the limits, whose numbers fit, are the scheme's, and a section
+pub record Translated (ds : Declarations) (stmts : List Stmt) : Type 0 where
+  pub are : stmts ≡ scheme (named_tree ds)
+  pub section : IsSection stmts
 
--- the statements of the scheme are a section
-pub accepted : (ds : Declarations) (ms : List Bound) (ws : List ℕ) → Known ds ms ws → Within ds → AreWords ws → IsSection (scheme (named_tree ds))
-accepted ds ms ws k within h = scheme_is_accepted ds k.faultless within (rw (← k.words_are) h)
-
--- the statements of a section that are the same in words are the same
-pub exact : (ss stmts : List Stmt) → IsSection ss → stmts ≡ in_words ss → stmts ≡ ss
-exact ss stmts s is = is ∙ in_range_is ss s.are_faultless.in_range
+pub translated : {ds es : Declarations} {ms us : List Bound} {ws vs : List ℕ} {stmts fitting : List Stmt} → es ≡ ds → us ≡ ms → vs ≡ ws → fitting ≡ stmts → Known ds ms ws → Within es → AreWords vs
+    → AreWritten es (record { meanings = us; words = vs }) stmts → AllFit fitting → Translated ds stmts
+translated {ds} {es} {ms} {us} {ws} {vs} {stmts} {fitting} tree meant worded same known within are_words w fit =
+    let of_them : AreWritten ds (record { meanings = ms; words = ws }) stmts = rw (← tree) (rw (← meant) (rw (← worded) w)) in
+    let fits : AllFit stmts = rw (← same) fit in
+    let limited : Within ds = rw (← tree) within in
+    let in_range : AreWords (words ds) = rw (← known.words_are) (rw (← worded) are_words) in
+    let section : IsSection (scheme (named_tree ds)) = scheme_is_accepted ds known.faultless limited in_range in
+    let are : stmts ≡ scheme (named_tree ds) = sym (all_are stmts fits) ∙ written_is_alike ds ms ws stmts known of_them ∙ in_range_is (scheme (named_tree ds)) section.are_faultless.in_range in
+    record { are = are; section = rw are section }

@@ -1,10 +1,7 @@
 //! The statements of a section.
 ghost use Rattle.std.specs.Prelude.{◌≡◌, [], IfOk};
 ghost use Rattle.bk_tree.specs.Tree.{declarations_in};
-ghost use Rattle.bk_trans.specs.Alike.{in_words};
 ghost use Rattle.bk_trans.specs.Naming.{named_tree};
-ghost use Rattle.bk_ocode.specs.StmtRange.{AreTyped};
-ghost use Rattle.bk_ocode.specs.Section.{IsSection};
 ghost use Rattle.bk_ocode.specs.SectionStmts.{stmts_of};
 ghost use Rattle.bk_tree.specs.Section.{declarations_of};
 ghost use Rattle.bk_trans.specs.Scheme.{scheme};
@@ -77,34 +74,16 @@ fn write<'a>(
     out.end(&goals)
 }
 
-/// The statements of a section: those of the scheme, where labels, slots and depths are words.
-fn statements_of(alloc: Global, resolved: &Resolved<'_>) -> Result<Vec<Stmt>, AllocError>
-    ensures scheme { IfOk result (λ stmts. stmts.items ≡ in_words (scheme (named_tree (declarations_of resolved.now.section.now)))) }
-    // Numbers and bytes are those of their types.
-    ensures typed { IfOk result (λ stmts. AreTyped stmts.items) }
-{
-    resolved.is_known();
-    let decls = resolved.section().decls();
-    let stmts = write(alloc, decls, resolved.meanings(), resolved.words())?;
-    stmts_fit(&stmts);
-    Ok(stmts)
-}
-
-/// That the statements of the scheme are a section. Nothing is done.
-fn is_accepted(resolved: &Resolved<'_>)
-    ensures { IsSection (scheme (named_tree (declarations_of resolved.now.section.now))) }
-{
-    resolved.is_known();
-    words_fit(resolved.words());
-    let _decls = resolved.section().decls();
-}
-
 /// The section of OCODE that a resolved section is translated to. It fails only where memory is refused.
 pub fn translate(alloc: Global, resolved: &Resolved<'_>) -> Result<Ocode, AllocError>
     // Its statements are those of the scheme.
     ensures { IfOk result (λ ocode. stmts_of ocode ≡ scheme (named_tree (declarations_of resolved.now.section.now))) }
 {
-    is_accepted(resolved);
-    let stmts = statements_of(alloc, resolved)?;
+    resolved.is_known();
+    let words = resolved.words();
+    words_fit(words);
+    let decls = resolved.section().decls();
+    let stmts = write(alloc, decls, resolved.meanings(), words)?;
+    stmts_fit(&stmts);
     Ok(Ocode::new(stmts))
 }

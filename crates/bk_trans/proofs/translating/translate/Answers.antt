@@ -1,15 +1,14 @@
-use Rattle.std.proofs.Common.{◌≡◌, ◌∙◌}
+use Rattle.std.proofs.Common.{ap, ◌∙◌}
 use Rattle.bk_tree.specs.Section.{declarations_of}
-use Rattle.bk_trans.specs.Naming.{named_tree}
-use Rattle.bk_trans.specs.Scheme.{scheme}
-use Rattle.bk_trans.proofs.WholeSections.{exact}
+use Rattle.bk_trans.proofs.FittingLemmas.{all_are_typed}
+use Rattle.bk_trans.proofs.WholeSections.{translated}
 use Rattle.bk_trans.proofs.translating.translate.Goals as goal
 
 pub new-requires-clause-section : goal.new-requires-clause-section
-new-requires-clause-section c =
-    let ss = scheme (named_tree (declarations_of c.args.resolved.now.section.now)) in
-    let same : c.in_ok-stmts.stmts.items ≡ ss = exact ss c.in_ok-stmts.stmts.items c.is_accepted.ensures c.in_ok-stmts.ensures.scheme in
-    rw same c.is_accepted.ensures
+new-requires-clause-section c = (translated (c.decls-decls.ensures.tree ∙ ap declarations_of c.section.ensures) c.meanings.ensures c.words-words.ensures c.deref.ensures.value c.is_known.ensures c.decls-decls.ensures.within c.words_fit.ensures c.in_ok-stmts.ensures c.stmts_fit.ensures).section
+
+pub new-requires-clause-typed : goal.new-requires-clause-typed
+new-requires-clause-typed c = rw (← c.deref.ensures.value) (all_are_typed _ c.stmts_fit.ensures)
 
 pub returns : goal.returns
-returns c = c.new.ensures ∙ exact (scheme (named_tree (declarations_of c.args.resolved.now.section.now))) c.in_ok-stmts.stmts.items c.is_accepted.ensures c.in_ok-stmts.ensures.scheme
+returns c = c.new.ensures ∙ (translated (c.decls-decls.ensures.tree ∙ ap declarations_of c.section.ensures) c.meanings.ensures c.words-words.ensures c.deref.ensures.value c.is_known.ensures c.decls-decls.ensures.within c.words_fit.ensures c.in_ok-stmts.ensures c.stmts_fit.ensures).are
