@@ -3,7 +3,7 @@ ghost use Rattle.std.specs.Prelude.{◌≡◌, [], ◌∷◌, OnOk};
 ghost use Rattle.bk_trans.specs.Filling.{meaning as Meaning, constant as Constant};
 ghost use Rattle.bk_trans.specs.Scheme.{prefix_code, infix_code, go as Go, label_or as LabelOr};
 ghost use Rattle.bk_ocode.specs.declared.stmt.Stmt.TheVariants.{Switch};
-ghost use Rattle.bk_trans.specs.Writing.{puts, puts_all, puts_drafts, puts_name, puts_goto, goto_code, puts_not, takes_labels, with_code, with_choices, no_choices, aimed, past_meaning, past_word};
+ghost use Rattle.bk_trans.specs.Writing.{puts, puts_all, puts_drafts, puts_name, puts_goto, puts_not, takes_labels, with_code, with_choices, no_choices, aimed, past_meaning, past_word};
 
 use crate::aim::Aim;
 use crate::around::{Goal, Target};
@@ -156,25 +156,18 @@ impl<'a> Writing<'a> {
         self.put(Stmt::Stack { depth })
     }
 
-    /// A jump to the label that a name means.
-    fn go_to(&mut self, bound: Bound, depth: u32) -> Result<(), AllocError>
-        ensures { OnOk result (self.new ≡ puts_drafts (goto_code depth bound) self.old) }
-    {
-        if let Bound::Label(_, number) = bound {
-            self.put_draft(Draft::Stack(number))?;
-            self.put_draft(Draft::Jump(number))?;
-            self.put(Stmt::Stack { depth })
-        } else {
-            self.go(Goal::new(0, 0), depth)
-        }
-    }
-
     /// A GOTO to a name.
     pub fn put_goto(&mut self, depth: u32) -> Result<(), AllocError>
         ensures { OnOk result (self.new ≡ puts_goto depth self.old) }
     {
-        let bound = self.meaning();
-        self.go_to(bound, depth)
+        match self.meaning() {
+            Bound::Label(_, number) => {
+                self.put_draft(Draft::Stack(number))?;
+                self.put_draft(Draft::Jump(number))?;
+                self.put(Stmt::Stack { depth })
+            }
+            _ => self.go(Goal::new(0, 0), depth),
+        }
     }
 
     /// Takes so many labels; the first of them.
