@@ -3,6 +3,7 @@ ghost use Rattle.std.specs.Prelude.{◌≡◌, ◌≢◌, false, [], IfOk, IfErr
 ghost use Rattle.std.specs.Io.KnownBytes.{Keeps};
 ghost use Rattle.bk_base.specs.declared.run_end.End.TheVariants.{ReadFault, WriteFault, StepLimit};
 ghost use Rattle.bk_base.specs.Devices.{Begins};
+ghost use Rattle.bk_intcode.specs.Inner.Effects.{byte_or_end};
 ghost use Rattle.bk_intcode.specs.Runs.{HeldBy, Answered, AskFails, Went, BlamesBefore};
 
 use crate::registers::Registers;
@@ -10,33 +11,44 @@ use crate::step::{Effect, step};
 use crate::tell::tell;
 use bk_base::{ByteIn, ByteOut, End};
 
+/// What the devices answer to a step that asks for a byte. It has two parts at most, which the compiler passes in registers.
+#[derive(Clone, Copy)]
+pub enum Answer {
+    /// The next byte, or -1 at the end.
+    Word(u32),
+    /// The input failed.
+    ReadFault,
+    /// The output failed, and the input was not asked.
+    WriteFault,
+}
+
 /// The next byte, or -1 at the end. Where the input is not ready, the output is flushed first; if that fails, the input
 /// is not asked.
 #[cold]
 #[inline(never)]
-fn ask<I: ByteIn, O: ByteOut>(input: &mut I, out: &mut O) -> Result<u32, End>
-    ensures answered { IfOk result (λ word. Answered (HeldBy I.held) word
+fn ask<I: ByteIn, O: ByteOut>(input: &mut I, out: &mut O) -> Answer
+    ensures answered { IfOk (byte_or_end result) (λ word. Answered (HeldBy I.held) word
         (record { left = I.left input.old; held = I.held input.old; ended = I.ended input.old; taken = O.taken out.old; passed = O.passed out.old })
         (record { left = I.left input.new; held = I.held input.new; ended = I.ended input.new; taken = O.taken out.new; passed = O.passed out.new })) }
-    ensures still { OnErr result (Keeps (I.left input.old) (I.left input.new) × (I.ended input.new ≡ I.ended input.old)
+    ensures still { OnErr (byte_or_end result) (Keeps (I.left input.old) (I.left input.new) × (I.ended input.new ≡ I.ended input.old)
         × (I.held input.new ≡ I.held input.old) × Keeps (O.taken out.old) (O.taken out.new)) }
-    ensures unready { OnErr result ((I.held input.old ≡ []) × (I.ended input.old ≡ false)) }
-    ensures sound { IfOk result (λ _. I.faults input.old ≡ 0) }
+    ensures unready { OnErr (byte_or_end result) ((I.held input.old ≡ []) × (I.ended input.old ≡ false)) }
+    ensures sound { IfOk (byte_or_end result) (λ _. I.faults input.old ≡ 0) }
 
     ensures flushed { I.held input.old ≡ [] → I.ended input.old ≡ false → I.faults input.old ≡ 0
-        → result ≢ Err WriteFault → O.passed out.new ≡ O.taken out.new }
-    ensures not_asked { result ≡ Err WriteFault → input.new ≡ input.old }
+        → byte_or_end result ≢ Err WriteFault → O.passed out.new ≡ O.taken out.new }
+    ensures not_asked { byte_or_end result ≡ Err WriteFault → input.new ≡ input.old }
     ensures passes { Begins (O.passed out.old) (O.passed out.new) }
-    ensures cause { IfErr result (λ e. AskFails e (I.faults input.old) (I.faults input.new) (O.faults out.new)) }
-    ensures no_cause { IfOk result (λ _. I.faults input.new ≡ I.faults input.old) }
+    ensures cause { IfErr (byte_or_end result) (λ e. AskFails e (I.faults input.old) (I.faults input.new) (O.faults out.new)) }
+    ensures no_cause { IfOk (byte_or_end result) (λ _. I.faults input.new ≡ I.faults input.old) }
 {
     if !input.ready() && out.flush().is_err() {
-        return Err(End::WriteFault);
+        return Answer::WriteFault;
     }
     match input.next() {
-        Err(_) => Err(End::ReadFault),
-        Ok(None) => Ok(0xFFFF_FFFF),
-        Ok(Some(byte)) => Ok(u32::from(byte)),
+        Err(_) => Answer::ReadFault,
+        Ok(None) => Answer::Word(0xFFFF_FFFF),
+        Ok(Some(byte)) => Answer::Word(u32::from(byte)),
     }
 }
 
@@ -67,11 +79,12 @@ fn turn<I: ByteIn, O: ByteOut>(
             Err(_) => Some(End::WriteFault),
         },
         Effect::Asks => match ask(input, out) {
-            Ok(word) => {
+            Answer::Word(word) => {
                 r.a = word;
                 None
             }
-            Err(end) => Some(end),
+            Answer::ReadFault => Some(End::ReadFault),
+            Answer::WriteFault => Some(End::WriteFault),
         },
     }
 }

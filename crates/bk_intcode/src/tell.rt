@@ -34,7 +34,31 @@ fn width_in_bytes(width: u32) -> u32
     }
 }
 
+/// Puts a byte.
+#[cold]
+#[inline(never)]
+fn put_byte<O: ByteOut>(out: &mut O, byte: u8) -> Result<(), Failed>
+    ensures puts { PutsBytes (O.taken out.old) (O.taken out.new) (byte ∷ []) result }
+    ensures passes { Begins (O.passed out.old) (O.passed out.new) }
+    ensures failed { OnErr result (O.faults out.new ≡ 1) }
+{
+    out.put(byte)
+}
+
+/// Puts a number.
+#[cold]
+#[inline(never)]
+fn put_number<O: ByteOut>(out: &mut O, number: u32) -> Result<(), Failed>
+    ensures puts { PutsBytes (O.taken out.old) (O.taken out.new) (spelling (signed number)) result }
+    ensures passes { Begins (O.passed out.old) (O.passed out.new) }
+    ensures failed { OnErr result (O.faults out.new ≡ 1) }
+{
+    put_all(out, word_text(number.cast_signed()).as_bytes())
+}
+
 /// Puts a number, with blanks before it up to a width.
+#[cold]
+#[inline(never)]
 fn put_aligned<O: ByteOut>(out: &mut O, number: u32, width: u32) -> Result<(), Failed>
     ensures puts { PutsBytes (O.taken out.old) (O.taken out.new) (aligned number width) result }
     ensures passes { Begins (O.passed out.old) (O.passed out.new) }
@@ -68,6 +92,8 @@ fn tell_bytes<O: ByteOut>(
 }
 
 /// Puts a string.
+#[cold]
+#[inline(never)]
 fn tell_string<O: ByteOut>(store: &[u32], address: u32, out: &mut O) -> Result<bool, Failed>
     ensures text { PutsText (O.taken out.old) (O.taken out.new) (string_text store.now address) result }
     ensures passes { Begins (O.passed out.old) (O.passed out.new) }
@@ -80,15 +106,16 @@ fn tell_string<O: ByteOut>(store: &[u32], address: u32, out: &mut O) -> Result<b
 }
 
 /// Puts a piece.
+#[inline(always)]
 fn tell_piece<O: ByteOut>(store: &[u32], piece: Piece, out: &mut O) -> Result<bool, Failed>
     ensures text { PutsText (O.taken out.old) (O.taken out.new) (piece_text store.now piece) result }
     ensures passes { Begins (O.passed out.old) (O.passed out.new) }
     ensures failed { OnErr result (O.faults out.new ≡ 1) }
 {
     match piece {
-        Piece::Byte(byte) => out.put(byte)?,
+        Piece::Byte(byte) => put_byte(out, byte)?,
         Piece::String(address) => return tell_string(store, address, out),
-        Piece::Number(number) => put_all(out, word_text(number.cast_signed()).as_bytes())?,
+        Piece::Number(number) => put_number(out, number)?,
         Piece::Aligned { number, width } => put_aligned(out, number, width)?,
     }
     Ok(true)
@@ -128,6 +155,8 @@ fn tell_directives<O: ByteOut>(
 }
 
 /// Puts a format with its arguments.
+#[cold]
+#[inline(never)]
 fn tell_format<O: ByteOut>(
     store: &[u32],
     format: u32,
@@ -145,8 +174,7 @@ fn tell_format<O: ByteOut>(
 }
 
 /// Puts what a step writes, and answers whether it was whole.
-#[cold]
-#[inline(never)]
+#[inline(always)]
 pub fn tell<O: ByteOut>(store: &[u32], what: Output, out: &mut O) -> Result<bool, Failed>
     ensures text { PutsText (O.taken out.old) (O.taken out.new) (output_text store.now what) result }
     ensures passes { Begins (O.passed out.old) (O.passed out.new) }

@@ -1,8 +1,11 @@
--- What the code's answer to a step says: nothing where the step leads outside the store.
-use Rattle.std.specs.Prelude.{ℕ, List, Option, Some, None, ⊤}
-use Rattle.bk_base.specs.declared.run_end.End.TheVariants.{StoreLimit}
+-- What the code's answers say: that to a step, nothing where the step leads outside the store, and that of the devices.
+use Rattle.std.specs.Prelude.{ℕ, List, Option, Some, None, Result, Ok, Err, ⊤}
+use Rattle.bk_base.specs.declared.run_end.End.{End}
+use Rattle.bk_base.specs.declared.run_end.End.TheVariants.{StoreLimit, ReadFault, WriteFault}
 use Rattle.bk_intcode.specs.Runs.{IsOwn}
 use Rattle.bk_intcode.specs.Step.{Turn, Goes, Tells, Asks, Ends}
+use Rattle.bk_intcode.specs.declared.run.Answer.{Answer}
+use Rattle.bk_intcode.specs.declared.run.Answer.TheVariants as answer
 use Rattle.bk_intcode.specs.declared.registers.Registers.{Registers}
 use Rattle.bk_intcode.specs.declared.step.Effect.{Effect}
 use Rattle.bk_intcode.specs.declared.step.Effect.TheVariants as effect
@@ -21,3 +24,9 @@ OwnEnd (Some effect.Goes) = ⊤
 OwnEnd (Some (effect.Tells what)) = ⊤
 OwnEnd (Some effect.Asks) = ⊤
 OwnEnd (Some (effect.Ends e)) = IsOwn e
+
+-- the word for the byte that a step asks for, or how the run ends
+abbrev pub byte_or_end : Answer → Result ℕ End
+byte_or_end (answer.Word word) = Ok word
+byte_or_end answer.ReadFault = Err ReadFault
+byte_or_end answer.WriteFault = Err WriteFault

@@ -1,6 +1,8 @@
-use Rattle.std.proofs.Common.{Some, ◌≡◌, refl, sym, ◌∙◌, ap}
-use Rattle.bk_base.specs.declared.run_end.End.TheVariants.{StoreLimit, WriteFault}
-use Rattle.bk_intcode.specs.Inner.Effects.{turn_of}
+use Rattle.std.proofs.Common.{ℕ, Some, Err, ◌≡◌, ◌≢◌, refl, sym, ◌∙◌, ap}
+use Rattle.bk_base.specs.declared.run_end.End.TheVariants.{StoreLimit, ReadFault, WriteFault}
+use Rattle.bk_intcode.specs.Inner.Effects.{turn_of, byte_or_end}
+use Rattle.bk_intcode.specs.declared.run.Answer.{Answer}
+use Rattle.bk_intcode.specs.declared.run.Answer.TheVariants as answer
 use Rattle.bk_intcode.proofs.RunSteps.{finished_ends, paused_goes, paused_asks, paused_tells, finished_tells, went_part, exchanged_took, went_own, went_ask_fails}
 use Rattle.bk_intcode.proofs.run.turn.Goals as goal
 
@@ -32,21 +34,32 @@ returns-in-Err-clause-went g c =
     went_part _ _ _ _ _ c.in-Tells.what _ _ (c.in-Some.ensures.turn ∙ ap (λ e. turn_of (Some e) c.step.new.store c.step.new.r) c.in-Tells.is)
     c.in-Err.ensures.text (exchanged_took _ _ _ _ _ _ _ _ c.in-Err.ensures.text.appends) (refl, refl)
 
-pub returns-in-Err-ask-clause-went : goal.returns-in-Err-ask-clause-went
-returns-in-Err-ask-clause-went g c =
-    went_ask_fails _ _ _ _ _ _ _ _ _ _ _ _ (c.in-Some.ensures.turn ∙ ap (λ e. turn_of (Some e) c.step.new.store c.step.new.r) c.in-Asks.is)
-    (record {
-      left = c.in-Err-ask.ensures.still.0;
-      held = c.in-Err-ask.ensures.still.2;
-      ended = c.in-Err-ask.ensures.still.1;
-      taken = c.in-Err-ask.ensures.still.3;
-      passes = c.ask.ensures.passes;
-    })
-    c.in-Err-ask.ensures.unready.0 c.in-Err-ask.ensures.unready.1 c.in-Err-ask.end c.in-Err-ask.ensures.cause
-    (λ sound other. c.ask.ensures.flushed c.in-Err-ask.ensures.unready.0 c.in-Err-ask.ensures.unready.1 sound
-    (λ fault. let is = c.in-Err-ask.is in let same : c.in-Err-ask.end ≡ WriteFault = cc in other same))
+read_is_no_write : (a : Answer) → a ≡ answer.ReadFault → byte_or_end a ≢ Err WriteFault
+read_is_no_write a is = rw is (λ same. cc)
 
-pub returns-in-Ok-clause-went : goal.returns-in-Ok-clause-went
-returns-in-Ok-clause-went g c =
+word_is_no_write : (a : Answer) (word : ℕ) → a ≡ answer.Word word → byte_or_end a ≢ Err WriteFault
+word_is_no_write a word is = rw is (λ same. cc)
+
+pub returns-in-ReadFault-clause-went : goal.returns-in-ReadFault-clause-went
+returns-in-ReadFault-clause-went g c =
+    let still = rw c.in-ReadFault.is at c.ask.ensures.still in
+    let unready = rw c.in-ReadFault.is at c.ask.ensures.unready in
+    went_ask_fails _ _ _ c.step.new.store c.step.new.r _ _ 0 _ _ _ _ (c.in-Some.ensures.turn ∙ ap (λ e. turn_of (Some e) c.step.new.store c.step.new.r) c.in-Asks.is)
+    (record { left = still.0; held = still.2; ended = still.1; taken = still.3; passes = c.ask.ensures.passes })
+    unready.0 unready.1 ReadFault (rw c.in-ReadFault.is at c.ask.ensures.cause)
+    (λ sound other. c.ask.ensures.flushed unready.0 unready.1 sound (read_is_no_write _ c.in-ReadFault.is))
+
+pub returns-in-WriteFault-clause-went : goal.returns-in-WriteFault-clause-went
+returns-in-WriteFault-clause-went g c =
+    let still = rw c.in-WriteFault.is at c.ask.ensures.still in
+    let unready = rw c.in-WriteFault.is at c.ask.ensures.unready in
+    went_ask_fails _ _ _ c.step.new.store c.step.new.r _ _ _ _ _ _ _ (c.in-Some.ensures.turn ∙ ap (λ e. turn_of (Some e) c.step.new.store c.step.new.r) c.in-Asks.is)
+    (record { left = still.0; held = still.2; ended = still.1; taken = still.3; passes = c.ask.ensures.passes })
+    unready.0 unready.1 WriteFault (rw c.in-WriteFault.is at c.ask.ensures.cause)
+    (λ sound other. absurd (other refl))
+
+pub returns-in-Word-clause-went : goal.returns-in-Word-clause-went
+returns-in-Word-clause-went g c =
     paused_asks _ _ _ _ _ _ _ _ (c.in-Some.ensures.turn ∙ ap (λ e. turn_of (Some e) c.step.new.store c.step.new.r) c.in-Asks.is)
-    c.in-Ok.ensures.answered (λ none going. c.ask.ensures.flushed none going c.in-Ok.ensures.sound (λ fault. let is = c.in-Ok.is in cc))
+    (rw c.in-Word.is at c.ask.ensures.answered)
+    (λ none going. c.ask.ensures.flushed none going (rw c.in-Word.is at c.ask.ensures.sound) (word_is_no_write _ _ c.in-Word.is))
