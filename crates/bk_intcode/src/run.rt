@@ -9,7 +9,7 @@ ghost use Rattle.bk_intcode.specs.Runs.{HeldBy, Answered, AskFails, Went, Blames
 use crate::registers::Registers;
 use crate::step::{Effect, step};
 use crate::tell::tell;
-use bk_base::{ByteIn, ByteOut, End};
+use bk_base::{ByteIn, ByteOut, End, word};
 
 /// What the devices answer to a step that asks for a byte. It has two parts at most, which the compiler passes in registers.
 #[derive(Clone, Copy)]
@@ -68,6 +68,9 @@ fn turn<I: ByteIn, O: ByteOut>(
     ensures cause { BlamesBefore (unwrap_or result StepLimit) (I.faults input.old) (I.faults input.new) (O.faults out.new) }
 {
     let Some(effect) = step(store, r) else {
+        // Nobody reads C here. Because of this subtraction the compiler has one place for all such ends, and at each step it
+        // does not prepare the result for them.
+        r.c = word::difference(r.c, 1);
         return Some(End::StoreLimit);
     };
     match effect {

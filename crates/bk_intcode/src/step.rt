@@ -290,16 +290,15 @@ fn step_as(store: &mut [u32], r: &mut Registers, form: u32, word: u32) -> Option
     execute(store, r, function_of(form), d)
 }
 
-// One dispatch a step: an arm for each form of a word, in which the form is a constant. Only the operations whose operand is
-// more than the address field, which no generator needs, share one. With an arm for all 128 forms none is tested before.
+// One dispatch a step: an arm for each form of a word, so that the form is not compared with a limit first. In the first arms
+// the form is a constant. The other forms are operations whose operand is more than the address field: they are rare, and share
+// the code after the match.
 macro_rules! step_by_form {
-    ($store:ident, $r:ident, $word:ident; $($form:literal)*) => {
+    ($store:ident, $r:ident, $word:ident; $($form:literal)*; $($other:literal)*) => {
         match $word / 0x200_0000 {
-            $($form => step_as($store, $r, $form, $word),)*
-            form @ (113 | 114 | 115 | 116 | 117 | 118 | 119 | 120 | 121 | 122 | 123 | 124 | 125 | 126 | 127) => {
-                step_as($store, $r, form, $word)
-            }
-            form => step_as($store, $r, form, $word),
+            $($form => return step_as($store, $r, $form, $word),)*
+            $($other => {})*
+            _ => unreachable!(),
         }
     };
 }
@@ -310,8 +309,9 @@ pub fn step(store: &mut [u32], r: &mut Registers) -> Option<Effect>
     ensures turn { step_of store.old r.old ≡ turn_of result store.new r.new }
     ensures own { OwnEnd result }
 {
-    let word = word_at(store, r.c)?;
-    r.c = word::sum(r.c, 1);
+    let c = r.c;
+    r.c = word::sum(c, 1);
+    let word = word_at(store, c)?;
     step_by_form!(store, r, word;
         0 1 2 3 4 5 6 7 8 9 10 11 12 13 14 15
         16 17 18 19 20 21 22 23 24 25 26 27 28 29 30 31
@@ -319,6 +319,7 @@ pub fn step(store: &mut [u32], r: &mut Registers) -> Option<Effect>
         48 49 50 51 52 53 54 55 56 57 58 59 60 61 62 63
         64 65 66 67 68 69 70 71 72 73 74 75 76 77 78 79
         80 81 82 83 84 85 86 87 88 89 90 91 92 93 94 95
-        96 97 98 99 100 101 102 103 104 105 106 107 108 109 110 111
-        112)
+        96 97 98 99 100 101 102 103 104 105 106 107 108 109 110 111 112;
+        113 114 115 116 117 118 119 120 121 122 123 124 125 126 127);
+    step_as(store, r, word / 0x200_0000, word)
 }
