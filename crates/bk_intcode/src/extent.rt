@@ -1,8 +1,10 @@
-//! How far items reach in the store.
-ghost use Rattle.std.specs.Prelude.{◌≡◌, ◌+◌, ◌≤◌, ◌<◌, MatchOption};
-ghost use Rattle.bk_base.specs.declared.limit.TheConstants.{STORE_MOST};
+//! How far items reach in the store, and what else of a segment is known before its words are.
+ghost use Rattle.std.specs.Prelude.{◌≡◌, ◌+◌, ◌≤◌, ◌<◌, ◌∷◌, List, MatchOption, unwrap_or};
+ghost use Rattle.bk_base.specs.declared.limit.TheConstants.{FRAME_WORDS, STORE_MOST};
 ghost use Rattle.bk_base.specs.Word.{word_of};
-ghost use Rattle.bk_intcode.specs.Placement.{segment_size};
+ghost use Rattle.bk_intcode.specs.Segment.{frame_of};
+ghost use Rattle.bk_intcode.specs.Placement.{item_starts, segment_size, starts};
+ghost use Rattle.bk_intcode.specs.declared.item.Item.{Item as ItemOf};
 ghost use Rattle.bk_intcode.specs.Inner.Reach.{address_size, operand_size, item_size};
 
 use crate::item::{Item, Operand};
@@ -92,19 +94,76 @@ impl Extent {
     }
 }
 
-/// The address behind a segment that starts at `start`, unless that is beyond `room`.
-pub(crate) fn segment_end(items: &[Item], start: u32, room: u32) -> Option<u32>
+/// The item sets global 1.
+fn item_starts(item: Item) -> bool
+    ensures { result ≡ item_starts item }
+{
+    matches!(item, Item::SetGlobal { number: 1, .. })
+}
+
+/// The frame that an item gives, where none before it gave one.
+fn with_frame(frame: Option<u32>, item: Item) -> Option<u32>
+    ensures { (rest : List ItemOf) → unwrap_or result (frame_of rest) ≡ unwrap_or frame (frame_of (item ∷ rest)) }
+{
+    match (frame, item) {
+        (None, Item::Frame(words)) => Some(words),
+        _ => frame,
+    }
+}
+
+/// What the machine needs of items that lie one after another.
+#[derive(Clone, Copy)]
+pub(crate) struct Measure {
+    /// How far they reach.
+    pub(crate) extent: Extent,
+    /// One of them sets global 1.
+    pub(crate) starts: bool,
+    /// The largest depth of a frame that one of them gives, in words.
+    pub(crate) frame: Option<u32>,
+}
+
+impl Measure {
+    ghost use Rattle.std.specs.Prelude.{◌≡◌, ◌+◌, ◌^◌, ◌<◌, ◌||◌, ◌∷◌, List, unwrap_or};
+    ghost use Rattle.bk_intcode.specs.Inner.Reach.{reached};
+    ghost use Rattle.bk_intcode.specs.Segment.{frame_of};
+    ghost use Rattle.bk_intcode.specs.Placement.{item_starts};
+    ghost use Rattle.bk_intcode.specs.declared.item.Item.{Item as ItemOf};
+
+    /// That with one more item.
+    fn with(self, item: Item) -> Measure
+        requires room { self.extent.next + 2 < 2 ^ 32 }
+        requires part { self.extent.filled < 4 }
+        ensures extent { result.extent ≡ reached self.extent item }
+        ensures part { result.extent.filled < 4 }
+        ensures starts { result.starts ≡ (self.starts || item_starts item) }
+        ensures frame { (rest : List ItemOf) → unwrap_or result.frame (frame_of rest) ≡ unwrap_or self.frame (frame_of (item ∷ rest)) }
+    {
+        Measure {
+            extent: self.extent.with(item),
+            starts: self.starts || item_starts(item),
+            frame: with_frame(self.frame, item),
+        }
+    }
+}
+
+/// What a segment needs that starts at `start`, unless it reaches beyond `room`.
+pub(crate) fn measure_segment(items: &[Item], start: u32, room: u32) -> Option<Measure>
     requires start { start ≤ room }
     requires room { room ≤ STORE_MOST }
-    ensures { MatchOption result (room < start + segment_size items.now)
-        (λ end. (end ≡ start + segment_size items.now) × (end ≤ room)) }
+    ensures { MatchOption result (room < start + segment_size items.now) (λ measure.
+        (measure.extent.next ≡ start + segment_size items.now) × (measure.extent.next ≤ room)
+        × (measure.starts ≡ starts items.now) × (unwrap_or measure.frame FRAME_WORDS ≡ frame_of items.now)) }
 {
-    let mut extent = Extent::at(start);
+    let mut measure = Measure {
+        extent: Extent::at(start),
+        starts: false,
+        frame: None,
+    };
     for item in items {
-        extent = extent.with(*item);
-        if extent.next > room {
+        measure = measure.with(*item);
+        if measure.extent.next > room {
             return None;
         }
     }
-    Some(extent.next)
+    Some(measure)
 }

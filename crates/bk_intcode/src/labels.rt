@@ -27,16 +27,10 @@ impl Labels {
     ghost use Rattle.bk_intcode.specs.Placement.{label_number, segment_size};
     ghost use Rattle.bk_intcode.specs.Inner.LabelNumbers.{number_of};
 
-    /// Those of a segment that lies from `start` to before `end`.
-    pub(crate) fn of(
-        alloc: Global,
-        items: &[Item],
-        start: u32,
-        end: u32,
-    ) -> Result<Labels, AllocError>
+    /// Those of a segment that starts at `start`.
+    pub(crate) fn of(alloc: Global, items: &[Item], start: u32) -> Result<Labels, AllocError>
         requires whole { IsSegment items.now }
-        requires end { end ≡ start + segment_size items.now }
-        requires room { end ≤ STORE_MOST }
+        requires room { start + segment_size items.now ≤ STORE_MOST }
         ensures { IfOk result (λ labels. (label : ℕ) → number_of labels label ≡ label_number start items.now label) }
     {
         let mut numbers = BTreeMap::new(alloc);
@@ -47,7 +41,10 @@ impl Labels {
             }
             extent = extent.with(*item);
         }
-        Ok(Labels { numbers, end })
+        Ok(Labels {
+            numbers,
+            end: extent.next,
+        })
     }
 
     /// The number of a label.

@@ -8,7 +8,7 @@ ghost use Rattle.bk_intcode.specs.Inner.LabelNumbers.{number_of};
 ghost use Rattle.bk_intcode.specs.Inner.Placed.{placed};
 ghost use Rattle.bk_intcode.specs.declared.load_fault.LoadFault.TheVariants.{TooSmall, NoStart};
 
-use crate::extent::segment_end;
+use crate::extent::measure_segment;
 use crate::item::Item;
 use crate::labels::Labels;
 use crate::library::{FIRST_SEGMENT, GLOBAL_0, push_library};
@@ -32,72 +32,39 @@ pub struct Loaded {
     pub frame: u32,
 }
 
-/// The address behind the segments, unless that is beyond `room`.
-fn stack_start(segments: &[Intcode], room: u32) -> Option<u32>
+/// What the segments need.
+#[derive(Clone, Copy)]
+struct Needs {
+    /// The address behind them, the first word of the stack.
+    stack: u32,
+    /// One of them sets global 1.
+    starts: bool,
+    /// The depth of the deepest frame that one of them tells, in words.
+    frame: u32,
+}
+
+/// What the segments need, unless they reach beyond `room`.
+fn needs_of(segments: &[Intcode], room: u32) -> Option<Needs>
     requires first { SEGMENTS ≤ room }
     requires room { room ≤ STORE_MOST }
-    ensures { let start = stack_start SEGMENTS (map items_of segments.now) in
-        MatchOption result (room < start) (λ stack. (stack ≡ start) × (stack ≤ room)) }
+    ensures { let all = map items_of segments.now in
+        MatchOption result (room < stack_start SEGMENTS all) (λ needs. (needs.stack ≡ stack_start SEGMENTS all) × (needs.stack ≤ room)
+        × (needs.starts ≡ any_starts all) × (needs.frame ≡ greatest_frame all)) }
 {
     let mut stack = FIRST_SEGMENT;
+    let mut starts = false;
+    let mut frame = 0;
     for segment in segments {
-        stack = segment_end(segment.items(), stack, room)?;
+        let measure = measure_segment(segment.items(), stack, room)?;
+        stack = measure.extent.next;
+        starts = starts || measure.starts;
+        frame = frame.max(measure.frame.unwrap_or(FRAME_WORDS));
     }
-    Some(stack)
-}
-
-/// The item sets global 1.
-fn item_starts(item: &Item) -> bool
-    ensures { result ≡ item_starts item.now }
-{
-    matches!(item, Item::SetGlobal { number: 1, .. })
-}
-
-/// Some item sets global 1.
-fn starts(items: &[Item]) -> bool
-    ensures { result ≡ starts items.now }
-{
-    for item in items {
-        if item_starts(item) {
-            return true;
-        }
-    }
-    false
-}
-
-/// Some segment sets global 1.
-fn any_starts(segments: &[Intcode]) -> bool
-    ensures { result ≡ any_starts (map items_of segments.now) }
-{
-    for segment in segments {
-        if starts(segment.items()) {
-            return true;
-        }
-    }
-    false
-}
-
-/// The depth of the deepest frame that a segment tells, or the largest.
-fn frame_of(items: &[Item]) -> u32
-    ensures { result ≡ frame_of items.now }
-{
-    for item in items {
-        if let Item::Frame(words) = *item {
-            return words;
-        }
-    }
-    FRAME_WORDS
-}
-
-/// The depth of the deepest frame that the segments tell.
-fn greatest_frame(segments: &[Intcode]) -> u32
-    ensures { result ≡ greatest_frame (map items_of segments.now) }
-{
-    let mut greatest = 0;
-    for segment in segments {
-        greatest = greatest.max(frame_of(segment.items()));
-    }
-    greatest
+    Some(Needs {
+        stack,
+        starts,
+        frame,
+    })
 }
 
 /// Sets the globals of a segment.
@@ -120,9 +87,7 @@ fn place(alloc: Global, store: &mut Vec<u32>, items: &[Item]) -> Result<(), Allo
     requires room { vec_len store.old + segment_size items.now ≤ STORE_MOST }
     ensures { OnOk result (store.new.items ≡ placed store.old.items items.now) }
 {
-    let start = store.len() as u32;
-    let end = segment_end(items, start, STORE_MOST).unwrap();
-    let labels = Labels::of(alloc, items, start, end)?;
+    let labels = Labels::of(alloc, items, store.len() as u32)?;
     push_items(store, &labels, items)?;
     set_globals(store, &labels, items);
     Ok(())
@@ -157,14 +122,14 @@ pub fn load(alloc: Global, segments: &[Intcode], words: u32) -> Result<Loaded, L
     ensures no_start { (result ≡ Err NoStart) ↔ ((stack_start SEGMENTS (map items_of segments.now) + 16 ≤ words)
         × (any_starts (map items_of segments.now) ≡ false)) }
 {
-    let stack = stack_start(segments, words - STACK_LEAST).ok_or(LoadFault::TooSmall)?;
-    if !any_starts(segments) {
+    let needs = needs_of(segments, words - STACK_LEAST).ok_or(LoadFault::TooSmall)?;
+    if !needs.starts {
         return Err(LoadFault::NoStart);
     }
     let store = loaded_store(alloc, segments, words)?;
     Ok(Loaded {
         store,
-        stack,
-        frame: greatest_frame(segments),
+        stack: needs.stack,
+        frame: needs.frame,
     })
 }

@@ -1,6 +1,7 @@
 use Rattle.std.proofs.Common.{◌≡◌, ℕ, ◌<◌, ◌≤◌, take, unwrap_or}
 use Rattle.std.specs.BTreeMap.{get}
 use Rattle.std.specs.Ordering.{nat_cmp}
+use Rattle.bk_base.specs.declared.limit.TheConstants.{STORE_MOST}
 use Rattle.bk_intcode.specs.Inner.Reach.{reached_all}
 use Rattle.bk_intcode.proofs.Places.{numbered}
 use Rattle.bk_intcode.proofs.labels.Labels.of.Given as goal
@@ -9,6 +10,6 @@ abbrev pub invariant-loop-item : goal.invariant-loop-item
 invariant-loop-item l = record {
   reached : l.extent ≡ reached_all l.start (take l.item-index l.items);
   part : l.extent.filled < 4;
-  table : (label : ℕ) → unwrap_or (get nat_cmp l.numbers label) l.end ≡ numbered l.start l.items l.end l.item-index label;
-  within : (label : ℕ) → unwrap_or (get nat_cmp l.numbers label) l.end ≤ l.end;
+  table : (label end : ℕ) → unwrap_or (get nat_cmp l.numbers label) end ≡ numbered l.start l.items end l.item-index label;
+  within : (label end : ℕ) → end ≤ STORE_MOST → unwrap_or (get nat_cmp l.numbers label) end ≤ STORE_MOST;
 }
