@@ -54,7 +54,7 @@ sets-append label (x ∷ xs) ys = or_step (item_sets label x) _ _ _ (sets-append
     or_step true b c d e = refl
     or_step false b c d e = e
 
-or_false : (b : Bool) → (b || false) ≡ b
+pub or_false : (b : Bool) → (b || false) ≡ b
 or_false true = refl
 or_false false = refl
 

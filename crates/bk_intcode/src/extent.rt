@@ -1,10 +1,9 @@
 //! How far items reach in the store, and what else of a segment is known before its words are.
-ghost use Rattle.std.specs.Prelude.{◌≡◌, ◌+◌, ◌≤◌, ◌<◌, ◌∷◌, List, MatchOption, unwrap_or};
+ghost use Rattle.std.specs.Prelude.{◌≡◌, ◌+◌, ◌≤◌, ◌<◌, MatchOption, unwrap_or};
 ghost use Rattle.bk_base.specs.declared.limit.TheConstants.{FRAME_WORDS, STORE_MOST};
 ghost use Rattle.bk_base.specs.Word.{word_of};
 ghost use Rattle.bk_intcode.specs.Segment.{frame_of};
-ghost use Rattle.bk_intcode.specs.Placement.{item_starts, segment_size, starts};
-ghost use Rattle.bk_intcode.specs.declared.item.Item.{Item as ItemOf};
+ghost use Rattle.bk_intcode.specs.Placement.{segment_size, starts};
 ghost use Rattle.bk_intcode.specs.Inner.Reach.{address_size, operand_size, item_size};
 
 use crate::item::{Item, Operand};
@@ -94,23 +93,6 @@ impl Extent {
     }
 }
 
-/// The item sets global 1.
-fn item_starts(item: Item) -> bool
-    ensures { result ≡ item_starts item }
-{
-    matches!(item, Item::SetGlobal { number: 1, .. })
-}
-
-/// The frame that an item gives, where none before it gave one.
-fn with_frame(frame: Option<u32>, item: Item) -> Option<u32>
-    ensures { (rest : List ItemOf) → unwrap_or result (frame_of rest) ≡ unwrap_or frame (frame_of (item ∷ rest)) }
-{
-    match (frame, item) {
-        (None, Item::Frame(words)) => Some(words),
-        _ => frame,
-    }
-}
-
 /// What the machine needs of items that lie one after another.
 #[derive(Clone, Copy)]
 pub(crate) struct Measure {
@@ -138,10 +120,22 @@ impl Measure {
         ensures starts { result.starts ≡ (self.starts || item_starts item) }
         ensures frame { (rest : List ItemOf) → unwrap_or result.frame (frame_of rest) ≡ unwrap_or self.frame (frame_of (item ∷ rest)) }
     {
-        Measure {
-            extent: self.extent.with(item),
-            starts: self.starts || item_starts(item),
-            frame: with_frame(self.frame, item),
+        match item {
+            Item::SetGlobal { number, .. } => Measure {
+                extent: Extent::at(self.extent.next),
+                starts: self.starts || number == 1,
+                frame: self.frame,
+            },
+            Item::Frame(words) => Measure {
+                extent: Extent::at(self.extent.next),
+                starts: self.starts,
+                frame: Some(self.frame.unwrap_or(words)),
+            },
+            _ => Measure {
+                extent: self.extent.with(item),
+                starts: self.starts,
+                frame: self.frame,
+            },
         }
     }
 }

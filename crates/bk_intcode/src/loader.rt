@@ -1,9 +1,9 @@
 //! Loading: segments into the store of a machine.
 ghost use Rattle.std.specs.Prelude.{◌≡◌, ◌+◌, ◌<◌, ◌≤◌, ◌↔◌, ℕ, ◌++◌, Bool, false, OnOk, IfOk, MatchOption, fold, length, map, vec_len};
 ghost use Rattle.bk_base.specs.declared.limit.TheConstants.{STORE_LEAST, STORE_MOST};
-ghost use Rattle.bk_intcode.specs.Segment.{IsSegment, frame_of};
+ghost use Rattle.bk_intcode.specs.Segment.{IsSegment};
 ghost use Rattle.bk_intcode.specs.SegmentItems.{items_of};
-ghost use Rattle.bk_intcode.specs.Placement.{SEGMENTS, stack_start, loaded_store, greatest_frame, any_starts, starts, item_starts, segment_settings, with_setting, segment_size, segment_words, label_number};
+ghost use Rattle.bk_intcode.specs.Placement.{SEGMENTS, stack_start, loaded_store, greatest_frame, any_starts, segment_settings, with_setting, segment_size, segment_words, label_number};
 ghost use Rattle.bk_intcode.specs.Inner.LabelNumbers.{number_of};
 ghost use Rattle.bk_intcode.specs.Inner.Placed.{placed};
 ghost use Rattle.bk_intcode.specs.declared.load_fault.LoadFault.TheVariants.{TooSmall, NoStart};

@@ -1,13 +1,10 @@
-use Rattle.std.proofs.Common.{◌≡◌, ◌||◌, Bool, true, false, refl, sym, ap, ◌∙◌, arith, unwrap_or}
+use Rattle.std.proofs.Common.{◌||◌, sym, ap, ◌∙◌, arith, unwrap_or}
 use Rattle.std.proofs.lemmas.List.{drop_all}
 use Rattle.bk_intcode.specs.Segment.{frame_of}
 use Rattle.bk_intcode.specs.Placement.{starts}
+use Rattle.bk_intcode.proofs.Places.{or_false}
 use Rattle.bk_intcode.proofs.Reaching.{stepped, part-next, all-next}
 use Rattle.bk_intcode.proofs.extent.measure_segment.Goals as goal
-
-or_false : (b : Bool) → (b || false) ≡ b
-or_false true = refl
-or_false false = refl
 
 pub returns-then-measure-room : goal.returns-then-measure-room
 returns-then-measure-room c =
