@@ -1,7 +1,6 @@
 -- Settings of globals, and segments that are placed one after another.
 use Rattle.std.proofs.Common.{◌≡◌, ℕ, ◌+◌, ◌-◌, ◌<◌, ◌≤◌, List, [], ◌∷◌, ◌++◌, length, get_or, set, take, drop, refl, sym, ap, ◌∙◌, arith, map, length-append, append_assoc}
 use Rattle.std.specs.Prelude.{fold, replicate}
-use Rattle.std.proofs.Math.Path.{fun_ext}
 use Rattle.std.proofs.lemmas.List.{take_more, drop_more, map_more, append-nil, drop_all, take_all, length-set, set-append_left}
 use Rattle.std.proofs.lemmas.List.Sums.{fold-append, fold_push}
 use Rattle.bk_intcode.specs.declared.item.Item.{Item}
@@ -10,10 +9,12 @@ use Rattle.bk_intcode.specs.declared.segment.Intcode.{Intcode}
 use Rattle.bk_intcode.specs.Segment.{IsSegment}
 use Rattle.bk_intcode.specs.SegmentItems.{items_of}
 use Rattle.bk_intcode.specs.SizeLaws.{segment_length}
-use Rattle.bk_intcode.specs.Placement.{Setting, SEGMENTS, library_settings, item_settings, segment_settings, all_settings, all_words, with_setting, segment_size, segment_words, label_number, stack_start, loaded_store}
+use Rattle.bk_intcode.specs.Placement.{Setting, Growth, SEGMENTS, grown, library_settings, item_settings, segment_settings, all_settings, all_words, with_setting, segment_size, segment_words, label_number, stack_start, loaded_store}
 use Rattle.bk_intcode.specs.Inner.Placed.{placed}
 use Rattle.bk_intcode.specs.SegmentLaws.{segment_whole}
 use Rattle.bk_intcode.specs.LoadedWords.{AreSegments, AreBounded, settings_joined, items_bounded, segments_bounded, library_bounded, settings_length, below, below_length, stack_more}
+use Rattle.bk_intcode.specs.ItemWords.{grown_behind}
+use Rattle.bk_intcode.proofs.Growing.{growth_of}
 use Rattle.bk_intcode.proofs.Places.{got}
 
 -- one more item
@@ -32,7 +33,7 @@ all_whole [] = tt
 all_whole (s ∷ segments) = (segment_whole s, all_whole segments)
 
 -- what lies behind the globals stays
-settings-behind : (store rest : List ℕ) (settings : List Setting) → 1016 ≤ length store → AreBounded settings
+pub settings-behind : (store rest : List ℕ) (settings : List Setting) → 1016 ≤ length store → AreBounded settings
     → fold with_setting (store ++ rest) settings ≡ fold with_setting store settings ++ rest
 settings-behind store rest [] long within = refl
 settings-behind store rest (s ∷ settings) long within =
@@ -189,12 +190,39 @@ settings-kept labels store now items i d within not known =
     ∙ sym (settings-more labels store items i d within
     ∙ ap (λ l. fold with_setting (fold with_setting store (segment_settings labels (take i items))) l) (settings-none labels (get_or items i d) not))
 
--- a segment is placed by its words and its settings
-pub placed-is : (labels : ℕ → ℕ) (start : ℕ) (store words changed : List ℕ) (items : List Item) → start ≡ length store
-    → ((label : ℕ) → labels label ≡ label_number start items label) → words ≡ store ++ segment_words labels items
-    → changed ≡ fold with_setting words (segment_settings labels items) → changed ≡ placed store items
-placed-is labels start store words changed items at numbered filled set_all =
-    let same : labels ≡ label_number start items = fun_ext numbered in
-    set_all
-    ∙ ap (λ l. fold with_setting l (segment_settings labels items)) filled
-    ∙ ap (λ f. fold with_setting (store ++ segment_words f items) (segment_settings f items)) (same ∙ ap (λ n. label_number n items) at)
+-- words that are put behind a store in which globals are set: they reach as far as the store at least
+pub grown-long : (labels : ℕ → ℕ) (store words : List ℕ) (filled : ℕ) (settings : List Setting) (items : List Item)
+    → growth_of words filled ≡ fold (grown labels) (growth_of (fold with_setting store settings) 0) items → length store ≤ length words
+grown-long labels store words filled settings items known =
+    let base = fold with_setting store settings in
+    let parts : words ≡ base ++ segment_words labels items =
+    ap (λ (g : Growth). g.words) (known ∙ grown_behind labels base items) in
+    omega (arith, ap length parts, length-append base (segment_words labels items), settings_length settings store)
+
+-- an item that sets no global
+pub grown-kept : (labels : ℕ → ℕ) (store words : List ℕ) (filled : ℕ) (items : List Item) (i : ℕ) (d : Item) → i < length items
+    → ((number label : ℕ) → get_or items i d ≡ SetGlobal number label → ⊥)
+    → growth_of words filled ≡ fold (grown labels) (growth_of (fold with_setting store (segment_settings labels (take i items))) 0) (take (i + 1) items)
+    → growth_of words filled ≡ fold (grown labels) (growth_of (fold with_setting store (segment_settings labels (take (i + 1) items))) 0) (take (i + 1) items)
+grown-kept labels store words filled items i d within not known =
+    known ∙ ap (λ l. fold (grown labels) (growth_of l 0) (take (i + 1) items)) (settings-kept labels store _ items i d within not refl)
+
+-- an item that sets one
+pub grown-set : (labels : ℕ → ℕ) (store words : List ℕ) (filled : ℕ) (items : List Item) (i number label value : ℕ) (d : Item) → i < length items
+    → number ≤ 999 → 1034 ≤ length store → get_or items i d ≡ SetGlobal number label → value ≡ labels label
+    → growth_of words filled ≡ fold (grown labels) (growth_of (fold with_setting store (segment_settings labels (take i items))) 0) (take (i + 1) items)
+    → growth_of (set words (16 + number) value) filled
+    ≡ fold (grown labels) (growth_of (fold with_setting store (segment_settings labels (take (i + 1) items))) 0) (take (i + 1) items)
+grown-set labels store words filled items i number label value d within small long is gives known =
+    let base = fold with_setting store (segment_settings labels (take i items)) in
+    let next = fold with_setting store (segment_settings labels (take (i + 1) items)) in
+    let more = take (i + 1) items in
+    let whole = known ∙ grown_behind labels base more in
+    let size = settings_length (segment_settings labels (take i items)) store in
+    let words_are : set words (16 + number) value ≡ next ++ segment_words labels more =
+    ap (λ (g : Growth). set g.words (16 + number) value) whole
+    ∙ set-append_left base (segment_words labels more) (16 + number) value (omega arith)
+    ∙ ap (λ l. l ++ segment_words labels more) (settings-set labels store base items i number label value d within is refl gives) in
+    ap (λ l. growth_of l filled) words_are
+    ∙ ap (λ n. growth_of (next ++ segment_words labels more) n) (ap (λ (g : Growth). g.filled) whole)
+    ∙ sym (grown_behind labels next more)

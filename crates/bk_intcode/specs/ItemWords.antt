@@ -199,9 +199,12 @@ abbrev fresh : List ℕ → Growth
 fresh ws = record { words = ws; filled = 0 }
 
 -- items behind words put theirs behind them
+pub grown_behind : (labels : ℕ → ℕ) (ws : List ℕ) (items : List Item) → fold (grown labels) (fresh ws) items ≡ behind ws (growth labels items)
+grown_behind labels ws items =
+    ap (λ (l : List ℕ). fold (grown labels) (fresh l) items) (sym (append-nil ws)) ∙ items_behind labels ws items nothing (inl refl)
+
 pub words_behind : (labels : ℕ → ℕ) (ws : List ℕ) (items : List Item) → (fold (grown labels) (fresh ws) items).words ≡ ws ++ segment_words labels items
-words_behind labels ws items =
-    ap (λ (l : List ℕ). (fold (grown labels) (fresh l) items).words) (sym (append-nil ws)) ∙ ap (λ (g : Growth). g.words) (items_behind labels ws items nothing (inl refl))
+words_behind labels ws items = ap (λ (g : Growth). g.words) (grown_behind labels ws items)
 
 -- where no byte stands first it does not matter how the last word is filled
 first_plain : (labels : ℕ → ℕ) (g : Growth) (i : Item) (rest : List Item) → IsPlain i → (fold (grown labels) g (i ∷ rest)).words ≡ g.words ++ segment_words labels (i ∷ rest)

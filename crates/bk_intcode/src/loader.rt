@@ -1,17 +1,16 @@
 //! Loading: segments into the store of a machine.
-ghost use Rattle.std.specs.Prelude.{◌≡◌, ◌+◌, ◌<◌, ◌≤◌, ◌↔◌, ℕ, ◌++◌, Bool, false, OnOk, IfOk, MatchOption, fold, length, map, vec_len};
+ghost use Rattle.std.specs.Prelude.{◌≡◌, ◌+◌, ◌<◌, ◌≤◌, ◌↔◌, false, OnOk, IfOk, MatchOption, map, vec_len};
 ghost use Rattle.bk_base.specs.declared.limit.TheConstants.{STORE_LEAST, STORE_MOST};
 ghost use Rattle.bk_intcode.specs.Segment.{IsSegment};
 ghost use Rattle.bk_intcode.specs.SegmentItems.{items_of};
-ghost use Rattle.bk_intcode.specs.Placement.{SEGMENTS, stack_start, loaded_store, greatest_frame, any_starts, segment_settings, with_setting, segment_size, segment_words, label_number};
-ghost use Rattle.bk_intcode.specs.Inner.LabelNumbers.{number_of};
+ghost use Rattle.bk_intcode.specs.Placement.{SEGMENTS, stack_start, loaded_store, greatest_frame, any_starts, segment_size};
 ghost use Rattle.bk_intcode.specs.Inner.Placed.{placed};
 ghost use Rattle.bk_intcode.specs.declared.load_fault.LoadFault.TheVariants.{TooSmall, NoStart};
 
 use crate::extent::measure_segment;
 use crate::item::Item;
 use crate::labels::Labels;
-use crate::library::{FIRST_SEGMENT, GLOBAL_0, push_library};
+use crate::library::{FIRST_SEGMENT, push_library};
 use crate::load_fault::LoadFault;
 use crate::packing::push_items;
 use crate::segment::Intcode;
@@ -67,19 +66,6 @@ fn needs_of(segments: &[Intcode], room: u32) -> Option<Needs>
     })
 }
 
-/// Sets the globals of a segment.
-fn set_globals(store: &mut Vec<u32>, labels: &Labels, items: &[Item])
-    requires whole { IsSegment items.now }
-    requires globals { SEGMENTS ≤ vec_len store.old }
-    ensures { store.new.items ≡ fold with_setting store.old.items (segment_settings (number_of labels.now) items.now) }
-{
-    for item in items {
-        if let Item::SetGlobal { number, label } = *item {
-            store[(GLOBAL_0 + number) as usize] = labels.number(label);
-        }
-    }
-}
-
 /// Puts a segment behind the words of the store, and sets its globals.
 fn place(alloc: Global, store: &mut Vec<u32>, items: &[Item]) -> Result<(), AllocError>
     requires whole { IsSegment items.now }
@@ -88,9 +74,7 @@ fn place(alloc: Global, store: &mut Vec<u32>, items: &[Item]) -> Result<(), Allo
     ensures { OnOk result (store.new.items ≡ placed store.old.items items.now) }
 {
     let labels = Labels::of(alloc, items, store.len() as u32)?;
-    push_items(store, &labels, items)?;
-    set_globals(store, &labels, items);
-    Ok(())
+    push_items(store, &labels, items)
 }
 
 /// The store of so many words with the segments in it.

@@ -1,13 +1,15 @@
 //! The words of items, put behind those of the store.
-ghost use Rattle.std.specs.Prelude.{◌≡◌, ◌+◌, ◌-◌, ◌*◌, ◌%◌, ◌^◌, ◌<◌, ◌≤◌, ◌++◌, OnOk, IfOk, length, slice_index, slice_set};
+ghost use Rattle.std.specs.Prelude.{◌≡◌, ◌+◌, ◌-◌, ◌*◌, ◌%◌, ◌^◌, ◌<◌, ◌≤◌, ◌++◌, OnOk, IfOk, fold, length, vec_len, slice_index, slice_set};
 ghost use Rattle.bk_intcode.specs.Instructions.{function_number, bit, fields, instruction_at, instruction_words};
-ghost use Rattle.bk_intcode.specs.Placement.{grown, segment_words};
+ghost use Rattle.bk_intcode.specs.Placement.{SEGMENTS, grown, segment_settings, segment_words, with_setting};
+ghost use Rattle.bk_intcode.specs.Segment.{IsSegment};
 ghost use Rattle.bk_intcode.specs.Inner.LabelNumbers.{number_of};
 ghost use Rattle.bk_intcode.specs.Inner.Packing.{IsFilled};
 
 use crate::extent::LONG_ADDRESS;
 use crate::item::{Function, Item, Operand};
 use crate::labels::Labels;
+use crate::library::GLOBAL_0;
 use std::alloc::AllocError;
 
 fn function_number(function: Function) -> u32
@@ -172,17 +174,23 @@ fn push_item(
     Ok(0)
 }
 
-/// Puts the words of a segment behind the others.
+/// Puts the words of a segment behind the others, and sets its globals among those.
 pub(crate) fn push_items(
     words: &mut Vec<u32>,
     labels: &Labels,
     items: &[Item],
 ) -> Result<(), AllocError>
-    ensures { OnOk result (words.new.items ≡ words.old.items ++ segment_words (number_of labels.now) items.now) }
+    requires whole { IsSegment items.now }
+    requires globals { SEGMENTS ≤ vec_len words.old }
+    ensures { OnOk result (words.new.items
+        ≡ fold with_setting (words.old.items ++ segment_words (number_of labels.now) items.now) (segment_settings (number_of labels.now) items.now)) }
 {
     let mut filled = 0;
     for item in items {
         filled = push_item(words, labels, filled, *item)?;
+        if let Item::SetGlobal { number, label } = *item {
+            words[(GLOBAL_0 + number) as usize] = labels.number(label);
+        }
     }
     Ok(())
 }

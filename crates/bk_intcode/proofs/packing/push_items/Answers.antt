@@ -1,16 +1,76 @@
-use Rattle.std.proofs.Common.{ap, ◌∙◌, arith, List}
+use Rattle.std.proofs.Common.{◌≡◌, ℕ, ◌+◌, ◌<◌, ap, sym, ◌∙◌, arith, List, take, length, get_or}
 use Rattle.std.specs.Prelude.{fold}
 use Rattle.std.proofs.lemmas.List.{take_all}
-use Rattle.bk_intcode.specs.Placement.{Growth, grown}
+use Rattle.std.proofs.lemmas.List.Sums.{fold_more}
+use Rattle.bk_intcode.specs.Placement.{Growth, grown, segment_settings, segment_words, with_setting}
 use Rattle.bk_intcode.specs.declared.item.Item.{Item}
 use Rattle.bk_intcode.specs.Inner.LabelNumbers.{number_of}
+use Rattle.bk_intcode.specs.Inner.Packing.{IsFilled}
+use Rattle.bk_intcode.specs.LoadedWords.{items_bounded}
 use Rattle.bk_intcode.specs.ItemWords.{words_behind}
 use Rattle.bk_intcode.proofs.Growing.{growth_of}
+use Rattle.bk_intcode.proofs.Settings.{settings-behind, global-within, grown-long, grown-kept, grown-set}
 use Rattle.bk_intcode.proofs.packing.push_items.Goals as goal
+use Rattle.bk_intcode.proofs.packing.push_items.Goals.{in-SetGlobal, in_default}
+
+-- one more item is put behind the others
+pushed : (labels : ℕ → ℕ) (base words next : List ℕ) (filled more : ℕ) (items : List Item) (i : ℕ) (d : Item) → i < length items
+    → growth_of words filled ≡ fold (grown labels) (growth_of base 0) (take i items)
+    → grown labels (growth_of words filled) (get_or items i d) ≡ growth_of next more
+    → growth_of next more ≡ fold (grown labels) (growth_of base 0) (take (i + 1) items)
+pushed labels base words next filled more items i d within known one =
+    sym one ∙ ap (λ g. grown labels g (get_or items i d)) known ∙ sym (fold_more (grown labels) (growth_of base 0) items i d within)
+
+unfilled : (words : List ℕ) (filled : ℕ) → filled ≡ 0 → IsFilled words filled
+unfilled words filled none = record { within = omega arith; last = λ some. absurd (omega arith); small = λ some. absurd (omega arith) }
+
+pub overflow_add-number : goal.overflow_add-number
+overflow_add-number c =
+    let within = global-within c.args.items.now c.loop-item.item-index c.in-SetGlobal.number c.in-SetGlobal.label _ c.requires.whole (omega arith) c.in-SetGlobal.is in
+    omega (arith, within)
+
+pub index_mut-requires : goal.index_mut-requires
+index_mut-requires c =
+    let labels = number_of c.args.labels.now in
+    let within = global-within c.args.items.now c.loop-item.item-index c.in-SetGlobal.number c.in-SetGlobal.label _ c.requires.whole (omega arith) c.in-SetGlobal.is in
+    let items = c.args.items.now in
+    let i = c.loop-item.item-index in
+    let long = grown-long labels c.args.words.now.items c.push_item.new.words.items c.in_ok-filled.filled (segment_settings labels (take i items)) (take (i + 1) items)
+    (pushed labels _ c.loop-item.words.items _ c.loop-item.filled _ items i _ (omega arith) c.loop-item.invariant.grown c.in_ok-filled.ensures.value) in
+    omega (arith, within, long, c.push_item.new.words.ok.0, c.args.words.now.ok.0)
+
+pub loop-item-preserved : goal.loop-item-preserved
+loop-item-preserved c =
+    let labels = number_of c.args.labels.now in
+    let items = c.args.items.now in
+    let i = c.loop-item.item-index in
+    let store = c.args.words.now.items in
+    let words = c.push_item.new.words.items in
+    let filled = c.in_ok-filled.filled in
+    let known = pushed labels _ c.loop-item.words.items words c.loop-item.filled filled items i _ (omega arith) c.loop-item.invariant.grown c.in_ok-filled.ensures.value in
+    elim c.match-item.branch [
+      | in-SetGlobal w ↦ record {
+        grown = rw w.words-is
+            (grown-set labels store words filled items i w.in-SetGlobal.number w.in-SetGlobal.label w.number.result _ (omega arith)
+            (global-within items i w.in-SetGlobal.number w.in-SetGlobal.label _ c.requires.whole (omega arith) w.in-SetGlobal.is)
+            (omega (arith, c.args.words.now.ok.0)) w.in-SetGlobal.is w.number.ensures.value known);
+        filled = rw w.words-is (unfilled _ filled
+            (sym (ap (λ (g : Growth). g.filled) c.in_ok-filled.ensures.value)
+            ∙ ap (λ x. (grown labels (growth_of c.loop-item.words.items c.loop-item.filled) x).filled) w.in-SetGlobal.is));
+      }
+      | in_default w ↦ record {
+        grown = rw w.words-is (grown-kept labels store words filled items i _ (omega arith) w.in_default.not-SetGlobal known);
+        filled = rw w.words-is c.in_ok-filled.ensures.filled;
+      }
+    ]
 
 pub returns : goal.returns
 returns c =
     let labels = number_of c.args.labels.now in
+    let store = c.args.words.now.items in
+    let base : List Item → List ℕ = λ l. fold with_setting store (segment_settings labels l) in
     ap (λ (g : Growth). g.words) c.loop-item.invariant.grown
-    ∙ ap (λ (l : List Item). (fold (grown labels) (growth_of c.args.words.now.items 0) l).words) (take_all c.loop-item.item-index c.args.items.now (omega arith))
-    ∙ words_behind labels c.args.words.now.items c.args.items.now
+    ∙ ap (λ (l : List Item). (fold (grown labels) (growth_of (base l) 0) l).words) (take_all c.loop-item.item-index c.args.items.now (omega arith))
+    ∙ words_behind labels (base c.args.items.now) c.args.items.now
+    ∙ sym (settings-behind store (segment_words labels c.args.items.now) (segment_settings labels c.args.items.now)
+    (omega (arith, c.args.words.now.ok.0)) (items_bounded labels c.args.items.now c.requires.whole.in_range))

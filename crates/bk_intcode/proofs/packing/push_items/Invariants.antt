@@ -1,6 +1,6 @@
 use Rattle.std.proofs.Common.{◌≡◌, take}
 use Rattle.std.specs.Prelude.{fold}
-use Rattle.bk_intcode.specs.Placement.{grown}
+use Rattle.bk_intcode.specs.Placement.{grown, segment_settings, with_setting}
 use Rattle.bk_intcode.specs.Inner.LabelNumbers.{number_of}
 use Rattle.bk_intcode.specs.Inner.Packing.{IsFilled}
 use Rattle.bk_intcode.proofs.Growing.{growth_of}
@@ -8,6 +8,7 @@ use Rattle.bk_intcode.proofs.packing.push_items.Given as goal
 
 abbrev pub invariant-loop-item : goal.invariant-loop-item
 invariant-loop-item l = record {
-  grown : growth_of l.words.items l.filled ≡ fold (grown (number_of l.labels)) (growth_of l.initial.words.items 0) (take l.item-index l.items);
+  grown : growth_of l.words.items l.filled
+      ≡ fold (grown (number_of l.labels)) (growth_of (fold with_setting l.initial.words.items (segment_settings (number_of l.labels) (take l.item-index l.items))) 0) (take l.item-index l.items);
   filled : IsFilled l.words.items l.filled;
 }
