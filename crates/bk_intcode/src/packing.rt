@@ -187,10 +187,13 @@ pub(crate) fn push_items(
 {
     let mut filled = 0;
     for item in items {
-        filled = push_item(words, labels, filled, *item)?;
-        if let Item::SetGlobal { number, label } = *item {
-            words[(GLOBAL_0 + number) as usize] = labels.number(label);
-        }
+        filled = match *item {
+            Item::SetGlobal { number, label } => {
+                words[(GLOBAL_0 + number) as usize] = labels.number(label);
+                0
+            }
+            item => push_item(words, labels, filled, item)?,
+        };
     }
     Ok(())
 }

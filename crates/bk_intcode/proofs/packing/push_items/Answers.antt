@@ -1,6 +1,6 @@
 use Rattle.std.proofs.Common.{◌≡◌, ℕ, ◌+◌, ◌<◌, ap, sym, ◌∙◌, arith, List, take, length, get_or}
 use Rattle.std.specs.Prelude.{fold}
-use Rattle.std.proofs.lemmas.List.{take_all}
+use Rattle.std.proofs.lemmas.List.{append-nil, take_all}
 use Rattle.std.proofs.lemmas.List.Sums.{fold_more}
 use Rattle.bk_intcode.specs.Placement.{Growth, grown, segment_settings, segment_words, with_setting}
 use Rattle.bk_intcode.specs.declared.item.Item.{Item}
@@ -11,7 +11,7 @@ use Rattle.bk_intcode.specs.ItemWords.{words_behind}
 use Rattle.bk_intcode.proofs.Growing.{growth_of}
 use Rattle.bk_intcode.proofs.Settings.{settings-behind, global-within, grown-long, grown-kept, grown-set}
 use Rattle.bk_intcode.proofs.packing.push_items.Goals as goal
-use Rattle.bk_intcode.proofs.packing.push_items.Goals.{in-SetGlobal, in_default}
+use Rattle.bk_intcode.proofs.packing.push_items.Goals.{in-SetGlobal, in_default+in_ok-filled-in_default}
 
 -- one more item is put behind the others
 pushed : (labels : ℕ → ℕ) (base words next : List ℕ) (filled more : ℕ) (items : List Item) (i : ℕ) (d : Item) → i < length items
@@ -32,12 +32,11 @@ overflow_add-number c =
 pub index_mut-requires : goal.index_mut-requires
 index_mut-requires c =
     let labels = number_of c.args.labels.now in
-    let within = global-within c.args.items.now c.loop-item.item-index c.in-SetGlobal.number c.in-SetGlobal.label _ c.requires.whole (omega arith) c.in-SetGlobal.is in
     let items = c.args.items.now in
     let i = c.loop-item.item-index in
-    let long = grown-long labels c.args.words.now.items c.push_item.new.words.items c.in_ok-filled.filled (segment_settings labels (take i items)) (take (i + 1) items)
-    (pushed labels _ c.loop-item.words.items _ c.loop-item.filled _ items i _ (omega arith) c.loop-item.invariant.grown c.in_ok-filled.ensures.value) in
-    omega (arith, within, long, c.push_item.new.words.ok.0, c.args.words.now.ok.0)
+    let within = global-within items i c.in-SetGlobal.number c.in-SetGlobal.label _ c.requires.whole (omega arith) c.in-SetGlobal.is in
+    let long = grown-long labels c.args.words.now.items c.loop-item.words.items c.loop-item.filled (segment_settings labels (take i items)) (take i items) c.loop-item.invariant.grown in
+    omega (arith, within, long, c.loop-item.words.ok.0, c.args.words.now.ok.0)
 
 pub loop-item-preserved : goal.loop-item-preserved
 loop-item-preserved c =
@@ -45,23 +44,25 @@ loop-item-preserved c =
     let items = c.args.items.now in
     let i = c.loop-item.item-index in
     let store = c.args.words.now.items in
-    let words = c.push_item.new.words.items in
-    let filled = c.in_ok-filled.filled in
-    let known = pushed labels _ c.loop-item.words.items words c.loop-item.filled filled items i _ (omega arith) c.loop-item.invariant.grown c.in_ok-filled.ensures.value in
+    let words = c.loop-item.words.items in
+    let filled = c.loop-item.filled in
     elim c.match-item.branch [
-      | in-SetGlobal w ↦ record {
-        grown = rw w.words-is
-            (grown-set labels store words filled items i w.in-SetGlobal.number w.in-SetGlobal.label w.number.result _ (omega arith)
-            (global-within items i w.in-SetGlobal.number w.in-SetGlobal.label _ c.requires.whole (omega arith) w.in-SetGlobal.is)
-            (omega (arith, c.args.words.now.ok.0)) w.in-SetGlobal.is w.number.ensures.value known);
-        filled = rw w.words-is (unfilled _ filled
-            (sym (ap (λ (g : Growth). g.filled) c.in_ok-filled.ensures.value)
-            ∙ ap (λ x. (grown labels (growth_of c.loop-item.words.items c.loop-item.filled) x).filled) w.in-SetGlobal.is));
-      }
-      | in_default w ↦ record {
-        grown = rw w.words-is (grown-kept labels store words filled items i _ (omega arith) w.in_default.not-SetGlobal known);
-        filled = rw w.words-is c.in_ok-filled.ensures.filled;
-      }
+      | in-SetGlobal w ↦
+          let known = pushed labels _ words words filled 0 items i _ (omega arith) c.loop-item.invariant.grown
+          (ap (λ x. grown labels (growth_of words filled) x) w.in-SetGlobal.is ∙ ap (λ l. growth_of l 0) (append-nil words)) in
+          record {
+            grown = rw (w.words-is, w.filled-is)
+                (grown-set labels store words 0 items i w.in-SetGlobal.number w.in-SetGlobal.label w.number.result _ (omega arith)
+                (global-within items i w.in-SetGlobal.number w.in-SetGlobal.label _ c.requires.whole (omega arith) w.in-SetGlobal.is)
+                (omega (arith, c.args.words.now.ok.0)) w.in-SetGlobal.is w.number.ensures.value known);
+            filled = unfilled _ c.match-item.filled w.filled-is;
+          }
+      | in_default+in_ok-filled-in_default w ↦
+          let known = pushed labels _ words w.push_item.new.words.items filled _ items i _ (omega arith) c.loop-item.invariant.grown w.in_ok-filled-in_default.ensures.value in
+          record {
+            grown = rw (w.words-is, w.filled-is) (grown-kept labels store w.push_item.new.words.items _ items i _ (omega arith) w.in_default.not-SetGlobal known);
+            filled = rw (w.words-is, w.filled-is) w.in_ok-filled-in_default.ensures.filled;
+          }
     ]
 
 pub returns : goal.returns
