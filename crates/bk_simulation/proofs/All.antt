@@ -33,19 +33,19 @@ use Rattle.bk_meaning.specs.Program.{means_with, turn_for}
 use Rattle.bk_meaning.proofs.After.{Adds, adds, stays, given_after, with_after, each_way_after, either_after}
 use Rattle.bk_simulation.proofs.Sizes.{turns_of, turns_among, turns_in, turns_through}
 use Rattle.bk_simulation.proofs.Laid.{Setting, Stretch, ByTurns, AreFrom, AreStores, AreValues, AreActs, CallAt, count, IsValue, IsJump, IsAddress, IsStore, IsAct, IsLoop, Entered, EnteredAny, EnteredBody}
-use Rattle.bk_simulation.proofs.Frame.{Sit, store, start, Ready, Account, Ran, with_ran, turn_ran, ArrivedAt, Has, Out}
-use Rattle.bk_simulation.proofs.Compose.{stay, arrived_more, ran_first}
-use Rattle.bk_simulation.proofs.Simulates.{Simulates, for_value, for_truth, for_act, for_scope, for_rounds, where_to, HasTruth, HasAddress, Destined, word, through, byte, Did}
+use Rattle.bk_simulation.proofs.Frame.{Sit, start, Ready, Account, here, Ran, went, with_ran, turn_behind, ArrivedAt, Has, Out}
+use Rattle.bk_simulation.proofs.Compose.{stay, arrived_more, ran_first, ran_more}
+use Rattle.bk_simulation.proofs.Simulates.{Simulates, for_value, for_truth, for_act, for_scope, for_rounds, where_to, HasTruth, HasAddress, Destined, word, through, byte, Did, RanDid}
 use Rattle.bk_simulation.proofs.Leaves.{RanValue, name_runs, number_runs, truth_runs, query_runs, text_runs, table_runs}
 use Rattle.bk_simulation.proofs.Operands.{for_two, one_run, two_run}
 use Rattle.bk_simulation.proofs.Operators.{contents_run, minus_run, not_run, plus_run, combined_run}
 use Rattle.bk_simulation.proofs.ControlSteps.{tested}
-use Rattle.bk_simulation.proofs.Conditions.{denied_run, both_fails, both_holds, either_fails, either_holds, choice_run}
+use Rattle.bk_simulation.proofs.Conditions.{denied_run, straight_run, over_run, choice_run}
 use Rattle.bk_simulation.proofs.Places.{RanAddress, RanStore, address_runs, word_runs, contents_address, contents_store, subscript_address, subscript_store, byte_store}
 use Rattle.bk_simulation.proofs.Orders.{not_true, order_adds, order_run}
 use Rattle.bk_simulation.proofs.Scopes.{landing_adds, scope_runs}
 use Rattle.bk_simulation.proofs.Valofs.{valof_run}
-use Rattle.bk_simulation.proofs.Commands.{RanDid, goto_runs, break_runs, loop_runs, endcase_runs, return_runs, finish_runs, resultis_runs, place_run}
+use Rattle.bk_simulation.proofs.Commands.{goto_runs, break_runs, loop_runs, endcase_runs, return_runs, finish_runs, resultis_runs, place_run}
 use Rattle.bk_simulation.proofs.Branches.{when_run, when_sought, test_run, test_sought}
 use Rattle.bk_simulation.proofs.Loops.{while_rounds, repeat_rounds, repeat_while_rounds}
 use Rattle.bk_simulation.proofs.LoopCommands.{while_run, while_sought, repeat_run, repeat_while_run}
@@ -74,36 +74,17 @@ alone_runs g m sim x z j c rest v l r = scope_runs g m sim (alone x) forwards z 
 -- what operators add
 prefix_adds : (f : Prefix) (u : Value) → Adds (operate_prefix f u)
 prefix_adds f (number n) = adds _ (λ v. given_after _ v)
-prefix_adds f (address a i) = adds _ (λ v. tt)
-prefix_adds f (procedure n) = adds _ (λ v. tt)
-prefix_adds f (routine n) = adds _ (λ v. tt)
-prefix_adds f unset = adds _ (λ v. tt)
+prefix_adds f _ = adds _ (λ v. tt)
 
 numbers_add : (f : Operator) (x y : Value) → Adds (on_numbers f x y)
 numbers_add f (number a) (number b) = adds _ (λ v. either_after (divides_by_zero f (Some a) (Some b)) _ _ (adds (λ w. ends divide_by_zero w) (λ w1. stays (history w1))) (adds (λ w. given (option_map number (infix_word f a b)) w) (λ w1. given_after _ w1)) v)
-numbers_add f (number a) (address b i) = adds _ (λ v. tt)
-numbers_add f (number a) (procedure n) = adds _ (λ v. tt)
-numbers_add f (number a) (routine n) = adds _ (λ v. tt)
-numbers_add f (number a) unset = adds _ (λ v. tt)
-numbers_add f (address a i) y = adds _ (λ v. tt)
-numbers_add f (procedure n) y = adds _ (λ v. tt)
-numbers_add f (routine n) y = adds _ (λ v. tt)
-numbers_add f unset y = adds _ (λ v. tt)
+numbers_add f _ _ = adds _ (λ v. tt)
 
 subscript_adds : (x y : Value) → Adds (combined o.Subscript x y)
 subscript_adds x y = adds (combined o.Subscript x y) (λ v. with_after (history v) (given (sum v.memory x y) v) fetch (given_after (sum v.memory x y) v) (λ a. adds _ (λ w1. given_after _ w1)))
 
 combined_adds : (f : Operator) (x y : Value) → Adds (combined f x y)
 combined_adds o.Subscript x y = subscript_adds x y
-combined_adds o.Byte x y = adds _ (λ v. given_after _ v)
-combined_adds o.Add x y = adds _ (λ v. given_after _ v)
-combined_adds o.Subtract x y = adds _ (λ v. given_after _ v)
-combined_adds o.Equal x y = adds _ (λ v. given_after _ v)
-combined_adds o.Unequal x y = adds _ (λ v. given_after _ v)
-combined_adds o.Less x y = adds _ (λ v. given_after _ v)
-combined_adds o.Greater x y = adds _ (λ v. given_after _ v)
-combined_adds o.AtMost x y = adds _ (λ v. given_after _ v)
-combined_adds o.AtLeast x y = adds _ (λ v. given_after _ v)
 combined_adds o.Times x y = numbers_add o.Times x y
 combined_adds o.Over x y = numbers_add o.Over x y
 combined_adds o.Rem x y = numbers_add o.Rem x y
@@ -113,6 +94,7 @@ combined_adds o.Both x y = numbers_add o.Both x y
 combined_adds o.Either x y = numbers_add o.Either x y
 combined_adds o.Same x y = numbers_add o.Same x y
 combined_adds o.Differ x y = numbers_add o.Differ x y
+combined_adds _ x y = adds _ (λ v. given_after _ v)
 
 -- a turn less
 ready_ticked : (g : Setting) (z : Sit) (v : World) (n : ℕ) → Ready g z v → Ready g z (record v { turns = n })
@@ -121,13 +103,13 @@ ready_ticked g z v n r =
 
 -- places within larger accounts
 larger_address : (g : Setting) (s : State) (A B : Account) (z : Sit) (rest : List Stmt) (v : World) (u : Target) (w1 : World) → A.most ≤ B.most → B.least ≤ A.least → HasAddress g s A z rest v u w1 → HasAddress g s B z rest v u w1
-larger_address g s A B z rest v (at a) w1 le ll y = record { arr = arrived_more g s A B z.scene.own z.frame v.calls (z.frame + z.depth) (store z v) rest (z.depth + 1) w1 le ll y.arr; stands = y.stands }
+larger_address g s A B z rest v (at a) w1 le ll y = record { arr = arrived_more le ll y.arr; stands = y.stands }
 larger_address g s A B z rest v (byte_at a i) w1 le ll y = tt
 
 larger_store : (g : Setting) (s : State) (A B : Account) (z : Sit) (rest : List Stmt) (v : World) (u : Target) (w1 : World) → A.most ≤ B.most → B.least ≤ A.least → Destined g s A z rest v u w1 → Destined g s B z rest v u w1
-larger_store g s A B z rest v _ _ le ll (word x ob i b w1 a eb ep) = word x ob i b w1 (arrived_more g s A B z.scene.own z.frame v.calls (z.frame + z.depth) (store z v) (Assign x ∷ rest) z.depth w1 le ll a) eb ep
-larger_store g s A B z rest v _ _ le ll (through a w1 y) = through a w1 (record { arr = arrived_more g s A B z.scene.own z.frame v.calls (z.frame + z.depth) (store z v) (AssignAt ∷ rest) (z.depth + 1) w1 le ll y.arr; stands = y.stands })
-larger_store g s A B z rest v _ _ le ll (byte a i w1 y sa si) = byte a i w1 (arrived_more g s A B z.scene.own z.frame v.calls (z.frame + z.depth) (store z v) (AssignByte ∷ rest) (z.depth + 1 + 1) w1 le ll y) sa si
+larger_store g s A B z rest v _ _ le ll (word x ob i b w1 a eb ep) = word x ob i b w1 (arrived_more le ll a) eb ep
+larger_store g s A B z rest v _ _ le ll (through a w1 y) = through a w1 (record { arr = arrived_more le ll y.arr; stands = y.stands })
+larger_store g s A B z rest v _ _ le ll (byte a i w1 y sa si) = byte a i w1 (arrived_more le ll y) sa si
 
 -- and where a turn less was left
 ticked_address : (g : Setting) (s : State) (B : Account) (z : Sit) (rest : List Stmt) (v : World) (n : ℕ) (u : Target) (w1 : World) → HasAddress g s B z rest (record v { turns = n }) u w1 → HasAddress g s B z rest v u w1
@@ -149,19 +131,19 @@ module _ (g : Setting) (p : Program) (m : Meanings) (procs : Procedures g p) (kn
   value_of_runs B (t.truth l x) z c rest v le ll a r = truth_runs g B z c x rest v (omega arith) (omega arith) a r
   value_of_runs B (t.query l) z c rest v le ll a r = query_runs g B z c rest v (omega arith) (omega arith) a r
   value_of_runs B (t.parens l e) z c rest v le ll a r =
-      ran_first g (start z c v) (for_value e v) B z v _ _ (m.value e z.env v) (omega arith) (omega arith) (λ u w1 y. record { arr = arrived_more g (start z c v) (for_value e v) B z.scene.own z.frame v.calls (z.frame + z.depth) (store z v) rest (z.depth + 1) w1 (omega arith) (omega arith) y.0.arr; stands = y.0.stands })
+      ran_first (omega arith) (omega arith) (λ u w1 y. record { arr = arrived_more (omega arith) (omega arith) y.0.arr; stands = y.0.stands })
       (sim.value e z c rest v a r)
   value_of_runs B (t.unary l q.Address e) z c rest v le ll a r =
-      with_ran g (start z c v) B (HasAddress g (start z c v) (for_value e v) z rest v) _ _ (m.target e z.env v) address_in address_adds
-      (ran_first g (start z c v) (for_value e v) B z v _ _ (m.target e z.env v) (omega arith) (omega arith) (λ u w1 y. y) (sim.address e z c rest v a r)) addressed
+      with_ran address_adds
+      (ran_more (omega arith) (omega arith) (sim.address e z c rest v a r)) addressed
     where
       address_adds : (u : Target) → Adds (address_in u)
       address_adds (at a) = adds _ (λ w1. stays (history w1))
       address_adds (byte_at a i) = adds _ (λ w1. tt)
 
       addressed : (u : Target) (w1 : World) → HasAddress g (start z c v) (for_value e v) z rest v u w1 → RanValue g (start z c v) B z rest v (address_in u w1)
-      addressed (at u) w1 y = inl (record { arr = arrived_more g (start z c v) (for_value e v) B z.scene.own z.frame v.calls (z.frame + z.depth) (store z v) rest (z.depth + 1) w1 (omega arith) (omega arith) y.arr; stands = y.stands })
-      addressed (byte_at u i) w1 y = inl tt
+      addressed (at u) w1 y = went (record { arr = arrived_more (omega arith) (omega arith) y.arr; stands = y.stands })
+      addressed (byte_at u i) w1 y = went tt
   value_of_runs B (t.unary l q.Contents e) z c rest v le ll a r =
       one_run g m sim B e z c (Monadic w.Contents ∷ rest) v _ _ (λ u. adds _ (λ w1. given_after _ w1)) (omega arith) (omega arith) a r (λ u w1 y pos. contents_run g (start z c v) (for_value e v) B z rest v w1 u (omega arith) (omega arith) r.deep y)
   value_of_runs B (t.unary l q.Plus e) z c rest v le ll a r =
@@ -183,104 +165,72 @@ module _ (g : Setting) (p : Program) (m : Meanings) (procs : Procedures g p) (kn
       → from_label z.scene.own.stmts n ≡ Some to → Ready g z v → Ran g (start z c v) B (HasTruth g (start z c v) B z u to rest v) (Out g (start z c v) B z v) (with (value_of p m e z.env v) judged)
   plain_truth B e z u n to c rest v le ll a f r =
       let A : Account = record { most = 16 * v.turns + 12; least = suc v.turns - turns_of e } in
-      with_ran g (start z c v) B (Has g (start z c v) A z (JumpIf u n ∷ rest) (z.depth + 1) v) _ _ (value_of p m e z.env v) judged (λ x. adds _ (λ w1. given_after _ w1))
-      (ran_first g (start z c v) A B z v _ _ (value_of p m e z.env v) (omega arith) (omega arith) (λ x w1 y. y) (value_of_runs A e z c (JumpIf u n ∷ rest) v (omega arith) (omega arith) a r))
-      (λ x w1 y. tested g (start z c v) A B z u n to rest v w1 x (omega arith) (omega arith) r.deep f y)
+      with_ran (λ x. adds _ (λ w1. given_after _ w1))
+      (ran_more (omega arith) (omega arith) (value_of_runs A e z c (JumpIf u n ∷ rest) v (omega arith) (omega arith) a r))
+      (λ x w1 y. tested (omega arith) (omega arith) r f y)
 
   truth_of_runs : (B : Account) (e : Expression) (z : Sit) (u : Bool) (n : ℕ) (to c rest : List Stmt) (v : World) → 16 * v.turns + 13 ≤ B.most → B.least ≤ suc v.turns - turns_of e → IsJump g z.scene z.depth z.env e u n c rest
       → from_label z.scene.own.stmts n ≡ Some to → Ready g z v → Ran g (start z c v) B (HasTruth g (start z c v) B z u to rest v) (Out g (start z c v) B z v) (truth_of p m e z.env v)
-  truth_of_runs B (t.name l x) z u n to c rest v le ll a f r = plain_truth B (t.name l x) z u n to c rest v le ll a f r
-  truth_of_runs B (t.number l i) z u n to c rest v le ll a f r = plain_truth B (t.number l i) z u n to c rest v le ll a f r
-  truth_of_runs B (t.text l x) z u n to c rest v le ll a f r = plain_truth B (t.text l x) z u n to c rest v le ll a f r
-  truth_of_runs B (t.truth l x) z u n to c rest v le ll a f r = plain_truth B (t.truth l x) z u n to c rest v le ll a f r
-  truth_of_runs B (t.query l) z u n to c rest v le ll a f r = plain_truth B (t.query l) z u n to c rest v le ll a f r
   truth_of_runs B (t.parens l e) z u n to c rest v le ll a f r =
-      ran_first g (start z c v) (for_truth e v) B z v _ _ (m.truth e z.env v) (omega arith) (omega arith)
-      (λ x w1 y. arrived_more g (start z c v) (for_truth e v) B z.scene.own z.frame v.calls (z.frame + z.depth) (store z v) (where_to u x to rest) z.depth w1 (omega arith) (omega arith) y) (sim.truth e z u n to c rest v a f r)
-  truth_of_runs B (t.unary l q.Contents e) z u n to c rest v le ll a f r = plain_truth B (t.unary l q.Contents e) z u n to c rest v le ll a f r
-  truth_of_runs B (t.unary l q.Address e) z u n to c rest v le ll a f r = plain_truth B (t.unary l q.Address e) z u n to c rest v le ll a f r
-  truth_of_runs B (t.unary l q.Plus e) z u n to c rest v le ll a f r = plain_truth B (t.unary l q.Plus e) z u n to c rest v le ll a f r
-  truth_of_runs B (t.unary l q.Minus e) z u n to c rest v le ll a f r = plain_truth B (t.unary l q.Minus e) z u n to c rest v le ll a f r
+      ran_first (omega arith) (omega arith)
+      (λ x w1 y. arrived_more (omega arith) (omega arith) y) (sim.truth e z u n to c rest v a f r)
   truth_of_runs B (t.unary l q.Not e) z u n to c rest v le ll a f r = denied_run g m sim B e z u n to c rest v (omega arith) (omega arith) a f r
-  truth_of_runs B (t.binary l o.Both i x y) z true n to c rest v le ll a f r = both_holds g m sim B x y z n a.0 to c a.1 rest v (omega arith) (omega arith) a.2 a.3 a.4 f r
-  truth_of_runs B (t.binary l o.Both i x y) z false n to c rest v le ll a f r = both_fails g m sim B x y z n to c a.0 rest v (omega arith) (omega arith) a.1 a.2 f r
-  truth_of_runs B (t.binary l o.Either i x y) z true n to c rest v le ll a f r = either_holds g m sim B x y z n to c a.0 rest v (omega arith) (omega arith) a.1 a.2 f r
-  truth_of_runs B (t.binary l o.Either i x y) z false n to c rest v le ll a f r = either_fails g m sim B x y z n a.0 to c a.1 rest v (omega arith) (omega arith) a.2 a.3 a.4 f r
-  truth_of_runs B (t.binary l o.Subscript i x y) z u n to c rest v le ll a f r = plain_truth B (t.binary l o.Subscript i x y) z u n to c rest v le ll a f r
+  truth_of_runs B (t.binary l o.Both i x y) z true n to c rest v le ll a f r = over_run g m sim B x y z true n a.0 to c a.1 rest v (omega arith) (omega arith) a.2 a.3 a.4 f r
+  truth_of_runs B (t.binary l o.Both i x y) z false n to c rest v le ll a f r = straight_run g m sim B x y z false n to c a.0 rest v (omega arith) (omega arith) a.1 a.2 f r
+  truth_of_runs B (t.binary l o.Either i x y) z true n to c rest v le ll a f r = straight_run g m sim B x y z true n to c a.0 rest v (omega arith) (omega arith) a.1 a.2 f r
+  truth_of_runs B (t.binary l o.Either i x y) z false n to c rest v le ll a f r = over_run g m sim B x y z false n a.0 to c a.1 rest v (omega arith) (omega arith) a.2 a.3 a.4 f r
   truth_of_runs B (t.binary l o.Byte i x y) z u n to c rest v le ll a f r = plain_truth B (t.binary l o.Byte i x y) z u n to c rest v le ll a f r
-  truth_of_runs B (t.binary l o.Times i x y) z u n to c rest v le ll a f r = plain_truth B (t.binary l o.Times i x y) z u n to c rest v le ll a f r
-  truth_of_runs B (t.binary l o.Over i x y) z u n to c rest v le ll a f r = plain_truth B (t.binary l o.Over i x y) z u n to c rest v le ll a f r
-  truth_of_runs B (t.binary l o.Rem i x y) z u n to c rest v le ll a f r = plain_truth B (t.binary l o.Rem i x y) z u n to c rest v le ll a f r
-  truth_of_runs B (t.binary l o.Add i x y) z u n to c rest v le ll a f r = plain_truth B (t.binary l o.Add i x y) z u n to c rest v le ll a f r
-  truth_of_runs B (t.binary l o.Subtract i x y) z u n to c rest v le ll a f r = plain_truth B (t.binary l o.Subtract i x y) z u n to c rest v le ll a f r
-  truth_of_runs B (t.binary l o.Equal i x y) z u n to c rest v le ll a f r = plain_truth B (t.binary l o.Equal i x y) z u n to c rest v le ll a f r
-  truth_of_runs B (t.binary l o.Unequal i x y) z u n to c rest v le ll a f r = plain_truth B (t.binary l o.Unequal i x y) z u n to c rest v le ll a f r
-  truth_of_runs B (t.binary l o.Less i x y) z u n to c rest v le ll a f r = plain_truth B (t.binary l o.Less i x y) z u n to c rest v le ll a f r
-  truth_of_runs B (t.binary l o.Greater i x y) z u n to c rest v le ll a f r = plain_truth B (t.binary l o.Greater i x y) z u n to c rest v le ll a f r
-  truth_of_runs B (t.binary l o.AtMost i x y) z u n to c rest v le ll a f r = plain_truth B (t.binary l o.AtMost i x y) z u n to c rest v le ll a f r
-  truth_of_runs B (t.binary l o.AtLeast i x y) z u n to c rest v le ll a f r = plain_truth B (t.binary l o.AtLeast i x y) z u n to c rest v le ll a f r
-  truth_of_runs B (t.binary l o.ShiftLeft i x y) z u n to c rest v le ll a f r = plain_truth B (t.binary l o.ShiftLeft i x y) z u n to c rest v le ll a f r
-  truth_of_runs B (t.binary l o.ShiftRight i x y) z u n to c rest v le ll a f r = plain_truth B (t.binary l o.ShiftRight i x y) z u n to c rest v le ll a f r
-  truth_of_runs B (t.binary l o.Same i x y) z u n to c rest v le ll a f r = plain_truth B (t.binary l o.Same i x y) z u n to c rest v le ll a f r
-  truth_of_runs B (t.binary l o.Differ i x y) z u n to c rest v le ll a f r = plain_truth B (t.binary l o.Differ i x y) z u n to c rest v le ll a f r
-  truth_of_runs B (t.choice l i e x y) z u n to c rest v le ll a f r = plain_truth B (t.choice l i e x y) z u n to c rest v le ll a f r
-  truth_of_runs B (t.apply l i e es) z u n to c rest v le ll a f r = plain_truth B (t.apply l i e es) z u n to c rest v le ll a f r
-  truth_of_runs B (t.valof l x) z u n to c rest v le ll a f r = plain_truth B (t.valof l x) z u n to c rest v le ll a f r
-  truth_of_runs B (t.table l es) z u n to c rest v le ll a f r = plain_truth B (t.table l es) z u n to c rest v le ll a f r
+  truth_of_runs B y z u n to c rest v le ll a f r = plain_truth B y z u n to c rest v le ll a f r
 
   -- ---- places
   address_of_runs : (B : Account) (e : Expression) (z : Sit) (c rest : List Stmt) (v : World) → 16 * v.turns + 12 ≤ B.most → B.least ≤ suc v.turns - turns_of e → IsAddress g z.scene z.depth z.env e c rest → Ready g z v
       → RanAddress g (start z c v) B z rest v (target_of m e z.env v)
   address_of_runs B (t.name l x) z c rest v le ll a r = address_runs g B z c x rest v (omega arith) (omega arith) a r
   address_of_runs B (t.parens l e) z c rest v le ll a r =
-      ran_first g (start z c v) (for_value e v) B z v _ _ (m.target e z.env v) (omega arith) (omega arith) (λ u w1 y. larger_address g (start z c v) (for_value e v) B z rest v u w1 (omega arith) (omega arith) y) (sim.address e z c rest v a r)
+      ran_first (omega arith) (omega arith) (λ u w1 y. larger_address g (start z c v) (for_value e v) B z rest v u w1 (omega arith) (omega arith) y) (sim.address e z c rest v a r)
   address_of_runs B (t.unary l q.Contents e) z c rest v le ll a r = contents_address g m sim B e z c rest v (omega arith) (omega arith) a r
   address_of_runs B (t.binary l o.Subscript i x y) z c rest v le ll a r = subscript_address g m sim B x y z c a.0 rest v (omega arith) (omega arith) a.1 a.2 r
   address_of_runs B (t.binary l o.Byte i x y) z c rest v le ll a r = absurd a
-  address_of_runs B _ z c rest v le ll a r = inl tt
+  address_of_runs B _ z c rest v le ll a r = went tt
 
   store_of_runs : (B : Account) (e : Expression) (z : Sit) (c rest : List Stmt) (v : World) → 16 * v.turns + 12 ≤ B.most → B.least ≤ suc v.turns - turns_of e → IsStore g z.scene z.depth z.env e c rest → Ready g z v
       → RanStore g (start z c v) B z rest v (target_of m e z.env v)
   store_of_runs B (t.name l x) z c rest v le ll a r = word_runs g B z c x rest v (omega arith) (omega arith) a r
   store_of_runs B (t.parens l e) z c rest v le ll a r =
-      ran_first g (start z c v) (for_value e v) B z v _ _ (m.target e z.env v) (omega arith) (omega arith) (λ u w1 y. larger_store g (start z c v) (for_value e v) B z rest v u w1 (omega arith) (omega arith) y) (sim.destination e z c rest v a r)
+      ran_first (omega arith) (omega arith) (λ u w1 y. larger_store g (start z c v) (for_value e v) B z rest v u w1 (omega arith) (omega arith) y) (sim.destination e z c rest v a r)
   store_of_runs B (t.unary l q.Contents e) z c rest v le ll a r = contents_store g m sim B e z c rest v (omega arith) (omega arith) a r
   store_of_runs B (t.binary l o.Subscript i x y) z c rest v le ll a r = subscript_store g m sim B x y z c a.0 rest v (omega arith) (omega arith) a.1 a.2 r
   store_of_runs B (t.binary l o.Byte i x y) z c rest v le ll a r = byte_store g m sim B x y z c a.0 rest v (omega arith) (omega arith) a.1 a.2 r
-  store_of_runs B _ z c rest v le ll a r = inl tt
+  store_of_runs B _ z c rest v le ll a r = went tt
 
   -- ---- commands
   -- commands made of parts, within their account
   assigned_more : (B : Account) (xs es : Expressions) (z : Sit) (c rest : List Stmt) (v : World) → 16 * v.turns + 16 ≤ B.most → B.least ≤ suc v.turns - (1 + (turns_among xs + turns_among es))
       → (vs ss : List Stretch) × AreFrom g z.scene z.depth (past_each xs z.env) es vs × AreStores g z.scene (z.depth + 1) z.env xs ss × ByTurns xs es vs ss c rest → Ready g z v → RanDid g (start z c v) B z rest v (assigned m xs z.env es (past_each xs z.env) v)
   assigned_more B xs es z c rest v le ll a r =
-      ran_first g (start z c v) (for_assigned xs es v) B z v _ _ (assigned m xs z.env es (past_each xs z.env) v) (omega arith) (omega arith)
-      (λ _ w1 y. arrived_more g (start z c v) (for_assigned xs es v) B z.scene.own z.frame v.calls (z.frame + z.depth) (store z v) rest z.depth w1 (omega arith) (omega arith) y)
+      ran_first (omega arith) (omega arith)
+      (λ _ w1 y. arrived_more (omega arith) (omega arith) y)
       (assigned_run g m sim xs es a.0 a.1 z.env (past_each xs z.env) z c rest v a.2 a.3 a.4 refl refl r)
 
   call_more : (B : Account) (f : Expression) (es : Expressions) (z : Sit) (c rest : List Stmt) (v : World) → 16 * v.turns + 16 ≤ B.most → B.least ≤ suc v.turns - (1 + (turns_among es + turns_of f))
       → (c1 c2 : List Stmt) × (c ≡ Stack (z.depth + 2) ∷ c1) × AreValues g z.scene (z.depth + 2) (past f z.env) es c1 c2 × IsValue g z.scene (z.depth + 2 + count es) z.env f c2 (CallRoutine z.depth ∷ rest) × CallAt g z.scene (CallRoutine z.depth) rest
       × (z.depth + 2 + count es + 1 ≤ FRAME_WORDS) → Ready g z v → RanDid g (start z c v) B z rest v (with (applied p m f es z.env v) (λ _ w. done w))
   call_more B f es z c rest v le ll a r =
-      with_ran g (start z c v) B (Gave false g (start z c v) B z rest v) _ _ (applied p m f es z.env v) _ (λ _. adds _ (λ w1. stays (history w1)))
-      (apply_runs false g p m procs known sim (alone_runs g m sim) (alone_adds g m sim) B f es z c a.0 a.1 rest v (omega arith) (omega arith) a.2 a.3 a.4 a.5 a.6 r) (λ x w1 y. inl y)
+      with_ran (λ _. adds _ (λ w1. stays (history w1)))
+      (apply_runs false g p m procs known sim (alone_runs g m sim) (alone_adds g m sim) B f es z c a.0 a.1 rest v (omega arith) (omega arith) a.2 a.3 a.4 a.5 a.6 r) (λ x w1 y. went y)
 
   order_more : (B : Account) (cs : Actions) (mode : Mode) (z : Sit) (there : Sought → List Stmt) (c rest e : List Stmt) (v : World) → 16 * v.turns + 16 ≤ B.most → B.least ≤ v.turns - turns_through cs → AreActs g z.scene z.depth z.env cs there c rest
       → EnteredAny mode z.env cs there c e → Ready g z v → RanDid g (start z e v) B z rest v (in_order m cs mode z.env v)
   order_more B cs mode z there c rest e v le ll a en r =
-      ran_first g (start z e v) (for_scope cs v) B z v _ _ (in_order m cs mode z.env v) (omega arith) (omega arith)
-      (λ _ w1 y. arrived_more g (start z e v) (for_scope cs v) B z.scene.own z.frame v.calls (z.frame + z.depth) (store z v) rest z.depth w1 (omega arith) (omega arith) y) (order_run g m sim cs mode z there c rest e v a en r)
+      ran_first (omega arith) (omega arith)
+      (λ _ w1 y. arrived_more (omega arith) (omega arith) y) (order_run g m sim cs mode z there c rest e v a en r)
 
   act_of_runs : (B : Account) (x : Action) (mode : Mode) (z : Sit) (there : Sought → List Stmt) (c rest e : List Stmt) (v : World) → 16 * v.turns + 16 ≤ B.most → B.least ≤ suc v.turns - turns_in x → B.least ≤ v.turns → IsAct g z.scene z.depth z.env x there c rest
       → Entered mode z.env x there c e → Ready g z v → RanDid g (start z e v) B z rest v (act_of p m x mode z.env v)
-  act_of_runs B (t.empty) forwards z there c rest e v le ll lb a en r = subst (λ code. RanDid g (start z code v) B z rest v (act_of p m (t.empty) forwards z.env v)) (sym en) (inl (subst (λ y. ArrivedAt g (start z c v) B z y z.depth v v) a (stay g B z c v (omega arith) lb r)))
-  act_of_runs B (t.empty) (seeking s) z there c rest e v le ll lb a en r = not_true en.0
+  act_of_runs B (t.empty) forwards z there c rest e v le ll lb a en r = subst (λ code. RanDid g (start z code v) B z rest v (act_of p m (t.empty) forwards z.env v)) (sym en) (went (subst (λ y. ArrivedAt g (start z c v) B z y z.depth v v) a (stay g B z c v (omega arith) lb r)))
   act_of_runs B (t.assign l xs es) forwards z there c rest e v le ll lb a en r = subst (λ code. RanDid g (start z code v) B z rest v (act_of p m (t.assign l xs es) forwards z.env v)) (sym en) (assigned_more B xs es z c rest v le ll a r)
-  act_of_runs B (t.assign l xs es) (seeking s) z there c rest e v le ll lb a en r = not_true en.0
   act_of_runs B (t.call l f es) forwards z there c rest e v le ll lb a en r = subst (λ code. RanDid g (start z code v) B z rest v (act_of p m (t.call l f es) forwards z.env v)) (sym en) (call_more B f es z c rest v le ll a r)
-  act_of_runs B (t.call l f es) (seeking s) z there c rest e v le ll lb a en r = not_true en.0
   act_of_runs B (t.goto l x) forwards z there c rest e v le ll lb a en r = subst (λ code. RanDid g (start z code v) B z rest v (act_of p m (t.goto l x) forwards z.env v)) (sym en) (goto_runs g B z x.letters c rest v (omega arith) (omega arith) a.0 a.1 r)
-  act_of_runs B (t.goto l x) (seeking s) z there c rest e v le ll lb a en r = not_true en.0
   act_of_runs B (t.label l x y) forwards z there c rest e v le ll lb a en r = place_run g m sim B (the_label x) y forwards z there c rest e v (omega arith) (omega arith) a en r
   act_of_runs B (t.label l x y) (seeking s) z there c rest e v le ll lb a en r = place_run g m sim B (the_label x) y (seeking s) z there c rest e v (omega arith) (omega arith) a en r
   act_of_runs B (t.case_of l i y) forwards z there c rest e v le ll lb a en r = place_run g m sim B (the_case (constant_in z.env i)) y forwards z there c rest e v (omega arith) (omega arith) a en r
@@ -294,90 +244,66 @@ module _ (g : Setting) (p : Program) (m : Meanings) (procs : Procedures g p) (kn
   act_of_runs B (t.while l b i y) forwards z there c rest e v le ll lb a en r = subst (λ code. RanDid g (start z code v) B z rest v (act_of p m (t.while l b i y) forwards z.env v)) (sym en) (while_run g m sim B l b i y z there c rest v (omega arith) (omega arith) a r)
   act_of_runs B (t.while l b i y) (seeking s) z there c rest e v le ll lb a en r = while_sought g m sim B l b i y s z there c rest e v (omega arith) (omega arith) a en r
   act_of_runs B (t.for_loop l x i j h y) forwards z there c rest e v le ll lb a en r = subst (λ code. RanDid g (start z code v) B z rest v (act_of p m (t.for_loop l x i j h y) forwards z.env v)) (sym en) (for_run g m sim B l x i j h y z there c rest v le (omega arith) a (λ o v k env. rounds_adds g m sim y o v k env (adds _ (λ w1. scope_after g m sim (alone y) forwards env w1))) r)
-  act_of_runs B (t.for_loop l x i j h y) (seeking s) z there c rest e v le ll lb a en r = not_true en.0
   act_of_runs B (t.switch l i y) forwards z there c rest e v le ll lb a en r = subst (λ code. RanDid g (start z code v) B z rest v (act_of p m (t.switch l i y) forwards z.env v)) (sym en) (switch_run g m sim B l i y z there c rest v (omega arith) (omega arith) a r)
   act_of_runs B (t.switch l i y) (seeking s) z there c rest e v le ll lb a en r = switch_sought g m sim B l i y s z there c rest e v (omega arith) (omega arith) a en r
   act_of_runs B (t.result l i) forwards z there c rest e v le ll lb a en r = subst (λ code. RanDid g (start z code v) B z rest v (act_of p m (t.result l i) forwards z.env v)) (sym en) (resultis_runs g m sim B i z a.0 c rest v (omega arith) (omega arith) a.1 a.2 r)
-  act_of_runs B (t.result l i) (seeking s) z there c rest e v le ll lb a en r = not_true en.0
   act_of_runs B (t.simple l k.Break) forwards z there c rest e v le ll lb a en r = subst (λ code. RanDid g (start z code v) B z rest v (act_of p m (t.simple l k.Break) forwards z.env v)) (sym en) (break_runs g B z c rest v (omega arith) (omega arith) a.0 a.1 r)
-  act_of_runs B (t.simple l k.Break) (seeking s) z there c rest e v le ll lb a en r = not_true en.0
   act_of_runs B (t.simple l k.Loop) forwards z there c rest e v le ll lb a en r = subst (λ code. RanDid g (start z code v) B z rest v (act_of p m (t.simple l k.Loop) forwards z.env v)) (sym en) (loop_runs g B z c rest v (omega arith) (omega arith) a.0 a.1 r)
-  act_of_runs B (t.simple l k.Loop) (seeking s) z there c rest e v le ll lb a en r = not_true en.0
   act_of_runs B (t.simple l k.EndCase) forwards z there c rest e v le ll lb a en r = subst (λ code. RanDid g (start z code v) B z rest v (act_of p m (t.simple l k.EndCase) forwards z.env v)) (sym en) (endcase_runs g B z c rest v (omega arith) (omega arith) a.0 a.1 r)
-  act_of_runs B (t.simple l k.EndCase) (seeking s) z there c rest e v le ll lb a en r = not_true en.0
   act_of_runs B (t.simple l k.Return) forwards z there c rest e v le ll lb a en r = subst (λ code. RanDid g (start z code v) B z rest v (act_of p m (t.simple l k.Return) forwards z.env v)) (sym en) (return_runs g B z c rest v (omega arith) (omega arith) a r)
-  act_of_runs B (t.simple l k.Return) (seeking s) z there c rest e v le ll lb a en r = not_true en.0
   act_of_runs B (t.simple l k.Finish) forwards z there c rest e v le ll lb a en r = subst (λ code. RanDid g (start z code v) B z rest v (act_of p m (t.simple l k.Finish) forwards z.env v)) (sym en) (finish_runs g B z c rest v (omega arith) a)
-  act_of_runs B (t.simple l k.Finish) (seeking s) z there c rest e v le ll lb a en r = not_true en.0
   act_of_runs B (t.block l t.no_declarations cs) forwards z there c rest e v le ll lb a en r = order_more B cs forwards z there c rest e v le (omega arith) a en r
   act_of_runs B (t.block l t.no_declarations cs) (seeking s) z there c rest e v le ll lb a en r = order_more B cs (seeking s) z there c rest e v le (omega arith) a en r
   act_of_runs B (t.block l (t.declare h hs) cs) forwards z there c rest e v le ll lb a en r = subst (λ code. RanDid g (start z code v) B z rest v (act_of p m (t.block l (t.declare h hs) cs) forwards z.env v)) (sym en) (block_runs g m sim (λ env w1 ds. scope_after g m sim ds forwards env w1) B l h hs cs z there c rest v (omega arith) (omega arith) a r)
-  act_of_runs B (t.block l (t.declare h hs) cs) (seeking s) z there c rest e v le ll lb a en r = not_true en.0
-  act_of_runs B (t.repeat l y) forwards z there c rest e v le ll lb a en r = repeat_run g m sim B l y forwards z there c rest e v (omega arith) (omega arith) a en r
-  act_of_runs B (t.repeat_while l b y i) forwards z there c rest e v le ll lb a en r = repeat_while_run g m sim B l b y i forwards z there c rest e v (omega arith) (omega arith) a en r
-  act_of_runs B (t.repeat l y) (seeking s) z there c rest e v le ll lb a en r = repeat_run g m sim B l y (seeking s) z there c rest e v (omega arith) (omega arith) a en r
-  act_of_runs B (t.repeat_while l b y i) (seeking s) z there c rest e v le ll lb a en r = repeat_while_run g m sim B l b y i (seeking s) z there c rest e v (omega arith) (omega arith) a en r
+  act_of_runs B (t.repeat l y) mode z there c rest e v le ll lb a en r = repeat_run g m sim B l y mode z there c rest e v (omega arith) (omega arith) a en r
+  act_of_runs B (t.repeat_while l b y i) mode z there c rest e v le ll lb a en r = repeat_while_run g m sim B l b y i mode z there c rest e v (omega arith) (omega arith) a en r
+  act_of_runs B _ (seeking s) z there c rest e v le ll lb a en r = not_true en.0
 
   -- ---- with their turns
   value_turn : (e : Expression) (z : Sit) (c rest : List Stmt) (v : World) → IsValue g z.scene z.depth z.env e c rest → Ready g z v
       → Ran g (start z c v) (for_value e v) (λ u w1. Has g (start z c v) (for_value e v) z rest (z.depth + 1) v u w1 × (1 ≤ v.turns)) (Out g (start z c v) (for_value e v) z v) (turn v (λ w. value_of p m e z.env w))
   value_turn e z c rest v a r =
-      turn_ran g (start z c v) (for_value e v) _ _ v _ (omega arith) refl refl (λ n en.
+      turn_behind 0 0 v _ (here _) (omega arith) (omega arith) refl refl (λ n en.
       let v1 : World = record v { turns = n } in
       let B : Account = for_value e v in
-      ran_first g (start z c v) B B z v1 (Has g (start z c v) B z rest (z.depth + 1) v1) _ (value_of p m e z.env v1) (omega arith) (omega arith)
+      ran_first (omega arith) (omega arith)
       (λ u w1 y. (record { arr = y.arr; stands = y.stands }, omega arith)) (value_of_runs B e z c rest v1 (omega arith) (omega arith) a (ready_ticked g z v n r)))
 
   truth_turn : (e : Expression) (z : Sit) (u : Bool) (n : ℕ) (to c rest : List Stmt) (v : World) → IsJump g z.scene z.depth z.env e u n c rest → from_label z.scene.own.stmts n ≡ Some to → Ready g z v
       → Ran g (start z c v) (for_truth e v) (HasTruth g (start z c v) (for_truth e v) z u to rest v) (Out g (start z c v) (for_truth e v) z v) (turn v (λ w. truth_of p m e z.env w))
   truth_turn e z u n to c rest v a f r =
-      turn_ran g (start z c v) (for_truth e v) _ _ v _ (omega arith) refl refl (λ k en.
+      turn_behind 0 0 v _ (here _) (omega arith) (omega arith) refl refl (λ k en.
       truth_of_runs (for_truth e v) e z u n to c rest (record v { turns = k }) (omega arith) (omega arith) a f (ready_ticked g z v k r))
 
   address_turn : (e : Expression) (z : Sit) (c rest : List Stmt) (v : World) → IsAddress g z.scene z.depth z.env e c rest → Ready g z v
       → Ran g (start z c v) (for_value e v) (HasAddress g (start z c v) (for_value e v) z rest v) (Out g (start z c v) (for_value e v) z v) (turn v (λ w. target_of m e z.env w))
   address_turn e z c rest v a r =
-      turn_ran g (start z c v) (for_value e v) _ _ v _ (omega arith) refl refl (λ n en.
+      turn_behind 0 0 v _ (here _) (omega arith) (omega arith) refl refl (λ n en.
       let v1 : World = record v { turns = n } in
       let B : Account = for_value e v in
-      ran_first g (start z c v) B B z v1 (HasAddress g (start z c v) B z rest v1) _ (target_of m e z.env v1) (omega arith) (omega arith)
+      ran_first (omega arith) (omega arith)
       (λ u w1 y. ticked_address g (start z c v) B z rest v n u w1 y) (address_of_runs B e z c rest v1 (omega arith) (omega arith) a (ready_ticked g z v n r)))
 
   store_turn : (e : Expression) (z : Sit) (c rest : List Stmt) (v : World) → IsStore g z.scene z.depth z.env e c rest → Ready g z v
       → Ran g (start z c v) (for_value e v) (λ u w1. Destined g (start z c v) (for_value e v) z rest v u w1) (Out g (start z c v) (for_value e v) z v) (turn v (λ w. target_of m e z.env w))
   store_turn e z c rest v a r =
-      turn_ran g (start z c v) (for_value e v) _ _ v _ (omega arith) refl refl (λ n en.
+      turn_behind 0 0 v _ (here _) (omega arith) (omega arith) refl refl (λ n en.
       let v1 : World = record v { turns = n } in
       let B : Account = for_value e v in
-      ran_first g (start z c v) B B z v1 (λ u w1. Destined g (start z c v) B z rest v1 u w1) _ (target_of m e z.env v1) (omega arith) (omega arith)
+      ran_first (omega arith) (omega arith)
       (λ u w1 y. ticked_store g (start z c v) B z rest v n u w1 y) (store_of_runs B e z c rest v1 (omega arith) (omega arith) a (ready_ticked g z v n r)))
 
   act_turn : (x : Action) (mode : Mode) (z : Sit) (there : Sought → List Stmt) (c rest e : List Stmt) (v : World) → 1 ≤ turns_in x → IsAct g z.scene z.depth z.env x there c rest → Entered mode z.env x there c e → Ready g z v
       → RanDid g (start z e v) (for_act x v) z rest v (turn v (λ w. act_of p m x mode z.env w))
   act_turn x mode z there c rest e v pos a en r =
-      turn_ran g (start z e v) (for_act x v) _ _ v _ (omega arith) refl refl (λ n ev.
+      turn_behind 0 0 v _ (here _) (omega arith) (omega arith) refl refl (λ n ev.
       act_of_runs (for_act x v) x mode z there c rest e (record v { turns = n }) (omega arith) (omega arith) (omega arith) a en (ready_ticked g z v n r))
 
   act_run : (x : Action) (mode : Mode) (z : Sit) (there : Sought → List Stmt) (c rest e : List Stmt) (v : World) → IsAct g z.scene z.depth z.env x there c rest → Entered mode z.env x there c e → Ready g z v
       → RanDid g (start z e v) (for_act x v) z rest v (turn_for x v (λ w. act_of p m x mode z.env w))
-  act_run t.empty forwards z there c rest e v a en r = inl (subst (λ code. Did g (start z e v) (for_act t.empty v) z code v v) (en ∙ a) (stay g (for_act t.empty v) z e v (omega arith) (omega arith) r))
+  act_run t.empty forwards z there c rest e v a en r = went (subst (λ code. Did g (start z e v) (for_act t.empty v) z code v v) (en ∙ a) (stay g (for_act t.empty v) z e v (omega arith) (omega arith) r))
   act_run t.empty (seeking s) z there c rest e v a en r = not_true en.0
-  act_run (t.assign l xs es) mode z there c rest e v a en r = act_turn (t.assign l xs es) mode z there c rest e v (omega arith) a en r
-  act_run (t.call l f es) mode z there c rest e v a en r = act_turn (t.call l f es) mode z there c rest e v (omega arith) a en r
-  act_run (t.goto l x) mode z there c rest e v a en r = act_turn (t.goto l x) mode z there c rest e v (omega arith) a en r
-  act_run (t.label l x y) mode z there c rest e v a en r = act_turn (t.label l x y) mode z there c rest e v (omega arith) a en r
-  act_run (t.case_of l i y) mode z there c rest e v a en r = act_turn (t.case_of l i y) mode z there c rest e v (omega arith) a en r
-  act_run (t.default l y) mode z there c rest e v a en r = act_turn (t.default l y) mode z there c rest e v (omega arith) a en r
-  act_run (t.when l b i y) mode z there c rest e v a en r = act_turn (t.when l b i y) mode z there c rest e v (omega arith) a en r
-  act_run (t.test l i x y) mode z there c rest e v a en r = act_turn (t.test l i x y) mode z there c rest e v (omega arith) a en r
-  act_run (t.while l b i y) mode z there c rest e v a en r = act_turn (t.while l b i y) mode z there c rest e v (omega arith) a en r
-  act_run (t.for_loop l x i j h y) mode z there c rest e v a en r = act_turn (t.for_loop l x i j h y) mode z there c rest e v (omega arith) a en r
-  act_run (t.switch l i y) mode z there c rest e v a en r = act_turn (t.switch l i y) mode z there c rest e v (omega arith) a en r
-  act_run (t.result l i) mode z there c rest e v a en r = act_turn (t.result l i) mode z there c rest e v (omega arith) a en r
-  act_run (t.simple l i) mode z there c rest e v a en r = act_turn (t.simple l i) mode z there c rest e v (omega arith) a en r
-  act_run (t.block l ds cs) mode z there c rest e v a en r = act_turn (t.block l ds cs) mode z there c rest e v (omega arith) a en r
-  act_run (t.repeat l y) mode z there c rest e v a en r = act_turn (t.repeat l y) mode z there c rest e v (omega arith) a en r
-  act_run (t.repeat_while l b y i) mode z there c rest e v a en r = act_turn (t.repeat_while l b y i) mode z there c rest e v (omega arith) a en r
+  act_run x mode z there c rest e v a en r = act_turn x mode z there c rest e v (omega arith) a en r
 
   loop_run : (x : Action) (mode : Mode) (z : Sit) (there : Sought → List Stmt) (body rest e : List Stmt) (v : World) → IsLoop g z.scene z.depth z.env x there body rest → EnteredBody mode z.env x there body e → Ready g z v
       → RanDid g (start z e v) (for_rounds x v) z rest v (rounds_of m x mode z.env v)

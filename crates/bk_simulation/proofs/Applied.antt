@@ -32,7 +32,7 @@ use Rattle.bk_simulation.proofs.WrittenCells.{below_like, settle_like}
 use Rattle.bk_simulation.proofs.BytesKept.{moves_bytes}
 use Rattle.bk_simulation.proofs.Sizes.{turns_of, turns_among}
 use Rattle.bk_simulation.proofs.Laid.{Setting, CallAt, IsValue, AreValues, count}
-use Rattle.bk_simulation.proofs.Frame.{Sit, store, start, FewFrames, Ready, Account, one, comes_on, falls_on, Ran, with_ran, ArrivedAt, there, Has, Out, next, ready_next}
+use Rattle.bk_simulation.proofs.Frame.{Sit, store, start, FewFrames, Ready, Account, one, comes_on, Ran, went, each_way_ran, with_ran, ArrivedAt, there, Out, next, ready_next}
 use Rattle.bk_simulation.proofs.Compose.{stay, roomy, arrived_step, arrived_on, ran_on}
 use Rattle.bk_simulation.proofs.Simulates.{Simulates, for_value, for_values}
 use Rattle.bk_simulation.proofs.Operands.{value_run}
@@ -41,7 +41,7 @@ use Rattle.bk_simulation.proofs.Procedures.{Procedures}
 use Rattle.bk_simulation.proofs.Returns.{call_stmt, Gave}
 use Rattle.bk_simulation.proofs.NewFrames.{called_cells, called_like, called_argument, called_frame, called_back, called_links}
 use Rattle.bk_simulation.proofs.Calls.{Calling, AnyExit, AloneRuns, body_after}
-use Rattle.bk_simulation.proofs.EnteredCalls.{call_too_high, by_test, is_above, is_at_most, entered_runs}
+use Rattle.bk_simulation.proofs.EnteredCalls.{call_run, entered_runs}
 use Rattle.bk_simulation.proofs.LibraryCalls.{named_there, library_runs}
 
 -- the history of the scope of one command
@@ -64,20 +64,7 @@ library_after r vs w = (ties_add (library r vs) (library r vs) (library_ties r v
 routine_runs : (of : Bool) (g : Setting) (r : value.Routine) (s : State) (A B : Account) (z : Sit) (rest : List Stmt) (w w1 : World) (vs : List Value) → A.most + 4 ≤ B.most → B.least ≤ A.least
     → z.depth ≤ FRAME_WORDS → Ready g z w → CallAt g z.scene (call_stmt of z.depth) rest → g.program.callables.routine (g.codes.routine r) ≡ Some (named_there r) → Calling of g s A z rest w vs (routine r) w1
     → Ran g s B (λ v w3. Gave of g s B z rest w v (calls_back w1.calls w3)) AnyExit (library r vs (calling w1))
-routine_runs of g r s A B z rest w w1 vs leB leB' led ready call known ca =
-    by_test (nat_lt (2 ^ 31 - 65536) (z.frame + z.depth))
-    (λ (h : nat_lt (2 ^ 31 - 65536) (z.frame + z.depth) ≡ true). inr (falls_on g s (calling w1) (library r vs (calling w1)) (inl (record {
-      to = at_call;
-      steps = ca.arr.steps;
-      paid = ca.arr.paid;
-      comes = ca.arr.comes;
-      too_high = record { own = z.scene.own; depth = ca.depth1 + 1; left = call_stmt of z.depth ∷ rest; control = refl; slot = z.depth; within = led; is_call = call_too_high z.depth of rest; past = is_above _ _ h };
-      rest = [];
-      begins = sym (append-nil w1.output);
-    })) (library_after r vs (calling w1))))
-    (λ (h : nat_lt (2 ^ 31 - 65536) (z.frame + z.depth) ≡ false). by_test (nat_lt g.cap (max w1.most_calls (w1.calls + 1)))
-    (λ (hc : nat_lt g.cap (max w1.most_calls (w1.calls + 1)) ≡ true). inr (falls_on g s (calling w1) (library r vs (calling w1)) (inr (is_above _ _ hc)) (library_after r vs (calling w1))))
-    (λ (hc : nat_lt g.cap (max w1.most_calls (w1.calls + 1)) ≡ false). inside h (is_at_most _ _ hc)))
+routine_runs of g r s A B z rest w w1 vs leB leB' led ready call known ca = call_run led ca (library_after r vs (calling w1)) inside
   where
     top : ℕ
     top = z.frame + z.depth
@@ -142,9 +129,7 @@ called_after p m grows alone_after (procedure k) vs w = by_procedure (procedure_
     by_procedure None = tt
     by_procedure (Some f) = closing_after _ (length w.memory) _ (body_after m grows alone_after f.body _ _)
 called_after p m grows alone_after (routine r) vs w = library_after r vs w
-called_after p m grows alone_after (number n) vs w = tt
-called_after p m grows alone_after (address o i) vs w = tt
-called_after p m grows alone_after unset vs w = tt
+called_after p m grows alone_after _ vs w = tt
 
 pub call_after : (p : Program) (m : Meanings) → Throughout (λ A w u. After (history w) u) m → AloneAdds m → (v : Value) (vs : List Value) (w : World) → After (history w) (call p m v vs w)
 call_after p m grows alone_after v vs w =
@@ -157,21 +142,13 @@ called_runs : (of : Bool) (g : Setting) (p : Program) (m : Meanings) → Procedu
 called_runs of g p m procs known sim alone_runs alone_after s A B z rest w w1 vs (procedure k) le le' led r call ca = by_procedure (procedure_of p k) refl
   where
     by_procedure : (f : Option Procedure) → procedure_of p k ≡ f → Ran g s B (λ v w3. Gave of g s B z rest w v (calls_back w1.calls w3)) AnyExit (enter m f vs (calling w1))
-    by_procedure None e = inl tt
+    by_procedure None e = went tt
     by_procedure (Some f) e = entered_runs of g m sim alone_runs alone_after k f (procs.each k f e) s A B z rest w w1 vs le le' led r call ca
 called_runs of g p m procs known sim alone_runs alone_after s A B z rest w w1 vs (routine r) le le' led ready call ca = routine_runs of g r s A B z rest w w1 vs le le' led ready call (known r) ca
-called_runs of g p m procs known sim alone_runs alone_after s A B z rest w w1 vs (number n) le le' led r call ca = inl tt
-called_runs of g p m procs known sim alone_runs alone_after s A B z rest w w1 vs (address o i) le le' led r call ca = inl tt
-called_runs of g p m procs known sim alone_runs alone_after s A B z rest w w1 vs unset le le' led r call ca = inl tt
+called_runs of g p m procs known sim alone_runs alone_after s A B z rest w w1 vs _ le le' led r call ca = went tt
 
-back_ran : (of : Bool) (g : Setting) (s : State) (B : Account) (z : Sit) (rest : List Stmt) (w : World) (n : ℕ) (X : Exit → World → Type 0) (o : Outcome Value) → Ran g s B (λ v w3. Gave of g s B z rest w v (calls_back n w3)) AnyExit o
-    → Ran g s B (Gave of g s B z rest w) X (each_way (λ v after. gives v (calls_back n after)) (λ x w. undefined) o)
-back_ran of g s B z rest w n X (gives v w3) (inl q) = inl q
-back_ran of g s B z rest w n X (gives v w3) (inr f) = inr f
-back_ran of g s B z rest w n X (leaves x w3) q = inl tt
-back_ran of g s B z rest w n X (ends e w3) q = q
-back_ran of g s B z rest w n X undefined q = inl tt
-back_ran of g s B z rest w n X (going w3) q = q
+back_ran : {g : Setting} {s : State} {B : Account} {K : Value → World → Type 0} {X : Exit → World → Type 0} {o : Outcome Value} (n : ℕ) → Ran g s B (λ v w3. K v (calls_back n w3)) AnyExit o → Ran g s B K X (each_way (λ v after. gives v (calls_back n after)) (λ x w. undefined) o)
+back_ran n q = each_way_ran (λ t. adds _ (λ w. stays (history w))) (λ x. adds _ (λ w. tt)) q (λ v w3 k. went k) (λ x w k. went tt)
 
 -- ---- the arguments, the procedure, the call
 
@@ -181,28 +158,20 @@ pub apply_runs : (of : Bool) (g : Setting) (p : Program) (m : Meanings) → Proc
     → Ran g (start z c w) B (Gave of g (start z c w) B z rest w) (Out g (start z c w) B z w) (applied p m f es z.env w)
 apply_runs of g p m procs known sim alone_runs alone_after B f es z c c1 c2 rest w leB leB' ec laid_es laid_f call room r =
     let dp = r.deep in
-    let a0 : ArrivedAt g s A z c1 (z.depth + 2) w w = arrived_step g s A0 z.scene.own z.frame w.calls top (store z w) c c1 z.depth (z.depth + 2) w (stay g A0 z c w (omega arith) (omega arith) r) cells0 None z.written (omega arith) like0
-    (stack_moves g.program s z.scene.own c1 z.depth (z.depth + 2) (ap (λ y. Inside z.scene.own z.depth y) ec)) in
+    let a0 : ArrivedAt g s A z c1 (z.depth + 2) w w = arrived_step (stay g A0 z c w (omega arith) (omega arith) r) cells0 None z.written (omega arith) like0 (stack_moves g.program s z.scene.own c1 z.depth (z.depth + 2) (ap (λ y. Inside z.scene.own z.depth y) ec)) in
     let z0 = next g s A z c1 (z.depth + 2) w w (past f z.env) (z.depth + 2) a0 in
-    let r0 = ready_next g s A z c1 (z.depth + 2) w w (past f z.env) (z.depth + 2) a0 refl (omega arith) r in
-    let V = for_values es w in
-    with_ran g s B (λ vs w1. Listed g (start z0 c1 w) V z0 c2 es w vs w1) _ _ (values m es (past f z.env) w) _
-    (λ vs. adds _ (λ w1. with_after _ _ _ (sim.grows.value f z.env w1) (λ v. adds _ (λ w2. call_after p m sim.grows alone_after v vs w2))))
-    (ran_on g s A V B z c1 (z.depth + 2) w w (past f z.env) (Listed g (start z0 c1 w) V z0 c2 es w) (λ vs w1. Listed g (start z0 c1 w) V z0 c2 es w vs w1) (values m es (past f z.env) w) (omega arith) (omega arith) r (omega arith) a0 (λ vs w1 l. l)
-    (values_run g m sim es z0 c1 c2 w laid_es r0))
+    with_ran {K = λ vs w1. Listed g (start z0 c1 w) (for_values es w) z0 c2 es w vs w1} (λ vs. adds _ (λ w1. with_after _ _ _ (sim.grows.value f z.env w1) (λ v. adds _ (λ w2. call_after p m sim.grows alone_after v vs w2))))
+    (ran_on (omega arith) (omega arith) r (omega arith) a0 (λ vs w1 l. l) (values_run g m sim es z0 c1 c2 w laid_es (ready_next (past f z.env) (z.depth + 2) a0 refl (omega arith) r)))
     (λ vs w1 l.
     let ld = l.is_depth in
     let ll = l.long in
-    let a1 : ArrivedAt g s D z c2 l.depth1 w w1 = arrived_on g s A V D z c1 c2 (z.depth + 2) l.depth1 w w w1 (past f z.env) (omega arith) (omega arith) r (omega arith) a0 l.arr in
-    let z1 = next g s D z c2 l.depth1 w w1 z.env l.depth1 a1 in
-    let r1 = ready_next g s D z c2 l.depth1 w w1 z.env l.depth1 a1 refl (omega arith) r in
-    let N = for_value f w1 in
-    with_ran g s B (λ v w2. Calling of g s C z rest w vs v w2) _ _ (m.value f z.env w1) _ (λ v. adds _ (λ w2. call_after p m sim.grows alone_after v vs w2))
-    (ran_on g s D N B z c2 l.depth1 w w1 z.env (Has g (start z1 c2 w1) N z1 (call_stmt of z.depth ∷ rest) (l.depth1 + 1) w1) (λ v w2. Calling of g s C z rest w vs v w2) (m.value f z.env w1) (omega arith) (omega arith) r (omega arith) a1
+    let a1 : ArrivedAt g s D z c2 l.depth1 w w1 = arrived_on (omega arith) (omega arith) r (omega arith) a0 l.arr in
+    with_ran {K = λ v w2. Calling of g s C z rest w vs v w2} (λ v. adds _ (λ w2. call_after p m sim.grows alone_after v vs w2))
+    (ran_on (omega arith) (omega arith) r (omega arith) a1
     (λ v w2 q. record {
       depth1 = l.depth1;
       is_depth = (let x = l.is_depth in let y = l.long in omega arith);
-      arr = arrived_on g s D N C z c2 (call_stmt of z.depth ∷ rest) l.depth1 (l.depth1 + 1) w w1 w2 z.env (omega arith) (omega arith) r (omega arith) a1 q.arr;
+      arr = arrived_on (omega arith) (omega arith) r (omega arith) a1 q.arr;
       word = q.stands;
       each = λ i u h.
           let lt : i < length vs = slice_get_within vs i u h in
@@ -212,8 +181,9 @@ apply_runs of g p m procs known sim alone_runs alone_after B f es z c c1 c2 rest
           (sym (q.arr.moved.kept.as_was (z.frame + (z.depth + 2) + i) (omega arith) (λ o n b1 j al eb lj. let x = l.arr.fits.below o n b1 al eb in omega arith)).content)
           (l.each i u h)));
     })
-    (value_run g m sim f z1 c2 (call_stmt of z.depth ∷ rest) w1 (subst (λ d. IsValue g z.scene d z.env f c2 (call_stmt of z.depth ∷ rest)) (sym l.is_depth) laid_f) r1))
-    (λ v w2 ca. back_ran of g s B z rest w w2.calls _ (called p m v vs (calling w2)) (called_runs of g p m procs known sim alone_runs alone_after s C B z rest w w2 vs v (omega arith) (omega arith) (omega arith) r call ca)))
+    (value_run g m sim f (next g s D z c2 l.depth1 w w1 z.env l.depth1 a1) c2 (call_stmt of z.depth ∷ rest) w1 (subst (λ d. IsValue g z.scene d z.env f c2 (call_stmt of z.depth ∷ rest)) (sym l.is_depth) laid_f)
+    (ready_next z.env l.depth1 a1 refl (omega arith) r)))
+    (λ v w2 ca. back_ran w2.calls (called_runs of g p m procs known sim (alone_runs) alone_after s C B z rest w w2 vs v (omega arith) (omega arith) (omega arith) r call ca)))
   where
     s : State
     s = start z c w

@@ -1,5 +1,5 @@
 -- The arguments of a call, from left to right.
-use Rattle.std.proofs.Common.{◌≡◌, ℕ, zero, suc, ◌+◌, ◌-◌, ◌*◌, ◌≤◌, List, ◌∷◌, length, Some, None, refl, subst, arith, inl, slice_get}
+use Rattle.std.proofs.Common.{◌≡◌, ℕ, zero, suc, ◌+◌, ◌-◌, ◌*◌, ◌≤◌, List, ◌∷◌, length, Some, None, refl, subst, arith, slice_get}
 use Rattle.bk_tree.specs.Tree as t
 use Rattle.bk_tree.specs.Tree.{Expression, Expressions}
 use Rattle.bk_ocode.specs.Cells.{content_of}
@@ -14,8 +14,8 @@ use Rattle.bk_meaning.specs.Calls.{values}
 use Rattle.bk_meaning.proofs.After.{adds, stays, with_after}
 use Rattle.bk_simulation.proofs.Memory.{Stands}
 use Rattle.bk_simulation.proofs.Laid.{Setting, AreValues, count}
-use Rattle.bk_simulation.proofs.Frame.{Sit, start, Ready, Account, Ran, with_ran, ArrivedAt, Has, Out, next, ready_next}
-use Rattle.bk_simulation.proofs.Compose.{stay, arrived_on, ran_on, ran_first, above}
+use Rattle.bk_simulation.proofs.Frame.{Sit, start, Ready, Account, Ran, with_ran, ArrivedAt, Has, Out, next, ready_next, went}
+use Rattle.bk_simulation.proofs.Compose.{stay, arrived_on, ran_on, ran_more, above}
 use Rattle.bk_simulation.proofs.Simulates.{Simulates, for_value, for_values}
 use Rattle.bk_simulation.proofs.Operands.{value_run}
 
@@ -45,7 +45,7 @@ first_of_list g s A N B z c c2 e es w w1 w2 v vs le1 le2 r a l = record {
   depth1 = l.depth1;
   is_depth = (let x = l.is_depth in omega arith);
   long = (let x = l.long in omega arith);
-  arr = arrived_on g s A N B z c c2 (z.depth + 1) l.depth1 w w1 w2 (past e z.env) le1 le2 r (omega arith) a.arr l.arr;
+  arr = arrived_on le1 le2 r (omega arith) a.arr l.arr;
   each = at_index;
 }
   where
@@ -54,7 +54,7 @@ first_of_list g s A N B z c c2 e es w w1 w2 v vs le1 le2 r a l = record {
         let e0 : z.frame + z.depth ≡ z.frame + z.depth + 0 = omega arith in
         let eu : v ≡ u = cc in
         subst (λ x. Stands g.codes l.arr.bases1 u (content_of (l.arr.cells1 x))) e0
-        (subst (λ x. Stands g.codes l.arr.bases1 x (content_of (l.arr.cells1 (z.frame + z.depth)))) eu (above g s A N z c c2 l.depth1 w w1 w2 (past e z.env) v a l.arr))
+        (subst (λ x. Stands g.codes l.arr.bases1 x (content_of (l.arr.cells1 (z.frame + z.depth)))) eu (above a l.arr))
     at_index (suc i) u h =
         let e0 : z.frame + (z.depth + 1) + i ≡ z.frame + z.depth + suc i = omega arith in
         subst (λ x. Stands g.codes l.arr.bases1 u (content_of (l.arr.cells1 x))) e0 (l.each i u h)
@@ -62,7 +62,7 @@ first_of_list g s A N B z c c2 e es w w1 w2 v vs le1 le2 r a l = record {
 pub values_run : (g : Setting) (m : Meanings) → Simulates g m → (es : Expressions) (z : Sit) (c rest : List Stmt) (w : World) → AreValues g z.scene z.depth z.env es c rest → Ready g z w
     → Ran g (start z c w) (for_values es w) (Listed g (start z c w) (for_values es w) z rest es w) (Out g (start z c w) (for_values es w) z w) (values m es z.env w)
 values_run g m sim t.none z c rest w laid r =
-    inl (record {
+    went (record {
       depth1 = z.depth;
       is_depth = omega arith;
       long = refl;
@@ -74,13 +74,9 @@ values_run g m sim (t.more e es) z c rest w laid r =
     let A = for_value e w in
     let B = for_values (t.more e es) w in
     let c1 = laid.0 in
-    with_ran g s B (Has g s A z c1 (z.depth + 1) w) _ _ (m.value e z.env w) _ (λ v. adds _ (λ w1. with_after _ _ _ (values_after m sim.grows es (past e z.env) w1) (λ vs. adds _ (λ w2. stays (history w2)))))
-    (ran_first g s A B z w _ _ (m.value e z.env w) (omega arith) (omega arith) (λ t w1 q. q) (value_run g m sim e z c c1 w laid.1 r)) (λ v w1 va.
-    let z1 = next g s A z c1 (z.depth + 1) w w1 (past e z.env) (z.depth + 1) va.arr in
-    let r1 = ready_next g s A z c1 (z.depth + 1) w w1 (past e z.env) (z.depth + 1) va.arr refl (omega arith) r in
-    with_ran g s B (λ vs w2. Listed g s B z rest (t.more e es) w (v ∷ vs) w2) _ _ (values m es (past e z.env) w1) _ (λ vs. adds _ (λ w2. stays (history w2)))
-    (ran_on g s A (for_values es w1) B z c1 (z.depth + 1) w w1 (past e z.env) (Listed g (start z1 c1 w1) (for_values es w1) z1 rest es w1) (λ vs w2. Listed g s B z rest (t.more e es) w (v ∷ vs) w2) (values m es (past e z.env) w1)
-    (omega arith) (omega arith) r (omega arith) va.arr
-    (λ vs w2 l. first_of_list g s A (for_values es w1) B z c1 rest e es w w1 w2 v vs (omega arith) (omega arith) r va l)
-    (values_run g m sim es z1 c1 rest w1 laid.2 r1))
-    (λ vs w2 l. inl l))
+    with_ran (λ v. adds _ (λ w1. with_after _ _ _ (values_after m sim.grows es (past e z.env) w1) (λ vs. adds _ (λ w2. stays (history w2)))))
+    (ran_more (omega arith) (omega arith) (value_run g m sim e z c c1 w laid.1 r)) (λ v w1 va.
+    with_ran {K = λ vs w2. Listed g s B z rest (t.more e es) w (v ∷ vs) w2} (λ vs. adds _ (λ w2. stays (history w2)))
+    (ran_on (omega arith) (omega arith) r (omega arith) va.arr (λ vs w2 l. first_of_list g s A (for_values es w1) B z c1 rest e es w w1 w2 v vs (omega arith) (omega arith) r va l)
+    (values_run g m sim es (next g s A z c1 (z.depth + 1) w w1 (past e z.env) (z.depth + 1) va.arr) c1 rest w1 laid.2 (ready_next (past e z.env) (z.depth + 1) va.arr refl (omega arith) r)))
+    (λ vs w2 l. went l))

@@ -21,19 +21,16 @@ use Rattle.bk_meaning.specs.Parts.{Meanings, Target, at, byte_at, store as put_v
 use Rattle.bk_meaning.specs.Commands.{assigned}
 use Rattle.bk_meaning.proofs.After.{Adds, adds, stays, with_after, changes_after}
 use Rattle.bk_simulation.proofs.Moves.{Moves, assign_moves, assign_at_moves, assign_byte_moves}
-use Rattle.bk_simulation.proofs.FramesKept.{links_kept}
-use Rattle.bk_simulation.proofs.BytesKept.{moves_bytes}
 use Rattle.bk_simulation.proofs.CellBytes.{AreBytes, write_byte_at}
 use Rattle.bk_simulation.proofs.Memory.{BaseOf, Like, Stands, Store, Moved, Fits, moved_on, fits_above, fits_more, fits_less, moved_above}
 use Rattle.bk_simulation.proofs.WrittenCells.{below_like, variable_found, put, write_here, write_at}
 use Rattle.bk_simulation.proofs.Sizes.{turns_of, turns_among}
 use Rattle.bk_simulation.proofs.Laid.{Setting, Stretch, ByTurns, AreFrom, AreStores, IsStore}
-use Rattle.bk_simulation.proofs.Frame.{Sit, store, state, start, place_of, Ready, Account, further, comes_on, one, with_ran, ArrivedAt, there, Has, next, ready_next}
-use Rattle.bk_simulation.proofs.Compose.{stay, arrived_more, arrived_on, ran_on, ran_first, roomy, above}
-use Rattle.bk_simulation.proofs.Simulates.{Simulates, for_value, Did, Destined, word, through, byte}
+use Rattle.bk_simulation.proofs.Frame.{Sit, store, state, start, place_of, Ready, Account, further, went, with_ran, ArrivedAt, store_at, there, Has, next, ready_next}
+use Rattle.bk_simulation.proofs.Compose.{stay, stepped, arrived_more, arrived_on, ran_on, comes_to, ran_more, above}
+use Rattle.bk_simulation.proofs.Simulates.{Simulates, for_value, Did, Destined, word, through, byte, RanDid}
 use Rattle.bk_simulation.proofs.Operands.{one_run}
 use Rattle.bk_simulation.proofs.Orders.{ready_at}
-use Rattle.bk_simulation.proofs.Commands.{RanDid}
 
 -- A word of a living object is stored.
 stored_on : (g : Setting) (s : State) (A : Account) (z : Sit) (c2 rest : List Stmt) (d2 : ℕ) (w w2 : World) (mem1 : Memory) (place : ℕ) (y : Content) (written2 : List ℕ) (r : Ready g z w) (a : ArrivedAt g s A z c2 d2 w w2)
@@ -42,45 +39,22 @@ stored_on : (g : Setting) (s : State) (A : Account) (z : Sit) (c2 rest : List St
     → Moves g.program (there g s A z c2 d2 w w2 a) (state z.scene.own z.depth rest (below (z.frame + z.depth) (write a.cells1 place (Held Variable y))) z.frame None written2 w2)
     → ArrivedAt g s (further 1 A) z rest z.depth w (remembering mem1 w2)
 stored_on g s A z c2 rest d2 w w2 mem1 place y written2 r a f mv e =
-    let m = a.most in
-    let l = a.least in
     let dp = r.deep in
     let top = z.frame + z.depth in
-    let h1 : Store = record { bases = a.bases1; mem = w2.memory; cells = a.cells1 } in
-    let h2 : Store = put h1 mem1 place y in
+    let h2 : Store = put (store_at a) mem1 place y in
     let cells2 = below top (write a.cells1 place (Held Variable y)) in
     let like : (x : ℕ) → x < top → Like (cells2 x) (h2.cells x) = λ x lx. below_like top h2.cells x lx in
-    let all = moved_on g.codes top top top _ h1 h2 r.fits (omega arith) a.moved mv in
-    let all2 = moved_on g.codes top top top _ h2 (record h2 { cells = cells2 }) r.fits (omega arith) all (moved_above h2 top cells2 like) in
-    let frames2 = links_kept g.program g.first FRAME_WORDS a.cells1 cells2 z.frame w.calls (λ x v lx ex. mv.links x v (omega arith) ((like x (omega arith)).link v ex)) a.frames in
-    record {
-      steps = a.steps + 1;
-      paid = a.paid + g.pay;
-      bases1 = a.bases1;
-      cells1 = cells2;
-      hand1 = None;
-      written1 = written2;
-      comes = comes_on g _ _ _ _ _ _ _ a.comes (one g _ _ e (roomy g cells2 z.frame w.calls frames2 a.room));
-      most = omega arith;
-      least = omega arith;
-      calls_are = a.calls_are;
-      frames = frames2;
-      room = a.room;
-      bytes = (let b = moves_bytes g.program _ _ e a.bytes in record { words = b.words; hand = b.hand });
-      fits = fits_above g.codes h2 top cells2 f like;
-      moved = all2;
-    }
+    arrived_more (omega arith) (omega arith) (stepped mem1 top (Moved top (store z w)) rest z.depth a cells2 None written2 (λ x v lx ex. mv.links x v (omega arith) ((like x (omega arith)).link v ex)) (fits_above g.codes h2 top cells2 f like)
+    (moved_on g.codes top top top _ h2 (record h2 { cells = cells2 }) r.fits (omega arith) (moved_on g.codes top top top _ (store_at a) h2 r.fits (omega arith) a.moved mv) (moved_above h2 top cells2 like)) e)
 
 -- a variable is there
 held_variable : (v : Named) (x : Cell) (k : Content) → x ≡ Held Variable k → has_word v x ≡ true
-held_variable (Local n) x k e = refl
-held_variable (Global n) x k e = refl
 held_variable (Static l) x k e = ap (λ y. has_word (Static l) y) e
+held_variable _ x k e = refl
 
 place_is : (own : Placed) (k : ℕ) (c : List Stmt) (cells : ℕ → Cell) (frame : ℕ) (hand : Option Content) (written : List ℕ) (w : World) (v : Named) → named_place (state own k c cells frame hand written w) own v ≡ place_of own frame v
 place_is own k c cells frame hand written w (Local n) = refl
-place_is own k c cells frame hand written w (Global n) = refl
-place_is own k c cells frame hand written w (Static l) = refl
+place_is own k c cells frame hand written w _ = refl
 
 -- SP, SG and SL
 pub word_stored : (g : Setting) (s : State) (A B : Account) (z : Sit) (rest : List Stmt) (w w2 : World) (v : Named) (o i b : ℕ) (u : Value) → A.most + 1 ≤ B.most → B.least ≤ A.least → Ready g z w
@@ -89,7 +63,7 @@ pub word_stored : (g : Setting) (s : State) (A B : Account) (z : Sit) (rest : Li
 word_stored g s A B z rest w w2 v o i b u le le' r a eb ep st = by_memory (memory.write w2.memory (address o i) u) refl
   where
     by_memory : (y : Option Memory) → memory.write w2.memory (address o i) u ≡ y → RanDid g s B z rest w (changes y w2)
-    by_memory None e = inl tt
+    by_memory None e = went tt
     by_memory (Some mem1) e =
         let here = there g s A z (Assign v ∷ rest) (z.depth + 1) w w2 a in
         let y = content_of (a.cells1 (z.frame + z.depth)) in
@@ -99,7 +73,7 @@ word_stored g s A B z rest w w2 v o i b u le le' r a eb ep st = by_memory (memor
         let move = assign_moves g.program here z.scene.own rest z.depth v refl (held_variable v (a.cells1 (named_place here z.scene.own v)) q.content is) in
         let move2 = subst (λ p. Moves g.program here (state z.scene.own z.depth rest (below (z.frame + z.depth) (write a.cells1 p (Held Variable y))) z.frame None (p ∷ a.written1) w2)) same
         (subst (λ k. Moves g.program here (state z.scene.own z.depth rest (below (z.frame + z.depth) (write a.cells1 (named_place here z.scene.own v) (Held k y))) z.frame None (named_place here z.scene.own v ∷ a.written1) w2)) (ap kind_of is) move) in
-        inl (arrived_more g s (further 1 A) B z.scene.own z.frame w.calls (z.frame + z.depth) (store z w) rest z.depth (remembering mem1 w2) le le'
+        went (arrived_more le le'
         (stored_on g s A z (Assign v ∷ rest) rest (z.depth + 1) w w2 mem1 (b + i) y ((b + i) ∷ a.written1) r a (q.fits y st) (q.moved y (z.frame + z.depth)) move2))
 
 -- STIND
@@ -109,7 +83,7 @@ through_stored : (g : Setting) (s : State) (A B : Account) (z : Sit) (rest : Lis
 through_stored g s A B z rest w w2 p u le le' r a sp su = by_memory (memory.write w2.memory p u) refl
   where
     by_memory : (y : Option Memory) → memory.write w2.memory p u ≡ y → RanDid g s B z rest w (changes y w2)
-    by_memory None e = inl tt
+    by_memory None e = went tt
     by_memory (Some mem1) e =
         let here = there g s A z (AssignAt ∷ rest) (z.depth + 1 + 1) w w2 a in
         let y = content_of (a.cells1 (z.frame + z.depth)) in
@@ -117,7 +91,7 @@ through_stored g s A B z rest w w2 p u le le' r a sp su = by_memory (memory.writ
         let low : q.base + q.offset < z.frame + z.depth = q.cell.low in
         let move = assign_at_moves g.program here z.scene.own rest z.depth (q.base + q.offset) q.cell.content (ap (λ k. Inside z.scene.own k (AssignAt ∷ rest)) (omega arith)) q.word
         (variable_found (z.frame + (z.depth + 2)) (q.base + q.offset) a.cells1 q.cell.content (omega arith) q.cell.there) in
-        inl (arrived_more g s (further 1 A) B z.scene.own z.frame w.calls (z.frame + z.depth) (store z w) rest z.depth (remembering mem1 w2) le le'
+        went (arrived_more le le'
         (stored_on g s A z (AssignAt ∷ rest) rest (z.depth + 1 + 1) w w2 mem1 (q.base + q.offset) y ((q.base + q.offset) ∷ a.written1) r a (q.cell.fits y su) (q.cell.moved y (z.frame + z.depth)) move))
 
 -- PUTBYTE
@@ -133,7 +107,7 @@ byte_stored g s A B z rest w w2 p k u le le' r a sp sk su = by_memory (write_byt
     two_deep d = omega arith
 
     by_memory : (y : Option Memory) → write_byte w2.memory p k u ≡ y → RanDid g s B z rest w (changes y w2)
-    by_memory None e = inl tt
+    by_memory None e = went tt
     by_memory (Some mem1) e =
         let here = there g s A z (AssignByte ∷ rest) (z.depth + 1 + 1 + 1) w w2 a in
         let high = fits_more g.codes _ (z.frame + z.depth) (z.frame + (z.depth + 3)) (omega arith) a.fits in
@@ -142,7 +116,7 @@ byte_stored g s A B z rest w w2 p k u le le' r a sp sk su = by_memory (write_byt
         let m1 = q.moved (z.frame + z.depth) in
         let move = assign_byte_moves g.program here z.scene.own rest z.depth q.byte q.word q.index q.content (ap (λ k. Inside z.scene.own k (AssignByte ∷ rest)) (three_deep z.depth)) q.is_byte q.is_word
         (ap (λ d. content_of (a.cells1 (z.frame + d))) (sym (two_deep z.depth)) ∙ q.is_index) q.sets in
-        inl (arrived_more g s (further 1 A) B z.scene.own z.frame w.calls (z.frame + z.depth) (store z w) rest z.depth (remembering mem1 w2) le le'
+        went (arrived_more le le'
         (stored_on g s A z (AssignByte ∷ rest) rest (z.depth + 1 + 1 + 1) w w2 mem1 (word_sum q.word (byte_distance q.index)) q.content ((word_sum q.word (byte_distance q.index)) ∷ a.written1) r a (fits_less g.codes (record { bases = a.bases1; mem = w2.memory; cells = a.cells1 }) _ (z.frame + z.depth) (z.frame + (z.depth + 3)) a.fits m1 q.fits) (q.moved (z.frame + z.depth)) move))
 
 -- ---- several, one after another
@@ -166,22 +140,18 @@ destined_stored : (g : Setting) (s : State) (A N C D : Account) (z : Sit) (c1 re
     → D.least ≤ C.least → Ready g z w → (va : Has g s A z c1 (z.depth + 1) w u w1)
     → Destined g (start (next g s A z c1 (z.depth + 1) w w1 there (z.depth + 1) va.arr) c1 w1) N (next g s A z c1 (z.depth + 1) w w1 there (z.depth + 1) va.arr) rest w1 a w2 → RanDid g s D z rest w (put_value a u w2)
 destined_stored g s A N C D z c1 rest w w1 w2 there u _ le1 le2 le3 le4 r va (word v o i b _ x eb ep) =
-    word_stored g s C D z rest w w2 v o i b u le3 le4 r (arrived_on g s A N C z c1 (Assign v ∷ rest) (z.depth + 1) (z.depth + 1) w w1 w2 there le1 le2 r (omega arith) va.arr x) eb ep
-    (above g s A N z c1 (Assign v ∷ rest) (z.depth + 1) w w1 w2 there u va x)
+    word_stored g s C D z rest w w2 v o i b u le3 le4 r (arrived_on le1 le2 r (omega arith) va.arr x) eb ep
+    (above va x)
 destined_stored g s A N C D z c1 rest w w1 w2 there u _ le1 le2 le3 le4 r va (through p _ x) =
-    through_stored g s C D z rest w w2 p u le3 le4 r (arrived_on g s A N C z c1 (AssignAt ∷ rest) (z.depth + 1) (z.depth + 1 + 1) w w1 w2 there le1 le2 r (omega arith) va.arr x.arr) x.stands
-    (above g s A N z c1 (AssignAt ∷ rest) (z.depth + 1 + 1) w w1 w2 there u va x.arr)
+    through_stored g s C D z rest w w2 p u le3 le4 r (arrived_on le1 le2 r (omega arith) va.arr x.arr) x.stands
+    (above va x.arr)
 destined_stored g s A N C D z c1 rest w w1 w2 there u _ le1 le2 le3 le4 r va (byte p k _ x sp sk) =
-    byte_stored g s C D z rest w w2 p k u le3 le4 r (arrived_on g s A N C z c1 (AssignByte ∷ rest) (z.depth + 1) (z.depth + 1 + 1 + 1) w w1 w2 there le1 le2 r (omega arith) va.arr x) sp sk
-    (above g s A N z c1 (AssignByte ∷ rest) (z.depth + 1 + 1 + 1) w w1 w2 there u va x)
+    byte_stored g s C D z rest w w2 p k u le3 le4 r (arrived_on le1 le2 r (omega arith) va.arr x) sp sk
+    (above va x)
 
 pub assigned_run : (g : Setting) (m : Meanings) → Simulates g m → (xs es : Expressions) (vs ss : List Stretch) (there env : Environment) (z : Sit) (c rest : List Stmt) (w : World) → AreFrom g z.scene z.depth env es vs → AreStores g z.scene (z.depth + 1) there xs ss
     → ByTurns xs es vs ss c rest → env.names ≡ z.env.names → there.names ≡ z.env.names → Ready g z w → RanDid g (start z c w) (for_assigned xs es w) z rest w (assigned m xs there es env w)
-assigned_run g m sim t.none t.none vs ss there env z c rest w fv fs bt ee et r = inl (subst (λ y. ArrivedAt g (start z c w) (for_assigned t.none t.none w) z y z.depth w w) bt (stay g (for_assigned t.none t.none w) z c w (omega arith) (omega arith) r))
-assigned_run g m sim t.none (t.more e es) vs ss there env z c rest w fv fs bt ee et r = absurd bt
-assigned_run g m sim (t.more x xs) t.none vs ss there env z c rest w fv fs bt ee et r = absurd bt
-assigned_run g m sim (t.more x xs) (t.more e es) [] ss there env z c rest w fv fs bt ee et r = absurd bt
-assigned_run g m sim (t.more x xs) (t.more e es) (v ∷ vs) [] there env z c rest w fv fs bt ee et r = absurd bt
+assigned_run g m sim t.none t.none vs ss there env z c rest w fv fs bt ee et r = went (subst (λ y. ArrivedAt g (start z c w) (for_assigned t.none t.none w) z y z.depth w w) bt (stay g (for_assigned t.none t.none w) z c w (omega arith) (omega arith) r))
 assigned_run g m sim (t.more x xs) (t.more e es) (v ∷ vs) (d ∷ ds) there env z c rest w fv fs bt ee et r =
     let B = for_assigned (t.more x xs) (t.more e es) w in
     let s = start z v.from w in
@@ -190,25 +160,17 @@ assigned_run g m sim (t.more x xs) (t.more e es) (v ∷ vs) (d ∷ ds) there env
     subst (λ y. RanDid g (start z y w) B z rest w (assigned m (t.more x xs) there (t.more e es) env w)) (sym bt.0)
     (one_run g m sim B e ze v.from v.to w _ _ (λ u. adds _ (λ w1. with_after _ _ _ (sim.grows.target x there w1) (λ a. adds _ (λ w2. with_after _ _ _ ((put_adds a u).at w2) (λ _. assigned_adds g m sim xs es (past x there) (past e env))))))
     (omega arith) (omega arith) fv.0 (ready_at g z w env ee r) (λ u w1 va pos.
-    let N = for_value x w1 in
     let C : Account = record { most = 16 * w.turns - 4; least = w.turns - (turns_of e + turns_of x) } in
     let D : Account = record { most = 16 * w.turns - 3; least = w.turns - (turns_of e + turns_of x) } in
     let m0 = va.arr.most in
-    let z1 = next g s A z v.to (z.depth + 1) w w1 there (z.depth + 1) va.arr in
-    let r1 = ready_next g s A z v.to (z.depth + 1) w w1 there (z.depth + 1) va.arr et (omega arith) r in
-    with_ran g s B (λ a w2. Destined g (start z1 v.to w1) N z1 d.to w1 a w2) _ _ (m.target x there w1) _ (λ a. adds _ (λ w2. with_after _ _ _ ((put_adds a u).at w2) (λ _. assigned_adds g m sim xs es (past x there) (past e env))))
-    (ran_on g s A N B z v.to (z.depth + 1) w w1 there (λ a w2. Destined g (start z1 v.to w1) N z1 d.to w1 a w2) (λ a w2. Destined g (start z1 v.to w1) N z1 d.to w1 a w2) (m.target x there w1) (omega arith) (omega arith) r (omega arith) va.arr
-    (λ a w2 q. q)
-    (sim.destination x z1 v.to d.to w1 (subst (λ y. IsStore g z.scene (z.depth + 1) there x y d.to) (sym bt.1) fs.0) r1))
+    with_ran (λ a. adds _ (λ w2. with_after _ _ _ ((put_adds a u).at w2) (λ _. assigned_adds g m sim xs es (past x there) (past e env))))
+    (ran_on (omega arith) (omega arith) r (omega arith) va.arr (λ a w2 q. q)
+    (sim.destination x (next g s A z v.to (z.depth + 1) w w1 there (z.depth + 1) va.arr) v.to d.to w1 (subst (λ y. IsStore g z.scene (z.depth + 1) there x y d.to) (sym bt.1) fs.0) (ready_next there (z.depth + 1) va.arr et (omega arith) r)))
     (λ a w2 q.
-    with_ran g s B (λ _ w3. Did g s D z d.to w w3) _ _ (put_value a u w2) _ (λ _. assigned_adds g m sim xs es (past x there) (past e env))
-    (ran_first g s D B z w (λ _ w3. Did g s D z d.to w w3) (λ _ w3. Did g s D z d.to w w3) (put_value a u w2) (omega arith) (omega arith) (λ _ w3 y. y)
-    (destined_stored g s A N C D z v.to d.to w w1 w2 there u a (omega arith) (omega arith) (omega arith) (omega arith) r (record { arr = va.arr; stands = va.stands }) q))
+    with_ran (λ _. assigned_adds g m sim xs es (past x there) (past e env))
+    (ran_more (omega arith) (omega arith) (destined_stored g s A (for_value x w1) C D z v.to d.to w w1 w2 there u a (omega arith) (omega arith) (omega arith) (omega arith) r (record { arr = va.arr; stands = va.stands }) q))
     (λ _ w3 y.
-    let M = for_assigned xs es w3 in
     let my = y.most in
-    let z2 = next g s D z d.to z.depth w w3 z.env z.depth y in
-    let r2 = ready_next g s D z d.to z.depth w w3 z.env z.depth y refl (omega arith) r in
-    ran_on g s D M B z d.to z.depth w w3 z.env (λ _ w4. Did g (start z2 d.to w3) M z2 rest w3 w4) (λ _ w4. Did g s B z rest w w4) (assigned m xs (past x there) es (past e env) w3) (omega arith) (omega arith) r (omega arith) y
-    (λ _ w4 k. arrived_on g s D M B z d.to rest z.depth z.depth w w3 w4 z.env (omega arith) (omega arith) r (omega arith) y k)
-    (assigned_run g m sim xs es vs ds (past x there) (past e env) z2 d.to rest w3 fv.1 fs.1 bt.2 ee et r2)))))
+    comes_to (omega arith) (omega arith) r (omega arith) y
+    (assigned_run g m sim xs es vs ds (past x there) (past e env) (next g s D z d.to z.depth w w3 z.env z.depth y) d.to rest w3 fv.1 fs.1 bt.2 ee et (ready_next z.env z.depth y refl (omega arith) r))))))
+assigned_run g m sim _ _ _ _ there env z c rest w fv fs bt ee et r = absurd bt

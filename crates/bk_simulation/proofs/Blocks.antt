@@ -1,5 +1,5 @@
 -- Blocks with declarations.
-use Rattle.std.proofs.Common.{◌≡◌, ℕ, suc, ◌+◌, ◌-◌, ◌*◌, ◌<◌, ◌≤◌, Bool, true, false, cond, List, [], ◌∷◌, length, None, refl, sym, ap, ◌∙◌, subst, arith, inl}
+use Rattle.std.proofs.Common.{◌≡◌, ℕ, suc, ◌+◌, ◌-◌, ◌*◌, ◌<◌, ◌≤◌, Bool, true, false, cond, List, [], ◌∷◌, length, None, refl, sym, ap, ◌∙◌, subst, arith}
 use Rattle.bk_base.specs.declared.limit.TheConstants.{FRAME_WORDS}
 use Rattle.bk_tree.specs.Tree as t
 use Rattle.bk_tree.specs.Tree.{Actions, Declaration, Declarations, Definitions}
@@ -16,20 +16,20 @@ use Rattle.bk_meaning.specs.Parts.{Meanings}
 use Rattle.bk_meaning.specs.Scopes.{scope_of}
 use Rattle.bk_meaning.specs.Blocks.{Start, let_values, bind_variables, declare, declare_all}
 use Rattle.bk_meaning.proofs.After.{adds, stays, with_after}
-use Rattle.bk_simulation.proofs.Moves.{Moves, store_moves, stack_moves}
+use Rattle.bk_simulation.proofs.Moves.{Moves, store_moves}
 use Rattle.bk_simulation.proofs.Memory.{Codes, Like, like_on, Store, Grown}
 use Rattle.bk_simulation.proofs.WrittenCells.{below_at, below_like, settle_like, settle_at}
 use Rattle.bk_simulation.proofs.Sizes.{turns_one_declared, turns_declared, turns_through}
 use Rattle.bk_simulation.proofs.Laid.{Setting, Scene, NamedIn, Spot, defines_variables, KeepsLabels, IsLabelHere, IsAct, AreActs, AreDeclared, IsOneDeclared, owning, LeadsTo}
-use Rattle.bk_simulation.proofs.Frame.{some_objects, Sit, store, state, start, Ready, Account, further, Ran, with_ran, Out, named_grown}
-use Rattle.bk_simulation.proofs.Compose.{arrived_more, arrived_step}
-use Rattle.bk_simulation.proofs.Simulates.{Simulates, for_scope, Did}
+use Rattle.bk_simulation.proofs.Frame.{some_objects, Sit, store, state, start, Ready, Account, further, Ran, went, with_ran, OpenArrived, store_at, named_grown}
+use Rattle.bk_simulation.proofs.Compose.{begun, accounted, arrived_more, OpenExited, open_sit, open_ready, open_step, open_on, ran_open, closed_ran}
+use Rattle.bk_simulation.proofs.MadeObjects.{Since, since_refl, since_cells}
+use Rattle.bk_simulation.proofs.ControlSteps.{closes}
+use Rattle.bk_simulation.proofs.Simulates.{Simulates, for_scope, Did, RanDid}
 use Rattle.bk_simulation.proofs.Scopes.{scope_runs}
-use Rattle.bk_simulation.proofs.Openings.{OpenArrived, OpenExited, open_sit, open_ready, open_stay, open_more, open_step, open_on, ran_open, closed_arrival, closed_ran}
-use Rattle.bk_simulation.proofs.Starts.{store_at}
-use Rattle.bk_simulation.proofs.Carried.{carries_above}
 use Rattle.bk_simulation.proofs.BoundVariables.{SpotsAt, RisingSpots, AreVariables, spots_carried, bind_run}
 use Rattle.bk_simulation.proofs.Lets.{open_lift, Lets, defined_rise, no_spots, let_run, let_values_after}
+use Rattle.bk_simulation.proofs.Renamed.{keeps_both}
 
 -- what a declaration leaves, with what is laid behind it
 pub record Declared (g : Setting) (s : State) (A : Account) (z : Sit) (w : World) (then : Scene → ℕ → Environment → List Stmt → Type 0) (env1 : Environment) (w1 : World) : Type 0 where
@@ -41,9 +41,6 @@ pub record Declared (g : Setting) (s : State) (A : Account) (z : Sit) (w : World
   pub keeps : KeepsLabels z.scene.bindings bs
   pub named : NamedIn (record z.scene { bindings = bs }) env1 arr.bases1 z.frame
   pub laid : then (record z.scene { bindings = bs }) d1 env1 c1
-
-keeps_on : (a b c : List Binding) → KeepsLabels a b → KeepsLabels b c → KeepsLabels a c
-keeps_on a b c f h x l = let e = h x l in e ∙ f x (subst (λ y. IsLabelHere y) e l)
 
 bind_after : (ss : List Start) (env : Environment) (w : World) → After (history w) (bind_variables ss env w)
 bind_after [] env w = stays (history w)
@@ -60,7 +57,6 @@ declare_all_after m grows (t.declare d ds) env w = with_after _ _ _ (declare_aft
 -- STORE makes variables of the items
 stored_variables : (codes : Codes) (h : Store) (cells : ℕ → Cell) (frame d1 from : ℕ) (ss : List Start) (ps : List Spot) → 2 ≤ from → SpotsAt codes h frame d1 ss ps → RisingSpots from ps
     → AreVariables (below (frame + d1) (settle (frame + 2) (frame + d1) cells)) frame ps
-stored_variables codes h cells frame d1 from [] [] le at rise = tt
 stored_variables codes h cells frame d1 from (s ∷ ss) (p ∷ ps) le at rise =
     let lt : p.slot < d1 = at.3 in
     let ge : from ≤ p.slot = rise.0 in (
@@ -68,19 +64,19 @@ stored_variables codes h cells frame d1 from (s ∷ ss) (p ∷ ps) le at rise =
       stored_variables codes h cells frame d1 (suc p.slot) ss ps (omega arith) at.4 rise.1,
     )
 stored_variables codes h cells frame d1 from [] (p ∷ ps) le at rise = absurd at
-stored_variables codes h cells frame d1 from (s ∷ ss) [] le at rise = tt
+stored_variables codes h cells frame d1 from _ [] le at rise = tt
 
 -- a LET's items are in their words
 pub record Stored (g : Setting) (s : State) (C : Account) (z : Sit) (w : World) (rest : List Stmt) (d1 : ℕ) (ps : List Spot) (bases : List ℕ) (ss : List Start) (w1 : World) : Type 0 where
   pub arr : OpenArrived g s C z w rest d1 (z.frame + d1) w1
-  pub items : SpotsAt g.codes (store_at g s C z w rest d1 (z.frame + d1) w1 arr) z.frame d1 ss ps
+  pub items : SpotsAt g.codes (store_at arr) z.frame d1 ss ps
   pub vars : AreVariables arr.cells1 z.frame ps
   pub grown : Grown bases arr.bases1
 
 stored : (g : Setting) (s : State) (C : Account) (z : Sit) (w : World) (h : Store) (d : ℕ) (c1 c2 : List Stmt) (d1 : ℕ) (ps : List Spot) (vars : Bool) (ss : List Start) (w1 : World) → Ready g z w → z.depth ≤ d → d ≤ d1 → RisingSpots d ps → c1 ≡ cond vars (StoreStmt ∷ c2) c2
     → (vars ≡ false → ps ≡ []) → Lets g s C z w h d c1 d1 ps vars ss w1 → Stored g s C z w c2 d1 ps h.bases ss w1
 stored g s C z w h d c1 c2 d1 ps false ss w1 r le le1 rise ec none k =
-    subst (λ y. Stored g s C z w y d1 ps h.bases ss w1) ec (record { arr = k.arr; items = k.items; vars = subst (λ y. AreVariables k.arr.cells1 z.frame y) (sym (none refl)) tt; grown = k.carries.grown })
+    subst (λ y. Stored g s C z w y d1 ps h.bases ss w1) ec (record { arr = k.arr; items = k.items; vars = subst (λ y. AreVariables k.arr.cells1 z.frame y) (sym (none refl)) tt; grown = k.since.grown })
 stored g s C z w h d c1 c2 d1 ps true ss w1 r le le1 rise ec none k =
     let dp = r.deep in
     let sp : k.arr.steps + 16 * w1.turns + 1 ≤ C.most = k.spare refl in
@@ -88,31 +84,15 @@ stored g s C z w h d c1 c2 d1 ps true ss w1 r le le1 rise ec none k =
     let cells2 : ℕ → Cell = below (z.frame + d1) (settle (z.frame + 2) (z.frame + d1) k.arr.cells1) in
     let like : (x : ℕ) → x < z.frame + d1 → Like (cells2 x) (k.arr.cells1 x) = λ x lt. like_on _ _ _ (below_like (z.frame + d1) (settle (z.frame + 2) (z.frame + d1) k.arr.cells1) x lt) (settle_like (z.frame + 2) (z.frame + d1) k.arr.cells1 x) in
     let C1 : Account = record { most = C.most - 1; least = C.least } in
-    let a1 : OpenArrived g s C1 z w c1 d1 (z.frame + d1) w1 = record {
-      steps = k.arr.steps;
-      paid = k.arr.paid;
-      bases1 = k.arr.bases1;
-      cells1 = k.arr.cells1;
-      hand1 = k.arr.hand1;
-      written1 = k.arr.written1;
-      comes = k.arr.comes;
-      most = omega arith;
-      least = omega arith;
-      calls_are = k.arr.calls_are;
-      frames = k.arr.frames;
-      room = k.arr.room;
-      bytes = k.arr.bytes;
-      fits = k.arr.fits;
-      opened = k.arr.opened;
-    } in
+    let a1 : OpenArrived g s C1 z w c1 d1 (z.frame + d1) w1 = accounted w1.turns k.arr (omega arith) (omega arith) in
     let st : State = state z.scene.own d1 c1 k.arr.cells1 z.frame k.arr.hand1 k.arr.written1 w1 in
     let mv : Moves g.program st (state z.scene.own d1 c2 cells2 z.frame None k.arr.written1 w1) = store_moves g.program st z.scene.own c2 d1 (ap (λ y. Inside z.scene.own d1 y) ec) in
     let h1 : Store = record { bases = k.arr.bases1; mem = w1.memory; cells = k.arr.cells1 } in
     record {
-      arr = open_more g s (further 1 C1) C z w c2 d1 (z.frame + d1) w1 (omega arith) (omega arith) (open_step g s C1 z w c1 c2 d1 d1 (z.frame + d1) w1 r (omega arith) a1 cells2 None k.arr.written1 like mv);
-      items = spots_carried g.codes h1 (record h1 { cells = cells2 }) z.frame d1 d1 ss ps (omega arith) (carries_above (z.frame + d1) h1 cells2 like) k.items;
+      arr = arrived_more (omega arith) (omega arith) (open_step r (omega arith) a1 cells2 None k.arr.written1 like mv);
+      items = spots_carried g.codes h1 (record h1 { cells = cells2 }) z.frame d1 d1 ss ps (omega arith) (since_cells {top = z.frame + d1} h1 like) k.items;
       vars = stored_variables g.codes h1 k.arr.cells1 z.frame d1 d ss ps (omega arith) k.items rise;
-      grown = k.carries.grown;
+      grown = k.since.grown;
     }
 
 -- one declaration
@@ -120,14 +100,14 @@ pub one_declared_run : (g : Setting) (m : Meanings) → Simulates g m → (h : D
     → Ready g z w → z.depth ≤ d → KeepsLabels z.scene.bindings bs → A.most ≤ C.most → C.least ≤ A.least - turns_one_declared h → C.most ≤ B.most → B.least ≤ C.least → IsOneDeclared g (record z.scene { bindings = bs }) d env h then c
     → (a : OpenArrived g s A z w c d (z.frame + d) w1) → NamedIn (record z.scene { bindings = bs }) env a.bases1 z.frame
     → Ran g s B (Declared g s C z w then) (OpenExited g s B z w) (declare m h env w1)
-one_declared_run g m sim (t.constants x q is) env bs then s A C B z w c d w1 r le keeps le1 le2 le3 le4 l a named = inl (record {
+one_declared_run g m sim (t.constants x q is) env bs then s A C B z w c d w1 r le keeps le1 le2 le3 le4 l a named = went (record {
   bs = l.0;
   d1 = d;
   c1 = c;
-  arr = open_more g s A C z w c d (z.frame + d) w1 le1 (omega arith) a;
+  arr = arrived_more le1 (omega arith) a;
   deep = le;
-  keeps = keeps_on z.scene.bindings bs l.0 keeps l.1.0;
-  named = l.1.1 a.bases1 z.frame (record { each = λ o b e. a.opened.grown.each o b (r.lasts.each o b e) }) named;
+  keeps = keeps_both z.scene.bindings bs l.0 keeps l.1.0;
+  named = l.1.1 a.bases1 z.frame (record { each = λ o b e. a.moved.grown.each o b (r.lasts.each o b e) }) named;
   laid = l.2;
 })
 one_declared_run g m sim (t.definitions x ds) env bs then s A C B z w c d w1 r le keeps le1 le2 le3 le4 l a named =
@@ -138,29 +118,28 @@ one_declared_run g m sim (t.definitions x ds) env bs then s A C B z w c d w1 r l
     let d1 = l.2 in
     let ps = l.3 in
     let c2 = l.5 in
-    let h = store_at g s A z w c d (z.frame + d) w1 a in
-    let grown : Grown g.lasting a.bases1 = record { each = λ o b e. a.opened.grown.each o b (r.lasts.each o b e) } in
+    let h = store_at a in
+    let grown : Grown g.lasting a.bases1 = record { each = λ o b e. a.moved.grown.each o b (r.lasts.each o b e) } in
     let namedl : NamedIn (record z.scene { bindings = bl }) lets a.bases1 z.frame = l.6.1 a.bases1 z.frame grown named in
     let rise = defined_rise g (record z.scene { bindings = bl }) ds d lets c l.4 d1 ps l.8 in
-    let grows : Throughout (λ A w u. After (history w) u) m = sim.grows in
     let few : d1 ≤ FRAME_WORDS = l.10 in
-    with_ran g s B (Lets g s C z w h d l.4 d1 ps (defines_variables ds)) (Declared g s C z w then) (OpenExited g s B z w) (let_values m ds lets w1) _ (λ ss. adds _ (λ w2. bind_after ss env2 w2))
-    (open_lift g s C B z w (Lets g s C z w h d l.4 d1 ps (defines_variables ds)) (Lets g s C z w h d l.4 d1 ps (defines_variables ds)) (let_values m ds lets w1) le3 le4 (λ ss w2 q. q)
-    (let_run g m sim ds lets bl s A C z w c l.4 d d1 ps w1 r le (keeps_on z.scene.bindings bs bl keeps l.6.0) few le1 le2 l.8 a namedl))
+    with_ran (λ ss. adds _ (λ w2. bind_after ss env2 w2))
+    (open_lift le3 le4 (λ ss w2 q. q)
+    (let_run g m sim ds lets bl s A C z w c l.4 d d1 ps w1 r le (keeps_both z.scene.bindings bs bl keeps l.6.0) few le1 le2 l.8 a namedl))
     (λ ss w2 k.
     let st = stored g s C z w h d l.4 c2 d1 ps (defines_variables ds) ss w2 r le rise.0 rise.1 l.9 (no_spots g (record z.scene { bindings = bl }) ds d lets c l.4 d1 ps l.8) k in
     let low = r.low in
     let b = bind_run ss ps d env2 g s C z w c2 d1 d1 w2 r.high le (omega arith) st.arr st.items rise.1 st.vars in
     let gr : Grown a.bases1 b.arr.bases1 = record { each = λ o b1 e. b.grown.each o b1 (st.grown.each o b1 e) } in
-    subst (λ y. Ran g s B (Declared g s C z w then) (OpenExited g s B z w) y) (sym b.gives_it) (inl (record {
+    subst (λ y. Ran g s B (Declared g s C z w then) (OpenExited g s B z w) y) (sym b.gives_it) (went (record {
       bs = l.1;
       d1 = d1;
       c1 = c2;
       arr = b.arr;
       deep = (let q = rise.0 in omega arith);
-      keeps = keeps_on z.scene.bindings bs l.1 keeps l.7.0;
+      keeps = keeps_both z.scene.bindings bs l.1 keeps l.7.0;
       named = l.7.1 (length w2.memory) b.arr.bases1 z.frame r.low b.at (named_grown (record z.scene { bindings = bl }) lets a.bases1 b.arr.bases1 z.frame gr namedl);
-      laid = l.11 (length w2.memory) (let some = some_objects g z w r in let long : length w.memory ≤ length w2.memory = st.arr.opened.long in omega arith);
+      laid = l.11 (length w2.memory) (let some = some_objects g z w r in let long : length w.memory ≤ length w2.memory = st.arr.moved.long in omega arith);
     })))
 
 -- all at the head of a block
@@ -168,21 +147,20 @@ pub all_declared_run : (g : Setting) (m : Meanings) → Simulates g m → (hs : 
     → Ready g z w → z.depth ≤ d → KeepsLabels z.scene.bindings bs → A.most ≤ C.most → C.least ≤ A.least - turns_declared hs → C.most ≤ B.most → B.least ≤ C.least → AreDeclared g (record z.scene { bindings = bs }) d env hs then c
     → (a : OpenArrived g s A z w c d (z.frame + d) w1) → NamedIn (record z.scene { bindings = bs }) env a.bases1 z.frame
     → Ran g s B (Declared g s C z w then) (OpenExited g s B z w) (declare_all m hs env w1)
-all_declared_run g m sim t.no_declarations env bs then s A C B z w c d w1 r le keeps le1 le2 le3 le4 l a named = inl (record {
+all_declared_run g m sim t.no_declarations env bs then s A C B z w c d w1 r le keeps le1 le2 le3 le4 l a named = went (record {
   bs = bs;
   d1 = d;
   c1 = c;
-  arr = open_more g s A C z w c d (z.frame + d) w1 le1 (omega arith) a;
+  arr = arrived_more le1 (omega arith) a;
   deep = le;
   keeps = keeps;
   named = named;
   laid = l;
 })
 all_declared_run g m sim (t.declare h hs) env bs then s A C B z w c d w1 r le keeps le1 le2 le3 le4 l a named =
-    let grows : Throughout (λ A w u. After (history w) u) m = sim.grows in
     let D : Account = record { most = A.most; least = A.least - turns_one_declared h } in
     let later : Scene → ℕ → Environment → List Stmt → Type 0 = λ sc1 d1 env1 c1. AreDeclared g sc1 d1 env1 hs then c1 in
-    with_ran g s B (Declared g s D z w later) (Declared g s C z w then) (OpenExited g s B z w) (declare m h env w1) _ (λ env1. adds _ (λ w2. declare_all_after m grows hs env1 w2))
+    with_ran (λ env1. adds _ (λ w2. declare_all_after m sim.grows hs env1 w2))
     (one_declared_run g m sim h env bs later s A D B z w c d w1 r le keeps (omega arith) (omega arith) (omega arith) (omega arith) l a named)
     (λ env1 w2 q. all_declared_run g m sim hs env1 q.bs then s D C B z w q.c1 q.d1 w2 r q.deep q.keeps (omega arith) (omega arith) le3 le4 q.laid q.arr q.named)
 
@@ -201,32 +179,18 @@ pub record Left (g : Setting) (s : State) (B : Account) (z : Sit) (rest : List S
 -- A block with declarations. What it made dies at its end.
 pub block_runs : (g : Setting) (m : Meanings) → Simulates g m → ((env : Environment) (w : World) (cs : Actions) → After (history w) (scope_of m cs forwards env w)) → (B : Account) (l : ℕ) (h : Declaration) (hs : Declarations) (cs : Actions) (z : Sit)
     (at : Sought → List Stmt) (c rest : List Stmt) (w : World) → 16 * w.turns + 1 ≤ B.most → B.least ≤ w.turns - (turns_declared (t.declare h hs) + turns_through cs) → IsAct g z.scene z.depth z.env (t.block l (t.declare h hs) cs) at c rest → Ready g z w
-    → Ran g (start z c w) B (λ _ w1. Did g (start z c w) B z rest w w1) (Out g (start z c w) B z w) (closing (length w.memory) (with (declare_all m (t.declare h hs) z.env w) (λ env w. scope_of m cs forwards env w)))
+    → RanDid g (start z c w) B z rest w (closing (length w.memory) (with (declare_all m (t.declare h hs) z.env w) (λ env w. scope_of m cs forwards env w)))
 block_runs g m sim scope_after B l h hs cs z at c rest w le le' laid r =
     let s = start z c w in
     let A : Account = record { most = 16 * w.turns; least = w.turns } in
     let C : Account = record { most = 16 * w.turns; least = w.turns - turns_declared (t.declare h hs) } in
     let B1 : Account = record { most = B.most - 1; least = B.least } in
-    let grows : Throughout (λ A w u. After (history w) u) m = sim.grows in
     let dp = r.deep in
-    closed_ran g s B z w (λ _ w1. Left g s B1 z rest w w1) (λ _ w1. Did g s B z rest w w1) (with (declare_all m (t.declare h hs) z.env w) (λ env w. scope_of m cs forwards env w)) r
-    (λ _ w1 k.
-    let a = closed_arrival g s B1 z w (Stack z.depth ∷ rest) k.d1 k.more w1 r k.arr in
-    let w3 = forgetting (length w.memory) w1 in
-    let cells2 : ℕ → Cell = below (z.frame + z.depth) (settle (z.frame + k.d1) (z.frame + z.depth) a.cells1) in
-    let like : (x : ℕ) → x < z.frame + z.depth → Like (cells2 x) (a.cells1 x) =
-    λ x lt. like_on _ _ _ (below_like (z.frame + z.depth) (settle (z.frame + k.d1) (z.frame + z.depth) a.cells1) x lt) (settle_like (z.frame + k.d1) (z.frame + z.depth) a.cells1 x) in
-    let st : State = state z.scene.own k.d1 (Stack z.depth ∷ rest) a.cells1 z.frame a.hand1 a.written1 w3 in
-    arrived_more g s (further 1 B1) B z.scene.own z.frame w.calls (z.frame + z.depth) (store z w) rest z.depth w3 (omega arith) (omega arith)
-    (arrived_step g s B1 z.scene.own z.frame w.calls (z.frame + z.depth) (store z w) (Stack z.depth ∷ rest) rest k.d1 z.depth w3 a cells2 None a.written1 (omega arith) like (stack_moves g.program st z.scene.own rest k.d1 z.depth refl)))
-    (with_ran g s B (Declared g s C z w (BehindBlock z cs rest g)) (λ _ w1. Left g s B1 z rest w w1) (OpenExited g s B z w) (declare_all m (t.declare h hs) z.env w) _ (λ env1. adds _ (λ w1. scope_after env1 w1 cs))
+    closed_ran {K = λ _ w1. Left g s B1 z rest w w1} r (λ _ w1 k. closes (omega arith) (omega arith) r k.arr)
+    (with_ran (λ env1. adds _ (λ w1. scope_after env1 w1 cs))
     (all_declared_run g m sim (t.declare h hs) z.env z.scene.bindings (BehindBlock z cs rest g) s A C B z w c z.depth w r (omega arith) (λ x q. refl) (omega arith) (omega arith) (omega arith) (omega arith) laid
-    (open_stay g A z c w (omega arith) (omega arith) r) r.named)
+    (begun A (Since (z.frame + z.depth) (store z w)) z.depth c (omega arith) (omega arith) r (since_refl (store z w))) r.named)
     (λ env1 w1 q.
-    let N = for_scope cs w1 in
     let z1 = open_sit g s C z w q.c1 q.d1 (z.frame + q.d1) w1 q.arr q.bs env1 in
-    let r1 = open_ready g s C z w q.c1 q.d1 w1 q.arr q.bs env1 q.deep q.named r in
-    let s1 = start z1 q.c1 w1 in
-    ran_open g s C N B z q.c1 q.d1 w w1 q.bs env1 (λ _ w2. Did g s1 N z1 (Stack z.depth ∷ rest) w1 w2) (λ _ w2. Left g s B1 z rest w w2) (scope_of m cs forwards env1 w1) (omega arith) (omega arith) r q.deep q.keeps q.arr
-    (λ _ w2 k. record { d1 = q.d1; more = z.frame + q.d1; arr = open_on g s C N B1 z q.c1 (Stack z.depth ∷ rest) q.d1 q.d1 w w1 w2 q.bs env1 (omega arith) (omega arith) r q.deep q.arr k })
-    (scope_runs g m sim cs forwards z1 q.laid.0 q.laid.1 q.c1 (Stack z.depth ∷ rest) q.c1 w1 (q.laid.2, q.laid.3, q.laid.4) refl r1)))
+    ran_open q.bs env1 (omega arith) (omega arith) r q.deep q.keeps q.arr (λ _ w2 k. record { d1 = q.d1; more = z.frame + q.d1; arr = open_on (omega arith) (omega arith) r q.deep q.arr k })
+    (scope_runs g m sim cs forwards z1 q.laid.0 q.laid.1 q.c1 (Stack z.depth ∷ rest) q.c1 w1 (q.laid.2, q.laid.3, q.laid.4) refl (open_ready q.arr q.bs env1 q.deep q.named r))))

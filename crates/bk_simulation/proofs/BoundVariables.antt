@@ -12,61 +12,10 @@ use Rattle.bk_meaning.specs.Environment.{Environment, cell, bind}
 use Rattle.bk_meaning.specs.Blocks.{Start, paired, bind_variables}
 use Rattle.bk_simulation.proofs.Memory.{BaseOf, Alive, limit, Codes, Stands, StandsCell, Store, Grown, Fits, stands_grown, alive_within}
 use Rattle.bk_simulation.proofs.ListPlaces.{get_new}
-use Rattle.bk_simulation.proofs.MadeObjects.{IsFree, make, grown_made, cell_in, alive_from, cells_made, base_made, lying, stands_cell_grown}
+use Rattle.bk_simulation.proofs.MadeObjects.{IsFree, make, Since, make_fits_in, grown_made, lying}
 use Rattle.bk_simulation.proofs.Laid.{Setting, Spot, spots_of, variables_bound, AreAt}
-use Rattle.bk_simulation.proofs.Frame.{Sit, Account}
-use Rattle.bk_simulation.proofs.Openings.{OpenArrived}
-use Rattle.bk_simulation.proofs.Starts.{store_at, open_make}
-use Rattle.bk_simulation.proofs.Carried.{Carries, ItemsAt, Rising}
-
--- an object is made of words below the top that are in none
-pub make_fits_in : (codes : Codes) (h : Store) (top b : ℕ) (vs : List Cell_of) → Fits codes h top → 16 ≤ b → b + length vs ≤ top → b + length vs ≤ limit → ((i : ℕ) → i < length vs → IsFree h (b + i))
-    → ((i : ℕ) (c : Cell_of) → slice_get vs i ≡ Some c → StandsCell codes h.bases c (content_of (h.cells (b + i)))) → ((i : ℕ) → i < length vs → (k : Content) × (h.cells (b + i) ≡ Held Variable k)) → Fits codes (make h b vs) top
-make_fits_in codes h top b vs f from le lim free st op = record {
-  long = length-append h.bases (b ∷ []) ∙ ap (λ n. n + 1) f.long ∙ sym (length-append h.mem (living vs ∷ []));
-  same = λ o i c b1 e eb.
-      let x = cell_in (cells_at (make h b vs).mem o) i c e in
-      stands_cell_grown codes h.bases (make h b vs).bases c (content_of (h.cells (b1 + i))) (grown_made h.bases b) (⊎_elim
-      (λ (y : cells_at h.mem o ≡ Some x.0).
-      ⊎_elim
-      (λ (z : BaseOf h.bases o b1). f.same o i c b1 (ap (λ u. option_and_then (λ cells. slice_get cells i) u) y ∙ x.2) z)
-      (λ (z : (o ≡ length h.bases) × (b1 ≡ b)).
-      let lt = alive_within h.mem o (length x.0) (alive_from (cells_at h.mem o) x.0 y) in let u = f.long in let z0 = z.0 in absurd (omega arith))
-      (base_made h.bases b o b1 eb))
-      (λ (y : (o ≡ length h.mem) × (x.0 ≡ vs)).
-      ⊎_elim
-      (λ (z : BaseOf h.bases o b1). let lt = slice_get_within h.bases o b1 z in let u = f.long in let y0 = y.0 in absurd (omega arith))
-      (λ (z : (o ≡ length h.bases) × (b1 ≡ b)). subst (λ u. StandsCell codes h.bases c (content_of (h.cells (u + i)))) (sym z.1) (st i c (sym (ap (λ u. slice_get u i) y.1) ∙ x.2)))
-      (base_made h.bases b o b1 eb))
-      (cells_made h.mem vs o x.0 x.1));
-  variable = λ o n b1 i a e lt. ⊎_elim
-      (λ (x : (Alive h.mem o n) × (BaseOf h.bases o b1)). f.variable o n b1 i x.0 x.1 lt)
-      (λ (x : (o ≡ length h.mem) × (n ≡ length vs) × (b1 ≡ b)). subst (λ y. (k : Content) × (h.cells (y + i) ≡ Held Variable k)) (sym x.2) (op i (subst (λ y. i < y) x.1 lt)))
-      (lying h b vs o n b1 f.long a e).lies;
-  apart = λ o n b1 i o1 n1 b2 i1 a e lt a1 e1 lt1 z.
-      ⊎_elim
-      (λ (x : (Alive h.mem o n) × (BaseOf h.bases o b1)). ⊎_elim
-      (λ (y : (Alive h.mem o1 n1) × (BaseOf h.bases o1 b2)). f.apart o n b1 i o1 n1 b2 i1 x.0 x.1 lt y.0 y.1 lt1 z)
-      (λ (y : (o1 ≡ length h.mem) × (n1 ≡ length vs) × (b2 ≡ b)). absurd (free i1 (subst (λ q. i1 < q) y.1 lt1) o n b1 i x.0 x.1 lt (z ∙ ap (λ q. q + i1) y.2)))
-      (lying h b vs o1 n1 b2 f.long a1 e1).lies)
-      (λ (x : (o ≡ length h.mem) × (n ≡ length vs) × (b1 ≡ b)). ⊎_elim
-      (λ (y : (Alive h.mem o1 n1) × (BaseOf h.bases o1 b2)). absurd (free i (subst (λ q. i < q) x.1 lt) o1 n1 b2 i1 y.0 y.1 lt1 (sym z ∙ ap (λ q. q + i) x.2)))
-      (λ (y : (o1 ≡ length h.mem) × (n1 ≡ length vs) × (b2 ≡ b)). x.0 ∙ sym y.0)
-      (lying h b vs o1 n1 b2 f.long a1 e1).lies)
-      (lying h b vs o n b1 f.long a e).lies;
-  below = λ o n b1 a e. ⊎_elim
-      (λ (x : (Alive h.mem o n) × (BaseOf h.bases o b1)). f.below o n b1 x.0 x.1)
-      (λ (x : (o ≡ length h.mem) × (n ≡ length vs) × (b1 ≡ b)). let x1 = x.1 in let x2 = x.2 in omega arith)
-      (lying h b vs o n b1 f.long a e).lies;
-  small = λ o n b1 a e. ⊎_elim
-      (λ (x : (Alive h.mem o n) × (BaseOf h.bases o b1)). f.small o n b1 x.0 x.1)
-      (λ (x : (o ≡ length h.mem) × (n ≡ length vs) × (b1 ≡ b)). let x1 = x.1 in let x2 = x.2 in omega arith)
-      (lying h b vs o n b1 f.long a e).lies;
-  set = λ o n b1 a e. ⊎_elim
-      (λ (x : (Alive h.mem o n) × (BaseOf h.bases o b1)). f.set o n b1 x.0 x.1)
-      (λ (x : (o ≡ length h.mem) × (n ≡ length vs) × (b1 ≡ b)). let x2 = x.2 in omega arith)
-      (lying h b vs o n b1 f.long a e).lies;
-}
+use Rattle.bk_simulation.proofs.Frame.{Sit, Account, OpenArrived, store_at}
+use Rattle.bk_simulation.proofs.Starts.{open_make, ItemsAt, Rising}
 
 -- other words stay free
 pub free_made : (h : Store) (b : ℕ) (c : Cell_of) (a : ℕ) → length h.bases ≡ length h.mem → a ≢ b → IsFree h a → IsFree (make h b (c ∷ [])) a
@@ -92,13 +41,12 @@ AreVariables cells frame (p ∷ ps) = ((k : Content) × (cells (frame + p.slot) 
 
 -- names with values, where those stand
 pub items_spots : (codes : Codes) (h : Store) (frame top : ℕ) (xs : List (List ℕ)) (vs : List Value) (ns : List ℕ) → ItemsAt codes h frame top vs ns → SpotsAt codes h frame top (paired xs vs) (spots_of xs ns)
-items_spots codes h frame top [] vs ns items = tt
-items_spots codes h frame top (x ∷ xs) [] [] items = tt
 items_spots codes h frame top (x ∷ xs) (v ∷ vs) (n ∷ ns) items = (refl, items.0, items.1, items.2, items_spots codes h frame top xs vs ns items.3)
 items_spots codes h frame top (x ∷ xs) [] (n ∷ ns) items = absurd items
 items_spots codes h frame top (x ∷ xs) (v ∷ vs) [] items = absurd items
+items_spots codes h frame top _ _ _ items = tt
 
-pub spots_carried : (codes : Codes) (h h1 : Store) (frame d d1 : ℕ) (ss : List Start) (ps : List Spot) → d ≤ d1 → Carries (frame + d) h h1 → SpotsAt codes h frame d ss ps → SpotsAt codes h1 frame d1 ss ps
+pub spots_carried : (codes : Codes) (h h1 : Store) (frame d d1 : ℕ) (ss : List Start) (ps : List Spot) → d ≤ d1 → Since (frame + d) h h1 → SpotsAt codes h frame d ss ps → SpotsAt codes h1 frame d1 ss ps
 spots_carried codes h h1 frame d d1 [] [] le c at = tt
 spots_carried codes h h1 frame d d1 (s ∷ ss) (p ∷ ps) le c at =
     let lt : p.slot < d = at.3 in (
@@ -108,14 +56,12 @@ spots_carried codes h h1 frame d d1 (s ∷ ss) (p ∷ ps) le c at =
       omega arith,
       spots_carried codes h h1 frame d d1 ss ps le c at.4,
     )
-spots_carried codes h h1 frame d d1 [] (p ∷ ps) le c at = at
-spots_carried codes h h1 frame d d1 (s ∷ ss) [] le c at = at
+spots_carried codes h h1 frame d d1 _ _ le c at = at
 
 pub spots_both : (codes : Codes) (h : Store) (frame top : ℕ) (ss ts : List Start) (ps qs : List Spot) → SpotsAt codes h frame top ss ps → SpotsAt codes h frame top ts qs → SpotsAt codes h frame top (ss ++ ts) (ps ++ qs)
 spots_both codes h frame top [] ts [] qs a b = b
 spots_both codes h frame top (s ∷ ss) ts (p ∷ ps) qs a b = (a.0, a.1, a.2, a.3, spots_both codes h frame top ss ts ps qs a.4 b)
-spots_both codes h frame top [] ts (p ∷ ps) qs a b = absurd a
-spots_both codes h frame top (s ∷ ss) ts [] qs a b = absurd a
+spots_both codes h frame top _ ts _ qs a b = absurd a
 
 pub spots_rise_from : (from low : ℕ) (ps : List Spot) → low ≤ from → RisingSpots from ps → RisingSpots low ps
 spots_rise_from from low [] le r = tt
@@ -123,9 +69,8 @@ spots_rise_from from low (p ∷ ps) le r = ((let h = r.0 in omega arith), r.1)
 
 -- those of a list of slots below a depth, and those from there on
 pub spots_joined : (xs : List (List ℕ)) (ns : List ℕ) (from d : ℕ) (qs : List Spot) → from ≤ d → Rising from ns → ((i n : ℕ) → slice_get ns i ≡ Some n → n < d) → RisingSpots d qs → RisingSpots from (spots_of xs ns ++ qs)
-spots_joined [] ns from d qs le r low more = spots_rise_from d from qs le more
-spots_joined (x ∷ xs) [] from d qs le r low more = spots_rise_from d from qs le more
 spots_joined (x ∷ xs) (n ∷ ns) from d qs le r low more = (r.0, spots_joined xs ns (suc n) d qs (low 0 n refl) r.1 (λ i k e. low (suc i) k e) more)
+spots_joined _ _ from d qs le r low more = spots_rise_from d from qs le more
 
 -- a variable is made: the others wait as before
 spots_left : (codes : Codes) (h : Store) (b : ℕ) (c : Cell_of) (frame top : ℕ) (ss : List Start) (ps : List Spot) → length h.bases ≡ length h.mem → (from : ℕ) → b < frame + from → RisingSpots from ps → SpotsAt codes h frame top ss ps
@@ -135,12 +80,7 @@ spots_left codes h b c frame top (s ∷ ss) (p ∷ ps) long from lt r at =
     let ge : from ≤ p.slot = r.0 in
     let ne : frame + p.slot ≢ b = omega arith in
     (at.0, stands_grown codes h.bases (make h b (c ∷ [])).bases s.value _ (grown_made h.bases b) at.1, free_made h b c (frame + p.slot) long ne at.2, at.3, spots_left codes h b c frame top ss ps long (suc p.slot) (omega arith) r.1 at.4)
-spots_left codes h b c frame top [] (p ∷ ps) long from lt r at = at
-spots_left codes h b c frame top (s ∷ ss) [] long from lt r at = at
-
-at_grown : (bases bases1 : List ℕ) (o frame : ℕ) (ps : List Spot) → Grown bases bases1 → AreAt bases o frame ps → AreAt bases1 o frame ps
-at_grown bases bases1 o frame [] g a = tt
-at_grown bases bases1 o frame (p ∷ ps) g a = (g.each o (frame + p.slot) a.0, at_grown bases bases1 (suc o) frame ps g a.1)
+spots_left codes h b c frame top _ _ long from lt r at = at
 
 -- the variables are objects
 pub record Bound (g : Setting) (s : State) (A : Account) (z : Sit) (w : World) (c : List Stmt) (d more : ℕ) (w1 : World) (bases : List ℕ) (ss : List Start) (ps : List Spot) (env : Environment) : Type 0 where
@@ -151,11 +91,11 @@ pub record Bound (g : Setting) (s : State) (A : Account) (z : Sit) (w : World) (
   pub grown : Grown bases arr.bases1
 
 pub bind_run : (ss : List Start) (ps : List Spot) (from : ℕ) (env : Environment) (g : Setting) (s : State) (A : Account) (z : Sit) (w : World) (c : List Stmt) (d top : ℕ) (w1 : World) → 16 ≤ z.frame → z.depth ≤ from → z.frame + top ≤ limit
-    → (a : OpenArrived g s A z w c d (z.frame + top) w1) → SpotsAt g.codes (store_at g s A z w c d (z.frame + top) w1 a) z.frame top ss ps → RisingSpots from ps → AreVariables a.cells1 z.frame ps
+    → (a : OpenArrived g s A z w c d (z.frame + top) w1) → SpotsAt g.codes (store_at a) z.frame top ss ps → RisingSpots from ps → AreVariables a.cells1 z.frame ps
     → Bound g s A z w c d (z.frame + top) w1 a.bases1 ss ps env
 bind_run [] [] from env g s A z w c d top w1 high le lim a at rise vars = record { world = w1; gives_it = refl; arr = a; at = tt; grown = record { each = λ o b e. e } }
 bind_run (st ∷ ss) (p ∷ ps) from env g s A z w c d top w1 high le lim a at rise vars =
-    let h = store_at g s A z w c d (z.frame + top) w1 a in
+    let h = store_at a in
     let b : ℕ = z.frame + p.slot in
     let lt : p.slot < top = at.3 in
     let ge : from ≤ p.slot = rise.0 in
@@ -163,7 +103,7 @@ bind_run (st ∷ ss) (p ∷ ps) from env g s A z w c d top w1 high le lim a at r
     let at_zero : (i : ℕ) → i < 1 → b + i ≡ b = λ i q. omega arith in
     let f : Fits g.codes (make h b cells) (z.frame + top) = make_fits_in g.codes h (z.frame + top) b cells a.fits (omega arith) (omega arith) (omega arith)
     (λ i q. subst (λ y. IsFree h y) (sym (at_zero i q)) at.2) (λ i x e. begun i x e) (λ i q. subst (λ y. (k : Content) × (a.cells1 y ≡ Held Variable k)) (sym (at_zero i q)) vars.0) in
-    let a1 = open_make g s A z w c d (z.frame + top) (z.frame + top) w1 b cells a (omega arith) (omega arith) f in
+    let a1 = open_make b cells (z.frame + top) a (omega arith) f in
     let o : ℕ = length w1.memory in
     let lm : length (made cells w1.memory) ≡ suc o = length-append w1.memory (living cells ∷ []) ∙ (let q : length w1.memory + 1 ≡ suc o = omega arith in q) in
     let r = bind_run ss ps (suc p.slot) (bind st.name (cell o 0) env) g s A z w c d top (making cells w1) high (omega arith) lim a1 (spots_left g.codes h b (holds st.value) z.frame top ss ps a.fits.long (suc p.slot) (omega arith) rise.1 at.4) rise.1 vars.1 in
@@ -180,5 +120,4 @@ bind_run (st ∷ ss) (p ∷ ps) from env g s A z w c d top w1 high le lim a at r
         subst (λ y. StandsCell g.codes a.bases1 y (content_of (a.cells1 (z.frame + p.slot + 0)))) (let q : holds st.value ≡ x = cc in q)
         (subst (λ y. Stands g.codes a.bases1 st.value (content_of (a.cells1 y))) (let q : z.frame + p.slot ≡ z.frame + p.slot + 0 = omega arith in q) at.1)
     begun (suc i) x e = absurd (cc)
-bind_run [] (p ∷ ps) from env g s A z w c d top w1 high le lim a at rise vars = absurd at
-bind_run (st ∷ ss) [] from env g s A z w c d top w1 high le lim a at rise vars = absurd at
+bind_run _ _ from env g s A z w c d top w1 high le lim a at rise vars = absurd at

@@ -14,39 +14,19 @@ use Rattle.bk_meaning.proofs.After.{Adds, adds, stays, either_after}
 use Rattle.bk_simulation.proofs.Sizes.{turns_of, turns_in}
 use Rattle.bk_simulation.proofs.Sought.{same_stands}
 use Rattle.bk_simulation.proofs.Laid.{Setting, LabelAt, IsJump, IsAct, Entered}
-use Rattle.bk_simulation.proofs.Frame.{Sit, store, start, Ready, Account, paying, with_ran, ArrivedAt, next, ready_next}
-use Rattle.bk_simulation.proofs.Compose.{stay, arrived_more, arrived_on, ran_on, ran_first}
-use Rattle.bk_simulation.proofs.Simulates.{Simulates, for_truth, for_act, where_to, HasTruth, Did}
-use Rattle.bk_simulation.proofs.ControlSteps.{label_on, jump_on}
+use Rattle.bk_simulation.proofs.Frame.{Sit, start, Ready, Account, went, with_ran, ArrivedAt, next, ready_next}
+use Rattle.bk_simulation.proofs.Compose.{stay, arrived_on, ran_on, ran_more}
+use Rattle.bk_simulation.proofs.Simulates.{Simulates, for_truth, for_act, where_to, HasTruth, Did, RanDid}
+use Rattle.bk_simulation.proofs.ControlSteps.{landed_on, jumped_on}
 use Rattle.bk_simulation.proofs.Orders.{by_test, or_second}
-use Rattle.bk_simulation.proofs.Commands.{RanDid}
 
 -- a command behind an arrival, and what is done behind it
 pub act_after : (g : Setting) (m : Meanings) → Simulates g m → (s : State) (A C B : Account) (a : Action) (mode : Mode) (z : Sit) (env : Environment) (at : Sought → List Stmt) (c1 e1 mid rest : List Stmt) (w w1 : World)
     → A.most ≤ C.most → C.least ≤ (w1.turns - turns_in a) + (A.least - w1.turns) → C.most ≤ B.most → B.least ≤ C.least → env.names ≡ z.env.names → IsAct g z.scene z.depth env a at c1 mid → Entered mode env a at c1 e1 → Ready g z w
     → ArrivedAt g s A z e1 z.depth w w1 → ((w2 : World) → Did g s C z mid w w2 → Did g s B z rest w w2) → RanDid g s B z rest w (m.act a mode env w1)
 act_after g m sim s A C B a mode z env at c1 e1 mid rest w w1 le ll le2 ll2 en l ent r ar fin =
-    let N = for_act a w1 in
-    let z1 = next g s A z e1 z.depth w w1 env z.depth ar in
-    let r1 = ready_next g s A z e1 z.depth w w1 env z.depth ar en (omega arith) r in
-    ran_first g s C B z w (λ _ w2. Did g s C z mid w w2) (λ _ w2. Did g s B z rest w w2) (m.act a mode env w1) le2 ll2 (λ _ w2 q. fin w2 q)
-    (ran_on g s A N C z e1 z.depth w w1 env (λ _ w2. Did g (start z1 e1 w1) N z1 mid w1 w2) (λ _ w2. Did g s C z mid w w2) (m.act a mode env w1) (omega arith) (omega arith) r (omega arith) ar
-    (λ _ w2 q. arrived_on g s A N C z e1 mid z.depth z.depth w w1 w2 env (omega arith) (omega arith) r (omega arith) ar q)
-    (sim.act a mode z1 at c1 mid e1 w1 l ent r1))
-
--- a LAB behind it
-pub landed_on : (g : Setting) (s : State) (A B : Account) (z : Sit) (n : ℕ) (rest : List Stmt) (w w1 : World) → A.most + 1 ≤ B.most → B.least ≤ A.least → 2 ≤ z.depth → LabelAt g z.scene z.depth n rest
-    → ArrivedAt g s A z (Label n ∷ rest) z.depth w w1 → ArrivedAt g s B z rest z.depth w w1
-landed_on g s A B z n rest w w1 le le' dp l a =
-    arrived_more g s (paying g A) B z.scene.own z.frame w.calls (z.frame + z.depth) (store z w) rest z.depth w1 (omega arith) (omega arith)
-    (label_on g s A z.scene z.frame w.calls (z.frame + z.depth) (store z w) z.depth z.depth n rest w1 (omega arith) l a)
-
--- a jump to a LAB
-pub jumped_on : (g : Setting) (s : State) (A B : Account) (z : Sit) (n : ℕ) (rest behind : List Stmt) (w w1 : World) → A.most + 2 ≤ B.most → B.least ≤ A.least → 2 ≤ z.depth → LabelAt g z.scene z.depth n rest
-    → ArrivedAt g s A z (Jump n ∷ behind) z.depth w w1 → ArrivedAt g s B z rest z.depth w w1
-jumped_on g s A B z n rest behind w w1 le le' dp l a =
-    landed_on g s (paying g A) B z n rest w w1 (omega arith) (omega arith) dp l
-    (jump_on g s A z.scene z.frame w.calls (z.frame + z.depth) (store z w) z.depth n (Label n ∷ rest) behind w1 (omega arith) (omega arith) l.found a)
+    ran_on (omega arith) (omega arith) r (omega arith) ar (λ _ w2 q. fin w2 (arrived_on (omega arith) (omega arith) r (omega arith) ar q))
+    (sim.act a mode (next g s A z e1 z.depth w w1 env z.depth ar) at c1 mid e1 w1 l ent (ready_next env z.depth ar en (omega arith) r))
 
 -- where a condition has the truth that is asked for, it does not jump over
 pub same_way : (b x : Bool) (to rest : List Stmt) → where_to (not b) x to rest ≡ (cond (same_truth b x) rest to)
@@ -70,15 +50,15 @@ pub when_run : (g : Setting) (m : Meanings) → Simulates g m → (B : Account) 
     → RanDid g (start z c w) B z rest w (where_truth m b e z.env (λ w. m.act a forwards (past e z.env) w) w)
 when_run g m sim B b e a z n at c c1 rest w le le' le_ la ln r =
     let s = start z c w in
-    with_ran g s B (HasTruth g s (for_truth e w) z (not b) (Label n ∷ rest) c1 w) _ _ (m.truth e z.env w) _ (λ x. when_adds g m sim a (past e z.env) b x)
-    (ran_first g s (for_truth e w) B z w _ _ (m.truth e z.env w) (omega arith) (omega arith) (λ t w1 q. q) (sim.truth e z (not b) n (Label n ∷ rest) c c1 w le_ ln.found r))
+    with_ran (λ x. when_adds g m sim a (past e z.env) b x)
+    (ran_more (omega arith) (omega arith) (sim.truth e z (not b) n (Label n ∷ rest) c c1 w le_ ln.found r))
     (λ x w1 q. goes (same_truth b x) w1 (subst (λ y. ArrivedAt g s (for_truth e w) z y z.depth w w1) (same_way b x (Label n ∷ rest) c1) q))
   where
     goes : (t : Bool) (w1 : World) → ArrivedAt g (start z c w) (for_truth e w) z (cond t c1 (Label n ∷ rest)) z.depth w w1 → RanDid g (start z c w) B z rest w (either t (λ w. m.act a forwards (past e z.env) w) done w1)
     goes true w1 q = let dp = r.deep in let m0 = q.most in
         act_after g m sim (start z c w) (for_truth e w) (record { most = 16 * w.turns; least = w.turns - (turns_of e + turns_in a) }) B a forwards z (past e z.env) at c1 c1 (Label n ∷ rest) rest w w1 (omega arith) (omega arith) (omega arith) (omega arith) refl la refl r q
-        (λ w2 y. landed_on g (start z c w) (record { most = 16 * w.turns; least = w.turns - (turns_of e + turns_in a) }) B z n rest w w2 (omega arith) (omega arith) r.deep ln y)
-    goes false w1 q = let dp = r.deep in inl (landed_on g (start z c w) (for_truth e w) B z n rest w w1 (omega arith) (omega arith) r.deep ln q)
+        (λ w2 y. landed_on (omega arith) (omega arith) ln y)
+    goes false w1 q = went (landed_on (omega arith) (omega arith) ln q)
 
 -- a place inside a command is sought
 pub inside_run : (g : Setting) (m : Meanings) → Simulates g m → (B : Account) (a : Action) (s : Sought) (z : Sit) (env : Environment) (at : Sought → List Stmt) (c1 e mid rest : List Stmt) (w : World) → 16 * w.turns + 2 ≤ B.most
@@ -94,7 +74,7 @@ pub when_sought : (g : Setting) (m : Meanings) → Simulates g m → (B : Accoun
 when_sought g m sim B e0 a s z n at c1 e rest w le le' l ln en r =
     let dp = r.deep in
     inside_run g m sim B a s z (past e0 z.env) at c1 e (Label n ∷ rest) rest w le le' refl l (same_stands s z.env.names (past e0 z.env).next z.env.next a ∙ en.0, en.1) r
-    (λ A w2 la lb y. landed_on g (start z e w) A B z n rest w w2 (omega arith) lb r.deep ln y)
+    (λ A w2 la lb y. landed_on (omega arith) lb ln y)
 
 -- ---- TEST
 test_adds : (g : Setting) (m : Meanings) → Simulates g m → (a b : Action) (u v : Environment) (x : Bool) → Adds (λ w. either x (λ w. m.act a forwards u w) (λ w. m.act b forwards v w) w)
@@ -106,20 +86,20 @@ pub test_run : (g : Setting) (m : Meanings) → Simulates g m → (B : Account) 
     → RanDid g (start z c w) B z rest w (with (m.truth e z.env w) (λ x w. either x (λ w. m.act a forwards (past e z.env) w) (λ w. m.act b forwards (past_action a (past e z.env)) w) w))
 test_run g m sim B e a b z n n1 at1 at2 c c1 c2 rest w le le' le_ la lb l0 l1 r =
     let s = start z c w in
-    with_ran g s B (HasTruth g s (for_truth e w) z false (Label n ∷ c2) c1 w) _ _ (m.truth e z.env w) _ (λ x. test_adds g m sim a b (past e z.env) (past_action a (past e z.env)) x)
-    (ran_first g s (for_truth e w) B z w _ _ (m.truth e z.env w) (omega arith) (omega arith) (λ t w1 q. q) (sim.truth e z false n (Label n ∷ c2) c c1 w le_ l0.found r)) goes
+    with_ran (λ x. test_adds g m sim a b (past e z.env) (past_action a (past e z.env)) x)
+    (ran_more (omega arith) (omega arith) (sim.truth e z false n (Label n ∷ c2) c c1 w le_ l0.found r)) goes
   where
     goes : (x : Bool) (w1 : World) → ArrivedAt g (start z c w) (for_truth e w) z (where_to false x (Label n ∷ c2) c1) z.depth w w1
         → RanDid g (start z c w) B z rest w (either x (λ w. m.act a forwards (past e z.env) w) (λ w. m.act b forwards (past_action a (past e z.env)) w) w1)
     goes true w1 q = let dp = r.deep in let m0 = q.most in
         act_after g m sim (start z c w) (for_truth e w) (record { most = 16 * w.turns; least = w.turns - (turns_of e + turns_in a) }) B a forwards z (past e z.env) at1 c1 c1 (Jump n1 ∷ Label n ∷ c2) rest w w1 (omega arith) (omega arith) (omega arith) (omega arith) refl la refl r q
-        (λ w2 y. jumped_on g (start z c w) (record { most = 16 * w.turns; least = w.turns - (turns_of e + turns_in a) }) B z n1 rest (Label n ∷ c2) w w2 (omega arith) (omega arith) r.deep l1 y)
+        (λ w2 y. jumped_on (omega arith) (omega arith) r.deep l1 y)
     goes false w1 q = let dp = r.deep in
         let A : Account = record { most = 16 * w.turns + 1; least = w.turns - turns_of e } in
-        let ar = landed_on g (start z c w) (for_truth e w) A z n c2 w w1 (omega arith) (omega arith) r.deep l0 q in
+        let ar : ArrivedAt g (start z c w) A z c2 z.depth w w1 = landed_on (omega arith) (omega arith) l0 q in
         let m0 = ar.most in
         act_after g m sim (start z c w) A (record { most = 16 * w.turns + 1; least = w.turns - (turns_of e + turns_in b) }) B b forwards z (past_action a (past e z.env)) at2 c2 c2 (Label n1 ∷ rest) rest w w1 (omega arith) (omega arith) (omega arith) (omega arith) refl lb refl r ar
-        (λ w2 y. landed_on g (start z c w) (record { most = 16 * w.turns + 1; least = w.turns - (turns_of e + turns_in b) }) B z n1 rest w w2 (omega arith) (omega arith) r.deep l1 y)
+        (λ w2 y. landed_on (omega arith) (omega arith) l1 y)
 
 pub test_sought : (g : Setting) (m : Meanings) → Simulates g m → (B : Account) (e0 : Expression) (a b : Action) (s : Sought) (z : Sit) (n n1 : ℕ) (at at1 at2 : Sought → List Stmt) (c1 c2 e rest : List Stmt) (w : World) → 16 * w.turns + 4 ≤ B.most
     → B.least ≤ w.turns - (turns_in a + turns_in b) → IsAct g z.scene z.depth (past e0 z.env) a at1 c1 (Jump n1 ∷ Label n ∷ c2) → IsAct g z.scene z.depth (past_action a (past e0 z.env)) b at2 c2 (Label n1 ∷ rest)
@@ -131,9 +111,9 @@ test_sought g m sim B e0 a b s z n n1 at at1 at2 c1 c2 e rest w le le' la lb l1 
     (λ (h : stands_in s z.env a ≡ true).
     subst (λ (t : Bool). RanDid g (start z e w) B z rest w (either t (λ w. m.act a (seeking s) (past e0 z.env) w) (λ w. m.act b (seeking s) (past_action a (past e0 z.env)) w) w)) (sym h)
     (inside_run g m sim B a s z (past e0 z.env) at1 c1 e (Jump n1 ∷ Label n ∷ c2) rest w (omega arith) (omega arith) refl la (same_stands s z.env.names (past e0 z.env).next z.env.next a ∙ h, en.1 ∙ ea s ∙ ap (λ (t : Bool). cond t (at1 s) (at2 s)) h) r
-    (λ A w2 x y q. jumped_on g (start z e w) A B z n1 rest (Label n ∷ c2) w w2 x y r.deep l1 q)))
+    (λ A w2 x y q. jumped_on x y r.deep l1 q)))
     (λ (h : stands_in s z.env a ≡ false).
     subst (λ (t : Bool). RanDid g (start z e w) B z rest w (either t (λ w. m.act a (seeking s) (past e0 z.env) w) (λ w. m.act b (seeking s) (past_action a (past e0 z.env)) w) w)) (sym h)
     (inside_run g m sim B b s z (past_action a (past e0 z.env)) at2 c2 e (Label n1 ∷ rest) rest w (omega arith) (omega arith) refl lb
     (same_stands s z.env.names (past_action a (past e0 z.env)).next z.env.next b ∙ or_second (stands_in s z.env a) (stands_in s z.env b) en.0 h, en.1 ∙ ea s ∙ ap (λ (t : Bool). cond t (at1 s) (at2 s)) h) r
-    (λ A w2 x y q. landed_on g (start z e w) A B z n1 rest w w2 (omega arith) y r.deep l1 q)))
+    (λ A w2 x y q. landed_on (omega arith) y l1 q)))

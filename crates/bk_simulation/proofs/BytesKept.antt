@@ -27,8 +27,7 @@ pub record HasBytes (s : State) : Type 0 where
 
 abbrev WithBytes : Next → Type 0
 WithBytes (Goes t) = HasBytes t
-WithBytes (Ends e t) = Unit {0}
-WithBytes Wild = Unit {0}
+WithBytes _ = Unit {0}
 
 abbrev pub AllBytes : (ℕ → Cell) → Type 0
 AllBytes cells = (a : ℕ) → AreBytes (content_of (cells a))
@@ -39,9 +38,6 @@ below_bytes top cells all a = by_test (nat_lt a top)
     by_test : (b : Bool) → AreBytes (content_of (if b then cells a else Free))
     by_test true = all a
     by_test false = tt
-
-held_content : (c : Cell) (x : Content) → content_of (Held (kind_of c) x) ≡ x
-held_content c x = refl
 
 write_bytes : (cells : ℕ → Cell) (at : ℕ) (c : Cell) → AllBytes cells → AreBytes (content_of c) → AllBytes (write cells at c)
 write_bytes cells at c all are a = by_test (a == at)
@@ -60,9 +56,7 @@ settle_bytes from top cells all a = by_test (nat_lt a from) (nat_lt a top)
 
 in_variable : (c : Cell) (x : Content) → AreBytes (content_of c) → variable_in c ≡ Some x → AreBytes x
 in_variable (Held Variable y) x are e = subst AreBytes (let z : y ≡ x = cc in z) are
-in_variable (Held Temporary y) x are e = absurd (cc)
-in_variable (Held Link y) x are e = absurd (cc)
-in_variable Free x are e = absurd (cc)
+in_variable _ x are e = absurd (cc)
 
 variable_bytes : (top a : ℕ) (cells : ℕ → Cell) (x : Content) → AllBytes cells → variable_at top cells a ≡ Some x → AreBytes x
 variable_bytes top a cells x all e = by_test (nat_lt a top) e
@@ -142,13 +136,7 @@ module _ (s : State) (has : HasBytes s) where
   return_with t h all are = number_with (slot t 1) _ (λ c. number_with (slot t 0) _ (λ p. record { words = below_bytes t.frame t.cells all; hand = are }))
 
   stmt_with : (callables : Callables) (own : Placed) (k : ℕ) (stmt : Stmt) (rest : List Stmt) → WithBytes (step_by callables s own k stmt rest)
-  stmt_with callables own k (Number value) rest = push_with own k rest _ tt
-  stmt_with callables own k True rest = push_with own k rest _ tt
-  stmt_with callables own k False rest = push_with own k rest _ tt
-  stmt_with callables own k Query rest = push_with own k rest _ tt
   stmt_with callables own k (Load from) rest = push_with own k rest _ (has.words (named_place s own from))
-  stmt_with callables own k (Address of) rest = push_with own k rest _ tt
-  stmt_with callables own k (Text bytes) rest = push_with own k rest _ tt
   stmt_with callables own k (Monadic Contents) rest =
       number_with (slot s (k - 1)) _ (λ a. on_some-holds WithBytes tt (variable_at (s.frame + k) s.cells a) _
       (λ x e. push_with own (k - 1) rest x (variable_bytes (s.frame + k) a s.cells x has.words e)))
@@ -191,6 +179,7 @@ module _ (s : State) (has : HasBytes s) where
   stmt_with callables own k (DataNumber value) rest = tt
   stmt_with callables own k (DataAddress l) rest = tt
   stmt_with callables own k (Globals entries) rest = tt
+  stmt_with callables own k _ rest = push_with own k rest _ tt
 
   tells_with : (bytes : List ℕ) → WithBytes (tells s bytes)
   tells_with bytes = return_with (record s { output = s.output ++ bytes }) None has.words tt
@@ -273,10 +262,6 @@ module _ (s : State) (has : HasBytes s) where
       by_control (Inside own k rest) = has
       by_control (Behind own l) = by_rest own (label_rest own.places 0 own.stmts l)
       by_control (At n) = by_home n (n == program.home)
-
--- a step of a settled state keeps them
-pub step_bytes : (callables : Callables) (s t : State) → HasBytes s → step callables s ≡ Goes t → HasBytes t
-step_bytes callables s t has e = subst WithBytes e (step_with s has callables s.control)
 
 -- ---- a step of a program, and a move
 

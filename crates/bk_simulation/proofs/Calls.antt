@@ -20,9 +20,9 @@ use Rattle.bk_simulation.proofs.StatementSteps.{returning, return_item_step, ret
 use Rattle.bk_simulation.proofs.Memory.{Stands}
 use Rattle.bk_simulation.proofs.Sizes.{turns_of, turns_through}
 use Rattle.bk_simulation.proofs.Laid.{Setting, Scene, IsAlone}
-use Rattle.bk_simulation.proofs.Frame.{Sit, store, start, Ready, Account, FallsIn, Ran, ArrivedAt, there, Has, Out}
-use Rattle.bk_simulation.proofs.Compose.{arrived_more, ran_first}
-use Rattle.bk_simulation.proofs.Simulates.{Simulates, for_value, for_scope, Did}
+use Rattle.bk_simulation.proofs.Frame.{Sit, start, Ready, Account, Ran, went, each_way_ran, so, ArrivedAt, there, Has, Out}
+use Rattle.bk_simulation.proofs.Compose.{arrived_more}
+use Rattle.bk_simulation.proofs.Simulates.{Simulates, for_value, for_scope, Did, RanDid}
 use Rattle.bk_simulation.proofs.Operands.{value_run}
 use Rattle.bk_simulation.proofs.Procedures.{IsBody}
 use Rattle.bk_simulation.proofs.Returns.{call_stmt}
@@ -54,7 +54,7 @@ pub record Yielded (g : Setting) (s : State) (B : Account) (z : Sit) (w : World)
 -- the scope of one command does what it means
 abbrev pub AloneRuns : Setting → Meanings → Type 0
 AloneRuns g m = (x : Action) (z : Sit) (j : ℕ) (c rest : List Stmt) (w : World) → IsAlone g z.scene z.depth z.env x j c rest → Ready g z w
-    → Ran g (start z c w) (for_scope (alone x) w) (λ _ w1. Did g (start z c w) (for_scope (alone x) w) z rest w w1) (Out g (start z c w) (for_scope (alone x) w) z w) (scope_of m (alone x) forwards z.env w)
+    → RanDid g (start z c w) (for_scope (alone x) w) z rest w (scope_of m (alone x) forwards z.env w)
 
 returned_by : (g : Setting) (s : State) (B : Account) (z : Sit) (w w1 : World) (control : List Stmt) (depth1 : ℕ) (r : List Stmt) → control ≡ Return ∷ r → ArrivedAt g s B z control depth1 w w1 → Yielded g s B z w unset w1
 returned_by g s B z w w1 control depth1 r e a = record {
@@ -67,46 +67,25 @@ returned_by g s B z w w1 control depth1 r e a = record {
 }
 
 returned_exit : (g : Setting) (s : State) (B : Account) (z : Sit) (w : World) (x : Exit) (w1 : World) → Out g s B z w x w1 → Ran g s B (Yielded g s B z w) AnyExit (return_exit x w1)
-returned_exit g s B z w return w1 q = inl (returned_by g s B z w w1 q.control q.depth1 q.leads.0 q.leads.1 q.arr)
-returned_exit g s B z w break w1 q = inl tt
-returned_exit g s B z w loop w1 q = inl tt
-returned_exit g s B z w endcase w1 q = inl tt
-returned_exit g s B z w (goto l) w1 q = inl tt
-returned_exit g s B z w (result v) w1 q = inl tt
+returned_exit g s B z w return w1 q = went (returned_by g s B z w w1 q.control q.depth1 q.leads.0 q.leads.1 q.arr)
+returned_exit g s B z w _ w1 q = went tt
 
-fell_exit : (g : Setting) (s : State) (B : Account) (z : Sit) (w : World) (x : Exit) (w1 : World) → FallsIn g s w1 → Ran g s B (Yielded g s B z w) AnyExit (return_exit x w1)
-fell_exit g s B z w return w1 f = inr f
-fell_exit g s B z w break w1 f = inr f
-fell_exit g s B z w loop w1 f = inr f
-fell_exit g s B z w endcase w1 f = inr f
-fell_exit g s B z w (goto l) w1 f = inr f
-fell_exit g s B z w (result v) w1 f = inr f
+exit_after : (y : Exit) (w : World) → After (history w) (return_exit y w)
+exit_after return w = stays (history w)
+exit_after _ w = stays (history w)
 
-returned_ran : (g : Setting) (s : State) (B : Account) (z : Sit) (r : List Stmt) (w : World) (o : Outcome Done) → Ran g s B (λ _ w1. Did g s B z (Return ∷ r) w w1) (Out g s B z w) o
-    → Ran g s B (Yielded g s B z w) AnyExit (each_way (λ _ w. gives unset w) return_exit o)
-returned_ran g s B z r w (gives u w1) (inl a) = inl (returned_by g s B z w w1 (Return ∷ r) z.depth r refl a)
-returned_ran g s B z r w (gives u w1) (inr f) = inr f
-returned_ran g s B z r w (leaves x w1) (inl q) = returned_exit g s B z w x w1 q
-returned_ran g s B z r w (leaves x w1) (inr f) = fell_exit g s B z w x w1 f
-returned_ran g s B z r w (ends e w1) q = q
-returned_ran g s B z r w undefined q = inl tt
-returned_ran g s B z r w (going w1) q = q
+returned_ran : (g : Setting) (s : State) (B : Account) (z : Sit) (r : List Stmt) (w : World) (o : Outcome Done) → RanDid g s B z (Return ∷ r) w o → Ran g s B (Yielded g s B z w) AnyExit (each_way (λ _ w. gives unset w) return_exit o)
+returned_ran g s B z r w o q = each_way_ran (λ _. adds _ (λ w1. stays (history w1))) (λ x. adds _ (λ w1. exit_after x w1)) q (λ _ w1 a. went (returned_by g s B z w w1 (Return ∷ r) z.depth r refl a)) (λ x w1 e. returned_exit g s B z w x w1 e)
 
-valued_ran : (g : Setting) (s : State) (B : Account) (z : Sit) (r : List Stmt) (w : World) (o : Outcome Value) → Ran g s B (Has g s B z (ReturnItem ∷ r) (z.depth + 1) w) (Out g s B z w) o → Ran g s B (Yielded g s B z w) AnyExit o
-valued_ran g s B z r w (gives v w1) (inl q) = inl (record {
+valued_by : (g : Setting) (s : State) (B : Account) (z : Sit) (r : List Stmt) (w : World) (v : Value) (w1 : World) → Has g s B z (ReturnItem ∷ r) (z.depth + 1) w v w1 → Yielded g s B z w v w1
+valued_by g s B z r w v w1 q = record {
   control = ReturnItem ∷ r;
   depth1 = z.depth + 1;
   result = Some (content_of (q.arr.cells1 (z.frame + z.depth)));
   arr = q.arr;
   stands = q.stands;
   leaves = λ c p e1 e0. return_item_step g.program (there g s B z (ReturnItem ∷ r) (z.depth + 1) w w1 q.arr) z.scene.own r z.depth c p refl e1 e0;
-})
-valued_ran g s B z r w (gives v w1) (inr f) = inr f
-valued_ran g s B z r w (leaves x w1) (inl q) = inl tt
-valued_ran g s B z r w (leaves x w1) (inr f) = inr f
-valued_ran g s B z r w (ends e w1) q = q
-valued_ran g s B z r w undefined q = inl tt
-valued_ran g s B z r w (going w1) q = q
+}
 
 abbrev pub turns_of_body : Body → ℕ
 turns_of_body (command x) = turns_through (alone x)
@@ -124,13 +103,8 @@ pub body_runs : (g : Setting) (m : Meanings) → Simulates g m → AloneRuns g m
 body_runs g m sim alone_runs (command x) z c w laid r =
     returned_ran g (start z c w) (for_body (command x) w) z laid.1 w (scope_of m (alone x) forwards z.env w) (alone_runs x z laid.0 c (Return ∷ laid.1) w laid.2 r)
 body_runs g m sim alone_runs (expression e) z c w laid r =
-    let s = start z c w in
-    let A = for_value e w in
-    let B = for_body (expression e) w in
-    valued_ran g s B z laid.0 w (m.value e z.env w)
-    (ran_first g s A B z w (Has g s A z (ReturnItem ∷ laid.0) (z.depth + 1) w) (Has g s B z (ReturnItem ∷ laid.0) (z.depth + 1) w) (m.value e z.env w) (omega arith) (omega arith)
-    (λ v w1 q. record { arr = arrived_more g s A B z.scene.own z.frame w.calls (z.frame + z.depth) (store z w) (ReturnItem ∷ laid.0) (z.depth + 1) w1 (omega arith) (omega arith) q.arr; stands = q.stands })
-    (value_run g m sim e z c (ReturnItem ∷ laid.0) w laid.1 r))
+    so (omega arith) (omega arith) (λ v w1 q. valued_by g (start z c w) (for_body (expression e) w) z laid.0 w v w1 (record { arr = arrived_more (omega arith) (omega arith) q.arr; stands = q.stands })) (λ x w1 q. tt)
+    (value_run g m sim e z c (ReturnItem ∷ laid.0) w laid.1 r)
 
 -- ---- histories
 
@@ -138,23 +112,8 @@ pub body_after : (m : Meanings) → Throughout (λ A w u. After (history w) u) m
     → After (history w) (run_body m b env w)
 body_after m grows alone_after (command x) env w =
     each_way_after _ (scope_of m (alone x) forwards env w) _ return_exit (alone_after x env w) (λ _. adds _ (λ w. stays (history w))) (λ y. adds _ (λ w. exit_after y w))
-  where
-    exit_after : (y : Exit) (w : World) → After (history w) (return_exit y w)
-    exit_after return w = stays (history w)
-    exit_after break w = stays (history w)
-    exit_after loop w = stays (history w)
-    exit_after endcase w = stays (history w)
-    exit_after (goto l) w = stays (history w)
-    exit_after (result v) w = stays (history w)
 body_after m grows alone_after (expression e) env w = grows.value e env w
 
 -- what was made for the call dies
-pub closing_ran : {T : Type 0} (g : Setting) (s : State) (B : Account) (k : ℕ) (K L : T → World → Type 0) (o : Outcome T) → ((t : T) (w : World) → K t w → L t (forgetting k w)) → Ran g s B K AnyExit o
-    → Ran g s B L AnyExit (closing k o)
-closing_ran g s B k K L (gives a w) h (inl q) = inl (h a w q)
-closing_ran g s B k K L (gives a w) h (inr f) = inr f
-closing_ran g s B k K L (leaves x w) h (inl q) = inl tt
-closing_ran g s B k K L (leaves x w) h (inr f) = inr f
-closing_ran g s B k K L (ends e w) h q = q
-closing_ran g s B k K L undefined h q = inl tt
-closing_ran g s B k K L (going w) h q = q
+pub closing_ran : {T : Type 0} {g : Setting} {s : State} {B : Account} {K L : T → World → Type 0} {o : Outcome T} (k : ℕ) → ((t : T) (w : World) → K t w → L t (forgetting k w)) → Ran g s B K AnyExit o → Ran g s B L AnyExit (closing k o)
+closing_ran k h q = each_way_ran (λ t. adds _ (λ w. stays (history w))) (λ x. adds _ (λ w. stays (history w))) q (λ t w i. went (h t w i)) (λ x w i. went tt)

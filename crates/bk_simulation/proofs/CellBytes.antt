@@ -19,9 +19,8 @@ IsByte (Some x) = x < 2 ^ 8
 
 -- so are those of a word of which some are set
 abbrev pub AreBytes : Content → Type 0
-AreBytes Unset = Unit {0}
 AreBytes (Partly b0 b1 b2 b3) = IsByte b0 × IsByte b1 × IsByte b2 × IsByte b3
-AreBytes (Word w) = Unit {0}
+AreBytes _ = Unit {0}
 
 pub byte_is : (x : Content) (i : ℕ) → AreBytes x → IsByte (byte_in x i)
 byte_is Unset i are = tt
@@ -69,10 +68,6 @@ module _ (codes : Codes) (bases : List ℕ) where
 
   pub byte_same : (c : Cell_of) (x : Content) (i b : ℕ) → StandsCell codes bases c x → i < 4 → value.byte_in c i ≡ Some b → byte_in x i ≡ Some b
   byte_same (holds (number n)) x i b s lt e = ap (λ y. byte_in y i) s ∙ e
-  byte_same (holds (address o k)) x i b s lt e = absurd (cc)
-  byte_same (holds (procedure n)) x i b s lt e = absurd (cc)
-  byte_same (holds (routine r)) x i b s lt e = absurd (cc)
-  byte_same (holds unset) x i b s lt e = absurd (cc)
   byte_same (places p q r t) x zero b s lt e = there p b (byte_in x 0) s.0 e
     where
       there : (p : Option ℕ) (b : ℕ) (f : Option ℕ) → HoldsByte p f → p ≡ Some b → f ≡ Some b
@@ -94,6 +89,7 @@ module _ (codes : Codes) (bases : List ℕ) where
       there (Some a) b f h e = h ∙ e
       there None b f h e = absurd (cc)
   byte_same (places p q r t) x (suc (suc (suc (suc i)))) b s lt e = absurd (omega arith)
+  byte_same _ x i b s lt e = absurd (cc)
 
   -- ---- setting one
 
@@ -134,11 +130,9 @@ module _ (codes : Codes) (bases : List ℕ) where
       → StandsCell codes bases d (with_byte x i b)
   byte_set (holds (number n)) x i b d s are small e =
       subst (λ y. StandsCell codes bases y (with_byte x i b)) (some_cell _ d e) (ap (λ y. with_byte y i b) s ∙ number_stands n i b)
-  byte_set (holds (address o k)) x i b d s are small e = absurd (cc)
-  byte_set (holds (procedure n)) x i b d s are small e = absurd (cc)
-  byte_set (holds (routine r)) x i b d s are small e = absurd (cc)
   byte_set (holds unset) x i b d s are small e = set_stands None None None None x i b d tt tt tt tt are small e
   byte_set (places p q r t) x i b d s are small e = set_stands p q r t x i b d s.0 s.1 s.2 s.3 are small e
+  byte_set _ x i b d s are small e = absurd (cc)
 
 -- ---- at an address
 
@@ -146,7 +140,7 @@ module _ (codes : Codes) (bases : List ℕ) where
 further : (b k d : ℕ) → ((b + k) % 2 ^ 32 + d) % 2 ^ 32 ≡ (b + (k + d) % 2 ^ 32) % 2 ^ 32
 further b k d = omega arith
 
-word_number : (w n : ℕ) → Word w ≡ Word n → w ≡ n
+pub word_number : (w n : ℕ) → Word w ≡ Word n → w ≡ n
 word_number w n e = cc
 
 pub byte_address : (codes : Codes) (bases : List ℕ) (a : Value) (s i : ℕ) → Stands codes bases a (Word s) → ((o k : ℕ) → a ≡ address o k → Stands codes bases (cell_of_byte a i) (Word (word_sum s (byte_distance i))))
@@ -156,17 +150,11 @@ byte_address codes bases (address o k) s i st o1 k1 e = (
   (let z : (k + byte_distance i) % 2 ^ 32 < 2 ^ 32 = omega arith in z),
   ap (λ y. Word (word_sum y (byte_distance i))) (word_number s ((st.0 + k) % 2 ^ 32) st.3) ∙ ap Word (further st.0 k (byte_distance i)),
 )
-byte_address codes bases (number n) s i st o1 k1 e = absurd (cc)
-byte_address codes bases (procedure n) s i st o1 k1 e = absurd (cc)
-byte_address codes bases (routine r) s i st o1 k1 e = absurd (cc)
-byte_address codes bases unset s i st o1 k1 e = absurd (cc)
+byte_address codes bases _ s i st o1 k1 e = absurd (cc)
 
 set_word : (codes : Codes) (bases : List ℕ) (a : Value) (x : Content) (o k : ℕ) → a ≡ address o k → Stands codes bases a x → (w : ℕ) × (x ≡ Word w)
 set_word codes bases (address o1 k1) x o k e st = ((st.0 + k1) % 2 ^ 32, st.3)
-set_word codes bases (number n) x o k e st = absurd (cc)
-set_word codes bases (procedure n) x o k e st = absurd (cc)
-set_word codes bases (routine r) x o k e st = absurd (cc)
-set_word codes bases unset x o k e st = absurd (cc)
+set_word codes bases _ x o k e st = absurd (cc)
 
 -- the cell in which a byte lies, in the store
 pub record ByteCell (codes : Codes) (h : Store) (top : ℕ) (a : Value) (i : ℕ) (x : Content) (c : Cell_of) : Type 0 where
@@ -185,9 +173,7 @@ byte_cell codes h top (address o k) i x c f st e =
           (byte_address codes h.bases (address o k) w.0 i (subst (λ y. Stands codes h.bases (address o k) y) w.1 st) o k refl) e;
     }
 byte_cell codes h top (number n) i x c f st e = absurd (let z : None ≡ Some c = e in cc)
-byte_cell codes h top (procedure n) i x c f st e = absurd (let z : None ≡ Some c = e in cc)
-byte_cell codes h top (routine r) i x c f st e = absurd (let z : None ≡ Some c = e in cc)
-byte_cell codes h top unset i x c f st e = absurd (let z : None ≡ Some c = e in cc)
+byte_cell codes h top _ i x c f st e = absurd (let z : None ≡ Some c = e in cc)
 
 variable_there : (codes : Codes) (h : Store) (top p : ℕ) (a : Value) (c : Cell_of) (g : FoundAt codes h top a (Word p) c) → variable_at top h.cells p ≡ Some g.cell.content
 variable_there codes h top p a c g =
@@ -221,10 +207,7 @@ read_byte_at codes h top a (number i) x y b f st sv e = by_cell (cell_at h.mem (
           reads = ap (λ z. option_and_then (λ content. byte_in content (byte_place i)) z) (variable_there codes h top (word_sum g.word (byte_distance i)) (cell_of_byte a i) c g.there)
               ∙ byte_same codes h.bases c g.there.cell.content (byte_place i) b g.there.cell.stands (place_low i) e;
         }
-read_byte_at codes h top a (address o k) x y b f st sv e = absurd (let z : None ≡ Some b = e in cc)
-read_byte_at codes h top a (procedure n) x y b f st sv e = absurd (let z : None ≡ Some b = e in cc)
-read_byte_at codes h top a (routine r) x y b f st sv e = absurd (let z : None ≡ Some b = e in cc)
-read_byte_at codes h top a unset x y b f st sv e = absurd (let z : None ≡ Some b = e in cc)
+read_byte_at codes h top a _ x y b f st sv e = absurd (let z : None ≡ Some b = e in cc)
 
 -- a byte that is set
 pub record ByteSet (codes : Codes) (top : ℕ) (h : Store) (x y z : Content) (mem1 : Memory) : Type 0 where
@@ -282,10 +265,7 @@ write_byte_at codes h top a (number i) (number b) x y z mem1 are f st sv su e = 
             by_address : (a : Value) → Stands codes h.bases a x → cell_of_byte a i ≡ address g.there.object g.there.offset → (w : ℕ) → x ≡ Word w
                 → Stands codes h.bases (cell_of_byte a i) (Word (word_sum w (byte_distance i)))
             by_address (address o k) st e w ew = byte_address codes h.bases (address o k) w i (subst (λ y. Stands codes h.bases (address o k) y) ew st) o k refl
-            by_address (number n) st e w ew = absurd (cc)
-            by_address (procedure n) st e w ew = absurd (cc)
-            by_address (routine r) st e w ew = absurd (cc)
-            by_address unset st e w ew = absurd (cc)
+            by_address _ st e w ew = absurd (cc)
 
     by_cell : (d : Option Cell_of) → cell_at h.mem (cell_of_byte a i) ≡ d
         → option_and_then (λ c. option_and_then (λ d. with_cell h.mem (cell_of_byte a i) d) (value.with_byte c (byte_place i) (b % 256))) d ≡ Some mem1 → ByteSet codes top h x y z mem1

@@ -18,15 +18,12 @@ use Rattle.bk_meaning.proofs.After.{adds, stays}
 use Rattle.bk_simulation.proofs.StatementSteps.{finish_step}
 use Rattle.bk_simulation.proofs.Sizes.{turns_of, turns_in}
 use Rattle.bk_simulation.proofs.Laid.{Setting, goal_named, IsLabelHere, LabelAt, IsValue, IsAct, PlaceOf}
-use Rattle.bk_simulation.proofs.Frame.{Sit, store, start, Ready, Account, paying, here, Stopped, Handed, Ran, ArrivedAt, Leads, still, Out, next, ready_next}
-use Rattle.bk_simulation.proofs.Compose.{stay, arrived_more, arrived_on, ran_on, ran_first}
-use Rattle.bk_simulation.proofs.Simulates.{Simulates, for_value, for_act, Did}
-use Rattle.bk_simulation.proofs.ControlSteps.{label_on, result_on}
+use Rattle.bk_simulation.proofs.Frame.{Sit, start, Ready, Account, here, Stopped, Handed, went, ArrivedAt, Leads, still, next, ready_next}
+use Rattle.bk_simulation.proofs.Compose.{stay, arrived_more, comes_to, ran_first}
+use Rattle.bk_simulation.proofs.Simulates.{Simulates, for_value, for_act, Did, RanDid}
+use Rattle.bk_simulation.proofs.ControlSteps.{landed_on, result_on}
 use Rattle.bk_simulation.proofs.Operands.{one_run}
 use Rattle.bk_simulation.proofs.Orders.{by_test, or_second}
-
-abbrev pub RanDid : Setting → State → Account → Sit → List Stmt → World → Outcome Done → Type 0
-RanDid g s B z rest w o = Ran g s B (λ _ w1. Did g s B z rest w w1) (Out g s B z w) o
 
 -- GO: a label is gone to, from where the exit is caught
 abbrev no_result : Exit → Type 0
@@ -34,28 +31,16 @@ no_result (result v) = ⊥
 no_result _ = Unit {0}
 
 nothing_handed : (g : Setting) (bases : List ℕ) (x : Exit) (h : Option Content) → no_result x → Handed g bases x h
-nothing_handed g bases break h n = tt
-nothing_handed g bases loop h n = tt
-nothing_handed g bases endcase h n = tt
-nothing_handed g bases (goto y) h n = tt
-nothing_handed g bases return h n = tt
 nothing_handed g bases (result v) h n = absurd n
+nothing_handed g bases _ h n = tt
 
 few_left : (x : Exit) → still x ≤ 2
 few_left break = omega arith
-few_left loop = omega arith
-few_left endcase = omega arith
-few_left (goto y) = omega arith
-few_left (result v) = omega arith
-few_left return = omega arith
+few_left _ = omega arith
 
-pub left_here : (g : Setting) (B : Account) (z : Sit) (x : Exit) (c : List Stmt) (w : World) → 16 * w.turns + 2 ≤ B.most → B.least ≤ w.turns → Ready g z w → no_result x → Leads z.scene x c → RanDid g (start z c w) B z [] w (leaves x w)
+pub left_here : {rest : List Stmt} (g : Setting) (B : Account) (z : Sit) (x : Exit) (c : List Stmt) (w : World) → 16 * w.turns + 2 ≤ B.most → B.least ≤ w.turns → Ready g z w → no_result x → Leads z.scene x c → RanDid g (start z c w) B z rest w (leaves x w)
 left_here g B z x c w le le' r n l = let f = few_left x in
-    inl (record { control = c; depth1 = z.depth; leads = l; arr = stay g B z c w (omega arith) le' r; later = omega arith; hands = nothing_handed g z.bases x z.hand n })
-
--- what does not end where it began does not matter
-pub leaves_anywhere : (g : Setting) (s : State) (B : Account) (z : Sit) (rest rest1 : List Stmt) (x : Exit) (w w1 : World) → RanDid g s B z rest w (leaves x w1) → RanDid g s B z rest1 w (leaves x w1)
-leaves_anywhere g s B z rest rest1 x w w1 r = r
+    went (record { control = c; depth1 = z.depth; leads = l; arr = stay g B z c w (omega arith) le' r; later = omega arith; hands = nothing_handed g z.bases x z.hand n })
 
 pub goto_runs : (g : Setting) (B : Account) (z : Sit) (y : List ℕ) (c rest : List Stmt) (w : World) → 16 * w.turns + 2 ≤ B.most → B.least ≤ w.turns → c ≡ go (goal_named z.scene y) z.depth ++ rest → IsLabelHere (bound_in z.scene.bindings y)
     → Ready g z w → RanDid g (start z c w) B z rest w (leaves (goto y) w)
@@ -78,7 +63,7 @@ return_runs g B z c rest w le le' ec r = left_here g B z return c w le le' r tt 
 
 pub finish_runs : (g : Setting) (B : Account) (z : Sit) (c rest : List Stmt) (w : World) → 16 * w.turns + 1 ≤ B.most → c ≡ Finish ∷ rest → RanDid g (start z c w) B z rest w (ends (status 0) w)
 finish_runs g B z c rest w le ec =
-    inl (subst (λ l. Stopped g (start z l w) B (status 0) w) (sym ec)
+    went (subst (λ l. Stopped g (start z l w) B (status 0) w) (sym ec)
     (record { to = start z (Finish ∷ rest) w; steps = 0; paid = 0; comes = here _; most = omega arith; end = Status (pos 0); is_end = refl; stops = finish_step g.program (start z (Finish ∷ rest) w) z.scene.own rest z.depth refl; wrote = refl; left = refl }))
 
 -- RESULTIS
@@ -86,29 +71,19 @@ pub resultis_runs : (g : Setting) (m : Meanings) → Simulates g m → (B : Acco
     → IsValue g z.scene z.depth z.env e c (GiveResult z.scene.around.valof ∷ rest) → from_label z.scene.own.stmts z.scene.around.valof ≡ Some to → Ready g z w
     → RanDid g (start z c w) B z rest w (with (m.value e z.env w) (λ v w. leaves (result v) w))
 resultis_runs g m sim B e z to c rest w le le' l f r =
-    let s = start z c w in
     one_run g m sim B e z c (GiveResult z.scene.around.valof ∷ rest) w _ _ (λ u. adds _ (λ w1. stays (history w1))) (omega arith) le' l r (λ u w1 q pos.
-    let dp = r.deep in
-    let a = result_on g s (for_value e w) z z.scene.around.valof to rest w w1 u dp f q in
-    let b = arrived_more g s (paying g (for_value e w)) B z.scene.own z.frame w.calls (z.frame + z.depth) (store z w) to z.depth w1 (omega arith) (omega arith) a in
+    let b : ArrivedAt g (start z c w) B z to z.depth w w1 = arrived_more (omega arith) (omega arith) (result_on r f q) in
     let bm = b.most in
-    inl (record { control = to; depth1 = z.depth; leads = f; arr = b; later = omega arith; hands = (content_of (q.arr.cells1 (z.frame + z.depth)), refl, q.stands) }))
+    went (record { control = to; depth1 = z.depth; leads = f; arr = b; later = omega arith; hands = (content_of (q.arr.cells1 (z.frame + z.depth)), refl, q.stands) }))
 
 -- ---- a place that may be sought, and the command behind it
 behind_place : (g : Setting) (m : Meanings) → Simulates g m → (B : Account) (a : Action) (z : Sit) (n : ℕ) (at1 : Sought → List Stmt) (c1 rest : List Stmt) (w : World) → 16 * w.turns + 1 ≤ B.most → B.least ≤ w.turns - turns_in a
     → IsAct g z.scene z.depth z.env a at1 c1 rest → LabelAt g z.scene z.depth n c1 → Ready g z w → RanDid g (start z (Label n ∷ c1) w) B z rest w (m.act a forwards z.env w)
 behind_place g m sim B a z n at1 c1 rest w le le' l ln r =
     let s = start z (Label n ∷ c1) w in
-    let dp = r.deep in
-    let A0 : Account = record { most = 16 * w.turns; least = w.turns } in
     let A : Account = record { most = 16 * w.turns + 1; least = w.turns } in
-    let ar : ArrivedAt g s A z c1 z.depth w w = arrived_more g s (paying g A0) A z.scene.own z.frame w.calls (z.frame + z.depth) (store z w) c1 z.depth w (omega arith) (omega arith)
-    (label_on g s A0 z.scene z.frame w.calls (z.frame + z.depth) (store z w) z.depth z.depth n c1 w (omega arith) ln (stay g A0 z (Label n ∷ c1) w (omega arith) (omega arith) r)) in
-    let z1 = next g s A z c1 z.depth w w z.env z.depth ar in
-    let r1 = ready_next g s A z c1 z.depth w w z.env z.depth ar refl (omega arith) r in
-    ran_on g s A (for_act a w) B z c1 z.depth w w z.env (λ _ w2. Did g (start z1 c1 w) (for_act a w) z1 rest w w2) (λ _ w2. Did g s B z rest w w2) (m.act a forwards z.env w) (omega arith) (omega arith) r (omega arith) ar
-    (λ _ w2 q. arrived_on g s A (for_act a w) B z c1 rest z.depth z.depth w w w2 z.env (omega arith) (omega arith) r (omega arith) ar q)
-    (sim.act a forwards z1 at1 c1 rest c1 w l refl r1)
+    let ar : ArrivedAt g s A z c1 z.depth w w = landed_on (omega arith) (omega arith) ln (stay g (record { most = 16 * w.turns; least = w.turns }) z (Label n ∷ c1) w (omega arith) (omega arith) r) in
+    comes_to (omega arith) (omega arith) r (omega arith) ar (sim.act a forwards (next g s A z c1 z.depth w w z.env z.depth ar) at1 c1 rest c1 w l refl (ready_next z.env z.depth ar refl (omega arith) r))
 
 abbrev pub EnteredPlace : Mode → Environment → Sought → Action → (Sought → List Stmt) → List Stmt → List Stmt → Type 0
 EnteredPlace forwards env spot a at c e = e ≡ c
@@ -125,6 +100,5 @@ place_run g m sim B spot a (seeking s) z at c rest e w le le' l en r =
     (subst (λ y. RanDid g (start z y w) B z rest w (m.act a forwards z.env w)) (sym (en.1 ∙ l.6 s ∙ ap (λ (b : Bool). cond b c (l.2 s)) h ∙ l.3)) (behind_place g m sim B a z l.0 l.2 l.1 rest w le le' l.4 l.5 r)))
     (λ (h : same_place s spot ≡ false).
     subst (λ (b : Bool). RanDid g (start z e w) B z rest w (m.act a (cond b forwards (seeking s)) z.env w)) (sym h)
-    (ran_first g (start z e w) (for_act a w) B z w _ _ (m.act a (seeking s) z.env w) (omega arith) (omega arith)
-    (λ _ w1 q. arrived_more g (start z e w) (for_act a w) B z.scene.own z.frame w.calls (z.frame + z.depth) (store z w) rest z.depth w1 (omega arith) (omega arith) q)
+    (ran_first (omega arith) (omega arith) (λ _ w1 q. arrived_more (omega arith) (omega arith) q)
     (sim.act a (seeking s) z l.2 l.1 rest e w l.4 (or_second (same_place s spot) (stands_in s z.env a) en.0 h, en.1 ∙ l.6 s ∙ ap (λ (b : Bool). cond b c (l.2 s)) h) r)))

@@ -1,23 +1,34 @@
--- How runs compose: a weaker account, a step more, a turn taken, a part behind another.
-use Rattle.std.proofs.Common.{◌≡◌, ℕ, suc, ◌+◌, ◌-◌, ◌*◌, ◌<◌, ◌≤◌, List, ◌∷◌, Option, None, refl, sym, ◌∙◌, subst, arith}
+-- How runs compose: another account, a step more, a part behind another; and parts in which objects are made that die at their end.
+use Rattle.std.proofs.Common.{◌≡◌, ℕ, suc, ◌+◌, ◌-◌, ◌*◌, ◌<◌, ◌≤◌, List, ◌∷◌, length, Option, None, refl, sym, ◌∙◌, subst, arith}
 use Rattle.bk_base.specs.declared.limit.TheConstants.{FRAME_WORDS}
+use Rattle.bk_scope.specs.Scope.{Binding}
 use Rattle.bk_ocode.specs.Cells.{Content, Temporary, Cell, Held, content_of, write, below}
 use Rattle.bk_ocode.specs.OcodeState.{Placed, State}
 use Rattle.bk_ocode.specs.declared.stmt.Stmt.{Stmt}
+use Rattle.bk_trans.specs.declared.around.Around.{Around}
+use Rattle.bk_trans.specs.Naming.{meant}
+use Rattle.bk_trans.specs.Scheme.{goal_in}
 use Rattle.bk_meaning.specs.Values.{Value}
+use Rattle.bk_meaning.specs.Memory.{Memory}
 use Rattle.bk_meaning.specs.Environment.{Environment}
-use Rattle.bk_meaning.specs.World.{World, Exit, Outcome}
+use Rattle.bk_meaning.specs.World.{World, Exit, goto, Outcome, turn, closing, forgetting, remembering}
+use Rattle.bk_meaning.specs.Growing.{history}
+use Rattle.bk_meaning.proofs.After.{adds, stays}
 use Rattle.bk_simulation.proofs.Moves.{Moves}
 use Rattle.bk_simulation.proofs.FramesKept.{LinksFrom, links_kept}
 use Rattle.bk_simulation.proofs.BytesKept.{moves_bytes}
-use Rattle.bk_simulation.proofs.Memory.{Like, like_on, Stands, Store, Fits, moved_refl, moved_on, fits_above, fits_less, moved_less, stands_grown}
+use Rattle.bk_simulation.proofs.Memory.{Like, like_on, Stands, Store, Moved, Fits, moved_refl, moved_on, fits_above, fits_more, fits_less, moved_less, moved_above, stands_grown}
+use Rattle.bk_simulation.proofs.MadeObjects.{make, Since, since_refl, since_on, since_cells, since_moved, since_made, closed_moved, closed_fits}
 use Rattle.bk_simulation.proofs.WrittenCells.{pushed_like, pushed_at}
-use Rattle.bk_simulation.proofs.Laid.{Setting, Scene}
-use Rattle.bk_simulation.proofs.Frame.{Sit, store, state, start, FewFrames, Ready, Account, further, paying, here, comes_on, one, Ran, ran_from, Arrived, ArrivedAt, there, Has, Exited, Out, next}
+use Rattle.bk_simulation.proofs.Laid.{Setting, Scene, Exits, IsLabelHere, KeepsLabels}
+use Rattle.bk_simulation.proofs.Frame.{Sit, store, state, start, NamedIn, FewFrames, Ready, Account, further, paying, Comes, here, comes_on, one, Ran, went, each_way_ran, ran_from, so, turn_behind, Arrived, ArrivedAt, OpenArrived, store_at, there, Has, GoesTo, Leads, Exited, Out, next}
+
+-- ---- one arrival
 
 -- nothing was done yet
-abbrev pub stay : (g : Setting) (B : Account) (z : Sit) (c : List Stmt) (w : World) → 16 * w.turns ≤ B.most → B.least ≤ w.turns → Ready g z w → ArrivedAt g (start z c w) B z c z.depth w w
-stay g B z c w le le' r = record {
+abbrev pub begun : {g : Setting} {z : Sit} {w : World} (B : Account) (R : Store → Type 0) (d : ℕ) (c : List Stmt) → 16 * w.turns ≤ B.most → B.least ≤ w.turns → Ready g z w → R (store z w)
+    → Arrived g (state z.scene.own d c z.cells z.frame z.hand z.written w) B z.scene.own z.frame w.calls (z.frame + z.depth) R c d w
+begun {z = z} B R d c le le' r same = record {
   steps = 0;
   paid = 0;
   bases1 = z.bases;
@@ -32,50 +43,11 @@ stay g B z c w le le' r = record {
   room = r.room;
   bytes = record { words = r.words; hand = r.in_hand };
   fits = r.fits;
-  moved = moved_refl _ _;
+  moved = same;
 }
 
--- within a larger account
-abbrev pub arrived_more : (g : Setting) (s : State) (B N : Account) (own : Placed) (frame calls top : ℕ) (h : Store) (c : List Stmt) (d : ℕ) (w1 : World) → B.most ≤ N.most → N.least ≤ B.least
-    → Arrived g s B own frame calls top h c d w1 → Arrived g s N own frame calls top h c d w1
-arrived_more g s B N own frame calls top h c d w1 le le' a = let m = a.most in let l = a.least in record {
-  steps = a.steps;
-  paid = a.paid;
-  bases1 = a.bases1;
-  cells1 = a.cells1;
-  hand1 = a.hand1;
-  written1 = a.written1;
-  comes = a.comes;
-  most = omega arith;
-  least = omega arith;
-  calls_are = a.calls_are;
-  frames = a.frames;
-  room = a.room;
-  bytes = a.bytes;
-  fits = a.fits;
-  moved = a.moved;
-}
-
--- the same at a lower top
-abbrev pub lowered : (g : Setting) (s : State) (B : Account) (own : Placed) (frame calls top0 top : ℕ) (h : Store) (c : List Stmt) (d : ℕ) (w1 : World) → Fits g.codes h top → top ≤ top0
-    → Arrived g s B own frame calls top0 h c d w1 → Arrived g s B own frame calls top h c d w1
-lowered g s B own frame calls top0 top h c d w1 f le a = record {
-  steps = a.steps;
-  paid = a.paid;
-  bases1 = a.bases1;
-  cells1 = a.cells1;
-  hand1 = a.hand1;
-  written1 = a.written1;
-  comes = a.comes;
-  most = a.most;
-  least = a.least;
-  calls_are = a.calls_are;
-  frames = a.frames;
-  room = a.room;
-  bytes = a.bytes;
-  fits = fits_less g.codes h _ top top0 f (moved_less h _ top top0 le a.moved) a.fits;
-  moved = moved_less h _ top top0 le a.moved;
-}
+abbrev pub stay : (g : Setting) (B : Account) (z : Sit) (c : List Stmt) (w : World) → 16 * w.turns ≤ B.most → B.least ≤ w.turns → Ready g z w → ArrivedAt g (start z c w) B z c z.depth w w
+stay g B z c w le le' r = begun B (Moved (z.frame + z.depth) (store z w)) z.depth c le le' r (moved_refl _ _)
 
 -- no more frames than may be
 pub roomy : (g : Setting) (cells : ℕ → Cell) (frame n : ℕ) → FewFrames g cells frame n → n ≤ g.cap → FewFrames g cells frame g.cap
@@ -85,139 +57,262 @@ roomy g cells frame n f le m h = let x = f m h in omega arith
 pub links_like : (frame top : ℕ) (old new : ℕ → Cell) → suc frame < top → ((x : ℕ) → x < top → Like (new x) (old x)) → LinksFrom (suc frame) old new
 links_like frame top old new lt like x w le e = (like x (omega arith)).link w e
 
--- A step that leaves the words below the top as they are, with what it pays.
-abbrev pub arrived_paid : (g : Setting) (s : State) (B : Account) (own : Placed) (frame calls top : ℕ) (h : Store) (c c2 : List Stmt) (d d2 : ℕ) (w1 : World) (a : Arrived g s B own frame calls top h c d w1)
-    (cells2 : ℕ → Cell) (hand2 : Option Content) (written2 : List ℕ) → suc frame < top → ((x : ℕ) → x < top → Like (cells2 x) (a.cells1 x))
-    → Moves g.program (state own d c a.cells1 frame a.hand1 a.written1 w1) (state own d2 c2 cells2 frame hand2 written2 w1) → Arrived g s (paying g B) own frame calls top h c2 d2 w1
-arrived_paid g s B own frame calls top h c c2 d d2 w1 a cells2 hand2 written2 lt like e =
-    let m = a.most in
-    let l = a.least in
-    let f = links_kept g.program g.first FRAME_WORDS a.cells1 cells2 frame calls (links_like frame top a.cells1 cells2 lt like) a.frames in
-    record {
-      steps = a.steps + 1;
-      paid = a.paid + g.pay;
-      bases1 = a.bases1;
-      cells1 = cells2;
-      hand1 = hand2;
-      written1 = written2;
-      comes = comes_on g _ _ _ _ _ _ _ a.comes (one g _ _ e (roomy g cells2 frame calls f a.room));
-      most = omega arith;
-      least = omega arith;
-      calls_are = a.calls_are;
-      frames = f;
-      room = a.room;
-      bytes = moves_bytes g.program _ _ e a.bytes;
-      fits = fits_above g.codes _ top cells2 a.fits like;
-      moved = record {
+-- the words below the situation's top have the links
+pub links_below : {g : Setting} {z : Sit} {w : World} → Ready g z w → suc z.frame < z.frame + z.depth
+links_below r = let dp = r.deep in omega arith
+
+module _ {g : Setting} {s : State} {own : Placed} {frame calls top : ℕ} {c : List Stmt} {d : ℕ} {w1 : World} where
+  -- in another account, with other turns left
+  abbrev pub accounted : {R : Store → Type 0} {B N : Account} (n : ℕ) (a : Arrived g s B own frame calls top R c d w1) → a.steps + 16 * n ≤ N.most → N.least ≤ n + a.paid → Arrived g s N own frame calls top R c d (record w1 { turns = n })
+  accounted n a le le' = record {
+    steps = a.steps;
+    paid = a.paid;
+    bases1 = a.bases1;
+    cells1 = a.cells1;
+    hand1 = a.hand1;
+    written1 = a.written1;
+    comes = a.comes;
+    most = le;
+    least = le';
+    calls_are = a.calls_are;
+    frames = a.frames;
+    room = a.room;
+    bytes = a.bytes;
+    fits = a.fits;
+    moved = a.moved;
+  }
+
+  -- with other objects, which fit below another top
+  abbrev pub with_objects : {R : Store → Type 0} {B : Account} (bases2 : List ℕ) (mem2 : Memory) (top2 : ℕ) (R2 : Store → Type 0) (a : Arrived g s B own frame calls top R c d w1) → Fits g.codes (record { bases = bases2; mem = mem2; cells = a.cells1 }) top2
+      → R2 (record { bases = bases2; mem = mem2; cells = a.cells1 }) → Arrived g s B own frame calls top2 R2 c d (remembering mem2 w1)
+  with_objects bases2 mem2 top2 R2 a fits moved = record {
+    steps = a.steps;
+    paid = a.paid;
+    bases1 = bases2;
+    cells1 = a.cells1;
+    hand1 = a.hand1;
+    written1 = a.written1;
+    comes = a.comes;
+    most = a.most;
+    least = a.least;
+    calls_are = a.calls_are;
+    frames = a.frames;
+    room = a.room;
+    bytes = a.bytes;
+    fits = fits;
+    moved = moved;
+  }
+
+  -- a step further, with what it pays
+  abbrev pub stepped : {R : Store → Type 0} {B : Account} (mem2 : Memory) (top2 : ℕ) (R2 : Store → Type 0) (c2 : List Stmt) (d2 : ℕ) (a : Arrived g s B own frame calls top R c d w1) (cells2 : ℕ → Cell) (hand2 : Option Content) (written2 : List ℕ)
+      → LinksFrom (suc frame) a.cells1 cells2 → Fits g.codes (record { bases = a.bases1; mem = mem2; cells = cells2 }) top2 → R2 (record { bases = a.bases1; mem = mem2; cells = cells2 })
+      → Moves g.program (state own d c a.cells1 frame a.hand1 a.written1 w1) (state own d2 c2 cells2 frame hand2 written2 w1) → Arrived g s (paying g B) own frame calls top2 R2 c2 d2 (remembering mem2 w1)
+  stepped mem2 top2 R2 c2 d2 a cells2 hand2 written2 links fits moved e =
+      let m = a.most in
+      let l = a.least in
+      let f = links_kept g.program g.first FRAME_WORDS a.cells1 cells2 frame calls links a.frames in
+      record {
+        steps = a.steps + 1;
+        paid = a.paid + g.pay;
+        bases1 = a.bases1;
+        cells1 = cells2;
+        hand1 = hand2;
+        written1 = written2;
+        comes = comes_on g _ _ _ _ _ _ _ a.comes (one g _ _ e (roomy g cells2 frame calls f a.room));
+        most = omega arith;
+        least = omega arith;
+        calls_are = a.calls_are;
+        frames = f;
+        room = a.room;
+        bytes = (let b = moves_bytes g.program _ _ e a.bytes in record { words = b.words; hand = b.hand });
+        fits = fits;
+        moved = moved;
+      }
+
+  -- what follows: it has N for itself, and the two together have B
+  abbrev pub behind : {R R1 : Store → Type 0} {A N B : Account} {calls1 top1 d2 : ℕ} {c2 : List Stmt} {w2 : World} (top2 : ℕ) (R2 : Store → Type 0) → A.most + N.most ≤ B.most + 16 * w1.turns → B.least ≤ N.least + (A.least - w1.turns) → calls1 ≡ w1.calls
+      → (a : Arrived g s A own frame calls top R c d w1) (b : Arrived g (state own d c a.cells1 frame a.hand1 a.written1 w1) N own frame calls1 top1 R1 c2 d2 w2) → Fits g.codes (store_at b) top2 → R2 (store_at b) → Arrived g s B own frame calls top2 R2 c2 d2 w2
+  behind top2 R2 le1 le2 ec a b fits moved = let m = a.most in let n = b.most in let ml = a.least in let nl = b.least in record {
+    steps = a.steps + b.steps;
+    paid = a.paid + b.paid;
+    bases1 = b.bases1;
+    cells1 = b.cells1;
+    hand1 = b.hand1;
+    written1 = b.written1;
+    comes = comes_on g _ _ _ _ _ _ _ a.comes b.comes;
+    most = omega arith;
+    least = omega arith;
+    calls_are = b.calls_are ∙ ec ∙ a.calls_are;
+    frames = subst (λ n. FewFrames g b.cells1 frame n) (ec ∙ a.calls_are) b.frames;
+    room = subst (λ n. n ≤ g.cap) (ec ∙ a.calls_are) b.room;
+    bytes = b.bytes;
+    fits = fits;
+    moved = moved;
+  }
+
+  -- within a larger account
+  abbrev pub arrived_more : {R : Store → Type 0} {B N : Account} → B.most ≤ N.most → N.least ≤ B.least → Arrived g s B own frame calls top R c d w1 → Arrived g s N own frame calls top R c d w1
+  arrived_more le le' a = let m = a.most in let l = a.least in accounted w1.turns a (omega arith) (omega arith)
+
+  -- a turn is taken there
+  abbrev pub arrived_turn : {R : Store → Type 0} {B N : Account} (n : ℕ) → w1.turns ≡ suc n → B.most ≤ N.most + 16 → N.least ≤ B.least - 1 → Arrived g s B own frame calls top R c d w1 → Arrived g s N own frame calls top R c d (record w1 { turns = n })
+  arrived_turn n e le le' a = let m = a.most in let l = a.least in accounted n a (omega arith) (omega arith)
+
+  pub turn_there : {T : Type 0} {R : Store → Type 0} {A B : Account} {K : T → World → Type 0} {X : Exit → World → Type 0} (go : World → Outcome T) → A.most ≤ B.most → B.least ≤ A.least → (a : Arrived g s A own frame calls top R c d w1)
+      → ((n : ℕ) → w1.turns ≡ suc n → Ran g s B K X (go (record w1 { turns = n }))) → Ran g s B K X (turn w1 go)
+  turn_there go le le' a h = let m = a.most in let l = a.least in turn_behind a.steps a.paid w1 go a.comes (omega arith) (omega arith) refl refl h
+
+  -- a step that leaves the words below the top as they are, which pays
+  abbrev pub arrived_paid : {h : Store} {B : Account} {c2 : List Stmt} {d2 : ℕ} (a : Arrived g s B own frame calls top (Moved top h) c d w1) (cells2 : ℕ → Cell) (hand2 : Option Content) (written2 : List ℕ) → suc frame < top
+      → ((x : ℕ) → x < top → Like (cells2 x) (a.cells1 x)) → Moves g.program (state own d c a.cells1 frame a.hand1 a.written1 w1) (state own d2 c2 cells2 frame hand2 written2 w1) → Arrived g s (paying g B) own frame calls top (Moved top h) c2 d2 w1
+  arrived_paid {h} {c2 = c2} {d2 = d2} a cells2 hand2 written2 lt like e = stepped w1.memory top (Moved top h) c2 d2 a cells2 hand2 written2 (links_like frame top a.cells1 cells2 lt like) (fits_above g.codes _ top cells2 a.fits like)
+      (record {
         grown = a.moved.grown;
         within = a.moved.within;
         kept = record { as_was = λ x lx no. like_on _ _ _ (like x lx) (a.moved.kept.as_was x lx no) };
         links = λ x w lx k. a.moved.links x w lx ((like x lx).link w k);
-      };
-    }
+      }) e
 
 -- the same, where it need not pay
-abbrev pub arrived_step : (g : Setting) (s : State) (B : Account) (own : Placed) (frame calls top : ℕ) (h : Store) (c c2 : List Stmt) (d d2 : ℕ) (w1 : World) (a : Arrived g s B own frame calls top h c d w1)
-    (cells2 : ℕ → Cell) (hand2 : Option Content) (written2 : List ℕ) → suc frame < top → ((x : ℕ) → x < top → Like (cells2 x) (a.cells1 x))
-    → Moves g.program (state own d c a.cells1 frame a.hand1 a.written1 w1) (state own d2 c2 cells2 frame hand2 written2 w1) → Arrived g s (further 1 B) own frame calls top h c2 d2 w1
-arrived_step g s B own frame calls top h c c2 d d2 w1 a cells2 hand2 written2 lt like e =
-    arrived_more g s (paying g B) (further 1 B) own frame calls top h c2 d2 w1 (omega arith) (omega arith) (arrived_paid g s B own frame calls top h c c2 d d2 w1 a cells2 hand2 written2 lt like e)
+abbrev pub arrived_step : {g : Setting} {s : State} {B : Account} {own : Placed} {frame calls top : ℕ} {h : Store} {c c2 : List Stmt} {d d2 : ℕ} {w1 : World} (a : Arrived g s B own frame calls top (Moved top h) c d w1) (cells2 : ℕ → Cell) (hand2 : Option Content)
+    (written2 : List ℕ) → suc frame < top → ((x : ℕ) → x < top → Like (cells2 x) (a.cells1 x)) → Moves g.program (state own d c a.cells1 frame a.hand1 a.written1 w1) (state own d2 c2 cells2 frame hand2 written2 w1)
+    → Arrived g s (further 1 B) own frame calls top (Moved top h) c2 d2 w1
+arrived_step a cells2 hand2 written2 lt like e = arrived_more (omega arith) (omega arith) (arrived_paid a cells2 hand2 written2 lt like e)
 
--- a turn is taken there
-abbrev pub arrived_turn : (g : Setting) (s : State) (B N : Account) (own : Placed) (frame calls top : ℕ) (h : Store) (c : List Stmt) (d : ℕ) (w1 : World) (n : ℕ) → w1.turns ≡ suc n → B.most ≤ N.most + 16 → N.least ≤ B.least - 1
-    → Arrived g s B own frame calls top h c d w1 → Arrived g s N own frame calls top h c d (record w1 { turns = n })
-arrived_turn g s B N own frame calls top h c d w1 n e le le' a = let m = a.most in let l = a.least in record {
-  steps = a.steps;
-  paid = a.paid;
-  bases1 = a.bases1;
-  cells1 = a.cells1;
-  hand1 = a.hand1;
-  written1 = a.written1;
-  comes = a.comes;
-  most = omega arith;
-  least = omega arith;
-  calls_are = a.calls_are;
-  frames = a.frames;
-  room = a.room;
-  bytes = record { words = a.bytes.words; hand = a.bytes.hand };
-  fits = a.fits;
-  moved = a.moved;
-}
+-- ---- what follows an arrival
 
--- What follows an arrival: it has N for itself, and the two together have B.
-abbrev pub arrived_on : (g : Setting) (s : State) (A N B : Account) (z : Sit) (c c2 : List Stmt) (d1 d2 : ℕ) (w w1 w2 : World) (env : Environment) → A.most + N.most ≤ B.most + 16 * w1.turns
-    → B.least ≤ N.least + (A.least - w1.turns) → Ready g z w → z.depth ≤ d1 → (a : ArrivedAt g s A z c d1 w w1)
-    → ArrivedAt g (start (next g s A z c d1 w w1 env d1 a) c w1) N (next g s A z c d1 w w1 env d1 a) c2 d2 w1 w2 → ArrivedAt g s B z c2 d2 w w2
-arrived_on g s A N B z c c2 d1 d2 w w1 w2 env le1 le2 r le a b = let m = a.most in let n = b.most in let ml = a.least in let nl = b.least in record {
-  steps = a.steps + b.steps;
-  paid = a.paid + b.paid;
-  bases1 = b.bases1;
-  cells1 = b.cells1;
-  hand1 = b.hand1;
-  written1 = b.written1;
-  comes = comes_on g _ _ _ _ _ _ _ a.comes b.comes;
-  most = omega arith;
-  least = omega arith;
-  calls_are = b.calls_are ∙ a.calls_are;
-  frames = subst (λ n. FewFrames g b.cells1 z.frame n) a.calls_are b.frames;
-  room = subst (λ n. n ≤ g.cap) a.calls_are b.room;
-  bytes = b.bytes;
-  fits = fits_less g.codes _ _ (z.frame + z.depth) (z.frame + d1) a.fits (moved_less _ _ (z.frame + z.depth) (z.frame + d1) (omega arith) b.moved) b.fits;
-  moved = moved_on g.codes (z.frame + z.depth) (z.frame + z.depth) (z.frame + d1) _ _ _ r.fits (omega arith) a.moved b.moved;
-}
+abbrev pub arrived_on : {g : Setting} {s : State} {A N B : Account} {z : Sit} {c c2 : List Stmt} {d1 d2 : ℕ} {w w1 w2 : World} → A.most + N.most ≤ B.most + 16 * w1.turns → B.least ≤ N.least + (A.least - w1.turns) → Ready g z w → z.depth ≤ d1
+    → (a : ArrivedAt g s A z c d1 w w1) → ArrivedAt g (start (next g s A z c d1 w w1 z.env d1 a) c w1) N (next g s A z c d1 w w1 z.env d1 a) c2 d2 w1 w2 → ArrivedAt g s B z c2 d2 w w2
+arrived_on {g} {z = z} {d1 = d1} {w = w} le1 le2 r le a b = behind (z.frame + z.depth) (Moved (z.frame + z.depth) (store z w)) le1 le2 refl a b
+    (fits_less g.codes _ _ (z.frame + z.depth) (z.frame + d1) a.fits (moved_less _ _ (z.frame + z.depth) (z.frame + d1) (omega arith) b.moved) b.fits)
+    (moved_on g.codes (z.frame + z.depth) (z.frame + z.depth) (z.frame + d1) _ _ _ r.fits (omega arith) a.moved b.moved)
 
-pub out_on : (g : Setting) (s : State) (A N B : Account) (z : Sit) (c : List Stmt) (d1 : ℕ) (w w1 w2 : World) (env : Environment) (x : Exit) → A.most + N.most ≤ B.most + 16 * w1.turns
-    → B.least ≤ N.least + (A.least - w1.turns) → Ready g z w → z.depth ≤ d1 → (a : ArrivedAt g s A z c d1 w w1)
-    → Out g (start (next g s A z c d1 w w1 env d1 a) c w1) N (next g s A z c d1 w w1 env d1 a) w1 x w2 → Out g s B z w x w2
-out_on g s A N B z c d1 w w1 w2 env x le1 le2 r le a b = let m = a.most in let l = b.later in record {
-  control = b.control;
-  depth1 = b.depth1;
-  leads = b.leads;
-  arr = arrived_on g s A N B z c b.control d1 b.depth1 w w1 w2 env le1 le2 r le a b.arr;
-  later = omega arith;
-  hands = b.hands;
-}
+pub out_on : {g : Setting} {s : State} {A N B : Account} {z : Sit} {c : List Stmt} {d1 : ℕ} {w w1 w2 : World} {x : Exit} → A.most + N.most ≤ B.most + 16 * w1.turns → B.least ≤ N.least + (A.least - w1.turns) → Ready g z w → z.depth ≤ d1
+    → (a : ArrivedAt g s A z c d1 w w1) → Out g (start (next g s A z c d1 w w1 z.env d1 a) c w1) N (next g s A z c d1 w w1 z.env d1 a) w1 x w2 → Out g s B z w x w2
+out_on le1 le2 r le a b = let m = a.most in let l = b.later in
+    record { control = b.control; depth1 = b.depth1; leads = b.leads; arr = arrived_on le1 le2 r le a b.arr; later = omega arith; hands = b.hands }
 
 -- the part of a run that follows an arrival
-pub ran_on : {T : Type 0} (g : Setting) (s : State) (A N B : Account) (z : Sit) (c : List Stmt) (d1 : ℕ) (w w1 : World) (env : Environment) (K L : T → World → Type 0) (o : Outcome T) → A.most + N.most ≤ B.most + 16 * w1.turns
-    → B.least ≤ N.least + (A.least - w1.turns) → Ready g z w → z.depth ≤ d1 → (a : ArrivedAt g s A z c d1 w w1) → ((t : T) (w2 : World) → K t w2 → L t w2)
-    → Ran g (start (next g s A z c d1 w w1 env d1 a) c w1) N K (Out g (start (next g s A z c d1 w w1 env d1 a) c w1) N (next g s A z c d1 w w1 env d1 a) w1) o → Ran g s B L (Out g s B z w) o
-ran_on g s A N B z c d1 w w1 env K L o le1 le2 r le a h q = let m = a.most in let l = a.least in
-    ran_from g s _ a.steps a.paid N B K L _ (Out g s B z w) o a.comes (omega arith) (omega arith) h (λ x w2 k. out_on g s A N B z c d1 w w1 w2 env x le1 le2 r le a k) q
+pub ran_on : {T : Type 0} {g : Setting} {s : State} {A N B : Account} {z : Sit} {c : List Stmt} {d1 : ℕ} {w w1 : World} {K L : T → World → Type 0} {o : Outcome T} → A.most + N.most ≤ B.most + 16 * w1.turns → B.least ≤ N.least + (A.least - w1.turns)
+    → Ready g z w → z.depth ≤ d1 → (a : ArrivedAt g s A z c d1 w w1) → ((t : T) (w2 : World) → K t w2 → L t w2)
+    → Ran g (start (next g s A z c d1 w w1 z.env d1 a) c w1) N K (Out g (start (next g s A z c d1 w w1 z.env d1 a) c w1) N (next g s A z c d1 w w1 z.env d1 a) w1) o → Ran g s B L (Out g s B z w) o
+ran_on le1 le2 r le a h q = let m = a.most in let l = a.least in ran_from a.comes (omega arith) (omega arith) h (λ x w2 k. out_on le1 le2 r le a k) q
+
+-- what follows comes to a place too
+pub comes_to : {T : Type 0} {g : Setting} {s : State} {A N B : Account} {z : Sit} {c : List Stmt} {d1 d2 : ℕ} {w w1 : World} {to : T → List Stmt} {o : Outcome T} → A.most + N.most ≤ B.most + 16 * w1.turns → B.least ≤ N.least + (A.least - w1.turns)
+    → Ready g z w → z.depth ≤ d1 → (a : ArrivedAt g s A z c d1 w w1)
+    → Ran g (start (next g s A z c d1 w w1 z.env d1 a) c w1) N (λ t w2. ArrivedAt g (start (next g s A z c d1 w w1 z.env d1 a) c w1) N (next g s A z c d1 w w1 z.env d1 a) (to t) d2 w1 w2)
+    (Out g (start (next g s A z c d1 w w1 z.env d1 a) c w1) N (next g s A z c d1 w w1 z.env d1 a) w1) o → Ran g s B (λ t w2. ArrivedAt g s B z (to t) d2 w w2) (Out g s B z w) o
+comes_to le1 le2 r le a q = ran_on le1 le2 r le a (λ t w2 b. arrived_on le1 le2 r le a b) q
 
 -- an exit, and the first part of a run, within a larger account
-pub out_more : (g : Setting) (s : State) (N B : Account) (sc : Scene) (frame calls top : ℕ) (h : Store) (x : Exit) (w1 : World) → N.most ≤ B.most → B.least ≤ N.least
-    → Exited g s N sc frame calls top h x w1 → Exited g s B sc frame calls top h x w1
-out_more g s N B sc frame calls top h x w1 le le' a = let l = a.later in record {
-  control = a.control;
-  depth1 = a.depth1;
-  leads = a.leads;
-  arr = arrived_more g s N B sc.own frame calls top h a.control a.depth1 w1 le le' a.arr;
-  later = omega arith;
-  hands = a.hands;
-}
+pub out_more : {g : Setting} {s : State} {N B : Account} {sc : Scene} {frame calls top : ℕ} {R : Store → Type 0} {x : Exit} {w1 : World} → N.most ≤ B.most → B.least ≤ N.least
+    → Exited g s N sc frame calls top R x w1 → Exited g s B sc frame calls top R x w1
+out_more le le' a = let l = a.later in record { control = a.control; depth1 = a.depth1; leads = a.leads; arr = arrived_more le le' a.arr; later = omega arith; hands = a.hands }
 
-pub ran_first : {T : Type 0} (g : Setting) (s : State) (N B : Account) (z : Sit) (w : World) (K L : T → World → Type 0) (o : Outcome T) → N.most ≤ B.most → B.least ≤ N.least
-    → ((t : T) (w1 : World) → K t w1 → L t w1) → Ran g s N K (Out g s N z w) o → Ran g s B L (Out g s B z w) o
-ran_first g s N B z w K L o le le' h q =
-    ran_from g s s 0 0 N B K L (Out g s N z w) (Out g s B z w) o (here s) (omega arith) (omega arith) h (λ x w1 k. out_more g s N B z.scene z.frame w.calls (z.frame + z.depth) (store z w) x w1 le le' k) q
+-- an exit, seen from where other exits are around
+pub outside : {g : Setting} {s : State} {N B : Account} (sc : Scene) {a : Around} {e : Exits} {frame calls top : ℕ} {R : Store → Type 0} {x : Exit} {w1 : World} → N.most ≤ B.most → B.least ≤ N.least
+    → (o : Exited g s N (record sc { around = a; exits = e }) frame calls top R x w1) → Leads sc x o.control → Exited g s B sc frame calls top R x w1
+outside {N = N} sc le le' o l = out_more {N = N} le le' (record { control = o.control; depth1 = o.depth1; leads = l; arr = o.arr; later = o.later; hands = o.hands })
+
+pub ran_first : {T : Type 0} {g : Setting} {s : State} {N B : Account} {sc : Scene} {frame calls top : ℕ} {R : Store → Type 0} {K L : T → World → Type 0} {o : Outcome T} → N.most ≤ B.most → B.least ≤ N.least → ((t : T) (w1 : World) → K t w1 → L t w1)
+    → Ran g s N K (Exited g s N sc frame calls top R) o → Ran g s B L (Exited g s B sc frame calls top R) o
+ran_first le le' h q = so le le' h (λ x w1 k. out_more le le' k) q
+
+pub ran_more : {T : Type 0} {g : Setting} {s : State} {N B : Account} {sc : Scene} {frame calls top : ℕ} {R : Store → Type 0} {K : T → World → Type 0} {o : Outcome T} → N.most ≤ B.most → B.least ≤ N.least
+    → Ran g s N K (Exited g s N sc frame calls top R) o → Ran g s B K (Exited g s B sc frame calls top R) o
+ran_more le le' q = ran_first le le' (λ t w1 k. k) q
 
 -- An item takes the place of those from the top on.
-pub topped : (g : Setting) (s : State) (A B : Account) (z : Sit) (c rest : List Stmt) (d : ℕ) (w w1 : World) (v : Value) (x : Content) → A.most + 1 ≤ B.most → B.least ≤ A.least → 2 ≤ z.depth → (a : ArrivedAt g s A z c d w w1)
+pub topped : {g : Setting} {s : State} {A B : Account} {z : Sit} {c rest : List Stmt} {d : ℕ} {w w1 : World} {v : Value} (x : Content) → A.most + 1 ≤ B.most → B.least ≤ A.least → 2 ≤ z.depth → (a : ArrivedAt g s A z c d w w1)
     → Stands g.codes a.bases1 v x
     → Moves g.program (there g s A z c d w w1 a) (state z.scene.own (z.depth + 1) rest (below (z.frame + (z.depth + 1)) (write a.cells1 (z.frame + z.depth) (Held Temporary x))) z.frame None ((z.frame + z.depth) ∷ a.written1) w1)
     → Has g s B z rest (z.depth + 1) w v w1
-topped g s A B z c rest d w w1 v x le le' dp a st e = record {
-  arr = arrived_more g s (further 1 A) B z.scene.own z.frame w.calls (z.frame + z.depth) (store z w) rest (z.depth + 1) w1 le le'
-      (arrived_step g s A z.scene.own z.frame w.calls (z.frame + z.depth) (store z w) c rest d (z.depth + 1) w1 a (below (z.frame + (z.depth + 1)) (write a.cells1 (z.frame + z.depth) (Held Temporary x))) None
-      ((z.frame + z.depth) ∷ a.written1) (omega arith) (λ y ly. pushed_like z.frame z.depth a.cells1 (Held Temporary x) y ly) e);
+topped {g} {z = z} {v = v} x le le' dp a st e = record {
+  arr = arrived_more le le' (arrived_step a (below (z.frame + (z.depth + 1)) (write a.cells1 (z.frame + z.depth) (Held Temporary x))) None ((z.frame + z.depth) ∷ a.written1) (omega arith)
+      (λ y ly. pushed_like z.frame z.depth a.cells1 (Held Temporary x) y ly) e);
   stands = subst (λ y. Stands g.codes a.bases1 v (content_of y)) (sym (pushed_at z.frame z.depth a.cells1 (Held Temporary x))) st;
 }
 
 -- the item on top is still there behind what follows above it
-pub above : (g : Setting) (s : State) (A N : Account) (z : Sit) (c c2 : List Stmt) (d2 : ℕ) (w w1 w2 : World) (env : Environment) (v : Value) (a : Has g s A z c (z.depth + 1) w v w1)
-    (b : ArrivedAt g (start (next g s A z c (z.depth + 1) w w1 env (z.depth + 1) a.arr) c w1) N (next g s A z c (z.depth + 1) w w1 env (z.depth + 1) a.arr) c2 d2 w1 w2)
+pub above : {g : Setting} {s : State} {A N : Account} {z : Sit} {c c2 : List Stmt} {d2 : ℕ} {w w1 w2 : World} {v : Value} (a : Has g s A z c (z.depth + 1) w v w1)
+    (b : ArrivedAt g (start (next g s A z c (z.depth + 1) w w1 z.env (z.depth + 1) a.arr) c w1) N (next g s A z c (z.depth + 1) w w1 z.env (z.depth + 1) a.arr) c2 d2 w1 w2)
     → Stands g.codes b.bases1 v (content_of (b.cells1 (z.frame + z.depth)))
-above g s A N z c c2 d2 w w1 w2 env v a b =
+above {g} {z = z} {v = v} a b =
     let like = b.moved.kept.as_was (z.frame + z.depth) (omega arith) (λ o n b1 i l e lt. let u = a.arr.fits.below o n b1 l e in omega arith) in
     stands_grown g.codes a.arr.bases1 b.bases1 v _ b.moved.grown (subst (λ y. Stands g.codes a.arr.bases1 v y) (sym like.content) a.stands)
+
+-- ---- runs during which objects are made that die at the end
+
+pub record OpenExited (g : Setting) (s : State) (B : Account) (z : Sit) (w : World) (x : Exit) (w1 : World) : Type 0 where
+  pub more : ℕ
+  pub is : Exited g s B z.scene z.frame w.calls more (Since (z.frame + z.depth) (store z w)) x w1
+
+-- the situation there, at a depth and with other names in scope
+abbrev pub open_sit : (g : Setting) (s : State) (B : Account) (z : Sit) (w : World) (c : List Stmt) (depth more : ℕ) (w1 : World) → OpenArrived g s B z w c depth more w1 → List Binding → Environment → Sit
+open_sit g s B z w c depth more w1 a bs env =
+    record { scene = record z.scene { bindings = bs }; env = env; frame = z.frame; bases = a.bases1; cells = a.cells1; hand = a.hand1; written = a.written1; depth = depth }
+
+pub open_ready : {g : Setting} {s : State} {B : Account} {z : Sit} {w : World} {c : List Stmt} {depth : ℕ} {w1 : World} (a : OpenArrived g s B z w c depth (z.frame + depth) w1) (bs : List Binding) (env : Environment)
+    → z.depth ≤ depth → NamedIn (record z.scene { bindings = bs }) env a.bases1 z.frame → Ready g z w → Ready g (open_sit g s B z w c depth (z.frame + depth) w1 a bs env) w1
+open_ready {g} {z = z} a bs env le named r = let dp = r.deep in record {
+  named = named;
+  fits = a.fits;
+  low = r.low;
+  high = r.high;
+  deep = omega arith;
+  frames = subst (λ n. FewFrames g a.cells1 z.frame n) (sym a.calls_are) a.frames;
+  room = subst (λ n. n ≤ g.cap) (sym a.calls_are) a.room;
+  lasts = record { each = λ o b1 e. a.moved.grown.each o b1 (r.lasts.each o b1 e) };
+  words = a.bytes.words;
+  in_hand = a.bytes.hand;
+}
+
+-- a turn is taken on the way
+abbrev pub open_ticked : {g : Setting} {s : State} {A : Account} {own : Placed} {frame calls top : ℕ} {R : Store → Type 0} {c : List Stmt} {d : ℕ} {w1 : World} (n : ℕ) → w1.turns ≡ suc n → Arrived g s A own frame calls top R c d w1
+    → Arrived g s (record { most = A.most - 16; least = A.least - 1 }) own frame calls top R c d (record w1 { turns = n })
+open_ticked n q a = let m = a.most in let l = a.least in accounted n a (omega arith) (omega arith)
+
+-- with room for more words
+abbrev pub open_wider : {g : Setting} {s : State} {B : Account} {own : Placed} {frame calls more more1 : ℕ} {R : Store → Type 0} {c : List Stmt} {d : ℕ} {w1 : World} → more ≤ more1 → Arrived g s B own frame calls more R c d w1 → Arrived g s B own frame calls more1 R c d w1
+open_wider {g} {more = more} {more1 = more1} {R = R} {w1 = w1} le a = with_objects a.bases1 w1.memory more1 R a (fits_more g.codes (store_at a) more more1 le a.fits) a.moved
+
+-- a step that leaves the words below a top as they are
+abbrev pub open_step : {g : Setting} {s : State} {B : Account} {z : Sit} {w : World} {c c2 : List Stmt} {d d2 more : ℕ} {w1 : World} → Ready g z w → z.frame + z.depth ≤ more → (a : OpenArrived g s B z w c d more w1)
+    → (cells2 : ℕ → Cell) (hand2 : Option Content) (written2 : List ℕ) → ((x : ℕ) → x < more → Like (cells2 x) (a.cells1 x))
+    → Moves g.program (state z.scene.own d c a.cells1 z.frame a.hand1 a.written1 w1) (state z.scene.own d2 c2 cells2 z.frame hand2 written2 w1) → OpenArrived g s (further 1 B) z w c2 d2 more w1
+open_step {g} {z = z} {w = w} {c2 = c2} {d2 = d2} {more = more} {w1 = w1} r le a cells2 hand2 written2 like e = let dp = r.deep in
+    arrived_more (omega arith) (omega arith) (stepped w1.memory more (Since (z.frame + z.depth) (store z w)) c2 d2 a cells2 hand2 written2 (links_like z.frame more a.cells1 cells2 (omega arith) like) (fits_above g.codes _ more cells2 a.fits like)
+    (since_on (omega arith) a.moved (since_cells {top = more} (store_at a) like)) e)
+
+-- What follows in a part of its own.
+abbrev pub open_on : {g : Setting} {s : State} {A N B : Account} {z : Sit} {c c2 : List Stmt} {d1 d2 : ℕ} {w w1 w2 : World} → A.most + N.most ≤ B.most + 16 * w1.turns → B.least ≤ N.least + (A.least - w1.turns) → Ready g z w → z.depth ≤ d1
+    → (a : OpenArrived g s A z w c d1 (z.frame + d1) w1) (b : Arrived g (state z.scene.own d1 c a.cells1 z.frame a.hand1 a.written1 w1) N z.scene.own z.frame w1.calls (z.frame + d1) (Moved (z.frame + d1) (store_at a)) c2 d2 w2) → OpenArrived g s B z w c2 d2 (z.frame + d1) w2
+open_on {z = z} {d1 = d1} {w = w} le1 le2 r le a b = behind (z.frame + d1) (Since (z.frame + z.depth) (store z w)) le1 le2 refl a b b.fits (since_on (omega arith) a.moved (since_moved a.fits b.fits b.moved))
+
+-- an exit to where names that are no labels hide none
+pub leads_outwards : (sc : Scene) (bs : List Binding) (x : Exit) (c : List Stmt) → KeepsLabels sc.bindings bs → Leads (record sc { bindings = bs }) x c → Leads sc x c
+leads_outwards sc bs (goto y) c k l = subst (λ b. GoesTo (goal_in sc.targets (meant b)) c × IsLabelHere b) (k y l.1) l
+leads_outwards sc bs _ c k l = l
+
+-- the part of a run that follows
+pub ran_open : {T : Type 0} {g : Setting} {s : State} {A N B : Account} {z : Sit} {c : List Stmt} {d1 : ℕ} {w w1 : World} (bs : List Binding) (env : Environment) {K L : T → World → Type 0} {o : Outcome T} → A.most + N.most ≤ B.most + 16 * w1.turns
+    → B.least ≤ N.least + (A.least - w1.turns) → Ready g z w → z.depth ≤ d1 → KeepsLabels z.scene.bindings bs → (a : OpenArrived g s A z w c d1 (z.frame + d1) w1) → ((t : T) (w2 : World) → K t w2 → L t w2)
+    → Ran g (start (open_sit g s A z w c d1 (z.frame + d1) w1 a bs env) c w1) N K (Out g (start (open_sit g s A z w c d1 (z.frame + d1) w1 a bs env) c w1) N (open_sit g s A z w c d1 (z.frame + d1) w1 a bs env) w1) o
+    → Ran g s B L (OpenExited g s B z w) o
+ran_open {z = z} {d1 = d1} bs env le1 le2 r le k a h q = let m = a.most in let l = a.least in ran_from a.comes (omega arith) (omega arith) h
+    (λ x w2 e. let l = e.later in record {
+      more = z.frame + d1;
+      is = record { control = e.control; depth1 = e.depth1; leads = leads_outwards z.scene bs x e.control k e.leads; arr = open_on le1 le2 r le a e.arr; later = omega arith; hands = e.hands };
+    }) q
+
+-- closing: what was made dies
+abbrev pub closed_arrival : {g : Setting} {s : State} {B : Account} {z : Sit} {w : World} {c : List Stmt} {depth more : ℕ} {w1 : World} → Ready g z w → OpenArrived g s B z w c depth more w1
+    → ArrivedAt g s B z c depth w (forgetting (length w.memory) w1)
+closed_arrival {g} {z = z} {w = w} {more = more} {w1 = w1} r a = with_objects a.bases1 (forgetting (length w.memory) w1).memory (z.frame + z.depth) (Moved (z.frame + z.depth) (store z w)) a
+    (closed_fits g.codes (z.frame + z.depth) more (store z w) (store_at a) r.fits a.moved a.fits) (closed_moved a.moved)
+
+pub closed_ran : {T : Type 0} {g : Setting} {s : State} {B : Account} {z : Sit} {w : World} {K L : T → World → Type 0} {o : Outcome T} → Ready g z w → ((t : T) (w1 : World) → K t w1 → L t (forgetting (length w.memory) w1))
+    → Ran g s B K (OpenExited g s B z w) o → Ran g s B L (Out g s B z w) (closing (length w.memory) o)
+closed_ran r h q = each_way_ran (λ t. adds _ (λ w1. stays (history w1))) (λ x. adds _ (λ w1. stays (history w1))) q (λ t w1 k. went (h t w1 k))
+    (λ x w1 e. went (record { control = e.is.control; depth1 = e.is.depth1; leads = e.is.leads; arr = closed_arrival r e.is.arr; later = e.is.later; hands = e.is.hands }))

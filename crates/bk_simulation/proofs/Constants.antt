@@ -28,20 +28,14 @@ truth_below true = omega arith
 truth_below false = omega arith
 
 named_below : (bs : List Binding) → HasWords bs → (x : List ℕ) (y : Option Bound) (v : ℕ) → bound_in bs x ≡ y → named_word y ≡ Some v → v < 2 ^ 32
-named_below bs h x None v e k = absurd (cc)
-named_below bs h x (Some (b.Constant None)) v e k = absurd (cc)
 named_below bs h x (Some (b.Constant (Some w))) v e k = h x v (e ∙ ap (λ z. Some (b.Constant z)) k)
-named_below bs h x (Some (b.Global g)) v e k = absurd (cc)
-named_below bs h x (Some (b.Static m)) v e k = absurd (cc)
-named_below bs h x (Some (b.Variable j i)) v e k = absurd (cc)
-named_below bs h x (Some (b.Label j m)) v e k = absurd (cc)
+named_below bs h x _ v e k = absurd (cc)
 
 prefix_below : (f : Prefix) (x v : ℕ) → x < 2 ^ 32 → prefix_word f x ≡ Some v → v < 2 ^ 32
-prefix_below q.Contents x v h e = absurd (cc)
-prefix_below q.Address x v h e = absurd (cc)
 prefix_below q.Plus x v h e = below x v h e
 prefix_below q.Minus x v h e = below _ v (mod_below (0 + (2 ^ 32 - x)) (2 ^ 32) (omega arith)) e
 prefix_below q.Not x v h e = below (word_not x) v (omega arith) e
+prefix_below _ x v h e = absurd (cc)
 
 cond_below : (q : Bool) (x v : ℕ) → x < 2 ^ 32 → cond q None (Some x) ≡ Some v → v < 2 ^ 32
 cond_below true x v h e = absurd (cc)
@@ -87,36 +81,27 @@ infix_below o.Add x y v h i e = below _ v (mod_below (x + y) (2 ^ 32) (omega ari
 infix_below o.Subtract x y v h i e = below _ v (mod_below (x + (2 ^ 32 - y)) (2 ^ 32) (omega arith)) e
 infix_below o.Equal x y v h i e = below _ v (truth_below (x == y)) e
 infix_below o.Unequal x y v h i e = below _ v (truth_below (not (x == y))) e
-infix_below o.Less x y v h i e = below _ v (truth_below _) e
-infix_below o.Greater x y v h i e = below _ v (truth_below _) e
-infix_below o.AtMost x y v h i e = below _ v (truth_below _) e
-infix_below o.AtLeast x y v h i e = below _ v (truth_below _) e
 infix_below o.ShiftLeft x y v h i e = if_below (nat_lt y 32) _ v (mod_below (x * 2 ^ y) (2 ^ 32) (omega arith)) e
 infix_below o.ShiftRight x y v h i e = if_below (nat_lt y 32) _ v (let l = div-le_self x (2 ^ y) in omega (arith, h, l)) e
 infix_below o.Both x y v h i e = below _ v (let l = and_le_l x y in omega (arith, h, l)) e
 infix_below o.Either x y v h i e = below _ v (or_lt 32 x y h i) e
 infix_below o.Same x y v h i e = below (word_not (bit_xor x y)) v (omega arith) e
 infix_below o.Differ x y v h i e = below _ v (xor_lt 32 x y h i) e
+infix_below _ x y v h i e = below _ v (truth_below _) e
 
 then_prefix : (f : Prefix) (y : Option ℕ) (v : ℕ) → ((x : ℕ) → y ≡ Some x → x < 2 ^ 32) → option_and_then (prefix_word f) y ≡ Some v → v < 2 ^ 32
 then_prefix f None v h e = absurd (cc)
 then_prefix f (Some x) v h e = prefix_below f x v (h x refl) e
 
 then_infix : (f : Operator) (y z : Option ℕ) (v : ℕ) → ((x : ℕ) → y ≡ Some x → x < 2 ^ 32) → ((x : ℕ) → z ≡ Some x → x < 2 ^ 32) → option_and_then (λ x. option_and_then (infix_word f x) z) y ≡ Some v → v < 2 ^ 32
-then_infix f None z v h i e = absurd (cc)
-then_infix f (Some x) None v h i e = absurd (cc)
 then_infix f (Some x) (Some y) v h i e = infix_below f x y v (h x refl) (i y refl) e
+then_infix f _ _ v h i e = absurd (cc)
 
 pub constant_small : (bs : List Binding) → HasWords bs → (e : Expression) → Regular e → (v : ℕ) → constant_word bs e ≡ Some v → v < 2 ^ 32
 constant_small bs h (t.name l x) r v e = named_below bs h x (bound_in bs x) v refl e
 constant_small bs h (t.number l n) r v e = below n v r e
-constant_small bs h (t.text l x) r v e = absurd (cc)
 constant_small bs h (t.truth l x) r v e = below _ v (truth_below x) e
-constant_small bs h (t.query l) r v e = absurd (cc)
 constant_small bs h (t.parens l x) r v e = constant_small bs h x r v e
 constant_small bs h (t.unary l f x) r v e = then_prefix f (constant_word bs x) v (λ y k. constant_small bs h x r y k) e
 constant_small bs h (t.binary l f m x y) r v e = then_infix f (constant_word bs x) (constant_word bs y) v (λ z k. constant_small bs h x r.0 z k) (λ z k. constant_small bs h y r.1 z k) e
-constant_small bs h (t.choice l m c x y) r v e = absurd (cc)
-constant_small bs h (t.apply l m f es) r v e = absurd (cc)
-constant_small bs h (t.valof l c) r v e = absurd (cc)
-constant_small bs h (t.table l es) r v e = absurd (cc)
+constant_small bs h _ r v e = absurd (cc)

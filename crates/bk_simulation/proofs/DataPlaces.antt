@@ -13,15 +13,13 @@ use Rattle.bk_simulation.proofs.LastingFits.{in_datum}
 
 -- how many data stand before a statement of a section,
 abbrev number_in : Placement → List Stmt → ℕ → ℕ
-number_in places [] i = 0
-number_in places (x ∷ xs) zero = 0
 number_in places (x ∷ xs) (suc i) = length (datum_of places x xs) + number_in places xs i
+number_in places _ _ = 0
 
 -- and of a program
 abbrev number_of : List Placed → ℕ → ℕ → ℕ
-number_of [] k n = n
-number_of (x ∷ xs) zero n = n
 number_of (x ∷ xs) (suc k) n = length (data_of x.places x.stmts) + number_of xs k n
+number_of _ _ n = n
 
 -- a statement with one datum
 record HasDatum (places : Placement) (stmts : List Stmt) (i : ℕ) (d : Datum) : Type 0 where

@@ -12,7 +12,7 @@ use Rattle.bk_ocode.specs.OcodeStep.{slot, can_be_called}
 use Rattle.bk_ocode.specs.declared.stmt.Stmt.{Stmt}
 use Rattle.bk_ocode.specs.declared.stmt.Stmt.TheVariants.{Entry}
 use Rattle.bk_meaning.specs.Values.{Value, procedure, unset, Cell as Cell_of, holds}
-use Rattle.bk_meaning.specs.World.{World, making, forgetting, calling, calls_back}
+use Rattle.bk_meaning.specs.World.{World, Outcome, making, forgetting, calling, calls_back}
 use Rattle.bk_meaning.specs.Environment.{Environment}
 use Rattle.bk_meaning.specs.Lasting.{Procedure}
 use Rattle.bk_meaning.specs.Growing.{history, After}
@@ -27,7 +27,7 @@ use Rattle.bk_simulation.proofs.StatementSteps.{entering}
 use Rattle.bk_simulation.proofs.FramesKept.{links_kept, frames_called}
 use Rattle.bk_simulation.proofs.Memory.{BaseOf, Alive, Like, Stands, StandsCell, Store, Grown, Fits, moved_on, fits_above, moved_above, fits_more}
 use Rattle.bk_simulation.proofs.ListPlaces.{get_new}
-use Rattle.bk_simulation.proofs.MadeObjects.{make, grown_made, lying, Opened, opened_refl, opened_made, opened_moved, closed_moved, closed_fits, make_fits, IsFree}
+use Rattle.bk_simulation.proofs.MadeObjects.{make, grown_made, lying, Since, since_on, since_made, since_moved, closed_moved, closed_fits, make_fits, IsFree}
 use Rattle.bk_simulation.proofs.BytesKept.{HasBytes, moves_bytes}
 use Rattle.bk_simulation.proofs.Laid.{Setting, Scene, CallAt}
 use Rattle.bk_simulation.proofs.Frame.{Sit, state, FewFrames, Ready, Account, Comes, here, go_on, comes_on, falls_on, Ran, ran_from, there}
@@ -37,14 +37,11 @@ use Rattle.bk_simulation.proofs.Procedures.{IsProcedure}
 use Rattle.bk_simulation.proofs.Returns.{call_stmt, Gave, returned_in}
 use Rattle.bk_simulation.proofs.NewFrames.{called_cells, saved_cells, called_argument, called_frame, called_back, called_links, saved_links, saved_same, saved_like, saved_formal, formals_long, formal_is}
 use Rattle.bk_simulation.proofs.Calls.{Calling, AnyExit, Yielded, AloneRuns, for_body, body_small, body_runs, body_after, closing_ran}
+use Rattle.bk_simulation.proofs.Orders.{by_test}
 
 pub call_too_high : (n : ℕ) (of : Bool) (rest : List Stmt) → IsCallAt n (call_stmt of n ∷ rest)
 call_too_high n true rest = refl
 call_too_high n false rest = refl
-
-pub by_test : {A : Type 0} (b : Bool) → (b ≡ true → A) → (b ≡ false → A) → A
-by_test true f h = f refl
-by_test false f h = h refl
 
 pub is_above : (i k : ℕ) → nat_lt i k ≡ true → i < k
 is_above i k h = grind (arith, nat_tests)
@@ -78,24 +75,31 @@ links_free g h top b cells a f le lt o n b1 i l e li z =
     ⊎_elim (λ (x : (Alive h.mem o n) × (BaseOf h.bases o b1)). let u = f.below o n b1 x.0 x.1 in absurd (omega arith))
     (λ (x : (o ≡ length h.mem) × (n ≡ length cells) × (b1 ≡ b)). let x2 = x.2 in absurd (omega arith)) (lying h b cells o n b1 f.long l e).lies
 
+-- A call: the run falls where the frame would begin too high or too many calls would be active.
+pub call_run : {of : Bool} {g : Setting} {s : State} {A B : Account} {z : Sit} {rest : List Stmt} {w w1 : World} {vs : List Value} {v : Value} {K : Value → World → Type 0} {o : Outcome Value} → z.depth ≤ FRAME_WORDS → Calling of g s A z rest w vs v w1
+    → After (history (calling w1)) o → (nat_lt (2 ^ 31 - 65536) (z.frame + z.depth) ≡ false → max w1.most_calls (w1.calls + 1) ≤ g.cap → Ran g s B K AnyExit o) → Ran g s B K AnyExit o
+call_run {of} {g} {s} {A} {B} {z} {rest} {w} {w1} {o = o} led ca after inside =
+    by_test (nat_lt (2 ^ 31 - 65536) (z.frame + z.depth))
+    (λ (h : nat_lt (2 ^ 31 - 65536) (z.frame + z.depth) ≡ true). record {
+      is = inr (falls_on g s (calling w1) o (inl (record {
+        to = there g s A z (call_stmt of z.depth ∷ rest) (ca.depth1 + 1) w w1 ca.arr;
+        steps = ca.arr.steps;
+        paid = ca.arr.paid;
+        comes = ca.arr.comes;
+        too_high = record { own = z.scene.own; depth = ca.depth1 + 1; left = call_stmt of z.depth ∷ rest; control = refl; slot = z.depth; within = led; is_call = call_too_high z.depth of rest; past = is_above _ _ h };
+        rest = [];
+        begins = sym (append-nil w1.output);
+      })) after);
+    })
+    (λ (h : nat_lt (2 ^ 31 - 65536) (z.frame + z.depth) ≡ false). by_test (nat_lt g.cap (max w1.most_calls (w1.calls + 1)))
+    (λ (hc : nat_lt g.cap (max w1.most_calls (w1.calls + 1)) ≡ true). record { is = inr (falls_on g s (calling w1) o (inr (is_above _ _ hc)) after) })
+    (λ (hc : nat_lt g.cap (max w1.most_calls (w1.calls + 1)) ≡ false). inside h (is_at_most _ _ hc)))
+
 pub entered_runs : (of : Bool) (g : Setting) (m : Meanings) → Simulates g m → AloneRuns g m → ((x : Action) (env : Environment) (w : World) → After (history w) (scope_of m (alone x) forwards env w))
     → (k : ℕ) (f : Procedure) → IsProcedure g k f → (s : State) (A B : Account) (z : Sit) (rest : List Stmt) (w w1 : World) (vs : List Value) → A.most + 4 ≤ B.most → B.least ≤ A.least → z.depth ≤ FRAME_WORDS
     → Ready g z w → CallAt g z.scene (call_stmt of z.depth) rest → Calling of g s A z rest w vs (procedure k) w1
     → Ran g s B (λ v w3. Gave of g s B z rest w v (calls_back w1.calls w3)) AnyExit (enter m (Some f) vs (calling w1))
-entered_runs of g m sim alone_runs alone_after k f ip s A B z rest w w1 vs leB leB' led r call ca =
-    by_test (nat_lt (2 ^ 31 - 65536) (z.frame + z.depth))
-    (λ (h : nat_lt (2 ^ 31 - 65536) (z.frame + z.depth) ≡ true). inr (falls_on g s (calling w1) (enter m (Some f) vs (calling w1)) (inl (record {
-      to = at_call;
-      steps = ca.arr.steps;
-      paid = ca.arr.paid;
-      comes = ca.arr.comes;
-      too_high = record { own = z.scene.own; depth = ca.depth1 + 1; left = call_stmt of z.depth ∷ rest; control = refl; slot = z.depth; within = led; is_call = call_too_high z.depth of rest; past = is_above _ _ h };
-      rest = [];
-      begins = sym (append-nil w1.output);
-    })) after_it))
-    (λ (h : nat_lt (2 ^ 31 - 65536) (z.frame + z.depth) ≡ false). by_test (nat_lt g.cap (max w1.most_calls (w1.calls + 1)))
-    (λ (hc : nat_lt g.cap (max w1.most_calls (w1.calls + 1)) ≡ true). inr (falls_on g s (calling w1) (enter m (Some f) vs (calling w1)) (inr (is_above _ _ hc)) after_it))
-    (λ (hc : nat_lt g.cap (max w1.most_calls (w1.calls + 1)) ≡ false). inside h (is_at_most _ _ hc)))
+entered_runs of g m sim alone_runs alone_after k f ip s A B z rest w w1 vs leB leB' led r call ca = call_run led ca after_it inside
   where
     top : ℕ
     top = z.frame + z.depth
@@ -201,15 +205,12 @@ entered_runs of g m sim alone_runs alone_after k f ip s A B z rest w w1 vs leB l
         let N = for_body f.body w2 in
         let ma = ca.arr.most in
         let la = ca.arr.least in
-        let K : Value → World → Type 0 = λ v w3. (q : Yielded g s3 N z1 w2 v w3) × Unit {0} in
-        closing_ran g s B o K (λ v w3. Gave of g s B z rest w v (calls_back w1.calls w3)) (run_body m f.body env w2)
-        (λ v w3 q.
-        let q0 = q.0 in
+        closing_ran {K = Yielded g s3 N z1 w2} o
+        (λ v w3 q0.
         let mq = q0.arr.most in
         let lq = q0.arr.least in
         let h3 : Store = record { bases = q0.arr.bases1; mem = w3.memory; cells = q0.arr.cells1 } in
-        let opened : Opened top h1 h3 = opened_moved g.codes top (top + size) (top + size) h1 (make h1 b cells) h3 f1 fm1 q0.arr.fits (omega arith)
-        (opened_made g.codes top b cells h1 h1 f1.long (opened_refl top h1) (omega arith)) q0.arr.moved in
+        let opened : Since top h1 h3 = since_on {h1 = make h1 b cells} (omega arith) (since_made b cells h1 f1.long (omega arith)) (since_moved fm1 q0.arr.fits q0.arr.moved) in
         let kept : (a : ℕ) → top ≤ a → a < b → Like (q0.arr.cells1 a) (c3 a) = λ a ge lt. q0.arr.moved.kept.as_was a (omega arith) (links_free g h1 top b cells a f1 ge lt) in
         let link0 : content_of (q0.arr.cells1 (top + 0)) ≡ Word z.frame =
         ap (λ a. content_of (q0.arr.cells1 a)) (let e : top + 0 ≡ top = omega arith in e) ∙ (kept top (omega arith) (omega arith)).content
@@ -230,10 +231,9 @@ entered_runs of g m sim alone_runs alone_after k f ip s A B z rest w w1 vs leB l
           returns = q0.leaves back z.frame link1 link0;
           fits = closed_fits g.codes top (top + size) h1 h3 f1 opened q0.arr.fits;
           moved = moved_on g.codes top top top _ _ _ r.fits (omega arith) ca.arr.moved
-              (moved_on g.codes top top top _ _ _ ca.arr.fits (omega arith) (moved_above _ top c3 like) (closed_moved g.codes top h1 h3 opened));
+              (moved_on g.codes top top top _ _ _ ca.arr.fits (omega arith) (moved_above _ top c3 like) (closed_moved opened));
         }) q0.stands)
-        (ran_from g s s3 (ca.arr.steps + 3) (ca.arr.paid + (g.pay + (g.pay + (g.pay + 0)))) N B (Yielded g s3 N z1 w2) K AnyExit AnyExit (run_body m f.body env w2)
-        (comes_on g _ _ _ _ _ _ _ ca.arr.comes to_body) (omega arith) (omega arith) (λ v w3 q. (q, tt)) (λ x w3 q. q)
+        (ran_from (comes_on g _ _ _ _ _ _ _ ca.arr.comes to_body) (omega arith) (omega arith) (λ v w3 q. q) (λ x w3 q. q)
         (body_runs g m sim alone_runs f.body z1 ip.body w2 (ip.laid o some_made) r1))
       where
         argument_stands : (i : ℕ) (c : Cell_of) → ((v : Value) × (slice_get vs i ≡ Some v) × (c ≡ holds v)) → i + 2 < size → StandsCell g.codes ca.arr.bases1 c (content_of (c3 (b + i)))

@@ -25,80 +25,32 @@ use Rattle.bk_meaning.specs.Seeking.{Sought}
 use Rattle.bk_meaning.specs.Loops.{step_of, for_test, for_rounds_of, for_loop}
 use Rattle.bk_meaning.proofs.After.{Adds, adds, with_after, given_after, closing_after}
 use Rattle.bk_simulation.proofs.Moves.{store_moves, jump_moves}
-use Rattle.bk_simulation.proofs.Memory.{BaseOf, Alive, Like, like_refl, like_on, Stands, StandsCell, Store, moved_on, fits_above, moved_above, fits_more, stands_grown}
-use Rattle.bk_simulation.proofs.BytesKept.{HasBytes, moves_bytes}
-use Rattle.bk_simulation.proofs.FramesKept.{links_kept}
+use Rattle.bk_simulation.proofs.Memory.{BaseOf, Alive, Like, like_on, Stands, StandsCell, Store, Moved, moved_on, fits_above, fits_more, stands_grown}
 use Rattle.bk_simulation.proofs.ListPlaces.{get_new}
 use Rattle.bk_simulation.proofs.WrittenCells.{below_at, below_like, settle_like, settle_at}
-use Rattle.bk_simulation.proofs.MadeObjects.{make, make_fits, opened_refl, opened_moved, opened_made, grown_made, lying}
+use Rattle.bk_simulation.proofs.MadeObjects.{make, make_fits, Since, since_refl, since_on, since_cells, since_made, grown_made, lying}
 use Rattle.bk_simulation.proofs.Sizes.{turns_of, turns_in}
 use Rattle.bk_simulation.proofs.Laid.{Setting, Scene, in_loop, place_of, IsWord, IsAlone, KeepsLabels, IsLabelHere, LabelAt, IsAct, IsForLoop, behind_body, NameAt}
-use Rattle.bk_simulation.proofs.Frame.{some_objects, Sit, store, state, start, named_grown, FewFrames, Ready, Account, further, paying, one, comes_on, ran_from, ArrivedAt, there, Out, next, ready_next}
-use Rattle.bk_simulation.proofs.Compose.{stay, arrived_more, arrived_on, ran_on, roomy, links_like}
-use Rattle.bk_simulation.proofs.Simulates.{Simulates, Did, Limit, for_counts, where_to}
+use Rattle.bk_simulation.proofs.Frame.{some_objects, Sit, store, state, start, named_grown, Ready, Account, further, went, ran_from, ArrivedAt, OpenArrived, there, next, ready_next}
+use Rattle.bk_simulation.proofs.Compose.{begun, stay, links_like, with_objects, stepped, behind, arrived_more, comes_to, open_sit, open_ready, open_step, open_on, ran_open, closed_ran}
+use Rattle.bk_simulation.proofs.Simulates.{Simulates, Did, Limit, for_counts, where_to, RanDid}
 use Rattle.bk_simulation.proofs.Operands.{for_two, two_run}
-use Rattle.bk_simulation.proofs.ControlSteps.{label_goes, label_on, stack_on}
+use Rattle.bk_simulation.proofs.ControlSteps.{label_on, landed_on, closes}
 use Rattle.bk_simulation.proofs.Orders.{by_test}
 use Rattle.bk_simulation.proofs.NamesBound.{bound_named}
-use Rattle.bk_simulation.proofs.Commands.{RanDid}
-use Rattle.bk_simulation.proofs.Branches.{landed_on}
-use Rattle.bk_simulation.proofs.Openings.{OpenArrived, open_sit, open_ready, open_step, open_more, open_on, ran_open, closed_arrival, closed_ran}
 use Rattle.bk_simulation.proofs.ForSteps.{test_run, test_adds}
 use Rattle.bk_simulation.proofs.ForRounds.{limit_next, for_rounds_run}
 
 -- ---- what follows an arrival in a situation of its own that has not all its items
-joined : (g : Setting) (s : State) (A N B : Account) (z : Sit) (c c2 : List Stmt) (k d2 : ℕ) (w w1 w2 : World) (env : Environment) → A.most + N.most ≤ B.most + 16 * w1.turns → B.least ≤ N.least + (A.least - w1.turns) → Ready g z w
-    → (a : ArrivedAt g s A z c k w w1) → ArrivedAt g (there g s A z c k w w1 a) N (next g s A z c k w w1 env z.depth a) c2 d2 w1 w2 → ArrivedAt g s B z c2 d2 w w2
-joined g s A N B z c c2 k d2 w w1 w2 env le1 le2 r a x = let m = a.most in let n = x.most in let ml = a.least in let nl = x.least in record {
-  steps = a.steps + x.steps;
-  paid = a.paid + x.paid;
-  bases1 = x.bases1;
-  cells1 = x.cells1;
-  hand1 = x.hand1;
-  written1 = x.written1;
-  comes = comes_on g _ _ _ _ _ _ _ a.comes x.comes;
-  most = omega arith;
-  least = omega arith;
-  calls_are = x.calls_are ∙ a.calls_are;
-  frames = subst (λ n. FewFrames g x.cells1 z.frame n) a.calls_are x.frames;
-  room = subst (λ n. n ≤ g.cap) a.calls_are x.room;
-  bytes = x.bytes;
-  fits = x.fits;
-  moved = moved_on g.codes (z.frame + z.depth) (z.frame + z.depth) (z.frame + z.depth) _ _ _ r.fits (omega arith) a.moved x.moved;
-}
+abbrev joined : {g : Setting} {s : State} {A N B : Account} {z : Sit} {c c2 : List Stmt} {k d2 : ℕ} {w w1 w2 : World} → A.most + N.most ≤ B.most + 16 * w1.turns → B.least ≤ N.least + (A.least - w1.turns) → Ready g z w
+    → (a : ArrivedAt g s A z c k w w1) → ArrivedAt g (there g s A z c k w w1 a) N (next g s A z c k w w1 z.env z.depth a) c2 d2 w1 w2 → ArrivedAt g s B z c2 d2 w w2
+joined {g} {z = z} {w = w} le1 le2 r a x = behind (z.frame + z.depth) (Moved (z.frame + z.depth) (store z w)) le1 le2 refl a x x.fits
+    (moved_on g.codes (z.frame + z.depth) (z.frame + z.depth) (z.frame + z.depth) _ _ _ r.fits (omega arith) a.moved x.moved)
 
-joined_out : (g : Setting) (s : State) (A N B : Account) (z : Sit) (c : List Stmt) (k : ℕ) (w w1 w2 : World) (env : Environment) (x : Exit) → A.most + N.most ≤ B.most + 16 * w1.turns → B.least ≤ N.least + (A.least - w1.turns) → Ready g z w
-    → (a : ArrivedAt g s A z c k w w1) → Out g (there g s A z c k w w1 a) N (next g s A z c k w w1 env z.depth a) w1 x w2 → Out g s B z w x w2
-joined_out g s A N B z c k w w1 w2 env x le1 le2 r a e = record {
-  control = e.control;
-  depth1 = e.depth1;
-  leads = e.leads;
-  arr = record {
-    steps = a.steps + e.arr.steps;
-    paid = a.paid + e.arr.paid;
-    bases1 = e.arr.bases1;
-    cells1 = e.arr.cells1;
-    hand1 = e.arr.hand1;
-    written1 = e.arr.written1;
-    comes = comes_on g _ _ _ _ _ _ _ a.comes e.arr.comes;
-    most = (let m = a.most in let n = e.arr.most in omega arith);
-    least = (let m = a.least in let n = e.arr.least in omega arith);
-    calls_are = e.arr.calls_are ∙ a.calls_are;
-    frames = subst (λ n. FewFrames g e.arr.cells1 z.frame n) a.calls_are e.arr.frames;
-    room = subst (λ n. n ≤ g.cap) a.calls_are e.arr.room;
-    bytes = e.arr.bytes;
-    fits = e.arr.fits;
-    moved = moved_on g.codes (z.frame + z.depth) (z.frame + z.depth) (z.frame + z.depth) _ _ _ r.fits (omega arith) a.moved e.arr.moved;
-  };
-  later = (let m = a.most in let n = e.later in omega arith);
-  hands = e.hands;
-}
-
-joined_ran : (g : Setting) (s : State) (A N B : Account) (z : Sit) (c rest : List Stmt) (k : ℕ) (w w1 : World) (env : Environment) (o : Outcome Done) → A.most + N.most ≤ B.most + 16 * w1.turns → B.least ≤ N.least + (A.least - w1.turns) → Ready g z w
-    → (a : ArrivedAt g s A z c k w w1) → RanDid g (there g s A z c k w w1 a) N (next g s A z c k w w1 env z.depth a) rest w1 o → RanDid g s B z rest w o
-joined_ran g s A N B z c rest k w w1 env o le1 le2 r a q = let m = a.most in let l = a.least in
-    ran_from g s _ a.steps a.paid N B _ _ _ (Out g s B z w) o a.comes (omega arith) (omega arith)
-    (λ _ w2 y. joined g s A N B z c rest k z.depth w w1 w2 env le1 le2 r a y) (λ x w2 y. joined_out g s A N B z c k w w1 w2 env x le1 le2 r a y) q
+joined_ran : {g : Setting} {s : State} {A N B : Account} {z : Sit} {c rest : List Stmt} {k : ℕ} {w w1 : World} {o : Outcome Done} → A.most + N.most ≤ B.most + 16 * w1.turns → B.least ≤ N.least + (A.least - w1.turns) → Ready g z w
+    → (a : ArrivedAt g s A z c k w w1) → RanDid g (there g s A z c k w w1 a) N (next g s A z c k w w1 z.env z.depth a) rest w1 o → RanDid g s B z rest w o
+joined_ran le1 le2 r a q = let m = a.most in let l = a.least in ran_from a.comes (omega arith) (omega arith) (λ _ w2 y. joined le1 le2 r a y)
+    (λ x w2 e. let n = e.later in record { control = e.control; depth1 = e.depth1; leads = e.leads; arr = joined le1 le2 r a e.arr; later = omega arith; hands = e.hands }) q
 
 -- ---- the variable
 bound_first : (x : List ℕ) (k : Bound) (bs : List Binding) → bound_in (bind_bound x k bs) x ≡ Some k
@@ -126,21 +78,14 @@ first_test g m sim B x o u k d n1 z body test end n3 w le le' ed lf et l1 l3 few
   where
     fin : (t : Bool) (w2 : World) → ArrivedAt g (start z test w) (record { most = 16 * w.turns + 4; least = w.turns }) z (where_to true t (Label n1 ∷ body) (Label n3 ∷ end)) z.depth w w2
         → RanDid g (start z test w) B z end w (either t (λ w. for_rounds_of m x o u k z.env w) done w2)
-    fin false w2 q = inl (landed_on g (start z test w) (record { most = 16 * w.turns + 4; least = w.turns }) B z n3 end w w2 (omega arith) (omega arith) r.deep l3 q)
+    fin false w2 q = went (landed_on (omega arith) (omega arith) l3 q)
     fin true w2 q =
         let s = start z test w in
-        let dp = r.deep in
-        let A : Account = record { most = 16 * w.turns + 4; least = w.turns } in
         let C : Account = record { most = 16 * w.turns + 5; least = w.turns + g.pay } in
-        let N = for_counts x w2 in
-        let ar : ArrivedAt g s C z body z.depth w w2 = arrived_more g s (paying g A) C z.scene.own z.frame w.calls (z.frame + z.depth) (store z w) body z.depth w2 (omega arith) (omega arith)
-        (label_on g s A z.scene z.frame w.calls (z.frame + z.depth) (store z w) z.depth z.depth n1 body w2 (omega arith) l1 q) in
+        let ar : ArrivedAt g s C z body z.depth w w2 = arrived_more (omega arith) (omega arith) (label_on l1 q) in
         let m0 = ar.most in
-        let z1 = next g s C z body z.depth w w2 z.env z.depth ar in
-        let r1 = ready_next g s C z body z.depth w w2 z.env z.depth ar refl (omega arith) r in
-        ran_on g s C N B z body z.depth w w2 z.env (λ _ w3. Did g (start z1 body w2) N z1 end w2 w3) (λ _ w3. Did g s B z end w w3) (for_rounds_of m x o u k z.env w2) (omega arith) (omega arith) r (omega arith) ar
-        (λ _ w3 y. arrived_on g s C N B z body end z.depth z.depth w w2 w3 z.env (omega arith) (omega arith) r (omega arith) ar y)
-        (for_rounds_run g m sim x o u k d z1 body end w2 ed lf (limit_next g s C z body w w2 d o u ed r lim ar) r1)
+        comes_to (omega arith) (omega arith) r (omega arith) ar
+        (for_rounds_run g m sim x o u k d (next g s C z body z.depth w w2 z.env z.depth ar) body end w2 ed lf (limit_next g s C z body w w2 d o u ed r lim ar) (ready_next z.env z.depth ar refl (omega arith) r))
 
 -- ---- the words above the items become variables, and the lowest an object
 abbrev stored_cells : ℕ → ℕ → (ℕ → Cell) → ℕ → Cell
@@ -153,43 +98,27 @@ stored_at : (frame k x : ℕ) (cells : ℕ → Cell) → frame + 2 ≤ x → x <
 stored_at frame k x cells le lt = below_at (frame + k) (settle (frame + 2) (frame + k) cells) x lt ∙ settle_at (frame + 2) (frame + k) cells x le lt
 
 -- the variable of a FOR is made where its first value stands
-variable_made : (g : Setting) (z : Sit) (w : World) (c : List Stmt) (u : Value) → (r : Ready g z w) → z.depth + 2 ≤ FRAME_WORDS → HasBytes (state z.scene.own (z.depth + 1 + 1) (Store_stmt ∷ c) z.cells z.frame z.hand z.written w)
+variable_made : (g : Setting) (z : Sit) (w : World) (c : List Stmt) (u : Value) → (r : Ready g z w) → z.depth + 2 ≤ FRAME_WORDS
     → Stands g.codes z.bases u (content_of (z.cells (z.frame + z.depth)))
     → OpenArrived g (state z.scene.own (z.depth + 1 + 1) (Store_stmt ∷ c) z.cells z.frame z.hand z.written w) (record { most = 16 * w.turns + 1; least = w.turns }) z w c (z.depth + 1 + 1) (z.frame + (z.depth + 2)) (making (holds u ∷ []) w)
-variable_made g z w c u r room by st =
+variable_made g z w c u r room st =
     let dp = r.deep in
     let lo = r.low in
     let hi = r.high in
     let top = z.frame + z.depth in
     let k = z.depth + 1 + 1 in
-    let s0 = state z.scene.own k (Store_stmt ∷ c) z.cells z.frame z.hand z.written w in
+    let R : Store → Type 0 = Since top (store z w) in
     let cs = stored_cells z.frame k z.cells in
-    let h0 = store z w in
     let h1 : Store = record { bases = z.bases; mem = w.memory; cells = cs } in
     let like : (x : ℕ) → x < top → Like (cs x) (z.cells x) = λ x lx. stored_like z.frame k top z.cells (omega arith) x lx in
-    let f1 = fits_above g.codes h0 top cs r.fits like in
-    let mv = store_moves g.program s0 z.scene.own c k refl in
-    let fr = links_kept g.program g.first FRAME_WORDS z.cells cs z.frame w.calls (links_like z.frame top z.cells cs (omega arith) like) r.frames in
+    let f1 = fits_above g.codes (store z w) top cs r.fits like in
     let here_is = stored_at z.frame k top z.cells (omega arith) (omega arith) in
-    let opened1 = opened_moved g.codes top top top h0 h0 h1 r.fits r.fits f1 (omega arith) (opened_refl top h0) (moved_above h0 top cs like) in
-    record {
-      steps = 1;
-      paid = g.pay;
-      bases1 = z.bases ++ top ∷ [];
-      cells1 = cs;
-      hand1 = None;
-      written1 = z.written;
-      comes = one g _ _ mv (roomy g cs z.frame w.calls fr r.room);
-      most = omega arith;
-      least = omega arith;
-      calls_are = refl;
-      frames = fr;
-      room = r.room;
-      bytes = (let q = moves_bytes g.program _ _ mv by in record { words = q.words; hand = q.hand });
-      fits = fits_more g.codes (make h1 top (holds u ∷ [])) (top + 1) (z.frame + (z.depth + 2)) (omega arith)
-          (make_fits g.codes h1 top top (holds u ∷ []) f1 (omega arith) (omega arith) (omega arith) (λ i cl e. first_cell i cl e here_is) (λ i li. first_variable i li here_is));
-      opened = opened_made g.codes top top (holds u ∷ []) h0 h1 f1.long opened1 (omega arith);
-    }
+    arrived_more (omega arith) (omega arith) (with_objects (z.bases ++ top ∷ []) (making (holds u ∷ []) w).memory (z.frame + (z.depth + 2)) R
+    (stepped w.memory top R c k (begun (record { most = 16 * w.turns; least = w.turns }) R k (Store_stmt ∷ c) (omega arith) (omega arith) r (since_refl (store z w))) cs None z.written (links_like z.frame top z.cells cs (omega arith) like) f1
+    (since_cells (store z w) like) (store_moves g.program (state z.scene.own k (Store_stmt ∷ c) z.cells z.frame z.hand z.written w) z.scene.own c k refl))
+    (fits_more g.codes (make h1 top (holds u ∷ [])) (top + 1) (z.frame + (z.depth + 2)) (omega arith)
+    (make_fits g.codes h1 top top (holds u ∷ []) f1 (omega arith) (omega arith) (omega arith) (λ i cl e. first_cell i cl e here_is) (λ i li. first_variable i li here_is)))
+    (since_on {top1 = top} (omega arith) (since_cells (store z w) like) (since_made top (holds u ∷ []) h1 f1.long (omega arith))))
   where
     first_cell : (i : ℕ) (cl : Cell_of) → slice_get (holds u ∷ []) i ≡ Some cl → stored_cells z.frame (z.depth + 1 + 1) z.cells (z.frame + z.depth) ≡ Held Variable (content_of (z.cells (z.frame + z.depth)))
         → StandsCell g.codes z.bases cl (content_of (stored_cells z.frame (z.depth + 1 + 1) z.cells (z.frame + z.depth + i)))
@@ -221,21 +150,14 @@ limit_free g z w u r o1 n b1 i li eb lt e = ⊎_elim
     (λ (q : (o1 ≡ length w.memory) × (n ≡ 1) × (b1 ≡ z.frame + z.depth)). let q1 = q.1 in let q2 = q.2 in absurd (omega arith))
     (lying (store z w) (z.frame + z.depth) (holds u ∷ []) o1 n b1 r.fits.long li eb).lies
 
--- the variable dies, and the frame is as deep as before
-closes : (g : Setting) (s : State) (D E : Account) (z : Sit) (w : World) (rest : List Stmt) (d2 more : ℕ) (w2 : World) → D.most + 1 ≤ E.most → E.least ≤ D.least → Ready g z w → OpenArrived g s D z w (Stack z.depth ∷ rest) d2 more w2
-    → Did g s E z rest w (forgetting (length w.memory) w2)
-closes g s D E z w rest d2 more w2 le le' r q = let dp = r.deep in
-    arrived_more g s (paying g D) E z.scene.own z.frame w.calls (z.frame + z.depth) (store z w) rest z.depth (forgetting (length w.memory) w2) (omega arith) (omega arith)
-    (stack_on g s D z.scene z.frame w.calls (z.frame + z.depth) (store z w) d2 z.depth rest (forgetting (length w.memory) w2) (omega arith) (omega arith) (closed_arrival g s D z w (Stack z.depth ∷ rest) d2 more w2 r q))
-
 -- the whole loop, behind its two values
 for_opened : (g : Setting) (m : Meanings) → Simulates g m → (l : ℕ) (x : Mention) (a y : Expression) (h : Expressions) (c : Action) (z z0 : Sit) (at : Sought → List Stmt) (c0 rest : List Stmt) (w : World) (u v : Value) (lx : IsAct g z.scene z.depth z0.env (t.for_loop l x a y h c) at c0 rest)
-    → z.env ≡ past y (past a z0.env) → Ready g z w → HasBytes (state z.scene.own (z.depth + 1 + 1) (Store_stmt ∷ Jump lx.0 ∷ Label lx.1 ∷ lx.7) z.cells z.frame z.hand z.written w) → Stands g.codes z.bases u (content_of (z.cells (z.frame + z.depth)))
+    → z.env ≡ past y (past a z0.env) → Ready g z w → Stands g.codes z.bases u (content_of (z.cells (z.frame + z.depth)))
     → Stands g.codes z.bases v (content_of (z.cells (z.frame + (z.depth + 1)))) → ((o : ℕ) → Adds (λ w. for_rounds_of m c o v lx.4 (bind x.letters (cell o 0) z.env) w))
     → RanDid g (state z.scene.own (z.depth + 1 + 1) (Store_stmt ∷ Jump lx.0 ∷ Label lx.1 ∷ lx.7) z.cells z.frame z.hand z.written w) (record { most = 16 * w.turns + 20; least = w.turns - suc (turns_in c) }) z rest w
     (for_loop m x.letters c u v lx.4 z.env w)
 unfolding variable_made
-for_opened g m sim l x a y h c z z0 at c0 rest w u v lx ez r by su sv ad =
+for_opened g m sim l x a y h c z z0 at c0 rest w u v lx ez r su sv ad =
     let dp = r.deep in
     let lo = r.low in
     let room : z.depth + 2 ≤ FRAME_WORDS = lx.18 in
@@ -250,18 +172,16 @@ for_opened g m sim l x a y h c z z0 at c0 rest w u v lx ez r by su sv ad =
     let A3 : Account = record { most = 16 * w.turns + 3; least = w.turns } in
     let D : Account = record { most = 16 * w.turns + 19; least = w.turns - suc (turns_in c) } in
     let E : Account = record { most = 16 * w.turns + 20; least = w.turns - suc (turns_in c) } in
-    let a0 = variable_made g z w (Jump lx.0 ∷ Label lx.1 ∷ lx.7) u r lx.18 by su in
-    let a1 = open_step g s0 A0 z w (Jump lx.0 ∷ Label lx.1 ∷ lx.7) (Label lx.0 ∷ lx.8) (z.depth + 1 + 1) (z.depth + 1 + 1) more w1 r (omega arith) a0 (below (z.frame + (z.depth + 1 + 1)) a0.cells1) None a0.written1
+    let a0 = variable_made g z w (Jump lx.0 ∷ Label lx.1 ∷ lx.7) u r lx.18 su in
+    let a1 : OpenArrived g s0 (further 1 A0) z w (Label lx.0 ∷ lx.8) (z.depth + 1 + 1) more w1 = open_step r (omega arith) a0 (below (z.frame + (z.depth + 1 + 1)) a0.cells1) None a0.written1
     (λ x lx. below_like (z.frame + (z.depth + 1 + 1)) a0.cells1 x (omega arith))
     (jump_moves g.program (state z.scene.own (z.depth + 1 + 1) (Jump lx.0 ∷ Label lx.1 ∷ lx.7) a0.cells1 z.frame a0.hand1 a0.written1 w1) z.scene.own (Label lx.1 ∷ lx.7) (z.depth + 1 + 1) lx.0 (Label lx.0 ∷ lx.8) refl lx.14.found) in
-    let a2 = open_step g s0 (further 1 A0) z w (Label lx.0 ∷ lx.8) lx.8 (z.depth + 1 + 1) d2 more w1 r (omega arith) a1 a1.cells1 a1.hand1 a1.written1 (λ x lx. like_refl _ _ refl)
-    (label_goes g z.scene d2 (z.depth + 1 + 1) lx.0 lx.8 a1.cells1 z.frame a1.hand1 a1.written1 w1 lx.14) in
-    let a3 = open_more g s0 (further 1 (further 1 A0)) A3 z w lx.8 d2 more w1 (omega arith) (omega arith) a2 in
+    let a3 : OpenArrived g s0 A3 z w lx.8 d2 more w1 = arrived_more (omega arith) (omega arith) (label_on lx.14 a1) in
     let is_base : BaseOf a3.bases1 o (z.frame + z.depth) = subst (λ n. slice_get (z.bases ++ (z.frame + z.depth) ∷ []) n ≡ Some (z.frame + z.depth)) r.fits.long (get_new z.bases (z.frame + z.depth)) in
     let names = bound_named z.scene z.env a3.bases1 z.frame x.letters (b.Variable z.scene.procedure z.depth) (cell o 0) (variable_here z.scene a3.bases1 z.frame z.depth o x.letters is_base (omega arith))
     (named_grown z.scene z.env z.bases a3.bases1 z.frame (grown_made z.bases (z.frame + z.depth)) r.named) in
     let z1 = open_sit g s0 A3 z w lx.8 d2 more w1 a3 bs env1 in
-    let r1 = open_ready g s0 A3 z w lx.8 d2 w1 a3 bs env1 (omega arith) names r in
+    let r1 = open_ready a3 bs env1 (omega arith) names r in
     let N : Account = record { most = 16 * w.turns + 16; least = w.turns - suc (turns_in c) } in
     let scope : IsForLoop g z1.scene d2 z.depth lx.4 env1 c lx.7 (Stack z.depth ∷ rest) = (
       lx.0,
@@ -287,11 +207,8 @@ for_opened g m sim l x a y h c z z0 at c0 rest w u v lx ez r by su sv ad =
       limit = subst (λ k. Stands g.codes a3.bases1 v k) (sym like1) (stands_grown g.codes z.bases a3.bases1 v _ (grown_made z.bases (z.frame + z.depth)) sv);
       free = limit_free g z w u r;
     } in
-    closed_ran g s0 E z w (λ _ w2. OpenArrived g s0 D z w (Stack z.depth ∷ rest) d2 more w2) (λ _ w2. Did g s0 E z rest w w2) _ r
-    (λ _ w2 q. closes g s0 D E z w rest d2 more w2 (omega arith) (omega arith) r q)
-    (ran_open g s0 A3 N E z lx.8 d2 w w1 bs env1 (λ _ w2. Did g (start z1 lx.8 w1) N z1 (Stack z.depth ∷ rest) w1 w2) (λ _ w2. OpenArrived g s0 D z w (Stack z.depth ∷ rest) d2 more w2) _ (omega arith) (omega arith) r (omega arith)
-    (variable_keeps x.letters z.scene.procedure z.depth z.scene.bindings) a3
-    (λ _ w2 q. open_on g s0 A3 N D z lx.8 (Stack z.depth ∷ rest) d2 d2 w w1 w2 bs env1 (omega arith) (omega arith) r (omega arith) a3 q)
+    closed_ran {K = λ _ w2. OpenArrived g s0 D z w (Stack z.depth ∷ rest) d2 more w2} r (λ _ w2 q. closes (omega arith) (omega arith) r q)
+    (ran_open bs env1 (omega arith) (omega arith) r (omega arith) (variable_keeps x.letters z.scene.procedure z.depth z.scene.bindings) a3 (λ _ w2 q. open_on (omega arith) (omega arith) r (omega arith) a3 q)
     (first_test g m sim N c o v lx.4 z.depth lx.1 z1 lx.7 lx.8 (Stack z.depth ∷ rest) lx.3 w1 (omega arith) (omega arith) refl scope lx.12 (same_label g z.scene bs d2 lx.1 lx.7 lx.15) (same_label g z.scene bs d2 lx.3 (Stack z.depth ∷ rest) lx.17) lx.19 lx.20 lim (ad o) r1))
 
 -- ---- FOR
@@ -309,10 +226,10 @@ for_run g m sim B l x a y h c z at c0 rest w le le' lx ad r =
     let A = for_two a y w in
     let m0 = t.arr.most in
     let zf = next g s A z (Store_stmt ∷ Jump lx.0 ∷ Label lx.1 ∷ lx.7) (z.depth + 1 + 1) w w2 (past y (past a z.env)) z.depth t.arr in
-    let rf = ready_next g s A z (Store_stmt ∷ Jump lx.0 ∷ Label lx.1 ∷ lx.7) (z.depth + 1 + 1) w w2 (past y (past a z.env)) z.depth t.arr refl (omega arith) r in
+    let rf = ready_next (past y (past a z.env)) z.depth t.arr refl (omega arith) r in
     subst (λ q. RanDid g s B z rest w (with (given q w2) (λ n w. for_loop m x.letters c u v n (past y (past a z.env)) w))) (sym lx.13)
-    (joined_ran g s A (record { most = 16 * w2.turns + 20; least = w2.turns - suc (turns_in c) }) B z (Store_stmt ∷ Jump lx.0 ∷ Label lx.1 ∷ lx.7) rest (z.depth + 1 + 1) w w2 (past y (past a z.env)) _ (omega arith) (omega arith) r t.arr
-    (for_opened g m sim l x a y h c zf z at c0 rest w2 u v lx refl rf t.arr.bytes t.first t.second (λ o. ad o v lx.4 (bind x.letters (cell o 0) (past y (past a z.env)))))))
+    (joined_ran (omega arith) (omega arith) r t.arr
+    (for_opened g m sim l x a y h c zf z at c0 rest w2 u v lx refl rf t.first t.second (λ o. ad o v lx.4 (bind x.letters (cell o 0) (past y (past a z.env)))))))
   where
     all_adds : (u v : Value) → Adds (λ w. with (given (step_of z.env h) w) (λ n w. for_loop m x.letters c u v n (past y (past a z.env)) w))
     all_adds u v = adds _ (λ w1. with_after (history w1) (given (step_of z.env h) w1) (λ n w. for_loop m x.letters c u v n (past y (past a z.env)) w) (given_after (step_of z.env h) w1)

@@ -27,14 +27,13 @@ use Rattle.bk_simulation.proofs.Memory.{BaseOf, Stands, stands_grown}
 use Rattle.bk_simulation.proofs.WrittenCells.{read_here}
 use Rattle.bk_simulation.proofs.OperatorWords.{operates}
 use Rattle.bk_simulation.proofs.Laid.{Setting}
-use Rattle.bk_simulation.proofs.Frame.{Sit, start, Ready, Account, Ran, with_ran, ArrivedAt, there, Has, Out, next, ready_next}
-use Rattle.bk_simulation.proofs.Compose.{arrived_on, ran_first, topped, above}
-use Rattle.bk_simulation.proofs.Simulates.{where_to, HasTruth, Limit}
+use Rattle.bk_simulation.proofs.Frame.{Sit, start, Ready, Account, went, with_ran, ArrivedAt, there, Has, Out, next, ready_next}
+use Rattle.bk_simulation.proofs.Compose.{arrived_on, ran_more, topped, above}
+use Rattle.bk_simulation.proofs.Simulates.{where_to, HasTruth, Limit, RanDid}
 use Rattle.bk_simulation.proofs.Leaves.{RanValue, pushes_item, same_number}
 use Rattle.bk_simulation.proofs.Operands.{Two}
 use Rattle.bk_simulation.proofs.Operators.{dyadic_run}
 use Rattle.bk_simulation.proofs.ControlSteps.{tested}
-use Rattle.bk_simulation.proofs.Commands.{RanDid}
 use Rattle.bk_simulation.proofs.Assignments.{word_stored}
 
 -- the limit stands at its place behind each arrival
@@ -46,28 +45,26 @@ limit_here g s A z c k w w1 d o u ed l a =
 -- a slot is loaded
 slot_run : (g : Setting) (s : State) (A B : Account) (z : Sit) (q : ℕ) (rest : List Stmt) (w w1 : World) (v : Value) → A.most + 1 ≤ B.most → B.least ≤ A.least → 2 ≤ z.depth → (a : ArrivedAt g s A z (Load (Local q) ∷ rest) z.depth w w1)
     → Stands g.codes a.bases1 v (content_of (a.cells1 (z.frame + q))) → Has g s B z rest (z.depth + 1) w v w1
-slot_run g s A B z q rest w w1 v le le' dp a st =
-    topped g s A B z (Load (Local q) ∷ rest) rest z.depth w w1 v (content_of (a.cells1 (z.frame + q))) le le' dp a st
-    (load_moves g.program (there g s A z (Load (Local q) ∷ rest) z.depth w w1 a) z.scene.own rest z.depth (Local q) refl)
+slot_run g s A B z q rest w w1 v le le' dp a st = topped _ le le' dp a st (load_moves g.program (there g s A z (Load (Local q) ∷ rest) z.depth w w1 a) z.scene.own rest z.depth (Local q) refl)
 
 variable_run : (g : Setting) (s : State) (A B : Account) (z : Sit) (d o : ℕ) (rest : List Stmt) (w w1 : World) → A.most + 1 ≤ B.most → B.least ≤ A.least → 2 ≤ z.depth → BaseOf z.bases o (z.frame + d) → ArrivedAt g s A z (Load (Local d) ∷ rest) z.depth w w1
     → RanValue g s B z rest w (fetch (address o 0) w1)
 variable_run g s A B z d o rest w w1 le le' dp eb a = by_read (read w1.memory (address o 0)) refl
   where
     by_read : (y : Option Value) → read w1.memory (address o 0) ≡ y → RanValue g s B z rest w (given y w1)
-    by_read None e = inl tt
+    by_read None e = went tt
     by_read (Some v) e =
         let f = read_here g.codes _ (z.frame + z.depth) o 0 (z.frame + d) v a.fits (a.moved.grown.each o (z.frame + d) eb) e in
         let zero : z.frame + d + 0 ≡ z.frame + d = omega arith in
-        inl (slot_run g s A B z d rest w w1 v le le' dp a (subst (λ y. Stands g.codes a.bases1 v (content_of (a.cells1 y))) zero (subst (λ y. Stands g.codes a.bases1 v y) (sym (ap content_of f.there)) f.stands)))
+        went (slot_run g s A B z d rest w w1 v le le' dp a (subst (λ y. Stands g.codes a.bases1 v (content_of (a.cells1 y))) zero (subst (λ y. Stands g.codes a.bases1 v y) (sym (ap content_of f.there)) f.stands)))
 
 -- a second item
 second_item : (g : Setting) (s : State) (A B : Account) (z : Sit) (i : Stmt) (rest : List Stmt) (w w1 : World) (u v : Value) → A.most + 1 ≤ B.most → B.least ≤ A.least → Ready g z w → (a : Has g s A z (i ∷ rest) (z.depth + 1) w u w1)
     → Has g (start (next g s A z (i ∷ rest) (z.depth + 1) w w1 z.env (z.depth + 1) a.arr) (i ∷ rest) w1) (record { most = 16 * w1.turns + 1; least = w1.turns }) (next g s A z (i ∷ rest) (z.depth + 1) w w1 z.env (z.depth + 1) a.arr) rest (z.depth + 1 + 1) w1 v w1
     → Two g s B z rest w u v w1
 second_item g s A B z i rest w w1 u v le le' r a b = let m = a.arr.most in let l = a.arr.least in record {
-  arr = arrived_on g s A (record { most = 16 * w1.turns + 1; least = w1.turns }) B z (i ∷ rest) rest (z.depth + 1) (z.depth + 1 + 1) w w1 w1 z.env (omega arith) (omega arith) r (omega arith) a.arr b.arr;
-  first = above g s A (record { most = 16 * w1.turns + 1; least = w1.turns }) z (i ∷ rest) rest (z.depth + 1 + 1) w w1 w1 z.env u a b.arr;
+  arr = arrived_on (omega arith) (omega arith) r (omega arith) a.arr b.arr;
+  first = above a b.arr;
   second = b.stands;
 }
 
@@ -76,7 +73,7 @@ step_pushed : (g : Setting) (s : State) (A B : Account) (z : Sit) (k : ℕ) (res
     → Two g s B z rest w u (number k) w1
 step_pushed g s A B z k rest w w1 u le le' lk r a =
     let z1 = next g s A z (Number (signed k) ∷ rest) (z.depth + 1) w w1 z.env (z.depth + 1) a.arr in
-    let r1 = ready_next g s A z (Number (signed k) ∷ rest) (z.depth + 1) w w1 z.env (z.depth + 1) a.arr refl (omega arith) r in
+    let r1 = ready_next z.env (z.depth + 1) a.arr refl (omega arith) r in
     second_item g s A B z (Number (signed k)) rest w w1 u (number k) le le' r a
     (pushes_item g (record { most = 16 * w1.turns + 1; least = w1.turns }) z1 (Number (signed k) ∷ rest) (Number (signed k)) rest w1 (number k) (Word (word_of (signed k))) (omega arith) (omega arith) refl r1 (ap Word (same_number k lk))
     (number_moves g.program (start z1 (Number (signed k) ∷ rest) w1) z.scene.own rest (z.depth + 1) (signed k) refl))
@@ -86,7 +83,7 @@ limit_pushed : (g : Setting) (s : State) (A B : Account) (z : Sit) (d o : ℕ) (
     → Has g s A z (Load (Local (d + 1)) ∷ rest) (z.depth + 1) w u w1 → Two g s B z rest w u v w1
 limit_pushed g s A B z d o v rest w w1 u le le' ed l r a =
     let z1 = next g s A z (Load (Local (d + 1)) ∷ rest) (z.depth + 1) w w1 z.env (z.depth + 1) a.arr in
-    let r1 = ready_next g s A z (Load (Local (d + 1)) ∷ rest) (z.depth + 1) w w1 z.env (z.depth + 1) a.arr refl (omega arith) r in
+    let r1 = ready_next z.env (z.depth + 1) a.arr refl (omega arith) r in
     second_item g s A B z (Load (Local (d + 1))) rest w w1 u v le le' r a
     (pushes_item g (record { most = 16 * w1.turns + 1; least = w1.turns }) z1 (Load (Local (d + 1)) ∷ rest) (Load (Local (d + 1))) rest w1 v (content_of (a.arr.cells1 (z.frame + (d + 1)))) (omega arith) (omega arith) refl r1
     (limit_here g s A z (Load (Local (d + 1)) ∷ rest) (z.depth + 1) w w1 d o v ed l a.arr)
@@ -105,18 +102,14 @@ step_run g s A B z d o k rest w w1 le le' lk eb r a =
     let A1 : Account = record { most = A.most + 1; least = A.least } in
     let A2 : Account = record { most = A.most + 2; least = A.least } in
     let A3 : Account = record { most = A.most + 3; least = A.least } in
-    with_ran g s B (Has g s A1 z (Number (signed k) ∷ Dyadic two.Add ∷ Assign (Local d) ∷ rest) (z.depth + 1) w) _ _ (fetch (address o 0) w1) _
-    (λ v. adds _ (λ w2. with_after _ _ _ ((sum_adds v (number k)).at w2) (λ x. put_adds (address o 0) x)))
-    (larger A1 _ _ (variable_run g s A A1 z d o (Number (signed k) ∷ Dyadic two.Add ∷ Assign (Local d) ∷ rest) w w1 (omega arith) (omega arith) r.deep eb a) (omega arith) (omega arith))
+    with_ran (λ v. adds _ (λ w2. with_after _ _ _ ((sum_adds v (number k)).at w2) (λ x. put_adds (address o 0) x)))
+    (ran_more (omega arith) (omega arith) (variable_run g s A A1 z d o (Number (signed k) ∷ Dyadic two.Add ∷ Assign (Local d) ∷ rest) w w1 (omega arith) (omega arith) r.deep eb a))
     (λ v w2 q.
     let t = step_pushed g s A1 A2 z k (Dyadic two.Add ∷ Assign (Local d) ∷ rest) w w2 v (omega arith) (omega arith) lk r q in
-    with_ran g s B (Has g s A3 z (Assign (Local d) ∷ rest) (z.depth + 1) w) _ _ (operate op.Add v (number k) w2) _ (λ x. put_adds (address o 0) x)
-    (larger A3 _ _ (dyadic_run g s A2 A3 z two.Add (Assign (Local d) ∷ rest) w w2 v (number k) (operate op.Add v (number k) w2) (omega arith) (omega arith) r.deep t
-    (operates g.codes t.arr.bases1 t.arr.cells1 (z.frame + z.depth) w2 t.arr.fits op.Add v (number k) _ _ t.first t.second)) (omega arith) (omega arith))
+    with_ran (λ x. put_adds (address o 0) x)
+    (ran_more (omega arith) (omega arith) (dyadic_run g s A2 A3 z two.Add (Assign (Local d) ∷ rest) w w2 v (number k) (operate op.Add v (number k) w2) (omega arith) (omega arith) r.deep t
+    (operates g.codes t.arr.bases1 t.arr.cells1 (z.frame + z.depth) w2 t.arr.fits op.Add v (number k) _ _ t.first t.second)))
     (λ x w3 y. word_stored g s A3 B z rest w w3 (Local d) o 0 (z.frame + d) x (omega arith) (omega arith) r y.arr (y.arr.moved.grown.each o (z.frame + d) eb) (omega arith) y.stands))
-  where
-    larger : {T : Type 0} (N : Account) (K : T → World → Type 0) (u : Outcome T) → Ran g s N K (Out g s N z w) u → N.most ≤ B.most → B.least ≤ N.least → Ran g s B K (Out g s B z w) u
-    larger N K u q lm ll = ran_first g s N B z w K K u lm ll (λ t w1 k. k) q
 
 -- ---- the test
 -- a step below 0 counts down
@@ -170,17 +163,13 @@ test_run g s A B z d o k n1 u to rest end w w1 go ad le le' lk ed l e r a fin =
     let b0 = nat_lt k (2 ^ 31) in
     let a0 = subst (λ y. ArrivedAt g s A z (Load (Local d) ∷ Load (Local (d + 1)) ∷ y ∷ JumpIf true n1 ∷ rest) z.depth w w1) (same_test k lk) a in
     let T = Dyadic (cond b0 two.AtMost two.AtLeast) in
-    with_ran g s B (Has g s A1 z (Load (Local (d + 1)) ∷ T ∷ JumpIf true n1 ∷ rest) (z.depth + 1) w) _ _ (fetch (address o 0) w1) _
-    (λ v. adds _ (λ w2. with_after _ _ _ ((related_adds b0 v u).at w2) (λ x. adds _ (λ w3. with_after _ _ _ ((judged_adds x).at w3) (λ b. either_adds go ad b)))))
-    (larger A1 _ _ (variable_run g s A A1 z d o (Load (Local (d + 1)) ∷ T ∷ JumpIf true n1 ∷ rest) w w1 (omega arith) (omega arith) r.deep l.base a0) (omega arith) (omega arith))
+    with_ran (λ v. adds _ (λ w2. with_after _ _ _ ((related_adds b0 v u).at w2) (λ x. adds _ (λ w3. with_after _ _ _ ((judged_adds x).at w3) (λ b. either_adds go ad b)))))
+    (ran_more (omega arith) (omega arith) (variable_run g s A A1 z d o (Load (Local (d + 1)) ∷ T ∷ JumpIf true n1 ∷ rest) w w1 (omega arith) (omega arith) r.deep l.base a0))
     (λ v w2 q.
     let t = limit_pushed g s A1 A2 z d o u (T ∷ JumpIf true n1 ∷ rest) w w2 v (omega arith) (omega arith) ed l r q in
-    with_ran g s B (Has g s A3 z (JumpIf true n1 ∷ rest) (z.depth + 1) w) _ _ (operate (cond b0 op.AtMost op.AtLeast) v u w2) _ (λ x. adds _ (λ w3. with_after _ _ _ ((judged_adds x).at w3) (λ b. either_adds go ad b)))
-    (larger A3 _ _ (related_run g s A2 A3 z b0 (JumpIf true n1 ∷ rest) w w2 v u (omega arith) (omega arith) r.deep t) (omega arith) (omega arith))
+    with_ran (λ x. adds _ (λ w3. with_after _ _ _ ((judged_adds x).at w3) (λ b. either_adds go ad b)))
+    (ran_more (omega arith) (omega arith) (related_run g s A2 A3 z b0 (JumpIf true n1 ∷ rest) w w2 v u (omega arith) (omega arith) r.deep t))
     (λ x w3 y.
-    with_ran g s B (HasTruth g s A4 z true to rest w) _ _ (judged x w3) _ (λ b. either_adds go ad b)
-    (larger A4 _ _ (tested g s A3 A4 z true n1 to rest w w3 x (omega arith) (omega arith) r.deep e y) (omega arith) (omega arith))
+    with_ran (λ b. either_adds go ad b)
+    (ran_more (omega arith) (omega arith) (tested {B = A4} (omega arith) (omega arith) r e y))
     (λ b w4 k. fin b w4 k)))
-  where
-    larger : {T : Type 0} (N : Account) (K : T → World → Type 0) (u : Outcome T) → Ran g s N K (Out g s N z w) u → N.most ≤ B.most → B.least ≤ N.least → Ran g s B K (Out g s B z w) u
-    larger N K u q lm ll = ran_first g s N B z w K K u lm ll (λ t w1 k. k) q

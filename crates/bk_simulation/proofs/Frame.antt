@@ -16,12 +16,13 @@ use Rattle.bk_meaning.specs.Environment.{Environment, Sense, constant, cell, lab
 use Rattle.bk_meaning.specs.World as world
 use Rattle.bk_meaning.specs.World.{World, Exit, break, loop, endcase, goto, result, return, Outcome, gives, leaves, ends, undefined, going, each_way, with, turn, turn_of}
 use Rattle.bk_meaning.specs.Growing.{history, Grows, After}
-use Rattle.bk_meaning.proofs.After.{Adds}
+use Rattle.bk_meaning.proofs.After.{Adds, adds, stays}
 use Rattle.bk_simulation.specs.Simulation.{IsTooHigh, end_of}
 use Rattle.bk_simulation.proofs.Moves.{Moves}
 use Rattle.bk_simulation.proofs.FramesKept.{AtMostFrames}
 use Rattle.bk_simulation.proofs.BytesKept.{AllBytes, InHand, HasBytes}
 use Rattle.bk_simulation.proofs.Memory.{Stands, Store, Grown, Moved, Fits, fits_more}
+use Rattle.bk_simulation.proofs.MadeObjects.{Since}
 pub use Rattle.bk_simulation.proofs.Laid.{place_of, IsWord, NameAt, NamedIn}
 use Rattle.bk_simulation.proofs.Laid.{Setting, Scene, goal_named, IsLabelHere}
 
@@ -49,9 +50,7 @@ start z c w = state z.scene.own z.depth c z.cells z.frame z.hand z.written w
 pub name_grown : (sc : Scene) (bases bases1 : List ℕ) (frame : ℕ) (x : List ℕ) (s : Option Sense) → Grown bases bases1 → NameAt sc bases frame x s → NameAt sc bases1 frame x s
 name_grown sc bases bases1 frame x (Some (constant n)) g h = h
 name_grown sc bases bases1 frame x (Some (cell o i)) g h = (h.0, g.each o h.0 h.1, h.2, h.3, h.4)
-name_grown sc bases bases1 frame x (Some label) g h = tt
-name_grown sc bases bases1 frame x (Some foreign) g h = tt
-name_grown sc bases bases1 frame x None g h = tt
+name_grown sc bases bases1 frame x _ g h = tt
 
 pub named_grown : (sc : Scene) (env : Environment) (bases bases1 : List ℕ) (frame : ℕ) → Grown bases bases1 → NamedIn sc env bases frame → NamedIn sc env bases1 frame
 named_grown sc env bases bases1 frame g h = record { each = λ x. name_grown sc bases bases1 frame x (sense_of x env) g (h.each x) }
@@ -163,8 +162,11 @@ Went g s B K X (ends e w) = Stopped g s B e w
 Went g s B K X undefined = Unit {0}
 Went g s B K X (going w) = Reaches g s B w
 
-abbrev pub Ran : {A : Type 0} → Setting → State → Account → (A → World → Type 0) → (Exit → World → Type 0) → Outcome A → Type 0
-Ran g s B K X o = Went g s B K X o ⊎ Falls g s o
+pub record Ran {A : Type 0} (g : Setting) (s : State) (B : Account) (K : A → World → Type 0) (X : Exit → World → Type 0) (o : Outcome A) : Type 0 where
+  pub is : Went g s B K X o ⊎ Falls g s o
+
+pub went : {A : Type 0} {g : Setting} {s : State} {B : Account} {K : A → World → Type 0} {X : Exit → World → Type 0} {o : Outcome A} → Went g s B K X o → Ran g s B K X o
+went q = record { is = inl q }
 
 falls_later : (g : Setting) (s : State) (w w1 : World) → Grows (history w) (history w1) → FallsIn g s w → FallsIn g s w1
 falls_later g s w w1 h f = let c : w.most_calls ≤ w1.most_calls = h.most_calls in ⊎_elim
@@ -179,14 +181,24 @@ falls_on g s w (ends e w1) f h = falls_later g s w w1 h f
 falls_on g s w undefined f h = tt
 falls_on g s w (going w1) f h = falls_later g s w w1 h f
 
+-- what was given and each exit are gone on with
+pub each_way_ran : {A B : Type 0} {g : Setting} {s : State} {N : Account} {K : A → World → Type 0} {L : B → World → Type 0} {X Y : Exit → World → Type 0} {o : Outcome A} {on : A → World → Outcome B} {out : Exit → World → Outcome B}
+    → ((a : A) → Adds (on a)) → ((x : Exit) → Adds (out x)) → Ran g s N K X o → ((a : A) (w : World) → K a w → Ran g s N L Y (on a w)) → ((x : Exit) (w : World) → X x w → Ran g s N L Y (out x w)) → Ran g s N L Y (each_way on out o)
+each_way_ran {A} {B} {g} {s} {N} {K} {L} {X} {Y} {o} {on} {out} ad ax r h i = by o r.is
+  where
+    by : (o : Outcome A) → Went g s N K X o ⊎ Falls g s o → Ran g s N L Y (each_way on out o)
+    by (gives a w) (inl k) = h a w k
+    by (gives a w) (inr f) = record { is = inr (falls_on g s w (on a w) f ((ad a).at w)) }
+    by (leaves x w) (inl k) = i x w k
+    by (leaves x w) (inr f) = record { is = inr (falls_on g s w (out x w) f ((ax x).at w)) }
+    by (ends e w) r = record { is = r }
+    by undefined r = record { is = r }
+    by (going w) r = record { is = r }
+
 -- what follows is gone on with
-pub with_ran : {A B : Type 0} (g : Setting) (s : State) (N : Account) (K : A → World → Type 0) (L : B → World → Type 0) (X : Exit → World → Type 0) (o : Outcome A) (go : A → World → Outcome B)
+pub with_ran : {A B : Type 0} {g : Setting} {s : State} {N : Account} {K : A → World → Type 0} {L : B → World → Type 0} {X : Exit → World → Type 0} {o : Outcome A} {go : A → World → Outcome B}
     → ((a : A) → Adds (go a)) → Ran g s N K X o → ((a : A) (w : World) → K a w → Ran g s N L X (go a w)) → Ran g s N L X (with o go)
-with_ran g s N K L X (gives a w) go ad r h = ⊎_elim (λ (k : K a w). h a w k) (λ (f : FallsIn g s w). inr (falls_on g s w (go a w) f ((ad a).at w))) r
-with_ran g s N K L X (leaves x w) go ad r h = r
-with_ran g s N K L X (ends e w) go ad r h = r
-with_ran g s N K L X undefined go ad r h = r
-with_ran g s N K L X (going w) go ad r h = r
+with_ran ad r h = each_way_ran ad (λ x. adds _ (λ w. stays (history w))) r h (λ x w q. went q)
 
 falls_before : (g : Setting) (s t : State) (k p : ℕ) (w : World) → Comes g k p s t → FallsIn g t w → FallsIn g s w
 falls_before g s t k p w c r = ⊎_elim
@@ -194,26 +206,41 @@ falls_before g s t k p w c r = ⊎_elim
     (λ (x : g.cap < w.most_calls). inr x) r
 
 -- from a state that comes to the start
-pub ran_from : {A : Type 0} (g : Setting) (s t : State) (k p : ℕ) (M N : Account) (K L : A → World → Type 0) (X Y : Exit → World → Type 0) (o : Outcome A) → Comes g k p s t
+pub ran_from : {A : Type 0} {g : Setting} {s t : State} {k p : ℕ} {M N : Account} {K L : A → World → Type 0} {X Y : Exit → World → Type 0} {o : Outcome A} → Comes g k p s t
     → k + M.most ≤ N.most → N.least ≤ M.least + p → ((a : A) (w : World) → K a w → L a w) → ((x : Exit) (w : World) → X x w → Y x w) → Ran g t M K X o → Ran g s N L Y o
-ran_from g s t k p M N K L X Y (gives a w) c le le' h i r = ⊎_elim (λ (q : K a w). inl (h a w q)) (λ (f : FallsIn g t w). inr (falls_before g s t k p w c f)) r
-ran_from g s t k p M N K L X Y (leaves x w) c le le' h i r = ⊎_elim (λ (q : X x w). inl (i x w q)) (λ (f : FallsIn g t w). inr (falls_before g s t k p w c f)) r
-ran_from g s t k p M N K L X Y (ends e w) c le le' h i r = ⊎_elim (λ (q : Stopped g t M e w). let m = q.most in inl (record { to = q.to; steps = k + q.steps; paid = p + q.paid; comes = comes_on g _ _ _ _ _ _ _ c q.comes; most = omega arith; end = q.end; is_end = q.is_end; stops = q.stops; wrote = q.wrote; left = q.left })) (λ (f : FallsIn g t w). inr (falls_before g s t k p w c f)) r
-ran_from g s t k p M N K L X Y undefined c le le' h i r = inl tt
-ran_from g s t k p M N K L X Y (going w) c le le' h i r = ⊎_elim (λ (q : Reaches g t M w). let m = q.most in let l = q.least in inl (record { to = q.to; steps = k + q.steps; paid = p + q.paid; comes = comes_on g _ _ _ _ _ _ _ c q.comes; most = omega arith; least = omega arith; wrote = q.wrote; left = q.left })) (λ (f : FallsIn g t w). inr (falls_before g s t k p w c f)) r
+ran_from {A} {g} {s} {t} {k} {p} {M} {N} {K} {L} {X} {Y} {o} c le le' h i r = by o r.is
+  where
+    by : (o : Outcome A) → Went g t M K X o ⊎ Falls g t o → Ran g s N L Y o
+    by (gives a w) (inl q) = went (h a w q)
+    by (gives a w) (inr f) = record { is = inr (falls_before g s t k p w c f) }
+    by (leaves x w) (inl q) = went (i x w q)
+    by (leaves x w) (inr f) = record { is = inr (falls_before g s t k p w c f) }
+    by (ends e w) (inl q) = let m = q.most in went (record { to = q.to; steps = k + q.steps; paid = p + q.paid; comes = comes_on g _ _ _ _ _ _ _ c q.comes; most = omega arith; end = q.end; is_end = q.is_end; stops = q.stops; wrote = q.wrote; left = q.left })
+    by (ends e w) (inr f) = record { is = inr (falls_before g s t k p w c f) }
+    by undefined r = went tt
+    by (going w) (inl q) = let m = q.most in let l = q.least in went (record { to = q.to; steps = k + q.steps; paid = p + q.paid; comes = comes_on g _ _ _ _ _ _ _ c q.comes; most = omega arith; least = omega arith; wrote = q.wrote; left = q.left })
+    by (going w) (inr f) = record { is = inr (falls_before g s t k p w c f) }
 
--- a turn is taken, if one is left
-pub turn_ran : {A : Type 0} (g : Setting) (s : State) (B : Account) (K : A → World → Type 0) (X : Exit → World → Type 0) (w : World) (go : World → Outcome A) → B.least ≤ w.turns
-    → s.output ≡ w.output → s.input ≡ w.input → ((n : ℕ) → w.turns ≡ suc n → Ran g s B K X (go (record w { turns = n }))) → Ran g s B K X (turn w go)
-turn_ran {A} g s B K X w go le e ei h = at_turns w.turns refl
+-- more is said of it, within a larger account
+pub so : {A : Type 0} {g : Setting} {s : State} {M N : Account} {K L : A → World → Type 0} {X Y : Exit → World → Type 0} {o : Outcome A} → M.most ≤ N.most → N.least ≤ M.least
+    → ((a : A) (w : World) → K a w → L a w) → ((x : Exit) (w : World) → X x w → Y x w) → Ran g s M K X o → Ran g s N L Y o
+so {s = s} le le' h i r = ran_from (here s) (omega arith) (omega arith) h i r
+
+pub ran_same : {A : Type 0} {g : Setting} {s : State} {B : Account} {K L : A → World → Type 0} {X : Exit → World → Type 0} {o : Outcome A} → ((a : A) (w : World) → K a w → L a w) → Ran g s B K X o → Ran g s B L X o
+ran_same h r = so (omega arith) (omega arith) h (λ x w q. q) r
+
+-- a turn is taken, if one is left, behind a run to here
+pub turn_behind : {A : Type 0} {g : Setting} {s to : State} {B : Account} {K : A → World → Type 0} {X : Exit → World → Type 0} (steps paid : ℕ) (w : World) (go : World → Outcome A) → Comes g steps paid s to
+    → steps ≤ B.most → B.least ≤ w.turns + paid → to.output ≡ w.output → to.input ≡ w.input → ((n : ℕ) → w.turns ≡ suc n → Ran g s B K X (go (record w { turns = n }))) → Ran g s B K X (turn w go)
+turn_behind {A} {g} {s} {to} {B} {K} {X} steps paid w go c le le' e ei h = at_turns w.turns refl
   where
     at_turns : (n : ℕ) → w.turns ≡ n → Ran g s B K X (turn_of n w go)
-    at_turns zero q = inl (record { to = s; steps = 0; paid = 0; comes = here s; most = omega arith; least = omega arith; wrote = e; left = ei })
+    at_turns zero q = went (record { to = to; steps = steps; paid = paid; comes = c; most = omega arith; least = omega arith; wrote = e; left = ei })
     at_turns (suc n) q = h n q
 
--- The run has come to a place at a depth; objects below the top may have changed, and no other word there. As many calls are active as
--- before.
-pub record Arrived (g : Setting) (s : State) (B : Account) (own : Placed) (frame calls top : ℕ) (h : Store) (c : List Stmt) (depth : ℕ) (w1 : World) : Type 0 where
+-- The run has come to a place at a depth. Objects lie below the top, and what was there is related so to what is. As many calls are
+-- active as before.
+pub record Arrived (g : Setting) (s : State) (B : Account) (own : Placed) (frame calls top : ℕ) (R : Store → Type 0) (c : List Stmt) (depth : ℕ) (w1 : World) : Type 0 where
   pub steps : ℕ
   pub paid : ℕ
   pub bases1 : List ℕ
@@ -228,10 +255,19 @@ pub record Arrived (g : Setting) (s : State) (B : Account) (own : Placed) (frame
   pub room : calls ≤ g.cap
   pub bytes : HasBytes (state own depth c cells1 frame hand1 written1 w1)
   pub fits : Fits g.codes (record { bases = bases1; mem = w1.memory; cells = cells1 }) top
-  pub moved : Moved top h (record { bases = bases1; mem = w1.memory; cells = cells1 })
+  pub moved : R (record { bases = bases1; mem = w1.memory; cells = cells1 })
 
+-- what code at the situation's top may change was changed
 abbrev pub ArrivedAt : Setting → State → Account → Sit → List Stmt → ℕ → World → World → Type 0
-ArrivedAt g s B z c d w w1 = Arrived g s B z.scene.own z.frame w.calls (z.frame + z.depth) (store z w) c d w1
+ArrivedAt g s B z c d w w1 = Arrived g s B z.scene.own z.frame w.calls (z.frame + z.depth) (Moved (z.frame + z.depth) (store z w)) c d w1
+
+-- objects may have been made since, at the situation's top or above; there are more words
+abbrev pub OpenArrived : Setting → State → Account → Sit → World → List Stmt → ℕ → ℕ → World → Type 0
+OpenArrived g s B z w c d more w1 = Arrived g s B z.scene.own z.frame w.calls more (Since (z.frame + z.depth) (store z w)) c d w1
+
+-- the store there
+abbrev pub store_at : {g : Setting} {s : State} {B : Account} {own : Placed} {frame calls top : ℕ} {R : Store → Type 0} {c : List Stmt} {d : ℕ} {w1 : World} → Arrived g s B own frame calls top R c d w1 → Store
+store_at {w1 = w1} a = record { bases = a.bases1; mem = w1.memory; cells = a.cells1 }
 
 -- the state there
 abbrev pub there : (g : Setting) (s : State) (B : Account) (z : Sit) (c : List Stmt) (d : ℕ) (w w1 : World) → ArrivedAt g s B z c d w w1 → State
@@ -262,32 +298,37 @@ Handed g bases _ h = Unit {0}
 
 -- steps that are still to be done there
 abbrev pub still : Exit → ℕ
-still break = 2
-still loop = 2
-still endcase = 2
-still (goto x) = 2
 still (result v) = 0
 still return = 0
+still _ = 2
 
-pub record Exited (g : Setting) (s : State) (B : Account) (sc : Scene) (frame calls top : ℕ) (h : Store) (x : Exit) (w1 : World) : Type 0 where
+pub record Exited (g : Setting) (s : State) (B : Account) (sc : Scene) (frame calls top : ℕ) (R : Store → Type 0) (x : Exit) (w1 : World) : Type 0 where
   pub control : List Stmt
   pub depth1 : ℕ
   pub leads : Leads sc x control
-  pub arr : Arrived g s B sc.own frame calls top h control depth1 w1
+  pub arr : Arrived g s B sc.own frame calls top R control depth1 w1
   pub later : arr.steps + 16 * w1.turns + still x ≤ B.most
   pub hands : Handed g arr.bases1 x arr.hand1
 
 abbrev pub Out : Setting → State → Account → Sit → World → Exit → World → Type 0
-Out g s B z w x w1 = Exited g s B z.scene z.frame w.calls (z.frame + z.depth) (store z w) x w1
+Out g s B z w = Exited g s B z.scene z.frame w.calls (z.frame + z.depth) (Moved (z.frame + z.depth) (store z w))
 
 -- the situation after an arrival, at a depth and with other names' objects behind
 abbrev pub next : (g : Setting) (s : State) (B : Account) (z : Sit) (c : List Stmt) (d : ℕ) (w w1 : World) → Environment → ℕ → ArrivedAt g s B z c d w w1 → Sit
 next g s B z c d w w1 env depth a = record z { env = env; bases = a.bases1; cells = a.cells1; hand = a.hand1; written = a.written1; depth = depth }
 
-pub ready_next : (g : Setting) (s : State) (B : Account) (z : Sit) (c : List Stmt) (d : ℕ) (w w1 : World) (env : Environment) (depth : ℕ) (a : ArrivedAt g s B z c d w w1)
+-- names mean the same where only the number of the next object is another
+pub named_again : {sc : Scene} {env env1 : Environment} {bases : List ℕ} {frame : ℕ} → env1.names ≡ env.names → NamedIn sc env bases frame → NamedIn sc env1 bases frame
+named_again {sc} {env} {env1} {bases} {frame} en n = record { each = λ x. subst (λ y. NameAt sc bases frame x (sense_in y x)) (sym en) (n.each x) }
+
+-- with another scene and other names
+pub ready_in : {g : Setting} {z : Sit} {w : World} (sc : Scene) (env : Environment) → NamedIn sc env z.bases z.frame → Ready g z w → Ready g (record z { scene = sc; env = env }) w
+ready_in sc env n r = record { named = n; fits = r.fits; low = r.low; high = r.high; deep = r.deep; frames = r.frames; room = r.room; lasts = r.lasts; words = r.words; in_hand = r.in_hand }
+
+pub ready_next : {g : Setting} {s : State} {B : Account} {z : Sit} {c : List Stmt} {d : ℕ} {w w1 : World} (env : Environment) (depth : ℕ) (a : ArrivedAt g s B z c d w w1)
     → env.names ≡ z.env.names → z.depth ≤ depth → Ready g z w → Ready g (next g s B z c d w w1 env depth a) w1
-ready_next g s B z c d w w1 env depth a en le r = let dd = r.deep in record {
-  named = let n = named_grown z.scene z.env z.bases a.bases1 z.frame a.moved.grown r.named in record { each = λ x. subst (λ y. NameAt z.scene a.bases1 z.frame x (sense_in y x)) (sym en) (n.each x) };
+ready_next {g} {s} {B} {z} {c} {d} {w} {w1} env depth a en le r = let dd = r.deep in record {
+  named = named_again en (named_grown z.scene z.env z.bases a.bases1 z.frame a.moved.grown r.named);
   fits = fits_more g.codes _ (z.frame + z.depth) (z.frame + depth) (omega arith) a.fits;
   low = r.low;
   high = r.high;

@@ -35,11 +35,6 @@ items_forms (t.item l x e is) n bs s = ap (λ z. some_words ∷ z) (items_forms 
 
 mutual
   value_forms : (e : Expression) (n : ℕ) (bs : List Binding) (p : Place) (s : Spot) (r : Role) (cs : List Binding) (u : Place) (v : Spot) → Sound r cs u v e → map form_of (kinds n (term_named bs p s e)) ≡ forms e
-  value_forms (t.name l x) n bs p s r cs u v h = refl
-  value_forms (t.number l x) n bs p s r cs u v h = refl
-  value_forms (t.text l x) n bs p s r cs u v h = refl
-  value_forms (t.truth l x) n bs p s r cs u v h = refl
-  value_forms (t.query l) n bs p s r cs u v h = refl
   value_forms (t.parens l e) n bs p s r cs u v h = value_forms e _ _ _ _ _ _ _ _ h
   value_forms (t.unary l q.Address e) n bs p s r cs u v h = address_forms e _ _ _ _ _ _ _ _ h.0 h.1
   value_forms (t.unary l q.Contents e) n bs p s r cs u v h = value_forms e _ _ _ _ _ _ _ _ h.1
@@ -50,14 +45,9 @@ mutual
   value_forms (t.choice l m c a b) n bs p s r cs u v h = three _ _ _ _ _ _ (if_forms c _ _ _ _ _ _ _ _ h.0) (value_forms a _ _ _ _ _ _ _ _ h.1) (value_forms b _ _ _ _ _ _ _ _ h.2)
   value_forms (t.apply l m e es) n bs p s r cs u v h = two _ _ _ _ (value_forms e _ _ _ _ _ _ _ _ h.0) (each_forms es _ _ _ _ _ _ _ _ _ h.1)
   value_forms (t.valof l c) n bs p s r cs u v h = act_forms c _ _ _ _ _ _ _ h
-  value_forms (t.table l es) n bs p s r cs u v h = refl
+  value_forms _ n bs p s r cs u v h = refl
 
   if_forms : (e : Expression) (n : ℕ) (bs : List Binding) (p : Place) (s : Spot) (r : Role) (cs : List Binding) (u : Place) (v : Spot) → Sound r cs u v e → map form_of (kinds_if n (condition_named bs p s e)) ≡ forms e
-  if_forms (t.name l x) n bs p s r cs u v h = refl
-  if_forms (t.number l x) n bs p s r cs u v h = refl
-  if_forms (t.text l x) n bs p s r cs u v h = refl
-  if_forms (t.truth l x) n bs p s r cs u v h = refl
-  if_forms (t.query l) n bs p s r cs u v h = refl
   if_forms (t.parens l e) n bs p s r cs u v h = if_forms e _ _ _ _ _ _ _ _ h
   if_forms (t.unary l q.Not e) n bs p s r cs u v h = if_forms e _ _ _ _ _ _ _ _ h.1
   if_forms (t.unary l q.Address e) n bs p s r cs u v h = address_forms e _ _ _ _ _ _ _ _ h.0 h.1
@@ -70,7 +60,7 @@ mutual
   if_forms (t.choice l m c a b) n bs p s r cs u v h = three _ _ _ _ _ _ (if_forms c _ _ _ _ _ _ _ _ h.0) (value_forms a _ _ _ _ _ _ _ _ h.1) (value_forms b _ _ _ _ _ _ _ _ h.2)
   if_forms (t.apply l m e es) n bs p s r cs u v h = two _ _ _ _ (value_forms e _ _ _ _ _ _ _ _ h.0) (each_forms es _ _ _ _ _ _ _ _ _ h.1)
   if_forms (t.valof l c) n bs p s r cs u v h = act_forms c _ _ _ _ _ _ _ h
-  if_forms (t.table l es) n bs p s r cs u v h = refl
+  if_forms _ n bs p s r cs u v h = refl
 
   each_forms : (es : Expressions) (n k : ℕ) (bs : List Binding) (p : Place) (s : Spot) (j : ℕ) (cs : List Binding) (u : Place) (v : Spot) → SoundEach j cs u v es → map form_of (kinds_each n (terms_named k bs p s es)) ≡ forms_of_each es
   each_forms t.none n k bs p s j cs u v h = refl
@@ -96,10 +86,8 @@ mutual
   stores_forms (t.more e es) n bs p s cs u v h = two _ _ _ _ (store_forms e _ _ _ _ _ _ _ _ h.0 h.1) (stores_forms es _ _ _ _ _ _ _ h.2)
 
   act_forms : (c : Action) (n : ℕ) (bs : List Binding) (p : Place) (s : Spot) (cs : List Binding) (u : Place) (v : Spot) → SoundDone cs u v c → map form_of (kinds_in n (command_named bs p s c)) ≡ forms_of_action c
-  act_forms t.empty n bs p s cs u v h = refl
   act_forms (t.assign l xs es) n bs p s cs u v h = two _ _ _ _ (stores_forms xs _ _ _ _ _ _ _ h.0) (each_forms es _ _ _ _ _ _ _ _ _ h.1)
   act_forms (t.call l e es) n bs p s cs u v h = two _ _ _ _ (value_forms e _ _ _ _ _ _ _ _ h.0) (each_forms es _ _ _ _ _ _ _ _ _ h.1)
-  act_forms (t.goto l x) n bs p s cs u v h = refl
   act_forms (t.label l x c) n bs p s cs u v h = act_forms c _ _ _ _ _ _ _ h.1
   act_forms (t.case_of l e c) n bs p s cs u v h = act_forms c _ _ _ _ _ _ _ h.2
   act_forms (t.default l c) n bs p s cs u v h = act_forms c _ _ _ _ _ _ _ h.1
@@ -109,11 +97,11 @@ mutual
   act_forms (t.for_loop l x a b k c) n bs p s cs u v h = three _ _ _ _ _ _ (value_forms a _ _ _ _ _ _ _ _ h.0) (value_forms b _ _ _ _ _ _ _ _ h.1) (act_forms c _ _ _ _ _ _ _ h.3)
   act_forms (t.switch l e c) n bs p s cs u v h = two _ _ _ _ (value_forms e _ _ _ _ _ _ _ _ h.0) (act_forms c _ _ _ _ _ _ _ h.1)
   act_forms (t.result l e) n bs p s cs u v h = value_forms e _ _ _ _ _ _ _ _ h.1
-  act_forms (t.simple l k) n bs p s cs u v h = refl
   act_forms (t.block l t.no_declarations cs1) n bs p s cs u v h = acts_forms cs1 _ _ _ _ _ _ _ h
   act_forms (t.block l (t.declare d ds) cs1) n bs p s cs u v h = two _ _ _ _ (declared_forms (t.declare d ds) _ _ _ _ _ _ _ h.0) (acts_forms cs1 _ _ _ _ _ _ _ h.1)
   act_forms (t.repeat l c) n bs p s cs u v h = act_forms c _ _ _ _ _ _ _ h
   act_forms (t.repeat_while l q c e) n bs p s cs u v h = two _ _ _ _ (act_forms c _ _ _ _ _ _ _ h.0) (if_forms e _ _ _ _ _ _ _ _ h.1)
+  act_forms _ n bs p s cs u v h = refl
 
   acts_forms : (xs : Actions) (n : ℕ) (bs : List Binding) (p : Place) (s : Spot) (cs : List Binding) (u : Place) (v : Spot) → SoundDoneEach cs u v xs → map form_of (kinds_through n (commands_named bs p s xs)) ≡ forms_of_actions xs
   acts_forms t.no_actions n bs p s cs u v h = refl
@@ -124,10 +112,9 @@ mutual
   declared_forms (t.declare x xs) n bs p s cs u v h = two _ _ _ _ (one_forms x _ _ _ _ _ _ _ h.0) (declared_forms xs _ _ _ _ _ _ _ h.1)
 
   one_forms : (x : Declaration) (n : ℕ) (bs : List Binding) (p : Place) (s : Spot) (cs : List Binding) (u : Place) (v : Spot) → SoundOneDeclared cs u v x → map form_of (kinds_of_declaration n (declaration_named bs p s x)) ≡ forms_of_declaration x
-  one_forms (t.constants l sort.Manifest is) n bs p s cs u v h = refl
   one_forms (t.constants l sort.Static is) n bs p s cs u v h = items_forms is _ _ _
-  one_forms (t.constants l sort.Global is) n bs p s cs u v h = refl
   one_forms (t.definitions l ds) n bs p s cs u v h = definitions_forms ds _ _ _ _ _ _ _ h
+  one_forms _ n bs p s cs u v h = refl
 
   definitions_forms : (ds : Definitions) (n : ℕ) (bs : List Binding) (p : Place) (s : Spot) (cs : List Binding) (u : Place) (v : Spot) → SoundDefined cs u v ds → map form_of (kinds_of_definitions n (definitions_named bs p s ds)) ≡ forms_of_definitions ds
   definitions_forms t.no_definitions n bs p s cs u v h = refl

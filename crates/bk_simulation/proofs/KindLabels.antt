@@ -38,9 +38,8 @@ data_label (words_at n vs) = n ∷ []
 data_label (entry n y) = word_label n y
 
 abbrev pub entry_label : Kind → List ℕ
-entry_label string = []
-entry_label (words_at n vs) = []
 entry_label (entry n y) = n ∷ []
+entry_label _ = []
 
 -- the same of a part
 abbrev part_data : Part → List ℕ
@@ -54,10 +53,7 @@ part_data (label_place n s x) = []
 abbrev part_entry : Part → List ℕ
 part_entry (procedure n (term.routine y x m c)) = n ∷ []
 part_entry (procedure n (term.function y x m e)) = n ∷ []
-part_entry (procedure n (term.variables is)) = []
-part_entry (static_item n k) = []
-part_entry (static_table n ws) = []
-part_entry (label_place n s x) = []
+part_entry _ = []
 
 data_alike : Alike part_data data_label
 data_alike = record { of_string = refl; of_label = λ n s x. refl; of_item = λ n i. refl; of_table = λ n ws. refl; of_routine = λ n y x m c. refl; of_function = λ n y x m e. refl }
@@ -84,10 +80,7 @@ set_first l n rest = let h = one_way n l in omega (arith, h)
 
 word_times : (l n : ℕ) (y : Bound) → times l (word_label n y) ≤ times_set l (word_code n y)
 word_times l n (b.Static m) = set_first l (n + 1) (DataAddress n ∷ [])
-word_times l n (b.Constant v) = omega arith
-word_times l n (b.Global v) = omega arith
-word_times l n (b.Variable j v) = omega arith
-word_times l n (b.Label j v) = omega arith
+word_times l n _ = omega arith
 
 data_times : (l : ℕ) (x : Part) → times l (part_data x) ≤ times_set l (data_code x)
 data_times l (procedure n (term.routine y x m c)) = word_times l n y
@@ -100,10 +93,7 @@ data_times l (label_place n s x) = omega arith
 entry_times : (l : ℕ) (ts : List Target) (x : Part) → times l (part_entry x) ≤ times_set l (procedure_code ts x)
 entry_times l ts (procedure n (term.routine y x m c)) = let h = one_way n l in omega (arith, h)
 entry_times l ts (procedure n (term.function y x m e)) = let h = one_way n l in omega (arith, h)
-entry_times l ts (procedure n (term.variables is)) = omega arith
-entry_times l ts (static_item n k) = omega arith
-entry_times l ts (static_table n ws) = omega arith
-entry_times l ts (label_place n s x) = omega arith
+entry_times l ts _ = omega arith
 
 all_times : (l : ℕ) (f : Part → List ℕ) (code : Part → List Stmt) → ((x : Part) → times l (f x) ≤ times_set l (code x)) → (ps : List Part) → times l (joined f ps) ≤ times_set l (joined code ps)
 all_times l f code each [] = omega arith
@@ -187,10 +177,7 @@ some_items places (w ∷ ws) rest some = omega arith
 
 word_there : (own : Placed) (n : ℕ) (y : Bound) → DataIn own (word_code n y) → WordThere own n y
 word_there own n (b.Static m) d = (d.stands.place, DataAddress n ∷ d.rest, d.stands.behind, omega arith)
-word_there own n (b.Constant v) d = tt
-word_there own n (b.Global v) d = tt
-word_there own n (b.Variable j v) d = tt
-word_there own n (b.Label j v) d = tt
+word_there own n _ d = tt
 
 part_there : (own : Placed) (ts : List Target) (x : Part) → PartFound own ts x → AreThere own (part_kind x)
 part_there own ts (procedure n (term.routine y x m c)) f = ((word_there own n y f.2, f.1.stands.place, first_bytes x, (first_of own.stmts f.1.stands.place (Entry n (first_bytes x)) _ f.1.stands.behind).at), tt)

@@ -109,9 +109,7 @@ IsWord _ = ⊥
 abbrev pub NameAt : Scene → List ℕ → ℕ → List ℕ → Option Sense → Type 0
 NameAt sc bases frame x (Some (constant n)) = (bound_in sc.bindings x ≡ Some (b.Constant (Some n))) × (n < 2 ^ 32)
 NameAt sc bases frame x (Some (cell o i)) = (base : ℕ) × BaseOf bases o base × (base + i < 2 ^ 32) × (base + i ≡ place_of sc.own frame (named_word sc x)) × IsWord (bound_in sc.bindings x)
-NameAt sc bases frame x (Some label) = Unit {0}
-NameAt sc bases frame x (Some foreign) = Unit {0}
-NameAt sc bases frame x None = Unit {0}
+NameAt sc bases frame x _ = Unit {0}
 
 pub record NamedIn (sc : Scene) (env : Environment) (bases : List ℕ) (frame : ℕ) : Type 0 where
   pub each : (x : List ℕ) → NameAt sc bases frame x (sense_of x env)
@@ -197,10 +195,6 @@ abbrev pub ending : Aim → List Stmt → List Stmt
 ending pushes rest = rest
 ending (jumps u n) rest = JumpIf u n ∷ rest
 
-abbrev pub denied : Aim → Aim
-denied pushes = pushes
-denied (jumps u n) = jumps (not u) n
-
 -- the labels of a scope's commands, with numbers from j on
 abbrev pub owning : ℕ → Actions → Scene → Scene
 owning j cs sc = record sc { bindings = labels_in_scope sc.procedure j (labels_of_each cs) sc.bindings }
@@ -280,7 +274,6 @@ abbrev mutual
   IsAddress g sc d env (t.unary l q.Contents e) c rest = IsCode g sc d env pushes e c rest
   IsAddress g sc d env (t.binary l o.Subscript m x y) c rest =
       (c1 : List Stmt) × IsCode g sc d env pushes x c c1 × IsCode g sc (d + 1) (past x env) pushes y c1 (Dyadic two.Add ∷ rest)
-  IsAddress g sc d env (t.binary l o.Byte m x y) c rest = ⊥
   IsAddress g sc d env _ c rest = ⊥
 
   -- several, all at one depth, each in a stretch of its own; and where they are stored

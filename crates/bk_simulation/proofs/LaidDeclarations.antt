@@ -99,10 +99,9 @@ constants_bases pay sc p s l sort.Global is i d n many c L Then w h r f b =
 -- ---- LET
 
 variables_here : (bs : List Binding) (p : Place) (s : Spot) (ds : Definitions) → has_variables (definitions_named bs p s ds) ≡ defines_variables ds
-variables_here bs p s t.no_definitions = refl
 variables_here bs p s (t.define (t.routine l x fs c) ds) = variables_here bs p (spot.behind_one_defined (t.routine l x fs c) s) ds
 variables_here bs p s (t.define (t.function l x fs e) ds) = variables_here bs p (spot.behind_one_defined (t.function l x fs e) s) ds
-variables_here bs p s (t.define (t.variables l xs is) ds) = refl
+variables_here bs p s _ = refl
 
 -- STORE, where there are variables
 stored : (q : Bool) (c : List Stmt) → cond q (Store ∷ []) [] ++ c ≡ cond q (Store ∷ c) c

@@ -107,19 +107,12 @@ around_deeper sc p d k m e low a =
 
 pub constants_agree : (ns : List Named) (bs : List Binding) (i : ℕ) → AgreeWords ns bs → (e : Expression) → constant_in (with_names ns i) e ≡ constant_word bs e
 constants_agree ns bs i a (t.name l x) = a x
-constants_agree ns bs i a (t.number l n) = refl
-constants_agree ns bs i a (t.text l x) = refl
-constants_agree ns bs i a (t.truth l b) = refl
-constants_agree ns bs i a (t.query l) = refl
 constants_agree ns bs i a (t.parens l e) = constants_agree ns bs i a e
 constants_agree ns bs i a (t.unary l f e) = ap (λ y. option_and_then (prefix_word f) y) (constants_agree ns bs i a e)
 constants_agree ns bs i a (t.binary l f m x y) =
     ap (λ z. option_and_then (λ v. option_and_then (infix_word f v) (constant_in (with_names ns i) y)) z) (constants_agree ns bs i a x)
     ∙ ap (λ z. option_and_then (λ v. option_and_then (infix_word f v) z) (constant_word bs x)) (constants_agree ns bs i a y)
-constants_agree ns bs i a (t.choice l m c x y) = refl
-constants_agree ns bs i a (t.apply l m f es) = refl
-constants_agree ns bs i a (t.valof l c) = refl
-constants_agree ns bs i a (t.table l es) = refl
+constants_agree ns bs i a _ = refl
 
 -- names by what is in scope
 abbrev pub sense_for : Bound → Sense
@@ -135,11 +128,7 @@ known bs = with_names (names_of bs) 0
 
 sense_agrees : (x : Bound) → word_named (Some (sense_for x)) ≡ named_word (Some x)
 sense_agrees (b.Constant (Some w)) = refl
-sense_agrees (b.Constant None) = refl
-sense_agrees (b.Global g) = refl
-sense_agrees (b.Static m) = refl
-sense_agrees (b.Variable j i) = refl
-sense_agrees (b.Label j m) = refl
+sense_agrees _ = refl
 
 either_agrees : (q : Bool) (u v : Option Sense) (x y : Option Bound) → word_named u ≡ named_word x → word_named v ≡ named_word y → word_named (cond q u v) ≡ named_word (cond q x y)
 either_agrees true u v x y h i = h
@@ -175,9 +164,6 @@ mutual
 
 pub stands_agree : (s : Sought) (ns : List Named) (bs : List Binding) (i : ℕ) → Agree ns bs → (c : Action) → stands_in s (with_names ns i) c ≡ stands_in s (known bs) c
 stands_agree s ns bs i a c = stands_by s (with_names ns i) (known bs) (λ e. constants_agree ns bs i a.0 e ∙ sym (constants_agree (names_of bs) bs 0 (known_agree bs) e)) c
-
-pub stands_one_agree : (s : Sought) (ns : List Named) (bs : List Binding) (i : ℕ) → Agree ns bs → (cs : Actions) → stands_in_one s (with_names ns i) cs ≡ stands_in_one s (known bs) cs
-stands_one_agree s ns bs i a cs = stands_one_by s (with_names ns i) (known bs) (λ e. constants_agree ns bs i a.0 e ∙ sym (constants_agree (names_of bs) bs 0 (known_agree bs) e)) cs
 
 -- ---- expressions that have no jumps of their own
 
@@ -221,12 +207,7 @@ leaf_lies h next d aim c rest x P e m st f = record { on = leaf_on h.own d aim c
 
 pub pushed_depth : (ts : List Target) (k : ℕ) (x : Bound) → next_depth k (push ts x) ≡ k + 1
 pushed_depth ts k (b.Constant None) = refl
-pushed_depth ts k (b.Constant (Some w)) = refl
-pushed_depth ts k (b.Global None) = refl
-pushed_depth ts k (b.Global (Some g)) = refl
-pushed_depth ts k (b.Static m) = refl
-pushed_depth ts k (b.Variable j i) = refl
-pushed_depth ts k (b.Label j m) = refl
+pushed_depth ts k _ = refl
 
 pub truth_depth : (k : ℕ) (x : Bool) → next_depth k (truth_value x) ≡ k + 1
 truth_depth k true = refl
@@ -236,23 +217,7 @@ truth_depth k false = refl
 pub infix_on : (own : Placed) (f : Operator) (d : ℕ) (rest : List Stmt) → StandsAt own (d + 1 + 1) (infix_code f ++ rest) → StandsAt own (d + 1) rest
 infix_on own o.Subscript d rest h = passed own (d + 1) (d + 1) (Monadic w.Contents) rest (passed own (d + 1 + 1) (d + 1) (Dyadic two.Add) (Monadic w.Contents ∷ rest) h (omega arith)) refl
 infix_on own o.Byte d rest h = passed own (d + 1 + 1) (d + 1) LoadByte rest h (omega arith)
-infix_on own o.Times d rest h = passed own (d + 1 + 1) (d + 1) _ rest h (omega arith)
-infix_on own o.Over d rest h = passed own (d + 1 + 1) (d + 1) _ rest h (omega arith)
-infix_on own o.Rem d rest h = passed own (d + 1 + 1) (d + 1) _ rest h (omega arith)
-infix_on own o.Add d rest h = passed own (d + 1 + 1) (d + 1) _ rest h (omega arith)
-infix_on own o.Subtract d rest h = passed own (d + 1 + 1) (d + 1) _ rest h (omega arith)
-infix_on own o.Equal d rest h = passed own (d + 1 + 1) (d + 1) _ rest h (omega arith)
-infix_on own o.Unequal d rest h = passed own (d + 1 + 1) (d + 1) _ rest h (omega arith)
-infix_on own o.Less d rest h = passed own (d + 1 + 1) (d + 1) _ rest h (omega arith)
-infix_on own o.Greater d rest h = passed own (d + 1 + 1) (d + 1) _ rest h (omega arith)
-infix_on own o.AtMost d rest h = passed own (d + 1 + 1) (d + 1) _ rest h (omega arith)
-infix_on own o.AtLeast d rest h = passed own (d + 1 + 1) (d + 1) _ rest h (omega arith)
-infix_on own o.ShiftLeft d rest h = passed own (d + 1 + 1) (d + 1) _ rest h (omega arith)
-infix_on own o.ShiftRight d rest h = passed own (d + 1 + 1) (d + 1) _ rest h (omega arith)
-infix_on own o.Both d rest h = passed own (d + 1 + 1) (d + 1) _ rest h (omega arith)
-infix_on own o.Either d rest h = passed own (d + 1 + 1) (d + 1) _ rest h (omega arith)
-infix_on own o.Same d rest h = passed own (d + 1 + 1) (d + 1) _ rest h (omega arith)
-infix_on own o.Differ d rest h = passed own (d + 1 + 1) (d + 1) _ rest h (omega arith)
+infix_on own _ d rest h = passed own (d + 1 + 1) (d + 1) _ rest h (omega arith)
 
 -- codes one behind the other, with what follows
 pub joined_two : (x y r c : List Stmt) → c ≡ (x ++ y) ++ r → c ≡ x ++ (y ++ r)

@@ -56,15 +56,6 @@ pub all_passed : (own : Placed) (d : ℕ) (xs c : List Stmt) → StandsAt own d 
 all_passed own d [] c h = h
 all_passed own d (x ∷ xs) c h = all_passed own (next_depth d x) xs c (passed own d (next_depth d x) x (xs ++ c) h refl)
 
--- each of some parts has its code there
-pub part_stands : {A : Type 0} (own : Placed) (f : A → List Stmt) (d : ℕ) (xs : List A) (rest : List Stmt) (k : ℕ) (x : A) → StandsAt own d (joined f xs ++ rest) → slice_get xs k ≡ Some x → StandsIn own (f x)
-part_stands own f d [] rest k x h e = absurd (cc)
-part_stands own f d (y ∷ ys) rest zero x h e =
-    let same : y ≡ x = (let g : Some y ≡ Some x = e in cc) in
-    subst (λ z. StandsIn own (f z)) same (record { depth = d; rest = joined f ys ++ rest; stands = written own d _ _ (append_assoc (f y) (joined f ys) rest) h })
-part_stands own f d (y ∷ ys) rest (suc k) x h e =
-    part_stands own f (depth_behind d (f y)) ys rest k x (all_passed own d (f y) (joined f ys ++ rest) (written own d _ _ (append_assoc (f y) (joined f ys) rest) h)) e
-
 -- ---- formals
 
 pub words_formals : (j d : ℕ) (fs : List Mention) (bs : List Binding) → HasWords bs → HasWords (with_formals j d fs bs)
@@ -259,10 +250,6 @@ procedure_is pay section own ts bs k fs i many body n ks p g number ns global su
 -- its word
 word_held : (g : Setting) (section : ℕ) (own : Placed) (n number place : ℕ) (name : List ℕ) (y : Option Bound) → slice_get g.program.sections section ≡ Some own → slice_get own.stmts place ≡ Some (Entry n name)
     → g.codes.procedure number ≡ own.places.label n → Callable y → DataIn own (word_code n (meant y)) → BaseOf g.lasting number (word_base own n (meant y)) → HeldWord g number (global_of y)
-word_held g section own n number place name None is at word c d base = elim c [ ]
-word_held g section own n number place name (Some (b.Constant v)) is at word c d base = elim c [ ]
-word_held g section own n number place name (Some (b.Variable j v)) is at word c d base = elim c [ ]
-word_held g section own n number place name (Some (b.Label j v)) is at word c d base = elim c [ ]
 word_held g section own n number place name (Some (b.Global None)) is at word c d base = absurd (let h : None ≡ Some c.0 = c.1 in cc)
 word_held g section own n number place name (Some (b.Global (Some v))) is at word c d base =
     let e = g.well.entries section place n own name is at in
@@ -271,25 +258,20 @@ word_held g section own n number place name (Some (b.Static m)) is at word c d b
     let items = DataAddress n ∷ d.rest in
     let found = statement_data g.program section own d.depth (DataLabel (n + 1)) items (record { place = own.places.label (n + 1); words = item_words own.places items }) is d.stands refl in
     (own.places.label (n + 1), base, subst (λ ws. InData g.program (own.places.label (n + 1)) ws) (ap₂ (λ x xs. x ∷ xs) (sym word) d.ends) found)
+word_held g section own n number place name _ is at word c d base = elim c [ ]
 
 -- what its name means sets the global, if it is one
 named_global : (s : Option Sense) (y : Option Bound) → SameGlobal s y → Callable y → global_named s ≡ bound_global (meant y)
-named_global s None h c = elim c [ ]
-named_global s (Some (b.Constant v)) h c = elim c [ ]
-named_global s (Some (b.Variable j v)) h c = elim c [ ]
-named_global s (Some (b.Label j v)) h c = elim c [ ]
 named_global s (Some (b.Global None)) h c = absurd h
 named_global s (Some (b.Global (Some v))) h c = h
 named_global s (Some (b.Static m)) h c = h
+named_global s _ h c = elim c [ ]
 
 called : (y : Option Bound) → Callable y → IsCalled (meant y)
-called None c = elim c [ ]
-called (Some (b.Constant v)) c = elim c [ ]
-called (Some (b.Variable j v)) c = elim c [ ]
-called (Some (b.Label j v)) c = elim c [ ]
 called (Some (b.Global None)) c = absurd (let h : None ≡ Some c.0 = c.1 in cc)
 called (Some (b.Global (Some v))) c = tt
 called (Some (b.Static m)) c = tt
+called _ c = elim c [ ]
 
 -- its base lies below the first frame
 word_below : (section : ℕ) (own : Placed) (n : ℕ) (y : Option Bound) → DataIn own (word_code n (meant y)) → (program : Program) (first : ℕ) → IsWellPlaced program first FRAME_WORDS → slice_get program.sections section ≡ Some own
@@ -298,10 +280,7 @@ word_below section own n (Some (b.Static m)) d program first well is low =
     let items = DataAddress n ∷ d.rest in
     statement_below section own d.depth (DataLabel (n + 1)) items (record { place = own.places.label (n + 1); words = item_words own.places items }) d.stands refl program first well is
 word_below section own n None d program first well is low = omega (arith, low)
-word_below section own n (Some (b.Constant v)) d program first well is low = omega (arith, low)
-word_below section own n (Some (b.Global v)) d program first well is low = omega (arith, low)
-word_below section own n (Some (b.Variable j v)) d program first well is low = omega (arith, low)
-word_below section own n (Some (b.Label j v)) d program first well is low = omega (arith, low)
+word_below section own n _ d program first well is low = omega (arith, low)
 
 -- A procedure and what lasts in its body.
 pub procedure_bases : (pay section : ℕ) (own : Placed) (ts : List Target) (bs : List Binding) (k : ℕ) (x : List ℕ) (fs : List Mention) (i many : ℕ) (body : Body) (n : ℕ) (ks : List Kind) → ProcedureLies pay section own ts bs k fs (i + 1) many body n ks

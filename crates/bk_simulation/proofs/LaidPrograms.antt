@@ -46,15 +46,7 @@ knows g is r = ap (λ w. g.program.callables.routine w) (is r) ∙ g.well.routin
   where
     by_routine : (r : value.Routine) → library_routine (library_word r) ≡ Some (named_there r)
     by_routine stop = refl
-    by_routine rdch = refl
-    by_routine wrch = refl
-    by_routine newline = refl
-    by_routine writes = refl
-    by_routine writen = refl
-    by_routine writed = refl
-    by_routine getbyte = refl
-    by_routine putbyte = refl
-    by_routine writef = refl
+    by_routine _ = refl
 
 pub laid_does : (sections : List Declarations) (program : Program) (first n : ℕ) (input : List ℕ) (well : IsWellPlaced program first FRAME_WORDS) → AreLaid program first well sections
     → DoesFrom program first n (first_state program first input) (meaning sections input n)

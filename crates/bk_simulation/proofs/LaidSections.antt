@@ -68,8 +68,7 @@ outside_both pay sc i x xs P a =
 
 constants_depth : (bs : List Binding) (p : Place) (s : Spot) (l : ℕ) (o : Sort) (is : Items) (d : ℕ) → behind_declaration d (declaration_named bs p s (t.constants l o is)) ≡ d
 constants_depth bs p s l sort.Manifest is d = refl
-constants_depth bs p s l sort.Static is d = refl
-constants_depth bs p s l sort.Global is d = refl
+constants_depth bs p s l _ is d = refl
 
 -- the parts behind a declaration that leaves the frame as it is
 behind_found : (sc : Scene) (p : Place) (s : Spot) (x : Declaration) (xs : Declarations) (n : ℕ) → behind_declaration 2 (declaration_named sc.bindings p s x) ≡ 2

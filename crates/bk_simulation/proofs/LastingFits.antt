@@ -27,6 +27,7 @@ use Rattle.bk_simulation.proofs.Laid.{Setting}
 use Rattle.bk_simulation.proofs.StartRuns.{FirstStore}
 use Rattle.bk_simulation.proofs.StartCalled.{NoStart, HasStart}
 use Rattle.bk_simulation.proofs.LastingStore.{library_word, HoldsEntry, HoldsOne, HasEntry, HasWords, IsSized, HoldsLasting, AreUpTo, up_to_append, library_up_to, all_up_to, fold_kept, fold_append, CellIs, cell_stands, cell_variable, globals_hold, globals_long}
+use Rattle.bk_simulation.proofs.WrittenCells.{is_less}
 
 -- ---- tests
 
@@ -43,9 +44,6 @@ is_le a b h = grind (arith, nat_tests)
 
 not_le : (a b : ℕ) → b < a → nat_le a b ≡ false
 not_le a b h = grind (arith, nat_tests)
-
-is_lt : (a b : ℕ) → a < b → nat_lt a b ≡ true
-is_lt a b h = grind (arith, nat_tests)
 
 -- ---- the words of data
 
@@ -64,7 +62,7 @@ datum_word_at (e ∷ ds) (suc j) d place h is only =
     by_test false t r n = r
 
 pub in_datum : (d : Datum) (i : ℕ) → i < length d.words → is_in (d.place + i) d ≡ true
-in_datum d i lt = both_true (nat_le d.place (d.place + i)) (nat_lt (d.place + i) (d.place + length d.words)) (is_le d.place (d.place + i) (omega arith)) (is_lt (d.place + i) (d.place + length d.words) (omega arith))
+in_datum d i lt = both_true (nat_le d.place (d.place + i)) (nat_lt (d.place + i) (d.place + length d.words)) (is_le d.place (d.place + i) (omega arith)) (is_less (d.place + i) (d.place + length d.words) (omega arith))
 
 module _ (program : Program) (first : ℕ) (well : IsWellPlaced program first FRAME_WORDS) where
   abbrev given : List Datum
@@ -143,8 +141,7 @@ one_cells p n (code f) = entry_cells f.global n
 
 object_is : (p : List Lasting) (n : ℕ) (x : Lasting) → object_of p n x ≡ living (one_cells p n x)
 object_is p n global_vector = refl
-object_is p n (words ws) = refl
-object_is p n (code f) = refl
+object_is p n _ = refl
 
 -- an object of the first memory
 record Lasts (p : List Lasting) (n : ℕ) (xs : List Lasting) (o : ℕ) (y : Object) : Type 0 where
@@ -327,7 +324,4 @@ module _ (g : Setting) (rest : List Lasting) (lasts : HoldsLasting g.program g.f
       by_cell : (c : value.Cell) → slice_get (global_cells p) 1 ≡ Some c → StartCell c → CellIs g.codes c (first_cells g.program g.first (16 + 1)) → NoStart g p ⊎ HasStart g p
       by_cell (holds unset) e s h = inl (record { is = ap (λ y. option_and_then value_in y) e; word = ap content_of h })
       by_cell (holds (procedure k)) e s h = inr (record { number = k; is = ap (λ y. option_and_then value_in y) e; word = ap content_of h })
-      by_cell (holds (number w)) e s h = absurd s
-      by_cell (holds (routine r)) e s h = absurd s
-      by_cell (holds (address o i)) e s h = absurd s
-      by_cell (places x y z t) e s h = absurd s
+      by_cell _ e s h = absurd s

@@ -133,11 +133,7 @@ module _ {A : Type 0} (f : Part → List A) (k : Kind → List A) (l : Alike f k
 
   mutual
     alike : (s n : ℕ) (e : Term) → joined f (parts s n e) ≡ joined k (kinds n e)
-    alike s n (named x) = refl
-    alike s n (number x) = refl
     alike s n (text x) = sym (ap (λ y. y ++ []) l.of_string)
-    alike s n (truth x) = refl
-    alike s n query = refl
     alike s n (parens e) = alike s n e
     alike s n (unary q e) = alike s n e
     alike s n (address x) = alike_at s n x
@@ -147,6 +143,7 @@ module _ {A : Type 0} (f : Part → List A) (k : Kind → List A) (l : Alike f k
     alike s n (apply e es) = two (parts (s + 2 + count es) n e) _ (kinds n e) _ (alike (s + 2 + count es) n e) (alike_each (s + 2) (n + labels e) es)
     alike s n (valof c) = alike_in s (n + 1) c
     alike s n (table ws) = one (static_table n ws) [] (words_at n ws) [] (l.of_table n ws) refl
+    alike s n _ = refl
 
     alike_each : (s n : ℕ) (es : Terms) → joined f (parts_each s n es) ≡ joined k (kinds_each n es)
     alike_each s n none = refl
@@ -164,22 +161,19 @@ module _ {A : Type 0} (f : Part → List A) (k : Kind → List A) (l : Alike f k
     alike_if s n (either a b) = two (parts_if s (n + 1) a) _ (kinds_if (n + 1) a) _ (alike_if s (n + 1) a) (alike_if s (n + 1 + labels_if a) b)
 
     alike_at : (s n : ℕ) (x : Lvalue) → joined f (parts_at s n x) ≡ joined k (kinds_at n x)
-    alike_at s n (word x) = refl
     alike_at s n (contents e) = alike s n e
     alike_at s n (subscript a b) = two (parts s n a) _ (kinds n a) _ (alike s n a) (alike (s + 1) (n + labels a) b)
     alike_at s n (byte a b) = two (parts s n a) _ (kinds n a) _ (alike s n a) (alike (s + 1) (n + labels a) b)
     alike_at s n (inside x) = alike_at s n x
-    alike_at s n nowhere = refl
+    alike_at s n _ = refl
 
     alike_onto : (s n : ℕ) (xs : Lvalues) → joined f (parts_onto s n xs) ≡ joined k (kinds_onto n xs)
     alike_onto s n no_lvalues = refl
     alike_onto s n (onto x xs) = two (parts_at s n x) _ (kinds_at n x) _ (alike_at s n x) (alike_onto s (n + labels_at x) xs)
 
     alike_in : (s n : ℕ) (c : Command) → joined f (parts_in s n c) ≡ joined k (kinds_in n c)
-    alike_in s n empty = refl
     alike_in s n (assign xs es) = two (parts_onto (s + 1) n xs) _ (kinds_onto n xs) _ (alike_onto (s + 1) n xs) (alike_from s (n + labels_onto xs) es)
     alike_in s n (call e es) = two (parts (s + 2 + count es) n e) _ (kinds n e) _ (alike (s + 2 + count es) n e) (alike_each (s + 2) (n + labels e) es)
-    alike_in s n (goto x) = refl
     alike_in s n (label x c) = ap (λ y. y ++ joined f (parts_in s (n + 1) c)) (l.of_label n s x) ∙ alike_in s (n + 1) c
     alike_in s n (case_of w c) = alike_in s (n + 1) c
     alike_in s n (default c) = alike_in s (n + 1) c
@@ -192,12 +186,12 @@ module _ {A : Type 0} (f : Part → List A) (k : Kind → List A) (l : Alike f k
         three (parts s (n + 4) a) (parts (s + 1) (n + 4 + labels a) b) _ (kinds (n + 4) a) (kinds (n + 4 + labels a) b) _ (alike s (n + 4) a) (alike (s + 1) (n + 4 + labels a) b) (alike_in (s + 2) (n + 4 + labels a + labels b) c)
     alike_in s n (switch e c) = two (parts s (n + 1) e) _ (kinds (n + 1) e) _ (alike s (n + 1) e) (alike_in s (n + 1 + labels e) c)
     alike_in s n (result e) = alike s n e
-    alike_in s n (simple x) = refl
     alike_in s n (block no_declarations cs) = alike_through s (n + 0) cs ∙ ap (λ m. joined k (kinds_through m cs)) (omega arith)
     alike_in s n (block (declare h hs) cs) =
         two (parts_of_declarations s n (declare h hs)) _ (kinds_of_declarations n (declare h hs)) _ (alike_declarations s n (declare h hs)) (alike_through (behind_declarations s (declare h hs)) (n + labels_of_declarations (declare h hs)) cs)
     alike_in s n (repeat c) = alike_in s (n + 2) c
     alike_in s n (repeat_while u c e) = two (parts_in s (n + 3) c) _ (kinds_in (n + 3) c) _ (alike_in s (n + 3) c) (alike_if s (n + 3 + labels_in c) e)
+    alike_in s n _ = refl
 
     alike_through : (s n : ℕ) (cs : Commands) → joined f (parts_through s n cs) ≡ joined k (kinds_through n cs)
     alike_through s n no_commands = refl
@@ -260,9 +254,4 @@ pub as_both : (own : Placed) (ks : List Kind) (xs : List Lasting) (vs ws : List 
     → AreAs own (ks ++ ls) (xs ++ ys) (vs ++ us) (ws ++ zs)
 as_both own [] [] [] [] ls ys us zs h i = i
 as_both own (k ∷ ks) (x ∷ xs) (v ∷ vs) (w ∷ ws) ls ys us zs h i = (h.0, as_both own ks xs vs ws ls ys us zs h.1 i)
-as_both own [] (x ∷ xs) vs ws ls ys us zs h i = absurd h
-as_both own [] [] (v ∷ vs) ws ls ys us zs h i = absurd h
-as_both own [] [] [] (w ∷ ws) ls ys us zs h i = absurd h
-as_both own (k ∷ ks) [] vs ws ls ys us zs h i = absurd h
-as_both own (k ∷ ks) (x ∷ xs) [] ws ls ys us zs h i = absurd h
-as_both own (k ∷ ks) (x ∷ xs) (v ∷ vs) [] ls ys us zs h i = absurd h
+as_both own _ _ _ _ ls ys us zs h i = absurd h

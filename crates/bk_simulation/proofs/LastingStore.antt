@@ -63,7 +63,6 @@ HasEntry (Some g) = ⊥
 
 abbrev pub HasWords : Option Lasting → Type 0
 HasWords (Some (words (w ∷ ws))) = Unit {0}
-HasWords (Some (words [])) = ⊥
 HasWords (Some (code f)) = HasEntry f.global
 HasWords _ = ⊥
 
@@ -125,24 +124,20 @@ module _ (codes : Codes) where
   CellIs (holds (procedure k)) x = x ≡ Held Variable (Word (codes.procedure k))
   CellIs (holds (routine r)) x = x ≡ Held Variable (Word (codes.routine r))
   CellIs (holds unset) x = x ≡ Held Variable Unset
-  CellIs (holds (address o i)) x = ⊥
-  CellIs (places a b c d) x = ⊥
+  CellIs _ x = ⊥
 
   pub cell_stands : (bases : List ℕ) (c : value.Cell) (x : Cell) → CellIs c x → StandsCell codes bases c (content_of x)
-  cell_stands bases (holds (number w)) x h = ap content_of h
-  cell_stands bases (holds (procedure k)) x h = ap content_of h
-  cell_stands bases (holds (routine r)) x h = ap content_of h
   cell_stands bases (holds unset) x h = tt
   cell_stands bases (holds (address o i)) x h = absurd h
   cell_stands bases (places a b c d) x h = absurd h
+  cell_stands bases _ x h = ap content_of h
 
   pub cell_variable : (c : value.Cell) (x : Cell) → CellIs c x → (k : Content) × (x ≡ Held Variable k)
   cell_variable (holds (number w)) x h = (Word w, h)
   cell_variable (holds (procedure k)) x h = (Word (codes.procedure k), h)
   cell_variable (holds (routine r)) x h = (Word (codes.routine r), h)
   cell_variable (holds unset) x h = (Unset, h)
-  cell_variable (holds (address o i)) x h = absurd h
-  cell_variable (places a b c d) x h = absurd h
+  cell_variable _ x h = absurd h
 
   -- ---- the globals
 

@@ -1,5 +1,5 @@
 -- Values without parts: numbers, names, strings, tables, TRUE, FALSE and `?`.
-use Rattle.std.proofs.Common.{◌≡◌, ℕ, ◌+◌, ◌*◌, ◌<◌, ◌≤◌, ◌%◌, ◌^◌, Bool, true, false, List, ◌∷◌, length, Option, Some, None, refl, sym, ap, ◌∙◌, subst, arith, inl}
+use Rattle.std.proofs.Common.{◌≡◌, ℕ, ◌+◌, ◌*◌, ◌<◌, ◌≤◌, ◌%◌, ◌^◌, Bool, true, false, List, ◌∷◌, length, Option, Some, None, refl, sym, ap, ◌∙◌, subst, arith}
 use Rattle.std.specs.Int.{w32}
 use Rattle.std.proofs.lemmas.Int.{of_z-to_z}
 use Rattle.bk_base.specs.Word.{signed, word_of, truth as truth_word}
@@ -25,7 +25,7 @@ use Rattle.bk_simulation.proofs.Moves.{Moves, number_moves, true_moves, false_mo
 use Rattle.bk_simulation.proofs.Memory.{BaseOf, Stands, Grown}
 use Rattle.bk_simulation.proofs.WrittenCells.{read_here}
 use Rattle.bk_simulation.proofs.Laid.{Setting, named_word}
-use Rattle.bk_simulation.proofs.Frame.{Sit, store, state, start, place_of, IsWord, NameAt, Ready, Account, Ran, Has, Out}
+use Rattle.bk_simulation.proofs.Frame.{Sit, store, state, start, place_of, IsWord, NameAt, Ready, Account, Ran, Has, Out, went}
 use Rattle.bk_simulation.proofs.Compose.{stay, topped}
 
 abbrev pub RanValue : Setting → State → Account → Sit → List Stmt → World → Outcome Value → Type 0
@@ -41,7 +41,7 @@ pushes_item g B z c i rest w v x le le' ec r st e =
     let s = start z (i ∷ rest) w in
     let A : Account = record { most = 16 * w.turns; least = w.turns } in
     subst (λ l. Has g (start z l w) B z rest (z.depth + 1) w v w) (sym ec)
-    (topped g s A B z (i ∷ rest) rest z.depth w w v x le le' r.deep (stay g A z (i ∷ rest) w (omega arith) (omega arith) r) st e)
+    (topped _ le le' r.deep (stay g A z (i ∷ rest) w (omega arith) (omega arith) r) st e)
 
 -- a number of the source is its word
 pub same_number : (n : ℕ) → n < 2 ^ 32 → word_of (signed n) ≡ n
@@ -50,20 +50,20 @@ same_number n lt = of_z-to_z w32 n lt
 pub number_runs : (g : Setting) (B : Account) (z : Sit) (c : List Stmt) (n : ℕ) (rest : List Stmt) (w : World) → 16 * w.turns + 1 ≤ B.most → B.least ≤ w.turns → c ≡ Number (signed n) ∷ rest → n < 2 ^ 32 → Ready g z w
     → RanValue g (start z c w) B z rest w (gives (number n) w)
 number_runs g B z c n rest w le le' ec lt r =
-    inl (pushes_item g B z c (Number (signed n)) rest w (number n) (Word (word_of (signed n))) le le' ec r (ap Word (same_number n lt))
+    went (pushes_item g B z c (Number (signed n)) rest w (number n) (Word (word_of (signed n))) le le' ec r (ap Word (same_number n lt))
     (number_moves g.program (start z (Number (signed n) ∷ rest) w) z.scene.own rest z.depth (signed n) refl))
 
 pub truth_runs : (g : Setting) (B : Account) (z : Sit) (c : List Stmt) (t : Bool) (rest : List Stmt) (w : World) → 16 * w.turns + 1 ≤ B.most → B.least ≤ w.turns → c ≡ truth_value t ∷ rest → Ready g z w
     → RanValue g (start z c w) B z rest w (gives (number (truth_word t)) w)
 truth_runs g B z c true rest w le le' ec r =
-    inl (pushes_item g B z c True rest w (number (truth_word true)) (Word (truth_word true)) le le' ec r refl (true_moves g.program (start z (True ∷ rest) w) z.scene.own rest z.depth refl))
+    went (pushes_item g B z c True rest w (number (truth_word true)) (Word (truth_word true)) le le' ec r refl (true_moves g.program (start z (True ∷ rest) w) z.scene.own rest z.depth refl))
 truth_runs g B z c false rest w le le' ec r =
-    inl (pushes_item g B z c False rest w (number (truth_word false)) (Word (truth_word false)) le le' ec r refl (false_moves g.program (start z (False ∷ rest) w) z.scene.own rest z.depth refl))
+    went (pushes_item g B z c False rest w (number (truth_word false)) (Word (truth_word false)) le le' ec r refl (false_moves g.program (start z (False ∷ rest) w) z.scene.own rest z.depth refl))
 
 pub query_runs : (g : Setting) (B : Account) (z : Sit) (c : List Stmt) (rest : List Stmt) (w : World) → 16 * w.turns + 1 ≤ B.most → B.least ≤ w.turns → c ≡ Query ∷ rest → Ready g z w
     → RanValue g (start z c w) B z rest w (gives unset w)
 query_runs g B z c rest w le le' ec r =
-    inl (pushes_item g B z c Query rest w unset Unset le le' ec r tt (query_moves g.program (start z (Query ∷ rest) w) z.scene.own rest z.depth refl))
+    went (pushes_item g B z c Query rest w unset Unset le le' ec r tt (query_moves g.program (start z (Query ∷ rest) w) z.scene.own rest z.depth refl))
 
 small_base : (base : ℕ) → base < 2 ^ 32 → base ≡ (base + 0) % 2 ^ 32
 small_base base lt = omega arith
@@ -78,39 +78,35 @@ lasting_stands g bases o base grown e =
 pub text_runs : (g : Setting) (B : Account) (z : Sit) (c : List Stmt) (bytes : List ℕ) (rest : List Stmt) (w : World) (o : ℕ) → 16 * w.turns + 1 ≤ B.most → B.least ≤ w.turns → c ≡ Text bytes ∷ rest
     → BaseOf g.lasting o (z.scene.own.places.text (length rest)) → Ready g z w → RanValue g (start z c w) B z rest w (gives (address o 0) w)
 text_runs g B z c bytes rest w o le le' ec e r =
-    inl (pushes_item g B z c (Text bytes) rest w (address o 0) (Word (z.scene.own.places.text (length rest))) le le' ec r (lasting_stands g z.bases o _ r.lasts e)
+    went (pushes_item g B z c (Text bytes) rest w (address o 0) (Word (z.scene.own.places.text (length rest))) le le' ec r (lasting_stands g z.bases o _ r.lasts e)
     (text_moves g.program (start z (Text bytes ∷ rest) w) z.scene.own rest z.depth bytes refl))
 
 pub table_runs : (g : Setting) (B : Account) (z : Sit) (c : List Stmt) (n : ℕ) (rest : List Stmt) (w : World) (o : ℕ) → 16 * w.turns + 1 ≤ B.most → B.least ≤ w.turns → c ≡ Address (Static n) ∷ rest
     → BaseOf g.lasting o (z.scene.own.places.label n) → Ready g z w → RanValue g (start z c w) B z rest w (gives (address o 0) w)
 table_runs g B z c n rest w o le le' ec e r =
-    inl (pushes_item g B z c (Address (Static n)) rest w (address o 0) (Word (z.scene.own.places.label n)) le le' ec r (lasting_stands g z.bases o _ r.lasts e)
+    went (pushes_item g B z c (Address (Static n)) rest w (address o 0) (Word (z.scene.own.places.label n)) le le' ec r (lasting_stands g z.bases o _ r.lasts e)
     (address_moves g.program (start z (Address (Static n) ∷ rest) w) z.scene.own rest z.depth (Static n) refl))
 
 -- the place that a statement names
 pub named_at : (z : Sit) (c : List Stmt) (w : World) (v : Named) → named_place (start z c w) z.scene.own v ≡ place_of z.scene.own z.frame v
 named_at z c w (Local n) = refl
-named_at z c w (Global n) = refl
-named_at z c w (Static l) = refl
+named_at z c w _ = refl
 
 push_word : (ts : List Target) (y : Option Bound) → IsWord y → push ts (meant y) ≡ Load (variable ts (meant y))
 push_word ts (Some (b.Global (Some n))) h = refl
 push_word ts (Some (b.Static m)) h = refl
 push_word ts (Some (b.Variable k i)) h = refl
-push_word ts (Some (b.Global None)) h = absurd h
-push_word ts (Some (b.Constant v)) h = absurd h
-push_word ts (Some (b.Label k m)) h = absurd h
-push_word ts None h = absurd h
+push_word ts _ h = absurd h
 
 -- the word of a name is pushed
 cell_runs : (g : Setting) (B : Account) (z : Sit) (c : List Stmt) (x : List ℕ) (rest : List Stmt) (w : World) (o i base : ℕ) → 16 * w.turns + 1 ≤ B.most → B.least ≤ w.turns → c ≡ Load (named_word z.scene x) ∷ rest → Ready g z w
     → BaseOf z.bases o base → base + i ≡ place_of z.scene.own z.frame (named_word z.scene x) → (y : Option Value) → read w.memory (address o i) ≡ y → RanValue g (start z c w) B z rest w (given y w)
-cell_runs g B z c x rest w o i base le le' ec r eb ep None h = inl tt
+cell_runs g B z c x rest w o i base le le' ec r eb ep None h = went tt
 cell_runs g B z c x rest w o i base le le' ec r eb ep (Some v) h =
     let f = read_here g.codes (store z w) (z.frame + z.depth) o i base v r.fits eb h in
     let s = start z (Load (named_word z.scene x) ∷ rest) w in
     let here : z.cells (named_place s z.scene.own (named_word z.scene x)) ≡ z.cells (base + i) = ap z.cells (named_at z (Load (named_word z.scene x) ∷ rest) w (named_word z.scene x) ∙ sym ep) in
-    inl (pushes_item g B z c (Load (named_word z.scene x)) rest w v (content_of (z.cells (named_place s z.scene.own (named_word z.scene x)))) le le' ec r
+    went (pushes_item g B z c (Load (named_word z.scene x)) rest w v (content_of (z.cells (named_place s z.scene.own (named_word z.scene x)))) le le' ec r
     (subst (λ k. Stands g.codes z.bases v k) (sym (ap content_of (here ∙ f.there))) f.stands)
     (load_moves g.program s z.scene.own rest z.depth (named_word z.scene x) refl))
 
@@ -122,6 +118,4 @@ name_runs g B z c x rest w le le' ec r = by_sense (sense_of x z.env) (r.named.ea
     by_sense (Some (constant n)) h = number_runs g B z c n rest w le le' (ec ∙ ap (λ y. push z.scene.targets (meant y) ∷ rest) h.0) h.1 r
     by_sense (Some (cell o i)) h =
         cell_runs g B z c x rest w o i h.0 le le' (ec ∙ ap (λ y. y ∷ rest) (push_word z.scene.targets (bound_in z.scene.bindings x) h.4)) r h.1 h.3 (read w.memory (address o i)) refl
-    by_sense (Some label) h = inl tt
-    by_sense (Some foreign) h = inl tt
-    by_sense None h = inl tt
+    by_sense _ h = went tt

@@ -1,5 +1,5 @@
 -- The values of a LET's variables, definition by definition.
-use Rattle.std.proofs.Common.{◌≡◌, ℕ, zero, suc, ◌+◌, ◌-◌, ◌*◌, ◌<◌, ◌≤◌, Bool, true, false, List, [], ◌∷◌, ◌++◌, Some, sym, ap, ◌∙◌, subst, arith, inl, slice_get}
+use Rattle.std.proofs.Common.{◌≡◌, ℕ, zero, suc, ◌+◌, ◌-◌, ◌*◌, ◌<◌, ◌≤◌, Bool, true, false, List, [], ◌∷◌, ◌++◌, Some, sym, ap, ◌∙◌, subst, arith, slice_get}
 use Rattle.bk_base.specs.declared.limit.TheConstants.{FRAME_WORDS}
 use Rattle.bk_tree.specs.Tree as t
 use Rattle.bk_tree.specs.Tree.{Definition, Definitions}
@@ -15,25 +15,23 @@ use Rattle.bk_meaning.proofs.After.{adds, stays, with_after, turn_after}
 use Rattle.bk_simulation.proofs.Memory.{Store}
 use Rattle.bk_simulation.proofs.Sizes.{turns_started, turns_defined}
 use Rattle.bk_simulation.proofs.Laid.{Setting, Scene, NamedIn, Spot, spots_of, defines_variables, AreStarts, AreDefined, KeepsLabels}
-use Rattle.bk_simulation.proofs.Frame.{Sit, Ready, Account, here, Ran, ran_from, with_ran, named_grown}
+use Rattle.bk_simulation.proofs.Frame.{Sit, Ready, Account, Ran, went, so, with_ran, OpenArrived, store_at, named_grown}
 use Rattle.bk_simulation.proofs.Simulates.{Simulates}
-use Rattle.bk_simulation.proofs.Openings.{OpenArrived, OpenExited, open_more}
-use Rattle.bk_simulation.proofs.Starts.{store_at, open_turn, open_ticked, Started, starts_rise, starts_run, starts_after}
-use Rattle.bk_simulation.proofs.Carried.{Carries, carries_refl, carries_on}
+use Rattle.bk_simulation.proofs.Compose.{arrived_more, out_more, turn_there, OpenExited, open_ticked}
+use Rattle.bk_simulation.proofs.Starts.{Started, starts_rise, starts_run, starts_after}
+use Rattle.bk_simulation.proofs.MadeObjects.{Since, since_refl, since_on}
 use Rattle.bk_simulation.proofs.BoundVariables.{SpotsAt, RisingSpots, items_spots, spots_carried, spots_both, spots_joined}
 
 -- a run in a smaller account
-pub open_lift : {T : Type 0} (g : Setting) (s : State) (A B : Account) (z : Sit) (w : World) (K L : T → World → Type 0) (o : Outcome T) → A.most ≤ B.most → B.least ≤ A.least → ((t : T) (w1 : World) → K t w1 → L t w1)
+pub open_lift : {T : Type 0} {g : Setting} {s : State} {A B : Account} {z : Sit} {w : World} {K L : T → World → Type 0} {o : Outcome T} → A.most ≤ B.most → B.least ≤ A.least → ((t : T) (w1 : World) → K t w1 → L t w1)
     → Ran g s A K (OpenExited g s A z w) o → Ran g s B L (OpenExited g s B z w) o
-open_lift g s A B z w K L o le le' h q =
-    ran_from g s s 0 0 A B K L (OpenExited g s A z w) (OpenExited g s B z w) o (here s) (omega arith) (omega arith) h
-    (λ x w1 e. let l = e.later in record { control = e.control; depth1 = e.depth1; more = e.more; leads = e.leads; arr = open_more g s A B z w e.control e.depth1 e.more w1 le le' e.arr; later = omega arith; hands = e.hands }) q
+open_lift le le' h q = so le le' h (λ x w1 e. record { more = e.more; is = out_more le le' e.is }) q
 
 -- the values of a LET
 pub record Lets (g : Setting) (s : State) (B : Account) (z : Sit) (w : World) (h : Store) (d : ℕ) (rest : List Stmt) (d1 : ℕ) (ps : List Spot) (vars : Bool) (ss : List Start) (w1 : World) : Type 0 where
   pub arr : OpenArrived g s B z w rest d1 (z.frame + d1) w1
-  pub carries : Carries (z.frame + d) h (store_at g s B z w rest d1 (z.frame + d1) w1 arr)
-  pub items : SpotsAt g.codes (store_at g s B z w rest d1 (z.frame + d1) w1 arr) z.frame d1 ss ps
+  pub since : Since (z.frame + d) h (store_at arr)
+  pub items : SpotsAt g.codes (store_at arr) z.frame d1 ss ps
   -- the turn of the variables leaves a step for STORE
   pub spare : vars ≡ true → arr.steps + 16 * w1.turns + 1 ≤ B.most
 
@@ -85,19 +83,19 @@ let_values_after m grows (t.define (t.routine l x fs c) ds) env w = let_values_a
 let_values_after m grows (t.define (t.function l x fs e) ds) env w = let_values_after m grows ds (past_definition (t.function l x fs e) env) w
 
 no_let : (g : Setting) (s : State) (A B : Account) (z : Sit) (w : World) (c rest : List Stmt) (d d1 : ℕ) (ps : List Spot) (w1 : World) → A.most ≤ B.most → B.least ≤ A.least → c ≡ rest → d1 ≡ d → ps ≡ []
-    → (a : OpenArrived g s A z w c d (z.frame + d) w1) → Lets g s B z w (store_at g s A z w c d (z.frame + d) w1 a) d rest d1 ps false [] w1
+    → (a : OpenArrived g s A z w c d (z.frame + d) w1) → Lets g s B z w (store_at a) d rest d1 ps false [] w1
 no_let g s A B z w c rest d d1 ps w1 le le' ec ed es a =
-    let h = store_at g s A z w c d (z.frame + d) w1 a in
+    let h = store_at a in
     subst (λ y. Lets g s B z w h d y d1 ps false [] w1) ec
     (subst (λ y. Lets g s B z w h d c y ps false [] w1) (sym ed)
     (subst (λ y. Lets g s B z w h d c d y false [] w1) (sym es)
-    (record { arr = open_more g s A B z w c d (z.frame + d) w1 le le' a; carries = carries_refl (z.frame + d) h; items = tt; spare = λ q. absurd (let z : false ≡ true = q in cc) })))
+    (record { arr = arrived_more le le' a; since = since_refl h; items = tt; spare = λ q. absurd (let z : false ≡ true = q in cc) })))
 
 pub let_run : (g : Setting) (m : Meanings) → Simulates g m → (ds : Definitions) (env : Environment) (bs : List Binding) (s : State) (A B : Account) (z : Sit) (w : World) (c rest : List Stmt) (d d1 : ℕ) (ps : List Spot) (w1 : World)
     → Ready g z w → z.depth ≤ d → KeepsLabels z.scene.bindings bs → d1 ≤ FRAME_WORDS → A.most ≤ B.most → B.least ≤ A.least - turns_defined ds → AreDefined g (record z.scene { bindings = bs }) d env ds c rest d1 ps
     → (a : OpenArrived g s A z w c d (z.frame + d) w1) → NamedIn (record z.scene { bindings = bs }) env a.bases1 z.frame
-    → Ran g s B (Lets g s B z w (store_at g s A z w c d (z.frame + d) w1 a) d rest d1 ps (defines_variables ds)) (OpenExited g s B z w) (let_values m ds env w1)
-let_run g m sim t.no_definitions env bs s A B z w c rest d d1 ps w1 r le keeps few le1 le2 l a named = inl (no_let g s A B z w c rest d d1 ps w1 le1 (omega arith) l.0 l.1 l.2 a)
+    → Ran g s B (Lets g s B z w (store_at a) d rest d1 ps (defines_variables ds)) (OpenExited g s B z w) (let_values m ds env w1)
+let_run g m sim t.no_definitions env bs s A B z w c rest d d1 ps w1 r le keeps few le1 le2 l a named = went (no_let g s A B z w c rest d d1 ps w1 le1 (omega arith) l.0 l.1 l.2 a)
 let_run g m sim (t.define (t.routine x y fs b) ds) env bs s A B z w c rest d d1 ps w1 r le keeps few le1 le2 l a named =
     let_run g m sim ds (past_definition (t.routine x y fs b) env) bs s A B z w c rest d d1 ps w1 r le keeps few le1 (omega arith) l a (record { each = named.each })
 let_run g m sim (t.define (t.function x y fs e) ds) env bs s A B z w c rest d d1 ps w1 r le keeps few le1 le2 l a named =
@@ -107,37 +105,34 @@ let_run g m sim (t.define (t.variables x xs is) ds) env bs s A B z w c rest d d1
     let d0 = l.1 in
     let env1 = past_definition (t.variables x xs is) env in
     let sc : Scene = record z.scene { bindings = bs } in
-    let h = store_at g s A z w c d (z.frame + d) w1 a in
+    let h = store_at a in
     let C : Account = record { most = A.most - 16; least = A.least - 1 - turns_started is } in
     let D : Account = record { most = B.most - 1; least = B.least } in
     let rise0 = (starts_rise g sc is d env c c0 d0 l.2 l.4).0 in
     let rise1 = (defined_rise g sc ds d0 env1 c0 rest d1 l.3 l.5).0 in
     let grows : Throughout (λ A w u. After (history w) u) m = sim.grows in
-    with_ran g s B (λ vs w2. Started g s C z w h d c0 d0 l.2 vs w2 × (16 ≤ A.most)) (Lets g s B z w h d rest d1 ps true) (OpenExited g s B z w) (turn w1 (λ w. starts m is env w)) _
-    (λ vs. adds _ (λ w2. with_after _ _ _ (let_values_after m grows ds env1 w2) (λ more. adds _ (λ w3. stays (history w3)))))
-    (open_turn g s A B z w c d (z.frame + d) w1 (λ vs w2. Started g s C z w h d c0 d0 l.2 vs w2 × (16 ≤ A.most)) (OpenExited g s B z w) (λ w. starts m is env w) le1 (omega arith) a
-    (λ n en.
+    with_ran {K = λ vs w2. Started g s C z w h d c0 d0 l.2 vs w2 × (16 ≤ A.most)} (λ vs. adds _ (λ w2. with_after _ _ _ (let_values_after m grows ds env1 w2) (λ more. adds _ (λ w3. stays (history w3)))))
+    (turn_there (λ w. starts m is env w) le1 (omega arith) a (λ n en.
     let A0 : Account = record { most = A.most - 16; least = A.least - 1 } in
-    let a1 = open_ticked g s A z w c d (z.frame + d) w1 n en a in
+    let a1 = open_ticked n en a in
     let big : 16 ≤ A.most = (let q = a.most in omega arith) in
-    open_lift g s C B z w (Started g s C z w h d c0 d0 l.2) (λ vs w2. Started g s C z w h d c0 d0 l.2 vs w2 × (16 ≤ A.most)) (starts m is env (record w1 { turns = n })) (omega arith) (omega arith) (λ vs w2 q. (q, big))
+    open_lift (omega arith) (omega arith) (λ vs w2 q. (q, big))
     (starts_run g m sim is env bs s A0 C z w c c0 d d0 l.2 (record w1 { turns = n }) r le keeps (omega arith) (omega arith) (omega arith) l.4 a1 named)))
     (λ vs w2 q2.
     let q = q2.0 in
     let big = q2.1 in
-    let h1 = store_at g s C z w c0 d0 (z.frame + d0) w2 q.arr in
-    with_ran g s B (λ more w3. Lets g s B z w h d rest d1 ps true (paired (letters xs) vs ++ more) w3) (Lets g s B z w h d rest d1 ps true) (OpenExited g s B z w) (let_values m ds env1 w2) _ (λ more. adds _ (λ w3. stays (history w3)))
-    (open_lift g s D B z w (Lets g s D z w h1 d0 rest d1 l.3 (defines_variables ds)) (λ more w3. Lets g s B z w h d rest d1 ps true (paired (letters xs) vs ++ more) w3) (let_values m ds env1 w2) (omega arith) (omega arith)
-    (λ more w3 k.
+    let h1 = store_at q.arr in
+    with_ran {K = λ more w3. Lets g s B z w h d rest d1 ps true (paired (letters xs) vs ++ more) w3} (λ more. adds _ (λ w3. stays (history w3)))
+    (open_lift (omega arith) (omega arith) (λ more w3 k.
     let mk = k.arr.most in
-    let h2 = store_at g s D z w rest d1 (z.frame + d1) w3 k.arr in
+    let h2 = store_at k.arr in
     subst (λ y. Lets g s B z w h d rest d1 y true (paired (letters xs) vs ++ more) w3) (sym l.6) (record {
-      arr = open_more g s D B z w rest d1 (z.frame + d1) w3 (omega arith) (omega arith) k.arr;
-      carries = carries_on (z.frame + d) (z.frame + d0) h h1 h2 (omega arith) q.carries k.carries;
-      items = spots_both g.codes h2 z.frame d1 (paired (letters xs) vs) more (spots_of (letters xs) l.2) l.3 (spots_carried g.codes h1 h2 z.frame d0 d1 (paired (letters xs) vs) (spots_of (letters xs) l.2) rise1 k.carries
+      arr = arrived_more (omega arith) (omega arith) k.arr;
+      since = since_on (omega arith) q.since k.since;
+      items = spots_both g.codes h2 z.frame d1 (paired (letters xs) vs) more (spots_of (letters xs) l.2) l.3 (spots_carried g.codes h1 h2 z.frame d0 d1 (paired (letters xs) vs) (spots_of (letters xs) l.2) rise1 k.since
           (items_spots g.codes h1 z.frame d0 (letters xs) vs l.2 q.items)) k.items;
       spare = λ u. omega arith;
     }))
     (let_run g m sim ds env1 bs s C D z w c0 rest d0 d1 l.3 w2 r (omega arith) keeps few (omega arith) (omega arith) l.5 q.arr
-    (let nm = named_grown sc env a.bases1 q.arr.bases1 z.frame q.carries.grown named in record { each = nm.each })))
-    (λ more w3 k. inl k))
+    (let nm = named_grown sc env a.bases1 q.arr.bases1 z.frame q.since.grown named in record { each = nm.each })))
+    (λ more w3 k. went k))

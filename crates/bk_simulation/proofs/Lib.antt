@@ -26,8 +26,6 @@ pub mod EnteredCalls
 pub mod LibraryTexts
 pub mod LibraryCalls
 pub mod Applied
-pub mod Openings
-pub mod Carried
 pub mod Starts
 pub mod BoundVariables
 pub mod Lets
@@ -36,7 +34,6 @@ pub mod Operators
 pub mod ControlSteps
 pub mod Conditions
 pub mod Places
-pub mod Exits
 pub mod Sought
 pub mod Orders
 pub mod NamesBound

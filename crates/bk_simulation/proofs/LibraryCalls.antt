@@ -29,7 +29,7 @@ use Rattle.bk_simulation.proofs.CellBytes.{AreBytes, read_byte_at, write_byte_at
 use Rattle.bk_simulation.proofs.BytesKept.{HasBytes}
 use Rattle.bk_simulation.proofs.LibraryTexts.{string_read, string_word, format_told}
 use Rattle.bk_simulation.proofs.Laid.{Setting, CallAt}
-use Rattle.bk_simulation.proofs.Frame.{Sit, store, Ready, Account, Comes, Ran}
+use Rattle.bk_simulation.proofs.Frame.{Sit, store, Ready, Account, Comes, Ran, went}
 use Rattle.bk_simulation.proofs.Returns.{call_stmt, Gave, returned_in}
 use Rattle.bk_simulation.proofs.Calls.{AnyExit}
 
@@ -113,7 +113,7 @@ module _ (of : Bool) (g : Setting) (s : State) (A B : Account) (z : Sit) (rest :
   back_with v result w3 cells3 written3 et st e e0 e1 f mv =
       let mq = at.most in
       let lq = at.least in
-      inl (returned_in of g s A B z rest w w3 n v result le le' en ready call (record {
+      went (returned_in of g s A B z rest w w3 n v result le le' en ready call (record {
         from = here;
         steps = at.steps;
         paid = at.paid;
@@ -154,16 +154,13 @@ low_byte top w i b cells k e = by_variable (variable_at top cells (word_sum w (b
 held_bytes : (cells : ℕ → Cell) → ((a : ℕ) → AreBytes (content_of (cells a))) → (p : ℕ) (k : Content) → cells p ≡ Held Variable k → AreBytes k
 held_bytes cells all p k e = subst (λ c. AreBytes (content_of c)) e (all p)
 
-word_stands : (x : Content) (w n : ℕ) → x ≡ Word w → w ≡ n → x ≡ Word n
-word_stands x w n e q = e ∙ ap Word q
-
 pub library_runs : (of : Bool) (g : Setting) (s : State) (A B : Account) (z : Sit) (rest : List Stmt) (w w1 : World) (vs : List Value) (r : value.Routine) (n : ℕ) → A.most + 1 ≤ B.most → B.least ≤ A.least → n ≡ w.calls → Ready g z w
     → CallAt g z.scene (call_stmt of z.depth) rest → g.program.callables.routine (g.codes.routine r) ≡ Some (named_there r) → AtRoutine g s A z w vs (z.scene.own.places.call (length rest)) (g.codes.routine r) w1
     → Ran g s B (λ v w3. Gave of g s B z rest w v (calls_back n w3)) AnyExit (library r vs w1)
 library_runs of g s A B z rest w w1 (number k ∷ vs) value.stop n le le' en ready call known at =
     let h = here of g s A B z rest w w1 (number k ∷ vs) value.stop n le le' en ready call known at in
     let mq = at.most in
-    inl (record {
+    went (record {
       to = h;
       steps = at.steps;
       paid = at.paid;
@@ -197,7 +194,7 @@ library_runs of g s A B z rest w w1 (a ∷ vs) value.writes n le le' en ready ca
     h = record { control = At (g.codes.routine value.writes); cells = at.cells1; frame = z.frame + z.depth; hand = None; input = w1.input; output = w1.output; written = at.written1 }
 
     by_text : (o : Option (List ℕ)) → m.string_at w1.memory a ≡ o → Ran g s B (λ v w3. Gave of g s B z rest w v (calls_back n w3)) AnyExit (writes_text o w1)
-    by_text None e = inl tt
+    by_text None e = went tt
     by_text (Some text) e =
         let hs : Store = record { bases = at.bases1; mem = w1.memory; cells = at.cells1 } in
         let x = string_word g.codes hs (z.frame + z.depth) at.fits a _ text (at.each 0 a refl) e in
@@ -220,7 +217,7 @@ library_runs of g s A B z rest w w1 (a ∷ i ∷ vs) value.getbyte n le le' en r
     h = record { control = At (g.codes.routine value.getbyte); cells = at.cells1; frame = z.frame + z.depth; hand = None; input = w1.input; output = w1.output; written = at.written1 }
 
     by_byte : (o : Option ℕ) → read_byte w1.memory a i ≡ o → Ran g s B (λ v w3. Gave of g s B z rest w v (calls_back n w3)) AnyExit (given (option_map number o) w1)
-    by_byte None e = inl tt
+    by_byte None e = went tt
     by_byte (Some b) e =
         let hs : Store = record { bases = at.bases1; mem = w1.memory; cells = at.cells1 } in
         let x = read_byte_at g.codes hs (z.frame + z.depth) a i _ _ b at.fits (at.each 0 a refl) (at.each 1 i refl) e in
@@ -237,7 +234,7 @@ library_runs of g s A B z rest w w1 (a ∷ i ∷ u ∷ vs) value.putbyte n le le
     set_to p x = record h { cells = write h.cells p (Held Variable x); written = p ∷ h.written }
 
     by_memory : (o : Option Memory) → write_byte w1.memory a i u ≡ o → Ran g s B (λ v w3. Gave of g s B z rest w v (calls_back n w3)) AnyExit (with (changes o w1) (λ _ w. gives unset w))
-    by_memory None e = inl tt
+    by_memory None e = went tt
     by_memory (Some m1) e =
         let hs : Store = record { bases = at.bases1; mem = w1.memory; cells = at.cells1 } in
         let x = write_byte_at g.codes hs (z.frame + z.depth) a i u _ _ _ m1 (held_bytes at.cells1 at.has.words) at.fits (at.each 0 a refl) (at.each 1 i refl) (at.each 2 u refl) e in
@@ -259,7 +256,7 @@ library_runs of g s A B z rest w w1 (a ∷ vs) value.writef n le le' en ready ca
     h = record { control = At (g.codes.routine value.writef); cells = at.cells1; frame = z.frame + z.depth; hand = None; input = w1.input; output = w1.output; written = at.written1 }
 
     by_text : (bytes : List ℕ) → m.string_at w1.memory a ≡ Some bytes → (o : Option (List ℕ)) → m.written w1.memory (parts bytes) vs ≡ o → Ran g s B (λ v w3. Gave of g s B z rest w v (calls_back n w3)) AnyExit (writes_text o w1)
-    by_text bytes eb None e = inl tt
+    by_text bytes eb None e = went tt
     by_text bytes eb (Some text) e =
         let hs : Store = record { bases = at.bases1; mem = w1.memory; cells = at.cells1 } in
         let x = string_word g.codes hs (z.frame + z.depth) at.fits a _ bytes (at.each 0 a refl) eb in
@@ -272,6 +269,6 @@ library_runs of g s A B z rest w w1 (a ∷ vs) value.writef n le le' en ready ca
         ∙ ap (λ y. on_some y (λ bytes. tells h bytes)) told)
 
     by_format : (o : Option (List ℕ)) → m.string_at w1.memory a ≡ o → Ran g s B (λ v w3. Gave of g s B z rest w v (calls_back n w3)) AnyExit (writes_text (option_and_then (λ bytes. m.written w1.memory (parts bytes) vs) o) w1)
-    by_format None e = inl tt
+    by_format None e = went tt
     by_format (Some bytes) e = by_text bytes e (m.written w1.memory (parts bytes) vs) refl
-library_runs of g s A B z rest w w1 _ _ n le le' en ready call known at = inl tt
+library_runs of g s A B z rest w w1 _ _ n le le' en ready call known at = went tt

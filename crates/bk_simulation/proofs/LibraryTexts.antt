@@ -13,20 +13,15 @@ use Rattle.bk_ocode.specs.Cells.{Content, Word}
 use Rattle.bk_ocode.specs.Access.{number_in, byte_at, bytes_from, string_at}
 use Rattle.bk_ocode.specs.Telling.{in_front, format_bytes}
 use Rattle.bk_simulation.proofs.Memory.{Codes, Stands, Store, Fits}
-use Rattle.bk_simulation.proofs.CellBytes.{read_byte_at}
-
-word_is : (v w : ℕ) → Word v ≡ Word w → v ≡ w
-word_is v w e = cc
-
-some_is : {A : Type 0} (x y : A) → Some x ≡ Some y → x ≡ y
-some_is x y e = cc
+use Rattle.bk_simulation.proofs.CellBytes.{read_byte_at, word_number}
+use Rattle.bk_simulation.proofs.OperatorWords.{some_is}
 
 module _ (codes : Codes) (h : Store) (top : ℕ) (fits : Fits codes h top) where
   -- a byte that is read
   byte_read : (a : Value) (w i b : ℕ) → Stands codes h.bases a (Word w) → read_byte h.mem a (number i) ≡ Some b → byte_at top h.cells w i ≡ Some b
   byte_read a w i b st e =
       let r = read_byte_at codes h top a (number i) (Word w) (Word i) b fits st refl e in
-      ap (λ y. byte_at top h.cells y i) (word_is w r.word r.is_word) ∙ ap (λ y. byte_at top h.cells r.word y) (word_is i r.index r.is_index) ∙ r.reads
+      ap (λ y. byte_at top h.cells y i) (word_number w r.word r.is_word) ∙ ap (λ y. byte_at top h.cells r.word y) (word_number i r.index r.is_index) ∙ r.reads
 
   -- several
   bytes_read : (n : ℕ) (a : Value) (w i : ℕ) (bs : List ℕ) → Stands codes h.bases a (Word w) → m.bytes_from n h.mem a i ≡ Some bs → bytes_from n top h.cells w i ≡ Some bs
@@ -74,12 +69,11 @@ module _ (codes : Codes) (h : Store) (top : ℕ) (fits : Fits codes h top) where
 
   -- what a part writes of an argument
   abbrev told_of : (slots : ℕ → Content) (k : ℕ) → FormatPart → Option (List ℕ)
-  told_of slots k (f.Byte b) = None
-  told_of slots k f.Percent = None
   told_of slots k f.String = option_and_then (string_at top h.cells) (number_in (slots k))
   told_of slots k f.Number = option_map (λ w. spelling (signed w)) (number_in (slots k))
   told_of slots k f.Character = option_map (λ w. w % 256 ∷ []) (number_in (slots k))
   told_of slots k (f.Column n) = option_map (λ w. aligned w n) (number_in (slots k))
+  told_of slots k _ = None
 
   part_told : (slots : ℕ → Content) (k : ℕ) (p : FormatPart) (v : Value) (text : List ℕ) → Stands codes h.bases v (slots k) → m.argument_text h.mem p v ≡ Some text → told_of slots k p ≡ Some text
   part_told slots k f.String v text st e =
@@ -113,11 +107,8 @@ module _ (codes : Codes) (h : Store) (top : ℕ) (fits : Fits codes h top) where
   format_told slots [] k vs args text e = e
   format_told slots (f.Byte b ∷ ps) k vs args text e = in_front_is (Some (b ∷ [])) _ (b ∷ []) (m.written h.mem ps vs) text refl (format_told slots ps k vs args) e
   format_told slots (f.Percent ∷ ps) k vs args text e = in_front_is (Some (37 ∷ [])) _ (37 ∷ []) (m.written h.mem ps vs) text refl (format_told slots ps k vs args) e
-  format_told slots (f.String ∷ ps) k [] args text e = absurd (let z : None ≡ Some text = e in cc)
-  format_told slots (f.Number ∷ ps) k [] args text e = absurd (let z : None ≡ Some text = e in cc)
-  format_told slots (f.Character ∷ ps) k [] args text e = absurd (let z : None ≡ Some text = e in cc)
-  format_told slots (f.Column n ∷ ps) k [] args text e = absurd (let z : None ≡ Some text = e in cc)
   format_told slots (f.String ∷ ps) k (v ∷ vs) args text e = taken_part slots f.String ps k v vs text args (format_told slots ps (k + 1) vs (later_arguments slots k v vs args)) e
   format_told slots (f.Number ∷ ps) k (v ∷ vs) args text e = taken_part slots f.Number ps k v vs text args (format_told slots ps (k + 1) vs (later_arguments slots k v vs args)) e
   format_told slots (f.Character ∷ ps) k (v ∷ vs) args text e = taken_part slots f.Character ps k v vs text args (format_told slots ps (k + 1) vs (later_arguments slots k v vs args)) e
   format_told slots (f.Column n ∷ ps) k (v ∷ vs) args text e = taken_part slots (f.Column n) ps k v vs text args (format_told slots ps (k + 1) vs (later_arguments slots k v vs args)) e
+  format_told slots _ k [] args text e = absurd (let z : None ≡ Some text = e in cc)

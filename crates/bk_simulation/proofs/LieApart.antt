@@ -59,8 +59,6 @@ module _ (g : Setting) (k : ℕ) (own : Placed) (is_own : slice_get g.program.se
   spans_at : (i : ℕ) (ks : List Kind) (xs : List Lasting) (vs ws : List ℕ) (keys : List ℕ) (spans : List Span) → AreSpread g own i (map form_of ks) keys spans → AreAs own ks xs vs ws → FollowWords g.codes.procedure i ws → AreThere own ks
       → AllSpansAt own spans (joined entry_label ks)
   spans_at i [] xs vs ws [] [] s a f t = tt
-  spans_at i [] xs vs ws (q ∷ keys) spans s a f t = absurd s
-  spans_at i [] xs vs ws [] (y ∷ spans) s a f t = absurd s
   spans_at i (string ∷ ks) (x ∷ xs) (v ∷ vs) (w ∷ ws) (q ∷ keys) spans s a f t = spans_at (suc i) ks xs vs ws keys spans s.1 a.1 f.1 t.1
   spans_at i (words_at n us ∷ ks) (x ∷ xs) (v ∷ vs) (w ∷ ws) keys spans s a f t = spans_at (suc i) ks xs vs ws keys spans s a.1 f.1 t.1
   spans_at i (entry n y ∷ ks) (code p ∷ xs) (v ∷ vs) (w ∷ ws) keys (z ∷ spans) s a f t =
@@ -68,13 +66,12 @@ module _ (g : Setting) (k : ℕ) (own : Placed) (is_own : slice_get g.program.se
       let e : own.places.label c.label ≡ own.places.label n = sym c.word ∙ f.0 ∙ a.0.1 in
       let same = same_entry g.program g.first g.well k own is_own c.label n z.place t.0.1 c.name t.0.2 c.at t.0.3 e in
       (record { name = c.name; at = c.at ∙ ap (λ l. Some (Entry l c.name)) same; behind = c.behind }, spans_at (suc i) ks xs vs ws keys spans s.1 a.1 f.1 t.1)
-  spans_at i (string ∷ ks) (x ∷ xs) (v ∷ vs) (w ∷ ws) [] spans s a f t = absurd s
-  spans_at i (entry n y ∷ ks) (x ∷ xs) (v ∷ vs) (w ∷ ws) keys [] s a f t = absurd s
   spans_at i (entry n y ∷ ks) (words us ∷ xs) (v ∷ vs) (w ∷ ws) keys (z ∷ spans) s a f t = elim (a.0) [ ]
   spans_at i (entry n y ∷ ks) (global_vector ∷ xs) (v ∷ vs) (w ∷ ws) keys (z ∷ spans) s a f t = elim (a.0) [ ]
   spans_at i (m ∷ ks) [] vs ws keys spans s a f t = absurd a
   spans_at i (m ∷ ks) (x ∷ xs) [] ws keys spans s a f t = absurd a
   spans_at i (m ∷ ks) (x ∷ xs) (v ∷ vs) [] keys spans s a f t = absurd a
+  spans_at i _ _ _ _ _ _ s a f t = absurd s
 
   -- ---- the statement of an object
 
@@ -90,10 +87,6 @@ module _ (g : Setting) (k : ℕ) (own : Placed) (is_own : slice_get g.program.se
   located : (i : ℕ) (ks : List Kind) (xs : List Lasting) (vs ws : List ℕ) (keys : List ℕ) (spans : List Span) → AreSpread g own i (map form_of ks) keys spans → AreAs own ks xs vs ws → Follow g.lasting i vs → AreThere own ks
       → ((q : ℕ) → 1 ≤ times q keys → StringIn own.stmts q) → (j : ℕ) (x : Lasting) → slice_get xs j ≡ Some x → HasWords (Some x) → Located g k (i + j) (marks ks keys) j
   located i [] [] vs ws keys spans s a f t there j x e h = absurd (let z : None ≡ Some x = e in cc)
-  located i [] (x0 ∷ xs) vs ws keys spans s a f t there j x e h = absurd a
-  located i (m ∷ ks) [] vs ws keys spans s a f t there j x e h = absurd a
-  located i (m ∷ ks) (x0 ∷ xs) [] ws keys spans s a f t there j x e h = absurd a
-  located i (m ∷ ks) (x0 ∷ xs) (v ∷ vs) [] keys spans s a f t there j x e h = absurd a
   located i (string ∷ ks) (x0 ∷ xs) (v ∷ vs) (w ∷ ws) [] spans s a f t there j x e h = absurd s
   located i (string ∷ ks) (x0 ∷ xs) (v ∷ vs) (w ∷ ws) (q ∷ keys) spans s a f t there zero x e h =
       let one = itself_once q keys in
@@ -188,6 +181,7 @@ module _ (g : Setting) (k : ℕ) (own : Placed) (is_own : slice_get g.program.se
   located i (entry n (b.Constant c) ∷ ks) (code p ∷ xs) (v ∷ vs) (w ∷ ws) keys (z ∷ spans) s a f t there zero x e h = elim (a.0.3) [ ]
   located i (entry n (b.Variable c d) ∷ ks) (code p ∷ xs) (v ∷ vs) (w ∷ ws) keys (z ∷ spans) s a f t there zero x e h = elim (a.0.3) [ ]
   located i (entry n (b.Label c d) ∷ ks) (code p ∷ xs) (v ∷ vs) (w ∷ ws) keys (z ∷ spans) s a f t there zero x e h = elim (a.0.3) [ ]
+  located i _ _ _ _ keys spans s a f t there j x e h = absurd a
 
 -- ---- one section
 

@@ -1,5 +1,5 @@
 -- Loops as commands, from their beginning or from a place in them.
-use Rattle.std.proofs.Common.{◌≡◌, ℕ, suc, ◌+◌, ◌-◌, ◌*◌, ◌≤◌, Bool, true, false, cond, List, ◌∷◌, refl, sym, ◌∙◌, subst, arith, inl}
+use Rattle.std.proofs.Common.{◌≡◌, ℕ, suc, ◌+◌, ◌-◌, ◌*◌, ◌≤◌, Bool, true, false, cond, List, ◌∷◌, refl, sym, ◌∙◌, subst, arith}
 use Rattle.bk_ocode.specs.OcodeState.{State}
 use Rattle.bk_ocode.specs.declared.stmt.Stmt.{Stmt}
 use Rattle.bk_ocode.specs.declared.stmt.Stmt.TheVariants.{Label, Jump}
@@ -15,12 +15,11 @@ use Rattle.bk_meaning.proofs.After.{Adds, adds, stays, either_after, each_way_af
 use Rattle.bk_simulation.proofs.Sizes.{turns_of, turns_in}
 use Rattle.bk_simulation.proofs.Sought.{same_stands}
 use Rattle.bk_simulation.proofs.Laid.{Setting, LabelAt, IsAct, IsLoop, Entered, EnteredBody}
-use Rattle.bk_simulation.proofs.Frame.{Sit, store, start, Ready, Account, paying, with_ran, ArrivedAt, next, ready_next}
-use Rattle.bk_simulation.proofs.Compose.{stay, arrived_more, arrived_on, ran_on, ran_first}
-use Rattle.bk_simulation.proofs.Simulates.{Simulates, for_truth, turns_in_round, for_rounds, where_to, HasTruth, Did}
-use Rattle.bk_simulation.proofs.ControlSteps.{label_on}
-use Rattle.bk_simulation.proofs.Commands.{RanDid}
-use Rattle.bk_simulation.proofs.Branches.{landed_on, jumped_on, jump_way}
+use Rattle.bk_simulation.proofs.Frame.{Sit, start, Ready, Account, went, with_ran, ArrivedAt, next, ready_next}
+use Rattle.bk_simulation.proofs.Compose.{stay, arrived_more, arrived_on, ran_on, comes_to, ran_first}
+use Rattle.bk_simulation.proofs.Simulates.{Simulates, for_truth, turns_in_round, for_rounds, where_to, HasTruth, Did, RanDid}
+use Rattle.bk_simulation.proofs.ControlSteps.{label_on, landed_on, jumped_on}
+use Rattle.bk_simulation.proofs.Branches.{jump_way}
 use Rattle.bk_simulation.proofs.Loops.{while_adds, while_rounds, repeat_rounds, repeat_while_rounds}
 
 -- the rounds of a loop do what they mean
@@ -32,37 +31,25 @@ rounds_behind : (g : Setting) (m : Meanings) (x : Action) → RoundsRun g m x �
     → IsLoop g z.scene z.depth z.env x at body rest → EnteredBody forwards z.env x at body body → Ready g z w → ArrivedAt g s A z body z.depth w w1 → RanDid g s B z rest w (rounds_of m x forwards z.env w1)
 rounds_behind g m x run s A B z at body rest w w1 le ll l en r ar =
     let m0 = ar.most in
-    let N = for_rounds x w1 in
-    let z1 = next g s A z body z.depth w w1 z.env z.depth ar in
-    let r1 = ready_next g s A z body z.depth w w1 z.env z.depth ar refl (omega arith) r in
-    ran_on g s A N B z body z.depth w w1 z.env (λ _ w2. Did g (start z1 body w1) N z1 rest w1 w2) (λ _ w2. Did g s B z rest w w2) (rounds_of m x forwards z.env w1) (omega arith) ll r (omega arith) ar
-    (λ _ w2 q. arrived_on g s A N B z body rest z.depth z.depth w w1 w2 z.env (omega arith) ll r (omega arith) ar q)
-    (run forwards z1 at body rest body w1 l en r1)
+    comes_to (omega arith) ll r (omega arith) ar (run forwards (next g s A z body z.depth w w1 z.env z.depth ar) at body rest body w1 l en (ready_next z.env z.depth ar refl (omega arith) r))
 
 rounds_sought : (g : Setting) (m : Meanings) (x : Action) → RoundsRun g m x → (B : Account) (s : Sought) (z : Sit) (at : Sought → List Stmt) (body rest e : List Stmt) (w : World) → 16 * w.turns + 2 ≤ B.most → B.least ≤ w.turns - turns_in_round x
     → IsLoop g z.scene z.depth z.env x at body rest → EnteredBody (seeking s) z.env x at body e → Ready g z w → RanDid g (start z e w) B z rest w (rounds_of m x (seeking s) z.env w)
 rounds_sought g m x run B s z at body rest e w le ll l en r =
-    ran_first g (start z e w) (for_rounds x w) B z w _ _ (rounds_of m x (seeking s) z.env w) le ll
-    (λ _ w1 q. arrived_more g (start z e w) (for_rounds x w) B z.scene.own z.frame w.calls (z.frame + z.depth) (store z w) rest z.depth w1 le ll q) (run (seeking s) z at body rest e w l en r)
+    ran_first le ll (λ _ w1 q. arrived_more le ll q) (run (seeking s) z at body rest e w l en r)
 
 -- a LAB, and then rounds from their beginning
 rounds_from_label : (g : Setting) (m : Meanings) (x : Action) → RoundsRun g m x → (B : Account) (z : Sit) (n : ℕ) (at : Sought → List Stmt) (c body rest : List Stmt) (w : World) → 16 * w.turns + 3 ≤ B.most → B.least ≤ w.turns - turns_in_round x
     → IsLoop g z.scene z.depth z.env x at body rest → EnteredBody forwards z.env x at body body → LabelAt g z.scene z.depth n body → c ≡ Label n ∷ body → Ready g z w → RanDid g (start z c w) B z rest w (rounds_of m x forwards z.env w)
 rounds_from_label g m x run B z n at c body rest w le ll l en ln ec r =
-    let dp = r.deep in
     subst (λ y. RanDid g (start z y w) B z rest w (rounds_of m x forwards z.env w)) (sym ec)
     (rounds_behind g m x run (start z (Label n ∷ body) w) (record { most = 16 * w.turns + 1; least = w.turns }) B z at body rest w w (omega arith) (omega arith) l en r
-    (landed_on g (start z (Label n ∷ body) w) (record { most = 16 * w.turns; least = w.turns }) (record { most = 16 * w.turns + 1; least = w.turns }) z n body w w (omega arith) (omega arith) r.deep ln
-    (stay g (record { most = 16 * w.turns; least = w.turns }) z (Label n ∷ body) w (omega arith) (omega arith) r)))
+    (landed_on (omega arith) (omega arith) ln (stay g (record { most = 16 * w.turns; least = w.turns }) z (Label n ∷ body) w (omega arith) (omega arith) r)))
 
 -- ---- WHILE and UNTIL
 round_exit_adds : (next : World → Outcome Done) → Adds next → (x : Exit) → Adds (round_exit next x)
 round_exit_adds next ad loop = ad
-round_exit_adds next ad break = adds _ (λ w1. stays (history w1))
-round_exit_adds next ad endcase = adds _ (λ w1. stays (history w1))
-round_exit_adds next ad (goto y) = adds _ (λ w1. stays (history w1))
-round_exit_adds next ad (result v) = adds _ (λ w1. stays (history w1))
-round_exit_adds next ad return = adds _ (λ w1. stays (history w1))
+round_exit_adds next ad _ = adds _ (λ w1. stays (history w1))
 
 again_adds : (u : World → Outcome Done) (next : World → Outcome Done) → Adds u → Adds next → Adds (λ w. again (u w) next)
 again_adds u next au an = adds _ (λ w. each_way_after (history w) (u w) (λ _ w. next w) (round_exit next) (au.at w) (λ _. an) (λ x. round_exit_adds next an x))
@@ -81,31 +68,24 @@ while_run g m sim B l b e a z at c rest w le le' lx r =
     let A0 : Account = record { most = 16 * w.turns; least = w.turns } in
     let A : Account = record { most = 16 * w.turns + 2; least = w.turns } in
     let C : Account = record { most = 16 * w.turns + 2; least = w.turns - turns_of e } in
-    let ar : ArrivedAt g s A z lx.4 z.depth w w = jumped_on g s A0 A z lx.0 lx.4 (Label lx.1 ∷ lx.3) w w (omega arith) (omega arith) r.deep lx.8 (stay g A0 z c0 w (omega arith) (omega arith) r) in
+    let ar : ArrivedAt g s A z lx.4 z.depth w w = jumped_on (omega arith) (omega arith) r.deep lx.8 (stay g A0 z c0 w (omega arith) (omega arith) r) in
     let m0 = ar.most in
-    let N = for_truth e w in
-    let z1 = next g s A z lx.4 z.depth w w z.env z.depth ar in
-    let r1 = ready_next g s A z lx.4 z.depth w w z.env z.depth ar refl (omega arith) r in
     subst (λ y. RanDid g (start z y w) B z rest w (where_truth m b e z.env (λ w. rounds_of m (t.while l b e a) forwards z.env w) w)) (sym lx.5)
-    (with_ran g s B (λ x w2. HasTruth g s C z b (Label lx.1 ∷ lx.3) (Label lx.2 ∷ rest) w x w2) _ _ (m.truth e z.env w) _ (λ x. while_goes g m sim l b e a z.env x)
-    (ran_first g s C B z w _ _ (m.truth e z.env w) (omega arith) (omega arith) (λ x w2 q. q)
-    (ran_on g s A N C z lx.4 z.depth w w z.env (HasTruth g (start z1 lx.4 w) N z1 b (Label lx.1 ∷ lx.3) (Label lx.2 ∷ rest) w) (HasTruth g s C z b (Label lx.1 ∷ lx.3) (Label lx.2 ∷ rest) w) (m.truth e z.env w) (omega arith) (omega arith) r (omega arith) ar
-    (λ x w2 q. arrived_on g s A N C z lx.4 (where_to b x (Label lx.1 ∷ lx.3) (Label lx.2 ∷ rest)) z.depth z.depth w w w2 z.env (omega arith) (omega arith) r (omega arith) ar q)
-    (sim.truth e z1 b lx.1 (Label lx.1 ∷ lx.3) lx.4 (Label lx.2 ∷ rest) w lx.7 lx.9.found r1)))
+    (with_ran {K = λ x w2. HasTruth g s C z b (Label lx.1 ∷ lx.3) (Label lx.2 ∷ rest) w x w2} (λ x. while_goes g m sim l b e a z.env x)
+    (ran_on (omega arith) (omega arith) r (omega arith) ar (λ x w2 q. arrived_on (omega arith) (omega arith) r (omega arith) ar q)
+    (sim.truth e (next g s A z lx.4 z.depth w w z.env z.depth ar) b lx.1 (Label lx.1 ∷ lx.3) lx.4 (Label lx.2 ∷ rest) w lx.7 lx.9.found (ready_next z.env z.depth ar refl (omega arith) r)))
     (λ x w2 q. goes (same_truth b x) w2 (subst (λ y. ArrivedAt g s C z y z.depth w w2) (jump_way b x (Label lx.1 ∷ lx.3) (Label lx.2 ∷ rest)) q)))
   where
     goes : (x : Bool) (w2 : World) → ArrivedAt g (start z (Jump lx.0 ∷ Label lx.1 ∷ lx.3) w) (record { most = 16 * w.turns + 2; least = w.turns - turns_of e }) z (cond x (Label lx.1 ∷ lx.3) (Label lx.2 ∷ rest)) z.depth w w2
         → RanDid g (start z (Jump lx.0 ∷ Label lx.1 ∷ lx.3) w) B z rest w (either x (λ w. rounds_of m (t.while l b e a) forwards z.env w) done w2)
-    goes true w2 q = let dp = r.deep in
+    goes true w2 q =
         let few : suc (turns_of e + turns_in a) ≤ g.pay = lx.11 in
         let s = start z (Jump lx.0 ∷ Label lx.1 ∷ lx.3) w in
-        let C : Account = record { most = 16 * w.turns + 2; least = w.turns - turns_of e } in
         let D : Account = record { most = 16 * w.turns + 3; least = (w.turns - turns_of e) + g.pay } in
-        let ar : ArrivedAt g s D z lx.3 z.depth w w2 = arrived_more g s (paying g C) D z.scene.own z.frame w.calls (z.frame + z.depth) (store z w) lx.3 z.depth w2 (omega arith) (omega arith)
-        (label_on g s C z.scene z.frame w.calls (z.frame + z.depth) (store z w) z.depth z.depth lx.1 lx.3 w2 (omega arith) lx.9 q) in
+        let ar : ArrivedAt g s D z lx.3 z.depth w w2 = arrived_more (omega arith) (omega arith) (label_on lx.9 q) in
         let m0 = ar.most in
         rounds_behind g m (t.while l b e a) (λ mode z at body rest e1 w. while_rounds g m sim l b e a mode z at body rest e1 w) s D B z at lx.3 rest w w2 (omega arith) (omega arith) (lx.0, lx.1, lx.2, lx.4, lx.6, lx.7, lx.8, lx.9, lx.10, lx.11) refl r ar
-    goes false w2 q = inl (landed_on g (start z (Jump lx.0 ∷ Label lx.1 ∷ lx.3) w) (record { most = 16 * w.turns + 2; least = w.turns - turns_of e }) B z lx.2 rest w w2 (omega arith) (omega arith) r.deep lx.10 q)
+    goes false w2 q = went (landed_on (omega arith) (omega arith) lx.10 q)
 
 pub while_sought : (g : Setting) (m : Meanings) → Simulates g m → (B : Account) (l : ℕ) (b : Bool) (e : Expression) (a : Action) (s : Sought) (z : Sit) (at : Sought → List Stmt) (c rest e1 : List Stmt) (w : World) → 16 * w.turns + 2 ≤ B.most
     → B.least ≤ w.turns - suc (turns_of e + turns_in a) → IsAct g z.scene z.depth z.env (t.while l b e a) at c rest → (stands_in s z.env a ≡ true) × (e1 ≡ at s) → Ready g z w

@@ -4,10 +4,10 @@ use Rattle.std.specs.Prelude.{option_and_then}
 use Rattle.std.proofs.lemmas.Option.{slice_get_within}
 use Rattle.bk_meaning.specs.Values.{Cell as Cell_of, holds, places}
 use Rattle.bk_meaning.specs.Memory.{Object, living, dead, Memory, cells_of, cells_at, made, dead_from}
-use Rattle.bk_ocode.specs.Cells.{Content, Variable, Held, content_of}
+use Rattle.bk_ocode.specs.Cells.{Content, Variable, Cell, Held, content_of}
 use Rattle.bk_ocode.specs.Cells as ocode
 use Rattle.bk_simulation.proofs.ListPlaces.{get_first, get_new, get_last}
-use Rattle.bk_simulation.proofs.Memory.{like_refl, like_on, BaseOf, size_in, Alive, IsCell, Store, limit, Grown, Kept, Moved, get_at, alive_within, one_base, Codes, StandsCell, Fits, based, stands_grown, fits_less}
+use Rattle.bk_simulation.proofs.Memory.{Like, like_refl, like_on, BaseOf, size_in, Alive, IsCell, Store, limit, Grown, Moved, get_at, alive_within, one_base, Codes, StandsCell, Fits, based, stands_grown, fits_more, fits_less}
 
 -- no living object has this word
 abbrev pub IsFree : Store → ℕ → Type 0
@@ -35,9 +35,8 @@ pub object_there : (mem : Memory) (o : ℕ) (cells : List Cell_of) → cells_at 
 object_there mem o cells h = by_object (slice_get mem o) h
   where
     by_object : (y : Option Object) → cells_of y ≡ Some cells → y ≡ Some (living cells)
-    by_object None h = absurd (cc)
     by_object (Some (living c)) h = cc
-    by_object (Some dead) h = absurd (cc)
+    by_object _ h = absurd (cc)
 
 pub grown_length : (bases bases1 : List ℕ) → Grown bases bases1 → length bases ≤ length bases1
 grown_length bases bases1 g = by_length (length bases) refl
@@ -81,10 +80,6 @@ alive_made mem vs o n a =
     (λ (e : (o ≡ length mem) × (l.cells ≡ vs)). inr (e.0, sym l.long ∙ ap length e.1))
     (cells_made mem vs o l.cells l.is)
 
--- it lives there
-pub alive_new : (mem : Memory) (vs : List Cell_of) → Alive (made vs mem) (length mem) (length vs)
-alive_new mem vs = ap (λ y. size_in (cells_of y)) (get_new mem (living vs))
-
 pub base_made : (bases : List ℕ) (b o b1 : ℕ) → BaseOf (bases ++ b ∷ []) o b1 → BaseOf bases o b1 ⊎ ((o ≡ length bases) × (b1 ≡ b))
 base_made bases b o b1 e = get_last bases b o b1 e
 
@@ -122,11 +117,10 @@ dead_length (suc o) (x ∷ mem) = ap (λ n. suc n) (dead_length o mem)
 
 -- what lives after the death of those from a number on was before it, and lived
 pub lives_before : (o : ℕ) (mem : Memory) (o1 : ℕ) (cells : List Cell_of) → cells_at (dead_from o mem) o1 ≡ Some cells → (o1 < o) × (cells_at mem o1 ≡ Some cells)
-lives_before o [] o1 cells h = absurd (cc)
-lives_before zero (x ∷ mem) zero cells h = absurd (cc)
 lives_before zero (x ∷ mem) (suc o1) cells h = let e = lives_before zero mem o1 cells h in absurd (omega (arith, e.0))
 lives_before (suc o) (x ∷ mem) zero cells h = (omega arith, h)
 lives_before (suc o) (x ∷ mem) (suc o1) cells h = let e = lives_before o mem o1 cells h in (omega (arith, e.0), e.1)
+lives_before _ _ _ cells h = absurd (cc)
 
 pub alive_before : (o : ℕ) (mem : Memory) (o1 n : ℕ) → Alive (dead_from o mem) o1 n → (o1 < o) × Alive mem o1 n
 alive_before o mem o1 n a =
@@ -139,31 +133,91 @@ cell_before o mem o1 i c h =
     let x = cell_in (cells_at (dead_from o mem) o1) i c h in
     ap (λ y. option_and_then (λ cells. slice_get cells i) y) (lives_before o mem o1 x.0 x.1).1 ∙ x.2
 
--- ---- objects made since h, at a top or above it
+-- ---- what a run keeps
 
-pub record Opened (top : ℕ) (h h1 : Store) : Type 0 where
+-- Bases, the lives and sizes of the objects of before, the words below a top that are in none, and links.
+pub record Since (top : ℕ) (h h1 : Store) : Type 0 where
   pub grown : Grown h.bases h1.bases
   pub was : (o n : ℕ) → o < length h.mem → Alive h1.mem o n → Alive h.mem o n
-  pub above : (o n b : ℕ) → length h.mem ≤ o → Alive h1.mem o n → BaseOf h1.bases o b → top ≤ b
   pub long : length h.mem ≤ length h1.mem
-  pub kept : Kept h top h1.cells
+  pub like : (a : ℕ) → a < top → IsFree h a → Like (h1.cells a) (h.cells a)
+  pub free : (a : ℕ) → a < top → IsFree h a → IsFree h1 a
   pub links : (a w : ℕ) → a < top → h1.cells a ≡ Held ocode.Link (ocode.Word w) → h.cells a ≡ Held ocode.Link (ocode.Word w)
 
-pub opened_refl : (top : ℕ) (h : Store) → Opened top h h
-opened_refl top h = record {
+pub since_refl : {top : ℕ} (h : Store) → Since top h h
+since_refl h = record {
   grown = record { each = λ o b e. e };
   was = λ o n lt a. a;
-  above = λ o n b le a e. let lt = alive_within h.mem o n a in absurd (omega arith);
   long = omega arith;
-  kept = record { as_was = λ a lt free. like_refl _ _ refl };
+  like = λ a lt free. like_refl _ _ refl;
+  free = λ a lt free. free;
   links = λ a w lt e. e;
 }
 
+pub since_on : {top top1 : ℕ} {h h1 h2 : Store} → top ≤ top1 → Since top h h1 → Since top1 h1 h2 → Since top h h2
+since_on le a b = record {
+  grown = record { each = λ o b1 e. b.grown.each o b1 (a.grown.each o b1 e) };
+  was = λ o n lt l. a.was o n lt (b.was o n (let x = a.long in omega arith) l);
+  long = (let x = a.long in let y = b.long in omega arith);
+  like = λ x lt free. like_on _ _ _ (b.like x (omega arith) (a.free x lt free)) (a.like x lt free);
+  free = λ x lt free. b.free x (omega arith) (a.free x lt free);
+  links = λ x w lt e. a.links x w lt (b.links x w (omega arith) e);
+}
+
+-- words alone change, and none below the top
+pub since_cells : {top : ℕ} (h : Store) {cells1 : ℕ → Cell} → ((a : ℕ) → a < top → Like (cells1 a) (h.cells a)) → Since top h (record h { cells = cells1 })
+since_cells h like = record {
+  grown = record { each = λ o b e. e };
+  was = λ o n lt a. a;
+  long = omega arith;
+  like = λ a lt free. like a lt;
+  free = λ a lt free. free;
+  links = λ a w lt e. (like a lt).link w e;
+}
+
+-- code moves on
+pub since_moved : {codes : Codes} {top t t1 : ℕ} {h h1 : Store} → Fits codes h t → Fits codes h1 t1 → Moved top h h1 → Since top h h1
+since_moved {codes} {top} {t} {t1} {h} {h1} f f1 m = record {
+  grown = m.grown;
+  was = λ o n lt a. m.within.was o n a;
+  long = (let g = grown_length h.bases h1.bases m.grown in let e = f.long in let e1 = f1.long in omega arith);
+  like = m.kept.as_was;
+  free = λ a lt free o n b1 i l e1 lt1.
+      let l0 = m.within.was o n l in
+      let b0 = based codes h t o n f l0 in
+      let eb = one_base h1.bases o b1 b0.0 e1 (m.grown.each o b0.0 b0.1) in
+      subst (λ y. y + i ≢ a) (sym eb) (free o n b0.0 i l0 b0.1 lt1);
+  links = m.links;
+}
+
+-- an object is made at the top or above
+pub since_made : {top : ℕ} (b : ℕ) (vs : List Cell_of) (h : Store) → length h.bases ≡ length h.mem → top ≤ b → Since top h (make h b vs)
+since_made b vs h long le = record {
+  grown = grown_made h.bases b;
+  was = λ o n lt a. ⊎_elim (λ (x : Older h.mem o n). x.alive) (λ (x : (o ≡ length h.mem) × (n ≡ length vs)). let z = x.0 in absurd (omega arith)) (alive_made h.mem vs o n a);
+  long = (let e = length-append h.mem (living vs ∷ []) in omega arith);
+  like = λ a lt free. like_refl _ _ refl;
+  free = λ a lt free o n b1 i l e lt1 z. ⊎_elim
+      (λ (x : (Alive h.mem o n) × (BaseOf h.bases o b1)). free o n b1 i x.0 x.1 lt1 z)
+      (λ (x : (o ≡ length h.mem) × (n ≡ length vs) × (b1 ≡ b)). let x2 = x.2 in absurd (omega arith))
+      (lying h b vs o n b1 long l e).lies;
+  links = λ a w lt e. e;
+}
+
+-- those that were made die
+pub closed_moved : {top : ℕ} {h h1 : Store} → Since top h h1 → Moved top h (forget h1 (length h.mem))
+closed_moved {top} {h} {h1} m = record {
+  grown = m.grown;
+  within = record { was = λ o n a. let x = alive_before (length h.mem) h1.mem o n a in m.was o n x.0 x.1 };
+  kept = record { as_was = m.like };
+  links = m.links;
+}
+
 module _ (codes : Codes) where
-  pub make_fits : (h : Store) (top b : ℕ) (vs : List Cell_of) → Fits codes h top → 16 ≤ b → top ≤ b → b + length vs ≤ limit
-      → ((i : ℕ) (c : Cell_of) → slice_get vs i ≡ Some c → StandsCell codes h.bases c (content_of (h.cells (b + i))))
-      → ((i : ℕ) → i < length vs → (k : Content) × (h.cells (b + i) ≡ Held Variable k)) → Fits codes (make h b vs) (b + length vs)
-  make_fits h top b vs f from le lim st op = record {
+  -- an object is made of words below the top that are in none
+  pub make_fits_in : (h : Store) (top b : ℕ) (vs : List Cell_of) → Fits codes h top → 16 ≤ b → b + length vs ≤ top → b + length vs ≤ limit → ((i : ℕ) → i < length vs → IsFree h (b + i))
+      → ((i : ℕ) (c : Cell_of) → slice_get vs i ≡ Some c → StandsCell codes h.bases c (content_of (h.cells (b + i)))) → ((i : ℕ) → i < length vs → (k : Content) × (h.cells (b + i) ≡ Held Variable k)) → Fits codes (make h b vs) top
+  make_fits_in h top b vs f from le lim free st op = record {
     long = length-append h.bases (b ∷ []) ∙ ap (λ n. n + 1) f.long ∙ sym (length-append h.mem (living vs ∷ []));
     same = λ o i c b1 e eb.
         let x = cell_in (cells_at (make h b vs).mem o) i c e in
@@ -188,15 +242,15 @@ module _ (codes : Codes) where
         ⊎_elim
         (λ (x : (Alive h.mem o n) × (BaseOf h.bases o b1)). ⊎_elim
         (λ (y : (Alive h.mem o1 n1) × (BaseOf h.bases o1 b2)). f.apart o n b1 i o1 n1 b2 i1 x.0 x.1 lt y.0 y.1 lt1 z)
-        (λ (y : (o1 ≡ length h.mem) × (n1 ≡ length vs) × (b2 ≡ b)). let u = f.below o n b1 x.0 x.1 in let y2 = y.2 in absurd (omega arith))
+        (λ (y : (o1 ≡ length h.mem) × (n1 ≡ length vs) × (b2 ≡ b)). absurd (free i1 (subst (λ q. i1 < q) y.1 lt1) o n b1 i x.0 x.1 lt (z ∙ ap (λ q. q + i1) y.2)))
         (lying h b vs o1 n1 b2 f.long a1 e1).lies)
         (λ (x : (o ≡ length h.mem) × (n ≡ length vs) × (b1 ≡ b)). ⊎_elim
-        (λ (y : (Alive h.mem o1 n1) × (BaseOf h.bases o1 b2)). let u = f.below o1 n1 b2 y.0 y.1 in let x2 = x.2 in absurd (omega arith))
+        (λ (y : (Alive h.mem o1 n1) × (BaseOf h.bases o1 b2)). absurd (free i (subst (λ q. i < q) x.1 lt) o1 n1 b2 i1 y.0 y.1 lt1 (sym z ∙ ap (λ q. q + i) x.2)))
         (λ (y : (o1 ≡ length h.mem) × (n1 ≡ length vs) × (b2 ≡ b)). x.0 ∙ sym y.0)
         (lying h b vs o1 n1 b2 f.long a1 e1).lies)
         (lying h b vs o n b1 f.long a e).lies;
     below = λ o n b1 a e. ⊎_elim
-        (λ (x : (Alive h.mem o n) × (BaseOf h.bases o b1)). let u = f.below o n b1 x.0 x.1 in omega arith)
+        (λ (x : (Alive h.mem o n) × (BaseOf h.bases o b1)). f.below o n b1 x.0 x.1)
         (λ (x : (o ≡ length h.mem) × (n ≡ length vs) × (b1 ≡ b)). let x1 = x.1 in let x2 = x.2 in omega arith)
         (lying h b vs o n b1 f.long a e).lies;
     small = λ o n b1 a e. ⊎_elim
@@ -209,6 +263,13 @@ module _ (codes : Codes) where
         (lying h b vs o n b1 f.long a e).lies;
   }
 
+  -- one above the top
+  pub make_fits : (h : Store) (top b : ℕ) (vs : List Cell_of) → Fits codes h top → 16 ≤ b → top ≤ b → b + length vs ≤ limit
+      → ((i : ℕ) (c : Cell_of) → slice_get vs i ≡ Some c → StandsCell codes h.bases c (content_of (h.cells (b + i))))
+      → ((i : ℕ) → i < length vs → (k : Content) × (h.cells (b + i) ≡ Held Variable k)) → Fits codes (make h b vs) (b + length vs)
+  make_fits h top b vs f from le lim st op =
+      make_fits_in h (b + length vs) b vs (fits_more codes h top (b + length vs) (omega arith) f) from (omega arith) lim (λ i lt o n b1 j a e lj z. let u = f.below o n b1 a e in absurd (omega arith)) st op
+
   pub forget_fits : (h : Store) (top o : ℕ) → Fits codes h top → Fits codes (forget h o) top
   forget_fits h top o f = record {
     long = f.long ∙ sym (dead_length o h.mem);
@@ -220,63 +281,6 @@ module _ (codes : Codes) where
     set = λ o1 n b a e. f.set o1 n b (alive_before o h.mem o1 n a).1 e;
   }
 
-  -- an object is made
-  pub opened_made : (top b : ℕ) (vs : List Cell_of) (h h1 : Store) → length h1.bases ≡ length h1.mem → Opened top h h1 → top ≤ b → Opened top h (make h1 b vs)
-  opened_made top b vs h h1 long m le = record {
-    grown = record { each = λ o b1 e. (grown_made h1.bases b).each o b1 (m.grown.each o b1 e) };
-    was = λ o n lt a. ⊎_elim
-        (λ (x : Older h1.mem o n). m.was o n lt x.alive)
-        (λ (x : (o ≡ length h1.mem) × (n ≡ length vs)). let z = x.0 in let l = m.long in absurd (omega arith))
-        (alive_made h1.mem vs o n a);
-    above = λ o n b1 ge a e. ⊎_elim
-        (λ (x : (Alive h1.mem o n) × (BaseOf h1.bases o b1)). m.above o n b1 ge x.0 x.1)
-        (λ (x : (o ≡ length h1.mem) × (n ≡ length vs) × (b1 ≡ b)). let z = x.2 in omega arith)
-        (lying h1 b vs o n b1 long a e).lies;
-    long = (let l = m.long in let e = length-append h1.mem (living vs ∷ []) in omega arith);
-    kept = m.kept;
-    links = m.links;
-  }
-
-  -- and more is done
-  pub opened_moved : (top top1 top2 : ℕ) (h h1 h2 : Store) → Fits codes h top → Fits codes h1 top1 → Fits codes h2 top2 → top ≤ top1 → Opened top h h1 → Moved top1 h1 h2 → Opened top h h2
-  opened_moved top top1 top2 h h1 h2 f f1 f2 le m n = record {
-    grown = record { each = λ o b e. n.grown.each o b (m.grown.each o b e) };
-    was = λ o k lt a. m.was o k lt (n.within.was o k a);
-    above = λ o k b ge a e.
-        let a1 = n.within.was o k a in
-        let b1 = based codes h1 top1 o k f1 a1 in
-        let eb = one_base h2.bases o b b1.0 e (n.grown.each o b1.0 b1.1) in
-        subst (λ y. top ≤ y) (sym eb) (m.above o k b1.0 ge a1 b1.1);
-    long = (let l = m.long in let g = grown_length h1.bases h2.bases n.grown in let e1 = f1.long in let e2 = f2.long in omega arith);
-    kept = record {
-      as_was = λ x lt free.
-          like_on _ _ _ (n.kept.as_was x (omega arith) (free_opened x lt free)) (m.kept.as_was x lt free);
-    };
-    links = λ x w lt e. m.links x w lt (n.links x w (omega arith) e);
-  }
-    where
-      free_opened : (x : ℕ) → x < top → IsFree h x → IsFree h1 x
-      free_opened x lt free o k b i a e li z = by_age (nat_less o (length h.mem))
-        where
-          nat_less : (a b : ℕ) → (a < b) ⊎ (b ≤ a)
-          nat_less a b = grind arith
-
-          by_age : (o < length h.mem) ⊎ (length h.mem ≤ o) → ⊥
-          by_age (inl old) =
-              let a0 = m.was o k old a in
-              let b0 = based codes h top o k f a0 in
-              let eb = one_base h1.bases o b b0.0 e (m.grown.each o b0.0 b0.1) in
-              free o k b0.0 i a0 b0.1 li (omega arith)
-          by_age (inr new) = let ge = m.above o k b new a e in absurd (omega arith)
-
-  -- their death
-  pub closed_moved : (top : ℕ) (h h1 : Store) → Opened top h h1 → Moved top h (forget h1 (length h.mem))
-  closed_moved top h h1 m = record {
-    grown = m.grown;
-    within = record { was = λ o n a. let x = alive_before (length h.mem) h1.mem o n a in m.was o n x.0 x.1 };
-    kept = m.kept;
-    links = m.links;
-  }
-
-  pub closed_fits : (top more : ℕ) (h h1 : Store) → Fits codes h top → Opened top h h1 → Fits codes h1 more → Fits codes (forget h1 (length h.mem)) top
-  closed_fits top more h h1 f m g = fits_less codes h (forget h1 (length h.mem)) top more f (closed_moved top h h1 m) (forget_fits h1 more (length h.mem) g)
+  -- and the others fit as before
+  pub closed_fits : (top more : ℕ) (h h1 : Store) → Fits codes h top → Since top h h1 → Fits codes h1 more → Fits codes (forget h1 (length h.mem)) top
+  closed_fits top more h h1 f m g = fits_less codes h (forget h1 (length h.mem)) top more f (closed_moved m) (forget_fits h1 more (length h.mem) g)

@@ -1,47 +1,31 @@
 -- With any number of turns each form does what it means.
-use Rattle.std.proofs.Common.{ℕ, zero, suc, ◌≤◌, List, refl, ◌∙◌, subst, arith, ◌⊎◌, inl}
+use Rattle.std.proofs.Common.{ℕ, zero, suc, ◌≤◌, List, refl, ◌∙◌, subst, arith}
 use Rattle.bk_ocode.specs.declared.stmt.Stmt.{Stmt}
 use Rattle.bk_tree.specs.Tree as t
 use Rattle.bk_tree.specs.Tree.{Action}
 use Rattle.bk_meaning.specs.Lasting.{Program}
 use Rattle.bk_meaning.specs.Seeking.{Sought, Mode, forwards, seeking}
-use Rattle.bk_meaning.specs.World.{World}
+use Rattle.bk_meaning.specs.World.{World, Exit, Outcome, going}
 use Rattle.bk_meaning.specs.Program.{means, no_turns, no_turn_for}
 use Rattle.bk_meaning.proofs.MeaningTies.{only_grows}
 use Rattle.bk_simulation.proofs.Laid.{Setting, IsAct, Entered}
-use Rattle.bk_simulation.proofs.Frame.{Sit, start, Ready, Account, here, Reaches, FallsIn}
+use Rattle.bk_simulation.proofs.Frame.{Sit, start, Ready, Account, here, Ran, went}
 use Rattle.bk_simulation.proofs.Compose.{stay}
-use Rattle.bk_simulation.proofs.Simulates.{Simulates, for_value, for_truth, for_act, for_scope, for_rounds, for_counts, Did}
+use Rattle.bk_simulation.proofs.Simulates.{Simulates, for_value, for_truth, for_act, for_scope, for_rounds, for_counts, Did, RanDid}
 use Rattle.bk_simulation.proofs.Orders.{not_true}
-use Rattle.bk_simulation.proofs.Commands.{RanDid}
 use Rattle.bk_simulation.proofs.Procedures.{Procedures}
 use Rattle.bk_simulation.proofs.Applied.{KnowsLibrary}
 use Rattle.bk_simulation.proofs.All.{simulates_next}
 
 -- where no turn is left a run goes on from where it is
-still_going : (g : Setting) (B : Account) (z : Sit) (c : List Stmt) (w : World) → B.least ≤ w.turns → Reaches g (start z c w) B w ⊎ FallsIn g (start z c w) w
-still_going g B z c w le = inl (record { to = start z c w; steps = 0; paid = 0; comes = here _; most = omega arith; least = omega arith; wrote = refl; left = refl })
+still_going : {A : Type 0} {K : A → World → Type 0} {X : Exit → World → Type 0} (g : Setting) (B : Account) (z : Sit) (c : List Stmt) (w : World) → B.least ≤ w.turns → Ran g (start z c w) B K X (going w)
+still_going g B z c w le = went (record { to = start z c w; steps = 0; paid = 0; comes = here _; most = omega arith; least = omega arith; wrote = refl; left = refl })
 
 act_without : (g : Setting) (x : Action) (mode : Mode) (z : Sit) (there : Sought → List Stmt) (c rest e : List Stmt) (w : World) → IsAct g z.scene z.depth z.env x there c rest → Entered mode z.env x there c e → Ready g z w
     → RanDid g (start z e w) (for_act x w) z rest w (no_turn_for x w)
-act_without g t.empty forwards z there c rest e w a en r = inl (subst (λ code. Did g (start z e w) (for_act t.empty w) z code w w) (en ∙ a) (stay g (for_act t.empty w) z e w (omega arith) (omega arith) r))
+act_without g t.empty forwards z there c rest e w a en r = went (subst (λ code. Did g (start z e w) (for_act t.empty w) z code w w) (en ∙ a) (stay g (for_act t.empty w) z e w (omega arith) (omega arith) r))
 act_without g t.empty (seeking s) z there c rest e w a en r = not_true en.0
-act_without g (t.assign l xs es) mode z there c rest e w a en r = still_going g (for_act (t.assign l xs es) w) z e w (omega arith)
-act_without g (t.call l f es) mode z there c rest e w a en r = still_going g (for_act (t.call l f es) w) z e w (omega arith)
-act_without g (t.goto l x) mode z there c rest e w a en r = still_going g (for_act (t.goto l x) w) z e w (omega arith)
-act_without g (t.label l x y) mode z there c rest e w a en r = still_going g (for_act (t.label l x y) w) z e w (omega arith)
-act_without g (t.case_of l i y) mode z there c rest e w a en r = still_going g (for_act (t.case_of l i y) w) z e w (omega arith)
-act_without g (t.default l y) mode z there c rest e w a en r = still_going g (for_act (t.default l y) w) z e w (omega arith)
-act_without g (t.when l b i y) mode z there c rest e w a en r = still_going g (for_act (t.when l b i y) w) z e w (omega arith)
-act_without g (t.test l i x y) mode z there c rest e w a en r = still_going g (for_act (t.test l i x y) w) z e w (omega arith)
-act_without g (t.while l b i y) mode z there c rest e w a en r = still_going g (for_act (t.while l b i y) w) z e w (omega arith)
-act_without g (t.for_loop l x i j h y) mode z there c rest e w a en r = still_going g (for_act (t.for_loop l x i j h y) w) z e w (omega arith)
-act_without g (t.switch l i y) mode z there c rest e w a en r = still_going g (for_act (t.switch l i y) w) z e w (omega arith)
-act_without g (t.result l i) mode z there c rest e w a en r = still_going g (for_act (t.result l i) w) z e w (omega arith)
-act_without g (t.simple l i) mode z there c rest e w a en r = still_going g (for_act (t.simple l i) w) z e w (omega arith)
-act_without g (t.block l ds cs) mode z there c rest e w a en r = still_going g (for_act (t.block l ds cs) w) z e w (omega arith)
-act_without g (t.repeat l y) mode z there c rest e w a en r = still_going g (for_act (t.repeat l y) w) z e w (omega arith)
-act_without g (t.repeat_while l b y i) mode z there c rest e w a en r = still_going g (for_act (t.repeat_while l b y i) w) z e w (omega arith)
+act_without g x mode z there c rest e w a en r = still_going g (for_act x w) z e w (omega arith)
 
 without_turns : (g : Setting) (p : Program) → Simulates g no_turns
 without_turns g p = record {

@@ -132,14 +132,8 @@ one_base bases o b b1 e e1 = cc
 
 -- values stand where bases grow, and where words are alike
 pub stands_grown : (codes : Codes) (bases bases1 : List ℕ) (v : Value) (x : Content) → Grown bases bases1 → Stands codes bases v x → Stands codes bases1 v x
-stands_grown codes bases bases1 (number n) x g s = s
 stands_grown codes bases bases1 (address o i) x g s = (s.0, g.each o s.0 s.1, s.2, s.3)
-stands_grown codes bases bases1 (procedure n) x g s = s
-stands_grown codes bases bases1 (routine r) x g s = s
-stands_grown codes bases bases1 unset x g s = s
-
-pub stands_like : (codes : Codes) (bases : List ℕ) (v : Value) (x y : Cell) → Like x y → Stands codes bases v (content_of y) → Stands codes bases v (content_of x)
-stands_like codes bases v x y l s = subst (λ k. Stands codes bases v k) (sym l.content) s
+stands_grown codes bases bases1 _ x g s = s
 
 pub stands_cell_like : (codes : Codes) (bases : List ℕ) (c : value.Cell) (x y : Cell) → Like x y → StandsCell codes bases c (content_of y) → StandsCell codes bases c (content_of x)
 stands_cell_like codes bases c x y l s = subst (λ k. StandsCell codes bases c k) (sym l.content) s

@@ -7,6 +7,7 @@ use Rattle.bk_scope.specs.declared.bound.Bound.TheVariants as b
 use Rattle.bk_scope.specs.Scope.{Binding, bound_in, bind}
 use Rattle.bk_scope.specs.Constants.{named_word}
 use Rattle.bk_meaning.specs.Environment.{Named, Sense, cell, sense_in, word_named, global_named}
+use Rattle.bk_simulation.proofs.OperatorWords.{not_zero}
 
 -- the same constants
 abbrev pub AgreeWords : List Named → List Binding → Type 0
@@ -30,16 +31,8 @@ abbrev pub Agree : List Named → List Binding → Type 0
 Agree ns bs = AgreeWords ns bs × AgreeGlobals ns bs
 
 pub same_global : (s : Option Sense) (y : Option Bound) → SameGlobal s y → global_named s ≡ global_of y
-same_global s (Some (b.Global (Some n))) h = h
 same_global s (Some (b.Global None)) h = absurd h
-same_global s (Some (b.Constant v)) h = h
-same_global s (Some (b.Static m)) h = h
-same_global s (Some (b.Variable j d)) h = h
-same_global s (Some (b.Label j m)) h = h
-same_global s None h = h
-
-not_zero : (w : ℕ) → w ≢ 0 → (w == 0) ≡ false
-not_zero w ne = grind (arith, nat_tests)
+same_global s _ h = h
 
 -- the cells of other objects are no globals
 pub own_cell : (o i : ℕ) → 0 < o → global_named (Some (cell o i)) ≡ None

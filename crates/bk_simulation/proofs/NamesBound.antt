@@ -26,9 +26,7 @@ pub name_with : (sc : Scene) (bs : List Binding) (bases : List ℕ) (frame : ℕ
 name_with sc bs bases frame x (Some (constant n)) e h = (e ∙ h.0, h.1)
 name_with sc bs bases frame x (Some (cell o i)) e h =
     (h.0, h.1, h.2, h.3 ∙ ap (λ y. place_of sc.own frame (variable sc.targets (meant y))) (sym e), subst (λ y. IsWord y) (sym e) h.4)
-name_with sc bs bases frame x (Some label) e h = tt
-name_with sc bs bases frame x (Some foreign) e h = tt
-name_with sc bs bases frame x None e h = tt
+name_with sc bs bases frame x _ e h = tt
 
 -- a name more
 pub bound_named : (sc : Scene) (env : Environment) (bases : List ℕ) (frame : ℕ) (x : List ℕ) (k : Bound) (s : Sense) → NameAt (binding_here (bind_bound x k sc.bindings) sc) bases frame x (Some s) → NamedIn sc env bases frame
@@ -106,9 +104,7 @@ not_owned y cs env sc j h = bound_past y (labels_of_each cs) sc.procedure j sc.b
 name_around : (sc : Scene) (a : Around) (e : Exits) (bases : List ℕ) (frame : ℕ) (x : List ℕ) (s : Option Sense) → NameAt sc bases frame x s → NameAt (record sc { around = a; exits = e }) bases frame x s
 name_around sc a e bases frame x (Some (constant n)) h = h
 name_around sc a e bases frame x (Some (cell o i)) h = h
-name_around sc a e bases frame x (Some label) h = tt
-name_around sc a e bases frame x (Some foreign) h = tt
-name_around sc a e bases frame x None h = tt
+name_around sc a e bases frame x _ h = tt
 
 pub around_named : (sc : Scene) (a : Around) (e : Exits) (env : Environment) (bases : List ℕ) (frame : ℕ) → NamedIn sc env bases frame → NamedIn (record sc { around = a; exits = e }) env bases frame
 around_named sc a e env bases frame n = record { each = λ x. name_around sc a e bases frame x (sense_in env.names x) (n.each x) }

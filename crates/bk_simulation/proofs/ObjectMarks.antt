@@ -122,9 +122,8 @@ one_mark m nowhere s rest h i = absurd i
 one_mark m n s rest h i = absurd h
 
 mark_some : (m : Mark) (s : Stmt) (rest : List Stmt) → IsMark m s rest → IsSome m
-mark_some (at_string q) s rest h = tt
-mark_some (at_label q) s rest h = tt
 mark_some nowhere s rest h = absurd h
+mark_some _ s rest h = tt
 
 -- It stands in section k, and gives words at this base.
 pub record Marked (program : Program) (k : ℕ) (m : Mark) (base : ℕ) : Type 0 where

@@ -13,22 +13,19 @@ use Rattle.bk_simulation.proofs.Memory.{Stands}
 use Rattle.bk_simulation.proofs.Sizes.{turns_of}
 use Rattle.bk_simulation.proofs.Laid.{Setting, IsValue}
 use Rattle.bk_simulation.proofs.Frame.{Sit, start, Ready, Account, Ran, with_ran, ArrivedAt, Has, Out, next, ready_next}
-use Rattle.bk_simulation.proofs.Compose.{arrived_on, ran_on, ran_first, above}
+use Rattle.bk_simulation.proofs.Compose.{arrived_on, ran_on, ran_first, ran_more, above}
 use Rattle.bk_simulation.proofs.Simulates.{Simulates, for_value}
 
 pub value_run : (g : Setting) (m : Meanings) → Simulates g m → (e : Expression) (z : Sit) (c rest : List Stmt) (w : World) → IsValue g z.scene z.depth z.env e c rest → Ready g z w
     → Ran g (start z c w) (for_value e w) (Has g (start z c w) (for_value e w) z rest (z.depth + 1) w) (Out g (start z c w) (for_value e w) z w) (m.value e z.env w)
-value_run g m sim e z c rest w l r = ran_first g (start z c w) (for_value e w) (for_value e w) z w _ _ (m.value e z.env w) (omega arith) (omega arith) (λ t w1 q. q.0) (sim.value e z c rest w l r)
+value_run g m sim e z c rest w l r = ran_first (omega arith) (omega arith) (λ t w1 q. q.0) (sim.value e z c rest w l r)
 
 -- One value, and what follows it.
 pub one_run : {T : Type 0} (g : Setting) (m : Meanings) → Simulates g m → (B : Account) (e : Expression) (z : Sit) (c rest : List Stmt) (w : World) (L : T → World → Type 0) (go : Value → World → Outcome T)
     → ((u : Value) → Adds (go u)) → 16 * w.turns ≤ B.most + 4 → B.least ≤ w.turns - turns_of e → IsValue g z.scene z.depth z.env e c rest → Ready g z w
     → ((u : Value) (w1 : World) → Has g (start z c w) (for_value e w) z rest (z.depth + 1) w u w1 → 1 ≤ w.turns → Ran g (start z c w) B L (Out g (start z c w) B z w) (go u w1))
     → Ran g (start z c w) B L (Out g (start z c w) B z w) (with (m.value e z.env w) go)
-one_run g m sim B e z c rest w L go ad le le' l r h =
-    let s = start z c w in
-    with_ran g s B (λ u w1. Has g s (for_value e w) z rest (z.depth + 1) w u w1 × (1 ≤ w.turns)) L _ (m.value e z.env w) go ad
-    (ran_first g s (for_value e w) B z w _ _ (m.value e z.env w) (omega arith) (omega arith) (λ t w1 q. q) (sim.value e z c rest w l r)) (λ u w1 q. h u w1 q.0 q.1)
+one_run g m sim B e z c rest w L go ad le le' l r h = with_ran ad (ran_more (omega arith) (omega arith) (sim.value e z c rest w l r)) (λ u w1 q. h u w1 q.0 q.1)
 
 -- two values are on top
 pub record Two (g : Setting) (s : State) (A : Account) (z : Sit) (c : List Stmt) (w : World) (u v : Value) (w2 : World) : Type 0 where
@@ -46,20 +43,9 @@ pub two_run : {T : Type 0} (g : Setting) (m : Meanings) → Simulates g m → (B
     → ((u v : Value) (w2 : World) → Two g (start z c w) (for_two a b w) z rest w u v w2 → 1 ≤ w.turns → Ran g (start z c w) B L (Out g (start z c w) B z w) (go u v w2))
     → Ran g (start z c w) B L (Out g (start z c w) B z w) (with (m.value a z.env w) (λ u w1. with (m.value b (past a z.env) w1) (λ v w2. go u v w2)))
 two_run g m sim B a b z c c1 rest w L go ad le le' la lb r h =
-    let s = start z c w in
-    let A = for_value a w in
-    let C = for_two a b w in
     one_run g m sim B a z c c1 w L _ (λ u. adds _ (λ w1. with_after _ _ _ (sim.grows.value b (past a z.env) w1) (λ v. ad u v))) le (omega arith) la r (λ u w1 va pos.
-    let N = for_value b w1 in
-    let z1 = next g s A z c1 (z.depth + 1) w w1 (past a z.env) (z.depth + 1) va.arr in
-    let r1 = ready_next g s A z c1 (z.depth + 1) w w1 (past a z.env) (z.depth + 1) va.arr refl (omega arith) r in
-    with_ran g s B (λ v w2. Two g s C z rest w u v w2) L _ (m.value b (past a z.env) w1) _ (λ v. ad u v)
-    (ran_first g s C B z w (λ v w2. Two g s C z rest w u v w2) _ (m.value b (past a z.env) w1) (omega arith) (omega arith) (λ v w2 q. q)
-    (ran_on g s A N C z c1 (z.depth + 1) w w1 (past a z.env) (Has g (start z1 c1 w1) N z1 rest (z1.depth + 1) w1) (λ v w2. Two g s C z rest w u v w2) (m.value b (past a z.env) w1) (omega arith) (omega arith) r (omega arith) va.arr
-    (λ v w2 q. record {
-      arr = arrived_on g s A N C z c1 rest (z.depth + 1) (z.depth + 1 + 1) w w1 w2 (past a z.env) (omega arith) (omega arith) r (omega arith) va.arr q.arr;
-      first = above g s A N z c1 rest (z.depth + 1 + 1) w w1 w2 (past a z.env) u va q.arr;
-      second = q.stands;
-    })
-    (value_run g m sim b z1 c1 rest w1 lb r1)))
+    with_ran {K = λ v w2. Two g (start z c w) (for_two a b w) z rest w u v w2} (λ v. ad u v)
+    (ran_on (omega arith) (omega arith) r (omega arith) va.arr
+    (λ v w2 q. record { arr = arrived_on (omega arith) (omega arith) r (omega arith) va.arr q.arr; first = above va q.arr; second = q.stands })
+    (value_run g m sim b (next g (start z c w) (for_value a w) z c1 (z.depth + 1) w w1 (past a z.env) (z.depth + 1) va.arr) c1 rest w1 lb (ready_next (past a z.env) (z.depth + 1) va.arr refl (omega arith) r)))
     (λ v w2 q. h u v w2 q pos))

@@ -20,11 +20,10 @@ use Rattle.bk_ocode.specs.declared.stmt.Dyadic.{Dyadic}
 use Rattle.bk_ocode.specs.declared.stmt.Dyadic.TheVariants as d
 use Rattle.bk_simulation.proofs.Memory.{BaseOf, Alive, Codes, Stands, Fits, one_base}
 use Rattle.bk_simulation.proofs.MadeObjects.{alive_from}
+use Rattle.bk_simulation.proofs.CellBytes.{word_number}
 
 -- the operator of OCODE for each but `!` and `%`
 abbrev pub dyadic_of : Operator → Option Dyadic
-dyadic_of o.Subscript = None
-dyadic_of o.Byte = None
 dyadic_of o.Times = Some d.Multiply
 dyadic_of o.Over = Some d.Divide
 dyadic_of o.Rem = Some d.Remainder
@@ -42,11 +41,9 @@ dyadic_of o.Both = Some d.And
 dyadic_of o.Either = Some d.Or
 dyadic_of o.Same = Some d.Eqv
 dyadic_of o.Differ = Some d.Neqv
+dyadic_of _ = None
 
 -- ---- words of addresses
-
-word_is : (v w : ℕ) → Word v ≡ Word w → v ≡ w
-word_is v w e = cc
 
 add_offset : (b i y : ℕ) → ((b + i) % 2 ^ 32 + y) % 2 ^ 32 ≡ (b + (i + y) % 2 ^ 32) % 2 ^ 32
 add_offset b i y = omega arith
@@ -79,7 +76,7 @@ shift_less b i j = grind (arith, nat_tests)
 shift_most : (b i j : ℕ) → nat_le (b + i) (b + j) ≡ nat_le i j
 shift_most b i j = grind (arith, nat_tests)
 
-some_is : {A : Type 0} (x y : A) → Some x ≡ Some y → x ≡ y
+pub some_is : {A : Type 0} (x y : A) → Some x ≡ Some y → x ≡ y
 some_is x y e = cc
 
 if_some : {A : Type 0} (b : Bool) (x y : A) → cond b (Some x) None ≡ Some y → (b ≡ true) × (x ≡ y)
@@ -90,7 +87,7 @@ if_there : {A : Type 0} (b : Bool) (x : Option A) (y : A) → cond b x None ≡ 
 if_there true x y e = (refl, e)
 if_there false x y e = absurd (cc)
 
-not_zero : (w : ℕ) → w ≢ 0 → (w == 0) ≡ false
+pub not_zero : (w : ℕ) → w ≢ 0 → (w == 0) ≡ false
 not_zero w ne = grind (arith, nat_tests)
 
 turned : (x w : ℕ) → (x == w) ≡ (w == x)
@@ -297,10 +294,9 @@ module _ (codes : Codes) (bases : List ℕ) (cells : ℕ → Cell) (top : ℕ) (
 
   abbrev pub OperatedAs : Dyadic → Content → Content → Outcome Value → Type 0
   OperatedAs op x y (gives v w1) = (w1 ≡ w) × Applied op x y v
-  OperatedAs op x y (leaves exit w1) = ⊥
   OperatedAs op x y (ends e w1) = (w1 ≡ w) × (e ≡ divide_by_zero) × Undivided op x y
   OperatedAs op x y undefined = Unit {0}
-  OperatedAs op x y (going w1) = ⊥
+  OperatedAs op x y _ = ⊥
 
   given_as : (op : Dyadic) (x y : Content) (r : Option Value) → ((v : Value) → r ≡ Some v → Applied op x y v) → OperatedAs op x y (given r w)
   given_as op x y None go = tt
@@ -326,8 +322,6 @@ module _ (codes : Codes) (bases : List ℕ) (cells : ℕ → Cell) (top : ℕ) (
   ByOperator (Some op) x y u = OperatedAs op x y u
 
   pub operates : (q : Operator) (u v : Value) (x y : Content) → Stands codes bases u x → Stands codes bases v y → ByOperator (dyadic_of q) x y (operate q u v w)
-  operates o.Subscript u v x y su sv = tt
-  operates o.Byte u v x y su sv = tt
   operates o.Add u v x y su sv = given_as d.Add x y (sum w.memory u v) (λ r e. sum_applied u v r x y su sv e)
   operates o.Subtract u v x y su sv = given_as d.Subtract x y (difference w.memory u v) (λ r e. difference_applied u v r x y su sv e)
   operates o.Equal u v x y su sv = given_as d.Equal x y _ (λ r e. equal_applied u v r x y su sv e)
@@ -345,15 +339,14 @@ module _ (codes : Codes) (bases : List ℕ) (cells : ℕ → Cell) (top : ℕ) (
   operates o.Either u v x y su sv = on_numbers_as o.Either d.Or (λ a b x y ex ey. (refl, numbers_applied d.Or a b _ x y _ ex ey refl refl)) u v x y su sv
   operates o.Same u v x y su sv = on_numbers_as o.Same d.Eqv (λ a b x y ex ey. (refl, numbers_applied d.Eqv a b _ x y _ ex ey refl refl)) u v x y su sv
   operates o.Differ u v x y su sv = on_numbers_as o.Differ d.Neqv (λ a b x y ex ey. (refl, numbers_applied d.Neqv a b _ x y _ ex ey refl refl)) u v x y su sv
+  operates _ u v x y su sv = tt
 
   -- ---- an operand with an operator before it
 
   abbrev pub PrefixedAs : (ℕ → ℕ) → Content → Outcome Value → Type 0
   PrefixedAs g x (gives v w1) = (w1 ≡ w) × (n : ℕ) × (x ≡ Word n) × Stands codes bases v (Word (g n))
-  PrefixedAs g x (leaves exit w1) = ⊥
-  PrefixedAs g x (ends e w1) = ⊥
   PrefixedAs g x undefined = Unit {0}
-  PrefixedAs g x (going w1) = ⊥
+  PrefixedAs g x _ = ⊥
 
   pub negates : (v : Value) (x : Content) → Stands codes bases v x → PrefixedAs word_negation x (operate_prefix q.Minus v w)
   negates (number n) x s = (refl, n, s, refl)

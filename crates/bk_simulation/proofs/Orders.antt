@@ -1,5 +1,5 @@
 -- Commands in order, and what seeking finds in them.
-use Rattle.std.proofs.Common.{◌≡◌, ◌+◌, ◌*◌, Bool, true, false, ◌||◌, cond, List, [], refl, sym, ap, ◌∙◌, subst, arith, inl}
+use Rattle.std.proofs.Common.{◌≡◌, ◌+◌, ◌*◌, Bool, true, false, ◌||◌, cond, List, [], refl, sym, ap, ◌∙◌, subst, arith}
 use Rattle.bk_ocode.specs.declared.stmt.Stmt.{Stmt}
 use Rattle.bk_tree.specs.Tree as t
 use Rattle.bk_tree.specs.Tree.{Action, Actions}
@@ -12,9 +12,9 @@ use Rattle.bk_meaning.specs.Scopes.{in_order}
 use Rattle.bk_meaning.proofs.After.{Adds, adds, stays, with_after, either_after}
 use Rattle.bk_simulation.proofs.Sought.{same_stands_one}
 use Rattle.bk_simulation.proofs.Laid.{Setting, IsAct, AreActs, Entered, EnteredAny}
-use Rattle.bk_simulation.proofs.Frame.{Sit, store, start, Ready, Ran, with_ran, Out, next, ready_next}
-use Rattle.bk_simulation.proofs.Compose.{stay, arrived_on, ran_on, ran_first, arrived_more}
-use Rattle.bk_simulation.proofs.Simulates.{Simulates, for_act, for_scope, Did}
+use Rattle.bk_simulation.proofs.Frame.{Sit, start, Ready, went, with_ran, next, named_again, ready_in, ready_next}
+use Rattle.bk_simulation.proofs.Compose.{stay, comes_to, ran_first, ran_more, arrived_more}
+use Rattle.bk_simulation.proofs.Simulates.{Simulates, for_act, for_scope, Did, RanDid}
 
 -- a truth is tested, and its case is known
 pub by_test : {A : Type 0} (b : Bool) → (b ≡ true → A) → (b ≡ false → A) → A
@@ -38,57 +38,46 @@ order_adds g m sim (t.also c cs) (seeking s) env =
 
 -- names are as they were where only the number of the next object is another
 pub ready_at : (g : Setting) (z : Sit) (w : World) (env : Environment) → env.names ≡ z.env.names → Ready g z w → Ready g (record z { env = env }) w
-ready_at g z w env en r = let dp = r.deep in
-    let q = ready_next g (start z [] w) (record { most = 16 * w.turns; least = w.turns }) z [] z.depth w w env z.depth (stay g (record { most = 16 * w.turns; least = w.turns }) z [] w (omega arith) (omega arith) r) en (omega arith) r in
-    record { named = q.named; fits = q.fits; low = q.low; high = q.high; deep = q.deep; frames = q.frames; room = q.room; lasts = q.lasts; words = q.words; in_hand = q.in_hand }
+ready_at g z w env en r = ready_in z.scene env (named_again en r.named) r
 
 -- the first is done, and then the others
 then_run : (g : Setting) (m : Meanings) → Simulates g m → (a : Action) (mode : Mode) (cs : Actions) (z : Sit) (at1 at2 : Sought → List Stmt) (c c1 rest e : List Stmt) (w : World) → IsAct g z.scene z.depth z.env a at1 c c1
     → Entered mode z.env a at1 c e → Ready g z w
     → ((z1 : Sit) (w1 : World) → Ready g z1 w1 → z1.env ≡ past_action a z.env → AreActs g z1.scene z1.depth z1.env cs at2 c1 rest
-    → Ran g (start z1 c1 w1) (for_scope cs w1) (λ _ w2. Did g (start z1 c1 w1) (for_scope cs w1) z1 rest w1 w2) (Out g (start z1 c1 w1) (for_scope cs w1) z1 w1) (in_order m cs forwards (past_action a z.env) w1))
+    → RanDid g (start z1 c1 w1) (for_scope cs w1) z1 rest w1 (in_order m cs forwards (past_action a z.env) w1))
     → AreActs g z.scene z.depth (past_action a z.env) cs at2 c1 rest
-    → Ran g (start z e w) (for_scope (t.also a cs) w) (λ _ w1. Did g (start z e w) (for_scope (t.also a cs) w) z rest w w1) (Out g (start z e w) (for_scope (t.also a cs) w) z w)
+    → RanDid g (start z e w) (for_scope (t.also a cs) w) z rest w
     (with (m.act a mode z.env w) (λ _ w. in_order m cs forwards (past_action a z.env) w))
 then_run g m sim a mode cs z at1 at2 c c1 rest e w la en r go lcs =
-    let s = start z e w in
-    let B = for_scope (t.also a cs) w in
-    let A = for_act a w in
-    with_ran g s B (λ _ w1. Did g s A z c1 w w1) _ _ (m.act a mode z.env w) _ (λ _. order_adds g m sim cs forwards (past_action a z.env))
-    (ran_first g s A B z w (λ _ w1. Did g s A z c1 w w1) (λ _ w1. Did g s A z c1 w w1) (m.act a mode z.env w) (omega arith) (omega arith) (λ t w1 q. q) (sim.act a mode z at1 c c1 e w la en r))
+    with_ran (λ _. order_adds g m sim cs forwards (past_action a z.env)) (ran_more (omega arith) (omega arith) (sim.act a mode z at1 c c1 e w la en r))
     (λ _ w1 q.
-    let N = for_scope cs w1 in
     let m0 = q.most in
-    let z1 = next g s A z c1 z.depth w w1 (past_action a z.env) z.depth q in
-    let r1 = ready_next g s A z c1 z.depth w w1 (past_action a z.env) z.depth q refl (omega arith) r in
-    ran_on g s A N B z c1 z.depth w w1 (past_action a z.env) (λ _ w2. Did g (start z1 c1 w1) N z1 rest w1 w2) (λ _ w2. Did g s B z rest w w2) (in_order m cs forwards (past_action a z.env) w1) (omega arith) (omega arith) r (omega arith) q
-    (λ _ w2 b. arrived_on g s A N B z c1 rest z.depth z.depth w w1 w2 (past_action a z.env) (omega arith) (omega arith) r (omega arith) q b)
-    (go z1 w1 r1 refl lcs))
+    comes_to (omega arith) (omega arith) r (omega arith) q
+    (go (next g (start z e w) (for_act a w) z c1 z.depth w w1 (past_action a z.env) z.depth q) w1 (ready_next (past_action a z.env) z.depth q refl (omega arith) r) refl lcs))
 
 -- commands in order
 pub order_run : (g : Setting) (m : Meanings) → Simulates g m → (cs : Actions) (mode : Mode) (z : Sit) (at : Sought → List Stmt) (c rest e : List Stmt) (w : World) → AreActs g z.scene z.depth z.env cs at c rest → EnteredAny mode z.env cs at c e
-    → Ready g z w → Ran g (start z e w) (for_scope cs w) (λ _ w1. Did g (start z e w) (for_scope cs w) z rest w w1) (Out g (start z e w) (for_scope cs w) z w) (in_order m cs mode z.env w)
+    → Ready g z w → RanDid g (start z e w) (for_scope cs w) z rest w (in_order m cs mode z.env w)
 order_run g m sim t.no_actions mode z at c rest e w l en r = no_acts mode en
   where
-    no_acts : (mode : Mode) → EnteredAny mode z.env t.no_actions at c e → Ran g (start z e w) (for_scope t.no_actions w) (λ _ w1. Did g (start z e w) (for_scope t.no_actions w) z rest w w1) (Out g (start z e w) (for_scope t.no_actions w) z w) (in_order m t.no_actions mode z.env w)
-    no_acts forwards en = inl (subst (λ y. Did g (start z e w) (for_scope t.no_actions w) z y w w) (en ∙ l) (stay g (for_scope t.no_actions w) z e w (omega arith) (omega arith) r))
+    no_acts : (mode : Mode) → EnteredAny mode z.env t.no_actions at c e → RanDid g (start z e w) (for_scope t.no_actions w) z rest w (in_order m t.no_actions mode z.env w)
+    no_acts forwards en = went (subst (λ y. Did g (start z e w) (for_scope t.no_actions w) z y w w) (en ∙ l) (stay g (for_scope t.no_actions w) z e w (omega arith) (omega arith) r))
     no_acts (seeking s) en = not_true en.0
 order_run g m sim (t.also a cs) forwards z at c rest e w l en r =
-    then_run g m sim a forwards cs z l.1 l.2 c l.0 rest e w l.3 en r (λ z1 w1 r1 ez l1. subst (λ y. Ran g (start z1 l.0 w1) (for_scope cs w1) (λ _ w2. Did g (start z1 l.0 w1) (for_scope cs w1) z1 rest w1 w2) (Out g (start z1 l.0 w1) (for_scope cs w1) z1 w1) (in_order m cs forwards y w1)) ez
+    then_run g m sim a forwards cs z l.1 l.2 c l.0 rest e w l.3 en r (λ z1 w1 r1 ez l1. subst (λ y. RanDid g (start z1 l.0 w1) (for_scope cs w1) z1 rest w1 (in_order m cs forwards y w1)) ez
     (order_run g m sim cs forwards z1 l.2 l.0 rest l.0 w1 l1 refl r1)) l.4
 order_run g m sim (t.also a cs) (seeking s) z at c rest e w l en r =
     by_test (stands_in s z.env a)
     (λ (h : stands_in s z.env a ≡ true).
-    subst (λ (b : Bool). Ran g (start z e w) (for_scope (t.also a cs) w) (λ _ w1. Did g (start z e w) (for_scope (t.also a cs) w) z rest w w1) (Out g (start z e w) (for_scope (t.also a cs) w) z w)
+    subst (λ (b : Bool). RanDid g (start z e w) (for_scope (t.also a cs) w) z rest w
     (either b (λ w. with (m.act a (seeking s) z.env w) (λ _ w. in_order m cs forwards (past_action a z.env) w)) (λ w. in_order m cs (seeking s) (past_action a z.env) w) w)) (sym h)
     (then_run g m sim a (seeking s) cs z l.1 l.2 c l.0 rest e w l.3 (h, en.1 ∙ l.5 s ∙ ap (λ (b : Bool). cond b (l.1 s) (l.2 s)) h) r
-    (λ z1 w1 r1 ez l1. subst (λ y. Ran g (start z1 l.0 w1) (for_scope cs w1) (λ _ w2. Did g (start z1 l.0 w1) (for_scope cs w1) z1 rest w1 w2) (Out g (start z1 l.0 w1) (for_scope cs w1) z1 w1) (in_order m cs forwards y w1)) ez
+    (λ z1 w1 r1 ez l1. subst (λ y. RanDid g (start z1 l.0 w1) (for_scope cs w1) z1 rest w1 (in_order m cs forwards y w1)) ez
     (order_run g m sim cs forwards z1 l.2 l.0 rest l.0 w1 l1 refl r1)) l.4))
     (λ (h : stands_in s z.env a ≡ false).
     let z1 = record z { env = past_action a z.env } in
-    subst (λ (b : Bool). Ran g (start z e w) (for_scope (t.also a cs) w) (λ _ w1. Did g (start z e w) (for_scope (t.also a cs) w) z rest w w1) (Out g (start z e w) (for_scope (t.also a cs) w) z w)
+    subst (λ (b : Bool). RanDid g (start z e w) (for_scope (t.also a cs) w) z rest w
     (either b (λ w. with (m.act a (seeking s) z.env w) (λ _ w. in_order m cs forwards (past_action a z.env) w)) (λ w. in_order m cs (seeking s) (past_action a z.env) w) w)) (sym h)
-    (ran_first g (start z e w) (for_scope cs w) (for_scope (t.also a cs) w) z w _ _ (in_order m cs (seeking s) (past_action a z.env) w) (omega arith) (omega arith)
-    (λ _ w1 q. arrived_more g (start z e w) (for_scope cs w) (for_scope (t.also a cs) w) z.scene.own z.frame w.calls (z.frame + z.depth) (store z w) rest z.depth w1 (omega arith) (omega arith) q)
+    (ran_first (omega arith) (omega arith) (λ _ w1 q. arrived_more (omega arith) (omega arith) q)
     (order_run g m sim cs (seeking s) z1 l.2 l.0 rest e w l.4 (same_stands_one s z.env.names (past_action a z.env).next z.env.next cs ∙ or_second (stands_in s z.env a) (stands_in_one s z.env cs) en.0 h, en.1 ∙ l.5 s ∙ ap (λ (b : Bool). cond b (l.1 s) (l.2 s)) h)
     (ready_at g z w (past_action a z.env) refl r))))

@@ -1,5 +1,5 @@
 -- Addresses, for `@` and as destinations.
-use Rattle.std.proofs.Common.{◌≡◌, ℕ, ◌+◌, ◌-◌, ◌*◌, ◌<◌, ◌≤◌, ◌%◌, ◌^◌, List, ◌∷◌, Option, Some, None, refl, sym, ap, ◌∙◌, subst, arith, inl}
+use Rattle.std.proofs.Common.{◌≡◌, ℕ, ◌+◌, ◌-◌, ◌*◌, ◌<◌, ◌≤◌, ◌%◌, ◌^◌, List, ◌∷◌, Option, Some, None, refl, sym, ap, ◌∙◌, subst, arith}
 use Rattle.bk_ocode.specs.Cells.{Word}
 use Rattle.bk_ocode.specs.OcodeState.{State}
 use Rattle.bk_ocode.specs.OcodeStep.{named_place}
@@ -18,7 +18,7 @@ use Rattle.bk_simulation.proofs.Moves.{address_moves}
 use Rattle.bk_simulation.proofs.OperatorWords.{sum_applied}
 use Rattle.bk_simulation.proofs.Sizes.{turns_of}
 use Rattle.bk_simulation.proofs.Laid.{Setting, named_word, IsValue}
-use Rattle.bk_simulation.proofs.Frame.{Sit, store, start, NameAt, Ready, Account, Ran, Has, Out}
+use Rattle.bk_simulation.proofs.Frame.{Sit, store, start, NameAt, Ready, Account, Ran, Has, Out, went}
 use Rattle.bk_simulation.proofs.Compose.{stay, arrived_more}
 use Rattle.bk_simulation.proofs.Simulates.{Simulates, for_value, HasAddress, Destined, word, through, byte}
 use Rattle.bk_simulation.proofs.Leaves.{pushes_item, named_at}
@@ -43,15 +43,13 @@ pub address_runs : (g : Setting) (B : Account) (z : Sit) (c : List Stmt) (x : Li
 address_runs g B z c x rest w le le' ec r = by_sense (sense_of x z.env) (r.named.each x)
   where
     by_sense : (y : Option Sense) → NameAt z.scene z.bases z.frame x y → RanAddress g (start z c w) B z rest w (address_named y w)
-    by_sense (Some (constant n)) h = inl tt
+    by_sense (Some (constant n)) h = went tt
     by_sense (Some (cell o i)) h =
         let v = named_word z.scene x in
         let s = start z (Address v ∷ rest) w in
         let is : named_place s z.scene.own v ≡ (h.0 + i) % 2 ^ 32 = named_at z (Address v ∷ rest) w v ∙ sym h.3 ∙ small_word h.0 i h.2 in
-        inl (pushes_item g B z c (Address v) rest w (address o i) (Word (named_place s z.scene.own v)) le le' ec r (h.0, h.1, small_offset h.0 i h.2, ap Word is) (address_moves g.program s z.scene.own rest z.depth v refl))
-    by_sense (Some label) h = inl tt
-    by_sense (Some foreign) h = inl tt
-    by_sense None h = inl tt
+        went (pushes_item g B z c (Address v) rest w (address o i) (Word (named_place s z.scene.own v)) le le' ec r (h.0, h.1, small_offset h.0 i h.2, ap Word is) (address_moves g.program s z.scene.own rest z.depth v refl))
+    by_sense _ h = went tt
 
 -- the word of a name as a destination
 pub word_runs : (g : Setting) (B : Account) (z : Sit) (c : List Stmt) (x : List ℕ) (rest : List Stmt) (w : World) → 16 * w.turns ≤ B.most → B.least ≤ w.turns → c ≡ Assign (named_word z.scene x) ∷ rest → Ready g z w
@@ -59,26 +57,24 @@ pub word_runs : (g : Setting) (B : Account) (z : Sit) (c : List Stmt) (x : List 
 word_runs g B z c x rest w le le' ec r = by_sense (sense_of x z.env) (r.named.each x)
   where
     by_sense : (y : Option Sense) → NameAt z.scene z.bases z.frame x y → RanStore g (start z c w) B z rest w (address_named y w)
-    by_sense (Some (constant n)) h = inl tt
+    by_sense (Some (constant n)) h = went tt
     by_sense (Some (cell o i)) h =
-        inl (subst (λ l. Destined g (start z l w) B z rest w (at (address o i)) w) (sym ec)
+        went (subst (λ l. Destined g (start z l w) B z rest w (at (address o i)) w) (sym ec)
         (word (named_word z.scene x) o i h.0 w (stay g B z (Assign (named_word z.scene x) ∷ rest) w le le' r) h.1 h.3))
-    by_sense (Some label) h = inl tt
-    by_sense (Some foreign) h = inl tt
-    by_sense None h = inl tt
+    by_sense _ h = went tt
 
 -- `!E`
 pub contents_address : (g : Setting) (m : Meanings) → Simulates g m → (B : Account) (e : Expression) (z : Sit) (c rest : List Stmt) (w : World) → 16 * w.turns ≤ B.most + 4 → B.least ≤ w.turns - turns_of e
     → IsValue g z.scene z.depth z.env e c rest → Ready g z w → RanAddress g (start z c w) B z rest w (with (m.value e z.env w) (λ a w. gives (at a) w))
 contents_address g m sim B e z c rest w le le' l r =
     one_run g m sim B e z c rest w _ _ (λ u. adds _ (λ w1. stays (history w1))) le le' l r (λ u w1 q pos.
-    inl (record { arr = arrived_more g (start z c w) (for_value e w) B z.scene.own z.frame w.calls (z.frame + z.depth) (store z w) rest (z.depth + 1) w1 (omega arith) (omega arith) q.arr; stands = q.stands }))
+    went (record { arr = arrived_more (omega arith) (omega arith) q.arr; stands = q.stands }))
 
 pub contents_store : (g : Setting) (m : Meanings) → Simulates g m → (B : Account) (e : Expression) (z : Sit) (c rest : List Stmt) (w : World) → 16 * w.turns ≤ B.most + 4 → B.least ≤ w.turns - turns_of e
     → IsValue g z.scene z.depth z.env e c (AssignAt ∷ rest) → Ready g z w → RanStore g (start z c w) B z rest w (with (m.value e z.env w) (λ a w. gives (at a) w))
 contents_store g m sim B e z c rest w le le' l r =
     one_run g m sim B e z c (AssignAt ∷ rest) w _ _ (λ u. adds _ (λ w1. stays (history w1))) le le' l r (λ u w1 q pos.
-    inl (through u w1 (record { arr = arrived_more g (start z c w) (for_value e w) B z.scene.own z.frame w.calls (z.frame + z.depth) (store z w) (AssignAt ∷ rest) (z.depth + 1) w1 (omega arith) (omega arith) q.arr; stands = q.stands })))
+    went (through u w1 (record { arr = arrived_more (omega arith) (omega arith) q.arr; stands = q.stands })))
 
 -- `E!E`: the sum of two values
 sum_run : (g : Setting) (s : State) (A B : Account) (z : Sit) (rest : List Stmt) (w w1 : World) (u v : Value) (L : Target → World → Type 0) → A.most + 1 ≤ B.most → B.least ≤ A.least → 2 ≤ z.depth
@@ -87,10 +83,10 @@ sum_run : (g : Setting) (s : State) (A B : Account) (z : Sit) (rest : List Stmt)
 sum_run g s A B z rest w w1 u v L le le' dp gain t = by_sum (sum w1.memory u v) refl
   where
     by_sum : (y : Option Value) → sum w1.memory u v ≡ y → Ran g s B L (Out g s B z w) (with (given y w1) (λ a w. gives (at a) w))
-    by_sum None h = inl tt
+    by_sum None h = went tt
     by_sum (Some a) h =
         let p = sum_applied g.codes t.arr.bases1 t.arr.cells1 (z.frame + z.depth) w1 t.arr.fits u v a _ _ t.first t.second h in
-        inl (gain a (dyadic_topped g s A B z two.Add rest w w1 u v a p.left p.right p.result le le' dp t p.is_left p.is_right p.applies p.stands))
+        went (gain a (dyadic_topped g s A B z two.Add rest w w1 u v a p.left p.right p.result le le' dp t p.is_left p.is_right p.applies p.stands))
 
 sum_adds : (u v : Value) → Adds (λ w. with (given (sum w.memory u v) w) (λ a w. gives (at a) w))
 sum_adds u v =
@@ -119,4 +115,4 @@ pub byte_store : (g : Setting) (m : Meanings) → Simulates g m → (B : Account
     → RanStore g (start z c w) B z rest w (with (m.value a z.env w) (λ x w. with (m.value b (past a z.env) w) (λ y w. gives (byte_at x y) w)))
 byte_store g m sim B a b z c c1 rest w le le' la lb r =
     two_run g m sim B a b z c c1 (AssignByte ∷ rest) w _ _ (λ u v. adds _ (λ w1. stays (history w1))) le le' la lb r (λ u v w1 t pos.
-    inl (byte u v w1 (arrived_more g (start z c w) (for_two a b w) B z.scene.own z.frame w.calls (z.frame + z.depth) (store z w) (AssignByte ∷ rest) (z.depth + 1 + 1) w1 (omega arith) (omega arith) t.arr) t.first t.second))
+    went (byte u v w1 (arrived_more (omega arith) (omega arith) t.arr) t.first t.second))

@@ -40,15 +40,7 @@ word_set (w ∷ ws) s (suc n) e = word_set ws s.1 n e
 
 pub library_set : (r : value.Routine) → library_word r ≡ 0 → ⊥
 library_set stop e = absurd (omega (arith, e))
-library_set rdch e = absurd (omega (arith, e))
-library_set wrch e = absurd (omega (arith, e))
-library_set newline e = absurd (omega (arith, e))
-library_set writes e = absurd (omega (arith, e))
-library_set writen e = absurd (omega (arith, e))
-library_set writed e = absurd (omega (arith, e))
-library_set getbyte e = absurd (omega (arith, e))
-library_set putbyte e = absurd (omega (arith, e))
-library_set writef e = absurd (omega (arith, e))
+library_set _ e = absurd (omega (arith, e))
 
 abbrev pub codes_of : (ws : List ℕ) → AreSet ws → Codes
 codes_of ws s = record { procedure = word_in ws; routine = library_word; procedure_set = word_set ws s; routine_set = library_set }
@@ -106,8 +98,7 @@ held_at g i (suc o) (y ∷ ys) x h e = let there : suc i + o ≡ i + suc o = ome
 -- no part of a section is the global vector
 abbrev IsPart : Lasting → Type 0
 IsPart global_vector = ⊥
-IsPart (words ws) = Unit {0}
-IsPart (code f) = Unit {0}
+IsPart _ = Unit {0}
 
 abbrev AreParts : List Lasting → Type 0
 AreParts [] = Unit {0}
@@ -125,12 +116,7 @@ parts_as own (k ∷ ks) (x ∷ xs) (v ∷ vs) [] a = absurd a
 parts_as own (string ∷ ks) (words us ∷ xs) (v ∷ vs) (w ∷ ws) a = (tt, parts_as own ks xs vs ws a.1)
 parts_as own (words_at n ts ∷ ks) (words us ∷ xs) (v ∷ vs) (w ∷ ws) a = (tt, parts_as own ks xs vs ws a.1)
 parts_as own (entry n y ∷ ks) (code p ∷ xs) (v ∷ vs) (w ∷ ws) a = (tt, parts_as own ks xs vs ws a.1)
-parts_as own (string ∷ ks) (code p ∷ xs) (v ∷ vs) (w ∷ ws) a = elim (a.0) [ ]
-parts_as own (words_at n us ∷ ks) (code p ∷ xs) (v ∷ vs) (w ∷ ws) a = elim (a.0) [ ]
-parts_as own (entry n y ∷ ks) (words us ∷ xs) (v ∷ vs) (w ∷ ws) a = elim (a.0) [ ]
-parts_as own (string ∷ ks) (global_vector ∷ xs) (v ∷ vs) (w ∷ ws) a = elim (a.0) [ ]
-parts_as own (words_at n us ∷ ks) (global_vector ∷ xs) (v ∷ vs) (w ∷ ws) a = elim (a.0) [ ]
-parts_as own (entry n y ∷ ks) (global_vector ∷ xs) (v ∷ vs) (w ∷ ws) a = elim (a.0) [ ]
+parts_as own _ _ (v ∷ vs) (w ∷ ws) a = elim (a.0) [ ]
 
 all_parts : (g : Setting) (pay k i : ℕ) (sections : List Declarations) (owns : List Placed) (h : SectionsLie pay k i sections owns) → HasAll g pay k i sections owns h → AreParts (of_sections i sections)
 all_parts g pay k i [] owns h a = tt
@@ -156,12 +142,11 @@ held_holds g o b (code f) part base h = entry_holds g f.global o b base h.1
 
 sections_faultless : (sections : List Declarations) (owns : List Placed) → AreAccepted sections → StandFor sections owns → (i : ℕ) (own : Placed) → slice_get owns i ≡ Some own → AreFaultless own.stmts
 sections_faultless [] [] ok st i own e = absurd (cc)
-sections_faultless [] (x ∷ xs) ok st i own e = absurd st
-sections_faultless (ds ∷ rest) [] ok st i own e = absurd st
 sections_faultless (ds ∷ rest) (x ∷ xs) ok st zero own e =
     let same : x ≡ own = (let k : Some x ≡ Some own = e in cc) in
     subst (λ (y : Placed). AreFaultless y.stmts) same (subst AreFaultless (sym st.0) (scheme_is_accepted ds ok.0.faultless ok.0.within ok.0.are_words).are_faultless)
 sections_faultless (ds ∷ rest) (x ∷ xs) ok st (suc i) own e = sections_faultless rest xs ok.1 st.1 i own e
+sections_faultless _ _ ok st i own e = absurd st
 
 -- The sections of a program, with what lasts of them.
 pub record Together (program : Program) (first : ℕ) (sections : List Declarations) : Type 0 where
@@ -238,10 +223,8 @@ holds_each program first sections t (suc o) b x e base =
     held_holds g (suc o) b x part base (subst (λ n. HeldOne g n x) there (held_at g 1 o (of_sections 1 sections) x (held_together program first sections t 0) e))
 
 procedure_here : (x : Option Lasting) (f : Procedure) → procedure_in x ≡ Some f → x ≡ Some (code f)
-procedure_here None f e = absurd (cc)
-procedure_here (Some global_vector) f e = absurd (cc)
-procedure_here (Some (words ws)) f e = absurd (cc)
 procedure_here (Some (code p)) f e = ap (λ y. Some (code y)) (let k : Some p ≡ Some f = e in cc)
+procedure_here _ f e = absurd (cc)
 
 procedures_together : (program : Program) (first : ℕ) (sections : List Declarations) (t : Together program first sections) (most n : ℕ) (f : Procedure) → procedure_of (program_of sections) n ≡ Some f
     → IsProcedure (setting_together program first sections t most) n f

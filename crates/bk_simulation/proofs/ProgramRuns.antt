@@ -118,14 +118,12 @@ run_after program zero s last e = then_zero (program_step program s) ∙ ap (λ 
   where
     then_zero : (x : Next) → then_run (run program 0) x ≡ x
     then_zero (Goes t) = refl
-    then_zero (Ends e t) = refl
-    then_zero Wild = refl
+    then_zero _ = refl
 run_after program (suc n) s last e = by_step (program_step program s) e (λ t h. run_after program n t last h)
   where
     by_step : (x : Next) → then_run (run program n) x ≡ Goes last → ((t : State) → run program n t ≡ Goes last → run program (suc n) t ≡ program_step program last) → then_run (run program (suc n)) x ≡ program_step program last
     by_step (Goes t) e go = go t e
-    by_step (Ends q t) e go = absurd (cc)
-    by_step Wild e go = absurd (cc)
+    by_step _ e go = absurd (cc)
 
 module _ (g : Setting) where
   raw_frames : (t : State) → FewFrames g (settled g.program t).cells (settled g.program t).frame g.cap → FewFrames g t.cells t.frame g.cap

@@ -52,21 +52,12 @@ pub record ProceduresBehind (g : Setting) (sc : Scene) (ns : List Named) (i n : 
   pub means : P → MeanThere g sc (with_names ns i) (procedures_in_scope n ds bs) (bind_procedures ds env)
 
 global_here : (s : Option Sense) (y : Option Bound) → SameGlobal s y → is_global y ≡ true → global_named s ≡ None → ⊥
-global_here s (Some (b.Global (Some n))) h e k = absurd (cc)
 global_here s (Some (b.Global None)) h e k = h
-global_here s (Some (b.Constant v)) h e k = absurd (cc)
-global_here s (Some (b.Static m)) h e k = absurd (cc)
-global_here s (Some (b.Variable j d)) h e k = absurd (cc)
-global_here s (Some (b.Label j m)) h e k = absurd (cc)
-global_here s None h e k = absurd (cc)
+global_here s _ h e k = absurd (cc)
 
 global_there : (s : Option Sense) (y : Option Bound) (v : ℕ) → SameGlobal s y → is_global y ≡ false → global_named s ≡ Some v → ⊥
 global_there s (Some (b.Global v)) w h e k = absurd (cc)
-global_there s (Some (b.Constant v)) w h e k = absurd (cc)
-global_there s (Some (b.Static m)) w h e k = absurd (cc)
-global_there s (Some (b.Variable j d)) w h e k = absurd (cc)
-global_there s (Some (b.Label j m)) w h e k = absurd (cc)
-global_there s None w h e k = absurd (cc)
+global_there s _ w h e k = absurd (cc)
 
 -- one procedure, and those behind it
 one_procedure : (g : Setting) (sc : Scene) (ns : List Named) (i n k : ℕ) (ds : Definitions) (x : List ℕ) (u : Option ℕ) (q : Bool) → global_named (sense_in ns x) ≡ u → is_global (bound_in sc.bindings x) ≡ q → 0 < i → Agree ns sc.bindings
@@ -233,9 +224,6 @@ pub record VariablesOf (bs : List Binding) (p : Place) (d : ℕ) (xs : List Ment
 
 pub variables_are : (bs : List Binding) (p : Place) (d : ℕ) (xs : List Mention) (is : Starts) → p.depth ≡ d → length xs ≡ starts is → VectorsSound bs is → depth_past bs d is ≤ FRAME_WORDS → VariablesOf bs p d xs is
 variables_are bs p d [] t.no_starts at few h low = record { are = refl; fit = tt; procedure = refl; depth = at }
-variables_are bs p d (x ∷ xs) t.no_starts at few h low = absurd (omega (arith, few))
-variables_are bs p d [] (t.value e is) at few h low = absurd (omega (arith, few))
-variables_are bs p d [] (t.vector l e is) at few h low = absurd (omega (arith, few))
 variables_are bs p d (x ∷ xs) (t.value e is) at few h low =
     let grows = depth_grows bs (d + 1) is in
     let at1 : (deeper 1 p).depth ≡ d + 1 = omega (arith, at, grows, low) in
@@ -265,6 +253,7 @@ variables_are bs p d (x ∷ xs) (t.vector l e is) at few h low =
       procedure = more.procedure;
       depth = more.depth;
     }
+variables_are bs p d _ _ at few h low = absurd (omega (arith, few))
 
 pub past_is : (bs : List Binding) (p : Place) (s : ScopeSpot) (d : ℕ) (is : Starts) → depth_past bs d is ≡ behind_starts d (starts_named bs p s is)
 past_is bs p s d t.no_starts = refl
@@ -327,12 +316,10 @@ variables_in bs p s d (t.define (t.variables l xs is) ds) at h r low =
 foreign_started : (bs : List Binding) (d : ℕ) (xs : List Mention) (is : Starts) (ps : List Spot) (env : Environment) → length xs ≡ starts is
     → foreign_spots (spots_of (letters xs) (slots_of bs d is) ++ ps) env ≡ foreign_spots ps (bind_each (letters xs) foreign env)
 foreign_started bs d [] t.no_starts ps env few = refl
-foreign_started bs d [] (t.value e is) ps env few = absurd (omega (arith, few))
-foreign_started bs d [] (t.vector l e is) ps env few = absurd (omega (arith, few))
-foreign_started bs d (x ∷ xs) t.no_starts ps env few = absurd (omega (arith, few))
 foreign_started bs d (x ∷ xs) (t.value e is) ps env few = let few1 : length xs ≡ starts is = omega (arith, few) in foreign_started bs (d + 1) xs is ps (m.bind x.letters foreign env) few1
 foreign_started bs d (x ∷ xs) (t.vector l e is) ps env few =
     let few1 : length xs ≡ starts is = omega (arith, few) in foreign_started bs (d + worth (constant_word bs e) + 2) xs is ps (m.bind x.letters foreign env) few1
+foreign_started bs d _ _ ps env few = absurd (omega (arith, few))
 
 pub hidden_are : (bs : List Binding) (p : Place) (s : ScopeSpot) (d : ℕ) (ds : Definitions) (env : Environment) → RegularDefinitions ds → foreign_spots (spots_in bs p s d ds) env ≡ variables_hidden ds env
 hidden_are bs p s d t.no_definitions env r = refl

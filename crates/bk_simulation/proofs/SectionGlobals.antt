@@ -30,38 +30,7 @@ Standing c stmts = (k : ℕ) (t : Stmt) → slice_get stmts k ≡ Some t → mis
 
 no_more : (fs : List GlobalEntry) (t : Stmt) → not (may_stand (position_behind (Globals fs)) (role t)) ≡ true
 no_more fs (Number v) = refl
-no_more fs True = refl
-no_more fs False = refl
-no_more fs Query = refl
-no_more fs (Load x) = refl
-no_more fs (Address x) = refl
-no_more fs (Text x) = refl
-no_more fs (Monadic x) = refl
-no_more fs (Dyadic x) = refl
-no_more fs LoadByte = refl
-no_more fs (Assign x) = refl
-no_more fs AssignAt = refl
-no_more fs AssignByte = refl
-no_more fs (Jump l) = refl
-no_more fs (JumpIf t l) = refl
-no_more fs (Label l) = refl
-no_more fs (GiveResult l) = refl
-no_more fs (TakeResult n) = refl
-no_more fs (Stack n) = refl
-no_more fs Store = refl
-no_more fs (Entry l x) = refl
-no_more fs (Save n) = refl
-no_more fs (CallFunction n) = refl
-no_more fs (CallRoutine n) = refl
-no_more fs ReturnItem = refl
-no_more fs Return = refl
-no_more fs EndProcedure = refl
-no_more fs (Switch x cs) = refl
-no_more fs Finish = refl
-no_more fs (DataLabel l) = refl
-no_more fs (DataNumber v) = refl
-no_more fs (DataAddress l) = refl
-no_more fs (Globals es) = refl
+no_more fs _ = refl
 
 not_misplaced : (before : List Stmt) (s : Stmt) → stmt_fault before s ≡ None → misplaced (context_of before) s ≡ false
 not_misplaced before s e = by_test (misplaced (context_of before) s) e
@@ -120,8 +89,6 @@ SetSame codes n _ _ = ⊥
 pub all_set_same : (codes : Codes) (n : ℕ) (sections : List Declarations) (owns : List Placed) → StandFor sections owns → ((i : ℕ) (own : Placed) → slice_get owns i ≡ Some own → AreFaultless own.stmts) → SetSame codes n sections owns
     → all_globals owns ≡ settings codes n (of_sections n sections)
 all_set_same codes n [] [] st are h = refl
-all_set_same codes n [] (own ∷ others) st are h = absurd st
-all_set_same codes n (ds ∷ rest) [] st are h = absurd st
 all_set_same codes n (ds ∷ rest) (own ∷ others) st are h =
     let xs : List Lasting = of_declarations (record { names = []; next = n }) ds in
     let ys : List Lasting = of_sections (n + objects_of_declarations ds) rest in
@@ -130,3 +97,4 @@ all_set_same codes n (ds ∷ rest) (own ∷ others) st are h =
     ∙ ap (λ y. settings codes n xs ++ y) (all_set_same codes (n + objects_of_declarations ds) rest others st.1 (λ i o at. are (suc i) o at) h.1)
     ∙ ap (λ k. settings codes n xs ++ settings codes k ys) (let q = h.0.many in let z : n + objects_of_declarations ds ≡ n + length xs = omega arith in z)
     ∙ sym (settings_append codes n xs ys)
+all_set_same codes n _ _ st are h = absurd st

@@ -29,10 +29,7 @@ targets_back ts (x ∷ xs) ys h = targets_back ts xs ys h.1
 -- the data of a part begin with their label
 word_first : (places : Placement) (n : ℕ) (x : Bound) (rest : List Stmt) → item_words places rest ≡ [] → item_words places (word_code n x ++ rest) ≡ []
 word_first places n (b.Static m) rest e = refl
-word_first places n (b.Constant v) rest e = e
-word_first places n (b.Global v) rest e = e
-word_first places n (b.Variable j v) rest e = e
-word_first places n (b.Label j v) rest e = e
+word_first places n _ rest e = e
 
 label_first : (places : Placement) (x : Part) (rest : List Stmt) → item_words places rest ≡ [] → item_words places (data_code x ++ rest) ≡ []
 label_first places (procedure n (term.routine x name k c)) rest e = word_first places n x rest e

@@ -41,14 +41,12 @@ sections_lie pay k i (ds ∷ rest) [] ok st m = absurd st
 sections_lie pay k i (ds ∷ rest) (own ∷ others) ok st m = (section_lies k own ds pay i ok.0 st.0 (omega (arith, m)), sections_lie pay (suc k) (i + objects_of_declarations ds) rest others ok.1 st.1 (omega (arith, m)))
 
 abbrev pub all_bases : (pay k i : ℕ) (sections : List Declarations) (owns : List Placed) → SectionsLie pay k i sections owns → List ℕ
-all_bases pay k i [] owns h = []
-all_bases pay k i (ds ∷ rest) [] h = []
 all_bases pay k i (ds ∷ rest) (own ∷ others) h = h.0.bases ++ all_bases pay (suc k) (i + objects_of_declarations ds) rest others h.1
+all_bases pay k i _ _ h = []
 
 abbrev pub all_entries : (pay k i : ℕ) (sections : List Declarations) (owns : List Placed) → SectionsLie pay k i sections owns → List ℕ
-all_entries pay k i [] owns h = []
-all_entries pay k i (ds ∷ rest) [] h = []
 all_entries pay k i (ds ∷ rest) (own ∷ others) h = h.0.entries ++ all_entries pay (suc k) (i + objects_of_declarations ds) rest others h.1
+all_entries pay k i _ _ h = []
 
 -- these are the sections of a program from section k on
 abbrev pub AreIn : List Placed → ℕ → List Placed → Type 0

@@ -24,9 +24,8 @@ use Rattle.bk_simulation.proofs.SectionsLie.{SectionsLie, HasAll, first_suits, o
 
 -- the global that an object of this kind sets
 abbrev kind_entries : Kind → List GlobalEntry
-kind_entries string = []
-kind_entries (words_at n ws) = []
 kind_entries (entry n y) = entry_of n y
+kind_entries _ = []
 
 entries_alike : Alike entries_of kind_entries
 entries_alike = record {
@@ -41,10 +40,7 @@ entries_alike = record {
 one_set : (codes : Codes) (own : Placed) (i n : ℕ) (g : Option ℕ) (y : Bound) → g ≡ bound_global y → IsCalled y → codes.procedure i ≡ own.places.label n → map (entry_setting own.places) (entry_of n y) ≡ setting_of codes i g
 one_set codes own i n g (b.Static m) e c k = sym (ap (setting_of codes i) e)
 one_set codes own i n g (b.Global (Some v)) e c k = ap (λ w. record { global = v; value = w } ∷ []) (sym k) ∙ sym (ap (setting_of codes i) e)
-one_set codes own i n g (b.Global None) e c k = elim c [ ]
-one_set codes own i n g (b.Constant v) e c k = elim c [ ]
-one_set codes own i n g (b.Variable j v) e c k = elim c [ ]
-one_set codes own i n g (b.Label j v) e c k = elim c [ ]
+one_set codes own i n g _ e c k = elim c [ ]
 
 as_set : (codes : Codes) (own : Placed) (i : ℕ) (ks : List Kind) (xs : List Lasting) (vs ws : List ℕ) → AreAs own ks xs vs ws → FollowWords codes.procedure i ws → map (entry_setting own.places) (joined kind_entries ks) ≡ settings codes i xs
 as_set codes own i [] [] [] [] a f = refl
@@ -54,24 +50,17 @@ as_set codes own i (entry n y ∷ ks) (code p ∷ xs) (v ∷ vs) (w ∷ ws) a f 
     let is = a.0 in
     map-append (entry_setting own.places) (entry_of n y) (joined kind_entries ks)
     ∙ ap₂ (λ us ts. us ++ ts) (one_set codes own i n p.global y is.2 is.3 (f.0 ∙ is.1)) (as_set codes own (suc i) ks xs vs ws a.1 f.1)
-as_set codes own i (string ∷ ks) (code p ∷ xs) (v ∷ vs) (w ∷ ws) a f = elim (a.0) [ ]
-as_set codes own i (string ∷ ks) (global_vector ∷ xs) (v ∷ vs) (w ∷ ws) a f = elim (a.0) [ ]
-as_set codes own i (words_at n us ∷ ks) (code p ∷ xs) (v ∷ vs) (w ∷ ws) a f = elim (a.0) [ ]
-as_set codes own i (words_at n us ∷ ks) (global_vector ∷ xs) (v ∷ vs) (w ∷ ws) a f = elim (a.0) [ ]
-as_set codes own i (entry n y ∷ ks) (words us ∷ xs) (v ∷ vs) (w ∷ ws) a f = elim (a.0) [ ]
-as_set codes own i (entry n y ∷ ks) (global_vector ∷ xs) (v ∷ vs) (w ∷ ws) a f = elim (a.0) [ ]
 as_set codes own i [] (x ∷ xs) vs ws a f = absurd a
 as_set codes own i [] [] (v ∷ vs) ws a f = absurd a
 as_set codes own i [] [] [] (w ∷ ws) a f = absurd a
 as_set codes own i (k ∷ ks) [] vs ws a f = absurd a
 as_set codes own i (k ∷ ks) (x ∷ xs) [] ws a f = absurd a
 as_set codes own i (k ∷ ks) (x ∷ xs) (v ∷ vs) [] a f = absurd a
+as_set codes own i _ _ (v ∷ vs) (w ∷ ws) a f = elim (a.0) [ ]
 
 -- EACH SECTION SETS what its procedures set
 pub sections_set : (g : Setting) (pay k i : ℕ) (sections : List Declarations) (owns : List Placed) (h : SectionsLie pay k i sections owns) → HasAll g pay k i sections owns h → StandFor sections owns → SetSame g.codes i sections owns
 sections_set g pay k i [] [] h a st = tt
-sections_set g pay k i [] (own ∷ others) h a st = absurd st
-sections_set g pay k i (ds ∷ rest) [] h a st = absurd st
 sections_set g pay k i (ds ∷ rest) (own ∷ others) h a st = (
   record {
     same = ap (map (entry_setting own.places)) (alike_declarations entries_of kind_entries entries_alike 2 1 (named_tree ds))
@@ -81,3 +70,4 @@ sections_set g pay k i (ds ∷ rest) (own ∷ others) h a st = (
   },
   sections_set g pay (suc k) (i + objects_of_declarations ds) rest others h.1 (others_suit g pay k i ds rest own others h a) st.1,
 )
+sections_set g pay k i _ _ h a st = absurd st

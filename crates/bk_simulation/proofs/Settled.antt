@@ -9,8 +9,7 @@ pub use Rattle.bk_simulation.specs.GoingOn.{settled, settled_from}
 
 abbrev IsInside : Control → Type 0
 IsInside (Inside own k rest) = Unit {0}
-IsInside (Behind own l) = ⊥
-IsInside (At n) = ⊥
+IsInside _ = ⊥
 
 resumed_inside : (own : Placed) (r : Rest) (s : State) → IsInside (resumed own r s).control
 resumed_inside own r s = by_takes r.takes
@@ -30,8 +29,7 @@ resumed_in_inside (own ∷ others) n s t e = found_inside own s t (find_rest (re
 
 inside_step : (program : Program) (t : State) (c : Control) → t.control ≡ c → IsInside c → step program.callables t ≡ program_step program t
 inside_step program t (Inside own k rest) e h = sym (ap (λ y. program_step_from program t y) e)
-inside_step program t (Behind own l) e h = absurd h
-inside_step program t (At n) e h = absurd h
+inside_step program t _ e h = absurd h
 
 -- a state steps as the state as which it goes on
 pub settled_step : (program : Program) (s : State) → program_step program s ≡ program_step program (settled program s)
@@ -71,10 +69,3 @@ module _ (program : Program) where
     pub last : State
     pub is : run program n s ≡ Goes last
     pub settles : program_step program last ≡ program_step program u
-
-  -- It is a run of the program, also from a state that steps as the first does.
-  pub comes_ran : (n : ℕ) (s t u : State) → program_step program t ≡ program_step program s → Comes n s u → Ran n t u
-  comes_ran n s t u e (here _) = record { last = t; is = refl; settles = e }
-  comes_ran n s t u e (go_on j _ v _ q c) =
-      let r = comes_ran j (settled program v) v u (settled_step program v) c in
-      record { last = r.last; is = ap (λ y. then_run (run program j) y) (e ∙ q) ∙ r.is; settles = r.settles }

@@ -11,7 +11,7 @@ use Rattle.bk_tree.specs.Tree.{Expression, Expressions, Action, Actions}
 use Rattle.bk_meaning.specs.Values.{Value, address}
 use Rattle.bk_meaning.specs.Environment.{labelled}
 use Rattle.bk_meaning.specs.Seeking.{Sought, Mode}
-use Rattle.bk_meaning.specs.World.{World}
+use Rattle.bk_meaning.specs.World.{World, Outcome, Done}
 use Rattle.bk_meaning.specs.Growing.{history, After, Throughout}
 use Rattle.bk_meaning.specs.Parts.{Target, at, byte_at, Meanings}
 use Rattle.bk_simulation.proofs.Memory.{BaseOf, Alive, Stands}
@@ -58,6 +58,9 @@ HasTruth g s B z u to rest w b w1 = ArrivedAt g s B z (where_to u b to rest) z.d
 abbrev pub Did : Setting → State → Account → Sit → List Stmt → World → World → Type 0
 Did g s B z rest w w1 = ArrivedAt g s B z rest z.depth w w1
 
+abbrev pub RanDid : Setting → State → Account → Sit → List Stmt → World → Outcome Done → Type 0
+RanDid g s B z rest w o = Ran g s B (λ _ w1. Did g s B z rest w w1) (Out g s B z w) o
+
 -- an address is on top; a byte has none
 abbrev pub HasAddress : Setting → State → Account → Sit → List Stmt → World → Target → World → Type 0
 HasAddress g s B z rest w (at a) w1 = Has g s B z rest (z.depth + 1) w a w1
@@ -93,10 +96,10 @@ pub record Simulates (g : Setting) (m : Meanings) : Type 0 where
   pub destination : (e : Expression) (z : Sit) (c rest : List Stmt) (w : World) → IsStore g z.scene z.depth z.env e c rest → Ready g z w
       → Ran g (start z c w) (for_value e w) (λ t w1. Destined g (start z c w) (for_value e w) z rest w t w1) (Out g (start z c w) (for_value e w) z w) (m.target e z.env w)
   pub act : (x : Action) (mode : Mode) (z : Sit) (at : Sought → List Stmt) (c rest e : List Stmt) (w : World) → IsAct g z.scene z.depth z.env x at c rest → Entered mode z.env x at c e → Ready g z w
-      → Ran g (start z e w) (for_act x w) (λ _ w1. Did g (start z e w) (for_act x w) z rest w w1) (Out g (start z e w) (for_act x w) z w) (m.act x mode z.env w)
+      → RanDid g (start z e w) (for_act x w) z rest w (m.act x mode z.env w)
   pub rounds : (x : Action) (mode : Mode) (z : Sit) (at : Sought → List Stmt) (body rest e : List Stmt) (w : World) → IsLoop g z.scene z.depth z.env x at body rest → EnteredBody mode z.env x at body e → Ready g z w
-      → Ran g (start z e w) (for_rounds x w) (λ _ w1. Did g (start z e w) (for_rounds x w) z rest w w1) (Out g (start z e w) (for_rounds x w) z w) (m.rounds x mode z.env w)
+      → RanDid g (start z e w) (for_rounds x w) z rest w (m.rounds x mode z.env w)
   pub scope : (cs : Actions) (mode : Mode) (z : Sit) (j : ℕ) (at : Sought → List Stmt) (c rest e : List Stmt) (w : World) → IsScopeAt g z.scene z.depth z.env cs j at c rest → EnteredAny mode (labelled cs z.env) cs at c e → Ready g z w
-      → Ran g (start z e w) (for_scope cs w) (λ _ w1. Did g (start z e w) (for_scope cs w) z rest w w1) (Out g (start z e w) (for_scope cs w) z w) (m.scope cs mode z.env w)
+      → RanDid g (start z e w) (for_scope cs w) z rest w (m.scope cs mode z.env w)
   pub for_rounds : (x : Action) (o : ℕ) (u : Value) (k d : ℕ) (z : Sit) (body rest : List Stmt) (w : World) → z.depth ≡ d + 2 → IsForLoop g z.scene z.depth d k z.env x body rest → Limit g z w d o u → Ready g z w
-      → Ran g (start z body w) (for_counts x w) (λ _ w1. Did g (start z body w) (for_counts x w) z rest w w1) (Out g (start z body w) (for_counts x w) z w) (m.for_rounds x o u k z.env w)
+      → RanDid g (start z body w) (for_counts x w) z rest w (m.for_rounds x o u k z.env w)

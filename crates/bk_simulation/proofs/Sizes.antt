@@ -55,9 +55,8 @@ abbrev mutual
 
   -- procedures are gone through where they are called
   pub turns_one_defined : Definition → ℕ
-  turns_one_defined (t.routine l x fs c) = 0
-  turns_one_defined (t.function l x fs e) = 0
   turns_one_defined (t.variables l xs is) = 1 + turns_started is
+  turns_one_defined _ = 0
 
   pub turns_started : Starts → ℕ
   turns_started t.no_starts = 0

@@ -11,20 +11,12 @@ abbrev pub with_names : List Named → ℕ → Environment
 with_names ns n = record { names = ns; next = n }
 
 pub same_constant : (ns : List Named) (i j : ℕ) (e : Expression) → constant_in (with_names ns i) e ≡ constant_in (with_names ns j) e
-same_constant ns i j (t.name l x) = refl
-same_constant ns i j (t.number l n) = refl
-same_constant ns i j (t.text l x) = refl
-same_constant ns i j (t.truth l b) = refl
-same_constant ns i j (t.query l) = refl
 same_constant ns i j (t.parens l e) = same_constant ns i j e
 same_constant ns i j (t.unary l q e) = ap (λ y. option_and_then (prefix_word q) y) (same_constant ns i j e)
 same_constant ns i j (t.binary l q m a b) =
     ap (λ y. option_and_then (λ x. option_and_then (infix_word q x) (constant_in (with_names ns i) b)) y) (same_constant ns i j a)
     ∙ ap (λ y. option_and_then (λ x. option_and_then (infix_word q x) y) (constant_in (with_names ns j) a)) (same_constant ns i j b)
-same_constant ns i j (t.choice l m c a b) = refl
-same_constant ns i j (t.apply l m f es) = refl
-same_constant ns i j (t.valof l c) = refl
-same_constant ns i j (t.table l es) = refl
+same_constant ns i j _ = refl
 
 mutual
   pub same_stands : (s : Sought) (ns : List Named) (i j : ℕ) (c : Action) → stands_in s (with_names ns i) c ≡ stands_in s (with_names ns j) c

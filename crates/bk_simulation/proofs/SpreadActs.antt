@@ -97,16 +97,13 @@ turns_spread : (pay : ℕ) (acts : ActsSpread pay) (xs es : Expressions) → wei
     → AreFrom g sc d enve es vs → AreStores g sc (d + 1) envx xs ss → ByTurns xs es vs ss c rest → HeldIn g own i (of_each heldx xs) → HeldIn g own j (of_each helde es)
     → Turned g own c rest i (objects_of_each xs) (forms_of_each xs) j (objects_of_each es) (forms_of_each es)
 turns_spread pay acts t.none t.none w w1 g own sc d envx heldx enve helde vs ss c rest i j zx ze at fk sk k hx he = turned_none g own c rest i j (by_path c rest k)
-turns_spread pay acts t.none (t.more e es) w w1 g own sc d envx heldx enve helde vs ss c rest i j zx ze at fk sk k hx he = absurd k
-turns_spread pay acts (t.more x xs) t.none w w1 g own sc d envx heldx enve helde vs ss c rest i j zx ze at fk sk k hx he = absurd k
-turns_spread pay acts (t.more x xs) (t.more e es) w w1 g own sc d envx heldx enve helde [] ss c rest i j zx ze at fk sk k hx he = absurd k
-turns_spread pay acts (t.more x xs) (t.more e es) w w1 g own sc d envx heldx enve helde (v ∷ vs) [] c rest i j zx ze at fk sk k hx he = absurd k
 turns_spread pay acts (t.more x xs) (t.more e es) w w1 g own sc d envx heldx enve helde (v ∷ vs) (s ∷ ss) c rest i j zx ze at fk sk k hx he =
     turned_more g own c v.to s.to rest i (objects x) (objects_of_each xs) (forms x) (forms_of_each xs) j (objects e) (objects_of_each es) (forms e) (forms_of_each es)
     (spread_top g own c v.from v.to j (objects e) (forms e) (by_path c v.from k.0) (code_spread pay acts e (omega (arith, w1)) g own sc d enve helde pushes v.from v.to j ze at fk.0 (held_front g own j (of_expression helde e) _ he)))
     (spread_top g own v.to s.from s.to i (objects x) (forms x) (by_path v.to s.from k.1) (store_spread pay acts x (omega (arith, w)) g own sc (d + 1) envx heldx s.from s.to i zx at sk.0 (held_front g own i (of_expression heldx x) _ hx)))
     (turns_spread pay acts xs es (omega (arith, w)) (omega (arith, w1)) g own sc d (past x envx) (past x heldx) (past e enve) (past e helde) vs ss s.to rest (i + objects x) (j + objects e) (later envx heldx i (objects x) zx) (later enve helde j (objects e) ze) at fk.1 sk.1 k.2
     (held_back g own i (objects x) (of_expression heldx x) _ (expression_counted heldx x) hx) (held_back g own j (objects e) (of_expression helde e) _ (expression_counted helde e) he))
+turns_spread pay acts _ _ w w1 g own sc d envx heldx enve helde _ _ c rest i j zx ze at fk sk k hx he = absurd k
 
 mutual
   act_spread : (pay : ℕ) (acts : ActsSpread pay) (a : Action) → weight_in a ≤ suc pay → (g : Setting) (own : Placed) (sc : Scene) (d : ℕ) (env held : Environment) (at1 : Sought → List Stmt) (c rest : List Stmt) (i : ℕ) → Numbered env held i → IsOwn own sc → IsAct g sc d env a at1 c rest → HeldIn g own i (of_action held a)
@@ -123,7 +120,6 @@ mutual
       (spread_bottom g own k.1 rest _ i (objects f) (forms f) (λ q. refl) (code_spread pay acts f (omega (arith, w)) g own sc _ env held pushes k.1 _ i z at k.4 (held_front g own i (of_expression held f) _ h)))
       (spread_top g own c k.0 k.1 (i + objects f) (objects_of_each es) (forms_of_each es) (by_path c _ k.2)
       (values_spread pay acts es (omega (arith, w)) g own sc (d + 2) (past f env) (past f held) k.0 k.1 (i + objects f) z1 at k.3 (held_back g own i (objects f) (of_expression held f) _ (expression_counted held f) h)))
-  act_spread pay acts (t.goto l x) w g own sc d env held at1 c rest i z at k h = spread_none g own c rest i (by_path c _ k.0)
   act_spread pay acts (t.label l x a) w g own sc d env held at1 c rest i z at k h =
       spread_top g own c k.1 rest i (objects_of_action a) (forms_of_action a) (by_path c _ k.3) (act_spread pay acts a (omega (arith, w)) g own sc d env held k.2 k.1 rest i z at k.4 h)
   act_spread pay acts (t.case_of l e a) w g own sc d env held at1 c rest i z at k h =
@@ -177,9 +173,6 @@ mutual
       (spread_bottom g own k.3 rest _ (i + objects e) (objects_of_action a) (forms_of_action a) (λ q. refl)
       (act_spread pay acts a (omega (arith, w)) g own (in_switch k.0 d sc) d (past e env) (past e held) at1 k.3 _ (i + objects e) (later env held i (objects e) z) at k.5 (held_back g own i (objects e) (of_expression held e) _ (expression_counted held e) h)))
   act_spread pay acts (t.result l e) w g own sc d env held at1 c rest i z at k h = spread_bottom g own c rest _ i (objects e) (forms e) (λ q. refl) (code_spread pay acts e (omega (arith, w)) g own sc d env held pushes c _ i z at k.1 h)
-  act_spread pay acts (t.simple l simple.Break) w g own sc d env held at1 c rest i z at k h = spread_none g own c rest i (by_path c _ k.0)
-  act_spread pay acts (t.simple l simple.Loop) w g own sc d env held at1 c rest i z at k h = spread_none g own c rest i (by_path c _ k.0)
-  act_spread pay acts (t.simple l simple.EndCase) w g own sc d env held at1 c rest i z at k h = spread_none g own c rest i (by_path c _ k.0)
   act_spread pay acts (t.simple l simple.Return) w g own sc d env held at1 c rest i z at k h = spread_none g own c rest i (by_path c _ k)
   act_spread pay acts (t.simple l simple.Finish) w g own sc d env held at1 c rest i z at k h = spread_none g own c rest i (by_path c _ k)
   act_spread pay acts (t.block l t.no_declarations cs) w g own sc d env held at1 c rest i z at k h =
@@ -195,6 +188,7 @@ mutual
       (spread_bottom g own k.3 k.4 _ i (objects_of_action a) (forms_of_action a) (λ q. refl) (act_spread pay acts a (omega (arith, w)) g own (in_loop k.1 k.2 d sc) d env held at1 k.3 _ i z at k.6 (held_front g own i (of_action held a) _ h))))
       (spread_bottom g own k.4 rest _ (i + objects_of_action a) (objects e) (forms e) (λ q. refl)
       (code_spread pay acts e (omega (arith, w)) g own sc d (past_action a env) (past_action a held) _ k.4 _ (i + objects_of_action a) (later env held i (objects_of_action a) z) at k.7 (held_back g own i (objects_of_action a) (of_action held a) _ (action_counted held a) h)))
+  act_spread pay acts _ w g own sc d env held at1 c rest i z at k h = spread_none g own c rest i (by_path c _ k.0)
 
   acts_spread : (pay : ℕ) (acts : ActsSpread pay) (cs : Actions) → weight_through cs ≤ suc pay → (g : Setting) (own : Placed) (sc : Scene) (d : ℕ) (env held : Environment) (at1 : Sought → List Stmt) (c rest : List Stmt) (i : ℕ) → Numbered env held i → IsOwn own sc → AreActs g sc d env cs at1 c rest → HeldIn g own i (of_actions held cs)
       → Spread g own c rest i (objects_of_actions cs) (forms_of_actions cs)
@@ -206,22 +200,7 @@ mutual
 
 no_weight : ActsSpread 0
 no_weight t.empty w g own sc d env held at1 c rest i z at k h = spread_none g own c rest i (by_path c rest k)
-no_weight (t.assign l xs es) w g own sc d env held at1 c rest i z at k h = absurd (omega (arith, w))
-no_weight (t.call l f es) w g own sc d env held at1 c rest i z at k h = absurd (omega (arith, w))
-no_weight (t.goto l x) w g own sc d env held at1 c rest i z at k h = absurd (omega (arith, w))
-no_weight (t.label l x a) w g own sc d env held at1 c rest i z at k h = absurd (omega (arith, w))
-no_weight (t.case_of l e a) w g own sc d env held at1 c rest i z at k h = absurd (omega (arith, w))
-no_weight (t.default l a) w g own sc d env held at1 c rest i z at k h = absurd (omega (arith, w))
-no_weight (t.when l u e a) w g own sc d env held at1 c rest i z at k h = absurd (omega (arith, w))
-no_weight (t.test l e x y) w g own sc d env held at1 c rest i z at k h = absurd (omega (arith, w))
-no_weight (t.while l u e a) w g own sc d env held at1 c rest i z at k h = absurd (omega (arith, w))
-no_weight (t.for_loop l x a y f e) w g own sc d env held at1 c rest i z at k h = absurd (omega (arith, w))
-no_weight (t.switch l e a) w g own sc d env held at1 c rest i z at k h = absurd (omega (arith, w))
-no_weight (t.result l e) w g own sc d env held at1 c rest i z at k h = absurd (omega (arith, w))
-no_weight (t.simple l x) w g own sc d env held at1 c rest i z at k h = absurd (omega (arith, w))
-no_weight (t.block l ds cs) w g own sc d env held at1 c rest i z at k h = absurd (omega (arith, w))
-no_weight (t.repeat l a) w g own sc d env held at1 c rest i z at k h = absurd (omega (arith, w))
-no_weight (t.repeat_while l u a e) w g own sc d env held at1 c rest i z at k h = absurd (omega (arith, w))
+no_weight _ w g own sc d env held at1 c rest i z at k h = absurd (omega (arith, w))
 
 -- THE STRINGS OF COMMANDS, whatever their weight
 pub all_spread : (pay : ℕ) → ActsSpread pay

@@ -38,9 +38,8 @@ items_spread g own c i t.no_items = spread_none g own c c i (λ q. refl)
 items_spread g own c i (t.item l x e is) = spread_both g own c c c i 1 (m.count is) (some_words ∷ []) (forms_of_items is) (spread_words g own c c i (λ q. refl)) (items_spread g own c (i + 1) is)
 
 pub constants_spread : (g : Setting) (own : Placed) (c : List Stmt) (i l : ℕ) (k : Sort) (is : Items) → Spread g own c c i (objects_of_declaration (t.constants l k is)) (forms_of_declaration (t.constants l k is))
-constants_spread g own c i l sort.Manifest is = spread_none g own c c i (λ q. refl)
 constants_spread g own c i l sort.Static is = items_spread g own c i is
-constants_spread g own c i l sort.Global is = spread_none g own c c i (λ q. refl)
+constants_spread g own c i l _ is = spread_none g own c c i (λ q. refl)
 
 -- a procedure's code
 span_is : (g : Setting) (own : Placed) (i : ℕ) (f : Procedure) (p : IsProcedure g i f) → p.scene.own ≡ own → IsSpan g own i (record { place = p.place; from = Save (length f.formals + 2) ∷ p.body })

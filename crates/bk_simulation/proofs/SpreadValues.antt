@@ -44,11 +44,10 @@ unary_spread : (l : ℕ) (f : Prefix) (e : Expression) (g : Setting) (own : Plac
     → ((ai : Aim) (c0 r0 : List Stmt) → IsCode g sc d env ai e c0 r0 → Spread g own c0 r0 i (objects e) (forms e)) → ((c0 r0 : List Stmt) → IsAddress g sc d env e c0 r0 → Spread g own c0 r0 i (objects e) (forms e))
     → Spread g own c rest i (objects e) (forms e)
 unary_spread l q.Address e g own sc d env aim c rest i k x y = spread_bottom g own c rest (ending aim rest) i (objects e) (forms e) (ending_plain aim rest) (y c (ending aim rest) k)
-unary_spread l q.Contents e g own sc d env aim c rest i k x y = spread_bottom g own c rest _ i (objects e) (forms e) (ending_plain aim rest) (x pushes c _ k)
 unary_spread l q.Plus e g own sc d env aim c rest i k x y = spread_bottom g own c rest (ending aim rest) i (objects e) (forms e) (ending_plain aim rest) (x pushes c (ending aim rest) k)
-unary_spread l q.Minus e g own sc d env aim c rest i k x y = spread_bottom g own c rest _ i (objects e) (forms e) (ending_plain aim rest) (x pushes c _ k)
 unary_spread l q.Not e g own sc d env pushes c rest i k x y = spread_bottom g own c rest _ i (objects e) (forms e) (λ q. refl) (x pushes c _ k)
 unary_spread l q.Not e g own sc d env (jumps u n) c rest i k x y = x _ c rest k
+unary_spread l _ e g own sc d env aim c rest i k x y = spread_bottom g own c rest _ i (objects e) (forms e) (ending_plain aim rest) (x pushes c _ k)
 
 -- a condition, and the values that it chooses from
 choice_spread : (l m : ℕ) (e x y : Expression) (g : Setting) (own : Placed) (sc : Scene) (d : ℕ) (env : Environment) (aim : Aim) (c rest : List Stmt) (i : ℕ) → IsCode g sc d env aim (t.choice l m e x y) c rest
@@ -64,40 +63,18 @@ choice_spread l m e x y g own sc d env aim c rest i k fe fx fy =
 -- what has an address, and where a value is stored
 unary_address : (l : ℕ) (f : Prefix) (e : Expression) (g : Setting) (own : Placed) (sc : Scene) (d : ℕ) (env : Environment) (c rest : List Stmt) (i : ℕ) → IsAddress g sc d env (t.unary l f e) c rest → ((c0 r0 : List Stmt) → IsCode g sc d env pushes e c0 r0 → Spread g own c0 r0 i (objects e) (forms e)) → Spread g own c rest i (objects e) (forms e)
 unary_address l q.Contents e g own sc d env c rest i k fe = fe c rest k
-unary_address l q.Address e g own sc d env c rest i k fe = absurd k
-unary_address l q.Plus e g own sc d env c rest i k fe = absurd k
-unary_address l q.Minus e g own sc d env c rest i k fe = absurd k
-unary_address l q.Not e g own sc d env c rest i k fe = absurd k
+unary_address l _ e g own sc d env c rest i k fe = absurd k
 
 binary_address : (l : ℕ) (f : Operator) (m : ℕ) (x y : Expression) (g : Setting) (own : Placed) (sc : Scene) (d : ℕ) (env : Environment) (c rest : List Stmt) (i : ℕ) → IsAddress g sc d env (t.binary l f m x y) c rest → ((c0 r0 : List Stmt) → IsCode g sc d env pushes x c0 r0 → Spread g own c0 r0 i (objects x) (forms x))
     → ((c0 r0 : List Stmt) → IsCode g sc (d + 1) (past x env) pushes y c0 r0 → Spread g own c0 r0 (i + objects x) (objects y) (forms y)) → Spread g own c rest i (objects x + objects y) (forms x ++ forms y)
 binary_address l o.Subscript m x y g own sc d env c rest i k fx fy =
     spread_both g own c k.0 rest i (objects x) (objects y) (forms x) (forms y) (fx c k.0 k.1) (spread_bottom g own k.0 rest _ (i + objects x) (objects y) (forms y) (λ q. refl) (fy k.0 _ k.2))
 binary_address l o.Byte m x y g own sc d env c rest i k fx fy = absurd k
-binary_address l o.Times m x y g own sc d env c rest i k fx fy = absurd k
-binary_address l o.Over m x y g own sc d env c rest i k fx fy = absurd k
-binary_address l o.Rem m x y g own sc d env c rest i k fx fy = absurd k
-binary_address l o.Add m x y g own sc d env c rest i k fx fy = absurd k
-binary_address l o.Subtract m x y g own sc d env c rest i k fx fy = absurd k
-binary_address l o.Equal m x y g own sc d env c rest i k fx fy = absurd k
-binary_address l o.Unequal m x y g own sc d env c rest i k fx fy = absurd k
-binary_address l o.Less m x y g own sc d env c rest i k fx fy = absurd k
-binary_address l o.Greater m x y g own sc d env c rest i k fx fy = absurd k
-binary_address l o.AtMost m x y g own sc d env c rest i k fx fy = absurd k
-binary_address l o.AtLeast m x y g own sc d env c rest i k fx fy = absurd k
-binary_address l o.ShiftLeft m x y g own sc d env c rest i k fx fy = absurd k
-binary_address l o.ShiftRight m x y g own sc d env c rest i k fx fy = absurd k
-binary_address l o.Both m x y g own sc d env c rest i k fx fy = absurd k
-binary_address l o.Either m x y g own sc d env c rest i k fx fy = absurd k
-binary_address l o.Same m x y g own sc d env c rest i k fx fy = absurd k
-binary_address l o.Differ m x y g own sc d env c rest i k fx fy = absurd k
+binary_address l _ m x y g own sc d env c rest i k fx fy = absurd k
 
 unary_store : (l : ℕ) (f : Prefix) (e : Expression) (g : Setting) (own : Placed) (sc : Scene) (d : ℕ) (env : Environment) (c rest : List Stmt) (i : ℕ) → IsStore g sc d env (t.unary l f e) c rest → ((c0 r0 : List Stmt) → IsCode g sc d env pushes e c0 r0 → Spread g own c0 r0 i (objects e) (forms e)) → Spread g own c rest i (objects e) (forms e)
 unary_store l q.Contents e g own sc d env c rest i k fe = spread_bottom g own c rest _ i (objects e) (forms e) (λ q. refl) (fe c _ k)
-unary_store l q.Address e g own sc d env c rest i k fe = absurd k
-unary_store l q.Plus e g own sc d env c rest i k fe = absurd k
-unary_store l q.Minus e g own sc d env c rest i k fe = absurd k
-unary_store l q.Not e g own sc d env c rest i k fe = absurd k
+unary_store l _ e g own sc d env c rest i k fe = absurd k
 
 binary_store : (l : ℕ) (f : Operator) (m : ℕ) (x y : Expression) (g : Setting) (own : Placed) (sc : Scene) (d : ℕ) (env : Environment) (c rest : List Stmt) (i : ℕ) → IsStore g sc d env (t.binary l f m x y) c rest → ((c0 r0 : List Stmt) → IsCode g sc d env pushes x c0 r0 → Spread g own c0 r0 i (objects x) (forms x))
     → ((c0 r0 : List Stmt) → IsCode g sc (d + 1) (past x env) pushes y c0 r0 → Spread g own c0 r0 (i + objects x) (objects y) (forms y)) → Spread g own c rest i (objects x + objects y) (forms x ++ forms y)
@@ -106,22 +83,7 @@ binary_store l o.Subscript m x y g own sc d env c rest i k fx fy =
 binary_store l o.Byte m x y g own sc d env c rest i k fx fy =
     spread_both g own c k.0 rest i (objects x) (objects y) (forms x) (forms y) (fx c k.0 k.1) (spread_bottom g own k.0 rest _ (i + objects x) (objects y) (forms y) (λ q. refl) (fy k.0 _ k.2))
 binary_store l o.Times m x y g own sc d env c rest i k fx fy = absurd k
-binary_store l o.Over m x y g own sc d env c rest i k fx fy = absurd k
-binary_store l o.Rem m x y g own sc d env c rest i k fx fy = absurd k
-binary_store l o.Add m x y g own sc d env c rest i k fx fy = absurd k
-binary_store l o.Subtract m x y g own sc d env c rest i k fx fy = absurd k
-binary_store l o.Equal m x y g own sc d env c rest i k fx fy = absurd k
-binary_store l o.Unequal m x y g own sc d env c rest i k fx fy = absurd k
-binary_store l o.Less m x y g own sc d env c rest i k fx fy = absurd k
-binary_store l o.Greater m x y g own sc d env c rest i k fx fy = absurd k
-binary_store l o.AtMost m x y g own sc d env c rest i k fx fy = absurd k
-binary_store l o.AtLeast m x y g own sc d env c rest i k fx fy = absurd k
-binary_store l o.ShiftLeft m x y g own sc d env c rest i k fx fy = absurd k
-binary_store l o.ShiftRight m x y g own sc d env c rest i k fx fy = absurd k
-binary_store l o.Both m x y g own sc d env c rest i k fx fy = absurd k
-binary_store l o.Either m x y g own sc d env c rest i k fx fy = absurd k
-binary_store l o.Same m x y g own sc d env c rest i k fx fy = absurd k
-binary_store l o.Differ m x y g own sc d env c rest i k fx fy = absurd k
+binary_store l _ m x y g own sc d env c rest i k fx fy = absurd k
 
 -- commands up to this weight
 abbrev pub ActsSpread : ℕ → Type 0
@@ -188,14 +150,7 @@ mutual
   address_spread pay acts (t.binary l f m x y) w g own sc d env held c rest i z at k h =
       binary_address l f m x y g own sc d env c rest i k (λ c0 r0 u. code_spread pay acts x (omega (arith, w)) g own sc d env held pushes c0 r0 i z at u (held_front g own i (of_expression held x) _ h))
       (λ c0 r0 u. code_spread pay acts y (omega (arith, w)) g own sc (d + 1) (past x env) (past x held) pushes c0 r0 (i + objects x) (later env held i (objects x) z) at u (held_back g own i (objects x) (of_expression held x) _ (expression_counted held x) h))
-  address_spread pay acts (t.number l n) w g own sc d env held c rest i z at k h = absurd k
-  address_spread pay acts (t.text l x) w g own sc d env held c rest i z at k h = absurd k
-  address_spread pay acts (t.truth l x) w g own sc d env held c rest i z at k h = absurd k
-  address_spread pay acts (t.query l) w g own sc d env held c rest i z at k h = absurd k
-  address_spread pay acts (t.choice l m e x y) w g own sc d env held c rest i z at k h = absurd k
-  address_spread pay acts (t.apply l m f es) w g own sc d env held c rest i z at k h = absurd k
-  address_spread pay acts (t.valof l a) w g own sc d env held c rest i z at k h = absurd k
-  address_spread pay acts (t.table l es) w g own sc d env held c rest i z at k h = absurd k
+  address_spread pay acts _ w g own sc d env held c rest i z at k h = absurd k
 
   pub store_spread : (pay : ℕ) (acts : ActsSpread pay) (e : Expression) → weight_of e ≤ suc pay → (g : Setting) (own : Placed) (sc : Scene) (d : ℕ) (env held : Environment) (c rest : List Stmt) (i : ℕ) → Numbered env held i → IsOwn own sc → IsStore g sc d env e c rest → HeldIn g own i (of_expression held e)
       → Spread g own c rest i (objects e) (forms e)
@@ -205,11 +160,4 @@ mutual
   store_spread pay acts (t.binary l f m x y) w g own sc d env held c rest i z at k h =
       binary_store l f m x y g own sc d env c rest i k (λ c0 r0 u. code_spread pay acts x (omega (arith, w)) g own sc d env held pushes c0 r0 i z at u (held_front g own i (of_expression held x) _ h))
       (λ c0 r0 u. code_spread pay acts y (omega (arith, w)) g own sc (d + 1) (past x env) (past x held) pushes c0 r0 (i + objects x) (later env held i (objects x) z) at u (held_back g own i (objects x) (of_expression held x) _ (expression_counted held x) h))
-  store_spread pay acts (t.number l n) w g own sc d env held c rest i z at k h = absurd k
-  store_spread pay acts (t.text l x) w g own sc d env held c rest i z at k h = absurd k
-  store_spread pay acts (t.truth l x) w g own sc d env held c rest i z at k h = absurd k
-  store_spread pay acts (t.query l) w g own sc d env held c rest i z at k h = absurd k
-  store_spread pay acts (t.choice l m e x y) w g own sc d env held c rest i z at k h = absurd k
-  store_spread pay acts (t.apply l m f es) w g own sc d env held c rest i z at k h = absurd k
-  store_spread pay acts (t.valof l a) w g own sc d env held c rest i z at k h = absurd k
-  store_spread pay acts (t.table l es) w g own sc d env held c rest i z at k h = absurd k
+  store_spread pay acts _ w g own sc d env held c rest i z at k h = absurd k

@@ -111,9 +111,8 @@ start_runs g m sim alone_runs k f ip c0 w0 fs no_calls cap1 B leB leB' =
       words = has3.words;
       in_hand = tt;
     } in
-    closing_ran g s1 B o K (Over g s1 B) (run_body m f.body env w2)
-    (λ v w3 q. over v w3 q.0 f1 to_body)
-    (ran_from g s1 s3 2 (g.pay + (g.pay + 0)) N B (Yielded g s3 N z1 w2) K AnyExit AnyExit (run_body m f.body env w2) to_body (omega arith) (omega arith) (λ v w3 q. (q, tt)) (λ x w3 q. q)
+    closing_ran {K = Yielded g s3 N z1 w2} o (λ v w3 q. over v w3 q f1 to_body)
+    (ran_from to_body (omega arith) (omega arith) (λ v w3 q. q) (λ x w3 q. q)
     (body_runs g m sim alone_runs f.body z1 ip.body w2 (ip.laid o some_made) r1))
   where
     top : ℕ
@@ -160,9 +159,6 @@ start_runs g m sim alone_runs k f ip c0 w0 fs no_calls cap1 B leB leB' =
 
     N : Account
     N = for_body f.body w2
-
-    K : Value → World → Type 0
-    K v w3 = (q : Yielded g s3 N z1 w2 v w3) × Unit {0}
 
     none_there : (i : ℕ) (c : Cell_of) → ((v : Value) × (slice_get [] i ≡ Some v) × (c ≡ holds v)) → StandsCell g.codes g.lasting c (content_of (c3 (b + i)))
     none_there i c x = absurd (let e : None ≡ Some x.0 = x.1 in cc)

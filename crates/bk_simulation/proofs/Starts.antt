@@ -18,21 +18,31 @@ use Rattle.bk_meaning.specs.Parts.{Meanings}
 use Rattle.bk_meaning.specs.Blocks.{vec_cells, make_vec, starts}
 use Rattle.bk_meaning.proofs.After.{adds, stays, with_after, turn_after}
 use Rattle.bk_simulation.proofs.Moves.{Moves, stack_moves, address_moves}
-use Rattle.bk_simulation.proofs.Memory.{BaseOf, Alive, Like, like_refl, like_on, Stands, StandsCell, Store, Fits, fits_more, stands_grown}
+use Rattle.bk_simulation.proofs.Memory.{Codes, BaseOf, Alive, Like, like_refl, like_on, Stands, StandsCell, Store, Fits, fits_more, stands_grown}
 use Rattle.bk_simulation.proofs.ListPlaces.{get_new}
-use Rattle.bk_simulation.proofs.MadeObjects.{IsFree, make, lying, opened_made, make_fits}
+use Rattle.bk_simulation.proofs.MadeObjects.{IsFree, make, lying, Since, since_refl, since_on, since_cells, since_moved, since_made, make_fits}
 use Rattle.bk_simulation.proofs.WrittenCells.{written, untouched, below_at, below_like, settle_like, settle_at}
 use Rattle.bk_simulation.proofs.Sizes.{turns_of, turns_started}
 use Rattle.bk_simulation.proofs.Laid.{Setting, Scene, NamedIn, AreStarts, KeepsLabels}
-use Rattle.bk_simulation.proofs.Frame.{Sit, store, state, start, Ready, Account, further, Ran, with_ran, Has, named_grown}
+use Rattle.bk_simulation.proofs.Frame.{Sit, state, Ready, Account, further, Ran, went, with_ran, ran_same, Arrived, OpenArrived, store_at, Has, named_grown, named_again}
 use Rattle.bk_simulation.proofs.Simulates.{Simulates, for_value}
 use Rattle.bk_simulation.proofs.Operands.{value_run}
-use Rattle.bk_simulation.proofs.Openings.{OpenArrived, OpenExited, open_sit, open_ready, open_more, open_step, open_on, ran_open}
-use Rattle.bk_simulation.proofs.Carried.{Carries, carries_refl, carries_on, carries_moved, carries_above, carries_made, ItemsAt, Rising, rising_from}
+use Rattle.bk_simulation.proofs.Compose.{with_objects, arrived_more, turn_there, OpenExited, open_sit, open_ready, open_ticked, open_wider, open_step, open_on, ran_open}
 
--- the store where it was opened
-abbrev pub store_at : (g : Setting) (s : State) (B : Account) (z : Sit) (w : World) (c : List Stmt) (d more : ℕ) (w1 : World) → OpenArrived g s B z w c d more w1 → Store
-store_at g s B z w c d more w1 a = record { bases = a.bases1; mem = w1.memory; cells = a.cells1 }
+-- values in their slots
+abbrev pub ItemsAt : Codes → Store → ℕ → ℕ → List Value → List ℕ → Type 0
+ItemsAt codes h frame top [] [] = Unit {0}
+ItemsAt codes h frame top (v ∷ vs) (n ∷ ns) = Stands codes h.bases v (content_of (h.cells (frame + n))) × IsFree h (frame + n) × (n < top) × ItemsAt codes h frame top vs ns
+ItemsAt codes h frame top _ _ = ⊥
+
+-- slots, each above those before
+abbrev pub Rising : ℕ → List ℕ → Type 0
+Rising from [] = Unit {0}
+Rising from (n ∷ ns) = (from ≤ n) × Rising (suc n) ns
+
+pub rising_from : (from low : ℕ) (ns : List ℕ) → low ≤ from → Rising from ns → Rising low ns
+rising_from from low [] le r = tt
+rising_from from low (n ∷ ns) le r = ((let h = r.0 in omega arith), r.1)
 
 -- slots lie between the depths
 pub starts_rise : (g : Setting) (sc : Scene) (is : Starts) (d : ℕ) (env : Environment) (c rest : List Stmt) (d1 : ℕ) (slots : List ℕ) → AreStarts g sc d env is c rest d1 slots → (d ≤ d1) × Rising d slots
@@ -48,81 +58,13 @@ starts_rise g sc (t.vector x e is) d env c rest d1 slots l =
 -- What the values of variables come to.
 pub record Started (g : Setting) (s : State) (B : Account) (z : Sit) (w : World) (h : Store) (d : ℕ) (rest : List Stmt) (d1 : ℕ) (slots : List ℕ) (vs : List Value) (w1 : World) : Type 0 where
   pub arr : OpenArrived g s B z w rest d1 (z.frame + d1) w1
-  pub carries : Carries (z.frame + d) h (store_at g s B z w rest d1 (z.frame + d1) w1 arr)
-  pub items : ItemsAt g.codes (store_at g s B z w rest d1 (z.frame + d1) w1 arr) z.frame d1 vs slots
-
--- a turn is taken on the way
-abbrev pub open_ticked : (g : Setting) (s : State) (A : Account) (z : Sit) (w : World) (c : List Stmt) (d more : ℕ) (w1 : World) (n : ℕ) → w1.turns ≡ suc n → OpenArrived g s A z w c d more w1
-    → OpenArrived g s (record { most = A.most - 16; least = A.least - 1 }) z w c d more (record w1 { turns = n })
-open_ticked g s A z w c d more w1 n q a = let m = a.most in let l = a.least in record {
-  steps = a.steps;
-  paid = a.paid;
-  bases1 = a.bases1;
-  cells1 = a.cells1;
-  hand1 = a.hand1;
-  written1 = a.written1;
-  comes = a.comes;
-  most = omega arith;
-  least = omega arith;
-  calls_are = a.calls_are;
-  frames = a.frames;
-  room = a.room;
-  bytes = a.bytes;
-  fits = a.fits;
-  opened = a.opened;
-}
-
-pub open_turn : {T : Type 0} (g : Setting) (s : State) (A B : Account) (z : Sit) (w : World) (c : List Stmt) (d more : ℕ) (w1 : World) (K : T → World → Type 0) (X : Exit → World → Type 0) (go : World → Outcome T)
-    → A.most ≤ B.most → B.least ≤ A.least → (a : OpenArrived g s A z w c d more w1) → ((n : ℕ) → w1.turns ≡ suc n → Ran g s B K X (go (record w1 { turns = n }))) → Ran g s B K X (turn w1 go)
-open_turn {T} g s A B z w c d more w1 K X go le le' a h = at_turns w1.turns refl
-  where
-    at_turns : (n : ℕ) → w1.turns ≡ n → Ran g s B K X (turn_of n w1 go)
-    at_turns zero q =
-        let m = a.most in
-        let l = a.least in
-        inl (record { to = state z.scene.own d c a.cells1 z.frame a.hand1 a.written1 w1; steps = a.steps; paid = a.paid; comes = a.comes; most = omega arith; least = omega arith; wrote = refl; left = refl })
-    at_turns (suc n) q = h n q
-
--- with room for more words
-abbrev pub open_wider : (g : Setting) (s : State) (B : Account) (z : Sit) (w : World) (c : List Stmt) (depth more more1 : ℕ) (w1 : World) → more ≤ more1 → OpenArrived g s B z w c depth more w1 → OpenArrived g s B z w c depth more1 w1
-open_wider g s B z w c depth more more1 w1 le a = record {
-  steps = a.steps;
-  paid = a.paid;
-  bases1 = a.bases1;
-  cells1 = a.cells1;
-  hand1 = a.hand1;
-  written1 = a.written1;
-  comes = a.comes;
-  most = a.most;
-  least = a.least;
-  calls_are = a.calls_are;
-  frames = a.frames;
-  room = a.room;
-  bytes = a.bytes;
-  fits = fits_more g.codes (record { bases = a.bases1; mem = w1.memory; cells = a.cells1 }) more more1 le a.fits;
-  opened = a.opened;
-}
+  pub since : Since (z.frame + d) h (store_at arr)
+  pub items : ItemsAt g.codes (store_at arr) z.frame d1 vs slots
 
 -- an object is made of words that wait there
-abbrev pub open_make : (g : Setting) (s : State) (A : Account) (z : Sit) (w : World) (c : List Stmt) (d more more1 : ℕ) (w1 : World) (b : ℕ) (cells : List Cell_of) → (a : OpenArrived g s A z w c d more w1) → 16 ≤ b → z.frame + z.depth ≤ b
-    → Fits g.codes (make (store_at g s A z w c d more w1 a) b cells) more1 → OpenArrived g s A z w c d more1 (making cells w1)
-open_make g s A z w c d more more1 w1 b cells a high low f = record {
-  steps = a.steps;
-  paid = a.paid;
-  bases1 = a.bases1 ++ b ∷ [];
-  cells1 = a.cells1;
-  hand1 = a.hand1;
-  written1 = a.written1;
-  comes = a.comes;
-  most = a.most;
-  least = a.least;
-  calls_are = a.calls_are;
-  frames = a.frames;
-  room = a.room;
-  bytes = a.bytes;
-  fits = f;
-  opened = opened_made g.codes (z.frame + z.depth) b cells (store z w) (store_at g s A z w c d more w1 a) a.fits.long a.opened low;
-}
+abbrev pub open_make : {g : Setting} {s : State} {A : Account} {own : Placed} {frame calls more top : ℕ} {h : Store} {c : List Stmt} {d : ℕ} {w1 : World} (b : ℕ) (cells : List Cell_of) (more1 : ℕ) → (a : Arrived g s A own frame calls more (Since top h) c d w1) → top ≤ b
+    → Fits g.codes (make (store_at a) b cells) more1 → Arrived g s A own frame calls more1 (Since top h) c d (making cells w1)
+open_make {top = top} {h = h} {w1 = w1} b cells more1 a low f = with_objects (a.bases1 ++ b ∷ []) (making cells w1).memory more1 (Since top h) a f (since_on (omega arith) a.moved (since_made b cells (store_at a) a.fits.long low))
 
 vec_long : (k : ℕ) → length (vec_cells k) ≡ k + 1
 vec_long k = long (k + 1)
@@ -154,15 +96,15 @@ starts_after m grows (t.vector x e is) env w =
 
 pub record VecDone (g : Setting) (s : State) (A : Account) (z : Sit) (w : World) (c rest : List Stmt) (d k : ℕ) (w1 : World) (a : OpenArrived g s A z w c d (z.frame + d) w1) : Type 0 where
   pub arr : OpenArrived g s (record { most = A.most + 2; least = A.least }) z w rest (d + k + 2) (z.frame + (d + k + 2)) (making (vec_cells k) w1)
-  pub carries : Carries (z.frame + d) (store_at g s A z w c d (z.frame + d) w1 a) (store_at g s (record { most = A.most + 2; least = A.least }) z w rest (d + k + 2) (z.frame + (d + k + 2)) (making (vec_cells k) w1) arr)
+  pub since : Since (z.frame + d) (store_at a) (store_at arr)
   pub stands : Stands g.codes arr.bases1 (address (length w1.memory) 0) (content_of (arr.cells1 (z.frame + (d + k + 1))))
-  pub free : IsFree (store_at g s (record { most = A.most + 2; least = A.least }) z w rest (d + k + 2) (z.frame + (d + k + 2)) (making (vec_cells k) w1) arr) (z.frame + (d + k + 1))
+  pub free : IsFree (store_at arr) (z.frame + (d + k + 1))
 
 pub vec_done : (g : Setting) (s : State) (A : Account) (z : Sit) (w : World) (c rest : List Stmt) (d k : ℕ) (w1 : World) → Ready g z w → z.depth ≤ d → d + k + 2 ≤ FRAME_WORDS → c ≡ Stack (d + k + 1) ∷ Address (Local d) ∷ rest
     → (a : OpenArrived g s A z w c d (z.frame + d) w1) → VecDone g s A z w c rest d k w1 a
 vec_done g s A z w c rest d k w1 r le fw ec a = record {
   arr = a4;
-  carries = carries_on (z.frame + d) (z.frame + d) h1 h3 (make h3 b (vec_cells k)) (omega arith) (carries_above (z.frame + d) h1 cells3 like3) (carries_made (z.frame + d) b (vec_cells k) h3 a.fits.long (omega arith));
+  since = since_on {top1 = z.frame + d} {h1 = h3} (omega arith) (since_cells h1 like3) (since_made b (vec_cells k) h3 a.fits.long (omega arith));
   stands = (b, subst (λ y. BaseOf (a.bases1 ++ b ∷ []) y b) a.fits.long (get_new a.bases1 b), (let q : 0 < 2 ^ 32 = omega arith in q), ap content_of item ∙ ap Word (let q : z.frame + d ≡ (z.frame + d + 0) % 2 ^ 32 = small_word in q));
   free = λ o n b1 i l e lt q. ⊎_elim
       (λ (x : (Alive h3.mem o n) × (BaseOf h3.bases o b1)). let u = f3.below o n b1 x.0 x.1 in absurd (omega arith))
@@ -177,7 +119,7 @@ vec_done g s A z w c rest d k w1 r le fw ec a = record {
     own = z.scene.own
 
     h1 : Store
-    h1 = store_at g s A z w c d (z.frame + d) w1 a
+    h1 = store_at a
 
     cells2 : ℕ → Cell
     cells2 = below (z.frame + (d + k + 1)) (settle (z.frame + d) (z.frame + (d + k + 1)) a.cells1)
@@ -235,14 +177,10 @@ vec_done g s A z w c rest d k w1 r le fw ec a = record {
     A2 : Account
     A2 = record { most = A.most + 2; least = A.least }
 
-    a2 : OpenArrived g s (further 1 A) z w (Address (Local d) ∷ rest) (d + k + 1) (z.frame + d) w1
-    a2 = open_step g s A z w c (Address (Local d) ∷ rest) d (d + k + 1) (z.frame + d) w1 r (omega arith) a cells2 None a.written1 like2 m2
-
     a3 : OpenArrived g s A2 z w rest (d + k + 2) (z.frame + d) w1
-    a3 = open_more g s (further 1 (further 1 A)) A2 z w rest (d + k + 2) (z.frame + d) w1 (omega arith) (omega arith)
-        (open_step g s (further 1 A) z w (Address (Local d) ∷ rest) rest (d + k + 1) (d + k + 2) (z.frame + d) w1 r (omega arith)
-        (open_step g s A z w c (Address (Local d) ∷ rest) d (d + k + 1) (z.frame + d) w1 r (omega arith) a cells2 None a.written1 like2 m2)
-        cells3 None ((z.frame + (d + k + 1)) ∷ a.written1) (λ x lt. like_refl _ _ (same3 x (omega arith))) m3)
+    a3 =
+        let a2 : OpenArrived g s (further 1 A) z w (Address (Local d) ∷ rest) (d + k + 1) (z.frame + d) w1 = open_step r (omega arith) a cells2 None a.written1 like2 m2 in
+        arrived_more (omega arith) (omega arith) (open_step r (omega arith) a2 cells3 None ((z.frame + (d + k + 1)) ∷ a.written1) (λ x lt. like_refl _ _ (same3 x (omega arith))) m3)
 
     f3 : Fits g.codes h3 (z.frame + d)
     f3 = a3.fits
@@ -255,106 +193,86 @@ vec_done g s A z w c rest d k w1 r le fw ec a = record {
         (λ i x e. subst (λ y. StandsCell g.codes a.bases1 y (content_of (cells3 (b + i)))) (sym (vec_unset k i x e)) tt) (λ i lt. vec_word i (omega arith)))
 
     a4 : OpenArrived g s A2 z w rest (d + k + 2) (z.frame + (d + k + 2)) (making (vec_cells k) w1)
-    a4 = open_make g s A2 z w rest (d + k + 2) (z.frame + d) (z.frame + (d + k + 2)) w1 b (vec_cells k) a3 (let q = r.high in omega arith) (omega arith) f4
+    a4 = open_make b (vec_cells k) (z.frame + (d + k + 2)) a3 (omega arith) f4
 
 -- ---- all of them
-
--- what is given is taken so
-pub ran_same : {T : Type 0} {K L : T → World → Type 0} (g : Setting) (s : State) (B : Account) (z : Sit) (w : World) (o : Outcome T) → ((t : T) (w1 : World) → K t w1 → L t w1) → Ran g s B K (OpenExited g s B z w) o → Ran g s B L (OpenExited g s B z w) o
-ran_same g s B z w (gives a w1) h (inl q) = inl (h a w1 q)
-ran_same g s B z w (gives a w1) h (inr f) = inr f
-ran_same g s B z w (leaves x w1) h q = q
-ran_same g s B z w (ends e w1) h q = q
-ran_same g s B z w undefined h q = q
-ran_same g s B z w (going w1) h q = q
 
 -- one more is there
 pub record NextItem (g : Setting) (s : State) (A : Account) (z : Sit) (w : World) (h : Store) (d n : ℕ) (rest : List Stmt) (d0 : ℕ) (v : Value) (w1 : World) : Type 0 where
   pub arr : OpenArrived g s A z w rest d0 (z.frame + d0) w1
-  pub carries : Carries (z.frame + d) h (store_at g s A z w rest d0 (z.frame + d0) w1 arr)
+  pub since : Since (z.frame + d) h (store_at arr)
   pub stands : Stands g.codes arr.bases1 v (content_of (arr.cells1 (z.frame + n)))
-  pub free : IsFree (store_at g s A z w rest d0 (z.frame + d0) w1 arr) (z.frame + n)
+  pub free : IsFree (store_at arr) (z.frame + n)
 
 -- and those behind it
 item_before : (g : Setting) (s : State) (A B : Account) (z : Sit) (w : World) (h : Store) (d n : ℕ) (c rest : List Stmt) (d0 d1 : ℕ) (slots : List ℕ) (v : Value) (vs : List Value) (w1 w2 : World) → d ≤ n → n < d0 → d0 ≤ d1
-    → (i : NextItem g s A z w h d n c d0 v w1) → Started g s B z w (store_at g s A z w c d0 (z.frame + d0) w1 i.arr) d0 rest d1 slots vs w2 → Started g s B z w h d rest d1 (n ∷ slots) (v ∷ vs) w2
+    → (i : NextItem g s A z w h d n c d0 v w1) → Started g s B z w (store_at i.arr) d0 rest d1 slots vs w2 → Started g s B z w h d rest d1 (n ∷ slots) (v ∷ vs) w2
 item_before g s A B z w h d n c rest d0 d1 slots v vs w1 w2 le lt le1 i l =
-    let h1 = store_at g s A z w c d0 (z.frame + d0) w1 i.arr in
-    let h2 = store_at g s B z w rest d1 (z.frame + d1) w2 l.arr in
+    let h1 = store_at i.arr in
+    let h2 = store_at l.arr in
     record {
       arr = l.arr;
-      carries = carries_on (z.frame + d) (z.frame + d0) h h1 h2 (omega arith) i.carries l.carries;
+      since = since_on (omega arith) i.since l.since;
       items = (
-        subst (λ y. Stands g.codes h2.bases v y) (sym (l.carries.like (z.frame + n) (omega arith) i.free).content) (stands_grown g.codes h1.bases h2.bases v _ l.carries.grown i.stands),
-        l.carries.free (z.frame + n) (omega arith) i.free,
+        subst (λ y. Stands g.codes h2.bases v y) (sym (l.since.like (z.frame + n) (omega arith) i.free).content) (stands_grown g.codes h1.bases h2.bases v _ l.since.grown i.stands),
+        l.since.free (z.frame + n) (omega arith) i.free,
         (let q : n < d1 = omega arith in q),
         l.items,
       );
     }
 
 no_item : (g : Setting) (s : State) (A B : Account) (z : Sit) (w : World) (c rest : List Stmt) (d d1 : ℕ) (slots : List ℕ) (w1 : World) → A.most ≤ B.most → B.least ≤ A.least → c ≡ rest → d1 ≡ d → slots ≡ []
-    → (a : OpenArrived g s A z w c d (z.frame + d) w1) → Started g s B z w (store_at g s A z w c d (z.frame + d) w1 a) d rest d1 slots [] w1
+    → (a : OpenArrived g s A z w c d (z.frame + d) w1) → Started g s B z w (store_at a) d rest d1 slots [] w1
 no_item g s A B z w c rest d d1 slots w1 le le' ec ed es a =
-    let h = store_at g s A z w c d (z.frame + d) w1 a in
+    let h = store_at a in
     subst (λ y. Started g s B z w h d y d1 slots [] w1) ec
     (subst (λ y. Started g s B z w h d c y slots [] w1) (sym ed)
     (subst (λ y. Started g s B z w h d c d y [] w1) (sym es)
-    (record { arr = open_more g s A B z w c d (z.frame + d) w1 le le' a; carries = carries_refl (z.frame + d) h; items = tt })))
+    (record { arr = arrived_more le le' a; since = since_refl h; items = tt })))
 
 pub starts_run : (g : Setting) (m : Meanings) → Simulates g m → (is : Starts) (env : Environment) (bs : List Binding) (s : State) (A B : Account) (z : Sit) (w : World) (c rest : List Stmt) (d d1 : ℕ) (slots : List ℕ) (w1 : World)
     → Ready g z w → z.depth ≤ d → KeepsLabels z.scene.bindings bs → d1 ≤ FRAME_WORDS → A.most ≤ B.most → B.least ≤ A.least - turns_started is → AreStarts g (record z.scene { bindings = bs }) d env is c rest d1 slots
     → (a : OpenArrived g s A z w c d (z.frame + d) w1) → NamedIn (record z.scene { bindings = bs }) env a.bases1 z.frame
-    → Ran g s B (Started g s B z w (store_at g s A z w c d (z.frame + d) w1 a) d rest d1 slots) (OpenExited g s B z w) (starts m is env w1)
-starts_run g m sim t.no_starts env bs s A B z w c rest d d1 slots w1 r le keeps few le1 le2 l a named = inl (no_item g s A B z w c rest d d1 slots w1 le1 (omega arith) l.0 l.1 l.2 a)
+    → Ran g s B (Started g s B z w (store_at a) d rest d1 slots) (OpenExited g s B z w) (starts m is env w1)
+starts_run g m sim t.no_starts env bs s A B z w c rest d d1 slots w1 r le keeps few le1 le2 l a named = went (no_item g s A B z w c rest d d1 slots w1 le1 (omega arith) l.0 l.1 l.2 a)
 starts_run g m sim (t.value e is) env bs s A B z w c rest d d1 slots w1 r le keeps few le1 le2 l a named =
     let c0 = l.0 in
-    let N = for_value e w1 in
     let A1 : Account = record { most = A.most; least = A.least - turns_of e } in
-    let h = store_at g s A z w c d (z.frame + d) w1 a in
+    let h = store_at a in
     let z1 = open_sit g s A z w c d (z.frame + d) w1 a bs env in
-    let r1 = open_ready g s A z w c d w1 a bs env le named r in
     let rise = (starts_rise g (record z.scene { bindings = bs }) is (d + 1) (past e env) c0 rest d1 l.1 l.3).0 in
     let grows : Throughout (λ A w u. After (history w) u) m = sim.grows in
-    let s1 = start z1 c w1 in
-    with_ran g s B (NextItem g s A1 z w h d d c0 (d + 1)) (Started g s B z w h d rest d1 slots) (OpenExited g s B z w) (m.value e env w1) _
-    (λ v. adds _ (λ w2. with_after _ (starts m is (past e env) w2) _ (starts_after m grows is (past e env) w2) (λ vs. adds _ (λ w3. stays (history w3)))))
-    (ran_open g s A N B z c d w w1 bs env (Has g s1 N z1 c0 (d + 1) w1) (NextItem g s A1 z w h d d c0 (d + 1)) (m.value e env w1) (omega arith) (omega arith) r le keeps a
+    with_ran {K = NextItem g s A1 z w h d d c0 (d + 1)} (λ v. adds _ (λ w2. with_after _ (starts m is (past e env) w2) _ (starts_after m grows is (past e env) w2) (λ vs. adds _ (λ w3. stays (history w3)))))
+    (ran_open bs env (omega arith) (omega arith) r le keeps a
     (λ v w2 q. record {
-      arr = open_wider g s A1 z w c0 (d + 1) (z.frame + d) (z.frame + (d + 1)) w2 (omega arith) (open_on g s A N A1 z c c0 d (d + 1) w w1 w2 bs env (omega arith) (omega arith) r le a q.arr);
-      carries = carries_moved g.codes (z.frame + d) (z.frame + d) h (record { bases = q.arr.bases1; mem = w2.memory; cells = q.arr.cells1 }) a.fits q.arr.moved;
+      arr = open_wider (omega arith) (open_on (omega arith) (omega arith) r le a q.arr);
+      since = since_moved a.fits q.arr.fits q.arr.moved;
       stands = q.stands;
       free = λ o n b1 i al eb lt x. let u = q.arr.fits.below o n b1 al eb in absurd (omega arith);
     })
-    (value_run g m sim e z1 c c0 w1 l.2 r1))
-    (λ v w2 i. with_ran g s B (λ vs w3. Started g s B z w h d rest d1 slots (v ∷ vs) w3) (Started g s B z w h d rest d1 slots) (OpenExited g s B z w) (starts m is (past e env) w2) _ (λ vs. adds _ (λ w3. stays (history w3)))
-    (ran_same g s B z w (starts m is (past e env) w2) (λ vs w3 q. subst (λ y. Started g s B z w h d rest d1 y (v ∷ vs) w3) (sym l.4) (item_before g s A1 B z w h d d c0 rest (d + 1) d1 l.1 v vs w2 w3 (omega arith) (omega arith) rise i q))
+    (value_run g m sim e z1 c c0 w1 l.2 (open_ready a bs env le named r)))
+    (λ v w2 i. with_ran {K = λ vs w3. Started g s B z w h d rest d1 slots (v ∷ vs) w3} (λ vs. adds _ (λ w3. stays (history w3)))
+    (ran_same (λ vs w3 q. subst (λ y. Started g s B z w h d rest d1 y (v ∷ vs) w3) (sym l.4) (item_before g s A1 B z w h d d c0 rest (d + 1) d1 l.1 v vs w2 w3 (omega arith) (omega arith) rise i q))
     (starts_run g m sim is (past e env) bs s A1 B z w c0 rest (d + 1) d1 l.1 w2 r (omega arith) keeps few (omega arith) (omega arith) l.3 i.arr
-    (let nm = named_grown (record z.scene { bindings = bs }) env a.bases1 i.arr.bases1 z.frame i.carries.grown named in record { each = nm.each })))
-    (λ vs w3 q. inl q))
+    (named_again refl (named_grown (record z.scene { bindings = bs }) env a.bases1 i.arr.bases1 z.frame i.since.grown named))))
+    (λ vs w3 q. went q))
 starts_run g m sim (t.vector x e is) env bs s A B z w c rest d d1 slots w1 r le keeps few le1 le2 l a named =
     let k = l.0 in
     let c0 = l.1 in
     let A1 : Account = record { most = A.most; least = A.least - 1 } in
-    let h = store_at g s A z w c d (z.frame + d) w1 a in
+    let h = store_at a in
     let rise = (starts_rise g (record z.scene { bindings = bs }) is (d + k + 2) env c0 rest d1 l.2 l.5).0 in
     let grows : Throughout (λ A w u. After (history w) u) m = sim.grows in
-    with_ran g s B (NextItem g s A1 z w h d (d + k + 1) c0 (d + k + 2)) (Started g s B z w h d rest d1 slots) (OpenExited g s B z w) (turn w1 (λ w. make_vec (constant_in env e) w)) _
-    (λ v. adds _ (λ w2. with_after _ (starts m is env w2) _ (starts_after m grows is env w2) (λ vs. adds _ (λ w3. stays (history w3)))))
-    (open_turn g s A B z w c d (z.frame + d) w1 (NextItem g s A1 z w h d (d + k + 1) c0 (d + k + 2)) (OpenExited g s B z w) (λ w. make_vec (constant_in env e) w) le1 (omega arith) a
-    (λ n en.
+    with_ran {K = NextItem g s A1 z w h d (d + k + 1) c0 (d + k + 2)} (λ v. adds _ (λ w2. with_after _ (starts m is env w2) _ (starts_after m grows is env w2) (λ vs. adds _ (λ w3. stays (history w3)))))
+    (turn_there (λ w. make_vec (constant_in env e) w) le1 (omega arith) a (λ n en.
     let A0 : Account = record { most = A.most - 16; least = A.least - 1 } in
-    let a1 = open_ticked g s A z w c d (z.frame + d) w1 n en a in
+    let a1 = open_ticked n en a in
     let v = vec_done g s A0 z w c c0 d k (record w1 { turns = n }) r le (omega arith) l.4 a1 in
     let big : 16 ≤ A.most = (let q = a.most in omega arith) in
     subst (λ y. Ran g s B (NextItem g s A1 z w h d (d + k + 1) c0 (d + k + 2)) (OpenExited g s B z w) (make_vec y (record w1 { turns = n }))) (sym l.3)
-    (inl (record {
-      arr = open_more g s (record { most = A0.most + 2; least = A0.least }) A1 z w c0 (d + k + 2) (z.frame + (d + k + 2)) (making (vec_cells k) (record w1 { turns = n })) (omega arith) (omega arith) v.arr;
-      carries = v.carries;
-      stands = v.stands;
-      free = v.free;
-    }))))
-    (λ v w2 i. with_ran g s B (λ vs w3. Started g s B z w h d rest d1 slots (v ∷ vs) w3) (Started g s B z w h d rest d1 slots) (OpenExited g s B z w) (starts m is env w2) _ (λ vs. adds _ (λ w3. stays (history w3)))
-    (ran_same g s B z w (starts m is env w2) (λ vs w3 q. subst (λ y. Started g s B z w h d rest d1 y (v ∷ vs) w3) (sym l.6) (item_before g s A1 B z w h d (d + k + 1) c0 rest (d + k + 2) d1 l.2 v vs w2 w3 (omega arith) (omega arith) rise i q))
+    (went (record { arr = arrived_more (omega arith) (omega arith) v.arr; since = v.since; stands = v.stands; free = v.free }))))
+    (λ v w2 i. with_ran {K = λ vs w3. Started g s B z w h d rest d1 slots (v ∷ vs) w3} (λ vs. adds _ (λ w3. stays (history w3)))
+    (ran_same (λ vs w3 q. subst (λ y. Started g s B z w h d rest d1 y (v ∷ vs) w3) (sym l.6) (item_before g s A1 B z w h d (d + k + 1) c0 rest (d + k + 2) d1 l.2 v vs w2 w3 (omega arith) (omega arith) rise i q))
     (starts_run g m sim is env bs s A1 B z w c0 rest (d + k + 2) d1 l.2 w2 r (omega arith) keeps few (omega arith) (omega arith) l.5 i.arr
-    (named_grown (record z.scene { bindings = bs }) env a.bases1 i.arr.bases1 z.frame i.carries.grown named)))
-    (λ vs w3 q. inl q))
+    (named_grown (record z.scene { bindings = bs }) env a.bases1 i.arr.bases1 z.frame i.since.grown named)))
+    (λ vs w3 q. went q))

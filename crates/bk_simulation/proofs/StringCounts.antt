@@ -53,15 +53,12 @@ AreSpread g own o _ _ _ = ⊥
 
 pub spread_append : (g : Setting) (own : Placed) (o : ℕ) (fs hs : List Form) (xs us : List ℕ) (ys vs : List Span) → AreSpread g own o fs xs ys → AreSpread g own (o + length fs) hs us vs → AreSpread g own o (fs ++ hs) (xs ++ us) (ys ++ vs)
 spread_append g own o [] hs [] us [] vs h i = let e : o + 0 ≡ o = omega arith in subst (λ k. AreSpread g own k hs us vs) e i
-spread_append g own o [] hs (x ∷ xs) us ys vs h i = absurd h
-spread_append g own o [] hs [] us (y ∷ ys) vs h i = absurd h
-spread_append g own o (a_string ∷ fs) hs [] us ys vs h i = absurd h
 spread_append g own o (a_string ∷ fs) hs (x ∷ xs) us ys vs h i = let e : o + length (a_string ∷ fs) ≡ suc o + length fs = omega arith in (h.0, spread_append g own (suc o) fs hs xs us ys vs h.1 (subst (λ k. AreSpread g own k hs us vs) e i))
 spread_append g own o (some_words ∷ fs) hs xs us ys vs h i = let e : o + length (some_words ∷ fs) ≡ suc o + length fs = omega arith in spread_append g own (suc o) fs hs xs us ys vs h (subst (λ k. AreSpread g own k hs us vs) e i)
-spread_append g own o (a_procedure ∷ fs) hs xs us [] vs h i = absurd h
 spread_append g own o (a_procedure ∷ fs) hs xs us (y ∷ ys) vs h i =
     let e : o + length (a_procedure ∷ fs) ≡ suc o + length fs = omega arith in
     (h.0, spread_append g own (suc o) fs hs xs us ys vs h.1 (subst (λ k. AreSpread g own k hs us vs) e i))
+spread_append g own o _ hs _ us _ vs h i = absurd h
 
 pub times_both : (q : ℕ) (xs ys : List ℕ) → times q (xs ++ ys) ≡ times q xs + times q ys
 times_both q [] ys = omega arith

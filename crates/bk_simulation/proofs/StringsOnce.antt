@@ -142,9 +142,8 @@ one_of own x l ls q (suc n) a e m h f =
 
 pub string_has : (own : Placed) (xs : List Span) (ls : List ℕ) (q : ℕ) → AllSpansAt own xs ls → 1 ≤ in_spans q xs → HasString own ls q
 string_has own [] [] q a h = absurd (omega (arith, h))
-string_has own [] (l ∷ ls) q a h = absurd a
-string_has own (x ∷ xs) [] q a h = absurd a
 string_has own (x ∷ xs) (l ∷ ls) q a h = one_of own x l ls q (strings_at q x.from) a.0 refl (in_spans q xs) h (string_has own xs ls q a.1)
+string_has own _ _ q a h = absurd a
 
 not_both : (n m : ℕ) → n ≤ 1 → m ≤ 1 → (1 ≤ n → 1 ≤ m → ⊥) → n + m ≤ 1
 not_both zero m h i f = omega (arith, i)
@@ -154,8 +153,6 @@ not_both (suc n) (suc m) h i f = absurd (f (omega arith) (omega arith))
 -- NO STRING STANDS IN TWO PROCEDURES, nor twice in one
 pub spans_once : (own : Placed) (xs : List Span) (ls : List ℕ) (q : ℕ) → AllSpansAt own xs ls → ((l : ℕ) → times l ls ≤ 1) → in_spans q xs ≤ 1
 spans_once own [] [] q a once = omega arith
-spans_once own [] (l ∷ ls) q a once = absurd a
-spans_once own (x ∷ xs) [] q a once = absurd a
 spans_once own (x ∷ xs) (l ∷ ls) q a once =
     not_both (strings_at q x.from) (in_spans q xs) (string_once q x.from) (spans_once own xs ls q a.1 (λ k. let h = once k in omega (arith, h))) (λ h i.
     let r = string_has own xs ls q a.1 i in
@@ -164,6 +161,7 @@ spans_once own (x ∷ xs) (l ∷ ls) q a once =
     let same = counts l r.label ls e in
     let o = once r.label in
     omega (arith, u, same, o))
+spans_once own _ _ q a once = absurd a
 
 -- where the string stands in the section
 pub stands_there : (own : Placed) (ls : List ℕ) (q : ℕ) → HasString own ls q → StringIn own.stmts q

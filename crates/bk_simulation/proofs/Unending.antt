@@ -23,7 +23,7 @@ use Rattle.bk_simulation.proofs.Frame.{Account, FewFrames, Comes, here, go_on, F
 use Rattle.bk_simulation.proofs.Simulates.{Simulates}
 use Rattle.bk_simulation.proofs.Procedures.{Procedures}
 use Rattle.bk_simulation.proofs.Calls.{AnyExit}
-use Rattle.bk_simulation.proofs.EnteredCalls.{by_test, is_above, is_at_most}
+use Rattle.bk_simulation.proofs.EnteredCalls.{is_above, is_at_most}
 use Rattle.bk_simulation.proofs.All.{alone_runs, alone_adds}
 use Rattle.bk_simulation.proofs.Meanings.{simulates}
 use Rattle.bk_simulation.proofs.ProgramRuns.{goes_on_so, comes_run}
@@ -33,6 +33,7 @@ use Rattle.bk_simulation.proofs.ProgramEnds.{calls_of, fell_out}
 use Rattle.bk_simulation.proofs.StartCalled.{NoStart, HasStart, called_at, some_calls, enter_after, entered_so}
 use Rattle.bk_simulation.proofs.LastingFits.{first_store, start_there}
 use Rattle.bk_simulation.proofs.LaidPrograms.{setting, AreLaid, knows}
+use Rattle.bk_simulation.proofs.Orders.{by_test}
 
 -- so many steps pay so much
 abbrev times : ℕ → ℕ → ℕ
@@ -62,13 +63,10 @@ back_to k o = each_way (λ v after. gives v (calls_back k after)) (λ x w. undef
 far_so : (g : Setting) (s0 s : State) → settled g.program s0 ≡ s → FewFrames g s0.cells s0.frame g.cap → (n k : ℕ) (B : Account) (o : Outcome Value) → n ≤ B.least → ((v : World) → back_to k o ≡ going v → v.turns ≡ 0)
     → (bytes left : List ℕ) (calls : ℕ) → run_of (back_to k o) ≡ Going bytes left calls → calls ≡ g.cap → Ran g s B (Over g s B) AnyExit o → Far g n s0 bytes ⊎ RunsOut g.program g.first s0 calls bytes
 far_so g s0 s is few n k B (gives v w) le cut bytes left calls e ec r = absurd (cc)
-far_so g s0 s is few n k B (leaves x w) le cut bytes left calls e ec r = absurd (cc)
-far_so g s0 s is few n k B (ends x w) le cut bytes left calls e ec r = absurd (cc)
-far_so g s0 s is few n k B undefined le cut bytes left calls e ec r = absurd (cc)
 far_so g s0 s is few n k B (going w) le cut bytes left calls e ec r =
     let eb : w.output ≡ bytes = cc in
     let em : w.most_calls ≡ calls = cc in
-    ⊎_elim (λ (q : Reaches g s B w). inl (far q eb)) (λ (f : FallsThose g s w.output w.most_calls). inr (falls f eb em)) r
+    ⊎_elim (λ (q : Reaches g s B w). inl (far q eb)) (λ (f : FallsThose g s w.output w.most_calls). inr (falls f eb em)) r.is
   where
     far : Reaches g s B w → w.output ≡ bytes → Far g n s0 bytes
     far q eb =
@@ -88,6 +86,7 @@ far_so g s0 s is few n k B (going w) le cut bytes left calls e ec r =
     falls : FallsThose g s w.output w.most_calls → w.output ≡ bytes → w.most_calls ≡ calls → RunsOut g.program g.first s0 calls bytes
     falls (inl f) eb em = subst (λ c. RunsOut g.program g.first s0 c bytes) (sym ec) (subst (λ y. RunsOut g.program g.first s0 g.cap y) eb (fell_out g s0 s is few w.output f))
     falls (inr lt) eb em = absurd (omega arith)
+far_so g s0 s is few n k B _ le cut bytes left calls e ec r = absurd (cc)
 
 pub laid_goes_on : (sections : List Declarations) (program : Program) (first : ℕ) (input : List ℕ) (s : State) (well : IsWellPlaced program first FRAME_WORDS) → AreLaid program first well sections → first_state program first input ≡ Some s → IsWithoutEnd sections input
     → (j : ℕ) → StillGoes program first sections input s j ⊎ RunsOutOnTheWay program first sections input s

@@ -66,18 +66,13 @@ abbrev mutual
 -- no part takes more turns
 mutual
   pub of_light : (e : Expression) → turns_of e ≤ weight_of e
-  of_light (t.name l x) = omega arith
-  of_light (t.number l x) = omega arith
-  of_light (t.text l x) = omega arith
-  of_light (t.truth l x) = omega arith
-  of_light (t.query l) = omega arith
-  of_light (t.table l es) = omega arith
   of_light (t.parens l e) = let h = of_light e in omega (arith, h)
   of_light (t.unary l q e) = let h = of_light e in omega (arith, h)
   of_light (t.binary l q m a b) = let h = of_light a in let i = of_light b in omega (arith, h, i)
   of_light (t.choice l m c a b) = let g = of_light c in let h = of_light a in let i = of_light b in omega (arith, g, h, i)
   of_light (t.apply l m f es) = let h = among_light es in let i = of_light f in omega (arith, h, i)
   of_light (t.valof l c) = let h = in_light c in omega (arith, h)
+  of_light _ = omega arith
 
   pub among_light : (es : Expressions) → turns_among es ≤ weight_among es
   among_light t.none = omega arith
@@ -119,9 +114,8 @@ mutual
   defined_light (t.define d ds) = let h = one_defined_light d in let i = defined_light ds in omega (arith, h, i)
 
   one_defined_light : (d : Definition) → turns_one_defined d ≤ weight_one_defined d
-  one_defined_light (t.routine l x fs c) = omega arith
-  one_defined_light (t.function l x fs e) = omega arith
   one_defined_light (t.variables l xs is) = let h = started_light is in omega (arith, h)
+  one_defined_light _ = omega arith
 
   started_light : (is : Starts) → turns_started is ≤ weight_started is
   started_light t.no_starts = omega arith

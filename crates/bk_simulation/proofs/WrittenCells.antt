@@ -25,10 +25,6 @@ is_less x y h = grind (arith, nat_tests)
 pub not_less : (x y : ℕ) → y ≤ x → nat_lt x y ≡ false
 not_less x y h = grind (arith, nat_tests)
 
--- what is pushed at a top or above it leaves the words below
-pub push_above : (cells : ℕ → Cell) (top at : ℕ) (c : Cell) → top ≤ at → (a : ℕ) → a < top → Like (write cells at c a) (cells a)
-push_above cells top at c le a lt = let ne : a ≢ at = omega arith in like_refl _ _ (untouched cells at c a ne)
-
 -- what is in use below a place is as it was
 pub below_at : (top : ℕ) (cells : ℕ → Cell) (a : ℕ) → a < top → below top cells a ≡ cells a
 below_at top cells a lt = ap (λ (t : Bool). if t then cells a else Free) (is_less a top lt)
@@ -215,12 +211,9 @@ found codes h top o i b c f eb e =
 
 -- a value that is read was put there
 value_held : (c : Cell_of) (v : Value) → value_in c ≡ Some v → c ≡ holds v
-value_held (holds (number n)) v e = cc
-value_held (holds (address o i)) v e = cc
-value_held (holds (procedure n)) v e = cc
-value_held (holds (routine r)) v e = cc
 value_held (holds unset) v e = absurd (cc)
 value_held (places p q r t) v e = absurd (cc)
+value_held _ v e = cc
 
 cell_read : (y : Option Cell_of) (v : Value) → option_and_then value_in y ≡ Some v → y ≡ Some (holds v)
 cell_read None v e = absurd (cc)
@@ -244,9 +237,7 @@ found_at codes h top (address o i) x c f s e =
     let g = found codes h top o i s.0 c f s.1 e in
     record { object = o; offset = i; base = s.0; address_is = refl; word = s.3 ∙ ap Word g.is_word; cell = g }
 found_at codes h top (number n) x c f s e = absurd (let z : None ≡ Some c = e in cc)
-found_at codes h top (procedure n) x c f s e = absurd (let z : None ≡ Some c = e in cc)
-found_at codes h top (routine r) x c f s e = absurd (let z : None ≡ Some c = e in cc)
-found_at codes h top unset x c f s e = absurd (let z : None ≡ Some c = e in cc)
+found_at codes h top _ x c f s e = absurd (let z : None ≡ Some c = e in cc)
 
 pub read_at : (codes : Codes) (h : Store) (top : ℕ) (a v : Value) (x : Content) → Fits codes h top → Stands codes h.bases a x → read h.mem a ≡ Some v → FoundAt codes h top a x (holds v)
 read_at codes h top a v x f s e = found_at codes h top a x (holds v) f s (cell_read (cell_at h.mem a) v e)
@@ -293,9 +284,7 @@ write_at codes h top (address o i) x c mem1 f s e =
     let g = write_here codes h top o i s.0 c mem1 f s.1 e in
     record { object = o; offset = i; base = s.0; address_is = refl; word = s.3 ∙ ap Word g.is_word; cell = g }
 write_at codes h top (number n) x c mem1 f s e = absurd (let z : None ≡ Some mem1 = e in cc)
-write_at codes h top (procedure n) x c mem1 f s e = absurd (let z : None ≡ Some mem1 = e in cc)
-write_at codes h top (routine r) x c mem1 f s e = absurd (let z : None ≡ Some mem1 = e in cc)
-write_at codes h top unset x c mem1 f s e = absurd (let z : None ≡ Some mem1 = e in cc)
+write_at codes h top _ x c mem1 f s e = absurd (let z : None ≡ Some mem1 = e in cc)
 
 -- ---- words that become variables
 
@@ -306,17 +295,10 @@ settle_like from to cells a = by_test (nat_lt a from) (nat_lt a to)
     variable_like c = record { content = refl; variable = λ k e. ap (λ (z : Cell). Held Variable (content_of z)) e; link = λ w e. absurd (no_link (content_of c) w e) }
 
     by_test : (t u : Bool) → Like (if t then cells a else if u then Held Variable (content_of (cells a)) else cells a) (cells a)
-    by_test true u = like_refl _ _ refl
     by_test false true = variable_like (cells a)
-    by_test false false = like_refl _ _ refl
+    by_test _ _ = like_refl _ _ refl
 
 pub settle_at : (from to : ℕ) (cells : ℕ → Cell) (a : ℕ) → from ≤ a → a < to → settle from to cells a ≡ Held Variable (content_of (cells a))
 settle_at from to cells a le lt =
     ap (λ (t : Bool). if t then cells a else if nat_lt a to then Held Variable (content_of (cells a)) else cells a) (not_less a from le)
     ∙ ap (λ (t : Bool). if t then Held Variable (content_of (cells a)) else cells a) (is_less a to lt)
-
-pub settle_fits : (codes : Codes) (h : Store) (top from to : ℕ) → Fits codes h top → Fits codes (record h { cells = settle from to h.cells }) top
-settle_fits codes h top from to f = fits_above codes h top (settle from to h.cells) f (λ a lt. settle_like from to h.cells a)
-
-pub settle_moved : (h : Store) (top from to : ℕ) → Moved top h (record h { cells = settle from to h.cells })
-settle_moved h top from to = moved_above h top (settle from to h.cells) (λ a lt. settle_like from to h.cells a)
