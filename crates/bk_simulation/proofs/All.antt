@@ -1,10 +1,10 @@
 -- All forms: what holds of the meanings of the nodes inside holds of each node.
-use Rattle.std.proofs.Common.{◌≡◌, ℕ, suc, ◌+◌, ◌-◌, ◌*◌, ◌≤◌, Bool, true, false, List, ◌∷◌, ◌++◌, Some, refl, sym, ◌∙◌, subst, arith, inl}
+use Rattle.std.proofs.Common.{◌≡◌, ℕ, suc, ◌+◌, ◌-◌, ◌*◌, ◌≤◌, Bool, true, false, List, ◌∷◌, ◌++◌, Some, refl, sym, ◌∙◌, subst, arith}
 use Rattle.bk_ocode.specs.OcodeState.{State}
 use Rattle.bk_ocode.specs.OcodeStep.{from_label}
 use Rattle.bk_ocode.specs.declared.stmt.Monadic.TheVariants as w
 use Rattle.bk_ocode.specs.declared.stmt.Stmt.{Stmt}
-use Rattle.bk_ocode.specs.declared.stmt.Stmt.TheVariants.{Monadic, JumpIf, Assign, AssignAt, AssignByte, Stack, CallRoutine}
+use Rattle.bk_ocode.specs.declared.stmt.Stmt.TheVariants.{Monadic, JumpIf, Stack, CallRoutine}
 use Rattle.bk_base.specs.declared.limit.TheConstants.{FRAME_WORDS}
 use Rattle.bk_trans.specs.Scheme.{infix_code}
 use Rattle.bk_tree.specs.declared.tree.Operator.{Operator}
@@ -16,7 +16,7 @@ use Rattle.bk_tree.specs.Tree.{Expression, Expressions, Action, Actions}
 use Rattle.std.specs.Option.{option_map}
 use Rattle.bk_tree.specs.declared.tree.Prefix.{Prefix}
 use Rattle.bk_scope.specs.Constants.{infix_word, divides_by_zero}
-use Rattle.bk_meaning.specs.Values.{Value, number, address, procedure, routine, unset}
+use Rattle.bk_meaning.specs.Values.{Value, number}
 use Rattle.bk_meaning.specs.Operators.{sum, on_numbers, operate_prefix}
 use Rattle.bk_meaning.specs.Environment.{Environment, constant_in, past, past_each, labelled}
 use Rattle.bk_meaning.specs.Lasting.{Program}
@@ -35,7 +35,7 @@ use Rattle.bk_simulation.proofs.Sizes.{turns_of, turns_among, turns_in, turns_th
 use Rattle.bk_simulation.proofs.Laid.{Setting, Stretch, ByTurns, AreFrom, AreStores, AreValues, AreActs, CallAt, count, IsValue, IsJump, IsAddress, IsStore, IsAct, IsLoop, Entered, EnteredAny, EnteredBody}
 use Rattle.bk_simulation.proofs.Frame.{Sit, start, Ready, Account, here, Ran, went, with_ran, turn_behind, ArrivedAt, Has, Out}
 use Rattle.bk_simulation.proofs.Compose.{stay, arrived_more, ran_first, ran_more}
-use Rattle.bk_simulation.proofs.Simulates.{Simulates, for_value, for_truth, for_act, for_scope, for_rounds, where_to, HasTruth, HasAddress, Destined, word, through, byte, Did, RanDid}
+use Rattle.bk_simulation.proofs.Simulates.{Simulates, for_value, for_truth, for_act, for_rounds, HasTruth, HasAddress, Destined, word, through, byte, Did, RanDid}
 use Rattle.bk_simulation.proofs.Leaves.{RanValue, name_runs, number_runs, truth_runs, query_runs, text_runs, table_runs}
 use Rattle.bk_simulation.proofs.Operands.{for_two, one_run, two_run}
 use Rattle.bk_simulation.proofs.Operators.{contents_run, minus_run, not_run, plus_run, combined_run}
@@ -50,11 +50,10 @@ use Rattle.bk_simulation.proofs.Branches.{when_run, when_sought, test_run, test_
 use Rattle.bk_simulation.proofs.Loops.{while_rounds, repeat_rounds, repeat_while_rounds}
 use Rattle.bk_simulation.proofs.LoopCommands.{while_run, while_sought, repeat_run, repeat_while_run}
 use Rattle.bk_simulation.proofs.Switches.{switch_run, switch_sought}
-use Rattle.bk_simulation.proofs.Assignments.{for_assigned, assigned_run}
+use Rattle.bk_simulation.proofs.Assignments.{assigned_run}
 use Rattle.bk_simulation.proofs.ForRounds.{for_rounds_run, rounds_adds}
 use Rattle.bk_simulation.proofs.ForLoops.{for_run}
 use Rattle.bk_simulation.proofs.Procedures.{Procedures}
-use Rattle.bk_simulation.proofs.Returns.{Gave}
 use Rattle.bk_simulation.proofs.Calls.{AloneRuns}
 use Rattle.bk_simulation.proofs.Applied.{KnowsLibrary, AloneAdds, apply_runs}
 use Rattle.bk_simulation.proofs.Blocks.{block_runs}

@@ -1,5 +1,5 @@
 -- Calls, for a value or not: the arguments, then the procedure, then its frame or a routine of the library.
-use Rattle.std.proofs.Common.{◌≡◌, ℕ, suc, ◌+◌, ◌-◌, ◌*◌, ◌<◌, ◌≤◌, ◌^◌, max, nat_lt, Bool, true, false, List, [], ◌∷◌, length, Option, Some, None, refl, sym, ap, ◌∙◌, subst, arith, inl, inr, append-nil}
+use Rattle.std.proofs.Common.{◌≡◌, ℕ, suc, ◌+◌, ◌-◌, ◌*◌, ◌<◌, ◌≤◌, ◌^◌, max, nat_lt, Bool, true, false, List, ◌∷◌, length, Option, Some, None, refl, sym, ap, ◌∙◌, subst, arith}
 use Rattle.std.specs.Option.{option_map_or}
 use Rattle.std.proofs.lemmas.Option.{slice_get_within}
 use Rattle.bk_base.specs.declared.limit.TheConstants.{FRAME_WORDS}
@@ -12,7 +12,7 @@ use Rattle.bk_ocode.specs.declared.stmt.Stmt.{Stmt}
 use Rattle.bk_ocode.specs.declared.stmt.Stmt.TheVariants.{Stack}
 use Rattle.bk_meaning.specs.Values as value
 use Rattle.bk_meaning.specs.Values.{Value, number, address, procedure, routine, unset}
-use Rattle.bk_meaning.specs.World.{World, Exit, Outcome, gives, leaves, ends, undefined, going, each_way, calling, calls_back}
+use Rattle.bk_meaning.specs.World.{World, Exit, Outcome, gives, undefined, each_way, calling, calls_back}
 use Rattle.bk_meaning.specs.Environment.{Environment, past}
 use Rattle.bk_meaning.specs.Lasting.{Procedure, Program, procedure_of}
 use Rattle.bk_meaning.specs.Growing.{history, After, Throughout}
@@ -20,7 +20,7 @@ use Rattle.bk_meaning.specs.Seeking.{forwards}
 use Rattle.bk_meaning.specs.Scopes.{scope_of, alone}
 use Rattle.bk_meaning.specs.Parts.{Meanings}
 use Rattle.bk_meaning.specs.Library.{library}
-use Rattle.bk_meaning.specs.Calls.{values, enter, called, call, applied}
+use Rattle.bk_meaning.specs.Calls.{enter, called, call, applied}
 use Rattle.bk_meaning.proofs.After.{adds, stays, earlier, with_after, each_way_after, closing_after, calling_on}
 use Rattle.bk_meaning.proofs.Ties.{ties_add}
 use Rattle.bk_meaning.proofs.NodeTies.{library_ties}
@@ -32,9 +32,9 @@ use Rattle.bk_simulation.proofs.WrittenCells.{below_like, settle_like}
 use Rattle.bk_simulation.proofs.BytesKept.{moves_bytes}
 use Rattle.bk_simulation.proofs.Sizes.{turns_of, turns_among}
 use Rattle.bk_simulation.proofs.Laid.{Setting, CallAt, IsValue, AreValues, count}
-use Rattle.bk_simulation.proofs.Frame.{Sit, store, start, FewFrames, Ready, Account, one, comes_on, Ran, went, each_way_ran, with_ran, ArrivedAt, there, Out, next, ready_next}
+use Rattle.bk_simulation.proofs.Frame.{Sit, start, FewFrames, Ready, Account, one, comes_on, Ran, went, each_way_ran, with_ran, ArrivedAt, there, Out, next, ready_next}
 use Rattle.bk_simulation.proofs.Compose.{stay, roomy, arrived_step, arrived_on, ran_on}
-use Rattle.bk_simulation.proofs.Simulates.{Simulates, for_value, for_values}
+use Rattle.bk_simulation.proofs.Simulates.{Simulates, for_values}
 use Rattle.bk_simulation.proofs.Operands.{value_run}
 use Rattle.bk_simulation.proofs.Arguments.{Listed, values_run}
 use Rattle.bk_simulation.proofs.Procedures.{Procedures}

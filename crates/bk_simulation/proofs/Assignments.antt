@@ -1,12 +1,11 @@
 -- Assignments: each value, its destination, and the word or byte that is stored.
-use Rattle.std.proofs.Common.{◌≡◌, ℕ, ◌+◌, ◌-◌, ◌*◌, ◌<◌, ◌≤◌, true, List, [], ◌∷◌, Option, Some, None, refl, sym, ap, ◌∙◌, subst, arith, inl}
+use Rattle.std.proofs.Common.{◌≡◌, ℕ, ◌+◌, ◌-◌, ◌*◌, ◌<◌, ◌≤◌, true, List, ◌∷◌, Option, Some, None, refl, sym, ap, ◌∙◌, subst, arith}
 use Rattle.bk_base.specs.Word.{word_sum, byte_distance}
-use Rattle.bk_base.specs.declared.limit.TheConstants.{FRAME_WORDS}
 use Rattle.bk_ocode.specs.Cells.{Content, Variable, Cell, Held, content_of, kind_of, write, below}
 use Rattle.bk_ocode.specs.OcodeState.{Placed, Inside, State}
 use Rattle.bk_ocode.specs.OcodeStep.{named_place, has_word}
 use Rattle.bk_ocode.specs.declared.stmt.Variable.{Variable as Named}
-use Rattle.bk_ocode.specs.declared.stmt.Variable.TheVariants.{Local, Global, Static}
+use Rattle.bk_ocode.specs.declared.stmt.Variable.TheVariants.{Local, Static}
 use Rattle.bk_ocode.specs.declared.stmt.Stmt.{Stmt}
 use Rattle.bk_ocode.specs.declared.stmt.Stmt.TheVariants.{Assign, AssignAt, AssignByte}
 use Rattle.bk_tree.specs.Tree as t
@@ -28,7 +27,7 @@ use Rattle.bk_simulation.proofs.Sizes.{turns_of, turns_among}
 use Rattle.bk_simulation.proofs.Laid.{Setting, Stretch, ByTurns, AreFrom, AreStores, IsStore}
 use Rattle.bk_simulation.proofs.Frame.{Sit, store, state, start, place_of, Ready, Account, further, went, with_ran, ArrivedAt, store_at, there, Has, next, ready_next}
 use Rattle.bk_simulation.proofs.Compose.{stay, stepped, arrived_more, arrived_on, ran_on, comes_to, ran_more, above}
-use Rattle.bk_simulation.proofs.Simulates.{Simulates, for_value, Did, Destined, word, through, byte, RanDid}
+use Rattle.bk_simulation.proofs.Simulates.{Simulates, for_value, Destined, word, through, byte, RanDid}
 use Rattle.bk_simulation.proofs.Operands.{one_run}
 use Rattle.bk_simulation.proofs.Orders.{ready_at}
 

@@ -1,16 +1,14 @@
 -- Words that wait on the frame become the objects of variables.
 use Rattle.std.proofs.Common.{◌≡◌, ◌≢◌, ℕ, zero, suc, ◌+◌, ◌<◌, ◌≤◌, List, [], ◌∷◌, ◌++◌, length, Some, refl, sym, ap, ◌∙◌, subst, arith, ⊎_elim, slice_get, length-append}
-use Rattle.std.specs.Prelude.{option_and_then}
-use Rattle.std.proofs.lemmas.Option.{slice_get_within}
 use Rattle.bk_ocode.specs.Cells.{Content, Variable, Cell, Held, content_of}
 use Rattle.bk_ocode.specs.declared.stmt.Stmt.{Stmt}
 use Rattle.bk_ocode.specs.OcodeState.{State}
 use Rattle.bk_meaning.specs.Values.{Value, Cell as Cell_of, holds}
-use Rattle.bk_meaning.specs.Memory.{living, cells_at, made}
+use Rattle.bk_meaning.specs.Memory.{living, made}
 use Rattle.bk_meaning.specs.World.{World, gives, making}
 use Rattle.bk_meaning.specs.Environment.{Environment, cell, bind}
 use Rattle.bk_meaning.specs.Blocks.{Start, paired, bind_variables}
-use Rattle.bk_simulation.proofs.Memory.{BaseOf, Alive, limit, Codes, Stands, StandsCell, Store, Grown, Fits, stands_grown, alive_within}
+use Rattle.bk_simulation.proofs.Memory.{BaseOf, Alive, limit, Codes, Stands, StandsCell, Store, Grown, Fits, stands_grown}
 use Rattle.bk_simulation.proofs.ListPlaces.{get_new}
 use Rattle.bk_simulation.proofs.MadeObjects.{IsFree, make, Since, make_fits_in, grown_made, lying}
 use Rattle.bk_simulation.proofs.Laid.{Setting, Spot, spots_of, variables_bound, AreAt}

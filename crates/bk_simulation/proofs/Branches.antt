@@ -1,5 +1,5 @@
 -- IF, UNLESS and TEST.
-use Rattle.std.proofs.Common.{◌≡◌, ℕ, ◌+◌, ◌-◌, ◌*◌, ◌≤◌, Bool, true, false, not, ◌||◌, cond, List, ◌∷◌, refl, sym, ap, ◌∙◌, subst, arith, inl}
+use Rattle.std.proofs.Common.{◌≡◌, ℕ, ◌+◌, ◌-◌, ◌*◌, ◌≤◌, Bool, true, false, not, ◌||◌, cond, List, ◌∷◌, refl, sym, ap, ◌∙◌, subst, arith}
 use Rattle.bk_ocode.specs.OcodeState.{State}
 use Rattle.bk_ocode.specs.declared.stmt.Stmt.{Stmt}
 use Rattle.bk_ocode.specs.declared.stmt.Stmt.TheVariants.{Label, Jump}
@@ -16,7 +16,7 @@ use Rattle.bk_simulation.proofs.Sought.{same_stands}
 use Rattle.bk_simulation.proofs.Laid.{Setting, LabelAt, IsJump, IsAct, Entered}
 use Rattle.bk_simulation.proofs.Frame.{Sit, start, Ready, Account, went, with_ran, ArrivedAt, next, ready_next}
 use Rattle.bk_simulation.proofs.Compose.{stay, arrived_on, ran_on, ran_more}
-use Rattle.bk_simulation.proofs.Simulates.{Simulates, for_truth, for_act, where_to, HasTruth, Did, RanDid}
+use Rattle.bk_simulation.proofs.Simulates.{Simulates, for_truth, where_to, Did, RanDid}
 use Rattle.bk_simulation.proofs.ControlSteps.{landed_on, jumped_on}
 use Rattle.bk_simulation.proofs.Orders.{by_test, or_second}
 

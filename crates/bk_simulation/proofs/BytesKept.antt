@@ -10,7 +10,7 @@ use Rattle.bk_ocode.specs.OcodeRun.{Rest, in_hand, resumed, resumed_by, resumed_
 use Rattle.bk_ocode.specs.Access.{variable_in, variable_at, byte_at, word_with_byte_at, string_at}
 use Rattle.bk_ocode.specs.declared.stmt.Monadic.TheVariants.{Contents, Negate, Not}
 use Rattle.bk_ocode.specs.declared.stmt.Stmt.{Stmt}
-use Rattle.bk_ocode.specs.declared.stmt.Stmt.TheVariants.{Number, True, False, Query, Load, Address, Text, Monadic, Dyadic, LoadByte, Assign, AssignAt, AssignByte, Jump, JumpIf, Label, GiveResult, TakeResult, Stack, Store, Entry, Save, CallFunction, CallRoutine, ReturnItem, Return, EndProcedure, Switch, Finish, DataLabel, DataNumber, DataAddress, Globals}
+use Rattle.bk_ocode.specs.declared.stmt.Stmt.TheVariants.{Load, Monadic, Dyadic, LoadByte, Assign, AssignAt, AssignByte, Jump, JumpIf, Label, GiveResult, TakeResult, Stack, Store, Entry, Save, CallFunction, CallRoutine, ReturnItem, Return, EndProcedure, Switch, Finish, DataLabel, DataNumber, DataAddress, Globals}
 use Rattle.bk_ocode.proofs.Chosen.{on_number-holds, on_some-holds, if-holds}
 use Rattle.bk_simulation.proofs.CellBytes.{IsByte, AreBytes, byte_is, four_are_bytes}
 use Rattle.bk_simulation.proofs.Settled.{settled, settled_from}

@@ -1,5 +1,5 @@
 -- Calls of procedures: their frame, their body, and back.
-use Rattle.std.proofs.Common.{◌≡◌, ℕ, ◌+◌, ◌-◌, ◌*◌, ◌≤◌, Bool, List, ◌∷◌, length, Option, Some, None, refl, ap, arith, inl, inr, slice_get}
+use Rattle.std.proofs.Common.{◌≡◌, ℕ, ◌+◌, ◌-◌, ◌*◌, ◌≤◌, Bool, List, ◌∷◌, length, Option, Some, None, refl, ap, arith, slice_get}
 use Rattle.bk_tree.specs.Tree.{Action}
 use Rattle.bk_ocode.specs.Cells.{Content, Word, content_of}
 use Rattle.bk_ocode.specs.OcodeState.{Inside, State, Goes}
@@ -7,7 +7,7 @@ use Rattle.bk_ocode.specs.OcodeRun.{in_hand, program_step}
 use Rattle.bk_ocode.specs.declared.stmt.Stmt.{Stmt}
 use Rattle.bk_ocode.specs.declared.stmt.Stmt.TheVariants.{ReturnItem, Return}
 use Rattle.bk_meaning.specs.Values.{Value, unset}
-use Rattle.bk_meaning.specs.World.{World, Exit, break, loop, endcase, goto, result, return, Outcome, gives, leaves, ends, undefined, going, each_way, closing, forgetting, Done}
+use Rattle.bk_meaning.specs.World.{World, Exit, return, Outcome, gives, each_way, closing, forgetting, Done}
 use Rattle.bk_meaning.specs.Environment.{Environment}
 use Rattle.bk_meaning.specs.Lasting.{Body, command, expression}
 use Rattle.bk_meaning.specs.Growing.{history, After, Throughout}
@@ -22,7 +22,7 @@ use Rattle.bk_simulation.proofs.Sizes.{turns_of, turns_through}
 use Rattle.bk_simulation.proofs.Laid.{Setting, Scene, IsAlone}
 use Rattle.bk_simulation.proofs.Frame.{Sit, start, Ready, Account, Ran, went, each_way_ran, so, ArrivedAt, there, Has, Out}
 use Rattle.bk_simulation.proofs.Compose.{arrived_more}
-use Rattle.bk_simulation.proofs.Simulates.{Simulates, for_value, for_scope, Did, RanDid}
+use Rattle.bk_simulation.proofs.Simulates.{Simulates, for_scope, RanDid}
 use Rattle.bk_simulation.proofs.Operands.{value_run}
 use Rattle.bk_simulation.proofs.Procedures.{IsBody}
 use Rattle.bk_simulation.proofs.Returns.{call_stmt}

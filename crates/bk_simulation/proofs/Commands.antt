@@ -1,9 +1,8 @@
 -- Commands without parts, and places that may be sought: GOTO, BREAK, LOOP, ENDCASE, RETURN, FINISH, RESULTIS; labels, CASE, DEFAULT.
-use Rattle.std.proofs.Common.{◌≡◌, ℕ, ◌+◌, ◌-◌, ◌*◌, ◌≤◌, Bool, true, false, ◌||◌, cond, List, [], ◌∷◌, ◌++◌, Option, Some, pos, refl, sym, ap, ◌∙◌, subst, arith, inl}
+use Rattle.std.proofs.Common.{◌≡◌, ℕ, ◌+◌, ◌-◌, ◌*◌, ◌≤◌, Bool, true, false, ◌||◌, cond, List, ◌∷◌, ◌++◌, Option, Some, pos, refl, sym, ap, ◌∙◌, subst, arith}
 use Rattle.bk_base.specs.declared.run_end.End.TheVariants.{Status}
 use Rattle.bk_scope.specs.Scope.{bound_in}
 use Rattle.bk_ocode.specs.Cells.{Content, content_of}
-use Rattle.bk_ocode.specs.OcodeState.{State}
 use Rattle.bk_ocode.specs.OcodeStep.{from_label}
 use Rattle.bk_ocode.specs.declared.stmt.Stmt.{Stmt}
 use Rattle.bk_ocode.specs.declared.stmt.Stmt.TheVariants.{Label, Stack, GiveResult, Return, Finish}
@@ -11,7 +10,7 @@ use Rattle.bk_trans.specs.Scheme.{go}
 use Rattle.bk_tree.specs.Tree.{Expression, Action}
 use Rattle.bk_meaning.specs.Environment.{Environment}
 use Rattle.bk_meaning.specs.Seeking.{Sought, Mode, forwards, seeking, same_place, at_place, stands_in}
-use Rattle.bk_meaning.specs.World.{World, Exit, break, loop, endcase, goto, result, return, status, Outcome, leaves, ends, Done, with}
+use Rattle.bk_meaning.specs.World.{World, Exit, break, loop, endcase, goto, result, return, status, leaves, ends, with}
 use Rattle.bk_meaning.specs.Growing.{history}
 use Rattle.bk_meaning.specs.Parts.{Meanings}
 use Rattle.bk_meaning.proofs.After.{adds, stays}
@@ -20,7 +19,7 @@ use Rattle.bk_simulation.proofs.Sizes.{turns_of, turns_in}
 use Rattle.bk_simulation.proofs.Laid.{Setting, goal_named, IsLabelHere, LabelAt, IsValue, IsAct, PlaceOf}
 use Rattle.bk_simulation.proofs.Frame.{Sit, start, Ready, Account, here, Stopped, Handed, went, ArrivedAt, Leads, still, next, ready_next}
 use Rattle.bk_simulation.proofs.Compose.{stay, arrived_more, comes_to, ran_first}
-use Rattle.bk_simulation.proofs.Simulates.{Simulates, for_value, for_act, Did, RanDid}
+use Rattle.bk_simulation.proofs.Simulates.{Simulates, RanDid}
 use Rattle.bk_simulation.proofs.ControlSteps.{landed_on, result_on}
 use Rattle.bk_simulation.proofs.Operands.{one_run}
 use Rattle.bk_simulation.proofs.Orders.{by_test, or_second}

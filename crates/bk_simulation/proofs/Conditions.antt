@@ -1,5 +1,5 @@
 -- Truth where it is asked for: values, NOT, `&` and `|`; and `->`.
-use Rattle.std.proofs.Common.{◌≡◌, ℕ, ◌+◌, ◌-◌, ◌*◌, ◌≤◌, Bool, true, false, not, List, ◌∷◌, Some, refl, subst, arith, inl}
+use Rattle.std.proofs.Common.{◌≡◌, ℕ, ◌+◌, ◌-◌, ◌*◌, ◌≤◌, Bool, true, false, not, List, ◌∷◌, Some, refl, subst, arith}
 use Rattle.bk_ocode.specs.OcodeState.{State}
 use Rattle.bk_ocode.specs.OcodeStep.{from_label}
 use Rattle.bk_ocode.specs.declared.stmt.Stmt.{Stmt}
@@ -15,7 +15,7 @@ use Rattle.bk_simulation.proofs.Sizes.{turns_of}
 use Rattle.bk_simulation.proofs.Laid.{Setting, Scene, LabelAt, IsValue, IsJump}
 use Rattle.bk_simulation.proofs.Frame.{Sit, start, Ready, Account, Ran, went, with_ran, Arrived, ArrivedAt, Has, Out, next, ready_next}
 use Rattle.bk_simulation.proofs.Compose.{arrived_more, arrived_on, ran_on, ran_first, ran_more}
-use Rattle.bk_simulation.proofs.Simulates.{Simulates, for_value, for_truth, where_to, HasTruth}
+use Rattle.bk_simulation.proofs.Simulates.{Simulates, for_truth, where_to, HasTruth}
 use Rattle.bk_simulation.proofs.ControlSteps.{label_on, landed_on, result_on, taken_on}
 use Rattle.bk_simulation.proofs.Operands.{value_run}
 

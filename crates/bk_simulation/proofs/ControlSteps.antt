@@ -1,5 +1,5 @@
 -- Steps that move control from where a run has come to: LAB, jumps, tests, results.
-use Rattle.std.proofs.Common.{◌≡◌, ℕ, suc, ◌+◌, ◌-◌, ◌*◌, ◌<◌, ◌≤◌, ◌==◌, Bool, true, false, not, List, ◌∷◌, length, Option, Some, None, refl, ap, ◌∙◌, subst, arith}
+use Rattle.std.proofs.Common.{◌≡◌, ℕ, suc, ◌+◌, ◌-◌, ◌<◌, ◌≤◌, ◌==◌, Bool, true, false, not, List, ◌∷◌, length, Option, Some, None, refl, ap, ◌∙◌, subst, arith}
 use Rattle.std.specs.Prelude.{drop}
 use Rattle.std.specs.Option.{option_map_or}
 use Rattle.bk_ocode.specs.Cells.{Content, Unset, Word, Cell, content_of, below, settle}
@@ -17,7 +17,7 @@ use Rattle.bk_simulation.proofs.Memory.{Like, like_on, Stands, Store, Moved}
 use Rattle.bk_simulation.proofs.WrittenCells.{below_like, settle_like}
 use Rattle.bk_simulation.proofs.OperatorWords.{judged_word}
 use Rattle.bk_simulation.proofs.Laid.{Setting, Scene, LabelAt}
-use Rattle.bk_simulation.proofs.Frame.{Sit, store, state, Ready, Account, paying, Ran, went, Arrived, ArrivedAt, OpenArrived, there, Has, GoesTo, Exited, Out, still}
+use Rattle.bk_simulation.proofs.Frame.{Sit, state, Ready, Account, paying, Ran, went, Arrived, ArrivedAt, OpenArrived, there, Has, GoesTo, Exited, Out, still}
 use Rattle.bk_simulation.proofs.Compose.{accounted, stepped, links_below, arrived_more, arrived_paid, topped, closed_arrival}
 use Rattle.bk_simulation.proofs.Simulates.{where_to, HasTruth}
 

@@ -1,5 +1,5 @@
 -- FOR as a command.
-use Rattle.std.proofs.Common.{◌≡◌, ◌≢◌, ℕ, zero, suc, ◌+◌, ◌-◌, ◌*◌, ◌<◌, ◌≤◌, ◌^◌, Bool, true, false, cond, List, [], ◌∷◌, ◌++◌, length, Some, None, refl, sym, ap, ◌∙◌, subst, arith, ⊎_elim, inl}
+use Rattle.std.proofs.Common.{◌≡◌, ◌≢◌, ℕ, zero, suc, ◌+◌, ◌-◌, ◌*◌, ◌<◌, ◌≤◌, ◌^◌, Bool, true, false, cond, List, [], ◌∷◌, ◌++◌, length, Some, None, refl, sym, ap, ◌∙◌, subst, arith, ⊎_elim}
 use Rattle.std.specs.Prelude.{slice_get}
 use Rattle.std.specs.Str.{bytes_eq}
 use Rattle.std.proofs.lemmas.Slice.Eq.{bytes_eq-Decides}
@@ -18,7 +18,7 @@ use Rattle.bk_tree.specs.Tree as t
 use Rattle.bk_tree.specs.Tree.{Mention, Expression, Expressions, Action}
 use Rattle.bk_meaning.specs.Values.{Value, Cell as Cell_of, holds}
 use Rattle.bk_meaning.specs.Environment.{Environment, cell, bind, past}
-use Rattle.bk_meaning.specs.World.{World, Exit, Outcome, Done, done, given, with, either, making, forgetting}
+use Rattle.bk_meaning.specs.World.{World, Outcome, Done, done, given, with, either, making}
 use Rattle.bk_meaning.specs.Growing.{history}
 use Rattle.bk_meaning.specs.Parts.{Meanings}
 use Rattle.bk_meaning.specs.Seeking.{Sought}
@@ -33,7 +33,7 @@ use Rattle.bk_simulation.proofs.Sizes.{turns_of, turns_in}
 use Rattle.bk_simulation.proofs.Laid.{Setting, Scene, in_loop, place_of, IsWord, IsAlone, KeepsLabels, IsLabelHere, LabelAt, IsAct, IsForLoop, behind_body, NameAt}
 use Rattle.bk_simulation.proofs.Frame.{some_objects, Sit, store, state, start, named_grown, Ready, Account, further, went, ran_from, ArrivedAt, OpenArrived, there, next, ready_next}
 use Rattle.bk_simulation.proofs.Compose.{begun, stay, links_like, with_objects, stepped, behind, arrived_more, comes_to, open_sit, open_ready, open_step, open_on, ran_open, closed_ran}
-use Rattle.bk_simulation.proofs.Simulates.{Simulates, Did, Limit, for_counts, where_to, RanDid}
+use Rattle.bk_simulation.proofs.Simulates.{Simulates, Limit, where_to, RanDid}
 use Rattle.bk_simulation.proofs.Operands.{for_two, two_run}
 use Rattle.bk_simulation.proofs.ControlSteps.{label_on, landed_on, closes}
 use Rattle.bk_simulation.proofs.Orders.{by_test}

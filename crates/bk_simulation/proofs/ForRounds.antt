@@ -1,5 +1,5 @@
 -- The rounds of a FOR.
-use Rattle.std.proofs.Common.{◌≡◌, ◌≢◌, ℕ, suc, ◌+◌, ◌-◌, ◌*◌, ◌≤◌, Bool, true, false, List, ◌∷◌, refl, sym, subst, arith}
+use Rattle.std.proofs.Common.{◌≡◌, ℕ, suc, ◌+◌, ◌-◌, ◌*◌, ◌≤◌, Bool, true, false, List, ◌∷◌, refl, subst, arith}
 use Rattle.bk_ocode.specs.OcodeState.{State}
 use Rattle.bk_ocode.specs.declared.stmt.Stmt.{Stmt}
 use Rattle.bk_ocode.specs.declared.stmt.Stmt.TheVariants.{Label}
@@ -8,7 +8,7 @@ use Rattle.bk_tree.specs.Tree.{Action}
 use Rattle.bk_meaning.specs.Values.{Value}
 use Rattle.bk_meaning.specs.Environment.{Environment}
 use Rattle.bk_meaning.specs.Seeking.{forwards}
-use Rattle.bk_meaning.specs.World.{World, Exit, break, loop, endcase, goto, result, return, leaves, done, with, either, turn}
+use Rattle.bk_meaning.specs.World.{World, Exit, break, loop, done, with, either, turn}
 use Rattle.bk_meaning.specs.Growing.{history}
 use Rattle.bk_meaning.specs.Parts.{Meanings}
 use Rattle.bk_meaning.specs.Scopes.{scope_of, alone}
@@ -19,7 +19,7 @@ use Rattle.bk_simulation.proofs.Sizes.{turns_in, turns_through}
 use Rattle.bk_simulation.proofs.Laid.{Setting, in_loop, LabelAt, IsForLoop, behind_body}
 use Rattle.bk_simulation.proofs.Frame.{Sit, start, Ready, Account, went, each_way_ran, with_ran, so, ArrivedAt, Out, next, ready_next}
 use Rattle.bk_simulation.proofs.Compose.{arrived_turn, turn_there, comes_to, ran_more, outside}
-use Rattle.bk_simulation.proofs.Simulates.{Simulates, for_scope, Did, Limit, for_counts, where_to, RanDid}
+use Rattle.bk_simulation.proofs.Simulates.{Simulates, for_scope, Limit, for_counts, where_to, RanDid}
 use Rattle.bk_simulation.proofs.ControlSteps.{label_on, landed_on, caught_at}
 use Rattle.bk_simulation.proofs.Scopes.{scope_runs}
 use Rattle.bk_simulation.proofs.Valofs.{around_ready}

@@ -1,5 +1,5 @@
 -- The step and the test of a FOR.
-use Rattle.std.proofs.Common.{◌≡◌, ℕ, ◌+◌, ◌*◌, ◌<◌, ◌≤◌, ◌^◌, Bool, true, false, not, nat_lt, cond, pos, int_lt, List, ◌∷◌, Option, Some, None, refl, sym, ap, ◌∙◌, subst, arith, inl}
+use Rattle.std.proofs.Common.{◌≡◌, ℕ, ◌+◌, ◌*◌, ◌<◌, ◌≤◌, ◌^◌, Bool, true, false, not, nat_lt, cond, pos, int_lt, List, ◌∷◌, Option, Some, None, refl, sym, ap, ◌∙◌, subst, arith}
 use Rattle.std.proofs.lemmas.Bool.Decides.{nat_tests}
 use Rattle.std.proofs.lemmas.Int.{ints}
 use Rattle.bk_base.specs.Word.{signed, word_of}
@@ -27,9 +27,9 @@ use Rattle.bk_simulation.proofs.Memory.{BaseOf, Stands, stands_grown}
 use Rattle.bk_simulation.proofs.WrittenCells.{read_here}
 use Rattle.bk_simulation.proofs.OperatorWords.{operates}
 use Rattle.bk_simulation.proofs.Laid.{Setting}
-use Rattle.bk_simulation.proofs.Frame.{Sit, start, Ready, Account, went, with_ran, ArrivedAt, there, Has, Out, next, ready_next}
+use Rattle.bk_simulation.proofs.Frame.{Sit, start, Ready, Account, went, with_ran, ArrivedAt, there, Has, next, ready_next}
 use Rattle.bk_simulation.proofs.Compose.{arrived_on, ran_more, topped, above}
-use Rattle.bk_simulation.proofs.Simulates.{where_to, HasTruth, Limit, RanDid}
+use Rattle.bk_simulation.proofs.Simulates.{where_to, Limit, RanDid}
 use Rattle.bk_simulation.proofs.Leaves.{RanValue, pushes_item, same_number}
 use Rattle.bk_simulation.proofs.Operands.{Two}
 use Rattle.bk_simulation.proofs.Operators.{dyadic_run}

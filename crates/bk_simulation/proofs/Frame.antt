@@ -1,5 +1,5 @@
 -- The frame of the simulation: where code runs and what it finds, counted runs, arrivals, exits and falls, and how parts compose.
-use Rattle.std.proofs.Common.{◌≡◌, ℕ, zero, suc, ◌+◌, ◌-◌, ◌*◌, ◌<◌, ◌≤◌, ◌^◌, true, List, ◌∷◌, ◌++◌, length, Option, Some, None, refl, sym, ap, ◌∙◌, subst, append_assoc, arith, ◌⊎◌, ⊎_elim, inl, inr}
+use Rattle.std.proofs.Common.{◌≡◌, ℕ, zero, suc, ◌+◌, ◌-◌, ◌*◌, ◌<◌, ◌≤◌, ◌^◌, true, List, ◌∷◌, ◌++◌, length, Option, Some, refl, sym, ap, ◌∙◌, subst, append_assoc, arith, ◌⊎◌, ⊎_elim, inl, inr}
 use Rattle.std.proofs.lemmas.Option.{slice_get_within}
 use Rattle.bk_base.specs.declared.limit.TheConstants.{FRAME_WORDS}
 use Rattle.bk_base.specs.declared.run_end.End.{End}
@@ -12,7 +12,7 @@ use Rattle.bk_ocode.specs.declared.stmt.Stmt.{Stmt}
 use Rattle.bk_ocode.specs.declared.stmt.Stmt.TheVariants.{Jump, Stack, Return}
 use Rattle.bk_trans.specs.declared.around.Goal.{Goal}
 use Rattle.bk_meaning.specs.Values.{Value}
-use Rattle.bk_meaning.specs.Environment.{Environment, Sense, constant, cell, label, foreign, sense_in, sense_of}
+use Rattle.bk_meaning.specs.Environment.{Environment, Sense, constant, cell, sense_in, sense_of}
 use Rattle.bk_meaning.specs.World as world
 use Rattle.bk_meaning.specs.World.{World, Exit, break, loop, endcase, goto, result, return, Outcome, gives, leaves, ends, undefined, going, each_way, with, turn, turn_of}
 use Rattle.bk_meaning.specs.Growing.{history, Grows, After}

@@ -1,6 +1,6 @@
 -- Where the code of each form is laid: of this expression or command, with these names in scope, from these statements on before
 -- those. A jump has its LAB, a string and a table their object, a call its place.
-use Rattle.std.proofs.Common.{◌≡◌, ℕ, suc, ◌+◌, ◌-◌, ◌<◌, ◌≤◌, ◌^◌, Bool, true, false, not, List, [], ◌∷◌, ◌++◌, length, Option, Some, None, cond}
+use Rattle.std.proofs.Common.{◌≡◌, ℕ, suc, ◌+◌, ◌-◌, ◌<◌, ◌≤◌, ◌^◌, Bool, true, false, not, List, [], ◌∷◌, ◌++◌, length, Option, Some, cond}
 use Rattle.std.specs.Prelude.{slice_get, take, drop}
 use Rattle.bk_base.specs.declared.limit.TheConstants.{FRAME_WORDS}
 use Rattle.bk_base.specs.Strings.{first_bytes}

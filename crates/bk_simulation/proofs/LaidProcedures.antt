@@ -1,5 +1,5 @@
 -- Procedures are laid where the scheme puts them, where their bodies are: their ENTRY and SAVE, and what their formals are.
-use Rattle.std.proofs.Common.{◌≡◌, ℕ, zero, suc, ◌+◌, ◌-◌, ◌<◌, ◌≤◌, ◌^◌, Bool, true, false, List, [], ◌∷◌, ◌++◌, length, Option, Some, None, cond, refl, sym, ap, ap₂, ◌∙◌, subst, arith, append_assoc, slice_get, drop}
+use Rattle.std.proofs.Common.{◌≡◌, ℕ, suc, ◌+◌, ◌-◌, ◌<◌, ◌≤◌, ◌^◌, Bool, true, false, List, [], ◌∷◌, ◌++◌, length, Option, Some, None, cond, refl, sym, ap, ap₂, ◌∙◌, subst, arith, slice_get, drop}
 use Rattle.std.proofs.lemmas.Bool.{false≢true}
 use Rattle.std.proofs.lemmas.Slice.Eq.{bytes_eq-Decides}
 use Rattle.std.specs.Str.{bytes_eq}
@@ -18,7 +18,6 @@ use Rattle.bk_scope.specs.Sound.{Callable}
 use Rattle.bk_scope.specs.Spots as spot
 use Rattle.bk_scope.specs.Spots.{Spot}
 use Rattle.bk_ocode.specs.Depth.{next_depth, depth_behind}
-use Rattle.bk_ocode.specs.Lists.{joined}
 use Rattle.bk_ocode.specs.OcodeState.{Placed, global_place}
 use Rattle.bk_ocode.specs.OcodeRun.{Program}
 use Rattle.bk_ocode.specs.WellPlaced.{IsWellPlaced}
@@ -46,7 +45,7 @@ use Rattle.bk_simulation.proofs.HeldData.{statement_data, statement_below}
 use Rattle.bk_simulation.proofs.NamesAgree.{Agree, SameGlobal, global_of, same_global, own_cell, agree_bound}
 use Rattle.bk_simulation.proofs.LastingKinds.{Kind, entry, kinds, kinds_in, bound_global, IsCalled, word_base}
 use Rattle.bk_simulation.proofs.Standing.{Follow, FollowWords, there_in, bases_inside, bases_of, StandsAt, first_of, passed, written, Home, home, Suits, Bases, bases_so, Lies}
-use Rattle.bk_simulation.proofs.LaidExpressions.{StandsIn, DataIn, HasWords, Around, InNames, joined_two}
+use Rattle.bk_simulation.proofs.LaidExpressions.{DataIn, HasWords, Around, InNames, joined_two}
 use Rattle.bk_simulation.proofs.LaidCommands.{Doing, Done, words_labels, names_bound, alone_lies}
 
 -- ---- along a section

@@ -5,7 +5,7 @@ use Rattle.bk_scope.specs.declared.bound.Bound.{Bound}
 use Rattle.bk_scope.specs.declared.bound.Bound.TheVariants as b
 use Rattle.bk_ocode.specs.Lists.{joined}
 use Rattle.bk_ocode.specs.OcodeState.{Placed}
-use Rattle.bk_trans.specs.Program.{StaticItem, Term, Terms, Condition, Lvalue, Lvalues, Command, Commands, Declaration, Declarations, Definition, Definitions, Starts, named, number, text, truth, query, parens, unary, address, binary, choice, apply, valof, table, none, more, holds, within, fails, both, either, word, contents, subscript, byte, inside, nowhere, no_lvalues, onto, empty, assign, call, goto, label, case_of, default, when, test, while, for_loop, switch, result, simple, block, repeat, repeat_while, no_commands, also, statics, lets, no_declarations, declare, routine, function, variables, no_definitions, define, no_starts, value, vector}
+use Rattle.bk_trans.specs.Program.{StaticItem, Term, Terms, Condition, Lvalue, Lvalues, Command, Commands, Declaration, Declarations, Definition, Definitions, Starts, text, parens, unary, address, binary, choice, apply, valof, table, none, more, holds, within, fails, both, either, contents, subscript, byte, inside, no_lvalues, onto, assign, call, label, case_of, default, when, test, while, for_loop, switch, result, block, repeat, repeat_while, no_commands, also, statics, lets, no_declarations, declare, routine, function, variables, no_definitions, define, no_starts, value, vector}
 use Rattle.bk_trans.specs.Labels.{labels, labels_if, labels_at, labels_onto, labels_in, labels_of_declarations, labels_of_declaration, labels_of_definition, labels_of_procedure}
 use Rattle.bk_trans.specs.Parts.{Part, procedure, static_item, static_table, label_place, parts_of_items, parts, parts_each, parts_if, parts_at, parts_onto, parts_from, parts_in, parts_through, parts_of_declarations, parts_of_declaration, parts_of_definitions, parts_of_definition, parts_of_starts}
 use Rattle.bk_trans.specs.Depths.{count, behind_definition, behind_declaration, behind_declarations}

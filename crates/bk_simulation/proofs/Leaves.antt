@@ -10,7 +10,7 @@ use Rattle.bk_ocode.specs.Cells.{Content, Unset, Word, Temporary, Held, content_
 use Rattle.bk_ocode.specs.OcodeState.{State}
 use Rattle.bk_ocode.specs.OcodeStep.{named_place}
 use Rattle.bk_ocode.specs.declared.stmt.Variable.{Variable as Named}
-use Rattle.bk_ocode.specs.declared.stmt.Variable.TheVariants.{Local, Global, Static}
+use Rattle.bk_ocode.specs.declared.stmt.Variable.TheVariants.{Local, Static}
 use Rattle.bk_ocode.specs.declared.stmt.Stmt.{Stmt}
 use Rattle.bk_ocode.specs.declared.stmt.Stmt.TheVariants.{Number, True, False, Query, Load, Address, Text}
 use Rattle.bk_trans.specs.declared.around.Target.{Target}
@@ -19,7 +19,7 @@ use Rattle.bk_trans.specs.Scheme.{variable, push, truth_value}
 use Rattle.bk_meaning.specs.Values.{Value, number, address, unset}
 use Rattle.bk_meaning.specs.Memory.{read}
 use Rattle.bk_meaning.specs.World.{World, Outcome, gives, given}
-use Rattle.bk_meaning.specs.Environment.{Sense, constant, cell, label, foreign, sense_of}
+use Rattle.bk_meaning.specs.Environment.{Sense, constant, cell, sense_of}
 use Rattle.bk_meaning.specs.Parts.{named}
 use Rattle.bk_simulation.proofs.Moves.{Moves, number_moves, true_moves, false_moves, query_moves, load_moves, address_moves, text_moves}
 use Rattle.bk_simulation.proofs.Memory.{BaseOf, Stands, Grown}

@@ -6,7 +6,7 @@ use Rattle.bk_tree.specs.Tree.{Definition, Definitions}
 use Rattle.bk_scope.specs.Scope.{Binding}
 use Rattle.bk_ocode.specs.OcodeState.{State}
 use Rattle.bk_ocode.specs.declared.stmt.Stmt.{Stmt}
-use Rattle.bk_meaning.specs.World.{World, Outcome, turn}
+use Rattle.bk_meaning.specs.World.{World, Outcome}
 use Rattle.bk_meaning.specs.Environment.{Environment, past, past_definition, letters}
 use Rattle.bk_meaning.specs.Growing.{history, After, Throughout}
 use Rattle.bk_meaning.specs.Parts.{Meanings}

@@ -14,7 +14,6 @@ use Rattle.bk_ocode.specs.Access.{number_in, byte_at, bytes_from, string_at}
 use Rattle.bk_ocode.specs.Telling.{in_front, format_bytes}
 use Rattle.bk_simulation.proofs.Memory.{Codes, Stands, Store, Fits}
 use Rattle.bk_simulation.proofs.CellBytes.{read_byte_at, word_number}
-use Rattle.bk_simulation.proofs.OperatorWords.{some_is}
 
 module _ (codes : Codes) (h : Store) (top : ℕ) (fits : Fits codes h top) where
   -- a byte that is read

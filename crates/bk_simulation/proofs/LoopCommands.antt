@@ -7,7 +7,7 @@ use Rattle.bk_tree.specs.Tree as t
 use Rattle.bk_tree.specs.Tree.{Expression, Action}
 use Rattle.bk_meaning.specs.Environment.{Environment}
 use Rattle.bk_meaning.specs.Seeking.{Sought, Mode, forwards, seeking, stands_in}
-use Rattle.bk_meaning.specs.World.{World, Exit, break, loop, endcase, goto, result, return, Outcome, Done, done, either}
+use Rattle.bk_meaning.specs.World.{World, Exit, loop, Outcome, Done, done, either}
 use Rattle.bk_meaning.specs.Growing.{history}
 use Rattle.bk_meaning.specs.Parts.{Meanings}
 use Rattle.bk_meaning.specs.Loops.{round_exit, again, same_truth, where_truth, rounds_of}
@@ -17,7 +17,7 @@ use Rattle.bk_simulation.proofs.Sought.{same_stands}
 use Rattle.bk_simulation.proofs.Laid.{Setting, LabelAt, IsAct, IsLoop, Entered, EnteredBody}
 use Rattle.bk_simulation.proofs.Frame.{Sit, start, Ready, Account, went, with_ran, ArrivedAt, next, ready_next}
 use Rattle.bk_simulation.proofs.Compose.{stay, arrived_more, arrived_on, ran_on, comes_to, ran_first}
-use Rattle.bk_simulation.proofs.Simulates.{Simulates, for_truth, turns_in_round, for_rounds, where_to, HasTruth, Did, RanDid}
+use Rattle.bk_simulation.proofs.Simulates.{Simulates, turns_in_round, for_rounds, HasTruth, RanDid}
 use Rattle.bk_simulation.proofs.ControlSteps.{label_on, landed_on, jumped_on}
 use Rattle.bk_simulation.proofs.Branches.{jump_way}
 use Rattle.bk_simulation.proofs.Loops.{while_adds, while_rounds, repeat_rounds, repeat_while_rounds}

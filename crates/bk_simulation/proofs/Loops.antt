@@ -1,5 +1,5 @@
 -- WHILE, UNTIL, REPEAT, REPEATWHILE and REPEATUNTIL.
-use Rattle.std.proofs.Common.{◌≡◌, ℕ, zero, suc, ◌+◌, ◌-◌, ◌*◌, ◌≤◌, Bool, true, false, cond, List, ◌∷◌, refl, subst, arith, inl}
+use Rattle.std.proofs.Common.{◌≡◌, ℕ, ◌+◌, ◌-◌, ◌*◌, ◌≤◌, Bool, true, false, cond, List, ◌∷◌, refl, subst, arith}
 use Rattle.bk_ocode.specs.OcodeState.{State}
 use Rattle.bk_ocode.specs.declared.stmt.Stmt.{Stmt}
 use Rattle.bk_ocode.specs.declared.stmt.Stmt.TheVariants.{Label, Jump}
@@ -8,7 +8,7 @@ use Rattle.bk_tree.specs.Tree as t
 use Rattle.bk_tree.specs.Tree.{Expression, Action}
 use Rattle.bk_meaning.specs.Environment.{Environment, past, past_action}
 use Rattle.bk_meaning.specs.Seeking.{Sought, Mode, forwards, seeking}
-use Rattle.bk_meaning.specs.World.{World, Exit, break, loop, endcase, goto, result, return, Outcome, Done, done, either, turn, turn_of}
+use Rattle.bk_meaning.specs.World.{World, Exit, break, loop, Outcome, Done, done, either, turn}
 use Rattle.bk_meaning.specs.Growing.{history}
 use Rattle.bk_meaning.specs.Parts.{Meanings}
 use Rattle.bk_meaning.specs.Loops.{round_exit, again, same_truth, where_truth, rounds_of}
@@ -17,7 +17,7 @@ use Rattle.bk_simulation.proofs.Sizes.{turns_of, turns_in}
 use Rattle.bk_simulation.proofs.Laid.{Setting, in_loop, LabelAt, IsJump, IsAct, IsLoop, Entered, EnteredBody}
 use Rattle.bk_simulation.proofs.Frame.{Sit, start, Ready, Account, paying, went, each_way_ran, with_ran, so, ArrivedAt, Out, next, ready_next}
 use Rattle.bk_simulation.proofs.Compose.{arrived_turn, arrived_on, turn_there, ran_on, comes_to, outside}
-use Rattle.bk_simulation.proofs.Simulates.{Simulates, for_truth, for_act, turns_in_round, for_rounds, where_to, HasTruth, Did, RanDid}
+use Rattle.bk_simulation.proofs.Simulates.{Simulates, for_act, turns_in_round, for_rounds, HasTruth, RanDid}
 use Rattle.bk_simulation.proofs.ControlSteps.{label_on, landed_on, jump_on, caught_at}
 use Rattle.bk_simulation.proofs.Orders.{ready_at}
 use Rattle.bk_simulation.proofs.Valofs.{around_ready}

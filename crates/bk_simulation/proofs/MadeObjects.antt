@@ -3,10 +3,10 @@ use Rattle.std.proofs.Common.{◌≡◌, ◌≢◌, ℕ, zero, suc, ◌+◌, ◌
 use Rattle.std.specs.Prelude.{option_and_then}
 use Rattle.std.proofs.lemmas.Option.{slice_get_within}
 use Rattle.bk_meaning.specs.Values.{Cell as Cell_of, holds, places}
-use Rattle.bk_meaning.specs.Memory.{Object, living, dead, Memory, cells_of, cells_at, made, dead_from}
+use Rattle.bk_meaning.specs.Memory.{Object, living, Memory, cells_of, cells_at, made, dead_from}
 use Rattle.bk_ocode.specs.Cells.{Content, Variable, Cell, Held, content_of}
 use Rattle.bk_ocode.specs.Cells as ocode
-use Rattle.bk_simulation.proofs.ListPlaces.{get_first, get_new, get_last}
+use Rattle.bk_simulation.proofs.ListPlaces.{get_first, get_last}
 use Rattle.bk_simulation.proofs.Memory.{Like, like_refl, like_on, BaseOf, size_in, Alive, IsCell, Store, limit, Grown, Moved, get_at, alive_within, one_base, Codes, StandsCell, Fits, based, stands_grown, fits_more, fits_less}
 
 -- no living object has this word

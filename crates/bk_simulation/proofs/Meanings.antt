@@ -5,7 +5,7 @@ use Rattle.bk_tree.specs.Tree as t
 use Rattle.bk_tree.specs.Tree.{Action}
 use Rattle.bk_meaning.specs.Lasting.{Program}
 use Rattle.bk_meaning.specs.Seeking.{Sought, Mode, forwards, seeking}
-use Rattle.bk_meaning.specs.World.{World, Exit, Outcome, going}
+use Rattle.bk_meaning.specs.World.{World, Exit, going}
 use Rattle.bk_meaning.specs.Program.{means, no_turns, no_turn_for}
 use Rattle.bk_meaning.proofs.MeaningTies.{only_grows}
 use Rattle.bk_simulation.proofs.Laid.{Setting, IsAct, Entered}

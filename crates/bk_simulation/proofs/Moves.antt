@@ -1,24 +1,18 @@
 -- Moves: a step, and the state as which the one that it comes to goes on. What each statement moves to.
-use Rattle.std.proofs.Common.{◌≡◌, ℕ, suc, ◌+◌, ◌-◌, ◌==◌, nat_lt, ◌^◌, Bool, true, false, List, [], ◌∷◌, length, Some, None, ℤ, not, take, drop, slice_get, if◌then◌else◌, refl, ap, ◌∙◌}
+use Rattle.std.proofs.Common.{◌≡◌, ℕ, suc, ◌+◌, ◌-◌, ◌==◌, nat_lt, ◌^◌, Bool, true, false, List, ◌∷◌, length, Some, None, take, drop, slice_get, if◌then◌else◌, refl, ap, ◌∙◌}
 use Rattle.std.specs.Option.{option_map_or}
-use Rattle.bk_base.specs.Word.{word_of, word_sum, word_negation, word_not, truth, byte_distance}
-use Rattle.bk_ocode.specs.Cells.{Content, Unset, Word, Variable, Temporary, Held, content_of, kind_of, write, below, settle}
+use Rattle.bk_ocode.specs.Cells.{Unset, Word, Temporary, Held, write, below}
 use Rattle.bk_ocode.specs.Depth.{depth_behind}
 use Rattle.bk_ocode.specs.Section.{AreFaultless}
 use Rattle.bk_ocode.specs.OcodeState.{Placed, Routine, Inside, Behind, At, State, Goes}
-use Rattle.bk_ocode.specs.Access.{variable_at, byte_at, word_with_byte_at}
-use Rattle.bk_ocode.specs.OcodeStep.{slot, named_place, has_word, dyadic_word, from_label, case_label, can_be_called}
+use Rattle.bk_ocode.specs.OcodeStep.{slot, can_be_called}
 use Rattle.bk_ocode.specs.OcodeRun.{Program, in_hand, resumed_in, program_step}
-use Rattle.bk_ocode.specs.declared.stmt.Variable.{Variable as Named}
-use Rattle.bk_ocode.specs.declared.stmt.Monadic.TheVariants.{Contents, Negate, Not}
-use Rattle.bk_ocode.specs.declared.stmt.Dyadic.{Dyadic as DyadicOperator}
-use Rattle.bk_ocode.specs.declared.stmt.Case.{Case}
 use Rattle.bk_ocode.specs.declared.stmt.Stmt.{Stmt}
-use Rattle.bk_ocode.specs.declared.stmt.Stmt.TheVariants.{Number, True, False, Query, Load, Address, Text, Monadic, Dyadic, LoadByte, Assign, AssignAt, AssignByte, Jump, JumpIf, Label, GiveResult, TakeResult, Stack, Store, Entry, Save, CallFunction, CallRoutine, ReturnItem, Return, Switch}
+use Rattle.bk_ocode.specs.declared.stmt.Stmt.TheVariants.{Label, Entry, CallFunction, CallRoutine, ReturnItem, Return}
 use Rattle.bk_ocode.specs.WellPlaced.{IsWellPlaced}
 use Rattle.bk_simulation.proofs.Settled.{settled, settled_from}
 pub use Rattle.bk_simulation.proofs.StatementSteps.{Moves, number_moves, true_moves, false_moves, query_moves, load_moves, address_moves, text_moves, contents_moves, negate_moves, not_moves, dyadic_moves, load_byte_moves, assign_moves, assign_at_moves, assign_byte_moves, jump_moves, taken_moves, passed_moves, switch_moves, give_result_moves, take_result_moves, stack_moves, store_moves, save_moves, entry_moves}
-use Rattle.bk_simulation.proofs.StatementSteps.{pushed, entering, returning, label_step, call_function_step, call_routine_step, return_item_step, return_step}
+use Rattle.bk_simulation.proofs.StatementSteps.{entering, returning, label_step, call_function_step, call_routine_step, return_item_step, return_step}
 use Rattle.bk_simulation.proofs.PlacedRests.{label_settled, entry_settled, function_settled, routine_settled}
 
 -- at a routine of the library a state goes on as itself

@@ -1,5 +1,5 @@
 -- Names that come into scope: one more, and the labels of a scope.
-use Rattle.std.proofs.Common.{◌≡◌, ℕ, ◌+◌, Bool, true, false, ◌||◌, cond, List, [], ◌∷◌, ◌++◌, Option, Some, None, refl, sym, ap, ◌∙◌, subst}
+use Rattle.std.proofs.Common.{◌≡◌, ℕ, ◌+◌, Bool, true, false, ◌||◌, cond, List, [], ◌∷◌, ◌++◌, Option, Some, refl, sym, ap, ◌∙◌, subst}
 use Rattle.std.specs.Str.{bytes_eq}
 use Rattle.std.proofs.lemmas.Slice.Eq.{bytes_eq-Decides}
 use Rattle.bk_tree.specs.Tree as t
@@ -11,7 +11,7 @@ use Rattle.bk_scope.specs.Entering.{labels_of, labels_of_each}
 use Rattle.bk_scope.specs.Scoping.{labels_in_scope}
 use Rattle.bk_trans.specs.Naming.{meant}
 use Rattle.bk_trans.specs.Scheme.{variable}
-use Rattle.bk_meaning.specs.Environment.{Environment, Sense, constant, cell, label, foreign, sense_in, bind, bind_each, labelled}
+use Rattle.bk_meaning.specs.Environment.{Environment, Sense, constant, cell, label, sense_in, bind, bind_each, labelled}
 use Rattle.bk_meaning.specs.Seeking.{the_label, stands_in, stands_in_one}
 use Rattle.bk_trans.specs.declared.around.Around.{Around}
 use Rattle.bk_simulation.proofs.Laid.{Exits, Scene, owning}

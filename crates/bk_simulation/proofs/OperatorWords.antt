@@ -12,7 +12,7 @@ use Rattle.bk_tree.specs.declared.tree.Operator.TheVariants as o
 use Rattle.bk_tree.specs.declared.tree.Prefix.TheVariants as q
 use Rattle.bk_meaning.specs.Values.{Value, number, address, procedure, routine, unset, Cell as Cell_of}
 use Rattle.bk_meaning.specs.Memory.{cells_at, lives}
-use Rattle.bk_meaning.specs.World.{World, Outcome, gives, leaves, ends, undefined, going, divide_by_zero, given, either}
+use Rattle.bk_meaning.specs.World.{World, Outcome, gives, ends, undefined, divide_by_zero, given, either}
 use Rattle.bk_meaning.specs.Operators.{sum, difference, lies_within, within, truth_of_value, equals_zero, equal, ordered, on_numbers, truth_number, operate, operate_prefix}
 use Rattle.bk_ocode.specs.Cells.{Content, Word, Cell}
 use Rattle.bk_ocode.specs.OcodeStep.{quotient, dyadic_word}
@@ -20,7 +20,6 @@ use Rattle.bk_ocode.specs.declared.stmt.Dyadic.{Dyadic}
 use Rattle.bk_ocode.specs.declared.stmt.Dyadic.TheVariants as d
 use Rattle.bk_simulation.proofs.Memory.{BaseOf, Alive, Codes, Stands, Fits, one_base}
 use Rattle.bk_simulation.proofs.MadeObjects.{alive_from}
-use Rattle.bk_simulation.proofs.CellBytes.{word_number}
 
 -- the operator of OCODE for each but `!` and `%`
 abbrev pub dyadic_of : Operator → Option Dyadic

@@ -17,7 +17,7 @@ use Rattle.bk_ocode.specs.declared.stmt.Stmt.TheVariants.{Monadic, Dyadic, LoadB
 use Rattle.bk_trans.specs.Scheme.{infix_code}
 use Rattle.bk_meaning.specs.Values.{Value, number}
 use Rattle.bk_meaning.specs.Memory.{read, read_byte}
-use Rattle.bk_meaning.specs.World.{World, Outcome, gives, leaves, ends, undefined, going, given, with}
+use Rattle.bk_meaning.specs.World.{World, Outcome, gives, ends, undefined, given, with}
 use Rattle.bk_meaning.specs.Operators.{sum, operate, operate_prefix}
 use Rattle.bk_meaning.specs.Parts.{fetch}
 use Rattle.bk_meaning.specs.Expressions.{combined}

@@ -1,5 +1,5 @@
 -- Commands in order, and what seeking finds in them.
-use Rattle.std.proofs.Common.{◌≡◌, ◌+◌, ◌*◌, Bool, true, false, ◌||◌, cond, List, [], refl, sym, ap, ◌∙◌, subst, arith}
+use Rattle.std.proofs.Common.{◌≡◌, Bool, true, false, ◌||◌, cond, List, refl, sym, ap, ◌∙◌, subst, arith}
 use Rattle.bk_ocode.specs.declared.stmt.Stmt.{Stmt}
 use Rattle.bk_tree.specs.Tree as t
 use Rattle.bk_tree.specs.Tree.{Action, Actions}

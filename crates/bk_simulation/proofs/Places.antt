@@ -9,7 +9,7 @@ use Rattle.bk_ocode.specs.declared.stmt.Stmt.TheVariants.{Address, Dyadic, Assig
 use Rattle.bk_tree.specs.Tree.{Expression}
 use Rattle.bk_meaning.specs.Values.{Value, address}
 use Rattle.bk_meaning.specs.Operators.{sum}
-use Rattle.bk_meaning.specs.Environment.{Sense, constant, cell, label, foreign, sense_of, past}
+use Rattle.bk_meaning.specs.Environment.{Sense, constant, cell, sense_of, past}
 use Rattle.bk_meaning.specs.World.{World, Outcome, gives, given, with}
 use Rattle.bk_meaning.specs.Growing.{history}
 use Rattle.bk_meaning.specs.Parts.{Meanings, Target, at, byte_at, address_named}
@@ -18,9 +18,9 @@ use Rattle.bk_simulation.proofs.Moves.{address_moves}
 use Rattle.bk_simulation.proofs.OperatorWords.{sum_applied}
 use Rattle.bk_simulation.proofs.Sizes.{turns_of}
 use Rattle.bk_simulation.proofs.Laid.{Setting, named_word, IsValue}
-use Rattle.bk_simulation.proofs.Frame.{Sit, store, start, NameAt, Ready, Account, Ran, Has, Out, went}
+use Rattle.bk_simulation.proofs.Frame.{Sit, start, NameAt, Ready, Account, Ran, Has, Out, went}
 use Rattle.bk_simulation.proofs.Compose.{stay, arrived_more}
-use Rattle.bk_simulation.proofs.Simulates.{Simulates, for_value, HasAddress, Destined, word, through, byte}
+use Rattle.bk_simulation.proofs.Simulates.{Simulates, HasAddress, Destined, word, through, byte}
 use Rattle.bk_simulation.proofs.Leaves.{pushes_item, named_at}
 use Rattle.bk_simulation.proofs.Operands.{one_run, Two, for_two, two_run}
 use Rattle.bk_simulation.proofs.Operators.{dyadic_topped}

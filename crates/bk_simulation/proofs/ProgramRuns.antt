@@ -5,7 +5,7 @@ use Rattle.bk_base.specs.declared.limit.TheConstants.{FRAME_WORDS}
 use Rattle.bk_ocode.specs.Cells.{Temporary, Cell, Held, write}
 use Rattle.bk_ocode.specs.Depth.{next_depth}
 use Rattle.bk_ocode.specs.StmtRange.{InRange}
-use Rattle.bk_ocode.specs.OcodeState.{Placement, Placed, Routine, Control, Inside, Behind, At, State, Next, Goes, Ends, Wild}
+use Rattle.bk_ocode.specs.OcodeState.{Placement, Placed, Routine, Control, Inside, Behind, At, State, Next, Goes}
 use Rattle.bk_ocode.specs.OcodeRun.{Rest, rest_of, or_rest, rests, rests_of, in_hand, resumed, resumed_by, resumed_in, find_rest, label_rest, Program, program_step, run, then_run}
 use Rattle.bk_ocode.specs.declared.stmt.Stmt.{Stmt}
 use Rattle.bk_ocode.specs.declared.stmt.Stmt.TheVariants.{Entry, Label, CallFunction, CallRoutine}

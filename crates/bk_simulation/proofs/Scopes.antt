@@ -11,14 +11,14 @@ use Rattle.bk_meaning.specs.Seeking.{Sought, the_label, Mode, seeking, stands_in
 use Rattle.bk_meaning.specs.World.{World, Exit, goto, leaves, either}
 use Rattle.bk_meaning.specs.Growing.{history}
 use Rattle.bk_meaning.specs.Parts.{Meanings}
-use Rattle.bk_meaning.specs.Scopes.{in_order, landing, scope_of}
+use Rattle.bk_meaning.specs.Scopes.{landing, scope_of}
 use Rattle.bk_meaning.proofs.After.{Adds, adds, stays, either_after}
 use Rattle.bk_simulation.proofs.Sizes.{turns_through}
 use Rattle.bk_simulation.proofs.Sought.{label_stands_one}
 use Rattle.bk_simulation.proofs.Laid.{Setting, Scene, owning, goal_named, IsLabelHere, IsScopeAt, EnteredAny}
 use Rattle.bk_simulation.proofs.Frame.{Sit, start, Ready, Account, went, each_way_ran, ArrivedAt, GoesTo, Leads, Out, next, ready_in, ready_next}
 use Rattle.bk_simulation.proofs.Compose.{comes_to}
-use Rattle.bk_simulation.proofs.Simulates.{Simulates, for_scope, Did, RanDid}
+use Rattle.bk_simulation.proofs.Simulates.{Simulates, for_scope, RanDid}
 use Rattle.bk_simulation.proofs.ControlSteps.{caught_at}
 use Rattle.bk_simulation.proofs.Orders.{by_test, order_run}
 use Rattle.bk_simulation.proofs.NamesBound.{scope_named, not_owned}

@@ -12,7 +12,7 @@ use Rattle.bk_ocode.specs.SectionData.{entry_setting, stmt_globals, globals_of}
 use Rattle.bk_ocode.specs.ProgramStart.{all_globals}
 use Rattle.bk_ocode.specs.declared.stmt.GlobalEntry.{GlobalEntry}
 use Rattle.bk_ocode.specs.declared.stmt.Stmt.{Stmt}
-use Rattle.bk_ocode.specs.declared.stmt.Stmt.TheVariants.{Number, True, False, Query, Load, Address, Text, Monadic, Dyadic, LoadByte, Assign, AssignAt, AssignByte, Jump, JumpIf, Label, GiveResult, TakeResult, Stack, Store, Entry, Save, CallFunction, CallRoutine, ReturnItem, Return, EndProcedure, Switch, Finish, DataLabel, DataNumber, DataAddress, Globals}
+use Rattle.bk_ocode.specs.declared.stmt.Stmt.TheVariants.{Number, Globals}
 use Rattle.bk_trans.specs.Naming.{named_tree}
 use Rattle.bk_trans.specs.Parts.{Part, target_of, parts_of_declarations}
 use Rattle.bk_trans.specs.Scheme.{procedure_code, data_code, entries_of, scheme}

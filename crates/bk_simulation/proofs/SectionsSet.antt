@@ -1,6 +1,6 @@
 -- The globals that sections set are those that their procedures set in the meaning.
 use Rattle.std.proofs.lemmas.List.{map-append}
-use Rattle.std.proofs.Common.{◌≡◌, ℕ, suc, ◌+◌, List, [], ◌∷◌, ◌++◌, map, Option, Some, None, refl, sym, ap, ap₂, ◌∙◌}
+use Rattle.std.proofs.Common.{◌≡◌, ℕ, suc, ◌+◌, List, [], ◌∷◌, ◌++◌, map, Option, Some, refl, sym, ap, ap₂, ◌∙◌}
 use Rattle.bk_tree.specs.Tree.{Declarations}
 use Rattle.bk_scope.specs.declared.bound.Bound.{Bound}
 use Rattle.bk_scope.specs.declared.bound.Bound.TheVariants as b
@@ -11,7 +11,7 @@ use Rattle.bk_ocode.specs.declared.stmt.GlobalEntry.{GlobalEntry}
 use Rattle.bk_trans.specs.Naming.{named_tree}
 use Rattle.bk_trans.specs.Scheme.{entry_of, entries_of}
 use Rattle.bk_meaning.specs.Environment.{objects_of_declarations}
-use Rattle.bk_meaning.specs.Lasting.{Lasting, global_vector, words, code, of_declarations}
+use Rattle.bk_meaning.specs.Lasting.{Lasting, words, code, of_declarations}
 use Rattle.bk_simulation.proofs.Sought.{with_names}
 use Rattle.bk_simulation.specs.Placement.{StandFor}
 use Rattle.bk_simulation.proofs.Memory.{Codes}

@@ -4,7 +4,7 @@ use Rattle.std.specs.Option.{option_map_or}
 use Rattle.bk_base.specs.declared.run_end.End.TheVariants.{Status}
 use Rattle.bk_ocode.specs.OcodeState.{Routine, Placed, Control, Inside, Behind, At, State, Goes, Ends, Wild}
 use Rattle.bk_ocode.specs.OcodeStep.{step}
-use Rattle.bk_ocode.specs.OcodeRun.{Rest, Program, resumed, resumed_by, resumed_in, find_rest, label_rest, rests_of, at_number, program_step, program_step_from, run, then_run}
+use Rattle.bk_ocode.specs.OcodeRun.{Rest, Program, resumed, resumed_by, resumed_in, find_rest, label_rest, rests_of, at_number, program_step, program_step_from, run}
 pub use Rattle.bk_simulation.specs.GoingOn.{settled, settled_from}
 
 abbrev IsInside : Control → Type 0

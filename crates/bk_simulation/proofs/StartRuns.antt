@@ -18,7 +18,7 @@ use Rattle.bk_meaning.specs.World.{World, making, forgetting, calling, status}
 use Rattle.bk_meaning.specs.Environment.{Environment}
 use Rattle.bk_meaning.specs.Lasting.{Procedure}
 use Rattle.bk_meaning.specs.Parts.{Meanings}
-use Rattle.bk_meaning.specs.Calls.{formal_cells, bind_formals, run_body, enter}
+use Rattle.bk_meaning.specs.Calls.{formal_cells, bind_formals, enter}
 use Rattle.bk_ocode.proofs.Chosen.{settle-kept}
 use Rattle.bk_simulation.specs.GoingOn.{settled, settled_from}
 use Rattle.bk_simulation.proofs.Moves.{Moves, entry_moves, save_moves}

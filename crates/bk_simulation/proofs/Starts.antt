@@ -1,5 +1,5 @@
 -- The values with which variables begin are pushed one above another; a VEC's words are an object below its address.
-use Rattle.std.proofs.Common.{◌≡◌, ◌≢◌, ℕ, zero, suc, ◌+◌, ◌-◌, ◌<◌, ◌≤◌, ◌%◌, ◌^◌, List, [], ◌∷◌, ◌++◌, length, Option, Some, None, refl, sym, ap, ◌∙◌, subst, arith, ⊎_elim, inl, inr, slice_get}
+use Rattle.std.proofs.Common.{◌≡◌, ◌≢◌, ℕ, zero, suc, ◌+◌, ◌-◌, ◌<◌, ◌≤◌, ◌%◌, ◌^◌, List, [], ◌∷◌, ◌++◌, length, Option, Some, None, refl, sym, ap, ◌∙◌, subst, arith, ⊎_elim, slice_get}
 use Rattle.std.specs.Prelude.{replicate}
 use Rattle.bk_base.specs.declared.limit.TheConstants.{FRAME_WORDS}
 use Rattle.bk_tree.specs.Tree as t
@@ -11,7 +11,7 @@ use Rattle.bk_ocode.specs.declared.stmt.Variable.TheVariants.{Local}
 use Rattle.bk_ocode.specs.declared.stmt.Stmt.{Stmt}
 use Rattle.bk_ocode.specs.declared.stmt.Stmt.TheVariants.{Stack, Address}
 use Rattle.bk_meaning.specs.Values.{Value, address, unset, Cell as Cell_of, holds}
-use Rattle.bk_meaning.specs.World.{World, Exit, Outcome, gives, leaves, ends, undefined, going, turn, turn_of, making}
+use Rattle.bk_meaning.specs.World.{World, making}
 use Rattle.bk_meaning.specs.Environment.{Environment, past, constant_in}
 use Rattle.bk_meaning.specs.Growing.{history, After, Throughout}
 use Rattle.bk_meaning.specs.Parts.{Meanings}
@@ -24,8 +24,8 @@ use Rattle.bk_simulation.proofs.MadeObjects.{IsFree, make, lying, Since, since_r
 use Rattle.bk_simulation.proofs.WrittenCells.{written, untouched, below_at, below_like, settle_like, settle_at}
 use Rattle.bk_simulation.proofs.Sizes.{turns_of, turns_started}
 use Rattle.bk_simulation.proofs.Laid.{Setting, Scene, NamedIn, AreStarts, KeepsLabels}
-use Rattle.bk_simulation.proofs.Frame.{Sit, state, Ready, Account, further, Ran, went, with_ran, ran_same, Arrived, OpenArrived, store_at, Has, named_grown, named_again}
-use Rattle.bk_simulation.proofs.Simulates.{Simulates, for_value}
+use Rattle.bk_simulation.proofs.Frame.{Sit, state, Ready, Account, further, Ran, went, with_ran, ran_same, Arrived, OpenArrived, store_at, named_grown, named_again}
+use Rattle.bk_simulation.proofs.Simulates.{Simulates}
 use Rattle.bk_simulation.proofs.Operands.{value_run}
 use Rattle.bk_simulation.proofs.Compose.{with_objects, arrived_more, turn_there, OpenExited, open_sit, open_ready, open_ticked, open_wider, open_step, open_on, ran_open}
 

@@ -9,10 +9,10 @@ use Rattle.bk_ocode.specs.declared.stmt.Stmt.TheVariants.{Label, Switch}
 use Rattle.bk_trans.specs.Scheme.{goal}
 use Rattle.bk_tree.specs.Tree as t
 use Rattle.bk_tree.specs.Tree.{Expression, Action}
-use Rattle.bk_meaning.specs.Values.{Value, number, address, procedure, routine, unset}
+use Rattle.bk_meaning.specs.Values.{Value, number}
 use Rattle.bk_meaning.specs.Environment.{Environment, past}
 use Rattle.bk_meaning.specs.Seeking.{Sought, the_case, the_default, Mode, seeking, is_label, stands_in}
-use Rattle.bk_meaning.specs.World.{World, Exit, break, loop, endcase, goto, result, return, leaves, done, with, either}
+use Rattle.bk_meaning.specs.World.{World, Exit, endcase, done, with, either}
 use Rattle.bk_meaning.specs.Growing.{history}
 use Rattle.bk_meaning.specs.Parts.{Meanings}
 use Rattle.bk_meaning.specs.Commands.{case_exit, ended_case, choose_case}
@@ -24,7 +24,7 @@ use Rattle.bk_simulation.proofs.Sought.{same_stands}
 use Rattle.bk_simulation.proofs.Laid.{Setting, in_switch, LabelAt, IsAct, Entered}
 use Rattle.bk_simulation.proofs.Frame.{Sit, start, Ready, Account, paying, went, each_way_ran, so, ArrivedAt, there, Has, Out, next, ready_next}
 use Rattle.bk_simulation.proofs.Compose.{links_below, arrived_paid, comes_to, outside}
-use Rattle.bk_simulation.proofs.Simulates.{Simulates, for_value, for_act, Did, RanDid}
+use Rattle.bk_simulation.proofs.Simulates.{Simulates, for_value, for_act, RanDid}
 use Rattle.bk_simulation.proofs.Operands.{one_run}
 use Rattle.bk_simulation.proofs.ControlSteps.{landed_on, caught_at}
 use Rattle.bk_simulation.proofs.Orders.{by_test, not_true, ready_at}

@@ -8,7 +8,7 @@ use Rattle.bk_ocode.specs.OcodeState.{State, Goes}
 use Rattle.bk_ocode.specs.OcodeRun.{Program, run}
 use Rattle.bk_ocode.specs.ProgramStart.{first_state}
 use Rattle.bk_meaning.specs.Values.{Value, procedure}
-use Rattle.bk_meaning.specs.World.{World, Outcome, gives, leaves, ends, undefined, going, each_way, calling, calls_back}
+use Rattle.bk_meaning.specs.World.{World, Outcome, gives, undefined, going, each_way, calling, calls_back}
 use Rattle.bk_meaning.specs.Lasting as lasting
 use Rattle.bk_meaning.specs.Lasting.{Procedure, program_of, procedure_of, first_memory}
 use Rattle.bk_meaning.specs.Parts.{Meanings}

@@ -7,9 +7,9 @@ use Rattle.bk_ocode.specs.declared.stmt.Stmt.{Stmt}
 use Rattle.bk_ocode.specs.declared.stmt.Stmt.TheVariants.{Label, TakeResult}
 use Rattle.bk_trans.specs.declared.around.Around.{Around}
 use Rattle.bk_tree.specs.Tree.{Action}
-use Rattle.bk_meaning.specs.Values.{Value, unset}
+use Rattle.bk_meaning.specs.Values.{Value}
 use Rattle.bk_meaning.specs.Seeking.{forwards}
-use Rattle.bk_meaning.specs.World.{World, Exit, break, loop, endcase, goto, result, return}
+use Rattle.bk_meaning.specs.World.{World, Exit, break, goto, result, return}
 use Rattle.bk_meaning.specs.Growing.{history}
 use Rattle.bk_meaning.specs.Parts.{Meanings}
 use Rattle.bk_meaning.specs.Scopes.{scope_of, alone}
@@ -20,7 +20,7 @@ use Rattle.bk_simulation.proofs.Sizes.{turns_in}
 use Rattle.bk_simulation.proofs.Laid.{Setting, Exits, in_valof, LabelAt, IsScope}
 use Rattle.bk_simulation.proofs.Frame.{Sit, start, Ready, Account, Ran, went, each_way_ran, so, ArrivedAt, Has, Handed, Out, ready_in}
 use Rattle.bk_simulation.proofs.Compose.{outside}
-use Rattle.bk_simulation.proofs.Simulates.{Simulates, for_scope, Did}
+use Rattle.bk_simulation.proofs.Simulates.{Simulates, for_scope}
 use Rattle.bk_simulation.proofs.ControlSteps.{label_on, taken_on}
 use Rattle.bk_simulation.proofs.Orders.{not_true}
 use Rattle.bk_simulation.proofs.NamesBound.{around_named}
