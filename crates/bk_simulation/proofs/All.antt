@@ -1,5 +1,5 @@
 -- All forms: what holds of the meanings of the nodes inside holds of each node.
-use Rattle.std.proofs.Common.{◌≡◌, ℕ, suc, ◌+◌, ◌-◌, ◌*◌, ◌≤◌, Bool, true, false, List, ◌∷◌, ◌++◌, Some, refl, sym, ◌∙◌, subst, arith}
+use Rattle.std.proofs.Common.{◌≡◌, ℕ, suc, ◌+◌, ◌-◌, ◌*◌, ◌≤◌, Bool, true, false, List, ◌∷◌, ◌++◌, Some, refl, sym, ◌∙◌, subst, arith, zero}
 use Rattle.bk_ocode.specs.OcodeState.{State}
 use Rattle.bk_ocode.specs.OcodeStep.{from_label}
 use Rattle.bk_ocode.specs.declared.stmt.Monadic.TheVariants as w
@@ -21,7 +21,7 @@ use Rattle.bk_meaning.specs.Operators.{sum, on_numbers, operate_prefix}
 use Rattle.bk_meaning.specs.Environment.{Environment, constant_in, past, past_each, labelled}
 use Rattle.bk_meaning.specs.Lasting.{Program}
 use Rattle.bk_meaning.specs.Seeking.{Sought, the_label, the_case, the_default, Mode, forwards, seeking}
-use Rattle.bk_meaning.specs.World.{World, ends, divide_by_zero, done, given, with, turn}
+use Rattle.bk_meaning.specs.World.{World, ends, divide_by_zero, done, given, with, turn, Exit, going}
 use Rattle.bk_meaning.specs.Growing.{history, After, Throughout}
 use Rattle.bk_meaning.specs.Parts.{Meanings, Target, at, byte_at, fetch}
 use Rattle.bk_meaning.specs.Scopes.{in_order, scope_of, landing, alone}
@@ -29,34 +29,27 @@ use Rattle.bk_meaning.specs.Expressions.{value_of, truth_of, target_of, address_
 use Rattle.bk_meaning.specs.Commands.{assigned, act_of}
 use Rattle.bk_meaning.specs.Calls.{applied}
 use Rattle.bk_meaning.specs.Loops.{rounds_of}
-use Rattle.bk_meaning.specs.Program.{means_with, turn_for}
+use Rattle.bk_meaning.specs.Program.{means_with, turn_for, means, no_turns, no_turn_for}
 use Rattle.bk_meaning.proofs.After.{Adds, adds, stays, given_after, with_after, each_way_after, either_after}
-use Rattle.bk_simulation.proofs.Sizes.{turns_of, turns_among, turns_in, turns_through}
+use Rattle.bk_simulation.proofs.Weights.{turns_of, turns_among, turns_in, turns_through}
 use Rattle.bk_simulation.proofs.Laid.{Setting, Stretch, ByTurns, AreFrom, AreStores, AreValues, AreActs, CallAt, count, IsValue, IsJump, IsAddress, IsStore, IsAct, IsLoop, Entered, EnteredAny, EnteredBody}
 use Rattle.bk_simulation.proofs.Frame.{Sit, start, Ready, Account, here, Ran, went, with_ran, turn_behind, ArrivedAt, Has, Out}
 use Rattle.bk_simulation.proofs.Compose.{stay, arrived_more, ran_first, ran_more}
-use Rattle.bk_simulation.proofs.Simulates.{Simulates, for_value, for_truth, for_act, for_rounds, HasTruth, HasAddress, Destined, word, through, byte, Did, RanDid}
-use Rattle.bk_simulation.proofs.Leaves.{RanValue, name_runs, number_runs, truth_runs, query_runs, text_runs, table_runs}
-use Rattle.bk_simulation.proofs.Operands.{for_two, one_run, two_run}
-use Rattle.bk_simulation.proofs.Operators.{contents_run, minus_run, not_run, plus_run, combined_run}
+use Rattle.bk_simulation.proofs.Simulates.{Simulates, for_value, for_truth, for_act, for_rounds, HasTruth, HasAddress, Destined, word, through, byte, Did, RanDid, for_scope, for_counts}
+use Rattle.bk_simulation.proofs.Operators.{contents_run, minus_run, not_run, plus_run, combined_run, for_two, one_run, two_run, RanValue, name_runs, number_runs, truth_runs, query_runs, text_runs, table_runs}
 use Rattle.bk_simulation.proofs.ControlSteps.{tested}
 use Rattle.bk_simulation.proofs.Conditions.{denied_run, straight_run, over_run, choice_run}
-use Rattle.bk_simulation.proofs.Places.{RanAddress, RanStore, address_runs, word_runs, contents_address, contents_store, subscript_address, subscript_store, byte_store}
 use Rattle.bk_simulation.proofs.Orders.{not_true, order_adds, order_run}
-use Rattle.bk_simulation.proofs.Scopes.{landing_adds, scope_runs}
-use Rattle.bk_simulation.proofs.Valofs.{valof_run}
-use Rattle.bk_simulation.proofs.Commands.{goto_runs, break_runs, loop_runs, endcase_runs, return_runs, finish_runs, resultis_runs, place_run}
-use Rattle.bk_simulation.proofs.Branches.{when_run, when_sought, test_run, test_sought}
-use Rattle.bk_simulation.proofs.Loops.{while_rounds, repeat_rounds, repeat_while_rounds}
-use Rattle.bk_simulation.proofs.LoopCommands.{while_run, while_sought, repeat_run, repeat_while_run}
+use Rattle.bk_simulation.proofs.Scopes.{landing_adds, scope_runs, valof_run}
+use Rattle.bk_simulation.proofs.Branches.{when_run, when_sought, test_run, test_sought, goto_runs, break_runs, loop_runs, endcase_runs, return_runs, finish_runs, resultis_runs, place_run}
+use Rattle.bk_simulation.proofs.Loops.{while_rounds, repeat_rounds, repeat_while_rounds, while_run, while_sought, repeat_run, repeat_while_run}
 use Rattle.bk_simulation.proofs.Switches.{switch_run, switch_sought}
-use Rattle.bk_simulation.proofs.Assignments.{assigned_run}
-use Rattle.bk_simulation.proofs.ForRounds.{for_rounds_run, rounds_adds}
-use Rattle.bk_simulation.proofs.ForLoops.{for_run}
-use Rattle.bk_simulation.proofs.Procedures.{Procedures}
-use Rattle.bk_simulation.proofs.Calls.{AloneRuns}
+use Rattle.bk_simulation.proofs.Assignments.{assigned_run, RanAddress, RanStore, address_runs, word_runs, contents_address, contents_store, subscript_address, subscript_store, byte_store}
+use Rattle.bk_simulation.proofs.ForLoops.{for_run, for_rounds_run, rounds_adds}
+use Rattle.bk_simulation.proofs.Calls.{AloneRuns, Procedures}
 use Rattle.bk_simulation.proofs.Applied.{KnowsLibrary, AloneAdds, apply_runs}
 use Rattle.bk_simulation.proofs.Blocks.{block_runs}
+use Rattle.bk_meaning.proofs.MeaningTies.{only_grows}
 
 -- what scopes add
 pub scope_after : (g : Setting) (m : Meanings) → Simulates g m → (cs : Actions) (mode : Mode) (env : Environment) (v : World) → After (history v) (scope_of m cs mode env v)
@@ -324,3 +317,33 @@ module _ (g : Setting) (p : Program) (m : Meanings) (procs : Procedures g p) (kn
     scope = λ cs mode z j there c rest e v a en r. scope_runs g m sim cs mode z j there c rest e v a en r;
     for_rounds = λ x ob u i d z body rest v ed lf lim r. for_rounds_run g m sim x ob u i d z body rest v ed lf lim r;
   }
+
+-- ---- With any number of turns each form does what it means.
+
+-- where no turn is left a run goes on from where it is
+still_going : {A : Type 0} {K : A → World → Type 0} {X : Exit → World → Type 0} (g : Setting) (B : Account) (z : Sit) (c : List Stmt) (w : World) → B.least ≤ w.turns → Ran g (start z c w) B K X (going w)
+still_going g B z c w le = went (record { to = start z c w; steps = 0; paid = 0; comes = here _; most = omega arith; least = omega arith; wrote = refl; left = refl })
+
+act_without : (g : Setting) (x : Action) (mode : Mode) (z : Sit) (there : Sought → List Stmt) (c rest e : List Stmt) (w : World) → IsAct g z.scene z.depth z.env x there c rest → Entered mode z.env x there c e → Ready g z w
+    → RanDid g (start z e w) (for_act x w) z rest w (no_turn_for x w)
+act_without g t.empty forwards z there c rest e w a en r = went (subst (λ code. Did g (start z e w) (for_act t.empty w) z code w w) (en ∙ a) (stay g (for_act t.empty w) z e w (omega arith) (omega arith) r))
+act_without g t.empty (seeking s) z there c rest e w a en r = not_true en.0
+act_without g x mode z there c rest e w a en r = still_going g (for_act x w) z e w (omega arith)
+
+without_turns : (g : Setting) (p : Program) → Simulates g no_turns
+without_turns g p = record {
+  grows = only_grows p zero;
+  value = λ e z c rest w a r. still_going g (for_value e w) z c w (omega arith);
+  truth = λ e z u n to c rest w a f r. still_going g (for_truth e w) z c w (omega arith);
+  address = λ e z c rest w a r. still_going g (for_value e w) z c w (omega arith);
+  destination = λ e z c rest w a r. still_going g (for_value e w) z c w (omega arith);
+  act = act_without g;
+  rounds = λ x mode z there body rest e w a en r. still_going g (for_rounds x w) z e w (omega arith);
+  scope = λ cs mode z j there c rest e w a en r. still_going g (for_scope cs w) z e w (omega arith);
+  for_rounds = λ x ob u k d z body rest w ed lf lim r. still_going g (for_counts x w) z body w (omega arith);
+}
+
+-- ALL FORMS, WITH ANY NUMBER OF TURNS
+pub simulates : (g : Setting) (p : Program) → Procedures g p → KnowsLibrary g → (n : ℕ) → Simulates g (means p n)
+simulates g p procs known zero = without_turns g p
+simulates g p procs known (suc n) = simulates_next g p (means p n) procs known (simulates g p procs known n) (only_grows p (suc n))

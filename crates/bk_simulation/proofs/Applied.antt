@@ -24,23 +24,19 @@ use Rattle.bk_meaning.specs.Calls.{enter, called, call, applied}
 use Rattle.bk_meaning.proofs.After.{adds, stays, earlier, with_after, each_way_after, closing_after, calling_on}
 use Rattle.bk_meaning.proofs.Ties.{ties_add}
 use Rattle.bk_meaning.proofs.NodeTies.{library_ties}
-use Rattle.bk_simulation.proofs.Moves.{Moves, stack_moves, function_of_routine_moves, call_of_routine_moves}
-use Rattle.bk_simulation.proofs.StatementSteps.{entering}
+use Rattle.bk_simulation.proofs.Moves.{Moves, stack_moves, function_of_routine_moves, call_of_routine_moves, entering}
 use Rattle.bk_simulation.proofs.FramesKept.{frames_called}
 use Rattle.bk_simulation.proofs.Memory.{Like, like_on, Stands, moved_on, fits_above, moved_above, stands_grown}
 use Rattle.bk_simulation.proofs.WrittenCells.{below_like, settle_like}
 use Rattle.bk_simulation.proofs.BytesKept.{moves_bytes}
-use Rattle.bk_simulation.proofs.Sizes.{turns_of, turns_among}
+use Rattle.bk_simulation.proofs.Weights.{turns_of, turns_among}
 use Rattle.bk_simulation.proofs.Laid.{Setting, CallAt, IsValue, AreValues, count}
 use Rattle.bk_simulation.proofs.Frame.{Sit, start, FewFrames, Ready, Account, one, comes_on, Ran, went, each_way_ran, with_ran, ArrivedAt, there, Out, next, ready_next}
 use Rattle.bk_simulation.proofs.Compose.{stay, roomy, arrived_step, arrived_on, ran_on}
 use Rattle.bk_simulation.proofs.Simulates.{Simulates, for_values}
-use Rattle.bk_simulation.proofs.Operands.{value_run}
-use Rattle.bk_simulation.proofs.Arguments.{Listed, values_run}
-use Rattle.bk_simulation.proofs.Procedures.{Procedures}
-use Rattle.bk_simulation.proofs.Returns.{call_stmt, Gave}
+use Rattle.bk_simulation.proofs.Operators.{value_run}
 use Rattle.bk_simulation.proofs.NewFrames.{called_cells, called_like, called_argument, called_frame, called_back, called_links}
-use Rattle.bk_simulation.proofs.Calls.{Calling, AnyExit, AloneRuns, body_after}
+use Rattle.bk_simulation.proofs.Calls.{Calling, AnyExit, AloneRuns, body_after, Procedures, call_stmt, Gave, Listed, values_run}
 use Rattle.bk_simulation.proofs.EnteredCalls.{call_run, entered_runs}
 use Rattle.bk_simulation.proofs.LibraryCalls.{named_there, library_runs}
 

@@ -13,8 +13,7 @@ use Rattle.bk_ocode.specs.declared.stmt.Stmt.{Stmt}
 use Rattle.bk_ocode.specs.declared.stmt.Stmt.TheVariants.{Load, Monadic, Dyadic, LoadByte, Assign, AssignAt, AssignByte, Jump, JumpIf, Label, GiveResult, TakeResult, Stack, Store, Entry, Save, CallFunction, CallRoutine, ReturnItem, Return, EndProcedure, Switch, Finish, DataLabel, DataNumber, DataAddress, Globals}
 use Rattle.bk_ocode.proofs.Chosen.{on_number-holds, on_some-holds, if-holds}
 use Rattle.bk_simulation.proofs.CellBytes.{IsByte, AreBytes, byte_is, four_are_bytes}
-use Rattle.bk_simulation.proofs.Settled.{settled, settled_from}
-use Rattle.bk_simulation.proofs.Moves.{Moves}
+use Rattle.bk_simulation.proofs.Moves.{Moves, settled, settled_from}
 
 abbrev pub InHand : Option Content → Type 0
 InHand None = Unit {0}

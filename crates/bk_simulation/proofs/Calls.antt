@@ -1,31 +1,218 @@
 -- Calls of procedures: their frame, their body, and back.
-use Rattle.std.proofs.Common.{◌≡◌, ℕ, ◌+◌, ◌-◌, ◌*◌, ◌≤◌, Bool, List, ◌∷◌, length, Option, Some, None, refl, ap, arith, slice_get}
-use Rattle.bk_tree.specs.Tree.{Action}
-use Rattle.bk_ocode.specs.Cells.{Content, Word, content_of}
-use Rattle.bk_ocode.specs.OcodeState.{Inside, State, Goes}
+use Rattle.std.proofs.Common.{◌≡◌, ℕ, ◌+◌, ◌-◌, ◌*◌, ◌≤◌, Bool, List, ◌∷◌, length, Option, Some, None, refl, ap, arith, slice_get, suc, ◌<◌, ◌^◌, ◌≢◌, true, false, sym, ◌∙◌, subst, zero}
+use Rattle.bk_tree.specs.Tree.{Action, Expression, Expressions}
+use Rattle.bk_ocode.specs.Cells.{Content, Word, content_of, Temporary, Link, Cell, Held, write, below}
+use Rattle.bk_ocode.specs.OcodeState.{Inside, State, Goes, At}
 use Rattle.bk_ocode.specs.OcodeRun.{in_hand, program_step}
 use Rattle.bk_ocode.specs.declared.stmt.Stmt.{Stmt}
-use Rattle.bk_ocode.specs.declared.stmt.Stmt.TheVariants.{ReturnItem, Return}
+use Rattle.bk_ocode.specs.declared.stmt.Stmt.TheVariants.{ReturnItem, Return, Entry, Save, CallFunction, CallRoutine}
 use Rattle.bk_meaning.specs.Values.{Value, unset}
-use Rattle.bk_meaning.specs.World.{World, Exit, return, Outcome, gives, each_way, closing, forgetting, Done}
-use Rattle.bk_meaning.specs.Environment.{Environment}
-use Rattle.bk_meaning.specs.Lasting.{Body, command, expression}
+use Rattle.bk_meaning.specs.World.{World, Exit, return, Outcome, gives, each_way, closing, forgetting, Done, calls_back}
+use Rattle.bk_meaning.specs.Environment.{Environment, past}
+use Rattle.bk_meaning.specs.Lasting.{Body, command, expression, Procedure, Program, procedure_of}
 use Rattle.bk_meaning.specs.Growing.{history, After, Throughout}
 use Rattle.bk_meaning.specs.Seeking.{forwards}
 use Rattle.bk_meaning.specs.Scopes.{scope_of, alone}
 use Rattle.bk_meaning.specs.Parts.{Meanings}
-use Rattle.bk_meaning.specs.Calls.{return_exit, run_body}
-use Rattle.bk_meaning.proofs.After.{adds, stays, each_way_after}
-use Rattle.bk_simulation.proofs.StatementSteps.{returning, return_item_step, return_step}
-use Rattle.bk_simulation.proofs.Memory.{Stands}
-use Rattle.bk_simulation.proofs.Sizes.{turns_of, turns_through}
-use Rattle.bk_simulation.proofs.Laid.{Setting, Scene, IsAlone}
-use Rattle.bk_simulation.proofs.Frame.{Sit, start, Ready, Account, Ran, went, each_way_ran, so, ArrivedAt, there, Has, Out}
-use Rattle.bk_simulation.proofs.Compose.{arrived_more}
-use Rattle.bk_simulation.proofs.Simulates.{Simulates, for_scope, RanDid}
-use Rattle.bk_simulation.proofs.Operands.{value_run}
-use Rattle.bk_simulation.proofs.Procedures.{IsBody}
-use Rattle.bk_simulation.proofs.Returns.{call_stmt}
+use Rattle.bk_meaning.specs.Calls.{return_exit, run_body, bind_formals, values}
+use Rattle.bk_meaning.proofs.After.{adds, stays, each_way_after, with_after}
+use Rattle.bk_simulation.proofs.Memory.{Stands, BaseOf, Grown, Like, like_refl, Moved, Fits, moved_on, fits_above, moved_above}
+use Rattle.bk_simulation.proofs.Weights.{turns_of, turns_through}
+use Rattle.bk_simulation.proofs.Laid.{Setting, Scene, IsAlone, IsValue, CallAt, AreValues, count}
+use Rattle.bk_simulation.proofs.Frame.{Sit, start, Ready, Account, Ran, went, each_way_ran, so, ArrivedAt, there, Has, Out, NamedIn, store, state, FewFrames, Comes, comes_on, one, with_ran, next, ready_next}
+use Rattle.bk_simulation.proofs.Compose.{arrived_more, roomy, links_below, stay, arrived_on, ran_on, ran_more, above}
+use Rattle.bk_simulation.proofs.Simulates.{Simulates, for_scope, RanDid, for_value, for_values}
+use Rattle.bk_simulation.proofs.Operators.{value_run}
+use Rattle.std.specs.Prelude.{drop}
+use Rattle.bk_base.specs.declared.limit.TheConstants.{FRAME_WORDS}
+use Rattle.bk_simulation.proofs.Moves.{Moves, back_in_function, back_in_routine, returning, return_item_step, return_step}
+use Rattle.bk_simulation.proofs.FramesKept.{LinksFrom, links_kept}
+use Rattle.bk_simulation.proofs.WrittenCells.{written, untouched, below_at, below_like}
+use Rattle.bk_simulation.proofs.BytesKept.{HasBytes, moves_bytes}
+use Rattle.bk_tree.specs.Tree as t
+
+-- ---- The arguments of a call, from left to right.
+
+abbrev Grow : Meanings → Type 0
+Grow m = Throughout (λ A w u. After (history w) u) m
+
+-- what several values leave only adds to the history
+pub values_after : (m : Meanings) → Throughout (λ A w u. After (history w) u) m → (es : Expressions) (env : Environment) (w : World) → After (history w) (values m es env w)
+values_after m grows t.none env w = stays (history w)
+values_after m grows (t.more e es) env w =
+    with_after _ (m.value e env w) _ (grows.value e env w) (λ v. adds _ (λ w1. with_after _ (values m es (past e env) w1) _ (values_after m grows es (past e env) w1) (λ vs. adds _ (λ w2. stays (history w2)))))
+
+-- they stand one above another
+pub record Listed (g : Setting) (s : State) (B : Account) (z : Sit) (c : List Stmt) (es : Expressions) (w : World) (vs : List Value) (w1 : World) : Type 0 where
+  pub depth1 : ℕ
+  pub is_depth : depth1 ≡ z.depth + count es
+  pub long : length vs ≡ count es
+  pub arr : ArrivedAt g s B z c depth1 w w1
+  pub each : (i : ℕ) (v : Value) → slice_get vs i ≡ Some v → Stands g.codes arr.bases1 v (content_of (arr.cells1 (z.frame + z.depth + i)))
+
+-- the first of them, and those after it
+first_of_list : (g : Setting) (s : State) (A N B : Account) (z : Sit) (c c2 : List Stmt) (e : Expression) (es : Expressions) (w w1 w2 : World) (v : Value) (vs : List Value)
+    → A.most + N.most ≤ B.most + 16 * w1.turns → B.least ≤ N.least + (A.least - w1.turns) → Ready g z w → (a : Has g s A z c (z.depth + 1) w v w1)
+    → Listed g (start (next g s A z c (z.depth + 1) w w1 (past e z.env) (z.depth + 1) a.arr) c w1) N (next g s A z c (z.depth + 1) w w1 (past e z.env) (z.depth + 1) a.arr) c2 es w1 vs w2
+    → Listed g s B z c2 (t.more e es) w (v ∷ vs) w2
+first_of_list g s A N B z c c2 e es w w1 w2 v vs le1 le2 r a l = record {
+  depth1 = l.depth1;
+  is_depth = (let x = l.is_depth in omega arith);
+  long = (let x = l.long in omega arith);
+  arr = arrived_on le1 le2 r (omega arith) a.arr l.arr;
+  each = at_index;
+}
+  where
+    at_index : (i : ℕ) (u : Value) → slice_get (v ∷ vs) i ≡ Some u → Stands g.codes l.arr.bases1 u (content_of (l.arr.cells1 (z.frame + z.depth + i)))
+    at_index zero u h =
+        let e0 : z.frame + z.depth ≡ z.frame + z.depth + 0 = omega arith in
+        let eu : v ≡ u = cc in
+        subst (λ x. Stands g.codes l.arr.bases1 u (content_of (l.arr.cells1 x))) e0
+        (subst (λ x. Stands g.codes l.arr.bases1 x (content_of (l.arr.cells1 (z.frame + z.depth)))) eu (above a l.arr))
+    at_index (suc i) u h =
+        let e0 : z.frame + (z.depth + 1) + i ≡ z.frame + z.depth + suc i = omega arith in
+        subst (λ x. Stands g.codes l.arr.bases1 u (content_of (l.arr.cells1 x))) e0 (l.each i u h)
+
+pub values_run : (g : Setting) (m : Meanings) → Simulates g m → (es : Expressions) (z : Sit) (c rest : List Stmt) (w : World) → AreValues g z.scene z.depth z.env es c rest → Ready g z w
+    → Ran g (start z c w) (for_values es w) (Listed g (start z c w) (for_values es w) z rest es w) (Out g (start z c w) (for_values es w) z w) (values m es z.env w)
+values_run g m sim t.none z c rest w laid r =
+    went (record {
+      depth1 = z.depth;
+      is_depth = omega arith;
+      long = refl;
+      arr = subst (λ x. ArrivedAt g (start z c w) (for_values t.none w) z x z.depth w w) laid (stay g (for_values t.none w) z c w (omega arith) (omega arith) r);
+      each = λ i v h. absurd (let q : None ≡ Some v = h in cc);
+    })
+values_run g m sim (t.more e es) z c rest w laid r =
+    let s = start z c w in
+    let A = for_value e w in
+    let B = for_values (t.more e es) w in
+    let c1 = laid.0 in
+    with_ran (λ v. adds _ (λ w1. with_after _ _ _ (values_after m sim.grows es (past e z.env) w1) (λ vs. adds _ (λ w2. stays (history w2)))))
+    (ran_more (omega arith) (omega arith) (value_run g m sim e z c c1 w laid.1 r)) (λ v w1 va.
+    with_ran {K = λ vs w2. Listed g s B z rest (t.more e es) w (v ∷ vs) w2} (λ vs. adds _ (λ w2. stays (history w2)))
+    (ran_on (omega arith) (omega arith) r (omega arith) va.arr (λ vs w2 l. first_of_list g s A (for_values es w1) B z c1 rest e es w w1 w2 v vs (omega arith) (omega arith) r va l)
+    (values_run g m sim es (next g s A z c1 (z.depth + 1) w w1 (past e z.env) (z.depth + 1) va.arr) c1 rest w1 laid.2 (ready_next (past e z.env) (z.depth + 1) va.arr refl (omega arith) r)))
+    (λ vs w2 l. went l))
+
+-- ---- Calls and returns: the frame of a call, and back behind it.
+
+-- FNAP calls for a value, RTAP does not
+abbrev pub call_stmt : Bool → ℕ → Stmt
+call_stmt true n = CallFunction n
+call_stmt false n = CallRoutine n
+
+-- what a call comes to
+abbrev pub Gave : Bool → Setting → State → Account → Sit → List Stmt → World → Value → World → Type 0
+Gave true g s B z rest w v w3 = Has g s B z rest (z.depth + 1) w v w3
+Gave false g s B z rest w v w3 = ArrivedAt g s B z rest z.depth w w3
+
+-- The run has come to a step back from the frame at the situation's top, with this result.
+pub record Back (g : Setting) (s : State) (A : Account) (z : Sit) (w : World) (back : ℕ) (result : Option Content) (w3 : World) : Type 0 where
+  pub from : State
+  pub steps : ℕ
+  pub paid : ℕ
+  pub comes : Comes g steps paid s from
+  pub has : HasBytes from
+  pub most : steps + 16 * w3.turns ≤ A.most
+  pub least : A.least ≤ w3.turns + paid
+  pub bases1 : List ℕ
+  pub cells1 : ℕ → Cell
+  pub written1 : List ℕ
+  pub returns : program_step g.program from ≡ Goes (record {
+    control = At back;
+    cells = below (z.frame + z.depth) cells1;
+    frame = z.frame;
+    hand = result;
+    input = w3.input;
+    output = w3.output;
+    written = written1;
+  })
+  pub fits : Fits g.codes (record { bases = bases1; mem = w3.memory; cells = cells1 }) (z.frame + z.depth)
+  pub moved : Moved (z.frame + z.depth) (store z w) (record { bases = bases1; mem = w3.memory; cells = cells1 })
+
+-- cells at the caller's
+item_like : (top : ℕ) (f : ℕ → Cell) (c : Cell) (a : ℕ) → a < top → Like (write (below top f) top c a) (f a)
+item_like top f c a lt = let ne : a ≢ top = omega arith in like_refl _ _ (untouched (below top f) top c a ne ∙ below_at top f a lt)
+
+-- links there are those of before
+links_of : (top frame : ℕ) (old mid new : ℕ → Cell) → suc frame < top → ((a w : ℕ) → a < top → mid a ≡ Held Link (Word w) → old a ≡ Held Link (Word w)) → ((a : ℕ) → a < top → Like (new a) (mid a))
+    → LinksFrom (suc frame) old new
+links_of top frame old mid new lt links like x w le e = links x w (omega arith) ((like x (omega arith)).link w e)
+
+abbrev came_back : {g : Setting} {s : State} {A B : Account} {z : Sit} {c : List Stmt} {d : ℕ} {w w3 : World} {back : ℕ} {result : Option Content} (n : ℕ) → A.most + 1 ≤ B.most → B.least ≤ A.least → n ≡ w.calls → Ready g z w
+    → (q : Back g s A z w back result w3) (new : ℕ → Cell) (written2 : List ℕ) → ((a : ℕ) → a < z.frame + z.depth → Like (new a) (q.cells1 a)) → Moves g.program q.from (state z.scene.own d c new z.frame None written2 w3) → ArrivedAt g s B z c d w (calls_back n w3)
+came_back {g} {z = z} {w = w} n le le' en r q new written2 like m =
+    let top = z.frame + z.depth in
+    let mq = q.most in
+    let lq = q.least in
+    let few : FewFrames g new z.frame w.calls = links_kept g.program g.first FRAME_WORDS z.cells new z.frame w.calls (links_of top z.frame z.cells q.cells1 new (links_below r) q.moved.links like) r.frames in
+    record {
+      steps = q.steps + 1;
+      paid = q.paid + g.pay;
+      bases1 = q.bases1;
+      cells1 = new;
+      hand1 = None;
+      written1 = written2;
+      comes = comes_on g _ _ _ _ _ _ _ q.comes (one g _ _ m (roomy g new z.frame w.calls few r.room));
+      most = omega arith;
+      least = omega arith;
+      calls_are = en;
+      frames = few;
+      room = r.room;
+      bytes = moves_bytes g.program q.from _ m q.has;
+      fits = fits_above g.codes _ top new q.fits like;
+      moved = moved_on g.codes top top top _ _ _ r.fits (omega arith) q.moved (moved_above _ top new like);
+    }
+
+pub returned_in : (of : Bool) (g : Setting) (s : State) (A B : Account) (z : Sit) (rest : List Stmt) (w w3 : World) (n : ℕ) (v : Value) (result : Option Content) → A.most + 1 ≤ B.most → B.least ≤ A.least → n ≡ w.calls
+    → Ready g z w → CallAt g z.scene (call_stmt of z.depth) rest → (q : Back g s A z w (z.scene.own.places.call (length rest)) result w3) → Stands g.codes q.bases1 v (in_hand result)
+    → Gave of g s B z rest w v (calls_back n w3)
+returned_in true g s A B z rest w w3 n v result le le' en r call q st =
+    let top = z.frame + z.depth in
+    let new : ℕ → Cell = write (below top q.cells1) top (Held Temporary (in_hand result)) in
+    let t : State = record { control = At (z.scene.own.places.call (length rest)); cells = below top q.cells1; frame = z.frame; hand = result; input = w3.input; output = w3.output; written = q.written1 } in
+    let m : Moves g.program q.from (state z.scene.own (z.depth + 1) rest new z.frame None (top ∷ q.written1) w3) =
+    subst (λ c. Moves g.program q.from (state z.scene.own (z.depth + 1) c new z.frame None (top ∷ q.written1) w3)) call.behind
+    (back_in_function g.program q.from z.scene.own rest g.first FRAME_WORDS g.well z.scene.section z.scene.own call.is_own t call.place z.depth call.at (ap (λ c. At (z.scene.own.places.call (length c))) (sym call.behind)) q.returns) in
+    record {
+      arr = came_back n le le' en r q new (top ∷ q.written1) (λ a lt. item_like top q.cells1 (Held Temporary (in_hand result)) a lt) m;
+      stands = subst (λ y. Stands g.codes q.bases1 v (content_of y)) (sym (written (below top q.cells1) top (Held Temporary (in_hand result)))) st;
+    }
+returned_in false g s A B z rest w w3 n v result le le' en r call q st =
+    let top = z.frame + z.depth in
+    let t : State = record { control = At (z.scene.own.places.call (length rest)); cells = below top q.cells1; frame = z.frame; hand = result; input = w3.input; output = w3.output; written = q.written1 } in
+    came_back n le le' en r q (below top q.cells1) q.written1 (λ a lt. below_like top q.cells1 a lt)
+    (subst (λ c. Moves g.program q.from (state z.scene.own z.depth c (below top q.cells1) z.frame None q.written1 w3)) call.behind
+    (back_in_routine g.program q.from z.scene.own rest g.first FRAME_WORDS g.well z.scene.section z.scene.own call.is_own t call.place z.depth call.at (ap (λ c. At (z.scene.own.places.call (length c))) (sym call.behind)) q.returns))
+
+-- ---- Where the procedures of a program are laid.
+
+-- the code of a body, with its return
+abbrev pub IsBody : Setting → Scene → ℕ → Environment → Body → List Stmt → Type 0
+IsBody g sc d env (command x) c = (j : ℕ) × (r : List Stmt) × IsAlone g sc d env x j c (Return ∷ r)
+IsBody g sc d env (expression e) c = (r : List Stmt) × IsValue g sc d env e c (ReturnItem ∷ r) × (turns_of e ≤ g.pay)
+
+-- Procedure n: its ENTRY and SAVE, its body behind them, and what the names there mean in a run, where its formals are an object that begins
+-- behind the links of its frame.
+pub record IsProcedure (g : Setting) (n : ℕ) (f : Procedure) : Type 0 where
+  pub scene : Scene
+  pub is_own : slice_get g.program.sections scene.section ≡ Some scene.own
+  pub place : ℕ
+  pub label : ℕ
+  pub name : List ℕ
+  pub at : slice_get scene.own.stmts place ≡ Some (Entry label name)
+  pub body : List Stmt
+  pub behind : drop (suc place) scene.own.stmts ≡ Save (length f.formals + 2) ∷ body
+  pub word : g.codes.procedure n ≡ scene.own.places.label label
+  pub few : length f.formals + 2 ≤ FRAME_WORDS
+  pub laid : (object : ℕ) → 0 < object → IsBody g scene (length f.formals + 2) (bind_formals object 0 f.formals f.env) f.body body
+  pub names : (object frame : ℕ) (bases : List ℕ) → Grown g.lasting bases → BaseOf bases object (frame + 2) → frame ≤ 2 ^ 31 - 65536
+      → NamedIn scene (bind_formals object 0 f.formals f.env) bases frame
+
+-- all of a program
+pub record Procedures (g : Setting) (p : Program) : Type 0 where
+  pub each : (n : ℕ) (f : Procedure) → procedure_of p n ≡ Some f → IsProcedure g n f
 
 -- Where a procedure is to be called: its word is on top of the arguments.
 pub record Calling (of : Bool) (g : Setting) (s : State) (A : Account) (z : Sit) (rest : List Stmt) (w : World) (vs : List Value) (v : Value) (w1 : World) : Type 0 where

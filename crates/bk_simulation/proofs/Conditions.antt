@@ -11,13 +11,13 @@ use Rattle.bk_meaning.specs.Growing.{history}
 use Rattle.bk_meaning.specs.Parts.{Meanings}
 use Rattle.bk_meaning.proofs.After.{Adds, adds, stays, either_after}
 use Rattle.bk_simulation.proofs.Memory.{Store}
-use Rattle.bk_simulation.proofs.Sizes.{turns_of}
+use Rattle.bk_simulation.proofs.Weights.{turns_of}
 use Rattle.bk_simulation.proofs.Laid.{Setting, Scene, LabelAt, IsValue, IsJump}
 use Rattle.bk_simulation.proofs.Frame.{Sit, start, Ready, Account, Ran, went, with_ran, Arrived, ArrivedAt, Has, Out, next, ready_next}
 use Rattle.bk_simulation.proofs.Compose.{arrived_more, arrived_on, ran_on, ran_first, ran_more}
 use Rattle.bk_simulation.proofs.Simulates.{Simulates, for_truth, where_to, HasTruth}
 use Rattle.bk_simulation.proofs.ControlSteps.{label_on, landed_on, result_on, taken_on}
-use Rattle.bk_simulation.proofs.Operands.{value_run}
+use Rattle.bk_simulation.proofs.Operators.{value_run}
 
 -- the other truth leads to the other place
 pub where_not : (u t : Bool) (to rest : List Stmt) → where_to (not u) t to rest ≡ where_to u (not t) to rest

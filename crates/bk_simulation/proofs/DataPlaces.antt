@@ -7,7 +7,7 @@ use Rattle.bk_ocode.specs.SectionData.{Datum, is_in, datum_of, data_of}
 use Rattle.bk_ocode.specs.ProgramStart.{all_data}
 use Rattle.bk_ocode.specs.WellPlaced.{IsWellPlaced}
 use Rattle.bk_ocode.specs.declared.stmt.Stmt.{Stmt}
-use Rattle.bk_simulation.proofs.ListPlaces.{get_first}
+use Rattle.bk_simulation.proofs.MadeObjects.{get_first}
 use Rattle.bk_simulation.proofs.HeldData.{get_behind}
 use Rattle.bk_simulation.proofs.LastingFits.{in_datum}
 

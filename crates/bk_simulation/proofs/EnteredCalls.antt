@@ -22,21 +22,17 @@ use Rattle.bk_meaning.specs.Parts.{Meanings}
 use Rattle.bk_meaning.specs.Calls.{formal_cells, bind_formals, run_body, enter}
 use Rattle.bk_meaning.proofs.After.{closing_after}
 use Rattle.bk_simulation.specs.Simulation.{IsCallAt}
-use Rattle.bk_simulation.proofs.Moves.{Moves, function_moves, routine_moves, entry_moves, save_moves}
-use Rattle.bk_simulation.proofs.StatementSteps.{entering}
+use Rattle.bk_simulation.proofs.Moves.{Moves, function_moves, routine_moves, entry_moves, save_moves, entering}
 use Rattle.bk_simulation.proofs.FramesKept.{links_kept, frames_called}
 use Rattle.bk_simulation.proofs.Memory.{BaseOf, Alive, Like, Stands, StandsCell, Store, Grown, Fits, moved_on, fits_above, moved_above, fits_more}
-use Rattle.bk_simulation.proofs.ListPlaces.{get_new}
-use Rattle.bk_simulation.proofs.MadeObjects.{make, grown_made, lying, Since, since_on, since_made, since_moved, closed_moved, closed_fits, make_fits, IsFree}
+use Rattle.bk_simulation.proofs.MadeObjects.{make, grown_made, lying, Since, since_on, since_made, since_moved, closed_moved, closed_fits, make_fits, IsFree, get_new}
 use Rattle.bk_simulation.proofs.BytesKept.{HasBytes, moves_bytes}
 use Rattle.bk_simulation.proofs.Laid.{Setting, Scene, CallAt}
 use Rattle.bk_simulation.proofs.Frame.{Sit, state, FewFrames, Ready, Account, Comes, here, go_on, comes_on, falls_on, Ran, ran_from, there}
 use Rattle.bk_simulation.proofs.Compose.{roomy}
 use Rattle.bk_simulation.proofs.Simulates.{Simulates}
-use Rattle.bk_simulation.proofs.Procedures.{IsProcedure}
-use Rattle.bk_simulation.proofs.Returns.{call_stmt, Gave, returned_in}
 use Rattle.bk_simulation.proofs.NewFrames.{called_cells, saved_cells, called_argument, called_frame, called_back, called_links, saved_links, saved_same, saved_like, saved_formal, formals_long, formal_is}
-use Rattle.bk_simulation.proofs.Calls.{Calling, AnyExit, Yielded, AloneRuns, for_body, body_small, body_runs, body_after, closing_ran}
+use Rattle.bk_simulation.proofs.Calls.{Calling, AnyExit, Yielded, AloneRuns, for_body, body_small, body_runs, body_after, closing_ran, IsProcedure, call_stmt, Gave, returned_in}
 use Rattle.bk_simulation.proofs.Orders.{by_test}
 
 pub call_too_high : (n : ℕ) (of : Bool) (rest : List Stmt) → IsCallAt n (call_stmt of n ∷ rest)

@@ -1,5 +1,5 @@
 -- FOR as a command.
-use Rattle.std.proofs.Common.{◌≡◌, ◌≢◌, ℕ, zero, suc, ◌+◌, ◌-◌, ◌*◌, ◌<◌, ◌≤◌, ◌^◌, Bool, true, false, cond, List, [], ◌∷◌, ◌++◌, length, Some, None, refl, sym, ap, ◌∙◌, subst, arith, ⊎_elim}
+use Rattle.std.proofs.Common.{◌≡◌, ◌≢◌, ℕ, zero, suc, ◌+◌, ◌-◌, ◌*◌, ◌<◌, ◌≤◌, ◌^◌, Bool, true, false, cond, List, [], ◌∷◌, ◌++◌, length, Some, None, refl, sym, ap, ◌∙◌, subst, arith, ⊎_elim, not, nat_lt, pos, int_lt, Option}
 use Rattle.std.specs.Prelude.{slice_get}
 use Rattle.std.specs.Str.{bytes_eq}
 use Rattle.std.proofs.lemmas.Slice.Eq.{bytes_eq-Decides}
@@ -7,39 +7,279 @@ use Rattle.bk_base.specs.declared.limit.TheConstants.{FRAME_WORDS}
 use Rattle.bk_scope.specs.declared.bound.Bound.{Bound}
 use Rattle.bk_scope.specs.declared.bound.Bound.TheVariants as b
 use Rattle.bk_scope.specs.Scope.{Binding, bound_in, bind as bind_bound}
-use Rattle.bk_ocode.specs.Cells.{Content, Cell, Variable, Held, content_of, below, settle}
+use Rattle.bk_ocode.specs.Cells.{Content, Cell, Variable, Held, content_of, below, settle, Word}
 use Rattle.bk_ocode.specs.OcodeState.{State}
 use Rattle.bk_ocode.specs.declared.stmt.Variable.TheVariants.{Local}
 use Rattle.bk_ocode.specs.declared.stmt.Stmt.{Stmt}
-use Rattle.bk_ocode.specs.declared.stmt.Stmt.TheVariants.{Label, Load, JumpIf, Jump, Store as Store_stmt, Stack}
-use Rattle.bk_trans.specs.Scheme.{variable, test_of_step}
+use Rattle.bk_ocode.specs.declared.stmt.Stmt.TheVariants.{Label, Load, JumpIf, Jump, Store as Store_stmt, Stack, Number, Dyadic, Assign}
+use Rattle.bk_trans.specs.Scheme.{variable, test_of_step, goal}
 use Rattle.bk_trans.specs.Naming.{meant}
 use Rattle.bk_tree.specs.Tree as t
 use Rattle.bk_tree.specs.Tree.{Mention, Expression, Expressions, Action}
-use Rattle.bk_meaning.specs.Values.{Value, Cell as Cell_of, holds}
+use Rattle.bk_meaning.specs.Values.{Value, Cell as Cell_of, holds, number, address}
 use Rattle.bk_meaning.specs.Environment.{Environment, cell, bind, past}
-use Rattle.bk_meaning.specs.World.{World, Outcome, Done, done, given, with, either, making}
+use Rattle.bk_meaning.specs.World.{World, Outcome, Done, done, given, with, either, making, Exit, break, loop, turn}
 use Rattle.bk_meaning.specs.Growing.{history}
-use Rattle.bk_meaning.specs.Parts.{Meanings}
-use Rattle.bk_meaning.specs.Seeking.{Sought}
-use Rattle.bk_meaning.specs.Loops.{step_of, for_test, for_rounds_of, for_loop}
-use Rattle.bk_meaning.proofs.After.{Adds, adds, with_after, given_after, closing_after}
-use Rattle.bk_simulation.proofs.Moves.{store_moves, jump_moves}
+use Rattle.bk_meaning.specs.Parts.{Meanings, fetch, store as put_value, at}
+use Rattle.bk_meaning.specs.Seeking.{Sought, forwards}
+use Rattle.bk_meaning.specs.Loops.{step_of, for_test, for_rounds_of, for_loop, round_exit, for_step, relation}
+use Rattle.bk_meaning.proofs.After.{Adds, adds, with_after, given_after, closing_after, stays, each_way_after, turn_after, changes_after, either_after}
+use Rattle.bk_simulation.proofs.Moves.{store_moves, jump_moves, number_moves, load_moves}
 use Rattle.bk_simulation.proofs.Memory.{BaseOf, Alive, Like, like_on, Stands, StandsCell, Store, Moved, moved_on, fits_above, fits_more, stands_grown}
-use Rattle.bk_simulation.proofs.ListPlaces.{get_new}
-use Rattle.bk_simulation.proofs.WrittenCells.{below_at, below_like, settle_like, settle_at}
-use Rattle.bk_simulation.proofs.MadeObjects.{make, make_fits, Since, since_refl, since_on, since_cells, since_made, grown_made, lying}
-use Rattle.bk_simulation.proofs.Sizes.{turns_of, turns_in}
+use Rattle.bk_simulation.proofs.WrittenCells.{below_at, below_like, settle_like, settle_at, read_here}
+use Rattle.bk_simulation.proofs.MadeObjects.{make, make_fits, Since, since_refl, since_on, since_cells, since_made, grown_made, lying, since_moved, get_new}
+use Rattle.bk_simulation.proofs.Weights.{turns_of, turns_in, turns_through}
 use Rattle.bk_simulation.proofs.Laid.{Setting, Scene, in_loop, place_of, IsWord, IsAlone, KeepsLabels, IsLabelHere, LabelAt, IsAct, IsForLoop, behind_body, NameAt}
-use Rattle.bk_simulation.proofs.Frame.{some_objects, Sit, store, state, start, named_grown, Ready, Account, further, went, ran_from, ArrivedAt, OpenArrived, there, next, ready_next}
-use Rattle.bk_simulation.proofs.Compose.{begun, stay, links_like, with_objects, stepped, behind, arrived_more, comes_to, open_sit, open_ready, open_step, open_on, ran_open, closed_ran}
-use Rattle.bk_simulation.proofs.Simulates.{Simulates, Limit, where_to, RanDid}
-use Rattle.bk_simulation.proofs.Operands.{for_two, two_run}
-use Rattle.bk_simulation.proofs.ControlSteps.{label_on, landed_on, closes}
+use Rattle.bk_simulation.proofs.Frame.{some_objects, Sit, store, state, start, named_grown, Ready, Account, further, went, ran_from, ArrivedAt, OpenArrived, there, next, ready_next, each_way_ran, with_ran, so, Out, Has}
+use Rattle.bk_simulation.proofs.Compose.{begun, stay, links_like, with_objects, stepped, behind, arrived_more, comes_to, open_sit, open_ready, open_step, open_on, ran_open, closed_ran, arrived_turn, turn_there, ran_more, outside, arrived_on, topped, above}
+use Rattle.bk_simulation.proofs.Simulates.{Simulates, Limit, where_to, RanDid, for_scope, for_counts}
+use Rattle.bk_simulation.proofs.ControlSteps.{label_on, landed_on, closes, caught_at, tested}
 use Rattle.bk_simulation.proofs.Orders.{by_test}
 use Rattle.bk_simulation.proofs.NamesBound.{bound_named}
-use Rattle.bk_simulation.proofs.ForSteps.{test_run, test_adds}
-use Rattle.bk_simulation.proofs.ForRounds.{limit_next, for_rounds_run}
+use Rattle.bk_meaning.specs.Scopes.{scope_of, alone}
+use Rattle.bk_simulation.proofs.Scopes.{scope_runs, around_ready}
+use Rattle.bk_simulation.proofs.Loops.{looping}
+use Rattle.std.proofs.lemmas.Bool.Decides.{nat_tests}
+use Rattle.std.proofs.lemmas.Int.{ints}
+use Rattle.bk_base.specs.Word.{signed, word_of}
+use Rattle.bk_tree.specs.declared.tree.Operator.TheVariants as op
+use Rattle.bk_ocode.specs.OcodeStep.{from_label}
+use Rattle.bk_ocode.specs.declared.stmt.Dyadic.TheVariants as two
+use Rattle.bk_meaning.specs.Memory as memory
+use Rattle.bk_meaning.specs.Memory.{read}
+use Rattle.bk_meaning.specs.Operators.{operate}
+use Rattle.bk_meaning.specs.Expressions.{judged}
+use Rattle.bk_simulation.proofs.OperatorWords.{operates}
+use Rattle.bk_simulation.proofs.Operators.{dyadic_run, for_two, two_run, Two, RanValue, pushes_item, same_number}
+use Rattle.bk_simulation.proofs.Assignments.{word_stored}
+
+-- ---- The rounds of a FOR.
+
+-- ---- The step and the test of a FOR.
+
+-- the limit stands at its place behind each arrival
+pub limit_here : (g : Setting) (s : State) (A : Account) (z : Sit) (c : List Stmt) (k : ℕ) (w w1 : World) (d o : ℕ) (u : Value) → z.depth ≡ d + 2 → Limit g z w d o u → (a : ArrivedAt g s A z c k w w1) → Stands g.codes a.bases1 u (content_of (a.cells1 (z.frame + (d + 1))))
+limit_here g s A z c k w w1 d o u ed l a =
+    let like = a.moved.kept.as_was (z.frame + (d + 1)) (omega arith) l.free in
+    stands_grown g.codes z.bases a.bases1 u _ a.moved.grown (subst (λ y. Stands g.codes z.bases u y) (sym like.content) l.limit)
+
+-- a slot is loaded
+slot_run : (g : Setting) (s : State) (A B : Account) (z : Sit) (q : ℕ) (rest : List Stmt) (w w1 : World) (v : Value) → A.most + 1 ≤ B.most → B.least ≤ A.least → 2 ≤ z.depth → (a : ArrivedAt g s A z (Load (Local q) ∷ rest) z.depth w w1)
+    → Stands g.codes a.bases1 v (content_of (a.cells1 (z.frame + q))) → Has g s B z rest (z.depth + 1) w v w1
+slot_run g s A B z q rest w w1 v le le' dp a st = topped _ le le' dp a st (load_moves g.program (there g s A z (Load (Local q) ∷ rest) z.depth w w1 a) z.scene.own rest z.depth (Local q) refl)
+
+variable_run : (g : Setting) (s : State) (A B : Account) (z : Sit) (d o : ℕ) (rest : List Stmt) (w w1 : World) → A.most + 1 ≤ B.most → B.least ≤ A.least → 2 ≤ z.depth → BaseOf z.bases o (z.frame + d) → ArrivedAt g s A z (Load (Local d) ∷ rest) z.depth w w1
+    → RanValue g s B z rest w (fetch (address o 0) w1)
+variable_run g s A B z d o rest w w1 le le' dp eb a = by_read (read w1.memory (address o 0)) refl
+  where
+    by_read : (y : Option Value) → read w1.memory (address o 0) ≡ y → RanValue g s B z rest w (given y w1)
+    by_read None e = went tt
+    by_read (Some v) e =
+        let f = read_here g.codes _ (z.frame + z.depth) o 0 (z.frame + d) v a.fits (a.moved.grown.each o (z.frame + d) eb) e in
+        let zero : z.frame + d + 0 ≡ z.frame + d = omega arith in
+        went (slot_run g s A B z d rest w w1 v le le' dp a (subst (λ y. Stands g.codes a.bases1 v (content_of (a.cells1 y))) zero (subst (λ y. Stands g.codes a.bases1 v y) (sym (ap content_of f.there)) f.stands)))
+
+-- a second item
+second_item : (g : Setting) (s : State) (A B : Account) (z : Sit) (i : Stmt) (rest : List Stmt) (w w1 : World) (u v : Value) → A.most + 1 ≤ B.most → B.least ≤ A.least → Ready g z w → (a : Has g s A z (i ∷ rest) (z.depth + 1) w u w1)
+    → Has g (start (next g s A z (i ∷ rest) (z.depth + 1) w w1 z.env (z.depth + 1) a.arr) (i ∷ rest) w1) (record { most = 16 * w1.turns + 1; least = w1.turns }) (next g s A z (i ∷ rest) (z.depth + 1) w w1 z.env (z.depth + 1) a.arr) rest (z.depth + 1 + 1) w1 v w1
+    → Two g s B z rest w u v w1
+second_item g s A B z i rest w w1 u v le le' r a b = let m = a.arr.most in let l = a.arr.least in record {
+  arr = arrived_on (omega arith) (omega arith) r (omega arith) a.arr b.arr;
+  first = above a b.arr;
+  second = b.stands;
+}
+
+-- the step is pushed
+step_pushed : (g : Setting) (s : State) (A B : Account) (z : Sit) (k : ℕ) (rest : List Stmt) (w w1 : World) (u : Value) → A.most + 1 ≤ B.most → B.least ≤ A.least → k < 2 ^ 32 → Ready g z w → Has g s A z (Number (signed k) ∷ rest) (z.depth + 1) w u w1
+    → Two g s B z rest w u (number k) w1
+step_pushed g s A B z k rest w w1 u le le' lk r a =
+    let z1 = next g s A z (Number (signed k) ∷ rest) (z.depth + 1) w w1 z.env (z.depth + 1) a.arr in
+    let r1 = ready_next z.env (z.depth + 1) a.arr refl (omega arith) r in
+    second_item g s A B z (Number (signed k)) rest w w1 u (number k) le le' r a
+    (pushes_item g (record { most = 16 * w1.turns + 1; least = w1.turns }) z1 (Number (signed k) ∷ rest) (Number (signed k)) rest w1 (number k) (Word (word_of (signed k))) (omega arith) (omega arith) refl r1 (ap Word (same_number k lk))
+    (number_moves g.program (start z1 (Number (signed k) ∷ rest) w1) z.scene.own rest (z.depth + 1) (signed k) refl))
+
+-- the limit is pushed
+limit_pushed : (g : Setting) (s : State) (A B : Account) (z : Sit) (d o : ℕ) (v : Value) (rest : List Stmt) (w w1 : World) (u : Value) → A.most + 1 ≤ B.most → B.least ≤ A.least → z.depth ≡ d + 2 → Limit g z w d o v → Ready g z w
+    → Has g s A z (Load (Local (d + 1)) ∷ rest) (z.depth + 1) w u w1 → Two g s B z rest w u v w1
+limit_pushed g s A B z d o v rest w w1 u le le' ed l r a =
+    let z1 = next g s A z (Load (Local (d + 1)) ∷ rest) (z.depth + 1) w w1 z.env (z.depth + 1) a.arr in
+    let r1 = ready_next z.env (z.depth + 1) a.arr refl (omega arith) r in
+    second_item g s A B z (Load (Local (d + 1))) rest w w1 u v le le' r a
+    (pushes_item g (record { most = 16 * w1.turns + 1; least = w1.turns }) z1 (Load (Local (d + 1)) ∷ rest) (Load (Local (d + 1))) rest w1 v (content_of (a.arr.cells1 (z.frame + (d + 1)))) (omega arith) (omega arith) refl r1
+    (limit_here g s A z (Load (Local (d + 1)) ∷ rest) (z.depth + 1) w w1 d o v ed l a.arr)
+    (load_moves g.program (start z1 (Load (Local (d + 1)) ∷ rest) w1) z.scene.own rest (z.depth + 1) (Local (d + 1)) refl))
+
+-- ---- the step is added to the variable
+sum_adds : (u v : Value) → Adds (operate op.Add u v)
+sum_adds u v = adds _ (λ w. given_after _ w)
+
+put_adds : (p v : Value) → Adds (put_value (at p) v)
+put_adds p v = adds _ (λ w. changes_after (memory.write w.memory p v) w)
+
+pub step_run : (g : Setting) (s : State) (A B : Account) (z : Sit) (d o k : ℕ) (rest : List Stmt) (w w1 : World) → A.most + 4 ≤ B.most → B.least ≤ A.least → k < 2 ^ 32 → BaseOf z.bases o (z.frame + d) → Ready g z w
+    → ArrivedAt g s A z (Load (Local d) ∷ Number (signed k) ∷ Dyadic two.Add ∷ Assign (Local d) ∷ rest) z.depth w w1 → RanDid g s B z rest w (for_step o k w1)
+step_run g s A B z d o k rest w w1 le le' lk eb r a =
+    let A1 : Account = record { most = A.most + 1; least = A.least } in
+    let A2 : Account = record { most = A.most + 2; least = A.least } in
+    let A3 : Account = record { most = A.most + 3; least = A.least } in
+    with_ran (λ v. adds _ (λ w2. with_after _ _ _ ((sum_adds v (number k)).at w2) (λ x. put_adds (address o 0) x)))
+    (ran_more (omega arith) (omega arith) (variable_run g s A A1 z d o (Number (signed k) ∷ Dyadic two.Add ∷ Assign (Local d) ∷ rest) w w1 (omega arith) (omega arith) r.deep eb a))
+    (λ v w2 q.
+    let t = step_pushed g s A1 A2 z k (Dyadic two.Add ∷ Assign (Local d) ∷ rest) w w2 v (omega arith) (omega arith) lk r q in
+    with_ran (λ x. put_adds (address o 0) x)
+    (ran_more (omega arith) (omega arith) (dyadic_run g s A2 A3 z two.Add (Assign (Local d) ∷ rest) w w2 v (number k) (operate op.Add v (number k) w2) (omega arith) (omega arith) r.deep t
+    (operates g.codes t.arr.bases1 t.arr.cells1 (z.frame + z.depth) w2 t.arr.fits op.Add v (number k) _ _ t.first t.second)))
+    (λ x w3 y. word_stored g s A3 B z rest w w3 (Local d) o 0 (z.frame + d) x (omega arith) (omega arith) r y.arr (y.arr.moved.grown.each o (z.frame + d) eb) (omega arith) y.stands))
+
+-- ---- the test
+-- a step below 0 counts down
+pub below_zero : (k : ℕ) → k < 2 ^ 32 → int_lt (signed k) (pos 0) ≡ not (nat_lt k (2 ^ 31))
+below_zero k lt = grind (arith, ints, nat_tests)
+
+-- the test of the scheme is the relation of the meaning
+pub same_test : (k : ℕ) → k < 2 ^ 32 → test_of_step k ≡ Dyadic (cond (nat_lt k (2 ^ 31)) two.AtMost two.AtLeast)
+same_test k lt = ap (λ (b : Bool). cond b (Dyadic two.AtLeast) (Dyadic two.AtMost)) (below_zero k lt) ∙ by_bool (nat_lt k (2 ^ 31))
+  where
+    by_bool : (b : Bool) → cond (not b) (Dyadic two.AtLeast) (Dyadic two.AtMost) ≡ Dyadic (cond b two.AtMost two.AtLeast)
+    by_bool true = refl
+    by_bool false = refl
+
+related_run : (g : Setting) (s : State) (A B : Account) (z : Sit) (b : Bool) (rest : List Stmt) (w w1 : World) (u v : Value) → A.most + 1 ≤ B.most → B.least ≤ A.least → 2 ≤ z.depth → Two g s A z (Dyadic (cond b two.AtMost two.AtLeast) ∷ rest) w u v w1
+    → RanValue g s B z rest w (operate (cond b op.AtMost op.AtLeast) u v w1)
+related_run g s A B z true rest w w1 u v le le' dp t =
+    dyadic_run g s A B z two.AtMost rest w w1 u v (operate op.AtMost u v w1) le le' dp t (operates g.codes t.arr.bases1 t.arr.cells1 (z.frame + z.depth) w1 t.arr.fits op.AtMost u v _ _ t.first t.second)
+related_run g s A B z false rest w w1 u v le le' dp t =
+    dyadic_run g s A B z two.AtLeast rest w w1 u v (operate op.AtLeast u v w1) le le' dp t (operates g.codes t.arr.bases1 t.arr.cells1 (z.frame + z.depth) w1 t.arr.fits op.AtLeast u v _ _ t.first t.second)
+
+related_adds : (b : Bool) (u v : Value) → Adds (operate (cond b op.AtMost op.AtLeast) u v)
+related_adds true u v = adds _ (λ w. given_after _ w)
+related_adds false u v = adds _ (λ w. given_after _ w)
+
+fetch_adds : (a : Value) → Adds (fetch a)
+fetch_adds a = adds _ (λ w. given_after _ w)
+
+judged_adds : (v : Value) → Adds (judged v)
+judged_adds v = adds _ (λ w. given_after _ w)
+
+either_adds : (go : World → Outcome Done) → Adds go → (b : Bool) → Adds (λ w. either b go done w)
+either_adds go ad b = adds _ (λ w. either_after b go done ad (adds _ (λ w1. stays (history w1))) w)
+
+pub test_adds : (o k : ℕ) (u : Value) (go : World → Outcome Done) → Adds go → Adds (for_test o u k go)
+test_adds o k u go ad =
+    adds (for_test o u k go) (λ w. with_after (history w) (fetch (address o 0) w) (λ v w. with (operate (relation k) v u w) (λ x w. with (judged x w) (λ b w. either b go done w))) ((fetch_adds (address o 0)).at w) (λ v. adds _ (λ w1. with_after _ _ _ ((related_adds (nat_lt k (2 ^ 31)) v u).at w1) (λ x. adds _ (λ w2. with_after _ _ _ ((judged_adds x).at w2) (λ b. either_adds go ad b))))))
+
+pub step_adds : (o k : ℕ) → Adds (for_step o k)
+step_adds o k = adds (for_step o k) (λ w. with_after (history w) (fetch (address o 0) w) (λ v w. with (operate op.Add v (number k) w) (λ x w. put_value (at (address o 0)) x w)) ((fetch_adds (address o 0)).at w) (λ v. adds _ (λ w1. with_after _ _ _ ((sum_adds v (number k)).at w1) (λ x. put_adds (address o 0) x))))
+
+-- the variable is compared with the limit
+pub test_run : (g : Setting) (s : State) (A B : Account) (z : Sit) (d o k n1 : ℕ) (u : Value) (to rest end : List Stmt) (w w1 : World) (go : World → Outcome Done) → Adds go → A.most + 4 ≤ B.most → B.least ≤ A.least → k < 2 ^ 32 → z.depth ≡ d + 2
+    → Limit g z w d o u → from_label z.scene.own.stmts n1 ≡ Some to → Ready g z w → ArrivedAt g s A z (Load (Local d) ∷ Load (Local (d + 1)) ∷ test_of_step k ∷ JumpIf true n1 ∷ rest) z.depth w w1
+    → ((b : Bool) (w2 : World) → ArrivedAt g s (record { most = A.most + 4; least = A.least }) z (where_to true b to rest) z.depth w w2 → RanDid g s B z end w (either b go done w2)) → RanDid g s B z end w (for_test o u k go w1)
+test_run g s A B z d o k n1 u to rest end w w1 go ad le le' lk ed l e r a fin =
+    let A1 : Account = record { most = A.most + 1; least = A.least } in
+    let A2 : Account = record { most = A.most + 2; least = A.least } in
+    let A3 : Account = record { most = A.most + 3; least = A.least } in
+    let A4 : Account = record { most = A.most + 4; least = A.least } in
+    let b0 = nat_lt k (2 ^ 31) in
+    let a0 = subst (λ y. ArrivedAt g s A z (Load (Local d) ∷ Load (Local (d + 1)) ∷ y ∷ JumpIf true n1 ∷ rest) z.depth w w1) (same_test k lk) a in
+    let T = Dyadic (cond b0 two.AtMost two.AtLeast) in
+    with_ran (λ v. adds _ (λ w2. with_after _ _ _ ((related_adds b0 v u).at w2) (λ x. adds _ (λ w3. with_after _ _ _ ((judged_adds x).at w3) (λ b. either_adds go ad b)))))
+    (ran_more (omega arith) (omega arith) (variable_run g s A A1 z d o (Load (Local (d + 1)) ∷ T ∷ JumpIf true n1 ∷ rest) w w1 (omega arith) (omega arith) r.deep l.base a0))
+    (λ v w2 q.
+    let t = limit_pushed g s A1 A2 z d o u (T ∷ JumpIf true n1 ∷ rest) w w2 v (omega arith) (omega arith) ed l r q in
+    with_ran (λ x. adds _ (λ w3. with_after _ _ _ ((judged_adds x).at w3) (λ b. either_adds go ad b)))
+    (ran_more (omega arith) (omega arith) (related_run g s A2 A3 z b0 (JumpIf true n1 ∷ rest) w w2 v u (omega arith) (omega arith) r.deep t))
+    (λ x w3 y.
+    with_ran (λ b. either_adds go ad b)
+    (ran_more (omega arith) (omega arith) (tested {B = A4} (omega arith) (omega arith) r e y))
+    (λ b w4 k. fin b w4 k)))
+
+-- the limit in the situation behind an arrival
+pub limit_next : (g : Setting) (s : State) (A : Account) (z : Sit) (c : List Stmt) (w w1 : World) (d o : ℕ) (u : Value) → z.depth ≡ d + 2 → Ready g z w → Limit g z w d o u → (a : ArrivedAt g s A z c z.depth w w1) → Limit g (next g s A z c z.depth w w1 z.env z.depth a) w1 d o u
+limit_next g s A z c w w1 d o u ed r l a = record {
+  base = a.moved.grown.each o (z.frame + d) l.base;
+  limit = limit_here g s A z c z.depth w w1 d o u ed l a;
+  free = (since_moved r.fits a.fits a.moved).free (z.frame + (d + 1)) (omega arith) l.free;
+}
+
+-- a further round: the LAB of the body pays, and a turn is taken
+further_count : (g : Setting) (m : Meanings) → Simulates g m → (s : State) (A B : Account) (x : Action) (o : ℕ) (u : Value) (k d : ℕ) (z : Sit) (n1 : ℕ) (body rest : List Stmt) (w w1 : World) → A.most + 1 ≤ B.most → A.most ≤ 16 * w.turns + 10
+    → 16 * w.turns + 11 ≤ B.most → B.least ≤ w.turns - suc (turns_in x) → w.turns ≤ A.least + turns_in x → suc (turns_in x) ≤ g.pay → z.depth ≡ d + 2 → IsForLoop g z.scene z.depth d k z.env x body rest → Limit g z w d o u
+    → LabelAt g z.scene z.depth n1 body → Ready g z w → ArrivedAt g s A z (Label n1 ∷ body) z.depth w w1 → RanDid g s B z rest w (turn w1 (λ w. m.for_rounds x o u k z.env w))
+further_count g m sim s A B x o u k d z n1 body rest w w1 le0 le1 le ll la lp ed lf lim ln r a =
+    let b = label_on ln a in
+    let bl = b.least in
+    turn_there _ (omega arith) (omega arith) b (λ t et.
+    let w2 : World = record w1 { turns = t } in
+    let D : Account = record { most = A.most + 1 - 16; least = A.least + g.pay - 1 } in
+    let bm = b.most in
+    let ar : ArrivedAt g s D z body z.depth w w2 = arrived_turn t et (omega arith) (omega arith) b in
+    let m0 = ar.most in
+    comes_to (omega arith) (omega arith) r (omega arith) ar
+    (sim.for_rounds x o u k d (next g s D z body z.depth w w2 z.env z.depth ar) body rest w2 ed lf (limit_next g s D z body w w2 d o u ed r lim ar) (ready_next z.env z.depth ar refl (omega arith) r)))
+
+pub for_rounds_run : (g : Setting) (m : Meanings) → Simulates g m → (x : Action) (o : ℕ) (u : Value) (k d : ℕ) (z : Sit) (body rest : List Stmt) (w : World) → z.depth ≡ d + 2 → IsForLoop g z.scene z.depth d k z.env x body rest → Limit g z w d o u
+    → Ready g z w → RanDid g (start z body w) (for_counts x w) z rest w (for_rounds_of m x o u k z.env w)
+for_rounds_run g m sim x o u k d z body rest w ed lf lim r =
+    each_way_ran (λ _. next_adds) exit_adds
+    (so (omega arith) (omega arith) (λ _ w1 q. q) (λ y w1 q. q)
+    (scope_runs g m sim (alone x) forwards (looping lf.2 lf.3 z) lf.4 lf.6.0 body (Label lf.2 ∷ behind_body d k lf.0 lf.5) body w (lf.6.1, lf.6.2, lf.6.3) refl (around_ready g (in_loop lf.2 lf.3 z.depth z.scene).around (in_loop lf.2 lf.3 z.depth z.scene).exits z w r)))
+    (λ _ w1 q. go (for_scope (alone x) w) w1 (omega arith) (omega arith) q) out
+  where
+    turn_adds : Adds (λ w. turn w (λ w. m.for_rounds x o u k z.env w))
+    turn_adds = adds _ (λ w. turn_after _ (adds _ (λ w1. sim.grows.for_rounds x o u k z.env w1)) w)
+
+    next_adds : Adds (λ w. with (for_step o k w) (λ _ w. for_test o u k (λ w. turn w (λ w. m.for_rounds x o u k z.env w)) w))
+    next_adds = adds _ (λ w. with_after (history w) (for_step o k w) (λ _ w. for_test o u k (λ w. turn w (λ w. m.for_rounds x o u k z.env w)) w) ((step_adds o k).at w) (λ _. test_adds o k u (λ w. turn w (λ w. m.for_rounds x o u k z.env w)) turn_adds))
+
+    exit_adds : (y : Exit) → Adds (round_exit (λ w. with (for_step o k w) (λ _ w. for_test o u k (λ w. turn w (λ w. m.for_rounds x o u k z.env w)) w)) y)
+    exit_adds loop = next_adds
+    exit_adds _ = adds _ (λ w1. stays (history w1))
+
+    go : (A : Account) (w1 : World) → A.most ≤ 16 * w.turns → w.turns ≤ A.least + turns_in x → ArrivedAt g (start z body w) A z (Label lf.2 ∷ behind_body d k lf.0 lf.5) z.depth w w1
+        → RanDid g (start z body w) (for_counts x w) z rest w (with (for_step o k w1) (λ _ w. for_test o u k (λ w. turn w (λ w. m.for_rounds x o u k z.env w)) w))
+    go A w1 lm ll a =
+        let s = start z body w in
+        let B = for_counts x w in
+        let A1 : Account = record { most = A.most + 1; least = A.least } in
+        let A5 : Account = record { most = A.most + 5; least = A.least } in
+        let A6 : Account = record { most = A.most + 6; least = A.least } in
+        with_ran (λ _. test_adds o k u (λ w. turn w (λ w. m.for_rounds x o u k z.env w)) turn_adds)
+        (ran_more (omega arith) (omega arith) (step_run g s A1 A5 z d o k (Label lf.0 ∷ lf.5) w w1 (omega arith) (omega arith) lf.13 lim.base r (landed_on (omega arith) (omega arith) lf.10 a)))
+        (λ _ w2 b.
+        test_run g s A6 B z d o k lf.1 u (Label lf.1 ∷ body) (Label lf.3 ∷ rest) rest w w2 (λ w. turn w (λ w. m.for_rounds x o u k z.env w)) turn_adds (omega arith) (omega arith) lf.13 ed lim lf.9.found r
+        (subst (λ y. ArrivedAt g s A6 z y z.depth w w2) lf.7 (landed_on (omega arith) (omega arith) lf.8 b)) (fin A lm ll))
+      where
+        fin : (A : Account) → A.most ≤ 16 * w.turns → w.turns ≤ A.least + turns_in x → (t : Bool) (w3 : World)
+            → ArrivedAt g (start z body w) (record { most = A.most + 6 + 4; least = A.least }) z (where_to true t (Label lf.1 ∷ body) (Label lf.3 ∷ rest)) z.depth w w3
+            → RanDid g (start z body w) (for_counts x w) z rest w (either t (λ w. turn w (λ w. m.for_rounds x o u k z.env w)) done w3)
+        fin A lm ll true w3 c =
+            further_count g m sim (start z body w) (record { most = A.most + 6 + 4; least = A.least }) (for_counts x w) x o u k d z lf.1 body rest w w3 (omega arith) (omega arith) (omega arith) (omega arith) (omega arith) lf.12 ed lf lim lf.9 r c
+        fin A lm ll false w3 c = went (landed_on (omega arith) (omega arith) lf.11 c)
+
+    out : (y : Exit) (w1 : World) → Out g (start z body w) (for_scope (alone x) w) (looping lf.2 lf.3 z) w y w1
+        → RanDid g (start z body w) (for_counts x w) z rest w (round_exit (λ w. with (for_step o k w) (λ _ w. for_test o u k (λ w. turn w (λ w. m.for_rounds x o u k z.env w)) w)) y w1)
+    out loop w1 q = let dp = r.deep in
+        go (record { most = 16 * w.turns; least = (w.turns - turns_through (alone x)) + g.pay + g.pay }) w1 (omega arith) (omega arith)
+        (caught_at q (goal lf.2 z.depth) z.depth (Label lf.2 ∷ behind_body d k lf.0 lf.5) refl q.leads.0 lf.10.found refl (omega arith) (omega arith))
+    out break w1 q = let dp = r.deep in
+        went (landed_on (omega arith) (omega arith) lf.11
+        (caught_at q (goal lf.3 z.depth) z.depth (Label lf.3 ∷ rest) refl q.leads.0 lf.11.found refl (omega arith) (omega arith)))
+    out x w1 q = went (outside z.scene (omega arith) (omega arith) q q.leads)
+
+-- what rounds add
+pub rounds_adds : (g : Setting) (m : Meanings) → Simulates g m → (x : Action) (o : ℕ) (u : Value) (k : ℕ) (env : Environment) → Adds (λ w. scope_of m (alone x) forwards env w) → Adds (λ w. for_rounds_of m x o u k env w)
+rounds_adds g m sim x o u k env au =
+    adds _ (λ w. each_way_after (history w) (scope_of m (alone x) forwards env w) (λ _ w. with (for_step o k w) (λ _ w. for_test o u k (λ w. turn w (λ w. m.for_rounds x o u k env w)) w)) (round_exit (λ w. with (for_step o k w) (λ _ w. for_test o u k (λ w. turn w (λ w. m.for_rounds x o u k env w)) w))) (au.at w) (λ _. next_adds) exit_adds)
+  where
+    next_adds : Adds (λ w. with (for_step o k w) (λ _ w. for_test o u k (λ w. turn w (λ w. m.for_rounds x o u k env w)) w))
+    next_adds = adds _ (λ w. with_after (history w) (for_step o k w) (λ _ w. for_test o u k (λ w. turn w (λ w. m.for_rounds x o u k env w)) w) ((step_adds o k).at w) (λ _. test_adds o k u (λ w. turn w (λ w. m.for_rounds x o u k env w))
+        (adds _ (λ w. turn_after _ (adds _ (λ w1. sim.grows.for_rounds x o u k env w1)) w))))
+
+    exit_adds : (y : Exit) → Adds (round_exit (λ w. with (for_step o k w) (λ _ w. for_test o u k (λ w. turn w (λ w. m.for_rounds x o u k env w)) w)) y)
+    exit_adds loop = next_adds
+    exit_adds _ = adds _ (λ w1. stays (history w1))
 
 -- ---- what follows an arrival in a situation of its own that has not all its items
 abbrev joined : {g : Setting} {s : State} {A N B : Account} {z : Sit} {c c2 : List Stmt} {k d2 : ℕ} {w w1 w2 : World} → A.most + N.most ≤ B.most + 16 * w1.turns → B.least ≤ N.least + (A.least - w1.turns) → Ready g z w
@@ -151,13 +391,13 @@ limit_free g z w u r o1 n b1 i li eb lt e = ⊎_elim
     (lying (store z w) (z.frame + z.depth) (holds u ∷ []) o1 n b1 r.fits.long li eb).lies
 
 -- the whole loop, behind its two values
-for_opened : (g : Setting) (m : Meanings) → Simulates g m → (l : ℕ) (x : Mention) (a y : Expression) (h : Expressions) (c : Action) (z z0 : Sit) (at : Sought → List Stmt) (c0 rest : List Stmt) (w : World) (u v : Value) (lx : IsAct g z.scene z.depth z0.env (t.for_loop l x a y h c) at c0 rest)
+for_opened : (g : Setting) (m : Meanings) → Simulates g m → (l : ℕ) (x : Mention) (a y : Expression) (h : Expressions) (c : Action) (z z0 : Sit) (there : Sought → List Stmt) (c0 rest : List Stmt) (w : World) (u v : Value) (lx : IsAct g z.scene z.depth z0.env (t.for_loop l x a y h c) there c0 rest)
     → z.env ≡ past y (past a z0.env) → Ready g z w → Stands g.codes z.bases u (content_of (z.cells (z.frame + z.depth)))
     → Stands g.codes z.bases v (content_of (z.cells (z.frame + (z.depth + 1)))) → ((o : ℕ) → Adds (λ w. for_rounds_of m c o v lx.4 (bind x.letters (cell o 0) z.env) w))
     → RanDid g (state z.scene.own (z.depth + 1 + 1) (Store_stmt ∷ Jump lx.0 ∷ Label lx.1 ∷ lx.7) z.cells z.frame z.hand z.written w) (record { most = 16 * w.turns + 20; least = w.turns - suc (turns_in c) }) z rest w
     (for_loop m x.letters c u v lx.4 z.env w)
 unfolding variable_made
-for_opened g m sim l x a y h c z z0 at c0 rest w u v lx ez r su sv ad =
+for_opened g m sim l x a y h c z z0 there c0 rest w u v lx ez r su sv ad =
     let dp = r.deep in
     let lo = r.low in
     let room : z.depth + 2 ≤ FRAME_WORDS = lx.18 in
@@ -217,10 +457,10 @@ loop_adds m x c u v k env ad =
     adds _ (λ w. closing_after (history w) (length w.memory) (for_test (length w.memory) v k (λ q. for_rounds_of m c (length w.memory) v k (bind x (cell (length w.memory) 0) env) q) (making (holds u ∷ []) w))
     ((test_adds (length w.memory) k v (λ y. for_rounds_of m c (length w.memory) v k (bind x (cell (length w.memory) 0) env) y) (ad (length w.memory))).at (making (holds u ∷ []) w)))
 
-pub for_run : (g : Setting) (m : Meanings) → Simulates g m → (B : Account) (l : ℕ) (x : Mention) (a y : Expression) (h : Expressions) (c : Action) (z : Sit) (at : Sought → List Stmt) (c0 rest : List Stmt) (w : World) → 16 * w.turns + 16 ≤ B.most
-    → B.least ≤ w.turns - (turns_of a + (turns_of y + suc (turns_in c))) → IsAct g z.scene z.depth z.env (t.for_loop l x a y h c) at c0 rest → ((o : ℕ) (v : Value) (k : ℕ) (env : Environment) → Adds (λ w. for_rounds_of m c o v k env w)) → Ready g z w
+pub for_run : (g : Setting) (m : Meanings) → Simulates g m → (B : Account) (l : ℕ) (x : Mention) (a y : Expression) (h : Expressions) (c : Action) (z : Sit) (there : Sought → List Stmt) (c0 rest : List Stmt) (w : World) → 16 * w.turns + 16 ≤ B.most
+    → B.least ≤ w.turns - (turns_of a + (turns_of y + suc (turns_in c))) → IsAct g z.scene z.depth z.env (t.for_loop l x a y h c) there c0 rest → ((o : ℕ) (v : Value) (k : ℕ) (env : Environment) → Adds (λ w. for_rounds_of m c o v k env w)) → Ready g z w
     → RanDid g (start z c0 w) B z rest w (with (m.value a z.env w) (λ u w. with (m.value y (past a z.env) w) (λ v w. with (given (step_of z.env h) w) (λ n w. for_loop m x.letters c u v n (past y (past a z.env)) w))))
-for_run g m sim B l x a y h c z at c0 rest w le le' lx ad r =
+for_run g m sim B l x a y h c z there c0 rest w le le' lx ad r =
     two_run g m sim B a y z c0 lx.6 (Store_stmt ∷ Jump lx.0 ∷ Label lx.1 ∷ lx.7) w _ _ all_adds (omega arith) (omega arith) lx.9 lx.10 r (λ u v w2 t pos.
     let s = start z c0 w in
     let A = for_two a y w in
@@ -229,7 +469,7 @@ for_run g m sim B l x a y h c z at c0 rest w le le' lx ad r =
     let rf = ready_next (past y (past a z.env)) z.depth t.arr refl (omega arith) r in
     subst (λ q. RanDid g s B z rest w (with (given q w2) (λ n w. for_loop m x.letters c u v n (past y (past a z.env)) w))) (sym lx.13)
     (joined_ran (omega arith) (omega arith) r t.arr
-    (for_opened g m sim l x a y h c zf z at c0 rest w2 u v lx refl rf t.first t.second (λ o. ad o v lx.4 (bind x.letters (cell o 0) (past y (past a z.env)))))))
+    (for_opened g m sim l x a y h c zf z there c0 rest w2 u v lx refl rf t.first t.second (λ o. ad o v lx.4 (bind x.letters (cell o 0) (past y (past a z.env)))))))
   where
     all_adds : (u v : Value) → Adds (λ w. with (given (step_of z.env h) w) (λ n w. for_loop m x.letters c u v n (past y (past a z.env)) w))
     all_adds u v = adds _ (λ w1. with_after (history w1) (given (step_of z.env h) w1) (λ n w. for_loop m x.letters c u v n (past y (past a z.env)) w) (given_after (step_of z.env h) w1)

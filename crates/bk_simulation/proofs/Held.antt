@@ -7,7 +7,7 @@ use Rattle.bk_ocode.specs.ProgramStart.{all_data}
 use Rattle.bk_meaning.specs.Lasting.{Lasting, global_vector, words, code}
 use Rattle.bk_simulation.proofs.Memory.{BaseOf}
 use Rattle.bk_simulation.proofs.Laid.{Setting}
-use Rattle.bk_simulation.proofs.Procedures.{IsProcedure}
+use Rattle.bk_simulation.proofs.Calls.{IsProcedure}
 
 -- a datum of the program has this place and these words
 pub record InData (program : Program) (base : ℕ) (ws : List ℕ) : Type 0 where

@@ -17,15 +17,14 @@ use Rattle.bk_trans.specs.Naming.{worth, words_named}
 use Rattle.bk_meaning.specs.Environment.{Named}
 use Rattle.bk_meaning.specs.Lasting.{constant_words}
 use Rattle.bk_simulation.specs.Regular.{RegularEach}
-use Rattle.bk_simulation.proofs.Leaves.{same_number}
-use Rattle.bk_simulation.proofs.ListPlaces.{get_first}
+use Rattle.bk_simulation.proofs.Operators.{same_number}
+use Rattle.bk_simulation.proofs.MadeObjects.{get_first}
 use Rattle.bk_simulation.proofs.Sought.{with_names}
 use Rattle.bk_base.specs.declared.limit.TheConstants.{FRAME_WORDS}
 use Rattle.bk_ocode.specs.WellPlaced.{IsWellPlaced}
 use Rattle.bk_simulation.proofs.Held.{InData}
-use Rattle.bk_simulation.proofs.BasesBelow.{data_below}
 use Rattle.bk_simulation.proofs.NamesAgree.{Agree}
-use Rattle.bk_simulation.proofs.Standing.{StandsAt}
+use Rattle.bk_simulation.proofs.Standing.{StandsAt, data_below}
 use Rattle.bk_simulation.proofs.LaidExpressions.{HasWords, constants_agree}
 use Rattle.bk_simulation.proofs.Constants.{constant_small}
 

@@ -39,7 +39,7 @@ use Rattle.bk_meaning.specs.Seeking.{Sought, the_label, the_case, the_default, M
 use Rattle.bk_meaning.specs.Scopes.{alone}
 use Rattle.bk_ocode.specs.WellPlaced.{IsWellPlaced}
 use Rattle.bk_simulation.proofs.Memory.{Codes, BaseOf, Grown}
-use Rattle.bk_simulation.proofs.Sizes.{turns_of, turns_in, turns_through}
+use Rattle.bk_simulation.proofs.Weights.{turns_of, turns_in, turns_through}
 
 -- What the whole proof is over: the program, the words of procedures, what a step pays, how many frames there may be, and the bases of
 -- the objects that last.

@@ -1,6 +1,6 @@
 -- Each command of an accepted section is laid where the scheme puts it. That VALOFs and blocks with declarations are is taken here as an
 -- argument.
-use Rattle.std.proofs.Common.{◌≡◌, ℕ, ◌+◌, ◌≤◌, false, not, List, [], ◌∷◌, ◌++◌, Some, cond, refl, sym, ap, ◌∙◌, subst, arith}
+use Rattle.std.proofs.Common.{◌≡◌, ℕ, ◌+◌, ◌≤◌, false, not, List, [], ◌∷◌, ◌++◌, Some, cond, refl, sym, ap, ◌∙◌, subst, arith, suc, length}
 use Rattle.std.proofs.lemmas.Bool.{false≢true}
 use Rattle.std.specs.Str.{bytes_eq}
 use Rattle.bk_tree.specs.Parts.{size}
@@ -11,33 +11,76 @@ use Rattle.bk_scope.specs.Scope.{bound_in}
 use Rattle.bk_scope.specs.Constants.{constant_word}
 use Rattle.bk_scope.specs.Places.{deeper}
 use Rattle.bk_scope.specs.Places as place
-use Rattle.bk_scope.specs.Sound.{SoundDone, SoundDoneEach}
+use Rattle.bk_scope.specs.Sound.{SoundDone, SoundDoneEach, Sound}
 use Rattle.bk_scope.specs.Spots as spot
 use Rattle.bk_scope.specs.Spots.{Spot}
 use Rattle.bk_ocode.specs.OcodeStep.{from_label}
 use Rattle.bk_ocode.specs.declared.stmt.Stmt.{Stmt}
-use Rattle.bk_ocode.specs.declared.stmt.Stmt.TheVariants.{Jump, Label, GiveResult, Stack, CallRoutine, Switch}
+use Rattle.bk_ocode.specs.declared.stmt.Stmt.TheVariants.{Jump, Label, GiveResult, Stack, CallRoutine, Switch, Return, Finish, TakeResult}
 use Rattle.bk_trans.specs.Labels.{labels, labels_if, labels_onto, labels_in}
 use Rattle.bk_trans.specs.Naming.{meant, term_named, condition_named, lvalues_named, command_named, commands_named}
 use Rattle.bk_trans.specs.Parts.{parts, parts_if, parts_onto, parts_in, parts_through}
-use Rattle.bk_trans.specs.Scheme.{goal_in, value_code, jump_code, command_code, through_code, cases, default_in, label_or}
+use Rattle.bk_trans.specs.Scheme.{goal_in, value_code, jump_code, command_code, through_code, cases, default_in, label_or, valued}
 use Rattle.bk_meaning.specs.Environment.{objects, objects_of_each, objects_of_action, objects_of_actions, constant_in}
 use Rattle.bk_meaning.specs.Seeking.{the_label, the_case, the_default, same_place, stands_in}
-use Rattle.bk_simulation.specs.Regular.{RegularAction, RegularActions}
-use Rattle.bk_simulation.proofs.Weights.{weight_in, weight_through, of_light, in_light}
+use Rattle.bk_simulation.specs.Regular.{RegularAction, RegularActions, Regular}
+use Rattle.bk_simulation.proofs.Weights.{weight_in, weight_through, of_light, in_light, weight_of}
 use Rattle.bk_simulation.proofs.Sought.{with_names}
-use Rattle.bk_simulation.proofs.Laid.{Scene, in_loop, in_switch, pushes, jumps, count, IsLabelHere, AreActs}
-use Rattle.bk_meaning.specs.Lasting.{of_actions}
+use Rattle.bk_simulation.proofs.Laid.{Scene, in_loop, in_switch, pushes, jumps, count, IsLabelHere, AreActs, in_valof, Aim, ending, IsCode}
+use Rattle.bk_meaning.specs.Lasting.{of_actions, of_expression}
 use Rattle.bk_simulation.proofs.LastingKinds.{kinds_through}
-use Rattle.bk_simulation.proofs.Standing.{StandsAt, passed, written, label_at, call_at, label_found, home, Bases, no_bases, both_bases, three_bases, bases_so, lies_so}
+use Rattle.bk_simulation.proofs.Standing.{StandsAt, passed, written, label_at, call_at, label_found, home, Bases, no_bases, both_bases, three_bases, bases_so, lies_so, Lies}
 use Rattle.bk_simulation.proofs.Constants.{constant_small}
-use Rattle.bk_simulation.proofs.LaidCommands.{Doing, doing_loop, doing_switch, Leads, finds_nothing, finds_case, finds_both, switch_chosen, switch_default, switch_none, Done, DoneEach, leads_label, either_leads, same_letters}
-use Rattle.bk_simulation.proofs.LaidExpressions.{FoundParts, found_front, found_back, constants_agree, known, known_agree, names_of, InNames, stands_agree, joined_two, joined_three, joined_choice}
+use Rattle.bk_simulation.proofs.LaidCommands.{Doing, doing_loop, doing_switch, Leads, finds_nothing, finds_case, finds_both, switch_chosen, switch_default, switch_none, Done, DoneEach, leads_label, either_leads, same_letters, label_ahead, words_labels, alone_lies}
+use Rattle.bk_simulation.proofs.LaidExpressions.{FoundParts, found_front, found_back, constants_agree, known, known_agree, names_of, InNames, stands_agree, joined_two, joined_three, joined_choice, coded, own_parts, own_kinds, plain_lies, role, level, Around, plain_code, plain_parts, lies_ended}
 use Rattle.bk_simulation.proofs.LaidCalls.{call_lies}
 use Rattle.bk_simulation.proofs.LaidValues.{ValofsLie, laid_code, laid_each}
 use Rattle.bk_simulation.proofs.LaidAssigned.{turns_lie, laid_froms, laid_stores}
-use Rattle.bk_simulation.proofs.LaidSimple.{simple_lies}
 use Rattle.bk_simulation.proofs.LaidFors.{ForBody, body_of, for_lies}
+use Rattle.bk_tree.specs.declared.tree.Simple.TheVariants as simple
+use Rattle.bk_tree.specs.declared.tree.Simple.{Simple}
+use Rattle.bk_scope.specs.Entering.{labels_of}
+use Rattle.bk_scope.specs.Scoping.{labels_in_scope}
+
+-- ---- Commands of one word are laid where the scheme puts them.
+
+-- a command of one word
+pub simple_lies : (pay : ℕ) (sc : Scene) (p : Place) (s : Spot) (i l : ℕ) (x : Simple) (d n : ℕ) (c rest : List Stmt) → Doing sc p d → SoundDone sc.bindings p s (t.simple l x)
+    → c ≡ command_code sc.targets sc.around d n (command_named sc.bindings p s (t.simple l x)) ++ rest → StandsAt sc.own d c → Done pay sc i (t.simple l x) d n (command_named sc.bindings p s (t.simple l x)) c rest
+simple_lies pay sc p s i l simple.Break d n c rest a h k st =
+    let there = sc.around.leaves in
+    let s1 = passed sc.own d there.depth (Stack there.depth) (Jump there.label ∷ Stack d ∷ rest) (written sc.own d c (Stack there.depth ∷ Jump there.label ∷ Stack d ∷ rest) k st) refl in
+    record {
+      at = λ y. rest;
+      lies = record { on = passed sc.own there.depth d (Stack d) rest (passed sc.own there.depth there.depth (Jump there.label) (Stack d ∷ rest) s1 refl) refl; objects_are = no_bases (home sc pay) i _ (λ g y ns u. (k, a.loop h)) };
+      finds = finds_nothing sc.own sc.targets sc.bindings d _;
+    }
+simple_lies pay sc p s i l simple.Loop d n c rest a h k st =
+    let there = sc.around.goes_on in
+    let s1 = passed sc.own d there.depth (Stack there.depth) (Jump there.label ∷ Stack d ∷ rest) (written sc.own d c (Stack there.depth ∷ Jump there.label ∷ Stack d ∷ rest) k st) refl in
+    record {
+      at = λ y. rest;
+      lies = record { on = passed sc.own there.depth d (Stack d) rest (passed sc.own there.depth there.depth (Jump there.label) (Stack d ∷ rest) s1 refl) refl; objects_are = no_bases (home sc pay) i _ (λ g y ns u. (k, a.loop h)) };
+      finds = finds_nothing sc.own sc.targets sc.bindings d _;
+    }
+simple_lies pay sc p s i l simple.EndCase d n c rest a h k st =
+    let there = sc.around.ends_case in
+    let s1 = passed sc.own d there.depth (Stack there.depth) (Jump there.label ∷ Stack d ∷ rest) (written sc.own d c (Stack there.depth ∷ Jump there.label ∷ Stack d ∷ rest) k st) refl in
+    record {
+      at = λ y. rest;
+      lies = record { on = passed sc.own there.depth d (Stack d) rest (passed sc.own there.depth there.depth (Jump there.label) (Stack d ∷ rest) s1 refl) refl; objects_are = no_bases (home sc pay) i _ (λ g y ns u. (k, a.switch h)) };
+      finds = finds_nothing sc.own sc.targets sc.bindings d _;
+    }
+simple_lies pay sc p s i l simple.Return d n c rest a h k st = record {
+  at = λ y. rest;
+  lies = record { on = passed sc.own d d Return rest (written sc.own d c (Return ∷ rest) k st) refl; objects_are = no_bases (home sc pay) i _ (λ g y ns u. k) };
+  finds = finds_nothing sc.own sc.targets sc.bindings d _;
+}
+simple_lies pay sc p s i l simple.Finish d n c rest a h k st = record {
+  at = λ y. rest;
+  lies = record { on = passed sc.own d d Finish rest (written sc.own d c (Finish ∷ rest) k st) refl; objects_are = no_bases (home sc pay) i _ (λ g y ns u. k) };
+  finds = finds_nothing sc.own sc.targets sc.bindings d _;
+}
 
 -- blocks with declarations are laid
 abbrev pub BlocksLie : ℕ → Type 0
@@ -379,3 +422,36 @@ mutual
         };
         finds = finds_both sc.own sc.targets sc.bindings d _ _ _ _ _ _ dx.at ds.at dx.finds ds.finds;
       }
+
+-- ---- A VALOF is laid where the scheme puts it, where lighter forms are.
+
+-- a VALOF, whose body weighs less
+pub valof_lies : (pay : ℕ) (valofs : ValofsLie pay) (blocks : BlocksLie pay) (sc : Scene) (p : Place) (s : Spot) (i : ℕ) (aim : Aim) (l : ℕ) (x : Action) (d n : ℕ) (c rest : List Stmt) → Around sc p d
+    → Sound (role aim) sc.bindings p s (t.valof l x) → Regular (t.valof l x) → weight_of (t.valof l x) ≤ suc pay → FoundParts sc.own sc.targets (own_parts sc p s d n aim (t.valof l x))
+    → c ≡ coded sc p s d n aim (t.valof l x) ++ rest → StandsAt sc.own d c
+    → Lies (home sc pay) i (objects_of_action x) (level aim d) rest (own_kinds sc p s n aim (t.valof l x)) (λ ns. of_expression (with_names ns i) (t.valof l x))
+    (InNames sc.bindings i (λ g env. IsCode g sc d env aim (t.valof l x) c rest))
+valof_lies pay valofs blocks sc p s i aim l x d n c rest a h r m f k st =
+    let k1 = plain_code sc p s d n aim (t.valof l x) c rest refl k in
+    let f1 = plain_parts sc p s d n aim (t.valof l x) refl f in
+    let s1 : Spot = spot.onward 1 (1 + length (labels_of x)) s in
+    let p1 : Place = place.labelled s.number (place.valued p) in
+    let inside : Scene = in_valof n sc in
+    let body : Scene = record inside { bindings = labels_in_scope p.procedure (s.number + 1) (labels_of x) sc.bindings } in
+    let kx = command_named body.bindings p1 s1 x in
+    let code = command_code sc.targets (valued n) d (n + 1) kx in
+    let tail = TakeResult d ∷ ending aim rest in
+    let k2 = joined_two code (Label n ∷ TakeResult d ∷ []) (ending aim rest) c k1 in
+    let found = label_ahead sc.own d n c code tail st k2 in
+    let doing : Doing body p1 d = record {
+      around = record { same = a.same; at = a.at; words = words_labels p.procedure (s.number + 1) (labels_of x) sc.bindings a.words };
+      loop = λ e. absurd (false≢true e);
+      switch = λ e. absurd (false≢true e);
+      valof = λ e. (Label n ∷ tail, found);
+    } in
+    let done = laid_act pay valofs blocks body p1 s1 i x d (n + 1) c (Label n ∷ tail) doing h r (omega (arith, m)) f1 k2 st in
+    let lx = alone_lies pay inside i x d (n + 1) kx c (Label n ∷ tail) (s.number + 1) p.procedure a.same (let tx = in_light x in omega (arith, tx, m)) done in
+    plain_lies pay sc p s i d n aim (t.valof l x) (objects_of_action x) rest _ refl (lies_ended (home sc pay) i _ d aim rest _ (record {
+      on = passed sc.own d (d + 1) (TakeResult d) (ending aim rest) (passed sc.own d d (Label n) tail lx.on refl) refl;
+      objects_are = bases_so (home sc pay) i _ _ _ (λ g z v ns u. (n, s.number + 1, v ns u, label_at g sc d n tail z.own lx.on)) lx.objects_are;
+    }))

@@ -22,8 +22,7 @@ use Rattle.bk_meaning.specs.Environment.{Named, label, bind_each, labelled, obje
 use Rattle.bk_meaning.specs.Seeking.{Sought, the_label, stands_in_one}
 use Rattle.bk_meaning.specs.Lasting.{Lasting, of_action, of_actions, of_declarations, all_declared}
 use Rattle.bk_simulation.specs.Regular.{RegularAction}
-use Rattle.bk_simulation.proofs.Sizes.{turns_through}
-use Rattle.bk_simulation.proofs.Weights.{weight_in, through_light}
+use Rattle.bk_simulation.proofs.Weights.{weight_in, through_light, turns_through}
 use Rattle.bk_simulation.proofs.Sought.{with_names, label_stands_one}
 use Rattle.bk_simulation.proofs.NamesBound.{labels_named}
 use Rattle.bk_simulation.proofs.Laid.{Setting, Scene, owning, AreActs, LeadsTo, IsScope}
@@ -34,8 +33,7 @@ use Rattle.bk_simulation.proofs.LaidExpressions.{FoundParts, found_front, found_
 use Rattle.bk_simulation.proofs.LaidCommands.{Doing, finds_nothing, Done, DoneEach, words_labels, agree_labels, names_bound}
 use Rattle.bk_simulation.proofs.BehindDeclarations.{next_all_declared}
 use Rattle.bk_simulation.proofs.LaidValues.{ValofsLie}
-use Rattle.bk_simulation.proofs.LaidActs.{BlocksLie, laid_acts}
-use Rattle.bk_simulation.proofs.LaidValofs.{valof_lies}
+use Rattle.bk_simulation.proofs.LaidActs.{BlocksLie, laid_acts, valof_lies}
 use Rattle.bk_simulation.proofs.LaidDeclarations.{Later, declared_behind, declared_bases}
 
 -- the commands of a scope

@@ -28,8 +28,8 @@ use Rattle.bk_meaning.specs.Environment.{Named, Sense, label, bind_each, labelle
 use Rattle.bk_meaning.specs.Seeking.{Sought, the_label, the_case, the_default, same_place, stands_in, stands_in_one}
 use Rattle.bk_meaning.specs.Scopes.{alone}
 use Rattle.bk_trans.proofs.Scopes.{AllFound}
-use Rattle.bk_simulation.proofs.Sizes.{turns_in}
-use Rattle.bk_simulation.proofs.Leaves.{same_number}
+use Rattle.bk_simulation.proofs.Weights.{turns_in}
+use Rattle.bk_simulation.proofs.Operators.{same_number}
 use Rattle.bk_simulation.proofs.Sought.{with_names, label_stands}
 use Rattle.bk_simulation.proofs.Laid.{Scene, in_loop, in_switch, owning, Stretch, ByTurns, AreFrom, AreStores, AreActs, IsAct, IsAlone}
 use Rattle.bk_meaning.specs.Lasting.{of_each, of_action, of_actions, in_scope}

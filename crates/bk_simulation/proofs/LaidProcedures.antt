@@ -35,11 +35,11 @@ use Rattle.bk_meaning.specs.Environment as m
 use Rattle.bk_meaning.specs.Lasting.{Body, command, expression, Lasting, code, of_action, of_expression, in_scope}
 use Rattle.bk_meaning.specs.Calls.{bind_formals}
 use Rattle.bk_simulation.proofs.Memory.{BaseOf, Grown}
-use Rattle.bk_simulation.proofs.Sizes.{turns_of, turns_in}
+use Rattle.bk_simulation.proofs.Weights.{turns_of, turns_in}
 use Rattle.bk_simulation.proofs.Sought.{with_names}
 use Rattle.bk_simulation.proofs.Laid.{Setting, Scene, pushes, IsCode, IsAlone, place_of, IsWord, NamedIn}
 use Rattle.bk_simulation.proofs.NamesBound.{bound_named}
-use Rattle.bk_simulation.proofs.Procedures.{IsBody, IsProcedure}
+use Rattle.bk_simulation.proofs.Calls.{IsBody, IsProcedure}
 use Rattle.bk_simulation.proofs.Held.{InData, HeldWord, HeldIn}
 use Rattle.bk_simulation.proofs.HeldData.{statement_data, statement_below}
 use Rattle.bk_simulation.proofs.NamesAgree.{Agree, SameGlobal, global_of, same_global, own_cell, agree_bound}

@@ -16,15 +16,12 @@ use Rattle.bk_simulation.specs.Simulation.{DoesFrom, StartsSo, with_start, witho
 use Rattle.bk_simulation.proofs.Memory.{Codes, BaseOf}
 use Rattle.bk_simulation.proofs.Laid.{Setting}
 use Rattle.bk_simulation.proofs.Simulates.{Simulates}
-use Rattle.bk_simulation.proofs.Procedures.{Procedures}
+use Rattle.bk_simulation.proofs.Calls.{Procedures}
 use Rattle.bk_simulation.proofs.LibraryCalls.{named_there}
 use Rattle.bk_simulation.proofs.Applied.{KnowsLibrary}
-use Rattle.bk_simulation.proofs.All.{alone_runs, alone_adds}
-use Rattle.bk_simulation.proofs.Meanings.{simulates}
-use Rattle.bk_simulation.proofs.ProgramEnds.{calls_of}
-use Rattle.bk_simulation.proofs.StartCalled.{NoStart, HasStart, called_at, does_from}
-use Rattle.bk_simulation.proofs.LastingStore.{library_word, HoldsLasting}
-use Rattle.bk_simulation.proofs.LastingFits.{first_store, start_there}
+use Rattle.bk_simulation.proofs.All.{alone_runs, alone_adds, simulates}
+use Rattle.bk_simulation.proofs.ProgramEnds.{calls_of, NoStart, HasStart, called_at, does_from}
+use Rattle.bk_simulation.proofs.LastingFits.{first_store, start_there, library_word, HoldsLasting}
 
 -- where the sections are laid, with what a step pays and so many frames
 abbrev pub setting : (program : Program) (first : ℕ) → IsWellPlaced program first FRAME_WORDS → (codes : Codes) (pay cap : ℕ) (lasting : List ℕ) → ((o base : ℕ) → BaseOf lasting o base → base < 2 ^ 32) → BaseOf lasting 0 16 → Setting

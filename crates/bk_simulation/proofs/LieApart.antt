@@ -20,16 +20,14 @@ use Rattle.bk_meaning.specs.Environment.{objects_of_declarations}
 use Rattle.bk_meaning.specs.Lasting.{Lasting, global_vector, words, code, of_declarations, of_sections}
 use Rattle.bk_simulation.specs.Placement.{IsAccepted, AreAccepted, StandFor}
 use Rattle.bk_simulation.proofs.Memory.{BaseOf, one_base}
-use Rattle.bk_simulation.proofs.PlacedRests.{entry_settled}
+use Rattle.bk_simulation.proofs.Moves.{entry_settled}
 use Rattle.bk_simulation.proofs.Sought.{with_names}
 use Rattle.bk_simulation.proofs.Laid.{Setting}
-use Rattle.bk_simulation.proofs.LastingStore.{HasEntry, HasWords}
+use Rattle.bk_simulation.proofs.LastingFits.{HasEntry, HasWords}
 use Rattle.bk_simulation.proofs.LastingKinds.{Kind, string, words_at, entry, kinds_of_declarations, AreAs}
-use Rattle.bk_simulation.proofs.KindLabels.{entry_label, data_labels_once, entry_labels_once, AreThere, kinds_there}
-use Rattle.bk_simulation.proofs.KindForms.{form_of, declared_forms}
+use Rattle.bk_simulation.proofs.KindLabels.{entry_label, data_labels_once, entry_labels_once, AreThere, kinds_there, form_of, declared_forms}
 use Rattle.bk_simulation.proofs.Standing.{Follow, FollowWords}
-use Rattle.bk_simulation.proofs.StringCounts.{times, Span, in_spans, AreSpread}
-use Rattle.bk_simulation.proofs.StringsOnce.{StringIn, AllSpansAt, string_has, spans_once, stands_there}
+use Rattle.bk_simulation.proofs.StringCounts.{times, Span, in_spans, AreSpread, StringIn, AllSpansAt, string_has, spans_once, stands_there}
 use Rattle.bk_simulation.proofs.SpreadSections.{outside_spread}
 use Rattle.bk_simulation.proofs.ObjectMarks.{Mark, at_string, at_label, marks, count, marked_once, marked_apart, Marked, mark_is_some, marked_alone}
 use Rattle.bk_simulation.proofs.SectionsLie.{SectionsLie, HasAll, first_suits, others_suit, first_alike, no_names, none_mean}

@@ -1,13 +1,45 @@
 -- Objects that are made, what is done with them, and their death.
 use Rattle.std.proofs.Common.{◌≡◌, ◌≢◌, ℕ, zero, suc, ◌+◌, ◌<◌, ◌≤◌, List, [], ◌∷◌, ◌++◌, length, Option, Some, None, refl, sym, ap, ◌∙◌, subst, arith, ◌⊎◌, ⊎_elim, inl, inr, slice_get, length-append}
-use Rattle.std.specs.Prelude.{option_and_then}
+use Rattle.std.specs.Prelude.{option_and_then, slice_set}
 use Rattle.std.proofs.lemmas.Option.{slice_get_within}
 use Rattle.bk_meaning.specs.Values.{Cell as Cell_of, holds, places}
 use Rattle.bk_meaning.specs.Memory.{Object, living, Memory, cells_of, cells_at, made, dead_from}
 use Rattle.bk_ocode.specs.Cells.{Content, Variable, Cell, Held, content_of}
 use Rattle.bk_ocode.specs.Cells as ocode
-use Rattle.bk_simulation.proofs.ListPlaces.{get_first, get_last}
 use Rattle.bk_simulation.proofs.Memory.{Like, like_refl, like_on, BaseOf, size_in, Alive, IsCell, Store, limit, Grown, Moved, get_at, alive_within, one_base, Codes, StandsCell, Fits, based, stands_grown, fits_more, fits_less}
+
+-- ---- What stands at a place of a list behind which something was put, or in which something was set.
+
+-- what stood first stays,
+pub get_first : {A : Type 0} (xs ys : List A) (i : ℕ) (x : A) → slice_get xs i ≡ Some x → slice_get (xs ++ ys) i ≡ Some x
+get_first [] ys i x h = absurd (cc)
+get_first (y ∷ xs) ys zero x h = h
+get_first (y ∷ xs) ys (suc i) x h = get_first xs ys i x h
+
+-- the new one stands behind it,
+pub get_new : {A : Type 0} (xs : List A) (y : A) → slice_get (xs ++ y ∷ []) (length xs) ≡ Some y
+get_new [] y = refl
+get_new (x ∷ xs) y = get_new xs y
+
+-- and nothing else does
+pub get_last : {A : Type 0} (xs : List A) (y : A) (i : ℕ) (x : A) → slice_get (xs ++ y ∷ []) i ≡ Some x → (slice_get xs i ≡ Some x) ⊎ ((i ≡ length xs) × (x ≡ y))
+get_last [] y zero x h = inr (refl, cc)
+get_last [] y (suc i) x h = absurd (cc)
+get_last (z ∷ xs) y zero x h = inl h
+get_last (z ∷ xs) y (suc i) x h =
+    ⊎_elim (λ (e : slice_get xs i ≡ Some x). inl e) (λ (e : (i ≡ length xs) × (x ≡ y)). inr (ap (λ n. suc n) e.0, e.1)) (get_last xs y i x h)
+
+-- where one was set, it stands there and the others where they stood
+pub get_set : {A : Type 0} (xs : List A) (i j : ℕ) (x y : A) → slice_get (slice_set xs i x) j ≡ Some y → ((j ≡ i) × (y ≡ x)) ⊎ ((j ≢ i) × (slice_get xs j ≡ Some y))
+get_set [] i j x y h = absurd (cc)
+get_set (z ∷ xs) zero zero x y h = inl (refl, cc)
+get_set (z ∷ xs) (suc i) (suc j) x y h =
+    ⊎_elim (λ (e : (j ≡ i) × (y ≡ x)). inl (ap (λ n. suc n) e.0, e.1)) (λ (e : (j ≢ i) × (slice_get xs j ≡ Some y)). let ne : j ≢ i = e.0 in inr (omega arith, e.1)) (get_set xs i j x y h)
+get_set (z ∷ xs) _ _ x y h = inr (omega arith, h)
+
+pub set_length : {A : Type 0} (xs : List A) (i : ℕ) (x : A) → length (slice_set xs i x) ≡ length xs
+set_length (y ∷ xs) (suc i) x = ap (λ n. suc n) (set_length xs i x)
+set_length _ _ x = refl
 
 -- no living object has this word
 abbrev pub IsFree : Store → ℕ → Type 0

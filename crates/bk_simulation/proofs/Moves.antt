@@ -1,19 +1,473 @@
 -- Moves: a step, and the state as which the one that it comes to goes on. What each statement moves to.
-use Rattle.std.proofs.Common.{◌≡◌, ℕ, suc, ◌+◌, ◌-◌, ◌==◌, nat_lt, ◌^◌, Bool, true, false, List, ◌∷◌, length, Some, None, take, drop, slice_get, if◌then◌else◌, refl, ap, ◌∙◌}
+use Rattle.std.proofs.Common.{◌≡◌, ℕ, suc, ◌+◌, ◌-◌, ◌==◌, nat_lt, ◌^◌, Bool, true, false, List, ◌∷◌, length, Some, None, take, drop, slice_get, if◌then◌else◌, refl, ap, ◌∙◌, zero, [], Option, ne_eqb, pos, sym, subst, ◌++◌, ℤ, not, arith}
 use Rattle.std.specs.Option.{option_map_or}
-use Rattle.bk_ocode.specs.Cells.{Unset, Word, Temporary, Held, write, below}
-use Rattle.bk_ocode.specs.Depth.{depth_behind}
+use Rattle.bk_ocode.specs.Cells.{Unset, Word, Temporary, Held, write, below, Content, Variable, Link, Cell, content_of, kind_of, settle}
+use Rattle.bk_ocode.specs.Depth.{depth_behind, next_depth}
 use Rattle.bk_ocode.specs.Section.{AreFaultless}
-use Rattle.bk_ocode.specs.OcodeState.{Placed, Routine, Inside, Behind, At, State, Goes}
-use Rattle.bk_ocode.specs.OcodeStep.{slot, can_be_called}
-use Rattle.bk_ocode.specs.OcodeRun.{Program, in_hand, resumed_in, program_step}
+use Rattle.bk_ocode.specs.OcodeState.{Placed, Routine, Inside, Behind, At, State, Goes, Placement, Control, Ends, Wild, Next}
+use Rattle.bk_ocode.specs.OcodeStep.{slot, can_be_called, step, on_number, on_some, named_place, has_word, dyadic_word, operated, jump, jump_with, from_label, case_label, call, return, step_by, step_from}
+use Rattle.bk_ocode.specs.OcodeRun.{Program, in_hand, resumed_in, program_step, Rest, rest_of, or_rest, rests, rests_of, resumed, resumed_by, find_rest, label_rest, at_number, program_step_from, run}
 use Rattle.bk_ocode.specs.declared.stmt.Stmt.{Stmt}
-use Rattle.bk_ocode.specs.declared.stmt.Stmt.TheVariants.{Label, Entry, CallFunction, CallRoutine, ReturnItem, Return}
+use Rattle.bk_ocode.specs.declared.stmt.Stmt.TheVariants.{Label, Entry, CallFunction, CallRoutine, ReturnItem, Return, Number, True, False, Query, Load, Address, Text, Monadic, Dyadic, LoadByte, Assign, AssignAt, AssignByte, Jump, JumpIf, GiveResult, TakeResult, Stack, Store, Save, Switch, Finish}
 use Rattle.bk_ocode.specs.WellPlaced.{IsWellPlaced}
-use Rattle.bk_simulation.proofs.Settled.{settled, settled_from}
-pub use Rattle.bk_simulation.proofs.StatementSteps.{Moves, number_moves, true_moves, false_moves, query_moves, load_moves, address_moves, text_moves, contents_moves, negate_moves, not_moves, dyadic_moves, load_byte_moves, assign_moves, assign_at_moves, assign_byte_moves, jump_moves, taken_moves, passed_moves, switch_moves, give_result_moves, take_result_moves, stack_moves, store_moves, save_moves, entry_moves}
-use Rattle.bk_simulation.proofs.StatementSteps.{entering, returning, label_step, call_function_step, call_routine_step, return_item_step, return_step}
-use Rattle.bk_simulation.proofs.PlacedRests.{label_settled, entry_settled, function_settled, routine_settled}
+use Rattle.bk_ocode.proofs.LabelsOnce.{not_before}
+use Rattle.bk_ocode.proofs.LabelRests.{label_rest-at}
+use Rattle.bk_base.specs.declared.run_end.End.TheVariants.{Status, DivideByZero}
+pub use Rattle.bk_simulation.specs.GoingOn.{settled, settled_from}
+use Rattle.bk_base.specs.Word.{word_of, word_sum, word_negation, word_not, truth, byte_distance}
+use Rattle.bk_ocode.specs.Access.{variable_at, byte_at, word_with_byte_at}
+use Rattle.bk_ocode.specs.declared.stmt.Variable.{Variable as Named}
+use Rattle.bk_ocode.specs.declared.stmt.Monadic.TheVariants.{Contents, Negate, Not}
+use Rattle.bk_ocode.specs.declared.stmt.Dyadic.{Dyadic as DyadicOperator}
+use Rattle.bk_ocode.specs.declared.stmt.Case.{Case}
+
+-- ---- How a program goes on from its rests: behind a LAB, at an entry and behind a call.
+
+-- ---- A state steps as the one as which it goes on; and counted runs of such states.
+
+abbrev IsInside : Control → Type 0
+IsInside (Inside own k rest) = Unit {0}
+IsInside _ = ⊥
+
+resumed_inside : (own : Placed) (r : Rest) (s : State) → IsInside (resumed own r s).control
+resumed_inside own r s = by_takes r.takes
+  where
+    by_takes : (t : Bool) → IsInside (resumed_by t own r s).control
+    by_takes true = tt
+    by_takes false = tt
+
+found_inside : (own : Placed) (s t : State) (r : Option Rest) (others : Option State) → (others ≡ Some t → IsInside t.control)
+    → option_map_or (λ r. Some (resumed own r s)) r others ≡ Some t → IsInside t.control
+found_inside own s t (Some r) others h e = let q : resumed own r s ≡ t = cc in subst (λ y. IsInside y.control) q (resumed_inside own r s)
+found_inside own s t None others h e = h e
+
+resumed_in_inside : (sections : List Placed) (n : ℕ) (s t : State) → resumed_in sections n s ≡ Some t → IsInside t.control
+resumed_in_inside [] n s t e = absurd (let h : None ≡ Some t = e in cc)
+resumed_in_inside (own ∷ others) n s t e = found_inside own s t (find_rest (rests_of own) n) (resumed_in others n s) (λ h. resumed_in_inside others n s t h) e
+
+inside_step : (program : Program) (t : State) (c : Control) → t.control ≡ c → IsInside c → step program.callables t ≡ program_step program t
+inside_step program t (Inside own k rest) e h = sym (ap (λ y. program_step_from program t y) e)
+inside_step program t _ e h = absurd h
+
+-- a state steps as the state as which it goes on
+pub settled_step : (program : Program) (s : State) → program_step program s ≡ program_step program (settled program s)
+settled_step program s = by_control s.control refl
+  where
+    behind : (own : Placed) (l : ℕ) → s.control ≡ Behind own l → (r : Option Rest) → label_rest own.places 0 own.stmts l ≡ r
+        → option_map_or (λ r. step program.callables (resumed own r s)) r Wild ≡ program_step program (option_map_or (λ r. resumed own r s) r s)
+    behind own l e (Some r) er = inside_step program (resumed own r s) (resumed own r s).control refl (resumed_inside own r s)
+    behind own l e None er =
+        sym (ap (λ y. program_step_from program s y) e ∙ ap (λ y. option_map_or (λ r. step program.callables (resumed own r s)) y Wild) er)
+
+    at_place : (n : ℕ) → s.control ≡ At n → (home : Bool) → (n == program.home) ≡ home → (routine : Option Routine) → program.callables.routine n ≡ routine
+        → (t : Option State) → resumed_in program.sections n s ≡ t
+        → at_number program n s ≡ program_step program (if home then s else option_map_or (λ _. s) routine (option_map_or (λ t. t) t s))
+    at_place n e true eh routine er t et = sym (ap (λ y. program_step_from program s y) e)
+    at_place n e false eh (Some f) er t et = sym (ap (λ y. program_step_from program s y) e)
+    at_place n e false eh None er None et = sym (ap (λ y. program_step_from program s y) e)
+    at_place n e false eh None er (Some t) et =
+        (ap (λ y. if y then Ends (Status (pos 0)) s else option_map_or (λ _. step program.callables s) (program.callables.routine n) (option_map_or (λ t. step program.callables t) (resumed_in program.sections n s) Wild)) eh
+        ∙ ap (λ y. option_map_or (λ _. step program.callables s) y (option_map_or (λ t. step program.callables t) (resumed_in program.sections n s) Wild)) er
+        ∙ ap (λ y. option_map_or (λ t. step program.callables t) y Wild) et)
+        ∙ inside_step program t t.control refl (resumed_in_inside program.sections n s t et)
+
+    by_control : (c : Control) → s.control ≡ c → program_step_from program s c ≡ program_step program (settled_from program s c)
+    by_control (Inside own k rest) e = sym (ap (λ y. program_step_from program s y) e)
+    by_control (Behind own l) e = behind own l e (label_rest own.places 0 own.stmts l) refl
+    by_control (At n) e = at_place n e (n == program.home) refl (program.callables.routine n) refl (resumed_in program.sections n s) refl
+
+-- a counted run of states that each goes on as
+module _ (program : Program) where
+  pub data Comes : ℕ → State → State → Type 0 where
+    here : (s : State) → Comes 0 s s
+    go_on : (n : ℕ) (s t u : State) → program_step program s ≡ Goes t → Comes n (settled program t) u → Comes (suc n) s u
+
+  -- a run to a state that steps as the last does
+  pub record Ran (n : ℕ) (s u : State) : Type 0 where
+    pub last : State
+    pub is : run program n s ≡ Goes last
+    pub settles : program_step program last ≡ program_step program u
+
+-- the rest at a statement is among those of the section
+more_rests : (o : Option Rest) (rs : List Rest) (i : ℕ) (r : Rest) → slice_get rs i ≡ Some r → (j : ℕ) × (slice_get (or_rest o rs) j ≡ Some r)
+more_rests None rs i r e = (i, e)
+more_rests (Some q) rs i r e = (suc i, e)
+
+pub rest_among : (places : Placement) (k : ℕ) (stmts : List Stmt) (i : ℕ) (s : Stmt) (r : Rest) → slice_get stmts i ≡ Some s
+    → rest_of places (depth_behind k (take i stmts)) s (drop (suc i) stmts) ≡ Some r → (j : ℕ) × (slice_get (rests places k stmts) j ≡ Some r)
+rest_among places k [] i s r at e = absurd (let h : None ≡ Some s = at in cc)
+rest_among places k (t ∷ rest) zero s r at e =
+    let same : t ≡ s = (let h : Some t ≡ Some s = at in cc) in
+    (0, ap (λ o. slice_get (or_rest o (rests places (next_depth k t) rest)) 0) (ap (λ x. rest_of places k x rest) same ∙ e))
+rest_among places k (t ∷ rest) (suc i) s r at e =
+    let h = rest_among places (next_depth k t) rest i s r at e in
+    more_rests (rest_of places k t rest) (rests places (next_depth k t) rest) h.0 r h.1
+
+-- behind a LAB, with what is in hand
+pub label_settled : (program : Program) (s : State) (own : Placed) (i l : ℕ) → AreFaultless own.stmts → slice_get own.stmts i ≡ Some (Label l) → s.control ≡ Behind own l
+    → settled program s ≡ record s { control = Inside own (depth_behind 0 (take i own.stmts)) (drop (suc i) own.stmts) }
+label_settled program s own i l are at is =
+    ap (settled_from program s) is
+    ∙ ap (λ (r : Option Rest). option_map_or (λ (x : Rest). resumed own x s) r s)
+    (label_rest-at own.places l 0 own.stmts i at (λ j low here. not_before own.stmts j i l (Label l) (Label l) are here at refl refl low))
+
+module _ (program : Program) (first F : ℕ) (well : IsWellPlaced program first F) (section : ℕ) (own : Placed) (is_own : slice_get program.sections section ≡ Some own) where
+  -- at the number of a rest that is no LAB's
+  pub rest_settled : (s : State) (j : ℕ) (r : Rest) → slice_get (rests_of own) j ≡ Some r → r.keeps ≡ false → s.control ≡ At r.place → settled program s ≡ resumed own r s
+  rest_settled s j r at keeps is =
+      let apart = well.is_program.rests_apart section j own r is_own at in
+      ap (settled_from program s) is
+      ∙ ap (λ y. if y then s else option_map_or (λ _. s) (program.callables.routine r.place) (option_map_or (λ t. t) (resumed_in program.sections r.place s) s)) (ne_eqb r.place program.home apart.1)
+      ∙ ap (λ y. option_map_or (λ _. s) y (option_map_or (λ t. t) (resumed_in program.sections r.place s) s)) apart.0
+      ∙ ap (λ y. option_map_or (λ t. t) y s) (well.resumes section j own r s is_own at keeps)
+
+  -- at an entry
+  pub entry_settled : (s : State) (i l : ℕ) (name : List ℕ) → slice_get own.stmts i ≡ Some (Entry l name) → s.control ≡ At (own.places.label l)
+      → settled program s ≡ record s { control = Inside own 2 (Entry l name ∷ drop (suc i) own.stmts); hand = None }
+  entry_settled s i l name at is =
+      let r : Rest = record { place = own.places.label l; depth = 2; takes = false; keeps = false; behind = Entry l name ∷ drop (suc i) own.stmts } in
+      let among = rest_among own.places 0 own.stmts i (Entry l name) r at refl in
+      rest_settled s among.0 r among.1 refl is
+
+  -- behind a call of a function: what is in hand becomes an item
+  pub function_settled : (s : State) (i n : ℕ) → slice_get own.stmts i ≡ Some (CallFunction n) → s.control ≡ At (own.places.call (length (drop (suc i) own.stmts)))
+      → settled program s ≡ record s {
+        control = Inside own (n + 1) (drop (suc i) own.stmts);
+        cells = write s.cells (s.frame + n) (Held Temporary (in_hand s.hand));
+        hand = None;
+        written = (s.frame + n) ∷ s.written;
+      }
+  function_settled s i n at is =
+      let r : Rest = record { place = own.places.call (length (drop (suc i) own.stmts)); depth = n; takes = true; keeps = false; behind = drop (suc i) own.stmts } in
+      let among = rest_among own.places 0 own.stmts i (CallFunction n) r at refl in
+      rest_settled s among.0 r among.1 refl is
+
+  -- behind a call of a routine
+  pub routine_settled : (s : State) (i n : ℕ) → slice_get own.stmts i ≡ Some (CallRoutine n) → s.control ≡ At (own.places.call (length (drop (suc i) own.stmts)))
+      → settled program s ≡ record s { control = Inside own n (drop (suc i) own.stmts); hand = None }
+  routine_settled s i n at is =
+      let r : Rest = record { place = own.places.call (length (drop (suc i) own.stmts)); depth = n; takes = false; keeps = false; behind = drop (suc i) own.stmts } in
+      let among = rest_among own.places 0 own.stmts i (CallRoutine n) r at refl in
+      rest_settled s among.0 r among.1 refl is
+
+-- ---- What each statement's step does, with the depth before it as d + 1, d + 2 or d + 3, where it takes so many items.
+
+-- depths without a difference
+one_off : (d : ℕ) → d + 1 - 1 ≡ d
+one_off d = omega arith
+
+two_off : (d : ℕ) → d + 2 - 2 ≡ d
+two_off d = omega arith
+
+one_of_two : (d : ℕ) → d + 2 - 1 ≡ d + 1
+one_of_two d = omega arith
+
+three_off : (d : ℕ) → d + 3 - 3 ≡ d
+three_off d = omega arith
+
+two_of_three : (d : ℕ) → d + 3 - 2 ≡ d + 1
+two_of_three d = omega arith
+
+one_of_three : (d : ℕ) → d + 3 - 1 ≡ d + 2
+one_of_three d = omega arith
+
+-- on in the procedure with a depth, other cells, and these places written
+abbrev pub onwards : State → Placed → ℕ → List Stmt → (ℕ → Cell) → List ℕ → State
+onwards s own k rest cells places = record s { control = Inside own k rest; cells = below (s.frame + k) cells; hand = None; written = places ++ s.written }
+
+-- with an item more, at depth k
+abbrev pub pushed : State → Placed → ℕ → List Stmt → Content → State
+pushed s own k rest content = onwards s own (k + 1) rest (write s.cells (s.frame + k) (Held Temporary content)) ((s.frame + k) ∷ [])
+
+-- with a result in hand
+abbrev pub handing : State → Placed → ℕ → List Stmt → Content → State
+handing s own k rest result = record s { control = Inside own k rest; cells = below (s.frame + k) s.cells; hand = Some result }
+
+-- in the frame of a call of e, at slot n, with the items below depth d left
+abbrev pub entering : State → Placed → ℕ → ℕ → ℕ → List Stmt → State
+entering s own d n e rest = record s {
+  control = At e;
+  cells = below (s.frame + d) (write (write s.cells (s.frame + n) (Held Link (Word s.frame))) (s.frame + n + 1) (Held Link (Word (own.places.call (length rest)))));
+  frame = s.frame + n;
+  hand = None;
+  written = (s.frame + n + 1) ∷ ((s.frame + n) ∷ s.written);
+}
+
+-- back in the caller's frame
+abbrev pub returning : State → Option Content → ℕ → ℕ → State
+returning s result c p = record s { control = At c; cells = below s.frame s.cells; frame = p; hand = result }
+
+-- back, by the links of the frame
+pub return_goes : (s : State) (result : Option Content) (c p : ℕ) → slot s 1 ≡ Word c → slot s 0 ≡ Word p → return s result ≡ Goes (returning s result c p)
+return_goes s result c p e1 e0 =
+    ap (λ y. on_number y (λ c. on_number (slot s 0) (λ p. Goes (returning s result c p)))) e1 ∙ ap (λ y. on_number y (λ p. Goes (returning s result c p))) e0
+
+-- from a state to another in a step
+abbrev pub Moves : Program → State → State → Type 0
+Moves program s u = (t : State) × (program_step program s ≡ Goes t) × (settled program t ≡ u)
+
+module _ (program : Program) (s : State) (own : Placed) (rest : List Stmt) where
+  -- the step is that of the statement
+  pub step_at : (k : ℕ) (stmt : Stmt) → s.control ≡ Inside own k (stmt ∷ rest) → program_step program s ≡ step_by program.callables s own k stmt rest
+  step_at k stmt e = ap (λ y. program_step_from program s y) e ∙ ap (λ y. step_from program.callables s y) e
+
+  -- ---- an item is pushed
+  pub number_moves : (k : ℕ) (value : ℤ) → s.control ≡ Inside own k (Number value ∷ rest) → Moves program s (pushed s own k rest (Word (word_of value)))
+  number_moves k value e = (_, step_at k (Number value) e, refl)
+
+  pub true_moves : (k : ℕ) → s.control ≡ Inside own k (True ∷ rest) → Moves program s (pushed s own k rest (Word (truth true)))
+  true_moves k e = (_, step_at k True e, refl)
+
+  pub false_moves : (k : ℕ) → s.control ≡ Inside own k (False ∷ rest) → Moves program s (pushed s own k rest (Word (truth false)))
+  false_moves k e = (_, step_at k False e, refl)
+
+  pub query_moves : (k : ℕ) → s.control ≡ Inside own k (Query ∷ rest) → Moves program s (pushed s own k rest Unset)
+  query_moves k e = (_, step_at k Query e, refl)
+
+  pub load_moves : (k : ℕ) (from : Named) → s.control ≡ Inside own k (Load from ∷ rest) → Moves program s (pushed s own k rest (content_of (s.cells (named_place s own from))))
+  load_moves k from e = (_, step_at k (Load from) e, refl)
+
+  pub address_moves : (k : ℕ) (of : Named) → s.control ≡ Inside own k (Address of ∷ rest) → Moves program s (pushed s own k rest (Word (named_place s own of)))
+  address_moves k of e = (_, step_at k (Address of) e, refl)
+
+  pub text_moves : (k : ℕ) (bytes : List ℕ) → s.control ≡ Inside own k (Text bytes ∷ rest) → Moves program s (pushed s own k rest (Word (own.places.text (length rest))))
+  text_moves k bytes e = (_, step_at k (Text bytes) e, refl)
+
+  -- ---- an item takes the place of one or two
+  pub contents_moves : (d a : ℕ) (content : Content) → s.control ≡ Inside own (d + 1) (Monadic Contents ∷ rest) → slot s d ≡ Word a
+      → variable_at (s.frame + (d + 1)) s.cells a ≡ Some content → Moves program s (pushed s own d rest content)
+  contents_moves d a content e ea ev = (
+    _,
+    step_at (d + 1) (Monadic Contents) e
+        ∙ ap (λ y. on_number (slot s y) (λ a. on_some (variable_at (s.frame + (d + 1)) s.cells a) (λ content. Goes (pushed s own y rest content)))) (one_off d)
+        ∙ ap (λ y. on_number y (λ a. on_some (variable_at (s.frame + (d + 1)) s.cells a) (λ content. Goes (pushed s own d rest content)))) ea
+        ∙ ap (λ y. on_some y (λ content. Goes (pushed s own d rest content))) ev,
+    refl,
+  )
+
+  pub negate_moves : (d w : ℕ) → s.control ≡ Inside own (d + 1) (Monadic Negate ∷ rest) → slot s d ≡ Word w → Moves program s (pushed s own d rest (Word (word_negation w)))
+  negate_moves d w e ew = (
+    _,
+    step_at (d + 1) (Monadic Negate) e
+        ∙ ap (λ y. on_number (slot s y) (λ w. Goes (pushed s own y rest (Word (word_negation w))))) (one_off d)
+        ∙ ap (λ y. on_number y (λ w. Goes (pushed s own d rest (Word (word_negation w))))) ew,
+    refl,
+  )
+
+  pub not_moves : (d w : ℕ) → s.control ≡ Inside own (d + 1) (Monadic Not ∷ rest) → slot s d ≡ Word w → Moves program s (pushed s own d rest (Word (word_not w)))
+  not_moves d w e ew = (
+    _,
+    step_at (d + 1) (Monadic Not) e
+        ∙ ap (λ y. on_number (slot s y) (λ w. Goes (pushed s own y rest (Word (word_not w))))) (one_off d)
+        ∙ ap (λ y. on_number y (λ w. Goes (pushed s own d rest (Word (word_not w))))) ew,
+    refl,
+  )
+
+  operates : (d : ℕ) (operator : DyadicOperator) (v w : ℕ) → s.control ≡ Inside own (d + 2) (Dyadic operator ∷ rest) → slot s d ≡ Word v → slot s (d + 1) ≡ Word w
+      → program_step program s ≡ operated s own d rest (dyadic_word operator v w)
+  operates d operator v w e ev ew =
+      step_at (d + 2) (Dyadic operator) e
+      ∙ ap (λ y. on_number (slot s y) (λ v. on_number (slot s (d + 2 - 1)) (λ w. operated s own y rest (dyadic_word operator v w)))) (two_off d)
+      ∙ ap (λ y. on_number (slot s d) (λ v. on_number (slot s y) (λ w. operated s own d rest (dyadic_word operator v w)))) (one_of_two d)
+      ∙ ap (λ y. on_number y (λ v. on_number (slot s (d + 1)) (λ w. operated s own d rest (dyadic_word operator v w)))) ev
+      ∙ ap (λ y. on_number y (λ w. operated s own d rest (dyadic_word operator v w))) ew
+
+  pub dyadic_moves : (d : ℕ) (operator : DyadicOperator) (v w x : ℕ) → s.control ≡ Inside own (d + 2) (Dyadic operator ∷ rest) → slot s d ≡ Word v → slot s (d + 1) ≡ Word w
+      → dyadic_word operator v w ≡ Some x → Moves program s (pushed s own d rest (Word x))
+  dyadic_moves d operator v w x e ev ew ex = (_, operates d operator v w e ev ew ∙ ap (operated s own d rest) ex, refl)
+
+  -- a division by zero ends the run
+  pub dyadic_ends : (d : ℕ) (operator : DyadicOperator) (v w : ℕ) → s.control ≡ Inside own (d + 2) (Dyadic operator ∷ rest) → slot s d ≡ Word v → slot s (d + 1) ≡ Word w
+      → dyadic_word operator v w ≡ None → program_step program s ≡ Ends DivideByZero s
+  dyadic_ends d operator v w e ev ew ex = operates d operator v w e ev ew ∙ ap (operated s own d rest) ex
+
+  pub load_byte_moves : (d a i b : ℕ) → s.control ≡ Inside own (d + 2) (LoadByte ∷ rest) → slot s d ≡ Word a → slot s (d + 1) ≡ Word i
+      → byte_at (s.frame + (d + 2)) s.cells a i ≡ Some b → Moves program s (pushed s own d rest (Word b))
+  load_byte_moves d a i b e ea ei eb = (
+    _,
+    step_at (d + 2) LoadByte e
+        ∙ ap (λ y. on_number (slot s y) (λ a. on_number (slot s (d + 2 - 1)) (λ i. found y a i))) (two_off d)
+        ∙ ap (λ y. on_number (slot s d) (λ a. on_number (slot s y) (λ i. found d a i))) (one_of_two d)
+        ∙ ap (λ y. on_number y (λ a. on_number (slot s (d + 1)) (λ i. found d a i))) ea
+        ∙ ap (λ y. on_number y (λ i. found d a i)) ei
+        ∙ ap (λ y. on_some y (λ b. Goes (pushed s own d rest (Word b)))) eb,
+    refl,
+  )
+    where
+      found : ℕ → ℕ → ℕ → Next
+      found y a i = on_some (byte_at (s.frame + (d + 2)) s.cells a i) (λ b. Goes (pushed s own y rest (Word b)))
+
+  -- ---- items are stored
+  pub assign_moves : (d : ℕ) (to : Named) → s.control ≡ Inside own (d + 1) (Assign to ∷ rest) → has_word to (s.cells (named_place s own to)) ≡ true
+      → Moves program s (onwards s own d rest (write s.cells (named_place s own to) (Held (kind_of (s.cells (named_place s own to))) (slot s d))) (named_place s own to ∷ []))
+  assign_moves d to e eh = (
+    _,
+    step_at (d + 1) (Assign to) e
+        ∙ ap (λ y. if y then Goes (stored (d + 1 - 1)) else Wild) eh
+        ∙ ap (λ y. Goes (stored y)) (one_off d),
+    refl,
+  )
+    where
+      stored : ℕ → State
+      stored y = onwards s own y rest (write s.cells (named_place s own to) (Held (kind_of (s.cells (named_place s own to))) (slot s y))) (named_place s own to ∷ [])
+
+  pub assign_at_moves : (d a : ℕ) (content : Content) → s.control ≡ Inside own (d + 2) (AssignAt ∷ rest) → slot s (d + 1) ≡ Word a
+      → variable_at (s.frame + (d + 2)) s.cells a ≡ Some content → Moves program s (onwards s own d rest (write s.cells a (Held Variable (slot s d))) (a ∷ []))
+  assign_at_moves d a content e ea ev = (
+    _,
+    step_at (d + 2) AssignAt e
+        ∙ ap (λ y. on_number (slot s y) (λ a. stored (d + 2 - 2) a)) (one_of_two d)
+        ∙ ap (λ y. on_number (slot s (d + 1)) (λ a. stored y a)) (two_off d)
+        ∙ ap (λ y. on_number y (λ a. stored d a)) ea
+        ∙ ap (λ y. on_some y (λ _. Goes (onwards s own d rest (write s.cells a (Held Variable (slot s d))) (a ∷ [])))) ev,
+    refl,
+  )
+    where
+      stored : ℕ → ℕ → Next
+      stored y a = on_some (variable_at (s.frame + (d + 2)) s.cells a) (λ _. Goes (onwards s own y rest (write s.cells a (Held Variable (slot s y))) (a ∷ [])))
+
+  pub assign_byte_moves : (d b a i : ℕ) (content : Content) → s.control ≡ Inside own (d + 3) (AssignByte ∷ rest) → slot s d ≡ Word b → slot s (d + 1) ≡ Word a → slot s (d + 2) ≡ Word i
+      → word_with_byte_at (s.frame + (d + 3)) s.cells a i b ≡ Some content
+      → Moves program s (onwards s own d rest (write s.cells (word_sum a (byte_distance i)) (Held Variable content)) (word_sum a (byte_distance i) ∷ []))
+  assign_byte_moves d b a i content e eb ea ei ec = (
+    _,
+    step_at (d + 3) AssignByte e
+        ∙ ap (λ y. on_number (slot s y) (λ b. on_number (slot s (d + 3 - 2)) (λ a. on_number (slot s (d + 3 - 1)) (λ i. stored y b a i)))) (three_off d)
+        ∙ ap (λ y. on_number (slot s d) (λ b. on_number (slot s y) (λ a. on_number (slot s (d + 3 - 1)) (λ i. stored d b a i)))) (two_of_three d)
+        ∙ ap (λ y. on_number (slot s d) (λ b. on_number (slot s (d + 1)) (λ a. on_number (slot s y) (λ i. stored d b a i)))) (one_of_three d)
+        ∙ ap (λ y. on_number y (λ b. on_number (slot s (d + 1)) (λ a. on_number (slot s (d + 2)) (λ i. stored d b a i)))) eb
+        ∙ ap (λ y. on_number y (λ a. on_number (slot s (d + 2)) (λ i. stored d b a i))) ea
+        ∙ ap (λ y. on_number y (λ i. stored d b a i)) ei
+        ∙ ap (λ y. on_some y (λ content. Goes (onwards s own d rest (write s.cells (word_sum a (byte_distance i)) (Held Variable content)) (word_sum a (byte_distance i) ∷ [])))) ec,
+    refl,
+  )
+    where
+      stored : ℕ → ℕ → ℕ → ℕ → Next
+      stored y b a i = on_some (word_with_byte_at (s.frame + (d + 3)) s.cells a i b)
+          (λ content. Goes (onwards s own y rest (write s.cells (word_sum a (byte_distance i)) (Held Variable content)) (word_sum a (byte_distance i) ∷ [])))
+
+  -- ---- jumps, to where the LAB of the label stands
+  pub jump_goes : (k l : ℕ) (to : List Stmt) → from_label own.stmts l ≡ Some to → jump s own k l ≡ Goes (onwards s own k to s.cells [])
+  jump_goes k l to el = ap (λ y. on_some y (λ rest. Goes (onwards s own k rest s.cells []))) el
+
+  pub jump_moves : (k l : ℕ) (to : List Stmt) → s.control ≡ Inside own k (Jump l ∷ rest) → from_label own.stmts l ≡ Some to → Moves program s (onwards s own k to s.cells [])
+  jump_moves k l to e el = (_, step_at k (Jump l) e ∙ jump_goes k l to el, refl)
+
+  -- JT and JF take the item on top
+  jumps_true : (d l w : ℕ) → s.control ≡ Inside own (d + 1) (JumpIf true l ∷ rest) → slot s d ≡ Word w
+      → program_step program s ≡ (if w == 0 then Goes (onwards s own d rest s.cells []) else jump s own d l)
+  jumps_true d l w e ew =
+      step_at (d + 1) (JumpIf true l) e
+      ∙ ap (λ y. on_number (slot s y) (λ w. if w == 0 then Goes (onwards s own y rest s.cells []) else jump s own y l)) (one_off d)
+      ∙ ap (λ y. on_number y (λ w. if w == 0 then Goes (onwards s own d rest s.cells []) else jump s own d l)) ew
+
+  jumps_false : (d l w : ℕ) → s.control ≡ Inside own (d + 1) (JumpIf false l ∷ rest) → slot s d ≡ Word w
+      → program_step program s ≡ (if w == 0 then jump s own d l else Goes (onwards s own d rest s.cells []))
+  jumps_false d l w e ew =
+      step_at (d + 1) (JumpIf false l) e
+      ∙ ap (λ y. on_number (slot s y) (λ w. if w == 0 then jump s own y l else Goes (onwards s own y rest s.cells []))) (one_off d)
+      ∙ ap (λ y. on_number y (λ w. if w == 0 then jump s own d l else Goes (onwards s own d rest s.cells []))) ew
+
+  -- they jump where the item has their truth,
+  pub taken_moves : (d l w : ℕ) (t : Bool) (to : List Stmt) → s.control ≡ Inside own (d + 1) (JumpIf t l ∷ rest) → slot s d ≡ Word w → (w == 0) ≡ not t → from_label own.stmts l ≡ Some to
+      → Moves program s (onwards s own d to s.cells [])
+  taken_moves d l w true to e ew et el =
+      (_, jumps_true d l w e ew ∙ ap (λ y. if y then Goes (onwards s own d rest s.cells []) else jump s own d l) et ∙ jump_goes d l to el, refl)
+  taken_moves d l w false to e ew et el =
+      (_, jumps_false d l w e ew ∙ ap (λ y. if y then jump s own d l else Goes (onwards s own d rest s.cells [])) et ∙ jump_goes d l to el, refl)
+
+  -- and else go on
+  pub passed_moves : (d l w : ℕ) (t : Bool) → s.control ≡ Inside own (d + 1) (JumpIf t l ∷ rest) → slot s d ≡ Word w → (w == 0) ≡ t → Moves program s (onwards s own d rest s.cells [])
+  passed_moves d l w true e ew et =
+      (_, jumps_true d l w e ew ∙ ap (λ y. if y then Goes (onwards s own d rest s.cells []) else jump s own d l) et, refl)
+  passed_moves d l w false e ew et =
+      (_, jumps_false d l w e ew ∙ ap (λ y. if y then jump s own d l else Goes (onwards s own d rest s.cells [])) et, refl)
+
+  pub switch_moves : (d default w : ℕ) (cases : List Case) (to : List Stmt) → s.control ≡ Inside own (d + 1) (Switch default cases ∷ rest) → slot s d ≡ Word w
+      → from_label own.stmts (case_label cases default w) ≡ Some to → Moves program s (onwards s own d to s.cells [])
+  switch_moves d default w cases to e ew el = (
+    _,
+    step_at (d + 1) (Switch default cases) e
+        ∙ ap (λ y. on_number (slot s y) (λ w. jump s own y (case_label cases default w))) (one_off d)
+        ∙ ap (λ y. on_number y (λ w. jump s own d (case_label cases default w))) ew
+        ∙ jump_goes d (case_label cases default w) to el,
+    refl,
+  )
+
+  -- RES jumps with the item in hand
+  pub give_result_moves : (d l : ℕ) (to : List Stmt) → s.control ≡ Inside own (d + 1) (GiveResult l ∷ rest) → from_label own.stmts l ≡ Some to → Moves program s (handing s own d to (slot s d))
+  give_result_moves d l to e el = (
+    _,
+    step_at (d + 1) (GiveResult l) e
+        ∙ ap (λ y. jump_with s own y l (slot s y)) (one_off d)
+        ∙ ap (λ y. on_some y (λ rest. Goes (handing s own d rest (slot s d)))) el,
+    refl,
+  )
+
+  -- a LAB goes on behind it
+  pub label_step : (k l : ℕ) → s.control ≡ Inside own k (Label l ∷ rest) → program_step program s ≡ Goes (record s { control = Behind own l })
+  label_step k l e = step_at k (Label l) e
+
+  -- RSTACK pushes what is in hand
+  pub take_result_moves : (k n : ℕ) → s.control ≡ Inside own k (TakeResult n ∷ rest) → Moves program s (pushed s own n rest (option_map_or (λ result. result) s.hand Unset))
+  take_result_moves k n e = (_, step_at k (TakeResult n) e, refl)
+
+  -- ---- the depth is set, and words become variables
+  pub stack_moves : (k n : ℕ) → s.control ≡ Inside own k (Stack n ∷ rest) → Moves program s (onwards s own n rest (settle (s.frame + k) (s.frame + n) s.cells) [])
+  stack_moves k n e = (_, step_at k (Stack n) e, refl)
+
+  pub store_moves : (k : ℕ) → s.control ≡ Inside own k (Store ∷ rest) → Moves program s (onwards s own k rest (settle (s.frame + 2) (s.frame + k) s.cells) [])
+  store_moves k e = (_, step_at k Store e, refl)
+
+  pub save_moves : (k n : ℕ) → s.control ≡ Inside own k (Save n ∷ rest) → Moves program s (onwards s own n rest (settle (s.frame + 2) (s.frame + n) s.cells) [])
+  save_moves k n e = (_, step_at k (Save n) e, refl)
+
+  pub entry_moves : (k l : ℕ) (name : List ℕ) → s.control ≡ Inside own k (Entry l name ∷ rest) → Moves program s (record s { control = Inside own 2 rest; hand = None })
+  entry_moves k l name e = (_, step_at k (Entry l name) e, refl)
+
+  -- ---- calls and returns
+  calls : (d n e : ℕ) → can_be_called program.callables e ≡ true → nat_lt (2 ^ 31 - 65536) (s.frame + n) ≡ false
+      → call program.callables s own (d + 1) n e rest ≡ Goes (entering s own d n e rest)
+  calls d n e eb el =
+      ap (λ y. if y then (if nat_lt (2 ^ 31 - 65536) (s.frame + n) then Wild else Goes (entering s own (d + 1 - 1) n e rest)) else Wild) eb
+      ∙ ap (λ y. if y then Wild else Goes (entering s own (d + 1 - 1) n e rest)) el
+      ∙ ap (λ y. Goes (entering s own y n e rest)) (one_off d)
+
+  pub call_function_step : (d n e : ℕ) → s.control ≡ Inside own (d + 1) (CallFunction n ∷ rest) → slot s d ≡ Word e → can_be_called program.callables e ≡ true
+      → nat_lt (2 ^ 31 - 65536) (s.frame + n) ≡ false → program_step program s ≡ Goes (entering s own d n e rest)
+  call_function_step d n e ec ew eb el =
+      step_at (d + 1) (CallFunction n) ec
+      ∙ ap (λ y. on_number (slot s y) (λ e. call program.callables s own (d + 1) n e rest)) (one_off d)
+      ∙ ap (λ y. on_number y (λ e. call program.callables s own (d + 1) n e rest)) ew
+      ∙ calls d n e eb el
+
+  pub call_routine_step : (d n e : ℕ) → s.control ≡ Inside own (d + 1) (CallRoutine n ∷ rest) → slot s d ≡ Word e → can_be_called program.callables e ≡ true
+      → nat_lt (2 ^ 31 - 65536) (s.frame + n) ≡ false → program_step program s ≡ Goes (entering s own d n e rest)
+  call_routine_step d n e ec ew eb el =
+      step_at (d + 1) (CallRoutine n) ec
+      ∙ ap (λ y. on_number (slot s y) (λ e. call program.callables s own (d + 1) n e rest)) (one_off d)
+      ∙ ap (λ y. on_number y (λ e. call program.callables s own (d + 1) n e rest)) ew
+      ∙ calls d n e eb el
+
+  -- a call whose frame would begin too high is wild
+  too_high : (d n e : ℕ) → nat_lt (2 ^ 31 - 65536) (s.frame + n) ≡ true → call program.callables s own (d + 1) n e rest ≡ Wild
+  too_high d n e el = by_entry (can_be_called program.callables e)
+    where
+      by_entry : (b : Bool) → (if b then (if nat_lt (2 ^ 31 - 65536) (s.frame + n) then Wild else Goes (entering s own (d + 1 - 1) n e rest)) else Wild) ≡ Wild
+      by_entry true = ap (λ y. if y then Wild else Goes (entering s own (d + 1 - 1) n e rest)) el
+      by_entry false = refl
+
+  pub return_item_step : (d c p : ℕ) → s.control ≡ Inside own (d + 1) (ReturnItem ∷ rest) → slot s 1 ≡ Word c → slot s 0 ≡ Word p
+      → program_step program s ≡ Goes (returning s (Some (slot s d)) c p)
+  return_item_step d c p e e1 e0 =
+      step_at (d + 1) ReturnItem e ∙ ap (λ y. return s (Some (slot s y))) (one_off d) ∙ return_goes s (Some (slot s d)) c p e1 e0
+
+  pub return_step : (k c p : ℕ) → s.control ≡ Inside own k (Return ∷ rest) → slot s 1 ≡ Word c → slot s 0 ≡ Word p → program_step program s ≡ Goes (returning s None c p)
+  return_step k c p e e1 e0 = step_at k Return e ∙ return_goes s None c p e1 e0
+
+  -- ---- the end of the run
+  pub finish_step : (k : ℕ) → s.control ≡ Inside own k (Finish ∷ rest) → program_step program s ≡ Ends (Status (pos 0)) s
+  finish_step k e = step_at k Finish e
 
 -- at a routine of the library a state goes on as itself
 pub at_routine : (program : Program) (s : State) (n : ℕ) (routine : Routine) → s.control ≡ At n → program.callables.routine n ≡ Some routine → settled program s ≡ s

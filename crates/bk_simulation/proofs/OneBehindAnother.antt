@@ -6,9 +6,8 @@ use Rattle.bk_meaning.specs.Lasting.{Lasting}
 use Rattle.bk_simulation.proofs.Laid.{Setting}
 use Rattle.bk_simulation.proofs.Held.{held_in_both, lasting_both}
 use Rattle.bk_simulation.proofs.NamesAgree.{Agree}
-use Rattle.bk_simulation.proofs.BasesBelow.{below_both, set_both}
 use Rattle.bk_simulation.proofs.LastingKinds.{Kind, as_both}
-use Rattle.bk_simulation.proofs.Standing.{Home, Suits, Bases, Mean, follow_first, follow_second, words_first, words_second, length_both}
+use Rattle.bk_simulation.proofs.Standing.{Home, Suits, Bases, Mean, follow_first, follow_second, words_first, words_second, length_both, below_both, set_both}
 
 -- Objects of one part, and then those of another, where other names are in scope, which mean what they should wherever the objects
 -- of the first part have their bases.

@@ -1,22 +1,38 @@
 -- How the program ends where the call of START ends, comes on or falls.
-use Rattle.std.proofs.Common.{◌≡◌, ℕ, zero, suc, ◌+◌, ◌*◌, ◌≤◌, List, ◌++◌, Option, Some, None, refl, sym, ap, ◌∙◌, subst, arith, ◌⊎◌, ⊎_elim, inl, inr}
+use Rattle.std.proofs.Common.{◌≡◌, ℕ, zero, suc, ◌+◌, ◌*◌, ◌≤◌, List, ◌++◌, Option, Some, None, refl, sym, ap, ◌∙◌, subst, arith, ◌⊎◌, ⊎_elim, inl, inr, max, [], ◌∷◌, length}
 use Rattle.bk_base.specs.declared.limit.TheConstants.{FRAME_WORDS}
 use Rattle.bk_base.specs.declared.run_end.End.{End}
-use Rattle.bk_ocode.specs.OcodeState.{State, Goes, Ends}
+use Rattle.bk_ocode.specs.OcodeState.{State, Goes, Ends, At, global_place}
 use Rattle.bk_ocode.specs.OcodeRun.{program_step, run}
 use Rattle.bk_ocode.specs.Frames.{HasFrames}
-use Rattle.bk_meaning.specs.Values.{Value}
+use Rattle.bk_meaning.specs.Values.{Value, procedure, address}
 use Rattle.bk_meaning.specs.World as world
-use Rattle.bk_meaning.specs.World.{World, Exit, Outcome, gives, leaves, ends, undefined, going, each_way, calls_back, status}
-use Rattle.bk_meaning.specs.Program.{Run, Ends as Finishes, Going, Undefined, run_of}
+use Rattle.bk_meaning.specs.World.{World, Exit, Outcome, gives, leaves, ends, undefined, going, each_way, calls_back, status, calling, making}
+use Rattle.bk_meaning.specs.Program.{Run, Ends as Finishes, Going, Undefined, run_of, first_world, started, means}
 use Rattle.bk_simulation.specs.GoingOn.{settled}
-use Rattle.bk_simulation.specs.Simulation.{end_of, IsTooHigh, EndsWithin, ComesWithin, RunsOut, DoesEnd, Does}
-use Rattle.bk_simulation.proofs.Settled.{settled_step}
+use Rattle.bk_simulation.specs.Simulation.{end_of, IsTooHigh, EndsWithin, ComesWithin, RunsOut, DoesEnd, Does, DoesFrom}
+use Rattle.bk_simulation.proofs.Moves.{settled_step, entry_settled}
 use Rattle.bk_simulation.proofs.Laid.{Setting}
-use Rattle.bk_simulation.proofs.Frame.{FewFrames, Account, Reaches, Stopped, Fell, FallsThose, Ran, Went, Falls}
-use Rattle.bk_simulation.proofs.Calls.{AnyExit}
-use Rattle.bk_simulation.proofs.StartRuns.{Over}
+use Rattle.bk_simulation.proofs.Frame.{FewFrames, Account, Reaches, Stopped, Fell, FallsThose, Ran, Went, Falls, state}
+use Rattle.bk_simulation.proofs.Calls.{AnyExit, AloneRuns, body_after, IsProcedure, Procedures}
+use Rattle.bk_simulation.proofs.StartRuns.{Over, FirstStore, few_first, start_runs}
 use Rattle.bk_simulation.proofs.ProgramRuns.{run_after, goes_on_so, RunSo, comes_run}
+use Rattle.std.specs.Prelude.{drop}
+use Rattle.std.specs.Option.{option_map}
+use Rattle.bk_ocode.specs.Access.{number_in}
+use Rattle.bk_ocode.specs.Cells.{Unset, Word, content_of}
+use Rattle.bk_ocode.specs.ProgramStart.{first_cells, first_state}
+use Rattle.bk_ocode.specs.declared.stmt.Stmt.TheVariants.{Entry}
+use Rattle.bk_meaning.specs.Memory.{read}
+use Rattle.bk_meaning.specs.Environment.{Environment, globals_object}
+use Rattle.bk_meaning.specs.Lasting.{Procedure, Program, procedure_of, first_memory}
+use Rattle.bk_meaning.specs.Growing.{history, After}
+use Rattle.bk_meaning.specs.Parts.{Meanings}
+use Rattle.bk_meaning.specs.Calls.{enter, call, run_body, bind_formals, formal_cells}
+use Rattle.bk_meaning.proofs.After.{closing_after}
+use Rattle.bk_simulation.proofs.Compose.{roomy}
+use Rattle.bk_simulation.proofs.Simulates.{Simulates}
+use Rattle.bk_simulation.proofs.Applied.{AloneAdds}
 
 -- the calls that a run tells of
 abbrev pub calls_of : Run → ℕ
@@ -108,3 +124,92 @@ module _ (g : Setting) (s0 s : State) (is : settled g.program s0 ≡ s) (few : F
   pub does_so : (n k : ℕ) (B : Account) (o : Outcome Value) → B.most ≤ 16 * n + 16 → calls_of (run_of (each_way (λ v after. gives v (calls_back k after)) (λ x w. undefined) o)) ≡ g.cap → Ran g s B (Over g s B) AnyExit o
       → Does g.program g.first n s0 (run_of (each_way (λ v after. gives v (calls_back k after)) (λ x w. undefined) o))
   does_so n k B o le ec r = does_those n k B o le ec r.is
+
+-- ---- The program does from its first state what its sections mean.
+
+-- What global 1 holds: nothing, or a procedure and its word.
+pub record NoStart (g : Setting) (p : Program) : Type 0 where
+  pub is : read (first_memory p) (address globals_object 1) ≡ None
+  pub word : content_of (first_cells g.program g.first (global_place 1)) ≡ Unset
+
+pub record HasStart (g : Setting) (p : Program) : Type 0 where
+  pub number : ℕ
+  pub is : read (first_memory p) (address globals_object 1) ≡ Some (procedure number)
+  pub word : content_of (first_cells g.program g.first (global_place 1)) ≡ Word (g.codes.procedure number)
+
+-- the state in which START is called
+abbrev pub called_at : Setting → List ℕ → ℕ → State
+called_at g input start = record { control = At start; cells = first_cells g.program g.first; frame = g.first; hand = None; input = input; output = []; written = [] }
+
+pub some_calls : (k : ℕ) (w0 : World) (o : Outcome Value) → After (history (calling w0)) o → 1 ≤ calls_of (run_of (each_way (λ v after. gives v (calls_back k after)) (λ x w. undefined) o))
+some_calls k w0 (gives v w) h = let c : max w0.most_calls (w0.calls + 1) ≤ w.most_calls = h.most_calls in omega arith
+some_calls k w0 (leaves x w) h = omega arith
+some_calls k w0 (ends e w) h = let c : max w0.most_calls (w0.calls + 1) ≤ w.most_calls = h.most_calls in omega arith
+some_calls k w0 undefined h = omega arith
+some_calls k w0 (going w) h = let c : max w0.most_calls (w0.calls + 1) ≤ w.most_calls = h.most_calls in omega arith
+
+pub enter_after : (m : Meanings) → AloneAdds m → (g : Setting) → Simulates g m → (f : Procedure) (vs : List Value) (w : World) → After (history w) (enter m (Some f) vs w)
+enter_after m alone_after g sim f vs w =
+    let w2 : World = making (formal_cells f.formals vs) w in
+    let env : Environment = bind_formals (length w.memory) 0 f.formals f.env in
+    closing_after _ (length w.memory) (run_body m f.body env w2) (body_after m sim.grows alone_after f.body env w2)
+
+-- where START's procedure is entered, and what its call does from there
+pub record Entered (g : Setting) (m : Meanings) (f : Procedure) (w0 : World) (s0 : State) : Type 0 where
+  pub at : State
+  pub is : settled g.program s0 ≡ at
+  pub few : FewFrames g s0.cells s0.frame g.cap
+  pub ran : (B : Account) → 16 * w0.turns + 16 ≤ B.most → B.least ≤ w0.turns → Ran g at B (Over g at B) AnyExit (enter m (Some f) [] (calling w0))
+
+pub entered_so : (g : Setting) (p : Program) (n : ℕ) (input : List ℕ) → Simulates g (means p n) → AloneRuns g (means p n) → FirstStore g (first_memory p) (first_cells g.program g.first) → (k : ℕ) (f : Procedure) → IsProcedure g k f → 1 ≤ g.cap
+    → Entered g (means p n) f (first_world p input n) (called_at g input (g.codes.procedure k))
+entered_so g p n input sim alone_runs fs k f ip cap1 =
+    let w0 : World = first_world p input n in
+    let s0 : State = called_at g input (g.codes.procedure k) in
+    let s1 : State = state ip.scene.own 2 (Entry ip.label ip.name ∷ drop (suc ip.place) ip.scene.own.stmts) (first_cells g.program g.first) g.first None [] w0 in
+    let few0 : FewFrames g s0.cells s0.frame 1 = λ k h. few_first g.program g.first FRAME_WORDS s0.cells s0.frame k refl fs.frame h in
+    record {
+      at = s1;
+      is = entry_settled g.program g.first FRAME_WORDS g.well ip.scene.section ip.scene.own ip.is_own s0 ip.place ip.label ip.name ip.at (ap At ip.word);
+      few = roomy g s0.cells s0.frame 1 few0 cap1;
+      ran = λ B le le1. start_runs g (means p n) sim alone_runs k f ip (first_cells g.program g.first) w0 fs refl cap1 B le le1;
+    }
+
+pub does_from : (g : Setting) (p : Program) (n : ℕ) (input : List ℕ) → Simulates g (means p n) → AloneRuns g (means p n) → AloneAdds (means p n) → Procedures g p → FirstStore g (first_memory p) (first_cells g.program g.first) → NoStart g p ⊎ HasStart g p
+    → calls_of (started p (read (first_memory p) (address globals_object 1)) (first_world p input n) n) ≡ g.cap
+    → DoesFrom g.program g.first n (first_state g.program g.first input) (started p (read (first_memory p) (address globals_object 1)) (first_world p input n) n)
+does_from g p n input sim alone_runs alone_after procs fs (inl none) ec =
+    let ef : first_state g.program g.first input ≡ None = ap (λ c. option_map (called_at g input) (number_in c)) none.word in
+    subst (λ s. DoesFrom g.program g.first n s (started p (read (first_memory p) (address globals_object 1)) (first_world p input n) n)) (sym ef)
+    ([], input, 0, ap (λ v. started p v (first_world p input n) n) none.is)
+does_from g p n input sim alone_runs alone_after procs fs (inr has) ec =
+    let ef : first_state g.program g.first input ≡ Some (called_at g input (g.codes.procedure has.number)) = ap (λ c. option_map (called_at g input) (number_in c)) has.word in
+    let em : started p (read (first_memory p) (address globals_object 1)) (first_world p input n) n ≡ run_of (call p m (procedure has.number) [] w0) = ap (λ v. started p v w0 n) has.is in
+    subst (λ s. DoesFrom g.program g.first n s (started p (read (first_memory p) (address globals_object 1)) w0 n)) (sym ef)
+    (subst (λ r. Does g.program g.first n (called_at g input (g.codes.procedure has.number)) r) (sym em) (by_procedure (procedure_of p has.number) refl (ap calls_of (sym em) ∙ ec)))
+  where
+    m : Meanings
+    m = means p n
+
+    w0 : World
+    w0 = first_world p input n
+
+    run_at : Option Procedure → Run
+    run_at o = run_of (each_way (λ v after. gives v (calls_back 0 after)) (λ x w. undefined) (enter m o [] (calling w0)))
+
+    B : Account
+    B = record { most = 16 * n + 16; least = 0 }
+
+    by_procedure : (o : Option Procedure) → procedure_of p has.number ≡ o → calls_of (run_at (procedure_of p has.number)) ≡ g.cap → Does g.program g.first n (called_at g input (g.codes.procedure has.number)) (run_at (procedure_of p has.number))
+    by_procedure None eo ec = subst (λ x. Does g.program g.first n (called_at g input (g.codes.procedure has.number)) (run_at x)) (sym eo) tt
+    by_procedure (Some f) eo ec =
+        subst (λ x. Does g.program g.first n (called_at g input (g.codes.procedure has.number)) (run_at x)) (sym eo)
+        (at_procedure f (procs.each has.number f eo) (ap (λ x. calls_of (run_at x)) (sym eo) ∙ ec))
+      where
+        at_procedure : (f : Procedure) → IsProcedure g has.number f → calls_of (run_at (Some f)) ≡ g.cap → Does g.program g.first n (called_at g input (g.codes.procedure has.number)) (run_at (Some f))
+        at_procedure f ip ec =
+            let o : Outcome Value = enter m (Some f) [] (calling w0) in
+            let c1 : 1 ≤ calls_of (run_at (Some f)) = some_calls 0 w0 o (enter_after m alone_after g sim f [] (calling w0)) in
+            let cap1 : 1 ≤ g.cap = omega arith in
+            let x = entered_so g p n input sim alone_runs fs has.number f ip cap1 in
+            does_so g (called_at g input (g.codes.procedure has.number)) x.at x.is x.few n 0 B o (omega arith) ec (x.ran B (omega arith) (omega arith))

@@ -16,15 +16,13 @@ use Rattle.bk_simulation.proofs.Memory.{Codes, BaseOf, one_base}
 use Rattle.bk_simulation.proofs.Laid.{Setting}
 use Rattle.bk_simulation.proofs.Held.{HeldWord, HeldOne, HeldList}
 use Rattle.bk_simulation.proofs.HeldData.{get_behind}
-use Rattle.bk_simulation.proofs.Procedures.{IsProcedure}
-use Rattle.bk_simulation.proofs.BasesBelow.{AreBelow, AreSet}
+use Rattle.bk_simulation.proofs.Calls.{IsProcedure}
 use Rattle.bk_simulation.proofs.LastingKinds.{Kind, string, words_at, entry, AreAs}
-use Rattle.bk_simulation.proofs.LastingStore.{library_word, IsSized, HoldsEntry, HoldsOne}
+use Rattle.bk_simulation.proofs.LastingFits.{library_word, IsSized, HoldsEntry, HoldsOne}
 use Rattle.bk_simulation.proofs.LaidPrograms.{setting, AreLaid}
 use Rattle.bk_simulation.proofs.SectionGlobals.{all_set_same}
-use Rattle.bk_simulation.proofs.Standing.{Follow, FollowWords}
-use Rattle.bk_simulation.proofs.SectionsLie.{SectionsLie, weights, sections_lie, all_bases, all_entries, all_counted, all_placed, AreIn, HasAll, others_suit, all_held, first_alike}
-use Rattle.bk_simulation.proofs.SectionsSet.{sections_set}
+use Rattle.bk_simulation.proofs.Standing.{Follow, FollowWords, AreBelow, AreSet}
+use Rattle.bk_simulation.proofs.SectionsLie.{SectionsLie, weights, sections_lie, all_bases, all_entries, all_counted, all_placed, AreIn, HasAll, others_suit, all_held, first_alike, sections_set}
 
 -- ---- words of procedures by their numbers; other numbers have a word too
 

@@ -20,7 +20,7 @@ use Rattle.bk_meaning.specs.Environment.{objects_of_declarations}
 use Rattle.bk_meaning.specs.Lasting.{Lasting, global_vector, words, code, of_declarations, of_sections}
 use Rattle.bk_simulation.specs.Placement.{StandFor}
 use Rattle.bk_simulation.proofs.Memory.{Codes}
-use Rattle.bk_simulation.proofs.LastingStore.{setting_of, settings}
+use Rattle.bk_simulation.proofs.LastingFits.{setting_of, settings}
 
 -- ---- nothing stands behind GLOBAL
 

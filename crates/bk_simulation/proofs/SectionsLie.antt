@@ -1,5 +1,5 @@
 -- What lasts of all sections of a program, one behind the other.
-use Rattle.std.proofs.Common.{◌≡◌, ℕ, suc, ◌+◌, ◌<◌, ◌≤◌, List, [], ◌∷◌, ◌++◌, length, Some, refl, arith, slice_get}
+use Rattle.std.proofs.Common.{◌≡◌, ℕ, suc, ◌+◌, ◌<◌, ◌≤◌, List, [], ◌∷◌, ◌++◌, length, Some, refl, arith, slice_get, map, Option, sym, ap, ap₂, ◌∙◌}
 use Rattle.bk_base.specs.declared.limit.TheConstants.{FRAME_WORDS}
 use Rattle.bk_tree.specs.Tree.{Declarations}
 use Rattle.bk_ocode.specs.OcodeState.{Placed}
@@ -7,17 +7,26 @@ use Rattle.bk_ocode.specs.OcodeRun.{Program}
 use Rattle.bk_ocode.specs.WellPlaced.{IsWellPlaced}
 use Rattle.bk_trans.specs.Naming.{named_tree}
 use Rattle.bk_meaning.specs.Environment.{objects_of_declarations}
-use Rattle.bk_meaning.specs.Lasting.{of_declarations, of_sections}
+use Rattle.bk_meaning.specs.Lasting.{of_declarations, of_sections, Lasting, words, code}
 use Rattle.bk_simulation.specs.Placement.{AreAccepted, StandFor}
 use Rattle.bk_simulation.proofs.Weights.{weight_declared}
 use Rattle.bk_simulation.proofs.Sought.{with_names}
 use Rattle.bk_simulation.proofs.Laid.{Setting}
 use Rattle.bk_simulation.proofs.Held.{HeldList, held_both, held_out, lasting_both}
-use Rattle.bk_simulation.proofs.BasesBelow.{AreBelow, AreSet, below_both, set_both}
-use Rattle.bk_simulation.proofs.LastingKinds.{AreAs, kinds_of_declarations}
+use Rattle.bk_simulation.proofs.LastingKinds.{AreAs, kinds_of_declarations, Kind, string, words_at, entry, Alike, bound_global, IsCalled, alike_declarations}
 use Rattle.bk_simulation.proofs.NamesAgree.{Agree}
-use Rattle.bk_simulation.proofs.Standing.{home, Follow, FollowWords, follow_first, follow_second, words_first, words_second, length_both, Suits, Bases, Mean}
+use Rattle.bk_simulation.proofs.Standing.{home, Follow, FollowWords, follow_first, follow_second, words_first, words_second, length_both, Suits, Bases, Mean, AreBelow, AreSet, below_both, set_both}
 use Rattle.bk_simulation.proofs.LaidSections.{section_scene, section_lies}
+use Rattle.std.proofs.lemmas.List.{map-append}
+use Rattle.bk_scope.specs.declared.bound.Bound.{Bound}
+use Rattle.bk_scope.specs.declared.bound.Bound.TheVariants as b
+use Rattle.bk_ocode.specs.Lists.{joined}
+use Rattle.bk_ocode.specs.SectionData.{entry_setting}
+use Rattle.bk_ocode.specs.declared.stmt.GlobalEntry.{GlobalEntry}
+use Rattle.bk_trans.specs.Scheme.{entry_of, entries_of}
+use Rattle.bk_simulation.proofs.Memory.{Codes}
+use Rattle.bk_simulation.proofs.LastingFits.{setting_of, settings}
+use Rattle.bk_simulation.proofs.SectionGlobals.{SetSame}
 
 -- what lasts of the section k, with numbers from i on
 abbrev pub SectionLies : ℕ → ℕ → Placed → ℕ → Declarations → Type 0
@@ -128,3 +137,55 @@ all_held g pay k i (ds ∷ rest) (own ∷ others) h a =
 pub first_alike : (g : Setting) (pay k i : ℕ) (ds : Declarations) (rest : List Declarations) (own : Placed) (others : List Placed) (h : SectionsLie pay k i (ds ∷ rest) (own ∷ others)) → HasAll g pay k i (ds ∷ rest) (own ∷ others) h
     → AreAs own (kinds_of_declarations 1 (named_tree ds)) (of_declarations (with_names [] i) ds) h.0.bases h.0.entries
 first_alike g pay k i ds rest own others h a = h.0.alike g (first_suits g pay k i ds rest own others h a) [] no_names (none_mean g k own ds pay)
+
+-- ---- The globals that sections set are those that their procedures set in the meaning.
+
+-- the global that an object of this kind sets
+abbrev kind_entries : Kind → List GlobalEntry
+kind_entries (entry n y) = entry_of n y
+kind_entries _ = []
+
+entries_alike : Alike entries_of kind_entries
+entries_alike = record {
+  of_string = refl;
+  of_label = λ n s x. refl;
+  of_item = λ n i. refl;
+  of_table = λ n ws. refl;
+  of_routine = λ n y x m c. refl;
+  of_function = λ n y x m e. refl;
+}
+
+one_set : (codes : Codes) (own : Placed) (i n : ℕ) (g : Option ℕ) (y : Bound) → g ≡ bound_global y → IsCalled y → codes.procedure i ≡ own.places.label n → map (entry_setting own.places) (entry_of n y) ≡ setting_of codes i g
+one_set codes own i n g (b.Static m) e c k = sym (ap (setting_of codes i) e)
+one_set codes own i n g (b.Global (Some v)) e c k = ap (λ w. record { global = v; value = w } ∷ []) (sym k) ∙ sym (ap (setting_of codes i) e)
+one_set codes own i n g _ e c k = elim c [ ]
+
+as_set : (codes : Codes) (own : Placed) (i : ℕ) (ks : List Kind) (xs : List Lasting) (vs ws : List ℕ) → AreAs own ks xs vs ws → FollowWords codes.procedure i ws → map (entry_setting own.places) (joined kind_entries ks) ≡ settings codes i xs
+as_set codes own i [] [] [] [] a f = refl
+as_set codes own i (string ∷ ks) (words us ∷ xs) (v ∷ vs) (w ∷ ws) a f = as_set codes own (suc i) ks xs vs ws a.1 f.1
+as_set codes own i (words_at n us ∷ ks) (words ts ∷ xs) (v ∷ vs) (w ∷ ws) a f = as_set codes own (suc i) ks xs vs ws a.1 f.1
+as_set codes own i (entry n y ∷ ks) (code p ∷ xs) (v ∷ vs) (w ∷ ws) a f =
+    let is = a.0 in
+    map-append (entry_setting own.places) (entry_of n y) (joined kind_entries ks)
+    ∙ ap₂ (λ us ts. us ++ ts) (one_set codes own i n p.global y is.2 is.3 (f.0 ∙ is.1)) (as_set codes own (suc i) ks xs vs ws a.1 f.1)
+as_set codes own i [] (x ∷ xs) vs ws a f = absurd a
+as_set codes own i [] [] (v ∷ vs) ws a f = absurd a
+as_set codes own i [] [] [] (w ∷ ws) a f = absurd a
+as_set codes own i (k ∷ ks) [] vs ws a f = absurd a
+as_set codes own i (k ∷ ks) (x ∷ xs) [] ws a f = absurd a
+as_set codes own i (k ∷ ks) (x ∷ xs) (v ∷ vs) [] a f = absurd a
+as_set codes own i _ _ (v ∷ vs) (w ∷ ws) a f = elim (a.0) [ ]
+
+-- EACH SECTION SETS what its procedures set
+pub sections_set : (g : Setting) (pay k i : ℕ) (sections : List Declarations) (owns : List Placed) (h : SectionsLie pay k i sections owns) → HasAll g pay k i sections owns h → StandFor sections owns → SetSame g.codes i sections owns
+sections_set g pay k i [] [] h a st = tt
+sections_set g pay k i (ds ∷ rest) (own ∷ others) h a st = (
+  record {
+    same = ap (map (entry_setting own.places)) (alike_declarations entries_of kind_entries entries_alike 2 1 (named_tree ds))
+        ∙ as_set g.codes own i (kinds_of_declarations 1 (named_tree ds)) (of_declarations (with_names [] i) ds) h.0.bases h.0.entries (first_alike g pay k i ds rest own others h a)
+        (first_suits g pay k i ds rest own others h a).words;
+    many = h.0.count [];
+  },
+  sections_set g pay (suc k) (i + objects_of_declarations ds) rest others h.1 (others_suit g pay k i ds rest own others h a) st.1,
+)
+sections_set g pay k i _ _ h a st = absurd st

@@ -15,7 +15,7 @@ use Rattle.bk_meaning.specs.World.{World, Outcome, Done}
 use Rattle.bk_meaning.specs.Growing.{history, After, Throughout}
 use Rattle.bk_meaning.specs.Parts.{Target, at, byte_at, Meanings}
 use Rattle.bk_simulation.proofs.Memory.{BaseOf, Alive, Stands}
-use Rattle.bk_simulation.proofs.Sizes.{turns_of, turns_among, turns_in, turns_through}
+use Rattle.bk_simulation.proofs.Weights.{turns_of, turns_among, turns_in, turns_through}
 use Rattle.bk_simulation.proofs.Laid.{Setting, IsValue, IsJump, IsAddress, IsStore, IsAct, IsScopeAt, IsLoop, IsForLoop, Entered, EnteredAny, EnteredBody}
 use Rattle.bk_simulation.proofs.Frame.{Sit, start, place_of, Ready, Account, Ran, ArrivedAt, Has, Out}
 

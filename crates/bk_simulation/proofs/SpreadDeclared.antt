@@ -18,7 +18,7 @@ use Rattle.bk_meaning.proofs.Numbers.{expression_counted, action_counted, declar
 use Rattle.bk_meaning.proofs.Standing.{bound-next, labelled-next, in_scope-next, declared-next, all_declared-next}
 use Rattle.bk_simulation.proofs.Laid.{Setting, Scene, Spot, pushes, owning, variables_bound, defines_variables, IsCode, IsAct, AreActs, AreDeclared, IsOneDeclared, AreDefined, AreStarts}
 use Rattle.bk_simulation.proofs.Held.{HeldIn}
-use Rattle.bk_simulation.proofs.Procedures.{IsProcedure}
+use Rattle.bk_simulation.proofs.Calls.{IsProcedure}
 use Rattle.bk_simulation.proofs.StringCounts.{Form, some_words, IsSpan, Spread, by_path, same_on, spread_none, spread_top, spread_bottom, spread_both, spread_words, spread_procedure, spread_as}
 use Rattle.bk_simulation.proofs.StringForms.{forms_of_items, forms, forms_of_action, forms_of_actions, forms_of_declaration, forms_of_declarations, forms_of_definition, forms_of_definitions, forms_of_starts, store_plain, Numbered, later, same_numbers, held_front, held_back, IsOwn}
 use Rattle.bk_simulation.proofs.Weights.{weight_through, weight_declared, weight_one_declared, weight_defined, weight_started}

@@ -21,21 +21,18 @@ use Rattle.bk_meaning.specs.Parts.{Meanings}
 use Rattle.bk_meaning.specs.Calls.{formal_cells, bind_formals, enter}
 use Rattle.bk_ocode.proofs.Chosen.{settle-kept}
 use Rattle.bk_simulation.specs.GoingOn.{settled, settled_from}
-use Rattle.bk_simulation.proofs.Moves.{Moves, entry_moves, save_moves}
-use Rattle.bk_simulation.proofs.StatementSteps.{returning}
+use Rattle.bk_simulation.proofs.Moves.{Moves, entry_moves, save_moves, returning}
 use Rattle.bk_simulation.proofs.FramesKept.{links_kept, links_through, links_below, links_settled}
 use Rattle.bk_simulation.proofs.Memory.{BaseOf, Like, like_on, StandsCell, Store, Grown, Fits, fits_above, fits_more}
-use Rattle.bk_simulation.proofs.ListPlaces.{get_new}
-use Rattle.bk_simulation.proofs.MadeObjects.{make, grown_made, make_fits}
+use Rattle.bk_simulation.proofs.MadeObjects.{make, grown_made, make_fits, get_new}
 use Rattle.bk_simulation.proofs.WrittenCells.{below_at, below_like, settle_like, settle_at}
 use Rattle.bk_simulation.proofs.BytesKept.{HasBytes, AllBytes, moves_bytes}
 use Rattle.bk_simulation.proofs.Laid.{Setting}
 use Rattle.bk_simulation.proofs.Frame.{Sit, state, FewFrames, Ready, Account, Comes, here, go_on, comes_on, one, Ran, ran_from, there, Stopped}
 use Rattle.bk_simulation.proofs.Compose.{roomy}
 use Rattle.bk_simulation.proofs.Simulates.{Simulates}
-use Rattle.bk_simulation.proofs.Procedures.{IsProcedure}
 use Rattle.bk_simulation.proofs.NewFrames.{formals_long, formal_is}
-use Rattle.bk_simulation.proofs.Calls.{AnyExit, Yielded, AloneRuns, for_body, body_small, body_runs, closing_ran}
+use Rattle.bk_simulation.proofs.Calls.{AnyExit, Yielded, AloneRuns, for_body, body_small, body_runs, closing_ran, IsProcedure}
 use Rattle.bk_simulation.proofs.EnteredCalls.{in_body, links_free}
 
 -- what the store holds before START is called

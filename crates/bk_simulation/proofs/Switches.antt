@@ -19,16 +19,16 @@ use Rattle.bk_meaning.specs.Commands.{case_exit, ended_case, choose_case}
 use Rattle.bk_meaning.proofs.After.{Adds, adds, stays, either_after, each_way_after}
 use Rattle.bk_simulation.proofs.Moves.{switch_moves}
 use Rattle.bk_simulation.proofs.WrittenCells.{below_like}
-use Rattle.bk_simulation.proofs.Sizes.{turns_of, turns_in}
+use Rattle.bk_simulation.proofs.Weights.{turns_of, turns_in}
 use Rattle.bk_simulation.proofs.Sought.{same_stands}
 use Rattle.bk_simulation.proofs.Laid.{Setting, in_switch, LabelAt, IsAct, Entered}
 use Rattle.bk_simulation.proofs.Frame.{Sit, start, Ready, Account, paying, went, each_way_ran, so, ArrivedAt, there, Has, Out, next, ready_next}
 use Rattle.bk_simulation.proofs.Compose.{links_below, arrived_paid, comes_to, outside}
 use Rattle.bk_simulation.proofs.Simulates.{Simulates, for_value, for_act, RanDid}
-use Rattle.bk_simulation.proofs.Operands.{one_run}
+use Rattle.bk_simulation.proofs.Operators.{one_run}
 use Rattle.bk_simulation.proofs.ControlSteps.{landed_on, caught_at}
 use Rattle.bk_simulation.proofs.Orders.{by_test, not_true, ready_at}
-use Rattle.bk_simulation.proofs.Valofs.{around_ready}
+use Rattle.bk_simulation.proofs.Scopes.{around_ready}
 
 -- in a SWITCHON
 abbrev switching : ℕ → Sit → Sit

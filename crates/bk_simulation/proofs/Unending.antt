@@ -17,23 +17,22 @@ use Rattle.bk_meaning.specs.Program.{Going, Undefined, means, meaning, started, 
 use Rattle.bk_meaning.proofs.MeaningSpending.{cut_only_without_turns}
 use Rattle.bk_ocode.specs.WellPlaced.{IsWellPlaced}
 use Rattle.bk_simulation.specs.GoingOn.{settled}
-use Rattle.bk_simulation.specs.Simulation.{Begin, RunsOut, StillGoes, RunsOutOnTheWay, IsWithoutEnd}
+use Rattle.bk_simulation.specs.Simulation.{Begin, RunsOut, StillGoes, RunsOutOnTheWay, IsWithoutEnd, StepsDoWhatSourcesMean, StepsGoOnWithTheirSource, StartsWithTheirSource}
 use Rattle.bk_simulation.proofs.Laid.{Setting}
 use Rattle.bk_simulation.proofs.Frame.{Account, FewFrames, Comes, here, go_on, FallsThose, Reaches, Ran}
 use Rattle.bk_simulation.proofs.Simulates.{Simulates}
-use Rattle.bk_simulation.proofs.Procedures.{Procedures}
-use Rattle.bk_simulation.proofs.Calls.{AnyExit}
+use Rattle.bk_simulation.proofs.Calls.{AnyExit, Procedures}
 use Rattle.bk_simulation.proofs.EnteredCalls.{is_above, is_at_most}
-use Rattle.bk_simulation.proofs.All.{alone_runs, alone_adds}
-use Rattle.bk_simulation.proofs.Meanings.{simulates}
-use Rattle.bk_simulation.proofs.ProgramRuns.{goes_on_so, comes_run}
-use Rattle.bk_simulation.proofs.WrittenRuns.{passed}
+use Rattle.bk_simulation.proofs.All.{alone_runs, alone_adds, simulates}
+use Rattle.bk_simulation.proofs.ProgramRuns.{goes_on_so, comes_run, passed}
 use Rattle.bk_simulation.proofs.StartRuns.{Over}
-use Rattle.bk_simulation.proofs.ProgramEnds.{calls_of, fell_out}
-use Rattle.bk_simulation.proofs.StartCalled.{NoStart, HasStart, called_at, some_calls, enter_after, entered_so}
+use Rattle.bk_simulation.proofs.ProgramEnds.{calls_of, fell_out, NoStart, HasStart, called_at, some_calls, enter_after, entered_so}
 use Rattle.bk_simulation.proofs.LastingFits.{first_store, start_there}
-use Rattle.bk_simulation.proofs.LaidPrograms.{setting, AreLaid, knows}
+use Rattle.bk_simulation.proofs.LaidPrograms.{setting, AreLaid, knows, laid_does, starts_with_their_source}
 use Rattle.bk_simulation.proofs.Orders.{by_test}
+use Rattle.bk_simulation.specs.Placement.{AreAccepted, StandFor}
+use Rattle.bk_simulation.proofs.ProgramLaid.{Together, laid_together}
+use Rattle.bk_simulation.proofs.LieApart.{apart_together}
 
 -- so many steps pay so much
 abbrev times : ℕ → ℕ → ℕ
@@ -169,3 +168,19 @@ laid_goes_on sections program first input s well laid es without j =
             (λ v ev. cut_only_without_turns p (procedure x.number) [] n w0 v (omega arith) (ap (λ u. back_to 0 (enter m u [] (calling w0))) eo ∙ ev)) bytes left calls e refl (y.ran B (omega arith) (omega arith)) in
             ⊎_elim (λ (q : Far g n (called_at g input (g.codes.procedure x.number)) bytes). inl (there (subst (λ u. Far g n u bytes) at q)))
             (λ (q : RunsOut program first (called_at g input (g.codes.procedure x.number)) calls bytes). inr (record { turns = n; bytes = bytes; left = left; calls = calls; means = means_so; runs_out = subst (λ u. RunsOut program first u calls bytes) at q })) z
+
+-- ---- THE LAWS OF PROGRAMS: the steps of OCODE do what the source means.
+
+are_laid : (program : Program) (first : ℕ) (sections : List Declarations) → AreAccepted sections → StandFor sections program.sections → (well : IsWellPlaced program first FRAME_WORDS) → AreLaid program first well sections
+are_laid program first sections accepted stand well =
+    let t : Together program first sections = record { well = well; accepted = accepted; stand = stand } in
+    laid_together program first sections t (apart_together program first sections t)
+
+pub steps_do_what_sources_mean : StepsDoWhatSourcesMean
+steps_do_what_sources_mean sections program first n input accepted stand well = laid_does sections program first n input well (are_laid program first sections accepted stand well)
+
+pub steps_go_on_with_their_source : StepsGoOnWithTheirSource
+steps_go_on_with_their_source sections program first input s accepted stand well starts without = laid_goes_on sections program first input s well (are_laid program first sections accepted stand well) starts without
+
+pub programs_start_with_their_source : StartsWithTheirSource
+programs_start_with_their_source sections program first input accepted stand well = starts_with_their_source sections program first input well (are_laid program first sections accepted stand well)

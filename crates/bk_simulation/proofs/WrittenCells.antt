@@ -7,9 +7,8 @@ use Rattle.bk_meaning.specs.Values.{Value, number, address, unset, Cell as Cell_
 use Rattle.bk_meaning.specs.Memory.{Memory, living, cells_of, cells_at, cell_at, replaced, with_cell, read}
 use Rattle.bk_ocode.specs.Cells.{Content, Word, Variable, Link, Cell, Free, Held, content_of, write, below, settle}
 use Rattle.bk_ocode.specs.Access.{variable_in, variable_at}
-use Rattle.bk_simulation.proofs.ListPlaces.{get_set, set_length}
 use Rattle.bk_simulation.proofs.Memory.{Like, like_refl, BaseOf, size_in, Alive, IsCell, Store, Moved, cell_alive, one_base, Codes, Stands, StandsCell, Fits}
-use Rattle.bk_simulation.proofs.MadeObjects.{alive_is, alive_from, cell_in, object_there}
+use Rattle.bk_simulation.proofs.MadeObjects.{alive_is, alive_from, cell_in, object_there, get_set, set_length}
 
 -- ---- cells of the store
 

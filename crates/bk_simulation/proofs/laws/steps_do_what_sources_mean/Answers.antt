@@ -1,4 +1,4 @@
-use Rattle.bk_simulation.proofs.ProgramLaws.{steps_do_what_sources_mean}
+use Rattle.bk_simulation.proofs.Unending.{steps_do_what_sources_mean}
 use Rattle.bk_simulation.proofs.laws.steps_do_what_sources_mean.Goals as goal
 
 pub returns : goal.returns
