@@ -76,18 +76,6 @@ settled_step program s = by_control s.control refl
     by_control (Behind own l) e = behind own l e (label_rest own.places 0 own.stmts l) refl
     by_control (At n) e = at_place n e (n == program.home) refl (program.callables.routine n) refl (resumed_in program.sections n s) refl
 
--- a counted run of states that each goes on as
-module _ (program : Program) where
-  pub data Comes : ℕ → State → State → Type 0 where
-    here : (s : State) → Comes 0 s s
-    go_on : (n : ℕ) (s t u : State) → program_step program s ≡ Goes t → Comes n (settled program t) u → Comes (suc n) s u
-
-  -- a run to a state that steps as the last does
-  pub record Ran (n : ℕ) (s u : State) : Type 0 where
-    pub last : State
-    pub is : run program n s ≡ Goes last
-    pub settles : program_step program last ≡ program_step program u
-
 -- the rest at a statement is among those of the section
 more_rests : (o : Option Rest) (rs : List Rest) (i : ℕ) (r : Rest) → slice_get rs i ≡ Some r → (j : ℕ) × (slice_get (or_rest o rs) j ≡ Some r)
 more_rests None rs i r e = (i, e)
@@ -207,6 +195,9 @@ abbrev pub Moves : Program → State → State → Type 0
 Moves program s u = (t : State) × (program_step program s ≡ Goes t) × (settled program t ≡ u)
 
 module _ (program : Program) (s : State) (own : Placed) (rest : List Stmt) where
+  moves_to : {u : State} → program_step program s ≡ Goes u → settled program u ≡ u → Moves program s u
+  moves_to {u} e h = (u, e, h)
+
   -- the step is that of the statement
   pub step_at : (k : ℕ) (stmt : Stmt) → s.control ≡ Inside own k (stmt ∷ rest) → program_step program s ≡ step_by program.callables s own k stmt rest
   step_at k stmt e = ap (λ y. program_step_from program s y) e ∙ ap (λ y. step_from program.callables s y) e
@@ -236,41 +227,17 @@ module _ (program : Program) (s : State) (own : Placed) (rest : List Stmt) where
   -- ---- an item takes the place of one or two
   pub contents_moves : (d a : ℕ) (content : Content) → s.control ≡ Inside own (d + 1) (Monadic Contents ∷ rest) → slot s d ≡ Word a
       → variable_at (s.frame + (d + 1)) s.cells a ≡ Some content → Moves program s (pushed s own d rest content)
-  contents_moves d a content e ea ev = (
-    _,
-    step_at (d + 1) (Monadic Contents) e
-        ∙ ap (λ y. on_number (slot s y) (λ a. on_some (variable_at (s.frame + (d + 1)) s.cells a) (λ content. Goes (pushed s own y rest content)))) (one_off d)
-        ∙ ap (λ y. on_number y (λ a. on_some (variable_at (s.frame + (d + 1)) s.cells a) (λ content. Goes (pushed s own d rest content)))) ea
-        ∙ ap (λ y. on_some y (λ content. Goes (pushed s own d rest content))) ev,
-    refl,
-  )
+  contents_moves d a content e ea ev = moves_to (step_at (d + 1) (Monadic Contents) e ∙ rw (one_off d, ea, ev)) refl
 
   pub negate_moves : (d w : ℕ) → s.control ≡ Inside own (d + 1) (Monadic Negate ∷ rest) → slot s d ≡ Word w → Moves program s (pushed s own d rest (Word (word_negation w)))
-  negate_moves d w e ew = (
-    _,
-    step_at (d + 1) (Monadic Negate) e
-        ∙ ap (λ y. on_number (slot s y) (λ w. Goes (pushed s own y rest (Word (word_negation w))))) (one_off d)
-        ∙ ap (λ y. on_number y (λ w. Goes (pushed s own d rest (Word (word_negation w))))) ew,
-    refl,
-  )
+  negate_moves d w e ew = moves_to (step_at (d + 1) (Monadic Negate) e ∙ rw (one_off d, ew)) refl
 
   pub not_moves : (d w : ℕ) → s.control ≡ Inside own (d + 1) (Monadic Not ∷ rest) → slot s d ≡ Word w → Moves program s (pushed s own d rest (Word (word_not w)))
-  not_moves d w e ew = (
-    _,
-    step_at (d + 1) (Monadic Not) e
-        ∙ ap (λ y. on_number (slot s y) (λ w. Goes (pushed s own y rest (Word (word_not w))))) (one_off d)
-        ∙ ap (λ y. on_number y (λ w. Goes (pushed s own d rest (Word (word_not w))))) ew,
-    refl,
-  )
+  not_moves d w e ew = moves_to (step_at (d + 1) (Monadic Not) e ∙ rw (one_off d, ew)) refl
 
   operates : (d : ℕ) (operator : DyadicOperator) (v w : ℕ) → s.control ≡ Inside own (d + 2) (Dyadic operator ∷ rest) → slot s d ≡ Word v → slot s (d + 1) ≡ Word w
       → program_step program s ≡ operated s own d rest (dyadic_word operator v w)
-  operates d operator v w e ev ew =
-      step_at (d + 2) (Dyadic operator) e
-      ∙ ap (λ y. on_number (slot s y) (λ v. on_number (slot s (d + 2 - 1)) (λ w. operated s own y rest (dyadic_word operator v w)))) (two_off d)
-      ∙ ap (λ y. on_number (slot s d) (λ v. on_number (slot s y) (λ w. operated s own d rest (dyadic_word operator v w)))) (one_of_two d)
-      ∙ ap (λ y. on_number y (λ v. on_number (slot s (d + 1)) (λ w. operated s own d rest (dyadic_word operator v w)))) ev
-      ∙ ap (λ y. on_number y (λ w. operated s own d rest (dyadic_word operator v w))) ew
+  operates d operator v w e ev ew = step_at (d + 2) (Dyadic operator) e ∙ rw (two_off d, one_of_two d, ev, ew)
 
   pub dyadic_moves : (d : ℕ) (operator : DyadicOperator) (v w x : ℕ) → s.control ≡ Inside own (d + 2) (Dyadic operator ∷ rest) → slot s d ≡ Word v → slot s (d + 1) ≡ Word w
       → dyadic_word operator v w ≡ Some x → Moves program s (pushed s own d rest (Word x))
@@ -283,68 +250,21 @@ module _ (program : Program) (s : State) (own : Placed) (rest : List Stmt) where
 
   pub load_byte_moves : (d a i b : ℕ) → s.control ≡ Inside own (d + 2) (LoadByte ∷ rest) → slot s d ≡ Word a → slot s (d + 1) ≡ Word i
       → byte_at (s.frame + (d + 2)) s.cells a i ≡ Some b → Moves program s (pushed s own d rest (Word b))
-  load_byte_moves d a i b e ea ei eb = (
-    _,
-    step_at (d + 2) LoadByte e
-        ∙ ap (λ y. on_number (slot s y) (λ a. on_number (slot s (d + 2 - 1)) (λ i. found y a i))) (two_off d)
-        ∙ ap (λ y. on_number (slot s d) (λ a. on_number (slot s y) (λ i. found d a i))) (one_of_two d)
-        ∙ ap (λ y. on_number y (λ a. on_number (slot s (d + 1)) (λ i. found d a i))) ea
-        ∙ ap (λ y. on_number y (λ i. found d a i)) ei
-        ∙ ap (λ y. on_some y (λ b. Goes (pushed s own d rest (Word b)))) eb,
-    refl,
-  )
-    where
-      found : ℕ → ℕ → ℕ → Next
-      found y a i = on_some (byte_at (s.frame + (d + 2)) s.cells a i) (λ b. Goes (pushed s own y rest (Word b)))
+  load_byte_moves d a i b e ea ei eb = moves_to (step_at (d + 2) LoadByte e ∙ rw (two_off d, one_of_two d, ea, ei, eb)) refl
 
   -- ---- items are stored
   pub assign_moves : (d : ℕ) (to : Named) → s.control ≡ Inside own (d + 1) (Assign to ∷ rest) → has_word to (s.cells (named_place s own to)) ≡ true
       → Moves program s (onwards s own d rest (write s.cells (named_place s own to) (Held (kind_of (s.cells (named_place s own to))) (slot s d))) (named_place s own to ∷ []))
-  assign_moves d to e eh = (
-    _,
-    step_at (d + 1) (Assign to) e
-        ∙ ap (λ y. if y then Goes (stored (d + 1 - 1)) else Wild) eh
-        ∙ ap (λ y. Goes (stored y)) (one_off d),
-    refl,
-  )
-    where
-      stored : ℕ → State
-      stored y = onwards s own y rest (write s.cells (named_place s own to) (Held (kind_of (s.cells (named_place s own to))) (slot s y))) (named_place s own to ∷ [])
+  assign_moves d to e eh = moves_to (step_at (d + 1) (Assign to) e ∙ rw (eh, one_off d)) refl
 
   pub assign_at_moves : (d a : ℕ) (content : Content) → s.control ≡ Inside own (d + 2) (AssignAt ∷ rest) → slot s (d + 1) ≡ Word a
       → variable_at (s.frame + (d + 2)) s.cells a ≡ Some content → Moves program s (onwards s own d rest (write s.cells a (Held Variable (slot s d))) (a ∷ []))
-  assign_at_moves d a content e ea ev = (
-    _,
-    step_at (d + 2) AssignAt e
-        ∙ ap (λ y. on_number (slot s y) (λ a. stored (d + 2 - 2) a)) (one_of_two d)
-        ∙ ap (λ y. on_number (slot s (d + 1)) (λ a. stored y a)) (two_off d)
-        ∙ ap (λ y. on_number y (λ a. stored d a)) ea
-        ∙ ap (λ y. on_some y (λ _. Goes (onwards s own d rest (write s.cells a (Held Variable (slot s d))) (a ∷ [])))) ev,
-    refl,
-  )
-    where
-      stored : ℕ → ℕ → Next
-      stored y a = on_some (variable_at (s.frame + (d + 2)) s.cells a) (λ _. Goes (onwards s own y rest (write s.cells a (Held Variable (slot s y))) (a ∷ [])))
+  assign_at_moves d a content e ea ev = moves_to (step_at (d + 2) AssignAt e ∙ rw (one_of_two d, two_off d, ea, ev)) refl
 
   pub assign_byte_moves : (d b a i : ℕ) (content : Content) → s.control ≡ Inside own (d + 3) (AssignByte ∷ rest) → slot s d ≡ Word b → slot s (d + 1) ≡ Word a → slot s (d + 2) ≡ Word i
       → word_with_byte_at (s.frame + (d + 3)) s.cells a i b ≡ Some content
       → Moves program s (onwards s own d rest (write s.cells (word_sum a (byte_distance i)) (Held Variable content)) (word_sum a (byte_distance i) ∷ []))
-  assign_byte_moves d b a i content e eb ea ei ec = (
-    _,
-    step_at (d + 3) AssignByte e
-        ∙ ap (λ y. on_number (slot s y) (λ b. on_number (slot s (d + 3 - 2)) (λ a. on_number (slot s (d + 3 - 1)) (λ i. stored y b a i)))) (three_off d)
-        ∙ ap (λ y. on_number (slot s d) (λ b. on_number (slot s y) (λ a. on_number (slot s (d + 3 - 1)) (λ i. stored d b a i)))) (two_of_three d)
-        ∙ ap (λ y. on_number (slot s d) (λ b. on_number (slot s (d + 1)) (λ a. on_number (slot s y) (λ i. stored d b a i)))) (one_of_three d)
-        ∙ ap (λ y. on_number y (λ b. on_number (slot s (d + 1)) (λ a. on_number (slot s (d + 2)) (λ i. stored d b a i)))) eb
-        ∙ ap (λ y. on_number y (λ a. on_number (slot s (d + 2)) (λ i. stored d b a i))) ea
-        ∙ ap (λ y. on_number y (λ i. stored d b a i)) ei
-        ∙ ap (λ y. on_some y (λ content. Goes (onwards s own d rest (write s.cells (word_sum a (byte_distance i)) (Held Variable content)) (word_sum a (byte_distance i) ∷ [])))) ec,
-    refl,
-  )
-    where
-      stored : ℕ → ℕ → ℕ → ℕ → Next
-      stored y b a i = on_some (word_with_byte_at (s.frame + (d + 3)) s.cells a i b)
-          (λ content. Goes (onwards s own y rest (write s.cells (word_sum a (byte_distance i)) (Held Variable content)) (word_sum a (byte_distance i) ∷ [])))
+  assign_byte_moves d b a i content e eb ea ei ec = moves_to (step_at (d + 3) AssignByte e ∙ rw (three_off d, two_of_three d, one_of_three d, eb, ea, ei, ec)) refl
 
   -- ---- jumps, to where the LAB of the label stands
   pub jump_goes : (k l : ℕ) (to : List Stmt) → from_label own.stmts l ≡ Some to → jump s own k l ≡ Goes (onwards s own k to s.cells [])
@@ -356,17 +276,11 @@ module _ (program : Program) (s : State) (own : Placed) (rest : List Stmt) where
   -- JT and JF take the item on top
   jumps_true : (d l w : ℕ) → s.control ≡ Inside own (d + 1) (JumpIf true l ∷ rest) → slot s d ≡ Word w
       → program_step program s ≡ (if w == 0 then Goes (onwards s own d rest s.cells []) else jump s own d l)
-  jumps_true d l w e ew =
-      step_at (d + 1) (JumpIf true l) e
-      ∙ ap (λ y. on_number (slot s y) (λ w. if w == 0 then Goes (onwards s own y rest s.cells []) else jump s own y l)) (one_off d)
-      ∙ ap (λ y. on_number y (λ w. if w == 0 then Goes (onwards s own d rest s.cells []) else jump s own d l)) ew
+  jumps_true d l w e ew = step_at (d + 1) (JumpIf true l) e ∙ rw (one_off d, ew)
 
   jumps_false : (d l w : ℕ) → s.control ≡ Inside own (d + 1) (JumpIf false l ∷ rest) → slot s d ≡ Word w
       → program_step program s ≡ (if w == 0 then jump s own d l else Goes (onwards s own d rest s.cells []))
-  jumps_false d l w e ew =
-      step_at (d + 1) (JumpIf false l) e
-      ∙ ap (λ y. on_number (slot s y) (λ w. if w == 0 then jump s own y l else Goes (onwards s own y rest s.cells []))) (one_off d)
-      ∙ ap (λ y. on_number y (λ w. if w == 0 then jump s own d l else Goes (onwards s own d rest s.cells []))) ew
+  jumps_false d l w e ew = step_at (d + 1) (JumpIf false l) e ∙ rw (one_off d, ew)
 
   -- they jump where the item has their truth,
   pub taken_moves : (d l w : ℕ) (t : Bool) (to : List Stmt) → s.control ≡ Inside own (d + 1) (JumpIf t l ∷ rest) → slot s d ≡ Word w → (w == 0) ≡ not t → from_label own.stmts l ≡ Some to
@@ -396,13 +310,7 @@ module _ (program : Program) (s : State) (own : Placed) (rest : List Stmt) where
 
   -- RES jumps with the item in hand
   pub give_result_moves : (d l : ℕ) (to : List Stmt) → s.control ≡ Inside own (d + 1) (GiveResult l ∷ rest) → from_label own.stmts l ≡ Some to → Moves program s (handing s own d to (slot s d))
-  give_result_moves d l to e el = (
-    _,
-    step_at (d + 1) (GiveResult l) e
-        ∙ ap (λ y. jump_with s own y l (slot s y)) (one_off d)
-        ∙ ap (λ y. on_some y (λ rest. Goes (handing s own d rest (slot s d)))) el,
-    refl,
-  )
+  give_result_moves d l to e el = moves_to (step_at (d + 1) (GiveResult l) e ∙ rw (one_off d, el)) refl
 
   -- a LAB goes on behind it
   pub label_step : (k l : ℕ) → s.control ≡ Inside own k (Label l ∷ rest) → program_step program s ≡ Goes (record s { control = Behind own l })
