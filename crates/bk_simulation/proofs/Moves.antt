@@ -66,9 +66,7 @@ settled_step program s = by_control s.control refl
     at_place n e false eh (Some f) er t et = sym (ap (λ y. program_step_from program s y) e)
     at_place n e false eh None er None et = sym (ap (λ y. program_step_from program s y) e)
     at_place n e false eh None er (Some t) et =
-        (ap (λ y. if y then Ends (Status (pos 0)) s else option_map_or (λ _. step program.callables s) (program.callables.routine n) (option_map_or (λ t. step program.callables t) (resumed_in program.sections n s) Wild)) eh
-        ∙ ap (λ y. option_map_or (λ _. step program.callables s) y (option_map_or (λ t. step program.callables t) (resumed_in program.sections n s) Wild)) er
-        ∙ ap (λ y. option_map_or (λ t. step program.callables t) y Wild) et)
+        (rw (eh, er, et))
         ∙ inside_step program t t.control refl (resumed_in_inside program.sections n s t et)
 
     by_control : (c : Control) → s.control ≡ c → program_step_from program s c ≡ program_step program (settled_from program s c)
@@ -337,9 +335,7 @@ module _ (program : Program) (s : State) (own : Placed) (rest : List Stmt) where
   calls : (d n e : ℕ) → can_be_called program.callables e ≡ true → nat_lt (2 ^ 31 - 65536) (s.frame + n) ≡ false
       → call program.callables s own (d + 1) n e rest ≡ Goes (entering s own d n e rest)
   calls d n e eb el =
-      ap (λ y. if y then (if nat_lt (2 ^ 31 - 65536) (s.frame + n) then Wild else Goes (entering s own (d + 1 - 1) n e rest)) else Wild) eb
-      ∙ ap (λ y. if y then Wild else Goes (entering s own (d + 1 - 1) n e rest)) el
-      ∙ ap (λ y. Goes (entering s own y n e rest)) (one_off d)
+      rw (eb, el, one_off d)
 
   pub call_function_step : (d n e : ℕ) → s.control ≡ Inside own (d + 1) (CallFunction n ∷ rest) → slot s d ≡ Word e → can_be_called program.callables e ≡ true
       → nat_lt (2 ^ 31 - 65536) (s.frame + n) ≡ false → program_step program s ≡ Goes (entering s own d n e rest)
