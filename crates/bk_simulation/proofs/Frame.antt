@@ -42,17 +42,20 @@ store z w = record { bases = z.bases; mem = w.memory; cells = z.cells }
 
 -- the state in a section, before these statements
 abbrev pub state : Placed → ℕ → List Stmt → (ℕ → Cell) → ℕ → Option Content → List ℕ → World → State
-state own depth c cells frame hand written w = record { control = Inside own depth c; cells = cells; frame = frame; hand = hand; input = w.input; output = w.output; written = written }
+state own depth c cells frame hand written w =
+    record { control = Inside own depth c; cells = cells; frame = frame; hand = hand; input = w.input; output = w.output; written = written }
 
 abbrev pub start : Sit → List Stmt → World → State
 start z c w = state z.scene.own z.depth c z.cells z.frame z.hand z.written w
 
-pub name_grown : (sc : Scene) (bases bases1 : List ℕ) (frame : ℕ) (x : List ℕ) (s : Option Sense) → Grown bases bases1 → NameAt sc bases frame x s → NameAt sc bases1 frame x s
+pub name_grown : (sc : Scene) (bases bases1 : List ℕ) (frame : ℕ) (x : List ℕ) (s : Option Sense) → Grown bases bases1 → NameAt sc bases frame x s
+    → NameAt sc bases1 frame x s
 name_grown sc bases bases1 frame x (Some (constant n)) g h = h
 name_grown sc bases bases1 frame x (Some (cell o i)) g h = (h.0, g.each o h.0 h.1, h.2, h.3, h.4)
 name_grown sc bases bases1 frame x _ g h = tt
 
-pub named_grown : (sc : Scene) (env : Environment) (bases bases1 : List ℕ) (frame : ℕ) → Grown bases bases1 → NamedIn sc env bases frame → NamedIn sc env bases1 frame
+pub named_grown : (sc : Scene) (env : Environment) (bases bases1 : List ℕ) (frame : ℕ) → Grown bases bases1 → NamedIn sc env bases frame
+    → NamedIn sc env bases1 frame
 named_grown sc env bases bases1 frame g h = record { each = λ x. name_grown sc bases bases1 frame x (sense_of x env) g (h.each x) }
 
 -- no more frames than that are active
@@ -98,7 +101,8 @@ pub data Comes (g : Setting) : ℕ → ℕ → State → State → Type 0 where
   go_on : (n p : ℕ) (s t u : State) → Moves g.program s t → FewFrames g t.cells t.frame g.cap → Comes g n p t u → Comes g (suc n) (g.pay + p) s u
 
 pub comes_on : (g : Setting) (n p k q : ℕ) (s t u : State) → Comes g n p s t → Comes g k q t u → Comes g (n + k) (p + q) s u
-comes_on g n p k q s t u (here _) c = let e : k ≡ 0 + k = omega arith in let f : q ≡ 0 + q = omega arith in subst (λ y. Comes g (0 + k) y s u) f (subst (λ x. Comes g x q s u) e c)
+comes_on g n p k q s t u (here _) c =
+    let e : k ≡ 0 + k = omega arith in let f : q ≡ 0 + q = omega arith in subst (λ y. Comes g (0 + k) y s u) f (subst (λ x. Comes g x q s u) e c)
 comes_on g n p k q s t u (go_on j i _ v _ e r a) c =
     let x : suc (j + k) ≡ suc j + k = omega arith in
     let y : g.pay + (i + q) ≡ g.pay + i + q = omega arith in
@@ -165,7 +169,8 @@ Went g s B K X (going w) = Reaches g s B w
 pub record Ran {A : Type 0} (g : Setting) (s : State) (B : Account) (K : A → World → Type 0) (X : Exit → World → Type 0) (o : Outcome A) : Type 0 where
   pub is : Went g s B K X o ⊎ Falls g s o
 
-pub went : {A : Type 0} {g : Setting} {s : State} {B : Account} {K : A → World → Type 0} {X : Exit → World → Type 0} {o : Outcome A} → Went g s B K X o → Ran g s B K X o
+pub went : {A : Type 0} {g : Setting} {s : State} {B : Account} {K : A → World → Type 0} {X : Exit → World → Type 0} {o : Outcome A} → Went g s B K X o
+    → Ran g s B K X o
 went q = record { is = inl q }
 
 falls_later : (g : Setting) (s : State) (w w1 : World) → Grows (history w) (history w1) → FallsIn g s w → FallsIn g s w1
@@ -182,8 +187,10 @@ falls_on g s w undefined f h = tt
 falls_on g s w (going w1) f h = falls_later g s w w1 h f
 
 -- what was given and each exit are gone on with
-pub each_way_ran : {A B : Type 0} {g : Setting} {s : State} {N : Account} {K : A → World → Type 0} {L : B → World → Type 0} {X Y : Exit → World → Type 0} {o : Outcome A} {on : A → World → Outcome B} {out : Exit → World → Outcome B}
-    → ((a : A) → Adds (on a)) → ((x : Exit) → Adds (out x)) → Ran g s N K X o → ((a : A) (w : World) → K a w → Ran g s N L Y (on a w)) → ((x : Exit) (w : World) → X x w → Ran g s N L Y (out x w)) → Ran g s N L Y (each_way on out o)
+pub each_way_ran : {A B : Type 0} {g : Setting} {s : State} {N : Account} {K : A → World → Type 0} {L : B → World → Type 0} {X Y : Exit → World → Type 0}
+    {o : Outcome A} {on : A → World → Outcome B} {out : Exit → World → Outcome B}
+    → ((a : A) → Adds (on a)) → ((x : Exit) → Adds (out x)) → Ran g s N K X o → ((a : A) (w : World) → K a w → Ran g s N L Y (on a w))
+    → ((x : Exit) (w : World) → X x w → Ran g s N L Y (out x w)) → Ran g s N L Y (each_way on out o)
 each_way_ran {A} {B} {g} {s} {N} {K} {L} {X} {Y} {o} {on} {out} ad ax r h i = by o r.is
   where
     by : (o : Outcome A) → Went g s N K X o ⊎ Falls g s o → Ran g s N L Y (each_way on out o)
@@ -191,12 +198,11 @@ each_way_ran {A} {B} {g} {s} {N} {K} {L} {X} {Y} {o} {on} {out} ad ax r h i = by
     by (gives a w) (inr f) = record { is = inr (falls_on g s w (on a w) f ((ad a).at w)) }
     by (leaves x w) (inl k) = i x w k
     by (leaves x w) (inr f) = record { is = inr (falls_on g s w (out x w) f ((ax x).at w)) }
-    by (ends e w) r = record { is = r }
-    by undefined r = record { is = r }
-    by (going w) r = record { is = r }
+    by _ r = record { is = r }
 
 -- what follows is gone on with
-pub with_ran : {A B : Type 0} {g : Setting} {s : State} {N : Account} {K : A → World → Type 0} {L : B → World → Type 0} {X : Exit → World → Type 0} {o : Outcome A} {go : A → World → Outcome B}
+pub with_ran : {A B : Type 0} {g : Setting} {s : State} {N : Account} {K : A → World → Type 0} {L : B → World → Type 0} {X : Exit → World → Type 0}
+    {o : Outcome A} {go : A → World → Outcome B}
     → ((a : A) → Adds (go a)) → Ran g s N K X o → ((a : A) (w : World) → K a w → Ran g s N L X (go a w)) → Ran g s N L X (with o go)
 with_ran ad r h = each_way_ran ad (λ x. adds _ (λ w. stays (history w))) r h (λ x w q. went q)
 
@@ -206,8 +212,10 @@ falls_before g s t k p w c r = ⊎_elim
     (λ (x : g.cap < w.most_calls). inr x) r
 
 -- from a state that comes to the start
-pub ran_from : {A : Type 0} {g : Setting} {s t : State} {k p : ℕ} {M N : Account} {K L : A → World → Type 0} {X Y : Exit → World → Type 0} {o : Outcome A} → Comes g k p s t
-    → k + M.most ≤ N.most → N.least ≤ M.least + p → ((a : A) (w : World) → K a w → L a w) → ((x : Exit) (w : World) → X x w → Y x w) → Ran g t M K X o → Ran g s N L Y o
+pub ran_from : {A : Type 0} {g : Setting} {s t : State} {k p : ℕ} {M N : Account} {K L : A → World → Type 0} {X Y : Exit → World → Type 0} {o : Outcome A}
+    → Comes g k p s t
+    → k + M.most ≤ N.most → N.least ≤ M.least + p → ((a : A) (w : World) → K a w → L a w) → ((x : Exit) (w : World) → X x w → Y x w) → Ran g t M K X o
+    → Ran g s N L Y o
 ran_from {A} {g} {s} {t} {k} {p} {M} {N} {K} {L} {X} {Y} {o} c le le' h i r = by o r.is
   where
     by : (o : Outcome A) → Went g t M K X o ⊎ Falls g t o → Ran g s N L Y o
@@ -215,23 +223,31 @@ ran_from {A} {g} {s} {t} {k} {p} {M} {N} {K} {L} {X} {Y} {o} c le le' h i r = by
     by (gives a w) (inr f) = record { is = inr (falls_before g s t k p w c f) }
     by (leaves x w) (inl q) = went (i x w q)
     by (leaves x w) (inr f) = record { is = inr (falls_before g s t k p w c f) }
-    by (ends e w) (inl q) = let m = q.most in went (record { to = q.to; steps = k + q.steps; paid = p + q.paid; comes = comes_on g _ _ _ _ _ _ _ c q.comes; most = omega arith; end = q.end; is_end = q.is_end; stops = q.stops; wrote = q.wrote; left = q.left })
+    by (ends e w) (inl q) =
+        let m = q.most in went
+        (record { to = q.to; steps = k + q.steps; paid = p + q.paid; comes = comes_on g _ _ _ _ _ _ _ c q.comes; most = omega arith; end = q.end; is_end = q.is_end; stops = q.stops; wrote = q.wrote; left = q.left })
     by (ends e w) (inr f) = record { is = inr (falls_before g s t k p w c f) }
     by undefined r = went tt
-    by (going w) (inl q) = let m = q.most in let l = q.least in went (record { to = q.to; steps = k + q.steps; paid = p + q.paid; comes = comes_on g _ _ _ _ _ _ _ c q.comes; most = omega arith; least = omega arith; wrote = q.wrote; left = q.left })
+    by (going w) (inl q) =
+        let m = q.most in let l = q.least in went
+        (record { to = q.to; steps = k + q.steps; paid = p + q.paid; comes = comes_on g _ _ _ _ _ _ _ c q.comes; most = omega arith; least = omega arith; wrote = q.wrote; left = q.left })
     by (going w) (inr f) = record { is = inr (falls_before g s t k p w c f) }
 
 -- more is said of it, within a larger account
-pub so : {A : Type 0} {g : Setting} {s : State} {M N : Account} {K L : A → World → Type 0} {X Y : Exit → World → Type 0} {o : Outcome A} → M.most ≤ N.most → N.least ≤ M.least
+pub so : {A : Type 0} {g : Setting} {s : State} {M N : Account} {K L : A → World → Type 0} {X Y : Exit → World → Type 0} {o : Outcome A} → M.most ≤ N.most
+    → N.least ≤ M.least
     → ((a : A) (w : World) → K a w → L a w) → ((x : Exit) (w : World) → X x w → Y x w) → Ran g s M K X o → Ran g s N L Y o
 so {s = s} le le' h i r = ran_from (here s) (omega arith) (omega arith) h i r
 
-pub ran_same : {A : Type 0} {g : Setting} {s : State} {B : Account} {K L : A → World → Type 0} {X : Exit → World → Type 0} {o : Outcome A} → ((a : A) (w : World) → K a w → L a w) → Ran g s B K X o → Ran g s B L X o
+pub ran_same : {A : Type 0} {g : Setting} {s : State} {B : Account} {K L : A → World → Type 0} {X : Exit → World → Type 0} {o : Outcome A}
+    → ((a : A) (w : World) → K a w → L a w) → Ran g s B K X o → Ran g s B L X o
 ran_same h r = so (omega arith) (omega arith) h (λ x w q. q) r
 
 -- a turn is taken, if one is left, behind a run to here
-pub turn_behind : {A : Type 0} {g : Setting} {s to : State} {B : Account} {K : A → World → Type 0} {X : Exit → World → Type 0} (steps paid : ℕ) (w : World) (go : World → Outcome A) → Comes g steps paid s to
-    → steps ≤ B.most → B.least ≤ w.turns + paid → to.output ≡ w.output → to.input ≡ w.input → ((n : ℕ) → w.turns ≡ suc n → Ran g s B K X (go (record w { turns = n }))) → Ran g s B K X (turn w go)
+pub turn_behind : {A : Type 0} {g : Setting} {s to : State} {B : Account} {K : A → World → Type 0} {X : Exit → World → Type 0} (steps paid : ℕ) (w : World)
+    (go : World → Outcome A) → Comes g steps paid s to
+    → steps ≤ B.most → B.least ≤ w.turns + paid → to.output ≡ w.output → to.input ≡ w.input
+    → ((n : ℕ) → w.turns ≡ suc n → Ran g s B K X (go (record w { turns = n }))) → Ran g s B K X (turn w go)
 turn_behind {A} {g} {s} {to} {B} {K} {X} steps paid w go c le le' e ei h = at_turns w.turns refl
   where
     at_turns : (n : ℕ) → w.turns ≡ n → Ran g s B K X (turn_of n w go)
@@ -240,7 +256,8 @@ turn_behind {A} {g} {s} {to} {B} {K} {X} steps paid w go c le le' e ei h = at_tu
 
 -- The run has come to a place at a depth. Objects lie below the top, and what was there is related so to what is. As many calls are
 -- active as before.
-pub record Arrived (g : Setting) (s : State) (B : Account) (own : Placed) (frame calls top : ℕ) (R : Store → Type 0) (c : List Stmt) (depth : ℕ) (w1 : World) : Type 0 where
+pub record Arrived (g : Setting) (s : State) (B : Account) (own : Placed) (frame calls top : ℕ) (R : Store → Type 0) (c : List Stmt) (depth : ℕ)
+    (w1 : World) : Type 0 where
   pub steps : ℕ
   pub paid : ℕ
   pub bases1 : List ℕ
@@ -266,7 +283,8 @@ abbrev pub OpenArrived : Setting → State → Account → Sit → World → Lis
 OpenArrived g s B z w c d more w1 = Arrived g s B z.scene.own z.frame w.calls more (Since (z.frame + z.depth) (store z w)) c d w1
 
 -- the store there
-abbrev pub store_at : {g : Setting} {s : State} {B : Account} {own : Placed} {frame calls top : ℕ} {R : Store → Type 0} {c : List Stmt} {d : ℕ} {w1 : World} → Arrived g s B own frame calls top R c d w1 → Store
+abbrev pub store_at : {g : Setting} {s : State} {B : Account} {own : Placed} {frame calls top : ℕ} {R : Store → Type 0} {c : List Stmt} {d : ℕ} {w1 : World}
+    → Arrived g s B own frame calls top R c d w1 → Store
 store_at {w1 = w1} a = record { bases = a.bases1; mem = w1.memory; cells = a.cells1 }
 
 -- the state there
@@ -318,14 +336,19 @@ abbrev pub next : (g : Setting) (s : State) (B : Account) (z : Sit) (c : List St
 next g s B z c d w w1 env depth a = record z { env = env; bases = a.bases1; cells = a.cells1; hand = a.hand1; written = a.written1; depth = depth }
 
 -- names mean the same where only the number of the next object is another
-pub named_again : {sc : Scene} {env env1 : Environment} {bases : List ℕ} {frame : ℕ} → env1.names ≡ env.names → NamedIn sc env bases frame → NamedIn sc env1 bases frame
+pub named_again : {sc : Scene} {env env1 : Environment} {bases : List ℕ} {frame : ℕ} → env1.names ≡ env.names → NamedIn sc env bases frame
+    → NamedIn sc env1 bases frame
 named_again {sc} {env} {env1} {bases} {frame} en n = record { each = λ x. subst (λ y. NameAt sc bases frame x (sense_in y x)) (sym en) (n.each x) }
 
 -- with another scene and other names
-pub ready_in : {g : Setting} {z : Sit} {w : World} (sc : Scene) (env : Environment) → NamedIn sc env z.bases z.frame → Ready g z w → Ready g (record z { scene = sc; env = env }) w
-ready_in sc env n r = record { named = n; fits = r.fits; low = r.low; high = r.high; deep = r.deep; frames = r.frames; room = r.room; lasts = r.lasts; words = r.words; in_hand = r.in_hand }
+pub ready_in : {g : Setting} {z : Sit} {w : World} (sc : Scene) (env : Environment) → NamedIn sc env z.bases z.frame → Ready g z w → Ready g
+    (record z { scene = sc; env = env }) w
+ready_in sc env n r =
+    record
+    { named = n; fits = r.fits; low = r.low; high = r.high; deep = r.deep; frames = r.frames; room = r.room; lasts = r.lasts; words = r.words; in_hand = r.in_hand }
 
-pub ready_next : {g : Setting} {s : State} {B : Account} {z : Sit} {c : List Stmt} {d : ℕ} {w w1 : World} (env : Environment) (depth : ℕ) (a : ArrivedAt g s B z c d w w1)
+pub ready_next : {g : Setting} {s : State} {B : Account} {z : Sit} {c : List Stmt} {d : ℕ} {w w1 : World} (env : Environment) (depth : ℕ)
+    (a : ArrivedAt g s B z c d w w1)
     → env.names ≡ z.env.names → z.depth ≤ depth → Ready g z w → Ready g (next g s B z c d w w1 env depth a) w1
 ready_next {g} {s} {B} {z} {c} {d} {w} {w1} env depth a en le r = let dd = r.deep in record {
   named = named_again en (named_grown z.scene z.env z.bases a.bases1 z.frame a.moved.grown r.named);
