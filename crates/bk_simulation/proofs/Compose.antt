@@ -180,8 +180,10 @@ module _ {g : Setting} {s : State} {own : Placed} {frame calls top : ℕ} {c : L
       (hand2 : Option Content) (written2 : List ℕ) → suc frame < top
       → ((x : ℕ) → x < top → Like (cells2 x) (a.cells1 x)) → Moves g.program (state own d c a.cells1 frame a.hand1 a.written1 w1)
       (state own d2 c2 cells2 frame hand2 written2 w1) → Arrived g s (paying g B) own frame calls top (Moved top h) c2 d2 w1
-  arrived_paid {h} {c2 =
-      c2} {d2 = d2} a cells2 hand2 written2 lt like e = stepped w1.memory top (Moved top h) c2 d2 a cells2 hand2 written2 (links_like frame top a.cells1 cells2 lt like) (fits_above g.codes _ top cells2 a.fits like)
+  arrived_paid {h} {c2 = c2} {d2 = d2} a cells2 hand2 written2 lt like e =
+      let k1 = links_like frame top a.cells1 cells2 lt like in
+      let f1 = fits_above g.codes _ top cells2 a.fits like in
+      stepped w1.memory top (Moved top h) c2 d2 a cells2 hand2 written2 k1 f1
       (record {
         grown = a.moved.grown;
         within = a.moved.within;
@@ -243,8 +245,8 @@ out_more le le' a =
 pub outside : {g : Setting} {s : State} {N B : Account} (sc : Scene) {a : Around} {e : Exits} {frame calls top : ℕ} {R : Store → Type 0} {x : Exit} {w1 : World}
     → N.most ≤ B.most → B.least ≤ N.least
     → (o : Exited g s N (record sc { around = a; exits = e }) frame calls top R x w1) → Leads sc x o.control → Exited g s B sc frame calls top R x w1
-outside {N =
-    N} sc le le' o l = out_more {N = N} le le' (record { control = o.control; depth1 = o.depth1; leads = l; arr = o.arr; later = o.later; hands = o.hands })
+outside {N = N} sc le le' o l =
+    out_more {N = N} le le' (record { control = o.control; depth1 = o.depth1; leads = l; arr = o.arr; later = o.later; hands = o.hands })
 
 pub ran_first : {T : Type 0} {g : Setting} {s : State} {N B : Account} {sc : Scene} {frame calls top : ℕ} {R : Store → Type 0} {K L : T → World → Type 0}
     {o : Outcome T} → N.most ≤ B.most → B.least ≤ N.least → ((t : T) (w1 : World) → K t w1 → L t w1)
@@ -263,13 +265,13 @@ pub topped : {g : Setting} {s : State} {A B : Account} {z : Sit} {c rest : List 
     → Moves g.program (there g s A z c d w w1 a)
     (state z.scene.own (z.depth + 1) rest (below (z.frame + (z.depth + 1)) (write a.cells1 (z.frame + z.depth) (Held Temporary x))) z.frame None ((z.frame + z.depth) ∷ a.written1) w1)
     → Has g s B z rest (z.depth + 1) w v w1
-topped {g} {z = z} {v = v} x le le' dp a st e = record {
-  arr =
-      arrived_more le le'
-      (arrived_step a (below (z.frame + (z.depth + 1)) (write a.cells1 (z.frame + z.depth) (Held Temporary x))) None ((z.frame + z.depth) ∷ a.written1) (omega arith)
-      (λ y ly. pushed_like z.frame z.depth a.cells1 (Held Temporary x) y ly) e);
-  stands = subst (λ y. Stands g.codes a.bases1 v (content_of y)) (sym (pushed_at z.frame z.depth a.cells1 (Held Temporary x))) st;
-}
+topped {g} {z = z} {v = v} x le le' dp a st e =
+    let top = z.frame + z.depth in
+    let cells2 = below (z.frame + (z.depth + 1)) (write a.cells1 top (Held Temporary x)) in
+    record {
+      arr = arrived_more le le' (arrived_step a cells2 None (top ∷ a.written1) (omega arith) (λ y ly. pushed_like z.frame z.depth a.cells1 (Held Temporary x) y ly) e);
+      stands = subst (λ y. Stands g.codes a.bases1 v (content_of y)) (sym (pushed_at z.frame z.depth a.cells1 (Held Temporary x))) st;
+    }
 
 -- the item on top is still there behind what follows above it
 pub above : {g : Setting} {s : State} {A N : Account} {z : Sit} {c c2 : List Stmt} {d2 : ℕ} {w w1 w2 : World} {v : Value}
@@ -318,8 +320,8 @@ open_ticked n q a = let m = a.most in let l = a.least in accounted n a (omega ar
 -- with room for more words
 abbrev pub open_wider : {g : Setting} {s : State} {B : Account} {own : Placed} {frame calls more more1 : ℕ} {R : Store → Type 0} {c : List Stmt} {d : ℕ}
     {w1 : World} → more ≤ more1 → Arrived g s B own frame calls more R c d w1 → Arrived g s B own frame calls more1 R c d w1
-open_wider {g} {more =
-    more} {more1 = more1} {R = R} {w1 = w1} le a = with_objects a.bases1 w1.memory more1 R a (fits_more g.codes (store_at a) more more1 le a.fits) a.moved
+open_wider {g} {more = more} {more1 = more1} {R = R} {w1 = w1} le a =
+    with_objects a.bases1 w1.memory more1 R a (fits_more g.codes (store_at a) more more1 le a.fits) a.moved
 
 -- a step that leaves the words below a top as they are
 abbrev pub open_step : {g : Setting} {s : State} {B : Account} {z : Sit} {w : World} {c c2 : List Stmt} {d d2 more : ℕ} {w1 : World} → Ready g z w
@@ -327,10 +329,12 @@ abbrev pub open_step : {g : Setting} {s : State} {B : Account} {z : Sit} {w : Wo
     → (cells2 : ℕ → Cell) (hand2 : Option Content) (written2 : List ℕ) → ((x : ℕ) → x < more → Like (cells2 x) (a.cells1 x))
     → Moves g.program (state z.scene.own d c a.cells1 z.frame a.hand1 a.written1 w1) (state z.scene.own d2 c2 cells2 z.frame hand2 written2 w1)
     → OpenArrived g s (further 1 B) z w c2 d2 more w1
-open_step {g} {z = z} {w = w} {c2 = c2} {d2 = d2} {more = more} {w1 = w1} r le a cells2 hand2 written2 like e = let dp = r.deep in
-    arrived_more (omega arith) (omega arith)
-    (stepped w1.memory more (Since (z.frame + z.depth) (store z w)) c2 d2 a cells2 hand2 written2 (links_like z.frame more a.cells1 cells2 (omega arith) like) (fits_above g.codes _ more cells2 a.fits like)
-    (since_on (omega arith) a.moved (since_cells {top = more} (store_at a) like)) e)
+open_step {g} {z = z} {w = w} {c2 = c2} {d2 = d2} {more = more} {w1 = w1} r le a cells2 hand2 written2 like e =
+    let dp = r.deep in
+    let k1 = links_like z.frame more a.cells1 cells2 (omega arith) like in
+    let f1 = fits_above g.codes _ more cells2 a.fits like in
+    let m1 = since_on (omega arith) a.moved (since_cells {top = more} (store_at a) like) in
+    arrived_more (omega arith) (omega arith) (stepped w1.memory more (Since (z.frame + z.depth) (store z w)) c2 d2 a cells2 hand2 written2 k1 f1 m1 e)
 
 -- What follows in a part of its own.
 abbrev pub open_on : {g : Setting} {s : State} {A N B : Account} {z : Sit} {c c2 : List Stmt} {d1 d2 : ℕ} {w w1 w2 : World}
@@ -338,9 +342,9 @@ abbrev pub open_on : {g : Setting} {s : State} {A N B : Account} {z : Sit} {c c2
     → (a : OpenArrived g s A z w c d1 (z.frame + d1) w1)
     (b : Arrived g (state z.scene.own d1 c a.cells1 z.frame a.hand1 a.written1 w1) N z.scene.own z.frame w1.calls (z.frame + d1) (Moved (z.frame + d1) (store_at a)) c2 d2 w2)
     → OpenArrived g s B z w c2 d2 (z.frame + d1) w2
-open_on {z =
-    z} {d1 = d1} {w = w} le1 le2 r le a b = behind (z.frame + d1) (Since (z.frame + z.depth) (store z w)) le1 le2 refl a b b.fits (since_on
-    (omega arith) a.moved (since_moved a.fits b.fits b.moved))
+open_on {z = z} {d1 = d1} {w = w} le1 le2 r le a b =
+    behind (z.frame + d1) (Since (z.frame + z.depth) (store z w)) le1 le2 refl a b b.fits
+    (since_on (omega arith) a.moved (since_moved a.fits b.fits b.moved))
 
 -- an exit to where names that are no labels hide none
 pub leads_outwards : (sc : Scene) (bs : List Binding) (x : Exit) (c : List Stmt) → KeepsLabels sc.bindings bs → Leads (record sc { bindings = bs }) x c
@@ -359,19 +363,24 @@ pub ran_open : {T : Type 0} {g : Setting} {s : State} {A N B : Account} {z : Sit
 ran_open {z = z} {d1 = d1} bs env le1 le2 r le k a h q = let m = a.most in let l = a.least in ran_from a.comes (omega arith) (omega arith) h
     (λ x w2 e. let l = e.later in record {
       more = z.frame + d1;
-      is =
-          record
-          { control = e.control; depth1 = e.depth1; leads = leads_outwards z.scene bs x e.control k e.leads; arr = open_on le1 le2 r le a e.arr; later = omega arith; hands = e.hands };
+      is = record {
+        control = e.control;
+        depth1 = e.depth1;
+        leads = leads_outwards z.scene bs x e.control k e.leads;
+        arr = open_on le1 le2 r le a e.arr;
+        later = omega arith;
+        hands = e.hands;
+      };
     }) q
 
 -- closing: what was made dies
 abbrev pub closed_arrival : {g : Setting} {s : State} {B : Account} {z : Sit} {w : World} {c : List Stmt} {depth more : ℕ} {w1 : World} → Ready g z w
     → OpenArrived g s B z w c depth more w1
     → ArrivedAt g s B z c depth w (forgetting (length w.memory) w1)
-closed_arrival {g} {z =
-    z} {w = w} {more = more} {w1 = w1} r a = with_objects a.bases1 (forgetting (length w.memory) w1).memory (z.frame + z.depth) (Moved (z.frame + z.depth)
-    (store z w)) a
-    (closed_fits g.codes (z.frame + z.depth) more (store z w) (store_at a) r.fits a.moved a.fits) (closed_moved a.moved)
+closed_arrival {g} {z = z} {w = w} {more = more} {w1 = w1} r a =
+    let top = z.frame + z.depth in
+    with_objects a.bases1 (forgetting (length w.memory) w1).memory top (Moved top (store z w)) a
+    (closed_fits g.codes top more (store z w) (store_at a) r.fits a.moved a.fits) (closed_moved a.moved)
 
 pub closed_ran : {T : Type 0} {g : Setting} {s : State} {B : Account} {z : Sit} {w : World} {K L : T → World → Type 0} {o : Outcome T} → Ready g z w
     → ((t : T) (w1 : World) → K t w1 → L t (forgetting (length w.memory) w1))

@@ -141,25 +141,15 @@ choice_run g m sim B e a b z n n1 c c1 c2 rest w le le' le_ la lb l0 l1 r =
     (λ x. adds _ (λ w1. either_after x _ _ (adds _ (λ w2. sim.grows.value a (past e z.env) w2)) (adds _ (λ w2. sim.grows.value b (past a (past e z.env)) w2)) w1))
     (ran_more (omega arith) (omega arith) (sim.truth e z false n (Label n ∷ c2) c c1 w le_ l0.found r)) goes
   where
+    D : Account
+    D = record { most = 16 * w.turns + 1; least = w.turns - (turns_of e + (turns_of a + turns_of b)) }
+
     goes : (x : Bool) (w1 : World) → ArrivedAt g (start z c w) (for_truth e w) z (where_to false x (Label n ∷ c2) c1) z.depth w w1
         → Ran g (start z c w) B (Has g (start z c w) B z rest (z.depth + 1) w) (Out g (start z c w) B z w)
         (either x (λ w. m.value a (past e z.env) w) (λ w. m.value b (past a (past e z.env)) w) w1)
     goes true w1 q = let m0 = q.most in
-        branch_run g m sim (start z c w) (for_truth e w) (record {
-          most =
-              16 * w.turns + 1;
-          least = w.turns -
-              (turns_of e + (turns_of a + turns_of b));
-        }) B a z (past e z.env) n1 c1 rest (Label n ∷ c2) w w1 (omega arith) (omega arith) (omega arith) le' refl la l1 r q
+        branch_run g m sim (start z c w) (for_truth e w) D B a z (past e z.env) n1 c1 rest (Label n ∷ c2) w w1 (omega arith) (omega arith) (omega arith) le' refl la l1 r q
     goes false w1 q = let dp = r.deep in let m0 = q.most in
-        branch_run g m sim (start z c w) (record {
-          most =
-              16 * w.turns + 1;
-          least = w.turns - turns_of e;
-        }) (record {
-          most = 16 * w.turns + 1;
-          least = w.turns -
-              (turns_of e + (turns_of a + turns_of b));
-        }) B b z (past a (past e z.env)) n1 c2 rest
-        (Label n1 ∷ TakeResult z.depth ∷ rest) w w1 (omega arith) (omega arith) (omega arith) le' refl lb l1 r
-        (landed_on (omega arith) (omega arith) l0 q)
+        let A : Account = record { most = 16 * w.turns + 1; least = w.turns - turns_of e } in
+        branch_run g m sim (start z c w) A D B b z (past a (past e z.env)) n1 c2 rest (Label n1 ∷ TakeResult z.depth ∷ rest) w w1
+        (omega arith) (omega arith) (omega arith) le' refl lb l1 r (landed_on (omega arith) (omega arith) l0 q)

@@ -4,9 +4,9 @@ use Rattle.std.specs.Option.{option_map_or}
 use Rattle.bk_ocode.specs.Cells.{Unset, Word, Temporary, Held, write, below, Content, Variable, Link, Cell, content_of, kind_of, settle}
 use Rattle.bk_ocode.specs.Depth.{depth_behind, next_depth}
 use Rattle.bk_ocode.specs.Section.{AreFaultless}
-use Rattle.bk_ocode.specs.OcodeState.{Placed, Routine, Inside, Behind, At, State, Goes, Placement, Control, Ends, Wild, Next}
-use Rattle.bk_ocode.specs.OcodeStep.{slot, can_be_called, step, on_number, on_some, named_place, has_word, dyadic_word, operated, jump, jump_with, from_label, case_label, call, return, step_by, step_from}
-use Rattle.bk_ocode.specs.OcodeRun.{Program, in_hand, resumed_in, program_step, Rest, rest_of, or_rest, rests, rests_of, resumed, resumed_by, find_rest, label_rest, at_number, program_step_from, run}
+use Rattle.bk_ocode.specs.OcodeState.{Placed, Routine, Inside, Behind, At, State, Goes, Placement, Control, Ends, Wild}
+use Rattle.bk_ocode.specs.OcodeStep.{slot, can_be_called, step, on_number, on_some, named_place, has_word, dyadic_word, operated, jump, from_label, case_label, call, return, step_by, step_from}
+use Rattle.bk_ocode.specs.OcodeRun.{Program, in_hand, resumed_in, program_step, Rest, rest_of, or_rest, rests, rests_of, resumed, resumed_by, find_rest, label_rest, at_number, program_step_from}
 use Rattle.bk_ocode.specs.declared.stmt.Stmt.{Stmt}
 use Rattle.bk_ocode.specs.declared.stmt.Stmt.TheVariants.{Label, Entry, CallFunction, CallRoutine, ReturnItem, Return, Number, True, False, Query, Load, Address, Text, Monadic, Dyadic, LoadByte, Assign, AssignAt, AssignByte, Jump, JumpIf, GiveResult, TakeResult, Stack, Store, Save, Switch, Finish}
 use Rattle.bk_ocode.specs.WellPlaced.{IsWellPlaced}
