@@ -167,10 +167,14 @@ module _ (g : Setting) (p : Program) (m : Meanings) (procs : Procedures g p) (kn
       ran_first (omega arith) (omega arith)
       (λ x w1 y. arrived_more (omega arith) (omega arith) y) (sim.truth e z u n to c rest v a f r)
   truth_of_runs B (t.unary l q.Not e) z u n to c rest v le ll a f r = denied_run g m sim B e z u n to c rest v (omega arith) (omega arith) a f r
-  truth_of_runs B (t.binary l o.Both i x y) z true n to c rest v le ll a f r = over_run g m sim B x y z true n a.0 to c a.1 rest v (omega arith) (omega arith) a.2 a.3 a.4 f r
-  truth_of_runs B (t.binary l o.Both i x y) z false n to c rest v le ll a f r = straight_run g m sim B x y z false n to c a.0 rest v (omega arith) (omega arith) a.1 a.2 f r
-  truth_of_runs B (t.binary l o.Either i x y) z true n to c rest v le ll a f r = straight_run g m sim B x y z true n to c a.0 rest v (omega arith) (omega arith) a.1 a.2 f r
-  truth_of_runs B (t.binary l o.Either i x y) z false n to c rest v le ll a f r = over_run g m sim B x y z false n a.0 to c a.1 rest v (omega arith) (omega arith) a.2 a.3 a.4 f r
+  truth_of_runs B (t.binary l o.Both i x y) z true n to c rest v le ll a f r =
+      over_run g m sim B x y z true n a.0 to c a.1 rest v (omega arith) (omega arith) a.2 a.3 a.4 f r
+  truth_of_runs B (t.binary l o.Both i x y) z false n to c rest v le ll a f r =
+      straight_run g m sim B x y z false n to c a.0 rest v (omega arith) (omega arith) a.1 a.2 f r
+  truth_of_runs B (t.binary l o.Either i x y) z true n to c rest v le ll a f r =
+      straight_run g m sim B x y z true n to c a.0 rest v (omega arith) (omega arith) a.1 a.2 f r
+  truth_of_runs B (t.binary l o.Either i x y) z false n to c rest v le ll a f r =
+      over_run g m sim B x y z false n a.0 to c a.1 rest v (omega arith) (omega arith) a.2 a.3 a.4 f r
   truth_of_runs B (t.binary l o.Byte i x y) z u n to c rest v le ll a f r = plain_truth B (t.binary l o.Byte i x y) z u n to c rest v le ll a f r
   truth_of_runs B y z u n to c rest v le ll a f r = plain_truth B y z u n to c rest v le ll a f r
 
@@ -179,7 +183,8 @@ module _ (g : Setting) (p : Program) (m : Meanings) (procs : Procedures g p) (kn
       → RanAddress g (start z c v) B z rest v (target_of m e z.env v)
   address_of_runs B (t.name l x) z c rest v le ll a r = address_runs g B z c x rest v (omega arith) (omega arith) a r
   address_of_runs B (t.parens l e) z c rest v le ll a r =
-      ran_first (omega arith) (omega arith) (λ u w1 y. larger_address g (start z c v) (for_value e v) B z rest v u w1 (omega arith) (omega arith) y) (sim.address e z c rest v a r)
+      ran_first (omega arith) (omega arith) (λ u w1 y. larger_address g (start z c v) (for_value e v) B z rest v u w1 (omega arith) (omega arith) y)
+      (sim.address e z c rest v a r)
   address_of_runs B (t.unary l q.Contents e) z c rest v le ll a r = contents_address g m sim B e z c rest v (omega arith) (omega arith) a r
   address_of_runs B (t.binary l o.Subscript i x y) z c rest v le ll a r = subscript_address g m sim B x y z c a.0 rest v (omega arith) (omega arith) a.1 a.2 r
   address_of_runs B (t.binary l o.Byte i x y) z c rest v le ll a r = absurd a
@@ -189,7 +194,8 @@ module _ (g : Setting) (p : Program) (m : Meanings) (procs : Procedures g p) (kn
       → RanStore g (start z c v) B z rest v (target_of m e z.env v)
   store_of_runs B (t.name l x) z c rest v le ll a r = word_runs g B z c x rest v (omega arith) (omega arith) a r
   store_of_runs B (t.parens l e) z c rest v le ll a r =
-      ran_first (omega arith) (omega arith) (λ u w1 y. larger_store g (start z c v) (for_value e v) B z rest v u w1 (omega arith) (omega arith) y) (sim.destination e z c rest v a r)
+      ran_first (omega arith) (omega arith) (λ u w1 y. larger_store g (start z c v) (for_value e v) B z rest v u w1 (omega arith) (omega arith) y)
+      (sim.destination e z c rest v a r)
   store_of_runs B (t.unary l q.Contents e) z c rest v le ll a r = contents_store g m sim B e z c rest v (omega arith) (omega arith) a r
   store_of_runs B (t.binary l o.Subscript i x y) z c rest v le ll a r = subscript_store g m sim B x y z c a.0 rest v (omega arith) (omega arith) a.1 a.2 r
   store_of_runs B (t.binary l o.Byte i x y) z c rest v le ll a r = byte_store g m sim B x y z c a.0 rest v (omega arith) (omega arith) a.1 a.2 r
@@ -219,7 +225,9 @@ module _ (g : Setting) (p : Program) (m : Meanings) (procs : Procedures g p) (kn
 
   act_of_runs : (B : Account) (x : Action) (mode : Mode) (z : Sit) (there : Sought → List Stmt) (c rest e : List Stmt) (v : World) → 16 * v.turns + 16 ≤ B.most → B.least ≤ suc v.turns - turns_in x → B.least ≤ v.turns → IsAct g z.scene z.depth z.env x there c rest
       → Entered mode z.env x there c e → Ready g z v → RanDid g (start z e v) B z rest v (act_of p m x mode z.env v)
-  act_of_runs B (t.empty) forwards z there c rest e v le ll lb a en r = subst (λ code. RanDid g (start z code v) B z rest v (act_of p m (t.empty) forwards z.env v)) (sym en) (went (subst (λ y. ArrivedAt g (start z c v) B z y z.depth v v) a (stay g B z c v (omega arith) lb r)))
+  act_of_runs B (t.empty) forwards z there c rest e v le ll lb a en r =
+      subst (λ code. RanDid g (start z code v) B z rest v (act_of p m (t.empty) forwards z.env v)) (sym en)
+      (went (subst (λ y. ArrivedAt g (start z c v) B z y z.depth v v) a (stay g B z c v (omega arith) lb r)))
   act_of_runs B (t.assign l xs es) forwards z there c rest e v le ll lb a en r = subst (λ code. RanDid g (start z code v) B z rest v (act_of p m (t.assign l xs es) forwards z.env v)) (sym en) (assigned_more B xs es z c rest v le ll a r)
   act_of_runs B (t.call l f es) forwards z there c rest e v le ll lb a en r = subst (λ code. RanDid g (start z code v) B z rest v (act_of p m (t.call l f es) forwards z.env v)) (sym en) (call_more B f es z c rest v le ll a r)
   act_of_runs B (t.goto l x) forwards z there c rest e v le ll lb a en r = subst (λ code. RanDid g (start z code v) B z rest v (act_of p m (t.goto l x) forwards z.env v)) (sym en) (goto_runs g B z x.letters c rest v (omega arith) (omega arith) a.0 a.1 r)
@@ -248,7 +256,8 @@ module _ (g : Setting) (p : Program) (m : Meanings) (procs : Procedures g p) (kn
   act_of_runs B (t.block l t.no_declarations cs) (seeking s) z there c rest e v le ll lb a en r = order_more B cs (seeking s) z there c rest e v le (omega arith) a en r
   act_of_runs B (t.block l (t.declare h hs) cs) forwards z there c rest e v le ll lb a en r = subst (λ code. RanDid g (start z code v) B z rest v (act_of p m (t.block l (t.declare h hs) cs) forwards z.env v)) (sym en) (block_runs g m sim (λ env w1 ds. scope_after g m sim ds forwards env w1) B l h hs cs z there c rest v (omega arith) (omega arith) a r)
   act_of_runs B (t.repeat l y) mode z there c rest e v le ll lb a en r = repeat_run g m sim B l y mode z there c rest e v (omega arith) (omega arith) a en r
-  act_of_runs B (t.repeat_while l b y i) mode z there c rest e v le ll lb a en r = repeat_while_run g m sim B l b y i mode z there c rest e v (omega arith) (omega arith) a en r
+  act_of_runs B (t.repeat_while l b y i) mode z there c rest e v le ll lb a en r =
+      repeat_while_run g m sim B l b y i mode z there c rest e v (omega arith) (omega arith) a en r
   act_of_runs B _ (seeking s) z there c rest e v le ll lb a en r = not_true en.0
 
   -- ---- with their turns
@@ -293,7 +302,8 @@ module _ (g : Setting) (p : Program) (m : Meanings) (procs : Procedures g p) (kn
 
   act_run : (x : Action) (mode : Mode) (z : Sit) (there : Sought → List Stmt) (c rest e : List Stmt) (v : World) → IsAct g z.scene z.depth z.env x there c rest → Entered mode z.env x there c e → Ready g z v
       → RanDid g (start z e v) (for_act x v) z rest v (turn_for x v (λ w. act_of p m x mode z.env w))
-  act_run t.empty forwards z there c rest e v a en r = went (subst (λ code. Did g (start z e v) (for_act t.empty v) z code v v) (en ∙ a) (stay g (for_act t.empty v) z e v (omega arith) (omega arith) r))
+  act_run t.empty forwards z there c rest e v a en r =
+      went (subst (λ code. Did g (start z e v) (for_act t.empty v) z code v v) (en ∙ a) (stay g (for_act t.empty v) z e v (omega arith) (omega arith) r))
   act_run t.empty (seeking s) z there c rest e v a en r = not_true en.0
   act_run x mode z there c rest e v a en r = act_turn x mode z there c rest e v (omega arith) a en r
 
@@ -321,12 +331,14 @@ module _ (g : Setting) (p : Program) (m : Meanings) (procs : Procedures g p) (kn
 -- ---- With any number of turns each form does what it means.
 
 -- where no turn is left a run goes on from where it is
-still_going : {A : Type 0} {K : A → World → Type 0} {X : Exit → World → Type 0} (g : Setting) (B : Account) (z : Sit) (c : List Stmt) (w : World) → B.least ≤ w.turns → Ran g (start z c w) B K X (going w)
+still_going : {A : Type 0} {K : A → World → Type 0} {X : Exit → World → Type 0} (g : Setting) (B : Account) (z : Sit) (c : List Stmt) (w : World)
+    → B.least ≤ w.turns → Ran g (start z c w) B K X (going w)
 still_going g B z c w le = went (record { to = start z c w; steps = 0; paid = 0; comes = here _; most = omega arith; least = omega arith; wrote = refl; left = refl })
 
 act_without : (g : Setting) (x : Action) (mode : Mode) (z : Sit) (there : Sought → List Stmt) (c rest e : List Stmt) (w : World) → IsAct g z.scene z.depth z.env x there c rest → Entered mode z.env x there c e → Ready g z w
     → RanDid g (start z e w) (for_act x w) z rest w (no_turn_for x w)
-act_without g t.empty forwards z there c rest e w a en r = went (subst (λ code. Did g (start z e w) (for_act t.empty w) z code w w) (en ∙ a) (stay g (for_act t.empty w) z e w (omega arith) (omega arith) r))
+act_without g t.empty forwards z there c rest e w a en r =
+    went (subst (λ code. Did g (start z e w) (for_act t.empty w) z code w w) (en ∙ a) (stay g (for_act t.empty w) z e w (omega arith) (omega arith) r))
 act_without g t.empty (seeking s) z there c rest e w a en r = not_true en.0
 act_without g x mode z there c rest e w a en r = still_going g (for_act x w) z e w (omega arith)
 

@@ -143,7 +143,8 @@ called_runs of g p m procs known sim alone_runs alone_after s A B z rest w w1 vs
 called_runs of g p m procs known sim alone_runs alone_after s A B z rest w w1 vs (routine r) le le' led ready call ca = routine_runs of g r s A B z rest w w1 vs le le' led ready call (known r) ca
 called_runs of g p m procs known sim alone_runs alone_after s A B z rest w w1 vs _ le le' led r call ca = went tt
 
-back_ran : {g : Setting} {s : State} {B : Account} {K : Value → World → Type 0} {X : Exit → World → Type 0} {o : Outcome Value} (n : ℕ) → Ran g s B (λ v w3. K v (calls_back n w3)) AnyExit o → Ran g s B K X (each_way (λ v after. gives v (calls_back n after)) (λ x w. undefined) o)
+back_ran : {g : Setting} {s : State} {B : Account} {K : Value → World → Type 0} {X : Exit → World → Type 0} {o : Outcome Value} (n : ℕ)
+    → Ran g s B (λ v w3. K v (calls_back n w3)) AnyExit o → Ran g s B K X (each_way (λ v after. gives v (calls_back n after)) (λ x w. undefined) o)
 back_ran n q = each_way_ran (λ t. adds _ (λ w. stays (history w))) (λ x. adds _ (λ w. tt)) q (λ v w3 k. went k) (λ x w k. went tt)
 
 -- ---- the arguments, the procedure, the call
@@ -156,7 +157,8 @@ apply_runs of g p m procs known sim alone_runs alone_after B f es z c c1 c2 rest
     let dp = r.deep in
     let a0 : ArrivedAt g s A z c1 (z.depth + 2) w w = arrived_step (stay g A0 z c w (omega arith) (omega arith) r) cells0 None z.written (omega arith) like0 (stack_moves g.program s z.scene.own c1 z.depth (z.depth + 2) (ap (λ y. Inside z.scene.own z.depth y) ec)) in
     let z0 = next g s A z c1 (z.depth + 2) w w (past f z.env) (z.depth + 2) a0 in
-    with_ran {K = λ vs w1. Listed g (start z0 c1 w) (for_values es w) z0 c2 es w vs w1} (λ vs. adds _ (λ w1. with_after _ _ _ (sim.grows.value f z.env w1) (λ v. adds _ (λ w2. call_after p m sim.grows alone_after v vs w2))))
+    with_ran {K = λ vs w1. Listed g (start z0 c1 w) (for_values es w) z0 c2 es w vs w1}
+    (λ vs. adds _ (λ w1. with_after _ _ _ (sim.grows.value f z.env w1) (λ v. adds _ (λ w2. call_after p m sim.grows alone_after v vs w2))))
     (ran_on (omega arith) (omega arith) r (omega arith) a0 (λ vs w1 l. l) (values_run g m sim es z0 c1 c2 w laid_es (ready_next (past f z.env) (z.depth + 2) a0 refl (omega arith) r)))
     (λ vs w1 l.
     let ld = l.is_depth in

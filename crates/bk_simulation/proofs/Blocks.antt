@@ -75,7 +75,8 @@ pub record Stored (g : Setting) (s : State) (C : Account) (z : Sit) (w : World) 
 stored : (g : Setting) (s : State) (C : Account) (z : Sit) (w : World) (h : Store) (d : ℕ) (c1 c2 : List Stmt) (d1 : ℕ) (ps : List Spot) (vars : Bool) (ss : List Start) (w1 : World) → Ready g z w → z.depth ≤ d → d ≤ d1 → RisingSpots d ps → c1 ≡ cond vars (StoreStmt ∷ c2) c2
     → (vars ≡ false → ps ≡ []) → Lets g s C z w h d c1 d1 ps vars ss w1 → Stored g s C z w c2 d1 ps h.bases ss w1
 stored g s C z w h d c1 c2 d1 ps false ss w1 r le le1 rise ec none k =
-    subst (λ y. Stored g s C z w y d1 ps h.bases ss w1) ec (record { arr = k.arr; items = k.items; vars = subst (λ y. AreVariables k.arr.cells1 z.frame y) (sym (none refl)) tt; grown = k.since.grown })
+    subst (λ y. Stored g s C z w y d1 ps h.bases ss w1) ec
+    (record { arr = k.arr; items = k.items; vars = subst (λ y. AreVariables k.arr.cells1 z.frame y) (sym (none refl)) tt; grown = k.since.grown })
 stored g s C z w h d c1 c2 d1 ps true ss w1 r le le1 rise ec none k =
     let dp = r.deep in
     let sp : k.arr.steps + 16 * w1.turns + 1 ≤ C.most = k.spare refl in
@@ -191,5 +192,6 @@ block_runs g m sim scope_after B l h hs cs z at c rest w le le' laid r =
     (begun A (Since (z.frame + z.depth) (store z w)) z.depth c (omega arith) (omega arith) r (since_refl (store z w))) r.named)
     (λ env1 w1 q.
     let z1 = open_sit g s C z w q.c1 q.d1 (z.frame + q.d1) w1 q.arr q.bs env1 in
-    ran_open q.bs env1 (omega arith) (omega arith) r q.deep q.keeps q.arr (λ _ w2 k. record { d1 = q.d1; more = z.frame + q.d1; arr = open_on (omega arith) (omega arith) r q.deep q.arr k })
+    ran_open q.bs env1 (omega arith) (omega arith) r q.deep q.keeps q.arr
+    (λ _ w2 k. record { d1 = q.d1; more = z.frame + q.d1; arr = open_on (omega arith) (omega arith) r q.deep q.arr k })
     (scope_runs g m sim cs forwards z1 q.laid.0 q.laid.1 q.c1 (Stack z.depth ∷ rest) q.c1 w1 (q.laid.2, q.laid.3, q.laid.4) refl (open_ready q.arr q.bs env1 q.deep q.named r))))

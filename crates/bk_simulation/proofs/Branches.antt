@@ -42,7 +42,8 @@ few_left : (x : Exit) → still x ≤ 2
 few_left break = omega arith
 few_left _ = omega arith
 
-pub left_here : {rest : List Stmt} (g : Setting) (B : Account) (z : Sit) (x : Exit) (c : List Stmt) (w : World) → 16 * w.turns + 2 ≤ B.most → B.least ≤ w.turns → Ready g z w → no_result x → Leads z.scene x c → RanDid g (start z c w) B z rest w (leaves x w)
+pub left_here : {rest : List Stmt} (g : Setting) (B : Account) (z : Sit) (x : Exit) (c : List Stmt) (w : World) → 16 * w.turns + 2 ≤ B.most → B.least ≤ w.turns
+    → Ready g z w → no_result x → Leads z.scene x c → RanDid g (start z c w) B z rest w (leaves x w)
 left_here g B z x c w le le' r n l = let f = few_left x in
     went (record { control = c; depth1 = z.depth; leads = l; arr = stay g B z c w (omega arith) le' r; later = omega arith; hands = nothing_handed g z.bases x z.hand n })
 
@@ -87,7 +88,8 @@ behind_place g m sim B a z n at1 c1 rest w le le' l ln r =
     let s = start z (Label n ∷ c1) w in
     let A : Account = record { most = 16 * w.turns + 1; least = w.turns } in
     let ar : ArrivedAt g s A z c1 z.depth w w = landed_on (omega arith) (omega arith) ln (stay g (record { most = 16 * w.turns; least = w.turns }) z (Label n ∷ c1) w (omega arith) (omega arith) r) in
-    comes_to (omega arith) (omega arith) r (omega arith) ar (sim.act a forwards (next g s A z c1 z.depth w w z.env z.depth ar) at1 c1 rest c1 w l refl (ready_next z.env z.depth ar refl (omega arith) r))
+    comes_to (omega arith) (omega arith) r (omega arith) ar
+    (sim.act a forwards (next g s A z c1 z.depth w w z.env z.depth ar) at1 c1 rest c1 w l refl (ready_next z.env z.depth ar refl (omega arith) r))
 
 abbrev pub EnteredPlace : Mode → Environment → Sought → Action → (Sought → List Stmt) → List Stmt → List Stmt → Type 0
 EnteredPlace forwards env spot a at c e = e ≡ c

@@ -140,8 +140,10 @@ links_of : (top frame : ℕ) (old mid new : ℕ → Cell) → suc frame < top �
     → LinksFrom (suc frame) old new
 links_of top frame old mid new lt links like x w le e = links x w (omega arith) ((like x (omega arith)).link w e)
 
-abbrev came_back : {g : Setting} {s : State} {A B : Account} {z : Sit} {c : List Stmt} {d : ℕ} {w w3 : World} {back : ℕ} {result : Option Content} (n : ℕ) → A.most + 1 ≤ B.most → B.least ≤ A.least → n ≡ w.calls → Ready g z w
-    → (q : Back g s A z w back result w3) (new : ℕ → Cell) (written2 : List ℕ) → ((a : ℕ) → a < z.frame + z.depth → Like (new a) (q.cells1 a)) → Moves g.program q.from (state z.scene.own d c new z.frame None written2 w3) → ArrivedAt g s B z c d w (calls_back n w3)
+abbrev came_back : {g : Setting} {s : State} {A B : Account} {z : Sit} {c : List Stmt} {d : ℕ} {w w3 : World} {back : ℕ} {result : Option Content} (n : ℕ)
+    → A.most + 1 ≤ B.most → B.least ≤ A.least → n ≡ w.calls → Ready g z w
+    → (q : Back g s A z w back result w3) (new : ℕ → Cell) (written2 : List ℕ) → ((a : ℕ) → a < z.frame + z.depth → Like (new a) (q.cells1 a))
+    → Moves g.program q.from (state z.scene.own d c new z.frame None written2 w3) → ArrivedAt g s B z c d w (calls_back n w3)
 came_back {g} {z = z} {w = w} n le le' en r q new written2 like m =
     let top = z.frame + z.depth in
     let mq = q.most in
@@ -261,10 +263,14 @@ exit_after : (y : Exit) (w : World) → After (history w) (return_exit y w)
 exit_after return w = stays (history w)
 exit_after _ w = stays (history w)
 
-returned_ran : (g : Setting) (s : State) (B : Account) (z : Sit) (r : List Stmt) (w : World) (o : Outcome Done) → RanDid g s B z (Return ∷ r) w o → Ran g s B (Yielded g s B z w) AnyExit (each_way (λ _ w. gives unset w) return_exit o)
-returned_ran g s B z r w o q = each_way_ran (λ _. adds _ (λ w1. stays (history w1))) (λ x. adds _ (λ w1. exit_after x w1)) q (λ _ w1 a. went (returned_by g s B z w w1 (Return ∷ r) z.depth r refl a)) (λ x w1 e. returned_exit g s B z w x w1 e)
+returned_ran : (g : Setting) (s : State) (B : Account) (z : Sit) (r : List Stmt) (w : World) (o : Outcome Done) → RanDid g s B z (Return ∷ r) w o
+    → Ran g s B (Yielded g s B z w) AnyExit (each_way (λ _ w. gives unset w) return_exit o)
+returned_ran g s B z r w o q =
+    each_way_ran (λ _. adds _ (λ w1. stays (history w1))) (λ x. adds _ (λ w1. exit_after x w1)) q
+    (λ _ w1 a. went (returned_by g s B z w w1 (Return ∷ r) z.depth r refl a)) (λ x w1 e. returned_exit g s B z w x w1 e)
 
-valued_by : (g : Setting) (s : State) (B : Account) (z : Sit) (r : List Stmt) (w : World) (v : Value) (w1 : World) → Has g s B z (ReturnItem ∷ r) (z.depth + 1) w v w1 → Yielded g s B z w v w1
+valued_by : (g : Setting) (s : State) (B : Account) (z : Sit) (r : List Stmt) (w : World) (v : Value) (w1 : World)
+    → Has g s B z (ReturnItem ∷ r) (z.depth + 1) w v w1 → Yielded g s B z w v w1
 valued_by g s B z r w v w1 q = record {
   control = ReturnItem ∷ r;
   depth1 = z.depth + 1;
@@ -302,5 +308,6 @@ body_after m grows alone_after (command x) env w =
 body_after m grows alone_after (expression e) env w = grows.value e env w
 
 -- what was made for the call dies
-pub closing_ran : {T : Type 0} {g : Setting} {s : State} {B : Account} {K L : T → World → Type 0} {o : Outcome T} (k : ℕ) → ((t : T) (w : World) → K t w → L t (forgetting k w)) → Ran g s B K AnyExit o → Ran g s B L AnyExit (closing k o)
+pub closing_ran : {T : Type 0} {g : Setting} {s : State} {B : Account} {K L : T → World → Type 0} {o : Outcome T} (k : ℕ)
+    → ((t : T) (w : World) → K t w → L t (forgetting k w)) → Ran g s B K AnyExit o → Ran g s B L AnyExit (closing k o)
 closing_ran k h q = each_way_ran (λ t. adds _ (λ w. stays (history w))) (λ x. adds _ (λ w. stays (history w))) q (λ t w i. went (h t w i)) (λ x w i. went tt)

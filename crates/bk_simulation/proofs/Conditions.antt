@@ -148,7 +148,8 @@ choice_run g m sim B e a b z n n1 c c1 c2 rest w le le' le_ la lb l0 l1 r =
         → Ran g (start z c w) B (Has g (start z c w) B z rest (z.depth + 1) w) (Out g (start z c w) B z w)
         (either x (λ w. m.value a (past e z.env) w) (λ w. m.value b (past a (past e z.env)) w) w1)
     goes true w1 q = let m0 = q.most in
-        branch_run g m sim (start z c w) (for_truth e w) D B a z (past e z.env) n1 c1 rest (Label n ∷ c2) w w1 (omega arith) (omega arith) (omega arith) le' refl la l1 r q
+        branch_run g m sim (start z c w) (for_truth e w) D B a z (past e z.env) n1 c1 rest (Label n ∷ c2) w w1 (omega arith) (omega arith)
+        (omega arith) le' refl la l1 r q
     goes false w1 q = let dp = r.deep in let m0 = q.most in
         let A : Account = record { most = 16 * w.turns + 1; least = w.turns - turns_of e } in
         branch_run g m sim (start z c w) A D B b z (past a (past e z.env)) n1 c2 rest (Label n1 ∷ TakeResult z.depth ∷ rest) w w1

@@ -72,8 +72,10 @@ links_free g h top b cells a f le lt o n b1 i l e li z =
     (λ (x : (o ≡ length h.mem) × (n ≡ length cells) × (b1 ≡ b)). let x2 = x.2 in absurd (omega arith)) (lying h b cells o n b1 f.long l e).lies
 
 -- A call: the run falls where the frame would begin too high or too many calls would be active.
-pub call_run : {of : Bool} {g : Setting} {s : State} {A B : Account} {z : Sit} {rest : List Stmt} {w w1 : World} {vs : List Value} {v : Value} {K : Value → World → Type 0} {o : Outcome Value} → z.depth ≤ FRAME_WORDS → Calling of g s A z rest w vs v w1
-    → After (history (calling w1)) o → (nat_lt (2 ^ 31 - 65536) (z.frame + z.depth) ≡ false → max w1.most_calls (w1.calls + 1) ≤ g.cap → Ran g s B K AnyExit o) → Ran g s B K AnyExit o
+pub call_run : {of : Bool} {g : Setting} {s : State} {A B : Account} {z : Sit} {rest : List Stmt} {w w1 : World} {vs : List Value} {v : Value}
+    {K : Value → World → Type 0} {o : Outcome Value} → z.depth ≤ FRAME_WORDS → Calling of g s A z rest w vs v w1
+    → After (history (calling w1)) o → (nat_lt (2 ^ 31 - 65536) (z.frame + z.depth) ≡ false → max w1.most_calls (w1.calls + 1) ≤ g.cap → Ran g s B K AnyExit o)
+    → Ran g s B K AnyExit o
 call_run {of} {g} {s} {A} {B} {z} {rest} {w} {w1} {o = o} led ca after inside =
     by_test (nat_lt (2 ^ 31 - 65536) (z.frame + z.depth))
     (λ (h : nat_lt (2 ^ 31 - 65536) (z.frame + z.depth) ≡ true). record {

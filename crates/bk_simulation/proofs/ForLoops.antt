@@ -66,7 +66,8 @@ limit_here g s A z c k w w1 d o u ed l a =
 -- a slot is loaded
 slot_run : (g : Setting) (s : State) (A B : Account) (z : Sit) (q : ℕ) (rest : List Stmt) (w w1 : World) (v : Value) → A.most + 1 ≤ B.most → B.least ≤ A.least → 2 ≤ z.depth → (a : ArrivedAt g s A z (Load (Local q) ∷ rest) z.depth w w1)
     → Stands g.codes a.bases1 v (content_of (a.cells1 (z.frame + q))) → Has g s B z rest (z.depth + 1) w v w1
-slot_run g s A B z q rest w w1 v le le' dp a st = topped _ le le' dp a st (load_moves g.program (there g s A z (Load (Local q) ∷ rest) z.depth w w1 a) z.scene.own rest z.depth (Local q) refl)
+slot_run g s A B z q rest w w1 v le le' dp a st =
+    topped _ le le' dp a st (load_moves g.program (there g s A z (Load (Local q) ∷ rest) z.depth w w1 a) z.scene.own rest z.depth (Local q) refl)
 
 variable_run : (g : Setting) (s : State) (A B : Account) (z : Sit) (d o : ℕ) (rest : List Stmt) (w w1 : World) → A.most + 1 ≤ B.most → B.least ≤ A.least → 2 ≤ z.depth → BaseOf z.bases o (z.frame + d) → ArrivedAt g s A z (Load (Local d) ∷ rest) z.depth w w1
     → RanValue g s B z rest w (fetch (address o 0) w1)
@@ -282,12 +283,14 @@ rounds_adds g m sim x o u k env au =
     exit_adds _ = adds _ (λ w1. stays (history w1))
 
 -- ---- what follows an arrival in a situation of its own that has not all its items
-abbrev joined : {g : Setting} {s : State} {A N B : Account} {z : Sit} {c c2 : List Stmt} {k d2 : ℕ} {w w1 w2 : World} → A.most + N.most ≤ B.most + 16 * w1.turns → B.least ≤ N.least + (A.least - w1.turns) → Ready g z w
+abbrev joined : {g : Setting} {s : State} {A N B : Account} {z : Sit} {c c2 : List Stmt} {k d2 : ℕ} {w w1 w2 : World} → A.most + N.most ≤ B.most + 16 * w1.turns
+    → B.least ≤ N.least + (A.least - w1.turns) → Ready g z w
     → (a : ArrivedAt g s A z c k w w1) → ArrivedAt g (there g s A z c k w w1 a) N (next g s A z c k w w1 z.env z.depth a) c2 d2 w1 w2 → ArrivedAt g s B z c2 d2 w w2
 joined {g} {z = z} {w = w} le1 le2 r a x = behind (z.frame + z.depth) (Moved (z.frame + z.depth) (store z w)) le1 le2 refl a x x.fits
     (moved_on g.codes (z.frame + z.depth) (z.frame + z.depth) (z.frame + z.depth) _ _ _ r.fits (omega arith) a.moved x.moved)
 
-joined_ran : {g : Setting} {s : State} {A N B : Account} {z : Sit} {c rest : List Stmt} {k : ℕ} {w w1 : World} {o : Outcome Done} → A.most + N.most ≤ B.most + 16 * w1.turns → B.least ≤ N.least + (A.least - w1.turns) → Ready g z w
+joined_ran : {g : Setting} {s : State} {A N B : Account} {z : Sit} {c rest : List Stmt} {k : ℕ} {w w1 : World} {o : Outcome Done}
+    → A.most + N.most ≤ B.most + 16 * w1.turns → B.least ≤ N.least + (A.least - w1.turns) → Ready g z w
     → (a : ArrivedAt g s A z c k w w1) → RanDid g (there g s A z c k w w1 a) N (next g s A z c k w w1 z.env z.depth a) rest w1 o → RanDid g s B z rest w o
 joined_ran le1 le2 r a q = let m = a.most in let l = a.least in ran_from a.comes (omega arith) (omega arith) (λ _ w2 y. joined le1 le2 r a y)
     (λ x w2 e. let n = e.later in record { control = e.control; depth1 = e.depth1; leads = e.leads; arr = joined le1 le2 r a e.arr; later = omega arith; hands = e.hands }) q
@@ -391,7 +394,8 @@ limit_free g z w u r o1 n b1 i li eb lt e = ⊎_elim
     (lying (store z w) (z.frame + z.depth) (holds u ∷ []) o1 n b1 r.fits.long li eb).lies
 
 -- the whole loop, behind its two values
-for_opened : (g : Setting) (m : Meanings) → Simulates g m → (l : ℕ) (x : Mention) (a y : Expression) (h : Expressions) (c : Action) (z z0 : Sit) (there : Sought → List Stmt) (c0 rest : List Stmt) (w : World) (u v : Value) (lx : IsAct g z.scene z.depth z0.env (t.for_loop l x a y h c) there c0 rest)
+for_opened : (g : Setting) (m : Meanings) → Simulates g m → (l : ℕ) (x : Mention) (a y : Expression) (h : Expressions) (c : Action) (z z0 : Sit)
+    (there : Sought → List Stmt) (c0 rest : List Stmt) (w : World) (u v : Value) (lx : IsAct g z.scene z.depth z0.env (t.for_loop l x a y h c) there c0 rest)
     → z.env ≡ past y (past a z0.env) → Ready g z w → Stands g.codes z.bases u (content_of (z.cells (z.frame + z.depth)))
     → Stands g.codes z.bases v (content_of (z.cells (z.frame + (z.depth + 1)))) → ((o : ℕ) → Adds (λ w. for_rounds_of m c o v lx.4 (bind x.letters (cell o 0) z.env) w))
     → RanDid g (state z.scene.own (z.depth + 1 + 1) (Store_stmt ∷ Jump lx.0 ∷ Label lx.1 ∷ lx.7) z.cells z.frame z.hand z.written w) (record { most = 16 * w.turns + 20; least = w.turns - suc (turns_in c) }) z rest w
@@ -457,8 +461,10 @@ loop_adds m x c u v k env ad =
     adds _ (λ w. closing_after (history w) (length w.memory) (for_test (length w.memory) v k (λ q. for_rounds_of m c (length w.memory) v k (bind x (cell (length w.memory) 0) env) q) (making (holds u ∷ []) w))
     ((test_adds (length w.memory) k v (λ y. for_rounds_of m c (length w.memory) v k (bind x (cell (length w.memory) 0) env) y) (ad (length w.memory))).at (making (holds u ∷ []) w)))
 
-pub for_run : (g : Setting) (m : Meanings) → Simulates g m → (B : Account) (l : ℕ) (x : Mention) (a y : Expression) (h : Expressions) (c : Action) (z : Sit) (there : Sought → List Stmt) (c0 rest : List Stmt) (w : World) → 16 * w.turns + 16 ≤ B.most
-    → B.least ≤ w.turns - (turns_of a + (turns_of y + suc (turns_in c))) → IsAct g z.scene z.depth z.env (t.for_loop l x a y h c) there c0 rest → ((o : ℕ) (v : Value) (k : ℕ) (env : Environment) → Adds (λ w. for_rounds_of m c o v k env w)) → Ready g z w
+pub for_run : (g : Setting) (m : Meanings) → Simulates g m → (B : Account) (l : ℕ) (x : Mention) (a y : Expression) (h : Expressions) (c : Action) (z : Sit)
+    (there : Sought → List Stmt) (c0 rest : List Stmt) (w : World) → 16 * w.turns + 16 ≤ B.most
+    → B.least ≤ w.turns - (turns_of a + (turns_of y + suc (turns_in c))) → IsAct g z.scene z.depth z.env (t.for_loop l x a y h c) there c0 rest
+    → ((o : ℕ) (v : Value) (k : ℕ) (env : Environment) → Adds (λ w. for_rounds_of m c o v k env w)) → Ready g z w
     → RanDid g (start z c0 w) B z rest w (with (m.value a z.env w) (λ u w. with (m.value y (past a z.env) w) (λ v w. with (given (step_of z.env h) w) (λ n w. for_loop m x.letters c u v n (past y (past a z.env)) w))))
 for_run g m sim B l x a y h c z there c0 rest w le le' lx ad r =
     two_run g m sim B a y z c0 lx.6 (Store_stmt ∷ Jump lx.0 ∷ Label lx.1 ∷ lx.7) w _ _ all_adds (omega arith) (omega arith) lx.9 lx.10 r (λ u v w2 t pos.

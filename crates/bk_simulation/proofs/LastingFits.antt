@@ -269,7 +269,9 @@ datum_word_at (e ∷ ds) (suc j) d place h is only =
     by_test false t r n = r
 
 pub in_datum : (d : Datum) (i : ℕ) → i < length d.words → is_in (d.place + i) d ≡ true
-in_datum d i lt = both_true (nat_le d.place (d.place + i)) (nat_lt (d.place + i) (d.place + length d.words)) (is_le d.place (d.place + i) (omega arith)) (is_less (d.place + i) (d.place + length d.words) (omega arith))
+in_datum d i lt =
+    both_true (nat_le d.place (d.place + i)) (nat_lt (d.place + i) (d.place + length d.words)) (is_le d.place (d.place + i) (omega arith))
+    (is_less (d.place + i) (d.place + length d.words) (omega arith))
 
 module _ (program : Program) (first : ℕ) (well : IsWellPlaced program first FRAME_WORDS) where
   abbrev given : List Datum

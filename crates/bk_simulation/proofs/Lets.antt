@@ -66,9 +66,12 @@ pub record Started (g : Setting) (s : State) (B : Account) (z : Sit) (w : World)
   pub items : ItemsAt g.codes (store_at arr) z.frame d1 vs slots
 
 -- an object is made of words that wait there
-abbrev pub open_make : {g : Setting} {s : State} {A : Account} {own : Placed} {frame calls more top : ℕ} {h : Store} {c : List Stmt} {d : ℕ} {w1 : World} (b : ℕ) (cells : List Cell_of) (more1 : ℕ) → (a : Arrived g s A own frame calls more (Since top h) c d w1) → top ≤ b
+abbrev pub open_make : {g : Setting} {s : State} {A : Account} {own : Placed} {frame calls more top : ℕ} {h : Store} {c : List Stmt} {d : ℕ} {w1 : World}
+    (b : ℕ) (cells : List Cell_of) (more1 : ℕ) → (a : Arrived g s A own frame calls more (Since top h) c d w1) → top ≤ b
     → Fits g.codes (make (store_at a) b cells) more1 → Arrived g s A own frame calls more1 (Since top h) c d (making cells w1)
-open_make {top = top} {h = h} {w1 = w1} b cells more1 a low f = with_objects (a.bases1 ++ b ∷ []) (making cells w1).memory more1 (Since top h) a f (since_on (omega arith) a.moved (since_made b cells (store_at a) a.fits.long low))
+open_make {top = top} {h = h} {w1 = w1} b cells more1 a low f =
+    with_objects (a.bases1 ++ b ∷ []) (making cells w1).memory more1 (Since top h) a f
+    (since_on (omega arith) a.moved (since_made b cells (store_at a) a.fits.long low))
 
 vec_long : (k : ℕ) → length (vec_cells k) ≡ k + 1
 vec_long k = long (k + 1)
@@ -184,7 +187,8 @@ vec_done g s A z w c rest d k w1 r le fw ec a = record {
     a3 : OpenArrived g s A2 z w rest (d + k + 2) (z.frame + d) w1
     a3 =
         let a2 : OpenArrived g s (further 1 A) z w (Address (Local d) ∷ rest) (d + k + 1) (z.frame + d) w1 = open_step r (omega arith) a cells2 None a.written1 like2 m2 in
-        arrived_more (omega arith) (omega arith) (open_step r (omega arith) a2 cells3 None ((z.frame + (d + k + 1)) ∷ a.written1) (λ x lt. like_refl _ _ (same3 x (omega arith))) m3)
+        arrived_more (omega arith) (omega arith)
+        (open_step r (omega arith) a2 cells3 None ((z.frame + (d + k + 1)) ∷ a.written1) (λ x lt. like_refl _ _ (same3 x (omega arith))) m3)
 
     f3 : Fits g.codes h3 (z.frame + d)
     f3 = a3.fits
@@ -218,7 +222,8 @@ item_before g s A B z w h d n c rest d0 d1 slots v vs w1 w2 le lt le1 i l =
       arr = l.arr;
       since = since_on (omega arith) i.since l.since;
       items = (
-        subst (λ y. Stands g.codes h2.bases v y) (sym (l.since.like (z.frame + n) (omega arith) i.free).content) (stands_grown g.codes h1.bases h2.bases v _ l.since.grown i.stands),
+        subst (λ y. Stands g.codes h2.bases v y) (sym (l.since.like (z.frame + n) (omega arith) i.free).content)
+            (stands_grown g.codes h1.bases h2.bases v _ l.since.grown i.stands),
         l.since.free (z.frame + n) (omega arith) i.free,
         (let q : n < d1 = omega arith in q),
         l.items,
@@ -238,7 +243,8 @@ pub starts_run : (g : Setting) (m : Meanings) → Simulates g m → (is : Starts
     → Ready g z w → z.depth ≤ d → KeepsLabels z.scene.bindings bs → d1 ≤ FRAME_WORDS → A.most ≤ B.most → B.least ≤ A.least - turns_started is → AreStarts g (record z.scene { bindings = bs }) d env is c rest d1 slots
     → (a : OpenArrived g s A z w c d (z.frame + d) w1) → NamedIn (record z.scene { bindings = bs }) env a.bases1 z.frame
     → Ran g s B (Started g s B z w (store_at a) d rest d1 slots) (OpenExited g s B z w) (starts m is env w1)
-starts_run g m sim t.no_starts env bs s A B z w c rest d d1 slots w1 r le keeps few le1 le2 l a named = went (no_item g s A B z w c rest d d1 slots w1 le1 (omega arith) l.0 l.1 l.2 a)
+starts_run g m sim t.no_starts env bs s A B z w c rest d d1 slots w1 r le keeps few le1 le2 l a named =
+    went (no_item g s A B z w c rest d d1 slots w1 le1 (omega arith) l.0 l.1 l.2 a)
 starts_run g m sim (t.value e is) env bs s A B z w c rest d d1 slots w1 r le keeps few le1 le2 l a named =
     let c0 = l.0 in
     let A1 : Account = record { most = A.most; least = A.least - turns_of e } in
@@ -246,7 +252,8 @@ starts_run g m sim (t.value e is) env bs s A B z w c rest d d1 slots w1 r le kee
     let z1 = open_sit g s A z w c d (z.frame + d) w1 a bs env in
     let rise = (starts_rise g (record z.scene { bindings = bs }) is (d + 1) (past e env) c0 rest d1 l.1 l.3).0 in
     let grows : Throughout (λ A w u. After (history w) u) m = sim.grows in
-    with_ran {K = NextItem g s A1 z w h d d c0 (d + 1)} (λ v. adds _ (λ w2. with_after _ (starts m is (past e env) w2) _ (starts_after m grows is (past e env) w2) (λ vs. adds _ (λ w3. stays (history w3)))))
+    with_ran {K = NextItem g s A1 z w h d d c0 (d + 1)}
+    (λ v. adds _ (λ w2. with_after _ (starts m is (past e env) w2) _ (starts_after m grows is (past e env) w2) (λ vs. adds _ (λ w3. stays (history w3)))))
     (ran_open bs env (omega arith) (omega arith) r le keeps a
     (λ v w2 q. record {
       arr = open_wider (omega arith) (open_on (omega arith) (omega arith) r le a q.arr);
@@ -267,7 +274,8 @@ starts_run g m sim (t.vector x e is) env bs s A B z w c rest d d1 slots w1 r le 
     let h = store_at a in
     let rise = (starts_rise g (record z.scene { bindings = bs }) is (d + k + 2) env c0 rest d1 l.2 l.5).0 in
     let grows : Throughout (λ A w u. After (history w) u) m = sim.grows in
-    with_ran {K = NextItem g s A1 z w h d (d + k + 1) c0 (d + k + 2)} (λ v. adds _ (λ w2. with_after _ (starts m is env w2) _ (starts_after m grows is env w2) (λ vs. adds _ (λ w3. stays (history w3)))))
+    with_ran {K = NextItem g s A1 z w h d (d + k + 1) c0 (d + k + 2)}
+    (λ v. adds _ (λ w2. with_after _ (starts m is env w2) _ (starts_after m grows is env w2) (λ vs. adds _ (λ w3. stays (history w3)))))
     (turn_there (λ w. make_vec (constant_in env e) w) le1 (omega arith) a (λ n en.
     let A0 : Account = record { most = A.most - 16; least = A.least - 1 } in
     let a1 = open_ticked n en a in
@@ -310,7 +318,8 @@ items_spots codes h frame top (x ∷ xs) [] (n ∷ ns) items = absurd items
 items_spots codes h frame top (x ∷ xs) (v ∷ vs) [] items = absurd items
 items_spots codes h frame top _ _ _ items = tt
 
-pub spots_carried : (codes : Codes) (h h1 : Store) (frame d d1 : ℕ) (ss : List Start) (ps : List Spot) → d ≤ d1 → Since (frame + d) h h1 → SpotsAt codes h frame d ss ps → SpotsAt codes h1 frame d1 ss ps
+pub spots_carried : (codes : Codes) (h h1 : Store) (frame d d1 : ℕ) (ss : List Start) (ps : List Spot) → d ≤ d1 → Since (frame + d) h h1
+    → SpotsAt codes h frame d ss ps → SpotsAt codes h1 frame d1 ss ps
 spots_carried codes h h1 frame d d1 [] [] le c at = tt
 spots_carried codes h h1 frame d d1 (s ∷ ss) (p ∷ ps) le c at =
     let lt : p.slot < d = at.3 in (
@@ -387,7 +396,8 @@ bind_run (st ∷ ss) (p ∷ ps) from env g s A z w c d top w1 high le lim a at r
 bind_run _ _ from env g s A z w c d top w1 high le lim a at rise vars = absurd at
 
 -- a run in a smaller account
-pub open_lift : {T : Type 0} {g : Setting} {s : State} {A B : Account} {z : Sit} {w : World} {K L : T → World → Type 0} {o : Outcome T} → A.most ≤ B.most → B.least ≤ A.least → ((t : T) (w1 : World) → K t w1 → L t w1)
+pub open_lift : {T : Type 0} {g : Setting} {s : State} {A B : Account} {z : Sit} {w : World} {K L : T → World → Type 0} {o : Outcome T} → A.most ≤ B.most
+    → B.least ≤ A.least → ((t : T) (w1 : World) → K t w1 → L t w1)
     → Ran g s A K (OpenExited g s A z w) o → Ran g s B L (OpenExited g s B z w) o
 open_lift le le' h q = so le le' h (λ x w1 e. record { more = e.more; is = out_more le le' e.is }) q
 
@@ -459,7 +469,8 @@ pub let_run : (g : Setting) (m : Meanings) → Simulates g m → (ds : Definitio
     → Ready g z w → z.depth ≤ d → KeepsLabels z.scene.bindings bs → d1 ≤ FRAME_WORDS → A.most ≤ B.most → B.least ≤ A.least - turns_defined ds → AreDefined g (record z.scene { bindings = bs }) d env ds c rest d1 ps
     → (a : OpenArrived g s A z w c d (z.frame + d) w1) → NamedIn (record z.scene { bindings = bs }) env a.bases1 z.frame
     → Ran g s B (Lets g s B z w (store_at a) d rest d1 ps (defines_variables ds)) (OpenExited g s B z w) (let_values m ds env w1)
-let_run g m sim t.no_definitions env bs s A B z w c rest d d1 ps w1 r le keeps few le1 le2 l a named = went (no_let g s A B z w c rest d d1 ps w1 le1 (omega arith) l.0 l.1 l.2 a)
+let_run g m sim t.no_definitions env bs s A B z w c rest d d1 ps w1 r le keeps few le1 le2 l a named =
+    went (no_let g s A B z w c rest d d1 ps w1 le1 (omega arith) l.0 l.1 l.2 a)
 let_run g m sim (t.define (t.routine x y fs b) ds) env bs s A B z w c rest d d1 ps w1 r le keeps few le1 le2 l a named =
     let_run g m sim ds (past_definition (t.routine x y fs b) env) bs s A B z w c rest d d1 ps w1 r le keeps few le1 (omega arith) l a (record { each = named.each })
 let_run g m sim (t.define (t.function x y fs e) ds) env bs s A B z w c rest d d1 ps w1 r le keeps few le1 le2 l a named =
@@ -475,7 +486,8 @@ let_run g m sim (t.define (t.variables x xs is) ds) env bs s A B z w c rest d d1
     let rise0 = (starts_rise g sc is d env c c0 d0 l.2 l.4).0 in
     let rise1 = (defined_rise g sc ds d0 env1 c0 rest d1 l.3 l.5).0 in
     let grows : Throughout (λ A w u. After (history w) u) m = sim.grows in
-    with_ran {K = λ vs w2. Started g s C z w h d c0 d0 l.2 vs w2 × (16 ≤ A.most)} (λ vs. adds _ (λ w2. with_after _ _ _ (let_values_after m grows ds env1 w2) (λ more. adds _ (λ w3. stays (history w3)))))
+    with_ran {K = λ vs w2. Started g s C z w h d c0 d0 l.2 vs w2 × (16 ≤ A.most)}
+    (λ vs. adds _ (λ w2. with_after _ _ _ (let_values_after m grows ds env1 w2) (λ more. adds _ (λ w3. stays (history w3)))))
     (turn_there (λ w. starts m is env w) le1 (omega arith) a (λ n en.
     let A0 : Account = record { most = A.most - 16; least = A.least - 1 } in
     let a1 = open_ticked n en a in
@@ -493,7 +505,9 @@ let_run g m sim (t.define (t.variables x xs is) ds) env bs s A B z w c rest d d1
     subst (λ y. Lets g s B z w h d rest d1 y true (paired (letters xs) vs ++ more) w3) (sym l.6) (record {
       arr = arrived_more (omega arith) (omega arith) k.arr;
       since = since_on (omega arith) q.since k.since;
-      items = spots_both g.codes h2 z.frame d1 (paired (letters xs) vs) more (spots_of (letters xs) l.2) l.3 (spots_carried g.codes h1 h2 z.frame d0 d1 (paired (letters xs) vs) (spots_of (letters xs) l.2) rise1 k.since
+      items =
+          spots_both g.codes h2 z.frame d1 (paired (letters xs) vs) more (spots_of (letters xs) l.2) l.3
+          (spots_carried g.codes h1 h2 z.frame d0 d1 (paired (letters xs) vs) (spots_of (letters xs) l.2) rise1 k.since
           (items_spots g.codes h1 z.frame d0 (letters xs) vs l.2 q.items)) k.items;
       spare = λ u. omega arith;
     }))

@@ -164,7 +164,8 @@ rounds_behind : (g : Setting) (m : Meanings) (x : Action) → RoundsRun g m x �
     → IsLoop g z.scene z.depth z.env x at body rest → EnteredBody forwards z.env x at body body → Ready g z w → ArrivedAt g s A z body z.depth w w1 → RanDid g s B z rest w (rounds_of m x forwards z.env w1)
 rounds_behind g m x run s A B z at body rest w w1 le ll l en r ar =
     let m0 = ar.most in
-    comes_to (omega arith) ll r (omega arith) ar (run forwards (next g s A z body z.depth w w1 z.env z.depth ar) at body rest body w1 l en (ready_next z.env z.depth ar refl (omega arith) r))
+    comes_to (omega arith) ll r (omega arith) ar
+    (run forwards (next g s A z body z.depth w w1 z.env z.depth ar) at body rest body w1 l en (ready_next z.env z.depth ar refl (omega arith) r))
 
 rounds_sought : (g : Setting) (m : Meanings) (x : Action) → RoundsRun g m x → (B : Account) (s : Sought) (z : Sit) (at : Sought → List Stmt) (body rest e : List Stmt) (w : World) → 16 * w.turns + 2 ≤ B.most → B.least ≤ w.turns - turns_in_round x
     → IsLoop g z.scene z.depth z.env x at body rest → EnteredBody (seeking s) z.env x at body e → Ready g z w → RanDid g (start z e w) B z rest w (rounds_of m x (seeking s) z.env w)

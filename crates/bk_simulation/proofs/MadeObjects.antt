@@ -226,7 +226,8 @@ since_moved {codes} {top} {t} {t1} {h} {h1} f f1 m = record {
 pub since_made : {top : ℕ} (b : ℕ) (vs : List Cell_of) (h : Store) → length h.bases ≡ length h.mem → top ≤ b → Since top h (make h b vs)
 since_made b vs h long le = record {
   grown = grown_made h.bases b;
-  was = λ o n lt a. ⊎_elim (λ (x : Older h.mem o n). x.alive) (λ (x : (o ≡ length h.mem) × (n ≡ length vs)). let z = x.0 in absurd (omega arith)) (alive_made h.mem vs o n a);
+  was = λ o n lt a. ⊎_elim (λ (x : Older h.mem o n). x.alive)
+      (λ (x : (o ≡ length h.mem) × (n ≡ length vs)). let z = x.0 in absurd (omega arith)) (alive_made h.mem vs o n a);
   long = (let e = length-append h.mem (living vs ∷ []) in omega arith);
   like = λ a lt free. like_refl _ _ refl;
   free = λ a lt free o n b1 i l e lt1 z. ⊎_elim
@@ -247,7 +248,8 @@ closed_moved {top} {h} {h1} m = record {
 
 module _ (codes : Codes) where
   -- an object is made of words below the top that are in none
-  pub make_fits_in : (h : Store) (top b : ℕ) (vs : List Cell_of) → Fits codes h top → 16 ≤ b → b + length vs ≤ top → b + length vs ≤ limit → ((i : ℕ) → i < length vs → IsFree h (b + i))
+  pub make_fits_in : (h : Store) (top b : ℕ) (vs : List Cell_of) → Fits codes h top → 16 ≤ b → b + length vs ≤ top → b + length vs ≤ limit
+      → ((i : ℕ) → i < length vs → IsFree h (b + i))
       → ((i : ℕ) (c : Cell_of) → slice_get vs i ≡ Some c → StandsCell codes h.bases c (content_of (h.cells (b + i)))) → ((i : ℕ) → i < length vs → (k : Content) × (h.cells (b + i) ≡ Held Variable k)) → Fits codes (make h b vs) top
   make_fits_in h top b vs f from le lim free st op = record {
     long = length-append h.bases (b ∷ []) ∙ ap (λ n. n + 1) f.long ∙ sym (length-append h.mem (living vs ∷ []));
@@ -300,7 +302,8 @@ module _ (codes : Codes) where
       → ((i : ℕ) (c : Cell_of) → slice_get vs i ≡ Some c → StandsCell codes h.bases c (content_of (h.cells (b + i))))
       → ((i : ℕ) → i < length vs → (k : Content) × (h.cells (b + i) ≡ Held Variable k)) → Fits codes (make h b vs) (b + length vs)
   make_fits h top b vs f from le lim st op =
-      make_fits_in h (b + length vs) b vs (fits_more codes h top (b + length vs) (omega arith) f) from (omega arith) lim (λ i lt o n b1 j a e lj z. let u = f.below o n b1 a e in absurd (omega arith)) st op
+      make_fits_in h (b + length vs) b vs (fits_more codes h top (b + length vs) (omega arith) f) from (omega arith) lim
+      (λ i lt o n b1 j a e lj z. let u = f.below o n b1 a e in absurd (omega arith)) st op
 
   pub forget_fits : (h : Store) (top o : ℕ) → Fits codes h top → Fits codes (forget h o) top
   forget_fits h top o f = record {

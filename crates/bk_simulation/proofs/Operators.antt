@@ -234,7 +234,8 @@ pub dyadic_run : (g : Setting) (s : State) (A B : Account) (z : Sit) (op : Two_w
     → RanValue g s B z rest w o
 dyadic_run g s A B z op rest w w1 u v (gives r w2) le le' dp t h =
     let a = h.1 in
-    subst (λ x. RanValue g s B z rest w (gives r x)) (sym h.0) (went (dyadic_topped g s A B z op rest w w1 u v r a.left a.right a.result le le' dp t a.is_left a.is_right a.applies a.stands))
+    subst (λ x. RanValue g s B z rest w (gives r x)) (sym h.0)
+    (went (dyadic_topped g s A B z op rest w w1 u v r a.left a.right a.result le le' dp t a.is_left a.is_right a.applies a.stands))
 dyadic_run g s A B z op rest w w1 u v (ends e w2) le le' dp t h =
     let a = h.2 in
     let m = t.arr.most in
@@ -284,4 +285,6 @@ pub combined_run : (g : Setting) (s : State) (A B : Account) (z : Sit) (f : Oper
     → Two g s A z (infix_code f ++ rest) w u v w1 → RanValue g s B z rest w (combined f u v w1)
 combined_run g s A B z o.Subscript rest w w1 u v le le' dp t = subscript_run g s A B z rest w w1 u v le le' dp t
 combined_run g s A B z o.Byte rest w w1 u v le le' dp t = byte_run g s A B z rest w w1 u v (omega arith) le' dp t
-combined_run g s A B z f rest w w1 u v le le' dp t = dyadic_run g s A B z _ rest w w1 u v (operate f u v w1) (omega arith) le' dp t (operates g.codes t.arr.bases1 t.arr.cells1 (z.frame + z.depth) w1 t.arr.fits f u v _ _ t.first t.second)
+combined_run g s A B z f rest w w1 u v le le' dp t =
+    dyadic_run g s A B z _ rest w w1 u v (operate f u v w1) (omega arith) le' dp t
+    (operates g.codes t.arr.bases1 t.arr.cells1 (z.frame + z.depth) w1 t.arr.fits f u v _ _ t.first t.second)

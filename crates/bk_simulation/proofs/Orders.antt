@@ -60,8 +60,11 @@ pub order_run : (g : Setting) (m : Meanings) → Simulates g m → (cs : Actions
     → Ready g z w → RanDid g (start z e w) (for_scope cs w) z rest w (in_order m cs mode z.env w)
 order_run g m sim t.no_actions mode z at c rest e w l en r = no_acts mode en
   where
-    no_acts : (mode : Mode) → EnteredAny mode z.env t.no_actions at c e → RanDid g (start z e w) (for_scope t.no_actions w) z rest w (in_order m t.no_actions mode z.env w)
-    no_acts forwards en = went (subst (λ y. Did g (start z e w) (for_scope t.no_actions w) z y w w) (en ∙ l) (stay g (for_scope t.no_actions w) z e w (omega arith) (omega arith) r))
+    no_acts : (mode : Mode) → EnteredAny mode z.env t.no_actions at c e
+        → RanDid g (start z e w) (for_scope t.no_actions w) z rest w (in_order m t.no_actions mode z.env w)
+    no_acts forwards en =
+        let a = stay g (for_scope t.no_actions w) z e w (omega arith) (omega arith) r in
+        went (subst (λ y. Did g (start z e w) (for_scope t.no_actions w) z y w w) (en ∙ l) a)
     no_acts (seeking s) en = not_true en.0
 order_run g m sim (t.also a cs) forwards z at c rest e w l en r =
     then_run g m sim a forwards cs z l.1 l.2 c l.0 rest e w l.3 en r (λ z1 w1 r1 ez l1. subst (λ y. RanDid g (start z1 l.0 w1) (for_scope cs w1) z1 rest w1 (in_order m cs forwards y w1)) ez

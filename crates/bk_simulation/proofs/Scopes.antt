@@ -56,7 +56,8 @@ pub scope_runs : (g : Setting) (m : Meanings) → Simulates g m → (cs : Action
     → EnteredAny mode (labelled cs z.env) cs at c e → Ready g z w
     → RanDid g (start z e w) (for_scope cs w) z rest w (scope_of m cs mode z.env w)
 scope_runs g m sim cs mode z j at c rest e w l en r =
-    each_way_ran (λ _. adds _ (λ w1. stays (history w1))) (landing_adds g m sim cs z.env) (order_run g m sim cs mode (in_scope j cs z) at c rest e w l.0 en (scope_ready g j cs z w r)) (λ _ w1 q. went q) out
+    each_way_ran (λ _. adds _ (λ w1. stays (history w1))) (landing_adds g m sim cs z.env)
+    (order_run g m sim cs mode (in_scope j cs z) at c rest e w l.0 en (scope_ready g j cs z w r)) (λ _ w1 q. went q) out
   where
     out : (x : Exit) (w1 : World) → Out g (start z e w) (for_scope cs w) (in_scope j cs z) w x w1
         → RanDid g (start z e w) (for_scope cs w) z rest w (landing cs z.env (λ x w. m.scope cs (seeking (the_label x)) z.env w) x w1)
@@ -92,7 +93,8 @@ result_adds break = adds _ (λ w. stays (history w))
 result_adds _ = adds _ (λ w. stays (history w))
 
 -- the result in hand, or none, becomes the item on top
-takes_up : {g : Setting} {s : State} {A B : Account} {z : Sit} {n k : ℕ} {rest : List Stmt} {w w1 : World} {v : Value} → A.most + 2 ≤ B.most → B.least ≤ A.least → Ready g z w → LabelAt g z.scene z.depth n (TakeResult z.depth ∷ rest)
+takes_up : {g : Setting} {s : State} {A B : Account} {z : Sit} {n k : ℕ} {rest : List Stmt} {w w1 : World} {v : Value} → A.most + 2 ≤ B.most → B.least ≤ A.least
+    → Ready g z w → LabelAt g z.scene z.depth n (TakeResult z.depth ∷ rest)
     → (a : ArrivedAt g s A z (Label n ∷ TakeResult z.depth ∷ rest) k w w1) → Stands g.codes a.bases1 v (option_map_or (λ y. y) a.hand1 Unset) → Has g s B z rest (z.depth + 1) w v w1
 takes_up le le' r l a st = taken_on (omega arith) (omega arith) r (label_on l a) st
 

@@ -72,7 +72,8 @@ choose_adds g m sim (number k) a env = adds _ (λ w. either_after (stands_in (th
 choose_adds g m sim _ a env = adds _ (λ w. tt)
 
 -- the switch itself
-switched : {g : Setting} {s : State} {A : Account} {z : Sit} {other k : ℕ} {cs : List Case} {to c1 : List Stmt} {w w1 : World} → Ready g z w → (a : Has g s A z (Switch other cs ∷ c1) (z.depth + 1) w (number k) w1)
+switched : {g : Setting} {s : State} {A : Account} {z : Sit} {other k : ℕ} {cs : List Case} {to c1 : List Stmt} {w w1 : World} → Ready g z w
+    → (a : Has g s A z (Switch other cs ∷ c1) (z.depth + 1) w (number k) w1)
     → from_label z.scene.own.stmts (case_label cs other k) ≡ Some to → ArrivedAt g s (paying g A) z to z.depth w w1
 switched {g} {s} {A} {z} {other} {k} {cs} {to} {c1} {w} {w1} r a e =
     arrived_paid a.arr (below (z.frame + z.depth) a.arr.cells1) None a.arr.written1 (links_below r) (λ x lx. below_like (z.frame + z.depth) a.arr.cells1 x lx)
