@@ -113,7 +113,6 @@ one_declared_run g m sim (t.constants x q is) env bs then s A C B z w c d w1 r l
 one_declared_run g m sim (t.definitions x ds) env bs then s A C B z w c d w1 r le keeps le1 le2 le3 le4 l a named =
     let lets = within_let ds env in
     let env2 = behind (objects_of_definitions ds) lets in
-    let sc : Scene = record z.scene { bindings = bs } in
     let bl = l.0 in
     let d1 = l.2 in
     let ps = l.3 in

@@ -174,7 +174,6 @@ pub test_run : (g : Setting) (m : Meanings) → Simulates g m → (B : Account) 
     → IsAct g z.scene z.depth (past_action a (past e z.env)) b at2 c2 (Label n1 ∷ rest) → LabelAt g z.scene z.depth n c2 → LabelAt g z.scene z.depth n1 rest → Ready g z w
     → RanDid g (start z c w) B z rest w (with (m.truth e z.env w) (λ x w. either x (λ w. m.act a forwards (past e z.env) w) (λ w. m.act b forwards (past_action a (past e z.env)) w) w))
 test_run g m sim B e a b z n n1 at1 at2 c c1 c2 rest w le le' le_ la lb l0 l1 r =
-    let s = start z c w in
     with_ran (λ x. test_adds g m sim a b (past e z.env) (past_action a (past e z.env)) x)
     (ran_more (omega arith) (omega arith) (sim.truth e z false n (Label n ∷ c2) c c1 w le_ l0.found r)) goes
   where

@@ -415,7 +415,6 @@ for_opened g m sim l x a y h c z z0 there c0 rest w u v lx ez r su sv ad =
     let A0 : Account = record { most = 16 * w.turns + 1; least = w.turns } in
     let A3 : Account = record { most = 16 * w.turns + 3; least = w.turns } in
     let D : Account = record { most = 16 * w.turns + 19; least = w.turns - suc (turns_in c) } in
-    let E : Account = record { most = 16 * w.turns + 20; least = w.turns - suc (turns_in c) } in
     let a0 = variable_made g z w (Jump lx.0 ∷ Label lx.1 ∷ lx.7) u r lx.18 su in
     let a1 : OpenArrived g s0 (further 1 A0) z w (Label lx.0 ∷ lx.8) (z.depth + 1 + 1) more w1 = open_step r (omega arith) a0 (below (z.frame + (z.depth + 1 + 1)) a0.cells1) None a0.written1
     (λ x lx. below_like (z.frame + (z.depth + 1 + 1)) a0.cells1 x (omega arith))

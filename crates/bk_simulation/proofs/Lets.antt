@@ -137,12 +137,6 @@ vec_done g s A z w c rest d k w1 r le fw ec a = record {
     h3 : Store
     h3 = record { bases = a.bases1; mem = w1.memory; cells = cells3 }
 
-    low : z.frame ≤ 2 ^ 31 - 65536
-    low = r.low
-
-    high : 16 ≤ z.frame
-    high = r.high
-
     small_word : z.frame + d ≡ (z.frame + d + 0) % 2 ^ 32
     small_word = let l : z.frame ≤ 2 ^ 31 - 65536 = r.low in let f : d + k + 2 ≤ FRAME_WORDS = fw in omega arith
 

@@ -56,7 +56,6 @@ with_item z x rest w = state z.scene.own (z.depth + 1) rest (below (z.frame + (z
 pub pushes_item : (g : Setting) (B : Account) (z : Sit) (c : List Stmt) (i : Stmt) (rest : List Stmt) (w : World) (v : Value) (x : Content) → 16 * w.turns + 1 ≤ B.most → B.least ≤ w.turns → c ≡ i ∷ rest → Ready g z w
     → Stands g.codes z.bases v x → Moves g.program (start z (i ∷ rest) w) (with_item z x rest w) → Has g (start z c w) B z rest (z.depth + 1) w v w
 pushes_item g B z c i rest w v x le le' ec r st e =
-    let s = start z (i ∷ rest) w in
     let A : Account = record { most = 16 * w.turns; least = w.turns } in
     subst (λ l. Has g (start z l w) B z rest (z.depth + 1) w v w) (sym ec)
     (topped _ le le' r.deep (stay g A z (i ∷ rest) w (omega arith) (omega arith) r) st e)
