@@ -2,7 +2,10 @@ pub mod LibraryWords
 pub mod PlacedStore
 pub mod Agreement
 pub mod StandsFor
+pub mod Instructions
+pub mod Accumulator
 pub mod PlainCode
 pub mod Code
+pub mod Points
 pub mod Laws
 pub mod BackEnd

@@ -1,17 +1,17 @@
 //! From OCODE to INTCODE.
 #![tactic(auto)]
 
-mod kept;
+mod accumulator;
+mod code;
+mod instruction;
 mod laws;
-mod operator;
-mod parts;
-mod pending;
 pub mod plain;
-mod push;
+mod plan;
+mod point;
 mod section;
 mod segment;
-mod statement;
 mod table;
+mod value;
 
 pub use laws::{back_end, parts_are_well_placed, parts_without_start};
 pub use segment::generate;

@@ -2,7 +2,6 @@
 ghost use Rattle.std.specs.Prelude.{◌≡◌, ◌<◌, ◌^◌, ◌++◌, ◌∷◌, [], OnOk, length, take};
 ghost use Rattle.bk_gen.specs.PlainCode.{pairs, table};
 
-use crate::push::push_two;
 use bk_intcode::Item;
 use bk_ocode::Case;
 use std::alloc::AllocError;
@@ -11,7 +10,9 @@ use std::alloc::AllocError;
 fn push_pair(items: &mut Vec<Item>, case: Case) -> Result<(), AllocError>
     ensures { OnOk result (items.new.items ≡ items.old.items ++ pairs (case ∷ [])) }
 {
-    push_two(items, Item::Word(case.value), Item::LabelWord(case.label))
+    items.push(Item::Word(case.value))?;
+    items.push(Item::LabelWord(case.label))?;
+    Ok(())
 }
 
 fn push_pairs(items: &mut Vec<Item>, cases: &[Case]) -> Result<(), AllocError>
