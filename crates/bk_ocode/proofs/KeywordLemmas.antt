@@ -1,5 +1,5 @@
 -- The words that begin statements are known again.
-use Rattle.std.proofs.Common.{◌≡◌, ◌≢◌, ℕ, List, [], ◌∷◌, Bool, true, false, not, ◌&&◌, nat_eq, nat_lt, if◌then◌else◌, ◌≤◌, ◌<◌, length, arith, ltb-true, Some, None, refl, sym, ap, ◌∙◌}
+use Rattle.std.proofs.Common.{◌≡◌, ◌≢◌, ℕ, List, [], ◌∷◌, ◌++◌, ◌==◌, Option, Bool, true, false, not, ◌&&◌, nat_eq, nat_lt, if◌then◌else◌, ◌≤◌, ◌<◌, length, arith, ltb-true, Some, None, refl, sym, ap, ◌∙◌}
 use Rattle.std.specs.List.{list_all}
 use lib.Pointwise.{pointwise}
 use Rattle.bk_ocode.specs.StmtText.{keyword}
@@ -7,7 +7,7 @@ use Rattle.bk_ocode.specs.Places.{role, may_stand}
 use Rattle.bk_ocode.specs.Context.{Context}
 use Rattle.bk_ocode.specs.Faults.{misplaced}
 use Rattle.bk_ocode.specs.declared.standing.Role.{Role}
-use Rattle.bk_ocode.specs.Keywords.{keyword_text, find_keyword, keyword_of_stmt, keyword_role}
+use Rattle.bk_ocode.specs.Keywords.{keyword_text, two, three, four, five, six, seven, eight, keywords_of_length, find_keyword, keyword_of_stmt, keyword_role}
 use Rattle.bk_ocode.specs.declared.stmt.Variable.TheVariants as variable
 use Rattle.bk_ocode.specs.declared.stmt.Monadic.TheVariants as monadic
 use Rattle.bk_ocode.specs.declared.stmt.Dyadic.TheVariants as dyadic
@@ -17,69 +17,11 @@ use Rattle.bk_ocode.specs.declared.keyword.Kind.TheVariants as kinds
 use Rattle.bk_ocode.specs.declared.keyword.Keyword.{Keyword}
 use Rattle.bk_ocode.specs.declared.keyword.Keyword.TheVariants.{Number, True, False, Query, Text, LoadByte, AssignAt, AssignByte, Jump, Label, GiveResult, TakeResult, Stack, Store, Entry, Save, CallFunction, CallRoutine, ReturnItem, Return, EndProcedure, Switch, Finish, DataLabel, DataNumber, DataAddress, Globals, Load, Address, Assign, Monadic, Dyadic, JumpIf}
 
-abbrev pub keywords : List Keyword
-keywords =
-    (Load kinds.Local) ∷
-    Number ∷
-    (Load kinds.Global) ∷
-    (Assign kinds.Local) ∷
-    (Load kinds.Static) ∷
-    Label ∷
-    Stack ∷
-    (JumpIf false) ∷
-    (Dyadic dyadic.Add) ∷
-    CallRoutine ∷
-    Store ∷
-    Jump ∷
-    CallFunction ∷
-    (Monadic monadic.Contents) ∷
-    (Dyadic dyadic.Equal) ∷
-    (Assign kinds.Global) ∷
-    (Assign kinds.Static) ∷
-    AssignAt ∷
-    Text ∷
-    (Dyadic dyadic.Subtract) ∷
-    (Dyadic dyadic.Multiply) ∷
-    ReturnItem ∷
-    Return ∷
-    Entry ∷
-    Save ∷
-    EndProcedure ∷
-    (JumpIf true) ∷
-    GiveResult ∷
-    TakeResult ∷
-    (Dyadic dyadic.Less) ∷
-    (Dyadic dyadic.AtMost) ∷
-    (Dyadic dyadic.Greater) ∷
-    (Dyadic dyadic.AtLeast) ∷
-    (Dyadic dyadic.Unequal) ∷
-    (Dyadic dyadic.And) ∷
-    (Dyadic dyadic.Or) ∷
-    (Monadic monadic.Not) ∷
-    (Monadic monadic.Negate) ∷
-    (Dyadic dyadic.Divide) ∷
-    (Dyadic dyadic.Remainder) ∷
-    LoadByte ∷
-    AssignByte ∷
-    (Address kinds.Local) ∷
-    (Address kinds.Static) ∷
-    (Address kinds.Global) ∷
-    True ∷
-    False ∷
-    DataLabel ∷
-    DataNumber ∷
-    DataAddress ∷
-    Switch ∷
-    (Dyadic dyadic.ShiftLeft) ∷
-    (Dyadic dyadic.ShiftRight) ∷
-    (Dyadic dyadic.Eqv) ∷
-    (Dyadic dyadic.Neqv) ∷
-    Query ∷
-    Finish ∷
-    Globals ∷ []
+abbrev find : List ℕ → Option Keyword
+find word = find_keyword (keywords_of_length (length word)) word
 
 -- each is found
-pub all_found : (k : Keyword) → find_keyword keywords (keyword_text k) ≡ Some k
+pub all_found : (k : Keyword) → find (keyword_text k) ≡ Some k
 all_found Number = refl
 all_found True = refl
 all_found False = refl
@@ -139,12 +81,12 @@ all_found (Dyadic dyadic.Neqv) = refl
 all_found (JumpIf true) = refl
 all_found (JumpIf false) = refl
 
-pub none_found : (word : List ℕ) → find_keyword keywords word ≡ None → (k : Keyword) → keyword_text k ≢ word
-none_found word none k is = let h : None ≡ Some k = sym none ∙ ap (λ (w : List ℕ). find_keyword keywords w) (sym is) ∙ all_found k in cc
+pub none_found : (word : List ℕ) → find word ≡ None → (k : Keyword) → keyword_text k ≢ word
+none_found word none k is = let h : None ≡ Some k = sym none ∙ ap find (sym is) ∙ all_found k in cc
 
 -- no two have one word
 pub same_keyword : (j k : Keyword) → keyword_text j ≡ keyword_text k → j ≡ k
-same_keyword j k is = let h : Some j ≡ Some k = sym (all_found j) ∙ ap (λ (w : List ℕ). find_keyword keywords w) is ∙ all_found k in cc
+same_keyword j k is = let h : Some j ≡ Some k = sym (all_found j) ∙ ap find is ∙ all_found k in cc
 
 -- a statement begins with the word of its keyword, and stands where it says
 pub begins_so : (s : Stmt) → keyword s ≡ keyword_text (keyword_of_stmt s)
@@ -238,9 +180,34 @@ found_holds p (j ∷ list) word k found all =
     first_or true is here later = let same : j ≡ k = cc in ap p (sym same) ∙ here
     first_or false is here later = later is
 
--- and one that holds of all of them holds of each
+all_append : (p : Keyword → Bool) (xs ys : List Keyword) → list_all p (xs ++ ys) ≡ true → (list_all p xs ≡ true) × (list_all p ys ≡ true)
+all_append p [] ys all = (refl, all)
+all_append p (x ∷ xs) ys all =
+    let both = and_both (p x) (list_all p (xs ++ ys)) all in
+    let rest = all_append p xs ys both.1 in
+    (ap (λ b. b && list_all p xs) both.0 ∙ rest.0, rest.1)
+
+all_either : (p : Keyword → Bool) (b : Bool) (xs ys : List Keyword) → list_all p xs ≡ true → list_all p ys ≡ true → list_all p (if b then xs else ys) ≡ true
+all_either p true xs ys x y = x
+all_either p false xs ys x y = y
+
+-- and what holds of all of them holds of each
+abbrev pub keywords : List Keyword
+keywords = two ++ (three ++ (four ++ (five ++ (six ++ (seven ++ eight)))))
+
+all_of_length : (p : Keyword → Bool) → list_all p keywords ≡ true → (n : ℕ) → list_all p (keywords_of_length n) ≡ true
+all_of_length p all n =
+    let h2 = all_append p two (three ++ (four ++ (five ++ (six ++ (seven ++ eight))))) all in
+    let h3 = all_append p three (four ++ (five ++ (six ++ (seven ++ eight)))) h2.1 in
+    let h4 = all_append p four (five ++ (six ++ (seven ++ eight))) h3.1 in
+    let h5 = all_append p five (six ++ (seven ++ eight)) h4.1 in
+    let h6 = all_append p six (seven ++ eight) h5.1 in
+    let h7 = all_append p seven eight h6.1 in
+    all_either p (n == 2) two _ h2.0 (all_either p (n == 3) three _ h3.0 (all_either p (n == 4) four _ h4.0 (all_either p (n == 5) five _ h5.0
+    (all_either p (n == 6) six _ h6.0 (all_either p (n == 7) seven _ h7.0 (all_either p (n == 8) eight _ h7.1 refl))))))
+
 pub holds_of_each : (p : Keyword → Bool) → list_all p keywords ≡ true → (k : Keyword) → p k ≡ true
-holds_of_each p all k = found_holds p keywords (keyword_text k) k (all_found k) all
+holds_of_each p all k = found_holds p (keywords_of_length (length (keyword_text k))) (keyword_text k) k (all_found k) (all_of_length p all (length (keyword_text k)))
 
 -- none is long
 short : (k : Keyword) → length (keyword_text k) ≤ 8

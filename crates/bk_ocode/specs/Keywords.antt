@@ -1,5 +1,5 @@
 -- What the first word of a statement says of it.
-use Rattle.std.specs.Prelude.{ℕ, nat_eq, List, [], ◌∷◌, codes, Option, Some, None, if◌then◌else◌}
+use Rattle.std.specs.Prelude.{ℕ, ◌==◌, nat_eq, Bool, true, false, List, [], ◌∷◌, codes, Option, Some, None, if◌then◌else◌}
 use lib.Pointwise.{pointwise}
 use Rattle.bk_ocode.specs.StmtText.{monadic_keyword, dyadic_keyword, jump_keyword}
 use Rattle.bk_ocode.specs.declared.standing.Role.{Role}
@@ -8,6 +8,8 @@ use Rattle.bk_ocode.specs.declared.stmt.Variable.{Variable}
 use Rattle.bk_ocode.specs.declared.stmt.Variable.TheVariants.{Local, Global, Static}
 use Rattle.bk_ocode.specs.declared.stmt.Stmt.{Stmt}
 use Rattle.bk_ocode.specs.declared.stmt.Stmt.TheVariants as stmt
+use Rattle.bk_ocode.specs.declared.stmt.Monadic.TheVariants as monadic
+use Rattle.bk_ocode.specs.declared.stmt.Dyadic.TheVariants as dyadic
 use Rattle.bk_ocode.specs.declared.keyword.Kind.{Kind}
 use Rattle.bk_ocode.specs.declared.keyword.Kind.TheVariants as kinds
 use Rattle.bk_ocode.specs.declared.keyword.Keyword.{Keyword}
@@ -116,6 +118,32 @@ keyword_role EndProcedure = Last
 keyword_role DataNumber = Datum
 keyword_role DataAddress = Datum
 keyword_role _ = Body
+
+-- the keywords whose words have so many letters
+abbrev pub two : List Keyword
+two = (Load kinds.Local) ∷ Number ∷ (Load kinds.Global) ∷ (Assign kinds.Local) ∷ (Load kinds.Static) ∷ (JumpIf false) ∷ (Monadic monadic.Contents) ∷ (Dyadic dyadic.Equal) ∷ (Assign kinds.Global) ∷ (Assign kinds.Static) ∷ (JumpIf true) ∷ (Dyadic dyadic.Less) ∷ (Dyadic dyadic.AtMost) ∷ (Dyadic dyadic.Greater) ∷ (Dyadic dyadic.AtLeast) ∷ (Dyadic dyadic.Unequal) ∷ []
+
+abbrev pub three : List Keyword
+three = Label ∷ GiveResult ∷ (Monadic monadic.Not) ∷ (Monadic monadic.Negate) ∷ (Dyadic dyadic.Divide) ∷ (Dyadic dyadic.Remainder) ∷ (Address kinds.Local) ∷ (Address kinds.Static) ∷ (Address kinds.Global) ∷ (Dyadic dyadic.Eqv) ∷ []
+
+abbrev pub four : List Keyword
+four = (Dyadic dyadic.Add) ∷ CallRoutine ∷ Jump ∷ CallFunction ∷ Text ∷ (Dyadic dyadic.Multiply) ∷ ReturnItem ∷ Return ∷ Save ∷ True ∷ (Dyadic dyadic.Neqv) ∷ []
+
+abbrev pub five : List Keyword
+five = Stack ∷ Store ∷ AssignAt ∷ (Dyadic dyadic.Subtract) ∷ Entry ∷ (Dyadic dyadic.Or) ∷ False ∷ DataNumber ∷ DataAddress ∷ Query ∷ []
+
+abbrev pub six : List Keyword
+six = TakeResult ∷ (Dyadic dyadic.And) ∷ (Dyadic dyadic.ShiftLeft) ∷ (Dyadic dyadic.ShiftRight) ∷ Finish ∷ Globals ∷ []
+
+abbrev pub seven : List Keyword
+seven = EndProcedure ∷ LoadByte ∷ AssignByte ∷ DataLabel ∷ []
+
+abbrev pub eight : List Keyword
+eight = Switch ∷ []
+
+abbrev pub keywords_of_length : ℕ → List Keyword
+keywords_of_length n =
+    if n == 2 then two else if n == 3 then three else if n == 4 then four else if n == 5 then five else if n == 6 then six else if n == 7 then seven else if n == 8 then eight else []
 
 -- the first keyword of a list with this word
 abbrev pub find_keyword : List Keyword → List ℕ → Option Keyword

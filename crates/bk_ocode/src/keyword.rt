@@ -1,6 +1,6 @@
 //! The words that begin statements.
 ghost use Rattle.std.specs.Prelude.{◌≡◌, ◌≢◌, IfSome, IfNone, ℕ, List};
-ghost use Rattle.bk_ocode.specs.Keywords.{keyword_text, find_keyword, keyword_role};
+ghost use Rattle.bk_ocode.specs.Keywords.{keyword_text, keywords_of_length, find_keyword, keyword_role};
 ghost use Rattle.bk_ocode.specs.declared.keyword.Keyword.TheVariants.{Load, Address, Assign};
 ghost use Rattle.bk_ocode.specs.declared.keyword.Keyword.{Keyword};
 
@@ -90,67 +90,109 @@ pub(crate) enum Keyword {
     JumpIf(bool),
 }
 
-/// All of them. Those that a text has most stand first, since they are tried in turn.
-static KEYWORDS: [Keyword; 58] = [
+// Keywords by the length of their words. Those that a text has most stand first, since they are tried in turn.
+
+static TWO: [Keyword; 16] = [
     Keyword::Load(Kind::Local),
     Keyword::Number,
     Keyword::Load(Kind::Global),
     Keyword::Assign(Kind::Local),
     Keyword::Load(Kind::Static),
-    Keyword::Label,
-    Keyword::Stack,
     Keyword::JumpIf(false),
-    Keyword::Dyadic(Dyadic::Add),
-    Keyword::CallRoutine,
-    Keyword::Store,
-    Keyword::Jump,
-    Keyword::CallFunction,
     Keyword::Monadic(Monadic::Contents),
     Keyword::Dyadic(Dyadic::Equal),
     Keyword::Assign(Kind::Global),
     Keyword::Assign(Kind::Static),
-    Keyword::AssignAt,
-    Keyword::Text,
-    Keyword::Dyadic(Dyadic::Subtract),
-    Keyword::Dyadic(Dyadic::Multiply),
-    Keyword::ReturnItem,
-    Keyword::Return,
-    Keyword::Entry,
-    Keyword::Save,
-    Keyword::EndProcedure,
     Keyword::JumpIf(true),
-    Keyword::GiveResult,
-    Keyword::TakeResult,
     Keyword::Dyadic(Dyadic::Less),
     Keyword::Dyadic(Dyadic::AtMost),
     Keyword::Dyadic(Dyadic::Greater),
     Keyword::Dyadic(Dyadic::AtLeast),
     Keyword::Dyadic(Dyadic::Unequal),
-    Keyword::Dyadic(Dyadic::And),
-    Keyword::Dyadic(Dyadic::Or),
+];
+
+static THREE: [Keyword; 10] = [
+    Keyword::Label,
+    Keyword::GiveResult,
     Keyword::Monadic(Monadic::Not),
     Keyword::Monadic(Monadic::Negate),
     Keyword::Dyadic(Dyadic::Divide),
     Keyword::Dyadic(Dyadic::Remainder),
-    Keyword::LoadByte,
-    Keyword::AssignByte,
     Keyword::Address(Kind::Local),
     Keyword::Address(Kind::Static),
     Keyword::Address(Kind::Global),
+    Keyword::Dyadic(Dyadic::Eqv),
+];
+
+static FOUR: [Keyword; 11] = [
+    Keyword::Dyadic(Dyadic::Add),
+    Keyword::CallRoutine,
+    Keyword::Jump,
+    Keyword::CallFunction,
+    Keyword::Text,
+    Keyword::Dyadic(Dyadic::Multiply),
+    Keyword::ReturnItem,
+    Keyword::Return,
+    Keyword::Save,
     Keyword::True,
+    Keyword::Dyadic(Dyadic::Neqv),
+];
+
+static FIVE: [Keyword; 10] = [
+    Keyword::Stack,
+    Keyword::Store,
+    Keyword::AssignAt,
+    Keyword::Dyadic(Dyadic::Subtract),
+    Keyword::Entry,
+    Keyword::Dyadic(Dyadic::Or),
     Keyword::False,
-    Keyword::DataLabel,
     Keyword::DataNumber,
     Keyword::DataAddress,
-    Keyword::Switch,
+    Keyword::Query,
+];
+
+static SIX: [Keyword; 6] = [
+    Keyword::TakeResult,
+    Keyword::Dyadic(Dyadic::And),
     Keyword::Dyadic(Dyadic::ShiftLeft),
     Keyword::Dyadic(Dyadic::ShiftRight),
-    Keyword::Dyadic(Dyadic::Eqv),
-    Keyword::Dyadic(Dyadic::Neqv),
-    Keyword::Query,
     Keyword::Finish,
     Keyword::Globals,
 ];
+
+static SEVEN: [Keyword; 4] = [
+    Keyword::EndProcedure,
+    Keyword::LoadByte,
+    Keyword::AssignByte,
+    Keyword::DataLabel,
+];
+
+static EIGHT: [Keyword; 1] = [
+    Keyword::Switch,
+];
+
+/// The keywords whose words have so many letters.
+fn of_length(len: usize) -> &'static [Keyword]
+    ensures { result.now ≡ keywords_of_length len }
+{
+    if len == 2 {
+        &TWO
+    } else if len == 3 {
+        &THREE
+    } else if len == 4 {
+        &FOUR
+    } else if len == 5 {
+        &FIVE
+    } else if len == 6 {
+        &SIX
+    } else if len == 7 {
+        &SEVEN
+    } else if len == 8 {
+        &EIGHT
+    } else {
+        &[]
+    }
+}
 
 /// The first word of a statement that pushes a variable.
 fn load_text(kind: Kind) -> &'static str
@@ -259,5 +301,5 @@ pub(crate) fn keyword_of(bytes: &[u8]) -> Option<Keyword>
     ensures found { IfSome result (λ k. keyword_text k ≡ bytes.now) }
     ensures none { IfNone result ((k : Keyword) → keyword_text k ≢ bytes.now) }
 {
-    find_in(&KEYWORDS, bytes)
+    find_in(of_length(bytes.len()), bytes)
 }
