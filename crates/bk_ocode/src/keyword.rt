@@ -167,9 +167,7 @@ static SEVEN: [Keyword; 4] = [
     Keyword::DataLabel,
 ];
 
-static EIGHT: [Keyword; 1] = [
-    Keyword::Switch,
-];
+static EIGHT: [Keyword; 1] = [Keyword::Switch];
 
 /// The keywords whose words have so many letters.
 fn of_length(len: usize) -> &'static [Keyword]
