@@ -9,6 +9,8 @@ pub mod Insertion
 pub mod Counting
 pub mod Lexing
 pub mod Cutting
+pub mod Found
+pub mod Lexers
 pub mod Pieces
 pub mod Tokens
 pub mod Places

@@ -6,6 +6,7 @@ mod counting;
 mod cutter;
 mod header;
 mod laws;
+mod lexer;
 mod machine;
 mod reserved;
 mod scan;
@@ -17,6 +18,7 @@ pub use cutter::{Cut, Cutter};
 pub use laws::{
     gives_each_section, has_one_section, has_section_without_fault, reserved_by_its_letters,
 };
+pub use lexer::Lexer;
 pub use scan::{Lexed, lex};
 pub use token::{Kind, Token};
 pub use values::{character_byte, number_word, string_bytes};

@@ -47,13 +47,13 @@ fn kind_of_fault(fault: Fault) -> SourceKind
 
 /// Where the reading is: the line, and the line of the GET whose string is due.
 #[derive(Clone, Copy, Debug, PartialEq, Eq)]
-struct Place {
-    line: Line,
-    get_line: Line,
+pub(crate) struct Place {
+    pub(crate) line: Line,
+    pub(crate) get_line: Line,
 }
 
 /// The fault that is told. Those of a GET whose string is due stand on its line.
-fn placed_fault(state: State, place: Place, fault: Fault) -> SourceFault
+pub(crate) fn placed_fault(state: State, place: Place, fault: Fault) -> SourceFault
     ensures { result ≡ placed_fault state place fault }
 {
     let at_get = state.get && matches!(fault, Fault::HeaderTooLong | Fault::BadGet);
@@ -80,7 +80,7 @@ fn line_after(byte: u8, line: Line) -> Line
 }
 
 /// Adds what a piece gives that lies from start up to end.
-fn put<'a>(
+pub(crate) fn put<'a>(
     out: &mut Vec<Token<'a>>,
     given: Given,
     line: Line,
@@ -104,7 +104,7 @@ fn put<'a>(
 
 /// The place behind a byte that begins a piece.
 #[inline(always)]
-fn place_after(place: Place, given: Given, byte: u8) -> Place
+pub(crate) fn place_after(place: Place, given: Given, byte: u8) -> Place
     ensures { result ≡ place_after place given byte }
 {
     Place {

@@ -1,0 +1,81 @@
+use Rattle.std.proofs.Common.{arith, ◌≡◌, ℕ, List, [], ◌∷◌, ◌++◌, length, true, false, Ok, Err, Option, Some, None, refl, sym, ap, subst, ◌∙◌}
+use Rattle.bk_lex.specs.declared.machine.Fault.{Fault}
+use Rattle.bk_lex.specs.declared.counting.State.{State}
+use Rattle.bk_lex.specs.declared.counting.Step.{Step}
+use Rattle.bk_lex.specs.declared.lexer.Progress.{Progress}
+use Rattle.bk_lex.specs.declared.lexer.Progress.TheVariants.{Going}
+use Rattle.bk_lex.specs.declared.lexer.Lexer.TheInside.{Inside}
+use Rattle.bk_lex.specs.Counting.{start, step_of}
+use Rattle.bk_lex.specs.Lexing.{is_dot}
+use Rattle.bk_lex.specs.Cutting.{cut_as}
+use Rattle.bk_lex.specs.Lexers.{Marks, marks_of, marked, Parts, parts, Goes, HasEnded, IsRefused, Progresses}
+use Rattle.bk_lex.proofs.Cuts.{means_as}
+use Rattle.bk_lex.proofs.LexerLemmas.{Held, held, more as with_byte, goes_still, has_ended, is_refused}
+use Rattle.bk_lex.proofs.lexer.Lexer.step.Goals as goal
+
+abbrev parts_of : Inside → Parts
+parts_of a = parts a.bytes.items a.from (marks_of a.pieces)
+
+module _ (a : Inside) (s : State) (b : ℕ) (new : List ℕ) (inv : Progresses a.progress (parts_of a)) (going : a.progress ≡ Going s) (items : new ≡ a.bytes.items ++ b ∷ []) where
+  goes : Goes (parts_of a) s
+  goes = subst (λ (p : Progress). Progresses p (parts_of a)) going inv
+
+  refused : (f : Fault) → Err f ≡ step_of s b → IsRefused (parts new a.from (marks_of a.pieces)) s f
+  refused f is = subst (λ (xs : List ℕ). IsRefused (parts xs a.from (marks_of a.pieces)) s f) (sym items) (is_refused (parts_of a) s b f goes is)
+
+  module _ (t : Step) (is : Ok t ≡ step_of s b) (n : ℕ) (m : Marks) (count : n ≡ length a.bytes.items) (taken : m ≡ marked (marks_of a.pieces) t.act b n) where
+    now : parts new a.from m ≡ with_byte (parts_of a) b t.act
+    now = ap (λ (xs : List ℕ). parts xs a.from m) items ∙ ap (λ (k : Marks). parts (a.bytes.items ++ b ∷ []) a.from k) (taken ∙ ap (λ k. marked (marks_of a.pieces) t.act b k) count)
+
+    ended : true ≡ is_dot t.state.mode → HasEnded (parts new a.from m)
+    ended dot = subst HasEnded (sym now) (has_ended (parts_of a) s b t goes is (with_byte (parts_of a) b t.act) refl (held (parts_of a) s b t goes is t.act refl) dot)
+
+    still : false ≡ is_dot t.state.mode → Goes (parts new a.from m) t.state
+    still dot = subst (λ (q : Parts). Goes q t.state) (sym now) (goes_still (parts_of a) s b t goes is (with_byte (parts_of a) b t.act) refl (held (parts_of a) s b t goes is t.act refl) dot)
+
+pub invariant_of-self-in-Err : goal.invariant_of-self-in-Err
+invariant_of-self-in-Err c = refused c.self.inside c.in-Going.state c.args.byte c.push.new.self.items c.self.invariant c.in-Going.is c.in-Ok.ensures.items c.in-Err.fault (sym c.in-Err.is ∙ c.take_byte.ensures)
+
+pub returns-in-Err-clause-says : goal.returns-in-Err-clause-says
+returns-in-Err-clause-says c =
+    let h = refused c.self.inside c.in-Going.state c.args.byte c.push.new.self.items c.self.invariant c.in-Going.is c.in-Ok.ensures.items c.in-Err.fault (sym c.in-Err.is ∙ c.take_byte.ensures) in
+    sym (ap cut_as h.state)
+
+pub returns-in-Err-clause-means : goal.returns-in-Err-clause-means
+returns-in-Err-clause-means c = λ more.
+    let h = refused c.self.inside c.in-Going.state c.args.byte c.push.new.self.items c.self.invariant c.in-Going.is c.in-Ok.ensures.items c.in-Err.fault (sym c.in-Err.is ∙ c.take_byte.ensures) in
+    means_as None c.push.new.self.items h.state
+
+pub invariant_of-self-then-is_dot : goal.invariant_of-self-then-is_dot
+invariant_of-self-then-is_dot c =
+    ended c.self.inside c.in-Going.state c.args.byte c.push.new.self.items c.self.invariant c.in-Going.is c.in-Ok.ensures.items
+    c.in-Ok-take_byte.next (sym c.in-Ok-take_byte.is ∙ c.take_byte.ensures) c.len-before.result (marks_of c.take.new.self) (let n = c.len-before.ensures in omega arith) c.in-Ok-take.ensures c.if-is_dot.ensures
+
+pub returns-then-is_dot-clause-says : goal.returns-then-is_dot-clause-says
+returns-then-is_dot-clause-says c =
+    let h = ended c.self.inside c.in-Going.state c.args.byte c.push.new.self.items c.self.invariant c.in-Going.is c.in-Ok.ensures.items
+    c.in-Ok-take_byte.next (sym c.in-Ok-take_byte.is ∙ c.take_byte.ensures) c.len-before.result (marks_of c.take.new.self) (let n = c.len-before.ensures in omega arith) c.in-Ok-take.ensures c.if-is_dot.ensures in
+    sym (ap cut_as h.state)
+
+pub returns-then-is_dot-clause-means : goal.returns-then-is_dot-clause-means
+returns-then-is_dot-clause-means c = λ more.
+    let h = ended c.self.inside c.in-Going.state c.args.byte c.push.new.self.items c.self.invariant c.in-Going.is c.in-Ok.ensures.items
+    c.in-Ok-take_byte.next (sym c.in-Ok-take_byte.is ∙ c.take_byte.ensures) c.len-before.result (marks_of c.take.new.self) (let n = c.len-before.ensures in omega arith) c.in-Ok-take.ensures c.if-is_dot.ensures in
+    means_as None c.push.new.self.items h.state
+
+pub invariant_of-self-2 : goal.invariant_of-self-2
+invariant_of-self-2 c =
+    still c.self.inside c.in-Going.state c.args.byte c.push.new.self.items c.self.invariant c.in-Going.is c.in-Ok.ensures.items
+    c.in-Ok-take_byte.next (sym c.in-Ok-take_byte.is ∙ c.take_byte.ensures) c.len-before.result (marks_of c.take.new.self) (let n = c.len-before.ensures in omega arith) c.in-Ok-take.ensures c.if-is_dot.ensures
+
+pub returns-clause-says : goal.returns-clause-says
+returns-clause-says c =
+    let h = still c.self.inside c.in-Going.state c.args.byte c.push.new.self.items c.self.invariant c.in-Going.is c.in-Ok.ensures.items
+    c.in-Ok-take_byte.next (sym c.in-Ok-take_byte.is ∙ c.take_byte.ensures) c.len-before.result (marks_of c.take.new.self) (let n = c.len-before.ensures in omega arith) c.in-Ok-take.ensures c.if-is_dot.ensures in
+    sym (ap cut_as h.state)
+
+pub returns-clause-means : goal.returns-clause-means
+returns-clause-means c = λ more.
+    let h = still c.self.inside c.in-Going.state c.args.byte c.push.new.self.items c.self.invariant c.in-Going.is c.in-Ok.ensures.items
+    c.in-Ok-take_byte.next (sym c.in-Ok-take_byte.is ∙ c.take_byte.ensures) c.len-before.result (marks_of c.take.new.self) (let n = c.len-before.ensures in omega arith) c.in-Ok-take.ensures c.if-is_dot.ensures in
+    means_as (Some c.in-Ok-take_byte.next.state) c.push.new.self.items h.state

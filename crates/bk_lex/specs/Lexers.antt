@@ -1,0 +1,68 @@
+-- A lexer over bytes that come one after another: how far the section is.
+use Rattle.std.specs.Prelude.{ℕ, ◌+◌, ◌≤◌, ◌≡◌, ⊤, true, List, [], ◌∷◌, ◌++◌, length, slice_range, Some, None, Ok, Err}
+use Rattle.bk_lex.specs.Counting.{start}
+use Rattle.bk_lex.specs.Lexing.{section, reading, run, lexed, placed_fault, place_after}
+use Rattle.bk_lex.specs.Cutting.{state_behind}
+use Rattle.bk_lex.specs.Found.{all_found, found_in, AreWithin}
+use Rattle.bk_lex.specs.declared.machine.Fault.{Fault}
+use Rattle.bk_lex.specs.declared.counting.State.{State}
+use Rattle.bk_lex.specs.declared.lexer.Progress.{Progress}
+use Rattle.bk_lex.specs.declared.lexer.Progress.TheVariants.{Going, Ended, Refused, Stuck}
+use Rattle.bk_lex.specs.declared.counting.Act.{Act}
+use Rattle.bk_lex.specs.declared.counting.Act.TheVariants as acts
+use Rattle.bk_lex.specs.declared.lexer.Found.{Found}
+use Rattle.bk_lex.specs.declared.lexer.Found.TheVariants as founds
+use Rattle.bk_lex.specs.declared.lexer.Pieces.{Pieces}
+use Rattle.bk_lex.specs.declared.scan.Place.{Place}
+
+-- what was found in the bytes, where the piece begins that is not whole yet, and the lines there
+pub record Marks : Type 0 where
+  pub found : List Found
+  pub piece : ℕ
+  pub place : Place
+
+abbrev pub marks : List Found → ℕ → Place → Marks
+marks found piece place = record { found = found; piece = piece; place = place }
+
+abbrev pub marks_of : Pieces → Marks
+marks_of p = marks p.found.items p.piece p.place
+
+-- the same behind a byte with this act, which so many bytes stand before
+abbrev pub marked : Marks → Act → ℕ → ℕ → Marks
+marked m acts.Goes b n = m
+marked m (acts.Begins g) b n = marks (m.found ++ found_in g m.place.line m.piece n) n (place_after m.place g b)
+marked m (acts.Names h) b n = marks (m.found ++ founds.Header h m.place.get_line ∷ []) m.piece m.place
+
+-- the bytes so far, the line of the first, and what was found in them
+pub record Parts : Type 0 where
+  pub bytes : List ℕ
+  pub from : ℕ
+  pub marks : Marks
+
+abbrev pub parts : List ℕ → ℕ → Marks → Parts
+parts bytes from m = record { bytes = bytes; from = from; marks = m }
+
+-- The machine goes on: whatever follows, the answer is what it gives from here.
+pub record Goes (l : Parts) (s : State) : Type 0 where
+  pub state : state_behind (Some start) l.bytes ≡ Some s
+  pub counted : s.bytes + length l.bytes ≡ 1048576
+  pub within : AreWithin (length l.bytes) l.marks.found
+  pub order : l.marks.piece ≤ length l.bytes
+  pub same : (rest : List ℕ) → run (reading (all_found (l.bytes ++ rest) l.marks.found) s (slice_range (l.bytes ++ rest) l.marks.piece (length l.bytes)) l.marks.place (length l.bytes)) rest
+      ≡ lexed (l.bytes ++ rest) l.from
+
+-- A `.` ended the section, or a fault.
+pub record HasEnded (l : Parts) : Type 0 where
+  pub state : state_behind (Some start) l.bytes ≡ None
+  pub within : AreWithin (length l.bytes) l.marks.found
+  pub same : lexed l.bytes l.from ≡ Ok (section (all_found l.bytes l.marks.found) (length l.bytes) true l.marks.place.line)
+
+pub record IsRefused (l : Parts) (s : State) (f : Fault) : Type 0 where
+  pub state : state_behind (Some start) l.bytes ≡ None
+  pub same : lexed l.bytes l.from ≡ Err (placed_fault s l.marks.place f)
+
+abbrev pub Progresses : Progress → Parts → Type 0
+Progresses (Going s) l = Goes l s
+Progresses Ended l = HasEnded l
+Progresses (Refused s f) l = IsRefused l s f
+Progresses Stuck l = ⊤

@@ -1,0 +1,291 @@
+//! The lexer over the bytes of a section that come one after another.
+ghost use Rattle.std.specs.Prelude.{◌≡◌, ◌<◌, ◌≤◌, ◌^◌, ◌++◌, ◌∷◌, [], length, OnOk, IfOk};
+ghost use Rattle.bk_lex.specs.declared.cutter.Cut.TheVariants.{More, End};
+ghost use Rattle.bk_lex.specs.Symbol.{symbols_of};
+ghost use Rattle.bk_lex.specs.Cutting.{Means};
+ghost use Rattle.bk_lex.specs.Lexing.{Gives, lexed};
+ghost use Rattle.bk_lex.specs.Found.{symbols_found, all_found, found_in, AreWithin, bytes_of, cut_behind};
+ghost use Rattle.bk_lex.specs.Lexers.{marks_of, marked};
+
+use crate::adding::add;
+use crate::counting::{Act, Given, State, finished, start, take_byte};
+use crate::cutter::Cut;
+use crate::header::put_header;
+use crate::machine::{Fault, Header};
+use crate::scan::{Lexed, Place, is_dot, place_after, placed_fault, put};
+use crate::token::{Kind, Token};
+use bk_base::{Line, Refused, SourceFault};
+use std::alloc::{AllocError, Global};
+use std::marker::Model;
+
+/// How many symbols and bytes a section has room for at first.
+const FIRST_FOUND: usize = 32;
+const FIRST_BYTES: usize = 256;
+
+/// What was found in a text: its bytes are taken from the text once it is whole.
+#[derive(Clone, Copy, Debug, PartialEq, Eq)]
+pub(crate) enum Found {
+    /// A symbol: its kind and line, the place of its first byte, and the place behind its last.
+    Symbol {
+        kind: Kind,
+        line: Line,
+        first: u32,
+        end: u32,
+    },
+    /// A symbol that is inserted before the next.
+    Inserted {
+        kind: Kind,
+        line: Line,
+    },
+    /// The symbols of a header, on the line of its GET.
+    Header {
+        header: Header,
+        line: Line,
+    },
+}
+
+/// How far a section is.
+#[derive(Clone, Copy, Debug, PartialEq, Eq)]
+pub(crate) enum Progress {
+    /// The machine goes on from this state.
+    Going(State),
+    /// A `.` ended the section.
+    Ended,
+    /// In this state it has a fault that no further byte changes.
+    Refused(State, Fault),
+    /// Memory was refused for a byte.
+    Stuck,
+}
+
+/// What was found in the bytes so far.
+#[derive(Drop)]
+pub(crate) struct Pieces {
+    found: Vec<Found>,
+    /// Where the piece begins that is not whole yet.
+    piece: usize,
+    place: Place,
+}
+
+/// The bytes of a section so far, and what was found in them. Contracts see the bytes, and the line of the first.
+#[derive(Drop)]
+pub struct Lexer {
+    bytes: Vec<u8>,
+    from: Line,
+    pieces: Pieces,
+    progress: Progress,
+}
+
+impl Model for Lexer {
+    ghost use Rattle.bk_lex.specs.Found.{SectionBytes, bytes_of};
+    ghost use Rattle.bk_lex.specs.Lexers.{parts, marks_of, Progresses};
+
+    ghost Value = { SectionBytes };
+
+    ghost view = { λ l. bytes_of l.bytes.items l.from };
+
+    ghost invariant = { λ l. Progresses l.progress (parts l.bytes.items l.from (marks_of l.pieces)) };
+}
+
+/// Adds what a piece gives that begins at one byte and ends before another.
+#[inline(always)]
+fn find(
+    found: &mut Vec<Found>,
+    given: Given,
+    line: Line,
+    first: usize,
+    end: usize,
+) -> Result<(), AllocError>
+    requires order { first ≤ end }
+    requires small { end < 2 ^ 32 }
+    ensures { OnOk result (found.new.items ≡ found.old.items ++ found_in given line first end) }
+{
+    let Given::Symbol(insertion, kind) = given else {
+        return Ok(());
+    };
+    if let Some(kind) = insertion {
+        found.push(Found::Inserted { kind, line })?;
+    }
+    found.push(Found::Symbol {
+        kind,
+        line,
+        first: first as u32,
+        end: end as u32,
+    })?;
+    Ok(())
+}
+
+/// Adds the symbols of a header.
+#[cold]
+#[inline(never)]
+fn find_header(found: &mut Vec<Found>, header: Header, line: Line) -> Result<(), AllocError>
+    ensures { OnOk result (found.new.items ≡ found.old.items ++ Found.Header header line ∷ []) }
+{
+    found.push(Found::Header { header, line })?;
+    Ok(())
+}
+
+/// Adds the tokens of what was found once.
+fn put_found<'a>(out: &mut Vec<Token<'a>>, text: &'a [u8], found: Found) -> Result<(), AllocError>
+    requires { AreWithin (length text.now) (found ∷ []) }
+    ensures { OnOk result (symbols_of out.new.items ≡ symbols_of out.old.items ++ symbols_found text.now found) }
+{
+    match found {
+        Found::Symbol {
+            kind,
+            line,
+            first,
+            end,
+        } => add(
+            out,
+            kind,
+            line,
+            Some(first),
+            &text[first as usize..end as usize],
+        ),
+        Found::Inserted { kind, line } => add(out, kind, line, None, &[]),
+        Found::Header { header, line } => put_header(out, header, line),
+    }
+}
+
+/// The tokens of what was found in a text.
+fn tokens_of<'a>(
+    alloc: Global,
+    text: &'a [u8],
+    found: &[Found],
+) -> Result<Vec<Token<'a>>, AllocError>
+    requires { AreWithin (length text.now) found.now }
+    ensures { IfOk result (λ tokens. symbols_of tokens.items ≡ all_found text.now found.now) }
+{
+    let mut tokens = Vec::with_capacity(alloc, found.len())?;
+    for each in found {
+        put_found(&mut tokens, text, *each)?;
+    }
+    Ok(tokens)
+}
+
+impl Pieces {
+    /// What a byte does, which so many bytes stand before.
+    #[inline(always)]
+    fn take(&mut self, act: Act, byte: u8, before: usize) -> Result<(), AllocError>
+        requires order { self.old.piece ≤ before }
+        requires small { before < 2 ^ 32 }
+        ensures { OnOk result (marks_of self.new ≡ marked (marks_of self.old) act byte before) }
+    {
+        match act {
+            Act::Goes => Ok(()),
+            Act::Begins(given) => {
+                find(&mut self.found, given, self.place.line, self.piece, before)?;
+                self.place = place_after(self.place, given, byte);
+                self.piece = before;
+                Ok(())
+            }
+            Act::Names(header) => find_header(&mut self.found, header, self.place.get_line),
+        }
+    }
+}
+
+impl Lexer {
+    /// A lexer before the first byte of a section whose first line has the number `from`.
+    pub fn new(alloc: Global, from: Line) -> Result<Lexer, AllocError>
+        ensures { IfOk result (λ lexer. lexer ≡ bytes_of [] from) }
+    {
+        Ok(Lexer {
+            bytes: Vec::with_capacity(alloc, FIRST_BYTES)?,
+            from,
+            pieces: Pieces {
+                found: Vec::with_capacity(alloc, FIRST_FOUND)?,
+                piece: 0,
+                place: Place {
+                    line: from,
+                    get_line: from,
+                },
+            },
+            progress: Progress::Going(start()),
+        })
+    }
+
+    /// The bytes so far.
+    pub fn bytes(&self) -> &[u8]
+        ensures { result.now ≡ self.now.bytes }
+    {
+        self.bytes.as_slice()
+    }
+
+    /// Takes the next byte of the section. `End` comes at the `.` that ends a section without a fault, or where a fault
+    /// is certain, and at byte 1,048,577 at the latest; no byte is taken after that. Where memory was refused, each further
+    /// step answers so.
+    #[inline(always)]
+    pub fn step(&mut self, byte: u8) -> Result<Cut, AllocError>
+        // It has one byte more.
+        ensures takes { IfOk result (λ _. cut_behind self.old.bytes ≡ More → self.new ≡ bytes_of (self.old.bytes ++ byte ∷ []) self.old.from) }
+        // It says what a cutter says.
+        ensures says { IfOk result (λ cut. cut ≡ cut_behind self.new.bytes) }
+        ensures means { IfOk result (λ cut. cut_behind self.old.bytes ≡ More → Means cut self.new.bytes) }
+        // After `End` it takes no byte.
+        ensures stays { cut_behind self.old.bytes ≡ End → IfOk result (λ _. self.new ≡ self.old) }
+    {
+        let state = match self.progress {
+            Progress::Going(state) => state,
+            Progress::Stuck => return Err(AllocError),
+            Progress::Ended | Progress::Refused(..) => return Ok(Cut::End),
+        };
+        let before = self.bytes.len();
+        let Ok(()) = self.bytes.push(byte) else {
+            self.progress = Progress::Stuck;
+            return Err(AllocError);
+        };
+        let next = match take_byte(state, byte) {
+            Ok(next) => next,
+            Err(fault) => {
+                self.progress = Progress::Refused(state, fault);
+                return Ok(Cut::End);
+            }
+        };
+        let Ok(()) = self.pieces.take(next.act, byte, before) else {
+            self.progress = Progress::Stuck;
+            return Err(AllocError);
+        };
+        if is_dot(next.state.mode) {
+            self.progress = Progress::Ended;
+            return Ok(Cut::End);
+        }
+        self.progress = Progress::Going(next.state);
+        Ok(Cut::More)
+    }
+
+    /// What `lex` answers of the bytes so far.
+    pub fn lexed(&self, alloc: Global) -> Result<Lexed<'_>, Refused<SourceFault>>
+        ensures { Gives result (lexed self.now.bytes self.now.from) }
+    {
+        let text = self.bytes.as_slice();
+        match self.progress {
+            Progress::Stuck => Err(Refused::Memory),
+            Progress::Refused(state, fault) => {
+                Err(Refused::Fault(placed_fault(state, self.pieces.place, fault)))
+            }
+            Progress::Ended => Ok(Lexed {
+                tokens: tokens_of(alloc, text, self.pieces.found.as_slice())?,
+                used: text.len(),
+                ended: true,
+                line: self.pieces.place.line,
+            }),
+            Progress::Going(state) => {
+                let given = match finished(state) {
+                    Ok(given) => given,
+                    Err(fault) => {
+                        return Err(Refused::Fault(placed_fault(state, self.pieces.place, fault)));
+                    }
+                };
+                let mut tokens = tokens_of(alloc, text, self.pieces.found.as_slice())?;
+                let end = text.len();
+                put(&mut tokens, given, self.pieces.place.line, text, self.pieces.piece, end)?;
+                Ok(Lexed {
+                    tokens,
+                    used: end,
+                    ended: false,
+                    line: self.pieces.place.line,
+                })
+            }
+        }
+    }
+}
