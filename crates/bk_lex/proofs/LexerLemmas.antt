@@ -131,27 +131,27 @@ module _ (l : Parts) (s : State) (b : ℕ) (t : Step) (goes : Goes l s) (is : Ok
     within = are_within_more i (length (l.bytes ++ b ∷ [])) l.marks.found (omega (arith, longer)) goes.within;
     order = omega (arith, longer, goes.order);
     same = λ rest. moved l.marks.found l.marks.piece l.marks.place rest
-      (joined_goes (text rest) i (all_found (text rest) l.marks.found) s l.marks.piece l.marks.place t (lexed (text rest) l.from) (before rest) e).1;
+        (joined_goes (text rest) i (all_found (text rest) l.marks.found) s l.marks.piece l.marks.place t (lexed (text rest) l.from) (before rest) e).1;
   }
   held (acts.Begins g) e = record {
     within = are_within_more i (length (l.bytes ++ b ∷ [])) (l.marks.found ++ found_in g l.marks.place.line l.marks.piece i) (omega (arith, longer))
-      (within_append i l.marks.found (found_in g l.marks.place.line l.marks.piece i) goes.within (given_within i g l.marks.place.line l.marks.piece i goes.order (omega arith)));
+        (within_append i l.marks.found (found_in g l.marks.place.line l.marks.piece i) goes.within (given_within i g l.marks.place.line l.marks.piece i goes.order (omega arith)));
     order = omega (arith, longer);
     same = λ rest. moved (l.marks.found ++ found_in g l.marks.place.line l.marks.piece i) i (place_after l.marks.place g b) rest
-      (subst (λ (out : List Symbol). behind (reading out t.state (slice_range (text rest) i (i + 1)) (place_after l.marks.place g b) (i + 1)) (drop (i + 1) (text rest)) ≡ lexed (text rest) l.from)
-      (found_so (text rest) l.marks.found g l.marks.place.line l.marks.piece i goes.order (let z = lower rest in omega arith))
-      (subst (λ c. behind (reading (put_on (all_found (text rest) l.marks.found) g l.marks.place.line i (slice_range (text rest) l.marks.piece i)) t.state (slice_range (text rest) i (i + 1)) (place_after l.marks.place g c) (i + 1)) (drop (i + 1) (text rest)) ≡ lexed (text rest) l.from)
-      (byte_at l.bytes b rest)
-      (joined_begins (text rest) i (all_found (text rest) l.marks.found) s l.marks.piece l.marks.place t (lexed (text rest) l.from) g (before rest) e).1));
+        (subst (λ (out : List Symbol). behind (reading out t.state (slice_range (text rest) i (i + 1)) (place_after l.marks.place g b) (i + 1)) (drop (i + 1) (text rest)) ≡ lexed (text rest) l.from)
+        (found_so (text rest) l.marks.found g l.marks.place.line l.marks.piece i goes.order (let z = lower rest in omega arith))
+        (subst (λ c. behind (reading (put_on (all_found (text rest) l.marks.found) g l.marks.place.line i (slice_range (text rest) l.marks.piece i)) t.state (slice_range (text rest) i (i + 1)) (place_after l.marks.place g c) (i + 1)) (drop (i + 1) (text rest)) ≡ lexed (text rest) l.from)
+        (byte_at l.bytes b rest)
+        (joined_begins (text rest) i (all_found (text rest) l.marks.found) s l.marks.piece l.marks.place t (lexed (text rest) l.from) g (before rest) e).1));
   }
   held (acts.Names h) e = record {
     within = are_within_more i (length (l.bytes ++ b ∷ [])) (l.marks.found ++ founds.Header h l.marks.place.get_line ∷ []) (omega (arith, longer))
-      (within_append i l.marks.found (founds.Header h l.marks.place.get_line ∷ []) goes.within (tt, tt));
+        (within_append i l.marks.found (founds.Header h l.marks.place.get_line ∷ []) goes.within (tt, tt));
     order = omega (arith, longer, goes.order);
     same = λ rest. moved (l.marks.found ++ founds.Header h l.marks.place.get_line ∷ []) l.marks.piece l.marks.place rest
-      (subst (λ (out : List Symbol). behind (reading out t.state (slice_range (text rest) l.marks.piece (i + 1)) l.marks.place (i + 1)) (drop (i + 1) (text rest)) ≡ lexed (text rest) l.from)
-      (ap (λ (xs : List Symbol). all_found (text rest) l.marks.found ++ xs) (sym (append-nil (header_symbols h l.marks.place.get_line))) ∙ sym (all_append (text rest) l.marks.found (founds.Header h l.marks.place.get_line ∷ [])))
-      (joined_names (text rest) i (all_found (text rest) l.marks.found) s l.marks.piece l.marks.place t (lexed (text rest) l.from) h (before rest) e).1);
+        (subst (λ (out : List Symbol). behind (reading out t.state (slice_range (text rest) l.marks.piece (i + 1)) l.marks.place (i + 1)) (drop (i + 1) (text rest)) ≡ lexed (text rest) l.from)
+        (ap (λ (xs : List Symbol). all_found (text rest) l.marks.found ++ xs) (sym (append-nil (header_symbols h l.marks.place.get_line))) ∙ sym (all_append (text rest) l.marks.found (founds.Header h l.marks.place.get_line ∷ [])))
+        (joined_names (text rest) i (all_found (text rest) l.marks.found) s l.marks.piece l.marks.place t (lexed (text rest) l.from) h (before rest) e).1);
   }
 
   -- where the cutter is
@@ -172,8 +172,8 @@ module _ (l : Parts) (s : State) (b : ℕ) (t : Step) (goes : Goes l s) (is : Ok
     state = ap (λ (xs : List ℕ). state_behind (Some start) xs) same ∙ at_byte None (ap (λ (x : Bool). if x then None else Some t.state) (sym e));
     within = h.within;
     same =
-      subst (λ (xs : List ℕ). lexed xs q.from ≡ Ok (section (all_found xs q.marks.found) (length q.bytes) true q.marks.place.line)) (append-nil q.bytes)
-      (stops (reading (all_found (q.bytes ++ []) q.marks.found) t.state (slice_range (q.bytes ++ []) q.marks.piece (length q.bytes)) q.marks.place (length q.bytes)) [] _ e (h.same []));
+        subst (λ (xs : List ℕ). lexed xs q.from ≡ Ok (section (all_found xs q.marks.found) (length q.bytes) true q.marks.place.line)) (append-nil q.bytes)
+        (stops (reading (all_found (q.bytes ++ []) q.marks.found) t.state (slice_range (q.bytes ++ []) q.marks.piece (length q.bytes)) q.marks.place (length q.bytes)) [] _ e (h.same []));
   }
 
 -- a byte that is a fault
@@ -181,10 +181,10 @@ pub is_refused : (l : Parts) (s : State) (b : ℕ) (f : Fault) → Goes l s → 
 is_refused l s b f goes is = record {
   state = behind_more (Some start) l.bytes b ∙ ap (λ (x : Option State). then_on x b) goes.state ∙ ap goes_on_from (sym is);
   same =
-    bad (reading (all_found (l.bytes ++ b ∷ []) l.marks.found) s (slice_range (l.bytes ++ b ∷ []) l.marks.piece (length l.bytes)) l.marks.place (length l.bytes)) (l.bytes ++ b ∷ []) (length l.bytes) f _
-    (omega (arith, length-append l.bytes (b ∷ [])))
-    (ap (λ (xs : List ℕ). run (reading (all_found (l.bytes ++ b ∷ []) l.marks.found) s (slice_range (l.bytes ++ b ∷ []) l.marks.piece (length l.bytes)) l.marks.place (length l.bytes)) xs) (drop-append_seam l.bytes (b ∷ [])) ∙ goes.same (b ∷ []))
-    (is ∙ ap (λ c. step_of s c) (sym (byte_at l.bytes b [])));
+      bad (reading (all_found (l.bytes ++ b ∷ []) l.marks.found) s (slice_range (l.bytes ++ b ∷ []) l.marks.piece (length l.bytes)) l.marks.place (length l.bytes)) (l.bytes ++ b ∷ []) (length l.bytes) f _
+      (omega (arith, length-append l.bytes (b ∷ [])))
+      (ap (λ (xs : List ℕ). run (reading (all_found (l.bytes ++ b ∷ []) l.marks.found) s (slice_range (l.bytes ++ b ∷ []) l.marks.piece (length l.bytes)) l.marks.place (length l.bytes)) xs) (drop-append_seam l.bytes (b ∷ [])) ∙ goes.same (b ∷ []))
+      (is ∙ ap (λ c. step_of s c) (sym (byte_at l.bytes b [])));
 }
 
 -- ---- where no byte comes any more

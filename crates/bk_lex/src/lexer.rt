@@ -20,6 +20,7 @@ use std::marker::Model;
 
 /// How many symbols and bytes a section has room for at first.
 const FIRST_FOUND: usize = 32;
+
 const FIRST_BYTES: usize = 256;
 
 /// What was found in a text: its bytes are taken from the text once it is whole.
@@ -278,7 +279,14 @@ impl Lexer {
                 };
                 let mut tokens = tokens_of(alloc, text, self.pieces.found.as_slice())?;
                 let end = text.len();
-                put(&mut tokens, given, self.pieces.place.line, text, self.pieces.piece, end)?;
+                put(
+                    &mut tokens,
+                    given,
+                    self.pieces.place.line,
+                    text,
+                    self.pieces.piece,
+                    end,
+                )?;
                 Ok(Lexed {
                     tokens,
                     used: end,
