@@ -3,6 +3,7 @@
 
 ;;; Commentary:
 ;; Highlighting and comments.  The key TAB indents a line as the one before it.
+;; `compile' checks the program of the buffer, and `next-error' goes to the line of each fault.
 
 ;;; Code:
 
@@ -51,6 +52,11 @@
     table)
   "The classes of bytes in BCPL sources.")
 
+(defun bcpl-compile-command (file)
+  "The command that checks FILE.  A fault of the text names its line alone; the file is put before it."
+  (let ((name (shell-quote-argument (file-name-nondirectory file))))
+    (format "bcpl check %s 2>&1 >/dev/null </dev/null | sed 's@^line \\([0-9]*\\):@'%s':\\1:@'" name name)))
+
 ;;;###autoload
 (define-derived-mode bcpl-mode prog-mode "BCPL"
   "A mode for BCPL sources."
@@ -61,7 +67,9 @@
   (setq-local indent-tabs-mode nil)
   (setq-local indent-line-function #'indent-relative)
   (setq-local syntax-propertize-function bcpl-syntax-propertize)
-  (setq-local font-lock-defaults '(bcpl-font-lock-keywords nil t)))
+  (setq-local font-lock-defaults '(bcpl-font-lock-keywords nil t))
+  (when buffer-file-name
+    (setq-local compile-command (bcpl-compile-command buffer-file-name))))
 
 ;;;###autoload
 (add-to-list 'auto-mode-alist '("\\.b\\'" . bcpl-mode))
