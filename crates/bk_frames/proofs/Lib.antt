@@ -6,6 +6,7 @@ pub mod Ended
 pub mod Sizes
 pub mod Finished
 pub mod Lowering
+pub mod Sure
 pub mod Covering
 pub mod Links
 pub mod Joints

@@ -1,15 +1,20 @@
 -- Frames as a stack.
-use Rattle.std.proofs.Common.{◌≡◌, ℕ, zero, suc, Bool, true, false, if◌then◌else◌, Option, Some, None, append-nil, slice_get, sym, subst, ◌+◌, ◌-◌, ◌<◌, List, [], ◌∷◌, ◌++◌, length, get_or, take, refl, sym, ap, ◌∙◌, arith}
+use Rattle.std.proofs.Common.{◌≡◌, ℕ, zero, suc, Bool, true, false, if◌then◌else◌, Option, Some, None, append-nil, slice_get, sym, subst, ◌+◌, ◌-◌, ◌<◌, ◌≤◌, List, [], ◌∷◌, ◌++◌, length, get_or, take, refl, sym, ap, ◌∙◌, ◌⊎◌, inl, inr, arith}
+use Rattle.std.specs.Prelude.{MatchOption}
 use Rattle.std.specs.Option.{option_to_list}
-use Rattle.std.proofs.lemmas.List.{take_more, take_all}
-use Rattle.std.proofs.lemmas.Option.{slice_get_within, get_or_from_slice_get, slice_get-get_or}
+use Rattle.std.proofs.lemmas.List.{take_more, take_all, take-append-le, length-append}
+use Rattle.std.proofs.Math.Seq.{take-append-add, take-length}
+use Rattle.std.proofs.lemmas.Option.{slice_get_within, get_or_from_slice_get, slice_get-get_or, slice_get_read}
 use Rattle.bk_frames.specs.declared.frame.Frame.{Frame}
 use Rattle.bk_tree.specs.declared.tree.Decl.{Decl}
 use Rattle.bk_tree.specs.Tree.{declarations_in}
 use Rattle.bk_grammar.specs.Machine.{Stack, in_section}
 use Rattle.bk_frames.specs.Begun.{begun_on}
-use Rattle.bk_frames.specs.Stacked.{above, stack, HasRooms, Roomy}
-use Rattle.bk_frames.specs.Rooms.{AreRooms, is_tight}
+use Rattle.bk_frames.specs.declared.frame.Size.{Size}
+use Rattle.bk_frames.specs.declared.room.FrameRooms.{FrameRooms}
+use Rattle.bk_frames.specs.Spares.{Leaves}
+use Rattle.bk_frames.specs.Stacked.{above, stack, spare_under, spare_below, Spared, Roomy}
+use Rattle.bk_frames.specs.Rooms.{AreRooms}
 
 above_push : (st : Stack) (xs : List Frame) (x : Frame) → above st (xs ++ x ∷ []) ≡ begun_on x.begun (above st xs)
 above_push st [] x = refl
@@ -29,48 +34,80 @@ pub ruleset frames_laws = (stack_push, stack_none)
 pub stack_take : (ds : List Decl) (xs : List Frame) (i : ℕ) (x : Frame) → i < length xs → x ≡ get_or xs i x → stack ds (take (i + 1) xs) ≡ begun_on x.begun (stack ds (take i xs))
 stack_take ds xs i x lt is = ap (stack ds) (take_more xs i x lt ∙ ap (λ y. take i xs ++ y ∷ []) (sym is)) ∙ stack_push ds (take i xs) x
 
--- each of them has its rooms: above any stack
+-- ---- what is spare
 
-abbrev RoomyOn : Stack → List Frame → Type 0
-RoomyOn st xs = (i : ℕ) (x : Frame) → slice_get xs i ≡ Some x → HasRooms x (above st (take i xs))
+spared_push : (s : Size) (xs : List Frame) (w : Frame) → Spared s xs → Leaves (spare_under s xs) w.begun w.spare → Spared s (xs ++ w ∷ [])
+unfolding spare_under spare_below
+spared_push s [] w h g zero x is = let P : Frame → Type 0 = λ y. Leaves s y.begun y.spare in let e : w ≡ x = cc in subst P e g
+spared_push s [] w h g (suc i) x is = absurd cc
+spared_push s (y ∷ ys) w h g zero x is = h zero x is
+spared_push s (y ∷ ys) w h g (suc i) x is = spared_push y.spare ys w (λ j z. h (suc j) z) g i x is
 
-rooms_on_push : (st : Stack) (xs : List Frame) (w : Frame) → RoomyOn st xs → HasRooms w (above st xs) → RoomyOn st (xs ++ w ∷ [])
-rooms_on_push st [] w h g zero x is = let P : Frame → Type 0 = λ y. HasRooms y st in let e : w ≡ x = cc in subst P e g
-rooms_on_push st [] w h g (suc i) x is = absurd cc
-rooms_on_push st (y ∷ ys) w h g zero x is = h zero x is
-rooms_on_push st (y ∷ ys) w h g (suc i) x is = rooms_on_push (begun_on y.begun st) ys w (λ j z. h (suc j) z) g i x is
+spared_pop : (s : Size) (xs : List Frame) (w : Frame) → Spared s (xs ++ w ∷ []) → Spared s xs
+unfolding spare_under spare_below
+spared_pop s [] w h i x is = absurd cc
+spared_pop s (y ∷ ys) w h zero x is = h zero x is
+spared_pop s (y ∷ ys) w h (suc i) x is = spared_pop y.spare ys w (λ j z. h (suc j) z) i x is
 
-rooms_on_pop : (st : Stack) (xs : List Frame) (w : Frame) → RoomyOn st (xs ++ w ∷ []) → RoomyOn st xs
-rooms_on_pop st [] w h i x is = absurd cc
-rooms_on_pop st (y ∷ ys) w h zero x is = h zero x is
-rooms_on_pop st (y ∷ ys) w h (suc i) x is = rooms_on_pop (begun_on y.begun st) ys w (λ j z. h (suc j) z) i x is
+pub spared_pushed : (ok : Bool) (s : Size) (xs zs : List Frame) (w : Frame) → zs ≡ (if ok then xs ++ w ∷ [] else xs) → Spared s xs → Leaves (spare_under s xs) w.begun w.spare → Spared s zs
+spared_pushed true s xs zs w is h g = let P : List Frame → Type 0 = λ z. Spared s z in subst P (sym is) (spared_push s xs w h g)
+spared_pushed false s xs zs w is h g = let P : List Frame → Type 0 = λ z. Spared s z in subst P (sym is) h
 
-rooms_on_top : (st : Stack) (xs : List Frame) (w : Frame) → RoomyOn st (xs ++ w ∷ []) → HasRooms w (above st xs)
-rooms_on_top st [] w h = h zero w refl
-rooms_on_top st (y ∷ ys) w h = rooms_on_top (begun_on y.begun st) ys w (λ j z. h (suc j) z)
+pub spared_popped : (r : Option Frame) (s : Size) (xs ys : List Frame) → xs ≡ ys ++ option_to_list r → Spared s xs → Spared s ys
+spared_popped None s xs ys is h = let P : List Frame → Type 0 = λ z. Spared s z in subst P (is ∙ append-nil ys) h
+spared_popped (Some w) s xs ys is h = let P : List Frame → Type 0 = λ z. Spared s z in spared_pop s ys w (subst P is h)
 
-pub rooms_push : (ds : List Decl) (xs : List Frame) (w : Frame) → Roomy ds xs → HasRooms w (stack ds xs) → Roomy ds (xs ++ w ∷ [])
-unfolding stack
-rooms_push ds xs w = rooms_on_push (in_section (declarations_in ds)) xs w
+spare_last : (s : Size) (xs : List Frame) (w : Frame) → spare_under s (xs ++ w ∷ []) ≡ w.spare
+unfolding spare_under
+spare_last s [] w = refl
+spare_last s (y ∷ ys) w = spare_last y.spare ys w
 
-pub rooms_pop : (ds : List Decl) (xs : List Frame) (w : Frame) → Roomy ds (xs ++ w ∷ []) → Roomy ds xs
-unfolding stack
-rooms_pop ds xs w = rooms_on_pop (in_section (declarations_in ds)) xs w
+-- ---- the rooms
 
-pub rooms_top : (ds : List Decl) (xs : List Frame) (w : Frame) → Roomy ds (xs ++ w ∷ []) → HasRooms w (stack ds xs)
-unfolding stack
-rooms_top ds xs w = rooms_on_top (in_section (declarations_in ds)) xs w
+within_append : (ys zs : List Frame) (i : ℕ) → i < length ys → i < length (ys ++ zs)
+within_append ys zs i lt = let e = length-append ys zs in omega (arith, lt, e)
 
-pub rooms_none : (ds : List Decl) → Roomy ds []
-rooms_none ds i x is = absurd cc
+last_within : (ys : List Frame) (w : Frame) → length ys < length (ys ++ w ∷ [])
+last_within ys w = let e = length-append ys (w ∷ []) in omega (arith, e)
 
-pub rooms_pushed : (ok : Bool) (ds : List Decl) (xs zs : List Frame) (w : Frame) → zs ≡ (if ok then xs ++ w ∷ [] else xs) → Roomy ds xs → HasRooms w (stack ds xs) → Roomy ds zs
-rooms_pushed true ds xs zs w is h g = let P : List Frame → Type 0 = λ z. Roomy ds z in subst P (sym is) (rooms_push ds xs w h g)
-rooms_pushed false ds xs zs w is h g = let P : List Frame → Type 0 = λ z. Roomy ds z in subst P (sym is) h
+below_or_at : (i n : ℕ) → i < n + 1 → (i < n) ⊎ (i ≡ n)
+below_or_at i n lt = grind (arith, lt)
 
-pub rooms_popped : (r : Option Frame) (ds : List Decl) (xs ys : List Frame) → xs ≡ ys ++ option_to_list r → Roomy ds xs → Roomy ds ys
-rooms_popped None ds xs ys is h = let P : List Frame → Type 0 = λ z. Roomy ds z in subst P (is ∙ append-nil ys) h
-rooms_popped (Some w) ds xs ys is h = let P : List Frame → Type 0 = λ z. Roomy ds z in rooms_pop ds ys w (subst P is h)
+rooms_in_push : (ds : List Decl) (xs : List Frame) (w : Frame) (rs : List FrameRooms) → Roomy ds xs rs
+    → ((r : FrameRooms) → slice_get rs (length xs) ≡ Some r → AreRooms true (begun_on w.begun (stack ds xs)) r.rooms.items) → Roomy ds (xs ++ w ∷ []) rs
+rooms_in_push ds xs w rs h g i r at lt =
+    let n = length-append xs (w ∷ []) in
+    let P : Stack → Type 0 = λ z. AreRooms true z r.rooms.items in
+    elim (below_or_at i (length xs) (omega (arith, lt, n))) [
+      | inl a ↦ subst P (ap (stack ds) (sym (take-append-le (i + 1) xs (w ∷ []) (omega (arith, a))))) (h i r at a)
+      | inr a ↦
+          let e : take (i + 1) (xs ++ w ∷ []) ≡ xs ++ w ∷ [] = ap (λ j. take (j + 1) (xs ++ w ∷ [])) a ∙ take-append-add xs (w ∷ []) 1 in
+          subst P (sym (ap (stack ds) e ∙ stack_push ds xs w)) (g r (ap (slice_get rs) (sym a) ∙ at))
+    ]
+
+pub rooms_pushed : (ok : Bool) (ds : List Decl) (xs zs : List Frame) (w : Frame) (rs : List FrameRooms) → zs ≡ (if ok then xs ++ w ∷ [] else xs) → Roomy ds xs rs
+    → ((r : FrameRooms) → slice_get rs (length xs) ≡ Some r → AreRooms true (begun_on w.begun (stack ds xs)) r.rooms.items) → Roomy ds zs rs
+rooms_pushed true ds xs zs w rs is h g = let P : List Frame → Type 0 = λ z. Roomy ds z rs in subst P (sym is) (rooms_in_push ds xs w rs h g)
+rooms_pushed false ds xs zs w rs is h g = let P : List Frame → Type 0 = λ z. Roomy ds z rs in subst P (sym is) h
+
+pub rooms_popped : (r : Option Frame) (ds : List Decl) (xs ys : List Frame) (rs : List FrameRooms) → xs ≡ ys ++ option_to_list r → Roomy ds xs rs → Roomy ds ys rs
+rooms_popped r ds xs ys rs is h i x at lt =
+    let P : Stack → Type 0 = λ z. AreRooms true z x.rooms.items in
+    let e : take (i + 1) xs ≡ take (i + 1) ys = ap (take (i + 1)) is ∙ take-append-le (i + 1) ys (option_to_list r) (omega (arith, lt)) in
+    subst P (ap (stack ds) e) (h i x at (rw is (within_append ys (option_to_list r) i lt)))
+
+-- those of what was taken away
+rooms_of_popped : (ds : List Decl) (xs ys : List Frame) (w : Frame) (rs : List FrameRooms) → xs ≡ ys ++ w ∷ [] → Roomy ds xs rs
+    → (r : FrameRooms) → slice_get rs (length ys) ≡ Some r → AreRooms true (begun_on w.begun (stack ds ys)) r.rooms.items
+rooms_of_popped ds xs ys w rs is h r at =
+    let P : Stack → Type 0 = λ z. AreRooms true z r.rooms.items in
+    let e : take (length ys + 1) xs ≡ ys ++ w ∷ [] = ap (take (length ys + 1)) is ∙ take-append-add ys (w ∷ []) 1 in
+    subst P (ap (stack ds) e ∙ stack_push ds ys w) (h (length ys) r at (rw is (last_within ys w)))
+
+pub popped_rooms : (w : Option Frame) (ds : List Decl) (xs ys : List Frame) (rs : List FrameRooms) → xs ≡ ys ++ option_to_list w → Roomy ds xs rs
+    → MatchOption w (Unit {0}) (λ x. (r : FrameRooms) → slice_get rs (length ys) ≡ Some r → AreRooms true (begun_on x.begun (stack ds ys)) r.rooms.items)
+popped_rooms None ds xs ys rs is h = tt
+popped_rooms (Some w) ds xs ys rs is h = rooms_of_popped ds xs ys w rs is h
 
 -- ---- the top
 
@@ -81,9 +118,6 @@ last_on ds xs x is =
     let all : take (i + 1) xs ≡ xs = take_all (i + 1) xs (omega (arith, lt)) in
     ap (stack ds) (sym all) ∙ stack_take ds xs i x lt (sym (get_or_from_slice_get xs i x x (sym is)))
 
-pub last_below : (ds : List Decl) (xs : List Frame) (x : Frame) → Some x ≡ slice_get xs (length xs - 1) → Roomy ds xs → HasRooms x (stack ds (take (length xs - 1) xs))
-last_below ds xs x is h = h (length xs - 1) x (sym is)
-
 none_last : (xs : List Frame) → None ≡ slice_get xs (length xs - 1) → xs ≡ []
 none_last [] is = refl
 none_last (x ∷ xs) is =
@@ -93,9 +127,37 @@ none_last (x ∷ xs) is =
 pub none_on : (ds : List Decl) (xs : List Frame) → None ≡ slice_get xs (length xs - 1) → stack ds xs ≡ in_section (declarations_in ds)
 none_on ds xs is = ap (stack ds) (none_last xs is) ∙ stack_none ds
 
--- the rooms of the frame on top are those of the stack
-pub top_rooms : (ds : List Decl) (xs : List Frame) (x : Frame) → Some x ≡ slice_get xs (length xs - 1) → Roomy ds xs → AreRooms true (stack ds xs) x.rooms.items
-top_rooms ds xs x is h = let P : Stack → Type 0 = λ z. AreRooms true z x.rooms.items in subst P (sym (last_on ds xs x is)) (last_below ds xs x is h)
+-- what is spare above them all
+pub spare_top : (s : Size) (xs : List Frame) (x : Frame) → Some x ≡ slice_get xs (length xs - 1) → x.spare ≡ spare_under s xs
+spare_top s xs x is =
+    let i = length xs - 1 in
+    let lt : i < length xs = slice_get_within xs i x (sym is) in
+    let all : take (i + 1) xs ≡ xs = take_all (i + 1) xs (omega (arith, lt)) in
+    let e : take i xs ++ x ∷ [] ≡ xs = ap (λ y. take i xs ++ y ∷ []) (sym (get_or_from_slice_get xs i x x (sym is))) ∙ sym (take_more xs i x lt) ∙ all in
+    sym (spare_last s (take i xs) x) ∙ ap (spare_under s) e
 
-pub is_tight_top : (ds : List Decl) (xs : List Frame) (x : Frame) (t : Bool) → Some x ≡ slice_get xs (length xs - 1) → ((st : Stack) → t ≡ is_tight (begun_on x.begun st)) → t ≡ is_tight (stack ds xs)
-is_tight_top ds xs x t is h = h (stack ds (take (length xs - 1) xs)) ∙ ap is_tight (sym (last_on ds xs x is))
+pub spare_none : (s : Size) (xs : List Frame) → None ≡ slice_get xs (length xs - 1) → s ≡ spare_under s xs
+unfolding spare_under
+spare_none s xs is = ap (spare_under s) (sym (none_last xs is))
+
+take_none : (xs : List Frame) → take 0 xs ≡ []
+take_none [] = refl
+take_none (x ∷ xs) = refl
+
+pub stack_first : (ds : List Decl) (xs : List Frame) (n : ℕ) → n ≡ 0 → stack ds (take n xs) ≡ in_section (declarations_in ds)
+stack_first ds xs n is = ap (λ i. stack ds (take i xs)) is ∙ ap (stack ds) (take_none xs) ∙ stack_none ds
+
+pub rooms_at : (ds : List Decl) (xs : List Frame) (rs : List FrameRooms) (i n : ℕ) (r : FrameRooms) → r ≡ get_or rs i r → i < length rs → i < length xs → n ≡ i + 1 → Roomy ds xs rs → AreRooms true (stack ds (take n xs)) r.rooms.items
+rooms_at ds xs rs i n r at lt within is h =
+    let P : ℕ → Type 0 = λ j. AreRooms true (stack ds (take j xs)) r.rooms.items in
+    subst P (sym is) (h i r (slice_get_read rs (length rs) i r refl lt at) within)
+
+-- and those of the last of them all
+pub rooms_last : (ds : List Decl) (xs : List Frame) (rs : List FrameRooms) (n : ℕ) (r : FrameRooms) → n ≡ length xs → r ≡ get_or rs (n - 1) r → 0 < n → length xs ≤ length rs → Roomy ds xs rs → AreRooms true (stack ds xs) r.rooms.items
+rooms_last ds xs rs n r is at some lt h =
+    let P : List Frame → Type 0 = λ z. AreRooms true (stack ds z) r.rooms.items in
+    subst P (ap (λ i. take i xs) is ∙ take-length xs) (rooms_at ds xs rs (n - 1) n r at (omega arith) (omega arith) (omega arith) h)
+
+pub stack_of_none : (ds : List Decl) (xs : List Frame) (n : ℕ) → n ≡ length xs → n ≡ 0 → stack ds xs ≡ in_section (declarations_in ds)
+stack_of_none ds [] n is zeroed = stack_none ds
+stack_of_none ds (x ∷ xs) n is zeroed = absurd (omega (arith, is, zeroed))

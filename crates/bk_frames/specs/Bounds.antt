@@ -13,6 +13,10 @@ AtMost levels most d n = (d ≤ levels) × (n ≤ most)
 abbrev pub LevelsAtMost : ℕ → ℕ → ℕ → Type 0
 LevelsAtMost levels d n = d ≤ levels
 
+-- nothing is asked of a section
+abbrev pub Always : ℕ → ℕ → Type 0
+Always d n = Unit {0}
+
 -- a section within both limits goes on from here
 abbrev pub Bounded : State → Type 0
 Bounded x = Completes (AtMost TREE_DEPTH TREE_NODES) x

@@ -1,6 +1,6 @@
 -- What the parser has begun and reads now, as the stack and the state of the reading machine; and what a call answers, as
 -- a step of that machine. The depths and the numbers of nodes that the parser keeps are left out.
-use Rattle.std.specs.Prelude.{ℕ, ◌+◌, Bool, true, false, cond, ◌≡◌, Option, Some, None, List, Result, Ok, Err, vec_len}
+use Rattle.std.specs.Prelude.{ℕ, ◌+◌, Bool, true, false, cond, ◌≡◌, Option, Some, None, List, Result, Ok, Err, vec_len, length, slice_get}
 use Rattle.bk_lex.specs.declared.token.Kind.{Kind}
 use Rattle.bk_lex.specs.declared.token.Token.{Token}
 use Rattle.bk_grammar.specs.declared.symbols.Heading.{Heading}
@@ -20,12 +20,20 @@ use Rattle.bk_tree.specs.declared.tree.Name.{Name}
 use Rattle.bk_grammar.specs.declared.symbols.Declaring.{Declaring}
 use Rattle.bk_grammar.specs.declared.symbols.Declaring.TheVariants as g
 use Rattle.bk_grammar.specs.Rows.{is_relation, is_name}
+use Rattle.bk_frames.specs.declared.room.FrameRooms.{FrameRooms}
+use Rattle.bk_frames.specs.Rooms.{AreRooms}
+use Rattle.bk_frames.specs.declared.frame.Size.{Size}
+use Rattle.bk_frames.specs.Sizes.{kept_size}
 use Rattle.bk_frames.specs.Stacked.{stack}
 use Rattle.bk_tree.specs.Tree.{Expression, binary, no_declarations, no_actions, no_definitions, mention, expression, action, definition}
 use Rattle.bk_grammar.specs.Machine.{Stack, State, in_block, in_let, at_opening, at_goto, at_for, at_default, in_test, in_result, want, have, begin, maybe, did, due, give, finish, defined_by}
 
 abbrev pub stack_of : Frames → Stack
 stack_of x = stack x.decls.items x.above.items
+
+-- the rooms that are kept behind those of what was begun, if there are any, are those of this stack
+abbrev pub HasRoomsFor : Frames → Stack → Type 0
+HasRoomsFor x st = (r : FrameRooms) → slice_get x.rooms.items (length x.above.items) ≡ Some r → AreRooms true st r.rooms.items
 
 abbrev pub state : Stack → Now → State
 state st n.Want = want st
@@ -34,6 +42,12 @@ state st n.Begin = begin st
 state st n.Maybe = maybe st
 state st (n.Did x) = did st (action x.command)
 state st n.Due = due st
+
+-- the size of the part that is complete so far, if there is one
+abbrev pub part_of : Now → Size
+part_of (n.Have x) = x.size
+part_of (n.Did x) = x.size
+part_of _ = kept_size 0 0
 
 -- what was put on top
 abbrev pub Puts : Stack → Result Unit Stop → Stack → Type 0

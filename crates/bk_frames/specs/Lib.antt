@@ -5,3 +5,4 @@ pub mod Frames
 pub mod WaysOn
 pub mod Bounds
 pub mod Rooms
+pub mod Spares

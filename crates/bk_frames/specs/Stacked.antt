@@ -1,11 +1,14 @@
 -- A list of what was begun, as a stack.
-use Rattle.std.specs.Prelude.{ℕ, ◌≡◌, true, Some, List, [], ◌∷◌, slice_get, take}
+use Rattle.std.specs.Prelude.{ℕ, zero, suc, ◌+◌, ◌≡◌, ◌<◌, true, Some, List, [], ◌∷◌, length, slice_get, take}
 use Rattle.bk_frames.specs.declared.frame.Frame.{Frame}
+use Rattle.bk_frames.specs.declared.frame.Size.{Size}
 use Rattle.bk_tree.specs.declared.tree.Decl.{Decl}
 use Rattle.bk_tree.specs.Tree.{declarations_in}
 use Rattle.bk_grammar.specs.Machine.{Stack, in_section}
 use Rattle.bk_frames.specs.Begun.{begun_on}
+use Rattle.bk_frames.specs.declared.room.FrameRooms.{FrameRooms}
 use Rattle.bk_frames.specs.Rooms.{AreRooms}
+use Rattle.bk_frames.specs.Spares.{Leaves}
 
 -- the last one is on top
 abbrev pub above : Stack → List Frame → Stack
@@ -15,10 +18,21 @@ above st (x ∷ xs) = above (begun_on x.begun st) xs
 unfoldable pub stack : List Decl → List Frame → Stack
 stack ds xs = above (in_section (declarations_in ds)) xs
 
--- what was begun has the rooms of the stack that it is on top of
-abbrev pub HasRooms : Frame → Stack → Type 0
-HasRooms x st = AreRooms true (begun_on x.begun st) x.rooms.items
+-- what is spare above all of them, where this is spare below
+unfoldable pub spare_under : Size → List Frame → Size
+spare_under s [] = s
+spare_under s (x ∷ xs) = spare_under x.spare xs
 
--- and so each of them
-abbrev pub Roomy : List Decl → List Frame → Type 0
-Roomy ds xs = (i : ℕ) (x : Frame) → slice_get xs i ≡ Some x → HasRooms x (stack ds (take i xs))
+-- and below the one at this place
+unfoldable pub spare_below : Size → List Frame → ℕ → Size
+spare_below s xs zero = s
+spare_below s [] (suc i) = s
+spare_below s (x ∷ xs) (suc i) = spare_below x.spare xs i
+
+-- so it is for each of them
+abbrev pub Spared : Size → List Frame → Type 0
+Spared s xs = (i : ℕ) (x : Frame) → slice_get xs i ≡ Some x → Leaves (spare_below s xs i) x.begun x.spare
+
+-- the rooms that are kept are those of the lowest of them; any further ones count for nothing
+abbrev pub Roomy : List Decl → List Frame → List FrameRooms → Type 0
+Roomy ds xs rs = (i : ℕ) (r : FrameRooms) → slice_get rs i ≡ Some r → i < length xs → AreRooms true (stack ds (take (i + 1) xs)) r.rooms.items

@@ -4,8 +4,8 @@ ghost use Rattle.bk_tree.specs.Tree.{expression, action, definition};
 ghost use Rattle.bk_grammar.specs.Grammar.{last};
 ghost use Rattle.bk_frames.specs.Sizes.{size_of, size_if, size_of_action, size_of_definition};
 ghost use Rattle.bk_frames.specs.Begun.{held_in};
+ghost use Rattle.bk_frames.specs.Spares.{IsSmall};
 
-use crate::room::Rooms;
 use bk_base::Line;
 use bk_grammar::symbols::Guard;
 use bk_tree::{Command, Decl, Def, Expr, Init, Item, Name, Operator, Prefix, Sort};
@@ -129,13 +129,15 @@ pub enum Begun {
     Point(Point),
 }
 
-/// What was begun, with the depth and the nodes of the parts that it holds, and the room for the part that is read.
+/// What was begun, with the depth and the nodes of the parts that it holds, and what any part that is read may surely have of
+/// both, so that the section stays within its limits. Nothing is known where either is 0.
 #[derive(Drop)]
 pub struct Frame {
     pub begun: Begun,
     pub held: Size,
-    pub rooms: Rooms,
+    pub spare: Size,
     ghost holds: { held ≡ held_in begun },
+    ghost small: { IsSmall spare },
 }
 
 /// An expression that is complete so far, with its size and that of the operand which a further relation would share.

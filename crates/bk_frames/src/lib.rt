@@ -7,6 +7,7 @@ pub mod limits;
 pub mod room;
 pub mod rooms;
 pub mod size;
+pub mod spare;
 pub mod top;
 pub mod way;
 pub mod ways;

@@ -1,19 +1,22 @@
 //! Whether a section within the limits goes on.
-ghost use Rattle.std.specs.Prelude.{◌≡◌, ◌↔◌, ◌||◌, ℕ, [], true, false, Some, None, IfOk, OnOk, MatchOption};
+ghost use Rattle.std.specs.Prelude.{◌≡◌, ◌↔◌, ◌||◌, ◌<◌, ◌≤◌, ◌+◌, ℕ, [], true, false, Some, None, IfOk, OnOk, MatchOption, length, take};
 ghost use Rattle.bk_base.specs.declared.source_fault.SourceKind.TheVariants.{NestedTooDeeply, TooManyNodes};
 ghost use Rattle.bk_tree.specs.Tree.{Declarations};
 ghost use Rattle.bk_grammar.specs.Machine.{Stack, in_section};
 ghost use Rattle.bk_frames.specs.Sizes.{kept_size, size_of_declarations};
 ghost use Rattle.bk_frames.specs.Begun.{begun_on, held_in};
 ghost use Rattle.bk_frames.specs.Rooms.{Limit, counted, has_room, whom_of, is_tight, AreRooms};
+ghost use Rattle.bk_frames.specs.Bounds.{Always};
 ghost use Rattle.bk_frames.specs.WaysOn.{Completes};
+ghost use Rattle.bk_frames.specs.Stacked.{stack};
 ghost use Rattle.bk_frames.specs.Frames.{stack_of, state};
 
 use crate::frame::{Begun, Now, Size};
 use crate::frames::Frames;
-use crate::room::{Next, Room, Rooms, Whom};
+use crate::room::{FrameRooms, Next, Room, Rooms, Whom};
 use crate::rooms::{add_ways, counted, has_room};
 use crate::size::{Form, LEAF, NOTHING, form_of, of_node};
+use crate::spare::is_surely_bounded;
 use crate::ways::{is_tight, ways};
 use bk_base::limit::{TREE_DEPTH, TREE_NODES};
 use std::alloc::{AllocError, Global};
@@ -115,43 +118,82 @@ fn has_room_for(rooms: &[Room], counts: bool, now: &Now) -> bool
     }
 }
 
-/// Adds the rooms of what was begun, with these parts, above these frames.
-pub fn add_rooms_above(
-    rooms: &mut Rooms,
-    frames: &Frames,
-    begun: &Begun,
-    held: Size,
-) -> Result<(), AllocError>
-    requires held { held ≡ held_in begun.now }
-    requires none { rooms.old.items ≡ [] }
-    ensures { OnOk result (AreRooms true (begun_on begun.now (stack_of frames.now)) rooms.new.items) }
+/// The rooms of the lowest of what was begun of which none are kept.
+fn next_rooms(frames: &Frames) -> Result<Rooms, AllocError>
+    requires { length frames.now.rooms.items < length frames.now.above.items }
+    ensures { IfOk result (λ rooms. AreRooms true (stack frames.now.decls.items (take (length frames.now.rooms.items + 1) frames.now.above.items)) rooms.items) }
 {
-    match frames.above.last() {
-        Some(top) => {
-            let tight = is_tight(&top.begun);
-            let below = top.rooms.as_slice();
-            add_rooms_on(rooms, begun, held, tight, below, true)?;
-            Ok(())
-        }
-        None => {
-            let below = rooms_of_section(frames.alloc, frames.held, true)?;
-            add_rooms_on(rooms, begun, held, false, below.as_slice(), true)?;
-            Ok(())
-        }
+    let at = frames.rooms.len();
+    let next = &frames.above[at];
+    let mut rooms = Rooms::new(frames.alloc);
+    if at == 0 {
+        let below = rooms_of_section(frames.alloc, frames.held, true)?;
+        add_rooms_on(
+            &mut rooms,
+            &next.begun,
+            next.held,
+            false,
+            below.as_slice(),
+            true,
+        )?;
+        return Ok(rooms);
     }
+    let tight = is_tight(&frames.above[at - 1].begun);
+    let below = frames.rooms[at - 1].rooms.as_slice();
+    add_rooms_on(&mut rooms, &next.begun, next.held, tight, below, true)?;
+    Ok(rooms)
 }
 
-/// Whether a section within the limits goes on.
-pub fn is_bounded(frames: &Frames, now: &Now) -> Result<bool, AllocError>
-    ensures { IfOk result (λ bounded. Completes (Limit true) (state (stack_of frames.now) now.now) ↔ (bounded ≡ true)) }
+/// Keeps them.
+fn keep_next_rooms(frames: &mut Frames) -> Result<(), AllocError>
+    requires { length frames.old.rooms.items < length frames.old.above.items }
+    ensures stack { stack_of frames.new ≡ stack_of frames.old }
+    ensures above { OnOk result (length frames.new.above.items ≡ length frames.old.above.items) }
+    ensures rooms { OnOk result (length frames.new.rooms.items ≡ length frames.old.rooms.items + 1) }
 {
-    match frames.above.last() {
-        Some(top) => Ok(has_room_for(top.rooms.as_slice(), true, now)),
-        None => {
-            let rooms = rooms_of_section(frames.alloc, frames.held, true)?;
-            Ok(has_room_for(rooms.as_slice(), true, now))
-        }
+    let rooms = next_rooms(frames)?;
+    frames.rooms.push(FrameRooms { rooms })?;
+    Ok(())
+}
+
+/// Keeps the rooms of all that was begun.
+fn keep_rooms(frames: &mut Frames) -> Result<(), AllocError>
+    ensures stack { stack_of frames.new ≡ stack_of frames.old }
+    ensures kept { OnOk result (length frames.new.above.items ≤ length frames.new.rooms.items) }
+{
+    while frames.rooms.len() < frames.above.len() {
+        keep_next_rooms(frames)?;
     }
+    Ok(())
+}
+
+/// Whether a section within the limits goes on, by the rooms.
+#[cold]
+#[inline(never)]
+fn has_rooms(frames: &mut Frames, now: &Now) -> Result<bool, AllocError>
+    ensures stack { stack_of frames.new ≡ stack_of frames.old }
+    ensures bounded { IfOk result (λ bounded. Completes (Limit true) (state (stack_of frames.new) now.now) ↔ (bounded ≡ true)) }
+{
+    keep_rooms(frames)?;
+    let count = frames.above.len();
+    if count == 0 {
+        let rooms = rooms_of_section(frames.alloc, frames.held, true)?;
+        return Ok(has_room_for(rooms.as_slice(), true, now));
+    }
+    Ok(has_room_for(frames.rooms[count - 1].rooms.as_slice(), true, now))
+}
+
+/// Whether a section within the limits goes on, in a state from which a section goes on. The rooms are asked only where this is
+/// not sure without them.
+pub fn is_bounded(frames: &mut Frames, now: &Now) -> Result<bool, AllocError>
+    ensures stack { stack_of frames.new ≡ stack_of frames.old }
+    ensures goes { IfOk result (λ bounded. bounded ≡ true → Completes Always (state (stack_of frames.new) now.now) → Completes (Limit true) (state (stack_of frames.new) now.now)) }
+    ensures only { IfOk result (λ bounded. Completes (Limit true) (state (stack_of frames.new) now.now) → bounded ≡ true) }
+{
+    if is_surely_bounded(frames, now) {
+        return Ok(true);
+    }
+    has_rooms(frames, now)
 }
 
 /// The rooms of these frames where nodes are not counted.

@@ -75,3 +75,9 @@ const USUAL_ROOMS: usize = 6;
 
 /// The rooms of what was begun.
 pub type Rooms = SmallVec<Room, USUAL_ROOMS>;
+
+/// The rooms of one of what was begun, as a list of them keeps it.
+#[derive(Drop)]
+pub struct FrameRooms {
+    pub rooms: Rooms,
+}

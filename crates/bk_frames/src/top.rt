@@ -1,20 +1,22 @@
 //! The top of the list of what was begun.
-ghost use Rattle.std.specs.Prelude.{◌≡◌, ◌+◌, [], true, MatchOption, IfOk, vec_len};
+ghost use Rattle.std.specs.Prelude.{◌≡◌, ◌+◌, ◌≤◌, [], true, MatchOption, IfOk, vec_len, length};
 ghost use Rattle.bk_frames.specs.Begun.{begun_on, held_in};
-ghost use Rattle.bk_frames.specs.Rooms.{AreRooms};
-ghost use Rattle.bk_frames.specs.Frames.{stack_of};
+ghost use Rattle.bk_frames.specs.Frames.{stack_of, HasRoomsFor};
 
 use crate::frame::{Begun, Frame, Size};
 use crate::frames::Frames;
-use crate::limits::add_rooms_above;
-use crate::room::Rooms;
+use crate::spare::{spare_above, spare_of};
 use std::alloc::AllocError;
 
-/// Gives up what was begun, since memory was refused. It is a function of its own, so that no time goes to it otherwise.
+/// Lets the rooms go that are kept for more than what was begun.
 #[cold]
 #[inline(never)]
-fn give_up(_begun: Begun, refused: AllocError) -> AllocError {
-    refused
+fn forget_rooms(frames: &mut Frames)
+    ensures stack { stack_of frames.new ≡ stack_of frames.old }
+    ensures above { frames.new.above ≡ frames.old.above }
+    ensures rooms { length frames.new.rooms.items ≤ length frames.old.above.items }
+{
+    frames.rooms.truncate(frames.above.len());
 }
 
 /// Puts on top what was begun, with these parts.
@@ -24,28 +26,22 @@ pub fn begun(frames: &mut Frames, begun: Begun, held: Size) -> Result<(), AllocE
     ensures stack { IfOk result (λ _. stack_of frames.new ≡ begun_on begun (stack_of frames.old)) }
     ensures length { IfOk result (λ _. vec_len frames.new.above ≡ vec_len frames.old.above + 1) }
 {
-    let mut rooms = Rooms::new(frames.alloc);
-    if let Err(refused) = add_rooms_above(&mut rooms, frames, &begun, held) {
-        return Err(give_up(begun, refused));
+    if frames.rooms.len() > frames.above.len() {
+        forget_rooms(frames);
     }
-    begun_still(frames, begun, held, rooms)
+    begun_still(frames, begun, held)
 }
 
-/// Puts on top what was begun, with these parts, in the room that was there before.
+/// Puts on top what was begun, with these parts, in place of what had the same rooms there before.
 #[tactic(auto, using(crate::proofs::Stacks::stack_push))]
-pub fn begun_still(
-    frames: &mut Frames,
-    begun: Begun,
-    held: Size,
-    rooms: Rooms,
-) -> Result<(), AllocError>
+pub fn begun_still(frames: &mut Frames, begun: Begun, held: Size) -> Result<(), AllocError>
     requires held { held ≡ held_in begun }
-    requires rooms { AreRooms true (begun_on begun (stack_of frames.old)) rooms.items }
+    requires rooms { HasRoomsFor frames.old (begun_on begun (stack_of frames.old)) }
     ensures stack { IfOk result (λ _. stack_of frames.new ≡ begun_on begun (stack_of frames.old)) }
     ensures length { IfOk result (λ _. vec_len frames.new.above ≡ vec_len frames.old.above + 1) }
 {
-    let frame = Frame { begun, held, rooms };
-    frames.above.push(frame)?;
+    let spare = spare_above(spare_of(frames), &begun, held);
+    frames.above.push(Frame { begun, held, spare })?;
     Ok(())
 }
 
@@ -53,7 +49,7 @@ pub fn begun_still(
 #[tactic(auto, using(crate::proofs::Stacks::stack_push))]
 pub fn pop(frames: &mut Frames) -> Option<Frame>
     ensures frames { MatchOption result ((frames.old.above.items ≡ []) × (frames.new.above.items ≡ []) × (frames.new.decls ≡ frames.old.decls)) (λ x. (stack_of frames.old ≡ begun_on x.begun (stack_of frames.new)) × (vec_len frames.new.above + 1 ≡ vec_len frames.old.above)) }
-    ensures rooms { MatchOption result Unit (λ x. AreRooms true (begun_on x.begun (stack_of frames.new)) x.rooms.items) }
+    ensures rooms { MatchOption result Unit (λ x. HasRoomsFor frames.new (begun_on x.begun (stack_of frames.new))) }
 {
     frames.above.pop()
 }

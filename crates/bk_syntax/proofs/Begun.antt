@@ -21,7 +21,8 @@ use Rattle.bk_grammar.proofs.Fits.{Tagged, Fits, Fit, FitUnder, After}
 use Rattle.bk_grammar.proofs.Fitting.{step_fits}
 use Rattle.bk_syntax.proofs.Onward.{Way}
 use Rattle.bk_syntax.proofs.Attained.{state_way}
-use Rattle.bk_frames.proofs.Possible.{Always, possible}
+use Rattle.bk_frames.specs.Bounds.{Always}
+use Rattle.bk_frames.proofs.Possible.{possible}
 
 -- the machine stops at none of these symbols
 abbrev Passes : List Symbol → State → Type 0

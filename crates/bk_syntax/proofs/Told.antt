@@ -24,7 +24,7 @@ use Rattle.bk_grammar.specs.Grammar as G
 use Rattle.bk_grammar.specs.SyntaxFault.{IsSection, Begins, Shallow, Stands}
 use Rattle.bk_grammar.specs.Machine.{State, run}
 use Rattle.bk_frames.specs.Frames.{stack_of, state}
-use Rattle.bk_frames.specs.Bounds.{AtMost, LevelsAtMost, Bounded, Passed}
+use Rattle.bk_frames.specs.Bounds.{Always, AtMost, LevelsAtMost, Bounded, Passed}
 use Rattle.bk_syntax.specs.Parsing.{tags, AfterSymbols, IsLimit, told, answered, reached, IsPassed, Advances, AnswersAtEnd, Parses, Gives}
 use Rattle.bk_tree.specs.Section.{declarations_of}
 use Rattle.bk_syntax.proofs.Stands.{one_tree, end_stands}
@@ -49,6 +49,10 @@ begins_completes_to : (P : ℕ → ℕ → Type 0) → Down P → (ts : List Sym
 begins_completes_to P down ts opens x b w =
     let r = rest_runs ts w.0 opens x w.1 b w.2 in
     run_completes P down r.0 x w.1 r.1 w.3
+
+-- behind the symbols a section goes on
+pub behind_completes : (ts : List Symbol) (opens : List (List ℕ)) (x : State) → AfterSymbols ts opens x → Completes Always x
+behind_completes ts opens x b = begins_completes_to Always (λ d e n m p q h. tt) ts opens x b (behind_begins ts opens x b)
 
 pub begins_completes : BeginsCompletes
 begins_completes ts opens x levels most b w = begins_completes_to (AtMost levels most) (at_most_down levels most) ts opens x b w

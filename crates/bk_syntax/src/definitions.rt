@@ -13,8 +13,7 @@ ghost use Rattle.bk_tree.specs.Parts.{line_of_names, start_count};
 ghost use Rattle.bk_grammar.specs.Machine.{Stack, limit, give, finish, defined_by, declared, in_constants, in_commands, in_names, in_formals, headed, in_head, in_block, in_section, in_let, inside, counted, take_in_block, take_in_section, take_item, take_due, at_name, at_formals, at_formal, at_variable, at_starts, due};
 ghost use Rattle.bk_tree.specs.Parts.{actions_then, items_then, starts_then};
 ghost use Rattle.bk_frames.specs.Begun.{member_on, place_on, point_on};
-ghost use Rattle.bk_frames.specs.Rooms.{AreRooms};
-ghost use Rattle.bk_frames.specs.Frames.{stack_of, state, Steps, Answers, Lowers, NamedBy, Declares, declaring, is_let_begun, is_block_begun};
+ghost use Rattle.bk_frames.specs.Frames.{stack_of, HasRoomsFor, state, Steps, Answers, Lowers, NamedBy, Declares, declaring, is_let_begun, is_block_begun};
 ghost use Rattle.bk_frames.specs.Sizes.{are_no_items};
 
 use crate::commands::{command, did};
@@ -24,7 +23,6 @@ use bk_frames::frame::{
     Begun, Clause, Defined, Done, Flow, Frame, Member, Now, Phrase, Place, Point, Size, Sized, Stop,
 };
 use bk_frames::frames::Frames;
-use bk_frames::room::Rooms;
 use bk_frames::size::{NOTHING, are_no_items, both, of_node};
 use bk_frames::top::{begun, begun_still, pop};
 use bk_grammar::spelling::name;
@@ -90,7 +88,7 @@ fn declare(frames: &mut Frames, decl: Decl, size: Size) -> Result<(), Stop>
     let Frame {
         begun,
         held,
-        rooms: _,
+        spare: _,
     } = top;
     match begun {
         Begun::Place(place) => declare_in(frames, place, held, decl, size),
@@ -275,7 +273,7 @@ pub fn complete_definition(
     let Frame {
         begun,
         held,
-        rooms: _,
+        spare: _,
     } = top;
     match begun {
         Begun::Place(place) => define_in(alloc, frames, place, held, done, token),
@@ -336,23 +334,22 @@ fn in_block(
     decls: Vec<Decl>,
     commands: Vec<Command>,
     held: Size,
-    rooms: Rooms,
     token: &Token,
 ) -> Result<Now, Stop>
     requires held { held ≡ held_in (Begun.Place (p.Block line free decls commands)) }
-    requires rooms { AreRooms true (place_on (p.Block line free decls commands) (stack_of frames.old)) rooms.items }
+    requires rooms { HasRoomsFor frames.old (place_on (p.Block line free decls commands) (stack_of frames.old)) }
     ensures { Steps (stack_of frames.new) result (take_in_block line free (declarations_in decls.items) (actions_in commands.items) (stack_of frames.old) token.now.line token.now.text.now token.now.kind) }
 {
     if is_semicolon(token.kind) {
         let block = Place::Block(line, true, decls, commands);
-        return Ok(due_still(frames, block, held, rooms)?);
+        return Ok(due_still(frames, block, held)?);
     }
     if closes(token.kind) {
         return Ok(Now::Did(did(block(line, decls, commands), held)));
     }
     let head = in_head(&commands);
     let block = Place::Block(line, free, decls, commands);
-    begun_still(frames, Begun::Place(block), held, rooms)?;
+    begun_still(frames, Begun::Place(block), held)?;
     if head {
         if let Some(what) = declares_with(token.kind) {
             return Ok(declaration(alloc, frames, what, token.line)?);
@@ -481,18 +478,12 @@ fn both_of(a: bool, b: bool) -> bool
 }
 
 /// Behind the name of a definition. Variables stand in blocks alone.
-fn named(
-    alloc: Global,
-    frames: &mut Frames,
-    name: Name,
-    rooms: Rooms,
-    token: &Token,
-) -> Result<Now, Stop>
-    requires { AreRooms true (place_on (p.Named name) (stack_of frames.old)) rooms.items }
+fn named(alloc: Global, frames: &mut Frames, name: Name, token: &Token) -> Result<Now, Stop>
+    requires { HasRoomsFor frames.old (place_on (p.Named name) (stack_of frames.old)) }
     ensures { Steps (stack_of frames.new) result (take_due (at_name (mention name) (stack_of frames.old)) token.now.line token.now.text.now token.now.kind) }
 {
     if is_open(token.kind) {
-        return Ok(due_still(frames, Place::Formals(name), NOTHING, rooms)?);
+        return Ok(due_still(frames, Place::Formals(name), NOTHING)?);
     }
     if !in_a_block(frames) {
         return Err(Stop::Unexpected);
@@ -504,19 +495,13 @@ fn named(
 
 /// Behind the parenthesis of a procedure.
 #[tactic(auto, using(bk_frames::proofs::Turns::named_cases))]
-fn formals(
-    alloc: Global,
-    frames: &mut Frames,
-    name: Name,
-    rooms: Rooms,
-    token: &Token,
-) -> Result<Now, Stop>
-    requires { AreRooms true (place_on (p.Formals name) (stack_of frames.old)) rooms.items }
+fn formals(alloc: Global, frames: &mut Frames, name: Name, token: &Token) -> Result<Now, Stop>
+    requires { HasRoomsFor frames.old (place_on (p.Formals name) (stack_of frames.old)) }
     ensures { Steps (stack_of frames.new) result (take_due (at_formals (mention name) (stack_of frames.old)) token.now.line token.now.text.now token.now.kind) }
 {
     if is_close(token.kind) {
         let headed = Place::Headed(name, Vec::new(alloc));
-        return Ok(due_still(frames, headed, NOTHING, rooms)?);
+        return Ok(due_still(frames, headed, NOTHING)?);
     }
     let Some(formal) = name_of(alloc, token)? else {
         return Err(Stop::Unexpected);
@@ -524,7 +509,7 @@ fn formals(
     let mut formals = Vec::new(alloc);
     formals.push(formal)?;
     let end = Place::FormalEnd(name, formals);
-    Ok(due_still(frames, end, NOTHING, rooms)?)
+    Ok(due_still(frames, end, NOTHING)?)
 }
 
 /// A formal is due.
@@ -534,10 +519,9 @@ fn formal(
     frames: &mut Frames,
     name: Name,
     formals: Vec<Name>,
-    rooms: Rooms,
     token: &Token,
 ) -> Result<Now, Stop>
-    requires { AreRooms true (place_on (p.Formal name formals) (stack_of frames.old)) rooms.items }
+    requires { HasRoomsFor frames.old (place_on (p.Formal name formals) (stack_of frames.old)) }
     ensures { Steps (stack_of frames.new) result (take_due (at_formal (mention name) (map mention formals.items) (stack_of frames.old)) token.now.line token.now.text.now token.now.kind) }
 {
     let Some(formal) = name_of(alloc, token)? else {
@@ -546,7 +530,7 @@ fn formal(
     let mut formals = formals;
     formals.push(formal)?;
     let end = Place::FormalEnd(name, formals);
-    Ok(due_still(frames, end, NOTHING, rooms)?)
+    Ok(due_still(frames, end, NOTHING)?)
 }
 
 /// Behind a formal.
@@ -555,19 +539,18 @@ fn formal_end(
     frames: &mut Frames,
     name: Name,
     formals: Vec<Name>,
-    rooms: Rooms,
     token: &Token,
 ) -> Result<Now, Stop>
-    requires { AreRooms true (place_on (p.FormalEnd name formals) (stack_of frames.old)) rooms.items }
+    requires { HasRoomsFor frames.old (place_on (p.FormalEnd name formals) (stack_of frames.old)) }
     ensures { Steps (stack_of frames.new) result (in_formals (mention name) (map mention formals.items) (stack_of frames.old) token.now.kind) }
 {
     if is_comma(token.kind) {
         let next = Place::Formal(name, formals);
-        return Ok(due_still(frames, next, NOTHING, rooms)?);
+        return Ok(due_still(frames, next, NOTHING)?);
     }
     if is_close(token.kind) {
         let headed = Place::Headed(name, formals);
-        return Ok(due_still(frames, headed, NOTHING, rooms)?);
+        return Ok(due_still(frames, headed, NOTHING)?);
     }
     Err(Stop::Unexpected)
 }
@@ -631,17 +614,16 @@ fn in_let(
     line: Line,
     defs: Vec<Def>,
     held: Size,
-    rooms: Rooms,
     token: &Token,
 ) -> Result<Now, Stop>
     requires held { held ≡ held_in (Begun.Place (p.Let line defs)) }
-    requires rooms { AreRooms true (place_on (p.Let line defs) (stack_of frames.old)) rooms.items }
+    requires rooms { HasRoomsFor frames.old (place_on (p.Let line defs) (stack_of frames.old)) }
     ensures { Steps (stack_of frames.new) result (take_due (in_let line (definitions_in defs.items) (stack_of frames.old)) token.now.line token.now.text.now token.now.kind) }
 {
     let Some(name) = name_of(alloc, token)? else {
         return Err(Stop::Unexpected);
     };
-    begun_still(frames, Begun::Place(Place::Let(line, defs)), held, rooms)?;
+    begun_still(frames, Begun::Place(Place::Let(line, defs)), held)?;
     Ok(due(frames, Place::Named(name), NOTHING)?)
 }
 
@@ -651,24 +633,21 @@ fn due_in(
     frames: &mut Frames,
     place: Place,
     held: Size,
-    rooms: Rooms,
     token: &Token,
 ) -> Result<Now, Stop>
     requires held { held ≡ held_in (Begun.Place place) }
-    requires rooms { AreRooms true (place_on place (stack_of frames.old)) rooms.items }
+    requires rooms { HasRoomsFor frames.old (place_on place (stack_of frames.old)) }
     ensures { Steps (stack_of frames.new) result (take_due (place_on place (stack_of frames.old)) token.now.line token.now.text.now token.now.kind) }
 {
     match place {
         Place::Block(line, free, decls, commands) => {
-            in_block(
-                alloc, frames, line, free, decls, commands, held, rooms, token,
-            )
+            in_block(alloc, frames, line, free, decls, commands, held, token)
         }
-        Place::Let(line, defs) => in_let(alloc, frames, line, defs, held, rooms, token),
-        Place::Named(name) => named(alloc, frames, name, rooms, token),
-        Place::Formals(name) => formals(alloc, frames, name, rooms, token),
-        Place::Formal(name, formals) => formal(alloc, frames, name, formals, rooms, token),
-        Place::FormalEnd(name, formals) => formal_end(frames, name, formals, rooms, token),
+        Place::Let(line, defs) => in_let(alloc, frames, line, defs, held, token),
+        Place::Named(name) => named(alloc, frames, name, token),
+        Place::Formals(name) => formals(alloc, frames, name, token),
+        Place::Formal(name, formals) => formal(alloc, frames, name, formals, token),
+        Place::FormalEnd(name, formals) => formal_end(frames, name, formals, token),
         Place::Headed(name, formals) => headed(frames, name, formals, token),
         Place::Variable(names) => variable(alloc, frames, names, token),
         Place::VariableEnd(names) => variables(alloc, frames, names, token),
@@ -772,9 +751,13 @@ pub fn at_place(alloc: Global, frames: &mut Frames, token: &Token) -> Result<Now
     let Some(top) = pop(frames) else {
         return in_section(alloc, frames, token);
     };
-    let Frame { begun, held, rooms } = top;
+    let Frame {
+        begun,
+        held,
+        spare: _,
+    } = top;
     match begun {
-        Begun::Place(place) => due_in(alloc, frames, place, held, rooms, token),
+        Begun::Place(place) => due_in(alloc, frames, place, held, token),
         Begun::Point(point) => due_within(alloc, frames, point, held, token),
         _ => Err(Stop::Unexpected),
     }

@@ -13,16 +13,14 @@ ghost use Rattle.bk_grammar.specs.Grammar.{last};
 ghost use Rattle.bk_tree.specs.Parts.{line_of};
 ghost use Rattle.bk_grammar.specs.Machine.{Stack, limit, push, infixed, in_chain, in_args, in_table, bars, no_args, take_operand, give, want, begin, due, have};
 ghost use Rattle.bk_frames.specs.Begun.{begun_on, operand_on, phrase_on, member_on, clause_on, place_on, point_on};
-ghost use Rattle.bk_frames.specs.Rooms.{AreRooms};
 ghost use Rattle.bk_frames.specs.Stacked.{stack};
-ghost use Rattle.bk_frames.specs.Frames.{stack_of, state, Steps, Answers, Lowers, Falls};
+ghost use Rattle.bk_frames.specs.Frames.{stack_of, HasRoomsFor, state, Steps, Answers, Lowers, Falls};
 
 use bk_base::Line;
 use bk_frames::frame::{
     Begun, Clause, Flow, Frame, Member, Now, Operand, Phrase, Place, Point, Size, Sized, Stop,
 };
 use bk_frames::frames::Frames;
-use bk_frames::room::Rooms;
 use bk_frames::size::{LEAF, NOTHING, are_none, both, of_node};
 use bk_frames::top::{begun, begun_still, pop};
 use bk_grammar::spelling::name;
@@ -89,18 +87,13 @@ pub fn due(frames: &mut Frames, place: Place, held: Size) -> Result<Now, AllocEr
     Ok(Now::Due)
 }
 
-/// Puts on top a place of a block or a definition, where a symbol is due, in the room that was there before.
-pub fn due_still(
-    frames: &mut Frames,
-    place: Place,
-    held: Size,
-    rooms: Rooms,
-) -> Result<Now, AllocError>
+/// Puts on top a place of a block or a definition, where a symbol is due, in place of what had the same rooms there before.
+pub fn due_still(frames: &mut Frames, place: Place, held: Size) -> Result<Now, AllocError>
     requires held { held ≡ held_in (Begun.Place place) }
-    requires rooms { AreRooms true (place_on place (stack_of frames.old)) rooms.items }
+    requires rooms { HasRoomsFor frames.old (place_on place (stack_of frames.old)) }
     ensures { IfOk result (λ now. state (stack_of frames.new) now ≡ due (place_on place (stack_of frames.old))) }
 {
-    begun_still(frames, Begun::Place(place), held, rooms)?;
+    begun_still(frames, Begun::Place(place), held)?;
     Ok(Now::Due)
 }
 
@@ -334,7 +327,7 @@ fn no_arguments(frames: &mut Frames) -> Result<Now, Stop>
     let Frame {
         begun,
         held,
-        rooms: _,
+        spare: _,
     } = top;
     let Begun::Operand(operand) = begun else {
         return Err(Stop::Unexpected);

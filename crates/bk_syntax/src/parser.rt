@@ -12,7 +12,8 @@ ghost use Rattle.bk_syntax.specs.Parsing.{tags, Closes, steps, AfterSymbols, why
 ghost use Rattle.bk_tree.specs.Section.{declarations_of};
 ghost use Rattle.bk_grammar.specs.SyntaxFault.{IsSection};
 ghost use Rattle.bk_tree.specs.Limits.{Within};
-ghost use Rattle.bk_frames.specs.Bounds.{Bounded};
+ghost use Rattle.bk_frames.specs.Bounds.{Always, Bounded};
+ghost use Rattle.bk_frames.specs.WaysOn.{Completes};
 
 use crate::commands::{again, command, complete_clause, complete_phrase, did, guarded};
 use crate::definitions::{at_place, complete_command, complete_definition, complete_member};
@@ -85,7 +86,7 @@ fn behind_expression(
     let Frame {
         begun,
         held,
-        rooms: _,
+        spare: _,
     } = top;
     complete_part(alloc, frames, begun, held, sized, token)
 }
@@ -110,7 +111,7 @@ fn behind_command(
     let Frame {
         begun,
         held,
-        rooms: _,
+        spare: _,
     } = top;
     match begun {
         Begun::Clause(clause) => complete_clause(alloc, frames, clause, held, done, token),
@@ -131,7 +132,7 @@ fn without_command(alloc: Global, frames: &mut Frames, token: &Token) -> Result<
     let Frame {
         begun,
         held,
-        rooms: _,
+        spare: _,
     } = top;
     let Begun::Clause(clause) = begun else {
         return Err(Stop::Unexpected);
@@ -287,10 +288,11 @@ fn repeat_step(
     Ok(())
 }
 
-/// Whether a section within the limits begins so, or why none does.
-fn limit(frames: &Frames, now: &Now) -> Result<(), Why>
-    ensures bounded { OnOk result (Bounded (state (stack_of frames.now) now.now)) }
-    ensures passed { IfErr result (λ why. IsPassed why (state (stack_of frames.now) now.now)) }
+/// Whether a section within the limits begins so, where a section does, or why none does.
+fn limit(frames: &mut Frames, now: &Now) -> Result<(), Why>
+    ensures stack { stack_of frames.new ≡ stack_of frames.old }
+    ensures bounded { OnOk result (Completes Always (state (stack_of frames.new) now.now) → Bounded (state (stack_of frames.new) now.now)) }
+    ensures passed { IfErr result (λ why. IsPassed why (state (stack_of frames.new) now.now)) }
 {
     if is_bounded(frames, now)? {
         return Ok(());
@@ -365,7 +367,7 @@ fn advance<'a>(
     now: &mut Now,
     token: &Token<'a>,
 ) -> Result<(), Why>
-    ensures bounded { OnOk result (Bounded (state (stack_of frames.new) now.new)) }
+    ensures bounded { OnOk result (Completes Always (state (stack_of frames.new) now.new) → Bounded (state (stack_of frames.new) now.new)) }
     ensures goes { (u : List Symbol) → AfterSymbols u (tags opened.old.items) (state (stack_of frames.old) now.old) → Advances frames.new opened.new.items (answered (reached result now.new) token.now.line) u (symbol_of token.now) }
 {
     take(alloc, frames, opened, now, token)?;
@@ -381,6 +383,7 @@ fn whole(frames: Frames, now: Now, end: Line) -> Result<Section, Refused<SourceF
         decls,
         held: _,
         above,
+        rooms: _,
         alloc: _,
     } = frames;
     match now {
@@ -434,6 +437,7 @@ pub fn parse(alloc: Global, tokens: &[Token], end: Line) -> Result<Section, Refu
         decls: Vec::new(alloc),
         held: NOTHING,
         above: Vec::new(alloc),
+        rooms: Vec::new(alloc),
         alloc,
     };
     let mut opened = Vec::new(alloc);

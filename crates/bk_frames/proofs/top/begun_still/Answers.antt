@@ -1,7 +1,16 @@
-use Rattle.bk_frames.proofs.Stacks.{rooms_pushed}
+use Rattle.std.proofs.Common.{subst}
+use Rattle.bk_frames.specs.declared.frame.Size.{Size}
+use Rattle.bk_frames.specs.Spares.{spare_of_section, Leaves}
+use Rattle.bk_frames.proofs.Stacks.{spared_pushed, rooms_pushed}
 use Rattle.bk_frames.proofs.top.begun_still.Goals as goal
+
+pub invariant_of-frames-clause-spared : goal.invariant_of-frames-clause-spared
+invariant_of-frames-clause-spared c =
+    let x = c.args.frames.now in
+    let P : Size → Type 0 = λ z. Leaves z c.args.begun c.spare_above-spare.result in
+    spared_pushed _ (spare_of_section x.held) x.above.items _ _ c.push.ensures.items x.spared (subst P c.spare_of.ensures.spare c.spare_above-spare.ensures.leaves)
 
 pub invariant_of-frames-clause-roomy : goal.invariant_of-frames-clause-roomy
 invariant_of-frames-clause-roomy c =
     let x = c.args.frames.now in
-    rooms_pushed _ x.decls.items x.above.items _ _ c.push.ensures.items x.roomy c.requires.rooms
+    rooms_pushed _ x.decls.items x.above.items _ _ x.rooms.items c.push.ensures.items x.roomy c.requires.rooms

@@ -1,9 +1,9 @@
-use Rattle.std.proofs.Common.{Err, take, arith}
+use Rattle.std.proofs.Common.{◌+◌, Err, take, arith}
 use Rattle.bk_lex.specs.Symbol.{symbols_of}
 use Rattle.bk_frames.specs.Frames.{stack_of, state}
 use Rattle.bk_syntax.specs.Parsing.{tags, told}
 use Rattle.bk_syntax.proofs.Behind.{from_nothing, one_further, all_read}
-use Rattle.bk_syntax.proofs.Told.{told_of, ended, gives_only}
+use Rattle.bk_syntax.proofs.Told.{behind_completes, told_of, ended, gives_only}
 use Rattle.bk_frames.proofs.Finished.{empty_bounded, within_limits}
 use Rattle.bk_syntax.proofs.parser.parse.Goals as goal
 
@@ -17,10 +17,12 @@ pub loop-token-preserved : goal.loop-token-preserved
 loop-token-preserved c =
     let ts = c.args.tokens.now in
     let i = c.loop-token.token-index in
-    let further = rw c.in_default.is at c.advance.ensures in (
-      one_further ts i c.token-item.result (tags c.advance.new.opened.items) (state (stack_of c.advance.new.frames) c.advance.new.now) c.loop-token-test.true c.token-item.is
-          (further.goes (symbols_of (take i ts)) c.loop-token.invariant.0),
-      further.bounded,
+    let further = rw c.in_default.is at c.advance.ensures in
+    let opens = tags c.advance.new.opened.items in
+    let x = state (stack_of c.advance.new.frames) c.advance.new.now in
+    let after = one_further ts i c.token-item.result opens x c.loop-token-test.true c.token-item.is (further.goes (symbols_of (take i ts)) c.loop-token.invariant.0) in (
+      after,
+      further.bounded (behind_completes (symbols_of (take (i + 1) ts)) opens x after),
     )
 
 pub returns-in-Err : goal.returns-in-Err
