@@ -68,6 +68,12 @@ flow st (f.Gives y) l x t = give st (expression y.expr) l x t
 flow st (f.Does y) l x t = finish st (action y.command) l x t
 flow st (f.Defines y) l x t = defined_by st (definition y.def) l x t
 
+-- what becomes of the part that a state holds
+abbrev pub flow_of : Now → Flow
+flow_of (n.Have x) = f.Gives x
+flow_of (n.Did x) = f.Does x
+flow_of x = f.Stay x
+
 abbrev pub Flows : Stack → Result Flow Stop → ℕ → List ℕ → Kind → Option State → Type 0
 Flows st (Ok y) l x t next = next ≡ flow st y l x t
 Flows st (Err s.Memory) l x t next = Unit {0}

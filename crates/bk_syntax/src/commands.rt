@@ -297,6 +297,7 @@ fn limited(
 }
 
 /// An expression of a command is complete, with which the symbol behind it does not go on.
+#[inline(never)]
 pub fn complete_phrase(
     alloc: Global,
     frames: &mut Frames,

@@ -178,6 +178,7 @@ fn constant(
 }
 
 /// An expression of a definition or an item is complete, with which the symbol behind it does not go on.
+#[inline(never)]
 #[tactic(auto, using(bk_tree::proofs::Trees::more_sizes))]
 pub fn complete_member(
     alloc: Global,

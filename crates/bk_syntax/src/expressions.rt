@@ -344,9 +344,10 @@ fn no_arguments(frames: &mut Frames) -> Result<Now, Stop>
     }
 }
 
-/// An operand is due, and this symbol comes.
+/// An operand is due, and this symbol comes, which is no name and no number.
+#[inline(never)]
 #[tactic(auto, using(bk_frames::proofs::Turns::operand_cases))]
-pub fn operand(alloc: Global, frames: &mut Frames, token: &Token) -> Result<Now, Stop>
+fn other_operand(alloc: Global, frames: &mut Frames, token: &Token) -> Result<Now, Stop>
     ensures { Steps (stack_of frames.new) result (take_operand (stack_of frames.old) token.now.line token.now.text.now token.now.kind) }
 {
     if let Some(expr) = leaf_of(alloc, token)? {
@@ -366,6 +367,17 @@ pub fn operand(alloc: Global, frames: &mut Frames, token: &Token) -> Result<Now,
             Ok(want(frames, Operand::Table(token.line, Vec::new(alloc)), NOTHING)?)
         }
         None => Err(Stop::Unexpected),
+    }
+}
+
+/// An operand is due, and this symbol comes.
+pub fn operand(alloc: Global, frames: &mut Frames, token: &Token) -> Result<Now, Stop>
+    ensures { Steps (stack_of frames.new) result (take_operand (stack_of frames.old) token.now.line token.now.text.now token.now.kind) }
+{
+    match token.kind {
+        Kind::Name => Ok(leaf(Expr::Name(token.line, name(alloc, token.text)?))),
+        Kind::Number => Ok(leaf(Expr::Number(token.line, number_word(token.text)))),
+        _ => other_operand(alloc, frames, token),
     }
 }
 
@@ -468,6 +480,7 @@ fn chained(
 }
 
 /// An operand is complete, with which the symbol behind it does not go on.
+#[inline(never)]
 pub fn complete(
     alloc: Global,
     frames: &mut Frames,

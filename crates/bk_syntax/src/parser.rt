@@ -5,9 +5,9 @@ ghost use Rattle.bk_lex.specs.Values.{upper_name};
 ghost use Rattle.bk_tree.specs.Tree.{Declarations, expression, action, declarations_in};
 ghost use Rattle.bk_grammar.specs.Spelling.{tag_of};
 ghost use Rattle.bk_grammar.specs.Rows.{goes};
-ghost use Rattle.bk_grammar.specs.Machine.{limit, opens, closes, give, finish, without, stepped_by, whole, run, due, in_section};
+ghost use Rattle.bk_grammar.specs.Machine.{limit, opens, closes, give, finish, without, stepped_by, whole, run, due, maybe, in_section};
 ghost use Rattle.bk_frames.specs.Begun.{begun_on, held_in};
-ghost use Rattle.bk_frames.specs.Frames.{stack_of, state, flow, Steps, Answers, Lowers, Falls};
+ghost use Rattle.bk_frames.specs.Frames.{stack_of, state, flow, flow_of, Steps, Answers, Lowers, Falls};
 ghost use Rattle.bk_syntax.specs.Parsing.{tags, Closes, steps, AfterSymbols, why_of, answered, reached, IsPassed, Advances, AnswersAtEnd, Parses, Gives};
 ghost use Rattle.bk_tree.specs.Section.{declarations_of};
 ghost use Rattle.bk_grammar.specs.SyntaxFault.{IsSection};
@@ -33,6 +33,7 @@ use std::alloc::Global;
 use std::mem;
 
 /// An expression is complete in what was begun, with which the symbol behind it does not go on.
+#[inline(always)]
 fn complete_part(
     alloc: Global,
     frames: &mut Frames,
@@ -182,6 +183,7 @@ fn step_over(alloc: Global, frames: &mut Frames, token: &Token) -> Result<Now, S
 }
 
 /// What stands on the frames now, where a symbol was taken.
+#[inline(always)]
 fn stands(now: &mut Now, taken: Result<Now, Stop>) -> Result<(), Stop>
     ensures { reached result now.new ≡ taken }
 {
@@ -194,23 +196,39 @@ fn stands(now: &mut Now, taken: Result<Now, Stop>) -> Result<(), Stop>
     }
 }
 
+/// Takes the symbol behind the part that is complete so far.
+#[inline(never)]
+fn step_behind(alloc: Global, frames: &mut Frames, now: &mut Now, token: &Token) -> Result<(), Stop>
+    ensures { Steps (stack_of frames.new) (reached result now.new) (flow (stack_of frames.old) (flow_of now.old) token.now.line token.now.text.now token.now.kind) }
+{
+    let taken = match mem::replace(now, Now::Due) {
+        Now::Have(sized) => settle(alloc, frames, Flow::Gives(sized), token),
+        Now::Did(done) => settle(alloc, frames, Flow::Does(done), token),
+        other => Ok(other),
+    };
+    stands(now, taken)
+}
+
+/// Takes the symbol where a command may come.
+fn step_maybe(alloc: Global, frames: &mut Frames, token: &Token) -> Result<Now, Stop>
+    ensures { Steps (stack_of frames.new) result (stepped_by (maybe (stack_of frames.old)) token.now.line token.now.text.now token.now.kind) }
+{
+    if starts_command(token.kind) {
+        return command(alloc, frames, token);
+    }
+    step_over(alloc, frames, token)
+}
+
 /// Takes the next symbol, a section bracket once for each section that it opens or closes.
 fn step(alloc: Global, frames: &mut Frames, now: &mut Now, token: &Token) -> Result<(), Stop>
     ensures { Steps (stack_of frames.new) (reached result now.new) (stepped_by (state (stack_of frames.old) now.old) token.now.line token.now.text.now token.now.kind) }
 {
-    let taken = match mem::replace(now, Now::Due) {
+    let taken = match now {
         Now::Want => operand(alloc, frames, token),
-        Now::Have(sized) => settle(alloc, frames, Flow::Gives(sized), token),
         Now::Begin => command(alloc, frames, token),
-        Now::Maybe => {
-            if starts_command(token.kind) {
-                command(alloc, frames, token)
-            } else {
-                step_over(alloc, frames, token)
-            }
-        }
-        Now::Did(done) => settle(alloc, frames, Flow::Does(done), token),
+        Now::Maybe => step_maybe(alloc, frames, token),
         Now::Due => at_place(alloc, frames, token),
+        Now::Have(_) | Now::Did(_) => return step_behind(alloc, frames, now, token),
     };
     stands(now, taken)
 }
