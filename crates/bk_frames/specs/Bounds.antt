@@ -25,7 +25,7 @@ Bounded x = Completes (AtMost TREE_DEPTH TREE_NODES) x
 abbrev pub BoundedInDepth : State → Type 0
 BoundedInDepth x = Completes (LevelsAtMost TREE_DEPTH) x
 
--- every section that goes on passes the limit of this kind, and not every one passes that which is told before it
+-- every section that goes on passes the limit of this kind, and not every one passes that which is reported before it
 abbrev pub Passed : SourceKind → State → Type 0
 Passed NestedTooDeeply x = BoundedInDepth x → ⊥
 Passed TooManyNodes x = BoundedInDepth x × (Bounded x → ⊥)

@@ -31,7 +31,7 @@ use Rattle.bk_grammar.specs.Machine.{Stack, State, in_block, in_let, at_opening,
 abbrev pub stack_of : Frames → Stack
 stack_of x = stack x.decls.items x.above.items
 
--- the rooms that are kept behind those of what was begun, if there are any, are those of this stack
+-- the rooms that are kept after those of what was begun, if there are any, are those of this stack
 abbrev pub HasRoomsFor : Frames → Stack → Type 0
 HasRoomsFor x st = (r : FrameRooms) → slice_get x.rooms.items (length x.above.items) ≡ Some r → AreRooms true st r.rooms.items
 
@@ -61,7 +61,7 @@ Steps st (Ok now) next = next ≡ Some (state st now)
 Steps st (Err s.Memory) next = Unit {0}
 Steps st (Err s.Unexpected) next = next ≡ None
 
--- how a part that is complete goes on below, with a symbol behind it
+-- how a part that is complete goes on below, with a symbol after it
 abbrev pub flow : Stack → Flow → ℕ → List ℕ → Kind → Option State
 flow st (f.Stay now) l x t = Some (state st now)
 flow st (f.Gives y) l x t = give st (expression y.expr) l x t
@@ -79,7 +79,7 @@ Flows st (Ok y) l x t next = next ≡ flow st y l x t
 Flows st (Err s.Memory) l x t next = Unit {0}
 Flows st (Err s.Unexpected) l x t next = next ≡ None
 
--- the same, behind this token
+-- the same, after this token
 abbrev pub Answers : Frames → Result Flow Stop → Token → (ℕ → List ℕ → Kind → Option State) → Type 0
 Answers new result t next = Flows (stack_of new) result t.line t.text.now t.kind (next t.line t.text.now t.kind)
 

@@ -135,7 +135,7 @@ raised false n = n
 abbrev pub met : Next → Bool → Option Met
 met c m = Some (record { next = c; more = m })
 
--- the symbol behind the part is the one behind the whole
+-- the symbol after the part is the one after the whole
 abbrev pub keeps_symbol : Link → Bool
 keeps_symbol l.Each = true
 keeps_symbol l.Unlisted = true
@@ -143,7 +143,7 @@ keeps_symbol l.Ended = true
 keeps_symbol l.Closing = true
 keeps_symbol _ = false
 
--- the symbol behind a part where this one comes behind the whole
+-- the symbol after a part where this one comes after the whole
 abbrev pub reached : Link → Next → Option Met
 reached l.Each c = met c false
 reached l.Unlisted c = cond (is_listing c) None (met c false)
@@ -163,7 +163,7 @@ deep x k y d n e m = record { whom = x; link = k; onto = y; floor = d + e; rise 
 abbrev pub beside : Whom → Link → Whom → ℕ → ℕ → ℕ → ℕ → Way
 beside x k y d n e m = record { whom = x; link = k; onto = y; floor = max d e; rise = 0; nodes = n + m }
 
--- whether an operator behind a VALOF on this stack goes on more than the operand that the VALOF is
+-- whether an operator after a VALOF on this stack goes on more than the operand that the VALOF is
 abbrev pub is_tight : Stack → Bool
 is_tight (in_binary o s a st) = not (nat_lt 1 (inner o))
 is_tight _ = false
@@ -200,12 +200,12 @@ abbrev pub ways_of_valof : Bool → Ways
 ways_of_valof true = Three (node Command l.Ended Expression 0 0 0) (deep Command (l.Then Going) Call 0 0 2 2) (node Command (l.Then Operating) Operated 0 0 0)
 ways_of_valof false = Three (node Command l.Ended Expression 0 0 0) (deep Command (l.Then Going) Call 0 0 2 2) (deep Command (l.Then Operating) Expression 0 0 2 3)
 
--- a name may be a label, with a command behind the colon or without; a call may be a command; any expression may be a
+-- a name may be a label, with a command after the colon or without; a call may be a command; any expression may be a
 -- destination
 abbrev pub ways_of_start : Ways
 ways_of_start = Five (node Expression (l.ThenClosed Assigning) Command 0 0 1) (node Expression (l.ThenClosed Listing) Command 0 0 3) (beside Label (l.ThenMissing Closing) Command 0 0 1 0) (beside Call l.Closing Command 0 0 0 0) (node Call (l.Then Repeating) Command 0 0 0)
 
--- behind a colon
+-- after a colon
 abbrev pub ways_of_labelled : ℕ → ℕ → Ways
 ways_of_labelled d n = Two (node Command l.Each Command d n 0) (beside Missing (l.ThenMissing Closing) Command d n (d + 1) 1)
 
@@ -290,7 +290,7 @@ abbrev pub Tight : Bool → Type 0 → Type 0
 Tight true X = X
 Tight false X = ⊥
 
--- with such a part on this stack, and such a symbol behind it, a section with P goes on
+-- with such a part on this stack, and such a symbol after it, a section with P goes on
 abbrev pub Part : (ℕ → ℕ → Type 0) → Stack → Whom → w.Next → ℕ → ℕ → Type 0
 Part P st Expression c d n = Gives P st f.Other d n c
 Part P st Label c d n = Gives P st f.Label d n c
@@ -313,7 +313,7 @@ Sized _ d n = Unit {0}
 
 -- ---- what the ways come to
 
--- for a part, the symbol behind it, its depth and its nodes
+-- for a part, the symbol after it, its depth and its nodes
 abbrev pub Test : Type 0
 Test = Whom → w.Next → ℕ → ℕ → Bool
 
@@ -344,7 +344,7 @@ is_outer _ = false
 abbrev pub within : Bool → ℕ → ℕ → Bool
 within b d n = nat_le d TREE_DEPTH && nat_le (counted b n) TREE_NODES
 
--- a declaration, or the symbol that is due, behind those of a section
+-- a declaration, or the symbol that is due, after those of a section
 abbrev pub in_bounds : Bool → ℕ → ℕ → Test
 in_bounds b e m x c d n = is_outer x && (is_next w.closing c && within b (max e d) (m + n))
 

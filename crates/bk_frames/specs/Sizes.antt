@@ -59,7 +59,7 @@ are_no_items (item l x y is) = false
 abbrev pub due_items : Items → ℕ
 due_items is = cond (are_no_items is) 2 0
 
--- how many parts are still to come behind the one that is read, of so many
+-- how many parts are still to come after the one that is read, of so many
 abbrev pub owed : ℕ → ℕ → ℕ
 owed all done = all - done - 1
 

@@ -1,5 +1,5 @@
 -- What is spare of the limits: a bound from below of the rooms, that costs little. A part of at most so many levels and nodes
--- leaves the section within the limits, whatever the part is and whatever symbol comes behind it.
+-- leaves the section within the limits, whatever the part is and whatever symbol comes after it.
 use Rattle.std.specs.Prelude.{ℕ, ◌+◌, ◌-◌, ◌≤◌, ◌<◌, cond, nat_le, length}
 use Rattle.bk_base.specs.declared.limit.TheConstants.{TREE_DEPTH, TREE_NODES}
 use Rattle.bk_tree.specs.Tree.{no_declarations}

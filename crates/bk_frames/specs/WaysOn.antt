@@ -12,7 +12,7 @@ use Rattle.bk_tree.specs.Parts.{size, start_count}
 use Rattle.bk_grammar.specs.Machine.{Stack, State, in_section, in_block, in_let, at_name, at_formals, at_formal, at_formal_end, at_head, at_variable, at_variable_end, at_starts, at_opening, at_items, at_sign, at_goto, at_for, at_forward, at_default, in_parens, in_unary, in_binary, in_chain, in_then, in_else, in_args, in_table, in_start, in_dests, in_values, in_guard, in_test, in_result, in_while, in_from, in_to, in_by, in_item, in_function, in_value, in_vector, in_valof, in_label, in_guarded, in_default, in_do, in_or, in_for, in_routine, want, have, begin, maybe, did, due}
 use Rattle.bk_frames.specs.Sizes.{form_of, owed}
 
--- the symbol behind a part, by what within the part takes it as its own: nothing, a call, a call or a TABLE, an expression, a
+-- the symbol after a part, by what within the part takes it as its own: nothing, a call, a call or a TABLE, an expression, a
 -- command; the last is an operator that begins no command, so that it may come where a command is missing
 pub data Next : Type 0 where
   closing : Next
@@ -59,20 +59,20 @@ abbrev pub If : Bool → (Next → Type 0) → (Next → Type 0) → Next → Ty
 If true F G c = F c
 If false F G c = G c
 
--- behind a command that an expression ends: an expression goes on, so that a REPEAT has to come before what does not
+-- after a command that an expression ends: an expression goes on, so that a REPEAT has to come before what does not
 abbrev pub Closed : (ℕ → ℕ → Next → Type 0) → ℕ → ℕ → Next → Type 0
 Closed F d n going = ⊥
 Closed F d n operating = ⊥
 Closed F d n repeating = Any (F (d + 1) (n + 1))
 Closed F d n c = F d n c
 
--- where no command comes behind a colon: what begins one, as `(` does, would be taken for it
+-- where no command comes after a colon: what begins one, as `(` does, would be taken for it
 abbrev pub Missing : (ℕ → ℕ → Next → Type 0) → ℕ → ℕ → Next → Type 0
 Missing F d n going = ⊥
 Missing F d n repeating = Any (F (d + 1) (n + 1))
 Missing F d n c = F d n c
 
--- behind an expression at the start of a command: it is a destination, a label with a command or without, or a call
+-- after an expression at the start of a command: it is a destination, a label with a command or without, or a call
 abbrev pub Started : (ℕ → ℕ → Next → Type 0) → Form → ℕ → ℕ → Next → Type 0
 Started F f d n assigning = Any (Closed F (max d 1 + 1) (n + 2))
 Started F f d n listing = Any (Closed F (max d 1 + 1) (n + 4))
@@ -81,7 +81,7 @@ Started F Call d n closing = F d n closing
 Started F Call d n repeating = Any (F (d + 1) (n + 1))
 Started F _ d n _ = ⊥
 
--- behind the command of a VALOF, which may be called
+-- after the command of a VALOF, which may be called
 abbrev pub Answered : (Form → ℕ → ℕ → Next → Type 0) → (ℕ → ℕ → Type 0) → ℕ → ℕ → Next → Type 0
 Answered G H d n going = Any (G Call (d + 2) (n + 2))
 Answered G H d n operating = H (d + 1) (n + 1)
@@ -92,7 +92,7 @@ Answered G H d n c = G Callable (d + 1) (n + 1) c
 abbrev pub Whole : (Form → ℕ → ℕ → Next → Type 0) → Form → ℕ → ℕ → Type 0
 Whole G f d n = Any (G f d n) ⊎ Any (G Call (d + 1) (n + 1))
 
--- behind the sign of a guard: behind that of a CASE no command need come
+-- after the sign of a guard: after that of a CASE no command need come
 abbrev pub Guarded : Guard → (ℕ → ℕ → Next → Type 0) → ℕ → ℕ → Type 0
 Guarded g.Case F d n = Any (Missing F (d + 1) (n + 1)) ⊎ Any (F (max d 1 + 1) (n + 2))
 Guarded _ F d n = Any (F (max d 1 + 1) (n + 2))
@@ -140,7 +140,7 @@ abbrev mutual
       (AtListing (Defines P st (max (depth_of_starts is) (max d 1) + 1) (nodes_of_starts is + n + owed (length xs) (start_count is) + 1))) c
   Gives P _ f d n c = ⊥
 
-  -- the same of a command; behind one that is repeated comes what comes behind it
+  -- the same of a command; after one that is repeated comes what comes after it
   pub Does : (ℕ → ℕ → Type 0) → Stack → ℕ → ℕ → Next → Type 0
   Does P (in_valof l st) d n c = Answered (Gives P st) (Operates P st (Gives P st)) d n c
   Does P (in_label l x st) d n c = Does P st (d + 1) (n + 1) c
@@ -153,7 +153,7 @@ abbrev mutual
   Does P (in_block l b ds cs st) d n c = AtClosing (Any (Does P st (max (depth_of_declarations ds) (max (depth_of_actions cs) d) + 1) (nodes_of_declarations ds + (nodes_of_actions cs + n) + 1))) c
   Does P _ d n c = ⊥
 
-  -- behind an expression on this stack, where G is Gives of it, an operator comes that begins no command, and a name; `%` is the tightest, and goes on all but the
+  -- after an expression on this stack, where G is Gives of it, an operator comes that begins no command, and a name; `%` is the tightest, and goes on all but the
   -- right operand of its own row
   pub Operates : (ℕ → ℕ → Type 0) → Stack → (Form → ℕ → ℕ → Next → Type 0) → ℕ → ℕ → Type 0
   Operates P (in_binary o s a st) G d n = Taken (nat_lt 1 (inner o)) (Any (G Other (d + 1) (n + 2))) (Operates P st (Gives P st) (max (depth a) d + 1) (nodes a + n + 1))
@@ -175,7 +175,7 @@ abbrev pub Wants : (ℕ → ℕ → Type 0) → Stack → Type 0
 Wants P (in_args s x none st) = Whole (Gives P st) Call (depth x + 1) (nodes x + 1)
 Wants P st = Any (Gives P st Label 1 1)
 
--- no command comes behind a colon
+-- no command comes after a colon
 abbrev pub Misses : (ℕ → ℕ → Type 0) → Stack → Type 0
 Misses P (in_label l x st) = Any (Missing (Does P st) 1 1)
 Misses P (in_guarded k l e st) = Any (Missing (Does P st) (depth e + 1) (nodes e + 1))

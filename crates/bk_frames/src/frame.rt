@@ -42,9 +42,9 @@ pub enum Operand {
 pub enum Phrase {
     /// The first expression of a command.
     Start,
-    /// A destination behind these.
+    /// A destination after these.
     Dests(Vec<Expr>),
-    /// A value behind these, for the destinations.
+    /// A value after these, for the destinations.
     Values(Vec<Expr>, Vec<Expr>),
     Guard(Guard, Line),
     Test(Line),
@@ -60,10 +60,10 @@ pub enum Phrase {
 /// An item or a definition that was begun; an expression of it is read now.
 #[derive(Drop)]
 pub enum Member {
-    /// The constant of an item behind the items so far.
+    /// The constant of an item after the items so far.
     Item(Line, Sort, Vec<Item>, Name),
     Function(Name, Vec<Name>),
-    /// An item of a LET behind these, a VEC with its line.
+    /// An item of a LET after these, a VEC with its line.
     Value(Vec<Name>, Vec<Init>),
     Vector(Line, Vec<Name>, Vec<Init>),
 }
@@ -86,30 +86,30 @@ pub enum Clause {
 pub enum Place {
     /// In a block; whether a command may come.
     Block(Line, bool, Vec<Decl>, Vec<Command>),
-    /// The name of a definition, behind these.
+    /// The name of a definition, after these.
     Let(Line, Vec<Def>),
-    /// Behind that name.
+    /// After that name.
     Named(Name),
-    /// Behind the `(` of a procedure.
+    /// After the `(` of a procedure.
     Formals(Name),
-    /// Behind a `,` between formals, and behind a formal.
+    /// After a `,` between formals, and after a formal.
     Formal(Name, Vec<Name>),
     FormalEnd(Name, Vec<Name>),
-    /// Behind the `)`.
+    /// After the `)`.
     Headed(Name, Vec<Name>),
-    /// Behind a `,` between the names of variables, and behind a further name.
+    /// After a `,` between the names of variables, and after a further name.
     Variable(Vec<Name>),
     VariableEnd(Vec<Name>),
-    /// Behind the `=` or a `,` between the items of a LET.
+    /// After the `=` or a `,` between the items of a LET.
     Inits(Vec<Name>, Vec<Init>),
 }
 
 /// A place in MANIFEST, STATIC or GLOBAL, or in a command, where a symbol is due.
 #[derive(Drop)]
 pub enum Point {
-    /// Behind MANIFEST, STATIC or GLOBAL.
+    /// After MANIFEST, STATIC or GLOBAL.
     Opening(Line, Sort),
-    /// Between the items, and behind the name of one.
+    /// Between the items, and after the name of one.
     Items(Line, Sort, Vec<Item>),
     Signed(Line, Sort, Vec<Item>, Name),
     Goto(Line),
@@ -183,12 +183,12 @@ pub enum Now {
     Due,
 }
 
-/// What becomes of a part when a symbol comes behind it.
+/// What becomes of a part when a symbol comes after it.
 #[derive(Drop)]
 pub enum Flow {
     /// It stands so.
     Stay(Now),
-    /// It completed this expression, behind which the symbol comes.
+    /// It completed this expression, after which the symbol comes.
     Gives(Sized),
     /// It completed this command.
     Does(Done),

@@ -21,7 +21,7 @@ use crate::ways::{is_tight, ways};
 use bk_base::limit::{TREE_DEPTH, TREE_NODES};
 use std::alloc::{AllocError, Global};
 
-/// Adds the rooms of what was begun, with these parts, by those below it; there an operator behind a VALOF may go on more
+/// Adds the rooms of what was begun, with these parts, by those below it; there an operator after a VALOF may go on more
 /// than the operand that the VALOF is. Nodes are counted, or not.
 fn add_rooms_on(
     rooms: &mut Rooms,

@@ -13,10 +13,10 @@ pub enum Whom {
     Label,
     /// A call, which may be a command.
     Call,
-    /// An expression with which an operator behind a VALOF goes on.
+    /// An expression with which an operator after a VALOF goes on.
     Operated,
     Command,
-    /// No command behind a colon.
+    /// No command after a colon.
     Missing,
     Definition,
     Declaration,
@@ -26,7 +26,7 @@ pub enum Whom {
     Closed,
 }
 
-/// The symbol behind a part, by what within the part takes it as its own.
+/// The symbol after a part, by what within the part takes it as its own.
 #[derive(Clone, Copy)]
 pub enum Next {
     /// Nothing takes it.
@@ -43,7 +43,7 @@ pub enum Next {
     Operating,
 }
 
-/// Room for a part, behind which such a symbol comes: it may be at most so deep and have at most so many nodes.
+/// Room for a part, after which such a symbol comes: it may be at most so deep and have at most so many nodes.
 #[derive(Clone, Copy)]
 pub struct Room {
     pub whom: Whom,

@@ -67,7 +67,7 @@ fn is_room(room: &Room, whom: Whom, depth: u32, nodes: u32) -> bool
     serves(room.whom, whom) && depth <= room.depth && nodes <= room.nodes
 }
 
-/// Whether there is room for a part of this size, whatever comes behind it.
+/// Whether there is room for a part of this size, whatever comes after it.
 pub fn has_room(rooms: &[Room], counts: bool, whom: Whom, part: Size) -> bool
     ensures { (d n : ℕ) → part ≡ kept_size d n → result ≡ has_room rooms.now whom d (counted counts n) }
 {
@@ -126,7 +126,7 @@ fn raised(more: bool, number: u32) -> u32
     if more { plus(number, 1) } else { number }
 }
 
-/// The room that a way leaves of one, for a part behind which this symbol comes.
+/// The room that a way leaves of one, for a part after which this symbol comes.
 fn left_by(way: &Way, room: &Room, met: Met, counts: bool) -> Option<Room>
     requires { serves room.now.whom way.now.onto ≡ true }
     ensures { (e : Way) → IsKept way.now e → (x : Whom) (c : w.Next) (d n : ℕ) → holds_if result x c d n ≡ leads counts e room.now (Some met) x c d n }
@@ -164,7 +164,7 @@ fn left_of(way: &Way, room: &Room, counts: bool) -> Option<Room>
     }
 }
 
-/// Whether the symbol behind a part is the one behind the whole: of rooms that lie apart, such a way leaves rooms that do.
+/// Whether the symbol after a part is the one after the whole: of rooms that lie apart, such a way leaves rooms that do.
 fn keeps_symbol(link: Link) -> bool
     ensures { result ≡ keeps_symbol link }
 {

@@ -56,7 +56,7 @@ pub fn max(a: u32, b: u32) -> u32
     if a < b { b } else { a }
 }
 
-/// How many parts a list of `all` owes behind these.
+/// How many parts a list of `all` owes after these.
 pub fn rest(all: usize, done: usize) -> u32
     ensures { result ≡ kept (all - done) }
 {
@@ -68,7 +68,7 @@ pub fn rest(all: usize, done: usize) -> u32
     }
 }
 
-/// How many it owes behind these and the one that is read.
+/// How many it owes after these and the one that is read.
 pub fn owed(all: usize, done: usize) -> u32
     ensures { result ≡ kept (owed all done) }
 {

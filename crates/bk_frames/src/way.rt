@@ -7,25 +7,25 @@ use crate::frame::Size;
 use crate::room::{Next, Whom};
 use crate::size::{max, plus};
 
-/// Which symbol comes behind a part, and which then behind the whole that it completes.
+/// Which symbol comes after a part, and which then after the whole that it completes.
 #[derive(Clone, Copy)]
 pub enum Link {
-    /// Any, and the same behind the whole.
+    /// Any, and the same after the whole.
     Each,
-    /// Any but a comma, and the same behind the whole.
+    /// Any but a comma, and the same after the whole.
     Unlisted,
-    /// One that no expression takes and no REPEAT, and the same behind the whole.
+    /// One that no expression takes and no REPEAT, and the same after the whole.
     Ended,
-    /// One that nothing takes, and the same behind the whole.
+    /// One that nothing takes, and the same after the whole.
     Closing,
-    /// This one, and any behind the whole.
+    /// This one, and any after the whole.
     Then(Next),
-    /// This one, and behind the whole any but a comma.
+    /// This one, and after the whole any but a comma.
     ThenUnlisted(Next),
-    /// This one, and behind the whole, which an expression ends, any; one more command is around it before what an
+    /// This one, and after the whole, which an expression ends, any; one more command is around it before what an
     /// expression or a command takes.
     ThenClosed(Next),
-    /// This one, and behind the whole, which a missing command ends, any; one more command is around it before what
+    /// This one, and after the whole, which a missing command ends, any; one more command is around it before what
     /// begins a command or repeats one.
     ThenMissing(Next),
 }
@@ -52,7 +52,7 @@ pub enum Ways {
     Five(Way, Way, Way, Way, Way),
 }
 
-/// The symbol behind a part, and whether there is one command more around it.
+/// The symbol after a part, and whether there is one command more around it.
 #[derive(Clone, Copy)]
 pub struct Met {
     pub next: Next,
@@ -138,7 +138,7 @@ fn is_operating(next: Next) -> bool
     }
 }
 
-/// The symbol behind a part where this one comes behind the whole; None where it cannot come there.
+/// The symbol after a part where this one comes after the whole; None where it cannot come there.
 pub fn reached(link: Link, next: Next) -> Option<Met>
     ensures { result ≡ reached link next }
 {

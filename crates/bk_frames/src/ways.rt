@@ -21,21 +21,21 @@ const CLOSING: Link = Link::Then(Next::Closing);
 
 const LISTING: Link = Link::Then(Next::Listing);
 
-/// Whether the part that is read is the last of a list, behind so many.
+/// Whether the part that is read is the last of a list, after so many.
 fn is_last(all: usize, done: usize) -> bool
     ensures { result ≡ (all == done + 1) }
 {
     all > 0 && all - 1 == done
 }
 
-/// Whether an operator behind a VALOF that is the right operand of this one goes on the whole.
+/// Whether an operator after a VALOF that is the right operand of this one goes on the whole.
 fn is_tight_behind(operator: Operator) -> bool
     ensures { result ≡ not (nat_lt 1 (inner operator)) }
 {
     inner_row(operator) <= 1
 }
 
-/// Whether an operator behind a VALOF on this goes on more than the operand that the VALOF is.
+/// Whether an operator after a VALOF on this goes on more than the operand that the VALOF is.
 pub fn is_tight(begun: &Begun) -> bool
     ensures { (st : Stack) → result ≡ is_tight (begun_on begun.now st) }
 {
@@ -167,7 +167,7 @@ fn ways_of_start() -> Ways
     )
 }
 
-/// Those behind a colon.
+/// Those after a colon.
 fn ways_of_labelled(held: Size) -> Ways
     ensures { (d n : ℕ) → held ≡ kept_size d n → AreKept result (ways_of_labelled d n) }
 {
@@ -412,7 +412,7 @@ fn ways_of_point(point: &Point, held: Size) -> Ways
     }
 }
 
-/// The ways of what was begun, with these parts; below it an operator behind a VALOF may go on more than that operand.
+/// The ways of what was begun, with these parts; below it an operator after a VALOF may go on more than that operand.
 pub fn ways(begun: &Begun, held: Size, tight_below: bool) -> Ways
     requires { held ≡ held_in begun.now }
     ensures { (st : Stack) → tight_below ≡ is_tight st → AreKept result (ways (begun_on begun.now st)) }
