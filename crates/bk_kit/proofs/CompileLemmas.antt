@@ -12,7 +12,8 @@ use Rattle.bk_kit.specs.declared.kit_fault.KitFault.{KitFault}
 use Rattle.bk_kit.specs.declared.kit_fault.KitFault.TheVariants.{Source, Ocode, Intcode, TooSmall, NoStart, Read, Write, Memory}
 use Rattle.bk_kit.specs.declared.section.CompiledSection.{CompiledSection}
 use Rattle.bk_kit.specs.Interpreting.{is_read_fault}
-use Rattle.bk_kit.specs.ReadingSource.{cut_behind, Settles, IsDelivered}
+use Rattle.bk_kit.specs.ReadingSource.{Settles, IsDelivered}
+use Rattle.bk_lex.specs.Found.{cut_behind}
 use Rattle.bk_kit.specs.Sources.{bytes_of, codes_of, line_behind, texts_of}
 use Rattle.bk_kit.specs.CompilingSection.{codes_in, Compiled, Refuses}
 use Rattle.bk_kit.specs.Compiling.{AreAllTyped, Accepts, Takes, Comes, Delivers, PutsSections, Compiles}

@@ -13,6 +13,7 @@ use Rattle.bk_lex.specs.declared.counting.Act.TheVariants as acts
 use Rattle.bk_lex.specs.declared.cutter.Cut.TheVariants.{More}
 use Rattle.bk_lex.specs.Counting.{start, step_of, finished, ◌>>=◌}
 use Rattle.bk_lex.specs.Lexing.{Section, section, Reading, read, read_on, run, end_as, begin, is_dot, lexed}
+use Rattle.bk_lex.specs.Found.{cut_behind}
 use Rattle.bk_lex.specs.Cutting.{goes_on_from, then_on, state_behind, cut_as}
 use Rattle.bk_lex.specs.Tokens.{EndsSection, IsSection}
 use Rattle.bk_lex.proofs.Steps.{behind}
@@ -96,16 +97,16 @@ used_some (b ∷ bytes) line s is ended = omega arith
 
 -- ---- a byte more is read
 
-module _ (text : List ℕ) (byte : ℕ) (old now new : Option (List ℕ)) (taken was : ℕ) (cutter : Option State) (delivered : Consumes old now text) (one : Consumes now new (byte ∷ []))
-    (at : cutter ≡ state_behind (Some start) text) (goes_on : cut_as cutter ≡ More) (asked : Asked text) (counted : taken ≡ was + length text) (within : length text ≤ SECTION_BYTES) where
+module _ (text : List ℕ) (byte : ℕ) (old now new : Option (List ℕ)) (taken was : ℕ) (delivered : Consumes old now text) (one : Consumes now new (byte ∷ []))
+    (goes_on : cut_behind text ≡ More) (asked : Asked text) (counted : taken ≡ was + length text) (within : length text ≤ SECTION_BYTES) where
   pub delivered_more : IsDelivered (text ++ byte ∷ []) old new was (taken + 1)
   delivered_more = record {
     delivered = Consumes-trans old now new text (byte ∷ []) delivered one;
-    asked = asked_push (Some start) text byte asked (ap cut_as (sym at) ∙ goes_on);
+    asked = asked_push (Some start) text byte asked goes_on;
     counted = omega (arith, counted, length-append text (byte ∷ []));
     few = omega (arith, within, length-append text (byte ∷ []));
   }
 
-pub at_start : state_behind (Some start) [] ≡ Some start
+pub goes_at_start : cut_behind [] ≡ More
 unfolding state_behind
-at_start = refl
+goes_at_start = refl

@@ -29,7 +29,8 @@ use Rattle.bk_kit.specs.declared.section.CompiledSection.{CompiledSection}
 use Rattle.bk_kit.specs.declared.section.SectionCode.{SectionCode}
 use Rattle.bk_tree.specs.Tree.{Declarations}
 use Rattle.bk_kit.specs.Interpreting.{AnyBytes, Streams, told_streams, first_registers, is_read_fault, is_read}
-use Rattle.bk_kit.specs.ReadingSource.{cut_behind, Settles, Follows, IsDelivered, EachSource}
+use Rattle.bk_kit.specs.ReadingSource.{Settles, Follows, IsDelivered, EachSource}
+use Rattle.bk_lex.specs.Found.{cut_behind}
 use Rattle.bk_kit.specs.Sources.{Accepted, Refused, bytes_of, trees_of, codes_of, stmts_of_tree}
 use Rattle.bk_kit.specs.CompilingSection.{codes_in, trees_in, Compiled, Refuses}
 use Rattle.bk_kit.specs.Loading.{load_refused}
@@ -137,6 +138,10 @@ module _ (old now new : Option (List ℕ)) (ended : Bool) (taken taken' line : �
     front = passed_and_part old now new taken taken' line passed text here most;
     goes_on = λ is. failed.1;
   }
+
+  -- it was read
+  pub has_read : ReadsSource false old new
+  has_read = record { front = passed_and_part old now new taken taken' line passed text here most; goes_on = λ is. absurd (let other : false ≡ true = is in cc) }
 
   -- memory was refused
   pub no_memory : NotAssembled Memory old new ended

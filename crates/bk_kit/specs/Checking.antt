@@ -83,13 +83,13 @@ check_status (Err (n.Run stop)) = check_fault_status stop.fault
 abbrev pub TellsText : Output → Output → Type 0
 TellsText old new = (text : List ℕ) × TellsLine text old new
 
--- What is suspicious in the source is told after the rest, in a text each; where nothing is, nothing is told.
+-- What is suspicious in the source is reported after the rest, in a text each; where nothing is, nothing is reported.
 abbrev pub TellsRemarks : List Remark → Output → Output → Type 0
 TellsRemarks [] old new = new ≡ old
 TellsRemarks (r ∷ rs) old new = (mid : Output) × TellsText old mid × TellsRemarks rs mid new
 
--- The program's own end is told by its status alone. What went wrong is told in a text; of a fault of the source the line is told
--- first that each call tells of it.
+-- The program's own end is reported by its status alone. What went wrong is reported in a text; of a fault of the source the line is reported
+-- first that each call reports it.
 abbrev pub TellsVerdict : Verdict → Output → Output → Type 0
 TellsVerdict (v.Status word) old new = new ≡ old
 TellsVerdict v.NoStart old new = TellsLine (line_of (codes "no START")) old new

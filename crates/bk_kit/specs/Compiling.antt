@@ -10,7 +10,8 @@ use Rattle.bk_ocode.specs.StmtRange.{AreBytes, AreTyped}
 use Rattle.bk_ocode.specs.declared.stmt.Stmt.{Stmt}
 use Rattle.bk_kit.specs.declared.kit_fault.KitFault.{KitFault}
 use Rattle.bk_kit.specs.declared.kit_fault.KitFault.TheVariants.{Source, Ocode, Intcode, TooSmall, NoStart, Read, Write, Memory}
-use Rattle.bk_kit.specs.ReadingSource.{Asked, cut_behind, Follows}
+use Rattle.bk_kit.specs.ReadingSource.{Asked, Follows}
+use Rattle.bk_lex.specs.Found.{cut_behind}
 use Rattle.bk_kit.specs.Sources.{Accepted, Refused, WholeSection, bytes_of, codes_of, codes_of_trees, line_behind, AreAccepted, texts_of}
 use Rattle.bk_kit.specs.Telling.{Output}
 use Rattle.bk_kit.specs.Filters.{Puts, Ends}
@@ -24,7 +25,7 @@ AreAllTyped (stmts ∷ codes) = AreTyped stmts × AreAllTyped codes
 abbrev pub Accepts : List ℕ → ℕ → Bool → Section → List Declarations → Type 0
 Accepts part line ended section trees = (rest : List ℕ) → Follows ended rest → Accepted (part ++ rest) line section trees
 
--- What ends the compiling behind the sections that a `.` ended, where this was delivered of the next, and this text is written of
+-- What ends the compiling after the sections that a `.` ended, where this was delivered of the next, and this text is written of
 -- it: each answer but a refused write. `reads` counts the failures of the source.
 abbrev pub Comes : List ℕ → ℕ → Bool → ℕ → Result (Unit {0}) KitFault → List ℕ → Type 0
 -- the last section, which the source's end ends
@@ -43,7 +44,7 @@ Comes part line ended reads (Err NoStart) text = ⊥
 Comes part line ended reads (Err (Ocode number fault)) text = ⊥
 Comes part line ended reads (Err (Intcode number fault)) text = ⊥
 
--- A section that is accepted, with its text in OCODE: nothing was read behind it.
+-- A section that is accepted, with its text in OCODE: nothing was read after it.
 abbrev pub Takes : List ℕ → ℕ → Bool → ℕ → List ℕ → Type 0
 Takes part line ended reads text =
     (section : Section) × (trees : List Declarations) × Accepts part line ended section trees × (text ≡ texts_of (codes_of_trees trees)) × (reads ≡ 0)
@@ -57,7 +58,7 @@ pub record Delivered (old new : Option (List ℕ)) : Type 0 where
   -- the bytes of the sections, and the numbers and bytes of their statements, are those of their types
   pub bytes : AreBytes (bytes_of sections)
   pub typed : AreAllTyped (codes_of sections)
-  -- no byte was asked for behind the end of the next section, or behind where it is certain that it is refused
+  -- no byte was asked for after the end of the next section, or after where it is certain that it is refused
   pub asked : Asked part
   -- one call reads no more than so many bytes, and a source is taken to have less
   pub within : length (bytes_of sections ++ part) ≤ INPUT_BYTES

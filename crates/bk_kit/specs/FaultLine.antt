@@ -1,4 +1,4 @@
--- The line that tells of each fault of the kit.
+-- The line that reports each fault of the kit.
 use Rattle.std.specs.Prelude.{ℕ, List, [], ◌∷◌, ◌++◌, codes, decimal}
 use Rattle.bk_base.specs.SourceFault.{source_text}
 use Rattle.bk_base.specs.OcodeFault.{ocode_text}

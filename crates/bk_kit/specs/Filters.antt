@@ -5,7 +5,7 @@ use Rattle.bk_kit.specs.declared.kit_fault.KitFault.{KitFault}
 use Rattle.bk_kit.specs.declared.kit_fault.KitFault.TheVariants.{Write}
 use Rattle.bk_kit.specs.Telling.{Output}
 
--- Behind parts whose text is `front`, the filter comes to an answer with a last text (`Comes`), or takes a part whose text could
+-- After parts whose text is `front`, the filter comes to an answer with a last text (`Comes`), or takes a part whose text could
 -- not be put (`Takes`).
 module _ (Comes : Result (Unit {0}) KitFault → List ℕ → Type 0) (Takes : List ℕ → Type 0) (front : List ℕ) (before after : Output) where
   -- All was written that there is to write.
@@ -23,7 +23,7 @@ module _ (Comes : Result (Unit {0}) KitFault → List ℕ → Type 0) (Takes : L
     pub begins : text ≡ some ++ others
     pub takes : Appends before.taken after.taken (front ++ some)
 
-  -- Before the last flush. A failure of the output is told in the place of any other answer.
+  -- Before the last flush. A failure of the output is reported in the place of any other answer.
   abbrev pub Puts : Result (Unit {0}) KitFault → Type 0
   Puts (Err Write) = (after.faults ≡ 1) × Breaks
   Puts answer = Written answer

@@ -31,7 +31,7 @@ use Rattle.bk_kit.specs.Texts.{Format, parts, refused, part_number, SaysWhatever
 abbrev pub ocode : Format (List Stmt) OcodeKind
 ocode = record { Whole = λ stmts. IsSection stmts × AreTyped stmts; words = section_words; Refuses = λ statement kind words. first.Says (first.fault statement kind) words }
 
--- what the kit answers of a section behind so many others that is refused
+-- what the kit answers of a section after so many others that is refused
 abbrev pub ocode_refused : ℕ → Refused OcodeFault → KitFault
 ocode_refused before (Fault fault) = Ocode (part_number before) fault
 ocode_refused before refusals.Memory = Memory
@@ -43,7 +43,7 @@ pub record Generated : Type 0 where
   pub stmts : List Stmt
   pub items : List Item
 
--- These bytes are those of the section up to its last word, with one blank behind it unless the text ended there.
+-- These bytes are those of the section up to its last word, with one blank after it unless the text ended there.
 pub record IsRead (bytes : List ℕ) (stmts : List Stmt) : Type 0 where
   pub ended : Bool
   pub are : TakesWords bytes (AtEnd ended (length bytes)) (section_words stmts)
@@ -74,7 +74,7 @@ abbrev pub texts_of : List Generated → List ℕ
 texts_of [] = []
 texts_of (g ∷ rest) = segment_text g.items ++ texts_of rest
 
--- What ends the generating behind whole sections, where so much of the input was left behind them, and is left now, and this text
+-- What ends the generating after whole sections, where so much of the input was left after them, and is left now, and this text
 -- is written of the next: each answer but a refused write. `reads` counts the failures of the input.
 abbrev pub Comes : List Generated → (behind new : Option (List ℕ)) → Bool → ℕ → Result (Unit {0}) KitFault → List ℕ → Type 0
 -- only blanks were left
@@ -82,14 +82,14 @@ Comes sections behind new ended reads (Ok done) text =
     answers.Takes behind new ended GivesNothing
     × answers.Takes behind new ended (λ part end. SaysWhateverFollows ocode (parts (sections_of sections)) (bytes_of sections ++ part) ended)
     × (text ≡ []) × (reads ≡ 0)
--- a section is refused: nothing is written of it, and what was taken ends with the words at fault, or one blank behind them
+-- a section is refused: nothing is written of it, and what was taken ends with the words at fault, or one blank after them
 Comes sections behind new ended reads (Err (Ocode number fault)) text =
     answers.Takes behind new ended (λ part end. GivesFault part end fault.statement fault.kind)
     × answers.Takes behind new ended (λ part end. SaysWhateverFollows ocode (refused number fault.statement fault.kind) (bytes_of sections ++ part) ended)
     × (text ≡ []) × (reads ≡ 0)
 -- the read failed where the next section had not come to its end
 Comes sections behind new ended reads (Err Read) text = answers.Takes behind new ended (λ part end. StopsAtDevice part) × (text ≡ []) × (reads ≡ 1)
--- memory was refused at a word of a section, or behind one
+-- memory was refused at a word of a section, or after one
 Comes sections behind new ended reads (Err Memory) text =
     answers.Takes behind new ended (λ part end. StopsAtWord part end ⊎ ((stmts : List Stmt) × IsRead part stmts)) × (text ≡ []) × (reads ≡ 0)
 Comes sections behind new ended reads (Err Write) text = ⊥
@@ -98,11 +98,11 @@ Comes sections behind new ended reads (Err (Intcode number fault)) text = ⊥
 Comes sections behind new ended reads (Err TooSmall) text = ⊥
 Comes sections behind new ended reads (Err NoStart) text = ⊥
 
--- A section was read, with the text of its segment: nothing was read behind it.
+-- A section was read, with the text of its segment: nothing was read after it.
 abbrev pub Takes : (behind new : Option (List ℕ)) → ℕ → List ℕ → Type 0
 Takes behind new reads text = (g : Generated) × IsGenerated g × Consumes behind new g.bytes × (text ≡ segment_text g.items) × (reads ≡ 0)
 
--- Whole sections were taken; then this holds of them and of what was left behind them.
+-- Whole sections were taken; then this holds of them and of what was left after them.
 pub record Delivers (old : Option (List ℕ)) (Holds : List Generated → Option (List ℕ) → Type 0) : Type 0 where
   pub sections : List Generated
   pub generated : AreGenerated sections

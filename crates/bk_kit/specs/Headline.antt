@@ -15,7 +15,7 @@ use Rattle.bk_kit.specs.ReadingSource.{EachSource}
 pub record Language : Type 1 where
   -- the source is accepted
   pub Accepted : List ℕ → Type 0
-  -- the source is refused, and this fault stands in it
+  -- the source is refused, and this fault is in it
   pub Refused : List ℕ → SourceFault → Type 0
   -- no START is defined in the source
   pub Startless : List ℕ → Type 0

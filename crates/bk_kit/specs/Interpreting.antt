@@ -83,7 +83,7 @@ pub record Streams : Type 0 where
 abbrev pub told_streams : Streams → Told
 told_streams streams = record { left = streams.left; held = streams.held; ended = streams.ended; taken = streams.taken; passed = streams.passed }
 
--- What interpreting answers: the end of the run, behind which what was passed on before is still the beginning of what was
+-- What interpreting answers: the end of the run, after which what was passed on before is still the beginning of what was
 -- passed on, and is all that was taken unless the output failed; or the fault of a text of which nothing was run.
 abbrev pub Interpreted : (List ℕ → Type 0) → Result End KitFault → ℕ → ℕ → Option (List ℕ) → Option (List ℕ) → Bool → Streams → Streams → Type 0
 Interpreted Holds (Ok end) steps words old new ended before after =

@@ -6,7 +6,7 @@ use Rattle.bk_lex.specs.declared.counting.State.{State}
 use Rattle.bk_lex.specs.declared.cutter.Cut.{Cut}
 use Rattle.bk_lex.specs.declared.cutter.Cut.TheVariants.{More}
 use Rattle.bk_lex.specs.Counting.{start}
-use Rattle.bk_lex.specs.Cutting.{then_on, state_behind, cut_as}
+use Rattle.bk_lex.specs.Cutting.{then_on, cut_as}
 use Rattle.bk_lex.specs.Lexing.{lexed}
 
 -- Each of these bytes was asked for where a cutter said that the section may go on.
@@ -17,10 +17,6 @@ AskedFrom cutter (byte ∷ rest) = (cut_as cutter ≡ More) × AskedFrom (then_o
 abbrev pub Asked : List ℕ → Type 0
 Asked bytes = AskedFrom (Some start) bytes
 
--- what a cutter says that stands behind these bytes of a section
-abbrev pub cut_behind : List ℕ → Cut
-cut_behind bytes = cut_as (state_behind (Some start) bytes)
-
 -- whatever may follow the bytes delivered: nothing, where the source's end was told
 abbrev pub Follows : Bool → List ℕ → Type 0
 Follows ended rest = IsTrue ended → rest ≡ []
@@ -30,7 +26,7 @@ Follows ended rest = IsTrue ended → rest ≡ []
 abbrev pub Settles : List ℕ → Bool → Type 0
 Settles bytes ended = (line : ℕ) (rest : List ℕ) → Follows ended rest → lexed (bytes ++ rest) line ≡ lexed bytes line
 
--- These bytes were delivered, and counted: a section, or the part of one that could be read, and no byte behind it.
+-- These bytes were delivered, and counted: a section, or the part of one that could be read, and no byte after it.
 pub record IsDelivered (bytes : List ℕ) (old new : Option (List ℕ)) (before after : ℕ) : Type 0 where
   pub delivered : Consumes old new bytes
   pub asked : Asked bytes

@@ -14,7 +14,8 @@ use Rattle.bk_kit.specs.declared.kit_fault.KitFault.{KitFault}
 use Rattle.bk_kit.specs.declared.kit_fault.KitFault.TheVariants.{Source, Ocode, Intcode, TooSmall, NoStart, Read, Write, Memory}
 use Rattle.bk_kit.specs.Interpreting.{Streams, told_streams, HasRoom, first_registers}
 use Rattle.bk_kit.specs.Headline.{Headline}
-use Rattle.bk_kit.specs.ReadingSource.{cut_behind, EachSource}
+use Rattle.bk_kit.specs.ReadingSource.{EachSource}
+use Rattle.bk_lex.specs.Found.{cut_behind}
 use Rattle.bk_kit.specs.Compiling.{Delivered}
 use Rattle.bk_kit.specs.SourceSections.{IsRefused, HasParts}
 use Rattle.bk_kit.specs.SourceMeaning.{meanings}
@@ -49,7 +50,7 @@ NotAssembled Write old new ended = ⊥
 NotAssembled (Ocode section fault) old new ended = ⊥
 NotAssembled (Intcode segment fault) old new ended = ⊥
 
--- Accepted sections were delivered, each with its `.`, and some bytes of the next, none behind its end; where the source could not be
+-- Accepted sections were delivered, each with its `.`, and some bytes of the next, none after its end; where the source could not be
 -- read, the next might still go on.
 pub record ReadsSource (failed : Bool) (old new : Option (List ℕ)) : Type 0 where
   pub front : Delivered old new

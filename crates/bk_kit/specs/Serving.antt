@@ -18,7 +18,7 @@ use Rattle.bk_kit.specs.Sizes.{store_words, Reports}
 use Rattle.bk_kit.specs.Statuses.{run_status, run_line, done_status, done_line}
 use Rattle.bk_kit.specs.Telling.{Output, Tells}
 
--- what the output tells of these
+-- what the output reports these
 abbrev pub output_of : Streams → Output
 output_of streams = record { taken = streams.taken; passed = streams.passed; faults = streams.writes }
 

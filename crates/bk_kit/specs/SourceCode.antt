@@ -60,7 +60,7 @@ FramesAreOfSources = (source code : List ℕ) (is : IsCodeOf source code) → Te
 
 -- ---- one after another
 
--- nothing is refused: the answer is Ok, or tells of a device or of memory
+-- nothing is refused: the answer is Ok, or reports a device or of memory
 abbrev pub IsNotRefused : {T : Type 0} → Result T KitFault → Type 0
 IsNotRefused (Ok done) = ⊤
 IsNotRefused (Err Read) = ⊤

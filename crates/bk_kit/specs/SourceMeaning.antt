@@ -67,7 +67,7 @@ HasStepsOf q steps = 16 * q + 16 ≤ steps
 abbrev pub HasFramesOf : ℕ → List Declarations → ℕ → ℕ → Type 0
 HasFramesOf image trees d words = image + (d + 1) * (depth_of trees + 16) ≤ words
 
--- The statements that the scheme gives to the trees, placed anywhere as one program, before its first step. START's frame begins behind
+-- The statements that the scheme gives to the trees, placed anywhere as one program, before its first step. START's frame begins after
 -- so many words at most.
 pub record Placing (trees : List Declarations) (input : List ℕ) (image : ℕ) : Type 0 where
   pub placed : Program
@@ -143,7 +143,7 @@ module _ (trees : List Declarations) (input : List ℕ) where
     pub has_words : HasFramesOf image trees d words
 
 -- THE LANGUAGE. An accepted source means what the trees of its sections mean; a source is refused for the fault of its first section
--- that is not accepted. What is enough to run a source depends on how many words stand before the stack for these trees; it is told by
+-- that is not accepted. What is enough to run a source depends on how many words are before the stack for these trees; it is reported by
 -- turns and calls of the meaning, and by steps and frames of OCODE.
 abbrev pub meanings_with : (List Declarations → ℕ) → Language
 meanings_with image = record {

@@ -7,7 +7,7 @@ use Rattle.bk_ocode.specs.StmtRange.{AreBytes}
 use Rattle.bk_gen.specs.BackEnd.{Part}
 use Rattle.bk_kit.specs.Sources.{Accepted, Refused, WholeSection, bytes_of, trees_of, codes_of_trees, line_behind, AreAccepted}
 
--- Accepted sections, each with its `.`, and behind them an accepted one that the source's end ends; these are the trees of all.
+-- Accepted sections, each with its `.`, and after them an accepted one that the source's end ends; these are the trees of all.
 pub record HasTrees (source : List ℕ) (trees : List Declarations) : Type 0 where
   -- a source is of bytes
   pub bytes : AreBytes source
@@ -21,7 +21,7 @@ pub record HasTrees (source : List ℕ) (trees : List Declarations) : Type 0 whe
   pub at_end : last.ended ≡ false
   pub all : trees ≡ trees_of sections ++ last_trees
 
--- Accepted sections, each with its `.`, and behind them one that is refused for this fault.
+-- Accepted sections, each with its `.`, and after them one that is refused for this fault.
 pub record IsRefused (source : List ℕ) (fault : SourceFault) : Type 0 where
   pub sections : List WholeSection
   pub part : List ℕ

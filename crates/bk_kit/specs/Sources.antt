@@ -78,12 +78,12 @@ trees_of (section ∷ sections) = section.trees ++ trees_of sections
 abbrev pub codes_of : List WholeSection → List (List Stmt)
 codes_of sections = codes_of_trees (trees_of sections)
 
--- the line on which it goes on behind them
+-- the line on which it goes on after them
 abbrev pub line_behind : ℕ → List WholeSection → ℕ
 line_behind line [] = line
 line_behind line (section ∷ sections) = line_behind section.tokens.line sections
 
--- They are the first sections of a text that goes on behind them so, each accepted and ended by its `.`.
+-- They are the first sections of a text that goes on after them so, each accepted and ended by its `.`.
 abbrev pub AreAccepted : ℕ → List WholeSection → List ℕ → Type 0
 AreAccepted line [] rest = Unit {0}
 AreAccepted line (section ∷ sections) rest =

@@ -1,4 +1,4 @@
--- The exit status for each answer, and the line that tells of it.
+-- The exit status for each answer, and the line that reports it.
 use Rattle.std.specs.Prelude.{ℕ, ℤ, pos, negsuc, nat_lt, List, Option, None, Some, Result, Ok, Err, codes, if◌then◌else◌}
 use Rattle.bk_base.specs.declared.run_end.End.{End}
 use Rattle.bk_base.specs.declared.run_end.End.TheVariants.{Status, DivideByZero, StoreLimit, StepLimit, BadOperation, ReadFault, WriteFault}
@@ -23,7 +23,7 @@ end_status BadOperation = 107
 end_status ReadFault = 109
 end_status WriteFault = 110
 
--- the line that tells of it, if there is one
+-- the line that reports it, if there is one
 abbrev pub end_line : End → Option (List ℕ)
 end_line (Status v) = None
 end_line DivideByZero = Some (line_of (codes "division by zero"))
@@ -61,7 +61,7 @@ abbrev pub done_line : {T : Type 0} → Result T KitFault → Option (List ℕ)
 done_line (Ok done) = None
 done_line (Err fault) = Some (line_of (fault_text fault))
 
--- of a command line that gives no order; help is told elsewhere
+-- of a command line that gives no order; help is elsewhere
 abbrev pub refusal_status : LineFault → ℕ
 refusal_status (Help help) = 0
 refusal_status Bad = 112

@@ -15,7 +15,7 @@ pub data Saying (Part Kind : Type 0) : Type 0 where
   parts : List Part → Saying Part Kind
   refused : ℕ → ℕ → Kind → Saying Part Kind
 
--- the number of the part behind so many others, which stays at 2 ^ 32 - 1 once it was reached
+-- the number of the part after so many others, which stays at 2 ^ 32 - 1 once it was reached
 abbrev pub part_number : ℕ → ℕ
 part_number before = min (before + 1) (2 ^ 32 - 1)
 
@@ -29,7 +29,7 @@ module _ {Part Kind : Type 0} (format : Format Part Kind) where
   AreWhole [] = ⊤
   AreWhole (part ∷ rest) = format.Whole part × AreWhole rest
 
-  -- The words are those of parts, or behind those of parts they are refused.
+  -- The words are those of parts, or after those of parts they are refused.
   abbrev pub Says : Saying Part Kind → List (List ℕ) → Type 0
   Says (parts all) words = AreWhole all × (words ≡ all_words all)
   Says (refused number place kind) words =
@@ -48,7 +48,7 @@ module _ {Part Kind : Type 0} (format : Format Part Kind) where
     pub delivered : Consumes old new taken
     pub says : SaysWhateverFollows saying taken ended
 
-  -- The read failed behind the bytes of whole parts, and these of the next, which had not come to its end.
+  -- The read failed after the bytes of whole parts, and these of the next, which had not come to its end.
   pub record StopsInPart (IsPart : List ℕ → Type 0) (old new : Option (List ℕ)) : Type 0 where
     pub before : List Part
     pub bytes : List ℕ

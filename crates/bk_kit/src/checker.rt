@@ -15,7 +15,7 @@ use bk_hints::hint;
 use bk_tree::Section;
 use std::alloc::{AllocError, Global};
 
-/// A fault of a source, and what a person is told of it.
+/// A fault of a source, and what a person is reported of it.
 #[derive(Debug, Drop)]
 pub struct Refusal {
     /// The fault.
@@ -43,7 +43,7 @@ fn no_hint(alloc: Global, fault: KitFault) -> Refusal
     }
 }
 
-/// A fault of a section of this text, whose first line has the number `line`, with what a person is told of it.
+/// A fault of a section of this text, whose first line has the number `line`, with what a person is reported of it.
 fn refused(alloc: Global, text: &[u8], line: Line, fault: KitFault) -> Refusal
     ensures { result.fault ≡ fault }
 {
@@ -81,13 +81,13 @@ fn read_trees<C: ByteIn>(alloc: Global, source: &mut C) -> Result<Vec<Section>, 
     let mut taken = 0;
     let mut line = Line::first();
     loop {
-        let text = match read_section(alloc, source, &mut taken) {
-            Ok(text) => text,
+        let lexer = match read_section(alloc, source, &mut taken, line) {
+            Ok(lexer) => lexer,
             Err(fault) => return Err(no_hint(alloc, fault)),
         };
-        let section = match compile_section(alloc, text.as_slice(), line) {
+        let section = match compile_section(alloc, &lexer) {
             Ok(section) => section,
-            Err(fault) => return Err(refused(alloc, text.as_slice(), line, fault)),
+            Err(fault) => return Err(refused(alloc, lexer.bytes(), line, fault)),
         };
         let next = section.next;
         let Ok(()) = push_tree(section.code, &mut trees) else {
@@ -100,7 +100,7 @@ fn read_trees<C: ByteIn>(alloc: Global, source: &mut C) -> Result<Vec<Section>, 
     }
 }
 
-/// Does what a source means, in so many turns, with this input and output: the verdict of its meaning, and what a person is told of
+/// Does what a source means, in so many turns, with this input and output: the verdict of its meaning, and what a person is reported of
 /// it. A source that is refused is refused as `run_source` refuses it, and nothing is done of it.
 pub fn check_source<C: ByteIn, I: ByteIn, O: ByteOut>(
     alloc: Global,

@@ -13,7 +13,7 @@ use bk_intcode::{Intcode, Machine};
 use bk_intcode_text::read_segment;
 use std::alloc::Global;
 
-/// The number of the segment or section behind so many others.
+/// The number of the segment or section after so many others.
 pub fn number_behind(before: usize) -> u32
     ensures { result ≡ part_number before }
 {

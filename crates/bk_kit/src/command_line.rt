@@ -17,7 +17,7 @@ use std::convert::AsStr;
 /// The version that `--version` tells.
 const VERSION: &str = "1.0";
 
-/// What stands below the help on all.
+/// What is below the help on all.
 const KIT_NOTES: &str = "\
 Examples:
   bcpl check examples/queens.b
@@ -45,7 +45,7 @@ Exit statuses:
   113      The program did what is undefined (bcpl check alone).
 From 101 on one line on the error stream says what happened.";
 
-/// What stands below the help on `compile`.
+/// What is below the help on `compile`.
 const COMPILE_NOTES: &str = "\
 A section is written once it is accepted. The first one that is refused ends the
 text; a line on the error stream says why.
@@ -53,7 +53,7 @@ text; a line on the error stream says why.
 Example:
   bcpl compile < queens.b > queens.ocode";
 
-/// What stands below the help on `generate`.
+/// What is below the help on `generate`.
 const GENERATE_NOTES: &str = "\
 A segment is written for each section that is accepted. The first one that is
 refused ends the text; a line on the error stream says why.
@@ -61,7 +61,7 @@ refused ends the text; a line on the error stream says why.
 Example:
   bcpl generate < queens.ocode > queens.int";
 
-/// What stands below the help on `run`.
+/// What is below the help on `run`.
 const RUN_NOTES: &str = "\
 Nothing is run of a source that is refused.
 
@@ -69,7 +69,7 @@ Examples:
   bcpl run examples/queens.b
   echo '2 * (3 + 4)' | bcpl run -s 8192 -t 100000 examples/calculator.b";
 
-/// What stands below the help on `check`.
+/// What is below the help on `check`.
 const CHECK_NOTES: &str = "\
 Input and output are those of the program; all else is told on the error stream.
 The check ends with the status of `run`, or with 113 where the program does what
@@ -81,7 +81,7 @@ Examples:
   bcpl check examples/queens.b
   echo '2 * (3 + 4)' | bcpl check -t 100000 examples/calculator.b";
 
-/// What stands below the help on `interpret`.
+/// What is below the help on `interpret`.
 const INTERPRET_NOTES: &str = "\
 Nothing is run of a text that is refused.
 

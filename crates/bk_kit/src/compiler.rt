@@ -40,8 +40,8 @@ fn put_sections<C: ByteIn, O: ByteOut>(
     let mut taken = 0;
     let mut line = Line::first();
     loop {
-        let text = read_section(alloc, source, &mut taken)?;
-        let section = compile_section(alloc, text.as_slice(), line)?;
+        let lexer = read_section(alloc, source, &mut taken, line)?;
+        let section = compile_section(alloc, &lexer)?;
         let Ok(()) = put_code(&section.code, out) else {
             return Err(KitFault::Write);
         };
@@ -56,7 +56,7 @@ fn put_sections<C: ByteIn, O: ByteOut>(
 /// which nothing is written.
 ///
 /// The text, the tree and the code of one section are held, and dropped before the next is read. `Read` comes where the
-/// source could not be read behind the sections that were written, `Write` where the output failed, in the place of any
+/// source could not be read after the sections that were written, `Write` where the output failed, in the place of any
 /// other answer. A section without symbols is skipped.
 pub fn compile<C: ByteIn, O: ByteOut>(
     alloc: Global,

@@ -10,7 +10,7 @@ use bk_intcode_text::print;
 use bk_ocode::read_section;
 use std::alloc::Global;
 
-/// What the kit answers of a section behind so many others that is refused.
+/// What the kit answers of a section after so many others that is refused.
 fn section_refused(before: usize, refused: Refused<OcodeFault>) -> KitFault
     ensures { result ≡ ocode_refused before refused }
 {
@@ -50,7 +50,7 @@ fn put_segments<I: ByteIn, O: ByteOut>(
 /// that is refused, of which nothing is written.
 ///
 /// One section is held with its segment, and dropped before the next is read. `Read` comes where the input could not be read
-/// behind the sections that were written, `Write` where the output failed, in the place of any other answer.
+/// after the sections that were written, `Write` where the output failed, in the place of any other answer.
 pub fn generate_all<I: ByteIn, O: ByteOut>(
     alloc: Global,
     input: &mut I,

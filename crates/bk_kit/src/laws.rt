@@ -49,7 +49,7 @@ pub fn codes_run()
 }
 
 /// One after another, each on just what the one before wrote: `compile` does not refuse an accepted source, nor `generate_all` the text that
-/// it writes; `interpret` keeps the headline of the source on the code that comes of it, and `sizes` writes its numbers.
+/// it writes; `interpret` keeps the headline of the source on the code that comes from it, and `sizes` writes its numbers.
 pub fn one_after_another()
     ensures { OneAfterAnother }
 {

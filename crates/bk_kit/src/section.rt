@@ -8,7 +8,7 @@ ghost use Rattle.bk_kit.specs.CompilingSection.{Translates, Compiled, Refuses, R
 
 use crate::kit_fault::KitFault;
 use bk_base::Line;
-use bk_lex::{Token, lex};
+use bk_lex::{Lexed, Lexer, Token};
 use bk_ocode::Ocode;
 use bk_scope::resolve;
 use bk_syntax::parse;
@@ -34,12 +34,15 @@ pub struct CompiledSection {
     pub next: Option<Line>,
 }
 
-/// The tree and the code of the symbols of a section, the end of which is on line `end`.
-fn code_of(alloc: Global, symbols: &[Token], end: Line) -> Result<SectionCode, KitFault>
-    ensures translates { IfOk result (λ section. Translates (symbols_of symbols.now) (stmts_of section.code) (declarations_of section.tree)) }
-    ensures refuses { IfErr result (λ fault. RefusesSymbols fault (symbols_of symbols.now) end) }
+/// The tree and the code of the tokens of a section, the end of which is on line `end`. The tokens are dropped after the parser.
+fn code_of(alloc: Global, tokens: Vec<Token>, end: Line) -> Result<SectionCode, KitFault>
+    ensures translates { IfOk result (λ section. Translates (symbols_of tokens.entry.items) (stmts_of section.code) (declarations_of section.tree)) }
+    ensures refuses { IfErr result (λ fault. RefusesSymbols fault (symbols_of tokens.entry.items) end) }
 {
-    let tree = parse(alloc, symbols, end)?;
+    let tree = {
+        let tokens = tokens;
+        parse(alloc, tokens.as_slice(), end)?
+    };
     let code = {
         let resolved = resolve(alloc, &tree)?;
         translate(alloc, &resolved)?
@@ -52,19 +55,24 @@ fn are_bytes(bytes: &[u8])
     ensures { AreBytes bytes.now }
 {}
 
-/// Compiles the first section of a text whose first line has the number `from`.
-pub fn compile_section(alloc: Global, text: &[u8], from: Line) -> Result<CompiledSection, KitFault>
-    ensures compiled { IfOk result (λ section. Compiled section text.now from) }
-    ensures refuses { IfErr result (λ fault. Refuses fault text.now from) }
+/// Compiles the section that a lexer took.
+pub fn compile_section(alloc: Global, lexer: &Lexer) -> Result<CompiledSection, KitFault>
+    ensures compiled { IfOk result (λ section. Compiled section lexer.now.bytes lexer.now.from) }
+    ensures refuses { IfErr result (λ fault. Refuses fault lexer.now.bytes lexer.now.from) }
 {
-    are_bytes(text);
-    let lexed = lex(alloc, text, from)?;
+    are_bytes(lexer.bytes());
+    let lexed = lexer.lexed(alloc)?;
     let next = if lexed.ended { Some(lexed.line) } else { None };
-    let symbols = lexed.tokens.as_slice();
-    let code = if symbols.is_empty() {
+    let Lexed {
+        tokens,
+        used: _,
+        ended: _,
+        line,
+    } = lexed;
+    let code = if tokens.as_slice().is_empty() {
         None
     } else {
-        Some(code_of(alloc, symbols, lexed.line)?)
+        Some(code_of(alloc, tokens, line)?)
     };
     Ok(CompiledSection { code, next })
 }

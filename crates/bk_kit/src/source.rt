@@ -18,7 +18,7 @@ use bk_gen::generate;
 use bk_intcode::{Intcode, Machine};
 use std::alloc::{AllocError, Global};
 
-/// Generates the segment of a section's code, if it has any, behind those of the sections before.
+/// Generates the segment of a section's code, if it has any, after those of the sections before.
 fn push_segment(
     alloc: Global,
     section: &Option<SectionCode>,
@@ -48,8 +48,8 @@ fn assemble<C: ByteIn>(alloc: Global, source: &mut C) -> Result<Vec<Intcode>, Ki
     let mut taken = 0;
     let mut line = Line::first();
     loop {
-        let text = read_section(alloc, source, &mut taken)?;
-        let section = compile_section(alloc, text.as_slice(), line)?;
+        let lexer = read_section(alloc, source, &mut taken, line)?;
+        let section = compile_section(alloc, &lexer)?;
         let Ok(()) = push_segment(alloc, &section.code, &mut segments) else {
             return Err(KitFault::Memory);
         };
@@ -82,8 +82,8 @@ fn load_source<C: ByteIn>(alloc: Global, source: &mut C, words: u32) -> Result<M
 /// segments that stand for the sections, loaded into just so many words and run for at most so many steps.
 ///
 /// Nothing is run unless all sections were accepted and loaded. Where the source is refused or cannot be read, neither input
-/// nor output is touched, and no byte of the source is asked for behind the section that is refused. `TooSmall` and
-/// `NoStart` come of accepted sources alone.
+/// nor output is touched, and no byte of the source is asked for after the section that is refused. `TooSmall` and
+/// `NoStart` come from accepted sources alone.
 pub fn run_source<C: ByteIn, I: ByteIn, O: ByteOut>(
     alloc: Global,
     source: &mut C,

@@ -210,7 +210,7 @@ fn status_of_verdict(verdict: Verdict) -> u8
     }
 }
 
-/// Writes what is told of a verdict on the error stream.
+/// Writes what is reported of a verdict on the error stream.
 fn tell_verdict<E: ByteOut>(report: &Report, file: &str, err: &mut E)
     ensures { TellsVerdict report.now.verdict
         (record { taken = E.taken err.old; passed = E.passed err.old; faults = E.faults err.old })
@@ -247,7 +247,7 @@ fn calls_of(stop: &GivenUp) -> &[u8] {
     }
 }
 
-/// Writes what is told of the answer of a check on the error stream, and answers the status. `file` is the name of FILE.
+/// Writes what is reported of the answer of a check on the error stream, and answers the status. `file` is the name of FILE.
 pub fn tell_check<E: ByteOut>(answer: &Result<Report, NotChecked>, file: &str, err: &mut E) -> u8
     ensures status { result ≡ check_status answer.now }
     ensures told { TellsCheck answer.now

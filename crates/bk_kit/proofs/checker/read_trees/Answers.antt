@@ -10,55 +10,55 @@ use Rattle.bk_kit.proofs.PassedSections.{some_taken}
 use Rattle.bk_kit.proofs.SourceLemmas.{WithTrees, trees_none, not_read, no_memory, not_compiled, trees_go_on, trees_end, stops_reading}
 use Rattle.bk_kit.proofs.checker.read_trees.Goals as goal
 
-pub loop-text-init : goal.loop-text-init
-loop-text-init g c = rw (c.first-line.ensures, c.new-trees.ensures.items) (trees_none _ _)
+pub loop-lexer-init : goal.loop-lexer-init
+loop-lexer-init g c = rw (c.first-line.ensures, c.new-trees.ensures.items) (trees_none _ _)
 
 pub returns-in-Err-clause-refused : goal.returns-in-Err-clause-refused
 returns-in-Err-clause-refused g c =
     let read = c.in-Err.ensures.fault in
     subst (λ (f : KitFault). NotAssembled f (g.C.ByteIn.left c.args.source.now) (g.C.ByteIn.left c.read_section.new.source) (g.C.ByteIn.ended c.read_section.new.source)) (sym c.no_hint.ensures)
-    (not_read _ _ _ (g.C.ByteIn.ended c.read_section.new.source) _ c.read_section.new.taken c.loop-text.line c.loop-text.invariant.passed read.0 read.1 c.read_section.ensures.within c.in-Err.fault read.2)
+    (not_read _ _ _ (g.C.ByteIn.ended c.read_section.new.source) _ c.read_section.new.taken c.loop-lexer.line c.loop-lexer.invariant.passed read.0 read.1 c.read_section.ensures.within c.in-Err.fault read.2)
 
 pub returns-in-Err-clause-delivered : goal.returns-in-Err-clause-delivered
 returns-in-Err-clause-delivered g c =
     let read = c.in-Err.ensures.fault in
     subst (λ (f : KitFault). ReadsSource (is_read_fault f) (g.C.ByteIn.left c.args.source.now) (g.C.ByteIn.left c.read_section.new.source)) (sym c.no_hint.ensures)
-    (stops_reading _ _ _ (g.C.ByteIn.ended c.read_section.new.source) _ c.read_section.new.taken c.loop-text.line c.loop-text.invariant.passed read.0 read.1 c.read_section.ensures.within c.in-Err.fault read.2)
+    (stops_reading _ _ _ (g.C.ByteIn.ended c.read_section.new.source) _ c.read_section.new.taken c.loop-lexer.line c.loop-lexer.invariant.passed read.0 read.1 c.read_section.ensures.within c.in-Err.fault read.2)
 
 pub returns-in-Err-compile_section-clause-refused : goal.returns-in-Err-compile_section-clause-refused
 returns-in-Err-compile_section-clause-refused g c =
     let read = c.in-Ok.ensures.read in
-    let refuses = subst (λ (t : List ℕ). Refuses c.in-Err-compile_section.fault t c.loop-text.line) c.as_slice.ensures.value c.in-Err-compile_section.ensures.refuses in
+    let refuses = subst (λ n. Refuses c.in-Err-compile_section.fault c.in-Ok.lexer.bytes n) c.in-Ok.ensures.line c.in-Err-compile_section.ensures.refuses in
     subst (λ (f : KitFault). NotAssembled f (g.C.ByteIn.left c.args.source.now) (g.C.ByteIn.left c.read_section.new.source) (g.C.ByteIn.ended c.read_section.new.source)) (sym c.refused.ensures)
-    (not_compiled _ _ _ _ _ c.read_section.new.taken c.loop-text.line c.loop-text.invariant.passed c.in-Ok.text.items read.0 c.read_section.ensures.within read.1 c.in-Err-compile_section.fault refuses)
+    (not_compiled _ _ _ _ _ c.read_section.new.taken c.loop-lexer.line c.loop-lexer.invariant.passed c.in-Ok.lexer.bytes read.0 c.read_section.ensures.within read.1 c.in-Err-compile_section.fault refuses)
 
-pub loop-text-smaller : goal.loop-text-smaller
-loop-text-smaller g c =
+pub loop-lexer-smaller : goal.loop-lexer-smaller
+loop-lexer-smaller g c =
     let read = c.in-Ok.ensures.read in
-    let compiled = subst (λ (t : List ℕ). Compiled c.in-Ok-compile_section.section t c.loop-text.line) c.as_slice.ensures.value c.in-Ok-compile_section.ensures.compiled in
-    let more = some_taken _ _ _ _ c.read_section.new.taken c.loop-text.line c.loop-text.invariant.passed c.in-Ok.text.items read.0 c.in-Ok-compile_section.section compiled c.in-Some.next c.in-Some.is in
+    let compiled = subst (λ n. Compiled c.in-Ok-compile_section.section c.in-Ok.lexer.bytes n) c.in-Ok.ensures.line c.in-Ok-compile_section.ensures.compiled in
+    let more = some_taken _ _ _ _ c.read_section.new.taken c.loop-lexer.line c.loop-lexer.invariant.passed c.in-Ok.lexer.bytes read.0 c.in-Ok-compile_section.section compiled c.in-Some.next c.in-Some.is in
     omega (arith, more, c.read_section.ensures.within)
 
 pub returns-in_default-clause-refused : goal.returns-in_default-clause-refused
 returns-in_default-clause-refused g c =
     let read = c.in-Ok.ensures.read in
     subst (λ (f : KitFault). NotAssembled f (g.C.ByteIn.left c.args.source.now) (g.C.ByteIn.left c.read_section.new.source) (g.C.ByteIn.ended c.read_section.new.source)) (sym c.no_hint-in_default.ensures)
-    (no_memory _ _ _ (g.C.ByteIn.ended c.read_section.new.source) _ c.read_section.new.taken c.loop-text.line c.loop-text.invariant.passed c.in-Ok.text.items read.0 c.read_section.ensures.within)
+    (no_memory _ _ _ (g.C.ByteIn.ended c.read_section.new.source) _ c.read_section.new.taken c.loop-lexer.line c.loop-lexer.invariant.passed c.in-Ok.lexer.bytes read.0 c.read_section.ensures.within)
 
 pub returns-in-None-clause-trees : goal.returns-in-None-clause-trees
 returns-in-None-clause-trees g c =
     let read = c.in-Ok.ensures.read in
-    let compiled = subst (λ (t : List ℕ). Compiled c.in-Ok-compile_section.section t c.loop-text.line) c.as_slice.ensures.value c.in-Ok-compile_section.ensures.compiled in
-    let all : map declarations_of c.push_tree.new.trees.items ≡ map declarations_of c.loop-text.trees.items ++ trees_in c.in-Ok-compile_section.section.code = search rules in
+    let compiled = subst (λ n. Compiled c.in-Ok-compile_section.section c.in-Ok.lexer.bytes n) c.in-Ok.ensures.line c.in-Ok-compile_section.ensures.compiled in
+    let all : map declarations_of c.push_tree.new.trees.items ≡ map declarations_of c.loop-lexer.trees.items ++ trees_in c.in-Ok-compile_section.section.code = search rules in
     subst (λ (trees : List Declarations). HasTheseTrees trees (g.C.ByteIn.left c.args.source.now) (g.C.ByteIn.left c.read_section.new.source) (g.C.ByteIn.ended c.read_section.new.source)) (sym all)
-    (trees_end _ _ _ _ _ c.read_section.new.taken c.loop-text.line c.loop-text.invariant.passed c.in-Ok.text.items read.0 c.read_section.ensures.within read.1
-    c.in-Ok-compile_section.section compiled (map declarations_of c.loop-text.trees.items) c.loop-text.invariant.trees_are c.in-None.is)
+    (trees_end _ _ _ _ _ c.read_section.new.taken c.loop-lexer.line c.loop-lexer.invariant.passed c.in-Ok.lexer.bytes read.0 c.read_section.ensures.within read.1
+    c.in-Ok-compile_section.section compiled (map declarations_of c.loop-lexer.trees.items) c.loop-lexer.invariant.trees_are c.in-None.is)
 
-pub loop-text-preserved : goal.loop-text-preserved
-loop-text-preserved g c =
+pub loop-lexer-preserved : goal.loop-lexer-preserved
+loop-lexer-preserved g c =
     let read = c.in-Ok.ensures.read in
-    let compiled = subst (λ (t : List ℕ). Compiled c.in-Ok-compile_section.section t c.loop-text.line) c.as_slice.ensures.value c.in-Ok-compile_section.ensures.compiled in
-    let all : map declarations_of c.push_tree.new.trees.items ≡ map declarations_of c.loop-text.trees.items ++ trees_in c.in-Ok-compile_section.section.code = search rules in
+    let compiled = subst (λ n. Compiled c.in-Ok-compile_section.section c.in-Ok.lexer.bytes n) c.in-Ok.ensures.line c.in-Ok-compile_section.ensures.compiled in
+    let all : map declarations_of c.push_tree.new.trees.items ≡ map declarations_of c.loop-lexer.trees.items ++ trees_in c.in-Ok-compile_section.section.code = search rules in
     subst (λ (trees : List Declarations). WithTrees (g.C.ByteIn.left c.args.source.now) (g.C.ByteIn.left c.read_section.new.source) c.read_section.new.taken c.in-Some.next trees (g.C.ByteIn.faults c.read_section.new.source)) (sym all)
-    (trees_go_on _ _ _ _ _ c.read_section.new.taken c.loop-text.line c.loop-text.invariant.passed c.in-Ok.text.items read.0 c.read_section.ensures.within read.1
-    c.in-Ok-compile_section.section compiled (map declarations_of c.loop-text.trees.items) c.loop-text.invariant.trees_are c.in-Some.next (g.C.ByteIn.faults c.read_section.new.source) c.in-Some.is (c.in-Ok.ensures.failures c.loop-text.invariant.readable))
+    (trees_go_on _ _ _ _ _ c.read_section.new.taken c.loop-lexer.line c.loop-lexer.invariant.passed c.in-Ok.lexer.bytes read.0 c.read_section.ensures.within read.1
+    c.in-Ok-compile_section.section compiled (map declarations_of c.loop-lexer.trees.items) c.loop-lexer.invariant.trees_are c.in-Some.next (g.C.ByteIn.faults c.read_section.new.source) c.in-Some.is (c.in-Ok.ensures.failures c.loop-lexer.invariant.readable))

@@ -1,61 +1,62 @@
-use Rattle.std.proofs.Common.{inl, inr, ℕ, ◌≡◌, ◌≤◌, ◌⊎◌, [], ◌∷◌, ◌++◌, ◌∙◌, refl, sym, ap, arith, length-append, subst, rules}
+use Rattle.std.proofs.Common.{inl, inr, ℕ, List, ◌≡◌, ◌≤◌, ◌⊎◌, [], ◌∷◌, ◌++◌, ◌∙◌, refl, sym, ap, arith, length-append, subst, rules}
 use Rattle.bk_base.specs.DeviceLaws.{Consumes-nothing}
-use Rattle.bk_lex.specs.Cutting.{Means, cut_as}
+use Rattle.bk_lex.specs.Cutting.{Means}
+use Rattle.bk_lex.specs.Found.{SectionBytes, cut_behind}
 use Rattle.bk_lex.specs.declared.cutter.Cut.TheVariants.{End, More}
-use Rattle.bk_kit.proofs.ReadingLemmas.{delivered_more, at_start}
+use Rattle.bk_kit.proofs.ReadingLemmas.{delivered_more, goes_at_start}
 use Rattle.bk_kit.proofs.reading.read_section.Goals as goal
 
 pub loop-init : goal.loop-init
-loop-init g c = rw c.new-text.ensures.items record {
-  delivered = Consumes-nothing _;
-  at = c.new-cutter.ensures;
-  goes_on = ap cut_as (c.new-cutter.ensures ∙ at_start);
-  asked = tt;
-  taken = omega arith;
-  counted = refl;
-  within = omega arith;
-  readable = readable_at_first _;
-}
+loop-init g c =
+    let bytes : c.in-Ok.lexer.bytes ≡ [] = ap (λ (v : SectionBytes). v.bytes) c.in-Ok.ensures in
+    let line = ap (λ (v : SectionBytes). v.from) c.in-Ok.ensures in
+    rw bytes record {
+      delivered = Consumes-nothing _;
+      line = line;
+      goes_on = goes_at_start;
+      asked = tt;
+      taken = omega arith;
+      counted = refl;
+      within = omega arith;
+      readable = readable_at_first _;
+    }
   where
     readable_at_first : (faults : ℕ) → (1 ≤ 0) ⊎ (faults ≡ 0) → faults ≡ 0
     readable_at_first faults (inl one) = absurd (omega (arith, one))
     readable_at_first faults (inr none) = none
 
-pub returns-in_default-clause-fault : goal.returns-in_default-clause-fault
-returns-in_default-clause-fault g c =
-    let v = c.loop.invariant in
-    let one = rw c.in-Ok-Some.field-0-is at c.in-Ok-Some.ensures.delivers in
-    (_, delivered_more c.loop.text.items c.in-Ok-Some.byte _ _ _ c.loop.taken c.args.taken.now c.loop.cutter.state v.delivered one v.at v.goes_on v.asked v.taken v.within, inl refl)
-
-pub returns-then-eq-clause-read : goal.returns-then-eq-clause-read
-returns-then-eq-clause-read g c =
-    let v = c.loop.invariant in
-    let one = rw c.in-Ok-Some.field-0-is at c.in-Ok-Some.ensures.delivers in
-    let more = delivered_more c.loop.text.items c.in-Ok-Some.byte _ _ _ c.loop.taken c.args.taken.now c.loop.cutter.state v.delivered one v.at v.goes_on v.asked v.taken v.within in
-    let end : c.step.result ≡ End = search rules in
-    let settled = subst (λ x. Means x (c.loop.text.items ++ c.in-Ok-Some.byte ∷ [])) end (c.step.ensures.means c.loop.text.items v.at) in
-    rw c.in-Ok.ensures (more, λ short line rest follows. settled line rest)
-
 pub loop-preserved : goal.loop-preserved
 loop-preserved g c =
     let v = c.loop.invariant in
     let one = rw c.in-Ok-Some.field-0-is at c.in-Ok-Some.ensures.delivers in
-    let more = delivered_more c.loop.text.items c.in-Ok-Some.byte _ _ _ c.loop.taken c.args.taken.now c.loop.cutter.state v.delivered one v.at v.goes_on v.asked v.taken v.within in
-    let goes : c.step.result ≡ More = search rules in
-    let means = subst (λ x. Means x (c.loop.text.items ++ c.in-Ok-Some.byte ∷ [])) goes (c.step.ensures.means c.loop.text.items v.at) in
-    rw c.in-Ok.ensures record {
+    let more = delivered_more c.loop.lexer.bytes c.in-Ok-Some.byte _ _ _ c.loop.taken c.args.taken.now v.delivered one v.goes_on v.asked v.taken v.within in
+    let new = c.in-Ok-More.ensures.takes v.goes_on in
+    let bytes : c.step.new.self.bytes ≡ c.loop.lexer.bytes ++ c.in-Ok-Some.byte ∷ [] = ap (λ (w : SectionBytes). w.bytes) new in
+    let line = ap (λ (w : SectionBytes). w.from) new ∙ v.line in
+    let goes = subst (λ (xs : List ℕ). cut_behind xs ≡ More) bytes (sym (rw c.in-Ok-More.field-0-is at c.in-Ok-More.ensures.says)) in
+    let means = subst (λ (xs : List ℕ). Means More xs) bytes (rw c.in-Ok-More.field-0-is at c.in-Ok-More.ensures.means v.goes_on) in
+    rw bytes record {
       delivered = more.delivered;
-      at = c.step.ensures.at c.loop.text.items v.at;
-      goes_on = sym c.step.ensures.says ∙ goes;
+      line = line;
+      goes_on = goes;
       asked = more.asked;
       taken = more.counted;
-      counted = omega (arith, v.counted, length-append c.loop.text.items (c.in-Ok-Some.byte ∷ []));
+      counted = omega (arith, v.counted, length-append c.loop.lexer.bytes (c.in-Ok-Some.byte ∷ []));
       within = means.0;
       readable = λ why. c.in-Ok-Some.ensures.failures;
     }
 
-pub returns-then-taken-eq-INPUT_BYTES-clause-failures : goal.returns-then-taken-eq-INPUT_BYTES-clause-failures
-returns-then-taken-eq-INPUT_BYTES-clause-failures g c (inl below) =
+pub returns-in-Ok-End-clause-read : goal.returns-in-Ok-End-clause-read
+returns-in-Ok-End-clause-read g c =
     let v = c.loop.invariant in
-    v.readable (inl (omega (arith, below, v.taken, v.counted, c.if-taken-eq-INPUT_BYTES.true)))
-returns-then-taken-eq-INPUT_BYTES-clause-failures g c (inr none) = c.loop.invariant.readable (inr none)
+    let one = rw c.in-Ok-Some.field-0-is at c.in-Ok-Some.ensures.delivers in
+    let more = delivered_more c.loop.lexer.bytes c.in-Ok-Some.byte _ _ _ c.loop.taken c.args.taken.now v.delivered one v.goes_on v.asked v.taken v.within in
+    let bytes : c.step.new.self.bytes ≡ c.loop.lexer.bytes ++ c.in-Ok-Some.byte ∷ [] = ap (λ (w : SectionBytes). w.bytes) (c.in-Ok-End.ensures.takes v.goes_on) in
+    let settled = subst (λ (xs : List ℕ). Means End xs) bytes (rw c.in-Ok-End.field-0-is at c.in-Ok-End.ensures.means v.goes_on) in
+    rw bytes (more, λ short line rest follows. settled line rest)
+
+pub returns-in-Err-step-clause-fault : goal.returns-in-Err-step-clause-fault
+returns-in-Err-step-clause-fault g c =
+    let v = c.loop.invariant in
+    let one = rw c.in-Ok-Some.field-0-is at c.in-Ok-Some.ensures.delivers in
+    (_, delivered_more c.loop.lexer.bytes c.in-Ok-Some.byte _ _ _ c.loop.taken c.args.taken.now v.delivered one v.goes_on v.asked v.taken v.within, inl refl)

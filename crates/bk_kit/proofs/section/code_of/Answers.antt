@@ -22,7 +22,7 @@ returns-clause-translates c = record {
   tree = declarations_of c.in_ok-tree.tree;
   tree_is = refl;
   is = record {
-    section = c.in_ok-tree.ensures.parses;
+    section = rw c.as_slice.ensures.value at c.in_ok-tree.ensures.parses;
     within = c.in_ok-tree.ensures.within;
     faultless = c.in_ok-resolved.ensures.resolves.0;
   };
