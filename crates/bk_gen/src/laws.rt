@@ -42,7 +42,7 @@ fn run_laws()
 
 /// The back end as a whole: the segments that stand for accepted sections, loaded and run, write what the steps of OCODE write, where
 /// no step is wild. With q steps and at most d frames at once, 16 q + 16 steps of the machine are enough, and d + 1 frames of the
-/// largest depth and 16 words behind the image; with less it is a beginning of that, up to the limit. Where the run of OCODE goes on,
+/// largest depth and 16 words after the image; with less it is a beginning of that, up to the limit. Where the run of OCODE goes on,
 /// so does the machine's.
 pub fn back_end()
     ensures { BackEndHolds }
@@ -56,7 +56,7 @@ pub fn parts_without_start()
     ensures { PartsWithoutStart }
 {}
 
-/// Sections in the loader's placement: the number of each entry and of each place behind a call is that of no other, and strings and
+/// Sections in the loader's placement: the number of each entry and of each place after a call is that of no other, and strings and
 /// data lie apart from one another, between the globals and the first frame.
 pub fn parts_are_well_placed()
     ensures { PartsAreWellPlaced }
