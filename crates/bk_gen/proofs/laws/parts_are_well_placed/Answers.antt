@@ -1,5 +1,5 @@
 use Rattle.bk_gen.proofs.PartsPlaced.{Loaded}
-use Rattle.bk_gen.proofs.WellPlacedParts.{well_placed}
+use Rattle.bk_gen.proofs.SoundParts.{well_placed}
 use Rattle.bk_gen.proofs.laws.parts_are_well_placed.Goals as goal
 
 pub returns : goal.returns

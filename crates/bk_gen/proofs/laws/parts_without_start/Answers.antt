@@ -1,4 +1,4 @@
-use Rattle.bk_gen.proofs.GlobalOne.{has_no_start}
+use Rattle.bk_gen.proofs.StartCalled.{has_no_start}
 use Rattle.bk_gen.proofs.laws.parts_without_start.Goals as goal
 
 pub returns : goal.returns
