@@ -23,7 +23,7 @@ fn done<O: ByteOut, E: ByteOut>(rt: &HostRuntime, order: &Order, out: &mut O, er
     serve(rt.alloc(), order, &mut file, &mut input, out, err)
 }
 
-/// What is told where the words of the command line can't be had: memory was refused, or one of them is not UTF-8.
+/// What is reported where the words of the command line can't be had: memory was refused, or one of them is not UTF-8.
 fn unread(error: &io::Error) -> LineFault {
     match error.kind() {
         ErrorKind::OutOfMemory => LineFault::Memory,

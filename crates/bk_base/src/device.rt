@@ -1,4 +1,4 @@
-//! Devices of bytes, and what they tell.
+//! Devices of bytes, and what they report.
 ghost use Rattle.std.specs.Prelude.{◌≡◌, ℕ, List, [], ◌∷◌, ◌≤◌, Bool, false, None, Some, IfOk, OnOk, OnErr, IsTrue, IsErr, is_err, is_none, Option, if◌then◌else◌, ◌≢◌, ◌⊎◌};
 ghost use Rattle.std.specs.Io.KnownBytes.{Consumes, Appends, Keeps};
 ghost use Rattle.bk_base.specs.Devices.{byte_list, NothingLeft, Begins, AppendsPart};
@@ -12,15 +12,15 @@ pub struct Failed;
 
 /// A source of bytes, read once and forwards.
 ///
-/// Contracts see what it tells: the bytes left, where they are known, those of them that it holds, whether the end was
-/// told, and how often the device failed, which is never more than once. The bytes that a call delivered are those by
+/// Contracts see what it reports: the bytes left, where they are known, those of them that it holds, whether the end was
+/// reported, and how often the device failed, which is never more than once. The bytes that a call delivered are those by
 /// which the bytes left grew shorter.
 pub trait ByteIn {
     // the bytes left, where they are known
     ghost left: { Self → Option (List ℕ) };
     // those of them that it holds
     ghost held: { Self → List ℕ };
-    // whether the end was told
+    // whether the end was reported
     ghost ended: { Self → Bool };
     // how often the device failed
     ghost faults: { Self → ℕ };
@@ -40,7 +40,7 @@ pub trait ByteIn {
         ensures failures { faults self.new ≡ (if is_err result then 1 else 0) }
         ensures failed_again { faults self.old ≡ 1 → IsErr result };
 
-    /// Whether the next call of `next` asks no device: a byte is held, or the end was told, or the device failed.
+    /// Whether the next call of `next` asks no device: a byte is held, or the end was reported, or the device failed.
     fn ready(&self) -> bool
         ensures ready { IsTrue result → (held self.now ≢ []) ⊎ IsTrue (ended self.now) ⊎ (faults self.now ≡ 1) }
         ensures asks { result ≡ false → (held self.now ≡ []) × (ended self.now ≡ false) × (faults self.now ≡ 0) };
@@ -60,7 +60,7 @@ pub trait ByteIn {
 
 /// A sink of bytes.
 ///
-/// Contracts see what it tells: the bytes taken and the bytes passed on, where they are known, and how often the device
+/// Contracts see what it reports: the bytes taken and the bytes passed on, where they are known, and how often the device
 /// failed, which is never more than once. The bytes passed on always begin those taken.
 pub trait ByteOut {
     // the bytes taken, where they are known

@@ -8,7 +8,7 @@ use std::marker::Model;
 pub const SECTION_BYTES: usize = 1_048_576;
 /// The symbols of a section of source, those of a header and inserted ones included.
 pub const SECTION_SYMBOLS: usize = 262_144;
-/// How many nodes of a section's tree may stand inside one another.
+/// How many nodes of a section's tree may be inside one another.
 pub const TREE_DEPTH: u32 = 200;
 /// The nodes of a section's tree, both copies of an operand in a chain of relations counted.
 pub const TREE_NODES: u32 = 65_536;
@@ -20,7 +20,7 @@ pub const GLOBAL_NUMBER: u32 = 999;
 pub const VEC_NUMBER: u32 = 32_767;
 /// The depth of a frame, in words.
 pub const FRAME_WORDS: u32 = 65_535;
-/// The least depth that a segment tells of its frames, in words.
+/// The least depth of frames that a segment states, in words.
 pub const FRAME_WORDS_LEAST: u32 = 16;
 /// The statements of a section of OCODE.
 pub const OCODE_STATEMENTS: u32 = 1_000_000;
@@ -42,7 +42,7 @@ pub const STORE_USUAL: u32 = 262_144;
 pub const STEPS_MOST: u64 = 1_000_000_000_000;
 /// The steps of a run unless another number is asked for.
 pub const STEPS_USUAL: u64 = 1_000_000_000;
-/// The bytes of source or code that one call reads. Its end is taken to stand there.
+/// The bytes of source or code that one call reads. Its end is taken to be there.
 pub const INPUT_BYTES: u64 = u64::MAX;
 
 /// What a run may use: steps of the machine and words of its store.

@@ -21,7 +21,7 @@ pub struct Reader512<R: Read> {
     failed: bool,
     ghost order: { from ≤ to },
     ghost in_range: { to ≤ SIZE },
-    // once the end was told or the device failed, nothing is held
+    // once the end was reported or the device failed, nothing is held
     ghost drained: { IsTrue (ended || failed) → from ≡ to },
     ghost one_end: { (ended && failed) ≡ false },
     ghost at_end: { IsTrue ended → NothingLeft (R.remaining device) },

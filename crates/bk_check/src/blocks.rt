@@ -105,7 +105,7 @@ fn declare_let<'a>(
     Ok(Next::Define(Box::new(m.alloc, rest)?))
 }
 
-/// The definitions that are left of a LET. Behind the last one the variables come into being.
+/// The definitions that are left of a LET. After the last one the variables come into being.
 #[inline(never)]
 pub fn define<'a>(m: &mut Machine<'a>, rest: Box<Let<'a>>) -> Result<Next<'a>, AllocError>
     ensures { IfOk result (λ next. (p : Program) (b : Bytes) →
@@ -164,7 +164,7 @@ fn define_one<'a>(
     }
 }
 
-/// Behind a procedure.
+/// After a procedure.
 fn pass<'a>(there: Env<'a>, rest: Box<Let<'a>>) -> Next<'a>
     ensures { (p : Program) (fs : List Frame) (w : World) → Comes p fs result w (resumed p fs (tag done_tag
         (with (k.let_values (full p) (definitions_in rest.entry.value.defs.now) (env_in there.entry) w) (λ ss w. bound_then p rest.entry.value ss w)))) }

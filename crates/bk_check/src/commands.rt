@@ -291,7 +291,7 @@ pub fn assigned<'a>(
     }
 }
 
-/// Commands in order. Seeking passes over those in which the place does not stand.
+/// Commands in order. Seeking passes over those in which the place is not.
 #[inline(never)]
 pub fn in_order<'a>(
     m: &mut Machine<'a>,

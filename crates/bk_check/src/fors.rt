@@ -228,7 +228,7 @@ fn test_again<'a>(m: &mut Machine<'a>, run: For<'a>) -> Result<Next<'a>, AllocEr
     }
 }
 
-/// Behind a round of a FOR.
+/// After a round of a FOR.
 #[inline(never)]
 pub fn next_for<'a>(m: &mut Machine<'a>, run: For<'a>) -> Result<Next<'a>, AllocError>
     ensures { IfOk result (λ next. (p : Program) (b : Bytes) →

@@ -252,7 +252,7 @@ impl<'a> Machine<'a> {
         }
     }
 
-    /// What stands at an address.
+    /// What is at an address.
     pub fn fetched(&self, expr: &'a Expr, at: Worth) -> Next<'a>
         ensures { (p : Program) (b : Bytes) → Comes p self.now.frames.items result (world self.now b)
             (resumed p self.now.frames.items (tag a_value (Parts.fetch (value_in at) (world self.now b)))) }
@@ -494,7 +494,7 @@ impl<'a> Machine<'a> {
     }
 }
 
-/// A command in its scope, or nothing where the place that is sought does not stand in it.
+/// A command in its scope, or nothing where the place that is sought is not in it.
 fn from_place<'a>(command: &'a Command, mode: Option<Sought<'a>>, env: Env<'a>) -> Next<'a>
     ensures { (p : Program) (fs : List Frame) (w : World) → Comes p fs result w (resumed p fs (tag done_tag (in_order (full p) (alone (action command.now)) (mode_in mode.entry) (env_in env.entry) w))) }
 {

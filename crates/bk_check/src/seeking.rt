@@ -46,7 +46,7 @@ fn is_default(sought: Sought) -> bool
     }
 }
 
-/// Whether the place stands in a command, where seeking comes to it.
+/// Whether the place is in a command, where seeking comes to it.
 #[cycle(seeking)]
 pub fn stands_in(sought: Sought, env: &Env, command: &Command) -> bool
     ensures { result ≡ q.stands_in (sought_in sought.entry) (env_in env.now) (action command.now) }
@@ -76,7 +76,7 @@ pub fn stands_in(sought: Sought, env: &Env, command: &Command) -> bool
     }
 }
 
-/// Whether it stands in one of these commands.
+/// Whether it is in one of these commands.
 #[cycle(seeking)]
 pub fn stands_in_one(sought: Sought, env: &Env, commands: &[Command]) -> bool
     ensures { result ≡ q.stands_in_one (sought_in sought.entry) (env_in env.now) (actions_in commands.now) }

@@ -23,7 +23,7 @@ use Rattle.bk_checker.specs.declared.report.CheckFault.TheVariants as x
 use Rattle.bk_check.specs.Worlds.{world}
 use Rattle.bk_check.specs.Resume.{Given, a_value, Comes, resumed, outcome_next}
 
--- What the devices tell at a moment: the bytes left of the input and whether its end was told; the bytes that the output took.
+-- What the devices report at a moment: the bytes left of the input and whether its end was reported; the bytes that the output took.
 pub record Told : Type 0 where
   pub left : Option (List ℕ)
   pub ended : Bool
@@ -35,7 +35,7 @@ pub record Exchanged (old new : Told) (read written : List ℕ) : Type 0 where
   pub took : Appends old.taken new.taken written
   pub stays : IsTrue old.ended → (read ≡ []) × IsTrue new.ended
 
--- Whatever may follow the bytes delivered: nothing, where the end was told.
+-- Whatever may follow the bytes delivered: nothing, where the end was reported.
 abbrev pub Follows : Told → List ℕ → Type 0
 Follows new rest = IsTrue new.ended → rest ≡ []
 

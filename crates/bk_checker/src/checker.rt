@@ -119,7 +119,7 @@ fn check_program<'a, I: ByteIn, O: ByteOut>(
 }
 
 /// Does what the sections mean, in so many turns, with this input and output: the verdict of their meaning, and what a person
-/// is told of it.
+/// is reported of it.
 ///
 /// Output is flushed before the input is asked where none of it is held, and at each end. What was written before an undefined act
 /// stays written.

@@ -1,4 +1,4 @@
-//! What a person is told of the end of a check. No contract says anything of these texts: the meaning has no reasons.
+//! What is reported to a person of the end of a check. No contract says anything of these texts: the meaning has no reasons.
 ghost use Rattle.std.specs.Prelude.{◌≡◌, IfOk};
 ghost use Rattle.bk_checker.specs.Checks.{verdict_of};
 
@@ -528,7 +528,7 @@ pub fn given_up<'a>(m: &Machine<'a>, program: &[Lasting<'a>], fault: CheckFault)
     }
 }
 
-/// The verdict of what ends a run, and what a person is told of it.
+/// The verdict of what ends a run, and what is reported to a person of it.
 pub fn explain<'a>(
     m: &Machine<'a>,
     program: &[Lasting<'a>],

@@ -1,4 +1,4 @@
-//! The meaning of programs, run over devices: the verdict of a program, and what a person is told of it.
+//! The meaning of programs, run over devices: the verdict of a program, and what is reported to a person of it.
 #![tactic(auto)]
 
 mod checker;

@@ -43,7 +43,7 @@ impl From<AllocError> for CheckFault {
     }
 }
 
-/// Why a check was given up, and what a person is told of it.
+/// Why a check was given up, and what is reported to a person of it.
 #[derive(Debug, Drop)]
 pub struct GivenUp {
     /// Why.
@@ -76,7 +76,7 @@ impl From<AllocError> for GivenUp {
     }
 }
 
-/// The verdict of a check, and what a person is told of it.
+/// The verdict of a check, and what is reported to a person of it.
 #[derive(Debug, Drop)]
 pub struct Report {
     /// The verdict.

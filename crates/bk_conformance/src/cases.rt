@@ -23,10 +23,10 @@ struct Cases<'a> {
     cases: Vec<Case>,
     /// The name of the field that is read, empty where there is none.
     key: &'a str,
-    /// What stands of it so far, escapes as they are.
+    /// The part of it so far, with escapes as they are.
     raw: String,
     is_block: bool,
-    /// How many blank lines stand after it.
+    /// How many blank lines are after it.
     blanks: u32,
     /// How many lines are no line of a case.
     wrong: usize,

@@ -57,7 +57,7 @@ fn is_as_shown(rt: &HostRuntime, name: &str) -> io::Result<bool> {
     Ok(is_shown(&run, shown.as_slice()) && is_shown(&plain, shown.as_slice()))
 }
 
-/// Tells of each example whether it writes what is shown for it; answers whether all do.
+/// Reports of each example whether it writes what is shown for it; returns whether all do.
 pub fn tell_examples(rt: &HostRuntime) -> io::Result<bool> {
     let mut all = true;
     for name in EXAMPLES {

@@ -1,4 +1,4 @@
-//! The page of faults: each command of `bcpl` that it shows behind a text runs on that text, and has to tell what is shown.
+//! The page of faults: each command of `bcpl` that it shows after a text runs on that text, and has to report what is shown.
 //!
 //! A text that a script writes is not tried, nor is a command that is not of `bcpl` alone.
 use bk_rows::outcome::{Outcome, outcome_of};
@@ -22,11 +22,11 @@ struct Page<'a> {
     open: Option<&'a str>,
     /// The lines of that block, or of the last one.
     block: String,
-    /// The text behind the heading, if one stands there in full.
+    /// The text after the heading, if one is there in full.
     text: Option<String>,
 }
 
-/// The number behind `(status`, if a heading has one.
+/// The number after `(status`, if a heading has one.
 fn status_of(heading: &str) -> Option<u8> {
     let (_, behind) = heading.split_once("(status ")?;
     let (number, _) = behind.split_once(")")?;
@@ -81,7 +81,7 @@ impl<'a> Page<'a> {
         }
     }
 
-    /// Takes a line that stands in no block.
+    /// Takes a line that is in no block.
     fn take_prose(&mut self, line: &'a str) {
         if let Some(part) = line.strip_prefix("## ") {
             self.status_of_part = status_of(part).unwrap_or(0);
@@ -92,7 +92,7 @@ impl<'a> Page<'a> {
         }
     }
 
-    /// Whether the command of the block tells what stands behind it, where there is a text to try it on.
+    /// Whether the command of the block reports what follows it, where there is a text to try it on.
     fn try_command(&self, alloc: Global) -> Result<Option<bool>, AllocError> {
         let Some(text) = &self.text else {
             return Ok(None);
@@ -120,7 +120,7 @@ impl<'a> Page<'a> {
         Ok(None)
     }
 
-    /// Takes a line. Where it ends a block with a command that could be tried, it answers whether the command told what is shown.
+    /// Takes a line. Where it ends a block with a command that could be tried, it answers whether the command reported what is shown.
     fn take(&mut self, alloc: Global, line: &'a str) -> Result<Option<bool>, AllocError> {
         match (self.open, line.strip_prefix("```")) {
             (Some(kind), Some(_)) => self.close(alloc, kind),
@@ -142,7 +142,7 @@ impl<'a> Page<'a> {
     }
 }
 
-/// Tells of each fault that could be tried whether its line is the one shown; answers whether all are.
+/// Reports of each fault that could be tried whether its line is the one shown; returns whether all are.
 pub fn tell_faults(rt: &HostRuntime) -> io::Result<bool> {
     let text = fs::read_to_string(rt, PAGE)?;
     let mut page = Page::new(rt.alloc());

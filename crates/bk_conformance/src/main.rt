@@ -1,4 +1,4 @@
-//! Runs the cases of conformance/, the examples and the texts of the page of faults, and compares what comes of each with what is
+//! Runs the cases of conformance/, the examples and the texts of the page of faults, and compares what results from each with what is
 //! wanted of it.
 #![tactic(auto)]
 
@@ -14,7 +14,7 @@ use parts::tell_parts;
 use std::io;
 use std::process::ExitCode;
 
-/// Tells of each file of cases, each example and each fault; answers whether all are as wanted.
+/// Reports of each file of cases, each example and each fault; returns whether all are as wanted.
 fn tell(rt: &HostRuntime) -> io::Result<bool> {
     let parts = tell_parts(rt)?;
     let examples = tell_examples(rt)?;

@@ -128,7 +128,7 @@ fn is_run(alloc: Global, case: &Case) -> Result<bool, AllocError> {
     Ok(is_wanted(case, &run) && is_wanted(case, &used) && is_wanted(case, &plain))
 }
 
-/// Whether what comes of a case is wanted.
+/// Whether what results from a case is wanted.
 fn is_met(alloc: Global, part: &str, case: &Case) -> Result<bool, AllocError> {
     match part {
         "machine" => is_interpreted(alloc, case, case.int.as_slice()),
@@ -138,7 +138,7 @@ fn is_met(alloc: Global, part: &str, case: &Case) -> Result<bool, AllocError> {
     }
 }
 
-/// Tells which cases of a file are not met, and how many are; answers whether all are.
+/// Reports which cases of a file are not met, and how many are; answers whether all are.
 fn tell_cases(rt: &HostRuntime, file: &str, cases: &[Case]) -> io::Result<bool> {
     let part = file.split_once("/").map_or(file, |(part, _)| part);
     let mut met = 0u32;
@@ -155,7 +155,7 @@ fn tell_cases(rt: &HostRuntime, file: &str, cases: &[Case]) -> io::Result<bool> 
     Ok(all)
 }
 
-/// Tells of the cases of each file; answers whether all are met.
+/// Reports of the cases of each file; returns whether all are met.
 pub fn tell_parts(rt: &HostRuntime) -> io::Result<bool> {
     let mut all = true;
     for file in FILES {

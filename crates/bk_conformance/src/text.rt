@@ -22,7 +22,7 @@ enum State {
 struct Text {
     bytes: Vec<u8>,
     state: State,
-    /// How often the bytes from a place on stand in the text, after `\{`.
+    /// How often the bytes from a place on are in the text, after `\{`.
     times: u32,
     from: usize,
 }
@@ -38,7 +38,7 @@ fn digit(byte: u8) -> Option<u8> {
 }
 
 impl Text {
-    /// Takes the end of a part that stands several times: the part is there once.
+    /// Takes the end of a part that is several times: the part is there once.
     fn repeat(&mut self, alloc: Global) -> Result<(), AllocError> {
         let mut part = Vec::new(alloc);
         if let Some(bytes) = self.bytes.get(self.from..) {

@@ -1,4 +1,4 @@
-//! Rows of sources through the front end: their symbols, trees and names, each with what has to come of it. Tests alone, of what no
+//! Rows of sources through the front end: their symbols, trees and names, each with what has to result from it. Tests alone, of what no
 //! text shows, so that the crates below are proved once.
 #![tactic(auto)]
 

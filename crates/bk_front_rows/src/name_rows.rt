@@ -7,7 +7,7 @@ use std::test::Fail;
 static NAMES: &[u8] = b"GLOBAL $( G:100 $) MANIFEST $( M = 7 $) STATIC $( S = M $)
 LET F(A, B) BE $( LET X = A; L: G := X + M; S := B; F(A); GOTO L $)";
 
-/// What the names of that text mean, in order: S and F where they are declared, A, L where it stands, G, X, M, S, B, F, A, L.
+/// What the names of that text mean, in order: S and F where they are declared, A, L where it is, G, X, M, S, B, F, A, L.
 static MEANINGS: [Bound; 12] = [
     Bound::Static(4),
     Bound::Static(6),

@@ -137,7 +137,7 @@ static PLAIN: &[u8] =
 static FORMATTED: &[u8] =
     b"GLOBAL $( START : 1 ; STOP : 2 ; RDCH : 3 ; WRCH : 4 ; NEWLINE : 5 ; WRITES : 6 ; WRITEN : 7 ; WRITED : 8 ; GETBYTE : 9 ; PUTBYTE : 10 ; WRITEF : 11 $) MANIFEST $( ENDSTREAMCH = - 1 ; BYTESPERWORD = 4 $) ";
 
-/// Texts with a header: their tokens before it, whether it has WRITEF, and those behind it.
+/// Texts with a header: their tokens before it, whether it has WRITEF, and those after it.
 static HEADERS: [(&[u8], &[u8], bool, &[u8]); 8] = [
     (b"GET \"LIBHDR\"", b"", false, b"12"),
     (b"get\"libhdr\"", b"", false, b"11"),
@@ -191,7 +191,7 @@ fn put_tokens(
     Ok(line)
 }
 
-/// Appends the end of a section behind this line: a `.` if one ended it, the bytes used, and its line if that is another.
+/// Appends the end of a section after this line: a `.` if one ended it, the bytes used, and its line if that is another.
 fn put_end(
     out: &mut String,
     alloc: Global,
@@ -209,7 +209,7 @@ fn put_end(
 }
 
 /// Tokens as text: the spelling of each, with `^` before an inserted one, and the line where it is not that of the token
-/// before; behind them a `.` if one ended the section, and the bytes used.
+/// before; after them a `.` if one ended the section, and the bytes used.
 fn listed(alloc: Global, lexed: &Lexed<'_>, from: Line) -> Result<String, AllocError> {
     let mut out = String::new(alloc);
     let line = put_tokens(&mut out, alloc, lexed.tokens.as_slice(), from)?;
@@ -217,7 +217,7 @@ fn listed(alloc: Global, lexed: &Lexed<'_>, from: Line) -> Result<String, AllocE
     Ok(out)
 }
 
-/// What is told of a text: its tokens, or how many if `counted`, or its fault.
+/// What is reported of a text: its tokens, or how many if `counted`, or its fault.
 fn told(alloc: Global, text: &[u8], from: u32, counted: bool) -> Result<String, AllocError> {
     let from = Line::new(from.max(1));
     match lex(alloc, text, from) {
@@ -228,7 +228,7 @@ fn told(alloc: Global, text: &[u8], from: u32, counted: bool) -> Result<String, 
     }
 }
 
-/// Whether this is told of a text.
+/// Whether this is reported of a text.
 fn tells(
     alloc: Global,
     text: &[u8],
@@ -240,7 +240,7 @@ fn tells(
     Ok(answer.as_bytes() == expected)
 }
 
-/// Texts with the places of their tokens: the first ones, how many then lie nowhere in the text, and the last ones.
+/// Texts with the places of their tokens: the first ones, how many then are nowhere in the text, and the last ones.
 static PLACES: [(&[u8], &[u8], usize, &[u8]); 3] = [
     (
         b"A\nGET \"LIBHDR\" // x\n  B := 1 .",
@@ -252,7 +252,7 @@ static PLACES: [(&[u8], &[u8], usize, &[u8]); 3] = [
     (b"\tIF A GOTO L", b"1 4 ", 1, b"6 11 "),
 ];
 
-/// The places of tokens, with `-` for one that lies nowhere in the text.
+/// The places of tokens, with `-` for one that is nowhere in the text.
 fn places_listed(alloc: Global, tokens: &[Token<'_>]) -> Result<String, AllocError> {
     let mut out = String::new(alloc);
     for token in tokens {
@@ -326,7 +326,7 @@ fn headers(rt: HostRuntime) -> Result<(), Fail> {
     Ok(())
 }
 
-/// A text of one byte so many times, with bytes before and behind.
+/// A text of one byte so many times, with bytes before and after.
 fn long_text(
     alloc: Global,
     before: &[u8],
@@ -356,7 +356,7 @@ fn places(rt: HostRuntime) -> Result<(), Fail> {
     Ok(())
 }
 
-/// What a byte is, as a text of its own, in a string, in a character constant and behind a `*`: 1 token, none, or 100 and
+/// What a byte is, as a text of its own, in a string, in a character constant and after a `*`: 1 token, none, or 100 and
 /// the number of the fault.
 fn expected_of(byte: u8) -> [usize; 4] {
     let alone = match byte {

@@ -97,7 +97,7 @@ fn show(out: &mut String, expr: &Expr) -> Result<(), Fail> {
     Ok(())
 }
 
-/// Texts one behind the other.
+/// Texts one after the other.
 fn joined(alloc: Global, parts: &[&str]) -> Result<String, AllocError> {
     let mut out = String::new(alloc);
     for part in parts {

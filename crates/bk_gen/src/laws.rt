@@ -57,7 +57,7 @@ pub fn parts_without_start()
 {}
 
 /// Sections in the loader's placement: the number of each entry and of each place after a call is that of no other, and strings and
-/// data lie apart from one another, between the globals and the first frame.
+/// data are apart from one another, between the globals and the first frame.
 pub fn parts_are_well_placed()
     ensures { PartsAreWellPlaced }
 {

@@ -1,6 +1,6 @@
 -- The grammar: which tree a stretch of symbols may be, brackets being plain. `Reads rows e ts us` says that the symbols ts
 -- begin with the expression e of the rows up to `rows`, and that us are left; so do the others. What may take more than it
--- needs takes as much as it can: the symbol behind it is one with which it does not go on.
+-- needs takes as much as it can: the symbol after it is one with which it does not go on.
 use Rattle.std.specs.Prelude.{ℕ, Bool, true, false, Option, Some, None, ◌<◌, ◌≤◌, ◌≡◌, ◌⊎◌, cond, length, List, [], ◌∷◌}
 use Rattle.bk_lex.specs.declared.token.Kind.{Kind}
 use Rattle.bk_lex.specs.declared.token.Kind.TheVariants as k
@@ -27,7 +27,7 @@ Names [] ts us = ⊥
 Names (x ∷ []) ts us = (t : Symbol) × (ts ≡ t ∷ us) × SpellsName x.line x.letters t
 Names (x ∷ (y ∷ xs)) ts us = (t : Symbol) × (d : Symbol) × (ms : List Symbol) × (ts ≡ t ∷ d ∷ ms) × SpellsName x.line x.letters t × (d.kind ≡ k.Comma) × Names (y ∷ xs) ms us
 
--- names in parentheses, or none, behind the `(`
+-- names in parentheses, or none, after the `(`
 abbrev pub Formals : List Mention → List Symbol → List Symbol → Type 0
 Formals [] ts us = (c : Symbol) × (ts ≡ c ∷ us) × (c.kind ≡ k.Close)
 Formals (x ∷ xs) ts us = (c : Symbol) × (c.kind ≡ k.Close) × Names (x ∷ xs) ts (c ∷ us)
@@ -124,12 +124,12 @@ abbrev mutual
   Body no_actions ts us = Semis ts us
   Body (also c cs) ts us = (ms : List Symbol) × (ns : List Symbol) × Semis ts ms × Does c ms ns × Full c ns × Parted cs ns us
 
-  -- the commands behind a declaration or a command: a semicolon at least parts each from what stands before it
+  -- the commands after a declaration or a command: a semicolon at least parts each from what is before it
   pub Parted : Actions → List Symbol → List Symbol → Type 0
   Parted no_actions ts us = Semis ts us
   Parted (also c cs) ts us = (d : Symbol) × (rs : List Symbol) × (ms : List Symbol) × (ns : List Symbol) × (ts ≡ d ∷ rs) × (d.kind ≡ k.Semicolon) × Semis rs ms × Does c ms ns × Full c ns × Parted cs ns us
 
-  -- declarations, with any number of semicolons before each; whether they stand in a block
+  -- declarations, with any number of semicolons before each; whether they are in a block
   pub Heads : Bool → Declarations → List Symbol → List Symbol → Type 0
   Heads inside no_declarations ts us = ts ≡ us
   Heads inside (declare d ds) ts us = (ms : List Symbol) × (ns : List Symbol) × Semis ts ms × Declares inside d ms ns × Heads inside ds ns us
@@ -138,7 +138,7 @@ abbrev mutual
   Declares inside (constants l s is) ts us = (t : Symbol) × (b : Symbol) × (ms : List Symbol) × (c : Symbol) × (ts ≡ t ∷ b ∷ ms) × (sort_of t.kind ≡ Some s) × (t.line ≡ l) × (b.kind ≡ k.SectionOpen) × (c.kind ≡ k.SectionClose) × Listed is ms (c ∷ us)
   Declares inside (definitions l ds) ts us = (t : Symbol) × (ms : List Symbol) × (ts ≡ t ∷ ms) × (t.kind ≡ k.Let) × (t.line ≡ l) × Defined inside ds ms us
 
-  -- at least one item, with semicolons between and behind
+  -- at least one item, with semicolons between and after
   pub Listed : Items → List Symbol → List Symbol → Type 0
   Listed no_items ts us = ⊥
   Listed (item l x e no_items) ts us = (n : Symbol) × (q : Symbol) × (ms : List Symbol) × (ns : List Symbol) × (ts ≡ n ∷ q ∷ ms) × SpellsName l x n × ((q.kind ≡ k.Equal) ⊎ (q.kind ≡ k.Colon)) × Reads 12 e ms ns × Stops 12 ns × Semis ns us
@@ -150,7 +150,7 @@ abbrev mutual
   Defined inside (define d no_definitions) ts us = Defines inside d ts us × Fails is_and us
   Defined inside (define d (define e ds)) ts us = (t : Symbol) × (ms : List Symbol) × (t.kind ≡ k.And) × Defines inside d ts (t ∷ ms) × Defined inside (define e ds) ms us
 
-  -- variables stand in blocks alone
+  -- variables are in blocks alone
   pub Defines : Bool → Definition → List Symbol → List Symbol → Type 0
   Defines inside (routine l x fs c) ts us = (n : Symbol) × (o : Symbol) × (ms : List Symbol) × (t : Symbol) × (ns : List Symbol) × (ts ≡ n ∷ o ∷ ms) × SpellsName l x n × (o.kind ≡ k.Open) × Formals fs ms (t ∷ ns) × (t.kind ≡ k.Be) × Does c ns us × Full c us
   Defines inside (function l x fs e) ts us = (n : Symbol) × (o : Symbol) × (ms : List Symbol) × (t : Symbol) × (ns : List Symbol) × (ts ≡ n ∷ o ∷ ms) × SpellsName l x n × (o.kind ≡ k.Open) × Formals fs ms (t ∷ ns) × (t.kind ≡ k.Equal) × Reads 12 e ns us × Stops 12 us

@@ -75,7 +75,7 @@ pub data State : Type 0 where
   did : Stack → Action → State
   due : Stack → State
 
--- the rows that may stand on top
+-- the rows that may be on top
 abbrev pub limit : Stack → ℕ
 limit (in_unary l p st) = behind p
 limit (in_binary o s a st) = inner o
@@ -179,7 +179,7 @@ guarded g.Until l e c = while l false e c
 guarded g.SwitchOn l e c = switch l e c
 guarded g.Case l e c = case_of l e c
 
--- behind a guard's sign a command is due; behind that of a CASE one may come
+-- after a guard's sign a command is due; after that of a CASE one may come
 abbrev pub behind_sign : Guard → Stack → State
 behind_sign g.Case st = maybe st
 behind_sign _ st = begin st
@@ -193,7 +193,7 @@ abbrev pub no_args : Stack → Option State
 no_args (in_args s f none st) = Some (have st (apply (line_of f) s f none))
 no_args _ = None
 
--- whether a comma is owed behind this expression, so that no TABLE may end it
+-- whether a comma is owed after this expression, so that no TABLE may end it
 abbrev pub bars : Stack → Bool
 bars (in_then s c st) = true
 bars (in_unary l p st) = bars st
@@ -262,13 +262,13 @@ declared (in_section ds) d = Some (due (in_section (declarations_then ds (declar
 declared (in_block l free ds cs st) d = Some (due (in_block l false (declarations_then ds (declare d no_declarations)) cs st))
 declared _ d = None
 
--- a LET is complete, and a symbol comes behind it
+-- a LET is complete, and a symbol comes after it
 abbrev pub declared_by : Stack → Declaration → ℕ → List ℕ → Kind → Option State
 declared_by (in_section ds) d l x kind = take_in_section (declarations_then ds (declare d no_declarations)) l kind
 declared_by (in_block b free ds cs st) d l x kind = take_in_block b false (declarations_then ds (declare d no_declarations)) cs st l x kind
 declared_by _ d l x kind = None
 
--- a definition is complete, and a symbol comes behind it
+-- a definition is complete, and a symbol comes after it
 abbrev pub defined_by : Stack → Definition → ℕ → List ℕ → Kind → Option State
 defined_by (in_let m ds st) d l x kind =
     cond (is_and kind) (Some (due (in_let m (definitions_then ds (define d no_definitions)) st)))
@@ -320,7 +320,7 @@ to_or_do l x a b st k.Do = Some (begin (in_for l x a b none st))
 to_or_do l x a b st _ = None
 
 abbrev mutual
-  -- an expression is complete, and a symbol comes behind it
+  -- an expression is complete, and a symbol comes after it
   pub give : Stack → Expression → ℕ → List ℕ → Kind → Option State
   give (in_parens m st) e l x t = cond (goes 12 t) (push (in_parens m st) e t l) (if_is (is_close t) (have st (parens m e)))
   give (in_unary m p st) e l x t = cond (goes (behind p) t) (push (in_unary m p st) e t l) (give st (unary m p e) l x t)
@@ -352,7 +352,7 @@ abbrev mutual
       (counted (length ns == start_count is + 1) (defined_by st (variables (line_of_names ns) ns (starts_then is (vector m e no_starts))) l x t) t (due (at_starts ns (starts_then is (vector m e no_starts)) st)))
   give st e l x t = cond (goes 12 t) (push st e t l) None
 
-  -- a command is complete so far, and a symbol comes behind it
+  -- a command is complete so far, and a symbol comes after it
   pub finish : Stack → Action → ℕ → List ℕ → Kind → Option State
   finish (in_valof m st) c l x t = cond (repeats t) (again (in_valof m st) c t) (give st (valof m c) l x t)
   finish (in_label m n st) c l x t = cond (repeats t) (again (in_label m n st) c t) (finish st (label m n c) l x t)
@@ -365,14 +365,14 @@ abbrev mutual
   finish (in_block b free ds cs st) c l x t = cond (repeats t) (again (in_block b free ds cs st) c t) (in_commands b ds (actions_then cs (also c no_actions)) st t)
   finish st c l x t = cond (repeats t) (again st c t) None
 
--- no command stands behind a colon, and this symbol comes
+-- no command follows a colon, and this symbol comes
 abbrev pub without : Stack → ℕ → List ℕ → Kind → Option State
 without (in_label m n st) l x t = finish st (label m n empty) l x t
 without (in_guarded gd m e st) l x t = finish st (guarded gd m e empty) l x t
 without (in_default m st) l x t = finish st (default m empty) l x t
 without _ l x t = None
 
--- variables stand in blocks alone
+-- variables are in blocks alone
 abbrev pub inside : Stack → Bool
 inside (in_let m ds (in_block b free es cs st)) = true
 inside _ = false

@@ -1,4 +1,4 @@
--- The tag of a section bracket: its bytes behind the bracket, in upper case; empty if there are none.
+-- The tag of a section bracket: its bytes after the bracket, in upper case; empty if there are none.
 use Rattle.std.specs.Prelude.{ℕ, List, [], ◌∷◌}
 use Rattle.bk_lex.specs.Values.{upper_name}
 

@@ -1,4 +1,4 @@
--- Which symbols are a section, and the fault that stands where they are none: it stands at the first symbol such that the
+-- Which symbols are a section, and the fault of those that are none: it is at the first symbol such that the
 -- symbols up to and with it begin no section within the limits. The end counts as a symbol.
 use Rattle.std.specs.Prelude.{◌≡◌, ◌≤◌, Some, None, List, [], ◌∷◌, ◌++◌}
 use Rattle.bk_base.specs.declared.limit.TheConstants.{TREE_DEPTH}
@@ -34,7 +34,7 @@ KindAt NestedTooDeeply ts = Begins Any ts × (Begins Shallow ts → ⊥)
 KindAt TooManyNodes ts = Begins Shallow ts × (Begins Within ts → ⊥)
 KindAt _ ts = ⊥
 
--- a fault of this kind stands at the symbol t of u, t and v
+-- a fault of this kind is at the symbol t of u, t and v
 abbrev pub Stands : SourceKind → List Symbol → Symbol → Type 0
 Stands kind u t = (Begins Within (u ++ t ∷ []) → ⊥) × KindAt kind (u ++ t ∷ [])
 
@@ -42,6 +42,6 @@ Stands kind u t = (Begins Within (u ++ t ∷ []) → ⊥) × KindAt kind (u ++ t
 abbrev pub First : SourceKind → List Symbol → Symbol → Type 0
 First kind u t = Begins Within u × Stands kind u t
 
--- the fault stands at the end: the symbols begin a section, and are none
+-- the fault is at the end: the symbols begin a section, and are none
 abbrev pub StandsAtEnd : List Symbol → Type 0
 StandsAtEnd ts = (ds : Declarations) → IsSection ds ts → ⊥

@@ -7,7 +7,7 @@ ghost use Rattle.bk_grammar.specs.Rows.{infix_of, prefix_of, inner, is_comma, is
 use bk_lex::Kind;
 use bk_tree::{Operator, Prefix, Simple, Sort};
 
-/// The operator that stands between two operands.
+/// The operator that is between two operands.
 pub fn infix(kind: Kind) -> Option<Operator>
     ensures { result ≡ infix_of kind }
 {
@@ -35,7 +35,7 @@ pub fn infix(kind: Kind) -> Option<Operator>
     }
 }
 
-/// The operator that stands before an operand.
+/// The operator that is before an operand.
 pub fn prefix(kind: Kind) -> Option<Prefix>
     ensures { result ≡ prefix_of kind }
 {
@@ -154,7 +154,7 @@ pub fn declares_with(kind: Kind) -> Option<Declaring>
     }
 }
 
-/// A command that begins with an expression behind its first word, and goes on with a command.
+/// A command that begins with an expression after its first word, and goes on with a command.
 #[derive(Clone, Copy, Debug, PartialEq, Eq)]
 pub enum Guard {
     If,

@@ -67,7 +67,7 @@ pub fn open_sections(scene: &Scene) -> Result<Opened, AllocError> {
     Ok(Opened { indices, uneven })
 }
 
-/// What is told where a `$(` is not closed: which one, or perhaps which, by how the lines stand.
+/// What is reported where a `$(` is not closed: which one, or perhaps which, by how the lines are.
 pub fn tell_unclosed(scene: &Scene, opened: &Opened) -> Result<Option<Told>, AllocError> {
     let Some(open) = opened.indices.last().copied() else {
         return Ok(None);
@@ -95,7 +95,7 @@ pub fn tell_unclosed(scene: &Scene, opened: &Opened) -> Result<Option<Told>, All
     Ok(Some(scene.told(open, sentence)))
 }
 
-/// What is told where a section is refused at its end.
+/// What is reported where a section is refused at its end.
 pub fn tell_end(scene: &Scene, opened: &Opened) -> Result<Option<Told>, AllocError> {
     if scene.at < scene.tokens.len() {
         return Ok(None);
@@ -179,7 +179,7 @@ fn tell_tag(scene: &Scene, index: usize) -> Result<Told, AllocError> {
     Ok(scene.told(index, sentence))
 }
 
-/// What is told where the command before the refused symbol is after a bracket whose tag was meant as a word.
+/// What is reported where the command before the refused symbol is after a bracket whose tag was meant as a word.
 pub fn tell_glued(scene: &Scene) -> Result<Option<Told>, AllocError> {
     let Some(index) = scene.statement().checked_sub(1) else {
         return Ok(None);
@@ -205,7 +205,7 @@ pub fn tell_glued(scene: &Scene) -> Result<Option<Told>, AllocError> {
     Ok(None)
 }
 
-/// What is told of a `$)` whose tag is wrong.
+/// What is reported of a `$)` whose tag is wrong.
 pub fn tell_wrong_tag(scene: &Scene) -> Result<Told, AllocError> {
     let opened = open_sections(scene)?;
     let wanted = tag_at(scene.tokens, scene.at);
@@ -241,7 +241,7 @@ pub fn tell_wrong_tag(scene: &Scene) -> Result<Told, AllocError> {
     Ok(scene.told(open, sentence))
 }
 
-/// What is told of a `$)` where no section is open.
+/// What is reported of a `$)` where no section is open.
 pub fn tell_extra(scene: &Scene, opened: &Opened) -> Result<Option<Told>, AllocError> {
     if scene.refused() == Some(Kind::SectionClose) && opened.indices.is_empty() {
         return Ok(Some(scene.here("this `$)` closes nothing: no `$(` is open here")?));
@@ -261,7 +261,7 @@ fn closes(scene: &Scene, count: usize) -> Result<bool, AllocError> {
     scene.lacks(kinds.as_slice())
 }
 
-/// What is told where a declaration is after a command: where a `$)` is perhaps missing before it.
+/// What is reported where a declaration is after a command: where a `$)` is perhaps missing before it.
 pub fn tell_late(scene: &Scene, opened: &Opened) -> Result<Option<Told>, AllocError> {
     if !matches!(
         scene.refused(),
@@ -303,7 +303,7 @@ fn lacks_closings(scene: &Scene, opened: &Opened, open: usize) -> Result<bool, A
     Ok(false)
 }
 
-/// What is told where a `$)` is missing before a declaration.
+/// What is reported where a `$)` is missing before a declaration.
 fn tell_before(scene: &Scene, opened: &Opened, open: usize) -> Result<Told, AllocError> {
     let index = match opened.uneven {
         Some((first, _)) if open < first => first,

@@ -1,4 +1,4 @@
-//! What is told of a text that can't be cut into symbols.
+//! What is reported of a text that can't be cut into symbols.
 
 use crate::lines::{Lines, line_start};
 use crate::sentence::Told;
@@ -6,7 +6,7 @@ use bk_base::{SourceFault, SourceKind};
 use bk_lex::{Cut, Cutter};
 use std::alloc::{AllocError, Global};
 
-/// How many bytes stand before the one that makes a fault certain; all of them where none does.
+/// How many bytes come before the one that makes a fault certain; all of them where none does.
 fn certain_at(text: &[u8]) -> usize {
     let mut cutter = Cutter::new();
     for (i, byte) in text.iter().enumerate() {
@@ -58,7 +58,7 @@ fn quote_before(text: &[u8], at: usize) -> Option<(u8, usize)> {
     }
 }
 
-/// Where the letters, digits and dots begin that stand before this place.
+/// Where the letters, digits and dots begin that come before this place.
 fn word_before(text: &[u8], at: usize) -> usize {
     let mut start = at;
     let mut inside = false;
@@ -75,7 +75,7 @@ fn word_before(text: &[u8], at: usize) -> usize {
     if inside { start } else { at }
 }
 
-/// A byte that begins no symbol, and what is told of it.
+/// A byte that begins no symbol, and what is reported of it.
 struct Byte {
     byte: u8,
     says: &'static str,
@@ -121,7 +121,7 @@ static BYTES: [Byte; 9] = [
     },
 ];
 
-/// What is told of a byte that begins no symbol.
+/// What is reported of a byte that begins no symbol.
 fn byte_says(byte: u8) -> &'static str {
     for row in &BYTES {
         if row.byte == byte {
@@ -135,7 +135,7 @@ fn byte_says(byte: u8) -> &'static str {
     }
 }
 
-/// What is told of a `#` or `$` with this byte after it, which goes on with neither.
+/// What is reported of a `#` or `$` with this byte after it, which goes on with neither.
 fn sign_says(sign: u8, byte: u8) -> Option<&'static str> {
     match (sign, byte) {
         (b'#', b'B' | b'b') => Some(
@@ -151,7 +151,7 @@ fn sign_says(sign: u8, byte: u8) -> Option<&'static str> {
     }
 }
 
-/// What is told of a bad byte.
+/// What is reported of a bad byte.
 fn tell_byte(alloc: Global, text: &[u8], at: usize) -> Result<Told, AllocError> {
     let byte = text.get(at).copied();
     let start = word_before(text, at);
@@ -176,7 +176,7 @@ fn tell_byte(alloc: Global, text: &[u8], at: usize) -> Result<Told, AllocError> 
     Told::new(alloc, Some(at), says)
 }
 
-/// What is told of a character constant that begins here.
+/// What is reported of a character constant that begins here.
 fn character_says(text: &[u8], start: usize) -> &'static str {
     match text.get(start.saturating_add(1)).copied() {
         Some(b'\'') => "a character constant has one byte between its `'`s",
@@ -187,7 +187,7 @@ fn character_says(text: &[u8], start: usize) -> &'static str {
     }
 }
 
-/// What is told of a string or character constant that is not whole.
+/// What is reported of a string or character constant that is not whole.
 fn tell_string(alloc: Global, text: &[u8], at: usize) -> Result<Told, AllocError> {
     let Some((quote, start)) = quote_before(text, at) else {
         return Told::new(alloc, Some(at), "a string ends on its line");
@@ -202,7 +202,7 @@ fn tell_string(alloc: Global, text: &[u8], at: usize) -> Result<Told, AllocError
     Told::new(alloc, Some(start), says)
 }
 
-/// What is told of a GET.
+/// What is reported of a GET.
 fn tell_get(alloc: Global, text: &[u8], at: usize, start: usize) -> Result<Told, AllocError> {
     let place = match quote_before(text, at) {
         Some((_, quote)) => quote,
@@ -217,7 +217,7 @@ fn tell_get(alloc: Global, text: &[u8], at: usize, start: usize) -> Result<Told,
     Told::new(alloc, Some(place.max(start)), says)
 }
 
-/// What is told of a text that can't be cut into symbols.
+/// What is reported of a text that can't be cut into symbols.
 pub fn tell_bytes(
     alloc: Global,
     text: &[u8],

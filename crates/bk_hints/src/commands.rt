@@ -33,7 +33,7 @@ fn is_right_else(scene: &Scene, index: usize, other: Kind) -> Result<bool, Alloc
     scene.goes_with(index, &[other], next, end, &[Kind::Or])
 }
 
-/// What is told of ELSE that no TEST awaits.
+/// What is reported of ELSE that no TEST awaits.
 pub fn tell_else(scene: &Scene) -> Result<Option<Told>, AllocError> {
     if scene.refused() != Some(Kind::Or) {
         return Ok(None);
@@ -77,7 +77,7 @@ pub fn tell_else(scene: &Scene) -> Result<Option<Told>, AllocError> {
     )?))
 }
 
-/// What is told of a TEST that lacks ELSE.
+/// What is reported of a TEST that lacks ELSE.
 pub fn tell_test(scene: &Scene) -> Result<Option<Told>, AllocError> {
     if !scene.takes(Kind::Or)? {
         return Ok(None);
@@ -107,7 +107,7 @@ pub fn tell_test(scene: &Scene) -> Result<Option<Told>, AllocError> {
     }))
 }
 
-/// What is told of `:=` where `=` is due, and of `=` where `:=` is.
+/// What is reported of `:=` where `=` is due, and of `=` where `:=` is.
 pub fn tell_equal(scene: &Scene) -> Result<Option<Told>, AllocError> {
     match scene.refused() {
         Some(Kind::Assign) if scene.means(Kind::Equal)? => {
@@ -133,7 +133,7 @@ fn is_item(scene: &Scene) -> bool {
         && matches!(scene.before(2), Some(Kind::SectionOpen | Kind::Semicolon))
 }
 
-/// What is told where a line begins with a symbol before which a `;` was inserted that is refused.
+/// What is reported where a line begins with a symbol before which a `;` was inserted that is refused.
 pub fn tell_inserted(scene: &Scene) -> Result<Option<Told>, AllocError> {
     if !scene.is_inserted(scene.at) || !matches!(scene.behind(), Some(Kind::Open | Kind::Bang)) {
         return Ok(None);
@@ -167,7 +167,7 @@ fn is_begun_by_do(scene: &Scene) -> Result<bool, AllocError> {
     Ok(scene.takes(Kind::If)? || scene.goes(at, &[Kind::Semicolon, Kind::If], at, at)?)
 }
 
-/// What is told where the `,` of a choice is due.
+/// What is reported where the `,` of a choice is due.
 pub fn tell_choice(scene: &Scene) -> Result<Option<Told>, AllocError> {
     let Some(arrow) = scene.nearest(Kind::Arrow) else {
         return Ok(None);
@@ -187,7 +187,7 @@ fn is_needless(scene: &Scene) -> Result<bool, AllocError> {
     scene.goes(scene.at, &[], next, next.saturating_add(1))
 }
 
-/// What is told of a word that is a command of another kind in C.
+/// What is reported of a word that is a command of another kind in C.
 pub fn tell_misused(scene: &Scene) -> Result<Option<Told>, AllocError> {
     let words = match (scene.before(1), scene.refused()) {
         (_, Some(Kind::Repeat | Kind::RepeatUntil | Kind::RepeatWhile)) => {

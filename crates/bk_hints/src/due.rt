@@ -1,4 +1,4 @@
-//! What is missing, and what could stand in the place of the refused symbol.
+//! What is missing, and what could be in the place of the refused symbol.
 
 use crate::scene::Scene;
 use crate::sentence::{Sentence, Told};
@@ -59,7 +59,7 @@ static MISSING: [Due; 11] = [
     },
 ];
 
-/// Symbols of which it is told that they could stand in the place of the refused one.
+/// Symbols of which it is reported that they could be in the place of the refused one.
 static POSSIBLE: [Due; 16] = [
     Due {
         kind: Kind::Be,
@@ -138,7 +138,7 @@ fn may_miss(scene: &Scene, kind: Kind) -> bool {
     }
 }
 
-/// What is told where one symbol is missing.
+/// What is reported where one symbol is missing.
 pub fn tell_missing(scene: &Scene) -> Result<Option<Told>, AllocError> {
     for due in &MISSING {
         if may_miss(scene, due.kind) && scene.lacks(&[due.kind])? {
@@ -148,7 +148,7 @@ pub fn tell_missing(scene: &Scene) -> Result<Option<Told>, AllocError> {
     Ok(None)
 }
 
-/// What is told of a missing symbol.
+/// What is reported of a missing symbol.
 fn tell_due(scene: &Scene, due: &Due) -> Result<Told, AllocError> {
     let sentence = scene.sentence().quote(due.spelling)?.say(match due.kind {
         Kind::Do => " (or `THEN`) is missing before ",
@@ -186,7 +186,7 @@ fn due_in_words(scene: &Scene) -> Result<Option<&'static str>, AllocError> {
     })
 }
 
-/// What is told where nothing else is known.
+/// What is reported where nothing else is known.
 pub fn tell_due_here(scene: &Scene) -> Result<Told, AllocError> {
     if let Some(words) = due_in_words(scene)? {
         return tell_gap(scene, scene.sentence().say(words)?);
@@ -196,10 +196,10 @@ pub fn tell_due_here(scene: &Scene) -> Result<Told, AllocError> {
     Ok(scene.told(scene.at, sentence))
 }
 
-/// How many symbols are told at most.
+/// How many symbols are reported at most.
 const MOST: usize = 4;
 
-/// The sentence with the symbols after it that could stand in the place of the refused one.
+/// The sentence with the symbols after it that could be in the place of the refused one.
 fn put_possible(scene: &Scene, sentence: Sentence) -> Result<Sentence, AllocError> {
     let mut sentence = sentence;
     let mut count = 0;

@@ -5,7 +5,7 @@ use crate::sentence::Told;
 use bk_lex::Kind;
 use std::alloc::AllocError;
 
-/// A word, and what is told of it.
+/// A word, and what is reported of it.
 struct Word {
     spelling: &'static [u8],
     says: &'static str,
@@ -437,7 +437,7 @@ fn look_up(words: &'static [Word], spelling: &[u8]) -> Option<&'static str> {
     None
 }
 
-/// What is told of a word of another dialect or language.
+/// What is reported of a word of another dialect or language.
 pub fn foreign(spelling: &[u8]) -> Option<&'static str> {
     look_up(&FOREIGN, spelling)
 }
@@ -447,7 +447,7 @@ pub fn library(spelling: &[u8]) -> Option<&'static str> {
     look_up(&LIBRARY, spelling)
 }
 
-/// What is told of a name with this index, where it is a word of another dialect or language.
+/// What is reported of a name with this index, where it is a word of another dialect or language.
 fn tell_word(scene: &Scene, index: usize) -> Result<Option<Told>, AllocError> {
     if scene.kind(index) != Some(Kind::Name) {
         return Ok(None);
@@ -458,7 +458,7 @@ fn tell_word(scene: &Scene, index: usize) -> Result<Option<Told>, AllocError> {
     }
 }
 
-/// What is told of words of other dialects and languages, at the refused symbol or before it.
+/// What is reported of words of other dialects and languages, at the refused symbol or before it.
 pub fn tell_foreign(scene: &Scene) -> Result<Option<Told>, AllocError> {
     if let Some(told) = tell_word(scene, scene.at)? {
         return Ok(Some(told));

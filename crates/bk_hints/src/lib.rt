@@ -1,4 +1,4 @@
-//! What a person is told of a source that is refused: where the fault is, and what was wanted there or what is meant.
+//! What is reported to a person of a source that is refused: where the fault is, and what was wanted there or what is meant.
 #![tactic(auto)]
 
 mod brackets;

@@ -3,7 +3,7 @@
 use bk_base::Line;
 use std::alloc::{AllocError, Global};
 
-/// The deepest indentation that is told from a deeper one.
+/// The deepest indentation that is distinguished from a deeper one.
 const DEEPEST: usize = 240;
 
 /// Where the lines of a text begin.
@@ -11,7 +11,7 @@ const DEEPEST: usize = 240;
 pub struct Lines {
     /// The number of the first line.
     from: Line,
-    /// How many bytes of the text stand before each line.
+    /// How many bytes of the text come before each line.
     starts: Vec<usize>,
 }
 

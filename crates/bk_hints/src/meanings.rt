@@ -1,4 +1,4 @@
-//! What is told of faults of names and constants: where the word or name is, and what is meant.
+//! What is reported of faults of names and constants: where the word or name is, and what is meant.
 
 use crate::names::{
     Names, tell_dynamic, tell_label, tell_not_declared, tell_procedures, tell_twice,
@@ -118,7 +118,7 @@ fn is_plain(scene: &Scene, index: usize) -> bool {
     }
 }
 
-/// What is told of a destination, or of an operand of `@`, without an address.
+/// What is reported of a destination, or of an operand of `@`, without an address.
 fn tell_assignable(scene: &Scene, roles: &[Role], line: Line) -> Result<Told, AllocError> {
     let (index, declared) = bad_destination(scene, roles, line);
     let at = index.unwrap_or(tokens_before(scene.tokens, line));
@@ -186,7 +186,7 @@ fn is_variable(scene: &Scene, roles: &[Role], index: usize) -> bool {
     }
 }
 
-/// What is told of an expression that is no constant.
+/// What is reported of an expression that is no constant.
 fn tell_constant(scene: &Scene, roles: &[Role], line: Line) -> Result<Told, AllocError> {
     let (index, asks) = no_constant(scene, roles, line);
     let at = index.unwrap_or(tokens_before(scene.tokens, line));
@@ -213,7 +213,7 @@ fn tell_constant(scene: &Scene, roles: &[Role], line: Line) -> Result<Told, Allo
     Ok(scene.told(at, sentence))
 }
 
-/// What is told at the first symbol of these kinds on a line.
+/// What is reported at the first symbol of these kinds on a line.
 fn tell_word(scene: &Scene, line: Line, kinds: &[Kind], words: &str) -> Result<Told, AllocError> {
     let at = match first_of(scene.tokens, line, kinds) {
         Some(index) => index,
@@ -222,7 +222,7 @@ fn tell_word(scene: &Scene, line: Line, kinds: &[Kind], words: &str) -> Result<T
     Ok(scene.told(at, scene.sentence().say(words)?))
 }
 
-/// What is told of RESULTIS or RETURN where it can't stand.
+/// What is reported of RESULTIS or RETURN where it can't be.
 fn tell_result(scene: &Scene, line: Line) -> Result<Told, AllocError> {
     let words = match first_of(scene.tokens, line, &[Kind::ResultIs, Kind::Return]) {
         Some(index) if scene.kind(index) == Some(Kind::Return) => {
@@ -234,7 +234,7 @@ fn tell_result(scene: &Scene, line: Line) -> Result<Told, AllocError> {
     tell_word(scene, line, &[Kind::ResultIs, Kind::Return], words)
 }
 
-/// What is told of a fault that keeps no name.
+/// What is reported of a fault that keeps no name.
 fn tell_nameless(scene: &Scene, roles: &[Role], fault: &SourceFault) -> Result<Told, AllocError> {
     let line = fault.line;
     match fault.kind {
@@ -293,7 +293,7 @@ fn tell_nameless(scene: &Scene, roles: &[Role], fault: &SourceFault) -> Result<T
     }
 }
 
-/// What is told of a fault of names or constants.
+/// What is reported of a fault of names or constants.
 pub fn tell_meaning(scene: &Scene, fault: &SourceFault) -> Result<Told, AllocError> {
     let roles = roles(scene.alloc, scene.tokens)?;
     let name = fault.kind.name().as_bytes();

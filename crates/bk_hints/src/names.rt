@@ -1,4 +1,4 @@
-//! What is told of names: those that mean nothing, that another procedure owns, or that are declared twice.
+//! What is reported of names: those that mean nothing, that another procedure owns, or that are declared twice.
 
 use crate::foreign::{foreign, library};
 use crate::roles::Role;
@@ -115,7 +115,7 @@ fn common(a: &[u8], b: &[u8]) -> usize {
     a.len()
 }
 
-/// Whether two spellings differ by one letter that is another, missing or added, or by two neighbours that stand the other way round.
+/// Whether two spellings differ by one letter that is another, missing or added, or by two neighbours that are the other way round.
 fn is_alike(a: &[u8], b: &[u8]) -> bool {
     if a.len() < SHORTEST || b.len() < SHORTEST {
         return false;
@@ -152,7 +152,7 @@ fn is_same_let(scene: &Scene, declared: usize, at: usize) -> bool {
     true
 }
 
-/// What is told of a name that means nothing, where it is declared before.
+/// What is reported of a name that means nothing, where it is declared before.
 fn tell_past(names: &Names, at: usize, declared: usize) -> Result<Sentence, AllocError> {
     let scene = names.scene;
     let line = scene.line(declared);
@@ -175,7 +175,7 @@ fn tell_past(names: &Names, at: usize, declared: usize) -> Result<Sentence, Allo
     }
 }
 
-/// What is told of a name that means nothing, where it is declared after.
+/// What is reported of a name that means nothing, where it is declared after.
 fn tell_later(names: &Names, declared: usize) -> Result<Sentence, AllocError> {
     let line = names.scene.line(declared);
     let sentence = names.quoted("")?;
@@ -206,7 +206,7 @@ fn has_header(scene: &Scene, at: usize) -> bool {
     false
 }
 
-/// What is told of a name that means nothing.
+/// What is reported of a name that means nothing.
 pub fn tell_not_declared(names: &Names, at: usize) -> Result<Told, AllocError> {
     let scene = names.scene;
     let sentence = if let Some(declared) = names.last_before(at) {
@@ -223,7 +223,7 @@ pub fn tell_not_declared(names: &Names, at: usize) -> Result<Told, AllocError> {
     Ok(scene.told(at, sentence))
 }
 
-/// What is told of a name that is declared nowhere.
+/// What is reported of a name that is declared nowhere.
 fn tell_unknown(names: &Names, at: usize) -> Result<Sentence, AllocError> {
     if names.name.last().copied() == Some(b'.') {
         return names
@@ -259,7 +259,7 @@ fn tell_unknown(names: &Names, at: usize) -> Result<Sentence, AllocError> {
     }
 }
 
-/// What is told of a name that is declared twice in one list.
+/// What is reported of a name that is declared twice in one list.
 pub fn tell_twice(names: &Names, at: usize) -> Result<Told, AllocError> {
     let sentence = names.quoted("")?;
     let sentence = match names.last_before(at) {
@@ -274,7 +274,7 @@ pub fn tell_twice(names: &Names, at: usize) -> Result<Told, AllocError> {
     Ok(names.scene.told(at, sentence))
 }
 
-/// What is told of a variable of an outer procedure.
+/// What is reported of a variable of an outer procedure.
 pub fn tell_dynamic(names: &Names, at: usize) -> Result<Told, AllocError> {
     let sentence = names.quoted("")?;
     let sentence = match names.last_before(at) {
@@ -287,7 +287,7 @@ pub fn tell_dynamic(names: &Names, at: usize) -> Result<Told, AllocError> {
     Ok(names.scene.told(at, sentence))
 }
 
-/// What is told of a label that is not one here.
+/// What is reported of a label that is not one here.
 pub fn tell_label(names: &Names, at: usize) -> Result<Told, AllocError> {
     let sentence = names.quoted("")?;
     let sentence = if names.scene.before_at(at) != Some(Kind::Goto) {
@@ -305,7 +305,7 @@ pub fn tell_label(names: &Names, at: usize) -> Result<Told, AllocError> {
     Ok(names.scene.told(at, sentence))
 }
 
-/// What is told of a second procedure of one global.
+/// What is reported of a second procedure of one global.
 pub fn tell_procedures(names: &Names, at: usize) -> Result<Told, AllocError> {
     let sentence = names.quoted("")?.say(
         " is a global, and a section has one procedure for it at most",

@@ -1,4 +1,4 @@
-//! What each name of a section is where it stands: a use, or the declaration of something.
+//! The role of each name of a section at its place: a use, or the declaration of something.
 
 use bk_lex::{Kind, Token};
 use std::alloc::{AllocError, Global};
@@ -76,7 +76,7 @@ fn behind(reading: Reading, kind: Kind) -> Reading {
     }
 }
 
-/// Whether a label may stand after a symbol.
+/// Whether a label may be after a symbol.
 fn comes_before_label(kind: Kind) -> bool {
     matches!(
         kind,

@@ -10,7 +10,7 @@ use std::alloc::{AllocError, Global};
 /// The number of a line that no symbol is on.
 const NO_LINE: u32 = 4_294_967_295;
 
-/// What comes of symbols.
+/// What results from symbols.
 #[derive(Clone, Copy, Debug, PartialEq, Eq)]
 enum Trial {
     /// They are a section.
@@ -21,7 +21,7 @@ enum Trial {
     Fails,
 }
 
-/// What comes of these symbols.
+/// What results from these symbols.
 fn try_out(alloc: Global, tokens: &[Token]) -> Result<Trial, AllocError> {
     match parse(alloc, tokens, Line::new(NO_LINE)) {
         Ok(_) => Ok(Trial::Whole),
@@ -57,7 +57,7 @@ fn put_kind<'a>(
     }
 }
 
-/// Adds symbols of these kinds, which lie nowhere.
+/// Adds symbols of these kinds, which are nowhere.
 fn put_kinds<'a>(tokens: &mut Vec<Token<'a>>, kinds: &[Kind]) -> Result<(), AllocError> {
     for kind in kinds {
         put_kind(tokens, *kind, Line::first(), &[])?;
@@ -65,7 +65,7 @@ fn put_kinds<'a>(tokens: &mut Vec<Token<'a>>, kinds: &[Kind]) -> Result<(), Allo
     Ok(())
 }
 
-/// How many symbols stand before a line.
+/// How many symbols come before a line.
 pub fn tokens_before(tokens: &[Token], line: Line) -> usize {
     for (i, token) in tokens.iter().enumerate() {
         if token.line.number() >= line.number() {
@@ -76,7 +76,7 @@ pub fn tokens_before(tokens: &[Token], line: Line) -> usize {
 }
 
 /// The index of the first symbol that no section goes on with; or the number of the symbols, where the fault is at their end.
-/// A copy of the symbols has each on a line of its own, so that the line of its fault tells the index.
+/// A copy of the symbols has each on a line of its own, so that the line of its fault gives the index.
 pub fn refused_at(alloc: Global, tokens: &[Token]) -> Result<usize, AllocError> {
     let mut apart = Vec::new(alloc);
     let mut line = Line::first();
@@ -106,7 +106,7 @@ pub struct Scene<'a> {
     pub tokens: &'a [Token<'a>],
     /// The index of the symbol that is refused; the number of the symbols where it is their end.
     pub at: usize,
-    /// How many bytes of the text stand before the `.` that ends the section, if one does.
+    /// How many bytes of the text come before the `.` that ends the section, if one does.
     pub dot: Option<usize>,
 }
 
@@ -257,7 +257,7 @@ impl<'a> Scene<'a> {
         Ok(trial == Trial::Whole || (trial == Trial::Begins && to <= self.tokens.len()))
     }
 
-    /// Whether this symbol could stand where one is refused.
+    /// Whether this symbol could be where one is refused.
     pub fn takes(&self, kind: Kind) -> Result<bool, AllocError> {
         self.goes(self.at, &[kind], self.at, self.at)
     }

@@ -66,10 +66,10 @@ impl Sentence {
     }
 }
 
-/// What is told: a place in the text, if there is one, and a sentence.
+/// What is reported: a place in the text, if there is one, and a sentence.
 #[derive(Drop)]
 pub struct Told {
-    /// How many bytes of the text stand before the place.
+    /// How many bytes of the text come before the place.
     pub at: Option<usize>,
     pub sentence: Sentence,
 }

@@ -5,7 +5,7 @@ use crate::sentence::Told;
 use bk_lex::Kind;
 use std::alloc::AllocError;
 
-/// Two symbols that stand together, and what is told of them.
+/// Two neighbouring symbols, and what is reported of them.
 struct Pair {
     first: Kind,
     second: Kind,
@@ -101,7 +101,7 @@ static PAIRS: [Pair; 17] = [
     },
 ];
 
-/// What is told of the pair whose second symbol has this index, if it is one.
+/// What is reported of the pair whose second symbol has this index, if it is one.
 fn pair_at(scene: &Scene, index: usize) -> Option<&'static str> {
     if !scene.touches(index) {
         return None;
@@ -116,7 +116,7 @@ fn pair_at(scene: &Scene, index: usize) -> Option<&'static str> {
     None
 }
 
-/// Whether two signs that are one symbol in C stand before the refused symbol, or at it.
+/// Whether two signs that are one symbol in C come before the refused symbol, or at it.
 fn steps(scene: &Scene, kind: Kind) -> bool {
     if scene.before(1) == Some(kind) && scene.before(2) == Some(kind) {
         return scene.back(1).is_some_and(|index| scene.touches(index));
@@ -130,7 +130,7 @@ fn tell_step(scene: &Scene, words: &str) -> Result<Told, AllocError> {
     Ok(scene.told(index, scene.sentence().say(words)?))
 }
 
-/// What is told of signs of other languages.
+/// What is reported of signs of other languages.
 pub fn tell_signs(scene: &Scene) -> Result<Option<Told>, AllocError> {
     if let Some(says) = pair_at(scene, scene.at) {
         return Ok(Some(scene.here(says)?));

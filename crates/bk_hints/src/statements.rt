@@ -15,7 +15,7 @@ fn is_word(spelling: &[u8]) -> bool {
     }
 }
 
-/// What is told of a dot that belongs to the name before the refused symbol.
+/// What is reported of a dot that belongs to the name before the refused symbol.
 pub fn tell_dot(scene: &Scene) -> Result<Option<Told>, AllocError> {
     let Some(before) = scene.back(1) else {
         return Ok(None);
@@ -32,7 +32,7 @@ pub fn tell_dot(scene: &Scene) -> Result<Option<Told>, AllocError> {
     Ok(Some(scene.told(before, sentence)))
 }
 
-/// What is told of a variable that is declared outside procedures.
+/// What is reported of a variable that is declared outside procedures.
 pub fn tell_outermost(scene: &Scene, opened: &Opened) -> Result<Option<Told>, AllocError> {
     if !opened.indices.is_empty() {
         return Ok(None);
@@ -74,7 +74,7 @@ fn lacks_let(scene: &Scene) -> bool {
     false
 }
 
-/// What is told of a command that is outside procedures.
+/// What is reported of a command that is outside procedures.
 fn tell_command_outside(scene: &Scene) -> Result<Option<Told>, AllocError> {
     if !scene.takes(Kind::Let)? || !scene.takes(Kind::Semicolon)? {
         return Ok(None);
@@ -109,7 +109,7 @@ fn list_word(scene: &Scene, opened: &Opened) -> Option<Kind> {
     }
 }
 
-/// What is told of the items of MANIFEST, STATIC and GLOBAL.
+/// What is reported of the items of MANIFEST, STATIC and GLOBAL.
 pub fn tell_items(scene: &Scene, opened: &Opened) -> Result<Option<Told>, AllocError> {
     if matches!(
         scene.before(1),
@@ -137,7 +137,7 @@ pub fn tell_items(scene: &Scene, opened: &Opened) -> Result<Option<Told>, AllocE
     Ok(Some(scene.here(words)?))
 }
 
-/// What is told of an item without its number or value.
+/// What is reported of an item without its number or value.
 fn tell_item(scene: &Scene, word: Kind) -> Result<Told, AllocError> {
     let before = scene.at.saturating_sub(1);
     let sentence = scene
@@ -158,7 +158,7 @@ fn tell_item(scene: &Scene, word: Kind) -> Result<Told, AllocError> {
     Ok(scene.told(before, sentence))
 }
 
-/// What is told of a reserved word where a name is due.
+/// What is reported of a reserved word where a name is due.
 pub fn tell_reserved(scene: &Scene) -> Result<Option<Told>, AllocError> {
     let spelling = scene.spelling(scene.at);
     if !is_word(spelling) || scene.refused() == Some(Kind::Name) || !scene.takes(Kind::Name)? {
@@ -199,7 +199,7 @@ fn names_thing(scene: &Scene) -> bool {
     )
 }
 
-/// What is told of a definition that lacks its parentheses, its value or its body.
+/// What is reported of a definition that lacks its parentheses, its value or its body.
 pub fn tell_definition(scene: &Scene) -> Result<Option<Told>, AllocError> {
     let is_head = matches!(scene.before(2), Some(Kind::Let | Kind::And))
         && scene.before(1) == Some(Kind::Name);
@@ -238,7 +238,7 @@ fn ends_command(scene: &Scene) -> bool {
     ) || scene.is_inserted(scene.at)
 }
 
-/// What is told of an expression that is as a command and is no call.
+/// What is reported of an expression in the place of a command, which is no call.
 pub fn tell_expression(scene: &Scene) -> Result<Option<Told>, AllocError> {
     if !ends_command(scene) || !scene.takes(Kind::Assign)? && !scene.takes(Kind::Plus)? {
         return Ok(None);
@@ -286,7 +286,7 @@ fn starts_command_word(scene: &Scene, index: usize) -> bool {
     is_word(scene.spelling(index)) && scene.kind(index) != Some(Kind::Name)
 }
 
-/// What is told of lists of destinations, names and values.
+/// What is reported of lists of destinations, names and values.
 pub fn tell_counts(scene: &Scene) -> Result<Option<Told>, AllocError> {
     if scene.refused() == Some(Kind::Comma) && scene.means(Kind::And)? {
         return Ok(Some(scene.here(
@@ -311,7 +311,7 @@ pub fn tell_counts(scene: &Scene) -> Result<Option<Told>, AllocError> {
     }))
 }
 
-/// What is told of a name or an operand after another.
+/// What is reported of a name or an operand after another.
 pub fn tell_arguments(scene: &Scene) -> Result<Option<Told>, AllocError> {
     let before = scene.at.saturating_sub(1);
     if scene.kind(before) != Some(Kind::Name)

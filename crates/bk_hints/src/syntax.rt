@@ -1,4 +1,4 @@
-//! What is told of a symbol that is refused.
+//! What is reported of a symbol that is refused.
 
 use crate::brackets::{
     Opened, open_sections, tell_end, tell_extra, tell_glued, tell_late, tell_unclosed,
@@ -17,7 +17,7 @@ use crate::statements::{
 use bk_base::SourceKind;
 use std::alloc::AllocError;
 
-/// What is told by the spellings around the symbol.
+/// What is reported by the spellings around the symbol.
 fn by_spelling(scene: &Scene) -> Result<Option<Told>, AllocError> {
     if let Some(told) = tell_signs(scene)? {
         return Ok(Some(told));
@@ -31,7 +31,7 @@ fn by_spelling(scene: &Scene) -> Result<Option<Told>, AllocError> {
     tell_foreign(scene)
 }
 
-/// What is told by the sections that are open.
+/// What is reported by the sections that are open.
 fn by_brackets(scene: &Scene, opened: &Opened) -> Result<Option<Told>, AllocError> {
     if let Some(told) = tell_end(scene, opened)? {
         return Ok(Some(told));
@@ -48,7 +48,7 @@ fn by_brackets(scene: &Scene, opened: &Opened) -> Result<Option<Told>, AllocErro
     tell_items(scene, opened)
 }
 
-/// What is told by the declaration that the symbol is in.
+/// What is reported by the declaration that the symbol is in.
 fn by_declaration(scene: &Scene) -> Result<Option<Told>, AllocError> {
     if let Some(told) = tell_reserved(scene)? {
         return Ok(Some(told));
@@ -59,7 +59,7 @@ fn by_declaration(scene: &Scene) -> Result<Option<Told>, AllocError> {
     tell_equal(scene)
 }
 
-/// What is told by the command that the symbol is in.
+/// What is reported by the command that the symbol is in.
 fn by_command(scene: &Scene) -> Result<Option<Told>, AllocError> {
     if let Some(told) = tell_else(scene)? {
         return Ok(Some(told));
@@ -85,7 +85,7 @@ fn by_command(scene: &Scene) -> Result<Option<Told>, AllocError> {
     tell_missing(scene)
 }
 
-/// What is told of an unexpected symbol.
+/// What is reported of an unexpected symbol.
 fn tell_unexpected(scene: &Scene) -> Result<Told, AllocError> {
     let opened = open_sections(scene)?;
     if let Some(told) = by_spelling(scene)? {
@@ -111,7 +111,7 @@ fn tell_unexpected(scene: &Scene) -> Result<Told, AllocError> {
     tell_due_here(scene)
 }
 
-/// What is told of a fault at a symbol.
+/// What is reported of a fault at a symbol.
 pub fn tell_syntax(scene: &Scene, kind: &SourceKind) -> Result<Told, AllocError> {
     match kind {
         SourceKind::WrongSectionTag => tell_wrong_tag(scene),

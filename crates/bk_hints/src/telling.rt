@@ -1,4 +1,4 @@
-//! What a person is told of a fault.
+//! What is reported to a person of a fault.
 
 use crate::bytes::tell_bytes;
 use crate::lines::Lines;
@@ -22,7 +22,7 @@ fn is_of_syntax(kind: &SourceKind) -> bool {
     )
 }
 
-/// What is told of a section that has symbols.
+/// What is reported of a section that has symbols.
 fn tell_section(
     alloc: Global,
     text: &[u8],
@@ -56,7 +56,7 @@ fn tell_section(
     }
 }
 
-/// What is told of a fault.
+/// What is reported of a fault.
 fn tell(
     alloc: Global,
     text: &[u8],
@@ -71,7 +71,7 @@ fn tell(
     }
 }
 
-/// What a person is told of a fault: the line of the source, a caret under the symbol or byte, and a sentence.
+/// What is reported to a person of a fault: the line of the source, a caret under the symbol or byte, and a sentence.
 ///
 /// `text` is the text of a section as it was read, whose first line has the number `from`; it may end where the fault is certain.
 pub fn hint(

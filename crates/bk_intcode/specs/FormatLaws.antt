@@ -8,7 +8,7 @@ use Rattle.bk_intcode.specs.declared.output.Piece.TheVariants as piece
 use Rattle.bk_intcode.specs.Output.{Text, whole_text, cut_text, text_then, piece_text, string_text, format_text}
 
 module _ (store : List ℕ) where
-  -- a part that takes the argument at an address, and the text behind it, from the next argument on
+  -- a part that takes the argument at an address, and the text after it, from the next argument on
   abbrev pub argument_text : (ℕ → Piece) → (ℕ → Text) → ℕ → Text
   argument_text write behind a = option_map_or (λ w. text_then (piece_text store (write w)) (behind (word_sum a 1))) (slice_get store a) cut_text
 

@@ -25,7 +25,7 @@ abbrev pub fields : Function → Bool → Bool → Bool → Bool → ℕ
 fields function indirect local global long =
     2 ^ 29 * function_number function + 2 ^ 28 * bit indirect + 2 ^ 27 * bit local + 2 ^ 26 * bit global + 2 ^ 25 * bit long
 
--- An address below 2^25 stands in the word, any other in the word behind it.
+-- An address below 2^25 is in the word, any other in the word after it.
 abbrev pub instruction_at : Function → Bool → Bool → Bool → ℕ → List ℕ
 instruction_at function indirect local global address =
     if nat_lt address (2 ^ 25) then (fields function indirect local global false + address) ∷ []

@@ -33,11 +33,11 @@ abbrev pub begins_with_byte : List Item → Bool
 begins_with_byte (Byte b ∷ rest) = true
 begins_with_byte items = false
 
--- No word holds bytes of both: the last word before is full, or holds none of a run that may go on; or no byte stands first behind.
+-- No word holds bytes of both: the last word before is full, or holds none of a run that may go on; or no byte is first after.
 abbrev pub AreParted : (ℕ → ℕ) → List Item → List Item → Type 0
 AreParted labels front back = ((growth labels front).filled ≡ 0) ⊎ (begins_with_byte back ≡ false)
 
--- Items that are appended put their words behind the others',
+-- Items that are appended put their words after the others',
 abbrev pub ItemsAreJoined : Type 0
 ItemsAreJoined = (labels : ℕ → ℕ) (front back : List Item) → AreParted labels front back
     → segment_words labels (front ++ back) ≡ segment_words labels front ++ segment_words labels back
@@ -46,7 +46,7 @@ ItemsAreJoined = (labels : ℕ → ℕ) (front back : List Item) → AreParted l
 abbrev pub SizesAreAdded : Type 0
 SizesAreAdded = (labels : ℕ → ℕ) (front back : List Item) → AreParted labels front back → segment_size (front ++ back) ≡ segment_size front + segment_size back
 
--- The words of an item other than a byte stand behind those of the items before it.
+-- The words of an item other than a byte follow those of the items before it.
 abbrev pub WordsOfItem : Type 0
 WordsOfItem = (labels : ℕ → ℕ) (front back : List Item) (item : Item) (j : ℕ) → IsPlain item → j < length (item_words labels item)
     → slice_get (segment_words labels (front ++ item ∷ back)) (segment_size front + j) ≡ slice_get (item_words labels item) j
@@ -117,7 +117,7 @@ byte_words labels (a ∷ b ∷ c ∷ d ∷ rest) ws =
     ∙ byte_words labels rest (ws ++ packed_word a b c d ∷ [])
     ∙ append_assoc ws (packed_word a b c d ∷ []) (packed rest)
 
--- ---- words that stand before
+-- ---- words that come before
 
 index_behind : (ws us : List ℕ) (k : ℕ) → slice_index (ws ++ us) (length ws + k) ≡ slice_index us k
 index_behind [] us k = ap (λ n. slice_index us n) (let z : 0 + k ≡ k = omega arith in z)
@@ -185,7 +185,7 @@ item_behind labels ws g (SetGlobal n l) last = plain_behind labels ws g (SetGlob
 item_behind labels ws g (Frame n) last = plain_behind labels ws g (Frame n) tt
 item_behind labels ws g End last = plain_behind labels ws g End tt
 
--- words that stand before change nothing
+-- words that come before change nothing
 items_behind : (labels : ℕ → ℕ) (ws : List ℕ) (items : List Item) (g : Growth) → HasLast g → fold (grown labels) (behind ws g) items ≡ behind ws (fold (grown labels) g items)
 items_behind labels ws [] g last = refl
 items_behind labels ws (i ∷ rest) g last =
@@ -198,7 +198,7 @@ nothing = record { words = []; filled = 0 }
 abbrev fresh : List ℕ → Growth
 fresh ws = record { words = ws; filled = 0 }
 
--- items behind words put theirs behind them
+-- items after words put theirs after them
 pub grown_behind : (labels : ℕ → ℕ) (ws : List ℕ) (items : List Item) → fold (grown labels) (fresh ws) items ≡ behind ws (growth labels items)
 grown_behind labels ws items =
     ap (λ (l : List ℕ). fold (grown labels) (fresh l) items) (sym (append-nil ws)) ∙ items_behind labels ws items nothing (inl refl)
@@ -206,7 +206,7 @@ grown_behind labels ws items =
 pub words_behind : (labels : ℕ → ℕ) (ws : List ℕ) (items : List Item) → (fold (grown labels) (fresh ws) items).words ≡ ws ++ segment_words labels items
 words_behind labels ws items = ap (λ (g : Growth). g.words) (grown_behind labels ws items)
 
--- where no byte stands first it does not matter how the last word is filled
+-- where no byte is first it does not matter how the last word is filled
 first_plain : (labels : ℕ → ℕ) (g : Growth) (i : Item) (rest : List Item) → IsPlain i → (fold (grown labels) g (i ∷ rest)).words ≡ g.words ++ segment_words labels (i ∷ rest)
 first_plain labels g i rest plain =
     ap (λ (x : Growth). (fold (grown labels) x rest).words) (grown_plain labels g i plain ∙ sym (grown_plain labels (fresh g.words) i plain)) ∙ words_behind labels g.words (i ∷ rest)

@@ -1,5 +1,5 @@
--- What the store holds before a run, place by place: the start words, the globals behind all settings, the library, the words of each
--- segment in its place, and nothing behind them.
+-- What the store holds before a run, place by place: the start words, the globals after all settings, the library, the words of each
+-- segment in its place, and nothing after them.
 use Rattle.std.proofs.Common.{◌≡◌, ◌⊎◌, inl, inr, ℕ, zero, suc, ◌+◌, ◌-◌, ◌<◌, ◌≤◌, ◌==◌, Bool, true, false, List, [], ◌∷◌, ◌++◌, length, Option, Some, None, refl, sym, ap, subst, ◌∙◌, arith, append_assoc, if◌then◌else◌}
 use Rattle.std.specs.Prelude.{slice_get, slice_set, fold, replicate, ⊤}
 use Rattle.std.proofs.lemmas.Bool.{eqb-true, eqb-false}
@@ -27,12 +27,12 @@ abbrev pub AreSegments : List (List Item) → Type 0
 AreSegments [] = ⊤
 AreSegments (items ∷ rest) = IsSegment items × AreSegments rest
 
--- what a global holds behind settings, one after another
+-- what a global holds after settings, one after another
 abbrev pub value_behind : ℕ → List Setting → ℕ → ℕ
 value_behind global [] value = value
 value_behind global (setting ∷ rest) value = value_behind global rest (if setting.global == global then setting.value else value)
 
--- Segments lie in the order in which they are given, none below the first place, and none where the stack is.
+-- Segments are in the order in which they are given, none below the first place, and none where the stack is.
 abbrev pub SegmentsLieInOrder : Type 0
 SegmentsLieInOrder = (base : ℕ) (all : List (List Item)) (i : ℕ) (x : SegmentAt) → slice_get (segments_at base all) i ≡ Some x
     → (base ≤ x.base) × (x.base + segment_size x.items ≤ stack_start base all)
@@ -57,7 +57,7 @@ pub record IsLoaded (words : ℕ) (all : List (List Item)) (store : List ℕ) : 
 abbrev pub LoadedStoreHolds : Type 0
 LoadedStoreHolds = (words : ℕ) (all : List (List Item)) → AreSegments all → stack_start SEGMENTS all ≤ words → IsLoaded words all (loaded_store words all)
 
--- ---- where segments lie
+-- ---- where segments are
 
 abbrev OfSegment : (SegmentAt → Type 0) → Option SegmentAt → Type 0
 OfSegment q None = ⊤
@@ -202,7 +202,7 @@ low = start_words ++ replicate 1000 0
 low_length : length low ≡ 1016
 low_length = length-append start_words (replicate 1000 0) ∙ ap (λ n. 16 + n) (length-replicate {A = ℕ} 1000 0)
 
--- what lies below the segments
+-- what is below the segments
 abbrev pub below : List ℕ
 below = start_words ++ replicate 1000 0 ++ library_words
 
@@ -273,7 +273,7 @@ module _ (words : ℕ) (all : List (List Item)) (are : AreSegments all) (room : 
       up : (b : ℕ) → SEGMENTS ≤ b → 1016 ≤ b + j
       up b h = omega arith
 
-  -- and behind them
+  -- and after them
   loaded_stack : (place : ℕ) → stack_start SEGMENTS all ≤ place → place < words → slice_get loaded place ≡ Some 0
   loaded_stack place le lt =
       let front = below ++ all_words SEGMENTS all in

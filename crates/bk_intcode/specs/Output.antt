@@ -25,7 +25,7 @@ whole_text bytes = record { bytes = bytes; whole = true }
 abbrev pub cut_text : Text
 cut_text = record { bytes = []; whole = false }
 
--- one text, and the other behind it if the first is whole
+-- one text, and the other after it if the first is whole
 abbrev pub text_then : Text → Text → Text
 text_then first second =
     if first.whole then record { bytes = first.bytes ++ second.bytes; whole = second.whole } else first
@@ -55,7 +55,7 @@ plain b = Some (record { piece = piece.Byte b; bytes = 1; arguments = 0 })
 abbrev pub with_argument : List ℕ → ℕ → (ℕ → Piece) → ℕ → Option Directive
 with_argument store a write bytes = option_map (λ w. record { piece = write w; bytes = bytes; arguments = 1 }) (slice_get store a)
 
--- `%I` and a digit writes the argument in that width; `left` bytes stand behind the I, and i is the place of the first
+-- `%I` and a digit writes the argument in that width; `left` bytes follow the I, and i is the place of the first
 abbrev pub aligning : List ℕ → ℕ → ℕ → ℕ → ℕ → Option Directive
 aligning store f i left a =
     if left == 0 then plain 37

@@ -1,4 +1,4 @@
--- Placement and packing: where the words of segments lie in the store, and what the store holds before a run.
+-- Placement and packing: where the words of segments are in the store, and what the store holds before a run.
 use Rattle.std.specs.Prelude.{ℕ, suc, ◌+◌, ◌-◌, ◌*◌, ◌%◌, ◌^◌, ◌==◌, Bool, true, false, ◌||◌, List, [], ◌∷◌, ◌++◌, length, take, fold, max, replicate, slice_index, slice_set, if◌then◌else◌}
 use Rattle.bk_base.specs.Word.{word_of}
 use Rattle.bk_intcode.specs.declared.item.Function.TheVariants.{Load, Call, Operate}
@@ -47,7 +47,7 @@ abbrev pub segment_size : List Item → ℕ
 segment_size items = length (segment_words (λ label. 0) items)
 
 -- The number of a label: where the segment starts, and the sizes of the items before the label is set. A label that is not
--- set, which no segment uses, has the place behind the segment.
+-- set, which no segment uses, has the place after the segment.
 abbrev pub label_place : ℕ → List Item → ℕ
 label_place label [] = 0
 label_place label (item ∷ rest) = if item_sets label item then 0 else suc (label_place label rest)

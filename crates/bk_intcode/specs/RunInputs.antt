@@ -25,7 +25,7 @@ abbrev pub with_input : List ℕ → Standing → Standing
 with_input input (Going store r left written) = Going store r input written
 with_input input (Over e left written) = Over e input written
 
--- A run that did not ask where nothing was left does the same with any input behind the bytes that it read, and leaves that.
+-- A run that did not ask where nothing was left does the same with any input after the bytes that it read, and leaves that.
 abbrev pub RunsDependOnWhatTheyRead : Type 0
 RunsDependOnWhatTheyRead = (n : ℕ) (store : List ℕ) (r : Registers) (input written : List ℕ) → meets_end n store r input ≡ false
     → (read : List ℕ) × (input ≡ read ++ input_of (run n store r input written))

@@ -9,7 +9,7 @@ use Rattle.bk_intcode.specs.Step.{Turn, Goes, Tells, Asks, Ends, step}
 use Rattle.bk_intcode.specs.declared.output.Output.{Output}
 use Rattle.bk_intcode.specs.Runs.{Standing, Going, Over, next_byte, behind_next, after, run, output_of, Told, Exchanged, Follows, Leads, FlushesFirst, Paused, Finished, Waiting, CutShort, Broken}
 
--- where a run stands after m steps more
+-- where a run is after m steps more
 abbrev pub onwards : ℕ → Standing → Standing
 onwards m (Going store r input written) = run m store r input written
 onwards m (Over e input written) = Over e input written
@@ -93,7 +93,7 @@ abbrev pub input_of : Standing → List ℕ
 input_of (Going store r input written) = input
 input_of (Over e input written) = input
 
--- the input left behind a run is no longer than before it
+-- the input left after a run is no longer than before it
 ShrinksAt : ℕ → Type 0
 ShrinksAt n = (store : List ℕ) (r : Registers) (input written : List ℕ) → length (input_of (run n store r input written)) ≤ length input
 
@@ -144,7 +144,7 @@ pub record Beginning (Holds : List ℕ → Type 0) (n : ℕ) (store : List ℕ) 
       → (more : List ℕ) × (output_of (run n store r (read ++ rest) before) ≡ (before ++ written) ++ more)
 
 module _ (Holds : List ℕ → Type 0) (n : ℕ) (store : List ℕ) (r : Registers) (old new : Told) where
-  -- behind the first steps of n
+  -- after the first steps of n
   behind_steps : (steps : ℕ) (store' : List ℕ) (r' : Registers) (read written : List ℕ) → steps ≤ n → Leads steps store r store' r' new read written
       → (rest before : List ℕ) → Follows new rest → run n store r (read ++ rest) before ≡ run (n - steps) store' r' rest (before ++ written)
   behind_steps steps store' r' read written within leads rest before follows =
@@ -166,7 +166,7 @@ module _ (Holds : List ℕ → Type 0) (n : ℕ) (store : List ℕ) (r : Registe
         (more.0, ap output_of here ∙ more.1);
   }
 
-  -- a step that writes a text, and the steps behind it
+  -- a step that writes a text, and the steps after it
   text_begins : (k m : ℕ) (store' : List ℕ) (r' : Registers) (what : Output) (store'' : List ℕ) (r'' : Registers) → k ≡ suc m → step store' r' ≡ Tells what store'' r''
       → (rest before : List ℕ) → (more : List ℕ) × (output_of (run k store' r' rest before) ≡ (before ++ (output_text store'' what).bytes) ++ more)
   unfolding BeginsAt

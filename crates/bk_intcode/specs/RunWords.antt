@@ -49,7 +49,7 @@ abbrev pub StandsInWords : Standing → Type 0
 StandsInWords (Going store r input written) = AreWords store × HoldWords r × AreBytes input
 StandsInWords (Over e input written) = ⊤
 
--- A run on words stands on words, whatever bytes it reads.
+-- A run on words is on words, whatever bytes it reads.
 abbrev pub RunsKeepWords : Type 0
 RunsKeepWords = (n : ℕ) (store : List ℕ) (r : Registers) (input written : List ℕ) → AreWords store → HoldWords r → AreBytes input
     → StandsInWords (run n store r input written)
@@ -166,7 +166,7 @@ switched_word s c a are =
     and_then (slice_get s c) _ (get_word s c are) (λ n hn. and_then (slice_get s (word_sum c 1)) _ (get_word s (word_sum c 1) are)
     (λ d hd. matched_word (if nat_lt n (2 ^ 31) then n else 0) s (word_sum c 2) a d are hd))
 
--- an operand and the place behind it
+-- an operand and the place after it
 abbrev AreWordsIf : Option (ℕ × ℕ) → Type 0
 AreWordsIf None = ⊤
 AreWordsIf (Some o) = IsWord o.0 × IsWord o.1

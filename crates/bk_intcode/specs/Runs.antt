@@ -9,7 +9,7 @@ use Rattle.bk_intcode.specs.declared.output.Output.{Output}
 use Rattle.bk_intcode.specs.Output.{output_text}
 use Rattle.bk_intcode.specs.Step.{Turn, Goes, Tells, Asks, Ends, step}
 
--- Where a run stands: the machine, the input left and the output so far; or its end.
+-- Where a run is: the machine, the input left and the output so far; or its end.
 pub data Standing : Type 0 where
   Going : (store : List ℕ) (r : Registers) (input output : List ℕ) → Standing
   Over : (e : End) (input output : List ℕ) → Standing
@@ -23,7 +23,7 @@ abbrev pub behind_next : List ℕ → List ℕ
 behind_next [] = []
 behind_next (b ∷ rest) = rest
 
--- Where a run goes on from a turn. What a routine wrote before it led outside the store stands.
+-- Where a run goes on from a turn. What a routine wrote before it led outside the store remains.
 abbrev pub after : (List ℕ → Registers → List ℕ → List ℕ → Standing) → Turn → List ℕ → List ℕ → Standing
 after go (Goes store r) input written = go store r input written
 after go (Tells what store r) input written =
@@ -42,7 +42,7 @@ abbrev pub output_of : Standing → List ℕ
 output_of (Going store r input written) = written
 output_of (Over e input written) = written
 
--- What devices tell at a moment: the bytes left, those of them that the reader holds, and whether the end was told; the bytes
+-- What devices report at a moment: the bytes left, those of them that the reader holds, and whether the end was reported; the bytes
 -- taken, and those of them that were passed on.
 pub record Told : Type 0 where
   pub left : Option (List ℕ)
@@ -51,13 +51,13 @@ pub record Told : Type 0 where
   pub taken : Option (List ℕ)
   pub passed : Option (List ℕ)
 
--- Between two moments these bytes were delivered and these taken. Once the end was told nothing more is delivered.
+-- Between two moments these bytes were delivered and these taken. Once the end was reported nothing more is delivered.
 pub record Exchanged (old new : Told) (read written : List ℕ) : Type 0 where
   pub delivered : Consumes old.left new.left read
   pub took : Appends old.taken new.taken written
   pub stays : IsTrue old.ended → (read ≡ []) × IsTrue new.ended
 
--- Whatever may follow the bytes delivered: nothing, where the end was told.
+-- Whatever may follow the bytes delivered: nothing, where the end was reported.
 abbrev pub Follows : Told → List ℕ → Type 0
 Follows new rest = IsTrue new.ended → rest ≡ []
 
@@ -70,11 +70,11 @@ Leads n store r store' r' new read written =
 abbrev pub HeldBy : {I : Type 0} → (I → List ℕ) → List ℕ → Type 0
 HeldBy {I} held bytes = (reader : I) × (held reader ≡ bytes)
 
--- These bytes were held, and the end was not told anew, as where the reader did not ask its device.
+-- These bytes were held, and the end was not reported anew, as where the reader did not ask its device.
 abbrev pub NotAsked : Told → Told → List ℕ → Type 0
 NotAsked old new read = (old.held ≡ read ++ new.held) × (new.ended ≡ old.ended)
 
--- The reader asked its device, and these bytes were read since: none, where the device told the end or failed; else the byte
+-- The reader asked its device, and these bytes were read since: none, where the device reported the end or failed; else the byte
 -- that was asked for, and then bytes that the reader held. Holds says what a reader can hold.
 abbrev pub SinceAsk : (List ℕ → Type 0) → Told → List ℕ → Type 0
 SinceAsk Holds new [] = new.held ≡ []
@@ -91,7 +91,7 @@ pub record LeadsToAsk (n : ℕ) (store : List ℕ) (r : Registers) (read written
   pub r'' : Registers
   pub asks : step store' r' ≡ Asks store'' r''
 
--- The reader last asked its device at this step, before the end was told. All that was written before the step was passed on.
+-- The reader last asked its device at this step, before the end was reported. All that was written before the step was passed on.
 pub record LastAsk (Holds : List ℕ → Type 0) (n : ℕ) (store : List ℕ) (r : Registers) (old new : Told) (read : List ℕ) : Type 0 where
   pub earlier : List ℕ
   pub since : List ℕ
@@ -165,7 +165,7 @@ abbrev pub FailedAtTheEnd : (List ℕ → Type 0) → ℕ → List ℕ → Regis
 FailedAtTheEnd Holds n store r old new =
     ((store' : List ℕ) × (r' : Registers) × Paused Holds n store r store' r' old new) ⊎ ((e : End) × Finished Holds e n store r old new)
 
--- The output failed, or the flush behind a read that had failed.
+-- The output failed, or the flush after a read that had failed.
 abbrev pub Broken : (List ℕ → Type 0) → ℕ → List ℕ → Registers → Told → Told → Type 0
 Broken Holds n store r old new = FailedOnTheWay Holds n store r old new ⊎ FailedAtTheEnd Holds n store r old new
 
@@ -197,7 +197,7 @@ IsOwn StepLimit = ⊥
 IsOwn ReadFault = ⊥
 IsOwn WriteFault = ⊥
 
--- how a run of at most n steps went, by its end; a fault of the output is told by what is passed along
+-- how a run of at most n steps went, by its end; a fault of the output is reported by what is passed along
 abbrev pub RanOr : (List ℕ → Type 0) → Type 0 → End → ℕ → List ℕ → Registers → List ℕ → Registers → Told → Told → Type 0
 RanOr Holds fails StepLimit n store r store' r' old new = Paused Holds n store r store' r' old new
 RanOr Holds fails ReadFault n store r store' r' old new = Waiting Holds n store r old new
@@ -215,8 +215,8 @@ Went Holds e n store r store' r' old new = RanOr Holds (FailedOnTheWay Holds n s
 abbrev pub Ran : (List ℕ → Type 0) → End → ℕ → List ℕ → Registers → List ℕ → Registers → Told → Told → Type 0
 Ran Holds e n store r store' r' old new = RanOr Holds (Broken Holds n store r old new) e n store r store' r' old new
 
--- How often the devices failed, behind a run and the flush at its end: the input in a run that ends with its fault alone, and
--- not before, unless the flush failed behind that; the output in one that ends with its fault alone.
+-- How often the devices failed, after a run and the flush at its end: the input in a run that ends with its fault alone, and
+-- not before, unless the flush failed after that; the output in one that ends with its fault alone.
 abbrev pub Blames : End → (reads reads' writes' : ℕ) → Type 0
 Blames ReadFault reads reads' writes' = (reads' ≡ 1) × (writes' ≡ 0)
 Blames WriteFault reads reads' writes' = (reads ≤ reads') × (writes' ≡ 1)

@@ -96,7 +96,7 @@ AreItems items = (k : ℕ) (item : Item) → slice_get items k ≡ Some item →
 
 -- What each segment keeps.
 pub record IsSegment (items : List Item) : Type 0 where
-  -- the end stands last, and nowhere else
+  -- the end is last, and nowhere else
   pub ends : (k : ℕ) → slice_get items k ≡ Some End → suc k ≡ length items
   pub ended : slice_get items (length items - 1) ≡ Some End
   -- no label is set twice

@@ -9,7 +9,7 @@ ghost use Rattle.bk_intcode.specs.Inner.Reach.{address_size, operand_size, item_
 use crate::item::{Item, Operand};
 use bk_base::limit;
 
-/// The least address that takes a word of its own behind its instruction.
+/// The least address that takes a word of its own after its instruction.
 pub(crate) const LONG_ADDRESS: u32 = 0x200_0000;
 
 /// How many words an instruction with this address takes.
@@ -49,10 +49,10 @@ fn item_size(item: Item) -> u32
     }
 }
 
-/// How far items reach that lie one after another.
+/// How far consecutive items reach.
 #[derive(Clone, Copy)]
 pub(crate) struct Extent {
-    /// The address behind them.
+    /// The address after them.
     pub(crate) next: u32,
     /// How many bytes the last word holds of a run that may go on, 0 where none may.
     pub(crate) filled: u32,
@@ -93,7 +93,7 @@ impl Extent {
     }
 }
 
-/// What the machine needs of items that lie one after another.
+/// What the machine needs of consecutive items.
 #[derive(Clone, Copy)]
 pub(crate) struct Measure {
     /// How far they reach.

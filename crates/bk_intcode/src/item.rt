@@ -45,7 +45,7 @@ pub enum Item {
     },
     /// Sets a label at the next word.
     SetLabel(u32),
-    /// A byte. Those that stand one after another are packed four a word, byte 0 lowest, and filled with zeros.
+    /// A byte. Those that come one after another are packed four a word, byte 0 lowest, and filled with zeros.
     Byte(u8),
     /// A word.
     Word(i32),

@@ -15,7 +15,7 @@ use std::collections::BTreeMap;
 pub(crate) struct Labels {
     /// By label that is set: its number.
     numbers: BTreeMap<u32, u32>,
-    /// The address behind the segment, the number of each label that is not set.
+    /// The address after the segment, the number of each label that is not set.
     end: u32,
     ghost within: { (label : ℕ) → unwrap_or (get nat_cmp numbers label) end ≤ STORE_MOST },
 }

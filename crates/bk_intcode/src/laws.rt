@@ -20,17 +20,17 @@ pub fn sizes_ignore_labels()
     ensures { SizesIgnoreLabels }
 {}
 
-/// No label lies outside its segment.
+/// No label is outside its segment.
 pub fn labels_lie_within()
     ensures { LabelsLieWithin }
 {}
 
-/// A label lies behind the words of the items before the one that sets it.
+/// A label is after the words of the items before the one that sets it.
 pub fn labels_stand_at_their_items()
     ensures { LabelsStandAtTheirItems }
 {}
 
-/// Items that are appended put their words behind the others', where no word holds bytes of both.
+/// Items that are appended put their words after the others', where no word holds bytes of both.
 #[tactic(auto, using(crate::specs::ItemWords::items_joined))]
 pub fn items_are_joined()
     ensures { ItemsAreJoined }
@@ -42,7 +42,7 @@ pub fn sizes_are_added()
     ensures { SizesAreAdded }
 {}
 
-/// The words of an item other than a byte stand behind those of the items before it.
+/// The words of an item other than a byte follow those of the items before it.
 #[tactic(auto, using(crate::specs::ItemWords::words_of_item))]
 pub fn words_of_item()
     ensures { WordsOfItem }
@@ -54,7 +54,7 @@ pub fn words_of_bytes()
     ensures { WordsOfBytes }
 {}
 
-/// Segments lie in the order in which they are given, from the first place on, and none where the stack is.
+/// Segments are in the order in which they are given, from the first place on, and none where the stack is.
 #[tactic(auto, using(crate::specs::LoadedWords::lie_in_order))]
 pub fn segments_lie_in_order()
     ensures { SegmentsLieInOrder }
@@ -78,7 +78,7 @@ pub fn runs_keep_length()
     ensures { RunsKeepLength }
 {}
 
-/// A run on words below 2^32 stands on words below 2^32.
+/// A run on words below 2^32 is on words below 2^32.
 #[tactic(auto, using(crate::specs::RunWords::run_words))]
 pub fn runs_keep_words()
     ensures { RunsKeepWords }

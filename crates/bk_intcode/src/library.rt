@@ -1,4 +1,4 @@
-//! What lies in the store below the segments.
+//! What is in the store below the segments.
 ghost use Rattle.std.specs.Prelude.{◌≡◌, ◌+◌, ◌<◌, ◌≤◌, [], ◌++◌, OnOk, fold, length, replicate, vec_len};
 ghost use Rattle.bk_intcode.specs.Placement.{operation_word, start_words, library_words, library_settings, routine_words, with_setting};
 
@@ -6,9 +6,9 @@ use crate::item::Function;
 use crate::packing::fields;
 use std::alloc::AllocError;
 
-/// Where global 0 lies.
+/// Where global 0 is.
 pub(crate) const GLOBAL_0: u32 = 16;
-/// Where the first routine of the library lies.
+/// Where the first routine of the library is.
 const FIRST_ROUTINE: u32 = 1016;
 /// The first word of the segments.
 pub(crate) const FIRST_SEGMENT: u32 = 1034;
@@ -23,7 +23,7 @@ fn operation_word(operation: u32) -> u32
     fields(Function::Operate, false, false, false, false) + operation
 }
 
-/// Puts words 0 to 15 behind the others: the start at word 1, and the routine of global 11 at word 4.
+/// Puts words 0 to 15 after the others: the start at word 1, and the routine of global 11 at word 4.
 fn push_start(words: &mut Vec<u32>) -> Result<(), AllocError>
     ensures { OnOk result (words.new.items ≡ words.old.items ++ start_words) }
 {
@@ -40,7 +40,7 @@ fn push_start(words: &mut Vec<u32>) -> Result<(), AllocError>
     Ok(())
 }
 
-/// Puts the routines of the globals 2 to 10 behind the words.
+/// Puts the routines of the globals 2 to 10 after the words.
 fn push_routines(words: &mut Vec<u32>) -> Result<(), AllocError>
     ensures { OnOk result (words.new.items ≡ words.old.items ++ library_words) }
 {
@@ -62,7 +62,7 @@ fn set_globals(words: &mut Vec<u32>)
     words[(GLOBAL_0 + 11) as usize] = 4;
 }
 
-/// Puts the words below the segments behind none, with the library's globals set.
+/// Puts the words below the segments after none, with the library's globals set.
 pub(crate) fn push_library(words: &mut Vec<u32>) -> Result<(), AllocError>
     requires { words.old.items ≡ [] }
     ensures { OnOk result (words.new.items

@@ -27,18 +27,18 @@ pub struct Loaded {
     pub store: Vec<u32>,
     /// The first word of the stack.
     pub stack: u32,
-    /// The depth of the deepest frame that a segment tells, in words.
+    /// The depth of the deepest frame that a segment states, in words.
     pub frame: u32,
 }
 
 /// What the segments need.
 #[derive(Clone, Copy)]
 struct Needs {
-    /// The address behind them, the first word of the stack.
+    /// The address after them, the first word of the stack.
     stack: u32,
     /// One of them sets global 1.
     starts: bool,
-    /// The depth of the deepest frame that one of them tells, in words.
+    /// The depth of the deepest frame that one of them reports, in words.
     frame: u32,
 }
 
@@ -66,7 +66,7 @@ fn needs_of(segments: &[Intcode], room: u32) -> Option<Needs>
     })
 }
 
-/// Puts a segment behind the words of the store, and sets its globals.
+/// Puts a segment after the words of the store, and sets its globals.
 fn place(alloc: Global, store: &mut Vec<u32>, items: &[Item]) -> Result<(), AllocError>
     requires whole { IsSegment items.now }
     requires globals { SEGMENTS ≤ vec_len store.old }

@@ -44,7 +44,7 @@ pub enum Operator {
     Eqv,
 }
 
-/// The routines of the library, by their names in BCPL. Their arguments stand at `P!2`, `P!3` and so on.
+/// The routines of the library, by their names in BCPL. Their arguments are at `P!2`, `P!3` and so on.
 #[derive(Clone, Copy, Debug, PartialEq, Eq)]
 pub enum Routine {
     /// 24.

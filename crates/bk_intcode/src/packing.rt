@@ -1,4 +1,4 @@
-//! The words of items, put behind those of the store.
+//! The words of items, put after those of the store.
 ghost use Rattle.std.specs.Prelude.{◌≡◌, ◌+◌, ◌-◌, ◌*◌, ◌%◌, ◌^◌, ◌<◌, ◌≤◌, ◌++◌, OnOk, IfOk, fold, length, vec_len, slice_index, slice_set};
 ghost use Rattle.bk_intcode.specs.Instructions.{function_number, bit, fields, instruction_at, instruction_words};
 ghost use Rattle.bk_intcode.specs.Placement.{SEGMENTS, grown, segment_settings, segment_words, with_setting};
@@ -53,7 +53,7 @@ pub(crate) fn fields(
         + LONG_ADDRESS * bit(long)
 }
 
-/// Puts an instruction behind the words.
+/// Puts an instruction after the words.
 pub(crate) fn push_instruction(
     words: &mut Vec<u32>,
     function: Function,
@@ -73,7 +73,7 @@ pub(crate) fn push_instruction(
     Ok(())
 }
 
-/// Puts the words of an instruction behind the others.
+/// Puts the words of an instruction after the others.
 fn push_operand(
     words: &mut Vec<u32>,
     labels: &Labels,
@@ -141,7 +141,7 @@ fn add_byte(words: &mut Vec<u32>, filled: u32, byte: u8)
     words[last] += weight(filled) * u32::from(byte);
 }
 
-/// Puts the words of an item behind the others, and says how many bytes of the last word are filled.
+/// Puts the words of an item after the others, and says how many bytes of the last word are filled.
 fn push_item(
     words: &mut Vec<u32>,
     labels: &Labels,
@@ -174,7 +174,7 @@ fn push_item(
     Ok(0)
 }
 
-/// Puts the words of a segment behind the others, and sets its globals among those.
+/// Puts the words of a segment after the others, and sets its globals among those.
 pub(crate) fn push_items(
     words: &mut Vec<u32>,
     labels: &Labels,

@@ -25,7 +25,7 @@ pub enum Effect {
     Ends(End),
 }
 
-/// The address of a word of this form, and the place behind it.
+/// The address of a word of this form, and the place after it.
 #[inline(always)]
 fn address_at(store: &[u32], c: u32, form: u32, word: u32) -> Option<(u32, u32)>
     ensures { result ≡ addressed store.now c form word }
@@ -74,7 +74,7 @@ fn pointed_at(store: &[u32], form: u32, d: u32) -> Option<u32>
     }
 }
 
-/// The operand of a word of this form, and the place behind it.
+/// The operand of a word of this form, and the place after it.
 #[inline(always)]
 fn operand_of(store: &[u32], c: u32, p: u32, form: u32, word: u32) -> Option<(u32, u32)>
     ensures { result ≡ operand store.now c p form word }
@@ -279,7 +279,7 @@ fn execute(store: &mut [u32], r: &mut Registers, function: Function, d: u32) -> 
     Some(Effect::Goes)
 }
 
-/// A step on a word of this form, with C behind it.
+/// A step on a word of this form, with C after it.
 #[inline(always)]
 fn step_as(store: &mut [u32], r: &mut Registers, form: u32, word: u32) -> Option<Effect>
     ensures turn { step_on store.old r.old form word ≡ turn_of result store.new r.new }

@@ -33,11 +33,11 @@ SayOneThing = (words : List (List ℕ)) (a b : Saying) → Says a words → Says
 abbrev pub PrintedSaysAgain : Type 0
 PrintedSaysAgain = (printed : Intcode) (more : List ℕ) → Says (segment (items_of printed)) (words_of (segment_text (items_of printed) ++ more))
 
--- The words of a printed segment, with any text behind it, are its words and then those of that text.
+-- The words of a printed segment, with any text after it, are its words and then those of that text.
 abbrev pub PrintedIsParted : Type 0
 PrintedIsParted = (printed : Intcode) (more : List ℕ) → words_of (segment_text (items_of printed) ++ more) ≡ map item_text (items_of printed) ++ words_of more
 
--- So segments that are printed one behind the other are read one by one: behind the words of the first stand those of the others.
+-- So segments that are printed one after the other are read one by one: after the words of the first are those of the others.
 abbrev pub texts_of : List Intcode → List ℕ
 texts_of [] = []
 texts_of (first ∷ others) = segment_text (items_of first) ++ texts_of others

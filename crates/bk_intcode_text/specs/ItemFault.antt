@@ -1,4 +1,4 @@
--- The fault of an item behind others.
+-- The fault of an item after others.
 use Rattle.std.specs.Prelude.{Bool, List, [], ◌∷◌, ◌++◌, Option, length, nat_lt, slice_get, if◌then◌else◌}
 use Rattle.std.specs.List.{list_all}
 use Rattle.bk_base.specs.declared.limit.TheConstants.{INTCODE_ITEMS}
@@ -12,7 +12,7 @@ use Rattle.bk_intcode.specs.declared.item.Item.TheVariants.{Instruction, SetLabe
 abbrev pub all_set : List Item → Bool
 all_set items = list_all (use_is_set items) items
 
--- the faults that an item may have behind others, each by itself
+-- the faults that an item may have after others, each by itself
 abbrev pub label_not_set : List Item → Item → List IntcodeKind
 label_not_set before End = if all_set before then [] else LabelNotSet ∷ []
 label_not_set before (Instruction function indirect operand) = []
@@ -39,11 +39,11 @@ too_long before = if nat_lt (length before) INTCODE_ITEMS then [] else TooLong �
 abbrev pub frame_given_twice : List Item → Item → List IntcodeKind
 frame_given_twice before item = if is_frame item then (if gives_frame before then FrameGivenTwice ∷ [] else []) else []
 
--- the faults of an item behind others, in the order of their numbers
+-- the faults of an item after others, in the order of their numbers
 abbrev pub item_faults : List Item → Item → List IntcodeKind
 item_faults before item =
     label_not_set before item ++ (label_set_twice before item ++ (too_long before ++ frame_given_twice before item))
 
--- the fault that is told: that with the lowest number
+-- the fault that is reported: that with the lowest number
 abbrev pub item_fault : List Item → Item → Option IntcodeKind
 item_fault before item = slice_get (item_faults before item) 0

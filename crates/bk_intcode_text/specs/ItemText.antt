@@ -19,7 +19,7 @@ letter JumpFalse = 70
 letter Call = 75
 letter Operate = 88
 
--- a number, behind `P` where it counts from P on and behind `G` where it counts from G on, or `L` and the number of a label
+-- a number, after `P` where it counts from P on and after `G` where it counts from G on, or `L` and the number of a label
 abbrev pub operand_text : Operand → List ℕ
 operand_text (Number n) = spelling n
 operand_text (Local n) = 80 ∷ spelling n

@@ -1,4 +1,4 @@
--- What stands next in a text.
+-- What is next in a text.
 use Rattle.std.specs.Prelude.{ℕ, Bool, List, ◌∷◌}
 use Rattle.bk_intcode_text.specs.declared.words.Found.{Found}
 use Rattle.bk_intcode_text.specs.declared.words.Found.TheVariants.{Item, Fault, Nothing}

@@ -18,7 +18,7 @@ use Rattle.bk_intcode_text.specs.SegmentReading.{GivesSegment, GivesNothing, Giv
 abbrev pub Takes : Option (List ℕ) → Option (List ℕ) → Bool → (List ℕ → Type 0 → Type 0) → Type 0
 Takes old new ended what = (taken : List ℕ) × Consumes old new taken × what taken (AtEnd ended (length taken))
 
--- The answer is what the bytes taken say. Where memory was refused nothing is taken behind the word at which it was, save one
+-- The answer is what the bytes taken say. Where memory was refused nothing is taken after the word at which it was, save one
 -- blank. Where the device failed no segment had come to its end.
 abbrev pub Answers : Result (Option Intcode) (Refused IntcodeFault) → Option (List ℕ) → Option (List ℕ) → Bool → Type 0
 Answers (Ok (Some read)) old new ended = Takes old new ended (λ taken end. GivesSegment taken end (items_of read))
@@ -36,7 +36,7 @@ Stands (Err (Fault told)) taken more = Says (fault told.item told.kind) (words_o
 Stands (Err Memory) taken more = ⊤
 Stands (Err Device) taken more = ⊤
 
--- That stands whatever follows: nothing, where the text ends.
+-- This holds whatever follows: nothing, where the text ends.
 abbrev pub StandsWhateverFollows : Result (Option Intcode) (Refused IntcodeFault) → Option (List ℕ) → Option (List ℕ) → Bool → Type 0
 StandsWhateverFollows (Err Memory) old new ended = ⊤
 StandsWhateverFollows (Err Device) old new ended = ⊤
@@ -69,6 +69,6 @@ abbrev pub PrintedIsReadAgain : Type 0
 PrintedIsReadAgain = (printed : Intcode) (more : List ℕ) (answer : Result (Option Intcode) (Refused IntcodeFault)) →
     AnswersWords answer (words_of (segment_text (items_of printed) ++ more)) → ReadsAgain answer (items_of printed)
 
--- Where the device failed, the words with a blank behind them, which were taken, neither are a segment nor begin with one.
+-- Where the device failed, the words with a blank after them, which were taken, neither are a segment nor begin with one.
 abbrev pub NoSegmentPassed : Type 0
 NoSegmentPassed = (taken : List ℕ) (stops : StopsAtDevice taken) (items : List Item) → Says (segment items) (words_of stops.are.front) → ⊥

@@ -11,14 +11,14 @@ use Rattle.bk_intcode_text.specs.WordMeaning.{Means, WordFault}
 use Rattle.bk_words.specs.Words.{words_of}
 use Rattle.bk_words.specs.Taking.{TakesWords, StopsInWord}
 
--- Items of a segment that goes on: none has a fault behind those before it, and none is the end.
+-- Items of a segment that goes on: none has a fault after those before it, and none is the end.
 pub record IsBegun (items : List Item) : Type 0 where
   pub in_range : AreItems items
   pub faultless : (k : ℕ) (item : Item) → slice_get items k ≡ Some item → item_fault (take k items) item ≡ None
   pub no_end : (k : ℕ) → slice_get items k ≢ Some End
 
--- The word has the fault where these items stand before it. A word that stands for no item has its own fault, and an item
--- the first of those that it has behind the others.
+-- The word has the fault where these items come before it. A word that stands for no item has its own fault, and an item
+-- the first of those that it has after the others.
 abbrev pub FaultBehind : List Item → List ℕ → IntcodeKind → Type 0
 FaultBehind before word kind = WordFault word kind ⊎ ((item : Item) × Means word item × (item_fault before item ≡ Some kind))
 
@@ -60,7 +60,7 @@ pub record StopsAtWord (taken : List ℕ) (end : Type 0) : Type 0 where
   pub word : List ℕ
   pub are : TakesWords taken end (map item_text before ++ word ∷ [])
 
--- The device failed behind the words of items without a fault, of which none is the end. Behind the blanks that follow them no
+-- The device failed after the words of items without a fault, of which none is the end. After the blanks that follow them no
 -- more was taken than the bytes of one word that did not end.
 pub record StopsAtDevice (taken : List ℕ) : Type 0 where
   pub before : List Item

@@ -79,7 +79,7 @@ impl Draft {
         }
     }
 
-    /// The fault that is told of an item behind these.
+    /// The fault that is reported of an item after these.
     pub fn fault_of(&self, item: Item) -> Option<IntcodeKind>
         requires { IsDraft self.now }
         ensures { result ≡ item_fault self.now.items.items item }

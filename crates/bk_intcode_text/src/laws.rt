@@ -20,13 +20,13 @@ pub fn read_again()
     ensures { PrintedIsReadAgain }
 {}
 
-/// The words of a printed segment with a text behind it are its words, and then those of that text.
+/// The words of a printed segment with a text after it are its words, and then those of that text.
 #[tactic(auto, using(crate::proofs::PrintedLemmas::printed_is_parted))]
 pub fn printed_is_parted()
     ensures { PrintedIsParted }
 {}
 
-/// So are those of several printed segments, one behind the other.
+/// So are those of several printed segments, one after the other.
 #[tactic(auto, using(crate::proofs::PrintedLemmas::printed_are_parted))]
 pub fn printed_are_parted()
     ensures { PrintedAreParted }

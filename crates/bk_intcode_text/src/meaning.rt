@@ -11,7 +11,7 @@ use bk_base::limit::{FRAME_WORDS, FRAME_WORDS_LEAST, GLOBAL_NUMBER, INTCODE_LABE
 use bk_intcode::{Function, Item, Operand};
 use bk_words::{natural, number, within};
 
-/// The first byte, and those behind it.
+/// The first byte, and those after it.
 fn first_and_rest(bytes: &[u8]) -> Option<(u8, &[u8])>
     ensures some { IfSome result (λ p. bytes.now ≡ p.0 ∷ p.1.now) }
     ensures none { IfNone result (bytes.now ≡ []) }
@@ -62,7 +62,7 @@ fn function(byte: u8) -> Option<Function>
     }
 }
 
-/// Whether the bytes begin with `I`, and the bytes behind that.
+/// Whether the bytes begin with `I`, and the bytes after that.
 fn indirection(bytes: &[u8]) -> (bool, &[u8])
     ensures split { bytes.now ≡ indirect_text result.0 ++ result.1.now }
     ensures direct { result.0 ≡ false → (more : List ℕ) → result.1.now ≢ 73 ∷ more }
@@ -110,7 +110,7 @@ fn byte(bytes: &[u8]) -> Result<Item, IntcodeKind>
     Ok(Item::Byte(n as u8))
 }
 
-/// The bytes behind an `L`.
+/// The bytes after an `L`.
 fn behind_mark(bytes: &[u8]) -> Option<&[u8]>
     ensures some { IfSome result (λ rest. bytes.now ≡ 76 ∷ rest.now) }
     ensures none { IfNone result ((more : List ℕ) → bytes.now ≢ 76 ∷ more) }

@@ -11,7 +11,7 @@ use bk_base::{ByteIn, IntcodeFault, IntcodeKind, Refused};
 use bk_intcode::{Intcode, Item};
 use std::alloc::Global;
 
-/// A fault at the item behind so many others.
+/// A fault at the item after so many others.
 fn fault_behind(count: usize, kind: IntcodeKind) -> Refused<IntcodeFault>
     requires { count ≤ INTCODE_ITEMS }
     ensures { result ≡ Refused.Fault (record { item = count + 1; kind = kind }) }
@@ -33,11 +33,11 @@ pub fn read_segment<I: ByteIn>(
     // What was taken is the text of the segment, or blanks, or a text up to its first fault, up to the word at which memory was
     // refused, or some words of a segment that did not end and the first bytes of the next word, where the device failed.
     ensures answers { Answers result (I.left input.old) (I.left input.new) (I.ended input.new) }
-    // That stands whatever follows the bytes taken.
+    // This holds whatever follows the bytes taken.
     ensures stands { StandsWhateverFollows result (I.left input.old) (I.left input.new) (I.ended input.new) }
     // The same of the whole text, whose words say one thing.
     ensures says { (all : List ℕ) → I.left input.old ≡ Some all → length all < INPUT_BYTES → AnswersWords result (words_of all) }
-    // It fails exactly where the device does, and at once where that failed before. Where the end was told, nothing is left.
+    // It fails exactly where the device does, and at once where that failed before. Where the end was reported, nothing is left.
     ensures failures { I.faults input.new ≡ (if is_device result then 1 else 0) }
     ensures failed_again { I.faults input.old ≡ 1 → (result ≡ Err Refused.Device) × Keeps (I.left input.old) (I.left input.new) }
     ensures ended_again { IsTrue (I.ended input.old) → (result ≡ Ok None) × IsTrue (I.ended input.new) }

@@ -13,10 +13,10 @@ use bk_base::{ByteIn, Failed, IntcodeKind};
 use bk_intcode::Item;
 use bk_words::{Gathered, next_word};
 
-/// What stands next in a text.
+/// What is next in a text.
 #[derive(Clone, Copy, Debug, PartialEq, Eq)]
 pub enum Found {
-    /// An item, and whether the text ended right behind its word.
+    /// An item, and whether the text ended right after its word.
     Item { item: Item, last: bool },
     /// A word with a fault of its own.
     Fault(IntcodeKind),
@@ -38,7 +38,7 @@ fn held_meaning(held: &Gathered) -> Result<Item, IntcodeKind>
     }
 }
 
-/// What the word means that a device gives next. It takes the blanks before the word, the word, and the blank behind it
+/// What the word means that a device gives next. It takes the blanks before the word, the word, and the blank after it
 /// if there is one.
 pub fn next_item<I: ByteIn>(input: &mut I, taken: &mut u64) -> Result<Found, Failed>
     requires { 0 < taken.old → I.faults input.old ≡ 0 }

@@ -79,7 +79,7 @@ check_status (Ok report) = verdict_status report.verdict
 check_status (Err (n.Text refusal)) = fault_status refusal.fault
 check_status (Err (n.Run stop)) = check_fault_status stop.fault
 
--- some text was told, of which no contract says more
+-- some text was reported, of which no contract says more
 abbrev pub TellsText : Output → Output → Type 0
 TellsText old new = (text : List ℕ) × TellsLine text old new
 

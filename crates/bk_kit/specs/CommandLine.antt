@@ -72,7 +72,7 @@ interpret_command = with_rule (with_rule (with_rule (with_rule (new_app (codes "
 abbrev pub with_version : App → App
 with_version app = record app { top = record app.top { has_version = true } }
 
--- `bcpl`, which tells its version
+-- `bcpl`, which reports its version
 abbrev pub kit_command : App
 kit_command =
     with_version (with_subcommand (with_subcommand (with_subcommand (with_subcommand (with_subcommand (new_app (codes "bcpl")) compile_command.top) generate_command.top) run_command.top) check_command.top) interpret_command.top)

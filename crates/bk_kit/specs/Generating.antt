@@ -55,7 +55,7 @@ pub record IsGenerated (g : Generated) : Type 0 where
   pub read : IsRead g.bytes g.stmts
   pub segment : IsSegment g.items
   pub stands : StandsFor g.items g.stmts
-  -- it tells the section's largest depth
+  -- it states the section's largest depth
   pub frame : EndsWithFrame g.items (frame_words g.stmts)
 
 abbrev pub AreGenerated : List Generated → Type 0

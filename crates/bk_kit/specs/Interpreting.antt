@@ -69,7 +69,7 @@ pub record Interprets (Holds : List ℕ → Type 0) (end : End) (steps words : �
   pub registers : Registers
   pub ran : Ran Holds end steps (loaded_store words all) (first_registers all) store registers before after
 
--- What input and output tell at a moment: the bytes left, those of them that the reader holds, and whether the end was told; the
+-- What input and output report at a moment: the bytes left, those of them that the reader holds, and whether the end was reported; the
 -- bytes taken, and those passed on; how often each failed.
 pub record Streams : Type 0 where
   pub left : Option (List ℕ)

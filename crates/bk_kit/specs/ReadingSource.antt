@@ -17,11 +17,11 @@ AskedFrom cutter (byte ∷ rest) = (cut_as cutter ≡ More) × AskedFrom (then_o
 abbrev pub Asked : List ℕ → Type 0
 Asked bytes = AskedFrom (Some start) bytes
 
--- whatever may follow the bytes delivered: nothing, where the source's end was told
+-- whatever may follow the bytes delivered: nothing, where the source's end was reported
 abbrev pub Follows : Bool → List ℕ → Type 0
 Follows ended rest = IsTrue ended → rest ≡ []
 
--- Nothing is read of a section that begins with these bytes but what is read of them; where the source's end was told, nothing
+-- Nothing is read of a section that begins with these bytes but what is read of them; where the source's end was reported, nothing
 -- follows.
 abbrev pub Settles : List ℕ → Bool → Type 0
 Settles bytes ended = (line : ℕ) (rest : List ℕ) → Follows ended rest → lexed (bytes ++ rest) line ≡ lexed bytes line
@@ -33,7 +33,7 @@ pub record IsDelivered (bytes : List ℕ) (old new : Option (List ℕ)) (before 
   pub counted : after ≡ before + length bytes
   pub few : length bytes ≤ SECTION_BYTES + 1
 
--- Some bytes were delivered, and this holds of each source that begins with them; where the source's end was told, of just these.
+-- Some bytes were delivered, and this holds of each source that begins with them; where the source's end was reported, of just these.
 -- One call reads no more than so many bytes, and a source is taken to have less.
 pub record EachSource (old new : Option (List ℕ)) (ended : Bool) (Holds : List ℕ → Type 0) : Type 0 where
   pub text : List ℕ

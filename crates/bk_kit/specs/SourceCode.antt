@@ -28,12 +28,12 @@ pub record IsCodeOf (source code : List ℕ) : Type 0 where
   pub has : HasParts parts source
   pub words : words_of code ≡ all_words intcode (segments parts)
 
--- Each segment tells the largest depth of its section.
+-- Each segment states the largest depth of its section.
 abbrev pub TellFrames : List Part → Type 0
 TellFrames [] = ⊤
 TellFrames (p ∷ rest) = EndsWithFrame p.items (frame_words p.stmts) × TellFrames rest
 
--- generating from this text writes the code of this source, which tells its frames
+-- generating from this text writes the code of this source, which reports its frames
 abbrev pub WritesCode : List ℕ → List ℕ → Type 0
 WritesCode source text =
     (left : Option (List ℕ)) (ended : Bool) (faults : ℕ) (before after : Output) (done : Unit {0}) → length text < INPUT_BYTES → (IsTrue ended → left ≡ Some [])
@@ -54,7 +54,7 @@ InterpretsSources = (source code : List ℕ) (is : IsCodeOf source code) (answer
     → Interpreted AnyBytes answer steps words (Some code) new ended before after
     → Keeps (meanings_with (λ trees. image is.parts)) source answer steps words before after
 
--- The largest frame that is reported of code that tells its frames is the number of the source.
+-- The largest frame that is reported of code that reports its frames is the number of the source.
 abbrev pub FramesAreOfSources : Type 0
 FramesAreOfSources = (source code : List ℕ) (is : IsCodeOf source code) → TellFrames is.parts → is.has.0 ≢ [] → greatest_frame (segments is.parts) ≡ frame_of is.has.0
 

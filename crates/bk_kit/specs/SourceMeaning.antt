@@ -100,7 +100,7 @@ module _ (trees : List Declarations) (input : List ℕ) where
     pub calls : ℕ
     pub means : meaning trees input turns ≡ program.Going bytes left calls
 
-  -- enough for the end, where so many words stand before the stack
+  -- enough for the end, where so many words come before the stack
   pub record EnoughToEnd (image steps words : ℕ) : Type 0 where
     pub turns : ℕ
     pub bytes : List ℕ

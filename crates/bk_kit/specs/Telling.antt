@@ -3,7 +3,7 @@ use Rattle.std.specs.Prelude.{◌≡◌, ℕ, List, Option, None, Some}
 use Rattle.std.specs.Io.KnownBytes.{Appends}
 use Rattle.bk_base.specs.Devices.{AppendsPart, Begins}
 
--- what an output device tells at a moment
+-- what an output device reports at a moment
 pub record Output : Type 0 where
   pub taken : Option (List ℕ)
   pub passed : Option (List ℕ)
@@ -15,7 +15,7 @@ pub record TellsLine (line : List ℕ) (old new : Output) : Type 0 where
   pub passes : Begins old.passed new.passed
   pub whole : new.faults ≡ 0 → Appends old.taken new.taken line × (new.passed ≡ new.taken)
 
--- The line was told if there is one, and else nothing was done.
+-- The line was reported if there is one, and else nothing was done.
 abbrev pub Tells : Option (List ℕ) → Output → Output → Type 0
 Tells None old new = new ≡ old
 Tells (Some line) old new = TellsLine line old new

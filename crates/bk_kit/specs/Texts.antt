@@ -36,7 +36,7 @@ module _ {Part Kind : Type 0} (format : Format Part Kind) where
       (before : List Part) × (rest : List (List ℕ)) × AreWhole before × (words ≡ all_words before ++ rest)
       × format.Refuses place kind rest × (number ≡ part_number (length before))
 
-  -- A text that begins with these bytes says this, whatever follows them: nothing, where the end was told. A text has less bytes
+  -- A text that begins with these bytes says this, whatever follows them: nothing, where the end was reported. A text has less bytes
   -- than one call reads.
   abbrev pub SaysWhateverFollows : Saying Part Kind → List ℕ → Bool → Type 0
   SaysWhateverFollows saying taken ended =

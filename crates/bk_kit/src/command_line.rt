@@ -14,7 +14,7 @@ use clap::{Arg, ArgAction, ArgMatches, Command, value_parser};
 use std::alloc::{AllocError, Global};
 use std::convert::AsStr;
 
-/// The version that `--version` tells.
+/// The version that `--version` reports.
 const VERSION: &str = "1.0";
 
 /// What is below the help on all.

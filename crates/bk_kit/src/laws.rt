@@ -34,7 +34,7 @@ pub fn filters_write_code()
 }
 
 /// The code of a source: interpreting a text of any segments that stand for its sections promises what running it promises, with the first
-/// word of the stack as the words before it; and where they tell their frames, the frame that is reported is that of the source.
+/// word of the stack as the words before it; and where they report their frames, the frame that is reported is that of the source.
 pub fn codes_run()
     ensures interprets { InterpretsSources }
     ensures frames { FramesAreOfSources }

@@ -10,11 +10,11 @@ pub enum Order {
     Generate,
     /// `bcpl run`: run the BCPL source in FILE.
     Run(Limits, String),
-    /// `bcpl check`: do what the BCPL source in FILE means, in so many turns, and tell what goes wrong.
+    /// `bcpl check`: do what the BCPL source in FILE means, in so many turns, and report what goes wrong.
     Check(u64, String),
     /// `bcpl interpret`: run the INTCODE in FILE.
     Interpret(Limits, String),
-    /// `bcpl interpret --sizes`: tell what the INTCODE in FILE needs in a store of so many words. The steps that `-t` gives are
+    /// `bcpl interpret --sizes`: report what the INTCODE in FILE needs in a store of so many words. The steps that `-t` gives are
     /// not used.
     Sizes(u32, String),
 }

@@ -1,4 +1,4 @@
-//! Exit statuses, and the lines that tell of them.
+//! Exit statuses, and the lines that report them.
 ghost use Rattle.std.specs.Prelude.{◌≡◌};
 ghost use Rattle.bk_kit.specs.FaultLine.{fault_text, line_of};
 ghost use Rattle.bk_kit.specs.Statuses.{stop_status, end_status, end_line, fault_status, run_status, run_line, done_status, done_line};

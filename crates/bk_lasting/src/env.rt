@@ -124,7 +124,7 @@ impl<'a> Env<'a> {
         })
     }
 
-    /// Behind so many lasting objects.
+    /// After so many lasting objects.
     pub fn behind(self, count: u64) -> Result<Env<'a>, AllocError>
         ensures { IfOk result (λ env. env_in env ≡ behind count (env_in self.entry)) }
     {

@@ -7,7 +7,7 @@ use Rattle.bk_meaning.specs.World.{World, Outcome, gives, undefined, with, turn,
 use Rattle.bk_meaning.specs.Environment.{Environment, cell, bind, behind, past, past_definition, constant_in, within_let, constants_declared, letters, objects_of_definitions}
 use Rattle.bk_meaning.specs.Parts.{Meanings}
 
--- Declarations give the environment behind them. Of a LET all values come first, in an environment with its
+-- Declarations give the environment after them. Of a LET all values come first, in an environment with its
 -- procedures; then each name is an object. A VEC is an object, and its value the address of that.
 abbrev pub vec_cells : ℕ → List Cell
 vec_cells k = replicate (k + 1) (holds unset)

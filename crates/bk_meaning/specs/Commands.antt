@@ -43,7 +43,7 @@ simple_exit k.EndCase w = leaves endcase w
 simple_exit k.Return w = leaves return w
 simple_exit k.Finish w = ends (status 0) w
 
--- What a command does, forwards or seeking a place that stands in it.
+-- What a command does, forwards or seeking a place that is in it.
 abbrev pub act_of : Program → Meanings → Action → Mode → Environment → World → Outcome Done
 act_of p m t.empty mode env w = done w
 act_of p m (t.assign l xs es) mode env w = assigned m xs env es (past_each xs env) w

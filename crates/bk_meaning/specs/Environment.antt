@@ -116,7 +116,7 @@ abbrev mutual
   objects_of_starts (t.value e is) = objects e + objects_of_starts is
   objects_of_starts (t.vector l e is) = objects_of_starts is
 
--- the environment behind a part that comes before, in the order of the source
+-- the environment after a part that comes before, in the order of the source
 abbrev pub past : Expression → Environment → Environment
 past e env = behind (objects e) env
 

@@ -36,7 +36,7 @@ size_of dead = None
 abbrev pub sizes : Memory → List (Option ℕ)
 sizes m = map size_of m
 
--- Each object that was there is there with its size if it lived, and dead if it was dead; further ones are behind them.
+-- Each object that was there is there with its size if it lived, and dead if it was dead; further ones are after them.
 pub record Keeps (old new : List (Option ℕ)) : Type 0 where
   pub made : List (Option ℕ)
   pub objects : new ≡ old ++ made

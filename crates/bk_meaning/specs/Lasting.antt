@@ -44,7 +44,7 @@ abbrev pub of_items : Environment → Sort → Items → List Lasting
 of_items env s.Static is = static_words env is
 of_items env _ is = []
 
--- The environment behind a declaration, as far as it is known before the run: variables are foreign to the procedures inside.
+-- The environment after a declaration, as far as it is known before the run: variables are foreign to the procedures inside.
 abbrev pub variables_hidden : Definitions → Environment → Environment
 variables_hidden t.no_definitions env = env
 variables_hidden (t.define (t.variables l xs is) ds) env = variables_hidden ds (bind_each (letters xs) foreign env)

@@ -43,7 +43,7 @@ read m a = option_and_then value_in (cell_at m a)
 abbrev pub write : Memory → Value → Value → Option Memory
 write m a v = with_cell m a (holds v)
 
--- byte i of the words from an address on lies in this cell
+-- byte i of the words from an address on is in this cell
 abbrev pub cell_of_byte : Value → ℕ → Value
 cell_of_byte (address o k) i = address o (word_sum k (byte_distance i))
 cell_of_byte v i = v

@@ -1,4 +1,4 @@
--- What lasts stands at its number: where a run makes the address of a string, a table or a static word, or comes to a procedure,
+-- What lasts is at its number: where a run makes the address of a string, a table or a static word, or comes to a procedure,
 -- the list of what lasts has it at the number that the environment gives there; and a tree has as many as are counted for it.
 use Rattle.std.specs.Prelude.{◌≡◌, ℕ, suc, ◌+◌, Some, unwrap_or, List, [], ◌∷◌, length, slice_get}
 use Rattle.bk_tree.specs.declared.tree.Sort.{Sort}
@@ -22,7 +22,7 @@ abbrev pub InItems : Program → Environment → Sort → Items → Type 0
 InItems p env s.Static is = InStatics p env.next env is
 InItems p env _ is = Unit {0}
 
--- all that lasts of a tree stands at its number
+-- all that lasts of a tree is at its number
 abbrev mutual
   pub InExpression : Program → Environment → Expression → Type 0
   InExpression p env (t.text l x) = StandsAt p env.next (words (text_words x))

@@ -26,7 +26,7 @@ pub record Meanings : Type 0 where
   -- the commands of a scope
   pub scope : Actions → Mode → Environment → World → Outcome Done
 
--- what stands at an address
+-- what is at an address
 abbrev pub fetch : Value → World → Outcome Value
 fetch a w = given (read w.memory a) w
 

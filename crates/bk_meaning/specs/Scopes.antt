@@ -8,7 +8,7 @@ use Rattle.bk_meaning.specs.Environment.{Environment, past_action, labelled}
 use Rattle.bk_meaning.specs.Seeking.{the_label, Mode, forwards, seeking, stands_in, stands_in_one}
 use Rattle.bk_meaning.specs.Parts.{Meanings}
 
--- Commands in order. Seeking passes over those in which the place does not stand, and goes on forwards from it.
+-- Commands in order. Seeking passes over those in which the place is not, and goes on forwards from it.
 abbrev pub in_order : Meanings → Actions → Mode → Environment → World → Outcome Done
 in_order m t.no_actions mode env w = done w
 in_order m (t.also c cs) forwards env w = with (m.act c forwards env w) (λ _ w. in_order m cs forwards (past_action c env) w)

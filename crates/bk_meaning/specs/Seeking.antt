@@ -1,4 +1,4 @@
--- Seeking a label, or the place of a CASE or DEFAULT, in commands: where it stands, seeking can come to it.
+-- Seeking a label, or the place of a CASE or DEFAULT, in commands: where it is, seeking can come to it.
 use Rattle.std.specs.Prelude.{ℕ, ◌==◌, Bool, true, false, ◌||◌, cond, Option, Some, List}
 use Rattle.std.specs.Str.{bytes_eq}
 use Rattle.bk_tree.specs.Tree as t
@@ -26,7 +26,7 @@ same_place (the_case x) (the_case y) = same_word x y
 same_place the_default the_default = true
 same_place _ _ = false
 
--- how to go on behind a place
+-- how to go on after a place
 abbrev pub at_place : Sought → Mode → Mode
 at_place here forwards = forwards
 at_place here (seeking s) = cond (same_place s here) forwards (seeking s)
@@ -36,7 +36,7 @@ abbrev pub is_label : Sought → Bool
 is_label (the_label x) = true
 is_label _ = false
 
--- Whether the place stands in a command, where seeking comes to it: a block with declarations, the body of a FOR and of a VALOF
+-- Whether the place is in a command, where seeking comes to it: a block with declarations, the body of a FOR and of a VALOF
 -- keep their own.
 abbrev mutual
   pub stands_in : Sought → Environment → Action → Bool

@@ -32,7 +32,7 @@ pub data Exit : Type 0 where
   result : (value : Value) → Exit
   return : Exit
 
--- What comes of an expression or a command: something is given and the run goes on, or it is left by an exit, or the program
+-- What results from an expression or a command: something is given and the run goes on, or it is left by an exit, or the program
 -- ends; or the act is undefined; or no turn is left.
 pub data Outcome (A : Type 0) : Type 0 where
   gives : (what : A) (w : World) → Outcome A

@@ -24,7 +24,7 @@ pub fn output_only_grows()
     ensures { OutputOnlyGrows }
 {}
 
-/// Behind each part of a program as many calls are active as before it, and the objects that were there keep their lives
+/// After each part of a program as many calls are active as before it, and the objects that were there keep their lives
 /// and sizes.
 pub fn calls_come_back()
     ensures { CallsComeBack }

@@ -18,7 +18,7 @@ found cells (l ∷ ls) o = cond (l.number == o) (object_in cells l) (found cells
 abbrev pub memory_of : List Cell → List Life → ℕ → Memory
 memory_of cells ls n = map (found cells ls) (range_with_len 0 n)
 
--- The numbers grow, from n on, and are below m. The cells lie one after another, from place s on, and end before place e.
+-- The numbers grow, from n on, and are below m. The cells are one after another, from place s on, and end before place e.
 abbrev pub Laid : ℕ → ℕ → List Life → ℕ → ℕ → Type 0
 Laid n s [] m e = (n ≤ m) × (s ≤ e)
 Laid n s (l ∷ ls) m e = (n ≤ l.number) × (s ≤ l.start) × Laid (l.number + 1) (l.start + l.len) ls m e

@@ -1,4 +1,4 @@
-//! What comes of an operation on values.
+//! What results from an operation on values.
 
 use crate::worth::Worth;
 
@@ -27,7 +27,7 @@ pub enum Reason {
     NoPlace,
 }
 
-/// What comes of an operation on values.
+/// What results from an operation on values.
 #[derive(Clone, Copy, Debug)]
 pub enum Computed {
     /// It gives this value.

@@ -22,13 +22,13 @@ struct Life {
     len: usize,
 }
 
-/// Where an object stands among those that live.
+/// Where an object is among those that live.
 fn place(lives: &[Life], object: u64) -> Option<usize>
     requires { Grow lives.now }
     ensures some { IfSome result (λ i. (i < length lives.now) × HoldsAt (λ l. l.number ≡ object) lives.now i) }
     ensures none { IfNone result (All (λ l. l.number ≢ object) lives.now) }
 {
-    // An object that lasts stands at its number.
+    // An object that lasts is at its number.
     if let Some(life) = lives.get(object as usize)
         && life.number == object
     {

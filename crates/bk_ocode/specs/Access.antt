@@ -25,7 +25,7 @@ abbrev pub byte_at : ℕ → (ℕ → Cell) → ℕ → ℕ → Option ℕ
 byte_at top cells s i =
     option_and_then (λ content. byte_in content (byte_place i)) (variable_at top cells (word_sum s (byte_distance i)))
 
--- the word in which that byte lies, with it set to a number modulo 256
+-- the word in which that byte is, with it set to a number modulo 256
 abbrev pub word_with_byte_at : ℕ → (ℕ → Cell) → ℕ → ℕ → ℕ → Option Content
 word_with_byte_at top cells s i b =
     option_map (λ content. with_byte content (byte_place i) (b % 256)) (variable_at top cells (word_sum s (byte_distance i)))

@@ -1,4 +1,4 @@
--- The one word behind the first word of a short statement.
+-- The one word after the first word of a short statement.
 use Rattle.std.specs.Prelude.{ℕ, ◌<◌, ◌^◌, List, [], ◌∷◌, ⊤}
 use Rattle.bk_base.specs.Decimal.{spelling}
 use Rattle.bk_ocode.specs.StmtText.{natural_word, label_word, argument_words}
@@ -20,7 +20,7 @@ IsArgument (Number value) = ⊤
 IsArgument (Natural n) = n < 2 ^ 31
 IsArgument (Label label) = IsLabel label
 
--- the words behind the first, where they are not a list of any length
+-- the words after the first, where they are not a list of any length
 abbrev pub short_words : Stmt → List (List ℕ)
 short_words (stmt.Text bytes) = []
 short_words (stmt.Entry label name) = []

@@ -153,7 +153,7 @@ NoVariable kinds.Local word = NoNatural 2 LARGEST word
 NoVariable kinds.Global word = NoNatural 0 GLOBAL_NUMBER word
 NoVariable kinds.Static word = NoLabel word
 
--- nor what is due behind this first word
+-- nor what is due after this first word
 abbrev pub NoArgument : Keyword → List ℕ → Type 0
 NoArgument keywords.Number word = NoNumber word
 NoArgument keywords.DataNumber word = NoNumber word
@@ -194,7 +194,7 @@ abbrev pub IsBegunPart : Option Begun → Type 0
 IsBegunPart None = ⊤
 IsBegunPart (Some begun) = IsBegunStmt begun
 
--- what is answered where a word does not fit behind so many statements
+-- what is answered where a word does not fit after so many statements
 abbrev pub refusal : ℕ → Unfit → Refused OcodeFault
 refusal count unfits.BadWord = Fault (record { statement = count + 1; kind = BadWord })
 refusal count unfits.BadNumber = Fault (record { statement = count + 1; kind = BadNumber })

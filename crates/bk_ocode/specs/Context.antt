@@ -1,4 +1,4 @@
--- What the statements of a section leave for those behind them.
+-- What the statements of a section leave for those after them.
 use Rattle.std.specs.Prelude.{ℕ, ◌+◌, ◌-◌, ◌==◌, min, true, false, List, [], ◌∷◌, length, Option, Some, None, if◌then◌else◌}
 use Rattle.bk_ocode.specs.StmtText.{stmt_words}
 use Rattle.bk_ocode.specs.Depth.{next_depth}
@@ -20,7 +20,7 @@ pub record Context : Type 0 where
   -- how many statements and words of text there are
   pub count : ℕ
   pub words : ℕ
-  -- where the next statement stands, and its depth
+  -- where the next statement is, and its depth
   pub position : Position
   pub depth : ℕ
   -- how many statements there are before the procedure, or before the last one
@@ -53,7 +53,7 @@ with_depth depth jumps.Several = jumps.Several
 abbrev pub jumped : ℕ → LabelUse → LabelUse
 jumped depth known = record known { jumps = with_depth depth known.jumps; named = true }
 
--- a RES comes with the depth behind it
+-- a RES comes with the depth after it
 abbrev pub least_result : ℕ → Option ℕ → Option ℕ
 least_result depth None = Some depth
 least_result depth (Some d) = Some (min d depth)
@@ -68,7 +68,7 @@ mentioned known = record known { named = true }
 abbrev pub set_by : Setting → LabelUse → LabelUse
 set_by what known = record known { setting = what }
 
--- a statement stands behind the label's LAB
+-- a statement follows the label's LAB
 abbrev pub what_stands : Stmt → Behind
 what_stands (TakeResult depth) = behind.Takes depth
 what_stands _ = behind.Other
@@ -103,7 +103,7 @@ start_from count start _ = start
 abbrev pub start_behind : Context → Stmt → ℕ
 start_behind c s = start_from c.count c.start s
 
--- what is left behind one statement more
+-- what is left after one statement more
 abbrev pub after : Context → Stmt → Context
 after c s = record {
   count = c.count + 1;
@@ -114,7 +114,7 @@ after c s = record {
   uses = labels_named c.depth c.count s (label_followed c.position s c.uses);
 }
 
--- and behind several
+-- and after several
 abbrev pub after_all : Context → List Stmt → Context
 after_all c [] = c
 after_all c (s ∷ rest) = after_all (after c s) rest

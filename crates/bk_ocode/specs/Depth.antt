@@ -5,7 +5,7 @@ use Rattle.bk_ocode.specs.declared.stmt.Variable.TheVariants.{Local, Global, Sta
 use Rattle.bk_ocode.specs.declared.stmt.Stmt.{Stmt}
 use Rattle.bk_ocode.specs.declared.stmt.Stmt.TheVariants.{Number, True, False, Query, Load, Address, Text, Monadic, Dyadic, LoadByte, Assign, AssignAt, AssignByte, Jump, JumpIf, Label, GiveResult, TakeResult, Stack, Store, Entry, Save, CallFunction, CallRoutine, ReturnItem, Return, EndProcedure, Switch, Finish, DataLabel, DataNumber, DataAddress, Globals}
 
--- the depth behind a statement that has depth k before it
+-- the depth after a statement that has depth k before it
 abbrev pub next_depth : ℕ → Stmt → ℕ
 next_depth k (Number value) = k + 1
 next_depth k True = k + 1
@@ -53,7 +53,7 @@ assign_depth (Global number) = 3
 assign_depth (Static label) = 3
 
 -- The least depth that a statement needs before it: slots and items are from slot 2 on and below the depth, a slot that is
--- stored lies below the item, and a call has the links of its frame below the item that it calls.
+-- stored is below the item, and a call has the links of its frame below the item that it calls.
 abbrev pub least_depth : Stmt → ℕ
 least_depth (Load from) = load_depth from
 least_depth (Address of) = load_depth of
@@ -71,7 +71,7 @@ least_depth ReturnItem = 3
 least_depth (Switch default cases) = 3
 least_depth _ = 0
 
--- the depth behind statements, and the largest on the way
+-- the depth after statements, and the largest on the way
 abbrev pub depth_behind : ℕ → List Stmt → ℕ
 depth_behind k [] = k
 depth_behind k (s ∷ rest) = depth_behind (next_depth k s) rest

@@ -21,7 +21,7 @@ use Rattle.bk_ocode.specs.declared.standing.LabelUse.{LabelUse}
 use Rattle.bk_ocode.specs.declared.stmt.Stmt.{Stmt}
 use Rattle.bk_ocode.specs.declared.stmt.Stmt.TheVariants.{Jump, JumpIf, Label, GiveResult, TakeResult, EndProcedure, Switch, Globals}
 
--- 1: the statement may not stand there
+-- 1: the statement may not be there
 abbrev pub misplaced : Context → Stmt → Bool
 misplaced c s = not (may_stand c.position (role s))
 
@@ -93,7 +93,7 @@ jumps_disagree c depth labels = list_any (λ label. is_other_lab depth (c.uses l
 abbrev pub result_named : Context → Stmt → Bool
 result_named c s = list_any (λ label. is_some (c.uses label).result) (other_labels s)
 
--- Its LAB is followed by RSTACK n, with n at most the depth behind each RES.
+-- Its LAB is followed by RSTACK n, with n at most the depth after each RES.
 abbrev pub over : ℕ → Option ℕ → Bool
 over n None = false
 over n (Some depth) = nat_lt depth n
@@ -109,7 +109,7 @@ abbrev pub follows_badly : Context → Position → Stmt → Bool
 follows_badly c (position.BehindLabel label) s = result_not_taken c label s
 follows_badly c _ s = false
 
--- a RES that comes behind its LAB
+-- a RES that comes after its LAB
 abbrev pub is_badly_followed : ℕ → Behind → Bool
 is_badly_followed depth (behind.Takes n) = nat_lt depth n
 is_badly_followed depth behind.Nothing = true
@@ -145,7 +145,7 @@ abbrev pub too_long : Context → Stmt → Bool
 too_long c s =
     nat_le OCODE_STATEMENTS c.count || (nat_lt OCODE_WORDS (c.words + length (stmt_words s)) || nat_lt FRAME_WORDS (next_depth c.depth s))
 
--- The fault that is told of a statement behind others: that with the lowest number.
+-- The fault that is reported of a statement after others: that with the lowest number.
 abbrev pub fault_in : List Stmt → Context → Stmt → Option OcodeKind
 fault_in before c s =
     if misplaced c s then Some BadWord

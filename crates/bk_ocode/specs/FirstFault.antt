@@ -22,7 +22,7 @@ pub record IsBegun (before : List Stmt) : Type 0 where
   pub are_typed : AreTyped before
   pub goes_on : (context_of before).position ≢ Ended
 
--- These words begin a statement that may stand behind the others, and more words are due in it.
+-- These words begin a statement that may follow the others, and more words are due in it.
 pub record BeginsStmt (before : List Stmt) (part : List (List ℕ)) : Type 0 where
   pub stmt : Stmt
   pub is_stmt : IsStmt stmt
@@ -31,7 +31,7 @@ pub record BeginsStmt (before : List Stmt) (part : List (List ℕ)) : Type 0 whe
   pub rest : List (List ℕ)
   pub begins : stmt_words stmt ≡ part ++ (word ∷ rest)
 
--- 1: no statement that begins with the word may stand there
+-- 1: no statement that begins with the word may be there
 pub record IsBadWord (before : List Stmt) (part : List (List ℕ)) : Type 0 where
   pub word : List ℕ
   pub first : part ≡ word ∷ []
@@ -47,7 +47,7 @@ pub record IsBadNumber (before : List Stmt) (part : List (List ℕ)) : Type 0 wh
   pub within : length (section_words before ++ front) ≤ OCODE_WORDS
   pub none : (s : Stmt) (rest : List (List ℕ)) → IsStmt s → stmt_words s ≢ part ++ rest
 
--- 4 to 8: the words are those of a statement that breaks this rule, and none with a lower number, behind the others. Its
+-- 4 to 8: the words are those of a statement that breaks this rule, and none with a lower number, after the others. Its
 -- last word is at most the first past the limit of words.
 pub record BreaksRule (before : List Stmt) (part : List (List ℕ)) (kind : OcodeKind) : Type 0 where
   pub stmt : Stmt
@@ -61,7 +61,7 @@ pub record PassesWords (before : List Stmt) (part : List (List ℕ)) : Type 0 wh
   pub begun : BeginsStmt before part
   pub past : length (section_words before ++ part) ≡ OCODE_WORDS + 1
 
--- The fault of the first words of a statement, behind others without a fault.
+-- The fault of the first words of a statement, after others without a fault.
 abbrev pub FaultOf : List Stmt → List (List ℕ) → OcodeKind → Type 0
 FaultOf before part BadWord = IsBadWord before part
 FaultOf before part BadNumber = IsBadNumber before part

@@ -4,7 +4,7 @@ use Rattle.bk_ocode.specs.Cells.{Word, Link, Cell, Held}
 use Rattle.bk_ocode.specs.OcodeState.{State, Goes}
 use Rattle.bk_ocode.specs.OcodeRun.{Program, run}
 
--- Each frame has the links of its caller: where the caller's frame begins, and the place behind the call, which is no
+-- Each frame has the links of its caller: where the caller's frame begins, and the place after the call, which is no
 -- routine's. The lowest is START's, whose links lead home. A frame begins in its caller's, at slot 2 at least and at F at most.
 pub data HasFrames (program : Program) (first F : ℕ) (cells : ℕ → Cell) : ℕ → ℕ → Type 0 where
   start : cells first ≡ Held Link (Word first) → cells (suc first) ≡ Held Link (Word program.home) → HasFrames program first F cells first 1

@@ -10,8 +10,8 @@ use Rattle.bk_ocode.specs.OcodeStep.{is_label, step}
 use Rattle.bk_ocode.specs.declared.stmt.Stmt.{Stmt}
 use Rattle.bk_ocode.specs.declared.stmt.Stmt.TheVariants.{Entry, Label, CallFunction, CallRoutine}
 
--- A rest of a section: its number, the depth there, whether the result in hand becomes an item, and what stands behind it.
--- The rests are the entries, the places behind a LAB, and those behind a call.
+-- A rest of a section: its number, the depth there, whether the result in hand becomes an item, and what follows it.
+-- The rests are the entries, the places after a LAB, and those after a call.
 pub record Rest : Type 0 where
   pub place : ℕ
   pub depth : ℕ
@@ -42,8 +42,8 @@ rests places k (s ∷ rest) = or_rest (rest_of places k s rest) (rests places (n
 abbrev pub rests_of : Placed → List Rest
 rests_of own = rests own.places 0 own.stmts
 
--- On from a rest, which is no step. Behind a call of a function the result in hand becomes the item on top, unset if none
--- came; behind a LAB it stays in hand.
+-- On from a rest, which is no step. After a call of a function the result in hand becomes the item on top, unset if none
+-- came; after a LAB it stays in hand.
 abbrev pub in_hand : Option Content → Content
 in_hand None = Unset
 in_hand (Some content) = content
@@ -64,7 +64,7 @@ resumed_by false own r s = record s { control = Inside own r.depth r.behind; han
 abbrev pub resumed : Placed → Rest → State → State
 resumed own r s = resumed_by r.takes own r s
 
--- at a rest: behind a LAB, or at a number that is none of a routine
+-- at a rest: after a LAB, or at a number that is none of a routine
 abbrev pub IsAtRest : Callables → Control → Type 0
 IsAtRest callables (Inside own depth rest) = ⊥
 IsAtRest callables (Behind own label) = ⊤
@@ -87,12 +87,12 @@ pub record Program : Type 0 where
   pub callables : Callables
   pub home : ℕ
 
--- the entry or the place behind a call that has a number
+-- the entry or the place after a call that has a number
 abbrev pub find_rest : List Rest → ℕ → Option Rest
 find_rest [] n = None
 find_rest (r ∷ rest) n = if not r.keeps && r.place == n then Some r else find_rest rest n
 
--- the rest behind the LAB of a label, with the depth before the first statement
+-- the rest after the LAB of a label, with the depth before the first statement
 abbrev pub label_rest : Placement → ℕ → List Stmt → ℕ → Option Rest
 label_rest places k [] l = None
 label_rest places k (s ∷ rest) l = if is_label l s then rest_of places k s rest else label_rest places (next_depth k s) rest l

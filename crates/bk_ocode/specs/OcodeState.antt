@@ -1,4 +1,4 @@
--- Where a run of OCODE stands.
+-- The state of a run of OCODE.
 use Rattle.std.specs.Prelude.{ℕ, ◌+◌, Bool, List, Option, Some, None}
 use Rattle.bk_base.specs.declared.run_end.End.{End}
 use Rattle.bk_ocode.specs.Cells.{Content, Cell}
@@ -17,8 +17,8 @@ pub data Routine : Type 0 where
   Putbyte : Routine
   Writef : Routine
 
--- A section's placement: the number of each label, and of the string and of the place behind the call that has so many
--- statements of the section behind it.
+-- A section's placement: the number of each label, and of the string and of the place after the call that has so many
+-- statements of the section after it.
 pub record Placement : Type 0 where
   pub label : ℕ → ℕ
   pub text : ℕ → ℕ
@@ -34,9 +34,9 @@ pub record Callables : Type 0 where
   pub is_entry : ℕ → Bool
   pub routine : ℕ → Option Routine
 
--- In a procedure of a section, with a depth, before the statements left; at the rest behind the LAB of a label; or at the
--- number of an entry, of the place behind a call, or of a routine. A rest behind a LAB is told apart from the others, since
--- several rests may have one number, as those of two LABs that stand one behind the other.
+-- In a procedure of a section, with a depth, before the statements left; at the rest after the LAB of a label; or at the
+-- number of an entry, of the place after a call, or of a routine. A rest after a LAB is distinguished from the others, since
+-- several rests may have one number, as those of two LABs that come one after the other.
 pub data Control : Type 0 where
   Inside : (own : Placed) (depth : ℕ) (rest : List Stmt) → Control
   Behind : (own : Placed) (label : ℕ) → Control
@@ -65,6 +65,6 @@ pub data Next : Type 0 where
   Ends : (e : End) (s : State) → Next
   Wild : Next
 
--- where globals lie
+-- where globals are
 abbrev pub global_place : ℕ → ℕ
 global_place number = 16 + number

@@ -1,4 +1,4 @@
--- Which statements may stand where: procedures and data in any order, and the end behind them.
+-- Which statements may be where: procedures and data in any order, and the end after them.
 use Rattle.std.specs.Prelude.{Bool, true, false}
 use Rattle.bk_ocode.specs.declared.standing.Position.{Position}
 use Rattle.bk_ocode.specs.declared.standing.Position.TheVariants as position
@@ -31,7 +31,7 @@ may_stand position.BehindReturn Last = true
 may_stand position.Inside Body = true
 may_stand _ _ = false
 
--- where the next statement stands
+-- where the next statement is
 abbrev pub position_behind : Stmt → Position
 position_behind (Entry label name) = position.Opened
 position_behind (Label label) = position.BehindLabel label

@@ -7,7 +7,7 @@ use Rattle.bk_ocode.specs.OcodeStep.{step}
 use Rattle.bk_ocode.specs.OcodeRun.{Program, program_step}
 use Rattle.bk_ocode.specs.declared.stmt.Stmt.TheVariants.{Label}
 
--- Behind a LAB a program goes on with what stands behind that LAB, whatever numbers the labels have.
+-- After a LAB a program goes on with what follows that LAB, whatever numbers the labels have.
 abbrev pub GoesOnBehindLabel : Type 0
 GoesOnBehindLabel = (program : Program) (s : State) (own : Placed) (i label : ℕ) → AreFaultless own.stmts → slice_get own.stmts i ≡ Some (Label label) →
     s.control ≡ Behind own label →

@@ -6,7 +6,7 @@ use Rattle.bk_ocode.specs.Faults.{stmt_fault}
 use Rattle.bk_ocode.specs.declared.standing.Position.TheVariants.{Ended}
 use Rattle.bk_ocode.specs.declared.stmt.Stmt.{Stmt}
 
--- Statements without a fault: each breaks no rule behind those before it.
+-- Statements without a fault: each breaks no rule after those before it.
 pub record AreFaultless (stmts : List Stmt) : Type 0 where
   pub in_range : (k : ℕ) (s : Stmt) → slice_get stmts k ≡ Some s → InRange s
   pub faultless : (k : ℕ) (s : Stmt) → slice_get stmts k ≡ Some s → stmt_fault (take k stmts) s ≡ None

@@ -55,7 +55,7 @@ pub record StopsAtWord (taken : List ℕ) (end : Type 0) : Type 0 where
   pub word : List ℕ
   pub are : TakesWords taken end (section_words before ++ (part ++ word ∷ []))
 
--- The device failed behind words of statements without a fault, and none or some that begin the next, within the limit. Behind
+-- The device failed after words of statements without a fault, and none or some that begin the next, within the limit. After
 -- the blanks that follow them no more was taken than the bytes of one word that did not end.
 pub record StopsAtDevice (taken : List ℕ) : Type 0 where
   pub before : List Stmt
@@ -65,7 +65,7 @@ pub record StopsAtDevice (taken : List ℕ) : Type 0 where
   pub within : length (section_words before ++ part) ≤ OCODE_WORDS
   pub are : StopsInWord taken (section_words before ++ part)
 
--- The answer is what the bytes taken say. Where memory was refused nothing is taken behind the word at which it was, save one
+-- The answer is what the bytes taken say. Where memory was refused nothing is taken after the word at which it was, save one
 -- blank. Where the device failed no section had come to its end.
 abbrev pub Answers : Result (Option Ocode) (Refused OcodeFault) → Option (List ℕ) → Option (List ℕ) → Bool → Type 0
 Answers (Ok (Some read)) old new ended = Takes old new ended (λ taken end. GivesSection taken end (stmts_of read))
@@ -83,7 +83,7 @@ Stands (Err (Fault told)) taken more = Says (fault told.statement told.kind) (wo
 Stands (Err Memory) taken more = ⊤
 Stands (Err Device) taken more = ⊤
 
--- That stands whatever follows: nothing, where the text ends.
+-- This holds whatever follows: nothing, where the text ends.
 abbrev pub StandsWhateverFollows : Result (Option Ocode) (Refused OcodeFault) → Option (List ℕ) → Option (List ℕ) → Bool → Type 0
 StandsWhateverFollows (Err Memory) old new ended = ⊤
 StandsWhateverFollows (Err Device) old new ended = ⊤
@@ -105,11 +105,11 @@ ReadsAgain (Err (Fault told)) stmts = ⊥
 ReadsAgain (Err Memory) stmts = ⊤
 ReadsAgain (Err Device) stmts = ⊤
 
--- The words of a printed section, with any text behind it, are its words and then those of that text.
+-- The words of a printed section, with any text after it, are its words and then those of that text.
 abbrev pub PrintedIsParted : Type 0
 PrintedIsParted = (printed : Ocode) (more : List ℕ) → words_of (section_text (stmts_of printed) ++ more) ≡ section_words (stmts_of printed) ++ words_of more
 
--- So sections that are printed one behind the other are read one by one: behind the words of the first stand those of the others.
+-- So sections that are printed one after the other are read one by one: after the words of the first are those of the others.
 abbrev pub texts_of : List Ocode → List ℕ
 texts_of printed = joined (λ one. section_text (stmts_of one)) printed
 
@@ -128,7 +128,7 @@ abbrev pub PrintedIsReadAgain : Type 0
 PrintedIsReadAgain = (printed : Ocode) (more : List ℕ) (answer : Result (Option Ocode) (Refused OcodeFault)) →
     AnswersWords answer (words_of (section_text (stmts_of printed) ++ more)) → ReadsAgain answer (stmts_of printed)
 
--- Where the device failed, the words with a blank behind them, which were taken, neither are a section nor begin with one.
+-- Where the device failed, the words with a blank after them, which were taken, neither are a section nor begin with one.
 abbrev pub NoSectionPassed : Type 0
 NoSectionPassed = (taken : List ℕ) (stops : StopsAtDevice taken) (stmts : List Stmt) → Says (section stmts) (words_of stops.are.front) → ⊥
 

@@ -8,12 +8,12 @@ use Rattle.bk_ocode.specs.declared.stmt.GlobalEntry.{GlobalEntry}
 use Rattle.bk_ocode.specs.declared.stmt.Stmt.{Stmt}
 use Rattle.bk_ocode.specs.declared.stmt.Stmt.TheVariants.{Text, DataLabel, DataNumber, DataAddress, Globals}
 
--- Words that a section gives, from a place on: a string, or the items behind a DATALAB.
+-- Words that a section gives, from a place on: a string, or the items after a DATALAB.
 pub record Datum : Type 0 where
   pub place : ℕ
   pub words : List ℕ
 
--- the items that stand first in these statements
+-- the items that come first in these statements
 abbrev pub item_words : Placement → List Stmt → List ℕ
 item_words places [] = []
 item_words places (DataNumber value ∷ rest) = word_of value ∷ item_words places rest

@@ -69,7 +69,7 @@ abbrev pub GlobalFindsItsEntry : Type 0
 GlobalFindsItsEntry = (stmts : List Stmt) (i label : ℕ) (entries : List GlobalEntry) → IsSection stmts → slice_get stmts i ≡ Some (Globals entries) →
     IsAmong label (global_labels (Globals entries)) → (place : ℕ) × (name : List ℕ) × (slice_get stmts place ≡ Some (Entry label name))
 
--- GLOBAL stands last.
+-- GLOBAL is last.
 abbrev pub GlobalStandsLast : Type 0
 GlobalStandsLast = (stmts : List Stmt) → IsSection stmts → (front : List Stmt) × (entries : List GlobalEntry) × (stmts ≡ front ++ Globals entries ∷ [])
 

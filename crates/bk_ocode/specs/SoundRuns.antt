@@ -1,4 +1,4 @@
--- What the states of a run keep: links are not overwritten, frames lie in their callers', and below the first frame only
+-- What the states of a run keep: links are not overwritten, frames are in their callers', and below the first frame only
 -- globals, strings and data are in use and written.
 use Rattle.std.specs.Prelude.{◌≡◌, ◌≢◌, ◌⊎◌, ℕ, ◌+◌, ◌<◌, ◌≤◌, Bool, true, ◌||◌, List, [], ◌∷◌, ◌++◌, length, slice_get, Some, None, ⊤}
 use Rattle.bk_base.specs.declared.limit.TheConstants.{FRAME_WORDS, GLOBAL_NUMBER}
@@ -88,7 +88,7 @@ ResumingIsSound = (program : Program) (first F : ℕ) (s : State) (own : Placed)
     → Sound program first F s → slice_get program.sections i ≡ Some own → slice_get (rests_of own) j ≡ Some r
     → rest_place s.control ≡ Some r.place → Sound program first F (resumed own r s)
 
--- What a step writes goes behind what was written, and what it reads comes from the front of the input.
+-- What a step writes goes after what was written, and what it reads comes from the front of the input.
 pub record Grown (s t : State) : Type 0 where
   pub more : List ℕ
   pub writes : t.output ≡ s.output ++ more

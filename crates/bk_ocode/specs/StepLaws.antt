@@ -9,7 +9,7 @@ abbrev pub IsNotAmong : ℕ → List ℕ → Type 0
 IsNotAmong place [] = ⊤
 IsNotAmong place (p ∷ rest) = (place ≡ p → ⊥) × IsNotAmong place rest
 
--- A step writes these places, and keeps what lies below the frame elsewhere. Input and output are those of before.
+-- A step writes these places, and keeps what is below the frame elsewhere. Input and output are those of before.
 pub record Keeps (s t : State) : Type 0 where
   pub places : List ℕ
   pub written : t.written ≡ places ++ s.written
@@ -22,6 +22,6 @@ KeepsNext s (Goes t) = Keeps s t
 KeepsNext s (Ends e t) = t ≡ s
 KeepsNext s Wild = ⊤
 
--- A step of a procedure keeps what lies below its frame, save the words that it writes by their addresses.
+-- A step of a procedure keeps what is below its frame, save the words that it writes by their addresses.
 abbrev pub StepKeepsBelow : Type 0
 StepKeepsBelow = (callables : Callables) (s : State) (own : Placed) (depth : ℕ) (rest : List Stmt) → KeepsNext s (step_in callables s own depth rest)

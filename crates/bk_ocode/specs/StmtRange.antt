@@ -1,4 +1,4 @@
--- Which numbers stand in statements.
+-- Which numbers are in statements.
 use Rattle.std.specs.Prelude.{◌≡◌, ℕ, ◌<◌, ◌≤◌, ◌^◌, List, Some, length, slice_get, FitsSigned, ⊤}
 use Rattle.std.specs.Int.{w32}
 use Rattle.bk_base.specs.declared.limit.TheConstants.{GLOBAL_NUMBER, FRAME_WORDS, OCODE_LABEL, NAME_BYTES}

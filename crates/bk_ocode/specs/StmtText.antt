@@ -115,7 +115,7 @@ case_words cases = joined (λ c. spelling c.value ∷ label_word c.label ∷ [])
 abbrev pub global_words : List GlobalEntry → List (List ℕ)
 global_words entries = joined (λ e. natural_word e.number ∷ label_word e.label ∷ []) entries
 
--- the words behind the first
+-- the words after the first
 abbrev pub argument_words : Stmt → List (List ℕ)
 argument_words (Number value) = spelling value ∷ []
 argument_words True = []
@@ -158,7 +158,7 @@ argument_words (Globals entries) = natural_word (length entries) ∷ global_word
 abbrev pub stmt_words : Stmt → List (List ℕ)
 stmt_words s = keyword s ∷ argument_words s
 
--- words, each behind one blank
+-- words, each after one blank
 abbrev pub spaced : List (List ℕ) → List ℕ
 spaced words = joined (λ word. 32 ∷ word) words
 

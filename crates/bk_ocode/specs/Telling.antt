@@ -5,7 +5,7 @@ use Rattle.bk_base.specs.Word.{signed}
 use Rattle.bk_base.specs.Decimal.{spelling}
 use Rattle.bk_base.specs.Format.{FormatPart, Byte, Percent, String, Number, Character, Column, aligned}
 
--- bytes, and more behind them, where both are known
+-- bytes, and more after them, where both are known
 abbrev pub in_front : Option (List ℕ) → Option (List ℕ) → Option (List ℕ)
 in_front told more = option_and_then (λ t. option_map (λ m. t ++ m) more) told
 

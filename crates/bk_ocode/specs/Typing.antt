@@ -1,5 +1,5 @@
 -- Statements that agree with a plan of labels. The plan says what each label is for; each statement is judged by itself, by where it
--- stands, the depth before it and what the plan says of its labels.
+-- is, the depth before it and what the plan says of its labels.
 use Rattle.std.specs.Prelude.{◌≡◌, ◌⊎◌, ℕ, ℤ, ◌+◌, ◌-◌, ◌≤◌, ◌==◌, Bool, true, false, cond, Option, Some, None, List, [], ◌∷◌, length, ⊤}
 use Rattle.bk_base.specs.declared.limit.TheConstants.{FRAME_WORDS, OCODE_STATEMENTS, OCODE_WORDS}
 use Rattle.bk_ocode.specs.declared.standing.Role.TheVariants.{Body}
@@ -26,8 +26,8 @@ pub data Use : Type 0 where
   word : Use
   entry : Use
 
--- Where a statement stands: outside of procedures, in data or not, with a depth that was left; in the procedure with this entry,
--- with this depth; or behind the end.
+-- Where a statement is: outside of procedures, in data or not, with a depth that was left; in the procedure with this entry,
+-- with this depth; or after the end.
 pub data Standing : Type 0 where
   outside : Bool → ℕ → Standing
   body : ℕ → ℕ → Standing
@@ -76,7 +76,7 @@ pub data Typed (plan : ℕ → Use) : Standing → List Stmt → Standing → Ty
   goes : {p k : ℕ} {s : Stmt} {rest : List Stmt} {b : Standing} → Fits plan p k s → Typed plan (body p (next_depth k s)) rest b → Typed plan (body p k) (s ∷ rest) b
   -- a LAB that jumps find
   lands : {p k l : ℕ} {rest : List Stmt} {b : Standing} → plan l ≡ jumps p k → IsLabel l → Typed plan (body p k) rest b → Typed plan (body p k) (Label l ∷ rest) b
-  -- a LAB behind which a result is taken up
+  -- a LAB after which a result is taken up
   takes : {p k l n : ℕ} {rest : List Stmt} {b : Standing}
       → plan l ≡ results p n → IsLabel l → 2 ≤ n → n ≤ k → n + 1 ≤ FRAME_WORDS → Typed plan (body p (n + 1)) rest b
       → Typed plan (body p k) (Label l ∷ TakeResult n ∷ rest) b

@@ -6,7 +6,7 @@ ghost use Rattle.bk_ocode.specs.Arguments.{words_in, short_words, IsArgument};
 
 use crate::stmt::{Dyadic, Monadic, Stmt, Variable};
 
-/// The one word behind the first word of a short statement.
+/// The one word after the first word of a short statement.
 #[derive(Clone, Copy, Debug, PartialEq, Eq)]
 pub(crate) enum Argument {
     /// None.
@@ -143,7 +143,7 @@ fn variable_argument(variable: Variable) -> Argument
     }
 }
 
-/// What stands behind the first word of a short statement.
+/// What follows the first word of a short statement.
 pub(crate) fn argument_of(stmt: &Stmt) -> Argument
     requires { InRange stmt.now }
     ensures words { words_in result ≡ short_words stmt.now }

@@ -26,7 +26,7 @@ const LARGEST: u32 = 2_147_483_647;
 /// Why a statement is not read on.
 #[derive(Clone, Copy, Debug, PartialEq, Eq)]
 pub(crate) enum Unfit {
-    /// No statement that may stand there begins with this word.
+    /// No statement that may be there begins with this word.
     BadWord,
     /// No statement goes on with this word.
     BadNumber,
@@ -62,7 +62,7 @@ pub(crate) struct EntryDraft {
 /// What is due next in a statement.
 #[derive(Drop)]
 pub(crate) enum Begun {
-    /// The one word behind this first word.
+    /// The one word after this first word.
     Short(Keyword),
     /// The label of an ENTRY.
     EntryLabel,
@@ -100,7 +100,7 @@ pub(crate) enum Begun {
     },
 }
 
-/// A statement behind one word more.
+/// A statement after one word more.
 #[derive(Drop)]
 pub(crate) enum Step {
     /// It goes on.

@@ -24,7 +24,7 @@ use bk_base::OcodeKind;
 use bk_base::limit::{FRAME_WORDS, OCODE_STATEMENTS, OCODE_WORDS};
 use std::alloc::{AllocError, Global};
 
-/// The statements so far, and what they leave for those behind them.
+/// The statements so far, and what they leave for those after them.
 #[derive(Drop)]
 pub(crate) struct Draft {
     stmts: Vec<Stmt>,
@@ -35,7 +35,7 @@ pub(crate) struct Draft {
     uses: LabelUses,
 }
 
-/// Whether a LAB of the procedure that begins behind so many statements set the label.
+/// Whether a LAB of the procedure that begins after so many statements set the label.
 fn is_lab_behind(start: usize, setting: Setting) -> bool
     ensures { result ≡ is_lab_from start setting }
 {
@@ -66,7 +66,7 @@ fn is_jumped_elsewhere(depth: u32, jumps: JumpDepths) -> bool
     }
 }
 
-/// Whether the LAB of a label is followed by no RSTACK for a RES with this depth behind it.
+/// Whether the LAB of a label is followed by no RSTACK for a RES with this depth after it.
 fn is_followed_badly(depth: u32, behind: Behind) -> bool
     ensures { result ≡ is_badly_followed depth behind }
 {
@@ -76,7 +76,7 @@ fn is_followed_badly(depth: u32, behind: Behind) -> bool
     }
 }
 
-/// Whether a RES with this depth behind it disagrees with what is known of its label.
+/// Whether a RES with this depth after it disagrees with what is known of its label.
 fn is_result_misplaced(depth: u32, known: LabelUse) -> bool
     ensures { result ≡ result_disagrees depth known }
 {
@@ -89,7 +89,7 @@ fn is_result_misplaced(depth: u32, known: LabelUse) -> bool
     }
 }
 
-/// Whether a statement behind the LAB of a label of RES does not take the result up.
+/// Whether a statement after the LAB of a label of RES does not take the result up.
 fn is_left(least: Option<u32>, stmt: &Stmt) -> bool
     ensures { result ≡ left_behind least stmt.now }
 {
@@ -100,7 +100,7 @@ fn is_left(least: Option<u32>, stmt: &Stmt) -> bool
     }
 }
 
-/// How many statements stand before the procedure.
+/// How many statements come before the procedure.
 fn start_with(count: usize, start: usize, stmt: &Stmt) -> usize
     ensures { result ≡ start_from count start stmt.now }
 {
@@ -126,7 +126,7 @@ impl Draft {
         }
     }
 
-    /// Whether a statement with this role may stand behind these.
+    /// Whether a statement with this role may follow these.
     pub(crate) fn is_place_of(&self, role: Role) -> bool
         ensures { result ≡ may_stand self.now.position role }
     {
@@ -352,7 +352,7 @@ impl Draft {
         }
     }
 
-    /// Whether the statement stands behind the LAB of a label of RES and does not take the result up.
+    /// Whether the statement follows the LAB of a label of RES and does not take the result up.
     fn leaves_result(&self, stmt: &Stmt) -> bool
         ensures { result ≡ follows_badly (context_in self.now) self.now.position stmt.now }
     {
@@ -400,7 +400,7 @@ impl Draft {
             || depth_behind(self.depth, stmt) > FRAME_WORDS
     }
 
-    /// The fault that is told of a statement of so many words behind these.
+    /// The fault that is reported of a statement of so many words after these.
     pub(crate) fn fault_of(&self, stmt: &Stmt, words: u32) -> Option<OcodeKind>
         requires in_range { InRange stmt.now }
         requires words { words ≡ length (stmt_words stmt.now) }
@@ -466,7 +466,7 @@ impl Draft {
         Ocode::new(stmts)
     }
 
-    /// Adds a statement of so many words, which has no fault behind these.
+    /// Adds a statement of so many words, which has no fault after these.
     pub(crate) fn add(&mut self, stmt: Stmt, words: u32) -> Result<(), AllocError>
         requires in_range { InRange stmt }
         requires words { words ≡ length (stmt_words stmt) }

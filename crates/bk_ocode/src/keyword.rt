@@ -90,7 +90,7 @@ pub(crate) enum Keyword {
     JumpIf(bool),
 }
 
-// Keywords by the length of their words. Those that a text has most stand first, since they are tried in turn.
+// Keywords by the length of their words. Those that a text has most come first, since they are tried in turn.
 
 static TWO: [Keyword; 16] = [
     Keyword::Load(Kind::Local),

@@ -59,7 +59,7 @@ fn depths_with(depth: u32, jumps: JumpDepths) -> JumpDepths
     }
 }
 
-/// The least depth behind a RES, with one more.
+/// The least depth after a RES, with one more.
 fn least_with(depth: u32, least: Option<u32>) -> Option<u32>
     ensures { result ≡ least_result depth least }
 {
@@ -152,7 +152,7 @@ impl LabelUses {
         self.put(label, LabelUse { setting, ..known })
     }
 
-    /// A statement stands behind the label's LAB.
+    /// A statement follows the label's LAB.
     pub(crate) fn follow(&mut self, label: u32, behind: Behind) -> Result<(), AllocError>
         ensures { OnOk result (uses_of self.new ≡ changed label (followed behind) (uses_of self.old)) }
     {
@@ -176,7 +176,7 @@ impl LabelUses {
         )
     }
 
-    /// A RES goes to the label, with this depth behind it.
+    /// A RES goes to the label, with this depth after it.
     pub(crate) fn give(&mut self, label: u32, depth: u32) -> Result<(), AllocError>
         ensures { OnOk result (uses_of self.new ≡ changed label (given depth) (uses_of self.old)) }
     {
@@ -219,7 +219,7 @@ impl LabelUses {
         Ok(())
     }
 
-    /// A statement stands here.
+    /// A statement is here.
     pub(crate) fn stand(&mut self, position: Position, stmt: &Stmt) -> Result<(), AllocError>
         ensures { OnOk result (uses_of self.new ≡ label_followed position stmt.now (uses_of self.old)) }
     {

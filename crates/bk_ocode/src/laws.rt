@@ -19,7 +19,7 @@ pub fn label_has_one_place()
     ensures { LabelHasOnePlace }
 {}
 
-/// A step of a procedure keeps what lies below its frame, save the words that it writes.
+/// A step of a procedure keeps what is below its frame, save the words that it writes.
 #[tactic(auto, using(crate::proofs::StepKeeps::step_keeps_below))]
 pub fn step_keeps_below()
     ensures { StepKeepsBelow }
@@ -73,19 +73,19 @@ pub fn section_is_short()
     ensures { SectionIsShort }
 {}
 
-/// Behind a LAB a program goes on with what stands behind that LAB, whatever numbers the labels have.
+/// After a LAB a program goes on with what follows that LAB, whatever numbers the labels have.
 #[tactic(auto, using(crate::proofs::LabelRests::goes_on_behind_label))]
 pub fn goes_on_behind_label()
     ensures { GoesOnBehindLabel }
 {}
 
-/// The words of a printed section with a text behind it are its words, and then those of that text.
+/// The words of a printed section with a text after it are its words, and then those of that text.
 #[tactic(auto, using(crate::proofs::ReadAgain::printed_is_parted))]
 pub fn printed_is_parted()
     ensures { PrintedIsParted }
 {}
 
-/// So are those of several printed sections, one behind the other.
+/// So are those of several printed sections, one after the other.
 #[tactic(auto, using(crate::proofs::ReadAgain::printed_are_parted))]
 pub fn printed_are_parted()
     ensures { PrintedAreParted }
@@ -110,7 +110,7 @@ pub fn resuming_is_sound()
     ensures { ResumingIsSound }
 {}
 
-/// What a step writes goes behind what was written, and what it reads comes from the front of the input.
+/// What a step writes goes after what was written, and what it reads comes from the front of the input.
 #[tactic(auto, using(crate::proofs::GrowingSteps::steps_grow))]
 pub fn steps_grow()
     ensures { StepsGrow }

@@ -1,4 +1,4 @@
-//! Where statements stand, and what they need and set.
+//! Where statements are, and what they need and set.
 ghost use Rattle.std.specs.Prelude.{◌≡◌};
 ghost use Rattle.bk_ocode.specs.Depth.{load_depth, assign_depth, least_depth};
 ghost use Rattle.bk_ocode.specs.Labels.{label_set};
@@ -22,7 +22,7 @@ pub(crate) fn role_of(stmt: &Stmt) -> Role
     }
 }
 
-/// Whether a statement of this kind may stand there.
+/// Whether a statement of this kind may be there.
 pub(crate) fn fits(position: Position, role: Role) -> bool
     ensures { result ≡ may_stand position role }
 {
@@ -37,7 +37,7 @@ pub(crate) fn fits(position: Position, role: Role) -> bool
     }
 }
 
-/// Where the statement behind this one stands.
+/// Where the statement after this one is.
 pub(crate) fn behind(stmt: &Stmt) -> Position
     ensures { result ≡ position_behind stmt.now }
 {

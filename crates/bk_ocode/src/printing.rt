@@ -15,7 +15,7 @@ use crate::stmt::{Case, GlobalEntry, Stmt};
 use bk_base::limit::NAME_BYTES;
 use bk_base::{ByteOut, Failed, put_all, word_text};
 
-/// Writes a number behind a blank.
+/// Writes a number after a blank.
 fn put_number<O: ByteOut>(number: i32, out: &mut O) -> Result<(), Failed>
     ensures takes { OnOk result (Appends (O.taken out.old) (O.taken out.new) (32 ∷ spelling number)) }
     ensures part { OnErr result (AppendsPart (O.taken out.old) (O.taken out.new) (32 ∷ spelling number)) }
@@ -28,7 +28,7 @@ fn put_number<O: ByteOut>(number: i32, out: &mut O) -> Result<(), Failed>
     Ok(())
 }
 
-/// Writes a number from 0 on behind a blank.
+/// Writes a number from 0 on after a blank.
 fn put_natural<O: ByteOut>(number: u32, out: &mut O) -> Result<(), Failed>
     requires { number < 2 ^ 31 }
     ensures takes { OnOk result (Appends (O.taken out.old) (O.taken out.new) (32 ∷ natural_word number)) }
@@ -40,7 +40,7 @@ fn put_natural<O: ByteOut>(number: u32, out: &mut O) -> Result<(), Failed>
     put_number(number as i32, out)
 }
 
-/// Writes a label behind a blank.
+/// Writes a label after a blank.
 fn put_label<O: ByteOut>(label: u32, out: &mut O) -> Result<(), Failed>
     requires { IsLabel label }
     ensures takes { OnOk result (Appends (O.taken out.old) (O.taken out.new) (32 ∷ label_word label)) }
@@ -54,7 +54,7 @@ fn put_label<O: ByteOut>(label: u32, out: &mut O) -> Result<(), Failed>
     Ok(())
 }
 
-/// Writes a byte as a number behind a blank.
+/// Writes a byte as a number after a blank.
 fn put_byte<O: ByteOut>(byte: u8, out: &mut O) -> Result<(), Failed>
     ensures takes { OnOk result (Appends (O.taken out.old) (O.taken out.new) (32 ∷ natural_word byte)) }
     ensures part { OnErr result (AppendsPart (O.taken out.old) (O.taken out.new) (32 ∷ natural_word byte)) }
@@ -65,7 +65,7 @@ fn put_byte<O: ByteOut>(byte: u8, out: &mut O) -> Result<(), Failed>
     put_natural(u32::from(byte), out)
 }
 
-/// Writes bytes as numbers, each behind a blank.
+/// Writes bytes as numbers, each after a blank.
 fn put_bytes<O: ByteOut>(bytes: &[u8], out: &mut O) -> Result<(), Failed>
     ensures takes { OnOk result (Appends (O.taken out.old) (O.taken out.new) (spaced (byte_words bytes.now))) }
     ensures part { OnErr result (AppendsPart (O.taken out.old) (O.taken out.new) (spaced (byte_words bytes.now))) }
@@ -79,7 +79,7 @@ fn put_bytes<O: ByteOut>(bytes: &[u8], out: &mut O) -> Result<(), Failed>
     Ok(())
 }
 
-/// Writes how many bytes there are, and each, each behind a blank.
+/// Writes how many bytes there are, and each, each after a blank.
 fn put_counted<O: ByteOut>(bytes: &[u8], out: &mut O) -> Result<(), Failed>
     requires { length bytes.now ≤ NAME_BYTES }
     ensures takes { OnOk result (Appends (O.taken out.old) (O.taken out.new) (spaced (natural_word (length bytes.now) ∷ byte_words bytes.now))) }
@@ -93,7 +93,7 @@ fn put_counted<O: ByteOut>(bytes: &[u8], out: &mut O) -> Result<(), Failed>
     Ok(())
 }
 
-/// Writes a case, its value and its label behind a blank each.
+/// Writes a case, its value and its label after a blank each.
 fn put_case<O: ByteOut>(case: Case, out: &mut O) -> Result<(), Failed>
     requires { IsLabel case.label }
     ensures takes { OnOk result (Appends (O.taken out.old) (O.taken out.new) (spaced (spelling case.value ∷ label_word case.label ∷ []))) }
@@ -122,7 +122,7 @@ fn put_cases<O: ByteOut>(cases: &[Case], out: &mut O) -> Result<(), Failed>
     Ok(())
 }
 
-/// Writes a global and its label, each behind a blank.
+/// Writes a global and its label, each after a blank.
 fn put_entry<O: ByteOut>(entry: GlobalEntry, out: &mut O) -> Result<(), Failed>
     requires number { entry.number < 2 ^ 31 }
     requires label { IsLabel entry.label }
@@ -152,7 +152,7 @@ fn put_entries<O: ByteOut>(entries: &[GlobalEntry], out: &mut O) -> Result<(), F
     Ok(())
 }
 
-/// Writes a label, how many bytes there are, and each, each behind a blank.
+/// Writes a label, how many bytes there are, and each, each after a blank.
 fn put_named<O: ByteOut>(label: u32, bytes: &[u8], out: &mut O) -> Result<(), Failed>
     requires label { IsLabel label }
     requires short { length bytes.now ≤ NAME_BYTES }
@@ -197,7 +197,7 @@ fn put_globals<O: ByteOut>(entries: &[GlobalEntry], out: &mut O) -> Result<(), F
     Ok(())
 }
 
-/// Writes the one word behind the first word of a short statement.
+/// Writes the one word after the first word of a short statement.
 fn put_argument<O: ByteOut>(argument: Argument, out: &mut O) -> Result<(), Failed>
     requires { IsArgument argument }
     ensures takes { OnOk result (Appends (O.taken out.old) (O.taken out.new) (spaced (words_in argument))) }
@@ -214,7 +214,7 @@ fn put_argument<O: ByteOut>(argument: Argument, out: &mut O) -> Result<(), Faile
     }
 }
 
-/// Writes the words behind the first word of a statement.
+/// Writes the words after the first word of a statement.
 fn put_arguments<O: ByteOut>(stmt: &Stmt, out: &mut O) -> Result<(), Failed>
     requires { InRange stmt.now }
     ensures takes { OnOk result (Appends (O.taken out.old) (O.taken out.new) (spaced (argument_words stmt.now))) }

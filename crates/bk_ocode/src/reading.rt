@@ -21,7 +21,7 @@ use bk_base::{ByteIn, OcodeFault, OcodeKind, Refused};
 use bk_words::{Gathered, next_word};
 use std::alloc::Global;
 
-/// A fault at the statement behind so many others.
+/// A fault at the statement after so many others.
 fn fault_behind(count: usize, kind: OcodeKind) -> Refused<OcodeFault>
     requires { count ≤ OCODE_STATEMENTS }
     ensures { result ≡ Refused.Fault (record { statement = count + 1; kind = kind }) }
@@ -32,7 +32,7 @@ fn fault_behind(count: usize, kind: OcodeKind) -> Refused<OcodeFault>
     })
 }
 
-/// What the first word of a statement behind these begins.
+/// What the first word of a statement after these begins.
 #[tactic(auto, using(crate::proofs::KeywordLemmas::not_long, crate::proofs::KeywordLemmas::begins_none, crate::proofs::KeywordLemmas::placed_so))]
 fn first_step(draft: &Draft, word: &Gathered) -> Result<Step, Unfit>
     ensures step { IfOk result (λ step. (w : List ℕ) → Holds word.now w → IsStep step (w ∷ [])) }
@@ -51,7 +51,7 @@ fn first_step(draft: &Draft, word: &Gathered) -> Result<Step, Unfit>
     Ok(begin(keyword))
 }
 
-/// What a word more makes of a statement behind these.
+/// What a word more makes of a statement after these.
 fn step_of(
     draft: &Draft,
     begun: Option<Begun>,
@@ -83,7 +83,7 @@ fn refused(count: usize, unfit: Unfit) -> Refused<OcodeFault>
     }
 }
 
-/// What is answered where the text ends behind so many statements and words of the next.
+/// What is answered where the text ends after so many statements and words of the next.
 fn at_end(count: usize, words: u32) -> Result<Option<Ocode>, Refused<OcodeFault>>
     requires { count ≤ OCODE_STATEMENTS }
     ensures nothing { count + words ≡ 0 → result ≡ Ok None }
@@ -152,11 +152,11 @@ pub fn read_section<I: ByteIn>(
     // What was taken is the text of the section, or blanks, or a text up to its first fault, up to the word at which memory was
     // refused, or some words of a section that did not end and the first bytes of the next word, where the device failed.
     ensures answers { Answers result (I.left input.old) (I.left input.new) (I.ended input.new) }
-    // That stands whatever follows the bytes taken.
+    // This holds whatever follows the bytes taken.
     ensures stands { StandsWhateverFollows result (I.left input.old) (I.left input.new) (I.ended input.new) }
     // The same of the whole text, whose words say one thing.
     ensures says { (all : List ℕ) → I.left input.old ≡ Some all → length all < INPUT_BYTES → AnswersWords result (words_of all) }
-    // It fails exactly where the device does, and at once where that failed before. Where the end was told, nothing is left.
+    // It fails exactly where the device does, and at once where that failed before. Where the end was reported, nothing is left.
     ensures failures { I.faults input.new ≡ (if is_device result then 1 else 0) }
     ensures failed_again { I.faults input.old ≡ 1 → (result ≡ Err Refused.Device) × Keeps (I.left input.old) (I.left input.new) }
     ensures ended_again { IsTrue (I.ended input.old) → (result ≡ Ok None) × IsTrue (I.ended input.new) }

@@ -1,21 +1,21 @@
-//! Where a statement stands in a section, and what is known of labels there.
+//! Where a statement is in a section, and what is known of labels there.
 
-/// Where a statement stands.
+/// The position of a statement in a section.
 #[derive(Clone, Copy, Debug, PartialEq, Eq)]
 pub(crate) enum Position {
     /// Outside of procedures, and not in data.
     Outside,
-    /// In a stretch of data, behind a DATALAB.
+    /// In a stretch of data, after a DATALAB.
     InData,
-    /// Right behind an ENTRY.
+    /// Right after an ENTRY.
     Opened,
-    /// In a procedure, right behind the LAB of a label.
+    /// In a procedure, right after the LAB of a label.
     BehindLabel(u32),
-    /// In a procedure, right behind RTRN or FNRN.
+    /// In a procedure, right after RTRN or FNRN.
     BehindReturn,
     /// Elsewhere in a procedure.
     Inside,
-    /// Behind the end of the section.
+    /// After the end of the section.
     Ended,
 }
 
@@ -24,13 +24,13 @@ pub(crate) enum Position {
 pub(crate) enum Role {
     /// Outside of procedures: ENTRY, DATALAB and GLOBAL.
     Outer,
-    /// Right behind an ENTRY: SAVE.
+    /// Right after an ENTRY: SAVE.
     First,
     /// In a procedure.
     Body,
-    /// In a procedure, right behind a LAB: RSTACK.
+    /// In a procedure, right after a LAB: RSTACK.
     Taker,
-    /// In a procedure, right behind RTRN or FNRN: ENDPROC.
+    /// In a procedure, right after RTRN or FNRN: ENDPROC.
     Last,
     /// In data: ITEMN and ITEML.
     Datum,
@@ -41,7 +41,7 @@ pub(crate) enum Role {
 pub(crate) enum Setting {
     /// Nothing so far.
     Unset,
-    /// A LAB at this depth, behind so many statements of the section.
+    /// A LAB at this depth, after so many statements of the section.
     Lab { depth: u32, place: usize },
     /// An ENTRY.
     Entry,
@@ -49,7 +49,7 @@ pub(crate) enum Setting {
     Data,
 }
 
-/// What stands right behind the LAB of a label.
+/// What comes right after the LAB of a label.
 #[derive(Clone, Copy, Debug, PartialEq, Eq)]
 pub(crate) enum Behind {
     /// Nothing so far.
@@ -76,11 +76,11 @@ pub(crate) enum JumpDepths {
 pub(crate) struct LabelUse {
     /// What set it.
     pub(crate) setting: Setting,
-    /// What stands behind its LAB.
+    /// What follows its LAB.
     pub(crate) behind: Behind,
     /// The depths of jumps to it.
     pub(crate) jumps: JumpDepths,
-    /// The least depth behind a RES of it, if there was one.
+    /// The least depth after a RES of it, if there was one.
     pub(crate) result: Option<u32>,
     /// Whether a statement other than RES and LAB named it.
     pub(crate) named: bool,

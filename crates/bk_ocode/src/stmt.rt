@@ -10,7 +10,7 @@ pub enum Variable {
     Local(u32),
     /// The global of this number, from 0 to `limit::GLOBAL_NUMBER`.
     Global(u32),
-    /// The word of data behind this label.
+    /// The word of data after this label.
     Static(u32),
 }
 

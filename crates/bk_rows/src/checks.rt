@@ -1,4 +1,4 @@
-//! Checks of what comes of words and sources, and a device that refuses each byte.
+//! Checks of what results from words and sources, and a device that refuses each byte.
 use crate::devices::Short;
 use crate::outcome::{Outcome, outcome_of};
 use bk_base::{ByteIn, ByteOut, Failed, Writer512};
@@ -49,7 +49,7 @@ pub fn asked(alloc: Global, words: &[&str]) -> Result<Order, Fail> {
     }
 }
 
-/// Serves an order whose output fails behind so many bytes, and answers the status.
+/// Serves an order whose output fails after so many bytes, and answers the status.
 fn serve_short<F: ByteIn, I: ByteIn>(
     alloc: Global,
     asked: &Order,
@@ -67,7 +67,7 @@ fn serve_short<F: ByteIn, I: ByteIn>(
     serve(alloc, asked, file, input, &mut out, &mut err)
 }
 
-/// What comes of an order whose output fails behind so many bytes.
+/// What results from an order whose output fails after so many bytes.
 pub fn served_short<F: ByteIn, I: ByteIn>(
     alloc: Global,
     asked: &Order,

@@ -110,7 +110,7 @@ fn help(rt: HostRuntime) -> Result<(), Fail> {
     Ok(())
 }
 
-/// Serves an order over no bytes whose error stream fails behind so many, and answers the status.
+/// Serves an order over no bytes whose error stream fails after so many, and answers the status.
 fn serve_nothing(
     alloc: Global,
     asked: &Order,

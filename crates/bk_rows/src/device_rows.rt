@@ -41,7 +41,7 @@ static PROGRAMS: [(&[u8], &[u8], &[u8], &[u8], &[u8]); 4] = [
     ),
 ];
 
-/// What comes of an order where FILE fails behind so many reads, the input behind so many, and the output behind so many bytes.
+/// What results from an order where FILE fails after so many reads, the input after so many, and the output after so many bytes.
 fn broken_order(
     alloc: Global,
     asked: &Order,
@@ -72,7 +72,7 @@ fn broken(
     Ok(broken_order(alloc, &asked, file, input, room))
 }
 
-/// Checks what comes of words whose output fails before all bytes are written: just the bytes before are.
+/// Checks what results from words whose output fails before all bytes are written: just the bytes before are.
 fn check_failed_writes(
     rt: &impl Abort,
     alloc: Global,
@@ -90,7 +90,7 @@ fn check_failed_writes(
     Ok(())
 }
 
-/// And what comes of them where it takes just as many bytes as are written.
+/// And what results from them where it takes just as many bytes as are written.
 fn check_all_written(
     rt: &impl Abort,
     alloc: Global,
@@ -106,7 +106,7 @@ fn check_all_written(
     Ok(())
 }
 
-/// Checks what comes of words whose output fails behind so many bytes.
+/// Checks what results from words whose output fails after so many bytes.
 fn check_writes(
     rt: &impl Abort,
     alloc: Global,

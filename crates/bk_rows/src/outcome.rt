@@ -1,4 +1,4 @@
-//! What comes of words, and of a source through the filters, with each of the generators.
+//! What results from words, and of a source through the filters, with each of the generators.
 use bk_base::{ByteIn, ByteOut, Reader512, Writer512};
 use bk_gen::plain;
 use bk_intcode_text::print;
@@ -40,7 +40,7 @@ fn serve_into<F: ByteIn, I: ByteIn>(
     serve(alloc, asked, file, input, &mut out, &mut err)
 }
 
-/// What comes of an order.
+/// What results from an order.
 pub fn served<F: ByteIn, I: ByteIn>(
     alloc: Global,
     asked: &Order,
@@ -57,7 +57,7 @@ pub fn served<F: ByteIn, I: ByteIn>(
     }
 }
 
-/// What comes of an order over memory.
+/// What results from an order over memory.
 fn served_bytes(alloc: Global, asked: &Order, file: &[u8], input: &[u8]) -> Outcome {
     let mut file = Reader512::new(file);
     let mut input = Reader512::new(input);
@@ -70,7 +70,7 @@ fn refuse_into(fault: &LineFault, line: &mut Vec<u8>) -> u8 {
     refuse(fault, &mut err)
 }
 
-/// What comes of words that give no order.
+/// What results from words that give no order.
 fn refused(alloc: Global, fault: &LineFault) -> Outcome {
     let mut line = Vec::new(alloc);
     let status = refuse_into(fault, &mut line);
@@ -121,7 +121,7 @@ fn put_plain<O: ByteOut>(alloc: Global, code: &[u8], out: &mut O) -> Result<u8, 
     Ok(if out.flush().is_ok() { 0 } else { 110 })
 }
 
-/// What comes of a text of OCODE through the plain generator in the place of the second filter. It tells of no fault.
+/// What results from a text of OCODE through the plain generator in the place of the second filter. It reports no fault.
 pub fn plain_outcome(alloc: Global, code: &[u8]) -> Result<Outcome, AllocError> {
     let mut output = Vec::new(alloc);
     let mut out = Writer512::new(&mut output);
@@ -134,8 +134,8 @@ pub fn plain_outcome(alloc: Global, code: &[u8]) -> Result<Outcome, AllocError> 
     })
 }
 
-/// What comes of a source through the two filters and the interpreter: of the first of them that does not give status 0. The
-/// plain generator may stand for the second filter.
+/// What results from a source through the two filters and the interpreter: of the first of them that does not give status 0. The
+/// plain generator may replace the second filter.
 pub fn filtered(
     alloc: Global,
     source: &[u8],

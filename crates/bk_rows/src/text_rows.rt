@@ -84,7 +84,7 @@ fn a_segment_that_cannot_be_read(rt: HostRuntime) -> Result<(), Fail> {
     Ok(())
 }
 
-/// Whether a section is printed, at once or at a second try, on a device that fails behind so many bytes.
+/// Whether a section is printed, at once or at a second try, on a device that fails after so many bytes.
 fn prints_section(section: &Ocode, passed: &mut Vec<u8>, room: usize) -> bool {
     let mut out = Writer512::new(Short {
         bytes: passed,
@@ -105,7 +105,7 @@ fn a_section_that_cannot_be_written(rt: HostRuntime) -> Result<(), Fail> {
     Ok(())
 }
 
-/// Whether a segment is printed, at once or at a second try, on a device that fails behind so many bytes.
+/// Whether a segment is printed, at once or at a second try, on a device that fails after so many bytes.
 fn prints_segment(segment: &Intcode, passed: &mut Vec<u8>, room: usize) -> bool {
     let mut out = Writer512::new(Short {
         bytes: passed,

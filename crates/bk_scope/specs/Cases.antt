@@ -50,7 +50,7 @@ abbrev mutual
   defaults_each no_actions = 0
   defaults_each (also c cs) = defaults c + defaults_each cs
 
--- a number that is none of these, and numbers of which none stands twice
+-- a number that is none of these, and numbers of which none occurs twice
 abbrev pub NoneOf : ℕ → List ℕ → Type 0
 NoneOf x [] = Unit {0}
 NoneOf x (y ∷ ys) = (x ≡ y → ⊥) × NoneOf x ys
@@ -59,6 +59,6 @@ abbrev pub AllDiffer : List ℕ → Type 0
 AllDiffer [] = Unit {0}
 AllDiffer (x ∷ xs) = NoneOf x xs × AllDiffer xs
 
--- THE CASES OF A SWITCHON DIFFER, where what is told of it is clean, and there is one DEFAULT at most.
+-- THE CASES OF A SWITCHON DIFFER, where what is reported of it is clean, and there is one DEFAULT at most.
 abbrev pub CasesDiffer : Type 0
 CasesDiffer = (cs : List Claim) (bs : List Binding) (p : Place) (s : Spot) (l : ℕ) (e : Expression) (c : Action) → Clean cs (told_done bs p s (switch l e c)) → AllDiffer (case_words bs c) × (defaults c ≤ 1)

@@ -88,7 +88,7 @@ wrong_name k l x (Some (Constant w)) = []
 wrong_name k l x (Some (Variable j d)) = cond (j == k) (breach l not_constant) (breach l (dynamic_name (text_of x)))
 wrong_name k l x (Some b) = breach l not_constant
 
--- What is wrong with an expression where a constant is asked for, in procedure k, in the source's order. Behind what no
+-- What is wrong with an expression where a constant is asked for, in procedure k, in the source's order. After what no
 -- constant holds nothing more is looked for.
 abbrev pub wrongs : List Binding → ℕ → Expression → List Breach
 wrongs bs k (name l x) = wrong_name k l x (bound_in bs x)

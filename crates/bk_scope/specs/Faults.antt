@@ -1,4 +1,4 @@
--- What is told of each node, by what is in scope there (`bs`), what stands around it (`p`) and where it stands (`s`).
+-- What is reported of each node, by what is in scope there (`bs`), what is around it (`p`) and where it is (`s`).
 use Rattle.std.specs.Prelude.{ℕ, ◌+◌, ◌==◌, nat_lt, Bool, true, false, cond, Option, Some, None, List, [], ◌∷◌, ◌++◌, length}
 use Rattle.bk_base.specs.declared.limit.TheConstants.{GLOBAL_NUMBER, VEC_NUMBER, FRAME_WORDS}
 use Rattle.bk_tree.specs.declared.tree.Operator.TheVariants as o
@@ -51,7 +51,7 @@ constant_name k n l x (Some (Variable j d)) = unless (j == k) (at n l (dynamic_n
 constant_name k n l x (Some (Label j m)) = at n l not_constant ++ at n l (label_not_here (text_of x))
 constant_name k n l x (Some b) = at n l not_constant
 
--- What is wrong with a constant of procedure k. A VALOF and a TABLE in it are wrong as they are: what stands in them is not
+-- What is wrong with a constant of procedure k. A VALOF and a TABLE in it are wrong as they are: what is in them is not
 -- looked at.
 abbrev mutual
   pub constant_wrongs : List Binding → ℕ → Spot → Expression → List Point
@@ -277,7 +277,7 @@ abbrev mutual
       constant bs p.procedure s e ++ at_most VEC_NUMBER s.place (line_of e) vec_out_of_range (constant_word bs e) ++ pushed p (words_of_start bs e + 1)
       ++ told_started bs (deeper (words_of_start bs e + 1) p) (behind_constant e s) is
 
--- what is told of a section
+-- what is reported of a section
 abbrev pub told_of : Declarations → List Point
 told_of ds = told_declared [] outermost beginning ds
 

@@ -67,7 +67,7 @@ abbrev pub holds : Option ℕ → Found → Found
 holds None f = f
 holds (Some w) f = record { first = f.first; claims = f.claims; meanings = f.meanings; words = f.words ++ (w ∷ []); next = f.next; deepest = f.deepest }
 
--- The number behind this one. Numbers are words; a section within the limits does not come to the last of them.
+-- The number after this one. Numbers are words; a section within the limits does not come to the last of them.
 abbrev pub number_behind : ℕ → ℕ
 number_behind n = (n + 1) % 2 ^ 32
 
@@ -82,7 +82,7 @@ reaches d f = record { first = f.first; claims = f.claims; meanings = f.meanings
 abbrev pub opens : ℕ → Found → Found
 opens d f = record { first = None; claims = f.claims; meanings = f.meanings; words = f.words; next = f.next; deepest = d }
 
--- What was found in a procedure, with what is wrong with its frame before it, and behind what was wrong before; and how deep
+-- What was found in a procedure, with what is wrong with its frame before it, and after what was wrong before; and how deep
 -- the frame around was.
 abbrev pub behind : Option Breach → ℕ → Option Breach → Found → Found
 behind before deepest frame g = record { first = else_first before (else_first frame g.first); claims = g.claims; meanings = g.meanings; words = g.words; next = g.next; deepest = deepest }

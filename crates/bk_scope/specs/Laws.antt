@@ -6,11 +6,11 @@ use Rattle.bk_scope.specs.Points.{Point, wrong, claims_behind, judged, meanings_
 use Rattle.bk_scope.specs.Faults.{told_of, faults}
 use Rattle.bk_scope.specs.Sound.{SoundSection}
 
--- nothing that is told is a fault, where these claims were made before
+-- nothing that is reported is a fault, where these claims were made before
 abbrev pub Clean : List Claim → List Point → Type 0
 Clean cs xs = judged cs xs ≡ []
 
--- nothing that is told is wrong by itself
+-- nothing that is reported is wrong by itself
 abbrev pub NoWrong : List Point → Type 0
 NoWrong [] = Unit {0}
 NoWrong (wrong f ∷ xs) = ⊥
@@ -20,7 +20,7 @@ NoWrong (_ ∷ xs) = NoWrong xs
 abbrev pub SectionsAreClean : Type 0
 SectionsAreClean = (ds : Declarations) → faults ds ≡ [] → Clean [] (told_of ds)
 
--- Where a whole is clean, each part is, behind the claims of what stands before it.
+-- Where a whole is clean, each part is, after the claims of what is before it.
 abbrev pub PartsAreClean : Type 0
 PartsAreClean = (cs : List Claim) (xs ys : List Point) → Clean cs (xs ++ ys) → Clean cs xs × Clean (claims_behind cs xs) ys
 

@@ -2,7 +2,7 @@
 use Rattle.std.specs.Prelude.{ℕ, List, [], ◌∷◌, get_or}
 use Rattle.std.specs.Int.{from_be_bytes, w64}
 
--- the first eight, and the next eight, with zeros behind the end
+-- the first eight, and the next eight, with zeros after the end
 abbrev pub first_bytes : List ℕ → ℕ
 first_bytes x = from_be_bytes w64 (get_or x 0 0 ∷ get_or x 1 0 ∷ get_or x 2 0 ∷ get_or x 3 0 ∷ get_or x 4 0 ∷ get_or x 5 0 ∷ get_or x 6 0 ∷ get_or x 7 0 ∷ [])
 

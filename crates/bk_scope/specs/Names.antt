@@ -2,7 +2,7 @@
 -- and what is wrong first, in the source's order. What is right is said in Faults.antt; this definition is inner, and the two
 -- are tied by a law.
 --
--- A node is gone through with the declarations that are in scope at its place, behind what was found before it. Depths are
+-- A node is gone through with the declarations that are in scope at its place, after what was found before it. Depths are
 -- those that the frame has when the code runs: an operand takes a word, a call two before its arguments, a FOR two for its
 -- variable and its limit.
 use Rattle.std.specs.Prelude.{ℕ, ◌+◌, ◌==◌, nat_lt, Bool, true, false, cond, not, Option, Some, None, List, [], ◌∷◌, ◌++◌, length}
@@ -57,7 +57,7 @@ begins_wrong bs k (choice l m c a b) = begins_wrong bs k c
 begins_wrong bs k (apply l m e es) = begins_wrong bs k e
 begins_wrong bs k _ = false
 
--- No address: wrong at the first symbol. Where that symbol is a name with which something is wrong, that is told, as it has
+-- No address: wrong at the first symbol. Where that symbol is a name with which something is wrong, that is reported, as it has
 -- the lower number; a parenthesis comes before all.
 abbrev pub unassignable : List Binding → ℕ → Bool → ℕ → Expression → Found → Found
 unassignable bs k true l e f = breaks l not_assignable f
@@ -137,7 +137,7 @@ abbrev pub words_of_vector : Option ℕ → ℕ
 words_of_vector None = 1
 words_of_vector (Some n) = n + 1
 
--- where a CASE or a DEFAULT stands in no SWITCHON
+-- where a CASE or a DEFAULT is in no SWITCHON
 abbrev pub switched : Option ℕ → ℕ → Found → Found
 switched None l f = breaks l no_switchon f
 switched (Some n) l f = f
@@ -158,7 +158,7 @@ single p l w.EndCase f = cond p.in_switch f (breaks l no_switchon f)
 single p l w.Return f = cond p.in_routine f (breaks l no_result_or_return f)
 single p l w.Finish f = f
 
--- a name in the list n, in which none stands twice
+-- a name in the list n, in which no name occurs twice
 abbrev pub listed : ℕ → ℕ → List ℕ → Found → Found
 listed n l x f = claims_once (naming n x) l (declared_twice (text_of x)) f
 
@@ -170,19 +170,19 @@ all_listed n (x ∷ xs) f = all_listed n xs (listed n x.line x.letters f)
 abbrev pub words_of_start : List Binding → Expression → ℕ
 words_of_start bs e = words_of_vector (within VEC_NUMBER (constant_word bs e))
 
--- how many words stand below the value that the first of these begins with
+-- how many words are below the value that the first of these begins with
 abbrev pub words_below : List Binding → Starts → ℕ
 words_below bs no_starts = 0
 words_below bs (value e is) = 0
 words_below bs (vector l e is) = words_of_start bs e
 
--- the place behind them
+-- the place after them
 abbrev pub place_behind : List Binding → Place → Starts → Place
 place_behind bs p no_starts = p
 place_behind bs p (value e is) = place_behind bs (deeper 1 p) is
 place_behind bs p (vector l e is) = place_behind bs (deeper (words_of_start bs e + 1) p) is
 
--- the variables of a definition, where their values are: a VEC's is its address, behind its words
+-- the variables of a definition, where their values are: a VEC's is its address, after its words
 abbrev pub variables_of : List Binding → Place → List Mention → Starts → List Binding
 variables_of bs p (x ∷ xs) (value e is) = record { name = x.letters; bound = Variable p.procedure ((deeper 0 p).depth) } ∷ variables_of bs (deeper 1 p) xs is
 variables_of bs p (x ∷ xs) (vector l e is) =
@@ -226,13 +226,13 @@ globals bs n k (item l x e is) s =
       found = bounded GLOBAL_NUMBER (line_of e) global_out_of_range (constant_word bs e) (constant_found bs k e (listed n l x s.found));
     })
 
--- what stands behind some definitions of a LET: the variables, which come into scope behind all of them, the first one first
+-- what follows some definitions of a LET: the variables, which come into scope after all of them, the first one first
 pub record Defined : Type 0 where
   pub fresh : List Binding
   pub place : Place
   pub found : Found
 
--- what stands behind a declaration
+-- what follows a declaration
 pub record AfterDeclarations : Type 0 where
   pub scope : List Binding
   pub place : Place

@@ -1,4 +1,4 @@
--- Places in a tree: what stands around a node, besides the declarations in scope.
+-- Places in a tree: what is around a node, besides the declarations in scope.
 use Rattle.std.specs.Prelude.{ℕ, ◌+◌, min, Bool, true, false, Some, None}
 use Rattle.bk_base.specs.declared.limit.TheConstants.{FRAME_WORDS}
 use Rattle.bk_scope.specs.declared.place.Place.{Place}
@@ -27,7 +27,7 @@ labelled n p = record { procedure = p.procedure; depth = p.depth; labels = n; in
 abbrev pub valued : Place → Place
 valued p = record { procedure = p.procedure; depth = p.depth; labels = p.labels; in_routine = p.in_routine; in_valof = true; in_loop = false; in_switch = false; switch = None }
 
--- in a procedure, a routine or not, of this number and with so many formals: two words of links stand below them
+-- in a procedure, a routine or not, of this number and with so many formals: two words of links are below them
 abbrev pub called : Bool → ℕ → ℕ → Place
 called b n formals = record { procedure = n; depth = kept (formals + 2); labels = 0; in_routine = b; in_valof = false; in_loop = false; in_switch = false; switch = None }
 

@@ -1,4 +1,4 @@
--- What is told of a section, in the order of its text: what the names in it mean, the words of its constants, how deep frames
+-- What is reported of a section, in the order of its text: what the names in it mean, the words of its constants, how deep frames
 -- are, what is wrong somewhere, and claims that no other may make. The faults are what is wrong, and each claim that was made
 -- before; they are in the order of their places, and at one place of their numbers.
 use Rattle.std.specs.Prelude.{ℕ, ◌==◌, nat_lt, max, Bool, cond, Option, Some, None, List, [], ◌∷◌, ◌++◌}
@@ -50,7 +50,7 @@ at n l w = wrong (record { place = n; line = l; wrong = w }) ∷ []
 abbrev pub claiming : Claim → ℕ → ℕ → Wrong → List Point
 claiming c n l w = claim c (record { place = n; line = l; wrong = w }) ∷ []
 
--- the claims behind one more, and behind some points
+-- the claims after one more, and after some points
 abbrev pub claimed : Claim → List Claim → List Claim
 claimed c cs = cond (is_claimed c cs) cs (c ∷ cs)
 
@@ -107,7 +107,7 @@ deepest d [] = d
 deepest d (depth m ∷ xs) = deepest (max d (kept m)) xs
 deepest d (_ ∷ xs) = deepest d xs
 
--- what is told of a procedure's body, outside: its frame is another
+-- what is reported of a procedure's body, outside: its frame is another
 abbrev pub without_depths : List Point → List Point
 without_depths [] = []
 without_depths (depth m ∷ xs) = without_depths xs

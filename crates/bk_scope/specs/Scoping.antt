@@ -25,7 +25,7 @@ procedures_in_scope n (define (routine l x fs c) ds) bs = procedures_in_scope (n
 procedures_in_scope n (define (function l x fs e) ds) bs = procedures_in_scope (n + 1) ds (procedure_in_scope n x bs)
 procedures_in_scope n (define (variables l xs is) ds) bs = procedures_in_scope n ds bs
 
--- where the frame goes on behind a definition, and behind those of a LET
+-- where the frame goes on after a definition, and after those of a LET
 abbrev pub place_behind_one_defined : List Binding → Place → Definition → Place
 place_behind_one_defined bs p (variables l xs is) = place_behind bs p is
 place_behind_one_defined bs p _ = p
@@ -34,7 +34,7 @@ abbrev pub place_behind_defined : List Binding → Place → Definitions → Pla
 place_behind_defined bs p no_definitions = p
 place_behind_defined bs p (define d ds) = place_behind_defined bs (place_behind_one_defined bs p d) ds
 
--- the variables of a LET, which come into scope behind all of it
+-- the variables of a LET, which come into scope after all of it
 
 abbrev pub variables_in_scope : List Binding → Place → Definitions → List Binding
 variables_in_scope bs p no_definitions = []
@@ -55,7 +55,7 @@ abbrev pub globals_in_scope : List Binding → Items → List Binding → List B
 globals_in_scope os no_items bs = bs
 globals_in_scope os (item l x e is) bs = globals_in_scope os is (bind x (Global (within GLOBAL_NUMBER (constant_word os e))) bs)
 
--- behind a declaration: what is in scope, and where the frame goes on
+-- after a declaration: what is in scope, and where the frame goes on
 abbrev pub scope_behind_one : List Binding → Place → Spot → Declaration → List Binding
 scope_behind_one bs p s (constants l o.Manifest is) = manifests_in_scope bs is
 scope_behind_one bs p s (constants l o.Static is) = statics_in_scope (s.number + 1) is bs

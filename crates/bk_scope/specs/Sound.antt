@@ -1,7 +1,7 @@
--- What holds at each node of a section without faults, by what is in scope there, what stands around it and where it stands
+-- What holds at each node of a section without faults, by what is in scope there, what is around it and where it is
 -- (the arguments are those of `told`): each name that is used means something of its own procedure or of all, a variable's
--- place lies in the frame below its depth there, a label's own name means a label of its procedure, and a procedure's own name
--- a static word or a global; each constant that is asked for has a word within its bounds, a word is asked for where there is one, each command stands where it may, and no frame is too large.
+-- place is in the frame below its depth there, a label's own name means a label of its procedure, and a procedure's own name
+-- a static word or a global; each constant that is asked for has a word within its bounds, a word is asked for where there is one, each command is where it may, and no frame is too large.
 use Rattle.std.specs.Prelude.{◌≡◌, ℕ, ◌+◌, ◌<◌, ◌≤◌, true, false, Option, Some, None, List, [], length}
 use Rattle.bk_base.specs.declared.limit.TheConstants.{GLOBAL_NUMBER, VEC_NUMBER, FRAME_WORDS}
 use Rattle.bk_tree.specs.declared.tree.Prefix.{Prefix}
@@ -59,7 +59,7 @@ abbrev pub PrefixSound : Prefix → List Binding → Expression → Type 0
 PrefixSound q.Address bs e = addressed bs e ≡ true
 PrefixSound _ bs e = Unit {0}
 
--- a command of one word stands where it may
+-- a command of one word is where it may
 abbrev pub Stands : Place → Simple → Type 0
 Stands p w.Break = p.in_loop ≡ true
 Stands p w.Loop = p.in_loop ≡ true
@@ -83,7 +83,7 @@ abbrev pub GlobalsSound : List Binding → Items → Type 0
 GlobalsSound bs no_items = Unit {0}
 GlobalsSound bs (item l x e is) = HasWordUpTo GLOBAL_NUMBER (constant_word bs e) × GlobalsSound bs is
 
--- a procedure's frame, with so many formals, by what is told of its body
+-- a procedure's frame, with so many formals, by what is reported of its body
 abbrev pub FrameSound : ℕ → List Point → Type 0
 FrameSound formals body = deepest (kept (formals + 2)) body ≤ FRAME_WORDS
 

@@ -2,7 +2,7 @@
 use Rattle.std.specs.Prelude.{ℕ, List}
 use Rattle.std.specs.Str.{encode_utf8_all}
 
--- what is wrong; names are told by their text
+-- what is wrong; names are reported by their text
 pub data Wrong : Type 0 where
   not_declared : List ℕ → Wrong
   declared_twice : List ℕ → Wrong

@@ -1,7 +1,7 @@
 //! What a name means.
 
 /// What a name was declared as. A word of a frame and a label have the number of their procedure in front, so that another
-/// procedure's are told from one's own.
+/// procedure's are distinguished from one's own.
 #[derive(Clone, Copy, Debug, PartialEq, Eq)]
 pub enum Bound {
     /// A constant of MANIFEST, with its word; without one where its constant is wrong.

@@ -16,7 +16,7 @@ use bk_tree::{Expr, Operator, Prefix};
 use std::alloc::{AllocError, Global};
 
 /// The word of an expression where a constant is asked for, with these declarations in scope, in the procedure of this number.
-/// What is wrong with it is told; a name whose own constant is wrong has no word, and is not wrong itself.
+/// What is wrong with it is reported; a name whose own constant is wrong has no word, and is not wrong itself.
 pub fn constant_of<'a>(
     alloc: Global,
     expr: &'a Expr,
@@ -66,7 +66,7 @@ pub fn constant_of<'a>(
     }
 }
 
-/// Tells that on this line stands what no constant holds.
+/// Reports that this line has what no constant holds.
 fn no_constant(line: Line, first: &mut FirstFault) -> Option<u32>
     ensures word { result ≡ None }
     ensures wrong { first_fault first.new ≡ else_first (first_fault first.old) (Some (record { line = line; wrong = not_constant })) }
@@ -132,7 +132,7 @@ pub(crate) fn prefixed(prefix: Prefix, word: Option<u32>) -> Option<u32>
     }
 }
 
-/// The word of an operator between two words; that it divides by zero is told on this line.
+/// The word of an operator between two words; that it divides by zero is reported on this line.
 fn infixed(
     line: Line,
     operator: Operator,

@@ -123,7 +123,7 @@ pub fn enter_procedures<'a>(walk: &mut Walk<'a>, defs: &'a [Def]) -> Result<(), 
     Ok(())
 }
 
-/// The names of the list of this number, in which none stands twice.
+/// The names of the list of this number, in which no name occurs twice.
 #[tactic(auto, using(crate::proofs::Entered::listed_next))]
 pub fn list_names<'a>(
     findings: &mut Findings<'a>,

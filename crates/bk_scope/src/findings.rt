@@ -105,7 +105,7 @@ impl<'a> Findings<'a> {
         self.first.tell_name(self.alloc, line, misnaming, name)
     }
 
-    /// A name in the list of this number, in which none stands twice.
+    /// A name in the list of this number, in which no name occurs twice.
     pub fn lists(&mut self, list: u32, line: Line, name: &'a [u8]) -> Result<(), AllocError>
         ensures { OnOk result (self.new ≡ listed list line name.now self.old) }
     {
@@ -132,7 +132,7 @@ impl<'a> Findings<'a> {
         Ok(())
     }
 
-    /// A CASE or DEFAULT, which may not stand twice.
+    /// A CASE or DEFAULT, which may not be twice.
     pub fn chooses(
         &mut self,
         claim: Claim<'a>,
@@ -155,7 +155,7 @@ impl<'a> Findings<'a> {
         Ok(())
     }
 
-    /// The name of a label or of a procedure means this, where it stands.
+    /// The name of a label or of a procedure means this, where it is.
     pub fn names(&mut self, bound: Option<Bound>) -> Result<(), AllocError>
         ensures { OnOk result (self.new ≡ named_as bound self.old) }
     {
@@ -194,7 +194,7 @@ impl<'a> Findings<'a> {
         self.deepest = self.deepest.max(reached);
     }
 
-    /// A frame begins, this deep. What is found wrong from here on stands behind what is wrong with the frame itself.
+    /// A frame begins, this deep. What is found wrong from here on follows what is wrong with the frame itself.
     pub fn opens(&mut self, depth: u32) -> Opened
         ensures found { self.new ≡ opens depth self.old }
         ensures first { first_fault result.first ≡ self.old.first }

@@ -22,7 +22,7 @@ pub enum Misnaming {
     TwoProcedures,
 }
 
-/// The first fault of those that were told, if any was.
+/// The first fault of those that were reported, if any was.
 #[derive(Drop)]
 pub struct FirstFault {
     fault: Option<SourceFault>,
@@ -36,7 +36,7 @@ impl FirstFault {
         FirstFault { fault: None }
     }
 
-    /// Tells a fault of a kind that keeps no name, on this line.
+    /// Reports a fault of a kind that keeps no name, on this line.
     pub fn tell(&mut self, line: Line, kind: SourceKind)
         ensures { first_fault self.new ≡ else_first (first_fault self.old) (Some (record { line = line; wrong = wrong_of kind })) }
     {
@@ -45,14 +45,14 @@ impl FirstFault {
         }
     }
 
-    /// The fault, if any was told.
+    /// The fault, if any was reported.
     pub fn fault(self) -> Option<SourceFault>
         ensures { breach_told result ≡ first_fault self }
     {
         self.fault
     }
 
-    /// Tells what was told elsewhere, behind this.
+    /// Adds what was reported elsewhere, after this.
     pub fn then(&mut self, other: FirstFault)
         ensures { first_fault self.new ≡ else_first (first_fault self.old) (first_fault other) }
     {
@@ -61,7 +61,7 @@ impl FirstFault {
         }
     }
 
-    /// Tells what is wrong with a name, on this line.
+    /// Reports what is wrong with a name, on this line.
     pub fn tell_name(
         &mut self,
         alloc: Global,

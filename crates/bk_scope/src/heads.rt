@@ -1,4 +1,4 @@
-//! What stands at the head of a command or a definition.
+//! What is at the head of a command or a definition.
 ghost use Rattle.std.specs.Prelude.{◌≡◌, ◌+◌, ◌-◌, ◌≤◌, OnOk, IfOk, cond, drop, length, map};
 ghost use Rattle.bk_tree.specs.Tree.{expression, mention, step_in};
 ghost use Rattle.bk_scope.specs.FirstFault.{first_fault};
@@ -39,7 +39,7 @@ pub fn label<'a>(
     findings.names(table.find(letters))
 }
 
-/// A CASE or a DEFAULT is wrong where it stands in no SWITCHON.
+/// A CASE or a DEFAULT is wrong where it is in no SWITCHON.
 #[inline]
 pub fn in_switch(findings: &mut Findings, switch: Option<u32>, line: Line)
     ensures { findings.new ≡ switched switch line findings.old }
@@ -49,7 +49,7 @@ pub fn in_switch(findings: &mut Findings, switch: Option<u32>, line: Line)
     }
 }
 
-/// What stands before the command of a CASE.
+/// What is before the command of a CASE.
 #[inline]
 pub fn case<'a>(
     walk: &mut Walk<'a>,
@@ -64,7 +64,7 @@ pub fn case<'a>(
     choose(&mut walk.findings, place.switch, line, word)
 }
 
-/// What stands before the command of a DEFAULT.
+/// What is before the command of a DEFAULT.
 #[inline]
 pub fn default<'a>(
     findings: &mut Findings<'a>,
@@ -93,7 +93,7 @@ pub fn step<'a>(
     Ok(())
 }
 
-/// A RESULTIS is wrong where it stands in no VALOF.
+/// A RESULTIS is wrong where it is in no VALOF.
 #[inline]
 pub fn in_valof(findings: &mut Findings, place: Place, line: Line)
     ensures { findings.new ≡ cond place.in_valof findings.old (breaks line no_result_or_return findings.old) }

@@ -71,7 +71,7 @@ pub fn line_of(expr: &Expr) -> Line
     }
 }
 
-/// The items of a STATIC, which are the list of this number. They come into scope together, behind the last.
+/// The items of a STATIC, which are the list of this number. They come into scope together, after the last.
 pub fn statics<'a>(
     walk: &mut Walk<'a>,
     list: u32,
@@ -84,7 +84,7 @@ pub fn statics<'a>(
     fresh.enter(&mut walk.table)
 }
 
-/// The items of a GLOBAL, which are the list of this number. They come into scope together, behind the last.
+/// The items of a GLOBAL, which are the list of this number. They come into scope together, after the last.
 pub fn globals<'a>(
     walk: &mut Walk<'a>,
     list: u32,
@@ -175,7 +175,7 @@ fn named_global<'a>(
     Ok(Bound::Global(global_of(findings, line_of(expr), word)))
 }
 
-/// The number of a global whose constant has this word, if it has one; that it is too large is told on this line.
+/// The number of a global whose constant has this word, if it has one; that it is too large is reported on this line.
 fn global_of(findings: &mut Findings, line: Line, word: Option<u32>) -> Option<u32>
     ensures number { result ≡ within GLOBAL_NUMBER word }
     ensures found { findings.new ≡ bounded GLOBAL_NUMBER line global_out_of_range word findings.old }

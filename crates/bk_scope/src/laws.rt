@@ -4,17 +4,17 @@ ghost use Rattle.bk_scope.specs.Cases.{CasesDiffer};
 ghost use Rattle.bk_scope.specs.Given.{NumbersDiffer};
 ghost use Rattle.bk_scope.specs.Few.{FewNumbers};
 
-/// Nothing that is told of a section without faults is one.
+/// Nothing that is reported of a section without faults is one.
 pub fn sections_are_clean()
     ensures { SectionsAreClean }
 {}
 
-/// Of two parts that stand one behind the other each has no fault, where the whole has none.
+/// Of two parts that come one after the other each has no fault, where the whole has none.
 pub fn parts_are_clean()
     ensures { PartsAreClean }
 {}
 
-/// What two parts say stands one behind the other.
+/// What two parts report is joined in their order.
 pub fn parts_have_stretches()
     ensures { PartsHaveStretches }
 {}
@@ -24,7 +24,7 @@ pub fn faultless_is_sound()
     ensures { FaultlessIsSound }
 {}
 
-/// The CASEs of a SWITCHON have different words, and one DEFAULT at most stands among them.
+/// The CASEs of a SWITCHON have different words, and one DEFAULT at most is among them.
 pub fn cases_differ()
     ensures { CasesDiffer }
 {}

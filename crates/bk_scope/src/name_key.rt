@@ -2,11 +2,11 @@
 ghost use Rattle.std.specs.Prelude.{◌≡◌, get_or};
 ghost use Rattle.bk_scope.specs.NameKey.{first_bytes, next_bytes};
 
-/// A name as a key of a table by order. Its first sixteen bytes stand in front as two numbers: where two names differ there,
-/// as most do, the letters, which lie elsewhere in memory, are not looked at.
+/// A name as a key of a table by order. Its first sixteen bytes are in front as two numbers: where two names differ there,
+/// as most do, the letters, which are elsewhere in memory, are not looked at.
 #[derive(Clone, Copy, PartialEq, Eq, PartialOrd, Ord)]
 pub struct NameKey<'a> {
-    /// The first eight bytes, with zeros behind a shorter name.
+    /// The first eight bytes, with zeros after a shorter name.
     first: u64,
     /// The next eight.
     next: u64,
@@ -15,7 +15,7 @@ pub struct NameKey<'a> {
     ghost goes_on: { next ≡ next_bytes letters.now },
 }
 
-/// The byte of a name at this place; 0 behind its end.
+/// The byte of a name at this place; 0 after its end.
 #[inline(always)]
 fn byte_at(letters: &[u8], i: usize) -> u8
     ensures { result ≡ get_or letters.now i 0 }

@@ -230,7 +230,7 @@ pub fn act<'a>(walk: &mut Walk<'a>, place: Place, command: &'a Command) -> Resul
     }
 }
 
-/// A command whose labels come into scope, and are left again behind it.
+/// A command whose labels come into scope, and are left again after it.
 #[cycle(nodes)]
 #[inline]
 fn act_inside<'a>(walk: &mut Walk<'a>, place: Place, command: &'a Command) -> Result<(), AllocError>
@@ -295,7 +295,7 @@ fn act_each<'a>(
     Ok(())
 }
 
-/// Declarations one after another, and the place behind them.
+/// Declarations one after another, and the place after them.
 #[cycle(nodes)]
 pub fn declare_each<'a>(
     walk: &mut Walk<'a>,
@@ -311,7 +311,7 @@ pub fn declare_each<'a>(
     Ok(behind)
 }
 
-/// A declaration, and the place behind it.
+/// A declaration, and the place after it.
 #[cycle(nodes)]
 fn declare<'a>(walk: &mut Walk<'a>, place: Place, decl: &'a Decl) -> Result<Place, AllocError>
     ensures { IfOk result (λ behind. (record { scope = walk.new.scope; place = behind; found = walk.new.found }) ≡ one_declared walk.old.scope place (declaration decl.now) walk.old.found) }
@@ -343,7 +343,7 @@ fn declare<'a>(walk: &mut Walk<'a>, place: Place, decl: &'a Decl) -> Result<Plac
     }
 }
 
-/// The definitions of a LET, which are the list of this number, and the place behind them. Their variables are fresh.
+/// The definitions of a LET, which are the list of this number, and the place after them. Their variables are fresh.
 #[cycle(nodes)]
 fn define_each<'a>(
     walk: &mut Walk<'a>,
@@ -362,7 +362,7 @@ fn define_each<'a>(
     Ok(behind)
 }
 
-/// A definition, and the place behind it.
+/// A definition, and the place after it.
 #[cycle(nodes)]
 fn define<'a>(
     walk: &mut Walk<'a>,
@@ -396,7 +396,7 @@ fn define<'a>(
     }
 }
 
-/// What variables begin with, one after another, and the place behind them. The variables are fresh.
+/// What variables begin with, one after another, and the place after them. The variables are fresh.
 #[cycle(nodes)]
 fn start_each<'a>(
     walk: &mut Walk<'a>,
@@ -422,7 +422,7 @@ fn start_each<'a>(
     Ok(next)
 }
 
-/// What a variable begins with, and how many words stand below its value: those of a VEC.
+/// What a variable begins with, and how many words are below its value: those of a VEC.
 #[cycle(nodes)]
 fn start_one<'a>(walk: &mut Walk<'a>, place: Place, start: &'a Init) -> Result<usize, AllocError>
     ensures scope { OnOk result (walk.new.scope ≡ walk.old.scope) }

@@ -1,25 +1,25 @@
-//! Places in a tree: what stands around a node.
+//! Places in a tree: what is around a node.
 ghost use Rattle.std.specs.Prelude.{◌≡◌};
 ghost use Rattle.bk_scope.specs.Places.{kept, at_depth, deeper, looping, switching, labelled, valued, called, outermost};
 
 use bk_base::limit::FRAME_WORDS;
 
-/// What stands around a node, besides the declarations in scope.
+/// What is around a node, besides the declarations in scope.
 #[derive(Clone, Copy)]
 pub struct Place {
     /// The number of the procedure around it, 0 where there is none.
     pub procedure: u32,
-    /// How many words of the frame stand below it; `FRAME_WORDS` and one for all past the limit.
+    /// How many words of the frame are below it; `FRAME_WORDS` and one for all past the limit.
     pub depth: u32,
-    /// The number of the labels that stand there.
+    /// The number of the labels that are there.
     pub labels: u32,
-    /// Whether its procedure is a routine, where RETURN may stand.
+    /// Whether its procedure is a routine, where RETURN may be.
     pub in_routine: bool,
-    /// Whether a VALOF stands around it in its procedure.
+    /// Whether a VALOF is around it in its procedure.
     pub in_valof: bool,
-    /// Whether a loop stands around it in its procedure and its VALOF.
+    /// Whether a loop is around it in its procedure and its VALOF.
     pub in_loop: bool,
-    /// Whether a SWITCHON stands around it in its procedure and its VALOF.
+    /// Whether a SWITCHON is around it in its procedure and its VALOF.
     pub in_switch: bool,
     /// The number of the SWITCHON that a CASE there belongs to.
     pub switch: Option<u32>,

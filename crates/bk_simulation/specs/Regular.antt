@@ -1,5 +1,5 @@
 -- What the types and the grammar of trees give: numbers are words, an assignment and a LET have as many values as names, and
--- variables stand in blocks alone.
+-- variables are in blocks alone.
 use Rattle.std.specs.Prelude.{◌≡◌, ℕ, suc, ◌<◌, ◌^◌, length}
 use Rattle.bk_tree.specs.Tree as t
 use Rattle.bk_tree.specs.Tree.{Expression, Expressions, Action, Actions, Declaration, Declarations, Items, Definition, Definitions, Starts}
@@ -73,7 +73,7 @@ abbrev mutual
   RegularStarts (t.value e is) = Regular e × RegularStarts is
   RegularStarts (t.vector l e is) = Regular e × RegularStarts is
 
--- variables stand in blocks alone: outside them a LET has procedures
+-- variables are in blocks alone: outside them a LET has procedures
 abbrev pub DefineNoVariables : Definitions → Type 0
 DefineNoVariables t.no_definitions = Unit {0}
 DefineNoVariables (t.define (t.routine l x fs c) ds) = DefineNoVariables ds

@@ -28,7 +28,7 @@ pub record Begin (bytes all : List ℕ) : Type 0 where
   pub rest : List ℕ
   pub is : all ≡ bytes ++ rest
 
--- the end that the meaning has, as a run of OCODE tells it
+-- the end that the meaning has, as a run of OCODE reports it
 abbrev pub end_of : m.End → Option End
 end_of (m.status w) = Some (Status (signed w))
 end_of m.divide_by_zero = Some DivideByZero

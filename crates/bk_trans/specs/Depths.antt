@@ -1,4 +1,4 @@
--- How deep the frame is behind declarations: a value takes a word, a vector k its words from 0 to k and their address.
+-- How deep the frame is after declarations: a value takes a word, a vector k its words from 0 to k and their address.
 use Rattle.std.specs.Prelude.{ℕ, ◌+◌, Bool, true, false}
 use Rattle.bk_trans.specs.Program.{Terms, Declaration, Declarations, Definition, Definitions, Starts, none, more, statics, lets, no_declarations, declare, variables, no_definitions, define, no_starts, value, vector}
 

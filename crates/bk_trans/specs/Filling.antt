@@ -15,7 +15,7 @@ pub record Supply : Type 0 where
   pub meanings : List Bound
   pub words : List ℕ
 
--- a part of the program, and what is left behind it
+-- a part of the program, and what is left after it
 pub record Filled (A : Type 0) : Type 0 where
   pub part : A
   pub left : Supply

@@ -15,7 +15,7 @@ use Rattle.bk_trans.specs.Labels.{labels_of_declarations}
 use Rattle.bk_trans.specs.Scheme.{scheme}
 
 -- FILLING GIVES THE NAMED TREE: in a section without faults, where each name takes the next of the meanings and each constant the
--- next of the words, each has what it means in scope where it stands, and none is left.
+-- next of the words, each has what it means in scope where it is, and none is left.
 abbrev pub FillingNames : Type 0
 FillingNames = (ds : Declarations) → faults ds ≡ [] → all_declared ds (record { meanings = meanings ds; words = words ds }) ≡ filled (named_tree ds) (record { meanings = []; words = [] })
 

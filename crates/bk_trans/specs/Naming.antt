@@ -1,4 +1,4 @@
--- The named tree of a tree under the declarations in scope (`bs`), by what stands around it (`p`) and where it stands (`s`): these
+-- The named tree of a tree under the declarations in scope (`bs`), by what is around it (`p`) and where it is (`s`): these
 -- arguments are those of `told` in bk_scope, and move along in the same way. Each name becomes what it means in scope there, and
 -- each constant its word.
 use Rattle.std.specs.Prelude.{ℕ, ◌+◌, true, false, Option, Some, None, List, [], ◌∷◌, length}

@@ -1,4 +1,4 @@
--- What stands by itself in the code of a section, in the order of the nodes: procedures, static words, tables, and the labels
+-- What is by itself in the code of a section, in the order of the nodes: procedures, static words, tables, and the labels
 -- that a GOTO may go to. Each has its first label; s is the depth at a node, and n its first label.
 use Rattle.std.specs.Prelude.{ℕ, ◌+◌, List, [], ◌∷◌, ◌++◌}
 use Rattle.bk_scope.specs.declared.bound.Bound.{Bound}
@@ -95,7 +95,7 @@ abbrev mutual
   parts_of_definitions t n no_definitions = []
   parts_of_definitions t n (define d ds) = parts_of_definition t n d ++ parts_of_definitions (behind_definition t d) (n + labels_of_definition d) ds
 
-  -- a procedure stands before those in it
+  -- a procedure is before those in it
   pub parts_of_definition : ℕ → ℕ → Definition → List Part
   parts_of_definition t n (routine b x k c) = procedure n (routine b x k c) ∷ parts_in (k + 2) (n + labels_of_procedure b) c
   parts_of_definition t n (function b x k e) = procedure n (function b x k e) ∷ parts (k + 2) (n + labels_of_procedure b) e

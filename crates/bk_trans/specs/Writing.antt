@@ -2,8 +2,8 @@
 -- meanings and words that are left, and the label that is next. This definition is inner: it says what the code does, part by
 -- part, where the scheme says what is right; a law ties the two.
 --
--- What the scheme has in another order is written aside and put where it belongs: the operand that is called behind its
--- arguments, the condition of a WHILE behind its body, destinations behind their values, a procedure behind the one around it.
+-- What the scheme has in another order is written aside and put where it belongs: the operand that is called after its
+-- arguments, the condition of a WHILE after its body, destinations after their values, a procedure after the one around it.
 -- A name may mean a word or a label that is set further on: the draft of its statement has the number of the declaration, and is
 -- settled at the end. Labels and depths are words, and wrap.
 use Rattle.std.specs.Prelude.{◌≡◌, ℕ, ◌+◌, pos, ◌%◌, ◌^◌, Bool, true, false, not, cond, Option, Some, None, List, [], ◌∷◌, ◌++◌, length, map, get_or}
@@ -44,7 +44,7 @@ use Rattle.bk_trans.specs.Labels.{labels_of_procedure}
 use Rattle.bk_trans.specs.Parts.{target_of_word, target_of_label}
 use Rattle.bk_trans.specs.Scheme.{goal, goal_of, outermost, valued, looping, switching, prefix_code, infix_code, truth_value, go, test_of_step, first_of, label_or}
 
--- what stands by itself in the code: the procedures inside the one that is written, data, the globals that procedures set, and
+-- what is by itself in the code: the procedures inside the one that is written, data, the globals that procedures set, and
 -- where declarations went
 pub record Apart : Type 0 where
   pub procedures : List Draft
@@ -64,7 +64,7 @@ pub record Writing : Type 0 where
   pub left : Supply
   pub next : ℕ
 
--- a label or a depth so much behind
+-- a label or a depth that is so much greater
 abbrev pub after : ℕ → ℕ → ℕ
 after n k = (n + k) % 2 ^ 32
 
@@ -157,7 +157,7 @@ puts_name w = puts_drafts (push_of (meaning w.left).part ∷ []) (past_meaning w
 abbrev pub puts_goto : ℕ → Writing → Writing
 puts_goto s w = puts_drafts (goto_code s (meaning w.left).part) (past_meaning w)
 
--- how the operands of an operator are gone through: for their values, or both for a jump, with a label of its own behind them
+-- how the operands of an operator are gone through: for their values, or both for a jump, with a label of its own after them
 -- or not
 abbrev pub way_of : Operator → Aim → ℕ → Way
 way_of o.Both (aim.Jump true k) n = way.Short (aim.Jump false n) (aim.Jump true k) true
@@ -184,7 +184,7 @@ ends_way way.Plain n w = w
 ends_way (way.Short x y true) n w = puts (Label n) w
 ends_way (way.Short x y false) n w = w
 
--- the aim of what NOT stands before, and the NOT of a value
+-- the aim of the operand of NOT, and the NOT of a value
 abbrev pub negated : Aim → Aim
 negated aim.Value = aim.Value
 negated (aim.Jump t k) = aim.Jump (not t) k
@@ -193,13 +193,13 @@ abbrev pub puts_not : Aim → Writing → Writing
 puts_not aim.Value w = puts (Monadic m.Not) w
 puts_not (aim.Jump t k) w = w
 
--- what may stand between the operands of a destination
+-- what may be between the operands of a destination
 abbrev pub access_of : Operator → Access
 access_of o.Subscript = access.Word
 access_of o.Byte = access.Byte
 access_of _ = access.Nothing
 
--- an address, where what is behind its operands is `behind`; a byte has none, and its operands are written aside and left out
+-- an address, where what is after its operands is `behind`; a byte has none, and its operands are written aside and left out
 abbrev pub puts_address : Access → Writing → Writing → Writing → Writing
 puts_address access.Word w behind aside = puts (Dyadic d.Add) behind
 puts_address access.Byte w behind aside = with_code w.code aside
@@ -259,14 +259,14 @@ abbrev pub puts_default : Writing → Writing
 puts_default w =
     puts (Label w.next) (takes_labels 1 (with_choices (record { cases = w.choices.cases; default_label = first_of w.choices.default_label (Some w.next) }) w))
 
--- what stands between the values of a choice, and behind them
+-- what is between the values of a choice, and after them
 abbrev pub begins_other : ℕ → ℕ → List Stmt
 begins_other n m = GiveResult m ∷ Label n ∷ []
 
 abbrev pub ends_choice : ℕ → ℕ → List Stmt
 ends_choice m s = GiveResult m ∷ Label m ∷ TakeResult s ∷ []
 
--- what stands before the body of a FOR and behind it, with first label n and depth s
+-- what is before the body of a FOR and after it, with first label n and depth s
 abbrev pub before_body : ℕ → List Stmt
 before_body n = Store ∷ Jump n ∷ Label (after n 1) ∷ []
 
@@ -279,7 +279,7 @@ goes_on n s k = Label n ∷ Load (Local s) ∷ Load (Local (after s 1)) ∷ test
 abbrev pub ends_for : ℕ → ℕ → ℕ → Writing → Writing
 ends_for n s k w = puts_all (goes_on n s k) (puts_all (steps_on n s k) w)
 
--- a SWITCHON: its body was written aside with its choices, behind these statements, in these choices
+-- a SWITCHON: its body was written aside with its choices, after these statements, in these choices
 abbrev pub puts_switch : ℕ → List Draft → Choices → Writing → Writing
 puts_switch n before around body =
     record { code = before ++ Ready (Switch (label_or n body.choices.default_label) body.choices.cases) ∷ body.code ++ Ready (Label n) ∷ []; apart = body.apart; choices = around; left = body.left; next = body.next }
@@ -296,7 +296,7 @@ outside_of w = record { code = w.code; procedures = w.apart.procedures; choices 
 abbrev pub inside : Writing → Writing
 inside w = record { code = []; apart = record { procedures = []; data_words = w.apart.data_words; entries = w.apart.entries; targets = w.apart.targets }; choices = no_choices; left = w.left; next = w.next }
 
--- a procedure is begun, and ended behind its body
+-- a procedure is begun, and ended after its body
 abbrev pub puts_entry : ℕ → Bound → Writing → Writing
 puts_entry l (b.Static m) w = adds_targets (record { number = m; label = after l 1; depth = 0 } ∷ []) (adds_data (DataLabel (after l 1) ∷ DataAddress l ∷ []) w)
 puts_entry l (b.Global (Some g)) w = adds_entries (record { number = g; label = l } ∷ []) w
@@ -328,12 +328,12 @@ any_variables no_definitions = false
 any_variables (define (variables l xs is) ds) = true
 any_variables (define _ ds) = any_variables ds
 
--- destinations that were written, and what is behind them
+-- destinations that were written, and what is after them
 pub record Stored : Type 0 where
   pub codes : List (List Draft)
   pub writing : Writing
 
--- declarations that were written, and the depth behind them
+-- declarations that were written, and the depth after them
 pub record Reached : Type 0 where
   pub depth : ℕ
   pub writing : Writing
@@ -393,7 +393,7 @@ abbrev mutual
       let one : Writing = store_written s e (with_code [] r.writing) in
       stores_written s es (record { codes = r.codes ++ one.code ∷ []; writing = with_code r.writing.code one })
 
-  -- values, and behind each its destination; where there is none, the value is left out
+  -- values, and after each its destination; where there is none, the value is left out
   pub values_written : ℕ → Expressions → List (List Draft) → Writing → Writing
   values_written s none codes w = w
   values_written s (more e es) [] w = values_written s es [] (with_code w.code (written s aim.Value e (with_code [] w)))

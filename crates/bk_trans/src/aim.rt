@@ -12,7 +12,7 @@ pub enum Aim {
 }
 
 impl Aim {
-    /// The aim of what NOT stands before.
+    /// The aim of the operand of NOT.
     pub fn negated(self) -> Aim
         ensures { result ≡ Negated self }
     {

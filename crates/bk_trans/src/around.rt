@@ -1,4 +1,4 @@
-//! What stands around a node of the program, and where declarations went.
+//! What is around a node of the program, and where declarations went.
 ghost use Rattle.std.specs.Prelude.{◌≡◌};
 ghost use Rattle.bk_trans.specs.Scheme.{goal as GoalAt, looping as Looping, switching as Switching, valued as Valued, outermost as Outermost};
 
@@ -11,7 +11,7 @@ pub struct Goal {
     pub depth: u32,
 }
 
-/// What stands around a command.
+/// What is around a command.
 #[derive(Clone, Copy)]
 pub struct Around {
     /// Where LOOP goes.

@@ -7,7 +7,7 @@ use crate::places::place_of;
 use bk_ocode::{Stmt, Variable};
 use std::alloc::{AllocError, Global};
 
-/// A statement, or one whose label or depth is that of a declaration, which may stand further on.
+/// A statement, or one whose label or depth is that of a declaration, which may be further on.
 #[derive(Drop)]
 pub enum Draft {
     /// A statement.

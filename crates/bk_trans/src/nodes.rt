@@ -89,7 +89,7 @@ pub fn value(out: &mut Writing<'_>, depth: u32, aim: Aim, expr: &Expr) -> Result
             out.serve(aim)
         }
         Expr::Apply(_, _, callee, arguments) => {
-            // What is called has the first labels, and stands behind the arguments.
+            // What is called has the first labels, and follows the arguments.
             let before = out.aside();
             value(out, after(depth, arguments.len() + 2), Aim::Value, callee)?;
             let called = out.resume(before);
@@ -215,7 +215,7 @@ fn each_store(
     Ok(())
 }
 
-/// Values, and behind each its destination.
+/// Values, and after each its destination.
 #[cycle(nodes)]
 fn each_stored(
     out: &mut Writing<'_>,
@@ -259,7 +259,7 @@ pub fn act(
             each_stored(out, depth, values, &mut codes)
         }
         Command::Call(_, callee, arguments) => {
-            // What is called has the first labels, and stands behind the arguments.
+            // What is called has the first labels, and follows the arguments.
             let before = out.aside();
             value(out, after(depth, arguments.len() + 2), Aim::Value, callee)?;
             let called = out.resume(before);
@@ -417,7 +417,7 @@ fn each_act(
     Ok(())
 }
 
-/// Declarations one after another, and the depth behind them.
+/// Declarations one after another, and the depth after them.
 #[cycle(nodes)]
 pub fn declare_each(out: &mut Writing<'_>, depth: u32, decls: &[Decl]) -> Result<u32, AllocError>
     ensures { IfOk result (λ behind. reached behind out.new ≡ declared (declarations_in decls.now) (reached depth out.old)) }
@@ -429,7 +429,7 @@ pub fn declare_each(out: &mut Writing<'_>, depth: u32, decls: &[Decl]) -> Result
     Ok(behind)
 }
 
-/// A declaration, and the depth behind it.
+/// A declaration, and the depth after it.
 #[cycle(nodes)]
 fn declare(out: &mut Writing<'_>, depth: u32, decl: &Decl) -> Result<u32, AllocError>
     ensures { IfOk result (λ behind. reached behind out.new ≡ one_declared (declaration decl.now) (reached depth out.old)) }
@@ -453,7 +453,7 @@ fn declare(out: &mut Writing<'_>, depth: u32, decl: &Decl) -> Result<u32, AllocE
     }
 }
 
-/// Definitions one after another, and the depth behind them.
+/// Definitions one after another, and the depth after them.
 #[cycle(nodes)]
 fn define_each(out: &mut Writing<'_>, depth: u32, defs: &[Def]) -> Result<u32, AllocError>
     ensures { IfOk result (λ behind. reached behind out.new ≡ defined (definitions_in defs.now) (reached depth out.old)) }
@@ -465,7 +465,7 @@ fn define_each(out: &mut Writing<'_>, depth: u32, defs: &[Def]) -> Result<u32, A
     Ok(behind)
 }
 
-/// A definition, and the depth behind it.
+/// A definition, and the depth after it.
 #[cycle(nodes)]
 fn define(out: &mut Writing<'_>, depth: u32, def: &Def) -> Result<u32, AllocError>
     ensures { IfOk result (λ behind. reached behind out.new ≡ one_defined (definition def.now) (reached depth out.old)) }
@@ -487,7 +487,7 @@ fn define(out: &mut Writing<'_>, depth: u32, def: &Def) -> Result<u32, AllocErro
     }
 }
 
-/// What variables begin with, one after another, and the depth behind them.
+/// What variables begin with, one after another, and the depth after them.
 #[cycle(nodes)]
 fn start_each(out: &mut Writing<'_>, depth: u32, starts: &[Init]) -> Result<u32, AllocError>
     ensures { IfOk result (λ behind. reached behind out.new ≡ started (starts_in starts.now) (reached depth out.old)) }
@@ -499,7 +499,7 @@ fn start_each(out: &mut Writing<'_>, depth: u32, starts: &[Init]) -> Result<u32,
     Ok(behind)
 }
 
-/// What a variable begins with, and the depth behind it.
+/// What a variable begins with, and the depth after it.
 #[cycle(nodes)]
 fn start_one(out: &mut Writing<'_>, depth: u32, start: &Init) -> Result<u32, AllocError>
     ensures { IfOk result (λ behind. reached behind out.new ≡ started (starts_in (start.now ∷ [])) (reached depth out.old)) }

@@ -106,7 +106,7 @@ impl<'a> Writing<'a> {
         self.put(Stmt::Label { label })
     }
 
-    /// A SWITCHON whose body was written by itself, behind this code, and the choices around it.
+    /// A SWITCHON whose body was written by itself, after this code, and the choices around it.
     pub fn end_switch(
         &mut self,
         label: u32,
@@ -189,7 +189,7 @@ impl<'a> Writing<'a> {
         Ok(outside)
     }
 
-    /// A procedure is ended behind its body, with this return. It stands before those inside it.
+    /// A procedure is ended after its body, with this return. It is before those inside it.
     pub fn end_procedure(&mut self, outside: Outside, last: Stmt) -> Result<(), AllocError>
         ensures { OnOk result (self.new ≡ ends_procedure last outside self.old) }
     {
@@ -212,7 +212,7 @@ impl<'a> Writing<'a> {
         Ok(())
     }
 
-    /// What stands before the body of a FOR.
+    /// What is before the body of a FOR.
     pub fn begin_for(&mut self, first: u32) -> Result<(), AllocError>
         ensures { OnOk result (self.new ≡ puts_all (before_body first) self.old) }
     {
@@ -223,7 +223,7 @@ impl<'a> Writing<'a> {
         })
     }
 
-    /// The step of a FOR, behind its body.
+    /// The step of a FOR, after its body.
     fn put_step(&mut self, first: u32, depth: u32, step: u32) -> Result<(), AllocError>
         ensures { OnOk result (self.new ≡ puts_all (steps_on first depth step) self.old) }
     {
@@ -241,7 +241,7 @@ impl<'a> Writing<'a> {
         self.put(Stmt::Assign { to: variable })
     }
 
-    /// The test of a FOR, behind its step, and the end.
+    /// The test of a FOR, after its step, and the end.
     fn put_test(&mut self, first: u32, depth: u32, step: u32) -> Result<(), AllocError>
         ensures { OnOk result (self.new ≡ puts_all (goes_on first depth step) self.old) }
     {
@@ -263,7 +263,7 @@ impl<'a> Writing<'a> {
         self.put(Stmt::Stack { depth })
     }
 
-    /// What stands behind the body of a FOR.
+    /// What follows the body of a FOR.
     pub fn end_for(&mut self, first: u32, depth: u32, step: u32) -> Result<(), AllocError>
         ensures { OnOk result (self.new ≡ ends_for first depth step self.old) }
     {
@@ -271,7 +271,7 @@ impl<'a> Writing<'a> {
         self.put_test(first, depth, step)
     }
 
-    /// What stands between the values of a choice.
+    /// What is between the values of a choice.
     pub fn begin_other(&mut self, first: u32, second: u32) -> Result<(), AllocError>
         ensures { OnOk result (self.new ≡ puts_all (begins_other first second) self.old) }
     {
@@ -279,7 +279,7 @@ impl<'a> Writing<'a> {
         self.put(Stmt::Label { label: first })
     }
 
-    /// What stands behind the values of a choice.
+    /// What follows the values of a choice.
     pub fn end_choice(&mut self, second: u32, depth: u32) -> Result<(), AllocError>
         ensures { OnOk result (self.new ≡ puts_all (ends_choice second depth) self.old) }
     {

@@ -11,7 +11,7 @@ use bk_scope::Bound;
 use bk_tree::{Operator, Prefix};
 use std::alloc::AllocError;
 
-/// A label or a depth so much behind. It wraps.
+/// A label or a depth that is so much greater. It wraps.
 pub fn after(number: u32, more: usize) -> u32
     ensures { result ≡ After number more }
 {

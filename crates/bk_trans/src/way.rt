@@ -10,7 +10,7 @@ use bk_tree::Operator;
 pub enum Way {
     /// For their values.
     Plain,
-    /// Each for its jump, so that the second is left out where the first says all. A label of its own stands behind them or
+    /// Each for its jump, so that the second is left out where the first says all. A label of its own follows them or
     /// does not.
     Short(Aim, Aim, bool),
 }

@@ -20,7 +20,7 @@ use std::mem;
 /// How many statements a section and a procedure have room for at first.
 pub const FIRST_STMTS: usize = 32;
 
-/// The drafts so far, what stands by itself, what is left of the meanings and words, and the label that is next.
+/// The drafts so far, what is by itself, what is left of the meanings and words, and the label that is next.
 #[derive(Drop)]
 pub struct Writing<'a> {
     pub alloc: Global,
@@ -207,7 +207,7 @@ impl<'a> Writing<'a> {
         mem::replace(&mut self.code, Vec::new(self.alloc))
     }
 
-    /// One goes on behind what was set aside; what was written by itself.
+    /// One goes on after what was set aside; what was written by itself.
     pub fn resume(&mut self, code: Vec<Draft>) -> Vec<Draft>
         ensures code { result.items ≡ self.old.code }
         ensures resumed { self.new ≡ with_code code.items self.old }

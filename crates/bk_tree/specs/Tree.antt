@@ -1,4 +1,4 @@
--- Trees of a section, without where they lie in memory. Each node but an empty command begins with the line of its
+-- Trees of a section, without where they are in memory. Each node but an empty command begins with the line of its
 -- first symbol; a name is its bytes in upper case.
 use Rattle.std.specs.Prelude.{ℕ, Bool, Option, Some, None, List, [], ◌∷◌, map, Box}
 use Rattle.std.specs.Global.{Global}
@@ -20,7 +20,7 @@ use Rattle.bk_tree.specs.declared.tree.Def.TheVariants as f
 use Rattle.bk_tree.specs.declared.tree.Init.{Init}
 use Rattle.bk_tree.specs.declared.tree.Init.TheVariants as b
 
--- a name where it stands
+-- a name and its line
 pub record Mention : Type 0 where
   pub line : ℕ
   pub letters : List ℕ
@@ -97,7 +97,7 @@ mutual
     value : Expression → Starts → Starts
     vector : ℕ → Expression → Starts → Starts
 
--- the tree of what lies in memory
+-- the tree of what is in memory
 abbrev pub mention : Name → Mention
 mention x = record { line = x.line; letters = x.letters.items }
 
@@ -173,7 +173,7 @@ abbrev mutual
   starts (more_of-Init (b.Value y) is) = value (expression y) (starts is)
   starts (more_of-Init (b.Vector l y) is) = vector l (expression y) (starts is)
 
--- lists of trees that lie in memory
+-- lists of trees that are in memory
 abbrev pub expressions_in : List Expr → Expressions
 expressions_in [] = none
 expressions_in (x ∷ xs) = more (expression x) (expressions_in xs)

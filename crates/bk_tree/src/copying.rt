@@ -1,4 +1,4 @@
-//! Copies of trees: the operand that two relations share stands in the tree twice.
+//! Copies of trees: the operand that two relations share is in the tree twice.
 ghost use Rattle.std.specs.Prelude.{◌≡◌, [], ◌∷◌, IfOk, map};
 ghost use Rattle.bk_tree.specs.Tree.{expression, expressions_in, action, actions_in, declaration, declarations_in, items_in, definition, definitions_in, starts_in, mention};
 

@@ -4,7 +4,7 @@
 
 use bk_base::Line;
 
-/// A name where it stands.
+/// A name and its line.
 #[derive(Drop)]
 pub struct Name {
     /// Its line.
@@ -132,7 +132,7 @@ pub enum Expr {
 #[derive(Drop)]
 #[cycle(tree)]
 pub enum Command {
-    /// The empty command behind the colon of a label, CASE or DEFAULT. It is no node.
+    /// The empty command after the colon of a label, CASE or DEFAULT. It is no node.
     Empty,
     /// `Es := Es`: destinations and as many values.
     Assign(Line, Vec<Expr>, Vec<Expr>),

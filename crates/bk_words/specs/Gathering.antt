@@ -1,4 +1,4 @@
--- What stands next in a text, and what is held of a word.
+-- What is next in a text, and what is held of a word.
 use Rattle.std.specs.Prelude.{◌≡◌, ℕ, ◌<◌, Bool, true, false, List, [], ◌∷◌, ◌++◌, length, Option, None, Some}
 use Rattle.bk_words.specs.declared.words.Gathered.{Gathered}
 use Rattle.bk_words.specs.declared.word_buffer.TheConstants.{SIZE}
@@ -13,12 +13,12 @@ pub record HoldsWord (held : List ℕ) (is_long : Bool) (word : List ℕ) : Type
 abbrev pub Holds : Gathered → List ℕ → Type 0
 Holds held word = HoldsWord held.word held.long word
 
--- one blank is behind a word, or nothing where the text ends
+-- one blank follows a word, or nothing where the text ends
 abbrev pub IsBehindWord : List ℕ → Bool → Type 0 → Type 0
 IsBehindWord behind true end = (behind ≡ []) × end
 IsBehindWord behind false end = (byte : ℕ) × (is_blank byte ≡ true) × (behind ≡ byte ∷ [])
 
--- the bytes are blanks, a word, and one blank more, unless the text ends right behind the word
+-- the bytes are blanks, a word, and one blank more, unless the text ends right after the word
 pub record TakesWord (given : List ℕ) (last : Bool) (end : Type 0) : Type 0 where
   pub blanks : List ℕ
   pub first : ℕ

@@ -72,7 +72,7 @@ apart a b x y other = λ is. let same : a ≡ b = cc in let yes : nat_eq a b ≡
 pub rest_same : (a : ℕ) (x y : List ℕ) → a ∷ x ≡ a ∷ y → x ≡ y
 rest_same a x y is = cc
 
--- the byte behind a list
+-- the byte after a list
 pub at_seam : (a b : List ℕ) → get_or (a ++ 76 ∷ b) (length a) 0 ≡ 76
 at_seam [] b = refl
 at_seam (x ∷ a) b = at_seam a b

@@ -27,7 +27,7 @@ abbrev pub ReadsAll : Option (List ℕ) → Option (List ℕ) → Bool → ℕ �
 ReadsAll old new ended count words =
     (taken : List ℕ) × Consumes old new taken × (count ≡ length taken) × (words_of taken ≡ words) × AtEnd ended count
 
--- What was taken of a text whose device failed then: these words, each with a blank behind it, more blanks or none, and behind
+-- What was taken of a text whose device failed then: these words, each with a blank after it, more blanks or none, and after
 -- them the bytes of one word that did not end, or none.
 pub record StopsInWord (taken : List ℕ) (words : List (List ℕ)) : Type 0 where
   pub front : List ℕ

@@ -67,7 +67,7 @@ words_of-taken given more last end t is =
     ∙ words_of-word t.first t.rest (t.behind ++ more) t.in_word (gap_behind t.behind last end more t.past is)
     ∙ ap (λ (w : List (List ℕ)). (t.first ∷ t.rest) ∷ w) (words_behind t.behind last end more t.past is)
 
--- a word alone, behind blanks
+-- a word alone, after blanks
 words_of-alone : (given : List ℕ) (last : Bool) (end : Type 0) (t : TakesWord given last end) → words_of (t.blanks ++ (t.first ∷ t.rest)) ≡ (t.first ∷ t.rest) ∷ []
 words_of-alone given last end t =
     words_of-blanks t.blanks (t.first ∷ t.rest) t.are_blank
@@ -86,7 +86,7 @@ TakesWords-word front given last end before t parted are = record {
   past = IsBehind-of t.behind last end t.past;
 }
 
--- and where a blank is behind it, its words are parted from those that follow
+-- and where a blank is after it, its words are parted from those that follow
 pub IsParted-word : (front given : List ℕ) (last : Bool) (end : Type 0) (before : List (List ℕ)) (t : TakesWord given last end) → IsParted front → words_of front ≡ before → last ≡ false →
     (words_of (front ++ given) ≡ before ++ (t.first ∷ t.rest) ∷ []) × IsParted (front ++ given)
 IsParted-word front given last end before t parted are is =
@@ -98,7 +98,7 @@ IsParted-word front given last end before t parted are is =
     ap words_of (sym (append-nil (front ++ given))) ∙ these [] ∙ append-nil (before ++ word ∷ []) in
     (own, λ more. these more ∙ ap (λ (w : List (List ℕ)). w ++ words_of more) (sym own))
 
--- Where the text ends right behind the word, the bytes taken end with it.
+-- Where the text ends right after the word, the bytes taken end with it.
 pub words_of-last : (front given : List ℕ) (end : Type 0) (before : List (List ℕ)) (t : TakesWord given true end) → IsParted front → words_of front ≡ before →
     words_of (front ++ given) ≡ before ++ (t.first ∷ t.rest) ∷ []
 words_of-last front given end before t parted are =
@@ -234,7 +234,7 @@ EndsInBlank-append front [] ends are = subst EndsInBlank (sym (append-nil front)
 EndsInBlank-append front (b ∷ blanks) ends are =
     subst EndsInBlank (append_assoc front (b ∷ []) blanks) (EndsInBlank-append (front ++ b ∷ []) blanks (inr (front, b, are.0, refl)) are.1)
 
--- a word with a blank behind it
+-- a word with a blank after it
 pub EndsInBlank-word : (front given : List ℕ) (last : Bool) (end : Type 0) → TakesWord given last end → last ≡ false → EndsInBlank (front ++ given)
 EndsInBlank-word front given true end t is = absurd (let h : true ≡ false = is in cc)
 EndsInBlank-word front given false end t is =
@@ -254,7 +254,7 @@ EndsInBlank-some taken d words unended (inr s) = elim s.past [
   | inr over ↦ absurd (unended over.1)
 ]
 
--- the device failed behind words that were read
+-- the device failed after words that were read
 pub Reads-stops : (old a b : Option (List ℕ)) (e : Bool) (m : ℕ) (words : List (List ℕ)) (given : List ℕ) → Reads old a e m words → (AtEnd e m → ⊥) → BeginsWord given → Consumes a b given →
     (taken : List ℕ) × Consumes old b taken × StopsInWord taken words
 Reads-stops old a b e m words given reads unended begins gives = (

@@ -1,4 +1,4 @@
--- The words of a text: what stands between blanks.
+-- The words of a text: what is between blanks.
 use Rattle.std.specs.Prelude.{◌≡◌, ◌⊎◌, ℕ, ◌==◌, ◌||◌, Bool, true, false, ⊤, List, [], ◌∷◌, ◌++◌, if◌then◌else◌}
 
 -- space, tab, line feed, form feed and carriage return
@@ -15,7 +15,7 @@ abbrev pub onto_first : ℕ → List (List ℕ) → List (List ℕ)
 onto_first byte [] = (byte ∷ []) ∷ []
 onto_first byte (word ∷ words) = (byte ∷ word) ∷ words
 
--- Any blanks part the words. A byte that is none belongs to the word that goes on behind it, or is a word's last.
+-- Any blanks part the words. A byte that is none belongs to the word that goes on after it, or is a word's last.
 abbrev pub words_of : List ℕ → List (List ℕ)
 words_of [] = []
 words_of (byte ∷ rest) =
@@ -41,6 +41,6 @@ EndsInWord text = (front : List ℕ) × (byte : ℕ) × (is_blank byte ≡ false
 abbrev pub EndsInBlank : List ℕ → Type 0
 EndsInBlank text = (text ≡ []) ⊎ ((front : List ℕ) × (byte : ℕ) × (is_blank byte ≡ true) × (text ≡ front ++ byte ∷ []))
 
--- what is taken behind a word: one blank, or nothing where the text ends
+-- what is taken after a word: one blank, or nothing where the text ends
 abbrev pub IsBehind : List ℕ → Type 0 → Type 0
 IsBehind behind end = ((byte : ℕ) × (is_blank byte ≡ true) × (behind ≡ byte ∷ [])) ⊎ ((behind ≡ []) × end)

@@ -20,7 +20,7 @@ fn is_blank_byte(byte: u8) -> bool
     byte == b' ' || byte == b'\t' || byte == b'\n' || byte == 12 || byte == b'\r'
 }
 
-/// The next byte. After so many bytes as one call reads the text's end is taken to stand there.
+/// The next byte. After so many bytes as one call reads the text's end is taken to be there.
 fn next_byte<I: ByteIn>(input: &mut I, taken: &mut u64) -> Result<Option<u8>, Failed>
     requires { 0 < taken.old → I.faults input.old ≡ 0 }
     ensures gives { IfOk result (λ byte. Consumes (I.left input.old) (I.left input.new) (byte_list byte)) }
@@ -44,7 +44,7 @@ fn next_byte<I: ByteIn>(input: &mut I, taken: &mut u64) -> Result<Option<u8>, Fa
     Ok(byte)
 }
 
-/// Takes blanks, and the byte behind them.
+/// Takes blanks, and the byte after them.
 fn first_byte<I: ByteIn>(input: &mut I, taken: &mut u64) -> Result<Option<u8>, Failed>
     requires { 0 < taken.old → I.faults input.old ≡ 0 }
     ensures gives { IfOk result (λ byte. (blanks : List ℕ) × AreBlank blanks
@@ -115,7 +115,7 @@ impl Gathered {
         within(self.bytes()?, least, most)
     }
 
-    /// The number in these bounds that it spells behind a mark.
+    /// The number in these bounds that it spells after a mark.
     pub fn marked(&self, mark: u8, least: u32, most: u32) -> Option<u32>
         requires { most < 2 ^ 31 }
         ensures found { IfSome result (λ n. (least ≤ n) × (n ≤ most) × ((word : List ℕ) → Holds self.now word → mark ∷ spelling (pos n) ≡ word)) }
@@ -128,7 +128,7 @@ impl Gathered {
         }
     }
 
-    /// Whether the text ended right behind it.
+    /// Whether the text ended right after it.
     pub fn is_last(&self) -> bool
         ensures { result ≡ self.now.last }
     {
@@ -136,7 +136,7 @@ impl Gathered {
     }
 }
 
-/// Takes a word whose first byte was taken, and the blank behind it if there is one.
+/// Takes a word whose first byte was taken, and the blank after it if there is one.
 fn rest_of_word<I: ByteIn>(first: u8, input: &mut I, taken: &mut u64) -> Result<Gathered, Failed>
     requires { I.faults input.old ≡ 0 }
     ensures gives { IfOk result (λ held. (rest behind : List ℕ) × AreInWord rest × Holds held (first ∷ rest)
@@ -178,7 +178,7 @@ fn rest_of_word<I: ByteIn>(first: u8, input: &mut I, taken: &mut u64) -> Result<
 }
 
 /// The word that a device gives next, or None where only blanks are left. It takes the blanks before the word, the word,
-/// and the blank behind it if there is one. `taken` counts the bytes that a call above took so far.
+/// and the blank after it if there is one. `taken` counts the bytes that a call above took so far.
 pub fn next_word<I: ByteIn>(input: &mut I, taken: &mut u64) -> Result<Option<Gathered>, Failed>
     requires { 0 < taken.old → I.faults input.old ≡ 0 }
     ensures gives { IfOk result (λ found. (given : List ℕ) × Consumes (I.left input.old) (I.left input.new) given

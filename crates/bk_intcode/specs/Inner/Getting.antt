@@ -14,7 +14,7 @@ get_front [] ys k w e = absurd (let h : None ≡ Some w = e in cc)
 get_front (x ∷ xs) ys zero w e = e
 get_front (x ∷ xs) ys (suc k) w e = get_front xs ys k w e
 
--- from behind it
+-- from after it
 pub get_behind : (xs ys : List ℕ) (k : ℕ) → slice_get (xs ++ ys) (length xs + k) ≡ slice_get ys k
 get_behind [] ys k = ap (λ n. slice_get ys n) (let z : 0 + k ≡ k = omega arith in z)
 get_behind (x ∷ xs) ys k = ap (λ n. slice_get (x ∷ (xs ++ ys)) n) (let z : suc (length xs) + k ≡ suc (length xs + k) = omega arith in z) ∙ get_behind xs ys k

@@ -1,4 +1,4 @@
--- A segment put behind the words of a store, with its globals set.
+-- A segment put after the words of a store, with its globals set.
 use Rattle.std.specs.Prelude.{ℕ, List, ◌++◌, fold, length}
 use Rattle.bk_intcode.specs.declared.item.Item.{Item}
 use Rattle.bk_intcode.specs.Placement.{label_number, segment_words, segment_settings, with_setting}
