@@ -119,10 +119,6 @@ pushed_closing p fs gs n u is = pushed p fs gs (f.Closing n) _ _ is (done_closes
 pub popped : (p : Program) (fs gs : List Frame) (f : Frame) (u : Outcome Given) → gs ≡ fs ++ f ∷ [] → resumed p fs (resume p f u) ≡ resumed p gs u
 popped p fs gs f u is = sym (pushed p fs gs f u (resume p f u) is refl)
 
--- what comes to this comes to what is the same
-pub comes_same : (p : Program) (fs : List Frame) (next : Next) (w : World) (u v : Outcome Given) → u ≡ v → Comes p fs next w u → Comes p fs next w v
-comes_same p fs next w u v e h = h ∙ e
-
 -- what holds of what is there
 pub some_map : {A : Type 0} (P Q : A → Type 0) (o : Option A) → ((x : A) → P x → Q x) → IfSome o P → IfSome o Q
 some_map P Q None f h = tt

@@ -19,10 +19,6 @@ use Rattle.bk_intcode.specs.Inner.Reach.{address_size, operand_size, item_size, 
 abbrev pub extent_of : ℕ → Growth → Extent
 extent_of start g = record { next = start + length g.words; filled = g.filled }
 
-length-if : (b : Bool) (x y : ℕ) → length (if b then x ∷ [] else x ∷ y ∷ []) ≡ (if b then 1 else 2)
-length-if true x y = refl
-length-if false x y = refl
-
 length-at : (f : Function) (i l g : Bool) (address : ℕ) → length (instruction_at f i l g address) ≡ address_size address
 length-at f i l g address = two (nat_lt address (2 ^ 25))
   where

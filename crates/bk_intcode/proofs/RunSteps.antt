@@ -1,11 +1,11 @@
 -- How runs that exchange bytes with devices begin, go on and end.
 use Rattle.std.proofs.Common.{◌≡◌, ◌≢◌, ℕ, zero, suc, ◌+◌, ◌-◌, ◌^◌, ◌⊎◌, inl, inr, arith, List, [], ◌∷◌, ◌++◌, Option, None, Some, IsTrue, Bool, true, false, refl, sym, ap, subst, ◌∙◌, append_assoc, append-nil, if◌then◌else◌}
 use Rattle.std.specs.Io.KnownBytes.{append_known, Consumes, Appends, Keeps}
-use Rattle.std.proofs.KnownBytes.{Consumes-nil, Appends-nil, Consumes-trans, Appends-trans, Consumes-kept, Appends-kept, Keeps-refl}
+use Rattle.std.proofs.KnownBytes.{Consumes-nil, Appends-nil, Consumes-trans, Appends-trans, Consumes-kept, Appends-kept}
 use Rattle.bk_base.specs.declared.run_end.End.{End}
 use Rattle.bk_base.specs.declared.run_end.End.TheVariants.{Status, DivideByZero, StoreLimit, StepLimit, BadOperation, ReadFault, WriteFault}
 use Rattle.bk_base.specs.Devices.{AppendsPart, Begins}
-use Rattle.bk_base.specs.DeviceLaws.{Begins-refl, Begins-trans}
+use Rattle.bk_base.specs.DeviceLaws.{Begins-trans}
 use Rattle.bk_intcode.specs.declared.registers.Registers.{Registers}
 use Rattle.bk_intcode.specs.declared.output.Output.{Output}
 use Rattle.bk_intcode.specs.Output.{Text, output_text}
@@ -22,9 +22,6 @@ pub record Still (old new : Told) : Type 0 where
   pub ended : new.ended ≡ old.ended
   pub taken : Keeps old.taken new.taken
   pub passes : Begins old.passed new.passed
-
-pub still_same : (told : Told) → Still told told
-still_same told = record { left = Keeps-refl told.left; held = refl; ended = refl; taken = Keeps-refl told.taken; passes = Begins-refl told.passed }
 
 pub exchanged_none : (told : Told) → Exchanged told told [] []
 exchanged_none told = record { delivered = Consumes-nil told.left; took = Appends-nil told.taken; stays = λ ended. (refl, ended) }

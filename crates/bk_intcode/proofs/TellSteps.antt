@@ -54,9 +54,6 @@ puts_given old new bytes (Err e) all part = part
 
 -- ---- texts
 
-pub telling_none : (told : Option (List ℕ)) (all : Text) → Telling told told all all
-telling_none told all = record { done = []; bytes_are = refl; whole_is = refl; appends = Appends-nil told }
-
 then_bytes : (piece left : Text) → piece.whole ≡ true → (text_then piece left).bytes ≡ piece.bytes ++ left.bytes
 then_bytes piece left whole = rw whole refl
 
@@ -103,9 +100,6 @@ telling_failed old mid new all left piece next t is p =
 pub string_rest-byte : (n m : ℕ) (store : List ℕ) (s i b : ℕ) → n ≡ suc m → byte_of store s i ≡ Some b
     → string_rest n store s i ≡ text_then (whole_text (b ∷ [])) (string_rest m store s (i + 1))
 string_rest-byte n m store s i b count found = rw (count, found) refl
-
-pub string_rest-cut : (n m : ℕ) (store : List ℕ) (s i : ℕ) → n ≡ suc m → byte_of store s i ≡ None → string_rest n store s i ≡ cut_text
-string_rest-cut n m store s i count missing = rw (count, missing) refl
 
 -- ---- a directive of a format, and the rest of it
 

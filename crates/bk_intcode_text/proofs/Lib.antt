@@ -11,5 +11,5 @@ pub mod PrintedLemmas
 pub mod OneSaying
 pub mod CutSegments
 pub mod AnswerLemmas
-pub mod Examples
+pub mod Rows
 pub mod ReadAgain

@@ -32,13 +32,6 @@ no_operand-label rest none (Local n) fits = apart 80 76 (spelling n) rest refl
 no_operand-label rest none (Global n) fits = apart 71 76 (spelling n) rest refl
 no_operand-label rest none (Label l) fits = λ is. none l fits (rest_same 76 (spelling (pos l)) rest is)
 
--- a number alone
-pub no_operand-number : (b : ℕ) (rest : List ℕ) → b ≢ 80 → b ≢ 71 → b ≢ 76 → ((z : ℤ) → FitsSigned w32 z → spelling z ≢ b ∷ rest) → (o : Operand) → IsOperand o → operand_text o ≢ b ∷ rest
-no_operand-number b rest p g l none (Number n) fits = none n fits
-no_operand-number b rest p g l none (Local n) fits = λ is. p (let h : 80 ∷ spelling n ≡ b ∷ rest = is in cc)
-no_operand-number b rest p g l none (Global n) fits = λ is. g (let h : 71 ∷ spelling n ≡ b ∷ rest = is in cc)
-no_operand-number b rest p g l none (Label n) fits = λ is. l (let h : 76 ∷ spelling (pos n) ≡ b ∷ rest = is in cc)
-
 -- no operand begins with `I`
 pub no_operand-indirect : (rest : List ℕ) (o : Operand) → IsOperand o → operand_text o ≢ 73 ∷ rest
 no_operand-indirect rest (Number n) fits = no_spelling 73 rest (λ h. absurd (omega arith)) (λ h. absurd (omega arith)) n fits

@@ -18,8 +18,8 @@ use Rattle.bk_words.specs.Taking.{TakesWords}
 use Rattle.bk_intcode_text.specs.Next.{IsNext}
 use Rattle.bk_intcode_text.specs.SegmentReading.{IsBegun, FaultBehind, GivesSegment, GivesNothing, GivesFault, StopsAtWord}
 use Rattle.bk_intcode_text.specs.SegmentAnswer.{Takes}
-use Rattle.bk_base.specs.DeviceLaws.{Consumes-nothing, Consumes-trans}
-use Rattle.bk_words.specs.WordLaws.{IsParted, IsParted-empty, IsParted-word, EndsInBlank-word, TakesWords-word, words_of-last, words_of-more_blanks}
+use Rattle.bk_base.specs.DeviceLaws.{Consumes-trans}
+use Rattle.bk_words.specs.WordLaws.{IsParted, IsParted-word, EndsInBlank-word, TakesWords-word, words_of-last, words_of-more_blanks}
 use Rattle.bk_intcode_text.proofs.BegunLemmas.{IsBegun-push, IsSegment-of}
 
 -- what was taken so far: the words of these items, parted from those that follow
@@ -28,9 +28,6 @@ Read a b m items = (front : List ℕ) × Consumes a b front × (m ≡ length fro
 
 abbrev pub Comes : Option (List ℕ) → Option (List ℕ) → ℕ → ℕ → Bool → Found → Type 0
 Comes b c m k ended found = (given : List ℕ) × Consumes b c given × (k ≡ m + length given) × IsNext found given (AtEnd ended k)
-
-pub Read-empty : (a : Option (List ℕ)) → Read a a 0 []
-Read-empty a = ([], Consumes-nothing a, refl, refl, IsParted-empty, inl refl)
 
 count : (front given : List ℕ) (m k : ℕ) → m ≡ length front → k ≡ m + length given → k ≡ length (front ++ given)
 count front given m k p q = omega (arith, length-append front given)

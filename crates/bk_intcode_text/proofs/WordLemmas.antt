@@ -1,5 +1,5 @@
 -- Which words stand for no item.
-use Rattle.std.proofs.Common.{◌≡◌, ◌≢◌, ℕ, ◌+◌, ◌<◌, ◌≤◌, ◌^◌, ◌++◌, ◌-◌, zero, suc, nat_eq, eq-eqb, Bool, true, false, IsTrue, if◌then◌else◌, pos, ℤ, FitsSigned, w32, List, [], ◌∷◌, length, get_or, take, drop, arith, refl, sym, ap, ◌∙◌, subst, inl, inr, length-append, length-drop}
+use Rattle.std.proofs.Common.{◌≡◌, ◌≢◌, ℕ, ◌+◌, ◌<◌, ◌≤◌, ◌^◌, ◌++◌, ◌-◌, zero, suc, nat_eq, eq-eqb, Bool, true, false, if◌then◌else◌, pos, ℤ, FitsSigned, w32, List, [], ◌∷◌, length, get_or, take, drop, arith, refl, sym, ap, ◌∙◌, subst, inl, inr, length-append, length-drop}
 use Rattle.bk_base.specs.Decimal.{spelling}
 use Rattle.bk_intcode.specs.Segment.{IsLabel}
 use Rattle.bk_intcode.specs.declared.item.Function.{Function}
@@ -9,7 +9,7 @@ use Rattle.bk_intcode.specs.declared.item.Item.{Item}
 use Rattle.bk_intcode.specs.declared.item.Item.TheVariants.{Instruction, SetLabel, Byte, Word, LabelWord, SetGlobal, Frame, End}
 use Rattle.bk_intcode_text.specs.ItemText.{letter, indirect_text, operand_text, item_text}
 use Rattle.bk_intcode.specs.Segment.{IsOperand, IsItem}
-use Rattle.bk_intcode_text.specs.WordMeaning.{MeansNothing, is_digit, is_function, begins_item, WordFault}
+use Rattle.bk_intcode_text.specs.WordMeaning.{MeansNothing, is_digit, is_function, WordFault}
 use Rattle.bk_words.specs.Numerals.{fits-pos, rest_same, digit-at, at_seam, first-numeral, no_spelling, spelling-some}
 use Rattle.std.specs.Int.{IsInRange}
 use Rattle.std.proofs.lemmas.Bool.{cases_lt}
@@ -153,17 +153,6 @@ nothing-end rest some (SetGlobal n l) fits = other_class (SetGlobal n l) fits 90
 nothing-end rest some (Frame n) fits = other_class (Frame n) fits 90 rest 90 refl refl
 nothing-end rest some End fits = λ is. some (sym (rest_same 90 [] rest is))
 
--- what is no label, behind a digit
-pub nothing-label : (b : ℕ) (rest : List ℕ) → byte_class b ≡ 1 → ((l : ℕ) → IsLabel l → spelling (pos l) ≢ b ∷ rest) → MeansNothing (b ∷ rest)
-nothing-label b rest class none (Instruction f i o) fits = other_class (Instruction f i o) fits b rest 1 class refl
-nothing-label b rest class none (SetLabel l) fits = none l fits
-nothing-label b rest class none (Byte n) fits = other_class (Byte n) fits b rest 1 class refl
-nothing-label b rest class none (Word n) fits = other_class (Word n) fits b rest 1 class refl
-nothing-label b rest class none (LabelWord l) fits = other_class (LabelWord l) fits b rest 1 class refl
-nothing-label b rest class none (SetGlobal n l) fits = other_class (SetGlobal n l) fits b rest 1 class refl
-nothing-label b rest class none (Frame n) fits = other_class (Frame n) fits b rest 1 class refl
-nothing-label b rest class none End fits = other_class End fits b rest 1 class refl
-
 tails : (a b : ℕ) (x y : List ℕ) → a ∷ x ≡ b ∷ y → x ≡ y
 tails a b x y is = cc
 
@@ -232,10 +221,6 @@ no_global-label i rest at before none = nothing-global rest (λ n l small label 
 -- no number behind `C`
 pub byte_fault : (rest : List ℕ) → ((n : ℕ) → n < 2 ^ 31 → spelling (pos n) ≢ rest) → WordFault (67 ∷ rest) BadNumber
 byte_fault rest none = (refl, nothing-byte rest (λ n low. none n (omega arith)), λ over. none over.0 over.2 (sym (rest_same 67 rest (spelling (pos over.0)) over.3)))
-
--- what begins an item, but no byte, and means nothing
-pub number_fault : (word : List ℕ) → IsTrue (begins_item (get_or word 0 0)) → get_or word 0 0 ≢ 67 → MeansNothing word → WordFault word BadNumber
-number_fault word begins other nothing = (begins, nothing, λ over. other (ap (λ (w : List ℕ). get_or w 0 0) over.3))
 
 -- no label behind `DL`
 pub no_data-label : (bytes rest : List ℕ) → bytes ≡ 76 ∷ rest → ((l : ℕ) → IsLabel l → spelling (pos l) ≢ rest) → MeansNothing (68 ∷ bytes)

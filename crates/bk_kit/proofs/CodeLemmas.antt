@@ -2,7 +2,7 @@
 use Rattle.std.proofs.Common.{◌≡◌, ℕ, ◌++◌, Bool, true, false, IsTrue, List, [], ◌∷◌, Option, None, Some, Ok, Err, length, refl, sym, subst, ◌∙◌, append-nil}
 use Rattle.std.specs.Io.KnownBytes.{Consumes}
 use Rattle.bk_base.specs.Devices.{NothingLeft}
-use Rattle.bk_base.specs.DeviceLaws.{Consumes-nothing, Consumes-trans}
+use Rattle.bk_base.specs.DeviceLaws.{Consumes-trans}
 use Rattle.bk_base.specs.declared.intcode_fault.IntcodeFault.{IntcodeFault}
 use Rattle.bk_base.specs.declared.refused.Refused.TheVariants.{Fault, Device}
 use Rattle.bk_intcode.specs.declared.segment.Intcode.{Intcode}
@@ -14,16 +14,13 @@ use Rattle.bk_intcode_text.specs.SegmentReading.{StopsAtDevice}
 use Rattle.bk_kit.specs.Texts.{Stands, StopsInPart, parts, refused, part_number}
 use Rattle.bk_kit.specs.Code.{intcode}
 use Rattle.bk_kit.proofs.TextLemmas as text
-use Rattle.bk_kit.proofs.TextLemmas.{read_none, read_more, says_refused, says_whole, says_all, nothing_taken}
+use Rattle.bk_kit.proofs.TextLemmas.{read_more, says_refused, says_whole, says_all, nothing_taken}
 
 -- the bytes taken are the words of these segments, whatever follows
 pub record Front (all : List (List Item)) (old now : Option (List ℕ)) (ended : Bool) : Type 0 where
   pub taken : List ℕ
   pub delivered : Consumes old now taken
   pub read : text.Read intcode all taken ended
-
-pub Front-empty : (known : Option (List ℕ)) (ended : Bool) → Front [] known known ended
-Front-empty known ended = record { taken = []; delivered = Consumes-nothing known; read = read_none intcode ended }
 
 module _ (all : List (List Item)) (old now new : Option (List ℕ)) (was ended : Bool) (front : Front all old now was) where
   pub Front-push : (read : Intcode) → (IsTrue was → ⊥) → StandsWhateverFollows (Ok (Some read)) now new ended → Front (all ++ items_of read ∷ []) old new ended

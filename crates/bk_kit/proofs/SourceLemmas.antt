@@ -73,10 +73,6 @@ generated_one before section segment stands = (
   record { parts = part_of section.code segment stands ∷ []; segments_are = refl; stmts_are = refl },
 )
 
--- or none
-pub generated_none : (before : List (List Item)) → Generated before before (codes_in None)
-generated_none before = ([], sym (append-nil before), record { parts = []; segments_are = refl; stmts_are = refl })
-
 -- both together
 stand_both : (all more : List (List Item)) (codes others : List (List Stmt)) → Stand all codes → Stand more others → Stand (all ++ more) (codes ++ others)
 stand_both all more codes others first second = record {

@@ -1,5 +1,5 @@
 -- Texts that grow.
-use Rattle.std.proofs.Common.{◌≡◌, ℕ, zero, suc, ◌+◌, ◌-◌, Option, Some, None, List, [], ◌∷◌, ◌++◌, length, take, drop, min, refl, ap, sym, append-nil, append_assoc}
+use Rattle.std.proofs.Common.{◌≡◌, ℕ, zero, suc, ◌+◌, ◌-◌, Option, Some, None, List, [], ◌∷◌, ◌++◌, length, take, drop, min, refl, ap, sym, append_assoc}
 use Rattle.std.specs.Option.{option_map}
 use Rattle.std.proofs.lemmas.List.{take_rest, drop_min}
 use Rattle.bk_base.specs.Format.{FormatPart, further, part_at, parts_behind, parts}
@@ -22,9 +22,6 @@ bytes_more n k m a i b text e is = rw (e, ← is) (behind_byte text b (bytes_fro
 
 pub bytes_cut : (n k : ℕ) (m : Memory) (a : Value) (i : ℕ) (text : List ℕ) → n ≡ suc k → None ≡ read_byte m a (number i) → option_map (λ bs. text ++ bs) (bytes_from n m a i) ≡ None
 bytes_cut n k m a i text e is = rw (e, ← is) refl
-
-pub bytes_end : (n : ℕ) (m : Memory) (a : Value) (i : ℕ) (text : List ℕ) → n ≡ 0 → option_map (λ bs. text ++ bs) (bytes_from n m a i) ≡ Some text
-bytes_end n m a i text e = rw e (ap (λ x. Some x) (append-nil text))
 
 -- the parts of a format
 pub parts_skipped : (n : ℕ) (bytes : List ℕ) → parts_behind n bytes ≡ parts (drop n bytes)

@@ -30,6 +30,6 @@ pub mod NearerSteps
 pub mod LabelKinds
 pub mod Plans
 pub mod TypedSections
-mod Examples
-mod Programs
-mod SharedPlaces
+mod TextRows
+mod ProgramRows
+mod SharedPlaceRows

@@ -3,7 +3,6 @@ use Rattle.std.proofs.Common.{◌≡◌, ◌≢◌, inl, inr, ℕ, ◌+◌, ◌<
 use Rattle.std.proofs.lemmas.List.{take-append-le}
 use Rattle.std.proofs.Math.Seq.{take-append_seam}
 use Rattle.std.specs.Io.KnownBytes.{Consumes}
-use Rattle.bk_base.specs.DeviceLaws.{Consumes-nothing}
 use Rattle.bk_base.specs.declared.limit.TheConstants.{INPUT_BYTES, OCODE_STATEMENTS}
 use Rattle.bk_words.specs.TextEnd.{AtEnd}
 use Rattle.bk_words.specs.Gathering.{Holds, IsNextWord}
@@ -26,9 +25,6 @@ use Rattle.bk_ocode.proofs.DraftLemmas.{fits_behind}
 
 abbrev pub Comes : Option (List ℕ) → Option (List ℕ) → ℕ → ℕ → Bool → Option Gathered → Type 0
 Comes b c m k ended found = (given : List ℕ) × Consumes b c given × (k ≡ m + length given) × IsNextWord found given (AtEnd ended k)
-
-pub Reads-empty : (a : Option (List ℕ)) (ended : Bool) → Reads a a ended 0 []
-Reads-empty a ended = ([], Consumes-nothing a, refl, inl (refl, refl))
 
 -- one word more was read
 pub word_read : (old a b : Option (List ℕ)) (e f : Bool) (m k : ℕ) (words : List (List ℕ)) (held : Gathered) → Reads old a e m words → (IsTrue e → ⊥) → Comes a b m k f (Some held) → k ≤ INPUT_BYTES →

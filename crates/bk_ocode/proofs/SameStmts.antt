@@ -32,9 +32,6 @@ natural_same m n p q is = decimal_injective m n (omega (arith, p)) (omega (arith
 label_same : (l m : ℕ) → IsLabel l → IsLabel m → label_word l ≡ label_word m → l ≡ m
 label_same l m p q is = natural_same l m (omega (arith, p.1)) (omega (arith, q.1)) (rest_same 76 (natural_word l) (natural_word m) is)
 
-local_same : (m n : ℕ) → kind_of (variable.Local m) ≡ kind_of (variable.Local n) → m ≡ n → variable.Local m ≡ variable.Local n
-local_same m n kind is = ap variable.Local is
-
 variable_same : (u v : Variable) → IsVariable u → IsVariable v → kind_of u ≡ kind_of v → variable_word u ≡ variable_word v → u ≡ v
 variable_same (variable.Local m) (variable.Local n) p q kind is = ap variable.Local (natural_same m n p.1 q.1 is)
 variable_same (variable.Global m) (variable.Global n) p q kind is = ap variable.Global (natural_same m n (omega (arith, p)) (omega (arith, q)) is)

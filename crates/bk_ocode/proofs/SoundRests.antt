@@ -16,7 +16,7 @@ use Rattle.bk_ocode.specs.Frames.{HasFrames}
 use Rattle.bk_ocode.specs.SoundRuns.{IsProgram, Stands, IsOwn, IsControl, Sound, SoundStep, StepsAreSound, ResumingIsSound}
 use Rattle.bk_ocode.specs.declared.standing.Position.{Position}
 use Rattle.bk_ocode.specs.declared.standing.Position.TheVariants as position
-use Rattle.bk_ocode.specs.declared.standing.Role.TheVariants.{Body, Taker}
+use Rattle.bk_ocode.specs.declared.standing.Role.TheVariants.{Body}
 use Rattle.bk_ocode.specs.declared.stmt.Variable.TheVariants.{Local, Global, Static}
 use Rattle.bk_ocode.specs.declared.stmt.Stmt.{Stmt}
 use Rattle.bk_ocode.specs.declared.stmt.Stmt.TheVariants.{Number, True, False, Query, Load, Address, Text, Monadic, Dyadic, LoadByte, Assign, AssignAt, AssignByte, Jump, JumpIf, Label, GiveResult, TakeResult, Stack, Store, Entry, Save, CallFunction, CallRoutine, ReturnItem, Return, EndProcedure, Switch, Finish, DataLabel, DataNumber, DataAddress, Globals}
@@ -39,15 +39,6 @@ body_within position.Inside e = refl
 body_within position.Outside e = e
 body_within position.InData e = e
 body_within position.Ended e = e
-
-taker_within : (p : Position) → may_stand p Taker ≡ true → Within p ≡ true
-taker_within position.Opened e = refl
-taker_within (position.BehindLabel l) e = refl
-taker_within position.BehindReturn e = refl
-taker_within position.Inside e = refl
-taker_within position.Outside e = e
-taker_within position.InData e = e
-taker_within position.Ended e = e
 
 abbrev Deep : Context → Type 0
 Deep c = Within c.position ≡ true → 2 ≤ c.depth

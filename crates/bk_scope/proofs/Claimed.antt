@@ -131,10 +131,6 @@ other-more s u c other updates kept (Choosing n w) = other-updated s u c (Choosi
 other-more s u c other updates kept (Defaulting n) = other-updated s u c (Defaulting n) (inr (inl (n, refl))) updates
 other-more s u c other updates kept (Setting g) = other-updated s u c (Setting g) (inr (inr (g, refl))) updates
 
--- a claim is in the set where the definitions say that it is claimed
-pub claimed-contained : (t : Inside) (c : Claim) (seen : List found.Claim) (b : Bool) → HasClaims t → claims_in t.in_turn.items ≡ seen → b ≡ has t.claimed c → is_claimed (claim_of c) seen ≡ b
-claimed-contained t c seen b h view found = ap (is_claimed (claim_of c)) (sym view) ∙ sym (h c) ∙ sym found
-
 claims_in-behind : (c : Claim) (cs : List Claim) → claims_in (cs ++ c ∷ []) ≡ claim_of c ∷ claims_in cs
 claims_in-behind c cs = ap reverse (map-append claim_of cs (c ∷ [])) ∙ reverse-append (map claim_of cs) (claim_of c ∷ [])
 

@@ -13,7 +13,7 @@ use Rattle.bk_scope.specs.Places.{deeper}
 use Rattle.bk_scope.specs.Names.{evaluated, each_evaluated, done, fit_infix, without_word, role_of_operands, place_of_second}
 use Rattle.bk_scope.specs.Spots.{Spot, past, behind, symbols, symbols_each, symbols_done, numbers, numbers_each, numbers_done}
 use Rattle.bk_scope.specs.Faults.{told, told_each, told_done}
-use Rattle.bk_scope.proofs.Tied.{Tied, Spans, both, wider, behind_it}
+use Rattle.bk_scope.proofs.Tied.{Tied, Spans, behind_it}
 
 -- an expression that is there for its value or its truth
 abbrev pub Plain : Role → Type 0
@@ -71,10 +71,6 @@ binary_tied l m q a b ta ia tb ib r h bs p s f e fits =
     subst (λ v. Tied (told r bs p s (binary l q m a b)) (numbers a + numbers b) f (evaluated (role_of_operands q r) bs z b (evaluated (role_of_operands q r) bs p a v)))
     (sym (fit_plain q r bs p.procedure (binary l q m a b) f h))
     (behind_it (ia _ bs p s) (ib (role_of_operands q r) bs z u) (omega arith) one two)
-
-pub binary_inside : (l m : ℕ) (q : Operator) (a b : Expression) → EInside a → EInside b → EInside (binary l q m a b)
-binary_inside l m q a b ia ib r bs p s =
-    wider _ _ (both (ia (role_of_operands q r) bs p s) (ib (role_of_operands q r) bs (place_of_second q r p) (past 1 (behind a s))) (omega arith) (omega arith)) (omega arith) (omega arith)
 
 -- apply
 pub without_plain : (r : Role) (bs : List Binding) (k : ℕ) (e : Expression) (f : Found) → Plain r → without_word r bs k e f ≡ f

@@ -74,10 +74,6 @@ global_inside n l x (Some (Static w)) = tt
 global_inside n l x (Some (Variable j w)) = tt
 global_inside n l x (Some (Label j w)) = tt
 
--- what a name's own meaning, and a frame, add
-its_fault : ℕ → ℕ → Fault
-its_fault n l = record { place = n; line = l; wrong = frame_too_large }
-
 module _ (n l : ℕ) (xs : List Point) where
   frame_judged : (b : Bool) (cs : List Claim) → judged cs (cond b (at n l frame_too_large) [] ++ xs) ≡ cond b (record { place = n; line = l; wrong = frame_too_large } ∷ []) [] ++ judged cs xs
   frame_judged true cs = refl

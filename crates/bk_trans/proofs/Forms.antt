@@ -89,13 +89,6 @@ mutual
   room plan ts p s query g = g
   room plan ts p s (table vs) g = g
 
-  room_if : (plan : ℕ → Use) (ts : List Target) (p s : ℕ) (c : Condition) → GoodIf plan ts p s c → s + 1 ≤ FRAME_WORDS
-  room_if plan ts p s (holds e) g = room plan ts p s e g
-  room_if plan ts p s (within c) g = room_if plan ts p s c g
-  room_if plan ts p s (fails c) g = room_if plan ts p s c g
-  room_if plan ts p s (both a b) g = room_if plan ts p s a g.0
-  room_if plan ts p s (either a b) g = room_if plan ts p s a g.0
-
 room_started : (plan : ℕ → Use) (ts : List Target) (p t : ℕ) (is : Starts) → GoodStarted plan ts p t is → t ≤ FRAME_WORDS → behind_starts t is ≤ FRAME_WORDS
 room_started plan ts p t no_starts g high = high
 room_started plan ts p t (value e is) g high = room_started plan ts p (t + 1) is g.1 (room plan ts p t e g.0)

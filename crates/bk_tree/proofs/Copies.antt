@@ -1,16 +1,15 @@
 -- Lists of copies, one more each.
-use Rattle.std.proofs.Common.{◌≡◌, ℕ, ◌+◌, ◌<◌, List, [], ◌∷◌, ◌++◌, length, get_or, take, map, sym, ap, ◌∙◌}
+use Rattle.std.proofs.Common.{◌≡◌, ℕ, ◌+◌, ◌<◌, List, [], ◌∷◌, ◌++◌, length, get_or, take, sym, ap, ◌∙◌}
 use Rattle.std.proofs.lemmas.List.{take_more}
-use Rattle.bk_tree.specs.declared.tree.Name.{Name}
 use Rattle.bk_tree.specs.declared.tree.Expr.{Expr}
 use Rattle.bk_tree.specs.declared.tree.Command.{Command}
 use Rattle.bk_tree.specs.declared.tree.Decl.{Decl}
 use Rattle.bk_tree.specs.declared.tree.Item.{Item}
 use Rattle.bk_tree.specs.declared.tree.Def.{Def}
 use Rattle.bk_tree.specs.declared.tree.Init.{Init}
-use Rattle.bk_tree.specs.Tree.{none, more, no_actions, also, no_declarations, declare, no_definitions, define, mention, expression, expressions_in, action, actions_in, declaration, declarations_in, items_in, definition, definitions_in, starts_in}
+use Rattle.bk_tree.specs.Tree.{none, more, no_actions, also, no_declarations, declare, no_definitions, define, expression, expressions_in, action, actions_in, declaration, declarations_in, items_in, definition, definitions_in, starts_in}
 use Rattle.bk_tree.specs.Parts.{each_then, actions_then, declarations_then, items_then, definitions_then, starts_then}
-use Rattle.bk_tree.proofs.Trees.{expressions_push, actions_push, declarations_push, items_push, definitions_push, starts_push, names_push}
+use Rattle.bk_tree.proofs.Trees.{expressions_push, actions_push, declarations_push, items_push, definitions_push, starts_push}
 
 next : {A : Type 0} {B : Type 0} (L : List A → B) (P : B → A → B) (push : (zs : List A) (z : A) → L (zs ++ z ∷ []) ≡ P (L zs) z) (xs ys : List A) (i : ℕ) (x y : A) → i < length xs → x ≡ get_or xs i x → L ys ≡ L (take i xs) → ((b : B) → P b y ≡ P b x) → L (ys ++ y ∷ []) ≡ L (take (i + 1) xs)
 next L P push xs ys i x y lt is so_far same =
@@ -34,6 +33,3 @@ definitions_next xs ys i x y lt is so_far same = next definitions_in (λ b z. de
 
 pub starts_next : (xs ys : List Init) (i : ℕ) (x y : Init) → i < length xs → x ≡ get_or xs i x → starts_in ys ≡ starts_in (take i xs) → starts_in (y ∷ []) ≡ starts_in (x ∷ []) → starts_in (ys ++ y ∷ []) ≡ starts_in (take (i + 1) xs)
 starts_next xs ys i x y lt is so_far same = next starts_in (λ b z. starts_then b (starts_in (z ∷ []))) starts_push xs ys i x y lt is so_far (λ b. ap (starts_then b) same)
-
-pub names_next : (xs ys : List Name) (i : ℕ) (x y : Name) → i < length xs → x ≡ get_or xs i x → map mention ys ≡ map mention (take i xs) → mention y ≡ mention x → map mention (ys ++ y ∷ []) ≡ map mention (take (i + 1) xs)
-names_next xs ys i x y lt is so_far same = next (map mention) (λ b z. b ++ mention z ∷ []) names_push xs ys i x y lt is so_far (λ b. ap (λ e. b ++ e ∷ []) same)

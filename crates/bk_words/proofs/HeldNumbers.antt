@@ -1,5 +1,5 @@
 -- Numbers in words of which the first bytes are held.
-use Rattle.std.proofs.Common.{◌≡◌, ◌≢◌, ℕ, ℤ, pos, FitsSigned, w32, ◌<◌, ◌≤◌, ◌^◌, List, ◌∷◌, length, arith, ap}
+use Rattle.std.proofs.Common.{◌≢◌, ℕ, ℤ, pos, FitsSigned, w32, ◌<◌, ◌≤◌, ◌^◌, List, ◌∷◌, length, arith, ap}
 use Rattle.bk_base.specs.Decimal.{spelling}
 use Rattle.bk_words.specs.Numerals.{fits-pos, length-word}
 
@@ -13,7 +13,3 @@ long_within most fits word long n low = long_number word long (pos n) (fits-pos 
 pub long_marked : (mark most : ℕ) → most < 2 ^ 31 → (word : List ℕ) → 16 < length word → (n : ℕ) → n ≤ most → mark ∷ spelling (pos n) ≢ word
 long_marked mark most fits word long n low = λ is.
     absurd (omega (arith, length-word (pos n) (fits-pos n (omega (arith, fits, low))), ap (λ (w : List ℕ). length w) is))
-
--- another first byte
-pub other_mark : (mark first n : ℕ) (rest : List ℕ) → (first ≡ mark → ⊥) → mark ∷ spelling (pos n) ≢ first ∷ rest
-other_mark mark first n rest other = λ is. other (let h : first ≡ mark = cc in h)

@@ -30,14 +30,6 @@ first-longer : (word : List ℕ) (long : Bool) (first byte : ℕ) (rest : List �
 first-longer word long first byte rest h b r e =
     let begun = h.first first rest refl in (begun.0, begun.1 ∙ ap (λ (x : ℕ). x ∷ begun.0) (head_same first b (rest ++ byte ∷ []) r e))
 
--- the word's first byte is held
-pub Holds-first : (first : ℕ) → HoldsWord (first ∷ []) false (first ∷ [])
-Holds-first first = record {
-  first = λ b r e. ([], ap (λ (x : ℕ). x ∷ []) (head_same first b [] r e));
-  short = λ e. refl;
-  long = λ e. absurd (let h : false ≡ true = e in cc);
-}
-
 -- the word goes on, and the byte is held
 pub Holds-push : (word new : List ℕ) (long : Bool) (first byte : ℕ) (rest : List ℕ) → HoldsWord word long (first ∷ rest) → new ≡ word ++ byte ∷ [] →
     HoldsWord new long (first ∷ (rest ++ byte ∷ []))
