@@ -1,5 +1,5 @@
 //! The machine.
-ghost use Rattle.std.specs.Prelude.{ℕ, ◌≡◌, ◌≢◌, ◌+◌, ◌<◌, ◌≤◌, ◌↔◌, ◌⊎◌, None, Some, IfOk, false, map, vec_len};
+ghost use Rattle.std.specs.Prelude.{ℕ, ◌≡◌, ◌≢◌, ◌+◌, ◌<◌, ◌≤◌, ◌↔◌, ◌⊎◌, None, Some, IfOk, false, map, slice_get, vec_len};
 ghost use Rattle.std.specs.Io.KnownBytes.{Keeps};
 ghost use Rattle.bk_base.specs.declared.run_end.End.TheVariants.{StepLimit, WriteFault};
 ghost use Rattle.bk_base.specs.declared.limit.TheConstants.{STORE_LEAST, STORE_MOST};
@@ -13,6 +13,7 @@ use crate::loader::load;
 use crate::registers::Registers;
 use crate::run::go;
 use crate::segment::Intcode;
+use crate::store::word_at;
 use bk_base::limit::{STORE_LEAST, STORE_MOST};
 use bk_base::{ByteIn, ByteOut, End};
 use std::alloc::Global;
@@ -85,6 +86,21 @@ impl Machine {
         ensures { result ≡ sizes_of self.now }
     {
         self.sizes
+    }
+
+    /// Its registers. Where the last call of `run` ended with `StepLimit`, or before the first, they are those of the next step; no
+    /// contract says what they are after another end. It takes no memory.
+    pub fn registers(&self) -> Registers
+        ensures { result ≡ registers_of self.now }
+    {
+        self.registers
+    }
+
+    /// The word of its store at an address, if the store has one; after a run, as the registers. It takes no memory.
+    pub fn word(&self, at: u32) -> Option<u32>
+        ensures { result ≡ slice_get (store_of self.now) at }
+    {
+        word_at(self.store.as_slice(), at)
     }
 
     /// Does up to this many steps more. `StepLimit` comes after just so many, and the machine is ready to go on in another
