@@ -6,7 +6,7 @@ use Rattle.bk_base.specs.DeviceLaws.{Consumes-trans}
 use Rattle.bk_base.specs.declared.limit.TheConstants.{SECTION_BYTES}
 use Rattle.bk_lex.specs.declared.machine.Fault.{Fault}
 use Rattle.bk_lex.specs.declared.counting.State.{State}
-use Rattle.bk_lex.specs.declared.counting.Step.{Step}
+use Rattle.bk_lex.specs.Counting.{Step}
 use Rattle.bk_lex.specs.declared.counting.Given.{Given}
 use Rattle.bk_lex.specs.declared.counting.Act.{Act}
 use Rattle.bk_lex.specs.declared.counting.Act.TheVariants as acts

@@ -19,7 +19,7 @@ use Rattle.bk_lex.specs.declared.machine.Next.TheVariants as nexts
 use Rattle.bk_lex.specs.declared.counting.State.{State}
 use Rattle.bk_lex.specs.declared.counting.Given.{Given}
 use Rattle.bk_lex.specs.declared.counting.Act.TheVariants as acts
-use Rattle.bk_lex.specs.declared.counting.Step.{Step}
+use Rattle.bk_lex.specs.Counting.{Step}
 use Rattle.bk_lex.specs.declared.counting.Ended.{Ended}
 use Rattle.bk_lex.specs.Machine.{fresh, next, piece, end_fault}
 use Rattle.bk_lex.specs.Counting.{moved, within, past, finished, finished_as, no_get, ended, opened_as, begun, named, header_rest, stepped, ◌>>=◌}

@@ -1,5 +1,5 @@
 -- A lexer over bytes that come one after another follows the machine.
-use Rattle.std.proofs.Common.{◌≡◌, ℕ, zero, suc, ◌+◌, ◌-◌, ◌<◌, ◌≤◌, Bool, true, false, if◌then◌else◌, List, [], ◌∷◌, ◌++◌, get_or, length, take, drop, Option, Some, None, Result, Ok, Err, refl, sym, ap, subst, ◌∙◌, arith, append_assoc}
+use Rattle.std.proofs.Common.{◌≡◌, ℕ, ◌+◌, ◌-◌, ◌<◌, ◌≤◌, Bool, true, false, if◌then◌else◌, List, [], ◌∷◌, ◌++◌, get_or, length, drop, Option, Some, None, Result, Ok, Err, refl, sym, ap, subst, ◌∙◌, arith, append_assoc}
 use Rattle.std.proofs.lemmas.List.{append-nil, length-append, length-drop, length-take-le}
 use Rattle.std.proofs.Math.Seq.{drop-append_seam}
 use Rattle.std.specs.Prelude.{slice_range}
@@ -9,12 +9,11 @@ use Rattle.bk_lex.specs.Counting.{start, step_of, finished}
 use Rattle.bk_lex.specs.Lexing.{section, at, Reading, reading, run, end_as, lexed, placed_fault, put_on, place_after, inserted_symbols, is_dot}
 use Rattle.bk_lex.specs.Cutting.{goes_on_from, then_on, state_behind}
 use Rattle.bk_lex.specs.Found.{symbols_found, all_found, inserted_found, found_in, IsWithin, AreWithin}
-use Rattle.bk_lex.specs.Lexers.{Marks, marks, marked, Parts, parts, Goes, HasEnded, IsRefused}
+use Rattle.bk_lex.specs.Lexers.{marks, marked, Parts, parts, Goes, HasEnded, IsRefused}
 use Rattle.bk_lex.specs.declared.token.Kind.{Kind}
 use Rattle.bk_lex.specs.declared.machine.Fault.{Fault}
-use Rattle.bk_lex.specs.declared.machine.Header.{Header}
 use Rattle.bk_lex.specs.declared.counting.State.{State}
-use Rattle.bk_lex.specs.declared.counting.Step.{Step}
+use Rattle.bk_lex.specs.Counting.{Step}
 use Rattle.bk_lex.specs.declared.counting.Act.{Act}
 use Rattle.bk_lex.specs.declared.counting.Act.TheVariants as acts
 use Rattle.bk_lex.specs.declared.counting.Given.{Given}

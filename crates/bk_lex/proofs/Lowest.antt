@@ -15,7 +15,7 @@ use Rattle.bk_lex.specs.declared.machine.Next.{Next}
 use Rattle.bk_lex.specs.declared.machine.Next.TheVariants as nexts
 use Rattle.bk_lex.specs.declared.counting.State.{State}
 use Rattle.bk_lex.specs.declared.counting.Given.{Given}
-use Rattle.bk_lex.specs.declared.counting.Step.{Step}
+use Rattle.bk_lex.specs.Counting.{Step}
 use Rattle.bk_lex.specs.Bytes.{is_feed}
 use Rattle.bk_lex.specs.Machine.{fresh, next, end_fault}
 use Rattle.bk_lex.specs.Counting.{start, step_of, moved, within, past, finished, opened_as, ◌>>=◌}

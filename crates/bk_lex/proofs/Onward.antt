@@ -23,7 +23,7 @@ use Rattle.bk_lex.specs.declared.machine.Next.{Next}
 use Rattle.bk_lex.specs.declared.machine.Next.TheVariants as nexts
 use Rattle.bk_lex.specs.declared.counting.State.{State}
 use Rattle.bk_lex.specs.declared.counting.Act.TheVariants as acts
-use Rattle.bk_lex.specs.declared.counting.Step.{Step}
+use Rattle.bk_lex.specs.Counting.{Step}
 use Rattle.bk_lex.specs.declared.counting.Ended.{Ended}
 use Rattle.bk_lex.specs.Signs.{is_slash, longer_sign}
 use Rattle.bk_lex.specs.Header.{header_symbols}

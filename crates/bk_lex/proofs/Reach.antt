@@ -10,7 +10,7 @@ use Rattle.bk_lex.specs.declared.machine.Next.{Next}
 use Rattle.bk_lex.specs.declared.machine.Next.TheVariants as nexts
 use Rattle.bk_lex.specs.declared.counting.State.{State}
 use Rattle.bk_lex.specs.declared.counting.Act.TheVariants as acts
-use Rattle.bk_lex.specs.declared.counting.Step.{Step}
+use Rattle.bk_lex.specs.Counting.{Step}
 use Rattle.bk_lex.specs.declared.counting.Ended.{Ended}
 use Rattle.bk_lex.specs.Machine.{fresh, next}
 use Rattle.bk_lex.specs.Counting.{start, state, with_mode, stepped, moved, step_of, least_room, mode_begun}

@@ -24,7 +24,7 @@ use Rattle.bk_lex.specs.declared.token.Kind.TheVariants as kinds
 use Rattle.bk_lex.specs.declared.counting.State.{State}
 use Rattle.bk_lex.specs.declared.counting.Given.TheVariants as givens
 use Rattle.bk_lex.specs.declared.counting.Act.TheVariants as acts
-use Rattle.bk_lex.specs.declared.counting.Step.{Step}
+use Rattle.bk_lex.specs.Counting.{Step}
 use Rattle.bk_lex.specs.declared.counting.Ended.{Ended}
 use Rattle.bk_lex.specs.Header.{header_symbols}
 use Rattle.bk_lex.specs.Machine.{fresh, next, is_digit_of, digits_in, digits_with, first_digit, one_more, grows}

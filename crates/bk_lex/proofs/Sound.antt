@@ -13,7 +13,7 @@ use Rattle.bk_lex.specs.declared.counting.State.{State}
 use Rattle.bk_lex.specs.declared.counting.Given.{Given}
 use Rattle.bk_lex.specs.declared.counting.Act.{Act}
 use Rattle.bk_lex.specs.declared.counting.Act.TheVariants as acts
-use Rattle.bk_lex.specs.declared.counting.Step.{Step}
+use Rattle.bk_lex.specs.Counting.{Step}
 use Rattle.bk_lex.specs.declared.counting.Ended.{Ended}
 use Rattle.bk_lex.specs.Machine.{next, piece, end_fault}
 use Rattle.bk_lex.specs.Counting.{step_of, moved, within, finished, finished_as, no_get, ended, ◌>>=◌}

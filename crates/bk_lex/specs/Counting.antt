@@ -1,4 +1,4 @@
--- The machine with what it counts beside the pieces: bytes and symbols, what stands between neighbours, and GET.
+-- The machine with its counts: bytes and symbols, what is inserted between neighbours, and GET.
 use Rattle.std.specs.Prelude.{ℕ, ◌-◌, Bool, true, false, nat_lt, ◌==◌, ◌||◌, if◌then◌else◌, Option, Some, None, Result, Ok, Err}
 use Rattle.bk_lex.specs.declared.token.Kind.{Kind}
 use Rattle.bk_lex.specs.declared.token.Kind.TheVariants.{SectionClose}
@@ -18,7 +18,6 @@ use Rattle.bk_lex.specs.declared.counting.Given.{Given}
 use Rattle.bk_lex.specs.declared.counting.Given.TheVariants.{Nothing, Symbol, Get}
 use Rattle.bk_lex.specs.declared.counting.Act.{Act}
 use Rattle.bk_lex.specs.declared.counting.Act.TheVariants.{Goes, Begins, Names}
-use Rattle.bk_lex.specs.declared.counting.Step.{Step}
 use Rattle.bk_lex.specs.declared.counting.Ended.{Ended}
 use Rattle.bk_lex.specs.Insertion.{inserted}
 use Rattle.bk_lex.specs.Signs.{sign_kind, is_slash}
@@ -41,10 +40,28 @@ with_mode s m = state m s.bytes s.symbols s.last s.fed s.get
 abbrev pub ended_as : State → Given → Ended
 ended_as s g = record { state = s; given = g }
 
+-- the state after a byte, and what the byte did
+pub record Step : Type 0 where
+  pub state : State
+  pub act : Act
+
 abbrev pub stepped : State → Act → Step
 stepped s a = record { state = s; act = a }
 
--- how many symbols one symbol is, with what is inserted before it
+-- the same of an answer, and of the state that it left
+abbrev pub step_as : Result Act Fault → State → Result Step Fault
+step_as (Ok a) s = Ok (stepped s a)
+step_as (Err f) s = Err f
+
+abbrev pub begun_as : Result Unit Fault → State → Result State Fault
+begun_as (Ok u) s = Ok s
+begun_as (Err f) s = Err f
+
+abbrev pub ended_get_as : Result State Fault → Result Ended Fault
+ended_get_as (Ok s) = Ok (ended_as s Get)
+ended_get_as (Err f) = Err f
+
+-- the number of symbols that one symbol adds, with what is inserted before it
 abbrev pub room_for : Option Kind → ℕ
 room_for None = 1
 room_for (Some k) = 2
@@ -60,14 +77,14 @@ ended_what s whats.Gap = Ok (ended_as s Nothing)
 ended_what s whats.Get = if nat_lt s.symbols 1 then Err SectionTooLong else if s.get then Err BadGet else Ok (ended_as (state s.mode s.bytes (s.symbols - 1) s.last false true) Get)
 ended_what s (whats.Symbol k) = ended_symbol s k
 
--- behind a whole piece
+-- after a complete piece
 abbrev pub ended : State → Result Ended Fault
 ended s = ended_what s (piece s.mode)
 
 abbrev pub sign_room : State → Sign → ℕ
 sign_room s g = if is_slash g then 0 else room_for (inserted s.last (sign_kind g) s.fed)
 
--- how many symbols a piece is for certain, by its first byte; a `/` may begin a comment
+-- the number of symbols that a piece is certain to add, by its first byte; a `/` may begin a comment
 abbrev pub least_room : State → Mode → ℕ
 least_room s Blank = 0
 least_room s Dot = 0
@@ -88,7 +105,7 @@ abbrev pub mode_begun : Bool → Mode → Result Mode Fault
 mode_begun true m = in_get m
 mode_begun false m = Ok m
 
--- behind the first byte of a piece
+-- after the first byte of a piece
 abbrev pub begun : State → Mode → ℕ → Result State Fault
 begun s m b =
     if nat_lt s.symbols (least_room s m) then Err SectionTooLong else
@@ -99,18 +116,22 @@ abbrev pub header_rest : Header → ℕ
 header_rest Plain = 52
 header_rest Formatted = 56
 
--- behind the string of a GET
+-- after the string of a GET
 abbrev pub named : State → Header → Result Step Fault
 named s h = if nat_lt s.symbols (header_rest h) then Err HeaderTooLong else Ok (stepped (state Blank s.bytes (s.symbols - header_rest h) (Some SectionClose) s.fed false) (Names h))
 
+-- a piece begins after another
+abbrev pub opened_by : Result Ended Fault → Mode → ℕ → Result Step Fault
+opened_by x m b = x >>= λ e. (begun e.state m b >>= λ t. Ok (stepped t (Begins e.given)))
+
 abbrev pub opened_as : State → ℕ → Option Mode → Result Step Fault
 opened_as s b None = Err BadByte
-opened_as s b (Some m) = ended s >>= λ e. (begun e.state m b >>= λ t. Ok (stepped t (Begins e.given)))
+opened_as s b (Some m) = opened_by (ended s) m b
 
 abbrev pub opened : State → ℕ → Result Step Fault
 opened s b = opened_as s b (fresh b)
 
--- what a byte does, whatever the number of bytes
+-- the effect of a byte, whatever the number of bytes
 abbrev pub moved : State → ℕ → Next → Result Step Fault
 moved s b (nexts.Goes m) = Ok (stepped (with_mode s m) Goes)
 moved s b nexts.Ends = opened s b

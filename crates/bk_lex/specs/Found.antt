@@ -1,4 +1,4 @@
--- What a lexer over bytes that come one after another has found in them.
+-- The symbols that a lexer has found in bytes that come one after another.
 use Rattle.std.specs.Prelude.{ℕ, ◌≤◌, ⊤, List, [], ◌∷◌, ◌++◌, slice_range, Option, Some, None}
 use Rattle.bk_lex.specs.Symbol.{Symbol, symbol}
 use Rattle.bk_lex.specs.Header.{header_symbols}
@@ -19,11 +19,11 @@ pub record SectionBytes : Type 0 where
 abbrev pub bytes_of : List ℕ → ℕ → SectionBytes
 bytes_of bytes from = record { bytes = bytes; from = from }
 
--- what a cutter says that took these bytes of a section
+-- the answer of a cutter that has taken these bytes of a section
 abbrev pub cut_behind : List ℕ → Cut
 cut_behind bytes = cut_as (state_behind (Some start) bytes)
 
--- the symbols of what was found in a text
+-- the symbols of one that was found in a text, or of a header
 abbrev pub symbols_found : List ℕ → Found → List Symbol
 symbols_found text (founds.Symbol kind line first end) = symbol kind line (Some first) (slice_range text first end) ∷ []
 symbols_found text (founds.Inserted kind line) = symbol kind line None [] ∷ []
@@ -33,7 +33,7 @@ abbrev pub all_found : List ℕ → List Found → List Symbol
 all_found text [] = []
 all_found text (f ∷ fs) = symbols_found text f ++ all_found text fs
 
--- what is found of a piece from one byte up to another
+-- the symbols of a piece from one byte up to another
 abbrev pub inserted_found : Option Kind → ℕ → List Found
 inserted_found None line = []
 inserted_found (Some kind) line = founds.Inserted kind line ∷ []
@@ -42,7 +42,7 @@ abbrev pub found_in : Given → ℕ → ℕ → ℕ → List Found
 found_in (givens.Symbol insertion kind) line first end = inserted_found insertion line ++ founds.Symbol kind line first end ∷ []
 found_in g line first end = []
 
--- it lies in a text of so many bytes
+-- it is within a text of this number of bytes
 abbrev pub IsWithin : ℕ → Found → Type 0
 IsWithin n (founds.Symbol kind line first end) = (first ≤ end) × (end ≤ n)
 IsWithin n f = ⊤

@@ -1,7 +1,7 @@
--- The headers: what stands in the place of GET "LIBHDR" and of GET "LIBHDR2", all on the line of the GET.
+-- The headers: the symbols that replace GET "LIBHDR" and GET "LIBHDR2", all on the line of the GET.
 --   GLOBAL $( START:1; STOP:2; RDCH:3; WRCH:4; NEWLINE:5; WRITES:6; WRITEN:7; WRITED:8; GETBYTE:9; PUTBYTE:10 $)
 --   MANIFEST $( ENDSTREAMCH=-1; BYTESPERWORD=4 $)
--- LIBHDR2 has `; WRITEF:11` behind PUTBYTE:10.
+-- LIBHDR2 has `; WRITEF:11` after PUTBYTE:10.
 use Rattle.std.specs.Prelude.{ℕ, None, List, [], ◌∷◌, ◌++◌, map, codes}
 use Rattle.bk_lex.specs.Symbol.{Symbol}
 use Rattle.bk_lex.specs.declared.token.Kind.{Kind}
@@ -90,7 +90,7 @@ given_of row = record { kind = row.kind; text = row.text.now }
 abbrev pub givens_of : List Given → List Spelled
 givens_of rows = map given_of rows
 
--- symbols on one line, which lie nowhere in the source
+-- symbols on one line, which have no place in the source
 abbrev pub given_on : ℕ → List Spelled → List Symbol
 given_on line rows = map (λ (g : Spelled). record { kind = g.kind; line = line; place = None; text = g.text }) rows
 

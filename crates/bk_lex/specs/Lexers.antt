@@ -1,4 +1,4 @@
--- A lexer over bytes that come one after another: how far the section is.
+-- A lexer over bytes that come one after another: the invariant of its progress.
 use Rattle.std.specs.Prelude.{ℕ, ◌+◌, ◌≤◌, ◌≡◌, ⊤, true, List, [], ◌∷◌, ◌++◌, length, slice_range, Some, None, Ok, Err}
 use Rattle.bk_lex.specs.Counting.{start}
 use Rattle.bk_lex.specs.Lexing.{section, reading, run, lexed, placed_fault, place_after}
@@ -15,7 +15,7 @@ use Rattle.bk_lex.specs.declared.lexer.Found.TheVariants as founds
 use Rattle.bk_lex.specs.declared.lexer.Pieces.{Pieces}
 use Rattle.bk_lex.specs.declared.scan.Place.{Place}
 
--- what was found in the bytes, where the piece begins that is not whole yet, and the lines there
+-- the symbols in the bytes, the place where the incomplete piece begins, and the lines there
 pub record Marks : Type 0 where
   pub found : List Found
   pub piece : ℕ
@@ -27,13 +27,13 @@ marks found piece place = record { found = found; piece = piece; place = place }
 abbrev pub marks_of : Pieces → Marks
 marks_of p = marks p.found.items p.piece p.place
 
--- the same behind a byte with this act, which so many bytes stand before
+-- the same after a byte with this act, which has this number of bytes before it
 abbrev pub marked : Marks → Act → ℕ → ℕ → Marks
 marked m acts.Goes b n = m
 marked m (acts.Begins g) b n = marks (m.found ++ found_in g m.place.line m.piece n) n (place_after m.place g b)
 marked m (acts.Names h) b n = marks (m.found ++ founds.Header h m.place.get_line ∷ []) m.piece m.place
 
--- the bytes so far, the line of the first, and what was found in them
+-- the bytes so far, the line of the first, and the symbols in them
 pub record Parts : Type 0 where
   pub bytes : List ℕ
   pub from : ℕ
@@ -42,7 +42,7 @@ pub record Parts : Type 0 where
 abbrev pub parts : List ℕ → ℕ → Marks → Parts
 parts bytes from m = record { bytes = bytes; from = from; marks = m }
 
--- The machine goes on: whatever follows, the answer is what it gives from here.
+-- The machine goes on: whatever follows, the answer is that of the machine from here.
 pub record Goes (l : Parts) (s : State) : Type 0 where
   pub state : state_behind (Some start) l.bytes ≡ Some s
   pub counted : s.bytes + length l.bytes ≡ 1048576
@@ -61,8 +61,8 @@ pub record IsRefused (l : Parts) (s : State) (f : Fault) : Type 0 where
   pub state : state_behind (Some start) l.bytes ≡ None
   pub same : lexed l.bytes l.from ≡ Err (placed_fault s l.marks.place f)
 
-abbrev pub Progresses : Progress → Parts → Type 0
-Progresses (Going s) l = Goes l s
-Progresses Ended l = HasEnded l
-Progresses (Refused s f) l = IsRefused l s f
-Progresses Stuck l = ⊤
+abbrev pub Progresses : Progress → State → Parts → Type 0
+Progresses Going s l = Goes l s
+Progresses Ended s l = HasEnded l
+Progresses (Refused f) s l = IsRefused l s f
+Progresses Stuck s l = ⊤

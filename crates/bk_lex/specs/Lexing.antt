@@ -1,4 +1,4 @@
--- The machine over the bytes of a text: the tokens of its first section, or the fault that is told.
+-- The machine over the bytes of a text: the tokens of its first section, or the fault that is reported.
 use Rattle.std.specs.Prelude.{ℕ, ◌+◌, ◌-◌, ◌^◌, ◌≡◌, min, Bool, true, false, ◌==◌, ◌&&◌, if◌then◌else◌, Option, Some, None, List, [], ◌∷◌, ◌++◌, length, Result, Ok, Err}
 use Rattle.bk_base.specs.declared.source_fault.SourceFault.{SourceFault}
 use Rattle.bk_base.specs.declared.source_fault.SourceKind.{SourceKind}
@@ -16,7 +16,7 @@ use Rattle.bk_lex.specs.declared.counting.Given.{Given}
 use Rattle.bk_lex.specs.declared.counting.Given.TheVariants as givens
 use Rattle.bk_lex.specs.declared.counting.Act.{Act}
 use Rattle.bk_lex.specs.declared.counting.Act.TheVariants as acts
-use Rattle.bk_lex.specs.declared.counting.Step.{Step}
+use Rattle.bk_lex.specs.Counting.{Step}
 use Rattle.bk_lex.specs.declared.scan.Place.{Place}
 use Rattle.bk_lex.specs.declared.scan.Lexed.{Lexed}
 use Rattle.bk_lex.specs.Counting.{start, step_of, finished, ◌>>=◌}
@@ -56,7 +56,7 @@ of_get _ = false
 abbrev pub at : ℕ → ℕ → Place
 at line get_line = record { line = line; get_line = get_line }
 
--- a fault of a GET whose string is due stands on the line of the GET
+-- a fault of a GET whose string is due is on the line of the GET
 abbrev pub placed_fault : State → Place → Fault → SourceFault
 placed_fault s p f = record { line = if s.get && of_get f then p.get_line else p.line; kind = told_kind f }
 
@@ -64,12 +64,12 @@ placed_fault s p f = record { line = if s.get && of_get f then p.get_line else p
 abbrev pub line_after : ℕ → ℕ → ℕ
 line_after b line = if b == 10 then min (line + 1) (2 ^ 32 - 1) else line
 
--- what is inserted lies nowhere in the source
+-- what is inserted has no place in the source
 abbrev pub inserted_symbols : Option Kind → ℕ → List Symbol
 inserted_symbols None line = []
 inserted_symbols (Some k) line = symbol k line None [] ∷ []
 
--- what a piece gives, where so many bytes came up to its end
+-- the symbols of a piece, whose end has this number of bytes before it
 abbrev pub put_on : List Symbol → Given → ℕ → ℕ → List ℕ → List Symbol
 put_on out givens.Nothing line used text = out
 put_on out (givens.Symbol insertion kind) line used text = out ++ inserted_symbols insertion line ++ symbol kind line (Some (used - length text)) text ∷ []
@@ -82,7 +82,7 @@ get_line_after p g = p.get_line
 abbrev pub place_after : Place → Given → ℕ → Place
 place_after p g b = at (line_after b p.line) (get_line_after p g)
 
--- the symbols so far, the state, the bytes since the last piece, where they are, and how many bytes came
+-- the symbols so far, the state, the bytes since the last piece, their lines, and the number of bytes
 pub record Reading : Type 0 where
   pub out : List Symbol
   pub state : State
@@ -93,7 +93,7 @@ pub record Reading : Type 0 where
 abbrev pub reading : List Symbol → State → List ℕ → Place → ℕ → Reading
 reading out state held place used = record { out = out; state = state; held = held; place = place; used = used }
 
--- behind a byte
+-- after a byte
 abbrev pub read : Reading → ℕ → State → Act → Reading
 read r b s acts.Goes = reading r.out s (r.held ++ b ∷ []) r.place (r.used + 1)
 read r b s (acts.Begins g) = reading (put_on r.out g r.place.line r.used r.held) s (b ∷ []) (place_after r.place g b) (r.used + 1)
@@ -123,7 +123,7 @@ begin from = reading [] start [] (at from from) 0
 abbrev pub lexed : List ℕ → ℕ → Result Section SourceFault
 lexed text from = run (begin from) text
 
--- what a call gives: the section or the fault; a growth that was refused is another answer
+-- the answer of a call: the section or the fault; a growth that was refused is another answer
 abbrev pub Gives : Result Lexed (Refused SourceFault) → Result Section SourceFault → Type 0
 Gives (Ok l) answer = answer ≡ Ok (section_of l)
 Gives (Err (refusals.Fault f)) answer = answer ≡ Err f

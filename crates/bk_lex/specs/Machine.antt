@@ -1,4 +1,4 @@
--- The machine: what a byte does to the bytes since the last whole piece.
+-- The machine: the effect of a byte on the bytes since the last complete piece.
 use Rattle.std.specs.Prelude.{ℕ, ◌+◌, ◌-◌, ◌*◌, ◌%◌, Bool, nat_le, nat_lt, ◌==◌, ◌&&◌, ◌||◌, not, if◌then◌else◌, Option, Some, None, codes}
 use Rattle.std.specs.Prelude.{get_or}
 use Rattle.std.specs.Char.{to_ascii_uppercase}
@@ -71,7 +71,7 @@ tag_next side n b = if not (is_name_byte b) || (n == 0 && b == 46) then Ends els
 abbrev pub text_next : ℕ → ℕ → Next
 text_next n b = if is_feed b then Bad BadString else if b == 34 then Goes TextEnd else if b == 42 then Goes (TextEscape n) else one_more n
 
--- behind a `*`
+-- after a `*`
 abbrev pub star_next : ℕ → Next → Next
 star_next b whole = if is_feed b then Bad BadString else if is_escape b then whole else Bad BadEscape
 
@@ -118,7 +118,7 @@ abbrev pub bracket_what : Side → What
 bracket_what Opening = Symbol kinds.SectionOpen
 bracket_what Closing = Symbol kinds.SectionClose
 
--- what a whole piece is
+-- the kind of a complete piece
 abbrev pub piece : Mode → What
 piece (Word n code) = word_what code
 piece (Number base v) = Symbol kinds.Number

@@ -1,10 +1,11 @@
-//! The machine with what it counts beside the pieces: bytes and symbols, what stands between neighbours, and GET.
-ghost use Rattle.std.specs.Prelude.{◌≡◌, nat_lt, true, Ok};
+//! The machine with its counts: bytes and symbols, what is inserted between neighbours, and GET.
+ghost use Rattle.std.specs.Prelude.{◌≡◌, nat_lt, true, Ok, Err, OnErr};
 ghost use Rattle.bk_lex.specs.Bytes.{is_blank};
 ghost use Rattle.bk_lex.specs.Insertion.{ends_operand, ends_command, begins_command, begins_statement, inserted};
 ghost use Rattle.bk_lex.specs.Machine.{next};
 ghost use Rattle.bk_lex.specs.declared.machine.Mode.TheVariants.{Blank};
-ghost use Rattle.bk_lex.specs.Counting.{step_of, ended, ended_symbol, begun, finished, start, moved, header_rest, in_get, room_for, past, least_room, named, opened};
+ghost use Rattle.bk_lex.specs.declared.reserved.What.TheVariants.{Gap, Get};
+ghost use Rattle.bk_lex.specs.Counting.{step_of, step_as, within, ended, ended_what, ended_symbol, ended_get_as, opened_by, begun, begun_as, finished, start, moved, header_rest, in_get, room_for, least_room, named, opened};
 
 use crate::machine::{Fault, Header, Mode, Next, begin, end_fault, follow, what_of};
 use crate::reserved::What;
@@ -17,27 +18,27 @@ pub const SECTION_BYTES: u32 = 1_048_576;
 /// The most symbols of a section, those of the header and the inserted ones counted.
 pub const SECTION_SYMBOLS: u32 = 262_144;
 
-/// Where the machine is in a section.
+/// The state of the machine in a section.
 ///
-/// No two fields of one byte stand side by side. The compiler would keep those in one word, take it apart, and put it together
+/// No two fields of one byte are neighbours. The compiler would keep those in one word, take it apart, and put it together
 /// again, at each byte of the text.
 #[derive(Clone, Copy, Debug, PartialEq, Eq)]
 pub struct State {
-    /// What the bytes since the last piece are.
+    /// The bytes since the last piece.
     pub mode: Mode,
     /// The last symbol.
     pub last: Option<Kind>,
-    /// How many bytes more the section may have.
+    /// The number of bytes that the section may still have.
     pub bytes: u32,
     /// Whether a line feed came since the last symbol.
     pub fed: bool,
-    /// How many symbols more the section may have.
+    /// The number of symbols that the section may still have.
     pub symbols: u32,
     /// Whether the string of a GET is due, or has begun.
     pub get: bool,
 }
 
-/// What a piece that ended gives.
+/// The result of a piece.
 #[derive(Clone, Copy, Debug, PartialEq, Eq)]
 pub enum Given {
     /// Nothing.
@@ -48,25 +49,18 @@ pub enum Given {
     Get,
 }
 
-/// What a byte does.
+/// The effect of a byte.
 #[derive(Clone, Copy, Debug, PartialEq, Eq)]
 pub enum Act {
     /// It goes on with the piece.
     Goes,
-    /// It begins a piece, and the one before it gives this.
+    /// It begins a piece. This is the result of the piece before it.
     Begins(Given),
     /// It is the last byte of the string of a GET.
     Names(Header),
 }
 
-/// Where the machine is behind a byte, and what the byte did.
-#[derive(Clone, Copy, Debug, PartialEq, Eq)]
-pub struct Step {
-    pub state: State,
-    pub act: Act,
-}
-
-/// Where the machine is behind a piece, and what the piece gives.
+/// The state after a piece, and the result of the piece.
 #[derive(Clone, Copy, Debug, PartialEq, Eq)]
 pub struct Ended {
     pub state: State,
@@ -160,23 +154,23 @@ fn begins_statement(kind: Kind) -> bool
         )
 }
 
-/// What is inserted between a symbol, if there is one, and the next, which stands on a line of its own or not.
+/// What is inserted between a symbol, if there is one, and the next, which is the first of its line or not.
 #[inline(always)]
-fn inserted(before: Option<Kind>, behind: Kind, on_new_line: bool) -> Option<Kind>
-    ensures { result ≡ inserted before behind on_new_line }
+fn inserted(before: Option<Kind>, after: Kind, on_new_line: bool) -> Option<Kind>
+    ensures { result ≡ inserted before after on_new_line }
 {
     let before = before?;
     if on_new_line {
-        if ends_command(before) && begins_statement(behind) {
+        if ends_command(before) && begins_statement(after) {
             return Some(Kind::Semicolon);
         }
-    } else if ends_operand(before) && begins_command(behind) {
+    } else if ends_operand(before) && begins_command(after) {
         return Some(Kind::Do);
     }
     None
 }
 
-/// How many symbols a symbol is, with what is inserted before it.
+/// The number of symbols that a symbol adds, with what is inserted before it.
 #[inline(always)]
 fn room_for(insertion: Option<Kind>) -> u32
     ensures { result ≡ room_for insertion }
@@ -187,7 +181,7 @@ fn room_for(insertion: Option<Kind>) -> u32
     }
 }
 
-/// The state behind a whole piece.
+/// The state after a complete piece.
 #[inline(always)]
 pub fn end_piece(state: State) -> Result<Ended, Fault>
     ensures { result ≡ ended state }
@@ -197,24 +191,31 @@ pub fn end_piece(state: State) -> Result<Ended, Fault>
             state,
             given: Given::Nothing,
         }),
-        What::Get => match state.symbols.checked_sub(1) {
-            None => Err(Fault::SectionTooLong),
-            Some(_) if state.get => Err(Fault::BadGet),
-            Some(symbols) => Ok(Ended {
-                state: State {
-                    symbols,
-                    fed: false,
-                    get: true,
-                    ..state
-                },
-                given: Given::Get,
-            }),
-        },
+        What::Get => Ok(Ended {
+            state: ended_get(state)?,
+            given: Given::Get,
+        }),
         What::Symbol(kind) => ended_symbol(state, kind),
     }
 }
 
-/// The state behind a symbol. Where the string of a GET was due, it is a fault.
+/// The state after the word GET. Where the string of another GET was due, the word is a fault.
+fn ended_get(state: State) -> Result<State, Fault>
+    ensures { ended_get_as result ≡ ended_what state Get }
+{
+    match state.symbols.checked_sub(1) {
+        None => Err(Fault::SectionTooLong),
+        Some(_) if state.get => Err(Fault::BadGet),
+        Some(symbols) => Ok(State {
+            symbols,
+            fed: false,
+            get: true,
+            ..state
+        }),
+    }
+}
+
+/// The state after a symbol. Where the string of a GET was due, the symbol is a fault.
 #[inline(always)]
 fn ended_symbol(state: State, kind: Kind) -> Result<Ended, Fault>
     ensures { result ≡ ended_symbol state kind }
@@ -235,7 +236,7 @@ fn ended_symbol(state: State, kind: Kind) -> Result<Ended, Fault>
     }
 }
 
-/// How many symbols a piece is for certain, by its first byte. A `/` may begin a comment.
+/// The number of symbols that a piece is certain to add, by its first byte. A `/` may begin a comment.
 #[inline(always)]
 fn least_room(state: State, mode: Mode) -> u32
     ensures { result ≡ least_room state mode }
@@ -250,11 +251,11 @@ fn least_room(state: State, mode: Mode) -> u32
     }
 }
 
-/// The most symbols that a piece is for certain.
+/// The largest number of symbols that a piece is certain to add.
 const MOST_ROOM: u32 = 2;
 
-/// Whether a piece that begins so is more symbols than the section may have. Most sections may have many more, so that how
-/// many the piece is need not be known.
+/// Whether a piece that begins so exceeds the symbols that the section may still have. Most sections may still have many, so
+/// that the number for the piece is not needed.
 #[inline(always)]
 fn has_no_room(state: State, mode: Mode) -> bool
     ensures { result ≡ nat_lt state.symbols (least_room state mode) }
@@ -262,20 +263,18 @@ fn has_no_room(state: State, mode: Mode) -> bool
     state.symbols < MOST_ROOM && state.symbols < least_room(state, mode)
 }
 
-/// The state behind the first byte of a piece.
+/// The first byte of a piece.
 #[inline(always)]
-fn begun(state: State, mode: Mode, byte: u8) -> Result<State, Fault>
-    ensures { result ≡ begun state mode byte }
+fn begin_piece(state: &mut State, mode: Mode, byte: u8) -> Result<(), Fault>
+    ensures answers { begun_as result state.new ≡ begun state.old mode byte }
+    ensures keeps { OnErr result (state.new ≡ state.old) }
 {
-    if has_no_room(state, mode) {
+    if has_no_room(*state, mode) {
         return Err(Fault::SectionTooLong);
     }
-    let mode = if state.get { in_get(mode)? } else { mode };
-    Ok(State {
-        mode,
-        fed: state.fed || byte == b'\n',
-        ..state
-    })
+    state.mode = if state.get { in_get(mode)? } else { mode };
+    state.fed = state.fed || byte == b'\n';
+    Ok(())
 }
 
 /// The piece that begins where the string of a GET is due.
@@ -289,7 +288,7 @@ fn in_get(mode: Mode) -> Result<Mode, Fault>
     }
 }
 
-/// How many symbols a header has, without the two that its GET counted before.
+/// The number of symbols of a header, without the two that its GET counted before.
 fn header_rest(header: Header) -> u32
     ensures { result ≡ header_rest header }
 {
@@ -299,36 +298,84 @@ fn header_rest(header: Header) -> u32
     }
 }
 
-/// The state behind the string of a GET.
-fn named(state: State, header: Header) -> Result<Step, Fault>
-    ensures { result ≡ named state header }
+/// The byte that ends the string of a GET, which names a header.
+fn named(state: &mut State, header: Header) -> Result<Act, Fault>
+    ensures answers { step_as result state.new ≡ named state.old header }
+    ensures keeps { OnErr result (state.new ≡ state.old) }
 {
-    match state.symbols.checked_sub(header_rest(header)) {
-        None => Err(Fault::HeaderTooLong),
-        Some(symbols) => Ok(Step {
-            state: State {
-                mode: Mode::Blank,
-                symbols,
-                last: Some(Kind::SectionClose),
-                get: false,
-                ..state
-            },
-            act: Act::Names(header),
-        }),
-    }
+    let Some(symbols) = state.symbols.checked_sub(header_rest(header)) else {
+        return Err(Fault::HeaderTooLong);
+    };
+    state.mode = Mode::Blank;
+    state.symbols = symbols;
+    state.last = Some(Kind::SectionClose);
+    state.get = false;
+    Ok(Act::Names(header))
 }
 
-/// The state behind a byte that begins a piece.
+/// A byte that begins a piece after a blank or a comment.
 #[inline(always)]
-fn opened(state: State, byte: u8) -> Result<Step, Fault>
-    ensures { result ≡ opened state byte }
+fn after_gap(state: &mut State, mode: Mode, byte: u8) -> Result<Act, Fault>
+    ensures answers { step_as result state.new ≡ opened_by (ended_what state.old Gap) mode byte }
+    ensures keeps { OnErr result (state.new ≡ state.old) }
+{
+    begin_piece(state, mode, byte)?;
+    Ok(Act::Begins(Given::Nothing))
+}
+
+/// A byte that begins a piece after a symbol.
+#[inline(always)]
+fn after_symbol(state: &mut State, kind: Kind, mode: Mode, byte: u8) -> Result<Act, Fault>
+    ensures answers { step_as result state.new ≡ opened_by (ended_symbol state.old kind) mode byte }
+    ensures keeps { OnErr result (state.new ≡ state.old) }
+{
+    let insertion = inserted(state.last, kind, state.fed);
+    let Some(symbols) = state.symbols.checked_sub(room_for(insertion)) else {
+        return Err(Fault::SectionTooLong);
+    };
+    if state.get {
+        return Err(Fault::BadGet);
+    }
+    let after = State {
+        symbols,
+        last: Some(kind),
+        fed: false,
+        ..*state
+    };
+    if has_no_room(after, mode) {
+        return Err(Fault::SectionTooLong);
+    }
+    state.mode = mode;
+    state.symbols = symbols;
+    state.last = Some(kind);
+    state.fed = byte == b'\n';
+    Ok(Act::Begins(Given::Symbol(insertion, kind)))
+}
+
+/// A byte that begins a piece after the word GET.
+#[inline(always)]
+fn after_get(state: &mut State, mode: Mode, byte: u8) -> Result<Act, Fault>
+    ensures answers { step_as result state.new ≡ opened_by (ended_what state.old Get) mode byte }
+    ensures keeps { OnErr result (state.new ≡ state.old) }
+{
+    let mut after = ended_get(*state)?;
+    begin_piece(&mut after, mode, byte)?;
+    *state = after;
+    Ok(Act::Begins(Given::Get))
+}
+
+/// A byte that begins a piece, and ends the one before it.
+#[inline(always)]
+fn opened(state: &mut State, byte: u8) -> Result<Act, Fault>
+    ensures answers { step_as result state.new ≡ opened state.old byte }
+    ensures keeps { OnErr result (state.new ≡ state.old) }
 {
     let mode = begin(byte).ok_or(Fault::BadByte)?;
-    let before = end_piece(state)?;
-    Ok(Step {
-        state: begun(before.state, mode, byte)?,
-        act: Act::Begins(before.given),
-    })
+    match what_of(state.mode) {
+        What::Gap => after_gap(state, mode, byte),
+        What::Get => after_get(state, mode, byte),
+        What::Symbol(kind) => after_symbol(state, kind, mode, byte),
+    }
 }
 
 /// Whether a byte is a blank.
@@ -339,71 +386,67 @@ fn is_blank(byte: u8) -> bool
     matches!(byte, b' ' | b'\t' | b'\n' | 12 | b'\r')
 }
 
-/// A blank behind a blank, which is a piece of its own.
+/// A blank after a blank is a piece of its own.
 #[inline(always)]
-fn blank_again(state: State, byte: u8) -> Step
-    requires behind { state.mode ≡ Blank }
+fn blank_again(state: &mut State, byte: u8) -> Act
+    requires after { state.old.mode ≡ Blank }
     requires blank { is_blank byte ≡ true }
-    ensures { Ok result ≡ moved state byte (next state.mode byte) }
+    ensures { step_as (Ok result) state.new ≡ moved state.old byte (next state.old.mode byte) }
 {
-    Step {
-        state: State {
-            fed: state.fed || byte == b'\n',
-            ..state
-        },
-        act: Act::Begins(Given::Nothing),
-    }
+    state.fed = state.fed || byte == b'\n';
+    Act::Begins(Given::Nothing)
 }
 
-/// What a byte does, whatever the number of bytes.
+/// The effect of a byte, whatever the number of bytes.
 #[inline(always)]
-fn moved(state: State, byte: u8) -> Result<Step, Fault>
-    ensures { result ≡ moved state byte (next state.mode byte) }
+fn moved(state: &mut State, byte: u8) -> Result<Act, Fault>
+    ensures answers { step_as result state.new ≡ moved state.old byte (next state.old.mode byte) }
+    ensures keeps { OnErr result (state.new ≡ state.old) }
 {
     if matches!(state.mode, Mode::Blank) && is_blank(byte) {
         return Ok(blank_again(state, byte));
     }
     match follow(state.mode, byte) {
-        Next::Goes(mode) => Ok(Step {
-            state: State { mode, ..state },
-            act: Act::Goes,
-        }),
+        Next::Goes(mode) => {
+            state.mode = mode;
+            Ok(Act::Goes)
+        }
         Next::Ends => opened(state, byte),
         Next::Names(header) => named(state, header),
         Next::Bad(fault) => Err(fault),
     }
 }
 
-/// The fault of a byte past the section's bytes.
-fn past(fault: Fault) -> Fault
-    ensures { result ≡ past fault }
+/// The fault of a byte that exceeds the section's bytes.
+#[cold]
+#[inline(never)]
+fn past(state: State, byte: u8) -> Fault
+    ensures { Err result ≡ within 0 (moved state byte (next state.mode byte)) }
 {
-    match fault {
-        Fault::HeaderTooLong | Fault::BadGet => Fault::SectionTooLong,
-        _ => fault,
+    let mut after = state;
+    match moved(&mut after, byte) {
+        Ok(_) | Err(Fault::HeaderTooLong | Fault::BadGet) => Fault::SectionTooLong,
+        Err(fault) => fault,
     }
 }
 
-/// What a byte does.
+/// The effect of a byte. The state is changed in place, so that only the fields that the byte changes are written. A fault leaves
+/// it as it was.
 #[inline(always)]
-pub fn take_byte(state: State, byte: u8) -> Result<Step, Fault>
-    ensures { result ≡ step_of state byte }
+pub fn take_byte(state: &mut State, byte: u8) -> Result<Act, Fault>
+    ensures answers { step_as result state.new ≡ step_of state.old byte }
+    ensures keeps { OnErr result (state.new ≡ state.old) }
 {
-    match (moved(state, byte), state.bytes.checked_sub(1)) {
-        (Ok(step), Some(bytes)) => Ok(Step {
-            state: State {
-                bytes,
-                ..step.state
-            },
-            act: step.act,
-        }),
-        (Ok(_), None) => Err(Fault::SectionTooLong),
-        (Err(fault), Some(_)) => Err(fault),
-        (Err(fault), None) => Err(past(fault)),
+    if state.bytes == 0 {
+        return Err(past(*state, byte));
     }
+    let bytes = state.bytes - 1;
+    let act = moved(state, byte)?;
+    state.bytes = bytes;
+    Ok(act)
 }
 
-/// What the last piece of a text gives, or the fault that the text's end makes certain.
+/// The result of the last piece of a text, or the fault that the text's end makes certain.
 pub fn finished(state: State) -> Result<Given, Fault>
     ensures { result ≡ finished state }
 {

@@ -1,4 +1,4 @@
-//! The headers: the symbols that stand in the place of a GET.
+//! The headers: the symbols that replace a GET.
 ghost use Rattle.std.specs.Prelude.{◌≡◌, ◌++◌, OnOk};
 ghost use Rattle.bk_lex.specs.Symbol.{symbols_of};
 ghost use Rattle.bk_lex.specs.Header.{given_on, givens_of, header_symbols};

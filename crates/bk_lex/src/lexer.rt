@@ -1,6 +1,8 @@
-//! The lexer over the bytes of a section that come one after another.
+//! The lexer of a section whose bytes come one after another.
 ghost use Rattle.std.specs.Prelude.{◌≡◌, ◌<◌, ◌≤◌, ◌^◌, ◌++◌, ◌∷◌, [], length, OnOk, IfOk};
 ghost use Rattle.bk_lex.specs.declared.cutter.Cut.TheVariants.{More, End};
+ghost use Rattle.bk_lex.specs.declared.counting.Given.TheVariants.{Symbol};
+ghost use Rattle.bk_lex.specs.declared.counting.Act.TheVariants.{Begins};
 ghost use Rattle.bk_lex.specs.Symbol.{symbols_of};
 ghost use Rattle.bk_lex.specs.Cutting.{Means};
 ghost use Rattle.bk_lex.specs.Lexing.{Gives, lexed};
@@ -12,21 +14,22 @@ use crate::counting::{Act, Given, State, finished, start, take_byte};
 use crate::cutter::Cut;
 use crate::header::put_header;
 use crate::machine::{Fault, Header};
-use crate::scan::{Lexed, Place, is_dot, place_after, placed_fault, put};
+use crate::scan::{Lexed, Place, is_dot, placed_fault, put};
 use crate::token::{Kind, Token};
 use bk_base::{Line, Refused, SourceFault};
 use std::alloc::{AllocError, Global};
 use std::marker::Model;
 
-/// How many symbols and bytes a section has room for at first.
+/// The number of symbols for which a section has room at first.
 const FIRST_FOUND: usize = 32;
 
+/// The number of bytes for which a section has room at first.
 const FIRST_BYTES: usize = 256;
 
-/// What was found in a text: its bytes are taken from the text once it is whole.
+/// A symbol or header that was found in a text. Its bytes are taken from the text once the text is complete.
 #[derive(Clone, Copy, Debug, PartialEq, Eq)]
 pub(crate) enum Found {
-    /// A symbol: its kind and line, the place of its first byte, and the place behind its last.
+    /// A symbol: its kind and line, the place of its first byte, and the place after its last.
     Symbol {
         kind: Kind,
         line: Line,
@@ -45,34 +48,36 @@ pub(crate) enum Found {
     },
 }
 
-/// How far a section is.
+/// The progress of a section.
 #[derive(Clone, Copy, Debug, PartialEq, Eq)]
 pub(crate) enum Progress {
-    /// The machine goes on from this state.
-    Going(State),
+    /// The section may go on.
+    Going,
     /// A `.` ended the section.
     Ended,
-    /// In this state it has a fault that no further byte changes.
-    Refused(State, Fault),
+    /// The section has a fault that no further byte changes.
+    Refused(Fault),
     /// Memory was refused for a byte.
     Stuck,
 }
 
-/// What was found in the bytes so far.
+/// The symbols and headers in the bytes so far.
 #[derive(Drop)]
 pub(crate) struct Pieces {
     found: Vec<Found>,
-    /// Where the piece begins that is not whole yet.
+    /// The place where the incomplete piece begins.
     piece: usize,
     place: Place,
 }
 
-/// The bytes of a section so far, and what was found in them. Contracts see the bytes, and the line of the first.
+/// The bytes of a section so far, and the symbols in them. Contracts see the bytes, and the line of the first.
 #[derive(Drop)]
 pub struct Lexer {
     bytes: Vec<u8>,
     from: Line,
     pieces: Pieces,
+    /// The state of the machine after the bytes that it took. A byte that is a fault is not taken.
+    state: State,
     progress: Progress,
 }
 
@@ -84,25 +89,23 @@ impl Model for Lexer {
 
     ghost view = { λ l. bytes_of l.bytes.items l.from };
 
-    ghost invariant = { λ l. Progresses l.progress (parts l.bytes.items l.from (marks_of l.pieces)) };
+    ghost invariant = { λ l. Progresses l.progress l.state (parts l.bytes.items l.from (marks_of l.pieces)) };
 }
 
-/// Adds what a piece gives that begins at one byte and ends before another.
+/// Adds a symbol, with what is inserted before it.
 #[inline(always)]
 fn find(
     found: &mut Vec<Found>,
-    given: Given,
+    insertion: Option<Kind>,
+    kind: Kind,
     line: Line,
     first: usize,
     end: usize,
 ) -> Result<(), AllocError>
     requires order { first ≤ end }
     requires small { end < 2 ^ 32 }
-    ensures { OnOk result (found.new.items ≡ found.old.items ++ found_in given line first end) }
+    ensures { OnOk result (found.new.items ≡ found.old.items ++ found_in (Symbol insertion kind) line first end) }
 {
-    let Given::Symbol(insertion, kind) = given else {
-        return Ok(());
-    };
     if let Some(kind) = insertion {
         found.push(Found::Inserted { kind, line })?;
     }
@@ -125,7 +128,7 @@ fn find_header(found: &mut Vec<Found>, header: Header, line: Line) -> Result<(),
     Ok(())
 }
 
-/// Adds the tokens of what was found once.
+/// Adds the tokens of a symbol or header that was found.
 fn put_found<'a>(out: &mut Vec<Token<'a>>, text: &'a [u8], found: Found) -> Result<(), AllocError>
     requires { AreWithin (length text.now) (found ∷ []) }
     ensures { OnOk result (symbols_of out.new.items ≡ symbols_of out.old.items ++ symbols_found text.now found) }
@@ -148,7 +151,7 @@ fn put_found<'a>(out: &mut Vec<Token<'a>>, text: &'a [u8], found: Found) -> Resu
     }
 }
 
-/// The tokens of what was found in a text.
+/// The tokens of the symbols and headers that were found in a text.
 fn tokens_of<'a>(
     alloc: Global,
     text: &'a [u8],
@@ -165,7 +168,33 @@ fn tokens_of<'a>(
 }
 
 impl Pieces {
-    /// What a byte does, which so many bytes stand before.
+    /// Records the result of the piece before a byte that begins one. The byte has this number of bytes before it.
+    #[inline(always)]
+    fn begin(&mut self, given: Given, byte: u8, before: usize) -> Result<(), AllocError>
+        requires order { self.old.piece ≤ before }
+        requires small { before < 2 ^ 32 }
+        ensures { OnOk result (marks_of self.new ≡ marked (marks_of self.old) (Begins given) byte before) }
+    {
+        match given {
+            Given::Nothing => {}
+            Given::Symbol(insertion, kind) => find(
+                &mut self.found,
+                insertion,
+                kind,
+                self.place.line,
+                self.piece,
+                before,
+            )?,
+            Given::Get => self.place.get_line = self.place.line,
+        }
+        if byte == b'\n' {
+            self.place.line = self.place.line.next();
+        }
+        self.piece = before;
+        Ok(())
+    }
+
+    /// Records the effect of a byte that has this number of bytes before it.
     #[inline(always)]
     fn take(&mut self, act: Act, byte: u8, before: usize) -> Result<(), AllocError>
         requires order { self.old.piece ≤ before }
@@ -174,12 +203,7 @@ impl Pieces {
     {
         match act {
             Act::Goes => Ok(()),
-            Act::Begins(given) => {
-                find(&mut self.found, given, self.place.line, self.piece, before)?;
-                self.place = place_after(self.place, given, byte);
-                self.piece = before;
-                Ok(())
-            }
+            Act::Begins(given) => self.begin(given, byte, before),
             Act::Names(header) => find_header(&mut self.found, header, self.place.get_line),
         }
     }
@@ -201,7 +225,8 @@ impl Lexer {
                     get_line: from,
                 },
             },
-            progress: Progress::Going(start()),
+            state: start(),
+            progress: Progress::Going,
         })
     }
 
@@ -219,62 +244,67 @@ impl Lexer {
     pub fn step(&mut self, byte: u8) -> Result<Cut, AllocError>
         // It has one byte more.
         ensures takes { IfOk result (λ _. cut_behind self.old.bytes ≡ More → self.new ≡ bytes_of (self.old.bytes ++ byte ∷ []) self.old.from) }
-        // It says what a cutter says.
+        // It answers as a cutter does.
         ensures says { IfOk result (λ cut. cut ≡ cut_behind self.new.bytes) }
         ensures means { IfOk result (λ cut. cut_behind self.old.bytes ≡ More → Means cut self.new.bytes) }
         // After `End` it takes no byte.
         ensures stays { cut_behind self.old.bytes ≡ End → IfOk result (λ _. self.new ≡ self.old) }
     {
-        let state = match self.progress {
-            Progress::Going(state) => state,
+        match self.progress {
+            Progress::Going => {}
             Progress::Stuck => return Err(AllocError),
-            Progress::Ended | Progress::Refused(..) => return Ok(Cut::End),
-        };
+            Progress::Ended | Progress::Refused(_) => return Ok(Cut::End),
+        }
         let before = self.bytes.len();
         let Ok(()) = self.bytes.push(byte) else {
             self.progress = Progress::Stuck;
             return Err(AllocError);
         };
-        let next = match take_byte(state, byte) {
-            Ok(next) => next,
+        let act = match take_byte(&mut self.state, byte) {
+            Ok(act) => act,
             Err(fault) => {
-                self.progress = Progress::Refused(state, fault);
+                self.progress = Progress::Refused(fault);
                 return Ok(Cut::End);
             }
         };
-        let Ok(()) = self.pieces.take(next.act, byte, before) else {
+        let Ok(()) = self.pieces.take(act, byte, before) else {
             self.progress = Progress::Stuck;
             return Err(AllocError);
         };
-        if is_dot(next.state.mode) {
+        if is_dot(self.state.mode) {
             self.progress = Progress::Ended;
             return Ok(Cut::End);
         }
-        self.progress = Progress::Going(next.state);
         Ok(Cut::More)
     }
 
-    /// What `lex` answers of the bytes so far.
+    /// The answer of `lex` to the bytes so far.
     pub fn lexed(&self, alloc: Global) -> Result<Lexed<'_>, Refused<SourceFault>>
         ensures { Gives result (lexed self.now.bytes self.now.from) }
     {
         let text = self.bytes.as_slice();
         match self.progress {
             Progress::Stuck => Err(Refused::Memory),
-            Progress::Refused(state, fault) => {
-                Err(Refused::Fault(placed_fault(state, self.pieces.place, fault)))
-            }
+            Progress::Refused(fault) => Err(Refused::Fault(placed_fault(
+                self.state,
+                self.pieces.place,
+                fault,
+            ))),
             Progress::Ended => Ok(Lexed {
                 tokens: tokens_of(alloc, text, self.pieces.found.as_slice())?,
                 used: text.len(),
                 ended: true,
                 line: self.pieces.place.line,
             }),
-            Progress::Going(state) => {
-                let given = match finished(state) {
+            Progress::Going => {
+                let given = match finished(self.state) {
                     Ok(given) => given,
                     Err(fault) => {
-                        return Err(Refused::Fault(placed_fault(state, self.pieces.place, fault)));
+                        return Err(Refused::Fault(placed_fault(
+                            self.state,
+                            self.pieces.place,
+                            fault,
+                        )));
                     }
                 };
                 let mut tokens = tokens_of(alloc, text, self.pieces.found.as_slice())?;

@@ -1,4 +1,4 @@
-//! From bytes to tokens: the symbols of a section of source, or the one fault that is told.
+//! From bytes to tokens: the symbols of a section of source, or the one fault that is reported.
 #![tactic(auto)]
 
 mod adding;

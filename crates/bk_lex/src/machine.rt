@@ -1,13 +1,16 @@
 //! The machine that cuts a text into pieces, byte after byte: blanks, comments and symbols, each the longest there.
-ghost use Rattle.std.specs.Prelude.{◌≡◌, ◌<◌, ◌≤◌, true};
+ghost use Rattle.std.specs.Prelude.{◌≡◌, ◌+◌, ◌<◌, ◌≤◌, nat_le, true, if◌then◌else◌};
 ghost use Rattle.bk_lex.specs.Bytes.{is_escape, is_hexadecimal, digit_value, is_name_byte, is_feed};
 ghost use Rattle.bk_lex.specs.Machine.{fresh, next, piece, end_fault, is_digit_of, digits_in, digits_with, one_more, word_next, hash_next, first_digit, tag_next, text_next, star_next, quote_next, name_next, sign_next};
+ghost use Rattle.bk_lex.specs.declared.machine.Fault.TheVariants.{NameTooLong};
+ghost use Rattle.bk_lex.specs.declared.machine.Mode.TheVariants.{Word};
+ghost use Rattle.bk_lex.specs.declared.machine.Next.TheVariants.{Goes, Bad};
 
 use crate::reserved::{What, longer_code, what_of_word};
 use crate::sign::{Sign, grown, kind_of, sign_of};
 use crate::token::Kind;
 
-/// What is wrong in a text. `HeaderTooLong` is a section too long by the symbols that stand in GET's place.
+/// A fault of a text. `HeaderTooLong` is a section that is too long by the symbols that replace a GET.
 #[derive(Clone, Copy, Debug, PartialEq, Eq)]
 pub enum Fault {
     BadByte,
@@ -45,7 +48,7 @@ pub enum Header {
     Formatted,
 }
 
-/// What the bytes are that belong to no whole piece yet.
+/// The bytes of the piece that is not complete yet.
 #[derive(Clone, Copy, Debug, PartialEq, Eq)]
 pub enum Mode {
     /// A blank, or the text's beginning.
@@ -54,7 +57,7 @@ pub enum Mode {
     Comment,
     /// The `.` that ends the section.
     Dot,
-    /// A word: its bytes, and the code of its letters.
+    /// A word: the number of its bytes, and the code of its letters.
     Word(u32, u64),
     /// `#`
     Hash,
@@ -64,36 +67,36 @@ pub enum Mode {
     Number(Base, u32),
     /// `$`
     Dollar,
-    /// A section bracket: the bytes of its tag so far.
+    /// A section bracket: the number of bytes of its tag so far.
     Bracket(Side, u32),
-    /// A string without its end: the bytes that it holds so far.
+    /// A string without its end: the number of bytes that it holds so far.
     Text(u32),
-    /// The same, behind a `*`.
+    /// The same, after a `*`.
     TextEscape(u32),
-    /// A whole string.
+    /// A complete string.
     TextEnd,
     /// `'`
     Quote,
-    /// The same, behind a `*`.
+    /// The same, after a `*`.
     QuoteEscape,
     /// A character constant that has its byte.
     QuoteFull,
-    /// A whole character constant.
+    /// A complete character constant.
     QuoteEnd,
     /// A sign.
     Mark(Sign),
-    /// The string of a GET without its end: how many bytes of LIBHDR2 it has so far.
+    /// The string of a GET without its end: the number of bytes of LIBHDR2 that it has so far.
     Name(u32),
 }
 
-/// What a byte does to them.
+/// The effect of a byte on them.
 #[derive(Clone, Copy, Debug, PartialEq, Eq)]
 pub enum Next {
     /// It goes on with the piece.
     Goes(Mode),
     /// The piece ends before it.
     Ends,
-    /// With it the string of a GET is whole.
+    /// It completes the string of a GET.
     Names(Header),
     /// It is a fault.
     Bad(Fault),
@@ -102,7 +105,7 @@ pub enum Next {
 /// The longest name and tag, and the most bytes in a string.
 const LONGEST: u32 = 255;
 
-/// What behind the quote of a GET's string names the header with WRITEF. Without its last byte it names the other.
+/// The name of the header with WRITEF in the string of a GET. Without its last byte it is the name of the other.
 static HEADER_NAME: [u8; 7] = *b"LIBHDR2";
 
 /// Whether a byte is a digit of a base.
@@ -117,7 +120,7 @@ fn is_digit_of(base: Base, byte: u8) -> bool
     }
 }
 
-/// The number that a digit stands for.
+/// The value of a digit.
 #[inline(always)]
 fn digit_value(byte: u8) -> u32
     requires { is_hexadecimal byte ≡ true }
@@ -131,7 +134,7 @@ fn digit_value(byte: u8) -> u32
     }
 }
 
-/// How many digits a base has.
+/// The number of digits of a base.
 #[inline(always)]
 pub fn digits_in(base: Base) -> u64
     ensures number { result ≡ digits_in base }
@@ -158,7 +161,7 @@ fn with_digit(base: Base, value: u32, byte: u8) -> Next
     }
 }
 
-/// Whether a byte may stand behind a `*`.
+/// Whether a byte may follow a `*`.
 fn is_escape(byte: u8) -> bool
     ensures { result ≡ is_escape byte }
 {
@@ -230,22 +233,34 @@ pub fn begin(byte: u8) -> Option<Mode>
     }
 }
 
-/// A byte behind a word.
+/// A word with one byte more.
 #[inline(always)]
-fn behind_word(length: u32, code: u64, byte: u8) -> Next
-    ensures { result ≡ word_next length code byte }
+fn longer_word(length: u32, code: u64) -> Next
+    ensures { result ≡ (if nat_le 255 length then Bad NameTooLong else Goes (Word (length + 1) code)) }
 {
-    if !is_name_byte(byte) {
-        Next::Ends
-    } else if length >= LONGEST {
+    if length >= LONGEST {
         Next::Bad(Fault::NameTooLong)
     } else {
-        Next::Goes(Mode::Word(length + 1, longer_code(code, byte)))
+        Next::Goes(Mode::Word(length + 1, code))
     }
 }
 
-/// A byte behind `#`.
-fn behind_hash(byte: u8) -> Next
+/// A byte after a word. Letters come first, since most bytes of words are letters.
+#[inline(always)]
+fn after_word(length: u32, code: u64, byte: u8) -> Next
+    ensures { result ≡ word_next length code byte }
+{
+    if byte.is_ascii_alphabetic() {
+        longer_word(length, longer_code(code, byte))
+    } else if is_name_byte(byte) {
+        longer_word(length, 0)
+    } else {
+        Next::Ends
+    }
+}
+
+/// A byte after `#`.
+fn after_hash(byte: u8) -> Next
     ensures { result ≡ hash_next byte }
 {
     if byte == b'X' || byte == b'x' {
@@ -266,9 +281,9 @@ fn first_digit(base: Base, byte: u8) -> Next
     }
 }
 
-/// A byte behind a section bracket and a part of its tag.
+/// A byte after a section bracket and a part of its tag.
 #[inline(always)]
-fn behind_tag(side: Side, length: u32, byte: u8) -> Next
+fn after_tag(side: Side, length: u32, byte: u8) -> Next
     ensures { result ≡ tag_next side length byte }
 {
     if !is_name_byte(byte) || (length == 0 && byte == b'.') {
@@ -295,8 +310,8 @@ fn in_text(held: u32, byte: u8) -> Next
     }
 }
 
-/// What a byte behind a `*` does: what the escape gives, or a fault.
-fn behind_star(byte: u8, whole: Next) -> Next
+/// The effect of a byte after a `*`: that of the escape, or a fault.
+fn after_star(byte: u8, whole: Next) -> Next
     ensures { result ≡ star_next byte whole }
 {
     if is_feed(byte) {
@@ -308,8 +323,8 @@ fn behind_star(byte: u8, whole: Next) -> Next
     }
 }
 
-/// A byte behind the first quote of a character constant.
-fn behind_quote(byte: u8) -> Next
+/// A byte after the first quote of a character constant.
+fn after_quote(byte: u8) -> Next
     ensures { result ≡ quote_next byte }
 {
     if is_feed(byte) || byte == b'\'' {
@@ -338,9 +353,9 @@ fn in_name(length: u32, byte: u8) -> Next
     }
 }
 
-/// A byte behind a sign.
+/// A byte after a sign.
 #[inline(always)]
-fn behind_sign(sign: Sign, byte: u8) -> Next
+fn after_sign(sign: Sign, byte: u8) -> Next
     ensures { result ≡ sign_next sign byte }
 {
     if sign == Sign::Slash && byte == b'/' {
@@ -352,7 +367,7 @@ fn behind_sign(sign: Sign, byte: u8) -> Next
     }
 }
 
-/// What a byte does to the bytes before it.
+/// The effect of a byte on the piece before it.
 #[inline(always)]
 pub fn follow(mode: Mode, byte: u8) -> Next
     ensures { result ≡ next mode byte }
@@ -361,27 +376,27 @@ pub fn follow(mode: Mode, byte: u8) -> Next
         Mode::Blank | Mode::Dot | Mode::TextEnd | Mode::QuoteEnd => Next::Ends,
         Mode::Comment if byte == b'\n' => Next::Ends,
         Mode::Comment => Next::Goes(Mode::Comment),
-        Mode::Word(length, code) => behind_word(length, code, byte),
-        Mode::Hash => behind_hash(byte),
+        Mode::Word(length, code) => after_word(length, code, byte),
+        Mode::Hash => after_hash(byte),
         Mode::HashX => first_digit(Base::Hexadecimal, byte),
         Mode::Number(base, value) if is_digit_of(base, byte) => with_digit(base, value, byte),
         Mode::Number(_, _) => Next::Ends,
         Mode::Dollar if byte == b'(' => Next::Goes(Mode::Bracket(Side::Opening, 0)),
         Mode::Dollar if byte == b')' => Next::Goes(Mode::Bracket(Side::Closing, 0)),
         Mode::Dollar => Next::Bad(Fault::BadByte),
-        Mode::Bracket(side, length) => behind_tag(side, length, byte),
+        Mode::Bracket(side, length) => after_tag(side, length, byte),
         Mode::Text(held) => in_text(held, byte),
-        Mode::TextEscape(held) => behind_star(byte, one_more(held)),
-        Mode::Quote => behind_quote(byte),
-        Mode::QuoteEscape => behind_star(byte, Next::Goes(Mode::QuoteFull)),
+        Mode::TextEscape(held) => after_star(byte, one_more(held)),
+        Mode::Quote => after_quote(byte),
+        Mode::QuoteEscape => after_star(byte, Next::Goes(Mode::QuoteFull)),
         Mode::QuoteFull if byte == b'\'' => Next::Goes(Mode::QuoteEnd),
         Mode::QuoteFull => Next::Bad(Fault::BadString),
-        Mode::Mark(sign) => behind_sign(sign, byte),
+        Mode::Mark(sign) => after_sign(sign, byte),
         Mode::Name(length) => in_name(length, byte),
     }
 }
 
-/// What a whole piece is.
+/// The kind of a complete piece.
 #[inline(always)]
 pub fn what_of(mode: Mode) -> What
     ensures { result ≡ piece mode }
@@ -398,7 +413,7 @@ pub fn what_of(mode: Mode) -> What
     }
 }
 
-/// The fault of a text that ends here, where the bytes are no whole piece.
+/// The fault of a text that ends here, where the piece is not complete.
 pub fn end_fault(mode: Mode) -> Option<Fault>
     ensures { result ≡ end_fault mode }
 {

@@ -21,7 +21,7 @@ use std::alloc::{AllocError, Global};
 pub struct Lexed<'a> {
     /// Its tokens, with the header in the place of each GET, and with what is inserted between neighbours.
     pub tokens: Vec<Token<'a>>,
-    /// How many bytes of the text it takes, its `.` included.
+    /// The number of bytes of the text that it takes, its `.` included.
     pub used: usize,
     /// Whether a `.` ended it, and not the text's end.
     pub ended: bool,
@@ -45,14 +45,14 @@ fn kind_of_fault(fault: Fault) -> SourceKind
     }
 }
 
-/// Where the reading is: the line, and the line of the GET whose string is due.
+/// The line of the machine, and the line of the GET whose string is due.
 #[derive(Clone, Copy, Debug, PartialEq, Eq)]
 pub(crate) struct Place {
     pub(crate) line: Line,
     pub(crate) get_line: Line,
 }
 
-/// The fault that is told. Those of a GET whose string is due stand on its line.
+/// The fault that is reported. Where the string of a GET is due, a fault of the GET is on the GET's line.
 pub(crate) fn placed_fault(state: State, place: Place, fault: Fault) -> SourceFault
     ensures { result ≡ placed_fault state place fault }
 {
@@ -71,7 +71,7 @@ pub fn is_dot(mode: Mode) -> bool
     matches!(mode, Mode::Dot)
 }
 
-/// The line behind a byte.
+/// The line after a byte.
 #[inline(always)]
 fn line_after(byte: u8, line: Line) -> Line
     ensures { result ≡ line_after byte line }
@@ -79,7 +79,7 @@ fn line_after(byte: u8, line: Line) -> Line
     if byte == b'\n' { line.next() } else { line }
 }
 
-/// Adds what a piece gives that lies from start up to end.
+/// Adds the symbol, if any, of the piece from start up to end.
 pub(crate) fn put<'a>(
     out: &mut Vec<Token<'a>>,
     given: Given,
@@ -102,7 +102,7 @@ pub(crate) fn put<'a>(
     add(out, kind, line, Some(start as u32), &text[start..end])
 }
 
-/// The place behind a byte that begins a piece.
+/// The place after a byte that begins a piece.
 #[inline(always)]
 pub(crate) fn place_after(place: Place, given: Given, byte: u8) -> Place
     ensures { result ≡ place_after place given byte }
@@ -117,27 +117,27 @@ pub(crate) fn place_after(place: Place, given: Given, byte: u8) -> Place
     }
 }
 
-/// The tokens of the first section of a text whose first line has the number `from`, or the fault that is told.
-/// `Memory` comes only where a growth was refused.
+/// The tokens of the first section of a text whose first line has the number `from`, or the fault that is reported.
+/// `Memory` is returned only where a growth was refused.
 pub fn lex<'a>(alloc: Global, text: &'a [u8], from: Line) -> Result<Lexed<'a>, Refused<SourceFault>>
-    // What is answered is the section or the fault that the machine comes to.
+    // The answer is the section or the fault of the machine.
     ensures gives { Gives result (lexed text.now from) }
     // The text is cut into pieces, each the longest there, and the tokens are those of the pieces.
     ensures tokens { IfOk result (λ l. IsSection text.now from (section_of l)) }
-    // Where the text's first section is cut so, it is given, unless memory runs out.
+    // Where the text's first section is cut so, it is returned, unless memory runs out.
     ensures only { (s : Section) → IsSection text.now from s → Gives result (Ok s) }
-    // A token that has a place has the bytes that stand there in the text, and lies behind those before it.
+    // A token that has a place has the bytes of the text at that place, and begins after the end of those before it.
     ensures places { IfOk result (λ l. LieInOrder text.now (symbols_of l.tokens.items)) }
     // A text that is taken has no fault.
     ensures faultless { IfOk result (λ l. NoFault from text.now) }
-    // A fault stands in the first section, on the line that is told. It is the first that a byte makes certain, whatever
+    // The fault is in the first section, on the line that is reported. It is the first that a byte makes certain, whatever
     // follows, or one that the text has as it ends; of these the one of the lowest number.
     ensures tells { IfErr result (λ e. SaysFault e from text.now) }
 {
     read_section(alloc, text, from)
 }
 
-/// How many tokens a list has room for at first.
+/// The number of tokens for which a list has room at first.
 const FIRST_TOKENS: usize = 32;
 
 /// The tokens of the first section, or its fault, by the machine.
@@ -156,11 +156,11 @@ fn read_section<'a>(
         get_line: from,
     };
     for (i, byte) in text.iter().enumerate() {
-        let next = match take_byte(state, *byte) {
-            Ok(next) => next,
+        let act = match take_byte(&mut state, *byte) {
+            Ok(act) => act,
             Err(fault) => return Err(Refused::Fault(placed_fault(state, place, fault))),
         };
-        match next.act {
+        match act {
             Act::Goes => {}
             Act::Begins(given) => {
                 put(&mut tokens, given, place.line, text, start, i)?;
@@ -169,7 +169,6 @@ fn read_section<'a>(
             }
             Act::Names(header) => put_header(&mut tokens, header, place.get_line)?,
         }
-        state = next.state;
         if is_dot(state.mode) {
             return Ok(Lexed {
                 tokens,

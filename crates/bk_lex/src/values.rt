@@ -1,4 +1,4 @@
-//! What the texts of tokens stand for.
+//! The values of the texts of tokens.
 ghost use Rattle.std.specs.Prelude.{◌≡◌, ◌<◌, IfOk, false};
 ghost use Rattle.bk_lex.specs.Bytes.{digit_value};
 ghost use Rattle.bk_lex.specs.Machine.{digits_in};
@@ -7,7 +7,7 @@ ghost use Rattle.bk_lex.specs.Values.{word_from, behind_hash, number_word, escap
 use crate::machine::{Base, digits_in};
 use std::alloc::{AllocError, Global};
 
-/// What a byte counts as a digit.
+/// The value of a byte as a digit.
 fn digit_of(byte: u8) -> u64
     ensures value { result ≡ digit_value byte }
     ensures small { result < 256 }
@@ -32,7 +32,7 @@ fn word_of_digits(base: Base, digits: &[u8]) -> u32
     value as u32
 }
 
-/// The word of digits behind a `#`.
+/// The word of digits after a `#`.
 fn word_behind_hash(text: &[u8]) -> u32
     ensures { result ≡ behind_hash text.now }
 {
@@ -54,7 +54,7 @@ pub fn number_word(text: &[u8]) -> u32
     }
 }
 
-/// The byte of an escape, given what stands behind its `*`.
+/// The byte of an escape, given the byte after its `*`.
 fn escaped(byte: u8) -> u8
     ensures { result ≡ escaped byte }
 {
@@ -80,7 +80,7 @@ pub fn character_byte(text: &[u8]) -> u8
     }
 }
 
-/// The bytes of a string, given the text of its token, the quotes included. `Err` comes only where a growth was refused.
+/// The bytes of a string, given the text of its token, the quotes included. `Err` is returned only where a growth was refused.
 pub fn string_bytes(alloc: Global, text: &[u8]) -> Result<Vec<u8>, AllocError>
     ensures { IfOk result (λ bytes. bytes.items ≡ string_bytes text.now) }
 {
@@ -90,7 +90,7 @@ pub fn string_bytes(alloc: Global, text: &[u8]) -> Result<Vec<u8>, AllocError>
     }
 }
 
-/// The bytes behind the first quote of a string.
+/// The bytes after the first quote of a string.
 fn bytes_inside(alloc: Global, text: &[u8]) -> Result<Vec<u8>, AllocError>
     ensures { IfOk result (λ bytes. bytes.items ≡ inside false text.now) }
 {

@@ -1,24 +1,27 @@
-use Rattle.std.proofs.Common.{arith, ◌≡◌, ℕ, List, [], ◌∷◌, ◌++◌, length, true, false, Ok, Err, Option, Some, None, refl, sym, ap, subst, ◌∙◌}
+use Rattle.std.proofs.Common.{arith, ◌≡◌, ℕ, List, [], ◌∷◌, ◌++◌, length, true, false, Ok, Err, Some, None, refl, sym, ap, subst, ◌∙◌}
 use Rattle.bk_lex.specs.declared.machine.Fault.{Fault}
 use Rattle.bk_lex.specs.declared.counting.State.{State}
-use Rattle.bk_lex.specs.declared.counting.Step.{Step}
+use Rattle.bk_lex.specs.Counting.{Step}
 use Rattle.bk_lex.specs.declared.lexer.Progress.{Progress}
 use Rattle.bk_lex.specs.declared.lexer.Progress.TheVariants.{Going}
 use Rattle.bk_lex.specs.declared.lexer.Lexer.TheInside.{Inside}
-use Rattle.bk_lex.specs.Counting.{start, step_of}
+use Rattle.bk_lex.specs.Counting.{step_of, stepped}
 use Rattle.bk_lex.specs.Lexing.{is_dot}
 use Rattle.bk_lex.specs.Cutting.{cut_as}
 use Rattle.bk_lex.specs.Lexers.{Marks, marks_of, marked, Parts, parts, Goes, HasEnded, IsRefused, Progresses}
 use Rattle.bk_lex.proofs.Cuts.{means_as}
-use Rattle.bk_lex.proofs.LexerLemmas.{Held, held, more as with_byte, goes_still, has_ended, is_refused}
+use Rattle.bk_lex.proofs.LexerLemmas.{held, more as with_byte, goes_still, has_ended, is_refused}
 use Rattle.bk_lex.proofs.lexer.Lexer.step.Goals as goal
 
 abbrev parts_of : Inside → Parts
 parts_of a = parts a.bytes.items a.from (marks_of a.pieces)
 
-module _ (a : Inside) (s : State) (b : ℕ) (new : List ℕ) (inv : Progresses a.progress (parts_of a)) (going : a.progress ≡ Going s) (items : new ≡ a.bytes.items ++ b ∷ []) where
+module _ (a : Inside) (b : ℕ) (new : List ℕ) (inv : Progresses a.progress a.state (parts_of a)) (going : a.progress ≡ Going) (items : new ≡ a.bytes.items ++ b ∷ []) where
+  abbrev s : State
+  s = a.state
+
   goes : Goes (parts_of a) s
-  goes = subst (λ (p : Progress). Progresses p (parts_of a)) going inv
+  goes = subst (λ (p : Progress). Progresses p s (parts_of a)) going inv
 
   refused : (f : Fault) → Err f ≡ step_of s b → IsRefused (parts new a.from (marks_of a.pieces)) s f
   refused f is = subst (λ (xs : List ℕ). IsRefused (parts xs a.from (marks_of a.pieces)) s f) (sym items) (is_refused (parts_of a) s b f goes is)
@@ -34,48 +37,51 @@ module _ (a : Inside) (s : State) (b : ℕ) (new : List ℕ) (inv : Progresses a
     still dot = subst (λ (q : Parts). Goes q t.state) (sym now) (goes_still (parts_of a) s b t goes is (with_byte (parts_of a) b t.act) refl (held (parts_of a) s b t goes is t.act refl) dot)
 
 pub invariant_of-self-in-Err : goal.invariant_of-self-in-Err
-invariant_of-self-in-Err c = refused c.self.inside c.in-Going.state c.args.byte c.push.new.self.items c.self.invariant c.in-Going.is c.in-Ok.ensures.items c.in-Err.fault (sym c.in-Err.is ∙ c.take_byte.ensures)
+invariant_of-self-in-Err c =
+    let h = refused c.self.inside c.args.byte c.push.new.self.items c.self.invariant c.in-Going.is c.in-Ok.ensures.items c.in-Err.fault c.in-Err.ensures.answers in
+    subst (λ (s : State). IsRefused (parts c.push.new.self.items c.self.inside.from (marks_of c.self.inside.pieces)) s c.in-Err.fault) (sym c.in-Err.ensures.keeps) h
 
 pub returns-in-Err-clause-says : goal.returns-in-Err-clause-says
 returns-in-Err-clause-says c =
-    let h = refused c.self.inside c.in-Going.state c.args.byte c.push.new.self.items c.self.invariant c.in-Going.is c.in-Ok.ensures.items c.in-Err.fault (sym c.in-Err.is ∙ c.take_byte.ensures) in
+    let h = refused c.self.inside c.args.byte c.push.new.self.items c.self.invariant c.in-Going.is c.in-Ok.ensures.items c.in-Err.fault c.in-Err.ensures.answers in
     sym (ap cut_as h.state)
 
 pub returns-in-Err-clause-means : goal.returns-in-Err-clause-means
 returns-in-Err-clause-means c = λ more.
-    let h = refused c.self.inside c.in-Going.state c.args.byte c.push.new.self.items c.self.invariant c.in-Going.is c.in-Ok.ensures.items c.in-Err.fault (sym c.in-Err.is ∙ c.take_byte.ensures) in
+    let h = refused c.self.inside c.args.byte c.push.new.self.items c.self.invariant c.in-Going.is c.in-Ok.ensures.items c.in-Err.fault c.in-Err.ensures.answers in
     means_as None c.push.new.self.items h.state
 
 pub invariant_of-self-then-is_dot : goal.invariant_of-self-then-is_dot
 invariant_of-self-then-is_dot c =
-    ended c.self.inside c.in-Going.state c.args.byte c.push.new.self.items c.self.invariant c.in-Going.is c.in-Ok.ensures.items
-    c.in-Ok-take_byte.next (sym c.in-Ok-take_byte.is ∙ c.take_byte.ensures) c.len-before.result (marks_of c.take.new.self) (let n = c.len-before.ensures in omega arith) c.in-Ok-take.ensures c.if-is_dot.ensures
+    ended c.self.inside c.args.byte c.push.new.self.items c.self.invariant c.in-Going.is c.in-Ok.ensures.items
+    (stepped c.take_byte.new.state c.in-Ok-take_byte.act) c.in-Ok-take_byte.ensures.answers c.len-before.result (marks_of c.take.new.self) (let n = c.len-before.ensures in omega arith) c.in-Ok-take.ensures c.if-is_dot.ensures
 
 pub returns-then-is_dot-clause-says : goal.returns-then-is_dot-clause-says
 returns-then-is_dot-clause-says c =
-    let h = ended c.self.inside c.in-Going.state c.args.byte c.push.new.self.items c.self.invariant c.in-Going.is c.in-Ok.ensures.items
-    c.in-Ok-take_byte.next (sym c.in-Ok-take_byte.is ∙ c.take_byte.ensures) c.len-before.result (marks_of c.take.new.self) (let n = c.len-before.ensures in omega arith) c.in-Ok-take.ensures c.if-is_dot.ensures in
+    let h = ended c.self.inside c.args.byte c.push.new.self.items c.self.invariant c.in-Going.is c.in-Ok.ensures.items
+    (stepped c.take_byte.new.state c.in-Ok-take_byte.act) c.in-Ok-take_byte.ensures.answers c.len-before.result (marks_of c.take.new.self) (let n = c.len-before.ensures in omega arith) c.in-Ok-take.ensures c.if-is_dot.ensures in
     sym (ap cut_as h.state)
 
 pub returns-then-is_dot-clause-means : goal.returns-then-is_dot-clause-means
 returns-then-is_dot-clause-means c = λ more.
-    let h = ended c.self.inside c.in-Going.state c.args.byte c.push.new.self.items c.self.invariant c.in-Going.is c.in-Ok.ensures.items
-    c.in-Ok-take_byte.next (sym c.in-Ok-take_byte.is ∙ c.take_byte.ensures) c.len-before.result (marks_of c.take.new.self) (let n = c.len-before.ensures in omega arith) c.in-Ok-take.ensures c.if-is_dot.ensures in
+    let h = ended c.self.inside c.args.byte c.push.new.self.items c.self.invariant c.in-Going.is c.in-Ok.ensures.items
+    (stepped c.take_byte.new.state c.in-Ok-take_byte.act) c.in-Ok-take_byte.ensures.answers c.len-before.result (marks_of c.take.new.self) (let n = c.len-before.ensures in omega arith) c.in-Ok-take.ensures c.if-is_dot.ensures in
     means_as None c.push.new.self.items h.state
 
-pub invariant_of-self-2 : goal.invariant_of-self-2
-invariant_of-self-2 c =
-    still c.self.inside c.in-Going.state c.args.byte c.push.new.self.items c.self.invariant c.in-Going.is c.in-Ok.ensures.items
-    c.in-Ok-take_byte.next (sym c.in-Ok-take_byte.is ∙ c.take_byte.ensures) c.len-before.result (marks_of c.take.new.self) (let n = c.len-before.ensures in omega arith) c.in-Ok-take.ensures c.if-is_dot.ensures
+pub invariant_of-self-else-is_dot : goal.invariant_of-self-else-is_dot
+invariant_of-self-else-is_dot c =
+    let h = still c.self.inside c.args.byte c.push.new.self.items c.self.invariant c.in-Going.is c.in-Ok.ensures.items
+    (stepped c.take_byte.new.state c.in-Ok-take_byte.act) c.in-Ok-take_byte.ensures.answers c.len-before.result (marks_of c.take.new.self) (let n = c.len-before.ensures in omega arith) c.in-Ok-take.ensures c.if-is_dot.ensures in
+    subst (λ (p : Progress). Progresses p c.take_byte.new.state (parts c.push.new.self.items c.self.inside.from (marks_of c.take.new.self))) (sym c.in-Going.is) h
 
 pub returns-clause-says : goal.returns-clause-says
 returns-clause-says c =
-    let h = still c.self.inside c.in-Going.state c.args.byte c.push.new.self.items c.self.invariant c.in-Going.is c.in-Ok.ensures.items
-    c.in-Ok-take_byte.next (sym c.in-Ok-take_byte.is ∙ c.take_byte.ensures) c.len-before.result (marks_of c.take.new.self) (let n = c.len-before.ensures in omega arith) c.in-Ok-take.ensures c.if-is_dot.ensures in
+    let h = still c.self.inside c.args.byte c.push.new.self.items c.self.invariant c.in-Going.is c.in-Ok.ensures.items
+    (stepped c.take_byte.new.state c.in-Ok-take_byte.act) c.in-Ok-take_byte.ensures.answers c.len-before.result (marks_of c.take.new.self) (let n = c.len-before.ensures in omega arith) c.in-Ok-take.ensures c.if-is_dot.ensures in
     sym (ap cut_as h.state)
 
 pub returns-clause-means : goal.returns-clause-means
 returns-clause-means c = λ more.
-    let h = still c.self.inside c.in-Going.state c.args.byte c.push.new.self.items c.self.invariant c.in-Going.is c.in-Ok.ensures.items
-    c.in-Ok-take_byte.next (sym c.in-Ok-take_byte.is ∙ c.take_byte.ensures) c.len-before.result (marks_of c.take.new.self) (let n = c.len-before.ensures in omega arith) c.in-Ok-take.ensures c.if-is_dot.ensures in
-    means_as (Some c.in-Ok-take_byte.next.state) c.push.new.self.items h.state
+    let h = still c.self.inside c.args.byte c.push.new.self.items c.self.invariant c.in-Going.is c.in-Ok.ensures.items
+    (stepped c.take_byte.new.state c.in-Ok-take_byte.act) c.in-Ok-take_byte.ensures.answers c.len-before.result (marks_of c.take.new.self) (let n = c.len-before.ensures in omega arith) c.in-Ok-take.ensures c.if-is_dot.ensures in
+    means_as (Some c.take_byte.new.state) c.push.new.self.items h.state
