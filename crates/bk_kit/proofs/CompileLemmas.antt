@@ -5,15 +5,13 @@ use Rattle.std.specs.Io.KnownBytes.{Appends, Keeps}
 use Rattle.bk_base.specs.Devices.{Begins, AppendsPart}
 use Rattle.bk_base.specs.DeviceLaws.{Begins-refl, Begins-trans, Appends-nothing, Appends-trans}
 use Rattle.bk_base.specs.declared.limit.TheConstants.{INPUT_BYTES}
-use Rattle.bk_lex.specs.declared.cutter.Cut.TheVariants.{More}
 use Rattle.bk_ocode.specs.declared.stmt.Stmt.{Stmt}
 use Rattle.bk_ocode.specs.SectionText.{section_text}
 use Rattle.bk_kit.specs.declared.kit_fault.KitFault.{KitFault}
 use Rattle.bk_kit.specs.declared.kit_fault.KitFault.TheVariants.{Source, Ocode, Intcode, TooSmall, NoStart, Read, Write, Memory}
 use Rattle.bk_kit.specs.declared.section.CompiledSection.{CompiledSection}
 use Rattle.bk_kit.specs.Interpreting.{is_read_fault}
-use Rattle.bk_kit.specs.ReadingSource.{Settles, IsDelivered}
-use Rattle.bk_lex.specs.Found.{cut_behind}
+use Rattle.bk_kit.specs.ReadingSource.{IsUndecided, Settles, IsDelivered}
 use Rattle.bk_kit.specs.Sources.{bytes_of, codes_of, line_behind, texts_of}
 use Rattle.bk_kit.specs.CompilingSection.{codes_in, Compiled, Refuses}
 use Rattle.bk_kit.specs.Compiling.{AreAllTyped, Accepts, Takes, Comes, Delivers, PutsSections, Compiles}
@@ -68,7 +66,7 @@ module _ (old now new : Option (List ℕ)) (ended : Bool) (reads taken taken' li
   }
 
   -- the section could not be read
-  pub not_read : (fault : KitFault) → (fault ≡ Memory) ⊎ ((fault ≡ Read) × (cut_behind text ≡ More)) → (taken' < INPUT_BYTES → reads ≡ (if is_read_fault fault then 1 else 0))
+  pub not_read : (fault : KitFault) → (fault ≡ Memory) ⊎ ((fault ≡ Read) × IsUndecided text) → (taken' < INPUT_BYTES → reads ≡ (if is_read_fault fault then 1 else 0))
       → PutsSections (Err fault) old new ended reads before after
   not_read fault (inl memory) count =
       let none : (taken' < INPUT_BYTES → reads ≡ 0) = λ short. rw memory at count short in

@@ -1,5 +1,5 @@
 -- What is read of a section up to its end.
-use Rattle.std.proofs.Common.{◌≡◌, ℕ, ◌+◌, ◌≤◌, Bool, true, false, cond, List, [], ◌∷◌, ◌++◌, length, Result, Ok, Err, Option, Some, None, refl, sym, ap, subst, ◌∙◌, arith, length-append}
+use Rattle.std.proofs.Common.{◌≡◌, ℕ, ◌+◌, ◌≤◌, Bool, true, false, cond, List, [], ◌∷◌, ◌++◌, length, Result, Ok, Err, Option, Some, None, ◌⊎◌, inl, inr, refl, sym, ap, subst, ◌∙◌, arith, length-append, append_assoc}
 use Rattle.bk_base.specs.declared.source_fault.SourceFault.{SourceFault}
 use Rattle.std.specs.Io.KnownBytes.{Consumes}
 use Rattle.bk_base.specs.DeviceLaws.{Consumes-trans}
@@ -10,31 +10,79 @@ use Rattle.bk_lex.specs.Counting.{Step}
 use Rattle.bk_lex.specs.declared.counting.Given.{Given}
 use Rattle.bk_lex.specs.declared.counting.Act.{Act}
 use Rattle.bk_lex.specs.declared.counting.Act.TheVariants as acts
-use Rattle.bk_lex.specs.declared.cutter.Cut.TheVariants.{More}
+use Rattle.bk_lex.specs.declared.cutter.Cut.{Cut}
+use Rattle.bk_lex.specs.declared.cutter.Cut.TheVariants.{More, End}
 use Rattle.bk_lex.specs.Counting.{start, step_of, finished, ◌>>=◌}
 use Rattle.bk_lex.specs.Lexing.{Section, section, Reading, read, read_on, run, end_as, begin, is_dot, lexed}
 use Rattle.bk_lex.specs.Found.{cut_behind}
 use Rattle.bk_lex.specs.Cutting.{goes_on_from, then_on, state_behind, cut_as}
-use Rattle.bk_lex.specs.Tokens.{EndsSection, IsSection}
 use Rattle.bk_lex.proofs.Steps.{behind}
-use Rattle.bk_lex.proofs.Cuts.{read_state}
+use Rattle.bk_lex.proofs.Cuts.{read_state, behind_more}
+use Rattle.bk_lex.proofs.Decided.{used_at_end, more_undecided, end_is_decided}
 use Rattle.bk_lex.proofs.Sound.{lexed_is_section}
-use Rattle.bk_kit.specs.ReadingSource.{AskedFrom, Asked, Settles, IsDelivered}
+use Rattle.bk_kit.specs.ReadingSource.{IsUndecided, Asked, Settles, IsDelivered}
+
+-- ---- the bytes that were asked for
+
+pub nothing_asked : Asked []
+nothing_asked front byte rest parts = absurd (none front parts)
+  where
+    none : (front : List ℕ) → [] ≡ front ++ byte ∷ rest → ⊥
+    none [] e = cc
+    none (b ∷ bs) e = cc
+
+-- a place in a list with one byte more is the last, or one in the list
+abbrev SplitAt : List ℕ → List ℕ → ℕ → Type 0
+SplitAt bytes front b = (front ≡ bytes) ⊎ ((rest : List ℕ) × (bytes ≡ front ++ b ∷ rest))
+
+split_push : (bytes front rest : List ℕ) (byte b : ℕ) → bytes ++ byte ∷ [] ≡ front ++ b ∷ rest → SplitAt bytes front b
+split_push [] [] rest byte b e = inl refl
+split_push [] (c ∷ []) rest byte b e = cc
+split_push [] (c ∷ (d ∷ front)) rest byte b e = cc
+split_push (c ∷ bytes) [] rest byte b e = let same : c ≡ b = cc in inr (bytes, ap (λ (x : ℕ). x ∷ bytes) same)
+split_push (c ∷ bytes) (d ∷ front) rest byte b e = further (split_push bytes front rest byte b (let tail : bytes ++ byte ∷ [] ≡ front ++ b ∷ rest = cc in tail)) (let head : c ≡ d = cc in head)
+  where
+    further : SplitAt bytes front b → c ≡ d → SplitAt (c ∷ bytes) (d ∷ front) b
+    further (inl e) h = inl (cc)
+    further (inr w) h = inr (w.0, cc)
 
 -- one byte more was asked for
-pub asked_push : (cutter : Option State) (bytes : List ℕ) (byte : ℕ) → AskedFrom cutter bytes → cut_as (state_behind cutter bytes) ≡ More → AskedFrom cutter (bytes ++ byte ∷ [])
+asked_push : (bytes : List ℕ) (byte : ℕ) → Asked bytes → cut_behind bytes ≡ More → Asked (bytes ++ byte ∷ [])
+asked_push bytes byte asked more front b rest parts = by_place (split_push bytes front rest byte b parts)
+  where
+    by_place : SplitAt bytes front b → IsUndecided front
+    by_place (inl e) = subst IsUndecided (sym e) (more_undecided bytes more)
+    by_place (inr w) = asked front b w.0 w.1
+
+-- the machine goes on before each byte
+abbrev AskedFrom : Option State → List ℕ → Type 0
+AskedFrom state [] = Unit {0}
+AskedFrom state (byte ∷ rest) = (cut_as state ≡ More) × AskedFrom (then_on state byte) rest
+
+asked_from : (front bytes : List ℕ) → Asked (front ++ bytes) → AskedFrom (state_behind (Some start) front) bytes
+asked_from front [] asked = tt
+asked_from front (b ∷ bytes) asked = (
+  goes_on (cut_behind front) refl,
+  subst (λ (o : Option State). AskedFrom o bytes) (behind_more (Some start) front b)
+      (asked_from (front ++ b ∷ []) bytes (subst (λ (x : List ℕ). Asked x) (sym (append_assoc front (b ∷ []) bytes)) asked)),
+)
+  where
+    goes_on : (c : Cut) → cut_behind front ≡ c → cut_behind front ≡ More
+    goes_on More e = e
+    goes_on End e = absurd (asked front b bytes refl 1 (end_is_decided front e 1))
+
+asked_at_start : (bytes : List ℕ) → Asked bytes → AskedFrom (Some start) bytes
 unfolding state_behind
-asked_push cutter [] byte asked more = (more, tt)
-asked_push cutter (b ∷ bytes) byte asked more = (asked.0, asked_push (then_on cutter b) bytes byte asked.1 more)
+asked_at_start bytes asked = asked_from [] bytes asked
 
 -- ---- a section that a `.` ends takes all bytes that were asked for
 
 abbrev UsesAll : List ℕ → Type 0
 UsesAll bytes = (r : Reading) (s : Section) → AskedFrom (Some r.state) bytes → run r bytes ≡ Ok s → s.ended ≡ true → s.used ≡ r.used + length bytes
 
-nothing_asked : (bytes : List ℕ) → AskedFrom None bytes → bytes ≡ []
-nothing_asked [] asked = refl
-nothing_asked (b ∷ bytes) asked = let over = asked.0 in cc
+none_asked : (bytes : List ℕ) → AskedFrom None bytes → bytes ≡ []
+none_asked [] asked = refl
+none_asked (b ∷ bytes) asked = let over = asked.0 in cc
 
 read_used : (r : Reading) (b : ℕ) (s : State) (a : Act) → (read r b s a).used ≡ r.used + 1
 read_used r b s acts.Goes = refl
@@ -56,7 +104,7 @@ not_by_end r (Err f) s is ended = cc
 
 all_behind : (d : Bool) (q : Reading) (bytes : List ℕ) (s : Section) → UsesAll bytes → AskedFrom (cond d None (Some q.state)) bytes
     → cond d (Ok (section q.out q.used true q.place.line)) (run q bytes) ≡ Ok s → s.ended ≡ true → s.used ≡ q.used + length bytes
-all_behind true q bytes s rest asked is ended = subst (λ (bs : List ℕ). s.used ≡ q.used + length bs) (sym (nothing_asked bytes asked)) (omega (arith, same_used _ s is))
+all_behind true q bytes s rest asked is ended = subst (λ (bs : List ℕ). s.used ≡ q.used + length bs) (sym (none_asked bytes asked)) (omega (arith, same_used _ s is))
 all_behind false q bytes s rest asked is ended = rest q s asked is ended
 
 all_by_step : (x : Result Step Fault) (r : Reading) (b : ℕ) (bytes : List ℕ) (s : Section) → UsesAll bytes → AskedFrom (goes_on_from x) bytes
@@ -75,12 +123,9 @@ uses_all [] r s asked is ended = absurd (not_by_end r (finished r.state) s is en
 uses_all (b ∷ bytes) r s asked is ended = all_by_step (step_of r.state b) r b bytes s (uses_all bytes) asked.1 is ended
 
 pub whole_used : (bytes : List ℕ) (line : ℕ) (s : Section) → Asked bytes → lexed bytes line ≡ Ok s → s.ended ≡ true → s.used ≡ length bytes
-whole_used bytes line s asked is ended = omega (arith, uses_all bytes (begin line) s asked is ended)
+whole_used bytes line s asked is ended = omega (arith, uses_all bytes (begin line) s (asked_at_start bytes asked) is ended)
 
 -- ---- a section that no `.` ends goes on to the source's end
-
-used_at_end : (text : List ℕ) (line : ℕ) (s : Section) → IsSection text line s → s.ended ≡ false → s.used ≡ length text
-used_at_end text line s is not_ended = (subst (λ (e : Bool). EndsSection e s.used is.0.rest (length text)) not_ended is.0.ends).1
 
 pub ends_with_source : (bytes : List ℕ) (line : ℕ) (s : Section) (ended : Bool) → Settles bytes ended → lexed bytes line ≡ Ok s → s.ended ≡ false → ended ≡ true
 ends_with_source bytes line s true settles is not_ended = refl
@@ -102,7 +147,7 @@ module _ (text : List ℕ) (byte : ℕ) (old now new : Option (List ℕ)) (taken
   pub delivered_more : IsDelivered (text ++ byte ∷ []) old new was (taken + 1)
   delivered_more = record {
     delivered = Consumes-trans old now new text (byte ∷ []) delivered one;
-    asked = asked_push (Some start) text byte asked goes_on;
+    asked = asked_push text byte asked goes_on;
     counted = omega (arith, counted, length-append text (byte ∷ []));
     few = omega (arith, within, length-append text (byte ∷ []));
   }
@@ -110,3 +155,6 @@ module _ (text : List ℕ) (byte : ℕ) (old now new : Option (List ℕ)) (taken
 pub goes_at_start : cut_behind [] ≡ More
 unfolding state_behind
 goes_at_start = refl
+
+pub undecided_at_start : IsUndecided []
+undecided_at_start = more_undecided [] goes_at_start

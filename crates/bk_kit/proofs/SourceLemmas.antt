@@ -6,7 +6,6 @@ use Rattle.bk_base.specs.Devices.{Begins}
 use Rattle.bk_base.specs.declared.limit.TheConstants.{INPUT_BYTES, STORE_MOST}
 use Rattle.bk_base.specs.declared.run_end.End.{End}
 use Rattle.bk_base.specs.declared.run_end.End.TheVariants.{WriteFault}
-use Rattle.bk_lex.specs.declared.cutter.Cut.TheVariants.{More}
 use Rattle.bk_ocode.specs.SectionStmts.{stmts_of}
 use Rattle.bk_ocode.specs.StmtRange.{AreBytes}
 use Rattle.bk_ocode.specs.declared.section.Ocode as o
@@ -29,8 +28,7 @@ use Rattle.bk_kit.specs.declared.section.CompiledSection.{CompiledSection}
 use Rattle.bk_kit.specs.declared.section.SectionCode.{SectionCode}
 use Rattle.bk_tree.specs.Tree.{Declarations}
 use Rattle.bk_kit.specs.Interpreting.{AnyBytes, Streams, told_streams, first_registers, is_read_fault, is_read}
-use Rattle.bk_kit.specs.ReadingSource.{Settles, Follows, IsDelivered, EachSource}
-use Rattle.bk_lex.specs.Found.{cut_behind}
+use Rattle.bk_kit.specs.ReadingSource.{IsUndecided, Settles, Follows, IsDelivered, EachSource}
 use Rattle.bk_kit.specs.Sources.{Accepted, Refused, bytes_of, trees_of, codes_of, stmts_of_tree}
 use Rattle.bk_kit.specs.CompilingSection.{codes_in, trees_in, Compiled, Refuses}
 use Rattle.bk_kit.specs.Loading.{load_refused}
@@ -119,12 +117,12 @@ module _ (old now new : Option (List ℕ)) (ended : Bool) (taken taken' line : �
       }
 
   -- the section could not be read
-  pub not_read : (fault : KitFault) → (fault ≡ Memory) ⊎ ((fault ≡ Read) × (cut_behind text ≡ More)) → NotAssembled fault old new ended
+  pub not_read : (fault : KitFault) → (fault ≡ Memory) ⊎ ((fault ≡ Read) × IsUndecided text) → NotAssembled fault old new ended
   not_read fault (inl memory) = rw memory (each (λ source. Unit) (λ short rest follows. tt))
   not_read fault (inr failed) = rw failed.0 (each (λ source. Unit) (λ short rest follows. tt))
 
   -- of which this was read
-  pub stops_reading : (fault : KitFault) → (fault ≡ Memory) ⊎ ((fault ≡ Read) × (cut_behind text ≡ More))
+  pub stops_reading : (fault : KitFault) → (fault ≡ Memory) ⊎ ((fault ≡ Read) × IsUndecided text)
       → ReadsSource (is_read_fault fault) old new
   stops_reading fault (inl memory) = record {
     front = passed_and_part old now new taken taken' line passed text here most;

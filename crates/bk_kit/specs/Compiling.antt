@@ -3,15 +3,13 @@ use Rattle.std.specs.Prelude.{◌≡◌, ℕ, ◌<◌, ◌≤◌, Bool, true, fa
 use Rattle.std.specs.Io.KnownBytes.{Consumes}
 use Rattle.bk_base.specs.declared.limit.TheConstants.{INPUT_BYTES}
 use Rattle.bk_base.specs.Devices.{Begins}
-use Rattle.bk_lex.specs.declared.cutter.Cut.TheVariants.{More}
 use Rattle.bk_lex.specs.Lexing.{Section}
 use Rattle.bk_tree.specs.Tree.{Declarations}
 use Rattle.bk_ocode.specs.StmtRange.{AreBytes, AreTyped}
 use Rattle.bk_ocode.specs.declared.stmt.Stmt.{Stmt}
 use Rattle.bk_kit.specs.declared.kit_fault.KitFault.{KitFault}
 use Rattle.bk_kit.specs.declared.kit_fault.KitFault.TheVariants.{Source, Ocode, Intcode, TooSmall, NoStart, Read, Write, Memory}
-use Rattle.bk_kit.specs.ReadingSource.{Asked, Follows}
-use Rattle.bk_lex.specs.Found.{cut_behind}
+use Rattle.bk_kit.specs.ReadingSource.{IsUndecided, Asked, Follows}
 use Rattle.bk_kit.specs.Sources.{Accepted, Refused, WholeSection, bytes_of, codes_of, codes_of_trees, line_behind, AreAccepted, texts_of}
 use Rattle.bk_kit.specs.Telling.{Output}
 use Rattle.bk_kit.specs.Filters.{Puts, Ends}
@@ -35,8 +33,8 @@ Comes part line ended reads (Ok done) text =
 -- a section that is refused, whatever follows: nothing is written of it
 Comes part line ended reads (Err (Source fault)) text =
     ((rest : List ℕ) → Follows ended rest → Refused fault (part ++ rest) line) × (text ≡ []) × (reads ≡ 0)
--- the read failed where the section might still go on
-Comes part line ended reads (Err Read) text = (cut_behind part ≡ More) × (text ≡ []) × (reads ≡ 1)
+-- the read failed where it was not decided yet how the section ends
+Comes part line ended reads (Err Read) text = IsUndecided part × (text ≡ []) × (reads ≡ 1)
 Comes part line ended reads (Err Memory) text = (text ≡ []) × (reads ≡ 0)
 Comes part line ended reads (Err Write) text = ⊥
 Comes part line ended reads (Err TooSmall) text = ⊥
@@ -58,7 +56,7 @@ pub record Delivered (old new : Option (List ℕ)) : Type 0 where
   -- the bytes of the sections, and the numbers and bytes of their statements, are those of their types
   pub bytes : AreBytes (bytes_of sections)
   pub typed : AreAllTyped (codes_of sections)
-  -- no byte was asked for after the end of the next section, or after where it is certain that it is refused
+  -- no byte was asked for after the first by which it is decided how the next section ends, or that it is refused
   pub asked : Asked part
   -- one call reads no more than so many bytes, and a source is taken to have less
   pub within : length (bytes_of sections ++ part) ≤ INPUT_BYTES

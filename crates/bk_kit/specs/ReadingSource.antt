@@ -1,21 +1,17 @@
 -- Reading a source up to the end of its next section.
-use Rattle.std.specs.Prelude.{◌≡◌, ℕ, ◌+◌, ◌<◌, ◌≤◌, Bool, IsTrue, ⊤, List, [], ◌∷◌, ◌++◌, Option, Some, length}
+use Rattle.std.specs.Prelude.{◌≡◌, ℕ, ◌+◌, ◌<◌, ◌≤◌, Bool, IsTrue, List, [], ◌∷◌, ◌++◌, Option, length}
 use Rattle.std.specs.Io.KnownBytes.{Consumes}
 use Rattle.bk_base.specs.declared.limit.TheConstants.{SECTION_BYTES, INPUT_BYTES}
-use Rattle.bk_lex.specs.declared.counting.State.{State}
-use Rattle.bk_lex.specs.declared.cutter.Cut.{Cut}
-use Rattle.bk_lex.specs.declared.cutter.Cut.TheVariants.{More}
-use Rattle.bk_lex.specs.Counting.{start}
-use Rattle.bk_lex.specs.Cutting.{then_on, cut_as}
 use Rattle.bk_lex.specs.Lexing.{lexed}
+use Rattle.bk_lex.specs.Telling.{IsDecided}
 
--- Each of these bytes was asked for where a cutter said that the section may go on.
-abbrev pub AskedFrom : Option State → List ℕ → Type 0
-AskedFrom cutter [] = ⊤
-AskedFrom cutter (byte ∷ rest) = (cut_as cutter ≡ More) × AskedFrom (then_on cutter byte) rest
+-- It is not decided yet how a section ends that begins with these bytes.
+abbrev pub IsUndecided : List ℕ → Type 0
+IsUndecided bytes = (line : ℕ) → IsDecided line bytes → ⊥
 
+-- Each of these bytes was asked for where the bytes before it left it undecided how the section ends.
 abbrev pub Asked : List ℕ → Type 0
-Asked bytes = AskedFrom (Some start) bytes
+Asked bytes = (front : List ℕ) (byte : ℕ) (rest : List ℕ) → bytes ≡ front ++ byte ∷ rest → IsUndecided front
 
 -- whatever may follow the bytes delivered: nothing, where the source's end was reported
 abbrev pub Follows : Bool → List ℕ → Type 0

@@ -7,15 +7,13 @@ use Rattle.bk_intcode.specs.declared.registers.Registers.{Registers}
 use Rattle.bk_intcode.specs.State.{store_of, registers_of, end_of}
 use Rattle.bk_intcode.specs.Placement.{SEGMENTS, stack_start, any_starts, loaded_store}
 use Rattle.bk_intcode.specs.Runs.{Ran}
-use Rattle.bk_lex.specs.declared.cutter.Cut.TheVariants.{More}
 use Rattle.bk_ocode.specs.declared.stmt.Stmt.{Stmt}
 use Rattle.bk_gen.specs.BackEnd.{Part, segments, image}
 use Rattle.bk_kit.specs.declared.kit_fault.KitFault.{KitFault}
 use Rattle.bk_kit.specs.declared.kit_fault.KitFault.TheVariants.{Source, Ocode, Intcode, TooSmall, NoStart, Read, Write, Memory}
 use Rattle.bk_kit.specs.Interpreting.{Streams, told_streams, HasRoom, first_registers}
 use Rattle.bk_kit.specs.Headline.{Headline}
-use Rattle.bk_kit.specs.ReadingSource.{EachSource}
-use Rattle.bk_lex.specs.Found.{cut_behind}
+use Rattle.bk_kit.specs.ReadingSource.{IsUndecided, EachSource}
 use Rattle.bk_kit.specs.Compiling.{Delivered}
 use Rattle.bk_kit.specs.SourceSections.{IsRefused, HasParts}
 use Rattle.bk_kit.specs.SourceMeaning.{meanings}
@@ -51,10 +49,10 @@ NotAssembled (Ocode section fault) old new ended = ⊥
 NotAssembled (Intcode segment fault) old new ended = ⊥
 
 -- Accepted sections were delivered, each with its `.`, and some bytes of the next, none after its end; where the source could not be
--- read, the next might still go on.
+-- read, it was not decided yet how the next ends.
 pub record ReadsSource (failed : Bool) (old new : Option (List ℕ)) : Type 0 where
   pub front : Delivered old new
-  pub goes_on : failed ≡ true → cut_behind front.part ≡ More
+  pub goes_on : failed ≡ true → IsUndecided front.part
 
 -- A machine before the run of a source.
 pub record LoadsSource (machine : Machine) (words : ℕ) (old new : Option (List ℕ)) (ended : Bool) : Type 0 where

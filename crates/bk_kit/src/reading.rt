@@ -1,10 +1,8 @@
 //! Reading a source, a section at a time.
 ghost use Rattle.std.specs.Prelude.{ℕ, List, ◌≡◌, ◌<◌, ◌≤◌, ◌⊎◌, OnOk, IfOk, IfErr, if◌then◌else◌};
 ghost use Rattle.bk_base.specs.declared.limit.TheConstants.{INPUT_BYTES};
-ghost use Rattle.bk_lex.specs.declared.cutter.Cut.TheVariants.{More};
-ghost use Rattle.bk_lex.specs.Found.{cut_behind};
 ghost use Rattle.bk_kit.specs.Interpreting.{is_read, is_read_fault};
-ghost use Rattle.bk_kit.specs.ReadingSource.{Settles, IsDelivered};
+ghost use Rattle.bk_kit.specs.ReadingSource.{IsUndecided, Settles, IsDelivered};
 
 use crate::kit_fault::KitFault;
 use bk_base::limit::{INPUT_BYTES, SECTION_BYTES};
@@ -17,7 +15,7 @@ use std::alloc::Global;
 #[inline(never)]
 fn no_memory<C: ByteIn>(source: &mut C, taken: &mut u64) -> KitFault
     ensures fault { (text : List ℕ) × IsDelivered text (C.left source.old) (C.left source.new) taken.old taken.new
-        × ((result ≡ KitFault.Memory) ⊎ ((result ≡ KitFault.Read) × (cut_behind text ≡ More))) }
+        × ((result ≡ KitFault.Memory) ⊎ ((result ≡ KitFault.Read) × IsUndecided text)) }
     ensures within { taken.new ≤ INPUT_BYTES }
     ensures failures { (taken.old < INPUT_BYTES) ⊎ (C.faults source.old ≡ 0) → C.faults source.new ≡ (if is_read_fault result then 1 else 0) }
 {
@@ -46,7 +44,7 @@ pub fn read_section<C: ByteIn>(
         × (taken.new < INPUT_BYTES → Settles lexer.bytes (C.ended source.new))) }
     ensures line { IfOk result (λ lexer. lexer.from ≡ from) }
     ensures fault { IfErr result (λ fault. (text : List ℕ) × IsDelivered text (C.left source.old) (C.left source.new) taken.old taken.new
-        × ((fault ≡ KitFault.Memory) ⊎ ((fault ≡ KitFault.Read) × (cut_behind text ≡ More)))) }
+        × ((fault ≡ KitFault.Memory) ⊎ ((fault ≡ KitFault.Read) × IsUndecided text))) }
     ensures within { taken.new ≤ INPUT_BYTES }
     ensures failures { (taken.old < INPUT_BYTES) ⊎ (C.faults source.old ≡ 0) → C.faults source.new ≡ (if is_read result then 1 else 0) }
 {

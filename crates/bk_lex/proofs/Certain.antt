@@ -37,7 +37,7 @@ first_stop (b ∷ bs) s e = look (goes_on s b) refl (λ t h. first_stop bs t h)
         (b ∷ r.0, r.1, r.2, r.3, ap (λ (y : List ℕ). b ∷ y) r.4, ap (λ (o : Option State). state_behind o r.0) x ∙ r.5, ap (λ (o : Option State). state_behind o (r.0 ++ r.1 ∷ [])) x ∙ r.6)
 
 -- a section too long by its one ground, each other fault as it stands
-certain_as : (kind : SourceKind) (from line : ℕ) (front : List ℕ) → ((more : List ℕ) → HasKind kind (length (front ++ more)) (putting [] None false from None 0) line (front ++ more)) → (kind ≡ source_kinds.SectionTooLong → CertainBytes from line front ⊎ CertainSymbols from line front) → CertainAs kind from line front
+pub certain_as : (kind : SourceKind) (from line : ℕ) (front : List ℕ) → ((more : List ℕ) → HasKind kind (length (front ++ more)) (putting [] None false from None 0) line (front ++ more)) → (kind ≡ source_kinds.SectionTooLong → CertainBytes from line front ⊎ CertainSymbols from line front) → CertainAs kind from line front
 certain_as source_kinds.SectionTooLong from line front h g = g refl
 certain_as kind from line front h g = h
 

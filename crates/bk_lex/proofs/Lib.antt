@@ -29,6 +29,7 @@ pub mod BesideGet
 pub mod Ranks
 pub mod Earliest
 pub mod Certain
+pub mod Decided
 pub mod LeastRooms
 pub mod Letters
 pub mod WordsNamed

@@ -3,7 +3,8 @@ use Rattle.bk_base.specs.DeviceLaws.{Consumes-nothing}
 use Rattle.bk_lex.specs.Cutting.{Means}
 use Rattle.bk_lex.specs.Found.{SectionBytes, cut_behind}
 use Rattle.bk_lex.specs.declared.cutter.Cut.TheVariants.{End, More}
-use Rattle.bk_kit.proofs.ReadingLemmas.{delivered_more, goes_at_start}
+use Rattle.bk_lex.proofs.Decided.{more_undecided}
+use Rattle.bk_kit.proofs.ReadingLemmas.{delivered_more, goes_at_start, nothing_asked}
 use Rattle.bk_kit.proofs.reading.read_section.Goals as goal
 
 pub loop-init : goal.loop-init
@@ -14,7 +15,7 @@ loop-init g c =
       delivered = Consumes-nothing _;
       line = line;
       goes_on = goes_at_start;
-      asked = tt;
+      asked = nothing_asked;
       taken = omega arith;
       counted = refl;
       within = omega arith;
@@ -60,3 +61,8 @@ returns-in-Err-step-clause-fault g c =
     let v = c.loop.invariant in
     let one = rw c.in-Ok-Some.field-0-is at c.in-Ok-Some.ensures.delivers in
     (_, delivered_more c.loop.lexer.bytes c.in-Ok-Some.byte _ _ _ c.loop.taken c.args.taken.now v.delivered one v.goes_on v.asked v.taken v.within, inl refl)
+
+pub returns-in-Err-clause-fault : goal.returns-in-Err-clause-fault
+returns-in-Err-clause-fault g c =
+    let v = c.loop.invariant in
+    (c.loop.lexer.bytes, record { delivered = search (v.delivered, c.in-Err.ensures.keeps, rules); asked = v.asked; counted = v.taken; few = omega (arith, v.within) }, inr (refl, more_undecided c.loop.lexer.bytes v.goes_on))
