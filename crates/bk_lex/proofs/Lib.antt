@@ -1,4 +1,5 @@
 pub mod Steps
+pub mod NoDots
 pub mod LexerLemmas
 pub mod Cuts
 pub mod SignLemmas

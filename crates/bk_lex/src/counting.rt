@@ -370,8 +370,9 @@ fn opened(state: &mut State, byte: u8) -> Result<Act, Fault>
     ensures answers { step_as result state.new ≡ opened state.old byte }
     ensures keeps { OnErr result (state.new ≡ state.old) }
 {
+    let what = what_of(state.mode);
     let mode = begin(byte).ok_or(Fault::BadByte)?;
-    match what_of(state.mode) {
+    match what {
         What::Gap => after_gap(state, mode, byte),
         What::Get => after_get(state, mode, byte),
         What::Symbol(kind) => after_symbol(state, kind, mode, byte),

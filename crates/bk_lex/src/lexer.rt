@@ -267,6 +267,10 @@ impl Lexer {
                 return Ok(Cut::End);
             }
         };
+        // A byte that goes on with a piece is not the `.` that ends the section.
+        if let Act::Goes = act {
+            return Ok(Cut::More);
+        }
         let Ok(()) = self.pieces.take(act, byte, before) else {
             self.progress = Progress::Stuck;
             return Err(AllocError);

@@ -2,6 +2,8 @@ use Rattle.std.proofs.Common.{arith, ◌≡◌, ℕ, List, [], ◌∷◌, ◌++�
 use Rattle.bk_lex.specs.declared.machine.Fault.{Fault}
 use Rattle.bk_lex.specs.declared.counting.State.{State}
 use Rattle.bk_lex.specs.Counting.{Step}
+use Rattle.bk_lex.specs.declared.counting.Act.{Act}
+use Rattle.bk_lex.specs.declared.counting.Act.TheVariants.{Goes as Goes_on}
 use Rattle.bk_lex.specs.declared.lexer.Progress.{Progress}
 use Rattle.bk_lex.specs.declared.lexer.Progress.TheVariants.{Going}
 use Rattle.bk_lex.specs.declared.lexer.Lexer.TheInside.{Inside}
@@ -11,6 +13,7 @@ use Rattle.bk_lex.specs.Cutting.{cut_as}
 use Rattle.bk_lex.specs.Lexers.{Marks, marks_of, marked, Parts, parts, Goes, HasEnded, IsRefused, Progresses}
 use Rattle.bk_lex.proofs.Cuts.{means_as}
 use Rattle.bk_lex.proofs.LexerLemmas.{held, more as with_byte, goes_still, has_ended, is_refused}
+use Rattle.bk_lex.proofs.NoDots.{goes_no_dot}
 use Rattle.bk_lex.proofs.lexer.Lexer.step.Goals as goal
 
 abbrev parts_of : Inside → Parts
@@ -84,4 +87,26 @@ pub returns-clause-means : goal.returns-clause-means
 returns-clause-means c = λ more.
     let h = still c.self.inside c.args.byte c.push.new.self.items c.self.invariant c.in-Going.is c.in-Ok.ensures.items
     (stepped c.take_byte.new.state c.in-Ok-take_byte.act) c.in-Ok-take_byte.ensures.answers c.len-before.result (marks_of c.take.new.self) (let n = c.len-before.ensures in omega arith) c.in-Ok-take.ensures c.if-is_dot.ensures in
+    means_as (Some c.take_byte.new.state) c.push.new.self.items h.state
+
+module _ (a : Inside) (b : ℕ) (new : List ℕ) (inv : Progresses a.progress a.state (parts_of a)) (going : a.progress ≡ Going) (items : new ≡ a.bytes.items ++ b ∷ []) (now : State) (act : Act) (is : Ok (stepped now act) ≡ step_of a.state b) (n : ℕ) (count : n ≡ length a.bytes.items) (on : act ≡ Goes_on) where
+  same_piece : Goes (parts new a.from (marks_of a.pieces)) now
+  same_piece = still a b new inv going items (stepped now act) is n (marks_of a.pieces) count (ap (λ (x : Act). marked (marks_of a.pieces) x b n) (sym on)) (goes_no_dot a.state b (stepped now act) is on)
+
+pub invariant_of-self-in-Goes : goal.invariant_of-self-in-Goes
+invariant_of-self-in-Goes c =
+    let h = same_piece c.self.inside c.args.byte c.push.new.self.items c.self.invariant c.in-Going.is c.in-Ok.ensures.items
+    c.take_byte.new.state c.in-Ok-take_byte.act c.in-Ok-take_byte.ensures.answers c.len-before.result (let n = c.len-before.ensures in omega arith) c.in-Goes.is in
+    subst (λ (p : Progress). Progresses p c.take_byte.new.state (parts c.push.new.self.items c.self.inside.from (marks_of c.self.inside.pieces))) (sym c.in-Going.is) h
+
+pub returns-in-Goes-clause-says : goal.returns-in-Goes-clause-says
+returns-in-Goes-clause-says c =
+    let h = same_piece c.self.inside c.args.byte c.push.new.self.items c.self.invariant c.in-Going.is c.in-Ok.ensures.items
+    c.take_byte.new.state c.in-Ok-take_byte.act c.in-Ok-take_byte.ensures.answers c.len-before.result (let n = c.len-before.ensures in omega arith) c.in-Goes.is in
+    sym (ap cut_as h.state)
+
+pub returns-in-Goes-clause-means : goal.returns-in-Goes-clause-means
+returns-in-Goes-clause-means c = λ more.
+    let h = same_piece c.self.inside c.args.byte c.push.new.self.items c.self.invariant c.in-Going.is c.in-Ok.ensures.items
+    c.take_byte.new.state c.in-Ok-take_byte.act c.in-Ok-take_byte.ensures.answers c.len-before.result (let n = c.len-before.ensures in omega arith) c.in-Goes.is in
     means_as (Some c.take_byte.new.state) c.push.new.self.items h.state
