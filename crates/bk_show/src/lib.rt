@@ -1,0 +1,20 @@
+//! What the phases of the compiler make of a section, as text that a person reads: its tokens, its tree, its names, its OCODE and
+//! its INTCODE.
+#![tactic(auto)]
+
+mod header;
+mod instruction;
+mod intcode;
+mod names;
+mod ocode;
+mod part;
+mod section;
+mod spelling;
+mod text;
+mod tokens;
+mod trace;
+mod tree;
+
+pub use part::Part;
+pub use section::{NotShown, Shown, show};
+pub use trace::{Step, put_heading, put_step};

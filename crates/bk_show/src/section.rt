@@ -1,0 +1,189 @@
+//! A section as text.
+ghost use Rattle.std.specs.Prelude.{◌≡◌, Err, OnOk};
+ghost use Rattle.bk_base.specs.Devices.{Begins};
+ghost use Rattle.bk_show.specs.declared.section.NotShown.TheVariants.{Device};
+
+use crate::header::header_declarations;
+use crate::intcode::intcode_text;
+use crate::names::names_of;
+use crate::ocode::ocode_text;
+use crate::part::{Part, is_shown};
+use crate::text::Text;
+use crate::tokens::tokens_text;
+use crate::tree::tree_text;
+use bk_base::{ByteOut, Line, put_all};
+use bk_intcode::Intcode;
+use bk_lex::Token;
+use bk_ocode::Ocode;
+use bk_scope::Resolved;
+use std::alloc::{AllocError, Global};
+
+/// What the phases of the compiler make of a section.
+#[derive(Clone, Copy)]
+pub struct Shown<'a> {
+    /// The number of the section in its source, from 1.
+    pub number: u32,
+    /// Its first line.
+    pub line: Line,
+    /// Its tokens.
+    pub tokens: &'a [Token<'a>],
+    /// Its tree, with what its names mean.
+    pub resolved: &'a Resolved<'a>,
+    /// Its statements.
+    pub code: &'a Ocode,
+    /// Its items.
+    pub segment: &'a Intcode,
+}
+
+/// Why a section is not shown.
+#[derive(Clone, Copy, Debug, PartialEq, Eq)]
+pub enum NotShown {
+    /// A growth was refused.
+    Memory,
+    /// The output failed.
+    Device,
+}
+
+impl From<AllocError> for NotShown {
+    ghost use Rattle.std.specs.Prelude.{◌≡◌};
+    ghost use Rattle.bk_show.specs.declared.section.NotShown.TheVariants.{Memory};
+
+    ghost from_gives = { λ _ fault. fault ≡ Memory };
+
+    fn from(_error: AllocError) -> NotShown {
+        NotShown::Memory
+    }
+}
+
+/// The line above a section.
+fn heading(alloc: Global, section: &Shown<'_>) -> Result<Text, AllocError> {
+    let mut text = Text::new(alloc);
+    if section.number > 1 {
+        text.end()?;
+    }
+    text.say("section ")?;
+    text.natural(section.number)?;
+    text.say(", from line ")?;
+    text.natural(section.line.number())?;
+    text.end()?;
+    Ok(text)
+}
+
+/// The line above a part.
+fn title(alloc: Global, words: &str) -> Result<Text, AllocError> {
+    let mut text = Text::new(alloc);
+    text.end()?;
+    text.say(words)?;
+    text.end()?;
+    Ok(text)
+}
+
+/// Writes a text.
+pub fn put_text<O: ByteOut>(text: &Text, out: &mut O) -> Result<(), NotShown>
+    ensures grows { Begins (O.taken out.old) (O.taken out.new) }
+    ensures passes { Begins (O.passed out.old) (O.passed out.new) }
+    ensures failed { result ≡ Err Device → O.faults out.new ≡ 1 }
+{
+    match put_all(out, text.bytes()) {
+        Ok(()) => Ok(()),
+        Err(_) => Err(NotShown::Device),
+    }
+}
+
+/// Writes a part, after the line that names it.
+fn put_part<O: ByteOut>(
+    alloc: Global,
+    words: &str,
+    text: &Text,
+    out: &mut O,
+) -> Result<(), NotShown>
+    ensures grows { Begins (O.taken out.old) (O.taken out.new) }
+    ensures passes { Begins (O.passed out.old) (O.passed out.new) }
+    ensures failed { result ≡ Err Device → O.faults out.new ≡ 1 }
+{
+    put_text(&title(alloc, words)?, out)?;
+    put_text(text, out)
+}
+
+/// Writes the tokens and the tree, those of them that are asked for.
+fn put_front<O: ByteOut>(
+    alloc: Global,
+    section: &Shown<'_>,
+    headers: &[bool],
+    asked: Part,
+    out: &mut O,
+) -> Result<(), NotShown>
+    ensures grows { Begins (O.taken out.old) (O.taken out.new) }
+    ensures passes { Begins (O.passed out.old) (O.passed out.new) }
+    ensures failed { result ≡ Err Device → O.faults out.new ≡ 1 }
+{
+    if is_shown(Part::Tokens, asked) {
+        put_part(alloc, "tokens", &tokens_text(alloc, section.tokens)?, out)?;
+    }
+    if is_shown(Part::Tree, asked) {
+        let text = tree_text(alloc, section.resolved.section(), headers)?;
+        put_part(alloc, "tree", &text, out)?;
+    }
+    Ok(())
+}
+
+/// Writes OCODE and INTCODE, those of them that are asked for.
+fn put_code<O: ByteOut>(
+    alloc: Global,
+    section: &Shown<'_>,
+    procedures: &[Line],
+    asked: Part,
+    out: &mut O,
+) -> Result<(), NotShown>
+    ensures grows { Begins (O.taken out.old) (O.taken out.new) }
+    ensures passes { Begins (O.passed out.old) (O.passed out.new) }
+    ensures failed { result ≡ Err Device → O.faults out.new ≡ 1 }
+{
+    if is_shown(Part::Ocode, asked) {
+        let text = ocode_text(alloc, section.code, procedures)?;
+        put_part(alloc, "OCODE", &text, out)?;
+    }
+    if is_shown(Part::Intcode, asked) {
+        let text = intcode_text(alloc, section.segment, section.code, procedures)?;
+        put_part(alloc, "INTCODE", &text, out)?;
+    }
+    Ok(())
+}
+
+/// Writes the names and the code, those of them that are asked for.
+fn put_back<O: ByteOut>(
+    alloc: Global,
+    section: &Shown<'_>,
+    headers: &[bool],
+    asked: Part,
+    out: &mut O,
+) -> Result<(), NotShown>
+    ensures grows { Begins (O.taken out.old) (O.taken out.new) }
+    ensures passes { Begins (O.passed out.old) (O.passed out.new) }
+    ensures failed { result ≡ Err Device → O.faults out.new ≡ 1 }
+{
+    let named = names_of(alloc, section.resolved, headers)?;
+    if is_shown(Part::Names, asked) {
+        put_part(alloc, "names", &named.text, out)?;
+    }
+    put_code(alloc, section, named.procedures.as_slice(), asked, out)
+}
+
+/// Writes the part of a section that is asked for, after a line that names it. What is written is made of the values given and of
+/// nothing else. Memory is taken for the text of one part at a time, and for the names.
+pub fn show<O: ByteOut>(
+    alloc: Global,
+    section: &Shown<'_>,
+    asked: Part,
+    out: &mut O,
+) -> Result<(), NotShown>
+    // What was taken or passed on before stays.
+    ensures grows { Begins (O.taken out.old) (O.taken out.new) }
+    ensures passes { Begins (O.passed out.old) (O.passed out.new) }
+    ensures failed { result ≡ Err Device → O.faults out.new ≡ 1 }
+{
+    let headers = header_declarations(alloc, section.tokens)?;
+    put_text(&heading(alloc, section)?, out)?;
+    put_front(alloc, section, headers.as_slice(), asked, out)?;
+    put_back(alloc, section, headers.as_slice(), asked, out)
+}

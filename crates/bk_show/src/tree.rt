@@ -1,0 +1,390 @@
+//! The tree of a section: a line for each node, below the line of the node that it belongs to.
+
+use crate::spelling::{
+    operator_spelling, prefix_spelling, put_string, simple_spelling, sort_spelling,
+};
+use crate::text::Text;
+use bk_base::Line;
+use bk_tree::{Command, Decl, Def, Expr, Init, Item, Name, Section, Sort};
+use std::alloc::{AllocError, Global};
+
+/// A tree that is put.
+#[derive(Drop)]
+struct Walk<'a> {
+    text: Text,
+    /// Which declarations with constants are of a header, in the source's order.
+    headers: &'a [bool],
+    /// How many of these were met.
+    met: usize,
+}
+
+impl Walk<'_> {
+    /// Adds a node that words describe.
+    fn node(&mut self, line: Line, level: usize, words: &str) -> Result<(), AllocError> {
+        self.text.begin(line)?;
+        self.text.indent(level)?;
+        self.text.say(words)?;
+        self.text.end()
+    }
+
+    /// Adds a node that words and a name describe.
+    fn named(
+        &mut self,
+        line: Line,
+        level: usize,
+        words: &str,
+        name: &[u8],
+    ) -> Result<(), AllocError> {
+        self.text.begin(line)?;
+        self.text.indent(level)?;
+        self.text.say(words)?;
+        self.text.spell(name)?;
+        self.text.end()
+    }
+
+    /// Adds a number.
+    fn number(&mut self, line: Line, level: usize, word: u32) -> Result<(), AllocError> {
+        self.text.begin(line)?;
+        self.text.indent(level)?;
+        self.text.say("number ")?;
+        self.text.integer(word.cast_signed())?;
+        self.text.end()
+    }
+
+    /// Adds a string.
+    fn string(&mut self, line: Line, level: usize, bytes: &[u8]) -> Result<(), AllocError> {
+        self.text.begin(line)?;
+        self.text.indent(level)?;
+        self.text.say("string ")?;
+        put_string(&mut self.text, bytes)?;
+        self.text.end()
+    }
+
+    /// Adds an empty command, which has no line.
+    fn empty(&mut self, level: usize) -> Result<(), AllocError> {
+        self.text.begin_without()?;
+        self.text.indent(level)?;
+        self.text.say("no command")?;
+        self.text.end()
+    }
+
+    /// Adds names with commas between them.
+    fn names(&mut self, names: &[Name]) -> Result<(), AllocError> {
+        for (i, name) in names.iter().enumerate() {
+            if i > 0 {
+                self.text.say(", ")?;
+            }
+            self.text.spell(&name.letters)?;
+        }
+        Ok(())
+    }
+
+    /// Adds the head of a procedure.
+    fn head(
+        &mut self,
+        line: Line,
+        level: usize,
+        words: &str,
+        name: &[u8],
+        formals: &[Name],
+    ) -> Result<(), AllocError> {
+        self.text.begin(line)?;
+        self.text.indent(level)?;
+        self.text.say(words)?;
+        self.text.spell(name)?;
+        self.text.say("(")?;
+        self.names(formals)?;
+        self.text.say(")")?;
+        self.text.end()
+    }
+
+    /// Adds the head of variables.
+    fn variables(&mut self, line: Line, level: usize, names: &[Name]) -> Result<(), AllocError> {
+        self.text.begin(line)?;
+        self.text.indent(level)?;
+        self.text.say("variables ")?;
+        self.names(names)?;
+        self.text.end()
+    }
+
+    /// Adds a declaration of a header.
+    fn header(
+        &mut self,
+        line: Line,
+        level: usize,
+        sort: Sort,
+        items: usize,
+    ) -> Result<(), AllocError> {
+        self.text.begin(line)?;
+        self.text.indent(level)?;
+        self.text.say(sort_spelling(sort))?;
+        self.text.say(" of the header, with ")?;
+        self.text.natural((items % 0x1_0000_0000) as u32)?;
+        self.text.say(" names")?;
+        self.text.end()
+    }
+
+    /// Whether the next declaration with constants is of a header.
+    fn takes_header(&mut self) -> bool {
+        let is = matches!(self.headers.get(self.met), Some(true));
+        self.met = self.met.saturating_add(1);
+        is
+    }
+}
+
+/// The level below a level.
+fn below(level: usize) -> usize {
+    level.saturating_add(1)
+}
+
+/// Adds an expression.
+#[cycle(nodes)]
+fn put_expr(walk: &mut Walk<'_>, level: usize, expr: &Expr) -> Result<(), AllocError> {
+    match expr {
+        Expr::Name(line, letters) => walk.named(*line, level, "name ", letters),
+        Expr::Number(line, word) => walk.number(*line, level, *word),
+        Expr::Text(line, bytes) => walk.string(*line, level, bytes),
+        Expr::Truth(line, truth) => walk.node(*line, level, if *truth { "TRUE" } else { "FALSE" }),
+        Expr::Query(line) => walk.node(*line, level, "?"),
+        Expr::Parens(line, inside) => {
+            walk.node(*line, level, "( )")?;
+            put_expr(walk, below(level), inside)
+        }
+        Expr::Unary(line, prefix, operand) => {
+            walk.named(*line, level, "prefix ", prefix_spelling(*prefix).as_bytes())?;
+            put_expr(walk, below(level), operand)
+        }
+        Expr::Binary(_, operator, line, left, right) => {
+            walk.named(
+                *line,
+                level,
+                "operator ",
+                operator_spelling(*operator).as_bytes(),
+            )?;
+            put_expr(walk, below(level), left)?;
+            put_expr(walk, below(level), right)
+        }
+        Expr::Choice(_, line, condition, yes, no) => {
+            walk.node(*line, level, "choice ->")?;
+            put_expr(walk, below(level), condition)?;
+            put_expr(walk, below(level), yes)?;
+            put_expr(walk, below(level), no)
+        }
+        Expr::Apply(line, _, callee, arguments) => {
+            walk.node(*line, level, "call of a function")?;
+            put_expr(walk, below(level), callee)?;
+            put_exprs(walk, below(level), arguments)
+        }
+        Expr::Valof(line, command) => {
+            walk.node(*line, level, "VALOF")?;
+            put_command(walk, below(level), command)
+        }
+        Expr::Table(line, items) => {
+            walk.node(*line, level, "TABLE")?;
+            put_exprs(walk, below(level), items)
+        }
+    }
+}
+
+/// Adds expressions one after another.
+#[cycle(nodes)]
+fn put_exprs(walk: &mut Walk<'_>, level: usize, exprs: &[Expr]) -> Result<(), AllocError> {
+    for expr in exprs {
+        put_expr(walk, level, expr)?;
+    }
+    Ok(())
+}
+
+/// Adds a command.
+#[cycle(nodes)]
+fn put_command(walk: &mut Walk<'_>, level: usize, command: &Command) -> Result<(), AllocError> {
+    match command {
+        Command::Empty => walk.empty(level),
+        Command::Assign(line, destinations, values) => {
+            walk.node(*line, level, ":=")?;
+            put_exprs(walk, below(level), destinations)?;
+            put_exprs(walk, below(level), values)
+        }
+        Command::Call(line, callee, arguments) => {
+            walk.node(*line, level, "call of a routine")?;
+            put_expr(walk, below(level), callee)?;
+            put_exprs(walk, below(level), arguments)
+        }
+        Command::Goto(line, name) => walk.named(*line, level, "GOTO ", &name.letters),
+        Command::Label(line, letters, body) => {
+            walk.named(*line, level, "label ", letters)?;
+            put_command(walk, below(level), body)
+        }
+        Command::Case(line, expr, body) => {
+            walk.node(*line, level, "CASE")?;
+            put_expr(walk, below(level), expr)?;
+            put_command(walk, below(level), body)
+        }
+        Command::Default(line, body) => {
+            walk.node(*line, level, "DEFAULT")?;
+            put_command(walk, below(level), body)
+        }
+        Command::If(line, truth, condition, body) => {
+            walk.node(*line, level, if *truth { "IF" } else { "UNLESS" })?;
+            put_expr(walk, below(level), condition)?;
+            put_command(walk, below(level), body)
+        }
+        Command::Test(line, condition, body, other) => {
+            walk.node(*line, level, "TEST")?;
+            put_expr(walk, below(level), condition)?;
+            put_command(walk, below(level), body)?;
+            put_command(walk, below(level), other)
+        }
+        Command::While(line, truth, condition, body) => {
+            walk.node(*line, level, if *truth { "WHILE" } else { "UNTIL" })?;
+            put_expr(walk, below(level), condition)?;
+            put_command(walk, below(level), body)
+        }
+        Command::For(line, name, from, to, by, body) => {
+            walk.named(*line, level, "FOR ", &name.letters)?;
+            put_expr(walk, below(level), from)?;
+            put_expr(walk, below(level), to)?;
+            if let Some(step) = by {
+                put_expr(walk, below(level), step)?;
+            }
+            put_command(walk, below(level), body)
+        }
+        Command::SwitchOn(line, expr, body) => {
+            walk.node(*line, level, "SWITCHON")?;
+            put_expr(walk, below(level), expr)?;
+            put_command(walk, below(level), body)
+        }
+        Command::ResultIs(line, expr) => {
+            walk.node(*line, level, "RESULTIS")?;
+            put_expr(walk, below(level), expr)
+        }
+        Command::Simple(line, simple) => walk.node(*line, level, simple_spelling(*simple)),
+        Command::Block(line, decls, commands) => {
+            walk.node(*line, level, "$( $)")?;
+            put_decls(walk, below(level), decls)?;
+            put_commands(walk, below(level), commands)
+        }
+        Command::Repeat(line, body) => {
+            walk.node(*line, level, "REPEAT")?;
+            put_command(walk, below(level), body)
+        }
+        Command::RepeatWhile(line, truth, body, condition) => {
+            walk.node(
+                *line,
+                level,
+                if *truth { "REPEATWHILE" } else { "REPEATUNTIL" },
+            )?;
+            put_command(walk, below(level), body)?;
+            put_expr(walk, below(level), condition)
+        }
+    }
+}
+
+/// Adds commands one after another.
+#[cycle(nodes)]
+fn put_commands(walk: &mut Walk<'_>, level: usize, commands: &[Command]) -> Result<(), AllocError> {
+    for command in commands {
+        put_command(walk, level, command)?;
+    }
+    Ok(())
+}
+
+/// Adds declarations one after another.
+#[cycle(nodes)]
+fn put_decls(walk: &mut Walk<'_>, level: usize, decls: &[Decl]) -> Result<(), AllocError> {
+    for decl in decls {
+        put_decl(walk, level, decl)?;
+    }
+    Ok(())
+}
+
+/// Adds a declaration. One of a header is a single line.
+#[cycle(nodes)]
+fn put_decl(walk: &mut Walk<'_>, level: usize, decl: &Decl) -> Result<(), AllocError> {
+    match decl {
+        Decl::Constants(line, sort, items) => {
+            if walk.takes_header() {
+                return walk.header(*line, level, *sort, items.len());
+            }
+            walk.node(*line, level, sort_spelling(*sort))?;
+            put_items(walk, below(level), items)
+        }
+        Decl::Let(line, defs) => {
+            walk.node(*line, level, "LET")?;
+            put_defs(walk, below(level), defs)
+        }
+    }
+}
+
+/// Adds the items of a declaration, each with its constant.
+#[cycle(nodes)]
+fn put_items(walk: &mut Walk<'_>, level: usize, items: &[Item]) -> Result<(), AllocError> {
+    for Item::Item(line, name, expr) in items {
+        walk.named(*line, level, "item ", name)?;
+        put_expr(walk, below(level), expr)?;
+    }
+    Ok(())
+}
+
+/// Adds definitions one after another.
+#[cycle(nodes)]
+fn put_defs(walk: &mut Walk<'_>, level: usize, defs: &[Def]) -> Result<(), AllocError> {
+    for def in defs {
+        put_def(walk, level, def)?;
+    }
+    Ok(())
+}
+
+/// Adds a definition.
+#[cycle(nodes)]
+fn put_def(walk: &mut Walk<'_>, level: usize, def: &Def) -> Result<(), AllocError> {
+    match def {
+        Def::Routine(line, name, formals, body) => {
+            walk.head(*line, level, "routine ", name, formals)?;
+            put_command(walk, below(level), body)
+        }
+        Def::Function(line, name, formals, body) => {
+            walk.head(*line, level, "function ", name, formals)?;
+            put_expr(walk, below(level), body)
+        }
+        Def::Variables(line, names, starts) => {
+            walk.variables(*line, level, names)?;
+            put_starts(walk, below(level), starts)
+        }
+    }
+}
+
+/// Adds what variables begin with.
+#[cycle(nodes)]
+fn put_starts(walk: &mut Walk<'_>, level: usize, starts: &[Init]) -> Result<(), AllocError> {
+    for start in starts {
+        put_start(walk, level, start)?;
+    }
+    Ok(())
+}
+
+/// Adds what a variable begins with.
+#[cycle(nodes)]
+fn put_start(walk: &mut Walk<'_>, level: usize, start: &Init) -> Result<(), AllocError> {
+    match start {
+        Init::Value(expr) => put_expr(walk, level, expr),
+        Init::Vector(line, expr) => {
+            walk.node(*line, level, "VEC")?;
+            put_expr(walk, below(level), expr)
+        }
+    }
+}
+
+/// A line for each node. `headers` says which declarations with constants are of a header.
+pub fn tree_text(alloc: Global, section: &Section, headers: &[bool]) -> Result<Text, AllocError> {
+    let mut walk = Walk {
+        text: Text::new(alloc),
+        headers,
+        met: 0,
+    };
+    walk.text.say("  line  node")?;
+    walk.text.end()?;
+    put_decls(&mut walk, 0, section.decls())?;
+    let Walk { text, .. } = walk;
+    Ok(text)
+}
