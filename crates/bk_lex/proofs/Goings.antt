@@ -221,9 +221,6 @@ is_long _ = false
 abbrev pub Gone : Sort → Next → Type 0
 Gone k x = ((m : Mode) × (x ≡ Goes m) × (sort_of m ≡ Some k)) ⊎ ((f : Fault) × (x ≡ Bad f) × (is_long f ≡ true))
 
-gone_at : (k : Sort) (x : Next) (m : Mode) → x ≡ Goes m → sort_of m ≡ Some k → Gone k x
-gone_at k x m e s = inl (m, e, s)
-
 pub word_gone : (t : List ℕ) → IsWord t → Gone word (walk_piece t)
 unfolding walk_piece
 word_gone [] h = absurd h

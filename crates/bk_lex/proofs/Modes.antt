@@ -16,7 +16,6 @@ use Rattle.bk_lex.specs.declared.machine.Side.{Side}
 use Rattle.bk_lex.specs.declared.machine.Side.TheVariants.{Opening, Closing}
 use Rattle.bk_lex.specs.declared.machine.Mode.{Mode}
 use Rattle.bk_lex.specs.declared.machine.Mode.TheVariants.{Blank, Comment, Dot, Word, Hash, HashX, Number, Dollar, Bracket, Text, TextEscape, TextEnd, Quote, QuoteEscape, QuoteFull, QuoteEnd, Mark, Name}
-use Rattle.bk_lex.specs.declared.machine.Next.{Next}
 use Rattle.bk_lex.specs.declared.machine.Next.TheVariants.{Goes, Ends, Bad}
 use Rattle.bk_lex.specs.Machine.{fresh, next, marked, is_digit_of, digits_in, digits_with, first_digit, one_more, grows}
 use Rattle.bk_lex.specs.Pieces.{IsWord, IsLead, AreDigits, value_from, bracket_byte, IsTag, Holds, nothing, plain, escape, IsOne, is_no_line_feed}
@@ -116,9 +115,6 @@ bad_goes f n e = cc
 
 ends_goes : (n : Mode) → Ends ≡ Goes n → ⊥
 ends_goes n e = cc
-
-names_goes : (x : Next) (n : Mode) → x ≡ Goes n → x ≡ Goes n
-names_goes x n e = e
 
 pub and_is : (a b : Bool) → a ≡ true → b ≡ true → (a && b) ≡ true
 and_is a b p q = rw p q

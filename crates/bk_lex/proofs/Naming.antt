@@ -58,9 +58,6 @@ name_plain n c lt e =
 
 -- ---- a byte of the name
 
-goes_same : (m n : Mode) → Goes m ≡ Goes n → m ≡ n
-goes_same m n e = cc
-
 name_more : (t : List ℕ) (f : List ℕ) (c : ℕ) → t ≡ 34 ∷ f → length f < 7 → to_ascii_uppercase c ≡ get_or (codes "LIBHDR2") (length f) 0 → map to_ascii_uppercase f ≡ take (length f) (codes "LIBHDR2") → Holds f (length f)
     → walk (Name 0) f ≡ Goes (Name (length f)) → next (Name (length f)) c ≡ Goes (Name (length f + 1)) → Naming (t ++ c ∷ []) (Name (length f + 1))
 name_more t f c e lt same u h w x =

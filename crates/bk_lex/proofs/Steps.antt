@@ -87,7 +87,3 @@ joined_begins text i out s start place t total g h e = (omega arith, rw (← (si
 pub joined_names : (text : List ℕ) (i : ℕ) (out : List Symbol) (s : State) (start : ℕ) (place : Place) (t : Step) (total : Result Section SourceFault) (n : Header) → Before text i out s start place t total → t.act ≡ Names n
     → Joined text i (out ++ header_symbols n place.get_line) start place t total
 joined_names text i out s start place t total n h e = (omega (arith, h.0), rw (← (grows text start i h.0 h.1)) (acted text i out s start place t (Names n) total h e))
-
-pub joined_as : (text : List ℕ) (i : ℕ) (out out2 : List Symbol) (start start2 : ℕ) (place place2 : Place) (t : Step) (total : Result Section SourceFault) → Joined text i out start place t total → out2 ≡ out → start2 ≡ start → place2 ≡ place
-    → Joined text i out2 start2 place2 t total
-joined_as text i out out2 start start2 place place2 t total h a b c = rw (a, b, c) h

@@ -67,9 +67,6 @@ stays_whole (Name n) k c e = absurd cc
 abbrev NotBad : Next → Type 0
 NotBad x = (f : Fault) → x ≡ Bad f → ⊥
 
-no_bad : (x : Next) (f : Fault) (A : Type 0) → NotBad x → x ≡ Bad f → A
-no_bad x f A h e = absurd (h f e)
-
 grown_bad : (o : Option Sign) → NotBad (grows o)
 grown_bad None f e = cc
 grown_bad (Some s) f e = cc

@@ -191,9 +191,6 @@ NotEnds x = x ≡ Ends → ⊥
 abbrev pub IsWhole : Mode → Type 0
 IsWhole m = (k : Sort) × (sort_of m ≡ Some k)
 
-ends_not : (m : Mode) (c : ℕ) → NotEnds (next m c) → next m c ≡ Ends → IsWhole m
-ends_not m c h e = absurd (h e)
-
 with_ends : (base : Base) (v c : ℕ) → NotEnds (digits_with base v c)
 with_ends base v c = cond_all NotEnds (ltb 4294967295 (v * digits_in base + digit_value c)) (Bad NumberOver32Bits) (Goes (Number base (v * digits_in base + digit_value c))) (λ e. cc) (λ e. cc)
 
