@@ -1,7 +1,7 @@
 # Completion of bcpl for bash.
 _bcpl() {
     local word=${COMP_WORDS[COMP_CWORD]} before=${COMP_WORDS[COMP_CWORD - 1]} options='-h --help -V --version' ending
-    local subcommands='compile generate run check interpret help'
+    local subcommands='compile generate run check show interpret help'
     COMPREPLY=()
     if [ "$COMP_CWORD" -eq 1 ]; then
         mapfile -t COMPREPLY < <(compgen -W "$subcommands $options" -- "$word")
@@ -9,13 +9,15 @@ _bcpl() {
     fi
     case $before in
         -s|-t) return ;;
+        --only) mapfile -t COMPREPLY < <(compgen -W 'all tokens tree names ocode intcode' -- "$word"); return ;;
     esac
     case ${COMP_WORDS[1]} in
         help) mapfile -t COMPREPLY < <(compgen -W "$subcommands" -- "$word"); return ;;
         compile|generate) mapfile -t COMPREPLY < <(compgen -W '-h --help' -- "$word"); return ;;
         run) options='-s -t -h --help' ending=b ;;
         check) options='-t -h --help' ending=b ;;
-        interpret) options='-s -t --sizes -h --help' ending=int ;;
+        show) options='--only -h --help' ending=b ;;
+        interpret) options='-s -t --sizes --trace -h --help' ending=int ;;
         *) return ;;
     esac
     case $word in

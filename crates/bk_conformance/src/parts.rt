@@ -5,7 +5,7 @@ use std::alloc::{AllocError, Global};
 use std::{fs, io};
 
 /// The files of cases, in their folders.
-const FILES: [&str; 26] = [
+const FILES: [&str; 27] = [
     "machine/bytes",
     "machine/faults",
     "machine/functions",
@@ -32,6 +32,7 @@ const FILES: [&str; 26] = [
     "programs/deep",
     "programs/ends",
     "programs/language",
+    "show/parts",
 ];
 
 /// The words of a command with the options of a case, on FILE.
@@ -128,12 +129,20 @@ fn is_run(alloc: Global, case: &Case) -> Result<bool, AllocError> {
     Ok(is_wanted(case, &run) && is_wanted(case, &used) && is_wanted(case, &plain))
 }
 
+/// Whether what is shown of a source is what a case wants.
+fn is_shown(alloc: Global, case: &Case) -> Result<bool, AllocError> {
+    let words = words_of(alloc, "show", case)?;
+    let outcome = outcome_of(alloc, words.as_slice(), case.b.as_slice(), b"")?;
+    Ok(is_wanted(case, &outcome))
+}
+
 /// Whether what results from a case is wanted.
 fn is_met(alloc: Global, part: &str, case: &Case) -> Result<bool, AllocError> {
     match part {
         "machine" => is_interpreted(alloc, case, case.int.as_slice()),
         "generator" => is_generated(alloc, case),
         "compiler" => is_compiled(alloc, case),
+        "show" => is_shown(alloc, case),
         _ => is_run(alloc, case),
     }
 }

@@ -25,4 +25,6 @@ mod SameParts
 mod CodeOfSources
 mod FilterCode
 mod TellLemmas
+mod ShowLemmas
+mod TraceLemmas
 mod LineLemmas

@@ -14,7 +14,7 @@ use Rattle.clap.specs.declared.error.kind.ErrorKind.TheVariants as kind
 use Rattle.bk_kit.specs.declared.command_line.LineFault.{LineFault}
 use Rattle.bk_kit.specs.declared.command_line.LineFault.TheVariants.{Help, Bad, Memory}
 use Rattle.bk_kit.specs.declared.orders.Order.{Order}
-use Rattle.bk_kit.specs.declared.orders.Order.TheVariants.{Compile, Generate, Run, Check, Interpret, Sizes}
+use Rattle.bk_kit.specs.declared.orders.Order.TheVariants.{Compile, Generate, Run, Check, Show, ShowInput, Interpret, Trace, Sizes}
 use Rattle.bk_base.specs.Bounds.{Bounds}
 use Rattle.bk_kit.specs.CommandLine.{ReadsNumber, ReadsLimits, AreLimits, truth_text, kit_command, IsOrder, RefusesValues, IsHelp, IsFaultOf, Refuses}
 
@@ -99,8 +99,24 @@ sizes_refused rows asked none given (Compile, limits, reads) = let e : 9 ≡ 7 =
 sizes_refused rows asked none given (Generate, limits, reads) = let e : 9 ≡ 8 = ap (λ (t : Text). length t) reads in omega (arith, e)
 sizes_refused rows asked none given (Run bounds file, limits, reads) = let e : 9 ≡ 3 = ap (λ (t : Text). length t) reads.0 in omega (arith, e)
 sizes_refused rows asked none given (Check turns file, limits, reads) = let e : 9 ≡ 5 = ap (λ (t : Text). length t) reads.0 in omega (arith, e)
+sizes_refused rows asked none given (Show part file, limits, reads) = let e : 9 ≡ 4 = ap (λ (t : Text). length t) reads.0 in omega (arith, e)
+sizes_refused rows asked none given (ShowInput part, limits, reads) = let e : 9 ≡ 4 = ap (λ (t : Text). length t) reads.0 in omega (arith, e)
 sizes_refused rows asked none given (Interpret bounds file, limits, reads) = let e : IsSome {T = Bool} None = subst (λ (o : Option Bool). IsSome o) none (given false reads.1) in cc
+sizes_refused rows asked none given (Trace bounds file, limits, reads) = let e : IsSome {T = Bool} None = subst (λ (o : Option Bool). IsSome o) none (given false reads.1) in cc
 sizes_refused rows asked none given (Sizes words file, limits, reads) = let e : IsSome {T = Bool} None = subst (λ (o : Option Bool). IsSome o) none (given true reads.1) in cc
+
+-- and where nothing says whether the steps are asked for
+pub trace_refused : (rows : List Row) (asked : Option Bool) → one_of (codes "sizes") rows ≡ Some (truth_text false) → asked ≡ None
+    → ((b : Bool) → one_of (codes "trace") rows ≡ Some (truth_text b) → IsSome asked) → RefusesValues (Some (codes "interpret", rows)) Bad
+trace_refused rows asked unasked none given (Compile, limits, reads) = let e : 9 ≡ 7 = ap (λ (t : Text). length t) reads in omega (arith, e)
+trace_refused rows asked unasked none given (Generate, limits, reads) = let e : 9 ≡ 8 = ap (λ (t : Text). length t) reads in omega (arith, e)
+trace_refused rows asked unasked none given (Run bounds file, limits, reads) = let e : 9 ≡ 3 = ap (λ (t : Text). length t) reads.0 in omega (arith, e)
+trace_refused rows asked unasked none given (Check turns file, limits, reads) = let e : 9 ≡ 5 = ap (λ (t : Text). length t) reads.0 in omega (arith, e)
+trace_refused rows asked unasked none given (Show part file, limits, reads) = let e : 9 ≡ 4 = ap (λ (t : Text). length t) reads.0 in omega (arith, e)
+trace_refused rows asked unasked none given (ShowInput part, limits, reads) = let e : 9 ≡ 4 = ap (λ (t : Text). length t) reads.0 in omega (arith, e)
+trace_refused rows asked unasked none given (Interpret bounds file, limits, reads) = let e : IsSome {T = Bool} None = subst (λ (o : Option Bool). IsSome o) none (given false reads.2) in cc
+trace_refused rows asked unasked none given (Trace bounds file, limits, reads) = let e : IsSome {T = Bool} None = subst (λ (o : Option Bool). IsSome o) none (given true reads.2) in cc
+trace_refused rows asked unasked none given (Sizes words file, limits, reads) = let e : Some (truth_text false) ≡ Some (truth_text true) = sym unasked ∙ reads.1 in cc
 
 -- and where they have no limits
 pub limits_refused : (rows : List Row) (read : Option Bounds) → read ≡ None → ((limits : Bounds) → AreLimits limits → ReadsLimits rows limits → IsSome read)
@@ -109,8 +125,12 @@ limits_refused rows read none given (Compile, limits, reads) = let e : 9 ≡ 7 =
 limits_refused rows read none given (Generate, limits, reads) = let e : 9 ≡ 8 = ap (λ (t : Text). length t) reads in omega (arith, e)
 limits_refused rows read none given (Run bounds file, limits, reads) = let e : 9 ≡ 3 = ap (λ (t : Text). length t) reads.0 in omega (arith, e)
 limits_refused rows read none given (Check turns file, limits, reads) = let e : 9 ≡ 5 = ap (λ (t : Text). length t) reads.0 in omega (arith, e)
+limits_refused rows read none given (Show part file, limits, reads) = let e : 9 ≡ 4 = ap (λ (t : Text). length t) reads.0 in omega (arith, e)
+limits_refused rows read none given (ShowInput part, limits, reads) = let e : 9 ≡ 4 = ap (λ (t : Text). length t) reads.0 in omega (arith, e)
 limits_refused rows read none given (Interpret bounds file, limits, reads) =
-    let e : IsSome {T = Bounds} None = subst (λ (o : Option Bounds). IsSome o) none (given bounds limits reads.2) in cc
+    let e : IsSome {T = Bounds} None = subst (λ (o : Option Bounds). IsSome o) none (given bounds limits reads.3) in cc
+limits_refused rows read none given (Trace bounds file, limits, reads) =
+    let e : IsSome {T = Bounds} None = subst (λ (o : Option Bounds). IsSome o) none (given bounds limits reads.3) in cc
 limits_refused rows read none given (Sizes words file, limits, reads) =
     let found = reads.2 in
     let bounds : Bounds = record { steps = found.0; words = words } in

@@ -12,7 +12,9 @@ use Rattle.bk_base.specs.declared.limit.TheConstants.{STEPS_MOST, STORE_LEAST, S
 use Rattle.bk_kit.specs.declared.command_line.LineFault.{LineFault}
 use Rattle.bk_kit.specs.declared.command_line.LineFault.TheVariants.{Help, Bad, Memory}
 use Rattle.bk_kit.specs.declared.orders.Order.{Order}
-use Rattle.bk_kit.specs.declared.orders.Order.TheVariants.{Compile, Generate, Run, Check, Interpret, Sizes}
+use Rattle.bk_kit.specs.declared.orders.Order.TheVariants.{Compile, Generate, Run, Check, Show, ShowInput, Interpret, Trace, Sizes}
+use Rattle.bk_show.specs.declared.part.Part.{Part}
+use Rattle.bk_show.specs.declared.part.Part.TheVariants as part
 
 -- `-s WORDS`, from 4096 to 4194304, 262144 unless it is given
 abbrev pub store_rule : Rule
@@ -45,6 +47,14 @@ turns_rule = record (new_rule (codes "turns")) {
 abbrev pub sizes_rule : Rule
 sizes_rule = record (new_rule (codes "sizes")) { long = Some (codes "sizes"); action = Some SetTrue }
 
+-- `--trace`
+abbrev pub trace_rule : Rule
+trace_rule = record (new_rule (codes "trace")) { long = Some (codes "trace"); action = Some SetTrue }
+
+-- `--only PART`, all unless it is given
+abbrev pub only_rule : Rule
+only_rule = record (new_rule (codes "only")) { long = Some (codes "only"); value_names = 1; defaults = codes "all" ∷ [] }
+
 -- FILE
 abbrev pub file_rule : Rule
 file_rule = record (new_rule (codes "file")) { required = true; value_names = 1; action = Some Set }
@@ -64,9 +74,13 @@ run_command = with_rule (with_rule (with_rule (new_app (codes "run")) store_rule
 abbrev pub check_command : App
 check_command = with_rule (with_rule (new_app (codes "check")) turns_rule) file_rule
 
--- `interpret [-s WORDS] [-t STEPS] [--sizes] FILE`
+-- `show [--only PART] FILE`
+abbrev pub show_command : App
+show_command = with_rule (with_rule (new_app (codes "show")) only_rule) file_rule
+
+-- `interpret [-s WORDS] [-t STEPS] [--sizes] [--trace] FILE`
 abbrev pub interpret_command : App
-interpret_command = with_rule (with_rule (with_rule (with_rule (new_app (codes "interpret")) store_rule) steps_rule) sizes_rule) file_rule
+interpret_command = with_rule (with_rule (with_rule (with_rule (with_rule (new_app (codes "interpret")) store_rule) steps_rule) sizes_rule) trace_rule) file_rule
 
 -- `Command::version`
 abbrev pub with_version : App → App
@@ -75,21 +89,34 @@ with_version app = record app { top = record app.top { has_version = true } }
 -- `bcpl`, which reports its version
 abbrev pub kit_command : App
 kit_command =
-    with_version (with_subcommand (with_subcommand (with_subcommand (with_subcommand (with_subcommand (new_app (codes "bcpl")) compile_command.top) generate_command.top) run_command.top) check_command.top) interpret_command.top)
+    with_version (with_subcommand (with_subcommand (with_subcommand (with_subcommand (with_subcommand (with_subcommand (new_app (codes "bcpl"))
+    compile_command.top) generate_command.top) run_command.top) check_command.top) show_command.top) interpret_command.top)
 
--- the name of FILE; the filters have none
+-- the name of FILE; an order that reads the input in its place has none
 abbrev pub file_name : Order → Option (List ℕ)
 file_name Compile = None
 file_name Generate = None
 file_name (Run limits name) = Some (string_bytes name)
 file_name (Check turns name) = Some (string_bytes name)
+file_name (Show part name) = Some (string_bytes name)
+file_name (ShowInput part) = None
 file_name (Interpret limits name) = Some (string_bytes name)
+file_name (Trace limits name) = Some (string_bytes name)
 file_name (Sizes words name) = Some (string_bytes name)
 
 -- the text of a truth value
 abbrev pub truth_text : Bool → Text
 truth_text true = codes "true"
 truth_text false = codes "false"
+
+-- the name of a part
+abbrev pub part_text : Part → Text
+part_text part.All = codes "all"
+part_text part.Tokens = codes "tokens"
+part_text part.Tree = codes "tree"
+part_text part.Names = codes "names"
+part_text part.Ocode = codes "ocode"
+part_text part.Intcode = codes "intcode"
 
 -- the number that a text spells in decimal digits
 abbrev pub ReadsNumber : Option Text → ℕ → Type 0
@@ -113,8 +140,16 @@ Reads (Some found) (Run limits file) =
     (found.0 ≡ codes "run") × ReadsLimits found.1 limits × (first_of (codes "file") found.1 ≡ Some (string_bytes file))
 Reads (Some found) (Check turns file) =
     (found.0 ≡ codes "check") × ReadsNumber (one_of (codes "turns") found.1) turns × (first_of (codes "file") found.1 ≡ Some (string_bytes file))
+Reads (Some found) (Show part file) =
+    (found.0 ≡ codes "show") × (first_of (codes "only") found.1 ≡ Some (part_text part))
+    × (first_of (codes "file") found.1 ≡ Some (string_bytes file)) × (string_bytes file ≢ codes "-")
+Reads (Some found) (ShowInput part) =
+    (found.0 ≡ codes "show") × (first_of (codes "only") found.1 ≡ Some (part_text part)) × (first_of (codes "file") found.1 ≡ Some (codes "-"))
 Reads (Some found) (Interpret limits file) =
-    (found.0 ≡ codes "interpret") × (one_of (codes "sizes") found.1 ≡ Some (truth_text false))
+    (found.0 ≡ codes "interpret") × (one_of (codes "sizes") found.1 ≡ Some (truth_text false)) × (one_of (codes "trace") found.1 ≡ Some (truth_text false))
+    × ReadsLimits found.1 limits × (first_of (codes "file") found.1 ≡ Some (string_bytes file))
+Reads (Some found) (Trace limits file) =
+    (found.0 ≡ codes "interpret") × (one_of (codes "sizes") found.1 ≡ Some (truth_text false)) × (one_of (codes "trace") found.1 ≡ Some (truth_text true))
     × ReadsLimits found.1 limits × (first_of (codes "file") found.1 ≡ Some (string_bytes file))
 Reads (Some found) (Sizes words file) =
     (found.0 ≡ codes "interpret") × (one_of (codes "sizes") found.1 ≡ Some (truth_text true))
@@ -130,7 +165,10 @@ HasLimits Compile = ⊤
 HasLimits Generate = ⊤
 HasLimits (Run limits file) = AreLimits limits
 HasLimits (Check turns file) = (1 ≤ turns) × (turns ≤ STEPS_MOST)
+HasLimits (Show part file) = ⊤
+HasLimits (ShowInput part) = ⊤
 HasLimits (Interpret limits file) = AreLimits limits
+HasLimits (Trace limits file) = AreLimits limits
 HasLimits (Sizes words file) = (STORE_LEAST ≤ words) × (words ≤ STORE_MOST)
 
 -- the subcommand and its values are those of an order

@@ -20,5 +20,7 @@ pub mod SourceCode
 pub mod Generating
 pub mod Sizes
 pub mod Checking
+pub mod Showing
+pub mod Tracing
 pub mod Serving
 pub mod CommandLine

@@ -5,10 +5,11 @@ ghost use Rattle.bk_base.specs.Bounds.{Bounds};
 ghost use Rattle.clap.specs.Values.{kind_of};
 ghost use Rattle.clap.specs.Words.{Text, app_of, rule_of, rows_of, found_of, first_of, one_of, subcommand_of};
 ghost use Rattle.clap.specs.declared.builder.Command.TheViews.{out-Command as fields_of};
-ghost use Rattle.bk_kit.specs.CommandLine.{store_rule, steps_rule, turns_rule, sizes_rule, file_rule, compile_command, generate_command, run_command, check_command, interpret_command, kit_command, truth_text, ReadsNumber, ReadsLimits, Reads, AreLimits, RefusesValues, IsFaultOf, Refuses};
+ghost use Rattle.bk_kit.specs.CommandLine.{store_rule, steps_rule, turns_rule, sizes_rule, trace_rule, only_rule, file_rule, compile_command, generate_command, run_command, check_command, show_command, interpret_command, kit_command, truth_text, part_text, ReadsNumber, ReadsLimits, Reads, AreLimits, RefusesValues, IsFaultOf, Refuses};
 
 use crate::orders::Order;
 use bk_base::Limits;
+use bk_show::Part;
 use clap::error::ErrorKind;
 use clap::{Arg, ArgAction, ArgMatches, Command, value_parser};
 use std::alloc::{AllocError, Global};
@@ -22,6 +23,7 @@ const KIT_NOTES: &str = "\
 Examples:
   bcpl check examples/queens.b
   bcpl run examples/queens.b
+  bcpl show examples/six.b
   bcpl compile < queens.b > queens.ocode
   bcpl generate < queens.ocode > queens.int
   bcpl interpret queens.int
@@ -81,13 +83,24 @@ Examples:
   bcpl check examples/queens.b
   echo '2 * (3 + 4)' | bcpl check -t 100000 examples/calculator.b";
 
+/// What is below the help on `show`.
+const SHOW_NOTES: &str = "\
+PART is all, tokens, tree, names, ocode or intcode. A section is shown once it is
+accepted. The first one that is refused ends the text; a line on the error stream
+says why. FILE may be - for the input.
+
+Examples:
+  bcpl show examples/six.b
+  bcpl show --only tree examples/queens.b";
+
 /// What is below the help on `interpret`.
 const INTERPRET_NOTES: &str = "\
 Nothing is run of a text that is refused.
 
 Examples:
   bcpl interpret queens.int
-  bcpl interpret --sizes queens.int";
+  bcpl interpret --sizes queens.int
+  bcpl interpret --trace six.int";
 
 /// Why a command line gives no order.
 #[derive(Debug, Drop)]
@@ -163,6 +176,29 @@ fn sizes_flag<'a>(alloc: Global) -> Arg<'a>
         .action(ArgAction::SetTrue)
 }
 
+/// `--trace`
+fn trace_flag<'a>(alloc: Global) -> Arg<'a>
+    ensures rule { rule_of result ≡ trace_rule }
+    ensures local { result.global ≡ false }
+{
+    Arg::new(alloc, "trace")
+        .long("trace")
+        .help("Write a line on the error stream for each step")
+        .action(ArgAction::SetTrue)
+}
+
+/// `--only PART`
+fn only_option<'a>(alloc: Global) -> Arg<'a>
+    ensures rule { rule_of result ≡ only_rule }
+    ensures local { result.global ≡ false }
+{
+    Arg::new(alloc, "only")
+        .long("only")
+        .value_name("PART")
+        .help("The part that is shown")
+        .default_value("all")
+}
+
 /// FILE
 fn file_argument<'a>(alloc: Global, help: &'a str) -> Arg<'a>
     ensures rule { rule_of result ≡ file_rule }
@@ -222,6 +258,21 @@ fn check_subcommand<'a>(alloc: Global) -> Result<Command<'a>, AllocError>
     )
 }
 
+/// `show`
+fn show_subcommand<'a>(alloc: Global) -> Result<Command<'a>, AllocError>
+    ensures { IfOk result (λ command. (app_of command ≡ show_command) × ((fields_of command).has_globals ≡ false)) }
+{
+    Ok(
+        Command::new(alloc, "show")
+            .arg(only_option(alloc))?
+            .arg(file_argument(alloc, "The BCPL source, or - for the input"))?
+            .after_help(SHOW_NOTES)
+            .about(
+                "Writes the tokens, the tree, the names, the OCODE and the INTCODE of the BCPL source in FILE.",
+            ),
+    )
+}
+
 /// `interpret`
 fn interpret_subcommand<'a>(alloc: Global) -> Result<Command<'a>, AllocError>
     ensures { IfOk result (λ command. (app_of command ≡ interpret_command) × ((fields_of command).has_globals ≡ false)) }
@@ -231,6 +282,7 @@ fn interpret_subcommand<'a>(alloc: Global) -> Result<Command<'a>, AllocError>
             .arg(store_option(alloc))?
             .arg(steps_option(alloc))?
             .arg(sizes_flag(alloc))?
+            .arg(trace_flag(alloc))?
             .arg(file_argument(alloc, "The INTCODE"))?
             .after_help(INTERPRET_NOTES)
             .about("Runs the INTCODE in FILE. Input and output are those of the program."),
@@ -247,6 +299,7 @@ fn kit<'a>(alloc: Global) -> Result<Command<'a>, AllocError>
             .subcommand(generate_subcommand(alloc))?
             .subcommand(run_subcommand(alloc)?)?
             .subcommand(check_subcommand(alloc)?)?
+            .subcommand(show_subcommand(alloc)?)?
             .subcommand(interpret_subcommand(alloc)?)?
             .version(VERSION)
             .bin_name("bcpl")?
@@ -289,6 +342,47 @@ fn sizes_asked(matches: &ArgMatches<'_>) -> Option<bool>
     matches.get_one::<bool>("sizes")
 }
 
+/// The part of this name.
+fn part_named(name: &str) -> Option<Part>
+    ensures named { IfSome result (λ part. name.now ≡ part_text part) }
+    ensures given { (part : Part) → name.now ≡ part_text part → IsSome result }
+{
+    match name {
+        "all" => Some(Part::All),
+        "tokens" => Some(Part::Tokens),
+        "tree" => Some(Part::Tree),
+        "names" => Some(Part::Names),
+        "ocode" => Some(Part::Ocode),
+        "intcode" => Some(Part::Intcode),
+        _ => None,
+    }
+}
+
+/// The name of the part that is shown.
+fn only_of<'a>(matches: &ArgMatches<'a>) -> Option<&'a str>
+    ensures reads { IfSome result (λ name. first_of (codes "only") (rows_of (found_of matches.now)) ≡ Some name.now) }
+    ensures given { (name : Text) → first_of (codes "only") (rows_of (found_of matches.now)) ≡ Some name → IsSome result }
+{
+    matches.get_str("only")
+}
+
+/// The part that is shown.
+fn part_of(matches: &ArgMatches<'_>) -> Option<Part>
+    ensures reads { IfSome result (λ part. first_of (codes "only") (rows_of (found_of matches.now)) ≡ Some (part_text part)) }
+    ensures given { (part : Part) → first_of (codes "only") (rows_of (found_of matches.now)) ≡ Some (part_text part) → IsSome result }
+{
+    let name = only_of(matches)?;
+    part_named(name)
+}
+
+/// Whether the steps are asked for.
+fn trace_asked(matches: &ArgMatches<'_>) -> Option<bool>
+    ensures reads { IfSome result (λ asked. one_of (codes "trace") (rows_of (found_of matches.now)) ≡ Some (truth_text asked)) }
+    ensures given { (asked : Bool) → one_of (codes "trace") (rows_of (found_of matches.now)) ≡ Some (truth_text asked) → IsSome result }
+{
+    matches.get_one::<bool>("trace")
+}
+
 /// What the values of `run` ask for.
 fn run_order(alloc: Global, matches: &ArgMatches<'_>) -> Result<Order, LineFault>
     ensures reads { IfOk result (Reads (Some (codes "run", rows_of (found_of matches.now)))) }
@@ -309,6 +403,20 @@ fn check_order(alloc: Global, matches: &ArgMatches<'_>) -> Result<Order, LineFau
     Ok(Order::Check(turns, String::from_str(alloc, file)?))
 }
 
+/// What the values of `show` ask for.
+fn show_order(alloc: Global, matches: &ArgMatches<'_>) -> Result<Order, LineFault>
+    ensures reads { IfOk result (Reads (Some (codes "show", rows_of (found_of matches.now)))) }
+    ensures refuses { IfErr result (RefusesValues (Some (codes "show", rows_of (found_of matches.now)))) }
+{
+    let part = part_of(matches).ok_or(LineFault::Bad)?;
+    let file = file_of(matches).ok_or(LineFault::Bad)?;
+    if file == "-" {
+        Ok(Order::ShowInput(part))
+    } else {
+        Ok(Order::Show(part, String::from_str(alloc, file)?))
+    }
+}
+
 /// What the values of `interpret` ask for.
 fn interpret_order(alloc: Global, matches: &ArgMatches<'_>) -> Result<Order, LineFault>
     ensures reads { IfOk result (Reads (Some (codes "interpret", rows_of (found_of matches.now)))) }
@@ -317,9 +425,13 @@ fn interpret_order(alloc: Global, matches: &ArgMatches<'_>) -> Result<Order, Lin
     let limits = limits_of(matches).ok_or(LineFault::Bad)?;
     let file = file_of(matches).ok_or(LineFault::Bad)?;
     let sizes = sizes_asked(matches).ok_or(LineFault::Bad)?;
-    let file = String::from_str(alloc, file)?;
     if sizes {
-        Ok(Order::Sizes(limits.words(), file))
+        return Ok(Order::Sizes(limits.words(), String::from_str(alloc, file)?));
+    }
+    let trace = trace_asked(matches).ok_or(LineFault::Bad)?;
+    let file = String::from_str(alloc, file)?;
+    if trace {
+        Ok(Order::Trace(limits, file))
     } else {
         Ok(Order::Interpret(limits, file))
     }
@@ -341,6 +453,9 @@ fn order_of(alloc: Global, name: &str, matches: &ArgMatches<'_>) -> Result<Order
     }
     if name == "check" {
         return check_order(alloc, matches);
+    }
+    if name == "show" {
+        return show_order(alloc, matches);
     }
     if name == "interpret" {
         return interpret_order(alloc, matches);

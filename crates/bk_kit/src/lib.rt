@@ -14,8 +14,10 @@ mod reading;
 mod runner;
 mod section;
 mod service;
+mod showing;
 mod source;
 mod status;
+mod tracing;
 
 pub use checker::{NotChecked, Refusal, check_source};
 pub use command_line::{LineFault, order};
@@ -26,4 +28,6 @@ pub use laws::{codes_run, filters_write_code, one_after_another, sources_run};
 pub use orders::Order;
 pub use runner::{interpret, sizes};
 pub use service::{refuse, serve};
+pub use showing::show_source;
 pub use source::run_source;
+pub use tracing::trace;

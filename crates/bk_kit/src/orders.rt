@@ -1,5 +1,6 @@
 //! What a command line asks for.
 use bk_base::Limits;
+use bk_show::Part;
 
 /// What a command line asks for, with the name of FILE where there is one.
 #[derive(Debug, Drop, PartialEq, Eq)]
@@ -12,8 +13,14 @@ pub enum Order {
     Run(Limits, String),
     /// `bcpl check`: do what the BCPL source in FILE means, in so many turns, and report what goes wrong.
     Check(u64, String),
+    /// `bcpl show`: write what the phases of the compiler make of the BCPL source in FILE.
+    Show(Part, String),
+    /// `bcpl show -`: the same of the source of the input.
+    ShowInput(Part),
     /// `bcpl interpret`: run the INTCODE in FILE.
     Interpret(Limits, String),
+    /// `bcpl interpret --trace`: the same, with a line on the error stream for each step.
+    Trace(Limits, String),
     /// `bcpl interpret --sizes`: report what the INTCODE in FILE needs in a store of so many words. The steps that `-t` gives are
     /// not used.
     Sizes(u32, String),
@@ -23,16 +30,18 @@ impl Order {
     ghost use Rattle.std.specs.Prelude.{◌≡◌, IfSome, IfNone, None, Some};
     ghost use Rattle.bk_kit.specs.CommandLine.{file_name};
 
-    /// The name of FILE; none for the two filters, which read the input.
+    /// The name of FILE; none where the input is read in its place.
     pub fn file(&self) -> Option<&str>
         ensures named { IfSome result (λ name. file_name self.now ≡ Some name.now) }
         ensures none { IfNone result (file_name self.now ≡ None) }
     {
         match self {
-            Order::Compile | Order::Generate => None,
+            Order::Compile | Order::Generate | Order::ShowInput(_) => None,
             Order::Run(_, file)
             | Order::Check(_, file)
+            | Order::Show(_, file)
             | Order::Interpret(_, file)
+            | Order::Trace(_, file)
             | Order::Sizes(_, file) => Some(file.as_str()),
         }
     }

@@ -11,8 +11,10 @@ use crate::compiler::compile;
 use crate::generator::generate_all;
 use crate::orders::Order;
 use crate::runner::{interpret, sizes};
+use crate::showing::show_source;
 use crate::source::run_source;
 use crate::status::{tell_check, tell_done, tell_run, tell_text};
+use crate::tracing::trace;
 use bk_base::{ByteIn, ByteOut};
 use std::alloc::Global;
 
@@ -47,8 +49,20 @@ pub fn serve<F: ByteIn, I: ByteIn, O: ByteOut, E: ByteOut>(
             let answer = check_source(alloc, file, *turns, input, out);
             tell_check(&answer, name.as_str(), err)
         }
+        Order::Show(part, _) => {
+            let answer = show_source(alloc, file, *part, out);
+            tell_done(&answer, err)
+        }
+        Order::ShowInput(part) => {
+            let answer = show_source(alloc, input, *part, out);
+            tell_done(&answer, err)
+        }
         Order::Interpret(limits, _) => {
             let answer = interpret(alloc, file, *limits, input, out);
+            tell_run(&answer, err)
+        }
+        Order::Trace(limits, _) => {
+            let answer = trace(alloc, file, *limits, input, out, err);
             tell_run(&answer, err)
         }
         Order::Sizes(words, _) => {

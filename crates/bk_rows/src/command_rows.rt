@@ -14,7 +14,7 @@ const HI: &[u8] = b"1 LL2 SP4 LIG6 K2 X4 2 C3 C72 C73 C33 G1L1 Z";
 
 #[test]
 fn command_lines_refused(rt: HostRuntime) -> Result<(), Fail> {
-    let rows: [&[&str]; 21] = [
+    let rows: [&[&str]; 25] = [
         &["bcpl"],
         &["bcpl", "run"],
         &["bcpl", "run", "f", "g"],
@@ -36,6 +36,10 @@ fn command_lines_refused(rt: HostRuntime) -> Result<(), Fail> {
         &["bcpl", "generate", "-s", "5000"],
         &["bcpl", "Interpret", "f"],
         &["bcpl", "-s", "5000", "interpret", "f"],
+        &["bcpl", "run", "--trace", "f"],
+        &["bcpl", "show"],
+        &["bcpl", "show", "--only", "x", "f"],
+        &["bcpl", "show", "--only", "tree", "--only", "tree", "f"],
     ];
     for words in rows {
         check(
@@ -50,6 +54,40 @@ fn command_lines_refused(rt: HostRuntime) -> Result<(), Fail> {
         )?;
     }
     Ok(())
+}
+
+const SIX: &[u8] = b"1 L6 X4 G1L1 Q16 Z";
+
+/// The lines of the steps of that program, worked out by hand.
+const STEPS: &[u8] =
+    b"    step       at  word                     A           B        P        C  what it does
+       1        1  LIG1                  1034           0     1036        2  B := A; A := G!1
+       2        2  K0                    1034           0     1036     1034  calls A with a frame at P + 0
+       3     1034  L6                       6        1034     1036     1035  B := A; A := 6
+       4     1035  X4                       6        1034     1036        3  C := P!1; P := P!0
+       5        3  X22                                                       ends with 0
+";
+
+#[test]
+fn steps_are_traced(rt: HostRuntime) -> Result<(), Fail> {
+    let words = ["bcpl", "interpret", "--trace", "f"];
+    check(&rt, rt.alloc(), &words, SIX, b"", 0, b"", STEPS)?;
+    let words = ["bcpl", "interpret", "--sizes", "--trace", "f"];
+    let sizes = b"image 1036, frame 16\n";
+    check(&rt, rt.alloc(), &words, SIX, b"", 0, sizes, b"")
+}
+
+#[test]
+fn the_input_is_shown(rt: HostRuntime) -> Result<(), Fail> {
+    let words = ["bcpl", "show", "--only", "names", "-"];
+    let names = b"\
+section 1, from line 1
+
+names
+  line  name            meaning
+     1  A               function, static word
+";
+    check(&rt, rt.alloc(), &words, b"", b"LET A() = 1", 0, names, b"")
 }
 
 #[test]

@@ -1,0 +1,43 @@
+-- A run that is made of runs of one step.
+use Rattle.std.proofs.Common.{◌≡◌, ◌≢◌, ℕ, ◌+◌, List, refl, sym, subst}
+use Rattle.bk_base.specs.Devices.{Begins}
+use Rattle.bk_base.specs.declared.run_end.End.{End}
+use Rattle.bk_base.specs.declared.run_end.End.TheVariants.{Status, DivideByZero, StoreLimit, StepLimit, BadOperation, ReadFault, WriteFault}
+use Rattle.bk_intcode.specs.declared.registers.Registers.{Registers}
+use Rattle.bk_intcode.specs.Runs.{Told, Paused, Went, Ran, Blames}
+use Rattle.bk_intcode.proofs.RunSteps.{went_on, went_more}
+
+module _ (Holds : List ℕ → Type 0) where
+  -- unless the output fails, the flush at the end changes nothing
+  went_so : (e : End) (n : ℕ) (store : List ℕ) (r : Registers) (store' : List ℕ) (r' : Registers) (old new : Told) → e ≢ WriteFault
+      → Ran Holds e n store r store' r' old new → Went Holds e n store r store' r' old new
+  went_so WriteFault n store r store' r' old new sound ran = absurd (sound refl)
+  went_so StepLimit n store r store' r' old new sound ran = ran
+  went_so ReadFault n store r store' r' old new sound ran = ran
+  went_so (Status v) n store r store' r' old new sound ran = ran
+  went_so DivideByZero n store r store' r' old new sound ran = ran
+  went_so StoreLimit n store r store' r' old new sound ran = ran
+  went_so BadOperation n store r store' r' old new sound ran = ran
+
+  ran_so : (e : End) (n : ℕ) (store : List ℕ) (r : Registers) (store' : List ℕ) (r' : Registers) (old new : Told) → e ≢ WriteFault
+      → Went Holds e n store r store' r' old new → Ran Holds e n store r store' r' old new
+  ran_so WriteFault n store r store' r' old new sound went = absurd (sound refl)
+  ran_so StepLimit n store r store' r' old new sound went = went
+  ran_so ReadFault n store r store' r' old new sound went = went
+  ran_so (Status v) n store r store' r' old new sound went = went
+  ran_so DivideByZero n store r store' r' old new sound went = went
+  ran_so StoreLimit n store r store' r' old new sound went = went
+  ran_so BadOperation n store r store' r' old new sound went = went
+
+  module _ (k j : ℕ) (store : List ℕ) (r : Registers) (store' : List ℕ) (r' : Registers) (store'' : List ℕ) (r'' : Registers) (old mid new : Told)
+      (first : Paused Holds k store r store' r' old mid) (passes : Begins mid.passed new.passed) where
+    -- one step more, and the run goes on
+    pub paused_more : Ran Holds StepLimit 1 store' r' store'' r'' mid new → Paused Holds (k + 1) store r store'' r'' old new
+    paused_more ran = went_on Holds k 1 store r store' r' old mid new first passes StepLimit store'' r'' ran
+
+    -- one step more, at which it ends
+    pub ran_more : (e : End) → e ≢ StepLimit → e ≢ WriteFault → Ran Holds e 1 store' r' store'' r'' mid new → Ran Holds e ((k + 1) + j) store r store'' r'' old new
+    ran_more e ends sound ran =
+        ran_so e ((k + 1) + j) store r store'' r'' old new sound
+        (went_more Holds (k + 1) j store r old new e store'' r'' ends
+        (went_on Holds k 1 store r store' r' old mid new first passes e store'' r'' (went_so e 1 store' r' store'' r'' mid new sound ran)))

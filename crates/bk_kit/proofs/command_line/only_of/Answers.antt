@@ -1,0 +1,11 @@
+use Rattle.std.proofs.Common.{codes}
+use Rattle.clap.specs.Words.{found_of}
+use Rattle.clap.proofs.WalkLemmas.{first_value-rows}
+use Rattle.bk_kit.proofs.LineLemmas.{text_of, text_given}
+use Rattle.bk_kit.proofs.command_line.only_of.Goals as goal
+
+pub returns-clause-reads : goal.returns-clause-reads
+returns-clause-reads c = text_of c.get_str.result _ _ c.get_str.ensures (first_value-rows (found_of c.args.matches.now) (codes "only"))
+
+pub returns-clause-given : goal.returns-clause-given
+returns-clause-given c name there = text_given c.get_str.result _ _ name c.get_str.ensures (first_value-rows (found_of c.args.matches.now) (codes "only")) there

@@ -1,0 +1,11 @@
+use Rattle.std.proofs.Common.{codes}
+use Rattle.clap.specs.Words.{found_of}
+use Rattle.clap.proofs.WalkLemmas.{one_text-rows}
+use Rattle.bk_kit.proofs.LineLemmas.{truth_of, truth_given}
+use Rattle.bk_kit.proofs.command_line.trace_asked.Goals as goal
+
+pub returns-clause-reads : goal.returns-clause-reads
+returns-clause-reads c = truth_of _ _ _ c.get_one.result (one_text-rows (found_of c.args.matches.now) (codes "trace")) c.get_one.ensures.none c.get_one.ensures.value
+
+pub returns-clause-given : goal.returns-clause-given
+returns-clause-given c asked is = truth_given _ _ _ c.get_one.result asked (one_text-rows (found_of c.args.matches.now) (codes "trace")) is c.get_one.ensures.value

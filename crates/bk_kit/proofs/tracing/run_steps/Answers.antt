@@ -1,0 +1,30 @@
+use Rattle.std.proofs.Common.{rules, ◌≡◌, ◌≢◌, ◌+◌, ◌-◌, ℕ, arith}
+use Rattle.bk_base.specs.DeviceLaws.{Begins-trans}
+use Rattle.bk_base.specs.declared.run_end.End.TheVariants.{StepLimit}
+use Rattle.bk_intcode.specs.Runs.{HeldBy, Ran}
+use Rattle.bk_kit.proofs.TraceLemmas.{paused_more, ran_more}
+use Rattle.bk_kit.proofs.tracing.run_steps.Goals as goal
+
+pub returns-then-ne-clause-ran : goal.returns-then-ne-clause-ran
+returns-then-ne-clause-ran g c = λ sound.
+    let count : c.args.steps ≡ (c.loop-i.i + 1) + (c.args.steps - (c.loop-i.i + 1)) = omega arith in
+    let ends : c.run_step-end.result ≢ StepLimit = search rules in
+    rw count (ran_more (HeldBy g.I.ByteIn.held) c.loop-i.i (c.args.steps - (c.loop-i.i + 1)) _ _ _ _ _ _ _ _ _ c.loop-i.invariant.paused c.run_step-end.ensures.passes c.run_step-end.result ends sound c.run_step-end.ensures.ran)
+
+pub returns-then-ne-clause-passes : goal.returns-then-ne-clause-passes
+returns-then-ne-clause-passes g c = Begins-trans _ _ _ c.loop-i.invariant.passes c.run_step-end.ensures.passes
+
+pub returns-then-ne-clause-told : goal.returns-then-ne-clause-told
+returns-then-ne-clause-told g c = (Begins-trans _ _ _ c.loop-i.invariant.told.0 c.run_step-end.ensures.told.0, Begins-trans _ _ _ c.loop-i.invariant.told.1 c.run_step-end.ensures.told.1)
+
+pub loop-i-preserved : goal.loop-i-preserved
+loop-i-preserved g c =
+    let goes : c.run_step-end.result ≡ StepLimit = search rules in
+    record {
+      paused = paused_more (HeldBy g.I.ByteIn.held) c.loop-i.i 0 _ _ _ _ _ _ _ _ _ c.loop-i.invariant.paused c.run_step-end.ensures.passes (rw goes at c.run_step-end.ensures.ran);
+      passes = Begins-trans _ _ _ c.loop-i.invariant.passes c.run_step-end.ensures.passes;
+      fresh = c.run_step-end.ensures.paused goes;
+      unblamed = search rules;
+      flushed = λ some. (search rules, search rules);
+      told = (Begins-trans _ _ _ c.loop-i.invariant.told.0 c.run_step-end.ensures.told.0, Begins-trans _ _ _ c.loop-i.invariant.told.1 c.run_step-end.ensures.told.1);
+    }

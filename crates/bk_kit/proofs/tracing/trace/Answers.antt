@@ -1,0 +1,26 @@
+use Rattle.bk_base.specs.DeviceLaws.{Begins-trans}
+use Rattle.bk_intcode.specs.State.{store_of, registers_of}
+use Rattle.bk_kit.proofs.tracing.trace.Goals as goal
+
+pub returns-clause-traced : goal.returns-clause-traced
+returns-clause-traced g c =
+    let loads = c.in_ok-machine.ensures.loaded in (
+      λ sound.
+          let ran = rw (loads.store, loads.registers, c.words.ensures.value, c.steps.ensures.value) at c.run_steps.ensures.ran sound in
+          record {
+            all = loads.all;
+            loadable = rw c.words.ensures.value at loads.loadable;
+            store = store_of c.run_steps.new.machine;
+            registers = registers_of c.run_steps.new.machine;
+            ran = ran;
+          },
+      c.run_steps.ensures.passes,
+      c.run_steps.ensures.flushed,
+      c.run_steps.ensures.cause,
+    )
+
+pub returns-clause-told : goal.returns-clause-told
+returns-clause-told g c = (
+  Begins-trans _ _ _ c.tell_heading.ensures.grows c.run_steps.ensures.told.0,
+  Begins-trans _ _ _ c.tell_heading.ensures.passes c.run_steps.ensures.told.1,
+)

@@ -1,0 +1,126 @@
+//! A run of INTCODE with a line for each of its steps.
+ghost use Rattle.std.specs.Prelude.{◌≡◌, ◌≢◌, ◌≤◌, None, if◌then◌else◌};
+ghost use Rattle.bk_base.specs.declared.run_end.End.TheVariants.{StepLimit, WriteFault};
+ghost use Rattle.bk_base.specs.Devices.{Begins};
+ghost use Rattle.bk_intcode.specs.Runs.{HeldBy, Ran, Blames};
+ghost use Rattle.bk_intcode.specs.State.{store_of, registers_of, end_of};
+ghost use Rattle.bk_kit.specs.Interpreting.{is_read};
+ghost use Rattle.bk_kit.specs.Tracing.{Traced};
+
+use crate::code::load_code;
+use crate::kit_fault::KitFault;
+use bk_base::{ByteIn, ByteOut, End, Limits};
+use bk_intcode::Machine;
+use bk_show::{Step, put_heading, put_step};
+use std::alloc::Global;
+
+/// Writes the line above the steps on the error stream, and passes it on. A failure of that stream, or refused memory, changes nothing.
+fn tell_heading<E: ByteOut>(alloc: Global, err: &mut E)
+    ensures grows { Begins (E.taken err.old) (E.taken err.new) }
+    ensures passes { Begins (E.passed err.old) (E.passed err.new) }
+{
+    if put_heading(alloc, err).is_ok() {
+        let _passed = err.flush();
+    }
+}
+
+/// Writes the line of a step on the error stream, in the same way, and passes it on.
+fn tell_step<E: ByteOut>(alloc: Global, step: &Step, err: &mut E)
+    ensures grows { Begins (E.taken err.old) (E.taken err.new) }
+    ensures passes { Begins (E.passed err.old) (E.passed err.new) }
+{
+    if put_step(alloc, step, err).is_ok() {
+        let _passed = err.flush();
+    }
+}
+
+/// The step of this number, before it is done.
+fn next_step(machine: &Machine, number: u64) -> Step {
+    let at = machine.registers().c;
+    Step {
+        number,
+        at,
+        word: machine.word(at),
+        next: machine.word(at.wrapping_add(1)),
+        after: None,
+    }
+}
+
+/// One step, with its line.
+fn run_step<I: ByteIn, O: ByteOut, E: ByteOut>(
+    alloc: Global,
+    machine: &mut Machine,
+    number: u64,
+    input: &mut I,
+    out: &mut O,
+    err: &mut E,
+) -> End
+    requires fresh { end_of machine.old ≡ None }
+    ensures ran { Ran (HeldBy I.held) result 1
+        (store_of machine.old) (registers_of machine.old) (store_of machine.new) (registers_of machine.new)
+        (record { left = I.left input.old; held = I.held input.old; ended = I.ended input.old; taken = O.taken out.old; passed = O.passed out.old })
+        (record { left = I.left input.new; held = I.held input.new; ended = I.ended input.new; taken = O.taken out.new; passed = O.passed out.new }) }
+    ensures flushed { result ≢ WriteFault → O.passed out.new ≡ O.taken out.new }
+    ensures passes { Begins (O.passed out.old) (O.passed out.new) }
+    ensures cause { Blames result (I.faults input.old) (I.faults input.new) (O.faults out.new) }
+    ensures paused { result ≡ StepLimit → end_of machine.new ≡ None }
+    ensures told { Begins (E.taken err.old) (E.taken err.new) × Begins (E.passed err.old) (E.passed err.new) }
+{
+    let mut step = next_step(machine, number);
+    let end = machine.run(1, input, out);
+    if end == End::StepLimit {
+        step.after = Some(machine.registers());
+    }
+    tell_step(alloc, &step, err);
+    end
+}
+
+/// Up to so many steps, at least one, each with its line.
+fn run_steps<I: ByteIn, O: ByteOut, E: ByteOut>(
+    alloc: Global,
+    machine: &mut Machine,
+    steps: u64,
+    input: &mut I,
+    out: &mut O,
+    err: &mut E,
+) -> End
+    requires fresh { end_of machine.old ≡ None }
+    requires some { 1 ≤ steps }
+    ensures ran { result ≢ WriteFault → Ran (HeldBy I.held) result steps
+        (store_of machine.old) (registers_of machine.old) (store_of machine.new) (registers_of machine.new)
+        (record { left = I.left input.old; held = I.held input.old; ended = I.ended input.old; taken = O.taken out.old; passed = O.passed out.old })
+        (record { left = I.left input.new; held = I.held input.new; ended = I.ended input.new; taken = O.taken out.new; passed = O.passed out.new }) }
+    ensures flushed { result ≢ WriteFault → O.passed out.new ≡ O.taken out.new }
+    ensures passes { Begins (O.passed out.old) (O.passed out.new) }
+    ensures cause { Blames result (I.faults input.old) (I.faults input.new) (O.faults out.new) }
+    ensures told { Begins (E.taken err.old) (E.taken err.new) × Begins (E.passed err.old) (E.passed err.new) }
+{
+    for i in 0..steps {
+        let end = run_step(alloc, machine, i + 1, input, out, err);
+        if end != End::StepLimit {
+            return end;
+        }
+    }
+    End::StepLimit
+}
+
+/// Reads all segments of a text of INTCODE, loads them and runs them as `interpret` does, with a line on the error stream for each
+/// step. The output is passed on at each step, so a failure of it shows earlier. A failure of the error stream changes nothing.
+pub fn trace<C: ByteIn, I: ByteIn, O: ByteOut, E: ByteOut>(
+    alloc: Global,
+    code: &mut C,
+    limits: Limits,
+    input: &mut I,
+    out: &mut O,
+    err: &mut E,
+) -> Result<End, KitFault>
+    ensures traced { Traced (HeldBy I.held) result limits.steps limits.words (C.left code.old) (C.left code.new) (C.ended code.new)
+        (record { left = I.left input.old; held = I.held input.old; ended = I.ended input.old; taken = O.taken out.old; passed = O.passed out.old; reads = I.faults input.old; writes = O.faults out.old })
+        (record { left = I.left input.new; held = I.held input.new; ended = I.ended input.new; taken = O.taken out.new; passed = O.passed out.new; reads = I.faults input.new; writes = O.faults out.new }) }
+    ensures read_fails { C.faults code.new ≡ (if is_read result then 1 else 0) }
+    ensures told { Begins (E.taken err.old) (E.taken err.new) × Begins (E.passed err.old) (E.passed err.new) }
+{
+    let mut machine = load_code(alloc, code, limits.words())?;
+    tell_heading(alloc, err);
+    Ok(run_steps(alloc, &mut machine, limits.steps(), input, out, err))
+}
