@@ -11,9 +11,7 @@ use std::alloc::{AllocError, Global};
 pub fn name(alloc: Global, text: &[u8]) -> Result<Vec<u8>, AllocError>
     ensures { IfOk result (λ letters. letters.items ≡ upper_name text.now) }
 {
-    text.iter()
-        .map(|byte| byte.to_ascii_uppercase())
-        .collect(alloc)
+    text.to_ascii_uppercase(alloc)
 }
 
 /// The tag of a section bracket as it is spelled, empty if it has none.
