@@ -1,5 +1,5 @@
 -- Whether a LET stands in a block, by the two frames on top.
-use Rattle.std.proofs.Common.{◌≡◌, ℕ, ◌+◌, ◌-◌, ◌<◌, ◌≤◌, false, cond, None, List, [], ◌∷◌, length, get_or, take, refl, sym, ap, ◌∙◌, arith}
+use Rattle.std.proofs.Common.{◌≡◌, ℕ, ◌+◌, ◌-◌, ◌<◌, ◌≤◌, false, cond, List, [], ◌∷◌, length, get_or, take, refl, sym, ap, ◌∙◌, arith}
 use Rattle.std.proofs.Math.Seq.{take-length}
 use Rattle.bk_frames.specs.declared.frame.Operand.TheVariants as o
 use Rattle.bk_frames.specs.declared.frame.Phrase.TheVariants as p
@@ -11,16 +11,14 @@ use Rattle.bk_frames.specs.declared.frame.Begun.{Begun}
 use Rattle.bk_frames.specs.declared.frame.Begun.TheVariants as b
 use Rattle.bk_frames.specs.declared.frame.Frame.{Frame}
 use Rattle.bk_tree.specs.declared.tree.Decl.{Decl}
-use Rattle.bk_lex.specs.declared.token.Kind.{Kind}
-use Rattle.bk_tree.specs.Tree.{Declarations, Expression, declarations_in}
-use Rattle.bk_grammar.specs.Rows.{goes}
+use Rattle.bk_tree.specs.Tree.{Declarations, declarations_in}
 use Rattle.bk_frames.specs.declared.frame.Phrase.{Phrase}
 use Rattle.bk_frames.specs.declared.frame.Member.{Member}
 use Rattle.bk_frames.specs.declared.frame.Clause.{Clause}
 use Rattle.bk_frames.specs.declared.frame.Place.{Place}
 use Rattle.bk_frames.specs.declared.frame.Point.{Point}
-use Rattle.bk_grammar.specs.Machine.{Stack, in_section, inside, limit, give}
-use Rattle.bk_frames.specs.Begun.{begun_on, phrase_on, member_on, clause_on, place_on, point_on}
+use Rattle.bk_grammar.specs.Machine.{Stack, in_section, inside, limit}
+use Rattle.bk_frames.specs.Begun.{begun_on, phrase_on, member_on}
 use Rattle.bk_frames.specs.Stacked.{stack}
 use Rattle.bk_frames.specs.Frames.{is_let_begun, is_block_begun}
 use Rattle.bk_frames.proofs.Stacks.{stack_take}
@@ -90,16 +88,3 @@ limit_phrase _ st = refl
 pub limit_member : (x : Member) (st : Stack) → limit (member_on x st) ≡ 12
 limit_member (m.Function n fs) st = refl
 limit_member _ st = refl
-
--- no expression of these is read
-pub clause_takes_none : (y : Clause) (st : Stack) (e : Expression) (l : ℕ) (x : List ℕ) (t : Kind) → goes (limit (clause_on y st)) t ≡ false → give (clause_on y st) e l x t ≡ None
-clause_takes_none (c.Valof m) st e l x t h = rw h refl
-clause_takes_none _ st e l x t h = rw h refl
-
-pub place_takes_none : (y : Place) (st : Stack) (e : Expression) (l : ℕ) (x : List ℕ) (t : Kind) → goes (limit (place_on y st)) t ≡ false → give (place_on y st) e l x t ≡ None
-place_takes_none (a.Let m xs) st e l x t h = rw h refl
-place_takes_none _ st e l x t h = rw h refl
-
-pub point_takes_none : (y : Point) (st : Stack) (e : Expression) (l : ℕ) (x : List ℕ) (t : Kind) → goes (limit (point_on y st)) t ≡ false → give (point_on y st) e l x t ≡ None
-point_takes_none (t.Goto m) st e l x k h = rw h refl
-point_takes_none _ st e l x k h = rw h refl

@@ -12,7 +12,7 @@ use Rattle.bk_grammar.specs.Machine.{Stack, in_parens, in_binary, in_start}
 use Rattle.bk_frames.specs.Sizes.{owed}
 use Rattle.bk_frames.specs.Rooms.{Limit, is_tight, Tight, Part, Sized, goes_on}
 use Rattle.bk_frames.specs.WaysOn as w
-use Rattle.bk_frames.specs.WaysOn.{Any, AtClosing, AtListing, AtArgument, AtAssignment, AtPart, Unlisted, If, Started, Answered, Whole, Taken, Gives, Does, Operates, Defines, Declares, Misses}
+use Rattle.bk_frames.specs.WaysOn.{Any, AtClosing, AtListing, AtArgument, AtAssignment, AtPart, Unlisted, Started, Answered, Whole, Taken, Gives, Does, Operates, Defines, Declares}
 use Rattle.bk_frames.proofs.Lowering.{Down, at_most_down, levels_down, Falls, at_closing, gives_falls, operates_fall, defines_fall, declares_fall, any_falls}
 use Rattle.bk_frames.proofs.Links.{At, at_in, at_of, Ended, Decided, either_of, left, right}
 
@@ -120,9 +120,6 @@ split_argument X Y w.assigning = (λ h. absurd h, sum_none)
 split_argument X Y w.going = (λ h. absurd h, sum_none)
 split_argument X Y w.repeating = (λ h. absurd h, sum_none)
 split_argument X Y w.operating = (λ h. absurd h, sum_none)
-
-taken_at : {X : Type 0} {k : w.Next} → (k ≡ k) × X → X
-taken_at h = h.1
 
 other_at : {X Y : Type 0} {k c : w.Next} → (k ≡ c → ⊥) → ((k ≡ c) × X) ⊎ Y → Y
 other_at f (inl h) = absurd (f h.0)

@@ -46,10 +46,6 @@ plain_fits k.SectionOpen r os h j f = absurd cc
 plain_fits k.SectionClose r os h j f = absurd cc
 plain_fits _ r os h j f = f
 
--- a closing
-shut_fits : (y : State) (tag : List ℕ) (os : List (List ℕ)) → FitUnder (Some y) (tag ∷ os) → Fits y os
-shut_fits y tag os f = f.1
-
 walk_one : (t : Symbol) (ps : List Symbol) (os left : List (List ℕ)) (x : State) → ((y : State) → step x t ≡ Some y → Fits y left) → Passes (t ∷ ps) x → Walk (t ∷ []) os x left
 walk_one t ps os left x f h = let p = passed t ps x (step x t) refl h in record { next = p.0; fits = f p.0 p.1; comes = ap (goes_to (leads [])) p.1 }
 

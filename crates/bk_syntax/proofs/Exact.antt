@@ -17,8 +17,6 @@ use Rattle.bk_grammar.proofs.Before.{in_block_is, At_head, Ready, Before, May_mi
 use Rattle.bk_grammar.proofs.Lists.{semis_refl, definitions_all, each_of, value_last, vector_last}
 use Rattle.bk_tree.proofs.Counts.{eq_is}
 use Rattle.bk_grammar.proofs.Moves.{full_of, ends_of, guarded_does, guarded_filled, added, inside_of, of_let}
-use Rattle.bk_grammar.specs.Brackets.{plain}
-use Rattle.bk_grammar.specs.SyntaxFault.{IsSection}
 use Rattle.bk_grammar.proofs.Complete.{complete}
 use Rattle.bk_grammar.proofs.Sound.{build_binary, call_filled, call_does}
 use Rattle.bk_grammar.proofs.StepsSound.{step_sound}
@@ -134,10 +132,6 @@ run_sound (t ∷ ts) a x ds i h = let w = going_ok (t ∷ ts) (run ts) (step x t
 -- what is read is in the grammar
 pub sound : (ds : Declarations) (ts : List Symbol) → reading ts ≡ Ok ds → Section ds ts
 sound ds ts h = run_sound ts ts (due (in_section no_declarations)) ds (ts, refl, semis_refl ts) h
-
--- with section tags
-pub tagged_sound : (ds : Declarations) (ts us : List Symbol) → plain ts [] ≡ Some us → reading us ≡ Ok ds → IsSection ds ts
-tagged_sound ds ts us h r = record { plainly = us; brackets = h; section = sound ds us r }
 
 pub reads_the_grammar : (ds : Declarations) (ts : List Symbol) → (Section ds ts → reading ts ≡ Ok ds) × (reading ts ≡ Ok ds → Section ds ts)
 reads_the_grammar ds ts = (complete ds ts, sound ds ts)

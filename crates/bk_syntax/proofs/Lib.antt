@@ -1,6 +1,6 @@
 pub mod Stands
 pub mod Tags
-pub mod Examples
+pub mod Rows
 pub mod Exact
 pub mod Openings
 pub mod Behind

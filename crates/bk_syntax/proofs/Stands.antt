@@ -10,10 +10,6 @@ use Rattle.bk_grammar.proofs.Steps.{stepped}
 use Rattle.bk_syntax.specs.SyntaxLaws.{reading}
 use Rattle.bk_grammar.proofs.Complete.{complete}
 
--- at most one tree of plain symbols
-pub one_plain : (ds es : Declarations) (ts : List Symbol) → Section ds ts → Section es ts → ds ≡ es
-one_plain ds es ts h j = let a = complete ds ts h in let b = complete es ts j in cc
-
 -- at most one tree
 pub one_tree : (ds es : Declarations) (ts : List Symbol) → IsSection ds ts → IsSection es ts → ds ≡ es
 one_tree ds es ts h j =
