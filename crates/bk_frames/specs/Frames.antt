@@ -61,27 +61,35 @@ Steps st (Ok now) next = next ≡ Some (state st now)
 Steps st (Err s.Memory) next = Unit {0}
 Steps st (Err s.Unexpected) next = next ≡ None
 
--- how a part that is complete goes on below, with a symbol after it
-abbrev pub flow : Stack → Flow → ℕ → List ℕ → Kind → Option State
-flow st (f.Stay now) l x t = Some (state st now)
-flow st (f.Gives y) l x t = give st (expression y.expr) l x t
-flow st (f.Does y) l x t = finish st (action y.command) l x t
-flow st (f.Defines y) l x t = defined_by st (definition y.def) l x t
+-- how the expression that is complete goes on below, with a symbol after it
+abbrev pub given : Stack → Now → ℕ → List ℕ → Kind → Option State
+given st (n.Have y) l x t = give st (expression y.expr) l x t
+given st _ l x t = None
 
--- what becomes of the part that a state holds
-abbrev pub flow_of : Now → Flow
-flow_of (n.Have x) = f.Gives x
-flow_of (n.Did x) = f.Does x
-flow_of x = f.Stay x
+-- and how the command does
+abbrev pub finished : Stack → Now → ℕ → List ℕ → Kind → Option State
+finished st (n.Did y) l x t = finish st (action y.command) l x t
+finished st _ l x t = None
 
-abbrev pub Flows : Stack → Result Flow Stop → ℕ → List ℕ → Kind → Option State → Type 0
-Flows st (Ok y) l x t next = next ≡ flow st y l x t
-Flows st (Err s.Memory) l x t next = Unit {0}
-Flows st (Err s.Unexpected) l x t next = next ≡ None
+-- and how either does; with no part, no symbol is taken
+abbrev pub after : Stack → Now → ℕ → List ℕ → Kind → Option State
+after st (n.Have y) l x t = give st (expression y.expr) l x t
+after st (n.Did y) l x t = finish st (action y.command) l x t
+after st y l x t = Some (state st y)
+
+-- where a symbol leads that was taken, or that comes after the part that is complete now
+abbrev pub flow : Stack → Flow → Now → ℕ → List ℕ → Kind → Option State
+flow st f.Taken y l x t = Some (state st y)
+flow st f.Comes y l x t = after st y l x t
+
+abbrev pub Flows : Stack → Result Flow Stop → Now → ℕ → List ℕ → Kind → Option State → Type 0
+Flows st (Ok w) y l x t next = next ≡ flow st w y l x t
+Flows st (Err s.Memory) y l x t next = Unit {0}
+Flows st (Err s.Unexpected) y l x t next = next ≡ None
 
 -- the same, after this token
-abbrev pub Answers : Frames → Result Flow Stop → Token → (ℕ → List ℕ → Kind → Option State) → Type 0
-Answers new result t next = Flows (stack_of new) result t.line t.text.now t.kind (next t.line t.text.now t.kind)
+abbrev pub Answers : Frames → Now → Result Flow Stop → Token → (ℕ → List ℕ → Kind → Option State) → Type 0
+Answers new y result t next = Flows (stack_of new) result y t.line t.text.now t.kind (next t.line t.text.now t.kind)
 
 -- what a command with a word of its own is to begin with
 abbrev pub heads : Stack → ℕ → Heading → State
@@ -94,14 +102,12 @@ heads st l h.Block = due (in_block l true no_declarations no_actions st)
 
 -- a part that is complete took no frame more
 abbrev pub Lowers : Frames → Frames → Result Flow Stop → Type 0
-Lowers old new (Ok (f.Gives y)) = vec_len new.above ≡ vec_len old.above
-Lowers old new (Ok (f.Does y)) = vec_len new.above ≡ vec_len old.above
+Lowers old new (Ok f.Comes) = vec_len new.above ≡ vec_len old.above
 Lowers old new _ = Unit {0}
 
 -- a part that is complete took a frame away
 abbrev pub Falls : Frames → Frames → Result Flow Stop → Type 0
-Falls old new (Ok (f.Gives y)) = vec_len new.above + 1 ≡ vec_len old.above
-Falls old new (Ok (f.Does y)) = vec_len new.above + 1 ≡ vec_len old.above
+Falls old new (Ok f.Comes) = vec_len new.above + 1 ≡ vec_len old.above
 Falls old new _ = Unit {0}
 
 -- the right operand of a relation
@@ -124,12 +130,6 @@ Declares st (Err s.Unexpected) next = next ≡ None
 abbrev pub declaring : Stack → ℕ → Declaring → State
 declaring st l g.Let = due (in_let l no_definitions st)
 declaring st l (g.Constants q) = due (at_opening l q st)
-
--- how often at most a part that is complete can complete a larger one
-abbrev pub rank : Frames → Flow → ℕ
-rank x (f.Gives y) = vec_len x.above + 1
-rank x (f.Does y) = vec_len x.above + 1
-rank x _ = 0
 
 abbrev pub is_let_begun : Begun → Bool
 is_let_begun (b.Place (a.Let l xs)) = true

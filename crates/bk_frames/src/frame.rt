@@ -183,17 +183,13 @@ pub enum Now {
     Due,
 }
 
-/// What becomes of a part when a symbol comes after it.
-#[derive(Drop)]
+/// What becomes of a symbol after a part.
+#[derive(Clone, Copy, Debug, PartialEq, Eq)]
 pub enum Flow {
-    /// It stands so.
-    Stay(Now),
-    /// It completed this expression, after which the symbol comes.
-    Gives(Sized),
-    /// It completed this command.
-    Does(Done),
-    /// It completed this definition.
-    Defines(Defined),
+    /// It was taken.
+    Taken,
+    /// It comes after the part that is complete now.
+    Comes,
 }
 
 /// Why a symbol is refused.

@@ -20,6 +20,7 @@ fn forget_rooms(frames: &mut Frames)
 }
 
 /// Puts on top what was begun, with these parts.
+#[inline(always)]
 #[tactic(auto, using(crate::proofs::Stacks::stack_push))]
 pub fn begun(frames: &mut Frames, begun: Begun, held: Size) -> Result<(), AllocError>
     requires { held ≡ held_in begun }
@@ -33,6 +34,7 @@ pub fn begun(frames: &mut Frames, begun: Begun, held: Size) -> Result<(), AllocE
 }
 
 /// Puts on top what was begun, with these parts, in place of what had the same rooms there before.
+#[inline(always)]
 #[tactic(auto, using(crate::proofs::Stacks::stack_push))]
 pub fn begun_still(frames: &mut Frames, begun: Begun, held: Size) -> Result<(), AllocError>
     requires held { held ≡ held_in begun }

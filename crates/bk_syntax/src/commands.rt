@@ -10,8 +10,10 @@ ghost use Rattle.bk_tree.specs.Parts.{line_of_action, line_of_first, size};
 ghost use Rattle.bk_grammar.specs.Machine.{Stack, limit, give, finish, again, dests, guarded, behind_sign, take_command, in_start, in_values, in_guard, in_to};
 ghost use Rattle.bk_tree.specs.Parts.{each_then};
 ghost use Rattle.bk_frames.specs.Begun.{phrase_on, clause_on};
-ghost use Rattle.bk_frames.specs.Frames.{stack_of, state, heads, Steps, Answers, Lowers, Falls};
+ghost use Rattle.bk_frames.specs.Frames.{stack_of, state, given, finished, heads, Steps, Answers, Lowers, Falls};
+ghost use Rattle.bk_syntax.specs.Parsing.{reached};
 
+use crate::definitions::complete_definition;
 use crate::expressions::{due, due_at, line_of, operand, want_in, wants_command, whole};
 use bk_base::Line;
 use bk_frames::frame::{
@@ -28,6 +30,7 @@ use bk_lex::Token;
 use bk_tree::make::{assign, call, for_loop};
 use bk_tree::{Command, Def, Expr, Name};
 use std::alloc::{AllocError, Global};
+use std::mem;
 
 /// A command that is a node with these parts.
 pub fn did(command: Command, parts: Size) -> Done
@@ -89,20 +92,25 @@ fn headed(
 
 /// A command is due, and this symbol comes.
 #[tactic(auto, using(bk_frames::proofs::Turns::command_cases))]
-pub fn command(alloc: Global, frames: &mut Frames, token: &Token) -> Result<Now, Stop>
-    ensures { Steps (stack_of frames.new) result (take_command (stack_of frames.old) token.now.line token.now.text.now token.now.kind) }
+pub fn command(alloc: Global, frames: &mut Frames, now: &mut Now, token: &Token) -> Result<(), Stop>
+    ensures { Steps (stack_of frames.new) (reached result now.new) (take_command (stack_of frames.old) token.now.line token.now.text.now token.now.kind) }
 {
     if let Some(word) = simple(token.kind) {
-        return Ok(Now::Did(did(Command::Simple(token.line, word), NOTHING)));
+        *now = Now::Did(did(Command::Simple(token.line, word), NOTHING));
+        return Ok(());
     }
     if let Some(guard) = guard_begun(token.kind) {
-        return Ok(want_in(frames, Phrase::Guard(guard, token.line), NOTHING)?);
+        *now = want_in(frames, Phrase::Guard(guard, token.line), NOTHING)?;
+        return Ok(());
     }
     match heads_with(token.kind) {
-        Some(heading) => Ok(headed(alloc, frames, heading, token.line)?),
+        Some(heading) => {
+            *now = headed(alloc, frames, heading, token.line)?;
+            Ok(())
+        }
         None => {
             begun(frames, Begun::Phrase(Phrase::Start), NOTHING)?;
-            operand(alloc, frames, token)
+            operand(alloc, frames, now, token)
         }
     }
 }
@@ -126,31 +134,40 @@ pub fn guarded(guard: Guard, line: Line, condition: Box<Expr>, command: Box<Comm
 fn further(
     alloc: Global,
     frames: &mut Frames,
+    now: &mut Now,
     before: Vec<Expr>,
     parts: Size,
     last: Expr,
     token: &Token,
 ) -> Result<Flow, Stop>
     requires { parts ≡ both_of (held_in (Begun.Phrase (p.Dests before))) (size_of (expression last)) }
-    ensures answers { Answers frames.new result token.now (λ l x. dests (each_then (expressions_in before.items) (more (expression last) none)) (stack_of frames.old)) }
+    ensures answers { Answers frames.new now.new result token.now (λ l x. dests (each_then (expressions_in before.items) (more (expression last) none)) (stack_of frames.old)) }
     ensures lowers { Lowers frames.old frames.new result }
 {
     let mut dests = before;
     dests.push(last)?;
     if is_comma(token.kind) {
-        return Ok(Flow::Stay(want_in(frames, Phrase::Dests(dests), parts)?));
+        *now = want_in(frames, Phrase::Dests(dests), parts)?;
+        return Ok(Flow::Taken);
     }
     if is_assign(token.kind) {
         let values = Phrase::Values(dests, Vec::new(alloc));
-        return Ok(Flow::Stay(want_in(frames, values, parts)?));
+        *now = want_in(frames, values, parts)?;
+        return Ok(Flow::Taken);
     }
     Err(Stop::Unexpected)
 }
 
 /// The first expression of a command is complete.
-fn started(alloc: Global, frames: &mut Frames, sized: Sized, token: &Token) -> Result<Flow, Stop>
+fn started(
+    alloc: Global,
+    frames: &mut Frames,
+    now: &mut Now,
+    sized: Sized,
+    token: &Token,
+) -> Result<Flow, Stop>
     requires { goes 12 token.now.kind ≡ false }
-    ensures answers { Answers frames.new result token.now (give (in_start (stack_of frames.old)) (expression sized.expr)) }
+    ensures answers { Answers frames.new now.new result token.now (give (in_start (stack_of frames.old)) (expression sized.expr)) }
     ensures lowers { Lowers frames.old frames.new result }
 {
     let Sized {
@@ -162,6 +179,7 @@ fn started(alloc: Global, frames: &mut Frames, sized: Sized, token: &Token) -> R
         return further(
             alloc,
             frames,
+            now,
             Vec::new(alloc),
             both(NOTHING, size),
             expr,
@@ -169,16 +187,21 @@ fn started(alloc: Global, frames: &mut Frames, sized: Sized, token: &Token) -> R
         );
     }
     match expr {
-        Expr::Apply(line, _, callee, items) => Ok(Flow::Does(Done {
-            command: call(line, callee, items),
-            size,
-        })),
+        Expr::Apply(line, _, callee, items) => {
+            let done = Done {
+                command: call(line, callee, items),
+                size,
+            };
+            *now = Now::Did(done);
+            Ok(Flow::Comes)
+        }
         Expr::Name(line, letters) => {
             if !is_colon(token.kind) {
                 return Err(Stop::Unexpected);
             }
             begun(frames, Begun::Clause(Clause::Label(line, letters)), NOTHING)?;
-            Ok(Flow::Stay(Now::Maybe))
+            *now = Now::Maybe;
+            Ok(Flow::Taken)
         }
         _ => Err(Stop::Unexpected),
     }
@@ -206,6 +229,7 @@ fn is_last(dests: &[Expr], values: &[Expr]) -> bool
 #[tactic(auto, using(bk_tree::proofs::Trees::one_more, bk_tree::proofs::Trees::more_sizes))]
 fn valued(
     frames: &mut Frames,
+    now: &mut Now,
     dests: Vec<Expr>,
     values: Vec<Expr>,
     parts: Size,
@@ -214,7 +238,7 @@ fn valued(
 ) -> Result<Flow, Stop>
     requires stops { goes 12 token.now.kind ≡ false }
     requires parts { parts ≡ both_of (held_in (Begun.Phrase (p.Values dests values))) (size_of (expression last)) }
-    ensures answers { Answers frames.new result token.now (give (in_values (expressions_in dests.items) (expressions_in values.items) (stack_of frames.old)) (expression last)) }
+    ensures answers { Answers frames.new now.new result token.now (give (in_values (expressions_in dests.items) (expressions_in values.items) (stack_of frames.old)) (expression last)) }
     ensures lowers { Lowers frames.old frames.new result }
 {
     let complete = is_last(&dests, &values);
@@ -222,12 +246,14 @@ fn valued(
     values.push(last)?;
     if complete {
         let line = line_of_list(&dests);
-        return Ok(Flow::Does(did(assign(line, dests, values), parts)));
+        *now = Now::Did(did(assign(line, dests, values), parts));
+        return Ok(Flow::Comes);
     }
     if !is_comma(token.kind) {
         return Err(Stop::Unexpected);
     }
-    Ok(Flow::Stay(want_in(frames, Phrase::Values(dests, values), parts)?))
+    *now = want_in(frames, Phrase::Values(dests, values), parts)?;
+    Ok(Flow::Taken)
 }
 
 /// What is read behind the sign of a guard: behind that of CASE no command need come.
@@ -244,6 +270,7 @@ fn behind_sign(guard: Guard) -> Now
 fn guards(
     alloc: Global,
     frames: &mut Frames,
+    now: &mut Now,
     guard: Guard,
     line: Line,
     parts: Size,
@@ -252,7 +279,7 @@ fn guards(
 ) -> Result<Flow, Stop>
     requires stops { goes 12 token.now.kind ≡ false }
     requires parts { parts ≡ size_of (expression condition) }
-    ensures answers { Answers frames.new result token.now (give (in_guard guard line (stack_of frames.old)) (expression condition)) }
+    ensures answers { Answers frames.new now.new result token.now (give (in_guard guard line (stack_of frames.old)) (expression condition)) }
     ensures lowers { Lowers frames.old frames.new result }
 {
     if !is_sign(guard, token.kind) {
@@ -264,7 +291,8 @@ fn guards(
         Begun::Clause(Clause::Guarded(guard, line, condition)),
         parts,
     )?;
-    Ok(Flow::Stay(behind_sign(guard)))
+    *now = behind_sign(guard);
+    Ok(Flow::Taken)
 }
 
 /// The limit of a FOR is complete.
@@ -272,6 +300,7 @@ fn guards(
 fn limited(
     alloc: Global,
     frames: &mut Frames,
+    now: &mut Now,
     line: Line,
     name: Name,
     from: Box<Expr>,
@@ -281,70 +310,81 @@ fn limited(
 ) -> Result<Flow, Stop>
     requires stops { goes 12 token.now.kind ≡ false }
     requires parts { parts ≡ both_of (held_in (Begun.Phrase (p.To line name from))) (size_of (expression limit)) }
-    ensures answers { Answers frames.new result token.now (give (in_to line (mention name) (expression from.value) (stack_of frames.old)) (expression limit)) }
+    ensures answers { Answers frames.new now.new result token.now (give (in_to line (mention name) (expression from.value) (stack_of frames.old)) (expression limit)) }
     ensures lowers { Lowers frames.old frames.new result }
 {
     let limit = Box::new(alloc, limit)?;
     if is_by(token.kind) {
         let by = Phrase::By(line, name, from, limit);
-        return Ok(Flow::Stay(want_in(frames, by, parts)?));
+        *now = want_in(frames, by, parts)?;
+        return Ok(Flow::Taken);
     }
     if is_do(token.kind) {
         let body = Clause::For(line, name, from, limit, None);
-        return Ok(Flow::Stay(wants_command(frames, body, parts)?));
+        *now = wants_command(frames, body, parts)?;
+        return Ok(Flow::Taken);
     }
     Err(Stop::Unexpected)
 }
 
-/// An expression of a command is complete, with which the symbol behind it does not go on.
+/// An expression of a command is complete, with which the symbol after it does not go on.
 #[inline(never)]
 pub fn complete_phrase(
     alloc: Global,
     frames: &mut Frames,
+    now: &mut Now,
     begun: Phrase,
     held: Size,
-    sized: Sized,
     token: &Token,
 ) -> Result<Flow, Stop>
     requires stops { goes 12 token.now.kind ≡ false }
     requires held { held ≡ held_in (Begun.Phrase begun) }
-    ensures answers { Answers frames.new result token.now (give (phrase_on begun (stack_of frames.old)) (expression sized.expr)) }
+    ensures answers { Answers frames.new now.new result token.now (given (phrase_on begun (stack_of frames.old)) now.old) }
     ensures lowers { Lowers frames.old frames.new result }
 {
+    let Now::Have(sized) = mem::replace(now, Now::Due) else {
+        return Err(Stop::Unexpected);
+    };
     let parts = both(held, sized.size);
     match begun {
-        Phrase::Start => started(alloc, frames, sized, token),
-        Phrase::Dests(dests) => further(alloc, frames, dests, parts, sized.expr, token),
-        Phrase::Values(dests, values) => valued(frames, dests, values, parts, sized.expr, token),
+        Phrase::Start => started(alloc, frames, now, sized, token),
+        Phrase::Dests(dests) => further(alloc, frames, now, dests, parts, sized.expr, token),
+        Phrase::Values(dests, values) => {
+            valued(frames, now, dests, values, parts, sized.expr, token)
+        }
         Phrase::Guard(guard, line) => guards(
-            alloc, frames, guard, line, sized.size, sized.expr, token,
+            alloc, frames, now, guard, line, sized.size, sized.expr, token,
         ),
         Phrase::Test(line) => {
             if !is_do(token.kind) {
                 return Err(Stop::Unexpected);
             }
             let condition = Box::new(alloc, sized.expr)?;
-            Ok(Flow::Stay(wants_command(frames, Clause::Then(line, condition), parts)?))
+            *now = wants_command(frames, Clause::Then(line, condition), parts)?;
+            Ok(Flow::Taken)
         }
         Phrase::ResultIs(line) => {
             let result = Box::new(alloc, sized.expr)?;
-            Ok(Flow::Does(did(Command::ResultIs(line, result), parts)))
+            *now = Now::Did(did(Command::ResultIs(line, result), parts));
+            Ok(Flow::Comes)
         }
         Phrase::RepeatWhile(truth, body) => {
             let line = line_of_command(&body);
             let condition = Box::new(alloc, sized.expr)?;
             let repeat = Command::RepeatWhile(line, truth, body, condition);
-            Ok(Flow::Does(did(repeat, parts)))
+            *now = Now::Did(did(repeat, parts));
+            Ok(Flow::Comes)
         }
         Phrase::From(line, name) => {
             if !is_to(token.kind) {
                 return Err(Stop::Unexpected);
             }
             let from = Box::new(alloc, sized.expr)?;
-            Ok(Flow::Stay(want_in(frames, Phrase::To(line, name, from), parts)?))
+            *now = want_in(frames, Phrase::To(line, name, from), parts)?;
+            Ok(Flow::Taken)
         }
         Phrase::To(line, name, from) => limited(
-            alloc, frames, line, name, from, parts, sized.expr, token,
+            alloc, frames, now, line, name, from, parts, sized.expr, token,
         ),
         Phrase::By(line, name, from, to) => {
             if !is_do(token.kind) {
@@ -352,72 +392,88 @@ pub fn complete_phrase(
             }
             let by = Box::new(alloc, sized.expr)?;
             let body = Clause::For(line, name, from, to, Some(by));
-            Ok(Flow::Stay(wants_command(frames, body, parts)?))
+            *now = wants_command(frames, body, parts)?;
+            Ok(Flow::Taken)
         }
     }
 }
 
 /// The command goes on with REPEAT, REPEATWHILE or REPEATUNTIL.
 #[tactic(auto, using(bk_frames::proofs::Turns::again_cases))]
-pub fn again(alloc: Global, frames: &mut Frames, done: Done, token: &Token) -> Result<Flow, Stop>
-    ensures answers { Answers frames.new result token.now (λ l x. again (stack_of frames.old) (action done.command)) }
+pub fn again(
+    alloc: Global,
+    frames: &mut Frames,
+    now: &mut Now,
+    done: Done,
+    token: &Token,
+) -> Result<Flow, Stop>
+    ensures answers { Answers frames.new now.new result token.now (λ l x. again (stack_of frames.old) (action done.command)) }
     ensures falls { Falls frames.old frames.new result }
 {
     let Done { command, size } = done;
     let line = line_of_command(&command);
     let body = Box::new(alloc, command)?;
-    Ok(Flow::Stay(match repetition_begun(token.kind) {
+    *now = match repetition_begun(token.kind) {
         Some(Repetition::Always) => Now::Did(did(Command::Repeat(line, body), size)),
         Some(Repetition::While) => want_in(frames, Phrase::RepeatWhile(true, body), size)?,
         Some(Repetition::Until) => want_in(frames, Phrase::RepeatWhile(false, body), size)?,
         None => return Err(Stop::Unexpected),
-    }))
+    };
+    Ok(Flow::Taken)
 }
 
-/// A command is complete, which the symbol behind it does not repeat.
+/// A command is complete, which the symbol after it does not repeat.
 #[tactic(auto, using(bk_frames::proofs::Turns::guarded_sizes))]
 pub fn complete_clause(
     alloc: Global,
     frames: &mut Frames,
+    now: &mut Now,
     begun: Clause,
     held: Size,
-    done: Done,
     token: &Token,
 ) -> Result<Flow, Stop>
     requires stops { repeats token.now.kind ≡ false }
     requires held { held ≡ held_in (Begun.Clause begun) }
-    ensures answers { Answers frames.new result token.now (finish (clause_on begun (stack_of frames.old)) (action done.command)) }
+    ensures answers { Answers frames.new now.new result token.now (finished (clause_on begun (stack_of frames.old)) now.old) }
     ensures lowers { Lowers frames.old frames.new result }
 {
+    let Now::Did(done) = mem::replace(now, Now::Due) else {
+        return Err(Stop::Unexpected);
+    };
     let parts = both(held, done.size);
     let body = Box::new(alloc, done.command)?;
-    Ok(match begun {
-        Clause::Valof(line) => Flow::Gives(whole(Expr::Valof(line, body), parts)),
-        Clause::Label(line, letters) => {
-            Flow::Does(did(Command::Label(line, letters, body), parts))
-        }
+    *now = match begun {
+        Clause::Valof(line) => Now::Have(whole(Expr::Valof(line, body), parts)),
+        Clause::Label(line, letters) => Now::Did(did(Command::Label(line, letters, body), parts)),
         Clause::Guarded(guard, line, condition) => {
-            Flow::Does(did(guarded(guard, line, condition, body), parts))
+            Now::Did(did(guarded(guard, line, condition, body), parts))
         }
-        Clause::Default(line) => Flow::Does(did(Command::Default(line, body), parts)),
+        Clause::Default(line) => Now::Did(did(Command::Default(line, body), parts)),
         Clause::Then(line, condition) => {
             if !is_or(token.kind) {
                 return Err(Stop::Unexpected);
             }
-            Flow::Stay(wants_command(frames, Clause::Else(line, condition, body), parts)?)
+            *now = wants_command(frames, Clause::Else(line, condition, body), parts)?;
+            return Ok(Flow::Taken);
         }
         Clause::Else(line, condition, yes) => {
-            Flow::Does(did(Command::Test(line, condition, yes, body), parts))
+            Now::Did(did(Command::Test(line, condition, yes, body), parts))
         }
         Clause::For(line, name, from, to, by) => {
-            Flow::Does(did(for_loop(line, name, from, to, by, body), parts))
+            Now::Did(did(for_loop(line, name, from, to, by, body), parts))
         }
         Clause::Routine(name, formals) => {
             let Name { line, letters } = name;
-            Flow::Defines(Defined {
+            let routine = Defined {
                 def: Def::Routine(line, letters, formals, body),
                 size: of_node(parts),
-            })
+            };
+            return match complete_definition(alloc, frames, now, routine, token) {
+                Ok(()) => Ok(Flow::Taken),
+                Err(Stop::Memory) => Err(Stop::Memory),
+                Err(Stop::Unexpected) => Err(Stop::Unexpected),
+            };
         }
-    })
+    };
+    Ok(Flow::Comes)
 }

@@ -13,8 +13,9 @@ ghost use Rattle.bk_tree.specs.Parts.{line_of_names, start_count};
 ghost use Rattle.bk_grammar.specs.Machine.{Stack, limit, give, finish, defined_by, declared, in_constants, in_commands, in_names, in_formals, headed, in_head, in_block, in_section, in_let, inside, counted, take_in_block, take_in_section, take_item, take_due, at_name, at_formals, at_formal, at_variable, at_starts, due};
 ghost use Rattle.bk_tree.specs.Parts.{actions_then, items_then, starts_then};
 ghost use Rattle.bk_frames.specs.Begun.{member_on, place_on, point_on};
-ghost use Rattle.bk_frames.specs.Frames.{stack_of, HasRoomsFor, state, Steps, Answers, Lowers, NamedBy, Declares, declaring, is_let_begun, is_block_begun};
+ghost use Rattle.bk_frames.specs.Frames.{stack_of, HasRoomsFor, state, given, finished, Steps, Answers, Lowers, NamedBy, Declares, declaring, is_let_begun, is_block_begun};
 ghost use Rattle.bk_frames.specs.Sizes.{are_no_items};
+ghost use Rattle.bk_syntax.specs.Parsing.{reached};
 
 use crate::commands::{command, did};
 use crate::expressions::{due, due_at, due_still, operand, want_for, want_in, wants_command};
@@ -34,6 +35,7 @@ use bk_lex::Token;
 use bk_tree::make::{self, block, constants, let_of};
 use bk_tree::{Command, Decl, Def, Expr, Init, Item, Name, Sort};
 use std::alloc::{AllocError, Global};
+use std::mem;
 
 /// The name that a symbol is, if it is one.
 fn name_of(alloc: Global, token: &Token) -> Result<Option<Name>, AllocError>
@@ -120,7 +122,9 @@ fn line_of_names(names: &[Name]) -> Line
 /// The items of a LET, one more.
 #[tactic(auto, using(bk_tree::proofs::Trees::one_more, bk_tree::proofs::Trees::more_sizes))]
 fn initialised(
+    alloc: Global,
     frames: &mut Frames,
+    now: &mut Now,
     names: Vec<Name>,
     inits: Vec<Init>,
     parts: Size,
@@ -128,7 +132,7 @@ fn initialised(
     token: &Token,
 ) -> Result<Flow, Stop>
     requires { parts ≡ both_of (kept_size (depth_of_starts (starts_in inits.items)) (nodes_of_starts (starts_in inits.items))) (kept_size (depth_of_starts (starts_in (last ∷ []))) (nodes_of_starts (starts_in (last ∷ [])))) }
-    ensures answers { Answers frames.new result token.now (λ l x t. counted (length (map mention names.items) == start_count (starts_in inits.items) + 1) (defined_by (stack_of frames.old) (variables (line_of_names (map mention names.items)) (map mention names.items) (starts_then (starts_in inits.items) (starts_in (last ∷ [])))) l x t) t (due (at_starts (map mention names.items) (starts_then (starts_in inits.items) (starts_in (last ∷ []))) (stack_of frames.old)))) }
+    ensures answers { Answers frames.new now.new result token.now (λ l x t. counted (length (map mention names.items) == start_count (starts_in inits.items) + 1) (defined_by (stack_of frames.old) (variables (line_of_names (map mention names.items)) (map mention names.items) (starts_then (starts_in inits.items) (starts_in (last ∷ [])))) l x t) t (due (at_starts (map mention names.items) (starts_then (starts_in inits.items) (starts_in (last ∷ []))) (stack_of frames.old)))) }
     ensures lowers { Lowers frames.old frames.new result }
 {
     let complete = is_last(&names, &inits);
@@ -136,21 +140,28 @@ fn initialised(
     inits.push(last)?;
     if complete {
         let line = line_of_names(&names);
-        return Ok(Flow::Defines(Defined {
+        let variables = Defined {
             def: make::variables(line, names, inits),
             size: of_node(parts),
-        }));
+        };
+        return match complete_definition(alloc, frames, now, variables, token) {
+            Ok(()) => Ok(Flow::Taken),
+            Err(Stop::Memory) => Err(Stop::Memory),
+            Err(Stop::Unexpected) => Err(Stop::Unexpected),
+        };
     }
     if !is_comma(token.kind) {
         return Err(Stop::Unexpected);
     }
-    Ok(Flow::Stay(due(frames, Place::Inits(names, inits), parts)?))
+    *now = due(frames, Place::Inits(names, inits), parts)?;
+    Ok(Flow::Taken)
 }
 
 /// The constant of an item is complete.
 #[tactic(auto, using(bk_frames::proofs::Turns::constants_cases, bk_tree::proofs::Trees::one_more, bk_tree::proofs::Trees::more_sizes))]
 fn constant(
     frames: &mut Frames,
+    now: &mut Now,
     line: Line,
     sort: Sort,
     items: Vec<Item>,
@@ -159,19 +170,23 @@ fn constant(
     token: &Token,
 ) -> Result<Flow, Stop>
     requires { held ≡ kept_size (depth_of_items (items_then (items_in items.items) (items_in (item ∷ [])))) (nodes_of_items (items_then (items_in items.items) (items_in (item ∷ [])))) }
-    ensures answers { Answers frames.new result token.now (λ l x t. in_constants line sort (items_then (items_in items.items) (items_in (item ∷ []))) (stack_of frames.old) t) }
+    ensures answers { Answers frames.new now.new result token.now (λ l x t. in_constants line sort (items_then (items_in items.items) (items_in (item ∷ []))) (stack_of frames.old) t) }
     ensures lowers { Lowers frames.old frames.new result }
 {
     let mut items = items;
     items.push(item)?;
     if is_semicolon(token.kind) {
-        return Ok(Flow::Stay(due_at(frames, Point::Items(line, sort, items), held)?));
+        *now = due_at(frames, Point::Items(line, sort, items), held)?;
+        return Ok(Flow::Taken);
     }
     if !closes(token.kind) {
         return Err(Stop::Unexpected);
     }
     match declare(frames, constants(line, sort, items), held) {
-        Ok(()) => Ok(Flow::Stay(Now::Due)),
+        Ok(()) => {
+            *now = Now::Due;
+            Ok(Flow::Taken)
+        }
         Err(Stop::Memory) => Err(Stop::Memory),
         Err(Stop::Unexpected) => Err(Stop::Unexpected),
     }
@@ -183,16 +198,19 @@ fn constant(
 pub fn complete_member(
     alloc: Global,
     frames: &mut Frames,
+    now: &mut Now,
     begun: Member,
     held: Size,
-    sized: Sized,
     token: &Token,
 ) -> Result<Flow, Stop>
     requires stops { goes 12 token.now.kind ≡ false }
     requires held { held ≡ held_in (Begun.Member begun) }
-    ensures answers { Answers frames.new result token.now (give (member_on begun (stack_of frames.old)) (expression sized.expr)) }
+    ensures answers { Answers frames.new now.new result token.now (given (member_on begun (stack_of frames.old)) now.old) }
     ensures lowers { Lowers frames.old frames.new result }
 {
+    let Now::Have(sized) = mem::replace(now, Now::Due) else {
+        return Err(Stop::Unexpected);
+    };
     let parts = both(held, sized.size);
     match begun {
         Member::Item(line, sort, items, name) => {
@@ -200,6 +218,7 @@ pub fn complete_member(
             let Name { line: at, letters } = name;
             constant(
                 frames,
+                now,
                 line,
                 sort,
                 items,
@@ -211,18 +230,31 @@ pub fn complete_member(
         Member::Function(name, formals) => {
             let body = Box::new(alloc, sized.expr)?;
             let Name { line, letters } = name;
-            let function = Def::Function(line, letters, formals, body);
-            Ok(Flow::Defines(Defined {
-                def: function,
+            let function = Defined {
+                def: Def::Function(line, letters, formals, body),
                 size: of_node(parts),
-            }))
+            };
+            match complete_definition(alloc, frames, now, function, token) {
+                Ok(()) => Ok(Flow::Taken),
+                Err(Stop::Memory) => Err(Stop::Memory),
+                Err(Stop::Unexpected) => Err(Stop::Unexpected),
+            }
         }
         Member::Value(names, inits) => {
-            initialised(frames, names, inits, parts, Init::Value(sized.expr), token)
+            initialised(
+                alloc,
+                frames,
+                now,
+                names,
+                inits,
+                parts,
+                Init::Value(sized.expr),
+                token,
+            )
         }
         Member::Vector(line, names, inits) => {
             let vector = Init::Vector(line, sized.expr);
-            initialised(frames, names, inits, parts, vector, token)
+            initialised(alloc, frames, now, names, inits, parts, vector, token)
         }
     }
 }
@@ -232,13 +264,14 @@ pub fn complete_member(
 fn define_in(
     alloc: Global,
     frames: &mut Frames,
+    now: &mut Now,
     place: Place,
     held: Size,
     done: Defined,
     token: &Token,
-) -> Result<Now, Stop>
+) -> Result<(), Stop>
     requires { held ≡ held_in (Begun.Place place) }
-    ensures { Steps (stack_of frames.new) result (defined_by (place_on place (stack_of frames.old)) (definition done.def) token.now.line token.now.text.now token.now.kind) }
+    ensures { Steps (stack_of frames.new) (reached result now.new) (defined_by (place_on place (stack_of frames.old)) (definition done.def) token.now.line token.now.text.now token.now.kind) }
 {
     match place {
         Place::Let(line, defs) => {
@@ -246,10 +279,11 @@ fn define_in(
             let mut defs = defs;
             defs.push(done.def)?;
             if is_and(token.kind) {
-                return Ok(due(frames, Place::Let(line, defs), held)?);
+                *now = due(frames, Place::Let(line, defs), held)?;
+                return Ok(());
             }
             match declare(frames, let_of(line, defs), held) {
-                Ok(()) => at_place(alloc, frames, token),
+                Ok(()) => at_place(alloc, frames, now, token),
                 Err(Stop::Memory) => Err(Stop::Memory),
                 Err(Stop::Unexpected) => Err(Stop::Unexpected),
             }
@@ -263,10 +297,11 @@ fn define_in(
 pub fn complete_definition(
     alloc: Global,
     frames: &mut Frames,
+    now: &mut Now,
     done: Defined,
     token: &Token,
-) -> Result<Now, Stop>
-    ensures { Steps (stack_of frames.new) result (defined_by (stack_of frames.old) (definition done.def) token.now.line token.now.text.now token.now.kind) }
+) -> Result<(), Stop>
+    ensures { Steps (stack_of frames.new) (reached result now.new) (defined_by (stack_of frames.old) (definition done.def) token.now.line token.now.text.now token.now.kind) }
 {
     let Some(top) = pop(frames) else {
         return Err(Stop::Unexpected);
@@ -277,7 +312,7 @@ pub fn complete_definition(
         spare: _,
     } = top;
     match begun {
-        Begun::Place(place) => define_in(alloc, frames, place, held, done, token),
+        Begun::Place(place) => define_in(alloc, frames, now, place, held, done, token),
         Begun::Operand(_) => Err(Stop::Unexpected),
         Begun::Phrase(_) => Err(Stop::Unexpected),
         Begun::Clause(_) => Err(Stop::Unexpected),
@@ -286,6 +321,7 @@ pub fn complete_definition(
 }
 
 /// A declaration begins.
+#[inline(always)]
 fn declaration(
     alloc: Global,
     frames: &mut Frames,
@@ -302,15 +338,19 @@ fn declaration(
 
 /// A symbol between the declarations of a section.
 #[tactic(auto, using(bk_frames::proofs::Turns::declaration_cases))]
-fn in_section(alloc: Global, frames: &mut Frames, token: &Token) -> Result<Now, Stop>
+fn in_section(alloc: Global, frames: &mut Frames, now: &mut Now, token: &Token) -> Result<(), Stop>
     requires { stack_of frames.old ≡ in_section (declarations_in frames.old.decls.items) }
-    ensures { Steps (stack_of frames.new) result (take_in_section (declarations_in frames.old.decls.items) token.now.line token.now.kind) }
+    ensures { Steps (stack_of frames.new) (reached result now.new) (take_in_section (declarations_in frames.old.decls.items) token.now.line token.now.kind) }
 {
     if is_semicolon(token.kind) {
-        return Ok(Now::Due);
+        *now = Now::Due;
+        return Ok(());
     }
     match declares_with(token.kind) {
-        Some(what) => Ok(declaration(alloc, frames, what, token.line)?),
+        Some(what) => {
+            *now = declaration(alloc, frames, what, token.line)?;
+            Ok(())
+        }
         None => Err(Stop::Unexpected),
     }
 }
@@ -330,42 +370,47 @@ fn in_head(commands: &[Command]) -> bool
 fn in_block(
     alloc: Global,
     frames: &mut Frames,
+    now: &mut Now,
     line: Line,
     free: bool,
     decls: Vec<Decl>,
     commands: Vec<Command>,
     held: Size,
     token: &Token,
-) -> Result<Now, Stop>
+) -> Result<(), Stop>
     requires held { held ≡ held_in (Begun.Place (p.Block line free decls commands)) }
     requires rooms { HasRoomsFor frames.old (place_on (p.Block line free decls commands) (stack_of frames.old)) }
-    ensures { Steps (stack_of frames.new) result (take_in_block line free (declarations_in decls.items) (actions_in commands.items) (stack_of frames.old) token.now.line token.now.text.now token.now.kind) }
+    ensures { Steps (stack_of frames.new) (reached result now.new) (take_in_block line free (declarations_in decls.items) (actions_in commands.items) (stack_of frames.old) token.now.line token.now.text.now token.now.kind) }
 {
     if is_semicolon(token.kind) {
         let block = Place::Block(line, true, decls, commands);
-        return Ok(due_still(frames, block, held)?);
+        *now = due_still(frames, block, held)?;
+        return Ok(());
     }
     if closes(token.kind) {
-        return Ok(Now::Did(did(block(line, decls, commands), held)));
+        *now = Now::Did(did(block(line, decls, commands), held));
+        return Ok(());
     }
     let head = in_head(&commands);
     let block = Place::Block(line, free, decls, commands);
     begun_still(frames, Begun::Place(block), held)?;
     if head {
         if let Some(what) = declares_with(token.kind) {
-            return Ok(declaration(alloc, frames, what, token.line)?);
+            *now = declaration(alloc, frames, what, token.line)?;
+            return Ok(());
         }
     }
     if !free {
         return Err(Stop::Unexpected);
     }
-    command(alloc, frames, token)
+    command(alloc, frames, now, token)
 }
 
 /// A command of a block is complete, which the symbol behind it does not repeat.
 #[tactic(auto, using(bk_tree::proofs::Trees::one_more, bk_tree::proofs::Trees::more_sizes))]
 fn in_commands(
     frames: &mut Frames,
+    now: &mut Now,
     line: Line,
     decls: Vec<Decl>,
     commands: Vec<Command>,
@@ -374,18 +419,20 @@ fn in_commands(
     token: &Token,
 ) -> Result<Flow, Stop>
     requires { held ≡ both_of (held_in (Begun.Place (p.Block line true decls commands))) (size_of_action (action command)) }
-    ensures answers { Answers frames.new result token.now (λ l x t. in_commands line (declarations_in decls.items) (actions_then (actions_in commands.items) (also (action command) no_actions)) (stack_of frames.old) t) }
+    ensures answers { Answers frames.new now.new result token.now (λ l x t. in_commands line (declarations_in decls.items) (actions_then (actions_in commands.items) (also (action command) no_actions)) (stack_of frames.old) t) }
     ensures lowers { Lowers frames.old frames.new result }
 {
     let mut commands = commands;
     commands.push(command)?;
     if is_semicolon(token.kind) {
         let block = Place::Block(line, true, decls, commands);
-        return Ok(Flow::Stay(due(frames, block, held)?));
+        *now = due(frames, block, held)?;
+        return Ok(Flow::Taken);
     }
     if closes(token.kind) {
         let whole = block(line, decls, commands);
-        return Ok(Flow::Stay(Now::Did(did(whole, held))));
+        *now = Now::Did(did(whole, held));
+        return Ok(Flow::Taken);
     }
     Err(Stop::Unexpected)
 }
@@ -393,20 +440,24 @@ fn in_commands(
 /// A command is complete at a place, which the symbol behind it does not repeat: in a block.
 pub fn complete_command(
     frames: &mut Frames,
+    now: &mut Now,
     begun: Place,
     held: Size,
-    done: Done,
     token: &Token,
 ) -> Result<Flow, Stop>
     requires stops { repeats token.now.kind ≡ false }
     requires held { held ≡ held_in (Begun.Place begun) }
-    ensures answers { Answers frames.new result token.now (finish (place_on begun (stack_of frames.old)) (action done.command)) }
+    ensures answers { Answers frames.new now.new result token.now (finished (place_on begun (stack_of frames.old)) now.old) }
     ensures lowers { Lowers frames.old frames.new result }
 {
+    let Now::Did(done) = mem::replace(now, Now::Due) else {
+        return Err(Stop::Unexpected);
+    };
     match begun {
         Place::Block(line, _, decls, commands) => {
             in_commands(
                 frames,
+                now,
                 line,
                 decls,
                 commands,
@@ -424,16 +475,19 @@ pub fn complete_command(
 fn variables(
     alloc: Global,
     frames: &mut Frames,
+    now: &mut Now,
     names: Vec<Name>,
     token: &Token,
-) -> Result<Now, Stop>
-    ensures { Steps (stack_of frames.new) result (in_names (map mention names.items) (stack_of frames.old) token.now.kind) }
+) -> Result<(), Stop>
+    ensures { Steps (stack_of frames.new) (reached result now.new) (in_names (map mention names.items) (stack_of frames.old) token.now.kind) }
 {
     if is_comma(token.kind) {
-        return Ok(due(frames, Place::Variable(names), NOTHING)?);
+        *now = due(frames, Place::Variable(names), NOTHING)?;
+        return Ok(());
     }
     if is_equal(token.kind) {
-        return Ok(due(frames, Place::Inits(names, Vec::new(alloc)), NOTHING)?);
+        *now = due(frames, Place::Inits(names, Vec::new(alloc)), NOTHING)?;
+        return Ok(());
     }
     Err(Stop::Unexpected)
 }
@@ -479,30 +533,44 @@ fn both_of(a: bool, b: bool) -> bool
 }
 
 /// Behind the name of a definition. Variables stand in blocks alone.
-fn named(alloc: Global, frames: &mut Frames, name: Name, token: &Token) -> Result<Now, Stop>
+fn named(
+    alloc: Global,
+    frames: &mut Frames,
+    now: &mut Now,
+    name: Name,
+    token: &Token,
+) -> Result<(), Stop>
     requires { HasRoomsFor frames.old (place_on (p.Named name) (stack_of frames.old)) }
-    ensures { Steps (stack_of frames.new) result (take_due (at_name (mention name) (stack_of frames.old)) token.now.line token.now.text.now token.now.kind) }
+    ensures { Steps (stack_of frames.new) (reached result now.new) (take_due (at_name (mention name) (stack_of frames.old)) token.now.line token.now.text.now token.now.kind) }
 {
     if is_open(token.kind) {
-        return Ok(due_still(frames, Place::Formals(name), NOTHING)?);
+        *now = due_still(frames, Place::Formals(name), NOTHING)?;
+        return Ok(());
     }
     if !in_a_block(frames) {
         return Err(Stop::Unexpected);
     }
     let mut names = Vec::new(alloc);
     names.push(name)?;
-    variables(alloc, frames, names, token)
+    variables(alloc, frames, now, names, token)
 }
 
 /// Behind the parenthesis of a procedure.
 #[tactic(auto, using(bk_frames::proofs::Turns::named_cases))]
-fn formals(alloc: Global, frames: &mut Frames, name: Name, token: &Token) -> Result<Now, Stop>
+fn formals(
+    alloc: Global,
+    frames: &mut Frames,
+    now: &mut Now,
+    name: Name,
+    token: &Token,
+) -> Result<(), Stop>
     requires { HasRoomsFor frames.old (place_on (p.Formals name) (stack_of frames.old)) }
-    ensures { Steps (stack_of frames.new) result (take_due (at_formals (mention name) (stack_of frames.old)) token.now.line token.now.text.now token.now.kind) }
+    ensures { Steps (stack_of frames.new) (reached result now.new) (take_due (at_formals (mention name) (stack_of frames.old)) token.now.line token.now.text.now token.now.kind) }
 {
     if is_close(token.kind) {
         let headed = Place::Headed(name, Vec::new(alloc));
-        return Ok(due_still(frames, headed, NOTHING)?);
+        *now = due_still(frames, headed, NOTHING)?;
+        return Ok(());
     }
     let Some(formal) = name_of(alloc, token)? else {
         return Err(Stop::Unexpected);
@@ -510,7 +578,8 @@ fn formals(alloc: Global, frames: &mut Frames, name: Name, token: &Token) -> Res
     let mut formals = Vec::new(alloc);
     formals.push(formal)?;
     let end = Place::FormalEnd(name, formals);
-    Ok(due_still(frames, end, NOTHING)?)
+    *now = due_still(frames, end, NOTHING)?;
+    Ok(())
 }
 
 /// A formal is due.
@@ -518,12 +587,13 @@ fn formals(alloc: Global, frames: &mut Frames, name: Name, token: &Token) -> Res
 fn formal(
     alloc: Global,
     frames: &mut Frames,
+    now: &mut Now,
     name: Name,
     formals: Vec<Name>,
     token: &Token,
-) -> Result<Now, Stop>
+) -> Result<(), Stop>
     requires { HasRoomsFor frames.old (place_on (p.Formal name formals) (stack_of frames.old)) }
-    ensures { Steps (stack_of frames.new) result (take_due (at_formal (mention name) (map mention formals.items) (stack_of frames.old)) token.now.line token.now.text.now token.now.kind) }
+    ensures { Steps (stack_of frames.new) (reached result now.new) (take_due (at_formal (mention name) (map mention formals.items) (stack_of frames.old)) token.now.line token.now.text.now token.now.kind) }
 {
     let Some(formal) = name_of(alloc, token)? else {
         return Err(Stop::Unexpected);
@@ -531,41 +601,53 @@ fn formal(
     let mut formals = formals;
     formals.push(formal)?;
     let end = Place::FormalEnd(name, formals);
-    Ok(due_still(frames, end, NOTHING)?)
+    *now = due_still(frames, end, NOTHING)?;
+    Ok(())
 }
 
 /// Behind a formal.
 #[tactic(auto, using(bk_frames::proofs::Turns::formals_cases))]
 fn formal_end(
     frames: &mut Frames,
+    now: &mut Now,
     name: Name,
     formals: Vec<Name>,
     token: &Token,
-) -> Result<Now, Stop>
+) -> Result<(), Stop>
     requires { HasRoomsFor frames.old (place_on (p.FormalEnd name formals) (stack_of frames.old)) }
-    ensures { Steps (stack_of frames.new) result (in_formals (mention name) (map mention formals.items) (stack_of frames.old) token.now.kind) }
+    ensures { Steps (stack_of frames.new) (reached result now.new) (in_formals (mention name) (map mention formals.items) (stack_of frames.old) token.now.kind) }
 {
     if is_comma(token.kind) {
         let next = Place::Formal(name, formals);
-        return Ok(due_still(frames, next, NOTHING)?);
+        *now = due_still(frames, next, NOTHING)?;
+        return Ok(());
     }
     if is_close(token.kind) {
         let headed = Place::Headed(name, formals);
-        return Ok(due_still(frames, headed, NOTHING)?);
+        *now = due_still(frames, headed, NOTHING)?;
+        return Ok(());
     }
     Err(Stop::Unexpected)
 }
 
 /// Behind the formals.
 #[tactic(auto, using(bk_frames::proofs::Turns::headed_cases))]
-fn headed(frames: &mut Frames, name: Name, formals: Vec<Name>, token: &Token) -> Result<Now, Stop>
-    ensures { Steps (stack_of frames.new) result (headed (mention name) (map mention formals.items) (stack_of frames.old) token.now.kind) }
+fn headed(
+    frames: &mut Frames,
+    now: &mut Now,
+    name: Name,
+    formals: Vec<Name>,
+    token: &Token,
+) -> Result<(), Stop>
+    ensures { Steps (stack_of frames.new) (reached result now.new) (headed (mention name) (map mention formals.items) (stack_of frames.old) token.now.kind) }
 {
     if is_be(token.kind) {
-        return Ok(wants_command(frames, Clause::Routine(name, formals), NOTHING)?);
+        *now = wants_command(frames, Clause::Routine(name, formals), NOTHING)?;
+        return Ok(());
     }
     if is_equal(token.kind) {
-        return Ok(want_for(frames, Member::Function(name, formals), NOTHING)?);
+        *now = want_for(frames, Member::Function(name, formals), NOTHING)?;
+        return Ok(());
     }
     Err(Stop::Unexpected)
 }
@@ -575,36 +657,40 @@ fn headed(frames: &mut Frames, name: Name, formals: Vec<Name>, token: &Token) ->
 fn variable(
     alloc: Global,
     frames: &mut Frames,
+    now: &mut Now,
     names: Vec<Name>,
     token: &Token,
-) -> Result<Now, Stop>
-    ensures { Steps (stack_of frames.new) result (take_due (at_variable (map mention names.items) (stack_of frames.old)) token.now.line token.now.text.now token.now.kind) }
+) -> Result<(), Stop>
+    ensures { Steps (stack_of frames.new) (reached result now.new) (take_due (at_variable (map mention names.items) (stack_of frames.old)) token.now.line token.now.text.now token.now.kind) }
 {
     let Some(name) = name_of(alloc, token)? else {
         return Err(Stop::Unexpected);
     };
     let mut names = names;
     names.push(name)?;
-    Ok(due(frames, Place::VariableEnd(names), NOTHING)?)
+    *now = due(frames, Place::VariableEnd(names), NOTHING)?;
+    Ok(())
 }
 
 /// An item of a LET is due.
 fn init(
     alloc: Global,
     frames: &mut Frames,
+    now: &mut Now,
     names: Vec<Name>,
     inits: Vec<Init>,
     held: Size,
     token: &Token,
-) -> Result<Now, Stop>
+) -> Result<(), Stop>
     requires { held ≡ held_in (Begun.Place (p.Inits names inits)) }
-    ensures { Steps (stack_of frames.new) result (take_due (at_starts (map mention names.items) (starts_in inits.items) (stack_of frames.old)) token.now.line token.now.text.now token.now.kind) }
+    ensures { Steps (stack_of frames.new) (reached result now.new) (take_due (at_starts (map mention names.items) (starts_in inits.items) (stack_of frames.old)) token.now.line token.now.text.now token.now.kind) }
 {
     if is_vec(token.kind) {
-        return Ok(want_for(frames, Member::Vector(token.line, names, inits), held)?);
+        *now = want_for(frames, Member::Vector(token.line, names, inits), held)?;
+        return Ok(());
     }
     begun(frames, Begun::Member(Member::Value(names, inits)), held)?;
-    operand(alloc, frames, token)
+    operand(alloc, frames, now, token)
 }
 
 /// The name of a definition is due.
@@ -612,47 +698,50 @@ fn init(
 fn in_let(
     alloc: Global,
     frames: &mut Frames,
+    now: &mut Now,
     line: Line,
     defs: Vec<Def>,
     held: Size,
     token: &Token,
-) -> Result<Now, Stop>
+) -> Result<(), Stop>
     requires held { held ≡ held_in (Begun.Place (p.Let line defs)) }
     requires rooms { HasRoomsFor frames.old (place_on (p.Let line defs) (stack_of frames.old)) }
-    ensures { Steps (stack_of frames.new) result (take_due (in_let line (definitions_in defs.items) (stack_of frames.old)) token.now.line token.now.text.now token.now.kind) }
+    ensures { Steps (stack_of frames.new) (reached result now.new) (take_due (in_let line (definitions_in defs.items) (stack_of frames.old)) token.now.line token.now.text.now token.now.kind) }
 {
     let Some(name) = name_of(alloc, token)? else {
         return Err(Stop::Unexpected);
     };
     begun_still(frames, Begun::Place(Place::Let(line, defs)), held)?;
-    Ok(due(frames, Place::Named(name), NOTHING)?)
+    *now = due(frames, Place::Named(name), NOTHING)?;
+    Ok(())
 }
 
 /// A place of a block or a definition, where this symbol comes.
 fn due_in(
     alloc: Global,
     frames: &mut Frames,
+    now: &mut Now,
     place: Place,
     held: Size,
     token: &Token,
-) -> Result<Now, Stop>
+) -> Result<(), Stop>
     requires held { held ≡ held_in (Begun.Place place) }
     requires rooms { HasRoomsFor frames.old (place_on place (stack_of frames.old)) }
-    ensures { Steps (stack_of frames.new) result (take_due (place_on place (stack_of frames.old)) token.now.line token.now.text.now token.now.kind) }
+    ensures { Steps (stack_of frames.new) (reached result now.new) (take_due (place_on place (stack_of frames.old)) token.now.line token.now.text.now token.now.kind) }
 {
     match place {
         Place::Block(line, free, decls, commands) => {
-            in_block(alloc, frames, line, free, decls, commands, held, token)
+            in_block(alloc, frames, now, line, free, decls, commands, held, token)
         }
-        Place::Let(line, defs) => in_let(alloc, frames, line, defs, held, token),
-        Place::Named(name) => named(alloc, frames, name, token),
-        Place::Formals(name) => formals(alloc, frames, name, token),
-        Place::Formal(name, formals) => formal(alloc, frames, name, formals, token),
-        Place::FormalEnd(name, formals) => formal_end(frames, name, formals, token),
-        Place::Headed(name, formals) => headed(frames, name, formals, token),
-        Place::Variable(names) => variable(alloc, frames, names, token),
-        Place::VariableEnd(names) => variables(alloc, frames, names, token),
-        Place::Inits(names, inits) => init(alloc, frames, names, inits, held, token),
+        Place::Let(line, defs) => in_let(alloc, frames, now, line, defs, held, token),
+        Place::Named(name) => named(alloc, frames, now, name, token),
+        Place::Formals(name) => formals(alloc, frames, now, name, token),
+        Place::Formal(name, formals) => formal(alloc, frames, now, name, formals, token),
+        Place::FormalEnd(name, formals) => formal_end(frames, now, name, formals, token),
+        Place::Headed(name, formals) => headed(frames, now, name, formals, token),
+        Place::Variable(names) => variable(alloc, frames, now, names, token),
+        Place::VariableEnd(names) => variables(alloc, frames, now, names, token),
+        Place::Inits(names, inits) => init(alloc, frames, now, names, inits, held, token),
     }
 }
 
@@ -661,22 +750,27 @@ fn due_in(
 fn between_items(
     alloc: Global,
     frames: &mut Frames,
+    now: &mut Now,
     line: Line,
     sort: Sort,
     items: Vec<Item>,
     held: Size,
     token: &Token,
-) -> Result<Now, Stop>
+) -> Result<(), Stop>
     requires { held ≡ held_in (Begun.Point (t.Items line sort items)) }
-    ensures { Steps (stack_of frames.new) result (take_item line sort (items_in items.items) (stack_of frames.old) token.now.line token.now.text.now token.now.kind) }
+    ensures { Steps (stack_of frames.new) (reached result now.new) (take_item line sort (items_in items.items) (stack_of frames.old) token.now.line token.now.text.now token.now.kind) }
 {
     if !are_no_items(&items) {
         if is_semicolon(token.kind) {
-            return Ok(due_at(frames, Point::Items(line, sort, items), held)?);
+            *now = due_at(frames, Point::Items(line, sort, items), held)?;
+            return Ok(());
         }
         if closes(token.kind) {
             return match declare(frames, constants(line, sort, items), held) {
-                Ok(()) => Ok(Now::Due),
+                Ok(()) => {
+                    *now = Now::Due;
+                    Ok(())
+                }
                 Err(Stop::Memory) => Err(Stop::Memory),
                 Err(Stop::Unexpected) => Err(Stop::Unexpected),
             };
@@ -685,7 +779,8 @@ fn between_items(
     let Some(name) = name_of(alloc, token)? else {
         return Err(Stop::Unexpected);
     };
-    Ok(due_at(frames, Point::Signed(line, sort, items, name), held)?)
+    *now = due_at(frames, Point::Signed(line, sort, items, name), held)?;
+    Ok(())
 }
 
 /// A place of a declaration with constants or of a command, where this symbol comes.
@@ -693,26 +788,29 @@ fn between_items(
 fn due_within(
     alloc: Global,
     frames: &mut Frames,
+    now: &mut Now,
     point: Point,
     held: Size,
     token: &Token,
-) -> Result<Now, Stop>
+) -> Result<(), Stop>
     requires { held ≡ held_in (Begun.Point point) }
-    ensures { Steps (stack_of frames.new) result (take_due (point_on point (stack_of frames.old)) token.now.line token.now.text.now token.now.kind) }
+    ensures { Steps (stack_of frames.new) (reached result now.new) (take_due (point_on point (stack_of frames.old)) token.now.line token.now.text.now token.now.kind) }
 {
     match point {
         Point::Opening(line, sort) => {
             if !opens(token.kind) {
                 return Err(Stop::Unexpected);
             }
-            Ok(due_at(frames, Point::Items(line, sort, Vec::new(alloc)), held)?)
+            *now = due_at(frames, Point::Items(line, sort, Vec::new(alloc)), held)?;
+            Ok(())
         }
         Point::Items(line, sort, items) => {
-            between_items(alloc, frames, line, sort, items, held, token)
+            between_items(alloc, frames, now, line, sort, items, held, token)
         }
         Point::Signed(line, sort, items, name) => {
             if is_equal(token.kind) || is_colon(token.kind) {
-                return Ok(want_for(frames, Member::Item(line, sort, items, name), held)?);
+                *now = want_for(frames, Member::Item(line, sort, items, name), held)?;
+                return Ok(());
             }
             Err(Stop::Unexpected)
         }
@@ -720,37 +818,46 @@ fn due_within(
             let Some(name) = name_of(alloc, token)? else {
                 return Err(Stop::Unexpected);
             };
-            Ok(Now::Did(did(Command::Goto(line, name), NOTHING)))
+            *now = Now::Did(did(Command::Goto(line, name), NOTHING));
+            Ok(())
         }
         Point::For(line) => {
             let Some(name) = name_of(alloc, token)? else {
                 return Err(Stop::Unexpected);
             };
-            Ok(due_at(frames, Point::Forward(line, name), NOTHING)?)
+            *now = due_at(frames, Point::Forward(line, name), NOTHING)?;
+            Ok(())
         }
         Point::Forward(line, name) => {
             if !is_equal(token.kind) {
                 return Err(Stop::Unexpected);
             }
-            Ok(want_in(frames, Phrase::From(line, name), NOTHING)?)
+            *now = want_in(frames, Phrase::From(line, name), NOTHING)?;
+            Ok(())
         }
         Point::Default(line) => {
             if !is_colon(token.kind) {
                 return Err(Stop::Unexpected);
             }
             begun(frames, Begun::Clause(Clause::Default(line)), NOTHING)?;
-            Ok(Now::Maybe)
+            *now = Now::Maybe;
+            Ok(())
         }
     }
 }
 
 /// A symbol is due, and this one comes.
 #[tactic(auto, using(bk_frames::proofs::Stacks::frames_laws))]
-pub fn at_place(alloc: Global, frames: &mut Frames, token: &Token) -> Result<Now, Stop>
-    ensures { Steps (stack_of frames.new) result (take_due (stack_of frames.old) token.now.line token.now.text.now token.now.kind) }
+pub fn at_place(
+    alloc: Global,
+    frames: &mut Frames,
+    now: &mut Now,
+    token: &Token,
+) -> Result<(), Stop>
+    ensures { Steps (stack_of frames.new) (reached result now.new) (take_due (stack_of frames.old) token.now.line token.now.text.now token.now.kind) }
 {
     let Some(top) = pop(frames) else {
-        return in_section(alloc, frames, token);
+        return in_section(alloc, frames, now, token);
     };
     let Frame {
         begun,
@@ -758,8 +865,8 @@ pub fn at_place(alloc: Global, frames: &mut Frames, token: &Token) -> Result<Now
         spare: _,
     } = top;
     match begun {
-        Begun::Place(place) => due_in(alloc, frames, place, held, token),
-        Begun::Point(point) => due_within(alloc, frames, point, held, token),
+        Begun::Place(place) => due_in(alloc, frames, now, place, held, token),
+        Begun::Point(point) => due_within(alloc, frames, now, point, held, token),
         _ => Err(Stop::Unexpected),
     }
 }

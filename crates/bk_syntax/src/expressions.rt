@@ -14,7 +14,8 @@ ghost use Rattle.bk_tree.specs.Parts.{line_of};
 ghost use Rattle.bk_grammar.specs.Machine.{Stack, limit, push, infixed, in_chain, in_args, in_table, bars, no_args, take_operand, give, want, begin, due, have};
 ghost use Rattle.bk_frames.specs.Begun.{begun_on, operand_on, phrase_on, member_on, clause_on, place_on, point_on};
 ghost use Rattle.bk_frames.specs.Stacked.{stack};
-ghost use Rattle.bk_frames.specs.Frames.{stack_of, HasRoomsFor, state, Steps, Answers, Lowers, Falls};
+ghost use Rattle.bk_syntax.specs.Parsing.{reached};
+ghost use Rattle.bk_frames.specs.Frames.{stack_of, HasRoomsFor, state, given, Steps, Answers, Lowers, Falls};
 
 use bk_base::Line;
 use bk_frames::frame::{
@@ -32,8 +33,10 @@ use bk_lex::{Kind, Token, character_byte, number_word, string_bytes};
 use bk_tree::make::{apply, table};
 use bk_tree::{Expr, Operator, copy};
 use std::alloc::{AllocError, Global};
+use std::mem;
 
 /// Puts on top an expression that was begun, whose operand is due.
+#[inline(always)]
 pub fn want(frames: &mut Frames, operand: Operand, held: Size) -> Result<Now, AllocError>
     requires { held ≡ held_in (Begun.Operand operand) }
     ensures { IfOk result (λ now. state (stack_of frames.new) now ≡ want (operand_on operand (stack_of frames.old))) }
@@ -43,6 +46,7 @@ pub fn want(frames: &mut Frames, operand: Operand, held: Size) -> Result<Now, Al
 }
 
 /// Puts on top a command or definition that was begun, of which an expression is due.
+#[inline(always)]
 pub fn want_in(frames: &mut Frames, phrase: Phrase, held: Size) -> Result<Now, AllocError>
     requires { held ≡ held_in (Begun.Phrase phrase) }
     ensures { IfOk result (λ now. state (stack_of frames.new) now ≡ want (phrase_on phrase (stack_of frames.old))) }
@@ -52,6 +56,7 @@ pub fn want_in(frames: &mut Frames, phrase: Phrase, held: Size) -> Result<Now, A
 }
 
 /// Puts on top an item or a definition that was begun, of which an expression is due.
+#[inline(always)]
 pub fn want_for(frames: &mut Frames, member: Member, held: Size) -> Result<Now, AllocError>
     requires { held ≡ held_in (Begun.Member member) }
     ensures { IfOk result (λ now. state (stack_of frames.new) now ≡ want (member_on member (stack_of frames.old))) }
@@ -61,6 +66,7 @@ pub fn want_for(frames: &mut Frames, member: Member, held: Size) -> Result<Now, 
 }
 
 /// Puts on top what was begun, of which a command is due.
+#[inline(always)]
 pub fn wants_command(frames: &mut Frames, clause: Clause, held: Size) -> Result<Now, AllocError>
     requires { held ≡ held_in (Begun.Clause clause) }
     ensures { IfOk result (λ now. state (stack_of frames.new) now ≡ begin (clause_on clause (stack_of frames.old))) }
@@ -70,6 +76,7 @@ pub fn wants_command(frames: &mut Frames, clause: Clause, held: Size) -> Result<
 }
 
 /// Puts on top a place of an item or a command, where a symbol is due.
+#[inline(always)]
 pub fn due_at(frames: &mut Frames, point: Point, held: Size) -> Result<Now, AllocError>
     requires { held ≡ held_in (Begun.Point point) }
     ensures { IfOk result (λ now. state (stack_of frames.new) now ≡ due (point_on point (stack_of frames.old))) }
@@ -79,6 +86,7 @@ pub fn due_at(frames: &mut Frames, point: Point, held: Size) -> Result<Now, Allo
 }
 
 /// Puts on top a place of a block or a definition, where a symbol is due.
+#[inline(always)]
 pub fn due(frames: &mut Frames, place: Place, held: Size) -> Result<Now, AllocError>
     requires { held ≡ held_in (Begun.Place place) }
     ensures { IfOk result (λ now. state (stack_of frames.new) now ≡ due (place_on place (stack_of frames.old))) }
@@ -88,6 +96,7 @@ pub fn due(frames: &mut Frames, place: Place, held: Size) -> Result<Now, AllocEr
 }
 
 /// Puts on top a place of a block or a definition, where a symbol is due, in place of what had the same rooms there before.
+#[inline(always)]
 pub fn due_still(frames: &mut Frames, place: Place, held: Size) -> Result<Now, AllocError>
     requires held { held ≡ held_in (Begun.Place place) }
     requires rooms { HasRoomsFor frames.old (place_on place (stack_of frames.old)) }
@@ -209,22 +218,30 @@ fn go_on_infix(
 
 /// The expression goes on with the symbol.
 #[tactic(auto, using(bk_frames::proofs::Turns::push_cases))]
-pub fn go_on(alloc: Global, frames: &mut Frames, sized: Sized, token: &Token) -> Result<Flow, Stop>
-    ensures answers { Answers frames.new result token.now (λ l x kind. push (stack_of frames.old) (expression sized.expr) kind l) }
+pub fn go_on(
+    alloc: Global,
+    frames: &mut Frames,
+    now: &mut Now,
+    sized: Sized,
+    token: &Token,
+) -> Result<Flow, Stop>
+    ensures answers { Answers frames.new now.new result token.now (λ l x kind. push (stack_of frames.old) (expression sized.expr) kind l) }
     ensures falls { Falls frames.old frames.new result }
 {
     if let Some(operator) = infix(token.kind) {
-        let now = go_on_infix(alloc, frames, sized, operator, token.line)?;
-        return Ok(Flow::Stay(now));
+        *now = go_on_infix(alloc, frames, sized, operator, token.line)?;
+        return Ok(Flow::Taken);
     }
     if is_open(token.kind) {
         let callee = Box::new(alloc, sized.expr)?;
         let args = Operand::Args(token.line, callee, Vec::new(alloc));
-        return Ok(Flow::Stay(want(frames, args, sized.size)?));
+        *now = want(frames, args, sized.size)?;
+        return Ok(Flow::Taken);
     }
     if is_arrow(token.kind) {
         let condition = Box::new(alloc, sized.expr)?;
-        return Ok(Flow::Stay(want(frames, Operand::Then(token.line, condition), sized.size)?));
+        *now = want(frames, Operand::Then(token.line, condition), sized.size)?;
+        return Ok(Flow::Taken);
     }
     Err(Stop::Unexpected)
 }
@@ -318,8 +335,8 @@ fn is_barred(frames: &Frames) -> bool
 
 /// A `)` where an argument is due.
 #[tactic(auto, using(bk_frames::proofs::Stacks::frames_laws, bk_frames::proofs::Turns::no_args_cases))]
-fn no_arguments(frames: &mut Frames) -> Result<Now, Stop>
-    ensures { Steps (stack_of frames.new) result (no_args (stack_of frames.old)) }
+fn no_arguments(frames: &mut Frames, now: &mut Now) -> Result<(), Stop>
+    ensures { Steps (stack_of frames.new) (reached result now.new) (no_args (stack_of frames.old)) }
 {
     let Some(top) = pop(frames) else {
         return Err(Stop::Unexpected);
@@ -338,7 +355,8 @@ fn no_arguments(frames: &mut Frames) -> Result<Now, Stop>
                 return Err(Stop::Unexpected);
             }
             let apply = apply(line_of(&callee), sign, callee, items);
-            Ok(Now::Have(whole(apply, held)))
+            *now = Now::Have(whole(apply, held));
+            Ok(())
         }
         _ => Err(Stop::Unexpected),
     }
@@ -347,44 +365,54 @@ fn no_arguments(frames: &mut Frames) -> Result<Now, Stop>
 /// An operand is due, and this symbol comes, which is no name and no number.
 #[inline(never)]
 #[tactic(auto, using(bk_frames::proofs::Turns::operand_cases))]
-fn other_operand(alloc: Global, frames: &mut Frames, token: &Token) -> Result<Now, Stop>
-    ensures { Steps (stack_of frames.new) result (take_operand (stack_of frames.old) token.now.line token.now.text.now token.now.kind) }
+fn other_operand(
+    alloc: Global,
+    frames: &mut Frames,
+    now: &mut Now,
+    token: &Token,
+) -> Result<(), Stop>
+    ensures { Steps (stack_of frames.new) (reached result now.new) (take_operand (stack_of frames.old) token.now.line token.now.text.now token.now.kind) }
 {
     if let Some(expr) = leaf_of(alloc, token)? {
-        return Ok(leaf(expr));
+        *now = leaf(expr);
+        return Ok(());
     }
     if let Some(prefix) = prefix(token.kind) {
-        return Ok(want(frames, Operand::Unary(token.line, prefix), NOTHING)?);
+        *now = want(frames, Operand::Unary(token.line, prefix), NOTHING)?;
+        return Ok(());
     }
     match opens_with(token.kind) {
-        Some(Opening::Parens) => Ok(want(frames, Operand::Parens(token.line), NOTHING)?),
-        Some(Opening::Close) => no_arguments(frames),
-        Some(Opening::Valof) => Ok(wants_command(frames, Clause::Valof(token.line), NOTHING)?),
+        Some(Opening::Parens) => *now = want(frames, Operand::Parens(token.line), NOTHING)?,
+        Some(Opening::Close) => return no_arguments(frames, now),
+        Some(Opening::Valof) => *now = wants_command(frames, Clause::Valof(token.line), NOTHING)?,
         Some(Opening::Table) => {
             if is_barred(frames) {
                 return Err(Stop::Unexpected);
             }
-            Ok(want(frames, Operand::Table(token.line, Vec::new(alloc)), NOTHING)?)
+            *now = want(frames, Operand::Table(token.line, Vec::new(alloc)), NOTHING)?;
         }
-        None => Err(Stop::Unexpected),
+        None => return Err(Stop::Unexpected),
     }
+    Ok(())
 }
 
 /// An operand is due, and this symbol comes.
-pub fn operand(alloc: Global, frames: &mut Frames, token: &Token) -> Result<Now, Stop>
-    ensures { Steps (stack_of frames.new) result (take_operand (stack_of frames.old) token.now.line token.now.text.now token.now.kind) }
+pub fn operand(alloc: Global, frames: &mut Frames, now: &mut Now, token: &Token) -> Result<(), Stop>
+    ensures { Steps (stack_of frames.new) (reached result now.new) (take_operand (stack_of frames.old) token.now.line token.now.text.now token.now.kind) }
 {
     match token.kind {
-        Kind::Name => Ok(leaf(Expr::Name(token.line, name(alloc, token.text)?))),
-        Kind::Number => Ok(leaf(Expr::Number(token.line, number_word(token.text)))),
-        _ => other_operand(alloc, frames, token),
+        Kind::Name => *now = leaf(Expr::Name(token.line, name(alloc, token.text)?)),
+        Kind::Number => *now = leaf(Expr::Number(token.line, number_word(token.text))),
+        _ => return other_operand(alloc, frames, now, token),
     }
+    Ok(())
 }
 
 /// An argument is complete.
 #[tactic(auto, using(bk_tree::proofs::Trees::one_more, bk_tree::proofs::Trees::more_sizes))]
 fn argument(
     frames: &mut Frames,
+    now: &mut Now,
     sign: Line,
     callee: Box<Expr>,
     items: Vec<Expr>,
@@ -394,17 +422,19 @@ fn argument(
 ) -> Result<Flow, Stop>
     requires stops { goes 12 token.now.kind ≡ false }
     requires parts { parts ≡ both_of (held_in (Begun.Operand (o.Args sign callee items))) (size_of (expression last)) }
-    ensures flows { Answers frames.new result token.now (give (in_args sign (expression callee.value) (expressions_in items.items) (stack_of frames.old)) (expression last)) }
+    ensures flows { Answers frames.new now.new result token.now (give (in_args sign (expression callee.value) (expressions_in items.items) (stack_of frames.old)) (expression last)) }
     ensures lowers { Lowers frames.old frames.new result }
 {
     let mut items = items;
     items.push(last)?;
     if is_comma(token.kind) {
-        return Ok(Flow::Stay(want(frames, Operand::Args(sign, callee, items), parts)?));
+        *now = want(frames, Operand::Args(sign, callee, items), parts)?;
+        return Ok(Flow::Taken);
     }
     if is_close(token.kind) {
         let apply = apply(line_of(&callee), sign, callee, items);
-        return Ok(Flow::Stay(Now::Have(whole(apply, parts))));
+        *now = Now::Have(whole(apply, parts));
+        return Ok(Flow::Taken);
     }
     Err(Stop::Unexpected)
 }
@@ -413,6 +443,7 @@ fn argument(
 #[tactic(auto, using(bk_tree::proofs::Trees::one_more, bk_tree::proofs::Trees::more_sizes))]
 fn entry(
     frames: &mut Frames,
+    now: &mut Now,
     line: Line,
     items: Vec<Expr>,
     parts: Size,
@@ -421,15 +452,17 @@ fn entry(
 ) -> Result<Flow, Stop>
     requires stops { goes 12 token.now.kind ≡ false }
     requires parts { parts ≡ both_of (held_in (Begun.Operand (o.Table line items))) (size_of (expression last)) }
-    ensures flows { Answers frames.new result token.now (give (in_table line (expressions_in items.items) (stack_of frames.old)) (expression last)) }
+    ensures flows { Answers frames.new now.new result token.now (give (in_table line (expressions_in items.items) (stack_of frames.old)) (expression last)) }
     ensures lowers { Lowers frames.old frames.new result }
 {
     let mut items = items;
     items.push(last)?;
     if is_comma(token.kind) {
-        return Ok(Flow::Stay(want(frames, Operand::Table(line, items), parts)?));
+        *now = want(frames, Operand::Table(line, items), parts)?;
+        return Ok(Flow::Taken);
     }
-    Ok(Flow::Gives(whole(table(line, items), parts)))
+    *now = Now::Have(whole(table(line, items), parts));
+    Ok(Flow::Comes)
 }
 
 /// The size of the operand that a further relation would share with this right operand.
@@ -479,11 +512,12 @@ fn chained(
     })
 }
 
-/// An operand is complete, with which the symbol behind it does not go on.
-#[inline(never)]
-pub fn complete(
+/// An operand is complete, which is this: the symbol after it does not continue it.
+#[inline(always)]
+fn complete_with(
     alloc: Global,
     frames: &mut Frames,
+    now: &mut Now,
     begun: Operand,
     held: Size,
     sized: Sized,
@@ -491,7 +525,7 @@ pub fn complete(
 ) -> Result<Flow, Stop>
     requires stops { goes (limit (operand_on begun (stack_of frames.old))) token.now.kind ≡ false }
     requires held { held ≡ held_in (Begun.Operand begun) }
-    ensures flows { Answers frames.new result token.now (give (operand_on begun (stack_of frames.old)) (expression sized.expr)) }
+    ensures flows { Answers frames.new now.new result token.now (give (operand_on begun (stack_of frames.old)) (expression sized.expr)) }
     ensures lowers { Lowers frames.old frames.new result }
 {
     let parts = both(held, sized.size);
@@ -501,40 +535,68 @@ pub fn complete(
                 return Err(Stop::Unexpected);
             }
             let inner = Box::new(alloc, sized.expr)?;
-            Ok(Flow::Stay(Now::Have(whole(Expr::Parens(line, inner), parts))))
+            *now = Now::Have(whole(Expr::Parens(line, inner), parts));
+            Ok(Flow::Taken)
         }
         Operand::Unary(line, prefix) => {
             let operand = Box::new(alloc, sized.expr)?;
-            Ok(Flow::Gives(whole(Expr::Unary(line, prefix, operand), parts)))
+            *now = Now::Have(whole(Expr::Unary(line, prefix, operand), parts));
+            Ok(Flow::Comes)
         }
         Operand::Binary(operator, sign, left) => {
             let line = line_of(&left);
             let shared = shared_size(operator, &sized);
             let right = Box::new(alloc, sized.expr)?;
-            Ok(Flow::Gives(Sized {
+            let pair = Sized {
                 expr: Expr::Binary(line, operator, sign, left, right),
                 size: of_node(parts),
                 right: shared,
-            }))
+            };
+            *now = Now::Have(pair);
+            Ok(Flow::Comes)
         }
-        Operand::Chain(operator, sign, before, shared) => Ok(Flow::Gives(chained(
-            alloc, operator, sign, before, shared, held, sized,
-        )?)),
+        Operand::Chain(operator, sign, before, shared) => {
+            *now = Now::Have(chained(alloc, operator, sign, before, shared, held, sized)?);
+            Ok(Flow::Comes)
+        }
         Operand::Then(sign, condition) => {
             if !is_comma(token.kind) {
                 return Err(Stop::Unexpected);
             }
             let yes = Box::new(alloc, sized.expr)?;
-            Ok(Flow::Stay(want(frames, Operand::Else(sign, condition, yes), parts)?))
+            *now = want(frames, Operand::Else(sign, condition, yes), parts)?;
+            Ok(Flow::Taken)
         }
         Operand::Else(sign, condition, yes) => {
             let line = line_of(&condition);
             let no = Box::new(alloc, sized.expr)?;
-            Ok(Flow::Gives(whole(Expr::Choice(line, sign, condition, yes, no), parts)))
+            *now = Now::Have(whole(Expr::Choice(line, sign, condition, yes, no), parts));
+            Ok(Flow::Comes)
         }
         Operand::Args(sign, callee, items) => argument(
-            frames, sign, callee, items, parts, sized.expr, token,
+            frames, now, sign, callee, items, parts, sized.expr, token,
         ),
-        Operand::Table(line, items) => entry(frames, line, items, parts, sized.expr, token),
+        Operand::Table(line, items) => entry(frames, now, line, items, parts, sized.expr, token),
     }
+}
+
+/// An operand is complete: the symbol after it does not continue it.
+#[inline(never)]
+pub fn complete(
+    alloc: Global,
+    frames: &mut Frames,
+    now: &mut Now,
+    begun: Operand,
+    held: Size,
+    token: &Token,
+) -> Result<Flow, Stop>
+    requires stops { goes (limit (operand_on begun (stack_of frames.old))) token.now.kind ≡ false }
+    requires held { held ≡ held_in (Begun.Operand begun) }
+    ensures flows { Answers frames.new now.new result token.now (given (operand_on begun (stack_of frames.old)) now.old) }
+    ensures lowers { Lowers frames.old frames.new result }
+{
+    let Now::Have(sized) = mem::replace(now, Now::Due) else {
+        return Err(Stop::Unexpected);
+    };
+    complete_with(alloc, frames, now, begun, held, sized, token)
 }

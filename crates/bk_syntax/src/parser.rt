@@ -2,12 +2,12 @@
 ghost use Rattle.std.specs.Prelude.{◌≡◌, ◌<◌, true, false, Some, [], List, length, IfOk, IfErr, OnOk};
 ghost use Rattle.bk_lex.specs.Symbol.{Symbol, symbol_of, symbols_of};
 ghost use Rattle.bk_lex.specs.Values.{upper_name};
-ghost use Rattle.bk_tree.specs.Tree.{Declarations, expression, action, declarations_in};
+ghost use Rattle.bk_tree.specs.Tree.{Declarations, declarations_in};
 ghost use Rattle.bk_grammar.specs.Spelling.{tag_of};
 ghost use Rattle.bk_grammar.specs.Rows.{goes};
 ghost use Rattle.bk_grammar.specs.Machine.{limit, opens, closes, give, finish, without, stepped_by, whole, run, due, maybe, in_section};
 ghost use Rattle.bk_frames.specs.Begun.{begun_on, held_in};
-ghost use Rattle.bk_frames.specs.Frames.{stack_of, state, flow, flow_of, Steps, Answers, Lowers, Falls};
+ghost use Rattle.bk_frames.specs.Frames.{stack_of, state, given, finished, after, Steps, Answers, Lowers, Falls};
 ghost use Rattle.bk_syntax.specs.Parsing.{tags, Closes, steps, AfterSymbols, why_of, answered, reached, IsPassed, Advances, AnswersAtEnd, Parses, Gives};
 ghost use Rattle.bk_tree.specs.Section.{declarations_of};
 ghost use Rattle.bk_grammar.specs.SyntaxFault.{IsSection};
@@ -16,11 +16,11 @@ ghost use Rattle.bk_frames.specs.Bounds.{Always, Bounded};
 ghost use Rattle.bk_frames.specs.WaysOn.{Completes};
 
 use crate::commands::{again, command, complete_clause, complete_phrase, did, guarded};
-use crate::definitions::{at_place, complete_command, complete_definition, complete_member};
+use crate::definitions::{at_place, complete_command, complete_member};
 use crate::expressions::{complete, extends, go_on, operand};
 use crate::why::{Why, told};
 use bk_base::{Line, Refused, SourceFault};
-use bk_frames::frame::{Begun, Clause, Done, Flow, Frame, Now, Size, Sized, Stop};
+use bk_frames::frame::{Begun, Clause, Flow, Frame, Now, Size, Stop};
 use bk_frames::frames::Frames;
 use bk_frames::limits::{is_bounded, is_bounded_in_depth};
 use bk_frames::size::NOTHING;
@@ -32,25 +32,25 @@ use bk_tree::{Command, Section};
 use std::alloc::Global;
 use std::mem;
 
-/// An expression is complete in what was begun, with which the symbol behind it does not go on.
+/// An expression is complete in what was begun, with which the symbol after it does not go on.
 #[inline(always)]
 fn complete_part(
     alloc: Global,
     frames: &mut Frames,
+    now: &mut Now,
     begun: Begun,
     held: Size,
-    sized: Sized,
     token: &Token,
 ) -> Result<Flow, Stop>
     requires stops { goes (limit (begun_on begun (stack_of frames.old))) token.now.kind ≡ false }
     requires held { held ≡ held_in begun }
-    ensures answers { Answers frames.new result token.now (give (begun_on begun (stack_of frames.old)) (expression sized.expr)) }
+    ensures answers { Answers frames.new now.new result token.now (given (begun_on begun (stack_of frames.old)) now.old) }
     ensures lowers { Lowers frames.old frames.new result }
 {
     match begun {
-        Begun::Operand(operand) => complete(alloc, frames, operand, held, sized, token),
-        Begun::Phrase(phrase) => complete_phrase(alloc, frames, phrase, held, sized, token),
-        Begun::Member(member) => complete_member(alloc, frames, member, held, sized, token),
+        Begun::Operand(operand) => complete(alloc, frames, now, operand, held, token),
+        Begun::Phrase(phrase) => complete_phrase(alloc, frames, now, phrase, held, token),
+        Begun::Member(member) => complete_member(alloc, frames, now, member, held, token),
         Begun::Clause(_) => Err(Stop::Unexpected),
         Begun::Place(_) => Err(Stop::Unexpected),
         Begun::Point(_) => Err(Stop::Unexpected),
@@ -67,19 +67,22 @@ fn goes_on_with(frames: &Frames, kind: Kind) -> bool
     }
 }
 
-/// An expression is complete so far, and a symbol comes behind it.
+/// An expression is complete so far, and a symbol comes after it.
 #[tactic(auto, using(bk_frames::proofs::Stacks::frames_laws))]
-fn behind_expression(
+fn after_expression(
     alloc: Global,
     frames: &mut Frames,
-    sized: Sized,
+    now: &mut Now,
     token: &Token,
 ) -> Result<Flow, Stop>
-    ensures answers { Answers frames.new result token.now (give (stack_of frames.old) (expression sized.expr)) }
+    ensures answers { Answers frames.new now.new result token.now (given (stack_of frames.old) now.old) }
     ensures falls { Falls frames.old frames.new result }
 {
     if goes_on_with(frames, token.kind) {
-        return go_on(alloc, frames, sized, token);
+        let Now::Have(sized) = mem::replace(now, Now::Due) else {
+            return Err(Stop::Unexpected);
+        };
+        return go_on(alloc, frames, now, sized, token);
     }
     let Some(top) = pop(frames) else {
         return Err(Stop::Unexpected);
@@ -89,22 +92,25 @@ fn behind_expression(
         held,
         spare: _,
     } = top;
-    complete_part(alloc, frames, begun, held, sized, token)
+    complete_part(alloc, frames, now, begun, held, token)
 }
 
-/// A command is complete so far, and a symbol comes behind it.
+/// A command is complete so far, and a symbol comes after it.
 #[tactic(auto, using(bk_frames::proofs::Stacks::frames_laws))]
-fn behind_command(
+fn after_command(
     alloc: Global,
     frames: &mut Frames,
-    done: Done,
+    now: &mut Now,
     token: &Token,
 ) -> Result<Flow, Stop>
-    ensures answers { Answers frames.new result token.now (finish (stack_of frames.old) (action done.command)) }
+    ensures answers { Answers frames.new now.new result token.now (finished (stack_of frames.old) now.old) }
     ensures falls { Falls frames.old frames.new result }
 {
     if repeats(token.kind) {
-        return again(alloc, frames, done, token);
+        let Now::Did(done) = mem::replace(now, Now::Due) else {
+            return Err(Stop::Unexpected);
+        };
+        return again(alloc, frames, now, done, token);
     }
     let Some(top) = pop(frames) else {
         return Err(Stop::Unexpected);
@@ -115,17 +121,55 @@ fn behind_command(
         spare: _,
     } = top;
     match begun {
-        Begun::Clause(clause) => complete_clause(alloc, frames, clause, held, done, token),
-        Begun::Place(place) => complete_command(frames, place, held, done, token),
+        Begun::Clause(clause) => complete_clause(alloc, frames, now, clause, held, token),
+        Begun::Place(place) => complete_command(frames, now, place, held, token),
         Begun::Operand(_) | Begun::Phrase(_) => Err(Stop::Unexpected),
         _ => Err(Stop::Unexpected),
     }
 }
 
-/// No command behind a colon, and a symbol that begins none.
+/// A part may be complete so far, and a symbol comes after it.
+#[inline(always)]
+fn after_part(
+    alloc: Global,
+    frames: &mut Frames,
+    now: &mut Now,
+    token: &Token,
+) -> Result<Flow, Stop>
+    ensures answers { Answers frames.new now.new result token.now (after (stack_of frames.old) now.old) }
+    ensures falls { Falls frames.old frames.new result }
+{
+    match now {
+        Now::Have(_) => after_expression(alloc, frames, now, token),
+        Now::Did(_) => after_command(alloc, frames, now, token),
+        Now::Want | Now::Begin | Now::Maybe | Now::Due => Ok(Flow::Taken),
+    }
+}
+
+/// Takes the symbol after the part that is complete so far, and completes what the symbol completes.
+#[inline(never)]
+fn settle(alloc: Global, frames: &mut Frames, now: &mut Now, token: &Token) -> Result<(), Stop>
+    ensures { Steps (stack_of frames.new) (reached result now.new) (after (stack_of frames.old) now.old token.now.line token.now.text.now token.now.kind) }
+{
+    loop {
+        match after_part(alloc, frames, now, token) {
+            Ok(Flow::Comes) => {}
+            Ok(Flow::Taken) => return Ok(()),
+            Err(Stop::Memory) => return Err(Stop::Memory),
+            Err(Stop::Unexpected) => return Err(Stop::Unexpected),
+        }
+    }
+}
+
+/// There is no command after a colon, and this symbol begins none.
 #[tactic(auto, using(bk_frames::proofs::Stacks::frames_laws, bk_frames::proofs::Turns::guarded_sizes))]
-fn without_command(alloc: Global, frames: &mut Frames, token: &Token) -> Result<Flow, Stop>
-    ensures { Answers frames.new result token.now (without (stack_of frames.old)) }
+fn without_command(
+    alloc: Global,
+    frames: &mut Frames,
+    now: &mut Now,
+    token: &Token,
+) -> Result<Flow, Stop>
+    ensures { Answers frames.new now.new result token.now (without (stack_of frames.old)) }
 {
     let Some(top) = pop(frames) else {
         return Err(Stop::Unexpected);
@@ -141,96 +185,54 @@ fn without_command(alloc: Global, frames: &mut Frames, token: &Token) -> Result<
     let body = Box::new(alloc, Command::Empty)?;
     match clause {
         Clause::Label(line, letters) => {
-            Ok(Flow::Does(did(Command::Label(line, letters, body), held)))
+            *now = Now::Did(did(Command::Label(line, letters, body), held));
+            Ok(Flow::Comes)
         }
         Clause::Guarded(guard, line, condition) => {
-            Ok(Flow::Does(did(guarded(guard, line, condition, body), held)))
+            *now = Now::Did(did(guarded(guard, line, condition, body), held));
+            Ok(Flow::Comes)
         }
-        Clause::Default(line) => Ok(Flow::Does(did(Command::Default(line, body), held))),
+        Clause::Default(line) => {
+            *now = Now::Did(did(Command::Default(line, body), held));
+            Ok(Flow::Comes)
+        }
         _ => Err(Stop::Unexpected),
     }
 }
 
-/// Completes what the symbol completes.
-fn settle(alloc: Global, frames: &mut Frames, first: Flow, token: &Token) -> Result<Now, Stop>
-    ensures { Steps (stack_of frames.new) result (flow (stack_of frames.old) first token.now.line token.now.text.now token.now.kind) }
+/// There is no command after a colon, and this symbol, which begins none, is taken.
+fn step_over(alloc: Global, frames: &mut Frames, now: &mut Now, token: &Token) -> Result<(), Stop>
+    ensures { Steps (stack_of frames.new) (reached result now.new) (without (stack_of frames.old) token.now.line token.now.text.now token.now.kind) }
 {
-    let mut flow = first;
-    loop {
-        let next = match flow {
-            Flow::Stay(now) => return Ok(now),
-            Flow::Gives(sized) => behind_expression(alloc, frames, sized, token),
-            Flow::Does(done) => behind_command(alloc, frames, done, token),
-            Flow::Defines(done) => return complete_definition(alloc, frames, done, token),
-        };
-        match next {
-            Ok(after) => flow = after,
-            Err(Stop::Memory) => return Err(Stop::Memory),
-            Err(Stop::Unexpected) => return Err(Stop::Unexpected),
-        }
-    }
-}
-
-/// No command stands behind a colon, and this symbol begins none.
-fn step_over(alloc: Global, frames: &mut Frames, token: &Token) -> Result<Now, Stop>
-    ensures { Steps (stack_of frames.new) result (without (stack_of frames.old) token.now.line token.now.text.now token.now.kind) }
-{
-    match without_command(alloc, frames, token) {
-        Ok(flow) => settle(alloc, frames, flow, token),
+    match without_command(alloc, frames, now, token) {
+        Ok(Flow::Comes) => settle(alloc, frames, now, token),
+        Ok(Flow::Taken) => Ok(()),
         Err(Stop::Memory) => Err(Stop::Memory),
         Err(Stop::Unexpected) => Err(Stop::Unexpected),
     }
 }
 
-/// What stands on the frames now, where a symbol was taken.
-#[inline(always)]
-fn stands(now: &mut Now, taken: Result<Now, Stop>) -> Result<(), Stop>
-    ensures { reached result now.new ≡ taken }
-{
-    match taken {
-        Ok(after) => {
-            *now = after;
-            Ok(())
-        }
-        Err(stop) => Err(stop),
-    }
-}
-
-/// Takes the symbol behind the part that is complete so far.
-#[inline(never)]
-fn step_behind(alloc: Global, frames: &mut Frames, now: &mut Now, token: &Token) -> Result<(), Stop>
-    ensures { Steps (stack_of frames.new) (reached result now.new) (flow (stack_of frames.old) (flow_of now.old) token.now.line token.now.text.now token.now.kind) }
-{
-    let taken = match mem::replace(now, Now::Due) {
-        Now::Have(sized) => settle(alloc, frames, Flow::Gives(sized), token),
-        Now::Did(done) => settle(alloc, frames, Flow::Does(done), token),
-        other => Ok(other),
-    };
-    stands(now, taken)
-}
-
 /// Takes the symbol where a command may come.
-fn step_maybe(alloc: Global, frames: &mut Frames, token: &Token) -> Result<Now, Stop>
-    ensures { Steps (stack_of frames.new) result (stepped_by (maybe (stack_of frames.old)) token.now.line token.now.text.now token.now.kind) }
+fn step_maybe(alloc: Global, frames: &mut Frames, now: &mut Now, token: &Token) -> Result<(), Stop>
+    ensures { Steps (stack_of frames.new) (reached result now.new) (stepped_by (maybe (stack_of frames.old)) token.now.line token.now.text.now token.now.kind) }
 {
     if starts_command(token.kind) {
-        return command(alloc, frames, token);
+        return command(alloc, frames, now, token);
     }
-    step_over(alloc, frames, token)
+    step_over(alloc, frames, now, token)
 }
 
 /// Takes the next symbol, a section bracket once for each section that it opens or closes.
 fn step(alloc: Global, frames: &mut Frames, now: &mut Now, token: &Token) -> Result<(), Stop>
     ensures { Steps (stack_of frames.new) (reached result now.new) (stepped_by (state (stack_of frames.old) now.old) token.now.line token.now.text.now token.now.kind) }
 {
-    let taken = match now {
-        Now::Want => operand(alloc, frames, token),
-        Now::Begin => command(alloc, frames, token),
-        Now::Maybe => step_maybe(alloc, frames, token),
-        Now::Due => at_place(alloc, frames, token),
-        Now::Have(_) | Now::Did(_) => return step_behind(alloc, frames, now, token),
-    };
-    stands(now, taken)
+    match now {
+        Now::Want => operand(alloc, frames, now, token),
+        Now::Begin => command(alloc, frames, now, token),
+        Now::Maybe => step_maybe(alloc, frames, now, token),
+        Now::Due => at_place(alloc, frames, now, token),
+        Now::Have(_) | Now::Did(_) => settle(alloc, frames, now, token),
+    }
 }
 
 /// How many open sections a `$)` without a tag closes: one, or None where the innermost has a tag.

@@ -17,8 +17,8 @@ returns-in-Apply-clause-answers c =
     ∙ call_done st _ _ _ _ t.line t.text.now t.kind c.requires other
     ∙ ap (λ y. finish st y t.line t.text.now t.kind) (sym c.call.ensures)
 
-pub invariant_of-result : goal.invariant_of-result
-invariant_of-result c = record {
+pub invariant_of-done : goal.invariant_of-done
+invariant_of-done c = record {
   sizes =
       c.args.sized.sizes
       ∙ ap size_of (ap expression c.in-Apply.is ∙ Apply_is _ _ c.in-Apply.callee c.in-Apply.items)

@@ -1,10 +1,10 @@
-use Rattle.std.proofs.Common.{◌≡◌}
-use Rattle.bk_frames.specs.Frames.{stack_of, flow, rank}
+use Rattle.std.proofs.Common.{◌≡◌, vec_len}
+use Rattle.bk_frames.specs.Frames.{stack_of, after}
 use Rattle.bk_syntax.proofs.parser.settle.Given as goal
 
-abbrev pub invariant-loop-flow : goal.invariant-loop-flow
-invariant-loop-flow l =
-    flow (stack_of l.frames) l.flow l.token.line l.token.text.now l.token.kind ≡ flow (stack_of l.fn.frames) l.fn.first l.token.line l.token.text.now l.token.kind
+abbrev pub invariant-loop : goal.invariant-loop
+invariant-loop l =
+    after (stack_of l.frames) l.now l.token.line l.token.text.now l.token.kind ≡ after (stack_of l.fn.frames) l.fn.now l.token.line l.token.text.now l.token.kind
 
-abbrev pub decreases-loop-flow : goal.decreases-loop-flow
-decreases-loop-flow l = rank l.frames l.flow
+abbrev pub decreases-loop : goal.decreases-loop
+decreases-loop l = vec_len l.frames.above

@@ -8,7 +8,7 @@ use Rattle.bk_grammar.specs.Machine.{limit, give}
 use Rattle.bk_frames.specs.Begun.{operand_on}
 use Rattle.bk_frames.specs.Frames.{stack_of}
 use Rattle.bk_frames.proofs.Turns.{unary_done, binary_done}
-use Rattle.bk_syntax.proofs.expressions.complete.Goals as goal
+use Rattle.bk_syntax.proofs.expressions.complete_with.Goals as goal
 
 pub returns-in_ok-operand-in-Unary-clause-flows : goal.returns-in_ok-operand-in-Unary-clause-flows
 returns-in_ok-operand-in-Unary-clause-flows c =
@@ -33,8 +33,8 @@ returns-in_ok-right-in-Binary-clause-flows c =
     ∙ binary_done c.in-Binary.operator c.in-Binary.sign a st e t.line t.text.now t.kind stops
     ∙ ap (λ y. give st y t.line t.text.now t.kind) (sym made)
 
-pub invariant_of-result-clause-shares : goal.invariant_of-result-clause-shares
-invariant_of-result-clause-shares c =
+pub invariant_of-pair-clause-shares : goal.invariant_of-pair-clause-shares
+invariant_of-pair-clause-shares c =
     let a = expression c.in-Binary.left.value in
     let o = c.in-Binary.operator in
     let same : expression c.args.sized.expr ≡ expression c.in_ok-right-in-Binary.right.value = search rules in

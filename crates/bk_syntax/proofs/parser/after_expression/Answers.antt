@@ -1,0 +1,17 @@
+use Rattle.std.proofs.Common.{◌≡◌, Option, rules, sym, ap, subst, ◌∙◌}
+use Rattle.bk_tree.specs.Tree.{expression}
+use Rattle.bk_grammar.specs.Machine.{State}
+use Rattle.bk_frames.specs.declared.frame.Now.TheVariants as n
+use Rattle.bk_frames.specs.Frames.{stack_of, given, Flows}
+use Rattle.bk_grammar.proofs.Steps.{pushes}
+use Rattle.bk_syntax.proofs.parser.after_expression.Goals as goal
+
+pub returns-then-goes_on_with-clause-answers : goal.returns-then-goes_on_with-clause-answers
+returns-then-goes_on_with-clause-answers c =
+    let st = stack_of c.args.frames.now in
+    let t = c.args.token.now in
+    let e = expression c.in-Have.sized.expr in
+    let had : c.args.now.now ≡ n.Have c.in-Have.sized = search rules in
+    let same = ap (λ z. given st z t.line t.text.now t.kind) had ∙ pushes st e t.line t.text.now t.kind (sym c.goes_on_with.ensures ∙ c.if-goes_on_with.true) in
+    let P : Option State → Type 0 = λ z. Flows (stack_of c.go_on.new.frames) c.go_on.result c.go_on.new.now t.line t.text.now t.kind z in
+    subst P (sym same) c.go_on.ensures.answers
