@@ -5,15 +5,13 @@ use Rattle.std.specs.Io.KnownBytes.{Keeps}
 use Rattle.bk_base.specs.Devices.{Begins}
 use Rattle.bk_base.specs.DeviceLaws.{Begins-refl, Begins-trans, Begins-Keeps}
 use Rattle.bk_base.specs.declared.limit.TheConstants.{INPUT_BYTES}
-use Rattle.bk_lex.specs.Found.{cut_behind}
-use Rattle.bk_lex.specs.declared.cutter.Cut.TheVariants.{More}
 use Rattle.bk_tree.specs.Tree.{Declarations}
 use Rattle.bk_kit.specs.declared.kit_fault.KitFault.{KitFault}
 use Rattle.bk_kit.specs.declared.kit_fault.KitFault.TheVariants.{Source, Ocode, Intcode, TooSmall, NoStart, Read, Write, Memory}
 use Rattle.bk_kit.specs.declared.section.CompiledSection.{CompiledSection}
 use Rattle.bk_kit.specs.CompilingSection.{Compiled, Refuses, trees_in}
 use Rattle.bk_kit.specs.Interpreting.{is_read, is_read_fault}
-use Rattle.bk_kit.specs.ReadingSource.{IsDelivered, Settles}
+use Rattle.bk_kit.specs.ReadingSource.{IsUndecided, IsDelivered, Settles}
 use Rattle.bk_kit.specs.RunningSource.{NotAssembled, ReadsSource}
 use Rattle.bk_kit.specs.Showing.{Shows, PassesAll, ShowsSections, ShowsSource}
 use Rattle.bk_kit.specs.Telling.{Output}
@@ -49,7 +47,7 @@ shows_fault Memory old new ended reads writes refused count = (refused, count)
 module _ (old now new : Option (List ℕ)) (ended : Bool) (taken taken' line faults reads : ℕ) (before after : Output) (so_far : Showing old now taken line faults before after)
     (text : List ℕ) (here : IsDelivered text now new taken taken') (most : taken' ≤ INPUT_BYTES) where
   -- the next could not be read
-  pub section_not_read : (fault : KitFault) → (fault ≡ Memory) ⊎ ((fault ≡ Read) × (cut_behind text ≡ More)) → reads ≡ (if is_read_fault fault then 1 else 0)
+  pub section_not_read : (fault : KitFault) → (fault ≡ Memory) ⊎ ((fault ≡ Read) × IsUndecided text) → reads ≡ (if is_read_fault fault then 1 else 0)
       → ShowsSections (Err fault) old new ended reads before after
   section_not_read fault failed count = record {
     shows = shows_fault fault old new ended reads after.faults (not_read old now new ended taken taken' line so_far.read.passed text here most fault failed) count;

@@ -7,7 +7,7 @@ use Rattle.bk_kit.specs.Checking.{HasTheseTrees}
 use Rattle.bk_kit.specs.Interpreting.{is_read_fault}
 use Rattle.bk_kit.specs.RunningSource.{NotAssembled, ReadsSource}
 use Rattle.bk_kit.proofs.PassedSections.{some_taken}
-use Rattle.bk_kit.proofs.SourceLemmas.{WithTrees, trees_none, not_read, no_memory, not_compiled, trees_go_on, trees_end, stops_reading}
+use Rattle.bk_kit.proofs.SourceLemmas.{WithTrees, trees_none, not_read, no_memory, not_compiled, trees_go_on, trees_end, stops_reading, has_read}
 use Rattle.bk_kit.proofs.checker.read_trees.Goals as goal
 
 pub loop-lexer-init : goal.loop-lexer-init
@@ -62,3 +62,16 @@ loop-lexer-preserved g c =
     subst (λ (trees : List Declarations). WithTrees (g.C.ByteIn.left c.args.source.now) (g.C.ByteIn.left c.read_section.new.source) c.read_section.new.taken c.in-Some.next trees (g.C.ByteIn.faults c.read_section.new.source)) (sym all)
     (trees_go_on _ _ _ _ _ c.read_section.new.taken c.loop-lexer.line c.loop-lexer.invariant.passed c.in-Ok.lexer.bytes read.0 c.read_section.ensures.within read.1
     c.in-Ok-compile_section.section compiled (map declarations_of c.loop-lexer.trees.items) c.loop-lexer.invariant.trees_are c.in-Some.next (g.C.ByteIn.faults c.read_section.new.source) c.in-Some.is (c.in-Ok.ensures.failures c.loop-lexer.invariant.readable))
+
+pub returns-in-Err-compile_section-clause-delivered : goal.returns-in-Err-compile_section-clause-delivered
+returns-in-Err-compile_section-clause-delivered g c =
+    let reads = has_read _ _ _ (g.C.ByteIn.ended c.read_section.new.source) _ c.read_section.new.taken c.loop-lexer.line c.loop-lexer.invariant.passed c.in-Ok.lexer.bytes c.in-Ok.ensures.read.0 c.read_section.ensures.within in
+    search (reads, c.refused.ensures, c.in-Err-compile_section.ensures.refuses, rules)
+
+pub returns-in_default-clause-delivered : goal.returns-in_default-clause-delivered
+returns-in_default-clause-delivered g c =
+    let reads = has_read _ _ _ (g.C.ByteIn.ended c.read_section.new.source) _ c.read_section.new.taken c.loop-lexer.line c.loop-lexer.invariant.passed c.in-Ok.lexer.bytes c.in-Ok.ensures.read.0 c.read_section.ensures.within in
+    search (reads, c.no_hint-in_default.ensures, rules)
+
+pub returns-in-None-clause-delivered : goal.returns-in-None-clause-delivered
+returns-in-None-clause-delivered g c = has_read _ _ _ (g.C.ByteIn.ended c.read_section.new.source) _ c.read_section.new.taken c.loop-lexer.line c.loop-lexer.invariant.passed c.in-Ok.lexer.bytes c.in-Ok.ensures.read.0 c.read_section.ensures.within
