@@ -63,12 +63,9 @@ pub mod OneBehindAnother
 pub mod LaidSections
 pub mod StringCounts
 pub mod StringForms
-pub mod SpreadValues
-pub mod SpreadDeclared
-pub mod SpreadActs
+pub mod Spread
 pub mod SectionsLie
 pub mod ProgramLaid
-pub mod SpreadSections
 pub mod DataPlaces
 pub mod KindLabels
 pub mod ObjectMarks

@@ -28,7 +28,7 @@ use Rattle.bk_simulation.proofs.LastingKinds.{Kind, string, words_at, entry, kin
 use Rattle.bk_simulation.proofs.KindLabels.{entry_label, data_labels_once, entry_labels_once, AreThere, kinds_there, form_of, declared_forms}
 use Rattle.bk_simulation.proofs.Standing.{Follow, FollowWords}
 use Rattle.bk_simulation.proofs.StringCounts.{times, Span, in_spans, AreSpread, StringIn, AllSpansAt, string_has, spans_once, stands_there}
-use Rattle.bk_simulation.proofs.SpreadSections.{outside_spread}
+use Rattle.bk_simulation.proofs.Spread.{outside_spread}
 use Rattle.bk_simulation.proofs.ObjectMarks.{Mark, at_string, at_label, marks, count, marked_once, marked_apart, Marked, mark_is_some, marked_alone}
 use Rattle.bk_simulation.proofs.SectionsLie.{SectionsLie, HasAll, first_suits, others_suit, first_alike, no_names, none_mean}
 use Rattle.bk_simulation.proofs.ProgramLaid.{Together, LieApart, pay_of, lie_together, setting_together, has_all}
@@ -196,7 +196,7 @@ section_marks g pay k i ds rest own others h a ok e =
     let suits = first_suits g pay k i ds rest own others h a in
     let alike = first_alike g pay k i ds rest own others h a in
     let held = h.0.held g suits [] no_names (none_mean g k own ds pay) in
-    let spread = outside_spread ds ok.regular.1 g own (with_names [] i) i refl held in
+    let spread = outside_spread g own ds ok.regular.1 (with_names [] i) refl held in
     let forms = declared_forms ds 1 [] outermost beginning [] outermost beginning (section_sound ds ok.faultless) in
     let are = subst (λ fs. AreSpread g own i fs spread.keys spread.spans) (sym forms) spread.are in
     let there = kinds_there own ds ok e in

@@ -90,8 +90,8 @@ by_path c d e q = ap (strings_at q) (sym e)
 pub same_on : (c d e : List Stmt) → Same c d → Same d e → Same c e
 same_on c d e h i q = h q ∙ i q
 
-pub spread_none : (g : Setting) (own : Placed) (c rest : List Stmt) (i : ℕ) → Same rest c → Spread g own c rest i 0 []
-spread_none g own c rest i e = record {
+pub spread_none : {g : Setting} {own : Placed} {c rest : List Stmt} {i : ℕ} → Same rest c → Spread g own c rest i 0 []
+spread_none e = record {
   keys = [];
   spans = [];
   long = refl;
@@ -99,8 +99,8 @@ spread_none g own c rest i e = record {
   once = λ q. let h = e q in omega (arith, h);
 }
 
-pub spread_top : (g : Setting) (own : Placed) (c d rest : List Stmt) (i m : ℕ) (fs : List Form) → Same d c → Spread g own d rest i m fs → Spread g own c rest i m fs
-spread_top g own c d rest i m fs e a = record {
+pub spread_top : {g : Setting} {own : Placed} {c d rest : List Stmt} {i m : ℕ} {fs : List Form} → Same d c → Spread g own d rest i m fs → Spread g own c rest i m fs
+spread_top e a = record {
   keys = a.keys;
   spans = a.spans;
   long = a.long;
@@ -108,8 +108,8 @@ spread_top g own c d rest i m fs e a = record {
   once = λ q. let h = e q in let o = a.once q in omega (arith, h, o);
 }
 
-pub spread_bottom : (g : Setting) (own : Placed) (c rest d : List Stmt) (i m : ℕ) (fs : List Form) → Same rest d → Spread g own c d i m fs → Spread g own c rest i m fs
-spread_bottom g own c rest d i m fs e a = record {
+pub spread_bottom : {g : Setting} {own : Placed} {c rest d : List Stmt} {i m : ℕ} {fs : List Form} → Same rest d → Spread g own c d i m fs → Spread g own c rest i m fs
+spread_bottom e a = record {
   keys = a.keys;
   spans = a.spans;
   long = a.long;
@@ -118,8 +118,8 @@ spread_bottom g own c rest d i m fs e a = record {
 }
 
 -- code one behind the other, and in the other order
-pub spread_both : (g : Setting) (own : Placed) (c c1 rest : List Stmt) (i m n : ℕ) (fs hs : List Form) → Spread g own c c1 i m fs → Spread g own c1 rest (i + m) n hs → Spread g own c rest i (m + n) (fs ++ hs)
-spread_both g own c c1 rest i m n fs hs a b =
+pub spread_both : {g : Setting} {own : Placed} {c c1 rest : List Stmt} {i m n : ℕ} {fs hs : List Form} → Spread g own c c1 i m fs → Spread g own c1 rest (i + m) n hs → Spread g own c rest i (m + n) (fs ++ hs)
+spread_both {g} {own} {i} {fs} {hs} a b =
     let l = a.long in
     let r = b.long in
     let t = length-append fs hs in
@@ -131,8 +131,8 @@ spread_both g own c c1 rest i m n fs hs a b =
       once = λ q. let x = a.once q in let y = b.once q in let u = times_both q a.keys b.keys in let v = spans_both q a.spans b.spans in omega (arith, x, y, u, v);
     }
 
-pub spread_back : (g : Setting) (own : Placed) (c c1 rest : List Stmt) (i m n : ℕ) (fs hs : List Form) → Spread g own c1 rest i m fs → Spread g own c c1 (i + m) n hs → Spread g own c rest i (m + n) (fs ++ hs)
-spread_back g own c c1 rest i m n fs hs a b =
+pub spread_back : {g : Setting} {own : Placed} {c c1 rest : List Stmt} {i m n : ℕ} {fs hs : List Form} → Spread g own c1 rest i m fs → Spread g own c c1 (i + m) n hs → Spread g own c rest i (m + n) (fs ++ hs)
+spread_back {g} {own} {i} {fs} {hs} a b =
     let l = a.long in
     let r = b.long in
     let t = length-append fs hs in
@@ -145,12 +145,12 @@ spread_back g own c c1 rest i m n fs hs a b =
     }
 
 -- one string
-pub spread_string : (g : Setting) (own : Placed) (x : List ℕ) (rest : List Stmt) (i : ℕ) → BaseOf g.lasting i (own.places.text (length rest)) → Spread g own (Text x ∷ rest) rest i 1 (a_string ∷ [])
-spread_string g own x rest i base = record { keys = length rest ∷ []; spans = []; long = refl; are = (base, tt); once = λ q. omega arith }
+pub spread_string : {g : Setting} {own : Placed} (x : List ℕ) {rest : List Stmt} {i : ℕ} → BaseOf g.lasting i (own.places.text (length rest)) → Spread g own (Text x ∷ rest) rest i 1 (a_string ∷ [])
+spread_string x {rest} base = record { keys = length rest ∷ []; spans = []; long = refl; are = (base, tt); once = λ q. omega arith }
 
 -- words that stand behind a label
-pub spread_words : (g : Setting) (own : Placed) (c rest : List Stmt) (i : ℕ) → Same rest c → Spread g own c rest i 1 (some_words ∷ [])
-spread_words g own c rest i e = record {
+pub spread_words : {g : Setting} {own : Placed} {c rest : List Stmt} {i : ℕ} → Same rest c → Spread g own c rest i 1 (some_words ∷ [])
+spread_words e = record {
   keys = [];
   spans = [];
   long = refl;
@@ -159,9 +159,9 @@ spread_words g own c rest i e = record {
 }
 
 -- a procedure, by what is known of its body
-pub spread_procedure : (g : Setting) (own : Placed) (c from to : List Stmt) (place i m : ℕ) (fs : List Form) → IsSpan g own i (record { place = place; from = from }) → Spread g own from to (i + 1) m fs
+pub spread_procedure : {g : Setting} {own : Placed} {c from to : List Stmt} {place i m : ℕ} {fs : List Form} → IsSpan g own i (record { place = place; from = from }) → Spread g own from to (i + 1) m fs
     → Spread g own c c i (1 + m) (a_procedure ∷ fs)
-spread_procedure g own c from to place i m fs is a =
+spread_procedure {g} {own} {from} {place} {i} {fs} is a =
     let l = a.long in
     let e : i + 1 ≡ suc i = omega arith in
     record {
@@ -173,8 +173,8 @@ spread_procedure g own c from to place i m fs is a =
     }
 
 -- said otherwise
-pub spread_as : (g : Setting) (own : Placed) (c rest : List Stmt) (i i1 m n : ℕ) (fs hs : List Form) → i ≡ i1 → m ≡ n → fs ≡ hs → Spread g own c rest i m fs → Spread g own c rest i1 n hs
-spread_as g own c rest i i1 m n fs hs p e f a = subst (λ k. Spread g own c rest k n hs) p (subst (λ k. Spread g own c rest i k hs) e (subst (λ k. Spread g own c rest i m k) f a))
+pub spread_as : {g : Setting} {own : Placed} {c rest : List Stmt} {i i1 m n : ℕ} {fs hs : List Form} → i ≡ i1 → m ≡ n → fs ≡ hs → Spread g own c rest i m fs → Spread g own c rest i1 n hs
+spread_as {g} {own} {c} {rest} {i} {m} {n} {hs} p e f a = subst (λ k. Spread g own c rest k n hs) p (subst (λ k. Spread g own c rest i k hs) e (subst (λ k. Spread g own c rest i m k) f a))
 
 -- ---- A string stands before the next ENTRY at most once, and those of different procedures are different.
 

@@ -123,11 +123,11 @@ pub record Numbered (env held : Environment) (i : ℕ) : Type 0 where
   pub env_next : env.next ≡ i
   pub held_next : held.next ≡ i
 
-pub later : (env held : Environment) (i k : ℕ) → Numbered env held i → Numbered (behind k env) (behind k held) (i + k)
-later env held i k z = record { env_next = ap (λ x. x + k) z.env_next; held_next = ap (λ x. x + k) z.held_next }
+pub later : {env held : Environment} {i : ℕ} (k : ℕ) → Numbered env held i → Numbered (behind k env) (behind k held) (i + k)
+later k z = record { env_next = ap (λ x. x + k) z.env_next; held_next = ap (λ x. x + k) z.held_next }
 
-pub same_numbers : (env held env1 held1 : Environment) (i : ℕ) → env1.next ≡ env.next → held1.next ≡ held.next → Numbered env held i → Numbered env1 held1 i
-same_numbers env held env1 held1 i e h z = record { env_next = e ∙ z.env_next; held_next = h ∙ z.held_next }
+pub same_numbers : {env held env1 held1 : Environment} {i : ℕ} → env1.next ≡ env.next → held1.next ≡ held.next → Numbered env held i → Numbered env1 held1 i
+same_numbers e h z = record { env_next = e ∙ z.env_next; held_next = h ∙ z.held_next }
 
 pub held_front : (g : Setting) (own : Placed) (i : ℕ) (xs ys : List Lasting) → HeldIn g own i (xs ++ ys) → HeldIn g own i xs
 held_front g own i [] ys h = tt
@@ -142,10 +142,6 @@ held_back g own i n (x ∷ xs) ys e h =
 pub held_third : (g : Setting) (own : Placed) (i n k : ℕ) (xs ys zs : List Lasting) → length xs ≡ n → length ys ≡ k → HeldIn g own i (xs ++ ys ++ zs) → HeldIn g own (i + n + k) zs
 held_third g own i n k xs ys zs e f h = held_back g own (i + n) k ys zs f (held_back g own i n xs (ys ++ zs) e (subst (λ w. HeldIn g own i w) (append_assoc xs ys zs) h))
 
-pub spread_three : (g : Setting) (own : Placed) (c c1 c2 rest : List Stmt) (i m n k : ℕ) (fs hs ls : List Form) → Spread g own c c1 i m fs → Spread g own c1 c2 (i + m) n hs → Spread g own c2 rest (i + m + n) k ls → Spread g own c rest i (m + n + k) (fs ++ hs ++ ls)
-spread_three g own c c1 c2 rest i m n k fs hs ls x y z =
-    spread_both g own c c2 rest i (m + n) k (fs ++ hs) ls (spread_both g own c c1 c2 i m n fs hs x y) (spread_as g own c2 rest (i + m + n) (i + (m + n)) k k ls ls (omega arith) refl refl z)
+pub spread_three : {g : Setting} {own : Placed} {c c1 c2 rest : List Stmt} {i m n k : ℕ} {fs hs ls : List Form} → Spread g own c c1 i m fs → Spread g own c1 c2 (i + m) n hs → Spread g own c2 rest (i + m + n) k ls → Spread g own c rest i (m + n + k) (fs ++ hs ++ ls)
+spread_three x y z = spread_both (spread_both x y) (spread_as (omega arith) refl refl z)
 
--- the section of a scene is one of the program
-abbrev pub IsOwn : Placed → Scene → Type 0
-IsOwn own sc = sc.own ≡ own

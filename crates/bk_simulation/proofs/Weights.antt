@@ -143,7 +143,6 @@ mutual
   in_light t.empty = omega arith
   in_light (t.assign l xs es) = let h = among_light xs in let i = among_light es in omega (arith, h, i)
   in_light (t.call l f es) = let h = among_light es in let i = of_light f in omega (arith, h, i)
-  in_light (t.goto l x) = omega arith
   in_light (t.label l x c) = let h = in_light c in omega (arith, h)
   in_light (t.case_of l e c) = let h = in_light c in omega (arith, h)
   in_light (t.default l c) = let h = in_light c in omega (arith, h)
@@ -153,10 +152,10 @@ mutual
   in_light (t.for_loop l x a b h0 c) = let g = of_light a in let h = of_light b in let i = in_light c in omega (arith, g, h, i)
   in_light (t.switch l e c) = let h = of_light e in let i = in_light c in omega (arith, h, i)
   in_light (t.result l e) = let h = of_light e in omega (arith, h)
-  in_light (t.simple l k) = omega arith
   in_light (t.block l ds cs) = let h = declared_light ds in let i = through_light cs in omega (arith, h, i)
   in_light (t.repeat l c) = let h = in_light c in omega (arith, h)
   in_light (t.repeat_while l b c e) = let h = in_light c in let i = of_light e in omega (arith, h, i)
+  in_light _ = omega arith
 
   pub through_light : (cs : Actions) → turns_through cs ≤ weight_through cs
   through_light t.no_actions = omega arith
