@@ -1,36 +1,19 @@
 -- All forms: what holds of the meanings of the nodes inside holds of each node.
-use Rattle.std.proofs.Common.{◌≡◌, ℕ, suc, ◌+◌, ◌-◌, ◌*◌, ◌≤◌, Bool, true, false, List, ◌∷◌, ◌++◌, Some, refl, sym, ◌∙◌, subst, arith, zero}
-use Rattle.bk_ocode.specs.OcodeState.{State}
-use Rattle.bk_ocode.specs.OcodeStep.{from_label}
+use Rattle.bk_simulation.proofs.Words.{◌≡◌, ℕ, suc, ◌+◌, ◌-◌, ◌*◌, ◌≤◌, Bool, true, false, List, ◌∷◌, ◌++◌, Some, refl, sym, ◌∙◌, subst, arith, zero, State,
+  from_label, Stmt, Monadic, JumpIf, Stack, CallRoutine, FRAME_WORDS, infix_code, Operator, Expression, Expressions, Action, Actions, option_map, infix_word,
+  divides_by_zero, Value, number, sum, on_numbers, operate_prefix, Environment, constant_in, past, past_each, labelled, Sought, the_label, the_case,
+  the_default, Mode, forwards, seeking, World, ends, divide_by_zero, done, given, with, turn, Exit, going, history, After, Throughout, Meanings, at, fetch,
+  in_order, scope_of, landing, alone, value_of, truth_of, address_in, combined, judged, assigned, act_of, applied, rounds_of, means_with, turn_for, means,
+  no_turns, no_turn_for, Adds, adds, stays, given_after, with_after, each_way_after, either_after}
 use Rattle.bk_ocode.specs.declared.stmt.Monadic.TheVariants as w
-use Rattle.bk_ocode.specs.declared.stmt.Stmt.{Stmt}
-use Rattle.bk_ocode.specs.declared.stmt.Stmt.TheVariants.{Monadic, JumpIf, Stack, CallRoutine}
-use Rattle.bk_base.specs.declared.limit.TheConstants.{FRAME_WORDS}
-use Rattle.bk_trans.specs.Scheme.{infix_code}
-use Rattle.bk_tree.specs.declared.tree.Operator.{Operator}
 use Rattle.bk_tree.specs.declared.tree.Operator.TheVariants as o
 use Rattle.bk_tree.specs.declared.tree.Prefix.TheVariants as q
 use Rattle.bk_tree.specs.declared.tree.Simple.TheVariants as k
 use Rattle.bk_tree.specs.Tree as t
-use Rattle.bk_tree.specs.Tree.{Expression, Expressions, Action, Actions}
-use Rattle.std.specs.Option.{option_map}
 use Rattle.bk_tree.specs.declared.tree.Prefix.{Prefix}
-use Rattle.bk_scope.specs.Constants.{infix_word, divides_by_zero}
-use Rattle.bk_meaning.specs.Values.{Value, number}
-use Rattle.bk_meaning.specs.Operators.{sum, on_numbers, operate_prefix}
-use Rattle.bk_meaning.specs.Environment.{Environment, constant_in, past, past_each, labelled}
 use Rattle.bk_meaning.specs.Lasting.{Program}
-use Rattle.bk_meaning.specs.Seeking.{Sought, the_label, the_case, the_default, Mode, forwards, seeking}
-use Rattle.bk_meaning.specs.World.{World, ends, divide_by_zero, done, given, with, turn, Exit, going}
-use Rattle.bk_meaning.specs.Growing.{history, After, Throughout}
-use Rattle.bk_meaning.specs.Parts.{Meanings, Target, at, byte_at, fetch}
-use Rattle.bk_meaning.specs.Scopes.{in_order, scope_of, landing, alone}
-use Rattle.bk_meaning.specs.Expressions.{value_of, truth_of, target_of, address_in, combined, judged}
-use Rattle.bk_meaning.specs.Commands.{assigned, act_of}
-use Rattle.bk_meaning.specs.Calls.{applied}
-use Rattle.bk_meaning.specs.Loops.{rounds_of}
-use Rattle.bk_meaning.specs.Program.{means_with, turn_for, means, no_turns, no_turn_for}
-use Rattle.bk_meaning.proofs.After.{Adds, adds, stays, given_after, with_after, each_way_after, either_after}
+use Rattle.bk_meaning.specs.Parts.{Target, byte_at}
+use Rattle.bk_meaning.specs.Expressions.{target_of}
 use Rattle.bk_simulation.proofs.Weights.{turns_of, turns_among, turns_in, turns_through}
 use Rattle.bk_simulation.proofs.Laid.{Setting, Stretch, ByTurns, AreFrom, AreStores, AreValues, AreActs, CallAt, count, IsValue, IsJump, IsAddress, IsStore, IsAct, IsLoop, Entered, EnteredAny, EnteredBody}
 use Rattle.bk_simulation.proofs.Frame.{Sit, start, Ready, Account, here, Ran, went, with_ran, turn_behind, ArrivedAt, Has, Out}

@@ -1,27 +1,14 @@
 -- Calls, for a value or not: the arguments, then the procedure, then its frame or a routine of the library.
-use Rattle.std.proofs.Common.{◌≡◌, ℕ, suc, ◌+◌, ◌-◌, ◌*◌, ◌<◌, ◌≤◌, ◌^◌, max, nat_lt, Bool, true, false, List, ◌∷◌, length, Option, Some, None, refl, sym, ap, ◌∙◌, subst, arith}
-use Rattle.std.specs.Option.{option_map_or}
-use Rattle.std.proofs.lemmas.Option.{slice_get_within}
-use Rattle.bk_base.specs.declared.limit.TheConstants.{FRAME_WORDS}
-use Rattle.bk_tree.specs.Tree.{Expression, Expressions, Action}
-use Rattle.bk_ocode.specs.Cells.{Word, Cell, content_of, below, settle}
+use Rattle.bk_simulation.proofs.Words.{◌≡◌, ℕ, suc, ◌+◌, ◌-◌, ◌*◌, ◌<◌, ◌≤◌, ◌^◌, max, nat_lt, Bool, true, false, List, ◌∷◌, length, Option, Some, None, refl,
+  sym, ap, ◌∙◌, subst, arith, option_map_or, slice_get_within, FRAME_WORDS, Expression, Expressions, Action, Word, Cell, content_of, below, settle, Placed,
+  Callables, Inside, At, State, slot, can_be_called, Stmt, Stack, Value, number, address, procedure, routine, unset, World, Exit, Outcome, gives, undefined,
+  each_way, calling, calls_back, Environment, past, Procedure, procedure_of, history, After, Throughout, forwards, scope_of, alone, Meanings, enter, call,
+  applied, adds, stays, earlier, with_after, each_way_after, closing_after, calling_on}
 use Rattle.bk_ocode.specs.OcodeState as ocode
-use Rattle.bk_ocode.specs.OcodeState.{Placed, Callables, Inside, At, State}
-use Rattle.bk_ocode.specs.OcodeStep.{slot, can_be_called}
-use Rattle.bk_ocode.specs.declared.stmt.Stmt.{Stmt}
-use Rattle.bk_ocode.specs.declared.stmt.Stmt.TheVariants.{Stack}
 use Rattle.bk_meaning.specs.Values as value
-use Rattle.bk_meaning.specs.Values.{Value, number, address, procedure, routine, unset}
-use Rattle.bk_meaning.specs.World.{World, Exit, Outcome, gives, undefined, each_way, calling, calls_back}
-use Rattle.bk_meaning.specs.Environment.{Environment, past}
-use Rattle.bk_meaning.specs.Lasting.{Procedure, Program, procedure_of}
-use Rattle.bk_meaning.specs.Growing.{history, After, Throughout}
-use Rattle.bk_meaning.specs.Seeking.{forwards}
-use Rattle.bk_meaning.specs.Scopes.{scope_of, alone}
-use Rattle.bk_meaning.specs.Parts.{Meanings}
+use Rattle.bk_meaning.specs.Lasting.{Program}
 use Rattle.bk_meaning.specs.Library.{library}
-use Rattle.bk_meaning.specs.Calls.{enter, called, call, applied}
-use Rattle.bk_meaning.proofs.After.{adds, stays, earlier, with_after, each_way_after, closing_after, calling_on}
+use Rattle.bk_meaning.specs.Calls.{called}
 use Rattle.bk_meaning.proofs.Ties.{ties_add}
 use Rattle.bk_meaning.proofs.NodeTies.{library_ties}
 use Rattle.bk_simulation.proofs.Moves.{Moves, stack_moves, function_of_routine_moves, call_of_routine_moves, entering}

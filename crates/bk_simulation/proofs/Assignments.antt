@@ -1,24 +1,13 @@
 -- Assignments: each value, its destination, and the word or byte that is stored.
-use Rattle.std.proofs.Common.{◌≡◌, ℕ, ◌+◌, ◌-◌, ◌*◌, ◌<◌, ◌≤◌, true, List, ◌∷◌, Option, Some, None, refl, sym, ap, ◌∙◌, subst, arith, ◌%◌, ◌^◌}
-use Rattle.bk_base.specs.Word.{word_sum, byte_distance}
-use Rattle.bk_ocode.specs.Cells.{Content, Variable, Cell, Held, content_of, kind_of, write, below, Word}
-use Rattle.bk_ocode.specs.OcodeState.{Placed, Inside, State}
-use Rattle.bk_ocode.specs.OcodeStep.{named_place, has_word}
+use Rattle.bk_simulation.proofs.Words.{◌≡◌, ℕ, ◌+◌, ◌-◌, ◌*◌, ◌<◌, ◌≤◌, true, List, ◌∷◌, Option, Some, None, refl, sym, ap, ◌∙◌, subst, arith, ◌%◌, ◌^◌,
+  word_sum, byte_distance, Content, Variable, Cell, Held, content_of, kind_of, write, below, Word, Placed, Inside, State, named_place, has_word, Local, Static,
+  Stmt, Assign, AssignAt, AssignByte, Address, Dyadic, Expression, Expressions, Value, address, holds, Memory, write_byte, Environment, past, Sense, constant,
+  cell, sense_of, World, changes, remembering, Outcome, gives, given, with, history, Meanings, at, store as put_value, address_named, assigned, Adds, adds,
+  stays, with_after, changes_after, given_after, sum}
 use Rattle.bk_ocode.specs.declared.stmt.Variable.{Variable as Named}
-use Rattle.bk_ocode.specs.declared.stmt.Variable.TheVariants.{Local, Static}
-use Rattle.bk_ocode.specs.declared.stmt.Stmt.{Stmt}
-use Rattle.bk_ocode.specs.declared.stmt.Stmt.TheVariants.{Assign, AssignAt, AssignByte, Address, Dyadic}
 use Rattle.bk_tree.specs.Tree as t
-use Rattle.bk_tree.specs.Tree.{Expression, Expressions}
-use Rattle.bk_meaning.specs.Values.{Value, address, holds}
 use Rattle.bk_meaning.specs.Memory as memory
-use Rattle.bk_meaning.specs.Memory.{Memory, write_byte}
-use Rattle.bk_meaning.specs.Environment.{Environment, past, Sense, constant, cell, sense_of}
-use Rattle.bk_meaning.specs.World.{World, changes, remembering, Outcome, gives, given, with}
-use Rattle.bk_meaning.specs.Growing.{history}
-use Rattle.bk_meaning.specs.Parts.{Meanings, Target, at, byte_at, store as put_value, address_named}
-use Rattle.bk_meaning.specs.Commands.{assigned}
-use Rattle.bk_meaning.proofs.After.{Adds, adds, stays, with_after, changes_after, given_after}
+use Rattle.bk_meaning.specs.Parts.{Target, byte_at}
 use Rattle.bk_simulation.proofs.Moves.{Moves, assign_moves, assign_at_moves, assign_byte_moves, address_moves}
 use Rattle.bk_simulation.proofs.CellBytes.{AreBytes, write_byte_at}
 use Rattle.bk_simulation.proofs.Memory.{BaseOf, Like, Stands, Store, Moved, Fits, moved_on, fits_above, fits_more, fits_less, moved_above}
@@ -31,7 +20,6 @@ use Rattle.bk_simulation.proofs.Simulates.{Simulates, for_value, Destined, word,
 use Rattle.bk_simulation.proofs.Operators.{one_run, dyadic_topped, Two, for_two, two_run, pushes_item, named_at}
 use Rattle.bk_simulation.proofs.Orders.{ready_at}
 use Rattle.bk_ocode.specs.declared.stmt.Dyadic.TheVariants as two
-use Rattle.bk_meaning.specs.Operators.{sum}
 use Rattle.bk_simulation.proofs.OperatorWords.{sum_applied}
 
 -- ---- Addresses, for `@` and as destinations.

@@ -1,21 +1,10 @@
 -- Blocks with declarations.
-use Rattle.std.proofs.Common.{◌≡◌, ℕ, suc, ◌+◌, ◌-◌, ◌*◌, ◌<◌, ◌≤◌, Bool, true, false, cond, List, [], ◌∷◌, length, None, refl, sym, ap, ◌∙◌, subst, arith}
-use Rattle.bk_base.specs.declared.limit.TheConstants.{FRAME_WORDS}
+use Rattle.bk_simulation.proofs.Words.{◌≡◌, ℕ, suc, ◌+◌, ◌-◌, ◌*◌, ◌<◌, ◌≤◌, Bool, true, false, cond, List, [], ◌∷◌, length, None, refl, sym, ap, ◌∙◌, subst,
+  arith, FRAME_WORDS, Actions, Declaration, Declarations, Definitions, Binding, Cell, content_of, below, settle, Inside, State, Stmt, Stack, Store as StoreStmt,
+  World, with, closing, Environment, labelled, behind, within_let, objects_of_definitions, history, After, Throughout, Sought, the_label, forwards,
+  stands_in_one, Meanings, scope_of, adds, stays, with_after}
 use Rattle.bk_tree.specs.Tree as t
-use Rattle.bk_tree.specs.Tree.{Actions, Declaration, Declarations, Definitions}
-use Rattle.bk_scope.specs.Scope.{Binding}
-use Rattle.bk_ocode.specs.Cells.{Cell, content_of, below, settle}
-use Rattle.bk_ocode.specs.OcodeState.{Inside, State}
-use Rattle.bk_ocode.specs.declared.stmt.Stmt.{Stmt}
-use Rattle.bk_ocode.specs.declared.stmt.Stmt.TheVariants.{Stack, Store as StoreStmt}
-use Rattle.bk_meaning.specs.World.{World, with, closing}
-use Rattle.bk_meaning.specs.Environment.{Environment, labelled, behind, within_let, objects_of_definitions}
-use Rattle.bk_meaning.specs.Growing.{history, After, Throughout}
-use Rattle.bk_meaning.specs.Seeking.{Sought, the_label, forwards, stands_in_one}
-use Rattle.bk_meaning.specs.Parts.{Meanings}
-use Rattle.bk_meaning.specs.Scopes.{scope_of}
 use Rattle.bk_meaning.specs.Blocks.{Start, bind_variables, declare, declare_all}
-use Rattle.bk_meaning.proofs.After.{adds, stays, with_after}
 use Rattle.bk_simulation.proofs.Moves.{Moves, store_moves}
 use Rattle.bk_simulation.proofs.Memory.{Codes, Like, like_on, Store, Grown}
 use Rattle.bk_simulation.proofs.WrittenCells.{below_at, below_like, settle_like, settle_at}

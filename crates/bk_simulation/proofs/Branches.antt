@@ -1,16 +1,8 @@
 -- IF, UNLESS and TEST.
-use Rattle.std.proofs.Common.{◌≡◌, ℕ, ◌+◌, ◌-◌, ◌*◌, ◌≤◌, Bool, true, false, not, ◌||◌, cond, List, ◌∷◌, refl, sym, ap, ◌∙◌, subst, arith, ◌++◌, Option, Some, pos}
-use Rattle.bk_ocode.specs.OcodeState.{State}
-use Rattle.bk_ocode.specs.declared.stmt.Stmt.{Stmt}
-use Rattle.bk_ocode.specs.declared.stmt.Stmt.TheVariants.{Label, Jump, Stack, GiveResult, Return, Finish}
-use Rattle.bk_tree.specs.Tree.{Expression, Action}
-use Rattle.bk_meaning.specs.Environment.{Environment, past, past_action}
-use Rattle.bk_meaning.specs.Seeking.{Sought, Mode, forwards, seeking, stands_in, same_place, at_place}
-use Rattle.bk_meaning.specs.World.{World, done, with, either, Exit, break, loop, endcase, goto, result, return, status, leaves, ends}
-use Rattle.bk_meaning.specs.Growing.{history}
-use Rattle.bk_meaning.specs.Parts.{Meanings}
-use Rattle.bk_meaning.specs.Loops.{same_truth, where_truth}
-use Rattle.bk_meaning.proofs.After.{Adds, adds, stays, either_after}
+use Rattle.bk_simulation.proofs.Words.{◌≡◌, ℕ, ◌+◌, ◌-◌, ◌*◌, ◌≤◌, Bool, true, false, not, ◌||◌, cond, List, ◌∷◌, refl, sym, ap, ◌∙◌, subst, arith, ◌++◌,
+  Option, Some, pos, State, Stmt, Label, Jump, Stack, GiveResult, Return, Finish, Expression, Action, Environment, past, past_action, Sought, Mode, forwards,
+  seeking, stands_in, same_place, at_place, World, done, with, either, Exit, break, loop, endcase, goto, result, return, status, leaves, ends, history,
+  Meanings, same_truth, where_truth, Adds, adds, stays, either_after, Status, bound_in, Content, content_of, from_label, go}
 use Rattle.bk_simulation.proofs.Weights.{turns_of, turns_in}
 use Rattle.bk_simulation.proofs.Sought.{same_stands}
 use Rattle.bk_simulation.proofs.Laid.{Setting, LabelAt, IsJump, IsAct, Entered, goal_named, IsLabelHere, IsValue, PlaceOf}
@@ -19,11 +11,6 @@ use Rattle.bk_simulation.proofs.Compose.{stay, arrived_on, ran_on, ran_more, arr
 use Rattle.bk_simulation.proofs.Simulates.{Simulates, for_truth, where_to, Did, RanDid}
 use Rattle.bk_simulation.proofs.ControlSteps.{landed_on, jumped_on, result_on}
 use Rattle.bk_simulation.proofs.Orders.{by_test, or_second}
-use Rattle.bk_base.specs.declared.run_end.End.TheVariants.{Status}
-use Rattle.bk_scope.specs.Scope.{bound_in}
-use Rattle.bk_ocode.specs.Cells.{Content, content_of}
-use Rattle.bk_ocode.specs.OcodeStep.{from_label}
-use Rattle.bk_trans.specs.Scheme.{go}
 use Rattle.bk_simulation.proofs.Moves.{finish_step}
 use Rattle.bk_simulation.proofs.Operators.{one_run}
 

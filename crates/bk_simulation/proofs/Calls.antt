@@ -1,21 +1,10 @@
 -- Calls of procedures: their frame, their body, and back.
-use Rattle.std.proofs.Common.{◌≡◌, ℕ, ◌+◌, ◌-◌, ◌*◌, ◌≤◌, Bool, List, ◌∷◌, length, Option, Some, None, refl, ap, arith, slice_get, suc, ◌<◌, ◌^◌, ◌≢◌, true, false, sym, ◌∙◌, subst, zero}
-use Rattle.bk_tree.specs.Tree.{Action, Expression, Expressions}
-use Rattle.bk_ocode.specs.Cells.{Content, Word, content_of, Temporary, Link, Cell, Held, write, below}
-use Rattle.bk_ocode.specs.OcodeState.{Inside, State, Goes, At}
-use Rattle.bk_ocode.specs.OcodeRun.{in_hand, program_step}
-use Rattle.bk_ocode.specs.declared.stmt.Stmt.{Stmt}
-use Rattle.bk_ocode.specs.declared.stmt.Stmt.TheVariants.{ReturnItem, Return, Entry, Save, CallFunction, CallRoutine}
-use Rattle.bk_meaning.specs.Values.{Value, unset}
-use Rattle.bk_meaning.specs.World.{World, Exit, return, Outcome, gives, each_way, closing, forgetting, Done, calls_back}
-use Rattle.bk_meaning.specs.Environment.{Environment, past}
-use Rattle.bk_meaning.specs.Lasting.{Body, command, expression, Procedure, Program, procedure_of}
-use Rattle.bk_meaning.specs.Growing.{history, After, Throughout}
-use Rattle.bk_meaning.specs.Seeking.{forwards}
-use Rattle.bk_meaning.specs.Scopes.{scope_of, alone}
-use Rattle.bk_meaning.specs.Parts.{Meanings}
-use Rattle.bk_meaning.specs.Calls.{return_exit, run_body, bind_formals, values}
-use Rattle.bk_meaning.proofs.After.{adds, stays, each_way_after, with_after}
+use Rattle.bk_simulation.proofs.Words.{◌≡◌, ℕ, ◌+◌, ◌-◌, ◌*◌, ◌≤◌, Bool, List, ◌∷◌, length, Option, Some, None, refl, ap, arith, slice_get, suc, ◌<◌, ◌^◌, ◌≢◌,
+  true, false, sym, ◌∙◌, subst, zero, Action, Expression, Expressions, Content, Word, content_of, Temporary, Link, Cell, Held, write, below, Inside, State,
+  Goes, At, in_hand, program_step, Stmt, ReturnItem, Return, Entry, Save, CallFunction, CallRoutine, Value, unset, World, Exit, return, Outcome, gives,
+  each_way, closing, forgetting, Done, calls_back, Environment, past, Body, command, expression, Procedure, procedure_of, history, After, Throughout, forwards,
+  scope_of, alone, Meanings, return_exit, run_body, bind_formals, values, adds, stays, each_way_after, with_after, FRAME_WORDS}
+use Rattle.bk_meaning.specs.Lasting.{Program}
 use Rattle.bk_simulation.proofs.Memory.{Stands, BaseOf, Grown, Like, like_refl, Moved, Fits, moved_on, fits_above, moved_above}
 use Rattle.bk_simulation.proofs.Weights.{turns_of, turns_through}
 use Rattle.bk_simulation.proofs.Laid.{Setting, Scene, IsAlone, IsValue, CallAt, AreValues, count}
@@ -24,7 +13,6 @@ use Rattle.bk_simulation.proofs.Compose.{arrived_more, roomy, links_below, stay,
 use Rattle.bk_simulation.proofs.Simulates.{Simulates, for_scope, RanDid, for_value, for_values}
 use Rattle.bk_simulation.proofs.Operators.{value_run}
 use Rattle.std.specs.Prelude.{drop}
-use Rattle.bk_base.specs.declared.limit.TheConstants.{FRAME_WORDS}
 use Rattle.bk_simulation.proofs.Moves.{Moves, back_in_function, back_in_routine, returning, return_item_step, return_step}
 use Rattle.bk_simulation.proofs.FramesKept.{LinksFrom, links_kept}
 use Rattle.bk_simulation.proofs.WrittenCells.{written, untouched, below_at, below_like}

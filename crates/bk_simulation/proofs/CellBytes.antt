@@ -1,14 +1,11 @@
 -- Bytes of cells of the meaning, and of contents of OCODE.
-use Rattle.std.proofs.Common.{◌≡◌, ℕ, zero, suc, ◌+◌, ◌<◌, ◌%◌, ◌^◌, ◌==◌, Bool, true, false, cond, List, Option, Some, None, refl, sym, ap, ◌∙◌, subst, if◌then◌else◌, arith}
-use Rattle.std.specs.Prelude.{option_and_then}
-use Rattle.std.specs.Option.{option_map}
-use Rattle.bk_base.specs.Word.{word_sum, word_byte, word_with_byte, byte_distance, byte_place}
+use Rattle.bk_simulation.proofs.Words.{◌≡◌, ℕ, zero, suc, ◌+◌, ◌<◌, ◌%◌, ◌^◌, ◌==◌, Bool, true, false, cond, List, Option, Some, None, refl, sym, ap, ◌∙◌,
+  subst, if◌then◌else◌, arith, option_and_then, option_map, word_sum, word_byte, word_with_byte, byte_distance, byte_place, Value, number, address, procedure,
+  routine, unset, holds, places, filled, set_among, Memory, cell_at, with_cell, cell_of_byte, read_byte, write_byte, Content, Unset, Partly, Word, Variable,
+  Held, byte_in, four_bytes, with_byte, variable_at, byte_at, word_with_byte_at}
 use Rattle.bk_base.specs.WordLaws.{word_byte-small, word_byte-packed_0, word_byte-packed_1, word_byte-packed_2, word_byte-packed_3}
 use Rattle.bk_meaning.specs.Values as value
-use Rattle.bk_meaning.specs.Values.{Value, number, address, procedure, routine, unset, Cell as Cell_of, holds, places, filled, set_among}
-use Rattle.bk_meaning.specs.Memory.{Memory, cell_at, with_cell, cell_of_byte, read_byte, write_byte}
-use Rattle.bk_ocode.specs.Cells.{Content, Unset, Partly, Word, Variable, Held, byte_in, four_bytes, with_byte}
-use Rattle.bk_ocode.specs.Access.{variable_at, byte_at, word_with_byte_at}
+use Rattle.bk_meaning.specs.Values.{Cell as Cell_of}
 use Rattle.bk_simulation.proofs.Memory.{Store, HoldsByte, Codes, Stands, StandsCell, Moved, Fits}
 use Rattle.bk_simulation.proofs.WrittenCells.{FoundAt, found_at, write_at, put, variable_found}
 

@@ -1,19 +1,7 @@
 -- How runs compose: another account, a step more, a part behind another; and parts in which objects are made that die at their end.
-use Rattle.std.proofs.Common.{◌≡◌, ℕ, suc, ◌+◌, ◌-◌, ◌*◌, ◌<◌, ◌≤◌, List, ◌∷◌, length, Option, None, refl, sym, ◌∙◌, subst, arith}
-use Rattle.bk_base.specs.declared.limit.TheConstants.{FRAME_WORDS}
-use Rattle.bk_scope.specs.Scope.{Binding}
-use Rattle.bk_ocode.specs.Cells.{Content, Temporary, Cell, Held, content_of, write, below}
-use Rattle.bk_ocode.specs.OcodeState.{Placed, State}
-use Rattle.bk_ocode.specs.declared.stmt.Stmt.{Stmt}
-use Rattle.bk_trans.specs.declared.around.Around.{Around}
-use Rattle.bk_trans.specs.Naming.{meant}
-use Rattle.bk_trans.specs.Scheme.{goal_in}
-use Rattle.bk_meaning.specs.Values.{Value}
-use Rattle.bk_meaning.specs.Memory.{Memory}
-use Rattle.bk_meaning.specs.Environment.{Environment}
-use Rattle.bk_meaning.specs.World.{World, Exit, goto, Outcome, turn, closing, forgetting, remembering}
-use Rattle.bk_meaning.specs.Growing.{history}
-use Rattle.bk_meaning.proofs.After.{adds, stays}
+use Rattle.bk_simulation.proofs.Words.{◌≡◌, ℕ, suc, ◌+◌, ◌-◌, ◌*◌, ◌<◌, ◌≤◌, List, ◌∷◌, length, Option, None, refl, sym, ◌∙◌, subst, arith, FRAME_WORDS,
+  Binding, Content, Temporary, Cell, Held, content_of, write, below, Placed, State, Stmt, Around, meant, goal_in, Value, Memory, Environment, World, Exit, goto,
+  Outcome, turn, closing, forgetting, remembering, history, adds, stays}
 use Rattle.bk_simulation.proofs.Moves.{Moves}
 use Rattle.bk_simulation.proofs.FramesKept.{LinksFrom, links_kept}
 use Rattle.bk_simulation.proofs.BytesKept.{moves_bytes}

@@ -1,15 +1,6 @@
 -- Truth where it is asked for: values, NOT, `&` and `|`; and `->`.
-use Rattle.std.proofs.Common.{◌≡◌, ℕ, ◌+◌, ◌-◌, ◌*◌, ◌≤◌, Bool, true, false, not, List, ◌∷◌, Some, refl, subst, arith}
-use Rattle.bk_ocode.specs.OcodeState.{State}
-use Rattle.bk_ocode.specs.OcodeStep.{from_label}
-use Rattle.bk_ocode.specs.declared.stmt.Stmt.{Stmt}
-use Rattle.bk_ocode.specs.declared.stmt.Stmt.TheVariants.{Label, GiveResult, TakeResult}
-use Rattle.bk_tree.specs.Tree.{Expression}
-use Rattle.bk_meaning.specs.Environment.{Environment, past}
-use Rattle.bk_meaning.specs.World.{World, Outcome, gives, with, either}
-use Rattle.bk_meaning.specs.Growing.{history}
-use Rattle.bk_meaning.specs.Parts.{Meanings}
-use Rattle.bk_meaning.proofs.After.{Adds, adds, stays, either_after}
+use Rattle.bk_simulation.proofs.Words.{◌≡◌, ℕ, ◌+◌, ◌-◌, ◌*◌, ◌≤◌, Bool, true, false, not, List, ◌∷◌, Some, refl, subst, arith, State, from_label, Stmt, Label,
+  GiveResult, TakeResult, Expression, Environment, past, World, Outcome, gives, with, either, history, Meanings, Adds, adds, stays, either_after}
 use Rattle.bk_simulation.proofs.Memory.{Store}
 use Rattle.bk_simulation.proofs.Weights.{turns_of}
 use Rattle.bk_simulation.proofs.Laid.{Setting, Scene, LabelAt, IsValue, IsJump}

@@ -1,19 +1,15 @@
 -- Constants of a regular tree are words where those of MANIFEST are.
-use Rattle.std.proofs.Common.{◌≡◌, ℕ, zero, suc, ◌+◌, ◌-◌, ◌*◌, ◌<◌, ◌^◌, ◌%◌, ◌/◌, ◌==◌, nat_lt, ltb, ltb-false, ℤ, pos, negsuc, neg_ℤ, nat_abs, int_div, int_rem, Bool, true, false, not, List, Option, Some, None, cond, refl, ap, ◌∙◌, subst, arith, if◌then◌else◌, bit_xor}
+use Rattle.bk_simulation.proofs.Words.{◌≡◌, ℕ, zero, suc, ◌+◌, ◌-◌, ◌*◌, ◌<◌, ◌^◌, ◌%◌, ◌/◌, ◌==◌, nat_lt, ltb, ltb-false, ℤ, pos, negsuc, neg_ℤ, nat_abs,
+  int_div, int_rem, Bool, true, false, not, List, Option, Some, None, cond, refl, ap, ◌∙◌, subst, arith, if◌then◌else◌, bit_xor, truth, signed, word_of,
+  word_not, Operator, Expression, Bound, Binding, bound_in, named_word, prefix_word, infix_word, constant_word}
 use Rattle.std.specs.Option.{option_and_then}
 use Rattle.std.proofs.lemmas.Nat.{or_lt, xor_lt, mod_below, and_le_l}
 use Rattle.std.proofs.Math.Nat.{div-le_self, mod-le}
-use Rattle.bk_base.specs.Word.{truth, signed, word_of, word_not}
-use Rattle.bk_tree.specs.declared.tree.Operator.{Operator}
 use Rattle.bk_tree.specs.declared.tree.Operator.TheVariants as o
 use Rattle.bk_tree.specs.declared.tree.Prefix.{Prefix}
 use Rattle.bk_tree.specs.declared.tree.Prefix.TheVariants as q
 use Rattle.bk_tree.specs.Tree as t
-use Rattle.bk_tree.specs.Tree.{Expression}
-use Rattle.bk_scope.specs.declared.bound.Bound.{Bound}
 use Rattle.bk_scope.specs.declared.bound.Bound.TheVariants as b
-use Rattle.bk_scope.specs.Scope.{Binding, bound_in}
-use Rattle.bk_scope.specs.Constants.{named_word, prefix_word, infix_word, constant_word}
 use Rattle.bk_simulation.specs.Regular.{Regular}
 use Rattle.bk_simulation.proofs.LaidExpressions.{HasWords}
 

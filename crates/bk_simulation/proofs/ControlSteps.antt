@@ -1,17 +1,8 @@
 -- Steps that move control from where a run has come to: LAB, jumps, tests, results.
-use Rattle.std.proofs.Common.{◌≡◌, ℕ, suc, ◌+◌, ◌-◌, ◌<◌, ◌≤◌, ◌==◌, Bool, true, false, not, List, ◌∷◌, length, Option, Some, None, refl, ap, ◌∙◌, subst, arith}
+use Rattle.bk_simulation.proofs.Words.{◌≡◌, ℕ, suc, ◌+◌, ◌-◌, ◌<◌, ◌≤◌, ◌==◌, Bool, true, false, not, List, ◌∷◌, length, Option, Some, None, refl, ap, ◌∙◌,
+  subst, arith, option_map_or, Content, Unset, Word, Cell, content_of, below, settle, Placed, Inside, State, Goal, from_label, Stmt, Jump, JumpIf, Label,
+  GiveResult, TakeResult, Stack, Value, truth_of_value, World, Exit, given, forgetting, judged}
 use Rattle.std.specs.Prelude.{drop}
-use Rattle.std.specs.Option.{option_map_or}
-use Rattle.bk_ocode.specs.Cells.{Content, Unset, Word, Cell, content_of, below, settle}
-use Rattle.bk_ocode.specs.OcodeState.{Placed, Inside, State}
-use Rattle.bk_trans.specs.declared.around.Goal.{Goal}
-use Rattle.bk_ocode.specs.OcodeStep.{from_label}
-use Rattle.bk_ocode.specs.declared.stmt.Stmt.{Stmt}
-use Rattle.bk_ocode.specs.declared.stmt.Stmt.TheVariants.{Jump, JumpIf, Label, GiveResult, TakeResult, Stack}
-use Rattle.bk_meaning.specs.Values.{Value}
-use Rattle.bk_meaning.specs.Operators.{truth_of_value}
-use Rattle.bk_meaning.specs.World.{World, Exit, given, forgetting}
-use Rattle.bk_meaning.specs.Expressions.{judged}
 use Rattle.bk_simulation.proofs.Moves.{Moves, label_moves, jump_moves, taken_moves, passed_moves, give_result_moves, take_result_moves, stack_moves}
 use Rattle.bk_simulation.proofs.Memory.{Like, like_on, Stands, Store, Moved}
 use Rattle.bk_simulation.proofs.WrittenCells.{below_like, settle_like}

@@ -1,12 +1,6 @@
 -- Statements with data have places of their own: where two have the same place, they are one.
-use Rattle.std.proofs.Common.{◌≡◌, ℕ, zero, suc, ◌+◌, ◌<◌, List, [], ◌∷◌, ◌++◌, length, Some, None, refl, sym, ap, ◌∙◌, subst, arith, slice_get, drop, true, length-append}
-use Rattle.bk_base.specs.declared.limit.TheConstants.{FRAME_WORDS}
-use Rattle.bk_ocode.specs.OcodeState.{Placement, Placed}
-use Rattle.bk_ocode.specs.OcodeRun.{Program}
-use Rattle.bk_ocode.specs.SectionData.{Datum, is_in, datum_of, data_of}
-use Rattle.bk_ocode.specs.ProgramStart.{all_data}
-use Rattle.bk_ocode.specs.WellPlaced.{IsWellPlaced}
-use Rattle.bk_ocode.specs.declared.stmt.Stmt.{Stmt}
+use Rattle.bk_simulation.proofs.Words.{◌≡◌, ℕ, zero, suc, ◌+◌, ◌<◌, List, [], ◌∷◌, ◌++◌, length, Some, None, refl, sym, ap, ◌∙◌, subst, arith, slice_get, drop,
+  true, length-append, FRAME_WORDS, Placement, Placed, Program, Datum, is_in, datum_of, data_of, all_data, IsWellPlaced, Stmt}
 use Rattle.bk_simulation.proofs.MadeObjects.{get_first}
 use Rattle.bk_simulation.proofs.HeldData.{get_behind}
 use Rattle.bk_simulation.proofs.LastingFits.{in_datum}

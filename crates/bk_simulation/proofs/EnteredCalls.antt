@@ -1,26 +1,10 @@
 -- A procedure is called: into its frame, through its body, and back.
-use Rattle.std.proofs.Common.{◌≡◌, ℕ, suc, ◌+◌, ◌-◌, ◌<◌, ◌≤◌, ◌^◌, max, nat_lt, Bool, true, false, List, [], ◌∷◌, ◌++◌, length, Option, Some, None, refl, sym, ap, ◌∙◌, subst, arith, ⊎_elim, inl, inr, slice_get, append-nil}
+use Rattle.bk_simulation.proofs.Words.{◌≡◌, ℕ, suc, ◌+◌, ◌-◌, ◌<◌, ◌≤◌, ◌^◌, max, nat_lt, Bool, true, false, List, [], ◌∷◌, ◌++◌, length, Option, Some, None,
+  refl, sym, ap, ◌∙◌, subst, arith, ⊎_elim, inl, inr, slice_get, append-nil, option_map_or, nat_tests, slice_get_within, FRAME_WORDS, Action, Word, Cell,
+  content_of, Placed, Routine, Callables, Inside, State, slot, can_be_called, Stmt, Entry, Value, procedure, unset, holds, World, Outcome, making, forgetting,
+  calling, calls_back, Environment, Procedure, history, After, forwards, scope_of, alone, Meanings, formal_cells, bind_formals, run_body, enter, closing_after}
 use Rattle.std.specs.Prelude.{drop}
-use Rattle.std.specs.Option.{option_map_or}
-use Rattle.std.proofs.lemmas.Bool.Decides.{nat_tests}
-use Rattle.std.proofs.lemmas.Option.{slice_get_within}
-use Rattle.bk_base.specs.declared.limit.TheConstants.{FRAME_WORDS}
-use Rattle.bk_tree.specs.Tree.{Action}
-use Rattle.bk_ocode.specs.Cells.{Word, Cell, content_of}
-use Rattle.bk_ocode.specs.OcodeState.{Placed, Routine, Callables, Inside, State}
-use Rattle.bk_ocode.specs.OcodeStep.{slot, can_be_called}
-use Rattle.bk_ocode.specs.declared.stmt.Stmt.{Stmt}
-use Rattle.bk_ocode.specs.declared.stmt.Stmt.TheVariants.{Entry}
-use Rattle.bk_meaning.specs.Values.{Value, procedure, unset, Cell as Cell_of, holds}
-use Rattle.bk_meaning.specs.World.{World, Outcome, making, forgetting, calling, calls_back}
-use Rattle.bk_meaning.specs.Environment.{Environment}
-use Rattle.bk_meaning.specs.Lasting.{Procedure}
-use Rattle.bk_meaning.specs.Growing.{history, After}
-use Rattle.bk_meaning.specs.Seeking.{forwards}
-use Rattle.bk_meaning.specs.Scopes.{scope_of, alone}
-use Rattle.bk_meaning.specs.Parts.{Meanings}
-use Rattle.bk_meaning.specs.Calls.{formal_cells, bind_formals, run_body, enter}
-use Rattle.bk_meaning.proofs.After.{closing_after}
+use Rattle.bk_meaning.specs.Values.{Cell as Cell_of}
 use Rattle.bk_simulation.specs.Simulation.{IsCallAt}
 use Rattle.bk_simulation.proofs.Moves.{Moves, function_moves, routine_moves, entry_moves, save_moves, entering}
 use Rattle.bk_simulation.proofs.FramesKept.{links_kept, frames_called}

@@ -1,29 +1,16 @@
 -- FOR as a command.
-use Rattle.std.proofs.Common.{◌≡◌, ◌≢◌, ℕ, zero, suc, ◌+◌, ◌-◌, ◌*◌, ◌<◌, ◌≤◌, ◌^◌, Bool, true, false, cond, List, [], ◌∷◌, ◌++◌, length, Some, None, refl, sym, ap, ◌∙◌, subst, arith, ⊎_elim, not, nat_lt, pos, int_lt, Option}
+use Rattle.bk_simulation.proofs.Words.{◌≡◌, ◌≢◌, ℕ, zero, suc, ◌+◌, ◌-◌, ◌*◌, ◌<◌, ◌≤◌, ◌^◌, Bool, true, false, cond, List, [], ◌∷◌, ◌++◌, length, Some, None,
+  refl, sym, ap, ◌∙◌, subst, arith, ⊎_elim, not, nat_lt, pos, int_lt, Option, bytes_eq, bytes_eq-Decides, FRAME_WORDS, Bound, Binding, bound_in,
+  bind as bind_bound, Content, Cell, Variable, Held, content_of, below, settle, Word, State, Local, Stmt, Label, Load, JumpIf, Jump, Store as Store_stmt, Stack,
+  Number, Dyadic, Assign, variable, test_of_step, goal, meant, Mention, Expression, Expressions, Action, Value, holds, number, address, Environment, cell, past,
+  World, Outcome, Done, done, given, with, either, making, Exit, break, loop, turn, history, Meanings, fetch, store as put_value, at, Sought, forwards, step_of,
+  for_test, for_rounds_of, for_loop, round_exit, for_step, relation, Adds, adds, with_after, given_after, closing_after, stays, each_way_after, turn_after,
+  changes_after, either_after, scope_of, alone, nat_tests, ints, signed, word_of, from_label, read, operate, judged}
 use Rattle.std.specs.Prelude.{slice_get}
-use Rattle.std.specs.Str.{bytes_eq}
-use Rattle.std.proofs.lemmas.Slice.Eq.{bytes_eq-Decides}
-use Rattle.bk_base.specs.declared.limit.TheConstants.{FRAME_WORDS}
-use Rattle.bk_scope.specs.declared.bound.Bound.{Bound}
 use Rattle.bk_scope.specs.declared.bound.Bound.TheVariants as b
-use Rattle.bk_scope.specs.Scope.{Binding, bound_in, bind as bind_bound}
-use Rattle.bk_ocode.specs.Cells.{Content, Cell, Variable, Held, content_of, below, settle, Word}
-use Rattle.bk_ocode.specs.OcodeState.{State}
-use Rattle.bk_ocode.specs.declared.stmt.Variable.TheVariants.{Local}
-use Rattle.bk_ocode.specs.declared.stmt.Stmt.{Stmt}
-use Rattle.bk_ocode.specs.declared.stmt.Stmt.TheVariants.{Label, Load, JumpIf, Jump, Store as Store_stmt, Stack, Number, Dyadic, Assign}
-use Rattle.bk_trans.specs.Scheme.{variable, test_of_step, goal}
-use Rattle.bk_trans.specs.Naming.{meant}
 use Rattle.bk_tree.specs.Tree as t
-use Rattle.bk_tree.specs.Tree.{Mention, Expression, Expressions, Action}
-use Rattle.bk_meaning.specs.Values.{Value, Cell as Cell_of, holds, number, address}
-use Rattle.bk_meaning.specs.Environment.{Environment, cell, bind, past}
-use Rattle.bk_meaning.specs.World.{World, Outcome, Done, done, given, with, either, making, Exit, break, loop, turn}
-use Rattle.bk_meaning.specs.Growing.{history}
-use Rattle.bk_meaning.specs.Parts.{Meanings, fetch, store as put_value, at}
-use Rattle.bk_meaning.specs.Seeking.{Sought, forwards}
-use Rattle.bk_meaning.specs.Loops.{step_of, for_test, for_rounds_of, for_loop, round_exit, for_step, relation}
-use Rattle.bk_meaning.proofs.After.{Adds, adds, with_after, given_after, closing_after, stays, each_way_after, turn_after, changes_after, either_after}
+use Rattle.bk_meaning.specs.Values.{Cell as Cell_of}
+use Rattle.bk_meaning.specs.Environment.{bind}
 use Rattle.bk_simulation.proofs.Moves.{store_moves, jump_moves, number_moves, load_moves}
 use Rattle.bk_simulation.proofs.Memory.{BaseOf, Alive, Like, like_on, Stands, StandsCell, Store, Moved, moved_on, fits_above, fits_more, stands_grown}
 use Rattle.bk_simulation.proofs.WrittenCells.{below_at, below_like, settle_like, settle_at, read_here}
@@ -36,19 +23,11 @@ use Rattle.bk_simulation.proofs.Simulates.{Simulates, Limit, where_to, RanDid, f
 use Rattle.bk_simulation.proofs.ControlSteps.{label_on, landed_on, closes, caught_at, tested}
 use Rattle.bk_simulation.proofs.Orders.{by_test}
 use Rattle.bk_simulation.proofs.NamesBound.{bound_named}
-use Rattle.bk_meaning.specs.Scopes.{scope_of, alone}
 use Rattle.bk_simulation.proofs.Scopes.{scope_runs, around_ready}
 use Rattle.bk_simulation.proofs.Loops.{looping}
-use Rattle.std.proofs.lemmas.Bool.Decides.{nat_tests}
-use Rattle.std.proofs.lemmas.Int.{ints}
-use Rattle.bk_base.specs.Word.{signed, word_of}
 use Rattle.bk_tree.specs.declared.tree.Operator.TheVariants as op
-use Rattle.bk_ocode.specs.OcodeStep.{from_label}
 use Rattle.bk_ocode.specs.declared.stmt.Dyadic.TheVariants as two
 use Rattle.bk_meaning.specs.Memory as memory
-use Rattle.bk_meaning.specs.Memory.{read}
-use Rattle.bk_meaning.specs.Operators.{operate}
-use Rattle.bk_meaning.specs.Expressions.{judged}
 use Rattle.bk_simulation.proofs.OperatorWords.{operates}
 use Rattle.bk_simulation.proofs.Operators.{dyadic_run, for_two, two_run, Two, RanValue, pushes_item, same_number}
 use Rattle.bk_simulation.proofs.Assignments.{word_stored}

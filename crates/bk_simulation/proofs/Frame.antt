@@ -1,22 +1,10 @@
 -- The frame of the simulation: where code runs and what it finds, counted runs, arrivals, exits and falls, and how parts compose.
-use Rattle.std.proofs.Common.{◌≡◌, ℕ, zero, suc, ◌+◌, ◌-◌, ◌*◌, ◌<◌, ◌≤◌, ◌^◌, true, List, ◌∷◌, ◌++◌, length, Option, Some, refl, sym, ap, ◌∙◌, subst, append_assoc, arith, ◌⊎◌, ⊎_elim, inl, inr}
-use Rattle.std.proofs.lemmas.Option.{slice_get_within}
-use Rattle.bk_base.specs.declared.limit.TheConstants.{FRAME_WORDS}
+use Rattle.bk_simulation.proofs.Words.{◌≡◌, ℕ, zero, suc, ◌+◌, ◌-◌, ◌*◌, ◌<◌, ◌≤◌, ◌^◌, true, List, ◌∷◌, ◌++◌, length, Option, Some, refl, sym, ap, ◌∙◌, subst,
+  append_assoc, arith, ◌⊎◌, ⊎_elim, inl, inr, slice_get_within, FRAME_WORDS, bound_in, Content, Cell, content_of, Placed, Inside, State, Ends, from_label,
+  program_step, Stmt, Jump, Stack, Return, Goal, Value, Environment, Sense, constant, cell, sense_in, sense_of, World, Exit, break, loop, endcase, goto, result,
+  return, Outcome, gives, leaves, ends, undefined, going, each_way, with, turn, turn_of, history, Grows, After, Adds, adds, stays}
 use Rattle.bk_base.specs.declared.run_end.End.{End}
-use Rattle.bk_scope.specs.Scope.{bound_in}
-use Rattle.bk_ocode.specs.Cells.{Content, Cell, content_of}
-use Rattle.bk_ocode.specs.OcodeState.{Placed, Inside, State, Ends}
-use Rattle.bk_ocode.specs.OcodeStep.{from_label}
-use Rattle.bk_ocode.specs.OcodeRun.{program_step}
-use Rattle.bk_ocode.specs.declared.stmt.Stmt.{Stmt}
-use Rattle.bk_ocode.specs.declared.stmt.Stmt.TheVariants.{Jump, Stack, Return}
-use Rattle.bk_trans.specs.declared.around.Goal.{Goal}
-use Rattle.bk_meaning.specs.Values.{Value}
-use Rattle.bk_meaning.specs.Environment.{Environment, Sense, constant, cell, sense_in, sense_of}
 use Rattle.bk_meaning.specs.World as world
-use Rattle.bk_meaning.specs.World.{World, Exit, break, loop, endcase, goto, result, return, Outcome, gives, leaves, ends, undefined, going, each_way, with, turn, turn_of}
-use Rattle.bk_meaning.specs.Growing.{history, Grows, After}
-use Rattle.bk_meaning.proofs.After.{Adds, adds, stays}
 use Rattle.bk_simulation.specs.Simulation.{IsTooHigh, end_of}
 use Rattle.bk_simulation.proofs.Moves.{Moves}
 use Rattle.bk_simulation.proofs.FramesKept.{AtMostFrames}

@@ -1,27 +1,12 @@
 -- The words of strings and tables are data of the program.
-use Rattle.std.proofs.Common.{◌≡◌, ℕ, zero, suc, ◌+◌, ◌<◌, ◌≤◌, ◌^◌, List, [], ◌∷◌, ◌++◌, length, map, Option, Some, None, slice_get, drop, refl, sym, ap, ap₂, ◌∙◌, subst, arith}
-use Rattle.std.specs.Prelude.{unwrap_or}
-use Rattle.bk_base.specs.Word.{signed}
+use Rattle.bk_simulation.proofs.Words.{◌≡◌, ℕ, zero, suc, ◌+◌, ◌<◌, ◌≤◌, ◌^◌, List, [], ◌∷◌, ◌++◌, length, map, Option, Some, None, slice_get, drop, refl, sym,
+  ap, ap₂, ◌∙◌, subst, arith, unwrap_or, signed, Expressions, Binding, constant_word, HaveWords, Placement, Placed, Program, Datum, item_words, datum_of,
+  data_of, all_data, Stmt, DataNumber, worth, words_named, Named, constant_words, FRAME_WORDS, IsWellPlaced}
 use Rattle.bk_tree.specs.Tree as t
-use Rattle.bk_tree.specs.Tree.{Expressions}
-use Rattle.bk_scope.specs.Scope.{Binding}
-use Rattle.bk_scope.specs.Constants.{constant_word}
-use Rattle.bk_scope.specs.Sound.{HaveWords}
-use Rattle.bk_ocode.specs.OcodeState.{Placement, Placed}
-use Rattle.bk_ocode.specs.OcodeRun.{Program}
-use Rattle.bk_ocode.specs.SectionData.{Datum, item_words, datum_of, data_of}
-use Rattle.bk_ocode.specs.ProgramStart.{all_data}
-use Rattle.bk_ocode.specs.declared.stmt.Stmt.{Stmt}
-use Rattle.bk_ocode.specs.declared.stmt.Stmt.TheVariants.{DataNumber}
-use Rattle.bk_trans.specs.Naming.{worth, words_named}
-use Rattle.bk_meaning.specs.Environment.{Named}
-use Rattle.bk_meaning.specs.Lasting.{constant_words}
 use Rattle.bk_simulation.specs.Regular.{RegularEach}
 use Rattle.bk_simulation.proofs.Operators.{same_number}
 use Rattle.bk_simulation.proofs.MadeObjects.{get_first}
 use Rattle.bk_simulation.proofs.Sought.{with_names}
-use Rattle.bk_base.specs.declared.limit.TheConstants.{FRAME_WORDS}
-use Rattle.bk_ocode.specs.WellPlaced.{IsWellPlaced}
 use Rattle.bk_simulation.proofs.Held.{InData}
 use Rattle.bk_simulation.proofs.NamesAgree.{Agree}
 use Rattle.bk_simulation.proofs.Standing.{StandsAt, data_below}

@@ -1,33 +1,18 @@
 -- Each command of an accepted section is laid where the scheme puts it. That VALOFs and blocks with declarations are is taken here as an
 -- argument.
-use Rattle.std.proofs.Common.{◌≡◌, ℕ, ◌+◌, ◌≤◌, false, not, List, [], ◌∷◌, ◌++◌, Some, cond, refl, sym, ap, ◌∙◌, subst, arith, suc, length}
-use Rattle.std.proofs.lemmas.Bool.{false≢true}
-use Rattle.std.specs.Str.{bytes_eq}
-use Rattle.bk_tree.specs.Parts.{size}
+use Rattle.bk_simulation.proofs.Words.{◌≡◌, ℕ, ◌+◌, ◌≤◌, false, not, List, [], ◌∷◌, ◌++◌, Some, cond, refl, sym, ap, ◌∙◌, subst, arith, suc, length, false≢true,
+  bytes_eq, size, Expression, Expressions, Action, Actions, Declaration, Declarations, Definition, Definitions, Starts, Place, bound_in, constant_word, deeper,
+  SoundDone, SoundDoneEach, Sound, Spot, from_label, Stmt, Jump, Label, GiveResult, Stack, CallRoutine, Switch, Return, Finish, TakeResult, labels, labels_if,
+  labels_onto, labels_in, meant, term_named, condition_named, lvalues_named, command_named, commands_named, parts, parts_if, parts_onto, parts_in,
+  parts_through, goal_in, value_code, jump_code, command_code, through_code, cases, default_in, label_or, valued, objects, objects_of_each, objects_of_action,
+  objects_of_actions, constant_in, the_label, the_case, the_default, same_place, stands_in, of_actions, of_expression, labels_of, labels_in_scope}
 use Rattle.bk_tree.specs.Tree as t
-use Rattle.bk_tree.specs.Tree.{Expression, Expressions, Action, Actions, Declaration, Declarations, Definition, Definitions, Starts}
-use Rattle.bk_scope.specs.declared.place.Place.{Place}
-use Rattle.bk_scope.specs.Scope.{bound_in}
-use Rattle.bk_scope.specs.Constants.{constant_word}
-use Rattle.bk_scope.specs.Places.{deeper}
 use Rattle.bk_scope.specs.Places as place
-use Rattle.bk_scope.specs.Sound.{SoundDone, SoundDoneEach, Sound}
 use Rattle.bk_scope.specs.Spots as spot
-use Rattle.bk_scope.specs.Spots.{Spot}
-use Rattle.bk_ocode.specs.OcodeStep.{from_label}
-use Rattle.bk_ocode.specs.declared.stmt.Stmt.{Stmt}
-use Rattle.bk_ocode.specs.declared.stmt.Stmt.TheVariants.{Jump, Label, GiveResult, Stack, CallRoutine, Switch, Return, Finish, TakeResult}
-use Rattle.bk_trans.specs.Labels.{labels, labels_if, labels_onto, labels_in}
-use Rattle.bk_trans.specs.Naming.{meant, term_named, condition_named, lvalues_named, command_named, commands_named}
-use Rattle.bk_trans.specs.Parts.{parts, parts_if, parts_onto, parts_in, parts_through}
-use Rattle.bk_trans.specs.Scheme.{goal_in, value_code, jump_code, command_code, through_code, cases, default_in, label_or, valued}
-use Rattle.bk_meaning.specs.Environment.{objects, objects_of_each, objects_of_action, objects_of_actions, constant_in}
-use Rattle.bk_meaning.specs.Seeking.{the_label, the_case, the_default, same_place, stands_in}
 use Rattle.bk_simulation.specs.Regular.{RegularAction, RegularActions, Regular}
 use Rattle.bk_simulation.proofs.Weights.{weight_in, weight_through, of_light, in_light, weight_of}
 use Rattle.bk_simulation.proofs.Sought.{with_names}
 use Rattle.bk_simulation.proofs.Laid.{Scene, in_loop, in_switch, pushes, jumps, count, IsLabelHere, AreActs, in_valof, Aim, ending, IsCode}
-use Rattle.bk_meaning.specs.Lasting.{of_actions, of_expression}
 use Rattle.bk_simulation.proofs.LastingKinds.{kinds_through}
 use Rattle.bk_simulation.proofs.Standing.{StandsAt, passed, written, label_at, call_at, label_found, home, Bases, no_bases, both_bases, three_bases, bases_so, lies_so, Lies}
 use Rattle.bk_simulation.proofs.Constants.{constant_small}
@@ -39,8 +24,6 @@ use Rattle.bk_simulation.proofs.LaidAssigned.{turns_lie, laid_froms, laid_stores
 use Rattle.bk_simulation.proofs.LaidFors.{ForBody, body_of, for_lies}
 use Rattle.bk_tree.specs.declared.tree.Simple.TheVariants as simple
 use Rattle.bk_tree.specs.declared.tree.Simple.{Simple}
-use Rattle.bk_scope.specs.Entering.{labels_of}
-use Rattle.bk_scope.specs.Scoping.{labels_in_scope}
 
 -- ---- Commands of one word are laid where the scheme puts them.
 

@@ -1,26 +1,14 @@
 -- An assignment is laid where the scheme puts it: its values, and where they are stored, by turns.
-use Rattle.std.proofs.Common.{◌≡◌, ℕ, ◌+◌, ◌≤◌, false, List, [], ◌∷◌, ◌++◌, refl, arith}
-use Rattle.bk_base.specs.declared.limit.TheConstants.{FRAME_WORDS}
-use Rattle.bk_tree.specs.Parts.{line_of, size}
+use Rattle.bk_simulation.proofs.Words.{◌≡◌, ℕ, ◌+◌, ◌≤◌, false, List, [], ◌∷◌, ◌++◌, refl, arith, FRAME_WORDS, line_of, size, Expression, Expressions, Action,
+  Actions, Declaration, Declarations, Definition, Definitions, Starts, Place, Destination, deeper, SoundEach, SoundDestinations, Spot, Stmt, labels, labels_at,
+  term_named, terms_named, lvalue_named, lvalues_named, parts, parts_at, parts_onto, parts_from, value_code, store_code, value_codes, store_codes, by_turns,
+  objects, objects_of_each, of_expression}
 use Rattle.bk_tree.specs.Tree as t
-use Rattle.bk_tree.specs.Tree.{Expression, Expressions, Action, Actions, Declaration, Declarations, Definition, Definitions, Starts}
-use Rattle.bk_scope.specs.declared.place.Place.{Place}
-use Rattle.bk_scope.specs.declared.role.Role.TheVariants.{Destination}
-use Rattle.bk_scope.specs.Places.{deeper}
-use Rattle.bk_scope.specs.Sound.{SoundEach, SoundDestinations}
 use Rattle.bk_scope.specs.Spots as spot
-use Rattle.bk_scope.specs.Spots.{Spot}
-use Rattle.bk_ocode.specs.declared.stmt.Stmt.{Stmt}
-use Rattle.bk_trans.specs.Labels.{labels, labels_at}
-use Rattle.bk_trans.specs.Naming.{term_named, terms_named, lvalue_named, lvalues_named}
-use Rattle.bk_trans.specs.Parts.{parts, parts_at, parts_onto, parts_from}
-use Rattle.bk_trans.specs.Scheme.{value_code, store_code, value_codes, store_codes, by_turns}
-use Rattle.bk_meaning.specs.Environment.{objects, objects_of_each}
 use Rattle.bk_simulation.specs.Regular.{RegularEach}
 use Rattle.bk_simulation.proofs.Weights.{weight_among}
 use Rattle.bk_simulation.proofs.Sought.{with_names}
 use Rattle.bk_simulation.proofs.Laid.{Scene, pushes, IsCode, IsStore}
-use Rattle.bk_meaning.specs.Lasting.{of_expression}
 use Rattle.bk_simulation.proofs.LastingKinds.{kinds, kinds_each, kinds_at, kinds_onto}
 use Rattle.bk_simulation.proofs.Standing.{StandsAt, written, home, no_bases, both_bases, bases_so, Lies}
 use Rattle.bk_simulation.proofs.LaidCommands.{Turns}

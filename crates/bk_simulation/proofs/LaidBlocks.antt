@@ -1,26 +1,12 @@
 -- Blocks with declarations are laid where the scheme puts them, and so each form is.
-use Rattle.std.proofs.Common.{◌≡◌, ℕ, zero, suc, ◌+◌, ◌≤◌, true, List, [], ◌∷◌, ◌++◌, length, refl, sym, ap, ◌∙◌, subst, arith}
+use Rattle.bk_simulation.proofs.Words.{◌≡◌, ℕ, zero, suc, ◌+◌, ◌≤◌, true, List, [], ◌∷◌, ◌++◌, length, refl, sym, ap, ◌∙◌, subst, arith, Actions, Declaration,
+  Declarations, Place, labels_of_each, Binding, labels_in_scope, scope_behind, place_behind_all, SoundDone, Spot, behind_declared, Stmt, Stack, Command,
+  Commands, behind_declarations, labels_of_declarations, command_named, commands_named, declarations_named, parts_in, parts_of_declarations, command_code,
+  through_code, declarations_code, Named, label, bind_each, labelled, objects_of_actions, objects_of_declarations, Sought, the_label, stands_in_one, Lasting,
+  of_action, of_actions, of_declarations, all_declared}
 use Rattle.bk_tree.specs.Tree as t
-use Rattle.bk_tree.specs.Tree.{Actions, Declaration, Declarations}
-use Rattle.bk_scope.specs.declared.place.Place.{Place}
-use Rattle.bk_scope.specs.Entering.{labels_of_each}
 use Rattle.bk_scope.specs.Places as place
-use Rattle.bk_scope.specs.Scope.{Binding}
-use Rattle.bk_scope.specs.Scoping.{labels_in_scope, scope_behind, place_behind_all}
-use Rattle.bk_scope.specs.Sound.{SoundDone}
 use Rattle.bk_scope.specs.Spots as spot
-use Rattle.bk_scope.specs.Spots.{Spot, behind_declared}
-use Rattle.bk_ocode.specs.declared.stmt.Stmt.{Stmt}
-use Rattle.bk_ocode.specs.declared.stmt.Stmt.TheVariants.{Stack}
-use Rattle.bk_trans.specs.Program.{Command, Commands}
-use Rattle.bk_trans.specs.Depths.{behind_declarations}
-use Rattle.bk_trans.specs.Labels.{labels_of_declarations}
-use Rattle.bk_trans.specs.Naming.{command_named, commands_named, declarations_named}
-use Rattle.bk_trans.specs.Parts.{parts_in, parts_of_declarations}
-use Rattle.bk_trans.specs.Scheme.{command_code, through_code, declarations_code}
-use Rattle.bk_meaning.specs.Environment.{Named, label, bind_each, labelled, objects_of_actions, objects_of_declarations}
-use Rattle.bk_meaning.specs.Seeking.{Sought, the_label, stands_in_one}
-use Rattle.bk_meaning.specs.Lasting.{Lasting, of_action, of_actions, of_declarations, all_declared}
 use Rattle.bk_simulation.specs.Regular.{RegularAction}
 use Rattle.bk_simulation.proofs.Weights.{weight_in, through_light, turns_through}
 use Rattle.bk_simulation.proofs.Sought.{with_names, label_stands_one}

@@ -1,25 +1,12 @@
 -- A call is laid where the scheme puts it, where its arguments and what it calls are.
-use Rattle.std.proofs.Common.{◌≡◌, ℕ, ◌+◌, List, [], ◌∷◌, ◌++◌, refl, ap, subst, arith}
-use Rattle.bk_tree.specs.Parts.{size}
+use Rattle.bk_simulation.proofs.Words.{◌≡◌, ℕ, ◌+◌, List, [], ◌∷◌, ◌++◌, refl, ap, subst, arith, size, Expression, Expressions, Action, Actions, Declaration,
+  Declarations, Definition, Definitions, Starts, Place, Binding, deeper, Spot, Stmt, Stack, behind_starts, behind_definitions, labels, term_named, terms_named,
+  parts, parts_each, value_code, each_code, objects, objects_of_each, of_expression, of_each}
 use Rattle.bk_tree.specs.Tree as t
-use Rattle.bk_tree.specs.Tree.{Expression, Expressions, Action, Actions, Declaration, Declarations, Definition, Definitions, Starts}
-use Rattle.bk_scope.specs.declared.place.Place.{Place}
-use Rattle.bk_scope.specs.Scope.{Binding}
-use Rattle.bk_scope.specs.Places.{deeper}
 use Rattle.bk_scope.specs.Spots as spot
-use Rattle.bk_scope.specs.Spots.{Spot}
-use Rattle.bk_ocode.specs.declared.stmt.Stmt.{Stmt}
-use Rattle.bk_ocode.specs.declared.stmt.Stmt.TheVariants.{Stack}
 use Rattle.bk_trans.specs.Depths as depths
-use Rattle.bk_trans.specs.Depths.{behind_starts, behind_definitions}
-use Rattle.bk_trans.specs.Labels.{labels}
-use Rattle.bk_trans.specs.Naming.{term_named, terms_named}
-use Rattle.bk_trans.specs.Parts.{parts, parts_each}
-use Rattle.bk_trans.specs.Scheme.{value_code, each_code}
-use Rattle.bk_meaning.specs.Environment.{objects, objects_of_each}
 use Rattle.bk_simulation.proofs.Sought.{with_names}
 use Rattle.bk_simulation.proofs.Laid.{Scene, pushes, count, IsCode, AreValues}
-use Rattle.bk_meaning.specs.Lasting.{of_expression, of_each}
 use Rattle.bk_simulation.proofs.LastingKinds.{kinds, kinds_each}
 use Rattle.bk_simulation.proofs.Standing.{StandsAt, passed, written, home, both_bases, bases_so, Lies}
 use Rattle.bk_simulation.proofs.LaidExpressions.{FoundParts, found_front, found_back, Around, around_deeper, InNames, joined_three}

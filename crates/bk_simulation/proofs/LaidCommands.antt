@@ -1,38 +1,16 @@
 -- What the static side of commands needs: which exits there are, where labels, CASEs and DEFAULTs are found, and scopes.
-use Rattle.std.proofs.Common.{◌≡◌, ℕ, suc, ◌+◌, ◌<◌, ◌≤◌, ◌^◌, ◌==◌, Bool, true, false, ◌||◌, List, [], ◌∷◌, ◌++◌, length, Option, Some, None, cond, refl, sym, ap, ◌∙◌, subst, arith, append_assoc, append-nil, drop, if◌then◌else◌, eqb-true, eq-eqb, ne_eqb}
-use Rattle.std.proofs.lemmas.Bool.{false≢true}
-use Rattle.std.proofs.lemmas.Slice.Eq.{bytes_eq-Decides}
-use Rattle.std.specs.Str.{bytes_eq}
-use Rattle.bk_base.specs.Word.{signed}
-use Rattle.bk_tree.specs.Tree.{Expressions, Action, Actions}
+use Rattle.bk_simulation.proofs.Words.{◌≡◌, ℕ, suc, ◌+◌, ◌<◌, ◌≤◌, ◌^◌, ◌==◌, Bool, true, false, ◌||◌, List, [], ◌∷◌, ◌++◌, length, Option, Some, None, cond,
+  refl, sym, ap, ◌∙◌, subst, arith, append_assoc, append-nil, drop, if◌then◌else◌, eqb-true, eq-eqb, ne_eqb, false≢true, bytes_eq-Decides, bytes_eq, signed,
+  Expressions, Action, Actions, Place, Binding, bound_in, bind, labels_of, labels_of_each, labels_in_scope, GoesTo, Placed, from_label, case_label, Case, Stmt,
+  Label, label_has_one_place, Goal, Target, Command, Commands, meant, worth, target_of_label, goal_in, cases, cases_through, default_in, default_through,
+  first_of, label_or, Named, Sense, label, bind_each, labelled, objects_of_each, objects_of_action, objects_of_actions, Sought, the_label, the_case,
+  the_default, same_place, stands_in, stands_in_one, alone, AllFound, of_each, of_action, of_actions, in_scope}
 use Rattle.bk_scope.specs.declared.bound.Bound.TheVariants as b
-use Rattle.bk_scope.specs.declared.place.Place.{Place}
 use Rattle.bk_scope.specs.Places as place
-use Rattle.bk_scope.specs.Scope.{Binding, bound_in, bind}
-use Rattle.bk_scope.specs.Entering.{labels_of, labels_of_each}
-use Rattle.bk_scope.specs.Scoping.{labels_in_scope}
-use Rattle.bk_scope.specs.Sound.{GoesTo}
-use Rattle.bk_ocode.specs.OcodeState.{Placed}
-use Rattle.bk_ocode.specs.OcodeStep.{from_label, case_label}
-use Rattle.bk_ocode.specs.declared.stmt.Case.{Case}
-use Rattle.bk_ocode.specs.declared.stmt.Stmt.{Stmt}
-use Rattle.bk_ocode.specs.declared.stmt.Stmt.TheVariants.{Label}
-use Rattle.bk_ocode.proofs.LabelsOnce.{label_has_one_place}
-use Rattle.bk_trans.specs.declared.around.Goal.{Goal}
-use Rattle.bk_trans.specs.declared.around.Target.{Target}
-use Rattle.bk_trans.specs.Program.{Command, Commands}
-use Rattle.bk_trans.specs.Naming.{meant, worth}
-use Rattle.bk_trans.specs.Parts.{target_of_label}
-use Rattle.bk_trans.specs.Scheme.{goal_in, cases, cases_through, default_in, default_through, first_of, label_or}
-use Rattle.bk_meaning.specs.Environment.{Named, Sense, label, bind_each, labelled, objects_of_each, objects_of_action, objects_of_actions}
-use Rattle.bk_meaning.specs.Seeking.{Sought, the_label, the_case, the_default, same_place, stands_in, stands_in_one}
-use Rattle.bk_meaning.specs.Scopes.{alone}
-use Rattle.bk_trans.proofs.Scopes.{AllFound}
 use Rattle.bk_simulation.proofs.Weights.{turns_in}
 use Rattle.bk_simulation.proofs.Operators.{same_number}
 use Rattle.bk_simulation.proofs.Sought.{with_names, label_stands}
 use Rattle.bk_simulation.proofs.Laid.{Scene, in_loop, in_switch, owning, Stretch, ByTurns, AreFrom, AreStores, AreActs, IsAct, IsAlone}
-use Rattle.bk_meaning.specs.Lasting.{of_each, of_action, of_actions, in_scope}
 use Rattle.bk_simulation.proofs.NamesBound.{labels_named}
 use Rattle.bk_simulation.proofs.NamesAgree.{Agree, agree_bound}
 use Rattle.bk_simulation.proofs.LastingKinds.{Kind, kinds_in, kinds_through}

@@ -1,26 +1,20 @@
 -- Declarations are laid where the scheme puts them, before what is laid in their scope: MANIFEST, STATIC, GLOBAL and LET.
-use Rattle.std.proofs.Common.{◌≡◌, ℕ, ◌+◌, ◌<◌, ◌≤◌, Bool, true, false, List, [], ◌∷◌, ◌++◌, cond, refl, sym, ap, ◌∙◌, subst, arith, append_assoc, length, Option, Some, None, le-ltb, suc, ◌^◌, slice_get}
-use Rattle.bk_tree.specs.declared.tree.Sort.{Sort}
+use Rattle.bk_simulation.proofs.Words.{◌≡◌, ℕ, ◌+◌, ◌<◌, ◌≤◌, Bool, true, false, List, [], ◌∷◌, ◌++◌, cond, refl, sym, ap, ◌∙◌, subst, arith, append_assoc,
+  length, Option, Some, None, le-ltb, suc, ◌^◌, slice_get, Sort, Items, Declaration, Declarations, Definitions, Expression, Expressions, Action, Actions,
+  Definition, Starts, Place, Binding, bind_all, bound_in, procedures_in_scope, manifests_in_scope, statics_in_scope, globals_in_scope, place_behind_defined,
+  scope_behind_one, place_behind_one, scope_behind, place_behind_all, labels_in_scope, SoundDeclared, SoundOneDeclared, SoundStarted, SoundDefined, HasWord,
+  StaticsSound, Spot, procedures_in, behind_one_declared, Stmt, Store, Address, Stack, DataLabel, DataNumber, behind_definitions, behind_declaration,
+  behind_declarations, has_variables, behind_starts, labels_of_declaration, labels, labels_of_procedure, labels_of_definition, definitions_named,
+  declaration_named, declarations_named, meant, term_named, worth, starts_named, definition_named, statics_named, parts_of_definitions, parts_of_declaration,
+  parts_of_declarations, parts, parts_of_starts, parts_of_definition, parts_of_items, outermost, definitions_code, declaration_code, declarations_code,
+  value_code, starts_code, goal, goal_of, Around as Surroundings, Named, Environment, bind_procedures, within_let, objects_of_definitions,
+  objects_of_declaration, objects_of_declarations, objects, objects_of_action, objects_of_starts, count, constant_in, Lasting, declared, all_declared, of_items,
+  of_declaration, of_declarations, of_definitions, of_starts, command, expression, words, static_words, VEC_NUMBER, constant_word, labels_of, with_formals,
+  within, words_of_vector, words_of_start, place_behind, deeper, Local, unwrap_or, signed, Placed, item_words, Goal}
 use Rattle.bk_tree.specs.declared.tree.Sort.TheVariants as sort
 use Rattle.bk_tree.specs.Tree as t
-use Rattle.bk_tree.specs.Tree.{Items, Declaration, Declarations, Definitions, Expression, Expressions, Action, Actions, Definition, Starts}
-use Rattle.bk_scope.specs.declared.place.Place.{Place}
-use Rattle.bk_scope.specs.Scope.{Binding, bind_all, bound_in}
-use Rattle.bk_scope.specs.Scoping.{procedures_in_scope, manifests_in_scope, statics_in_scope, globals_in_scope, place_behind_defined, scope_behind_one, place_behind_one, scope_behind, place_behind_all, labels_in_scope}
-use Rattle.bk_scope.specs.Sound.{SoundDeclared, SoundOneDeclared, SoundStarted, SoundDefined, HasWord, StaticsSound}
 use Rattle.bk_scope.specs.Spots as spot
-use Rattle.bk_scope.specs.Spots.{Spot, procedures_in, behind_one_declared}
-use Rattle.bk_ocode.specs.declared.stmt.Stmt.{Stmt}
-use Rattle.bk_ocode.specs.declared.stmt.Stmt.TheVariants.{Store, Address, Stack, DataLabel, DataNumber}
-use Rattle.bk_trans.specs.Depths.{behind_definitions, behind_declaration, behind_declarations, has_variables, behind_starts}
-use Rattle.bk_trans.specs.Labels.{labels_of_declaration, labels, labels_of_procedure, labels_of_definition}
-use Rattle.bk_trans.specs.Naming.{definitions_named, declaration_named, declarations_named, meant, term_named, worth, starts_named, definition_named, statics_named}
-use Rattle.bk_trans.specs.Parts.{parts_of_definitions, parts_of_declaration, parts_of_declarations, parts, parts_of_starts, parts_of_definition, parts_of_items}
-use Rattle.bk_trans.specs.Scheme.{outermost, definitions_code, declaration_code, declarations_code, value_code, starts_code, goal, goal_of}
-use Rattle.bk_trans.specs.declared.around.Around.{Around as Surroundings}
 use Rattle.bk_trans.proofs.Bodies.{same_defined}
-use Rattle.bk_meaning.specs.Environment.{Named, Environment, bind_procedures, within_let, objects_of_definitions, objects_of_declaration, objects_of_declarations, objects, objects_of_action, objects_of_starts, count, constant_in}
-use Rattle.bk_meaning.specs.Lasting.{Lasting, declared, all_declared, of_items, of_declaration, of_declarations, of_definitions, of_starts, command, expression, words, static_words}
 use Rattle.bk_simulation.specs.Regular.{RegularItems, RegularDeclaration, RegularDeclarations, RegularDefinitions, RegularStarts, Regular}
 use Rattle.bk_simulation.proofs.Weights.{weight_one_declared, weight_declared, weight_defined, weight_started, of_light, in_light}
 use Rattle.bk_simulation.proofs.Sought.{with_names}
@@ -37,19 +31,8 @@ use Rattle.bk_simulation.proofs.RenamedLets.{AreProcedures, from_spots, spots_in
 use Rattle.bk_simulation.proofs.LetWords.{WordsBased, procedures_based}
 use Rattle.bk_simulation.proofs.LaidValues.{ValofsLie, laid_code}
 use Rattle.bk_simulation.proofs.LaidActs.{BlocksLie, laid_act}
-use Rattle.bk_base.specs.declared.limit.TheConstants.{VEC_NUMBER}
-use Rattle.bk_scope.specs.Constants.{constant_word}
-use Rattle.bk_scope.specs.Entering.{labels_of, with_formals}
-use Rattle.bk_scope.specs.Names.{within, words_of_vector, words_of_start, place_behind}
-use Rattle.bk_scope.specs.Places.{deeper}
 use Rattle.bk_scope.specs.Places as place
-use Rattle.bk_ocode.specs.declared.stmt.Variable.TheVariants.{Local}
 use Rattle.bk_simulation.proofs.LaidProcedures.{scene_of, routine_lies, function_lies, procedure_bases}
-use Rattle.std.specs.Prelude.{unwrap_or}
-use Rattle.bk_base.specs.Word.{signed}
-use Rattle.bk_ocode.specs.OcodeState.{Placed}
-use Rattle.bk_ocode.specs.SectionData.{item_words}
-use Rattle.bk_trans.specs.declared.around.Goal.{Goal}
 use Rattle.bk_simulation.proofs.Memory.{BaseOf}
 use Rattle.bk_simulation.proofs.Constants.{constant_small}
 use Rattle.bk_simulation.proofs.Held.{InData}

@@ -1,39 +1,20 @@
 -- What the static side of each form needs: codes for a value or a jump, what stands around code, and how parts are laid together.
-use Rattle.std.proofs.Common.{◌≡◌, ℕ, ◌+◌, ◌<◌, ◌≤◌, ◌^◌, Bool, true, false, ◌||◌, List, [], ◌∷◌, ◌++◌, Option, Some, None, cond, refl, sym, ap, ◌∙◌, subst, arith, append_assoc}
+use Rattle.bk_simulation.proofs.Words.{◌≡◌, ℕ, ◌+◌, ◌<◌, ◌≤◌, ◌^◌, Bool, true, false, ◌||◌, List, [], ◌∷◌, ◌++◌, Option, Some, None, cond, refl, sym, ap, ◌∙◌,
+  subst, arith, append_assoc, bytes_eq, FRAME_WORDS, Operator, Expression, Expressions, Action, Actions, Bound, Place, Role, Truth, Binding, bound_in,
+  named_word, prefix_word, infix_word, constant_word, deeper, Spot, next_depth, Placed, item_words, Stmt, JumpIf, Monadic, Dyadic, LoadByte, Target, term_named,
+  condition_named, Part, target_of, parts, parts_if, push, infix_code, truth_value, value_code, jump_code, procedure_code, data_code, AllFound, Named, Sense,
+  constant, label, Environment, sense_in, word_named, constant_in, Sought, the_label, the_case, the_default, same_place, is_label, stands_in, stands_in_one,
+  Lasting}
 use Rattle.std.specs.Option.{option_and_then}
-use Rattle.std.specs.Str.{bytes_eq}
-use Rattle.bk_base.specs.declared.limit.TheConstants.{FRAME_WORDS}
-use Rattle.bk_tree.specs.declared.tree.Operator.{Operator}
 use Rattle.bk_tree.specs.declared.tree.Operator.TheVariants as o
 use Rattle.bk_tree.specs.Tree as t
-use Rattle.bk_tree.specs.Tree.{Expression, Expressions, Action, Actions}
-use Rattle.bk_scope.specs.declared.bound.Bound.{Bound}
 use Rattle.bk_scope.specs.declared.bound.Bound.TheVariants as b
-use Rattle.bk_scope.specs.declared.place.Place.{Place}
-use Rattle.bk_scope.specs.declared.role.Role.{Role}
-use Rattle.bk_scope.specs.declared.role.Role.TheVariants.{Value, Truth}
-use Rattle.bk_scope.specs.Scope.{Binding, bound_in}
-use Rattle.bk_scope.specs.Constants.{named_word, prefix_word, infix_word, constant_word}
-use Rattle.bk_scope.specs.Places.{deeper}
-use Rattle.bk_scope.specs.Spots.{Spot}
-use Rattle.bk_ocode.specs.Depth.{next_depth}
-use Rattle.bk_ocode.specs.OcodeState.{Placed}
-use Rattle.bk_ocode.specs.SectionData.{item_words}
+use Rattle.bk_scope.specs.declared.role.Role.TheVariants.{Value}
 use Rattle.bk_ocode.specs.declared.stmt.Dyadic.TheVariants as two
 use Rattle.bk_ocode.specs.declared.stmt.Monadic.TheVariants as w
-use Rattle.bk_ocode.specs.declared.stmt.Stmt.{Stmt}
-use Rattle.bk_ocode.specs.declared.stmt.Stmt.TheVariants.{JumpIf, Monadic, Dyadic, LoadByte}
-use Rattle.bk_trans.specs.declared.around.Target.{Target}
 use Rattle.bk_trans.specs.Program as term
-use Rattle.bk_trans.specs.Naming.{term_named, condition_named}
-use Rattle.bk_trans.specs.Parts.{Part, target_of, parts, parts_if}
-use Rattle.bk_trans.specs.Scheme.{push, infix_code, truth_value, value_code, jump_code, procedure_code, data_code}
-use Rattle.bk_trans.proofs.Scopes.{AllFound}
-use Rattle.bk_meaning.specs.Environment.{Named, Sense, constant, label, Environment, sense_in, word_named, constant_in}
-use Rattle.bk_meaning.specs.Seeking.{Sought, the_label, the_case, the_default, same_place, is_label, stands_in, stands_in_one}
 use Rattle.bk_simulation.proofs.Sought.{with_names}
 use Rattle.bk_simulation.proofs.Laid.{Setting, Scene, Aim, pushes, jumps, ending}
-use Rattle.bk_meaning.specs.Lasting.{Lasting}
 use Rattle.bk_simulation.proofs.NamesAgree.{Agree, AgreeWords}
 use Rattle.bk_simulation.proofs.Standing.{StandsAt, passed, Home, home, Fitting, no_bases, Lies}
 use Rattle.bk_simulation.proofs.LastingKinds.{Kind, kinds, kinds_if}

@@ -1,34 +1,18 @@
 -- A FOR is laid where the scheme puts it, where its body is.
-use Rattle.std.proofs.Common.{◌≡◌, ℕ, ◌+◌, ◌<◌, ◌≤◌, ◌^◌, Bool, true, false, List, [], ◌∷◌, ◌++◌, length, Some, cond, refl, sym, ap, ap₂, ◌∙◌, subst, arith, int_lt, pos}
-use Rattle.bk_base.specs.Word.{signed}
+use Rattle.bk_simulation.proofs.Words.{◌≡◌, ℕ, ◌+◌, ◌<◌, ◌≤◌, ◌^◌, Bool, true, false, List, [], ◌∷◌, ◌++◌, length, Some, cond, refl, sym, ap, ap₂, ◌∙◌, subst,
+  arith, int_lt, pos, signed, Expression, Expressions, Action, Actions, Declaration, Declarations, Definition, Definitions, Starts, Place, Binding, bind,
+  labels_of, deeper, labels_in_scope, SoundDone, HaveWords, Spot, next_depth, Local, Stmt, Number, Load, Dyadic, Assign, Jump, JumpIf, Label, Stack, Store,
+  labels, term_named, command_named, worth, step_named, parts, parts_in, value_code, command_code, test_of_step, Named, objects, objects_of_action, cell,
+  foreign, step_of, of_action, in_scope, Mention, Command}
 use Rattle.bk_tree.specs.Tree as t
-use Rattle.bk_tree.specs.Tree.{Expression, Expressions, Action, Actions, Declaration, Declarations, Definition, Definitions, Starts}
 use Rattle.bk_scope.specs.declared.bound.Bound.TheVariants as b
-use Rattle.bk_scope.specs.declared.place.Place.{Place}
-use Rattle.bk_scope.specs.Scope.{Binding, bind}
-use Rattle.bk_scope.specs.Entering.{labels_of}
-use Rattle.bk_scope.specs.Places.{deeper}
 use Rattle.bk_scope.specs.Places as place
-use Rattle.bk_scope.specs.Scoping.{labels_in_scope}
-use Rattle.bk_scope.specs.Sound.{SoundDone, HaveWords}
 use Rattle.bk_scope.specs.Spots as spot
-use Rattle.bk_scope.specs.Spots.{Spot}
-use Rattle.bk_ocode.specs.Depth.{next_depth}
-use Rattle.bk_ocode.specs.declared.stmt.Variable.TheVariants.{Local}
 use Rattle.bk_ocode.specs.declared.stmt.Dyadic.TheVariants as two
-use Rattle.bk_ocode.specs.declared.stmt.Stmt.{Stmt}
-use Rattle.bk_ocode.specs.declared.stmt.Stmt.TheVariants.{Number, Load, Dyadic, Assign, Jump, JumpIf, Label, Stack, Store}
-use Rattle.bk_trans.specs.Labels.{labels}
-use Rattle.bk_trans.specs.Naming.{term_named, command_named, worth, step_named}
-use Rattle.bk_trans.specs.Parts.{parts, parts_in}
-use Rattle.bk_trans.specs.Scheme.{value_code, command_code, test_of_step}
-use Rattle.bk_meaning.specs.Environment.{Named, objects, objects_of_action, cell, foreign}
-use Rattle.bk_meaning.specs.Loops.{step_of}
 use Rattle.bk_simulation.specs.Regular.{RegularEach, RegularAction}
 use Rattle.bk_simulation.proofs.Weights.{weight_in, in_light}
 use Rattle.bk_simulation.proofs.Sought.{with_names}
 use Rattle.bk_simulation.proofs.Laid.{Scene, in_loop, pushes, IsAlone}
-use Rattle.bk_meaning.specs.Lasting.{of_action, in_scope}
 use Rattle.bk_simulation.proofs.NamesBound.{bound_named}
 use Rattle.bk_simulation.proofs.NamesAgree.{Agree, own_cell, agree_bound}
 use Rattle.bk_simulation.proofs.LastingKinds.{kinds_in}
@@ -36,8 +20,6 @@ use Rattle.bk_simulation.proofs.Standing.{there_in, bases_inside, StandsAt, pass
 use Rattle.bk_simulation.proofs.Constants.{constant_small}
 use Rattle.bk_simulation.proofs.LaidCommands.{Doing, finds_nothing, Done, words_labels, words_variable, alone_lies}
 use Rattle.bk_simulation.proofs.LaidExpressions.{HasWords, FoundParts, found_front, found_back, around_deeper, constants_agree, InNames, joined_choice}
-use Rattle.bk_tree.specs.Tree.{Mention}
-use Rattle.bk_trans.specs.Program.{Command}
 use Rattle.bk_simulation.proofs.LaidValues.{ValofsLie, laid_code}
 
 -- the step of a FOR

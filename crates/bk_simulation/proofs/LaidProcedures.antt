@@ -1,39 +1,18 @@
 -- Procedures are laid where the scheme puts them, where their bodies are: their ENTRY and SAVE, and what their formals are.
-use Rattle.std.proofs.Common.{◌≡◌, ℕ, suc, ◌+◌, ◌-◌, ◌<◌, ◌≤◌, ◌^◌, Bool, true, false, List, [], ◌∷◌, ◌++◌, length, Option, Some, None, cond, refl, sym, ap, ap₂, ◌∙◌, subst, arith, slice_get, drop}
-use Rattle.std.proofs.lemmas.Bool.{false≢true}
-use Rattle.std.proofs.lemmas.Slice.Eq.{bytes_eq-Decides}
-use Rattle.std.specs.Str.{bytes_eq}
-use Rattle.bk_base.specs.declared.limit.TheConstants.{FRAME_WORDS, GLOBAL_NUMBER}
-use Rattle.bk_base.specs.Strings.{first_bytes}
-use Rattle.bk_tree.specs.Tree.{Mention, Expression, Action}
-use Rattle.bk_scope.specs.declared.bound.Bound.{Bound}
+use Rattle.bk_simulation.proofs.Words.{◌≡◌, ℕ, suc, ◌+◌, ◌-◌, ◌<◌, ◌≤◌, ◌^◌, Bool, true, false, List, [], ◌∷◌, ◌++◌, length, Option, Some, None, cond, refl,
+  sym, ap, ap₂, ◌∙◌, subst, arith, slice_get, drop, false≢true, bytes_eq-Decides, bytes_eq, FRAME_WORDS, GLOBAL_NUMBER, first_bytes, Mention, Expression,
+  Action, Bound, Place, Binding, bound_in, bind, labels_of, with_formals, labels_in_scope, Callable, Spot, next_depth, depth_behind, Placed, global_place,
+  Program, IsWellPlaced, item_words, Stmt, Entry, Save, Return, ReturnItem, EndProcedure, DataLabel, DataAddress, Target, labels_of_procedure, meant,
+  term_named, command_named, variable, outermost, value_code, command_code, procedure_code, word_code, Named, Sense, Environment, cell, foreign, bind_each,
+  sense_in, word_named, global_named, letters, objects, objects_of_action, Body, command, expression, Lasting, code, of_action, of_expression, in_scope,
+  bind_formals}
 use Rattle.bk_scope.specs.declared.bound.Bound.TheVariants as b
-use Rattle.bk_scope.specs.declared.place.Place.{Place}
-use Rattle.bk_scope.specs.Scope.{Binding, bound_in, bind}
-use Rattle.bk_scope.specs.Entering.{labels_of, with_formals}
 use Rattle.bk_scope.specs.Places as place
 use Rattle.bk_scope.specs.Places.{kept}
-use Rattle.bk_scope.specs.Scoping.{labels_in_scope}
-use Rattle.bk_scope.specs.Sound.{Callable}
 use Rattle.bk_scope.specs.Spots as spot
-use Rattle.bk_scope.specs.Spots.{Spot}
-use Rattle.bk_ocode.specs.Depth.{next_depth, depth_behind}
-use Rattle.bk_ocode.specs.OcodeState.{Placed, global_place}
-use Rattle.bk_ocode.specs.OcodeRun.{Program}
-use Rattle.bk_ocode.specs.WellPlaced.{IsWellPlaced}
-use Rattle.bk_ocode.specs.SectionData.{item_words}
-use Rattle.bk_ocode.specs.declared.stmt.Stmt.{Stmt}
-use Rattle.bk_ocode.specs.declared.stmt.Stmt.TheVariants.{Entry, Save, Return, ReturnItem, EndProcedure, DataLabel, DataAddress}
-use Rattle.bk_trans.specs.declared.around.Target.{Target}
 use Rattle.bk_trans.specs.Program as term
-use Rattle.bk_trans.specs.Labels.{labels_of_procedure}
-use Rattle.bk_trans.specs.Naming.{meant, term_named, command_named}
 use Rattle.bk_trans.specs.Parts.{procedure}
-use Rattle.bk_trans.specs.Scheme.{variable, outermost, value_code, command_code, procedure_code, word_code}
-use Rattle.bk_meaning.specs.Environment.{Named, Sense, Environment, cell, foreign, bind_each, sense_in, word_named, global_named, letters, objects, objects_of_action}
 use Rattle.bk_meaning.specs.Environment as m
-use Rattle.bk_meaning.specs.Lasting.{Body, command, expression, Lasting, code, of_action, of_expression, in_scope}
-use Rattle.bk_meaning.specs.Calls.{bind_formals}
 use Rattle.bk_simulation.proofs.Memory.{BaseOf, Grown}
 use Rattle.bk_simulation.proofs.Weights.{turns_of, turns_in}
 use Rattle.bk_simulation.proofs.Sought.{with_names}

@@ -1,17 +1,8 @@
 -- A program whose procedures are laid, and that holds what lasts, does what its sections mean.
-use Rattle.std.proofs.Common.{◌≡◌, ℕ, ◌<◌, ◌^◌, List, Some, refl, ap, ◌∙◌, ⊎_elim}
-use Rattle.bk_base.specs.declared.limit.TheConstants.{FRAME_WORDS}
-use Rattle.bk_tree.specs.Tree.{Declarations}
-use Rattle.std.specs.Option.{option_map}
-use Rattle.bk_ocode.specs.Access.{number_in}
-use Rattle.bk_ocode.specs.OcodeRun.{Program}
+use Rattle.bk_simulation.proofs.Words.{◌≡◌, ℕ, ◌<◌, ◌^◌, List, Some, refl, ap, ◌∙◌, ⊎_elim, FRAME_WORDS, Declarations, option_map, number_in, Program,
+  first_state, Value, procedure, stop, rdch, wrch, newline, writes, writen, writed, getbyte, putbyte, writef, address, program_of, means, meaning, IsWellPlaced}
 use Rattle.bk_ocode.specs.Library.{library_routine}
-use Rattle.bk_ocode.specs.ProgramStart.{first_state}
 use Rattle.bk_meaning.specs.Values as value
-use Rattle.bk_meaning.specs.Values.{Value, procedure, stop, rdch, wrch, newline, writes, writen, writed, getbyte, putbyte, writef, address}
-use Rattle.bk_meaning.specs.Lasting.{program_of}
-use Rattle.bk_meaning.specs.Program.{means, meaning}
-use Rattle.bk_ocode.specs.WellPlaced.{IsWellPlaced}
 use Rattle.bk_simulation.specs.Simulation.{DoesFrom, StartsSo, with_start, without_start}
 use Rattle.bk_simulation.proofs.Memory.{Codes, BaseOf}
 use Rattle.bk_simulation.proofs.Laid.{Setting}

@@ -1,32 +1,14 @@
 -- What lasts of a section lies where the scheme puts it.
-use Rattle.std.proofs.Common.{◌≡◌, ℕ, ◌+◌, ◌≤◌, false, List, [], ◌∷◌, ◌++◌, cond, refl, sym, ap, ◌∙◌, subst, arith}
-use Rattle.std.proofs.lemmas.Bool.{false≢true}
-use Rattle.bk_tree.specs.declared.tree.Sort.{Sort}
+use Rattle.bk_simulation.proofs.Words.{◌≡◌, ℕ, ◌+◌, ◌≤◌, false, List, [], ◌∷◌, ◌++◌, cond, refl, sym, ap, ◌∙◌, subst, arith, false≢true, Sort, Items,
+  Declaration, Declarations, Definitions, Place, Binding, scope_behind_one, place_behind_one, SoundDeclared, SoundOneDeclared, Spot, behind_one_declared,
+  beginning, joined, Placed, AreFaultless, Stmt, Store, Target, behind_definitions, behind_declaration, has_variables, labels_of_declaration, definitions_named,
+  declaration_named, declarations_named, named_tree, target_of, parts_of_declaration, parts_of_declarations, definitions_code, declaration_code, scheme,
+  scheme_is_accepted, targets_found, objects_of_declaration, objects_of_declarations, declared, of_declaration, of_declarations}
 use Rattle.bk_tree.specs.declared.tree.Sort.TheVariants as sort
 use Rattle.bk_tree.specs.Tree as t
-use Rattle.bk_tree.specs.Tree.{Items, Declaration, Declarations, Definitions}
-use Rattle.bk_scope.specs.declared.place.Place.{Place}
 use Rattle.bk_scope.specs.Places as place
-use Rattle.bk_scope.specs.Scope.{Binding}
-use Rattle.bk_scope.specs.Scoping.{scope_behind_one, place_behind_one}
-use Rattle.bk_scope.specs.Sound.{SoundDeclared, SoundOneDeclared}
 use Rattle.bk_scope.specs.Spots as spot
-use Rattle.bk_scope.specs.Spots.{Spot, behind_one_declared, beginning}
 use Rattle.bk_scope.proofs.Soundness.{section_sound}
-use Rattle.bk_ocode.specs.Lists.{joined}
-use Rattle.bk_ocode.specs.OcodeState.{Placed}
-use Rattle.bk_ocode.specs.Section.{AreFaultless}
-use Rattle.bk_ocode.specs.declared.stmt.Stmt.{Stmt}
-use Rattle.bk_ocode.specs.declared.stmt.Stmt.TheVariants.{Store}
-use Rattle.bk_trans.specs.declared.around.Target.{Target}
-use Rattle.bk_trans.specs.Depths.{behind_definitions, behind_declaration, has_variables}
-use Rattle.bk_trans.specs.Labels.{labels_of_declaration}
-use Rattle.bk_trans.specs.Naming.{definitions_named, declaration_named, declarations_named, named_tree}
-use Rattle.bk_trans.specs.Parts.{target_of, parts_of_declaration, parts_of_declarations}
-use Rattle.bk_trans.specs.Scheme.{definitions_code, declaration_code, scheme}
-use Rattle.bk_trans.proofs.Accepted.{scheme_is_accepted, targets_found}
-use Rattle.bk_meaning.specs.Environment.{objects_of_declaration, objects_of_declarations}
-use Rattle.bk_meaning.specs.Lasting.{declared, of_declaration, of_declarations}
 use Rattle.bk_simulation.specs.Placement.{IsAccepted}
 use Rattle.bk_simulation.specs.Regular.{RegularDeclarations, RegularDefinitions, DefineNoVariables, DeclareNoVariables}
 use Rattle.bk_simulation.proofs.Weights.{weight_declared, weight_defined}

@@ -1,40 +1,24 @@
 -- Each expression of an accepted section is laid where the scheme puts it, for a value and for a jump. That VALOFs are is taken here as
 -- an argument.
-use Rattle.std.proofs.Common.{◌≡◌, ℕ, ◌+◌, ◌≤◌, true, false, not, List, [], ◌∷◌, ◌++◌, length, map, Some, refl, sym, ◌∙◌, subst, arith, slice_get}
-use Rattle.std.proofs.lemmas.Bool.{false≢true}
-use Rattle.bk_base.specs.Strings.{first_bytes}
-use Rattle.bk_base.specs.Word.{signed}
+use Rattle.bk_simulation.proofs.Words.{◌≡◌, ℕ, ◌+◌, ◌≤◌, true, false, not, List, [], ◌∷◌, ◌++◌, length, map, Some, refl, sym, ◌∙◌, subst, arith, slice_get,
+  false≢true, first_bytes, signed, line_of, size, Expression, Expressions, Action, Actions, Declaration, Declarations, Definition, Definitions, Starts, Place,
+  Role, bound_in, parenthesised, deeper, Sound, SoundEach, HaveWords, Spot, Datum, item_words, Static, Stmt, DataLabel, DataNumber, Number, Query, Address,
+  Text, Monadic, Dyadic, Assign, AssignAt, AssignByte, Label, GiveResult, TakeResult, CallFunction, labels, labels_if, meant, term_named, terms_named,
+  condition_named, lvalue_named, words_named, static_table, parts, parts_each, parts_if, parts_at, push, infix_code, truth_value, value_code, each_code,
+  jump_code, address_code, store_code, variable, data_code, Named, objects, objects_of_each, objects_of_action, of_expression, of_each, constant_words,
+  text_words}
 use Rattle.bk_tree.specs.declared.tree.Operator.TheVariants as o
 use Rattle.bk_tree.specs.declared.tree.Prefix.TheVariants as q
-use Rattle.bk_tree.specs.Parts.{line_of, size}
 use Rattle.bk_tree.specs.Tree as t
-use Rattle.bk_tree.specs.Tree.{Expression, Expressions, Action, Actions, Declaration, Declarations, Definition, Definitions, Starts}
-use Rattle.bk_scope.specs.declared.place.Place.{Place}
-use Rattle.bk_scope.specs.declared.role.Role.{Role}
 use Rattle.bk_scope.specs.declared.role.Role.TheVariants.{Address as Addressed}
-use Rattle.bk_scope.specs.Scope.{bound_in}
 use Rattle.bk_scope.specs.Faults.{addressed, assigned}
-use Rattle.bk_scope.specs.Names.{parenthesised}
-use Rattle.bk_scope.specs.Places.{deeper}
-use Rattle.bk_scope.specs.Sound.{Sound, SoundEach, HaveWords}
 use Rattle.bk_scope.specs.Spots as spot
-use Rattle.bk_scope.specs.Spots.{Spot}
-use Rattle.bk_ocode.specs.SectionData.{Datum, item_words}
-use Rattle.bk_ocode.specs.declared.stmt.Variable.TheVariants.{Static}
 use Rattle.bk_ocode.specs.declared.stmt.Dyadic.TheVariants as two
 use Rattle.bk_ocode.specs.declared.stmt.Monadic.TheVariants as w
-use Rattle.bk_ocode.specs.declared.stmt.Stmt.{Stmt}
-use Rattle.bk_ocode.specs.declared.stmt.Stmt.TheVariants.{DataLabel, DataNumber, Number, Query, Address, Text, Monadic, Dyadic, Assign, AssignAt, AssignByte, Label, GiveResult, TakeResult, CallFunction}
-use Rattle.bk_trans.specs.Labels.{labels, labels_if}
-use Rattle.bk_trans.specs.Naming.{meant, term_named, terms_named, condition_named, lvalue_named, words_named}
-use Rattle.bk_trans.specs.Parts.{static_table, parts, parts_each, parts_if, parts_at}
-use Rattle.bk_trans.specs.Scheme.{push, infix_code, truth_value, value_code, each_code, jump_code, address_code, store_code, variable, data_code}
-use Rattle.bk_meaning.specs.Environment.{Named, objects, objects_of_each, objects_of_action}
 use Rattle.bk_simulation.specs.Regular.{Regular, RegularEach}
 use Rattle.bk_simulation.proofs.Weights.{weight_of, weight_among}
 use Rattle.bk_simulation.proofs.Sought.{with_names}
 use Rattle.bk_simulation.proofs.Laid.{Setting, Scene, Aim, pushes, jumps, ending, count, IsCode, AreValues, IsAddress, IsStore}
-use Rattle.bk_meaning.specs.Lasting.{of_expression, of_each, constant_words, text_words}
 use Rattle.bk_simulation.proofs.Held.{InData}
 use Rattle.bk_simulation.proofs.HeldData.{statement_data, statement_below, items_are, words_small, words_agree}
 use Rattle.bk_simulation.proofs.NamesAgree.{Agree}

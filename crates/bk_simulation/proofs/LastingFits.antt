@@ -1,23 +1,15 @@
 -- The store before START is called fits what lasts.
-use Rattle.std.proofs.Common.{◌≡◌, ◌≢◌, ℕ, zero, suc, ◌+◌, ◌-◌, ◌<◌, ◌≤◌, ◌==◌, nat_le, nat_lt, Bool, true, false, ◌&&◌, List, [], ◌∷◌, ◌++◌, length, map, fold, replicate, Option, Some, None, refl, sym, ap, ◌∙◌, subst, if◌then◌else◌, arith, ◌⊎◌, ⊎_elim, inl, inr, slice_get, eq-eqb, ne_eqb, length-append}
-use Rattle.std.specs.Prelude.{slice_set, option_and_then}
-use Rattle.std.specs.Option.{option_map_or}
-use Rattle.std.proofs.lemmas.Bool.Decides.{nat_tests}
-use Rattle.std.proofs.lemmas.List.{length-map}
-use Rattle.std.proofs.lemmas.Option.{slice_get_within}
-use Rattle.bk_base.specs.declared.limit.TheConstants.{FRAME_WORDS, GLOBAL_NUMBER}
-use Rattle.bk_ocode.specs.Cells.{Unset, Word, Variable, Link, Cell, Free, Held, content_of, Content}
-use Rattle.bk_ocode.specs.OcodeState.{global_place, Placed, Placement}
-use Rattle.bk_ocode.specs.OcodeRun.{Program}
-use Rattle.bk_ocode.specs.SectionData.{Datum, is_in, datum_word, GlobalSetting, entry_setting, stmt_globals, globals_of}
+use Rattle.bk_simulation.proofs.Words.{◌≡◌, ◌≢◌, ℕ, zero, suc, ◌+◌, ◌-◌, ◌<◌, ◌≤◌, ◌==◌, nat_le, nat_lt, Bool, true, false, ◌&&◌, List, [], ◌∷◌, ◌++◌, length,
+  map, fold, replicate, Option, Some, None, refl, sym, ap, ◌∙◌, subst, if◌then◌else◌, arith, ◌⊎◌, ⊎_elim, inl, inr, slice_get, eq-eqb, ne_eqb, length-append,
+  slice_set, option_and_then, option_map_or, nat_tests, length-map, slice_get_within, FRAME_WORDS, GLOBAL_NUMBER, Unset, Word, Variable, Link, Cell, Free, Held,
+  content_of, Content, global_place, Placed, Placement, Program, Datum, is_in, datum_word, GlobalSetting, entry_setting, stmt_globals, globals_of, all_data,
+  all_globals, unset_cells, with_global, first_cells, chosen-true, chosen-false, Value, number, address, procedure, routine, unset, holds, places, value_in,
+  stop, rdch, wrch, newline, writes, writen, writed, getbyte, putbyte, writef, Object, living, cells_at, Procedure, Lasting, global_vector, words, code,
+  library_cells, set_global, procedures_set, global_cells, entry_cells, object_of, objects_from, first_memory, IsWellPlaced, AreFaultless, GlobalEntry, Stmt,
+  Globals}
 use Rattle.bk_ocode.specs.Library.{library_globals}
-use Rattle.bk_ocode.specs.ProgramStart.{all_data, all_globals, is_global, unset_cells, with_global, first_cells}
-use Rattle.bk_ocode.proofs.Chosen.{chosen-true, chosen-false}
+use Rattle.bk_ocode.specs.ProgramStart.{is_global}
 use Rattle.bk_meaning.specs.Values as value
-use Rattle.bk_meaning.specs.Values.{Value, number, address, procedure, routine, unset, holds, places, value_in, stop, rdch, wrch, newline, writes, writen, writed, getbyte, putbyte, writef}
-use Rattle.bk_meaning.specs.Memory.{Object, living, cells_at}
-use Rattle.bk_meaning.specs.Lasting.{Procedure, Lasting, global_vector, words, code, library_cells, set_global, procedures_set, global_cells, entry_cells, object_of, objects_from, first_memory}
-use Rattle.bk_ocode.specs.WellPlaced.{IsWellPlaced}
 use Rattle.bk_simulation.proofs.Memory.{Codes, BaseOf, Alive, IsCell, Fits, get_at, StandsCell}
 use Rattle.bk_simulation.proofs.MadeObjects.{alive_is, cell_in, object_there, get_set, set_length}
 use Rattle.bk_simulation.proofs.CellBytes.{AreBytes}
@@ -26,11 +18,7 @@ use Rattle.bk_simulation.proofs.Laid.{Setting}
 use Rattle.bk_simulation.proofs.StartRuns.{FirstStore}
 use Rattle.bk_simulation.proofs.ProgramEnds.{NoStart, HasStart}
 use Rattle.bk_simulation.proofs.WrittenCells.{is_less, written, untouched}
-use Rattle.bk_ocode.specs.Section.{AreFaultless}
 use Rattle.bk_ocode.specs.StmtRange.{InRange}
-use Rattle.bk_ocode.specs.declared.stmt.GlobalEntry.{GlobalEntry}
-use Rattle.bk_ocode.specs.declared.stmt.Stmt.{Stmt}
-use Rattle.bk_ocode.specs.declared.stmt.Stmt.TheVariants.{Globals}
 
 -- ---- The store before START is called has what lasts.
 

@@ -1,24 +1,11 @@
 -- The words of a LET's procedures: where their code and data are found, each has its place where its number leads.
-use Rattle.std.proofs.Common.{◌≡◌, inl, inr, ℕ, ◌+◌, ◌<◌, ◌≤◌, Bool, false, List, Some, cond, sym, ap, ◌∙◌, subst, arith}
+use Rattle.bk_simulation.proofs.Words.{◌≡◌, inl, inr, ℕ, ◌+◌, ◌<◌, ◌≤◌, Bool, false, List, Some, cond, sym, ap, ◌∙◌, subst, arith, Definitions, Place, Binding,
+  bound_in, bind, is_global, place_behind, procedure_in_scope, procedures_in_scope, Spot, Placed, Goal, Target, behind_definition, labels_of_definition,
+  labels_of_procedure, meant, definition_named, definitions_named, parts_of_definition, parts_of_definitions, target_of_word, goal, goal_of, AllFound,
+  AmongProcedures, Looked, look_procedure, objects, objects_of_action, objects_of_starts}
 use Rattle.bk_tree.specs.Tree as t
-use Rattle.bk_tree.specs.Tree.{Definitions}
 use Rattle.bk_scope.specs.declared.bound.Bound.TheVariants as b
-use Rattle.bk_scope.specs.declared.place.Place.{Place}
-use Rattle.bk_scope.specs.Scope.{Binding, bound_in, bind, is_global}
-use Rattle.bk_scope.specs.Names.{place_behind}
-use Rattle.bk_scope.specs.Scoping.{procedure_in_scope, procedures_in_scope}
 use Rattle.bk_scope.specs.Spots as spot
-use Rattle.bk_scope.specs.Spots.{Spot}
-use Rattle.bk_ocode.specs.OcodeState.{Placed}
-use Rattle.bk_trans.specs.declared.around.Goal.{Goal}
-use Rattle.bk_trans.specs.declared.around.Target.{Target}
-use Rattle.bk_trans.specs.Depths.{behind_definition}
-use Rattle.bk_trans.specs.Labels.{labels_of_definition, labels_of_procedure}
-use Rattle.bk_trans.specs.Naming.{meant, definition_named, definitions_named}
-use Rattle.bk_trans.specs.Parts.{parts_of_definition, parts_of_definitions, target_of_word}
-use Rattle.bk_trans.specs.Scheme.{goal, goal_of}
-use Rattle.bk_trans.proofs.Scopes.{AllFound, AmongProcedures, Looked, look_procedure}
-use Rattle.bk_meaning.specs.Environment.{objects, objects_of_action, objects_of_starts}
 use Rattle.bk_simulation.proofs.Memory.{BaseOf}
 use Rattle.bk_simulation.proofs.LaidExpressions.{FoundParts, found_back}
 use Rattle.bk_simulation.proofs.LastingKinds.{word_base}

@@ -1,3 +1,4 @@
+mod Words
 pub mod Moves
 pub mod FramesKept
 pub mod Memory

@@ -1,25 +1,17 @@
 -- The routines of the library are called: each does its step, and goes back.
-use Rattle.std.proofs.Common.{◌≡◌, ◌≢◌, ℕ, suc, ◌+◌, ◌-◌, ◌*◌, ◌<◌, ◌≤◌, ◌%◌, ◌^◌, ◌==◌, nat_lt, Bool, true, false, List, [], ◌∷◌, length, Option, Some, None, pos, refl, sym, ap, ◌∙◌, subst, if◌then◌else◌, arith, slice_get, zero, ◌++◌}
-use Rattle.std.specs.Prelude.{option_and_then}
-use Rattle.std.specs.Option.{option_map, option_map_or}
+use Rattle.bk_simulation.proofs.Words.{◌≡◌, ◌≢◌, ℕ, suc, ◌+◌, ◌-◌, ◌*◌, ◌<◌, ◌≤◌, ◌%◌, ◌^◌, ◌==◌, nat_lt, Bool, true, false, List, [], ◌∷◌, length, Option,
+  Some, None, pos, refl, sym, ap, ◌∙◌, subst, if◌then◌else◌, arith, slice_get, zero, ◌++◌, option_and_then, option_map, option_map_or, nat_tests, Status,
+  signed, word_sum, byte_distance, byte_place, Content, Word, Variable, Cell, Held, content_of, with_byte, write, number_in, variable_in, variable_at, byte_at,
+  word_with_byte_at, string_at, bytes_from, Placed, At, State, Next, Goes, Ends, Wild, slot, on_number, on_some, tells, routine_step, step, step_from, Program,
+  resumed_in, in_hand, program_step, program_step_from, Stmt, Value, number, address, procedure, routine, unset, Memory, read_byte, write_byte, World, Outcome,
+  gives, given, with, changes, writing, remembering, calls_back}
 use Rattle.std.proofs.lemmas.Bool.{eqb-true}
-use Rattle.std.proofs.lemmas.Bool.Decides.{nat_tests}
-use Rattle.bk_base.specs.declared.run_end.End.TheVariants.{Status}
-use Rattle.bk_base.specs.Word.{signed, word_sum, byte_distance, byte_place}
 use Rattle.bk_base.specs.Decimal.{spelling}
 use Rattle.bk_base.specs.Format.{aligned, parts, FormatPart}
-use Rattle.bk_ocode.specs.Cells.{Content, Word, Variable, Cell, Held, content_of, with_byte, write}
-use Rattle.bk_ocode.specs.Access.{number_in, variable_in, variable_at, byte_at, word_with_byte_at, string_at, bytes_from}
 use Rattle.bk_ocode.specs.Telling.{format_bytes, in_front}
 use Rattle.bk_ocode.specs.OcodeState as ocode
-use Rattle.bk_ocode.specs.OcodeState.{Placed, At, State, Next, Goes, Ends, Wild}
-use Rattle.bk_ocode.specs.OcodeStep.{slot, on_number, on_some, return, tells, read_byte as takes_input, routine_step, step, step_from}
-use Rattle.bk_ocode.specs.OcodeRun.{Program, resumed_in, in_hand, program_step, program_step_from}
-use Rattle.bk_ocode.specs.declared.stmt.Stmt.{Stmt}
+use Rattle.bk_ocode.specs.OcodeStep.{return, read_byte as takes_input}
 use Rattle.bk_meaning.specs.Values as value
-use Rattle.bk_meaning.specs.Values.{Value, number, address, procedure, routine, unset}
-use Rattle.bk_meaning.specs.Memory.{Memory, read_byte, write_byte}
-use Rattle.bk_meaning.specs.World.{World, Outcome, gives, given, with, changes, writing, remembering, calls_back}
 use Rattle.bk_meaning.specs.Library as m
 use Rattle.bk_meaning.specs.Library.{library, writes_text, takes_byte}
 use Rattle.bk_simulation.proofs.Moves.{return_goes}

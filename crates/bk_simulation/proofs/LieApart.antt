@@ -1,23 +1,11 @@
 -- What lasts of a program lies apart: two objects with words have different bases.
-use Rattle.std.proofs.Common.{◌≡◌, ◌⊎◌, inl, inr, ⊎_elim, ℕ, zero, suc, ◌+◌, ◌<◌, ◌≤◌, List, [], ◌∷◌, ◌++◌, length, map, Option, Some, None, slice_get, drop, cond, Bool, eq-eqb, refl, sym, ap, ◌∙◌, subst, arith}
-use Rattle.bk_base.specs.declared.limit.TheConstants.{FRAME_WORDS}
-use Rattle.bk_base.specs.Strings.{string_words}
-use Rattle.bk_tree.specs.Tree.{Declarations}
+use Rattle.bk_simulation.proofs.Words.{◌≡◌, ◌⊎◌, inl, inr, ⊎_elim, ℕ, zero, suc, ◌+◌, ◌<◌, ◌≤◌, List, [], ◌∷◌, ◌++◌, length, map, Option, Some, None, slice_get,
+  drop, cond, Bool, eq-eqb, refl, sym, ap, ◌∙◌, subst, arith, FRAME_WORDS, string_words, Declarations, beginning, joined, Free, Placed, Inside, At, State,
+  Program, item_words, IsWellPlaced, Text, Entry, DataLabel, named_tree, scheme, objects_of_declarations, Lasting, global_vector, words, code, of_declarations,
+  of_sections}
 use Rattle.bk_scope.specs.Places.{outermost}
-use Rattle.bk_scope.specs.Spots.{beginning}
 use Rattle.bk_scope.specs.declared.bound.Bound.TheVariants as b
 use Rattle.bk_scope.proofs.Soundness.{section_sound}
-use Rattle.bk_ocode.specs.Lists.{joined}
-use Rattle.bk_ocode.specs.Cells.{Free}
-use Rattle.bk_ocode.specs.OcodeState.{Placed, Inside, At, State}
-use Rattle.bk_ocode.specs.OcodeRun.{Program}
-use Rattle.bk_ocode.specs.SectionData.{item_words}
-use Rattle.bk_ocode.specs.WellPlaced.{IsWellPlaced}
-use Rattle.bk_ocode.specs.declared.stmt.Stmt.TheVariants.{Text, Entry, DataLabel}
-use Rattle.bk_trans.specs.Naming.{named_tree}
-use Rattle.bk_trans.specs.Scheme.{scheme}
-use Rattle.bk_meaning.specs.Environment.{objects_of_declarations}
-use Rattle.bk_meaning.specs.Lasting.{Lasting, global_vector, words, code, of_declarations, of_sections}
 use Rattle.bk_simulation.specs.Placement.{IsAccepted, AreAccepted, StandFor}
 use Rattle.bk_simulation.proofs.Memory.{BaseOf, one_base}
 use Rattle.bk_simulation.proofs.Moves.{entry_settled}

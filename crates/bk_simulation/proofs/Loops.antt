@@ -1,18 +1,9 @@
 -- WHILE, UNTIL, REPEAT, REPEATWHILE and REPEATUNTIL.
-use Rattle.std.proofs.Common.{◌≡◌, ℕ, ◌+◌, ◌-◌, ◌*◌, ◌≤◌, Bool, true, false, cond, List, ◌∷◌, refl, subst, arith, suc, sym, ◌∙◌}
-use Rattle.bk_ocode.specs.OcodeState.{State}
-use Rattle.bk_ocode.specs.declared.stmt.Stmt.{Stmt}
-use Rattle.bk_ocode.specs.declared.stmt.Stmt.TheVariants.{Label, Jump}
-use Rattle.bk_trans.specs.Scheme.{goal}
+use Rattle.bk_simulation.proofs.Words.{◌≡◌, ℕ, ◌+◌, ◌-◌, ◌*◌, ◌≤◌, Bool, true, false, cond, List, ◌∷◌, refl, subst, arith, suc, sym, ◌∙◌, State, Stmt, Label,
+  Jump, goal, Expression, Action, Environment, past, past_action, Sought, Mode, forwards, seeking, stands_in, World, Exit, break, loop, Outcome, Done, done,
+  either, turn, history, Meanings, round_exit, again, same_truth, where_truth, rounds_of, Adds, adds, stays, either_after, with_after, turn_after,
+  each_way_after}
 use Rattle.bk_tree.specs.Tree as t
-use Rattle.bk_tree.specs.Tree.{Expression, Action}
-use Rattle.bk_meaning.specs.Environment.{Environment, past, past_action}
-use Rattle.bk_meaning.specs.Seeking.{Sought, Mode, forwards, seeking, stands_in}
-use Rattle.bk_meaning.specs.World.{World, Exit, break, loop, Outcome, Done, done, either, turn}
-use Rattle.bk_meaning.specs.Growing.{history}
-use Rattle.bk_meaning.specs.Parts.{Meanings}
-use Rattle.bk_meaning.specs.Loops.{round_exit, again, same_truth, where_truth, rounds_of}
-use Rattle.bk_meaning.proofs.After.{Adds, adds, stays, either_after, with_after, turn_after, each_way_after}
 use Rattle.bk_simulation.proofs.Weights.{turns_of, turns_in}
 use Rattle.bk_simulation.proofs.Laid.{Setting, in_loop, LabelAt, IsJump, IsAct, IsLoop, Entered, EnteredBody}
 use Rattle.bk_simulation.proofs.Frame.{Sit, start, Ready, Account, paying, went, each_way_ran, with_ran, so, ArrivedAt, Out, next, ready_next}

@@ -1,11 +1,9 @@
 -- The relation of memory: each object of the meaning has a base, and the words from a living object's base are its cells.
-use Rattle.std.proofs.Common.{◌≡◌, ◌≢◌, ℕ, zero, suc, ◌+◌, ◌-◌, ◌<◌, ◌≤◌, ◌%◌, ◌^◌, List, [], ◌∷◌, length, Option, Some, None, refl, sym, ap, ◌∙◌, subst, arith}
-use Rattle.std.specs.Prelude.{slice_get, option_and_then}
-use Rattle.std.proofs.lemmas.Option.{slice_get_within}
+use Rattle.bk_simulation.proofs.Words.{◌≡◌, ◌≢◌, ℕ, zero, suc, ◌+◌, ◌-◌, ◌<◌, ◌≤◌, ◌%◌, ◌^◌, List, [], ◌∷◌, length, Option, Some, None, refl, sym, ap, ◌∙◌,
+  subst, arith, option_and_then, slice_get_within, Value, number, address, procedure, routine, unset, holds, places, Memory, Object, cells_of, cells_at,
+  cell_at, Content, Word, Variable, Link, Cell, Held, content_of, byte_in}
+use Rattle.std.specs.Prelude.{slice_get}
 use Rattle.bk_meaning.specs.Values as value
-use Rattle.bk_meaning.specs.Values.{Value, number, address, procedure, routine, unset, holds, places}
-use Rattle.bk_meaning.specs.Memory.{Memory, Object, cells_of, cells_at, cell_at}
-use Rattle.bk_ocode.specs.Cells.{Content, Word, Variable, Link, Cell, Held, content_of, byte_in}
 
 -- the words of procedures, by their numbers, and of the routines of the library
 pub record Codes : Type 0 where

@@ -1,19 +1,10 @@
 -- Names that come into scope: one more, and the labels of a scope.
-use Rattle.std.proofs.Common.{◌≡◌, ℕ, ◌+◌, Bool, true, false, ◌||◌, cond, List, [], ◌∷◌, ◌++◌, Option, Some, refl, sym, ap, ◌∙◌, subst}
-use Rattle.std.specs.Str.{bytes_eq}
-use Rattle.std.proofs.lemmas.Slice.Eq.{bytes_eq-Decides}
+use Rattle.bk_simulation.proofs.Words.{◌≡◌, ℕ, ◌+◌, Bool, true, false, ◌||◌, cond, List, [], ◌∷◌, ◌++◌, Option, Some, refl, sym, ap, ◌∙◌, subst, bytes_eq,
+  bytes_eq-Decides, Action, Actions, Bound, Binding, bound_in, bind as bind_bound, labels_of, labels_of_each, labels_in_scope, meant, variable, Environment,
+  Sense, constant, cell, label, sense_in, bind_each, labelled, the_label, stands_in, stands_in_one, Around}
 use Rattle.bk_tree.specs.Tree as t
-use Rattle.bk_tree.specs.Tree.{Action, Actions}
-use Rattle.bk_scope.specs.declared.bound.Bound.{Bound}
 use Rattle.bk_scope.specs.declared.bound.Bound.TheVariants.{Label}
-use Rattle.bk_scope.specs.Scope.{Binding, bound_in, bind as bind_bound}
-use Rattle.bk_scope.specs.Entering.{labels_of, labels_of_each}
-use Rattle.bk_scope.specs.Scoping.{labels_in_scope}
-use Rattle.bk_trans.specs.Naming.{meant}
-use Rattle.bk_trans.specs.Scheme.{variable}
-use Rattle.bk_meaning.specs.Environment.{Environment, Sense, constant, cell, label, sense_in, bind, bind_each, labelled}
-use Rattle.bk_meaning.specs.Seeking.{the_label, stands_in, stands_in_one}
-use Rattle.bk_trans.specs.declared.around.Around.{Around}
+use Rattle.bk_meaning.specs.Environment.{bind}
 use Rattle.bk_simulation.proofs.Laid.{Exits, Scene, owning}
 use Rattle.bk_simulation.proofs.Frame.{place_of, IsWord, NameAt, NamedIn}
 use Rattle.bk_simulation.proofs.Orders.{by_test, not_true}

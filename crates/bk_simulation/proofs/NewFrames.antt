@@ -1,9 +1,7 @@
 -- What a call leaves in the store: the links of the new frame, the arguments behind them, and all else as it was.
-use Rattle.std.proofs.Common.{◌≡◌, ◌≢◌, ℕ, zero, suc, ◌+◌, ◌<◌, ◌≤◌, List, [], ◌∷◌, length, Some, refl, ap, ◌∙◌, arith, ◌⊎◌, inl, inr, slice_get}
-use Rattle.bk_meaning.specs.Values.{Value, unset, Cell as Cell_of, holds}
-use Rattle.bk_meaning.specs.Calls.{formal_cells}
-use Rattle.bk_ocode.specs.Cells.{Word, Variable, Link, Cell, Held, content_of, write, below, settle}
-use Rattle.bk_ocode.proofs.Chosen.{settle-kept}
+use Rattle.bk_simulation.proofs.Words.{◌≡◌, ◌≢◌, ℕ, zero, suc, ◌+◌, ◌<◌, ◌≤◌, List, [], ◌∷◌, length, Some, refl, ap, ◌∙◌, arith, ◌⊎◌, inl, inr, slice_get,
+  Value, unset, holds, formal_cells, Word, Variable, Link, Cell, Held, content_of, write, below, settle, settle-kept}
+use Rattle.bk_meaning.specs.Values.{Cell as Cell_of}
 use Rattle.bk_simulation.proofs.FramesKept.{LinksFrom, links_through, links_below, links_settled}
 use Rattle.bk_simulation.proofs.Memory.{Like, like_refl, like_on}
 use Rattle.bk_simulation.proofs.WrittenCells.{written, untouched, below_at, settle_at}

@@ -1,15 +1,7 @@
 -- Which statement an object with words has: a string by what stands behind it, and words by their label. No two objects have one.
-use Rattle.std.proofs.Common.{◌≡◌, ℕ, zero, suc, ◌+◌, ◌<◌, ◌≤◌, ◌==◌, eq-eqb, Bool, false, cond, List, [], ◌∷◌, length, Some, None, slice_get, drop, refl, sym, ap, ◌∙◌, subst, arith}
-use Rattle.bk_base.specs.declared.limit.TheConstants.{FRAME_WORDS}
-use Rattle.bk_scope.specs.declared.bound.Bound.{Bound}
+use Rattle.bk_simulation.proofs.Words.{◌≡◌, ℕ, zero, suc, ◌+◌, ◌<◌, ◌≤◌, ◌==◌, eq-eqb, Bool, false, cond, List, [], ◌∷◌, length, Some, None, slice_get, drop,
+  refl, sym, ap, ◌∙◌, subst, arith, FRAME_WORDS, Bound, joined, Placed, Program, Datum, datum_of, IsWellPlaced, Stmt, Text, DataLabel}
 use Rattle.bk_scope.specs.declared.bound.Bound.TheVariants as b
-use Rattle.bk_ocode.specs.Lists.{joined}
-use Rattle.bk_ocode.specs.OcodeState.{Placed}
-use Rattle.bk_ocode.specs.OcodeRun.{Program}
-use Rattle.bk_ocode.specs.SectionData.{Datum, datum_of}
-use Rattle.bk_ocode.specs.WellPlaced.{IsWellPlaced}
-use Rattle.bk_ocode.specs.declared.stmt.Stmt.{Stmt}
-use Rattle.bk_ocode.specs.declared.stmt.Stmt.TheVariants.{Text, DataLabel}
 use Rattle.bk_simulation.proofs.LastingKinds.{Kind, string, words_at, entry}
 use Rattle.bk_simulation.proofs.KindLabels.{data_label}
 use Rattle.bk_simulation.proofs.StringCounts.{times}

@@ -1,8 +1,5 @@
 -- What lasts of two parts, where names go on from one to the other.
-use Rattle.std.proofs.Common.{ℕ, ◌+◌, List, ◌++◌, arith}
-use Rattle.bk_scope.specs.Scope.{Binding}
-use Rattle.bk_meaning.specs.Environment.{Named}
-use Rattle.bk_meaning.specs.Lasting.{Lasting}
+use Rattle.bk_simulation.proofs.Words.{ℕ, ◌+◌, List, ◌++◌, arith, Binding, Named, Lasting}
 use Rattle.bk_simulation.proofs.Laid.{Setting}
 use Rattle.bk_simulation.proofs.Held.{held_in_both, lasting_both}
 use Rattle.bk_simulation.proofs.NamesAgree.{Agree}

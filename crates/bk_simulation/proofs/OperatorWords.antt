@@ -1,21 +1,14 @@
 -- The operators of the meaning on values, and those of OCODE on the words that stand for them.
-use Rattle.std.proofs.Common.{◌≡◌, ◌≢◌, ℕ, ◌+◌, ◌-◌, ◌<◌, ◌≤◌, ◌%◌, ◌^◌, ◌==◌, nat_lt, nat_le, Bool, true, false, not, cond, pos, int_lt, List, length, Option, Some, None, refl, sym, ap, ◌∙◌, subst, if◌then◌else◌, arith}
-use Rattle.std.specs.Prelude.{int_le}
-use Rattle.std.specs.Option.{option_map}
-use Rattle.std.proofs.lemmas.Int.{ints}
+use Rattle.bk_simulation.proofs.Words.{◌≡◌, ◌≢◌, ℕ, ◌+◌, ◌-◌, ◌<◌, ◌≤◌, ◌%◌, ◌^◌, ◌==◌, nat_lt, nat_le, Bool, true, false, not, cond, pos, int_lt, List, length,
+  Option, Some, None, refl, sym, ap, ◌∙◌, subst, if◌then◌else◌, arith, int_le, option_map, ints, nat_tests, signed, truth, word_sum, word_difference,
+  word_quotient, word_remainder, word_less, word_greater, word_at_most, word_at_least, word_negation, word_not, infix_word, Operator, Value, number, address,
+  procedure, routine, unset, cells_at, lives, World, Outcome, gives, ends, undefined, divide_by_zero, given, either, sum, difference, lies_within,
+  truth_of_value, equals_zero, equal, ordered, on_numbers, truth_number, operate, operate_prefix, Content, Word, Cell, quotient, dyadic_word}
 use Rattle.std.proofs.lemmas.Bool.{eqb-true}
-use Rattle.std.proofs.lemmas.Bool.Decides.{nat_tests}
-use Rattle.bk_base.specs.Word.{signed, truth, word_sum, word_difference, word_quotient, word_remainder, word_less, word_greater, word_at_most, word_at_least, word_negation, word_not}
-use Rattle.bk_scope.specs.Constants.{infix_word}
-use Rattle.bk_tree.specs.declared.tree.Operator.{Operator}
 use Rattle.bk_tree.specs.declared.tree.Operator.TheVariants as o
 use Rattle.bk_tree.specs.declared.tree.Prefix.TheVariants as q
-use Rattle.bk_meaning.specs.Values.{Value, number, address, procedure, routine, unset, Cell as Cell_of}
-use Rattle.bk_meaning.specs.Memory.{cells_at, lives}
-use Rattle.bk_meaning.specs.World.{World, Outcome, gives, ends, undefined, divide_by_zero, given, either}
-use Rattle.bk_meaning.specs.Operators.{sum, difference, lies_within, within, truth_of_value, equals_zero, equal, ordered, on_numbers, truth_number, operate, operate_prefix}
-use Rattle.bk_ocode.specs.Cells.{Content, Word, Cell}
-use Rattle.bk_ocode.specs.OcodeStep.{quotient, dyadic_word}
+use Rattle.bk_meaning.specs.Values.{Cell as Cell_of}
+use Rattle.bk_meaning.specs.Operators.{within}
 use Rattle.bk_ocode.specs.declared.stmt.Dyadic.{Dyadic}
 use Rattle.bk_ocode.specs.declared.stmt.Dyadic.TheVariants as d
 use Rattle.bk_simulation.proofs.Memory.{BaseOf, Alive, Codes, Stands, Fits, one_base}

@@ -1,26 +1,15 @@
 -- What is done with one value and with two: `!`, `@`, signs, NOT, and the operators.
-use Rattle.std.proofs.Common.{◌≡◌, ℕ, ◌+◌, ◌<◌, ◌≤◌, List, ◌∷◌, ◌++◌, Option, Some, None, refl, sym, ap, subst, arith, ◌-◌, ◌*◌, ◌%◌, ◌^◌, Bool, true, false, length, ◌∙◌}
-use Rattle.std.specs.Option.{option_map}
-use Rattle.bk_base.specs.Word.{word_negation, word_not, signed, word_of, truth as truth_word}
-use Rattle.bk_tree.specs.declared.tree.Operator.{Operator}
+use Rattle.bk_simulation.proofs.Words.{◌≡◌, ℕ, ◌+◌, ◌<◌, ◌≤◌, List, ◌∷◌, ◌++◌, Option, Some, None, refl, sym, ap, subst, arith, ◌-◌, ◌*◌, ◌%◌, ◌^◌, Bool, true,
+  false, length, ◌∙◌, option_map, word_negation, word_not, signed, word_of, truth as truth_word, Operator, Word, content_of, Content, Unset, Temporary, Held,
+  write, below, Inside, State, dyadic_word, named_place, DivideByZero, Stmt, Monadic, Dyadic, LoadByte, Number, True, False, Query, Load, Address, Text,
+  infix_code, variable, push, truth_value, Value, number, address, unset, read, read_byte, World, Outcome, gives, ends, undefined, given, with, sum, operate,
+  operate_prefix, fetch, Meanings, named, combined, Expression, past, Sense, constant, cell, sense_of, Adds, adds, with_after, of_z-to_z, Bound, bound_in,
+  Local, Static, Target, meant}
 use Rattle.bk_tree.specs.declared.tree.Operator.TheVariants as o
 use Rattle.bk_tree.specs.declared.tree.Prefix.TheVariants as q
-use Rattle.bk_ocode.specs.Cells.{Word, content_of, Content, Unset, Temporary, Held, write, below}
-use Rattle.bk_ocode.specs.OcodeState.{Inside, State}
-use Rattle.bk_ocode.specs.OcodeStep.{dyadic_word, named_place}
-use Rattle.bk_base.specs.declared.run_end.End.TheVariants.{DivideByZero}
 use Rattle.bk_ocode.specs.declared.stmt.Dyadic.{Dyadic as Two_word}
 use Rattle.bk_ocode.specs.declared.stmt.Dyadic.TheVariants as two
 use Rattle.bk_ocode.specs.declared.stmt.Monadic.TheVariants as m
-use Rattle.bk_ocode.specs.declared.stmt.Stmt.{Stmt}
-use Rattle.bk_ocode.specs.declared.stmt.Stmt.TheVariants.{Monadic, Dyadic, LoadByte, Number, True, False, Query, Load, Address, Text}
-use Rattle.bk_trans.specs.Scheme.{infix_code, variable, push, truth_value}
-use Rattle.bk_meaning.specs.Values.{Value, number, address, unset}
-use Rattle.bk_meaning.specs.Memory.{read, read_byte}
-use Rattle.bk_meaning.specs.World.{World, Outcome, gives, ends, undefined, given, with}
-use Rattle.bk_meaning.specs.Operators.{sum, operate, operate_prefix}
-use Rattle.bk_meaning.specs.Parts.{fetch, Meanings, named}
-use Rattle.bk_meaning.specs.Expressions.{combined}
 use Rattle.bk_simulation.proofs.Moves.{contents_moves, negate_moves, not_moves, dyadic_moves, load_byte_moves, Moves, number_moves, true_moves, false_moves, query_moves, load_moves, address_moves, text_moves, dyadic_ends}
 use Rattle.bk_simulation.proofs.Memory.{Stands, fits_more, BaseOf, Grown}
 use Rattle.bk_simulation.proofs.WrittenCells.{read_at, variable_found, read_here}
@@ -29,20 +18,11 @@ use Rattle.bk_simulation.proofs.OperatorWords.{operates, sum_applied, negates, i
 use Rattle.bk_simulation.proofs.Laid.{Setting, IsValue, named_word}
 use Rattle.bk_simulation.proofs.Frame.{Sit, Account, there, Has, went, start, Ready, Ran, with_ran, ArrivedAt, Out, next, ready_next, store, state, place_of, IsWord, NameAt}
 use Rattle.bk_simulation.proofs.Compose.{topped, arrived_more, arrived_on, ran_on, ran_first, ran_more, above, stay}
-use Rattle.bk_tree.specs.Tree.{Expression}
-use Rattle.bk_meaning.specs.Environment.{past, Sense, constant, cell, sense_of}
-use Rattle.bk_meaning.proofs.After.{Adds, adds, with_after}
 use Rattle.bk_simulation.proofs.Weights.{turns_of}
 use Rattle.bk_simulation.proofs.Simulates.{Simulates, for_value}
 use Rattle.std.specs.Int.{w32}
-use Rattle.std.proofs.lemmas.Int.{of_z-to_z}
-use Rattle.bk_scope.specs.declared.bound.Bound.{Bound}
 use Rattle.bk_scope.specs.declared.bound.Bound.TheVariants as b
-use Rattle.bk_scope.specs.Scope.{bound_in}
 use Rattle.bk_ocode.specs.declared.stmt.Variable.{Variable as Named}
-use Rattle.bk_ocode.specs.declared.stmt.Variable.TheVariants.{Local, Static}
-use Rattle.bk_trans.specs.declared.around.Target.{Target}
-use Rattle.bk_trans.specs.Naming.{meant}
 
 -- ---- Values without parts: numbers, names, strings, tables, TRUE, FALSE and `?`.
 

@@ -1,15 +1,8 @@
 -- Commands in order, and what seeking finds in them.
-use Rattle.std.proofs.Common.{◌≡◌, Bool, true, false, ◌||◌, cond, List, refl, sym, ap, ◌∙◌, subst, arith}
-use Rattle.bk_ocode.specs.declared.stmt.Stmt.{Stmt}
+use Rattle.bk_simulation.proofs.Words.{◌≡◌, Bool, true, false, ◌||◌, cond, List, refl, sym, ap, ◌∙◌, subst, arith, Stmt, Action, Actions, Environment,
+  past_action, Sought, Mode, forwards, seeking, stands_in, stands_in_one, World, with, either, history, Meanings, in_order, Adds, adds, stays, with_after,
+  either_after}
 use Rattle.bk_tree.specs.Tree as t
-use Rattle.bk_tree.specs.Tree.{Action, Actions}
-use Rattle.bk_meaning.specs.Environment.{Environment, past_action}
-use Rattle.bk_meaning.specs.Seeking.{Sought, Mode, forwards, seeking, stands_in, stands_in_one}
-use Rattle.bk_meaning.specs.World.{World, with, either}
-use Rattle.bk_meaning.specs.Growing.{history}
-use Rattle.bk_meaning.specs.Parts.{Meanings}
-use Rattle.bk_meaning.specs.Scopes.{in_order}
-use Rattle.bk_meaning.proofs.After.{Adds, adds, stays, with_after, either_after}
 use Rattle.bk_simulation.proofs.Sought.{same_stands_one}
 use Rattle.bk_simulation.proofs.Laid.{Setting, IsAct, AreActs, Entered, EnteredAny}
 use Rattle.bk_simulation.proofs.Frame.{Sit, start, Ready, went, with_ran, next, named_again, ready_in, ready_next}

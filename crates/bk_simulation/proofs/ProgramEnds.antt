@@ -1,14 +1,12 @@
 -- How the program ends where the call of START ends, comes on or falls.
-use Rattle.std.proofs.Common.{◌≡◌, ℕ, zero, suc, ◌+◌, ◌*◌, ◌≤◌, List, ◌++◌, Option, Some, None, refl, sym, ap, ◌∙◌, subst, arith, ◌⊎◌, ⊎_elim, inl, inr, max, [], ◌∷◌, length}
-use Rattle.bk_base.specs.declared.limit.TheConstants.{FRAME_WORDS}
+use Rattle.bk_simulation.proofs.Words.{◌≡◌, ℕ, zero, suc, ◌+◌, ◌*◌, ◌≤◌, List, ◌++◌, Option, Some, None, refl, sym, ap, ◌∙◌, subst, arith, ◌⊎◌, ⊎_elim, inl,
+  inr, max, [], ◌∷◌, length, FRAME_WORDS, State, Goes, Ends, At, global_place, program_step, run, HasFrames, Value, procedure, address, World, Exit, Outcome,
+  gives, leaves, ends, undefined, going, each_way, calls_back, status, calling, making, Run, Going, Undefined, run_of, first_world, started, means, option_map,
+  number_in, Unset, Word, content_of, first_cells, first_state, Entry, read, Environment, globals_object, Procedure, procedure_of, first_memory, history, After,
+  Meanings, enter, call, run_body, bind_formals, formal_cells, closing_after}
 use Rattle.bk_base.specs.declared.run_end.End.{End}
-use Rattle.bk_ocode.specs.OcodeState.{State, Goes, Ends, At, global_place}
-use Rattle.bk_ocode.specs.OcodeRun.{program_step, run}
-use Rattle.bk_ocode.specs.Frames.{HasFrames}
-use Rattle.bk_meaning.specs.Values.{Value, procedure, address}
 use Rattle.bk_meaning.specs.World as world
-use Rattle.bk_meaning.specs.World.{World, Exit, Outcome, gives, leaves, ends, undefined, going, each_way, calls_back, status, calling, making}
-use Rattle.bk_meaning.specs.Program.{Run, Ends as Finishes, Going, Undefined, run_of, first_world, started, means}
+use Rattle.bk_meaning.specs.Program.{Ends as Finishes}
 use Rattle.bk_simulation.specs.GoingOn.{settled}
 use Rattle.bk_simulation.specs.Simulation.{end_of, IsTooHigh, EndsWithin, ComesWithin, RunsOut, DoesEnd, Does, DoesFrom}
 use Rattle.bk_simulation.proofs.Moves.{settled_step, entry_settled}
@@ -18,18 +16,7 @@ use Rattle.bk_simulation.proofs.Calls.{AnyExit, AloneRuns, body_after, IsProcedu
 use Rattle.bk_simulation.proofs.StartRuns.{Over, FirstStore, few_first, start_runs}
 use Rattle.bk_simulation.proofs.ProgramRuns.{run_after, goes_on_so, RunSo, comes_run}
 use Rattle.std.specs.Prelude.{drop}
-use Rattle.std.specs.Option.{option_map}
-use Rattle.bk_ocode.specs.Access.{number_in}
-use Rattle.bk_ocode.specs.Cells.{Unset, Word, content_of}
-use Rattle.bk_ocode.specs.ProgramStart.{first_cells, first_state}
-use Rattle.bk_ocode.specs.declared.stmt.Stmt.TheVariants.{Entry}
-use Rattle.bk_meaning.specs.Memory.{read}
-use Rattle.bk_meaning.specs.Environment.{Environment, globals_object}
-use Rattle.bk_meaning.specs.Lasting.{Procedure, Program, procedure_of, first_memory}
-use Rattle.bk_meaning.specs.Growing.{history, After}
-use Rattle.bk_meaning.specs.Parts.{Meanings}
-use Rattle.bk_meaning.specs.Calls.{enter, call, run_body, bind_formals, formal_cells}
-use Rattle.bk_meaning.proofs.After.{closing_after}
+use Rattle.bk_meaning.specs.Lasting.{Program}
 use Rattle.bk_simulation.proofs.Compose.{roomy}
 use Rattle.bk_simulation.proofs.Simulates.{Simulates}
 use Rattle.bk_simulation.proofs.Applied.{AloneAdds}

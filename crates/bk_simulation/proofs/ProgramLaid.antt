@@ -1,16 +1,9 @@
 -- A program whose sections stand for accepted ones is laid.
-use Rattle.std.proofs.Common.{◌≡◌, ℕ, zero, suc, ◌+◌, ◌<◌, ◌≤◌, ◌^◌, List, [], ◌∷◌, ◌++◌, length, Option, Some, None, refl, sym, ap, ◌∙◌, subst, arith, slice_get, append_assoc}
-use Rattle.bk_base.specs.declared.limit.TheConstants.{FRAME_WORDS}
-use Rattle.bk_tree.specs.Tree.{Declarations}
-use Rattle.bk_ocode.specs.OcodeState.{Placed}
-use Rattle.bk_ocode.specs.OcodeRun.{Program}
-use Rattle.bk_ocode.specs.Section.{AreFaultless}
-use Rattle.bk_ocode.specs.WellPlaced.{IsWellPlaced}
-use Rattle.bk_trans.proofs.Accepted.{scheme_is_accepted}
+use Rattle.bk_simulation.proofs.Words.{◌≡◌, ℕ, zero, suc, ◌+◌, ◌<◌, ◌≤◌, ◌^◌, List, [], ◌∷◌, ◌++◌, length, Option, Some, None, refl, sym, ap, ◌∙◌, subst, arith,
+  slice_get, append_assoc, FRAME_WORDS, Declarations, Placed, Program, AreFaultless, IsWellPlaced, scheme_is_accepted, stop, rdch, wrch, newline, writes,
+  writen, writed, getbyte, putbyte, writef, objects_of_declarations, Lasting, Procedure, global_vector, words, code, of_sections, program_of, procedure_of,
+  procedure_in}
 use Rattle.bk_meaning.specs.Values as value
-use Rattle.bk_meaning.specs.Values.{stop, rdch, wrch, newline, writes, writen, writed, getbyte, putbyte, writef}
-use Rattle.bk_meaning.specs.Environment.{objects_of_declarations}
-use Rattle.bk_meaning.specs.Lasting.{Lasting, Procedure, global_vector, words, code, of_sections, program_of, procedure_of, procedure_in}
 use Rattle.bk_simulation.specs.Placement.{AreAccepted, StandFor}
 use Rattle.bk_simulation.proofs.Memory.{Codes, BaseOf, one_base}
 use Rattle.bk_simulation.proofs.Laid.{Setting}

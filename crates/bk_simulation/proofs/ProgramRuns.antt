@@ -1,22 +1,15 @@
 -- Counted runs of settled states are runs of the program, in as many frames.
-use Rattle.std.proofs.Common.{◌≡◌, ◌≢◌, ℕ, zero, suc, ◌+◌, ◌<◌, ◌≤◌, ◌==◌, Bool, true, false, List, [], ◌∷◌, Option, Some, None, refl, sym, ap, ◌∙◌, subst, if◌then◌else◌, arith, slice_get, ◌++◌, pos, append_assoc, append-nil}
-use Rattle.std.specs.Option.{option_map_or}
-use Rattle.bk_base.specs.declared.limit.TheConstants.{FRAME_WORDS}
-use Rattle.bk_ocode.specs.Cells.{Temporary, Cell, Held, write}
-use Rattle.bk_ocode.specs.Depth.{next_depth}
+use Rattle.bk_simulation.proofs.Words.{◌≡◌, ◌≢◌, ℕ, zero, suc, ◌+◌, ◌<◌, ◌≤◌, ◌==◌, Bool, true, false, List, [], ◌∷◌, Option, Some, None, refl, sym, ap, ◌∙◌,
+  subst, if◌then◌else◌, arith, slice_get, ◌++◌, pos, append_assoc, append-nil, option_map_or, FRAME_WORDS, Temporary, Cell, Held, write, next_depth, Placement,
+  Placed, Routine, Control, Inside, Behind, At, State, Next, Goes, Ends, Wild, Rest, rest_of, or_rest, rests, rests_of, in_hand, resumed, resumed_by,
+  resumed_in, find_rest, label_rest, Program, program_step, run, then_run, program_step_from, Stmt, Entry, Label, CallFunction, CallRoutine, IsWellPlaced,
+  Status, step}
 use Rattle.bk_ocode.specs.StmtRange.{InRange}
-use Rattle.bk_ocode.specs.OcodeState.{Placement, Placed, Routine, Control, Inside, Behind, At, State, Next, Goes, Ends, Wild}
-use Rattle.bk_ocode.specs.OcodeRun.{Rest, rest_of, or_rest, rests, rests_of, in_hand, resumed, resumed_by, resumed_in, find_rest, label_rest, Program, program_step, run, then_run, program_step_from}
-use Rattle.bk_ocode.specs.declared.stmt.Stmt.{Stmt}
-use Rattle.bk_ocode.specs.declared.stmt.Stmt.TheVariants.{Entry, Label, CallFunction, CallRoutine}
-use Rattle.bk_ocode.specs.WellPlaced.{IsWellPlaced}
 use Rattle.bk_simulation.proofs.Moves.{settled, settled_from, settled_step}
 use Rattle.bk_simulation.proofs.FramesKept.{LinksFrom, links_kept}
 use Rattle.bk_simulation.proofs.WrittenCells.{untouched}
 use Rattle.bk_simulation.proofs.Laid.{Setting}
 use Rattle.bk_simulation.proofs.Frame.{FewFrames, Comes, here, go_on}
-use Rattle.bk_base.specs.declared.run_end.End.TheVariants.{Status}
-use Rattle.bk_ocode.specs.OcodeStep.{step}
 use Rattle.bk_ocode.proofs.GrowingSteps.{steps_grow}
 use Rattle.bk_simulation.specs.Simulation.{Begin}
 

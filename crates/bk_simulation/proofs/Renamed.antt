@@ -1,24 +1,12 @@
 -- What MANIFEST, STATIC and GLOBAL bring into scope: names that agree, labels that stay, and words that stand where the names say.
-use Rattle.std.proofs.Common.{◌≡◌, ℕ, suc, ◌+◌, ◌<◌, ◌≤◌, ◌^◌, Bool, true, false, List, [], ◌∷◌, Option, Some, None, cond, refl, sym, ap, ◌∙◌, subst, arith, nat_lt}
-use Rattle.std.specs.Str.{bytes_eq}
-use Rattle.std.proofs.lemmas.Bool.Decides.{nat_tests}
-use Rattle.std.proofs.lemmas.Slice.Eq.{bytes_eq-Decides}
-use Rattle.bk_base.specs.declared.limit.TheConstants.{GLOBAL_NUMBER}
+use Rattle.bk_simulation.proofs.Words.{◌≡◌, ℕ, suc, ◌+◌, ◌<◌, ◌≤◌, ◌^◌, Bool, true, false, List, [], ◌∷◌, Option, Some, None, cond, refl, sym, ap, ◌∙◌, subst,
+  arith, nat_lt, bytes_eq, nat_tests, bytes_eq-Decides, GLOBAL_NUMBER, Mention, Expression, Items, Definition, Definitions, Starts, Bound, Binding, bound_in,
+  bind, named_word, constant_word, within, manifests_in_scope, statics_in_scope, globals_in_scope, ManifestsSound, GlobalsSound, Placed, Target, meant, goal_of,
+  variable, Named, Environment, Sense, constant, cell, label, foreign, sense_in, sense_of, word_named, constant_in, globals_object, global_named,
+  bind_procedure_as, bind_procedures, objects, objects_of_action, objects_of_starts, sense_of_constant, sense_of_global, letters, manifests, statics}
 use Rattle.bk_tree.specs.Tree as t
-use Rattle.bk_tree.specs.Tree.{Mention, Expression, Items, Definition, Definitions, Starts}
-use Rattle.bk_scope.specs.declared.bound.Bound.{Bound}
 use Rattle.bk_scope.specs.declared.bound.Bound.TheVariants as b
-use Rattle.bk_scope.specs.Scope.{Binding, bound_in, bind}
-use Rattle.bk_scope.specs.Constants.{named_word, constant_word}
-use Rattle.bk_scope.specs.Names.{within}
-use Rattle.bk_scope.specs.Scoping.{manifests_in_scope, statics_in_scope, globals_in_scope}
-use Rattle.bk_scope.specs.Sound.{ManifestsSound, GlobalsSound}
-use Rattle.bk_ocode.specs.OcodeState.{Placed}
-use Rattle.bk_trans.specs.declared.around.Target.{Target}
-use Rattle.bk_trans.specs.Naming.{meant}
-use Rattle.bk_trans.specs.Scheme.{goal_of, variable}
 use Rattle.bk_meaning.specs.Environment as m
-use Rattle.bk_meaning.specs.Environment.{Named, Environment, Sense, constant, cell, label, foreign, sense_in, sense_of, word_named, constant_in, globals_object, global_named, bind_procedure_as, bind_procedures, objects, objects_of_action, objects_of_starts, sense_of_constant, sense_of_global, letters, manifests, statics}
 use Rattle.bk_simulation.specs.Regular.{RegularItems}
 use Rattle.bk_simulation.proofs.Memory.{BaseOf, Grown}
 use Rattle.bk_simulation.proofs.Sought.{with_names}

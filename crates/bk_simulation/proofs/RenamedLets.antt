@@ -1,29 +1,16 @@
 -- What a LET brings into scope: its procedures, and behind it its variables; names that agree, labels that stay, and words that stand
 -- where the names say.
-use Rattle.std.proofs.Common.{◌≡◌, ℕ, suc, ◌+◌, ◌-◌, ◌<◌, ◌≤◌, ◌^◌, Bool, true, false, List, [], ◌∷◌, ◌++◌, length, Option, Some, None, cond, refl, sym, ap, ◌∙◌, subst, arith, nat_lt}
-use Rattle.std.proofs.lemmas.Bool.Decides.{nat_tests}
-use Rattle.bk_base.specs.declared.limit.TheConstants.{FRAME_WORDS, VEC_NUMBER}
+use Rattle.bk_simulation.proofs.Words.{◌≡◌, ℕ, suc, ◌+◌, ◌-◌, ◌<◌, ◌≤◌, ◌^◌, Bool, true, false, List, [], ◌∷◌, ◌++◌, length, Option, Some, None, cond, refl,
+  sym, ap, ◌∙◌, subst, arith, nat_lt, nat_tests, FRAME_WORDS, VEC_NUMBER, Mention, Expression, Items, Definition, Definitions, Starts, Bound, Binding, bound_in,
+  bind, bind_all, is_global, constant_word, Place, deeper, Spot as ScopeSpot, within, words_of_vector, words_of_start, variables_of, place_behind,
+  place_behind_defined, variables_in_scope, procedure_in_scope, procedures_in_scope, HasWordUpTo, SoundStarted, SoundDefined, Placed, Target, behind_starts,
+  behind_definitions, meant, worth, starts_named, definitions_named, goal_of, variable, variables_hidden, bind_each, Named, Environment, Sense, constant, cell,
+  label, foreign, sense_in, sense_of, word_named, constant_in, globals_object, global_named, bind_procedure_as, bind_procedures, objects, objects_of_action,
+  objects_of_starts, sense_of_constant, sense_of_global, letters, manifests, statics}
 use Rattle.bk_tree.specs.Tree as t
-use Rattle.bk_tree.specs.Tree.{Mention, Expression, Items, Definition, Definitions, Starts}
-use Rattle.bk_scope.specs.declared.bound.Bound.{Bound}
 use Rattle.bk_scope.specs.declared.bound.Bound.TheVariants as b
-use Rattle.bk_scope.specs.Scope.{Binding, bound_in, bind, bind_all, is_global}
-use Rattle.bk_scope.specs.Constants.{constant_word}
-use Rattle.bk_scope.specs.declared.place.Place.{Place}
-use Rattle.bk_scope.specs.Places.{deeper}
 use Rattle.bk_scope.specs.Spots as scope_spot
-use Rattle.bk_scope.specs.Spots.{Spot as ScopeSpot}
-use Rattle.bk_scope.specs.Names.{within, words_of_vector, words_of_start, variables_of, place_behind}
-use Rattle.bk_scope.specs.Scoping.{place_behind_defined, variables_in_scope, procedure_in_scope, procedures_in_scope}
-use Rattle.bk_scope.specs.Sound.{HasWordUpTo, SoundStarted, SoundDefined}
-use Rattle.bk_ocode.specs.OcodeState.{Placed}
-use Rattle.bk_trans.specs.declared.around.Target.{Target}
-use Rattle.bk_trans.specs.Depths.{behind_starts, behind_definitions}
-use Rattle.bk_trans.specs.Naming.{meant, worth, starts_named, definitions_named}
-use Rattle.bk_trans.specs.Scheme.{goal_of, variable}
 use Rattle.bk_meaning.specs.Environment as m
-use Rattle.bk_meaning.specs.Lasting.{variables_hidden}
-use Rattle.bk_meaning.specs.Environment.{bind_each, Named, Environment, Sense, constant, cell, label, foreign, sense_in, sense_of, word_named, constant_in, globals_object, global_named, bind_procedure_as, bind_procedures, objects, objects_of_action, objects_of_starts, sense_of_constant, sense_of_global, letters, manifests, statics}
 use Rattle.bk_simulation.specs.Regular.{starts, RegularDefinitions}
 use Rattle.bk_simulation.proofs.Memory.{BaseOf}
 use Rattle.bk_simulation.proofs.Sought.{with_names}

@@ -1,18 +1,8 @@
 -- Scopes: commands that own their labels; and VALOF.
-use Rattle.std.proofs.Common.{◌≡◌, ℕ, ◌+◌, ◌≤◌, Bool, true, false, List, refl, sym, ◌∙◌, subst, arith, ◌-◌, ◌*◌, ◌∷◌, Option, Some}
-use Rattle.bk_scope.specs.Scope.{bound_in}
-use Rattle.bk_ocode.specs.OcodeState.{State}
-use Rattle.bk_ocode.specs.declared.stmt.Stmt.{Stmt}
-use Rattle.bk_trans.specs.Naming.{meant}
-use Rattle.bk_trans.specs.Scheme.{goal_in}
-use Rattle.bk_tree.specs.Tree.{Actions, Action}
-use Rattle.bk_meaning.specs.Environment.{Environment, labelled}
-use Rattle.bk_meaning.specs.Seeking.{Sought, the_label, Mode, seeking, stands_in_one, forwards}
-use Rattle.bk_meaning.specs.World.{World, Exit, goto, leaves, either, break, result, return}
-use Rattle.bk_meaning.specs.Growing.{history}
-use Rattle.bk_meaning.specs.Parts.{Meanings}
-use Rattle.bk_meaning.specs.Scopes.{landing, scope_of, alone}
-use Rattle.bk_meaning.proofs.After.{Adds, adds, stays, either_after}
+use Rattle.bk_simulation.proofs.Words.{◌≡◌, ℕ, ◌+◌, ◌≤◌, Bool, true, false, List, refl, sym, ◌∙◌, subst, arith, ◌-◌, ◌*◌, ◌∷◌, Option, Some, bound_in, State,
+  Stmt, meant, goal_in, Actions, Action, Environment, labelled, Sought, the_label, Mode, seeking, stands_in_one, forwards, World, Exit, goto, leaves, either,
+  break, result, return, history, Meanings, landing, scope_of, alone, Adds, adds, stays, either_after, Content, Unset, option_map_or, Label, TakeResult, Around,
+  Value, result_exit, result_of}
 use Rattle.bk_simulation.proofs.Weights.{turns_through, turns_in}
 use Rattle.bk_simulation.proofs.Sought.{label_stands_one}
 use Rattle.bk_simulation.proofs.Laid.{Setting, Scene, owning, goal_named, IsLabelHere, IsScopeAt, EnteredAny, Exits, in_valof, LabelAt, IsScope}
@@ -22,12 +12,6 @@ use Rattle.bk_simulation.proofs.Simulates.{Simulates, for_scope, RanDid}
 use Rattle.bk_simulation.proofs.ControlSteps.{caught_at, label_on, taken_on}
 use Rattle.bk_simulation.proofs.Orders.{by_test, order_run, not_true}
 use Rattle.bk_simulation.proofs.NamesBound.{scope_named, not_owned, around_named}
-use Rattle.bk_ocode.specs.Cells.{Content, Unset}
-use Rattle.std.specs.Option.{option_map_or}
-use Rattle.bk_ocode.specs.declared.stmt.Stmt.TheVariants.{Label, TakeResult}
-use Rattle.bk_trans.specs.declared.around.Around.{Around}
-use Rattle.bk_meaning.specs.Values.{Value}
-use Rattle.bk_meaning.specs.Expressions.{result_exit, result_of}
 use Rattle.bk_simulation.proofs.Memory.{Stands}
 use Rattle.bk_simulation.proofs.OperatorWords.{some_is}
 

@@ -1,19 +1,10 @@
 -- The parts of a section: the code and the data of each stand in it.
-use Rattle.std.proofs.Common.{◌≡◌, ℕ, List, [], ◌∷◌, ◌++◌, refl, ap, ◌∙◌, arith, append_assoc}
-use Rattle.bk_scope.specs.declared.bound.Bound.{Bound}
+use Rattle.bk_simulation.proofs.Words.{◌≡◌, ℕ, List, [], ◌∷◌, ◌++◌, refl, ap, ◌∙◌, arith, append_assoc, Bound, depth_behind, joined, Placement, Placed,
+  AreFaultless, item_words, Stmt, Globals, Target, Part, static_item, static_table, label_place, target_of, procedure_code, data_code, word_code, entries_of,
+  section_code, AllFound}
 use Rattle.bk_scope.specs.declared.bound.Bound.TheVariants as b
-use Rattle.bk_ocode.specs.Depth.{depth_behind}
-use Rattle.bk_ocode.specs.Lists.{joined}
-use Rattle.bk_ocode.specs.OcodeState.{Placement, Placed}
-use Rattle.bk_ocode.specs.Section.{AreFaultless}
-use Rattle.bk_ocode.specs.SectionData.{item_words}
-use Rattle.bk_ocode.specs.declared.stmt.Stmt.{Stmt}
-use Rattle.bk_ocode.specs.declared.stmt.Stmt.TheVariants.{Globals}
-use Rattle.bk_trans.specs.declared.around.Target.{Target}
 use Rattle.bk_trans.specs.Program as term
-use Rattle.bk_trans.specs.Parts.{Part, procedure, static_item, static_table, label_place, target_of}
-use Rattle.bk_trans.specs.Scheme.{procedure_code, data_code, word_code, entries_of, section_code}
-use Rattle.bk_trans.proofs.Scopes.{AllFound}
+use Rattle.bk_trans.specs.Parts.{procedure}
 use Rattle.bk_simulation.proofs.Standing.{StandsAt, written}
 use Rattle.bk_simulation.proofs.LaidExpressions.{FoundParts}
 use Rattle.bk_simulation.proofs.LaidProcedures.{all_passed}

@@ -1,13 +1,7 @@
 -- What lasts of all sections of a program, one behind the other.
-use Rattle.std.proofs.Common.{◌≡◌, ℕ, suc, ◌+◌, ◌<◌, ◌≤◌, List, [], ◌∷◌, ◌++◌, length, Some, refl, arith, slice_get, map, Option, sym, ap, ap₂, ◌∙◌}
-use Rattle.bk_base.specs.declared.limit.TheConstants.{FRAME_WORDS}
-use Rattle.bk_tree.specs.Tree.{Declarations}
-use Rattle.bk_ocode.specs.OcodeState.{Placed}
-use Rattle.bk_ocode.specs.OcodeRun.{Program}
-use Rattle.bk_ocode.specs.WellPlaced.{IsWellPlaced}
-use Rattle.bk_trans.specs.Naming.{named_tree}
-use Rattle.bk_meaning.specs.Environment.{objects_of_declarations}
-use Rattle.bk_meaning.specs.Lasting.{of_declarations, of_sections, Lasting, words, code}
+use Rattle.bk_simulation.proofs.Words.{◌≡◌, ℕ, suc, ◌+◌, ◌<◌, ◌≤◌, List, [], ◌∷◌, ◌++◌, length, Some, refl, arith, slice_get, map, Option, sym, ap, ap₂, ◌∙◌,
+  FRAME_WORDS, Declarations, Placed, Program, IsWellPlaced, named_tree, objects_of_declarations, of_declarations, of_sections, Lasting, words, code, map-append,
+  Bound, joined, entry_setting, GlobalEntry, entry_of, entries_of}
 use Rattle.bk_simulation.specs.Placement.{AreAccepted, StandFor}
 use Rattle.bk_simulation.proofs.Weights.{weight_declared}
 use Rattle.bk_simulation.proofs.Sought.{with_names}
@@ -17,13 +11,7 @@ use Rattle.bk_simulation.proofs.LastingKinds.{AreAs, kinds_of_declarations, Kind
 use Rattle.bk_simulation.proofs.NamesAgree.{Agree}
 use Rattle.bk_simulation.proofs.Standing.{home, Follow, FollowWords, follow_first, follow_second, words_first, words_second, length_both, Suits, Bases, Mean, AreBelow, AreSet, below_both, set_both}
 use Rattle.bk_simulation.proofs.LaidSections.{section_scene, section_lies}
-use Rattle.std.proofs.lemmas.List.{map-append}
-use Rattle.bk_scope.specs.declared.bound.Bound.{Bound}
 use Rattle.bk_scope.specs.declared.bound.Bound.TheVariants as b
-use Rattle.bk_ocode.specs.Lists.{joined}
-use Rattle.bk_ocode.specs.SectionData.{entry_setting}
-use Rattle.bk_ocode.specs.declared.stmt.GlobalEntry.{GlobalEntry}
-use Rattle.bk_trans.specs.Scheme.{entry_of, entries_of}
 use Rattle.bk_simulation.proofs.Memory.{Codes}
 use Rattle.bk_simulation.proofs.LastingFits.{setting_of, settings}
 use Rattle.bk_simulation.proofs.SectionGlobals.{SetSame}

@@ -1,19 +1,10 @@
 -- What is proved of each form: its code, where it is laid, does what the form means, within an account.
-use Rattle.std.proofs.Common.{◌≡◌, ◌≢◌, ◌<◌, ℕ, suc, ◌+◌, ◌-◌, ◌*◌, ◌≤◌, Bool, true, false, List, ◌∷◌, Some}
-use Rattle.bk_ocode.specs.Cells.{content_of}
-use Rattle.bk_ocode.specs.OcodeState.{State}
-use Rattle.bk_ocode.specs.OcodeStep.{from_label}
-use Rattle.bk_ocode.specs.declared.stmt.Stmt.{Stmt}
-use Rattle.bk_ocode.specs.declared.stmt.Stmt.TheVariants.{Assign, AssignAt, AssignByte}
+use Rattle.bk_simulation.proofs.Words.{◌≡◌, ◌≢◌, ◌<◌, ℕ, suc, ◌+◌, ◌-◌, ◌*◌, ◌≤◌, Bool, true, false, List, ◌∷◌, Some, content_of, State, from_label, Stmt,
+  Assign, AssignAt, AssignByte, Expression, Expressions, Action, Actions, Value, address, labelled, Sought, Mode, World, Outcome, Done, history, After,
+  Throughout, at, Meanings}
 use Rattle.bk_ocode.specs.declared.stmt.Variable.{Variable}
 use Rattle.bk_tree.specs.Tree as t
-use Rattle.bk_tree.specs.Tree.{Expression, Expressions, Action, Actions}
-use Rattle.bk_meaning.specs.Values.{Value, address}
-use Rattle.bk_meaning.specs.Environment.{labelled}
-use Rattle.bk_meaning.specs.Seeking.{Sought, Mode}
-use Rattle.bk_meaning.specs.World.{World, Outcome, Done}
-use Rattle.bk_meaning.specs.Growing.{history, After, Throughout}
-use Rattle.bk_meaning.specs.Parts.{Target, at, byte_at, Meanings}
+use Rattle.bk_meaning.specs.Parts.{Target, byte_at}
 use Rattle.bk_simulation.proofs.Memory.{BaseOf, Alive, Stands}
 use Rattle.bk_simulation.proofs.Weights.{turns_of, turns_among, turns_in, turns_through}
 use Rattle.bk_simulation.proofs.Laid.{Setting, IsValue, IsJump, IsAddress, IsStore, IsAct, IsScopeAt, IsLoop, IsForLoop, Entered, EnteredAny, EnteredBody}

@@ -1,11 +1,8 @@
 -- What seeking finds does not hang on the numbers of objects, and for labels not on names.
-use Rattle.std.proofs.Common.{◌≡◌, ℕ, false, ◌||◌, cond, List, refl, ap, ◌∙◌}
+use Rattle.bk_simulation.proofs.Words.{◌≡◌, ℕ, false, ◌||◌, cond, List, refl, ap, ◌∙◌, prefix_word, infix_word, Expression, Action, Actions, Named, Environment,
+  constant_in, Sought, the_label, the_case, the_default, same_place, is_label, stands_in, stands_in_one}
 use Rattle.std.specs.Option.{option_and_then}
-use Rattle.bk_scope.specs.Constants.{prefix_word, infix_word}
 use Rattle.bk_tree.specs.Tree as t
-use Rattle.bk_tree.specs.Tree.{Expression, Action, Actions}
-use Rattle.bk_meaning.specs.Environment.{Named, Environment, constant_in}
-use Rattle.bk_meaning.specs.Seeking.{Sought, the_label, the_case, the_default, same_place, is_label, stands_in, stands_in_one}
 
 abbrev pub with_names : List Named → ℕ → Environment
 with_names ns n = record { names = ns; next = n }

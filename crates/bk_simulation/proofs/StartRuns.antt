@@ -1,25 +1,11 @@
 -- START is called: into its frame, through its body, and home.
-use Rattle.std.proofs.Common.{◌≡◌, ℕ, suc, ◌+◌, ◌-◌, ◌*◌, ◌<◌, ◌≤◌, ◌^◌, List, [], ◌∷◌, ◌++◌, length, Some, None, pos, refl, sym, ap, ◌∙◌, subst, if◌then◌else◌, arith, ⊎_elim, slice_get}
+use Rattle.bk_simulation.proofs.Words.{◌≡◌, ℕ, suc, ◌+◌, ◌-◌, ◌*◌, ◌<◌, ◌≤◌, ◌^◌, List, [], ◌∷◌, ◌++◌, length, Some, None, pos, refl, sym, ap, ◌∙◌, subst,
+  if◌then◌else◌, arith, ⊎_elim, slice_get, option_map_or, slice_get_within, FRAME_WORDS, GLOBAL_NUMBER, Status, Word, Link, Cell, Held, content_of, below,
+  settle, Placed, Inside, At, State, Ends, Wild, global_place, step, Program, resumed_in, program_step, program_step_from, HasFrames, start, called, Entry,
+  Value, unset, holds, Memory, World, making, forgetting, calling, status, Environment, Procedure, Meanings, formal_cells, bind_formals, enter, settle-kept}
 use Rattle.std.specs.Prelude.{drop}
-use Rattle.std.specs.Option.{option_map_or}
 use Rattle.std.proofs.lemmas.Bool.{eq-eqb}
-use Rattle.std.proofs.lemmas.Option.{slice_get_within}
-use Rattle.bk_base.specs.declared.limit.TheConstants.{FRAME_WORDS, GLOBAL_NUMBER}
-use Rattle.bk_base.specs.declared.run_end.End.TheVariants.{Status}
-use Rattle.bk_ocode.specs.Cells.{Word, Link, Cell, Held, content_of, below, settle}
-use Rattle.bk_ocode.specs.OcodeState.{Placed, Inside, At, State, Ends, Wild, global_place}
-use Rattle.bk_ocode.specs.OcodeStep.{step}
-use Rattle.bk_ocode.specs.OcodeRun.{Program, resumed_in, program_step, program_step_from}
-use Rattle.bk_ocode.specs.Frames.{HasFrames, start, called}
-use Rattle.bk_ocode.specs.declared.stmt.Stmt.TheVariants.{Entry}
-use Rattle.bk_meaning.specs.Values.{Value, unset, Cell as Cell_of, holds}
-use Rattle.bk_meaning.specs.Memory.{Memory}
-use Rattle.bk_meaning.specs.World.{World, making, forgetting, calling, status}
-use Rattle.bk_meaning.specs.Environment.{Environment}
-use Rattle.bk_meaning.specs.Lasting.{Procedure}
-use Rattle.bk_meaning.specs.Parts.{Meanings}
-use Rattle.bk_meaning.specs.Calls.{formal_cells, bind_formals, enter}
-use Rattle.bk_ocode.proofs.Chosen.{settle-kept}
+use Rattle.bk_meaning.specs.Values.{Cell as Cell_of}
 use Rattle.bk_simulation.specs.GoingOn.{settled, settled_from}
 use Rattle.bk_simulation.proofs.Moves.{Moves, entry_moves, save_moves, returning}
 use Rattle.bk_simulation.proofs.FramesKept.{links_kept, links_through, links_below, links_settled}

@@ -1,13 +1,8 @@
 -- Strings of statements, counted: what is known of the strings in code, and of the procedures declared in it.
-use Rattle.std.proofs.Common.{◌≡◌, ℕ, suc, ◌+◌, ◌≤◌, ◌==◌, cond, List, [], ◌∷◌, ◌++◌, length, Some, slice_get, drop, refl, sym, ap, ◌∙◌, subst, arith, length-append, zero, ◌-◌, ◌<◌, ltb, ltb-false, eqb-true, eq-eqb, Bool, true, false}
-use Rattle.bk_ocode.specs.OcodeState.{Placed}
-use Rattle.bk_ocode.specs.declared.stmt.Stmt.{Stmt}
-use Rattle.bk_ocode.specs.declared.stmt.Stmt.TheVariants.{Text, Entry}
+use Rattle.bk_simulation.proofs.Words.{◌≡◌, ℕ, suc, ◌+◌, ◌≤◌, ◌==◌, cond, List, [], ◌∷◌, ◌++◌, length, Some, slice_get, drop, refl, sym, ap, ◌∙◌, subst, arith,
+  length-append, zero, ◌-◌, ◌<◌, ltb, ltb-false, eqb-true, eq-eqb, Bool, true, false, Placed, Stmt, Text, Entry, ltb-true, length-drop, slice_get_within}
 use Rattle.bk_simulation.proofs.Memory.{BaseOf}
 use Rattle.bk_simulation.proofs.Laid.{Setting}
-use Rattle.std.proofs.lemmas.Bool.{ltb-true}
-use Rattle.std.proofs.lemmas.List.{length-drop}
-use Rattle.std.proofs.lemmas.Option.{slice_get_within}
 
 -- what an object that lasts comes from
 pub data Form : Type 0 where

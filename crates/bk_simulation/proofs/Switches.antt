@@ -1,22 +1,9 @@
 -- SWITCHON.
-use Rattle.std.proofs.Common.{◌≡◌, ℕ, ◌+◌, ◌-◌, ◌*◌, ◌≤◌, Bool, true, false, cond, List, ◌∷◌, Some, None, refl, sym, ap, ◌∙◌, subst, arith}
-use Rattle.bk_ocode.specs.Cells.{below}
-use Rattle.bk_ocode.specs.OcodeState.{State}
-use Rattle.bk_ocode.specs.OcodeStep.{from_label, case_label}
-use Rattle.bk_ocode.specs.declared.stmt.Case.{Case}
-use Rattle.bk_ocode.specs.declared.stmt.Stmt.{Stmt}
-use Rattle.bk_ocode.specs.declared.stmt.Stmt.TheVariants.{Label, Switch}
-use Rattle.bk_trans.specs.Scheme.{goal}
+use Rattle.bk_simulation.proofs.Words.{◌≡◌, ℕ, ◌+◌, ◌-◌, ◌*◌, ◌≤◌, Bool, true, false, cond, List, ◌∷◌, Some, None, refl, sym, ap, ◌∙◌, subst, arith, below,
+  State, from_label, case_label, Case, Stmt, Label, Switch, goal, Expression, Action, Value, number, Environment, past, Sought, the_case, the_default, Mode,
+  seeking, is_label, stands_in, World, Exit, endcase, done, with, either, history, Meanings, case_exit, ended_case, choose_case, Adds, adds, stays,
+  either_after, each_way_after}
 use Rattle.bk_tree.specs.Tree as t
-use Rattle.bk_tree.specs.Tree.{Expression, Action}
-use Rattle.bk_meaning.specs.Values.{Value, number}
-use Rattle.bk_meaning.specs.Environment.{Environment, past}
-use Rattle.bk_meaning.specs.Seeking.{Sought, the_case, the_default, Mode, seeking, is_label, stands_in}
-use Rattle.bk_meaning.specs.World.{World, Exit, endcase, done, with, either}
-use Rattle.bk_meaning.specs.Growing.{history}
-use Rattle.bk_meaning.specs.Parts.{Meanings}
-use Rattle.bk_meaning.specs.Commands.{case_exit, ended_case, choose_case}
-use Rattle.bk_meaning.proofs.After.{Adds, adds, stays, either_after, each_way_after}
 use Rattle.bk_simulation.proofs.Moves.{switch_moves}
 use Rattle.bk_simulation.proofs.WrittenCells.{below_like}
 use Rattle.bk_simulation.proofs.Weights.{turns_of, turns_in}

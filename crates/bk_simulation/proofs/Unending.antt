@@ -1,21 +1,10 @@
 -- Where the sections mean a run without an end, the program goes on with it.
-use Rattle.std.proofs.Common.{◌≡◌, ℕ, zero, suc, ◌+◌, ◌*◌, ◌≤◌, nat_lt, true, false, List, [], Option, Some, None, refl, sym, ap, ◌∙◌, subst, arith, ◌⊎◌, ⊎_elim, inl, inr}
-use Rattle.bk_base.specs.declared.limit.TheConstants.{FRAME_WORDS}
-use Rattle.std.specs.Option.{option_map}
-use Rattle.bk_tree.specs.Tree.{Declarations}
-use Rattle.bk_ocode.specs.Access.{number_in}
-use Rattle.bk_ocode.specs.OcodeState.{State, Goes}
-use Rattle.bk_ocode.specs.OcodeRun.{Program, run}
-use Rattle.bk_ocode.specs.ProgramStart.{first_state}
-use Rattle.bk_meaning.specs.Values.{Value, procedure}
-use Rattle.bk_meaning.specs.World.{World, Outcome, gives, undefined, going, each_way, calling, calls_back}
+use Rattle.bk_simulation.proofs.Words.{◌≡◌, ℕ, zero, suc, ◌+◌, ◌*◌, ◌≤◌, nat_lt, true, false, List, [], Option, Some, None, refl, sym, ap, ◌∙◌, subst, arith,
+  ◌⊎◌, ⊎_elim, inl, inr, FRAME_WORDS, option_map, Declarations, number_in, State, Goes, Program, run, first_state, Value, procedure, World, Outcome, gives,
+  undefined, going, each_way, calling, calls_back, Procedure, program_of, procedure_of, first_memory, Meanings, enter, Going, Undefined, means, meaning,
+  started, run_of, first_world, IsWellPlaced}
 use Rattle.bk_meaning.specs.Lasting as lasting
-use Rattle.bk_meaning.specs.Lasting.{Procedure, program_of, procedure_of, first_memory}
-use Rattle.bk_meaning.specs.Parts.{Meanings}
-use Rattle.bk_meaning.specs.Calls.{enter}
-use Rattle.bk_meaning.specs.Program.{Going, Undefined, means, meaning, started, run_of, first_world}
 use Rattle.bk_meaning.proofs.MeaningSpending.{cut_only_without_turns}
-use Rattle.bk_ocode.specs.WellPlaced.{IsWellPlaced}
 use Rattle.bk_simulation.specs.GoingOn.{settled}
 use Rattle.bk_simulation.specs.Simulation.{Begin, RunsOut, StillGoes, RunsOutOnTheWay, IsWithoutEnd, StepsDoWhatSourcesMean, StepsGoOnWithTheirSource, StartsWithTheirSource}
 use Rattle.bk_simulation.proofs.Laid.{Setting}
