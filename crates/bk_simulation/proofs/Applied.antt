@@ -18,13 +18,12 @@ use Rattle.bk_simulation.proofs.WrittenCells.{below_like, settle_like}
 use Rattle.bk_simulation.proofs.BytesKept.{moves_bytes}
 use Rattle.bk_simulation.proofs.Weights.{turns_of, turns_among}
 use Rattle.bk_simulation.proofs.Laid.{Setting, CallAt, IsValue, AreValues, count}
-use Rattle.bk_simulation.proofs.Frame.{Sit, start, FewFrames, Ready, Account, one, comes_on, Ran, went, each_way_ran, with_ran, ArrivedAt, there, Out, next, ready_next}
+use Rattle.bk_simulation.proofs.Frame.{Sit, start, FewFrames, Ready, Account, one, comes_on, Ran, went, each_way_ran, with_ran, ArrivedAt, there, Out, next, ready_next, by_option}
 use Rattle.bk_simulation.proofs.Compose.{stay, roomy, arrived_step, arrived_on, ran_on}
 use Rattle.bk_simulation.proofs.Simulates.{Simulates, for_values}
 use Rattle.bk_simulation.proofs.Operators.{value_run}
 use Rattle.bk_simulation.proofs.NewFrames.{called_cells, called_like, called_argument, called_frame, called_back, called_links}
-use Rattle.bk_simulation.proofs.Calls.{Calling, AnyExit, AloneRuns, body_after, Procedures, call_stmt, Gave, Listed, values_run}
-use Rattle.bk_simulation.proofs.EnteredCalls.{call_run, entered_runs}
+use Rattle.bk_simulation.proofs.Calls.{Calling, AnyExit, AloneRuns, body_after, Procedures, call_stmt, Gave, Listed, values_run, call_run, entered_runs}
 use Rattle.bk_simulation.proofs.LibraryCalls.{named_there, library_runs}
 
 -- the history of the scope of one command
@@ -122,11 +121,10 @@ call_after p m grows alone_after v vs w =
 called_runs : (of : Bool) (g : Setting) (p : Program) (m : Meanings) → Procedures g p → KnowsLibrary g → Simulates g m → AloneRuns g m → AloneAdds m → (s : State) (A B : Account) (z : Sit) (rest : List Stmt) (w w1 : World)
     (vs : List Value) (v : Value) → A.most + 4 ≤ B.most → B.least ≤ A.least → z.depth ≤ FRAME_WORDS → Ready g z w → CallAt g z.scene (call_stmt of z.depth) rest → Calling of g s A z rest w vs v w1
     → Ran g s B (λ v w3. Gave of g s B z rest w v (calls_back w1.calls w3)) AnyExit (called p m v vs (calling w1))
-called_runs of g p m procs known sim alone_runs alone_after s A B z rest w w1 vs (procedure k) le le' led r call ca = by_procedure (procedure_of p k) refl
-  where
-    by_procedure : (f : Option Procedure) → procedure_of p k ≡ f → Ran g s B (λ v w3. Gave of g s B z rest w v (calls_back w1.calls w3)) AnyExit (enter m f vs (calling w1))
-    by_procedure None e = went tt
-    by_procedure (Some f) e = entered_runs of g m sim alone_runs alone_after k f (procs.each k f e) s A B z rest w w1 vs le le' led r call ca
+called_runs of g p m procs known sim alone_runs alone_after s A B z rest w w1 vs (procedure k) le le' led r call ca =
+    by_option (λ f. Ran g s B (λ v w3. Gave of g s B z rest w v (calls_back w1.calls w3)) AnyExit (enter m f vs (calling w1)))
+    (procedure_of p k) (λ _. went tt) (λ f e.
+    entered_runs of g m sim alone_runs alone_after k f (procs.each k f e) s A B z rest w w1 vs le le' led r call ca)
 called_runs of g p m procs known sim alone_runs alone_after s A B z rest w w1 vs (routine r) le le' led ready call ca = routine_runs of g r s A B z rest w w1 vs le le' led ready call (known r) ca
 called_runs of g p m procs known sim alone_runs alone_after s A B z rest w w1 vs _ le le' led r call ca = went tt
 

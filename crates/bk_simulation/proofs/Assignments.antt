@@ -14,7 +14,7 @@ use Rattle.bk_simulation.proofs.Memory.{BaseOf, Like, Stands, Store, Moved, Fits
 use Rattle.bk_simulation.proofs.WrittenCells.{below_like, variable_found, put, write_here, write_at}
 use Rattle.bk_simulation.proofs.Weights.{turns_of, turns_among}
 use Rattle.bk_simulation.proofs.Laid.{Setting, Stretch, ByTurns, AreFrom, AreStores, IsStore, named_word, IsValue}
-use Rattle.bk_simulation.proofs.Frame.{Sit, store, state, start, place_of, Ready, Account, further, went, with_ran, ArrivedAt, store_at, there, Has, next, ready_next, NameAt, Ran, Out}
+use Rattle.bk_simulation.proofs.Frame.{Sit, store, state, start, place_of, Ready, Account, further, went, with_ran, ArrivedAt, store_at, there, Has, next, ready_next, NameAt, Ran, Out, by_option}
 use Rattle.bk_simulation.proofs.Compose.{stay, stepped, arrived_more, arrived_on, ran_on, comes_to, ran_more, above}
 use Rattle.bk_simulation.proofs.Simulates.{Simulates, for_value, Destined, word, through, byte, RanDid, HasAddress}
 use Rattle.bk_simulation.proofs.Operators.{one_run, dyadic_topped, Two, for_two, two_run, pushes_item, named_at}
@@ -79,13 +79,10 @@ contents_store g m sim B e z c rest w le le' l r =
 sum_run : (g : Setting) (s : State) (A B : Account) (z : Sit) (rest : List Stmt) (w w1 : World) (u v : Value) (L : Target → World → Type 0) → A.most + 1 ≤ B.most → B.least ≤ A.least → 2 ≤ z.depth
     → ((a : Value) → Has g s B z rest (z.depth + 1) w a w1 → L (at a) w1)
     → Two g s A z (Dyadic two.Add ∷ rest) w u v w1 → Ran g s B L (Out g s B z w) (with (given (sum w1.memory u v) w1) (λ a w. gives (at a) w))
-sum_run g s A B z rest w w1 u v L le le' dp gain t = by_sum (sum w1.memory u v) refl
-  where
-    by_sum : (y : Option Value) → sum w1.memory u v ≡ y → Ran g s B L (Out g s B z w) (with (given y w1) (λ a w. gives (at a) w))
-    by_sum None h = went tt
-    by_sum (Some a) h =
-        let p = sum_applied g.codes t.arr.bases1 t.arr.cells1 (z.frame + z.depth) w1 t.arr.fits u v a _ _ t.first t.second h in
-        went (gain a (dyadic_topped g s A B z two.Add rest w w1 u v a p.left p.right p.result le le' dp t p.is_left p.is_right p.applies p.stands))
+sum_run g s A B z rest w w1 u v L le le' dp gain t =
+    by_option (λ y. Ran g s B L (Out g s B z w) (with (given y w1) (λ a w. gives (at a) w))) (sum w1.memory u v) (λ _. went tt) (λ a h.
+    let p = sum_applied g.codes t.arr.bases1 t.arr.cells1 (z.frame + z.depth) w1 t.arr.fits u v a _ _ t.first t.second h in
+    went (gain a (dyadic_topped g s A B z two.Add rest w w1 u v a p.left p.right p.result le le' dp t p.is_left p.is_right p.applies p.stands)))
 
 sum_adds : (u v : Value) → Adds (λ w. with (given (sum w.memory u v) w) (λ a w. gives (at a) w))
 sum_adds u v =
@@ -144,64 +141,55 @@ place_is own k c cells frame hand written w _ = refl
 pub word_stored : (g : Setting) (s : State) (A B : Account) (z : Sit) (rest : List Stmt) (w w2 : World) (v : Named) (o i b : ℕ) (u : Value) → A.most + 1 ≤ B.most → B.least ≤ A.least → Ready g z w
     → (a : ArrivedAt g s A z (Assign v ∷ rest) (z.depth + 1) w w2) → BaseOf a.bases1 o b → b + i ≡ place_of z.scene.own z.frame v → Stands g.codes a.bases1 u (content_of (a.cells1 (z.frame + z.depth)))
     → RanDid g s B z rest w (put_value (at (address o i)) u w2)
-word_stored g s A B z rest w w2 v o i b u le le' r a eb ep st = by_memory (memory.write w2.memory (address o i) u) refl
-  where
-    by_memory : (y : Option Memory) → memory.write w2.memory (address o i) u ≡ y → RanDid g s B z rest w (changes y w2)
-    by_memory None e = went tt
-    by_memory (Some mem1) e =
-        let here = there g s A z (Assign v ∷ rest) (z.depth + 1) w w2 a in
-        let y = content_of (a.cells1 (z.frame + z.depth)) in
-        let q = write_here g.codes (record { bases = a.bases1; mem = w2.memory; cells = a.cells1 }) (z.frame + z.depth) o i b (holds u) mem1 a.fits eb e in
-        let same : named_place here z.scene.own v ≡ b + i = place_is z.scene.own (z.depth + 1) (Assign v ∷ rest) a.cells1 z.frame a.hand1 a.written1 w2 v ∙ sym ep in
-        let is : a.cells1 (named_place here z.scene.own v) ≡ Held Variable q.content = ap a.cells1 same ∙ q.there in
-        let move = assign_moves g.program here z.scene.own rest z.depth v refl (held_variable v (a.cells1 (named_place here z.scene.own v)) q.content is) in
-        let move2 = subst (λ p. Moves g.program here (state z.scene.own z.depth rest (below (z.frame + z.depth) (write a.cells1 p (Held Variable y))) z.frame None (p ∷ a.written1) w2)) same
-        (subst (λ k. Moves g.program here (state z.scene.own z.depth rest (below (z.frame + z.depth) (write a.cells1 (named_place here z.scene.own v) (Held k y))) z.frame None (named_place here z.scene.own v ∷ a.written1) w2)) (ap kind_of is) move) in
-        went (arrived_more le le'
-        (stored_on g s A z (Assign v ∷ rest) rest (z.depth + 1) w w2 mem1 (b + i) y ((b + i) ∷ a.written1) r a (q.fits y st) (q.moved y (z.frame + z.depth)) move2))
+word_stored g s A B z rest w w2 v o i b u le le' r a eb ep st =
+    by_option (λ y. RanDid g s B z rest w (changes y w2)) (memory.write w2.memory (address o i) u) (λ _. went tt) (λ mem1 e.
+    let here = there g s A z (Assign v ∷ rest) (z.depth + 1) w w2 a in
+    let y = content_of (a.cells1 (z.frame + z.depth)) in
+    let q = write_here g.codes (record { bases = a.bases1; mem = w2.memory; cells = a.cells1 }) (z.frame + z.depth) o i b (holds u) mem1 a.fits eb e in
+    let same : named_place here z.scene.own v ≡ b + i = place_is z.scene.own (z.depth + 1) (Assign v ∷ rest) a.cells1 z.frame a.hand1 a.written1 w2 v ∙ sym ep in
+    let is : a.cells1 (named_place here z.scene.own v) ≡ Held Variable q.content = ap a.cells1 same ∙ q.there in
+    let move = assign_moves g.program here z.scene.own rest z.depth v refl (held_variable v (a.cells1 (named_place here z.scene.own v)) q.content is) in
+    let move2 = subst (λ p. Moves g.program here (state z.scene.own z.depth rest (below (z.frame + z.depth) (write a.cells1 p (Held Variable y))) z.frame None (p ∷ a.written1) w2)) same
+    (subst (λ k. Moves g.program here (state z.scene.own z.depth rest (below (z.frame + z.depth) (write a.cells1 (named_place here z.scene.own v) (Held k y))) z.frame None (named_place here z.scene.own v ∷ a.written1) w2)) (ap kind_of is) move) in
+    went (arrived_more le le'
+    (stored_on g s A z (Assign v ∷ rest) rest (z.depth + 1) w w2 mem1 (b + i) y ((b + i) ∷ a.written1) r a (q.fits y st) (q.moved y (z.frame + z.depth)) move2)))
 
 -- STIND
 through_stored : (g : Setting) (s : State) (A B : Account) (z : Sit) (rest : List Stmt) (w w2 : World) (p u : Value) → A.most + 1 ≤ B.most → B.least ≤ A.least → Ready g z w
     → (a : ArrivedAt g s A z (AssignAt ∷ rest) (z.depth + 1 + 1) w w2) → Stands g.codes a.bases1 p (content_of (a.cells1 (z.frame + (z.depth + 1)))) → Stands g.codes a.bases1 u (content_of (a.cells1 (z.frame + z.depth)))
     → RanDid g s B z rest w (put_value (at p) u w2)
-through_stored g s A B z rest w w2 p u le le' r a sp su = by_memory (memory.write w2.memory p u) refl
-  where
-    by_memory : (y : Option Memory) → memory.write w2.memory p u ≡ y → RanDid g s B z rest w (changes y w2)
-    by_memory None e = went tt
-    by_memory (Some mem1) e =
-        let here = there g s A z (AssignAt ∷ rest) (z.depth + 1 + 1) w w2 a in
-        let y = content_of (a.cells1 (z.frame + z.depth)) in
-        let q = write_at g.codes (record { bases = a.bases1; mem = w2.memory; cells = a.cells1 }) (z.frame + z.depth) p _ (holds u) mem1 a.fits sp e in
-        let low : q.base + q.offset < z.frame + z.depth = q.cell.low in
-        let move = assign_at_moves g.program here z.scene.own rest z.depth (q.base + q.offset) q.cell.content (ap (λ k. Inside z.scene.own k (AssignAt ∷ rest)) (omega arith)) q.word
-        (variable_found (z.frame + (z.depth + 2)) (q.base + q.offset) a.cells1 q.cell.content (omega arith) q.cell.there) in
-        went (arrived_more le le'
-        (stored_on g s A z (AssignAt ∷ rest) rest (z.depth + 1 + 1) w w2 mem1 (q.base + q.offset) y ((q.base + q.offset) ∷ a.written1) r a (q.cell.fits y su) (q.cell.moved y (z.frame + z.depth)) move))
+through_stored g s A B z rest w w2 p u le le' r a sp su =
+    by_option (λ y. RanDid g s B z rest w (changes y w2)) (memory.write w2.memory p u) (λ _. went tt) (λ mem1 e.
+    let here = there g s A z (AssignAt ∷ rest) (z.depth + 1 + 1) w w2 a in
+    let y = content_of (a.cells1 (z.frame + z.depth)) in
+    let q = write_at g.codes (record { bases = a.bases1; mem = w2.memory; cells = a.cells1 }) (z.frame + z.depth) p _ (holds u) mem1 a.fits sp e in
+    let low : q.base + q.offset < z.frame + z.depth = q.cell.low in
+    let move = assign_at_moves g.program here z.scene.own rest z.depth (q.base + q.offset) q.cell.content (ap (λ k. Inside z.scene.own k (AssignAt ∷ rest)) (omega arith)) q.word
+    (variable_found (z.frame + (z.depth + 2)) (q.base + q.offset) a.cells1 q.cell.content (omega arith) q.cell.there) in
+    went (arrived_more le le'
+    (stored_on g s A z (AssignAt ∷ rest) rest (z.depth + 1 + 1) w w2 mem1 (q.base + q.offset) y ((q.base + q.offset) ∷ a.written1) r a (q.cell.fits y su) (q.cell.moved y (z.frame + z.depth)) move)))
 
 -- PUTBYTE
 byte_stored : (g : Setting) (s : State) (A B : Account) (z : Sit) (rest : List Stmt) (w w2 : World) (p k u : Value) → A.most + 1 ≤ B.most → B.least ≤ A.least → Ready g z w
     → (a : ArrivedAt g s A z (AssignByte ∷ rest) (z.depth + 1 + 1 + 1) w w2) → Stands g.codes a.bases1 p (content_of (a.cells1 (z.frame + (z.depth + 1)))) → Stands g.codes a.bases1 k (content_of (a.cells1 (z.frame + (z.depth + 1 + 1))))
     → Stands g.codes a.bases1 u (content_of (a.cells1 (z.frame + z.depth))) → RanDid g s B z rest w (put_value (byte_at p k) u w2)
-byte_stored g s A B z rest w w2 p k u le le' r a sp sk su = by_memory (write_byte w2.memory p k u) refl
+byte_stored g s A B z rest w w2 p k u le le' r a sp sk su =
+    by_option (λ y. RanDid g s B z rest w (changes y w2)) (write_byte w2.memory p k u) (λ _. went tt) (λ mem1 e.
+    let here = there g s A z (AssignByte ∷ rest) (z.depth + 1 + 1 + 1) w w2 a in
+    let high = fits_more g.codes _ (z.frame + z.depth) (z.frame + (z.depth + 3)) (omega arith) a.fits in
+    let are : (x : ℕ) (c : Content) → a.cells1 x ≡ Held Variable c → AreBytes c = λ x c ec. subst AreBytes (ap content_of ec) (a.bytes.words x) in
+    let q = write_byte_at g.codes (record { bases = a.bases1; mem = w2.memory; cells = a.cells1 }) (z.frame + (z.depth + 3)) p k u _ _ _ mem1 are high sp sk su e in
+    let m1 = q.moved (z.frame + z.depth) in
+    let move = assign_byte_moves g.program here z.scene.own rest z.depth q.byte q.word q.index q.content (ap (λ k. Inside z.scene.own k (AssignByte ∷ rest)) (three_deep z.depth)) q.is_byte q.is_word
+    (ap (λ d. content_of (a.cells1 (z.frame + d))) (sym (two_deep z.depth)) ∙ q.is_index) q.sets in
+    went (arrived_more le le'
+    (stored_on g s A z (AssignByte ∷ rest) rest (z.depth + 1 + 1 + 1) w w2 mem1 (word_sum q.word (byte_distance q.index)) q.content ((word_sum q.word (byte_distance q.index)) ∷ a.written1) r a (fits_less g.codes (record { bases = a.bases1; mem = w2.memory; cells = a.cells1 }) _ (z.frame + z.depth) (z.frame + (z.depth + 3)) a.fits m1 q.fits) (q.moved (z.frame + z.depth)) move)))
   where
     three_deep : (d : ℕ) → d + 1 + 1 + 1 ≡ d + 3
     three_deep d = omega arith
 
     two_deep : (d : ℕ) → d + 1 + 1 ≡ d + 2
     two_deep d = omega arith
-
-    by_memory : (y : Option Memory) → write_byte w2.memory p k u ≡ y → RanDid g s B z rest w (changes y w2)
-    by_memory None e = went tt
-    by_memory (Some mem1) e =
-        let here = there g s A z (AssignByte ∷ rest) (z.depth + 1 + 1 + 1) w w2 a in
-        let high = fits_more g.codes _ (z.frame + z.depth) (z.frame + (z.depth + 3)) (omega arith) a.fits in
-        let are : (x : ℕ) (c : Content) → a.cells1 x ≡ Held Variable c → AreBytes c = λ x c ec. subst AreBytes (ap content_of ec) (a.bytes.words x) in
-        let q = write_byte_at g.codes (record { bases = a.bases1; mem = w2.memory; cells = a.cells1 }) (z.frame + (z.depth + 3)) p k u _ _ _ mem1 are high sp sk su e in
-        let m1 = q.moved (z.frame + z.depth) in
-        let move = assign_byte_moves g.program here z.scene.own rest z.depth q.byte q.word q.index q.content (ap (λ k. Inside z.scene.own k (AssignByte ∷ rest)) (three_deep z.depth)) q.is_byte q.is_word
-        (ap (λ d. content_of (a.cells1 (z.frame + d))) (sym (two_deep z.depth)) ∙ q.is_index) q.sets in
-        went (arrived_more le le'
-        (stored_on g s A z (AssignByte ∷ rest) rest (z.depth + 1 + 1 + 1) w w2 mem1 (word_sum q.word (byte_distance q.index)) q.content ((word_sum q.word (byte_distance q.index)) ∷ a.written1) r a (fits_less g.codes (record { bases = a.bases1; mem = w2.memory; cells = a.cells1 }) _ (z.frame + z.depth) (z.frame + (z.depth + 3)) a.fits m1 q.fits) (q.moved (z.frame + z.depth)) move))
 
 -- ---- several, one after another
 abbrev pub for_assigned : Expressions → Expressions → World → Account

@@ -15,7 +15,7 @@ use Rattle.bk_simulation.proofs.Compose.{begun, accounted, arrived_more, OpenExi
 use Rattle.bk_simulation.proofs.MadeObjects.{Since, since_refl, since_cells}
 use Rattle.bk_simulation.proofs.ControlSteps.{closes}
 use Rattle.bk_simulation.proofs.Simulates.{Simulates, RanDid}
-use Rattle.bk_simulation.proofs.Scopes.{scope_runs}
+use Rattle.bk_simulation.proofs.Loops.{scope_runs}
 use Rattle.bk_simulation.proofs.Lets.{open_lift, Lets, defined_rise, no_spots, let_run, let_values_after, SpotsAt, RisingSpots, AreVariables, spots_carried, bind_run}
 use Rattle.bk_simulation.proofs.Renamed.{keeps_both}
 

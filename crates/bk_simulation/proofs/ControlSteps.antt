@@ -8,7 +8,7 @@ use Rattle.bk_simulation.proofs.Memory.{Like, like_on, Stands, Store, Moved}
 use Rattle.bk_simulation.proofs.WrittenCells.{below_like, settle_like}
 use Rattle.bk_simulation.proofs.OperatorWords.{judged_word}
 use Rattle.bk_simulation.proofs.Laid.{Setting, Scene, LabelAt}
-use Rattle.bk_simulation.proofs.Frame.{Sit, state, Ready, Account, paying, Ran, went, Arrived, ArrivedAt, OpenArrived, there, Has, GoesTo, Exited, Out, still}
+use Rattle.bk_simulation.proofs.Frame.{Sit, state, Ready, Account, paying, Ran, went, Arrived, ArrivedAt, OpenArrived, there, Has, GoesTo, Exited, Out, still, by_option}
 use Rattle.bk_simulation.proofs.Compose.{accounted, stepped, links_below, arrived_more, arrived_paid, topped, closed_arrival}
 use Rattle.bk_simulation.proofs.Simulates.{where_to, HasTruth}
 
@@ -84,7 +84,10 @@ pub tested : {g : Setting} {s : State} {A B : Account} {z : Sit} {u : Bool} {n :
     → B.least ≤ A.least → Ready g z w
     → from_label z.scene.own.stmts n ≡ Some to → Has g s A z (JumpIf u n ∷ rest) (z.depth + 1) w v w1 → Ran g s B (HasTruth g s B z u to rest w) (Out g s B z w)
     (judged v w1)
-tested {g} {s} {A} {B} {z} {u} {n} {to} {rest} {w} {w1} {v} le le' r e a = by_truth (truth_of_value w1.memory v) refl
+tested {g} {s} {A} {B} {z} {u} {n} {to} {rest} {w} {w1} {v} le le' r e a =
+    by_option (λ y. Ran g s B (HasTruth g s B z u to rest w) (Out g s B z w) (given y w1)) (truth_of_value w1.memory v) (λ _. went tt) (λ t h.
+    let j = judged_word g.codes a.arr.bases1 a.arr.cells1 (z.frame + z.depth) w1 a.arr.fits v _ t a.stands h in
+    went (lands u t j.word refl j.is_word j.zero_if))
   where
     here : State
     here = there g s A z (JumpIf u n ∷ rest) (z.depth + 1) w w1 a.arr
@@ -100,12 +103,6 @@ tested {g} {s} {A} {B} {z} {u} {n} {to} {rest} {w} {w1} {v} le le' r e a = by_tr
     lands true false x eu ew et = goes rest (passed_moves g.program here z.scene.own rest z.depth n x u refl ew (et ∙ eu))
     lands false true x eu ew et = goes rest (passed_moves g.program here z.scene.own rest z.depth n x u refl ew (et ∙ eu))
     lands _ _ x eu ew et = goes to (taken_moves g.program here z.scene.own rest z.depth n x u to refl ew (et ∙ ap not eu) e)
-
-    by_truth : (y : Option Bool) → truth_of_value w1.memory v ≡ y → Ran g s B (HasTruth g s B z u to rest w) (Out g s B z w) (given y w1)
-    by_truth None h = went tt
-    by_truth (Some t) h =
-        let j = judged_word g.codes a.arr.bases1 a.arr.cells1 (z.frame + z.depth) w1 a.arr.fits v _ t a.stands h in
-        went (lands u t j.word refl j.is_word j.zero_if)
 
 -- a result is given
 abbrev pub result_on : {g : Setting} {s : State} {A : Account} {z : Sit} {n : ℕ} {to rest : List Stmt} {w w1 : World} {v : Value} → Ready g z w

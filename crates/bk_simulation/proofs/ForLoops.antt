@@ -17,14 +17,13 @@ use Rattle.bk_simulation.proofs.WrittenCells.{below_at, below_like, settle_like,
 use Rattle.bk_simulation.proofs.MadeObjects.{make, make_fits, Since, since_refl, since_on, since_cells, since_made, grown_made, lying, since_moved, get_new}
 use Rattle.bk_simulation.proofs.Weights.{turns_of, turns_in, turns_through}
 use Rattle.bk_simulation.proofs.Laid.{Setting, Scene, in_loop, place_of, IsWord, IsAlone, KeepsLabels, IsLabelHere, LabelAt, IsAct, IsForLoop, behind_body, NameAt}
-use Rattle.bk_simulation.proofs.Frame.{some_objects, Sit, store, state, start, named_grown, Ready, Account, further, went, ran_from, ArrivedAt, OpenArrived, there, next, ready_next, each_way_ran, with_ran, so, Out, Has}
+use Rattle.bk_simulation.proofs.Frame.{some_objects, Sit, store, state, start, named_grown, Ready, Account, further, went, ran_from, ArrivedAt, OpenArrived, there, next, ready_next, each_way_ran, with_ran, so, Out, Has, by_option}
 use Rattle.bk_simulation.proofs.Compose.{begun, stay, links_like, with_objects, stepped, behind, arrived_more, comes_to, open_sit, open_ready, open_step, open_on, ran_open, closed_ran, arrived_turn, turn_there, ran_more, outside, arrived_on, topped, above}
 use Rattle.bk_simulation.proofs.Simulates.{Simulates, Limit, where_to, RanDid, for_scope, for_counts}
 use Rattle.bk_simulation.proofs.ControlSteps.{label_on, landed_on, closes, caught_at, tested}
 use Rattle.bk_simulation.proofs.Orders.{by_test}
 use Rattle.bk_simulation.proofs.NamesBound.{bound_named}
-use Rattle.bk_simulation.proofs.Scopes.{scope_runs, around_ready}
-use Rattle.bk_simulation.proofs.Loops.{looping}
+use Rattle.bk_simulation.proofs.Loops.{scope_runs, around_ready, looping}
 use Rattle.bk_tree.specs.declared.tree.Operator.TheVariants as op
 use Rattle.bk_ocode.specs.declared.stmt.Dyadic.TheVariants as two
 use Rattle.bk_meaning.specs.Memory as memory
@@ -50,14 +49,11 @@ slot_run g s A B z q rest w w1 v le le' dp a st =
 
 variable_run : (g : Setting) (s : State) (A B : Account) (z : Sit) (d o : ℕ) (rest : List Stmt) (w w1 : World) → A.most + 1 ≤ B.most → B.least ≤ A.least → 2 ≤ z.depth → BaseOf z.bases o (z.frame + d) → ArrivedAt g s A z (Load (Local d) ∷ rest) z.depth w w1
     → RanValue g s B z rest w (fetch (address o 0) w1)
-variable_run g s A B z d o rest w w1 le le' dp eb a = by_read (read w1.memory (address o 0)) refl
-  where
-    by_read : (y : Option Value) → read w1.memory (address o 0) ≡ y → RanValue g s B z rest w (given y w1)
-    by_read None e = went tt
-    by_read (Some v) e =
-        let f = read_here g.codes _ (z.frame + z.depth) o 0 (z.frame + d) v a.fits (a.moved.grown.each o (z.frame + d) eb) e in
-        let zero : z.frame + d + 0 ≡ z.frame + d = omega arith in
-        went (slot_run g s A B z d rest w w1 v le le' dp a (subst (λ y. Stands g.codes a.bases1 v (content_of (a.cells1 y))) zero (subst (λ y. Stands g.codes a.bases1 v y) (sym (ap content_of f.there)) f.stands)))
+variable_run g s A B z d o rest w w1 le le' dp eb a =
+    by_option (λ y. RanValue g s B z rest w (given y w1)) (read w1.memory (address o 0)) (λ _. went tt) (λ v e.
+    let f = read_here g.codes _ (z.frame + z.depth) o 0 (z.frame + d) v a.fits (a.moved.grown.each o (z.frame + d) eb) e in
+    let zero : z.frame + d + 0 ≡ z.frame + d = omega arith in
+    went (slot_run g s A B z d rest w w1 v le le' dp a (subst (λ y. Stands g.codes a.bases1 v (content_of (a.cells1 y))) zero (subst (λ y. Stands g.codes a.bases1 v y) (sym (ap content_of f.there)) f.stands))))
 
 -- a second item
 second_item : (g : Setting) (s : State) (A B : Account) (z : Sit) (i : Stmt) (rest : List Stmt) (w w1 : World) (u v : Value) → A.most + 1 ≤ B.most → B.least ≤ A.least → Ready g z w → (a : Has g s A z (i ∷ rest) (z.depth + 1) w u w1)

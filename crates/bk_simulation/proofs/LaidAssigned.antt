@@ -1,19 +1,268 @@
--- An assignment is laid where the scheme puts it: its values, and where they are stored, by turns.
-use Rattle.bk_simulation.proofs.Words.{◌≡◌, ℕ, ◌+◌, ◌≤◌, false, List, [], ◌∷◌, ◌++◌, refl, arith, FRAME_WORDS, line_of, size, Expression, Expressions, Action,
-  Actions, Declaration, Declarations, Definition, Definitions, Starts, Place, Destination, deeper, SoundEach, SoundDestinations, Spot, Stmt, labels, labels_at,
-  term_named, terms_named, lvalue_named, lvalues_named, parts, parts_at, parts_onto, parts_from, value_code, store_code, value_codes, store_codes, by_turns,
-  objects, objects_of_each, of_expression}
+-- What the static side of commands needs: which exits there are, where labels, CASEs and DEFAULTs are found, and scopes. An assignment is laid where the
+-- scheme puts it: its values, and where they are stored, by turns.
+use Rattle.bk_simulation.proofs.Words.{◌≡◌, ℕ, suc, ◌+◌, ◌<◌, ◌≤◌, ◌^◌, ◌==◌, Bool, true, false, ◌||◌, List, [], ◌∷◌, ◌++◌, length, Option, Some, None, cond,
+  refl, sym, ap, ◌∙◌, subst, arith, append_assoc, append-nil, drop, if◌then◌else◌, eqb-true, eq-eqb, ne_eqb, false≢true, bytes_eq-Decides, bytes_eq, signed,
+  Expressions, Action, Actions, Place, Binding, bound_in, bind, labels_of, labels_of_each, labels_in_scope, GoesTo, Placed, from_label, case_label, Case, Stmt,
+  Label, label_has_one_place, Goal, Target, Command, Commands, meant, worth, target_of_label, goal_in, cases, cases_through, default_in, default_through,
+  first_of, label_or, Named, Sense, label, bind_each, labelled, objects_of_each, objects_of_action, objects_of_actions, Sought, the_label, the_case,
+  the_default, same_place, stands_in, stands_in_one, alone, AllFound, of_each, of_action, of_actions, in_scope, FRAME_WORDS, line_of, size, Expression,
+  Declaration, Declarations, Definition, Definitions, Starts, Destination, deeper, SoundEach, SoundDestinations, Spot, labels, labels_at, term_named,
+  terms_named, lvalue_named, lvalues_named, parts, parts_at, parts_onto, parts_from, value_code, store_code, value_codes, store_codes, by_turns, objects,
+  of_expression}
+use Rattle.bk_simulation.proofs.Weights.{turns_in, weight_among}
+use Rattle.bk_simulation.proofs.Operators.{same_number}
+use Rattle.bk_simulation.proofs.Sought.{with_names, label_stands}
+use Rattle.bk_simulation.proofs.Laid.{Scene, in_loop, in_switch, owning, Stretch, ByTurns, AreFrom, AreStores, AreActs, IsAct, IsAlone, pushes, IsCode, IsStore}
+use Rattle.bk_simulation.proofs.NamesBound.{labels_named}
+use Rattle.bk_simulation.proofs.NamesAgree.{Agree, agree_bound}
+use Rattle.bk_simulation.proofs.LastingKinds.{Kind, kinds_in, kinds_through, kinds, kinds_each, kinds_at, kinds_onto}
+use Rattle.bk_simulation.proofs.Standing.{there_in, bases_inside, bases_of, StandsAt, first_of as first_at, home, Bases, bases_so, Lies, written, no_bases,
+  both_bases}
+use Rattle.bk_simulation.proofs.LaidExpressions.{HasWords, Around, known, InNames, FoundParts, found_front, found_back, around_deeper, joined_three}
+use Rattle.bk_simulation.specs.Regular.{RegularEach}
+use Rattle.bk_simulation.proofs.LaidValues.{ValofsLie, laid_code, laid_store}
+use Rattle.bk_scope.specs.declared.bound.Bound.TheVariants as b
+use Rattle.bk_scope.specs.Places as place
 use Rattle.bk_tree.specs.Tree as t
 use Rattle.bk_scope.specs.Spots as spot
-use Rattle.bk_simulation.specs.Regular.{RegularEach}
-use Rattle.bk_simulation.proofs.Weights.{weight_among}
-use Rattle.bk_simulation.proofs.Sought.{with_names}
-use Rattle.bk_simulation.proofs.Laid.{Scene, pushes, IsCode, IsStore}
-use Rattle.bk_simulation.proofs.LastingKinds.{kinds, kinds_each, kinds_at, kinds_onto}
-use Rattle.bk_simulation.proofs.Standing.{StandsAt, written, home, no_bases, both_bases, bases_so, Lies}
-use Rattle.bk_simulation.proofs.LaidCommands.{Turns}
-use Rattle.bk_simulation.proofs.LaidExpressions.{FoundParts, found_front, found_back, Around, around_deeper, InNames, joined_three}
-use Rattle.bk_simulation.proofs.LaidValues.{ValofsLie, laid_code, laid_store}
+
+-- What stands around a command: an expression's, and the exits that there are.
+pub record Doing (sc : Scene) (p : Place) (d : ℕ) : Type 0 where
+  pub around : Around sc p d
+  pub loop : p.in_loop ≡ true → sc.exits.loop ≡ true
+  pub switch : p.in_switch ≡ true → sc.exits.switch ≡ true
+  pub valof : p.in_valof ≡ true → (to : List Stmt) × (from_label sc.own.stmts sc.around.valof ≡ Some to)
+
+-- a GOTO of this name leads here
+abbrev pub Leads : Placed → List Target → List Binding → ℕ → List ℕ → List Stmt → Type 0
+Leads own ts bs d x to = (from_label own.stmts (goal_in ts (meant (bound_in bs x))).label ≡ Some to) × ((goal_in ts (meant (bound_in bs x))).depth ≡ d)
+
+-- Where places are found that may be sought: labels, and CASEs and DEFAULT of the SWITCHON around.
+pub record Findable (own : Placed) (ts : List Target) (bs : List Binding) (d : ℕ) (stands : Sought → Bool) (cs : List Case) (other : Option ℕ) (at : Sought → List Stmt) : Type 0 where
+  pub labels : (x : List ℕ) → stands (the_label x) ≡ true → Leads own ts bs d x (at (the_label x))
+  pub chosen : (v : ℕ) (more : List Case) (l : ℕ) → stands (the_case (Some v)) ≡ true → from_label own.stmts (case_label (cs ++ more) l v) ≡ Some (at (the_case (Some v)))
+  pub others : (v : ℕ) (more : List Case) (l : ℕ) → stands (the_case (Some v)) ≡ false → case_label (cs ++ more) l v ≡ case_label more l v
+  pub default : stands the_default ≡ true → (l : ℕ) × (other ≡ Some l) × (from_label own.stmts l ≡ Some (at the_default))
+  pub no_default : stands the_default ≡ false → other ≡ None
+
+abbrev pub Finds : Placed → List Target → List Binding → ℕ → Action → ℕ → Command → (Sought → List Stmt) → Type 0
+Finds own ts bs d a n k at = Findable own ts bs d (λ s. stands_in s (known bs) a) (cases n k) (default_in n k) at
+
+abbrev pub FindsEach : Placed → List Target → List Binding → ℕ → Actions → ℕ → Commands → (Sought → List Stmt) → Type 0
+FindsEach own ts bs d a n k at = Findable own ts bs d (λ s. stands_in_one s (known bs) a) (cases_through n k) (default_through n k) at
+
+pub finds_nothing : (own : Placed) (ts : List Target) (bs : List Binding) (d : ℕ) (at : Sought → List Stmt) → Findable own ts bs d (λ s. false) [] None at
+finds_nothing own ts bs d at = record {
+  labels = λ x h. absurd (false≢true h);
+  chosen = λ v more l h. absurd (false≢true h);
+  others = λ v more l h. refl;
+  default = λ h. absurd (false≢true h);
+  no_default = λ h. refl;
+}
+
+-- A command that is laid, and its places.
+pub record Done (pay : ℕ) (sc : Scene) (i : ℕ) (a : Action) (d n : ℕ) (k : Command) (c rest : List Stmt) : Type 0 where
+  pub at : Sought → List Stmt
+  pub lies : Lies (home sc pay) i (objects_of_action a) d rest (kinds_in n k) (λ ns. of_action (with_names ns i) a) (InNames sc.bindings i (λ g env. IsAct g sc d env a at c rest))
+  pub finds : Finds sc.own sc.targets sc.bindings d a n k at
+
+-- commands in order
+pub record DoneEach (pay : ℕ) (sc : Scene) (i : ℕ) (a : Actions) (d n : ℕ) (k : Commands) (c rest : List Stmt) : Type 0 where
+  pub at : Sought → List Stmt
+  pub lies : Lies (home sc pay) i (objects_of_actions a) d rest (kinds_through n k) (λ ns. of_actions (with_names ns i) a) (InNames sc.bindings i (λ g env. AreActs g sc d env a at c rest))
+  pub finds : FindsEach sc.own sc.targets sc.bindings d a n k at
+
+-- values and where they are stored, by turns
+pub record Turns (pay : ℕ) (sc : Scene) (i j : ℕ) (xs es : Expressions) (d : ℕ) (c rest : List Stmt) (stored given : List Kind) : Type 0 where
+  pub vs : List Stretch
+  pub ss : List Stretch
+  pub on : StandsAt sc.own d rest
+  pub from : Bases (home sc pay) j (objects_of_each es) given (λ ns. of_each (with_names ns j) es) (InNames sc.bindings j (λ g env. AreFrom g sc d env es vs))
+  pub stores : Bases (home sc pay) i (objects_of_each xs) stored (λ ns. of_each (with_names ns i) xs) (InNames sc.bindings i (λ g env. AreStores g sc (d + 1) env xs ss))
+  pub turns : ByTurns xs es vs ss c rest
+
+pub doing_loop : (sc : Scene) (p : Place) (d n m e : ℕ) → Doing sc p d → Doing (in_loop n m e sc) (place.looping p) d
+doing_loop sc p d n m e a = record { around = record { same = a.around.same; at = a.around.at; words = a.around.words }; loop = λ h. refl; switch = a.switch; valof = a.valof }
+
+pub doing_switch : (sc : Scene) (p : Place) (d n e m : ℕ) → Doing sc p d → Doing (in_switch n e sc) (place.switching m p) d
+doing_switch sc p d n e m a = record { around = record { same = a.around.same; at = a.around.at; words = a.around.words }; loop = a.loop; switch = λ h. refl; valof = a.valof }
+
+-- ---- labels
+
+drop_more : (xs ys zs : List Stmt) (i : ℕ) → drop i xs ≡ ys ++ zs → drop (i + length ys) xs ≡ zs
+drop_more xs [] zs i e = let h : i + 0 ≡ i = omega arith in ap (λ j. drop j xs) h ∙ e
+drop_more xs (y ∷ ys) zs i e =
+    let f = first_at xs i y (ys ++ zs) e in
+    let h : i + length (y ∷ ys) ≡ suc i + length ys = omega arith in
+    ap (λ j. drop j xs) h ∙ drop_more xs ys zs (suc i) f.behind
+
+-- the LAB of a label further on
+pub label_ahead : (own : Placed) (d l : ℕ) (c front rest : List Stmt) → StandsAt own d c → c ≡ front ++ (Label l ∷ rest) → from_label own.stmts l ≡ Some (Label l ∷ rest)
+label_ahead own d l c front rest st e =
+    let h = drop_more own.stmts front (Label l ∷ rest) st.place (st.behind ∙ e) in
+    let f = first_at own.stmts (st.place + length front) (Label l) rest h in
+    label_has_one_place own.stmts (st.place + length front) l st.are f.at ∙ ap Some h
+
+pub leads_label : (own : Placed) (ts : List Target) (bs : List Binding) (j d n : ℕ) (x : List ℕ) (to : List Stmt) → GoesTo j (bound_in bs x) → AllFound ts (target_of_label n d (meant (bound_in bs x)))
+    → from_label own.stmts n ≡ Some to → Leads own ts bs d x to
+leads_label own ts bs j d n x to g f e =
+    let found : AllFound ts (target_of_label n d (b.Label j g.0)) = subst (λ y. AllFound ts (target_of_label n d (meant y))) g.1 f in
+    let goal_is : goal_in ts (meant (bound_in bs x)) ≡ record { label = n; depth = d } = ap (λ y. goal_in ts (meant y)) g.1 ∙ found.0 in
+    (ap (λ (y : Goal). from_label own.stmts y.label) goal_is ∙ e, ap (λ (y : Goal). y.depth) goal_is)
+
+pub either_leads : (own : Placed) (ts : List Target) (bs : List Binding) (d : ℕ) (x : List ℕ) (q r : Bool) (c to : List Stmt) → (q ≡ true → Leads own ts bs d x c) → (r ≡ true → Leads own ts bs d x to)
+    → (q || r) ≡ true → Leads own ts bs d x (cond q c to)
+either_leads own ts bs d x true r c to f g e = f refl
+either_leads own ts bs d x false r c to f g e = g e
+
+pub same_letters : (x y : List ℕ) → bytes_eq x y ≡ true → x ≡ y
+same_letters x y e = (bytes_eq-Decides x y).0 e
+
+-- ---- CASEs
+
+same_way : (v w : ℕ) → (w == v) ≡ true → (v == w) ≡ true
+same_way v w e = let h : w ≡ v = eqb-true w v e in eq-eqb v w (sym h)
+
+apart_way : (v w : ℕ) → (w == v) ≡ false → (v == w) ≡ false
+apart_way v w e = ne_eqb v w (λ h. absurd (false≢true (sym e ∙ eq-eqb w v (sym h))))
+
+pub first_case : (v w l other : ℕ) (more : List Case) → (w == v) ≡ true → v < 2 ^ 32 → case_label (record { value = signed v; label = l } ∷ more) other w ≡ l
+first_case v w l other more e low = ap (λ y. if y == w then l else case_label more other w) (same_number v low) ∙ ap (λ y. if y then l else case_label more other w) (same_way v w e)
+
+pub later_case : (v w l other : ℕ) (more : List Case) → (w == v) ≡ false → v < 2 ^ 32 → case_label (record { value = signed v; label = l } ∷ more) other w ≡ case_label more other w
+later_case v w l other more e low = ap (λ y. if y == w then l else case_label more other w) (same_number v low) ∙ ap (λ y. if y then l else case_label more other w) (apart_way v w e)
+
+both_false : (q r : Bool) → (q || r) ≡ false → (q ≡ false) × (r ≡ false)
+both_false true r e = absurd (false≢true (sym e))
+both_false false r e = (refl, e)
+
+-- the places of one part and then those of another
+pub finds_both : (own : Placed) (ts : List Target) (bs : List Binding) (d : ℕ) (u1 u2 : Sought → Bool) (cs1 cs2 : List Case) (o1 o2 : Option ℕ) (at1 at2 : Sought → List Stmt) → Findable own ts bs d u1 cs1 o1 at1
+    → Findable own ts bs d u2 cs2 o2 at2 → Findable own ts bs d (λ s. u1 s || u2 s) (cs1 ++ cs2) (first_of o1 o2) (λ s. cond (u1 s) (at1 s) (at2 s))
+finds_both own ts bs d u1 u2 cs1 cs2 o1 o2 at1 at2 a b0 = record {
+  labels = λ x e. either_leads own ts bs d x (u1 (the_label x)) (u2 (the_label x)) (at1 (the_label x)) (at2 (the_label x)) (a.labels x) (b0.labels x) e;
+  chosen = λ v more l e. chosen_in v more l (u1 (the_case (Some v))) refl e;
+  others = λ v more l e. let h = both_false (u1 (the_case (Some v))) (u2 (the_case (Some v))) e in
+      ap (λ y. case_label y l v) (append_assoc cs1 cs2 more) ∙ a.others v (cs2 ++ more) l h.0 ∙ b0.others v more l h.1;
+  default = λ e. default_in_one (u1 the_default) refl e;
+  no_default = λ e. let h = both_false (u1 the_default) (u2 the_default) e in ap (λ y. first_of y o2) (a.no_default h.0) ∙ b0.no_default h.1;
+}
+  where
+    chosen_in : (v : ℕ) (more : List Case) (l : ℕ) (q : Bool) → u1 (the_case (Some v)) ≡ q → (q || u2 (the_case (Some v))) ≡ true
+        → from_label own.stmts (case_label ((cs1 ++ cs2) ++ more) l v) ≡ Some (cond q (at1 (the_case (Some v))) (at2 (the_case (Some v))))
+    chosen_in v more l true h e = ap (λ y. from_label own.stmts (case_label y l v)) (append_assoc cs1 cs2 more) ∙ a.chosen v (cs2 ++ more) l h
+    chosen_in v more l false h e = ap (λ y. from_label own.stmts (case_label y l v)) (append_assoc cs1 cs2 more) ∙ ap (from_label own.stmts) (a.others v (cs2 ++ more) l h) ∙ b0.chosen v more l e
+
+    default_in_one : (q : Bool) → u1 the_default ≡ q → (q || u2 the_default) ≡ true → (l : ℕ) × (first_of o1 o2 ≡ Some l) × (from_label own.stmts l ≡ Some (cond q (at1 the_default) (at2 the_default)))
+    default_in_one true h e = let x = a.default h in (x.0, ap (λ y. first_of y o2) x.1, x.2)
+    default_in_one false h e = let x = b0.default e in (x.0, ap (λ y. first_of y o2) (a.no_default h) ∙ x.1, x.2)
+
+-- a CASE of this word, and what is behind it
+case_of_word : (own : Placed) (ts : List Target) (bs : List Binding) (d n v : ℕ) (u : Sought → Bool) (cs : List Case) (o : Option ℕ) (c : List Stmt) (at : Sought → List Stmt) → v < 2 ^ 32
+    → from_label own.stmts n ≡ Some c → Findable own ts bs d u cs o at
+    → Findable own ts bs d (λ s. same_place s (the_case (Some v)) || u s) (record { value = signed v; label = n } ∷ cs) o (λ s. cond (same_place s (the_case (Some v))) c (at s))
+case_of_word own ts bs d n v u cs o c at low found a = record {
+  labels = λ x e. a.labels x e;
+  chosen = λ w more l e. chosen_in w more l (w == v) refl e;
+  others = λ w more l e. let h = both_false (w == v) (u (the_case (Some w))) e in later_case v w n l (cs ++ more) h.0 low ∙ a.others w more l h.1;
+  default = λ e. a.default e;
+  no_default = λ e. a.no_default e;
+}
+  where
+    chosen_in : (w : ℕ) (more : List Case) (l : ℕ) (q : Bool) → (w == v) ≡ q → (q || u (the_case (Some w))) ≡ true
+        → from_label own.stmts (case_label (record { value = signed v; label = n } ∷ (cs ++ more)) l w) ≡ Some (cond q c (at (the_case (Some w))))
+    chosen_in w more l true h e = ap (from_label own.stmts) (first_case v w n l (cs ++ more) h low) ∙ found
+    chosen_in w more l false h e = ap (from_label own.stmts) (later_case v w n l (cs ++ more) h low) ∙ a.chosen w more l e
+
+pub finds_case : (own : Placed) (ts : List Target) (bs : List Binding) (d n v : ℕ) (y z : Option ℕ) (u : Sought → Bool) (cs : List Case) (o : Option ℕ) (c : List Stmt) (at : Sought → List Stmt) → y ≡ z → z ≡ Some v
+    → v < 2 ^ 32 → from_label own.stmts n ≡ Some c → Findable own ts bs d u cs o at
+    → Findable own ts bs d (λ s. same_place s (the_case y) || u s) (record { value = signed (worth z); label = n } ∷ cs) o (λ s. cond (same_place s (the_case z)) c (at s))
+finds_case own ts bs d n v y z u cs o c at e h low found a =
+    subst (λ x. Findable own ts bs d (λ s. same_place s (the_case x) || u s) (record { value = signed (worth z); label = n } ∷ cs) o (λ s. cond (same_place s (the_case z)) c (at s))) (sym (e ∙ h))
+    (subst (λ x. Findable own ts bs d (λ s. same_place s (the_case (Some v)) || u s) (record { value = signed (worth x); label = n } ∷ cs) o (λ s. cond (same_place s (the_case x)) c (at s))) (sym h)
+    (case_of_word own ts bs d n v u cs o c at low found a))
+
+-- a SWITCHON goes to the CASE of the word, else to its DEFAULT, else behind itself
+pub switch_chosen : (own : Placed) (ts : List Target) (bs : List Binding) (d l : ℕ) (u : Sought → Bool) (cs : List Case) (o : Option ℕ) (at : Sought → List Stmt) (v : ℕ) → Findable own ts bs d u cs o at
+    → u (the_case (Some v)) ≡ true → from_label own.stmts (case_label cs l v) ≡ Some (at (the_case (Some v)))
+switch_chosen own ts bs d l u cs o at v a e = ap (λ y. from_label own.stmts (case_label y l v)) (sym (append-nil cs)) ∙ a.chosen v [] l e
+
+not_chosen : (own : Placed) (ts : List Target) (bs : List Binding) (d l : ℕ) (u : Sought → Bool) (cs : List Case) (o : Option ℕ) (at : Sought → List Stmt) (v : ℕ) → Findable own ts bs d u cs o at
+    → u (the_case (Some v)) ≡ false → case_label cs l v ≡ l
+not_chosen own ts bs d l u cs o at v a e = ap (λ y. case_label y l v) (sym (append-nil cs)) ∙ a.others v [] l e
+
+pub switch_default : (own : Placed) (ts : List Target) (bs : List Binding) (d n : ℕ) (u : Sought → Bool) (cs : List Case) (o : Option ℕ) (at : Sought → List Stmt) (v : ℕ) → Findable own ts bs d u cs o at
+    → u (the_case (Some v)) ≡ false → u the_default ≡ true → from_label own.stmts (case_label cs (label_or n o) v) ≡ Some (at the_default)
+switch_default own ts bs d n u cs o at v a e h =
+    let x = a.default h in
+    ap (from_label own.stmts) (not_chosen own ts bs d (label_or n o) u cs o at v a e ∙ ap (label_or n) x.1) ∙ x.2
+
+pub switch_none : (own : Placed) (ts : List Target) (bs : List Binding) (d n : ℕ) (u : Sought → Bool) (cs : List Case) (o : Option ℕ) (at : Sought → List Stmt) (v : ℕ) → Findable own ts bs d u cs o at
+    → u (the_case (Some v)) ≡ false → u the_default ≡ false → case_label cs (label_or n o) v ≡ n
+switch_none own ts bs d n u cs o at v a e h = not_chosen own ts bs d (label_or n o) u cs o at v a e ∙ ap (label_or n) (a.no_default h)
+
+-- ---- scopes
+
+pub words_labels : (k n : ℕ) (xs : List (List ℕ)) (bs : List Binding) → HasWords bs → HasWords (labels_in_scope k n xs bs)
+words_labels k n [] bs h = h
+words_labels k n (x ∷ xs) bs h = words_labels k (n + 1) xs (bind x (b.Label k n) bs) (λ y v e. picked (bytes_eq x y) y v e)
+  where
+    picked : (q : Bool) (y : List ℕ) (v : ℕ) → cond q (Some (b.Label k n)) (bound_in bs y) ≡ Some (b.Constant (Some v)) → v < 2 ^ 32
+    picked true y v e = absurd (cc)
+    picked false y v e = h y v e
+
+pub words_variable : (j d : ℕ) (x : List ℕ) (bs : List Binding) → HasWords bs → HasWords (bind x (b.Variable j d) bs)
+words_variable j d x bs h y v e = picked (bytes_eq x y) e
+  where
+    picked : (q : Bool) → cond q (Some (b.Variable j d)) (bound_in bs y) ≡ Some (b.Constant (Some v)) → v < 2 ^ 32
+    picked true e = absurd (cc)
+    picked false e = h y v e
+
+-- labels hide constants in the same way here and there
+pub agree_labels : (k n : ℕ) (xs : List (List ℕ)) (ns : List Named) (bs : List Binding) (i : ℕ) → Agree ns bs
+    → Agree (bind_each xs label (with_names ns i)).names (labels_in_scope k n xs bs) × ((bind_each xs label (with_names ns i)).next ≡ i)
+agree_labels k n [] ns bs i a = (a, refl)
+agree_labels k n (x ∷ xs) ns bs i a = agree_labels k (n + 1) xs (record { name = x; sense = label } ∷ ns) (bind x (b.Label k n) bs) i (agree_bound x label (b.Label k n) ns bs refl refl a)
+
+cond_same : {A : Type 0} (q : Bool) (x : A) → x ≡ cond q x x
+cond_same true x = refl
+cond_same false x = refl
+
+or_none : (q : Bool) → (q || false) ≡ true → q ≡ true
+or_none true e = refl
+or_none false e = e
+
+-- names bound to one sense
+pub names_bound : (xs : List (List ℕ)) (m : Sense) (ns : List Named) (i : ℕ) → bind_each xs m (with_names ns i) ≡ with_names (bind_each xs m (with_names ns 0)).names i
+names_bound [] m ns i = refl
+names_bound (x ∷ xs) m ns i = names_bound xs m (record { name = x; sense = m } ∷ ns) i
+
+-- one command as a scope of its own
+pub alone_lies : (pay : ℕ) (sc : Scene) (i : ℕ) (a : Action) (d n : ℕ) (k : Command) (c rest : List Stmt) (j q : ℕ) → q ≡ sc.procedure → turns_in a ≤ pay
+    → Done pay (record sc { bindings = labels_in_scope q j (labels_of a) sc.bindings }) i a d n k c rest
+    → Lies (home sc pay) i (objects_of_action a) d rest (kinds_in n k) (λ ns. of_action (in_scope a (with_names ns i)) a) (InNames sc.bindings i (λ g env. IsAlone g sc d env a j c rest))
+alone_lies pay sc i a d n k c rest j q same size done =
+    let done1 = subst (λ x. Done pay (record sc { bindings = labels_in_scope x j (labels_of a) sc.bindings }) i a d n k c rest) same done in
+    let done2 = subst (λ x. Done pay (record sc { bindings = labels_in_scope sc.procedure j x sc.bindings }) i a d n k c rest) (sym (append-nil (labels_of a))) done1 in
+    let xs = labels_of_each (alone a) in
+    let within = owning j (alone a) sc in
+    let h = home sc pay in
+    let inside = bases_inside h within.bindings i (objects_of_action a) _ (λ ns. (bind_each xs label (with_names ns 0)).names)
+    (λ g ns u v. ((agree_labels sc.procedure j xs ns sc.bindings 0 u).0, (λ k bases frame grown. record { each = (labels_named xs (there_in h sc.procedure) (with_names ns 0) bases frame j (v sc.procedure bases frame grown)).each }))) done2.lies.objects_are in
+    let said = bases_of h i (objects_of_action a) _ (λ ns. of_action (in_scope a (with_names ns i)) a) _ (λ ns. ap (λ e. of_action e a) (sym (names_bound xs label ns i))) inside in
+    record {
+      on = done2.lies.on;
+      objects_are = bases_so h i (objects_of_action a) (InNames within.bindings i (λ g env. IsAct g within d env a done2.at c rest)) _ (λ g fit v ns u.
+          let env = with_names ns i in
+          let inner = labelled (alone a) env in
+          let agrees = agree_labels sc.procedure j xs ns sc.bindings i u in
+          let pays = fit.pays in (
+            done2.at,
+            (rest, done2.at, done2.at, subst (λ y. IsAct g within d (with_names inner.names y) a done2.at c rest) (sym agrees.1) (v inner.names agrees.0), refl, (λ s. cond_same (stands_in s inner a) (done2.at s))),
+            omega (arith, pays, size),
+            (λ x e. done2.finds.labels x (label_stands x (known within.bindings) env a ∙ or_none (stands_in (the_label x) env a) e)),
+          )) said;
+    }
 
 -- the values of an assignment, each where it may stand; and where they are stored
 abbrev LaidFroms : ℕ → Scene → Place → Spot → ℕ → Expressions → ℕ → ℕ → Type 0

@@ -16,7 +16,7 @@ use Rattle.bk_simulation.proofs.NamesAgree.{Agree}
 use Rattle.bk_simulation.proofs.LastingKinds.{Kind, kinds_through}
 use Rattle.bk_simulation.proofs.Standing.{there_in, StandsAt, passed, home, Bases, bases_inside, bases_of, bases_so, bases_paid, Lies}
 use Rattle.bk_simulation.proofs.LaidExpressions.{FoundParts, found_front, found_back, known, InNames, joined_three}
-use Rattle.bk_simulation.proofs.LaidCommands.{Doing, finds_nothing, Done, DoneEach, words_labels, agree_labels, names_bound}
+use Rattle.bk_simulation.proofs.LaidAssigned.{Doing, finds_nothing, Done, DoneEach, words_labels, agree_labels, names_bound}
 use Rattle.bk_simulation.proofs.BehindDeclarations.{next_all_declared}
 use Rattle.bk_simulation.proofs.LaidValues.{ValofsLie}
 use Rattle.bk_simulation.proofs.LaidActs.{BlocksLie, laid_acts, valof_lies}

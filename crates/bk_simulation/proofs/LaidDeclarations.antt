@@ -24,10 +24,10 @@ use Rattle.bk_simulation.proofs.LastingKinds.{Kind, kinds_of_declaration, kinds_
 use Rattle.bk_simulation.proofs.Standing.{there_in, StandsAt, passed, written, Home, home, Bases, no_bases, bases_so, bases_of, bases_under, bases_some, Lies, both_bases, new_base}
 use Rattle.bk_simulation.proofs.OneBehindAnother.{then_bases}
 use Rattle.bk_simulation.proofs.LaidExpressions.{HasWords, FoundParts, found_front, found_back, Around, InNames, joined_two, around_deeper, constants_agree, DataIn}
-use Rattle.bk_simulation.proofs.LaidCommands.{Doing}
+use Rattle.bk_simulation.proofs.LaidAssigned.{Doing}
 use Rattle.bk_simulation.proofs.BehindDeclarations.{words_manifests, words_statics, words_globals, words_procedures, next_declared}
-use Rattle.bk_simulation.proofs.Renamed.{static_places, AreBases, renames_manifests, renames_statics, renames_globals}
-use Rattle.bk_simulation.proofs.RenamedLets.{AreProcedures, from_spots, spots_in, variables_in, spots_words, renames_procedures, renames_variables, bound_agree, next_bound, foreign_spots, foreign_agree, foreign_mean, hidden_are, slots_of}
+use Rattle.bk_simulation.proofs.Renamed.{static_places, AreBases, renames_manifests, renames_statics, renames_globals, AreProcedures, from_spots, spots_in,
+  variables_in, spots_words, renames_procedures, renames_variables, bound_agree, next_bound, foreign_spots, foreign_agree, foreign_mean, hidden_are, slots_of}
 use Rattle.bk_simulation.proofs.LetWords.{WordsBased, procedures_based}
 use Rattle.bk_simulation.proofs.LaidValues.{ValofsLie, laid_code}
 use Rattle.bk_simulation.proofs.LaidActs.{BlocksLie, laid_act}

@@ -25,7 +25,7 @@ use Rattle.bk_simulation.proofs.NamesAgree.{Agree, SameGlobal, global_of, same_g
 use Rattle.bk_simulation.proofs.LastingKinds.{Kind, entry, kinds, kinds_in, bound_global, IsCalled, word_base}
 use Rattle.bk_simulation.proofs.Standing.{Follow, FollowWords, there_in, bases_inside, bases_of, StandsAt, first_of, passed, written, Home, home, Suits, Bases, bases_so, Lies}
 use Rattle.bk_simulation.proofs.LaidExpressions.{DataIn, HasWords, Around, InNames, joined_two}
-use Rattle.bk_simulation.proofs.LaidCommands.{Doing, Done, words_labels, names_bound, alone_lies}
+use Rattle.bk_simulation.proofs.LaidAssigned.{Doing, Done, words_labels, names_bound, alone_lies}
 
 -- ---- along a section
 

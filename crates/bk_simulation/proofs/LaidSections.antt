@@ -17,7 +17,7 @@ use Rattle.bk_simulation.proofs.Laid.{Setting, Scene}
 use Rattle.bk_simulation.proofs.LastingKinds.{Kind, kinds_of_declaration, kinds_of_declarations}
 use Rattle.bk_simulation.proofs.Standing.{StandsAt, passed, home, Bases, no_bases, bases_of, bases_so}
 use Rattle.bk_simulation.proofs.LaidExpressions.{FoundParts, found_front, found_back}
-use Rattle.bk_simulation.proofs.LaidCommands.{Doing}
+use Rattle.bk_simulation.proofs.LaidAssigned.{Doing}
 use Rattle.bk_simulation.proofs.LaidProcedures.{scene_of}
 use Rattle.bk_simulation.proofs.SectionParts.{section_parts}
 use Rattle.bk_simulation.proofs.BehindDeclarations.{next_declared}

@@ -24,8 +24,9 @@ use Rattle.bk_simulation.proofs.HeldData.{statement_data, statement_below, items
 use Rattle.bk_simulation.proofs.NamesAgree.{Agree}
 use Rattle.bk_simulation.proofs.LastingKinds.{string, words_at, kinds_each, kinds_at}
 use Rattle.bk_simulation.proofs.Standing.{StandsAt, passed, at_depth, written, label_at, call_at, home, no_bases, new_base, both_bases, three_bases, bases_so, Lies, lies_behind}
-use Rattle.bk_simulation.proofs.LaidExpressions.{coded, own_parts, own_kinds, plain_lies, role, level, HasWords, FoundParts, found_front, found_back, DataIn, Around, around_deeper, InNames, plain_code, plain_parts, lies_ended, leaf_on, leaf_lies, pushed_depth, truth_depth, infix_on, joined_two, joined_three, joined_choice}
-use Rattle.bk_simulation.proofs.LaidCalls.{call_lies}
+use Rattle.bk_simulation.proofs.LaidExpressions.{coded, own_parts, own_kinds, plain_lies, role, level, HasWords, FoundParts, found_front, found_back, DataIn,
+  Around, around_deeper, InNames, plain_code, plain_parts, lies_ended, leaf_on, leaf_lies, pushed_depth, truth_depth, infix_on, joined_two, joined_three,
+  joined_choice, call_lies}
 
 -- the words of a TABLE
 table_held : (g : Setting) (sc : Scene) (n l : ℕ) (es : Expressions) (i : ℕ) (ns : List Named) → Agree ns sc.bindings → HasWords sc.bindings → RegularEach es → HaveWords sc.bindings es → DataIn sc.own (data_code (static_table n (words_named sc.bindings es)))

@@ -9,8 +9,7 @@ use Rattle.bk_scope.specs.Spots as spot
 use Rattle.bk_simulation.proofs.Memory.{BaseOf}
 use Rattle.bk_simulation.proofs.LaidExpressions.{FoundParts, found_back}
 use Rattle.bk_simulation.proofs.LastingKinds.{word_base}
-use Rattle.bk_simulation.proofs.Renamed.{itself}
-use Rattle.bk_simulation.proofs.RenamedLets.{AreProcedures}
+use Rattle.bk_simulation.proofs.Renamed.{itself, AreProcedures}
 
 -- the bases of their objects, where names in scope are these
 abbrev pub WordsBased : List ℕ → Placed → List Binding → Place → Spot → ℕ → ℕ → Definitions → Type 0

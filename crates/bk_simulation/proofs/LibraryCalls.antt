@@ -20,7 +20,7 @@ use Rattle.bk_simulation.proofs.WrittenCells.{untouched}
 use Rattle.bk_simulation.proofs.CellBytes.{AreBytes, read_byte_at, write_byte_at, word_number}
 use Rattle.bk_simulation.proofs.BytesKept.{HasBytes}
 use Rattle.bk_simulation.proofs.Laid.{Setting, CallAt}
-use Rattle.bk_simulation.proofs.Frame.{Sit, store, Ready, Account, Comes, Ran, went}
+use Rattle.bk_simulation.proofs.Frame.{Sit, store, Ready, Account, Comes, Ran, went, by_option, by_truth}
 use Rattle.bk_simulation.proofs.Calls.{AnyExit, call_stmt, Gave, returned_in}
 use Rattle.bk_base.specs.Format as f
 
@@ -154,11 +154,10 @@ pub record AtRoutine (g : Setting) (s : State) (A : Account) (z : Sit) (w : Worl
   pub each : (i : ℕ) (u : Value) → slice_get vs i ≡ Some u → Stands g.codes bases1 u (content_of (cells1 (z.frame + z.depth + (2 + i))))
 
 not_home : (program : Program) (n : ℕ) (r : ocode.Routine) → program.callables.routine program.home ≡ None → program.callables.routine n ≡ Some r → (n == program.home) ≡ false
-not_home program n r none some = by_test (n == program.home) refl
-  where
-    by_test : (b : Bool) → (n == program.home) ≡ b → b ≡ false
-    by_test false e = refl
-    by_test true e = absurd (let z : Some r ≡ None = sym some ∙ ap program.callables.routine (eqb-true n program.home e) ∙ none in cc)
+not_home program n r none some =
+    by_truth (λ b. b ≡ false)
+    (n == program.home) (λ e. absurd (let z : Some r ≡ None = sym some ∙ ap program.callables.routine (eqb-true n program.home e) ∙ none in cc)) (λ e.
+    refl)
 
 -- its step is the routine's
 routine_stepped : (program : Program) (s : State) (n : ℕ) (r : ocode.Routine) → program.callables.routine program.home ≡ None → s.control ≡ At n → program.callables.routine n ≡ Some r
@@ -278,20 +277,18 @@ library_runs of g s A B z rest w w1 (number k ∷ vs) value.wrch n le le' en rea
     (ap (λ y. on_number y (λ b. tells h (b % 256 ∷ []))) (at.each 0 (number k) refl))
 library_runs of g s A B z rest w w1 vs value.newline n le le' en ready call known at =
     back_same of g s A B z rest w w1 vs value.newline n le le' en ready call known at unset None (writing (10 ∷ []) w1) refl refl tt refl
-library_runs of g s A B z rest w w1 (a ∷ vs) value.writes n le le' en ready call known at = by_text (m.string_at w1.memory a) refl
+library_runs of g s A B z rest w w1 (a ∷ vs) value.writes n le le' en ready call known at =
+    by_option (λ o. Ran g s B (λ v w3. Gave of g s B z rest w v (calls_back n w3)) AnyExit (writes_text o w1))
+    (m.string_at w1.memory a) (λ _. went tt) (λ text e.
+    let hs : Store = record { bases = at.bases1; mem = w1.memory; cells = at.cells1 } in
+    let x = string_word g.codes hs (z.frame + z.depth) at.fits a _ text (at.each 0 a refl) e in
+    let st = subst (λ y. Stands g.codes at.bases1 a y) x.1 (at.each 0 a refl) in
+    back_same of g s A B z rest w w1 (a ∷ vs) value.writes n le le' en ready call known at unset None (writing text w1) refl refl tt
+    (ap (λ y. on_number y (λ a. on_some (string_at h.frame h.cells a) (λ bytes. tells h bytes))) x.1
+    ∙ ap (λ y. on_some y (λ bytes. tells h bytes)) (string_read g.codes hs (z.frame + z.depth) at.fits a x.0 text st e)))
   where
     h : State
     h = record { control = At (g.codes.routine value.writes); cells = at.cells1; frame = z.frame + z.depth; hand = None; input = w1.input; output = w1.output; written = at.written1 }
-
-    by_text : (o : Option (List ℕ)) → m.string_at w1.memory a ≡ o → Ran g s B (λ v w3. Gave of g s B z rest w v (calls_back n w3)) AnyExit (writes_text o w1)
-    by_text None e = went tt
-    by_text (Some text) e =
-        let hs : Store = record { bases = at.bases1; mem = w1.memory; cells = at.cells1 } in
-        let x = string_word g.codes hs (z.frame + z.depth) at.fits a _ text (at.each 0 a refl) e in
-        let st = subst (λ y. Stands g.codes at.bases1 a y) x.1 (at.each 0 a refl) in
-        back_same of g s A B z rest w w1 (a ∷ vs) value.writes n le le' en ready call known at unset None (writing text w1) refl refl tt
-        (ap (λ y. on_number y (λ a. on_some (string_at h.frame h.cells a) (λ bytes. tells h bytes))) x.1
-        ∙ ap (λ y. on_some y (λ bytes. tells h bytes)) (string_read g.codes hs (z.frame + z.depth) at.fits a x.0 text st e))
 library_runs of g s A B z rest w w1 (number k ∷ vs) value.writen n le le' en ready call known at =
     let h = here of g s A B z rest w w1 (number k ∷ vs) value.writen n le le' en ready call known at in
     back_same of g s A B z rest w w1 (number k ∷ vs) value.writen n le le' en ready call known at unset None (writing (spelling (signed k)) w1) refl refl tt
@@ -301,46 +298,45 @@ library_runs of g s A B z rest w w1 (number k ∷ number d ∷ vs) value.writed 
     back_same of g s A B z rest w w1 (number k ∷ number d ∷ vs) value.writed n le le' en ready call known at unset None (writing (aligned k d) w1) refl refl tt
     (ap (λ y. on_number y (λ n. on_number (slot h 3) (λ w. tells h (aligned n w)))) (at.each 0 (number k) refl)
     ∙ ap (λ y. on_number y (λ w. tells h (aligned k w))) (at.each 1 (number d) refl))
-library_runs of g s A B z rest w w1 (a ∷ i ∷ vs) value.getbyte n le le' en ready call known at = by_byte (read_byte w1.memory a i) refl
+library_runs of g s A B z rest w w1 (a ∷ i ∷ vs) value.getbyte n le le' en ready call known at =
+    by_option (λ o. Ran g s B (λ v w3. Gave of g s B z rest w v (calls_back n w3)) AnyExit (given (option_map number o) w1))
+    (read_byte w1.memory a i) (λ _. went tt) (λ b e.
+    let hs : Store = record { bases = at.bases1; mem = w1.memory; cells = at.cells1 } in
+    let x = read_byte_at g.codes hs (z.frame + z.depth) a i _ _ b at.fits (at.each 0 a refl) (at.each 1 i refl) e in
+    back_same of g s A B z rest w w1 (a ∷ i ∷ vs) value.getbyte n le le' en ready call known at (number b) (Some (Word b)) w1 refl refl refl
+    (ap (λ y. on_number y (λ a. on_number (slot h 3) (λ i. on_some (byte_at h.frame h.cells a i) (λ b. return h (Some (Word b)))))) x.is_word
+    ∙ ap (λ y. on_number y (λ i. on_some (byte_at h.frame h.cells x.word i) (λ b. return h (Some (Word b))))) x.is_index
+    ∙ ap (λ y. on_some y (λ b. return h (Some (Word b)))) x.reads))
   where
     h : State
     h = record { control = At (g.codes.routine value.getbyte); cells = at.cells1; frame = z.frame + z.depth; hand = None; input = w1.input; output = w1.output; written = at.written1 }
-
-    by_byte : (o : Option ℕ) → read_byte w1.memory a i ≡ o → Ran g s B (λ v w3. Gave of g s B z rest w v (calls_back n w3)) AnyExit (given (option_map number o) w1)
-    by_byte None e = went tt
-    by_byte (Some b) e =
-        let hs : Store = record { bases = at.bases1; mem = w1.memory; cells = at.cells1 } in
-        let x = read_byte_at g.codes hs (z.frame + z.depth) a i _ _ b at.fits (at.each 0 a refl) (at.each 1 i refl) e in
-        back_same of g s A B z rest w w1 (a ∷ i ∷ vs) value.getbyte n le le' en ready call known at (number b) (Some (Word b)) w1 refl refl refl
-        (ap (λ y. on_number y (λ a. on_number (slot h 3) (λ i. on_some (byte_at h.frame h.cells a i) (λ b. return h (Some (Word b)))))) x.is_word
-        ∙ ap (λ y. on_number y (λ i. on_some (byte_at h.frame h.cells x.word i) (λ b. return h (Some (Word b))))) x.is_index
-        ∙ ap (λ y. on_some y (λ b. return h (Some (Word b)))) x.reads)
-library_runs of g s A B z rest w w1 (a ∷ i ∷ u ∷ vs) value.putbyte n le le' en ready call known at = by_memory (write_byte w1.memory a i u) refl
+library_runs of g s A B z rest w w1 (a ∷ i ∷ u ∷ vs) value.putbyte n le le' en ready call known at =
+    by_option (λ o. Ran g s B (λ v w3. Gave of g s B z rest w v (calls_back n w3)) AnyExit (with (changes o w1) (λ _ w. gives unset w)))
+    (write_byte w1.memory a i u) (λ _. went tt) (λ m1 e.
+    let hs : Store = record { bases = at.bases1; mem = w1.memory; cells = at.cells1 } in
+    let x = write_byte_at g.codes hs (z.frame + z.depth) a i u _ _ _ m1 (held_bytes at.cells1 at.has.words) at.fits (at.each 0 a refl) (at.each 1 i refl) (at.each 2 u refl) e in
+    let p = word_sum x.word (byte_distance x.index) in
+    let low = low_byte (z.frame + z.depth) x.word x.index x.byte at.cells1 x.content x.sets in
+    let n0 : z.frame + z.depth + 0 ≢ p = λ q. absurd (omega (arith, low, q)) in
+    let n1 : z.frame + z.depth + 1 ≢ p = λ q. absurd (omega (arith, low, q)) in
+    back_with of g s A B z rest w w1 (a ∷ i ∷ u ∷ vs) value.putbyte n le le' en ready call known at unset None (remembering m1 w1) (write at.cells1 p (Held Variable x.content)) (p ∷ at.written1) refl tt
+    (ap (λ y. on_number y (λ a. on_number (slot h 3) (λ i. on_number (slot h 4) (λ b. on_some (word_with_byte_at h.frame h.cells a i b) (λ content. return (set_to (word_sum a (byte_distance i)) content) None))))) x.is_word
+    ∙ ap (λ y. on_number y (λ i. on_number (slot h 4) (λ b. on_some (word_with_byte_at h.frame h.cells x.word i b) (λ content. return (set_to (word_sum x.word (byte_distance i)) content) None)))) x.is_index
+    ∙ ap (λ y. on_number y (λ b. on_some (word_with_byte_at h.frame h.cells x.word x.index b) (λ content. return (set_to p content) None))) x.is_byte
+    ∙ ap (λ y. on_some y (λ content. return (set_to p content) None)) x.sets)
+    (ap content_of (untouched at.cells1 p (Held Variable x.content) (z.frame + z.depth + 0) n0) ∙ at.link0)
+    (ap content_of (untouched at.cells1 p (Held Variable x.content) (z.frame + z.depth + 1) n1) ∙ at.link1)
+    x.fits (x.moved (z.frame + z.depth)))
   where
     h : State
     h = record { control = At (g.codes.routine value.putbyte); cells = at.cells1; frame = z.frame + z.depth; hand = None; input = w1.input; output = w1.output; written = at.written1 }
 
     set_to : ℕ → Content → State
     set_to p x = record h { cells = write h.cells p (Held Variable x); written = p ∷ h.written }
-
-    by_memory : (o : Option Memory) → write_byte w1.memory a i u ≡ o → Ran g s B (λ v w3. Gave of g s B z rest w v (calls_back n w3)) AnyExit (with (changes o w1) (λ _ w. gives unset w))
-    by_memory None e = went tt
-    by_memory (Some m1) e =
-        let hs : Store = record { bases = at.bases1; mem = w1.memory; cells = at.cells1 } in
-        let x = write_byte_at g.codes hs (z.frame + z.depth) a i u _ _ _ m1 (held_bytes at.cells1 at.has.words) at.fits (at.each 0 a refl) (at.each 1 i refl) (at.each 2 u refl) e in
-        let p = word_sum x.word (byte_distance x.index) in
-        let low = low_byte (z.frame + z.depth) x.word x.index x.byte at.cells1 x.content x.sets in
-        let n0 : z.frame + z.depth + 0 ≢ p = λ q. absurd (omega (arith, low, q)) in
-        let n1 : z.frame + z.depth + 1 ≢ p = λ q. absurd (omega (arith, low, q)) in
-        back_with of g s A B z rest w w1 (a ∷ i ∷ u ∷ vs) value.putbyte n le le' en ready call known at unset None (remembering m1 w1) (write at.cells1 p (Held Variable x.content)) (p ∷ at.written1) refl tt
-        (ap (λ y. on_number y (λ a. on_number (slot h 3) (λ i. on_number (slot h 4) (λ b. on_some (word_with_byte_at h.frame h.cells a i b) (λ content. return (set_to (word_sum a (byte_distance i)) content) None))))) x.is_word
-        ∙ ap (λ y. on_number y (λ i. on_number (slot h 4) (λ b. on_some (word_with_byte_at h.frame h.cells x.word i b) (λ content. return (set_to (word_sum x.word (byte_distance i)) content) None)))) x.is_index
-        ∙ ap (λ y. on_number y (λ b. on_some (word_with_byte_at h.frame h.cells x.word x.index b) (λ content. return (set_to p content) None))) x.is_byte
-        ∙ ap (λ y. on_some y (λ content. return (set_to p content) None)) x.sets)
-        (ap content_of (untouched at.cells1 p (Held Variable x.content) (z.frame + z.depth + 0) n0) ∙ at.link0)
-        (ap content_of (untouched at.cells1 p (Held Variable x.content) (z.frame + z.depth + 1) n1) ∙ at.link1)
-        x.fits (x.moved (z.frame + z.depth))
-library_runs of g s A B z rest w w1 (a ∷ vs) value.writef n le le' en ready call known at = by_format (m.string_at w1.memory a) refl
+library_runs of g s A B z rest w w1 (a ∷ vs) value.writef n le le' en ready call known at =
+    by_option (λ o. Ran g s B (λ v w3. Gave of g s B z rest w v (calls_back n w3)) AnyExit (writes_text (option_and_then (λ bytes. m.written w1.memory (parts bytes) vs) o) w1))
+    (m.string_at w1.memory a) (λ _. went tt) (λ bytes e.
+    by_text bytes e (m.written w1.memory (parts bytes) vs) refl)
   where
     h : State
     h = record { control = At (g.codes.routine value.writef); cells = at.cells1; frame = z.frame + z.depth; hand = None; input = w1.input; output = w1.output; written = at.written1 }
@@ -357,8 +353,4 @@ library_runs of g s A B z rest w w1 (a ∷ vs) value.writef n le le' en ready ca
         (ap (λ y. on_number y (λ f. on_some (string_at h.frame h.cells f) (λ format. on_some (format_bytes (λ a. number_in (slot h a)) (string_at h.frame h.cells) (parts format) 3) (λ bytes. tells h bytes)))) x.1
         ∙ ap (λ y. on_some y (λ format. on_some (format_bytes (λ a. number_in (slot h a)) (string_at h.frame h.cells) (parts format) 3) (λ bytes. tells h bytes))) (string_read g.codes hs (z.frame + z.depth) at.fits a x.0 bytes st eb)
         ∙ ap (λ y. on_some y (λ bytes. tells h bytes)) told)
-
-    by_format : (o : Option (List ℕ)) → m.string_at w1.memory a ≡ o → Ran g s B (λ v w3. Gave of g s B z rest w v (calls_back n w3)) AnyExit (writes_text (option_and_then (λ bytes. m.written w1.memory (parts bytes) vs) o) w1)
-    by_format None e = went tt
-    by_format (Some bytes) e = by_text bytes e (m.written w1.memory (parts bytes) vs) refl
 library_runs of g s A B z rest w w1 _ _ n le le' en ready call known at = went tt

@@ -1,19 +1,123 @@
--- WHILE, UNTIL, REPEAT, REPEATWHILE and REPEATUNTIL.
-use Rattle.bk_simulation.proofs.Words.{◌≡◌, ℕ, ◌+◌, ◌-◌, ◌*◌, ◌≤◌, Bool, true, false, cond, List, ◌∷◌, refl, subst, arith, suc, sym, ◌∙◌, State, Stmt, Label,
-  Jump, goal, Expression, Action, Environment, past, past_action, Sought, Mode, forwards, seeking, stands_in, World, Exit, break, loop, Outcome, Done, done,
-  either, turn, history, Meanings, round_exit, again, same_truth, where_truth, rounds_of, Adds, adds, stays, either_after, with_after, turn_after,
-  each_way_after}
-use Rattle.bk_tree.specs.Tree as t
-use Rattle.bk_simulation.proofs.Weights.{turns_of, turns_in}
-use Rattle.bk_simulation.proofs.Laid.{Setting, in_loop, LabelAt, IsJump, IsAct, IsLoop, Entered, EnteredBody}
-use Rattle.bk_simulation.proofs.Frame.{Sit, start, Ready, Account, paying, went, each_way_ran, with_ran, so, ArrivedAt, Out, next, ready_next}
-use Rattle.bk_simulation.proofs.Compose.{arrived_turn, arrived_on, turn_there, ran_on, comes_to, outside, stay, arrived_more, ran_first}
-use Rattle.bk_simulation.proofs.Simulates.{Simulates, for_act, turns_in_round, for_rounds, HasTruth, RanDid}
-use Rattle.bk_simulation.proofs.ControlSteps.{label_on, landed_on, jump_on, caught_at, jumped_on}
-use Rattle.bk_simulation.proofs.Orders.{ready_at}
-use Rattle.bk_simulation.proofs.Scopes.{around_ready}
+-- Scopes: commands that own their labels; and VALOF. WHILE, UNTIL, REPEAT, REPEATWHILE and REPEATUNTIL. SWITCHON.
+use Rattle.bk_simulation.proofs.Words.{◌≡◌, ℕ, ◌+◌, ◌≤◌, Bool, true, false, List, refl, sym, ◌∙◌, subst, arith, ◌-◌, ◌*◌, ◌∷◌, Option, Some, bound_in, State,
+  Stmt, meant, goal_in, Actions, Action, Environment, labelled, Sought, the_label, Mode, seeking, stands_in_one, forwards, World, Exit, goto, leaves, either,
+  break, result, return, history, Meanings, landing, scope_of, alone, Adds, adds, stays, either_after, Content, Unset, option_map_or, Label, TakeResult, Around,
+  Value, result_exit, result_of, cond, suc, Jump, goal, Expression, past, past_action, stands_in, loop, Outcome, Done, done, turn, round_exit, again,
+  same_truth, where_truth, rounds_of, with_after, turn_after, each_way_after, None, ap, below, from_label, case_label, Case, Switch, number, the_case,
+  the_default, is_label, endcase, with, case_exit, ended_case, choose_case}
+use Rattle.bk_simulation.proofs.Weights.{turns_through, turns_in, turns_of}
+use Rattle.bk_simulation.proofs.Sought.{label_stands_one, same_stands}
+use Rattle.bk_simulation.proofs.Laid.{Setting, Scene, owning, goal_named, IsLabelHere, IsScopeAt, EnteredAny, Exits, in_valof, LabelAt, IsScope, in_loop,
+  IsJump, IsAct, IsLoop, Entered, EnteredBody, in_switch}
+use Rattle.bk_simulation.proofs.Frame.{Sit, start, Ready, Account, went, each_way_ran, ArrivedAt, GoesTo, Leads, Out, next, ready_in, ready_next, Ran, so, Has,
+  Handed, paying, with_ran, there}
+use Rattle.bk_simulation.proofs.Compose.{comes_to, outside, arrived_turn, arrived_on, turn_there, ran_on, stay, arrived_more, ran_first, links_below,
+  arrived_paid}
+use Rattle.bk_simulation.proofs.Simulates.{Simulates, for_scope, RanDid, for_act, turns_in_round, for_rounds, HasTruth, for_value}
+use Rattle.bk_simulation.proofs.ControlSteps.{caught_at, label_on, taken_on, landed_on, jump_on, jumped_on}
+use Rattle.bk_simulation.proofs.Orders.{by_test, order_run, not_true, ready_at}
+use Rattle.bk_simulation.proofs.NamesBound.{scope_named, not_owned, around_named}
+use Rattle.bk_simulation.proofs.Memory.{Stands}
+use Rattle.bk_simulation.proofs.OperatorWords.{some_is}
 use Rattle.bk_simulation.proofs.Branches.{jump_way}
-use Rattle.bk_simulation.proofs.Sought.{same_stands}
+use Rattle.bk_simulation.proofs.Moves.{switch_moves}
+use Rattle.bk_simulation.proofs.WrittenCells.{below_like}
+use Rattle.bk_simulation.proofs.Operators.{one_run}
+use Rattle.bk_tree.specs.Tree as t
+
+-- the situation in a scope
+abbrev in_scope : (j : ℕ) (cs : Actions) → Sit → Sit
+in_scope j cs z = record z { scene = owning j cs z.scene; env = labelled cs z.env }
+
+scope_ready : (g : Setting) (j : ℕ) (cs : Actions) (z : Sit) (w : World) → Ready g z w → Ready g (in_scope j cs z) w
+scope_ready g j cs z w r = ready_in (owning j cs z.scene) (labelled cs z.env) (scope_named cs z.scene z.env z.bases z.frame j r.named) r
+
+-- an exit of the scope that goes on outwards
+leads_out : (sc : Scene) (j : ℕ) (cs : Actions) (x : Exit) (c : List Stmt) → ((y : List ℕ) → x ≡ goto y → bound_in (owning j cs sc).bindings y ≡ bound_in sc.bindings y) → Leads (owning j cs sc) x c → Leads sc x c
+leads_out sc j cs (goto y) c e l = subst (λ b. GoesTo (goal_in sc.targets (meant b)) c × IsLabelHere b) (e y refl) l
+leads_out sc j cs _ c e l = l
+
+passes_out : (g : Setting) (s : State) (B : Account) (z : Sit) (j : ℕ) (cs : Actions) (x : Exit) (w w1 : World) → ((y : List ℕ) → x ≡ goto y → bound_in (owning j cs z.scene).bindings y ≡ bound_in z.scene.bindings y)
+    → Out g s B (in_scope j cs z) w x w1 → Out g s B z w x w1
+passes_out g s B z j cs x w w1 e o = record { control = o.control; depth1 = o.depth1; leads = leads_out z.scene j cs x o.control e o.leads; arr = o.arr; later = o.later; hands = o.hands }
+
+pub landing_adds : (g : Setting) (m : Meanings) → Simulates g m → (cs : Actions) (env : Environment) (x : Exit) → Adds (landing cs env (λ x w. m.scope cs (seeking (the_label x)) env w) x)
+landing_adds g m sim cs env (goto y) = adds _ (λ w. either_after (stands_in_one (the_label y) env cs) _ _ (adds _ (λ w1. sim.grows.scope cs (seeking (the_label y)) env w1)) (adds _ (λ w1. stays (history w1))) w)
+landing_adds g m sim cs env _ = adds _ (λ w. stays (history w))
+
+-- The commands of a scope, and those again to which a GOTO leads.
+pub scope_runs : (g : Setting) (m : Meanings) → Simulates g m → (cs : Actions) (mode : Mode) (z : Sit) (j : ℕ) (at : Sought → List Stmt) (c rest e : List Stmt) (w : World) → IsScopeAt g z.scene z.depth z.env cs j at c rest
+    → EnteredAny mode (labelled cs z.env) cs at c e → Ready g z w
+    → RanDid g (start z e w) (for_scope cs w) z rest w (scope_of m cs mode z.env w)
+scope_runs g m sim cs mode z j at c rest e w l en r =
+    each_way_ran (λ _. adds _ (λ w1. stays (history w1))) (landing_adds g m sim cs z.env)
+    (order_run g m sim cs mode (in_scope j cs z) at c rest e w l.0 en (scope_ready g j cs z w r)) (λ _ w1 q. went q) out
+  where
+    out : (x : Exit) (w1 : World) → Out g (start z e w) (for_scope cs w) (in_scope j cs z) w x w1
+        → RanDid g (start z e w) (for_scope cs w) z rest w (landing cs z.env (λ x w. m.scope cs (seeking (the_label x)) z.env w) x w1)
+    out (goto y) w1 o = by_test (stands_in_one (the_label y) z.env cs)
+        (λ (h : stands_in_one (the_label y) z.env cs ≡ true).
+        subst (λ (b : Bool). RanDid g (start z e w) (for_scope cs w) z rest w (either b (λ w. m.scope cs (seeking (the_label y)) z.env w) (λ w. leaves (goto y) w) w1)) (sym h)
+        (let s = start z e w in
+        let B = for_scope cs w in
+        let A : Account = record { most = B.most; least = B.least + g.pay + g.pay } in
+        let to = l.2 y h in
+        let dp = r.deep in
+        let few : turns_through cs ≤ g.pay = l.1 in
+        let ar : ArrivedAt g s A z (at (the_label y)) z.depth w w1 = caught_at o (goal_named (owning j cs z.scene) y) z.depth (at (the_label y)) refl o.leads.0 to.0 to.1 (omega arith) (omega arith) in
+        let m0 = ar.most in
+        comes_to (omega arith) (omega arith) r (omega arith) ar
+        (sim.scope cs (seeking (the_label y)) (next g s A z (at (the_label y)) z.depth w w1 z.env z.depth ar) j at c rest (at (the_label y)) w1 l (label_stands_one y (labelled cs z.env) z.env cs ∙ h, refl) (ready_next z.env z.depth ar refl (omega arith) r))))
+        (λ (h : stands_in_one (the_label y) z.env cs ≡ false).
+        subst (λ (b : Bool). RanDid g (start z e w) (for_scope cs w) z rest w (either b (λ w. m.scope cs (seeking (the_label y)) z.env w) (λ w. leaves (goto y) w) w1)) (sym h)
+        (went (passes_out g (start z e w) (for_scope cs w) z j cs (goto y) w w1 (λ u eu. let same : y ≡ u = cc in subst (λ v. bound_in (owning j cs z.scene).bindings v ≡ bound_in z.scene.bindings v) same (not_owned y cs z.env z.scene j h)) o)))
+    out x w1 o = went (passes_out g (start z e w) (for_scope cs w) z j cs x w w1 (λ u eu. absurd (cc)) o)
+
+-- ---- VALOF: a scope whose RESULTIS gives the value.
+
+-- the same place with other exits around it
+abbrev pub around_here : Around → Exits → Sit → Sit
+around_here a e z = record z { scene = record z.scene { around = a; exits = e } }
+
+pub around_ready : (g : Setting) (a : Around) (e : Exits) (z : Sit) (w : World) → Ready g z w → Ready g (around_here a e z) w
+around_ready g a e z w r = ready_in (record z.scene { around = a; exits = e }) z.env (around_named z.scene a e z.env z.bases z.frame r.named) r
+
+result_adds : (x : Exit) → Adds (result_exit x)
+result_adds break = adds _ (λ w. stays (history w))
+result_adds _ = adds _ (λ w. stays (history w))
+
+-- the result in hand, or none, becomes the item on top
+takes_up : {g : Setting} {s : State} {A B : Account} {z : Sit} {n k : ℕ} {rest : List Stmt} {w w1 : World} {v : Value} → A.most + 2 ≤ B.most → B.least ≤ A.least
+    → Ready g z w → LabelAt g z.scene z.depth n (TakeResult z.depth ∷ rest)
+    → (a : ArrivedAt g s A z (Label n ∷ TakeResult z.depth ∷ rest) k w w1) → Stands g.codes a.bases1 v (option_map_or (λ y. y) a.hand1 Unset) → Has g s B z rest (z.depth + 1) w v w1
+takes_up le le' r l a st = taken_on (omega arith) (omega arith) r (label_on l a) st
+
+-- a result in hand stands
+held_result : (g : Setting) (bases : List ℕ) (v : Value) (h : Option Content) (x : Content) → h ≡ Some x → Stands g.codes bases v x → Stands g.codes bases v (option_map_or (λ y. y) h Unset)
+held_result g bases v h x e st = subst (λ y. Stands g.codes bases v (option_map_or (λ y. y) y Unset)) (sym e) st
+
+pub valof_run : (g : Setting) (m : Meanings) → Simulates g m → (B : Account) (x : Action) (z : Sit) (n j : ℕ) (c rest : List Stmt) (w : World) → 16 * w.turns + 12 ≤ B.most → B.least ≤ w.turns - turns_in x
+    → IsScope g (in_valof n z.scene) z.depth z.env (alone x) j c (Label n ∷ TakeResult z.depth ∷ rest) → LabelAt g z.scene z.depth n (TakeResult z.depth ∷ rest) → Ready g z w
+    → Ran g (start z c w) B (Has g (start z c w) B z rest (z.depth + 1) w) (Out g (start z c w) B z w) (result_of (scope_of m (alone x) forwards z.env w))
+valof_run g m sim B x z n j c rest w le le' l ln r =
+    each_way_ran (λ _. adds _ (λ w1. stays (history w1))) result_adds
+    (so (omega arith) (omega arith) (λ _ w1 q. q) (λ y w1 q. q) (scope_runs g m sim (alone x) forwards (around_here (in_valof n z.scene).around (in_valof n z.scene).exits z) j l.0 c (Label n ∷ TakeResult z.depth ∷ rest) c w l.1 refl (around_ready g (in_valof n z.scene).around (in_valof n z.scene).exits z w r)))
+    (λ _ w1 q. went (takes_up (omega arith) (omega arith) r ln q tt)) out
+  where
+    out : (y : Exit) (w1 : World) → Out g (start z c w) (for_scope (alone x) w) (around_here (in_valof n z.scene).around (in_valof n z.scene).exits z) w y w1
+        → Ran g (start z c w) B (Has g (start z c w) B z rest (z.depth + 1) w) (Out g (start z c w) B z w) (result_exit y w1)
+    out (goto u) w1 o = went (outside z.scene (omega arith) (omega arith) o o.leads)
+    out return w1 o = went (outside z.scene (omega arith) (omega arith) o o.leads)
+    out (result v) w1 o =
+        let at_label : o.control ≡ Label n ∷ TakeResult z.depth ∷ rest = some_is o.control (Label n ∷ TakeResult z.depth ∷ rest) (sym o.leads ∙ ln.found) in
+        went (at_result o.control at_label o.arr o.hands)
+      where
+        at_result : (control : List Stmt) → control ≡ Label n ∷ TakeResult z.depth ∷ rest → (a : ArrivedAt g (start z c w) (for_scope (alone x) w) z control o.depth1 w w1) → Handed g a.bases1 (result v) a.hand1 → Has g (start z c w) B z rest (z.depth + 1) w v w1
+        at_result control e a h =
+            let b : (y : ArrivedAt g (start z c w) (for_scope (alone x) w) z (Label n ∷ TakeResult z.depth ∷ rest) o.depth1 w w1) × Handed g y.bases1 (result v) y.hand1 =
+            subst (λ k. (y : ArrivedAt g (start z c w) (for_scope (alone x) w) z k o.depth1 w w1) × Handed g y.bases1 (result v) y.hand1) e (a, h) in
+            takes_up (omega arith) (omega arith) r ln b.0 (held_result g b.0.bases1 v b.0.hand1 b.1.0 b.1.1 b.1.2)
+    out _ w1 o = not_true o.leads.1
 
 -- in a loop
 abbrev pub looping : ℕ → ℕ → Sit → Sit
@@ -234,3 +338,94 @@ repeat_while_run g m sim B l b a e forwards z at c rest e1 w le le' lx en r =
     rounds_from_label g m (t.repeat_while l b a e) (λ mode z at body rest e1 w. repeat_while_rounds g m sim l b a e mode z at body rest e1 w) B z lx.0 at e1 lx.3 rest w le le' (lx.0, lx.1, lx.2, lx.4, lx.6, lx.7, lx.8, lx.9, lx.10, lx.11) refl lx.8 (en ∙ lx.5) r
 repeat_while_run g m sim B l b a e (seeking s) z at c rest e1 w le le' lx en r =
     rounds_sought g m (t.repeat_while l b a e) (λ mode z at body rest e1 w. repeat_while_rounds g m sim l b a e mode z at body rest e1 w) B s z at lx.3 rest e1 w (omega arith) le' (lx.0, lx.1, lx.2, lx.4, lx.6, lx.7, lx.8, lx.9, lx.10, lx.11) en r
+
+-- in a SWITCHON
+abbrev switching : ℕ → Sit → Sit
+switching n z = record z { scene = in_switch n z.depth z.scene }
+
+case_adds : (x : Exit) → Adds (case_exit x)
+case_adds endcase = adds _ (λ w. stays (history w))
+case_adds _ = adds _ (λ w. stays (history w))
+
+pub ended_adds : (g : Setting) (m : Meanings) → Simulates g m → (a : Action) (mode : Mode) (env : Environment) → Adds (λ w. ended_case (m.act a mode env w))
+ended_adds g m sim a mode env = adds _ (λ w. each_way_after (history w) (m.act a mode env w) (λ _ w. done w) case_exit (sim.grows.act a mode env w) (λ _. adds _ (λ w1. stays (history w1))) case_adds)
+
+-- the body from a place in it, to its end or to an ENDCASE
+pub ended_run : (g : Setting) (m : Meanings) → Simulates g m → (B : Account) (a : Action) (s : Sought) (z : Sit) (env : Environment) (n : ℕ) (at : Sought → List Stmt) (c1 rest e : List Stmt) (w : World) → 16 * w.turns + 1 ≤ B.most → B.least ≤ w.turns - turns_in a
+    → env.names ≡ z.env.names → IsAct g (in_switch n z.depth z.scene) z.depth env a at c1 (Label n ∷ rest) → Entered (seeking s) env a at c1 e → LabelAt g z.scene z.depth n rest → Ready g z w
+    → RanDid g (start z e w) B z rest w (ended_case (m.act a (seeking s) env w))
+ended_run g m sim B a s z env n at c1 rest e w le le' en l ent ln r =
+    each_way_ran (λ _. adds _ (λ w1. stays (history w1))) case_adds
+    (so (omega arith) (omega arith) (λ _ w1 q. q) (λ x w1 q. q) (sim.act a (seeking s) (record (switching n z) { env = env }) at c1 (Label n ∷ rest) e w l ent
+    (ready_at g (switching n z) w env en (around_ready g (in_switch n z.depth z.scene).around (in_switch n z.depth z.scene).exits z w r))))
+    (λ _ w1 q. went (landed_on (omega arith) (omega arith) ln q)) out
+  where
+    out : (x : Exit) (w1 : World) → Out g (start z e w) (for_act a w) (switching n z) w x w1 → RanDid g (start z e w) B z rest w (case_exit x w1)
+    out endcase w1 o = let dp = r.deep in
+        went (landed_on (omega arith) (omega arith) ln
+        (caught_at o (goal n z.depth) z.depth (Label n ∷ rest) refl o.leads.0 ln.found refl (omega arith) (omega arith)))
+    out x w1 o = went (outside z.scene (omega arith) (omega arith) o o.leads)
+
+-- and behind an arrival at that place
+ended_behind : (g : Setting) (m : Meanings) → Simulates g m → (st : State) (A B : Account) (a : Action) (s : Sought) (z : Sit) (env : Environment) (n : ℕ) (at : Sought → List Stmt) (c1 rest e : List Stmt) (w w1 : World) → A.most + 1 ≤ B.most
+    → B.least ≤ (w1.turns - turns_in a) + (A.least - w1.turns) → env.names ≡ z.env.names → IsAct g (in_switch n z.depth z.scene) z.depth env a at c1 (Label n ∷ rest) → Entered (seeking s) env a at c1 e → LabelAt g z.scene z.depth n rest → Ready g z w
+    → ArrivedAt g st A z e z.depth w w1 → RanDid g st B z rest w (ended_case (m.act a (seeking s) env w1))
+ended_behind g m sim st A B a s z env n at c1 rest e w w1 le ll en l ent ln r ar =
+    let m0 = ar.most in
+    comes_to (omega arith) (omega arith) r (omega arith) ar
+    (ended_run g m sim (record { most = 16 * w1.turns + 1; least = w1.turns - turns_in a }) a s (next g st A z e z.depth w w1 z.env z.depth ar) env n at c1 rest e w1 (omega arith) (omega arith) en l ent ln (ready_next z.env z.depth ar refl (omega arith) r))
+
+choose_adds : (g : Setting) (m : Meanings) → Simulates g m → (v : Value) (a : Action) (env : Environment) → Adds (choose_case m v a env)
+choose_adds g m sim (number k) a env = adds _ (λ w. either_after (stands_in (the_case (Some k)) env a) _ _ (ended_adds g m sim a (seeking (the_case (Some k))) env)
+    (adds _ (λ w1. either_after (stands_in the_default env a) _ _ (ended_adds g m sim a (seeking the_default) env) (adds _ (λ w2. stays (history w2))) w1)) w)
+choose_adds g m sim _ a env = adds _ (λ w. tt)
+
+-- the switch itself
+switched : {g : Setting} {s : State} {A : Account} {z : Sit} {other k : ℕ} {cs : List Case} {to c1 : List Stmt} {w w1 : World} → Ready g z w
+    → (a : Has g s A z (Switch other cs ∷ c1) (z.depth + 1) w (number k) w1)
+    → from_label z.scene.own.stmts (case_label cs other k) ≡ Some to → ArrivedAt g s (paying g A) z to z.depth w w1
+switched {g} {s} {A} {z} {other} {k} {cs} {to} {c1} {w} {w1} r a e =
+    arrived_paid a.arr (below (z.frame + z.depth) a.arr.cells1) None a.arr.written1 (links_below r) (λ x lx. below_like (z.frame + z.depth) a.arr.cells1 x lx)
+    (switch_moves g.program (there g s A z (Switch other cs ∷ c1) (z.depth + 1) w w1 a.arr) z.scene.own c1 z.depth other k cs to refl a.stands e)
+
+pub switch_run : (g : Setting) (m : Meanings) → Simulates g m → (B : Account) (l : ℕ) (e : Expression) (a : Action) (z : Sit) (at : Sought → List Stmt) (c rest : List Stmt) (w : World) → 16 * w.turns + 4 ≤ B.most → B.least ≤ w.turns - (turns_of e + turns_in a)
+    → IsAct g z.scene z.depth z.env (t.switch l e a) at c rest → Ready g z w → RanDid g (start z c w) B z rest w (with (m.value e z.env w) (λ v w. choose_case m v a (past e z.env) w))
+switch_run g m sim B l e a z at c rest w le le' lx r =
+    one_run g m sim B e z c (Switch lx.1 lx.2 ∷ lx.3) w _ _ (λ v. choose_adds g m sim v a (past e z.env)) (omega arith) (omega arith) lx.4 r by_value
+  where
+    by_number : (k : ℕ) (w1 : World) → Has g (start z c w) (for_value e w) z (Switch lx.1 lx.2 ∷ lx.3) (z.depth + 1) w (number k) w1 → RanDid g (start z c w) B z rest w (choose_case m (number k) a (past e z.env) w1)
+    by_number k w1 q = let dp = r.deep in let m0 = q.arr.most in
+        by_test (stands_in (the_case (Some k)) (past e z.env) a)
+        (λ (h : stands_in (the_case (Some k)) (past e z.env) a ≡ true).
+        subst (λ (b : Bool). RanDid g (start z c w) B z rest w (either b (λ w. ended_case (m.act a (seeking (the_case (Some k))) (past e z.env) w))
+        (λ w. either (stands_in the_default (past e z.env) a) (λ w. ended_case (m.act a (seeking the_default) (past e z.env) w)) done w) w1)) (sym h)
+        (ended_behind g m sim (start z c w) (paying g (for_value e w)) B a (the_case (Some k)) z (past e z.env) lx.0 at lx.3 rest (at (the_case (Some k))) w w1 (omega arith) (omega arith) refl lx.5 (h, refl) lx.6 r
+        (switched r q (lx.7 k h))))
+        (λ (h : stands_in (the_case (Some k)) (past e z.env) a ≡ false).
+        subst (λ (b : Bool). RanDid g (start z c w) B z rest w (either b (λ w. ended_case (m.act a (seeking (the_case (Some k))) (past e z.env) w))
+        (λ w. either (stands_in the_default (past e z.env) a) (λ w. ended_case (m.act a (seeking the_default) (past e z.env) w)) done w) w1)) (sym h)
+        (by_test (stands_in the_default (past e z.env) a)
+        (λ (i : stands_in the_default (past e z.env) a ≡ true).
+        subst (λ (b : Bool). RanDid g (start z c w) B z rest w (either b (λ w. ended_case (m.act a (seeking the_default) (past e z.env) w)) done w1)) (sym i)
+        (ended_behind g m sim (start z c w) (paying g (for_value e w)) B a the_default z (past e z.env) lx.0 at lx.3 rest (at the_default) w w1 (omega arith) (omega arith) refl lx.5 (i, refl) lx.6 r
+        (switched r q (lx.8 k h i))))
+        (λ (i : stands_in the_default (past e z.env) a ≡ false).
+        subst (λ (b : Bool). RanDid g (start z c w) B z rest w (either b (λ w. ended_case (m.act a (seeking the_default) (past e z.env) w)) done w1)) (sym i)
+        (went (landed_on (omega arith) (omega arith) lx.6
+        (switched r q (ap (λ n. from_label z.scene.own.stmts n) (lx.9 k h i) ∙ lx.6.found)))))))
+
+    by_value : (v : Value) (w1 : World) → Has g (start z c w) (for_value e w) z (Switch lx.1 lx.2 ∷ lx.3) (z.depth + 1) w v w1 → 1 ≤ w.turns → RanDid g (start z c w) B z rest w (choose_case m v a (past e z.env) w1)
+    by_value (number k) w1 q pos = by_number k w1 q
+    by_value _ w1 q pos = went tt
+
+label_only : (s : Sought) (b : Bool) → cond (is_label s) b false ≡ true → b ≡ true
+label_only s b h = by_kind (is_label s) h
+  where
+    by_kind : (k : Bool) → cond k b false ≡ true → b ≡ true
+    by_kind true h = h
+    by_kind false h = not_true h
+
+pub switch_sought : (g : Setting) (m : Meanings) → Simulates g m → (B : Account) (l : ℕ) (e : Expression) (a : Action) (s : Sought) (z : Sit) (at : Sought → List Stmt) (c rest e1 : List Stmt) (w : World) → 16 * w.turns + 1 ≤ B.most → B.least ≤ w.turns - turns_in a
+    → IsAct g z.scene z.depth z.env (t.switch l e a) at c rest → Entered (seeking s) z.env (t.switch l e a) at c e1 → Ready g z w → RanDid g (start z e1 w) B z rest w (ended_case (m.act a (seeking s) (past e z.env) w))
+switch_sought g m sim B l e a s z at c rest e1 w le le' lx en r =
+    ended_run g m sim B a s z (past e z.env) lx.0 at lx.3 rest e1 w le le' refl lx.5 (same_stands s z.env.names (past e z.env).next z.env.next a ∙ label_only s (stands_in s z.env a) en.0, en.1) lx.6 r

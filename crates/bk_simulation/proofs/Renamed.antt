@@ -1,21 +1,27 @@
--- What MANIFEST, STATIC and GLOBAL bring into scope: names that agree, labels that stay, and words that stand where the names say.
+-- What MANIFEST, STATIC and GLOBAL bring into scope: names that agree, labels that stay, and words that stand where the names say. What a LET brings into
+-- scope: its procedures, and behind it its variables; names that agree, labels that stay, and words that stand where the names say.
 use Rattle.bk_simulation.proofs.Words.{◌≡◌, ℕ, suc, ◌+◌, ◌<◌, ◌≤◌, ◌^◌, Bool, true, false, List, [], ◌∷◌, Option, Some, None, cond, refl, sym, ap, ◌∙◌, subst,
   arith, nat_lt, bytes_eq, nat_tests, bytes_eq-Decides, GLOBAL_NUMBER, Mention, Expression, Items, Definition, Definitions, Starts, Bound, Binding, bound_in,
   bind, named_word, constant_word, within, manifests_in_scope, statics_in_scope, globals_in_scope, ManifestsSound, GlobalsSound, Placed, Target, meant, goal_of,
   variable, Named, Environment, Sense, constant, cell, label, foreign, sense_in, sense_of, word_named, constant_in, globals_object, global_named,
-  bind_procedure_as, bind_procedures, objects, objects_of_action, objects_of_starts, sense_of_constant, sense_of_global, letters, manifests, statics}
-use Rattle.bk_tree.specs.Tree as t
-use Rattle.bk_scope.specs.declared.bound.Bound.TheVariants as b
-use Rattle.bk_meaning.specs.Environment as m
-use Rattle.bk_simulation.specs.Regular.{RegularItems}
+  bind_procedure_as, bind_procedures, objects, objects_of_action, objects_of_starts, sense_of_constant, sense_of_global, letters, manifests, statics, ◌-◌, ◌++◌,
+  length, FRAME_WORDS, VEC_NUMBER, bind_all, is_global, Place, deeper, Spot as ScopeSpot, words_of_vector, words_of_start, variables_of, place_behind,
+  place_behind_defined, variables_in_scope, procedure_in_scope, procedures_in_scope, HasWordUpTo, SoundStarted, SoundDefined, behind_starts, behind_definitions,
+  worth, starts_named, definitions_named, variables_hidden, bind_each}
+use Rattle.bk_simulation.specs.Regular.{RegularItems, starts, RegularDefinitions}
 use Rattle.bk_simulation.proofs.Memory.{BaseOf, Grown}
 use Rattle.bk_simulation.proofs.Sought.{with_names}
-use Rattle.bk_simulation.proofs.Laid.{Setting, Scene, place_of, IsWord, IsLabelHere, NameAt, NamedIn, KeepsLabels, Renames}
+use Rattle.bk_simulation.proofs.Laid.{Setting, Scene, place_of, IsWord, IsLabelHere, NameAt, NamedIn, KeepsLabels, Renames, Spot, spots_of, variables_bound,
+  AreAt, RenamesVariables}
 use Rattle.bk_simulation.proofs.NamesBound.{bound_named}
 use Rattle.bk_simulation.proofs.NamesAgree.{Agree, AgreeWords, SameGlobal, own_cell, agree_bound}
 use Rattle.bk_simulation.proofs.LaidExpressions.{HasWords, constants_agree}
 use Rattle.bk_simulation.proofs.Constants.{constant_small}
-use Rattle.bk_simulation.proofs.BehindDeclarations.{words_constant}
+use Rattle.bk_simulation.proofs.BehindDeclarations.{words_constant, words_bound}
+use Rattle.bk_tree.specs.Tree as t
+use Rattle.bk_scope.specs.declared.bound.Bound.TheVariants as b
+use Rattle.bk_meaning.specs.Environment as m
+use Rattle.bk_scope.specs.Spots as scope_spot
 
 -- ---- one name more
 
@@ -180,3 +186,300 @@ renames_globals (t.item l x e is) g sc outer os ns i ao a k =
     let whole1 = subst (λ z. GlobalsLater g sc outer os ns i is (bind x z bs) (m.bind x sw (with_names ns i))) (sym y_is) whole in
     let whole2 = subst (λ z. GlobalsLater g sc outer os ns i is (bind x y bs) (m.bind x z (with_names ns i))) (sym s_is) whole1 in
     record { agree = whole2.agree; keeps = whole2.keeps; renames = whole2.renames }
+
+-- ---- the procedures of a LET
+
+-- their words: a procedure whose name means a global has none
+abbrev pub AreProcedures : List ℕ → Placed → List Target → List Binding → ℕ → ℕ → Definitions → Type 0
+AreProcedures all own ts bs i n t.no_definitions = Unit {0}
+AreProcedures all own ts bs i n (t.define (t.routine l x fs c) ds) =
+    (is_global (bound_in bs x) ≡ false → BaseOf all i (own.places.label ((goal_of ts n).label))) × AreProcedures all own ts (procedure_in_scope n x bs) (i + (1 + objects_of_action c)) (n + 1) ds
+AreProcedures all own ts bs i n (t.define (t.function l x fs e) ds) =
+    (is_global (bound_in bs x) ≡ false → BaseOf all i (own.places.label ((goal_of ts n).label))) × AreProcedures all own ts (procedure_in_scope n x bs) (i + (1 + objects e)) (n + 1) ds
+AreProcedures all own ts bs i n (t.define (t.variables l xs is) ds) = AreProcedures all own ts bs (i + objects_of_starts is) n ds
+
+-- what stands behind some of them, with this in scope and these names in the run
+pub record ProceduresBehind (g : Setting) (sc : Scene) (ns : List Named) (i n : ℕ) (ds : Definitions) (P : Type 0) (bs : List Binding) (env : Environment) : Type 0 where
+  pub agree : Agree (bind_procedures ds env).names (procedures_in_scope n ds bs)
+  pub keeps : KeepsLabels sc.bindings (procedures_in_scope n ds bs)
+  pub means : P → MeanThere g sc (with_names ns i) (procedures_in_scope n ds bs) (bind_procedures ds env)
+
+global_here : (s : Option Sense) (y : Option Bound) → SameGlobal s y → is_global y ≡ true → global_named s ≡ None → ⊥
+global_here s (Some (b.Global None)) h e k = h
+global_here s _ h e k = absurd (cc)
+
+global_there : (s : Option Sense) (y : Option Bound) (v : ℕ) → SameGlobal s y → is_global y ≡ false → global_named s ≡ Some v → ⊥
+global_there s (Some (b.Global v)) w h e k = absurd (cc)
+global_there s _ w h e k = absurd (cc)
+
+-- one procedure, and those behind it
+one_procedure : (g : Setting) (sc : Scene) (ns : List Named) (i n k : ℕ) (ds : Definitions) (x : List ℕ) (u : Option ℕ) (q : Bool) → global_named (sense_in ns x) ≡ u → is_global (bound_in sc.bindings x) ≡ q → 0 < i → Agree ns sc.bindings
+    → ((sc1 : Scene) (ns1 : List Named) → Agree ns1 sc1.bindings → ProceduresBehind g sc1 ns1 (i + k) (n + 1) ds (AreProcedures g.lasting sc1.own sc1.targets sc1.bindings (i + k) (n + 1) ds) sc1.bindings (with_names ns1 (i + k)))
+    → ProceduresBehind g sc ns i (n + 1) ds
+    ((q ≡ false → BaseOf g.lasting i (sc.own.places.label ((goal_of sc.targets n).label))) × AreProcedures g.lasting sc.own sc.targets (cond q sc.bindings (bind x (b.Static n) sc.bindings)) (i + k) (n + 1) ds)
+    (cond q sc.bindings (bind x (b.Static n) sc.bindings)) (m.behind k (bind_procedure_as u x (with_names ns i)))
+one_procedure g sc ns i n k ds x None true e f some a more = absurd (global_here (sense_in ns x) (bound_in sc.bindings x) (a.1 x) f e)
+one_procedure g sc ns i n k ds x None false e f some a more =
+    let bs : List Binding = sc.bindings in
+    let y : Bound = b.Static n in
+    let s : Sense = cell i 0 in
+    let sc1 : Scene = record sc { bindings = bind x y bs } in
+    let mine = more sc1 (record { name = x; sense = s } ∷ ns) (agree_bound x s y ns bs refl (own_cell i 0 some) a) in
+    record {
+      agree = mine.agree;
+      keeps = keeps_both bs (bind x y bs) (procedures_in_scope (n + 1) ds (bind x y bs)) (keeps_bound x y bs (λ z. z)) mine.keeps;
+      means = λ u bases frame grown r.
+          let there = bound_named sc (with_names ns i) bases frame x y s (static_at g sc1 bases frame x i n grown (u.0 refl) (itself x y bs)) r in
+          mine.means u.1 bases frame grown (record { each = there.each });
+    }
+one_procedure g sc ns i n k ds x (Some v) true e f some a more =
+    let mine = more sc ns a in
+    record { agree = mine.agree; keeps = mine.keeps; means = λ u bases frame grown r. mine.means u.1 bases frame grown (record { each = r.each }) }
+one_procedure g sc ns i n k ds x (Some v) false e f some a more = absurd (global_there (sense_in ns x) (bound_in sc.bindings x) v (a.1 x) f e)
+
+pub renames_procedures : (ds : Definitions) (g : Setting) (sc : Scene) (ns : List Named) (i n : ℕ) → 0 < i → Agree ns sc.bindings
+    → ProceduresBehind g sc ns i n ds (AreProcedures g.lasting sc.own sc.targets sc.bindings i n ds) sc.bindings (with_names ns i)
+renames_procedures t.no_definitions g sc ns i n some a = record { agree = a; keeps = keeps_same sc.bindings; means = λ u bases frame grown r. r }
+renames_procedures (t.define (t.routine l x fs c) ds) g sc ns i n some a =
+    let k : ℕ = 1 + objects_of_action c in
+    let some1 : 0 < i + (1 + objects_of_action c) = omega (arith, some) in
+    let one = one_procedure g sc ns i n k ds x (global_named (sense_in ns x)) (is_global (bound_in sc.bindings x)) refl refl some a (λ sc1 ns1 a1. renames_procedures ds g sc1 ns1 (i + k) (n + 1) some1 a1) in
+    record { agree = one.agree; keeps = one.keeps; means = one.means }
+renames_procedures (t.define (t.function l x fs e) ds) g sc ns i n some a =
+    let k : ℕ = 1 + objects e in
+    let some1 : 0 < i + (1 + objects e) = omega (arith, some) in
+    let one = one_procedure g sc ns i n k ds x (global_named (sense_in ns x)) (is_global (bound_in sc.bindings x)) refl refl some a (λ sc1 ns1 a1. renames_procedures ds g sc1 ns1 (i + k) (n + 1) some1 a1) in
+    record { agree = one.agree; keeps = one.keeps; means = one.means }
+renames_procedures (t.define (t.variables l xs is) ds) g sc ns i n some a =
+    let some1 : 0 < i + objects_of_starts is = omega (arith, some) in
+    let more = renames_procedures ds g sc ns (i + objects_of_starts is) n some1 a in
+    record { agree = more.agree; keeps = more.keeps; means = λ u bases frame grown r. more.means u bases frame grown (record { each = r.each }) }
+
+-- ---- the variables of a LET
+
+-- the slots of variables that begin so, from a depth on
+abbrev pub slots_of : List Binding → ℕ → Starts → List ℕ
+slots_of bs d t.no_starts = []
+slots_of bs d (t.value e is) = d ∷ slots_of bs (d + 1) is
+slots_of bs d (t.vector l e is) = (d + worth (constant_word bs e) + 1) ∷ slots_of bs (d + worth (constant_word bs e) + 2) is
+
+-- and the depth behind them
+abbrev pub depth_past : List Binding → ℕ → Starts → ℕ
+depth_past bs d t.no_starts = d
+depth_past bs d (t.value e is) = depth_past bs (d + 1) is
+depth_past bs d (t.vector l e is) = depth_past bs (d + worth (constant_word bs e) + 2) is
+
+-- variables of procedure k in scope
+abbrev pub from_spots : ℕ → List Spot → List Binding
+from_spots k [] = []
+from_spots k (p ∷ ps) = record { name = p.name; bound = b.Variable k p.slot } ∷ from_spots k ps
+
+-- their slots are in a frame
+abbrev pub InFrame : List Spot → Type 0
+InFrame [] = Unit {0}
+InFrame (p ∷ ps) = (p.slot ≤ FRAME_WORDS) × InFrame ps
+
+pub from_both : (k : ℕ) (xs ys : List Spot) → from_spots k (xs ++ ys) ≡ from_spots k xs ++ from_spots k ys
+from_both k [] ys = refl
+from_both k (x ∷ xs) ys = ap (λ z. record { name = x.name; bound = b.Variable k x.slot } ∷ z) (from_both k xs ys)
+
+pub frame_both : (xs ys : List Spot) → InFrame xs → InFrame ys → InFrame (xs ++ ys)
+frame_both [] ys a c = c
+frame_both (x ∷ xs) ys a c = (a.0, frame_both xs ys a.1 c)
+
+variable_at : (sc : Scene) (bases : List ℕ) (frame : ℕ) (x : List ℕ) (o k n : ℕ) → frame ≤ 2 ^ 31 - 65536 → n ≤ FRAME_WORDS → BaseOf bases o (frame + n) → bound_in sc.bindings x ≡ Some (b.Variable k n) → NameAt sc bases frame x (Some (cell o 0))
+variable_at sc bases frame x o k n low few base e =
+    let small : frame + n + 0 < 2 ^ 32 = omega (arith, low, few) in
+    let at : frame + n + 0 ≡ frame + n = omega arith in
+    (frame + n, base, small, at ∙ ap (λ y. place_of sc.own frame (variable sc.targets (meant y))) (sym e), subst (λ y. IsWord y) (sym e) tt)
+
+-- variables in the run hide names as they do in scope,
+pub bound_agree : (ps : List Spot) (ns : List Named) (bs : List Binding) (i o k : ℕ) → 0 < o → Agree ns bs → Agree (variables_bound o ps (with_names ns i)).names (bind_all (from_spots k ps) bs)
+bound_agree [] ns bs i o k some a = a
+bound_agree (p ∷ ps) ns bs i o k some a =
+    let some1 : 0 < suc o = omega arith in
+    bound_agree ps (record { name = p.name; sense = cell o 0 } ∷ ns) (bind p.name (b.Variable k p.slot) bs) i (suc o) k some1 (agree_bound p.name (cell o 0) (b.Variable k p.slot) ns bs refl (own_cell o 0 some) a)
+
+pub next_bound : (ps : List Spot) (o : ℕ) (env : Environment) → (variables_bound o ps env).next ≡ env.next
+next_bound [] o env = refl
+next_bound (p ∷ ps) o env = next_bound ps (suc o) (m.bind p.name (cell o 0) env)
+
+-- and so do those that are foreign to procedures
+abbrev pub foreign_spots : List Spot → Environment → Environment
+foreign_spots [] env = env
+foreign_spots (p ∷ ps) env = foreign_spots ps (m.bind p.name foreign env)
+
+pub foreign_agree : (ps : List Spot) (ns : List Named) (bs : List Binding) (i k : ℕ) → Agree ns bs → Agree (foreign_spots ps (with_names ns i)).names (bind_all (from_spots k ps) bs)
+foreign_agree [] ns bs i k a = a
+foreign_agree (p ∷ ps) ns bs i k a = foreign_agree ps (record { name = p.name; sense = foreign } ∷ ns) (bind p.name (b.Variable k p.slot) bs) i k (agree_bound p.name foreign (b.Variable k p.slot) ns bs refl refl a)
+
+pub foreign_mean : (ps : List Spot) (sc : Scene) (env : Environment) (k : ℕ) (bases : List ℕ) (frame : ℕ) → NamedIn sc env bases frame → NamedIn (record sc { bindings = bind_all (from_spots k ps) sc.bindings }) (foreign_spots ps env) bases frame
+foreign_mean [] sc env k bases frame n = n
+foreign_mean (p ∷ ps) sc env k bases frame n =
+    foreign_mean ps (record sc { bindings = bind p.name (b.Variable k p.slot) sc.bindings }) (m.bind p.name foreign env) k bases frame (bound_named sc env bases frame p.name (b.Variable k p.slot) foreign tt n)
+
+pub spots_words : (ps : List Spot) (k : ℕ) (bs : List Binding) → HasWords bs → HasWords (bind_all (from_spots k ps) bs)
+spots_words [] k bs h = h
+spots_words (p ∷ ps) k bs h = spots_words ps k (bind p.name (b.Variable k p.slot) bs) (words_bound p.name (b.Variable k p.slot) bs (λ v r. absurd (cc)) h)
+
+variables_mean : (ps : List Spot) (sc : Scene) (env : Environment) (o k : ℕ) (bases : List ℕ) (frame : ℕ) → InFrame ps → frame ≤ 2 ^ 31 - 65536 → AreAt bases o frame ps → NamedIn sc env bases frame
+    → NamedIn (record sc { bindings = bind_all (from_spots k ps) sc.bindings }) (variables_bound o ps env) bases frame
+variables_mean [] sc env o k bases frame f low at n = n
+variables_mean (p ∷ ps) sc env o k bases frame f low at n =
+    let y : Bound = b.Variable k p.slot in
+    let sc1 : Scene = record sc { bindings = bind p.name y sc.bindings } in
+    variables_mean ps sc1 (m.bind p.name (cell o 0) env) (suc o) k bases frame f.1 low at.1
+    (bound_named sc env bases frame p.name y (cell o 0) (variable_at sc1 bases frame p.name o k p.slot low f.0 at.0 (itself p.name y sc.bindings)) n)
+
+keeps_spots : (ps : List Spot) (k : ℕ) (bs : List Binding) → KeepsLabels bs (bind_all (from_spots k ps) bs)
+keeps_spots [] k bs = keeps_same bs
+keeps_spots (p ∷ ps) k bs = keeps_both bs (bind p.name (b.Variable k p.slot) bs) (bind_all (from_spots k ps) (bind p.name (b.Variable k p.slot) bs)) (keeps_bound p.name (b.Variable k p.slot) bs (λ z. z)) (keeps_spots ps k (bind p.name (b.Variable k p.slot) bs))
+
+-- the names of a LET's variables mean their words
+pub renames_variables : (ps : List Spot) (sc : Scene) (bl : List Binding) (env : Environment) (n k : ℕ) → KeepsLabels sc.bindings bl → InFrame ps
+    → RenamesVariables sc bl env (bind_all (from_spots k ps) bl) ps (m.behind n env)
+renames_variables ps sc bl env n k keeps f = (
+  keeps_both sc.bindings bl (bind_all (from_spots k ps) bl) keeps (keeps_spots ps k bl),
+  λ o bases frame low at r. variables_mean ps (record sc { bindings = bl }) (m.behind n env) o k bases frame f low at (record { each = r.each }),
+)
+
+-- the variables that scoping binds
+most_within : (most : ℕ) (w : ℕ) → w ≤ most → nat_lt most w ≡ false
+most_within most w h = grind (arith, nat_tests)
+
+vector_size : (bs : List Binding) (e : Expression) → HasWordUpTo VEC_NUMBER (constant_word bs e) → words_of_start bs e ≡ worth (constant_word bs e) + 1
+vector_size bs e h =
+    let is_word = h.1 in
+    ap (λ y. words_of_vector (within VEC_NUMBER y)) is_word ∙ ap (λ (q : Bool). words_of_vector (cond q None (Some h.0))) (most_within VEC_NUMBER h.0 h.2) ∙ ap (λ y. worth y + 1) (sym is_word)
+
+pub depth_grows : (bs : List Binding) (d : ℕ) (is : Starts) → d ≤ depth_past bs d is
+depth_grows bs d t.no_starts = omega arith
+depth_grows bs d (t.value e is) = let h = depth_grows bs (d + 1) is in omega (arith, h)
+depth_grows bs d (t.vector l e is) = let h = depth_grows bs (d + worth (constant_word bs e) + 2) is in omega (arith, h)
+
+-- vectors of a LET have constants that may be
+abbrev pub VectorsSound : List Binding → Starts → Type 0
+VectorsSound bs t.no_starts = Unit {0}
+VectorsSound bs (t.value e is) = VectorsSound bs is
+VectorsSound bs (t.vector l e is) = HasWordUpTo VEC_NUMBER (constant_word bs e) × VectorsSound bs is
+
+pub vectors_sound : (bs : List Binding) (p : Place) (s : ScopeSpot) (is : Starts) → SoundStarted bs p s is → VectorsSound bs is
+vectors_sound bs p s t.no_starts h = tt
+vectors_sound bs p s (t.value e is) h = vectors_sound bs (deeper 1 p) (scope_spot.behind e s) is h.1
+vectors_sound bs p s (t.vector l e is) h = (h.0, vectors_sound bs (deeper (words_of_start bs e + 1) p) (scope_spot.behind_constant e s) is h.1)
+
+-- what one definition of variables binds
+pub record VariablesOf (bs : List Binding) (p : Place) (d : ℕ) (xs : List Mention) (is : Starts) : Type 0 where
+  pub are : variables_of bs p xs is ≡ from_spots p.procedure (spots_of (letters xs) (slots_of bs d is))
+  pub fit : InFrame (spots_of (letters xs) (slots_of bs d is))
+  pub procedure : (place_behind bs p is).procedure ≡ p.procedure
+  pub depth : (place_behind bs p is).depth ≡ depth_past bs d is
+
+pub variables_are : (bs : List Binding) (p : Place) (d : ℕ) (xs : List Mention) (is : Starts) → p.depth ≡ d → length xs ≡ starts is → VectorsSound bs is → depth_past bs d is ≤ FRAME_WORDS → VariablesOf bs p d xs is
+variables_are bs p d [] t.no_starts at few h low = record { are = refl; fit = tt; procedure = refl; depth = at }
+variables_are bs p d (x ∷ xs) (t.value e is) at few h low =
+    let grows = depth_grows bs (d + 1) is in
+    let at1 : (deeper 1 p).depth ≡ d + 1 = omega (arith, at, grows, low) in
+    let here : (deeper 0 p).depth ≡ d = omega (arith, at, grows, low) in
+    let in_frame : d ≤ FRAME_WORDS = omega (arith, grows, low) in
+    let few1 : length xs ≡ starts is = omega (arith, few) in
+    let more = variables_are bs (deeper 1 p) (d + 1) xs is at1 few1 h low in
+    record {
+      are = ap (λ z. record { name = x.letters; bound = b.Variable p.procedure z } ∷ variables_of bs (deeper 1 p) xs is) here ∙ ap (λ z. record { name = x.letters; bound = b.Variable p.procedure d } ∷ z) more.are;
+      fit = (in_frame, more.fit);
+      procedure = more.procedure;
+      depth = more.depth;
+    }
+variables_are bs p d (x ∷ xs) (t.vector l e is) at few h low =
+    let size : ℕ = worth (constant_word bs e) in
+    let grows = depth_grows bs (d + size + 2) is in
+    let words = vector_size bs e h.0 in
+    let at1 : (deeper (words_of_start bs e + 1) p).depth ≡ d + size + 2 = omega (arith, at, grows, low, words) in
+    let here : (deeper (words_of_start bs e) p).depth ≡ d + size + 1 = omega (arith, at, grows, low, words) in
+    let in_frame : d + size + 1 ≤ FRAME_WORDS = omega (arith, grows, low) in
+    let few1 : length xs ≡ starts is = omega (arith, few) in
+    let p1 : Place = deeper (words_of_start bs e + 1) p in
+    let more = variables_are bs p1 (d + size + 2) xs is at1 few1 h.1 low in
+    record {
+      are = ap (λ z. record { name = x.letters; bound = b.Variable p.procedure z } ∷ variables_of bs p1 xs is) here ∙ ap (λ z. record { name = x.letters; bound = b.Variable p.procedure (d + size + 1) } ∷ z) more.are;
+      fit = (in_frame, more.fit);
+      procedure = more.procedure;
+      depth = more.depth;
+    }
+variables_are bs p d _ _ at few h low = absurd (omega (arith, few))
+
+pub past_is : (bs : List Binding) (p : Place) (s : ScopeSpot) (d : ℕ) (is : Starts) → depth_past bs d is ≡ behind_starts d (starts_named bs p s is)
+past_is bs p s d t.no_starts = refl
+past_is bs p s d (t.value e is) = past_is bs (deeper 1 p) (scope_spot.behind e s) (d + 1) is
+past_is bs p s d (t.vector l e is) = past_is bs (deeper (words_of_start bs e + 1) p) (scope_spot.behind_constant e s) (d + worth (constant_word bs e) + 2) is
+
+-- all variables of a LET
+abbrev pub spots_in : List Binding → Place → ScopeSpot → ℕ → Definitions → List Spot
+spots_in bs p s d t.no_definitions = []
+spots_in bs p s d (t.define (t.variables l xs is) ds) =
+    spots_of (letters xs) (slots_of bs d is) ++ spots_in bs (place_behind bs p is) (scope_spot.behind_one_defined (t.variables l xs is) s) (behind_starts d (starts_named bs p (scope_spot.past (length xs) s) is)) ds
+spots_in bs p s d (t.define (t.routine l x fs c) ds) = spots_in bs p (scope_spot.behind_one_defined (t.routine l x fs c) s) d ds
+spots_in bs p s d (t.define (t.function l x fs e) ds) = spots_in bs p (scope_spot.behind_one_defined (t.function l x fs e) s) d ds
+
+pub definitions_grow : (bs : List Binding) (p : Place) (s : ScopeSpot) (d : ℕ) (ds : Definitions) → d ≤ behind_definitions d (definitions_named bs p s ds)
+definitions_grow bs p s d t.no_definitions = omega arith
+definitions_grow bs p s d (t.define (t.routine l x fs c) ds) = definitions_grow bs p (scope_spot.behind_one_defined (t.routine l x fs c) s) d ds
+definitions_grow bs p s d (t.define (t.function l x fs e) ds) = definitions_grow bs p (scope_spot.behind_one_defined (t.function l x fs e) s) d ds
+definitions_grow bs p s d (t.define (t.variables l xs is) ds) =
+    let d1 : ℕ = behind_starts d (starts_named bs p (scope_spot.past (length xs) s) is) in
+    let first = depth_grows bs d is in
+    let same : depth_past bs d is ≡ d1 = past_is bs p (scope_spot.past (length xs) s) d is in
+    let others = definitions_grow bs (place_behind bs p is) (scope_spot.behind_one_defined (t.variables l xs is) s) d1 ds in
+    omega (arith, first, same, others)
+
+pub record VariablesIn (bs : List Binding) (p : Place) (s : ScopeSpot) (d : ℕ) (ds : Definitions) : Type 0 where
+  pub are : variables_in_scope bs p ds ≡ from_spots p.procedure (spots_in bs p s d ds)
+  pub fit : InFrame (spots_in bs p s d ds)
+  pub procedure : (place_behind_defined bs p ds).procedure ≡ p.procedure
+  pub depth : (place_behind_defined bs p ds).depth ≡ behind_definitions d (definitions_named bs p s ds)
+
+pub variables_in : (bs : List Binding) (p : Place) (s : ScopeSpot) (d : ℕ) (ds : Definitions) → p.depth ≡ d → SoundDefined bs p s ds → RegularDefinitions ds → behind_definitions d (definitions_named bs p s ds) ≤ FRAME_WORDS → VariablesIn bs p s d ds
+variables_in bs p s d t.no_definitions at h r low = record { are = refl; fit = tt; procedure = refl; depth = at }
+variables_in bs p s d (t.define (t.routine l x fs c) ds) at h r low =
+    let more = variables_in bs p (scope_spot.behind_one_defined (t.routine l x fs c) s) d ds at h.1 r.1 low in
+    record { are = more.are; fit = more.fit; procedure = more.procedure; depth = more.depth }
+variables_in bs p s d (t.define (t.function l x fs e) ds) at h r low =
+    let more = variables_in bs p (scope_spot.behind_one_defined (t.function l x fs e) s) d ds at h.1 r.1 low in
+    record { are = more.are; fit = more.fit; procedure = more.procedure; depth = more.depth }
+variables_in bs p s d (t.define (t.variables l xs is) ds) at h r low =
+    let s0 : ScopeSpot = scope_spot.past (length xs) s in
+    let s1 : ScopeSpot = scope_spot.behind_one_defined (t.variables l xs is) s in
+    let p1 : Place = place_behind bs p is in
+    let d1 : ℕ = behind_starts d (starts_named bs p s0 is) in
+    let same : depth_past bs d is ≡ d1 = past_is bs p s0 d is in
+    let grows : d1 ≤ behind_definitions d1 (definitions_named bs p1 s1 ds) = definitions_grow bs p1 s1 d1 ds in
+    let low0 : depth_past bs d is ≤ FRAME_WORDS = omega (arith, same, grows, low) in
+    let first = variables_are bs p d xs is at r.0.0 (vectors_sound bs p s0 is h.0) low0 in
+    let more = variables_in bs p1 s1 d1 ds (first.depth ∙ same) h.1 r.1 low in
+    let here : List Spot = spots_of (letters xs) (slots_of bs d is) in
+    let others : List Spot = spots_in bs p1 s1 d1 ds in
+    record {
+      are = ap (λ z. z ++ variables_in_scope bs p1 ds) first.are ∙ ap (λ z. from_spots p.procedure here ++ z) (more.are ∙ ap (λ k. from_spots k others) first.procedure) ∙ sym (from_both p.procedure here others);
+      fit = frame_both here others first.fit more.fit;
+      procedure = more.procedure ∙ first.procedure;
+      depth = more.depth;
+    }
+
+-- the variables of a LET are foreign to the procedures behind it
+foreign_started : (bs : List Binding) (d : ℕ) (xs : List Mention) (is : Starts) (ps : List Spot) (env : Environment) → length xs ≡ starts is
+    → foreign_spots (spots_of (letters xs) (slots_of bs d is) ++ ps) env ≡ foreign_spots ps (bind_each (letters xs) foreign env)
+foreign_started bs d [] t.no_starts ps env few = refl
+foreign_started bs d (x ∷ xs) (t.value e is) ps env few = let few1 : length xs ≡ starts is = omega (arith, few) in foreign_started bs (d + 1) xs is ps (m.bind x.letters foreign env) few1
+foreign_started bs d (x ∷ xs) (t.vector l e is) ps env few =
+    let few1 : length xs ≡ starts is = omega (arith, few) in foreign_started bs (d + worth (constant_word bs e) + 2) xs is ps (m.bind x.letters foreign env) few1
+foreign_started bs d _ _ ps env few = absurd (omega (arith, few))
+
+pub hidden_are : (bs : List Binding) (p : Place) (s : ScopeSpot) (d : ℕ) (ds : Definitions) (env : Environment) → RegularDefinitions ds → foreign_spots (spots_in bs p s d ds) env ≡ variables_hidden ds env
+hidden_are bs p s d t.no_definitions env r = refl
+hidden_are bs p s d (t.define (t.routine l x fs c) ds) env r = hidden_are bs p (scope_spot.behind_one_defined (t.routine l x fs c) s) d ds env r.1
+hidden_are bs p s d (t.define (t.function l x fs e) ds) env r = hidden_are bs p (scope_spot.behind_one_defined (t.function l x fs e) s) d ds env r.1
+hidden_are bs p s d (t.define (t.variables l xs is) ds) env r =
+    let p1 : Place = place_behind bs p is in
+    let s1 : ScopeSpot = scope_spot.behind_one_defined (t.variables l xs is) s in
+    let d1 : ℕ = behind_starts d (starts_named bs p (scope_spot.past (length xs) s) is) in
+    foreign_started bs d xs is (spots_in bs p1 s1 d1 ds) env r.0.0 ∙ hidden_are bs p1 s1 d1 ds (bind_each (letters xs) foreign env) r.1

@@ -18,8 +18,7 @@ use Rattle.bk_simulation.proofs.Frame.{Sit, state, FewFrames, Ready, Account, Co
 use Rattle.bk_simulation.proofs.Compose.{roomy}
 use Rattle.bk_simulation.proofs.Simulates.{Simulates}
 use Rattle.bk_simulation.proofs.NewFrames.{formals_long, formal_is}
-use Rattle.bk_simulation.proofs.Calls.{AnyExit, Yielded, AloneRuns, for_body, body_small, body_runs, closing_ran, IsProcedure}
-use Rattle.bk_simulation.proofs.EnteredCalls.{in_body, links_free}
+use Rattle.bk_simulation.proofs.Calls.{AnyExit, Yielded, AloneRuns, for_body, body_small, body_runs, closing_ran, IsProcedure, in_body, links_free}
 
 -- what the store holds before START is called
 pub record FirstStore (g : Setting) (mem : Memory) (cells : ℕ → Cell) : Type 0 where

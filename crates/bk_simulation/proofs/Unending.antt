@@ -8,10 +8,9 @@ use Rattle.bk_meaning.proofs.MeaningSpending.{cut_only_without_turns}
 use Rattle.bk_simulation.specs.GoingOn.{settled}
 use Rattle.bk_simulation.specs.Simulation.{Begin, RunsOut, StillGoes, RunsOutOnTheWay, IsWithoutEnd, StepsDoWhatSourcesMean, StepsGoOnWithTheirSource, StartsWithTheirSource}
 use Rattle.bk_simulation.proofs.Laid.{Setting}
-use Rattle.bk_simulation.proofs.Frame.{Account, FewFrames, Comes, here, go_on, FallsThose, Reaches, Ran}
+use Rattle.bk_simulation.proofs.Frame.{Account, FewFrames, Comes, here, go_on, FallsThose, Reaches, Ran, by_option}
 use Rattle.bk_simulation.proofs.Simulates.{Simulates}
-use Rattle.bk_simulation.proofs.Calls.{AnyExit, Procedures}
-use Rattle.bk_simulation.proofs.EnteredCalls.{is_above, is_at_most}
+use Rattle.bk_simulation.proofs.Calls.{AnyExit, Procedures, is_above, is_at_most}
 use Rattle.bk_simulation.proofs.All.{alone_runs, alone_adds, simulates}
 use Rattle.bk_simulation.proofs.ProgramRuns.{goes_on_so, comes_run, passed}
 use Rattle.bk_simulation.proofs.StartRuns.{Over}
@@ -140,23 +139,19 @@ laid_goes_on sections program first input s well laid es without j =
         }
 
     at_start : (x : HasStart g p) → called_at g input (g.codes.procedure x.number) ≡ s → Result
-    at_start x at = by_procedure (procedure_of p x.number) refl
+    at_start x at = by_option (λ o. Result) (procedure_of p x.number) (λ eo. absurd (let z : Undefined ≡ Going bytes left calls = so None eo in cc)) (λ f eo.
+        let o : Outcome Value = enter m (Some f) [] (calling w0) in
+        let e : run_of (back_to 0 o) ≡ Going bytes left calls = so (Some f) eo in
+        let c1 : 1 ≤ calls_of (run_of (back_to 0 o)) = some_calls 0 w0 o (enter_after m (alone_adds g m sim) g sim f [] (calling w0)) in
+        let cap1 : 1 ≤ calls = subst (λ y. 1 ≤ calls_of y) e c1 in
+        let y = entered_so g p n input sim (alone_runs g m sim) (first_store g _ laid.holds laid.library) x.number f (procs.each x.number f eo) cap1 in
+        let z = far_so g (called_at g input (g.codes.procedure x.number)) y.at y.is y.few n 0 B o (omega arith)
+        (λ v ev. cut_only_without_turns p (procedure x.number) [] n w0 v (omega arith) (ap (λ u. back_to 0 (enter m u [] (calling w0))) eo ∙ ev)) bytes left calls e refl (y.ran B (omega arith) (omega arith)) in
+        ⊎_elim (λ (q : Far g n (called_at g input (g.codes.procedure x.number)) bytes). inl (there (subst (λ u. Far g n u bytes) at q)))
+        (λ (q : RunsOut program first (called_at g input (g.codes.procedure x.number)) calls bytes). inr (record { turns = n; bytes = bytes; left = left; calls = calls; means = means_so; runs_out = subst (λ u. RunsOut program first u calls bytes) at q })) z)
       where
         so : (o : Option Procedure) → procedure_of p x.number ≡ o → run_of (back_to 0 (enter m o [] (calling w0))) ≡ Going bytes left calls
         so o eo = ap (λ y. run_of (back_to 0 (enter m y [] (calling w0)))) (sym eo) ∙ ap (λ v. started p v w0 n) (sym x.is) ∙ means_so
-
-        by_procedure : (o : Option Procedure) → procedure_of p x.number ≡ o → Result
-        by_procedure None eo = absurd (let z : Undefined ≡ Going bytes left calls = so None eo in cc)
-        by_procedure (Some f) eo =
-            let o : Outcome Value = enter m (Some f) [] (calling w0) in
-            let e : run_of (back_to 0 o) ≡ Going bytes left calls = so (Some f) eo in
-            let c1 : 1 ≤ calls_of (run_of (back_to 0 o)) = some_calls 0 w0 o (enter_after m (alone_adds g m sim) g sim f [] (calling w0)) in
-            let cap1 : 1 ≤ calls = subst (λ y. 1 ≤ calls_of y) e c1 in
-            let y = entered_so g p n input sim (alone_runs g m sim) (first_store g _ laid.holds laid.library) x.number f (procs.each x.number f eo) cap1 in
-            let z = far_so g (called_at g input (g.codes.procedure x.number)) y.at y.is y.few n 0 B o (omega arith)
-            (λ v ev. cut_only_without_turns p (procedure x.number) [] n w0 v (omega arith) (ap (λ u. back_to 0 (enter m u [] (calling w0))) eo ∙ ev)) bytes left calls e refl (y.ran B (omega arith) (omega arith)) in
-            ⊎_elim (λ (q : Far g n (called_at g input (g.codes.procedure x.number)) bytes). inl (there (subst (λ u. Far g n u bytes) at q)))
-            (λ (q : RunsOut program first (called_at g input (g.codes.procedure x.number)) calls bytes). inr (record { turns = n; bytes = bytes; left = left; calls = calls; means = means_so; runs_out = subst (λ u. RunsOut program first u calls bytes) at q })) z
 
 -- ---- THE LAWS OF PROGRAMS: the steps of OCODE do what the source means.
 
