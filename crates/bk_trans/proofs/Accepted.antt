@@ -1,16 +1,10 @@
 -- The scheme's statements of a section without faults are an accepted section.
-use Rattle.std.proofs.Common.{arith, ◌≡◌, ℕ, suc, ◌+◌, ◌≤◌, List, [], ◌∷◌, ◌++◌, length, refl, ap, subst}
-use Rattle.bk_base.specs.declared.limit.TheConstants.{OCODE_LABEL, OCODE_STATEMENTS, OCODE_WORDS}
-use Rattle.bk_tree.specs.Tree.{Declarations}
-use Rattle.bk_scope.specs.Points.{Point, meaning, word, depth, wrong, claim, words_of}
-use Rattle.bk_scope.specs.Faults.{faults, told_of, meanings, words}
-use Rattle.bk_scope.specs.Sound.{SoundSection}
+use Rattle.bk_trans.proofs.Words.{arith, ◌≡◌, ℕ, suc, ◌+◌, ◌≤◌, List, [], ◌∷◌, ◌++◌, length, refl, ap, subst, OCODE_LABEL, OCODE_STATEMENTS, OCODE_WORDS,
+  Declarations, Point, meaning, word, depth, wrong, claim, words_of, faults, told_of, meanings, words, SoundSection, joined, Use, times_set}
 use Rattle.bk_scope.proofs.Parts.{section_clean}
 use Rattle.bk_scope.proofs.Soundness.{section_sound}
-use Rattle.bk_ocode.specs.Lists.{joined}
 use Rattle.bk_ocode.specs.Section.{IsSection}
 use Rattle.bk_ocode.specs.SectionData.{text_size}
-use Rattle.bk_ocode.specs.Typing.{Use, times_set}
 use Rattle.bk_ocode.proofs.TypedSections.{typed_is_section}
 use Rattle.bk_trans.specs.declared.around.Target.{Target}
 use Rattle.bk_trans.specs.Program as p
@@ -22,8 +16,7 @@ use Rattle.bk_trans.specs.Scheme.{scheme}
 use Rattle.bk_trans.specs.Laws.{AreWords, SchemeIsAccepted}
 use Rattle.bk_trans.proofs.Named.{filling_names}
 use Rattle.bk_trans.proofs.Few.{labels_are_few}
-use Rattle.bk_trans.proofs.Counted.{statements_are_few}
-use Rattle.bk_trans.proofs.Words.{words_are_few}
+use Rattle.bk_trans.proofs.Counted.{statements_are_few, words_are_few}
 use Rattle.bk_trans.proofs.Once.{labels_are_set_once}
 use Rattle.bk_trans.proofs.Marks.{Mark, AllRight, right_front, right_back}
 use Rattle.bk_trans.proofs.Sections.{part_marks, look, look_right, look_set, section_marked, section_typed}

@@ -1,19 +1,12 @@
 -- What single pieces add to what was written: names, labels, words of data, switches and procedures.
-use Rattle.std.proofs.Common.{◌≡◌, ℕ, ◌+◌, true, Option, Some, None, List, [], ◌∷◌, ◌++◌, map, length, refl, sym, ap, ◌∙◌, append_assoc, arith}
-use Rattle.std.proofs.lemmas.List.{append-nil, map-append}
-use Rattle.bk_base.specs.Strings.{first_bytes}
-use Rattle.bk_base.specs.Word.{signed}
-use Rattle.bk_tree.specs.declared.tree.Operator.{Operator}
+use Rattle.bk_trans.proofs.Words.{◌≡◌, ℕ, ◌+◌, true, Option, Some, None, List, [], ◌∷◌, ◌++◌, map, length, refl, sym, ap, ◌∙◌, append_assoc, arith, append-nil,
+  map-append, first_bytes, signed, Operator, Expressions, Items, no_items, item, Bound, Local, Case, Stmt, Number, Load, Dyadic, Assign, Jump, JumpIf, Stack,
+  Store, Entry, Save, EndProcedure, Switch, DataLabel, DataNumber, DataAddress, joined}
 use Rattle.bk_tree.specs.declared.tree.Operator.TheVariants as o
-use Rattle.bk_tree.specs.Tree.{Expressions, Items, no_items, item}
-use Rattle.bk_scope.specs.declared.bound.Bound.{Bound}
 use Rattle.bk_scope.specs.declared.bound.Bound.TheVariants as b
-use Rattle.bk_ocode.specs.declared.stmt.Variable.TheVariants.{Local, Static}
+use Rattle.bk_ocode.specs.declared.stmt.Variable.TheVariants.{Static}
 use Rattle.bk_ocode.specs.declared.stmt.Dyadic.TheVariants as d
-use Rattle.bk_ocode.specs.declared.stmt.Case.{Case}
-use Rattle.bk_ocode.specs.declared.stmt.Stmt.{Stmt}
-use Rattle.bk_ocode.specs.declared.stmt.Stmt.TheVariants.{Number, Load, Address, Dyadic, Assign, Jump, JumpIf, Label, Stack, Store, Entry, Save, EndProcedure, Switch, DataLabel, DataNumber, DataAddress}
-use Rattle.bk_ocode.specs.Lists.{joined}
+use Rattle.bk_ocode.specs.declared.stmt.Stmt.TheVariants.{Address, Label}
 use Rattle.bk_trans.specs.declared.aim.Aim.TheVariants as aim
 use Rattle.bk_trans.specs.declared.way.Way.TheVariants as way
 use Rattle.bk_trans.specs.declared.draft.Draft.TheVariants.{Ready}
@@ -64,27 +57,20 @@ module _ (gs : List Goal) (ts : List Target) (placed : Placed gs ts) where
   -- the words of names
   pub variable_near : (x : Bound) → variable_in_words (settled_word gs (word_of x)) ≡ variable_in_words (variable ts x)
   variable_near (b.Constant v) = refl
-  variable_near (b.Global None) = refl
-  variable_near (b.Global (Some g)) = refl
   variable_near (b.Static m) = ap Static (placed.at_number m).labels.same
-  variable_near (b.Variable k i) = refl
-  variable_near (b.Label k m) = refl
+  variable_near (b.Global None) = refl
+  variable_near _ = refl
 
   pub push_near : (x : Bound) → stmt_in_words (settled gs (push_of x)) ≡ stmt_in_words (push ts x)
   push_near (b.Constant None) = refl
-  push_near (b.Constant (Some v)) = refl
-  push_near (b.Global None) = refl
-  push_near (b.Global (Some g)) = refl
   push_near (b.Static m) = ap Load (variable_near (b.Static m))
-  push_near (b.Variable k i) = refl
-  push_near (b.Label k m) = refl
+  push_near (b.Global None) = refl
+  push_near _ = refl
 
   pub goto_near : (x : Bound) {s t : ℕ} → Near s t → Alike stmt_in_words (map (settled gs) (goto_code s x)) (go (goal_in ts x) t)
   goto_near (b.Constant v) {s} {t} h = go_near (goal 0 0) (goal 0 0) s t (near_goal _) h
-  goto_near (b.Global g) {s} {t} h = go_near (goal 0 0) (goal 0 0) s t (near_goal _) h
-  goto_near (b.Static m) {s} {t} h = go_near (goal 0 0) (goal 0 0) s t (near_goal _) h
-  goto_near (b.Variable k i) {s} {t} h = go_near (goal 0 0) (goal 0 0) s t (near_goal _) h
   goto_near (b.Label k m) {s} {t} h = go_near (place_of gs m) (goal_of ts m) s t (placed.at_number m) h
+  goto_near _ {s} {t} h = go_near (goal 0 0) (goal 0 0) s t (near_goal _) h
 
 -- taking a meaning, and a word
 pub took_meaning : {gs : List Goal} {ts : List Target} {w : Writing} {g : Supply} {n : ℕ} → At w g n → Adds gs ts w [] [] [] None (meaning g).left n (past_meaning w)
@@ -131,10 +117,8 @@ in_procedure = record { goes_on = near_goal (goal 0 0); leaves = near_goal (goal
 -- places more
 pub target_near : (x : Bound) {j l : ℕ} → Near j l → Alike target_in_words (target_of_word j x) (target_of_word l x)
 target_near (b.Constant v) h = record { same = refl }
-target_near (b.Global g) h = record { same = refl }
 target_near (b.Static m) h = record { same = ap (λ i. record { number = m; label = i; depth = word 0 } ∷ []) h.same }
-target_near (b.Variable k i) h = record { same = refl }
-target_near (b.Label k m) h = record { same = refl }
+target_near _ h = record { same = refl }
 
 pub label_near : (x : Bound) {j l s t : ℕ} → Near j l → Near s t → Alike target_in_words (target_of_label j s x) (target_of_label l t x)
 label_near (b.Constant v) h ns = record { same = refl }
@@ -268,11 +252,8 @@ switched {gs} {ts} {w} {v} {u} {c} {e} {ps} {qs} {ks} {x} {g} {h} {k} {i} {j} {l
 -- a procedure, whose parts stand behind it
 pub entry_near : (x : Bound) {j l : ℕ} → Near j l → Alike entry_in_words (entry_of j x) (entry_of l x)
 entry_near (b.Constant v) h = record { same = refl }
-entry_near (b.Global None) h = record { same = refl }
 entry_near (b.Global (Some g)) h = record { same = ap (λ i. record { number = g; label = i } ∷ []) h.same }
-entry_near (b.Static m) h = record { same = refl }
-entry_near (b.Variable k i) h = record { same = refl }
-entry_near (b.Label k m) h = record { same = refl }
+entry_near _ h = record { same = refl }
 
 -- the word of a procedure that sets no global, as it is written
 abbrev pub word_written : ℕ → Bound → List Stmt
@@ -298,11 +279,9 @@ pub record Entered (x : Bound) (j : ℕ) (w v : Writing) : Type 0 where
 
 pub entered : (x : Bound) (j : ℕ) (w : Writing) → Entered x j w (puts_entry j x w)
 entered (b.Constant v) j w = record { code = refl; procedures = refl; data_words = sym (append-nil _); entries = sym (append-nil _); targets = sym (append-nil _); left = refl; next = refl }
-entered (b.Global None) j w = record { code = refl; procedures = refl; data_words = sym (append-nil _); entries = sym (append-nil _); targets = sym (append-nil _); left = refl; next = refl }
 entered (b.Global (Some g)) j w = record { code = refl; procedures = refl; data_words = sym (append-nil _); entries = refl; targets = sym (append-nil _); left = refl; next = refl }
 entered (b.Static m) j w = record { code = refl; procedures = refl; data_words = refl; entries = sym (append-nil _); targets = refl; left = refl; next = refl }
-entered (b.Variable k i) j w = record { code = refl; procedures = refl; data_words = sym (append-nil _); entries = sym (append-nil _); targets = sym (append-nil _); left = refl; next = refl }
-entered (b.Label k m) j w = record { code = refl; procedures = refl; data_words = sym (append-nil _); entries = sym (append-nil _); targets = sym (append-nil _); left = refl; next = refl }
+entered _ j w = record { code = refl; procedures = refl; data_words = sym (append-nil _); entries = sym (append-nil _); targets = sym (append-nil _); left = refl; next = refl }
 
 abbrev pub entering : Writing → Writing
 entering w = takes_labels (n.labels_of_procedure (meaning w.left).part) (past_meaning (inside w))
@@ -374,21 +353,4 @@ tail_cases {gs} {ts} {w} {v} {c} {ps} {ks} {x} a = rw (← append-nil ks) (rw (�
 -- what has no label and no word stays as it is
 pub ways_of_values : (x : Operator) (k : ℕ) → way_of x aim.Value k ≡ way.Plain
 ways_of_values o.Subscript k = refl
-ways_of_values o.Byte k = refl
-ways_of_values o.Times k = refl
-ways_of_values o.Over k = refl
-ways_of_values o.Rem k = refl
-ways_of_values o.Add k = refl
-ways_of_values o.Subtract k = refl
-ways_of_values o.Equal k = refl
-ways_of_values o.Unequal k = refl
-ways_of_values o.Less k = refl
-ways_of_values o.Greater k = refl
-ways_of_values o.AtMost k = refl
-ways_of_values o.AtLeast k = refl
-ways_of_values o.ShiftLeft k = refl
-ways_of_values o.ShiftRight k = refl
-ways_of_values o.Both k = refl
-ways_of_values o.Either k = refl
-ways_of_values o.Same k = refl
-ways_of_values o.Differ k = refl
+ways_of_values _ k = refl

@@ -1,9 +1,7 @@
 -- What nodes are written as, by what is written one after another: blocks, declarations, calls and FOR.
-use Rattle.std.proofs.Common.{◌≡◌, ℕ, ◌+◌, ◌<◌, true, cond, List, [], ◌∷◌, length, refl, sym, ap, ◌∙◌, arith}
+use Rattle.bk_trans.proofs.Words.{◌≡◌, ℕ, ◌+◌, ◌<◌, true, cond, List, [], ◌∷◌, length, refl, sym, ap, ◌∙◌, arith, Mention, Expression, Expressions, Action,
+  Actions, Definitions, block, declarations_in, definitions, apply, for_loop, size, Stack, Store, CallFunction}
 use Rattle.bk_tree.specs.declared.tree.Decl.{Decl}
-use Rattle.bk_tree.specs.Tree.{Mention, Expression, Expressions, Action, Actions, Definitions, block, declarations_in, definitions, apply, for_loop}
-use Rattle.bk_tree.specs.Parts.{size}
-use Rattle.bk_ocode.specs.declared.stmt.Stmt.TheVariants.{Stack, Store, CallFunction}
 use Rattle.bk_trans.specs.declared.aim.Aim.{Aim}
 use Rattle.bk_trans.specs.declared.aim.Aim.TheVariants as aim
 use Rattle.bk_trans.specs.Filling.{step_of}

@@ -1,34 +1,23 @@
 -- The body of a procedure of a section without faults is good: what each node asks for is there.
-use Rattle.std.proofs.Common.{arith, ◌≡◌, ℕ, ◌+◌, ◌<◌, ◌≤◌, ◌^◌, Bool, true, false, not, Option, Some, None, List, [], ◌∷◌, ◌++◌, length, refl, sym, ap, subst, ◌∙◌}
-use Rattle.std.specs.Bool.{⊤}
-use Rattle.std.proofs.lemmas.Bool.{false≢true, le-ltb}
-use Rattle.bk_base.specs.declared.limit.TheConstants.{FRAME_WORDS, GLOBAL_NUMBER, VEC_NUMBER, OCODE_LABEL}
+use Rattle.bk_trans.proofs.Words.{arith, ◌≡◌, ℕ, ◌+◌, ◌<◌, ◌≤◌, ◌^◌, Bool, true, false, not, Option, Some, None, List, [], ◌∷◌, ◌++◌, length, refl, sym, ap,
+  subst, ◌∙◌, ⊤, false≢true, le-ltb, FRAME_WORDS, GLOBAL_NUMBER, VEC_NUMBER, OCODE_LABEL, Mention, Expression, Expressions, Action, Actions, Declaration,
+  Declarations, Items, Definition, Definitions, Starts, name, number, text, truth, query, parens, unary, binary, choice, apply, valof, table, none, more, empty,
+  assign, call, goto, label, case_of, default, when, test, while, for_loop, switch, result, simple, block, repeat, repeat_while, no_actions, also, constants,
+  definitions, no_declarations, declare, no_items, item, routine, function, variables, no_definitions, define, no_starts, value, vector, line_of, size, Bound,
+  Constant, Global, Static, Variable, Label, Place, Role, Value, Truth, Address, Destination, not_assignable, no_result_or_return, vec_out_of_range, Binding,
+  bound_in, bind, has_address, constant_word, AllDiffer, deeper, looping, switching, labelled, valued, labels_of, labels_of_each, parenthesised, within,
+  words_of_vector, words_of_start, place_behind, variables_of, Spot, procedures_in, onward, past, numbered, behind, behind_each, behind_done, behind_declared,
+  behind_one_declared, behind_one_defined, behind_constant, symbols_each, Point, at, labels_in_scope, procedures_in_scope, place_behind_one_defined,
+  place_behind_defined, variables_in_scope, manifests_in_scope, globals_in_scope, scope_behind_one, place_behind_one, scope_behind, place_behind_all, unless,
+  its_meaning, its_word, constant, each_constant, at_most, addressed, assigned, prefixed, pushed, chosen_at, defaulted_at, one_of, each_of, told, told_each,
+  told_destinations, told_done, told_done_each, told_declared, told_one_declared, told_defined, told_one_defined, told_started, Usable, GoesTo, HasWord,
+  HasWordUpTo, Sound, SoundEach, SoundDestinations, SoundDone, SoundDoneEach, SoundDeclared, SoundOneDeclared, SoundDefined, SoundOneDefined, SoundStarted, Use}
 use Rattle.bk_tree.specs.declared.tree.Operator.TheVariants as o
 use Rattle.bk_tree.specs.declared.tree.Prefix.TheVariants as sign
 use Rattle.bk_tree.specs.declared.tree.Simple.TheVariants as w
 use Rattle.bk_tree.specs.declared.tree.Sort.TheVariants as sort
-use Rattle.bk_tree.specs.Tree.{Mention, Expression, Expressions, Action, Actions, Declaration, Declarations, Items, Definition, Definitions, Starts, name, number, text, truth, query, parens, unary, binary, choice, apply, valof, table, none, more, empty, assign, call, goto, label, case_of, default, when, test, while, for_loop, switch, result, simple, block, repeat, repeat_while, no_actions, also, constants, definitions, no_declarations, declare, no_items, item, routine, function, variables, no_definitions, define, no_starts, value, vector}
-use Rattle.bk_tree.specs.Parts.{line_of, size}
-use Rattle.bk_scope.specs.declared.bound.Bound.{Bound}
-use Rattle.bk_scope.specs.declared.bound.Bound.TheVariants.{Constant, Global, Static, Variable, Label}
-use Rattle.bk_scope.specs.declared.place.Place.{Place}
-use Rattle.bk_scope.specs.declared.role.Role.{Role}
-use Rattle.bk_scope.specs.declared.role.Role.TheVariants.{Value, Truth, Address, Destination}
-use Rattle.bk_scope.specs.Wrong.{not_assignable, no_result_or_return, vec_out_of_range}
-use Rattle.bk_scope.specs.Scope.{Binding, bound_in, bind, has_address}
-use Rattle.bk_scope.specs.Constants.{constant_word}
-use Rattle.bk_scope.specs.Cases.{AllDiffer}
 use Rattle.bk_scope.specs.Cases as chosen
-use Rattle.bk_scope.specs.Places.{deeper, looping, switching, labelled, valued}
-use Rattle.bk_scope.specs.Entering.{labels_of, labels_of_each}
-use Rattle.bk_scope.specs.Names.{parenthesised, within, words_of_vector, words_of_start, place_behind, variables_of}
-use Rattle.bk_scope.specs.Spots.{Spot, procedures_in, onward, past, numbered, behind, behind_each, behind_done, behind_declared, behind_one_declared, behind_one_defined, behind_constant, symbols_each}
-use Rattle.bk_scope.specs.Points.{Point, at}
-use Rattle.bk_scope.specs.Scoping.{labels_in_scope, procedures_in_scope, place_behind_one_defined, place_behind_defined, variables_in_scope, manifests_in_scope, globals_in_scope, scope_behind_one, place_behind_one, scope_behind, place_behind_all}
-use Rattle.bk_scope.specs.Faults.{unless, its_meaning, its_word, constant, each_constant, at_most, addressed, assigned, prefixed, pushed, chosen_at, defaulted_at, one_of, each_of, told, told_each, told_destinations, told_done, told_done_each, told_declared, told_one_declared, told_defined, told_one_defined, told_started}
-use Rattle.bk_scope.specs.Sound.{Usable, GoesTo, HasWord, HasWordUpTo, Sound, SoundEach, SoundDestinations, SoundDone, SoundDoneEach, SoundDeclared, SoundOneDeclared, SoundDefined, SoundOneDefined, SoundStarted}
 use Rattle.bk_scope.proofs.Repeated.{cases_differ}
-use Rattle.bk_ocode.specs.Typing.{Use}
 use Rattle.bk_trans.specs.declared.around.Target.{Target}
 use Rattle.bk_trans.specs.Program as t
 use Rattle.bk_trans.specs.Naming.{meant, worth, term_named, terms_named, condition_named, lvalue_named, lvalues_named, command_named, commands_named, declarations_named, declaration_named, definitions_named, definition_named, starts_named}
@@ -148,14 +137,7 @@ mutual
   same_words bs p s (block l (declare d ds) cs) h = refl
   same_words bs p s (repeat l c) h = same_words bs (looping p) s c h
   same_words bs p s (repeat_while l b c e) h = same_words bs (looping p) s c h.0
-  same_words bs p s empty h = refl
-  same_words bs p s (assign l xs es) h = refl
-  same_words bs p s (call l e es) h = refl
-  same_words bs p s (goto l x) h = refl
-  same_words bs p s (for_loop l x a b k c) h = refl
-  same_words bs p s (switch l e c) h = refl
-  same_words bs p s (result l e) h = refl
-  same_words bs p s (simple l k) h = refl
+  same_words bs p s _ h = refl
 
   same_words_each : (bs : List Binding) (p : Place) (s : Spot) (cs : Actions) → SoundDoneEach bs p s cs → chosen.case_words_each bs cs ≡ case_words_through (commands_named bs p s cs)
   same_words_each bs p s no_actions h = refl
@@ -181,14 +163,7 @@ mutual
   are_words bs p s (block l (declare d ds) cs) h f = tt
   are_words bs p s (repeat l c) h f = are_words bs (looping p) s c h f
   are_words bs p s (repeat_while l b c e) h f = are_words bs (looping p) s c h.0 (all_front (told_done bs (looping p) s c) (told Truth bs p (behind_done c s) e) f)
-  are_words bs p s empty h f = tt
-  are_words bs p s (assign l xs es) h f = tt
-  are_words bs p s (call l e es) h f = tt
-  are_words bs p s (goto l x) h f = tt
-  are_words bs p s (for_loop l x a b k c) h f = tt
-  are_words bs p s (switch l e c) h f = tt
-  are_words bs p s (result l e) h f = tt
-  are_words bs p s (simple l k) h f = tt
+  are_words bs p s _ h f = tt
 
   are_words_each : (bs : List Binding) (p : Place) (s : Spot) (cs : Actions) → SoundDoneEach bs p s cs → AllFine (told_done_each bs p s cs) → AllWords (case_words_through (commands_named bs p s cs))
   are_words_each bs p s no_actions h f = tt
@@ -750,8 +725,6 @@ mutual
   good_in plan ts q bs p s (simple l w.Break) d n a top low high h f b r = h
   good_in plan ts q bs p s (simple l w.Loop) d n a top low high h f b r = h
   good_in plan ts q bs p s (simple l w.EndCase) d n a top low high h f b r = h
-  good_in plan ts q bs p s (simple l w.Return) d n a top low high h f b r = tt
-  good_in plan ts q bs p s (simple l w.Finish) d n a top low high h f b r = tt
   good_in plan ts q bs p s (block l no_declarations cs) d n a top low high h f b r =
       good_through plan ts q bs p s cs d n a top low (omega (arith, high)) h f (subst (λ (m : ℕ). PartsRight plan ts (parts_through d m (commands_named bs p s cs))) (no_more n) b) r
   good_in plan ts q bs p s (block l (declare x xs) cs) d n a top low high h f b r =
@@ -793,6 +766,7 @@ mutual
       two_good plan ts _ _ (told_done bs (looping p) s c) _ (parts_in d (n + 3) g) _ (marks_in q d (n + 3) g) _
       (λ i w k. good_in plan ts q bs (looping p) s c d (n + 3) inner top (omega (arith, low)) (omega (arith, high)) h.0 i w k)
       (λ i w k. good_if plan ts q bs p (behind_done c s) e d (n + 3 + labels_in g) z a (omega (arith, low)) (omega (arith, high)) h.1 i w k) f b r.1.1.1
+  good_in plan ts q bs p s _ d n a top low high h f b r = tt
 
   good_through : (plan : ℕ → Use) (ts : List Target) (q : ℕ) (bs : List Binding) (p : Place) (s : Spot) (cs : Actions) (d n : ℕ) → At plan ts q bs p d → d ≤ FRAME_WORDS → 1 ≤ n
       → n + labels_through (commands_named bs p s cs) ≤ OCODE_LABEL + 1 → SoundDoneEach bs p s cs → Fine (told_done_each bs p s cs) → PartsRight plan ts (parts_through d n (commands_named bs p s cs))
@@ -821,11 +795,10 @@ mutual
       → n + labels_of_declaration (declaration_named bs p s x) ≤ OCODE_LABEL + 1 → SoundOneDeclared bs p s x → Fine (told_one_declared bs p s x) → PartsRight plan ts (parts_of_declaration d n (declaration_named bs p s x))
       → AllRight plan (marks_of_declaration q d n (declaration_named bs p s x)) → GoodOneDeclared plan ts q d (declaration_named bs p s x)
   good_one_declared plan ts q bs p s (constants l sort.Manifest is) d n a top low high h f b r = tt
-  good_one_declared plan ts q bs p s (constants l sort.Static is) d n a top low high h f b r = tt
-  good_one_declared plan ts q bs p s (constants l sort.Global is) d n a top low high h f b r = tt
   good_one_declared plan ts q bs p s (definitions l ds) d n a top low high h f b r =
       let v : Spot = numbered (1 + procedures_in ds) s in
       good_defined plan ts q s.number (procedures_in_scope (s.number + 1) ds bs) p v ds d n (at_procedures plan ts q bs p s v ds d n a high b) top low high h f b r
+  good_one_declared plan ts q bs p s _ d n a top low high h f b r = tt
 
   good_defined : (plan : ℕ → Use) (ts : List Target) (q m : ℕ) (bs : List Binding) (p : Place) (s : Spot) (ds : Definitions) (d n : ℕ) → At plan ts q bs p d → d ≤ FRAME_WORDS → 1 ≤ n
       → n + labels_of_definitions (definitions_named bs p s ds) ≤ OCODE_LABEL + 1 → SoundDefined bs p s ds → Fine (told_defined m bs p s ds) → PartsRight plan ts (parts_of_definitions d n (definitions_named bs p s ds))

@@ -1,14 +1,8 @@
 -- The CASEs and the DEFAULT of a SWITCHON: their labels are jumped to at its depth, and their values differ.
-use Rattle.std.proofs.Common.{arith, ◌≡◌, ℕ, zero, suc, ◌+◌, ◌<◌, ◌≤◌, ◌^◌, false, not, Option, Some, None, List, [], ◌∷◌, ◌++◌, length, map, slice_get, refl, sym, ap, subst, ◌∙◌, length-append}
-use Rattle.std.specs.Bool.{⊤}
+use Rattle.bk_trans.proofs.Words.{arith, ◌≡◌, ℕ, zero, suc, ◌+◌, ◌<◌, ◌≤◌, ◌^◌, false, not, Option, Some, None, List, [], ◌∷◌, ◌++◌, length, map, slice_get,
+  refl, sym, ap, subst, ◌∙◌, length-append, ⊤, signed, OCODE_LABEL, NoneOf, AllDiffer, Case, IsLabel, AreCases, Use, jumps, AllJump}
 use Rattle.std.specs.Int.{w32, cast_unsigned}
 use Rattle.std.proofs.lemmas.Int.{of_z-to_z}
-use Rattle.bk_base.specs.Word.{signed}
-use Rattle.bk_base.specs.declared.limit.TheConstants.{OCODE_LABEL}
-use Rattle.bk_scope.specs.Cases.{NoneOf, AllDiffer}
-use Rattle.bk_ocode.specs.declared.stmt.Case.{Case}
-use Rattle.bk_ocode.specs.StmtRange.{IsLabel, AreCases}
-use Rattle.bk_ocode.specs.Typing.{Use, jumps, AllJump}
 use Rattle.bk_trans.specs.Program.{Command, Commands, label, case_of, default, when, test, while, block, repeat, repeat_while, no_commands, also, no_declarations, declare}
 use Rattle.bk_trans.specs.Labels.{labels_if, labels_in, labels_through}
 use Rattle.bk_trans.specs.Scheme.{cases, cases_through, first_of, default_in, default_through, label_or}

@@ -1,11 +1,7 @@
 -- What lists of statements whose numbers fit come to.
-use Rattle.std.proofs.Common.{◌≡◌, ℕ, zero, suc, ◌<◌, ◌^◌, Some, List, [], ◌∷◌, map, slice_get, refl, ap, ◌∙◌, arith}
+use Rattle.bk_trans.proofs.Words.{◌≡◌, ℕ, zero, suc, ◌<◌, ◌^◌, Some, List, [], ◌∷◌, map, slice_get, refl, ap, ◌∙◌, arith, Case, GlobalEntry, Stmt, AreTyped}
 use Rattle.std.specs.Prelude.{FitsSigned}
 use Rattle.std.specs.Int.{w32}
-use Rattle.bk_ocode.specs.declared.stmt.Case.{Case}
-use Rattle.bk_ocode.specs.declared.stmt.GlobalEntry.{GlobalEntry}
-use Rattle.bk_ocode.specs.declared.stmt.Stmt.{Stmt}
-use Rattle.bk_ocode.specs.StmtRange.{AreTyped}
 use Rattle.bk_trans.specs.Alike.{word, case_in_words, entry_in_words, in_words}
 use Rattle.bk_trans.specs.Fitting.{CasesFit, EntriesFit, AllFit}
 

@@ -1,16 +1,16 @@
 -- Worked forms: what the table of the scheme in docs/SCHEME.md says of each, read off that table. Each form stands in a procedure
 -- F(A, B), whose name means no global: its entry is L1, the word of its name L2, the first label of the form L3, and its depth 4.
-use Rattle.std.proofs.Common.{ℕ, true, false, pos, negsuc, List, [], ◌∷◌, ◌++◌, refl}
-use Rattle.bk_tree.specs.declared.tree.Operator.{Operator}
+use Rattle.bk_trans.proofs.Words.{ℕ, true, false, pos, negsuc, List, [], ◌∷◌, ◌++◌, refl, Operator, Mention, Expression, Expressions, Action, Actions,
+  Declarations, Definition, name, number, text, truth, query, parens, unary, binary, choice, apply, valof, table, none, more, empty, assign, call, goto, label,
+  case_of, default, when, test, while, for_loop, switch, result, simple, block, repeat, repeat_while, no_actions, also, constants, definitions, no_declarations,
+  declare, no_items, item, routine, function, variables, no_definitions, define, no_starts, value, vector, Local, Stmt}
 use Rattle.bk_tree.specs.declared.tree.Operator.TheVariants as o
 use Rattle.bk_tree.specs.declared.tree.Prefix.TheVariants as q
 use Rattle.bk_tree.specs.declared.tree.Simple.TheVariants as w
 use Rattle.bk_tree.specs.declared.tree.Sort.TheVariants as s
-use Rattle.bk_tree.specs.Tree.{Mention, Expression, Expressions, Action, Actions, Declarations, Definition, name, number, text, truth, query, parens, unary, binary, choice, apply, valof, table, none, more, empty, assign, call, goto, label, case_of, default, when, test, while, for_loop, switch, result, simple, block, repeat, repeat_while, no_actions, also, constants, definitions, no_declarations, declare, no_items, item, routine, function, variables, no_definitions, define, no_starts, value, vector}
-use Rattle.bk_ocode.specs.declared.stmt.Variable.TheVariants.{Local, Global, Static}
+use Rattle.bk_ocode.specs.declared.stmt.Variable.TheVariants.{Global, Static}
 use Rattle.bk_ocode.specs.declared.stmt.Monadic.TheVariants as m
 use Rattle.bk_ocode.specs.declared.stmt.Dyadic.TheVariants as d
-use Rattle.bk_ocode.specs.declared.stmt.Stmt.{Stmt}
 use Rattle.bk_ocode.specs.declared.stmt.Stmt.TheVariants as t
 use Rattle.bk_trans.proofs.Rows.{Translates}
 

@@ -1,19 +1,13 @@
 -- The code of each form goes from one depth to another and agrees with the plan: a value is pushed, a condition leaves nothing, a
 -- command nothing, and declarations their variables.
-use Rattle.std.proofs.Common.{arith, ◌≡◌, ℕ, ◌+◌, ◌-◌, ◌≤◌, Bool, true, false, not, cond, List, [], ◌∷◌, ◌++◌, map, refl, subst, ◌∙◌}
-use Rattle.std.specs.Bool.{⊤}
-use Rattle.bk_base.specs.Word.{signed}
-use Rattle.bk_base.specs.declared.limit.TheConstants.{FRAME_WORDS, OCODE_LABEL}
+use Rattle.bk_trans.proofs.Words.{arith, ◌≡◌, ℕ, ◌+◌, ◌-◌, ◌≤◌, Bool, true, false, not, cond, List, [], ◌∷◌, ◌++◌, map, refl, subst, ◌∙◌, ⊤, signed,
+  FRAME_WORDS, OCODE_LABEL, Case, Stmt, IsLabel, AreCases, Use, jumps, results, AllJump, Fits, done, lands, takes}
 use Rattle.bk_tree.specs.declared.tree.Simple.TheVariants as w
 use Rattle.bk_scope.specs.declared.bound.Bound.TheVariants as b
 use Rattle.bk_ocode.specs.declared.stmt.Variable.TheVariants as v
 use Rattle.bk_ocode.specs.declared.stmt.Dyadic.TheVariants as two
-use Rattle.bk_ocode.specs.declared.stmt.Case.{Case}
-use Rattle.bk_ocode.specs.declared.stmt.Stmt.{Stmt}
 use Rattle.bk_ocode.specs.declared.stmt.Stmt.TheVariants as t
-use Rattle.bk_ocode.specs.StmtRange.{IsLabel, AreCases}
 use Rattle.bk_ocode.specs.Typing as typing
-use Rattle.bk_ocode.specs.Typing.{Use, jumps, results, AllJump, Fits, done, lands, takes}
 use Rattle.bk_trans.specs.declared.around.Around.{Around}
 use Rattle.bk_trans.specs.declared.around.Target.{Target}
 use Rattle.bk_trans.specs.Program.{Term, Terms, Condition, Lvalue, Lvalues, Command, Commands, Declaration, Declarations, Definition, Definitions, Starts, named, number, text, truth, query, parens, unary, address, binary, choice, apply, valof, table, none, more, holds, within, fails, both, either, word, contents, subscript, byte, inside, nowhere, no_lvalues, onto, empty, assign, call, goto, label, case_of, default, when, test, while, for_loop, switch, result, simple, block, repeat, repeat_while, no_commands, also, statics, lets, no_declarations, declare, routine, function, variables, no_definitions, define, no_starts, value, vector}
@@ -31,8 +25,7 @@ use Rattle.bk_trans.proofs.Once.{no_more}
 abbrev pub TableRight : (ℕ → Use) → Part → Type 0
 TableRight plan (static_table n ws) = plan n ≡ typing.word
 TableRight plan (procedure n d) = ⊤
-TableRight plan (static_item n k) = ⊤
-TableRight plan (label_place n s x) = ⊤
+TableRight plan _ = ⊤
 
 abbrev pub AllTables : (ℕ → Use) → List Part → Type 0
 AllTables plan [] = ⊤
@@ -84,10 +77,7 @@ mutual
   room plan ts p s (apply e es) g = let h = room plan ts p (s + 2 + count es) e g.1 in omega (arith, h)
   room plan ts p s (valof c) g = g.1
   room plan ts p s (number v) g = g
-  room plan ts p s (text v) g = g
-  room plan ts p s (truth v) g = g
-  room plan ts p s query g = g
-  room plan ts p s (table vs) g = g
+  room plan ts p s _ g = g
 
 room_started : (plan : ℕ → Use) (ts : List Target) (p t : ℕ) (is : Starts) → GoodStarted plan ts p t is → t ≤ FRAME_WORDS → behind_starts t is ≤ FRAME_WORDS
 room_started plan ts p t no_starts g high = high
@@ -299,9 +289,6 @@ mutual
   pub command_typed : (plan : ℕ → Use) (ts : List Target) (p : ℕ) (x : Exits) (ar : Around) (s n : ℕ) (c : Command) → 2 ≤ s → s ≤ FRAME_WORDS → 1 ≤ n → n + labels_in c ≤ OCODE_LABEL + 1
       → Surrounds plan p x s ar → GoodIn plan ts p x s c → AllTables plan (parts_in s n c) → AllRight plan (marks_in p s n c) → Steps plan p s (command_code ts ar s n c) s
   command_typed plan ts p x ar s n empty deep top low high i g a r = done
-  command_typed plan ts p x ar s n (assign no_lvalues none) deep top low high i g a r = done
-  command_typed plan ts p x ar s n (assign (onto y ys) none) deep top low high i g a r = done
-  command_typed plan ts p x ar s n (assign no_lvalues (more e es)) deep top low high i g a r = done
   command_typed plan ts p x ar s n (assign (onto y ys) (more e es)) deep top low high i g a r =
       let much = room plan ts p s e g.1.0 in
       let xs = onto y ys in
@@ -445,6 +432,8 @@ mutual
       (tables_front plan (parts_in s (n + 3) c) _ a) (right_front plan m _ r.1.1.1) in
       let tested = if_typed plan ts p s (n + 3 + labels_in c) e y n deep (omega (arith, low)) (omega (arith, high)) r.0 own g.1 (tables_back plan (parts_in s (n + 3) c) _ a) (right_back plan m _ r.1.1.1) in
       append (append (lands r.0 own body) (lands r.1.0 second tested)) (lands r.1.1.0 third done)
+  command_typed plan ts p x ar s n (assign no_lvalues none) deep top low high i g a r = done
+  command_typed plan ts p x ar s n _ deep top low high i g a r = done
 
   through_typed : (plan : ℕ → Use) (ts : List Target) (p : ℕ) (x : Exits) (ar : Around) (s n : ℕ) (cs : Commands) → 2 ≤ s → s ≤ FRAME_WORDS → 1 ≤ n → n + labels_through cs ≤ OCODE_LABEL + 1
       → Surrounds plan p x s ar → GoodThrough plan ts p x s cs → AllTables plan (parts_through s n cs) → AllRight plan (marks_through p s n cs) → Steps plan p s (through_code ts ar s n cs) s

@@ -1,15 +1,10 @@
 -- What the code of a part of the named tree asks for, in procedure p with depth s: each name's word is there, a jump finds its
 -- label, each command stands where it may, CASEs differ, and the frame has room.
-use Rattle.std.proofs.Common.{◌≡◌, ℕ, ◌+◌, ◌<◌, ◌≤◌, ◌^◌, Bool, true, false, Some, None, List, [], ◌∷◌, ◌++◌}
-use Rattle.std.specs.Bool.{⊤}
-use Rattle.bk_base.specs.declared.limit.TheConstants.{FRAME_WORDS, GLOBAL_NUMBER}
+use Rattle.bk_trans.proofs.Words.{◌≡◌, ℕ, ◌+◌, ◌<◌, ◌≤◌, ◌^◌, Bool, true, false, Some, None, List, [], ◌∷◌, ◌++◌, ⊤, FRAME_WORDS, GLOBAL_NUMBER, Bound,
+  AllDiffer, IsLabel, IsDepth, Use}
 use Rattle.bk_tree.specs.declared.tree.Simple.TheVariants as w
-use Rattle.bk_scope.specs.declared.bound.Bound.{Bound}
 use Rattle.bk_scope.specs.declared.bound.Bound.TheVariants as b
-use Rattle.bk_scope.specs.Cases.{AllDiffer}
-use Rattle.bk_ocode.specs.StmtRange.{IsLabel, IsDepth}
 use Rattle.bk_ocode.specs.Typing as typing
-use Rattle.bk_ocode.specs.Typing.{Use}
 use Rattle.bk_trans.specs.declared.around.Goal.{Goal}
 use Rattle.bk_trans.specs.declared.around.Target.{Target}
 use Rattle.bk_trans.specs.Program.{Term, Terms, Condition, Lvalue, Lvalues, Command, Commands, Declaration, Declarations, Definition, Definitions, Starts, named, parens, unary, address, binary, choice, apply, valof, none, more, holds, within, fails, both, either, word, contents, subscript, byte, inside, nowhere, onto, assign, call, goto, label, case_of, default, when, test, while, for_loop, switch, result, simple, block, repeat, repeat_while, no_commands, also, statics, lets, no_declarations, declare, variables, no_definitions, define, no_starts, value, vector}
@@ -52,11 +47,10 @@ Pushed plan ts s (b.Label k m) = ⊥
 
 abbrev pub Held : (ℕ → Use) → List Target → ℕ → Bound → Type 0
 Held plan ts s (b.Constant v) = ⊥
-Held plan ts s (b.Global None) = ⊥
 Held plan ts s (b.Global (Some g)) = g ≤ GLOBAL_NUMBER
 Held plan ts s (b.Static m) = IsWord plan ((goal_of ts m).label)
 Held plan ts s (b.Variable k i) = (2 ≤ i) × (i + 1 ≤ s)
-Held plan ts s (b.Label k m) = ⊥
+Held plan ts s _ = ⊥
 
 abbrev pub Goes : (ℕ → Use) → List Target → ℕ → Bound → Type 0
 Goes plan ts p (b.Label k m) = IsGoal plan p (goal_of ts m)

@@ -1,3 +1,4 @@
+mod Words
 mod Blocks
 mod Adds
 mod Additions
@@ -7,6 +8,7 @@ mod FittingLemmas
 mod Ranges
 mod Rows
 mod FormRows
+mod TreeNodes
 mod Few
 pub mod Once
 mod Named
@@ -23,5 +25,4 @@ mod Told
 pub mod Bodies
 mod Nested
 mod Numbered
-mod Words
 pub mod Accepted

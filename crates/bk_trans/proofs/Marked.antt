@@ -1,12 +1,8 @@
 -- The code of a part sets each label as often as its marks have it.
-use Rattle.std.proofs.Common.{arith, ◌≡◌, ℕ, ◌+◌, Bool, true, false, not, pos, int_lt, Some, List, [], ◌∷◌, ◌++◌, refl}
-use Rattle.std.specs.Bool.{⊤}
-use Rattle.bk_base.specs.Word.{signed}
+use Rattle.bk_trans.proofs.Words.{arith, ◌≡◌, ℕ, ◌+◌, Bool, true, false, not, pos, int_lt, Some, List, [], ◌∷◌, ◌++◌, refl, ⊤, signed, Stmt, sets, times_set}
 use Rattle.bk_tree.specs.declared.tree.Simple.TheVariants as w
 use Rattle.bk_ocode.specs.declared.stmt.Dyadic.TheVariants as two
-use Rattle.bk_ocode.specs.declared.stmt.Stmt.{Stmt}
 use Rattle.bk_ocode.specs.declared.stmt.Stmt.TheVariants as t
-use Rattle.bk_ocode.specs.Typing.{sets, times_set}
 use Rattle.bk_trans.specs.declared.around.Around.{Around}
 use Rattle.bk_trans.specs.declared.around.Target.{Target}
 use Rattle.bk_trans.specs.Program.{Term, Terms, Condition, Lvalue, Lvalues, Command, Commands, Declaration, Declarations, Definition, Definitions, Starts, named, number, text, truth, query, parens, unary, address, binary, choice, apply, valof, table, none, more, holds, within, fails, both, either, word, contents, subscript, byte, inside, nowhere, no_lvalues, onto, empty, assign, call, goto, label, case_of, default, when, test, while, for_loop, switch, result, simple, block, repeat, repeat_while, no_commands, also, statics, lets, no_declarations, declare, routine, function, variables, no_definitions, define, no_starts, value, vector}
@@ -45,9 +41,7 @@ mutual
   pub value_marked : (l : ℕ) (ts : List Target) (p s n : ℕ) (e : Term) → times_set l (value_code ts s n e) ≡ times_marked l (marks p s n e)
   value_marked l ts p s n (named x) = let h = push_none l ts x in omega (arith, h)
   value_marked l ts p s n (number v) = refl
-  value_marked l ts p s n (text x) = refl
   value_marked l ts p s n (truth x) = let h = truth_none l x in omega (arith, h)
-  value_marked l ts p s n query = refl
   value_marked l ts p s n (parens e) = value_marked l ts p s n e
   value_marked l ts p s n (unary f e) = let h = value_marked l ts p s n e in let i = prefix_none l f in simp (set_both) (omega (arith, h, i))
   value_marked l ts p s n (address x) = address_marked l ts p s n x
@@ -59,7 +53,7 @@ mutual
   value_marked l ts p s n (apply e es) =
       let h = value_marked l ts p (s + 2 + count es) n e in let i = each_marked l ts p (s + 2) (n + labels e) es in simp (set_both, marked_both) (omega (arith, h, i))
   value_marked l ts p s n (valof c) = let h = command_marked l ts (valued n) p s (n + 1) c in simp (set_both) (omega (arith, h))
-  value_marked l ts p s n (table ws) = refl
+  value_marked l ts p s n _ = refl
 
   each_marked : (l : ℕ) (ts : List Target) (p s n : ℕ) (es : Terms) → times_set l (each_code ts s n es) ≡ times_marked l (marks_each p s n es)
   each_marked l ts p s n none = refl
@@ -83,9 +77,8 @@ mutual
   address_marked l ts p s n (contents e) = value_marked l ts p s n e
   address_marked l ts p s n (subscript x y) =
       let h = value_marked l ts p s n x in let i = value_marked l ts p (s + 1) (n + labels x) y in simp (set_both, marked_both) (omega (arith, h, i))
-  address_marked l ts p s n (byte x y) = refl
   address_marked l ts p s n (inside x) = address_marked l ts p s n x
-  address_marked l ts p s n nowhere = refl
+  address_marked l ts p s n _ = refl
 
   onto_marked : (l : ℕ) (ts : List Target) (p s n : ℕ) (x : Lvalue) → times_set l (store_code ts s n x) ≡ times_marked l (marks_onto p s n x)
   onto_marked l ts p s n (word y) = refl
@@ -111,7 +104,6 @@ mutual
       turns_marked l _ _ _ _ (from_marked l ts p s (n + labels_onto xs) es) (all_onto_marked l ts p (s + 1) n xs)
   command_marked l ts a p s n (call e es) =
       let h = value_marked l ts p (s + 2 + count es) n e in let i = each_marked l ts p (s + 2) (n + labels e) es in simp (set_both, marked_both) (omega (arith, h, i))
-  command_marked l ts a p s n (goto x) = refl
   command_marked l ts a p s n (label x c) = let h = command_marked l ts a p s (n + 1) c in omega (arith, h)
   command_marked l ts a p s n (case_of x c) = let h = command_marked l ts a p s (n + 1) c in omega (arith, h)
   command_marked l ts a p s n (default c) = let h = command_marked l ts a p s (n + 1) c in omega (arith, h)
@@ -131,11 +123,6 @@ mutual
   command_marked l ts a p s n (switch e c) =
       let h = value_marked l ts p s (n + 1) e in let i = command_marked l ts (switching n s a) p s (n + 1 + labels e) c in simp (set_both, marked_both) (omega (arith, h, i))
   command_marked l ts a p s n (result e) = let h = value_marked l ts p s n e in simp (set_both) (omega (arith, h))
-  command_marked l ts a p s n (simple w.Break) = refl
-  command_marked l ts a p s n (simple w.Loop) = refl
-  command_marked l ts a p s n (simple w.EndCase) = refl
-  command_marked l ts a p s n (simple w.Return) = refl
-  command_marked l ts a p s n (simple w.Finish) = refl
   command_marked l ts a p s n (block no_declarations cs) = through_marked l ts a p s n cs
   command_marked l ts a p s n (block (declare x xs) cs) =
       let h = one_declared_marked l ts p s n x in let j = declared_marked l ts p (behind_declaration s x) (n + labels_of_declaration x) xs in
@@ -144,6 +131,8 @@ mutual
   command_marked l ts a p s n (repeat_while x c e) =
       let h = command_marked l ts (looping (n + 1) (n + 2) s a) p s (n + 3) c in let i = if_marked l ts p s (n + 3 + labels_in c) e x n in
       simp (set_both, marked_both) (omega (arith, h, i))
+  command_marked l ts a p s n (simple w.Break) = refl
+  command_marked l ts a p s n _ = refl
 
   through_marked : (l : ℕ) (ts : List Target) (a : Around) (p s n : ℕ) (cs : Commands) → times_set l (through_code ts a s n cs) ≡ times_marked l (marks_through p s n cs)
   through_marked l ts a p s n no_commands = refl

@@ -1,9 +1,7 @@
 -- What the labels are for that a part of the program sets in its own code, in procedure p with depth s: nested procedures, static
 -- words and tables are apart.
-use Rattle.std.proofs.Common.{◌≡◌, ℕ, ◌+◌, Bool, true, false, not, List, [], ◌∷◌, ◌++◌}
-use Rattle.std.specs.Bool.{⊤}
+use Rattle.bk_trans.proofs.Words.{◌≡◌, ℕ, ◌+◌, Bool, true, false, not, List, [], ◌∷◌, ◌++◌, ⊤, Use}
 use Rattle.bk_ocode.specs.Typing as typing
-use Rattle.bk_ocode.specs.Typing.{Use}
 use Rattle.bk_trans.specs.Program.{Term, Terms, Condition, Lvalue, Lvalues, Command, Commands, Declaration, Declarations, Definition, Definitions, Starts, parens, unary, address, binary, choice, apply, valof, none, more, holds, within, fails, both, either, contents, subscript, byte, inside, no_lvalues, onto, assign, call, label, case_of, default, when, test, while, for_loop, switch, result, block, repeat, repeat_while, no_commands, also, statics, lets, no_declarations, declare, variables, no_definitions, define, no_starts, value, vector}
 use Rattle.bk_trans.specs.Labels.{labels, labels_if, labels_at, labels_onto, labels_in, labels_of_declarations, labels_of_declaration, labels_of_definition}
 use Rattle.bk_trans.specs.Depths.{count, behind_definition, behind_declaration, behind_declarations}

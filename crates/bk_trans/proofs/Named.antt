@@ -1,31 +1,26 @@
 -- Filling gives the named tree: of a node that is sound, going on from what is told of it takes just the meanings and the words that
 -- stand there, and gives its named tree.
-use Rattle.std.proofs.Common.{◌≡◌, ℕ, ◌+◌, ◌==◌, Bool, true, false, cond, Option, Some, None, List, [], ◌∷◌, ◌++◌, length, refl, sym, ap, ◌∙◌}
-use Rattle.std.proofs.lemmas.Bool.{eq-eqb, false≢true}
+use Rattle.bk_trans.proofs.Words.{◌≡◌, ℕ, ◌+◌, ◌==◌, Bool, true, false, cond, Option, Some, None, List, [], ◌∷◌, ◌++◌, length, refl, sym, ap, ◌∙◌, false≢true,
+  Mention, Expression, Expressions, Action, Actions, Declaration, Declarations, Items, Definition, Definitions, Starts, name, number, text, truth, query,
+  parens, unary, binary, choice, apply, valof, table, none, more, empty, assign, call, goto, label, case_of, default, when, test, while, for_loop, switch,
+  result, simple, block, repeat, repeat_while, no_actions, also, constants, definitions, no_declarations, declare, no_items, item, routine, function, variables,
+  no_definitions, define, no_starts, value, vector, line_of, size, GLOBAL_NUMBER, VEC_NUMBER, Bound, Constant, Global, Static, Variable, Label, Place, Role,
+  Value, Truth, Address, Destination, Wrong, dynamic_name, label_not_here, not_assignable, no_result_or_return, global_out_of_range, vec_out_of_range, text_of,
+  Binding, bound_in, bind, has_address, constant_word, kept, deeper, looping, switching, labelled, valued, called, outermost, labels_of, labels_of_each,
+  with_formals, parenthesised, words_of_start, Spot, procedures_in, onward, past, numbered, behind, behind_each, behind_done, behind_declared,
+  behind_one_declared, behind_one_defined, behind_constant, symbols_each, beginning, Point, meaning, word, depth, wrong, claim, at, deepest, without_depths,
+  meanings_of, words_of, labels_in_scope, procedures_in_scope, place_behind_one_defined, scope_behind_one, place_behind_one, scope_behind, place_behind_all,
+  unless, used_at, gone_to, its_word, constant, each_constant, at_most, addressed, assigned, prefixed, depth_named, pushed, chosen_at, defaulted_at, single_at,
+  each_of, manifest_items, static_items, global_items, its_meaning, its_global, its_frame, inside_procedure, procedure, told, told_each, told_destinations,
+  told_done, told_done_each, told_declared, told_one_declared, told_defined, told_one_defined, told_started, told_of, meanings, words, Usable, GoesTo, Callable,
+  HaveWords, ManifestsSound, StaticsSound, GlobalsSound, Sound, SoundEach, SoundDestinations, SoundDone, SoundDoneEach, SoundDeclared, SoundOneDeclared,
+  SoundDefined, SoundOneDefined, SoundStarted, SoundSection}
+use Rattle.std.proofs.lemmas.Bool.{eq-eqb}
 use Rattle.bk_tree.specs.declared.tree.Operator.TheVariants as o
 use Rattle.bk_tree.specs.declared.tree.Prefix.TheVariants as q
 use Rattle.bk_tree.specs.declared.tree.Simple.{Simple}
 use Rattle.bk_tree.specs.declared.tree.Simple.TheVariants as w
 use Rattle.bk_tree.specs.declared.tree.Sort.TheVariants as sort
-use Rattle.bk_tree.specs.Tree.{Mention, Expression, Expressions, Action, Actions, Declaration, Declarations, Items, Definition, Definitions, Starts, name, number, text, truth, query, parens, unary, binary, choice, apply, valof, table, none, more, empty, assign, call, goto, label, case_of, default, when, test, while, for_loop, switch, result, simple, block, repeat, repeat_while, no_actions, also, constants, definitions, no_declarations, declare, no_items, item, routine, function, variables, no_definitions, define, no_starts, value, vector}
-use Rattle.bk_tree.specs.Parts.{line_of, size}
-use Rattle.bk_base.specs.declared.limit.TheConstants.{GLOBAL_NUMBER, VEC_NUMBER}
-use Rattle.bk_scope.specs.declared.bound.Bound.{Bound}
-use Rattle.bk_scope.specs.declared.bound.Bound.TheVariants.{Constant, Global, Static, Variable, Label}
-use Rattle.bk_scope.specs.declared.place.Place.{Place}
-use Rattle.bk_scope.specs.declared.role.Role.{Role}
-use Rattle.bk_scope.specs.declared.role.Role.TheVariants.{Value, Truth, Address, Destination}
-use Rattle.bk_scope.specs.Wrong.{Wrong, dynamic_name, label_not_here, not_assignable, no_result_or_return, global_out_of_range, vec_out_of_range, text_of}
-use Rattle.bk_scope.specs.Scope.{Binding, bound_in, bind, has_address}
-use Rattle.bk_scope.specs.Constants.{constant_word}
-use Rattle.bk_scope.specs.Places.{kept, deeper, looping, switching, labelled, valued, called, outermost}
-use Rattle.bk_scope.specs.Entering.{labels_of, labels_of_each, with_formals}
-use Rattle.bk_scope.specs.Names.{parenthesised, words_of_start}
-use Rattle.bk_scope.specs.Spots.{Spot, procedures_in, onward, past, numbered, behind, behind_each, behind_done, behind_declared, behind_one_declared, behind_one_defined, behind_constant, symbols_each, beginning}
-use Rattle.bk_scope.specs.Points.{Point, meaning, word, depth, wrong, claim, at, deepest, without_depths, meanings_of, words_of}
-use Rattle.bk_scope.specs.Scoping.{labels_in_scope, procedures_in_scope, place_behind_one_defined, scope_behind_one, place_behind_one, scope_behind, place_behind_all}
-use Rattle.bk_scope.specs.Faults.{unless, used_at, gone_to, its_word, constant, each_constant, at_most, addressed, assigned, prefixed, depth_named, pushed, chosen_at, defaulted_at, single_at, each_of, manifest_items, static_items, global_items, its_meaning, its_global, its_frame, inside_procedure, procedure, told, told_each, told_destinations, told_done, told_done_each, told_declared, told_one_declared, told_defined, told_one_defined, told_started, told_of, meanings, words}
-use Rattle.bk_scope.specs.Sound.{Usable, GoesTo, Callable, HaveWords, ManifestsSound, StaticsSound, GlobalsSound, Sound, SoundEach, SoundDestinations, SoundDone, SoundDoneEach, SoundDeclared, SoundOneDeclared, SoundDefined, SoundOneDefined, SoundStarted, SoundSection}
 use Rattle.bk_scope.proofs.Constants.{constant_right}
 use Rattle.bk_scope.proofs.Soundness.{section_sound}
 use Rattle.bk_trans.specs.Program as t
@@ -92,9 +87,8 @@ quiet_depth false d g = refl
 
 quiet_depth_named : (r : Role) (p : Place) (y : Option Bound) → Quiet (depth_named r p y)
 quiet_depth_named Value p y g = refl
-quiet_depth_named Truth p y g = refl
-quiet_depth_named (Address x l) p y g = refl
 quiet_depth_named (Destination x l) p y g = quiet_depth (has_address y) (p.depth + 1) g
+quiet_depth_named _ p y g = refl
 
 quiet_at_most : (most n l : ℕ) (x : Wrong) (y : Option ℕ) → Quiet (at_most most n l x y)
 quiet_at_most most n l x None g = refl
@@ -122,12 +116,8 @@ quiet_names m n (x ∷ xs) g = quiet_names m (n + 1) xs g
 
 quiet_global : (n l : ℕ) (x : List ℕ) (y : Option Bound) → Quiet (its_global n l x y)
 quiet_global n l x None g = refl
-quiet_global n l x (Some (Constant v)) g = refl
 quiet_global n l x (Some (Global None)) g = refl
-quiet_global n l x (Some (Global (Some v))) g = refl
-quiet_global n l x (Some (Static v)) g = refl
-quiet_global n l x (Some (Variable j i)) g = refl
-quiet_global n l x (Some (Label j i)) g = refl
+quiet_global n l x _ g = refl
 
 -- parts one after another
 two_parts : {A B C : Type 0} (h : A → B → C) (x : Supply → Filled A) (y : Supply → Filled B) (xs ys : List Point) (a : A) (b : B) (g : Supply)
@@ -248,9 +238,6 @@ mutual
       (given (told Value bs p s e) g) ≡ filled (term_named bs p s e) g
   term_filled bs p s (name l x) g h = ap (f.one t.named) (named_filled Value p p.depth s.place l x (bound_in bs x) g h)
   term_filled bs p s (number l n) g h = refl
-  term_filled bs p s (text l x) g h = refl
-  term_filled bs p s (truth l x) g h = refl
-  term_filled bs p s (query l) g h = refl
   term_filled bs p s (unary l q.Address e) g h = ap (λ v. f.one t.address (f.lvalue e v)) (skip (prefixed q.Address bs (past 1 s) e)
       (told (Address false (line_of e)) bs p (past 1 s) e) g (quiet_unless (addressed bs e) (past 1 s).place (line_of e) not_assignable)) ∙ ap (f.one
       t.address) (lvalue_filled bs p (past 1 s) (Address false (line_of e)) e g (addressed_assigned bs e h.0) h.1)
@@ -286,14 +273,12 @@ mutual
       (told Value bs (deeper 1 p) (past 1 (behind a s)) b) _ _ g
       (term_filled bs p s a (given (told Value bs (deeper 1 p) (past 1 (behind a s)) b) g) h.0)
       (term_filled bs (deeper 1 p) (past 1 (behind a s)) b g h.1)
+  term_filled bs p s _ g h = refl
 
   condition_filled : (bs : List Binding) (p : Place) (s : Spot) (e : Expression) (g : Supply) → Sound Truth bs p s e → f.condition e
       (given (told Truth bs p s e) g) ≡ filled (condition_named bs p s e) g
   condition_filled bs p s (name l x) g h = ap (f.one t.holds) (ap (f.one t.named) (named_filled Truth p p.depth s.place l x (bound_in bs x) g h))
   condition_filled bs p s (number l n) g h = refl
-  condition_filled bs p s (text l x) g h = refl
-  condition_filled bs p s (truth l x) g h = refl
-  condition_filled bs p s (query l) g h = refl
   condition_filled bs p s (unary l q.Address e) g h = ap (f.one t.holds) (ap (λ v. f.one t.address (f.lvalue e v)) (skip
       (prefixed q.Address bs (past 1 s) e) (told (Address false (line_of e)) bs p (past 1 s) e) g
       (quiet_unless (addressed bs e) (past 1 s).place (line_of e) not_assignable)) ∙ ap (f.one t.address) (lvalue_filled bs p (past 1 s)
@@ -328,6 +313,7 @@ mutual
       (told Value bs (deeper 1 p) (past 1 (behind a s)) b) _ _ g
       (term_filled bs p s a (given (told Value bs (deeper 1 p) (past 1 (behind a s)) b) g) h.0)
       (term_filled bs (deeper 1 p) (past 1 (behind a s)) b g h.1))
+  condition_filled bs p s _ g h = refl
 
   lvalue_filled : (bs : List Binding) (p : Place) (s : Spot) (r : Role) (e : Expression) (g : Supply) → assigned bs e ≡ true → Sound r bs p s e →
       f.lvalue e (given (told r bs p s e) g) ≡ filled (lvalue_named bs p s e) g

@@ -1,32 +1,22 @@
 -- Each part of a section without faults that stands by itself is good: its procedures, wherever they are nested, its items of STATIC and
 -- its tables.
-use Rattle.std.proofs.Common.{arith, ◌≡◌, ℕ, ◌+◌, ◌<◌, ◌≤◌, ◌^◌, max, true, false, cond, Option, Some, None, List, [], ◌∷◌, ◌++◌, length, refl, sym, ap, subst, ◌∙◌}
-use Rattle.std.specs.Bool.{⊤}
-use Rattle.std.proofs.lemmas.Bool.{false≢true}
-use Rattle.bk_base.specs.declared.limit.TheConstants.{FRAME_WORDS, VEC_NUMBER, OCODE_LABEL}
+use Rattle.bk_trans.proofs.Words.{arith, ◌≡◌, ℕ, ◌+◌, ◌<◌, ◌≤◌, ◌^◌, max, true, false, cond, Option, Some, None, List, [], ◌∷◌, ◌++◌, length, refl, sym, ap,
+  subst, ◌∙◌, ⊤, false≢true, FRAME_WORDS, VEC_NUMBER, OCODE_LABEL, Mention, Expression, Expressions, Action, Actions, Declaration, Declarations, Definition,
+  Definitions, Starts, name, number, text, truth, query, parens, unary, binary, choice, apply, valof, table, none, more, empty, assign, call, goto, label,
+  case_of, default, when, test, while, for_loop, switch, result, simple, block, repeat, repeat_while, no_actions, also, constants, definitions, no_declarations,
+  declare, routine, function, variables, no_definitions, define, no_starts, value, vector, line_of, size, Bound, Constant, Global, Static, Variable, Label,
+  Place, Role, Value, Truth, Address, Destination, not_assignable, no_result_or_return, vec_out_of_range, Binding, bound_in, bind, constant_word, kept, deeper,
+  looping, switching, labelled, valued, called, outermost, labels_of, labels_of_each, with_formals, parenthesised, words_of_start, place_behind, variables_of,
+  Spot, procedures_in, onward, past, numbered, behind, behind_each, behind_done, behind_declared, behind_one_declared, behind_one_defined, behind_constant,
+  symbols_each, beginning, Claim, is_claimed, Point, meaning, word, depth, wrong, claim, claimed, judged, deepest, without_depths, at, labels_in_scope,
+  procedures_in_scope, place_behind_one_defined, variables_in_scope, scope_behind_one, place_behind_one, scope_behind, place_behind_all, unless, its_meaning,
+  its_global, its_frame, inside_procedure, its_word, constant, each_constant, at_most, addressed, assigned, prefixed, pushed, chosen_at, defaulted_at, one_of,
+  each_of, told, told_each, told_destinations, told_done, told_done_each, told_declared, told_one_declared, told_defined, told_one_defined, told_started,
+  Callable, FrameSound, Sound, SoundEach, SoundDestinations, SoundDone, SoundDoneEach, SoundDeclared, SoundOneDeclared, SoundDefined, SoundOneDefined,
+  SoundStarted, Use}
 use Rattle.bk_tree.specs.declared.tree.Operator.TheVariants as o
 use Rattle.bk_tree.specs.declared.tree.Prefix.TheVariants as sign
 use Rattle.bk_tree.specs.declared.tree.Sort.TheVariants as sort
-use Rattle.bk_tree.specs.Tree.{Mention, Expression, Expressions, Action, Actions, Declaration, Declarations, Definition, Definitions, Starts, name, number, text, truth, query, parens, unary, binary, choice, apply, valof, table, none, more, empty, assign, call, goto, label, case_of, default, when, test, while, for_loop, switch, result, simple, block, repeat, repeat_while, no_actions, also, constants, definitions, no_declarations, declare, routine, function, variables, no_definitions, define, no_starts, value, vector}
-use Rattle.bk_tree.specs.Parts.{line_of, size}
-use Rattle.bk_scope.specs.declared.bound.Bound.{Bound}
-use Rattle.bk_scope.specs.declared.bound.Bound.TheVariants.{Constant, Global, Static, Variable, Label}
-use Rattle.bk_scope.specs.declared.place.Place.{Place}
-use Rattle.bk_scope.specs.declared.role.Role.{Role}
-use Rattle.bk_scope.specs.declared.role.Role.TheVariants.{Value, Truth, Address, Destination}
-use Rattle.bk_scope.specs.Wrong.{not_assignable, no_result_or_return, vec_out_of_range}
-use Rattle.bk_scope.specs.Scope.{Binding, bound_in, bind}
-use Rattle.bk_scope.specs.Constants.{constant_word}
-use Rattle.bk_scope.specs.Places.{kept, deeper, looping, switching, labelled, valued, called, outermost}
-use Rattle.bk_scope.specs.Entering.{labels_of, labels_of_each, with_formals}
-use Rattle.bk_scope.specs.Names.{parenthesised, words_of_start, place_behind, variables_of}
-use Rattle.bk_scope.specs.Spots.{Spot, procedures_in, onward, past, numbered, behind, behind_each, behind_done, behind_declared, behind_one_declared, behind_one_defined, behind_constant, symbols_each, beginning}
-use Rattle.bk_scope.specs.Found.{Claim, is_claimed}
-use Rattle.bk_scope.specs.Points.{Point, meaning, word, depth, wrong, claim, claimed, judged, deepest, without_depths, at}
-use Rattle.bk_scope.specs.Scoping.{labels_in_scope, procedures_in_scope, place_behind_one_defined, variables_in_scope, scope_behind_one, place_behind_one, scope_behind, place_behind_all}
-use Rattle.bk_scope.specs.Faults.{unless, its_meaning, its_global, its_frame, inside_procedure, its_word, constant, each_constant, at_most, addressed, assigned, prefixed, pushed, chosen_at, defaulted_at, one_of, each_of, told, told_each, told_destinations, told_done, told_done_each, told_declared, told_one_declared, told_defined, told_one_defined, told_started}
-use Rattle.bk_scope.specs.Sound.{Callable, FrameSound, Sound, SoundEach, SoundDestinations, SoundDone, SoundDoneEach, SoundDeclared, SoundOneDeclared, SoundDefined, SoundOneDefined, SoundStarted}
-use Rattle.bk_ocode.specs.Typing.{Use}
 use Rattle.bk_trans.specs.declared.around.Target.{Target}
 use Rattle.bk_trans.specs.Program as t
 use Rattle.bk_trans.specs.Naming.{meant, worth, statics_named, term_named, terms_named, condition_named, lvalue_named, lvalues_named, command_named, commands_named, declarations_named, declaration_named, definitions_named, definition_named, starts_named}
@@ -50,9 +40,7 @@ use Rattle.bk_trans.proofs.Once.{no_more}
 abbrev pub IsQuiet : Point → Type 0
 IsQuiet (word v) = v < 2 ^ 32
 IsQuiet (depth m) = ⊤
-IsQuiet (meaning b) = ⊤
-IsQuiet (wrong f) = ⊤
-IsQuiet (claim c f) = ⊤
+IsQuiet _ = ⊤
 
 abbrev pub AllQuiet : List Point → Type 0
 AllQuiet xs = AllPoints IsQuiet xs
@@ -212,11 +200,8 @@ tables_right plan ts (label_place n d x ∷ xs) h = (tt, tables_right plan ts xs
 
 callable_good : (y : Option Bound) → Callable y → GoodName (meant y)
 callable_good None h = tt
-callable_good (Some (Static n)) h = tt
 callable_good (Some (Global g)) h = subst (λ (x : Option ℕ). GoodName (Global x)) (sym h.1) h.2
-callable_good (Some (Constant v)) h = tt
-callable_good (Some (Variable j i)) h = tt
-callable_good (Some (Label j i)) h = tt
+callable_good _ h = tt
 
 items_good : (plan : ℕ → Use) (ts : List Target) (n : ℕ) (ks : List t.StaticItem) → 1 ≤ n → n + length ks ≤ OCODE_LABEL + 1 → AllGood plan ts (parts_of_items n ks)
 items_good plan ts n [] low high = tt
@@ -295,10 +280,6 @@ mutual
   nest_term : (plan : ℕ → Use) (ts : List Target) (bs : List Binding) (p : Place) (s : Spot) (e : Expression) (d n : ℕ) → Out plan ts bs p.procedure s.number → 1 ≤ n
       → n + labels (term_named bs p s e) ≤ OCODE_LABEL + 1 → Sound Value bs p s e → Quiet (told Value bs p s e) → PartsRight plan ts (parts d n (term_named bs p s e)) → AllGood plan ts (parts d n (term_named bs p s e))
   nest_term plan ts bs p s (name l x) d n a low high h f b = tt
-  nest_term plan ts bs p s (number l v) d n a low high h f b = tt
-  nest_term plan ts bs p s (text l v) d n a low high h f b = tt
-  nest_term plan ts bs p s (truth l v) d n a low high h f b = tt
-  nest_term plan ts bs p s (query l) d n a low high h f b = tt
   nest_term plan ts bs p s (unary l sign.Address e) d n a low high h f b = nest_at plan ts bs p (past 1 s) (Address false (line_of e)) e d n (onto _ a (omega arith)) low high h.0 h.1 (told_back (prefixed sign.Address bs (past 1 s) e) _ f) b
   nest_term plan ts bs p s (unary l sign.Contents e) d n a low high h f b = nest_term plan ts bs p (past 1 s) e d n (onto _ a (omega arith)) low high h.1 f b
   nest_term plan ts bs p s (unary l sign.Plus e) d n a low high h f b = nest_term plan ts bs p (past 1 s) e d n (onto _ a (omega arith)) low high h.1 f b
@@ -345,14 +326,11 @@ mutual
       let g = term_named bs p s x in
       nest_two plan ts (told Value bs p s x) _ (parts d n g) _ (λ i w. nest_term plan ts bs p s x d n a low (omega (arith, high)) h.0 i w)
       (λ i w. nest_term plan ts bs (deeper 1 p) u y (d + 1) (n + labels g) (onto _ a (omega arith)) (omega (arith, low)) (omega (arith, high)) h.1 i w) f b
+  nest_term plan ts bs p s _ d n a low high h f b = tt
 
   nest_if : (plan : ℕ → Use) (ts : List Target) (bs : List Binding) (p : Place) (s : Spot) (e : Expression) (d n : ℕ) → Out plan ts bs p.procedure s.number → 1 ≤ n
       → n + labels_if (condition_named bs p s e) ≤ OCODE_LABEL + 1 → Sound Truth bs p s e → Quiet (told Truth bs p s e) → PartsRight plan ts (parts_if d n (condition_named bs p s e)) → AllGood plan ts (parts_if d n (condition_named bs p s e))
   nest_if plan ts bs p s (name l x) d n a low high h f b = tt
-  nest_if plan ts bs p s (number l v) d n a low high h f b = tt
-  nest_if plan ts bs p s (text l v) d n a low high h f b = tt
-  nest_if plan ts bs p s (truth l v) d n a low high h f b = tt
-  nest_if plan ts bs p s (query l) d n a low high h f b = tt
   nest_if plan ts bs p s (unary l sign.Address e) d n a low high h f b = nest_at plan ts bs p (past 1 s) (Address false (line_of e)) e d n (onto _ a (omega arith)) low high h.0 h.1 (told_back (prefixed sign.Address bs (past 1 s) e) _ f) b
   nest_if plan ts bs p s (unary l sign.Contents e) d n a low high h f b = nest_term plan ts bs p (past 1 s) e d n (onto _ a (omega arith)) low high h.1 f b
   nest_if plan ts bs p s (unary l sign.Plus e) d n a low high h f b = nest_term plan ts bs p (past 1 s) e d n (onto _ a (omega arith)) low high h.1 f b
@@ -399,6 +377,7 @@ mutual
       let g = term_named bs p s x in
       nest_two plan ts (told Value bs p s x) _ (parts d n g) _ (λ i w. nest_term plan ts bs p s x d n a low (omega (arith, high)) h.0 i w)
       (λ i w. nest_term plan ts bs (deeper 1 p) u y (d + 1) (n + labels g) (onto _ a (omega arith)) (omega (arith, low)) (omega (arith, high)) h.1 i w) f b
+  nest_if plan ts bs p s _ d n a low high h f b = tt
 
   nest_each : (plan : ℕ → Use) (ts : List Target) (bs : List Binding) (p : Place) (s : Spot) (es : Expressions) (d n : ℕ) → Out plan ts bs p.procedure s.number → 1 ≤ n
       → n + labels_each (terms_named 1 bs p s es) ≤ OCODE_LABEL + 1 → SoundEach 1 bs p s es → Quiet (told_each 1 bs p s es) → PartsRight plan ts (parts_each d n (terms_named 1 bs p s es)) → AllGood plan ts (parts_each d n (terms_named 1 bs p s es))
@@ -472,7 +451,6 @@ mutual
       let vs = terms_named 1 bs (deeper 2 p) u es in
       nest_two plan ts (told Value bs z s e) _ (parts (d + 2 + count vs) n v) _ (λ i w. nest_term plan ts bs z s e (d + 2 + count vs) n a low (omega (arith, high)) h.0 i w)
       (λ i w. nest_each plan ts bs (deeper 2 p) u es (d + 2) (n + labels v) (onto _ a (omega arith)) (omega (arith, low)) (omega (arith, high)) h.1 i w) f b
-  nest_in plan ts bs p s (goto l x) d n a low high h f b = tt
   nest_in plan ts bs p s (label l x c) d n a low high h f b =
       (tt, nest_in plan ts bs p (past 1 s) c d (n + 1) (onto _ a (omega arith)) (omega (arith, low)) (omega (arith, high)) h.1 (told_back (one_of p.labels s.place l x ++ its_meaning (bound_in bs x)) _ f) b.1)
   nest_in plan ts bs p s (case_of l e c) d n a low high h f b =
@@ -525,7 +503,6 @@ mutual
       (λ i w. nest_in plan ts bs (switching (behind e s).number p) (numbered 1 (behind e s)) c d (n + 1 + labels v) (onto _ a (omega arith)) (omega (arith, low)) (omega (arith, high)) h.1 i w) f b
   nest_in plan ts bs p s (result l e) d n a low high h f b =
       nest_term plan ts bs p (past 1 s) e d n (onto _ a (omega arith)) low high h.1 (told_back (unless p.in_valof (at s.place l no_result_or_return)) _ f) b
-  nest_in plan ts bs p s (simple l k) d n a low high h f b = tt
   nest_in plan ts bs p s (block l no_declarations cs) d n a low high h f b =
       subst (λ (m : ℕ). AllGood plan ts (parts_through d m (commands_named bs p s cs))) (sym (no_more n))
       (nest_through plan ts bs p s cs d n a low (omega (arith, high)) h f (subst (λ (m : ℕ). PartsRight plan ts (parts_through d m (commands_named bs p s cs))) (no_more n) b))
@@ -555,6 +532,7 @@ mutual
       let g = command_named bs (looping p) s c in
       nest_two plan ts (told_done bs (looping p) s c) _ (parts_in d (n + 3) g) _ (λ i w. nest_in plan ts bs (looping p) s c d (n + 3) a (omega (arith, low)) (omega (arith, high)) h.0 i w)
       (λ i w. nest_if plan ts bs p (behind_done c s) e d (n + 3 + labels_in g) (onto _ a (omega arith)) (omega (arith, low)) (omega (arith, high)) h.1 i w) f b
+  nest_in plan ts bs p s _ d n a low high h f b = tt
 
   nest_through : (plan : ℕ → Use) (ts : List Target) (bs : List Binding) (p : Place) (s : Spot) (cs : Actions) (d n : ℕ) → Out plan ts bs p.procedure s.number → 1 ≤ n
       → n + labels_through (commands_named bs p s cs) ≤ OCODE_LABEL + 1 → SoundDoneEach bs p s cs → Quiet (told_done_each bs p s cs) → PartsRight plan ts (parts_through d n (commands_named bs p s cs)) → AllGood plan ts (parts_through d n (commands_named bs p s cs))

@@ -1,30 +1,22 @@
 -- Each number has one target at most: labels have numbers of their own where they come into scope, and so have the procedures of a LET
 -- and the items of STATIC; in one list no name stands twice.
-use Rattle.std.proofs.Common.{arith, ◌≡◌, inl, inr, ℕ, ◌+◌, ◌≤◌, Bool, true, false, cond, Option, Some, None, List, [], ◌∷◌, ◌++◌, length, refl, sym, ap, subst, ◌∙◌}
-use Rattle.std.specs.Bool.{⊤}
-use Rattle.bk_base.specs.declared.limit.TheConstants.{VEC_NUMBER}
+use Rattle.bk_trans.proofs.Words.{arith, ◌≡◌, inl, inr, ℕ, ◌+◌, ◌≤◌, Bool, true, false, cond, Option, Some, None, List, [], ◌∷◌, ◌++◌, length, refl, sym, ap,
+  subst, ◌∙◌, ⊤, VEC_NUMBER, Expression, Expressions, Action, Actions, Declaration, Declarations, Items, Definition, Definitions, Starts, name, number, text,
+  truth, query, parens, unary, binary, choice, apply, valof, table, none, more, empty, assign, call, goto, label, case_of, default, when, test, while, for_loop,
+  switch, result, simple, block, repeat, repeat_while, no_actions, also, constants, definitions, no_declarations, declare, no_items, item, routine, function,
+  variables, no_definitions, define, no_starts, value, vector, line_of, size, Bound, Constant, Global, Static, Variable, Label, Place, Role, Value, Truth,
+  Address, Destination, not_assignable, no_result_or_return, vec_out_of_range, Binding, bound_in, bind, constant_word, deeper, looping, switching, labelled,
+  valued, called, outermost, labels_of, labels_of_each, with_formals, parenthesised, words_of_start, Spot, procedures_in, onward, past, behind, behind_each,
+  behind_done, behind_declared, behind_one_declared, behind_one_defined, behind_constant, symbols_each, beginning, Claim, is_claimed, Point, meaning, word,
+  depth, wrong, claim, claimed, judged, at, labels_in_scope, procedures_in_scope, place_behind_one_defined, scope_behind_one, place_behind_one, scope_behind,
+  place_behind_all, unless, its_meaning, constant, each_constant, at_most, assigned, prefixed, pushed, chosen_at, defaulted_at, one_of, each_of, told,
+  told_each, told_destinations, told_done, told_done_each, told_declared, told_one_declared, told_defined, told_one_defined, told_started, naming, same_claim,
+  Fault, is_global, numbers, numbers_each, numbers_done, numbers_done_each, numbers_declared, numbers_one_declared, numbers_items, numbers_defined,
+  numbers_one_defined, numbers_started, procedure_in_scope, eqb-true, eq-eqb, ◌==◌, joined, sets}
 use Rattle.bk_tree.specs.declared.tree.Operator.TheVariants as o
 use Rattle.bk_tree.specs.declared.tree.Prefix.TheVariants as sign
 use Rattle.bk_tree.specs.declared.tree.Sort.TheVariants as sort
-use Rattle.bk_tree.specs.Tree.{Expression, Expressions, Action, Actions, Declaration, Declarations, Items, Definition, Definitions, Starts, name, number, text, truth, query, parens, unary, binary, choice, apply, valof, table, none, more, empty, assign, call, goto, label, case_of, default, when, test, while, for_loop, switch, result, simple, block, repeat, repeat_while, no_actions, also, constants, definitions, no_declarations, declare, no_items, item, routine, function, variables, no_definitions, define, no_starts, value, vector}
-use Rattle.bk_tree.specs.Parts.{line_of, size}
-use Rattle.bk_scope.specs.declared.bound.Bound.{Bound}
-use Rattle.bk_scope.specs.declared.bound.Bound.TheVariants.{Constant, Global, Static, Variable, Label}
-use Rattle.bk_scope.specs.declared.place.Place.{Place}
-use Rattle.bk_scope.specs.declared.role.Role.{Role}
-use Rattle.bk_scope.specs.declared.role.Role.TheVariants.{Value, Truth, Address, Destination}
-use Rattle.bk_scope.specs.Wrong.{not_assignable, no_result_or_return, vec_out_of_range}
-use Rattle.bk_scope.specs.Scope.{Binding, bound_in, bind}
-use Rattle.bk_scope.specs.Constants.{constant_word}
-use Rattle.bk_scope.specs.Places.{deeper, looping, switching, labelled, valued, called, outermost}
-use Rattle.bk_scope.specs.Entering.{labels_of, labels_of_each, with_formals}
-use Rattle.bk_scope.specs.Names.{parenthesised, words_of_start}
-use Rattle.bk_scope.specs.Spots.{Spot, procedures_in, onward, past, behind, behind_each, behind_done, behind_declared, behind_one_declared, behind_one_defined, behind_constant, symbols_each, beginning}
-use Rattle.bk_scope.specs.Found.{Claim, is_claimed}
-use Rattle.bk_scope.specs.Points.{Point, meaning, word, depth, wrong, claim, claimed, judged, at}
 use Rattle.bk_scope.specs.Laws.{Clean}
-use Rattle.bk_scope.specs.Scoping.{labels_in_scope, procedures_in_scope, place_behind_one_defined, scope_behind_one, place_behind_one, scope_behind, place_behind_all}
-use Rattle.bk_scope.specs.Faults.{unless, its_meaning, constant, each_constant, at_most, assigned, prefixed, pushed, chosen_at, defaulted_at, one_of, each_of, told, told_each, told_destinations, told_done, told_done_each, told_declared, told_one_declared, told_defined, told_one_defined, told_started}
 use Rattle.bk_trans.specs.declared.around.Target.{Target}
 use Rattle.bk_trans.specs.Naming.{meant, worth, statics_named, term_named, terms_named, condition_named, lvalue_named, lvalues_named, command_named, commands_named, declarations_named, declaration_named, definitions_named, definition_named, starts_named}
 use Rattle.bk_trans.specs.Labels.{labels, labels_if, labels_at, labels_onto, labels_in, labels_of_declaration, labels_of_declarations, labels_of_definition}
@@ -34,16 +26,8 @@ use Rattle.bk_trans.specs.Scheme.{goal_of}
 use Rattle.bk_trans.specs.Labels.{labels_of_procedure}
 use Rattle.bk_scope.specs.Spots as spots
 use Rattle.bk_trans.specs.declared.around.Goal.{Goal}
-use Rattle.bk_scope.specs.Found.{naming, same_claim}
-use Rattle.bk_scope.specs.Points.{Fault}
-use Rattle.bk_scope.specs.Scope.{is_global}
-use Rattle.bk_scope.specs.Spots.{numbers, numbers_each, numbers_done, numbers_done_each, numbers_declared, numbers_one_declared, numbers_items, numbers_defined, numbers_one_defined, numbers_started}
-use Rattle.bk_scope.specs.Scoping.{procedure_in_scope}
 use Rattle.std.specs.Str.{bytes_eq}
 use Rattle.std.proofs.lemmas.Slice.Eq.{bytes_eq-Decides}
-use Rattle.std.proofs.Common.{eqb-true, eq-eqb, ◌==◌}
-use Rattle.bk_ocode.specs.Lists.{joined}
-use Rattle.bk_ocode.specs.Typing.{sets}
 use Rattle.bk_trans.specs.Parts.{target_of, target_of_word, target_of_label}
 use Rattle.bk_trans.specs.Scheme.{goal}
 use Rattle.bk_trans.proofs.Once.{past as beyond, own, no_more}
@@ -72,9 +56,7 @@ bit false = 0
 abbrev claimed_once : ℕ → List ℕ → Point → ℕ
 claimed_once k x (claim c f) = bit (same_claim (naming k x) c)
 claimed_once k x (meaning b) = 0
-claimed_once k x (word v) = 0
-claimed_once k x (depth d) = 0
-claimed_once k x (wrong f) = 0
+claimed_once k x _ = 0
 
 abbrev times_claimed : ℕ → List ℕ → List Point → ℕ
 times_claimed k x [] = 0
@@ -192,13 +174,7 @@ mutual
   labels_claimed y bs p s (block l (declare x xs) cs) = omega arith
   labels_claimed y bs p s (repeat l c) = labels_claimed y bs (looping p) s c
   labels_claimed y bs p s (repeat_while l b c e) = let h = labels_claimed y bs (looping p) s c in simp (claimed_both) (omega (arith, h))
-  labels_claimed y bs p s empty = omega arith
-  labels_claimed y bs p s (assign l xs es) = omega arith
-  labels_claimed y bs p s (call l e es) = omega arith
-  labels_claimed y bs p s (goto l x) = omega arith
-  labels_claimed y bs p s (for_loop l x a b k c) = omega arith
-  labels_claimed y bs p s (result l e) = omega arith
-  labels_claimed y bs p s (simple l k) = omega arith
+  labels_claimed y bs p s _ = omega arith
 
   labels_claimed_each : (y : List ℕ) (bs : List Binding) (p : Place) (s : Spot) (cs : Actions) → name_times p.labels y (labels_of_each cs) ≤ times_claimed p.labels y (told_done_each bs p s cs)
   labels_claimed_each y bs p s no_actions = omega arith
@@ -281,11 +257,8 @@ procedure_stays n x ds bs apart = elim (look_procedure n ds bs x) [ inl same ↦
 
 global_none : (m : ℕ) (y : Option Bound) → is_global y ≡ true → static_number m y ≡ 0
 global_none m (Some (Global g)) e = refl
-global_none m None e = refl
 global_none m (Some (Static i)) e = absurd (let n : false ≡ true = e in cc)
-global_none m (Some (Constant v)) e = refl
-global_none m (Some (Variable j i)) e = refl
-global_none m (Some (Label j i)) e = refl
+global_none m _ e = refl
 
 procedure_number : (m n : ℕ) (x : List ℕ) (bs : List Binding) (g : Bool) → is_global (bound_in bs x) ≡ g → static_number m (bound_in (cond g bs (bind x (Static n) bs)) x) ≤ sets m (Some n)
 procedure_number m n x bs true e = let h = global_none m (bound_in bs x) e in omega (arith, h)
@@ -311,18 +284,12 @@ procedures_numbered m n (define (variables l xs is) ds) bs h = procedures_number
 label_target : (m n d : ℕ) (y : Option Bound) → numbered m (target_of_label n d (meant y)) ≤ label_number m y
 label_target m n d None = omega arith
 label_target m n d (Some (Label j i)) = omega arith
-label_target m n d (Some (Constant v)) = omega arith
-label_target m n d (Some (Global g)) = omega arith
-label_target m n d (Some (Static i)) = omega arith
-label_target m n d (Some (Variable j i)) = omega arith
+label_target m n d _ = omega arith
 
 word_target : (m n : ℕ) (y : Option Bound) → numbered m (target_of_word n (meant y)) ≤ static_number m y
 word_target m n None = omega arith
 word_target m n (Some (Label j i)) = omega arith
-word_target m n (Some (Constant v)) = omega arith
-word_target m n (Some (Global g)) = omega arith
-word_target m n (Some (Static i)) = omega arith
-word_target m n (Some (Variable j i)) = omega arith
+word_target m n _ = omega arith
 
 items_numbered : (m : ℕ) (bs : List Binding) (s : Spot) (is : Items) (n : ℕ) → parts_numbered m (parts_of_items n (statics_named bs s is)) + beyond m (s.number + numbers_items sort.Static is) ≤ beyond m s.number
 items_numbered m bs s no_items n = omega arith
@@ -339,11 +306,6 @@ count_let m bs p s l (define x xs) d n h = h
 mutual
   count_term : (m : ℕ) (bs : List Binding) (p : Place) (s : Spot) (e : Expression) (d n : ℕ) → Quiet (told Value bs p s e) → parts_numbered m (parts d n (term_named bs p s e)) + beyond m (s.number + numbers e) ≤ beyond m s.number
   count_term m bs p s (name l x) d n f = omega arith
-  count_term m bs p s (number l v) d n f = omega arith
-  count_term m bs p s (text l v) d n f = omega arith
-  count_term m bs p s (truth l v) d n f = omega arith
-  count_term m bs p s (query l) d n f = omega arith
-  count_term m bs p s (table l es) d n f = omega arith
   count_term m bs p s (unary l sign.Address e) d n f = let h = count_at m bs p (past 1 s) (Address false (line_of e)) e d n (told_back (prefixed sign.Address bs (past 1 s) e) _ f) in omega (arith, h)
   count_term m bs p s (unary l sign.Contents e) d n f = let h = count_term m bs p (past 1 s) e d n f in omega (arith, h)
   count_term m bs p s (unary l sign.Plus e) d n f = let h = count_term m bs p (past 1 s) e d n f in omega (arith, h)
@@ -385,14 +347,10 @@ mutual
       let u : Spot = past 1 (behind x s) in
       let h = count_term m bs p s x d n (told_front (told Value bs p s x) _ f) in
       let i = count_term m bs (deeper 1 p) u y (d + 1) (n + labels (term_named bs p s x)) (told_back (told Value bs p s x) _ f) in simp (numbered_both) (omega (arith, h, i))
+  count_term m bs p s _ d n f = omega arith
 
   count_if : (m : ℕ) (bs : List Binding) (p : Place) (s : Spot) (e : Expression) (d n : ℕ) → Quiet (told Truth bs p s e) → parts_numbered m (parts_if d n (condition_named bs p s e)) + beyond m (s.number + numbers e) ≤ beyond m s.number
   count_if m bs p s (name l x) d n f = omega arith
-  count_if m bs p s (number l v) d n f = omega arith
-  count_if m bs p s (text l v) d n f = omega arith
-  count_if m bs p s (truth l v) d n f = omega arith
-  count_if m bs p s (query l) d n f = omega arith
-  count_if m bs p s (table l es) d n f = omega arith
   count_if m bs p s (unary l sign.Address e) d n f = let h = count_at m bs p (past 1 s) (Address false (line_of e)) e d n (told_back (prefixed sign.Address bs (past 1 s) e) _ f) in omega (arith, h)
   count_if m bs p s (unary l sign.Contents e) d n f = let h = count_term m bs p (past 1 s) e d n f in omega (arith, h)
   count_if m bs p s (unary l sign.Plus e) d n f = let h = count_term m bs p (past 1 s) e d n f in omega (arith, h)
@@ -434,6 +392,7 @@ mutual
       let u : Spot = past 1 (behind x s) in
       let h = count_term m bs p s x d n (told_front (told Value bs p s x) _ f) in
       let i = count_term m bs (deeper 1 p) u y (d + 1) (n + labels (term_named bs p s x)) (told_back (told Value bs p s x) _ f) in simp (numbered_both) (omega (arith, h, i))
+  count_if m bs p s _ d n f = omega arith
 
   count_each : (m : ℕ) (bs : List Binding) (p : Place) (s : Spot) (es : Expressions) (d n : ℕ) → Quiet (told_each 1 bs p s es) → parts_numbered m (parts_each d n (terms_named 1 bs p s es)) + beyond m (s.number + numbers_each es) ≤ beyond m s.number
   count_each m bs p s none d n f = omega arith
@@ -482,7 +441,6 @@ mutual
       let vs = terms_named 1 bs (deeper 2 p) u es in
       let h = count_term m bs z s e (d + 2 + count vs) n (told_front (told Value bs z s e) _ f) in
       let i = count_each m bs (deeper 2 p) u es (d + 2) (n + labels v) (told_back (told Value bs z s e) _ f) in simp (numbered_both) (omega (arith, h, i))
-  count_in m bs p s (goto l x) d n f = omega arith
   count_in m bs p s (label l x c) d n f =
       let h = count_in m bs p (past 1 s) c d (n + 1) (told_back (one_of p.labels s.place l x ++ its_meaning (bound_in bs x)) _ f) in let i = label_target m n d (bound_in bs x) in omega (arith, h, i)
   count_in m bs p s (case_of l e c) d n f =
@@ -522,7 +480,6 @@ mutual
       let h = count_term m bs p s e d (n + 1) (told_front (told Value bs p s e) _ f) in
       let i = count_in m bs (switching (behind e s).number p) (spots.numbered 1 (behind e s)) c d (n + 1 + labels (term_named bs p s e)) (told_back (told Value bs p s e) _ f) in simp (numbered_both) (omega (arith, h, i))
   count_in m bs p s (result l e) d n f = let h = count_term m bs p (past 1 s) e d n (told_back (unless p.in_valof (at s.place l no_result_or_return)) _ f) in omega (arith, h)
-  count_in m bs p s (simple l k) d n f = omega arith
   count_in m bs p s (block l no_declarations cs) d n f =
       let h = count_through m bs p s cs d n f in let e = ap (λ (k : ℕ). parts_numbered m (parts_through d k (commands_named bs p s cs))) (no_more n) in omega (arith, h, e)
   count_in m bs p s (block l (declare x xs) cs) d n f =
@@ -543,6 +500,7 @@ mutual
   count_in m bs p s (repeat_while l z c e) d n f =
       let h = count_in m bs (looping p) s c d (n + 3) (told_front (told_done bs (looping p) s c) _ f) in
       let i = count_if m bs p (behind_done c s) e d (n + 3 + labels_in (command_named bs (looping p) s c)) (told_back (told_done bs (looping p) s c) _ f) in simp (numbered_both) (omega (arith, h, i))
+  count_in m bs p s _ d n f = omega arith
 
   count_through : (m : ℕ) (bs : List Binding) (p : Place) (s : Spot) (cs : Actions) (d n : ℕ) → Quiet (told_done_each bs p s cs) → parts_numbered m (parts_through d n (commands_named bs p s cs)) + beyond m (s.number + numbers_done_each cs) ≤ beyond m s.number + own_labels m bs (labels_of_each cs)
   count_through m bs p s no_actions d n f = omega arith
@@ -560,14 +518,13 @@ mutual
 
   count_one_declared : (m : ℕ) (bs : List Binding) (p : Place) (s : Spot) (x : Declaration) (d n : ℕ) → Quiet (told_one_declared bs p s x) → parts_numbered m (parts_of_declaration d n (declaration_named bs p s x)) + beyond m (s.number + numbers_one_declared x) ≤ beyond m s.number
   count_one_declared m bs p s (constants l sort.Manifest is) d n f = omega arith
-  count_one_declared m bs p s (constants l sort.Static no_items) d n f = omega arith
   count_one_declared m bs p s (constants l sort.Static (item i x e is)) d n f = let h = items_numbered m bs (spots.numbered 1 s) (item i x e is) n in omega (arith, h)
-  count_one_declared m bs p s (constants l sort.Global is) d n f = omega arith
   count_one_declared m bs p s (definitions l ds) d n f =
       let cs = procedures_in_scope (s.number + 1) ds bs in
       let v : Spot = spots.numbered (1 + procedures_in ds) s in
       let h = count_defined m s.number cs p v ds d n f in
       let i = procedures_numbered m (s.number + 1) ds bs (procedures_distinct s.number cs p v ds f) in count_let m bs p s l ds d n (omega (arith, h, i))
+  count_one_declared m bs p s _ d n f = omega arith
 
   count_defined : (m : ℕ) (k : ℕ) (bs : List Binding) (p : Place) (s : Spot) (ds : Definitions) (d n : ℕ) → Quiet (told_defined k bs p s ds) → parts_numbered m (parts_of_definitions d n (definitions_named bs p s ds)) + beyond m (s.number + numbers_defined ds) ≤ beyond m s.number + own_procedures m bs ds
   count_defined m k bs p s no_definitions d n f = omega arith

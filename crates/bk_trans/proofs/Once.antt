@@ -1,20 +1,14 @@
 -- Labels are set once: those that a part sets, in its own code and in what stands by itself behind it, lie among its own, and
 -- each is set at most once. How often a label is set is counted.
-use Rattle.std.proofs.Common.{arith, ◌≡◌, ◌⊎◌, inl, inr, ◌<◌, ◌≤◌, ℕ, ◌+◌, ◌-◌, ◌==◌, min, Bool, true, false, not, cond, pos, int_lt, Some, None, List, [], ◌∷◌, ◌++◌, length, map, refl, ap}
-use Rattle.std.proofs.lemmas.Bool.{cases_lt, ne_eqb}
-use Rattle.bk_base.specs.Word.{signed}
-use Rattle.bk_tree.specs.declared.tree.Operator.{Operator}
+use Rattle.bk_trans.proofs.Words.{arith, ◌≡◌, ◌⊎◌, inl, inr, ◌<◌, ◌≤◌, ℕ, ◌+◌, ◌-◌, ◌==◌, min, Bool, true, false, not, cond, pos, int_lt, Some, None, List, [],
+  ◌∷◌, ◌++◌, length, map, refl, ap, cases_lt, ne_eqb, signed, Operator, Prefix, Bound, Stmt, joined, sets, times_set}
 use Rattle.bk_tree.specs.declared.tree.Operator.TheVariants as o
-use Rattle.bk_tree.specs.declared.tree.Prefix.{Prefix}
 use Rattle.bk_tree.specs.declared.tree.Prefix.TheVariants as q
 use Rattle.bk_tree.specs.declared.tree.Simple.TheVariants as w
-use Rattle.bk_scope.specs.declared.bound.Bound.{Bound}
 use Rattle.bk_scope.specs.declared.bound.Bound.TheVariants as b
 use Rattle.bk_ocode.specs.declared.stmt.Dyadic.TheVariants as two
-use Rattle.bk_ocode.specs.declared.stmt.Stmt.{Stmt}
 use Rattle.bk_ocode.specs.declared.stmt.Stmt.TheVariants as t
 use Rattle.bk_ocode.specs.Labels.{label_set}
-use Rattle.bk_ocode.specs.Lists.{joined}
 use Rattle.bk_trans.specs.declared.around.Around.{Around}
 use Rattle.bk_trans.specs.declared.around.Target.{Target}
 use Rattle.bk_trans.specs.Program.{StaticItem, Term, Terms, Condition, Lvalue, Lvalues, Command, Commands, Declaration, Declarations, Definition, Definitions, Starts, named, number, text, truth, query, parens, unary, address, binary, choice, apply, valof, table, none, more, holds, within, fails, both, either, word, contents, subscript, byte, inside, nowhere, no_lvalues, onto, empty, assign, call, goto, label, case_of, default, when, test, while, for_loop, switch, result, simple, block, repeat, repeat_while, no_commands, also, statics, lets, no_declarations, declare, routine, function, variables, no_definitions, define, no_starts, value, vector}
@@ -22,7 +16,6 @@ use Rattle.bk_trans.specs.Labels.{labels, labels_each, labels_if, labels_at, lab
 use Rattle.bk_trans.specs.Depths.{count, behind_declaration, behind_declarations, behind_definition, has_variables}
 use Rattle.bk_trans.specs.Parts.{Part, parts_of_items, parts, parts_each, parts_if, parts_at, parts_onto, parts_from, parts_in, parts_through, parts_of_declarations, parts_of_declaration, parts_of_definitions, parts_of_definition, parts_of_starts, target_of}
 use Rattle.bk_trans.specs.Scheme.{push, prefix_code, infix_code, truth_value, by_turns, value_code, each_code, jump_code, address_code, store_code, value_codes, store_codes, command_code, through_code, declarations_code, declaration_code, definitions_code, definition_code, starts_code, procedure_code, word_code, data_code, scheme, outermost, valued, looping, switching}
-use Rattle.bk_ocode.specs.Typing.{sets, times_set}
 use Rattle.bk_trans.specs.Laws.{LabelsAreSetOnce}
 
 -- what stands by itself
@@ -71,11 +64,7 @@ no_more n = omega arith
 -- statements that set none
 pub push_none : (l : ℕ) (ts : List Target) (x : Bound) → sets l (label_set (push ts x)) ≡ 0
 push_none l ts (b.Constant (Some v)) = refl
-push_none l ts (b.Constant None) = refl
-push_none l ts (b.Global v) = refl
-push_none l ts (b.Static m) = refl
-push_none l ts (b.Variable j i) = refl
-push_none l ts (b.Label j m) = refl
+push_none l ts _ = refl
 
 pub truth_none : (l : ℕ) (x : Bool) → sets l (label_set (truth_value x)) ≡ 0
 truth_none l true = refl
@@ -91,31 +80,11 @@ store_none l false = refl
 
 pub prefix_none : (l : ℕ) (f : Prefix) → times_set l (prefix_code f) ≡ 0
 prefix_none l q.Contents = refl
-prefix_none l q.Minus = refl
-prefix_none l q.Not = refl
-prefix_none l q.Plus = refl
-prefix_none l q.Address = refl
+prefix_none l _ = refl
 
 pub infix_none : (l : ℕ) (f : Operator) → times_set l (infix_code f) ≡ 0
 infix_none l o.Subscript = refl
-infix_none l o.Byte = refl
-infix_none l o.Times = refl
-infix_none l o.Over = refl
-infix_none l o.Rem = refl
-infix_none l o.Add = refl
-infix_none l o.Subtract = refl
-infix_none l o.Equal = refl
-infix_none l o.Unequal = refl
-infix_none l o.Less = refl
-infix_none l o.Greater = refl
-infix_none l o.AtMost = refl
-infix_none l o.AtLeast = refl
-infix_none l o.ShiftLeft = refl
-infix_none l o.ShiftRight = refl
-infix_none l o.Both = refl
-infix_none l o.Either = refl
-infix_none l o.Same = refl
-infix_none l o.Differ = refl
+infix_none l _ = refl
 
 pub words_none : (l : ℕ) (ws : List ℕ) → times_set l (map (λ v. t.DataNumber (signed v)) ws) ≡ 0
 words_none l [] = refl
@@ -128,17 +97,13 @@ statics_own l ts n (x ∷ ks) = let h = statics_own l ts (n + 1) ks in let i = o
 word_own : (l n : ℕ) (x : Bound) → times_set l (word_code n x) + past l (n + labels_of_procedure x) ≤ past l (n + 1)
 word_own l n (b.Static m) = let i = own l (n + 1) in omega (arith, i)
 word_own l n (b.Constant v) = omega arith
-word_own l n (b.Global v) = omega arith
-word_own l n (b.Variable j i) = omega arith
-word_own l n (b.Label j m) = omega arith
+word_own l n _ = omega arith
 
 mutual
   once : (l : ℕ) (ts : List Target) (s n : ℕ) (e : Term) → times_set l (value_code ts s n e) + parts_set l ts (parts s n e) + past l (n + labels e) ≤ past l n
   once l ts s n (named x) = let h = push_none l ts x in omega (arith, h)
   once l ts s n (number v) = omega arith
-  once l ts s n (text x) = omega arith
   once l ts s n (truth x) = let h = truth_none l x in omega (arith, h)
-  once l ts s n query = omega arith
   once l ts s n (parens e) = once l ts s n e
   once l ts s n (unary f e) = let h = once l ts s n e in let i = prefix_none l f in simp (set_both) (omega (arith, h, i))
   once l ts s n (address x) = once_at l ts s n x
@@ -150,6 +115,7 @@ mutual
       (set_both, parts_both) (omega (arith, h, i))
   once l ts s n (valof c) = let h = once_in l ts (valued n) s (n + 1) c in let a = own l n in simp (set_both) (omega (arith, h, a))
   once l ts s n (table ws) = let h = words_none l ws in let a = own l n in omega (arith, h, a)
+  once l ts s n _ = omega arith
 
   once_each : (l : ℕ) (ts : List Target) (s n : ℕ) (es : Terms) → times_set l (each_code ts s n es) + parts_set l ts (parts_each s n es) + past l
       (n + labels_each es) ≤ past l n
@@ -207,7 +173,6 @@ mutual
       (value_codes ts s (n + labels_onto xs) es) (store_codes ts (s + 1) n xs) in simp (parts_both) (omega (arith, h, i, j))
   once_in l ts a s n (call e es) = let h = once l ts (s + 2 + count es) n e in let i = once_each l ts (s + 2) (n + labels e) es in simp
       (set_both, parts_both) (omega (arith, h, i))
-  once_in l ts a s n (goto x) = omega arith
   once_in l ts a s n (label x c) = let h = once_in l ts a s (n + 1) c in let d = own l n in omega (arith, h, d)
   once_in l ts a s n (case_of x c) = let h = once_in l ts a s (n + 1) c in let d = own l n in omega (arith, h, d)
   once_in l ts a s n (default c) = let h = once_in l ts a s (n + 1) c in let d = own l n in omega (arith, h, d)
@@ -226,11 +191,6 @@ mutual
   once_in l ts a s n (switch e c) = let h = once l ts s (n + 1) e in let i = once_in l ts (switching n s a) s (n + 1 + labels e) c in let d = own l n
       in simp (set_both, parts_both) (omega (arith, h, i, d))
   once_in l ts a s n (result e) = let h = once l ts s n e in simp (set_both) (omega (arith, h))
-  once_in l ts a s n (simple w.Break) = omega arith
-  once_in l ts a s n (simple w.Loop) = omega arith
-  once_in l ts a s n (simple w.EndCase) = omega arith
-  once_in l ts a s n (simple w.Return) = omega arith
-  once_in l ts a s n (simple w.Finish) = omega arith
   once_in l ts a s n (block no_declarations cs) = let h = once_through l ts a s n cs in let e = ap (λ (m : ℕ). parts_set l ts (parts_through s m cs))
       (no_more n) in omega (arith, h, e)
   once_in l ts a s n (block (declare x xs) cs) = let h = once_one_declared l ts s n x in let j = once_declared l ts (behind_declaration s x)
@@ -241,6 +201,8 @@ mutual
   once_in l ts a s n (repeat_while x c e) = let h = once_in l ts (looping (n + 1) (n + 2) s a) s (n + 3) c in let i = once_if l ts s
       (n + 3 + labels_in c) e x n in let d = own l n in let f = own l (n + 1) in let g = own l (n + 2) in simp (set_both, parts_both)
       (omega (arith, h, i, d, f, g))
+  once_in l ts a s n (simple w.Break) = omega arith
+  once_in l ts a s n _ = omega arith
 
   once_through : (l : ℕ) (ts : List Target) (a : Around) (s n : ℕ) (cs : Commands) → times_set l (through_code ts a s n cs) + parts_set l ts
       (parts_through s n cs) + past l (n + labels_through cs) ≤ past l n

@@ -1,13 +1,11 @@
 -- Statements whose numbers are in their ranges are the same in words.
-use Rattle.std.proofs.Common.{◌≡◌, ℕ, zero, suc, ◌<◌, ◌≤◌, ◌^◌, Some, List, [], ◌∷◌, map, slice_get, refl, ap, ◌∙◌, arith}
-use Rattle.bk_base.specs.declared.limit.TheConstants.{FRAME_WORDS, OCODE_LABEL}
+use Rattle.bk_trans.proofs.Words.{◌≡◌, ℕ, zero, suc, ◌<◌, ◌≤◌, ◌^◌, Some, List, [], ◌∷◌, map, slice_get, refl, ap, ◌∙◌, arith, FRAME_WORDS, OCODE_LABEL, Local,
+  Case, GlobalEntry, Stmt, Number, True, False, Query, Load, Text, Monadic, Dyadic, LoadByte, Assign, AssignAt, AssignByte, Jump, JumpIf, GiveResult,
+  TakeResult, Stack, Store, Entry, Save, CallFunction, CallRoutine, ReturnItem, Return, EndProcedure, Switch, Finish, DataLabel, DataNumber, DataAddress,
+  Globals, IsLabel, IsSlot, IsDepth, IsVariable, InRange}
 use Rattle.bk_ocode.specs.declared.stmt.Variable.{Variable}
-use Rattle.bk_ocode.specs.declared.stmt.Variable.TheVariants.{Local, Global, Static}
-use Rattle.bk_ocode.specs.declared.stmt.Case.{Case}
-use Rattle.bk_ocode.specs.declared.stmt.GlobalEntry.{GlobalEntry}
-use Rattle.bk_ocode.specs.declared.stmt.Stmt.{Stmt}
-use Rattle.bk_ocode.specs.declared.stmt.Stmt.TheVariants.{Number, True, False, Query, Load, Address, Text, Monadic, Dyadic, LoadByte, Assign, AssignAt, AssignByte, Jump, JumpIf, Label, GiveResult, TakeResult, Stack, Store, Entry, Save, CallFunction, CallRoutine, ReturnItem, Return, EndProcedure, Switch, Finish, DataLabel, DataNumber, DataAddress, Globals}
-use Rattle.bk_ocode.specs.StmtRange.{IsLabel, IsSlot, IsDepth, IsVariable, InRange}
+use Rattle.bk_ocode.specs.declared.stmt.Variable.TheVariants.{Global, Static}
+use Rattle.bk_ocode.specs.declared.stmt.Stmt.TheVariants.{Address, Label}
 use Rattle.bk_trans.specs.Alike.{word, variable_in_words, case_in_words, entry_in_words, stmt_in_words, in_words}
 
 small : (n : ℕ) → n < 2 ^ 32 → word n ≡ n
@@ -39,38 +37,24 @@ entries_are (x ∷ xs) h =
 
 stmt_is : (s : Stmt) → InRange s → stmt_in_words s ≡ s
 stmt_is (Number v) h = refl
-stmt_is True h = refl
-stmt_is False h = refl
-stmt_is Query h = refl
 stmt_is (Load x) h = ap Load (variable_is x h)
 stmt_is (Address x) h = ap Address (variable_is x h)
-stmt_is (Text b) h = refl
-stmt_is (Monadic o) h = refl
-stmt_is (Dyadic o) h = refl
-stmt_is LoadByte h = refl
 stmt_is (Assign x) h = ap Assign (variable_is x h)
-stmt_is AssignAt h = refl
-stmt_is AssignByte h = refl
 stmt_is (Jump l) h = ap Jump (label_is l h)
 stmt_is (JumpIf t l) h = ap (JumpIf t) (label_is l h)
 stmt_is (Label l) h = ap Label (label_is l h)
 stmt_is (GiveResult l) h = ap GiveResult (label_is l h)
 stmt_is (TakeResult n) h = ap TakeResult (slot_is n h)
 stmt_is (Stack n) h = ap Stack (depth_is n h)
-stmt_is Store h = refl
 stmt_is (Entry l x) h = ap (λ z. Entry z x) (label_is l h.0)
 stmt_is (Save n) h = ap Save (depth_is n h)
 stmt_is (CallFunction n) h = ap CallFunction (slot_is n h)
 stmt_is (CallRoutine n) h = ap CallRoutine (slot_is n h)
-stmt_is ReturnItem h = refl
-stmt_is Return h = refl
-stmt_is EndProcedure h = refl
 stmt_is (Switch l cs) h = ap (λ z. Switch z (map case_in_words cs)) (label_is l h.0) ∙ ap (Switch l) (cases_are cs h.1.labels)
-stmt_is Finish h = refl
 stmt_is (DataLabel l) h = ap DataLabel (label_is l h)
-stmt_is (DataNumber v) h = refl
 stmt_is (DataAddress l) h = ap DataAddress (label_is l h)
 stmt_is (Globals es) h = ap Globals (entries_are es (λ k e g. (h.in_range k e g).1))
+stmt_is _ h = refl
 
 pub in_range_is : (ss : List Stmt) → ((k : ℕ) (s : Stmt) → slice_get ss k ≡ Some s → InRange s) → in_words ss ≡ ss
 in_range_is [] h = refl

@@ -1,16 +1,18 @@
 -- Worked rows: the statements of small sections.
-use Rattle.std.proofs.Common.{◌≡◌, true, false, pos, negsuc, List, [], ◌∷◌, refl}
+use Rattle.bk_trans.proofs.Words.{◌≡◌, true, false, pos, negsuc, List, [], ◌∷◌, refl, Declarations, name, number, text, truth, query, parens, unary, binary,
+  choice, apply, valof, table, none, more, assign, call, goto, label, case_of, default, when, test, while, for_loop, switch, result, simple, block, repeat,
+  repeat_while, no_actions, also, constants, definitions, no_declarations, declare, no_items, item, routine, function, variables, no_definitions, define,
+  no_starts, value, vector, Local, Stmt, Number, True, Query, Load, Text, Monadic, Dyadic, LoadByte, Assign, AssignAt, AssignByte, Jump, JumpIf, GiveResult,
+  TakeResult, Stack, Store, Entry, Save, CallFunction, CallRoutine, ReturnItem, Return, EndProcedure, Switch, Finish, DataLabel, DataNumber, DataAddress,
+  Globals, meanings, words}
 use Rattle.bk_tree.specs.declared.tree.Operator.TheVariants as o
 use Rattle.bk_tree.specs.declared.tree.Prefix.TheVariants as q
 use Rattle.bk_tree.specs.declared.tree.Simple.TheVariants as w
 use Rattle.bk_tree.specs.declared.tree.Sort.TheVariants as s
-use Rattle.bk_tree.specs.Tree.{Declarations, name, number, text, truth, query, parens, unary, binary, choice, apply, valof, table, none, more, assign, call, goto, label, case_of, default, when, test, while, for_loop, switch, result, simple, block, repeat, repeat_while, no_actions, also, constants, definitions, no_declarations, declare, no_items, item, routine, function, variables, no_definitions, define, no_starts, value, vector}
-use Rattle.bk_ocode.specs.declared.stmt.Variable.TheVariants.{Local, Global, Static}
+use Rattle.bk_ocode.specs.declared.stmt.Variable.TheVariants.{Global, Static}
 use Rattle.bk_ocode.specs.declared.stmt.Monadic.TheVariants as m
 use Rattle.bk_ocode.specs.declared.stmt.Dyadic.TheVariants as d
-use Rattle.bk_ocode.specs.declared.stmt.Stmt.{Stmt}
-use Rattle.bk_ocode.specs.declared.stmt.Stmt.TheVariants.{Number, True, Query, Load, Address, Text, Monadic, Dyadic, LoadByte, Assign, AssignAt, AssignByte, Jump, JumpIf, Label, GiveResult, TakeResult, Stack, Store, Entry, Save, CallFunction, CallRoutine, ReturnItem, Return, EndProcedure, Switch, Finish, DataLabel, DataNumber, DataAddress, Globals}
-use Rattle.bk_scope.specs.Faults.{meanings, words}
+use Rattle.bk_ocode.specs.declared.stmt.Stmt.TheVariants.{Address, Label}
 use Rattle.bk_trans.specs.Filling.{program_of}
 use Rattle.bk_trans.specs.Scheme.{scheme}
 

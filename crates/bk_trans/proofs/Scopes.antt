@@ -1,22 +1,14 @@
 -- What names in scope mean at a place of a section without faults, and that a label and a static word that are in scope have a
 -- target in their plan.
-use Rattle.std.proofs.Common.{arith, ◌≡◌, ◌⊎◌, inl, inr, ℕ, ◌+◌, ◌≤◌, Bool, true, false, cond, Option, Some, None, List, [], ◌∷◌, ◌++◌, length, refl, sym, ap, subst, ◌∙◌}
-use Rattle.std.specs.Bool.{⊤}
+use Rattle.bk_trans.proofs.Words.{arith, ◌≡◌, ◌⊎◌, inl, inr, ℕ, ◌+◌, ◌≤◌, Bool, true, false, cond, Option, Some, None, List, [], ◌∷◌, ◌++◌, length, refl, sym,
+  ap, subst, ◌∙◌, ⊤, OCODE_LABEL, Action, Actions, Items, Definitions, empty, assign, call, goto, label, case_of, default, when, test, while, for_loop, switch,
+  result, simple, block, repeat, repeat_while, no_actions, also, no_declarations, declare, no_items, item, routine, function, variables, no_definitions, define,
+  Bound, Static, Label, Place, Binding, bound_in, bind, bind_all, is_global, looping, switching, labels_of, labels_of_each, Spot, past, numbered, behind,
+  behind_done, behind_constant, behind_one_defined, labels_in_scope, procedure_in_scope, procedures_in_scope, statics_in_scope, place_behind_one_defined,
+  IsLabel, IsDepth, Use}
 use Rattle.std.specs.Str.{bytes_eq}
 use Rattle.std.proofs.lemmas.Slice.Eq.{bytes_eq-Decides}
-use Rattle.bk_base.specs.declared.limit.TheConstants.{OCODE_LABEL}
-use Rattle.bk_tree.specs.Tree.{Action, Actions, Items, Definitions, empty, assign, call, goto, label, case_of, default, when, test, while, for_loop, switch, result, simple, block, repeat, repeat_while, no_actions, also, no_declarations, declare, no_items, item, routine, function, variables, no_definitions, define}
-use Rattle.bk_scope.specs.declared.bound.Bound.{Bound}
-use Rattle.bk_scope.specs.declared.bound.Bound.TheVariants.{Static, Label}
-use Rattle.bk_scope.specs.declared.place.Place.{Place}
-use Rattle.bk_scope.specs.Scope.{Binding, bound_in, bind, bind_all, is_global}
-use Rattle.bk_scope.specs.Places.{looping, switching}
-use Rattle.bk_scope.specs.Entering.{labels_of, labels_of_each}
-use Rattle.bk_scope.specs.Spots.{Spot, past, numbered, behind, behind_done, behind_constant, behind_one_defined}
-use Rattle.bk_scope.specs.Scoping.{labels_in_scope, procedure_in_scope, procedures_in_scope, statics_in_scope, place_behind_one_defined}
-use Rattle.bk_ocode.specs.StmtRange.{IsLabel, IsDepth}
 use Rattle.bk_ocode.specs.Typing as typing
-use Rattle.bk_ocode.specs.Typing.{Use}
 use Rattle.bk_trans.specs.declared.around.Goal.{Goal}
 use Rattle.bk_trans.specs.declared.around.Target.{Target}
 use Rattle.bk_trans.specs.Naming.{meant, statics_named, term_named, condition_named, command_named, commands_named, definition_named, definitions_named}
@@ -215,13 +207,7 @@ mutual
       let body = command_named bs (looping p) s c in
       label_found plan ts q k i y bs (looping p) s c d (n + 3) e deep (omega (arith, low)) (omega (arith, high)) among (parts_front plan ts (parts_in d (n + 3) body) _ a)
       (right_front plan (marks_in q d (n + 3) body) _ r.1.1.1)
-  label_found plan ts q k i y bs p s empty d n e deep low high among a r = elim among [ ]
-  label_found plan ts q k i y bs p s (assign l xs es) d n e deep low high among a r = elim among [ ]
-  label_found plan ts q k i y bs p s (call l f es) d n e deep low high among a r = elim among [ ]
-  label_found plan ts q k i y bs p s (goto l x) d n e deep low high among a r = elim among [ ]
-  label_found plan ts q k i y bs p s (for_loop l x f g h c) d n e deep low high among a r = elim among [ ]
-  label_found plan ts q k i y bs p s (result l f) d n e deep low high among a r = elim among [ ]
-  label_found plan ts q k i y bs p s (simple l w) d n e deep low high among a r = elim among [ ]
+  label_found plan ts q k i y bs p s _ d n e deep low high among a r = elim among [ ]
 
   pub label_found_through : (plan : ℕ → Use) (ts : List Target) (q k i : ℕ) (y : List ℕ) (bs : List Binding) (p : Place) (s : Spot) (cs : Actions) (d n : ℕ) → bound_in bs y ≡ Some (Label k i) → IsDepth d
       → 1 ≤ n → n + labels_through (commands_named bs p s cs) ≤ OCODE_LABEL + 1 → Among y (labels_of_each cs) → PartsRight plan ts (parts_through d n (commands_named bs p s cs))

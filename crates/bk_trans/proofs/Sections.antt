@@ -1,17 +1,11 @@
 -- A whole section: its procedures, data and GLOBAL agree with a plan, where each part is good and has its marks.
-use Rattle.std.proofs.Common.{arith, ◌≡◌, inr, ℕ, zero, suc, ◌+◌, ◌-◌, ◌≤◌, ◌==◌, Bool, true, false, cond, Some, None, List, [], ◌∷◌, ◌++◌, length, map, slice_get, refl, sym, ap, subst, ◌∙◌, eqb-true, eq-eqb, length-append}
-use Rattle.std.specs.Bool.{⊤}
-use Rattle.bk_base.specs.Word.{signed}
-use Rattle.bk_base.specs.declared.limit.TheConstants.{GLOBAL_NUMBER, OCODE_LABEL, OCODE_STATEMENTS}
-use Rattle.bk_scope.specs.declared.bound.Bound.{Bound}
+use Rattle.bk_trans.proofs.Words.{arith, ◌≡◌, inr, ℕ, zero, suc, ◌+◌, ◌-◌, ◌≤◌, ◌==◌, Bool, true, false, cond, Some, None, List, [], ◌∷◌, ◌++◌, length, map,
+  slice_get, refl, sym, ap, subst, ◌∙◌, eqb-true, eq-eqb, length-append, ⊤, signed, GLOBAL_NUMBER, OCODE_LABEL, OCODE_STATEMENTS, Bound, GlobalEntry, Stmt,
+  joined, IsLabel, IsGlobal, AreEntries, Use, Standing, outside, body, ended, AllEntries, Typed, done, enters, returns, gives, begins, points, ends, sets,
+  times_set}
 use Rattle.bk_scope.specs.declared.bound.Bound.TheVariants as b
-use Rattle.bk_ocode.specs.declared.stmt.GlobalEntry.{GlobalEntry}
-use Rattle.bk_ocode.specs.declared.stmt.Stmt.{Stmt}
 use Rattle.bk_ocode.specs.declared.stmt.Stmt.TheVariants as t
-use Rattle.bk_ocode.specs.Lists.{joined}
-use Rattle.bk_ocode.specs.StmtRange.{IsLabel, IsGlobal, AreEntries}
 use Rattle.bk_ocode.specs.Typing as typing
-use Rattle.bk_ocode.specs.Typing.{Use, Standing, outside, body, ended, AllEntries, Typed, done, enters, returns, gives, begins, points, ends, sets, times_set}
 use Rattle.bk_trans.specs.declared.around.Target.{Target}
 use Rattle.bk_trans.specs.Program.{routine, function, variables}
 use Rattle.bk_trans.specs.Labels.{labels, labels_in, labels_of_procedure, labels_of_definition}
@@ -79,10 +73,7 @@ bare plan p s = record {
 
 one_label : (x : Bound) → 1 ≤ labels_of_procedure x
 one_label (b.Static m) = omega arith
-one_label (b.Constant v) = omega arith
-one_label (b.Global v) = omega arith
-one_label (b.Variable j i) = omega arith
-one_label (b.Label j m) = omega arith
+one_label _ = omega arith
 
 -- from outside of procedures to there
 record Outer (plan : ℕ → Use) (x : Bool) (k : ℕ) (xs : List Stmt) : Type 0 where
@@ -115,9 +106,7 @@ procedure_typed plan ts y d (procedure n (function x name k e)) g r =
       typed = typed_then (enters r.0 ((low, omega (arith, high, one)), short_bytes name) (omega arith, much) inner) (gives (omega arith) done);
     }
 procedure_typed plan ts y d (procedure n (variables is)) g r = record { mode = y; depth = d; typed = done }
-procedure_typed plan ts y d (static_item n k) g r = record { mode = y; depth = d; typed = done }
-procedure_typed plan ts y d (static_table n ws) g r = record { mode = y; depth = d; typed = done }
-procedure_typed plan ts y d (label_place n s x) g r = record { mode = y; depth = d; typed = done }
+procedure_typed plan ts y d _ g r = record { mode = y; depth = d; typed = done }
 
 procedures_typed : (plan : ℕ → Use) (ts : List Target) (y : Bool) (d : ℕ) (xs : List Part) → AllGood plan ts xs → AllRight plan (joined part_marks xs)
     → Outer plan y d (joined (procedure_code ts) xs)
@@ -133,9 +122,7 @@ name_typed : (plan : ℕ → Use) (y : Bool) (d n : ℕ) (x : Bound) → plan n 
 name_typed plan y d n (b.Static m) e range high r =
     record { mode = true; depth = d; typed = begins r.0 (omega arith, omega (arith, high)) (points (inr e) range done) }
 name_typed plan y d n (b.Constant v) e range high r = record { mode = y; depth = d; typed = done }
-name_typed plan y d n (b.Global v) e range high r = record { mode = y; depth = d; typed = done }
-name_typed plan y d n (b.Variable j i) e range high r = record { mode = y; depth = d; typed = done }
-name_typed plan y d n (b.Label j m) e range high r = record { mode = y; depth = d; typed = done }
+name_typed plan y d n _ e range high r = record { mode = y; depth = d; typed = done }
 
 words_typed : (plan : ℕ → Use) (d : ℕ) (ws : List ℕ) → Typed plan (outside true d) (map (λ w. t.DataNumber (signed w)) ws) (outside true d)
 words_typed plan d [] = done
@@ -172,10 +159,7 @@ entries_both plan (x ∷ xs) ys h i = (h.0, h.1, h.2, entries_both plan xs ys h.
 entry_good : (plan : ℕ → Use) (n : ℕ) (x : Bound) → plan n ≡ typing.entry → IsLabel n → GoodName x → EntriesGood plan (entry_of n x)
 entry_good plan n (b.Global (Some g)) e range h = (e, h, range, tt)
 entry_good plan n (b.Global None) e range h = tt
-entry_good plan n (b.Constant v) e range h = tt
-entry_good plan n (b.Static m) e range h = tt
-entry_good plan n (b.Variable j i) e range h = tt
-entry_good plan n (b.Label j m) e range h = tt
+entry_good plan n _ e range h = tt
 
 part_entries : (plan : ℕ → Use) (ts : List Target) (x : Part) → GoodPart plan ts x → AllRight plan (part_marks x) → EntriesGood plan (entries_of x)
 part_entries plan ts (procedure n (routine x name k c)) g r =
@@ -185,9 +169,7 @@ part_entries plan ts (procedure n (function x name k e)) g r =
     let low = g.0 in let high : n + (labels_of_procedure x + labels e) ≤ OCODE_LABEL + 1 = g.1 in let one = one_label x in
     entry_good plan n x r.0 (low, omega (arith, high, one)) g.2
 part_entries plan ts (procedure n (variables is)) g r = tt
-part_entries plan ts (static_item n k) g r = tt
-part_entries plan ts (static_table n ws) g r = tt
-part_entries plan ts (label_place n s x) g r = tt
+part_entries plan ts _ g r = tt
 
 all_entries : (plan : ℕ → Use) (ts : List Target) (xs : List Part) → AllGood plan ts xs → AllRight plan (joined part_marks xs) → EntriesGood plan (joined entries_of xs)
 all_entries plan ts [] g r = tt
@@ -206,19 +188,13 @@ entries_ranged plan (x ∷ es) h (suc k) e at = entries_ranged plan es h.3 k e a
 -- each entry has a procedure's statements
 entry_few : (n : ℕ) (x : Bound) → length (entry_of n x) ≤ 1
 entry_few n (b.Global (Some g)) = omega arith
-entry_few n (b.Global None) = omega arith
-entry_few n (b.Constant v) = omega arith
-entry_few n (b.Static m) = omega arith
-entry_few n (b.Variable j i) = omega arith
-entry_few n (b.Label j m) = omega arith
+entry_few n _ = omega arith
 
 part_few : (ts : List Target) (x : Part) → length (entries_of x) ≤ length (procedure_code ts x)
 part_few ts (procedure n (routine x name k c)) = let h = entry_few n x in omega (arith, h)
 part_few ts (procedure n (function x name k e)) = let h = entry_few n x in omega (arith, h)
 part_few ts (procedure n (variables is)) = omega arith
-part_few ts (static_item n k) = omega arith
-part_few ts (static_table n ws) = omega arith
-part_few ts (label_place n s x) = omega arith
+part_few ts _ = omega arith
 
 entries_few : (ts : List Target) (xs : List Part) → length (joined entries_of xs) ≤ length (joined (procedure_code ts) xs)
 entries_few ts [] = omega arith
@@ -287,9 +263,7 @@ look_set (m ∷ ms) l used = pick (l == m.spot) refl (λ h. look_set ms l h)
 name_marked : (l n : ℕ) (x : Bound) → times_set l (word_code n x) ≡ times_marked l (name_marks n x)
 name_marked l n (b.Static m) = omega arith
 name_marked l n (b.Constant v) = refl
-name_marked l n (b.Global v) = refl
-name_marked l n (b.Variable j i) = refl
-name_marked l n (b.Label j m) = refl
+name_marked l n _ = refl
 
 part_marked : (l : ℕ) (ts : List Target) (x : Part) → times_set l (procedure_code ts x) + times_set l (data_code x) ≡ times_marked l (part_marks x)
 part_marked l ts (procedure n (routine x name k c)) =

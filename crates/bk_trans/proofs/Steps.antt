@@ -1,24 +1,16 @@
 -- Statements of a procedure one behind another, from one depth to another, and each statement that the scheme gives by itself.
-use Rattle.std.proofs.Common.{arith, ◌≡◌, ℕ, ◌+◌, ◌-◌, ◌≤◌, Bool, true, false, cond, List, [], ◌∷◌, ◌++◌, length, ℤ, int_lt, pos, refl, sym, subst, Some, None}
-use Rattle.std.proofs.lemmas.List.{length-take}
-use Rattle.bk_base.specs.declared.limit.TheConstants.{FRAME_WORDS, NAME_BYTES}
-use Rattle.bk_base.specs.Word.{signed}
-use Rattle.bk_base.specs.Strings.{first_bytes}
-use Rattle.bk_tree.specs.declared.tree.Operator.{Operator}
+use Rattle.bk_trans.proofs.Words.{arith, ◌≡◌, ℕ, ◌+◌, ◌-◌, ◌≤◌, Bool, true, false, cond, List, [], ◌∷◌, ◌++◌, length, ℤ, int_lt, pos, refl, sym, subst, Some,
+  None, length-take, FRAME_WORDS, NAME_BYTES, signed, first_bytes, Operator, Prefix, Bound, Stmt, IsLabel, IsDepth, Use, jumps, results, Standing, body, Fits,
+  Typed, done, enters, goes, lands, takes, returns, gives, begins, points, ends}
 use Rattle.bk_tree.specs.declared.tree.Operator.TheVariants as o
-use Rattle.bk_tree.specs.declared.tree.Prefix.{Prefix}
 use Rattle.bk_tree.specs.declared.tree.Prefix.TheVariants as q
-use Rattle.bk_scope.specs.declared.bound.Bound.{Bound}
 use Rattle.bk_scope.specs.declared.bound.Bound.TheVariants as b
 use Rattle.bk_ocode.specs.declared.stmt.Variable.TheVariants as v
 use Rattle.bk_ocode.specs.declared.stmt.Monadic.{Monadic as MonadicOperator}
 use Rattle.bk_ocode.specs.declared.stmt.Dyadic.{Dyadic as DyadicOperator}
 use Rattle.bk_ocode.specs.declared.stmt.Dyadic.TheVariants as two
-use Rattle.bk_ocode.specs.declared.stmt.Stmt.{Stmt}
 use Rattle.bk_ocode.specs.declared.stmt.Stmt.TheVariants as t
 use Rattle.bk_ocode.specs.Depth.{next_depth}
-use Rattle.bk_ocode.specs.StmtRange.{IsLabel, IsDepth}
-use Rattle.bk_ocode.specs.Typing.{Use, jumps, results, Standing, body, Fits, Typed, done, enters, goes, lands, takes, returns, gives, begins, points, ends}
 use Rattle.bk_ocode.specs.Typing as typing
 use Rattle.bk_trans.specs.declared.around.Goal.{Goal}
 use Rattle.bk_trans.specs.declared.around.Target.{Target}
@@ -87,29 +79,22 @@ fits_push plan ts p k (b.Label j m) h high = elim h [ ]
 
 pub next_push : (ts : List Target) (k : ℕ) (x : Bound) → next_depth k (push ts x) ≡ k + 1
 next_push ts k (b.Constant None) = refl
-next_push ts k (b.Constant (Some w)) = refl
-next_push ts k (b.Global None) = refl
-next_push ts k (b.Global (Some g)) = refl
-next_push ts k (b.Static m) = refl
-next_push ts k (b.Variable j i) = refl
-next_push ts k (b.Label j m) = refl
+next_push ts k _ = refl
 
 pub fits_address : (plan : ℕ → Use) (ts : List Target) (p k : ℕ) (x : Bound) → Held plan ts k x → k + 1 ≤ FRAME_WORDS → Fits plan p k (t.Address (variable ts x))
 fits_address plan ts p k (b.Constant y) h high = elim h [ ]
-fits_address plan ts p k (b.Global None) h high = elim h [ ]
 fits_address plan ts p k (b.Global (Some g)) h high = record { placed = refl; ranged = h; deep = omega arith; shallow = high; agrees = tt }
 fits_address plan ts p k (b.Static m) h high = record { placed = refl; ranged = h.1; deep = omega arith; shallow = high; agrees = h.0 }
 fits_address plan ts p k (b.Variable j i) h high = record { placed = refl; ranged = (h.0, omega (arith, h, high)); deep = h.1; shallow = high; agrees = tt }
-fits_address plan ts p k (b.Label j m) h high = elim h [ ]
+fits_address plan ts p k _ h high = elim h [ ]
 
 -- the value is above
 pub fits_assign : (plan : ℕ → Use) (ts : List Target) (p k : ℕ) (x : Bound) → Held plan ts k x → 2 ≤ k → k + 1 ≤ FRAME_WORDS → Fits plan p (k + 1) (t.Assign (variable ts x))
 fits_assign plan ts p k (b.Constant y) h low high = elim h [ ]
-fits_assign plan ts p k (b.Global None) h low high = elim h [ ]
 fits_assign plan ts p k (b.Global (Some g)) h low high = record { placed = refl; ranged = h; deep = omega (arith, low); shallow = omega (arith, high); agrees = tt }
 fits_assign plan ts p k (b.Static m) h low high = record { placed = refl; ranged = h.1; deep = omega (arith, low); shallow = omega (arith, high); agrees = h.0 }
 fits_assign plan ts p k (b.Variable j i) h low high = record { placed = refl; ranged = (h.0, omega (arith, h, high)); deep = omega (arith, h); shallow = omega (arith, high); agrees = tt }
-fits_assign plan ts p k (b.Label j m) h low high = elim h [ ]
+fits_assign plan ts p k _ h low high = elim h [ ]
 
 pub fits_assign_local : (plan : ℕ → Use) (p k i : ℕ) → 2 ≤ i → i + 2 ≤ k → k ≤ FRAME_WORDS → Fits plan p k (t.Assign (v.Local i))
 fits_assign_local plan p k i low below high = record { placed = refl; ranged = (low, omega (arith, below, high)); deep = below; shallow = omega (arith, high); agrees = tt }
@@ -184,10 +169,9 @@ next_test k j = pick (int_lt (signed j) (pos 0))
 -- operators
 pub prefix_steps : (plan : ℕ → Use) (p s : ℕ) → 2 ≤ s → s + 1 ≤ FRAME_WORDS → (f : Prefix) → Steps plan p (s + 1) (prefix_code f) (s + 1)
 prefix_steps plan p s low high q.Contents = last (s + 1) _ (fits_monadic plan p (s + 1) _ (omega (arith, low)) high) refl
-prefix_steps plan p s low high q.Minus = last (s + 1) _ (fits_monadic plan p (s + 1) _ (omega (arith, low)) high) refl
-prefix_steps plan p s low high q.Not = last (s + 1) _ (fits_monadic plan p (s + 1) _ (omega (arith, low)) high) refl
 prefix_steps plan p s low high q.Plus = done
 prefix_steps plan p s low high q.Address = done
+prefix_steps plan p s low high _ = last (s + 1) _ (fits_monadic plan p (s + 1) _ (omega (arith, low)) high) refl
 
 pub dyadic_steps : (plan : ℕ → Use) (p s : ℕ) → 2 ≤ s → s + 1 + 1 ≤ FRAME_WORDS → (f : DyadicOperator) → Steps plan p (s + 1 + 1) (t.Dyadic f ∷ []) (s + 1)
 dyadic_steps plan p s low high f = last (s + 1) (t.Dyadic f) (fits_dyadic plan p (s + 1 + 1) f (omega (arith, low)) high) (omega arith)

@@ -1,26 +1,10 @@
 -- What is told of a part of a section without faults: no depth is past the limit, each word is one, and no claim was made before.
-use Rattle.std.proofs.Common.{arith, ◌+◌, ◌<◌, ◌≤◌, ◌^◌, Option, List, [], ◌∷◌, ◌++◌, length}
-use Rattle.std.specs.Bool.{⊤}
-use Rattle.bk_base.specs.declared.limit.TheConstants.{FRAME_WORDS}
-use Rattle.bk_tree.specs.declared.tree.Operator.{Operator}
+use Rattle.bk_trans.proofs.Words.{arith, ◌+◌, ◌<◌, ◌≤◌, ◌^◌, Option, List, [], ◌∷◌, ◌++◌, length, ⊤, FRAME_WORDS, Operator, Prefix, Expression, name, number,
+  text, truth, query, parens, unary, binary, choice, apply, valof, table, size, Bound, Place, Role, Value, Truth, Address, Destination, Binding, bound_in,
+  Claim, deeper, valued, labelled, parenthesised, role_of_operand, role_of_operands, place_of_second, labels_of, labels_in_scope, Spot, onward, past, behind,
+  Point, meaning, word, depth, wrong, claim, claims_behind, used_at, depth_named, prefixed, pushed, each_constant, told, told_each, told_done}
 use Rattle.bk_tree.specs.declared.tree.Operator.TheVariants as o
-use Rattle.bk_tree.specs.declared.tree.Prefix.{Prefix}
 use Rattle.bk_tree.specs.declared.tree.Prefix.TheVariants as q
-use Rattle.bk_tree.specs.Tree.{Expression, name, number, text, truth, query, parens, unary, binary, choice, apply, valof, table}
-use Rattle.bk_tree.specs.Parts.{size}
-use Rattle.bk_scope.specs.declared.bound.Bound.{Bound}
-use Rattle.bk_scope.specs.declared.place.Place.{Place}
-use Rattle.bk_scope.specs.declared.role.Role.{Role}
-use Rattle.bk_scope.specs.declared.role.Role.TheVariants.{Value, Truth, Address, Destination}
-use Rattle.bk_scope.specs.Scope.{Binding, bound_in}
-use Rattle.bk_scope.specs.Found.{Claim}
-use Rattle.bk_scope.specs.Places.{deeper, valued, labelled}
-use Rattle.bk_scope.specs.Names.{parenthesised, role_of_operand, role_of_operands, place_of_second}
-use Rattle.bk_scope.specs.Entering.{labels_of}
-use Rattle.bk_scope.specs.Scoping.{labels_in_scope}
-use Rattle.bk_scope.specs.Spots.{Spot, onward, past, behind}
-use Rattle.bk_scope.specs.Points.{Point, meaning, word, depth, wrong, claim, claims_behind}
-use Rattle.bk_scope.specs.Faults.{used_at, depth_named, prefixed, pushed, each_constant, told, told_each, told_done}
 use Rattle.bk_scope.specs.Laws.{Clean}
 use Rattle.bk_scope.proofs.Parts.{first_clean, second_clean}
 
@@ -28,8 +12,7 @@ abbrev pub IsFine : Point → Type 0
 IsFine (depth m) = m ≤ FRAME_WORDS
 IsFine (word v) = v < 2 ^ 32
 IsFine (meaning b) = ⊤
-IsFine (wrong f) = ⊤
-IsFine (claim c f) = ⊤
+IsFine _ = ⊤
 
 abbrev pub AllPoints : (Point → Type 0) → List Point → Type 0
 AllPoints P [] = ⊤
@@ -70,15 +53,13 @@ Fine xs = Told IsFine xs
 -- roles in which a word is pushed
 abbrev pub Pushing : Role → Type 0
 Pushing Value = ⊤
-Pushing Truth = ⊤
-Pushing (Address x l) = ⊤
 Pushing (Destination x l) = ⊥
+Pushing _ = ⊤
 
 within_pushes : (r : Role) → Pushing r → Pushing (parenthesised r)
 within_pushes Value h = tt
-within_pushes Truth h = tt
-within_pushes (Address x l) h = tt
 within_pushes (Destination x l) h = h
+within_pushes _ h = tt
 
 operand_pushes : (f : Prefix) (r : Role) (e : Expression) → Pushing (role_of_operand f r e)
 operand_pushes q.Not Truth e = tt
@@ -97,17 +78,13 @@ operands_push f r = tt
 
 named_room : (r : Role) (p : Place) (y : Option Bound) → Pushing r → AllFine (depth_named r p y) → p.depth + 1 ≤ FRAME_WORDS
 named_room Value p y i h = h.0
-named_room Truth p y i h = h.0
-named_room (Address x l) p y i h = h.0
 named_room (Destination x l) p y i h = elim i [ ]
+named_room _ p y i h = h.0
 
 -- the frame has room for what is pushed
 pub told_room : (r : Role) (bs : List Binding) (p : Place) (s : Spot) (e : Expression) → Pushing r → AllFine (told r bs p s e) → p.depth + 1 ≤ FRAME_WORDS
 told_room r bs p s (name l x) i h = named_room r p (bound_in bs x) i (all_back (used_at p.procedure s.place l x (bound_in bs x)) _ h)
 told_room r bs p s (number l n) i h = h.0
-told_room r bs p s (text l x) i h = h.0
-told_room r bs p s (truth l b) i h = h.0
-told_room r bs p s (query l) i h = h.0
 told_room r bs p s (parens l e) i h = told_room (parenthesised r) bs p (past 1 s) e (within_pushes r i) h
 told_room r bs p s (unary l f e) i h = told_room (role_of_operand f r e) bs p (past 1 s) e (operand_pushes f r e) (all_back (prefixed f bs (past 1 s) e) _ h)
 told_room r bs p s (binary l f m a b) i h =
@@ -122,3 +99,4 @@ told_room r bs p s (apply l m e es) i h =
 told_room r bs p s (valof l c) i h =
     (all_back (told_done (labels_in_scope p.procedure (s.number + 1) (labels_of c) bs) (labelled s.number (valued p)) (onward 1 (1 + length (labels_of c)) s) c) (pushed p 1) h).0
 told_room r bs p s (table l es) i h = (all_back (each_constant bs p.procedure (past 1 s) es) (pushed p 1) h).0
+told_room r bs p s _ i h = h.0

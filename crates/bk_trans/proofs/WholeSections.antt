@@ -1,14 +1,9 @@
 -- The statements that are written of a section are the scheme's, in words.
-use Rattle.std.proofs.Common.{◌≡◌, ℕ, ◌==◌, Bool, true, false, cond, List, [], ◌∷◌, map, refl, sym, ap, ◌∙◌}
-use Rattle.bk_tree.specs.Tree.{Declarations}
-use Rattle.bk_scope.specs.declared.bound.Bound.{Bound}
-use Rattle.bk_scope.specs.Faults.{meanings, words}
+use Rattle.bk_trans.proofs.Words.{◌≡◌, ℕ, ◌==◌, Bool, true, false, cond, List, [], ◌∷◌, map, refl, sym, ap, ◌∙◌, Declarations, Bound, meanings, words, Stmt,
+  Globals, joined}
 use Rattle.bk_scope.specs.Known.{Known}
-use Rattle.bk_ocode.specs.declared.stmt.Stmt.{Stmt}
-use Rattle.bk_ocode.specs.declared.stmt.Stmt.TheVariants.{Globals}
 use Rattle.bk_tree.specs.Limits.{Within}
 use Rattle.bk_ocode.specs.Section.{IsSection}
-use Rattle.bk_ocode.specs.Lists.{joined}
 use Rattle.bk_trans.specs.declared.around.Goal.{Goal}
 use Rattle.bk_trans.specs.declared.around.Target.{Target}
 use Rattle.bk_trans.specs.Alike.{word, target_in_words, stmt_in_words, in_words}

@@ -1,4 +1,4 @@
-use Rattle.bk_trans.proofs.Words.{words_are_few}
+use Rattle.bk_trans.proofs.Counted.{words_are_few}
 use Rattle.bk_trans.proofs.laws.words_are_few.Goals as goal
 
 pub returns : goal.returns
