@@ -1,6 +1,6 @@
 -- Each expression of an accepted section is laid where the scheme puts it, for a value and for a jump. That VALOFs are is taken here as
 -- an argument.
-use Rattle.bk_simulation.proofs.Words.{◌≡◌, ℕ, ◌+◌, ◌≤◌, true, false, not, List, [], ◌∷◌, ◌++◌, length, map, Some, refl, sym, ◌∙◌, subst, arith, slice_get,
+use Rattle.bk_simulation.proofs.Words.{Operator, Binding, Environment, Lasting, past, ◌≡◌, ℕ, ◌+◌, ◌≤◌, true, false, not, List, [], ◌∷◌, ◌++◌, length, map, Bool, Some, refl, sym, ◌∙◌, subst, arith, slice_get,
   false≢true, first_bytes, signed, line_of, size, Expression, Expressions, Action, Actions, Declaration, Declarations, Definition, Definitions, Starts, Place,
   Role, bound_in, parenthesised, deeper, Sound, SoundEach, HaveWords, Spot, Datum, item_words, Static, Stmt, DataLabel, DataNumber, Number, Query, Address,
   Text, Monadic, Dyadic, Assign, AssignAt, AssignByte, Label, GiveResult, TakeResult, CallFunction, labels, labels_if, meant, term_named, terms_named,
@@ -10,7 +10,8 @@ use Rattle.bk_simulation.proofs.Words.{◌≡◌, ℕ, ◌+◌, ◌≤◌, true,
 use Rattle.bk_tree.specs.declared.tree.Operator.TheVariants as o
 use Rattle.bk_tree.specs.declared.tree.Prefix.TheVariants as q
 use Rattle.bk_tree.specs.Tree as t
-use Rattle.bk_scope.specs.declared.role.Role.TheVariants.{Address as Addressed}
+use Rattle.bk_scope.specs.Names.{role_of_operands, place_of_second}
+use Rattle.bk_scope.specs.declared.role.Role.TheVariants.{Address as Addressed, Value}
 use Rattle.bk_scope.specs.Faults.{addressed, assigned}
 use Rattle.bk_scope.specs.Spots as spot
 use Rattle.bk_ocode.specs.declared.stmt.Dyadic.TheVariants as two
@@ -18,11 +19,11 @@ use Rattle.bk_ocode.specs.declared.stmt.Monadic.TheVariants as w
 use Rattle.bk_simulation.specs.Regular.{Regular, RegularEach}
 use Rattle.bk_simulation.proofs.Weights.{weight_of, weight_among}
 use Rattle.bk_simulation.proofs.Sought.{with_names}
-use Rattle.bk_simulation.proofs.Laid.{Setting, Scene, Aim, pushes, jumps, ending, count, IsCode, AreValues, IsAddress, IsStore}
+use Rattle.bk_simulation.proofs.Laid.{Setting, Scene, Aim, pushes, jumps, ending, count, LabelAt, IsCode, AreValues, IsAddress, IsStore}
 use Rattle.bk_simulation.proofs.Held.{InData}
 use Rattle.bk_simulation.proofs.HeldData.{statement_data, statement_below, items_are, words_small, words_agree}
 use Rattle.bk_simulation.proofs.NamesAgree.{Agree}
-use Rattle.bk_simulation.proofs.LastingKinds.{string, words_at, kinds_each, kinds_at}
+use Rattle.bk_simulation.proofs.LastingKinds.{Kind, string, words_at, kinds_each, kinds_at}
 use Rattle.bk_simulation.proofs.Standing.{StandsAt, passed, at_depth, written, label_at, call_at, home, no_bases, new_base, both_bases, three_bases, bases_so, Lies, lies_behind}
 use Rattle.bk_simulation.proofs.LaidExpressions.{coded, own_parts, own_kinds, plain_lies, role, level, HasWords, FoundParts, found_front, found_back, DataIn,
   Around, around_deeper, InNames, plain_code, plain_parts, lies_ended, leaf_on, leaf_lies, pushed_depth, truth_depth, infix_on, joined_two, joined_three,
@@ -43,6 +44,91 @@ ValofsLie pay = (sc : Scene) (p : Place) (s : Spot) (i : ℕ) (aim : Aim) (l : �
     → weight_of (t.valof l x) ≤ pay → FoundParts sc.own sc.targets (own_parts sc p s d n aim (t.valof l x)) → c ≡ coded sc p s d n aim (t.valof l x) ++ rest → StandsAt sc.own d c
     → Lies (home sc pay) i (objects_of_action x) (level aim d) rest (own_kinds sc p s n aim (t.valof l x)) (λ ns. of_expression (with_names ns i) (t.valof l x))
     (InNames sc.bindings i (λ g env. IsCode g sc d env aim (t.valof l x) c rest))
+
+-- the code of an expression is laid from statements on before those
+abbrev CodeLies : ℕ → Scene → Place → Spot → ℕ → Aim → Expression → ℕ → ℕ → List Stmt → List Stmt → Type 0
+CodeLies pay sc p s i aim e d n c rest = FoundParts sc.own sc.targets (own_parts sc p s d n aim e) → c ≡ coded sc p s d n aim e ++ rest → StandsAt sc.own d c
+    → Lies (home sc pay) i (objects e) (level aim d) rest (own_kinds sc p s n aim e) (λ ns. of_expression (with_names ns i) e)
+    (InNames sc.bindings i (λ g env. IsCode g sc d env aim e c rest))
+
+abbrev second : Expression → Spot → Spot
+second x s = spot.past 1 (spot.behind x s)
+
+operands_sound : (f : Operator) (bs : List Binding) (p : Place) (s u : Spot) (x y : Expression)
+    → Sound (role_of_operands f Value) bs p s x × Sound (role_of_operands f Value) bs (place_of_second f Value p) u y
+    → Sound Value bs p s x × Sound Value bs (deeper 1 p) u y
+operands_sound o.Both bs p s u x y h = h
+operands_sound _ bs p s u x y h = h
+
+-- two values, one above the other
+two_values : (pay : ℕ) (sc : Scene) (p : Place) (s : Spot) (i : ℕ) (x y : Expression) (d n : ℕ) (c rest : List Stmt) → Around sc p d
+    → FoundParts sc.own sc.targets (own_parts sc p s d n pushes x
+    ++ own_parts sc (deeper 1 p) (second x s) (d + 1) (n + labels (term_named sc.bindings p s x)) pushes y)
+    → c ≡ coded sc p s d n pushes x ++ (coded sc (deeper 1 p) (second x s) (d + 1) (n + labels (term_named sc.bindings p s x)) pushes y ++ rest)
+    → StandsAt sc.own d c → ((c0 r0 : List Stmt) → CodeLies pay sc p s i pushes x d n c0 r0)
+    → ((c0 r0 : List Stmt) → Around sc (deeper 1 p) (d + 1)
+    → CodeLies pay sc (deeper 1 p) (second x s) (i + objects x) pushes y (d + 1) (n + labels (term_named sc.bindings p s x)) c0 r0)
+    → Lies (home sc pay) i (objects x + objects y) (d + 1 + 1) rest
+    (own_kinds sc p s n pushes x ++ own_kinds sc (deeper 1 p) (second x s) (n + labels (term_named sc.bindings p s x)) pushes y)
+    (λ ns. of_expression (with_names ns i) x ++ of_expression (with_names ns (i + objects x)) y)
+    (InNames sc.bindings i (λ g env. (c1 : List Stmt) × IsCode g sc d env pushes x c c1 × IsCode g sc (d + 1) (past x env) pushes y c1 rest))
+two_values pay sc p s i x y d n c rest a f k st on_x on_y =
+    let c1 = coded sc (deeper 1 p) (second x s) (d + 1) (n + labels (term_named sc.bindings p s x)) pushes y ++ rest in
+    let lx = on_x c c1 (found_front sc.own sc.targets (own_parts sc p s d n pushes x) _ f) k st in
+    let ly = on_y c1 rest (around_deeper sc p d 1 (d + 1) refl lx.on.shallow a) (found_back sc.own sc.targets (own_parts sc p s d n pushes x) _ f) refl lx.on in
+    record {
+      on = ly.on;
+      objects_are = bases_so (home sc pay) i _ _ _ (λ g z v ns u. (c1, v.0 ns u, v.1 ns u))
+          (both_bases (home sc pay) i (objects x) (objects y) _ _ lx.objects_are ly.objects_are);
+    }
+
+-- and an operator of theirs
+operator_lies : (pay : ℕ) (sc : Scene) (p : Place) (s : Spot) (i : ℕ) (aim : Aim) (f : Operator) (x y : Expression) (d n : ℕ) (c rest : List Stmt) → Around sc p d
+    → FoundParts sc.own sc.targets (own_parts sc p s d n pushes x
+    ++ own_parts sc (deeper 1 p) (second x s) (d + 1) (n + labels (term_named sc.bindings p s x)) pushes y)
+    → c ≡ (coded sc p s d n pushes x ++ coded sc (deeper 1 p) (second x s) (d + 1) (n + labels (term_named sc.bindings p s x)) pushes y ++ infix_code f)
+    ++ ending aim rest → StandsAt sc.own d c → ((c0 r0 : List Stmt) → CodeLies pay sc p s i pushes x d n c0 r0)
+    → ((c0 r0 : List Stmt) → Around sc (deeper 1 p) (d + 1)
+    → CodeLies pay sc (deeper 1 p) (second x s) (i + objects x) pushes y (d + 1) (n + labels (term_named sc.bindings p s x)) c0 r0)
+    → Lies (home sc pay) i (objects x + objects y) (level aim d) rest
+    (own_kinds sc p s n pushes x ++ own_kinds sc (deeper 1 p) (second x s) (n + labels (term_named sc.bindings p s x)) pushes y)
+    (λ ns. of_expression (with_names ns i) x ++ of_expression (with_names ns (i + objects x)) y)
+    (InNames sc.bindings i (λ g env. (c1 : List Stmt) × IsCode g sc d env pushes x c c1
+    × IsCode g sc (d + 1) (past x env) pushes y c1 (infix_code f ++ ending aim rest)))
+operator_lies pay sc p s i aim f x y d n c rest a g k st on_x on_y =
+    let tail = ending aim rest in
+    let both = two_values pay sc p s i x y d n c (infix_code f ++ tail) a g (joined_three _ _ (infix_code f) tail c k) st on_x on_y in
+    lies_ended (home sc pay) i _ d aim rest _ (record { on = infix_on sc.own f d tail both.on; objects_are = both.objects_are })
+
+-- two conditions, the second after the first
+two_jumps : (pay : ℕ) (sc : Scene) (p : Place) (s : Spot) (i : ℕ) (x y : Expression) (u v : Bool) (j l d n : ℕ) (c rest : List Stmt)
+    → FoundParts sc.own sc.targets (own_parts sc p s d (n + 1) (jumps u j) x
+    ++ own_parts sc p (second x s) d (n + 1 + labels_if (condition_named sc.bindings p s x)) (jumps v l) y)
+    → c ≡ coded sc p s d (n + 1) (jumps u j) x ++ (coded sc p (second x s) d (n + 1 + labels_if (condition_named sc.bindings p s x)) (jumps v l) y ++ rest)
+    → StandsAt sc.own d c → ((c0 r0 : List Stmt) → CodeLies pay sc p s i (jumps u j) x d (n + 1) c0 r0)
+    → ((c0 r0 : List Stmt) → CodeLies pay sc p (second x s) (i + objects x) (jumps v l) y d (n + 1 + labels_if (condition_named sc.bindings p s x)) c0 r0)
+    → Lies (home sc pay) i (objects x + objects y) d rest
+    (own_kinds sc p s (n + 1) (jumps u j) x ++ own_kinds sc p (second x s) (n + 1 + labels_if (condition_named sc.bindings p s x)) (jumps v l) y)
+    (λ ns. of_expression (with_names ns i) x ++ of_expression (with_names ns (i + objects x)) y)
+    (InNames sc.bindings i (λ g env. (c1 : List Stmt) × IsCode g sc d env (jumps u j) x c c1 × IsCode g sc d (past x env) (jumps v l) y c1 rest))
+two_jumps pay sc p s i x y u v j l d n c rest f k st on_x on_y =
+    let c1 = coded sc p (second x s) d (n + 1 + labels_if (condition_named sc.bindings p s x)) (jumps v l) y ++ rest in
+    let lx = on_x c c1 (found_front sc.own sc.targets (own_parts sc p s d (n + 1) (jumps u j) x) _ f) k st in
+    let ly = on_y c1 rest (found_back sc.own sc.targets (own_parts sc p s d (n + 1) (jumps u j) x) _ f) refl lx.on in
+    record {
+      on = ly.on;
+      objects_are = bases_so (home sc pay) i _ _ _ (λ g z v ns u. (c1, v.0 ns u, v.1 ns u))
+          (both_bases (home sc pay) i (objects x) (objects y) _ _ lx.objects_are ly.objects_are);
+    }
+
+-- and a label after them
+labelled_lies : (sc : Scene) (pay i d n : ℕ) (rest : List Stmt) {many : ℕ} {ks : List Kind} {L : List Named → List Lasting}
+    (P Q : Setting → Environment → Type 0) → Lies (home sc pay) i many d (Label n ∷ rest) ks L (InNames sc.bindings i P)
+    → ((g : Setting) (env : Environment) → P g env → LabelAt g sc d n rest → Q g env) → Lies (home sc pay) i many d rest ks L (InNames sc.bindings i Q)
+labelled_lies sc pay i d n rest P Q a h = record {
+  on = passed sc.own d d (Label n) rest a.on refl;
+  objects_are = bases_so (home sc pay) i _ _ _ (λ g z v ns u. h g (with_names ns i) (v ns u) (label_at g sc d n rest z.own a.on)) a.objects_are;
+}
 
 mutual
   pub laid_code : (pay : ℕ) (valofs : ValofsLie pay) (sc : Scene) (p : Place) (s : Spot) (i : ℕ) (aim : Aim) (e : Expression) (d n : ℕ) (c rest : List Stmt) → Around sc p d → Sound (role aim) sc.bindings p s e → Regular e → weight_of e ≤ pay
@@ -101,119 +187,39 @@ mutual
       lies_behind (home sc pay) i (objects e) (d + 1) (d + 1) (Monadic w.Not) rest _ refl (laid_code pay valofs sc p (spot.past 1 s) i pushes e d n c (Monadic w.Not ∷ rest) a h.1 r (omega arith) f k2 st)
   laid_code pay valofs sc p s i (jumps v j) (t.unary l q.Not e) d n c rest a h r m f k st = laid_code pay valofs sc p (spot.past 1 s) i (jumps (not v) j) e d n c rest a h.1 r (omega arith) f k st
   laid_code pay valofs sc p s i (jumps false j) (t.binary l o.Both m0 x y) d n c rest a h r m f k st =
-      let s1 : Spot = spot.past 1 (spot.behind x s) in
-      let cx = condition_named sc.bindings p s x in
-      let cy = condition_named sc.bindings p s1 y in
-      let vx = jump_code sc.targets d (n + 1) cx false j in
-      let vy = jump_code sc.targets d (n + 1 + labels_if cx) cy false j in
-      let c1 = vy ++ rest in
-      let lx = laid_code pay valofs sc p s i (jumps false j) x d (n + 1) c c1 a h.0 r.0 (omega arith) (found_front sc.own sc.targets (parts_if d (n + 1) cx) _ f) (joined_two vx vy rest c k) st in
-      let ly = laid_code pay valofs sc p s1 (i + objects x) (jumps false j) y d (n + 1 + labels_if cx) c1 rest a h.1 r.1 (omega arith) (found_back sc.own sc.targets (parts_if d (n + 1) cx) _ f) refl lx.on in
-      record { on = ly.on; objects_are = bases_so (home sc pay) i _ _ _ (λ g z v ns e. (c1, v.0 ns e, v.1 ns e)) (both_bases (home sc pay) i (objects x) (objects y) _ _ lx.objects_are ly.objects_are) }
+      two_jumps pay sc p s i x y false false j j d n c rest f (joined_two _ _ rest c k) st
+      (λ c0 r0 f0 k0 st0. laid_code pay valofs sc p s i (jumps false j) x d (n + 1) c0 r0 a h.0 r.0 (omega arith) f0 k0 st0)
+      (λ c0 r0 f0 k0 st0. laid_code pay valofs sc p _ (i + objects x) (jumps false j) y d _ c0 r0 a h.1 r.1 (omega arith) f0 k0 st0)
   laid_code pay valofs sc p s i (jumps true j) (t.binary l o.Both m0 x y) d n c rest a h r m f k st =
-      let s1 : Spot = spot.past 1 (spot.behind x s) in
-      let cx = condition_named sc.bindings p s x in
-      let cy = condition_named sc.bindings p s1 y in
-      let vx = jump_code sc.targets d (n + 1) cx false n in
-      let vy = jump_code sc.targets d (n + 1 + labels_if cx) cy true j in
-      let c1 = vy ++ (Label n ∷ rest) in
-      let lx = laid_code pay valofs sc p s i (jumps false n) x d (n + 1) c c1 a h.0 r.0 (omega arith) (found_front sc.own sc.targets (parts_if d (n + 1) cx) _ f) (joined_three vx vy (Label n ∷ []) rest c k) st in
-      let ly = laid_code pay valofs sc p s1 (i + objects x) (jumps true j) y d (n + 1 + labels_if cx) c1 (Label n ∷ rest) a h.1 r.1 (omega arith) (found_back sc.own sc.targets (parts_if d (n + 1) cx) _ f) refl lx.on in
-      record {
-        on = passed sc.own d d (Label n) rest ly.on refl;
-        objects_are = bases_so (home sc pay) i _ _ _ (λ g z v ns e. (n, c1, v.0 ns e, v.1 ns e, label_at g sc d n rest z.own ly.on)) (both_bases (home sc pay) i (objects x) (objects y) _ _ lx.objects_are ly.objects_are);
-      }
+      labelled_lies sc pay i d n rest _ (λ g env. IsCode g sc d env (jumps true j) (t.binary l o.Both m0 x y) c rest)
+      (two_jumps pay sc p s i x y false true n j d n c (Label n ∷ rest) f (joined_three _ _ (Label n ∷ []) rest c k) st
+      (λ c0 r0 f0 k0 st0. laid_code pay valofs sc p s i (jumps false n) x d (n + 1) c0 r0 a h.0 r.0 (omega arith) f0 k0 st0)
+      (λ c0 r0 f0 k0 st0. laid_code pay valofs sc p _ (i + objects x) (jumps true j) y d _ c0 r0 a h.1 r.1 (omega arith) f0 k0 st0))
+      (λ g e (w : (c1 : List Stmt) × IsCode g sc d e (jumps false n) x c c1 × IsCode g sc d (past x e) (jumps true j) y c1 (Label n ∷ rest)) at.
+      (n, w.0, w.1, w.2, at))
   laid_code pay valofs sc p s i (jumps true j) (t.binary l o.Either m0 x y) d n c rest a h r m f k st =
-      let s1 : Spot = spot.past 1 (spot.behind x s) in
-      let cx = condition_named sc.bindings p s x in
-      let cy = condition_named sc.bindings p s1 y in
-      let vx = jump_code sc.targets d (n + 1) cx true j in
-      let vy = jump_code sc.targets d (n + 1 + labels_if cx) cy true j in
-      let c1 = vy ++ rest in
-      let lx = laid_code pay valofs sc p s i (jumps true j) x d (n + 1) c c1 a h.0 r.0 (omega arith) (found_front sc.own sc.targets (parts_if d (n + 1) cx) _ f) (joined_two vx vy rest c k) st in
-      let ly = laid_code pay valofs sc p s1 (i + objects x) (jumps true j) y d (n + 1 + labels_if cx) c1 rest a h.1 r.1 (omega arith) (found_back sc.own sc.targets (parts_if d (n + 1) cx) _ f) refl lx.on in
-      record { on = ly.on; objects_are = bases_so (home sc pay) i _ _ _ (λ g z v ns e. (c1, v.0 ns e, v.1 ns e)) (both_bases (home sc pay) i (objects x) (objects y) _ _ lx.objects_are ly.objects_are) }
+      two_jumps pay sc p s i x y true true j j d n c rest f (joined_two _ _ rest c k) st
+      (λ c0 r0 f0 k0 st0. laid_code pay valofs sc p s i (jumps true j) x d (n + 1) c0 r0 a h.0 r.0 (omega arith) f0 k0 st0)
+      (λ c0 r0 f0 k0 st0. laid_code pay valofs sc p _ (i + objects x) (jumps true j) y d _ c0 r0 a h.1 r.1 (omega arith) f0 k0 st0)
   laid_code pay valofs sc p s i (jumps false j) (t.binary l o.Either m0 x y) d n c rest a h r m f k st =
-      let s1 : Spot = spot.past 1 (spot.behind x s) in
-      let cx = condition_named sc.bindings p s x in
-      let cy = condition_named sc.bindings p s1 y in
-      let vx = jump_code sc.targets d (n + 1) cx true n in
-      let vy = jump_code sc.targets d (n + 1 + labels_if cx) cy false j in
-      let c1 = vy ++ (Label n ∷ rest) in
-      let lx = laid_code pay valofs sc p s i (jumps true n) x d (n + 1) c c1 a h.0 r.0 (omega arith) (found_front sc.own sc.targets (parts_if d (n + 1) cx) _ f) (joined_three vx vy (Label n ∷ []) rest c k) st in
-      let ly = laid_code pay valofs sc p s1 (i + objects x) (jumps false j) y d (n + 1 + labels_if cx) c1 (Label n ∷ rest) a h.1 r.1 (omega arith) (found_back sc.own sc.targets (parts_if d (n + 1) cx) _ f) refl lx.on in
-      record {
-        on = passed sc.own d d (Label n) rest ly.on refl;
-        objects_are = bases_so (home sc pay) i _ _ _ (λ g z v ns e. (n, c1, v.0 ns e, v.1 ns e, label_at g sc d n rest z.own ly.on)) (both_bases (home sc pay) i (objects x) (objects y) _ _ lx.objects_are ly.objects_are);
-      }
-  laid_code pay valofs sc p s i pushes (t.binary l o.Both m0 x y) d n c rest a h r m f k st =
-      let s1 : Spot = spot.past 1 (spot.behind x s) in
-      let tx = term_named sc.bindings p s x in
-      let ty = term_named sc.bindings (deeper 1 p) s1 y in
-      let vx = value_code sc.targets d n tx in
-      let vy = value_code sc.targets (d + 1) (n + labels tx) ty in
-      let tail = ending (pushes) rest in
-      let k1 = k in
-      let f1 = f in
-      let c1 = vy ++ (infix_code o.Both ++ tail) in
-      let lx = laid_code pay valofs sc p s i pushes x d n c c1 a h.0 r.0 (omega arith) (found_front sc.own sc.targets (parts d n tx) _ f1) (joined_three vx vy (infix_code o.Both) tail c k1) st in
-      let ly = laid_code pay valofs sc (deeper 1 p) s1 (i + objects x) pushes y (d + 1) (n + labels tx) c1 (infix_code o.Both ++ tail) (around_deeper sc p d 1 (d + 1) refl lx.on.shallow a) h.1 r.1 (omega arith)
-      (found_back sc.own sc.targets (parts d n tx) _ f1) refl lx.on in
-      lies_ended (home sc pay) i _ d (pushes) rest _ (record {
-        on = infix_on sc.own o.Both d tail ly.on;
-        objects_are = bases_so (home sc pay) i _ _ _ (λ g z v ns u. (c1, v.0 ns u, v.1 ns u)) (both_bases (home sc pay) i (objects x) (objects y) _ _ lx.objects_are ly.objects_are);
-      })
-  laid_code pay valofs sc p s i pushes (t.binary l o.Either m0 x y) d n c rest a h r m f k st =
-      let s1 : Spot = spot.past 1 (spot.behind x s) in
-      let tx = term_named sc.bindings p s x in
-      let ty = term_named sc.bindings (deeper 1 p) s1 y in
-      let vx = value_code sc.targets d n tx in
-      let vy = value_code sc.targets (d + 1) (n + labels tx) ty in
-      let tail = ending (pushes) rest in
-      let k1 = k in
-      let f1 = f in
-      let c1 = vy ++ (infix_code o.Either ++ tail) in
-      let lx = laid_code pay valofs sc p s i pushes x d n c c1 a h.0 r.0 (omega arith) (found_front sc.own sc.targets (parts d n tx) _ f1) (joined_three vx vy (infix_code o.Either) tail c k1) st in
-      let ly = laid_code pay valofs sc (deeper 1 p) s1 (i + objects x) pushes y (d + 1) (n + labels tx) c1 (infix_code o.Either ++ tail) (around_deeper sc p d 1 (d + 1) refl lx.on.shallow a) h.1 r.1 (omega arith)
-      (found_back sc.own sc.targets (parts d n tx) _ f1) refl lx.on in
-      lies_ended (home sc pay) i _ d (pushes) rest _ (record {
-        on = infix_on sc.own o.Either d tail ly.on;
-        objects_are = bases_so (home sc pay) i _ _ _ (λ g z v ns u. (c1, v.0 ns u, v.1 ns u)) (both_bases (home sc pay) i (objects x) (objects y) _ _ lx.objects_are ly.objects_are);
-      })
+      labelled_lies sc pay i d n rest _ (λ g env. IsCode g sc d env (jumps false j) (t.binary l o.Either m0 x y) c rest)
+      (two_jumps pay sc p s i x y true false n j d n c (Label n ∷ rest) f (joined_three _ _ (Label n ∷ []) rest c k) st
+      (λ c0 r0 f0 k0 st0. laid_code pay valofs sc p s i (jumps true n) x d (n + 1) c0 r0 a h.0 r.0 (omega arith) f0 k0 st0)
+      (λ c0 r0 f0 k0 st0. laid_code pay valofs sc p _ (i + objects x) (jumps false j) y d _ c0 r0 a h.1 r.1 (omega arith) f0 k0 st0))
+      (λ g e (w : (c1 : List Stmt) × IsCode g sc d e (jumps true n) x c c1 × IsCode g sc d (past x e) (jumps false j) y c1 (Label n ∷ rest)) at.
+      (n, w.0, w.1, w.2, at))
   laid_code pay valofs sc p s i pushes (t.binary l z0 m0 x y) d n c rest a h r m f k st =
-      let s1 : Spot = spot.past 1 (spot.behind x s) in
-      let tx = term_named sc.bindings p s x in
-      let ty = term_named sc.bindings (deeper 1 p) s1 y in
-      let vx = value_code sc.targets d n tx in
-      let vy = value_code sc.targets (d + 1) (n + labels tx) ty in
-      let tail = ending (pushes) rest in
-      let k1 = k in
-      let f1 = f in
-      let c1 = vy ++ (infix_code z0 ++ tail) in
-      let lx = laid_code pay valofs sc p s i pushes x d n c c1 a h.0 r.0 (omega arith) (found_front sc.own sc.targets (parts d n tx) _ f1) (joined_three vx vy (infix_code z0) tail c k1) st in
-      let ly = laid_code pay valofs sc (deeper 1 p) s1 (i + objects x) pushes y (d + 1) (n + labels tx) c1 (infix_code z0 ++ tail) (around_deeper sc p d 1 (d + 1) refl lx.on.shallow a) h.1 r.1 (omega arith)
-      (found_back sc.own sc.targets (parts d n tx) _ f1) refl lx.on in
-      lies_ended (home sc pay) i _ d (pushes) rest _ (record {
-        on = infix_on sc.own z0 d tail ly.on;
-        objects_are = bases_so (home sc pay) i _ _ _ (λ g z v ns u. (c1, v.0 ns u, v.1 ns u)) (both_bases (home sc pay) i (objects x) (objects y) _ _ lx.objects_are ly.objects_are);
-      })
+      let hs = operands_sound z0 sc.bindings p s (second x s) x y h in
+      operator_lies pay sc p s i pushes z0 x y d n c rest a f k st
+      (λ c0 r0 f0 k0 st0. laid_code pay valofs sc p s i pushes x d n c0 r0 a hs.0 r.0 (omega arith) f0 k0 st0)
+      (λ c0 r0 b0 f0 k0 st0. laid_code pay valofs sc (deeper 1 p) _ (i + objects x) pushes y (d + 1) _ c0 r0 b0 hs.1 r.1 (omega arith) f0 k0 st0)
   laid_code pay valofs sc p s i (jumps v0 j) (t.binary l z0 m0 x y) d n c rest a h r m f k st =
-      let s1 : Spot = spot.past 1 (spot.behind x s) in
-      let tx = term_named sc.bindings p s x in
-      let ty = term_named sc.bindings (deeper 1 p) s1 y in
-      let vx = value_code sc.targets d n tx in
-      let vy = value_code sc.targets (d + 1) (n + labels tx) ty in
-      let tail = ending (jumps v0 j) rest in
-      let k1 = plain_code sc p s d n (jumps v0 j) (t.binary l z0 m0 x y) c rest refl k in
-      let f1 = plain_parts sc p s d n (jumps v0 j) (t.binary l z0 m0 x y) refl f in
-      let c1 = vy ++ (infix_code z0 ++ tail) in
-      let lx = laid_code pay valofs sc p s i pushes x d n c c1 a h.0 r.0 (omega arith) (found_front sc.own sc.targets (parts d n tx) _ f1) (joined_three vx vy (infix_code z0) tail c k1) st in
-      let ly = laid_code pay valofs sc (deeper 1 p) s1 (i + objects x) pushes y (d + 1) (n + labels tx) c1 (infix_code z0 ++ tail) (around_deeper sc p d 1 (d + 1) refl lx.on.shallow a) h.1 r.1 (omega arith)
-      (found_back sc.own sc.targets (parts d n tx) _ f1) refl lx.on in
-      plain_lies pay sc p s i d n (jumps v0 j) (t.binary l z0 m0 x y) (objects x + objects y) rest _ refl (lies_ended (home sc pay) i _ d (jumps v0 j) rest _ (record {
-        on = infix_on sc.own z0 d tail ly.on;
-        objects_are = bases_so (home sc pay) i _ _ _ (λ g z v ns u. (c1, v.0 ns u, v.1 ns u)) (both_bases (home sc pay) i (objects x) (objects y) _ _ lx.objects_are ly.objects_are);
-      }))
+      let whole = t.binary l z0 m0 x y in
+      plain_lies pay sc p s i d n (jumps v0 j) whole (objects x + objects y) rest _ refl
+      (operator_lies pay sc p s i (jumps v0 j) z0 x y d n c rest a (plain_parts sc p s d n (jumps v0 j) whole refl f)
+      (plain_code sc p s d n (jumps v0 j) whole c rest refl k) st
+      (λ c0 r0 f0 k0 st0. laid_code pay valofs sc p s i pushes x d n c0 r0 a h.0 r.0 (omega arith) f0 k0 st0)
+      (λ c0 r0 b0 f0 k0 st0. laid_code pay valofs sc (deeper 1 p) _ (i + objects x) pushes y (d + 1) _ c0 r0 b0 h.1 r.1 (omega arith) f0 k0 st0))
   laid_code pay valofs sc p s i aim (t.choice l m0 e x y) d n c rest a h r m f k st =
       let e0 : Spot = spot.past 1 (spot.behind e s) in
       let e1 : Spot = spot.behind x e0 in
@@ -292,19 +298,10 @@ mutual
   laid_address pay valofs sc p s i z (t.parens l e) d n c rest a y h r m f k st = laid_address pay valofs sc p (spot.past 1 s) i (parenthesised z) e d n c rest a y h r (omega arith) f k st
   laid_address pay valofs sc p s i z (t.unary l q.Contents e) d n c rest a y h r m f k st = laid_code pay valofs sc p (spot.past 1 s) i pushes e d n c rest a h.1 r (omega arith) f k st
   laid_address pay valofs sc p s i z (t.binary l o.Subscript m0 e x) d n c rest a y h r m f k st =
-      let s1 : Spot = spot.past 1 (spot.behind e s) in
-      let te = term_named sc.bindings p s e in
-      let tx = term_named sc.bindings (deeper 1 p) s1 x in
-      let vx = value_code sc.targets (d + 1) (n + labels te) tx in
-      let c1 = vx ++ (Dyadic two.Add ∷ rest) in
-      let k1 = joined_three (value_code sc.targets d n te) vx (Dyadic two.Add ∷ []) rest c k in
-      let le = laid_code pay valofs sc p s i pushes e d n c c1 a h.0 r.0 (omega arith) (found_front sc.own sc.targets (parts d n te) _ f) k1 st in
-      let lx = laid_code pay valofs sc (deeper 1 p) s1 (i + objects e) pushes x (d + 1) (n + labels te) c1 (Dyadic two.Add ∷ rest) (around_deeper sc p d 1 (d + 1) refl le.on.shallow a) h.1 r.1 (omega arith)
-      (found_back sc.own sc.targets (parts d n te) _ f) refl le.on in
-      record {
-        on = passed sc.own (d + 1 + 1) (d + 1) (Dyadic two.Add) rest lx.on (omega arith);
-        objects_are = bases_so (home sc pay) i _ _ _ (λ g b0 v ns u. (c1, v.0 ns u, v.1 ns u)) (both_bases (home sc pay) i (objects e) (objects x) _ _ le.objects_are lx.objects_are);
-      }
+      lies_behind (home sc pay) i _ (d + 1 + 1) (d + 1) (Dyadic two.Add) rest _ (omega arith)
+      (two_values pay sc p s i e x d n c (Dyadic two.Add ∷ rest) a f (joined_three _ _ (Dyadic two.Add ∷ []) rest c k) st
+      (λ c0 r0 f0 k0 st0. laid_code pay valofs sc p s i pushes e d n c0 r0 a h.0 r.0 (omega arith) f0 k0 st0)
+      (λ c0 r0 b0 f0 k0 st0. laid_code pay valofs sc (deeper 1 p) _ (i + objects e) pushes x (d + 1) _ c0 r0 b0 h.1 r.1 (omega arith) f0 k0 st0))
   laid_address pay valofs sc p s i z e d n c rest a y h r m f k st = absurd (false≢true y)
 
   -- what is stored
@@ -318,32 +315,14 @@ mutual
       let v = value_code sc.targets (d + 1) n (term_named sc.bindings p (spot.past 1 s) e) in
       lies_behind (home sc pay) i (objects e) (d + 1 + 1) d AssignAt rest _ (omega arith) (laid_code pay valofs sc p (spot.past 1 s) i pushes e (d + 1) n c (AssignAt ∷ rest) a h.1 r (omega arith) f (joined_two v (AssignAt ∷ []) rest c k) st)
   laid_store pay valofs sc p s i z (t.binary l o.Subscript m0 e x) d n c rest a y h r m f k st =
-      let s1 : Spot = spot.past 1 (spot.behind e s) in
-      let te = term_named sc.bindings p s e in
-      let tx = term_named sc.bindings (deeper 1 p) s1 x in
-      let vx = value_code sc.targets (d + 1 + 1) (n + labels te) tx in
-      let tail = Dyadic two.Add ∷ AssignAt ∷ rest in
-      let c1 = vx ++ tail in
-      let k1 = joined_three (value_code sc.targets (d + 1) n te) vx (Dyadic two.Add ∷ AssignAt ∷ []) rest c k in
-      let le = laid_code pay valofs sc p s i pushes e (d + 1) n c c1 a h.0 r.0 (omega arith) (found_front sc.own sc.targets (parts (d + 1) n te) _ f) k1 st in
-      let lx = laid_code pay valofs sc (deeper 1 p) s1 (i + objects e) pushes x (d + 1 + 1) (n + labels te) c1 tail (around_deeper sc p (d + 1) 1 (d + 1 + 1) refl le.on.shallow a) h.1 r.1 (omega arith)
-      (found_back sc.own sc.targets (parts (d + 1) n te) _ f) refl le.on in
-      record {
-        on = passed sc.own (d + 1 + 1) d AssignAt rest (passed sc.own (d + 1 + 1 + 1) (d + 1 + 1) (Dyadic two.Add) (AssignAt ∷ rest) lx.on (omega arith)) (omega arith);
-        objects_are = bases_so (home sc pay) i _ _ _ (λ g b0 v ns u. (c1, v.0 ns u, v.1 ns u)) (both_bases (home sc pay) i (objects e) (objects x) _ _ le.objects_are lx.objects_are);
-      }
+      lies_behind (home sc pay) i _ (d + 1 + 1) d AssignAt rest _ (omega arith)
+      (lies_behind (home sc pay) i _ (d + 1 + 1 + 1) (d + 1 + 1) (Dyadic two.Add) (AssignAt ∷ rest) _ (omega arith)
+      (two_values pay sc p s i e x (d + 1) n c (Dyadic two.Add ∷ AssignAt ∷ rest) a f (joined_three _ _ (Dyadic two.Add ∷ AssignAt ∷ []) rest c k) st
+      (λ c0 r0 f0 k0 st0. laid_code pay valofs sc p s i pushes e (d + 1) n c0 r0 a h.0 r.0 (omega arith) f0 k0 st0)
+      (λ c0 r0 b0 f0 k0 st0. laid_code pay valofs sc (deeper 1 p) _ (i + objects e) pushes x (d + 1 + 1) _ c0 r0 b0 h.1 r.1 (omega arith) f0 k0 st0)))
   laid_store pay valofs sc p s i z (t.binary l o.Byte m0 e x) d n c rest a y h r m f k st =
-      let s1 : Spot = spot.past 1 (spot.behind e s) in
-      let te = term_named sc.bindings p s e in
-      let tx = term_named sc.bindings (deeper 1 p) s1 x in
-      let vx = value_code sc.targets (d + 1 + 1) (n + labels te) tx in
-      let c1 = vx ++ (AssignByte ∷ rest) in
-      let k1 = joined_three (value_code sc.targets (d + 1) n te) vx (AssignByte ∷ []) rest c k in
-      let le = laid_code pay valofs sc p s i pushes e (d + 1) n c c1 a h.0 r.0 (omega arith) (found_front sc.own sc.targets (parts (d + 1) n te) _ f) k1 st in
-      let lx = laid_code pay valofs sc (deeper 1 p) s1 (i + objects e) pushes x (d + 1 + 1) (n + labels te) c1 (AssignByte ∷ rest) (around_deeper sc p (d + 1) 1 (d + 1 + 1) refl le.on.shallow a) h.1 r.1 (omega arith)
-      (found_back sc.own sc.targets (parts (d + 1) n te) _ f) refl le.on in
-      record {
-        on = passed sc.own (d + 1 + 1 + 1) d AssignByte rest lx.on (omega arith);
-        objects_are = bases_so (home sc pay) i _ _ _ (λ g b0 v ns u. (c1, v.0 ns u, v.1 ns u)) (both_bases (home sc pay) i (objects e) (objects x) _ _ le.objects_are lx.objects_are);
-      }
+      lies_behind (home sc pay) i _ (d + 1 + 1 + 1) d AssignByte rest _ (omega arith)
+      (two_values pay sc p s i e x (d + 1) n c (AssignByte ∷ rest) a f (joined_three _ _ (AssignByte ∷ []) rest c k) st
+      (λ c0 r0 f0 k0 st0. laid_code pay valofs sc p s i pushes e (d + 1) n c0 r0 a h.0 r.0 (omega arith) f0 k0 st0)
+      (λ c0 r0 b0 f0 k0 st0. laid_code pay valofs sc (deeper 1 p) _ (i + objects e) pushes x (d + 1 + 1) _ c0 r0 b0 h.1 r.1 (omega arith) f0 k0 st0))
   laid_store pay valofs sc p s i z e d n c rest a y h r m f k st = absurd (false≢true y)
