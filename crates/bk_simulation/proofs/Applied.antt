@@ -46,57 +46,45 @@ library_after r vs w = (ties_add (library r vs) (library r vs) (library_ties r v
 routine_runs : (of : Bool) (g : Setting) (r : value.Routine) (s : State) (A B : Account) (z : Sit) (rest : List Stmt) (w w1 : World) (vs : List Value) → A.most + 4 ≤ B.most → B.least ≤ A.least
     → z.depth ≤ FRAME_WORDS → Ready g z w → CallAt g z.scene (call_stmt of z.depth) rest → g.program.callables.routine (g.codes.routine r) ≡ Some (named_there r) → Calling of g s A z rest w vs (routine r) w1
     → Ran g s B (λ v w3. Gave of g s B z rest w v (calls_back w1.calls w3)) AnyExit (library r vs (calling w1))
-routine_runs of g r s A B z rest w w1 vs leB leB' led ready call known ca = call_run led ca (library_after r vs (calling w1)) inside
-  where
-    top : ℕ
-    top = z.frame + z.depth
-
-    at_call : State
-    at_call = there g s A z (call_stmt of z.depth ∷ rest) (ca.depth1 + 1) w w1 ca.arr
-
-    back : ℕ
-    back = z.scene.own.places.call (length rest)
-
-    items : ℕ
-    items = z.frame + ca.depth1
-
-    c2 : ℕ → Cell
-    c2 = called_cells ca.arr.cells1 z.frame top items back
-
-    inside : nat_lt (2 ^ 31 - 65536) (z.frame + z.depth) ≡ false → max w1.most_calls (w1.calls + 1) ≤ g.cap
-        → Ran g s B (λ v w3. Gave of g s B z rest w v (calls_back w1.calls w3)) AnyExit (library r vs (calling w1))
-    inside h lc =
-        let ec = ca.arr.calls_are in
-        let dp = ready.deep in
-        let id = ca.is_depth in
-        let low : top + 2 ≤ items = omega arith in
-        let like : (a : ℕ) → a < top → Like (c2 a) (ca.arr.cells1 a) = λ a lt. called_like ca.arr.cells1 z.frame top items back low a lt in
-        let few0 : FewFrames g ca.arr.cells1 z.frame w.calls = ca.arr.frames in
-        let few2 : FewFrames g c2 top (suc w.calls) =
-        frames_called g.program g.first FRAME_WORDS ca.arr.cells1 c2 z.frame top w.calls (called_links ca.arr.cells1 z.frame top items back low z.frame (omega arith)) (called_frame ca.arr.cells1 z.frame top items back low) few0 in
-        let s1 : State = entering at_call z.scene.own ca.depth1 z.depth (g.codes.routine r) rest in
-        let m1 : Moves g.program at_call s1 = routine_moves of g at_call z.scene.own rest ca.depth1 z.depth (g.codes.routine r) (named_there r) refl ca.word known h in
-        let ma = ca.arr.most in
-        let la = ca.arr.least in
-        library_runs of g s (record { most = A.most + 1; least = A.least }) B z rest w (calling w1) vs r w1.calls (omega arith) (omega arith) ec ready call known (record {
-          bases1 = ca.arr.bases1;
-          cells1 = c2;
-          written1 = (top + 1) ∷ (top ∷ ca.arr.written1);
-          steps = ca.arr.steps + 1;
-          paid = ca.arr.paid + g.pay;
-          comes = comes_on g _ _ _ _ _ _ _ ca.arr.comes (one g at_call s1 m1 (roomy g c2 top (suc w.calls) few2 (omega arith)));
-          has = moves_bytes g.program at_call s1 m1 ca.arr.bytes;
-          most = omega arith;
-          least = omega arith;
-          link0 = ap (λ a. content_of (c2 a)) (let e : top + 0 ≡ top = omega arith in e) ∙ ap content_of (called_frame ca.arr.cells1 z.frame top items back low);
-          link1 = ap content_of (called_back ca.arr.cells1 z.frame top items back low);
-          fits = fits_above g.codes _ top c2 ca.arr.fits like;
-          moved = moved_on g.codes top top top _ _ _ ready.fits (omega arith) ca.arr.moved (moved_above _ top c2 like);
-          each = λ i u e.
-              let li : i < length vs = slice_get_within vs i u e in
-              subst (λ a. Stands g.codes ca.arr.bases1 u (content_of (c2 a))) (let q : top + 2 + i ≡ top + (2 + i) = omega arith in q)
-              (subst (λ y. Stands g.codes ca.arr.bases1 u (content_of y)) (sym (called_argument ca.arr.cells1 z.frame top items back low i (omega arith))) (ca.each i u e));
-        })
+routine_runs of g r s A B z rest w w1 vs leB leB' led ready call known ca =
+    let top : ℕ = z.frame + z.depth in
+    let at_call : State = there g s A z (call_stmt of z.depth ∷ rest) (ca.depth1 + 1) w w1 ca.arr in
+    let back : ℕ = z.scene.own.places.call (length rest) in
+    let items : ℕ = z.frame + ca.depth1 in
+    let c2 : ℕ → Cell = called_cells ca.arr.cells1 z.frame top items back in
+    let inside : nat_lt (2 ^ 31 - 65536) (z.frame + z.depth) ≡ false → max w1.most_calls (w1.calls + 1) ≤ g.cap → Ran g s B (λ v w3. Gave of g s B z rest w v (calls_back w1.calls w3)) AnyExit (library r vs (calling w1)) = λ h lc.
+    let ec = ca.arr.calls_are in
+    let dp = ready.deep in
+    let id = ca.is_depth in
+    let low : top + 2 ≤ items = omega arith in
+    let like : (a : ℕ) → a < top → Like (c2 a) (ca.arr.cells1 a) = λ a lt. called_like ca.arr.cells1 z.frame top items back low a lt in
+    let few0 : FewFrames g ca.arr.cells1 z.frame w.calls = ca.arr.frames in
+    let few2 : FewFrames g c2 top (suc w.calls) =
+    frames_called g.program g.first FRAME_WORDS ca.arr.cells1 c2 z.frame top w.calls (called_links ca.arr.cells1 z.frame top items back low z.frame (omega arith)) (called_frame ca.arr.cells1 z.frame top items back low) few0 in
+    let s1 : State = entering at_call z.scene.own ca.depth1 z.depth (g.codes.routine r) rest in
+    let m1 : Moves g.program at_call s1 = routine_moves of g at_call z.scene.own rest ca.depth1 z.depth (g.codes.routine r) (named_there r) refl ca.word known h in
+    let ma = ca.arr.most in
+    let la = ca.arr.least in
+    library_runs of g s (record { most = A.most + 1; least = A.least }) B z rest w (calling w1) vs r w1.calls (omega arith) (omega arith) ec ready call known (record {
+      bases1 = ca.arr.bases1;
+      cells1 = c2;
+      written1 = (top + 1) ∷ (top ∷ ca.arr.written1);
+      steps = ca.arr.steps + 1;
+      paid = ca.arr.paid + g.pay;
+      comes = comes_on g _ _ _ _ _ _ _ ca.arr.comes (one g at_call s1 m1 (roomy g c2 top (suc w.calls) few2 (omega arith)));
+      has = moves_bytes g.program at_call s1 m1 ca.arr.bytes;
+      most = omega arith;
+      least = omega arith;
+      link0 = ap (λ a. content_of (c2 a)) (let e : top + 0 ≡ top = omega arith in e) ∙ ap content_of (called_frame ca.arr.cells1 z.frame top items back low);
+      link1 = ap content_of (called_back ca.arr.cells1 z.frame top items back low);
+      fits = fits_above g.codes _ top c2 ca.arr.fits like;
+      moved = moved_on g.codes top top top _ _ _ ready.fits (omega arith) ca.arr.moved (moved_above _ top c2 like);
+      each = λ i u e.
+          let li : i < length vs = slice_get_within vs i u e in
+          subst (λ a. Stands g.codes ca.arr.bases1 u (content_of (c2 a))) (let q : top + 2 + i ≡ top + (2 + i) = omega arith in q)
+          (subst (λ y. Stands g.codes ca.arr.bases1 u (content_of y)) (sym (called_argument ca.arr.cells1 z.frame top items back low i (omega arith))) (ca.each i u e));
+    }) in
+    call_run led ca (library_after r vs (calling w1)) inside
 
 -- ---- what is called
 
@@ -139,6 +127,11 @@ pub apply_runs : (of : Bool) (g : Setting) (p : Program) (m : Meanings) → Proc
     → IsValue g z.scene (z.depth + 2 + count es) z.env f c2 (call_stmt of z.depth ∷ rest) → CallAt g z.scene (call_stmt of z.depth) rest → z.depth + 2 + count es + 1 ≤ FRAME_WORDS → Ready g z w
     → Ran g (start z c w) B (Gave of g (start z c w) B z rest w) (Out g (start z c w) B z w) (applied p m f es z.env w)
 apply_runs of g p m procs known sim alone_runs alone_after B f es z c c1 c2 rest w leB leB' ec laid_es laid_f call room r =
+    let s : State = start z c w in
+    let top : ℕ = z.frame + z.depth in
+    let cells0 : ℕ → Cell = below (z.frame + (z.depth + 2)) (settle (z.frame + z.depth) (z.frame + (z.depth + 2)) z.cells) in
+    let like0 : (a : ℕ) → a < top → Like (cells0 a) (z.cells a) = λ a lt.
+    like_on _ _ _ (below_like (z.frame + (z.depth + 2)) (settle (z.frame + z.depth) (z.frame + (z.depth + 2)) z.cells) a (let l : a < z.frame + z.depth = lt in omega arith)) (settle_like (z.frame + z.depth) (z.frame + (z.depth + 2)) z.cells a) in
     let dp = r.deep in
     let a0 : ArrivedAt g s A z c1 (z.depth + 2) w w = arrived_step (stay g A0 z c w (omega arith) (omega arith) r) cells0 None z.written (omega arith) like0 (stack_moves g.program s z.scene.own c1 z.depth (z.depth + 2) (ap (λ y. Inside z.scene.own z.depth y) ec)) in
     let z0 = next g s A z c1 (z.depth + 2) w w (past f z.env) (z.depth + 2) a0 in
@@ -168,18 +161,6 @@ apply_runs of g p m procs known sim alone_runs alone_after B f es z c c1 c2 rest
     (ready_next z.env l.depth1 a1 refl (omega arith) r)))
     (λ v w2 ca. back_ran w2.calls (called_runs of g p m procs known sim (alone_runs) alone_after s C B z rest w w2 vs v (omega arith) (omega arith) (omega arith) r call ca)))
   where
-    s : State
-    s = start z c w
-
-    top : ℕ
-    top = z.frame + z.depth
-
-    cells0 : ℕ → Cell
-    cells0 = below (z.frame + (z.depth + 2)) (settle (z.frame + z.depth) (z.frame + (z.depth + 2)) z.cells)
-
-    like0 : (a : ℕ) → a < top → Like (cells0 a) (z.cells a)
-    like0 a lt = like_on _ _ _ (below_like (z.frame + (z.depth + 2)) (settle (z.frame + z.depth) (z.frame + (z.depth + 2)) z.cells) a (let l : a < z.frame + z.depth = lt in omega arith)) (settle_like (z.frame + z.depth) (z.frame + (z.depth + 2)) z.cells a)
-
     A0 : Account
     A0 = record { most = 16 * w.turns; least = w.turns }
 

@@ -174,6 +174,8 @@ byte_stored : (g : Setting) (s : State) (A B : Account) (z : Sit) (rest : List S
     → (a : ArrivedAt g s A z (AssignByte ∷ rest) (z.depth + 1 + 1 + 1) w w2) → Stands g.codes a.bases1 p (content_of (a.cells1 (z.frame + (z.depth + 1)))) → Stands g.codes a.bases1 k (content_of (a.cells1 (z.frame + (z.depth + 1 + 1))))
     → Stands g.codes a.bases1 u (content_of (a.cells1 (z.frame + z.depth))) → RanDid g s B z rest w (put_value (byte_at p k) u w2)
 byte_stored g s A B z rest w w2 p k u le le' r a sp sk su =
+    let three_deep : (d : ℕ) → d + 1 + 1 + 1 ≡ d + 3 = λ d. omega arith in
+    let two_deep : (d : ℕ) → d + 1 + 1 ≡ d + 2 = λ d. omega arith in
     by_option (λ y. RanDid g s B z rest w (changes y w2)) (write_byte w2.memory p k u) (λ _. went tt) (λ mem1 e.
     let here = there g s A z (AssignByte ∷ rest) (z.depth + 1 + 1 + 1) w w2 a in
     let high = fits_more g.codes _ (z.frame + z.depth) (z.frame + (z.depth + 3)) (omega arith) a.fits in
@@ -184,12 +186,6 @@ byte_stored g s A B z rest w w2 p k u le le' r a sp sk su =
     (ap (λ d. content_of (a.cells1 (z.frame + d))) (sym (two_deep z.depth)) ∙ q.is_index) q.sets in
     went (arrived_more le le'
     (stored_on g s A z (AssignByte ∷ rest) rest (z.depth + 1 + 1 + 1) w w2 mem1 (word_sum q.word (byte_distance q.index)) q.content ((word_sum q.word (byte_distance q.index)) ∷ a.written1) r a (fits_less g.codes (record { bases = a.bases1; mem = w2.memory; cells = a.cells1 }) _ (z.frame + z.depth) (z.frame + (z.depth + 3)) a.fits m1 q.fits) (q.moved (z.frame + z.depth)) move)))
-  where
-    three_deep : (d : ℕ) → d + 1 + 1 + 1 ≡ d + 3
-    three_deep d = omega arith
-
-    two_deep : (d : ℕ) → d + 1 + 1 ≡ d + 2
-    two_deep d = omega arith
 
 -- ---- several, one after another
 abbrev pub for_assigned : Expressions → Expressions → World → Account

@@ -374,7 +374,104 @@ pub entered_runs : (of : Bool) (g : Setting) (m : Meanings) → Simulates g m �
     → (k : ℕ) (f : Procedure) → IsProcedure g k f → (s : State) (A B : Account) (z : Sit) (rest : List Stmt) (w w1 : World) (vs : List Value) → A.most + 4 ≤ B.most → B.least ≤ A.least → z.depth ≤ FRAME_WORDS
     → Ready g z w → CallAt g z.scene (call_stmt of z.depth) rest → Calling of g s A z rest w vs (procedure k) w1
     → Ran g s B (λ v w3. Gave of g s B z rest w v (calls_back w1.calls w3)) AnyExit (enter m (Some f) vs (calling w1))
-entered_runs of g m sim alone_runs alone_after k f ip s A B z rest w w1 vs leB leB' led r call ca = call_run led ca after_it inside
+entered_runs of g m sim alone_runs alone_after k f ip s A B z rest w w1 vs leB leB' led r call ca =
+    let at_call : State = there g s A z (call_stmt of z.depth ∷ rest) (ca.depth1 + 1) w w1 ca.arr in
+    let wr : List ℕ = (top + 1) ∷ (top ∷ ca.arr.written1) in
+    let b : ℕ = top + 2 in
+    let w2 : World = making cells (calling w1) in
+    let z1 : Sit = in_body ip.scene env top (ca.arr.bases1 ++ b ∷ []) c3 wr size in
+    let after_it : After (history (calling w1)) (enter m (Some f) vs (calling w1)) =
+    closing_after _ o (run_body m f.body env w2) (body_after m sim.grows alone_after f.body env w2) in
+    let inside : nat_lt (2 ^ 31 - 65536) (z.frame + z.depth) ≡ false → max w1.most_calls (w1.calls + 1) ≤ g.cap → Ran g s B (λ v w3. Gave of g s B z rest w v (calls_back w1.calls w3)) AnyExit (enter m (Some f) vs (calling w1)) = λ h lc.
+    let argument_stands : (i : ℕ) (c : Cell_of) → ((v : Value) × (slice_get vs i ≡ Some v) × (c ≡ holds v)) → i + 2 < size → StandsCell g.codes ca.arr.bases1 c (content_of (c3 (b + i))) = λ i c x lt.
+    let id = ca.is_depth in
+    let li : i < length vs = slice_get_within vs i x.0 x.1 in
+    let low : top + 2 ≤ items = omega arith in
+    let some : 2 ≤ size = omega arith in
+    let e : content_of (c3 (b + i)) ≡ content_of (ca.arr.cells1 (b + i)) =
+    ap content_of (saved_formal ca.arr.cells1 z.frame top items back low size some i lt) ∙ ap content_of (called_argument ca.arr.cells1 z.frame top items back low i (omega arith)) in
+    subst (λ y. StandsCell g.codes ca.arr.bases1 y (content_of (c3 (b + i)))) (sym x.2) (subst (λ y. Stands g.codes ca.arr.bases1 x.0 y) (sym e) (ca.each i x.0 x.1)) in
+    let ec = ca.arr.calls_are in
+    let dp = r.deep in
+    let id = ca.is_depth in
+    let low : top + 2 ≤ items = omega arith in
+    let some : 2 ≤ size = omega arith in
+    let le : top ≤ 2 ^ 31 - 65536 = is_at_most _ _ h in
+    let rm : w1.calls + 1 ≤ g.cap = omega arith in
+    let fw : size ≤ FRAME_WORDS = ip.few in
+    let long = ca.arr.fits.long in
+    let some_bases : 0 < length ca.arr.bases1 = slice_get_within ca.arr.bases1 0 16 (ca.arr.moved.grown.each 0 16 (r.lasts.each 0 16 g.vector)) in
+    let some_made : 0 < o = omega arith in
+    let bs = body_small g ip.scene size env f.body ip.body (ip.laid o some_made) in
+    let lf = formals_long f.formals vs in
+    let like : (a : ℕ) → a < top → Like (c3 a) (ca.arr.cells1 a) = λ a lt. saved_like ca.arr.cells1 z.frame top items back low size some a lt in
+    let f1 : Fits g.codes h1 top = fits_above g.codes _ top c3 ca.arr.fits like in
+    let few0 : FewFrames g ca.arr.cells1 z.frame w.calls = ca.arr.frames in
+    let few2 : FewFrames g c2 top (suc w.calls) =
+    frames_called g.program g.first FRAME_WORDS ca.arr.cells1 c2 z.frame top w.calls (called_links ca.arr.cells1 z.frame top items back low z.frame (omega arith)) (called_frame ca.arr.cells1 z.frame top items back low) few0 in
+    let few3 : FewFrames g c3 top (suc w.calls) = links_kept g.program g.first FRAME_WORDS c2 c3 top (suc w.calls) (saved_links ca.arr.cells1 z.frame top items back low size some (suc top)) few2 in
+    let cap2 : FewFrames g c2 top g.cap = roomy g c2 top (suc w.calls) few2 (omega arith) in
+    let cap3 : FewFrames g c3 top g.cap = roomy g c3 top (suc w.calls) few3 (omega arith) in
+    let s1 : State = state own 2 (Entry ip.label ip.name ∷ drop (suc ip.place) own.stmts) c2 top None wr w1 in
+    let s2 : State = state own 2 (drop (suc ip.place) own.stmts) c2 top None wr w1 in
+    let s3 : State = state own size ip.body c3 top None wr w1 in
+    let m1 : Moves g.program at_call s1 = call_moves of g at_call z.scene.own rest ip.scene.section own ip.is_own ca.depth1 z.depth ip.place ip.label ip.name refl (ca.word ∙ ap Word ip.word) ip.at h in
+    let m2 : Moves g.program s1 s2 = entry_moves g.program s1 own (drop (suc ip.place) own.stmts) 2 ip.label ip.name refl in
+    let m3 : Moves g.program s2 s3 = save_moves g.program s2 own ip.body 2 size (ap (λ y. Inside own 2 y) ip.behind) in
+    let to_body : Comes g 3 (g.pay + (g.pay + (g.pay + 0))) at_call s3 = go_on 2 _ at_call s1 s3 m1 cap2 (go_on 1 _ s1 s2 s3 m2 cap2 (go_on 0 0 s2 s3 s3 m3 cap3 (here s3))) in
+    let has3 : HasBytes s3 = moves_bytes g.program s2 s3 m3 (moves_bytes g.program s1 s2 m2 (moves_bytes g.program at_call s1 m1 ca.arr.bytes)) in
+    let high : 16 ≤ z.frame = r.high in
+    let fm : Fits g.codes (make h1 b cells) (b + length cells) = make_fits g.codes h1 top b cells f1 (omega arith) (omega arith) (omega arith)
+    (λ i c e. ⊎_elim (λ (x : (v : Value) × (slice_get vs i ≡ Some v) × (c ≡ holds v)). argument_stands i c x (let li = slice_get_within cells i c e in omega arith)) (λ (x : c ≡ holds unset). subst (λ y. StandsCell g.codes ca.arr.bases1 y (content_of (c3 (b + i)))) (sym x) tt) (formal_is f.formals vs i c e))
+    (λ i lt. (content_of (c2 (b + i)), saved_formal ca.arr.cells1 z.frame top items back low size some i (omega arith))) in
+    let fm1 : Fits g.codes (make h1 b cells) (top + size) = fits_more g.codes (make h1 b cells) (b + length cells) (top + size) (omega arith) fm in
+    let grown : Grown g.lasting z1.bases = record { each = λ o1 b1 e. (grown_made ca.arr.bases1 b).each o1 b1 (ca.arr.moved.grown.each o1 b1 (r.lasts.each o1 b1 e)) } in
+    let r1 : Ready g z1 w2 = record {
+      named = ip.names o top z1.bases grown (subst (λ y. BaseOf z1.bases y b) ca.arr.fits.long (get_new ca.arr.bases1 b)) le;
+      fits = fm1;
+      low = le;
+      high = (let q = r.high in omega arith);
+      deep = some;
+      frames = subst (λ n. FewFrames g c3 top n) (let q : suc w.calls ≡ w1.calls + 1 = omega arith in q) few3;
+      room = rm;
+      lasts = grown;
+      words = has3.words;
+      in_hand = tt;
+    } in
+    let N = for_body f.body w2 in
+    let ma = ca.arr.most in
+    let la = ca.arr.least in
+    closing_ran {K = Yielded g s3 N z1 w2} o
+    (λ v w3 q0.
+    let mq = q0.arr.most in
+    let lq = q0.arr.least in
+    let h3 : Store = record { bases = q0.arr.bases1; mem = w3.memory; cells = q0.arr.cells1 } in
+    let opened : Since top h1 h3 = since_on {h1 = make h1 b cells} (omega arith) (since_made b cells h1 f1.long (omega arith)) (since_moved fm1 q0.arr.fits q0.arr.moved) in
+    let kept : (a : ℕ) → top ≤ a → a < b → Like (q0.arr.cells1 a) (c3 a) = λ a ge lt. q0.arr.moved.kept.as_was a (omega arith) (links_free g h1 top b cells a f1 ge lt) in
+    let link0 : content_of (q0.arr.cells1 (top + 0)) ≡ Word z.frame =
+    ap (λ a. content_of (q0.arr.cells1 a)) (let e : top + 0 ≡ top = omega arith in e) ∙ (kept top (omega arith) (omega arith)).content
+    ∙ ap content_of (saved_same ca.arr.cells1 z.frame top items back low size some top (omega arith) ∙ called_frame ca.arr.cells1 z.frame top items back low) in
+    let link1 : content_of (q0.arr.cells1 (top + 1)) ≡ Word back =
+    (kept (top + 1) (omega arith) (omega arith)).content ∙ ap content_of (saved_same ca.arr.cells1 z.frame top items back low size some (top + 1) (omega arith) ∙ called_back ca.arr.cells1 z.frame top items back low) in
+    returned_in of g s (record { most = A.most + 3; least = A.least }) B z rest w (forgetting o w3) w1.calls v q0.result (omega arith) (omega arith) ec r call (record {
+      from = there g s3 N z1 q0.control q0.depth1 w2 w3 q0.arr;
+      steps = ca.arr.steps + (3 + q0.arr.steps);
+      paid = ca.arr.paid + (g.pay + (g.pay + (g.pay + 0)) + q0.arr.paid);
+      comes = comes_on g _ _ _ _ _ _ _ ca.arr.comes (comes_on g _ _ _ _ _ _ _ to_body q0.arr.comes);
+      has = q0.arr.bytes;
+      most = omega arith;
+      least = omega arith;
+      bases1 = q0.arr.bases1;
+      cells1 = q0.arr.cells1;
+      written1 = q0.arr.written1;
+      returns = q0.leaves back z.frame link1 link0;
+      fits = closed_fits g.codes top (top + size) h1 h3 f1 opened q0.arr.fits;
+      moved = moved_on g.codes top top top _ _ _ r.fits (omega arith) ca.arr.moved
+          (moved_on g.codes top top top _ _ _ ca.arr.fits (omega arith) (moved_above _ top c3 like) (closed_moved opened));
+    }) q0.stands)
+    (ran_from (comes_on g _ _ _ _ _ _ _ ca.arr.comes to_body) (omega arith) (omega arith) (λ v w3 q. q) (λ x w3 q. q)
+    (body_runs g m sim alone_runs f.body z1 ip.body w2 (ip.laid o some_made) r1)) in
+    call_run led ca after_it inside
   where
     top : ℕ
     top = z.frame + z.depth
@@ -388,9 +485,6 @@ entered_runs of g m sim alone_runs alone_after k f ip s A B z rest w w1 vs leB l
     own : Placed
     own = ip.scene.own
 
-    at_call : State
-    at_call = there g s A z (call_stmt of z.depth ∷ rest) (ca.depth1 + 1) w w1 ca.arr
-
     back : ℕ
     back = z.scene.own.places.call (length rest)
 
@@ -403,120 +497,11 @@ entered_runs of g m sim alone_runs alone_after k f ip s A B z rest w w1 vs leB l
     c3 : ℕ → Cell
     c3 = saved_cells c2 top size
 
-    wr : List ℕ
-    wr = (top + 1) ∷ (top ∷ ca.arr.written1)
-
-    b : ℕ
-    b = top + 2
-
     cells : List Cell_of
     cells = formal_cells f.formals vs
 
     h1 : Store
     h1 = record { bases = ca.arr.bases1; mem = w1.memory; cells = c3 }
 
-    w2 : World
-    w2 = making cells (calling w1)
-
     env : Environment
     env = bind_formals o 0 f.formals f.env
-
-    z1 : Sit
-    z1 = in_body ip.scene env top (ca.arr.bases1 ++ b ∷ []) c3 wr size
-
-    after_it : After (history (calling w1)) (enter m (Some f) vs (calling w1))
-    after_it = closing_after _ o (run_body m f.body env w2) (body_after m sim.grows alone_after f.body env w2)
-
-    inside : nat_lt (2 ^ 31 - 65536) (z.frame + z.depth) ≡ false → max w1.most_calls (w1.calls + 1) ≤ g.cap
-        → Ran g s B (λ v w3. Gave of g s B z rest w v (calls_back w1.calls w3)) AnyExit (enter m (Some f) vs (calling w1))
-    inside h lc =
-        let ec = ca.arr.calls_are in
-        let dp = r.deep in
-        let id = ca.is_depth in
-        let low : top + 2 ≤ items = omega arith in
-        let some : 2 ≤ size = omega arith in
-        let le : top ≤ 2 ^ 31 - 65536 = is_at_most _ _ h in
-        let rm : w1.calls + 1 ≤ g.cap = omega arith in
-        let fw : size ≤ FRAME_WORDS = ip.few in
-        let long = ca.arr.fits.long in
-        let some_bases : 0 < length ca.arr.bases1 = slice_get_within ca.arr.bases1 0 16 (ca.arr.moved.grown.each 0 16 (r.lasts.each 0 16 g.vector)) in
-        let some_made : 0 < o = omega arith in
-        let bs = body_small g ip.scene size env f.body ip.body (ip.laid o some_made) in
-        let lf = formals_long f.formals vs in
-        let like : (a : ℕ) → a < top → Like (c3 a) (ca.arr.cells1 a) = λ a lt. saved_like ca.arr.cells1 z.frame top items back low size some a lt in
-        let f1 : Fits g.codes h1 top = fits_above g.codes _ top c3 ca.arr.fits like in
-        let few0 : FewFrames g ca.arr.cells1 z.frame w.calls = ca.arr.frames in
-        let few2 : FewFrames g c2 top (suc w.calls) =
-        frames_called g.program g.first FRAME_WORDS ca.arr.cells1 c2 z.frame top w.calls (called_links ca.arr.cells1 z.frame top items back low z.frame (omega arith)) (called_frame ca.arr.cells1 z.frame top items back low) few0 in
-        let few3 : FewFrames g c3 top (suc w.calls) = links_kept g.program g.first FRAME_WORDS c2 c3 top (suc w.calls) (saved_links ca.arr.cells1 z.frame top items back low size some (suc top)) few2 in
-        let cap2 : FewFrames g c2 top g.cap = roomy g c2 top (suc w.calls) few2 (omega arith) in
-        let cap3 : FewFrames g c3 top g.cap = roomy g c3 top (suc w.calls) few3 (omega arith) in
-        let s1 : State = state own 2 (Entry ip.label ip.name ∷ drop (suc ip.place) own.stmts) c2 top None wr w1 in
-        let s2 : State = state own 2 (drop (suc ip.place) own.stmts) c2 top None wr w1 in
-        let s3 : State = state own size ip.body c3 top None wr w1 in
-        let m1 : Moves g.program at_call s1 = call_moves of g at_call z.scene.own rest ip.scene.section own ip.is_own ca.depth1 z.depth ip.place ip.label ip.name refl (ca.word ∙ ap Word ip.word) ip.at h in
-        let m2 : Moves g.program s1 s2 = entry_moves g.program s1 own (drop (suc ip.place) own.stmts) 2 ip.label ip.name refl in
-        let m3 : Moves g.program s2 s3 = save_moves g.program s2 own ip.body 2 size (ap (λ y. Inside own 2 y) ip.behind) in
-        let to_body : Comes g 3 (g.pay + (g.pay + (g.pay + 0))) at_call s3 = go_on 2 _ at_call s1 s3 m1 cap2 (go_on 1 _ s1 s2 s3 m2 cap2 (go_on 0 0 s2 s3 s3 m3 cap3 (here s3))) in
-        let has3 : HasBytes s3 = moves_bytes g.program s2 s3 m3 (moves_bytes g.program s1 s2 m2 (moves_bytes g.program at_call s1 m1 ca.arr.bytes)) in
-        let high : 16 ≤ z.frame = r.high in
-        let fm : Fits g.codes (make h1 b cells) (b + length cells) = make_fits g.codes h1 top b cells f1 (omega arith) (omega arith) (omega arith)
-        (λ i c e. ⊎_elim (λ (x : (v : Value) × (slice_get vs i ≡ Some v) × (c ≡ holds v)). argument_stands i c x (let li = slice_get_within cells i c e in omega arith)) (λ (x : c ≡ holds unset). subst (λ y. StandsCell g.codes ca.arr.bases1 y (content_of (c3 (b + i)))) (sym x) tt) (formal_is f.formals vs i c e))
-        (λ i lt. (content_of (c2 (b + i)), saved_formal ca.arr.cells1 z.frame top items back low size some i (omega arith))) in
-        let fm1 : Fits g.codes (make h1 b cells) (top + size) = fits_more g.codes (make h1 b cells) (b + length cells) (top + size) (omega arith) fm in
-        let grown : Grown g.lasting z1.bases = record { each = λ o1 b1 e. (grown_made ca.arr.bases1 b).each o1 b1 (ca.arr.moved.grown.each o1 b1 (r.lasts.each o1 b1 e)) } in
-        let r1 : Ready g z1 w2 = record {
-          named = ip.names o top z1.bases grown (subst (λ y. BaseOf z1.bases y b) ca.arr.fits.long (get_new ca.arr.bases1 b)) le;
-          fits = fm1;
-          low = le;
-          high = (let q = r.high in omega arith);
-          deep = some;
-          frames = subst (λ n. FewFrames g c3 top n) (let q : suc w.calls ≡ w1.calls + 1 = omega arith in q) few3;
-          room = rm;
-          lasts = grown;
-          words = has3.words;
-          in_hand = tt;
-        } in
-        let N = for_body f.body w2 in
-        let ma = ca.arr.most in
-        let la = ca.arr.least in
-        closing_ran {K = Yielded g s3 N z1 w2} o
-        (λ v w3 q0.
-        let mq = q0.arr.most in
-        let lq = q0.arr.least in
-        let h3 : Store = record { bases = q0.arr.bases1; mem = w3.memory; cells = q0.arr.cells1 } in
-        let opened : Since top h1 h3 = since_on {h1 = make h1 b cells} (omega arith) (since_made b cells h1 f1.long (omega arith)) (since_moved fm1 q0.arr.fits q0.arr.moved) in
-        let kept : (a : ℕ) → top ≤ a → a < b → Like (q0.arr.cells1 a) (c3 a) = λ a ge lt. q0.arr.moved.kept.as_was a (omega arith) (links_free g h1 top b cells a f1 ge lt) in
-        let link0 : content_of (q0.arr.cells1 (top + 0)) ≡ Word z.frame =
-        ap (λ a. content_of (q0.arr.cells1 a)) (let e : top + 0 ≡ top = omega arith in e) ∙ (kept top (omega arith) (omega arith)).content
-        ∙ ap content_of (saved_same ca.arr.cells1 z.frame top items back low size some top (omega arith) ∙ called_frame ca.arr.cells1 z.frame top items back low) in
-        let link1 : content_of (q0.arr.cells1 (top + 1)) ≡ Word back =
-        (kept (top + 1) (omega arith) (omega arith)).content ∙ ap content_of (saved_same ca.arr.cells1 z.frame top items back low size some (top + 1) (omega arith) ∙ called_back ca.arr.cells1 z.frame top items back low) in
-        returned_in of g s (record { most = A.most + 3; least = A.least }) B z rest w (forgetting o w3) w1.calls v q0.result (omega arith) (omega arith) ec r call (record {
-          from = there g s3 N z1 q0.control q0.depth1 w2 w3 q0.arr;
-          steps = ca.arr.steps + (3 + q0.arr.steps);
-          paid = ca.arr.paid + (g.pay + (g.pay + (g.pay + 0)) + q0.arr.paid);
-          comes = comes_on g _ _ _ _ _ _ _ ca.arr.comes (comes_on g _ _ _ _ _ _ _ to_body q0.arr.comes);
-          has = q0.arr.bytes;
-          most = omega arith;
-          least = omega arith;
-          bases1 = q0.arr.bases1;
-          cells1 = q0.arr.cells1;
-          written1 = q0.arr.written1;
-          returns = q0.leaves back z.frame link1 link0;
-          fits = closed_fits g.codes top (top + size) h1 h3 f1 opened q0.arr.fits;
-          moved = moved_on g.codes top top top _ _ _ r.fits (omega arith) ca.arr.moved
-              (moved_on g.codes top top top _ _ _ ca.arr.fits (omega arith) (moved_above _ top c3 like) (closed_moved opened));
-        }) q0.stands)
-        (ran_from (comes_on g _ _ _ _ _ _ _ ca.arr.comes to_body) (omega arith) (omega arith) (λ v w3 q. q) (λ x w3 q. q)
-        (body_runs g m sim alone_runs f.body z1 ip.body w2 (ip.laid o some_made) r1))
-      where
-        argument_stands : (i : ℕ) (c : Cell_of) → ((v : Value) × (slice_get vs i ≡ Some v) × (c ≡ holds v)) → i + 2 < size → StandsCell g.codes ca.arr.bases1 c (content_of (c3 (b + i)))
-        argument_stands i c x lt =
-            let id = ca.is_depth in
-            let li : i < length vs = slice_get_within vs i x.0 x.1 in
-            let low : top + 2 ≤ items = omega arith in
-            let some : 2 ≤ size = omega arith in
-            let e : content_of (c3 (b + i)) ≡ content_of (ca.arr.cells1 (b + i)) =
-            ap content_of (saved_formal ca.arr.cells1 z.frame top items back low size some i lt) ∙ ap content_of (called_argument ca.arr.cells1 z.frame top items back low i (omega arith)) in
-            subst (λ y. StandsCell g.codes ca.arr.bases1 y (content_of (c3 (b + i)))) (sym x.2) (subst (λ y. Stands g.codes ca.arr.bases1 x.0 y) (sym e) (ca.each i x.0 x.1))

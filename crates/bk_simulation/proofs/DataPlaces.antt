@@ -24,14 +24,13 @@ has_datum : (places : Placement) (stmts : List Stmt) (i : ℕ) (s : Stmt) (rest 
 has_datum places [] zero s rest d e k = absurd (let h : [] ≡ s ∷ rest = e in cc)
 has_datum places [] (suc i) s rest d e k = absurd (let h : [] ≡ s ∷ rest = e in cc)
 has_datum places (x ∷ xs) zero s rest d e k =
+    let one_of : x ∷ xs ≡ s ∷ rest → datum_of places x xs ≡ d ∷ [] = λ h.
+    let first : x ≡ s = cc in let others : xs ≡ rest = cc in ap (λ y. datum_of places y xs) first ∙ ap (λ y. datum_of places s y) others ∙ k in
     let h : x ∷ xs ≡ s ∷ rest = e in
     let one : datum_of places x xs ≡ d ∷ [] = one_of h in
     let many = length-append (datum_of places x xs) (data_of places xs) in
     let single : length (datum_of places x xs) ≡ 1 = ap length one in
     record { at = ap (λ y. slice_get (y ++ data_of places xs) 0) one; within = omega (arith, many, single) }
-  where
-    one_of : x ∷ xs ≡ s ∷ rest → datum_of places x xs ≡ d ∷ []
-    one_of h = let first : x ≡ s = cc in let others : xs ≡ rest = cc in ap (λ y. datum_of places y xs) first ∙ ap (λ y. datum_of places s y) others ∙ k
 has_datum places (x ∷ xs) (suc i) s rest d e k =
     let h = has_datum places xs i s rest d e k in
     let low = h.within in

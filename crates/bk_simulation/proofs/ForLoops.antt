@@ -320,6 +320,10 @@ variable_made : (g : Setting) (z : Sit) (w : World) (c : List Stmt) (u : Value) 
     → Stands g.codes z.bases u (content_of (z.cells (z.frame + z.depth)))
     → OpenArrived g (state z.scene.own (z.depth + 1 + 1) (Store_stmt ∷ c) z.cells z.frame z.hand z.written w) (record { most = 16 * w.turns + 1; least = w.turns }) z w c (z.depth + 1 + 1) (z.frame + (z.depth + 2)) (making (holds u ∷ []) w)
 variable_made g z w c u r room st =
+    let first_variable : (i : ℕ) → i < 1 → stored_cells z.frame (z.depth + 1 + 1) z.cells (z.frame + z.depth) ≡ Held Variable (content_of (z.cells (z.frame + z.depth)))
+    → (y : Content) × (stored_cells z.frame (z.depth + 1 + 1) z.cells (z.frame + z.depth + i) ≡ Held Variable y) = λ i li h.
+    let off : z.frame + z.depth + i ≡ z.frame + z.depth = omega arith in
+    (content_of (z.cells (z.frame + z.depth)), ap (stored_cells z.frame (z.depth + 1 + 1) z.cells) off ∙ h) in
     let dp = r.deep in
     let lo = r.low in
     let hi = r.high in
@@ -346,12 +350,6 @@ variable_made g z w c u r room st =
         subst (λ y. StandsCell g.codes z.bases y (content_of (stored_cells z.frame (z.depth + 1 + 1) z.cells (z.frame + z.depth + 0)))) same
         (subst (λ y. Stands g.codes z.bases u (content_of y)) (sym (ap (stored_cells z.frame (z.depth + 1 + 1) z.cells) zero_off ∙ h)) st)
     first_cell (suc i) cl e h = absurd (let q : None ≡ Some cl = e in cc)
-
-    first_variable : (i : ℕ) → i < 1 → stored_cells z.frame (z.depth + 1 + 1) z.cells (z.frame + z.depth) ≡ Held Variable (content_of (z.cells (z.frame + z.depth)))
-        → (y : Content) × (stored_cells z.frame (z.depth + 1 + 1) z.cells (z.frame + z.depth + i) ≡ Held Variable y)
-    first_variable i li h =
-        let off : z.frame + z.depth + i ≡ z.frame + z.depth = omega arith in
-        (content_of (z.cells (z.frame + z.depth)), ap (stored_cells z.frame (z.depth + 1 + 1) z.cells) off ∙ h)
 
 -- what the variable means in scope
 variable_here : (sc : Scene) (bases : List ℕ) (frame d o : ℕ) (x : List ℕ) → BaseOf bases o (frame + d) → frame + d < 2 ^ 32
@@ -441,6 +439,9 @@ pub for_run : (g : Setting) (m : Meanings) → Simulates g m → (B : Account) (
     → ((o : ℕ) (v : Value) (k : ℕ) (env : Environment) → Adds (λ w. for_rounds_of m c o v k env w)) → Ready g z w
     → RanDid g (start z c0 w) B z rest w (with (m.value a z.env w) (λ u w. with (m.value y (past a z.env) w) (λ v w. with (given (step_of z.env h) w) (λ n w. for_loop m x.letters c u v n (past y (past a z.env)) w))))
 for_run g m sim B l x a y h c z there c0 rest w le le' lx ad r =
+    let all_adds : (u v : Value) → Adds (λ w. with (given (step_of z.env h) w) (λ n w. for_loop m x.letters c u v n (past y (past a z.env)) w)) = λ u v.
+    adds _ (λ w1. with_after (history w1) (given (step_of z.env h) w1) (λ n w. for_loop m x.letters c u v n (past y (past a z.env)) w) (given_after (step_of z.env h) w1)
+    (λ n. loop_adds m x.letters c u v n (past y (past a z.env)) (λ o. ad o v n (bind x.letters (cell o 0) (past y (past a z.env)))))) in
     two_run g m sim B a y z c0 lx.6 (Store_stmt ∷ Jump lx.0 ∷ Label lx.1 ∷ lx.7) w _ _ all_adds (omega arith) (omega arith) lx.9 lx.10 r (λ u v w2 t pos.
     let s = start z c0 w in
     let A = for_two a y w in
@@ -450,7 +451,3 @@ for_run g m sim B l x a y h c z there c0 rest w le le' lx ad r =
     subst (λ q. RanDid g s B z rest w (with (given q w2) (λ n w. for_loop m x.letters c u v n (past y (past a z.env)) w))) (sym lx.13)
     (joined_ran (omega arith) (omega arith) r t.arr
     (for_opened g m sim l x a y h c zf z there c0 rest w2 u v lx refl rf t.first t.second (λ o. ad o v lx.4 (bind x.letters (cell o 0) (past y (past a z.env)))))))
-  where
-    all_adds : (u v : Value) → Adds (λ w. with (given (step_of z.env h) w) (λ n w. for_loop m x.letters c u v n (past y (past a z.env)) w))
-    all_adds u v = adds _ (λ w1. with_after (history w1) (given (step_of z.env h) w1) (λ n w. for_loop m x.letters c u v n (past y (past a z.env)) w) (given_after (step_of z.env h) w1)
-        (λ n. loop_adds m x.letters c u v n (past y (past a z.env)) (λ o. ad o v n (bind x.letters (cell o 0) (past y (past a z.env))))))

@@ -100,24 +100,47 @@ pub record VecDone (g : Setting) (s : State) (A : Account) (z : Sit) (w : World)
 
 pub vec_done : (g : Setting) (s : State) (A : Account) (z : Sit) (w : World) (c rest : List Stmt) (d k : ℕ) (w1 : World) → Ready g z w → z.depth ≤ d → d + k + 2 ≤ FRAME_WORDS → c ≡ Stack (d + k + 1) ∷ Address (Local d) ∷ rest
     → (a : OpenArrived g s A z w c d (z.frame + d) w1) → VecDone g s A z w c rest d k w1 a
-vec_done g s A z w c rest d k w1 r le fw ec a = record {
-  arr = a4;
-  since = since_on {top1 = z.frame + d} {h1 = h3} (omega arith) (since_cells h1 like3) (since_made b (vec_cells k) h3 a.fits.long (omega arith));
-  stands = (b, subst (λ y. BaseOf (a.bases1 ++ b ∷ []) y b) a.fits.long (get_new a.bases1 b), (let q : 0 < 2 ^ 32 = omega arith in q), ap content_of item ∙ ap Word (let q : z.frame + d ≡ (z.frame + d + 0) % 2 ^ 32 = small_word in q));
-  free = λ o n b1 i l e lt q. ⊎_elim
-      (λ (x : (Alive h3.mem o n) × (BaseOf h3.bases o b1)). let u = f3.below o n b1 x.0 x.1 in absurd (omega arith))
-      (λ (x : (o ≡ length h3.mem) × (n ≡ length (vec_cells k)) × (b1 ≡ b)). let x1 = x.1 in let x2 = x.2 in let v = vec_long k in absurd (omega arith))
-      (lying h3 b (vec_cells k) o n b1 f3.long l e).lies;
-}
+vec_done g s A z w c rest d k w1 r le fw ec a =
+    let h1 : Store = store_at a in
+    let like2 : (x : ℕ) → x < z.frame + d → Like (cells2 x) (a.cells1 x) = λ x lt.
+    like_on _ _ _ (below_like (z.frame + (d + k + 1)) (settle (z.frame + d) (z.frame + (d + k + 1)) a.cells1) x (omega arith)) (settle_like (z.frame + d) (z.frame + (d + k + 1)) a.cells1 x) in
+    let like3 : (x : ℕ) → x < z.frame + d → Like (cells3 x) (a.cells1 x) = λ x lt. like_on _ _ _ (like_refl _ _ (same3 x (omega arith))) (like2 x lt) in
+    let item : cells3 (z.frame + (d + k + 1)) ≡ Held Temporary (Word (z.frame + d)) =
+    below_at (z.frame + (d + k + 2)) (write cells2 (z.frame + (d + k + 1)) (Held Temporary (Word (z.frame + d)))) (z.frame + (d + k + 1)) (omega arith)
+    ∙ written cells2 (z.frame + (d + k + 1)) (Held Temporary (Word (z.frame + d))) in
+    let st1 : State = state own d c a.cells1 z.frame a.hand1 a.written1 w1 in
+    let st2 : State = state own (d + k + 1) (Address (Local d) ∷ rest) cells2 z.frame None a.written1 w1 in
+    let m2 : Moves g.program st1 st2 = stack_moves g.program st1 own (Address (Local d) ∷ rest) d (d + k + 1) (ap (λ y. Inside own d y) ec) in
+    let m3 : Moves g.program st2 (state own (d + k + 2) rest cells3 z.frame None ((z.frame + (d + k + 1)) ∷ a.written1) w1) =
+    subst (λ y. Moves g.program st2 (state own y rest (below (z.frame + y) (write cells2 (z.frame + (d + k + 1)) (Held Temporary (Word (z.frame + d))))) z.frame None ((z.frame + (d + k + 1)) ∷ a.written1) w1))
+    (let q : d + k + 1 + 1 ≡ d + k + 2 = omega arith in q) (address_moves g.program st2 own rest (d + k + 1) (Local d) refl) in
+    let a3 : OpenArrived g s A2 z w rest (d + k + 2) (z.frame + d) w1 =
+    let a2 : OpenArrived g s (further 1 A) z w (Address (Local d) ∷ rest) (d + k + 1) (z.frame + d) w1 = open_step r (omega arith) a cells2 None a.written1 like2 m2 in
+    arrived_more (omega arith) (omega arith)
+    (open_step r (omega arith) a2 cells3 None ((z.frame + (d + k + 1)) ∷ a.written1) (λ x lt. like_refl _ _ (same3 x (omega arith))) m3) in
+    let f3 : Fits g.codes h3 (z.frame + d) = a3.fits in
+    let f4 : Fits g.codes (make h3 b (vec_cells k)) (z.frame + (d + k + 2)) =
+    let v = vec_long k in
+    fits_more g.codes (make h3 b (vec_cells k)) (b + length (vec_cells k)) (z.frame + (d + k + 2)) (let l = r.low in omega arith)
+    (make_fits g.codes h3 (z.frame + d) b (vec_cells k) f3 (let q = r.high in omega arith) (omega arith) (let l : z.frame ≤ 2 ^ 31 - 65536 = r.low in let f : d + k + 2 ≤ FRAME_WORDS = fw in omega arith)
+    (λ i x e. subst (λ y. StandsCell g.codes a.bases1 y (content_of (cells3 (b + i)))) (sym (vec_unset k i x e)) tt) (λ i lt. vec_word i (omega arith))) in
+    let a4 : OpenArrived g s A2 z w rest (d + k + 2) (z.frame + (d + k + 2)) (making (vec_cells k) w1) =
+    open_make b (vec_cells k) (z.frame + (d + k + 2)) a3 (omega arith) f4 in
+    record {
+      arr = a4;
+      since = since_on {top1 = z.frame + d} {h1 = h3} (omega arith) (since_cells h1 like3) (since_made b (vec_cells k) h3 a.fits.long (omega arith));
+      stands = (b, subst (λ y. BaseOf (a.bases1 ++ b ∷ []) y b) a.fits.long (get_new a.bases1 b), (let q : 0 < 2 ^ 32 = omega arith in q), ap content_of item ∙ ap Word (let q : z.frame + d ≡ (z.frame + d + 0) % 2 ^ 32 = small_word in q));
+      free = λ o n b1 i l e lt q. ⊎_elim
+          (λ (x : (Alive h3.mem o n) × (BaseOf h3.bases o b1)). let u = f3.below o n b1 x.0 x.1 in absurd (omega arith))
+          (λ (x : (o ≡ length h3.mem) × (n ≡ length (vec_cells k)) × (b1 ≡ b)). let x1 = x.1 in let x2 = x.2 in let v = vec_long k in absurd (omega arith))
+          (lying h3 b (vec_cells k) o n b1 f3.long l e).lies;
+    }
   where
     b : ℕ
     b = z.frame + d
 
     own : Placed
     own = z.scene.own
-
-    h1 : Store
-    h1 = store_at a
 
     cells2 : ℕ → Cell
     cells2 = below (z.frame + (d + k + 1)) (settle (z.frame + d) (z.frame + (d + k + 1)) a.cells1)
@@ -131,20 +154,9 @@ vec_done g s A z w c rest d k w1 r le fw ec a = record {
     small_word : z.frame + d ≡ (z.frame + d + 0) % 2 ^ 32
     small_word = let l : z.frame ≤ 2 ^ 31 - 65536 = r.low in let f : d + k + 2 ≤ FRAME_WORDS = fw in omega arith
 
-    like2 : (x : ℕ) → x < z.frame + d → Like (cells2 x) (a.cells1 x)
-    like2 x lt = like_on _ _ _ (below_like (z.frame + (d + k + 1)) (settle (z.frame + d) (z.frame + (d + k + 1)) a.cells1) x (omega arith)) (settle_like (z.frame + d) (z.frame + (d + k + 1)) a.cells1 x)
-
     same3 : (x : ℕ) → x < z.frame + (d + k + 1) → cells3 x ≡ cells2 x
     same3 x lt = let ne : x ≢ z.frame + (d + k + 1) = omega arith in
         below_at (z.frame + (d + k + 2)) (write cells2 (z.frame + (d + k + 1)) (Held Temporary (Word (z.frame + d)))) x (omega arith) ∙ untouched cells2 (z.frame + (d + k + 1)) (Held Temporary (Word (z.frame + d))) x ne
-
-    like3 : (x : ℕ) → x < z.frame + d → Like (cells3 x) (a.cells1 x)
-    like3 x lt = like_on _ _ _ (like_refl _ _ (same3 x (omega arith))) (like2 x lt)
-
-    item : cells3 (z.frame + (d + k + 1)) ≡ Held Temporary (Word (z.frame + d))
-    item =
-        below_at (z.frame + (d + k + 2)) (write cells2 (z.frame + (d + k + 1)) (Held Temporary (Word (z.frame + d)))) (z.frame + (d + k + 1)) (omega arith)
-        ∙ written cells2 (z.frame + (d + k + 1)) (Held Temporary (Word (z.frame + d)))
 
     vec_word : (i : ℕ) → i < k + 1 → (x : Content) × (cells3 (b + i) ≡ Held Variable x)
     vec_word i lt = (
@@ -153,40 +165,8 @@ vec_done g s A z w c rest d k w1 r le fw ec a = record {
           ∙ settle_at (z.frame + d) (z.frame + (d + k + 1)) a.cells1 (b + i) (omega arith) (omega arith),
     )
 
-    st1 : State
-    st1 = state own d c a.cells1 z.frame a.hand1 a.written1 w1
-
-    st2 : State
-    st2 = state own (d + k + 1) (Address (Local d) ∷ rest) cells2 z.frame None a.written1 w1
-
-    m2 : Moves g.program st1 st2
-    m2 = stack_moves g.program st1 own (Address (Local d) ∷ rest) d (d + k + 1) (ap (λ y. Inside own d y) ec)
-
-    m3 : Moves g.program st2 (state own (d + k + 2) rest cells3 z.frame None ((z.frame + (d + k + 1)) ∷ a.written1) w1)
-    m3 = subst (λ y. Moves g.program st2 (state own y rest (below (z.frame + y) (write cells2 (z.frame + (d + k + 1)) (Held Temporary (Word (z.frame + d))))) z.frame None ((z.frame + (d + k + 1)) ∷ a.written1) w1))
-        (let q : d + k + 1 + 1 ≡ d + k + 2 = omega arith in q) (address_moves g.program st2 own rest (d + k + 1) (Local d) refl)
-
     A2 : Account
     A2 = record { most = A.most + 2; least = A.least }
-
-    a3 : OpenArrived g s A2 z w rest (d + k + 2) (z.frame + d) w1
-    a3 =
-        let a2 : OpenArrived g s (further 1 A) z w (Address (Local d) ∷ rest) (d + k + 1) (z.frame + d) w1 = open_step r (omega arith) a cells2 None a.written1 like2 m2 in
-        arrived_more (omega arith) (omega arith)
-        (open_step r (omega arith) a2 cells3 None ((z.frame + (d + k + 1)) ∷ a.written1) (λ x lt. like_refl _ _ (same3 x (omega arith))) m3)
-
-    f3 : Fits g.codes h3 (z.frame + d)
-    f3 = a3.fits
-
-    f4 : Fits g.codes (make h3 b (vec_cells k)) (z.frame + (d + k + 2))
-    f4 =
-        let v = vec_long k in
-        fits_more g.codes (make h3 b (vec_cells k)) (b + length (vec_cells k)) (z.frame + (d + k + 2)) (let l = r.low in omega arith)
-        (make_fits g.codes h3 (z.frame + d) b (vec_cells k) f3 (let q = r.high in omega arith) (omega arith) (let l : z.frame ≤ 2 ^ 31 - 65536 = r.low in let f : d + k + 2 ≤ FRAME_WORDS = fw in omega arith)
-        (λ i x e. subst (λ y. StandsCell g.codes a.bases1 y (content_of (cells3 (b + i)))) (sym (vec_unset k i x e)) tt) (λ i lt. vec_word i (omega arith)))
-
-    a4 : OpenArrived g s A2 z w rest (d + k + 2) (z.frame + (d + k + 2)) (making (vec_cells k) w1)
-    a4 = open_make b (vec_cells k) (z.frame + (d + k + 2)) a3 (omega arith) f4
 
 -- ---- all of them
 
@@ -395,10 +375,9 @@ pub record Lets (g : Setting) (s : State) (B : Account) (z : Sit) (w : World) (h
   pub spare : vars ≡ true → arr.steps + 16 * w1.turns + 1 ≤ B.most
 
 slots_low : (g : Setting) (sc : Scene) (is : t.Starts) (d : ℕ) (env : Environment) (c rest : List Stmt) (d1 : ℕ) (slots : List ℕ) → AreStarts g sc d env is c rest d1 slots → (i n : ℕ) → slice_get slots i ≡ Some n → n < d1
-slots_low g sc t.no_starts d env c rest d1 slots l i n e = absurd (let q : slice_get [] i ≡ Some n = sym (ap (λ y. slice_get y i) l.2) ∙ e in none_there i n q)
-  where
-    none_there : (i n : ℕ) → slice_get [] i ≡ Some n → ⊥
-    none_there i n q = absurd (cc)
+slots_low g sc t.no_starts d env c rest d1 slots l i n e =
+    let none_there : (i n : ℕ) → slice_get [] i ≡ Some n → ⊥ = λ i n q. absurd (cc) in
+    absurd (let q : slice_get [] i ≡ Some n = sym (ap (λ y. slice_get y i) l.2) ∙ e in none_there i n q)
 slots_low g sc (t.value e1 is) d env c rest d1 slots l i n e =
     let rise = (starts_rise g sc is (d + 1) (past e1 env) l.0 rest d1 l.1 l.3).0 in
     at_place i (sym (ap (λ y. slice_get y i) l.4) ∙ e) (λ j q. slots_low g sc is (d + 1) (past e1 env) l.0 rest d1 l.1 l.3 j n q) rise

@@ -311,6 +311,7 @@ library_runs of g s A B z rest w w1 (a ∷ i ∷ vs) value.getbyte n le le' en r
     h : State
     h = record { control = At (g.codes.routine value.getbyte); cells = at.cells1; frame = z.frame + z.depth; hand = None; input = w1.input; output = w1.output; written = at.written1 }
 library_runs of g s A B z rest w w1 (a ∷ i ∷ u ∷ vs) value.putbyte n le le' en ready call known at =
+    let set_to : ℕ → Content → State = λ p x. record h { cells = write h.cells p (Held Variable x); written = p ∷ h.written } in
     by_option (λ o. Ran g s B (λ v w3. Gave of g s B z rest w v (calls_back n w3)) AnyExit (with (changes o w1) (λ _ w. gives unset w)))
     (write_byte w1.memory a i u) (λ _. went tt) (λ m1 e.
     let hs : Store = record { bases = at.bases1; mem = w1.memory; cells = at.cells1 } in
@@ -330,9 +331,6 @@ library_runs of g s A B z rest w w1 (a ∷ i ∷ u ∷ vs) value.putbyte n le le
   where
     h : State
     h = record { control = At (g.codes.routine value.putbyte); cells = at.cells1; frame = z.frame + z.depth; hand = None; input = w1.input; output = w1.output; written = at.written1 }
-
-    set_to : ℕ → Content → State
-    set_to p x = record h { cells = write h.cells p (Held Variable x); written = p ∷ h.written }
 library_runs of g s A B z rest w w1 (a ∷ vs) value.writef n le le' en ready call known at =
     by_option (λ o. Ran g s B (λ v w3. Gave of g s B z rest w v (calls_back n w3)) AnyExit (writes_text (option_and_then (λ bytes. m.written w1.memory (parts bytes) vs) o) w1))
     (m.string_at w1.memory a) (λ _. went tt) (λ bytes e.

@@ -75,6 +75,8 @@ module _ (g : Setting) (k : ℕ) (own : Placed) (is_own : slice_get g.program.se
   located i [] [] vs ws keys spans s a f t there j x e h = absurd (let z : None ≡ Some x = e in cc)
   located i (string ∷ ks) (x0 ∷ xs) (v ∷ vs) (w ∷ ws) [] spans s a f t there j x e h = absurd s
   located i (string ∷ ks) (x0 ∷ xs) (v ∷ vs) (w ∷ ws) (q ∷ keys) spans s a f t there zero x e h =
+      let itself_once : (q : ℕ) (keys : List ℕ) → 1 ≤ times q (q ∷ keys) = λ q keys.
+      let e = ap (λ (z : Bool). cond z 1 0 + times q keys) (eq-eqb q q refl) in omega (arith, e) in
       let one = itself_once q keys in
       let c = there q one in
       let here : i ≡ i + 0 = omega arith in
@@ -97,9 +99,6 @@ module _ (g : Setting) (k : ℕ) (own : Placed) (is_own : slice_get g.program.se
           marked = c.left;
         };
       }
-    where
-      itself_once : (q : ℕ) (keys : List ℕ) → 1 ≤ times q (q ∷ keys)
-      itself_once q keys = let e = ap (λ (z : Bool). cond z 1 0 + times q keys) (eq-eqb q q refl) in omega (arith, e)
   located i (string ∷ ks) (x0 ∷ xs) (v ∷ vs) (w ∷ ws) (q ∷ keys) spans s a f t there (suc j) x e h =
       further (suc i + j) (i + suc j) (at_string q) (marks ks keys) j (omega arith) (located (suc i) ks xs vs ws keys spans s.1 a.1 f.1 t.1 (λ p r. there p (omega (arith, r))) j x e h)
   located i (words_at n us ∷ ks) (x0 ∷ xs) (v ∷ vs) (w ∷ ws) keys spans s a f t there (suc j) x e h =

@@ -109,14 +109,13 @@ valof_run g m sim B x z n j c rest w le le' l ln r =
     out (goto u) w1 o = went (outside z.scene (omega arith) (omega arith) o o.leads)
     out return w1 o = went (outside z.scene (omega arith) (omega arith) o o.leads)
     out (result v) w1 o =
+        let at_result : (control : List Stmt) → control ≡ Label n ∷ TakeResult z.depth ∷ rest → (a : ArrivedAt g (start z c w) (for_scope (alone x) w) z control o.depth1 w w1) → Handed g a.bases1 (result v) a.hand1 → Has g (start z c w) B z rest (z.depth + 1) w v w1 =
+        λ control e a h.
+        let b : (y : ArrivedAt g (start z c w) (for_scope (alone x) w) z (Label n ∷ TakeResult z.depth ∷ rest) o.depth1 w w1) × Handed g y.bases1 (result v) y.hand1 =
+        subst (λ k. (y : ArrivedAt g (start z c w) (for_scope (alone x) w) z k o.depth1 w w1) × Handed g y.bases1 (result v) y.hand1) e (a, h) in
+        takes_up (omega arith) (omega arith) r ln b.0 (held_result g b.0.bases1 v b.0.hand1 b.1.0 b.1.1 b.1.2) in
         let at_label : o.control ≡ Label n ∷ TakeResult z.depth ∷ rest = some_is o.control (Label n ∷ TakeResult z.depth ∷ rest) (sym o.leads ∙ ln.found) in
         went (at_result o.control at_label o.arr o.hands)
-      where
-        at_result : (control : List Stmt) → control ≡ Label n ∷ TakeResult z.depth ∷ rest → (a : ArrivedAt g (start z c w) (for_scope (alone x) w) z control o.depth1 w w1) → Handed g a.bases1 (result v) a.hand1 → Has g (start z c w) B z rest (z.depth + 1) w v w1
-        at_result control e a h =
-            let b : (y : ArrivedAt g (start z c w) (for_scope (alone x) w) z (Label n ∷ TakeResult z.depth ∷ rest) o.depth1 w w1) × Handed g y.bases1 (result v) y.hand1 =
-            subst (λ k. (y : ArrivedAt g (start z c w) (for_scope (alone x) w) z k o.depth1 w w1) × Handed g y.bases1 (result v) y.hand1) e (a, h) in
-            takes_up (omega arith) (omega arith) r ln b.0 (held_result g b.0.bases1 v b.0.hand1 b.1.0 b.1.1 b.1.2)
     out _ w1 o = not_true o.leads.1
 
 -- in a loop
@@ -231,19 +230,16 @@ repeat_adds g m sim x env = adds _ (λ w. turn_after _ (adds _ (λ w1. sim.grows
 pub repeat_rounds : (g : Setting) (m : Meanings) → Simulates g m → (l : ℕ) (a : Action) (mode : Mode) (z : Sit) (at : Sought → List Stmt) (body rest e1 : List Stmt) (w : World) → IsLoop g z.scene z.depth z.env (t.repeat l a) at body rest
     → EnteredBody mode z.env (t.repeat l a) at body e1 → Ready g z w → RanDid g (start z e1 w) (for_rounds (t.repeat l a) w) z rest w (rounds_of m (t.repeat l a) mode z.env w)
 repeat_rounds g m sim l a mode z at body rest e1 w lx ent r =
+    let behind : (A : Account) (w1 : World) → A.most ≤ 16 * w.turns → w.turns - turns_in a ≤ A.least → ArrivedAt g (start z e1 w) A z (Label lx.0 ∷ body) z.depth w w1
+    → RanDid g (start z e1 w) (for_rounds (t.repeat l a) w) z rest w (turn w1 (λ w. m.rounds (t.repeat l a) forwards z.env w)) = λ A w1 lm ll q.
+    further_round g m sim (start z e1 w) A (for_rounds (t.repeat l a) w) (t.repeat l a) z lx.0 at body rest w w1 (omega arith) (omega arith) (omega arith) (omega arith) (omega arith) (omega arith) lx.5 lx refl lx.3 r q in
+    let ends : (A : Account) (w1 : World) → A.most ≤ 16 * w.turns → w.turns - turns_in a ≤ A.least → ArrivedAt g (start z e1 w) A z (Jump lx.0 ∷ Label lx.1 ∷ rest) z.depth w w1
+    → RanDid g (start z e1 w) (for_rounds (t.repeat l a) w) z rest w (turn w1 (λ w. m.rounds (t.repeat l a) forwards z.env w)) = λ A w1 lm ll q.
+    let dp = r.deep in
+    further_round g m sim (start z e1 w) (paying g A) (for_rounds (t.repeat l a) w) (t.repeat l a) z lx.0 at body rest w w1 (omega arith) (omega arith) (omega arith) (omega arith) (omega arith) (omega arith) lx.5 lx refl lx.3 r
+    (jump_on (omega arith) (omega arith) lx.3.found q) in
     round_run g m sim (for_rounds (t.repeat l a) w) a mode z z.env lx.0 lx.1 at body (Jump lx.0 ∷ Label lx.1 ∷ rest) body rest e1 w _ (λ _. repeat_adds g m sim (t.repeat l a) z.env) (omega arith) (omega arith) refl lx.2 (entered mode ent) lx.3 lx.4 r ends behind
   where
-    behind : (A : Account) (w1 : World) → A.most ≤ 16 * w.turns → w.turns - turns_in a ≤ A.least → ArrivedAt g (start z e1 w) A z (Label lx.0 ∷ body) z.depth w w1
-        → RanDid g (start z e1 w) (for_rounds (t.repeat l a) w) z rest w (turn w1 (λ w. m.rounds (t.repeat l a) forwards z.env w))
-    behind A w1 lm ll q =
-        further_round g m sim (start z e1 w) A (for_rounds (t.repeat l a) w) (t.repeat l a) z lx.0 at body rest w w1 (omega arith) (omega arith) (omega arith) (omega arith) (omega arith) (omega arith) lx.5 lx refl lx.3 r q
-
-    ends : (A : Account) (w1 : World) → A.most ≤ 16 * w.turns → w.turns - turns_in a ≤ A.least → ArrivedAt g (start z e1 w) A z (Jump lx.0 ∷ Label lx.1 ∷ rest) z.depth w w1
-        → RanDid g (start z e1 w) (for_rounds (t.repeat l a) w) z rest w (turn w1 (λ w. m.rounds (t.repeat l a) forwards z.env w))
-    ends A w1 lm ll q = let dp = r.deep in
-        further_round g m sim (start z e1 w) (paying g A) (for_rounds (t.repeat l a) w) (t.repeat l a) z lx.0 at body rest w w1 (omega arith) (omega arith) (omega arith) (omega arith) (omega arith) (omega arith) lx.5 lx refl lx.3 r
-        (jump_on (omega arith) (omega arith) lx.3.found q)
-
     entered : (mode : Mode) → EnteredBody mode z.env (t.repeat l a) at body e1 → Entered mode z.env a at body e1
     entered forwards h = h
     entered (seeking s) h = h

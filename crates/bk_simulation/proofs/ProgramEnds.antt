@@ -39,6 +39,11 @@ module _ (g : Setting) (s0 s : State) (is : settled g.program s0 ≡ s) (few : F
 
   pub stopped_ends : (B : Account) (e : world.End) (w : World) (end : End) (n : ℕ) → B.most ≤ n → end_of e ≡ Some end → Stopped g s B e w → EndsWithin g.program g.first s0 n g.cap w.output w.input end
   stopped_ends B e w end n le ee q =
+      let until : (k : ℕ) (t : State) (m : ℕ) → k ≤ suc q.steps → run g.program k s0 ≡ Goes t → HasFrames g.program g.first FRAME_WORDS t.cells t.frame m → RunSo g q.steps s0 q.to → run g.program (suc q.steps) s0 ≡ Ends end q.to → m ≤ g.cap =
+      λ k t m lk h f r over.
+      ⊎_elim (λ (x : k ≤ q.steps). r.frames k t x h m f)
+      (λ (x : k ≡ suc q.steps). absurd (ends_no_more (suc q.steps) t q.to end over (subst (λ j. run g.program j s0 ≡ Goes t) x h)))
+      (last_or k q.steps lk) in
       let r = comes_run g q.steps q.paid s s0 q.to is few q.comes in
       let mq = q.most in
       let same : q.end ≡ end = (let z : Some q.end ≡ Some end = sym q.is_end ∙ ee in cc) in
@@ -53,12 +58,6 @@ module _ (g : Setting) (s0 s : State) (is : settled g.program s0 ≡ s) (few : F
         left_over = q.left;
         frames = λ k t m lk h f. until k t m lk h f r over;
       }
-    where
-      until : (k : ℕ) (t : State) (m : ℕ) → k ≤ suc q.steps → run g.program k s0 ≡ Goes t → HasFrames g.program g.first FRAME_WORDS t.cells t.frame m → RunSo g q.steps s0 q.to → run g.program (suc q.steps) s0 ≡ Ends end q.to → m ≤ g.cap
-      until k t m lk h f r over =
-          ⊎_elim (λ (x : k ≤ q.steps). r.frames k t x h m f)
-          (λ (x : k ≡ suc q.steps). absurd (ends_no_more (suc q.steps) t q.to end over (subst (λ j. run g.program j s0 ≡ Goes t) x h)))
-          (last_or k q.steps lk)
 
   pub reached_comes : (B : Account) (w : World) (n : ℕ) → B.most ≤ n → Reaches g s B w → ComesWithin g.program g.first s0 n g.cap w.output w.input
   reached_comes B w n le q =
@@ -192,13 +191,12 @@ does_from g p n input sim alone_runs alone_after procs fs (inr has) ec =
     by_procedure : (o : Option Procedure) → procedure_of p has.number ≡ o → calls_of (run_at (procedure_of p has.number)) ≡ g.cap → Does g.program g.first n (called_at g input (g.codes.procedure has.number)) (run_at (procedure_of p has.number))
     by_procedure None eo ec = subst (λ x. Does g.program g.first n (called_at g input (g.codes.procedure has.number)) (run_at x)) (sym eo) tt
     by_procedure (Some f) eo ec =
+        let at_procedure : (f : Procedure) → IsProcedure g has.number f → calls_of (run_at (Some f)) ≡ g.cap → Does g.program g.first n (called_at g input (g.codes.procedure has.number)) (run_at (Some f)) =
+        λ f ip ec.
+        let o : Outcome Value = enter m (Some f) [] (calling w0) in
+        let c1 : 1 ≤ calls_of (run_at (Some f)) = some_calls 0 w0 o (enter_after m alone_after g sim f [] (calling w0)) in
+        let cap1 : 1 ≤ g.cap = omega arith in
+        let x = entered_so g p n input sim alone_runs fs has.number f ip cap1 in
+        does_so g (called_at g input (g.codes.procedure has.number)) x.at x.is x.few n 0 B o (omega arith) ec (x.ran B (omega arith) (omega arith)) in
         subst (λ x. Does g.program g.first n (called_at g input (g.codes.procedure has.number)) (run_at x)) (sym eo)
         (at_procedure f (procs.each has.number f eo) (ap (λ x. calls_of (run_at x)) (sym eo) ∙ ec))
-      where
-        at_procedure : (f : Procedure) → IsProcedure g has.number f → calls_of (run_at (Some f)) ≡ g.cap → Does g.program g.first n (called_at g input (g.codes.procedure has.number)) (run_at (Some f))
-        at_procedure f ip ec =
-            let o : Outcome Value = enter m (Some f) [] (calling w0) in
-            let c1 : 1 ≤ calls_of (run_at (Some f)) = some_calls 0 w0 o (enter_after m alone_after g sim f [] (calling w0)) in
-            let cap1 : 1 ≤ g.cap = omega arith in
-            let x = entered_so g p n input sim alone_runs fs has.number f ip cap1 in
-            does_so g (called_at g input (g.codes.procedure has.number)) x.at x.is x.few n 0 B o (omega arith) ec (x.ran B (omega arith) (omega arith))

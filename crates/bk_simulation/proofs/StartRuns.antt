@@ -54,6 +54,40 @@ pub start_runs : (g : Setting) (m : Meanings) → Simulates g m → AloneRuns g 
     → Ran g (state ip.scene.own 2 (Entry ip.label ip.name ∷ drop (suc ip.place) ip.scene.own.stmts) c0 g.first None [] w0) B (Over g (state ip.scene.own 2 (Entry ip.label ip.name ∷ drop (suc ip.place) ip.scene.own.stmts) c0 g.first None [] w0) B) AnyExit
     (enter m (Some f) [] (calling w0))
 start_runs g m sim alone_runs k f ip c0 w0 fs no_calls cap1 B leB leB' =
+    let b : ℕ = top + 2 in
+    let w2 : World = making cells (calling w0) in
+    let z1 : Sit = in_body ip.scene env top (g.lasting ++ b ∷ []) c3 [] size in
+    let s1 : State = state own 2 (Entry ip.label ip.name ∷ drop (suc ip.place) own.stmts) c0 top None [] w0 in
+    let s2 : State = state own 2 (drop (suc ip.place) own.stmts) c0 top None [] w0 in
+    let s3 : State = state own size ip.body c3 top None [] w0 in
+    let N : Account = for_body f.body w2 in
+    let none_there : (i : ℕ) (c : Cell_of) → ((v : Value) × (slice_get [] i ≡ Some v) × (c ≡ holds v)) → StandsCell g.codes g.lasting c (content_of (c3 (b + i))) = λ i c x.
+    absurd (let e : None ≡ Some x.0 = x.1 in cc) in
+    let over : (v : Value) (w3 : World) → Yielded g s3 N z1 w2 v w3 → Fits g.codes h1 top → Comes g 2 (g.pay + (g.pay + 0)) s1 s3 → Over g s1 B v (forgetting o w3) = λ v w3 q f1 to_body.
+    let kept : (a : ℕ) → top ≤ a → a < b → Like (q.arr.cells1 a) (c3 a) = λ a ge lt. q.arr.moved.kept.as_was a (omega arith) (links_free g h1 top b cells a f1 ge lt) in
+    let held : (a : ℕ) → a < b → c3 a ≡ c0 a = λ a lt. below_at (top + size) (settle (top + 2) (top + size) c0) a (omega arith) ∙ settle-kept (top + 2) (top + size) c0 a lt in
+    let link0 : content_of (q.arr.cells1 (top + 0)) ≡ Word top =
+    (kept (top + 0) (omega arith) (omega arith)).content ∙ ap content_of (held (top + 0) (omega arith)) ∙ ap (λ a. content_of (c0 a)) (let e : top + 0 ≡ top = omega arith in e) ∙ ap content_of fs.frame in
+    let link1 : content_of (q.arr.cells1 (top + 1)) ≡ Word g.program.home =
+    (kept (top + 1) (omega arith) (omega arith)).content ∙ ap content_of (held (top + 1) (omega arith)) ∙ ap (λ a. content_of (c0 a)) (let e : top + 1 ≡ suc top = omega arith in e) ∙ ap content_of fs.back in
+    let from : State = there g s3 N z1 q.control q.depth1 w2 w3 q.arr in
+    let home : State = returning from q.result g.program.home top in
+    let few : FewFrames g q.arr.cells1 top g.cap = roomy g q.arr.cells1 top _ q.arr.frames q.arr.room in
+    let few1 : FewFrames g home.cells top g.cap = links_kept g.program g.first FRAME_WORDS q.arr.cells1 home.cells top g.cap (links_below (suc top) top q.arr.cells1) few in
+    let mv : Moves g.program from home = (home, q.leaves g.program.home top link1 link0, home_settled g.program home refl) in
+    let mq = q.arr.most in
+    record {
+      to = home;
+      steps = 2 + (q.arr.steps + 1);
+      paid = g.pay + (g.pay + 0) + (q.arr.paid + g.pay);
+      comes = comes_on g _ _ _ _ _ _ _ to_body (comes_on g _ _ _ _ _ _ _ q.arr.comes (one g _ _ mv few1));
+      most = omega arith;
+      end = Status (pos 0);
+      is_end = refl;
+      stops = home_ends g.program home refl;
+      wrote = refl;
+      left = refl;
+    } in
     let some : 2 ≤ size = omega arith in
     let le : top ≤ 2 ^ 31 - 65536 = g.well.low in
     let above : global_place GLOBAL_NUMBER < g.first = g.well.is_program.above_globals in
@@ -112,62 +146,11 @@ start_runs g m sim alone_runs k f ip c0 w0 fs no_calls cap1 B leB leB' =
     c3 : ℕ → Cell
     c3 = below (top + size) (settle (top + 2) (top + size) c0)
 
-    b : ℕ
-    b = top + 2
-
     cells : List Cell_of
     cells = formal_cells f.formals []
 
     h1 : Store
     h1 = record { bases = g.lasting; mem = w0.memory; cells = c3 }
 
-    w2 : World
-    w2 = making cells (calling w0)
-
     env : Environment
     env = bind_formals o 0 f.formals f.env
-
-    z1 : Sit
-    z1 = in_body ip.scene env top (g.lasting ++ b ∷ []) c3 [] size
-
-    s1 : State
-    s1 = state own 2 (Entry ip.label ip.name ∷ drop (suc ip.place) own.stmts) c0 top None [] w0
-
-    s2 : State
-    s2 = state own 2 (drop (suc ip.place) own.stmts) c0 top None [] w0
-
-    s3 : State
-    s3 = state own size ip.body c3 top None [] w0
-
-    N : Account
-    N = for_body f.body w2
-
-    none_there : (i : ℕ) (c : Cell_of) → ((v : Value) × (slice_get [] i ≡ Some v) × (c ≡ holds v)) → StandsCell g.codes g.lasting c (content_of (c3 (b + i)))
-    none_there i c x = absurd (let e : None ≡ Some x.0 = x.1 in cc)
-
-    over : (v : Value) (w3 : World) → Yielded g s3 N z1 w2 v w3 → Fits g.codes h1 top → Comes g 2 (g.pay + (g.pay + 0)) s1 s3 → Over g s1 B v (forgetting o w3)
-    over v w3 q f1 to_body =
-        let kept : (a : ℕ) → top ≤ a → a < b → Like (q.arr.cells1 a) (c3 a) = λ a ge lt. q.arr.moved.kept.as_was a (omega arith) (links_free g h1 top b cells a f1 ge lt) in
-        let held : (a : ℕ) → a < b → c3 a ≡ c0 a = λ a lt. below_at (top + size) (settle (top + 2) (top + size) c0) a (omega arith) ∙ settle-kept (top + 2) (top + size) c0 a lt in
-        let link0 : content_of (q.arr.cells1 (top + 0)) ≡ Word top =
-        (kept (top + 0) (omega arith) (omega arith)).content ∙ ap content_of (held (top + 0) (omega arith)) ∙ ap (λ a. content_of (c0 a)) (let e : top + 0 ≡ top = omega arith in e) ∙ ap content_of fs.frame in
-        let link1 : content_of (q.arr.cells1 (top + 1)) ≡ Word g.program.home =
-        (kept (top + 1) (omega arith) (omega arith)).content ∙ ap content_of (held (top + 1) (omega arith)) ∙ ap (λ a. content_of (c0 a)) (let e : top + 1 ≡ suc top = omega arith in e) ∙ ap content_of fs.back in
-        let from : State = there g s3 N z1 q.control q.depth1 w2 w3 q.arr in
-        let home : State = returning from q.result g.program.home top in
-        let few : FewFrames g q.arr.cells1 top g.cap = roomy g q.arr.cells1 top _ q.arr.frames q.arr.room in
-        let few1 : FewFrames g home.cells top g.cap = links_kept g.program g.first FRAME_WORDS q.arr.cells1 home.cells top g.cap (links_below (suc top) top q.arr.cells1) few in
-        let mv : Moves g.program from home = (home, q.leaves g.program.home top link1 link0, home_settled g.program home refl) in
-        let mq = q.arr.most in
-        record {
-          to = home;
-          steps = 2 + (q.arr.steps + 1);
-          paid = g.pay + (g.pay + 0) + (q.arr.paid + g.pay);
-          comes = comes_on g _ _ _ _ _ _ _ to_body (comes_on g _ _ _ _ _ _ _ q.arr.comes (one g _ _ mv few1));
-          most = omega arith;
-          end = Status (pos 0);
-          is_end = refl;
-          stops = home_ends g.program home refl;
-          wrote = refl;
-          left = refl;
-        }

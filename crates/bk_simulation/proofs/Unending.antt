@@ -51,25 +51,23 @@ far_so : (g : Setting) (s0 s : State) → settled g.program s0 ≡ s → FewFram
     → (bytes left : List ℕ) (calls : ℕ) → run_of (back_to k o) ≡ Going bytes left calls → calls ≡ g.cap → Ran g s B (Over g s B) AnyExit o → Far g n s0 bytes ⊎ RunsOut g.program g.first s0 calls bytes
 far_so g s0 s is few n k B (gives v w) le cut bytes left calls e ec r = absurd (cc)
 far_so g s0 s is few n k B (going w) le cut bytes left calls e ec r =
+    let far : Reaches g s B w → w.output ≡ bytes → Far g n s0 bytes = λ q eb.
+    let c = comes_run g q.steps q.paid s s0 q.to is few q.comes in
+    let pays = comes_pays g q.steps q.paid s q.to q.comes in
+    let h = goes_on_so g.program g.first FRAME_WORDS g.well c.last in
+    let z = cut w refl in
+    let lq = q.least in
+    record {
+      last = c.last;
+      steps = q.steps;
+      runs = c.runs;
+      enough = omega arith;
+      wrote = sym h.output ∙ ap (λ (x : State). x.output) c.settles ∙ q.wrote ∙ eb;
+    } in
     let eb : w.output ≡ bytes = cc in
     let em : w.most_calls ≡ calls = cc in
     ⊎_elim (λ (q : Reaches g s B w). inl (far q eb)) (λ (f : FallsThose g s w.output w.most_calls). inr (falls f eb em)) r.is
   where
-    far : Reaches g s B w → w.output ≡ bytes → Far g n s0 bytes
-    far q eb =
-        let c = comes_run g q.steps q.paid s s0 q.to is few q.comes in
-        let pays = comes_pays g q.steps q.paid s q.to q.comes in
-        let h = goes_on_so g.program g.first FRAME_WORDS g.well c.last in
-        let z = cut w refl in
-        let lq = q.least in
-        record {
-          last = c.last;
-          steps = q.steps;
-          runs = c.runs;
-          enough = omega arith;
-          wrote = sym h.output ∙ ap (λ (x : State). x.output) c.settles ∙ q.wrote ∙ eb;
-        }
-
     falls : FallsThose g s w.output w.most_calls → w.output ≡ bytes → w.most_calls ≡ calls → RunsOut g.program g.first s0 calls bytes
     falls (inl f) eb em = subst (λ c. RunsOut g.program g.first s0 c bytes) (sym ec) (subst (λ y. RunsOut g.program g.first s0 g.cap y) eb (fell_out g s0 s is few w.output f))
     falls (inr lt) eb em = absurd (omega arith)

@@ -74,6 +74,16 @@ change_of mem mem1 o i c h = by_cells (cells_at mem o) refl h
 
 pub wrote : (mem mem1 : Memory) (o i : ℕ) (c : Cell_of) → with_cell mem (address o i) c ≡ Some mem1 → Wrote mem mem1 o i c
 wrote mem mem1 o i c h =
+    let object_after : (g : Change mem mem1 o i c) (o1 : ℕ) (cells : List Cell_of) → cells_at mem1 o1 ≡ Some cells
+    → ((o1 ≡ o) × (living cells ≡ living (slice_set g.cells i c))) ⊎ ((o1 ≢ o) × (slice_get mem o1 ≡ Some (living cells))) = λ g o1 cells e.
+    get_set mem o o1 (living (slice_set g.cells i c)) (living cells)
+    (sym (ap (λ q. slice_get q o1) g.changes) ∙ object_there mem1 o1 cells e) in
+    let cells_after : (g : Change mem mem1 o i c) (o1 : ℕ) (cells : List Cell_of) → cells_at mem1 o1 ≡ Some cells → ((o1 ≡ o) × (cells ≡ slice_set g.cells i c)) ⊎ (cells_at mem o1 ≡ Some cells) =
+    λ g o1 cells e.
+    ⊎_elim
+    (λ (p : (o1 ≡ o) × (living cells ≡ living (slice_set g.cells i c))). inl (p.0, cc))
+    (λ (p : (o1 ≢ o) × (slice_get mem o1 ≡ Some (living cells))). inr (ap cells_of p.1))
+    (object_after g o1 cells e) in
     let g = change_of mem mem1 o i c h in
     let own = g.cells in
     record {
@@ -93,19 +103,6 @@ wrote mem mem1 o i c h =
           by_age g o1 i1 u x.0 x.2 (object_after g o1 x.0 x.1);
     }
   where
-    object_after : (g : Change mem mem1 o i c) (o1 : ℕ) (cells : List Cell_of) → cells_at mem1 o1 ≡ Some cells
-        → ((o1 ≡ o) × (living cells ≡ living (slice_set g.cells i c))) ⊎ ((o1 ≢ o) × (slice_get mem o1 ≡ Some (living cells)))
-    object_after g o1 cells e =
-        get_set mem o o1 (living (slice_set g.cells i c)) (living cells)
-        (sym (ap (λ q. slice_get q o1) g.changes) ∙ object_there mem1 o1 cells e)
-
-    cells_after : (g : Change mem mem1 o i c) (o1 : ℕ) (cells : List Cell_of) → cells_at mem1 o1 ≡ Some cells → ((o1 ≡ o) × (cells ≡ slice_set g.cells i c)) ⊎ (cells_at mem o1 ≡ Some cells)
-    cells_after g o1 cells e =
-        ⊎_elim
-        (λ (p : (o1 ≡ o) × (living cells ≡ living (slice_set g.cells i c))). inl (p.0, cc))
-        (λ (p : (o1 ≢ o) × (slice_get mem o1 ≡ Some (living cells))). inr (ap cells_of p.1))
-        (object_after g o1 cells e)
-
     at_cells : (y z : Option (List Cell_of)) (i1 : ℕ) (u : Cell_of) (cells : List Cell_of) → y ≡ Some cells → slice_get cells i1 ≡ Some u → option_and_then (λ cells. slice_get cells i1) y ≡ Some u
     at_cells y z i1 u cells e h = ap (λ q. option_and_then (λ cells. slice_get cells i1) q) e ∙ h
 
