@@ -41,52 +41,47 @@ items_forms : (is : Items) (n : ℕ) (bs : List Binding) (s : Spot) → map form
 items_forms t.no_items n bs s = refl
 items_forms (t.item l x e is) n bs s = ap (λ z. some_words ∷ z) (items_forms is _ _ _)
 
-mutual
-  value_forms : (e : Expression) (n : ℕ) (bs : List Binding) (p : Place) (s : Spot) (r : Role) (cs : List Binding) (u : Place) (v : Spot) → Sound r cs u v e → map form_of (kinds n (term_named bs p s e)) ≡ forms e
-  value_forms (t.parens l e) n bs p s r cs u v h = value_forms e _ _ _ _ _ _ _ _ h
-  value_forms (t.unary l q.Address e) n bs p s r cs u v h = address_forms e _ _ _ _ _ _ _ _ h.0 h.1
-  value_forms (t.unary l q.Contents e) n bs p s r cs u v h = value_forms e _ _ _ _ _ _ _ _ h.1
-  value_forms (t.unary l q.Plus e) n bs p s r cs u v h = value_forms e _ _ _ _ _ _ _ _ h.1
-  value_forms (t.unary l q.Minus e) n bs p s r cs u v h = value_forms e _ _ _ _ _ _ _ _ h.1
-  value_forms (t.unary l q.Not e) n bs p s r cs u v h = value_forms e _ _ _ _ _ _ _ _ h.1
-  value_forms (t.binary l f m a b) n bs p s r cs u v h = two _ _ _ _ (value_forms a _ _ _ _ _ _ _ _ h.0) (value_forms b _ _ _ _ _ _ _ _ h.1)
-  value_forms (t.choice l m c a b) n bs p s r cs u v h = three _ _ _ _ _ _ (if_forms c _ _ _ _ _ _ _ _ h.0) (value_forms a _ _ _ _ _ _ _ _ h.1) (value_forms b _ _ _ _ _ _ _ _ h.2)
-  value_forms (t.apply l m e es) n bs p s r cs u v h = two _ _ _ _ (value_forms e _ _ _ _ _ _ _ _ h.0) (each_forms es _ _ _ _ _ _ _ _ _ h.1)
-  value_forms (t.valof l c) n bs p s r cs u v h = act_forms c _ _ _ _ _ _ _ h
-  value_forms _ n bs p s r cs u v h = refl
+same : {A : Type 0} → A → A × A
+same x = (x, x)
 
-  if_forms : (e : Expression) (n : ℕ) (bs : List Binding) (p : Place) (s : Spot) (r : Role) (cs : List Binding) (u : Place) (v : Spot) → Sound r cs u v e → map form_of (kinds_if n (condition_named bs p s e)) ≡ forms e
-  if_forms (t.parens l e) n bs p s r cs u v h = if_forms e _ _ _ _ _ _ _ _ h
-  if_forms (t.unary l q.Not e) n bs p s r cs u v h = if_forms e _ _ _ _ _ _ _ _ h.1
-  if_forms (t.unary l q.Address e) n bs p s r cs u v h = address_forms e _ _ _ _ _ _ _ _ h.0 h.1
-  if_forms (t.unary l q.Contents e) n bs p s r cs u v h = value_forms e _ _ _ _ _ _ _ _ h.1
-  if_forms (t.unary l q.Plus e) n bs p s r cs u v h = value_forms e _ _ _ _ _ _ _ _ h.1
-  if_forms (t.unary l q.Minus e) n bs p s r cs u v h = value_forms e _ _ _ _ _ _ _ _ h.1
-  if_forms (t.binary l o.Both m a b) n bs p s r cs u v h = two _ _ _ _ (if_forms a _ _ _ _ _ _ _ _ h.0) (if_forms b _ _ _ _ _ _ _ _ h.1)
-  if_forms (t.binary l o.Either m a b) n bs p s r cs u v h = two _ _ _ _ (if_forms a _ _ _ _ _ _ _ _ h.0) (if_forms b _ _ _ _ _ _ _ _ h.1)
-  if_forms (t.binary l f m a b) n bs p s r cs u v h = two _ _ _ _ (value_forms a _ _ _ _ _ _ _ _ h.0) (value_forms b _ _ _ _ _ _ _ _ h.1)
-  if_forms (t.choice l m c a b) n bs p s r cs u v h = three _ _ _ _ _ _ (if_forms c _ _ _ _ _ _ _ _ h.0) (value_forms a _ _ _ _ _ _ _ _ h.1) (value_forms b _ _ _ _ _ _ _ _ h.2)
-  if_forms (t.apply l m e es) n bs p s r cs u v h = two _ _ _ _ (value_forms e _ _ _ _ _ _ _ _ h.0) (each_forms es _ _ _ _ _ _ _ _ _ h.1)
-  if_forms (t.valof l c) n bs p s r cs u v h = act_forms c _ _ _ _ _ _ _ h
-  if_forms _ n bs p s r cs u v h = refl
+mutual
+  -- a value, and where its truth is asked for
+  values_forms : (e : Expression) (n : ℕ) (bs : List Binding) (p : Place) (s : Spot) (r : Role) (cs : List Binding) (u : Place) (v : Spot) → Sound r cs u v e
+      → (map form_of (kinds n (term_named bs p s e)) ≡ forms e) × (map form_of (kinds_if n (condition_named bs p s e)) ≡ forms e)
+  values_forms (t.parens l e) n bs p s r cs u v h = ((values_forms e _ _ _ _ _ _ _ _ h).0, (values_forms e _ _ _ _ _ _ _ _ h).1)
+  values_forms (t.unary l q.Address e) n bs p s r cs u v h = same (address_forms e _ _ _ _ _ _ _ _ h.0 h.1)
+  values_forms (t.unary l q.Not e) n bs p s r cs u v h = ((values_forms e _ _ _ _ _ _ _ _ h.1).0, (values_forms e _ _ _ _ _ _ _ _ h.1).1)
+  values_forms (t.unary l _ e) n bs p s r cs u v h = same ((values_forms e _ _ _ _ _ _ _ _ h.1).0)
+  values_forms (t.binary l o.Both m a b) n bs p s r cs u v h =
+      (two _ _ _ _ (values_forms a _ _ _ _ _ _ _ _ h.0).0 (values_forms b _ _ _ _ _ _ _ _ h.1).0,
+      two _ _ _ _ (values_forms a _ _ _ _ _ _ _ _ h.0).1 (values_forms b _ _ _ _ _ _ _ _ h.1).1)
+  values_forms (t.binary l o.Either m a b) n bs p s r cs u v h =
+      (two _ _ _ _ (values_forms a _ _ _ _ _ _ _ _ h.0).0 (values_forms b _ _ _ _ _ _ _ _ h.1).0,
+      two _ _ _ _ (values_forms a _ _ _ _ _ _ _ _ h.0).1 (values_forms b _ _ _ _ _ _ _ _ h.1).1)
+  values_forms (t.binary l f m a b) n bs p s r cs u v h = same (two _ _ _ _ (values_forms a _ _ _ _ _ _ _ _ h.0).0 (values_forms b _ _ _ _ _ _ _ _ h.1).0)
+  values_forms (t.choice l m c a b) n bs p s r cs u v h =
+      same (three _ _ _ _ _ _ (values_forms c _ _ _ _ _ _ _ _ h.0).1 (values_forms a _ _ _ _ _ _ _ _ h.1).0 (values_forms b _ _ _ _ _ _ _ _ h.2).0)
+  values_forms (t.apply l m e es) n bs p s r cs u v h = same (two _ _ _ _ (values_forms e _ _ _ _ _ _ _ _ h.0).0 (each_forms es _ _ _ _ _ _ _ _ _ h.1))
+  values_forms (t.valof l c) n bs p s r cs u v h = same (act_forms c _ _ _ _ _ _ _ h)
+  values_forms _ n bs p s r cs u v h = same refl
 
   each_forms : (es : Expressions) (n k : ℕ) (bs : List Binding) (p : Place) (s : Spot) (j : ℕ) (cs : List Binding) (u : Place) (v : Spot) → SoundEach j cs u v es → map form_of (kinds_each n (terms_named k bs p s es)) ≡ forms_of_each es
   each_forms t.none n k bs p s j cs u v h = refl
-  each_forms (t.more e es) n k bs p s j cs u v h = two _ _ _ _ (value_forms e _ _ _ _ _ _ _ _ h.0) (each_forms es _ _ _ _ _ _ _ _ _ h.1)
+  each_forms (t.more e es) n k bs p s j cs u v h = two _ _ _ _ (values_forms e _ _ _ _ _ _ _ _ h.0).0 (each_forms es _ _ _ _ _ _ _ _ _ h.1)
 
   address_forms : (e : Expression) (n : ℕ) (bs : List Binding) (p : Place) (s : Spot) (r : Role) (cs : List Binding) (u : Place) (v : Spot) → addressed cs e ≡ true → Sound r cs u v e → map form_of (kinds_at n (lvalue_named bs p s e)) ≡ forms e
   address_forms (t.name l x) n bs p s r cs u v a h = refl
   address_forms (t.parens l e) n bs p s r cs u v a h = address_forms e _ _ _ _ _ _ _ _ a h
-  address_forms (t.unary l q.Contents e) n bs p s r cs u v a h = value_forms e _ _ _ _ _ _ _ _ h.1
-  address_forms (t.binary l o.Subscript m x y) n bs p s r cs u v a h = two _ _ _ _ (value_forms x _ _ _ _ _ _ _ _ h.0) (value_forms y _ _ _ _ _ _ _ _ h.1)
+  address_forms (t.unary l q.Contents e) n bs p s r cs u v a h = (values_forms e _ _ _ _ _ _ _ _ h.1).0
+  address_forms (t.binary l o.Subscript m x y) n bs p s r cs u v a h = two _ _ _ _ (values_forms x _ _ _ _ _ _ _ _ h.0).0 (values_forms y _ _ _ _ _ _ _ _ h.1).0
   address_forms _ n bs p s r cs u v a h = absurd (false≢true a)
 
   store_forms : (e : Expression) (n : ℕ) (bs : List Binding) (p : Place) (s : Spot) (r : Role) (cs : List Binding) (u : Place) (v : Spot) → assigned cs e ≡ true → Sound r cs u v e → map form_of (kinds_at n (lvalue_named bs p s e)) ≡ forms e
   store_forms (t.name l x) n bs p s r cs u v a h = refl
   store_forms (t.parens l e) n bs p s r cs u v a h = store_forms e _ _ _ _ _ _ _ _ a h
-  store_forms (t.unary l q.Contents e) n bs p s r cs u v a h = value_forms e _ _ _ _ _ _ _ _ h.1
-  store_forms (t.binary l o.Subscript m x y) n bs p s r cs u v a h = two _ _ _ _ (value_forms x _ _ _ _ _ _ _ _ h.0) (value_forms y _ _ _ _ _ _ _ _ h.1)
-  store_forms (t.binary l o.Byte m x y) n bs p s r cs u v a h = two _ _ _ _ (value_forms x _ _ _ _ _ _ _ _ h.0) (value_forms y _ _ _ _ _ _ _ _ h.1)
+  store_forms (t.unary l q.Contents e) n bs p s r cs u v a h = (values_forms e _ _ _ _ _ _ _ _ h.1).0
+  store_forms (t.binary l o.Subscript m x y) n bs p s r cs u v a h = two _ _ _ _ (values_forms x _ _ _ _ _ _ _ _ h.0).0 (values_forms y _ _ _ _ _ _ _ _ h.1).0
+  store_forms (t.binary l o.Byte m x y) n bs p s r cs u v a h = two _ _ _ _ (values_forms x _ _ _ _ _ _ _ _ h.0).0 (values_forms y _ _ _ _ _ _ _ _ h.1).0
   store_forms _ n bs p s r cs u v a h = absurd (false≢true a)
 
   stores_forms : (es : Expressions) (n : ℕ) (bs : List Binding) (p : Place) (s : Spot) (cs : List Binding) (u : Place) (v : Spot) → SoundDestinations cs u v es → map form_of (kinds_onto n (lvalues_named bs p s es)) ≡ forms_of_each es
@@ -95,20 +90,20 @@ mutual
 
   act_forms : (c : Action) (n : ℕ) (bs : List Binding) (p : Place) (s : Spot) (cs : List Binding) (u : Place) (v : Spot) → SoundDone cs u v c → map form_of (kinds_in n (command_named bs p s c)) ≡ forms_of_action c
   act_forms (t.assign l xs es) n bs p s cs u v h = two _ _ _ _ (stores_forms xs _ _ _ _ _ _ _ h.0) (each_forms es _ _ _ _ _ _ _ _ _ h.1)
-  act_forms (t.call l e es) n bs p s cs u v h = two _ _ _ _ (value_forms e _ _ _ _ _ _ _ _ h.0) (each_forms es _ _ _ _ _ _ _ _ _ h.1)
+  act_forms (t.call l e es) n bs p s cs u v h = two _ _ _ _ (values_forms e _ _ _ _ _ _ _ _ h.0).0 (each_forms es _ _ _ _ _ _ _ _ _ h.1)
   act_forms (t.label l x c) n bs p s cs u v h = act_forms c _ _ _ _ _ _ _ h.1
   act_forms (t.case_of l e c) n bs p s cs u v h = act_forms c _ _ _ _ _ _ _ h.2
   act_forms (t.default l c) n bs p s cs u v h = act_forms c _ _ _ _ _ _ _ h.1
-  act_forms (t.when l q e c) n bs p s cs u v h = two _ _ _ _ (if_forms e _ _ _ _ _ _ _ _ h.0) (act_forms c _ _ _ _ _ _ _ h.1)
-  act_forms (t.test l e a b) n bs p s cs u v h = three _ _ _ _ _ _ (if_forms e _ _ _ _ _ _ _ _ h.0) (act_forms a _ _ _ _ _ _ _ h.1) (act_forms b _ _ _ _ _ _ _ h.2)
-  act_forms (t.while l q e c) n bs p s cs u v h = two _ _ _ _ (if_forms e _ _ _ _ _ _ _ _ h.0) (act_forms c _ _ _ _ _ _ _ h.1)
-  act_forms (t.for_loop l x a b k c) n bs p s cs u v h = three _ _ _ _ _ _ (value_forms a _ _ _ _ _ _ _ _ h.0) (value_forms b _ _ _ _ _ _ _ _ h.1) (act_forms c _ _ _ _ _ _ _ h.3)
-  act_forms (t.switch l e c) n bs p s cs u v h = two _ _ _ _ (value_forms e _ _ _ _ _ _ _ _ h.0) (act_forms c _ _ _ _ _ _ _ h.1)
-  act_forms (t.result l e) n bs p s cs u v h = value_forms e _ _ _ _ _ _ _ _ h.1
+  act_forms (t.when l q e c) n bs p s cs u v h = two _ _ _ _ (values_forms e _ _ _ _ _ _ _ _ h.0).1 (act_forms c _ _ _ _ _ _ _ h.1)
+  act_forms (t.test l e a b) n bs p s cs u v h = three _ _ _ _ _ _ (values_forms e _ _ _ _ _ _ _ _ h.0).1 (act_forms a _ _ _ _ _ _ _ h.1) (act_forms b _ _ _ _ _ _ _ h.2)
+  act_forms (t.while l q e c) n bs p s cs u v h = two _ _ _ _ (values_forms e _ _ _ _ _ _ _ _ h.0).1 (act_forms c _ _ _ _ _ _ _ h.1)
+  act_forms (t.for_loop l x a b k c) n bs p s cs u v h = three _ _ _ _ _ _ (values_forms a _ _ _ _ _ _ _ _ h.0).0 (values_forms b _ _ _ _ _ _ _ _ h.1).0 (act_forms c _ _ _ _ _ _ _ h.3)
+  act_forms (t.switch l e c) n bs p s cs u v h = two _ _ _ _ (values_forms e _ _ _ _ _ _ _ _ h.0).0 (act_forms c _ _ _ _ _ _ _ h.1)
+  act_forms (t.result l e) n bs p s cs u v h = (values_forms e _ _ _ _ _ _ _ _ h.1).0
   act_forms (t.block l t.no_declarations cs1) n bs p s cs u v h = acts_forms cs1 _ _ _ _ _ _ _ h
   act_forms (t.block l (t.declare d ds) cs1) n bs p s cs u v h = two _ _ _ _ (declared_forms (t.declare d ds) _ _ _ _ _ _ _ h.0) (acts_forms cs1 _ _ _ _ _ _ _ h.1)
   act_forms (t.repeat l c) n bs p s cs u v h = act_forms c _ _ _ _ _ _ _ h
-  act_forms (t.repeat_while l q c e) n bs p s cs u v h = two _ _ _ _ (act_forms c _ _ _ _ _ _ _ h.0) (if_forms e _ _ _ _ _ _ _ _ h.1)
+  act_forms (t.repeat_while l q c e) n bs p s cs u v h = two _ _ _ _ (act_forms c _ _ _ _ _ _ _ h.0) (values_forms e _ _ _ _ _ _ _ _ h.1).1
   act_forms _ n bs p s cs u v h = refl
 
   acts_forms : (xs : Actions) (n : ℕ) (bs : List Binding) (p : Place) (s : Spot) (cs : List Binding) (u : Place) (v : Spot) → SoundDoneEach cs u v xs → map form_of (kinds_through n (commands_named bs p s xs)) ≡ forms_of_actions xs
@@ -130,12 +125,12 @@ mutual
 
   definition_forms : (d : Definition) (n : ℕ) (bs : List Binding) (p : Place) (s : Spot) (cs : List Binding) (u : Place) (v : Spot) → SoundOneDefined cs u v d → map form_of (kinds_of_definition n (definition_named bs p s d)) ≡ forms_of_definition d
   definition_forms (t.routine l x fs c) n bs p s cs u v h = ap (λ z. a_procedure ∷ z) (act_forms c _ _ _ _ _ _ _ h.2)
-  definition_forms (t.function l x fs e) n bs p s cs u v h = ap (λ z. a_procedure ∷ z) (value_forms e _ _ _ _ _ _ _ _ h.2)
+  definition_forms (t.function l x fs e) n bs p s cs u v h = ap (λ z. a_procedure ∷ z) (values_forms e _ _ _ _ _ _ _ _ h.2).0
   definition_forms (t.variables l xs is) n bs p s cs u v h = starts_forms is _ _ _ _ _ _ _ h
 
   starts_forms : (is : Starts) (n : ℕ) (bs : List Binding) (p : Place) (s : Spot) (cs : List Binding) (u : Place) (v : Spot) → SoundStarted cs u v is → map form_of (kinds_of_starts n (starts_named bs p s is)) ≡ forms_of_starts is
   starts_forms t.no_starts n bs p s cs u v h = refl
-  starts_forms (t.value e is) n bs p s cs u v h = two _ _ _ _ (value_forms e _ _ _ _ _ _ _ _ h.0) (starts_forms is _ _ _ _ _ _ _ h.1)
+  starts_forms (t.value e is) n bs p s cs u v h = two _ _ _ _ (values_forms e _ _ _ _ _ _ _ _ h.0).0 (starts_forms is _ _ _ _ _ _ _ h.1)
   starts_forms (t.vector l e is) n bs p s cs u v h = starts_forms is _ _ _ _ _ _ _ h.1
 
 -- the label of a procedure's word

@@ -241,22 +241,6 @@ bases_of h next n {ks} K L P e a = record {
   placed = a.placed;
 }
 
--- with more names in scope inside
-pub bases_inside : (h : Home) (bs : List Binding) (next n : ℕ) {ks : List Kind} {L : List Named → List Lasting} (P : Setting → Type 0) (names : List Named → List Named)
-    → ((g : Setting) (ns : List Named) → Agree ns h.bindings → Mean h g ns → Agree (names ns) bs × Mean (record h { bindings = bs }) g (names ns)) → Bases (record h { bindings = bs }) next n ks L P
-    → Bases h next n ks (λ ns. L (names ns)) P
-bases_inside h bs next n P names f a = record {
-  bases = a.bases;
-  entries = a.entries;
-  all = a.all;
-  all_entries = a.all_entries;
-  count = λ ns. a.count (names ns);
-  laid = λ g x. a.laid g (record { fits = record { own = x.fits.own; pays = x.fits.pays }; some = x.some; follow = x.follow; words = x.words });
-  held = λ g x ns u v. let i = f g ns u v in a.held g (record { fits = record { own = x.fits.own; pays = x.fits.pays }; some = x.some; follow = x.follow; words = x.words }) (names ns) i.0 i.1;
-  alike = λ g x ns u v. let i = f g ns u v in a.alike g (record { fits = record { own = x.fits.own; pays = x.fits.pays }; some = x.some; follow = x.follow; words = x.words }) (names ns) i.0 i.1;
-  placed = a.placed;
-}
-
 -- where their bases say so, more names are in scope inside
 pub bases_under : (h : Home) (bs : List Binding) (next n : ℕ) {ks : List Kind} {L : List Named → List Lasting} (P : Setting → Type 0) (names : List Named → List Named)
     → ((g : Setting) → 0 < next → P g → (ns : List Named) → Agree ns h.bindings → Mean h g ns → Agree (names ns) bs × Mean (record h { bindings = bs }) g (names ns)) → Bases (record h { bindings = bs }) next n ks L P
@@ -275,6 +259,12 @@ bases_under h bs next n P names f a =
       alike = λ g x ns u v. let i = f g x.some (a.laid g (inner g x)) ns u v in a.alike g (inner g x) (names ns) i.0 i.1;
       placed = a.placed;
     }
+
+-- with more names in scope inside
+pub bases_inside : (h : Home) (bs : List Binding) (next n : ℕ) {ks : List Kind} {L : List Named → List Lasting} (P : Setting → Type 0) (names : List Named → List Named)
+    → ((g : Setting) (ns : List Named) → Agree ns h.bindings → Mean h g ns → Agree (names ns) bs × Mean (record h { bindings = bs }) g (names ns)) → Bases (record h { bindings = bs }) next n ks L P
+    → Bases h next n ks (λ ns. L (names ns)) P
+bases_inside h bs next n P names f a = bases_under h bs next n P names (λ g some p ns u v. f g ns u v) a
 
 -- none of them is the global vector
 pub bases_some : (h : Home) (next n : ℕ) {ks : List Kind} {L : List Named → List Lasting} (P : Setting → Type 0) → Bases h next n ks L P → Bases h next n ks L (λ g. (0 < next) × P g)

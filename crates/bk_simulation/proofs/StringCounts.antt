@@ -86,58 +86,50 @@ pub same_on : (c d e : List Stmt) → Same c d → Same d e → Same c e
 same_on c d e h i q = h q ∙ i q
 
 pub spread_none : {g : Setting} {own : Placed} {c rest : List Stmt} {i : ℕ} → Same rest c → Spread g own c rest i 0 []
-spread_none e = record {
-  keys = [];
-  spans = [];
-  long = refl;
-  are = tt;
-  once = λ q. let h = e q in omega (arith, h);
+spread_none e = record { keys = []; spans = []; long = refl; are = tt; once = λ q. let h = e q in omega (arith, h) }
+
+-- between statements with the same strings
+spread_between : {g : Setting} {own : Placed} {c d rest last : List Stmt} {i m : ℕ} {fs : List Form} → Same d c → Same last rest → Spread g own d rest i m fs
+    → Spread g own c last i m fs
+spread_between e l a = record {
+  keys = a.keys;
+  spans = a.spans;
+  long = a.long;
+  are = a.are;
+  once = λ q. let h = e q in let k = l q in let o = a.once q in omega (arith, h, k, o);
 }
 
 pub spread_top : {g : Setting} {own : Placed} {c d rest : List Stmt} {i m : ℕ} {fs : List Form} → Same d c → Spread g own d rest i m fs → Spread g own c rest i m fs
-spread_top e a = record {
-  keys = a.keys;
-  spans = a.spans;
-  long = a.long;
-  are = a.are;
-  once = λ q. let h = e q in let o = a.once q in omega (arith, h, o);
-}
+spread_top e a = spread_between e (λ q. refl) a
 
-pub spread_bottom : {g : Setting} {own : Placed} {c rest d : List Stmt} {i m : ℕ} {fs : List Form} → Same rest d → Spread g own c d i m fs → Spread g own c rest i m fs
-spread_bottom e a = record {
-  keys = a.keys;
-  spans = a.spans;
-  long = a.long;
-  are = a.are;
-  once = λ q. let h = e q in let o = a.once q in omega (arith, h, o);
-}
+pub spread_bottom : {g : Setting} {own : Placed} {c rest d : List Stmt} {i m : ℕ} {fs : List Form} → Same rest d → Spread g own c d i m fs
+    → Spread g own c rest i m fs
+spread_bottom e a = spread_between (λ q. refl) e a
 
--- code one behind the other, and in the other order
-pub spread_both : {g : Setting} {own : Placed} {c c1 rest : List Stmt} {i m n : ℕ} {fs hs : List Form} → Spread g own c c1 i m fs → Spread g own c1 rest (i + m) n hs → Spread g own c rest i (m + n) (fs ++ hs)
-spread_both {g} {own} {i} {fs} {hs} a b =
-    let l = a.long in
-    let r = b.long in
-    let t = length-append fs hs in
+-- two codes that lie in another
+spread_joined : {g : Setting} {own : Placed} {c c1 c2 r1 r2 rest : List Stmt} {i m n : ℕ} {fs hs : List Form}
+    → ((q : ℕ) → strings_at q c1 + strings_at q c2 + strings_at q rest ≡ strings_at q r1 + strings_at q r2 + strings_at q c) → Spread g own c1 r1 i m fs
+    → Spread g own c2 r2 (i + m) n hs → Spread g own c rest i (m + n) (fs ++ hs)
+spread_joined {g} {own} {i = i} {fs = fs} {hs = hs} e a b =
+    let l = a.long in let r = b.long in let t = length-append fs hs in
     record {
       keys = a.keys ++ b.keys;
       spans = a.spans ++ b.spans;
       long = omega (arith, l, r, t);
       are = spread_append g own i fs hs a.keys b.keys a.spans b.spans a.are (subst (λ k. AreSpread g own (i + k) hs b.keys b.spans) (sym a.long) b.are);
-      once = λ q. let x = a.once q in let y = b.once q in let u = times_both q a.keys b.keys in let v = spans_both q a.spans b.spans in omega (arith, x, y, u, v);
+      once = λ q.
+          let h = e q in let x = a.once q in let y = b.once q in
+          let u = times_both q a.keys b.keys in let v = spans_both q a.spans b.spans in omega (arith, h, x, y, u, v);
     }
 
-pub spread_back : {g : Setting} {own : Placed} {c c1 rest : List Stmt} {i m n : ℕ} {fs hs : List Form} → Spread g own c1 rest i m fs → Spread g own c c1 (i + m) n hs → Spread g own c rest i (m + n) (fs ++ hs)
-spread_back {g} {own} {i} {fs} {hs} a b =
-    let l = a.long in
-    let r = b.long in
-    let t = length-append fs hs in
-    record {
-      keys = a.keys ++ b.keys;
-      spans = a.spans ++ b.spans;
-      long = omega (arith, l, r, t);
-      are = spread_append g own i fs hs a.keys b.keys a.spans b.spans a.are (subst (λ k. AreSpread g own (i + k) hs b.keys b.spans) (sym a.long) b.are);
-      once = λ q. let x = a.once q in let y = b.once q in let u = times_both q a.keys b.keys in let v = spans_both q a.spans b.spans in omega (arith, x, y, u, v);
-    }
+-- code one after the other, and in the other order
+pub spread_both : {g : Setting} {own : Placed} {c c1 rest : List Stmt} {i m n : ℕ} {fs hs : List Form} → Spread g own c c1 i m fs
+    → Spread g own c1 rest (i + m) n hs → Spread g own c rest i (m + n) (fs ++ hs)
+spread_both a b = spread_joined (λ q. omega arith) a b
+
+pub spread_back : {g : Setting} {own : Placed} {c c1 rest : List Stmt} {i m n : ℕ} {fs hs : List Form} → Spread g own c1 rest i m fs
+    → Spread g own c c1 (i + m) n hs → Spread g own c rest i (m + n) (fs ++ hs)
+spread_back a b = spread_joined (λ q. omega arith) a b
 
 -- one string
 pub spread_string : {g : Setting} {own : Placed} (x : List ℕ) {rest : List Stmt} {i : ℕ} → BaseOf g.lasting i (own.places.text (length rest)) → Spread g own (Text x ∷ rest) rest i 1 (a_string ∷ [])
@@ -145,13 +137,7 @@ spread_string x {rest} base = record { keys = length rest ∷ []; spans = []; lo
 
 -- words that stand behind a label
 pub spread_words : {g : Setting} {own : Placed} {c rest : List Stmt} {i : ℕ} → Same rest c → Spread g own c rest i 1 (some_words ∷ [])
-spread_words e = record {
-  keys = [];
-  spans = [];
-  long = refl;
-  are = tt;
-  once = λ q. let h = e q in omega (arith, h);
-}
+spread_words e = record { keys = []; spans = []; long = refl; are = tt; once = λ q. let h = e q in omega (arith, h) }
 
 -- a procedure, by what is known of its body
 pub spread_procedure : {g : Setting} {own : Placed} {c from to : List Stmt} {place i m : ℕ} {fs : List Form} → IsSpan g own i (record { place = place; from = from }) → Spread g own from to (i + 1) m fs
