@@ -10,7 +10,7 @@ ghost use Rattle.bk_lex.specs.Found.{symbols_found, all_found, found_in, AreWith
 ghost use Rattle.bk_lex.specs.Lexers.{marks_of, marked};
 
 use crate::adding::add;
-use crate::counting::{Act, Given, State, finished, start, take_byte};
+use crate::counting::{Act, Given, SECTION_SYMBOLS, State, finished, start, take_byte};
 use crate::cutter::Cut;
 use crate::header::put_header;
 use crate::machine::{Fault, Header};
@@ -21,10 +21,10 @@ use std::alloc::{AllocError, Global};
 use std::marker::Model;
 
 /// The number of symbols for which a section has room at first.
-const FIRST_FOUND: usize = 32;
+const FIRST_FOUND: usize = 256;
 
 /// The number of bytes for which a section has room at first.
-const FIRST_BYTES: usize = 256;
+const FIRST_BYTES: usize = 1024;
 
 /// A symbol or header that was found in a text. Its bytes are taken from the text once the text is complete.
 #[derive(Clone, Copy, Debug, PartialEq, Eq)]
@@ -109,12 +109,14 @@ fn find(
     if let Some(kind) = insertion {
         found.push(Found::Inserted { kind, line })?;
     }
-    found.push(Found::Symbol {
+    // Where there is room, nothing is called, and the loop over the bytes keeps its registers.
+    found.reserve(1)?;
+    found.push_reserved(Found::Symbol {
         kind,
         line,
         first: first as u32,
         end: end as u32,
-    })?;
+    });
     Ok(())
 }
 
@@ -151,16 +153,17 @@ fn put_found<'a>(out: &mut Vec<Token<'a>>, text: &'a [u8], found: Found) -> Resu
     }
 }
 
-/// The tokens of the symbols and headers that were found in a text.
+/// The tokens of the symbols and headers that were found in a text, which are so many.
 fn tokens_of<'a>(
     alloc: Global,
     text: &'a [u8],
     found: &[Found],
+    count: u32,
 ) -> Result<Vec<Token<'a>>, AllocError>
     requires { AreWithin (length text.now) found.now }
     ensures { IfOk result (λ tokens. symbols_of tokens.items ≡ all_found text.now found.now) }
 {
-    let mut tokens = Vec::with_capacity(alloc, found.len())?;
+    let mut tokens = Vec::with_capacity(alloc, count as usize)?;
     for each in found {
         put_found(&mut tokens, text, *each)?;
     }
@@ -237,6 +240,11 @@ impl Lexer {
         self.bytes.as_slice()
     }
 
+    /// The number of symbols so far.
+    fn symbols(&self) -> u32 {
+        SECTION_SYMBOLS.saturating_sub(self.state.symbols)
+    }
+
     /// Takes the next byte of the section. `End` comes at the `.` that ends a section without a fault, or where a fault
     /// is certain, and at byte 1,048,577 at the latest; no byte is taken after that. Where memory was refused, each further
     /// step answers so.
@@ -295,7 +303,7 @@ impl Lexer {
                 fault,
             ))),
             Progress::Ended => Ok(Lexed {
-                tokens: tokens_of(alloc, text, self.pieces.found.as_slice())?,
+                tokens: tokens_of(alloc, text, self.pieces.found.as_slice(), self.symbols())?,
                 used: text.len(),
                 ended: true,
                 line: self.pieces.place.line,
@@ -311,7 +319,12 @@ impl Lexer {
                         )));
                     }
                 };
-                let mut tokens = tokens_of(alloc, text, self.pieces.found.as_slice())?;
+                let mut tokens = tokens_of(
+                    alloc,
+                    text,
+                    self.pieces.found.as_slice(),
+                    self.symbols(),
+                )?;
                 let end = text.len();
                 put(
                     &mut tokens,

@@ -162,6 +162,7 @@ fn with_digit(base: Base, value: u32, byte: u8) -> Next
 }
 
 /// Whether a byte may follow a `*`.
+#[inline(always)]
 fn is_escape(byte: u8) -> bool
     ensures { result ≡ is_escape byte }
 {
@@ -260,6 +261,7 @@ fn after_word(length: u32, code: u64, byte: u8) -> Next
 }
 
 /// A byte after `#`.
+#[inline(always)]
 fn after_hash(byte: u8) -> Next
     ensures { result ≡ hash_next byte }
 {
@@ -271,6 +273,7 @@ fn after_hash(byte: u8) -> Next
 }
 
 /// A byte where the first digit of a number is due.
+#[inline(always)]
 fn first_digit(base: Base, byte: u8) -> Next
     ensures { result ≡ first_digit base byte }
 {
@@ -311,6 +314,7 @@ fn in_text(held: u32, byte: u8) -> Next
 }
 
 /// The effect of a byte after a `*`: that of the escape, or a fault.
+#[inline(always)]
 fn after_star(byte: u8, whole: Next) -> Next
     ensures { result ≡ star_next byte whole }
 {
@@ -324,6 +328,7 @@ fn after_star(byte: u8, whole: Next) -> Next
 }
 
 /// A byte after the first quote of a character constant.
+#[inline(always)]
 fn after_quote(byte: u8) -> Next
     ensures { result ≡ quote_next byte }
 {
@@ -337,6 +342,7 @@ fn after_quote(byte: u8) -> Next
 }
 
 /// A byte in the string of a GET.
+#[inline(always)]
 fn in_name(length: u32, byte: u8) -> Next
     ensures { result ≡ name_next length byte }
 {
