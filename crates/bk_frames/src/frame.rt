@@ -10,6 +10,7 @@ use bk_base::Line;
 use bk_grammar::symbols::Guard;
 use bk_tree::{Command, Decl, Def, Expr, Init, Item, Name, Operator, Prefix, Sort};
 use std::alloc::{AllocError, AllocFailed};
+use std::mem;
 
 /// How deep and how large a part of a tree is.
 #[derive(Clone, Copy, Debug, PartialEq, Eq)]
@@ -181,6 +182,27 @@ pub enum Now {
     Did(Done),
     /// A symbol is due, as the last frame says.
     Due,
+}
+
+impl Now {
+    /// Goes on to the next state. Most states that are left have no part: where one has, it is dropped in a function of its own, so
+    /// that no step has the code that drops a tree.
+    #[inline(always)]
+    pub fn set(&mut self, next: Now)
+        ensures { self.new ≡ next }
+    {
+        if matches!(self, Now::Have(_) | Now::Did(_)) {
+            self.clear();
+        }
+        mem::forget(mem::replace(self, next));
+    }
+
+    /// Drops the part.
+    #[cold]
+    #[inline(never)]
+    fn clear(&mut self) {
+        *self = Now::Due;
+    }
 }
 
 /// What becomes of a symbol after a part.

@@ -1,5 +1,5 @@
 //! The list of what was begun.
-ghost use Rattle.std.specs.Prelude.{◌≡◌, ◌+◌, ℕ, [], MatchOption, IfOk, vec_len};
+ghost use Rattle.std.specs.Prelude.{◌≡◌, ◌<◌, vec_len, vec_capacity};
 ghost use Rattle.bk_tree.specs.Tree.{declarations_in};
 ghost use Rattle.bk_frames.specs.Sizes.{size_of_declarations};
 ghost use Rattle.bk_frames.specs.Begun.{begun_on, held_in};
@@ -23,4 +23,5 @@ pub struct Frames {
     ghost holds: { held ≡ size_of_declarations (declarations_in decls.items) },
     ghost spared: { Spared (spare_of_section held) above.items },
     ghost roomy: { Roomy decls.items above.items rooms.items },
+    ghost room: { vec_len above < vec_capacity above },
 }

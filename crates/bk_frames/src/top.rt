@@ -1,5 +1,5 @@
 //! The top of the list of what was begun.
-ghost use Rattle.std.specs.Prelude.{◌≡◌, ◌+◌, ◌≤◌, [], true, MatchOption, IfOk, vec_len, length};
+ghost use Rattle.std.specs.Prelude.{◌≡◌, ◌+◌, ◌-◌, ◌<◌, ◌≤◌, ◌∷◌, ◌++◌, [], MatchOption, IfOk, OnOk, is_ok, if◌then◌else◌, vec_len, vec_capacity, length, take};
 ghost use Rattle.bk_frames.specs.Begun.{begun_on, held_in};
 ghost use Rattle.bk_frames.specs.Frames.{stack_of, HasRoomsFor};
 
@@ -17,6 +17,38 @@ fn forget_rooms(frames: &mut Frames)
     ensures rooms { length frames.new.rooms.items ≤ length frames.old.above.items }
 {
     frames.rooms.truncate(frames.above.len());
+}
+
+/// Makes room for one frame more, or takes the last one away.
+#[cold]
+#[inline(never)]
+fn make_room(above: &mut Vec<Frame>) -> Result<(), AllocError>
+    requires some { 0 < vec_len above.old }
+    requires within { vec_len above.old ≤ vec_capacity above.old }
+    ensures items { above.new.items ≡ (if is_ok result then above.old.items else take (vec_len above.old - 1) above.old.items) }
+    ensures same { OnOk result (vec_len above.new ≡ vec_len above.old) }
+    ensures room { vec_len above.new < vec_capacity above.new }
+{
+    let Ok(()) = above.reserve(1) else {
+        let _refused = above.pop();
+        return Err(AllocError);
+    };
+    Ok(())
+}
+
+/// Puts a frame on top. There is room for it, and after it for one more: so no step has the code that drops a frame that was refused.
+#[inline(always)]
+fn push(above: &mut Vec<Frame>, frame: Frame) -> Result<(), AllocError>
+    requires { vec_len above.old < vec_capacity above.old }
+    ensures items { above.new.items ≡ (if is_ok result then above.old.items ++ frame ∷ [] else above.old.items) }
+    ensures more { OnOk result (vec_len above.new ≡ vec_len above.old + 1) }
+    ensures room { vec_len above.new < vec_capacity above.new }
+{
+    above.push_reserved(frame);
+    if above.len() == above.capacity() {
+        return make_room(above);
+    }
+    Ok(())
 }
 
 /// Puts on top what was begun, with these parts.
@@ -43,8 +75,7 @@ pub fn begun_still(frames: &mut Frames, begun: Begun, held: Size) -> Result<(), 
     ensures length { IfOk result (λ _. vec_len frames.new.above ≡ vec_len frames.old.above + 1) }
 {
     let spare = spare_above(spare_of(frames), &begun, held);
-    frames.above.push(Frame { begun, held, spare })?;
-    Ok(())
+    push(&mut frames.above, Frame { begun, held, spare })
 }
 
 /// Takes away what is on top.

@@ -15,6 +15,7 @@ ghost use Rattle.bk_syntax.specs.Parsing.{reached};
 
 use crate::definitions::complete_definition;
 use crate::expressions::{due, due_at, line_of, operand, want_in, wants_command, whole};
+use crate::why::refuse;
 use bk_base::Line;
 use bk_frames::frame::{
     Begun, Clause, Defined, Done, Flow, Now, Phrase, Place, Point, Size, Sized, Stop,
@@ -96,16 +97,16 @@ pub fn command(alloc: Global, frames: &mut Frames, now: &mut Now, token: &Token)
     ensures { Steps (stack_of frames.new) (reached result now.new) (take_command (stack_of frames.old) token.now.line token.now.text.now token.now.kind) }
 {
     if let Some(word) = simple(token.kind) {
-        *now = Now::Did(did(Command::Simple(token.line, word), NOTHING));
+        now.set(Now::Did(did(Command::Simple(token.line, word), NOTHING)));
         return Ok(());
     }
     if let Some(guard) = guard_begun(token.kind) {
-        *now = want_in(frames, Phrase::Guard(guard, token.line), NOTHING)?;
+        now.set(want_in(frames, Phrase::Guard(guard, token.line), NOTHING)?);
         return Ok(());
     }
     match heads_with(token.kind) {
         Some(heading) => {
-            *now = headed(alloc, frames, heading, token.line)?;
+            now.set(headed(alloc, frames, heading, token.line)?);
             Ok(())
         }
         None => {
@@ -141,18 +142,19 @@ fn further(
     token: &Token,
 ) -> Result<Flow, Stop>
     requires { parts ≡ both_of (held_in (Begun.Phrase (p.Dests before))) (size_of (expression last)) }
-    ensures answers { Answers frames.new now.new result token.now (λ l x. dests (each_then (expressions_in before.items) (more (expression last) none)) (stack_of frames.old)) }
+    ensures answers { Answers frames.new now.new result token.now (λ l x. dests
+        (each_then (expressions_in before.items) (more (expression last) none)) (stack_of frames.old)) }
     ensures lowers { Lowers frames.old frames.new result }
 {
     let mut dests = before;
     dests.push(last)?;
     if is_comma(token.kind) {
-        *now = want_in(frames, Phrase::Dests(dests), parts)?;
+        now.set(want_in(frames, Phrase::Dests(dests), parts)?);
         return Ok(Flow::Taken);
     }
     if is_assign(token.kind) {
         let values = Phrase::Values(dests, Vec::new(alloc));
-        *now = want_in(frames, values, parts)?;
+        now.set(want_in(frames, values, parts)?);
         return Ok(Flow::Taken);
     }
     Err(Stop::Unexpected)
@@ -192,7 +194,7 @@ fn started(
                 command: call(line, callee, items),
                 size,
             };
-            *now = Now::Did(done);
+            now.set(Now::Did(done));
             Ok(Flow::Comes)
         }
         Expr::Name(line, letters) => {
@@ -200,7 +202,7 @@ fn started(
                 return Err(Stop::Unexpected);
             }
             begun(frames, Begun::Clause(Clause::Label(line, letters)), NOTHING)?;
-            *now = Now::Maybe;
+            now.set(Now::Maybe);
             Ok(Flow::Taken)
         }
         _ => Err(Stop::Unexpected),
@@ -238,7 +240,8 @@ fn valued(
 ) -> Result<Flow, Stop>
     requires stops { goes 12 token.now.kind ≡ false }
     requires parts { parts ≡ both_of (held_in (Begun.Phrase (p.Values dests values))) (size_of (expression last)) }
-    ensures answers { Answers frames.new now.new result token.now (give (in_values (expressions_in dests.items) (expressions_in values.items) (stack_of frames.old)) (expression last)) }
+    ensures answers { Answers frames.new now.new result token.now (give (in_values (expressions_in dests.items) (expressions_in values.items)
+        (stack_of frames.old)) (expression last)) }
     ensures lowers { Lowers frames.old frames.new result }
 {
     let complete = is_last(&dests, &values);
@@ -246,13 +249,13 @@ fn valued(
     values.push(last)?;
     if complete {
         let line = line_of_list(&dests);
-        *now = Now::Did(did(assign(line, dests, values), parts));
+        now.set(Now::Did(did(assign(line, dests, values), parts)));
         return Ok(Flow::Comes);
     }
     if !is_comma(token.kind) {
         return Err(Stop::Unexpected);
     }
-    *now = want_in(frames, Phrase::Values(dests, values), parts)?;
+    now.set(want_in(frames, Phrase::Values(dests, values), parts)?);
     Ok(Flow::Taken)
 }
 
@@ -267,6 +270,7 @@ fn behind_sign(guard: Guard) -> Now
 }
 
 /// The expression behind a guard is complete.
+#[inline(never)]
 fn guards(
     alloc: Global,
     frames: &mut Frames,
@@ -291,11 +295,12 @@ fn guards(
         Begun::Clause(Clause::Guarded(guard, line, condition)),
         parts,
     )?;
-    *now = behind_sign(guard);
+    now.set(behind_sign(guard));
     Ok(Flow::Taken)
 }
 
 /// The limit of a FOR is complete.
+#[inline(never)]
 #[tactic(auto, using(bk_frames::proofs::Turns::limit_cases))]
 fn limited(
     alloc: Global,
@@ -310,18 +315,19 @@ fn limited(
 ) -> Result<Flow, Stop>
     requires stops { goes 12 token.now.kind ≡ false }
     requires parts { parts ≡ both_of (held_in (Begun.Phrase (p.To line name from))) (size_of (expression limit)) }
-    ensures answers { Answers frames.new now.new result token.now (give (in_to line (mention name) (expression from.value) (stack_of frames.old)) (expression limit)) }
+    ensures answers { Answers frames.new now.new result token.now (give (in_to line (mention name) (expression from.value) (stack_of frames.old))
+        (expression limit)) }
     ensures lowers { Lowers frames.old frames.new result }
 {
     let limit = Box::new(alloc, limit)?;
     if is_by(token.kind) {
         let by = Phrase::By(line, name, from, limit);
-        *now = want_in(frames, by, parts)?;
+        now.set(want_in(frames, by, parts)?);
         return Ok(Flow::Taken);
     }
     if is_do(token.kind) {
         let body = Clause::For(line, name, from, limit, None);
-        *now = wants_command(frames, body, parts)?;
+        now.set(wants_command(frames, body, parts)?);
         return Ok(Flow::Taken);
     }
     Err(Stop::Unexpected)
@@ -343,7 +349,7 @@ pub fn complete_phrase(
     ensures lowers { Lowers frames.old frames.new result }
 {
     let Now::Have(sized) = mem::replace(now, Now::Due) else {
-        return Err(Stop::Unexpected);
+        return Err(refuse(begun));
     };
     let parts = both(held, sized.size);
     match begun {
@@ -360,19 +366,19 @@ pub fn complete_phrase(
                 return Err(Stop::Unexpected);
             }
             let condition = Box::new(alloc, sized.expr)?;
-            *now = wants_command(frames, Clause::Then(line, condition), parts)?;
+            now.set(wants_command(frames, Clause::Then(line, condition), parts)?);
             Ok(Flow::Taken)
         }
         Phrase::ResultIs(line) => {
             let result = Box::new(alloc, sized.expr)?;
-            *now = Now::Did(did(Command::ResultIs(line, result), parts));
+            now.set(Now::Did(did(Command::ResultIs(line, result), parts)));
             Ok(Flow::Comes)
         }
         Phrase::RepeatWhile(truth, body) => {
             let line = line_of_command(&body);
             let condition = Box::new(alloc, sized.expr)?;
             let repeat = Command::RepeatWhile(line, truth, body, condition);
-            *now = Now::Did(did(repeat, parts));
+            now.set(Now::Did(did(repeat, parts)));
             Ok(Flow::Comes)
         }
         Phrase::From(line, name) => {
@@ -380,7 +386,7 @@ pub fn complete_phrase(
                 return Err(Stop::Unexpected);
             }
             let from = Box::new(alloc, sized.expr)?;
-            *now = want_in(frames, Phrase::To(line, name, from), parts)?;
+            now.set(want_in(frames, Phrase::To(line, name, from), parts)?);
             Ok(Flow::Taken)
         }
         Phrase::To(line, name, from) => limited(
@@ -392,13 +398,14 @@ pub fn complete_phrase(
             }
             let by = Box::new(alloc, sized.expr)?;
             let body = Clause::For(line, name, from, to, Some(by));
-            *now = wants_command(frames, body, parts)?;
+            now.set(wants_command(frames, body, parts)?);
             Ok(Flow::Taken)
         }
     }
 }
 
 /// The command goes on with REPEAT, REPEATWHILE or REPEATUNTIL.
+#[inline(never)]
 #[tactic(auto, using(bk_frames::proofs::Turns::again_cases))]
 pub fn again(
     alloc: Global,
@@ -413,16 +420,18 @@ pub fn again(
     let Done { command, size } = done;
     let line = line_of_command(&command);
     let body = Box::new(alloc, command)?;
-    *now = match repetition_begun(token.kind) {
+    let next = match repetition_begun(token.kind) {
         Some(Repetition::Always) => Now::Did(did(Command::Repeat(line, body), size)),
         Some(Repetition::While) => want_in(frames, Phrase::RepeatWhile(true, body), size)?,
         Some(Repetition::Until) => want_in(frames, Phrase::RepeatWhile(false, body), size)?,
         None => return Err(Stop::Unexpected),
     };
+    now.set(next);
     Ok(Flow::Taken)
 }
 
 /// A command is complete, which the symbol after it does not repeat.
+#[inline(never)]
 #[tactic(auto, using(bk_frames::proofs::Turns::guarded_sizes))]
 pub fn complete_clause(
     alloc: Global,
@@ -438,11 +447,11 @@ pub fn complete_clause(
     ensures lowers { Lowers frames.old frames.new result }
 {
     let Now::Did(done) = mem::replace(now, Now::Due) else {
-        return Err(Stop::Unexpected);
+        return Err(refuse(begun));
     };
     let parts = both(held, done.size);
     let body = Box::new(alloc, done.command)?;
-    *now = match begun {
+    let next = match begun {
         Clause::Valof(line) => Now::Have(whole(Expr::Valof(line, body), parts)),
         Clause::Label(line, letters) => Now::Did(did(Command::Label(line, letters, body), parts)),
         Clause::Guarded(guard, line, condition) => {
@@ -453,7 +462,7 @@ pub fn complete_clause(
             if !is_or(token.kind) {
                 return Err(Stop::Unexpected);
             }
-            *now = wants_command(frames, Clause::Else(line, condition, body), parts)?;
+            now.set(wants_command(frames, Clause::Else(line, condition, body), parts)?);
             return Ok(Flow::Taken);
         }
         Clause::Else(line, condition, yes) => {
@@ -475,5 +484,6 @@ pub fn complete_clause(
             };
         }
     };
+    now.set(next);
     Ok(Flow::Comes)
 }

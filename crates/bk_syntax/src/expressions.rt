@@ -17,6 +17,7 @@ ghost use Rattle.bk_frames.specs.Stacked.{stack};
 ghost use Rattle.bk_syntax.specs.Parsing.{reached};
 ghost use Rattle.bk_frames.specs.Frames.{stack_of, HasRoomsFor, state, given, Steps, Answers, Lowers, Falls};
 
+use crate::why::refuse;
 use bk_base::Line;
 use bk_frames::frame::{
     Begun, Clause, Flow, Frame, Member, Now, Operand, Phrase, Place, Point, Size, Sized, Stop,
@@ -188,7 +189,8 @@ fn go_on_chain(
     sign: Line,
 ) -> Result<Now, AllocError>
     requires { last (expression sized.expr) ≡ Some (expression copy.value) }
-    ensures { IfOk result (λ now. state (stack_of frames.new) now ≡ want (in_chain operator sign (expression sized.expr) (expression copy.value) (stack_of frames.old))) }
+    ensures { IfOk result (λ now. state (stack_of frames.new) now ≡ want (in_chain operator sign (expression sized.expr) (expression copy.value)
+        (stack_of frames.old))) }
 {
     let held = both(sized.size, of_node(sized.right));
     let whole = Box::new(alloc, sized.expr)?;
@@ -229,18 +231,18 @@ pub fn go_on(
     ensures falls { Falls frames.old frames.new result }
 {
     if let Some(operator) = infix(token.kind) {
-        *now = go_on_infix(alloc, frames, sized, operator, token.line)?;
+        now.set(go_on_infix(alloc, frames, sized, operator, token.line)?);
         return Ok(Flow::Taken);
     }
     if is_open(token.kind) {
         let callee = Box::new(alloc, sized.expr)?;
         let args = Operand::Args(token.line, callee, Vec::new(alloc));
-        *now = want(frames, args, sized.size)?;
+        now.set(want(frames, args, sized.size)?);
         return Ok(Flow::Taken);
     }
     if is_arrow(token.kind) {
         let condition = Box::new(alloc, sized.expr)?;
-        *now = want(frames, Operand::Then(token.line, condition), sized.size)?;
+        now.set(want(frames, Operand::Then(token.line, condition), sized.size)?);
         return Ok(Flow::Taken);
     }
     Err(Stop::Unexpected)
@@ -355,7 +357,7 @@ fn no_arguments(frames: &mut Frames, now: &mut Now) -> Result<(), Stop>
                 return Err(Stop::Unexpected);
             }
             let apply = apply(line_of(&callee), sign, callee, items);
-            *now = Now::Have(whole(apply, held));
+            now.set(Now::Have(whole(apply, held)));
             Ok(())
         }
         _ => Err(Stop::Unexpected),
@@ -374,22 +376,22 @@ fn other_operand(
     ensures { Steps (stack_of frames.new) (reached result now.new) (take_operand (stack_of frames.old) token.now.line token.now.text.now token.now.kind) }
 {
     if let Some(expr) = leaf_of(alloc, token)? {
-        *now = leaf(expr);
+        now.set(leaf(expr));
         return Ok(());
     }
     if let Some(prefix) = prefix(token.kind) {
-        *now = want(frames, Operand::Unary(token.line, prefix), NOTHING)?;
+        now.set(want(frames, Operand::Unary(token.line, prefix), NOTHING)?);
         return Ok(());
     }
     match opens_with(token.kind) {
-        Some(Opening::Parens) => *now = want(frames, Operand::Parens(token.line), NOTHING)?,
+        Some(Opening::Parens) => now.set(want(frames, Operand::Parens(token.line), NOTHING)?),
         Some(Opening::Close) => return no_arguments(frames, now),
-        Some(Opening::Valof) => *now = wants_command(frames, Clause::Valof(token.line), NOTHING)?,
+        Some(Opening::Valof) => now.set(wants_command(frames, Clause::Valof(token.line), NOTHING)?),
         Some(Opening::Table) => {
             if is_barred(frames) {
                 return Err(Stop::Unexpected);
             }
-            *now = want(frames, Operand::Table(token.line, Vec::new(alloc)), NOTHING)?;
+            now.set(want(frames, Operand::Table(token.line, Vec::new(alloc)), NOTHING)?);
         }
         None => return Err(Stop::Unexpected),
     }
@@ -401,8 +403,8 @@ pub fn operand(alloc: Global, frames: &mut Frames, now: &mut Now, token: &Token)
     ensures { Steps (stack_of frames.new) (reached result now.new) (take_operand (stack_of frames.old) token.now.line token.now.text.now token.now.kind) }
 {
     match token.kind {
-        Kind::Name => *now = leaf(Expr::Name(token.line, name(alloc, token.text)?)),
-        Kind::Number => *now = leaf(Expr::Number(token.line, number_word(token.text))),
+        Kind::Name => now.set(leaf(Expr::Name(token.line, name(alloc, token.text)?))),
+        Kind::Number => now.set(leaf(Expr::Number(token.line, number_word(token.text)))),
         _ => return other_operand(alloc, frames, now, token),
     }
     Ok(())
@@ -422,24 +424,26 @@ fn argument(
 ) -> Result<Flow, Stop>
     requires stops { goes 12 token.now.kind ≡ false }
     requires parts { parts ≡ both_of (held_in (Begun.Operand (o.Args sign callee items))) (size_of (expression last)) }
-    ensures flows { Answers frames.new now.new result token.now (give (in_args sign (expression callee.value) (expressions_in items.items) (stack_of frames.old)) (expression last)) }
+    ensures flows { Answers frames.new now.new result token.now (give (in_args sign (expression callee.value) (expressions_in items.items)
+        (stack_of frames.old)) (expression last)) }
     ensures lowers { Lowers frames.old frames.new result }
 {
     let mut items = items;
     items.push(last)?;
     if is_comma(token.kind) {
-        *now = want(frames, Operand::Args(sign, callee, items), parts)?;
+        now.set(want(frames, Operand::Args(sign, callee, items), parts)?);
         return Ok(Flow::Taken);
     }
     if is_close(token.kind) {
         let apply = apply(line_of(&callee), sign, callee, items);
-        *now = Now::Have(whole(apply, parts));
+        now.set(Now::Have(whole(apply, parts)));
         return Ok(Flow::Taken);
     }
     Err(Stop::Unexpected)
 }
 
 /// A number of a TABLE is complete.
+#[inline(never)]
 #[tactic(auto, using(bk_tree::proofs::Trees::one_more, bk_tree::proofs::Trees::more_sizes))]
 fn entry(
     frames: &mut Frames,
@@ -458,10 +462,10 @@ fn entry(
     let mut items = items;
     items.push(last)?;
     if is_comma(token.kind) {
-        *now = want(frames, Operand::Table(line, items), parts)?;
+        now.set(want(frames, Operand::Table(line, items), parts)?);
         return Ok(Flow::Taken);
     }
-    *now = Now::Have(whole(table(line, items), parts));
+    now.set(Now::Have(whole(table(line, items), parts)));
     Ok(Flow::Comes)
 }
 
@@ -484,6 +488,7 @@ fn shared_size(operator: Operator, right: &Sized) -> Size
 }
 
 /// The `&` of a chain of relations.
+#[inline(never)]
 fn chained(
     alloc: Global,
     operator: Operator,
@@ -494,7 +499,8 @@ fn chained(
     right: Sized,
 ) -> Result<Sized, AllocError>
     requires { parts ≡ held_in (Begun.Operand (o.Chain operator sign before shared)) }
-    ensures { IfOk result (λ whole. expression whole.expr ≡ binary (line_of (expression before.value)) Both sign (expression before.value) (binary (line_of (expression shared.value)) operator sign (expression shared.value) (expression right.expr))) }
+    ensures { IfOk result (λ whole. expression whole.expr ≡ binary (line_of (expression before.value)) Both sign (expression before.value)
+        (binary (line_of (expression shared.value)) operator sign (expression shared.value) (expression right.expr))) }
 {
     let line = line_of(&before);
     let part = right.size;
@@ -535,12 +541,12 @@ fn complete_with(
                 return Err(Stop::Unexpected);
             }
             let inner = Box::new(alloc, sized.expr)?;
-            *now = Now::Have(whole(Expr::Parens(line, inner), parts));
+            now.set(Now::Have(whole(Expr::Parens(line, inner), parts)));
             Ok(Flow::Taken)
         }
         Operand::Unary(line, prefix) => {
             let operand = Box::new(alloc, sized.expr)?;
-            *now = Now::Have(whole(Expr::Unary(line, prefix, operand), parts));
+            now.set(Now::Have(whole(Expr::Unary(line, prefix, operand), parts)));
             Ok(Flow::Comes)
         }
         Operand::Binary(operator, sign, left) => {
@@ -552,11 +558,11 @@ fn complete_with(
                 size: of_node(parts),
                 right: shared,
             };
-            *now = Now::Have(pair);
+            now.set(Now::Have(pair));
             Ok(Flow::Comes)
         }
         Operand::Chain(operator, sign, before, shared) => {
-            *now = Now::Have(chained(alloc, operator, sign, before, shared, held, sized)?);
+            now.set(Now::Have(chained(alloc, operator, sign, before, shared, held, sized)?));
             Ok(Flow::Comes)
         }
         Operand::Then(sign, condition) => {
@@ -564,13 +570,13 @@ fn complete_with(
                 return Err(Stop::Unexpected);
             }
             let yes = Box::new(alloc, sized.expr)?;
-            *now = want(frames, Operand::Else(sign, condition, yes), parts)?;
+            now.set(want(frames, Operand::Else(sign, condition, yes), parts)?);
             Ok(Flow::Taken)
         }
         Operand::Else(sign, condition, yes) => {
             let line = line_of(&condition);
             let no = Box::new(alloc, sized.expr)?;
-            *now = Now::Have(whole(Expr::Choice(line, sign, condition, yes, no), parts));
+            now.set(Now::Have(whole(Expr::Choice(line, sign, condition, yes, no), parts)));
             Ok(Flow::Comes)
         }
         Operand::Args(sign, callee, items) => argument(
@@ -596,7 +602,7 @@ pub fn complete(
     ensures lowers { Lowers frames.old frames.new result }
 {
     let Now::Have(sized) = mem::replace(now, Now::Due) else {
-        return Err(Stop::Unexpected);
+        return Err(refuse(begun));
     };
     complete_with(alloc, frames, now, begun, held, sized, token)
 }

@@ -2,6 +2,7 @@
 #![tactic(auto)]
 
 mod commands;
+mod declarations;
 mod definitions;
 mod expressions;
 mod laws;

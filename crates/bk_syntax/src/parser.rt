@@ -16,9 +16,10 @@ ghost use Rattle.bk_frames.specs.Bounds.{Always, Bounded};
 ghost use Rattle.bk_frames.specs.WaysOn.{Completes};
 
 use crate::commands::{again, command, complete_clause, complete_phrase, did, guarded};
-use crate::definitions::{at_place, complete_command, complete_member};
+use crate::declarations::{at_place, complete_command};
+use crate::definitions::complete_member;
 use crate::expressions::{complete, extends, go_on, operand};
-use crate::why::{Why, told};
+use crate::why::{Why, refuse, told};
 use bk_base::{Line, Refused, SourceFault};
 use bk_frames::frame::{Begun, Clause, Flow, Frame, Now, Size, Stop};
 use bk_frames::frames::Frames;
@@ -51,9 +52,9 @@ fn complete_part(
         Begun::Operand(operand) => complete(alloc, frames, now, operand, held, token),
         Begun::Phrase(phrase) => complete_phrase(alloc, frames, now, phrase, held, token),
         Begun::Member(member) => complete_member(alloc, frames, now, member, held, token),
-        Begun::Clause(_) => Err(Stop::Unexpected),
-        Begun::Place(_) => Err(Stop::Unexpected),
-        Begun::Point(_) => Err(Stop::Unexpected),
+        Begun::Clause(clause) => Err(refuse(clause)),
+        Begun::Place(place) => Err(refuse(place)),
+        Begun::Point(point) => Err(refuse(point)),
     }
 }
 
@@ -123,8 +124,9 @@ fn after_command(
     match begun {
         Begun::Clause(clause) => complete_clause(alloc, frames, now, clause, held, token),
         Begun::Place(place) => complete_command(frames, now, place, held, token),
-        Begun::Operand(_) | Begun::Phrase(_) => Err(Stop::Unexpected),
-        _ => Err(Stop::Unexpected),
+        Begun::Operand(operand) => Err(refuse(operand)),
+        Begun::Phrase(phrase) => Err(refuse(phrase)),
+        other => Err(refuse(other)),
     }
 }
 
@@ -185,15 +187,15 @@ fn without_command(
     let body = Box::new(alloc, Command::Empty)?;
     match clause {
         Clause::Label(line, letters) => {
-            *now = Now::Did(did(Command::Label(line, letters, body), held));
+            now.set(Now::Did(did(Command::Label(line, letters, body), held)));
             Ok(Flow::Comes)
         }
         Clause::Guarded(guard, line, condition) => {
-            *now = Now::Did(did(guarded(guard, line, condition, body), held));
+            now.set(Now::Did(did(guarded(guard, line, condition, body), held)));
             Ok(Flow::Comes)
         }
         Clause::Default(line) => {
-            *now = Now::Did(did(Command::Default(line, body), held));
+            now.set(Now::Did(did(Command::Default(line, body), held)));
             Ok(Flow::Comes)
         }
         _ => Err(Stop::Unexpected),
@@ -224,7 +226,8 @@ fn step_maybe(alloc: Global, frames: &mut Frames, now: &mut Now, token: &Token) 
 
 /// Takes the next symbol, a section bracket once for each section that it opens or closes.
 fn step(alloc: Global, frames: &mut Frames, now: &mut Now, token: &Token) -> Result<(), Stop>
-    ensures { Steps (stack_of frames.new) (reached result now.new) (stepped_by (state (stack_of frames.old) now.old) token.now.line token.now.text.now token.now.kind) }
+    ensures { Steps (stack_of frames.new) (reached result now.new) (stepped_by
+        (state (stack_of frames.old) now.old) token.now.line token.now.text.now token.now.kind) }
 {
     match now {
         Now::Want => operand(alloc, frames, now, token),
@@ -332,7 +335,8 @@ fn close<'a>(
     token: &Token<'a>,
 ) -> Result<(), Why>
     requires { closes token.now.kind ≡ true }
-    ensures { (u : List Symbol) → AfterSymbols u (tags opened.old.items) (state (stack_of frames.old) now.old) → Advances frames.new opened.new.items (answered (reached result now.new) token.now.line) u (symbol_of token.now) }
+    ensures { (u : List Symbol) → AfterSymbols u (tags opened.old.items) (state (stack_of frames.old) now.old) → Advances frames.new opened.new.items
+        (answered (reached result now.new) token.now.line) u (symbol_of token.now) }
 {
     match closings(opened.as_slice(), token.text) {
         Some(times) => {
@@ -352,7 +356,8 @@ fn open_section<'a>(
     token: &Token<'a>,
 ) -> Result<(), Why>
     requires { opens token.now.kind ≡ true }
-    ensures { (u : List Symbol) → AfterSymbols u (tags opened.old.items) (state (stack_of frames.old) now.old) → Advances frames.new opened.new.items (answered (reached result now.new) token.now.line) u (symbol_of token.now) }
+    ensures { (u : List Symbol) → AfterSymbols u (tags opened.old.items) (state (stack_of frames.old) now.old) → Advances frames.new opened.new.items
+        (answered (reached result now.new) token.now.line) u (symbol_of token.now) }
 {
     match opened.push(tag(token.text)) {
         Ok(()) => why_of(repeat_step(alloc, frames, now, token, 1)),
@@ -368,7 +373,8 @@ fn take<'a>(
     now: &mut Now,
     token: &Token<'a>,
 ) -> Result<(), Why>
-    ensures { (u : List Symbol) → AfterSymbols u (tags opened.old.items) (state (stack_of frames.old) now.old) → Advances frames.new opened.new.items (answered (reached result now.new) token.now.line) u (symbol_of token.now) }
+    ensures { (u : List Symbol) → AfterSymbols u (tags opened.old.items) (state (stack_of frames.old) now.old) → Advances frames.new opened.new.items
+        (answered (reached result now.new) token.now.line) u (symbol_of token.now) }
 {
     if closes(token.kind) {
         return close(alloc, frames, opened, now, token);
@@ -388,7 +394,8 @@ fn advance<'a>(
     token: &Token<'a>,
 ) -> Result<(), Why>
     ensures bounded { OnOk result (Completes Always (state (stack_of frames.new) now.new) → Bounded (state (stack_of frames.new) now.new)) }
-    ensures goes { (u : List Symbol) → AfterSymbols u (tags opened.old.items) (state (stack_of frames.old) now.old) → Advances frames.new opened.new.items (answered (reached result now.new) token.now.line) u (symbol_of token.now) }
+    ensures goes { (u : List Symbol) → AfterSymbols u (tags opened.old.items) (state (stack_of frames.old) now.old)
+        → Advances frames.new opened.new.items (answered (reached result now.new) token.now.line) u (symbol_of token.now) }
 {
     take(alloc, frames, opened, now, token)?;
     limit(frames, now)
@@ -442,6 +449,9 @@ fn at_end(
     }
 }
 
+/// The number of frames for which a section has room at first.
+const FIRST_FRAMES: usize = 16;
+
 /// The section that these symbols are, the end of which is on line `end`, or the fault that stands at a symbol: the first such
 /// that up to and with it no section within the limits begins.
 pub fn parse(alloc: Global, tokens: &[Token], end: Line) -> Result<Section, Refused<SourceFault>>
@@ -453,10 +463,11 @@ pub fn parse(alloc: Global, tokens: &[Token], end: Line) -> Result<Section, Refu
     // Where the symbols are a section within the limits, its tree is answered, unless memory keeps it back.
     ensures only { (ds : Declarations) → IsSection ds (symbols_of tokens.now) → Gives result ds }
 {
+    let above = Vec::with_capacity(alloc, FIRST_FRAMES)?;
     let mut frames = Frames {
         decls: Vec::new(alloc),
         held: NOTHING,
-        above: Vec::new(alloc),
+        above,
         rooms: Vec::new(alloc),
         alloc,
     };

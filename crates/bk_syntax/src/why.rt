@@ -1,8 +1,10 @@
 //! Why symbols are refused.
 ghost use Rattle.std.specs.Prelude.{◌≡◌};
 ghost use Rattle.bk_syntax.specs.Parsing.{told};
+ghost use Rattle.bk_frames.specs.declared.frame.Stop.TheVariants.{Unexpected};
 
 use bk_base::{Line, Refused, SourceFault, SourceKind};
+use bk_frames::frame::Stop;
 use std::alloc::AllocError;
 
 /// Why the symbols up to one are refused, without its line.
@@ -24,6 +26,15 @@ impl From<AllocError> for Why {
     fn from(_error: AllocError) -> Why {
         Why::Memory
     }
+}
+
+/// Refuses a symbol. The part is dropped here, so that no step has the code that drops it.
+#[cold]
+#[inline(never)]
+pub fn refuse<T: Drop>(_part: T) -> Stop
+    ensures { result ≡ Unexpected }
+{
+    Stop::Unexpected
 }
 
 /// What is told of it on this line.

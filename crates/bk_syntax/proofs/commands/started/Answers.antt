@@ -3,7 +3,7 @@ use Rattle.bk_tree.specs.Tree.{expression}
 use Rattle.bk_grammar.specs.Rows.{assigns}
 use Rattle.bk_frames.specs.Sizes.{size_of, size_of_action}
 use Rattle.bk_grammar.specs.Machine.{give, finish, in_start}
-use Rattle.bk_frames.specs.Frames.{stack_of}
+use Rattle.bk_frames.specs.Frames.{stack_of, after}
 use Rattle.bk_tree.proofs.Trees.{Apply_is}
 use Rattle.bk_frames.proofs.Turns.{call_done}
 use Rattle.bk_syntax.proofs.commands.started.Goals as goal
@@ -16,6 +16,7 @@ returns-in-Apply-clause-answers c =
     ap (λ x. give (in_start st) x t.line t.text.now t.kind) (ap expression c.in-Apply.is ∙ Apply_is _ _ c.in-Apply.callee c.in-Apply.items)
     ∙ call_done st _ _ _ _ t.line t.text.now t.kind c.requires other
     ∙ ap (λ y. finish st y t.line t.text.now t.kind) (sym c.call.ensures)
+    ∙ ap (λ n. after st n t.line t.text.now t.kind) (sym c.set.ensures)
 
 pub invariant_of-done : goal.invariant_of-done
 invariant_of-done c = record {

@@ -6,7 +6,7 @@ use Rattle.bk_tree.specs.Parts.{line_of}
 use Rattle.bk_frames.specs.Sizes.{size_if}
 use Rattle.bk_grammar.specs.Machine.{limit, give}
 use Rattle.bk_frames.specs.Begun.{operand_on}
-use Rattle.bk_frames.specs.Frames.{stack_of}
+use Rattle.bk_frames.specs.Frames.{stack_of, after}
 use Rattle.bk_frames.proofs.Turns.{unary_done, binary_done}
 use Rattle.bk_syntax.proofs.expressions.complete_with.Goals as goal
 
@@ -20,6 +20,7 @@ returns-in_ok-operand-in-Unary-clause-flows c =
     ap (λ b. give (operand_on b st) e t.line t.text.now t.kind) c.in-Unary.is
     ∙ unary_done c.in-Unary.line c.in-Unary.prefix st e t.line t.text.now t.kind stops
     ∙ ap (λ y. give st y t.line t.text.now t.kind) (sym made)
+    ∙ ap (λ n. after st n t.line t.text.now t.kind) (sym c.set-in-Unary.ensures)
 
 pub returns-in_ok-right-in-Binary-clause-flows : goal.returns-in_ok-right-in-Binary-clause-flows
 returns-in_ok-right-in-Binary-clause-flows c =
@@ -32,6 +33,7 @@ returns-in_ok-right-in-Binary-clause-flows c =
     ap (λ b. give (operand_on b st) e t.line t.text.now t.kind) c.in-Binary.is
     ∙ binary_done c.in-Binary.operator c.in-Binary.sign a st e t.line t.text.now t.kind stops
     ∙ ap (λ y. give st y t.line t.text.now t.kind) (sym made)
+    ∙ ap (λ n. after st n t.line t.text.now t.kind) (sym c.set-in-Binary.ensures)
 
 pub invariant_of-pair-clause-shares : goal.invariant_of-pair-clause-shares
 invariant_of-pair-clause-shares c =

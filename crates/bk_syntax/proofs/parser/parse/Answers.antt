@@ -9,8 +9,8 @@ use Rattle.bk_syntax.proofs.parser.parse.Goals as goal
 
 pub loop-token-init : goal.loop-token-init
 loop-token-init c = (
-  from_nothing c.new.result.items c.new-2.result.items c.new-opened.result.items c.new.ensures.items c.new-2.ensures.items c.new-opened.ensures.items,
-  empty_bounded c.new.result.items c.new-2.result.items c.new.ensures.items c.new-2.ensures.items,
+  from_nothing c.new.result.items c.in_ok-above.above.items c.new-opened.result.items c.new.ensures.items c.in_ok-above.ensures.items c.new-opened.ensures.items,
+  empty_bounded c.new.result.items c.in_ok-above.above.items c.new.ensures.items c.in_ok-above.ensures.items,
 )
 
 pub loop-token-preserved : goal.loop-token-preserved
