@@ -200,7 +200,6 @@ pub fn end_piece(state: State) -> Result<Ended, Fault>
 }
 
 /// The state after the word GET. Where the string of another GET was due, the word is a fault.
-#[inline(always)]
 fn ended_get(state: State) -> Result<State, Fault>
     ensures { ended_get_as result ≡ ended_what state Get }
 {
@@ -279,7 +278,6 @@ fn begin_piece(state: &mut State, mode: Mode, byte: u8) -> Result<(), Fault>
 }
 
 /// The piece that begins where the string of a GET is due.
-#[inline(always)]
 fn in_get(mode: Mode) -> Result<Mode, Fault>
     ensures { result ≡ in_get mode }
 {
@@ -291,7 +289,6 @@ fn in_get(mode: Mode) -> Result<Mode, Fault>
 }
 
 /// The number of symbols of a header, without the two that its GET counted before.
-#[inline(always)]
 fn header_rest(header: Header) -> u32
     ensures { result ≡ header_rest header }
 {

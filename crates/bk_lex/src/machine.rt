@@ -1,10 +1,11 @@
 //! The machine that cuts a text into pieces, byte after byte: blanks, comments and symbols, each the longest there.
-ghost use Rattle.std.specs.Prelude.{◌≡◌, ◌+◌, ◌<◌, ◌≤◌, nat_le, true, if◌then◌else◌};
+ghost use Rattle.std.specs.Prelude.{◌≡◌, ◌+◌, ◌<◌, ◌≤◌, nat_le, true, if◌then◌else◌, OnOk, IfOk, IfErr, MatchOption};
 ghost use Rattle.bk_lex.specs.Bytes.{is_escape, is_hexadecimal, digit_value, is_name_byte, is_feed};
 ghost use Rattle.bk_lex.specs.Machine.{fresh, next, piece, end_fault, is_digit_of, digits_in, digits_with, one_more, word_next, hash_next, first_digit, tag_next, text_next, star_next, quote_next, name_next, sign_next};
 ghost use Rattle.bk_lex.specs.declared.machine.Fault.TheVariants.{NameTooLong};
-ghost use Rattle.bk_lex.specs.declared.machine.Mode.TheVariants.{Word};
-ghost use Rattle.bk_lex.specs.declared.machine.Next.TheVariants.{Goes, Bad};
+ghost use Rattle.bk_lex.specs.declared.machine.Mode.TheVariants.{Word, Name};
+ghost use Rattle.bk_lex.specs.declared.machine.Next.{Next};
+ghost use Rattle.bk_lex.specs.declared.machine.Next.TheVariants.{Goes, Names, Bad};
 
 use crate::reserved::{What, longer_code, what_of_word};
 use crate::sign::{Sign, grown, kind_of, sign_of};
@@ -162,7 +163,6 @@ fn with_digit(base: Base, value: u32, byte: u8) -> Next
 }
 
 /// Whether a byte may follow a `*`.
-#[inline(always)]
 fn is_escape(byte: u8) -> bool
     ensures { result ≡ is_escape byte }
 {
@@ -261,7 +261,6 @@ fn after_word(length: u32, code: u64, byte: u8) -> Next
 }
 
 /// A byte after `#`.
-#[inline(always)]
 fn after_hash(byte: u8) -> Next
     ensures { result ≡ hash_next byte }
 {
@@ -273,7 +272,6 @@ fn after_hash(byte: u8) -> Next
 }
 
 /// A byte where the first digit of a number is due.
-#[inline(always)]
 fn first_digit(base: Base, byte: u8) -> Next
     ensures { result ≡ first_digit base byte }
 {
@@ -313,22 +311,33 @@ fn in_text(held: u32, byte: u8) -> Next
     }
 }
 
+/// The fault of a byte after a `*`, if it is one. The answer fits registers, so that no `Next` is kept in memory for this call.
+#[inline(never)]
+fn star_fault(byte: u8) -> Result<(), Fault>
+    ensures goes { OnOk result ((whole : Next) → star_next byte whole ≡ whole) }
+    ensures bad { IfErr result (λ fault. (whole : Next) → star_next byte whole ≡ Bad fault) }
+{
+    if is_feed(byte) {
+        Err(Fault::BadString)
+    } else if is_escape(byte) {
+        Ok(())
+    } else {
+        Err(Fault::BadEscape)
+    }
+}
+
 /// The effect of a byte after a `*`: that of the escape, or a fault.
 #[inline(always)]
 fn after_star(byte: u8, whole: Next) -> Next
     ensures { result ≡ star_next byte whole }
 {
-    if is_feed(byte) {
-        Next::Bad(Fault::BadString)
-    } else if is_escape(byte) {
-        whole
-    } else {
-        Next::Bad(Fault::BadEscape)
+    match star_fault(byte) {
+        Ok(()) => whole,
+        Err(fault) => Next::Bad(fault),
     }
 }
 
 /// A byte after the first quote of a character constant.
-#[inline(always)]
 fn after_quote(byte: u8) -> Next
     ensures { result ≡ quote_next byte }
 {
@@ -341,21 +350,35 @@ fn after_quote(byte: u8) -> Next
     }
 }
 
+/// The header that a byte completes in the string of a GET, if it completes one. The answer fits registers, as that of `star_fault`.
+#[inline(never)]
+fn name_step(length: u32, byte: u8) -> Result<Option<Header>, Fault>
+    ensures goes { IfOk result (λ named. MatchOption named ((length < 7) × (name_next length byte ≡ Goes (Name (length + 1))))
+        (λ header. name_next length byte ≡ Names header)) }
+    ensures bad { IfErr result (λ fault. name_next length byte ≡ Bad fault) }
+{
+    if is_feed(byte) {
+        Err(Fault::BadString)
+    } else if byte == b'"' && length == 6 {
+        Ok(Some(Header::Plain))
+    } else if byte == b'"' && length == 7 {
+        Ok(Some(Header::Formatted))
+    } else if length < 7 && byte.to_ascii_uppercase() == HEADER_NAME[length as usize] {
+        Ok(None)
+    } else {
+        Err(Fault::BadGet)
+    }
+}
+
 /// A byte in the string of a GET.
 #[inline(always)]
 fn in_name(length: u32, byte: u8) -> Next
     ensures { result ≡ name_next length byte }
 {
-    if is_feed(byte) {
-        Next::Bad(Fault::BadString)
-    } else if byte == b'"' && length == 6 {
-        Next::Names(Header::Plain)
-    } else if byte == b'"' && length == 7 {
-        Next::Names(Header::Formatted)
-    } else if length < 7 && byte.to_ascii_uppercase() == HEADER_NAME[length as usize] {
-        Next::Goes(Mode::Name(length + 1))
-    } else {
-        Next::Bad(Fault::BadGet)
+    match name_step(length, byte) {
+        Ok(None) => Next::Goes(Mode::Name(length + 1)),
+        Ok(Some(header)) => Next::Names(header),
+        Err(fault) => Next::Bad(fault),
     }
 }
 
