@@ -1,14 +1,15 @@
 //! The machine with its counts: bytes and symbols, what is inserted between neighbours, and GET.
-ghost use Rattle.std.specs.Prelude.{◌≡◌, nat_lt, true, Ok, Err, OnErr};
+ghost use Rattle.std.specs.Prelude.{◌≡◌, nat_lt, true, false, Ok, Err, OnErr};
 ghost use Rattle.bk_lex.specs.Bytes.{is_blank};
 ghost use Rattle.bk_lex.specs.Insertion.{ends_operand, ends_command, begins_command, begins_statement, inserted};
 ghost use Rattle.bk_lex.specs.Machine.{next};
 ghost use Rattle.bk_lex.specs.declared.machine.Mode.TheVariants.{Blank};
 ghost use Rattle.bk_lex.specs.declared.reserved.What.TheVariants.{Gap, Get};
+ghost use Rattle.bk_lex.specs.declared.counting.Act.TheVariants.{Goes};
 ghost use Rattle.bk_lex.specs.Counting.{step_of, step_as, within, ended, ended_what, ended_symbol, ended_get_as, opened_by, begun, begun_as, finished, start, moved, header_rest, in_get, room_for, least_room, named, opened};
 
-use crate::machine::{Fault, Header, Mode, Next, begin, end_fault, follow, what_of};
-use crate::reserved::What;
+use crate::machine::{Fault, Header, LONGEST, Mode, Next, begin, end_fault, follow, what_of};
+use crate::reserved::{What, longer_code};
 use crate::sign::Sign;
 use crate::token::Kind;
 
@@ -398,12 +399,30 @@ fn blank_again(state: &mut State, byte: u8) -> Act
     Act::Begins(Given::Nothing)
 }
 
+/// Whether a letter goes on with a word. Most bytes are such letters, so they come before all others.
+#[inline(always)]
+fn goes_on_with_word(state: &mut State, byte: u8) -> bool
+    ensures goes { result ≡ true → step_as (Ok Goes) state.new ≡ moved state.old byte (next state.old.mode byte) }
+    ensures stays { result ≡ false → state.new ≡ state.old }
+{
+    if let Mode::Word(length, code) = state.mode {
+        if byte.is_ascii_alphabetic() && length < LONGEST {
+            state.mode = Mode::Word(length + 1, longer_code(code, byte));
+            return true;
+        }
+    }
+    false
+}
+
 /// The effect of a byte, whatever the number of bytes.
 #[inline(always)]
 fn moved(state: &mut State, byte: u8) -> Result<Act, Fault>
     ensures answers { step_as result state.new ≡ moved state.old byte (next state.old.mode byte) }
     ensures keeps { OnErr result (state.new ≡ state.old) }
 {
+    if goes_on_with_word(state, byte) {
+        return Ok(Act::Goes);
+    }
     if matches!(state.mode, Mode::Blank) && is_blank(byte) {
         return Ok(blank_again(state, byte));
     }

@@ -104,7 +104,7 @@ pub enum Next {
 }
 
 /// The longest name and tag, and the most bytes in a string.
-const LONGEST: u32 = 255;
+pub const LONGEST: u32 = 255;
 
 /// The name of the header with WRITEF in the string of a GET. Without its last byte it is the name of the other.
 static HEADER_NAME: [u8; 7] = *b"LIBHDR2";
