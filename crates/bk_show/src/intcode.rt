@@ -1,57 +1,32 @@
 //! The items of INTCODE of a section, each with what it does.
 
+use crate::entries::Entries;
 use crate::instruction::{Instruction, put_instruction, say_instruction};
 use crate::text::Text;
 use bk_base::Line;
 use bk_intcode::{Intcode, Item};
-use bk_ocode::{Ocode, Stmt};
+use bk_ocode::Ocode;
 use std::alloc::{AllocError, Global};
 
 /// The column of what an item does.
 const MEANING: usize = 24;
 
-/// Which statements are ENTRY.
-fn entries_of(alloc: Global, stmts: &[Stmt]) -> Result<Vec<usize>, AllocError> {
-    let mut entries = Vec::new(alloc);
-    for (i, stmt) in stmts.iter().enumerate() {
-        if let Stmt::Entry { .. } = stmt {
-            entries.push(i)?;
-        }
-    }
-    Ok(entries)
-}
-
 /// Items that are put.
 #[derive(Drop)]
 struct Walk<'s, 'l> {
     text: Text,
-    /// The statements from which the items come.
-    stmts: &'s [Stmt],
-    /// Which of them begin a procedure.
-    entries: Vec<usize>,
+    /// The procedures of the statements from which the items come.
+    entries: Entries<'s>,
     /// The lines of the procedures.
     lines: &'l [Line],
-    /// How many procedures were met.
-    met: usize,
     /// Whether the line of bytes is not ended.
     in_bytes: bool,
 }
 
-impl<'s> Walk<'s, '_> {
-    /// The name of the procedure that begins at a label, if it is the next.
-    fn entry_at(&self, set: u32) -> Option<&'s [u8]> {
-        let at = self.entries.get(self.met).copied()?;
-        match self.stmts.get(at) {
-            Some(Stmt::Entry { label, name }) if *label == set => Some(name.as_bytes()),
-            _ => None,
-        }
-    }
-
+impl Walk<'_, '_> {
     /// Begins the line of a procedure, which is the next.
     fn begin_procedure(&mut self) -> Result<(), AllocError> {
-        let line = self.lines.get(self.met).copied();
-        self.met = self.met.saturating_add(1);
-        match line {
+        match self.lines.get(self.entries.pass()).copied() {
             Some(line) => self.text.begin(line),
             None => self.text.begin_without(),
         }
@@ -88,7 +63,7 @@ impl<'s> Walk<'s, '_> {
 
     /// Adds the line of a label that is set.
     fn label(&mut self, label: u32) -> Result<(), AllocError> {
-        match self.entry_at(label) {
+        match self.entries.name_at(label) {
             Some(name) => {
                 self.begin_procedure()?;
                 self.put_label(label)?;
@@ -203,10 +178,8 @@ pub fn intcode_text(
 ) -> Result<Text, AllocError> {
     let mut walk = Walk {
         text: Text::new(alloc),
-        stmts: section.stmts(),
-        entries: entries_of(alloc, section.stmts())?,
+        entries: Entries::of(alloc, section.stmts())?,
         lines: procedures,
-        met: 0,
         in_bytes: false,
     };
     walk.text.say("  line  item            what it does")?;

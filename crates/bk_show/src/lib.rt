@@ -2,12 +2,14 @@
 //! its INTCODE.
 #![tactic(auto)]
 
+mod entries;
 mod header;
 mod instruction;
 mod intcode;
 mod names;
 mod ocode;
 mod part;
+mod procedures;
 mod section;
 mod spelling;
 mod text;
@@ -16,5 +18,6 @@ mod trace;
 mod tree;
 
 pub use part::Part;
+pub use procedures::Procedures;
 pub use section::{NotShown, Shown, show};
-pub use trace::{Step, put_heading, put_step};
+pub use trace::{Step, put_heading, put_other, put_procedure, put_step};

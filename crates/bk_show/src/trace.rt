@@ -17,7 +17,9 @@ const ADDRESS_PLACES: usize = 9;
 
 const WORD_PLACES: usize = 12;
 
-/// The columns of the registers, and of what the step does.
+/// The columns of the word, of the registers, and of what the step does.
+const WORD: usize = 19;
+
 const REGISTERS: usize = 33;
 
 const MEANING: usize = 77;
@@ -133,6 +135,42 @@ pub fn put_heading<O: ByteOut>(alloc: Global, out: &mut O) -> Result<(), NotShow
     ensures failed { result ≡ Err Device → O.faults out.new ≡ 1 }
 {
     put_text(&heading(alloc)?, out)
+}
+
+/// The line that tells that the OCODE is not the one from which the INTCODE was generated.
+fn other_text(alloc: Global) -> Result<Text, AllocError> {
+    let mut text = Text::new(alloc);
+    text.say("no names: the INTCODE was not generated from this OCODE")?;
+    text.end()?;
+    Ok(text)
+}
+
+/// Writes the line that tells that the OCODE is not the one from which the INTCODE was generated.
+pub fn put_other<O: ByteOut>(alloc: Global, out: &mut O) -> Result<(), NotShown>
+    ensures grows { Begins (O.taken out.old) (O.taken out.new) }
+    ensures passes { Begins (O.passed out.old) (O.passed out.new) }
+    ensures failed { result ≡ Err Device → O.faults out.new ≡ 1 }
+{
+    put_text(&other_text(alloc)?, out)
+}
+
+/// The line above the steps of a procedure.
+fn procedure_text(alloc: Global, name: &[u8]) -> Result<Text, AllocError> {
+    let mut text = Text::new(alloc);
+    text.go_to(WORD)?;
+    text.say("in ")?;
+    text.spell(name)?;
+    text.end()?;
+    Ok(text)
+}
+
+/// Writes the line above the steps of a procedure, with its name.
+pub fn put_procedure<O: ByteOut>(alloc: Global, name: &[u8], out: &mut O) -> Result<(), NotShown>
+    ensures grows { Begins (O.taken out.old) (O.taken out.new) }
+    ensures passes { Begins (O.passed out.old) (O.passed out.new) }
+    ensures failed { result ≡ Err Device → O.faults out.new ≡ 1 }
+{
+    put_text(&procedure_text(alloc, name)?, out)
 }
 
 /// Writes the line of a step: its number, the address and the word that is executed, the registers after it, and what the word
