@@ -10,6 +10,7 @@ _bcpl() {
     case $before in
         -s|-t) return ;;
         --only) mapfile -t COMPREPLY < <(compgen -W 'all tokens tree names ocode intcode' -- "$word"); return ;;
+        --ocode) compopt -o filenames; mapfile -t COMPREPLY < <(compgen -f -X '!*.ocode' -- "$word"; compgen -d -- "$word"); return ;;
     esac
     case ${COMP_WORDS[1]} in
         help) mapfile -t COMPREPLY < <(compgen -W "$subcommands" -- "$word"); return ;;
@@ -17,7 +18,7 @@ _bcpl() {
         run) options='-s -t -h --help' ending=b ;;
         check) options='-t -h --help' ending=b ;;
         show) options='--only -h --help' ending=b ;;
-        interpret) options='-s -t --sizes --trace -h --help' ending=int ;;
+        interpret) options='-s -t --sizes --trace --ocode -h --help' ending=int ;;
         *) return ;;
     esac
     case $word in

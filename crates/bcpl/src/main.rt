@@ -8,19 +8,30 @@ use bk_base::{ByteOut, Reader512, Writer512};
 use bk_kit::{LineFault, Order, order, refuse, serve};
 use by_lines::ByLines;
 use opened::{Opened, open};
+use std::fs::File;
 use std::io::{ErrorKind, IsTerminal};
 use std::process::ExitCode;
 use std::{env, io};
 
+/// The file of this name, if there is one and it could be opened.
+fn opened_at(rt: &HostRuntime, name: Option<&str>) -> Option<File> {
+    open(rt, name?).ok()
+}
+
 /// Does what is ordered, with these streams for output and lines, and answers the status.
 fn done<O: ByteOut, E: ByteOut>(rt: &HostRuntime, order: &Order, out: &mut O, err: &mut E) -> u8 {
-    let opened = match order.file() {
-        Some(name) => open(rt, name).ok(),
-        None => None,
-    };
-    let mut file = Reader512::new(Opened::new(opened));
+    let mut file = Reader512::new(Opened::new(opened_at(rt, order.file())));
+    let mut names = Reader512::new(Opened::new(opened_at(rt, order.ocode())));
     let mut input = Reader512::new(rt.stdin());
-    serve(rt.alloc(), order, &mut file, &mut input, out, err)
+    serve(
+        rt.alloc(),
+        order,
+        &mut file,
+        &mut names,
+        &mut input,
+        out,
+        err,
+    )
 }
 
 /// What is reported where the words of the command line can't be had: memory was refused, or one of them is not UTF-8.

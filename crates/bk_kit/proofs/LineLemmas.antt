@@ -8,7 +8,7 @@ use Rattle.clap.specs.declared.parser.matches.ArgMatches.TheViews.{out-ArgMatche
 use Rattle.clap.specs.declared.parser.matches.SubCommand.{SubCommand}
 use Rattle.clap.specs.Words.{rows_of, found_of, subcommand_name_of, subcommand_rows, subcommand_rows_of}
 use Rattle.clap.specs.Faults.{is_simple_and_free, fault_of}
-use Rattle.clap.specs.Words.{App, Row, Text, ReadsOne, IsAmong, one_of, subcommand_of, takes}
+use Rattle.clap.specs.Words.{App, Row, Text, ReadsOne, IsAmong, one_of, first_of, subcommand_of, takes}
 use Rattle.clap.specs.declared.error.kind.ErrorKind.{ErrorKind}
 use Rattle.clap.specs.declared.error.kind.ErrorKind.TheVariants as kind
 use Rattle.bk_kit.specs.declared.command_line.LineFault.{LineFault}
@@ -92,49 +92,96 @@ found_subcommand m r name values names rows is =
 
 -- ---- why words give no order
 
--- the values of `interpret` where nothing says whether the sizes are asked for
-pub sizes_refused : (rows : List Row) (asked : Option Bool) → asked ≡ None → ((b : Bool) → one_of (codes "sizes") rows ≡ Some (truth_text b) → IsSome asked)
-    → RefusesValues (Some (codes "interpret", rows)) Bad
-sizes_refused rows asked none given (Compile, limits, reads) = let e : 9 ≡ 7 = ap (λ (t : Text). length t) reads in omega (arith, e)
-sizes_refused rows asked none given (Generate, limits, reads) = let e : 9 ≡ 8 = ap (λ (t : Text). length t) reads in omega (arith, e)
-sizes_refused rows asked none given (Run bounds file, limits, reads) = let e : 9 ≡ 3 = ap (λ (t : Text). length t) reads.0 in omega (arith, e)
-sizes_refused rows asked none given (Check turns file, limits, reads) = let e : 9 ≡ 5 = ap (λ (t : Text). length t) reads.0 in omega (arith, e)
-sizes_refused rows asked none given (Show part file, limits, reads) = let e : 9 ≡ 4 = ap (λ (t : Text). length t) reads.0 in omega (arith, e)
-sizes_refused rows asked none given (ShowInput part, limits, reads) = let e : 9 ≡ 4 = ap (λ (t : Text). length t) reads.0 in omega (arith, e)
-sizes_refused rows asked none given (Interpret bounds file, limits, reads) = let e : IsSome {T = Bool} None = subst (λ (o : Option Bool). IsSome o) none (given false reads.1) in cc
-sizes_refused rows asked none given (Trace bounds file, limits, reads) = let e : IsSome {T = Bool} None = subst (λ (o : Option Bool). IsSome o) none (given false reads.1) in cc
-sizes_refused rows asked none given (Sizes words file, limits, reads) = let e : IsSome {T = Bool} None = subst (λ (o : Option Bool). IsSome o) none (given true reads.1) in cc
+-- An order that the values of `interpret` give: it has the limits that they give, and says whether sizes and steps are asked for.
+record Asks (rows : List Row) : Type 0 where
+  limits : Bounds
+  are_limits : AreLimits limits
+  reads : ReadsLimits rows limits
+  sizes : Bool
+  asks_sizes : one_of (codes "sizes") rows ≡ Some (truth_text sizes)
+  trace : Bool
+  asks_trace : sizes ≡ false → one_of (codes "trace") rows ≡ Some (truth_text trace)
+  named : sizes ≡ false → trace ≡ false → first_of (codes "ocode") rows ≡ None
 
--- and where nothing says whether the steps are asked for
-pub trace_refused : (rows : List Row) (asked : Option Bool) → one_of (codes "sizes") rows ≡ Some (truth_text false) → asked ≡ None
-    → ((b : Bool) → one_of (codes "trace") rows ≡ Some (truth_text b) → IsSome asked) → RefusesValues (Some (codes "interpret", rows)) Bad
-trace_refused rows asked unasked none given (Compile, limits, reads) = let e : 9 ≡ 7 = ap (λ (t : Text). length t) reads in omega (arith, e)
-trace_refused rows asked unasked none given (Generate, limits, reads) = let e : 9 ≡ 8 = ap (λ (t : Text). length t) reads in omega (arith, e)
-trace_refused rows asked unasked none given (Run bounds file, limits, reads) = let e : 9 ≡ 3 = ap (λ (t : Text). length t) reads.0 in omega (arith, e)
-trace_refused rows asked unasked none given (Check turns file, limits, reads) = let e : 9 ≡ 5 = ap (λ (t : Text). length t) reads.0 in omega (arith, e)
-trace_refused rows asked unasked none given (Show part file, limits, reads) = let e : 9 ≡ 4 = ap (λ (t : Text). length t) reads.0 in omega (arith, e)
-trace_refused rows asked unasked none given (ShowInput part, limits, reads) = let e : 9 ≡ 4 = ap (λ (t : Text). length t) reads.0 in omega (arith, e)
-trace_refused rows asked unasked none given (Interpret bounds file, limits, reads) = let e : IsSome {T = Bool} None = subst (λ (o : Option Bool). IsSome o) none (given false reads.2) in cc
-trace_refused rows asked unasked none given (Trace bounds file, limits, reads) = let e : IsSome {T = Bool} None = subst (λ (o : Option Bool). IsSome o) none (given true reads.2) in cc
-trace_refused rows asked unasked none given (Sizes words file, limits, reads) = let e : Some (truth_text false) ≡ Some (truth_text true) = sym unasked ∙ reads.1 in cc
+asked_by : (rows : List Row) → IsOrder (Some (codes "interpret", rows)) → Asks rows
+asked_by rows (Compile, limits, reads) = let e : 9 ≡ 7 = ap (λ (t : Text). length t) reads in absurd (omega (arith, e))
+asked_by rows (Generate, limits, reads) = let e : 9 ≡ 8 = ap (λ (t : Text). length t) reads in absurd (omega (arith, e))
+asked_by rows (Run bounds file, limits, reads) = let e : 9 ≡ 3 = ap (λ (t : Text). length t) reads.0 in absurd (omega (arith, e))
+asked_by rows (Check turns file, limits, reads) = let e : 9 ≡ 5 = ap (λ (t : Text). length t) reads.0 in absurd (omega (arith, e))
+asked_by rows (Show part file, limits, reads) = let e : 9 ≡ 4 = ap (λ (t : Text). length t) reads.0 in absurd (omega (arith, e))
+asked_by rows (ShowInput part, limits, reads) = let e : 9 ≡ 4 = ap (λ (t : Text). length t) reads.0 in absurd (omega (arith, e))
+asked_by rows (Interpret bounds file, limits, reads) = record {
+  limits = bounds;
+  are_limits = limits;
+  reads = reads.3;
+  sizes = false;
+  asks_sizes = reads.1;
+  trace = false;
+  asks_trace = λ not. reads.2;
+  named = λ not none. reads.5;
+}
+asked_by rows (Trace bounds file ocode, limits, reads) = record {
+  limits = bounds;
+  are_limits = limits;
+  reads = reads.3;
+  sizes = false;
+  asks_sizes = reads.1;
+  trace = true;
+  asks_trace = λ not. reads.2;
+  named = λ not none. absurd (let e : true ≡ false = none in cc);
+}
+asked_by rows (Sizes words file, limits, reads) =
+    let found = reads.2 in record {
+      limits = record { steps = found.0; words = words };
+      are_limits = (found.1, found.2, limits.0, limits.1);
+      reads = found.3;
+      sizes = true;
+      asks_sizes = reads.1;
+      trace = false;
+      asks_trace = λ not. absurd (let e : true ≡ false = not in cc);
+      named = λ not none. absurd (let e : true ≡ false = not in cc);
+    }
 
--- and where they have no limits
-pub limits_refused : (rows : List Row) (read : Option Bounds) → read ≡ None → ((limits : Bounds) → AreLimits limits → ReadsLimits rows limits → IsSome read)
-    → RefusesValues (Some (codes "interpret", rows)) Bad
-limits_refused rows read none given (Compile, limits, reads) = let e : 9 ≡ 7 = ap (λ (t : Text). length t) reads in omega (arith, e)
-limits_refused rows read none given (Generate, limits, reads) = let e : 9 ≡ 8 = ap (λ (t : Text). length t) reads in omega (arith, e)
-limits_refused rows read none given (Run bounds file, limits, reads) = let e : 9 ≡ 3 = ap (λ (t : Text). length t) reads.0 in omega (arith, e)
-limits_refused rows read none given (Check turns file, limits, reads) = let e : 9 ≡ 5 = ap (λ (t : Text). length t) reads.0 in omega (arith, e)
-limits_refused rows read none given (Show part file, limits, reads) = let e : 9 ≡ 4 = ap (λ (t : Text). length t) reads.0 in omega (arith, e)
-limits_refused rows read none given (ShowInput part, limits, reads) = let e : 9 ≡ 4 = ap (λ (t : Text). length t) reads.0 in omega (arith, e)
-limits_refused rows read none given (Interpret bounds file, limits, reads) =
-    let e : IsSome {T = Bounds} None = subst (λ (o : Option Bounds). IsSome o) none (given bounds limits reads.3) in cc
-limits_refused rows read none given (Trace bounds file, limits, reads) =
-    let e : IsSome {T = Bounds} None = subst (λ (o : Option Bounds). IsSome o) none (given bounds limits reads.3) in cc
-limits_refused rows read none given (Sizes words file, limits, reads) =
-    let found = reads.2 in
-    let bounds : Bounds = record { steps = found.0; words = words } in
-    let e : IsSome {T = Bounds} None = subst (λ (o : Option Bounds). IsSome o) none (given bounds (found.1, found.2, limits.0, limits.1) found.3) in cc
+no_answer : {A : Type 0} (o : Option A) → o ≡ None → IsSome o → ⊥
+no_answer {A = A} None none some = let e : IsSome {T = A} None = some in cc
+no_answer {A = A} (Some a) none some = let e : Some a ≡ None = none in cc
+
+-- two truth values that one text names
+one_truth : (text : Option Text) (a b : Bool) → text ≡ Some (truth_text a) → text ≡ Some (truth_text b) → a ≡ b
+one_truth text true true first second = refl
+one_truth text false false first second = refl
+one_truth text true false first second = absurd (let e : Some (truth_text true) ≡ Some (truth_text false) = sym first ∙ second in cc)
+one_truth text false true first second = absurd (let e : Some (truth_text false) ≡ Some (truth_text true) = sym first ∙ second in cc)
+
+module _ (rows : List Row) where
+  -- the values of `interpret` where nothing says whether the sizes are asked for
+  pub sizes_refused : (asked : Option Bool) → asked ≡ None → ((b : Bool) → one_of (codes "sizes") rows ≡ Some (truth_text b) → IsSome asked)
+      → RefusesValues (Some (codes "interpret", rows)) Bad
+  sizes_refused asked none given order = let a = asked_by rows order in no_answer asked none (given a.sizes a.asks_sizes)
+
+  -- and where they have no limits
+  pub limits_refused : (read : Option Bounds) → read ≡ None → ((limits : Bounds) → AreLimits limits → ReadsLimits rows limits → IsSome read)
+      → RefusesValues (Some (codes "interpret", rows)) Bad
+  limits_refused read none given order = let a = asked_by rows order in no_answer read none (given a.limits a.are_limits a.reads)
+
+  module _ (unasked : one_of (codes "sizes") rows ≡ Some (truth_text false)) where
+    -- and where nothing says whether the steps are asked for
+    pub trace_refused : (asked : Option Bool) → asked ≡ None → ((b : Bool) → one_of (codes "trace") rows ≡ Some (truth_text b) → IsSome asked)
+        → RefusesValues (Some (codes "interpret", rows)) Bad
+    trace_refused asked none given order =
+        let a = asked_by rows order in
+        no_answer asked none (given a.trace (a.asks_trace (one_truth (one_of (codes "sizes") rows) a.sizes false a.asks_sizes unasked)))
+
+    -- and where OCODE is named, but no steps are asked for
+    pub names_refused : (given : Option (Bor Text)) → one_of (codes "trace") rows ≡ Some (truth_text false) → option_map (λ s. s.now) given ≡ first_of (codes "ocode") rows
+        → IsSome given → RefusesValues (Some (codes "interpret", rows)) Bad
+    names_refused None untraced same some order = let e : IsSome {T = Bor Text} None = some in cc
+    names_refused (Some name) untraced same some order =
+        let a = asked_by rows order in
+        let not_sizes = one_truth (one_of (codes "sizes") rows) a.sizes false a.asks_sizes unasked in
+        let not_trace = one_truth (one_of (codes "trace") rows) a.trace false (a.asks_trace not_sizes) untraced in
+        let e : Some name.now ≡ None = same ∙ a.named not_sizes not_trace in
+        cc
 
 -- the kit's command is one whose faults clap tells
 pub faults_told : (app : App) (A : App → Type 0) → app ≡ kit_command → (is_simple_and_free app ≡ true → A app) → A kit_command

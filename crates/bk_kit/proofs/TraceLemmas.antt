@@ -1,11 +1,23 @@
 -- A run that is made of runs of one step.
-use Rattle.std.proofs.Common.{◌≡◌, ◌≢◌, ℕ, ◌+◌, List, refl, sym, subst}
+use Rattle.std.proofs.Common.{◌≡◌, ◌≢◌, ℕ, ◌+◌, List, Result, Ok, Err, IfErr, if◌then◌else◌, refl, sym, subst}
+use Rattle.std.specs.Prelude.{IsErr}
 use Rattle.bk_base.specs.Devices.{Begins}
 use Rattle.bk_base.specs.declared.run_end.End.{End}
 use Rattle.bk_base.specs.declared.run_end.End.TheVariants.{Status, DivideByZero, StoreLimit, StepLimit, BadOperation, ReadFault, WriteFault}
 use Rattle.bk_intcode.specs.declared.registers.Registers.{Registers}
 use Rattle.bk_intcode.specs.Runs.{Told, Paused, Went, Ran, Blames}
+use Rattle.bk_kit.specs.declared.kit_fault.KitFault.{KitFault}
+use Rattle.bk_kit.specs.Interpreting.{Streams, is_read_fault}
+use Rattle.bk_kit.specs.Tracing.{FileRead, OcodeRefused, RefusesNames}
 use Rattle.bk_intcode.proofs.RunSteps.{went_on, went_more}
+
+-- an answer that is a fault of the OCODE
+pub names_refused : (answer : Result End KitFault) (fault : KitFault) (names code : FileRead) (before after : Streams) → IsErr answer → IfErr answer (λ f. f ≡ fault)
+    → OcodeRefused fault names.old names.new names.ended → names.faults ≡ (if is_read_fault fault then 1 else 0) → code.new ≡ code.old → after ≡ before
+    → RefusesNames answer names code before after
+names_refused (Ok end) fault names code before after is same refuses fails unread left = cc
+names_refused (Err other) fault names code before after is same refuses fails unread left =
+    subst (λ f. RefusesNames (Err f) names code before after) (sym same) (refuses, fails, unread, left)
 
 module _ (Holds : List ℕ → Type 0) where
   -- unless the output fails, the flush at the end changes nothing

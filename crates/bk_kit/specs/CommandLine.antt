@@ -1,5 +1,5 @@
 -- The command line: its subcommands with their options, and what an order reads of the words.
-use Rattle.std.specs.Prelude.{◌≡◌, ◌≢◌, ◌⊎◌, ℕ, ◌≤◌, ⊤, pos, Bool, true, false, List, [], ◌∷◌, Option, None, Some, codes, string_bytes}
+use Rattle.std.specs.Prelude.{◌≡◌, ◌≢◌, ◌⊎◌, ℕ, ◌≤◌, ⊤, pos, Bool, true, false, List, [], ◌∷◌, Option, None, Some, option_map, codes, string_bytes}
 use Rattle.std.specs.Str.Parse.{IsNumeral, digits_value, without_leading_plus}
 use Rattle.clap.specs.Faults.{fault_of}
 use Rattle.clap.specs.Words.{App, Row, Rule, Text, IsAmong, new_app, new_rule, one_of, first_of, subcommand_of, takes, with_rule, with_subcommand}
@@ -51,6 +51,10 @@ sizes_rule = record (new_rule (codes "sizes")) { long = Some (codes "sizes"); ac
 abbrev pub trace_rule : Rule
 trace_rule = record (new_rule (codes "trace")) { long = Some (codes "trace"); action = Some SetTrue }
 
+-- `--ocode OCODE`
+abbrev pub ocode_rule : Rule
+ocode_rule = record (new_rule (codes "ocode")) { long = Some (codes "ocode"); value_names = 1 }
+
 -- `--only PART`, all unless it is given
 abbrev pub only_rule : Rule
 only_rule = record (new_rule (codes "only")) { long = Some (codes "only"); value_names = 1; defaults = codes "all" ∷ [] }
@@ -78,9 +82,10 @@ check_command = with_rule (with_rule (new_app (codes "check")) turns_rule) file_
 abbrev pub show_command : App
 show_command = with_rule (with_rule (new_app (codes "show")) only_rule) file_rule
 
--- `interpret [-s WORDS] [-t STEPS] [--sizes] [--trace] FILE`
+-- `interpret [-s WORDS] [-t STEPS] [--sizes] [--trace] [--ocode OCODE] FILE`
 abbrev pub interpret_command : App
-interpret_command = with_rule (with_rule (with_rule (with_rule (with_rule (new_app (codes "interpret")) store_rule) steps_rule) sizes_rule) trace_rule) file_rule
+interpret_command =
+    with_rule (with_rule (with_rule (with_rule (with_rule (with_rule (new_app (codes "interpret")) store_rule) steps_rule) sizes_rule) trace_rule) ocode_rule) file_rule
 
 -- `Command::version`
 abbrev pub with_version : App → App
@@ -101,8 +106,13 @@ file_name (Check turns name) = Some (string_bytes name)
 file_name (Show part name) = Some (string_bytes name)
 file_name (ShowInput part) = None
 file_name (Interpret limits name) = Some (string_bytes name)
-file_name (Trace limits name) = Some (string_bytes name)
+file_name (Trace limits name ocode) = Some (string_bytes name)
 file_name (Sizes words name) = Some (string_bytes name)
+
+-- the name that `--ocode` gives
+abbrev pub ocode_name : Order → Option (List ℕ)
+ocode_name (Trace limits name ocode) = option_map string_bytes ocode
+ocode_name order = None
 
 -- the text of a truth value
 abbrev pub truth_text : Bool → Text
@@ -147,10 +157,10 @@ Reads (Some found) (ShowInput part) =
     (found.0 ≡ codes "show") × (first_of (codes "only") found.1 ≡ Some (part_text part)) × (first_of (codes "file") found.1 ≡ Some (codes "-"))
 Reads (Some found) (Interpret limits file) =
     (found.0 ≡ codes "interpret") × (one_of (codes "sizes") found.1 ≡ Some (truth_text false)) × (one_of (codes "trace") found.1 ≡ Some (truth_text false))
-    × ReadsLimits found.1 limits × (first_of (codes "file") found.1 ≡ Some (string_bytes file))
-Reads (Some found) (Trace limits file) =
+    × ReadsLimits found.1 limits × (first_of (codes "file") found.1 ≡ Some (string_bytes file)) × (first_of (codes "ocode") found.1 ≡ None)
+Reads (Some found) (Trace limits file ocode) =
     (found.0 ≡ codes "interpret") × (one_of (codes "sizes") found.1 ≡ Some (truth_text false)) × (one_of (codes "trace") found.1 ≡ Some (truth_text true))
-    × ReadsLimits found.1 limits × (first_of (codes "file") found.1 ≡ Some (string_bytes file))
+    × ReadsLimits found.1 limits × (first_of (codes "file") found.1 ≡ Some (string_bytes file)) × (first_of (codes "ocode") found.1 ≡ option_map string_bytes ocode)
 Reads (Some found) (Sizes words file) =
     (found.0 ≡ codes "interpret") × (one_of (codes "sizes") found.1 ≡ Some (truth_text true))
     × ReadsWords found.1 words × (first_of (codes "file") found.1 ≡ Some (string_bytes file))
@@ -168,7 +178,7 @@ HasLimits (Check turns file) = (1 ≤ turns) × (turns ≤ STEPS_MOST)
 HasLimits (Show part file) = ⊤
 HasLimits (ShowInput part) = ⊤
 HasLimits (Interpret limits file) = AreLimits limits
-HasLimits (Trace limits file) = AreLimits limits
+HasLimits (Trace limits file ocode) = AreLimits limits
 HasLimits (Sizes words file) = (STORE_LEAST ≤ words) × (words ≤ STORE_MOST)
 
 -- the subcommand and its values are those of an order

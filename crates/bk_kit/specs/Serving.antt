@@ -1,5 +1,5 @@
 -- What serving an order comes to: what it asks for, the exit status, and the line on the error stream.
-use Rattle.std.specs.Prelude.{◌≡◌, ℕ, ⊤, List, Option, Bool, Result, if◌then◌else◌}
+use Rattle.std.specs.Prelude.{◌≡◌, ℕ, ⊤, List, Option, None, Some, Bool, Result, if◌then◌else◌}
 use Rattle.bk_base.specs.Devices.{Begins}
 use Rattle.bk_base.specs.declared.run_end.End.{End}
 use Rattle.bk_kit.specs.declared.kit_fault.KitFault.{KitFault}
@@ -18,7 +18,7 @@ use Rattle.bk_kit.specs.Showing.{ShowsSource}
 use Rattle.bk_kit.specs.Sizes.{store_words, Reports}
 use Rattle.bk_kit.specs.Statuses.{run_status, run_line, done_status, done_line}
 use Rattle.bk_kit.specs.Telling.{Output, Tells}
-use Rattle.bk_kit.specs.Tracing.{Traced, TellsTrace}
+use Rattle.bk_kit.specs.Tracing.{FileRead, Traced, TracedNamed, TellsTrace}
 
 -- what the output reports these
 abbrev pub output_of : Streams → Output
@@ -28,38 +28,41 @@ output_of streams = record { taken = streams.taken; passed = streams.passed; fau
 abbrev pub Fails : {T : Type 0} → Result T KitFault → ℕ → Type 0
 Fails answer faults = faults ≡ (if is_read answer then 1 else 0)
 
--- `faults` counts the failures of FILE; Holds says what the reader of the input can hold.
-abbrev pub Serves : (List ℕ → Type 0) → Order → ℕ → Option (List ℕ) → Option (List ℕ) → Bool → (faults : ℕ) → Streams → Streams → Output → Output → Type 0
+-- `file` is what was read of FILE, `names` what was read of the OCODE that gives names; Holds says what the reader of the input can hold.
+abbrev pub Serves : (List ℕ → Type 0) → Order → ℕ → (file names : FileRead) → Streams → Streams → Output → Output → Type 0
 -- the filters go from the input to the output
-Serves Holds Compile status old new ended faults before after err_before err_after =
+Serves Holds Compile status file names before after err_before err_after =
     (answer : Result (Unit {0}) KitFault) × Compiles answer before.left after.left after.ended after.reads (output_of before) (output_of after)
     × (status ≡ done_status answer) × Tells (done_line answer) err_before err_after
-Serves Holds Generate status old new ended faults before after err_before err_after =
+Serves Holds Generate status file names before after err_before err_after =
     (answer : Result (Unit {0}) KitFault) × Generates answer before.left after.left after.ended after.reads (output_of before) (output_of after)
     × (status ≡ done_status answer) × Tells (done_line answer) err_before err_after
-Serves Holds (Run limits name) status old new ended faults before after err_before err_after =
-    (answer : Result End KitFault) × Headline meanings answer limits.steps limits.words old new ended before after
-    × KeepsLimits Holds answer limits.steps limits.words old new ended before after
-    × ReadsSource (is_read answer) old new × Fails answer faults
+Serves Holds (Run limits name) status file names before after err_before err_after =
+    (answer : Result End KitFault) × Headline meanings answer limits.steps limits.words file.old file.new file.ended before after
+    × KeepsLimits Holds answer limits.steps limits.words file.old file.new file.ended before after
+    × ReadsSource (is_read answer) file.old file.new × Fails answer file.faults
     × (status ≡ run_status answer) × Tells (run_line answer) err_before err_after
-Serves Holds (Check turns name) status old new ended faults before after err_before err_after =
-    (answer : Result Report NotChecked) × ChecksSource answer turns old new ended before after × Begins before.passed after.passed
-    × ReadsSource (fails_check answer) old new × (faults ≡ (if fails_check answer then 1 else 0))
+Serves Holds (Check turns name) status file names before after err_before err_after =
+    (answer : Result Report NotChecked) × ChecksSource answer turns file.old file.new file.ended before after × Begins before.passed after.passed
+    × ReadsSource (fails_check answer) file.old file.new × (file.faults ≡ (if fails_check answer then 1 else 0))
     × (status ≡ check_status answer) × TellsCheck answer err_before err_after
-Serves Holds (Show part name) status old new ended faults before after err_before err_after =
-    (answer : Result (Unit {0}) KitFault) × ShowsSource answer old new ended faults (output_of before) (output_of after)
+Serves Holds (Show part name) status file names before after err_before err_after =
+    (answer : Result (Unit {0}) KitFault) × ShowsSource answer file.old file.new file.ended file.faults (output_of before) (output_of after)
     × (status ≡ done_status answer) × Tells (done_line answer) err_before err_after
-Serves Holds (ShowInput part) status old new ended faults before after err_before err_after =
+Serves Holds (ShowInput part) status file names before after err_before err_after =
     (answer : Result (Unit {0}) KitFault) × ShowsSource answer before.left after.left after.ended after.reads (output_of before) (output_of after)
     × (status ≡ done_status answer) × Tells (done_line answer) err_before err_after
-Serves Holds (Interpret limits name) status old new ended faults before after err_before err_after =
-    (answer : Result End KitFault) × Interpreted Holds answer limits.steps limits.words old new ended before after × Fails answer faults
+Serves Holds (Interpret limits name) status file names before after err_before err_after =
+    (answer : Result End KitFault) × Interpreted Holds answer limits.steps limits.words file.old file.new file.ended before after × Fails answer file.faults
     × (status ≡ run_status answer) × Tells (run_line answer) err_before err_after
-Serves Holds (Trace limits name) status old new ended faults before after err_before err_after =
-    (answer : Result End KitFault) × Traced Holds answer limits.steps limits.words old new ended before after × Fails answer faults
+Serves Holds (Trace limits name None) status file names before after err_before err_after =
+    (answer : Result End KitFault) × Traced Holds answer limits.steps limits.words file.old file.new file.ended before after × Fails answer file.faults
     × (status ≡ run_status answer) × TellsTrace (run_line answer) err_before err_after
-Serves Holds (Sizes words name) status old new ended faults before after err_before err_after =
-    (answer : Result (Unit {0}) KitFault) × Reports answer (store_words words) old new ended (output_of before) (output_of after) × Fails answer faults
+Serves Holds (Trace limits name (Some ocode)) status file names before after err_before err_after =
+    (answer : Result End KitFault) × TracedNamed Holds answer limits.steps limits.words names file before after
+    × (status ≡ run_status answer) × TellsTrace (run_line answer) err_before err_after
+Serves Holds (Sizes words name) status file names before after err_before err_after =
+    (answer : Result (Unit {0}) KitFault) × Reports answer (store_words words) file.old file.new file.ended (output_of before) (output_of after) × Fails answer file.faults
     × (status ≡ done_status answer) × Tells (done_line answer) err_before err_after
 
 -- The filters, and `show` of the input, ask nothing of FILE; `show` of FILE and `--sizes` ask nothing of the input.
@@ -68,6 +71,11 @@ LeavesFile Compile old new = new ≡ old
 LeavesFile Generate old new = new ≡ old
 LeavesFile (ShowInput part) old new = new ≡ old
 LeavesFile order old new = ⊤
+
+-- Only a trace with names asks anything of the OCODE.
+abbrev pub LeavesNames : {N : Type 0} → Order → N → N → Type 0
+LeavesNames (Trace limits name (Some ocode)) old new = ⊤
+LeavesNames order old new = new ≡ old
 
 abbrev pub LeavesInput : {I : Type 0} → Order → I → I → Type 0
 LeavesInput (Show part name) old new = new ≡ old

@@ -1,11 +1,11 @@
 //! Reading a command line.
-ghost use Rattle.std.specs.Prelude.{◌≡◌, ◌≤◌, ℕ, map, Bool, IfOk, IfErr, IfSome, IsSome, false, Some, codes};
+ghost use Rattle.std.specs.Prelude.{◌≡◌, ◌≤◌, ℕ, map, option_map, string_bytes, Bool, IfOk, IfErr, IfSome, IsSome, false, Some, codes};
 ghost use Rattle.bk_base.specs.declared.limit.TheConstants.{STEPS_MOST};
 ghost use Rattle.bk_base.specs.Bounds.{Bounds};
 ghost use Rattle.clap.specs.Values.{kind_of};
 ghost use Rattle.clap.specs.Words.{Text, app_of, rule_of, rows_of, found_of, first_of, one_of, subcommand_of};
 ghost use Rattle.clap.specs.declared.builder.Command.TheViews.{out-Command as fields_of};
-ghost use Rattle.bk_kit.specs.CommandLine.{store_rule, steps_rule, turns_rule, sizes_rule, trace_rule, only_rule, file_rule, compile_command, generate_command, run_command, check_command, show_command, interpret_command, kit_command, truth_text, part_text, ReadsNumber, ReadsLimits, Reads, AreLimits, RefusesValues, IsFaultOf, Refuses};
+ghost use Rattle.bk_kit.specs.CommandLine.{store_rule, steps_rule, turns_rule, sizes_rule, trace_rule, ocode_rule, only_rule, file_rule, compile_command, generate_command, run_command, check_command, show_command, interpret_command, kit_command, truth_text, part_text, ReadsNumber, ReadsLimits, Reads, AreLimits, RefusesValues, IsFaultOf, Refuses};
 
 use crate::orders::Order;
 use bk_base::Limits;
@@ -100,7 +100,8 @@ Nothing is run of a text that is refused.
 Examples:
   bcpl interpret queens.int
   bcpl interpret --sizes queens.int
-  bcpl interpret --trace six.int";
+  bcpl interpret --trace six.int
+  bcpl interpret --trace --ocode six.ocode six.int";
 
 /// Why a command line gives no order.
 #[derive(Debug, Drop)]
@@ -185,6 +186,17 @@ fn trace_flag<'a>(alloc: Global) -> Arg<'a>
         .long("trace")
         .help("Write a line on the error stream for each step")
         .action(ArgAction::SetTrue)
+}
+
+/// `--ocode OCODE`
+fn ocode_option<'a>(alloc: Global) -> Arg<'a>
+    ensures rule { rule_of result ≡ ocode_rule }
+    ensures local { result.global ≡ false }
+{
+    Arg::new(alloc, "ocode")
+        .long("ocode")
+        .value_name("OCODE")
+        .help("The OCODE of FILE, which gives --trace the names of the procedures")
 }
 
 /// `--only PART`
@@ -283,6 +295,7 @@ fn interpret_subcommand<'a>(alloc: Global) -> Result<Command<'a>, AllocError>
             .arg(steps_option(alloc))?
             .arg(sizes_flag(alloc))?
             .arg(trace_flag(alloc))?
+            .arg(ocode_option(alloc))?
             .arg(file_argument(alloc, "The INTCODE"))?
             .after_help(INTERPRET_NOTES)
             .about("Runs the INTCODE in FILE. Input and output are those of the program."),
@@ -383,6 +396,23 @@ fn trace_asked(matches: &ArgMatches<'_>) -> Option<bool>
     matches.get_one::<bool>("trace")
 }
 
+/// The name of the file of OCODE.
+fn ocode_of<'a>(matches: &ArgMatches<'a>) -> Option<&'a str>
+    ensures { option_map (λ name. name.now) result ≡ first_of (codes "ocode") (rows_of (found_of matches.now)) }
+{
+    matches.get_str("ocode")
+}
+
+/// A name of its own, if there is one.
+fn owned(alloc: Global, name: Option<&str>) -> Result<Option<String>, AllocError>
+    ensures { IfOk result (λ copy. option_map string_bytes copy ≡ option_map (λ text. text.now) name.entry) }
+{
+    match name {
+        Some(name) => Ok(Some(String::from_str(alloc, name)?)),
+        None => Ok(None),
+    }
+}
+
 /// What the values of `run` ask for.
 fn run_order(alloc: Global, matches: &ArgMatches<'_>) -> Result<Order, LineFault>
     ensures reads { IfOk result (Reads (Some (codes "run", rows_of (found_of matches.now)))) }
@@ -430,11 +460,14 @@ fn interpret_order(alloc: Global, matches: &ArgMatches<'_>) -> Result<Order, Lin
     }
     let trace = trace_asked(matches).ok_or(LineFault::Bad)?;
     let file = String::from_str(alloc, file)?;
+    let ocode = ocode_of(matches);
     if trace {
-        Ok(Order::Trace(limits, file))
-    } else {
-        Ok(Order::Interpret(limits, file))
+        return Ok(Order::Trace(limits, file, owned(alloc, ocode)?));
     }
+    if ocode.is_some() {
+        return Err(LineFault::Bad);
+    }
+    Ok(Order::Interpret(limits, file))
 }
 
 /// What a subcommand and its values ask for.

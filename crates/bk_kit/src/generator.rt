@@ -11,7 +11,7 @@ use bk_ocode::read_section;
 use std::alloc::Global;
 
 /// What the kit answers of a section after so many others that is refused.
-fn section_refused(before: usize, refused: Refused<OcodeFault>) -> KitFault
+pub fn section_refused(before: usize, refused: Refused<OcodeFault>) -> KitFault
     ensures { result ≡ ocode_refused before refused }
 {
     match refused {

@@ -19,8 +19,9 @@ pub enum Order {
     ShowInput(Part),
     /// `bcpl interpret`: run the INTCODE in FILE.
     Interpret(Limits, String),
-    /// `bcpl interpret --trace`: the same, with a line on the error stream for each step.
-    Trace(Limits, String),
+    /// `bcpl interpret --trace`: the same, with a line on the error stream for each step, and with the names of the procedures where
+    /// `--ocode` gives the file of the OCODE.
+    Trace(Limits, String, Option<String>),
     /// `bcpl interpret --sizes`: report what the INTCODE in FILE needs in a store of so many words. The steps that `-t` gives are
     /// not used.
     Sizes(u32, String),
@@ -28,7 +29,7 @@ pub enum Order {
 
 impl Order {
     ghost use Rattle.std.specs.Prelude.{◌≡◌, IfSome, IfNone, None, Some};
-    ghost use Rattle.bk_kit.specs.CommandLine.{file_name};
+    ghost use Rattle.bk_kit.specs.CommandLine.{file_name, ocode_name};
 
     /// The name of FILE; none where the input is read in its place.
     pub fn file(&self) -> Option<&str>
@@ -41,8 +42,19 @@ impl Order {
             | Order::Check(_, file)
             | Order::Show(_, file)
             | Order::Interpret(_, file)
-            | Order::Trace(_, file)
+            | Order::Trace(_, file, _)
             | Order::Sizes(_, file) => Some(file.as_str()),
+        }
+    }
+
+    /// The name of the file of OCODE from which the names of procedures are taken.
+    pub fn ocode(&self) -> Option<&str>
+        ensures named { IfSome result (λ name. ocode_name self.now ≡ Some name.now) }
+        ensures none { IfNone result (ocode_name self.now ≡ None) }
+    {
+        match self {
+            Order::Trace(_, _, Some(ocode)) => Some(ocode.as_str()),
+            _ => None,
         }
     }
 }

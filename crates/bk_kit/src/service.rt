@@ -1,7 +1,7 @@
 //! Serving an order.
 ghost use Rattle.std.specs.Prelude.{◌≡◌};
 ghost use Rattle.bk_intcode.specs.Runs.{HeldBy};
-ghost use Rattle.bk_kit.specs.Serving.{Serves, LeavesFile, LeavesInput};
+ghost use Rattle.bk_kit.specs.Serving.{Serves, LeavesFile, LeavesNames, LeavesInput};
 ghost use Rattle.bk_kit.specs.Statuses.{refusal_status, refusal_line};
 ghost use Rattle.bk_kit.specs.Telling.{Tells};
 
@@ -14,28 +14,33 @@ use crate::runner::{interpret, sizes};
 use crate::showing::show_source;
 use crate::source::run_source;
 use crate::status::{tell_check, tell_done, tell_run, tell_text};
-use crate::tracing::trace;
+use crate::tracing::{trace, trace_named};
 use bk_base::{ByteIn, ByteOut};
 use std::alloc::Global;
 
-/// Does what an order asks for, where `file` gives the bytes of FILE if it has one, and answers the exit status.
+/// Does what an order asks for, and answers the exit status. `file` gives the bytes of FILE if the order has one, and `names` those of
+/// the OCODE from which a trace takes the names of procedures.
 ///
 /// A fault or an abnormal end writes one line on the error stream, which is passed on; a failure of that stream changes
 /// nothing.
-pub fn serve<F: ByteIn, I: ByteIn, O: ByteOut, E: ByteOut>(
+pub fn serve<F: ByteIn, N: ByteIn, I: ByteIn, O: ByteOut, E: ByteOut>(
     alloc: Global,
     order: &Order,
     file: &mut F,
+    names: &mut N,
     input: &mut I,
     out: &mut O,
     err: &mut E,
 ) -> u8
-    ensures serves { Serves (HeldBy I.held) order.now result (F.left file.old) (F.left file.new) (F.ended file.new) (F.faults file.new)
+    ensures serves { Serves (HeldBy I.held) order.now result
+        (record { old = F.left file.old; new = F.left file.new; ended = F.ended file.new; faults = F.faults file.new })
+        (record { old = N.left names.old; new = N.left names.new; ended = N.ended names.new; faults = N.faults names.new })
         (record { left = I.left input.old; held = I.held input.old; ended = I.ended input.old; taken = O.taken out.old; passed = O.passed out.old; reads = I.faults input.old; writes = O.faults out.old })
         (record { left = I.left input.new; held = I.held input.new; ended = I.ended input.new; taken = O.taken out.new; passed = O.passed out.new; reads = I.faults input.new; writes = O.faults out.new })
         (record { taken = E.taken err.old; passed = E.passed err.old; faults = E.faults err.old })
         (record { taken = E.taken err.new; passed = E.passed err.new; faults = E.faults err.new }) }
     ensures leaves_file { LeavesFile order.now file.old file.new }
+    ensures leaves_names { LeavesNames order.now names.old names.new }
     ensures leaves_input { LeavesInput order.now input.old input.new }
 {
     match order {
@@ -61,8 +66,12 @@ pub fn serve<F: ByteIn, I: ByteIn, O: ByteOut, E: ByteOut>(
             let answer = interpret(alloc, file, *limits, input, out);
             tell_run(&answer, err)
         }
-        Order::Trace(limits, _) => {
+        Order::Trace(limits, _, None) => {
             let answer = trace(alloc, file, *limits, input, out, err);
+            tell_run(&answer, err)
+        }
+        Order::Trace(limits, _, Some(_)) => {
+            let answer = trace_named(alloc, names, file, *limits, input, out, err);
             tell_run(&answer, err)
         }
         Order::Sizes(words, _) => {

@@ -5,13 +5,14 @@ ghost use Rattle.bk_base.specs.Devices.{Begins};
 ghost use Rattle.bk_intcode.specs.Runs.{HeldBy, Ran, Blames};
 ghost use Rattle.bk_intcode.specs.State.{store_of, registers_of, end_of};
 ghost use Rattle.bk_kit.specs.Interpreting.{is_read};
-ghost use Rattle.bk_kit.specs.Tracing.{Traced};
+ghost use Rattle.bk_kit.specs.Tracing.{Traced, TracedNamed};
 
 use crate::code::load_code;
 use crate::kit_fault::KitFault;
+use crate::procedures::{procedures_of, read_sections};
 use bk_base::{ByteIn, ByteOut, End, Limits};
 use bk_intcode::Machine;
-use bk_show::{Step, put_heading, put_step};
+use bk_show::{Procedures, Step, put_heading, put_other, put_procedure, put_step};
 use std::alloc::Global;
 
 /// Writes the line above the steps on the error stream, and passes it on. A failure of that stream, or refused memory, changes nothing.
@@ -24,12 +25,49 @@ fn tell_heading<E: ByteOut>(alloc: Global, err: &mut E)
     }
 }
 
+/// Writes in the same way that the OCODE is not the one from which the INTCODE was generated.
+fn tell_other<E: ByteOut>(alloc: Global, err: &mut E)
+    ensures grows { Begins (E.taken err.old) (E.taken err.new) }
+    ensures passes { Begins (E.passed err.old) (E.passed err.new) }
+{
+    if put_other(alloc, err).is_ok() {
+        let _passed = err.flush();
+    }
+}
+
 /// Writes the line of a step on the error stream, in the same way, and passes it on.
 fn tell_step<E: ByteOut>(alloc: Global, step: &Step, err: &mut E)
     ensures grows { Begins (E.taken err.old) (E.taken err.new) }
     ensures passes { Begins (E.passed err.old) (E.passed err.new) }
 {
     if put_step(alloc, step, err).is_ok() {
+        let _passed = err.flush();
+    }
+}
+
+/// Writes the line above the steps of a procedure in the same way, where the code at an address belongs to another procedure than the
+/// steps before it.
+fn tell_procedure<E: ByteOut>(
+    alloc: Global,
+    procedures: Option<&Procedures>,
+    at: u32,
+    current: &mut Option<usize>,
+    err: &mut E,
+)
+    ensures grows { Begins (E.taken err.old) (E.taken err.new) }
+    ensures passes { Begins (E.passed err.old) (E.passed err.new) }
+{
+    let Some(procedures) = procedures else {
+        return;
+    };
+    let Some(number) = procedures.holding(at) else {
+        return;
+    };
+    if *current == Some(number) {
+        return;
+    }
+    *current = Some(number);
+    if put_procedure(alloc, procedures.name(number), err).is_ok() {
         let _passed = err.flush();
     }
 }
@@ -46,11 +84,13 @@ fn next_step(machine: &Machine, number: u64) -> Step {
     }
 }
 
-/// One step, with its line.
+/// One step, with its line, and with the name of its procedure if that was not written last.
 fn run_step<I: ByteIn, O: ByteOut, E: ByteOut>(
     alloc: Global,
     machine: &mut Machine,
     number: u64,
+    procedures: Option<&Procedures>,
+    current: &mut Option<usize>,
     input: &mut I,
     out: &mut O,
     err: &mut E,
@@ -71,6 +111,7 @@ fn run_step<I: ByteIn, O: ByteOut, E: ByteOut>(
     if end == End::StepLimit {
         step.after = Some(machine.registers());
     }
+    tell_procedure(alloc, procedures, step.at, current, err);
     tell_step(alloc, &step, err);
     end
 }
@@ -80,6 +121,7 @@ fn run_steps<I: ByteIn, O: ByteOut, E: ByteOut>(
     alloc: Global,
     machine: &mut Machine,
     steps: u64,
+    procedures: Option<&Procedures>,
     input: &mut I,
     out: &mut O,
     err: &mut E,
@@ -95,13 +137,71 @@ fn run_steps<I: ByteIn, O: ByteOut, E: ByteOut>(
     ensures cause { Blames result (I.faults input.old) (I.faults input.new) (O.faults out.new) }
     ensures told { Begins (E.taken err.old) (E.taken err.new) × Begins (E.passed err.old) (E.passed err.new) }
 {
+    let mut current = None;
     for i in 0..steps {
-        let end = run_step(alloc, machine, i + 1, input, out, err);
+        let end = run_step(
+            alloc,
+            machine,
+            i + 1,
+            procedures,
+            &mut current,
+            input,
+            out,
+            err,
+        );
         if end != End::StepLimit {
             return end;
         }
     }
     End::StepLimit
+}
+
+/// The procedures, if they are those of a program that ends at this address; else it is told that the OCODE is another.
+fn known_procedures<'p, E: ByteOut>(
+    alloc: Global,
+    procedures: Option<&'p Procedures>,
+    image: u32,
+    err: &mut E,
+) -> Option<&'p Procedures>
+    ensures grows { Begins (E.taken err.old) (E.taken err.new) }
+    ensures passes { Begins (E.passed err.old) (E.passed err.new) }
+{
+    let known = procedures?;
+    if known.end() == image {
+        return Some(known);
+    }
+    tell_other(alloc, err);
+    None
+}
+
+/// The run of `trace`, where the names of these procedures are known.
+fn trace_with<C: ByteIn, I: ByteIn, O: ByteOut, E: ByteOut>(
+    alloc: Global,
+    code: &mut C,
+    limits: Limits,
+    procedures: Option<&Procedures>,
+    input: &mut I,
+    out: &mut O,
+    err: &mut E,
+) -> Result<End, KitFault>
+    ensures traced { Traced (HeldBy I.held) result limits.steps limits.words (C.left code.old) (C.left code.new) (C.ended code.new)
+        (record { left = I.left input.old; held = I.held input.old; ended = I.ended input.old; taken = O.taken out.old; passed = O.passed out.old; reads = I.faults input.old; writes = O.faults out.old })
+        (record { left = I.left input.new; held = I.held input.new; ended = I.ended input.new; taken = O.taken out.new; passed = O.passed out.new; reads = I.faults input.new; writes = O.faults out.new }) }
+    ensures read_fails { C.faults code.new ≡ (if is_read result then 1 else 0) }
+    ensures told { Begins (E.taken err.old) (E.taken err.new) × Begins (E.passed err.old) (E.passed err.new) }
+{
+    let mut machine = load_code(alloc, code, limits.words())?;
+    let known = known_procedures(alloc, procedures, machine.sizes().image, err);
+    tell_heading(alloc, err);
+    Ok(run_steps(
+        alloc,
+        &mut machine,
+        limits.steps(),
+        known,
+        input,
+        out,
+        err,
+    ))
 }
 
 /// Reads all segments of a text of INTCODE, loads them and runs them as `interpret` does, with a line on the error stream for each
@@ -120,7 +220,29 @@ pub fn trace<C: ByteIn, I: ByteIn, O: ByteOut, E: ByteOut>(
     ensures read_fails { C.faults code.new ≡ (if is_read result then 1 else 0) }
     ensures told { Begins (E.taken err.old) (E.taken err.new) × Begins (E.passed err.old) (E.passed err.new) }
 {
-    let mut machine = load_code(alloc, code, limits.words())?;
-    tell_heading(alloc, err);
-    Ok(run_steps(alloc, &mut machine, limits.steps(), input, out, err))
+    trace_with(alloc, code, limits, None, input, out, err)
+}
+
+/// The same, with the names of the procedures. The text of OCODE is read first: where it is refused or can't be read, nothing is read of
+/// the INTCODE and nothing is run. Names are written if it is the OCODE from which the INTCODE was generated; else one line tells that
+/// it is of another program.
+pub fn trace_named<N: ByteIn, C: ByteIn, I: ByteIn, O: ByteOut, E: ByteOut>(
+    alloc: Global,
+    ocode: &mut N,
+    code: &mut C,
+    limits: Limits,
+    input: &mut I,
+    out: &mut O,
+    err: &mut E,
+) -> Result<End, KitFault>
+    ensures traced { TracedNamed (HeldBy I.held) result limits.steps limits.words
+        (record { old = N.left ocode.old; new = N.left ocode.new; ended = N.ended ocode.new; faults = N.faults ocode.new })
+        (record { old = C.left code.old; new = C.left code.new; ended = C.ended code.new; faults = C.faults code.new })
+        (record { left = I.left input.old; held = I.held input.old; ended = I.ended input.old; taken = O.taken out.old; passed = O.passed out.old; reads = I.faults input.old; writes = O.faults out.old })
+        (record { left = I.left input.new; held = I.held input.new; ended = I.ended input.new; taken = O.taken out.new; passed = O.passed out.new; reads = I.faults input.new; writes = O.faults out.new }) }
+    ensures told { Begins (E.taken err.old) (E.taken err.new) × Begins (E.passed err.old) (E.passed err.new) }
+{
+    let sections = read_sections(alloc, ocode)?;
+    let procedures = procedures_of(alloc, sections.as_slice())?;
+    trace_with(alloc, code, limits, Some(&procedures), input, out, err)
 }

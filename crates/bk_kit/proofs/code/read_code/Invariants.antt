@@ -1,10 +1,11 @@
 use Rattle.std.proofs.Common.{◌-◌, ◌^◌, length, map}
 use Rattle.bk_intcode.specs.SegmentItems.{items_of}
+use Rattle.bk_kit.specs.Code.{intcode}
 use Rattle.bk_kit.proofs.CodeLemmas.{Front}
 use Rattle.bk_kit.proofs.code.read_code.Given as goal
 
 abbrev pub invariant-loop-segment : goal.invariant-loop-segment
-invariant-loop-segment g l = Front (map items_of l.list.items) (g.C.ByteIn.left l.initial.code) (g.C.ByteIn.left l.code) (g.C.ByteIn.ended l.code)
+invariant-loop-segment g l = Front intcode (map items_of l.list.items) (g.C.ByteIn.left l.initial.code) (g.C.ByteIn.left l.code) (g.C.ByteIn.ended l.code)
 
 abbrev pub decreases-loop-segment : goal.decreases-loop-segment
 decreases-loop-segment g l = 2 ^ 64 - length l.list.items

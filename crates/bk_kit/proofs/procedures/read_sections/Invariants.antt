@@ -1,0 +1,11 @@
+use Rattle.std.proofs.Common.{◌-◌, ◌^◌, length, map}
+use Rattle.bk_ocode.specs.SectionStmts.{stmts_of}
+use Rattle.bk_kit.specs.Generating.{ocode}
+use Rattle.bk_kit.proofs.CodeLemmas.{Front}
+use Rattle.bk_kit.proofs.procedures.read_sections.Given as goal
+
+abbrev pub invariant-loop-section : goal.invariant-loop-section
+invariant-loop-section g l = Front ocode (map stmts_of l.list.items) (g.N.ByteIn.left l.initial.code) (g.N.ByteIn.left l.code) (g.N.ByteIn.ended l.code)
+
+abbrev pub decreases-loop-section : goal.decreases-loop-section
+decreases-loop-section g l = 2 ^ 64 - length l.list.items
