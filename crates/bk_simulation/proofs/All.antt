@@ -97,7 +97,7 @@ ticked_store g s B z rest v n _ _ (byte a i w1 y sa si) = byte a i w1 y sa si
 
 module _ (g : Setting) (p : Program) (m : Meanings) (procs : Procedures g p) (known : KnowsLibrary g) (sim : Simulates g m) where
   -- ---- values
-  value_of_runs : (B : Account) (e : Expression) (z : Sit) (c rest : List Stmt) (v : World) → 16 * v.turns + 12 ≤ B.most → B.least ≤ suc v.turns - turns_of e → IsValue g z.scene z.depth z.env e c rest → Ready g z v
+  value_of_runs : (B : Account) (e : Expression) (z : Sit) (c rest : List Stmt) (v : World) → 16 * v.turns + 12 ≤ B.most → B.least ≤ suc v.turns - turns_of false e → IsValue g z.scene z.depth z.env e c rest → Ready g z v
       → RanValue g (start z c v) B z rest v (value_of p m e z.env v)
   value_of_runs B (t.name l x) z c rest v le ll a r = name_runs g B z c x rest v (omega arith) (omega arith) a r
   value_of_runs B (t.number l n) z c rest v le ll a r = number_runs g B z c n rest v (omega arith) (omega arith) a.0 a.1 r
@@ -135,15 +135,15 @@ module _ (g : Setting) (p : Program) (m : Meanings) (procs : Procedures g p) (kn
 
   -- ---- truth
   -- of a value
-  plain_truth : (B : Account) (e : Expression) (z : Sit) (u : Bool) (n : ℕ) (to c rest : List Stmt) (v : World) → 16 * v.turns + 13 ≤ B.most → B.least ≤ suc v.turns - turns_of e → IsValue g z.scene z.depth z.env e c (JumpIf u n ∷ rest)
+  plain_truth : (B : Account) (e : Expression) (z : Sit) (u : Bool) (n : ℕ) (to c rest : List Stmt) (v : World) → 16 * v.turns + 13 ≤ B.most → B.least ≤ suc v.turns - turns_of false e → IsValue g z.scene z.depth z.env e c (JumpIf u n ∷ rest)
       → from_label z.scene.own.stmts n ≡ Some to → Ready g z v → Ran g (start z c v) B (HasTruth g (start z c v) B z u to rest v) (Out g (start z c v) B z v) (with (value_of p m e z.env v) judged)
   plain_truth B e z u n to c rest v le ll a f r =
-      let A : Account = record { most = 16 * v.turns + 12; least = suc v.turns - turns_of e } in
+      let A : Account = record { most = 16 * v.turns + 12; least = suc v.turns - turns_of false e } in
       with_ran (λ x. adds _ (λ w1. given_after _ w1))
       (ran_more (omega arith) (omega arith) (value_of_runs A e z c (JumpIf u n ∷ rest) v (omega arith) (omega arith) a r))
       (λ x w1 y. tested (omega arith) (omega arith) r f y)
 
-  truth_of_runs : (B : Account) (e : Expression) (z : Sit) (u : Bool) (n : ℕ) (to c rest : List Stmt) (v : World) → 16 * v.turns + 13 ≤ B.most → B.least ≤ suc v.turns - turns_of e → IsJump g z.scene z.depth z.env e u n c rest
+  truth_of_runs : (B : Account) (e : Expression) (z : Sit) (u : Bool) (n : ℕ) (to c rest : List Stmt) (v : World) → 16 * v.turns + 13 ≤ B.most → B.least ≤ suc v.turns - turns_of false e → IsJump g z.scene z.depth z.env e u n c rest
       → from_label z.scene.own.stmts n ≡ Some to → Ready g z v → Ran g (start z c v) B (HasTruth g (start z c v) B z u to rest v) (Out g (start z c v) B z v) (truth_of p m e z.env v)
   truth_of_runs B (t.parens l e) z u n to c rest v le ll a f r =
       ran_first (omega arith) (omega arith)
@@ -161,7 +161,7 @@ module _ (g : Setting) (p : Program) (m : Meanings) (procs : Procedures g p) (kn
   truth_of_runs B y z u n to c rest v le ll a f r = plain_truth B y z u n to c rest v le ll a f r
 
   -- ---- places
-  address_of_runs : (B : Account) (e : Expression) (z : Sit) (c rest : List Stmt) (v : World) → 16 * v.turns + 12 ≤ B.most → B.least ≤ suc v.turns - turns_of e → IsAddress g z.scene z.depth z.env e c rest → Ready g z v
+  address_of_runs : (B : Account) (e : Expression) (z : Sit) (c rest : List Stmt) (v : World) → 16 * v.turns + 12 ≤ B.most → B.least ≤ suc v.turns - turns_of false e → IsAddress g z.scene z.depth z.env e c rest → Ready g z v
       → RanAddress g (start z c v) B z rest v (target_of m e z.env v)
   address_of_runs B (t.name l x) z c rest v le ll a r = address_runs g B z c x rest v (omega arith) (omega arith) a r
   address_of_runs B (t.parens l e) z c rest v le ll a r =
@@ -172,7 +172,7 @@ module _ (g : Setting) (p : Program) (m : Meanings) (procs : Procedures g p) (kn
   address_of_runs B (t.binary l o.Byte i x y) z c rest v le ll a r = absurd a
   address_of_runs B _ z c rest v le ll a r = went tt
 
-  store_of_runs : (B : Account) (e : Expression) (z : Sit) (c rest : List Stmt) (v : World) → 16 * v.turns + 12 ≤ B.most → B.least ≤ suc v.turns - turns_of e → IsStore g z.scene z.depth z.env e c rest → Ready g z v
+  store_of_runs : (B : Account) (e : Expression) (z : Sit) (c rest : List Stmt) (v : World) → 16 * v.turns + 12 ≤ B.most → B.least ≤ suc v.turns - turns_of false e → IsStore g z.scene z.depth z.env e c rest → Ready g z v
       → RanStore g (start z c v) B z rest v (target_of m e z.env v)
   store_of_runs B (t.name l x) z c rest v le ll a r = word_runs g B z c x rest v (omega arith) (omega arith) a r
   store_of_runs B (t.parens l e) z c rest v le ll a r =
@@ -185,27 +185,27 @@ module _ (g : Setting) (p : Program) (m : Meanings) (procs : Procedures g p) (kn
 
   -- ---- commands
   -- commands made of parts, within their account
-  assigned_more : (B : Account) (xs es : Expressions) (z : Sit) (c rest : List Stmt) (v : World) → 16 * v.turns + 16 ≤ B.most → B.least ≤ suc v.turns - (1 + (turns_among xs + turns_among es))
+  assigned_more : (B : Account) (xs es : Expressions) (z : Sit) (c rest : List Stmt) (v : World) → 16 * v.turns + 16 ≤ B.most → B.least ≤ suc v.turns - (1 + (turns_among false xs + turns_among false es))
       → (vs ss : List Stretch) × AreFrom g z.scene z.depth (past_each xs z.env) es vs × AreStores g z.scene (z.depth + 1) z.env xs ss × ByTurns xs es vs ss c rest → Ready g z v → RanDid g (start z c v) B z rest v (assigned m xs z.env es (past_each xs z.env) v)
   assigned_more B xs es z c rest v le ll a r =
       ran_first (omega arith) (omega arith)
       (λ _ w1 y. arrived_more (omega arith) (omega arith) y)
       (assigned_run g m sim xs es a.0 a.1 z.env (past_each xs z.env) z c rest v a.2 a.3 a.4 refl refl r)
 
-  call_more : (B : Account) (f : Expression) (es : Expressions) (z : Sit) (c rest : List Stmt) (v : World) → 16 * v.turns + 16 ≤ B.most → B.least ≤ suc v.turns - (1 + (turns_among es + turns_of f))
+  call_more : (B : Account) (f : Expression) (es : Expressions) (z : Sit) (c rest : List Stmt) (v : World) → 16 * v.turns + 16 ≤ B.most → B.least ≤ suc v.turns - (1 + (turns_among false es + turns_of false f))
       → (c1 c2 : List Stmt) × (c ≡ Stack (z.depth + 2) ∷ c1) × AreValues g z.scene (z.depth + 2) (past f z.env) es c1 c2 × IsValue g z.scene (z.depth + 2 + count es) z.env f c2 (CallRoutine z.depth ∷ rest) × CallAt g z.scene (CallRoutine z.depth) rest
       × (z.depth + 2 + count es + 1 ≤ FRAME_WORDS) → Ready g z v → RanDid g (start z c v) B z rest v (with (applied p m f es z.env v) (λ _ w. done w))
   call_more B f es z c rest v le ll a r =
       with_ran (λ _. adds _ (λ w1. stays (history w1)))
       (apply_runs false g p m procs known sim (alone_runs g m sim) (alone_adds g m sim) B f es z c a.0 a.1 rest v (omega arith) (omega arith) a.2 a.3 a.4 a.5 a.6 r) (λ x w1 y. went y)
 
-  order_more : (B : Account) (cs : Actions) (mode : Mode) (z : Sit) (there : Sought → List Stmt) (c rest e : List Stmt) (v : World) → 16 * v.turns + 16 ≤ B.most → B.least ≤ v.turns - turns_through cs → AreActs g z.scene z.depth z.env cs there c rest
+  order_more : (B : Account) (cs : Actions) (mode : Mode) (z : Sit) (there : Sought → List Stmt) (c rest e : List Stmt) (v : World) → 16 * v.turns + 16 ≤ B.most → B.least ≤ v.turns - turns_through false cs → AreActs g z.scene z.depth z.env cs there c rest
       → EnteredAny mode z.env cs there c e → Ready g z v → RanDid g (start z e v) B z rest v (in_order m cs mode z.env v)
   order_more B cs mode z there c rest e v le ll a en r =
       ran_first (omega arith) (omega arith)
       (λ _ w1 y. arrived_more (omega arith) (omega arith) y) (order_run g m sim cs mode z there c rest e v a en r)
 
-  act_of_runs : (B : Account) (x : Action) (mode : Mode) (z : Sit) (there : Sought → List Stmt) (c rest e : List Stmt) (v : World) → 16 * v.turns + 16 ≤ B.most → B.least ≤ suc v.turns - turns_in x → B.least ≤ v.turns → IsAct g z.scene z.depth z.env x there c rest
+  act_of_runs : (B : Account) (x : Action) (mode : Mode) (z : Sit) (there : Sought → List Stmt) (c rest e : List Stmt) (v : World) → 16 * v.turns + 16 ≤ B.most → B.least ≤ suc v.turns - turns_in false x → B.least ≤ v.turns → IsAct g z.scene z.depth z.env x there c rest
       → Entered mode z.env x there c e → Ready g z v → RanDid g (start z e v) B z rest v (act_of p m x mode z.env v)
   act_of_runs B (t.empty) forwards z there c rest e v le ll lb a en r =
       subst (λ code. RanDid g (start z code v) B z rest v (act_of p m (t.empty) forwards z.env v)) (sym en)
@@ -276,7 +276,7 @@ module _ (g : Setting) (p : Program) (m : Meanings) (procs : Procedures g p) (kn
       ran_first (omega arith) (omega arith)
       (λ u w1 y. ticked_store g (start z c v) B z rest v n u w1 y) (store_of_runs B e z c rest v1 (omega arith) (omega arith) a (ready_ticked g z v n r)))
 
-  act_turn : (x : Action) (mode : Mode) (z : Sit) (there : Sought → List Stmt) (c rest e : List Stmt) (v : World) → 1 ≤ turns_in x → IsAct g z.scene z.depth z.env x there c rest → Entered mode z.env x there c e → Ready g z v
+  act_turn : (x : Action) (mode : Mode) (z : Sit) (there : Sought → List Stmt) (c rest e : List Stmt) (v : World) → 1 ≤ turns_in false x → IsAct g z.scene z.depth z.env x there c rest → Entered mode z.env x there c e → Ready g z v
       → RanDid g (start z e v) (for_act x v) z rest v (turn v (λ w. act_of p m x mode z.env w))
   act_turn x mode z there c rest e v pos a en r =
       turn_behind 0 0 v _ (here _) (omega arith) (omega arith) refl refl (λ n ev.

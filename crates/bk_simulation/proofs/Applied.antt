@@ -123,7 +123,7 @@ back_ran n q = each_way_ran (λ t. adds _ (λ w. stays (history w))) (λ x. adds
 -- ---- the arguments, the procedure, the call
 
 pub apply_runs : (of : Bool) (g : Setting) (p : Program) (m : Meanings) → Procedures g p → KnowsLibrary g → Simulates g m → AloneRuns g m → AloneAdds m → (B : Account) (f : Expression) (es : Expressions) (z : Sit)
-    (c c1 c2 rest : List Stmt) (w : World) → 16 * w.turns + 5 ≤ B.most → B.least ≤ w.turns - (turns_among es + turns_of f) → c ≡ Stack (z.depth + 2) ∷ c1 → AreValues g z.scene (z.depth + 2) (past f z.env) es c1 c2
+    (c c1 c2 rest : List Stmt) (w : World) → 16 * w.turns + 5 ≤ B.most → B.least ≤ w.turns - (turns_among false es + turns_of false f) → c ≡ Stack (z.depth + 2) ∷ c1 → AreValues g z.scene (z.depth + 2) (past f z.env) es c1 c2
     → IsValue g z.scene (z.depth + 2 + count es) z.env f c2 (call_stmt of z.depth ∷ rest) → CallAt g z.scene (call_stmt of z.depth) rest → z.depth + 2 + count es + 1 ≤ FRAME_WORDS → Ready g z w
     → Ran g (start z c w) B (Gave of g (start z c w) B z rest w) (Out g (start z c w) B z w) (applied p m f es z.env w)
 apply_runs of g p m procs known sim alone_runs alone_after B f es z c c1 c2 rest w leB leB' ec laid_es laid_f call room r =
@@ -168,7 +168,7 @@ apply_runs of g p m procs known sim alone_runs alone_after B f es z c c1 c2 rest
     A = record { most = 16 * w.turns + 1; least = w.turns }
 
     D : Account
-    D = record { most = 16 * w.turns + 1; least = w.turns - turns_among es }
+    D = record { most = 16 * w.turns + 1; least = w.turns - turns_among false es }
 
     C : Account
-    C = record { most = 16 * w.turns + 1; least = w.turns - (turns_among es + turns_of f) }
+    C = record { most = 16 * w.turns + 1; least = w.turns - (turns_among false es + turns_of false f) }

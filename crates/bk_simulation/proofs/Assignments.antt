@@ -1,5 +1,5 @@
 -- Assignments: each value, its destination, and the word or byte that is stored.
-use Rattle.bk_simulation.proofs.Words.{◌≡◌, ℕ, ◌+◌, ◌-◌, ◌*◌, ◌<◌, ◌≤◌, true, List, ◌∷◌, Option, Some, None, refl, sym, ap, ◌∙◌, subst, arith, ◌%◌, ◌^◌,
+use Rattle.bk_simulation.proofs.Words.{false, ◌≡◌, ℕ, ◌+◌, ◌-◌, ◌*◌, ◌<◌, ◌≤◌, true, List, ◌∷◌, Option, Some, None, refl, sym, ap, ◌∙◌, subst, arith, ◌%◌, ◌^◌,
   word_sum, byte_distance, Content, Variable, Cell, Held, content_of, kind_of, write, below, Word, Placed, Inside, State, named_place, has_word, Local, Static,
   Stmt, Assign, AssignAt, AssignByte, Address, Dyadic, Expression, Expressions, Value, address, holds, Memory, write_byte, Environment, past, Sense, constant,
   cell, sense_of, World, changes, remembering, Outcome, gives, given, with, history, Meanings, at, store as put_value, address_named, assigned, Adds, adds,
@@ -63,13 +63,13 @@ word_runs g B z c x rest w le le' ec r = by_sense (sense_of x z.env) (r.named.ea
     by_sense _ h = went tt
 
 -- `!E`
-pub contents_address : (g : Setting) (m : Meanings) → Simulates g m → (B : Account) (e : Expression) (z : Sit) (c rest : List Stmt) (w : World) → 16 * w.turns ≤ B.most + 4 → B.least ≤ w.turns - turns_of e
+pub contents_address : (g : Setting) (m : Meanings) → Simulates g m → (B : Account) (e : Expression) (z : Sit) (c rest : List Stmt) (w : World) → 16 * w.turns ≤ B.most + 4 → B.least ≤ w.turns - turns_of false e
     → IsValue g z.scene z.depth z.env e c rest → Ready g z w → RanAddress g (start z c w) B z rest w (with (m.value e z.env w) (λ a w. gives (at a) w))
 contents_address g m sim B e z c rest w le le' l r =
     one_run g m sim B e z c rest w _ _ (λ u. adds _ (λ w1. stays (history w1))) le le' l r (λ u w1 q pos.
     went (record { arr = arrived_more (omega arith) (omega arith) q.arr; stands = q.stands }))
 
-pub contents_store : (g : Setting) (m : Meanings) → Simulates g m → (B : Account) (e : Expression) (z : Sit) (c rest : List Stmt) (w : World) → 16 * w.turns ≤ B.most + 4 → B.least ≤ w.turns - turns_of e
+pub contents_store : (g : Setting) (m : Meanings) → Simulates g m → (B : Account) (e : Expression) (z : Sit) (c rest : List Stmt) (w : World) → 16 * w.turns ≤ B.most + 4 → B.least ≤ w.turns - turns_of false e
     → IsValue g z.scene z.depth z.env e c (AssignAt ∷ rest) → Ready g z w → RanStore g (start z c w) B z rest w (with (m.value e z.env w) (λ a w. gives (at a) w))
 contents_store g m sim B e z c rest w le le' l r =
     one_run g m sim B e z c (AssignAt ∷ rest) w _ _ (λ u. adds _ (λ w1. stays (history w1))) le le' l r (λ u w1 q pos.
@@ -89,7 +89,7 @@ sum_adds u v =
     adds (λ w. with (given (sum w.memory u v) w) (λ a w. gives (at a) w))
     (λ w1. with_after (history w1) (given (sum w1.memory u v) w1) (λ a w. gives (at a) w) (given_after (sum w1.memory u v) w1) (λ a. adds (λ w2. gives (at a) w2) (λ w2. stays (history w2))))
 
-pub subscript_address : (g : Setting) (m : Meanings) → Simulates g m → (B : Account) (a b : Expression) (z : Sit) (c c1 rest : List Stmt) (w : World) → 16 * w.turns + 1 ≤ B.most → B.least ≤ w.turns - (turns_of a + turns_of b)
+pub subscript_address : (g : Setting) (m : Meanings) → Simulates g m → (B : Account) (a b : Expression) (z : Sit) (c c1 rest : List Stmt) (w : World) → 16 * w.turns + 1 ≤ B.most → B.least ≤ w.turns - (turns_of false a + turns_of false b)
     → IsValue g z.scene z.depth z.env a c c1 → IsValue g z.scene (z.depth + 1) (past a z.env) b c1 (Dyadic two.Add ∷ rest) → Ready g z w
     → RanAddress g (start z c w) B z rest w (with (m.value a z.env w) (λ x w. with (m.value b (past a z.env) w) (λ y w. with (given (sum w.memory x y) w) (λ a w. gives (at a) w))))
 subscript_address g m sim B a b z c c1 rest w le le' la lb r =
@@ -97,7 +97,7 @@ subscript_address g m sim B a b z c c1 rest w le le' la lb r =
     two_run g m sim B a b z c c1 (Dyadic two.Add ∷ rest) w _ _ sum_adds (omega arith) le' la lb r (λ u v w1 t pos.
     sum_run g (start z c w) (for_two a b w) B z rest w w1 u v _ (omega arith) (omega arith) dp (λ a q. q) t)
 
-pub subscript_store : (g : Setting) (m : Meanings) → Simulates g m → (B : Account) (a b : Expression) (z : Sit) (c c1 rest : List Stmt) (w : World) → 16 * w.turns + 1 ≤ B.most → B.least ≤ w.turns - (turns_of a + turns_of b)
+pub subscript_store : (g : Setting) (m : Meanings) → Simulates g m → (B : Account) (a b : Expression) (z : Sit) (c c1 rest : List Stmt) (w : World) → 16 * w.turns + 1 ≤ B.most → B.least ≤ w.turns - (turns_of false a + turns_of false b)
     → IsValue g z.scene z.depth z.env a c c1 → IsValue g z.scene (z.depth + 1) (past a z.env) b c1 (Dyadic two.Add ∷ AssignAt ∷ rest) → Ready g z w
     → RanStore g (start z c w) B z rest w (with (m.value a z.env w) (λ x w. with (m.value b (past a z.env) w) (λ y w. with (given (sum w.memory x y) w) (λ a w. gives (at a) w))))
 subscript_store g m sim B a b z c c1 rest w le le' la lb r =
@@ -106,7 +106,7 @@ subscript_store g m sim B a b z c c1 rest w le le' la lb r =
     sum_run g (start z c w) (for_two a b w) B z (AssignAt ∷ rest) w w1 u v _ (omega arith) (omega arith) dp (λ a q. through a w1 q) t)
 
 -- `E%E`
-pub byte_store : (g : Setting) (m : Meanings) → Simulates g m → (B : Account) (a b : Expression) (z : Sit) (c c1 rest : List Stmt) (w : World) → 16 * w.turns ≤ B.most + 4 → B.least ≤ w.turns - (turns_of a + turns_of b)
+pub byte_store : (g : Setting) (m : Meanings) → Simulates g m → (B : Account) (a b : Expression) (z : Sit) (c c1 rest : List Stmt) (w : World) → 16 * w.turns ≤ B.most + 4 → B.least ≤ w.turns - (turns_of false a + turns_of false b)
     → IsValue g z.scene z.depth z.env a c c1 → IsValue g z.scene (z.depth + 1) (past a z.env) b c1 (AssignByte ∷ rest) → Ready g z w
     → RanStore g (start z c w) B z rest w (with (m.value a z.env w) (λ x w. with (m.value b (past a z.env) w) (λ y w. gives (byte_at x y) w)))
 byte_store g m sim B a b z c c1 rest w le le' la lb r =
@@ -189,7 +189,7 @@ byte_stored g s A B z rest w w2 p k u le le' r a sp sk su =
 
 -- ---- several, one after another
 abbrev pub for_assigned : Expressions → Expressions → World → Account
-for_assigned xs es w = record { most = 16 * w.turns; least = w.turns - (turns_among xs + turns_among es) }
+for_assigned xs es w = record { most = 16 * w.turns; least = w.turns - (turns_among false xs + turns_among false es) }
 
 put_adds : (a : Target) (v : Value) → Adds (put_value a v)
 put_adds (at p) v = adds _ (λ w. changes_after (memory.write w.memory p v) w)
@@ -228,8 +228,8 @@ assigned_run g m sim (t.more x xs) (t.more e es) (v ∷ vs) (d ∷ ds) there env
     subst (λ y. RanDid g (start z y w) B z rest w (assigned m (t.more x xs) there (t.more e es) env w)) (sym bt.0)
     (one_run g m sim B e ze v.from v.to w _ _ (λ u. adds _ (λ w1. with_after _ _ _ (sim.grows.target x there w1) (λ a. adds _ (λ w2. with_after _ _ _ ((put_adds a u).at w2) (λ _. assigned_adds g m sim xs es (past x there) (past e env))))))
     (omega arith) (omega arith) fv.0 (ready_at g z w env ee r) (λ u w1 va pos.
-    let C : Account = record { most = 16 * w.turns - 4; least = w.turns - (turns_of e + turns_of x) } in
-    let D : Account = record { most = 16 * w.turns - 3; least = w.turns - (turns_of e + turns_of x) } in
+    let C : Account = record { most = 16 * w.turns - 4; least = w.turns - (turns_of false e + turns_of false x) } in
+    let D : Account = record { most = 16 * w.turns - 3; least = w.turns - (turns_of false e + turns_of false x) } in
     let m0 = va.arr.most in
     with_ran (λ a. adds _ (λ w2. with_after _ _ _ ((put_adds a u).at w2) (λ _. assigned_adds g m sim xs es (past x there) (past e env))))
     (ran_on (omega arith) (omega arith) r (omega arith) va.arr (λ a w2 q. q)

@@ -86,7 +86,7 @@ stored g s C z w h d c1 c2 d1 ps true ss w1 r le le1 rise ec none k =
 
 -- one declaration
 pub one_declared_run : (g : Setting) (m : Meanings) → Simulates g m → (h : Declaration) (env : Environment) (bs : List Binding) (then : Scene → ℕ → Environment → List Stmt → Type 0) (s : State) (A C B : Account) (z : Sit) (w : World) (c : List Stmt) (d : ℕ) (w1 : World)
-    → Ready g z w → z.depth ≤ d → KeepsLabels z.scene.bindings bs → A.most ≤ C.most → C.least ≤ A.least - turns_one_declared h → C.most ≤ B.most → B.least ≤ C.least → IsOneDeclared g (record z.scene { bindings = bs }) d env h then c
+    → Ready g z w → z.depth ≤ d → KeepsLabels z.scene.bindings bs → A.most ≤ C.most → C.least ≤ A.least - turns_one_declared false h → C.most ≤ B.most → B.least ≤ C.least → IsOneDeclared g (record z.scene { bindings = bs }) d env h then c
     → (a : OpenArrived g s A z w c d (z.frame + d) w1) → NamedIn (record z.scene { bindings = bs }) env a.bases1 z.frame
     → Ran g s B (Declared g s C z w then) (OpenExited g s B z w) (declare m h env w1)
 one_declared_run g m sim (t.constants x q is) env bs then s A C B z w c d w1 r le keeps le1 le2 le3 le4 l a named = went (record {
@@ -132,7 +132,7 @@ one_declared_run g m sim (t.definitions x ds) env bs then s A C B z w c d w1 r l
 
 -- all at the head of a block
 pub all_declared_run : (g : Setting) (m : Meanings) → Simulates g m → (hs : Declarations) (env : Environment) (bs : List Binding) (then : Scene → ℕ → Environment → List Stmt → Type 0) (s : State) (A C B : Account) (z : Sit) (w : World) (c : List Stmt) (d : ℕ) (w1 : World)
-    → Ready g z w → z.depth ≤ d → KeepsLabels z.scene.bindings bs → A.most ≤ C.most → C.least ≤ A.least - turns_declared hs → C.most ≤ B.most → B.least ≤ C.least → AreDeclared g (record z.scene { bindings = bs }) d env hs then c
+    → Ready g z w → z.depth ≤ d → KeepsLabels z.scene.bindings bs → A.most ≤ C.most → C.least ≤ A.least - turns_declared false hs → C.most ≤ B.most → B.least ≤ C.least → AreDeclared g (record z.scene { bindings = bs }) d env hs then c
     → (a : OpenArrived g s A z w c d (z.frame + d) w1) → NamedIn (record z.scene { bindings = bs }) env a.bases1 z.frame
     → Ran g s B (Declared g s C z w then) (OpenExited g s B z w) (declare_all m hs env w1)
 all_declared_run g m sim t.no_declarations env bs then s A C B z w c d w1 r le keeps le1 le2 le3 le4 l a named = went (record {
@@ -146,7 +146,7 @@ all_declared_run g m sim t.no_declarations env bs then s A C B z w c d w1 r le k
   laid = l;
 })
 all_declared_run g m sim (t.declare h hs) env bs then s A C B z w c d w1 r le keeps le1 le2 le3 le4 l a named =
-    let D : Account = record { most = A.most; least = A.least - turns_one_declared h } in
+    let D : Account = record { most = A.most; least = A.least - turns_one_declared false h } in
     let later : Scene → ℕ → Environment → List Stmt → Type 0 = λ sc1 d1 env1 c1. AreDeclared g sc1 d1 env1 hs then c1 in
     with_ran (λ env1. adds _ (λ w2. declare_all_after m sim.grows hs env1 w2))
     (one_declared_run g m sim h env bs later s A D B z w c d w1 r le keeps (omega arith) (omega arith) (omega arith) (omega arith) l a named)
@@ -155,7 +155,7 @@ all_declared_run g m sim (t.declare h hs) env bs then s A C B z w c d w1 r le ke
 -- what is laid behind the declarations of a block
 abbrev BehindBlock : Sit → Actions → List Stmt → Setting → Scene → ℕ → Environment → List Stmt → Type 0
 BehindBlock z cs rest g sc1 d1 env1 c1 =
-    (j : ℕ) × (at1 : Sought → List Stmt) × AreActs g (owning j cs sc1) d1 (labelled cs env1) cs at1 c1 (Stack z.depth ∷ rest) × (turns_through cs ≤ g.pay)
+    (j : ℕ) × (at1 : Sought → List Stmt) × AreActs g (owning j cs sc1) d1 (labelled cs env1) cs at1 c1 (Stack z.depth ∷ rest) × (turns_through false cs ≤ g.pay)
     × ((x : List ℕ) → stands_in_one (the_label x) env1 cs ≡ true → LeadsTo (owning j cs sc1) d1 x (at1 (the_label x)))
 
 -- its commands are done
@@ -166,12 +166,12 @@ pub record Left (g : Setting) (s : State) (B : Account) (z : Sit) (rest : List S
 
 -- A block with declarations. What it made dies at its end.
 pub block_runs : (g : Setting) (m : Meanings) → Simulates g m → ((env : Environment) (w : World) (cs : Actions) → After (history w) (scope_of m cs forwards env w)) → (B : Account) (l : ℕ) (h : Declaration) (hs : Declarations) (cs : Actions) (z : Sit)
-    (at : Sought → List Stmt) (c rest : List Stmt) (w : World) → 16 * w.turns + 1 ≤ B.most → B.least ≤ w.turns - (turns_declared (t.declare h hs) + turns_through cs) → IsAct g z.scene z.depth z.env (t.block l (t.declare h hs) cs) at c rest → Ready g z w
+    (at : Sought → List Stmt) (c rest : List Stmt) (w : World) → 16 * w.turns + 1 ≤ B.most → B.least ≤ w.turns - (turns_declared false (t.declare h hs) + turns_through false cs) → IsAct g z.scene z.depth z.env (t.block l (t.declare h hs) cs) at c rest → Ready g z w
     → RanDid g (start z c w) B z rest w (closing (length w.memory) (with (declare_all m (t.declare h hs) z.env w) (λ env w. scope_of m cs forwards env w)))
 block_runs g m sim scope_after B l h hs cs z at c rest w le le' laid r =
     let s = start z c w in
     let A : Account = record { most = 16 * w.turns; least = w.turns } in
-    let C : Account = record { most = 16 * w.turns; least = w.turns - turns_declared (t.declare h hs) } in
+    let C : Account = record { most = 16 * w.turns; least = w.turns - turns_declared false (t.declare h hs) } in
     let B1 : Account = record { most = B.most - 1; least = B.least } in
     let dp = r.deep in
     closed_ran {K = λ _ w1. Left g s B1 z rest w w1} r (λ _ w1 k. closes (omega arith) (omega arith) r k.arr)

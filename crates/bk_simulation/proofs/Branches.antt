@@ -59,7 +59,7 @@ finish_runs g B z c rest w le ec =
     (record { to = start z (Finish ∷ rest) w; steps = 0; paid = 0; comes = here _; most = omega arith; end = Status (pos 0); is_end = refl; stops = finish_step g.program (start z (Finish ∷ rest) w) z.scene.own rest z.depth refl; wrote = refl; left = refl }))
 
 -- RESULTIS
-pub resultis_runs : (g : Setting) (m : Meanings) → Simulates g m → (B : Account) (e : Expression) (z : Sit) (to c rest : List Stmt) (w : World) → 16 * w.turns ≤ B.most → B.least ≤ w.turns - turns_of e
+pub resultis_runs : (g : Setting) (m : Meanings) → Simulates g m → (B : Account) (e : Expression) (z : Sit) (to c rest : List Stmt) (w : World) → 16 * w.turns ≤ B.most → B.least ≤ w.turns - turns_of false e
     → IsValue g z.scene z.depth z.env e c (GiveResult z.scene.around.valof ∷ rest) → from_label z.scene.own.stmts z.scene.around.valof ≡ Some to → Ready g z w
     → RanDid g (start z c w) B z rest w (with (m.value e z.env w) (λ v w. leaves (result v) w))
 resultis_runs g m sim B e z to c rest w le le' l f r =
@@ -69,7 +69,7 @@ resultis_runs g m sim B e z to c rest w le le' l f r =
     went (record { control = to; depth1 = z.depth; leads = f; arr = b; later = omega arith; hands = (content_of (q.arr.cells1 (z.frame + z.depth)), refl, q.stands) }))
 
 -- ---- a place that may be sought, and the command behind it
-behind_place : (g : Setting) (m : Meanings) → Simulates g m → (B : Account) (a : Action) (z : Sit) (n : ℕ) (at1 : Sought → List Stmt) (c1 rest : List Stmt) (w : World) → 16 * w.turns + 1 ≤ B.most → B.least ≤ w.turns - turns_in a
+behind_place : (g : Setting) (m : Meanings) → Simulates g m → (B : Account) (a : Action) (z : Sit) (n : ℕ) (at1 : Sought → List Stmt) (c1 rest : List Stmt) (w : World) → 16 * w.turns + 1 ≤ B.most → B.least ≤ w.turns - turns_in false a
     → IsAct g z.scene z.depth z.env a at1 c1 rest → LabelAt g z.scene z.depth n c1 → Ready g z w → RanDid g (start z (Label n ∷ c1) w) B z rest w (m.act a forwards z.env w)
 behind_place g m sim B a z n at1 c1 rest w le le' l ln r =
     let s = start z (Label n ∷ c1) w in
@@ -82,7 +82,7 @@ abbrev pub EnteredPlace : Mode → Environment → Sought → Action → (Sought
 EnteredPlace forwards env spot a at c e = e ≡ c
 EnteredPlace (seeking s) env spot a at c e = ((same_place s spot || stands_in s env a) ≡ true) × (e ≡ at s)
 
-pub place_run : (g : Setting) (m : Meanings) → Simulates g m → (B : Account) (spot : Sought) (a : Action) (mode : Mode) (z : Sit) (at : Sought → List Stmt) (c rest e : List Stmt) (w : World) → 16 * w.turns + 1 ≤ B.most → B.least ≤ w.turns - turns_in a
+pub place_run : (g : Setting) (m : Meanings) → Simulates g m → (B : Account) (spot : Sought) (a : Action) (mode : Mode) (z : Sit) (at : Sought → List Stmt) (c rest e : List Stmt) (w : World) → 16 * w.turns + 1 ≤ B.most → B.least ≤ w.turns - turns_in false a
     → PlaceOf g z.scene z.depth spot (λ at1 c1. IsAct g z.scene z.depth z.env a at1 c1 rest) at c → EnteredPlace mode z.env spot a at c e → Ready g z w → RanDid g (start z e w) B z rest w (m.act a (at_place spot mode) z.env w)
 place_run g m sim B spot a forwards z at c rest e w le le' l en r =
     subst (λ y. RanDid g (start z y w) B z rest w (m.act a forwards z.env w)) (sym (en ∙ l.3)) (behind_place g m sim B a z l.0 l.2 l.1 rest w le le' l.4 l.5 r)
@@ -98,7 +98,7 @@ place_run g m sim B spot a (seeking s) z at c rest e w le le' l en r =
 
 -- a command behind an arrival, and what is done behind it
 pub act_after : (g : Setting) (m : Meanings) → Simulates g m → (s : State) (A C B : Account) (a : Action) (mode : Mode) (z : Sit) (env : Environment) (at : Sought → List Stmt) (c1 e1 mid rest : List Stmt) (w w1 : World)
-    → A.most ≤ C.most → C.least ≤ (w1.turns - turns_in a) + (A.least - w1.turns) → C.most ≤ B.most → B.least ≤ C.least → env.names ≡ z.env.names → IsAct g z.scene z.depth env a at c1 mid → Entered mode env a at c1 e1 → Ready g z w
+    → A.most ≤ C.most → C.least ≤ (w1.turns - turns_in false a) + (A.least - w1.turns) → C.most ≤ B.most → B.least ≤ C.least → env.names ≡ z.env.names → IsAct g z.scene z.depth env a at c1 mid → Entered mode env a at c1 e1 → Ready g z w
     → ArrivedAt g s A z e1 z.depth w w1 → ((w2 : World) → Did g s C z mid w w2 → Did g s B z rest w w2) → RanDid g s B z rest w (m.act a mode env w1)
 act_after g m sim s A C B a mode z env at c1 e1 mid rest w w1 le ll le2 ll2 en l ent r ar fin =
     ran_on (omega arith) (omega arith) r (omega arith) ar (λ _ w2 q. fin w2 (arrived_on (omega arith) (omega arith) r (omega arith) ar q))
@@ -122,7 +122,7 @@ when_adds : (g : Setting) (m : Meanings) → Simulates g m → (a : Action) (env
 when_adds g m sim a env b x = adds _ (λ w. either_after (same_truth b x) _ _ (adds _ (λ w1. sim.grows.act a forwards env w1)) (adds _ (λ w1. stays (history w1))) w)
 
 pub when_run : (g : Setting) (m : Meanings) → Simulates g m → (B : Account) (b : Bool) (e : Expression) (a : Action) (z : Sit) (n : ℕ) (at : Sought → List Stmt) (c c1 rest : List Stmt) (w : World) → 16 * w.turns + 2 ≤ B.most
-    → B.least ≤ w.turns - (turns_of e + turns_in a) → IsJump g z.scene z.depth z.env e (not b) n c c1 → IsAct g z.scene z.depth (past e z.env) a at c1 (Label n ∷ rest) → LabelAt g z.scene z.depth n rest → Ready g z w
+    → B.least ≤ w.turns - (turns_of false e + turns_in false a) → IsJump g z.scene z.depth z.env e (not b) n c c1 → IsAct g z.scene z.depth (past e z.env) a at c1 (Label n ∷ rest) → LabelAt g z.scene z.depth n rest → Ready g z w
     → RanDid g (start z c w) B z rest w (where_truth m b e z.env (λ w. m.act a forwards (past e z.env) w) w)
 when_run g m sim B b e a z n at c c1 rest w le le' le_ la ln r =
     let s = start z c w in
@@ -132,20 +132,20 @@ when_run g m sim B b e a z n at c c1 rest w le le' le_ la ln r =
   where
     goes : (t : Bool) (w1 : World) → ArrivedAt g (start z c w) (for_truth e w) z (cond t c1 (Label n ∷ rest)) z.depth w w1 → RanDid g (start z c w) B z rest w (either t (λ w. m.act a forwards (past e z.env) w) done w1)
     goes true w1 q = let dp = r.deep in let m0 = q.most in
-        act_after g m sim (start z c w) (for_truth e w) (record { most = 16 * w.turns; least = w.turns - (turns_of e + turns_in a) }) B a forwards z (past e z.env) at c1 c1 (Label n ∷ rest) rest w w1 (omega arith) (omega arith) (omega arith) (omega arith) refl la refl r q
+        act_after g m sim (start z c w) (for_truth e w) (record { most = 16 * w.turns; least = w.turns - (turns_of false e + turns_in false a) }) B a forwards z (past e z.env) at c1 c1 (Label n ∷ rest) rest w w1 (omega arith) (omega arith) (omega arith) (omega arith) refl la refl r q
         (λ w2 y. landed_on (omega arith) (omega arith) ln y)
     goes false w1 q = went (landed_on (omega arith) (omega arith) ln q)
 
 -- a place inside a command is sought
 pub inside_run : (g : Setting) (m : Meanings) → Simulates g m → (B : Account) (a : Action) (s : Sought) (z : Sit) (env : Environment) (at : Sought → List Stmt) (c1 e mid rest : List Stmt) (w : World) → 16 * w.turns + 2 ≤ B.most
-    → B.least ≤ w.turns - turns_in a → env.names ≡ z.env.names → IsAct g z.scene z.depth env a at c1 mid → Entered (seeking s) env a at c1 e → Ready g z w
+    → B.least ≤ w.turns - turns_in false a → env.names ≡ z.env.names → IsAct g z.scene z.depth env a at c1 mid → Entered (seeking s) env a at c1 e → Ready g z w
     → ((A : Account) (w2 : World) → A.most + 2 ≤ B.most → B.least ≤ A.least → ArrivedAt g (start z e w) A z mid z.depth w w2 → Did g (start z e w) B z rest w w2) → RanDid g (start z e w) B z rest w (m.act a (seeking s) env w)
 inside_run g m sim B a s z env at c1 e mid rest w le le' en l ent r fin =
-    act_after g m sim (start z e w) (record { most = 16 * w.turns; least = w.turns }) (record { most = 16 * w.turns; least = w.turns - turns_in a }) B a (seeking s) z env at c1 e mid rest w w (omega arith) (omega arith) (omega arith) (omega arith) en l ent r
-    (stay g (record { most = 16 * w.turns; least = w.turns }) z e w (omega arith) (omega arith) r) (λ w2 y. fin (record { most = 16 * w.turns; least = w.turns - turns_in a }) w2 le le' y)
+    act_after g m sim (start z e w) (record { most = 16 * w.turns; least = w.turns }) (record { most = 16 * w.turns; least = w.turns - turns_in false a }) B a (seeking s) z env at c1 e mid rest w w (omega arith) (omega arith) (omega arith) (omega arith) en l ent r
+    (stay g (record { most = 16 * w.turns; least = w.turns }) z e w (omega arith) (omega arith) r) (λ w2 y. fin (record { most = 16 * w.turns; least = w.turns - turns_in false a }) w2 le le' y)
 
 pub when_sought : (g : Setting) (m : Meanings) → Simulates g m → (B : Account) (e0 : Expression) (a : Action) (s : Sought) (z : Sit) (n : ℕ) (at : Sought → List Stmt) (c1 e rest : List Stmt) (w : World) → 16 * w.turns + 2 ≤ B.most
-    → B.least ≤ w.turns - turns_in a → IsAct g z.scene z.depth (past e0 z.env) a at c1 (Label n ∷ rest) → LabelAt g z.scene z.depth n rest → (stands_in s z.env a ≡ true) × (e ≡ at s) → Ready g z w
+    → B.least ≤ w.turns - turns_in false a → IsAct g z.scene z.depth (past e0 z.env) a at c1 (Label n ∷ rest) → LabelAt g z.scene z.depth n rest → (stands_in s z.env a ≡ true) × (e ≡ at s) → Ready g z w
     → RanDid g (start z e w) B z rest w (m.act a (seeking s) (past e0 z.env) w)
 when_sought g m sim B e0 a s z n at c1 e rest w le le' l ln en r =
     let dp = r.deep in
@@ -157,7 +157,7 @@ test_adds : (g : Setting) (m : Meanings) → Simulates g m → (a b : Action) (u
 test_adds g m sim a b u v x = adds _ (λ w. either_after x _ _ (adds _ (λ w1. sim.grows.act a forwards u w1)) (adds _ (λ w1. sim.grows.act b forwards v w1)) w)
 
 pub test_run : (g : Setting) (m : Meanings) → Simulates g m → (B : Account) (e : Expression) (a b : Action) (z : Sit) (n n1 : ℕ) (at1 at2 : Sought → List Stmt) (c c1 c2 rest : List Stmt) (w : World) → 16 * w.turns + 4 ≤ B.most
-    → B.least ≤ w.turns - (turns_of e + (turns_in a + turns_in b)) → IsJump g z.scene z.depth z.env e false n c c1 → IsAct g z.scene z.depth (past e z.env) a at1 c1 (Jump n1 ∷ Label n ∷ c2)
+    → B.least ≤ w.turns - (turns_of false e + (turns_in false a + turns_in false b)) → IsJump g z.scene z.depth z.env e false n c c1 → IsAct g z.scene z.depth (past e z.env) a at1 c1 (Jump n1 ∷ Label n ∷ c2)
     → IsAct g z.scene z.depth (past_action a (past e z.env)) b at2 c2 (Label n1 ∷ rest) → LabelAt g z.scene z.depth n c2 → LabelAt g z.scene z.depth n1 rest → Ready g z w
     → RanDid g (start z c w) B z rest w (with (m.truth e z.env w) (λ x w. either x (λ w. m.act a forwards (past e z.env) w) (λ w. m.act b forwards (past_action a (past e z.env)) w) w))
 test_run g m sim B e a b z n n1 at1 at2 c c1 c2 rest w le le' le_ la lb l0 l1 r =
@@ -167,17 +167,17 @@ test_run g m sim B e a b z n n1 at1 at2 c c1 c2 rest w le le' le_ la lb l0 l1 r 
     goes : (x : Bool) (w1 : World) → ArrivedAt g (start z c w) (for_truth e w) z (where_to false x (Label n ∷ c2) c1) z.depth w w1
         → RanDid g (start z c w) B z rest w (either x (λ w. m.act a forwards (past e z.env) w) (λ w. m.act b forwards (past_action a (past e z.env)) w) w1)
     goes true w1 q = let dp = r.deep in let m0 = q.most in
-        act_after g m sim (start z c w) (for_truth e w) (record { most = 16 * w.turns; least = w.turns - (turns_of e + turns_in a) }) B a forwards z (past e z.env) at1 c1 c1 (Jump n1 ∷ Label n ∷ c2) rest w w1 (omega arith) (omega arith) (omega arith) (omega arith) refl la refl r q
+        act_after g m sim (start z c w) (for_truth e w) (record { most = 16 * w.turns; least = w.turns - (turns_of false e + turns_in false a) }) B a forwards z (past e z.env) at1 c1 c1 (Jump n1 ∷ Label n ∷ c2) rest w w1 (omega arith) (omega arith) (omega arith) (omega arith) refl la refl r q
         (λ w2 y. jumped_on (omega arith) (omega arith) r.deep l1 y)
     goes false w1 q = let dp = r.deep in
-        let A : Account = record { most = 16 * w.turns + 1; least = w.turns - turns_of e } in
+        let A : Account = record { most = 16 * w.turns + 1; least = w.turns - turns_of false e } in
         let ar : ArrivedAt g (start z c w) A z c2 z.depth w w1 = landed_on (omega arith) (omega arith) l0 q in
         let m0 = ar.most in
-        act_after g m sim (start z c w) A (record { most = 16 * w.turns + 1; least = w.turns - (turns_of e + turns_in b) }) B b forwards z (past_action a (past e z.env)) at2 c2 c2 (Label n1 ∷ rest) rest w w1 (omega arith) (omega arith) (omega arith) (omega arith) refl lb refl r ar
+        act_after g m sim (start z c w) A (record { most = 16 * w.turns + 1; least = w.turns - (turns_of false e + turns_in false b) }) B b forwards z (past_action a (past e z.env)) at2 c2 c2 (Label n1 ∷ rest) rest w w1 (omega arith) (omega arith) (omega arith) (omega arith) refl lb refl r ar
         (λ w2 y. landed_on (omega arith) (omega arith) l1 y)
 
 pub test_sought : (g : Setting) (m : Meanings) → Simulates g m → (B : Account) (e0 : Expression) (a b : Action) (s : Sought) (z : Sit) (n n1 : ℕ) (at at1 at2 : Sought → List Stmt) (c1 c2 e rest : List Stmt) (w : World) → 16 * w.turns + 4 ≤ B.most
-    → B.least ≤ w.turns - (turns_in a + turns_in b) → IsAct g z.scene z.depth (past e0 z.env) a at1 c1 (Jump n1 ∷ Label n ∷ c2) → IsAct g z.scene z.depth (past_action a (past e0 z.env)) b at2 c2 (Label n1 ∷ rest)
+    → B.least ≤ w.turns - (turns_in false a + turns_in false b) → IsAct g z.scene z.depth (past e0 z.env) a at1 c1 (Jump n1 ∷ Label n ∷ c2) → IsAct g z.scene z.depth (past_action a (past e0 z.env)) b at2 c2 (Label n1 ∷ rest)
     → LabelAt g z.scene z.depth n1 rest → ((s : Sought) → at s ≡ cond (stands_in s z.env a) (at1 s) (at2 s)) → ((stands_in s z.env a || stands_in s z.env b) ≡ true) × (e ≡ at s) → Ready g z w
     → RanDid g (start z e w) B z rest w (either (stands_in s z.env a) (λ w. m.act a (seeking s) (past e0 z.env) w) (λ w. m.act b (seeking s) (past_action a (past e0 z.env)) w) w)
 test_sought g m sim B e0 a b s z n n1 at at1 at2 c1 c2 e rest w le le' la lb l1 ea en r =

@@ -193,7 +193,7 @@ returned_in false g s A B z rest w w3 n v result le le' en r call q st =
 -- the code of a body, with its return
 abbrev pub IsBody : Setting → Scene → ℕ → Environment → Body → List Stmt → Type 0
 IsBody g sc d env (command x) c = (j : ℕ) × (r : List Stmt) × IsAlone g sc d env x j c (Return ∷ r)
-IsBody g sc d env (expression e) c = (r : List Stmt) × IsValue g sc d env e c (ReturnItem ∷ r) × (turns_of e ≤ g.pay)
+IsBody g sc d env (expression e) c = (r : List Stmt) × IsValue g sc d env e c (ReturnItem ∷ r) × (turns_of false e ≤ g.pay)
 
 -- Procedure n: its ENTRY and SAVE, its body behind them, and what the names there mean in a run, where its formals are an object that begins
 -- behind the links of its frame.
@@ -281,8 +281,8 @@ valued_by g s B z r w v w1 q = record {
 }
 
 abbrev pub turns_of_body : Body → ℕ
-turns_of_body (command x) = turns_through (alone x)
-turns_of_body (expression e) = turns_of e
+turns_of_body (command x) = turns_through false (alone x)
+turns_of_body (expression e) = turns_of false e
 
 abbrev pub for_body : Body → World → Account
 for_body b w = record { most = 16 * w.turns; least = w.turns - turns_of_body b }

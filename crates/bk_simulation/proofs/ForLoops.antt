@@ -181,7 +181,7 @@ limit_next g s A z c w w1 d o u ed r l a = record {
 
 -- a further round: the LAB of the body pays, and a turn is taken
 further_count : (g : Setting) (m : Meanings) → Simulates g m → (s : State) (A B : Account) (x : Action) (o : ℕ) (u : Value) (k d : ℕ) (z : Sit) (n1 : ℕ) (body rest : List Stmt) (w w1 : World) → A.most + 1 ≤ B.most → A.most ≤ 16 * w.turns + 10
-    → 16 * w.turns + 11 ≤ B.most → B.least ≤ w.turns - suc (turns_in x) → w.turns ≤ A.least + turns_in x → suc (turns_in x) ≤ g.pay → z.depth ≡ d + 2 → IsForLoop g z.scene z.depth d k z.env x body rest → Limit g z w d o u
+    → 16 * w.turns + 11 ≤ B.most → B.least ≤ w.turns - suc (turns_in false x) → w.turns ≤ A.least + turns_in false x → suc (turns_in false x) ≤ g.pay → z.depth ≡ d + 2 → IsForLoop g z.scene z.depth d k z.env x body rest → Limit g z w d o u
     → LabelAt g z.scene z.depth n1 body → Ready g z w → ArrivedAt g s A z (Label n1 ∷ body) z.depth w w1 → RanDid g s B z rest w (turn w1 (λ w. m.for_rounds x o u k z.env w))
 further_count g m sim s A B x o u k d z n1 body rest w w1 le0 le1 le ll la lp ed lf lim ln r a =
     let b = label_on ln a in
@@ -213,7 +213,7 @@ for_rounds_run g m sim x o u k d z body rest w ed lf lim r =
     exit_adds loop = next_adds
     exit_adds _ = adds _ (λ w1. stays (history w1))
 
-    go : (A : Account) (w1 : World) → A.most ≤ 16 * w.turns → w.turns ≤ A.least + turns_in x → ArrivedAt g (start z body w) A z (Label lf.2 ∷ behind_body d k lf.0 lf.5) z.depth w w1
+    go : (A : Account) (w1 : World) → A.most ≤ 16 * w.turns → w.turns ≤ A.least + turns_in false x → ArrivedAt g (start z body w) A z (Label lf.2 ∷ behind_body d k lf.0 lf.5) z.depth w w1
         → RanDid g (start z body w) (for_counts x w) z rest w (with (for_step o k w1) (λ _ w. for_test o u k (λ w. turn w (λ w. m.for_rounds x o u k z.env w)) w))
     go A w1 lm ll a =
         let s = start z body w in
@@ -227,7 +227,7 @@ for_rounds_run g m sim x o u k d z body rest w ed lf lim r =
         test_run g s A6 B z d o k lf.1 u (Label lf.1 ∷ body) (Label lf.3 ∷ rest) rest w w2 (λ w. turn w (λ w. m.for_rounds x o u k z.env w)) turn_adds (omega arith) (omega arith) lf.13 ed lim lf.9.found r
         (subst (λ y. ArrivedAt g s A6 z y z.depth w w2) lf.7 (landed_on (omega arith) (omega arith) lf.8 b)) (fin A lm ll))
       where
-        fin : (A : Account) → A.most ≤ 16 * w.turns → w.turns ≤ A.least + turns_in x → (t : Bool) (w3 : World)
+        fin : (A : Account) → A.most ≤ 16 * w.turns → w.turns ≤ A.least + turns_in false x → (t : Bool) (w3 : World)
             → ArrivedAt g (start z body w) (record { most = A.most + 6 + 4; least = A.least }) z (where_to true t (Label lf.1 ∷ body) (Label lf.3 ∷ rest)) z.depth w w3
             → RanDid g (start z body w) (for_counts x w) z rest w (either t (λ w. turn w (λ w. m.for_rounds x o u k z.env w)) done w3)
         fin A lm ll true w3 c =
@@ -237,7 +237,7 @@ for_rounds_run g m sim x o u k d z body rest w ed lf lim r =
     out : (y : Exit) (w1 : World) → Out g (start z body w) (for_scope (alone x) w) (looping lf.2 lf.3 z) w y w1
         → RanDid g (start z body w) (for_counts x w) z rest w (round_exit (λ w. with (for_step o k w) (λ _ w. for_test o u k (λ w. turn w (λ w. m.for_rounds x o u k z.env w)) w)) y w1)
     out loop w1 q = let dp = r.deep in
-        go (record { most = 16 * w.turns; least = (w.turns - turns_through (alone x)) + g.pay + g.pay }) w1 (omega arith) (omega arith)
+        go (record { most = 16 * w.turns; least = (w.turns - turns_through false (alone x)) + g.pay + g.pay }) w1 (omega arith) (omega arith)
         (caught_at q (goal lf.2 z.depth) z.depth (Label lf.2 ∷ behind_body d k lf.0 lf.5) refl q.leads.0 lf.10.found refl (omega arith) (omega arith))
     out break w1 q = let dp = r.deep in
         went (landed_on (omega arith) (omega arith) lf.11
@@ -287,8 +287,8 @@ same_label : (g : Setting) (sc : Scene) (bs : List Binding) (d n : ℕ) (rest : 
 same_label g sc bs d n rest l = record { is_own = l.is_own; place = l.place; at = l.at; same_depth = l.same_depth; behind = l.behind; found = l.found }
 
 -- ---- the test and the rounds, with the variable in scope
-first_test : (g : Setting) (m : Meanings) → Simulates g m → (B : Account) (x : Action) (o : ℕ) (u : Value) (k d n1 : ℕ) (z : Sit) (body test end : List Stmt) (n3 : ℕ) (w : World) → 16 * w.turns + 16 ≤ B.most → B.least ≤ w.turns - suc (turns_in x) → z.depth ≡ d + 2
-    → IsForLoop g z.scene z.depth d k z.env x body end → test ≡ Load (Local d) ∷ Load (Local (d + 1)) ∷ test_of_step k ∷ JumpIf true n1 ∷ Label n3 ∷ end → LabelAt g z.scene z.depth n1 body → LabelAt g z.scene z.depth n3 end → suc (turns_in x) ≤ g.pay → k < 2 ^ 32
+first_test : (g : Setting) (m : Meanings) → Simulates g m → (B : Account) (x : Action) (o : ℕ) (u : Value) (k d n1 : ℕ) (z : Sit) (body test end : List Stmt) (n3 : ℕ) (w : World) → 16 * w.turns + 16 ≤ B.most → B.least ≤ w.turns - suc (turns_in false x) → z.depth ≡ d + 2
+    → IsForLoop g z.scene z.depth d k z.env x body end → test ≡ Load (Local d) ∷ Load (Local (d + 1)) ∷ test_of_step k ∷ JumpIf true n1 ∷ Label n3 ∷ end → LabelAt g z.scene z.depth n1 body → LabelAt g z.scene z.depth n3 end → suc (turns_in false x) ≤ g.pay → k < 2 ^ 32
     → Limit g z w d o u → Adds (λ w. for_rounds_of m x o u k z.env w) → Ready g z w → RanDid g (start z test w) B z end w (for_test o u k (λ w. for_rounds_of m x o u k z.env w) w)
 first_test g m sim B x o u k d n1 z body test end n3 w le le' ed lf et l1 l3 few lk lim ad r =
     test_run g (start z test w) (record { most = 16 * w.turns; least = w.turns }) B z d o k n1 u (Label n1 ∷ body) (Label n3 ∷ end) end w w (λ w. for_rounds_of m x o u k z.env w) ad (omega arith) (omega arith) lk ed lim l1.found r
@@ -371,7 +371,7 @@ for_opened : (g : Setting) (m : Meanings) → Simulates g m → (l : ℕ) (x : M
     (there : Sought → List Stmt) (c0 rest : List Stmt) (w : World) (u v : Value) (lx : IsAct g z.scene z.depth z0.env (t.for_loop l x a y h c) there c0 rest)
     → z.env ≡ past y (past a z0.env) → Ready g z w → Stands g.codes z.bases u (content_of (z.cells (z.frame + z.depth)))
     → Stands g.codes z.bases v (content_of (z.cells (z.frame + (z.depth + 1)))) → ((o : ℕ) → Adds (λ w. for_rounds_of m c o v lx.4 (bind x.letters (cell o 0) z.env) w))
-    → RanDid g (state z.scene.own (z.depth + 1 + 1) (Store_stmt ∷ Jump lx.0 ∷ Label lx.1 ∷ lx.7) z.cells z.frame z.hand z.written w) (record { most = 16 * w.turns + 20; least = w.turns - suc (turns_in c) }) z rest w
+    → RanDid g (state z.scene.own (z.depth + 1 + 1) (Store_stmt ∷ Jump lx.0 ∷ Label lx.1 ∷ lx.7) z.cells z.frame z.hand z.written w) (record { most = 16 * w.turns + 20; least = w.turns - suc (turns_in false c) }) z rest w
     (for_loop m x.letters c u v lx.4 z.env w)
 unfolding variable_made
 for_opened g m sim l x a y h c z z0 there c0 rest w u v lx ez r su sv ad =
@@ -387,7 +387,7 @@ for_opened g m sim l x a y h c z z0 there c0 rest w u v lx ez r su sv ad =
     let env1 = bind x.letters (cell o 0) z.env in
     let A0 : Account = record { most = 16 * w.turns + 1; least = w.turns } in
     let A3 : Account = record { most = 16 * w.turns + 3; least = w.turns } in
-    let D : Account = record { most = 16 * w.turns + 19; least = w.turns - suc (turns_in c) } in
+    let D : Account = record { most = 16 * w.turns + 19; least = w.turns - suc (turns_in false c) } in
     let a0 = variable_made g z w (Jump lx.0 ∷ Label lx.1 ∷ lx.7) u r lx.18 su in
     let a1 : OpenArrived g s0 (further 1 A0) z w (Label lx.0 ∷ lx.8) (z.depth + 1 + 1) more w1 = open_step r (omega arith) a0 (below (z.frame + (z.depth + 1 + 1)) a0.cells1) None a0.written1
     (λ x lx. below_like (z.frame + (z.depth + 1 + 1)) a0.cells1 x (omega arith))
@@ -398,7 +398,7 @@ for_opened g m sim l x a y h c z z0 there c0 rest w u v lx ez r su sv ad =
     (named_grown z.scene z.env z.bases a3.bases1 z.frame (grown_made z.bases (z.frame + z.depth)) r.named) in
     let z1 = open_sit g s0 A3 z w lx.8 d2 more w1 a3 bs env1 in
     let r1 = open_ready a3 bs env1 (omega arith) names r in
-    let N : Account = record { most = 16 * w.turns + 16; least = w.turns - suc (turns_in c) } in
+    let N : Account = record { most = 16 * w.turns + 16; least = w.turns - suc (turns_in false c) } in
     let scope : IsForLoop g z1.scene d2 z.depth lx.4 env1 c lx.7 (Stack z.depth ∷ rest) = (
       lx.0,
       lx.1,
@@ -435,7 +435,7 @@ loop_adds m x c u v k env ad =
 
 pub for_run : (g : Setting) (m : Meanings) → Simulates g m → (B : Account) (l : ℕ) (x : Mention) (a y : Expression) (h : Expressions) (c : Action) (z : Sit)
     (there : Sought → List Stmt) (c0 rest : List Stmt) (w : World) → 16 * w.turns + 16 ≤ B.most
-    → B.least ≤ w.turns - (turns_of a + (turns_of y + suc (turns_in c))) → IsAct g z.scene z.depth z.env (t.for_loop l x a y h c) there c0 rest
+    → B.least ≤ w.turns - (turns_of false a + (turns_of false y + suc (turns_in false c))) → IsAct g z.scene z.depth z.env (t.for_loop l x a y h c) there c0 rest
     → ((o : ℕ) (v : Value) (k : ℕ) (env : Environment) → Adds (λ w. for_rounds_of m c o v k env w)) → Ready g z w
     → RanDid g (start z c0 w) B z rest w (with (m.value a z.env w) (λ u w. with (m.value y (past a z.env) w) (λ v w. with (given (step_of z.env h) w) (λ n w. for_loop m x.letters c u v n (past y (past a z.env)) w))))
 for_run g m sim B l x a y h c z there c0 rest w le le' lx ad r =

@@ -55,7 +55,3 @@ held_out g own o [] h = tt
 held_out g own o (global_vector ∷ xs) h = (h.0, held_out g own (suc o) xs h.1)
 held_out g own o (words ws ∷ xs) h = (h.0, held_out g own (suc o) xs h.1)
 held_out g own o (code f ∷ xs) h = ((h.0.0, h.0.2), held_out g own (suc o) xs h.1)
-
-pub lasting_both : (xs ys : List Lasting) → length (xs ++ ys) ≡ length xs + length ys
-lasting_both [] ys = omega arith
-lasting_both (x ∷ xs) ys = let h = lasting_both xs ys in omega (arith, h)

@@ -193,7 +193,7 @@ abbrev pub OneScope : Setting → Scene → ℕ → Environment → Action → �
 OneScope g sc d env a j inner rest =
     (at : Sought → List Stmt)
     × ((c1 : List Stmt) × (at1 at2 : Sought → List Stmt) × inner at1 c1 × (c1 ≡ rest) × ((s : Sought) → at s ≡ cond (stands_in s (labelled (alone a) env) a) (at1 s) (at2 s)))
-    × (turns_through (alone a) ≤ g.pay)
+    × (turns_through false (alone a) ≤ g.pay)
     × ((x : List ℕ) → stands_in_one (the_label x) env (alone a) ≡ true → LeadsTo (owning j (alone a) sc) d x (at (the_label x)))
 
 -- statements, and those behind them
@@ -296,7 +296,7 @@ abbrev mutual
   IsAct g sc d env (t.while l u e a) at c rest =
       (n n1 n2 : ℕ) × (body test : List Stmt) × (c ≡ Jump n ∷ Label n1 ∷ body) × IsAct g (in_loop n n2 d sc) d (past e env) a at body (Label n ∷ test)
       × IsCode g sc d env (jumps u n1) e test (Label n2 ∷ rest) × LabelAt g sc d n test × LabelAt g sc d n1 body × LabelAt g sc d n2 rest
-      × (suc (turns_of e + turns_in a) ≤ g.pay)
+      × (suc (turns_of false e + turns_in false a) ≤ g.pay)
   IsAct g sc d env (t.for_loop l x a y h e) at c rest =
       (n n1 n2 n3 k j : ℕ) × (c1 body test : List Stmt) × IsCode g sc d env pushes a c c1 × IsCode g sc (d + 1) (past a env) pushes y c1 (Store ∷ Jump n ∷ Label n1 ∷ body)
       × ((object : ℕ) → 0 < object →
@@ -307,7 +307,7 @@ abbrev mutual
       × (test ≡ Load (Local d) ∷ Load (Local (d + 1)) ∷ test_of_step k ∷ JumpIf true n1 ∷ Label n3 ∷ Stack d ∷ rest)
       × (step_of env h ≡ Some k) × LabelAt g sc (d + 2) n test × LabelAt g sc (d + 2) n1 body
       × LabelAt g sc (d + 2) n2 (Load (Local d) ∷ Number (signed k) ∷ Dyadic two.Add ∷ Assign (Local d) ∷ Label n ∷ test) × LabelAt g sc (d + 2) n3 (Stack d ∷ rest)
-      × (d + 2 ≤ FRAME_WORDS) × (suc (turns_in e) ≤ g.pay) × (k < 2 ^ 32)
+      × (d + 2 ≤ FRAME_WORDS) × (suc (turns_in false e) ≤ g.pay) × (k < 2 ^ 32)
   IsAct g sc d env (t.switch l e a) at c rest =
       (n other : ℕ) × (cs : List Case) × (c1 : List Stmt) × IsCode g sc d env pushes e c (Switch other cs ∷ c1) × IsAct g (in_switch n d sc) d (past e env) a at c1 (Label n ∷ rest) × LabelAt g sc d n rest
       × ((w : ℕ) → stands_in (the_case (Some w)) (past e env) a ≡ true → from_label sc.own.stmts (case_label cs other w) ≡ Some (at (the_case (Some w))))
@@ -323,15 +323,15 @@ abbrev mutual
   IsAct g sc d env (t.block l t.no_declarations cs) at c rest = AreActs g sc d env cs at c rest
   IsAct g sc d env (t.block l (t.declare h hs) cs) at c rest =
       IsOneDeclared g sc d env h (λ sc0 d0 env0 c0. AreDeclared g sc0 d0 env0 hs (λ sc1 d1 env1 c1.
-      (j : ℕ) × (at1 : Sought → List Stmt) × AreActs g (owning j cs sc1) d1 (labelled cs env1) cs at1 c1 (Stack d ∷ rest) × (turns_through cs ≤ g.pay)
+      (j : ℕ) × (at1 : Sought → List Stmt) × AreActs g (owning j cs sc1) d1 (labelled cs env1) cs at1 c1 (Stack d ∷ rest) × (turns_through false cs ≤ g.pay)
       × ((x : List ℕ) → stands_in_one (the_label x) env1 cs ≡ true → LeadsTo (owning j cs sc1) d1 x (at1 (the_label x)))) c0) c
   IsAct g sc d env (t.repeat l a) at c rest =
       (n n1 : ℕ) × (body : List Stmt) × (c ≡ Label n ∷ body) × IsAct g (in_loop n n1 d sc) d env a at body (Jump n ∷ Label n1 ∷ rest) × LabelAt g sc d n body × LabelAt g sc d n1 rest
-      × (suc (turns_in a) ≤ g.pay)
+      × (suc (turns_in false a) ≤ g.pay)
   IsAct g sc d env (t.repeat_while l u a e) at c rest =
       (n n1 n2 : ℕ) × (body test : List Stmt) × (c ≡ Label n ∷ body) × IsAct g (in_loop n1 n2 d sc) d env a at body (Label n1 ∷ test)
       × IsCode g sc d (past_action a env) (jumps u n) e test (Label n2 ∷ rest) × LabelAt g sc d n body × LabelAt g sc d n1 test × LabelAt g sc d n2 rest
-      × (suc (turns_of e + turns_in a) ≤ g.pay)
+      × (suc (turns_of false e + turns_in false a) ≤ g.pay)
 
   -- commands in order
   pub AreActs : Setting → Scene → ℕ → Environment → Actions → (Sought → List Stmt) → List Stmt → List Stmt → Type 0
@@ -385,7 +385,7 @@ IsJump g sc d env e u n c rest = IsCode g sc d env (jumps u n) e c rest
 -- the commands of a scope
 abbrev pub IsScopeAt : Setting → Scene → ℕ → Environment → Actions → ℕ → (Sought → List Stmt) → List Stmt → List Stmt → Type 0
 IsScopeAt g sc d env cs j at c rest =
-    AreActs g (owning j cs sc) d (labelled cs env) cs at c rest × (turns_through cs ≤ g.pay)
+    AreActs g (owning j cs sc) d (labelled cs env) cs at c rest × (turns_through false cs ≤ g.pay)
     × ((x : List ℕ) → stands_in_one (the_label x) env cs ≡ true → LeadsTo (owning j cs sc) d x (at (the_label x)))
 
 abbrev pub IsScope : Setting → Scene → ℕ → Environment → Actions → ℕ → List Stmt → List Stmt → Type 0
@@ -395,12 +395,12 @@ IsScope g sc d env cs j c rest = (at : Sought → List Stmt) × IsScopeAt g sc d
 abbrev pub IsLoop : Setting → Scene → ℕ → Environment → Action → (Sought → List Stmt) → List Stmt → List Stmt → Type 0
 IsLoop g sc d env (t.while l u e a) at body rest =
     (n n1 n2 : ℕ) × (test : List Stmt) × IsAct g (in_loop n n2 d sc) d (past e env) a at body (Label n ∷ test) × IsJump g sc d env e u n1 test (Label n2 ∷ rest)
-    × LabelAt g sc d n test × LabelAt g sc d n1 body × LabelAt g sc d n2 rest × (suc (turns_of e + turns_in a) ≤ g.pay)
+    × LabelAt g sc d n test × LabelAt g sc d n1 body × LabelAt g sc d n2 rest × (suc (turns_of false e + turns_in false a) ≤ g.pay)
 IsLoop g sc d env (t.repeat l a) at body rest =
-    (n n1 : ℕ) × IsAct g (in_loop n n1 d sc) d env a at body (Jump n ∷ Label n1 ∷ rest) × LabelAt g sc d n body × LabelAt g sc d n1 rest × (suc (turns_in a) ≤ g.pay)
+    (n n1 : ℕ) × IsAct g (in_loop n n1 d sc) d env a at body (Jump n ∷ Label n1 ∷ rest) × LabelAt g sc d n body × LabelAt g sc d n1 rest × (suc (turns_in false a) ≤ g.pay)
 IsLoop g sc d env (t.repeat_while l u a e) at body rest =
     (n n1 n2 : ℕ) × (test : List Stmt) × IsAct g (in_loop n1 n2 d sc) d env a at body (Label n1 ∷ test) × IsJump g sc d (past_action a env) e u n test (Label n2 ∷ rest)
-    × LabelAt g sc d n body × LabelAt g sc d n1 test × LabelAt g sc d n2 rest × (suc (turns_of e + turns_in a) ≤ g.pay)
+    × LabelAt g sc d n body × LabelAt g sc d n1 test × LabelAt g sc d n2 rest × (suc (turns_of false e + turns_in false a) ≤ g.pay)
 IsLoop g sc d env _ at body rest = ⊥
 
 -- what a loop has in it, and the environment there
@@ -431,4 +431,4 @@ abbrev pub IsForLoop : Setting → Scene → ℕ → ℕ → ℕ → Environment
 IsForLoop g sc depth d k env e body rest =
     (n n1 n2 n3 j : ℕ) × (test : List Stmt) × IsAlone g (in_loop n2 n3 depth sc) depth env e j body (Label n2 ∷ behind_body d k n test)
     × (test ≡ Load (Local d) ∷ Load (Local (d + 1)) ∷ test_of_step k ∷ JumpIf true n1 ∷ Label n3 ∷ rest)
-    × LabelAt g sc depth n test × LabelAt g sc depth n1 body × LabelAt g sc depth n2 (behind_body d k n test) × LabelAt g sc depth n3 rest × (suc (turns_in e) ≤ g.pay) × (k < 2 ^ 32)
+    × LabelAt g sc depth n test × LabelAt g sc depth n1 body × LabelAt g sc depth n2 (behind_body d k n test) × LabelAt g sc depth n3 rest × (suc (turns_in false e) ≤ g.pay) × (k < 2 ^ 32)

@@ -9,7 +9,7 @@ use Rattle.bk_simulation.proofs.Words.{◌≡◌, ℕ, ◌+◌, ◌<◌, ◌≤�
   parts_if, parts_onto, parts_through, goal_in, jump_code, through_code, cases, default_in, label_or, valued, objects_of_each, objects_of_actions, constant_in,
   the_label, the_case, the_default, same_place, stands_in, of_actions, of_expression}
 use Rattle.bk_simulation.specs.Regular.{RegularEach, RegularAction, RegularActions, Regular}
-use Rattle.bk_simulation.proofs.Weights.{weight_in, in_light, weight_through, of_light, weight_of}
+use Rattle.bk_simulation.proofs.Weights.{turns_in, in_light, turns_through, of_light, turns_of}
 use Rattle.bk_simulation.proofs.Sought.{with_names}
 use Rattle.bk_simulation.proofs.Laid.{Scene, in_loop, pushes, IsAlone, in_switch, jumps, count, IsLabelHere, AreActs, in_valof, Aim, ending, IsCode}
 use Rattle.bk_simulation.proofs.NamesBound.{bound_named}
@@ -71,7 +71,7 @@ abbrev pub body_named : ForBody → Action → Command
 body_named q c = command_named q.scene.bindings q.place q.spot c
 
 pub for_lies : (pay : ℕ) (valofs : ValofsLie pay) (sc : Scene) (p : Place) (s : Spot) (i l : ℕ) (x : Mention) (a1 b1 : Expression) (h1 : Expressions) (a0 : Action) (d n : ℕ) (c rest : List Stmt) → Doing sc p d
-    → SoundDone sc.bindings p s (t.for_loop l x a1 b1 h1 a0) → RegularAction (t.for_loop l x a1 b1 h1 a0) → weight_in (t.for_loop l x a1 b1 h1 a0) ≤ pay
+    → SoundDone sc.bindings p s (t.for_loop l x a1 b1 h1 a0) → RegularAction (t.for_loop l x a1 b1 h1 a0) → turns_in true (t.for_loop l x a1 b1 h1 a0) ≤ pay
     → FoundParts sc.own sc.targets (parts_in d n (command_named sc.bindings p s (t.for_loop l x a1 b1 h1 a0)))
     → c ≡ command_code sc.targets sc.around d n (command_named sc.bindings p s (t.for_loop l x a1 b1 h1 a0)) ++ rest → StandsAt sc.own d c
     → ((c0 r0 : List Stmt) → Doing (body_of sc p s d n x a1 b1 h1 a0).scene (body_of sc p s d n x a1 b1 h1 a0).place (d + 2)
@@ -212,12 +212,12 @@ simple_lies pay sc p s i l simple.Finish d n c rest a h k st = record {
 -- blocks with declarations are laid
 abbrev pub BlocksLie : ℕ → Type 0
 BlocksLie pay = (sc : Scene) (p : Place) (s : Spot) (i l : ℕ) (x : Declaration) (xs : Declarations) (cs : Actions) (d n : ℕ) (c rest : List Stmt) → Doing sc p d → SoundDone sc.bindings p s (t.block l (t.declare x xs) cs)
-    → RegularAction (t.block l (t.declare x xs) cs) → weight_in (t.block l (t.declare x xs) cs) ≤ pay → FoundParts sc.own sc.targets (parts_in d n (command_named sc.bindings p s (t.block l (t.declare x xs) cs)))
+    → RegularAction (t.block l (t.declare x xs) cs) → turns_in true (t.block l (t.declare x xs) cs) ≤ pay → FoundParts sc.own sc.targets (parts_in d n (command_named sc.bindings p s (t.block l (t.declare x xs) cs)))
     → c ≡ command_code sc.targets sc.around d n (command_named sc.bindings p s (t.block l (t.declare x xs) cs)) ++ rest → StandsAt sc.own d c
     → Done pay sc i (t.block l (t.declare x xs) cs) d n (command_named sc.bindings p s (t.block l (t.declare x xs) cs)) c rest
 
 mutual
-  pub laid_act : (pay : ℕ) (valofs : ValofsLie pay) (blocks : BlocksLie pay) (sc : Scene) (p : Place) (s : Spot) (i : ℕ) (x : Action) (d n : ℕ) (c rest : List Stmt) → Doing sc p d → SoundDone sc.bindings p s x → RegularAction x → weight_in x ≤ pay
+  pub laid_act : (pay : ℕ) (valofs : ValofsLie pay) (blocks : BlocksLie pay) (sc : Scene) (p : Place) (s : Spot) (i : ℕ) (x : Action) (d n : ℕ) (c rest : List Stmt) → Doing sc p d → SoundDone sc.bindings p s x → RegularAction x → turns_in true x ≤ pay
       → FoundParts sc.own sc.targets (parts_in d n (command_named sc.bindings p s x)) → c ≡ command_code sc.targets sc.around d n (command_named sc.bindings p s x) ++ rest → StandsAt sc.own d c
       → Done pay sc i x d n (command_named sc.bindings p s x) c rest
   laid_act pay valofs blocks sc p s i t.empty d n c rest a h r m f k st = record {
@@ -523,7 +523,7 @@ mutual
         finds = record { labels = fd.labels; chosen = fd.chosen; others = fd.others; default = fd.default; no_default = fd.no_default };
       }
 
-  pub laid_acts : (pay : ℕ) (valofs : ValofsLie pay) (blocks : BlocksLie pay) (sc : Scene) (p : Place) (s : Spot) (i : ℕ) (cs : Actions) (d n : ℕ) (c rest : List Stmt) → Doing sc p d → SoundDoneEach sc.bindings p s cs → RegularActions cs → weight_through cs ≤ pay
+  pub laid_acts : (pay : ℕ) (valofs : ValofsLie pay) (blocks : BlocksLie pay) (sc : Scene) (p : Place) (s : Spot) (i : ℕ) (cs : Actions) (d n : ℕ) (c rest : List Stmt) → Doing sc p d → SoundDoneEach sc.bindings p s cs → RegularActions cs → turns_through true cs ≤ pay
       → FoundParts sc.own sc.targets (parts_through d n (commands_named sc.bindings p s cs)) → c ≡ through_code sc.targets sc.around d n (commands_named sc.bindings p s cs) ++ rest → StandsAt sc.own d c
       → DoneEach pay sc i cs d n (commands_named sc.bindings p s cs) c rest
   laid_acts pay valofs blocks sc p s i t.no_actions d n c rest a h r m f k st = record {
@@ -554,7 +554,7 @@ mutual
 
 -- a VALOF, whose body weighs less
 pub valof_lies : (pay : ℕ) (valofs : ValofsLie pay) (blocks : BlocksLie pay) (sc : Scene) (p : Place) (s : Spot) (i : ℕ) (aim : Aim) (l : ℕ) (x : Action) (d n : ℕ) (c rest : List Stmt) → Around sc p d
-    → Sound (role aim) sc.bindings p s (t.valof l x) → Regular (t.valof l x) → weight_of (t.valof l x) ≤ suc pay → FoundParts sc.own sc.targets (own_parts sc p s d n aim (t.valof l x))
+    → Sound (role aim) sc.bindings p s (t.valof l x) → Regular (t.valof l x) → turns_of true (t.valof l x) ≤ suc pay → FoundParts sc.own sc.targets (own_parts sc p s d n aim (t.valof l x))
     → c ≡ coded sc p s d n aim (t.valof l x) ++ rest → StandsAt sc.own d c
     → Lies (home sc pay) i (objects_of_action x) (level aim d) rest (own_kinds sc p s n aim (t.valof l x)) (λ ns. of_expression (with_names ns i) (t.valof l x))
     (InNames sc.bindings i (λ g env. IsCode g sc d env aim (t.valof l x) c rest))

@@ -9,7 +9,7 @@ use Rattle.bk_simulation.proofs.Words.{◌≡◌, ℕ, suc, ◌+◌, ◌<◌, �
   Declaration, Declarations, Definition, Definitions, Starts, Destination, deeper, SoundEach, SoundDestinations, Spot, labels, labels_at, term_named,
   terms_named, lvalue_named, lvalues_named, parts, parts_at, parts_onto, parts_from, value_code, store_code, value_codes, store_codes, by_turns, objects,
   of_expression}
-use Rattle.bk_simulation.proofs.Weights.{turns_in, weight_among}
+use Rattle.bk_simulation.proofs.Weights.{turns_in, turns_among}
 use Rattle.bk_simulation.proofs.Operators.{same_number}
 use Rattle.bk_simulation.proofs.Sought.{with_names, label_stands}
 use Rattle.bk_simulation.proofs.Laid.{Scene, in_loop, in_switch, owning, Stretch, ByTurns, AreFrom, AreStores, AreActs, IsAct, IsAlone, pushes, IsCode, IsStore}
@@ -238,7 +238,7 @@ names_bound [] m ns i = refl
 names_bound (x ∷ xs) m ns i = names_bound xs m (record { name = x; sense = m } ∷ ns) i
 
 -- one command as a scope of its own
-pub alone_lies : (pay : ℕ) (sc : Scene) (i : ℕ) (a : Action) (d n : ℕ) (k : Command) (c rest : List Stmt) (j q : ℕ) → q ≡ sc.procedure → turns_in a ≤ pay
+pub alone_lies : (pay : ℕ) (sc : Scene) (i : ℕ) (a : Action) (d n : ℕ) (k : Command) (c rest : List Stmt) (j q : ℕ) → q ≡ sc.procedure → turns_in false a ≤ pay
     → Done pay (record sc { bindings = labels_in_scope q j (labels_of a) sc.bindings }) i a d n k c rest
     → Lies (home sc pay) i (objects_of_action a) d rest (kinds_in n k) (λ ns. of_action (in_scope a (with_names ns i)) a) (InNames sc.bindings i (λ g env. IsAlone g sc d env a j c rest))
 alone_lies pay sc i a d n k c rest j q same size done =
@@ -308,7 +308,7 @@ turns_lie pay sc p v s u i j (t.more x xs) (t.more e0 es) d n k c rest same hx h
     }
 
 -- the values of an assignment, and where they are stored, each where it may stand
-pub laid_froms : (pay : ℕ) (valofs : ValofsLie pay) (sc : Scene) (v : Place) (u : Spot) (j : ℕ) (es : Expressions) (d k : ℕ) → d ≤ FRAME_WORDS → Around sc v d → SoundEach 0 sc.bindings v u es → RegularEach es → weight_among es ≤ pay
+pub laid_froms : (pay : ℕ) (valofs : ValofsLie pay) (sc : Scene) (v : Place) (u : Spot) (j : ℕ) (es : Expressions) (d k : ℕ) → d ≤ FRAME_WORDS → Around sc v d → SoundEach 0 sc.bindings v u es → RegularEach es → turns_among true es ≤ pay
     → FoundParts sc.own sc.targets (parts_from d k (terms_named 0 sc.bindings v u es)) → LaidFroms pay sc v u j es d k
 laid_froms pay valofs sc v u j t.none d k low a h r m f = tt
 laid_froms pay valofs sc v u j (t.more e es) d k low a h r m f =
@@ -317,7 +317,7 @@ laid_froms pay valofs sc v u j (t.more e es) d k low a h r m f =
       laid_froms pay valofs sc (deeper 0 v) (spot.behind e u) (j + objects e) es d (k + labels te) low (around_deeper sc v d 0 d (omega arith) low a) h.1 r.1 (omega arith) (found_back sc.own sc.targets (parts d k te) _ f),
     )
 
-pub laid_stores : (pay : ℕ) (valofs : ValofsLie pay) (sc : Scene) (p : Place) (s : Spot) (i : ℕ) (xs : Expressions) (d n : ℕ) → Around sc p d → SoundDestinations sc.bindings (deeper 1 p) s xs → RegularEach xs → weight_among xs ≤ pay
+pub laid_stores : (pay : ℕ) (valofs : ValofsLie pay) (sc : Scene) (p : Place) (s : Spot) (i : ℕ) (xs : Expressions) (d n : ℕ) → Around sc p d → SoundDestinations sc.bindings (deeper 1 p) s xs → RegularEach xs → turns_among true xs ≤ pay
     → FoundParts sc.own sc.targets (parts_onto (d + 1) n (lvalues_named sc.bindings (deeper 1 p) s xs)) → LaidStores pay sc p s i xs d n
 laid_stores pay valofs sc p s i t.none d n a h r m f = tt
 laid_stores pay valofs sc p s i (t.more x xs) d n a h r m f =

@@ -1,5 +1,5 @@
 -- Blocks with declarations are laid where the scheme puts them, and so each form is.
-use Rattle.bk_simulation.proofs.Words.{◌≡◌, ℕ, zero, suc, ◌+◌, ◌≤◌, true, List, [], ◌∷◌, ◌++◌, length, refl, sym, ap, ◌∙◌, subst, arith, Actions, Declaration,
+use Rattle.bk_simulation.proofs.Words.{false, ◌≡◌, ℕ, zero, suc, ◌+◌, ◌≤◌, true, List, [], ◌∷◌, ◌++◌, length, refl, sym, ap, ◌∙◌, subst, arith, Actions, Declaration,
   Declarations, Place, labels_of_each, Binding, labels_in_scope, scope_behind, place_behind_all, SoundDone, Spot, behind_declared, Stmt, Stack, Command,
   Commands, behind_declarations, labels_of_declarations, command_named, commands_named, declarations_named, parts_in, parts_of_declarations, command_code,
   through_code, declarations_code, Named, label, bind_each, labelled, objects_of_actions, objects_of_declarations, Sought, the_label, stands_in_one, Lasting,
@@ -8,7 +8,7 @@ use Rattle.bk_tree.specs.Tree as t
 use Rattle.bk_scope.specs.Places as place
 use Rattle.bk_scope.specs.Spots as spot
 use Rattle.bk_simulation.specs.Regular.{RegularAction}
-use Rattle.bk_simulation.proofs.Weights.{weight_in, through_light, turns_through}
+use Rattle.bk_simulation.proofs.Weights.{turns_in, through_light, turns_through}
 use Rattle.bk_simulation.proofs.Sought.{with_names, label_stands_one}
 use Rattle.bk_simulation.proofs.NamesBound.{labels_named}
 use Rattle.bk_simulation.proofs.Laid.{Setting, Scene, owning, AreActs, LeadsTo, IsScope}
@@ -23,7 +23,7 @@ use Rattle.bk_simulation.proofs.LaidActs.{BlocksLie, laid_acts, valof_lies}
 use Rattle.bk_simulation.proofs.LaidDeclarations.{Later, declared_behind, declared_bases}
 
 -- the commands of a scope
-scope_bases : (pay : ℕ) (sc : Scene) (i : ℕ) (cs : Actions) (d n : ℕ) (k : Commands) (c rest : List Stmt) (j q : ℕ) → q ≡ sc.procedure → turns_through cs ≤ pay
+scope_bases : (pay : ℕ) (sc : Scene) (i : ℕ) (cs : Actions) (d n : ℕ) (k : Commands) (c rest : List Stmt) (j q : ℕ) → q ≡ sc.procedure → turns_through false cs ≤ pay
     → DoneEach pay (record sc { bindings = labels_in_scope q j (labels_of_each cs) sc.bindings }) i cs d n k c rest
     → Bases (home sc pay) i (objects_of_actions cs) (kinds_through n k) (λ ns. of_actions (labelled cs (with_names ns i)) cs) (InNames sc.bindings i (λ g env. IsScope g sc d env cs j c rest))
 scope_bases pay sc i cs d n k c rest j q same size done =
@@ -50,11 +50,11 @@ scope_bases pay sc i cs d n k c rest j q same size done =
 -- what is laid behind the declarations of a block
 abbrev InBlock : ℕ → Actions → List Stmt → Later
 InBlock d cs rest g sc1 d1 env1 c1 =
-    (j : ℕ) × (at1 : Sought → List Stmt) × AreActs g (owning j cs sc1) d1 (labelled cs env1) cs at1 c1 (Stack d ∷ rest) × (turns_through cs ≤ g.pay)
+    (j : ℕ) × (at1 : Sought → List Stmt) × AreActs g (owning j cs sc1) d1 (labelled cs env1) cs at1 c1 (Stack d ∷ rest) × (turns_through false cs ≤ g.pay)
     × ((x : List ℕ) → stands_in_one (the_label x) env1 cs ≡ true → LeadsTo (owning j cs sc1) d1 x (at1 (the_label x)))
 
 block_lies : (pay : ℕ) (valofs : ValofsLie pay) (blocks : BlocksLie pay) (sc : Scene) (p : Place) (s : Spot) (i l : ℕ) (x : Declaration) (xs : Declarations) (cs : Actions) (d n : ℕ) (c rest : List Stmt) → Doing sc p d
-    → SoundDone sc.bindings p s (t.block l (t.declare x xs) cs) → RegularAction (t.block l (t.declare x xs) cs) → weight_in (t.block l (t.declare x xs) cs) ≤ suc pay
+    → SoundDone sc.bindings p s (t.block l (t.declare x xs) cs) → RegularAction (t.block l (t.declare x xs) cs) → turns_in true (t.block l (t.declare x xs) cs) ≤ suc pay
     → FoundParts sc.own sc.targets (parts_in d n (command_named sc.bindings p s (t.block l (t.declare x xs) cs)))
     → c ≡ command_code sc.targets sc.around d n (command_named sc.bindings p s (t.block l (t.declare x xs) cs)) ++ rest → StandsAt sc.own d c
     → Done pay sc i (t.block l (t.declare x xs) cs) d n (command_named sc.bindings p s (t.block l (t.declare x xs) cs)) c rest

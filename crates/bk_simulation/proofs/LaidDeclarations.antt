@@ -16,13 +16,12 @@ use Rattle.bk_tree.specs.Tree as t
 use Rattle.bk_scope.specs.Spots as spot
 use Rattle.bk_trans.proofs.Bodies.{same_defined}
 use Rattle.bk_simulation.specs.Regular.{RegularItems, RegularDeclaration, RegularDeclarations, RegularDefinitions, RegularStarts, Regular}
-use Rattle.bk_simulation.proofs.Weights.{weight_one_declared, weight_declared, weight_defined, weight_started, of_light, in_light}
+use Rattle.bk_simulation.proofs.Weights.{turns_one_declared, turns_declared, turns_defined, turns_started, of_light, in_light}
 use Rattle.bk_simulation.proofs.Sought.{with_names}
 use Rattle.bk_simulation.proofs.Laid.{Setting, Scene, Exits, Spot as Slot, NamedIn, defines_variables, variables_bound, Renames, IsOneDeclared, AreDeclared, AreDefined, pushes, AreStarts}
 use Rattle.bk_simulation.proofs.NamesAgree.{Agree}
 use Rattle.bk_simulation.proofs.LastingKinds.{Kind, kinds_of_declaration, kinds_of_declarations, kinds_of_definitions, kinds_of_starts, words_at, kinds_of_items}
-use Rattle.bk_simulation.proofs.Standing.{there_in, StandsAt, passed, written, Home, home, Bases, no_bases, bases_so, bases_of, bases_under, bases_some, Lies, both_bases, new_base}
-use Rattle.bk_simulation.proofs.OneBehindAnother.{then_bases}
+use Rattle.bk_simulation.proofs.Standing.{there_in, StandsAt, passed, written, Home, home, Bases, no_bases, bases_so, bases_of, bases_under, bases_some, Lies, both_bases, new_base, then_bases}
 use Rattle.bk_simulation.proofs.LaidExpressions.{HasWords, FoundParts, found_front, found_back, Around, InNames, joined_two, around_deeper, constants_agree, DataIn}
 use Rattle.bk_simulation.proofs.LaidAssigned.{Doing}
 use Rattle.bk_simulation.proofs.BehindDeclarations.{words_manifests, words_statics, words_globals, words_procedures, next_declared}
@@ -90,7 +89,7 @@ vector_words : (bs : List Binding) (e : Expression) (k : ℕ) → constant_word 
 vector_words bs e k h low = within_most VEC_NUMBER (constant_word bs e) k h low
 
 -- the values that variables begin with
-pub laid_starts : (pay : ℕ) (valofs : ValofsLie pay) (sc : Scene) (p : Place) (s : Spot) (i : ℕ) (is : Starts) (d n : ℕ) (c rest : List Stmt) → Around sc p d → SoundStarted sc.bindings p s is → RegularStarts is → weight_started is ≤ pay
+pub laid_starts : (pay : ℕ) (valofs : ValofsLie pay) (sc : Scene) (p : Place) (s : Spot) (i : ℕ) (is : Starts) (d n : ℕ) (c rest : List Stmt) → Around sc p d → SoundStarted sc.bindings p s is → RegularStarts is → turns_started true is ≤ pay
     → FoundParts sc.own sc.targets (parts_of_starts d n (starts_named sc.bindings p s is)) → c ≡ starts_code sc.targets d n (starts_named sc.bindings p s is) ++ rest → StandsAt sc.own d c
     → Lies (home sc pay) i (objects_of_starts is) (behind_starts d (starts_named sc.bindings p s is)) rest (kinds_of_starts n (starts_named sc.bindings p s is)) (λ ns. of_starts (with_names ns i) is)
     (InNames sc.bindings i (λ g env. AreStarts g sc d env is c rest (behind_starts d (starts_named sc.bindings p s is)) (slots_of sc.bindings d is)))
@@ -131,7 +130,7 @@ laid_starts pay valofs sc p s i (t.vector l e is) d n c rest a h r m f k st =
     )
 
 -- the definitions of a LET: values, and procedures that stand elsewhere in the section
-pub laid_defined : (pay : ℕ) (valofs : ValofsLie pay) (blocks : BlocksLie pay) (sc : Scene) (p : Place) (s : Spot) (i : ℕ) (ds : Definitions) (d n : ℕ) (c rest : List Stmt) → Around sc p d → SoundDefined sc.bindings p s ds → RegularDefinitions ds → weight_defined ds ≤ pay
+pub laid_defined : (pay : ℕ) (valofs : ValofsLie pay) (blocks : BlocksLie pay) (sc : Scene) (p : Place) (s : Spot) (i : ℕ) (ds : Definitions) (d n : ℕ) (c rest : List Stmt) → Around sc p d → SoundDefined sc.bindings p s ds → RegularDefinitions ds → turns_defined true ds ≤ pay
     → FoundParts sc.own sc.targets (parts_of_definitions d n (definitions_named sc.bindings p s ds)) → c ≡ definitions_code sc.targets d n (definitions_named sc.bindings p s ds) ++ rest → StandsAt sc.own d c
     → Lies (home sc pay) i (objects_of_definitions ds) (behind_definitions d (definitions_named sc.bindings p s ds)) rest (kinds_of_definitions n (definitions_named sc.bindings p s ds)) (λ ns. of_definitions (with_names ns i) ds)
     (λ g. WordsBased g.lasting sc.own sc.bindings p s i n ds
@@ -280,7 +279,7 @@ DefinedHere sc p s i n d ds c c0 g =
     × InNames (inner sc s ds).bindings i (λ g env. AreDefined g (inner sc s ds) d env ds c c0 (depth_here sc p s d ds) (slots_here sc p s d ds)) g
 
 definitions_lie : (pay : ℕ) (valofs : ValofsLie pay) (blocks : BlocksLie pay) (sc : Scene) (p : Place) (s : Spot) (i l : ℕ) (ds : Definitions) (d n : ℕ) (c c1 : List Stmt) → Around sc p d → SoundOneDeclared sc.bindings p s (t.definitions l ds)
-    → RegularDefinitions ds → weight_defined ds ≤ pay → FoundParts sc.own sc.targets (parts_of_declaration d n (declaration_named sc.bindings p s (t.definitions l ds)))
+    → RegularDefinitions ds → turns_defined true ds ≤ pay → FoundParts sc.own sc.targets (parts_of_declaration d n (declaration_named sc.bindings p s (t.definitions l ds)))
     → c ≡ declaration_code sc.targets d n (declaration_named sc.bindings p s (t.definitions l ds)) ++ c1 → StandsAt sc.own d c
     → Lies (home (inner sc s ds) pay) i (objects_of_definitions ds) (depth_here sc p s d ds) (behind_let sc p s d ds c1) (kinds_of_definitions n (definitions_named (inner sc s ds).bindings p (first_defined s ds) ds)) (λ ns. of_definitions (with_names ns i) ds) (DefinedHere sc p s i n d ds c (behind_let sc p s d ds c1))
 definitions_lie pay valofs blocks sc p s i l ds d n c c1 a h r m f k st =
@@ -331,7 +330,7 @@ let_after sc p s i l d ds g k q ns r u =
 
 -- a LET, and what is laid behind it
 pub let_bases : (pay : ℕ) (valofs : ValofsLie pay) (blocks : BlocksLie pay) (sc : Scene) (p : Place) (s : Spot) (i l : ℕ) (ds : Definitions) (d n many : ℕ) (c c1 : List Stmt) {qs : List Kind} (L : List Named → List Lasting) (Then : Later) → Around sc p d
-    → SoundOneDeclared sc.bindings p s (t.definitions l ds) → RegularDefinitions ds → weight_defined ds ≤ pay → FoundParts sc.own sc.targets (parts_of_declaration d n (declaration_named sc.bindings p s (t.definitions l ds)))
+    → SoundOneDeclared sc.bindings p s (t.definitions l ds) → RegularDefinitions ds → turns_defined true ds ≤ pay → FoundParts sc.own sc.targets (parts_of_declaration d n (declaration_named sc.bindings p s (t.definitions l ds)))
     → c ≡ declaration_code sc.targets d n (declaration_named sc.bindings p s (t.definitions l ds)) ++ c1 → StandsAt sc.own d c
     → Bases (record (home sc pay) { bindings = scope_behind_one sc.bindings p s (t.definitions l ds) }) (i + objects_of_definitions ds) many qs L
     (LaidLater Then sc (scope_behind_one sc.bindings p s (t.definitions l ds)) (depth_here sc p s d ds) (i + objects_of_definitions ds) c1)
@@ -391,7 +390,7 @@ at_code : (pay : ℕ) (sc : Scene) (i : ℕ) (x : Declaration) (d many : ℕ) (c
 at_code pay sc i x d many c c1 bs {qs} L Then k b = subst (λ z. Bases (record (home sc pay) { bindings = bs }) (i + objects_of_declaration x) many qs L (LaidLater Then sc bs d (i + objects_of_declaration x) z)) (sym k) b
 
 pub one_bases : (pay : ℕ) (valofs : ValofsLie pay) (blocks : BlocksLie pay) (sc : Scene) (p : Place) (s : Spot) (i : ℕ) (x : Declaration) (d n many : ℕ) (c c1 : List Stmt) {qs : List Kind} (L : List Named → List Lasting) (Then : Later) → Around sc p d
-    → SoundOneDeclared sc.bindings p s x → RegularDeclaration x → weight_one_declared x ≤ pay → FoundParts sc.own sc.targets (parts_of_declaration d n (declaration_named sc.bindings p s x))
+    → SoundOneDeclared sc.bindings p s x → RegularDeclaration x → turns_one_declared true x ≤ pay → FoundParts sc.own sc.targets (parts_of_declaration d n (declaration_named sc.bindings p s x))
     → c ≡ declaration_code sc.targets d n (declaration_named sc.bindings p s x) ++ c1 → StandsAt sc.own d c
     → Bases (record (home sc pay) { bindings = scope_behind_one sc.bindings p s x }) (i + objects_of_declaration x) many qs L
     (LaidLater Then sc (scope_behind_one sc.bindings p s x) (behind_declaration d (declaration_named sc.bindings p s x)) (i + objects_of_declaration x) c1)
@@ -412,7 +411,7 @@ behind_constants sc p s l sort.Global is d a r = exits_same p p (refl, refl, ref
 
 -- where code goes on behind it
 pub behind_one : (pay : ℕ) (valofs : ValofsLie pay) (blocks : BlocksLie pay) (sc : Scene) (p : Place) (s : Spot) (x : Declaration) (d n : ℕ) (c c1 : List Stmt) → Doing sc p d → SoundOneDeclared sc.bindings p s x → RegularDeclaration x
-    → weight_one_declared x ≤ pay → FoundParts sc.own sc.targets (parts_of_declaration d n (declaration_named sc.bindings p s x)) → c ≡ declaration_code sc.targets d n (declaration_named sc.bindings p s x) ++ c1 → StandsAt sc.own d c
+    → turns_one_declared true x ≤ pay → FoundParts sc.own sc.targets (parts_of_declaration d n (declaration_named sc.bindings p s x)) → c ≡ declaration_code sc.targets d n (declaration_named sc.bindings p s x) ++ c1 → StandsAt sc.own d c
     → StandsAt sc.own (behind_declaration d (declaration_named sc.bindings p s x)) c1
     × Doing (record sc { bindings = scope_behind_one sc.bindings p s x }) (place_behind_one sc.bindings p s x) (behind_declaration d (declaration_named sc.bindings p s x))
 behind_one pay valofs blocks sc p s (t.constants l sort.Manifest is) d n c c1 a h r m f k st = (written sc.own d c c1 k st, behind_constants sc p s l sort.Manifest is d a r)
@@ -432,7 +431,7 @@ behind_one pay valofs blocks sc p s (t.definitions l ds) d n c c1 a h r m f k st
 -- ---- declarations in order
 
 pub declared_behind : (pay : ℕ) (valofs : ValofsLie pay) (blocks : BlocksLie pay) (sc : Scene) (p : Place) (s : Spot) (xs : Declarations) (d n : ℕ) (c c1 : List Stmt) → Doing sc p d → SoundDeclared sc.bindings p s xs → RegularDeclarations xs
-    → weight_declared xs ≤ pay → FoundParts sc.own sc.targets (parts_of_declarations d n (declarations_named sc.bindings p s xs)) → c ≡ declarations_code sc.targets d n (declarations_named sc.bindings p s xs) ++ c1 → StandsAt sc.own d c
+    → turns_declared true xs ≤ pay → FoundParts sc.own sc.targets (parts_of_declarations d n (declarations_named sc.bindings p s xs)) → c ≡ declarations_code sc.targets d n (declarations_named sc.bindings p s xs) ++ c1 → StandsAt sc.own d c
     → StandsAt sc.own (behind_declarations d (declarations_named sc.bindings p s xs)) c1
     × Doing (record sc { bindings = scope_behind sc.bindings p s xs }) (place_behind_all sc.bindings p s xs) (behind_declarations d (declarations_named sc.bindings p s xs))
 declared_behind pay valofs blocks sc p s t.no_declarations d n c c1 a h r m f k st = (written sc.own d c c1 k st, a)
@@ -447,7 +446,7 @@ declared_behind pay valofs blocks sc p s (t.declare x xs) d n c c1 a h r m f k s
     (found_back sc.own sc.targets (parts_of_declaration d n one) _ f) refl first.0
 
 pub declared_bases : (pay : ℕ) (valofs : ValofsLie pay) (blocks : BlocksLie pay) (sc : Scene) (p : Place) (s : Spot) (i : ℕ) (xs : Declarations) (d n many : ℕ) (c c1 : List Stmt) {qs : List Kind} (L : List Named → List Lasting) (Then : Later) → Doing sc p d
-    → SoundDeclared sc.bindings p s xs → RegularDeclarations xs → weight_declared xs ≤ pay → FoundParts sc.own sc.targets (parts_of_declarations d n (declarations_named sc.bindings p s xs))
+    → SoundDeclared sc.bindings p s xs → RegularDeclarations xs → turns_declared true xs ≤ pay → FoundParts sc.own sc.targets (parts_of_declarations d n (declarations_named sc.bindings p s xs))
     → c ≡ declarations_code sc.targets d n (declarations_named sc.bindings p s xs) ++ c1 → StandsAt sc.own d c
     → Bases (record (home sc pay) { bindings = scope_behind sc.bindings p s xs }) (i + objects_of_declarations xs) many qs L
     (LaidLater Then sc (scope_behind sc.bindings p s xs) (behind_declarations d (declarations_named sc.bindings p s xs)) (i + objects_of_declarations xs) c1)

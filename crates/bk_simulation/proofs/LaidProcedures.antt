@@ -108,7 +108,7 @@ pub record ProcedureLies (pay section : ℕ) (own : Placed) (ts : List Target) (
       (λ g. (ns : List Named) → Agree ns bs → (o : ℕ) → 0 < o → IsBody g (scene_of section own ts (with_formals k 2 fs bs) k) (length fs + 2) (bind_formals o 0 (letters fs) (with_names ns i)) body code)
 
 pub routine_lies : (pay : ℕ) (section : ℕ) (own : Placed) (ts : List Target) (bs : List Binding) (s : Spot) (i : ℕ) (x : List ℕ) (fs : List Mention) (a : Action) (d n : ℕ) (y : Bound) (c rest : List Stmt) → HasWords bs
-    → turns_in a ≤ pay
+    → turns_in false a ≤ pay
     → ((c0 r0 : List Stmt) → Doing (record (scene_of section own ts (with_formals s.number 2 fs bs) s.number) { bindings = labels_in_scope s.number (s.number + 2) (labels_of a) (with_formals s.number 2 fs bs) }) (place.labelled (s.number + 1) (place.called true s.number (length fs))) (length fs + 2) → c0 ≡ command_code ts outermost (length fs + 2) (n + labels_of_procedure y) (command_named (labels_in_scope s.number (s.number + 2) (labels_of a) (with_formals s.number 2 fs bs)) (place.labelled (s.number + 1) (place.called true s.number (length fs))) (spot.onward (1 + length fs) (2 + length (labels_of a)) s) a) ++ r0 → StandsAt own (length fs + 2) c0
     → Done pay (record (scene_of section own ts (with_formals s.number 2 fs bs) s.number) { bindings = labels_in_scope s.number (s.number + 2) (labels_of a) (with_formals s.number 2 fs bs) }) i a (length fs + 2) (n + labels_of_procedure y) (command_named (labels_in_scope s.number (s.number + 2) (labels_of a) (with_formals s.number 2 fs bs)) (place.labelled (s.number + 1) (place.called true s.number (length fs))) (spot.onward (1 + length fs) (2 + length (labels_of a)) s) a) c0 r0)
     → c ≡ procedure_code ts (procedure n (term.routine y x (length fs) (command_named (labels_in_scope s.number (s.number + 2) (labels_of a) (with_formals s.number 2 fs bs)) (place.labelled (s.number + 1) (place.called true s.number (length fs)))
@@ -155,7 +155,7 @@ routine_lies pay section own ts bs s i x fs a d n y c rest words m laid k st =
     }
 
 pub function_lies : (pay : ℕ) (section : ℕ) (own : Placed) (ts : List Target) (bs : List Binding) (s : Spot) (i : ℕ) (x : List ℕ) (fs : List Mention) (e : Expression) (d n : ℕ) (y : Bound) (c rest : List Stmt) → HasWords bs
-    → turns_of e ≤ pay
+    → turns_of false e ≤ pay
     → ((c0 r0 : List Stmt) → Around (scene_of section own ts (with_formals s.number 2 fs bs) s.number) (place.called false s.number (length fs)) (length fs + 2) → c0 ≡ value_code ts (length fs + 2) (n + labels_of_procedure y) (term_named (with_formals s.number 2 fs bs) (place.called false s.number (length fs)) (spot.onward (1 + length fs) 1 s) e) ++ r0 → StandsAt own (length fs + 2) c0
     → Lies (home (scene_of section own ts (with_formals s.number 2 fs bs) s.number) pay) i (objects e) (length fs + 2 + 1) r0 (kinds (n + labels_of_procedure y) (term_named (with_formals s.number 2 fs bs) (place.called false s.number (length fs)) (spot.onward (1 + length fs) 1 s) e)) (λ ns. of_expression (with_names ns i) e) (InNames (with_formals s.number 2 fs bs) i (λ g env. IsCode g (scene_of section own ts (with_formals s.number 2 fs bs) s.number) (length fs + 2) env pushes e c0 r0)))
     → c ≡ procedure_code ts (procedure n (term.function y x (length fs) (term_named (with_formals s.number 2 fs bs) (place.called false s.number (length fs)) (spot.onward (1 + length fs) 1 s) e))) ++ rest

@@ -1,5 +1,5 @@
 -- What lasts of a section lies where the scheme puts it.
-use Rattle.bk_simulation.proofs.Words.{◌≡◌, ℕ, ◌+◌, ◌≤◌, false, List, [], ◌∷◌, ◌++◌, cond, refl, sym, ap, ◌∙◌, subst, arith, false≢true, Sort, Items,
+use Rattle.bk_simulation.proofs.Words.{true, ◌≡◌, ℕ, ◌+◌, ◌≤◌, false, List, [], ◌∷◌, ◌++◌, cond, refl, sym, ap, ◌∙◌, subst, arith, false≢true, Sort, Items,
   Declaration, Declarations, Definitions, Place, Binding, scope_behind_one, place_behind_one, SoundDeclared, SoundOneDeclared, Spot, behind_one_declared,
   beginning, joined, Placed, AreFaultless, Stmt, Store, Target, behind_definitions, behind_declaration, has_variables, labels_of_declaration, definitions_named,
   declaration_named, declarations_named, named_tree, target_of, parts_of_declaration, parts_of_declarations, definitions_code, declaration_code, scheme,
@@ -11,7 +11,7 @@ use Rattle.bk_scope.specs.Spots as spot
 use Rattle.bk_scope.proofs.Soundness.{section_sound}
 use Rattle.bk_simulation.specs.Placement.{IsAccepted}
 use Rattle.bk_simulation.specs.Regular.{RegularDeclarations, RegularDefinitions, DefineNoVariables, DeclareNoVariables}
-use Rattle.bk_simulation.proofs.Weights.{weight_declared, weight_defined}
+use Rattle.bk_simulation.proofs.Weights.{turns_declared, turns_defined}
 use Rattle.bk_simulation.proofs.Sought.{with_names}
 use Rattle.bk_simulation.proofs.Laid.{Setting, Scene}
 use Rattle.bk_simulation.proofs.LastingKinds.{Kind, kinds_of_declaration, kinds_of_declarations}
@@ -61,7 +61,7 @@ behind_found sc p s x xs n e f =
 
 -- a LET of procedures, by a place in the section with this depth
 procedures_lie : (pay : ℕ) (sc : Scene) (p : Place) (s : Spot) (i l : ℕ) (ds : Definitions) (xs : Declarations) (d n : ℕ) (c : List Stmt) {qs : List Kind} → DefineNoVariables ds → Doing sc p d → SoundOneDeclared sc.bindings p s (t.definitions l ds) → RegularDefinitions ds
-    → weight_defined ds ≤ pay → FoundParts sc.own sc.targets (parts_of_declaration d n (declaration_named sc.bindings p s (t.definitions l ds))) → StandsAt sc.own d c
+    → turns_defined true ds ≤ pay → FoundParts sc.own sc.targets (parts_of_declaration d n (declaration_named sc.bindings p s (t.definitions l ds))) → StandsAt sc.own d c
     → (Doing (record sc { bindings = scope_behind_one sc.bindings p s (t.definitions l ds) }) (place_behind_one sc.bindings p s (t.definitions l ds)) d
     → Bases (home (record sc { bindings = scope_behind_one sc.bindings p s (t.definitions l ds) }) pay) (i + objects_of_declaration (t.definitions l ds)) (objects_of_declarations xs) qs (λ ns. of_declarations (with_names ns (i + objects_of_declaration (t.definitions l ds))) xs) (λ g. Unit {0}))
     → Bases (home sc pay) i (objects_of_declarations (t.declare (t.definitions l ds) xs)) (kinds_of_declaration n (declaration_named sc.bindings p s (t.definitions l ds)) ++ qs) (λ ns. of_declarations (with_names ns i) (t.declare (t.definitions l ds) xs)) (λ g. Unit {0})
@@ -78,7 +78,7 @@ procedures_lie pay sc p s i l ds xs d n c only a h r m f st others =
     (bases_so (home (record sc { bindings = bs }) pay) (i + objects_of_declaration x) (objects_of_declarations xs) _ _ (λ g y v ns u. tt) (others doing)))
 
 -- DECLARATIONS OUTSIDE PROCEDURES
-outside_bases : (pay : ℕ) (sc : Scene) (p : Place) (s : Spot) (i : ℕ) (xs : Declarations) (n : ℕ) → DeclareNoVariables xs → Doing sc p 2 → SoundDeclared sc.bindings p s xs → RegularDeclarations xs → weight_declared xs ≤ pay
+outside_bases : (pay : ℕ) (sc : Scene) (p : Place) (s : Spot) (i : ℕ) (xs : Declarations) (n : ℕ) → DeclareNoVariables xs → Doing sc p 2 → SoundDeclared sc.bindings p s xs → RegularDeclarations xs → turns_declared true xs ≤ pay
     → FoundParts sc.own sc.targets (parts_of_declarations 2 n (declarations_named sc.bindings p s xs)) → Bases (home sc pay) i (objects_of_declarations xs) (kinds_of_declarations n (declarations_named sc.bindings p s xs)) (λ ns. of_declarations (with_names ns i) xs) (λ g. Unit {0})
 outside_bases pay sc p s i t.no_declarations n only a h r m f = no_bases (home sc pay) i _ (λ g y. tt)
 outside_bases pay sc p s i (t.declare (t.constants l o is) xs) n only a h r m f =
@@ -125,7 +125,7 @@ abbrev pub section_scene : ℕ → Placed → Declarations → Scene
 section_scene section own ds = scene_of section own (joined target_of (parts_of_declarations 2 1 (named_tree ds))) [] 0
 
 -- WHAT LASTS OF AN ACCEPTED SECTION is held in its statements.
-pub section_lies : (section : ℕ) (own : Placed) (ds : Declarations) (pay i : ℕ) → IsAccepted ds → own.stmts ≡ scheme (named_tree ds) → weight_declared ds ≤ pay
+pub section_lies : (section : ℕ) (own : Placed) (ds : Declarations) (pay i : ℕ) → IsAccepted ds → own.stmts ≡ scheme (named_tree ds) → turns_declared true ds ≤ pay
     → Bases (home (section_scene section own ds) pay) i (objects_of_declarations ds) (kinds_of_declarations 1 (named_tree ds)) (λ ns. of_declarations (with_names ns i) ds) (λ g. Unit {0})
 section_lies section own ds pay i ok e m =
     let sc : Scene = section_scene section own ds in

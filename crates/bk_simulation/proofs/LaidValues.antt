@@ -17,7 +17,7 @@ use Rattle.bk_scope.specs.Spots as spot
 use Rattle.bk_ocode.specs.declared.stmt.Dyadic.TheVariants as two
 use Rattle.bk_ocode.specs.declared.stmt.Monadic.TheVariants as w
 use Rattle.bk_simulation.specs.Regular.{Regular, RegularEach}
-use Rattle.bk_simulation.proofs.Weights.{weight_of, weight_among}
+use Rattle.bk_simulation.proofs.Weights.{turns_of, turns_among}
 use Rattle.bk_simulation.proofs.Sought.{with_names}
 use Rattle.bk_simulation.proofs.Laid.{Setting, Scene, Aim, pushes, jumps, ending, count, LabelAt, IsCode, AreValues, IsAddress, IsStore}
 use Rattle.bk_simulation.proofs.Held.{InData}
@@ -41,7 +41,7 @@ table_held g sc n l es i ns u words r h f own =
 -- expressions that are VALOFs are laid
 abbrev pub ValofsLie : ℕ → Type 0
 ValofsLie pay = (sc : Scene) (p : Place) (s : Spot) (i : ℕ) (aim : Aim) (l : ℕ) (x : Action) (d n : ℕ) (c rest : List Stmt) → Around sc p d → Sound (role aim) sc.bindings p s (t.valof l x) → Regular (t.valof l x)
-    → weight_of (t.valof l x) ≤ pay → FoundParts sc.own sc.targets (own_parts sc p s d n aim (t.valof l x)) → c ≡ coded sc p s d n aim (t.valof l x) ++ rest → StandsAt sc.own d c
+    → turns_of true (t.valof l x) ≤ pay → FoundParts sc.own sc.targets (own_parts sc p s d n aim (t.valof l x)) → c ≡ coded sc p s d n aim (t.valof l x) ++ rest → StandsAt sc.own d c
     → Lies (home sc pay) i (objects_of_action x) (level aim d) rest (own_kinds sc p s n aim (t.valof l x)) (λ ns. of_expression (with_names ns i) (t.valof l x))
     (InNames sc.bindings i (λ g env. IsCode g sc d env aim (t.valof l x) c rest))
 
@@ -131,7 +131,7 @@ labelled_lies sc pay i d n rest P Q a h = record {
 }
 
 mutual
-  pub laid_code : (pay : ℕ) (valofs : ValofsLie pay) (sc : Scene) (p : Place) (s : Spot) (i : ℕ) (aim : Aim) (e : Expression) (d n : ℕ) (c rest : List Stmt) → Around sc p d → Sound (role aim) sc.bindings p s e → Regular e → weight_of e ≤ pay
+  pub laid_code : (pay : ℕ) (valofs : ValofsLie pay) (sc : Scene) (p : Place) (s : Spot) (i : ℕ) (aim : Aim) (e : Expression) (d n : ℕ) (c rest : List Stmt) → Around sc p d → Sound (role aim) sc.bindings p s e → Regular e → turns_of true e ≤ pay
       → FoundParts sc.own sc.targets (own_parts sc p s d n aim e) → c ≡ coded sc p s d n aim e ++ rest → StandsAt sc.own d c
       → Lies (home sc pay) i (objects e) (level aim d) rest (own_kinds sc p s n aim e) (λ ns. of_expression (with_names ns i) e) (InNames sc.bindings i (λ g env. IsCode g sc d env aim e c rest))
   laid_code pay valofs sc p s i aim (t.name l x) d n c rest a h r m f k st =
@@ -270,7 +270,7 @@ mutual
             (statement_below sc.section sc.own f1.0.2.depth (DataLabel n) items (record { place = sc.own.places.label n; words = item_words sc.own.places items }) f1.0.2.stands refl) (λ g y z ns u. (n, k1, z)) (λ g y z ns u v. (sc.own.places.label n, z, table_held g sc n l es i ns u a.words r h (f1.0.2) y.own));
       })
 
-  pub laid_each : (pay : ℕ) (valofs : ValofsLie pay) (sc : Scene) (p : Place) (s : Spot) (i : ℕ) (es : Expressions) (d n : ℕ) (c rest : List Stmt) → Around sc p d → SoundEach 1 sc.bindings p s es → RegularEach es → weight_among es ≤ pay
+  pub laid_each : (pay : ℕ) (valofs : ValofsLie pay) (sc : Scene) (p : Place) (s : Spot) (i : ℕ) (es : Expressions) (d n : ℕ) (c rest : List Stmt) → Around sc p d → SoundEach 1 sc.bindings p s es → RegularEach es → turns_among true es ≤ pay
       → FoundParts sc.own sc.targets (parts_each d n (terms_named 1 sc.bindings p s es)) → c ≡ each_code sc.targets d n (terms_named 1 sc.bindings p s es) ++ rest → StandsAt sc.own d c
       → Lies (home sc pay) i (objects_of_each es) (d + count es) rest (kinds_each n (terms_named 1 sc.bindings p s es)) (λ ns. of_each (with_names ns i) es) (InNames sc.bindings i (λ g env. AreValues g sc d env es c rest))
   laid_each pay valofs sc p s i t.none d n c rest a h r m f k st =
@@ -292,7 +292,7 @@ mutual
 
   -- an address
   pub laid_address : (pay : ℕ) (valofs : ValofsLie pay) (sc : Scene) (p : Place) (s : Spot) (i : ℕ) (z : Role) (e : Expression) (d n : ℕ) (c rest : List Stmt) → Around sc p d → addressed sc.bindings e ≡ true → Sound z sc.bindings p s e → Regular e
-      → weight_of e ≤ pay → FoundParts sc.own sc.targets (parts_at d n (lvalue_named sc.bindings p s e)) → c ≡ address_code sc.targets d n (lvalue_named sc.bindings p s e) ++ rest → StandsAt sc.own d c
+      → turns_of true e ≤ pay → FoundParts sc.own sc.targets (parts_at d n (lvalue_named sc.bindings p s e)) → c ≡ address_code sc.targets d n (lvalue_named sc.bindings p s e) ++ rest → StandsAt sc.own d c
       → Lies (home sc pay) i (objects e) (d + 1) rest (kinds_at n (lvalue_named sc.bindings p s e)) (λ ns. of_expression (with_names ns i) e) (InNames sc.bindings i (λ g env. IsAddress g sc d env e c rest))
   laid_address pay valofs sc p s i z (t.name l x) d n c rest a y h r m f k st = leaf_lies (home sc pay) i d pushes c rest _ _ k refl st (λ g v ns u. k)
   laid_address pay valofs sc p s i z (t.parens l e) d n c rest a y h r m f k st = laid_address pay valofs sc p (spot.past 1 s) i (parenthesised z) e d n c rest a y h r (omega arith) f k st
@@ -306,7 +306,7 @@ mutual
 
   -- what is stored
   pub laid_store : (pay : ℕ) (valofs : ValofsLie pay) (sc : Scene) (p : Place) (s : Spot) (i : ℕ) (z : Role) (e : Expression) (d n : ℕ) (c rest : List Stmt) → Around sc p (d + 1) → assigned sc.bindings e ≡ true → Sound z sc.bindings p s e → Regular e
-      → weight_of e ≤ pay → FoundParts sc.own sc.targets (parts_at (d + 1) n (lvalue_named sc.bindings p s e)) → c ≡ store_code sc.targets (d + 1) n (lvalue_named sc.bindings p s e) ++ rest → StandsAt sc.own (d + 1) c
+      → turns_of true e ≤ pay → FoundParts sc.own sc.targets (parts_at (d + 1) n (lvalue_named sc.bindings p s e)) → c ≡ store_code sc.targets (d + 1) n (lvalue_named sc.bindings p s e) ++ rest → StandsAt sc.own (d + 1) c
       → Lies (home sc pay) i (objects e) d rest (kinds_at n (lvalue_named sc.bindings p s e)) (λ ns. of_expression (with_names ns i) e) (InNames sc.bindings i (λ g env. IsStore g sc (d + 1) env e c rest))
   laid_store pay valofs sc p s i z (t.name l x) d n c rest a y h r m f k st =
       record { on = passed sc.own (d + 1) d (Assign (variable sc.targets (meant (bound_in sc.bindings x)))) rest (written sc.own (d + 1) c _ k st) (omega arith); objects_are = no_bases (home sc pay) i _ (λ g v ns u. k) }

@@ -205,14 +205,14 @@ no_item g s A B z w c rest d d1 slots w1 le le' ec ed es a =
     (record { arr = arrived_more le le' a; since = since_refl h; items = tt })))
 
 pub starts_run : (g : Setting) (m : Meanings) → Simulates g m → (is : Starts) (env : Environment) (bs : List Binding) (s : State) (A B : Account) (z : Sit) (w : World) (c rest : List Stmt) (d d1 : ℕ) (slots : List ℕ) (w1 : World)
-    → Ready g z w → z.depth ≤ d → KeepsLabels z.scene.bindings bs → d1 ≤ FRAME_WORDS → A.most ≤ B.most → B.least ≤ A.least - turns_started is → AreStarts g (record z.scene { bindings = bs }) d env is c rest d1 slots
+    → Ready g z w → z.depth ≤ d → KeepsLabels z.scene.bindings bs → d1 ≤ FRAME_WORDS → A.most ≤ B.most → B.least ≤ A.least - turns_started false is → AreStarts g (record z.scene { bindings = bs }) d env is c rest d1 slots
     → (a : OpenArrived g s A z w c d (z.frame + d) w1) → NamedIn (record z.scene { bindings = bs }) env a.bases1 z.frame
     → Ran g s B (Started g s B z w (store_at a) d rest d1 slots) (OpenExited g s B z w) (starts m is env w1)
 starts_run g m sim t.no_starts env bs s A B z w c rest d d1 slots w1 r le keeps few le1 le2 l a named =
     went (no_item g s A B z w c rest d d1 slots w1 le1 (omega arith) l.0 l.1 l.2 a)
 starts_run g m sim (t.value e is) env bs s A B z w c rest d d1 slots w1 r le keeps few le1 le2 l a named =
     let c0 = l.0 in
-    let A1 : Account = record { most = A.most; least = A.least - turns_of e } in
+    let A1 : Account = record { most = A.most; least = A.least - turns_of false e } in
     let h = store_at a in
     let z1 = open_sit g s A z w c d (z.frame + d) w1 a bs env in
     let rise = (starts_rise g (record z.scene { bindings = bs }) is (d + 1) (past e env) c0 rest d1 l.1 l.3).0 in
@@ -430,7 +430,7 @@ no_let g s A B z w c rest d d1 ps w1 le le' ec ed es a =
     (record { arr = arrived_more le le' a; since = since_refl h; items = tt; spare = λ q. absurd (let z : false ≡ true = q in cc) })))
 
 pub let_run : (g : Setting) (m : Meanings) → Simulates g m → (ds : Definitions) (env : Environment) (bs : List Binding) (s : State) (A B : Account) (z : Sit) (w : World) (c rest : List Stmt) (d d1 : ℕ) (ps : List Spot) (w1 : World)
-    → Ready g z w → z.depth ≤ d → KeepsLabels z.scene.bindings bs → d1 ≤ FRAME_WORDS → A.most ≤ B.most → B.least ≤ A.least - turns_defined ds → AreDefined g (record z.scene { bindings = bs }) d env ds c rest d1 ps
+    → Ready g z w → z.depth ≤ d → KeepsLabels z.scene.bindings bs → d1 ≤ FRAME_WORDS → A.most ≤ B.most → B.least ≤ A.least - turns_defined false ds → AreDefined g (record z.scene { bindings = bs }) d env ds c rest d1 ps
     → (a : OpenArrived g s A z w c d (z.frame + d) w1) → NamedIn (record z.scene { bindings = bs }) env a.bases1 z.frame
     → Ran g s B (Lets g s B z w (store_at a) d rest d1 ps (defines_variables ds)) (OpenExited g s B z w) (let_values m ds env w1)
 let_run g m sim t.no_definitions env bs s A B z w c rest d d1 ps w1 r le keeps few le1 le2 l a named =
@@ -445,7 +445,7 @@ let_run g m sim (t.define (t.variables x xs is) ds) env bs s A B z w c rest d d1
     let env1 = past_definition (t.variables x xs is) env in
     let sc : Scene = record z.scene { bindings = bs } in
     let h = store_at a in
-    let C : Account = record { most = A.most - 16; least = A.least - 1 - turns_started is } in
+    let C : Account = record { most = A.most - 16; least = A.least - 1 - turns_started false is } in
     let D : Account = record { most = B.most - 1; least = B.least } in
     let rise0 = (starts_rise g sc is d env c c0 d0 l.2 l.4).0 in
     let rise1 = (defined_rise g sc ds d0 env1 c0 rest d1 l.3 l.5).0 in

@@ -52,7 +52,6 @@ pub mod LaidDeclarations
 pub mod LaidBlocks
 pub mod LaidProcedures
 pub mod SectionParts
-pub mod OneBehindAnother
 pub mod LaidSections
 pub mod StringCounts
 pub mod StringForms

@@ -63,7 +63,7 @@ scope_runs g m sim cs mode z j at c rest e w l en r =
         let A : Account = record { most = B.most; least = B.least + g.pay + g.pay } in
         let to = l.2 y h in
         let dp = r.deep in
-        let few : turns_through cs ≤ g.pay = l.1 in
+        let few : turns_through false cs ≤ g.pay = l.1 in
         let ar : ArrivedAt g s A z (at (the_label y)) z.depth w w1 = caught_at o (goal_named (owning j cs z.scene) y) z.depth (at (the_label y)) refl o.leads.0 to.0 to.1 (omega arith) (omega arith) in
         let m0 = ar.most in
         comes_to (omega arith) (omega arith) r (omega arith) ar
@@ -96,7 +96,7 @@ takes_up le le' r l a st = taken_on (omega arith) (omega arith) r (label_on l a)
 held_result : (g : Setting) (bases : List ℕ) (v : Value) (h : Option Content) (x : Content) → h ≡ Some x → Stands g.codes bases v x → Stands g.codes bases v (option_map_or (λ y. y) h Unset)
 held_result g bases v h x e st = subst (λ y. Stands g.codes bases v (option_map_or (λ y. y) y Unset)) (sym e) st
 
-pub valof_run : (g : Setting) (m : Meanings) → Simulates g m → (B : Account) (x : Action) (z : Sit) (n j : ℕ) (c rest : List Stmt) (w : World) → 16 * w.turns + 12 ≤ B.most → B.least ≤ w.turns - turns_in x
+pub valof_run : (g : Setting) (m : Meanings) → Simulates g m → (B : Account) (x : Action) (z : Sit) (n j : ℕ) (c rest : List Stmt) (w : World) → 16 * w.turns + 12 ≤ B.most → B.least ≤ w.turns - turns_in false x
     → IsScope g (in_valof n z.scene) z.depth z.env (alone x) j c (Label n ∷ TakeResult z.depth ∷ rest) → LabelAt g z.scene z.depth n (TakeResult z.depth ∷ rest) → Ready g z w
     → Ran g (start z c w) B (Has g (start z c w) B z rest (z.depth + 1) w) (Out g (start z c w) B z w) (result_of (scope_of m (alone x) forwards z.env w))
 valof_run g m sim B x z n j c rest w le le' l ln r =
@@ -139,10 +139,10 @@ further_round g m sim s A B x z n at body rest w w1 le0 le1 le ll la l1 lp l en 
 
 -- A round whose body is done or left: what follows it at the place where LOOP goes, and at the place where BREAK goes.
 round_run : (g : Setting) (m : Meanings) → Simulates g m → (B : Account) (a : Action) (mode : Mode) (z : Sit) (env : Environment) (again_at out_at : ℕ) (at : Sought → List Stmt) (body mid behind rest e : List Stmt) (w : World) (next_one : World → Outcome Done)
-    → ((w1 : World) → Adds next_one) → 16 * w.turns + 1 ≤ B.most → B.least ≤ w.turns - turns_in a → env.names ≡ z.env.names → IsAct g (in_loop again_at out_at z.depth z.scene) z.depth env a at body mid
+    → ((w1 : World) → Adds next_one) → 16 * w.turns + 1 ≤ B.most → B.least ≤ w.turns - turns_in false a → env.names ≡ z.env.names → IsAct g (in_loop again_at out_at z.depth z.scene) z.depth env a at body mid
     → Entered mode env a at body e → LabelAt g z.scene z.depth again_at behind → LabelAt g z.scene z.depth out_at rest → Ready g z w
-    → ((A : Account) (w1 : World) → A.most ≤ 16 * w.turns → w.turns - turns_in a ≤ A.least → ArrivedAt g (start z e w) A z mid z.depth w w1 → RanDid g (start z e w) B z rest w (next_one w1))
-    → ((A : Account) (w1 : World) → A.most ≤ 16 * w.turns → w.turns - turns_in a ≤ A.least → ArrivedAt g (start z e w) A z (Label again_at ∷ behind) z.depth w w1 → RanDid g (start z e w) B z rest w (next_one w1))
+    → ((A : Account) (w1 : World) → A.most ≤ 16 * w.turns → w.turns - turns_in false a ≤ A.least → ArrivedAt g (start z e w) A z mid z.depth w w1 → RanDid g (start z e w) B z rest w (next_one w1))
+    → ((A : Account) (w1 : World) → A.most ≤ 16 * w.turns → w.turns - turns_in false a ≤ A.least → ArrivedAt g (start z e w) A z (Label again_at ∷ behind) z.depth w w1 → RanDid g (start z e w) B z rest w (next_one w1))
     → RanDid g (start z e w) B z rest w (again (m.act a mode env w) next_one)
 round_run g m sim B a mode z env again_at out_at at body mid behind rest e w next_one ad le le' en l ent la lo r ends go =
     each_way_ran (λ _. ad w) exit_adds
@@ -156,7 +156,7 @@ round_run g m sim B a mode z env again_at out_at at body mid behind rest e w nex
 
     out : (x : Exit) (w1 : World) → Out g (start z e w) (for_act a w) (looping again_at out_at z) w x w1 → RanDid g (start z e w) B z rest w (round_exit next_one x w1)
     out loop w1 o = let dp = r.deep in
-        go (record { most = 16 * w.turns; least = (w.turns - turns_in a) + g.pay + g.pay }) w1 (omega arith) (omega arith)
+        go (record { most = 16 * w.turns; least = (w.turns - turns_in false a) + g.pay + g.pay }) w1 (omega arith) (omega arith)
         (caught_at o (goal again_at z.depth) z.depth (Label again_at ∷ behind) refl o.leads.0 la.found refl (omega arith) (omega arith))
     out break w1 o = let dp = r.deep in
         went (landed_on (omega arith) (omega arith) lo
@@ -172,22 +172,22 @@ while_adds g m sim x e env there b = adds _ (λ w. with_after _ _ _ (sim.grows.t
 
 -- the test behind a body, and a further round
 test_behind : (g : Setting) (m : Meanings) → Simulates g m → (s : State) (A B : Account) (x : Action) (b : Bool) (e : Expression) (z : Sit) (env : Environment) (n1 n2 : ℕ) (at : Sought → List Stmt) (body test rest : List Stmt) (w w1 : World)
-    → A.most ≤ 16 * w.turns + 1 → 16 * w.turns + 2 ≤ B.most → B.least ≤ w.turns - turns_in_round x → w.turns + 1 ≤ A.least + (turns_in_round x - turns_of e) → 1 ≤ turns_in_round x - turns_of e → turns_in_round x ≤ g.pay → env.names ≡ z.env.names
+    → A.most ≤ 16 * w.turns + 1 → 16 * w.turns + 2 ≤ B.most → B.least ≤ w.turns - turns_in_round x → w.turns + 1 ≤ A.least + (turns_in_round x - turns_of false e) → 1 ≤ turns_in_round x - turns_of false e → turns_in_round x ≤ g.pay → env.names ≡ z.env.names
     → IsLoop g z.scene z.depth z.env x at body rest → EnteredBody forwards z.env x at body body → IsJump g z.scene z.depth env e b n1 test (Label n2 ∷ rest) → LabelAt g z.scene z.depth n1 body → LabelAt g z.scene z.depth n2 rest → Ready g z w
     → ArrivedAt g s A z test z.depth w w1 → RanDid g s B z rest w (where_truth m b e env (λ w. turn w (λ w. m.rounds x forwards z.env w)) w1)
 test_behind g m sim s A B x b e z env n1 n2 at body test rest w w1 le1 le ll la l1 lp en lx ent lt ln1 ln2 r ar =
     let m0 = ar.most in
     let al0 = ar.least in
-    let C : Account = record { most = 16 * w.turns + 1; least = A.least - turns_of e } in
+    let C : Account = record { most = 16 * w.turns + 1; least = A.least - turns_of false e } in
     with_ran {K = λ t w2. HasTruth g s C z b (Label n1 ∷ body) (Label n2 ∷ rest) w t w2} (λ t. test_adds_again g m sim x z.env b t)
     (ran_on (omega arith) (omega arith) r (omega arith) ar (λ t w2 q. arrived_on (omega arith) (omega arith) r (omega arith) ar q)
     (sim.truth e (next g s A z test z.depth w w1 env z.depth ar) b n1 (Label n1 ∷ body) test (Label n2 ∷ rest) w1 lt ln1.found (ready_next env z.depth ar en (omega arith) r)))
     (λ t w2 q. goes (same_truth b t) w2 (subst (λ y. ArrivedAt g s C z y z.depth w w2) (jump_way b t (Label n1 ∷ body) (Label n2 ∷ rest)) q))
   where
-    goes : (t : Bool) (w2 : World) → ArrivedAt g s (record { most = 16 * w.turns + 1; least = A.least - turns_of e }) z (cond t (Label n1 ∷ body) (Label n2 ∷ rest)) z.depth w w2
+    goes : (t : Bool) (w2 : World) → ArrivedAt g s (record { most = 16 * w.turns + 1; least = A.least - turns_of false e }) z (cond t (Label n1 ∷ body) (Label n2 ∷ rest)) z.depth w w2
         → RanDid g s B z rest w (either t (λ w. turn w (λ w. m.rounds x forwards z.env w)) done w2)
     goes true w2 q =
-        further_round g m sim s (record { most = 16 * w.turns + 1; least = A.least - turns_of e }) B x z n1 at body rest w w2 (omega arith) (omega arith) le ll (omega arith) (omega arith) lp lx ent ln1 r q
+        further_round g m sim s (record { most = 16 * w.turns + 1; least = A.least - turns_of false e }) B x z n1 at body rest w w2 (omega arith) (omega arith) le ll (omega arith) (omega arith) lp lx ent ln1 r q
     goes false w2 q = went (landed_on (omega arith) (omega arith) ln2 q)
 
 pub while_rounds : (g : Setting) (m : Meanings) → Simulates g m → (l : ℕ) (b : Bool) (e : Expression) (a : Action) (mode : Mode) (z : Sit) (at : Sought → List Stmt) (body rest e1 : List Stmt) (w : World)
@@ -196,7 +196,7 @@ pub while_rounds : (g : Setting) (m : Meanings) → Simulates g m → (l : ℕ) 
 while_rounds g m sim l b e a mode z at body rest e1 w lx ent r =
     round_run g m sim (for_rounds (t.while l b e a) w) a mode z (past e z.env) lx.0 lx.2 at body (Label lx.0 ∷ lx.3) lx.3 rest e1 w _ (λ _. while_adds g m sim (t.while l b e a) e z.env z.env b) (omega arith) (omega arith) refl lx.4 (entered mode ent) lx.6 lx.8 r behind behind
   where
-    behind : (A : Account) (w1 : World) → A.most ≤ 16 * w.turns → w.turns - turns_in a ≤ A.least → ArrivedAt g (start z e1 w) A z (Label lx.0 ∷ lx.3) z.depth w w1
+    behind : (A : Account) (w1 : World) → A.most ≤ 16 * w.turns → w.turns - turns_in false a ≤ A.least → ArrivedAt g (start z e1 w) A z (Label lx.0 ∷ lx.3) z.depth w w1
         → RanDid g (start z e1 w) (for_rounds (t.while l b e a) w) z rest w (where_truth m b e z.env (λ w. turn w (λ w. m.rounds (t.while l b e a) forwards z.env w)) w1)
     behind A w1 lm ll q = let dp = r.deep in
         test_behind g m sim (start z e1 w) (record { most = 16 * w.turns + 1; least = A.least }) (for_rounds (t.while l b e a) w) (t.while l b e a) b e z z.env lx.1 lx.2 at body lx.3 rest w w1 (omega arith) (omega arith) (omega arith) (omega arith) (omega arith) lx.9 refl lx refl lx.5 lx.7 lx.8 r
@@ -213,7 +213,7 @@ pub repeat_while_rounds : (g : Setting) (m : Meanings) → Simulates g m → (l 
 repeat_while_rounds g m sim l b a e mode z at body rest e1 w lx ent r =
     round_run g m sim (for_rounds (t.repeat_while l b a e) w) a mode z z.env lx.1 lx.2 at body (Label lx.1 ∷ lx.3) lx.3 rest e1 w _ (λ _. while_adds g m sim (t.repeat_while l b a e) e z.env (past_action a z.env) b) (omega arith) (omega arith) refl lx.4 (entered mode ent) lx.7 lx.8 r behind behind
   where
-    behind : (A : Account) (w1 : World) → A.most ≤ 16 * w.turns → w.turns - turns_in a ≤ A.least → ArrivedAt g (start z e1 w) A z (Label lx.1 ∷ lx.3) z.depth w w1
+    behind : (A : Account) (w1 : World) → A.most ≤ 16 * w.turns → w.turns - turns_in false a ≤ A.least → ArrivedAt g (start z e1 w) A z (Label lx.1 ∷ lx.3) z.depth w w1
         → RanDid g (start z e1 w) (for_rounds (t.repeat_while l b a e) w) z rest w (where_truth m b e (past_action a z.env) (λ w. turn w (λ w. m.rounds (t.repeat_while l b a e) forwards z.env w)) w1)
     behind A w1 lm ll q = let dp = r.deep in
         test_behind g m sim (start z e1 w) (record { most = 16 * w.turns + 1; least = A.least }) (for_rounds (t.repeat_while l b a e) w) (t.repeat_while l b a e) b e z (past_action a z.env) lx.0 lx.2 at body lx.3 rest w w1 (omega arith) (omega arith) (omega arith) (omega arith) (omega arith) lx.9 refl lx refl lx.5 lx.6 lx.8 r
@@ -230,10 +230,10 @@ repeat_adds g m sim x env = adds _ (λ w. turn_after _ (adds _ (λ w1. sim.grows
 pub repeat_rounds : (g : Setting) (m : Meanings) → Simulates g m → (l : ℕ) (a : Action) (mode : Mode) (z : Sit) (at : Sought → List Stmt) (body rest e1 : List Stmt) (w : World) → IsLoop g z.scene z.depth z.env (t.repeat l a) at body rest
     → EnteredBody mode z.env (t.repeat l a) at body e1 → Ready g z w → RanDid g (start z e1 w) (for_rounds (t.repeat l a) w) z rest w (rounds_of m (t.repeat l a) mode z.env w)
 repeat_rounds g m sim l a mode z at body rest e1 w lx ent r =
-    let behind : (A : Account) (w1 : World) → A.most ≤ 16 * w.turns → w.turns - turns_in a ≤ A.least → ArrivedAt g (start z e1 w) A z (Label lx.0 ∷ body) z.depth w w1
+    let behind : (A : Account) (w1 : World) → A.most ≤ 16 * w.turns → w.turns - turns_in false a ≤ A.least → ArrivedAt g (start z e1 w) A z (Label lx.0 ∷ body) z.depth w w1
     → RanDid g (start z e1 w) (for_rounds (t.repeat l a) w) z rest w (turn w1 (λ w. m.rounds (t.repeat l a) forwards z.env w)) = λ A w1 lm ll q.
     further_round g m sim (start z e1 w) A (for_rounds (t.repeat l a) w) (t.repeat l a) z lx.0 at body rest w w1 (omega arith) (omega arith) (omega arith) (omega arith) (omega arith) (omega arith) lx.5 lx refl lx.3 r q in
-    let ends : (A : Account) (w1 : World) → A.most ≤ 16 * w.turns → w.turns - turns_in a ≤ A.least → ArrivedAt g (start z e1 w) A z (Jump lx.0 ∷ Label lx.1 ∷ rest) z.depth w w1
+    let ends : (A : Account) (w1 : World) → A.most ≤ 16 * w.turns → w.turns - turns_in false a ≤ A.least → ArrivedAt g (start z e1 w) A z (Jump lx.0 ∷ Label lx.1 ∷ rest) z.depth w w1
     → RanDid g (start z e1 w) (for_rounds (t.repeat l a) w) z rest w (turn w1 (λ w. m.rounds (t.repeat l a) forwards z.env w)) = λ A w1 lm ll q.
     let dp = r.deep in
     further_round g m sim (start z e1 w) (paying g A) (for_rounds (t.repeat l a) w) (t.repeat l a) z lx.0 at body rest w w1 (omega arith) (omega arith) (omega arith) (omega arith) (omega arith) (omega arith) lx.5 lx refl lx.3 r
@@ -284,7 +284,7 @@ while_goes g m sim l b e a env x =
     adds _ (λ w. either_after (same_truth b x) _ _ (again_adds _ _ (adds _ (λ w1. sim.grows.act a forwards _ w1)) (while_adds g m sim (t.while l b e a) e env env b)) (adds _ (λ w1. stays (history w1))) w)
 
 pub while_run : (g : Setting) (m : Meanings) → Simulates g m → (B : Account) (l : ℕ) (b : Bool) (e : Expression) (a : Action) (z : Sit) (at : Sought → List Stmt) (c rest : List Stmt) (w : World) → 16 * w.turns + 8 ≤ B.most
-    → B.least ≤ w.turns - suc (turns_of e + turns_in a) → (lx : IsAct g z.scene z.depth z.env (t.while l b e a) at c rest) → Ready g z w
+    → B.least ≤ w.turns - suc (turns_of false e + turns_in false a) → (lx : IsAct g z.scene z.depth z.env (t.while l b e a) at c rest) → Ready g z w
     → RanDid g (start z c w) B z rest w (where_truth m b e z.env (λ w. rounds_of m (t.while l b e a) forwards z.env w) w)
 while_run g m sim B l b e a z at c rest w le le' lx r =
     let dp = r.deep in
@@ -292,7 +292,7 @@ while_run g m sim B l b e a z at c rest w le le' lx r =
     let s = start z c0 w in
     let A0 : Account = record { most = 16 * w.turns; least = w.turns } in
     let A : Account = record { most = 16 * w.turns + 2; least = w.turns } in
-    let C : Account = record { most = 16 * w.turns + 2; least = w.turns - turns_of e } in
+    let C : Account = record { most = 16 * w.turns + 2; least = w.turns - turns_of false e } in
     let ar : ArrivedAt g s A z lx.4 z.depth w w = jumped_on (omega arith) (omega arith) r.deep lx.8 (stay g A0 z c0 w (omega arith) (omega arith) r) in
     let m0 = ar.most in
     subst (λ y. RanDid g (start z y w) B z rest w (where_truth m b e z.env (λ w. rounds_of m (t.while l b e a) forwards z.env w) w)) (sym lx.5)
@@ -301,26 +301,26 @@ while_run g m sim B l b e a z at c rest w le le' lx r =
     (sim.truth e (next g s A z lx.4 z.depth w w z.env z.depth ar) b lx.1 (Label lx.1 ∷ lx.3) lx.4 (Label lx.2 ∷ rest) w lx.7 lx.9.found (ready_next z.env z.depth ar refl (omega arith) r)))
     (λ x w2 q. goes (same_truth b x) w2 (subst (λ y. ArrivedAt g s C z y z.depth w w2) (jump_way b x (Label lx.1 ∷ lx.3) (Label lx.2 ∷ rest)) q)))
   where
-    goes : (x : Bool) (w2 : World) → ArrivedAt g (start z (Jump lx.0 ∷ Label lx.1 ∷ lx.3) w) (record { most = 16 * w.turns + 2; least = w.turns - turns_of e }) z (cond x (Label lx.1 ∷ lx.3) (Label lx.2 ∷ rest)) z.depth w w2
+    goes : (x : Bool) (w2 : World) → ArrivedAt g (start z (Jump lx.0 ∷ Label lx.1 ∷ lx.3) w) (record { most = 16 * w.turns + 2; least = w.turns - turns_of false e }) z (cond x (Label lx.1 ∷ lx.3) (Label lx.2 ∷ rest)) z.depth w w2
         → RanDid g (start z (Jump lx.0 ∷ Label lx.1 ∷ lx.3) w) B z rest w (either x (λ w. rounds_of m (t.while l b e a) forwards z.env w) done w2)
     goes true w2 q =
-        let few : suc (turns_of e + turns_in a) ≤ g.pay = lx.11 in
+        let few : suc (turns_of false e + turns_in false a) ≤ g.pay = lx.11 in
         let s = start z (Jump lx.0 ∷ Label lx.1 ∷ lx.3) w in
-        let D : Account = record { most = 16 * w.turns + 3; least = (w.turns - turns_of e) + g.pay } in
+        let D : Account = record { most = 16 * w.turns + 3; least = (w.turns - turns_of false e) + g.pay } in
         let ar : ArrivedAt g s D z lx.3 z.depth w w2 = arrived_more (omega arith) (omega arith) (label_on lx.9 q) in
         let m0 = ar.most in
         rounds_behind g m (t.while l b e a) (λ mode z at body rest e1 w. while_rounds g m sim l b e a mode z at body rest e1 w) s D B z at lx.3 rest w w2 (omega arith) (omega arith) (lx.0, lx.1, lx.2, lx.4, lx.6, lx.7, lx.8, lx.9, lx.10, lx.11) refl r ar
     goes false w2 q = went (landed_on (omega arith) (omega arith) lx.10 q)
 
 pub while_sought : (g : Setting) (m : Meanings) → Simulates g m → (B : Account) (l : ℕ) (b : Bool) (e : Expression) (a : Action) (s : Sought) (z : Sit) (at : Sought → List Stmt) (c rest e1 : List Stmt) (w : World) → 16 * w.turns + 2 ≤ B.most
-    → B.least ≤ w.turns - suc (turns_of e + turns_in a) → IsAct g z.scene z.depth z.env (t.while l b e a) at c rest → (stands_in s z.env a ≡ true) × (e1 ≡ at s) → Ready g z w
+    → B.least ≤ w.turns - suc (turns_of false e + turns_in false a) → IsAct g z.scene z.depth z.env (t.while l b e a) at c rest → (stands_in s z.env a ≡ true) × (e1 ≡ at s) → Ready g z w
     → RanDid g (start z e1 w) B z rest w (rounds_of m (t.while l b e a) (seeking s) z.env w)
 while_sought g m sim B l b e a s z at c rest e1 w le le' lx en r =
     rounds_sought g m (t.while l b e a) (λ mode z at body rest e1 w. while_rounds g m sim l b e a mode z at body rest e1 w) B s z at lx.3 rest e1 w le le' (lx.0, lx.1, lx.2, lx.4, lx.6, lx.7, lx.8, lx.9, lx.10, lx.11)
     (same_stands s z.env.names _ z.env.next a ∙ en.0, en.1) r
 
 -- ---- REPEAT, REPEATWHILE and REPEATUNTIL
-pub repeat_run : (g : Setting) (m : Meanings) → Simulates g m → (B : Account) (l : ℕ) (a : Action) (mode : Mode) (z : Sit) (at : Sought → List Stmt) (c rest e1 : List Stmt) (w : World) → 16 * w.turns + 3 ≤ B.most → B.least ≤ w.turns - suc (turns_in a)
+pub repeat_run : (g : Setting) (m : Meanings) → Simulates g m → (B : Account) (l : ℕ) (a : Action) (mode : Mode) (z : Sit) (at : Sought → List Stmt) (c rest e1 : List Stmt) (w : World) → 16 * w.turns + 3 ≤ B.most → B.least ≤ w.turns - suc (turns_in false a)
     → IsAct g z.scene z.depth z.env (t.repeat l a) at c rest → Entered mode z.env (t.repeat l a) at c e1 → Ready g z w → RanDid g (start z e1 w) B z rest w (rounds_of m (t.repeat l a) mode z.env w)
 repeat_run g m sim B l a forwards z at c rest e1 w le le' lx en r =
     rounds_from_label g m (t.repeat l a) (λ mode z at body rest e1 w. repeat_rounds g m sim l a mode z at body rest e1 w) B z lx.0 at e1 lx.2 rest w le le' (lx.0, lx.1, lx.4, lx.5, lx.6, lx.7) refl lx.5 (en ∙ lx.3) r
@@ -328,7 +328,7 @@ repeat_run g m sim B l a (seeking s) z at c rest e1 w le le' lx en r =
     rounds_sought g m (t.repeat l a) (λ mode z at body rest e1 w. repeat_rounds g m sim l a mode z at body rest e1 w) B s z at lx.2 rest e1 w (omega arith) le' (lx.0, lx.1, lx.4, lx.5, lx.6, lx.7) en r
 
 pub repeat_while_run : (g : Setting) (m : Meanings) → Simulates g m → (B : Account) (l : ℕ) (b : Bool) (a : Action) (e : Expression) (mode : Mode) (z : Sit) (at : Sought → List Stmt) (c rest e1 : List Stmt) (w : World) → 16 * w.turns + 3 ≤ B.most
-    → B.least ≤ w.turns - suc (turns_of e + turns_in a) → IsAct g z.scene z.depth z.env (t.repeat_while l b a e) at c rest → Entered mode z.env (t.repeat_while l b a e) at c e1 → Ready g z w
+    → B.least ≤ w.turns - suc (turns_of false e + turns_in false a) → IsAct g z.scene z.depth z.env (t.repeat_while l b a e) at c rest → Entered mode z.env (t.repeat_while l b a e) at c e1 → Ready g z w
     → RanDid g (start z e1 w) B z rest w (rounds_of m (t.repeat_while l b a e) mode z.env w)
 repeat_while_run g m sim B l b a e forwards z at c rest e1 w le le' lx en r =
     rounds_from_label g m (t.repeat_while l b a e) (λ mode z at body rest e1 w. repeat_while_rounds g m sim l b a e mode z at body rest e1 w) B z lx.0 at e1 lx.3 rest w le le' (lx.0, lx.1, lx.2, lx.4, lx.6, lx.7, lx.8, lx.9, lx.10, lx.11) refl lx.8 (en ∙ lx.5) r
@@ -347,7 +347,7 @@ pub ended_adds : (g : Setting) (m : Meanings) → Simulates g m → (a : Action)
 ended_adds g m sim a mode env = adds _ (λ w. each_way_after (history w) (m.act a mode env w) (λ _ w. done w) case_exit (sim.grows.act a mode env w) (λ _. adds _ (λ w1. stays (history w1))) case_adds)
 
 -- the body from a place in it, to its end or to an ENDCASE
-pub ended_run : (g : Setting) (m : Meanings) → Simulates g m → (B : Account) (a : Action) (s : Sought) (z : Sit) (env : Environment) (n : ℕ) (at : Sought → List Stmt) (c1 rest e : List Stmt) (w : World) → 16 * w.turns + 1 ≤ B.most → B.least ≤ w.turns - turns_in a
+pub ended_run : (g : Setting) (m : Meanings) → Simulates g m → (B : Account) (a : Action) (s : Sought) (z : Sit) (env : Environment) (n : ℕ) (at : Sought → List Stmt) (c1 rest e : List Stmt) (w : World) → 16 * w.turns + 1 ≤ B.most → B.least ≤ w.turns - turns_in false a
     → env.names ≡ z.env.names → IsAct g (in_switch n z.depth z.scene) z.depth env a at c1 (Label n ∷ rest) → Entered (seeking s) env a at c1 e → LabelAt g z.scene z.depth n rest → Ready g z w
     → RanDid g (start z e w) B z rest w (ended_case (m.act a (seeking s) env w))
 ended_run g m sim B a s z env n at c1 rest e w le le' en l ent ln r =
@@ -364,12 +364,12 @@ ended_run g m sim B a s z env n at c1 rest e w le le' en l ent ln r =
 
 -- and behind an arrival at that place
 ended_behind : (g : Setting) (m : Meanings) → Simulates g m → (st : State) (A B : Account) (a : Action) (s : Sought) (z : Sit) (env : Environment) (n : ℕ) (at : Sought → List Stmt) (c1 rest e : List Stmt) (w w1 : World) → A.most + 1 ≤ B.most
-    → B.least ≤ (w1.turns - turns_in a) + (A.least - w1.turns) → env.names ≡ z.env.names → IsAct g (in_switch n z.depth z.scene) z.depth env a at c1 (Label n ∷ rest) → Entered (seeking s) env a at c1 e → LabelAt g z.scene z.depth n rest → Ready g z w
+    → B.least ≤ (w1.turns - turns_in false a) + (A.least - w1.turns) → env.names ≡ z.env.names → IsAct g (in_switch n z.depth z.scene) z.depth env a at c1 (Label n ∷ rest) → Entered (seeking s) env a at c1 e → LabelAt g z.scene z.depth n rest → Ready g z w
     → ArrivedAt g st A z e z.depth w w1 → RanDid g st B z rest w (ended_case (m.act a (seeking s) env w1))
 ended_behind g m sim st A B a s z env n at c1 rest e w w1 le ll en l ent ln r ar =
     let m0 = ar.most in
     comes_to (omega arith) (omega arith) r (omega arith) ar
-    (ended_run g m sim (record { most = 16 * w1.turns + 1; least = w1.turns - turns_in a }) a s (next g st A z e z.depth w w1 z.env z.depth ar) env n at c1 rest e w1 (omega arith) (omega arith) en l ent ln (ready_next z.env z.depth ar refl (omega arith) r))
+    (ended_run g m sim (record { most = 16 * w1.turns + 1; least = w1.turns - turns_in false a }) a s (next g st A z e z.depth w w1 z.env z.depth ar) env n at c1 rest e w1 (omega arith) (omega arith) en l ent ln (ready_next z.env z.depth ar refl (omega arith) r))
 
 choose_adds : (g : Setting) (m : Meanings) → Simulates g m → (v : Value) (a : Action) (env : Environment) → Adds (choose_case m v a env)
 choose_adds g m sim (number k) a env = adds _ (λ w. either_after (stands_in (the_case (Some k)) env a) _ _ (ended_adds g m sim a (seeking (the_case (Some k))) env)
@@ -384,7 +384,7 @@ switched {g} {s} {A} {z} {other} {k} {cs} {to} {c1} {w} {w1} r a e =
     arrived_paid a.arr (below (z.frame + z.depth) a.arr.cells1) None a.arr.written1 (links_below r) (λ x lx. below_like (z.frame + z.depth) a.arr.cells1 x lx)
     (switch_moves g.program (there g s A z (Switch other cs ∷ c1) (z.depth + 1) w w1 a.arr) z.scene.own c1 z.depth other k cs to refl a.stands e)
 
-pub switch_run : (g : Setting) (m : Meanings) → Simulates g m → (B : Account) (l : ℕ) (e : Expression) (a : Action) (z : Sit) (at : Sought → List Stmt) (c rest : List Stmt) (w : World) → 16 * w.turns + 4 ≤ B.most → B.least ≤ w.turns - (turns_of e + turns_in a)
+pub switch_run : (g : Setting) (m : Meanings) → Simulates g m → (B : Account) (l : ℕ) (e : Expression) (a : Action) (z : Sit) (at : Sought → List Stmt) (c rest : List Stmt) (w : World) → 16 * w.turns + 4 ≤ B.most → B.least ≤ w.turns - (turns_of false e + turns_in false a)
     → IsAct g z.scene z.depth z.env (t.switch l e a) at c rest → Ready g z w → RanDid g (start z c w) B z rest w (with (m.value e z.env w) (λ v w. choose_case m v a (past e z.env) w))
 switch_run g m sim B l e a z at c rest w le le' lx r =
     one_run g m sim B e z c (Switch lx.1 lx.2 ∷ lx.3) w _ _ (λ v. choose_adds g m sim v a (past e z.env)) (omega arith) (omega arith) lx.4 r by_value
@@ -421,7 +421,7 @@ label_only s b h = by_kind (is_label s) h
     by_kind true h = h
     by_kind false h = not_true h
 
-pub switch_sought : (g : Setting) (m : Meanings) → Simulates g m → (B : Account) (l : ℕ) (e : Expression) (a : Action) (s : Sought) (z : Sit) (at : Sought → List Stmt) (c rest e1 : List Stmt) (w : World) → 16 * w.turns + 1 ≤ B.most → B.least ≤ w.turns - turns_in a
+pub switch_sought : (g : Setting) (m : Meanings) → Simulates g m → (B : Account) (l : ℕ) (e : Expression) (a : Action) (s : Sought) (z : Sit) (at : Sought → List Stmt) (c rest e1 : List Stmt) (w : World) → 16 * w.turns + 1 ≤ B.most → B.least ≤ w.turns - turns_in false a
     → IsAct g z.scene z.depth z.env (t.switch l e a) at c rest → Entered (seeking s) z.env (t.switch l e a) at c e1 → Ready g z w → RanDid g (start z e1 w) B z rest w (ended_case (m.act a (seeking s) (past e z.env) w))
 switch_sought g m sim B l e a s z at c rest e1 w le le' lx en r =
     ended_run g m sim B a s z (past e z.env) lx.0 at lx.3 rest e1 w le le' refl lx.5 (same_stands s z.env.names (past e z.env).next z.env.next a ∙ label_only s (stands_in s z.env a) en.0, en.1) lx.6 r

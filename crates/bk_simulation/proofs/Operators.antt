@@ -128,7 +128,7 @@ value_run g m sim e z c rest w l r = ran_first (omega arith) (omega arith) (λ t
 
 -- One value, and what follows it.
 pub one_run : {T : Type 0} (g : Setting) (m : Meanings) → Simulates g m → (B : Account) (e : Expression) (z : Sit) (c rest : List Stmt) (w : World) (L : T → World → Type 0) (go : Value → World → Outcome T)
-    → ((u : Value) → Adds (go u)) → 16 * w.turns ≤ B.most + 4 → B.least ≤ w.turns - turns_of e → IsValue g z.scene z.depth z.env e c rest → Ready g z w
+    → ((u : Value) → Adds (go u)) → 16 * w.turns ≤ B.most + 4 → B.least ≤ w.turns - turns_of false e → IsValue g z.scene z.depth z.env e c rest → Ready g z w
     → ((u : Value) (w1 : World) → Has g (start z c w) (for_value e w) z rest (z.depth + 1) w u w1 → 1 ≤ w.turns → Ran g (start z c w) B L (Out g (start z c w) B z w) (go u w1))
     → Ran g (start z c w) B L (Out g (start z c w) B z w) (with (m.value e z.env w) go)
 one_run g m sim B e z c rest w L go ad le le' l r h = with_ran ad (ran_more (omega arith) (omega arith) (sim.value e z c rest w l r)) (λ u w1 q. h u w1 q.0 q.1)
@@ -140,11 +140,11 @@ pub record Two (g : Setting) (s : State) (A : Account) (z : Sit) (c : List Stmt)
   pub second : Stands g.codes arr.bases1 v (content_of (arr.cells1 (z.frame + (z.depth + 1))))
 
 abbrev pub for_two : Expression → Expression → World → Account
-for_two a b w = record { most = 16 * w.turns - 4; least = w.turns - (turns_of a + turns_of b) }
+for_two a b w = record { most = 16 * w.turns - 4; least = w.turns - (turns_of false a + turns_of false b) }
 
 -- Two values, and what follows them.
 pub two_run : {T : Type 0} (g : Setting) (m : Meanings) → Simulates g m → (B : Account) (a b : Expression) (z : Sit) (c c1 rest : List Stmt) (w : World) (L : T → World → Type 0) (go : Value → Value → World → Outcome T)
-    → ((u v : Value) → Adds (go u v)) → 16 * w.turns ≤ B.most + 4 → B.least ≤ w.turns - (turns_of a + turns_of b) → IsValue g z.scene z.depth z.env a c c1
+    → ((u v : Value) → Adds (go u v)) → 16 * w.turns ≤ B.most + 4 → B.least ≤ w.turns - (turns_of false a + turns_of false b) → IsValue g z.scene z.depth z.env a c c1
     → IsValue g z.scene (z.depth + 1) (past a z.env) b c1 rest → Ready g z w
     → ((u v : Value) (w2 : World) → Two g (start z c w) (for_two a b w) z rest w u v w2 → 1 ≤ w.turns → Ran g (start z c w) B L (Out g (start z c w) B z w) (go u v w2))
     → Ran g (start z c w) B L (Out g (start z c w) B z w) (with (m.value a z.env w) (λ u w1. with (m.value b (past a z.env) w1) (λ v w2. go u v w2)))
@@ -270,7 +270,7 @@ where_not false false to rest = refl
 
 -- NOT
 pub denied_run : (g : Setting) (m : Meanings) → Simulates g m → (B : Account) (e : Expression) (z : Sit) (u : Bool) (n : ℕ) (to c rest : List Stmt) (w : World)
-    → 16 * w.turns ≤ B.most + 3 → B.least ≤ w.turns - turns_of e
+    → 16 * w.turns ≤ B.most + 3 → B.least ≤ w.turns - turns_of false e
     → IsJump g z.scene z.depth z.env e (not u) n c rest → from_label z.scene.own.stmts n ≡ Some to → Ready g z w
     → Ran g (start z c w) B (HasTruth g (start z c w) B z u to rest w) (Out g (start z c w) B z w) (with (m.truth e z.env w) (λ b w. gives (not b) w))
 denied_run g m sim B e z u n to c rest w le le' l f r =
@@ -288,11 +288,11 @@ landed _ _ to le le' l a = arrived_more (omega arith) le' a
 
 -- the second condition, behind an arrival
 abbrev for_second : Expression → Expression → World → Account
-for_second a b w = record { most = 16 * w.turns - 3; least = w.turns - (turns_of a + turns_of b) }
+for_second a b w = record { most = 16 * w.turns - 3; least = w.turns - (turns_of false a + turns_of false b) }
 
 second_run : {L : Bool → World → Type 0} (g : Setting) (m : Meanings) → Simulates g m → (s : State) (B : Account) (a b : Expression) (z : Sit) (u : Bool)
     (n : ℕ) (to c1 rest : List Stmt) (w w1 : World) → 16 * w.turns ≤ B.most + 3
-    → B.least ≤ w.turns - (turns_of a + turns_of b) → IsJump g z.scene z.depth (past a z.env) b u n c1 rest → from_label z.scene.own.stmts n ≡ Some to
+    → B.least ≤ w.turns - (turns_of false a + turns_of false b) → IsJump g z.scene z.depth (past a z.env) b u n c1 rest → from_label z.scene.own.stmts n ≡ Some to
     → Ready g z w → ArrivedAt g s (for_truth a w) z c1 z.depth w w1
     → ((t : Bool) (w2 : World) → HasTruth g s (for_second a b w) z u to rest w t w2 → L t w2) → Ran g s B L (Out g s B z w) (m.truth b (past a z.env) w1)
 second_run g m sim s B a b z u n to c1 rest w w1 le le' l f r ar fin =
@@ -311,7 +311,7 @@ decided_adds true go ad x = adds _ (λ w. either_after x _ _ (adds _ (λ w1. sta
 
 -- the first condition
 first_run : {L : Bool → World → Type 0} (g : Setting) (m : Meanings) → Simulates g m → (B : Account) (a b : Expression) (z : Sit) (u0 : Bool) (n0 : ℕ)
-    (to0 c c1 : List Stmt) (w : World) → 16 * w.turns ≤ B.most + 3 → B.least ≤ w.turns - turns_of a
+    (to0 c c1 : List Stmt) (w : World) → 16 * w.turns ≤ B.most + 3 → B.least ≤ w.turns - turns_of false a
     → IsJump g z.scene z.depth z.env a u0 n0 c c1 → from_label z.scene.own.stmts n0 ≡ Some to0 → Ready g z w
     → ((x : Bool) (w1 : World) → ArrivedAt g (start z c w) (for_truth a w) z (where_to u0 x to0 c1) z.depth w w1 → Ran g (start z c w) B L (Out g (start z c w) B z w) (decided u0 (λ w. m.truth b (past a z.env) w) x w1))
     → Ran g (start z c w) B L (Out g (start z c w) B z w) (with (m.truth a z.env w) (λ x w. decided u0 (λ w. m.truth b (past a z.env) w) x w))
@@ -321,7 +321,7 @@ first_run g m sim B a b z u0 n0 to0 c c1 w le le' l f r h =
 
 -- `&` that jumps where it fails, and `|` where it holds: so does each condition
 pub straight_run : (g : Setting) (m : Meanings) → Simulates g m → (B : Account) (a b : Expression) (z : Sit) (u : Bool) (n : ℕ) (to c c1 rest : List Stmt)
-    (w : World) → 16 * w.turns ≤ B.most + 3 → B.least ≤ w.turns - (turns_of a + turns_of b)
+    (w : World) → 16 * w.turns ≤ B.most + 3 → B.least ≤ w.turns - (turns_of false a + turns_of false b)
     → IsJump g z.scene z.depth z.env a u n c c1 → IsJump g z.scene z.depth (past a z.env) b u n c1 rest → from_label z.scene.own.stmts n ≡ Some to → Ready g z w
     → Ran g (start z c w) B (HasTruth g (start z c w) B z u to rest w) (Out g (start z c w) B z w)
     (with (m.truth a z.env w) (λ x w. decided u (λ w. m.truth b (past a z.env) w) x w))
@@ -338,7 +338,7 @@ straight_run g m sim B a b z u n to c c1 rest w le le' la lb f r = first_run g m
 
 -- `&` that jumps where it holds, and `|` where it fails: the first condition jumps over the second
 pub over_run : (g : Setting) (m : Meanings) → Simulates g m → (B : Account) (a b : Expression) (z : Sit) (u : Bool) (n k : ℕ) (to c c1 rest : List Stmt)
-    (w : World) → 16 * w.turns + 1 ≤ B.most → B.least ≤ w.turns - (turns_of a + turns_of b)
+    (w : World) → 16 * w.turns + 1 ≤ B.most → B.least ≤ w.turns - (turns_of false a + turns_of false b)
     → IsJump g z.scene z.depth z.env a (not u) k c c1 → IsJump g z.scene z.depth (past a z.env) b u n c1 (Label k ∷ rest) → LabelAt g z.scene z.depth k rest
     → from_label z.scene.own.stmts n ≡ Some to → Ready g z w
     → Ran g (start z c w) B (HasTruth g (start z c w) B z u to rest w) (Out g (start z c w) B z w)
@@ -360,7 +360,7 @@ over_run g m sim B a b z u n k to c c1 rest w le le' la lb lk f r =
 -- ---- `->`: one of two values, which goes by way of the result in hand
 branch_run : (g : Setting) (m : Meanings) → Simulates g m → (s : State) (A D C : Account) (e : Expression) (z : Sit) (env : Environment) (n : ℕ)
     (c1 rest behind : List Stmt) (w w1 : World) → A.most ≤ D.most → D.most + 3 ≤ C.most
-    → D.least ≤ (w1.turns - turns_of e) + (A.least - w1.turns) → C.least ≤ D.least → env.names ≡ z.env.names → IsValue g z.scene z.depth env e c1
+    → D.least ≤ (w1.turns - turns_of false e) + (A.least - w1.turns) → C.least ≤ D.least → env.names ≡ z.env.names → IsValue g z.scene z.depth env e c1
     (GiveResult n ∷ behind) → LabelAt g z.scene z.depth n (TakeResult z.depth ∷ rest)
     → Ready g z w → ArrivedAt g s A z c1 z.depth w w1 → Ran g s C (Has g s C z rest (z.depth + 1) w) (Out g s C z w) (m.value e env w1)
 branch_run g m sim s A D C e z env n c1 rest behind w w1 le1 le2 ll lc en l ln r ar =
@@ -372,7 +372,7 @@ branch_run g m sim s A D C e z env n c1 rest behind w w1 le1 le2 ll lc en l ln r
 
 pub choice_run : (g : Setting) (m : Meanings) → Simulates g m → (B : Account) (e a b : Expression) (z : Sit) (n n1 : ℕ) (c c1 c2 rest : List Stmt) (w : World)
     → 16 * w.turns + 12 ≤ B.most
-    → B.least ≤ w.turns - (turns_of e + (turns_of a + turns_of b)) → IsJump g z.scene z.depth z.env e false n c c1 → IsValue g z.scene z.depth
+    → B.least ≤ w.turns - (turns_of false e + (turns_of false a + turns_of false b)) → IsJump g z.scene z.depth z.env e false n c c1 → IsValue g z.scene z.depth
     (past e z.env) a c1 (GiveResult n1 ∷ Label n ∷ c2)
     → IsValue g z.scene z.depth (past a (past e z.env)) b c2 (GiveResult n1 ∷ Label n1 ∷ TakeResult z.depth ∷ rest) → LabelAt g z.scene z.depth n c2
     → LabelAt g z.scene z.depth n1 (TakeResult z.depth ∷ rest) → Ready g z w
@@ -384,7 +384,7 @@ choice_run g m sim B e a b z n n1 c c1 c2 rest w le le' le_ la lb l0 l1 r =
     (ran_more (omega arith) (omega arith) (sim.truth e z false n (Label n ∷ c2) c c1 w le_ l0.found r)) goes
   where
     D : Account
-    D = record { most = 16 * w.turns + 1; least = w.turns - (turns_of e + (turns_of a + turns_of b)) }
+    D = record { most = 16 * w.turns + 1; least = w.turns - (turns_of false e + (turns_of false a + turns_of false b)) }
 
     goes : (x : Bool) (w1 : World) → ArrivedAt g (start z c w) (for_truth e w) z (where_to false x (Label n ∷ c2) c1) z.depth w w1
         → Ran g (start z c w) B (Has g (start z c w) B z rest (z.depth + 1) w) (Out g (start z c w) B z w)
@@ -393,6 +393,6 @@ choice_run g m sim B e a b z n n1 c c1 c2 rest w le le' le_ la lb l0 l1 r =
         branch_run g m sim (start z c w) (for_truth e w) D B a z (past e z.env) n1 c1 rest (Label n ∷ c2) w w1 (omega arith) (omega arith)
         (omega arith) le' refl la l1 r q
     goes false w1 q = let dp = r.deep in let m0 = q.most in
-        let A : Account = record { most = 16 * w.turns + 1; least = w.turns - turns_of e } in
+        let A : Account = record { most = 16 * w.turns + 1; least = w.turns - turns_of false e } in
         branch_run g m sim (start z c w) A D B b z (past a (past e z.env)) n1 c2 rest (Label n1 ∷ TakeResult z.depth ∷ rest) w w1
         (omega arith) (omega arith) (omega arith) le' refl lb l1 r (landed_on (omega arith) (omega arith) l0 q)

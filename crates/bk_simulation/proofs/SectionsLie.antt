@@ -1,15 +1,15 @@
 -- What lasts of all sections of a program, one behind the other.
-use Rattle.bk_simulation.proofs.Words.{◌≡◌, ℕ, suc, ◌+◌, ◌<◌, ◌≤◌, List, [], ◌∷◌, ◌++◌, length, Some, refl, arith, slice_get, map, Option, sym, ap, ap₂, ◌∙◌,
+use Rattle.bk_simulation.proofs.Words.{true, length-append, ◌≡◌, ℕ, suc, ◌+◌, ◌<◌, ◌≤◌, List, [], ◌∷◌, ◌++◌, length, Some, refl, arith, slice_get, map, Option, sym, ap, ap₂, ◌∙◌,
   FRAME_WORDS, Declarations, Placed, Program, IsWellPlaced, named_tree, objects_of_declarations, of_declarations, of_sections, Lasting, words, code, map-append,
   Bound, joined, entry_setting, GlobalEntry, entry_of, entries_of}
 use Rattle.bk_simulation.specs.Placement.{AreAccepted, StandFor}
-use Rattle.bk_simulation.proofs.Weights.{weight_declared}
+use Rattle.bk_simulation.proofs.Weights.{turns_declared}
 use Rattle.bk_simulation.proofs.Sought.{with_names}
 use Rattle.bk_simulation.proofs.Laid.{Setting}
-use Rattle.bk_simulation.proofs.Held.{HeldList, held_both, held_out, lasting_both}
+use Rattle.bk_simulation.proofs.Held.{HeldList, held_both, held_out}
 use Rattle.bk_simulation.proofs.LastingKinds.{AreAs, kinds_of_declarations, Kind, string, words_at, entry, Alike, bound_global, IsCalled, alike_declarations}
 use Rattle.bk_simulation.proofs.NamesAgree.{Agree}
-use Rattle.bk_simulation.proofs.Standing.{home, Follow, FollowWords, follow_first, follow_second, words_first, words_second, length_both, Suits, Bases, Mean, AreBelow, AreSet, below_both, set_both}
+use Rattle.bk_simulation.proofs.Standing.{home, Follow, FollowWords, follow_first, follow_second, words_first, words_second, Suits, Bases, Mean, AreBelow, AreSet, below_both, set_both}
 use Rattle.bk_simulation.proofs.LaidSections.{section_scene, section_lies}
 use Rattle.bk_scope.specs.declared.bound.Bound.TheVariants as b
 use Rattle.bk_simulation.proofs.Memory.{Codes}
@@ -30,7 +30,7 @@ SectionsLie pay k i (ds ∷ rest) (own ∷ others) = SectionLies pay k own i ds 
 -- what a step pays for all of them
 abbrev pub weights : List Declarations → ℕ
 weights [] = 0
-weights (ds ∷ rest) = weight_declared ds + weights rest
+weights (ds ∷ rest) = turns_declared true ds + weights rest
 
 pub sections_lie : (pay k i : ℕ) (sections : List Declarations) (owns : List Placed) → AreAccepted sections → StandFor sections owns → weights sections ≤ pay → SectionsLie pay k i sections owns
 sections_lie pay k i [] owns ok st m = tt
@@ -59,8 +59,8 @@ all_counted pay k i (ds ∷ rest) (own ∷ others) h =
     let a = h.0.all in
     let c = h.0.count [] in
     let more = all_counted pay (suc k) n rest others h.1 in
-    let u = length_both h.0.bases (all_bases pay (suc k) n rest others h.1) in
-    let v = lasting_both (of_declarations (with_names [] i) ds) (of_sections n rest) in
+    let u = length-append h.0.bases (all_bases pay (suc k) n rest others h.1) in
+    let v = length-append (of_declarations (with_names [] i) ds) (of_sections n rest) in
     omega (arith, a, c, more, u, v)
 
 -- they lie below the first frame, and the words of procedures are set

@@ -12,25 +12,25 @@ use Rattle.bk_simulation.proofs.Frame.{Sit, start, place_of, Ready, Account, Ran
 
 -- the accounts of forms in a world
 abbrev pub for_value : Expression → World → Account
-for_value e w = record { most = 16 * w.turns - 4; least = w.turns - turns_of e }
+for_value e w = record { most = 16 * w.turns - 4; least = w.turns - turns_of false e }
 
 abbrev pub for_truth : Expression → World → Account
-for_truth e w = record { most = 16 * w.turns - 3; least = w.turns - turns_of e }
+for_truth e w = record { most = 16 * w.turns - 3; least = w.turns - turns_of false e }
 
 abbrev pub for_act : Action → World → Account
-for_act x w = record { most = 16 * w.turns; least = w.turns - turns_in x }
+for_act x w = record { most = 16 * w.turns; least = w.turns - turns_in false x }
 
 abbrev pub for_scope : Actions → World → Account
-for_scope cs w = record { most = 16 * w.turns; least = w.turns - turns_through cs }
+for_scope cs w = record { most = 16 * w.turns; least = w.turns - turns_through false cs }
 
 abbrev pub for_values : Expressions → World → Account
-for_values es w = record { most = 16 * w.turns; least = w.turns - turns_among es }
+for_values es w = record { most = 16 * w.turns; least = w.turns - turns_among false es }
 
 -- what a round takes
 abbrev pub turns_in_round : Action → ℕ
-turns_in_round (t.while l u e a) = suc (turns_of e + turns_in a)
-turns_in_round (t.repeat l a) = suc (turns_in a)
-turns_in_round (t.repeat_while l u a e) = suc (turns_of e + turns_in a)
+turns_in_round (t.while l u e a) = suc (turns_of false e + turns_in false a)
+turns_in_round (t.repeat l a) = suc (turns_in false a)
+turns_in_round (t.repeat_while l u a e) = suc (turns_of false e + turns_in false a)
 turns_in_round _ = 0
 
 abbrev pub for_rounds : Action → World → Account
@@ -73,7 +73,7 @@ pub record Limit (g : Setting) (z : Sit) (w : World) (d o : ℕ) (u : Value) : T
   pub free : (o1 n b i : ℕ) → Alive w.memory o1 n → BaseOf z.bases o1 b → i < n → b + i ≢ z.frame + (d + 1)
 
 abbrev pub for_counts : Action → World → Account
-for_counts x w = record { most = 16 * w.turns + 11; least = w.turns - suc (turns_in x) }
+for_counts x w = record { most = 16 * w.turns + 11; least = w.turns - suc (turns_in false x) }
 
 -- the code of each form does what it means
 pub record Simulates (g : Setting) (m : Meanings) : Type 0 where

@@ -1,13 +1,13 @@
 -- Where code stands in a section, with the depth before it; what a label and a call have from that; and the bases of lasting objects
 -- one behind the other.
-use Rattle.bk_simulation.proofs.Words.{◌≡◌, ℕ, false, zero, suc, ◌+◌, ◌<◌, ◌≤◌, List, [], ◌∷◌, ◌++◌, length, Some, take, drop, slice_get, refl, ap, ◌∙◌, subst,
+use Rattle.bk_simulation.proofs.Words.{length-append, ◌≡◌, ℕ, false, zero, suc, ◌+◌, ◌<◌, ◌≤◌, List, [], ◌∷◌, ◌++◌, length, Some, take, drop, slice_get, refl, ap, ◌∙◌, subst,
   arith, FRAME_WORDS, next_depth, depth_behind, AreFaultless, Placed, Program, IsWellPlaced, from_label, Stmt, Label, label_has_one_place, Binding, Target,
   outermost, Named, Lasting}
 use Rattle.bk_ocode.proofs.Depths.{depth_within}
 use Rattle.bk_simulation.proofs.Memory.{BaseOf, Grown}
 use Rattle.bk_simulation.proofs.Sought.{with_names}
 use Rattle.bk_simulation.proofs.Laid.{Setting, Scene, LabelAt, CallAt, NamedIn}
-use Rattle.bk_simulation.proofs.Held.{HeldOneIn, HeldIn, held_in_both, lasting_both, InData}
+use Rattle.bk_simulation.proofs.Held.{HeldOneIn, HeldIn, held_in_both, InData}
 use Rattle.bk_simulation.proofs.NamesAgree.{Agree}
 use Rattle.bk_simulation.proofs.LastingKinds.{Kind, AsKind, AreAs, as_both}
 
@@ -123,10 +123,6 @@ words_second f next n (x ∷ xs) ys e h =
     let s : suc next + length xs ≡ next + n = omega (arith, e) in
     subst (λ k. FollowWords f k ys) s (words_second f (suc next) (length xs) xs ys refl h.1)
 
-pub length_both : (xs ys : List ℕ) → length (xs ++ ys) ≡ length xs + length ys
-length_both [] ys = omega arith
-length_both (x ∷ xs) ys = let h = length_both xs ys in omega (arith, h)
-
 -- the section in which code stands, the names in scope there, and what a step pays at least
 pub record Home : Type 0 where
   pub section : ℕ
@@ -188,34 +184,49 @@ pub new_base : (h : Home) (next base : ℕ) (kind : Kind) (object : List Named �
     → ((g : Setting) → Fitting h g → BaseOf g.lasting next base → (ns : List Named) → Agree ns h.bindings → Mean h g ns → HeldOneIn g h.own next (object ns)) → Bases h next 1 (kind ∷ []) (λ ns. object ns ∷ []) P
 new_base h next base kind object P z low f k = record { bases = base ∷ []; entries = 1 ∷ []; all = refl; all_entries = refl; count = λ ns. refl; laid = λ g x. f g x.fits (x.follow.0); held = λ g x ns a u. (k g x.fits (x.follow.0) ns a u, tt); alike = λ g x ns a u. (z ns a, tt); placed = λ program first well own. ((low program first well own, tt), (omega arith, tt)) }
 
--- those of one part and then those of another
-pub both_bases : (h : Home) (next n m : ℕ) {ks ls : List Kind} {K L : List Named → List Lasting} (P Q : Setting → Type 0) → Bases h next n ks K P → Bases h (next + n) m ls L Q
-    → Bases h next (n + m) (ks ++ ls) (λ ns. K ns ++ L ns) (λ g. P g × Q g)
-both_bases h next n m {ks} {ls} {K} {L} P Q a b =
+-- Objects of one part, and then those of another, where other names are in scope, which mean what they should wherever the objects
+-- of the first part have their bases.
+pub then_bases : (h : Home) (bs : List Binding) (next n m : ℕ) {ks ls : List Kind} {K L : List Named → List Lasting} (P Q : Setting → Type 0) (names : List Named → List Named) (a : Bases h next n ks K P)
+    → ((g : Setting) → Suits h next a.bases a.entries g → (ns : List Named) → Agree ns h.bindings → Mean h g ns → Agree (names ns) bs × Mean (record h { bindings = bs }) g (names ns))
+    → Bases (record h { bindings = bs }) (next + n) m ls L Q → Bases h next (n + m) (ks ++ ls) (λ ns. K ns ++ L (names ns)) (λ g. P g × Q g)
+then_bases h bs next n m {ks} {ls} {K} {L} P Q names a after b =
     let an = a.all in
     let bn = b.all in
     let ae = a.all_entries in
     let be = b.all_entries in
-    let l = length_both a.bases b.bases in
-    let le = length_both a.entries b.entries in
+    let l = length-append a.bases b.bases in
+    let le = length-append a.entries b.entries in
     let front : (g : Setting) → Suits h next (a.bases ++ b.bases) (a.entries ++ b.entries) g → Suits h next a.bases a.entries g =
     λ g x. record { fits = x.fits; some = x.some; follow = follow_first g.lasting next a.bases b.bases x.follow; words = words_first g.codes.procedure next a.entries b.entries x.words } in
-    let back : (g : Setting) → Suits h next (a.bases ++ b.bases) (a.entries ++ b.entries) g → Suits h (next + n) b.bases b.entries g =
-    λ g x. record { fits = x.fits; some = (let z = x.some in omega (arith, z)); follow = follow_second g.lasting next n a.bases b.bases an x.follow; words = words_second g.codes.procedure next n a.entries b.entries ae x.words } in
+    let back : (g : Setting) → Suits h next (a.bases ++ b.bases) (a.entries ++ b.entries) g → Suits (record h { bindings = bs }) (next + n) b.bases b.entries g = λ g x. record {
+      fits = record { own = x.fits.own; pays = x.fits.pays };
+      some = (let z = x.some in omega (arith, z));
+      follow = follow_second g.lasting next n a.bases b.bases an x.follow;
+      words = words_second g.codes.procedure next n a.entries b.entries ae x.words;
+    } in
     record {
       bases = a.bases ++ b.bases;
       entries = a.entries ++ b.entries;
       all = omega (arith, an, bn, l);
       all_entries = omega (arith, ae, be, le);
-      count = λ ns. let x = a.count ns in let y = b.count ns in let z = lasting_both (K ns) (L ns) in omega (arith, x, y, z);
+      count = λ ns. let x = a.count ns in let y = b.count (names ns) in let z = length-append (K ns) (L (names ns)) in omega (arith, x, y, z);
       laid = λ g x. (a.laid g (front g x), b.laid g (back g x));
-      held = λ g x ns e u. held_in_both g h.own next n (K ns) (L ns) (a.count ns) (a.held g (front g x) ns e u) (b.held g (back g x) ns e u);
-      alike = λ g x ns e u. as_both h.own ks (K ns) a.bases a.entries ls (L ns) b.bases b.entries (a.alike g (front g x) ns e u) (b.alike g (back g x) ns e u);
+      held = λ g x ns e u.
+          let i = after g (front g x) ns e u in
+          held_in_both g h.own next n (K ns) (L (names ns)) (a.count ns) (a.held g (front g x) ns e u) (b.held g (back g x) (names ns) i.0 i.1);
+      alike = λ g x ns e u.
+          let i = after g (front g x) ns e u in
+          as_both h.own ks (K ns) a.bases a.entries ls (L (names ns)) b.bases b.entries (a.alike g (front g x) ns e u) (b.alike g (back g x) (names ns) i.0 i.1);
       placed = λ program first well own.
           let p = a.placed program first well own in
           let q = b.placed program first well own in
           (below_both first a.bases b.bases p.0 q.0, set_both a.entries b.entries p.1 q.1);
     }
+
+-- those of one part and then those of another
+pub both_bases : (h : Home) (next n m : ℕ) {ks ls : List Kind} {K L : List Named → List Lasting} (P Q : Setting → Type 0) → Bases h next n ks K P → Bases h (next + n) m ls L Q
+    → Bases h next (n + m) (ks ++ ls) (λ ns. K ns ++ L ns) (λ g. P g × Q g)
+both_bases h next n m P Q a b = then_bases h h.bindings next n m P Q (λ ns. ns) a (λ g x ns e u. (e, u)) b
 
 -- those of three
 pub three_bases : (h : Home) (next n m k : ℕ) {ks ls ms : List Kind} {K L M : List Named → List Lasting} (P Q R : Setting → Type 0) → Bases h next n ks K P → Bases h (next + n) m ls L Q → Bases h (next + n + m) k ms M R
