@@ -1,6 +1,6 @@
 -- A FOR is laid where the scheme puts it, where its body is. Each command of an accepted section is laid where the scheme puts it. That VALOFs and blocks
 -- with declarations are is taken here as an argument.
-use Rattle.bk_simulation.proofs.Words.{◌≡◌, ℕ, ◌+◌, ◌<◌, ◌≤◌, ◌^◌, Bool, true, false, List, [], ◌∷◌, ◌++◌, length, Some, cond, refl, sym, ap, ap₂, ◌∙◌, subst,
+use Rattle.bk_simulation.proofs.Words.{Placed, Environment, Goal, go, ◌≡◌, ℕ, ◌+◌, ◌<◌, ◌≤◌, ◌^◌, Bool, true, false, List, [], ◌∷◌, ◌++◌, length, Some, cond, refl, sym, ap, ap₂, ◌∙◌, subst,
   arith, int_lt, pos, signed, Expression, Expressions, Action, Actions, Declaration, Declarations, Definition, Definitions, Starts, Place, Binding, bind,
   labels_of, deeper, labels_in_scope, SoundDone, HaveWords, Spot, next_depth, Local, Stmt, Number, Load, Dyadic, Assign, Jump, JumpIf, Label, Stack, Store,
   labels, term_named, command_named, worth, step_named, parts, parts_in, value_code, command_code, test_of_step, Named, objects, objects_of_action, cell,
@@ -11,7 +11,7 @@ use Rattle.bk_simulation.proofs.Words.{◌≡◌, ℕ, ◌+◌, ◌<◌, ◌≤�
 use Rattle.bk_simulation.specs.Regular.{RegularEach, RegularAction, RegularActions, Regular}
 use Rattle.bk_simulation.proofs.Weights.{turns_in, in_light, turns_through, of_light, turns_of}
 use Rattle.bk_simulation.proofs.Sought.{with_names}
-use Rattle.bk_simulation.proofs.Laid.{Scene, in_loop, pushes, IsAlone, in_switch, jumps, count, IsLabelHere, AreActs, in_valof, Aim, ending, IsCode}
+use Rattle.bk_simulation.proofs.Laid.{IsAct, Setting, Scene, in_loop, pushes, IsAlone, in_switch, jumps, count, IsLabelHere, AreActs, in_valof, Aim, ending, IsCode}
 use Rattle.bk_simulation.proofs.NamesBound.{bound_named}
 use Rattle.bk_simulation.proofs.NamesAgree.{Agree, own_cell, agree_bound}
 use Rattle.bk_simulation.proofs.LastingKinds.{kinds_in, kinds_through}
@@ -171,43 +171,33 @@ for_lies pay valofs sc p s i l x a1 b1 h1 a0 d n c rest a h r m f k st laid =
 
 -- ---- Commands of one word are laid where the scheme puts them.
 
+-- a jump to another depth
+gone : (own : Placed) (d : ℕ) (to : Goal) (c rest : List Stmt) → c ≡ go to d ++ rest → StandsAt own d c → StandsAt own d rest
+gone own d to c rest k st =
+    let s1 = passed own d to.depth (Stack to.depth) (Jump to.label ∷ Stack d ∷ rest) (written own d c (Stack to.depth ∷ Jump to.label ∷ Stack d ∷ rest) k st) refl in
+    passed own to.depth d (Stack d) rest (passed own to.depth to.depth (Jump to.label) (Stack d ∷ rest) s1 refl) refl
+
 -- a command of one word
+one_word : (pay : ℕ) (sc : Scene) (p : Place) (s : Spot) (i l : ℕ) (x : Simple) (d n : ℕ) (c rest : List Stmt) → StandsAt sc.own d rest
+    → ((g : Setting) (env : Environment) → IsAct g sc d env (t.simple l x) (λ y. rest) c rest) → Done pay sc i (t.simple l x) d n (command_named sc.bindings p s (t.simple l x)) c rest
+one_word pay sc p s i l x d n c rest on f = record {
+  at = λ y. rest;
+  lies = record { on = on; objects_are = no_bases (home sc pay) i _ (λ g y ns u. f g (with_names ns i)) };
+  finds = finds_nothing sc.own sc.targets sc.bindings d _;
+}
+
 pub simple_lies : (pay : ℕ) (sc : Scene) (p : Place) (s : Spot) (i l : ℕ) (x : Simple) (d n : ℕ) (c rest : List Stmt) → Doing sc p d → SoundDone sc.bindings p s (t.simple l x)
     → c ≡ command_code sc.targets sc.around d n (command_named sc.bindings p s (t.simple l x)) ++ rest → StandsAt sc.own d c → Done pay sc i (t.simple l x) d n (command_named sc.bindings p s (t.simple l x)) c rest
 simple_lies pay sc p s i l simple.Break d n c rest a h k st =
-    let there = sc.around.leaves in
-    let s1 = passed sc.own d there.depth (Stack there.depth) (Jump there.label ∷ Stack d ∷ rest) (written sc.own d c (Stack there.depth ∷ Jump there.label ∷ Stack d ∷ rest) k st) refl in
-    record {
-      at = λ y. rest;
-      lies = record { on = passed sc.own there.depth d (Stack d) rest (passed sc.own there.depth there.depth (Jump there.label) (Stack d ∷ rest) s1 refl) refl; objects_are = no_bases (home sc pay) i _ (λ g y ns u. (k, a.loop h)) };
-      finds = finds_nothing sc.own sc.targets sc.bindings d _;
-    }
+    one_word pay sc p s i l simple.Break d n c rest (gone sc.own d sc.around.leaves c rest k st) (λ g env. (k, a.loop h))
 simple_lies pay sc p s i l simple.Loop d n c rest a h k st =
-    let there = sc.around.goes_on in
-    let s1 = passed sc.own d there.depth (Stack there.depth) (Jump there.label ∷ Stack d ∷ rest) (written sc.own d c (Stack there.depth ∷ Jump there.label ∷ Stack d ∷ rest) k st) refl in
-    record {
-      at = λ y. rest;
-      lies = record { on = passed sc.own there.depth d (Stack d) rest (passed sc.own there.depth there.depth (Jump there.label) (Stack d ∷ rest) s1 refl) refl; objects_are = no_bases (home sc pay) i _ (λ g y ns u. (k, a.loop h)) };
-      finds = finds_nothing sc.own sc.targets sc.bindings d _;
-    }
+    one_word pay sc p s i l simple.Loop d n c rest (gone sc.own d sc.around.goes_on c rest k st) (λ g env. (k, a.loop h))
 simple_lies pay sc p s i l simple.EndCase d n c rest a h k st =
-    let there = sc.around.ends_case in
-    let s1 = passed sc.own d there.depth (Stack there.depth) (Jump there.label ∷ Stack d ∷ rest) (written sc.own d c (Stack there.depth ∷ Jump there.label ∷ Stack d ∷ rest) k st) refl in
-    record {
-      at = λ y. rest;
-      lies = record { on = passed sc.own there.depth d (Stack d) rest (passed sc.own there.depth there.depth (Jump there.label) (Stack d ∷ rest) s1 refl) refl; objects_are = no_bases (home sc pay) i _ (λ g y ns u. (k, a.switch h)) };
-      finds = finds_nothing sc.own sc.targets sc.bindings d _;
-    }
-simple_lies pay sc p s i l simple.Return d n c rest a h k st = record {
-  at = λ y. rest;
-  lies = record { on = passed sc.own d d Return rest (written sc.own d c (Return ∷ rest) k st) refl; objects_are = no_bases (home sc pay) i _ (λ g y ns u. k) };
-  finds = finds_nothing sc.own sc.targets sc.bindings d _;
-}
-simple_lies pay sc p s i l simple.Finish d n c rest a h k st = record {
-  at = λ y. rest;
-  lies = record { on = passed sc.own d d Finish rest (written sc.own d c (Finish ∷ rest) k st) refl; objects_are = no_bases (home sc pay) i _ (λ g y ns u. k) };
-  finds = finds_nothing sc.own sc.targets sc.bindings d _;
-}
+    one_word pay sc p s i l simple.EndCase d n c rest (gone sc.own d sc.around.ends_case c rest k st) (λ g env. (k, a.switch h))
+simple_lies pay sc p s i l simple.Return d n c rest a h k st =
+    one_word pay sc p s i l simple.Return d n c rest (passed sc.own d d Return rest (written sc.own d c (Return ∷ rest) k st) refl) (λ g env. k)
+simple_lies pay sc p s i l simple.Finish d n c rest a h k st =
+    one_word pay sc p s i l simple.Finish d n c rest (passed sc.own d d Finish rest (written sc.own d c (Finish ∷ rest) k st) refl) (λ g env. k)
 
 -- blocks with declarations are laid
 abbrev pub BlocksLie : ℕ → Type 0
@@ -251,15 +241,14 @@ mutual
         };
         finds = finds_nothing sc.own sc.targets sc.bindings d _;
       }
-  laid_act pay valofs blocks sc p s i (t.goto l x) d n c rest a h r m f k st =
-      let there = goal_in sc.targets (meant (bound_in sc.bindings x.letters)) in
-      let s1 = passed sc.own d there.depth (Stack there.depth) (Jump there.label ∷ Stack d ∷ rest) (written sc.own d c (Stack there.depth ∷ Jump there.label ∷ Stack d ∷ rest) k st) refl in
-      let s2 = passed sc.own there.depth there.depth (Jump there.label) (Stack d ∷ rest) s1 refl in
-      record {
-        at = λ y. rest;
-        lies = record { on = passed sc.own there.depth d (Stack d) rest s2 refl; objects_are = no_bases (home sc pay) i _ (λ g y ns u. (k, subst IsLabelHere (sym h.1) tt)) };
-        finds = finds_nothing sc.own sc.targets sc.bindings d _;
-      }
+  laid_act pay valofs blocks sc p s i (t.goto l x) d n c rest a h r m f k st = record {
+    at = λ y. rest;
+    lies = record {
+      on = gone sc.own d (goal_in sc.targets (meant (bound_in sc.bindings x.letters))) c rest k st;
+      objects_are = no_bases (home sc pay) i _ (λ g y ns u. (k, subst IsLabelHere (sym h.1) tt));
+    };
+    finds = finds_nothing sc.own sc.targets sc.bindings d _;
+  }
   laid_act pay valofs blocks sc p s i (t.label l x a0) d n c rest a h r m f k st =
       let k0 = command_named sc.bindings p (spot.past 1 s) a0 in
       let c1 = command_code sc.targets sc.around d (n + 1) k0 ++ rest in

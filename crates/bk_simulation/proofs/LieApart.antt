@@ -1,5 +1,5 @@
 -- What lasts of a program lies apart: two objects with words have different bases.
-use Rattle.bk_simulation.proofs.Words.{◌≡◌, ◌⊎◌, inl, inr, ⊎_elim, ℕ, zero, suc, ◌+◌, ◌<◌, ◌≤◌, List, [], ◌∷◌, ◌++◌, length, map, Option, Some, None, slice_get,
+use Rattle.bk_simulation.proofs.Words.{Stmt, ◌≡◌, ◌⊎◌, inl, inr, ⊎_elim, ℕ, zero, suc, ◌+◌, ◌<◌, ◌≤◌, List, [], ◌∷◌, ◌++◌, length, map, Option, Some, None, slice_get,
   drop, cond, Bool, eq-eqb, refl, sym, ap, ◌∙◌, subst, arith, FRAME_WORDS, string_words, Declarations, beginning, joined, Free, Placed, Inside, At, State,
   Program, item_words, IsWellPlaced, Text, Entry, DataLabel, named_tree, scheme, objects_of_declarations, Lasting, global_vector, words, code, of_declarations,
   of_sections}
@@ -70,6 +70,31 @@ module _ (g : Setting) (k : ℕ) (own : Placed) (is_own : slice_get g.program.se
   further : (o o1 : ℕ) (m : Mark) (ms : List Mark) (j : ℕ) → o ≡ o1 → Located g k o ms j → Located g k o1 (m ∷ ms) (suc j)
   further o o1 m ms j e a = record { mark = a.mark; base = a.base; at = a.at; base_of = subst (λ n. BaseOf g.lasting n a.base) e a.base_of; marked = a.marked }
 
+  -- words after a label
+  labelled : (i n v : ℕ) (ms : List Mark) (place : ℕ) (rest : List Stmt) → drop place own.stmts ≡ DataLabel n ∷ rest → own.places.label n ≡ v
+      → 0 < length (item_words own.places rest) → BaseOf g.lasting i v → Located g k (i + 0) (at_label n ∷ ms) 0
+  labelled i n v ms place rest at placed some base =
+      let here : i ≡ i + 0 = omega arith in
+      record {
+        mark = at_label n;
+        base = v;
+        at = refl;
+        base_of = subst (λ o. BaseOf g.lasting o v) here base;
+        marked = record {
+          own = own;
+          is_own = is_own;
+          place = place;
+          stmt = DataLabel n;
+          rest = rest;
+          datum = record { place = own.places.label n; words = item_words own.places rest };
+          at = at;
+          is = refl;
+          placed = placed;
+          some = some;
+          marked = refl;
+        };
+      }
+
   located : (i : ℕ) (ks : List Kind) (xs : List Lasting) (vs ws : List ℕ) (keys : List ℕ) (spans : List Span) → AreSpread g own i (map form_of ks) keys spans → AreAs own ks xs vs ws → Follow g.lasting i vs → AreThere own ks
       → ((q : ℕ) → 1 ≤ times q keys → StringIn own.stmts q) → (j : ℕ) (x : Lasting) → slice_get xs j ≡ Some x → HasWords (Some x) → Located g k (i + j) (marks ks keys) j
   located i [] [] vs ws keys spans s a f t there j x e h = absurd (let z : None ≡ Some x = e in cc)
@@ -106,28 +131,9 @@ module _ (g : Setting) (k : ℕ) (own : Placed) (is_own : slice_get g.program.se
   located i (words_at n us ∷ ks) (code p ∷ xs) (v ∷ vs) (w ∷ ws) keys spans s a f t there zero x e h = elim (a.0) [ ]
   located i (words_at n us ∷ ks) (global_vector ∷ xs) (v ∷ vs) (w ∷ ws) keys spans s a f t there zero x e h = elim (a.0) [ ]
   located i (words_at n us ∷ ks) (words ts ∷ xs) (v ∷ vs) (w ∷ ws) keys spans s a f t there zero x e h =
-      let here : i ≡ i + 0 = omega arith in
       let same : words ts ≡ x = (let z : Some (words ts) ≡ Some x = e in cc) in
       let long = has_some ts (subst (λ y. HasWords (Some y)) (sym same) h) in
-      record {
-        mark = at_label n;
-        base = v;
-        at = refl;
-        base_of = subst (λ o. BaseOf g.lasting o v) here f.0;
-        marked = record {
-          own = own;
-          is_own = is_own;
-          place = t.0.0;
-          stmt = DataLabel n;
-          rest = t.0.1;
-          datum = record { place = own.places.label n; words = item_words own.places t.0.1 };
-          at = t.0.2;
-          is = refl;
-          placed = sym a.0.0;
-          some = t.0.3 (subst (λ y. 0 < length y) a.0.1 long);
-          marked = refl;
-        };
-      }
+      labelled i n v (marks ks keys) t.0.0 t.0.1 t.0.2 (sym a.0.0) (t.0.3 (subst (λ y. 0 < length y) a.0.1 long)) f.0
     where
       has_some : (ts : List ℕ) → HasWords (Some (words ts)) → 0 < length ts
       has_some [] h = absurd h
@@ -138,27 +144,7 @@ module _ (g : Setting) (k : ℕ) (own : Placed) (is_own : slice_get g.program.se
   located i (entry n y ∷ ks) (words us ∷ xs) (v ∷ vs) (w ∷ ws) keys (z ∷ spans) s a f t there zero x e h = elim (a.0) [ ]
   located i (entry n y ∷ ks) (global_vector ∷ xs) (v ∷ vs) (w ∷ ws) keys (z ∷ spans) s a f t there zero x e h = elim (a.0) [ ]
   located i (entry n (b.Static m) ∷ ks) (code p ∷ xs) (v ∷ vs) (w ∷ ws) keys (z ∷ spans) s a f t there zero x e h =
-      let here : i ≡ i + 0 = omega arith in
-      let word = t.0.0 in
-      record {
-        mark = at_label (n + 1);
-        base = v;
-        at = refl;
-        base_of = subst (λ o. BaseOf g.lasting o v) here f.0;
-        marked = record {
-          own = own;
-          is_own = is_own;
-          place = word.0;
-          stmt = DataLabel (n + 1);
-          rest = word.1;
-          datum = record { place = own.places.label (n + 1); words = item_words own.places word.1 };
-          at = word.2;
-          is = refl;
-          placed = sym a.0.0;
-          some = word.3;
-          marked = refl;
-        };
-      }
+      labelled i (n + 1) v (marks ks keys) t.0.0.0 t.0.0.1 t.0.0.2 (sym a.0.0) t.0.0.3 f.0
   located i (entry n (b.Global (Some v0)) ∷ ks) (code p ∷ xs) (v ∷ vs) (w ∷ ws) keys (z ∷ spans) s a f t there zero x e h =
       let same : code p ≡ x = (let q : Some (code p) ≡ Some x = e in cc) in
       absurd (subst HasEntry a.0.2 (subst (λ y. HasWords (Some y)) (sym same) h))

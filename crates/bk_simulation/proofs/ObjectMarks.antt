@@ -38,10 +38,7 @@ strings_counted q (string ∷ ks) [] = let h = strings_counted q ks [] in omega 
 strings_counted q (string ∷ ks) (x ∷ qs) = let h = strings_counted q ks qs in omega (arith, h)
 strings_counted q (words_at n vs ∷ ks) qs = let h = strings_counted q ks qs in omega (arith, h)
 strings_counted q (entry n (b.Static m) ∷ ks) qs = let h = strings_counted q ks qs in omega (arith, h)
-strings_counted q (entry n (b.Constant v) ∷ ks) qs = let h = strings_counted q ks qs in omega (arith, h)
-strings_counted q (entry n (b.Global v) ∷ ks) qs = let h = strings_counted q ks qs in omega (arith, h)
-strings_counted q (entry n (b.Variable j v) ∷ ks) qs = let h = strings_counted q ks qs in omega (arith, h)
-strings_counted q (entry n (b.Label j v) ∷ ks) qs = let h = strings_counted q ks qs in omega (arith, h)
+strings_counted q (entry n _ ∷ ks) qs = let h = strings_counted q ks qs in omega (arith, h)
 
 labels_counted : (l : ℕ) (ks : List Kind) (qs : List ℕ) → count (at_label l) (marks ks qs) ≤ times l (joined data_label ks)
 labels_counted l [] qs = omega arith
@@ -49,10 +46,7 @@ labels_counted l (string ∷ ks) [] = let h = labels_counted l ks [] in omega (a
 labels_counted l (string ∷ ks) (x ∷ qs) = let h = labels_counted l ks qs in omega (arith, h)
 labels_counted l (words_at n vs ∷ ks) qs = let h = labels_counted l ks qs in omega (arith, h)
 labels_counted l (entry n (b.Static m) ∷ ks) qs = let h = labels_counted l ks qs in omega (arith, h)
-labels_counted l (entry n (b.Constant v) ∷ ks) qs = let h = labels_counted l ks qs in omega (arith, h)
-labels_counted l (entry n (b.Global v) ∷ ks) qs = let h = labels_counted l ks qs in omega (arith, h)
-labels_counted l (entry n (b.Variable j v) ∷ ks) qs = let h = labels_counted l ks qs in omega (arith, h)
-labels_counted l (entry n (b.Label j v) ∷ ks) qs = let h = labels_counted l ks qs in omega (arith, h)
+labels_counted l (entry n _ ∷ ks) qs = let h = labels_counted l ks qs in omega (arith, h)
 
 none_counted : (ms : List Mark) → count nowhere ms ≡ 0
 none_counted [] = refl
