@@ -107,6 +107,23 @@ pub record ProcedureLies (pay section : ℕ) (own : Placed) (ts : List Target) (
   pub objects_are : Bases (record { section = section; own = own; targets = ts; bindings = bs; pay = pay }) i many ks (λ ns. of_body body (bind_each (letters fs) foreign (with_names ns i)))
       (λ g. (ns : List Named) → Agree ns bs → (o : ℕ) → 0 < o → IsBody g (scene_of section own ts (with_formals k 2 fs bs) k) (length fs + 2) (bind_formals o 0 (letters fs) (with_names ns i)) body code)
 
+-- It is laid where its statements stand, if its body is.
+body_lies : (pay section : ℕ) (own : Placed) (ts : List Target) (bs : List Binding) (k : ℕ) (fs : List Mention) (i many : ℕ) (body : Body) (n : ℕ) (ks : List Kind)
+    → (d : ℕ) (name : List ℕ) (cs : List Stmt) (last : Stmt) (c rest : List Stmt)
+    → c ≡ (Entry n name ∷ Save (length fs + 2) ∷ cs ++ (last ∷ EndProcedure ∷ [])) ++ rest → StandsAt own d c
+    → (StandsAt own (length fs + 2) (cs ++ (last ∷ EndProcedure ∷ rest))
+      → Bases (record { section = section; own = own; targets = ts; bindings = bs; pay = pay }) i many ks (λ ns. of_body body (bind_each (letters fs) foreign (with_names ns i)))
+      (λ g. (ns : List Named) → Agree ns bs → (o : ℕ) → 0 < o
+        → IsBody g (scene_of section own ts (with_formals k 2 fs bs) k) (length fs + 2) (bind_formals o 0 (letters fs) (with_names ns i)) body (cs ++ (last ∷ EndProcedure ∷ rest))))
+    → ProcedureLies pay section own ts bs k fs i many body n ks
+body_lies pay section own ts bs k fs i many body n ks d name cs last c rest e st laid =
+    let depth = length fs + 2 in
+    let all = cs ++ (last ∷ EndProcedure ∷ rest) in
+    let st1 = written own d c (Entry n name ∷ Save depth ∷ all) (joined_two (Entry n name ∷ Save depth ∷ cs) (last ∷ EndProcedure ∷ []) rest c e) st in
+    let entry = first_of own.stmts st1.place (Entry n name) (Save depth ∷ all) st1.behind in
+    let st3 = passed own 2 depth (Save depth) all (passed own d 2 (Entry n name) (Save depth ∷ all) st1 refl) refl in
+    record { place = st1.place; name = name; at = entry.at; code = all; behind = entry.behind; few = st3.shallow; objects_are = laid st3 }
+
 pub routine_lies : (pay : ℕ) (section : ℕ) (own : Placed) (ts : List Target) (bs : List Binding) (s : Spot) (i : ℕ) (x : List ℕ) (fs : List Mention) (a : Action) (d n : ℕ) (y : Bound) (c rest : List Stmt) → HasWords bs
     → turns_in false a ≤ pay
     → ((c0 r0 : List Stmt) → Doing (record (scene_of section own ts (with_formals s.number 2 fs bs) s.number) { bindings = labels_in_scope s.number (s.number + 2) (labels_of a) (with_formals s.number 2 fs bs) }) (place.labelled (s.number + 1) (place.called true s.number (length fs))) (length fs + 2) → c0 ≡ command_code ts outermost (length fs + 2) (n + labels_of_procedure y) (command_named (labels_in_scope s.number (s.number + 2) (labels_of a) (with_formals s.number 2 fs bs)) (place.labelled (s.number + 1) (place.called true s.number (length fs))) (spot.onward (1 + length fs) (2 + length (labels_of a)) s) a) ++ r0 → StandsAt own (length fs + 2) c0
@@ -128,10 +145,7 @@ routine_lies pay section own ts bs s i x fs a d n y c rest words m laid k st =
     let code = command_code ts outermost depth first named in
     let tail = EndProcedure ∷ rest in
     let body = code ++ (Return ∷ tail) in
-    let k1 : c ≡ Entry n (first_bytes x) ∷ Save depth ∷ body = joined_two (Entry n (first_bytes x) ∷ Save depth ∷ code) (Return ∷ EndProcedure ∷ []) rest c k in
-    let st1 = written own d c (Entry n (first_bytes x) ∷ Save depth ∷ body) k1 st in
-    let entry = first_of own.stmts st1.place (Entry n (first_bytes x)) (Save depth ∷ body) st1.behind in
-    let st3 = passed own 2 depth (Save depth) body (passed own d 2 (Entry n (first_bytes x)) (Save depth ∷ body) st1 refl) refl in
+    body_lies pay section own ts bs s.number fs i _ _ n _ d (first_bytes x) code Return c rest k st (λ st3.
     let few = st3.shallow in
     let doing : Doing within p1 depth = record {
       around = record { same = refl; at = omega (arith, few); words = words_labels s.number (s.number + 2) (labels_of a) inner (words_formals s.number 2 fs bs words) };
@@ -141,18 +155,10 @@ routine_lies pay section own ts bs s i x fs a d n y c rest words m laid k st =
     } in
     let done = laid body (Return ∷ tail) doing refl st3 in
     let lies = alone_lies pay sc i a depth first named body (Return ∷ tail) (s.number + 2) s.number refl m done in
-    record {
-      place = st1.place;
-      name = first_bytes x;
-      at = entry.at;
-      code = body;
-      behind = entry.behind;
-      few = few;
-      objects_are = bases_so h1 i _ _ _ (λ g z v ns u o above.
+    bases_so h1 i _ _ _ (λ g z v ns u o above.
           let e = agree_formals s.number 2 o 0 fs ns bs i above u in
           let env = bind_formals o 0 (letters fs) (with_names ns i) in
-          (s.number + 2, tail, subst (λ j. IsAlone g sc depth (with_names env.names j) a (s.number + 2) body (Return ∷ tail)) (sym e.1) (v env.names e.0))) (bases_of h1 i _ _ (λ ns. of_action (in_scope a (bind_each (letters fs) foreign (with_names ns i))) a) _ (λ ns. ap (λ y. of_action (in_scope a y) a) (sym (names_bound (letters fs) foreign ns i))) (formals_around pay section own ts bs s.number fs i _ _ _ _ lies.objects_are));
-    }
+          (s.number + 2, tail, subst (λ j. IsAlone g sc depth (with_names env.names j) a (s.number + 2) body (Return ∷ tail)) (sym e.1) (v env.names e.0))) (bases_of h1 i _ _ (λ ns. of_action (in_scope a (bind_each (letters fs) foreign (with_names ns i))) a) _ (λ ns. ap (λ y. of_action (in_scope a y) a) (sym (names_bound (letters fs) foreign ns i))) (formals_around pay section own ts bs s.number fs i _ _ _ _ lies.objects_are)))
 
 pub function_lies : (pay : ℕ) (section : ℕ) (own : Placed) (ts : List Target) (bs : List Binding) (s : Spot) (i : ℕ) (x : List ℕ) (fs : List Mention) (e : Expression) (d n : ℕ) (y : Bound) (c rest : List Stmt) → HasWords bs
     → turns_of false e ≤ pay
@@ -172,26 +178,15 @@ function_lies pay section own ts bs s i x fs e d n y c rest words m laid k st =
     let code = value_code ts depth first (term_named inner p1 s1 e) in
     let tail = EndProcedure ∷ rest in
     let body = code ++ (ReturnItem ∷ tail) in
-    let k1 : c ≡ Entry n (first_bytes x) ∷ Save depth ∷ body = joined_two (Entry n (first_bytes x) ∷ Save depth ∷ code) (ReturnItem ∷ EndProcedure ∷ []) rest c k in
-    let st1 = written own d c (Entry n (first_bytes x) ∷ Save depth ∷ body) k1 st in
-    let entry = first_of own.stmts st1.place (Entry n (first_bytes x)) (Save depth ∷ body) st1.behind in
-    let st3 = passed own 2 depth (Save depth) body (passed own d 2 (Entry n (first_bytes x)) (Save depth ∷ body) st1 refl) refl in
+    body_lies pay section own ts bs s.number fs i _ _ n _ d (first_bytes x) code ReturnItem c rest k st (λ st3.
     let few = st3.shallow in
     let around : Around sc p1 depth = record { same = refl; at = omega (arith, few); words = words_formals s.number 2 fs bs words } in
     let lies = laid body (ReturnItem ∷ tail) around refl st3 in
-    record {
-      place = st1.place;
-      name = first_bytes x;
-      at = entry.at;
-      code = body;
-      behind = entry.behind;
-      few = few;
-      objects_are = bases_so h1 i _ _ _ (λ g z v ns u o above.
+    bases_so h1 i _ _ _ (λ g z v ns u o above.
           let q = agree_formals s.number 2 o 0 fs ns bs i above u in
           let env = bind_formals o 0 (letters fs) (with_names ns i) in
           let pays = z.pays in
-          (tail, subst (λ j. IsCode g sc depth (with_names env.names j) pushes e body (ReturnItem ∷ tail)) (sym q.1) (v env.names q.0), omega (arith, pays, m))) (bases_of h1 i _ _ (λ ns. of_expression (bind_each (letters fs) foreign (with_names ns i)) e) _ (λ ns. ap (λ y. of_expression y e) (sym (names_bound (letters fs) foreign ns i))) (formals_around pay section own ts bs s.number fs i _ _ _ _ lies.objects_are));
-    }
+          (tail, subst (λ j. IsCode g sc depth (with_names env.names j) pushes e body (ReturnItem ∷ tail)) (sym q.1) (v env.names q.0), omega (arith, pays, m))) (bases_of h1 i _ _ (λ ns. of_expression (bind_each (letters fs) foreign (with_names ns i)) e) _ (λ ns. ap (λ y. of_expression y e) (sym (names_bound (letters fs) foreign ns i))) (formals_around pay section own ts bs s.number fs i _ _ _ _ lies.objects_are)))
 
 letters_length : (fs : List Mention) → length (letters fs) ≡ length fs
 letters_length [] = refl
