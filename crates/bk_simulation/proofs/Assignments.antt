@@ -14,7 +14,8 @@ use Rattle.bk_simulation.proofs.Memory.{BaseOf, Like, Stands, Store, Moved, Fits
 use Rattle.bk_simulation.proofs.WrittenCells.{below_like, variable_found, put, write_here, write_at}
 use Rattle.bk_simulation.proofs.Weights.{turns_of, turns_among}
 use Rattle.bk_simulation.proofs.Laid.{Setting, Stretch, ByTurns, AreFrom, AreStores, IsStore, named_word, IsValue}
-use Rattle.bk_simulation.proofs.Frame.{Sit, store, state, start, place_of, Ready, Account, further, went, with_ran, ArrivedAt, store_at, there, Has, next, ready_next, NameAt, Ran, Out, by_option}
+use Rattle.bk_simulation.proofs.Frame.{Sit, store, state, start, place_of, Ready, Account, further, went, with_ran, ArrivedAt, store_at, there, Has, next,
+  ready_next, NameAt, Ran, Out, by_option}
 use Rattle.bk_simulation.proofs.Compose.{stay, stepped, arrived_more, arrived_on, ran_on, comes_to, ran_more, above}
 use Rattle.bk_simulation.proofs.Simulates.{Simulates, for_value, Destined, word, through, byte, RanDid, HasAddress}
 use Rattle.bk_simulation.proofs.Operators.{one_run, dyadic_topped, Two, for_two, two_run, pushes_item, named_at}

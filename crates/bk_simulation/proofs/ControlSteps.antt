@@ -8,7 +8,8 @@ use Rattle.bk_simulation.proofs.Memory.{Like, like_on, Stands, Store, Moved}
 use Rattle.bk_simulation.proofs.WrittenCells.{below_like, settle_like}
 use Rattle.bk_simulation.proofs.OperatorWords.{judged_word}
 use Rattle.bk_simulation.proofs.Laid.{Setting, Scene, LabelAt}
-use Rattle.bk_simulation.proofs.Frame.{Sit, state, Ready, Account, paying, Ran, went, Arrived, ArrivedAt, OpenArrived, there, Has, GoesTo, Exited, Out, still, by_option}
+use Rattle.bk_simulation.proofs.Frame.{Sit, state, Ready, Account, paying, Ran, went, Arrived, ArrivedAt, OpenArrived, there, Has, GoesTo, Exited, Out, still,
+  by_option}
 use Rattle.bk_simulation.proofs.Compose.{accounted, stepped, links_below, arrived_more, arrived_paid, topped, closed_arrival}
 use Rattle.bk_simulation.proofs.Simulates.{where_to, HasTruth}
 

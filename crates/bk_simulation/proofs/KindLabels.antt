@@ -12,7 +12,8 @@ use Rattle.bk_trans.specs.Program as term
 use Rattle.bk_trans.specs.Parts.{procedure}
 use Rattle.bk_trans.proofs.Once.{set_both, labels_are_set_once}
 use Rattle.bk_simulation.specs.Placement.{IsAccepted}
-use Rattle.bk_simulation.proofs.LastingKinds.{Kind, string, words_at, entry, Alike, kinds_of_declarations, alike_declarations, kinds, kinds_each, kinds_if, kinds_at, kinds_onto, kinds_in, kinds_through, kinds_of_items, kinds_of_declaration, kinds_of_definitions, kinds_of_definition, kinds_of_starts}
+use Rattle.bk_simulation.proofs.LastingKinds.{Kind, string, words_at, entry, Alike, kinds_of_declarations, alike_declarations, kinds, kinds_each, kinds_if,
+  kinds_at, kinds_onto, kinds_in, kinds_through, kinds_of_items, kinds_of_declaration, kinds_of_definitions, kinds_of_definition, kinds_of_starts}
 use Rattle.bk_simulation.proofs.Standing.{first_of}
 use Rattle.bk_simulation.proofs.StringCounts.{times, Form, a_string, some_words, a_procedure}
 use Rattle.bk_simulation.proofs.LaidExpressions.{DataIn, PartFound, FoundParts}
@@ -22,7 +23,8 @@ use Rattle.bk_tree.specs.declared.tree.Prefix.TheVariants as q
 use Rattle.bk_tree.specs.Tree as t
 use Rattle.bk_tree.specs.declared.tree.Sort.TheVariants as sort
 use Rattle.bk_scope.specs.Faults.{addressed, assigned}
-use Rattle.bk_simulation.proofs.StringForms.{forms_of_items, forms, forms_of_each, forms_of_action, forms_of_actions, forms_of_declaration, forms_of_declarations, forms_of_definition, forms_of_definitions, forms_of_starts}
+use Rattle.bk_simulation.proofs.StringForms.{forms_of_items, forms, forms_of_each, forms_of_action, forms_of_actions, forms_of_declaration,
+  forms_of_declarations, forms_of_definition, forms_of_definitions, forms_of_starts}
 
 -- ---- The kinds of what lasts of a sound section have the forms of its tree.
 

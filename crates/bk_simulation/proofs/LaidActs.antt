@@ -1,7 +1,7 @@
 -- A FOR is laid where the scheme puts it, where its body is. Each command of an accepted section is laid where the scheme puts it. That VALOFs and blocks
 -- with declarations are is taken here as an argument.
-use Rattle.bk_simulation.proofs.Words.{Placed, Environment, Goal, go, ◌≡◌, ℕ, ◌+◌, ◌<◌, ◌≤◌, ◌^◌, Bool, true, false, List, [], ◌∷◌, ◌++◌, length, Some, cond, refl, sym, ap, ap₂, ◌∙◌, subst,
-  arith, int_lt, pos, signed, Expression, Expressions, Action, Actions, Declaration, Declarations, Definition, Definitions, Starts, Place, Binding, bind,
+use Rattle.bk_simulation.proofs.Words.{Placed, Environment, Goal, go, ◌≡◌, ℕ, ◌+◌, ◌<◌, ◌≤◌, ◌^◌, Bool, true, false, List, [], ◌∷◌, ◌++◌, length, Some, cond,
+  refl, sym, ap, ap₂, ◌∙◌, subst, arith, int_lt, pos, signed, Expression, Expressions, Action, Actions, Declaration, Declarations, Place, Binding, bind,
   labels_of, deeper, labels_in_scope, SoundDone, HaveWords, Spot, next_depth, Local, Stmt, Number, Load, Dyadic, Assign, Jump, JumpIf, Label, Stack, Store,
   labels, term_named, command_named, worth, step_named, parts, parts_in, value_code, command_code, test_of_step, Named, objects, objects_of_action, cell,
   foreign, step_of, of_action, in_scope, Mention, Command, not, suc, false≢true, bytes_eq, size, bound_in, constant_word, SoundDoneEach, Sound, from_label,
@@ -11,7 +11,8 @@ use Rattle.bk_simulation.proofs.Words.{Placed, Environment, Goal, go, ◌≡◌,
 use Rattle.bk_simulation.specs.Regular.{RegularEach, RegularAction, RegularActions, Regular}
 use Rattle.bk_simulation.proofs.Weights.{turns_in, in_light, turns_through, of_light, turns_of}
 use Rattle.bk_simulation.proofs.Sought.{with_names}
-use Rattle.bk_simulation.proofs.Laid.{IsAct, Setting, Scene, in_loop, pushes, IsAlone, in_switch, jumps, count, IsLabelHere, AreActs, in_valof, Aim, ending, IsCode}
+use Rattle.bk_simulation.proofs.Laid.{IsAct, Setting, Scene, in_loop, pushes, IsAlone, in_switch, jumps, count, IsLabelHere, AreActs, in_valof, Aim, ending,
+  IsCode}
 use Rattle.bk_simulation.proofs.NamesBound.{bound_named}
 use Rattle.bk_simulation.proofs.NamesAgree.{Agree, own_cell, agree_bound}
 use Rattle.bk_simulation.proofs.LastingKinds.{kinds_in, kinds_through}

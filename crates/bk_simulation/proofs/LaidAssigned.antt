@@ -5,10 +5,9 @@ use Rattle.bk_simulation.proofs.Words.{◌≡◌, ℕ, suc, ◌+◌, ◌<◌, �
   Expressions, Action, Actions, Place, Binding, bound_in, bind, labels_of, labels_of_each, labels_in_scope, GoesTo, Placed, from_label, case_label, Case, Stmt,
   Label, label_has_one_place, Goal, Target, Command, Commands, meant, worth, target_of_label, goal_in, cases, cases_through, default_in, default_through,
   first_of, label_or, Named, Sense, label, bind_each, labelled, objects_of_each, objects_of_action, objects_of_actions, Sought, the_label, the_case,
-  the_default, same_place, stands_in, stands_in_one, alone, AllFound, of_each, of_action, of_actions, in_scope, FRAME_WORDS, line_of, size, Expression,
-  Declaration, Declarations, Definition, Definitions, Starts, Destination, deeper, SoundEach, SoundDestinations, Spot, labels, labels_at, term_named,
-  terms_named, lvalue_named, lvalues_named, parts, parts_at, parts_onto, parts_from, value_code, store_code, value_codes, store_codes, by_turns, objects,
-  of_expression}
+  the_default, same_place, stands_in, stands_in_one, alone, AllFound, of_each, of_action, of_actions, in_scope, FRAME_WORDS, line_of, size, Destination, deeper,
+  SoundEach, SoundDestinations, Spot, labels, labels_at, term_named, terms_named, lvalue_named, lvalues_named, parts, parts_at, parts_onto, parts_from,
+  value_code, store_code, value_codes, store_codes, by_turns, objects, of_expression}
 use Rattle.bk_simulation.proofs.Weights.{turns_in, turns_among}
 use Rattle.bk_simulation.proofs.Operators.{same_number}
 use Rattle.bk_simulation.proofs.Sought.{with_names, label_stands}

@@ -5,8 +5,7 @@ use Rattle.bk_simulation.proofs.Words.{◌≡◌, ℕ, ◌+◌, ◌<◌, ◌≤�
   named_word, prefix_word, infix_word, constant_word, deeper, Spot, next_depth, Placed, item_words, Stmt, JumpIf, Monadic, Dyadic, LoadByte, Target, term_named,
   condition_named, Part, target_of, parts, parts_if, push, infix_code, truth_value, value_code, jump_code, procedure_code, data_code, AllFound, Named, Sense,
   constant, label, Environment, sense_in, word_named, constant_in, Sought, the_label, the_case, the_default, same_place, is_label, stands_in, stands_in_one,
-  Lasting, size, Declaration, Declarations, Definition, Definitions, Starts, Stack, behind_starts, behind_definitions, labels, terms_named, parts_each,
-  each_code, objects, objects_of_each, of_expression, of_each}
+  Lasting, size, Stack, labels, terms_named, parts_each, each_code, objects, objects_of_each, of_expression, of_each}
 use Rattle.std.specs.Option.{option_and_then}
 use Rattle.bk_scope.specs.declared.role.Role.TheVariants.{Value}
 use Rattle.bk_simulation.proofs.Sought.{with_names}

@@ -4,8 +4,7 @@ use Rattle.bk_simulation.proofs.Words.{◌≡◌, ℕ, suc, ◌+◌, ◌-◌, �
   Action, Bound, Place, Binding, bound_in, bind, labels_of, with_formals, labels_in_scope, Callable, Spot, next_depth, depth_behind, Placed, global_place,
   Program, IsWellPlaced, item_words, Stmt, Entry, Save, Return, ReturnItem, EndProcedure, DataLabel, DataAddress, Target, labels_of_procedure, meant,
   term_named, command_named, variable, outermost, value_code, command_code, procedure_code, word_code, Named, Sense, Environment, cell, foreign, bind_each,
-  sense_in, word_named, global_named, letters, objects, objects_of_action, Body, command, expression, Lasting, code, of_action, of_expression, in_scope,
-  bind_formals}
+  sense_in, global_named, letters, objects, objects_of_action, Body, command, expression, Lasting, code, of_action, of_expression, in_scope, bind_formals}
 use Rattle.bk_scope.specs.declared.bound.Bound.TheVariants as b
 use Rattle.bk_scope.specs.Places as place
 use Rattle.bk_scope.specs.Places.{kept}
@@ -23,7 +22,8 @@ use Rattle.bk_simulation.proofs.Held.{InData, HeldWord, HeldIn}
 use Rattle.bk_simulation.proofs.HeldData.{statement_data, statement_below}
 use Rattle.bk_simulation.proofs.NamesAgree.{Agree, SameGlobal, global_of, same_global, own_cell, agree_bound}
 use Rattle.bk_simulation.proofs.LastingKinds.{Kind, entry, kinds, kinds_in, bound_global, IsCalled, word_base}
-use Rattle.bk_simulation.proofs.Standing.{Follow, FollowWords, there_in, bases_inside, bases_of, StandsAt, first_of, passed, written, Home, home, Suits, Bases, bases_so, Lies}
+use Rattle.bk_simulation.proofs.Standing.{Follow, FollowWords, there_in, bases_inside, bases_of, StandsAt, first_of, passed, written, Home, home, Suits, Bases,
+  bases_so, Lies}
 use Rattle.bk_simulation.proofs.LaidExpressions.{DataIn, HasWords, Around, InNames, joined_two}
 use Rattle.bk_simulation.proofs.LaidAssigned.{Doing, Done, words_labels, names_bound, alone_lies}
 

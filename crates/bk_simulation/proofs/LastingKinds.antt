@@ -8,7 +8,8 @@ use Rattle.bk_simulation.proofs.Words.{◌≡◌, ℕ, ◌+◌, List, [], ◌∷
   parts_each, parts_if, parts_at, parts_onto, parts_from, parts_in, parts_through, parts_of_declarations, parts_of_declaration, parts_of_definitions,
   parts_of_definition, parts_of_starts, behind_definition, behind_declaration, behind_declarations, Lasting, words, code}
 use Rattle.bk_scope.specs.declared.bound.Bound.TheVariants as b
-use Rattle.bk_trans.specs.Program.{Declaration, Declarations, Definition, Definitions, Starts, address, holds, within, either, call, label, for_loop, result, statics, declare, routine}
+use Rattle.bk_trans.specs.Program.{Declaration, Declarations, Definition, Definitions, Starts, address, holds, within, either, call, label, for_loop, result,
+  statics, declare, routine}
 use Rattle.bk_trans.specs.Parts.{procedure}
 use Rattle.bk_trans.specs.Depths.{count}
 

@@ -9,7 +9,8 @@ use Rattle.bk_simulation.proofs.Laid.{Setting}
 use Rattle.bk_simulation.proofs.Held.{HeldList, held_both, held_out}
 use Rattle.bk_simulation.proofs.LastingKinds.{AreAs, kinds_of_declarations, Kind, string, words_at, entry, Alike, bound_global, IsCalled, alike_declarations}
 use Rattle.bk_simulation.proofs.NamesAgree.{Agree}
-use Rattle.bk_simulation.proofs.Standing.{home, Follow, FollowWords, follow_first, follow_second, words_first, words_second, Suits, Bases, Mean, AreBelow, AreSet, below_both, set_both}
+use Rattle.bk_simulation.proofs.Standing.{home, Follow, FollowWords, follow_first, follow_second, words_first, words_second, Suits, Bases, Mean, AreBelow,
+  AreSet, below_both, set_both}
 use Rattle.bk_simulation.proofs.LaidSections.{section_scene, section_lies}
 use Rattle.bk_scope.specs.declared.bound.Bound.TheVariants as b
 use Rattle.bk_simulation.proofs.Memory.{Codes}

@@ -2,10 +2,10 @@
 use Rattle.bk_simulation.proofs.Words.{◌≡◌, ℕ, suc, ◌+◌, ◌≤◌, true, false, cond, List, [], ◌∷◌, ◌++◌, length, Some, slice_get, refl, sym, ap, ◌∙◌, subst, arith,
   append_assoc, length-append, first_bytes, signed, Operator, Sort, Mention, Expression, Expressions, Action, Actions, Declaration, Declarations, Items,
   Definitions, Starts, Binding, bound_in, Placed, Stmt, Local, Label, TakeResult, Text, JumpIf, Load, Number, Dyadic, Assign, Stack, Store, Save, Return,
-  ReturnItem, meant, push, infix_code, truth_value, test_of_step, Environment, cell, foreign, behind, past, past_definition, labelled, within_let,
-  constants_declared, letters, objects, objects_of_each, objects_of_action, objects_of_actions, objects_of_declaration, objects_of_declarations,
-  objects_of_definition, objects_of_definitions, objects_of_starts, Lasting, command, expression, Procedure, in_scope, declared, all_declared, of_expression,
-  of_each, of_action, of_actions, of_declaration, of_declarations, of_definition, of_definitions, of_starts, bind_formals, Sought, alone}
+  ReturnItem, meant, infix_code, test_of_step, Environment, cell, foreign, behind, past, past_definition, labelled, within_let, constants_declared, letters,
+  objects, objects_of_each, objects_of_action, objects_of_actions, objects_of_declaration, objects_of_declarations, objects_of_definition,
+  objects_of_definitions, objects_of_starts, Lasting, command, expression, Procedure, in_scope, declared, all_declared, of_expression, of_each, of_action,
+  of_actions, of_declaration, of_declarations, of_definition, of_definitions, of_starts, bind_formals, Sought, alone}
 use Rattle.bk_tree.specs.declared.tree.Operator.TheVariants as o
 use Rattle.bk_tree.specs.declared.tree.Prefix.TheVariants as q
 use Rattle.bk_tree.specs.declared.tree.Simple.TheVariants as simple
@@ -23,9 +23,8 @@ use Rattle.bk_simulation.proofs.Laid.{Setting, Scene, Aim, pushes, jumps, Way, a
   AreStores, AreDeclared, IsOneDeclared, AreDefined, AreStarts}
 use Rattle.bk_simulation.proofs.Held.{HeldIn}
 use Rattle.bk_simulation.proofs.Calls.{IsProcedure}
-use Rattle.bk_simulation.proofs.StringCounts.{Form, a_string, some_words, strings_at, Span, times, in_spans, AreSpread, spread_append, times_both, spans_both,
-  IsSpan, Spread, Same, by_path, same_on, spread_none, spread_top, spread_bottom, spread_both, spread_back, spread_string, spread_words, spread_procedure,
-  spread_as}
+use Rattle.bk_simulation.proofs.StringCounts.{Form, strings_at, Span, times, in_spans, AreSpread, spread_append, times_both, spans_both, IsSpan, Spread, Same,
+  by_path, same_on, spread_none, spread_top, spread_bottom, spread_both, spread_back, spread_string, spread_words, spread_procedure, spread_as}
 use Rattle.bk_simulation.proofs.StringForms.{forms_of_items, forms, forms_of_each, forms_of_action, forms_of_actions, forms_of_declaration,
   forms_of_declarations, forms_of_definition, forms_of_definitions, forms_of_starts, push_plain, truth_plain, infix_plain, ending_plain, store_plain,
   test_plain, Numbered, later, same_numbers, held_front, held_back, held_third, spread_three}

@@ -1,12 +1,12 @@
 -- The forms of what lasts of a tree, in the order of the source; statements that are no strings; and numbers of objects.
 use Rattle.bk_simulation.proofs.Words.{◌≡◌, ℕ, suc, ◌+◌, Bool, true, false, cond, int_lt, pos, List, [], ◌∷◌, ◌++◌, length, Some, refl, ap, ◌∙◌, subst, arith,
-  append_assoc, signed, Operator, Mention, Expression, Expressions, Action, Actions, Declaration, Declarations, Items, Definition, Definitions, Starts, Bound,
-  Placed, Stmt, Store, Target, push, infix_code, truth_value, test_of_step, Environment, behind, Lasting}
+  append_assoc, signed, Operator, Expression, Expressions, Action, Actions, Declaration, Declarations, Items, Definition, Definitions, Starts, Bound, Placed,
+  Stmt, Store, Target, push, infix_code, truth_value, test_of_step, Environment, behind, Lasting}
 use Rattle.bk_tree.specs.declared.tree.Operator.TheVariants as o
 use Rattle.bk_tree.specs.declared.tree.Sort.TheVariants as sort
 use Rattle.bk_tree.specs.Tree as t
 use Rattle.bk_scope.specs.declared.bound.Bound.TheVariants as b
-use Rattle.bk_simulation.proofs.Laid.{Setting, Scene, Aim, pushes, jumps, ending}
+use Rattle.bk_simulation.proofs.Laid.{Setting, Aim, pushes, jumps, ending}
 use Rattle.bk_simulation.proofs.Held.{HeldIn}
 use Rattle.bk_simulation.proofs.StringCounts.{Form, a_string, some_words, a_procedure, Spread, Same, spread_both, spread_as}
 
