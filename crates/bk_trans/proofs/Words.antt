@@ -50,6 +50,6 @@ pub use Rattle.bk_ocode.specs.declared.stmt.Case.{Case}
 pub use Rattle.bk_ocode.specs.declared.stmt.GlobalEntry.{GlobalEntry}
 pub use Rattle.bk_ocode.specs.declared.stmt.Stmt.{Stmt}
 pub use Rattle.bk_ocode.specs.declared.stmt.Stmt.TheVariants.{Assign, AssignAt, AssignByte, CallFunction, CallRoutine, DataAddress, DataLabel, DataNumber,
-  Dyadic, EndProcedure, Entry, False, Finish, GiveResult, Globals, Jump, JumpIf, Load, LoadByte, Monadic, Number, Query, Return, ReturnItem, Save, Stack, Store,
+  Dyadic, EndProcedure, Entry, Finish, GiveResult, Globals, Jump, JumpIf, Load, LoadByte, Monadic, Number, Query, Return, ReturnItem, Save, Stack, Store,
   Switch, TakeResult, Text, True}
 pub use Rattle.bk_ocode.specs.declared.stmt.Variable.TheVariants.{Local}
