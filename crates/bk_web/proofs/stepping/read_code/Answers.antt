@@ -1,0 +1,19 @@
+use Rattle.std.proofs.Common.{◌≡◌, ◌∙◌, List, [], ◌∷◌, ◌++◌, map, ap, sym, subst, rules}
+use Rattle.std.proofs.lemmas.List.{map-append}
+use Rattle.bk_intcode.specs.declared.item.Item.{Item}
+use Rattle.bk_intcode.specs.SegmentItems.{items_of}
+use Rattle.bk_web.proofs.SegmentsRead.{Front, Front-push, Front-whole}
+use Rattle.bk_web.proofs.stepping.read_code.Goals as goal
+
+pub loop-segment-preserved : goal.loop-segment-preserved
+loop-segment-preserved g c =
+    let read = c.in-Ok-Some.segment in
+    let all : map items_of c.push.new.self.items ≡ map items_of c.loop-segment.list.items ++ items_of read ∷ [] =
+    ap (map items_of) c.in-Ok.ensures.items ∙ map-append items_of c.loop-segment.list.items (read ∷ []) in
+    subst (λ (l : List (List Item)). Front l (g.C.ByteIn.left c.args.code.now) (g.C.ByteIn.left c.read_segment.new.input) (g.C.ByteIn.ended c.read_segment.new.input)) (sym all)
+    (Front-push _ _ _ _ _ _ c.loop-segment.invariant read (λ over. let bad = (c.in-Ok-Some.ensures.ended_again over).0 in let other = c.in-Ok-Some.field-0-is in cc) (rw c.in-Ok-Some.field-0-is at c.in-Ok-Some.ensures.stands))
+
+pub returns-in-Ok-None : goal.returns-in-Ok-None
+returns-in-Ok-None g c = record {
+  read = Front-whole _ _ _ _ _ _ c.loop-segment.invariant (λ over. (g.met.C.ByteIn.nothing_behind c.loop-segment.code over).0) (λ over. (c.in-Ok-None.ensures.ended_again over).1) (rw c.in-Ok-None.field-0-is at c.in-Ok-None.ensures.stands);
+}
