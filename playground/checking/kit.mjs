@@ -23,7 +23,7 @@ export async function kitOf(page) {
 // Runs the native program.
 export function native(program, words, input = "") {
   const ran = spawnSync(program, words, { input, maxBuffer: 1 << 28 });
-  if (ran.error) throw ran.error;
+  if (ran.error && ran.error.code !== "EPIPE") throw ran.error;   // (a program need not read its input)
   return { status: ran.status, output: ran.stdout, lines: ran.stderr };
 }
 
@@ -34,7 +34,7 @@ export function examples() {
     for (const name of fs.readdirSync(path.join(TREE, folder)).sort()) {
       if (!name.endsWith(".b")) continue;
       const file = path.join(TREE, folder, name), given = file.replace(/b$/, "in");
-      found.push({ file, name: name.slice(0, -2), source: fs.readFileSync(file), input: fs.existsSync(given) ? fs.readFileSync(given) : Buffer.from("") });
+      found.push({ folder, file, name: name.slice(0, -2), source: fs.readFileSync(file), input: fs.existsSync(given) ? fs.readFileSync(given) : Buffer.from("") });
     }
   }
   return found;

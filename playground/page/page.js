@@ -140,8 +140,10 @@ function goTo(line) {
   draw();
 }
 
-// Shows the lines that the kit wrote about the source, and marks the line that they name.
-function tellFault(text) {
+// Shows the lines that the kit wrote about the source, and marks the line that they name: a fault of the text as `line 5:`, one of a run of
+// `check` as `program.b:5:`, which is shown in the same way.
+function tellFault(told) {
+  const text = told.replace(/^program\.b:(\d+):/, "line $1:");
   const message = $("message");
   editor.wrong = 0;
   message.hidden = !text;
@@ -368,8 +370,7 @@ const hex = (word) => `#X${(word >>> 0).toString(16).toUpperCase().padStart(8, "
 function showStep(fault = "") {
   const where = $("where");
   where.replaceChildren();
-  for (const id of ["registers", "frame", "frames"]) $(id).tBodies[0].replaceChildren();
-  $("lines").replaceChildren();
+  for (const id of ["lines", "registers", "frame", "frames"]) $(id).tBodies[0].replaceChildren();
   $("sofar").textContent = "";
   $("tab-Step").dataset.at = fault ? "" : at;
   if (fault) {
@@ -382,10 +383,14 @@ function showStep(fault = "") {
   $("at").value = s.at;
 
   for (const { steps, text } of s.lines) {
-    const row = document.createElement("span");
+    const field = (from, to) => text.slice(from, to).trim();
+    const row = cellsOf([
+      [field(0, 8), "count"], [field(8, 17), "count"], [field(19, 33)], [field(77)],
+      [field(33, 45), "count"], [field(45, 57), "count"], [field(57, 66), "count"], [field(66, 75), "count"],
+    ]);
     row.className = steps === s.at ? "now" : steps > s.at ? "later" : "";
-    row.textContent = text;
-    $("lines").append(row, "\n");
+    row.dataset.line = text;
+    $("lines").tBodies[0].append(row);
   }
   const register = (name, word, note, changed) => {
     const row = cellsOf([[name], [word, "count"], [note, "note"]]);
@@ -405,7 +410,7 @@ function showStep(fault = "") {
     $("frame").tBodies[0].append(row);
   });
   s.frames.forEach(({ at: place, returns }, i) => {
-    $("frames").tBodies[0].append(cellsOf([[i === 0 ? "P" : "", "note"], [place, "count"], [i === s.frames.length - 1 ? "" : `returns to ${returns}`, "note"]]));
+    $("frames").tBodies[0].append(cellsOf([[place, "count"], [i === s.frames.length - 1 ? "" : `returns to ${returns}`, "note"]]));
   });
   $("sofar").textContent = utf8.decode(s.output);
 }

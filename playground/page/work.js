@@ -61,7 +61,7 @@ function stateAt(kit, task) {
   if (!shown.stack) return { refused: kit.serve(["interpret", "-s", String(task.words), "-t", "1", "f"], code.output, "") };
   // (a step that ends the run leaves no registers: those before it are shown)
   const standing = at === end ? state(at - 1) : shown;
-  const around = at <= task.around ? [5, 4] : [1, 1];
+  const around = at <= task.around ? [5, 3] : [1, 1];
   const lines = [];
   let next = at === end ? standing : shown;
   for (let steps = at - 1; steps >= Math.max(0, at - around[0]); steps--) {
@@ -78,7 +78,7 @@ function stateAt(kit, task) {
     at, end, last, lines,
     status: shown.status, output: shown.output,
     a: standing.a, b: standing.b, c: standing.c, p: standing.p, stack: standing.stack,
-    frame: standing.store.slice(standing.p, standing.p + 16), frames: framesOf(standing),
+    frame: standing.store.slice(standing.p, standing.p + 12), frames: framesOf(standing),
     changed: at > 0 && at !== end ? changesOf(state(at - 1), shown) : {},
   };
 }
@@ -97,7 +97,7 @@ function framesOf({ p, stack, store }) {
 // Which registers and words of the frame the last step changed.
 function changesOf(before, after) {
   const words = [];
-  for (let i = 0; i < 16; i++) if (before.store[after.p + i] !== after.store[after.p + i]) words.push(i);
+  for (let i = 0; i < 12; i++) if (before.store[after.p + i] !== after.store[after.p + i]) words.push(i);
   return { a: before.a !== after.a, b: before.b !== after.b, c: before.c !== after.c, p: before.p !== after.p, words };
 }
 

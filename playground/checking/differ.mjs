@@ -1,0 +1,59 @@
+// The module of the page, and the native program: the same outputs, statuses and lines.
+import fs from "node:fs";
+import os from "node:os";
+import path from "node:path";
+import { examples, kitOf, native } from "./kit.mjs";
+
+const PARTS = ["all", "tokens", "tree", "names", "ocode", "intcode"];
+const SOURCES_CHANGED = 300;
+
+export async function compare(page, program, count) {
+  const kit = await kitOf(page);
+  const folder = fs.mkdtempSync(path.join(os.tmpdir(), "differ-"));
+  const before = count.failed;
+
+  const latin = (bytes) => Buffer.from(bytes).toString("latin1");
+  // The words by both, where `file` is the file that they name.
+  function same(words, file, input) {
+    const made = kit.serve(words, file ? fs.readFileSync(file) : "", input), wanted = native(program, words, input);
+    const holds = made.status === wanted.status && latin(made.output) === latin(wanted.output) && latin(made.lines) === latin(wanted.lines);
+    count.is(words.join(" "), holds, [made.status, wanted.status, latin(made.lines).slice(0, 120), latin(wanted.lines).slice(0, 120), made.output.length, wanted.output.length]);
+    return made;
+  }
+
+  for (const { file, source, input } of examples()) {
+    const compiled = same(["compile"], null, source);
+    const generated = same(["generate"], null, compiled.output);
+    for (const part of PARTS) same(["show", "--only", part, "-"], null, source);
+    same(["show", file], file, "");
+    for (const given of [input, "3 4 17\nhello\n"]) same(["run", "-t", "20000000", file], file, given);
+    same(["run", "-s", "4096", "-t", "1000", file], file, input);
+    same(["check", "-t", "100000", file], file, input);
+    const code = path.join(folder, "code.int");
+    fs.writeFileSync(code, generated.output);
+    same(["interpret", "-t", "20000000", code], code, input);
+    same(["interpret", "--trace", "-t", "300", code], code, input);
+    same(["interpret", "--sizes", code], code, "");
+  }
+
+  // sources with some bytes changed, always the same ones
+  let seed = 1;
+  const number = (limit) => {
+    seed = (Math.imul(seed, 1103515245) + 12345) & 0x7fffffff;
+    return (seed >> 8) % limit;
+  };
+  const all = examples(), changed = path.join(folder, "changed.b");
+  for (let i = 0; i < SOURCES_CHANGED; i++) {
+    const source = Buffer.from(all[number(all.length)].source);
+    for (let j = 0; j <= number(3); j++) source[number(source.length)] = 32 + number(95);
+    fs.writeFileSync(changed, source);
+    same(["compile"], null, source);
+    same(["check", "-t", "1000", changed], changed, "");
+  }
+
+  for (const words of [[], ["run"], ["no", "such"], ["--help"], ["--version"], ["run", "--help"], ["run", "-s", "1", "f"], ["show", "--only", "nothing", "-"]]) same(words, null, "");
+  count.is("words that are no UTF-8 are refused", kit.serve(["run", new TextDecoder("latin1").decode(new Uint8Array([0xc3]))], "", "").status !== 0);
+  count.is("no block of the heap is held at the end", kit.held() === 0, String(kit.held()));
+  fs.rmSync(folder, { recursive: true });
+  console.log(`the module and the native program: ${count.passed} the same, ${count.failed - before} differ`);
+}
