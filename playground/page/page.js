@@ -294,7 +294,7 @@ function stop(silent = false) {
   ran = { stopped: true, kind: was.kind };
   showRun();
   const steps = String(Math.min(MOST_STEPS, Number($("steps").value) || MOST_STEPS));
-  const words = was.kind === "running" ? ["run", "-s", $("words").value.trim(), "-t", steps, "program.b"] : ["check", "-t", String(steps / 100), "program.b"];
+  const words = was.kind === "running" ? ["run", "-s", $("words").value.trim(), "-t", steps, "program.b"] : ["check", "-t", String(Math.ceil(steps / 100)), "program.b"];
   runner.ask({ task: "serve", words, file: was.source, input: was.input }, ({ answer, failed }) => {
     if (running || failed) return;
     ran = { ...answer, stopped: true, kind: was.kind, steps };
