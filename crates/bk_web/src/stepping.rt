@@ -111,7 +111,11 @@ fn tell_next(alloc: Global, machine: &Machine, end: End, steps: u64, line: &mut 
 {
     let mut text = Kept::new(alloc, line.len());
     if end == End::StepLimit {
-        let _put = put_step(alloc, &next_step(machine, steps.saturating_add(1)), &mut text);
+        let _put = put_step(
+            alloc,
+            &next_step(machine, steps.saturating_add(1)),
+            &mut text,
+        );
     }
     copy_front(text.bytes(), line)
 }

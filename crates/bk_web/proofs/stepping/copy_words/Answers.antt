@@ -1,4 +1,4 @@
-use Rattle.std.proofs.Common.{rules, arith, ◌≡◌, ◌∙◌, ℕ, ◌<◌, ◌≤◌, ◌+◌, min, length, take, get_or, slice_get, slice_set, set, List, [], ◌∷◌, ◌++◌, Some, None, sym, inl, inr, Option, length-take}
+use Rattle.std.proofs.Common.{rules, arith, ◌≡◌, ◌∙◌, ℕ, ◌<◌, ◌≤◌, ◌+◌, length, take, get_or, slice_get, set, List, [], ◌∷◌, ◌++◌, Some, None, sym, inl, inr}
 use Rattle.std.proofs.lemmas.Grind.{common_steps}
 use Rattle.std.proofs.lemmas.List.{take_more, take_more_set}
 use Rattle.std.proofs.lemmas.Option.{slice_get_cases, get_or_from_slice_get}
