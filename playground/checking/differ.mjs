@@ -7,6 +7,25 @@ import { examples, kitOf, native } from "./kit.mjs";
 const PARTS = ["all", "tokens", "tree", "names", "ocode", "intcode"];
 const SOURCES_CHANGED = 300;
 
+const ROOMS = { output: 1 << 26, lines: 1 << 22 };
+
+// Sources at the limits, and programs that go deep.
+const repeated = (text, times) => text.repeat(times);
+const FAR = [
+  ...[199, 201, 20000].map((n) => `LET START() BE A := ${repeated("(", n)}1${repeated(")", n)}\n`),
+  ...[190, 201, 20000].map((n) => `LET START() BE ${repeated("$( ", n)}FINISH ${repeated("$) ", n)}\n`),
+  `LET START() BE RESULTIS ${repeated("-", 20000)}1\n`,
+  `LET START() BE $( LET A = 1\n${repeated("A := A\n", 16000)}$)\n`,
+  `LET START() BE $( LET A = 1\n${repeated("A := A\n", 70000)}$)\n`,
+  `LET START() BE FINISH // ${repeated("x", 1048540)}\n`,
+  `LET START() BE FINISH // ${repeated("x", 1048580)}\n`,
+  `${repeated("LET F() BE FINISH\n.\n", 5000)}LET START() BE FINISH\n`,
+  `GET "LIBHDR"\nLET F(N) = N=0 -> 0, 1+F(N-1)\nLET START() BE WRITEN(F(20000))\n`,
+  `GET "LIBHDR"\nLET START() BE $( LET V = VEC 32767\n FOR I = 0 TO 32767 DO V!I := I\n WRITEN(V!32767) $)\n`,
+  `LET START() BE $( ${Array.from({ length: 2000 }, (_, i) => `LET A${i} = ${i}`).join("\n")}\nA1 := A2 $)\n`,
+  "", "\n", ".", "\u0000", "LET", '"', "GET \"LIBHDR\"", "LET START() BE \u00e9\n",
+];
+
 export async function compare(page, program, count) {
   const kit = await kitOf(page);
   const folder = fs.mkdtempSync(path.join(os.tmpdir(), "differ-"));
@@ -14,8 +33,8 @@ export async function compare(page, program, count) {
 
   const latin = (bytes) => Buffer.from(bytes).toString("latin1");
   // The words by both, where `file` is the file that they name.
-  function same(words, file, input) {
-    const made = kit.serve(words, file ? fs.readFileSync(file) : "", input), wanted = native(program, words, input);
+  function same(words, file, input, rooms = undefined) {
+    const made = kit.serve(words, file ? fs.readFileSync(file) : "", input, rooms), wanted = native(program, words, input);
     const holds = made.status === wanted.status && latin(made.output) === latin(wanted.output) && latin(made.lines) === latin(wanted.lines);
     count.is(words.join(" "), holds, [made.status, wanted.status, latin(made.lines).slice(0, 120), latin(wanted.lines).slice(0, 120), made.output.length, wanted.output.length]);
     return made;
@@ -50,6 +69,17 @@ export async function compare(page, program, count) {
     same(["compile"], null, source);
     same(["check", "-t", "1000", changed], changed, "");
   }
+
+  const far = path.join(folder, "far.b");
+  for (const source of FAR) {
+    fs.writeFileSync(far, source);
+    same(["compile"], null, source, ROOMS);
+    same(["run", "-t", "5000000", far], far, "", ROOMS);
+    same(["check", "-t", "300000", far], far, "", ROOMS);
+    same(["show", "--only", "tree", "-"], null, source, ROOMS);
+  }
+  const greatest = examples().find(({ name }) => name === "queens").file;
+  for (const words of ["4095", "4096", "4194304", "4194305"]) same(["run", "-s", words, greatest], greatest, "");
 
   for (const words of [[], ["run"], ["no", "such"], ["--help"], ["--version"], ["run", "--help"], ["run", "-s", "1", "f"], ["show", "--only", "nothing", "-"]]) same(words, null, "");
   count.is("words that are no UTF-8 are refused", kit.serve(["run", new TextDecoder("latin1").decode(new Uint8Array([0xc3]))], "", "").status !== 0);
