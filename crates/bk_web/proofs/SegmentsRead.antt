@@ -1,18 +1,24 @@
 -- Segments that were read from a text, and the bytes that were taken for them. They are the lemmas of bk_kit on the same loop.
-use Rattle.std.proofs.Common.{◌≡◌, inl, inr, ℕ, ◌<◌, ◌++◌, Bool, true, false, IsTrue, List, [], ◌∷◌, Option, None, Some, Ok, length, arith, refl, sym, ap, subst, ◌∙◌, append_assoc, append-nil, length-append}
+use Rattle.std.proofs.Common.{◌≡◌, inl, inr, ℕ, ◌<◌, ◌++◌, Bool, true, false, IsTrue, List, [], ◌∷◌, Option, None, Some, Ok, Err, length, arith, refl, sym, ap, subst, ◌∙◌, append_assoc, append-nil, length-append}
 use Rattle.std.specs.Io.KnownBytes.{Consumes}
 use Rattle.bk_base.specs.Devices.{NothingLeft}
 use Rattle.bk_base.specs.DeviceLaws.{Consumes-trans}
+use Rattle.bk_base.specs.declared.intcode_fault.IntcodeFault.{IntcodeFault}
 use Rattle.bk_base.specs.declared.limit.TheConstants.{INPUT_BYTES}
+use Rattle.bk_base.specs.declared.refused.Refused.TheVariants.{Fault, Device}
 use Rattle.bk_words.specs.TextEnd.{AtEnd}
 use Rattle.bk_words.specs.Words.{words_of}
 use Rattle.bk_intcode.specs.declared.segment.Intcode.{Intcode}
 use Rattle.bk_intcode.specs.declared.item.Item.{Item}
 use Rattle.bk_intcode.specs.SegmentItems.{items_of}
 use Rattle.bk_intcode.specs.SegmentLaws.{segment_whole}
-use Rattle.bk_intcode_text.specs.SegmentAnswer.{StandsWhateverFollows}
-use Rattle.bk_kit.specs.Texts.{Format, Stands, parts, all_words, AreWhole, SaysWhateverFollows}
+use Rattle.bk_intcode_text.specs.SegmentAnswer.{Answers, StandsWhateverFollows}
+use Rattle.bk_intcode_text.specs.SegmentReading.{StopsAtDevice}
+use Rattle.bk_kit.specs.Texts.{Format, Stands, StopsInPart, parts, refused, part_number, all_words, AreWhole, SaysWhateverFollows}
 use Rattle.bk_kit.specs.Code.{intcode}
+use Rattle.bk_kit.specs.declared.kit_fault.KitFault.{KitFault}
+use Rattle.bk_kit.specs.declared.kit_fault.KitFault.TheVariants as fault
+use Rattle.bk_kit.specs.Interpreting.{TextRefused, CodeRefused}
 
 -- a text that is short enough ends only where the end was told
 at_end : (ended : Bool) (taken more : List ℕ) → length (taken ++ more) < INPUT_BYTES → (IsTrue ended → more ≡ []) → AtEnd ended (length taken) → more ≡ []
@@ -70,6 +76,18 @@ module _ {Part Kind : Type 0} (format : Format Part Kind) where
             ∙ ap (λ (w : List (List ℕ)). w ++ words_of more) (sym (words_push all last));
       }
 
+      -- one that is refused
+      says_refused : (place : ℕ) (kind : Kind) → ((more : List ℕ) → (AtEnd ended (length taken) → more ≡ []) → format.Refuses place kind (words_of (taken ++ more)))
+          → SaysWhateverFollows format (refused (part_number (length all)) place kind) (front ++ taken) ended
+      says_refused place kind refuses more over short = (
+        all,
+        words_of (taken ++ more),
+        read.are,
+        words_behind more short,
+        refuses more (at_end ended taken more (shorter front taken more short) over),
+        refl,
+      )
+
       -- none
       says_whole : ((more : List ℕ) → (AtEnd ended (length taken) → more ≡ []) → words_of (taken ++ more) ≡ []) → SaysWhateverFollows format (parts all) (front ++ taken) ended
       says_whole none more over short = (
@@ -100,6 +118,24 @@ module _ (all : List (List Item)) (old now new : Option (List ℕ)) (was ended :
     read = read_more intcode all front.taken was front.read t.0 ended not_over (items_of read) (segment_whole read) t.2;
   }
 
+  pub Front-refused : (told : IntcodeFault) → (IsTrue was → ⊥) → StandsWhateverFollows (Err (Fault told)) now new ended → Stands intcode (refused (part_number (length all)) told.item told.kind) old new ended
+  Front-refused told not_over t = record {
+    taken = front.taken ++ t.0;
+    delivered = Consumes-trans old now new front.taken t.0 front.delivered t.1;
+    says = says_refused intcode all front.taken was front.read t.0 ended not_over told.item told.kind t.2;
+  }
+
+  pub Front-stops : (IsTrue was → ⊥) → Answers (Err Device) now new ended → StopsInPart intcode StopsAtDevice old new
+  Front-stops not_over t = record {
+    before = all;
+    bytes = front.taken;
+    part = t.0;
+    delivered = Consumes-trans old now new front.taken t.0 front.delivered t.1;
+    whole = front.read.are;
+    are = λ more short. front.read.says more (λ over. absurd (not_over over)) short;
+    is_part = t.2;
+  }
+
   pub Front-whole : (IsTrue was → NothingLeft now) → (IsTrue was → IsTrue ended) → StandsWhateverFollows (Ok None) now new ended → Stands intcode (parts all) old new ended
   Front-whole none stays t = by_case was refl
     where
@@ -114,3 +150,14 @@ module _ (all : List (List Item)) (old now new : Option (List ℕ)) (was ended :
         delivered = Consumes-trans old now new front.taken t.0 front.delivered t.1;
         says = says_whole intcode all front.taken was front.read t.0 ended (λ told. let no : false ≡ true = sym is ∙ told in cc) t.2;
       }
+
+-- a text that is refused as it is read is refused whatever the store
+pub refused_anyhow : (why : KitFault) (words : ℕ) (old new : Option (List ℕ)) (ended : Bool) → TextRefused why old new ended → CodeRefused why words old new ended
+refused_anyhow (fault.Source f) words old new ended h = h
+refused_anyhow (fault.Ocode n f) words old new ended h = h
+refused_anyhow (fault.Intcode n f) words old new ended h = h
+refused_anyhow fault.TooSmall words old new ended h = absurd h
+refused_anyhow fault.NoStart words old new ended h = absurd h
+refused_anyhow fault.Read words old new ended h = h
+refused_anyhow fault.Write words old new ended h = h
+refused_anyhow fault.Memory words old new ended h = h

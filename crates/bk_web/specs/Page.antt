@@ -1,8 +1,9 @@
 -- What the calls of a page come to: a command line over bytes, and a machine after some steps.
-use Rattle.std.specs.Prelude.{◌≡◌, ℕ, ◌==◌, ⊤, ◌⊎◌, Bool, false, List, [], Option, Some, length, take, min}
+use Rattle.std.specs.Prelude.{◌≡◌, ℕ, ◌<◌, ◌==◌, ⊤, ◌⊎◌, Bool, false, List, [], Option, Some, length, take, min}
 use Rattle.std.specs.List.{slice_split}
 use Rattle.std.specs.Str.{IsUtf8}
 use Rattle.clap.specs.Words.{Text, subcommand_of}
+use Rattle.bk_base.specs.declared.limit.TheConstants.{STORE_LEAST, STORE_MOST}
 use Rattle.bk_base.specs.declared.run_end.End.{End}
 use Rattle.bk_intcode.specs.declared.item.Item.{Item}
 use Rattle.bk_intcode.specs.declared.machine.Machine.{Machine}
@@ -12,11 +13,12 @@ use Rattle.bk_intcode.specs.State.{words_of}
 use Rattle.bk_intcode.specs.Runs.{Told, Ran}
 use Rattle.bk_kit.specs.declared.command_line.LineFault.{LineFault}
 use Rattle.bk_kit.specs.declared.command_line.LineFault.TheVariants.{Help, Bad, Memory}
+use Rattle.bk_kit.specs.declared.kit_fault.KitFault.{KitFault}
 use Rattle.bk_kit.specs.declared.orders.Order.{Order}
 use Rattle.bk_kit.specs.CommandLine.{kit_command, Reads, Refuses}
-use Rattle.bk_kit.specs.Interpreting.{Streams, Loads, Loadable, first_registers, told_streams}
+use Rattle.bk_kit.specs.Interpreting.{Streams, CodeRefused, Loads, Loadable, first_registers, told_streams}
 use Rattle.bk_kit.specs.Serving.{Serves}
-use Rattle.bk_kit.specs.Statuses.{refusal_status, refusal_line, end_status}
+use Rattle.bk_kit.specs.Statuses.{refusal_status, refusal_line, fault_status, end_status}
 use Rattle.bk_kit.specs.Telling.{Output, Tells}
 use Rattle.bk_web.specs.declared.answer.Standing.{Standing}
 use Rattle.bk_web.specs.Kept.{IsFront}
@@ -85,6 +87,12 @@ pub record LoadsText (machine : Machine) (words : ℕ) (code : List ℕ) : Type 
   pub loads : Loads machine words (Some code) left ended
   pub words_is : words_of machine ≡ words
 
+-- A text that is refused, or cannot be loaded.
+pub record RefusesText (fault : KitFault) (words : ℕ) (code : List ℕ) : Type 0 where
+  pub left : Option (List ℕ)
+  pub ended : Bool
+  pub refused : CodeRefused fault words (Some code) left ended
+
 -- THE MACHINE AFTER SOME STEPS: the segments of the code were loaded and run, and the host is given the registers, the front of the store and
 -- the front of the output.
 pub record Steps (Holds : List ℕ → Type 0) (code input : List ℕ) (steps words : ℕ) (standing : Standing) (room front : List ℕ) : Type 0 where
@@ -105,6 +113,13 @@ pub record Steps (Holds : List ℕ → Type 0) (code input : List ℕ) (steps wo
   pub output_is : after.taken ≡ Some output
   pub output_given : IsFront output standing.output room
 
--- Nothing was run: the status says why, and all else is 0.
-abbrev pub NotLoaded : Standing → Type 0
-NotLoaded standing = (standing.stack ≡ 0) × (standing.words ≡ 0) × (standing.output ≡ 0) × (standing.line ≡ 0)
+-- a host that is given nothing
+abbrev pub IsEmpty : Standing → Type 0
+IsEmpty standing = (standing.stack ≡ 0) × (standing.words ≡ 0) × (standing.output ≡ 0) × (standing.line ≡ 0)
+
+-- Nothing was run: the text is refused or cannot be loaded, or no store has so many words.
+abbrev pub RunsNothing : List ℕ → ℕ → Standing → Type 0
+RunsNothing code words standing =
+    IsEmpty standing
+    × (((fault : KitFault) × RefusesText fault words code × (standing.status ≡ fault_status fault))
+    ⊎ (((words < STORE_LEAST) ⊎ (STORE_MOST < words)) × (standing.status ≡ 112)))

@@ -38,11 +38,12 @@ pub struct Standing {
 
 impl Standing {
     ghost use Rattle.std.specs.Prelude.{◌≡◌};
-    ghost use Rattle.bk_web.specs.Page.{NotLoaded};
+    ghost use Rattle.bk_web.specs.Page.{IsEmpty};
 
     /// Where nothing was run, for a reason that the status gives.
     pub fn not_loaded(status: u8) -> Standing
-        ensures { NotLoaded result }
+        ensures empty { IsEmpty result }
+        ensures status { result.status ≡ status }
     {
         Standing {
             output: 0,

@@ -1,12 +1,14 @@
 //! The machine after some steps.
-ghost use Rattle.std.specs.Prelude.{◌≡◌, ◌⊎◌, IfOk, length, map, take, min};
+ghost use Rattle.std.specs.Prelude.{◌≡◌, ◌≤◌, ◌⊎◌, IfOk, IfErr, length, map, take, min};
+ghost use Rattle.bk_base.specs.declared.limit.TheConstants.{STORE_LEAST, STORE_MOST};
 ghost use Rattle.bk_intcode.specs.SegmentItems.{items_of};
 ghost use Rattle.bk_intcode.specs.State.{store_of, words_of};
 ghost use Rattle.bk_intcode.specs.Runs.{HeldBy};
 ghost use Rattle.bk_kit.specs.Code.{intcode};
-ghost use Rattle.bk_kit.specs.Texts.{Stands, parts};
-ghost use Rattle.bk_kit.specs.Statuses.{end_status};
-ghost use Rattle.bk_web.specs.Page.{LoadsText, Steps, NotLoaded};
+ghost use Rattle.bk_kit.specs.Interpreting.{TextRefused};
+ghost use Rattle.bk_kit.specs.Texts.{part_number, parts, Stands};
+ghost use Rattle.bk_kit.specs.Statuses.{fault_status, end_status};
+ghost use Rattle.bk_web.specs.Page.{LoadsText, RefusesText, Steps, RunsNothing};
 
 use crate::answer::Standing;
 use crate::kept::{Kept, copy_front};
@@ -14,48 +16,67 @@ use bk_base::limit::{STORE_LEAST, STORE_MOST};
 use bk_base::{ByteIn, End, Reader512, Refused};
 use bk_intcode::{Intcode, Machine};
 use bk_intcode_text::read_segment;
+use bk_kit::KitFault;
 use bk_show::{Step, put_step};
 use std::alloc::Global;
 
-/// The statuses where a text is refused, where it cannot be loaded, where there is no memory, and where the words are none.
-const REFUSED: u8 = 103;
-
-const NOT_LOADED: u8 = 105;
-
-const NO_MEMORY: u8 = 111;
-
+/// The status where no store has so many words.
 const BAD_WORDS: u8 = 112;
 
-/// All segments of a text, or the status that says why there are none.
-fn read_code<C: ByteIn>(alloc: Global, code: &mut C) -> Result<Vec<Intcode>, u8>
+/// The number of the segment after so many others.
+fn number_behind(before: usize) -> u32
+    ensures { result ≡ part_number before }
+{
+    before.min(u32::MAX as usize - 1) as u32 + 1
+}
+
+/// Reads all segments of a text.
+fn read_code<C: ByteIn>(alloc: Global, code: &mut C) -> Result<Vec<Intcode>, KitFault>
     ensures read { IfOk result (λ list. Stands intcode (parts (map items_of list.items)) (C.left code.old) (C.left code.new) (C.ended code.new)) }
+    ensures refused { IfErr result (λ fault. TextRefused fault (C.left code.old) (C.left code.new) (C.ended code.new)) }
 {
     let mut list = Vec::new(alloc);
     loop {
         match read_segment(alloc, code) {
             Ok(Some(segment)) => {
                 let Ok(()) = list.push(segment) else {
-                    return Err(NO_MEMORY);
+                    return Err(KitFault::Memory);
                 };
             }
             Ok(None) => return Ok(list),
-            Err(Refused::Memory) => return Err(NO_MEMORY),
-            Err(_) => return Err(REFUSED),
+            Err(Refused::Fault(fault)) => {
+                return Err(KitFault::Intcode(number_behind(list.len()), fault));
+            }
+            Err(Refused::Memory) => return Err(KitFault::Memory),
+            Err(Refused::Device) => return Err(KitFault::Read),
         }
     }
 }
 
-/// A machine with the segments of a text, or the status that says why there is none.
-fn load_code(alloc: Global, code: &[u8], words: u32) -> Result<Machine, u8>
+/// Reads all segments of a text and loads them into a store of so many words.
+fn load_code(alloc: Global, code: &[u8], words: u32) -> Result<Machine, KitFault>
+    requires least { STORE_LEAST ≤ words }
+    requires most { words ≤ STORE_MOST }
     ensures loaded { IfOk result (λ machine. LoadsText machine words code.now) }
+    ensures refused { IfErr result (λ fault. RefusesText fault words code.now) }
 {
-    if words < STORE_LEAST || words > STORE_MOST {
-        return Err(BAD_WORDS);
-    }
     let segments = read_code(alloc, &mut Reader512::new(code))?;
-    match Machine::load(alloc, segments.as_slice(), words) {
-        Ok(machine) => Ok(machine),
-        Err(_) => Err(NOT_LOADED),
+    Ok(Machine::load(alloc, segments.as_slice(), words)?)
+}
+
+/// The status of a fault.
+fn status_of_fault(fault: &KitFault) -> u8
+    ensures { result ≡ fault_status fault.now }
+{
+    match fault {
+        KitFault::Source(_) => 101,
+        KitFault::Ocode(_, _) => 102,
+        KitFault::Intcode(_, _) => 103,
+        KitFault::TooSmall => 105,
+        KitFault::NoStart => 108,
+        KitFault::Read => 109,
+        KitFault::Write => 110,
+        KitFault::Memory => 111,
     }
 }
 
@@ -134,13 +155,17 @@ pub extern "C" fn bk_step<'a>(
     store: &mut [u32],
     standing: &mut Standing,
 )
-    ensures stepped { Steps (HeldBy ⟦<Reader512<&'a [u8]> as ByteIn>⟧.held) code.now input.now steps words standing.new out.new store.new ⊎ NotLoaded standing.new }
+    ensures stepped { Steps (HeldBy ⟦<Reader512<&'a [u8]> as ByteIn>⟧.held) code.now input.now steps words standing.new out.new store.new ⊎ RunsNothing code.now words standing.new }
     ensures rooms { (length out.new ≡ length out.old) × (length line.new ≡ length line.old) × (length store.new ≡ length store.old) }
 {
+    if words < STORE_LEAST || words > STORE_MOST {
+        *standing = Standing::not_loaded(BAD_WORDS);
+        return;
+    }
     let mut machine = match load_code(alloc, code, words) {
         Ok(machine) => machine,
-        Err(status) => {
-            *standing = Standing::not_loaded(status);
+        Err(fault) => {
+            *standing = Standing::not_loaded(status_of_fault(&fault));
             return;
         }
     };

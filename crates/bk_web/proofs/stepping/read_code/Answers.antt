@@ -1,8 +1,9 @@
-use Rattle.std.proofs.Common.{◌≡◌, ◌∙◌, List, [], ◌∷◌, ◌++◌, map, ap, sym, subst}
-use Rattle.std.proofs.lemmas.List.{map-append}
+use Rattle.std.proofs.Common.{◌≡◌, ◌∙◌, List, [], ◌∷◌, ◌++◌, length, map, ap, sym, subst, rules}
+use Rattle.std.proofs.lemmas.List.{map-append, length-map}
 use Rattle.bk_intcode.specs.declared.item.Item.{Item}
 use Rattle.bk_intcode.specs.SegmentItems.{items_of}
-use Rattle.bk_web.proofs.SegmentsRead.{Front, Front-push, Front-whole}
+use Rattle.bk_kit.specs.Texts.{part_number}
+use Rattle.bk_web.proofs.SegmentsRead.{Front, Front-push, Front-refused, Front-stops, Front-whole}
 use Rattle.bk_web.proofs.stepping.read_code.Goals as goal
 
 pub loop-segment-preserved : goal.loop-segment-preserved
@@ -13,7 +14,19 @@ loop-segment-preserved g c =
     subst (λ (l : List (List Item)). Front l (g.C.ByteIn.left c.args.code.now) (g.C.ByteIn.left c.read_segment.new.input) (g.C.ByteIn.ended c.read_segment.new.input)) (sym all)
     (Front-push _ _ _ _ _ _ c.loop-segment.invariant read (λ over. let bad = (c.in-Ok-Some.ensures.ended_again over).0 in let other = c.in-Ok-Some.field-0-is in cc) (rw c.in-Ok-Some.field-0-is at c.in-Ok-Some.ensures.stands))
 
-pub returns-in-Ok-None : goal.returns-in-Ok-None
-returns-in-Ok-None g c = record {
-  read = Front-whole _ _ _ _ _ _ c.loop-segment.invariant (λ over. (g.met.C.ByteIn.nothing_behind c.loop-segment.code over).0) (λ over. (c.in-Ok-None.ensures.ended_again over).1) (rw c.in-Ok-None.field-0-is at c.in-Ok-None.ensures.stands);
-}
+pub returns-in-Ok-None-clause-read : goal.returns-in-Ok-None-clause-read
+returns-in-Ok-None-clause-read g c =
+    Front-whole _ _ _ _ _ _ c.loop-segment.invariant (λ over. (g.met.C.ByteIn.nothing_behind c.loop-segment.code over).0) (λ over. (c.in-Ok-None.ensures.ended_again over).1) (rw c.in-Ok-None.field-0-is at c.in-Ok-None.ensures.stands)
+
+pub returns-in-Err-Fault-clause-refused : goal.returns-in-Err-Fault-clause-refused
+returns-in-Err-Fault-clause-refused g c =
+    let told = c.in-Err-Fault.fault in
+    let stands = Front-refused _ _ _ _ _ _ c.loop-segment.invariant told (λ over. let bad = (c.in-Err-Fault.ensures.ended_again over).0 in cc) (rw c.in-Err-Fault.field-0-is at c.in-Err-Fault.ensures.stands) in
+    let len : c.len.result ≡ length c.loop-segment.list.items = search rules in
+    let number : c.number_behind.result ≡ part_number (length (map items_of c.loop-segment.list.items)) =
+    c.number_behind.ensures ∙ ap part_number (len ∙ sym (length-map c.loop-segment.list.items items_of)) in
+    rw (c.in-Err-Fault.field-0-is, number) stands
+
+pub returns-in-Err-Device-clause-refused : goal.returns-in-Err-Device-clause-refused
+returns-in-Err-Device-clause-refused g c =
+    Front-stops _ _ _ _ _ (g.C.ByteIn.ended c.read_segment.new.input) c.loop-segment.invariant (λ over. let bad = (c.in-Err-Device.ensures.ended_again over).0 in cc) (rw c.in-Err-Device.field-0-is at c.in-Err-Device.ensures.answers)
