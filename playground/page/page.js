@@ -79,10 +79,11 @@ async function unpacked() {
 
 // ---- the editor
 
-const editor = { lines: [""], wrong: 0 };
+const editor = { text: "", lines: [""], wrong: 0 };
 
 function readLines() {
-  editor.lines = $("source").value.split("\n");
+  editor.text = $("source").value;
+  editor.lines = editor.text.split("\n");
   const places = String(editor.lines.length).length;
   $("numbers").style.minWidth = `calc(${Math.max(places, 2)}ch + 20px)`;
 }
@@ -215,7 +216,7 @@ let listings, runner;               // the desks: one for what follows the keys,
 let ran = null;                     // what the last run came to
 let running = null;
 
-const source = () => $("source").value;
+const source = () => editor.text;
 
 // Shows what the chosen tab has for the program as it is now.
 function refresh() {
@@ -263,6 +264,7 @@ function begin(words, kind) {
   ran = null;
   $("stop").disabled = false;
   choose(TABS[0]);
+  if (matchMedia("(max-width: 860px)").matches) $("tabs").scrollIntoView({ block: "start" });
   const tick = () => {
     if (running && running.began === began && tab.name === "Run") {
       say(`${kind} for ${Math.floor((performance.now() - began) / 1000)} s`);
@@ -497,7 +499,7 @@ function setProgram(text, input) {
 function edited() {
   readLines();
   editor.wrong = 0;
-  const example = EXAMPLES.find((each) => each.source === source());
+  const example = EXAMPLES.find((each) => each.source === editor.text);
   $("program").value = example ? example.name : "";
   draw();
 }
