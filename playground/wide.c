@@ -29,3 +29,10 @@ u128 __lshrti3(u128 a, int by) {
   if (!by) return a;
   return joined(it.half[1] >> by, it.half[0] >> by | it.half[1] << (64 - by));
 }
+
+u128 __ashrti3(u128 a, int by) {
+  union { u128 whole; long half[2]; } it = {a};
+  if (by & 64) return joined(it.half[1] >> 63, it.half[1] >> (by & 63));
+  if (!by) return a;
+  return joined(it.half[1] >> by, (u64)it.half[0] >> by | (u64)it.half[1] << (64 - by));
+}
