@@ -40,7 +40,13 @@ export async function open(program, url) {
     asked.delete(told.id);
     if (then) told.error ? then.fail(new Error(told.error.message)) : then.done(told.result);
   };
+  const lost = new Error("chromium ended in the middle");
+  socket.onclose = () => {
+    for (const { fail } of asked.values()) fail(lost);
+    asked.clear();
+  };
   const send = (method, params = {}) => new Promise((done, fail) => {
+    if (socket.readyState !== WebSocket.OPEN) return fail(lost);
     number += 1;
     asked.set(number, { done, fail });
     socket.send(JSON.stringify({ id: number, method, params }));
