@@ -33,8 +33,8 @@ export async function compare(page, program, count) {
 
   const latin = (bytes) => Buffer.from(bytes).toString("latin1");
   // The words by both, where `file` is the file that they name.
-  function same(words, file, input, rooms = undefined) {
-    const made = kit.serve(words, file ? fs.readFileSync(file) : "", input, rooms), wanted = native(program, words, input);
+  function same(words, file, input, rooms = undefined, ocode = "") {
+    const made = kit.serve(words, file ? fs.readFileSync(file) : "", input, rooms, ocode), wanted = native(program, words, input);
     const holds = made.status === wanted.status && latin(made.output) === latin(wanted.output) && latin(made.lines) === latin(wanted.lines);
     count.is(words.join(" "), holds, [made.status, wanted.status, latin(made.lines).slice(0, 120), latin(wanted.lines).slice(0, 120), made.output.length, wanted.output.length]);
     return made;
@@ -52,6 +52,9 @@ export async function compare(page, program, count) {
     fs.writeFileSync(code, generated.output);
     same(["interpret", "-t", "20000000", code], code, input);
     same(["interpret", "--trace", "-t", "300", code], code, input);
+    const named = path.join(folder, "code.ocode");
+    fs.writeFileSync(named, compiled.output);
+    same(["interpret", "--trace", "-t", "300", "--ocode", named, code], code, input, undefined, compiled.output);
     same(["interpret", "--sizes", code], code, "");
   }
 

@@ -38,12 +38,12 @@ async function makeKit(module) {
   }
 
   return {
-    // A command line: its words without the name of the program, the bytes of FILE and of the input, and those of the OCODE that --ocode names.
-    serve(words, file, input, rooms = { output: 4 * MEGABYTE, lines: 4 * MEGABYTE }, names = "") {
+    // A command line: its words without the name of the program, the bytes of FILE and of the input, and those of the file of --ocode.
+    serve(words, file, input, rooms = { output: 4 * MEGABYTE, lines: 4 * MEGABYTE }, ocode = "") {
       return withRooms(({ room, given, bytes }) => {
         const output = room(rooms.output), lines = room(rooms.lines), answer = room(24);
         exported.bk_serve(
-          ...given(["bcpl", ...words].join("\n")), ...given(file), ...given(names), ...given(input),
+          ...given(["bcpl", ...words].join("\n")), ...given(file), ...given(ocode), ...given(input),
           output, BigInt(rooms.output), lines, BigInt(rooms.lines), answer,
         );
         const told = new DataView(memory(), Number(answer), 24);

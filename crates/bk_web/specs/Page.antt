@@ -18,9 +18,9 @@ use Rattle.bk_kit.specs.declared.orders.Order.{Order}
 use Rattle.bk_kit.specs.CommandLine.{kit_command, Reads, Refuses}
 use Rattle.bk_kit.specs.Interpreting.{Streams, CodeRefused, Loads, Loadable, first_registers, told_streams}
 use Rattle.bk_kit.specs.Serving.{Serves}
-use Rattle.bk_kit.specs.Tracing.{FileRead}
 use Rattle.bk_kit.specs.Statuses.{refusal_status, refusal_line, fault_status, end_status}
 use Rattle.bk_kit.specs.Telling.{Output, Tells}
+use Rattle.bk_kit.specs.Tracing.{FileRead}
 use Rattle.bk_web.specs.declared.answer.Standing.{Standing}
 use Rattle.bk_web.specs.Kept.{IsFront}
 
@@ -35,10 +35,6 @@ streams_before input = record { left = Some input; held = []; ended = false; tak
 abbrev pub output_before : Output
 output_before = record { taken = Some []; passed = Some []; faults = 0 }
 
--- what was read of a file of these bytes
-abbrev pub read_of : List ℕ → Option (List ℕ) → Bool → ℕ → FileRead
-read_of bytes left ended faults = record { old = Some bytes; new = left; ended = ended; faults = faults }
-
 -- The bytes give no order: they are no text, or the words of the text are refused.
 abbrev pub RefusesBytes : List ℕ → LineFault → Type 0
 RefusesBytes words fault = Refuses (texts_of words) fault ⊎ ((IsUtf8 words → ⊥) × (fault ≡ Bad))
@@ -49,19 +45,18 @@ IsHelp (Help help) = ⊤
 IsHelp Bad = ⊥
 IsHelp Memory = ⊥
 
--- An order was read from the words and served over these bytes. Holds says what the reader of the input can hold.
-pub record ServesOrder (Holds : List ℕ → Type 0) (words file names input : List ℕ) (status : ℕ) (output lines : List ℕ) : Type 0 where
+-- An order was read from the words and served over these bytes: of FILE, of the OCODE that gives names, and of the input. Holds says what the
+-- reader of the input can hold.
+pub record ServesOrder (Holds : List ℕ → Type 0) (words file ocode input : List ℕ) (status : ℕ) (output lines : List ℕ) : Type 0 where
   pub order : Order
   pub reads : Reads (subcommand_of kit_command (texts_of words)) order
-  pub left : Option (List ℕ)
-  pub ended : Bool
-  pub faults : ℕ
-  pub names_left : Option (List ℕ)
-  pub names_ended : Bool
-  pub names_faults : ℕ
+  pub read : FileRead
+  pub read_is : read.old ≡ Some file
+  pub names : FileRead
+  pub names_are : names.old ≡ Some ocode
   pub after : Streams
   pub told : Output
-  pub serves : Serves Holds order status (read_of file left ended faults) (read_of names names_left names_ended names_faults) (streams_before input) after output_before told
+  pub serves : Serves Holds order status read names (streams_before input) after output_before told
   pub output_is : after.taken ≡ Some output
   pub lines_are : told.taken ≡ Some lines
 
@@ -76,15 +71,15 @@ pub record RefusesWords (words : List ℕ) (status : ℕ) (output lines : List �
   pub output_is : IsHelp fault ⊎ (output ≡ [])
 
 -- A COMMAND LINE over these bytes comes to this status, with this output and these lines on the error stream.
-abbrev pub Commands : (List ℕ → Type 0) → (words file names input : List ℕ) → (status : ℕ) → (output lines : List ℕ) → Type 0
-Commands Holds words file names input status output lines =
-    ServesOrder Holds words file names input status output lines ⊎ RefusesWords words status output lines
+abbrev pub Commands : (List ℕ → Type 0) → (words file ocode input : List ℕ) → (status : ℕ) → (output lines : List ℕ) → Type 0
+Commands Holds words file ocode input status output lines =
+    ServesOrder Holds words file ocode input status output lines ⊎ RefusesWords words status output lines
 
 -- The same, where the host is given the fronts of the output and of the lines that fit.
-pub record Answers (Holds : List ℕ → Type 0) (words file names input : List ℕ) (status counted counted_lines : ℕ) (room room_lines : List ℕ) : Type 0 where
+pub record Answers (Holds : List ℕ → Type 0) (words file ocode input : List ℕ) (status counted counted_lines : ℕ) (room room_lines : List ℕ) : Type 0 where
   pub output : List ℕ
   pub lines : List ℕ
-  pub commands : Commands Holds words file names input status output lines
+  pub commands : Commands Holds words file ocode input status output lines
   pub output_given : IsFront output counted room
   pub lines_given : IsFront lines counted_lines room_lines
 

@@ -67,55 +67,45 @@ fn serve_words<'a>(
     alloc: Global,
     words: &[u8],
     file: &[u8],
-    names: &[u8],
+    ocode: &[u8],
     input: &'a [u8],
     out: &mut Kept,
     err: &mut Kept,
 ) -> u8
     requires fresh { IsFresh out.old × IsFresh err.old }
-    ensures served { Commands (HeldBy ⟦<Reader512<&'a [u8]> as ByteIn>⟧.held) words.now file.now names.now input.now result (kept_of out.new) (kept_of err.new) }
+    ensures served { Commands (HeldBy ⟦<Reader512<&'a [u8]> as ByteIn>⟧.held) words.now file.now ocode.now input.now result (kept_of out.new) (kept_of err.new) }
 {
     match order_of(alloc, words) {
         Ok(order) => {
             let mut file = Reader512::new(file);
-            let mut names = Reader512::new(names);
+            let mut names = Reader512::new(ocode);
             let mut input = Reader512::new(input);
-            serve(
-                alloc, &order, &mut file, &mut names, &mut input, out, err,
-            )
+            serve(alloc, &order, &mut file, &mut names, &mut input, out, err)
         }
         Err(fault) => refuse_words(alloc, &fault, out, err),
     }
 }
 
 /// Does what a command line of the kit asks for: its words, which line feeds separate (the first is the name of the
-/// program), the bytes of FILE, those of the OCODE that `--ocode` names, and those of the input. `out` and `err` are given the fronts of the output and of the lines on the
-/// error stream. A write past the end of either fails, as on a full disk.
+/// program), the bytes of FILE, those of the file of `--ocode`, and those of the input. `out` and `err` are given the fronts of
+/// the output and of the lines on the error stream. A write past the end of either fails, as on a full disk.
 #[unsafe(no_mangle)]
 pub extern "C" fn bk_serve<'a>(
     alloc: Global,
     words: &[u8],
     file: &[u8],
-    names: &[u8],
+    ocode: &[u8],
     input: &'a [u8],
     out: &mut [u8],
     err: &mut [u8],
     answer: &mut Answer,
 )
-    ensures answers { Answers (HeldBy ⟦<Reader512<&'a [u8]> as ByteIn>⟧.held) words.now file.now names.now input.now answer.new.status answer.new.output answer.new.lines out.new err.new }
+    ensures answers { Answers (HeldBy ⟦<Reader512<&'a [u8]> as ByteIn>⟧.held) words.now file.now ocode.now input.now answer.new.status answer.new.output answer.new.lines out.new err.new }
     ensures rooms { (length out.new ≡ length out.old) × (length err.new ≡ length err.old) }
 {
     let mut output = Kept::new(alloc, out.len());
     let mut lines = Kept::new(alloc, err.len());
-    answer.status = serve_words(
-        alloc,
-        words,
-        file,
-        names,
-        input,
-        &mut output,
-        &mut lines,
-    );
+    answer.status = serve_words(alloc, words, file, ocode, input, &mut output, &mut lines);
     answer.output = copy_front(output.bytes(), out);
     answer.lines = copy_front(lines.bytes(), err);
 }
