@@ -29,6 +29,6 @@ pub use laws::{codes_run, filters_write_code, one_after_another, sources_run};
 pub use orders::Order;
 pub use runner::{interpret, sizes};
 pub use service::{refuse, serve};
-pub use showing::show_source;
+pub use showing::{show_sections, show_source};
 pub use source::run_source;
 pub use tracing::{trace, trace_named};

@@ -1,34 +1,33 @@
 //! A source as a person reads what the phases of the compiler make of it.
-ghost use Rattle.std.specs.Prelude.{◌≡◌, Err};
-ghost use Rattle.bk_base.specs.Devices.{Begins};
-ghost use Rattle.bk_show.specs.declared.section.NotShown.TheVariants.{Device};
-ghost use Rattle.bk_kit.specs.Showing.{ShowsSections, ShowsSource};
+ghost use Rattle.std.specs.Prelude.{IfOk, IfErr};
+ghost use Rattle.bk_kit.specs.CompilingSection.{Compiled};
+ghost use Rattle.bk_kit.specs.Showing.{PutsSection, NotPut, ShowsSections, ShowsSource};
 
 use crate::kit_fault::KitFault;
 use crate::reading::read_section;
-use crate::section::{SectionCode, compile_section};
+use crate::section::{CompiledSection, compile_section};
 use bk_base::{ByteIn, ByteOut, Line};
 use bk_gen::generate;
 use bk_lex::Lexer;
 use bk_scope::resolve;
-use bk_show::{NotShown, Part, Shown, show};
+use bk_show::{Layout, NotShown, Part, Shown};
 use std::alloc::Global;
 
-/// Writes what is asked for of a section, if it has symbols.
-fn put_section<O: ByteOut>(
+/// Writes a section, if it has symbols.
+fn put_section<O, L: Layout<O>>(
     alloc: Global,
     number: u32,
     line: Line,
     lexer: &Lexer,
-    section: &Option<SectionCode>,
-    asked: Part,
+    section: &CompiledSection,
+    layout: &L,
     out: &mut O,
 ) -> Result<(), NotShown>
-    ensures grows { Begins (O.taken out.old) (O.taken out.new) }
-    ensures passes { Begins (O.passed out.old) (O.passed out.new) }
-    ensures failed { result ≡ Err Device → O.faults out.new ≡ 1 }
+    requires { Compiled section.now lexer.now.bytes lexer.now.from }
+    ensures puts { IfOk result (λ done. PutsSection (L.writes layout.now) (L.fails layout.now) section.now.code out.old out.new) }
+    ensures failed { IfErr result (λ why. NotPut (L.writes layout.now) (L.fails layout.now) out.old out.new why) }
 {
-    let Some(section) = section else {
+    let Some(section) = &section.code else {
         return Ok(());
     };
     let Ok(lexed) = lexer.lexed(alloc) else {
@@ -46,19 +45,19 @@ fn put_section<O: ByteOut>(
         code: &section.code,
         segment: &segment,
     };
-    show(alloc, &shown, asked, out)
+    layout.write(alloc, &shown, out)
 }
 
-/// Writes what is asked for of one section after another, up to the first that is refused.
-fn put_sections<C: ByteIn, O: ByteOut>(
+/// Writes the sections of a source by a layout, one after another, up to the first that is refused, of which nothing is written. A
+/// source is refused as `compile` refuses it. A section without symbols is skipped, and counted.
+pub fn show_sections<C: ByteIn, O, L: Layout<O>>(
     alloc: Global,
     source: &mut C,
-    asked: Part,
+    layout: &L,
     out: &mut O,
 ) -> Result<(), KitFault>
-    ensures shows { ShowsSections result (C.left source.old) (C.left source.new) (C.ended source.new) (C.faults source.new)
-        (record { taken = O.taken out.old; passed = O.passed out.old; faults = O.faults out.old })
-        (record { taken = O.taken out.new; passed = O.passed out.new; faults = O.faults out.new }) }
+    ensures shows { ShowsSections (L.writes layout.now) (L.fails layout.now) result (C.left source.old) (C.left source.new) (C.ended source.new)
+        (C.faults source.new) out.old out.new }
 {
     let mut taken = 0;
     let mut line = Line::first();
@@ -66,7 +65,7 @@ fn put_sections<C: ByteIn, O: ByteOut>(
     loop {
         let lexer = read_section(alloc, source, &mut taken, line)?;
         let section = compile_section(alloc, &lexer)?;
-        match put_section(alloc, number, line, &lexer, &section.code, asked, out) {
+        match put_section(alloc, number, line, &lexer, &section, layout, out) {
             Ok(()) => {}
             Err(NotShown::Memory) => return Err(KitFault::Memory),
             Err(NotShown::Device) => return Err(KitFault::Write),
@@ -91,7 +90,7 @@ pub fn show_source<C: ByteIn, O: ByteOut>(
         (record { taken = O.taken out.old; passed = O.passed out.old; faults = O.faults out.old })
         (record { taken = O.taken out.new; passed = O.passed out.new; faults = O.faults out.new }) }
 {
-    let answer = put_sections(alloc, source, asked, out);
+    let answer = show_sections(alloc, source, &asked, out);
     let Ok(()) = out.flush() else {
         return Err(KitFault::Write);
     };

@@ -37,7 +37,16 @@ fn serve_into<F: ByteIn, I: ByteIn>(
 ) -> u8 {
     let mut out = Writer512::new(output);
     let mut err = Writer512::new(line);
-    serve(alloc, asked, file, input, &mut out, &mut err)
+    let nothing: &[u8] = b"";
+    serve(
+        alloc,
+        asked,
+        file,
+        &mut Reader512::new(nothing),
+        input,
+        &mut out,
+        &mut err,
+    )
 }
 
 /// What results from an order.

@@ -6,6 +6,7 @@ mod entries;
 mod header;
 mod instruction;
 mod intcode;
+mod layout;
 mod names;
 mod ocode;
 mod part;
@@ -17,6 +18,7 @@ mod tokens;
 mod trace;
 mod tree;
 
+pub use layout::Layout;
 pub use part::Part;
 pub use procedures::Procedures;
 pub use section::{NotShown, Shown, show};

@@ -1,5 +1,5 @@
 use Rattle.std.proofs.Common.{rules, arith, ◌≡◌, ◌∙◌, ◌==◌, List, [], ◌∷◌, ◌++◌, ℕ, Bool, false, Bor, All, map, length, ap, sym, append_assoc, append-nil}
-use Rattle.core.specs.List.{position_or_len, slice_split}
+use Rattle.std.specs.List.{position_or_len, slice_split}
 use Rattle.std.proofs.lemmas.Grind.{common_steps}
 use Rattle.std.proofs.lemmas.List.{map-append}
 use Rattle.std.proofs.lemmas.List.Splits.{slice_split_first, slice_split_none}
