@@ -193,15 +193,7 @@ fn trace_with<C: ByteIn, I: ByteIn, O: ByteOut, E: ByteOut>(
     let mut machine = load_code(alloc, code, limits.words())?;
     let known = known_procedures(alloc, procedures, machine.sizes().image, err);
     tell_heading(alloc, err);
-    Ok(run_steps(
-        alloc,
-        &mut machine,
-        limits.steps(),
-        known,
-        input,
-        out,
-        err,
-    ))
+    Ok(run_steps(alloc, &mut machine, limits.steps(), known, input, out, err))
 }
 
 /// Reads all segments of a text of INTCODE, loads them and runs them as `interpret` does, with a line on the error stream for each

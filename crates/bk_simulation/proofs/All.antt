@@ -1,10 +1,5 @@
 -- All forms: what holds of the meanings of the nodes inside holds of each node.
-use Rattle.bk_simulation.proofs.Words.{◌≡◌, ℕ, suc, ◌+◌, ◌-◌, ◌*◌, ◌≤◌, Bool, true, false, List, ◌∷◌, ◌++◌, Some, refl, sym, ◌∙◌, subst, arith, zero, State,
-  from_label, Stmt, Monadic, JumpIf, Stack, CallRoutine, FRAME_WORDS, infix_code, Operator, Expression, Expressions, Action, Actions, option_map, infix_word,
-  divides_by_zero, Value, number, sum, on_numbers, operate_prefix, Environment, constant_in, past, past_each, labelled, Sought, the_label, the_case,
-  the_default, Mode, forwards, seeking, World, ends, divide_by_zero, done, given, with, turn, Exit, going, history, After, Throughout, Meanings, at, fetch,
-  in_order, scope_of, landing, alone, value_of, truth_of, address_in, combined, judged, assigned, act_of, applied, rounds_of, means_with, turn_for, means,
-  no_turns, no_turn_for, Adds, adds, stays, given_after, with_after, each_way_after, either_after}
+use Rattle.bk_simulation.proofs.Words.{◌≡◌, ℕ, suc, ◌+◌, ◌-◌, ◌*◌, ◌≤◌, Bool, true, false, List, ◌∷◌, ◌++◌, Some, refl, sym, ◌∙◌, subst, arith, zero, State, from_label, Stmt, Monadic, JumpIf, Stack, CallRoutine, FRAME_WORDS, infix_code, Operator, Expression, Expressions, Action, Actions, option_map, infix_word, divides_by_zero, Value, number, sum, on_numbers, operate_prefix, Environment, constant_in, past, past_each, labelled, Sought, the_label, the_case, the_default, Mode, forwards, seeking, World, ends, divide_by_zero, done, given, with, turn, Exit, going, history, After, Throughout, Meanings, at, fetch, in_order, scope_of, landing, alone, value_of, truth_of, address_in, combined, judged, assigned, act_of, applied, rounds_of, means_with, turn_for, means, no_turns, no_turn_for, Adds, adds, stays, given_after, with_after, each_way_after, either_after}
 use Rattle.bk_ocode.specs.declared.stmt.Monadic.TheVariants as w
 use Rattle.bk_tree.specs.declared.tree.Operator.TheVariants as o
 use Rattle.bk_tree.specs.declared.tree.Prefix.TheVariants as q
@@ -15,22 +10,16 @@ use Rattle.bk_meaning.specs.Lasting.{Program}
 use Rattle.bk_meaning.specs.Parts.{Target, byte_at}
 use Rattle.bk_meaning.specs.Expressions.{target_of}
 use Rattle.bk_simulation.proofs.Weights.{turns_of, turns_among, turns_in, turns_through}
-use Rattle.bk_simulation.proofs.Laid.{Setting, Stretch, ByTurns, AreFrom, AreStores, AreValues, AreActs, CallAt, count, IsValue, IsJump, IsAddress, IsStore,
-  IsAct, IsLoop, Entered, EnteredAny, EnteredBody}
+use Rattle.bk_simulation.proofs.Laid.{Setting, Stretch, ByTurns, AreFrom, AreStores, AreValues, AreActs, CallAt, count, IsValue, IsJump, IsAddress, IsStore, IsAct, IsLoop, Entered, EnteredAny, EnteredBody}
 use Rattle.bk_simulation.proofs.Frame.{Sit, start, Ready, Account, here, Ran, went, with_ran, turn_behind, ArrivedAt, Has, Out}
 use Rattle.bk_simulation.proofs.Compose.{stay, arrived_more, ran_first, ran_more}
-use Rattle.bk_simulation.proofs.Simulates.{Simulates, for_value, for_truth, for_act, for_rounds, HasTruth, HasAddress, Destined, word, through, byte, Did,
-  RanDid, for_scope, for_counts}
-use Rattle.bk_simulation.proofs.Operators.{contents_run, minus_run, not_run, plus_run, combined_run, for_two, one_run, two_run, RanValue, name_runs,
-  number_runs, truth_runs, query_runs, text_runs, table_runs, denied_run, straight_run, over_run, choice_run}
+use Rattle.bk_simulation.proofs.Simulates.{Simulates, for_value, for_truth, for_act, for_rounds, HasTruth, HasAddress, Destined, word, through, byte, Did, RanDid, for_scope, for_counts}
+use Rattle.bk_simulation.proofs.Operators.{contents_run, minus_run, not_run, plus_run, combined_run, for_two, one_run, two_run, RanValue, name_runs, number_runs, truth_runs, query_runs, text_runs, table_runs, denied_run, straight_run, over_run, choice_run}
 use Rattle.bk_simulation.proofs.ControlSteps.{tested}
 use Rattle.bk_simulation.proofs.Orders.{not_true, order_adds, order_run}
-use Rattle.bk_simulation.proofs.Loops.{landing_adds, scope_runs, valof_run, while_rounds, repeat_rounds, repeat_while_rounds, while_run, while_sought,
-  repeat_run, repeat_while_run, switch_run, switch_sought}
-use Rattle.bk_simulation.proofs.Branches.{when_run, when_sought, test_run, test_sought, goto_runs, break_runs, loop_runs, endcase_runs, return_runs,
-  finish_runs, resultis_runs, place_run}
-use Rattle.bk_simulation.proofs.Assignments.{assigned_run, RanAddress, RanStore, address_runs, word_runs, contents_address, contents_store, subscript_address,
-  subscript_store, byte_store}
+use Rattle.bk_simulation.proofs.Loops.{landing_adds, scope_runs, valof_run, while_rounds, repeat_rounds, repeat_while_rounds, while_run, while_sought, repeat_run, repeat_while_run, switch_run, switch_sought}
+use Rattle.bk_simulation.proofs.Branches.{when_run, when_sought, test_run, test_sought, goto_runs, break_runs, loop_runs, endcase_runs, return_runs, finish_runs, resultis_runs, place_run}
+use Rattle.bk_simulation.proofs.Assignments.{assigned_run, RanAddress, RanStore, address_runs, word_runs, contents_address, contents_store, subscript_address, subscript_store, byte_store}
 use Rattle.bk_simulation.proofs.ForLoops.{for_run, for_rounds_run, rounds_adds}
 use Rattle.bk_simulation.proofs.Calls.{AloneRuns, Procedures}
 use Rattle.bk_simulation.proofs.Applied.{KnowsLibrary, AloneAdds, apply_runs}

@@ -1,9 +1,5 @@
 -- Calls, for a value or not: the arguments, then the procedure, then its frame or a routine of the library.
-use Rattle.bk_simulation.proofs.Words.{◌≡◌, ℕ, suc, ◌+◌, ◌-◌, ◌*◌, ◌<◌, ◌≤◌, ◌^◌, max, nat_lt, Bool, true, false, List, ◌∷◌, length, Option, Some, None, refl,
-  sym, ap, ◌∙◌, subst, arith, option_map_or, slice_get_within, FRAME_WORDS, Expression, Expressions, Action, Word, Cell, content_of, below, settle, Placed,
-  Callables, Inside, State, slot, can_be_called, Stmt, Stack, Value, procedure, routine, World, Exit, Outcome, gives, undefined, each_way, calling, calls_back,
-  Environment, past, Procedure, procedure_of, history, After, Throughout, forwards, scope_of, alone, Meanings, enter, call, applied, adds, stays, earlier,
-  with_after, each_way_after, closing_after, calling_on}
+use Rattle.bk_simulation.proofs.Words.{◌≡◌, ℕ, suc, ◌+◌, ◌-◌, ◌*◌, ◌<◌, ◌≤◌, ◌^◌, max, nat_lt, Bool, true, false, List, ◌∷◌, length, Option, Some, None, refl, sym, ap, ◌∙◌, subst, arith, option_map_or, slice_get_within, FRAME_WORDS, Expression, Expressions, Action, Word, Cell, content_of, below, settle, Placed, Callables, Inside, State, slot, can_be_called, Stmt, Stack, Value, procedure, routine, World, Exit, Outcome, gives, undefined, each_way, calling, calls_back, Environment, past, Procedure, procedure_of, history, After, Throughout, forwards, scope_of, alone, Meanings, enter, call, applied, adds, stays, earlier, with_after, each_way_after, closing_after, calling_on}
 use Rattle.bk_ocode.specs.OcodeState as ocode
 use Rattle.bk_meaning.specs.Values as value
 use Rattle.bk_meaning.specs.Lasting.{Program}
@@ -18,8 +14,7 @@ use Rattle.bk_simulation.proofs.WrittenCells.{below_like, settle_like}
 use Rattle.bk_simulation.proofs.BytesKept.{moves_bytes}
 use Rattle.bk_simulation.proofs.Weights.{turns_of, turns_among}
 use Rattle.bk_simulation.proofs.Laid.{Setting, CallAt, IsValue, AreValues, count}
-use Rattle.bk_simulation.proofs.Frame.{Sit, start, FewFrames, Ready, Account, one, comes_on, Ran, went, each_way_ran, with_ran, ArrivedAt, there, Out, next,
-  ready_next, by_option}
+use Rattle.bk_simulation.proofs.Frame.{Sit, start, FewFrames, Ready, Account, one, comes_on, Ran, went, each_way_ran, with_ran, ArrivedAt, there, Out, next, ready_next, by_option}
 use Rattle.bk_simulation.proofs.Compose.{stay, roomy, arrived_step, arrived_on, ran_on}
 use Rattle.bk_simulation.proofs.Simulates.{Simulates, for_values}
 use Rattle.bk_simulation.proofs.Operators.{value_run}

@@ -1,9 +1,5 @@
 -- Assignments: each value, its destination, and the word or byte that is stored.
-use Rattle.bk_simulation.proofs.Words.{false, ◌≡◌, ℕ, ◌+◌, ◌-◌, ◌*◌, ◌<◌, ◌≤◌, true, List, ◌∷◌, Option, Some, None, refl, sym, ap, ◌∙◌, subst, arith, ◌%◌, ◌^◌,
-  word_sum, byte_distance, Content, Variable, Cell, Held, content_of, kind_of, write, below, Word, Placed, Inside, State, named_place, has_word, Local, Static,
-  Stmt, Assign, AssignAt, AssignByte, Address, Dyadic, Expression, Expressions, Value, address, holds, Memory, write_byte, Environment, past, Sense, constant,
-  cell, sense_of, World, changes, remembering, Outcome, gives, given, with, history, Meanings, at, store as put_value, address_named, assigned, Adds, adds,
-  stays, with_after, changes_after, given_after, sum}
+use Rattle.bk_simulation.proofs.Words.{false, ◌≡◌, ℕ, ◌+◌, ◌-◌, ◌*◌, ◌<◌, ◌≤◌, true, List, ◌∷◌, Option, Some, None, refl, sym, ap, ◌∙◌, subst, arith, ◌%◌, ◌^◌, word_sum, byte_distance, Content, Variable, Cell, Held, content_of, kind_of, write, below, Word, Placed, Inside, State, named_place, has_word, Local, Static, Stmt, Assign, AssignAt, AssignByte, Address, Dyadic, Expression, Expressions, Value, address, holds, Memory, write_byte, Environment, past, Sense, constant, cell, sense_of, World, changes, remembering, Outcome, gives, given, with, history, Meanings, at, store as put_value, address_named, assigned, Adds, adds, stays, with_after, changes_after, given_after, sum}
 use Rattle.bk_ocode.specs.declared.stmt.Variable.{Variable as Named}
 use Rattle.bk_tree.specs.Tree as t
 use Rattle.bk_meaning.specs.Memory as memory
@@ -14,8 +10,7 @@ use Rattle.bk_simulation.proofs.Memory.{BaseOf, Like, Stands, Store, Moved, Fits
 use Rattle.bk_simulation.proofs.WrittenCells.{below_like, variable_found, put, write_here, write_at}
 use Rattle.bk_simulation.proofs.Weights.{turns_of, turns_among}
 use Rattle.bk_simulation.proofs.Laid.{Setting, Stretch, ByTurns, AreFrom, AreStores, IsStore, named_word, IsValue}
-use Rattle.bk_simulation.proofs.Frame.{Sit, store, state, start, place_of, Ready, Account, further, went, with_ran, ArrivedAt, store_at, there, Has, next,
-  ready_next, NameAt, Ran, Out, by_option}
+use Rattle.bk_simulation.proofs.Frame.{Sit, store, state, start, place_of, Ready, Account, further, went, with_ran, ArrivedAt, store_at, there, Has, next, ready_next, NameAt, Ran, Out, by_option}
 use Rattle.bk_simulation.proofs.Compose.{stay, stepped, arrived_more, arrived_on, ran_on, comes_to, ran_more, above}
 use Rattle.bk_simulation.proofs.Simulates.{Simulates, for_value, Destined, word, through, byte, RanDid, HasAddress}
 use Rattle.bk_simulation.proofs.Operators.{one_run, dyadic_topped, Two, for_two, two_run, pushes_item, named_at}

@@ -1,8 +1,5 @@
 -- Behind declarations: constants are words still, lasting objects go on with the next number, and exits and the procedure are the same.
-use Rattle.bk_simulation.proofs.Words.{◌≡◌, ℕ, ◌+◌, ◌<◌, ◌^◌, Bool, true, false, List, [], ◌∷◌, Option, Some, cond, refl, ◌∙◌, arith, bytes_eq, GLOBAL_NUMBER,
-  Expression, Items, Declaration, Declarations, Definitions, Bound, Binding, bound_in, bind, is_global, constant_word, within, procedure_in_scope,
-  procedures_in_scope, manifests_in_scope, statics_in_scope, globals_in_scope, Environment, Sense, foreign, bind_each, letters, count, manifests, statics,
-  objects_of_declaration, objects_of_declarations, objects_of_definitions, variables_hidden, declared, all_declared}
+use Rattle.bk_simulation.proofs.Words.{◌≡◌, ℕ, ◌+◌, ◌<◌, ◌^◌, Bool, true, false, List, [], ◌∷◌, Option, Some, cond, refl, ◌∙◌, arith, bytes_eq, GLOBAL_NUMBER, Expression, Items, Declaration, Declarations, Definitions, Bound, Binding, bound_in, bind, is_global, constant_word, within, procedure_in_scope, procedures_in_scope, manifests_in_scope, statics_in_scope, globals_in_scope, Environment, Sense, foreign, bind_each, letters, count, manifests, statics, objects_of_declaration, objects_of_declarations, objects_of_definitions, variables_hidden, declared, all_declared}
 use Rattle.bk_tree.specs.declared.tree.Sort.TheVariants as sort
 use Rattle.bk_tree.specs.Tree as t
 use Rattle.bk_scope.specs.declared.bound.Bound.TheVariants as b

@@ -1,24 +1,19 @@
 -- Blocks with declarations.
-use Rattle.bk_simulation.proofs.Words.{◌≡◌, ℕ, suc, ◌+◌, ◌-◌, ◌*◌, ◌<◌, ◌≤◌, Bool, true, false, cond, List, [], ◌∷◌, length, None, refl, sym, ap, ◌∙◌, subst,
-  arith, FRAME_WORDS, Actions, Declaration, Declarations, Binding, Cell, content_of, below, settle, Inside, State, Stmt, Stack, Store as StoreStmt, World, with,
-  closing, Environment, labelled, behind, within_let, objects_of_definitions, history, After, Throughout, Sought, the_label, forwards, stands_in_one, Meanings,
-  scope_of, adds, stays, with_after}
+use Rattle.bk_simulation.proofs.Words.{◌≡◌, ℕ, suc, ◌+◌, ◌-◌, ◌*◌, ◌<◌, ◌≤◌, Bool, true, false, cond, List, [], ◌∷◌, length, None, refl, sym, ap, ◌∙◌, subst, arith, FRAME_WORDS, Actions, Declaration, Declarations, Binding, Cell, content_of, below, settle, Inside, State, Stmt, Stack, Store as StoreStmt, World, with, closing, Environment, labelled, behind, within_let, objects_of_definitions, history, After, Throughout, Sought, the_label, forwards, stands_in_one, Meanings, scope_of, adds, stays, with_after}
 use Rattle.bk_tree.specs.Tree as t
 use Rattle.bk_meaning.specs.Blocks.{Start, bind_variables, declare, declare_all}
 use Rattle.bk_simulation.proofs.Moves.{Moves, store_moves}
 use Rattle.bk_simulation.proofs.Memory.{Codes, Like, like_on, Store, Grown}
 use Rattle.bk_simulation.proofs.WrittenCells.{below_at, below_like, settle_like, settle_at}
 use Rattle.bk_simulation.proofs.Weights.{turns_one_declared, turns_declared, turns_through}
-use Rattle.bk_simulation.proofs.Laid.{Setting, Scene, NamedIn, Spot, defines_variables, KeepsLabels, IsAct, AreActs, AreDeclared, IsOneDeclared, owning,
-  LeadsTo}
+use Rattle.bk_simulation.proofs.Laid.{Setting, Scene, NamedIn, Spot, defines_variables, KeepsLabels, IsAct, AreActs, AreDeclared, IsOneDeclared, owning, LeadsTo}
 use Rattle.bk_simulation.proofs.Frame.{some_objects, Sit, store, state, start, Ready, Account, Ran, went, with_ran, OpenArrived, store_at, named_grown}
 use Rattle.bk_simulation.proofs.Compose.{begun, accounted, arrived_more, OpenExited, open_sit, open_ready, open_step, open_on, ran_open, closed_ran}
 use Rattle.bk_simulation.proofs.MadeObjects.{Since, since_refl, since_cells}
 use Rattle.bk_simulation.proofs.ControlSteps.{closes}
 use Rattle.bk_simulation.proofs.Simulates.{Simulates, RanDid}
 use Rattle.bk_simulation.proofs.Loops.{scope_runs}
-use Rattle.bk_simulation.proofs.Lets.{open_lift, Lets, defined_rise, no_spots, let_run, let_values_after, SpotsAt, RisingSpots, AreVariables, spots_carried,
-  bind_run}
+use Rattle.bk_simulation.proofs.Lets.{open_lift, Lets, defined_rise, no_spots, let_run, let_values_after, SpotsAt, RisingSpots, AreVariables, spots_carried, bind_run}
 use Rattle.bk_simulation.proofs.Renamed.{keeps_both}
 
 -- what a declaration leaves, with what is laid behind it

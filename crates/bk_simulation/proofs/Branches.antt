@@ -1,8 +1,5 @@
 -- IF, UNLESS and TEST.
-use Rattle.bk_simulation.proofs.Words.{◌≡◌, ℕ, ◌+◌, ◌-◌, ◌*◌, ◌≤◌, Bool, true, false, not, ◌||◌, cond, List, ◌∷◌, refl, sym, ap, ◌∙◌, subst, arith, ◌++◌,
-  Option, Some, pos, State, Stmt, Label, Jump, Stack, GiveResult, Return, Finish, Expression, Action, Environment, past, past_action, Sought, Mode, forwards,
-  seeking, stands_in, same_place, at_place, World, done, with, either, Exit, break, loop, endcase, goto, result, return, status, leaves, ends, history,
-  Meanings, same_truth, where_truth, Adds, adds, stays, either_after, Status, bound_in, Content, content_of, from_label, go}
+use Rattle.bk_simulation.proofs.Words.{◌≡◌, ℕ, ◌+◌, ◌-◌, ◌*◌, ◌≤◌, Bool, true, false, not, ◌||◌, cond, List, ◌∷◌, refl, sym, ap, ◌∙◌, subst, arith, ◌++◌, Option, Some, pos, State, Stmt, Label, Jump, Stack, GiveResult, Return, Finish, Expression, Action, Environment, past, past_action, Sought, Mode, forwards, seeking, stands_in, same_place, at_place, World, done, with, either, Exit, break, loop, endcase, goto, result, return, status, leaves, ends, history, Meanings, same_truth, where_truth, Adds, adds, stays, either_after, Status, bound_in, Content, content_of, from_label, go}
 use Rattle.bk_simulation.proofs.Weights.{turns_of, turns_in}
 use Rattle.bk_simulation.proofs.Sought.{same_stands}
 use Rattle.bk_simulation.proofs.Laid.{Setting, LabelAt, IsJump, IsAct, Entered, goal_named, IsLabelHere, IsValue, PlaceOf}

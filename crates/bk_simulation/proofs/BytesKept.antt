@@ -1,13 +1,5 @@
 -- In a run of OCODE the bytes of words that are partly set are bytes.
-use Rattle.bk_simulation.proofs.Words.{◌≡◌, ℕ, ◌+◌, ◌-◌, ◌<◌, ◌^◌, ◌==◌, ◌%◌, nat_lt, Bool, true, false, List, [], ◌∷◌, ◌++◌, length, Option, Some, None, pos,
-  refl, arith, subst, if◌then◌else◌, option_map, option_map_or, Status, word_sum, byte_distance, byte_place, Content, Unset, Word, Variable, Temporary, Link,
-  Cell, Free, Held, content_of, kind_of, byte_in, with_byte, write, below, settle, Placed, Callables, Routine, Stop, Rdch, Wrch, Newline, Writes, Writen,
-  Writed, Getbyte, Putbyte, Writef, Control, Inside, Behind, At, State, Next, Goes, Ends, Wild, on, slot, on_number, operated, named_place, has_word,
-  from_label, jump, jump_with, case_label, can_be_called, tells, dyadic_word, routine_step, step_by, step_in, step_from, step, Rest, in_hand, resumed,
-  resumed_by, resumed_in, find_rest, label_rest, rests_of, Program, program_step, program_step_from, kept, variable_in, variable_at, byte_at, word_with_byte_at,
-  string_at, Stmt, Load, Monadic, Dyadic, LoadByte, Assign, AssignAt, AssignByte, Jump, JumpIf, Label, GiveResult, TakeResult, Stack, Store, Entry, Save,
-  CallFunction, CallRoutine, ReturnItem, Return, EndProcedure, Switch, Finish, DataLabel, DataNumber, DataAddress, Globals, on_number-holds, on_some-holds,
-  if-holds}
+use Rattle.bk_simulation.proofs.Words.{◌≡◌, ℕ, ◌+◌, ◌-◌, ◌<◌, ◌^◌, ◌==◌, ◌%◌, nat_lt, Bool, true, false, List, [], ◌∷◌, ◌++◌, length, Option, Some, None, pos, refl, arith, subst, if◌then◌else◌, option_map, option_map_or, Status, word_sum, byte_distance, byte_place, Content, Unset, Word, Variable, Temporary, Link, Cell, Free, Held, content_of, kind_of, byte_in, with_byte, write, below, settle, Placed, Callables, Routine, Stop, Rdch, Wrch, Newline, Writes, Writen, Writed, Getbyte, Putbyte, Writef, Control, Inside, Behind, At, State, Next, Goes, Ends, Wild, on, slot, on_number, operated, named_place, has_word, from_label, jump, jump_with, case_label, can_be_called, tells, dyadic_word, routine_step, step_by, step_in, step_from, step, Rest, in_hand, resumed, resumed_by, resumed_in, find_rest, label_rest, rests_of, Program, program_step, program_step_from, kept, variable_in, variable_at, byte_at, word_with_byte_at, string_at, Stmt, Load, Monadic, Dyadic, LoadByte, Assign, AssignAt, AssignByte, Jump, JumpIf, Label, GiveResult, TakeResult, Stack, Store, Entry, Save, CallFunction, CallRoutine, ReturnItem, Return, EndProcedure, Switch, Finish, DataLabel, DataNumber, DataAddress, Globals, on_number-holds, on_some-holds, if-holds}
 use Rattle.bk_ocode.specs.OcodeStep.{push, call, return, read_byte}
 use Rattle.bk_ocode.specs.declared.stmt.Monadic.TheVariants.{Contents, Negate, Not}
 use Rattle.bk_simulation.proofs.CellBytes.{IsByte, AreBytes, byte_is, four_are_bytes}

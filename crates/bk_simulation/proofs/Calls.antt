@@ -1,33 +1,22 @@
 -- Calls of procedures: their frame, their body, and back. A procedure is called: into its frame, through its body, and back.
-use Rattle.bk_simulation.proofs.Words.{◌≡◌, ℕ, ◌+◌, ◌-◌, ◌*◌, ◌≤◌, Bool, List, ◌∷◌, length, Option, Some, None, refl, ap, arith, slice_get, suc, ◌<◌, ◌^◌, ◌≢◌,
-  true, false, sym, ◌∙◌, subst, zero, Action, Expression, Expressions, Content, Word, content_of, Temporary, Link, Cell, Held, write, below, Inside, State,
-  Goes, At, in_hand, program_step, Stmt, ReturnItem, Return, Entry, Save, CallFunction, CallRoutine, Value, unset, World, Exit, return, Outcome, gives,
-  each_way, closing, forgetting, Done, calls_back, Environment, past, Body, command, expression, Procedure, procedure_of, history, After, Throughout, forwards,
-  scope_of, alone, Meanings, return_exit, run_body, bind_formals, values, adds, stays, each_way_after, with_after, FRAME_WORDS, max, nat_lt, [], ◌++◌, ⊎_elim,
-  inl, inr, append-nil, option_map_or, nat_tests, slice_get_within, Placed, Routine, Callables, slot, can_be_called, procedure, holds, making, calling,
-  formal_cells, enter, closing_after}
+use Rattle.bk_simulation.proofs.Words.{◌≡◌, ℕ, ◌+◌, ◌-◌, ◌*◌, ◌≤◌, Bool, List, ◌∷◌, length, Option, Some, None, refl, ap, arith, slice_get, suc, ◌<◌, ◌^◌, ◌≢◌, true, false, sym, ◌∙◌, subst, zero, Action, Expression, Expressions, Content, Word, content_of, Temporary, Link, Cell, Held, write, below, Inside, State, Goes, At, in_hand, program_step, Stmt, ReturnItem, Return, Entry, Save, CallFunction, CallRoutine, Value, unset, World, Exit, return, Outcome, gives, each_way, closing, forgetting, Done, calls_back, Environment, past, Body, command, expression, Procedure, procedure_of, history, After, Throughout, forwards, scope_of, alone, Meanings, return_exit, run_body, bind_formals, values, adds, stays, each_way_after, with_after, FRAME_WORDS, max, nat_lt, [], ◌++◌, ⊎_elim, inl, inr, append-nil, option_map_or, nat_tests, slice_get_within, Placed, Routine, Callables, slot, can_be_called, procedure, holds, making, calling, formal_cells, enter, closing_after}
 use Rattle.bk_meaning.specs.Lasting.{Program}
-use Rattle.bk_simulation.proofs.Memory.{Stands, BaseOf, Grown, Like, like_refl, Moved, Fits, moved_on, fits_above, moved_above, Alive, StandsCell, Store,
-  fits_more}
+use Rattle.bk_simulation.proofs.Memory.{Stands, BaseOf, Grown, Like, like_refl, Moved, Fits, moved_on, fits_above, moved_above, Alive, StandsCell, Store, fits_more}
 use Rattle.bk_simulation.proofs.Weights.{turns_of, turns_through}
 use Rattle.bk_simulation.proofs.Laid.{Setting, Scene, IsAlone, IsValue, CallAt, AreValues, count}
-use Rattle.bk_simulation.proofs.Frame.{Sit, start, Ready, Account, Ran, went, each_way_ran, so, ArrivedAt, there, Has, Out, NamedIn, store, state, FewFrames,
-  Comes, comes_on, one, with_ran, next, ready_next, here, go_on, falls_on, ran_from}
+use Rattle.bk_simulation.proofs.Frame.{Sit, start, Ready, Account, Ran, went, each_way_ran, so, ArrivedAt, there, Has, Out, NamedIn, store, state, FewFrames, Comes, comes_on, one, with_ran, next, ready_next, here, go_on, falls_on, ran_from}
 use Rattle.bk_simulation.proofs.Compose.{arrived_more, roomy, links_below, stay, arrived_on, ran_on, ran_more, above}
 use Rattle.bk_simulation.proofs.Simulates.{Simulates, for_scope, RanDid, for_value, for_values}
 use Rattle.bk_simulation.proofs.Operators.{value_run}
 use Rattle.std.specs.Prelude.{drop}
-use Rattle.bk_simulation.proofs.Moves.{Moves, back_in_function, back_in_routine, returning, return_item_step, return_step, function_moves, routine_moves,
-  entry_moves, save_moves, entering}
+use Rattle.bk_simulation.proofs.Moves.{Moves, back_in_function, back_in_routine, returning, return_item_step, return_step, function_moves, routine_moves, entry_moves, save_moves, entering}
 use Rattle.bk_simulation.proofs.FramesKept.{LinksFrom, links_kept, frames_called}
 use Rattle.bk_simulation.proofs.WrittenCells.{written, untouched, below_at, below_like}
 use Rattle.bk_simulation.proofs.BytesKept.{HasBytes, moves_bytes}
 use Rattle.bk_meaning.specs.Values.{Cell as Cell_of}
 use Rattle.bk_simulation.specs.Simulation.{IsCallAt}
-use Rattle.bk_simulation.proofs.MadeObjects.{make, grown_made, lying, Since, since_on, since_made, since_moved, closed_moved, closed_fits, make_fits, IsFree,
-  get_new}
-use Rattle.bk_simulation.proofs.NewFrames.{called_cells, saved_cells, called_argument, called_frame, called_back, called_links, saved_links, saved_same,
-  saved_like, saved_formal, formals_long, formal_is}
+use Rattle.bk_simulation.proofs.MadeObjects.{make, grown_made, lying, Since, since_on, since_made, since_moved, closed_moved, closed_fits, make_fits, IsFree, get_new}
+use Rattle.bk_simulation.proofs.NewFrames.{called_cells, saved_cells, called_argument, called_frame, called_back, called_links, saved_links, saved_same, saved_like, saved_formal, formals_long, formal_is}
 use Rattle.bk_simulation.proofs.Orders.{by_test}
 use Rattle.bk_tree.specs.Tree as t
 

@@ -1,7 +1,5 @@
 -- Constants of a regular tree are words where those of MANIFEST are.
-use Rattle.bk_simulation.proofs.Words.{◌≡◌, ℕ, zero, suc, ◌+◌, ◌-◌, ◌*◌, ◌<◌, ◌^◌, ◌%◌, ◌/◌, ◌==◌, nat_lt, ltb, ltb-false, ℤ, pos, negsuc, neg_ℤ, nat_abs,
-  int_div, int_rem, Bool, true, false, not, List, Option, Some, None, cond, refl, ap, ◌∙◌, subst, arith, if◌then◌else◌, bit_xor, truth, signed, word_of,
-  word_not, Operator, Expression, Bound, Binding, bound_in, named_word, prefix_word, infix_word, constant_word}
+use Rattle.bk_simulation.proofs.Words.{◌≡◌, ℕ, zero, suc, ◌+◌, ◌-◌, ◌*◌, ◌<◌, ◌^◌, ◌%◌, ◌/◌, ◌==◌, nat_lt, ltb, ltb-false, ℤ, pos, negsuc, neg_ℤ, nat_abs, int_div, int_rem, Bool, true, false, not, List, Option, Some, None, cond, refl, ap, ◌∙◌, subst, arith, if◌then◌else◌, bit_xor, truth, signed, word_of, word_not, Operator, Expression, Bound, Binding, bound_in, named_word, prefix_word, infix_word, constant_word}
 use Rattle.std.specs.Option.{option_and_then}
 use Rattle.std.proofs.lemmas.Nat.{or_lt, xor_lt, mod_below, and_le_l}
 use Rattle.std.proofs.Math.Nat.{div-le_self, mod-le}

@@ -1,15 +1,12 @@
 -- Steps that move control from where a run has come to: LAB, jumps, tests, results.
-use Rattle.bk_simulation.proofs.Words.{◌≡◌, ℕ, suc, ◌+◌, ◌-◌, ◌<◌, ◌≤◌, ◌==◌, Bool, true, false, not, List, ◌∷◌, length, Option, Some, None, refl, ap, ◌∙◌,
-  subst, arith, option_map_or, Content, Unset, Word, Cell, content_of, below, settle, Placed, Inside, State, Goal, from_label, Stmt, Jump, JumpIf, Label,
-  GiveResult, TakeResult, Stack, Value, truth_of_value, World, Exit, given, forgetting, judged}
+use Rattle.bk_simulation.proofs.Words.{◌≡◌, ℕ, suc, ◌+◌, ◌-◌, ◌<◌, ◌≤◌, ◌==◌, Bool, true, false, not, List, ◌∷◌, length, Option, Some, None, refl, ap, ◌∙◌, subst, arith, option_map_or, Content, Unset, Word, Cell, content_of, below, settle, Placed, Inside, State, Goal, from_label, Stmt, Jump, JumpIf, Label, GiveResult, TakeResult, Stack, Value, truth_of_value, World, Exit, given, forgetting, judged}
 use Rattle.std.specs.Prelude.{drop}
 use Rattle.bk_simulation.proofs.Moves.{Moves, label_moves, jump_moves, taken_moves, passed_moves, give_result_moves, take_result_moves, stack_moves}
 use Rattle.bk_simulation.proofs.Memory.{Like, like_on, Stands, Store, Moved}
 use Rattle.bk_simulation.proofs.WrittenCells.{below_like, settle_like}
 use Rattle.bk_simulation.proofs.OperatorWords.{judged_word}
 use Rattle.bk_simulation.proofs.Laid.{Setting, Scene, LabelAt}
-use Rattle.bk_simulation.proofs.Frame.{Sit, state, Ready, Account, paying, Ran, went, Arrived, ArrivedAt, OpenArrived, there, Has, GoesTo, Exited, Out, still,
-  by_option}
+use Rattle.bk_simulation.proofs.Frame.{Sit, state, Ready, Account, paying, Ran, went, Arrived, ArrivedAt, OpenArrived, there, Has, GoesTo, Exited, Out, still, by_option}
 use Rattle.bk_simulation.proofs.Compose.{accounted, stepped, links_below, arrived_more, arrived_paid, topped, closed_arrival}
 use Rattle.bk_simulation.proofs.Simulates.{where_to, HasTruth}
 

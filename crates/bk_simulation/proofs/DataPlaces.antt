@@ -1,6 +1,5 @@
 -- Statements with data have places of their own: where two have the same place, they are one.
-use Rattle.bk_simulation.proofs.Words.{◌≡◌, ℕ, zero, suc, ◌+◌, ◌<◌, List, [], ◌∷◌, ◌++◌, length, Some, None, refl, sym, ap, ◌∙◌, subst, arith, slice_get, drop,
-  true, length-append, FRAME_WORDS, Placement, Placed, Program, Datum, is_in, datum_of, data_of, all_data, IsWellPlaced, Stmt}
+use Rattle.bk_simulation.proofs.Words.{◌≡◌, ℕ, zero, suc, ◌+◌, ◌<◌, List, [], ◌∷◌, ◌++◌, length, Some, None, refl, sym, ap, ◌∙◌, subst, arith, slice_get, drop, true, length-append, FRAME_WORDS, Placement, Placed, Program, Datum, is_in, datum_of, data_of, all_data, IsWellPlaced, Stmt}
 use Rattle.bk_simulation.proofs.MadeObjects.{get_first}
 use Rattle.bk_simulation.proofs.HeldData.{get_behind}
 use Rattle.bk_simulation.proofs.LastingFits.{in_datum}

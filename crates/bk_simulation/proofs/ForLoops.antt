@@ -1,11 +1,5 @@
 -- FOR as a command.
-use Rattle.bk_simulation.proofs.Words.{◌≡◌, ◌≢◌, ℕ, zero, suc, ◌+◌, ◌-◌, ◌*◌, ◌<◌, ◌≤◌, ◌^◌, Bool, true, false, cond, List, [], ◌∷◌, ◌++◌, length, Some, None,
-  refl, sym, ap, ◌∙◌, subst, arith, ⊎_elim, not, nat_lt, pos, int_lt, bytes_eq, bytes_eq-Decides, FRAME_WORDS, Bound, Binding, bound_in, bind as bind_bound,
-  Content, Cell, Variable, Held, content_of, below, settle, Word, State, Local, Stmt, Label, Load, JumpIf, Jump, Store as Store_stmt, Stack, Number, Dyadic,
-  Assign, variable, test_of_step, goal, meant, Mention, Expression, Expressions, Action, Value, holds, number, address, Environment, cell, past, World, Outcome,
-  Done, done, given, with, either, making, Exit, break, loop, turn, history, Meanings, fetch, store as put_value, at, Sought, forwards, step_of, for_test,
-  for_rounds_of, for_loop, round_exit, for_step, relation, Adds, adds, with_after, given_after, closing_after, stays, each_way_after, turn_after, changes_after,
-  either_after, scope_of, alone, nat_tests, ints, signed, word_of, from_label, read, operate, judged}
+use Rattle.bk_simulation.proofs.Words.{◌≡◌, ◌≢◌, ℕ, zero, suc, ◌+◌, ◌-◌, ◌*◌, ◌<◌, ◌≤◌, ◌^◌, Bool, true, false, cond, List, [], ◌∷◌, ◌++◌, length, Some, None, refl, sym, ap, ◌∙◌, subst, arith, ⊎_elim, not, nat_lt, pos, int_lt, bytes_eq, bytes_eq-Decides, FRAME_WORDS, Bound, Binding, bound_in, bind as bind_bound, Content, Cell, Variable, Held, content_of, below, settle, Word, State, Local, Stmt, Label, Load, JumpIf, Jump, Store as Store_stmt, Stack, Number, Dyadic, Assign, variable, test_of_step, goal, meant, Mention, Expression, Expressions, Action, Value, holds, number, address, Environment, cell, past, World, Outcome, Done, done, given, with, either, making, Exit, break, loop, turn, history, Meanings, fetch, store as put_value, at, Sought, forwards, step_of, for_test, for_rounds_of, for_loop, round_exit, for_step, relation, Adds, adds, with_after, given_after, closing_after, stays, each_way_after, turn_after, changes_after, either_after, scope_of, alone, nat_tests, ints, signed, word_of, from_label, read, operate, judged}
 use Rattle.std.specs.Prelude.{slice_get}
 use Rattle.bk_scope.specs.declared.bound.Bound.TheVariants as b
 use Rattle.bk_tree.specs.Tree as t
@@ -16,12 +10,9 @@ use Rattle.bk_simulation.proofs.Memory.{BaseOf, Alive, Like, like_on, Stands, St
 use Rattle.bk_simulation.proofs.WrittenCells.{below_at, below_like, settle_like, settle_at, read_here}
 use Rattle.bk_simulation.proofs.MadeObjects.{make, make_fits, Since, since_refl, since_on, since_cells, since_made, grown_made, lying, since_moved, get_new}
 use Rattle.bk_simulation.proofs.Weights.{turns_of, turns_in, turns_through}
-use Rattle.bk_simulation.proofs.Laid.{Setting, Scene, in_loop, place_of, IsWord, IsAlone, KeepsLabels, IsLabelHere, LabelAt, IsAct, IsForLoop, behind_body,
-  NameAt}
-use Rattle.bk_simulation.proofs.Frame.{some_objects, Sit, store, state, start, named_grown, Ready, Account, further, went, ran_from, ArrivedAt, OpenArrived,
-  there, next, ready_next, each_way_ran, with_ran, so, Out, Has, by_option}
-use Rattle.bk_simulation.proofs.Compose.{begun, stay, links_like, with_objects, stepped, behind, arrived_more, comes_to, open_sit, open_ready, open_step,
-  open_on, ran_open, closed_ran, arrived_turn, turn_there, ran_more, outside, arrived_on, topped, above}
+use Rattle.bk_simulation.proofs.Laid.{Setting, Scene, in_loop, place_of, IsWord, IsAlone, KeepsLabels, IsLabelHere, LabelAt, IsAct, IsForLoop, behind_body, NameAt}
+use Rattle.bk_simulation.proofs.Frame.{some_objects, Sit, store, state, start, named_grown, Ready, Account, further, went, ran_from, ArrivedAt, OpenArrived, there, next, ready_next, each_way_ran, with_ran, so, Out, Has, by_option}
+use Rattle.bk_simulation.proofs.Compose.{begun, stay, links_like, with_objects, stepped, behind, arrived_more, comes_to, open_sit, open_ready, open_step, open_on, ran_open, closed_ran, arrived_turn, turn_there, ran_more, outside, arrived_on, topped, above}
 use Rattle.bk_simulation.proofs.Simulates.{Simulates, Limit, where_to, RanDid, for_scope, for_counts}
 use Rattle.bk_simulation.proofs.ControlSteps.{label_on, landed_on, closes, caught_at, tested}
 use Rattle.bk_simulation.proofs.Orders.{by_test}

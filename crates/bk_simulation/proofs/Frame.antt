@@ -1,8 +1,5 @@
 -- The frame of the simulation: where code runs and what it finds, counted runs, arrivals, exits and falls, and how parts compose.
-use Rattle.bk_simulation.proofs.Words.{◌≡◌, ℕ, zero, suc, ◌+◌, ◌-◌, ◌*◌, ◌<◌, ◌≤◌, ◌^◌, Bool, true, false, List, ◌∷◌, ◌++◌, length, Option, None, Some, refl, sym, ap, ◌∙◌, subst,
-  append_assoc, arith, ◌⊎◌, ⊎_elim, inl, inr, slice_get_within, FRAME_WORDS, bound_in, Content, Cell, content_of, Placed, Inside, State, Ends, from_label,
-  program_step, Stmt, Jump, Stack, Return, Goal, Value, Environment, Sense, constant, cell, sense_in, sense_of, World, Exit, break, loop, endcase, goto, result,
-  return, Outcome, gives, leaves, ends, undefined, going, each_way, with, turn, turn_of, history, Grows, After, Adds, adds, stays}
+use Rattle.bk_simulation.proofs.Words.{◌≡◌, ℕ, zero, suc, ◌+◌, ◌-◌, ◌*◌, ◌<◌, ◌≤◌, ◌^◌, Bool, true, false, List, ◌∷◌, ◌++◌, length, Option, None, Some, refl, sym, ap, ◌∙◌, subst, append_assoc, arith, ◌⊎◌, ⊎_elim, inl, inr, slice_get_within, FRAME_WORDS, bound_in, Content, Cell, content_of, Placed, Inside, State, Ends, from_label, program_step, Stmt, Jump, Stack, Return, Goal, Value, Environment, Sense, constant, cell, sense_in, sense_of, World, Exit, break, loop, endcase, goto, result, return, Outcome, gives, leaves, ends, undefined, going, each_way, with, turn, turn_of, history, Grows, After, Adds, adds, stays}
 use Rattle.bk_base.specs.declared.run_end.End.{End}
 use Rattle.bk_meaning.specs.World as world
 use Rattle.bk_simulation.specs.Simulation.{IsTooHigh, end_of}

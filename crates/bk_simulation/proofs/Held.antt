@@ -1,6 +1,5 @@
 -- What lasts, where a setting has its base: its words among the data of the program, and procedures where they are laid.
-use Rattle.bk_simulation.proofs.Words.{◌≡◌, ℕ, suc, ◌+◌, ◌≤◌, List, [], ◌∷◌, ◌++◌, length, Option, Some, None, slice_get, refl, subst, arith, Placed, Program,
-  Datum, all_data, Lasting, global_vector, words, code}
+use Rattle.bk_simulation.proofs.Words.{◌≡◌, ℕ, suc, ◌+◌, ◌≤◌, List, [], ◌∷◌, ◌++◌, length, Option, Some, None, slice_get, refl, subst, arith, Placed, Program, Datum, all_data, Lasting, global_vector, words, code}
 use Rattle.bk_simulation.proofs.Memory.{BaseOf}
 use Rattle.bk_simulation.proofs.Laid.{Setting}
 use Rattle.bk_simulation.proofs.Calls.{IsProcedure}

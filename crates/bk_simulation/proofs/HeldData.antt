@@ -1,7 +1,5 @@
 -- The words of strings and tables are data of the program.
-use Rattle.bk_simulation.proofs.Words.{◌≡◌, ℕ, zero, suc, ◌+◌, ◌<◌, ◌≤◌, ◌^◌, List, [], ◌∷◌, ◌++◌, length, map, Option, Some, None, slice_get, drop, refl, sym,
-  ap, ap₂, ◌∙◌, subst, arith, unwrap_or, signed, Expressions, Binding, constant_word, HaveWords, Placement, Placed, Program, Datum, item_words, datum_of,
-  data_of, all_data, Stmt, DataNumber, worth, words_named, Named, constant_words, FRAME_WORDS, IsWellPlaced}
+use Rattle.bk_simulation.proofs.Words.{◌≡◌, ℕ, zero, suc, ◌+◌, ◌<◌, ◌≤◌, ◌^◌, List, [], ◌∷◌, ◌++◌, length, map, Option, Some, None, slice_get, drop, refl, sym, ap, ap₂, ◌∙◌, subst, arith, unwrap_or, signed, Expressions, Binding, constant_word, HaveWords, Placement, Placed, Program, Datum, item_words, datum_of, data_of, all_data, Stmt, DataNumber, worth, words_named, Named, constant_words, FRAME_WORDS, IsWellPlaced}
 use Rattle.bk_tree.specs.Tree as t
 use Rattle.bk_simulation.specs.Regular.{RegularEach}
 use Rattle.bk_simulation.proofs.Operators.{same_number}

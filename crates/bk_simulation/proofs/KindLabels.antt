@@ -1,19 +1,12 @@
 -- Words and procedures that last have labels of their own, and stand in the section that sets them.
-use Rattle.bk_simulation.proofs.Words.{◌≡◌, ℕ, ◌+◌, ◌<◌, ◌≤◌, ◌==◌, Bool, true, false, cond, List, [], ◌∷◌, ◌++◌, length, map, Some, refl, sym, ap, subst,
-  arith, slice_get, drop, eqb-true, eq-eqb, ap₂, ◌∙◌, first_bytes, signed, Declarations, Expression, Expressions, Action, Actions, Declaration, Items,
-  Definition, Definitions, Starts, Bound, joined, Placement, Placed, item_words, AreFaultless, Stmt, DataLabel, DataNumber, DataAddress, Entry, Globals, Target,
-  named_tree, term_named, terms_named, condition_named, lvalue_named, lvalues_named, command_named, commands_named, statics_named, declarations_named,
-  declaration_named, definitions_named, definition_named, starts_named, Part, static_item, static_table, label_place, target_of, parts_of_declarations,
-  procedure_code, data_code, word_code, entries_of, scheme, scheme_is_accepted, targets_found, false≢true, map-append, Place, Role, Binding, Spot, Sound,
-  SoundEach, SoundDestinations, SoundDone, SoundDoneEach, SoundDeclared, SoundOneDeclared, SoundDefined, SoundOneDefined, SoundStarted}
+use Rattle.bk_simulation.proofs.Words.{◌≡◌, ℕ, ◌+◌, ◌<◌, ◌≤◌, ◌==◌, Bool, true, false, cond, List, [], ◌∷◌, ◌++◌, length, map, Some, refl, sym, ap, subst, arith, slice_get, drop, eqb-true, eq-eqb, ap₂, ◌∙◌, first_bytes, signed, Declarations, Expression, Expressions, Action, Actions, Declaration, Items, Definition, Definitions, Starts, Bound, joined, Placement, Placed, item_words, AreFaultless, Stmt, DataLabel, DataNumber, DataAddress, Entry, Globals, Target, named_tree, term_named, terms_named, condition_named, lvalue_named, lvalues_named, command_named, commands_named, statics_named, declarations_named, declaration_named, definitions_named, definition_named, starts_named, Part, static_item, static_table, label_place, target_of, parts_of_declarations, procedure_code, data_code, word_code, entries_of, scheme, scheme_is_accepted, targets_found, false≢true, map-append, Place, Role, Binding, Spot, Sound, SoundEach, SoundDestinations, SoundDone, SoundDoneEach, SoundDeclared, SoundOneDeclared, SoundDefined, SoundOneDefined, SoundStarted}
 use Rattle.bk_scope.specs.declared.bound.Bound.TheVariants as b
 use Rattle.bk_ocode.specs.Typing.{sets, times_set}
 use Rattle.bk_trans.specs.Program as term
 use Rattle.bk_trans.specs.Parts.{procedure}
 use Rattle.bk_trans.proofs.Once.{set_both, labels_are_set_once}
 use Rattle.bk_simulation.specs.Placement.{IsAccepted}
-use Rattle.bk_simulation.proofs.LastingKinds.{Kind, string, words_at, entry, Alike, kinds_of_declarations, alike_declarations, kinds, kinds_each, kinds_if,
-  kinds_at, kinds_onto, kinds_in, kinds_through, kinds_of_items, kinds_of_declaration, kinds_of_definitions, kinds_of_definition, kinds_of_starts}
+use Rattle.bk_simulation.proofs.LastingKinds.{Kind, string, words_at, entry, Alike, kinds_of_declarations, alike_declarations, kinds, kinds_each, kinds_if, kinds_at, kinds_onto, kinds_in, kinds_through, kinds_of_items, kinds_of_declaration, kinds_of_definitions, kinds_of_definition, kinds_of_starts}
 use Rattle.bk_simulation.proofs.Standing.{first_of}
 use Rattle.bk_simulation.proofs.StringCounts.{times, Form, a_string, some_words, a_procedure}
 use Rattle.bk_simulation.proofs.LaidExpressions.{DataIn, PartFound, FoundParts}
@@ -23,8 +16,7 @@ use Rattle.bk_tree.specs.declared.tree.Prefix.TheVariants as q
 use Rattle.bk_tree.specs.Tree as t
 use Rattle.bk_tree.specs.declared.tree.Sort.TheVariants as sort
 use Rattle.bk_scope.specs.Faults.{addressed, assigned}
-use Rattle.bk_simulation.proofs.StringForms.{forms_of_items, forms, forms_of_each, forms_of_action, forms_of_actions, forms_of_declaration,
-  forms_of_declarations, forms_of_definition, forms_of_definitions, forms_of_starts}
+use Rattle.bk_simulation.proofs.StringForms.{forms_of_items, forms, forms_of_each, forms_of_action, forms_of_actions, forms_of_declaration, forms_of_declarations, forms_of_definition, forms_of_definitions, forms_of_starts}
 
 -- ---- The kinds of what lasts of a sound section have the forms of its tree.
 
@@ -54,12 +46,14 @@ mutual
   values_forms (t.unary l q.Address e) n bs p s r cs u v h = same (address_forms e _ _ _ _ _ _ _ _ h.0 h.1)
   values_forms (t.unary l q.Not e) n bs p s r cs u v h = ((values_forms e _ _ _ _ _ _ _ _ h.1).0, (values_forms e _ _ _ _ _ _ _ _ h.1).1)
   values_forms (t.unary l _ e) n bs p s r cs u v h = same ((values_forms e _ _ _ _ _ _ _ _ h.1).0)
-  values_forms (t.binary l o.Both m a b) n bs p s r cs u v h =
-      (two _ _ _ _ (values_forms a _ _ _ _ _ _ _ _ h.0).0 (values_forms b _ _ _ _ _ _ _ _ h.1).0,
-      two _ _ _ _ (values_forms a _ _ _ _ _ _ _ _ h.0).1 (values_forms b _ _ _ _ _ _ _ _ h.1).1)
-  values_forms (t.binary l o.Either m a b) n bs p s r cs u v h =
-      (two _ _ _ _ (values_forms a _ _ _ _ _ _ _ _ h.0).0 (values_forms b _ _ _ _ _ _ _ _ h.1).0,
-      two _ _ _ _ (values_forms a _ _ _ _ _ _ _ _ h.0).1 (values_forms b _ _ _ _ _ _ _ _ h.1).1)
+  values_forms (t.binary l o.Both m a b) n bs p s r cs u v h = (
+    two _ _ _ _ (values_forms a _ _ _ _ _ _ _ _ h.0).0 (values_forms b _ _ _ _ _ _ _ _ h.1).0,
+    two _ _ _ _ (values_forms a _ _ _ _ _ _ _ _ h.0).1 (values_forms b _ _ _ _ _ _ _ _ h.1).1,
+  )
+  values_forms (t.binary l o.Either m a b) n bs p s r cs u v h = (
+    two _ _ _ _ (values_forms a _ _ _ _ _ _ _ _ h.0).0 (values_forms b _ _ _ _ _ _ _ _ h.1).0,
+    two _ _ _ _ (values_forms a _ _ _ _ _ _ _ _ h.0).1 (values_forms b _ _ _ _ _ _ _ _ h.1).1,
+  )
   values_forms (t.binary l f m a b) n bs p s r cs u v h = same (two _ _ _ _ (values_forms a _ _ _ _ _ _ _ _ h.0).0 (values_forms b _ _ _ _ _ _ _ _ h.1).0)
   values_forms (t.choice l m c a b) n bs p s r cs u v h =
       same (three _ _ _ _ _ _ (values_forms c _ _ _ _ _ _ _ _ h.0).1 (values_forms a _ _ _ _ _ _ _ _ h.1).0 (values_forms b _ _ _ _ _ _ _ _ h.2).0)

@@ -1,29 +1,17 @@
 -- A FOR is laid where the scheme puts it, where its body is. Each command of an accepted section is laid where the scheme puts it. That VALOFs and blocks
 -- with declarations are is taken here as an argument.
-use Rattle.bk_simulation.proofs.Words.{Placed, Environment, Goal, go, ◌≡◌, ℕ, ◌+◌, ◌<◌, ◌≤◌, ◌^◌, Bool, true, false, List, [], ◌∷◌, ◌++◌, length, Some, cond,
-  refl, sym, ap, ap₂, ◌∙◌, subst, arith, int_lt, pos, signed, Expression, Expressions, Action, Actions, Declaration, Declarations, Place, Binding, bind,
-  labels_of, deeper, labels_in_scope, SoundDone, HaveWords, Spot, next_depth, Local, Stmt, Number, Load, Dyadic, Assign, Jump, JumpIf, Label, Stack, Store,
-  labels, term_named, command_named, worth, step_named, parts, parts_in, value_code, command_code, test_of_step, Named, objects, objects_of_action, cell,
-  foreign, step_of, of_action, in_scope, Mention, Command, not, suc, false≢true, bytes_eq, size, bound_in, constant_word, SoundDoneEach, Sound, from_label,
-  GiveResult, CallRoutine, Switch, Return, Finish, TakeResult, labels_if, labels_onto, labels_in, meant, condition_named, lvalues_named, commands_named,
-  parts_if, parts_onto, parts_through, goal_in, jump_code, through_code, cases, default_in, label_or, valued, objects_of_each, objects_of_actions, constant_in,
-  the_label, the_case, the_default, same_place, stands_in, of_actions, of_expression}
+use Rattle.bk_simulation.proofs.Words.{Placed, Environment, Goal, go, ◌≡◌, ℕ, ◌+◌, ◌<◌, ◌≤◌, ◌^◌, Bool, true, false, List, [], ◌∷◌, ◌++◌, length, Some, cond, refl, sym, ap, ap₂, ◌∙◌, subst, arith, int_lt, pos, signed, Expression, Expressions, Action, Actions, Declaration, Declarations, Place, Binding, bind, labels_of, deeper, labels_in_scope, SoundDone, HaveWords, Spot, next_depth, Local, Stmt, Number, Load, Dyadic, Assign, Jump, JumpIf, Label, Stack, Store, labels, term_named, command_named, worth, step_named, parts, parts_in, value_code, command_code, test_of_step, Named, objects, objects_of_action, cell, foreign, step_of, of_action, in_scope, Mention, Command, not, suc, false≢true, bytes_eq, size, bound_in, constant_word, SoundDoneEach, Sound, from_label, GiveResult, CallRoutine, Switch, Return, Finish, TakeResult, labels_if, labels_onto, labels_in, meant, condition_named, lvalues_named, commands_named, parts_if, parts_onto, parts_through, goal_in, jump_code, through_code, cases, default_in, label_or, valued, objects_of_each, objects_of_actions, constant_in, the_label, the_case, the_default, same_place, stands_in, of_actions, of_expression}
 use Rattle.bk_simulation.specs.Regular.{RegularEach, RegularAction, RegularActions, Regular}
 use Rattle.bk_simulation.proofs.Weights.{turns_in, in_light, turns_through, of_light, turns_of}
 use Rattle.bk_simulation.proofs.Sought.{with_names}
-use Rattle.bk_simulation.proofs.Laid.{IsAct, Setting, Scene, in_loop, pushes, IsAlone, in_switch, jumps, count, IsLabelHere, AreActs, in_valof, Aim, ending,
-  IsCode}
+use Rattle.bk_simulation.proofs.Laid.{IsAct, Setting, Scene, in_loop, pushes, IsAlone, in_switch, jumps, count, IsLabelHere, AreActs, in_valof, Aim, ending, IsCode}
 use Rattle.bk_simulation.proofs.NamesBound.{bound_named}
 use Rattle.bk_simulation.proofs.NamesAgree.{Agree, own_cell, agree_bound}
 use Rattle.bk_simulation.proofs.LastingKinds.{kinds_in, kinds_through}
-use Rattle.bk_simulation.proofs.Standing.{there_in, bases_inside, StandsAt, passed, label_at, home, three_bases, bases_so, Lies, written, call_at, label_found,
-  Bases, no_bases, both_bases, lies_so}
+use Rattle.bk_simulation.proofs.Standing.{there_in, bases_inside, StandsAt, passed, label_at, home, three_bases, bases_so, Lies, written, call_at, label_found, Bases, no_bases, both_bases, lies_so}
 use Rattle.bk_simulation.proofs.Constants.{constant_small}
-use Rattle.bk_simulation.proofs.LaidAssigned.{Doing, finds_nothing, Done, words_labels, words_variable, alone_lies, doing_loop, doing_switch, Leads, finds_case,
-  finds_both, switch_chosen, switch_default, switch_none, DoneEach, leads_label, either_leads, same_letters, label_ahead, turns_lie, laid_froms, laid_stores}
-use Rattle.bk_simulation.proofs.LaidExpressions.{HasWords, FoundParts, found_front, found_back, around_deeper, constants_agree, InNames, joined_choice, known,
-  known_agree, names_of, stands_agree, joined_two, joined_three, coded, own_parts, own_kinds, plain_lies, role, level, Around, plain_code, plain_parts,
-  lies_ended, call_lies}
+use Rattle.bk_simulation.proofs.LaidAssigned.{Doing, finds_nothing, Done, words_labels, words_variable, alone_lies, doing_loop, doing_switch, Leads, finds_case, finds_both, switch_chosen, switch_default, switch_none, DoneEach, leads_label, either_leads, same_letters, label_ahead, turns_lie, laid_froms, laid_stores}
+use Rattle.bk_simulation.proofs.LaidExpressions.{HasWords, FoundParts, found_front, found_back, around_deeper, constants_agree, InNames, joined_choice, known, known_agree, names_of, stands_agree, joined_two, joined_three, coded, own_parts, own_kinds, plain_lies, role, level, Around, plain_code, plain_parts, lies_ended, call_lies}
 use Rattle.bk_simulation.proofs.LaidValues.{ValofsLie, laid_code, laid_each}
 use Rattle.bk_tree.specs.declared.tree.Simple.{Simple}
 use Rattle.bk_tree.specs.Tree as t

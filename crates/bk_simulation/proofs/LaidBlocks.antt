@@ -1,9 +1,5 @@
 -- Blocks with declarations are laid where the scheme puts them, and so each form is.
-use Rattle.bk_simulation.proofs.Words.{false, ◌≡◌, ℕ, zero, suc, ◌+◌, ◌≤◌, true, List, [], ◌∷◌, ◌++◌, length, refl, sym, ap, ◌∙◌, subst, arith, Actions, Declaration,
-  Declarations, Place, labels_of_each, Binding, labels_in_scope, scope_behind, place_behind_all, SoundDone, Spot, behind_declared, Stmt, Stack, Command,
-  Commands, behind_declarations, labels_of_declarations, command_named, commands_named, declarations_named, parts_in, parts_of_declarations, command_code,
-  through_code, declarations_code, Named, label, bind_each, labelled, objects_of_actions, objects_of_declarations, Sought, the_label, stands_in_one, Lasting,
-  of_action, of_actions, of_declarations, all_declared}
+use Rattle.bk_simulation.proofs.Words.{false, ◌≡◌, ℕ, zero, suc, ◌+◌, ◌≤◌, true, List, [], ◌∷◌, ◌++◌, length, refl, sym, ap, ◌∙◌, subst, arith, Actions, Declaration, Declarations, Place, labels_of_each, Binding, labels_in_scope, scope_behind, place_behind_all, SoundDone, Spot, behind_declared, Stmt, Stack, Command, Commands, behind_declarations, labels_of_declarations, command_named, commands_named, declarations_named, parts_in, parts_of_declarations, command_code, through_code, declarations_code, Named, label, bind_each, labelled, objects_of_actions, objects_of_declarations, Sought, the_label, stands_in_one, Lasting, of_action, of_actions, of_declarations, all_declared}
 use Rattle.bk_tree.specs.Tree as t
 use Rattle.bk_scope.specs.Places as place
 use Rattle.bk_scope.specs.Spots as spot

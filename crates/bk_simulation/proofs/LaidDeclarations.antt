@@ -1,16 +1,5 @@
 -- Declarations are laid where the scheme puts them, before what is laid in their scope: MANIFEST, STATIC, GLOBAL and LET.
-use Rattle.bk_simulation.proofs.Words.{◌≡◌, ℕ, ◌+◌, ◌<◌, ◌≤◌, Bool, true, false, List, [], ◌∷◌, ◌++◌, cond, refl, sym, ap, ◌∙◌, subst, arith, append_assoc,
-  length, Option, Some, None, le-ltb, suc, ◌^◌, slice_get, Sort, Items, Declaration, Declarations, Definitions, Expression, Starts, Place, Binding, bind_all,
-  bound_in, procedures_in_scope, manifests_in_scope, statics_in_scope, globals_in_scope, place_behind_defined, scope_behind_one, place_behind_one, scope_behind,
-  place_behind_all, labels_in_scope, SoundDeclared, SoundOneDeclared, SoundStarted, SoundDefined, HasWord, StaticsSound, Spot, procedures_in,
-  behind_one_declared, Stmt, Store, Address, Stack, DataLabel, DataNumber, behind_definitions, behind_declaration, behind_declarations, has_variables,
-  behind_starts, labels_of_declaration, labels, labels_of_procedure, labels_of_definition, definitions_named, declaration_named, declarations_named, meant,
-  term_named, worth, starts_named, definition_named, statics_named, parts_of_definitions, parts_of_declaration, parts_of_declarations, parts, parts_of_starts,
-  parts_of_definition, parts_of_items, outermost, definitions_code, declaration_code, declarations_code, value_code, starts_code, goal, goal_of,
-  Around as Surroundings, Named, Environment, bind_procedures, within_let, objects_of_definitions, objects_of_declaration, objects_of_declarations, objects,
-  objects_of_action, objects_of_starts, count, constant_in, Lasting, declared, all_declared, of_items, of_declaration, of_declarations, of_definitions,
-  of_starts, command, expression, words, static_words, VEC_NUMBER, constant_word, labels_of, with_formals, within, words_of_vector, words_of_start,
-  place_behind, deeper, Local, unwrap_or, signed, Placed, item_words, Goal}
+use Rattle.bk_simulation.proofs.Words.{◌≡◌, ℕ, ◌+◌, ◌<◌, ◌≤◌, Bool, true, false, List, [], ◌∷◌, ◌++◌, cond, refl, sym, ap, ◌∙◌, subst, arith, append_assoc, length, Option, Some, None, le-ltb, suc, ◌^◌, slice_get, Sort, Items, Declaration, Declarations, Definitions, Expression, Starts, Place, Binding, bind_all, bound_in, procedures_in_scope, manifests_in_scope, statics_in_scope, globals_in_scope, place_behind_defined, scope_behind_one, place_behind_one, scope_behind, place_behind_all, labels_in_scope, SoundDeclared, SoundOneDeclared, SoundStarted, SoundDefined, HasWord, StaticsSound, Spot, procedures_in, behind_one_declared, Stmt, Store, Address, Stack, DataLabel, DataNumber, behind_definitions, behind_declaration, behind_declarations, has_variables, behind_starts, labels_of_declaration, labels, labels_of_procedure, labels_of_definition, definitions_named, declaration_named, declarations_named, meant, term_named, worth, starts_named, definition_named, statics_named, parts_of_definitions, parts_of_declaration, parts_of_declarations, parts, parts_of_starts, parts_of_definition, parts_of_items, outermost, definitions_code, declaration_code, declarations_code, value_code, starts_code, goal, goal_of, Around as Surroundings, Named, Environment, bind_procedures, within_let, objects_of_definitions, objects_of_declaration, objects_of_declarations, objects, objects_of_action, objects_of_starts, count, constant_in, Lasting, declared, all_declared, of_items, of_declaration, of_declarations, of_definitions, of_starts, command, expression, words, static_words, VEC_NUMBER, constant_word, labels_of, with_formals, within, words_of_vector, words_of_start, place_behind, deeper, Local, unwrap_or, signed, Placed, item_words, Goal}
 use Rattle.bk_tree.specs.declared.tree.Sort.TheVariants as sort
 use Rattle.bk_tree.specs.Tree as t
 use Rattle.bk_scope.specs.Spots as spot
@@ -18,19 +7,14 @@ use Rattle.bk_trans.proofs.Bodies.{same_defined}
 use Rattle.bk_simulation.specs.Regular.{RegularItems, RegularDeclaration, RegularDeclarations, RegularDefinitions, RegularStarts, Regular}
 use Rattle.bk_simulation.proofs.Weights.{turns_one_declared, turns_declared, turns_defined, turns_started, of_light, in_light}
 use Rattle.bk_simulation.proofs.Sought.{with_names}
-use Rattle.bk_simulation.proofs.Laid.{Setting, Scene, Exits, Spot as Slot, NamedIn, defines_variables, variables_bound, Renames, IsOneDeclared, AreDeclared,
-  AreDefined, pushes, AreStarts}
+use Rattle.bk_simulation.proofs.Laid.{Setting, Scene, Exits, Spot as Slot, NamedIn, defines_variables, variables_bound, Renames, IsOneDeclared, AreDeclared, AreDefined, pushes, AreStarts}
 use Rattle.bk_simulation.proofs.NamesAgree.{Agree}
-use Rattle.bk_simulation.proofs.LastingKinds.{Kind, kinds_of_declaration, kinds_of_declarations, kinds_of_definitions, kinds_of_starts, words_at,
-  kinds_of_items}
-use Rattle.bk_simulation.proofs.Standing.{there_in, StandsAt, passed, written, Home, home, Bases, no_bases, bases_so, bases_of, bases_under, bases_some, Lies,
-  both_bases, new_base, then_bases}
-use Rattle.bk_simulation.proofs.LaidExpressions.{HasWords, FoundParts, found_front, found_back, Around, InNames, joined_two, around_deeper, constants_agree,
-  DataIn}
+use Rattle.bk_simulation.proofs.LastingKinds.{Kind, kinds_of_declaration, kinds_of_declarations, kinds_of_definitions, kinds_of_starts, words_at, kinds_of_items}
+use Rattle.bk_simulation.proofs.Standing.{there_in, StandsAt, passed, written, Home, home, Bases, no_bases, bases_so, bases_of, bases_under, bases_some, Lies, both_bases, new_base, then_bases}
+use Rattle.bk_simulation.proofs.LaidExpressions.{HasWords, FoundParts, found_front, found_back, Around, InNames, joined_two, around_deeper, constants_agree, DataIn}
 use Rattle.bk_simulation.proofs.LaidAssigned.{Doing}
 use Rattle.bk_simulation.proofs.BehindDeclarations.{words_manifests, words_statics, words_globals, words_procedures, next_declared}
-use Rattle.bk_simulation.proofs.Renamed.{static_places, AreBases, renames_manifests, renames_statics, renames_globals, AreProcedures, from_spots, spots_in,
-  variables_in, spots_words, renames_procedures, renames_variables, bound_agree, next_bound, foreign_spots, foreign_agree, foreign_mean, hidden_are, slots_of}
+use Rattle.bk_simulation.proofs.Renamed.{static_places, AreBases, renames_manifests, renames_statics, renames_globals, AreProcedures, from_spots, spots_in, variables_in, spots_words, renames_procedures, renames_variables, bound_agree, next_bound, foreign_spots, foreign_agree, foreign_mean, hidden_are, slots_of}
 use Rattle.bk_simulation.proofs.LetWords.{WordsBased, procedures_based}
 use Rattle.bk_simulation.proofs.LaidValues.{ValofsLie, laid_code}
 use Rattle.bk_simulation.proofs.LaidActs.{BlocksLie, laid_act}

@@ -1,11 +1,6 @@
 -- What the static side of each form needs: codes for a value or a jump, what stands around code, and how parts are laid together. A call is laid where the
 -- scheme puts it, where its arguments and what it calls are.
-use Rattle.bk_simulation.proofs.Words.{◌≡◌, ℕ, ◌+◌, ◌<◌, ◌≤◌, ◌^◌, Bool, true, false, ◌||◌, List, [], ◌∷◌, ◌++◌, Option, Some, None, cond, refl, sym, ap, ◌∙◌,
-  subst, arith, append_assoc, bytes_eq, FRAME_WORDS, Operator, Expression, Expressions, Action, Actions, Bound, Place, Role, Truth, Binding, bound_in,
-  named_word, prefix_word, infix_word, constant_word, deeper, Spot, next_depth, Placed, item_words, Stmt, JumpIf, Monadic, Dyadic, LoadByte, Target, term_named,
-  condition_named, Part, target_of, parts, parts_if, push, infix_code, truth_value, value_code, jump_code, procedure_code, data_code, AllFound, Named, Sense,
-  constant, label, Environment, sense_in, word_named, constant_in, Sought, the_label, the_case, the_default, same_place, is_label, stands_in, stands_in_one,
-  Lasting, size, Stack, labels, terms_named, parts_each, each_code, objects, objects_of_each, of_expression, of_each}
+use Rattle.bk_simulation.proofs.Words.{◌≡◌, ℕ, ◌+◌, ◌<◌, ◌≤◌, ◌^◌, Bool, true, false, ◌||◌, List, [], ◌∷◌, ◌++◌, Option, Some, None, cond, refl, sym, ap, ◌∙◌, subst, arith, append_assoc, bytes_eq, FRAME_WORDS, Operator, Expression, Expressions, Action, Actions, Bound, Place, Role, Truth, Binding, bound_in, named_word, prefix_word, infix_word, constant_word, deeper, Spot, next_depth, Placed, item_words, Stmt, JumpIf, Monadic, Dyadic, LoadByte, Target, term_named, condition_named, Part, target_of, parts, parts_if, push, infix_code, truth_value, value_code, jump_code, procedure_code, data_code, AllFound, Named, Sense, constant, label, Environment, sense_in, word_named, constant_in, Sought, the_label, the_case, the_default, same_place, is_label, stands_in, stands_in_one, Lasting, size, Stack, labels, terms_named, parts_each, each_code, objects, objects_of_each, of_expression, of_each}
 use Rattle.std.specs.Option.{option_and_then}
 use Rattle.bk_scope.specs.declared.role.Role.TheVariants.{Value}
 use Rattle.bk_simulation.proofs.Sought.{with_names}

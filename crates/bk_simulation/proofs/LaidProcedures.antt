@@ -1,10 +1,5 @@
 -- Procedures are laid where the scheme puts them, where their bodies are: their ENTRY and SAVE, and what their formals are.
-use Rattle.bk_simulation.proofs.Words.{◌≡◌, ℕ, suc, ◌+◌, ◌-◌, ◌<◌, ◌≤◌, ◌^◌, Bool, true, false, List, [], ◌∷◌, ◌++◌, length, Option, Some, None, cond, refl,
-  sym, ap, ap₂, ◌∙◌, subst, arith, slice_get, drop, false≢true, bytes_eq-Decides, bytes_eq, FRAME_WORDS, GLOBAL_NUMBER, first_bytes, Mention, Expression,
-  Action, Bound, Place, Binding, bound_in, bind, labels_of, with_formals, labels_in_scope, Callable, Spot, next_depth, depth_behind, Placed, global_place,
-  Program, IsWellPlaced, item_words, Stmt, Entry, Save, Return, ReturnItem, EndProcedure, DataLabel, DataAddress, Target, labels_of_procedure, meant,
-  term_named, command_named, variable, outermost, value_code, command_code, procedure_code, word_code, Named, Sense, Environment, cell, foreign, bind_each,
-  sense_in, global_named, letters, objects, objects_of_action, Body, command, expression, Lasting, code, of_action, of_expression, in_scope, bind_formals}
+use Rattle.bk_simulation.proofs.Words.{◌≡◌, ℕ, suc, ◌+◌, ◌-◌, ◌<◌, ◌≤◌, ◌^◌, Bool, true, false, List, [], ◌∷◌, ◌++◌, length, Option, Some, None, cond, refl, sym, ap, ap₂, ◌∙◌, subst, arith, slice_get, drop, false≢true, bytes_eq-Decides, bytes_eq, FRAME_WORDS, GLOBAL_NUMBER, first_bytes, Mention, Expression, Action, Bound, Place, Binding, bound_in, bind, labels_of, with_formals, labels_in_scope, Callable, Spot, next_depth, depth_behind, Placed, global_place, Program, IsWellPlaced, item_words, Stmt, Entry, Save, Return, ReturnItem, EndProcedure, DataLabel, DataAddress, Target, labels_of_procedure, meant, term_named, command_named, variable, outermost, value_code, command_code, procedure_code, word_code, Named, Sense, Environment, cell, foreign, bind_each, sense_in, global_named, letters, objects, objects_of_action, Body, command, expression, Lasting, code, of_action, of_expression, in_scope, bind_formals}
 use Rattle.bk_scope.specs.declared.bound.Bound.TheVariants as b
 use Rattle.bk_scope.specs.Places as place
 use Rattle.bk_scope.specs.Places.{kept}
@@ -22,8 +17,7 @@ use Rattle.bk_simulation.proofs.Held.{InData, HeldWord, HeldIn}
 use Rattle.bk_simulation.proofs.HeldData.{statement_data, statement_below}
 use Rattle.bk_simulation.proofs.NamesAgree.{Agree, SameGlobal, global_of, same_global, own_cell, agree_bound}
 use Rattle.bk_simulation.proofs.LastingKinds.{Kind, entry, kinds, kinds_in, bound_global, IsCalled, word_base}
-use Rattle.bk_simulation.proofs.Standing.{Follow, FollowWords, there_in, bases_inside, bases_of, StandsAt, first_of, passed, written, Home, home, Suits, Bases,
-  bases_so, Lies}
+use Rattle.bk_simulation.proofs.Standing.{Follow, FollowWords, there_in, bases_inside, bases_of, StandsAt, first_of, passed, written, Home, home, Suits, Bases, bases_so, Lies}
 use Rattle.bk_simulation.proofs.LaidExpressions.{DataIn, HasWords, Around, InNames, joined_two}
 use Rattle.bk_simulation.proofs.LaidAssigned.{Doing, Done, words_labels, names_bound, alone_lies}
 
@@ -112,9 +106,9 @@ body_lies : (pay section : ℕ) (own : Placed) (ts : List Target) (bs : List Bin
     → (d : ℕ) (name : List ℕ) (cs : List Stmt) (last : Stmt) (c rest : List Stmt)
     → c ≡ (Entry n name ∷ Save (length fs + 2) ∷ cs ++ (last ∷ EndProcedure ∷ [])) ++ rest → StandsAt own d c
     → (StandsAt own (length fs + 2) (cs ++ (last ∷ EndProcedure ∷ rest))
-      → Bases (record { section = section; own = own; targets = ts; bindings = bs; pay = pay }) i many ks (λ ns. of_body body (bind_each (letters fs) foreign (with_names ns i)))
-      (λ g. (ns : List Named) → Agree ns bs → (o : ℕ) → 0 < o
-        → IsBody g (scene_of section own ts (with_formals k 2 fs bs) k) (length fs + 2) (bind_formals o 0 (letters fs) (with_names ns i)) body (cs ++ (last ∷ EndProcedure ∷ rest))))
+    → Bases (record { section = section; own = own; targets = ts; bindings = bs; pay = pay }) i many ks (λ ns. of_body body (bind_each (letters fs) foreign (with_names ns i)))
+    (λ g. (ns : List Named) → Agree ns bs → (o : ℕ) → 0 < o
+    → IsBody g (scene_of section own ts (with_formals k 2 fs bs) k) (length fs + 2) (bind_formals o 0 (letters fs) (with_names ns i)) body (cs ++ (last ∷ EndProcedure ∷ rest))))
     → ProcedureLies pay section own ts bs k fs i many body n ks
 body_lies pay section own ts bs k fs i many body n ks d name cs last c rest e st laid =
     let depth = length fs + 2 in
@@ -156,9 +150,9 @@ routine_lies pay section own ts bs s i x fs a d n y c rest words m laid k st =
     let done = laid body (Return ∷ tail) doing refl st3 in
     let lies = alone_lies pay sc i a depth first named body (Return ∷ tail) (s.number + 2) s.number refl m done in
     bases_so h1 i _ _ _ (λ g z v ns u o above.
-          let e = agree_formals s.number 2 o 0 fs ns bs i above u in
-          let env = bind_formals o 0 (letters fs) (with_names ns i) in
-          (s.number + 2, tail, subst (λ j. IsAlone g sc depth (with_names env.names j) a (s.number + 2) body (Return ∷ tail)) (sym e.1) (v env.names e.0))) (bases_of h1 i _ _ (λ ns. of_action (in_scope a (bind_each (letters fs) foreign (with_names ns i))) a) _ (λ ns. ap (λ y. of_action (in_scope a y) a) (sym (names_bound (letters fs) foreign ns i))) (formals_around pay section own ts bs s.number fs i _ _ _ _ lies.objects_are)))
+    let e = agree_formals s.number 2 o 0 fs ns bs i above u in
+    let env = bind_formals o 0 (letters fs) (with_names ns i) in
+    (s.number + 2, tail, subst (λ j. IsAlone g sc depth (with_names env.names j) a (s.number + 2) body (Return ∷ tail)) (sym e.1) (v env.names e.0))) (bases_of h1 i _ _ (λ ns. of_action (in_scope a (bind_each (letters fs) foreign (with_names ns i))) a) _ (λ ns. ap (λ y. of_action (in_scope a y) a) (sym (names_bound (letters fs) foreign ns i))) (formals_around pay section own ts bs s.number fs i _ _ _ _ lies.objects_are)))
 
 pub function_lies : (pay : ℕ) (section : ℕ) (own : Placed) (ts : List Target) (bs : List Binding) (s : Spot) (i : ℕ) (x : List ℕ) (fs : List Mention) (e : Expression) (d n : ℕ) (y : Bound) (c rest : List Stmt) → HasWords bs
     → turns_of false e ≤ pay
@@ -183,10 +177,10 @@ function_lies pay section own ts bs s i x fs e d n y c rest words m laid k st =
     let around : Around sc p1 depth = record { same = refl; at = omega (arith, few); words = words_formals s.number 2 fs bs words } in
     let lies = laid body (ReturnItem ∷ tail) around refl st3 in
     bases_so h1 i _ _ _ (λ g z v ns u o above.
-          let q = agree_formals s.number 2 o 0 fs ns bs i above u in
-          let env = bind_formals o 0 (letters fs) (with_names ns i) in
-          let pays = z.pays in
-          (tail, subst (λ j. IsCode g sc depth (with_names env.names j) pushes e body (ReturnItem ∷ tail)) (sym q.1) (v env.names q.0), omega (arith, pays, m))) (bases_of h1 i _ _ (λ ns. of_expression (bind_each (letters fs) foreign (with_names ns i)) e) _ (λ ns. ap (λ y. of_expression y e) (sym (names_bound (letters fs) foreign ns i))) (formals_around pay section own ts bs s.number fs i _ _ _ _ lies.objects_are)))
+    let q = agree_formals s.number 2 o 0 fs ns bs i above u in
+    let env = bind_formals o 0 (letters fs) (with_names ns i) in
+    let pays = z.pays in
+    (tail, subst (λ j. IsCode g sc depth (with_names env.names j) pushes e body (ReturnItem ∷ tail)) (sym q.1) (v env.names q.0), omega (arith, pays, m))) (bases_of h1 i _ _ (λ ns. of_expression (bind_each (letters fs) foreign (with_names ns i)) e) _ (λ ns. ap (λ y. of_expression y e) (sym (names_bound (letters fs) foreign ns i))) (formals_around pay section own ts bs s.number fs i _ _ _ _ lies.objects_are)))
 
 letters_length : (fs : List Mention) → length (letters fs) ≡ length fs
 letters_length [] = refl

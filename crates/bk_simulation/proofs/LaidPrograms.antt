@@ -1,6 +1,5 @@
 -- A program whose procedures are laid, and that holds what lasts, does what its sections mean.
-use Rattle.bk_simulation.proofs.Words.{◌≡◌, ℕ, ◌<◌, ◌^◌, List, Some, refl, ap, ◌∙◌, ⊎_elim, FRAME_WORDS, Declarations, option_map, number_in, Program,
-  first_state, procedure, stop, program_of, means, meaning, IsWellPlaced}
+use Rattle.bk_simulation.proofs.Words.{◌≡◌, ℕ, ◌<◌, ◌^◌, List, Some, refl, ap, ◌∙◌, ⊎_elim, FRAME_WORDS, Declarations, option_map, number_in, Program, first_state, procedure, stop, program_of, means, meaning, IsWellPlaced}
 use Rattle.bk_ocode.specs.Library.{library_routine}
 use Rattle.bk_meaning.specs.Values as value
 use Rattle.bk_simulation.specs.Simulation.{DoesFrom, StartsSo, with_start, without_start}

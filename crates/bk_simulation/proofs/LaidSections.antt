@@ -1,9 +1,5 @@
 -- What lasts of a section lies where the scheme puts it.
-use Rattle.bk_simulation.proofs.Words.{true, ◌≡◌, ℕ, ◌+◌, ◌≤◌, false, List, [], ◌∷◌, ◌++◌, cond, refl, sym, ap, ◌∙◌, subst, arith, false≢true, Sort, Items,
-  Declaration, Declarations, Definitions, Place, Binding, scope_behind_one, place_behind_one, SoundDeclared, SoundOneDeclared, Spot, behind_one_declared,
-  beginning, joined, Placed, AreFaultless, Stmt, Store, Target, behind_definitions, behind_declaration, has_variables, labels_of_declaration, definitions_named,
-  declaration_named, declarations_named, named_tree, target_of, parts_of_declaration, parts_of_declarations, definitions_code, declaration_code, scheme,
-  scheme_is_accepted, targets_found, objects_of_declaration, objects_of_declarations, declared, of_declaration, of_declarations}
+use Rattle.bk_simulation.proofs.Words.{true, ◌≡◌, ℕ, ◌+◌, ◌≤◌, false, List, [], ◌∷◌, ◌++◌, cond, refl, sym, ap, ◌∙◌, subst, arith, false≢true, Sort, Items, Declaration, Declarations, Definitions, Place, Binding, scope_behind_one, place_behind_one, SoundDeclared, SoundOneDeclared, Spot, behind_one_declared, beginning, joined, Placed, AreFaultless, Stmt, Store, Target, behind_definitions, behind_declaration, has_variables, labels_of_declaration, definitions_named, declaration_named, declarations_named, named_tree, target_of, parts_of_declaration, parts_of_declarations, definitions_code, declaration_code, scheme, scheme_is_accepted, targets_found, objects_of_declaration, objects_of_declarations, declared, of_declaration, of_declarations}
 use Rattle.bk_tree.specs.declared.tree.Sort.TheVariants as sort
 use Rattle.bk_tree.specs.Tree as t
 use Rattle.bk_scope.specs.Places as place

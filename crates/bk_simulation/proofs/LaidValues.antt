@@ -1,11 +1,6 @@
 -- Each expression of an accepted section is laid where the scheme puts it, for a value and for a jump. That VALOFs are is taken here as
 -- an argument.
-use Rattle.bk_simulation.proofs.Words.{Operator, Binding, Environment, Lasting, past, ◌≡◌, ℕ, ◌+◌, ◌≤◌, true, false, not, List, [], ◌∷◌, ◌++◌, length, map,
-  Bool, Some, refl, sym, ◌∙◌, subst, arith, slice_get, false≢true, first_bytes, signed, line_of, size, Expression, Expressions, Action, Place, Role, bound_in,
-  parenthesised, deeper, Sound, SoundEach, HaveWords, Spot, Datum, item_words, Static, Stmt, DataLabel, DataNumber, Number, Query, Address, Text, Monadic,
-  Dyadic, Assign, AssignAt, AssignByte, Label, GiveResult, TakeResult, CallFunction, labels, labels_if, meant, term_named, terms_named, condition_named,
-  lvalue_named, words_named, static_table, parts, parts_each, parts_if, parts_at, push, infix_code, truth_value, value_code, each_code, jump_code, address_code,
-  store_code, variable, data_code, Named, objects, objects_of_each, objects_of_action, of_expression, of_each, constant_words, text_words}
+use Rattle.bk_simulation.proofs.Words.{Operator, Binding, Environment, Lasting, past, ◌≡◌, ℕ, ◌+◌, ◌≤◌, true, false, not, List, [], ◌∷◌, ◌++◌, length, map, Bool, Some, refl, sym, ◌∙◌, subst, arith, slice_get, false≢true, first_bytes, signed, line_of, size, Expression, Expressions, Action, Place, Role, bound_in, parenthesised, deeper, Sound, SoundEach, HaveWords, Spot, Datum, item_words, Static, Stmt, DataLabel, DataNumber, Number, Query, Address, Text, Monadic, Dyadic, Assign, AssignAt, AssignByte, Label, GiveResult, TakeResult, CallFunction, labels, labels_if, meant, term_named, terms_named, condition_named, lvalue_named, words_named, static_table, parts, parts_each, parts_if, parts_at, push, infix_code, truth_value, value_code, each_code, jump_code, address_code, store_code, variable, data_code, Named, objects, objects_of_each, objects_of_action, of_expression, of_each, constant_words, text_words}
 use Rattle.bk_tree.specs.declared.tree.Operator.TheVariants as o
 use Rattle.bk_tree.specs.declared.tree.Prefix.TheVariants as q
 use Rattle.bk_tree.specs.Tree as t
@@ -23,11 +18,8 @@ use Rattle.bk_simulation.proofs.Held.{InData}
 use Rattle.bk_simulation.proofs.HeldData.{statement_data, statement_below, items_are, words_small, words_agree}
 use Rattle.bk_simulation.proofs.NamesAgree.{Agree}
 use Rattle.bk_simulation.proofs.LastingKinds.{Kind, string, words_at, kinds_each, kinds_at}
-use Rattle.bk_simulation.proofs.Standing.{StandsAt, passed, at_depth, written, label_at, call_at, home, no_bases, new_base, both_bases, three_bases, bases_so,
-  Lies, lies_behind}
-use Rattle.bk_simulation.proofs.LaidExpressions.{coded, own_parts, own_kinds, plain_lies, role, level, HasWords, FoundParts, found_front, found_back, DataIn,
-  Around, around_deeper, InNames, plain_code, plain_parts, lies_ended, leaf_on, leaf_lies, pushed_depth, truth_depth, infix_on, joined_two, joined_three,
-  joined_choice, call_lies}
+use Rattle.bk_simulation.proofs.Standing.{StandsAt, passed, at_depth, written, label_at, call_at, home, no_bases, new_base, both_bases, three_bases, bases_so, Lies, lies_behind}
+use Rattle.bk_simulation.proofs.LaidExpressions.{coded, own_parts, own_kinds, plain_lies, role, level, HasWords, FoundParts, found_front, found_back, DataIn, Around, around_deeper, InNames, plain_code, plain_parts, lies_ended, leaf_on, leaf_lies, pushed_depth, truth_depth, infix_on, joined_two, joined_three, joined_choice, call_lies}
 
 -- the words of a TABLE
 table_held : (g : Setting) (sc : Scene) (n l : ℕ) (es : Expressions) (i : ℕ) (ns : List Named) → Agree ns sc.bindings → HasWords sc.bindings → RegularEach es → HaveWords sc.bindings es → DataIn sc.own (data_code (static_table n (words_named sc.bindings es)))

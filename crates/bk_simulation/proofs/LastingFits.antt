@@ -1,12 +1,5 @@
 -- The store before START is called fits what lasts.
-use Rattle.bk_simulation.proofs.Words.{◌≡◌, ◌≢◌, ℕ, zero, suc, ◌+◌, ◌-◌, ◌<◌, ◌≤◌, ◌==◌, nat_le, nat_lt, Bool, true, false, ◌&&◌, List, [], ◌∷◌, ◌++◌, length,
-  map, fold, replicate, Option, Some, None, refl, sym, ap, ◌∙◌, subst, if◌then◌else◌, arith, ◌⊎◌, ⊎_elim, inl, inr, slice_get, eq-eqb, ne_eqb, length-append,
-  slice_set, option_and_then, option_map_or, nat_tests, length-map, slice_get_within, FRAME_WORDS, GLOBAL_NUMBER, Unset, Word, Variable, Link, Cell, Free, Held,
-  content_of, Content, global_place, Placed, Placement, Program, Datum, is_in, datum_word, GlobalSetting, entry_setting, stmt_globals, globals_of, all_data,
-  all_globals, unset_cells, with_global, first_cells, chosen-true, chosen-false, number, address, procedure, routine, unset, holds, places, value_in, stop,
-  rdch, wrch, newline, writes, writen, writed, getbyte, putbyte, writef, Object, living, cells_at, Procedure, Lasting, global_vector, words, code,
-  library_cells, set_global, procedures_set, global_cells, entry_cells, object_of, objects_from, first_memory, IsWellPlaced, AreFaultless, GlobalEntry, Stmt,
-  Globals}
+use Rattle.bk_simulation.proofs.Words.{◌≡◌, ◌≢◌, ℕ, zero, suc, ◌+◌, ◌-◌, ◌<◌, ◌≤◌, ◌==◌, nat_le, nat_lt, Bool, true, false, ◌&&◌, List, [], ◌∷◌, ◌++◌, length, map, fold, replicate, Option, Some, None, refl, sym, ap, ◌∙◌, subst, if◌then◌else◌, arith, ◌⊎◌, ⊎_elim, inl, inr, slice_get, eq-eqb, ne_eqb, length-append, slice_set, option_and_then, option_map_or, nat_tests, length-map, slice_get_within, FRAME_WORDS, GLOBAL_NUMBER, Unset, Word, Variable, Link, Cell, Free, Held, content_of, Content, global_place, Placed, Placement, Program, Datum, is_in, datum_word, GlobalSetting, entry_setting, stmt_globals, globals_of, all_data, all_globals, unset_cells, with_global, first_cells, chosen-true, chosen-false, number, address, procedure, routine, unset, holds, places, value_in, stop, rdch, wrch, newline, writes, writen, writed, getbyte, putbyte, writef, Object, living, cells_at, Procedure, Lasting, global_vector, words, code, library_cells, set_global, procedures_set, global_cells, entry_cells, object_of, objects_from, first_memory, IsWellPlaced, AreFaultless, GlobalEntry, Stmt, Globals}
 use Rattle.bk_ocode.specs.Library.{library_globals}
 use Rattle.bk_ocode.specs.ProgramStart.{is_global}
 use Rattle.bk_meaning.specs.Values as value

@@ -1,15 +1,8 @@
 -- What lasts of a part of the named tree, in the order of the source: strings, words behind a label, and procedures by their first label.
 -- Each object of the meaning is one of these.
-use Rattle.bk_simulation.proofs.Words.{◌≡◌, ℕ, ◌+◌, List, [], ◌∷◌, ◌++◌, Option, Some, None, arith, refl, sym, ap, ap₂, ◌∙◌, append_assoc, Bound, joined,
-  Placed, StaticItem, Term, Terms, Condition, Lvalue, Lvalues, Command, Commands, text, parens, unary, binary, choice, apply, valof, table, none, more, fails,
-  both, contents, subscript, byte, inside, no_lvalues, onto, assign, case_of, default, when, test, while, switch, block, repeat, repeat_while, no_commands,
-  also, lets, no_declarations, function, variables, no_definitions, define, no_starts, value, vector, labels, labels_if, labels_at, labels_onto, labels_in,
-  labels_of_declarations, labels_of_declaration, labels_of_definition, labels_of_procedure, Part, static_item, static_table, label_place, parts_of_items, parts,
-  parts_each, parts_if, parts_at, parts_onto, parts_from, parts_in, parts_through, parts_of_declarations, parts_of_declaration, parts_of_definitions,
-  parts_of_definition, parts_of_starts, behind_definition, behind_declaration, behind_declarations, Lasting, words, code}
+use Rattle.bk_simulation.proofs.Words.{◌≡◌, ℕ, ◌+◌, List, [], ◌∷◌, ◌++◌, Option, Some, None, arith, refl, sym, ap, ap₂, ◌∙◌, append_assoc, Bound, joined, Placed, StaticItem, Term, Terms, Condition, Lvalue, Lvalues, Command, Commands, text, parens, unary, binary, choice, apply, valof, table, none, more, fails, both, contents, subscript, byte, inside, no_lvalues, onto, assign, case_of, default, when, test, while, switch, block, repeat, repeat_while, no_commands, also, lets, no_declarations, function, variables, no_definitions, define, no_starts, value, vector, labels, labels_if, labels_at, labels_onto, labels_in, labels_of_declarations, labels_of_declaration, labels_of_definition, labels_of_procedure, Part, static_item, static_table, label_place, parts_of_items, parts, parts_each, parts_if, parts_at, parts_onto, parts_from, parts_in, parts_through, parts_of_declarations, parts_of_declaration, parts_of_definitions, parts_of_definition, parts_of_starts, behind_definition, behind_declaration, behind_declarations, Lasting, words, code}
 use Rattle.bk_scope.specs.declared.bound.Bound.TheVariants as b
-use Rattle.bk_trans.specs.Program.{Declaration, Declarations, Definition, Definitions, Starts, address, holds, within, either, call, label, for_loop, result,
-  statics, declare, routine}
+use Rattle.bk_trans.specs.Program.{Declaration, Declarations, Definition, Definitions, Starts, address, holds, within, either, call, label, for_loop, result, statics, declare, routine}
 use Rattle.bk_trans.specs.Parts.{procedure}
 use Rattle.bk_trans.specs.Depths.{count}
 

@@ -1,8 +1,5 @@
 -- The words of a LET's procedures: where their code and data are found, each has its place where its number leads.
-use Rattle.bk_simulation.proofs.Words.{◌≡◌, inl, inr, ℕ, ◌+◌, ◌<◌, ◌≤◌, Bool, false, List, Some, cond, sym, ap, ◌∙◌, subst, arith, Definitions, Place, Binding,
-  bound_in, bind, is_global, place_behind, procedure_in_scope, procedures_in_scope, Spot, Placed, Goal, Target, behind_definition, labels_of_definition,
-  labels_of_procedure, meant, definition_named, definitions_named, parts_of_definition, parts_of_definitions, target_of_word, goal, goal_of, AllFound,
-  AmongProcedures, Looked, look_procedure, objects, objects_of_action, objects_of_starts}
+use Rattle.bk_simulation.proofs.Words.{◌≡◌, inl, inr, ℕ, ◌+◌, ◌<◌, ◌≤◌, Bool, false, List, Some, cond, sym, ap, ◌∙◌, subst, arith, Definitions, Place, Binding, bound_in, bind, is_global, place_behind, procedure_in_scope, procedures_in_scope, Spot, Placed, Goal, Target, behind_definition, labels_of_definition, labels_of_procedure, meant, definition_named, definitions_named, parts_of_definition, parts_of_definitions, target_of_word, goal, goal_of, AllFound, AmongProcedures, Looked, look_procedure, objects, objects_of_action, objects_of_starts}
 use Rattle.bk_tree.specs.Tree as t
 use Rattle.bk_scope.specs.declared.bound.Bound.TheVariants as b
 use Rattle.bk_scope.specs.Spots as spot

@@ -1,22 +1,15 @@
 -- The values of a LET's variables, definition by definition.
-use Rattle.bk_simulation.proofs.Words.{◌≡◌, ℕ, zero, suc, ◌+◌, ◌-◌, ◌*◌, ◌<◌, ◌≤◌, Bool, true, false, List, [], ◌∷◌, ◌++◌, Some, sym, ap, ◌∙◌, subst, arith,
-  slice_get, ◌≢◌, length, refl, ⊎_elim, length-append, ◌%◌, ◌^◌, Option, None, FRAME_WORDS, Definitions, Starts, Binding, State, Placed, Inside, Stmt, World,
-  Outcome, gives, making, Environment, past, past_definition, letters, cell, constant_in, history, After, Throughout, Meanings, adds, stays, with_after,
-  turn_after, Content, Variable, Cell, Held, content_of, Word, Temporary, write, below, settle, Value, holds, address, unset, living, made, Local, Stack,
-  Address}
+use Rattle.bk_simulation.proofs.Words.{◌≡◌, ℕ, zero, suc, ◌+◌, ◌-◌, ◌*◌, ◌<◌, ◌≤◌, Bool, true, false, List, [], ◌∷◌, ◌++◌, Some, sym, ap, ◌∙◌, subst, arith, slice_get, ◌≢◌, length, refl, ⊎_elim, length-append, ◌%◌, ◌^◌, Option, None, FRAME_WORDS, Definitions, Starts, Binding, State, Placed, Inside, Stmt, World, Outcome, gives, making, Environment, past, past_definition, letters, cell, constant_in, history, After, Throughout, Meanings, adds, stays, with_after, turn_after, Content, Variable, Cell, Held, content_of, Word, Temporary, write, below, settle, Value, holds, address, unset, living, made, Local, Stack, Address}
 use Rattle.bk_tree.specs.Tree as t
 use Rattle.bk_meaning.specs.Environment.{bind}
 use Rattle.bk_meaning.specs.Blocks.{Start, paired, starts, let_values, bind_variables, vec_cells, make_vec}
 use Rattle.bk_simulation.proofs.Memory.{Store, BaseOf, Alive, limit, Codes, Stands, StandsCell, Grown, Fits, stands_grown, Like, like_refl, like_on, fits_more}
 use Rattle.bk_simulation.proofs.Weights.{turns_started, turns_defined, turns_of}
 use Rattle.bk_simulation.proofs.Laid.{Setting, Scene, NamedIn, Spot, spots_of, defines_variables, AreStarts, AreDefined, KeepsLabels, variables_bound, AreAt}
-use Rattle.bk_simulation.proofs.Frame.{Sit, Ready, Account, Ran, went, so, with_ran, OpenArrived, store_at, named_grown, state, further, ran_same, Arrived,
-  named_again}
+use Rattle.bk_simulation.proofs.Frame.{Sit, Ready, Account, Ran, went, so, with_ran, OpenArrived, store_at, named_grown, state, further, ran_same, Arrived, named_again}
 use Rattle.bk_simulation.proofs.Simulates.{Simulates}
-use Rattle.bk_simulation.proofs.Compose.{arrived_more, out_more, turn_there, OpenExited, open_ticked, with_objects, open_sit, open_ready, open_wider, open_step,
-  open_on, ran_open}
-use Rattle.bk_simulation.proofs.MadeObjects.{Since, since_refl, since_on, IsFree, make, make_fits_in, grown_made, lying, since_cells, since_moved, since_made,
-  make_fits, get_new}
+use Rattle.bk_simulation.proofs.Compose.{arrived_more, out_more, turn_there, OpenExited, open_ticked, with_objects, open_sit, open_ready, open_wider, open_step, open_on, ran_open}
+use Rattle.bk_simulation.proofs.MadeObjects.{Since, since_refl, since_on, IsFree, make, make_fits_in, grown_made, lying, since_cells, since_moved, since_made, make_fits, get_new}
 use Rattle.bk_meaning.specs.Values.{Cell as Cell_of}
 use Rattle.std.specs.Prelude.{replicate}
 use Rattle.bk_simulation.proofs.Moves.{Moves, stack_moves, address_moves}

@@ -1,10 +1,5 @@
 -- The routines of the library are called: each does its step, and goes back.
-use Rattle.bk_simulation.proofs.Words.{◌≡◌, ◌≢◌, ℕ, suc, ◌+◌, ◌-◌, ◌*◌, ◌<◌, ◌≤◌, ◌%◌, ◌^◌, ◌==◌, nat_lt, Bool, true, false, List, [], ◌∷◌, length, Option,
-  Some, None, pos, refl, sym, ap, ◌∙◌, subst, if◌then◌else◌, arith, slice_get, zero, ◌++◌, option_and_then, option_map, option_map_or, nat_tests, Status,
-  signed, word_sum, byte_distance, byte_place, Content, Word, Variable, Cell, Held, content_of, with_byte, write, number_in, variable_in, variable_at, byte_at,
-  word_with_byte_at, string_at, bytes_from, At, State, Ends, Wild, slot, on_number, on_some, tells, routine_step, step, step_from, Program, resumed_in, in_hand,
-  program_step, program_step_from, Stmt, Value, number, address, procedure, routine, unset, read_byte, write_byte, World, Outcome, gives, given, with, changes,
-  writing, remembering, calls_back}
+use Rattle.bk_simulation.proofs.Words.{◌≡◌, ◌≢◌, ℕ, suc, ◌+◌, ◌-◌, ◌*◌, ◌<◌, ◌≤◌, ◌%◌, ◌^◌, ◌==◌, nat_lt, Bool, true, false, List, [], ◌∷◌, length, Option, Some, None, pos, refl, sym, ap, ◌∙◌, subst, if◌then◌else◌, arith, slice_get, zero, ◌++◌, option_and_then, option_map, option_map_or, nat_tests, Status, signed, word_sum, byte_distance, byte_place, Content, Word, Variable, Cell, Held, content_of, with_byte, write, number_in, variable_in, variable_at, byte_at, word_with_byte_at, string_at, bytes_from, At, State, Ends, Wild, slot, on_number, on_some, tells, routine_step, step, step_from, Program, resumed_in, in_hand, program_step, program_step_from, Stmt, Value, number, address, procedure, routine, unset, read_byte, write_byte, World, Outcome, gives, given, with, changes, writing, remembering, calls_back}
 use Rattle.std.proofs.lemmas.Bool.{eqb-true}
 use Rattle.bk_base.specs.Decimal.{spelling}
 use Rattle.bk_base.specs.Format.{aligned, parts, FormatPart}

@@ -1,8 +1,5 @@
 -- What lasts of a program lies apart: two objects with words have different bases.
-use Rattle.bk_simulation.proofs.Words.{Stmt, ◌≡◌, ◌⊎◌, inl, inr, ⊎_elim, ℕ, zero, suc, ◌+◌, ◌<◌, ◌≤◌, List, [], ◌∷◌, ◌++◌, length, map, Option, Some, None, slice_get,
-  drop, cond, Bool, eq-eqb, refl, sym, ap, ◌∙◌, subst, arith, FRAME_WORDS, string_words, Declarations, beginning, joined, Free, Placed, Inside, At, State,
-  Program, item_words, IsWellPlaced, Text, Entry, DataLabel, named_tree, scheme, objects_of_declarations, Lasting, global_vector, words, code, of_declarations,
-  of_sections}
+use Rattle.bk_simulation.proofs.Words.{Stmt, ◌≡◌, ◌⊎◌, inl, inr, ⊎_elim, ℕ, zero, suc, ◌+◌, ◌<◌, ◌≤◌, List, [], ◌∷◌, ◌++◌, length, map, Option, Some, None, slice_get, drop, cond, Bool, eq-eqb, refl, sym, ap, ◌∙◌, subst, arith, FRAME_WORDS, string_words, Declarations, beginning, joined, Free, Placed, Inside, At, State, Program, item_words, IsWellPlaced, Text, Entry, DataLabel, named_tree, scheme, objects_of_declarations, Lasting, global_vector, words, code, of_declarations, of_sections}
 use Rattle.bk_scope.specs.Places.{outermost}
 use Rattle.bk_scope.specs.declared.bound.Bound.TheVariants as b
 use Rattle.bk_scope.proofs.Soundness.{section_sound}

@@ -1,18 +1,10 @@
 -- Scopes: commands that own their labels; and VALOF. WHILE, UNTIL, REPEAT, REPEATWHILE and REPEATUNTIL. SWITCHON.
-use Rattle.bk_simulation.proofs.Words.{◌≡◌, ℕ, ◌+◌, ◌≤◌, Bool, true, false, List, refl, sym, ◌∙◌, subst, arith, ◌-◌, ◌*◌, ◌∷◌, Option, Some, bound_in, State,
-  Stmt, meant, goal_in, Actions, Action, Environment, labelled, Sought, the_label, Mode, seeking, stands_in_one, forwards, World, Exit, goto, leaves, either,
-  break, result, return, history, Meanings, landing, scope_of, alone, Adds, adds, stays, either_after, Content, Unset, option_map_or, Label, TakeResult, Around,
-  Value, result_exit, result_of, cond, suc, Jump, goal, Expression, past, past_action, stands_in, loop, Outcome, Done, done, turn, round_exit, again,
-  same_truth, where_truth, rounds_of, with_after, turn_after, each_way_after, None, ap, below, from_label, case_label, Case, Switch, number, the_case,
-  the_default, is_label, endcase, with, case_exit, ended_case, choose_case}
+use Rattle.bk_simulation.proofs.Words.{◌≡◌, ℕ, ◌+◌, ◌≤◌, Bool, true, false, List, refl, sym, ◌∙◌, subst, arith, ◌-◌, ◌*◌, ◌∷◌, Option, Some, bound_in, State, Stmt, meant, goal_in, Actions, Action, Environment, labelled, Sought, the_label, Mode, seeking, stands_in_one, forwards, World, Exit, goto, leaves, either, break, result, return, history, Meanings, landing, scope_of, alone, Adds, adds, stays, either_after, Content, Unset, option_map_or, Label, TakeResult, Around, Value, result_exit, result_of, cond, suc, Jump, goal, Expression, past, past_action, stands_in, loop, Outcome, Done, done, turn, round_exit, again, same_truth, where_truth, rounds_of, with_after, turn_after, each_way_after, None, ap, below, from_label, case_label, Case, Switch, number, the_case, the_default, is_label, endcase, with, case_exit, ended_case, choose_case}
 use Rattle.bk_simulation.proofs.Weights.{turns_through, turns_in, turns_of}
 use Rattle.bk_simulation.proofs.Sought.{label_stands_one, same_stands}
-use Rattle.bk_simulation.proofs.Laid.{Setting, Scene, owning, goal_named, IsLabelHere, IsScopeAt, EnteredAny, Exits, in_valof, LabelAt, IsScope, in_loop,
-  IsJump, IsAct, IsLoop, Entered, EnteredBody, in_switch}
-use Rattle.bk_simulation.proofs.Frame.{Sit, start, Ready, Account, went, each_way_ran, ArrivedAt, GoesTo, Leads, Out, next, ready_in, ready_next, Ran, so, Has,
-  Handed, paying, with_ran, there}
-use Rattle.bk_simulation.proofs.Compose.{comes_to, outside, arrived_turn, arrived_on, turn_there, ran_on, stay, arrived_more, ran_first, links_below,
-  arrived_paid}
+use Rattle.bk_simulation.proofs.Laid.{Setting, Scene, owning, goal_named, IsLabelHere, IsScopeAt, EnteredAny, Exits, in_valof, LabelAt, IsScope, in_loop, IsJump, IsAct, IsLoop, Entered, EnteredBody, in_switch}
+use Rattle.bk_simulation.proofs.Frame.{Sit, start, Ready, Account, went, each_way_ran, ArrivedAt, GoesTo, Leads, Out, next, ready_in, ready_next, Ran, so, Has, Handed, paying, with_ran, there}
+use Rattle.bk_simulation.proofs.Compose.{comes_to, outside, arrived_turn, arrived_on, turn_there, ran_on, stay, arrived_more, ran_first, links_below, arrived_paid}
 use Rattle.bk_simulation.proofs.Simulates.{Simulates, for_scope, RanDid, for_act, turns_in_round, for_rounds, HasTruth, for_value}
 use Rattle.bk_simulation.proofs.ControlSteps.{caught_at, label_on, taken_on, landed_on, jump_on, jumped_on}
 use Rattle.bk_simulation.proofs.Orders.{by_test, order_run, not_true, ready_at}

@@ -1,6 +1,5 @@
 -- Names that mean the same constants and the same globals in the run and in scope, and one such name more.
-use Rattle.bk_simulation.proofs.Words.{◌≡◌, ℕ, ◌<◌, Bool, true, false, List, ◌∷◌, Option, Some, None, cond, ap, arith, bytes_eq, Bound, Binding, bound_in, bind,
-  named_word, Named, Sense, cell, sense_in, word_named, global_named}
+use Rattle.bk_simulation.proofs.Words.{◌≡◌, ℕ, ◌<◌, Bool, true, false, List, ◌∷◌, Option, Some, None, cond, ap, arith, bytes_eq, Bound, Binding, bound_in, bind, named_word, Named, Sense, cell, sense_in, word_named, global_named}
 use Rattle.bk_scope.specs.declared.bound.Bound.TheVariants as b
 use Rattle.bk_simulation.proofs.OperatorWords.{not_zero}
 

@@ -1,6 +1,5 @@
 -- Which statement an object with words has: a string by what stands behind it, and words by their label. No two objects have one.
-use Rattle.bk_simulation.proofs.Words.{◌≡◌, ℕ, zero, suc, ◌+◌, ◌<◌, ◌≤◌, ◌==◌, eq-eqb, Bool, false, cond, List, [], ◌∷◌, length, Some, None, slice_get, drop,
-  refl, sym, ap, ◌∙◌, subst, arith, FRAME_WORDS, Bound, joined, Placed, Program, Datum, datum_of, IsWellPlaced, Stmt, Text, DataLabel}
+use Rattle.bk_simulation.proofs.Words.{◌≡◌, ℕ, zero, suc, ◌+◌, ◌<◌, ◌≤◌, ◌==◌, eq-eqb, Bool, false, cond, List, [], ◌∷◌, length, Some, None, slice_get, drop, refl, sym, ap, ◌∙◌, subst, arith, FRAME_WORDS, Bound, joined, Placed, Program, Datum, datum_of, IsWellPlaced, Stmt, Text, DataLabel}
 use Rattle.bk_scope.specs.declared.bound.Bound.TheVariants as b
 use Rattle.bk_simulation.proofs.LastingKinds.{Kind, string, words_at, entry}
 use Rattle.bk_simulation.proofs.KindLabels.{data_label}

@@ -1,20 +1,13 @@
 -- What is done with one value and with two: `!`, `@`, signs, NOT, and the operators. Truth where it is asked for: values, NOT, `&` and `|`; and `->`.
-use Rattle.bk_simulation.proofs.Words.{◌≡◌, ℕ, ◌+◌, ◌<◌, ◌≤◌, List, ◌∷◌, ◌++◌, Option, Some, None, refl, sym, ap, subst, arith, ◌-◌, ◌*◌, ◌%◌, ◌^◌, Bool, true,
-  false, length, ◌∙◌, option_map, word_negation, word_not, signed, word_of, truth as truth_word, Operator, Word, content_of, Content, Unset, Temporary, Held,
-  write, below, Inside, State, dyadic_word, named_place, DivideByZero, Stmt, Monadic, Dyadic, LoadByte, Number, True, False, Query, Load, Address, Text,
-  infix_code, variable, push, truth_value, Value, number, address, unset, read, read_byte, World, Outcome, gives, ends, undefined, given, with, sum, operate,
-  operate_prefix, fetch, Meanings, named, combined, Expression, past, Sense, constant, cell, sense_of, Adds, adds, with_after, of_z-to_z, Bound, bound_in,
-  Local, Static, Target, meant, not, from_label, Label, GiveResult, TakeResult, Environment, either, history, stays, either_after}
+use Rattle.bk_simulation.proofs.Words.{◌≡◌, ℕ, ◌+◌, ◌<◌, ◌≤◌, List, ◌∷◌, ◌++◌, Option, Some, None, refl, sym, ap, subst, arith, ◌-◌, ◌*◌, ◌%◌, ◌^◌, Bool, true, false, length, ◌∙◌, option_map, word_negation, word_not, signed, word_of, truth as truth_word, Operator, Word, content_of, Content, Unset, Temporary, Held, write, below, Inside, State, dyadic_word, named_place, DivideByZero, Stmt, Monadic, Dyadic, LoadByte, Number, True, False, Query, Load, Address, Text, infix_code, variable, push, truth_value, Value, number, address, unset, read, read_byte, World, Outcome, gives, ends, undefined, given, with, sum, operate, operate_prefix, fetch, Meanings, named, combined, Expression, past, Sense, constant, cell, sense_of, Adds, adds, with_after, of_z-to_z, Bound, bound_in, Local, Static, Target, meant, not, from_label, Label, GiveResult, TakeResult, Environment, either, history, stays, either_after}
 use Rattle.bk_ocode.specs.declared.stmt.Dyadic.{Dyadic as Two_word}
-use Rattle.bk_simulation.proofs.Moves.{contents_moves, negate_moves, not_moves, dyadic_moves, load_byte_moves, Moves, number_moves, true_moves, false_moves,
-  query_moves, load_moves, address_moves, text_moves, dyadic_ends}
+use Rattle.bk_simulation.proofs.Moves.{contents_moves, negate_moves, not_moves, dyadic_moves, load_byte_moves, Moves, number_moves, true_moves, false_moves, query_moves, load_moves, address_moves, text_moves, dyadic_ends}
 use Rattle.bk_simulation.proofs.Memory.{Stands, fits_more, BaseOf, Grown, Store}
 use Rattle.bk_simulation.proofs.WrittenCells.{read_at, variable_found, read_here}
 use Rattle.bk_simulation.proofs.CellBytes.{read_byte_at}
 use Rattle.bk_simulation.proofs.OperatorWords.{operates, sum_applied, negates, inverts, PrefixedAs, OperatedAs}
 use Rattle.bk_simulation.proofs.Laid.{Setting, IsValue, named_word, Scene, LabelAt, IsJump}
-use Rattle.bk_simulation.proofs.Frame.{Sit, Account, there, Has, went, start, Ready, Ran, with_ran, ArrivedAt, Out, next, ready_next, store, state, place_of,
-  IsWord, NameAt, by_option, Arrived}
+use Rattle.bk_simulation.proofs.Frame.{Sit, Account, there, Has, went, start, Ready, Ran, with_ran, ArrivedAt, Out, next, ready_next, store, state, place_of, IsWord, NameAt, by_option, Arrived}
 use Rattle.bk_simulation.proofs.Compose.{topped, arrived_more, arrived_on, ran_on, ran_first, ran_more, above, stay}
 use Rattle.bk_simulation.proofs.Weights.{turns_of}
 use Rattle.bk_simulation.proofs.Simulates.{Simulates, for_value, for_truth, where_to, HasTruth}

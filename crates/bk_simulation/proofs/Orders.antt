@@ -1,7 +1,5 @@
 -- Commands in order, and what seeking finds in them.
-use Rattle.bk_simulation.proofs.Words.{◌≡◌, Bool, true, false, ◌||◌, cond, List, refl, sym, ap, ◌∙◌, subst, arith, Stmt, Action, Actions, Environment,
-  past_action, Sought, Mode, forwards, seeking, stands_in, stands_in_one, World, with, either, history, Meanings, in_order, Adds, adds, stays, with_after,
-  either_after}
+use Rattle.bk_simulation.proofs.Words.{◌≡◌, Bool, true, false, ◌||◌, cond, List, refl, sym, ap, ◌∙◌, subst, arith, Stmt, Action, Actions, Environment, past_action, Sought, Mode, forwards, seeking, stands_in, stands_in_one, World, with, either, history, Meanings, in_order, Adds, adds, stays, with_after, either_after}
 use Rattle.bk_tree.specs.Tree as t
 use Rattle.bk_simulation.proofs.Sought.{same_stands_one}
 use Rattle.bk_simulation.proofs.Laid.{Setting, IsAct, AreActs, Entered, EnteredAny}

@@ -1,7 +1,5 @@
 -- A program whose sections stand for accepted ones is laid.
-use Rattle.bk_simulation.proofs.Words.{◌≡◌, ℕ, zero, suc, ◌+◌, ◌<◌, ◌≤◌, ◌^◌, List, [], ◌∷◌, ◌++◌, length, Option, Some, None, refl, sym, ap, ◌∙◌, subst, arith,
-  slice_get, append_assoc, FRAME_WORDS, Declarations, Placed, Program, AreFaultless, IsWellPlaced, scheme_is_accepted, stop, objects_of_declarations, Lasting,
-  Procedure, global_vector, words, code, of_sections, program_of, procedure_of, procedure_in}
+use Rattle.bk_simulation.proofs.Words.{◌≡◌, ℕ, zero, suc, ◌+◌, ◌<◌, ◌≤◌, ◌^◌, List, [], ◌∷◌, ◌++◌, length, Option, Some, None, refl, sym, ap, ◌∙◌, subst, arith, slice_get, append_assoc, FRAME_WORDS, Declarations, Placed, Program, AreFaultless, IsWellPlaced, scheme_is_accepted, stop, objects_of_declarations, Lasting, Procedure, global_vector, words, code, of_sections, program_of, procedure_of, procedure_in}
 use Rattle.bk_meaning.specs.Values as value
 use Rattle.bk_simulation.specs.Placement.{AreAccepted, StandFor}
 use Rattle.bk_simulation.proofs.Memory.{Codes, BaseOf, one_base}
@@ -14,8 +12,7 @@ use Rattle.bk_simulation.proofs.LastingFits.{library_word, IsSized, HoldsEntry, 
 use Rattle.bk_simulation.proofs.LaidPrograms.{setting, AreLaid}
 use Rattle.bk_simulation.proofs.SectionGlobals.{all_set_same}
 use Rattle.bk_simulation.proofs.Standing.{Follow, FollowWords, AreBelow, AreSet}
-use Rattle.bk_simulation.proofs.SectionsLie.{SectionsLie, weights, sections_lie, all_bases, all_entries, all_counted, all_placed, AreIn, HasAll, others_suit,
-  all_held, first_alike, sections_set}
+use Rattle.bk_simulation.proofs.SectionsLie.{SectionsLie, weights, sections_lie, all_bases, all_entries, all_counted, all_placed, AreIn, HasAll, others_suit, all_held, first_alike, sections_set}
 
 -- ---- words of procedures by their numbers; other numbers have a word too
 

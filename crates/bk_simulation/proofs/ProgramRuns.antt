@@ -1,9 +1,5 @@
 -- Counted runs of settled states are runs of the program, in as many frames.
-use Rattle.bk_simulation.proofs.Words.{◌≡◌, ◌≢◌, ℕ, zero, suc, ◌+◌, ◌<◌, ◌≤◌, ◌==◌, Bool, true, false, List, [], ◌∷◌, Option, Some, None, refl, sym, ap, ◌∙◌,
-  subst, if◌then◌else◌, arith, slice_get, ◌++◌, pos, append_assoc, append-nil, option_map_or, FRAME_WORDS, Temporary, Cell, Held, write, next_depth, Placement,
-  Placed, Routine, Control, Inside, Behind, At, State, Next, Goes, Ends, Wild, Rest, rest_of, or_rest, rests, rests_of, in_hand, resumed, resumed_by,
-  resumed_in, find_rest, label_rest, Program, program_step, run, then_run, program_step_from, Stmt, Entry, Label, CallFunction, CallRoutine, IsWellPlaced,
-  Status, step}
+use Rattle.bk_simulation.proofs.Words.{◌≡◌, ◌≢◌, ℕ, zero, suc, ◌+◌, ◌<◌, ◌≤◌, ◌==◌, Bool, true, false, List, [], ◌∷◌, Option, Some, None, refl, sym, ap, ◌∙◌, subst, if◌then◌else◌, arith, slice_get, ◌++◌, pos, append_assoc, append-nil, option_map_or, FRAME_WORDS, Temporary, Cell, Held, write, next_depth, Placement, Placed, Routine, Control, Inside, Behind, At, State, Next, Goes, Ends, Wild, Rest, rest_of, or_rest, rests, rests_of, in_hand, resumed, resumed_by, resumed_in, find_rest, label_rest, Program, program_step, run, then_run, program_step_from, Stmt, Entry, Label, CallFunction, CallRoutine, IsWellPlaced, Status, step}
 use Rattle.bk_ocode.specs.StmtRange.{InRange}
 use Rattle.bk_simulation.proofs.Moves.{settled, settled_from, settled_step}
 use Rattle.bk_simulation.proofs.FramesKept.{LinksFrom, links_kept}

@@ -1,18 +1,10 @@
 -- What MANIFEST, STATIC and GLOBAL bring into scope: names that agree, labels that stay, and words that stand where the names say. What a LET brings into
 -- scope: its procedures, and behind it its variables; names that agree, labels that stay, and words that stand where the names say.
-use Rattle.bk_simulation.proofs.Words.{◌≡◌, ℕ, suc, ◌+◌, ◌<◌, ◌≤◌, ◌^◌, Bool, true, false, List, [], ◌∷◌, Option, Some, None, cond, refl, sym, ap, ◌∙◌, subst,
-  arith, nat_lt, bytes_eq, nat_tests, bytes_eq-Decides, GLOBAL_NUMBER, Mention, Expression, Items, Definitions, Starts, Bound, Binding, bound_in, bind,
-  named_word, constant_word, within, manifests_in_scope, statics_in_scope, globals_in_scope, ManifestsSound, GlobalsSound, Placed, Target, meant, goal_of,
-  variable, Named, Environment, Sense, cell, foreign, sense_in, word_named, constant_in, global_named, bind_procedure_as, bind_procedures, objects,
-  objects_of_action, objects_of_starts, sense_of_constant, sense_of_global, letters, manifests, statics, ◌-◌, ◌++◌, length, FRAME_WORDS, VEC_NUMBER, bind_all,
-  is_global, Place, deeper, Spot as ScopeSpot, words_of_vector, words_of_start, variables_of, place_behind, place_behind_defined, variables_in_scope,
-  procedure_in_scope, procedures_in_scope, HasWordUpTo, SoundStarted, SoundDefined, behind_starts, behind_definitions, worth, starts_named, definitions_named,
-  variables_hidden, bind_each}
+use Rattle.bk_simulation.proofs.Words.{◌≡◌, ℕ, suc, ◌+◌, ◌<◌, ◌≤◌, ◌^◌, Bool, true, false, List, [], ◌∷◌, Option, Some, None, cond, refl, sym, ap, ◌∙◌, subst, arith, nat_lt, bytes_eq, nat_tests, bytes_eq-Decides, GLOBAL_NUMBER, Mention, Expression, Items, Definitions, Starts, Bound, Binding, bound_in, bind, named_word, constant_word, within, manifests_in_scope, statics_in_scope, globals_in_scope, ManifestsSound, GlobalsSound, Placed, Target, meant, goal_of, variable, Named, Environment, Sense, cell, foreign, sense_in, word_named, constant_in, global_named, bind_procedure_as, bind_procedures, objects, objects_of_action, objects_of_starts, sense_of_constant, sense_of_global, letters, manifests, statics, ◌-◌, ◌++◌, length, FRAME_WORDS, VEC_NUMBER, bind_all, is_global, Place, deeper, Spot as ScopeSpot, words_of_vector, words_of_start, variables_of, place_behind, place_behind_defined, variables_in_scope, procedure_in_scope, procedures_in_scope, HasWordUpTo, SoundStarted, SoundDefined, behind_starts, behind_definitions, worth, starts_named, definitions_named, variables_hidden, bind_each}
 use Rattle.bk_simulation.specs.Regular.{RegularItems, starts, RegularDefinitions}
 use Rattle.bk_simulation.proofs.Memory.{BaseOf, Grown}
 use Rattle.bk_simulation.proofs.Sought.{with_names}
-use Rattle.bk_simulation.proofs.Laid.{Setting, Scene, place_of, IsWord, IsLabelHere, NameAt, NamedIn, KeepsLabels, Renames, Spot, spots_of, variables_bound,
-  AreAt, RenamesVariables}
+use Rattle.bk_simulation.proofs.Laid.{Setting, Scene, place_of, IsWord, IsLabelHere, NameAt, NamedIn, KeepsLabels, Renames, Spot, spots_of, variables_bound, AreAt, RenamesVariables}
 use Rattle.bk_simulation.proofs.NamesBound.{bound_named}
 use Rattle.bk_simulation.proofs.NamesAgree.{Agree, AgreeWords, SameGlobal, own_cell, agree_bound}
 use Rattle.bk_simulation.proofs.LaidExpressions.{HasWords, constants_agree}

@@ -1,7 +1,5 @@
 -- The parts of a section: the code and the data of each stand in it.
-use Rattle.bk_simulation.proofs.Words.{◌≡◌, ℕ, List, [], ◌∷◌, ◌++◌, refl, ap, ◌∙◌, arith, append_assoc, Bound, depth_behind, joined, Placement, Placed,
-  AreFaultless, item_words, Stmt, Globals, Target, Part, static_item, static_table, label_place, target_of, procedure_code, data_code, word_code, entries_of,
-  section_code, AllFound}
+use Rattle.bk_simulation.proofs.Words.{◌≡◌, ℕ, List, [], ◌∷◌, ◌++◌, refl, ap, ◌∙◌, arith, append_assoc, Bound, depth_behind, joined, Placement, Placed, AreFaultless, item_words, Stmt, Globals, Target, Part, static_item, static_table, label_place, target_of, procedure_code, data_code, word_code, entries_of, section_code, AllFound}
 use Rattle.bk_scope.specs.declared.bound.Bound.TheVariants as b
 use Rattle.bk_trans.specs.Program as term
 use Rattle.bk_trans.specs.Parts.{procedure}

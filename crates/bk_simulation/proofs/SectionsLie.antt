@@ -1,7 +1,5 @@
 -- What lasts of all sections of a program, one behind the other.
-use Rattle.bk_simulation.proofs.Words.{true, length-append, ◌≡◌, ℕ, suc, ◌+◌, ◌<◌, ◌≤◌, List, [], ◌∷◌, ◌++◌, length, Some, refl, arith, slice_get, map, Option, sym, ap, ap₂, ◌∙◌,
-  FRAME_WORDS, Declarations, Placed, Program, IsWellPlaced, named_tree, objects_of_declarations, of_declarations, of_sections, Lasting, words, code, map-append,
-  Bound, joined, entry_setting, GlobalEntry, entry_of, entries_of}
+use Rattle.bk_simulation.proofs.Words.{true, length-append, ◌≡◌, ℕ, suc, ◌+◌, ◌<◌, ◌≤◌, List, [], ◌∷◌, ◌++◌, length, Some, refl, arith, slice_get, map, Option, sym, ap, ap₂, ◌∙◌, FRAME_WORDS, Declarations, Placed, Program, IsWellPlaced, named_tree, objects_of_declarations, of_declarations, of_sections, Lasting, words, code, map-append, Bound, joined, entry_setting, GlobalEntry, entry_of, entries_of}
 use Rattle.bk_simulation.specs.Placement.{AreAccepted, StandFor}
 use Rattle.bk_simulation.proofs.Weights.{turns_declared}
 use Rattle.bk_simulation.proofs.Sought.{with_names}
@@ -9,8 +7,7 @@ use Rattle.bk_simulation.proofs.Laid.{Setting}
 use Rattle.bk_simulation.proofs.Held.{HeldList, held_both, held_out}
 use Rattle.bk_simulation.proofs.LastingKinds.{AreAs, kinds_of_declarations, Kind, string, words_at, entry, Alike, bound_global, IsCalled, alike_declarations}
 use Rattle.bk_simulation.proofs.NamesAgree.{Agree}
-use Rattle.bk_simulation.proofs.Standing.{home, Follow, FollowWords, follow_first, follow_second, words_first, words_second, Suits, Bases, Mean, AreBelow,
-  AreSet, below_both, set_both}
+use Rattle.bk_simulation.proofs.Standing.{home, Follow, FollowWords, follow_first, follow_second, words_first, words_second, Suits, Bases, Mean, AreBelow, AreSet, below_both, set_both}
 use Rattle.bk_simulation.proofs.LaidSections.{section_scene, section_lies}
 use Rattle.bk_scope.specs.declared.bound.Bound.TheVariants as b
 use Rattle.bk_simulation.proofs.Memory.{Codes}

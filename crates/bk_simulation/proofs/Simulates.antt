@@ -1,7 +1,5 @@
 -- What is proved of each form: its code, where it is laid, does what the form means, within an account.
-use Rattle.bk_simulation.proofs.Words.{◌≡◌, ◌≢◌, ◌<◌, ℕ, suc, ◌+◌, ◌-◌, ◌*◌, ◌≤◌, Bool, true, false, List, ◌∷◌, Some, content_of, State, from_label, Stmt,
-  Assign, AssignAt, AssignByte, Expression, Expressions, Action, Actions, Value, address, labelled, Sought, Mode, World, Outcome, Done, history, After,
-  Throughout, at, Meanings}
+use Rattle.bk_simulation.proofs.Words.{◌≡◌, ◌≢◌, ◌<◌, ℕ, suc, ◌+◌, ◌-◌, ◌*◌, ◌≤◌, Bool, true, false, List, ◌∷◌, Some, content_of, State, from_label, Stmt, Assign, AssignAt, AssignByte, Expression, Expressions, Action, Actions, Value, address, labelled, Sought, Mode, World, Outcome, Done, history, After, Throughout, at, Meanings}
 use Rattle.bk_ocode.specs.declared.stmt.Variable.{Variable}
 use Rattle.bk_tree.specs.Tree as t
 use Rattle.bk_meaning.specs.Parts.{Target, byte_at}

@@ -1,6 +1,5 @@
 -- What seeking finds does not hang on the numbers of objects, and for labels not on names.
-use Rattle.bk_simulation.proofs.Words.{◌≡◌, ℕ, false, ◌||◌, cond, List, refl, ap, ◌∙◌, prefix_word, infix_word, Expression, Action, Actions, Named, Environment,
-  constant_in, Sought, the_label, the_case, the_default, same_place, is_label, stands_in, stands_in_one}
+use Rattle.bk_simulation.proofs.Words.{◌≡◌, ℕ, false, ◌||◌, cond, List, refl, ap, ◌∙◌, prefix_word, infix_word, Expression, Action, Actions, Named, Environment, constant_in, Sought, the_label, the_case, the_default, same_place, is_label, stands_in, stands_in_one}
 use Rattle.std.specs.Option.{option_and_then}
 use Rattle.bk_tree.specs.Tree as t
 

@@ -1,11 +1,5 @@
 -- The strings of a section: each is in a statement of its own.
-use Rattle.bk_simulation.proofs.Words.{◌≡◌, ℕ, suc, ◌+◌, ◌≤◌, true, false, cond, List, [], ◌∷◌, ◌++◌, length, Some, slice_get, refl, sym, ap, ◌∙◌, subst, arith,
-  append_assoc, length-append, first_bytes, signed, Operator, Sort, Mention, Expression, Expressions, Action, Actions, Declaration, Declarations, Items,
-  Definitions, Starts, Binding, bound_in, Placed, Stmt, Local, Label, TakeResult, Text, JumpIf, Load, Number, Dyadic, Assign, Stack, Store, Save, Return,
-  ReturnItem, meant, infix_code, test_of_step, Environment, cell, foreign, behind, past, past_definition, labelled, within_let, constants_declared, letters,
-  objects, objects_of_each, objects_of_action, objects_of_actions, objects_of_declaration, objects_of_declarations, objects_of_definition,
-  objects_of_definitions, objects_of_starts, Lasting, command, expression, Procedure, in_scope, declared, all_declared, of_expression, of_each, of_action,
-  of_actions, of_declaration, of_declarations, of_definition, of_definitions, of_starts, bind_formals, Sought, alone}
+use Rattle.bk_simulation.proofs.Words.{◌≡◌, ℕ, suc, ◌+◌, ◌≤◌, true, false, cond, List, [], ◌∷◌, ◌++◌, length, Some, slice_get, refl, sym, ap, ◌∙◌, subst, arith, append_assoc, length-append, first_bytes, signed, Operator, Sort, Mention, Expression, Expressions, Action, Actions, Declaration, Declarations, Items, Definitions, Starts, Binding, bound_in, Placed, Stmt, Local, Label, TakeResult, Text, JumpIf, Load, Number, Dyadic, Assign, Stack, Store, Save, Return, ReturnItem, meant, infix_code, test_of_step, Environment, cell, foreign, behind, past, past_definition, labelled, within_let, constants_declared, letters, objects, objects_of_each, objects_of_action, objects_of_actions, objects_of_declaration, objects_of_declarations, objects_of_definition, objects_of_definitions, objects_of_starts, Lasting, command, expression, Procedure, in_scope, declared, all_declared, of_expression, of_each, of_action, of_actions, of_declaration, of_declarations, of_definition, of_definitions, of_starts, bind_formals, Sought, alone}
 use Rattle.bk_tree.specs.declared.tree.Operator.TheVariants as o
 use Rattle.bk_tree.specs.declared.tree.Prefix.TheVariants as q
 use Rattle.bk_tree.specs.declared.tree.Simple.TheVariants as simple
@@ -14,20 +8,14 @@ use Rattle.bk_tree.specs.Tree as t
 use Rattle.bk_ocode.specs.declared.stmt.Dyadic.TheVariants as two
 use Rattle.bk_meaning.specs.Environment as m
 use Rattle.bk_meaning.specs.Lasting.{inside}
-use Rattle.bk_meaning.proofs.Numbers.{expression_counted, each_counted, action_counted, declaration_counted, declarations_counted, definition_counted,
-  starts_counted}
+use Rattle.bk_meaning.proofs.Numbers.{expression_counted, each_counted, action_counted, declaration_counted, declarations_counted, definition_counted, starts_counted}
 use Rattle.bk_meaning.proofs.Standing.{bound-next, labelled-next, in_scope-next, declared-next, all_declared-next}
 use Rattle.bk_simulation.specs.Regular.{DefineNoVariables, DeclareNoVariables}
-use Rattle.bk_simulation.proofs.Laid.{Setting, Scene, Aim, pushes, jumps, Way, all_of, any_of, plain, way_of, ending, Operands, in_valof, owning, Spot, Stretch,
-  ByTurns, in_loop, in_switch, in_for as in_for_scene, variables_bound, defines_variables, IsCode, AreValues, IsAddress, IsStore, IsAct, AreActs, AreFrom,
-  AreStores, AreDeclared, IsOneDeclared, AreDefined, AreStarts}
+use Rattle.bk_simulation.proofs.Laid.{Setting, Scene, Aim, pushes, jumps, Way, all_of, any_of, plain, way_of, ending, Operands, in_valof, owning, Spot, Stretch, ByTurns, in_loop, in_switch, in_for as in_for_scene, variables_bound, defines_variables, IsCode, AreValues, IsAddress, IsStore, IsAct, AreActs, AreFrom, AreStores, AreDeclared, IsOneDeclared, AreDefined, AreStarts}
 use Rattle.bk_simulation.proofs.Held.{HeldIn}
 use Rattle.bk_simulation.proofs.Calls.{IsProcedure}
-use Rattle.bk_simulation.proofs.StringCounts.{Form, strings_at, Span, times, in_spans, AreSpread, spread_append, times_both, spans_both, IsSpan, Spread, Same,
-  by_path, same_on, spread_none, spread_top, spread_bottom, spread_both, spread_back, spread_string, spread_words, spread_procedure, spread_as}
-use Rattle.bk_simulation.proofs.StringForms.{forms_of_items, forms, forms_of_each, forms_of_action, forms_of_actions, forms_of_declaration,
-  forms_of_declarations, forms_of_definition, forms_of_definitions, forms_of_starts, push_plain, truth_plain, infix_plain, ending_plain, store_plain,
-  test_plain, Numbered, later, same_numbers, held_front, held_back, held_third, spread_three}
+use Rattle.bk_simulation.proofs.StringCounts.{Form, strings_at, Span, times, in_spans, AreSpread, spread_append, times_both, spans_both, IsSpan, Spread, Same, by_path, same_on, spread_none, spread_top, spread_bottom, spread_both, spread_back, spread_string, spread_words, spread_procedure, spread_as}
+use Rattle.bk_simulation.proofs.StringForms.{forms_of_items, forms, forms_of_each, forms_of_action, forms_of_actions, forms_of_declaration, forms_of_declarations, forms_of_definition, forms_of_definitions, forms_of_starts, push_plain, truth_plain, infix_plain, ending_plain, store_plain, test_plain, Numbered, later, same_numbers, held_front, held_back, held_third, spread_three}
 
 variables-next : (n : ℕ) (ps : List Spot) (env : Environment) → (variables_bound n ps env).next ≡ env.next
 variables-next n [] env = refl
@@ -111,7 +99,14 @@ module _ (g : Setting) (own : Placed) where
   turns_spread : (xs es : Expressions) (vs ss : List Stretch) {c rest : List Stmt} {i j : ℕ} → ByTurns xs es vs ss c rest → EachSpread j es vs → EachSpread i xs ss
       → Turned c rest i (objects_of_each xs) (forms_of_each xs) j (objects_of_each es) (forms_of_each es)
   turns_spread t.none t.none vs ss k f s = record {
-    keys = []; others = []; spans = []; more = []; long = refl; long_too = refl; are = tt; are_too = tt;
+    keys = [];
+    others = [];
+    spans = [];
+    more = [];
+    long = refl;
+    long_too = refl;
+    are = tt;
+    are_too = tt;
     once = λ q. let h = ap (strings_at q) k in omega (arith, h);
   }
   turns_spread (t.more x xs) (t.more e es) (v ∷ vs) (s ∷ ss) {c} k f u =

@@ -1,8 +1,5 @@
 -- START is called: into its frame, through its body, and home.
-use Rattle.bk_simulation.proofs.Words.{◌≡◌, ℕ, suc, ◌+◌, ◌-◌, ◌*◌, ◌<◌, ◌≤◌, ◌^◌, List, [], ◌∷◌, ◌++◌, length, Some, None, pos, refl, sym, ap, ◌∙◌, subst,
-  if◌then◌else◌, arith, ⊎_elim, slice_get, option_map_or, slice_get_within, FRAME_WORDS, GLOBAL_NUMBER, Status, Word, Link, Cell, Held, content_of, below,
-  settle, Placed, Inside, At, State, Ends, Wild, global_place, step, Program, resumed_in, program_step, program_step_from, HasFrames, start, called, Entry,
-  Value, unset, holds, Memory, World, making, forgetting, calling, status, Environment, Procedure, Meanings, formal_cells, bind_formals, enter, settle-kept}
+use Rattle.bk_simulation.proofs.Words.{◌≡◌, ℕ, suc, ◌+◌, ◌-◌, ◌*◌, ◌<◌, ◌≤◌, ◌^◌, List, [], ◌∷◌, ◌++◌, length, Some, None, pos, refl, sym, ap, ◌∙◌, subst, if◌then◌else◌, arith, ⊎_elim, slice_get, option_map_or, slice_get_within, FRAME_WORDS, GLOBAL_NUMBER, Status, Word, Link, Cell, Held, content_of, below, settle, Placed, Inside, At, State, Ends, Wild, global_place, step, Program, resumed_in, program_step, program_step_from, HasFrames, start, called, Entry, Value, unset, holds, Memory, World, making, forgetting, calling, status, Environment, Procedure, Meanings, formal_cells, bind_formals, enter, settle-kept}
 use Rattle.std.specs.Prelude.{drop}
 use Rattle.std.proofs.lemmas.Bool.{eq-eqb}
 use Rattle.bk_meaning.specs.Values.{Cell as Cell_of}

@@ -1,6 +1,5 @@
 -- Strings of statements, counted: what is known of the strings in code, and of the procedures declared in it.
-use Rattle.bk_simulation.proofs.Words.{◌≡◌, ℕ, suc, ◌+◌, ◌≤◌, ◌==◌, cond, List, [], ◌∷◌, ◌++◌, length, Some, slice_get, drop, refl, sym, ap, ◌∙◌, subst, arith,
-  length-append, zero, ◌-◌, ◌<◌, ltb, ltb-false, eqb-true, eq-eqb, Bool, true, false, Placed, Stmt, Text, Entry, ltb-true, length-drop, slice_get_within}
+use Rattle.bk_simulation.proofs.Words.{◌≡◌, ℕ, suc, ◌+◌, ◌≤◌, ◌==◌, cond, List, [], ◌∷◌, ◌++◌, length, Some, slice_get, drop, refl, sym, ap, ◌∙◌, subst, arith, length-append, zero, ◌-◌, ◌<◌, ltb, ltb-false, eqb-true, eq-eqb, Bool, true, false, Placed, Stmt, Text, Entry, ltb-true, length-drop, slice_get_within}
 use Rattle.bk_simulation.proofs.Memory.{BaseOf}
 use Rattle.bk_simulation.proofs.Laid.{Setting}
 

@@ -1,7 +1,5 @@
 -- The forms of what lasts of a tree, in the order of the source; statements that are no strings; and numbers of objects.
-use Rattle.bk_simulation.proofs.Words.{◌≡◌, ℕ, suc, ◌+◌, Bool, true, false, cond, int_lt, pos, List, [], ◌∷◌, ◌++◌, length, Some, refl, ap, ◌∙◌, subst, arith,
-  append_assoc, signed, Operator, Expression, Expressions, Action, Actions, Declaration, Declarations, Items, Definition, Definitions, Starts, Bound, Placed,
-  Stmt, Store, Target, push, infix_code, truth_value, test_of_step, Environment, behind, Lasting}
+use Rattle.bk_simulation.proofs.Words.{◌≡◌, ℕ, suc, ◌+◌, Bool, true, false, cond, int_lt, pos, List, [], ◌∷◌, ◌++◌, length, Some, refl, ap, ◌∙◌, subst, arith, append_assoc, signed, Operator, Expression, Expressions, Action, Actions, Declaration, Declarations, Items, Definition, Definitions, Starts, Bound, Placed, Stmt, Store, Target, push, infix_code, truth_value, test_of_step, Environment, behind, Lasting}
 use Rattle.bk_tree.specs.declared.tree.Operator.TheVariants as o
 use Rattle.bk_tree.specs.declared.tree.Sort.TheVariants as sort
 use Rattle.bk_tree.specs.Tree as t
@@ -135,4 +133,3 @@ held_third g own i n k xs ys zs e f h = held_back g own (i + n) k ys zs f (held_
 
 pub spread_three : {g : Setting} {own : Placed} {c c1 c2 rest : List Stmt} {i m n k : ℕ} {fs hs ls : List Form} → Spread g own c c1 i m fs → Spread g own c1 c2 (i + m) n hs → Spread g own c2 rest (i + m + n) k ls → Spread g own c rest i (m + n + k) (fs ++ hs ++ ls)
 spread_three x y z = spread_both (spread_both x y) (spread_as (omega arith) refl refl z)
-

@@ -1,6 +1,5 @@
 -- How many turns the nodes of a tree take at most, those in the bodies of its procedures among them.
-use Rattle.bk_simulation.proofs.Words.{ℕ, Bool, true, false, ◌+◌, ◌≤◌, arith, Expression, Expressions, Action, Actions, Declaration, Declarations, Definition,
-  Definitions, Starts}
+use Rattle.bk_simulation.proofs.Words.{ℕ, Bool, true, false, ◌+◌, ◌≤◌, arith, Expression, Expressions, Action, Actions, Declaration, Declarations, Definition, Definitions, Starts}
 use Rattle.bk_tree.specs.Tree as t
 
 -- ---- How many turns the nodes of a tree take at most where each is gone through once: one for each, one more for what comes before a

@@ -1,6 +1,5 @@
 -- The scheme's statements of a section without faults are an accepted section.
-use Rattle.bk_trans.proofs.Words.{arith, ◌≡◌, ℕ, suc, ◌+◌, ◌≤◌, List, [], ◌∷◌, ◌++◌, length, refl, ap, subst, OCODE_LABEL, OCODE_STATEMENTS, OCODE_WORDS,
-  Declarations, Point, meaning, word, depth, wrong, claim, words_of, faults, told_of, meanings, words, SoundSection, joined, Use, times_set}
+use Rattle.bk_trans.proofs.Words.{arith, ◌≡◌, ℕ, suc, ◌+◌, ◌≤◌, List, [], ◌∷◌, ◌++◌, length, refl, ap, subst, OCODE_LABEL, OCODE_STATEMENTS, OCODE_WORDS, Declarations, Point, meaning, word, depth, wrong, claim, words_of, faults, told_of, meanings, words, SoundSection, joined, Use, times_set}
 use Rattle.bk_scope.proofs.Parts.{section_clean}
 use Rattle.bk_scope.proofs.Soundness.{section_sound}
 use Rattle.bk_ocode.specs.Section.{IsSection}

@@ -1,7 +1,5 @@
 -- What single pieces add to what was written: names, labels, words of data, switches and procedures.
-use Rattle.bk_trans.proofs.Words.{◌≡◌, ℕ, ◌+◌, true, Option, Some, None, List, [], ◌∷◌, ◌++◌, map, length, refl, sym, ap, ◌∙◌, append_assoc, arith, append-nil,
-  map-append, first_bytes, signed, Operator, Expressions, Items, no_items, item, Bound, Local, Case, Stmt, Number, Load, Dyadic, Assign, Jump, JumpIf, Stack,
-  Store, Entry, Save, EndProcedure, Switch, DataLabel, DataNumber, DataAddress, joined}
+use Rattle.bk_trans.proofs.Words.{◌≡◌, ℕ, ◌+◌, true, Option, Some, None, List, [], ◌∷◌, ◌++◌, map, length, refl, sym, ap, ◌∙◌, append_assoc, arith, append-nil, map-append, first_bytes, signed, Operator, Expressions, Items, no_items, item, Bound, Local, Case, Stmt, Number, Load, Dyadic, Assign, Jump, JumpIf, Stack, Store, Entry, Save, EndProcedure, Switch, DataLabel, DataNumber, DataAddress, joined}
 use Rattle.bk_tree.specs.declared.tree.Operator.TheVariants as o
 use Rattle.bk_scope.specs.declared.bound.Bound.TheVariants as b
 use Rattle.bk_ocode.specs.declared.stmt.Variable.TheVariants.{Static}

@@ -1,7 +1,6 @@
 -- What going through a part adds to what was written: its statements, those that stand by themselves, its choices, and what is left.
 -- Numbers are near each other where they are the same word.
-use Rattle.bk_trans.proofs.Words.{◌≡◌, ℕ, ◌+◌, ◌%◌, ◌^◌, Option, Some, None, List, [], ◌∷◌, ◌++◌, map, refl, sym, ap, ◌∙◌, append_assoc, append-nil, map-append,
-  Case, Stmt, joined}
+use Rattle.bk_trans.proofs.Words.{◌≡◌, ℕ, ◌+◌, ◌%◌, ◌^◌, Option, Some, None, List, [], ◌∷◌, ◌++◌, map, refl, sym, ap, ◌∙◌, append_assoc, append-nil, map-append, Case, Stmt, joined}
 use Rattle.std.proofs.Math.Nat.{mod-add-mod, mod-mod}
 use Rattle.bk_trans.specs.declared.around.Goal.{Goal}
 use Rattle.bk_trans.specs.declared.around.Target.{Target}

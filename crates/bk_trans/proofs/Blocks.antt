@@ -1,6 +1,5 @@
 -- What nodes are written as, by what is written one after another: blocks, declarations, calls and FOR.
-use Rattle.bk_trans.proofs.Words.{◌≡◌, ℕ, ◌+◌, ◌<◌, true, cond, List, [], ◌∷◌, length, refl, sym, ap, ◌∙◌, arith, Mention, Expression, Expressions, Action,
-  Actions, Definitions, block, declarations_in, definitions, apply, for_loop, size, Stack, Store, CallFunction}
+use Rattle.bk_trans.proofs.Words.{◌≡◌, ℕ, ◌+◌, ◌<◌, true, cond, List, [], ◌∷◌, length, refl, sym, ap, ◌∙◌, arith, Mention, Expression, Expressions, Action, Actions, Definitions, block, declarations_in, definitions, apply, for_loop, size, Stack, Store, CallFunction}
 use Rattle.bk_tree.specs.declared.tree.Decl.{Decl}
 use Rattle.bk_trans.specs.declared.aim.Aim.{Aim}
 use Rattle.bk_trans.specs.declared.aim.Aim.TheVariants as aim

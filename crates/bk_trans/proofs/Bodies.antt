@@ -1,17 +1,5 @@
 -- The body of a procedure of a section without faults is good: what each node asks for is there.
-use Rattle.bk_trans.proofs.Words.{arith, ◌≡◌, ℕ, ◌+◌, ◌<◌, ◌≤◌, ◌^◌, Bool, true, false, not, Option, Some, None, List, [], ◌∷◌, ◌++◌, length, refl, sym, ap,
-  subst, ◌∙◌, ⊤, false≢true, le-ltb, FRAME_WORDS, GLOBAL_NUMBER, VEC_NUMBER, OCODE_LABEL, Mention, Expression, Expressions, Action, Actions, Declaration,
-  Declarations, Items, Definition, Definitions, Starts, name, number, text, truth, query, parens, unary, binary, choice, apply, valof, table, none, more, empty,
-  assign, call, goto, label, case_of, default, when, test, while, for_loop, switch, result, simple, block, repeat, repeat_while, no_actions, also, constants,
-  definitions, no_declarations, declare, no_items, item, routine, function, variables, no_definitions, define, no_starts, value, vector, line_of, size, Bound,
-  Constant, Global, Static, Variable, Label, Place, Role, Value, Truth, Address, Destination, not_assignable, no_result_or_return, vec_out_of_range, Binding,
-  bound_in, bind, has_address, constant_word, AllDiffer, deeper, looping, switching, labelled, valued, labels_of, labels_of_each, parenthesised, within,
-  words_of_vector, words_of_start, place_behind, variables_of, Spot, procedures_in, onward, past, numbered, behind, behind_each, behind_done, behind_declared,
-  behind_one_declared, behind_one_defined, behind_constant, symbols_each, Point, at, labels_in_scope, procedures_in_scope, place_behind_one_defined,
-  place_behind_defined, variables_in_scope, manifests_in_scope, globals_in_scope, scope_behind_one, place_behind_one, scope_behind, place_behind_all, unless,
-  its_meaning, its_word, constant, each_constant, at_most, addressed, assigned, prefixed, pushed, chosen_at, defaulted_at, one_of, each_of, told, told_each,
-  told_destinations, told_done, told_done_each, told_declared, told_one_declared, told_defined, told_one_defined, told_started, Usable, GoesTo, HasWord,
-  HasWordUpTo, Sound, SoundEach, SoundDestinations, SoundDone, SoundDoneEach, SoundDeclared, SoundOneDeclared, SoundDefined, SoundOneDefined, SoundStarted, Use}
+use Rattle.bk_trans.proofs.Words.{arith, ◌≡◌, ℕ, ◌+◌, ◌<◌, ◌≤◌, ◌^◌, Bool, true, false, not, Option, Some, None, List, [], ◌∷◌, ◌++◌, length, refl, sym, ap, subst, ◌∙◌, ⊤, false≢true, le-ltb, FRAME_WORDS, GLOBAL_NUMBER, VEC_NUMBER, OCODE_LABEL, Mention, Expression, Expressions, Action, Actions, Declaration, Declarations, Items, Definition, Definitions, Starts, name, number, text, truth, query, parens, unary, binary, choice, apply, valof, table, none, more, empty, assign, call, goto, label, case_of, default, when, test, while, for_loop, switch, result, simple, block, repeat, repeat_while, no_actions, also, constants, definitions, no_declarations, declare, no_items, item, routine, function, variables, no_definitions, define, no_starts, value, vector, line_of, size, Bound, Constant, Global, Static, Variable, Label, Place, Role, Value, Truth, Address, Destination, not_assignable, no_result_or_return, vec_out_of_range, Binding, bound_in, bind, has_address, constant_word, AllDiffer, deeper, looping, switching, labelled, valued, labels_of, labels_of_each, parenthesised, within, words_of_vector, words_of_start, place_behind, variables_of, Spot, procedures_in, onward, past, numbered, behind, behind_each, behind_done, behind_declared, behind_one_declared, behind_one_defined, behind_constant, symbols_each, Point, at, labels_in_scope, procedures_in_scope, place_behind_one_defined, place_behind_defined, variables_in_scope, manifests_in_scope, globals_in_scope, scope_behind_one, place_behind_one, scope_behind, place_behind_all, unless, its_meaning, its_word, constant, each_constant, at_most, addressed, assigned, prefixed, pushed, chosen_at, defaulted_at, one_of, each_of, told, told_each, told_destinations, told_done, told_done_each, told_declared, told_one_declared, told_defined, told_one_defined, told_started, Usable, GoesTo, HasWord, HasWordUpTo, Sound, SoundEach, SoundDestinations, SoundDone, SoundDoneEach, SoundDeclared, SoundOneDeclared, SoundDefined, SoundOneDefined, SoundStarted, Use}
 use Rattle.bk_tree.specs.declared.tree.Operator.TheVariants as o
 use Rattle.bk_tree.specs.declared.tree.Prefix.TheVariants as sign
 use Rattle.bk_tree.specs.declared.tree.Simple.TheVariants as w

@@ -1,6 +1,5 @@
 -- The CASEs and the DEFAULT of a SWITCHON: their labels are jumped to at its depth, and their values differ.
-use Rattle.bk_trans.proofs.Words.{arith, ◌≡◌, ℕ, zero, suc, ◌+◌, ◌<◌, ◌≤◌, ◌^◌, false, not, Option, Some, None, List, [], ◌∷◌, ◌++◌, length, map, slice_get,
-  refl, sym, ap, subst, ◌∙◌, length-append, ⊤, signed, OCODE_LABEL, NoneOf, AllDiffer, Case, IsLabel, AreCases, Use, jumps, AllJump}
+use Rattle.bk_trans.proofs.Words.{arith, ◌≡◌, ℕ, zero, suc, ◌+◌, ◌<◌, ◌≤◌, ◌^◌, false, not, Option, Some, None, List, [], ◌∷◌, ◌++◌, length, map, slice_get, refl, sym, ap, subst, ◌∙◌, length-append, ⊤, signed, OCODE_LABEL, NoneOf, AllDiffer, Case, IsLabel, AreCases, Use, jumps, AllJump}
 use Rattle.std.specs.Int.{w32, cast_unsigned}
 use Rattle.std.proofs.lemmas.Int.{of_z-to_z}
 use Rattle.bk_trans.specs.Program.{Command, Commands, label, case_of, default, when, test, while, block, repeat, repeat_while, no_commands, also, no_declarations, declare}

@@ -1,7 +1,6 @@
 -- A section has few statements, and few words of text. A statement costs 30, each byte of its string or name 1, and each of its cases and
 -- globals 2; a node costs 450 at most, in its own code, in what is by itself after it, and in the list of the SWITCHON that a CASE belongs to.
-use Rattle.bk_trans.proofs.Words.{arith, ◌≡◌, ◌≤◌, ℕ, ◌+◌, ◌*◌, Bool, true, false, not, cond, List, [], ◌∷◌, ◌++◌, length, map, int_lt, pos, Some, refl, ap,
-  length-append, signed, Operator, Prefix, Bound, joined, Case, GlobalEntry, Stmt}
+use Rattle.bk_trans.proofs.Words.{arith, ◌≡◌, ◌≤◌, ℕ, ◌+◌, ◌*◌, Bool, true, false, not, cond, List, [], ◌∷◌, ◌++◌, length, map, int_lt, pos, Some, refl, ap, length-append, signed, Operator, Prefix, Bound, joined, Case, GlobalEntry, Stmt}
 use Rattle.bk_tree.specs.Tree as tree
 use Rattle.bk_tree.specs.declared.tree.Operator.TheVariants as o
 use Rattle.bk_tree.specs.declared.tree.Prefix.TheVariants as q

@@ -1,9 +1,6 @@
 -- Worked forms: what the table of the scheme in docs/SCHEME.md says of each, read off that table. Each form stands in a procedure
 -- F(A, B), whose name means no global: its entry is L1, the word of its name L2, the first label of the form L3, and its depth 4.
-use Rattle.bk_trans.proofs.Words.{ℕ, true, false, pos, negsuc, List, [], ◌∷◌, ◌++◌, refl, Operator, Mention, Expression, Expressions, Action, Actions,
-  Declarations, Definition, name, number, text, truth, query, parens, unary, binary, choice, apply, valof, table, none, more, empty, assign, call, goto, label,
-  case_of, default, when, test, while, for_loop, switch, result, simple, block, repeat, repeat_while, no_actions, also, constants, definitions, no_declarations,
-  declare, no_items, item, routine, function, variables, no_definitions, define, no_starts, value, vector, Local, Stmt}
+use Rattle.bk_trans.proofs.Words.{ℕ, true, false, pos, negsuc, List, [], ◌∷◌, ◌++◌, refl, Operator, Mention, Expression, Expressions, Action, Actions, Declarations, Definition, name, number, text, truth, query, parens, unary, binary, choice, apply, valof, table, none, more, empty, assign, call, goto, label, case_of, default, when, test, while, for_loop, switch, result, simple, block, repeat, repeat_while, no_actions, also, constants, definitions, no_declarations, declare, no_items, item, routine, function, variables, no_definitions, define, no_starts, value, vector, Local, Stmt}
 use Rattle.bk_tree.specs.declared.tree.Operator.TheVariants as o
 use Rattle.bk_tree.specs.declared.tree.Prefix.TheVariants as q
 use Rattle.bk_tree.specs.declared.tree.Simple.TheVariants as w

@@ -1,7 +1,6 @@
 -- The code of each form goes from one depth to another and agrees with the plan: a value is pushed, a condition leaves nothing, a
 -- command nothing, and declarations their variables.
-use Rattle.bk_trans.proofs.Words.{arith, ◌≡◌, ℕ, ◌+◌, ◌-◌, ◌≤◌, Bool, true, false, not, cond, List, [], ◌∷◌, ◌++◌, map, refl, subst, ◌∙◌, ⊤, signed,
-  FRAME_WORDS, OCODE_LABEL, Case, Stmt, IsLabel, AreCases, Use, jumps, results, AllJump, Fits, done, lands, takes}
+use Rattle.bk_trans.proofs.Words.{arith, ◌≡◌, ℕ, ◌+◌, ◌-◌, ◌≤◌, Bool, true, false, not, cond, List, [], ◌∷◌, ◌++◌, map, refl, subst, ◌∙◌, ⊤, signed, FRAME_WORDS, OCODE_LABEL, Case, Stmt, IsLabel, AreCases, Use, jumps, results, AllJump, Fits, done, lands, takes}
 use Rattle.bk_tree.specs.declared.tree.Simple.TheVariants as w
 use Rattle.bk_scope.specs.declared.bound.Bound.TheVariants as b
 use Rattle.bk_ocode.specs.declared.stmt.Variable.TheVariants as v

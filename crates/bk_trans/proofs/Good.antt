@@ -1,7 +1,6 @@
 -- What the code of a part of the named tree asks for, in procedure p with depth s: each name's word is there, a jump finds its
 -- label, each command stands where it may, CASEs differ, and the frame has room.
-use Rattle.bk_trans.proofs.Words.{◌≡◌, ℕ, ◌+◌, ◌<◌, ◌≤◌, ◌^◌, Bool, true, false, Some, None, List, [], ◌∷◌, ◌++◌, ⊤, FRAME_WORDS, GLOBAL_NUMBER, Bound,
-  AllDiffer, IsLabel, IsDepth, Use}
+use Rattle.bk_trans.proofs.Words.{◌≡◌, ℕ, ◌+◌, ◌<◌, ◌≤◌, ◌^◌, Bool, true, false, Some, None, List, [], ◌∷◌, ◌++◌, ⊤, FRAME_WORDS, GLOBAL_NUMBER, Bound, AllDiffer, IsLabel, IsDepth, Use}
 use Rattle.bk_tree.specs.declared.tree.Simple.TheVariants as w
 use Rattle.bk_scope.specs.declared.bound.Bound.TheVariants as b
 use Rattle.bk_ocode.specs.Typing as typing

@@ -1,20 +1,6 @@
 -- Filling gives the named tree: of a node that is sound, going on from what is told of it takes just the meanings and the words that
 -- stand there, and gives its named tree.
-use Rattle.bk_trans.proofs.Words.{◌≡◌, ℕ, ◌+◌, ◌==◌, Bool, true, false, cond, Option, Some, None, List, [], ◌∷◌, ◌++◌, length, refl, sym, ap, ◌∙◌, false≢true,
-  Mention, Expression, Expressions, Action, Actions, Declaration, Declarations, Items, Definition, Definitions, Starts, name, number, parens, unary, binary,
-  choice, apply, valof, table, none, more, empty, assign, call, goto, label, case_of, default, when, test, while, for_loop, switch, result, simple, block,
-  repeat, repeat_while, no_actions, also, constants, definitions, no_declarations, declare, no_items, item, routine, function, variables, no_definitions,
-  define, no_starts, value, vector, line_of, size, GLOBAL_NUMBER, VEC_NUMBER, Bound, Constant, Global, Static, Variable, Label, Place, Role, Value, Truth,
-  Address, Destination, Wrong, dynamic_name, label_not_here, not_assignable, no_result_or_return, global_out_of_range, vec_out_of_range, text_of, Binding,
-  bound_in, bind, has_address, constant_word, kept, deeper, looping, switching, labelled, valued, called, outermost, labels_of, labels_of_each, with_formals,
-  parenthesised, words_of_start, Spot, procedures_in, onward, past, numbered, behind, behind_each, behind_done, behind_declared, behind_one_declared,
-  behind_one_defined, behind_constant, symbols_each, beginning, Point, meaning, word, depth, wrong, claim, at, deepest, without_depths, meanings_of, words_of,
-  labels_in_scope, procedures_in_scope, place_behind_one_defined, scope_behind_one, place_behind_one, scope_behind, place_behind_all, unless, used_at, gone_to,
-  its_word, constant, each_constant, at_most, addressed, assigned, prefixed, depth_named, pushed, chosen_at, defaulted_at, single_at, each_of, manifest_items,
-  static_items, global_items, its_meaning, its_global, its_frame, inside_procedure, procedure, told, told_each, told_destinations, told_done, told_done_each,
-  told_declared, told_one_declared, told_defined, told_one_defined, told_started, told_of, meanings, words, Usable, GoesTo, Callable, HaveWords, ManifestsSound,
-  StaticsSound, GlobalsSound, Sound, SoundEach, SoundDestinations, SoundDone, SoundDoneEach, SoundDeclared, SoundOneDeclared, SoundDefined, SoundOneDefined,
-  SoundStarted, SoundSection}
+use Rattle.bk_trans.proofs.Words.{◌≡◌, ℕ, ◌+◌, ◌==◌, Bool, true, false, cond, Option, Some, None, List, [], ◌∷◌, ◌++◌, length, refl, sym, ap, ◌∙◌, false≢true, Mention, Expression, Expressions, Action, Actions, Declaration, Declarations, Items, Definition, Definitions, Starts, name, number, parens, unary, binary, choice, apply, valof, table, none, more, empty, assign, call, goto, label, case_of, default, when, test, while, for_loop, switch, result, simple, block, repeat, repeat_while, no_actions, also, constants, definitions, no_declarations, declare, no_items, item, routine, function, variables, no_definitions, define, no_starts, value, vector, line_of, size, GLOBAL_NUMBER, VEC_NUMBER, Bound, Constant, Global, Static, Variable, Label, Place, Role, Value, Truth, Address, Destination, Wrong, dynamic_name, label_not_here, not_assignable, no_result_or_return, global_out_of_range, vec_out_of_range, text_of, Binding, bound_in, bind, has_address, constant_word, kept, deeper, looping, switching, labelled, valued, called, outermost, labels_of, labels_of_each, with_formals, parenthesised, words_of_start, Spot, procedures_in, onward, past, numbered, behind, behind_each, behind_done, behind_declared, behind_one_declared, behind_one_defined, behind_constant, symbols_each, beginning, Point, meaning, word, depth, wrong, claim, at, deepest, without_depths, meanings_of, words_of, labels_in_scope, procedures_in_scope, place_behind_one_defined, scope_behind_one, place_behind_one, scope_behind, place_behind_all, unless, used_at, gone_to, its_word, constant, each_constant, at_most, addressed, assigned, prefixed, depth_named, pushed, chosen_at, defaulted_at, single_at, each_of, manifest_items, static_items, global_items, its_meaning, its_global, its_frame, inside_procedure, procedure, told, told_each, told_destinations, told_done, told_done_each, told_declared, told_one_declared, told_defined, told_one_defined, told_started, told_of, meanings, words, Usable, GoesTo, Callable, HaveWords, ManifestsSound, StaticsSound, GlobalsSound, Sound, SoundEach, SoundDestinations, SoundDone, SoundDoneEach, SoundDeclared, SoundOneDeclared, SoundDefined, SoundOneDefined, SoundStarted, SoundSection}
 use Rattle.std.proofs.lemmas.Bool.{eq-eqb}
 use Rattle.bk_tree.specs.declared.tree.Operator.TheVariants as o
 use Rattle.bk_tree.specs.declared.tree.Prefix.TheVariants as q

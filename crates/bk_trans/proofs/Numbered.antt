@@ -1,18 +1,6 @@
 -- Each number has one target at most: labels have numbers of their own where they come into scope, and so have the procedures of a LET
 -- and the items of STATIC; in one list no name stands twice.
-use Rattle.bk_trans.proofs.Words.{arith, ◌≡◌, inl, inr, ℕ, ◌+◌, ◌≤◌, Bool, true, false, cond, Option, Some, None, List, [], ◌∷◌, ◌++◌, length, refl, sym, ap,
-  subst, ◌∙◌, ⊤, VEC_NUMBER, Expression, Expressions, Action, Actions, Declaration, Declarations, Items, Definition, Definitions, Starts, name, parens, unary,
-  binary, choice, apply, valof, none, more, empty, assign, call, label, case_of, default, when, test, while, for_loop, switch, result, block, repeat,
-  repeat_while, no_actions, also, constants, definitions, no_declarations, declare, no_items, item, routine, function, variables, no_definitions, define,
-  no_starts, value, vector, line_of, size, Bound, Global, Static, Variable, Label, Place, Role, Value, Truth, Address, Destination, not_assignable,
-  no_result_or_return, vec_out_of_range, Binding, bound_in, bind, constant_word, deeper, looping, switching, labelled, valued, called, outermost, labels_of,
-  labels_of_each, with_formals, parenthesised, words_of_start, Spot, procedures_in, onward, past, behind, behind_each, behind_done, behind_declared,
-  behind_one_declared, behind_one_defined, behind_constant, symbols_each, beginning, Claim, is_claimed, Point, meaning, word, depth, wrong, claim, claimed,
-  judged, at, labels_in_scope, procedures_in_scope, place_behind_one_defined, scope_behind_one, place_behind_one, scope_behind, place_behind_all, unless,
-  its_meaning, constant, each_constant, at_most, assigned, prefixed, pushed, chosen_at, defaulted_at, one_of, each_of, told, told_each, told_destinations,
-  told_done, told_done_each, told_declared, told_one_declared, told_defined, told_one_defined, told_started, naming, same_claim, Fault, is_global, numbers,
-  numbers_each, numbers_done, numbers_done_each, numbers_declared, numbers_one_declared, numbers_items, numbers_defined, numbers_one_defined, numbers_started,
-  procedure_in_scope, eqb-true, eq-eqb, ◌==◌, joined, sets}
+use Rattle.bk_trans.proofs.Words.{arith, ◌≡◌, inl, inr, ℕ, ◌+◌, ◌≤◌, Bool, true, false, cond, Option, Some, None, List, [], ◌∷◌, ◌++◌, length, refl, sym, ap, subst, ◌∙◌, ⊤, VEC_NUMBER, Expression, Expressions, Action, Actions, Declaration, Declarations, Items, Definition, Definitions, Starts, name, parens, unary, binary, choice, apply, valof, none, more, empty, assign, call, label, case_of, default, when, test, while, for_loop, switch, result, block, repeat, repeat_while, no_actions, also, constants, definitions, no_declarations, declare, no_items, item, routine, function, variables, no_definitions, define, no_starts, value, vector, line_of, size, Bound, Global, Static, Variable, Label, Place, Role, Value, Truth, Address, Destination, not_assignable, no_result_or_return, vec_out_of_range, Binding, bound_in, bind, constant_word, deeper, looping, switching, labelled, valued, called, outermost, labels_of, labels_of_each, with_formals, parenthesised, words_of_start, Spot, procedures_in, onward, past, behind, behind_each, behind_done, behind_declared, behind_one_declared, behind_one_defined, behind_constant, symbols_each, beginning, Claim, is_claimed, Point, meaning, word, depth, wrong, claim, claimed, judged, at, labels_in_scope, procedures_in_scope, place_behind_one_defined, scope_behind_one, place_behind_one, scope_behind, place_behind_all, unless, its_meaning, constant, each_constant, at_most, assigned, prefixed, pushed, chosen_at, defaulted_at, one_of, each_of, told, told_each, told_destinations, told_done, told_done_each, told_declared, told_one_declared, told_defined, told_one_defined, told_started, naming, same_claim, Fault, is_global, numbers, numbers_each, numbers_done, numbers_done_each, numbers_declared, numbers_one_declared, numbers_items, numbers_defined, numbers_one_defined, numbers_started, procedure_in_scope, eqb-true, eq-eqb, ◌==◌, joined, sets}
 use Rattle.bk_tree.specs.declared.tree.Operator.TheVariants as o
 use Rattle.bk_tree.specs.declared.tree.Prefix.TheVariants as sign
 use Rattle.bk_tree.specs.declared.tree.Sort.TheVariants as sort

@@ -1,7 +1,6 @@
 -- Labels are set once: those that a part sets, in its own code and in what stands by itself behind it, lie among its own, and
 -- each is set at most once. How often a label is set is counted.
-use Rattle.bk_trans.proofs.Words.{arith, ◌≡◌, ◌⊎◌, inl, inr, ◌<◌, ◌≤◌, ℕ, ◌+◌, ◌-◌, ◌==◌, min, Bool, true, false, not, cond, pos, int_lt, Some, List, [], ◌∷◌,
-  ◌++◌, length, map, refl, ap, cases_lt, ne_eqb, signed, Operator, Prefix, Bound, Stmt, joined, sets, times_set}
+use Rattle.bk_trans.proofs.Words.{arith, ◌≡◌, ◌⊎◌, inl, inr, ◌<◌, ◌≤◌, ℕ, ◌+◌, ◌-◌, ◌==◌, min, Bool, true, false, not, cond, pos, int_lt, Some, List, [], ◌∷◌, ◌++◌, length, map, refl, ap, cases_lt, ne_eqb, signed, Operator, Prefix, Bound, Stmt, joined, sets, times_set}
 use Rattle.bk_tree.specs.declared.tree.Operator.TheVariants as o
 use Rattle.bk_tree.specs.declared.tree.Prefix.TheVariants as q
 use Rattle.bk_tree.specs.declared.tree.Simple.TheVariants as w

@@ -1,7 +1,5 @@
 -- Statements whose numbers are in their ranges are the same in words.
-use Rattle.bk_trans.proofs.Words.{◌≡◌, ℕ, zero, suc, ◌<◌, ◌≤◌, ◌^◌, Some, List, [], ◌∷◌, map, slice_get, refl, ap, ◌∙◌, arith, FRAME_WORDS, OCODE_LABEL, Local,
-  Case, GlobalEntry, Stmt, Number, Load, Assign, Jump, JumpIf, GiveResult, TakeResult, Stack, Entry, Save, CallFunction, CallRoutine, Switch, DataLabel,
-  DataAddress, Globals, IsLabel, IsSlot, IsDepth, IsVariable, InRange}
+use Rattle.bk_trans.proofs.Words.{◌≡◌, ℕ, zero, suc, ◌<◌, ◌≤◌, ◌^◌, Some, List, [], ◌∷◌, map, slice_get, refl, ap, ◌∙◌, arith, FRAME_WORDS, OCODE_LABEL, Local, Case, GlobalEntry, Stmt, Number, Load, Assign, Jump, JumpIf, GiveResult, TakeResult, Stack, Entry, Save, CallFunction, CallRoutine, Switch, DataLabel, DataAddress, Globals, IsLabel, IsSlot, IsDepth, IsVariable, InRange}
 use Rattle.bk_ocode.specs.declared.stmt.Variable.{Variable}
 use Rattle.bk_ocode.specs.declared.stmt.Variable.TheVariants.{Global, Static}
 use Rattle.bk_ocode.specs.declared.stmt.Stmt.TheVariants.{Address, Label}

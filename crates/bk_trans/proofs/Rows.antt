@@ -1,10 +1,5 @@
 -- Worked rows: the statements of small sections.
-use Rattle.bk_trans.proofs.Words.{◌≡◌, true, false, pos, negsuc, List, [], ◌∷◌, refl, Declarations, name, number, text, truth, query, parens, unary, binary,
-  choice, apply, valof, table, none, more, assign, call, goto, label, case_of, default, when, test, while, for_loop, switch, result, simple, block, repeat,
-  repeat_while, no_actions, also, constants, definitions, no_declarations, declare, no_items, item, routine, function, variables, no_definitions, define,
-  no_starts, value, vector, Local, Stmt, Number, True, Query, Load, Text, Monadic, Dyadic, LoadByte, Assign, AssignAt, AssignByte, Jump, JumpIf, GiveResult,
-  TakeResult, Stack, Store, Entry, Save, CallFunction, CallRoutine, ReturnItem, Return, EndProcedure, Switch, Finish, DataLabel, DataNumber, DataAddress,
-  Globals, meanings, words}
+use Rattle.bk_trans.proofs.Words.{◌≡◌, true, false, pos, negsuc, List, [], ◌∷◌, refl, Declarations, name, number, text, truth, query, parens, unary, binary, choice, apply, valof, table, none, more, assign, call, goto, label, case_of, default, when, test, while, for_loop, switch, result, simple, block, repeat, repeat_while, no_actions, also, constants, definitions, no_declarations, declare, no_items, item, routine, function, variables, no_definitions, define, no_starts, value, vector, Local, Stmt, Number, True, Query, Load, Text, Monadic, Dyadic, LoadByte, Assign, AssignAt, AssignByte, Jump, JumpIf, GiveResult, TakeResult, Stack, Store, Entry, Save, CallFunction, CallRoutine, ReturnItem, Return, EndProcedure, Switch, Finish, DataLabel, DataNumber, DataAddress, Globals, meanings, words}
 use Rattle.bk_tree.specs.declared.tree.Operator.TheVariants as o
 use Rattle.bk_tree.specs.declared.tree.Prefix.TheVariants as q
 use Rattle.bk_tree.specs.declared.tree.Simple.TheVariants as w

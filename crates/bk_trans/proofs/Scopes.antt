@@ -1,10 +1,6 @@
 -- What names in scope mean at a place of a section without faults, and that a label and a static word that are in scope have a
 -- target in their plan.
-use Rattle.bk_trans.proofs.Words.{arith, ◌≡◌, ◌⊎◌, inl, inr, ℕ, ◌+◌, ◌≤◌, Bool, true, false, cond, Option, Some, None, List, [], ◌∷◌, ◌++◌, length, refl, sym,
-  ap, subst, ◌∙◌, ⊤, OCODE_LABEL, Action, Actions, Items, Definitions, label, case_of, default, when, test, while, switch, block, repeat, repeat_while,
-  no_actions, also, no_declarations, declare, no_items, item, routine, function, variables, no_definitions, define, Bound, Static, Label, Place, Binding,
-  bound_in, bind, bind_all, is_global, looping, switching, labels_of, labels_of_each, Spot, past, numbered, behind, behind_done, behind_constant,
-  behind_one_defined, labels_in_scope, procedure_in_scope, procedures_in_scope, statics_in_scope, place_behind_one_defined, IsLabel, IsDepth, Use}
+use Rattle.bk_trans.proofs.Words.{arith, ◌≡◌, ◌⊎◌, inl, inr, ℕ, ◌+◌, ◌≤◌, Bool, true, false, cond, Option, Some, None, List, [], ◌∷◌, ◌++◌, length, refl, sym, ap, subst, ◌∙◌, ⊤, OCODE_LABEL, Action, Actions, Items, Definitions, label, case_of, default, when, test, while, switch, block, repeat, repeat_while, no_actions, also, no_declarations, declare, no_items, item, routine, function, variables, no_definitions, define, Bound, Static, Label, Place, Binding, bound_in, bind, bind_all, is_global, looping, switching, labels_of, labels_of_each, Spot, past, numbered, behind, behind_done, behind_constant, behind_one_defined, labels_in_scope, procedure_in_scope, procedures_in_scope, statics_in_scope, place_behind_one_defined, IsLabel, IsDepth, Use}
 use Rattle.std.specs.Str.{bytes_eq}
 use Rattle.std.proofs.lemmas.Slice.Eq.{bytes_eq-Decides}
 use Rattle.bk_ocode.specs.Typing as typing

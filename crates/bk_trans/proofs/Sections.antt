@@ -1,7 +1,5 @@
 -- A whole section: its procedures, data and GLOBAL agree with a plan, where each part is good and has its marks.
-use Rattle.bk_trans.proofs.Words.{arith, ◌≡◌, inr, ℕ, zero, suc, ◌+◌, ◌-◌, ◌≤◌, ◌==◌, Bool, true, false, cond, Some, None, List, [], ◌∷◌, ◌++◌, length, map,
-  slice_get, refl, sym, ap, subst, ◌∙◌, eqb-true, eq-eqb, length-append, ⊤, signed, GLOBAL_NUMBER, OCODE_LABEL, OCODE_STATEMENTS, Bound, GlobalEntry, Stmt,
-  joined, IsLabel, IsGlobal, AreEntries, Use, outside, ended, AllEntries, Typed, done, enters, returns, gives, begins, points, ends, sets, times_set}
+use Rattle.bk_trans.proofs.Words.{arith, ◌≡◌, inr, ℕ, zero, suc, ◌+◌, ◌-◌, ◌≤◌, ◌==◌, Bool, true, false, cond, Some, None, List, [], ◌∷◌, ◌++◌, length, map, slice_get, refl, sym, ap, subst, ◌∙◌, eqb-true, eq-eqb, length-append, ⊤, signed, GLOBAL_NUMBER, OCODE_LABEL, OCODE_STATEMENTS, Bound, GlobalEntry, Stmt, joined, IsLabel, IsGlobal, AreEntries, Use, outside, ended, AllEntries, Typed, done, enters, returns, gives, begins, points, ends, sets, times_set}
 use Rattle.bk_scope.specs.declared.bound.Bound.TheVariants as b
 use Rattle.bk_ocode.specs.declared.stmt.Stmt.TheVariants as t
 use Rattle.bk_ocode.specs.Typing as typing

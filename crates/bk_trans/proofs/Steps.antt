@@ -1,7 +1,5 @@
 -- Statements of a procedure one behind another, from one depth to another, and each statement that the scheme gives by itself.
-use Rattle.bk_trans.proofs.Words.{arith, ◌≡◌, ℕ, ◌+◌, ◌-◌, ◌≤◌, Bool, true, false, cond, List, [], ◌∷◌, ◌++◌, length, ℤ, int_lt, pos, refl, sym, subst, Some,
-  None, length-take, FRAME_WORDS, NAME_BYTES, signed, first_bytes, Operator, Prefix, Bound, Stmt, IsLabel, IsDepth, Use, jumps, results, Standing, body, Fits,
-  Typed, done, enters, goes, lands, takes, returns, gives, begins, points, ends}
+use Rattle.bk_trans.proofs.Words.{arith, ◌≡◌, ℕ, ◌+◌, ◌-◌, ◌≤◌, Bool, true, false, cond, List, [], ◌∷◌, ◌++◌, length, ℤ, int_lt, pos, refl, sym, subst, Some, None, length-take, FRAME_WORDS, NAME_BYTES, signed, first_bytes, Operator, Prefix, Bound, Stmt, IsLabel, IsDepth, Use, jumps, results, Standing, body, Fits, Typed, done, enters, goes, lands, takes, returns, gives, begins, points, ends}
 use Rattle.bk_tree.specs.declared.tree.Operator.TheVariants as o
 use Rattle.bk_tree.specs.declared.tree.Prefix.TheVariants as q
 use Rattle.bk_scope.specs.declared.bound.Bound.TheVariants as b

@@ -1,11 +1,6 @@
 -- What is written of a part of a section is the scheme's code of it: going through a part adds its statements, what stands by
 -- itself in it, and its choices, where what declarations went to is the same in words.
-use Rattle.bk_trans.proofs.Words.{◌≡◌, ℕ, ◌+◌, Bool, true, false, not, cond, None, List, [], ◌∷◌, ◌++◌, map, length, refl, sym, ap, ◌∙◌, append_assoc, arith,
-  append-nil, map-append, first_bytes, signed, Operator, Expression, Expressions, Action, Actions, Declaration, Declarations, Definition, Definitions, Starts,
-  name, number, text, truth, query, parens, unary, binary, choice, apply, valof, table, none, more, empty, assign, call, goto, label, case_of, default, when,
-  test, while, for_loop, switch, result, simple, block, repeat, repeat_while, no_actions, also, constants, definitions, no_declarations, declare, routine,
-  function, variables, no_definitions, define, no_starts, value, vector, size, Local, Stmt, Number, Query, Text, Dyadic, Assign, AssignAt, AssignByte, Jump,
-  JumpIf, GiveResult, TakeResult, Stack, Store, CallFunction, CallRoutine, ReturnItem, Return, Finish}
+use Rattle.bk_trans.proofs.Words.{◌≡◌, ℕ, ◌+◌, Bool, true, false, not, cond, None, List, [], ◌∷◌, ◌++◌, map, length, refl, sym, ap, ◌∙◌, append_assoc, arith, append-nil, map-append, first_bytes, signed, Operator, Expression, Expressions, Action, Actions, Declaration, Declarations, Definition, Definitions, Starts, name, number, text, truth, query, parens, unary, binary, choice, apply, valof, table, none, more, empty, assign, call, goto, label, case_of, default, when, test, while, for_loop, switch, result, simple, block, repeat, repeat_while, no_actions, also, constants, definitions, no_declarations, declare, routine, function, variables, no_definitions, define, no_starts, value, vector, size, Local, Stmt, Number, Query, Text, Dyadic, Assign, AssignAt, AssignByte, Jump, JumpIf, GiveResult, TakeResult, Stack, Store, CallFunction, CallRoutine, ReturnItem, Return, Finish}
 use Rattle.bk_tree.specs.declared.tree.Operator.TheVariants as o
 use Rattle.bk_tree.specs.declared.tree.Prefix.TheVariants as q
 use Rattle.bk_tree.specs.declared.tree.Simple.TheVariants as w

@@ -1,8 +1,5 @@
 -- What is told of a part of a section without faults: no depth is past the limit, each word is one, and no claim was made before.
-use Rattle.bk_trans.proofs.Words.{arith, ◌+◌, ◌<◌, ◌≤◌, ◌^◌, Option, List, [], ◌∷◌, ◌++◌, length, ⊤, FRAME_WORDS, Operator, Prefix, Expression, name, number,
-  parens, unary, binary, choice, apply, valof, table, size, Bound, Place, Role, Value, Truth, Address, Destination, Binding, bound_in, Claim, deeper, valued,
-  labelled, parenthesised, role_of_operand, role_of_operands, place_of_second, labels_of, labels_in_scope, Spot, onward, past, behind, Point, meaning, word,
-  depth, claims_behind, used_at, depth_named, prefixed, pushed, each_constant, told, told_each, told_done}
+use Rattle.bk_trans.proofs.Words.{arith, ◌+◌, ◌<◌, ◌≤◌, ◌^◌, Option, List, [], ◌∷◌, ◌++◌, length, ⊤, FRAME_WORDS, Operator, Prefix, Expression, name, number, parens, unary, binary, choice, apply, valof, table, size, Bound, Place, Role, Value, Truth, Address, Destination, Binding, bound_in, Claim, deeper, valued, labelled, parenthesised, role_of_operand, role_of_operands, place_of_second, labels_of, labels_in_scope, Spot, onward, past, behind, Point, meaning, word, depth, claims_behind, used_at, depth_named, prefixed, pushed, each_constant, told, told_each, told_done}
 use Rattle.bk_tree.specs.declared.tree.Operator.TheVariants as o
 use Rattle.bk_tree.specs.declared.tree.Prefix.TheVariants as q
 use Rattle.bk_scope.specs.Laws.{Clean}

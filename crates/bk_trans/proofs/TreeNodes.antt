@@ -1,6 +1,5 @@
 -- The nodes of the named tree of a section: filling gives no more of them than its source has.
-use Rattle.bk_trans.proofs.Words.{arith, ◌≤◌, ℕ, ◌+◌, length, Expression, Expressions, Action, Actions, Declaration, Declarations, Items, Definition,
-  Definitions, Starts}
+use Rattle.bk_trans.proofs.Words.{arith, ◌≤◌, ℕ, ◌+◌, length, Expression, Expressions, Action, Actions, Declaration, Declarations, Items, Definition, Definitions, Starts}
 use Rattle.bk_tree.specs.declared.tree.Operator.TheVariants as o
 use Rattle.bk_tree.specs.declared.tree.Prefix.TheVariants as q
 use Rattle.bk_tree.specs.declared.tree.Sort.TheVariants as s

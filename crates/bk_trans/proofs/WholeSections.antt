@@ -1,6 +1,5 @@
 -- The statements that are written of a section are the scheme's, in words.
-use Rattle.bk_trans.proofs.Words.{◌≡◌, ℕ, ◌==◌, Bool, true, false, cond, List, [], ◌∷◌, map, refl, sym, ap, ◌∙◌, Declarations, Bound, meanings, words, Stmt,
-  Globals, joined}
+use Rattle.bk_trans.proofs.Words.{◌≡◌, ℕ, ◌==◌, Bool, true, false, cond, List, [], ◌∷◌, map, refl, sym, ap, ◌∙◌, Declarations, Bound, meanings, words, Stmt, Globals, joined}
 use Rattle.bk_scope.specs.Known.{Known}
 use Rattle.bk_tree.specs.Limits.{Within}
 use Rattle.bk_ocode.specs.Section.{IsSection}
