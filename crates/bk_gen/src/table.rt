@@ -2,7 +2,6 @@
 ghost use Rattle.std.specs.Prelude.{◌≡◌, ◌<◌, ◌^◌, ◌++◌, ◌∷◌, [], OnOk, length, take};
 ghost use Rattle.bk_gen.specs.PlainCode.{pairs, table};
 
-use crate::instruction::push_item;
 use bk_intcode::Item;
 use bk_ocode::Case;
 use std::alloc::AllocError;
@@ -11,8 +10,9 @@ use std::alloc::AllocError;
 fn push_pair(items: &mut Vec<Item>, case: Case) -> Result<(), AllocError>
     ensures { OnOk result (items.new.items ≡ items.old.items ++ pairs (case ∷ [])) }
 {
-    push_item(items, Item::Word(case.value))?;
-    push_item(items, Item::LabelWord(case.label))
+    items.push(Item::Word(case.value))?;
+    items.push(Item::LabelWord(case.label))?;
+    Ok(())
 }
 
 fn push_pairs(items: &mut Vec<Item>, cases: &[Case]) -> Result<(), AllocError>
@@ -33,7 +33,7 @@ pub(crate) fn push_table(
     requires { length cases.now < 2 ^ 31 }
     ensures { OnOk result (items.new.items ≡ items.old.items ++ table default cases.now) }
 {
-    push_item(items, Item::Word(cases.len() as i32))?;
-    push_item(items, Item::LabelWord(default))?;
+    items.push(Item::Word(cases.len() as i32))?;
+    items.push(Item::LabelWord(default))?;
     push_pairs(items, cases)
 }
