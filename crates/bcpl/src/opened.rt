@@ -1,7 +1,7 @@
-//! FILE, whether it could be opened or not.
+//! What the program reads.
 use std::fs::File;
 use std::io;
-use std::io::{ErrorKind, Read};
+use std::io::{ErrorKind, Read, Stdin};
 use std::os::fd::AsRawFd;
 
 /// The number of standard error, the last of the standard streams.
@@ -17,24 +17,34 @@ pub fn open(rt: &HostRuntime, name: &str) -> io::Result<File> {
     Ok(file)
 }
 
-/// A file that was opened, or one that could not be, of which each read fails.
+/// What the program reads: the standard input, a file that was opened, or one that could not be, of which each read fails. It is one
+/// type, so that each reader of the kit is compiled once.
 #[derive(Drop)]
-pub struct Opened<R> {
-    file: Option<R>,
+pub enum Source {
+    /// The standard input.
+    Input(Stdin),
+    /// A file that was opened.
+    File(File),
+    /// A file that could not be opened.
+    Missing,
 }
 
-impl<R> Opened<R> {
-    /// The file, or None where it could not be opened.
-    pub fn new(file: Option<R>) -> Opened<R> {
-        Opened { file }
+impl Source {
+    /// The file, or `Missing` where it could not be opened.
+    pub fn of(file: Option<File>) -> Source {
+        match file {
+            Some(file) => Source::File(file),
+            None => Source::Missing,
+        }
     }
 }
 
-impl<R: Read> Read for Opened<R> {
+impl Read for Source {
     fn read(&mut self, buf: &mut [u8]) -> io::Result<usize> {
-        match &mut self.file {
-            Some(file) => file.read(buf),
-            None => Err(io::Error::from(ErrorKind::NotFound)),
+        match self {
+            Source::Input(input) => input.read(buf),
+            Source::File(file) => file.read(buf),
+            Source::Missing => Err(io::Error::from(ErrorKind::NotFound)),
         }
     }
 }
