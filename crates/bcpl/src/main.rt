@@ -7,7 +7,7 @@ mod opened;
 use bk_base::{ByteOut, Reader512, Writer512};
 use bk_kit::{LineFault, Order, order, refuse, serve};
 use by_lines::ByLines;
-use opened::{Source, open};
+use opened::{Opened, Source, open};
 use std::fs::File;
 use std::io::{ErrorKind, IsTerminal};
 use std::process::ExitCode;
@@ -20,8 +20,9 @@ fn opened_at(rt: &HostRuntime, name: Option<&str>) -> Option<File> {
 
 /// Does what is ordered, with these streams for output and lines, and answers the status.
 fn done<O: ByteOut, E: ByteOut>(rt: &HostRuntime, order: &Order, out: &mut O, err: &mut E) -> u8 {
-    let mut file = Reader512::new(Source::of(opened_at(rt, order.file())));
-    let mut names = Reader512::new(Source::of(opened_at(rt, order.ocode())));
+    let mut file = Reader512::new(Opened::new(opened_at(rt, order.file())));
+    let named = Opened::new(opened_at(rt, order.ocode()));
+    let mut names = Reader512::new(Source::File(named));
     let mut input = Reader512::new(Source::Input(rt.stdin()));
     serve(
         rt.alloc(),

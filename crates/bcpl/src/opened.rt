@@ -1,4 +1,4 @@
-//! What the program reads.
+//! FILE, whether it could be opened or not.
 use std::fs::File;
 use std::io;
 use std::io::{ErrorKind, Read, Stdin};
@@ -17,26 +17,36 @@ pub fn open(rt: &HostRuntime, name: &str) -> io::Result<File> {
     Ok(file)
 }
 
-/// What the program reads: the standard input, a file that was opened, or one that could not be, of which each read fails. It is one
-/// type, so that each reader of the kit is compiled once.
+/// A file that was opened, or one that could not be, of which each read fails.
+#[derive(Drop)]
+pub struct Opened<R> {
+    file: Option<R>,
+}
+
+impl<R> Opened<R> {
+    /// The file, or None where it could not be opened.
+    pub fn new(file: Option<R>) -> Opened<R> {
+        Opened { file }
+    }
+}
+
+impl<R: Read> Read for Opened<R> {
+    fn read(&mut self, buf: &mut [u8]) -> io::Result<usize> {
+        match &mut self.file {
+            Some(file) => file.read(buf),
+            None => Err(io::Error::from(ErrorKind::NotFound)),
+        }
+    }
+}
+
+/// The standard input or a file. The input and the OCODE that gives names are of this one type, so that the reader of OCODE is compiled
+/// once.
 #[derive(Drop)]
 pub enum Source {
     /// The standard input.
     Input(Stdin),
-    /// A file that was opened.
-    File(File),
-    /// A file that could not be opened.
-    Missing,
-}
-
-impl Source {
-    /// The file, or `Missing` where it could not be opened.
-    pub fn of(file: Option<File>) -> Source {
-        match file {
-            Some(file) => Source::File(file),
-            None => Source::Missing,
-        }
-    }
+    /// A file that was opened, or one that could not be.
+    File(Opened<File>),
 }
 
 impl Read for Source {
@@ -44,7 +54,6 @@ impl Read for Source {
         match self {
             Source::Input(input) => input.read(buf),
             Source::File(file) => file.read(buf),
-            Source::Missing => Err(io::Error::from(ErrorKind::NotFound)),
         }
     }
 }
