@@ -50,6 +50,8 @@ pub enum Source {
 }
 
 impl Read for Source {
+    // (once for 512 bytes: it stays out of the loops over them)
+    #[inline(never)]
     fn read(&mut self, buf: &mut [u8]) -> io::Result<usize> {
         match self {
             Source::Input(input) => input.read(buf),
