@@ -7,7 +7,7 @@ use Rattle.bk_meaning.specs.World.{World, Outcome, Done, gives, with, rememberin
 use Rattle.bk_meaning.specs.Environment.{Environment}
 use Rattle.bk_meaning.specs.Lasting.{Program}
 use Rattle.bk_meaning.specs.Blocks.{starts, vec_cells}
-use Rattle.bk_check.specs.declared.frame.Frame.{Frame}
+use Rattle.bk_check.specs.declared.frame.Continuation.{Continuation}
 use Rattle.bk_check.specs.declared.frame.Let.{Let}
 use Rattle.bk_check.specs.declared.frame.Next.{Next}
 use Rattle.bk_meaning.specs.Full.{full}
@@ -15,8 +15,8 @@ use Rattle.bk_check.specs.Worlds.{Bytes}
 use Rattle.bk_check.specs.Resume.{Given, tag, done_tag, resumed, started_then, vector_then, Comes}
 
 -- what comes to this in any world comes to it in that of a machine
-pub meets_there : {E : Type 0} (r : Result Next E) (fs : List Frame) (there : Bytes → World) (u : Program → World → Outcome Done) (v : Program → Bytes → Outcome Given) → ((p : Program) (b : Bytes) → resumed p fs (tag done_tag (u p (there b))) ≡ v p b) →
-    IfOk r (λ next. (p : Program) (fs : List Frame) (w : World) → Comes p fs next w (resumed p fs (tag done_tag (u p w)))) → IfOk r (λ next. (p : Program) (b : Bytes) → Comes p fs next (there b) (v p b))
+pub meets_there : {E : Type 0} (r : Result Next E) (fs : List Continuation) (there : Bytes → World) (u : Program → World → Outcome Done) (v : Program → Bytes → Outcome Given) → ((p : Program) (b : Bytes) → resumed p fs (tag done_tag (u p (there b))) ≡ v p b) →
+    IfOk r (λ next. (p : Program) (fs : List Continuation) (w : World) → Comes p fs next w (resumed p fs (tag done_tag (u p w)))) → IfOk r (λ next. (p : Program) (b : Bytes) → Comes p fs next (there b) (v p b))
 meets_there (Ok next) fs there u v e h = λ p b. h p fs (there b) ∙ e p b
 meets_there (Err x) fs there u v e h = h
 

@@ -29,8 +29,8 @@ use Rattle.bk_check.specs.declared.frame.OnTarget.{OnTarget}
 use Rattle.bk_check.specs.declared.frame.OnTarget.TheVariants as a
 use Rattle.bk_check.specs.declared.frame.OnDone.{OnDone}
 use Rattle.bk_check.specs.declared.frame.OnDone.TheVariants as d
-use Rattle.bk_check.specs.declared.frame.Frame.{Frame}
-use Rattle.bk_check.specs.declared.frame.Frame.TheVariants as f
+use Rattle.bk_check.specs.declared.frame.Continuation.{Continuation}
+use Rattle.bk_check.specs.declared.frame.Continuation.TheVariants as f
 use Rattle.bk_check.specs.declared.frame.For.{For}
 use Rattle.bk_check.specs.declared.frame.Let.{Let}
 use Rattle.bk_check.specs.declared.frame.Next.{Next}
@@ -183,7 +183,7 @@ done_left p d.Cases x w = tag done_tag (case_exit x w)
 done_left p (d.Round c env) x w = tag done_tag (round_exit (next_round p (action c.now) (env_in env)) x w)
 done_left p (d.ForRound f) x w = tag done_tag (round_exit (next_for p f) x w)
 
-abbrev pub resume_left : Program → Frame → Exit → World → Outcome Given
+abbrev pub resume_left : Program → Continuation → Exit → World → Outcome Given
 resume_left p (f.Done g) x w = done_left p g x w
 resume_left p (f.Returned c) x w = undefined
 resume_left p (f.Closing n) x w = leaves x (forgetting n w)
@@ -193,36 +193,36 @@ resume_left p f x w = leaves x w
 abbrev pub returned : ℕ → Outcome Value → Outcome Value
 returned n u = each_way (λ v after. gives v (calls_back n after)) (λ x w. undefined) u
 
-abbrev pub resume_value : Program → Frame → Outcome Value → Outcome Given
+abbrev pub resume_value : Program → Continuation → Outcome Value → Outcome Given
 resume_value p (f.Value g) u = value_goes p g u
 resume_value p (f.Returned c) u = tag a_value (returned c.calls u)
 resume_value p (f.Closing n) u = tag a_value (closing n u)
 resume_value p f u = each_way (λ _ w. undefined) (resume_left p f) u
 
-abbrev pub resume_truth : Program → Frame → Outcome Bool → Outcome Given
+abbrev pub resume_truth : Program → Continuation → Outcome Bool → Outcome Given
 resume_truth p (f.Truth g) u = truth_goes p g u
 resume_truth p f u = each_way (λ _ w. undefined) (resume_left p f) u
 
-abbrev pub resume_target : Program → Frame → Outcome Target → Outcome Given
+abbrev pub resume_target : Program → Continuation → Outcome Target → Outcome Given
 resume_target p (f.Target g) u = target_goes p g u
 resume_target p f u = each_way (λ _ w. undefined) (resume_left p f) u
 
-abbrev pub resume_done : Program → Frame → Outcome Done → Outcome Given
+abbrev pub resume_done : Program → Continuation → Outcome Done → Outcome Given
 resume_done p (f.Done g) u = done_goes p g u
 resume_done p (f.Closing n) u = tag done_tag (closing n u)
 resume_done p f u = each_way (λ _ w. undefined) (resume_left p f) u
 
-abbrev pub resume_given : Program → Frame → Given → World → Outcome Given
+abbrev pub resume_given : Program → Continuation → Given → World → Outcome Given
 resume_given p f (a_value v) w = resume_value p f (gives v w)
 resume_given p f (a_truth b) w = resume_truth p f (gives b w)
 resume_given p f (a_target t) w = resume_target p f (gives t w)
 resume_given p f is_done w = resume_done p f (gives tt w)
 
-abbrev pub resume : Program → Frame → Outcome Given → Outcome Given
+abbrev pub resume : Program → Continuation → Outcome Given → Outcome Given
 resume p f u = each_way (resume_given p f) (resume_left p f) u
 
 -- by the frames, the innermost last
-unfoldable pub resumed : Program → List Frame → Outcome Given → Outcome Given
+unfoldable pub resumed : Program → List Continuation → Outcome Given → Outcome Given
 resumed p [] u = u
 resumed p (f ∷ fs) u = resume p f (resumed p fs u)
 
@@ -252,5 +252,5 @@ abbrev pub list_value : List Worth → List Value
 list_value vs = map value_in vs
 
 -- What is to be done comes to the same as this.
-abbrev pub Comes : Program → List Frame → Next → World → Outcome Given → Type 0
+abbrev pub Comes : Program → List Continuation → Next → World → Outcome Given → Type 0
 Comes p fs next w u = resumed p fs (outcome_next p next w) ≡ u

@@ -14,19 +14,19 @@ ghost use Rattle.bk_check.specs.Worlds.{Bytes, world};
 ghost use Rattle.bk_check.specs.Resume.{tag, done_tag, Comes, resumed, declared_then, bound_then, defined_then, started_then, starting_then, variables_then, vector_then};
 
 use crate::commands::scope;
-use crate::frame::{Frame, Let, Next, OnValue, Start, Subject};
-use crate::machine::Machine;
+use crate::frame::{Continuation, Let, Next, OnValue, Start, Subject};
+use crate::machine::Evaluator;
 use bk_base::Line;
 use bk_lasting::{Env, Sense, constant, constants, count, count_def, count_defs, within_let};
 use bk_objects::{Cell, Reason, Store, Worth};
-use bk_tree::{Command, Decl, Def, Expr, Init, Item, Name, Sort};
+use bk_tree::{Command, ConstItem, Decl, Def, Expr, Init, Name, Sort};
 use std::alloc::{AllocError, Global};
 use std::mem::replace;
 
 /// The declarations of a block, one after another, and then its commands.
 #[inline(never)]
 pub fn declare<'a>(
-    m: &mut Machine<'a>,
+    m: &mut Evaluator<'a>,
     decls: &'a [Decl],
     commands: &'a [Command],
     env: Env<'a>,
@@ -43,7 +43,7 @@ pub fn declare<'a>(
 
 /// A declaration, and what is after it.
 fn declare_one<'a>(
-    m: &mut Machine<'a>,
+    m: &mut Evaluator<'a>,
     first: &'a Decl,
     rest: &'a [Decl],
     commands: &'a [Command],
@@ -62,9 +62,9 @@ fn declare_one<'a>(
 /// MANIFEST, STATIC or GLOBAL.
 #[inline(never)]
 fn declare_constants<'a>(
-    m: &mut Machine<'a>,
+    m: &mut Evaluator<'a>,
     sort: Sort,
-    items: &'a [Item],
+    items: &'a [ConstItem],
     rest: &'a [Decl],
     commands: &'a [Command],
     env: Env<'a>,
@@ -80,7 +80,7 @@ fn declare_constants<'a>(
 /// LET: the definitions see its procedures.
 #[inline(never)]
 fn declare_let<'a>(
-    m: &mut Machine<'a>,
+    m: &mut Evaluator<'a>,
     defs: &'a [Def],
     rest: &'a [Decl],
     commands: &'a [Command],
@@ -107,7 +107,7 @@ fn declare_let<'a>(
 
 /// The definitions that are left of a LET. After the last one the variables come into being.
 #[inline(never)]
-pub fn define<'a>(m: &mut Machine<'a>, rest: Box<Let<'a>>) -> Result<Next<'a>, AllocError>
+pub fn define<'a>(m: &mut Evaluator<'a>, rest: Box<Let<'a>>) -> Result<Next<'a>, AllocError>
     ensures { IfOk result (λ next. (p : Program) (b : Bytes) →
         Comes p m.new.frames.items next (world m.new b)
         (resumed p m.old.frames.items (tag done_tag (defined_then p rest.entry.value (world m.old b))))) }
@@ -120,7 +120,7 @@ pub fn define<'a>(m: &mut Machine<'a>, rest: Box<Let<'a>>) -> Result<Next<'a>, A
 
 /// The first of the definitions, with those after it.
 fn define_behind<'a>(
-    m: &mut Machine<'a>,
+    m: &mut Evaluator<'a>,
     first: &'a Def,
     others: &'a [Def],
     rest: Box<Let<'a>>,
@@ -135,7 +135,7 @@ fn define_behind<'a>(
 }
 
 /// The variables of a LET, and what is after it.
-fn begin_scope<'a>(m: &mut Machine<'a>, rest: Box<Let<'a>>) -> Result<Next<'a>, AllocError>
+fn begin_scope<'a>(m: &mut Evaluator<'a>, rest: Box<Let<'a>>) -> Result<Next<'a>, AllocError>
     ensures { IfOk result (λ next. (p : Program) (b : Bytes) →
         Comes p m.new.frames.items next (world m.new b)
         (resumed p m.old.frames.items (tag done_tag (bound_then p rest.entry.value [] (world m.old b))))) }
@@ -147,7 +147,7 @@ fn begin_scope<'a>(m: &mut Machine<'a>, rest: Box<Let<'a>>) -> Result<Next<'a>, 
 
 /// A definition, and those after it.
 fn define_one<'a>(
-    m: &mut Machine<'a>,
+    m: &mut Evaluator<'a>,
     first: &'a Def,
     rest: Box<Let<'a>>,
 ) -> Result<Next<'a>, AllocError>
@@ -166,7 +166,7 @@ fn define_one<'a>(
 
 /// After a procedure.
 fn pass<'a>(there: Env<'a>, rest: Box<Let<'a>>) -> Next<'a>
-    ensures { (p : Program) (fs : List Frame) (w : World) → Comes p fs result w (resumed p fs (tag done_tag
+    ensures { (p : Program) (fs : List Continuation) (w : World) → Comes p fs result w (resumed p fs (tag done_tag
         (with (k.let_values (full p) (definitions_in rest.entry.value.defs.now) (env_in there.entry) w) (λ ss w. bound_then p rest.entry.value ss w)))) }
 {
     let mut rest = rest;
@@ -176,7 +176,7 @@ fn pass<'a>(there: Env<'a>, rest: Box<Let<'a>>) -> Next<'a>
 
 /// Variables, whose values take a turn.
 fn variables<'a>(
-    m: &mut Machine<'a>,
+    m: &mut Evaluator<'a>,
     line: Line,
     names: &'a [Name],
     inits: &'a [Init],
@@ -217,7 +217,7 @@ fn bind_starts<'a>(
 /// What variables begin with, from one of them on.
 #[inline(never)]
 pub fn starts<'a>(
-    m: &mut Machine<'a>,
+    m: &mut Evaluator<'a>,
     inits: &'a [Init],
     here: Env<'a>,
     names: &'a [Name],
@@ -235,7 +235,7 @@ pub fn starts<'a>(
 
 /// Where no variable is left.
 fn no_start<'a>(names: &'a [Name], rest: Box<Let<'a>>) -> Next<'a>
-    ensures { (p : Program) (fs : List Frame) (w : World) → Comes p fs result w (resumed p fs (tag done_tag (started_then p rest.entry.value (letters_in names.now) [] w))) }
+    ensures { (p : Program) (fs : List Continuation) (w : World) → Comes p fs result w (resumed p fs (tag done_tag (started_then p rest.entry.value (letters_in names.now) [] w))) }
 {
     match names.split_first() {
         None => Next::Define(rest),
@@ -245,7 +245,7 @@ fn no_start<'a>(names: &'a [Name], rest: Box<Let<'a>>) -> Next<'a>
 
 /// What one variable begins with, and those after it.
 fn start_one<'a>(
-    m: &mut Machine<'a>,
+    m: &mut Evaluator<'a>,
     first: &'a Init,
     others: &'a [Init],
     here: Env<'a>,
@@ -264,7 +264,7 @@ fn start_one<'a>(
 
 /// A variable that begins with a value.
 fn start_value<'a>(
-    m: &mut Machine<'a>,
+    m: &mut Evaluator<'a>,
     value: &'a Expr,
     others: &'a [Init],
     here: Env<'a>,
@@ -282,7 +282,7 @@ fn start_value<'a>(
 
 /// A VEC, which takes a turn: its object is made.
 fn vector<'a>(
-    m: &mut Machine<'a>,
+    m: &mut Evaluator<'a>,
     line: Line,
     size: &'a Expr,
     others: &'a [Init],
@@ -304,7 +304,7 @@ fn vector<'a>(
 
 /// The object of a VEC, whose last place has this number.
 fn make_vector<'a>(
-    m: &mut Machine<'a>,
+    m: &mut Evaluator<'a>,
     size: &'a Expr,
     last: Option<u32>,
     others: &'a [Init],
@@ -336,7 +336,7 @@ pub fn named<'a>(
     value: Worth,
     rest: Box<Let<'a>>,
 ) -> Result<Next<'a>, AllocError>
-    ensures { IfOk result (λ next. (p : Program) (fs : List Frame) (w : World) → Comes p fs next w
+    ensures { IfOk result (λ next. (p : Program) (fs : List Continuation) (w : World) → Comes p fs next w
         (resumed p fs (tag done_tag (with (with (k.starts (full p) (starts_in inits.now) (env_in here.entry) w) (λ vs w. gives (value_in value ∷ vs) w)) (λ vs w. started_then p rest.entry.value (letters_in names.now) vs w))))) }
 {
     match names.split_first() {

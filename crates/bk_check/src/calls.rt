@@ -13,8 +13,8 @@ ghost use Rattle.bk_check.specs.Worlds.{Bytes, world};
 ghost use Rattle.bk_meaning.specs.World.{World, undefined};
 ghost use Rattle.bk_check.specs.Resume.{tag, a_value, Comes, resumed, outcome_next, list_value};
 
-use crate::frame::{Call, Frame, Next, OnDone, Subject};
-use crate::machine::Machine;
+use crate::frame::{Call, Continuation, Next, OnDone, Subject};
+use crate::machine::Evaluator;
 use bk_base::Line;
 use bk_lasting::{Body, Env, Lasting, Procedure, Sense};
 use bk_objects::{Cell, Reason, Worth};
@@ -74,14 +74,14 @@ fn bind_formals<'a>(
 }
 
 /// The body of a procedure.
-fn body<'a>(m: &mut Machine<'a>, body: Body<'a>, env: Env<'a>) -> Result<Next<'a>, AllocError>
+fn body<'a>(m: &mut Evaluator<'a>, body: Body<'a>, env: Env<'a>) -> Result<Next<'a>, AllocError>
     ensures { IfOk result (λ next. (p : Program) (b : Bytes) →
         Comes p m.new.frames.items next (world m.new b)
         (resumed p m.old.frames.items (tag a_value (c.run_body (full p) (body_in body.entry) (env_in env.entry) (world m.old b))))) }
 {
     match body {
         Body::Command(command) => {
-            m.frames.push(Frame::Done(OnDone::Body))?;
+            m.frames.push(Continuation::Done(OnDone::Body))?;
             m.alone(command, None, env)
         }
         Body::Value(value) => Ok(Next::Value(value, env)),
@@ -91,7 +91,7 @@ fn body<'a>(m: &mut Machine<'a>, body: Body<'a>, env: Env<'a>) -> Result<Next<'a
 /// A procedure that is called.
 #[inline(never)]
 fn enter<'a>(
-    m: &mut Machine<'a>,
+    m: &mut Evaluator<'a>,
     procedure: &Procedure<'a>,
     values: Vec<Worth>,
 ) -> Result<Next<'a>, AllocError>
@@ -100,7 +100,7 @@ fn enter<'a>(
         (resumed p m.old.frames.items (tag a_value (c.enter (full p) (Some (procedure_in procedure.now)) (list_value values.items) (world m.old b))))) }
 {
     let object = m.store.made();
-    m.frames.push(Frame::Closing(object))?;
+    m.frames.push(Continuation::Closing(object))?;
     let env = bind_formals(m.alloc, object, procedure.formals, procedure.env.again()?)?;
     let cells = formal_cells(m.alloc, procedure.formals, &values)?;
     m.store.make(&cells)?;
@@ -121,7 +121,7 @@ fn no_procedure<'a>(line: Line, expr: Option<&'a Expr>, callee: Worth) -> Next<'
 /// What is called.
 #[inline(never)]
 fn called<'a>(
-    m: &mut Machine<'a>,
+    m: &mut Evaluator<'a>,
     program: &[Lasting<'a>],
     line: Line,
     expr: Option<&'a Expr>,
@@ -147,7 +147,7 @@ fn called<'a>(
 /// A call. While it runs a further call is active.
 #[inline(never)]
 pub fn call<'a>(
-    m: &mut Machine<'a>,
+    m: &mut Evaluator<'a>,
     program: &[Lasting<'a>],
     line: Line,
     expr: Option<&'a Expr>,
@@ -159,7 +159,7 @@ pub fn call<'a>(
         (resumed (program_in program.now) m.old.frames.items (tag a_value (c.call (program_in program.now) (full (program_in program.now)) (value_in callee) (list_value values.items) (world m.old b))))) }
 {
     let calls = m.calls;
-    m.frames.push(Frame::Returned(Call {
+    m.frames.push(Continuation::Returned(Call {
         line,
         callee,
         arguments: values.len(),

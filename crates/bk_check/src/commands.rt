@@ -18,9 +18,9 @@ ghost use Rattle.bk_lasting.specs.Views.{env_in};
 ghost use Rattle.bk_check.specs.Worlds.{Bytes, world};
 ghost use Rattle.bk_check.specs.Resume.{tag, done_tag, Comes, resumed, begun_loop};
 
-use crate::frame::{Exit, Frame, Next, OnDone, OnTruth, OnValue, Sought, Subject, Thing};
+use crate::frame::{Continuation, Exit, Next, OnDone, OnTruth, OnValue, Sought, Subject, Thing};
 use crate::loops::round;
-use crate::machine::Machine;
+use crate::machine::Evaluator;
 use crate::seeking::{at_case, at_default, at_label, stands_in};
 use bk_base::Line;
 use bk_lasting::{Env, constant, count, count_command, count_each, labelled};
@@ -31,7 +31,7 @@ use std::alloc::AllocError;
 /// A command that is done.
 #[inline(never)]
 pub fn act<'a>(
-    m: &mut Machine<'a>,
+    m: &mut Evaluator<'a>,
     command: &'a Command,
     mode: Option<Sought<'a>>,
     env: Env<'a>,
@@ -59,7 +59,7 @@ fn is_empty(command: &Command) -> bool
 
 /// A command, its turn taken.
 fn act_inside<'a>(
-    m: &mut Machine<'a>,
+    m: &mut Evaluator<'a>,
     command: &'a Command,
     mode: Option<Sought<'a>>,
     env: Env<'a>,
@@ -107,7 +107,7 @@ fn step_of(env: &Env, by: &Option<Box<Expr>>) -> Option<u32>
 /// `Es := Es`
 #[inline(never)]
 fn assign<'a>(
-    m: &mut Machine<'a>,
+    m: &mut Evaluator<'a>,
     dests: &'a [Expr],
     values: &'a [Expr],
     env: Env<'a>,
@@ -123,7 +123,7 @@ fn assign<'a>(
 /// A command that is a call.
 #[inline(never)]
 fn call_command<'a>(
-    m: &mut Machine<'a>,
+    m: &mut Evaluator<'a>,
     line: Line,
     callee: &'a Expr,
     items: &'a [Expr],
@@ -133,14 +133,14 @@ fn call_command<'a>(
         Comes p m.new.frames.items next (world m.new b)
         (resumed p m.old.frames.items (tag done_tag (with (applied p (full p) (expression callee.now) (expressions_in items.now) (env_in env.entry) (world m.old b)) (λ _ w. done w))))) }
 {
-    m.frames.push(Frame::Value(OnValue::Dropped))?;
+    m.frames.push(Continuation::Value(OnValue::Dropped))?;
     m.apply(line, callee, items, env)
 }
 
 /// FOR.
 #[inline(never)]
 fn for_command<'a>(
-    m: &mut Machine<'a>,
+    m: &mut Evaluator<'a>,
     name: &'a Name,
     first: &'a Expr,
     last: &'a Expr,
@@ -164,7 +164,7 @@ fn for_command<'a>(
 /// SWITCHON.
 #[inline(never)]
 fn switch<'a>(
-    m: &mut Machine<'a>,
+    m: &mut Evaluator<'a>,
     value: &'a Expr,
     inside: &'a Command,
     mode: Option<Sought<'a>>,
@@ -184,7 +184,7 @@ fn switch<'a>(
 /// IF (true) or UNLESS (false).
 #[inline(never)]
 fn when<'a>(
-    m: &mut Machine<'a>,
+    m: &mut Evaluator<'a>,
     truth: bool,
     condition: &'a Expr,
     inside: &'a Command,
@@ -205,7 +205,7 @@ fn when<'a>(
 /// WHILE (true) or UNTIL (false).
 #[inline(never)]
 fn while_command<'a>(
-    m: &mut Machine<'a>,
+    m: &mut Evaluator<'a>,
     command: &'a Command,
     truth: bool,
     condition: &'a Expr,
@@ -227,7 +227,7 @@ fn while_command<'a>(
 
 /// A command of one word.
 fn simple<'a>(word: Simple) -> Next<'a>
-    ensures { (p : Program) (fs : List Frame) (w : World) → Comes p fs result w (resumed p fs (tag done_tag (c.simple_exit word w))) }
+    ensures { (p : Program) (fs : List Continuation) (w : World) → Comes p fs result w (resumed p fs (tag done_tag (c.simple_exit word w))) }
 {
     match word {
         Simple::Break => Next::Leaves(Exit::Break),
@@ -241,7 +241,7 @@ fn simple<'a>(word: Simple) -> Next<'a>
 /// TEST.
 #[inline(never)]
 fn test<'a>(
-    m: &mut Machine<'a>,
+    m: &mut Evaluator<'a>,
     condition: &'a Expr,
     a: &'a Command,
     b: &'a Command,
@@ -269,7 +269,7 @@ fn test<'a>(
 /// Assignments, one after another.
 #[inline(never)]
 pub fn assigned<'a>(
-    m: &mut Machine<'a>,
+    m: &mut Evaluator<'a>,
     dests: &'a [Expr],
     there: Env<'a>,
     values: &'a [Expr],
@@ -294,7 +294,7 @@ pub fn assigned<'a>(
 /// Commands in order. Seeking passes over those in which the place is not.
 #[inline(never)]
 pub fn in_order<'a>(
-    m: &mut Machine<'a>,
+    m: &mut Evaluator<'a>,
     commands: &'a [Command],
     mode: Option<Sought<'a>>,
     env: Env<'a>,
@@ -324,7 +324,7 @@ pub fn in_order<'a>(
 /// The commands of a scope, which owns their labels.
 #[inline(never)]
 pub fn scope<'a>(
-    m: &mut Machine<'a>,
+    m: &mut Evaluator<'a>,
     commands: &'a [Command],
     mode: Option<Sought<'a>>,
     env: Env<'a>,
@@ -334,7 +334,7 @@ pub fn scope<'a>(
         (resumed p m.old.frames.items (tag done_tag (s.scope_of (full p) (actions_in commands.now) (mode_in mode.entry) (env_in env.entry) (world m.old b))))) }
 {
     m.frames
-        .push(Frame::Done(OnDone::Scope(commands, env.again()?)))?;
+        .push(Continuation::Done(OnDone::Scope(commands, env.again()?)))?;
     let inside = labelled(m.alloc, commands, env)?;
     Ok(Next::InOrder(commands, mode, inside))
 }
@@ -342,7 +342,7 @@ pub fn scope<'a>(
 /// A block. One with declarations is a scope, and its objects die after it.
 #[inline(never)]
 fn block<'a>(
-    m: &mut Machine<'a>,
+    m: &mut Evaluator<'a>,
     decls: &'a [Decl],
     commands: &'a [Command],
     mode: Option<Sought<'a>>,
@@ -355,7 +355,7 @@ fn block<'a>(
     match decls.split_first() {
         None => Ok(Next::InOrder(commands, mode, env)),
         Some(_) => {
-            m.frames.push(Frame::Closing(m.store.made()))?;
+            m.frames.push(Continuation::Closing(m.store.made()))?;
             Ok(Next::Declare(decls, commands, env))
         }
     }
@@ -364,7 +364,7 @@ fn block<'a>(
 /// The command of a SWITCHON, from the CASE of a value, else from the DEFAULT.
 #[inline(never)]
 pub fn choose_case<'a>(
-    m: &mut Machine<'a>,
+    m: &mut Evaluator<'a>,
     expr: &'a Expr,
     value: Worth,
     command: &'a Command,

@@ -15,10 +15,10 @@ ghost use Rattle.bk_check.specs.Resume.{tag, done_tag, Comes, resumed, next_for 
 ghost use Rattle.bk_objects.specs.Views.{outcome_of};
 ghost use Rattle.bk_check.specs.Fors.{tested as tested_by, stepped as stepped_by, truth_then, limit_then};
 
-use crate::frame::{For, Frame, Next, OnDone, Subject, Thing};
-use crate::machine::Machine;
+use crate::frame::{Continuation, For, Next, OnDone, Subject, Thing};
+use crate::machine::Evaluator;
 use bk_lasting::{Env, Sense};
-use bk_objects::{Cell, Computed, Place, Reason, Store, Worth, combine, put, read, truth_of};
+use bk_objects::{Cell, Computed, Location, Reason, Store, Worth, combine, put, read, truth_of};
 use bk_tree::{Command, Name, Operator};
 use std::alloc::AllocError;
 
@@ -86,7 +86,7 @@ fn put_sum(store: &mut Store, object: u64, came: Computed) -> Stepped
     ensures { (w : World) → w.memory ≡ store.old → stepped_by result store.new w ≡ with (outcome_of came w) (Parts.store (Parts.at (address object 0))) }
 {
     match came {
-        Computed::Value(x) => match put(store, Place::Cell(Worth::Address(object, 0)), x) {
+        Computed::Value(x) => match put(store, Location::Cell(Worth::Address(object, 0)), x) {
             Ok(()) => Stepped::Done,
             Err(reason) => Stepped::Undefined(reason),
         },
@@ -112,7 +112,7 @@ fn add_step(store: &mut Store, object: u64, step: u32) -> Stepped
 /// A FOR whose first value, limit and step are known.
 #[inline(never)]
 pub fn begin_for<'a>(
-    m: &mut Machine<'a>,
+    m: &mut Evaluator<'a>,
     name: &'a Name,
     env: Env<'a>,
     start: Worth,
@@ -132,7 +132,7 @@ pub fn begin_for<'a>(
 
 /// A FOR with this step: its variable is made, and dies after it.
 fn begin_by<'a>(
-    m: &mut Machine<'a>,
+    m: &mut Evaluator<'a>,
     name: &'a Name,
     env: Env<'a>,
     start: Worth,
@@ -145,7 +145,7 @@ fn begin_by<'a>(
         (resumed p m.old.frames.items (tag done_tag (for_loop (full p) name.now.letters.items (action body.now) (value_in start) (value_in limit) step (env_in env.entry) (world m.old b))))) }
 {
     let object = m.store.made();
-    m.frames.push(Frame::Closing(object))?;
+    m.frames.push(Continuation::Closing(object))?;
     make_one(&mut m.store, start)?;
     let inside = env.bind(m.alloc, &name.letters, Sense::Cell(object, 0))?;
     first_round(
@@ -169,7 +169,7 @@ fn make_one(store: &mut Store, value: Worth) -> Result<(), AllocError>
 }
 
 /// The test and the first round of a FOR.
-fn first_round<'a>(m: &mut Machine<'a>, run: For<'a>) -> Result<Next<'a>, AllocError>
+fn first_round<'a>(m: &mut Evaluator<'a>, run: For<'a>) -> Result<Next<'a>, AllocError>
     ensures { IfOk result (λ next. (p : Program) (b : Bytes) →
         Comes p m.new.frames.items next (world m.new b)
         (resumed p m.old.frames.items (tag done_tag (test_of run.entry.object (value_in run.entry.limit) run.entry.step (λ w. for_rounds_of (full p) (action run.entry.body.now) run.entry.object (value_in run.entry.limit) run.entry.step (env_in run.entry.env) w) (world m.old b))))) }
@@ -187,19 +187,19 @@ fn first_round<'a>(m: &mut Machine<'a>, run: For<'a>) -> Result<Next<'a>, AllocE
 
 /// The rounds of a FOR, from one on.
 #[inline(never)]
-fn for_round<'a>(m: &mut Machine<'a>, run: For<'a>) -> Result<Next<'a>, AllocError>
+fn for_round<'a>(m: &mut Evaluator<'a>, run: For<'a>) -> Result<Next<'a>, AllocError>
     ensures { IfOk result (λ next. (p : Program) (b : Bytes) →
         Comes p m.new.frames.items next (world m.new b)
         (resumed p m.old.frames.items (tag done_tag (for_rounds_of (full p) (action run.entry.body.now) run.entry.object (value_in run.entry.limit) run.entry.step (env_in run.entry.env) (world m.old b))))) }
 {
     let body = run.body;
     let env = run.env.again()?;
-    m.frames.push(Frame::Done(OnDone::ForRound(run)))?;
+    m.frames.push(Continuation::Done(OnDone::ForRound(run)))?;
     m.alone(body, None, env)
 }
 
 /// A further round of a FOR, which takes a turn.
-fn further_round<'a>(m: &mut Machine<'a>, run: For<'a>) -> Result<Next<'a>, AllocError>
+fn further_round<'a>(m: &mut Evaluator<'a>, run: For<'a>) -> Result<Next<'a>, AllocError>
     ensures { IfOk result (λ next. (p : Program) (b : Bytes) →
         Comes p m.new.frames.items next (world m.new b)
         (resumed p m.old.frames.items (tag done_tag (further_for p run.entry (world m.old b))))) }
@@ -212,7 +212,7 @@ fn further_round<'a>(m: &mut Machine<'a>, run: For<'a>) -> Result<Next<'a>, Allo
 }
 
 /// The test after a round.
-fn test_again<'a>(m: &mut Machine<'a>, run: For<'a>) -> Result<Next<'a>, AllocError>
+fn test_again<'a>(m: &mut Evaluator<'a>, run: For<'a>) -> Result<Next<'a>, AllocError>
     ensures { IfOk result (λ next. (p : Program) (b : Bytes) →
         Comes p m.new.frames.items next (world m.new b)
         (resumed p m.old.frames.items (tag done_tag (test_of run.entry.object (value_in run.entry.limit) run.entry.step (further_for p run.entry) (world m.old b))))) }
@@ -230,7 +230,7 @@ fn test_again<'a>(m: &mut Machine<'a>, run: For<'a>) -> Result<Next<'a>, AllocEr
 
 /// After a round of a FOR.
 #[inline(never)]
-pub fn next_for<'a>(m: &mut Machine<'a>, run: For<'a>) -> Result<Next<'a>, AllocError>
+pub fn next_for<'a>(m: &mut Evaluator<'a>, run: For<'a>) -> Result<Next<'a>, AllocError>
     ensures { IfOk result (λ next. (p : Program) (b : Bytes) →
         Comes p m.new.frames.items next (world m.new b)
         (resumed p m.old.frames.items (tag done_tag (behind_for p run.entry (world m.old b))))) }

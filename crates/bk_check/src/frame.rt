@@ -2,7 +2,7 @@
 
 use bk_base::Line;
 use bk_lasting::Env;
-use bk_objects::{Place, Reason, Routine, Worth};
+use bk_objects::{Location, Reason, Routine, Worth};
 use bk_tree::{Command, Decl, Def, Expr, Init, Name, Operator, Prefix};
 
 /// What was given.
@@ -10,7 +10,7 @@ use bk_tree::{Command, Decl, Def, Expr, Init, Name, Operator, Prefix};
 pub enum Thing {
     Value(Worth),
     Truth(bool),
-    Target(Place),
+    Target(Location),
     /// A command is done.
     Done,
 }
@@ -157,7 +157,7 @@ pub enum OnDone<'a> {
 
 /// What is to be done with what the part inside gives.
 #[derive(Drop)]
-pub enum Frame<'a> {
+pub enum Continuation<'a> {
     Value(OnValue<'a>),
     Truth(OnTruth<'a>),
     Target(OnTarget<'a>),

@@ -16,18 +16,20 @@ use crate::blocks::named;
 use crate::calls::call;
 use crate::commands::{assigned, choose_case, scope};
 use crate::fors::{begin_for, next_for};
-use crate::frame::{Exit, Frame, Next, OnDone, OnTarget, OnTruth, OnValue, Sought, Subject, Thing};
+use crate::frame::{
+    Continuation, Exit, Next, OnDone, OnTarget, OnTruth, OnValue, Sought, Subject, Thing,
+};
 use crate::loops::{further_round, next_round, round};
-use crate::machine::{Machine, came};
+use crate::machine::{Evaluator, came};
 use crate::seeking::{stands_in, stands_in_one};
 use bk_lasting::{Env, Lasting, count, count_command};
-use bk_objects::{Place, Reason, Worth, prefixed, put};
+use bk_objects::{Location, Reason, Worth, prefixed, put};
 use bk_tree::{Command, Expr};
 use std::alloc::AllocError;
 
 /// What goes on with a value.
 fn with_value<'a>(
-    m: &mut Machine<'a>,
+    m: &mut Evaluator<'a>,
     program: &[Lasting<'a>],
     frame: OnValue<'a>,
     x: Worth,
@@ -42,11 +44,11 @@ fn with_value<'a>(
         OnValue::Left(expr, operator, b, env) => m.second(expr, operator, x, b, env),
         OnValue::Right(expr, operator, first) => Ok(m.combined(expr, operator, first, x)),
         OnValue::Judge(expr) => Ok(m.truth_given(expr, x)),
-        OnValue::At => Ok(Next::Gives(Thing::Target(Place::Cell(x)))),
+        OnValue::At => Ok(Next::Gives(Thing::Target(Location::Cell(x)))),
         OnValue::Vector(expr, b, env) => m.first_value(OnValue::Offset(expr, x), b, env),
         OnValue::Offset(expr, first) => Ok(m.place_given(expr, first, x)),
         OnValue::String(b, env) => m.first_value(OnValue::Byte(x), b, env),
-        OnValue::Byte(first) => Ok(Next::Gives(Thing::Target(Place::Byte(first, x)))),
+        OnValue::Byte(first) => Ok(Next::Gives(Thing::Target(Location::Byte(first, x)))),
         OnValue::Argument(line, items, here, before, callee, env) => {
             let mut before = before;
             before.push(x)?;
@@ -71,7 +73,7 @@ fn with_value<'a>(
 /// A value goes to the first of these destinations; the assignments after it.
 #[inline(never)]
 fn put_first<'a>(
-    m: &mut Machine<'a>,
+    m: &mut Evaluator<'a>,
     x: Worth,
     dests: &'a [Expr],
     there: Env<'a>,
@@ -97,7 +99,11 @@ fn put_first<'a>(
 
 /// What goes on with a truth.
 #[inline(never)]
-fn with_truth<'a>(m: &mut Machine<'a>, frame: OnTruth<'a>, x: bool) -> Result<Next<'a>, AllocError>
+fn with_truth<'a>(
+    m: &mut Evaluator<'a>,
+    frame: OnTruth<'a>,
+    x: bool,
+) -> Result<Next<'a>, AllocError>
     ensures { IfOk result (λ next. (p : Program) (b : Bytes) →
         Comes p m.new.frames.items next (world m.new b)
         (resumed p m.old.frames.items (truth_goes p frame.entry (gives x (world m.old b))))) }
@@ -151,9 +157,9 @@ fn with_truth<'a>(m: &mut Machine<'a>, frame: OnTruth<'a>, x: bool) -> Result<Ne
 /// What goes on with a place.
 #[inline(never)]
 fn with_target<'a>(
-    m: &mut Machine<'a>,
+    m: &mut Evaluator<'a>,
     frame: OnTarget<'a>,
-    x: Place,
+    x: Location,
 ) -> Result<Next<'a>, AllocError>
     ensures { IfOk result (λ next. (p : Program) (b : Bytes) →
         Comes p m.new.frames.items next (world m.new b)
@@ -161,8 +167,8 @@ fn with_target<'a>(
 {
     match frame {
         OnTarget::Address(expr) => match x {
-            Place::Cell(at) => Ok(Next::Gives(Thing::Value(at))),
-            Place::Byte(_, _) => Ok(Next::Undefined(Subject::Expr(expr), Reason::NoPlace)),
+            Location::Cell(at) => Ok(Next::Gives(Thing::Value(at))),
+            Location::Byte(_, _) => Ok(Next::Undefined(Subject::Expr(expr), Reason::NoPlace)),
         },
         OnTarget::Put(dest, value, dests, there, values, env) => match put(&mut m.store, x, value) {
             Ok(()) => assigned(m, dests, there, values, env),
@@ -173,7 +179,7 @@ fn with_target<'a>(
 
 /// What goes on after a command.
 #[inline(never)]
-fn with_done<'a>(m: &mut Machine<'a>, frame: OnDone<'a>) -> Result<Next<'a>, AllocError>
+fn with_done<'a>(m: &mut Evaluator<'a>, frame: OnDone<'a>) -> Result<Next<'a>, AllocError>
     ensures { IfOk result (λ next. (p : Program) (b : Bytes) →
         Comes p m.new.frames.items next (world m.new b)
         (resumed p m.old.frames.items (done_goes p frame.entry (done (world m.old b))))) }
@@ -193,7 +199,7 @@ fn with_done<'a>(m: &mut Machine<'a>, frame: OnDone<'a>) -> Result<Next<'a>, All
 /// Where a part is left, and this goes on.
 #[inline(never)]
 fn with_exit<'a>(
-    m: &mut Machine<'a>,
+    m: &mut Evaluator<'a>,
     frame: OnDone<'a>,
     exit: Exit<'a>,
 ) -> Result<Next<'a>, AllocError>
@@ -264,7 +270,7 @@ fn with_exit<'a>(
 
 /// A GOTO that comes to a scope: it lands at a label of the scope, or goes on outwards.
 fn lands<'a>(
-    m: &mut Machine<'a>,
+    m: &mut Evaluator<'a>,
     commands: &'a [Command],
     env: Env<'a>,
     label: &'a [u8],
@@ -282,7 +288,7 @@ fn lands<'a>(
 
 /// The same at a scope with one command.
 fn lands_alone<'a>(
-    m: &mut Machine<'a>,
+    m: &mut Evaluator<'a>,
     command: &'a Command,
     env: Env<'a>,
     label: &'a [u8],
@@ -301,16 +307,16 @@ fn lands_alone<'a>(
 /// What a frame does not go on with.
 #[inline(never)]
 fn wrong<'a>() -> Result<Next<'a>, AllocError>
-    ensures { IfOk result (λ next. (p : Program) (fs : List Frame) (w : World) → Comes p fs next w (resumed p fs undefined)) }
+    ensures { IfOk result (λ next. (p : Program) (fs : List Continuation) (w : World) → Comes p fs next w (resumed p fs undefined)) }
 {
     Ok(Next::Undefined(Subject::Nothing, Reason::NoPlace))
 }
 
 /// A frame goes on with a value.
 fn frame_with_value<'a>(
-    m: &mut Machine<'a>,
+    m: &mut Evaluator<'a>,
     program: &[Lasting<'a>],
-    frame: Frame<'a>,
+    frame: Continuation<'a>,
     x: Worth,
 ) -> Result<Next<'a>, AllocError>
     ensures { IfOk result (λ next. (b : Bytes) →
@@ -318,25 +324,25 @@ fn frame_with_value<'a>(
         (resumed (program_in program.now) m.old.frames.items (resume_value (program_in program.now) frame.entry (gives (value_in x) (world m.old b))))) }
 {
     match frame {
-        Frame::Value(inside) => with_value(m, program, inside, x),
-        Frame::Returned(call) => {
+        Continuation::Value(inside) => with_value(m, program, inside, x),
+        Continuation::Returned(call) => {
             m.calls = call.calls;
             Ok(Next::Gives(Thing::Value(x)))
         }
-        Frame::Closing(object) => {
+        Continuation::Closing(object) => {
             m.store.forget(object);
             Ok(Next::Gives(Thing::Value(x)))
         }
-        Frame::Truth(_) => wrong(),
-        Frame::Target(_) => wrong(),
-        Frame::Done(_) => wrong(),
+        Continuation::Truth(_) => wrong(),
+        Continuation::Target(_) => wrong(),
+        Continuation::Done(_) => wrong(),
     }
 }
 
 /// A frame goes on with a truth.
 fn frame_with_truth<'a>(
-    m: &mut Machine<'a>,
-    frame: Frame<'a>,
+    m: &mut Evaluator<'a>,
+    frame: Continuation<'a>,
     x: bool,
 ) -> Result<Next<'a>, AllocError>
     ensures { IfOk result (λ next. (p : Program) (b : Bytes) →
@@ -344,59 +350,62 @@ fn frame_with_truth<'a>(
         (resumed p m.old.frames.items (resume_truth p frame.entry (gives x (world m.old b))))) }
 {
     match frame {
-        Frame::Truth(inside) => with_truth(m, inside, x),
-        Frame::Value(_) => wrong(),
-        Frame::Target(_) => wrong(),
-        Frame::Done(_) => wrong(),
-        Frame::Returned(_) => wrong(),
-        Frame::Closing(_) => wrong(),
+        Continuation::Truth(inside) => with_truth(m, inside, x),
+        Continuation::Value(_) => wrong(),
+        Continuation::Target(_) => wrong(),
+        Continuation::Done(_) => wrong(),
+        Continuation::Returned(_) => wrong(),
+        Continuation::Closing(_) => wrong(),
     }
 }
 
 /// A frame goes on with a place.
 fn frame_with_target<'a>(
-    m: &mut Machine<'a>,
-    frame: Frame<'a>,
-    x: Place,
+    m: &mut Evaluator<'a>,
+    frame: Continuation<'a>,
+    x: Location,
 ) -> Result<Next<'a>, AllocError>
     ensures { IfOk result (λ next. (p : Program) (b : Bytes) →
         Comes p m.new.frames.items next (world m.new b)
         (resumed p m.old.frames.items (resume_target p frame.entry (gives (place_in x) (world m.old b))))) }
 {
     match frame {
-        Frame::Target(inside) => with_target(m, inside, x),
-        Frame::Value(_) => wrong(),
-        Frame::Truth(_) => wrong(),
-        Frame::Done(_) => wrong(),
-        Frame::Returned(_) => wrong(),
-        Frame::Closing(_) => wrong(),
+        Continuation::Target(inside) => with_target(m, inside, x),
+        Continuation::Value(_) => wrong(),
+        Continuation::Truth(_) => wrong(),
+        Continuation::Done(_) => wrong(),
+        Continuation::Returned(_) => wrong(),
+        Continuation::Closing(_) => wrong(),
     }
 }
 
 /// A frame goes on after a command.
-fn frame_with_done<'a>(m: &mut Machine<'a>, frame: Frame<'a>) -> Result<Next<'a>, AllocError>
+fn frame_with_done<'a>(
+    m: &mut Evaluator<'a>,
+    frame: Continuation<'a>,
+) -> Result<Next<'a>, AllocError>
     ensures { IfOk result (λ next. (p : Program) (b : Bytes) →
         Comes p m.new.frames.items next (world m.new b)
         (resumed p m.old.frames.items (resume_done p frame.entry (done (world m.old b))))) }
 {
     match frame {
-        Frame::Done(inside) => with_done(m, inside),
-        Frame::Closing(object) => {
+        Continuation::Done(inside) => with_done(m, inside),
+        Continuation::Closing(object) => {
             m.store.forget(object);
             Ok(Next::Gives(Thing::Done))
         }
-        Frame::Value(_) => wrong(),
-        Frame::Truth(_) => wrong(),
-        Frame::Target(_) => wrong(),
-        Frame::Returned(_) => wrong(),
+        Continuation::Value(_) => wrong(),
+        Continuation::Truth(_) => wrong(),
+        Continuation::Target(_) => wrong(),
+        Continuation::Returned(_) => wrong(),
     }
 }
 
 /// A frame goes on with what was given.
 fn frame_with<'a>(
-    m: &mut Machine<'a>,
+    m: &mut Evaluator<'a>,
     program: &[Lasting<'a>],
-    frame: Frame<'a>,
+    frame: Continuation<'a>,
     thing: Thing,
 ) -> Result<Next<'a>, AllocError>
     ensures { IfOk result (λ next. (b : Bytes) →
@@ -414,8 +423,8 @@ fn frame_with<'a>(
 /// A frame goes on where a part is left.
 #[inline(never)]
 fn frame_left<'a>(
-    m: &mut Machine<'a>,
-    frame: Frame<'a>,
+    m: &mut Evaluator<'a>,
+    frame: Continuation<'a>,
     exit: Exit<'a>,
 ) -> Result<Next<'a>, AllocError>
     ensures { IfOk result (λ next. (p : Program) (b : Bytes) →
@@ -423,22 +432,22 @@ fn frame_left<'a>(
         (resumed p m.old.frames.items (resume_left p frame.entry (exit_in exit.entry) (world m.old b)))) }
 {
     match frame {
-        Frame::Done(inside) => with_exit(m, inside, exit),
-        Frame::Returned(_) => Ok(Next::Undefined(Subject::Nothing, Reason::NoPlace)),
-        Frame::Closing(object) => {
+        Continuation::Done(inside) => with_exit(m, inside, exit),
+        Continuation::Returned(_) => Ok(Next::Undefined(Subject::Nothing, Reason::NoPlace)),
+        Continuation::Closing(object) => {
             m.store.forget(object);
             Ok(Next::Leaves(exit))
         }
-        Frame::Value(_) => Ok(Next::Leaves(exit)),
-        Frame::Truth(_) => Ok(Next::Leaves(exit)),
-        Frame::Target(_) => Ok(Next::Leaves(exit)),
+        Continuation::Value(_) => Ok(Next::Leaves(exit)),
+        Continuation::Truth(_) => Ok(Next::Leaves(exit)),
+        Continuation::Target(_) => Ok(Next::Leaves(exit)),
     }
 }
 
 /// What was given goes to the innermost frame.
 #[inline(never)]
 pub fn given<'a>(
-    m: &mut Machine<'a>,
+    m: &mut Evaluator<'a>,
     program: &[Lasting<'a>],
     thing: Thing,
 ) -> Result<Next<'a>, AllocError>
@@ -454,7 +463,7 @@ pub fn given<'a>(
 
 /// An exit goes to the innermost frame.
 #[inline(never)]
-pub fn left<'a>(m: &mut Machine<'a>, exit: Exit<'a>) -> Result<Next<'a>, AllocError>
+pub fn left<'a>(m: &mut Evaluator<'a>, exit: Exit<'a>) -> Result<Next<'a>, AllocError>
     ensures { IfOk result (λ next. (p : Program) (b : Bytes) →
         Comes p m.new.frames.items next (world m.new b)
         (resumed p m.old.frames.items (leaves (exit_in exit.entry) (world m.old b)))) }

@@ -13,6 +13,6 @@ mod seeking;
 mod steps;
 
 pub use calls::call;
-pub use frame::{Call, Exit, Frame, Next, Subject, Thing};
-pub use machine::{Machine, line_of};
+pub use frame::{Call, Continuation, Exit, Next, Subject, Thing};
+pub use machine::{Evaluator, line_of};
 pub use steps::step;

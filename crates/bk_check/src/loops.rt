@@ -14,7 +14,7 @@ ghost use Rattle.bk_check.specs.Resume.{tag, done_tag, Comes, resumed, next_roun
 
 use crate::commands::line_of_command;
 use crate::frame::{Next, OnDone, OnTruth, Sought, Thing};
-use crate::machine::Machine;
+use crate::machine::Evaluator;
 use bk_lasting::{Env, count, count_command};
 use bk_tree::{Command, Expr};
 use std::alloc::AllocError;
@@ -22,7 +22,7 @@ use std::alloc::AllocError;
 /// A round of a loop, and those after it.
 #[inline(never)]
 pub fn round<'a>(
-    m: &mut Machine<'a>,
+    m: &mut Evaluator<'a>,
     command: &'a Command,
     mode: Option<Sought<'a>>,
     env: Env<'a>,
@@ -56,7 +56,7 @@ pub fn round<'a>(
 
 /// A round of WHILE or UNTIL.
 fn while_round<'a>(
-    m: &mut Machine<'a>,
+    m: &mut Evaluator<'a>,
     command: &'a Command,
     condition: &'a Expr,
     inside: &'a Command,
@@ -73,7 +73,7 @@ fn while_round<'a>(
 
 /// A round of another loop.
 fn repeat_round<'a>(
-    m: &mut Machine<'a>,
+    m: &mut Evaluator<'a>,
     command: &'a Command,
     inside: &'a Command,
     mode: Option<Sought<'a>>,
@@ -90,7 +90,7 @@ fn repeat_round<'a>(
 /// A further round of a loop, which takes a turn.
 #[inline(never)]
 pub fn further_round<'a>(
-    m: &mut Machine<'a>,
+    m: &mut Evaluator<'a>,
     command: &'a Command,
     env: Env<'a>,
 ) -> Result<Next<'a>, AllocError>
@@ -107,7 +107,7 @@ pub fn further_round<'a>(
 
 /// The condition of WHILE or UNTIL after a round.
 fn next_while<'a>(
-    m: &mut Machine<'a>,
+    m: &mut Evaluator<'a>,
     command: &'a Command,
     truth: bool,
     condition: &'a Expr,
@@ -123,7 +123,7 @@ fn next_while<'a>(
 
 /// The condition of REPEATWHILE or REPEATUNTIL after a round.
 fn next_repeat_while<'a>(
-    m: &mut Machine<'a>,
+    m: &mut Evaluator<'a>,
     command: &'a Command,
     truth: bool,
     inside: &'a Command,
@@ -141,7 +141,7 @@ fn next_repeat_while<'a>(
 /// The rounds of a loop after one.
 #[inline(never)]
 pub fn next_round<'a>(
-    m: &mut Machine<'a>,
+    m: &mut Evaluator<'a>,
     command: &'a Command,
     env: Env<'a>,
 ) -> Result<Next<'a>, AllocError>

@@ -19,20 +19,22 @@ ghost use Rattle.bk_check.specs.Worlds.{Bytes, world};
 ghost use Rattle.bk_check.specs.Resume.{tag, done_tag, a_value, a_truth, a_target, Comes, resumed, value_goes, truth_goes, target_goes, done_goes, list_value, applied_behind};
 ghost use Rattle.bk_objects.specs.Views.{outcome_of};
 
-use crate::frame::{Frame, Next, OnDone, OnTarget, OnTruth, OnValue, Sought, Subject, Thing};
+use crate::frame::{
+    Continuation, Next, OnDone, OnTarget, OnTruth, OnValue, Sought, Subject, Thing,
+};
 use crate::seeking::stands_in;
 use bk_base::{Line, word};
 use bk_lasting::{Env, Sense, count, in_scope};
-use bk_objects::{Computed, Place, Reason, Store, Worth, combine, read, sum, truth_of};
+use bk_objects::{Computed, Location, Reason, Store, Worth, combine, read, sum, truth_of};
 use bk_tree::{Command, Expr, Operator, Prefix};
 use std::alloc::{AllocError, Global};
 
 /// What is to be done, and the world.
 #[derive(Drop)]
-pub struct Machine<'a> {
+pub struct Evaluator<'a> {
     pub alloc: Global,
     /// The innermost last.
-    pub frames: Vec<Frame<'a>>,
+    pub frames: Vec<Continuation<'a>>,
     pub store: Store,
     pub calls: u64,
     pub most_calls: u64,
@@ -41,7 +43,7 @@ pub struct Machine<'a> {
 
 /// What an operation gave, as what comes next.
 pub fn came<'a>(expr: &'a Expr, came: Computed) -> Next<'a>
-    ensures { (p : Program) (m : Machine) (b : Bytes) → Comes p m.frames.items result (world m b) (resumed p m.frames.items (tag a_value (outcome_of came (world m b)))) }
+    ensures { (p : Program) (m : Evaluator) (b : Bytes) → Comes p m.frames.items result (world m b) (resumed p m.frames.items (tag a_value (outcome_of came (world m b)))) }
 {
     match came {
         Computed::Value(worth) => Next::Gives(Thing::Value(worth)),
@@ -76,7 +78,7 @@ fn known(store: &Store, expr: &Expr, env: &Env) -> Option<Worth>
     }
 }
 
-impl<'a> Machine<'a> {
+impl<'a> Evaluator<'a> {
     /// The value of a name or a number, for which no frame is needed. Where it has none, or no turn is left, the way by a frame
     /// says why.
     fn leaf(&self, expr: &Expr, env: &Env) -> Option<Worth>
@@ -164,7 +166,7 @@ impl<'a> Machine<'a> {
             Comes p self.new.frames.items next (world self.new b)
             (resumed p self.old.frames.items (value_goes p frame.entry ((full p).value (expression expr.now) (env_in env.entry) (world self.old b))))) }
     {
-        self.frames.push(Frame::Value(frame))?;
+        self.frames.push(Continuation::Value(frame))?;
         Ok(Next::Value(expr, env))
     }
 
@@ -179,7 +181,7 @@ impl<'a> Machine<'a> {
             Comes p self.new.frames.items next (world self.new b)
             (resumed p self.old.frames.items (truth_goes p frame.entry ((full p).truth (expression expr.now) (env_in env.entry) (world self.old b))))) }
     {
-        self.frames.push(Frame::Truth(frame))?;
+        self.frames.push(Continuation::Truth(frame))?;
         Ok(Next::Truth(expr, env))
     }
 
@@ -194,7 +196,7 @@ impl<'a> Machine<'a> {
             Comes p self.new.frames.items next (world self.new b)
             (resumed p self.old.frames.items (target_goes p frame.entry ((full p).target (expression expr.now) (env_in env.entry) (world self.old b))))) }
     {
-        self.frames.push(Frame::Target(frame))?;
+        self.frames.push(Continuation::Target(frame))?;
         Ok(Next::Target(expr, env))
     }
 
@@ -210,7 +212,7 @@ impl<'a> Machine<'a> {
             Comes p self.new.frames.items next (world self.new b)
             (resumed p self.old.frames.items (done_goes p frame.entry ((full p).act (action command.now) (mode_in mode.entry) (env_in env.entry) (world self.old b))))) }
     {
-        self.frames.push(Frame::Done(frame))?;
+        self.frames.push(Continuation::Done(frame))?;
         Ok(Next::Act(command, mode, env))
     }
 
@@ -286,7 +288,7 @@ impl<'a> Machine<'a> {
             (resumed p self.now.frames.items (tag a_target (with (given (sum_of (world self.now b).memory (value_in x) (value_in y)) (world self.now b)) (λ a w. gives (Parts.at a) w)))) }
     {
         match sum(&self.store, x, y) {
-            Ok(at) => Next::Gives(Thing::Target(Place::Cell(at))),
+            Ok(at) => Next::Gives(Thing::Target(Location::Cell(at))),
             Err(reason) => Next::Undefined(Subject::Expr(expr), reason),
         }
     }
@@ -358,7 +360,7 @@ impl<'a> Machine<'a> {
             Comes p self.new.frames.items next (world self.new b)
             (resumed p self.old.frames.items (tag a_value (result_of (scope_of (full p) (alone (action command.now)) forwards (env_in env.entry) (world self.old b)))))) }
     {
-        self.frames.push(Frame::Done(OnDone::Valof))?;
+        self.frames.push(Continuation::Done(OnDone::Valof))?;
         self.alone(command, None, env)
     }
 
@@ -375,7 +377,7 @@ impl<'a> Machine<'a> {
             (resumed p self.old.frames.items (tag done_tag (scope_of (full p) (alone (action command.now)) (mode_in mode.entry) (env_in env.entry) (world self.old b))))) }
     {
         self.frames
-            .push(Frame::Done(OnDone::Alone(command, env.again()?)))?;
+            .push(Continuation::Done(OnDone::Alone(command, env.again()?)))?;
         let inside = in_scope(self.alloc, command, env)?;
         Ok(from_place(command, mode, inside))
     }
@@ -387,7 +389,7 @@ impl<'a> Machine<'a> {
             Comes p self.new.frames.items next (world self.new b)
             (resumed p self.old.frames.items (tag a_truth (with (value_of p (full p) (expression expr.now) (env_in env.entry) (world self.old b)) judged)))) }
     {
-        self.frames.push(Frame::Value(OnValue::Judge(expr)))?;
+        self.frames.push(Continuation::Value(OnValue::Judge(expr)))?;
         self.value_inside(expr, env)
     }
 
@@ -470,7 +472,7 @@ impl<'a> Machine<'a> {
     {
         match expr {
             Expr::Name(_, name) => match env.sense(name) {
-                Some(Sense::Cell(object, offset)) => Ok(Next::Gives(Thing::Target(Place::Cell(
+                Some(Sense::Cell(object, offset)) => Ok(Next::Gives(Thing::Target(Location::Cell(
                     Worth::Address(object, offset),
                 )))),
                 _ => Ok(Next::Undefined(Subject::Expr(expr), Reason::NoPlace)),
@@ -496,7 +498,7 @@ impl<'a> Machine<'a> {
 
 /// A command in its scope, or nothing where the place that is sought is not in it.
 fn from_place<'a>(command: &'a Command, mode: Option<Sought<'a>>, env: Env<'a>) -> Next<'a>
-    ensures { (p : Program) (fs : List Frame) (w : World) → Comes p fs result w (resumed p fs (tag done_tag (in_order (full p) (alone (action command.now)) (mode_in mode.entry) (env_in env.entry) w))) }
+    ensures { (p : Program) (fs : List Continuation) (w : World) → Comes p fs result w (resumed p fs (tag done_tag (in_order (full p) (alone (action command.now)) (mode_in mode.entry) (env_in env.entry) w))) }
 {
     match mode {
         None => Next::Act(command, None, env),

@@ -8,13 +8,13 @@ use crate::blocks::{declare, define, starts};
 use crate::commands::{act, in_order};
 use crate::frame::Next;
 use crate::going_on::{given, left};
-use crate::machine::Machine;
+use crate::machine::Evaluator;
 use bk_lasting::Lasting;
 use std::alloc::AllocError;
 
 /// Goes on with what comes next. What a library routine gives, and the end of a run, stay as they are.
 pub fn step<'a>(
-    m: &mut Machine<'a>,
+    m: &mut Evaluator<'a>,
     program: &[Lasting<'a>],
     next: Next<'a>,
 ) -> Result<Next<'a>, AllocError>

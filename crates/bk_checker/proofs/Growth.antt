@@ -30,8 +30,8 @@ use Rattle.bk_check.specs.declared.frame.OnTarget.{OnTarget}
 use Rattle.bk_check.specs.declared.frame.OnTarget.TheVariants as a
 use Rattle.bk_check.specs.declared.frame.OnDone.{OnDone}
 use Rattle.bk_check.specs.declared.frame.OnDone.TheVariants as d
-use Rattle.bk_check.specs.declared.frame.Frame.{Frame}
-use Rattle.bk_check.specs.declared.frame.Frame.TheVariants as f
+use Rattle.bk_check.specs.declared.frame.Continuation.{Continuation}
+use Rattle.bk_check.specs.declared.frame.Continuation.TheVariants as f
 use Rattle.bk_check.specs.declared.frame.For.{For}
 use Rattle.bk_check.specs.declared.frame.Let.{Let}
 use Rattle.bk_check.specs.declared.frame.Next.{Next}
@@ -191,13 +191,13 @@ module _ (p : Program) where
   left_on (d.Round c env) x = tag_adds done_tag _ (round_left _ (ties_add _ _ (next_ties (action c.now) (env_in env))) x)
   left_on (d.ForRound k) x = tag_adds done_tag _ (round_left _ (next_for_adds k) x)
 
-  exit_on : (k : Frame) (x : Exit) → Adds (λ w. resume_left p k x w)
+  exit_on : (k : Continuation) (x : Exit) → Adds (λ w. resume_left p k x w)
   exit_on (f.Done k) x = left_on k x
   exit_on (f.Returned c) x = adds _ (λ w. tt)
   exit_on (f.Closing m) x = adds _ (λ w. stays (history w))
   exit_on k x = left x
 
-  given_on : (k : Frame) (y : Given) → Adds (λ w. resume_given p k y w)
+  given_on : (k : Continuation) (y : Given) → Adds (λ w. resume_given p k y w)
   given_on (f.Value k) (a_value x) = value_on k x
   given_on (f.Returned c) (a_value x) = adds _ (λ w. stays (history w))
   given_on (f.Closing m) (a_value x) = adds _ (λ w. stays (history w))
@@ -208,7 +208,7 @@ module _ (p : Program) where
   given_on k y = adds _ (λ w. tt)
 
   -- by all frames
-  pub resumed_after : (fs : List Frame) (h : History) (u : Outcome Given) → After h u → After h (resumed p fs u)
+  pub resumed_after : (fs : List Continuation) (h : History) (u : Outcome Given) → After h u → After h (resumed p fs u)
   unfolding resumed
   resumed_after [] h u up = up
   resumed_after (k ∷ fs) h u up = each_way_after h (resumed p fs u) (resume_given p k) (resume_left p k) (resumed_after fs h u up) (λ y. given_on k y) (λ x. exit_on k x)
@@ -231,7 +231,7 @@ module _ (p : Program) where
   next_on (n.Going line) = adds _ (λ w. stays (history w))
 
   -- what is written, and read, of the whole, from a world on
-  pub whole_after : (fs : List Frame) (next : Next) (h : History) (w : World) → Grows h (history w) → After h (resumed p fs (outcome_next p next w))
+  pub whole_after : (fs : List Continuation) (next : Next) (h : History) (w : World) → Grows h (history w) → After h (resumed p fs (outcome_next p next w))
   whole_after fs next h w grows = resumed_after fs h (outcome_next p next w) (earlier h (history w) (outcome_next p next w) grows ((next_on next).at w))
 
   -- a call

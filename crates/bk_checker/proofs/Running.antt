@@ -31,10 +31,10 @@ use Rattle.bk_meaning.specs.Turns.{shown, RunGoesOn}
 use Rattle.bk_meaning.proofs.MeaningTies.{reads_from_the_front}
 use Rattle.bk_meaning.proofs.NoDepth.{full_call}
 use Rattle.bk_checker.proofs.Growth.{resumed_after, whole_after, called_after}
-use Rattle.bk_check.specs.declared.frame.Frame.{Frame}
+use Rattle.bk_check.specs.declared.frame.Continuation.{Continuation}
 use Rattle.bk_check.specs.declared.frame.Next.{Next}
 use Rattle.bk_check.specs.declared.frame.Next.TheVariants as n
-use Rattle.bk_check.specs.declared.machine.Machine.{Machine}
+use Rattle.bk_check.specs.declared.machine.Evaluator.{Evaluator}
 use Rattle.bk_checker.specs.declared.report.Verdict.{Verdict}
 use Rattle.bk_checker.specs.declared.report.Verdict.TheVariants as v
 use Rattle.bk_checker.specs.declared.report.CheckFault.{CheckFault}
@@ -45,22 +45,22 @@ use Rattle.bk_checker.specs.Checks.{Told, Exchanged, Follows, Shows, Checks, ove
 
 -- ---- an end stays an end
 
-ends_stays : (p : Program) (fs : List Frame) (e : End) (w : World) → resumed p fs (ends e w) ≡ ends e w
+ends_stays : (p : Program) (fs : List Continuation) (e : End) (w : World) → resumed p fs (ends e w) ≡ ends e w
 unfolding resumed
 ends_stays p [] e w = refl
 ends_stays p (f ∷ fs) e w = ap (resume p f) (ends_stays p fs e w)
 
-undefined_stays : (p : Program) (fs : List Frame) → resumed p fs undefined ≡ undefined
+undefined_stays : (p : Program) (fs : List Continuation) → resumed p fs undefined ≡ undefined
 unfolding resumed
 undefined_stays p [] = refl
 undefined_stays p (f ∷ fs) = ap (resume p f) (undefined_stays p fs)
 
-going_stays : (p : Program) (fs : List Frame) (w : World) → resumed p fs (going w) ≡ going w
+going_stays : (p : Program) (fs : List Continuation) (w : World) → resumed p fs (going w) ≡ going w
 unfolding resumed
 going_stays p [] w = refl
 going_stays p (f ∷ fs) w = ap (resume p f) (going_stays p fs w)
 
-over_is : (p : Program) (fs : List Frame) (next : Next) (w : World) → over fs next ≡ true → resumed p fs (outcome_next p next w) ≡ outcome_next p next w
+over_is : (p : Program) (fs : List Continuation) (next : Next) (w : World) → over fs next ≡ true → resumed p fs (outcome_next p next w) ≡ outcome_next p next w
 unfolding resumed
 over_is p fs (n.Status k) w is = ends_stays p fs _ w
 over_is p fs (n.DivideByZero s) w is = ends_stays p fs _ w
@@ -71,7 +71,7 @@ over_is p [] (n.Leaves x) w is = refl
 over_is p fs next w is = absurd (cc is)
 
 -- the verdict of what ends a run is that of the run
-shows_verdict : (p : Program) (fs : List Frame) (next : Next) (w : World) → over fs next ≡ true → Shows (verdict_of next) (run_given (outcome_next p next w)) w.input w.output
+shows_verdict : (p : Program) (fs : List Continuation) (next : Next) (w : World) → over fs next ≡ true → Shows (verdict_of next) (run_given (outcome_next p next w)) w.input w.output
 shows_verdict p fs (n.Status k) w is = (w.most_calls, refl)
 shows_verdict p fs (n.DivideByZero s) w is = (w.most_calls, refl)
 shows_verdict p fs (n.Undefined s why) w is = refl
@@ -106,13 +106,13 @@ exchanged_then old mid new read more written further first second = record {
 -- ---- steps
 
 -- with nothing more written
-pub unwritten : (p : Program) (fs : List Frame) (next : Next) (m : Machine) (rest before : List ℕ) (u : Outcome Given)
+pub unwritten : (p : Program) (fs : List Continuation) (next : Next) (m : Evaluator) (rest before : List ℕ) (u : Outcome Given)
     → Comes p fs next (world m (record { input = rest; output = before })) u → Comes p fs next (world m (record { input = rest; output = before ++ [] })) u
 unwritten p fs next m rest before u comes =
     subst (λ (l : List ℕ). Comes p fs next (world m (record { input = rest; output = l })) u) (sym (append-nil before)) comes
 
 -- a step that the devices have no part in
-pub moves_still : (p : Program) (m : Machine) (next : Next) (m' : Machine) (next' : Next) (told : Told)
+pub moves_still : (p : Program) (m : Evaluator) (next : Next) (m' : Evaluator) (next' : Next) (told : Told)
     → ((b : Bytes) → Comes p m'.frames.items next' (world m' b) (resumed p m.frames.items (outcome_next p next (world m b))))
     → Moves p m next m' next' told told
 moves_still p m next m' next' told comes = record {
@@ -122,13 +122,13 @@ moves_still p m next m' next' told comes = record {
   comes = λ rest before follows. unwritten p m'.frames.items next' m' rest before _ (comes (record { input = rest; output = before }));
 }
 
-pub moves_none : (p : Program) (m : Machine) (next : Next) (told : Told) → Moves p m next m next told told
+pub moves_none : (p : Program) (m : Evaluator) (next : Next) (told : Told) → Moves p m next m next told told
 moves_none p m next told = moves_still p m next m next told (λ b. refl)
 
 follows_both : (mid new : Told) (more further rest : List ℕ) → Exchanged mid new more further → Follows new rest → Follows mid (more ++ rest)
 follows_both mid new more further rest second follows = λ ended. let two = second.stays ended in both_none more rest two.0 (follows two.1)
 
-pub moves_then : (p : Program) (m : Machine) (next : Next) (m' : Machine) (next' : Next) (m'' : Machine) (next'' : Next) (old mid new : Told)
+pub moves_then : (p : Program) (m : Evaluator) (next : Next) (m' : Evaluator) (next' : Next) (m'' : Evaluator) (next'' : Next) (old mid new : Told)
     → Moves p m next m' next' old mid → Moves p m' next' m'' next'' mid new → Moves p m next m'' next'' old new
 moves_then p m next m' next' m'' next'' old mid new first second = record {
   read = first.read ++ second.read;
@@ -145,18 +145,18 @@ moves_then p m next m' next' m'' next'' old mid new first second = record {
 -- ---- the whole
 
 -- a machine before a run is in the first world
-begun_world : (p : Program) (turns : ℕ) (m : Machine) (input : List ℕ) → Begun p turns m → world m (record { input = input; output = [] }) ≡ first_world p input turns
+begun_world : (p : Program) (turns : ℕ) (m : Evaluator) (input : List ℕ) → Begun p turns m → world m (record { input = input; output = [] }) ≡ first_world p input turns
 begun_world p turns m input begun =
     ap (λ (s : Memory). record { memory = s; input = input; output = []; calls = m.calls; most_calls = m.most_calls; turns = m.turns }) begun.store
     ∙ ap (λ (k : ℕ). record { memory = first_memory p; input = input; output = []; calls = k; most_calls = m.most_calls; turns = m.turns }) begun.calls
     ∙ ap (λ (k : ℕ). record { memory = first_memory p; input = input; output = []; calls = 0; most_calls = k; turns = m.turns }) begun.most_calls
     ∙ ap (λ (k : ℕ). record { memory = first_memory p; input = input; output = []; calls = 0; most_calls = 0; turns = k }) begun.has_turns
 
-no_frames : (p : Program) (fs : List Frame) (u : Outcome Given) → fs ≡ [] → resumed p fs u ≡ u
+no_frames : (p : Program) (fs : List Continuation) (u : Outcome Given) → fs ≡ [] → resumed p fs u ≡ u
 unfolding resumed
-no_frames p fs u none = ap (λ (gs : List Frame). resumed p gs u) none
+no_frames p fs u none = ap (λ (gs : List Continuation). resumed p gs u) none
 
-pub run_shows : (p : Program) (start : Value) (turns : ℕ) (m m' m'' : Machine) (first last : Next) (verdict : Verdict) (old new : Told)
+pub run_shows : (p : Program) (start : Value) (turns : ℕ) (m m' m'' : Evaluator) (first last : Next) (verdict : Verdict) (old new : Told)
     → Begun p turns m
     → ((b : Bytes) → Comes p m'.frames.items first (world m' b) (resumed p m.frames.items (tag a_value (call p (full p) start [] (world m b)))))
     → Moves p m' first m'' last old new → over m''.frames.items last ≡ true
@@ -242,14 +242,14 @@ answered_byte old new b delivered keeps open_ = record {
   takes = λ rest w follows is. ap (λ (i : List ℕ). takes_byte i w) is;
 }
 
-module _ (p : Program) (m m' : Machine) (line : ℕ) (r : Routine) (vs : Vec Worth Global) (e : Effect)
+module _ (p : Program) (m m' : Evaluator) (line : ℕ) (r : Routine) (vs : Vec Worth Global) (e : Effect)
     (frames : m'.frames.items ≡ m.frames.items) (same : (b : Bytes) → world m' b ≡ remembering m'.store (world m b))
     (law : (w : World) → w.memory ≡ m.store → outcome_in e (remembering m'.store w) ≡ library (routine_in r) (map value_in vs.items) w) where
   called : (b : Bytes) → tag a_value (outcome_in e (world m' b)) ≡ outcome_next p (n.Library line r vs) (world m b)
   called b = ap (λ (w : World). tag a_value (outcome_in e w)) (same b) ∙ ap (tag a_value) (law (world m b) refl)
 
   framed : (u v : Outcome Given) → u ≡ v → resumed p m'.frames.items u ≡ resumed p m.frames.items v
-  framed u v is = ap (λ (fs : List Frame). resumed p fs u) frames ∙ ap (resumed p m.frames.items) is
+  framed u v is = ap (λ (fs : List Continuation). resumed p fs u) frames ∙ ap (resumed p m.frames.items) is
 
   -- it needs no device
   pub library_still : (next : Next) (told : Told) → ((w : World) → outcome_next p next w ≡ tag a_value (outcome_in e w)) → Moves p m (n.Library line r vs) m' next told told
@@ -304,7 +304,7 @@ still_grows before rest w wrote left = record {
 }
 
 -- nothing was exchanged
-pub reaches_still : (p : Program) (m : Machine) (next : Next) (old new : Told) → Exchanged old new [] [] → Reaches p m next old new
+pub reaches_still : (p : Program) (m : Evaluator) (next : Next) (old new : Told) → Exchanged old new [] [] → Reaches p m next old new
 reaches_still p m next old new exchanged = record {
   read = [];
   written = [];
@@ -313,7 +313,7 @@ reaches_still p m next old new exchanged = record {
 }
 
 -- after a step
-pub reaches_after : (p : Program) (m : Machine) (next : Next) (m' : Machine) (next' : Next) (old mid new : Told)
+pub reaches_after : (p : Program) (m : Evaluator) (next : Next) (m' : Evaluator) (next' : Next) (old mid new : Told)
     → Moves p m next m' next' old mid → Reaches p m' next' mid new → Reaches p m next old new
 reaches_after p m next m' next' old mid new first second = record {
   read = first.read ++ second.read;
@@ -329,7 +329,7 @@ reaches_after p m next m' next' old mid new first second = record {
 }
 
 -- whether the run went on to its end or not
-pub reaches_either : {E : Type 0} (p : Program) (m : Machine) (next : Next) (m' : Machine) (old new : Told) (r : Result Next E)
+pub reaches_either : {E : Type 0} (p : Program) (m : Evaluator) (next : Next) (m' : Evaluator) (old new : Told) (r : Result Next E)
     → IfOk r (λ last. Moves p m next m' last old new) → IfErr r (λ _. Reaches p m next old new) → Reaches p m next old new
 reaches_either p m next m' old new (Ok last) moves part = reaches_after p m next m' last old new new moves (reaches_still p m' last new new (exchanged_none new))
 reaches_either p m next m' old new (Err e) moves part = part
@@ -344,7 +344,7 @@ part_grows before part others text w whole = record {
   most_calls = omega arith;
 }
 
-pub reaches_part : (p : Program) (m : Machine) (line : ℕ) (r : Routine) (vs : Vec Worth Global) (s : Memory) (text : Vec ℕ Global) (old new : Told) (part others : List ℕ)
+pub reaches_part : (p : Program) (m : Evaluator) (line : ℕ) (r : Routine) (vs : Vec Worth Global) (s : Memory) (text : Vec ℕ Global) (old new : Told) (part others : List ℕ)
     → ((w : World) → w.memory ≡ m.store → outcome_in (t.Writes text) (remembering s w) ≡ library (routine_in r) (map value_in vs.items) w)
     → text.items ≡ part ++ others → Exchanged old new [] part → Reaches p m (n.Library line r vs) old new
 reaches_part p m line r vs s text old new part others law whole exchanged = record {
@@ -364,7 +364,7 @@ run_goes_on h (ends e w) g = g
 run_goes_on h undefined g = tt
 run_goes_on h (going w) g = g
 
-pub run_part : (p : Program) (start : Value) (turns : ℕ) (m m' : Machine) (first : Next) (old new : Told)
+pub run_part : (p : Program) (start : Value) (turns : ℕ) (m m' : Evaluator) (first : Next) (old new : Told)
     → Begun p turns m
     → ((b : Bytes) → Comes p m'.frames.items first (world m' b) (resumed p m.frames.items (tag a_value (call p (full p) start [] (world m b)))))
     → Reaches p m' first old new → RunsPart p start turns old new
@@ -476,7 +476,7 @@ on_ok_map (Err e) f h = tt
 
 -- ---- START
 
-module _ (p : Program) (turns : ℕ) (m : Machine) (begun : Begun p turns m) (came : Computed)
+module _ (p : Program) (turns : ℕ) (m : Evaluator) (begun : Begun p turns m) (came : Computed)
     (law : (w : World) → w.memory ≡ m.store → outcome_of came w ≡ fetch (address globals_object 1) w) where
   pub start_found : (x : Worth) → came ≡ k.Value x → read (first_memory p) (address globals_object 1) ≡ Some (value_in x)
   start_found x is =

@@ -11,11 +11,11 @@ use Rattle.bk_meaning.specs.Lasting.{Program, first_memory}
 use Rattle.bk_meaning.specs.Program.{Run, Ends, Going, Undefined, means, run_of, first_world, meaning}
 use Rattle.bk_meaning.specs.Growing.{After}
 use Rattle.bk_meaning.specs.Turns.{shown, RunGoesOn}
-use Rattle.bk_check.specs.declared.frame.Frame.{Frame}
+use Rattle.bk_check.specs.declared.frame.Continuation.{Continuation}
 use Rattle.bk_check.specs.declared.frame.Thing.TheVariants as g
 use Rattle.bk_check.specs.declared.frame.Next.{Next}
 use Rattle.bk_check.specs.declared.frame.Next.TheVariants as n
-use Rattle.bk_check.specs.declared.machine.Machine.{Machine}
+use Rattle.bk_check.specs.declared.machine.Evaluator.{Evaluator}
 use Rattle.bk_checker.specs.declared.report.Verdict.{Verdict}
 use Rattle.bk_checker.specs.declared.report.Verdict.TheVariants as v
 use Rattle.bk_checker.specs.declared.report.CheckFault.{CheckFault}
@@ -73,7 +73,7 @@ Flushed x.Memory passed taken = ⊤
 -- ---- on the way
 
 -- what comes next ends the run
-abbrev pub over : List Frame → Next → Bool
+abbrev pub over : List Continuation → Next → Bool
 over fs (n.Status k) = true
 over fs (n.DivideByZero s) = true
 over fs (n.Undefined s why) = true
@@ -106,7 +106,7 @@ pub record Answered (word : ℕ) (old new : Told) : Type 0 where
   pub takes : (rest : List ℕ) (w : World) → Follows new rest → w.input ≡ read ++ rest → takes_byte w.input w ≡ gives (number word) (record w { input = rest })
 
 -- From one moment to another nothing changed of what the whole comes to, but that these bytes were read and written.
-pub record Moves (p : Program) (m : Machine) (next : Next) (m' : Machine) (next' : Next) (old new : Told) : Type 0 where
+pub record Moves (p : Program) (m : Evaluator) (next : Next) (m' : Evaluator) (next' : Next) (old new : Told) : Type 0 where
   pub read : List ℕ
   pub written : List ℕ
   pub exchanged : Exchanged old new read written
@@ -115,7 +115,7 @@ pub record Moves (p : Program) (m : Machine) (next : Next) (m' : Machine) (next'
       (resumed p m.frames.items (outcome_next p next (world m (record { input = read ++ rest; output = before }))))
 
 -- a machine before the run of a program
-pub record Begun (p : Program) (turns : ℕ) (m : Machine) : Type 0 where
+pub record Begun (p : Program) (turns : ℕ) (m : Evaluator) : Type 0 where
   pub frames : m.frames.items ≡ []
   pub store : m.store ≡ first_memory p
   pub calls : m.calls ≡ 0
@@ -146,7 +146,7 @@ pub record RunsPart (p : Program) (start : Value) (turns : ℕ) (old new : Told)
   pub goes_on : (rest : List ℕ) → Follows new rest → RunGoesOn (shown written rest 0) (run_of (call p (means p turns) start [] (first_world p (read ++ rest) turns)))
 
 -- and of what the whole comes to
-pub record Reaches (p : Program) (m : Machine) (next : Next) (old new : Told) : Type 0 where
+pub record Reaches (p : Program) (m : Evaluator) (next : Next) (old new : Told) : Type 0 where
   pub read : List ℕ
   pub written : List ℕ
   pub exchanged : Exchanged old new read written

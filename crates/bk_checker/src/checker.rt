@@ -16,7 +16,7 @@ use crate::remarks::remarks_on;
 use crate::report::{GivenUp, Report, Verdict};
 use crate::run::{flush, go, verdict};
 use bk_base::{ByteIn, ByteOut, Line};
-use bk_check::{Machine, call};
+use bk_check::{Evaluator, call};
 use bk_lasting::{GLOBALS_OBJECT, Lasting, first_memory, program_of};
 use bk_objects::{Computed, Worth, read};
 use bk_tree::Section;
@@ -27,10 +27,10 @@ fn first_machine<'a>(
     alloc: Global,
     program: &[Lasting],
     turns: u64,
-) -> Result<Machine<'a>, AllocError>
+) -> Result<Evaluator<'a>, AllocError>
     ensures { IfOk result (λ m. Begun (program_in program.now) turns m) }
 {
-    Ok(Machine {
+    Ok(Evaluator {
         alloc,
         frames: Vec::new(alloc),
         store: first_memory(alloc, program)?,
@@ -42,7 +42,7 @@ fn first_machine<'a>(
 
 /// Calls START, and steps up to the end.
 fn check_start<'a, I: ByteIn, O: ByteOut>(
-    m: &mut Machine<'a>,
+    m: &mut Evaluator<'a>,
     program: &[Lasting<'a>],
     start: Worth,
     input: &mut I,

@@ -5,7 +5,7 @@ ghost use Rattle.bk_checker.specs.Checks.{verdict_of};
 use crate::report::{CheckFault, GivenUp, Report};
 use crate::run::verdict;
 use bk_base::{Line, word_text};
-use bk_check::{Call, Frame, Machine, Next, Subject, line_of};
+use bk_check::{Call, Continuation, Evaluator, Next, Subject, line_of};
 use bk_lasting::Lasting;
 use bk_objects::{Reason, Routine, Worth};
 use bk_tree::{Expr, Operator, Prefix};
@@ -298,12 +298,12 @@ fn add_reason<'a>(
 }
 
 /// The innermost call of a procedure that is active, and the object of its formals.
-fn innermost(frames: &[Frame]) -> Option<(Call, u64)> {
+fn innermost(frames: &[Continuation]) -> Option<(Call, u64)> {
     for k in 0..frames.len() {
         let i = frames.len() - 1 - k;
-        if let Some(Frame::Returned(call)) = frames.get(i) {
+        if let Some(Continuation::Returned(call)) = frames.get(i) {
             return match frames.get(i + 1) {
-                Some(Frame::Closing(object)) => Some((*call, *object)),
+                Some(Continuation::Closing(object)) => Some((*call, *object)),
                 _ => None,
             };
         }
@@ -328,7 +328,7 @@ fn add_count(text: &mut Vec<u8>, arguments: usize) -> Result<(), AllocError> {
 /// Adds that a name was never set: a formal may have had no argument.
 fn add_unset_name<'a>(
     text: &mut Vec<u8>,
-    m: &Machine<'a>,
+    m: &Evaluator<'a>,
     program: &[Lasting<'a>],
     name: &[u8],
     at: Worth,
@@ -349,7 +349,7 @@ fn add_unset_name<'a>(
 /// Adds why the value or the place of an expression is undefined.
 fn add_expr<'a>(
     text: &mut Vec<u8>,
-    m: &Machine<'a>,
+    m: &Evaluator<'a>,
     program: &[Lasting<'a>],
     expr: &Expr,
     reason: Reason,
@@ -408,7 +408,7 @@ fn add_library<'a>(
 /// Adds why an act is undefined.
 fn add_act<'a>(
     text: &mut Vec<u8>,
-    m: &Machine<'a>,
+    m: &Evaluator<'a>,
     program: &[Lasting<'a>],
     subject: &Subject<'a>,
     reason: Reason,
@@ -460,10 +460,10 @@ fn line_of_subject(subject: &Subject) -> Line {
 }
 
 /// The next call of a procedure outwards, and the number of its frame.
-fn call_before(frames: &[Frame], from: usize) -> Option<(usize, Call)> {
+fn call_before(frames: &[Continuation], from: usize) -> Option<(usize, Call)> {
     for k in 0..from {
         let i = from - 1 - k;
-        if let Some(Frame::Returned(call)) = frames.get(i)
+        if let Some(Continuation::Returned(call)) = frames.get(i)
             && matches!(call.callee, Worth::Procedure(_))
         {
             return Some((i, *call));
@@ -475,7 +475,7 @@ fn call_before(frames: &[Frame], from: usize) -> Option<(usize, Call)> {
 /// Adds the calls that are active, a line each, innermost first.
 fn add_calls<'a>(
     text: &mut Vec<u8>,
-    m: &Machine<'a>,
+    m: &Evaluator<'a>,
     program: &[Lasting<'a>],
 ) -> Result<(), AllocError> {
     let Some((mut at, mut call)) = call_before(&m.frames, m.frames.len()) else {
@@ -512,7 +512,7 @@ fn add_calls<'a>(
 }
 
 /// Why a run was given up; where its limits were reached, with the calls that are active.
-pub fn given_up<'a>(m: &Machine<'a>, program: &[Lasting<'a>], fault: CheckFault) -> GivenUp
+pub fn given_up<'a>(m: &Evaluator<'a>, program: &[Lasting<'a>], fault: CheckFault) -> GivenUp
     ensures { result.fault ≡ fault }
 {
     if !matches!(fault, CheckFault::TooDeep) {
@@ -530,7 +530,7 @@ pub fn given_up<'a>(m: &Machine<'a>, program: &[Lasting<'a>], fault: CheckFault)
 
 /// The verdict of what ends a run, and what is reported to a person of it.
 pub fn explain<'a>(
-    m: &Machine<'a>,
+    m: &Evaluator<'a>,
     program: &[Lasting<'a>],
     next: &Next<'a>,
 ) -> Result<Report, AllocError>

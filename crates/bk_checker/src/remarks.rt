@@ -2,7 +2,7 @@
 
 use crate::explain::add;
 use bk_base::{Line, word_text};
-use bk_tree::{Command, Decl, Def, Expr, Init, Item, Prefix, Section, Sort};
+use bk_tree::{Command, ConstItem, Decl, Def, Expr, Init, Prefix, Section, Sort};
 use itoa::Buffer;
 use std::alloc::{AllocError, Global};
 
@@ -378,8 +378,8 @@ fn twice(alloc: Global, found: &mut Vec<Remark>, decls: &[Decl]) -> Result<(), A
 }
 
 /// Whether START is among the items of a declaration of globals.
-fn has_start(items: &[Item]) -> bool {
-    items.iter().any(|Item::Item(_, name, _)| name.as_slice() == b"START".as_slice())
+fn has_start(items: &[ConstItem]) -> bool {
+    items.iter().any(|ConstItem::Item(_, name, _)| name.as_slice() == b"START".as_slice())
 }
 
 /// Whether a declaration says that START is a global.

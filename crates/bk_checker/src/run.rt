@@ -4,7 +4,7 @@ ghost use Rattle.std.specs.Io.KnownBytes.{Keeps};
 ghost use Rattle.bk_base.specs.Devices.{Begins};
 ghost use Rattle.bk_meaning.specs.World.{World};
 ghost use Rattle.bk_meaning.specs.Lasting.{Program};
-ghost use Rattle.bk_check.specs.declared.frame.Frame.{Frame};
+ghost use Rattle.bk_check.specs.declared.frame.Continuation.{Continuation};
 ghost use Rattle.bk_check.specs.declared.frame.Next.TheVariants as n;
 ghost use Rattle.bk_check.specs.Views.{program_in};
 ghost use Rattle.bk_check.specs.Resume.{outcome_next};
@@ -13,7 +13,7 @@ ghost use Rattle.bk_checker.specs.Checks.{Blames, over, verdict_of, Answered, Mo
 
 use crate::report::{CheckFault, Verdict};
 use bk_base::{ByteIn, ByteOut, Line, put_all};
-use bk_check::{Machine, Next, Subject, Thing, step};
+use bk_check::{Evaluator, Next, Subject, Thing, step};
 use bk_lasting::{Lasting, constant};
 use bk_objects::{Effect, Routine, Worth, perform};
 use bk_tree::Init;
@@ -62,7 +62,7 @@ fn ask<I: ByteIn, O: ByteOut>(input: &mut I, out: &mut O) -> Result<u32, CheckFa
 
 /// A call of a routine of the library.
 fn library<'a, I: ByteIn, O: ByteOut>(
-    m: &mut Machine<'a>,
+    m: &mut Evaluator<'a>,
     line: Line,
     routine: Routine,
     values: &Vec<Worth>,
@@ -98,7 +98,7 @@ fn library<'a, I: ByteIn, O: ByteOut>(
 
 /// One step, with what it leaves to do to the devices.
 fn turn<'a, I: ByteIn, O: ByteOut>(
-    m: &mut Machine<'a>,
+    m: &mut Evaluator<'a>,
     program: &[Lasting<'a>],
     next: Next<'a>,
     input: &mut I,
@@ -121,7 +121,7 @@ fn turn<'a, I: ByteIn, O: ByteOut>(
 }
 
 /// Whether a run ends here.
-fn is_over<'a>(m: &Machine<'a>, next: &Next<'a>) -> bool
+fn is_over<'a>(m: &Evaluator<'a>, next: &Next<'a>) -> bool
     ensures { result ≡ over m.now.frames.items next.now }
 {
     match next {
@@ -145,7 +145,7 @@ pub fn verdict(next: &Next) -> Verdict
 }
 
 /// Whether a step would come to more frames or cells than the limits of a check.
-fn is_too_deep(m: &Machine, next: &Next) -> bool {
+fn is_too_deep(m: &Evaluator, next: &Next) -> bool {
     if m.frames.len() > FRAMES || m.store.cells_in_use() > CELLS {
         return true;
     }
@@ -160,7 +160,7 @@ fn is_too_deep(m: &Machine, next: &Next) -> bool {
 
 /// Steps up to the end of a run: what ends it. A check takes fewer than 2^64 of them.
 pub fn go<'a, I: ByteIn, O: ByteOut>(
-    m: &mut Machine<'a>,
+    m: &mut Evaluator<'a>,
     program: &[Lasting<'a>],
     first: Next<'a>,
     input: &mut I,

@@ -1,26 +1,26 @@
 -- The rooms that ways leave of those below are the rooms of the stack.
 use Rattle.std.proofs.Common.{◌≡◌, ℕ, ◌+◌, max, Bool, true, false, ◌&&◌, ◌||◌, Option, Some, None, List, [], ◌∷◌, refl, sym, ap, ◌∙◌, arith}
-use Rattle.bk_frames.specs.declared.frame.Begun.{Begun}
-use Rattle.bk_frames.specs.declared.frame.Begun.TheVariants as b
-use Rattle.bk_frames.specs.declared.frame.Operand.TheVariants as o
+use Rattle.bk_frames.specs.declared.frame.Unfinished.{Unfinished}
+use Rattle.bk_frames.specs.declared.frame.Unfinished.TheVariants as b
+use Rattle.bk_frames.specs.declared.frame.OpenExpression.TheVariants as o
 use Rattle.bk_frames.specs.declared.frame.Phrase.TheVariants as p
 use Rattle.bk_frames.specs.declared.frame.Member.TheVariants as m
 use Rattle.bk_frames.specs.declared.frame.Clause.TheVariants as c
 use Rattle.bk_frames.specs.declared.frame.Place.TheVariants as a
 use Rattle.bk_frames.specs.declared.frame.Point.TheVariants as t
-use Rattle.bk_frames.specs.declared.room.Whom.{Whom}
-use Rattle.bk_frames.specs.declared.room.Next.{Next}
-use Rattle.bk_frames.specs.declared.room.Next.TheVariants.{Closing, Assigning, Listing, Going, Repeating, Operating}
-use Rattle.bk_frames.specs.declared.room.Room.{Room}
-use Rattle.bk_frames.specs.declared.way.Link.{Link}
-use Rattle.bk_frames.specs.declared.way.Way.{Way}
-use Rattle.bk_frames.specs.declared.way.Ways.{Ways}
-use Rattle.bk_frames.specs.declared.way.Ways.TheVariants.{One, Two, Three, Five}
-use Rattle.bk_frames.specs.declared.way.Met.{Met}
+use Rattle.bk_frames.specs.declared.budget.Category.{Category}
+use Rattle.bk_frames.specs.declared.budget.Lookahead.{Lookahead}
+use Rattle.bk_frames.specs.declared.budget.Lookahead.TheVariants.{Closing, Assigning, Listing, Going, Repeating, Operating}
+use Rattle.bk_frames.specs.declared.budget.Budget.{Budget}
+use Rattle.bk_frames.specs.declared.completion.Link.{Link}
+use Rattle.bk_frames.specs.declared.completion.Completion.{Completion}
+use Rattle.bk_frames.specs.declared.completion.Completions.{Completions}
+use Rattle.bk_frames.specs.declared.completion.Completions.TheVariants.{One, Two, Three, Five}
+use Rattle.bk_frames.specs.declared.completion.Following.{Following}
 use Rattle.bk_grammar.specs.Machine.{Stack}
-use Rattle.bk_frames.specs.Begun.{begun_on}
-use Rattle.bk_frames.specs.Rooms.{next_of, is_next, serves, holds, covered, counted, raised, reached, some_next, led_met, led_by, led_way, led, goes_on, ways, AreRooms, AreAdded, leads, by_room, by_way, by_ways}
-use Rattle.bk_frames.specs.WaysOn as w
+use Rattle.bk_frames.specs.Unfinished.{unfinished_on}
+use Rattle.bk_frames.specs.Budgets.{next_of, is_next, serves, holds, covered, counted, raised, reached, some_next, led_following, led_by, led_completion, led, goes_on, completions, AreBudgets, AreAdded, leads, by_budget, by_completion, by_completions}
+use Rattle.bk_frames.specs.Completing as w
 use Rattle.bk_frames.proofs.Links.{next_in}
 
 -- ---- tests
@@ -52,13 +52,13 @@ or_and false y z = refl
 
 -- ---- some symbol
 
-some_as : (f g : Next → Bool) → ((k : Next) → f k ≡ g k) → some_next f ≡ some_next g
+some_as : (f g : Lookahead → Bool) → ((k : Lookahead) → f k ≡ g k) → some_next f ≡ some_next g
 some_as f g h = let e1 = h Closing in let e2 = h Assigning in let e3 = h Listing in let e4 = h Going in let e5 = h Repeating in let e6 = h Operating in cc
 
 cross : (x y z u v : Bool) → v ≡ z || u → (x || y) || v ≡ (x || z) || (y || u)
 cross x y z u v e = ap (λ s. (x || y) || s) e ∙ or_cross x y z u
 
-some_or : (f g : Next → Bool) → some_next (λ k. f k || g k) ≡ some_next f || some_next g
+some_or : (f g : Lookahead → Bool) → some_next (λ k. f k || g k) ≡ some_next f || some_next g
 some_or f g =
     cross (f Closing) (g Closing) _ _ _
     (cross (f Assigning) (g Assigning) _ _ _
@@ -69,7 +69,7 @@ some_or f g =
 pick : (x1 x2 x3 x4 x5 x6 y1 y2 y3 y4 y5 y6 : Bool) → x1 ≡ y1 → x2 ≡ y2 → x3 ≡ y3 → x4 ≡ y4 → x5 ≡ y5 → x6 ≡ y6 → x1 || (x2 || (x3 || (x4 || (x5 || x6)))) ≡ y1 || (y2 || (y3 || (y4 || (y5 || y6))))
 pick x1 x2 x3 x4 x5 x6 y1 y2 y3 y4 y5 y6 e1 e2 e3 e4 e5 e6 = cc
 
-only : (f : Next → Bool) (k : Next) → ((j : Next) → is_next (next_of k) (next_of j) ≡ false → f j ≡ false) → some_next f ≡ f k
+only : (f : Lookahead → Bool) (k : Lookahead) → ((j : Lookahead) → is_next (next_of k) (next_of j) ≡ false → f j ≡ false) → some_next f ≡ f k
 only f Closing h = pick (f Closing) (f Assigning) (f Listing) (f Going) (f Repeating) (f Operating) (f Closing) false false false false false refl (h Assigning refl) (h Listing refl) (h Going refl) (h Repeating refl) (h Operating refl) ∙ or_none (f Closing)
 only f Assigning h = pick (f Closing) (f Assigning) (f Listing) (f Going) (f Repeating) (f Operating) false (f Assigning) false false false false (h Closing refl) refl (h Listing refl) (h Going refl) (h Repeating refl) (h Operating refl) ∙ or_none (f Assigning)
 only f Listing h = pick (f Closing) (f Assigning) (f Listing) (f Going) (f Repeating) (f Operating) false false (f Listing) false false false (h Closing refl) (h Assigning refl) refl (h Going refl) (h Repeating refl) (h Operating refl) ∙ or_none (f Listing)
@@ -79,33 +79,33 @@ only f Operating h = pick (f Closing) (f Assigning) (f Listing) (f Going) (f Rep
 
 -- ---- one symbol behind the whole
 
-met_as : (k : Option Met) (f g : ℕ → ℕ → Bool) → ((d n : ℕ) → f d n ≡ g d n) → (d n : ℕ) (x : w.Next) → led_met k f d n x ≡ led_met k g d n x
-met_as None f g h d n x = refl
-met_as (Some k) f g h d n x = ap (λ z. z && is_next (next_of k.next) x) (h (raised k.more d) (raised k.more n))
+following_as : (k : Option Following) (f g : ℕ → ℕ → Bool) → ((d n : ℕ) → f d n ≡ g d n) → (d n : ℕ) (x : w.Lookahead) → led_following k f d n x ≡ led_following k g d n x
+following_as None f g h d n x = refl
+following_as (Some k) f g h d n x = ap (λ z. z && is_next (next_of k.next) x) (h (raised k.more d) (raised k.more n))
 
-met_none : (k : Option Met) (d n : ℕ) (x : w.Next) → led_met k (λ e i. false) d n x ≡ false
-met_none None d n x = refl
-met_none (Some k) d n x = refl
+following_none : (k : Option Following) (d n : ℕ) (x : w.Lookahead) → led_following k (λ e i. false) d n x ≡ false
+following_none None d n x = refl
+following_none (Some k) d n x = refl
 
-met_or : (k : Option Met) (f g : ℕ → ℕ → Bool) (d n : ℕ) (x : w.Next) → led_met k (λ e i. f e i || g e i) d n x ≡ led_met k f d n x || led_met k g d n x
-met_or None f g d n x = refl
-met_or (Some k) f g d n x = or_and (f (raised k.more d) (raised k.more n)) (g (raised k.more d) (raised k.more n)) (is_next (next_of k.next) x)
+following_or : (k : Option Following) (f g : ℕ → ℕ → Bool) (d n : ℕ) (x : w.Lookahead) → led_following k (λ e i. f e i || g e i) d n x ≡ led_following k f d n x || led_following k g d n x
+following_or None f g d n x = refl
+following_or (Some k) f g d n x = or_and (f (raised k.more d) (raised k.more n)) (g (raised k.more d) (raised k.more n)) (is_next (next_of k.next) x)
 
-by_as : (k : Link) (f g : w.Next → ℕ → ℕ → Bool) → ((j : w.Next) (d n : ℕ) → f j d n ≡ g j d n) → (d n : ℕ) (x : w.Next) → led_by k f d n x ≡ led_by k g d n x
-by_as k f g h d n x = some_as (λ j. led_met (reached k j) (f (next_of j)) d n x) (λ j. led_met (reached k j) (g (next_of j)) d n x) (λ j. met_as (reached k j) (f (next_of j)) (g (next_of j)) (h (next_of j)) d n x)
+by_as : (k : Link) (f g : w.Lookahead → ℕ → ℕ → Bool) → ((j : w.Lookahead) (d n : ℕ) → f j d n ≡ g j d n) → (d n : ℕ) (x : w.Lookahead) → led_by k f d n x ≡ led_by k g d n x
+by_as k f g h d n x = some_as (λ j. led_following (reached k j) (f (next_of j)) d n x) (λ j. led_following (reached k j) (g (next_of j)) d n x) (λ j. following_as (reached k j) (f (next_of j)) (g (next_of j)) (h (next_of j)) d n x)
 
-by_none : (k : Link) (d n : ℕ) (x : w.Next) → led_by k (λ j e i. false) d n x ≡ false
-by_none k d n x = some_as (λ j. led_met (reached k j) (λ e i. false) d n x) (λ j. false) (λ j. met_none (reached k j) d n x)
+by_none : (k : Link) (d n : ℕ) (x : w.Lookahead) → led_by k (λ j e i. false) d n x ≡ false
+by_none k d n x = some_as (λ j. led_following (reached k j) (λ e i. false) d n x) (λ j. false) (λ j. following_none (reached k j) d n x)
 
-by_or : (k : Link) (f g : w.Next → ℕ → ℕ → Bool) (d n : ℕ) (x : w.Next) → led_by k (λ j e i. f j e i || g j e i) d n x ≡ led_by k f d n x || led_by k g d n x
+by_or : (k : Link) (f g : w.Lookahead → ℕ → ℕ → Bool) (d n : ℕ) (x : w.Lookahead) → led_by k (λ j e i. f j e i || g j e i) d n x ≡ led_by k f d n x || led_by k g d n x
 by_or k f g d n x =
-    some_as (λ j. led_met (reached k j) (λ e i. f (next_of j) e i || g (next_of j) e i) d n x) (λ j. led_met (reached k j) (f (next_of j)) d n x || led_met (reached k j) (g (next_of j)) d n x) (λ j. met_or (reached k j) (f (next_of j)) (g (next_of j)) d n x)
-    ∙ some_or (λ j. led_met (reached k j) (f (next_of j)) d n x) (λ j. led_met (reached k j) (g (next_of j)) d n x)
+    some_as (λ j. led_following (reached k j) (λ e i. f (next_of j) e i || g (next_of j) e i) d n x) (λ j. led_following (reached k j) (f (next_of j)) d n x || led_following (reached k j) (g (next_of j)) d n x) (λ j. following_or (reached k j) (f (next_of j)) (g (next_of j)) d n x)
+    ∙ some_or (λ j. led_following (reached k j) (f (next_of j)) d n x) (λ j. led_following (reached k j) (g (next_of j)) d n x)
 
 -- ---- one room
 
-not_there : (k : Option Met) (f : ℕ → ℕ → Bool) → ((d n : ℕ) → f d n ≡ false) → (d n : ℕ) (x : w.Next) → led_met k f d n x ≡ false
-not_there k f h d n x = met_as k f (λ e i. false) h d n x ∙ met_none k d n x
+not_there : (k : Option Following) (f : ℕ → ℕ → Bool) → ((d n : ℕ) → f d n ≡ false) → (d n : ℕ) (x : w.Lookahead) → led_following k f d n x ≡ false
+not_there k f h d n x = following_as k f (λ e i. false) h d n x ∙ following_none k d n x
 
 none_and : (x y : Bool) → x ≡ false → x && y ≡ false
 none_and true y e = absurd cc
@@ -116,95 +116,95 @@ summed true true n k = omega arith
 summed true false n k = refl
 summed false e n k = refl
 
-there : (q : Bool) (y : Way) (r : Room) (k : Option Met) (x : Whom) (c : w.Next) (d n : ℕ)
-    → serves y.whom x && led_met k (λ e i. holds r y.onto (next_of r.next) e (counted q i)) (max y.floor (d + y.rise)) (n + y.nodes) c ≡ leads q y r k x c d (counted q n)
-there q y r None x c d n = and_none (serves y.whom x)
+there : (q : Bool) (y : Completion) (r : Budget) (k : Option Following) (x : Category) (c : w.Lookahead) (d n : ℕ)
+    → serves y.category x && led_following k (λ e i. holds r y.onto (next_of r.next) e (counted q i)) (max y.floor (d + y.rise)) (n + y.nodes) c ≡ leads q y r k x c d (counted q n)
+there q y r None x c d n = and_none (serves y.category x)
 there q y r (Some k) x c d n =
     let e1 = next_in (next_of r.next) in
     let e2 = summed q k.more n y.nodes in
     cc
 
-one_room : (q : Bool) (y : Way) (r : Room) (x : Whom) (c : w.Next) (d n : ℕ)
-    → serves y.whom x && led_by y.link (λ j e i. holds r y.onto j e (counted q i)) (max y.floor (d + y.rise)) (n + y.nodes) c ≡ by_room q y r x c d (counted q n)
-one_room q y r x c d n =
-    ap (λ z. serves y.whom x && z) (only (λ j. led_met (reached y.link j) (λ e i. holds r y.onto (next_of j) e (counted q i)) (max y.floor (d + y.rise)) (n + y.nodes) c) r.next
+one_budget : (q : Bool) (y : Completion) (r : Budget) (x : Category) (c : w.Lookahead) (d n : ℕ)
+    → serves y.category x && led_by y.link (λ j e i. holds r y.onto j e (counted q i)) (max y.floor (d + y.rise)) (n + y.nodes) c ≡ by_budget q y r x c d (counted q n)
+one_budget q y r x c d n =
+    ap (λ z. serves y.category x && z) (only (λ j. led_following (reached y.link j) (λ e i. holds r y.onto (next_of j) e (counted q i)) (max y.floor (d + y.rise)) (n + y.nodes) c) r.next
     (λ j h. not_there (reached y.link j) (λ e i. holds r y.onto (next_of j) e (counted q i)) (λ e i. none_and (is_next (next_of r.next) (next_of j)) _ h) (max y.floor (d + y.rise)) (n + y.nodes) c))
     ∙ there q y r (reached y.link r.next) x c d n
 
 -- ---- all rooms
 
-way_rooms : (q : Bool) (y : Way) (rs : List Room) (x : Whom) (c : w.Next) (d n : ℕ)
-    → serves y.whom x && led_by y.link (λ j e i. covered rs y.onto j e (counted q i)) (max y.floor (d + y.rise)) (n + y.nodes) c ≡ by_way q y rs x c d (counted q n)
-way_rooms q y [] x c d n = ap (λ z. serves y.whom x && z) (by_none y.link (max y.floor (d + y.rise)) (n + y.nodes) c) ∙ and_none (serves y.whom x)
-way_rooms q y (r ∷ rs) x c d n =
-    let f : w.Next → ℕ → ℕ → Bool = λ j e i. holds r y.onto j e (counted q i) in
-    let g : w.Next → ℕ → ℕ → Bool = λ j e i. covered rs y.onto j e (counted q i) in
+completion_budgets : (q : Bool) (y : Completion) (rs : List Budget) (x : Category) (c : w.Lookahead) (d n : ℕ)
+    → serves y.category x && led_by y.link (λ j e i. covered rs y.onto j e (counted q i)) (max y.floor (d + y.rise)) (n + y.nodes) c ≡ by_completion q y rs x c d (counted q n)
+completion_budgets q y [] x c d n = ap (λ z. serves y.category x && z) (by_none y.link (max y.floor (d + y.rise)) (n + y.nodes) c) ∙ and_none (serves y.category x)
+completion_budgets q y (r ∷ rs) x c d n =
+    let f : w.Lookahead → ℕ → ℕ → Bool = λ j e i. holds r y.onto j e (counted q i) in
+    let g : w.Lookahead → ℕ → ℕ → Bool = λ j e i. covered rs y.onto j e (counted q i) in
     let e = max y.floor (d + y.rise) in
     let i = n + y.nodes in
-    ap (λ z. serves y.whom x && z) (by_or y.link f g e i c)
-    ∙ and_or (serves y.whom x) (led_by y.link f e i c) (led_by y.link g e i c)
-    ∙ ap (λ z. z || (serves y.whom x && led_by y.link g e i c)) (one_room q y r x c d n)
-    ∙ ap (λ z. by_room q y r x c d (counted q n) || z) (way_rooms q y rs x c d n)
+    ap (λ z. serves y.category x && z) (by_or y.link f g e i c)
+    ∙ and_or (serves y.category x) (led_by y.link f e i c) (led_by y.link g e i c)
+    ∙ ap (λ z. z || (serves y.category x && led_by y.link g e i c)) (one_budget q y r x c d n)
+    ∙ ap (λ z. by_budget q y r x c d (counted q n) || z) (completion_budgets q y rs x c d n)
 
-way_led : (q : Bool) (st : Stack) (y : Way) (rs : List Room) → AreRooms q st rs → (x : Whom) (c : w.Next) (d n : ℕ) → by_way q y rs x c d (counted q n) ≡ led_way y (goes_on q st) x c d n
-way_led q st y rs h x c d n =
-    sym (way_rooms q y rs x c d n)
-    ∙ ap (λ z. serves y.whom x && z) (by_as y.link (λ j e i. covered rs y.onto j e (counted q i)) (goes_on q st y.onto) (λ j e i. h y.onto j e i) (max y.floor (d + y.rise)) (n + y.nodes) c)
+completion_led : (q : Bool) (st : Stack) (y : Completion) (rs : List Budget) → AreBudgets q st rs → (x : Category) (c : w.Lookahead) (d n : ℕ) → by_completion q y rs x c d (counted q n) ≡ led_completion y (goes_on q st) x c d n
+completion_led q st y rs h x c d n =
+    sym (completion_budgets q y rs x c d n)
+    ∙ ap (λ z. serves y.category x && z) (by_as y.link (λ j e i. covered rs y.onto j e (counted q i)) (goes_on q st y.onto) (λ j e i. h y.onto j e i) (max y.floor (d + y.rise)) (n + y.nodes) c)
 
-ways_led : (q : Bool) (st : Stack) (ys : Ways) (rs : List Room) → AreRooms q st rs → (x : Whom) (c : w.Next) (d n : ℕ) → by_ways q ys rs x c d (counted q n) ≡ led ys (goes_on q st) x c d n
-ways_led q st (One s) rs h x c d n = way_led q st s rs h x c d n
-ways_led q st (Two s u) rs h x c d n = let e1 = way_led q st s rs h x c d n in let e2 = way_led q st u rs h x c d n in cc
-ways_led q st (Three s u v) rs h x c d n = let e1 = way_led q st s rs h x c d n in let e2 = way_led q st u rs h x c d n in let e3 = way_led q st v rs h x c d n in cc
-ways_led q st (Five s u v y z) rs h x c d n = let e1 = way_led q st s rs h x c d n in let e2 = way_led q st u rs h x c d n in let e3 = way_led q st v rs h x c d n in let e4 = way_led q st y rs h x c d n in let e5 = way_led q st z rs h x c d n in cc
+completions_led : (q : Bool) (st : Stack) (ys : Completions) (rs : List Budget) → AreBudgets q st rs → (x : Category) (c : w.Lookahead) (d n : ℕ) → by_completions q ys rs x c d (counted q n) ≡ led ys (goes_on q st) x c d n
+completions_led q st (One s) rs h x c d n = completion_led q st s rs h x c d n
+completions_led q st (Two s u) rs h x c d n = let e1 = completion_led q st s rs h x c d n in let e2 = completion_led q st u rs h x c d n in cc
+completions_led q st (Three s u v) rs h x c d n = let e1 = completion_led q st s rs h x c d n in let e2 = completion_led q st u rs h x c d n in let e3 = completion_led q st v rs h x c d n in cc
+completions_led q st (Five s u v y z) rs h x c d n = let e1 = completion_led q st s rs h x c d n in let e2 = completion_led q st u rs h x c d n in let e3 = completion_led q st v rs h x c d n in let e4 = completion_led q st y rs h x c d n in let e5 = completion_led q st z rs h x c d n in cc
 
-by_begun : (q : Bool) (x : Begun) (st : Stack) (k : Whom) (c : w.Next) (d n : ℕ) → goes_on q (begun_on x st) k c d n ≡ led (ways (begun_on x st)) (goes_on q st) k c d n
-by_begun q (b.Operand (o.Parens v_l)) st k c d n = refl
-by_begun q (b.Operand (o.Unary v_l v_q)) st k c d n = refl
-by_begun q (b.Operand (o.Binary v_q v_l v_x)) st k c d n = refl
-by_begun q (b.Operand (o.Chain v_q v_l v_x v_y)) st k c d n = refl
-by_begun q (b.Operand (o.Then v_l v_x)) st k c d n = refl
-by_begun q (b.Operand (o.Else v_l v_x v_y)) st k c d n = refl
-by_begun q (b.Operand (o.Args v_l v_x v_es)) st k c d n = refl
-by_begun q (b.Operand (o.Table v_l v_es)) st k c d n = refl
-by_begun q (b.Phrase p.Start) st k c d n = refl
-by_begun q (b.Phrase (p.Dests v_xs)) st k c d n = refl
-by_begun q (b.Phrase (p.Values v_xs v_ys)) st k c d n = refl
-by_begun q (b.Phrase (p.Guard v_g v_l)) st k c d n = refl
-by_begun q (b.Phrase (p.Test v_l)) st k c d n = refl
-by_begun q (b.Phrase (p.ResultIs v_l)) st k c d n = refl
-by_begun q (b.Phrase (p.RepeatWhile v_t v_x)) st k c d n = refl
-by_begun q (b.Phrase (p.From v_l v_x)) st k c d n = refl
-by_begun q (b.Phrase (p.To v_l v_x v_y)) st k c d n = refl
-by_begun q (b.Phrase (p.By v_l v_x v_y v_z)) st k c d n = refl
-by_begun q (b.Member (m.Item v_l v_q v_is v_x)) st k c d n = refl
-by_begun q (b.Member (m.Function v_x v_fs)) st k c d n = refl
-by_begun q (b.Member (m.Value v_xs v_is)) st k c d n = refl
-by_begun q (b.Member (m.Vector v_l v_xs v_is)) st k c d n = refl
-by_begun q (b.Clause (c.Valof v_l)) st k c d n = refl
-by_begun q (b.Clause (c.Label v_l v_x)) st k c d n = refl
-by_begun q (b.Clause (c.Guarded v_g v_l v_x)) st k c d n = refl
-by_begun q (b.Clause (c.Default v_l)) st k c d n = refl
-by_begun q (b.Clause (c.Then v_l v_x)) st k c d n = refl
-by_begun q (b.Clause (c.Else v_l v_x v_y)) st k c d n = refl
-by_begun q (b.Clause (c.For v_l v_x v_y v_z v_h)) st k c d n = refl
-by_begun q (b.Clause (c.Routine v_x v_fs)) st k c d n = refl
-by_begun q (b.Place (a.Block v_l v_q v_ds v_cs)) st k c d n = refl
-by_begun q (b.Place (a.Let v_l v_ds)) st k c d n = refl
-by_begun q (b.Place (a.Named v_x)) st k c d n = refl
-by_begun q (b.Place (a.Formals v_x)) st k c d n = refl
-by_begun q (b.Place (a.Formal v_x v_fs)) st k c d n = refl
-by_begun q (b.Place (a.FormalEnd v_x v_fs)) st k c d n = refl
-by_begun q (b.Place (a.Headed v_x v_fs)) st k c d n = refl
-by_begun q (b.Place (a.Variable v_xs)) st k c d n = refl
-by_begun q (b.Place (a.VariableEnd v_xs)) st k c d n = refl
-by_begun q (b.Place (a.Inits v_xs v_is)) st k c d n = refl
-by_begun q (b.Point (t.Opening v_l v_q)) st k c d n = refl
-by_begun q (b.Point (t.Items v_l v_q v_is)) st k c d n = refl
-by_begun q (b.Point (t.Signed v_l v_q v_is v_x)) st k c d n = refl
-by_begun q (b.Point (t.Goto v_l)) st k c d n = refl
-by_begun q (b.Point (t.For v_l)) st k c d n = refl
-by_begun q (b.Point (t.Forward v_l v_x)) st k c d n = refl
-by_begun q (b.Point (t.Default v_l)) st k c d n = refl
+by_unfinished : (q : Bool) (x : Unfinished) (st : Stack) (k : Category) (c : w.Lookahead) (d n : ℕ) → goes_on q (unfinished_on x st) k c d n ≡ led (completions (unfinished_on x st)) (goes_on q st) k c d n
+by_unfinished q (b.OpenExpression (o.Parens v_l)) st k c d n = refl
+by_unfinished q (b.OpenExpression (o.Unary v_l v_q)) st k c d n = refl
+by_unfinished q (b.OpenExpression (o.Binary v_q v_l v_x)) st k c d n = refl
+by_unfinished q (b.OpenExpression (o.Chain v_q v_l v_x v_y)) st k c d n = refl
+by_unfinished q (b.OpenExpression (o.Then v_l v_x)) st k c d n = refl
+by_unfinished q (b.OpenExpression (o.Else v_l v_x v_y)) st k c d n = refl
+by_unfinished q (b.OpenExpression (o.Args v_l v_x v_es)) st k c d n = refl
+by_unfinished q (b.OpenExpression (o.Table v_l v_es)) st k c d n = refl
+by_unfinished q (b.Phrase p.Start) st k c d n = refl
+by_unfinished q (b.Phrase (p.Dests v_xs)) st k c d n = refl
+by_unfinished q (b.Phrase (p.Values v_xs v_ys)) st k c d n = refl
+by_unfinished q (b.Phrase (p.Guard v_g v_l)) st k c d n = refl
+by_unfinished q (b.Phrase (p.Test v_l)) st k c d n = refl
+by_unfinished q (b.Phrase (p.ResultIs v_l)) st k c d n = refl
+by_unfinished q (b.Phrase (p.RepeatWhile v_t v_x)) st k c d n = refl
+by_unfinished q (b.Phrase (p.From v_l v_x)) st k c d n = refl
+by_unfinished q (b.Phrase (p.To v_l v_x v_y)) st k c d n = refl
+by_unfinished q (b.Phrase (p.By v_l v_x v_y v_z)) st k c d n = refl
+by_unfinished q (b.Member (m.Item v_l v_q v_is v_x)) st k c d n = refl
+by_unfinished q (b.Member (m.Function v_x v_fs)) st k c d n = refl
+by_unfinished q (b.Member (m.Value v_xs v_is)) st k c d n = refl
+by_unfinished q (b.Member (m.Vector v_l v_xs v_is)) st k c d n = refl
+by_unfinished q (b.Clause (c.Valof v_l)) st k c d n = refl
+by_unfinished q (b.Clause (c.Label v_l v_x)) st k c d n = refl
+by_unfinished q (b.Clause (c.Guarded v_g v_l v_x)) st k c d n = refl
+by_unfinished q (b.Clause (c.Default v_l)) st k c d n = refl
+by_unfinished q (b.Clause (c.Then v_l v_x)) st k c d n = refl
+by_unfinished q (b.Clause (c.Else v_l v_x v_y)) st k c d n = refl
+by_unfinished q (b.Clause (c.For v_l v_x v_y v_z v_h)) st k c d n = refl
+by_unfinished q (b.Clause (c.Routine v_x v_fs)) st k c d n = refl
+by_unfinished q (b.Place (a.Block v_l v_q v_ds v_cs)) st k c d n = refl
+by_unfinished q (b.Place (a.Let v_l v_ds)) st k c d n = refl
+by_unfinished q (b.Place (a.Named v_x)) st k c d n = refl
+by_unfinished q (b.Place (a.Formals v_x)) st k c d n = refl
+by_unfinished q (b.Place (a.Formal v_x v_fs)) st k c d n = refl
+by_unfinished q (b.Place (a.FormalEnd v_x v_fs)) st k c d n = refl
+by_unfinished q (b.Place (a.Headed v_x v_fs)) st k c d n = refl
+by_unfinished q (b.Place (a.Variable v_xs)) st k c d n = refl
+by_unfinished q (b.Place (a.VariableEnd v_xs)) st k c d n = refl
+by_unfinished q (b.Place (a.Inits v_xs v_is)) st k c d n = refl
+by_unfinished q (b.Point (t.Opening v_l v_q)) st k c d n = refl
+by_unfinished q (b.Point (t.Items v_l v_q v_is)) st k c d n = refl
+by_unfinished q (b.Point (t.Signed v_l v_q v_is v_x)) st k c d n = refl
+by_unfinished q (b.Point (t.Goto v_l)) st k c d n = refl
+by_unfinished q (b.Point (t.For v_l)) st k c d n = refl
+by_unfinished q (b.Point (t.Forward v_l v_x)) st k c d n = refl
+by_unfinished q (b.Point (t.Default v_l)) st k c d n = refl
 
-pub rooms_above : (q : Bool) (x : Begun) (st : Stack) (below above : List Room) → AreRooms q st below → AreAdded (by_ways q (ways (begun_on x st)) below) [] above → AreRooms q (begun_on x st) above
-rooms_above q x st below above h g k c d n = g k c d (counted q n) ∙ ways_led q st (ways (begun_on x st)) below h k c d n ∙ sym (by_begun q x st k c d n)
+pub budgets_above : (q : Bool) (x : Unfinished) (st : Stack) (below above : List Budget) → AreBudgets q st below → AreAdded (by_completions q (completions (unfinished_on x st)) below) [] above → AreBudgets q (unfinished_on x st) above
+budgets_above q x st below above h g k c d n = g k c d (counted q n) ∙ completions_led q st (completions (unfinished_on x st)) below h k c d n ∙ sym (by_unfinished q x st k c d n)

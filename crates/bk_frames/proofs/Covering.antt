@@ -22,8 +22,8 @@ use Rattle.bk_tree.specs.Parts.{line_of, line_of_first, line_of_names, line_of_a
 use Rattle.bk_grammar.specs.Machine.{Stack, in_section, in_block, in_let, at_name, at_formals, at_formal, at_formal_end, at_head, at_variable, at_variable_end, at_starts, at_opening, at_items, at_sign, at_goto, at_for, at_forward, at_default, in_parens, in_unary, in_binary, in_chain, in_then, in_else, in_args, in_table, in_start, in_dests, in_values, in_guard, in_test, in_result, in_while, in_from, in_to, in_by, in_item, in_function, in_value, in_vector, in_valof, in_label, in_guarded, in_default, in_do, in_or, in_for, in_routine, State, want, have, begin, maybe, did, due, linked, infixed, push, is_close, is_colon, is_do, is_or, is_to, is_equal, is_semicolon, opens, closes, is_vec, is_let, is_open, is_sign_of, named, guarded, behind_sign, no_args, bars, take_operand, take_command, sorted, take_declaration, take_in_section, in_head, take_in_block, declared, declared_by, defined_by, again, dests, labelled, is_call, call_of, in_constants, to_or_do, give, finish, without, inside, in_names, in_formals, headed, take_item, take_due, step, prefixed, counted, whole, run, stepped_by, going}
 use Rattle.bk_tree.specs.Parts.{each_then, actions_then, declarations_then, items_then, definitions_then, starts_then}
 use Rattle.bk_frames.specs.Sizes.{form_of, owed}
-use Rattle.bk_frames.specs.WaysOn as nx
-use Rattle.bk_frames.specs.WaysOn.{Next, Any, AtClosing, AtListing, AtArgument, AtAssignment, Unlisted, AtPart, If, Closed, Missing, Started, Answered, Whole, Guarded, Taken, Gives, Does, Operates, Defines, Declares, Wants, Misses, Lists, Due, Completes}
+use Rattle.bk_frames.specs.Completing as nx
+use Rattle.bk_frames.specs.Completing.{Lookahead, Any, AtClosing, AtListing, AtArgument, AtAssignment, Unlisted, AtPart, If, Closed, Missing, Started, Answered, Whole, Guarded, Taken, Gives, Does, Operates, Defines, Declares, Wants, Misses, Lists, Due, Completes}
 use Rattle.bk_grammar.proofs.Before.{falls, behind_ok, inner_ok}
 use Rattle.bk_grammar.proofs.Steps.{pushes, repeated, size_then, count_then, no_comma}
 use Rattle.bk_tree.proofs.Trees.{each_depth, each_nodes, actions_depth, actions_nodes, declarations_depth, declarations_nodes, definitions_depth, definitions_nodes, items_depth, items_nodes, starts_depth, starts_nodes}
@@ -37,7 +37,7 @@ Leads P X (Some y) = Completes P y → X
 
 -- ---- unions
 
-unclosed : (F : ℕ → ℕ → Next → Type 0) → Falls F → (d n : ℕ) → (c : Next) → Closed F d n c → Any (F d n)
+unclosed : (F : ℕ → ℕ → Lookahead → Type 0) → Falls F → (d n : ℕ) → (c : Lookahead) → Closed F d n c → Any (F d n)
 unclosed F f d n nx.closing h = (nx.closing, h)
 unclosed F f d n nx.assigning h = (nx.assigning, h)
 unclosed F f d n nx.listing h = (nx.listing, h)
@@ -46,10 +46,10 @@ unclosed F f d n nx.operating h = absurd h
 unclosed F f d n nx.repeating h = any_falls F f d (d + 1) n (n + 1) (omega arith) (omega arith) h
 
 -- a command that an expression ends, as one
-opened : (F : ℕ → ℕ → Next → Type 0) → Falls F → (d e n m : ℕ) → d ≤ e → n ≤ m → Any (Closed F e m) → Any (F d n)
+opened : (F : ℕ → ℕ → Lookahead → Type 0) → Falls F → (d e n m : ℕ) → d ≤ e → n ≤ m → Any (Closed F e m) → Any (F d n)
 opened F f d e n m p q h = any_falls F f d e n m p q (unclosed F f e m h.0 h.1)
 
-unmissing : (F : ℕ → ℕ → Next → Type 0) → Falls F → (d n : ℕ) → (c : Next) → Missing F d n c → Any (F d n)
+unmissing : (F : ℕ → ℕ → Lookahead → Type 0) → Falls F → (d n : ℕ) → (c : Lookahead) → Missing F d n c → Any (F d n)
 unmissing F f d n nx.closing h = (nx.closing, h)
 unmissing F f d n nx.assigning h = (nx.assigning, h)
 unmissing F f d n nx.listing h = (nx.listing, h)
@@ -57,10 +57,10 @@ unmissing F f d n nx.going h = absurd h
 unmissing F f d n nx.operating h = (nx.operating, h)
 unmissing F f d n nx.repeating h = any_falls F f d (d + 1) n (n + 1) (omega arith) (omega arith) h
 
-missed : (F : ℕ → ℕ → Next → Type 0) → Falls F → (d e n m : ℕ) → d ≤ e → n ≤ m → Any (Missing F e m) → Any (F d n)
+missed : (F : ℕ → ℕ → Lookahead → Type 0) → Falls F → (d e n m : ℕ) → d ≤ e → n ≤ m → Any (Missing F e m) → Any (F d n)
 missed F f d e n m p q h = any_falls F f d e n m p q (unmissing F f e m h.0 h.1)
 
-started_label : (F : ℕ → ℕ → Next → Type 0) → Falls F → (f : Form) (d n : ℕ) → 1 ≤ d → 1 ≤ n → (c : Next) → Started F f d n c → Any (Started F Label 1 1)
+started_label : (F : ℕ → ℕ → Lookahead → Type 0) → Falls F → (f : Form) (d n : ℕ) → 1 ≤ d → 1 ≤ n → (c : Lookahead) → Started F f d n c → Any (Started F Label 1 1)
 started_label F k f d n p q nx.assigning h = (nx.assigning, any_closed F k (max 1 1 + 1) (max d 1 + 1) (1 + 2) (n + 2) (omega arith) (omega (arith, q)) h)
 started_label F k f d n p q nx.listing h = (nx.listing, any_closed F k (max 1 1 + 1) (max d 1 + 1) (1 + 4) (n + 4) (omega arith) (omega (arith, q)) h)
 started_label F k Label d n p q nx.closing h = (nx.closing, h)
@@ -81,7 +81,7 @@ started_label F k Other d n p q nx.operating h = absurd h
 started_label F k Other d n p q nx.repeating h = absurd h
 
 -- a name is the least operand
-least : (P : ℕ → ℕ → Type 0) → Down P → (st : Stack) (f : Form) (d n : ℕ) → 1 ≤ d → 1 ≤ n → (c : Next) → Gives P st f d n c → Any (Gives P st Label 1 1)
+least : (P : ℕ → ℕ → Type 0) → Down P → (st : Stack) (f : Form) (d n : ℕ) → 1 ≤ d → 1 ≤ n → (c : Lookahead) → Gives P st f d n c → Any (Gives P st Label 1 1)
 least P w (in_start st) f d n p q c h = started_label (Does P st) (does_falls P w st) f d n p q c h
 least P w (in_parens l st) f d n p q c h = (c, gives_falls P w (in_parens l st) Label 1 d 1 n p q c h)
 least P w (in_args s x es st) f d n p q c h = (c, gives_falls P w (in_args s x es st) Label 1 d 1 n p q c h)
@@ -102,7 +102,7 @@ wants P w (in_args s x (more y ys) st) h = h
 wants P w st h = h
 
 -- a destination with more behind it can be called
-started_call : (F : ℕ → ℕ → Next → Type 0) (d n : ℕ) (c : Next) → Started F Other d n c → Started F Call d n c
+started_call : (F : ℕ → ℕ → Lookahead → Type 0) (d n : ℕ) (c : Lookahead) → Started F Other d n c → Started F Call d n c
 started_call F d n nx.assigning h = h
 started_call F d n nx.listing h = h
 started_call F d n nx.closing h = absurd h
@@ -110,7 +110,7 @@ started_call F d n nx.going h = absurd h
 started_call F d n nx.operating h = absurd h
 started_call F d n nx.repeating h = absurd h
 
-called : (P : ℕ → ℕ → Type 0) (st : Stack) (d n : ℕ) (c : Next) → Gives P st Other d n c → Gives P st Call d n c
+called : (P : ℕ → ℕ → Type 0) (st : Stack) (d n : ℕ) (c : Lookahead) → Gives P st Other d n c → Gives P st Call d n c
 called P (in_start st) d n c h = started_call (Does P st) d n c h
 called P (in_parens l st) d n c h = h
 called P st d n c h = h
@@ -215,7 +215,7 @@ operand_leads P w t st l x = prefixed_leads P w (prefix_of t) st l
 
 -- ---- a command is due
 
-started_any : (F : ℕ → ℕ → Next → Type 0) → Falls F → Any (Started F Label 1 1) → Any (F 1 1)
+started_any : (F : ℕ → ℕ → Lookahead → Type 0) → Falls F → Any (Started F Label 1 1) → Any (F 1 1)
 started_any F f (nx.assigning, h) = opened F f 1 (max 1 1 + 1) 1 (1 + 2) (omega arith) (omega arith) h
 started_any F f (nx.listing, h) = opened F f 1 (max 1 1 + 1) 1 (1 + 4) (omega arith) (omega arith) h
 started_any F f (nx.closing, inl h) = missed F f 1 1 1 1 (omega arith) (omega arith) h
@@ -224,7 +224,7 @@ started_any F f (nx.going, h) = absurd h
 started_any F f (nx.operating, h) = absurd h
 started_any F f (nx.repeating, h) = absurd h
 
-guarded_any : (gd : Guard) (F : ℕ → ℕ → Next → Type 0) → Falls F → Guarded gd F 1 1 → Any (F 1 1)
+guarded_any : (gd : Guard) (F : ℕ → ℕ → Lookahead → Type 0) → Falls F → Guarded gd F 1 1 → Any (F 1 1)
 guarded_any g.Case F f (inl h) = missed F f 1 2 1 2 (omega arith) (omega arith) h
 guarded_any g.Case F f (inr h) = any_falls F f 1 (max 1 1 + 1) 1 (1 + 2) (omega arith) (omega arith) h
 guarded_any _ F f h = any_falls F f 1 (max 1 1 + 1) 1 (1 + 2) (omega arith) (omega arith) h
@@ -333,7 +333,7 @@ leads_none : (P : ℕ → ℕ → Type 0) (X : Type 0) (r : Option State) → r 
 leads_none P X None h = tt
 leads_none P X (Some y) h = absurd cc
 
-counted_leads : (P : ℕ → ℕ → Type 0) (b : Bool) (F G : Next → Type 0) (c : Next) (r : Option State) (t : Kind) (y : State) → Leads P (F c) r → (is_comma t ≡ true → Leads P (G c) (Some y)) → Leads P (If b F G c) (counted b r t y)
+counted_leads : (P : ℕ → ℕ → Type 0) (b : Bool) (F G : Lookahead → Type 0) (c : Lookahead) (r : Option State) (t : Kind) (y : State) → Leads P (F c) r → (is_comma t ≡ true → Leads P (G c) (Some y)) → Leads P (If b F G c) (counted b r t y)
 counted_leads P true F G c r t y h j = h
 counted_leads P false F G c r t y h j = leads_if P (G c) (is_comma t) (Some y) None j (λ e. tt)
 
@@ -567,7 +567,7 @@ give_repeat_until P w (in_vector m xs is st) e l x =
     (λ j. absurd cc)
 give_repeat_until P w _ e l x = tt
 
-parts_any : {F G H : Next → Type 0} → ((c : Next) → F c → H c) → ((c : Next) → G c → H c) → Any (AtPart F G) → Any (Unlisted H)
+parts_any : {F G H : Lookahead → Type 0} → ((c : Lookahead) → F c → H c) → ((c : Lookahead) → G c → H c) → Any (AtPart F G) → Any (Unlisted H)
 parts_any f k (nx.listing, h) = any (unlisted k) h
 parts_any f k (nx.closing, h) = (nx.closing, f nx.closing h)
 parts_any f k (nx.assigning, h) = (nx.assigning, f nx.assigning h)
@@ -599,8 +599,8 @@ table_any P w m es st e h =
     let zs : Expressions = each_then es (more e none) in
     let a = each_depth es e in
     let b = each_nodes es e in
-    let f : (c : Next) → Gives P st Other (max (depth_of_each zs) 1 + 1) (nodes_of_each zs + 1 + 1) c → Gives P st Other (max (depth_of_each es) (max (depth e) 1) + 1) (nodes_of_each es + nodes e + 2) c = gives_falls P w st Other (max (depth_of_each es) (max (depth e) 1) + 1) (max (depth_of_each zs) 1 + 1) (nodes_of_each es + nodes e + 2) (nodes_of_each zs + 1 + 1) (omega (arith, a)) (omega (arith, b)) in
-    let k : (c : Next) → Gives P st Other (max (depth_of_each zs) (max 1 1) + 1) (nodes_of_each zs + 1 + 2) c → Gives P st Other (max (depth_of_each es) (max (depth e) 1) + 1) (nodes_of_each es + nodes e + 2) c = gives_falls P w st Other (max (depth_of_each es) (max (depth e) 1) + 1) (max (depth_of_each zs) (max 1 1) + 1) (nodes_of_each es + nodes e + 2) (nodes_of_each zs + 1 + 2) (omega (arith, a)) (omega (arith, b)) in
+    let f : (c : Lookahead) → Gives P st Other (max (depth_of_each zs) 1 + 1) (nodes_of_each zs + 1 + 1) c → Gives P st Other (max (depth_of_each es) (max (depth e) 1) + 1) (nodes_of_each es + nodes e + 2) c = gives_falls P w st Other (max (depth_of_each es) (max (depth e) 1) + 1) (max (depth_of_each zs) 1 + 1) (nodes_of_each es + nodes e + 2) (nodes_of_each zs + 1 + 1) (omega (arith, a)) (omega (arith, b)) in
+    let k : (c : Lookahead) → Gives P st Other (max (depth_of_each zs) (max 1 1) + 1) (nodes_of_each zs + 1 + 2) c → Gives P st Other (max (depth_of_each es) (max (depth e) 1) + 1) (nodes_of_each es + nodes e + 2) c = gives_falls P w st Other (max (depth_of_each es) (max (depth e) 1) + 1) (max (depth_of_each zs) (max 1 1) + 1) (nodes_of_each es + nodes e + 2) (nodes_of_each zs + 1 + 2) (omega (arith, a)) (omega (arith, b)) in
     parts_any f k h
 
 values_more : (P : ℕ → ℕ → Type 0) → Down P → (xs ys : Expressions) (st : Stack) (e : Expression) → Any (Gives P (in_values xs (each_then ys (more e none)) st) Label 1 1) → Any (Closed (Does P st) (max (depth_of_each xs) (max (depth_of_each ys) (max (depth e) 1)) + 1) (nodes_of_each xs + (nodes_of_each ys + nodes e) + owed (size xs) (size ys) + 1))
@@ -1011,7 +1011,7 @@ operated P w st d n h = any_falls (Gives P st Call) (gives_falls P w st Call) (d
 have_leads : (P : ℕ → ℕ → Type 0) → Down P → (st : Stack) (e : Expression) (l : ℕ) (x : List ℕ) (t : Kind) → Leads P (Whole (Gives P st) (form_of e) (depth e) (nodes e)) (give st e l x t)
 have_leads P w st e l x =
     let X : Type 0 = Whole (Gives P st) (form_of e) (depth e) (nodes e) in
-    let at : (c : Next) → Gives P st (form_of e) (depth e) (nodes e) c → X = λ c h. inl (c, h) in
+    let at : (c : Lookahead) → Gives P st (form_of e) (depth e) (nodes e) c → X = λ c h. inl (c, h) in
     by_class (λ t. Leads P X (give st e l x t))
     (leads_by P (Gives P st (form_of e) (depth e) (nodes e) nx.assigning) X (give st e l x k.Assign) (at nx.assigning) (give_assign P w st e l x))
     (leads_by P (Gives P st (form_of e) (depth e) (nodes e) nx.listing) X (give st e l x k.Comma) (at nx.listing) (give_comma P w st e l x))
@@ -1024,11 +1024,11 @@ have_leads P w st e l x =
 
 did_leads : (P : ℕ → ℕ → Type 0) → Down P → (st : Stack) (c : Action) (l : ℕ) (x : List ℕ) (t : Kind) → Leads P (Any (Does P st (depth_of_action c) (nodes_of_action c))) (finish st c l x t)
 did_leads P w st c l x =
-    let F : ℕ → ℕ → Next → Type 0 = Does P st in
+    let F : ℕ → ℕ → Lookahead → Type 0 = Does P st in
     let d : ℕ = depth_of_action c in
     let m : ℕ = nodes_of_action c in
     let X : Type 0 = Any (F d m) in
-    let at : (z : Next) → F d m z → X = λ z h. (z, h) in
+    let at : (z : Lookahead) → F d m z → X = λ z h. (z, h) in
     let more_of : Any (F (d + 1) (m + 1)) → X = any_falls F (does_falls P w st) d (d + 1) m (m + 1) (omega arith) (omega arith) in
     by_class (λ t. Leads P X (finish st c l x t))
     (leads_by P (F d m nx.assigning) X (finish st c l x k.Assign) (at nx.assigning) (finish_assign P w st c l x))
@@ -1043,7 +1043,7 @@ did_leads P w st c l x =
 -- where a command is missing behind a colon
 empty_leads : (P : ℕ → ℕ → Type 0) → Down P → (st : Stack) (c : Action) (l : ℕ) (x : List ℕ) (t : Kind) → begins_command t ≡ false → Leads P (Any (Missing (Does P st) (depth_of_action c) (nodes_of_action c))) (finish st c l x t)
 empty_leads P w st c l x =
-    let F : ℕ → ℕ → Next → Type 0 = Does P st in
+    let F : ℕ → ℕ → Lookahead → Type 0 = Does P st in
     let d : ℕ = depth_of_action c in
     let m : ℕ = nodes_of_action c in
     let X : Type 0 = Any (Missing F d m) in

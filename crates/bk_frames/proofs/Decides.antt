@@ -4,9 +4,9 @@ use Rattle.std.specs.Prelude.{nat_lt}
 use Rattle.std.proofs.lemmas.Bool.Decides.{nat_tests}
 use Rattle.bk_grammar.specs.declared.symbols.Guard.{Guard}
 use Rattle.bk_grammar.specs.declared.symbols.Guard.TheVariants as g
-use Rattle.bk_frames.specs.declared.room.Whom.{Whom}
-use Rattle.bk_frames.specs.declared.room.Whom.TheVariants.{Expression, Label, Call, Operated, Command, Missing, Definition, Declaration, Due, Closed}
-use Rattle.bk_frames.specs.declared.way.Ways.{Ways}
+use Rattle.bk_frames.specs.declared.budget.Category.{Category}
+use Rattle.bk_frames.specs.declared.budget.Category.TheVariants.{Expression, Label, Call, Operated, Command, Missing, Definition, Declaration, Due, Closed}
+use Rattle.bk_frames.specs.declared.completion.Completions.{Completions}
 use Rattle.bk_frames.specs.declared.size.Form.TheVariants as f
 use Rattle.bk_tree.specs.Tree.{none, more, no_items, item}
 use Rattle.bk_tree.specs.Limits.{depth, depth_of_each, depth_of_declarations, depth_of_starts, nodes, nodes_of_each, nodes_of_declarations, nodes_of_starts}
@@ -14,11 +14,11 @@ use Rattle.bk_grammar.specs.Rows.{inner}
 use Rattle.bk_tree.specs.Parts.{size, start_count}
 use Rattle.bk_grammar.specs.Machine.{Stack, in_section, in_block, in_let, at_name, at_formals, at_formal, at_formal_end, at_head, at_variable, at_variable_end, at_starts, at_opening, at_items, at_sign, at_goto, at_for, at_forward, at_default, in_parens, in_unary, in_binary, in_chain, in_then, in_else, in_args, in_table, in_start, in_dests, in_values, in_guard, in_test, in_result, in_while, in_from, in_to, in_by, in_item, in_function, in_value, in_vector, in_valof, in_label, in_guarded, in_default, in_do, in_or, in_for, in_routine}
 use Rattle.bk_frames.specs.Sizes.{owed}
-use Rattle.bk_frames.specs.Rooms.{Limit, is_tight, Test, led, goes_on, is_next, ways_of_binary, ways_of_values, ways_of_starts, ways_of_valof, ways_of_guard}
-use Rattle.bk_frames.specs.WaysOn as w
-use Rattle.bk_frames.specs.WaysOn.{Any, AtClosing, AtListing, AtArgument, AtAssignment, AtPart, Unlisted, If, Started, Answered, Whole, Taken, Gives, Does, Operates, Defines, Declares, Misses}
-use Rattle.bk_frames.proofs.Joints.{Rooms, none_is, shut}
-use Rattle.bk_frames.specs.Rooms.{within}
+use Rattle.bk_frames.specs.Budgets.{Limit, is_tight, Test, led, goes_on, is_next, completions_of_binary, completions_of_values, completions_of_starts, completions_of_valof, completions_of_guard}
+use Rattle.bk_frames.specs.Completing as w
+use Rattle.bk_frames.specs.Completing.{Any, AtClosing, AtListing, AtArgument, AtAssignment, AtPart, Unlisted, If, Started, Answered, Whole, Taken, Gives, Does, Operates, Defines, Declares, Misses}
+use Rattle.bk_frames.proofs.Joints.{Budgets, none_is, shut}
+use Rattle.bk_frames.specs.Budgets.{within}
 use Rattle.bk_frames.proofs.Phrases.{parens, unary, chain, then_, else_, table, dests, test, from_, to_, by_, result, while_, item_, function_, args_none, args_more, args_closed, start_other, start_call, start_label, values_, value_, vector_, guard_, binary_, operated_}
 use Rattle.bk_frames.proofs.Clauses.{valof_, label_, label_missing, default_, default_missing, guarded_, guarded_missing, do_, or_, for_, routine_, block_, block_declares, block_due, let_defines, let_due, name_, formals_, formal_, formal_end_, head_, variable_, variable_end_, opening_, items_none, items_some, sign_, goto_, at_for_, forward_, at_default_, starts_}
 
@@ -26,7 +26,7 @@ within_is : (b : Bool) (d n : ℕ) → Limit b d n ↔ (within b d n ≡ true)
 within_is true d n = (λ h. grind (arith, nat_tests, h), λ e. (grind (arith, nat_tests), grind (arith, nat_tests)))
 within_is false d n = (λ h. grind (arith, nat_tests, h), λ e. grind (arith, nat_tests))
 
-at_section : {X : Type 0} {a : Bool} → X ↔ (a ≡ true) → (c : w.Next) → AtClosing X c ↔ (is_next w.closing c && a ≡ true)
+at_section : {X : Type 0} {a : Bool} → X ↔ (a ≡ true) → (c : w.Lookahead) → AtClosing X c ↔ (is_next w.closing c && a ≡ true)
 at_section f w.closing = f
 at_section f w.assigning = none_is
 at_section f w.listing = none_is
@@ -39,14 +39,14 @@ section_due b e m d n z = let P : ℕ → Type 0 = λ x. Limit b (max e 0) (m + 
 
 -- a label and a call are expressions there
 
-abbrev formed : Bool → Whom
+abbrev formed : Bool → Category
 formed true = Call
 formed false = Label
 
-abbrev Formed : Ways → Bool → Type 0
-Formed ws y = (T : Test) (c : w.Next) (e m : ℕ) → led ws T (formed y) c e m ≡ led ws T Expression c e m
+abbrev Formed : Completions → Bool → Type 0
+Formed ws y = (T : Test) (c : w.Lookahead) (e m : ℕ) → led ws T (formed y) c e m ≡ led ws T Expression c e m
 
-formed_binary : (t u : Bool) (d n : ℕ) (y : Bool) → Formed (ways_of_binary t u d n) y
+formed_binary : (t u : Bool) (d n : ℕ) (y : Bool) → Formed (completions_of_binary t u d n) y
 formed_binary false u d n true T c e m = refl
 formed_binary false u d n false T c e m = refl
 formed_binary true true d n true T c e m = refl
@@ -54,19 +54,19 @@ formed_binary true true d n false T c e m = refl
 formed_binary true false d n true T c e m = refl
 formed_binary true false d n false T c e m = refl
 
-formed_values : (t : Bool) (d n o : ℕ) (y : Bool) → Formed (ways_of_values t d n o) y
+formed_values : (t : Bool) (d n o : ℕ) (y : Bool) → Formed (completions_of_values t d n o) y
 formed_values true d n o true T c e m = refl
 formed_values true d n o false T c e m = refl
 formed_values false d n o true T c e m = refl
 formed_values false d n o false T c e m = refl
 
-formed_starts : (t : Bool) (d n o : ℕ) (y : Bool) → Formed (ways_of_starts t d n o) y
+formed_starts : (t : Bool) (d n o : ℕ) (y : Bool) → Formed (completions_of_starts t d n o) y
 formed_starts true d n o true T c e m = refl
 formed_starts true d n o false T c e m = refl
 formed_starts false d n o true T c e m = refl
 formed_starts false d n o false T c e m = refl
 
-formed_guard : (k : Guard) (y : Bool) → Formed (ways_of_guard k) y
+formed_guard : (k : Guard) (y : Bool) → Formed (completions_of_guard k) y
 formed_guard g.If true T c e m = refl
 formed_guard g.If false T c e m = refl
 formed_guard g.Unless true T c e m = refl
@@ -82,96 +82,96 @@ formed_guard g.Case false T c e m = refl
 
 -- and nothing else is
 
-abbrev None : Ways → Whom → Type 0
-None ws x = (T : Test) (c : w.Next) (e m : ℕ) → led ws T x c e m ≡ false
+abbrev None : Completions → Category → Type 0
+None ws x = (T : Test) (c : w.Lookahead) (e m : ℕ) → led ws T x c e m ≡ false
 
-none_binary_command : (t u : Bool) (d n : ℕ) → None (ways_of_binary t u d n) Command
+none_binary_command : (t u : Bool) (d n : ℕ) → None (completions_of_binary t u d n) Command
 none_binary_command false u d n T c e m = refl
 none_binary_command true true d n T c e m = refl
 none_binary_command true false d n T c e m = refl
 
-none_binary_missing : (t u : Bool) (d n : ℕ) → None (ways_of_binary t u d n) Missing
+none_binary_missing : (t u : Bool) (d n : ℕ) → None (completions_of_binary t u d n) Missing
 none_binary_missing false u d n T c e m = refl
 none_binary_missing true true d n T c e m = refl
 none_binary_missing true false d n T c e m = refl
 
-none_binary_definition : (t u : Bool) (d n : ℕ) → None (ways_of_binary t u d n) Definition
+none_binary_definition : (t u : Bool) (d n : ℕ) → None (completions_of_binary t u d n) Definition
 none_binary_definition false u d n T c e m = refl
 none_binary_definition true true d n T c e m = refl
 none_binary_definition true false d n T c e m = refl
 
-none_binary_declaration : (t u : Bool) (d n : ℕ) → None (ways_of_binary t u d n) Declaration
+none_binary_declaration : (t u : Bool) (d n : ℕ) → None (completions_of_binary t u d n) Declaration
 none_binary_declaration false u d n T c e m = refl
 none_binary_declaration true true d n T c e m = refl
 none_binary_declaration true false d n T c e m = refl
 
-none_binary_due : (t u : Bool) (d n : ℕ) → None (ways_of_binary t u d n) Due
+none_binary_due : (t u : Bool) (d n : ℕ) → None (completions_of_binary t u d n) Due
 none_binary_due false u d n T c e m = refl
 none_binary_due true true d n T c e m = refl
 none_binary_due true false d n T c e m = refl
 
-none_binary_closed : (t u : Bool) (d n : ℕ) → None (ways_of_binary t u d n) Closed
+none_binary_closed : (t u : Bool) (d n : ℕ) → None (completions_of_binary t u d n) Closed
 none_binary_closed false u d n T c e m = refl
 none_binary_closed true true d n T c e m = refl
 none_binary_closed true false d n T c e m = refl
 
-none_values_command : (t : Bool) (d n o : ℕ) → None (ways_of_values t d n o) Command
+none_values_command : (t : Bool) (d n o : ℕ) → None (completions_of_values t d n o) Command
 none_values_command true d n o T c e m = refl
 none_values_command false d n o T c e m = refl
 
-none_values_missing : (t : Bool) (d n o : ℕ) → None (ways_of_values t d n o) Missing
+none_values_missing : (t : Bool) (d n o : ℕ) → None (completions_of_values t d n o) Missing
 none_values_missing true d n o T c e m = refl
 none_values_missing false d n o T c e m = refl
 
-none_values_definition : (t : Bool) (d n o : ℕ) → None (ways_of_values t d n o) Definition
+none_values_definition : (t : Bool) (d n o : ℕ) → None (completions_of_values t d n o) Definition
 none_values_definition true d n o T c e m = refl
 none_values_definition false d n o T c e m = refl
 
-none_values_declaration : (t : Bool) (d n o : ℕ) → None (ways_of_values t d n o) Declaration
+none_values_declaration : (t : Bool) (d n o : ℕ) → None (completions_of_values t d n o) Declaration
 none_values_declaration true d n o T c e m = refl
 none_values_declaration false d n o T c e m = refl
 
-none_values_due : (t : Bool) (d n o : ℕ) → None (ways_of_values t d n o) Due
+none_values_due : (t : Bool) (d n o : ℕ) → None (completions_of_values t d n o) Due
 none_values_due true d n o T c e m = refl
 none_values_due false d n o T c e m = refl
 
-none_values_closed : (t : Bool) (d n o : ℕ) → None (ways_of_values t d n o) Closed
+none_values_closed : (t : Bool) (d n o : ℕ) → None (completions_of_values t d n o) Closed
 none_values_closed true d n o T c e m = refl
 none_values_closed false d n o T c e m = refl
 
-none_values_operated : (t : Bool) (d n o : ℕ) → None (ways_of_values t d n o) Operated
+none_values_operated : (t : Bool) (d n o : ℕ) → None (completions_of_values t d n o) Operated
 none_values_operated true d n o T c e m = refl
 none_values_operated false d n o T c e m = refl
 
-none_starts_command : (t : Bool) (d n o : ℕ) → None (ways_of_starts t d n o) Command
+none_starts_command : (t : Bool) (d n o : ℕ) → None (completions_of_starts t d n o) Command
 none_starts_command true d n o T c e m = refl
 none_starts_command false d n o T c e m = refl
 
-none_starts_missing : (t : Bool) (d n o : ℕ) → None (ways_of_starts t d n o) Missing
+none_starts_missing : (t : Bool) (d n o : ℕ) → None (completions_of_starts t d n o) Missing
 none_starts_missing true d n o T c e m = refl
 none_starts_missing false d n o T c e m = refl
 
-none_starts_definition : (t : Bool) (d n o : ℕ) → None (ways_of_starts t d n o) Definition
+none_starts_definition : (t : Bool) (d n o : ℕ) → None (completions_of_starts t d n o) Definition
 none_starts_definition true d n o T c e m = refl
 none_starts_definition false d n o T c e m = refl
 
-none_starts_declaration : (t : Bool) (d n o : ℕ) → None (ways_of_starts t d n o) Declaration
+none_starts_declaration : (t : Bool) (d n o : ℕ) → None (completions_of_starts t d n o) Declaration
 none_starts_declaration true d n o T c e m = refl
 none_starts_declaration false d n o T c e m = refl
 
-none_starts_due : (t : Bool) (d n o : ℕ) → None (ways_of_starts t d n o) Due
+none_starts_due : (t : Bool) (d n o : ℕ) → None (completions_of_starts t d n o) Due
 none_starts_due true d n o T c e m = refl
 none_starts_due false d n o T c e m = refl
 
-none_starts_closed : (t : Bool) (d n o : ℕ) → None (ways_of_starts t d n o) Closed
+none_starts_closed : (t : Bool) (d n o : ℕ) → None (completions_of_starts t d n o) Closed
 none_starts_closed true d n o T c e m = refl
 none_starts_closed false d n o T c e m = refl
 
-none_starts_operated : (t : Bool) (d n o : ℕ) → None (ways_of_starts t d n o) Operated
+none_starts_operated : (t : Bool) (d n o : ℕ) → None (completions_of_starts t d n o) Operated
 none_starts_operated true d n o T c e m = refl
 none_starts_operated false d n o T c e m = refl
 
-none_guard_command : (k : Guard) → None (ways_of_guard k) Command
+none_guard_command : (k : Guard) → None (completions_of_guard k) Command
 none_guard_command g.If T c e m = refl
 none_guard_command g.Unless T c e m = refl
 none_guard_command g.While T c e m = refl
@@ -179,7 +179,7 @@ none_guard_command g.Until T c e m = refl
 none_guard_command g.SwitchOn T c e m = refl
 none_guard_command g.Case T c e m = refl
 
-none_guard_missing : (k : Guard) → None (ways_of_guard k) Missing
+none_guard_missing : (k : Guard) → None (completions_of_guard k) Missing
 none_guard_missing g.If T c e m = refl
 none_guard_missing g.Unless T c e m = refl
 none_guard_missing g.While T c e m = refl
@@ -187,7 +187,7 @@ none_guard_missing g.Until T c e m = refl
 none_guard_missing g.SwitchOn T c e m = refl
 none_guard_missing g.Case T c e m = refl
 
-none_guard_definition : (k : Guard) → None (ways_of_guard k) Definition
+none_guard_definition : (k : Guard) → None (completions_of_guard k) Definition
 none_guard_definition g.If T c e m = refl
 none_guard_definition g.Unless T c e m = refl
 none_guard_definition g.While T c e m = refl
@@ -195,7 +195,7 @@ none_guard_definition g.Until T c e m = refl
 none_guard_definition g.SwitchOn T c e m = refl
 none_guard_definition g.Case T c e m = refl
 
-none_guard_declaration : (k : Guard) → None (ways_of_guard k) Declaration
+none_guard_declaration : (k : Guard) → None (completions_of_guard k) Declaration
 none_guard_declaration g.If T c e m = refl
 none_guard_declaration g.Unless T c e m = refl
 none_guard_declaration g.While T c e m = refl
@@ -203,7 +203,7 @@ none_guard_declaration g.Until T c e m = refl
 none_guard_declaration g.SwitchOn T c e m = refl
 none_guard_declaration g.Case T c e m = refl
 
-none_guard_due : (k : Guard) → None (ways_of_guard k) Due
+none_guard_due : (k : Guard) → None (completions_of_guard k) Due
 none_guard_due g.If T c e m = refl
 none_guard_due g.Unless T c e m = refl
 none_guard_due g.While T c e m = refl
@@ -211,7 +211,7 @@ none_guard_due g.Until T c e m = refl
 none_guard_due g.SwitchOn T c e m = refl
 none_guard_due g.Case T c e m = refl
 
-none_guard_closed : (k : Guard) → None (ways_of_guard k) Closed
+none_guard_closed : (k : Guard) → None (completions_of_guard k) Closed
 none_guard_closed g.If T c e m = refl
 none_guard_closed g.Unless T c e m = refl
 none_guard_closed g.While T c e m = refl
@@ -219,7 +219,7 @@ none_guard_closed g.Until T c e m = refl
 none_guard_closed g.SwitchOn T c e m = refl
 none_guard_closed g.Case T c e m = refl
 
-none_guard_operated : (k : Guard) → None (ways_of_guard k) Operated
+none_guard_operated : (k : Guard) → None (completions_of_guard k) Operated
 none_guard_operated g.If T c e m = refl
 none_guard_operated g.Unless T c e m = refl
 none_guard_operated g.While T c e m = refl
@@ -227,46 +227,46 @@ none_guard_operated g.Until T c e m = refl
 none_guard_operated g.SwitchOn T c e m = refl
 none_guard_operated g.Case T c e m = refl
 
-none_valof_expression : (t : Bool) → None (ways_of_valof t) Expression
+none_valof_expression : (t : Bool) → None (completions_of_valof t) Expression
 none_valof_expression true T c e m = refl
 none_valof_expression false T c e m = refl
 
-none_valof_label : (t : Bool) → None (ways_of_valof t) Label
+none_valof_label : (t : Bool) → None (completions_of_valof t) Label
 none_valof_label true T c e m = refl
 none_valof_label false T c e m = refl
 
-none_valof_call : (t : Bool) → None (ways_of_valof t) Call
+none_valof_call : (t : Bool) → None (completions_of_valof t) Call
 none_valof_call true T c e m = refl
 none_valof_call false T c e m = refl
 
-none_valof_missing : (t : Bool) → None (ways_of_valof t) Missing
+none_valof_missing : (t : Bool) → None (completions_of_valof t) Missing
 none_valof_missing true T c e m = refl
 none_valof_missing false T c e m = refl
 
-none_valof_definition : (t : Bool) → None (ways_of_valof t) Definition
+none_valof_definition : (t : Bool) → None (completions_of_valof t) Definition
 none_valof_definition true T c e m = refl
 none_valof_definition false T c e m = refl
 
-none_valof_declaration : (t : Bool) → None (ways_of_valof t) Declaration
+none_valof_declaration : (t : Bool) → None (completions_of_valof t) Declaration
 none_valof_declaration true T c e m = refl
 none_valof_declaration false T c e m = refl
 
-none_valof_due : (t : Bool) → None (ways_of_valof t) Due
+none_valof_due : (t : Bool) → None (completions_of_valof t) Due
 none_valof_due true T c e m = refl
 none_valof_due false T c e m = refl
 
-none_valof_closed : (t : Bool) → None (ways_of_valof t) Closed
+none_valof_closed : (t : Bool) → None (completions_of_valof t) Closed
 none_valof_closed true T c e m = refl
 none_valof_closed false T c e m = refl
 
-none_valof_operated : (t : Bool) → None (ways_of_valof t) Operated
+none_valof_operated : (t : Bool) → None (completions_of_valof t) Operated
 none_valof_operated true T c e m = refl
 none_valof_operated false T c e m = refl
 
 as_formed : {X : Type 0} {a b : Bool} → X ↔ (b ≡ true) → a ≡ b → X ↔ (a ≡ true)
 as_formed f e = (λ x. e ∙ f.0 x, λ h. f.1 (sym e ∙ h))
 
-pub decides : (b : Bool) (st : Stack) → Rooms b st
+pub decides : (b : Bool) (st : Stack) → Budgets b st
 decides b (in_section ds) Declaration c d n z = at_section (within_is b (max (depth_of_declarations ds) d) (nodes_of_declarations ds + n)) c
 decides b (in_section ds) Due c d n z = at_section (section_due b (depth_of_declarations ds) (nodes_of_declarations ds) d n z) c
 decides b (in_section ds) Expression c d n z = none_is

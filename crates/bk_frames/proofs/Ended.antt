@@ -13,7 +13,7 @@ use Rattle.bk_tree.specs.Limits.{depth, depth_of_each, depth_of_action, depth_of
 use Rattle.bk_grammar.specs.Machine.{Stack, State, want, have, maybe, did, due, in_section, in_block, in_let, at_name, at_starts, at_items, in_unary, in_binary, in_chain, in_else, in_table, in_start, in_values, in_guard, in_result, in_while, in_function, in_value, in_vector, in_valof, in_label, in_guarded, in_default, in_or, in_for, in_routine, give, finish, defined_by, stepped_by, counted, guarded, inside}
 use Rattle.bk_tree.specs.Parts.{each_then, starts_then, definitions_then, declarations_then}
 use Rattle.bk_frames.specs.Sizes.{form_of}
-use Rattle.bk_frames.specs.WaysOn.{Next, closing, assigning, listing, going, repeating, operating, Any, AtClosing, AtPart, If, Unlisted, Closed, Missing, Started, Answered, Whole, Taken, Gives, Does, Operates, Defines, Completes}
+use Rattle.bk_frames.specs.Completing.{Lookahead, closing, assigning, listing, going, repeating, operating, Any, AtClosing, AtPart, If, Unlisted, Closed, Missing, Started, Answered, Whole, Taken, Gives, Does, Operates, Defines, Completes}
 use Rattle.bk_tree.proofs.Trees.{each_depth, each_nodes, declarations_depth, declarations_nodes, definitions_depth, definitions_nodes, starts_depth, starts_nodes}
 use Rattle.bk_frames.proofs.Turns.{guarded_depth, guarded_nodes}
 use Rattle.bk_frames.proofs.Lowering.{Down}
@@ -26,8 +26,8 @@ abbrev Has : (ℕ → ℕ → Type 0) → Declarations → Type 0
 Has P ds = P (depth_of_declarations ds) (nodes_of_declarations ds)
 
 -- each way on with a part of at least this depth and so many nodes comes to a section that is no smaller
-abbrev NoLess : (ℕ → ℕ → Type 0) → Declarations → (ℕ → ℕ → Next → Type 0) → ℕ → ℕ → Type 0
-NoLess P ds F a b = (d n : ℕ) → a ≤ d → b ≤ n → (c : Next) → F d n c → Has P ds
+abbrev NoLess : (ℕ → ℕ → Type 0) → Declarations → (ℕ → ℕ → Lookahead → Type 0) → ℕ → ℕ → Type 0
+NoLess P ds F a b = (d n : ℕ) → a ≤ d → b ≤ n → (c : Lookahead) → F d n c → Has P ds
 
 counted_is : (b : Bool) (whole : Option State) (next : State) (ds : Declarations) → Ended (counted b whole k.Semicolon next) ds → (b ≡ true) × Ended whole ds
 counted_is true whole next ds h = (refl, h)
@@ -38,7 +38,7 @@ section_is gs ds h = cc
 
 -- ---- unions
 
-closed_has : (P : ℕ → ℕ → Type 0) (ds : Declarations) (F : ℕ → ℕ → Next → Type 0) (a b : ℕ) → NoLess P ds F a b → NoLess P ds (Closed F) a b
+closed_has : (P : ℕ → ℕ → Type 0) (ds : Declarations) (F : ℕ → ℕ → Lookahead → Type 0) (a b : ℕ) → NoLess P ds F a b → NoLess P ds (Closed F) a b
 closed_has P ds F a b f d n p q repeating h = f (d + 1) (n + 1) (omega (arith, p)) (omega (arith, q)) h.0 h.1
 closed_has P ds F a b f d n p q going h = absurd h
 closed_has P ds F a b f d n p q operating h = absurd h
@@ -46,7 +46,7 @@ closed_has P ds F a b f d n p q closing h = f d n p q closing h
 closed_has P ds F a b f d n p q assigning h = f d n p q assigning h
 closed_has P ds F a b f d n p q listing h = f d n p q listing h
 
-missing_has : (P : ℕ → ℕ → Type 0) (ds : Declarations) (F : ℕ → ℕ → Next → Type 0) (a b : ℕ) → NoLess P ds F a b → NoLess P ds (Missing F) a b
+missing_has : (P : ℕ → ℕ → Type 0) (ds : Declarations) (F : ℕ → ℕ → Lookahead → Type 0) (a b : ℕ) → NoLess P ds F a b → NoLess P ds (Missing F) a b
 missing_has P ds F a b f d n p q repeating h = f (d + 1) (n + 1) (omega (arith, p)) (omega (arith, q)) h.0 h.1
 missing_has P ds F a b f d n p q going h = absurd h
 missing_has P ds F a b f d n p q operating h = f d n p q operating h
@@ -55,7 +55,7 @@ missing_has P ds F a b f d n p q assigning h = f d n p q assigning h
 missing_has P ds F a b f d n p q listing h = f d n p q listing h
 
 -- behind a call at the start of a command
-started_has : (P : ℕ → ℕ → Type 0) (ds : Declarations) (F : ℕ → ℕ → Next → Type 0) (a b : ℕ) → NoLess P ds F a b → (f : Form) → (f ≡ Label → ⊥) → NoLess P ds (Started F f) a b
+started_has : (P : ℕ → ℕ → Type 0) (ds : Declarations) (F : ℕ → ℕ → Lookahead → Type 0) (a b : ℕ) → NoLess P ds F a b → (f : Form) → (f ≡ Label → ⊥) → NoLess P ds (Started F f) a b
 started_has P ds F a b w Label other d n p q c h = absurd (other refl)
 started_has P ds F a b w f other d n p q assigning h = closed_has P ds F a b w (max d 1 + 1) (n + 2) (omega (arith, p)) (omega (arith, q)) h.0 h.1
 started_has P ds F a b w f other d n p q listing h = closed_has P ds F a b w (max d 1 + 1) (n + 4) (omega (arith, p)) (omega (arith, q)) h.0 h.1
@@ -63,7 +63,7 @@ started_has P ds F a b w Call other d n p q closing h = w d n p q closing h
 started_has P ds F a b w Call other d n p q repeating h = w (d + 1) (n + 1) (omega (arith, p)) (omega (arith, q)) h.0 h.1
 started_has P ds F a b w _ other d n p q _ h = absurd h
 
-unlisted_has : (X : Type 0) (F : Next → Type 0) → ((c : Next) → F c → X) → Any (Unlisted F) → X
+unlisted_has : (X : Type 0) (F : Lookahead → Type 0) → ((c : Lookahead) → F c → X) → Any (Unlisted F) → X
 unlisted_has X F f (closing, h) = f closing h
 unlisted_has X F f (assigning, h) = f assigning h
 unlisted_has X F f (listing, h) = absurd h
@@ -71,7 +71,7 @@ unlisted_has X F f (going, h) = f going h
 unlisted_has X F f (repeating, h) = f repeating h
 unlisted_has X F f (operating, h) = f operating h
 
-part_has : (X : Type 0) (F G : Next → Type 0) → ((c : Next) → F c → X) → ((c : Next) → G c → X) → (c : Next) → AtPart F G c → X
+part_has : (X : Type 0) (F G : Lookahead → Type 0) → ((c : Lookahead) → F c → X) → ((c : Lookahead) → G c → X) → (c : Lookahead) → AtPart F G c → X
 part_has X F G f j listing h = unlisted_has X G j h
 part_has X F G f j closing h = f closing h
 part_has X F G f j assigning h = f assigning h
@@ -79,11 +79,11 @@ part_has X F G f j going h = f going h
 part_has X F G f j repeating h = f repeating h
 part_has X F G f j operating h = f operating h
 
-at_closing_has : (X Y : Type 0) → (Y → X) → (c : Next) → AtClosing Y c → X
+at_closing_has : (X Y : Type 0) → (Y → X) → (c : Lookahead) → AtClosing Y c → X
 at_closing_has X Y f closing h = f h
 at_closing_has X Y f _ h = absurd h
 
-answered_has : (P : ℕ → ℕ → Type 0) (ds : Declarations) (G : Form → ℕ → ℕ → Next → Type 0) (H : ℕ → ℕ → Type 0) (a b : ℕ) → ((f : Form) → (f ≡ Label → ⊥) → NoLess P ds (G f) (a + 1) (b + 1)) → ((d n : ℕ) → a + 1 ≤ d → b + 1 ≤ n → H d n → Has P ds)
+answered_has : (P : ℕ → ℕ → Type 0) (ds : Declarations) (G : Form → ℕ → ℕ → Lookahead → Type 0) (H : ℕ → ℕ → Type 0) (a b : ℕ) → ((f : Form) → (f ≡ Label → ⊥) → NoLess P ds (G f) (a + 1) (b + 1)) → ((d n : ℕ) → a + 1 ≤ d → b + 1 ≤ n → H d n → Has P ds)
     → NoLess P ds (Answered G H) a b
 answered_has P ds G H a b f j d n p q going h = f Call (λ e. cc) (d + 2) (n + 2) (omega (arith, p)) (omega (arith, q)) h.0 h.1
 answered_has P ds G H a b f j d n p q operating h = j (d + 1) (n + 1) (omega (arith, p)) (omega (arith, q)) h
@@ -97,11 +97,11 @@ taken_has true X Y Z f j h = f h
 taken_has false X Y Z f j h = j h
 
 -- the last value is complete
-values_have : (P : ℕ → ℕ → Type 0) (ds : Declarations) (F : ℕ → ℕ → Next → Type 0) (a b : ℕ) (X : Next → Type 0) (last : Bool) → last ≡ true → NoLess P ds F a b → (d n : ℕ) → a ≤ d → b ≤ n → (c : Next) → If last (Closed F d n) X c → Has P ds
+values_have : (P : ℕ → ℕ → Type 0) (ds : Declarations) (F : ℕ → ℕ → Lookahead → Type 0) (a b : ℕ) (X : Lookahead → Type 0) (last : Bool) → last ≡ true → NoLess P ds F a b → (d n : ℕ) → a ≤ d → b ≤ n → (c : Lookahead) → If last (Closed F d n) X c → Has P ds
 values_have P ds F a b X true is f d n p q c h = closed_has P ds F a b f d n p q c h
 values_have P ds F a b X false is f d n p q c h = absurd cc
 
-starts_have : (X Y : Type 0) (Z : Next → Type 0) (last : Bool) → last ≡ true → (Y → X) → (c : Next) → If last (AtClosing Y) Z c → X
+starts_have : (X Y : Type 0) (Z : Lookahead → Type 0) (last : Bool) → last ≡ true → (Y → X) → (c : Lookahead) → If last (AtClosing Y) Z c → X
 starts_have X Y Z true is f c h = at_closing_has X Y f c h
 starts_have X Y Z false is f c h = absurd cc
 
@@ -218,11 +218,11 @@ form_apart (parens l e) = tt
 form_apart (valof l c) = tt
 form_apart _ = tt
 
-whole_has : (P : ℕ → ℕ → Type 0) (ds : Declarations) (F : Form → ℕ → ℕ → Next → Type 0) (f : Form) (a b : ℕ) → NoLess P ds (F f) a b → NoLess P ds (F Call) a b → Whole F f a b → Has P ds
+whole_has : (P : ℕ → ℕ → Type 0) (ds : Declarations) (F : Form → ℕ → ℕ → Lookahead → Type 0) (f : Form) (a b : ℕ) → NoLess P ds (F f) a b → NoLess P ds (F Call) a b → Whole F f a b → Has P ds
 whole_has P ds F f a b i j (inl h) = i a b (omega arith) (omega arith) h.0 h.1
 whole_has P ds F f a b i j (inr h) = j (a + 1) (b + 1) (omega arith) (omega arith) h.0 h.1
 
-missed : (P : ℕ → ℕ → Type 0) (ds : Declarations) (F : ℕ → ℕ → Next → Type 0) (G : ℕ → ℕ → Next → Type 0) (a b : ℕ) → NoLess P ds F a b → Any (Missing F a b) → Has P ds
+missed : (P : ℕ → ℕ → Type 0) (ds : Declarations) (F : ℕ → ℕ → Lookahead → Type 0) (G : ℕ → ℕ → Lookahead → Type 0) (a b : ℕ) → NoLess P ds F a b → Any (Missing F a b) → Has P ds
 missed P ds F G a b f h = missing_has P ds F a b f a b (omega arith) (omega arith) h.0 h.1
 
 -- the section is whole behind a semicolon

@@ -1,14 +1,14 @@
 -- Whether a LET stands in a block, by the two frames on top.
 use Rattle.std.proofs.Common.{◌≡◌, ℕ, ◌+◌, ◌-◌, ◌<◌, ◌≤◌, false, cond, List, [], ◌∷◌, length, get_or, take, refl, sym, ap, ◌∙◌, arith}
 use Rattle.std.proofs.Math.Seq.{take-length}
-use Rattle.bk_frames.specs.declared.frame.Operand.TheVariants as o
+use Rattle.bk_frames.specs.declared.frame.OpenExpression.TheVariants as o
 use Rattle.bk_frames.specs.declared.frame.Phrase.TheVariants as p
 use Rattle.bk_frames.specs.declared.frame.Member.TheVariants as m
 use Rattle.bk_frames.specs.declared.frame.Clause.TheVariants as c
 use Rattle.bk_frames.specs.declared.frame.Place.TheVariants as a
 use Rattle.bk_frames.specs.declared.frame.Point.TheVariants as t
-use Rattle.bk_frames.specs.declared.frame.Begun.{Begun}
-use Rattle.bk_frames.specs.declared.frame.Begun.TheVariants as b
+use Rattle.bk_frames.specs.declared.frame.Unfinished.{Unfinished}
+use Rattle.bk_frames.specs.declared.frame.Unfinished.TheVariants as b
 use Rattle.bk_frames.specs.declared.frame.Frame.{Frame}
 use Rattle.bk_tree.specs.declared.tree.Decl.{Decl}
 use Rattle.bk_tree.specs.Tree.{Declarations, declarations_in}
@@ -18,14 +18,14 @@ use Rattle.bk_frames.specs.declared.frame.Clause.{Clause}
 use Rattle.bk_frames.specs.declared.frame.Place.{Place}
 use Rattle.bk_frames.specs.declared.frame.Point.{Point}
 use Rattle.bk_grammar.specs.Machine.{Stack, in_section, inside, limit}
-use Rattle.bk_frames.specs.Begun.{begun_on, phrase_on, member_on}
+use Rattle.bk_frames.specs.Unfinished.{unfinished_on, phrase_on, member_on}
 use Rattle.bk_frames.specs.Stacked.{stack}
-use Rattle.bk_frames.specs.Frames.{is_let_begun, is_block_begun}
+use Rattle.bk_frames.specs.Frames.{is_let_unfinished, is_block_unfinished}
 use Rattle.bk_frames.proofs.Stacks.{stack_take}
 
-inside_one : (x : Begun) (ds : Declarations) → inside (begun_on x (in_section ds)) ≡ false
-inside_one (b.Operand (o.Parens l)) ds = refl
-inside_one (b.Operand _) ds = refl
+inside_one : (x : Unfinished) (ds : Declarations) → inside (unfinished_on x (in_section ds)) ≡ false
+inside_one (b.OpenExpression (o.Parens l)) ds = refl
+inside_one (b.OpenExpression _) ds = refl
 inside_one (b.Phrase p.Start) ds = refl
 inside_one (b.Phrase _) ds = refl
 inside_one (b.Member (m.Function n fs)) ds = refl
@@ -40,12 +40,12 @@ inside_one (b.Point _) ds = refl
 pub inside_short : (ds : List Decl) (xs : List Frame) → length xs < 2 → inside (stack ds xs) ≡ false
 unfolding stack
 inside_short ds [] h = refl
-inside_short ds (x ∷ []) h = inside_one x.begun (declarations_in ds)
+inside_short ds (x ∷ []) h = inside_one x.unfinished (declarations_in ds)
 inside_short ds (x ∷ (y ∷ xs)) h = absurd (omega arith)
 
-let_in : (y : Begun) (l : ℕ) (xs : _) (st : Stack) → inside (begun_on (b.Place (a.Let l xs)) (begun_on y st)) ≡ is_block_begun y
-let_in (b.Operand (o.Parens l)) m xs st = refl
-let_in (b.Operand _) m xs st = refl
+let_in : (y : Unfinished) (l : ℕ) (xs : _) (st : Stack) → inside (unfinished_on (b.Place (a.Let l xs)) (unfinished_on y st)) ≡ is_block_unfinished y
+let_in (b.OpenExpression (o.Parens l)) m xs st = refl
+let_in (b.OpenExpression _) m xs st = refl
 let_in (b.Phrase p.Start) m xs st = refl
 let_in (b.Phrase _) m xs st = refl
 let_in (b.Member (m.Function n fs)) l xs st = refl
@@ -57,9 +57,9 @@ let_in (b.Place _) m xs st = refl
 let_in (b.Point (t.Goto l)) m xs st = refl
 let_in (b.Point _) m xs st = refl
 
-inside_two : (x y : Begun) (st : Stack) → inside (begun_on x (begun_on y st)) ≡ cond (is_let_begun x) (is_block_begun y) false
-inside_two (b.Operand (o.Parens l)) y st = refl
-inside_two (b.Operand _) y st = refl
+inside_two : (x y : Unfinished) (st : Stack) → inside (unfinished_on x (unfinished_on y st)) ≡ cond (is_let_unfinished x) (is_block_unfinished y) false
+inside_two (b.OpenExpression (o.Parens l)) y st = refl
+inside_two (b.OpenExpression _) y st = refl
 inside_two (b.Phrase p.Start) y st = refl
 inside_two (b.Phrase _) y st = refl
 inside_two (b.Member (m.Function n fs)) y st = refl
@@ -71,15 +71,15 @@ inside_two (b.Place _) y st = refl
 inside_two (b.Point (t.Goto l)) y st = refl
 inside_two (b.Point _) y st = refl
 
-pub inside_at : (ds : List Decl) (xs : List Frame) (n : ℕ) (x y : Frame) → n ≡ length xs → 2 ≤ n → x ≡ get_or xs (n - 1) x → y ≡ get_or xs (n - 2) y → inside (stack ds xs) ≡ cond (is_let_begun x.begun) (is_block_begun y.begun) false
+pub inside_at : (ds : List Decl) (xs : List Frame) (n : ℕ) (x y : Frame) → n ≡ length xs → 2 ≤ n → x ≡ get_or xs (n - 1) x → y ≡ get_or xs (n - 2) y → inside (stack ds xs) ≡ cond (is_let_unfinished x.unfinished) (is_block_unfinished y.unfinished) false
 inside_at ds xs n x y is two at_x at_y =
     let one : n - 1 + 1 ≡ length xs = omega arith in
     let back : n - 2 + 1 ≡ n - 1 = omega arith in
     let first = stack_take ds xs (n - 1) x (omega arith) at_x in
     let second = stack_take ds xs (n - 2) y (omega arith) at_y in
     ap (λ zs. inside (stack ds zs)) (sym (take-length xs)) ∙ ap (λ k. inside (stack ds (take k xs))) (sym one) ∙ ap inside first
-    ∙ ap (λ k. inside (begun_on x.begun (stack ds (take k xs)))) (sym back) ∙ ap (λ st. inside (begun_on x.begun st)) second
-    ∙ inside_two x.begun y.begun (stack ds (take (n - 2) xs))
+    ∙ ap (λ k. inside (unfinished_on x.unfinished (stack ds (take k xs)))) (sym back) ∙ ap (λ st. inside (unfinished_on x.unfinished st)) second
+    ∙ inside_two x.unfinished y.unfinished (stack ds (take (n - 2) xs))
 
 pub limit_phrase : (x : Phrase) (st : Stack) → limit (phrase_on x st) ≡ 12
 limit_phrase p.Start st = refl

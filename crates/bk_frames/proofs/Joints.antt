@@ -3,21 +3,21 @@ use Rattle.std.proofs.Common.{◌≡◌, ◌⊎◌, ◌↔◌, inl, inr, ℕ, �
 use Rattle.std.specs.Prelude.{nat_lt}
 use Rattle.std.proofs.lemmas.Bool.Decides.{nat_tests}
 use Rattle.bk_base.specs.declared.limit.TheConstants.{TREE_DEPTH, TREE_NODES}
-use Rattle.bk_frames.specs.declared.room.Whom.{Whom}
-use Rattle.bk_frames.specs.declared.room.Whom.TheVariants.{Expression}
+use Rattle.bk_frames.specs.declared.budget.Category.{Category}
+use Rattle.bk_frames.specs.declared.budget.Category.TheVariants.{Expression}
 use Rattle.bk_frames.specs.declared.size.Form.{Form}
 use Rattle.bk_frames.specs.declared.size.Form.TheVariants as f
 use Rattle.bk_grammar.specs.Rows.{inner}
 use Rattle.bk_grammar.specs.Machine.{Stack, in_parens, in_binary, in_start}
 use Rattle.bk_frames.specs.Sizes.{owed}
-use Rattle.bk_frames.specs.Rooms.{Limit, is_tight, Tight, Part, Sized, goes_on}
-use Rattle.bk_frames.specs.WaysOn as w
-use Rattle.bk_frames.specs.WaysOn.{Any, AtClosing, AtListing, AtArgument, AtAssignment, AtPart, Unlisted, Started, Answered, Whole, Taken, Gives, Does, Operates, Defines, Declares}
+use Rattle.bk_frames.specs.Budgets.{Limit, is_tight, Tight, Part, Sized, goes_on}
+use Rattle.bk_frames.specs.Completing as w
+use Rattle.bk_frames.specs.Completing.{Any, AtClosing, AtListing, AtArgument, AtAssignment, AtPart, Unlisted, Started, Answered, Whole, Taken, Gives, Does, Operates, Defines, Declares}
 use Rattle.bk_frames.proofs.Lowering.{Down, at_most_down, levels_down, Falls, at_closing, gives_falls, operates_fall, defines_fall, declares_fall, any_falls}
 use Rattle.bk_frames.proofs.Links.{At, at_in, at_of, Ended, Decided, either_of, left, right}
 
-abbrev pub Rooms : Bool → Stack → Type 0
-Rooms b st = (x : Whom) (c : w.Next) (d n : ℕ) → Sized x d n → Part (Limit b) st x c d n ↔ (goes_on b st x c d n ≡ true)
+abbrev pub Budgets : Bool → Stack → Type 0
+Budgets b st = (x : Category) (c : w.Lookahead) (d n : ℕ) → Sized x d n → Part (Limit b) st x c d n ↔ (goes_on b st x c d n ≡ true)
 
 pub limit_down : (b : Bool) → Down (Limit b)
 limit_down true = at_most_down TREE_DEPTH TREE_NODES
@@ -47,7 +47,7 @@ sum_none (inr x) = absurd x
 pub add_none : {X : Type 0} → X ↔ (X ⊎ ⊥)
 add_none = (inl, sum_none)
 
-shut_in : (c : w.Next) → AtClosing ⊥ c → false ≡ true
+shut_in : (c : w.Lookahead) → AtClosing ⊥ c → false ≡ true
 shut_in w.closing x = absurd x
 shut_in w.assigning x = absurd x
 shut_in w.listing x = absurd x
@@ -55,19 +55,19 @@ shut_in w.going x = absurd x
 shut_in w.repeating x = absurd x
 shut_in w.operating x = absurd x
 
-pub shut : (c : w.Next) → AtClosing ⊥ c ↔ (false ≡ true)
+pub shut : (c : w.Lookahead) → AtClosing ⊥ c ↔ (false ≡ true)
 shut c = (shut_in c, λ e. absurd cc)
 
-pub closing_as : {X Y : Type 0} → (X ↔ Y) → (c : w.Next) → AtClosing X c ↔ AtClosing Y c
+pub closing_as : {X Y : Type 0} → (X ↔ Y) → (c : w.Lookahead) → AtClosing X c ↔ AtClosing Y c
 closing_as f c = (at_closing f.0 c, at_closing f.1 c)
 
-pub at_as : {X Y : Type 0} → (k : w.Next) → (X ↔ Y) → (c : w.Next) → At k X c ↔ At k Y c
+pub at_as : {X Y : Type 0} → (k : w.Lookahead) → (X ↔ Y) → (c : w.Lookahead) → At k X c ↔ At k Y c
 at_as {X = X} {Y = Y} k f c = (λ h. let x : (k ≡ c) × X = at_of k c h in at_in k c x.0 (f.0 x.1), λ h. let y : (k ≡ c) × Y = at_of k c h in at_in k c y.0 (f.1 y.1))
 
-pub listing_as : {X Y : Type 0} → (X ↔ Y) → (c : w.Next) → AtListing X c ↔ AtListing Y c
+pub listing_as : {X Y : Type 0} → (X ↔ Y) → (c : w.Lookahead) → AtListing X c ↔ AtListing Y c
 listing_as f c = at_as w.listing f c
 
-pub operating_as : {X Y : Type 0} → (X ↔ Y) → (c : w.Next) → At w.operating X c ↔ At w.operating Y c
+pub operating_as : {X Y : Type 0} → (X ↔ Y) → (c : w.Lookahead) → At w.operating X c ↔ At w.operating Y c
 operating_as f c = at_as w.operating f c
 
 any_closed_of : {X : Type 0} → Any (AtClosing X) → X
@@ -95,13 +95,13 @@ any_listing X = (any_listed_of, λ x. (w.listing, x))
 closed_any : {X : Type 0} → X ↔ Any (AtClosing X)
 closed_any = (λ x. (w.closing, x), any_closed_of)
 
-pub closing_any : (X : Type 0) (c : w.Next) → AtClosing X c ↔ AtClosing (Any (AtClosing X)) c
+pub closing_any : (X : Type 0) (c : w.Lookahead) → AtClosing X c ↔ AtClosing (Any (AtClosing X)) c
 closing_any X c = closing_as closed_any c
 
-pub listing_any : (X : Type 0) (c : w.Next) → AtListing X c ↔ AtListing (Any (AtClosing X)) c
+pub listing_any : (X : Type 0) (c : w.Lookahead) → AtListing X c ↔ AtListing (Any (AtClosing X)) c
 listing_any X c = listing_as closed_any c
 
-pub sum_closing : (X Y : Type 0) (c : w.Next) → AtClosing (X ⊎ Y) c ↔ (AtClosing X c ⊎ AtClosing Y c)
+pub sum_closing : (X Y : Type 0) (c : w.Lookahead) → AtClosing (X ⊎ Y) c ↔ (AtClosing X c ⊎ AtClosing Y c)
 sum_closing X Y w.closing = (λ h. h, λ h. h)
 sum_closing X Y w.assigning = (λ h. absurd h, sum_none)
 sum_closing X Y w.listing = (λ h. absurd h, sum_none)
@@ -113,7 +113,7 @@ none_sum : {X : Type 0} → ⊥ ⊎ X → X
 none_sum (inl x) = absurd x
 none_sum (inr x) = x
 
-pub split_argument : (X Y : Type 0) (c : w.Next) → AtArgument X Y c ↔ (AtClosing X c ⊎ AtListing Y c)
+pub split_argument : (X Y : Type 0) (c : w.Lookahead) → AtArgument X Y c ↔ (AtClosing X c ⊎ AtListing Y c)
 split_argument X Y w.closing = (inl, sum_none)
 split_argument X Y w.listing = (inr, none_sum)
 split_argument X Y w.assigning = (λ h. absurd h, sum_none)
@@ -121,7 +121,7 @@ split_argument X Y w.going = (λ h. absurd h, sum_none)
 split_argument X Y w.repeating = (λ h. absurd h, sum_none)
 split_argument X Y w.operating = (λ h. absurd h, sum_none)
 
-other_at : {X Y : Type 0} {k c : w.Next} → (k ≡ c → ⊥) → ((k ≡ c) × X) ⊎ Y → Y
+other_at : {X Y : Type 0} {k c : w.Lookahead} → (k ≡ c → ⊥) → ((k ≡ c) × X) ⊎ Y → Y
 other_at f (inl h) = absurd (f h.0)
 other_at f (inr y) = y
 
@@ -129,7 +129,7 @@ assignment_of : {X : Type 0} → ((w.assigning ≡ w.assigning) × X) ⊎ ⊥ �
 assignment_of (inl h) = h.1
 assignment_of (inr h) = absurd h
 
-pub split_assignment : (X Y : Type 0) (c : w.Next) → AtAssignment X Y c ↔ (At w.assigning X c ⊎ AtListing Y c)
+pub split_assignment : (X Y : Type 0) (c : w.Lookahead) → AtAssignment X Y c ↔ (At w.assigning X c ⊎ AtListing Y c)
 split_assignment X Y w.assigning = (λ h. inl (refl, h), assignment_of)
 split_assignment X Y w.listing = (inr, other_at (λ e. absurd cc))
 split_assignment X Y w.closing = (λ h. absurd h, other_at (λ e. absurd cc))
@@ -137,7 +137,7 @@ split_assignment X Y w.going = (λ h. absurd h, other_at (λ e. absurd cc))
 split_assignment X Y w.repeating = (λ h. absurd h, other_at (λ e. absurd cc))
 split_assignment X Y w.operating = (λ h. absurd h, other_at (λ e. absurd cc))
 
-pub split_part : (F G : w.Next → Type 0) (c : w.Next) → AtPart F G c ↔ (Unlisted F c ⊎ AtListing (Any (Unlisted G)) c)
+pub split_part : (F G : w.Lookahead → Type 0) (c : w.Lookahead) → AtPart F G c ↔ (Unlisted F c ⊎ AtListing (Any (Unlisted G)) c)
 split_part F G w.listing = (inr, none_sum)
 split_part F G w.closing = (inl, sum_none)
 split_part F G w.assigning = (inl, sum_none)
@@ -145,15 +145,15 @@ split_part F G w.going = (inl, sum_none)
 split_part F G w.repeating = (inl, sum_none)
 split_part F G w.operating = (inl, sum_none)
 
-at_other : {X Y : Type 0} {k c : w.Next} → (k ≡ c → ⊥) → X ⊎ ((k ≡ c) × Y) → X
+at_other : {X Y : Type 0} {k c : w.Lookahead} → (k ≡ c → ⊥) → X ⊎ ((k ≡ c) × Y) → X
 at_other f (inl x) = x
 at_other f (inr h) = absurd (f h.0)
 
-at_same : {Y : Type 0} {k : w.Next} → ⊥ ⊎ ((k ≡ k) × Y) → Y
+at_same : {Y : Type 0} {k : w.Lookahead} → ⊥ ⊎ ((k ≡ k) × Y) → Y
 at_same (inl x) = absurd x
 at_same (inr h) = h.1
 
-pub split_closed : (F : ℕ → ℕ → w.Next → Type 0) (d n : ℕ) (c : w.Next) → w.Closed F d n c ↔ (Ended (F d n) c ⊎ At w.repeating (Any (F (d + 1) (n + 1))) c)
+pub split_closed : (F : ℕ → ℕ → w.Lookahead → Type 0) (d n : ℕ) (c : w.Lookahead) → w.Closed F d n c ↔ (Ended (F d n) c ⊎ At w.repeating (Any (F (d + 1) (n + 1))) c)
 split_closed F d n w.closing = (inl, at_other (λ e. absurd cc))
 split_closed F d n w.assigning = (inl, at_other (λ e. absurd cc))
 split_closed F d n w.listing = (inl, at_other (λ e. absurd cc))
@@ -161,7 +161,7 @@ split_closed F d n w.going = (inl, at_other (λ e. absurd cc))
 split_closed F d n w.operating = (inl, at_other (λ e. absurd cc))
 split_closed F d n w.repeating = (λ h. inr (refl, h), at_same)
 
-at_none : {X Y Z : Type 0} {c : w.Next} → (w.going ≡ c → ⊥) → (w.operating ≡ c → ⊥) → X ⊎ (((w.going ≡ c) × Y) ⊎ ((w.operating ≡ c) × Z)) → X
+at_none : {X Y Z : Type 0} {c : w.Lookahead} → (w.going ≡ c → ⊥) → (w.operating ≡ c → ⊥) → X ⊎ (((w.going ≡ c) × Y) ⊎ ((w.operating ≡ c) × Z)) → X
 at_none f k (inl x) = x
 at_none f k (inr (inl h)) = absurd (f h.0)
 at_none f k (inr (inr h)) = absurd (k h.0)
@@ -176,7 +176,7 @@ at_operating (inl x) = absurd x
 at_operating (inr (inl h)) = let e : w.going ≡ w.operating = h.0 in absurd cc
 at_operating (inr (inr h)) = h.1
 
-pub split_answered : (G : Form → ℕ → ℕ → w.Next → Type 0) (H : ℕ → ℕ → Type 0) (d n : ℕ) (c : w.Next) → Answered G H d n c ↔ (Ended (G f.Callable (d + 1) (n + 1)) c ⊎ (At w.going (Any (G f.Call (d + 2) (n + 2))) c ⊎ At w.operating (H (d + 1) (n + 1)) c))
+pub split_answered : (G : Form → ℕ → ℕ → w.Lookahead → Type 0) (H : ℕ → ℕ → Type 0) (d n : ℕ) (c : w.Lookahead) → Answered G H d n c ↔ (Ended (G f.Callable (d + 1) (n + 1)) c ⊎ (At w.going (Any (G f.Call (d + 2) (n + 2))) c ⊎ At w.operating (H (d + 1) (n + 1)) c))
 split_answered G H d n w.closing = (inl, at_none (λ e. absurd cc) (λ e. absurd cc))
 split_answered G H d n w.assigning = (inl, at_none (λ e. absurd cc) (λ e. absurd cc))
 split_answered G H d n w.listing = (inl, at_none (λ e. absurd cc) (λ e. absurd cc))
@@ -186,13 +186,13 @@ split_answered G H d n w.operating = (λ h. inr (inr (refl, h)), at_operating)
 
 -- ---- the start of a command
 
-abbrev Assigns : (ℕ → ℕ → w.Next → Type 0) → ℕ → ℕ → w.Next → Type 0
+abbrev Assigns : (ℕ → ℕ → w.Lookahead → Type 0) → ℕ → ℕ → w.Lookahead → Type 0
 Assigns F d n c = At w.assigning (Any (w.Closed F (max d 1 + 1) (n + 2))) c
 
-abbrev Lists : (ℕ → ℕ → w.Next → Type 0) → ℕ → ℕ → w.Next → Type 0
+abbrev Lists : (ℕ → ℕ → w.Lookahead → Type 0) → ℕ → ℕ → w.Lookahead → Type 0
 Lists F d n c = AtListing (Any (w.Closed F (max d 1 + 1) (n + 4))) c
 
-third : {X Z : Type 0} {c : w.Next} → (w.assigning ≡ c → ⊥) → ((w.assigning ≡ c) × X) ⊎ (⊥ ⊎ Z) → Z
+third : {X Z : Type 0} {c : w.Lookahead} → (w.assigning ≡ c → ⊥) → ((w.assigning ≡ c) × X) ⊎ (⊥ ⊎ Z) → Z
 third f (inl h) = absurd (f h.0)
 third f (inr (inl h)) = absurd h
 third f (inr (inr h)) = h
@@ -207,7 +207,7 @@ listed f (inl h) = let e : w.assigning ≡ w.listing = h.0 in absurd cc
 listed f (inr (inl h)) = h
 listed f (inr (inr h)) = absurd (f h)
 
-pub split_start : (F : ℕ → ℕ → w.Next → Type 0) (d n : ℕ) (c : w.Next) → Started F f.Other d n c ↔ (Assigns F d n c ⊎ (Lists F d n c ⊎ ⊥))
+pub split_start : (F : ℕ → ℕ → w.Lookahead → Type 0) (d n : ℕ) (c : w.Lookahead) → Started F f.Other d n c ↔ (Assigns F d n c ⊎ (Lists F d n c ⊎ ⊥))
 split_start F d n w.assigning = (λ h. inl (refl, h), assigned (λ z. z))
 split_start F d n w.listing = (λ h. inr (inl h), listed (λ z. z))
 split_start F d n w.closing = (λ h. absurd h, third (λ e. absurd cc))
@@ -215,7 +215,7 @@ split_start F d n w.going = (λ h. absurd h, third (λ e. absurd cc))
 split_start F d n w.repeating = (λ h. absurd h, third (λ e. absurd cc))
 split_start F d n w.operating = (λ h. absurd h, third (λ e. absurd cc))
 
-no_call : {Y : Type 0} {c : w.Next} → (w.repeating ≡ c → ⊥) → ⊥ ⊎ ((w.repeating ≡ c) × Y) → ⊥
+no_call : {Y : Type 0} {c : w.Lookahead} → (w.repeating ≡ c → ⊥) → ⊥ ⊎ ((w.repeating ≡ c) × Y) → ⊥
 no_call f (inl h) = h
 no_call f (inr h) = f h.0
 
@@ -223,7 +223,7 @@ call_closing : {X Y : Type 0} → X ⊎ ((w.repeating ≡ w.closing) × Y) → X
 call_closing (inl h) = h
 call_closing (inr h) = let e : w.repeating ≡ w.closing = h.0 in absurd cc
 
-pub split_start_call : (F : ℕ → ℕ → w.Next → Type 0) (d n : ℕ) (c : w.Next) → Started F f.Call d n c ↔ (Assigns F d n c ⊎ (Lists F d n c ⊎ (AtClosing (F d n w.closing) c ⊎ At w.repeating (Any (F (d + 1) (n + 1))) c)))
+pub split_start_call : (F : ℕ → ℕ → w.Lookahead → Type 0) (d n : ℕ) (c : w.Lookahead) → Started F f.Call d n c ↔ (Assigns F d n c ⊎ (Lists F d n c ⊎ (AtClosing (F d n w.closing) c ⊎ At w.repeating (Any (F (d + 1) (n + 1))) c)))
 split_start_call F d n w.assigning = (λ h. inl (refl, h), assigned (no_call (λ e. absurd cc)))
 split_start_call F d n w.listing = (λ h. inr (inl h), listed (no_call (λ e. absurd cc)))
 split_start_call F d n w.closing = (λ h. inr (inr (inl h)), λ h. call_closing (third (λ e. absurd cc) h))
@@ -231,7 +231,7 @@ split_start_call F d n w.going = (λ h. absurd h, λ h. no_call (λ e. absurd cc
 split_start_call F d n w.repeating = (λ h. inr (inr (inr (refl, h))), λ h. at_same (third (λ e. absurd cc) h))
 split_start_call F d n w.operating = (λ h. absurd h, λ h. no_call (λ e. absurd cc) (third (λ e. absurd cc) h))
 
-pub split_start_label : (F : ℕ → ℕ → w.Next → Type 0) (d n : ℕ) (c : w.Next) → Started F f.Label d n c ↔ (Assigns F d n c ⊎ (Lists F d n c ⊎ (AtClosing (Any (w.Missing F 1 1) ⊎ Any (F 2 2)) c ⊎ ⊥)))
+pub split_start_label : (F : ℕ → ℕ → w.Lookahead → Type 0) (d n : ℕ) (c : w.Lookahead) → Started F f.Label d n c ↔ (Assigns F d n c ⊎ (Lists F d n c ⊎ (AtClosing (Any (w.Missing F 1 1) ⊎ Any (F 2 2)) c ⊎ ⊥)))
 split_start_label F d n w.assigning = (λ h. inl (refl, h), assigned sum_none)
 split_start_label F d n w.listing = (λ h. inr (inl h), listed sum_none)
 split_start_label F d n w.closing = (λ h. inr (inr (inl h)), λ h. sum_none (third (λ e. absurd cc) h))
@@ -239,23 +239,23 @@ split_start_label F d n w.going = (λ h. absurd h, λ h. sum_none (third (λ e. 
 split_start_label F d n w.repeating = (λ h. absurd h, λ h. sum_none (third (λ e. absurd cc) h))
 split_start_label F d n w.operating = (λ h. absurd h, λ h. sum_none (third (λ e. absurd cc) h))
 
-with_command : (F : ℕ → ℕ → w.Next → Type 0) → Any (w.Missing F 1 1) ⊎ Any (F 2 2) → Any (w.Missing F 1 1)
+with_command : (F : ℕ → ℕ → w.Lookahead → Type 0) → Any (w.Missing F 1 1) ⊎ Any (F 2 2) → Any (w.Missing F 1 1)
 with_command F (inl h) = h
 with_command F (inr h) = (w.repeating, h)
 
-pub label_closing : (F : ℕ → ℕ → w.Next → Type 0) (c : w.Next) → AtClosing (Any (w.Missing F 1 1) ⊎ Any (F 2 2)) c ↔ AtClosing (Any (w.Missing F 1 1)) c
+pub label_closing : (F : ℕ → ℕ → w.Lookahead → Type 0) (c : w.Lookahead) → AtClosing (Any (w.Missing F 1 1) ⊎ Any (F 2 2)) c ↔ AtClosing (Any (w.Missing F 1 1)) c
 label_closing F c = closing_as (with_command F, inl) c
 
 -- ---- calls
 
-whole_of : (G : Form → ℕ → ℕ → w.Next → Type 0) → ((v : Form) → Falls (G v)) → (d n : ℕ) → Whole G f.Call d n → Any (G f.Call d n)
+whole_of : (G : Form → ℕ → ℕ → w.Lookahead → Type 0) → ((v : Form) → Falls (G v)) → (d n : ℕ) → Whole G f.Call d n → Any (G f.Call d n)
 whole_of G k d n (inl h) = h
 whole_of G k d n (inr h) = any_falls (G f.Call) (k f.Call) d (d + 1) n (n + 1) (omega arith) (omega arith) h
 
-pub call_whole : (G : Form → ℕ → ℕ → w.Next → Type 0) → ((v : Form) → Falls (G v)) → (d n : ℕ) → Whole G f.Call d n ↔ Any (G f.Call d n)
+pub call_whole : (G : Form → ℕ → ℕ → w.Lookahead → Type 0) → ((v : Form) → Falls (G v)) → (d n : ℕ) → Whole G f.Call d n ↔ Any (G f.Call d n)
 call_whole G k d n = (whole_of G k d n, inl)
 
-callable_start : (F : ℕ → ℕ → w.Next → Type 0) (d n : ℕ) (c : w.Next) → Started F f.Callable d n c ↔ Started F f.Other d n c
+callable_start : (F : ℕ → ℕ → w.Lookahead → Type 0) (d n : ℕ) (c : w.Lookahead) → Started F f.Callable d n c ↔ Started F f.Other d n c
 callable_start F d n w.closing = (λ h. h, λ h. h)
 callable_start F d n w.assigning = (λ h. h, λ h. h)
 callable_start F d n w.listing = (λ h. h, λ h. h)
@@ -263,23 +263,23 @@ callable_start F d n w.going = (λ h. h, λ h. h)
 callable_start F d n w.repeating = (λ h. h, λ h. h)
 callable_start F d n w.operating = (λ h. h, λ h. h)
 
-pub plain : (P : ℕ → ℕ → Type 0) (st : Stack) (d n : ℕ) (c : w.Next) → Gives P st f.Callable d n c ↔ Gives P st f.Other d n c
+pub plain : (P : ℕ → ℕ → Type 0) (st : Stack) (d n : ℕ) (c : w.Lookahead) → Gives P st f.Callable d n c ↔ Gives P st f.Other d n c
 plain P (in_start st) d n c = callable_start (Does P st) d n c
 plain P (in_parens k st) d n c = (λ h. h, λ h. h)
 plain P st d n c = (λ h. h, λ h. h)
 
-pub callable : (b : Bool) (st : Stack) → Rooms b st → Decided (Gives (Limit b) st f.Callable) (goes_on b st Expression)
+pub callable : (b : Bool) (st : Stack) → Budgets b st → Decided (Gives (Limit b) st f.Callable) (goes_on b st Expression)
 callable b st h c d n = via (plain (Limit b) st d n c) (h Expression c d n tt)
 
 -- ---- definitions, declarations and operators
 
-abbrev pub defined : Bool → Stack → ℕ → ℕ → w.Next → Type 0
+abbrev pub defined : Bool → Stack → ℕ → ℕ → w.Lookahead → Type 0
 defined b st d n c = AtClosing (Defines (Limit b) st d n) c
 
-abbrev pub declared : Bool → Stack → ℕ → ℕ → w.Next → Type 0
+abbrev pub declared : Bool → Stack → ℕ → ℕ → w.Lookahead → Type 0
 declared b st d n c = AtClosing (Declares (Limit b) st d n) c
 
-abbrev pub operated : Bool → Stack → ℕ → ℕ → w.Next → Type 0
+abbrev pub operated : Bool → Stack → ℕ → ℕ → w.Lookahead → Type 0
 operated b st d n c = AtClosing (Tight (is_tight st) (Operates (Limit b) st (Gives (Limit b) st) d n)) c
 
 pub defined_falls : (b : Bool) (st : Stack) → Falls (defined b st)

@@ -13,6 +13,6 @@ pub mod Joints
 pub mod Phrases
 pub mod Clauses
 pub mod Decides
-pub mod Roomy
+pub mod Ample
 pub mod Below
 pub mod Asks

@@ -1,13 +1,13 @@
 -- What the links of ways come to.
 use Rattle.std.proofs.Common.{◌≡◌, ◌⊎◌, ◌↔◌, inl, inr, ℕ, ◌+◌, Bool, true, false, ◌&&◌, ◌||◌, Option, Some, None, refl, sym, subst, arith}
-use Rattle.bk_frames.specs.declared.room.Next.{Next}
-use Rattle.bk_frames.specs.declared.room.Next.TheVariants.{Closing, Assigning, Listing, Going, Repeating, Operating}
-use Rattle.bk_frames.specs.declared.way.Link.{Link}
-use Rattle.bk_frames.specs.declared.way.Link.TheVariants as l
-use Rattle.bk_frames.specs.declared.way.Met.{Met}
-use Rattle.bk_frames.specs.Rooms.{next_of, is_next, some_next, led_met, led_by, reached, raised}
-use Rattle.bk_frames.specs.WaysOn as w
-use Rattle.bk_frames.specs.WaysOn.{Any, AtClosing, AtListing, AtArgument, AtAssignment, AtPart, Unlisted, If, Closed, Missing, Started, Answered, Whole, Taken}
+use Rattle.bk_frames.specs.declared.budget.Lookahead.{Lookahead}
+use Rattle.bk_frames.specs.declared.budget.Lookahead.TheVariants.{Closing, Assigning, Listing, Going, Repeating, Operating}
+use Rattle.bk_frames.specs.declared.completion.Link.{Link}
+use Rattle.bk_frames.specs.declared.completion.Link.TheVariants as l
+use Rattle.bk_frames.specs.declared.completion.Following.{Following}
+use Rattle.bk_frames.specs.Budgets.{next_of, is_next, some_next, led_following, led_by, reached, raised}
+use Rattle.bk_frames.specs.Completing as w
+use Rattle.bk_frames.specs.Completing.{Any, AtClosing, AtListing, AtArgument, AtAssignment, AtPart, Unlisted, If, Closed, Missing, Started, Answered, Whole, Taken}
 use Rattle.bk_frames.proofs.Lowering.{Falls}
 
 -- ---- tests
@@ -37,7 +37,7 @@ pub either_of : (a b : Bool) → a || b ≡ true → (a ≡ true) ⊎ (b ≡ tru
 either_of true b p = inl refl
 either_of false b p = inr p
 
-pub next_in : (c : w.Next) → is_next c c ≡ true
+pub next_in : (c : w.Lookahead) → is_next c c ≡ true
 next_in w.closing = refl
 next_in w.assigning = refl
 next_in w.listing = refl
@@ -45,7 +45,7 @@ next_in w.going = refl
 next_in w.repeating = refl
 next_in w.operating = refl
 
-pub next_is : (a c : w.Next) → is_next a c ≡ true → a ≡ c
+pub next_is : (a c : w.Lookahead) → is_next a c ≡ true → a ≡ c
 next_is w.closing w.closing p = refl
 next_is w.assigning w.assigning p = refl
 next_is w.listing w.listing p = refl
@@ -56,19 +56,19 @@ next_is _ _ p = absurd cc
 
 -- ---- some symbol
 
-abbrev next_5 : (Next → Bool) → Bool
+abbrev next_5 : (Lookahead → Bool) → Bool
 next_5 f = f Repeating || f Operating
 
-abbrev next_4 : (Next → Bool) → Bool
+abbrev next_4 : (Lookahead → Bool) → Bool
 next_4 f = f Going || next_5 f
 
-abbrev next_3 : (Next → Bool) → Bool
+abbrev next_3 : (Lookahead → Bool) → Bool
 next_3 f = f Listing || next_4 f
 
-abbrev next_2 : (Next → Bool) → Bool
+abbrev next_2 : (Lookahead → Bool) → Bool
 next_2 f = f Assigning || next_3 f
 
-pub some_in : (f : Next → Bool) (k : Next) → f k ≡ true → some_next f ≡ true
+pub some_in : (f : Lookahead → Bool) (k : Lookahead) → f k ≡ true → some_next f ≡ true
 some_in f Closing p = left (f Closing) (next_2 f) p
 some_in f Assigning p = right (f Closing) (next_2 f) (left (f Assigning) (next_3 f) p)
 some_in f Listing p = right (f Closing) (next_2 f) (right (f Assigning) (next_3 f) (left (f Listing) (next_4 f) p))
@@ -76,33 +76,33 @@ some_in f Going p = right (f Closing) (next_2 f) (right (f Assigning) (next_3 f)
 some_in f Repeating p = right (f Closing) (next_2 f) (right (f Assigning) (next_3 f) (right (f Listing) (next_4 f) (right (f Going) (next_5 f) (left (f Repeating) (f Operating) p))))
 some_in f Operating p = right (f Closing) (next_2 f) (right (f Assigning) (next_3 f) (right (f Listing) (next_4 f) (right (f Going) (next_5 f) (right (f Repeating) (f Operating) p))))
 
-abbrev Sum : (Next → Bool) → Type 0
-Sum f = (k : Next) × (f k ≡ true)
+abbrev Sum : (Lookahead → Bool) → Type 0
+Sum f = (k : Lookahead) × (f k ≡ true)
 
-sum_5 : (f : Next → Bool) → (f Repeating ≡ true) ⊎ (f Operating ≡ true) → Sum f
+sum_5 : (f : Lookahead → Bool) → (f Repeating ≡ true) ⊎ (f Operating ≡ true) → Sum f
 sum_5 f (inl p) = (Repeating, p)
 sum_5 f (inr p) = (Operating, p)
 
-sum_4 : (f : Next → Bool) → (f Going ≡ true) ⊎ (f Repeating || f Operating ≡ true) → Sum f
+sum_4 : (f : Lookahead → Bool) → (f Going ≡ true) ⊎ (f Repeating || f Operating ≡ true) → Sum f
 sum_4 f (inl p) = (Going, p)
 sum_4 f (inr p) = sum_5 f (either_of _ _ p)
 
-sum_3 : (f : Next → Bool) → (f Listing ≡ true) ⊎ (f Going || (f Repeating || f Operating) ≡ true) → Sum f
+sum_3 : (f : Lookahead → Bool) → (f Listing ≡ true) ⊎ (f Going || (f Repeating || f Operating) ≡ true) → Sum f
 sum_3 f (inl p) = (Listing, p)
 sum_3 f (inr p) = sum_4 f (either_of _ _ p)
 
-sum_2 : (f : Next → Bool) → (f Assigning ≡ true) ⊎ (f Listing || (f Going || (f Repeating || f Operating)) ≡ true) → Sum f
+sum_2 : (f : Lookahead → Bool) → (f Assigning ≡ true) ⊎ (f Listing || (f Going || (f Repeating || f Operating)) ≡ true) → Sum f
 sum_2 f (inl p) = (Assigning, p)
 sum_2 f (inr p) = sum_3 f (either_of _ _ p)
 
-sum_1 : (f : Next → Bool) → (f Closing ≡ true) ⊎ (f Assigning || (f Listing || (f Going || (f Repeating || f Operating))) ≡ true) → Sum f
+sum_1 : (f : Lookahead → Bool) → (f Closing ≡ true) ⊎ (f Assigning || (f Listing || (f Going || (f Repeating || f Operating))) ≡ true) → Sum f
 sum_1 f (inl p) = (Closing, p)
 sum_1 f (inr p) = sum_2 f (either_of _ _ p)
 
-pub some_of : (f : Next → Bool) → some_next f ≡ true → Sum f
+pub some_of : (f : Lookahead → Bool) → some_next f ≡ true → Sum f
 some_of f p = sum_1 f (either_of _ _ p)
 
-abbrev pub from : w.Next → Next
+abbrev pub from : w.Lookahead → Lookahead
 from w.closing = Closing
 from w.assigning = Assigning
 from w.listing = Listing
@@ -110,7 +110,7 @@ from w.going = Going
 from w.repeating = Repeating
 from w.operating = Operating
 
-pub from_is : (c : w.Next) → next_of (from c) ≡ c
+pub from_is : (c : w.Lookahead) → next_of (from c) ≡ c
 from_is w.closing = refl
 from_is w.assigning = refl
 from_is w.listing = refl
@@ -120,20 +120,20 @@ from_is w.operating = refl
 
 -- ---- where a symbol comes
 
-abbrev pub At : w.Next → Type 0 → w.Next → Type 0
+abbrev pub At : w.Lookahead → Type 0 → w.Lookahead → Type 0
 At w.closing X c = AtClosing X c
 At w.listing X c = AtListing X c
 At k X c = (k ≡ c) × X
 
-pub at_in : {X : Type 0} → (k c : w.Next) → k ≡ c → X → At k X c
-at_in {X = X} w.closing c e x = let P : w.Next → Type 0 = λ z. AtClosing X z in subst P e x
-at_in {X = X} w.listing c e x = let P : w.Next → Type 0 = λ z. AtListing X z in subst P e x
+pub at_in : {X : Type 0} → (k c : w.Lookahead) → k ≡ c → X → At k X c
+at_in {X = X} w.closing c e x = let P : w.Lookahead → Type 0 = λ z. AtClosing X z in subst P e x
+at_in {X = X} w.listing c e x = let P : w.Lookahead → Type 0 = λ z. AtListing X z in subst P e x
 at_in w.assigning c e x = (e, x)
 at_in w.going c e x = (e, x)
 at_in w.repeating c e x = (e, x)
 at_in w.operating c e x = (e, x)
 
-pub at_of : {X : Type 0} → (k c : w.Next) → At k X c → (k ≡ c) × X
+pub at_of : {X : Type 0} → (k c : w.Lookahead) → At k X c → (k ≡ c) × X
 at_of w.closing w.closing x = (refl, x)
 at_of w.listing w.listing x = (refl, x)
 at_of w.closing w.assigning x = absurd x
@@ -151,7 +151,7 @@ at_of w.going c x = x
 at_of w.repeating c x = x
 at_of w.operating c x = x
 
-abbrev pub Ended : (w.Next → Type 0) → w.Next → Type 0
+abbrev pub Ended : (w.Lookahead → Type 0) → w.Lookahead → Type 0
 Ended F w.closing = F w.closing
 Ended F w.assigning = F w.assigning
 Ended F w.listing = F w.listing
@@ -160,10 +160,10 @@ Ended F _ = ⊥
 -- ---- links
 
 -- the test decides it
-abbrev pub Decided : (ℕ → ℕ → w.Next → Type 0) → (w.Next → ℕ → ℕ → Bool) → Type 0
-Decided F t = (c : w.Next) (d n : ℕ) → F d n c ↔ (t c d n ≡ true)
+abbrev pub Decided : (ℕ → ℕ → w.Lookahead → Type 0) → (w.Lookahead → ℕ → ℕ → Bool) → Type 0
+Decided F t = (c : w.Lookahead) (d n : ℕ) → F d n c ↔ (t c d n ≡ true)
 
-abbrev pub Led : Link → (ℕ → ℕ → w.Next → Type 0) → ℕ → ℕ → w.Next → Type 0
+abbrev pub Led : Link → (ℕ → ℕ → w.Lookahead → Type 0) → ℕ → ℕ → w.Lookahead → Type 0
 Led l.Each F d n c = F d n c
 Led l.Unlisted F d n c = Unlisted (F d n) c
 Led l.Ended F d n c = Ended (F d n) c
@@ -174,32 +174,32 @@ Led (l.ThenClosed k) F d n c = At (next_of k) (Any (Closed F d n)) c
 Led (l.ThenMissing k) F d n c = At (next_of k) (Any (Missing F d n)) c
 
 -- by a symbol behind the whole
-abbrev Reaches : Option Met → (ℕ → ℕ → Type 0) → ℕ → ℕ → w.Next → Type 0
+abbrev Reaches : Option Following → (ℕ → ℕ → Type 0) → ℕ → ℕ → w.Lookahead → Type 0
 Reaches None G d n c = ⊥
 Reaches (Some m) G d n c = (next_of m.next ≡ c) × G (raised m.more d) (raised m.more n)
 
-abbrev Reached : Link → (ℕ → ℕ → w.Next → Type 0) → ℕ → ℕ → w.Next → Type 0
-Reached k F d n c = (j : Next) × Reaches (reached k j) (λ e m. F e m (next_of j)) d n c
+abbrev Reached : Link → (ℕ → ℕ → w.Lookahead → Type 0) → ℕ → ℕ → w.Lookahead → Type 0
+Reached k F d n c = (j : Lookahead) × Reaches (reached k j) (λ e m. F e m (next_of j)) d n c
 
-met_in : (o : Option Met) (G : ℕ → ℕ → Type 0) (t : ℕ → ℕ → Bool) → ((d n : ℕ) → G d n ↔ (t d n ≡ true)) → (d n : ℕ) (c : w.Next) → Reaches o G d n c → led_met o t d n c ≡ true
-met_in None G t h d n c x = absurd x
-met_in (Some m) G t h d n c x = let P : w.Next → Type 0 = λ z. is_next (next_of m.next) z ≡ true in both ((h (raised m.more d) (raised m.more n)).0 x.1) (subst P x.0 (next_in (next_of m.next)))
+following_in : (o : Option Following) (G : ℕ → ℕ → Type 0) (t : ℕ → ℕ → Bool) → ((d n : ℕ) → G d n ↔ (t d n ≡ true)) → (d n : ℕ) (c : w.Lookahead) → Reaches o G d n c → led_following o t d n c ≡ true
+following_in None G t h d n c x = absurd x
+following_in (Some m) G t h d n c x = let P : w.Lookahead → Type 0 = λ z. is_next (next_of m.next) z ≡ true in both ((h (raised m.more d) (raised m.more n)).0 x.1) (subst P x.0 (next_in (next_of m.next)))
 
-met_of : (o : Option Met) (G : ℕ → ℕ → Type 0) (t : ℕ → ℕ → Bool) → ((d n : ℕ) → G d n ↔ (t d n ≡ true)) → (d n : ℕ) (c : w.Next) → led_met o t d n c ≡ true → Reaches o G d n c
-met_of None G t h d n c x = absurd cc
-met_of (Some m) G t h d n c x = (next_is (next_of m.next) c (second _ _ x), (h (raised m.more d) (raised m.more n)).1 (first _ _ x))
+following_of : (o : Option Following) (G : ℕ → ℕ → Type 0) (t : ℕ → ℕ → Bool) → ((d n : ℕ) → G d n ↔ (t d n ≡ true)) → (d n : ℕ) (c : w.Lookahead) → led_following o t d n c ≡ true → Reaches o G d n c
+following_of None G t h d n c x = absurd cc
+following_of (Some m) G t h d n c x = (next_is (next_of m.next) c (second _ _ x), (h (raised m.more d) (raised m.more n)).1 (first _ _ x))
 
-reached_in : (k : Link) (F : ℕ → ℕ → w.Next → Type 0) (t : w.Next → ℕ → ℕ → Bool) → Decided F t → (d n : ℕ) (c : w.Next) → Reached k F d n c → led_by k t d n c ≡ true
-reached_in k F t h d n c x = some_in (λ j. led_met (reached k j) (t (next_of j)) d n c) x.0 (met_in (reached k x.0) (λ e m. F e m (next_of x.0)) (t (next_of x.0)) (h (next_of x.0)) d n c x.1)
+reached_in : (k : Link) (F : ℕ → ℕ → w.Lookahead → Type 0) (t : w.Lookahead → ℕ → ℕ → Bool) → Decided F t → (d n : ℕ) (c : w.Lookahead) → Reached k F d n c → led_by k t d n c ≡ true
+reached_in k F t h d n c x = some_in (λ j. led_following (reached k j) (t (next_of j)) d n c) x.0 (following_in (reached k x.0) (λ e m. F e m (next_of x.0)) (t (next_of x.0)) (h (next_of x.0)) d n c x.1)
 
-reached_of : (k : Link) (F : ℕ → ℕ → w.Next → Type 0) (t : w.Next → ℕ → ℕ → Bool) → Decided F t → (d n : ℕ) (c : w.Next) → led_by k t d n c ≡ true → Reached k F d n c
+reached_of : (k : Link) (F : ℕ → ℕ → w.Lookahead → Type 0) (t : w.Lookahead → ℕ → ℕ → Bool) → Decided F t → (d n : ℕ) (c : w.Lookahead) → led_by k t d n c ≡ true → Reached k F d n c
 reached_of k F t h d n c x =
-    let s : Sum (λ j. led_met (reached k j) (t (next_of j)) d n c) = some_of (λ j. led_met (reached k j) (t (next_of j)) d n c) x in
-    (s.0, met_of (reached k s.0) (λ e m. F e m (next_of s.0)) (t (next_of s.0)) (h (next_of s.0)) d n c s.1)
+    let s : Sum (λ j. led_following (reached k j) (t (next_of j)) d n c) = some_of (λ j. led_following (reached k j) (t (next_of j)) d n c) x in
+    (s.0, following_of (reached k s.0) (λ e m. F e m (next_of s.0)) (t (next_of s.0)) (h (next_of s.0)) d n c s.1)
 
 -- each link in the words of the ways on
 
-each_in : (F : ℕ → ℕ → w.Next → Type 0) (d n : ℕ) (c : w.Next) → F d n c → Reached l.Each F d n c
+each_in : (F : ℕ → ℕ → w.Lookahead → Type 0) (d n : ℕ) (c : w.Lookahead) → F d n c → Reached l.Each F d n c
 each_in F d n w.closing x = (Closing, (refl, x))
 each_in F d n w.assigning x = (Assigning, (refl, x))
 each_in F d n w.listing x = (Listing, (refl, x))
@@ -207,13 +207,13 @@ each_in F d n w.going x = (Going, (refl, x))
 each_in F d n w.repeating x = (Repeating, (refl, x))
 each_in F d n w.operating x = (Operating, (refl, x))
 
-moved : (G : w.Next → Type 0) (a c : w.Next) → a ≡ c → G a → G c
+moved : (G : w.Lookahead → Type 0) (a c : w.Lookahead) → a ≡ c → G a → G c
 moved G a c e x = subst G e x
 
-each_of : (F : ℕ → ℕ → w.Next → Type 0) (d n : ℕ) (c : w.Next) → Reached l.Each F d n c → F d n c
+each_of : (F : ℕ → ℕ → w.Lookahead → Type 0) (d n : ℕ) (c : w.Lookahead) → Reached l.Each F d n c → F d n c
 each_of F d n c x = moved (F d n) (next_of x.0) c x.1.0 x.1.1
 
-unlisted_in : (F : ℕ → ℕ → w.Next → Type 0) (d n : ℕ) (c : w.Next) → Unlisted (F d n) c → Reached l.Unlisted F d n c
+unlisted_in : (F : ℕ → ℕ → w.Lookahead → Type 0) (d n : ℕ) (c : w.Lookahead) → Unlisted (F d n) c → Reached l.Unlisted F d n c
 unlisted_in F d n w.closing x = (Closing, (refl, x))
 unlisted_in F d n w.assigning x = (Assigning, (refl, x))
 unlisted_in F d n w.listing x = absurd x
@@ -221,7 +221,7 @@ unlisted_in F d n w.going x = (Going, (refl, x))
 unlisted_in F d n w.repeating x = (Repeating, (refl, x))
 unlisted_in F d n w.operating x = (Operating, (refl, x))
 
-unlisted_of : (F : ℕ → ℕ → w.Next → Type 0) (d n : ℕ) (c : w.Next) → Reached l.Unlisted F d n c → Unlisted (F d n) c
+unlisted_of : (F : ℕ → ℕ → w.Lookahead → Type 0) (d n : ℕ) (c : w.Lookahead) → Reached l.Unlisted F d n c → Unlisted (F d n) c
 unlisted_of F d n c (Closing, x) = moved (Unlisted (F d n)) w.closing c x.0 x.1
 unlisted_of F d n c (Assigning, x) = moved (Unlisted (F d n)) w.assigning c x.0 x.1
 unlisted_of F d n c (Listing, x) = absurd x
@@ -229,7 +229,7 @@ unlisted_of F d n c (Going, x) = moved (Unlisted (F d n)) w.going c x.0 x.1
 unlisted_of F d n c (Repeating, x) = moved (Unlisted (F d n)) w.repeating c x.0 x.1
 unlisted_of F d n c (Operating, x) = moved (Unlisted (F d n)) w.operating c x.0 x.1
 
-ended_in : (F : ℕ → ℕ → w.Next → Type 0) (d n : ℕ) (c : w.Next) → Ended (F d n) c → Reached l.Ended F d n c
+ended_in : (F : ℕ → ℕ → w.Lookahead → Type 0) (d n : ℕ) (c : w.Lookahead) → Ended (F d n) c → Reached l.Ended F d n c
 ended_in F d n w.closing x = (Closing, (refl, x))
 ended_in F d n w.assigning x = (Assigning, (refl, x))
 ended_in F d n w.listing x = (Listing, (refl, x))
@@ -237,7 +237,7 @@ ended_in F d n w.going x = absurd x
 ended_in F d n w.repeating x = absurd x
 ended_in F d n w.operating x = absurd x
 
-ended_of : (F : ℕ → ℕ → w.Next → Type 0) (d n : ℕ) (c : w.Next) → Reached l.Ended F d n c → Ended (F d n) c
+ended_of : (F : ℕ → ℕ → w.Lookahead → Type 0) (d n : ℕ) (c : w.Lookahead) → Reached l.Ended F d n c → Ended (F d n) c
 ended_of F d n c (Closing, x) = moved (Ended (F d n)) w.closing c x.0 x.1
 ended_of F d n c (Assigning, x) = moved (Ended (F d n)) w.assigning c x.0 x.1
 ended_of F d n c (Listing, x) = moved (Ended (F d n)) w.listing c x.0 x.1
@@ -245,10 +245,10 @@ ended_of F d n c (Going, x) = absurd x
 ended_of F d n c (Repeating, x) = absurd x
 ended_of F d n c (Operating, x) = absurd x
 
-closing_in : (F : ℕ → ℕ → w.Next → Type 0) (d n : ℕ) (c : w.Next) → AtClosing (F d n w.closing) c → Reached l.Closing F d n c
+closing_in : (F : ℕ → ℕ → w.Lookahead → Type 0) (d n : ℕ) (c : w.Lookahead) → AtClosing (F d n w.closing) c → Reached l.Closing F d n c
 closing_in F d n c x = let y : (w.closing ≡ c) × F d n w.closing = at_of w.closing c x in (Closing, y)
 
-closing_of : (F : ℕ → ℕ → w.Next → Type 0) (d n : ℕ) (c : w.Next) → Reached l.Closing F d n c → AtClosing (F d n w.closing) c
+closing_of : (F : ℕ → ℕ → w.Lookahead → Type 0) (d n : ℕ) (c : w.Lookahead) → Reached l.Closing F d n c → AtClosing (F d n w.closing) c
 closing_of F d n c (Closing, x) = at_in w.closing c x.0 x.1
 closing_of F d n c (Assigning, x) = absurd x
 closing_of F d n c (Listing, x) = absurd x
@@ -256,13 +256,13 @@ closing_of F d n c (Going, x) = absurd x
 closing_of F d n c (Repeating, x) = absurd x
 closing_of F d n c (Operating, x) = absurd x
 
-then_in : (k : Next) (F : ℕ → ℕ → w.Next → Type 0) (d n : ℕ) (c : w.Next) → next_of k ≡ c → Any (F d n) → Reached (l.Then k) F d n c
+then_in : (k : Lookahead) (F : ℕ → ℕ → w.Lookahead → Type 0) (d n : ℕ) (c : w.Lookahead) → next_of k ≡ c → Any (F d n) → Reached (l.Then k) F d n c
 then_in k F d n c e x = (from x.0, (e, moved (F d n) x.0 (next_of (from x.0)) (sym (from_is x.0)) x.1))
 
-then_of : (k : Next) (F : ℕ → ℕ → w.Next → Type 0) (d n : ℕ) (c : w.Next) → Reached (l.Then k) F d n c → At (next_of k) (Any (F d n)) c
+then_of : (k : Lookahead) (F : ℕ → ℕ → w.Lookahead → Type 0) (d n : ℕ) (c : w.Lookahead) → Reached (l.Then k) F d n c → At (next_of k) (Any (F d n)) c
 then_of k F d n c x = at_in (next_of k) c x.1.0 (next_of x.0, x.1.1)
 
-then_unlisted_in : (k : Next) (F : ℕ → ℕ → w.Next → Type 0) (d n : ℕ) (c : w.Next) → next_of k ≡ c → Any (Unlisted (F d n)) → Reached (l.ThenUnlisted k) F d n c
+then_unlisted_in : (k : Lookahead) (F : ℕ → ℕ → w.Lookahead → Type 0) (d n : ℕ) (c : w.Lookahead) → next_of k ≡ c → Any (Unlisted (F d n)) → Reached (l.ThenUnlisted k) F d n c
 then_unlisted_in k F d n c e (w.closing, x) = (Closing, (e, x))
 then_unlisted_in k F d n c e (w.assigning, x) = (Assigning, (e, x))
 then_unlisted_in k F d n c e (w.listing, x) = absurd x
@@ -270,7 +270,7 @@ then_unlisted_in k F d n c e (w.going, x) = (Going, (e, x))
 then_unlisted_in k F d n c e (w.repeating, x) = (Repeating, (e, x))
 then_unlisted_in k F d n c e (w.operating, x) = (Operating, (e, x))
 
-then_unlisted_of : (k : Next) (F : ℕ → ℕ → w.Next → Type 0) (d n : ℕ) (c : w.Next) → Reached (l.ThenUnlisted k) F d n c → At (next_of k) (Any (Unlisted (F d n))) c
+then_unlisted_of : (k : Lookahead) (F : ℕ → ℕ → w.Lookahead → Type 0) (d n : ℕ) (c : w.Lookahead) → Reached (l.ThenUnlisted k) F d n c → At (next_of k) (Any (Unlisted (F d n))) c
 then_unlisted_of k F d n c (Closing, x) = at_in (next_of k) c x.0 (w.closing, x.1)
 then_unlisted_of k F d n c (Assigning, x) = at_in (next_of k) c x.0 (w.assigning, x.1)
 then_unlisted_of k F d n c (Listing, x) = absurd x
@@ -279,7 +279,7 @@ then_unlisted_of k F d n c (Repeating, x) = at_in (next_of k) c x.0 (w.repeating
 then_unlisted_of k F d n c (Operating, x) = at_in (next_of k) c x.0 (w.operating, x.1)
 
 -- one command more around it is no better where none has to be
-one_more : (F : ℕ → ℕ → w.Next → Type 0) → Falls F → (k : Next) (d n : ℕ) (c : w.Next) → next_of k ≡ c → Any (F (d + 1) (n + 1)) → Reached (l.ThenClosed k) F d n c
+one_more : (F : ℕ → ℕ → w.Lookahead → Type 0) → Falls F → (k : Lookahead) (d n : ℕ) (c : w.Lookahead) → next_of k ≡ c → Any (F (d + 1) (n + 1)) → Reached (l.ThenClosed k) F d n c
 one_more F f k d n c e (w.closing, x) = (Closing, (e, f d (d + 1) n (n + 1) (omega arith) (omega arith) w.closing x))
 one_more F f k d n c e (w.assigning, x) = (Assigning, (e, f d (d + 1) n (n + 1) (omega arith) (omega arith) w.assigning x))
 one_more F f k d n c e (w.listing, x) = (Listing, (e, f d (d + 1) n (n + 1) (omega arith) (omega arith) w.listing x))
@@ -287,7 +287,7 @@ one_more F f k d n c e (w.going, x) = (Going, (e, x))
 one_more F f k d n c e (w.repeating, x) = (Repeating, (e, x))
 one_more F f k d n c e (w.operating, x) = (Operating, (e, x))
 
-then_closed_in : (F : ℕ → ℕ → w.Next → Type 0) → Falls F → (k : Next) (d n : ℕ) (c : w.Next) → next_of k ≡ c → Any (Closed F d n) → Reached (l.ThenClosed k) F d n c
+then_closed_in : (F : ℕ → ℕ → w.Lookahead → Type 0) → Falls F → (k : Lookahead) (d n : ℕ) (c : w.Lookahead) → next_of k ≡ c → Any (Closed F d n) → Reached (l.ThenClosed k) F d n c
 then_closed_in F f k d n c e (w.closing, x) = (Closing, (e, x))
 then_closed_in F f k d n c e (w.assigning, x) = (Assigning, (e, x))
 then_closed_in F f k d n c e (w.listing, x) = (Listing, (e, x))
@@ -295,7 +295,7 @@ then_closed_in F f k d n c e (w.going, x) = absurd x
 then_closed_in F f k d n c e (w.repeating, x) = one_more F f k d n c e x
 then_closed_in F f k d n c e (w.operating, x) = absurd x
 
-then_closed_of : (F : ℕ → ℕ → w.Next → Type 0) (k : Next) (d n : ℕ) (c : w.Next) → Reached (l.ThenClosed k) F d n c → At (next_of k) (Any (Closed F d n)) c
+then_closed_of : (F : ℕ → ℕ → w.Lookahead → Type 0) (k : Lookahead) (d n : ℕ) (c : w.Lookahead) → Reached (l.ThenClosed k) F d n c → At (next_of k) (Any (Closed F d n)) c
 then_closed_of F k d n c (Closing, x) = at_in (next_of k) c x.0 (w.closing, x.1)
 then_closed_of F k d n c (Assigning, x) = at_in (next_of k) c x.0 (w.assigning, x.1)
 then_closed_of F k d n c (Listing, x) = at_in (next_of k) c x.0 (w.listing, x.1)
@@ -303,7 +303,7 @@ then_closed_of F k d n c (Going, x) = at_in (next_of k) c x.0 (w.repeating, (w.g
 then_closed_of F k d n c (Repeating, x) = at_in (next_of k) c x.0 (w.repeating, (w.repeating, x.1))
 then_closed_of F k d n c (Operating, x) = at_in (next_of k) c x.0 (w.repeating, (w.operating, x.1))
 
-one_more_missing : (F : ℕ → ℕ → w.Next → Type 0) → Falls F → (k : Next) (d n : ℕ) (c : w.Next) → next_of k ≡ c → Any (F (d + 1) (n + 1)) → Reached (l.ThenMissing k) F d n c
+one_more_missing : (F : ℕ → ℕ → w.Lookahead → Type 0) → Falls F → (k : Lookahead) (d n : ℕ) (c : w.Lookahead) → next_of k ≡ c → Any (F (d + 1) (n + 1)) → Reached (l.ThenMissing k) F d n c
 one_more_missing F f k d n c e (w.closing, x) = (Closing, (e, f d (d + 1) n (n + 1) (omega arith) (omega arith) w.closing x))
 one_more_missing F f k d n c e (w.assigning, x) = (Assigning, (e, f d (d + 1) n (n + 1) (omega arith) (omega arith) w.assigning x))
 one_more_missing F f k d n c e (w.listing, x) = (Listing, (e, f d (d + 1) n (n + 1) (omega arith) (omega arith) w.listing x))
@@ -311,7 +311,7 @@ one_more_missing F f k d n c e (w.going, x) = (Going, (e, x))
 one_more_missing F f k d n c e (w.repeating, x) = (Repeating, (e, x))
 one_more_missing F f k d n c e (w.operating, x) = (Operating, (e, f d (d + 1) n (n + 1) (omega arith) (omega arith) w.operating x))
 
-then_missing_in : (F : ℕ → ℕ → w.Next → Type 0) → Falls F → (k : Next) (d n : ℕ) (c : w.Next) → next_of k ≡ c → Any (Missing F d n) → Reached (l.ThenMissing k) F d n c
+then_missing_in : (F : ℕ → ℕ → w.Lookahead → Type 0) → Falls F → (k : Lookahead) (d n : ℕ) (c : w.Lookahead) → next_of k ≡ c → Any (Missing F d n) → Reached (l.ThenMissing k) F d n c
 then_missing_in F f k d n c e (w.closing, x) = (Closing, (e, x))
 then_missing_in F f k d n c e (w.assigning, x) = (Assigning, (e, x))
 then_missing_in F f k d n c e (w.listing, x) = (Listing, (e, x))
@@ -319,7 +319,7 @@ then_missing_in F f k d n c e (w.going, x) = absurd x
 then_missing_in F f k d n c e (w.repeating, x) = one_more_missing F f k d n c e x
 then_missing_in F f k d n c e (w.operating, x) = (Operating, (e, x))
 
-then_missing_of : (F : ℕ → ℕ → w.Next → Type 0) (k : Next) (d n : ℕ) (c : w.Next) → Reached (l.ThenMissing k) F d n c → At (next_of k) (Any (Missing F d n)) c
+then_missing_of : (F : ℕ → ℕ → w.Lookahead → Type 0) (k : Lookahead) (d n : ℕ) (c : w.Lookahead) → Reached (l.ThenMissing k) F d n c → At (next_of k) (Any (Missing F d n)) c
 then_missing_of F k d n c (Closing, x) = at_in (next_of k) c x.0 (w.closing, x.1)
 then_missing_of F k d n c (Assigning, x) = at_in (next_of k) c x.0 (w.assigning, x.1)
 then_missing_of F k d n c (Listing, x) = at_in (next_of k) c x.0 (w.listing, x.1)
@@ -329,7 +329,7 @@ then_missing_of F k d n c (Operating, x) = at_in (next_of k) c x.0 (w.operating,
 
 -- ---- the test of a link
 
-link_in : (k : Link) (F : ℕ → ℕ → w.Next → Type 0) → Falls F → (d n : ℕ) (c : w.Next) → Led k F d n c → Reached k F d n c
+link_in : (k : Link) (F : ℕ → ℕ → w.Lookahead → Type 0) → Falls F → (d n : ℕ) (c : w.Lookahead) → Led k F d n c → Reached k F d n c
 link_in l.Each F f d n c x = each_in F d n c x
 link_in l.Unlisted F f d n c x = unlisted_in F d n c x
 link_in l.Ended F f d n c x = ended_in F d n c x
@@ -339,7 +339,7 @@ link_in (l.ThenUnlisted k) F f d n c x = let y : (next_of k ≡ c) × Any (Unlis
 link_in (l.ThenClosed k) F f d n c x = let y : (next_of k ≡ c) × Any (Closed F d n) = at_of (next_of k) c x in then_closed_in F f k d n c y.0 y.1
 link_in (l.ThenMissing k) F f d n c x = let y : (next_of k ≡ c) × Any (Missing F d n) = at_of (next_of k) c x in then_missing_in F f k d n c y.0 y.1
 
-link_of : (k : Link) (F : ℕ → ℕ → w.Next → Type 0) (d n : ℕ) (c : w.Next) → Reached k F d n c → Led k F d n c
+link_of : (k : Link) (F : ℕ → ℕ → w.Lookahead → Type 0) (d n : ℕ) (c : w.Lookahead) → Reached k F d n c → Led k F d n c
 link_of l.Each F d n c x = each_of F d n c x
 link_of l.Unlisted F d n c x = unlisted_of F d n c x
 link_of l.Ended F d n c x = ended_of F d n c x
@@ -350,7 +350,7 @@ link_of (l.ThenClosed k) F d n c x = then_closed_of F k d n c x
 link_of (l.ThenMissing k) F d n c x = then_missing_of F k d n c x
 
 -- the test of a link decides what comes behind it, where the depth and the nodes are the same numbers
-pub link_test : (k : Link) (F : ℕ → ℕ → w.Next → Type 0) → Falls F → (t : w.Next → ℕ → ℕ → Bool) → Decided F t → (d e n m : ℕ) (c : w.Next) → d ≡ e → n ≡ m → Led k F d n c ↔ (led_by k t e m c ≡ true)
+pub link_test : (k : Link) (F : ℕ → ℕ → w.Lookahead → Type 0) → Falls F → (t : w.Lookahead → ℕ → ℕ → Bool) → Decided F t → (d e n m : ℕ) (c : w.Lookahead) → d ≡ e → n ≡ m → Led k F d n c ↔ (led_by k t e m c ≡ true)
 link_test k F f t h d e n m c p q =
     let G : ℕ → ℕ → Type 0 = λ a b. Led k F d n c ↔ (led_by k t a b c ≡ true) in
     let g : G d n = (λ x. reached_in k F t h d n c (link_in k F f d n c x), λ x. link_of k F d n c (reached_of k F t h d n c x)) in

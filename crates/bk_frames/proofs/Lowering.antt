@@ -11,7 +11,7 @@ use Rattle.bk_tree.specs.Parts.{size, start_count}
 use Rattle.bk_grammar.specs.Machine.{Stack, in_section, in_block, in_let, in_parens, in_unary, in_binary, in_chain, in_then, in_else, in_args, in_table, in_start, in_dests, in_values, in_guard, in_test, in_result, in_while, in_from, in_to, in_by, in_item, in_function, in_value, in_vector, in_valof, in_label, in_guarded, in_default, in_do, in_or, in_for, in_routine}
 use Rattle.bk_frames.specs.Sizes.{owed}
 use Rattle.bk_frames.specs.Bounds.{AtMost, LevelsAtMost}
-use Rattle.bk_frames.specs.WaysOn.{Next, closing, assigning, listing, going, repeating, operating, Any, AtClosing, AtListing, AtArgument, AtAssignment, Unlisted, AtPart, If, Closed, Missing, Started, Answered, Whole, Guarded, Taken, Gives, Does, Operates, Defines, Declares}
+use Rattle.bk_frames.specs.Completing.{Lookahead, closing, assigning, listing, going, repeating, operating, Any, AtClosing, AtListing, AtArgument, AtAssignment, Unlisted, AtPart, If, Closed, Missing, Started, Answered, Whole, Guarded, Taken, Gives, Does, Operates, Defines, Declares}
 
 -- a smaller section has the property too
 abbrev pub Down : (ℕ → ℕ → Type 0) → Type 0
@@ -23,10 +23,10 @@ at_most_down levels most d e n m i j h = let p = h.0 in let q = h.1 in (omega (a
 pub levels_down : (levels : ℕ) → Down (LevelsAtMost levels)
 levels_down levels d e n m i j h = omega (arith, i, h)
 
-abbrev pub Falls : (ℕ → ℕ → Next → Type 0) → Type 0
-Falls F = (d e n m : ℕ) → d ≤ e → n ≤ m → (c : Next) → F e m c → F d n c
+abbrev pub Falls : (ℕ → ℕ → Lookahead → Type 0) → Type 0
+Falls F = (d e n m : ℕ) → d ≤ e → n ≤ m → (c : Lookahead) → F e m c → F d n c
 
-pub at_closing : {X Y : Type 0} → (X → Y) → (c : Next) → AtClosing X c → AtClosing Y c
+pub at_closing : {X Y : Type 0} → (X → Y) → (c : Lookahead) → AtClosing X c → AtClosing Y c
 at_closing f closing h = f h
 at_closing f assigning h = h
 at_closing f listing h = h
@@ -34,7 +34,7 @@ at_closing f going h = h
 at_closing f operating h = h
 at_closing f repeating h = h
 
-pub at_listing : {X Y : Type 0} → (X → Y) → (c : Next) → AtListing X c → AtListing Y c
+pub at_listing : {X Y : Type 0} → (X → Y) → (c : Lookahead) → AtListing X c → AtListing Y c
 at_listing f listing h = f h
 at_listing f closing h = h
 at_listing f assigning h = h
@@ -42,7 +42,7 @@ at_listing f going h = h
 at_listing f operating h = h
 at_listing f repeating h = h
 
-pub at_argument : {X Y A B : Type 0} → (X → Y) → (A → B) → (c : Next) → AtArgument X A c → AtArgument Y B c
+pub at_argument : {X Y A B : Type 0} → (X → Y) → (A → B) → (c : Lookahead) → AtArgument X A c → AtArgument Y B c
 at_argument f k closing h = f h
 at_argument f k listing h = k h
 at_argument f k assigning h = h
@@ -50,7 +50,7 @@ at_argument f k going h = h
 at_argument f k operating h = h
 at_argument f k repeating h = h
 
-pub at_assignment : {X Y A B : Type 0} → (X → Y) → (A → B) → (c : Next) → AtAssignment X A c → AtAssignment Y B c
+pub at_assignment : {X Y A B : Type 0} → (X → Y) → (A → B) → (c : Lookahead) → AtAssignment X A c → AtAssignment Y B c
 at_assignment f k assigning h = f h
 at_assignment f k listing h = k h
 at_assignment f k closing h = h
@@ -58,10 +58,10 @@ at_assignment f k going h = h
 at_assignment f k operating h = h
 at_assignment f k repeating h = h
 
-pub any : {F G : Next → Type 0} → ((c : Next) → F c → G c) → Any F → Any G
+pub any : {F G : Lookahead → Type 0} → ((c : Lookahead) → F c → G c) → Any F → Any G
 any f h = (h.0, f h.0 h.1)
 
-pub unlisted : {F G : Next → Type 0} → ((c : Next) → F c → G c) → (c : Next) → Unlisted F c → Unlisted G c
+pub unlisted : {F G : Lookahead → Type 0} → ((c : Lookahead) → F c → G c) → (c : Lookahead) → Unlisted F c → Unlisted G c
 unlisted f listing h = h
 unlisted f closing h = f closing h
 unlisted f assigning h = f assigning h
@@ -69,7 +69,7 @@ unlisted f going h = f going h
 unlisted f operating h = f operating h
 unlisted f repeating h = f repeating h
 
-pub at_part : {F G A B : Next → Type 0} → ((c : Next) → F c → G c) → ((c : Next) → A c → B c) → (c : Next) → AtPart F A c → AtPart G B c
+pub at_part : {F G A B : Lookahead → Type 0} → ((c : Lookahead) → F c → G c) → ((c : Lookahead) → A c → B c) → (c : Lookahead) → AtPart F A c → AtPart G B c
 at_part f k listing h = any (unlisted k) h
 at_part f k closing h = f closing h
 at_part f k assigning h = f assigning h
@@ -77,11 +77,11 @@ at_part f k going h = f going h
 at_part f k operating h = f operating h
 at_part f k repeating h = f repeating h
 
-pub either : {F G A B : Next → Type 0} → (b : Bool) → ((c : Next) → F c → G c) → ((c : Next) → A c → B c) → (c : Next) → If b F A c → If b G B c
+pub either : {F G A B : Lookahead → Type 0} → (b : Bool) → ((c : Lookahead) → F c → G c) → ((c : Lookahead) → A c → B c) → (c : Lookahead) → If b F A c → If b G B c
 either true f k c h = f c h
 either false f k c h = k c h
 
-pub closed_falls : (F : ℕ → ℕ → Next → Type 0) → Falls F → Falls (Closed F)
+pub closed_falls : (F : ℕ → ℕ → Lookahead → Type 0) → Falls F → Falls (Closed F)
 closed_falls F f d e n m p q closing h = f d e n m p q closing h
 closed_falls F f d e n m p q assigning h = f d e n m p q assigning h
 closed_falls F f d e n m p q listing h = f d e n m p q listing h
@@ -89,7 +89,7 @@ closed_falls F f d e n m p q going h = h
 closed_falls F f d e n m p q operating h = h
 closed_falls F f d e n m p q repeating h = any (f (d + 1) (e + 1) (n + 1) (m + 1) (omega (arith, p)) (omega (arith, q))) h
 
-pub missing_falls : (F : ℕ → ℕ → Next → Type 0) → Falls F → Falls (Missing F)
+pub missing_falls : (F : ℕ → ℕ → Lookahead → Type 0) → Falls F → Falls (Missing F)
 missing_falls F f d e n m p q closing h = f d e n m p q closing h
 missing_falls F f d e n m p q assigning h = f d e n m p q assigning h
 missing_falls F f d e n m p q listing h = f d e n m p q listing h
@@ -97,16 +97,16 @@ missing_falls F f d e n m p q going h = h
 missing_falls F f d e n m p q operating h = f d e n m p q operating h
 missing_falls F f d e n m p q repeating h = any (f (d + 1) (e + 1) (n + 1) (m + 1) (omega (arith, p)) (omega (arith, q))) h
 
-pub any_falls : (F : ℕ → ℕ → Next → Type 0) → Falls F → (d e n m : ℕ) → d ≤ e → n ≤ m → Any (F e m) → Any (F d n)
+pub any_falls : (F : ℕ → ℕ → Lookahead → Type 0) → Falls F → (d e n m : ℕ) → d ≤ e → n ≤ m → Any (F e m) → Any (F d n)
 any_falls F f d e n m p q h = any (f d e n m p q) h
 
-pub any_missing : (F : ℕ → ℕ → Next → Type 0) → Falls F → (d e n m : ℕ) → d ≤ e → n ≤ m → Any (Missing F e m) → Any (Missing F d n)
+pub any_missing : (F : ℕ → ℕ → Lookahead → Type 0) → Falls F → (d e n m : ℕ) → d ≤ e → n ≤ m → Any (Missing F e m) → Any (Missing F d n)
 any_missing F f d e n m p q h = any (missing_falls F f d e n m p q) h
 
-pub any_closed : (F : ℕ → ℕ → Next → Type 0) → Falls F → (d e n m : ℕ) → d ≤ e → n ≤ m → Any (Closed F e m) → Any (Closed F d n)
+pub any_closed : (F : ℕ → ℕ → Lookahead → Type 0) → Falls F → (d e n m : ℕ) → d ≤ e → n ≤ m → Any (Closed F e m) → Any (Closed F d n)
 any_closed F f d e n m p q h = any (closed_falls F f d e n m p q) h
 
-started_falls : (F : ℕ → ℕ → Next → Type 0) → Falls F → (f : Form) → Falls (Started F f)
+started_falls : (F : ℕ → ℕ → Lookahead → Type 0) → Falls F → (f : Form) → Falls (Started F f)
 started_falls F k f d e n m p q assigning h = any_closed F k (max d 1 + 1) (max e 1 + 1) (n + 2) (m + 2) (omega (arith, p)) (omega (arith, q)) h
 started_falls F k f d e n m p q listing h = any_closed F k (max d 1 + 1) (max e 1 + 1) (n + 4) (m + 4) (omega (arith, p)) (omega (arith, q)) h
 started_falls F k Label d e n m p q closing h = h
@@ -126,7 +126,7 @@ started_falls F k Other d e n m p q going h = h
 started_falls F k Other d e n m p q operating h = h
 started_falls F k Other d e n m p q repeating h = h
 
-answered_falls : (G : Form → ℕ → ℕ → Next → Type 0) → ((f : Form) → Falls (G f)) → (H : ℕ → ℕ → Type 0) → Down H → Falls (Answered G H)
+answered_falls : (G : Form → ℕ → ℕ → Lookahead → Type 0) → ((f : Form) → Falls (G f)) → (H : ℕ → ℕ → Type 0) → Down H → Falls (Answered G H)
 answered_falls G k H j d e n m p q going h = any (k Call (d + 2) (e + 2) (n + 2) (m + 2) (omega (arith, p)) (omega (arith, q))) h
 answered_falls G k H j d e n m p q operating h = j (d + 1) (e + 1) (n + 1) (m + 1) (omega (arith, p)) (omega (arith, q)) h
 answered_falls G k H j d e n m p q repeating h = h
@@ -134,7 +134,7 @@ answered_falls G k H j d e n m p q closing h = k Callable (d + 1) (e + 1) (n + 1
 answered_falls G k H j d e n m p q assigning h = k Callable (d + 1) (e + 1) (n + 1) (m + 1) (omega (arith, p)) (omega (arith, q)) assigning h
 answered_falls G k H j d e n m p q listing h = k Callable (d + 1) (e + 1) (n + 1) (m + 1) (omega (arith, p)) (omega (arith, q)) listing h
 
-pub whole_falls : (G : Form → ℕ → ℕ → Next → Type 0) → ((f : Form) → Falls (G f)) → (f : Form) → (d e n m : ℕ) → d ≤ e → n ≤ m → Whole G f e m → Whole G f d n
+pub whole_falls : (G : Form → ℕ → ℕ → Lookahead → Type 0) → ((f : Form) → Falls (G f)) → (f : Form) → (d e n m : ℕ) → d ≤ e → n ≤ m → Whole G f e m → Whole G f d n
 whole_falls G k f d e n m p q (inl h) = inl (any (k f d e n m p q) h)
 whole_falls G k f d e n m p q (inr h) = inr (any (k Call (d + 1) (e + 1) (n + 1) (m + 1) (omega (arith, p)) (omega (arith, q))) h)
 
@@ -142,7 +142,7 @@ taken : {X Y A B : Type 0} → (b : Bool) → (X → Y) → (A → B) → Taken 
 taken true f k h = f h
 taken false f k h = k h
 
-guarded_falls : (gd : Guard) (F : ℕ → ℕ → Next → Type 0) → Falls F → (d e n m : ℕ) → d ≤ e → n ≤ m → Guarded gd F e m → Guarded gd F d n
+guarded_falls : (gd : Guard) (F : ℕ → ℕ → Lookahead → Type 0) → Falls F → (d e n m : ℕ) → d ≤ e → n ≤ m → Guarded gd F e m → Guarded gd F d n
 guarded_falls g.Case F k d e n m p q (inl h) = inl (any_missing F k (d + 1) (e + 1) (n + 1) (m + 1) (omega (arith, p)) (omega (arith, q)) h)
 guarded_falls g.Case F k d e n m p q (inr h) = inr (any_falls F k (max d 1 + 1) (max e 1 + 1) (n + 2) (m + 2) (omega (arith, p)) (omega (arith, q)) h)
 guarded_falls _ F k d e n m p q h = any_falls F k (max d 1 + 1) (max e 1 + 1) (n + 2) (m + 2) (omega (arith, p)) (omega (arith, q)) h

@@ -11,16 +11,16 @@ use Rattle.bk_tree.specs.Limits.{depth_of_each, nodes_of_each}
 use Rattle.bk_tree.specs.Parts.{size, start_count}
 use Rattle.bk_grammar.specs.Machine.{Stack, in_section, in_block, in_let, at_name, at_formals, at_formal, at_formal_end, at_head, at_variable, at_variable_end, at_starts, at_opening, at_items, at_sign, at_goto, at_for, at_forward, at_default, in_parens, in_unary, in_binary, in_chain, in_then, in_else, in_args, in_table, in_start, in_dests, in_values, in_guard, in_test, in_result, in_while, in_from, in_to, in_by, in_item, in_function, in_value, in_vector, in_valof, in_label, in_guarded, in_default, in_do, in_or, in_for, in_routine, State, want, have, begin, maybe, did, due, bars}
 use Rattle.bk_frames.specs.Bounds.{Always}
-use Rattle.bk_frames.specs.WaysOn.{Next, closing, assigning, listing, going, repeating, operating, Any, AtListing, Unlisted, AtPart, If, Guarded, Gives, Does, Defines, Declares, Wants, Due, Completes}
+use Rattle.bk_frames.specs.Completing.{Lookahead, closing, assigning, listing, going, repeating, operating, Any, AtListing, Unlisted, AtPart, If, Guarded, Gives, Does, Defines, Declares, Wants, Due, Completes}
 use Rattle.bk_grammar.proofs.Fits.{ForExpression, ForCommand, ForDefinition, ForDeclaration, ForSymbol, Fits}
 use Rattle.bk_frames.proofs.Lowering.{unlisted}
 
 -- behind an expression a comma is owed, or something else may come
-abbrev GoesOn : Bool → (Next → Type 0) → Type 0
+abbrev GoesOn : Bool → (Lookahead → Type 0) → Type 0
 GoesOn true F = F listing
 GoesOn false F = Any (Unlisted F)
 
-unlisted_any : (F : Next → Type 0) → Any (Unlisted F) → Any F
+unlisted_any : (F : Lookahead → Type 0) → Any (Unlisted F) → Any F
 unlisted_any F (closing, h) = (closing, h)
 unlisted_any F (assigning, h) = (assigning, h)
 unlisted_any F (listing, h) = absurd h
@@ -28,17 +28,17 @@ unlisted_any F (going, h) = (going, h)
 unlisted_any F (repeating, h) = (repeating, h)
 unlisted_any F (operating, h) = (operating, h)
 
-any_of : (b : Bool) (F : Next → Type 0) → GoesOn b F → Any F
+any_of : (b : Bool) (F : Lookahead → Type 0) → GoesOn b F → Any F
 any_of true F h = (listing, h)
 any_of false F h = unlisted_any F h
 
 -- the same under another name
-same : (b : Bool) (F G : Next → Type 0) → ((c : Next) → F c → G c) → GoesOn b F → GoesOn b G
+same : (b : Bool) (F G : Lookahead → Type 0) → ((c : Lookahead) → F c → G c) → GoesOn b F → GoesOn b G
 same true F G f h = f listing h
 same false F G f h = (h.0, unlisted f h.0 h.1)
 
 -- a TABLE takes the comma
-table_goes : (F G : Next → Type 0) → Any (Unlisted F) → Any (Unlisted (AtPart F G))
+table_goes : (F G : Lookahead → Type 0) → Any (Unlisted F) → Any (Unlisted (AtPart F G))
 table_goes F G (closing, h) = (closing, h)
 table_goes F G (assigning, h) = (assigning, h)
 table_goes F G (listing, h) = absurd h
@@ -47,7 +47,7 @@ table_goes F G (repeating, h) = (repeating, h)
 table_goes F G (operating, h) = (operating, h)
 
 -- the last value, or a comma
-list_goes : (w b : Bool) (F : Next → Type 0) (X : Type 0) → (b ≡ true → w ≡ false) → (b ≡ false → w ≡ true) → Any (Unlisted F) → X → GoesOn w (If b F (AtListing X))
+list_goes : (w b : Bool) (F : Lookahead → Type 0) (X : Type 0) → (b ≡ true → w ≡ false) → (b ≡ false → w ≡ true) → Any (Unlisted F) → X → GoesOn w (If b F (AtListing X))
 list_goes w true F X h j one further = let P : Bool → Type 0 = λ z. GoesOn z (If true F (AtListing X)) in subst P (sym (h refl)) (one.0, unlisted {F = F} (λ c z. z) one.0 one.1)
 list_goes w false F X h j one further = let P : Bool → Type 0 = λ z. GoesOn z (If false F (AtListing X)) in subst P (sym (j refl)) further
 
@@ -58,7 +58,7 @@ not_last : (all done : ℕ) → done < all → (all == done + 1) ≡ false → n
 not_last all done lt h = grind (arith, nat_tests, lt, h)
 
 -- behind the sign of a guard
-guarded : (k : Guard) (F : ℕ → ℕ → Next → Type 0) → ((d n : ℕ) → Any (F d n)) → (d n : ℕ) → Guarded k F d n
+guarded : (k : Guard) (F : ℕ → ℕ → Lookahead → Type 0) → ((d n : ℕ) → Any (F d n)) → (d n : ℕ) → Guarded k F d n
 guarded g.Case F f d n = inr (f (max d 1 + 1) (n + 2))
 guarded _ F f d n = f (max d 1 + 1) (n + 2)
 
@@ -72,7 +72,7 @@ mutual
   gives (in_else s x a st) os h f d n = same (bars st) _ _ (λ c z. z) (gives st os h Other _ _)
   gives (in_args s x es st) os h f d n = (closing, inl (any_of (bars st) _ (gives st os h Call _ _)))
   gives (in_table l es st) os h f d n =
-      let F : Next → Type 0 = Gives Always st Other (max (depth_of_each es) d + 1) (nodes_of_each es + n + 1) in
+      let F : Lookahead → Type 0 = Gives Always st Other (max (depth_of_each es) d + 1) (nodes_of_each es + n + 1) in
       let P : Bool → Type 0 = λ b. GoesOn b F in
       table_goes F (Gives Always st Other (max (depth_of_each es) (max d 1) + 1) (nodes_of_each es + n + 2)) (subst P h.0 (gives st os h.1 Other (max (depth_of_each es) d + 1) (nodes_of_each es + n + 1)))
   gives (in_start st) os h f d n = (assigning, (repeating, unlisted_any _ (does st os h _ _)))

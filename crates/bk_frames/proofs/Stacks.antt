@@ -9,18 +9,18 @@ use Rattle.bk_frames.specs.declared.frame.Frame.{Frame}
 use Rattle.bk_tree.specs.declared.tree.Decl.{Decl}
 use Rattle.bk_tree.specs.Tree.{declarations_in}
 use Rattle.bk_grammar.specs.Machine.{Stack, in_section}
-use Rattle.bk_frames.specs.Begun.{begun_on}
+use Rattle.bk_frames.specs.Unfinished.{unfinished_on}
 use Rattle.bk_frames.specs.declared.frame.Size.{Size}
-use Rattle.bk_frames.specs.declared.room.FrameRooms.{FrameRooms}
+use Rattle.bk_frames.specs.declared.budget.FrameBudgets.{FrameBudgets}
 use Rattle.bk_frames.specs.Spares.{Leaves}
-use Rattle.bk_frames.specs.Stacked.{above, stack, spare_under, spare_below, Spared, Roomy}
-use Rattle.bk_frames.specs.Rooms.{AreRooms}
+use Rattle.bk_frames.specs.Stacked.{above, stack, spare_under, spare_below, Spared, Ample}
+use Rattle.bk_frames.specs.Budgets.{AreBudgets}
 
-above_push : (st : Stack) (xs : List Frame) (x : Frame) → above st (xs ++ x ∷ []) ≡ begun_on x.begun (above st xs)
+above_push : (st : Stack) (xs : List Frame) (x : Frame) → above st (xs ++ x ∷ []) ≡ unfinished_on x.unfinished (above st xs)
 above_push st [] x = refl
-above_push st (y ∷ xs) x = above_push (begun_on y.begun st) xs x
+above_push st (y ∷ xs) x = above_push (unfinished_on y.unfinished st) xs x
 
-pub stack_push : (ds : List Decl) (xs : List Frame) (x : Frame) → stack ds (xs ++ x ∷ []) ≡ begun_on x.begun (stack ds xs)
+pub stack_push : (ds : List Decl) (xs : List Frame) (x : Frame) → stack ds (xs ++ x ∷ []) ≡ unfinished_on x.unfinished (stack ds xs)
 unfolding stack
 stack_push ds xs x = above_push (in_section (declarations_in ds)) xs x
 
@@ -31,14 +31,14 @@ stack_none ds = refl
 pub ruleset frames_laws = (stack_push, stack_none)
 
 -- one frame more of those below
-pub stack_take : (ds : List Decl) (xs : List Frame) (i : ℕ) (x : Frame) → i < length xs → x ≡ get_or xs i x → stack ds (take (i + 1) xs) ≡ begun_on x.begun (stack ds (take i xs))
+pub stack_take : (ds : List Decl) (xs : List Frame) (i : ℕ) (x : Frame) → i < length xs → x ≡ get_or xs i x → stack ds (take (i + 1) xs) ≡ unfinished_on x.unfinished (stack ds (take i xs))
 stack_take ds xs i x lt is = ap (stack ds) (take_more xs i x lt ∙ ap (λ y. take i xs ++ y ∷ []) (sym is)) ∙ stack_push ds (take i xs) x
 
 -- ---- what is spare
 
-spared_push : (s : Size) (xs : List Frame) (w : Frame) → Spared s xs → Leaves (spare_under s xs) w.begun w.spare → Spared s (xs ++ w ∷ [])
+spared_push : (s : Size) (xs : List Frame) (w : Frame) → Spared s xs → Leaves (spare_under s xs) w.unfinished w.spare → Spared s (xs ++ w ∷ [])
 unfolding spare_under spare_below
-spared_push s [] w h g zero x is = let P : Frame → Type 0 = λ y. Leaves s y.begun y.spare in let e : w ≡ x = cc in subst P e g
+spared_push s [] w h g zero x is = let P : Frame → Type 0 = λ y. Leaves s y.unfinished y.spare in let e : w ≡ x = cc in subst P e g
 spared_push s [] w h g (suc i) x is = absurd cc
 spared_push s (y ∷ ys) w h g zero x is = h zero x is
 spared_push s (y ∷ ys) w h g (suc i) x is = spared_push y.spare ys w (λ j z. h (suc j) z) g i x is
@@ -49,7 +49,7 @@ spared_pop s [] w h i x is = absurd cc
 spared_pop s (y ∷ ys) w h zero x is = h zero x is
 spared_pop s (y ∷ ys) w h (suc i) x is = spared_pop y.spare ys w (λ j z. h (suc j) z) i x is
 
-pub spared_pushed : (ok : Bool) (s : Size) (xs zs : List Frame) (w : Frame) → zs ≡ (if ok then xs ++ w ∷ [] else xs) → Spared s xs → Leaves (spare_under s xs) w.begun w.spare → Spared s zs
+pub spared_pushed : (ok : Bool) (s : Size) (xs zs : List Frame) (w : Frame) → zs ≡ (if ok then xs ++ w ∷ [] else xs) → Spared s xs → Leaves (spare_under s xs) w.unfinished w.spare → Spared s zs
 spared_pushed true s xs zs w is h g = let P : List Frame → Type 0 = λ z. Spared s z in subst P (sym is) (spared_push s xs w h g)
 spared_pushed false s xs zs w is h g = let P : List Frame → Type 0 = λ z. Spared s z in subst P (sym is) h
 
@@ -73,11 +73,11 @@ last_within ys w = let e = length-append ys (w ∷ []) in omega (arith, e)
 below_or_at : (i n : ℕ) → i < n + 1 → (i < n) ⊎ (i ≡ n)
 below_or_at i n lt = grind (arith, lt)
 
-rooms_in_push : (ds : List Decl) (xs : List Frame) (w : Frame) (rs : List FrameRooms) → Roomy ds xs rs
-    → ((r : FrameRooms) → slice_get rs (length xs) ≡ Some r → AreRooms true (begun_on w.begun (stack ds xs)) r.rooms.items) → Roomy ds (xs ++ w ∷ []) rs
-rooms_in_push ds xs w rs h g i r at lt =
+budgets_in_push : (ds : List Decl) (xs : List Frame) (w : Frame) (rs : List FrameBudgets) → Ample ds xs rs
+    → ((r : FrameBudgets) → slice_get rs (length xs) ≡ Some r → AreBudgets true (unfinished_on w.unfinished (stack ds xs)) r.budgets.items) → Ample ds (xs ++ w ∷ []) rs
+budgets_in_push ds xs w rs h g i r at lt =
     let n = length-append xs (w ∷ []) in
-    let P : Stack → Type 0 = λ z. AreRooms true z r.rooms.items in
+    let P : Stack → Type 0 = λ z. AreBudgets true z r.budgets.items in
     elim (below_or_at i (length xs) (omega (arith, lt, n))) [
       | inl a ↦ subst P (ap (stack ds) (sym (take-append-le (i + 1) xs (w ∷ []) (omega (arith, a))))) (h i r at a)
       | inr a ↦
@@ -85,33 +85,33 @@ rooms_in_push ds xs w rs h g i r at lt =
           subst P (sym (ap (stack ds) e ∙ stack_push ds xs w)) (g r (ap (slice_get rs) (sym a) ∙ at))
     ]
 
-pub rooms_pushed : (ok : Bool) (ds : List Decl) (xs zs : List Frame) (w : Frame) (rs : List FrameRooms) → zs ≡ (if ok then xs ++ w ∷ [] else xs) → Roomy ds xs rs
-    → ((r : FrameRooms) → slice_get rs (length xs) ≡ Some r → AreRooms true (begun_on w.begun (stack ds xs)) r.rooms.items) → Roomy ds zs rs
-rooms_pushed true ds xs zs w rs is h g = let P : List Frame → Type 0 = λ z. Roomy ds z rs in subst P (sym is) (rooms_in_push ds xs w rs h g)
-rooms_pushed false ds xs zs w rs is h g = let P : List Frame → Type 0 = λ z. Roomy ds z rs in subst P (sym is) h
+pub budgets_pushed : (ok : Bool) (ds : List Decl) (xs zs : List Frame) (w : Frame) (rs : List FrameBudgets) → zs ≡ (if ok then xs ++ w ∷ [] else xs) → Ample ds xs rs
+    → ((r : FrameBudgets) → slice_get rs (length xs) ≡ Some r → AreBudgets true (unfinished_on w.unfinished (stack ds xs)) r.budgets.items) → Ample ds zs rs
+budgets_pushed true ds xs zs w rs is h g = let P : List Frame → Type 0 = λ z. Ample ds z rs in subst P (sym is) (budgets_in_push ds xs w rs h g)
+budgets_pushed false ds xs zs w rs is h g = let P : List Frame → Type 0 = λ z. Ample ds z rs in subst P (sym is) h
 
-pub rooms_popped : (r : Option Frame) (ds : List Decl) (xs ys : List Frame) (rs : List FrameRooms) → xs ≡ ys ++ option_to_list r → Roomy ds xs rs → Roomy ds ys rs
-rooms_popped r ds xs ys rs is h i x at lt =
-    let P : Stack → Type 0 = λ z. AreRooms true z x.rooms.items in
+pub budgets_popped : (r : Option Frame) (ds : List Decl) (xs ys : List Frame) (rs : List FrameBudgets) → xs ≡ ys ++ option_to_list r → Ample ds xs rs → Ample ds ys rs
+budgets_popped r ds xs ys rs is h i x at lt =
+    let P : Stack → Type 0 = λ z. AreBudgets true z x.budgets.items in
     let e : take (i + 1) xs ≡ take (i + 1) ys = ap (take (i + 1)) is ∙ take-append-le (i + 1) ys (option_to_list r) (omega (arith, lt)) in
     subst P (ap (stack ds) e) (h i x at (rw is (within_append ys (option_to_list r) i lt)))
 
 -- those of what was taken away
-rooms_of_popped : (ds : List Decl) (xs ys : List Frame) (w : Frame) (rs : List FrameRooms) → xs ≡ ys ++ w ∷ [] → Roomy ds xs rs
-    → (r : FrameRooms) → slice_get rs (length ys) ≡ Some r → AreRooms true (begun_on w.begun (stack ds ys)) r.rooms.items
-rooms_of_popped ds xs ys w rs is h r at =
-    let P : Stack → Type 0 = λ z. AreRooms true z r.rooms.items in
+budgets_of_popped : (ds : List Decl) (xs ys : List Frame) (w : Frame) (rs : List FrameBudgets) → xs ≡ ys ++ w ∷ [] → Ample ds xs rs
+    → (r : FrameBudgets) → slice_get rs (length ys) ≡ Some r → AreBudgets true (unfinished_on w.unfinished (stack ds ys)) r.budgets.items
+budgets_of_popped ds xs ys w rs is h r at =
+    let P : Stack → Type 0 = λ z. AreBudgets true z r.budgets.items in
     let e : take (length ys + 1) xs ≡ ys ++ w ∷ [] = ap (take (length ys + 1)) is ∙ take-append-add ys (w ∷ []) 1 in
     subst P (ap (stack ds) e ∙ stack_push ds ys w) (h (length ys) r at (rw is (last_within ys w)))
 
-pub popped_rooms : (w : Option Frame) (ds : List Decl) (xs ys : List Frame) (rs : List FrameRooms) → xs ≡ ys ++ option_to_list w → Roomy ds xs rs
-    → MatchOption w (Unit {0}) (λ x. (r : FrameRooms) → slice_get rs (length ys) ≡ Some r → AreRooms true (begun_on x.begun (stack ds ys)) r.rooms.items)
-popped_rooms None ds xs ys rs is h = tt
-popped_rooms (Some w) ds xs ys rs is h = rooms_of_popped ds xs ys w rs is h
+pub popped_budgets : (w : Option Frame) (ds : List Decl) (xs ys : List Frame) (rs : List FrameBudgets) → xs ≡ ys ++ option_to_list w → Ample ds xs rs
+    → MatchOption w (Unit {0}) (λ x. (r : FrameBudgets) → slice_get rs (length ys) ≡ Some r → AreBudgets true (unfinished_on x.unfinished (stack ds ys)) r.budgets.items)
+popped_budgets None ds xs ys rs is h = tt
+popped_budgets (Some w) ds xs ys rs is h = budgets_of_popped ds xs ys w rs is h
 
 -- ---- the top
 
-pub last_on : (ds : List Decl) (xs : List Frame) (x : Frame) → Some x ≡ slice_get xs (length xs - 1) → stack ds xs ≡ begun_on x.begun (stack ds (take (length xs - 1) xs))
+pub last_on : (ds : List Decl) (xs : List Frame) (x : Frame) → Some x ≡ slice_get xs (length xs - 1) → stack ds xs ≡ unfinished_on x.unfinished (stack ds (take (length xs - 1) xs))
 last_on ds xs x is =
     let i = length xs - 1 in
     let lt : i < length xs = slice_get_within xs i x (sym is) in
@@ -147,16 +147,16 @@ take_none (x ∷ xs) = refl
 pub stack_first : (ds : List Decl) (xs : List Frame) (n : ℕ) → n ≡ 0 → stack ds (take n xs) ≡ in_section (declarations_in ds)
 stack_first ds xs n is = ap (λ i. stack ds (take i xs)) is ∙ ap (stack ds) (take_none xs) ∙ stack_none ds
 
-pub rooms_at : (ds : List Decl) (xs : List Frame) (rs : List FrameRooms) (i n : ℕ) (r : FrameRooms) → r ≡ get_or rs i r → i < length rs → i < length xs → n ≡ i + 1 → Roomy ds xs rs → AreRooms true (stack ds (take n xs)) r.rooms.items
-rooms_at ds xs rs i n r at lt within is h =
-    let P : ℕ → Type 0 = λ j. AreRooms true (stack ds (take j xs)) r.rooms.items in
+pub budgets_at : (ds : List Decl) (xs : List Frame) (rs : List FrameBudgets) (i n : ℕ) (r : FrameBudgets) → r ≡ get_or rs i r → i < length rs → i < length xs → n ≡ i + 1 → Ample ds xs rs → AreBudgets true (stack ds (take n xs)) r.budgets.items
+budgets_at ds xs rs i n r at lt within is h =
+    let P : ℕ → Type 0 = λ j. AreBudgets true (stack ds (take j xs)) r.budgets.items in
     subst P (sym is) (h i r (slice_get_read rs (length rs) i r refl lt at) within)
 
 -- and those of the last of them all
-pub rooms_last : (ds : List Decl) (xs : List Frame) (rs : List FrameRooms) (n : ℕ) (r : FrameRooms) → n ≡ length xs → r ≡ get_or rs (n - 1) r → 0 < n → length xs ≤ length rs → Roomy ds xs rs → AreRooms true (stack ds xs) r.rooms.items
-rooms_last ds xs rs n r is at some lt h =
-    let P : List Frame → Type 0 = λ z. AreRooms true (stack ds z) r.rooms.items in
-    subst P (ap (λ i. take i xs) is ∙ take-length xs) (rooms_at ds xs rs (n - 1) n r at (omega arith) (omega arith) (omega arith) h)
+pub budgets_last : (ds : List Decl) (xs : List Frame) (rs : List FrameBudgets) (n : ℕ) (r : FrameBudgets) → n ≡ length xs → r ≡ get_or rs (n - 1) r → 0 < n → length xs ≤ length rs → Ample ds xs rs → AreBudgets true (stack ds xs) r.budgets.items
+budgets_last ds xs rs n r is at some lt h =
+    let P : List Frame → Type 0 = λ z. AreBudgets true (stack ds z) r.budgets.items in
+    subst P (ap (λ i. take i xs) is ∙ take-length xs) (budgets_at ds xs rs (n - 1) n r at (omega arith) (omega arith) (omega arith) h)
 
 pub stack_of_none : (ds : List Decl) (xs : List Frame) (n : ℕ) → n ≡ length xs → n ≡ 0 → stack ds xs ≡ in_section (declarations_in ds)
 stack_of_none ds [] n is zeroed = stack_none ds

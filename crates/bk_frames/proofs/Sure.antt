@@ -6,16 +6,16 @@ use Rattle.bk_grammar.specs.declared.symbols.Guard.TheVariants as g
 use Rattle.bk_frames.specs.declared.frame.Size.{Size}
 use Rattle.bk_frames.specs.declared.frame.Frame.{Frame}
 use Rattle.bk_tree.specs.declared.tree.Decl.{Decl}
-use Rattle.bk_frames.specs.declared.frame.Operand.TheVariants as o
+use Rattle.bk_frames.specs.declared.frame.OpenExpression.TheVariants as o
 use Rattle.bk_frames.specs.declared.frame.Phrase.TheVariants as p
 use Rattle.bk_frames.specs.declared.frame.Member.TheVariants as member
 use Rattle.bk_frames.specs.declared.frame.Clause.TheVariants as c
 use Rattle.bk_frames.specs.declared.frame.Place.TheVariants as a
 use Rattle.bk_frames.specs.declared.frame.Point.TheVariants as t
-use Rattle.bk_frames.specs.declared.frame.Begun.{Begun}
-use Rattle.bk_frames.specs.declared.frame.Begun.TheVariants as b
-use Rattle.bk_frames.specs.declared.frame.Now.{Now}
-use Rattle.bk_frames.specs.declared.frame.Now.TheVariants as n
+use Rattle.bk_frames.specs.declared.frame.Unfinished.{Unfinished}
+use Rattle.bk_frames.specs.declared.frame.Unfinished.TheVariants as b
+use Rattle.bk_frames.specs.declared.frame.ParserState.{ParserState}
+use Rattle.bk_frames.specs.declared.frame.ParserState.TheVariants as n
 use Rattle.bk_frames.specs.declared.size.Form.{Form}
 use Rattle.bk_frames.specs.declared.size.Form.TheVariants.{Label, Call, Callable, Other}
 use Rattle.bk_tree.specs.Tree.{Expression, Expressions, Items, Declarations, no_items, item, none, more, mention, expression, expressions_in, step_in, action, actions_in, declarations_in, items_in, definitions_in, starts_in}
@@ -25,28 +25,28 @@ use Rattle.std.proofs.lemmas.Bool.Decides.{nat_tests}
 use Rattle.bk_grammar.specs.Rows.{inner}
 use Rattle.bk_tree.specs.Parts.{size, start_count}
 use Rattle.bk_grammar.specs.Machine.{Stack, in_section, in_args}
-use Rattle.bk_frames.specs.Begun.{begun_on}
+use Rattle.bk_frames.specs.Unfinished.{unfinished_on}
 use Rattle.bk_frames.specs.Sizes.{kept, owed, form_of, size_of_declarations, held_depth, held_nodes}
 use Rattle.bk_frames.specs.Bounds.{Always}
-use Rattle.bk_frames.specs.Rooms.{Limit}
+use Rattle.bk_frames.specs.Budgets.{Limit}
 use Rattle.bk_frames.specs.Spares.{owes, alone, spare_of_section, Leaves, IsSmall}
 use Rattle.bk_frames.specs.Stacked.{above, stack, spare_under, spare_below, Spared}
 use Rattle.bk_frames.specs.Frames.{state, part_of}
-use Rattle.bk_frames.specs.WaysOn.{Next, closing, assigning, listing, going, repeating, operating, Closed, Missing, Started, Whole, Guarded, Taken, Gives, Does, Operates, Defines, Declares, Wants, Misses, Lists, Due, Completes}
+use Rattle.bk_frames.specs.Completing.{Lookahead, closing, assigning, listing, going, repeating, operating, Closed, Missing, Started, Whole, Guarded, Taken, Gives, Does, Operates, Defines, Declares, Wants, Misses, Lists, Due, Completes}
 use Rattle.bk_frames.proofs.Lowering.{at_closing, at_listing, at_argument, at_assignment, any, at_part, either}
 
-abbrev Ways : Type 1
-Ways = ℕ → ℕ → Next → Type 0
+abbrev Completions : Type 1
+Completions = ℕ → ℕ → Lookahead → Type 0
 
 -- a section within the limits
 abbrev Most : ℕ → ℕ → Type 0
 Most = Limit true
 
 -- up to so many levels and nodes
-abbrev Lifts : ℕ → ℕ → Ways → Ways → Type 0
-Lifts e m F G = (d n : ℕ) → d ≤ e → n ≤ m → (c : Next) → F d n c → G d n c
+abbrev Lifts : ℕ → ℕ → Completions → Completions → Type 0
+Lifts e m F G = (d n : ℕ) → d ≤ e → n ≤ m → (c : Lookahead) → F d n c → G d n c
 
-closed_in : (e m : ℕ) (F G : Ways) → Lifts e m F G → (d n : ℕ) → d + 1 ≤ e → n + 1 ≤ m → (c : Next) → Closed F d n c → Closed G d n c
+closed_in : (e m : ℕ) (F G : Completions) → Lifts e m F G → (d n : ℕ) → d + 1 ≤ e → n + 1 ≤ m → (c : Lookahead) → Closed F d n c → Closed G d n c
 closed_in e m F G f d n p q closing h = f d n (omega (arith, p)) (omega (arith, q)) closing h
 closed_in e m F G f d n p q assigning h = f d n (omega (arith, p)) (omega (arith, q)) assigning h
 closed_in e m F G f d n p q listing h = f d n (omega (arith, p)) (omega (arith, q)) listing h
@@ -54,7 +54,7 @@ closed_in e m F G f d n p q going h = h
 closed_in e m F G f d n p q operating h = h
 closed_in e m F G f d n p q repeating h = any (f (d + 1) (n + 1) p q) h
 
-missing_in : (e m : ℕ) (F G : Ways) → Lifts e m F G → (d n : ℕ) → d + 1 ≤ e → n + 1 ≤ m → (c : Next) → Missing F d n c → Missing G d n c
+missing_in : (e m : ℕ) (F G : Completions) → Lifts e m F G → (d n : ℕ) → d + 1 ≤ e → n + 1 ≤ m → (c : Lookahead) → Missing F d n c → Missing G d n c
 missing_in e m F G f d n p q closing h = f d n (omega (arith, p)) (omega (arith, q)) closing h
 missing_in e m F G f d n p q assigning h = f d n (omega (arith, p)) (omega (arith, q)) assigning h
 missing_in e m F G f d n p q listing h = f d n (omega (arith, p)) (omega (arith, q)) listing h
@@ -62,7 +62,7 @@ missing_in e m F G f d n p q operating h = f d n (omega (arith, p)) (omega (arit
 missing_in e m F G f d n p q going h = h
 missing_in e m F G f d n p q repeating h = any (f (d + 1) (n + 1) p q) h
 
-started_in : (e m : ℕ) (F G : Ways) → Lifts e m F G → (f : Form) (d n : ℕ) → max d 1 + 2 ≤ e → n + 5 ≤ m → (c : Next) → Started F f d n c → Started G f d n c
+started_in : (e m : ℕ) (F G : Completions) → Lifts e m F G → (f : Form) (d n : ℕ) → max d 1 + 2 ≤ e → n + 5 ≤ m → (c : Lookahead) → Started F f d n c → Started G f d n c
 started_in e m F G k f d n p q assigning h = any (closed_in e m F G k (max d 1 + 1) (n + 2) (omega (arith, p)) (omega (arith, q))) h
 started_in e m F G k f d n p q listing h = any (closed_in e m F G k (max d 1 + 1) (n + 4) (omega (arith, p)) (omega (arith, q))) h
 started_in e m F G k Label d n p q closing (inl h) = inl (any (missing_in e m F G k 1 1 (omega (arith, p)) (omega (arith, q))) h)
@@ -83,11 +83,11 @@ started_in e m F G k Other d n p q going h = h
 started_in e m F G k Other d n p q operating h = h
 started_in e m F G k Other d n p q repeating h = h
 
-whole_in : (e m : ℕ) (F G : Form → Ways) → ((f : Form) → Lifts e m (F f) (G f)) → (f : Form) (d n : ℕ) → d + 1 ≤ e → n + 1 ≤ m → Whole F f d n → Whole G f d n
+whole_in : (e m : ℕ) (F G : Form → Completions) → ((f : Form) → Lifts e m (F f) (G f)) → (f : Form) (d n : ℕ) → d + 1 ≤ e → n + 1 ≤ m → Whole F f d n → Whole G f d n
 whole_in e m F G k f d n p q (inl h) = inl (any (k f d n (omega (arith, p)) (omega (arith, q))) h)
 whole_in e m F G k f d n p q (inr h) = inr (any (k Call (d + 1) (n + 1) p q) h)
 
-guarded_in : (e m : ℕ) (F G : Ways) → Lifts e m F G → (k : Guard) (d n : ℕ) → max d 1 + 2 ≤ e → n + 2 ≤ m → Guarded k F d n → Guarded k G d n
+guarded_in : (e m : ℕ) (F G : Completions) → Lifts e m F G → (k : Guard) (d n : ℕ) → max d 1 + 2 ≤ e → n + 2 ≤ m → Guarded k F d n → Guarded k G d n
 guarded_in e m F G f g.Case d n p q (inl h) = inl (any (missing_in e m F G f (d + 1) (n + 1) (omega (arith, p)) (omega (arith, q))) h)
 guarded_in e m F G f g.Case d n p q (inr h) = inr (any (f (max d 1 + 1) (n + 2) (omega (arith, p)) q) h)
 guarded_in e m F G f _ d n p q h = any (f (max d 1 + 1) (n + 2) (omega (arith, p)) q) h
@@ -98,8 +98,8 @@ taken false f k h = k h
 
 -- with any part of at most this depth and so many nodes on this stack, and with what is due on it
 pub record Sure (levels most : ℕ) (st : Stack) : Type 0 where
-  pub gives : (f : Form) (d n : ℕ) → d ≤ levels → n ≤ most → (c : Next) → Gives Always st f d n c → Gives Most st f d n c
-  pub does : (d n : ℕ) → d ≤ levels → n ≤ most → (c : Next) → Does Always st d n c → Does Most st d n c
+  pub gives : (f : Form) (d n : ℕ) → d ≤ levels → n ≤ most → (c : Lookahead) → Gives Always st f d n c → Gives Most st f d n c
+  pub does : (d n : ℕ) → d ≤ levels → n ≤ most → (c : Lookahead) → Does Always st d n c → Does Most st d n c
   -- (the operator adds a level and two nodes)
   pub operates : (d n : ℕ) → d + 1 ≤ levels → n + 2 ≤ most → Operates Always st (Gives Always st) d n → Operates Most st (Gives Most st) d n
   pub defines : (d n : ℕ) → d ≤ levels → n ≤ most → Defines Always st d n → Defines Most st d n
@@ -112,33 +112,33 @@ pub record Sure (levels most : ℕ) (st : Stack) : Type 0 where
 abbrev pub Spares : Size → Stack → Type 0
 Spares s st = 0 < s.depth → 0 < s.nodes → Sure s.depth s.nodes st
 
-abbrev Fewer : ℕ → ℕ → ℕ → ℕ → Begun → Type 0
+abbrev Fewer : ℕ → ℕ → ℕ → ℕ → Unfinished → Type 0
 Fewer e m l k x = (e + 2 ≤ l) × (held_depth (alone x) + 2 ≤ l) × (m + held_nodes (alone x) + owes (alone x) + 6 ≤ k) × (1 ≤ e) × (1 ≤ m)
 
 module _ (e m l k : ℕ) (st : Stack) (s : Sure l k st) where
-  gives_on : (x : Begun) → Fewer e m l k x → (f : Form) (d n : ℕ) → d ≤ e → n ≤ m → (c : Next) → Gives Always (begun_on x st) f d n c → Gives Most (begun_on x st) f d n c
-  gives_on (b.Operand (o.Parens i)) (u, v, w, y, z) f d n p q c h = at_closing (whole_in l k (Gives Always st) (Gives Most st) s.gives Callable (d + 1) (n + 1) (omega (arith, u, p)) (omega (arith, w, q))) c h
-  gives_on (b.Operand (o.Unary i j)) (u, v, w, y, z) f d n p q c h = s.gives Other (d + 1) (n + 1) (omega (arith, u, p)) (omega (arith, w, q)) c h
-  gives_on (b.Operand (o.Binary i j x)) (u, v, w, y, z) f d n p q c h =
+  gives_on : (x : Unfinished) → Fewer e m l k x → (f : Form) (d n : ℕ) → d ≤ e → n ≤ m → (c : Lookahead) → Gives Always (unfinished_on x st) f d n c → Gives Most (unfinished_on x st) f d n c
+  gives_on (b.OpenExpression (o.Parens i)) (u, v, w, y, z) f d n p q c h = at_closing (whole_in l k (Gives Always st) (Gives Most st) s.gives Callable (d + 1) (n + 1) (omega (arith, u, p)) (omega (arith, w, q))) c h
+  gives_on (b.OpenExpression (o.Unary i j)) (u, v, w, y, z) f d n p q c h = s.gives Other (d + 1) (n + 1) (omega (arith, u, p)) (omega (arith, w, q)) c h
+  gives_on (b.OpenExpression (o.Binary i j x)) (u, v, w, y, z) f d n p q c h =
       let e1 = expression x.value in
       s.gives Other (max (depth e1) d + 1) (nodes e1 + n + 1) (omega (arith, u, v, p)) (omega (arith, w, q)) c h
-  gives_on (b.Operand (o.Chain i j x1 x2)) (u, v, w, y, z) f d n p q c h =
+  gives_on (b.OpenExpression (o.Chain i j x1 x2)) (u, v, w, y, z) f d n p q c h =
       let e1 = expression x1.value in
       let e2 = expression x2.value in
       s.gives Other (max (depth e1) (max (depth e2) d + 1) + 1) (nodes e1 + (nodes e2 + n + 1) + 1) (omega (arith, u, v, p)) (omega (arith, w, q)) c h
-  gives_on (b.Operand (o.Then i x1)) (u, v, w, y, z) f d n p q c h =
+  gives_on (b.OpenExpression (o.Then i x1)) (u, v, w, y, z) f d n p q c h =
       let e1 = expression x1.value in
       at_listing (any (s.gives Other (max (depth e1) (max d 1) + 1) (nodes e1 + n + 2) (omega (arith, u, v, y, p)) (omega (arith, w, q)))) c h
-  gives_on (b.Operand (o.Else i x1 x2)) (u, v, w, y, z) f d n p q c h =
+  gives_on (b.OpenExpression (o.Else i x1 x2)) (u, v, w, y, z) f d n p q c h =
       let e1 = expression x1.value in
       let e2 = expression x2.value in
       s.gives Other (max (depth e1) (max (depth e2) d) + 1) (nodes e1 + nodes e2 + n + 1) (omega (arith, u, v, p)) (omega (arith, w, q)) c h
-  gives_on (b.Operand (o.Args i x1 xs)) (u, v, w, y, z) f d n p q c h =
+  gives_on (b.OpenExpression (o.Args i x1 xs)) (u, v, w, y, z) f d n p q c h =
       let e1 = expression x1.value in
       let es = expressions_in xs.items in
       at_argument (whole_in l k (Gives Always st) (Gives Most st) s.gives Call (max (depth e1) (max (depth_of_each es) d) + 1) (nodes e1 + (nodes_of_each es + n) + 1) (omega (arith, u, v, p)) (omega (arith, w, q)))
       (whole_in l k (Gives Always st) (Gives Most st) s.gives Call (max (depth e1) (max (depth_of_each es) (max d 1)) + 1) (nodes e1 + (nodes_of_each es + n) + 2) (omega (arith, u, v, y, p)) (omega (arith, w, q))) c h
-  gives_on (b.Operand (o.Table i xs)) (u, v, w, y, z) f d n p q c h =
+  gives_on (b.OpenExpression (o.Table i xs)) (u, v, w, y, z) f d n p q c h =
       let es = expressions_in xs.items in
       at_part (s.gives Other (max (depth_of_each es) d + 1) (nodes_of_each es + n + 1) (omega (arith, u, v, p)) (omega (arith, w, q)))
       (s.gives Other (max (depth_of_each es) (max d 1) + 1) (nodes_of_each es + n + 2) (omega (arith, u, v, y, p)) (omega (arith, w, q))) c h
@@ -190,7 +190,7 @@ module _ (e m l k : ℕ) (st : Stack) (s : Sure l k st) where
   gives_on (b.Point (t.Goto i)) _ f d n p q c h = h
   gives_on (b.Point _) _ f d n p q c h = h
 
-  does_on : (x : Begun) → Fewer e m l k x → (d n : ℕ) → d ≤ e → n ≤ m → (c : Next) → Does Always (begun_on x st) d n c → Does Most (begun_on x st) d n c
+  does_on : (x : Unfinished) → Fewer e m l k x → (d n : ℕ) → d ≤ e → n ≤ m → (c : Lookahead) → Does Always (unfinished_on x st) d n c → Does Most (unfinished_on x st) d n c
   does_on (b.Clause (c.Valof i)) (u, v, w, y, z) d n p q going h = any (s.gives Call (d + 2) (n + 2) (omega (arith, u, p)) (omega (arith, w, q))) h
   does_on (b.Clause (c.Valof i)) (u, v, w, y, z) d n p q operating h = s.operates (d + 1) (n + 1) (omega (arith, u, p)) (omega (arith, w, q)) h
   does_on (b.Clause (c.Valof i)) (u, v, w, y, z) d n p q repeating h = h
@@ -219,8 +219,8 @@ module _ (e m l k : ℕ) (st : Stack) (s : Sure l k st) where
       let ds = declarations_in x1.items in
       let cs = actions_in x2.items in
       at_closing (any (s.does (max (depth_of_declarations ds) (max (depth_of_actions cs) d) + 1) (nodes_of_declarations ds + (nodes_of_actions cs + n) + 1) (omega (arith, u, v, p)) (omega (arith, w, q)))) c h
-  does_on (b.Operand (o.Parens i)) _ d n p q c h = h
-  does_on (b.Operand _) _ d n p q c h = h
+  does_on (b.OpenExpression (o.Parens i)) _ d n p q c h = h
+  does_on (b.OpenExpression _) _ d n p q c h = h
   does_on (b.Phrase (p.Start)) _ d n p q c h = h
   does_on (b.Phrase _) _ d n p q c h = h
   does_on (b.Member (member.Function i j)) _ d n p q c h = h
@@ -229,13 +229,13 @@ module _ (e m l k : ℕ) (st : Stack) (s : Sure l k st) where
   does_on (b.Point (t.Goto i)) _ d n p q c h = h
   does_on (b.Point _) _ d n p q c h = h
 
-  operates_on : (x : Begun) → Fewer e m l k x → (d n : ℕ) → d + 1 ≤ e → n + 2 ≤ m → Operates Always (begun_on x st) (Gives Always (begun_on x st)) d n → Operates Most (begun_on x st) (Gives Most (begun_on x st)) d n
-  operates_on (b.Operand (o.Binary i j x1)) (u, v, w, y, z) d n p q h =
+  operates_on : (x : Unfinished) → Fewer e m l k x → (d n : ℕ) → d + 1 ≤ e → n + 2 ≤ m → Operates Always (unfinished_on x st) (Gives Always (unfinished_on x st)) d n → Operates Most (unfinished_on x st) (Gives Most (unfinished_on x st)) d n
+  operates_on (b.OpenExpression (o.Binary i j x1)) (u, v, w, y, z) d n p q h =
       let e1 = expression x1.value in
       taken (nat_lt 1 (inner i)) (any (s.gives Other (max (depth e1) (d + 1) + 1) (nodes e1 + (n + 2) + 1) (omega (arith, u, v, p)) (omega (arith, w, q))))
       (s.operates (max (depth e1) d + 1) (nodes e1 + n + 1) (omega (arith, u, v, p)) (omega (arith, w, q))) h
-  operates_on (b.Operand (o.Parens i)) a d n p q h = any (gives_on (b.Operand (o.Parens i)) a Other (d + 1) (n + 2) p q) h
-  operates_on (b.Operand x) a d n p q h = any (gives_on (b.Operand x) a Other (d + 1) (n + 2) p q) h
+  operates_on (b.OpenExpression (o.Parens i)) a d n p q h = any (gives_on (b.OpenExpression (o.Parens i)) a Other (d + 1) (n + 2) p q) h
+  operates_on (b.OpenExpression x) a d n p q h = any (gives_on (b.OpenExpression x) a Other (d + 1) (n + 2) p q) h
   operates_on (b.Phrase p.Start) a d n v q h = any (gives_on (b.Phrase p.Start) a Other (d + 1) (n + 2) v q) h
   operates_on (b.Phrase x) a d n p q h = any (gives_on (b.Phrase x) a Other (d + 1) (n + 2) p q) h
   operates_on (b.Member (member.Function i j)) a d n p q h = any (gives_on (b.Member (member.Function i j)) a Other (d + 1) (n + 2) p q) h
@@ -247,12 +247,12 @@ module _ (e m l k : ℕ) (st : Stack) (s : Sure l k st) where
   operates_on (b.Point (t.Goto i)) a d n p q h = any (gives_on (b.Point (t.Goto i)) a Other (d + 1) (n + 2) p q) h
   operates_on (b.Point x) a d n p q h = any (gives_on (b.Point x) a Other (d + 1) (n + 2) p q) h
 
-  defines_on : (x : Begun) → Fewer e m l k x → (d n : ℕ) → d ≤ e → n ≤ m → Defines Always (begun_on x st) d n → Defines Most (begun_on x st) d n
+  defines_on : (x : Unfinished) → Fewer e m l k x → (d n : ℕ) → d ≤ e → n ≤ m → Defines Always (unfinished_on x st) d n → Defines Most (unfinished_on x st) d n
   defines_on (b.Place (a.Let i x1)) (u, v, w, y, z) d n p q h =
       let ds = definitions_in x1.items in
       s.declares (max (depth_of_definitions ds) d) (nodes_of_definitions ds + n) (omega (arith, u, v, p)) (omega (arith, w, q)) h
-  defines_on (b.Operand (o.Parens i)) _ d n p q h = h
-  defines_on (b.Operand _) _ d n p q h = h
+  defines_on (b.OpenExpression (o.Parens i)) _ d n p q h = h
+  defines_on (b.OpenExpression _) _ d n p q h = h
   defines_on (b.Phrase (p.Start)) _ d n p q h = h
   defines_on (b.Phrase _) _ d n p q h = h
   defines_on (b.Member (member.Function i j)) _ d n p q h = h
@@ -263,13 +263,13 @@ module _ (e m l k : ℕ) (st : Stack) (s : Sure l k st) where
   defines_on (b.Point (t.Goto i)) _ d n p q h = h
   defines_on (b.Point _) _ d n p q h = h
 
-  declares_on : (x : Begun) → Fewer e m l k x → (d n : ℕ) → d ≤ e → n ≤ m → Declares Always (begun_on x st) d n → Declares Most (begun_on x st) d n
+  declares_on : (x : Unfinished) → Fewer e m l k x → (d n : ℕ) → d ≤ e → n ≤ m → Declares Always (unfinished_on x st) d n → Declares Most (unfinished_on x st) d n
   declares_on (b.Place (a.Block i j x1 x2)) (u, v, w, y, z) d n p q h =
       let ds = declarations_in x1.items in
       let cs = actions_in x2.items in
       any (s.does (max (depth_of_declarations ds) (max (depth_of_actions cs) d) + 1) (nodes_of_declarations ds + (nodes_of_actions cs + n) + 1) (omega (arith, u, v, p)) (omega (arith, w, q))) h
-  declares_on (b.Operand (o.Parens i)) _ d n p q h = h
-  declares_on (b.Operand _) _ d n p q h = h
+  declares_on (b.OpenExpression (o.Parens i)) _ d n p q h = h
+  declares_on (b.OpenExpression _) _ d n p q h = h
   declares_on (b.Phrase (p.Start)) _ d n p q h = h
   declares_on (b.Phrase _) _ d n p q h = h
   declares_on (b.Member (member.Function i j)) _ d n p q h = h
@@ -280,16 +280,16 @@ module _ (e m l k : ℕ) (st : Stack) (s : Sure l k st) where
   declares_on (b.Point (t.Goto i)) _ d n p q h = h
   declares_on (b.Point _) _ d n p q h = h
 
-  args_want : (e1 : Expression) (es : Expressions) (i : ℕ) → depth e1 + 2 ≤ l → nodes e1 + 2 ≤ k → ((f : Form) (d n : ℕ) → d ≤ e → n ≤ m → (c : Next) → Gives Always (in_args i e1 es st) f d n c → Gives Most (in_args i e1 es st) f d n c)
+  args_want : (e1 : Expression) (es : Expressions) (i : ℕ) → depth e1 + 2 ≤ l → nodes e1 + 2 ≤ k → ((f : Form) (d n : ℕ) → d ≤ e → n ≤ m → (c : Lookahead) → Gives Always (in_args i e1 es st) f d n c → Gives Most (in_args i e1 es st) f d n c)
       → 1 ≤ e → 1 ≤ m → Wants Always (in_args i e1 es st) → Wants Most (in_args i e1 es st)
   args_want e1 none i p q f y z h = whole_in l k (Gives Always st) (Gives Most st) s.gives Call (depth e1 + 1) (nodes e1 + 1) (omega (arith, p)) (omega (arith, q)) h
   args_want e1 (more x xs) i p q f y z h = any (f Label 1 1 y z) h
 
-  wants_on : (x : Begun) → Fewer e m l k x → Wants Always (begun_on x st) → Wants Most (begun_on x st)
-  wants_on (b.Operand (o.Args i x1 xs)) (u, v, w, y, z) h =
-      args_want (expression x1.value) (expressions_in xs.items) i (omega (arith, v)) (omega (arith, w)) (gives_on (b.Operand (o.Args i x1 xs)) (u, v, w, y, z)) y z h
-  wants_on (b.Operand (o.Parens i)) (u, v, w, y, z) h = any (gives_on (b.Operand (o.Parens i)) (u, v, w, y, z) Label 1 1 y z) h
-  wants_on (b.Operand x) (u, v, w, y, z) h = any (gives_on (b.Operand x) (u, v, w, y, z) Label 1 1 y z) h
+  wants_on : (x : Unfinished) → Fewer e m l k x → Wants Always (unfinished_on x st) → Wants Most (unfinished_on x st)
+  wants_on (b.OpenExpression (o.Args i x1 xs)) (u, v, w, y, z) h =
+      args_want (expression x1.value) (expressions_in xs.items) i (omega (arith, v)) (omega (arith, w)) (gives_on (b.OpenExpression (o.Args i x1 xs)) (u, v, w, y, z)) y z h
+  wants_on (b.OpenExpression (o.Parens i)) (u, v, w, y, z) h = any (gives_on (b.OpenExpression (o.Parens i)) (u, v, w, y, z) Label 1 1 y z) h
+  wants_on (b.OpenExpression x) (u, v, w, y, z) h = any (gives_on (b.OpenExpression x) (u, v, w, y, z) Label 1 1 y z) h
   wants_on (b.Phrase (p.Start)) (u, v, w, y, z) h = any (gives_on (b.Phrase (p.Start)) (u, v, w, y, z) Label 1 1 y z) h
   wants_on (b.Phrase x) (u, v, w, y, z) h = any (gives_on (b.Phrase x) (u, v, w, y, z) Label 1 1 y z) h
   wants_on (b.Member (member.Function i j)) (u, v, w, y, z) h = any (gives_on (b.Member (member.Function i j)) (u, v, w, y, z) Label 1 1 y z) h
@@ -301,14 +301,14 @@ module _ (e m l k : ℕ) (st : Stack) (s : Sure l k st) where
   wants_on (b.Point (t.Goto i)) (u, v, w, y, z) h = any (gives_on (b.Point (t.Goto i)) (u, v, w, y, z) Label 1 1 y z) h
   wants_on (b.Point x) (u, v, w, y, z) h = any (gives_on (b.Point x) (u, v, w, y, z) Label 1 1 y z) h
 
-  misses_on : (x : Begun) → Fewer e m l k x → Misses Always (begun_on x st) → Misses Most (begun_on x st)
+  misses_on : (x : Unfinished) → Fewer e m l k x → Misses Always (unfinished_on x st) → Misses Most (unfinished_on x st)
   misses_on (b.Clause (c.Label i j)) (u, v, w, y, z) h = any (missing_in l k (Does Always st) (Does Most st) s.does 1 1 (omega (arith, u, y)) (omega (arith, w))) h
   misses_on (b.Clause (c.Guarded i j x1)) (u, v, w, y, z) h =
       let e1 = expression x1.value in
       any (missing_in l k (Does Always st) (Does Most st) s.does (depth e1 + 1) (nodes e1 + 1) (omega (arith, v)) (omega (arith, w))) h
   misses_on (b.Clause (c.Default i)) (u, v, w, y, z) h = any (missing_in l k (Does Always st) (Does Most st) s.does 1 1 (omega (arith, u, y)) (omega (arith, w))) h
-  misses_on (b.Operand (o.Parens i)) _ h = h
-  misses_on (b.Operand _) _ h = h
+  misses_on (b.OpenExpression (o.Parens i)) _ h = h
+  misses_on (b.OpenExpression _) _ h = h
   misses_on (b.Phrase (p.Start)) _ h = h
   misses_on (b.Phrase _) _ h = h
   misses_on (b.Member (member.Function i j)) _ h = h
@@ -323,7 +323,7 @@ module _ (e m l k : ℕ) (st : Stack) (s : Sure l k st) where
   lists_on no_items p q u w h = s.declares 2 2 u w h
   lists_on (item i j x1 is) p q u w h = s.declares (depth_of_items (item i j x1 is)) (nodes_of_items (item i j x1 is)) (omega (arith, p)) (omega (arith, q)) h
 
-  due_on : (x : Begun) → Fewer e m l k x → Due Always (begun_on x st) → Due Most (begun_on x st)
+  due_on : (x : Unfinished) → Fewer e m l k x → Due Always (unfinished_on x st) → Due Most (unfinished_on x st)
   due_on (b.Place (a.Block i j x1 x2)) (u, v, w, y, z) h = declares_on (b.Place (a.Block i j x1 x2)) (u, v, w, y, z) 0 0 (omega arith) (omega arith) h
   due_on (b.Place (a.Let i x1)) (u, v, w, y, z) h =
       let ds = definitions_in x1.items in
@@ -346,8 +346,8 @@ module _ (e m l k : ℕ) (st : Stack) (s : Sure l k st) where
   due_on (b.Point (t.Forward i j)) (u, v, w, y, z) h = any (s.does 2 4 (omega (arith, u)) (omega (arith, w))) h
   due_on (b.Point (t.Default i)) (u, v, w, y, z) (inl h) = inl (any (missing_in l k (Does Always st) (Does Most st) s.does 1 1 (omega (arith, u)) (omega (arith, w))) h)
   due_on (b.Point (t.Default i)) (u, v, w, y, z) (inr h) = inr (any (s.does 2 2 (omega (arith, u)) (omega (arith, w))) h)
-  due_on (b.Operand (o.Parens i)) _ h = h
-  due_on (b.Operand _) _ h = h
+  due_on (b.OpenExpression (o.Parens i)) _ h = h
+  due_on (b.OpenExpression _) _ h = h
   due_on (b.Phrase (p.Start)) _ h = h
   due_on (b.Phrase _) _ h = h
   due_on (b.Member (member.Function i j)) _ h = h
@@ -355,7 +355,7 @@ module _ (e m l k : ℕ) (st : Stack) (s : Sure l k st) where
   due_on (b.Clause (c.Valof i)) _ h = h
   due_on (b.Clause _) _ h = h
 
-  sure_on : (x : Begun) → Fewer e m l k x → Sure e m (begun_on x st)
+  sure_on : (x : Unfinished) → Fewer e m l k x → Sure e m (unfinished_on x st)
   sure_on x a =
       record {
         gives = gives_on x a;
@@ -369,18 +369,18 @@ module _ (e m l k : ℕ) (st : Stack) (s : Sure l k st) where
       }
 
 -- what is spare above what was begun
-spare_on : (x : Frame) (st : Stack) (below : Size) → Leaves below x.begun x.spare → Spares below st → Spares x.spare (begun_on x.begun st)
+spare_on : (x : Frame) (st : Stack) (below : Size) → Leaves below x.unfinished x.spare → Spares below st → Spares x.spare (unfinished_on x.unfinished st)
 spare_on x st below h s y z =
     let q = h y z in
     let u = q.0 in
     let w = q.2 in
-    sure_on x.spare.depth x.spare.nodes below.depth below.nodes st (s (omega (arith, u)) (omega (arith, w))) x.begun (u, q.1, w, y, z)
+    sure_on x.spare.depth x.spare.nodes below.depth below.nodes st (s (omega (arith, u)) (omega (arith, w))) x.unfinished (u, q.1, w, y, z)
 
 -- above all of them
 spare_all : (st : Stack) (s : Size) (xs : List Frame) → Spares s st → Spared s xs → Spares (spare_under s xs) (above st xs)
 unfolding spare_under spare_below
 spare_all st s [] h f = h
-spare_all st s (x ∷ xs) h f = spare_all (begun_on x.begun st) x.spare xs (spare_on x st s (f zero x refl) h) (λ i. f (suc i))
+spare_all st s (x ∷ xs) h f = spare_all (unfinished_on x.unfinished st) x.spare xs (spare_on x st s (f zero x refl) h) (λ i. f (suc i))
 
 at_most_by : (a b : ℕ) (t : Bool) → nat_le a b ≡ t → 0 < cond t b 0 → (a ≤ b) × (cond (nat_le a b) b 0 ≤ b)
 at_most_by a b true is h = let p : a ≤ b = grind (arith, nat_tests, is) in let q : cond (nat_le a b) b 0 ≤ b = rw is (omega arith) in (p, q)
@@ -414,7 +414,7 @@ unfolding stack
 spare_of_all ds held xs is h = spare_all (in_section (declarations_in ds)) (spare_of_section held) xs (in_a_section (declarations_in ds) held is) h
 
 -- with what is spare the state goes on
-pub goes_on_surely : (st : Stack) (s : Size) (now : Now) → IsSmall s → Spares s st → (part_of now).depth < s.depth → (part_of now).nodes < s.nodes → Completes Always (state st now) → Completes Most (state st now)
+pub goes_on_surely : (st : Stack) (s : Size) (now : ParserState) → IsSmall s → Spares s st → (part_of now).depth < s.depth → (part_of now).nodes < s.nodes → Completes Always (state st now) → Completes Most (state st now)
 goes_on_surely st s n.Want l h p q c = let r = h (omega (arith, p)) (omega (arith, q)) in r.wants c
 goes_on_surely st s (n.Have x) l h p q c =
     let r = h (omega (arith, p)) (omega (arith, q)) in

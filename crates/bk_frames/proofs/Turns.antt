@@ -14,8 +14,8 @@ use Rattle.bk_grammar.specs.declared.symbols.Opening.TheVariants as s
 use Rattle.bk_grammar.specs.declared.symbols.Heading.{Heading}
 use Rattle.bk_tree.specs.declared.tree.Expr.{Expr}
 use Rattle.bk_tree.specs.declared.tree.Command.{Command}
-use Rattle.bk_tree.specs.declared.tree.Item.{Item}
-use Rattle.bk_tree.specs.declared.tree.Item.TheVariants as i
+use Rattle.bk_tree.specs.declared.tree.ConstItem.{ConstItem}
+use Rattle.bk_tree.specs.declared.tree.ConstItem.TheVariants as i
 use Rattle.bk_tree.specs.Tree.{expressions_in, items_in, actions_in, call, Mention, Expression, Expressions, Action, Items, Declaration, name, number, text, truth, query, parens, unary, binary, choice, apply, valof, table, simple, repeat, constants, none, more, no_items, item, no_starts}
 use Rattle.bk_grammar.specs.Rows.{leaf, goes, assigns, inner, behind, infix_of, prefix_of, simple_of, guard_of, is_arrow, is_both, is_comma, is_name, declaring_of, opening_of, heading_of, repetition_of}
 use Rattle.bk_grammar.specs.Grammar.{last}
@@ -163,7 +163,7 @@ pub some_expressions : (xs : List Expr) → 1 ≤ length xs → false ≡ are_no
 some_expressions [] h = absurd (omega arith)
 some_expressions (x ∷ xs) h = refl
 
-pub some_items : (xs : List Item) → 1 ≤ length xs → false ≡ are_no_items (items_in xs)
+pub some_items : (xs : List ConstItem) → 1 ≤ length xs → false ≡ are_no_items (items_in xs)
 some_items [] h = absurd (omega arith)
 some_items ((i.Item l x y) ∷ xs) h = refl
 

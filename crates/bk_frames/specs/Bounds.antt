@@ -1,10 +1,10 @@
--- How a state of the reading machine stands to the limits of a section.
+-- What a state of the reading machine leaves of the limits of a section.
 use Rattle.std.specs.Prelude.{ℕ, ◌≤◌}
 use Rattle.bk_base.specs.declared.limit.TheConstants.{TREE_DEPTH, TREE_NODES}
 use Rattle.bk_base.specs.declared.source_fault.SourceKind.{SourceKind}
 use Rattle.bk_base.specs.declared.source_fault.SourceKind.TheVariants.{NestedTooDeeply, TooManyNodes}
 use Rattle.bk_grammar.specs.Machine.{State}
-use Rattle.bk_frames.specs.WaysOn.{Completes}
+use Rattle.bk_frames.specs.Completing.{Completes}
 
 -- so many levels and nodes are within these bounds
 abbrev pub AtMost : ℕ → ℕ → ℕ → ℕ → Type 0

@@ -1,4 +1,4 @@
--- What the parser has begun and reads now, as the stack and the state of the reading machine; and what a call answers, as
+-- The unfinished constructs and the state of the parser, as the stack and the state of the reading machine; and the answer of a call, as
 -- a step of that machine. The depths and the numbers of nodes that the parser keeps are left out.
 use Rattle.std.specs.Prelude.{ℕ, ◌+◌, Bool, true, false, cond, ◌≡◌, Option, Some, None, List, Result, Ok, Err, vec_len, length, slice_get}
 use Rattle.bk_lex.specs.declared.token.Kind.{Kind}
@@ -6,11 +6,11 @@ use Rattle.bk_lex.specs.declared.token.Token.{Token}
 use Rattle.bk_grammar.specs.declared.symbols.Heading.{Heading}
 use Rattle.bk_grammar.specs.declared.symbols.Heading.TheVariants as h
 use Rattle.bk_frames.specs.declared.frame.Place.TheVariants as a
-use Rattle.bk_frames.specs.declared.frame.Begun.{Begun}
-use Rattle.bk_frames.specs.declared.frame.Begun.TheVariants as b
+use Rattle.bk_frames.specs.declared.frame.Unfinished.{Unfinished}
+use Rattle.bk_frames.specs.declared.frame.Unfinished.TheVariants as b
 use Rattle.bk_frames.specs.declared.frames.Frames.{Frames}
-use Rattle.bk_frames.specs.declared.frame.Now.{Now}
-use Rattle.bk_frames.specs.declared.frame.Now.TheVariants as n
+use Rattle.bk_frames.specs.declared.frame.ParserState.{ParserState}
+use Rattle.bk_frames.specs.declared.frame.ParserState.TheVariants as n
 use Rattle.bk_frames.specs.declared.frame.Flow.{Flow}
 use Rattle.bk_frames.specs.declared.frame.Flow.TheVariants as f
 use Rattle.bk_frames.specs.declared.frame.Stop.{Stop}
@@ -20,8 +20,8 @@ use Rattle.bk_tree.specs.declared.tree.Name.{Name}
 use Rattle.bk_grammar.specs.declared.symbols.Declaring.{Declaring}
 use Rattle.bk_grammar.specs.declared.symbols.Declaring.TheVariants as g
 use Rattle.bk_grammar.specs.Rows.{is_relation, is_name}
-use Rattle.bk_frames.specs.declared.room.FrameRooms.{FrameRooms}
-use Rattle.bk_frames.specs.Rooms.{AreRooms}
+use Rattle.bk_frames.specs.declared.budget.FrameBudgets.{FrameBudgets}
+use Rattle.bk_frames.specs.Budgets.{AreBudgets}
 use Rattle.bk_frames.specs.declared.frame.Size.{Size}
 use Rattle.bk_frames.specs.Sizes.{kept_size}
 use Rattle.bk_frames.specs.Stacked.{stack}
@@ -31,11 +31,11 @@ use Rattle.bk_grammar.specs.Machine.{Stack, State, in_block, in_let, at_opening,
 abbrev pub stack_of : Frames → Stack
 stack_of x = stack x.decls.items x.above.items
 
--- the rooms that are kept after those of what was begun, if there are any, are those of this stack
-abbrev pub HasRoomsFor : Frames → Stack → Type 0
-HasRoomsFor x st = (r : FrameRooms) → slice_get x.rooms.items (length x.above.items) ≡ Some r → AreRooms true st r.rooms.items
+-- the budgets that are kept after those of the frames, if there are any, are those of this stack
+abbrev pub HasBudgetsFor : Frames → Stack → Type 0
+HasBudgetsFor x st = (r : FrameBudgets) → slice_get x.budgets.items (length x.above.items) ≡ Some r → AreBudgets true st r.budgets.items
 
-abbrev pub state : Stack → Now → State
+abbrev pub state : Stack → ParserState → State
 state st n.Want = want st
 state st (n.Have x) = have st (expression x.expr)
 state st n.Begin = begin st
@@ -44,7 +44,7 @@ state st (n.Did x) = did st (action x.command)
 state st n.Due = due st
 
 -- the size of the part that is complete so far, if there is one
-abbrev pub part_of : Now → Size
+abbrev pub part_of : ParserState → Size
 part_of (n.Have x) = x.size
 part_of (n.Did x) = x.size
 part_of _ = kept_size 0 0
@@ -56,39 +56,39 @@ Puts st (Err s.Memory) next = Unit {0}
 Puts st (Err s.Unexpected) next = ⊥
 
 -- an answer with these frames, as a step of the machine: an unexpected symbol is one with which it does not go on
-abbrev pub Steps : Stack → Result Now Stop → Option State → Type 0
+abbrev pub Steps : Stack → Result ParserState Stop → Option State → Type 0
 Steps st (Ok now) next = next ≡ Some (state st now)
 Steps st (Err s.Memory) next = Unit {0}
 Steps st (Err s.Unexpected) next = next ≡ None
 
 -- how the expression that is complete goes on below, with a symbol after it
-abbrev pub given : Stack → Now → ℕ → List ℕ → Kind → Option State
+abbrev pub given : Stack → ParserState → ℕ → List ℕ → Kind → Option State
 given st (n.Have y) l x t = give st (expression y.expr) l x t
 given st _ l x t = None
 
 -- and how the command does
-abbrev pub finished : Stack → Now → ℕ → List ℕ → Kind → Option State
+abbrev pub finished : Stack → ParserState → ℕ → List ℕ → Kind → Option State
 finished st (n.Did y) l x t = finish st (action y.command) l x t
 finished st _ l x t = None
 
 -- and how either does; with no part, no symbol is taken
-abbrev pub after : Stack → Now → ℕ → List ℕ → Kind → Option State
+abbrev pub after : Stack → ParserState → ℕ → List ℕ → Kind → Option State
 after st (n.Have y) l x t = give st (expression y.expr) l x t
 after st (n.Did y) l x t = finish st (action y.command) l x t
 after st y l x t = Some (state st y)
 
 -- where a symbol leads that was taken, or that comes after the part that is complete now
-abbrev pub flow : Stack → Flow → Now → ℕ → List ℕ → Kind → Option State
+abbrev pub flow : Stack → Flow → ParserState → ℕ → List ℕ → Kind → Option State
 flow st f.Taken y l x t = Some (state st y)
 flow st f.Comes y l x t = after st y l x t
 
-abbrev pub Flows : Stack → Result Flow Stop → Now → ℕ → List ℕ → Kind → Option State → Type 0
+abbrev pub Flows : Stack → Result Flow Stop → ParserState → ℕ → List ℕ → Kind → Option State → Type 0
 Flows st (Ok w) y l x t next = next ≡ flow st w y l x t
 Flows st (Err s.Memory) y l x t next = Unit {0}
 Flows st (Err s.Unexpected) y l x t next = next ≡ None
 
 -- the same, after this token
-abbrev pub Answers : Frames → Now → Result Flow Stop → Token → (ℕ → List ℕ → Kind → Option State) → Type 0
+abbrev pub Answers : Frames → ParserState → Result Flow Stop → Token → (ℕ → List ℕ → Kind → Option State) → Type 0
 Answers new y result t next = Flows (stack_of new) result y t.line t.text.now t.kind (next t.line t.text.now t.kind)
 
 -- what a command with a word of its own is to begin with
@@ -131,10 +131,10 @@ abbrev pub declaring : Stack → ℕ → Declaring → State
 declaring st l g.Let = due (in_let l no_definitions st)
 declaring st l (g.Constants q) = due (at_opening l q st)
 
-abbrev pub is_let_begun : Begun → Bool
-is_let_begun (b.Place (a.Let l xs)) = true
-is_let_begun _ = false
+abbrev pub is_let_unfinished : Unfinished → Bool
+is_let_unfinished (b.Place (a.Let l xs)) = true
+is_let_unfinished _ = false
 
-abbrev pub is_block_begun : Begun → Bool
-is_block_begun (b.Place (a.Block l q ds cs)) = true
-is_block_begun _ = false
+abbrev pub is_block_unfinished : Unfinished → Bool
+is_block_unfinished (b.Place (a.Block l q ds cs)) = true
+is_block_unfinished _ = false

@@ -1,8 +1,8 @@
 pub mod Sizes
-pub mod Begun
+pub mod Unfinished
 pub mod Stacked
 pub mod Frames
-pub mod WaysOn
+pub mod Completing
 pub mod Bounds
-pub mod Rooms
+pub mod Budgets
 pub mod Spares

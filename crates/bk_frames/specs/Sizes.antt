@@ -1,4 +1,4 @@
--- Sizes as the parser keeps them, in 32 bits each, and those of the parts that what was begun holds.
+-- Sizes as the parser keeps them, in 32 bits each, and those of the parts of an unfinished construct.
 use Rattle.std.specs.Prelude.{ℕ, ◌+◌, ◌-◌, ◌≡◌, max, min, Option, Some, None, Bool, true, false, cond}
 use Rattle.bk_frames.specs.declared.frame.Size.{Size}
 use Rattle.bk_frames.specs.declared.size.Form.{Form}
@@ -8,7 +8,7 @@ use Rattle.bk_tree.specs.Limits.{depth, depth_of_each, depth_of_action, depth_of
 use Rattle.bk_grammar.specs.Grammar.{last}
 use Rattle.bk_grammar.specs.Machine.{Stack, in_section, in_block, in_let, at_starts, at_items, at_sign, in_binary, in_chain, in_then, in_else, in_args, in_table, in_dests, in_values, in_while, in_to, in_by, in_item, in_value, in_vector, in_guarded, in_do, in_or, in_for}
 
--- a number as it is kept: the greatest one stands for all above it
+-- a number as it is kept: the greatest one means itself or any larger one
 abbrev pub kept : ℕ → ℕ
 kept n = min n 4294967295
 

@@ -1,14 +1,14 @@
-//! What was begun and is not yet complete.
+//! Frames: the unfinished constructs of the parser, and its state.
 ghost use Rattle.std.specs.Prelude.{◌≡◌};
 ghost use Rattle.bk_tree.specs.Tree.{expression, action, definition};
 ghost use Rattle.bk_grammar.specs.Grammar.{last};
 ghost use Rattle.bk_frames.specs.Sizes.{size_of, size_if, size_of_action, size_of_definition};
-ghost use Rattle.bk_frames.specs.Begun.{held_in};
+ghost use Rattle.bk_frames.specs.Unfinished.{held_in};
 ghost use Rattle.bk_frames.specs.Spares.{IsSmall};
 
 use bk_base::Line;
 use bk_grammar::symbols::Guard;
-use bk_tree::{Command, Decl, Def, Expr, Init, Item, Name, Operator, Prefix, Sort};
+use bk_tree::{Command, ConstItem, Decl, Def, Expr, Init, Name, Operator, Prefix, Sort};
 use std::alloc::{AllocError, AllocFailed};
 use std::mem;
 
@@ -21,9 +21,9 @@ pub struct Size {
     pub nodes: u32,
 }
 
-/// An expression that was begun; an operand of it is read now.
+/// An unfinished expression. The parser reads an operand of it.
 #[derive(Drop)]
-pub enum Operand {
+pub enum OpenExpression {
     Parens(Line),
     Unary(Line, Prefix),
     /// The operator, its line and the left operand.
@@ -38,7 +38,7 @@ pub enum Operand {
     Table(Line, Vec<Expr>),
 }
 
-/// A command that was begun; an expression of it is read now.
+/// An unfinished command. The parser reads an expression of it.
 #[derive(Drop)]
 pub enum Phrase {
     /// The first expression of a command.
@@ -58,18 +58,18 @@ pub enum Phrase {
     By(Line, Name, Box<Expr>, Box<Expr>),
 }
 
-/// An item or a definition that was begun; an expression of it is read now.
+/// An unfinished item or definition. The parser reads an expression of it.
 #[derive(Drop)]
 pub enum Member {
     /// The constant of an item after the items so far.
-    Item(Line, Sort, Vec<Item>, Name),
+    Item(Line, Sort, Vec<ConstItem>, Name),
     Function(Name, Vec<Name>),
     /// An item of a LET after these, a VEC with its line.
     Value(Vec<Name>, Vec<Init>),
     Vector(Line, Vec<Name>, Vec<Init>),
 }
 
-/// A command or definition that was begun; a command of it is read now.
+/// An unfinished command or definition. The parser reads a command of it.
 #[derive(Drop)]
 pub enum Clause {
     Valof(Line),
@@ -111,18 +111,18 @@ pub enum Point {
     /// After MANIFEST, STATIC or GLOBAL.
     Opening(Line, Sort),
     /// Between the items, and after the name of one.
-    Items(Line, Sort, Vec<Item>),
-    Signed(Line, Sort, Vec<Item>, Name),
+    Items(Line, Sort, Vec<ConstItem>),
+    Signed(Line, Sort, Vec<ConstItem>, Name),
     Goto(Line),
     For(Line),
     Forward(Line, Name),
     Default(Line),
 }
 
-/// What was begun, by what is read now.
+/// An unfinished construct, by the part of it that the parser reads.
 #[derive(Drop)]
-pub enum Begun {
-    Operand(Operand),
+pub enum Unfinished {
+    OpenExpression(OpenExpression),
     Phrase(Phrase),
     Member(Member),
     Clause(Clause),
@@ -130,14 +130,14 @@ pub enum Begun {
     Point(Point),
 }
 
-/// What was begun, with the depth and the nodes of the parts that it holds, and what any part that is read may surely have of
+/// An unfinished construct, with the depth and the nodes of the parts that it has, and what any part that is read may surely have of
 /// both, so that the section stays within its limits. Nothing is known where either is 0.
 #[derive(Drop)]
 pub struct Frame {
-    pub begun: Begun,
+    pub unfinished: Unfinished,
     pub held: Size,
     pub spare: Size,
-    ghost holds: { held ≡ held_in begun },
+    ghost holds: { held ≡ held_in unfinished },
     ghost small: { IsSmall spare },
 }
 
@@ -167,9 +167,9 @@ pub struct Defined {
     ghost sizes: { size ≡ size_of_definition (definition def) },
 }
 
-/// What stands on the frames.
+/// The state of the parser above the frames.
 #[derive(Drop)]
-pub enum Now {
+pub enum ParserState {
     /// An operand is due.
     Want,
     /// An expression that may go on.
@@ -184,14 +184,14 @@ pub enum Now {
     Due,
 }
 
-impl Now {
+impl ParserState {
     /// Goes on to the next state. Most states that are left have no part: where one has, it is dropped in a function of its own, so
     /// that no step has the code that drops a tree.
     #[inline(always)]
-    pub fn set(&mut self, next: Now)
+    pub fn set(&mut self, next: ParserState)
         ensures { self.new ≡ next }
     {
-        if matches!(self, Now::Have(_) | Now::Did(_)) {
+        if matches!(self, ParserState::Have(_) | ParserState::Did(_)) {
             self.clear();
         }
         mem::forget(mem::replace(self, next));
@@ -201,7 +201,7 @@ impl Now {
     #[cold]
     #[inline(never)]
     fn clear(&mut self) {
-        *self = Now::Due;
+        *self = ParserState::Due;
     }
 }
 

@@ -1,27 +1,27 @@
-//! The list of what was begun.
+//! The stack of the unfinished constructs.
 ghost use Rattle.std.specs.Prelude.{◌≡◌, ◌<◌, vec_len, vec_capacity};
 ghost use Rattle.bk_tree.specs.Tree.{declarations_in};
 ghost use Rattle.bk_frames.specs.Sizes.{size_of_declarations};
-ghost use Rattle.bk_frames.specs.Begun.{begun_on, held_in};
+ghost use Rattle.bk_frames.specs.Unfinished.{unfinished_on, held_in};
 ghost use Rattle.bk_frames.specs.Spares.{spare_of_section};
-ghost use Rattle.bk_frames.specs.Stacked.{Roomy, Spared};
+ghost use Rattle.bk_frames.specs.Stacked.{Ample, Spared};
 
+use crate::budget::FrameBudgets;
 use crate::frame::{Frame, Size};
-use crate::room::FrameRooms;
 use bk_tree::Decl;
 use std::alloc::Global;
 
-/// What was begun: the section, with its declarations and their size, and above it the rest, the last one on top. The rooms of
+/// The unfinished constructs: the section, with its declarations and their size, and above it the others, the last one on top. The budgets of
 /// the lowest of these are kept, of so many as were asked for.
 #[derive(Drop)]
 pub struct Frames {
     pub decls: Vec<Decl>,
     pub held: Size,
     pub above: Vec<Frame>,
-    pub rooms: Vec<FrameRooms>,
+    pub budgets: Vec<FrameBudgets>,
     pub alloc: Global,
     ghost holds: { held ≡ size_of_declarations (declarations_in decls.items) },
     ghost spared: { Spared (spare_of_section held) above.items },
-    ghost roomy: { Roomy decls.items above.items rooms.items },
-    ghost room: { vec_len above < vec_capacity above },
+    ghost ample: { Ample decls.items above.items budgets.items },
+    ghost budget: { vec_len above < vec_capacity above },
 }

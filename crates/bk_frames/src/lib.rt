@@ -1,13 +1,13 @@
-//! What a parser has begun: the frames, the sizes of their parts, and the room that is left in the limits.
+//! The stack of unfinished constructs of the parser: frames, the sizes of their parts, and what is left of the limits.
 #![tactic(auto)]
 
+pub mod budget;
+pub mod budgets;
+pub mod completion;
+pub mod completions;
 pub mod frame;
 pub mod frames;
 pub mod limits;
-pub mod room;
-pub mod rooms;
 pub mod size;
 pub mod spare;
 pub mod top;
-pub mod way;
-pub mod ways;

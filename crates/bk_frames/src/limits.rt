@@ -4,188 +4,209 @@ ghost use Rattle.bk_base.specs.declared.source_fault.SourceKind.TheVariants.{Nes
 ghost use Rattle.bk_tree.specs.Tree.{Declarations};
 ghost use Rattle.bk_grammar.specs.Machine.{Stack, in_section};
 ghost use Rattle.bk_frames.specs.Sizes.{kept_size, size_of_declarations};
-ghost use Rattle.bk_frames.specs.Begun.{begun_on, held_in};
-ghost use Rattle.bk_frames.specs.Rooms.{Limit, counted, has_room, whom_of, is_tight, AreRooms};
+ghost use Rattle.bk_frames.specs.Unfinished.{unfinished_on, held_in};
+ghost use Rattle.bk_frames.specs.Budgets.{Limit, counted, has_budget, category_of, is_tight, AreBudgets};
 ghost use Rattle.bk_frames.specs.Bounds.{Always};
-ghost use Rattle.bk_frames.specs.WaysOn.{Completes};
+ghost use Rattle.bk_frames.specs.Completing.{Completes};
 ghost use Rattle.bk_frames.specs.Stacked.{stack};
 ghost use Rattle.bk_frames.specs.Frames.{stack_of, state};
 
-use crate::frame::{Begun, Now, Size};
+use crate::budget::{Budget, Budgets, Category, FrameBudgets, Lookahead};
+use crate::budgets::{add_completions, counted, has_budget};
+use crate::completions::{completions, is_tight};
+use crate::frame::{ParserState, Size, Unfinished};
 use crate::frames::Frames;
-use crate::room::{FrameRooms, Next, Room, Rooms, Whom};
-use crate::rooms::{add_ways, counted, has_room};
 use crate::size::{Form, LEAF, NOTHING, form_of, of_node};
 use crate::spare::is_surely_bounded;
-use crate::ways::{is_tight, ways};
 use bk_base::limit::{TREE_DEPTH, TREE_NODES};
 use std::alloc::{AllocError, Global};
 
-/// Adds the rooms of what was begun, with these parts, by those below it; there an operator after a VALOF may go on more
+/// Adds the budgets of an unfinished construct that has these parts, by those below it; there an operator after a VALOF may continue more
 /// than the operand that the VALOF is. Nodes are counted, or not.
-fn add_rooms_on(
-    rooms: &mut Rooms,
-    begun: &Begun,
+fn add_budgets_on(
+    budgets: &mut Budgets,
+    unfinished: &Unfinished,
     held: Size,
     tight_below: bool,
-    below: &[Room],
+    below: &[Budget],
     counts: bool,
 ) -> Result<(), AllocError>
-    requires held { held ≡ held_in begun.now }
-    requires none { rooms.old.items ≡ [] }
-    ensures { OnOk result ((st : Stack) → tight_below ≡ is_tight st → AreRooms counts st below.now → AreRooms counts (begun_on begun.now st) rooms.new.items) }
+    requires held { held ≡ held_in unfinished.now }
+    requires none { budgets.old.items ≡ [] }
+    ensures { OnOk result ((st : Stack) → tight_below ≡ is_tight st → AreBudgets counts st below.now → AreBudgets counts (unfinished_on unfinished.now st) budgets.new.items) }
 {
-    let ways = ways(begun, held, tight_below);
-    add_ways(rooms, &ways, below, counts)?;
+    let completions = completions(unfinished, held, tight_below);
+    add_completions(budgets, &completions, below, counts)?;
     Ok(())
 }
 
-/// The rooms of a section with declarations of this size.
-fn rooms_of_section(alloc: Global, held: Size, counts: bool) -> Result<Rooms, AllocError>
-    ensures { IfOk result (λ rooms. (ds : Declarations) → held ≡ size_of_declarations ds → AreRooms counts (in_section ds) rooms.items) }
+/// The budgets of a section with declarations of this size.
+fn budgets_of_section(alloc: Global, held: Size, counts: bool) -> Result<Budgets, AllocError>
+    ensures { IfOk result (λ budgets. (ds : Declarations) → held ≡ size_of_declarations ds → AreBudgets counts (in_section ds) budgets.items) }
 {
-    let mut rooms = Rooms::new(alloc);
+    let mut budgets = Budgets::new(alloc);
     let nodes = counted(counts, held.nodes);
     if held.depth > TREE_DEPTH {
-        return Ok(rooms);
+        return Ok(budgets);
     }
     if nodes > TREE_NODES {
-        return Ok(rooms);
+        return Ok(budgets);
     }
     let depth = TREE_DEPTH;
     let left = TREE_NODES - nodes;
-    rooms.push(Room {
-        whom: Whom::Declaration,
-        next: Next::Closing,
+    budgets.push(Budget {
+        category: Category::Declaration,
+        next: Lookahead::Closing,
         depth,
         nodes: left,
     })?;
-    rooms.push(Room {
-        whom: Whom::Due,
-        next: Next::Closing,
+    budgets.push(Budget {
+        category: Category::Due,
+        next: Lookahead::Closing,
         depth,
         nodes: left,
     })?;
-    Ok(rooms)
+    Ok(budgets)
 }
 
 /// What an expression of this form is, as a part.
-fn whom_of(form: Form) -> Whom
-    ensures { result ≡ whom_of form }
+fn category_of(form: Form) -> Category
+    ensures { result ≡ category_of form }
 {
     match form {
-        Form::Label => Whom::Label,
-        Form::Call => Whom::Call,
-        _ => Whom::Expression,
+        Form::Label => Category::Label,
+        Form::Call => Category::Call,
+        _ => Category::Expression,
     }
 }
 
-/// Whether there is room for one of two parts.
-fn has_either_room(
-    rooms: &[Room],
+/// Whether one of two parts is within the budgets.
+fn has_either_budget(
+    budgets: &[Budget],
     counts: bool,
-    whom: Whom,
+    category: Category,
     part: Size,
-    other: Whom,
+    other: Category,
     part_of_other: Size,
 ) -> bool
-    ensures { (d n e m : ℕ) → part ≡ kept_size d n → part_of_other ≡ kept_size e m → result ≡ (has_room rooms.now whom d (counted counts n) || has_room rooms.now other e (counted counts m)) }
+    ensures { (d n e m : ℕ) → part ≡ kept_size d n → part_of_other ≡ kept_size e m → result ≡ (has_budget budgets.now category d (counted counts n) || has_budget budgets.now other e (counted counts m)) }
 {
-    if has_room(rooms, counts, whom, part) {
+    if has_budget(budgets, counts, category, part) {
         return true;
     }
-    has_room(rooms, counts, other, part_of_other)
+    has_budget(budgets, counts, other, part_of_other)
 }
 
-/// Whether there is room for what this state goes on with.
-fn has_room_for(rooms: &[Room], counts: bool, now: &Now) -> bool
-    ensures { (st : Stack) → AreRooms counts st rooms.now → Completes (Limit counts) (state st now.now) ↔ (result ≡ true) }
+/// Whether the budgets allow a part with which this state goes on.
+fn has_budget_for(budgets: &[Budget], counts: bool, now: &ParserState) -> bool
+    ensures { (st : Stack) → AreBudgets counts st budgets.now → Completes (Limit counts) (state st now.now) ↔ (result ≡ true) }
 {
     match now {
-        Now::Want => has_either_room(rooms, counts, Whom::Closed, NOTHING, Whom::Label, LEAF),
-        Now::Have(sized) => has_either_room(
-            rooms,
+        ParserState::Want => has_either_budget(
+            budgets,
             counts,
-            whom_of(form_of(&sized.expr)),
+            Category::Closed,
+            NOTHING,
+            Category::Label,
+            LEAF,
+        ),
+        ParserState::Have(sized) => has_either_budget(
+            budgets,
+            counts,
+            category_of(form_of(&sized.expr)),
             sized.size,
-            Whom::Call,
+            Category::Call,
             of_node(sized.size),
         ),
-        Now::Begin => has_room(rooms, counts, Whom::Command, LEAF),
-        Now::Maybe => has_either_room(rooms, counts, Whom::Missing, NOTHING, Whom::Command, LEAF),
-        Now::Did(done) => has_room(rooms, counts, Whom::Command, done.size),
-        Now::Due => has_room(rooms, counts, Whom::Due, NOTHING),
+        ParserState::Begin => has_budget(budgets, counts, Category::Command, LEAF),
+        ParserState::Maybe => has_either_budget(
+            budgets,
+            counts,
+            Category::Missing,
+            NOTHING,
+            Category::Command,
+            LEAF,
+        ),
+        ParserState::Did(done) => has_budget(budgets, counts, Category::Command, done.size),
+        ParserState::Due => has_budget(budgets, counts, Category::Due, NOTHING),
     }
 }
 
-/// The rooms of the lowest of what was begun of which none are kept.
-fn next_rooms(frames: &Frames) -> Result<Rooms, AllocError>
-    requires { length frames.now.rooms.items < length frames.now.above.items }
-    ensures { IfOk result (λ rooms. AreRooms true (stack frames.now.decls.items (take (length frames.now.rooms.items + 1) frames.now.above.items)) rooms.items) }
+/// The budgets of the lowest frame for which none are kept.
+fn next_budgets(frames: &Frames) -> Result<Budgets, AllocError>
+    requires { length frames.now.budgets.items < length frames.now.above.items }
+    ensures { IfOk result (λ budgets. AreBudgets true (stack frames.now.decls.items (take (length frames.now.budgets.items + 1) frames.now.above.items)) budgets.items) }
 {
-    let at = frames.rooms.len();
+    let at = frames.budgets.len();
     let next = &frames.above[at];
-    let mut rooms = Rooms::new(frames.alloc);
+    let mut budgets = Budgets::new(frames.alloc);
     if at == 0 {
-        let below = rooms_of_section(frames.alloc, frames.held, true)?;
-        add_rooms_on(
-            &mut rooms,
-            &next.begun,
+        let below = budgets_of_section(frames.alloc, frames.held, true)?;
+        add_budgets_on(
+            &mut budgets,
+            &next.unfinished,
             next.held,
             false,
             below.as_slice(),
             true,
         )?;
-        return Ok(rooms);
+        return Ok(budgets);
     }
-    let tight = is_tight(&frames.above[at - 1].begun);
-    let below = frames.rooms[at - 1].rooms.as_slice();
-    add_rooms_on(&mut rooms, &next.begun, next.held, tight, below, true)?;
-    Ok(rooms)
+    let tight = is_tight(&frames.above[at - 1].unfinished);
+    let below = frames.budgets[at - 1].budgets.as_slice();
+    add_budgets_on(
+        &mut budgets,
+        &next.unfinished,
+        next.held,
+        tight,
+        below,
+        true,
+    )?;
+    Ok(budgets)
 }
 
 /// Keeps them.
-fn keep_next_rooms(frames: &mut Frames) -> Result<(), AllocError>
-    requires { length frames.old.rooms.items < length frames.old.above.items }
+fn keep_next_budgets(frames: &mut Frames) -> Result<(), AllocError>
+    requires { length frames.old.budgets.items < length frames.old.above.items }
     ensures stack { stack_of frames.new ≡ stack_of frames.old }
     ensures above { OnOk result (length frames.new.above.items ≡ length frames.old.above.items) }
-    ensures rooms { OnOk result (length frames.new.rooms.items ≡ length frames.old.rooms.items + 1) }
+    ensures budgets { OnOk result (length frames.new.budgets.items ≡ length frames.old.budgets.items + 1) }
 {
-    let rooms = next_rooms(frames)?;
-    frames.rooms.push(FrameRooms { rooms })?;
+    let budgets = next_budgets(frames)?;
+    frames.budgets.push(FrameBudgets { budgets })?;
     Ok(())
 }
 
-/// Keeps the rooms of all that was begun.
-fn keep_rooms(frames: &mut Frames) -> Result<(), AllocError>
+/// Keeps the budgets of all frames.
+fn keep_budgets(frames: &mut Frames) -> Result<(), AllocError>
     ensures stack { stack_of frames.new ≡ stack_of frames.old }
-    ensures kept { OnOk result (length frames.new.above.items ≤ length frames.new.rooms.items) }
+    ensures kept { OnOk result (length frames.new.above.items ≤ length frames.new.budgets.items) }
 {
-    while frames.rooms.len() < frames.above.len() {
-        keep_next_rooms(frames)?;
+    while frames.budgets.len() < frames.above.len() {
+        keep_next_budgets(frames)?;
     }
     Ok(())
 }
 
-/// Whether a section within the limits goes on, by the rooms.
+/// Whether a section within the limits goes on, by the budgets.
 #[cold]
 #[inline(never)]
-fn has_rooms(frames: &mut Frames, now: &Now) -> Result<bool, AllocError>
+fn has_budgets(frames: &mut Frames, now: &ParserState) -> Result<bool, AllocError>
     ensures stack { stack_of frames.new ≡ stack_of frames.old }
     ensures bounded { IfOk result (λ bounded. Completes (Limit true) (state (stack_of frames.new) now.now) ↔ (bounded ≡ true)) }
 {
-    keep_rooms(frames)?;
+    keep_budgets(frames)?;
     let count = frames.above.len();
     if count == 0 {
-        let rooms = rooms_of_section(frames.alloc, frames.held, true)?;
-        return Ok(has_room_for(rooms.as_slice(), true, now));
+        let budgets = budgets_of_section(frames.alloc, frames.held, true)?;
+        return Ok(has_budget_for(budgets.as_slice(), true, now));
     }
-    Ok(has_room_for(frames.rooms[count - 1].rooms.as_slice(), true, now))
+    Ok(has_budget_for(frames.budgets[count - 1].budgets.as_slice(), true, now))
 }
 
-/// Whether a section within the limits goes on, in a state from which a section goes on. The rooms are asked only where this is
+/// Whether a section within the limits goes on, in a state from which a section goes on. The budgets are computed only where this is
 /// not sure without them.
-pub fn is_bounded(frames: &mut Frames, now: &Now) -> Result<bool, AllocError>
+pub fn is_bounded(frames: &mut Frames, now: &ParserState) -> Result<bool, AllocError>
     ensures stack { stack_of frames.new ≡ stack_of frames.old }
     ensures goes { IfOk result (λ bounded. bounded ≡ true → Completes Always (state (stack_of frames.new) now.now) → Completes (Limit true) (state (stack_of frames.new) now.now)) }
     ensures only { IfOk result (λ bounded. Completes (Limit true) (state (stack_of frames.new) now.now) → bounded ≡ true) }
@@ -193,37 +214,37 @@ pub fn is_bounded(frames: &mut Frames, now: &Now) -> Result<bool, AllocError>
     if is_surely_bounded(frames, now) {
         return Ok(true);
     }
-    has_rooms(frames, now)
+    has_budgets(frames, now)
 }
 
-/// The rooms of these frames where nodes are not counted.
-fn rooms_in_depth(frames: &Frames) -> Result<Rooms, AllocError>
-    ensures { IfOk result (λ rooms. AreRooms false (stack_of frames.now) rooms.items) }
+/// The budgets of these frames where nodes are not counted.
+fn budgets_in_depth(frames: &Frames) -> Result<Budgets, AllocError>
+    ensures { IfOk result (λ budgets. AreBudgets false (stack_of frames.now) budgets.items) }
 {
-    let mut rooms = rooms_of_section(frames.alloc, frames.held, false)?;
+    let mut budgets = budgets_of_section(frames.alloc, frames.held, false)?;
     let mut tight = false;
     for frame in &frames.above {
-        let below = rooms;
-        rooms = Rooms::new(frames.alloc);
-        add_rooms_on(
-            &mut rooms,
-            &frame.begun,
+        let below = budgets;
+        budgets = Budgets::new(frames.alloc);
+        add_budgets_on(
+            &mut budgets,
+            &frame.unfinished,
             frame.held,
             tight,
             below.as_slice(),
             false,
         )?;
-        tight = is_tight(&frame.begun);
+        tight = is_tight(&frame.unfinished);
     }
-    Ok(rooms)
+    Ok(budgets)
 }
 
 /// Whether a section within the depth goes on.
 #[cold]
 #[inline(never)]
-pub fn is_bounded_in_depth(frames: &Frames, now: &Now) -> Result<bool, AllocError>
+pub fn is_bounded_in_depth(frames: &Frames, now: &ParserState) -> Result<bool, AllocError>
     ensures { IfOk result (λ bounded. Completes (Limit false) (state (stack_of frames.now) now.now) ↔ (bounded ≡ true)) }
 {
-    let rooms = rooms_in_depth(frames)?;
-    Ok(has_room_for(rooms.as_slice(), false, now))
+    let budgets = budgets_in_depth(frames)?;
+    Ok(has_budget_for(budgets.as_slice(), false, now))
 }

@@ -1,10 +1,10 @@
-//! The sizes of parts, in 32 bits each: the greatest number stands for all above it.
+//! The sizes of parts, in 32 bits each: the greatest number means itself or any larger one.
 ghost use Rattle.std.specs.Prelude.{◌≡◌, ◌+◌, ◌-◌, max};
 ghost use Rattle.bk_tree.specs.Tree.{expression, expressions_in, items_in};
 ghost use Rattle.bk_frames.specs.Sizes.{kept, form_of, owed, are_no_items, due_items, both_of, node_of, are_none};
 
 use crate::frame::Size;
-use bk_tree::{Expr, Item};
+use bk_tree::{ConstItem, Expr};
 
 /// No part.
 pub const NOTHING: Size = Size { depth: 0, nodes: 0 };
@@ -82,7 +82,7 @@ pub fn owed(all: usize, done: usize) -> u32
 
 /// Whether there are no items.
 
-pub fn are_no_items(items: &[Item]) -> bool
+pub fn are_no_items(items: &[ConstItem]) -> bool
     ensures { result ≡ are_no_items (items_in items.now) }
 {
     match items {
@@ -92,7 +92,7 @@ pub fn are_no_items(items: &[Item]) -> bool
 }
 
 /// The depth and the nodes of the item that is due where none came.
-pub fn due_items(items: &[Item]) -> u32
+pub fn due_items(items: &[ConstItem]) -> u32
     ensures { result ≡ due_items (items_in items.now) }
 {
     if are_no_items(items) { 2 } else { 0 }

@@ -1,22 +1,22 @@
-//! What is surely spare of the limits: a bound from below of the rooms, which costs little.
+//! What is surely spare of the limits: a lower bound of the budgets, which costs little.
 ghost use Rattle.std.specs.Prelude.{◌≡◌, ℕ, true};
 ghost use Rattle.bk_grammar.specs.Machine.{Stack};
-ghost use Rattle.bk_frames.specs.declared.frame.Begun.TheVariants as b;
+ghost use Rattle.bk_frames.specs.declared.frame.Unfinished.TheVariants as b;
 ghost use Rattle.bk_frames.specs.Sizes.{kept};
-ghost use Rattle.bk_frames.specs.Begun.{phrase_on, member_on, place_on, begun_on, held_in};
+ghost use Rattle.bk_frames.specs.Unfinished.{phrase_on, member_on, place_on, unfinished_on, held_in};
 ghost use Rattle.bk_frames.specs.Bounds.{Always};
-ghost use Rattle.bk_frames.specs.Rooms.{Limit};
-ghost use Rattle.bk_frames.specs.WaysOn.{Completes};
+ghost use Rattle.bk_frames.specs.Budgets.{Limit};
+ghost use Rattle.bk_frames.specs.Completing.{Completes};
 ghost use Rattle.bk_frames.specs.Spares.{owes, spare_of_section, Leaves, IsSmall};
 ghost use Rattle.bk_frames.specs.Stacked.{spare_under};
 ghost use Rattle.bk_frames.specs.Frames.{stack_of, state, part_of};
 
-use crate::frame::{Begun, Member, Now, Phrase, Place, Size};
+use crate::frame::{Member, ParserState, Phrase, Place, Size, Unfinished};
 use crate::frames::Frames;
 use crate::size::{NOTHING, plus, rest};
 use bk_base::limit::{TREE_DEPTH, TREE_NODES};
 
-/// How many levels one of what was begun adds at most: its own, and that of a call or a REPEAT around it.
+/// The most levels that a frame adds: its own, and that of a call or a REPEAT around it.
 const LEVELS: u32 = 2;
 
 /// How many nodes it adds at most, beside the parts that it holds and those that it owes.
@@ -58,26 +58,26 @@ fn owes_of_place(place: &Place) -> u32
 }
 
 /// How many parts it owes at most.
-fn owes(begun: &Begun) -> u32
-    ensures { (st : Stack) → result ≡ kept (owes (begun_on begun.now st)) }
+fn owes(unfinished: &Unfinished) -> u32
+    ensures { (st : Stack) → result ≡ kept (owes (unfinished_on unfinished.now st)) }
 {
-    match begun {
-        Begun::Phrase(phrase) => owes_of_phrase(phrase),
-        Begun::Member(member) => owes_of_member(member),
-        Begun::Place(place) => owes_of_place(place),
+    match unfinished {
+        Unfinished::Phrase(phrase) => owes_of_phrase(phrase),
+        Unfinished::Member(member) => owes_of_member(member),
+        Unfinished::Place(place) => owes_of_place(place),
         _ => 0,
     }
 }
 
-/// What is spare above what was begun, with these parts, where this is spare below it.
-pub fn spare_above(below: Size, begun: &Begun, held: Size) -> Size
-    requires held { held ≡ held_in begun.now }
+/// What is spare above an unfinished construct that has these parts, where this is spare below it.
+pub fn spare_above(below: Size, unfinished: &Unfinished, held: Size) -> Size
+    requires held { held ≡ held_in unfinished.now }
     requires below { IsSmall below }
-    ensures leaves { Leaves below begun.now result }
+    ensures leaves { Leaves below unfinished.now result }
     ensures small { IsSmall result }
 {
     let levels = plus(held.depth, LEVELS);
-    let nodes = plus(plus(held.nodes, owes(begun)), NODES);
+    let nodes = plus(plus(held.nodes, owes(unfinished)), NODES);
     if levels > below.depth {
         return NOTHING;
     }
@@ -116,18 +116,18 @@ pub fn spare_of(frames: &Frames) -> Size
 }
 
 /// The size of the part that is complete so far, if there is one.
-fn part_of(now: &Now) -> Size
+fn part_of(now: &ParserState) -> Size
     ensures { result ≡ part_of now.now }
 {
     match now {
-        Now::Have(sized) => sized.size,
-        Now::Did(done) => done.size,
+        ParserState::Have(sized) => sized.size,
+        ParserState::Did(done) => done.size,
         _ => NOTHING,
     }
 }
 
 /// Whether what is spare shows that a section within the limits goes on, in a state from which a section goes on.
-pub fn is_surely_bounded(frames: &Frames, now: &Now) -> bool
+pub fn is_surely_bounded(frames: &Frames, now: &ParserState) -> bool
     ensures { result ≡ true → Completes Always (state (stack_of frames.now) now.now) → Completes (Limit true) (state (stack_of frames.now) now.now) }
 {
     let spare = spare_of(frames);

@@ -27,7 +27,7 @@ fn close(tokens: &[Token], opened: &mut Vec<usize>, wanted: &[u8]) -> Option<usi
 
 /// The sections that are open before a symbol.
 #[derive(Drop)]
-pub struct Opened {
+pub struct OpenSections {
     /// The indices of their `$(`s, outermost first.
     pub indices: Vec<usize>,
     /// The first `$(` and `$)` that close each other where the `$)` begins a line further left than the line of the `$(`.
@@ -47,12 +47,12 @@ fn is_uneven(scene: &Scene, open: usize, close: usize) -> bool {
 }
 
 /// The sections that are open before the refused symbol.
-pub fn open_sections(scene: &Scene) -> Result<Opened, AllocError> {
+pub fn open_sections(scene: &Scene) -> Result<OpenSections, AllocError> {
     let mut indices = Vec::new(scene.alloc);
     let mut uneven = None;
     for (i, token) in scene.tokens.iter().enumerate() {
         if i >= scene.at {
-            return Ok(Opened { indices, uneven });
+            return Ok(OpenSections { indices, uneven });
         }
         if token.kind == Kind::SectionOpen {
             indices.push(i)?;
@@ -64,11 +64,11 @@ pub fn open_sections(scene: &Scene) -> Result<Opened, AllocError> {
             }
         }
     }
-    Ok(Opened { indices, uneven })
+    Ok(OpenSections { indices, uneven })
 }
 
 /// What is reported where a `$(` is not closed: which one, or perhaps which, by how the lines are.
-pub fn tell_unclosed(scene: &Scene, opened: &Opened) -> Result<Option<Told>, AllocError> {
+pub fn hint_unclosed(scene: &Scene, opened: &OpenSections) -> Result<Option<Told>, AllocError> {
     let Some(open) = opened.indices.last().copied() else {
         return Ok(None);
     };
@@ -96,7 +96,7 @@ pub fn tell_unclosed(scene: &Scene, opened: &Opened) -> Result<Option<Told>, All
 }
 
 /// What is reported where a section is refused at its end.
-pub fn tell_end(scene: &Scene, opened: &Opened) -> Result<Option<Told>, AllocError> {
+pub fn hint_end(scene: &Scene, opened: &OpenSections) -> Result<Option<Told>, AllocError> {
     if scene.at < scene.tokens.len() {
         return Ok(None);
     }
@@ -112,7 +112,7 @@ pub fn tell_end(scene: &Scene, opened: &Opened) -> Result<Option<Told>, AllocErr
             )?));
         }
     }
-    tell_unclosed(scene, opened)
+    hint_unclosed(scene, opened)
 }
 
 /// Reserved words that are often written at once after a bracket.
@@ -162,7 +162,7 @@ fn is_reserved(tag: &[u8]) -> bool {
 }
 
 /// A bracket with this index has a tag that was perhaps meant as a word of its own.
-fn tell_tag(scene: &Scene, index: usize) -> Result<Told, AllocError> {
+fn hint_tag(scene: &Scene, index: usize) -> Result<Told, AllocError> {
     let bracket = if scene.kind(index) == Some(Kind::SectionOpen) {
         "`$(`"
     } else {
@@ -180,7 +180,7 @@ fn tell_tag(scene: &Scene, index: usize) -> Result<Told, AllocError> {
 }
 
 /// What is reported where the command before the refused symbol is after a bracket whose tag was meant as a word.
-pub fn tell_glued(scene: &Scene) -> Result<Option<Told>, AllocError> {
+pub fn hint_glued(scene: &Scene) -> Result<Option<Told>, AllocError> {
     let Some(index) = scene.statement().checked_sub(1) else {
         return Ok(None);
     };
@@ -200,17 +200,17 @@ pub fn tell_glued(scene: &Scene) -> Result<Option<Told>, AllocError> {
             Some(Kind::Assign | Kind::Colon | Kind::Comma | Kind::Close | Kind::Percent)
         );
     if is_operator || is_reserved(tag) || scene.kind(index.saturating_add(1)) == Some(Kind::Open) {
-        return Ok(Some(tell_tag(scene, index)?));
+        return Ok(Some(hint_tag(scene, index)?));
     }
     Ok(None)
 }
 
 /// What is reported of a `$)` whose tag is wrong.
-pub fn tell_wrong_tag(scene: &Scene) -> Result<Told, AllocError> {
+pub fn hint_wrong_tag(scene: &Scene) -> Result<Told, AllocError> {
     let opened = open_sections(scene)?;
     let wanted = tag_at(scene.tokens, scene.at);
     if is_reserved(wanted) {
-        return tell_tag(scene, scene.at);
+        return hint_tag(scene, scene.at);
     }
     let Some(open) = opened.indices.last().copied() else {
         let sentence = scene
@@ -242,7 +242,7 @@ pub fn tell_wrong_tag(scene: &Scene) -> Result<Told, AllocError> {
 }
 
 /// What is reported of a `$)` where no section is open.
-pub fn tell_extra(scene: &Scene, opened: &Opened) -> Result<Option<Told>, AllocError> {
+pub fn hint_extra(scene: &Scene, opened: &OpenSections) -> Result<Option<Told>, AllocError> {
     if scene.refused() == Some(Kind::SectionClose) && opened.indices.is_empty() {
         return Ok(Some(scene.here("this `$)` closes nothing: no `$(` is open here")?));
     }
@@ -262,7 +262,7 @@ fn closes(scene: &Scene, count: usize) -> Result<bool, AllocError> {
 }
 
 /// What is reported where a declaration is after a command: where a `$)` is perhaps missing before it.
-pub fn tell_late(scene: &Scene, opened: &Opened) -> Result<Option<Told>, AllocError> {
+pub fn hint_late(scene: &Scene, opened: &OpenSections) -> Result<Option<Told>, AllocError> {
     if !matches!(
         scene.refused(),
         Some(Kind::Let | Kind::And | Kind::Manifest | Kind::Static | Kind::Global)
@@ -276,7 +276,7 @@ pub fn tell_late(scene: &Scene, opened: &Opened) -> Result<Option<Told>, AllocEr
         return Ok(None);
     }
     if lacks_closings(scene, opened, open)? {
-        return Ok(Some(tell_before(scene, opened, open)?));
+        return Ok(Some(hint_before(scene, opened, open)?));
     }
     if scene.refused() == Some(Kind::And) {
         return Ok(None);
@@ -287,7 +287,7 @@ pub fn tell_late(scene: &Scene, opened: &Opened) -> Result<Option<Told>, AllocEr
 }
 
 /// Whether `$)`s before the refused declaration make it right, and its line is no further right than the `$(` that they close.
-fn lacks_closings(scene: &Scene, opened: &Opened, open: usize) -> Result<bool, AllocError> {
+fn lacks_closings(scene: &Scene, opened: &OpenSections, open: usize) -> Result<bool, AllocError> {
     let left = scene.lines.indentation(scene.text, scene.line(scene.at));
     for count in 1..TRIED {
         if count <= opened.indices.len() && closes(scene, count)? {
@@ -304,7 +304,7 @@ fn lacks_closings(scene: &Scene, opened: &Opened, open: usize) -> Result<bool, A
 }
 
 /// What is reported where a `$)` is missing before a declaration.
-fn tell_before(scene: &Scene, opened: &Opened, open: usize) -> Result<Told, AllocError> {
+fn hint_before(scene: &Scene, opened: &OpenSections, open: usize) -> Result<Told, AllocError> {
     let index = match opened.uneven {
         Some((first, _)) if open < first => first,
         _ => open,

@@ -152,7 +152,7 @@ fn sign_says(sign: u8, byte: u8) -> Option<&'static str> {
 }
 
 /// What is reported of a bad byte.
-fn tell_byte(alloc: Global, text: &[u8], at: usize) -> Result<Told, AllocError> {
+fn hint_byte(alloc: Global, text: &[u8], at: usize) -> Result<Told, AllocError> {
     let byte = text.get(at).copied();
     let start = word_before(text, at);
     let sign = text.get(start).copied().unwrap_or(b' ');
@@ -188,7 +188,7 @@ fn character_says(text: &[u8], start: usize) -> &'static str {
 }
 
 /// What is reported of a string or character constant that is not whole.
-fn tell_string(alloc: Global, text: &[u8], at: usize) -> Result<Told, AllocError> {
+fn hint_string(alloc: Global, text: &[u8], at: usize) -> Result<Told, AllocError> {
     let Some((quote, start)) = quote_before(text, at) else {
         return Told::new(alloc, Some(at), "a string ends on its line");
     };
@@ -203,7 +203,7 @@ fn tell_string(alloc: Global, text: &[u8], at: usize) -> Result<Told, AllocError
 }
 
 /// What is reported of a GET.
-fn tell_get(alloc: Global, text: &[u8], at: usize, start: usize) -> Result<Told, AllocError> {
+fn hint_get(alloc: Global, text: &[u8], at: usize, start: usize) -> Result<Told, AllocError> {
     let place = match quote_before(text, at) {
         Some((_, quote)) => quote,
         None => at,
@@ -218,7 +218,7 @@ fn tell_get(alloc: Global, text: &[u8], at: usize, start: usize) -> Result<Told,
 }
 
 /// What is reported of a text that can't be cut into symbols.
-pub fn tell_bytes(
+pub fn hint_bytes(
     alloc: Global,
     text: &[u8],
     lines: &Lines,
@@ -226,8 +226,8 @@ pub fn tell_bytes(
 ) -> Result<Told, AllocError> {
     let at = certain_at(text);
     match fault.kind {
-        SourceKind::BadByte => tell_byte(alloc, text, at),
-        SourceKind::BadString => tell_string(alloc, text, at),
+        SourceKind::BadByte => hint_byte(alloc, text, at),
+        SourceKind::BadString => hint_string(alloc, text, at),
         SourceKind::BadEscape => Told::new(
             alloc,
             Some(at.saturating_sub(1)),
@@ -248,7 +248,7 @@ pub fn tell_bytes(
             Some(at),
             "the tag of a section has at most 255 bytes",
         ),
-        SourceKind::BadGet => tell_get(alloc, text, at, lines.start(fault.line).unwrap_or(0)),
+        SourceKind::BadGet => hint_get(alloc, text, at, lines.start(fault.line).unwrap_or(0)),
         _ => Told::new(
             alloc,
             Some(at),

@@ -34,7 +34,7 @@ fn is_right_else(scene: &Scene, index: usize, other: Kind) -> Result<bool, Alloc
 }
 
 /// What is reported of ELSE that no TEST awaits.
-pub fn tell_else(scene: &Scene) -> Result<Option<Told>, AllocError> {
+pub fn hint_else(scene: &Scene) -> Result<Option<Told>, AllocError> {
     if scene.refused() != Some(Kind::Or) {
         return Ok(None);
     }
@@ -78,7 +78,7 @@ pub fn tell_else(scene: &Scene) -> Result<Option<Told>, AllocError> {
 }
 
 /// What is reported of a TEST that lacks ELSE.
-pub fn tell_test(scene: &Scene) -> Result<Option<Told>, AllocError> {
+pub fn hint_test(scene: &Scene) -> Result<Option<Told>, AllocError> {
     if !scene.takes(Kind::Or)? {
         return Ok(None);
     }
@@ -108,7 +108,7 @@ pub fn tell_test(scene: &Scene) -> Result<Option<Told>, AllocError> {
 }
 
 /// What is reported of `:=` where `=` is due, and of `=` where `:=` is.
-pub fn tell_equal(scene: &Scene) -> Result<Option<Told>, AllocError> {
+pub fn hint_equal(scene: &Scene) -> Result<Option<Told>, AllocError> {
     match scene.refused() {
         Some(Kind::Assign) if scene.means(Kind::Equal)? => {
             let declares = [Kind::Let, Kind::And, Kind::For]
@@ -134,7 +134,7 @@ fn is_item(scene: &Scene) -> bool {
 }
 
 /// What is reported where a line begins with a symbol before which a `;` was inserted that is refused.
-pub fn tell_inserted(scene: &Scene) -> Result<Option<Told>, AllocError> {
+pub fn hint_inserted(scene: &Scene) -> Result<Option<Told>, AllocError> {
     if !scene.is_inserted(scene.at) || !matches!(scene.behind(), Some(Kind::Open | Kind::Bang)) {
         return Ok(None);
     }
@@ -168,7 +168,7 @@ fn is_begun_by_do(scene: &Scene) -> Result<bool, AllocError> {
 }
 
 /// What is reported where the `,` of a choice is due.
-pub fn tell_choice(scene: &Scene) -> Result<Option<Told>, AllocError> {
+pub fn hint_choice(scene: &Scene) -> Result<Option<Told>, AllocError> {
     let Some(arrow) = scene.nearest(Kind::Arrow) else {
         return Ok(None);
     };
@@ -188,7 +188,7 @@ fn is_needless(scene: &Scene) -> Result<bool, AllocError> {
 }
 
 /// What is reported of a word that is a command of another kind in C.
-pub fn tell_misused(scene: &Scene) -> Result<Option<Told>, AllocError> {
+pub fn hint_misused(scene: &Scene) -> Result<Option<Told>, AllocError> {
     let words = match (scene.before(1), scene.refused()) {
         (_, Some(Kind::Repeat | Kind::RepeatUntil | Kind::RepeatWhile)) => {
             "`REPEAT`, `REPEATUNTIL E` and `REPEATWHILE E` come after the command that they repeat"

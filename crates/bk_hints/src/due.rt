@@ -139,27 +139,27 @@ fn may_miss(scene: &Scene, kind: Kind) -> bool {
 }
 
 /// What is reported where one symbol is missing.
-pub fn tell_missing(scene: &Scene) -> Result<Option<Told>, AllocError> {
+pub fn hint_missing(scene: &Scene) -> Result<Option<Told>, AllocError> {
     for due in &MISSING {
         if may_miss(scene, due.kind) && scene.lacks(&[due.kind])? {
-            return Ok(Some(tell_due(scene, due)?));
+            return Ok(Some(hint_due(scene, due)?));
         }
     }
     Ok(None)
 }
 
 /// What is reported of a missing symbol.
-fn tell_due(scene: &Scene, due: &Due) -> Result<Told, AllocError> {
+fn hint_due(scene: &Scene, due: &Due) -> Result<Told, AllocError> {
     let sentence = scene.sentence().quote(due.spelling)?.say(match due.kind {
         Kind::Do => " (or `THEN`) is missing before ",
         Kind::Be => " (or `=`) is missing before ",
         _ => " is missing before ",
     })?;
-    tell_gap(scene, sentence)
+    hint_gap(scene, sentence)
 }
 
 /// The sentence with the refused symbol after it, at the gap before that symbol.
-fn tell_gap(scene: &Scene, sentence: Sentence) -> Result<Told, AllocError> {
+fn hint_gap(scene: &Scene, sentence: Sentence) -> Result<Told, AllocError> {
     let sentence = scene.name_refused(sentence)?;
     let at = scene.gap();
     let sentence = if scene.refused().is_none() || at == scene.spot(scene.at) {
@@ -187,9 +187,9 @@ fn due_in_words(scene: &Scene) -> Result<Option<&'static str>, AllocError> {
 }
 
 /// What is reported where nothing else is known.
-pub fn tell_due_here(scene: &Scene) -> Result<Told, AllocError> {
+pub fn hint_due_here(scene: &Scene) -> Result<Told, AllocError> {
     if let Some(words) = due_in_words(scene)? {
-        return tell_gap(scene, scene.sentence().say(words)?);
+        return hint_gap(scene, scene.sentence().say(words)?);
     }
     let sentence = scene.name_refused(scene.sentence())?.say(" can't go here")?;
     let sentence = put_possible(scene, sentence)?;

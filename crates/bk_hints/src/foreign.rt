@@ -448,7 +448,7 @@ pub fn library(spelling: &[u8]) -> Option<&'static str> {
 }
 
 /// What is reported of a name with this index, where it is a word of another dialect or language.
-fn tell_word(scene: &Scene, index: usize) -> Result<Option<Told>, AllocError> {
+fn hint_word(scene: &Scene, index: usize) -> Result<Option<Told>, AllocError> {
     if scene.kind(index) != Some(Kind::Name) {
         return Ok(None);
     }
@@ -459,12 +459,12 @@ fn tell_word(scene: &Scene, index: usize) -> Result<Option<Told>, AllocError> {
 }
 
 /// What is reported of words of other dialects and languages, at the refused symbol or before it.
-pub fn tell_foreign(scene: &Scene) -> Result<Option<Told>, AllocError> {
-    if let Some(told) = tell_word(scene, scene.at)? {
+pub fn hint_foreign(scene: &Scene) -> Result<Option<Told>, AllocError> {
+    if let Some(told) = hint_word(scene, scene.at)? {
         return Ok(Some(told));
     }
     match scene.back(1) {
-        Some(before) => tell_word(scene, before),
+        Some(before) => hint_word(scene, before),
         None => Ok(None),
     }
 }

@@ -1,9 +1,9 @@
 //! What is reported of faults of names and constants: where the word or name is, and what is meant.
 
 use crate::names::{
-    Names, tell_dynamic, tell_label, tell_not_declared, tell_procedures, tell_twice,
+    Names, hint_dynamic, hint_label, hint_not_declared, hint_procedures, hint_twice,
 };
-use crate::roles::{Role, roles};
+use crate::roles::{NameRole, roles};
 use crate::scene::{Scene, comes_before_command, tokens_before};
 use crate::sentence::Told;
 use bk_base::{Line, SourceFault, SourceKind};
@@ -29,7 +29,7 @@ struct Found {
 }
 
 /// The symbols on a line that are this name.
-fn named(tokens: &[Token], roles: &[Role], line: Line, name: &[u8]) -> Found {
+fn named(tokens: &[Token], roles: &[NameRole], line: Line, name: &[u8]) -> Found {
     let mut found = Found {
         used: None,
         first: None,
@@ -41,7 +41,7 @@ fn named(tokens: &[Token], roles: &[Role], line: Line, name: &[u8]) -> Found {
             && token.place.is_some()
             && token.text.eq_ignore_ascii_case(name)
         {
-            if roles.get(i).copied() == Some(Role::Used) {
+            if roles.get(i).copied() == Some(NameRole::Used) {
                 found.used = found.used.or(Some(i));
             } else {
                 found.first = found.first.or(Some(i));
@@ -63,7 +63,11 @@ fn is_destination(scene: &Scene, index: usize) -> bool {
 }
 
 /// The index of the first destination on a line that can't be assigned to, and its MANIFEST, if it is one.
-fn bad_destination(scene: &Scene, roles: &[Role], line: Line) -> (Option<usize>, Option<usize>) {
+fn bad_destination(
+    scene: &Scene,
+    roles: &[NameRole],
+    line: Line,
+) -> (Option<usize>, Option<usize>) {
     let mut shape = None;
     let mut tries = 0;
     for (i, token) in scene.tokens.iter().enumerate() {
@@ -85,7 +89,7 @@ fn bad_destination(scene: &Scene, roles: &[Role], line: Line) -> (Option<usize>,
 }
 
 /// The item of MANIFEST that a destination or operand of `@` with this index is.
-fn manifest(scene: &Scene, roles: &[Role], index: usize) -> Option<usize> {
+fn manifest(scene: &Scene, roles: &[NameRole], index: usize) -> Option<usize> {
     if scene.kind(index)? != Kind::Name {
         return None;
     }
@@ -119,7 +123,7 @@ fn is_plain(scene: &Scene, index: usize) -> bool {
 }
 
 /// What is reported of a destination, or of an operand of `@`, without an address.
-fn tell_assignable(scene: &Scene, roles: &[Role], line: Line) -> Result<Told, AllocError> {
+fn hint_assignable(scene: &Scene, roles: &[NameRole], line: Line) -> Result<Told, AllocError> {
     let (index, declared) = bad_destination(scene, roles, line);
     let at = index.unwrap_or(tokens_before(scene.tokens, line));
     let sentence = match declared {
@@ -137,7 +141,7 @@ fn tell_assignable(scene: &Scene, roles: &[Role], line: Line) -> Result<Told, Al
 }
 
 /// What asks for a constant, and where: at the first symbol on a line that perhaps is none.
-fn no_constant(scene: &Scene, roles: &[Role], line: Line) -> (Option<usize>, Option<Kind>) {
+fn no_constant(scene: &Scene, roles: &[NameRole], line: Line) -> (Option<usize>, Option<Kind>) {
     let mut asks = None;
     let mut tries = 0;
     for (i, token) in scene.tokens.iter().enumerate() {
@@ -170,11 +174,11 @@ fn is_case(asks: Option<Kind>) -> bool {
 }
 
 /// Whether a symbol is no constant.
-fn is_variable(scene: &Scene, roles: &[Role], index: usize) -> bool {
+fn is_variable(scene: &Scene, roles: &[NameRole], index: usize) -> bool {
     match scene.kind(index) {
         Some(Kind::Text | Kind::Query | Kind::Valof | Kind::At | Kind::Bang) => true,
         Some(Kind::Table) => scene.before_at(index) == Some(Kind::Equal),
-        Some(Kind::Name) if roles.get(index).copied() == Some(Role::Used) => {
+        Some(Kind::Name) if roles.get(index).copied() == Some(NameRole::Used) => {
             let names = Names {
                 scene,
                 roles,
@@ -187,7 +191,7 @@ fn is_variable(scene: &Scene, roles: &[Role], index: usize) -> bool {
 }
 
 /// What is reported of an expression that is no constant.
-fn tell_constant(scene: &Scene, roles: &[Role], line: Line) -> Result<Told, AllocError> {
+fn hint_constant(scene: &Scene, roles: &[NameRole], line: Line) -> Result<Told, AllocError> {
     let (index, asks) = no_constant(scene, roles, line);
     let at = index.unwrap_or(tokens_before(scene.tokens, line));
     let sentence = match index {
@@ -214,7 +218,7 @@ fn tell_constant(scene: &Scene, roles: &[Role], line: Line) -> Result<Told, Allo
 }
 
 /// What is reported at the first symbol of these kinds on a line.
-fn tell_word(scene: &Scene, line: Line, kinds: &[Kind], words: &str) -> Result<Told, AllocError> {
+fn hint_word(scene: &Scene, line: Line, kinds: &[Kind], words: &str) -> Result<Told, AllocError> {
     let at = match first_of(scene.tokens, line, kinds) {
         Some(index) => index,
         None => tokens_before(scene.tokens, line),
@@ -223,7 +227,7 @@ fn tell_word(scene: &Scene, line: Line, kinds: &[Kind], words: &str) -> Result<T
 }
 
 /// What is reported of RESULTIS or RETURN where it can't be.
-fn tell_result(scene: &Scene, line: Line) -> Result<Told, AllocError> {
+fn hint_result(scene: &Scene, line: Line) -> Result<Told, AllocError> {
     let words = match first_of(scene.tokens, line, &[Kind::ResultIs, Kind::Return]) {
         Some(index) if scene.kind(index) == Some(Kind::Return) => {
             "`RETURN` leaves a procedure with BE; this one gives a value, by `RESULTIS E` in its VALOF"
@@ -231,74 +235,78 @@ fn tell_result(scene: &Scene, line: Line) -> Result<Told, AllocError> {
         _ =>
             "`RESULTIS` goes in a VALOF of its procedure: `LET F() = VALOF $( .. RESULTIS E $)`; `RETURN` leaves one with BE",
     };
-    tell_word(scene, line, &[Kind::ResultIs, Kind::Return], words)
+    hint_word(scene, line, &[Kind::ResultIs, Kind::Return], words)
 }
 
 /// What is reported of a fault that keeps no name.
-fn tell_nameless(scene: &Scene, roles: &[Role], fault: &SourceFault) -> Result<Told, AllocError> {
+fn hint_nameless(
+    scene: &Scene,
+    roles: &[NameRole],
+    fault: &SourceFault,
+) -> Result<Told, AllocError> {
     let line = fault.line;
     match fault.kind {
-        SourceKind::NotAssignable => tell_assignable(scene, roles, line),
-        SourceKind::NotConstant => tell_constant(scene, roles, line),
-        SourceKind::NoResultOrReturn => tell_result(scene, line),
-        SourceKind::ConstantDividedByZero => tell_word(
+        SourceKind::NotAssignable => hint_assignable(scene, roles, line),
+        SourceKind::NotConstant => hint_constant(scene, roles, line),
+        SourceKind::NoResultOrReturn => hint_result(scene, line),
+        SourceKind::ConstantDividedByZero => hint_word(
             scene,
             line,
             &[Kind::Slash, Kind::Rem],
             "the right operand of this division of constants is 0",
         ),
-        SourceKind::CaseRepeated => tell_word(
+        SourceKind::CaseRepeated => hint_word(
             scene,
             line,
             &[Kind::Case],
             "this SWITCHON has a CASE of the same value already",
         ),
-        SourceKind::DefaultRepeated => tell_word(
+        SourceKind::DefaultRepeated => hint_word(
             scene,
             line,
             &[Kind::Default],
             "this SWITCHON has a DEFAULT already",
         ),
-        SourceKind::NoLoop => tell_word(
+        SourceKind::NoLoop => hint_word(
             scene,
             line,
             &[Kind::Break, Kind::Loop],
             "no loop of this procedure or VALOF is around it; `ENDCASE` leaves a SWITCHON, `RETURN` a routine, and `RESULTIS E` a VALOF",
         ),
-        SourceKind::NoSwitchon => tell_word(
+        SourceKind::NoSwitchon => hint_word(
             scene,
             line,
             &[Kind::Case, Kind::Default, Kind::EndCase],
             "no SWITCHON is around it, or a FOR, a VALOF or a block with declarations is between",
         ),
-        SourceKind::GlobalOutOfRange => tell_word(
+        SourceKind::GlobalOutOfRange => hint_word(
             scene,
             line,
             &[Kind::Number, Kind::Minus],
             "the number of a global is from 0 to 999",
         ),
-        SourceKind::VecOutOfRange => tell_word(
+        SourceKind::VecOutOfRange => hint_word(
             scene,
             line,
             &[Kind::Vec],
             "the size of a VEC is from 0 to 32767; a TABLE, or several vectors, may hold more",
         ),
-        SourceKind::FrameTooLarge => tell_word(
+        SourceKind::FrameTooLarge => hint_word(
             scene,
             line,
             &[Kind::Name],
             "the variables and vectors of this procedure take more than 65535 words; those of a procedure of its own don't count",
         ),
-        _ => tell_word(scene, line, &[], "the section is refused here"),
+        _ => hint_word(scene, line, &[], "the section is refused here"),
     }
 }
 
 /// What is reported of a fault of names or constants.
-pub fn tell_meaning(scene: &Scene, fault: &SourceFault) -> Result<Told, AllocError> {
+pub fn hint_meaning(scene: &Scene, fault: &SourceFault) -> Result<Told, AllocError> {
     let roles = roles(scene.alloc, scene.tokens)?;
     let name = fault.kind.name().as_bytes();
     if name.is_empty() {
-        return tell_nameless(scene, roles.as_slice(), fault);
+        return hint_nameless(scene, roles.as_slice(), fault);
     }
     let names = Names {
         scene,
@@ -309,10 +317,10 @@ pub fn tell_meaning(scene: &Scene, fault: &SourceFault) -> Result<Told, AllocErr
     let start = tokens_before(scene.tokens, fault.line);
     let used = found.used.or(found.first).unwrap_or(start);
     match fault.kind {
-        SourceKind::DeclaredTwice(_) => tell_twice(&names, found.last.unwrap_or(used)),
-        SourceKind::DynamicName(_) => tell_dynamic(&names, used),
-        SourceKind::LabelNotHere(_) => tell_label(&names, used),
-        SourceKind::TwoProcedures(_) => tell_procedures(&names, found.first.unwrap_or(used)),
-        _ => tell_not_declared(&names, used),
+        SourceKind::DeclaredTwice(_) => hint_twice(&names, found.last.unwrap_or(used)),
+        SourceKind::DynamicName(_) => hint_dynamic(&names, used),
+        SourceKind::LabelNotHere(_) => hint_label(&names, used),
+        SourceKind::TwoProcedures(_) => hint_procedures(&names, found.first.unwrap_or(used)),
+        _ => hint_not_declared(&names, used),
     }
 }

@@ -1,7 +1,7 @@
 //! What is reported of names: those that mean nothing, that another procedure owns, or that are declared twice.
 
 use crate::foreign::{foreign, library};
-use crate::roles::Role;
+use crate::roles::NameRole;
 use crate::scene::Scene;
 use crate::sentence::{Sentence, Told};
 use bk_lex::Kind;
@@ -15,15 +15,15 @@ const SHORTEST: usize = 3;
 pub struct Names<'a> {
     pub scene: &'a Scene<'a>,
     /// What each symbol is.
-    pub roles: &'a [Role],
+    pub roles: &'a [NameRole],
     /// The name, in upper case.
     pub name: &'a [u8],
 }
 
 impl Names<'_> {
     /// What a symbol is.
-    fn role(&self, index: usize) -> Role {
-        self.roles.get(index).copied().unwrap_or(Role::Used)
+    fn role(&self, index: usize) -> NameRole {
+        self.roles.get(index).copied().unwrap_or(NameRole::Used)
     }
 
     /// Whether a symbol is the name.
@@ -34,7 +34,7 @@ impl Names<'_> {
 
     /// Whether a symbol declares the name.
     fn declares(&self, index: usize) -> bool {
-        self.role(index) != Role::Used && self.is_name(index)
+        self.role(index) != NameRole::Used && self.is_name(index)
     }
 
     /// The last declaration of the name before a symbol.
@@ -65,7 +65,7 @@ impl Names<'_> {
     fn label(&self) -> Option<usize> {
         let mut found = None;
         for index in 0..self.roles.len() {
-            if self.role(index) == Role::Label && self.is_name(index) {
+            if self.role(index) == NameRole::Label && self.is_name(index) {
                 found = Some(index);
             }
         }
@@ -75,7 +75,9 @@ impl Names<'_> {
     /// The name of something that is declared and that differs by one letter.
     fn alike(&self) -> Option<usize> {
         for index in 0..self.roles.len() {
-            if self.role(index) != Role::Used && is_alike(self.scene.spelling(index), self.name) {
+            if self.role(index) != NameRole::Used
+                && is_alike(self.scene.spelling(index), self.name)
+            {
                 return Some(index);
             }
         }
@@ -153,18 +155,18 @@ fn is_same_let(scene: &Scene, declared: usize, at: usize) -> bool {
 }
 
 /// What is reported of a name that means nothing, where it is declared before.
-fn tell_past(names: &Names, at: usize, declared: usize) -> Result<Sentence, AllocError> {
+fn hint_past(names: &Names, at: usize, declared: usize) -> Result<Sentence, AllocError> {
     let scene = names.scene;
     let line = scene.line(declared);
     let sentence = names.quoted("")?;
     match names.role(declared) {
-        Role::Variable if is_same_let(scene, declared, at) => sentence.say(
+        NameRole::Variable if is_same_let(scene, declared, at) => sentence.say(
             " is declared by this very LET, whose values don't see its variables; a LET of its own, before, serves",
         ),
-        Role::Label => sentence.say(" is the label of ")?.line(line)?.say(
+        NameRole::Label => sentence.say(" is the label of ")?.line(line)?.say(
             ", in another procedure or inside a block: GOTO reaches a label of its own procedure, and none inside a block with declarations",
         ),
-        Role::Formal => sentence
+        NameRole::Formal => sentence
             .say(" is a formal of the procedure of ")?
             .line(line)?
             .say(", and means nothing outside it"),
@@ -176,14 +178,14 @@ fn tell_past(names: &Names, at: usize, declared: usize) -> Result<Sentence, Allo
 }
 
 /// What is reported of a name that means nothing, where it is declared after.
-fn tell_later(names: &Names, declared: usize) -> Result<Sentence, AllocError> {
+fn hint_later(names: &Names, declared: usize) -> Result<Sentence, AllocError> {
     let line = names.scene.line(declared);
     let sentence = names.quoted("")?;
     match names.role(declared) {
-        Role::Label => sentence.say(" is the label of ")?.line(line)?.say(
+        NameRole::Label => sentence.say(" is the label of ")?.line(line)?.say(
             ", in another procedure or inside a block: GOTO reaches a label of its own procedure, and none inside a block with declarations",
         ),
-        Role::Procedure => sentence.say(" is declared later, on ")?.line(line)?.say(
+        NameRole::Procedure => sentence.say(" is declared later, on ")?.line(line)?.say(
             "; `AND` in the place of its `LET` joins it to the procedure before, and each sees the other",
         ),
         _ => sentence
@@ -207,24 +209,24 @@ fn has_header(scene: &Scene, at: usize) -> bool {
 }
 
 /// What is reported of a name that means nothing.
-pub fn tell_not_declared(names: &Names, at: usize) -> Result<Told, AllocError> {
+pub fn hint_not_declared(names: &Names, at: usize) -> Result<Told, AllocError> {
     let scene = names.scene;
     let sentence = if let Some(declared) = names.last_before(at) {
-        tell_past(names, at, declared)?
+        hint_past(names, at, declared)?
     } else if let Some(declared) = names.first_behind(at) {
-        tell_later(names, declared)?
+        hint_later(names, declared)?
     } else if let Some(words) = library(names.name) {
         names.quoted("")?.say(" is not declared; ")?.say(words)?
     } else if let Some(words) = foreign(names.name) {
         scene.sentence().say(words)?
     } else {
-        tell_unknown(names, at)?
+        hint_unknown(names, at)?
     };
     Ok(scene.told(at, sentence))
 }
 
 /// What is reported of a name that is declared nowhere.
-fn tell_unknown(names: &Names, at: usize) -> Result<Sentence, AllocError> {
+fn hint_unknown(names: &Names, at: usize) -> Result<Sentence, AllocError> {
     if names.name.last().copied() == Some(b'.') {
         return names
             .quoted("the `.` belongs to the name ")?
@@ -260,7 +262,7 @@ fn tell_unknown(names: &Names, at: usize) -> Result<Sentence, AllocError> {
 }
 
 /// What is reported of a name that is declared twice in one list.
-pub fn tell_twice(names: &Names, at: usize) -> Result<Told, AllocError> {
+pub fn hint_twice(names: &Names, at: usize) -> Result<Told, AllocError> {
     let sentence = names.quoted("")?;
     let sentence = match names.last_before(at) {
         Some(first) => sentence
@@ -275,7 +277,7 @@ pub fn tell_twice(names: &Names, at: usize) -> Result<Told, AllocError> {
 }
 
 /// What is reported of a variable of an outer procedure.
-pub fn tell_dynamic(names: &Names, at: usize) -> Result<Told, AllocError> {
+pub fn hint_dynamic(names: &Names, at: usize) -> Result<Told, AllocError> {
     let sentence = names.quoted("")?;
     let sentence = match names.last_before(at) {
         Some(declared) => sentence.say(" of ")?.line(names.scene.line(declared))?,
@@ -288,7 +290,7 @@ pub fn tell_dynamic(names: &Names, at: usize) -> Result<Told, AllocError> {
 }
 
 /// What is reported of a label that is not one here.
-pub fn tell_label(names: &Names, at: usize) -> Result<Told, AllocError> {
+pub fn hint_label(names: &Names, at: usize) -> Result<Told, AllocError> {
     let sentence = names.quoted("")?;
     let sentence = if names.scene.before_at(at) != Some(Kind::Goto) {
         sentence.say(" is a label, which is no value: `GOTO` alone takes it")?
@@ -306,7 +308,7 @@ pub fn tell_label(names: &Names, at: usize) -> Result<Told, AllocError> {
 }
 
 /// What is reported of a second procedure of one global.
-pub fn tell_procedures(names: &Names, at: usize) -> Result<Told, AllocError> {
+pub fn hint_procedures(names: &Names, at: usize) -> Result<Told, AllocError> {
     let sentence = names.quoted("")?.say(
         " is a global, and a section has one procedure for it at most",
     )?;
@@ -327,7 +329,7 @@ impl Names<'_> {
             if index >= at {
                 return found;
             }
-            if self.role(index) == Role::Procedure && self.is_name(index) {
+            if self.role(index) == NameRole::Procedure && self.is_name(index) {
                 found = Some(index);
             }
         }
@@ -337,7 +339,7 @@ impl Names<'_> {
     /// Whether the last declaration of a name with this index before it is an item of MANIFEST, and which.
     pub fn manifest_of(&self, at: usize) -> Option<usize> {
         let declared = self.last_before(at)?;
-        if self.role(declared) == Role::Constant {
+        if self.role(declared) == NameRole::Constant {
             Some(declared)
         } else {
             None

@@ -5,7 +5,7 @@ use std::alloc::{AllocError, Global};
 
 /// What a symbol is in the declarations of a section.
 #[derive(Clone, Copy, Debug, PartialEq, Eq)]
-pub enum Role {
+pub enum NameRole {
     /// Nothing that is declared.
     Used,
     /// The name of a procedure, where it is defined.
@@ -30,7 +30,7 @@ pub enum Role {
 #[derive(Clone, Copy, Debug, PartialEq, Eq)]
 struct Reading {
     /// What the items are of the list that is read.
-    list: Option<Role>,
+    list: Option<NameRole>,
     /// Whether the names of a LET or AND are read.
     head: bool,
     /// Whether formals are read.
@@ -47,15 +47,15 @@ fn behind(reading: Reading, kind: Kind) -> Reading {
     };
     match kind {
         Kind::Manifest => Reading {
-            list: Some(Role::Constant),
+            list: Some(NameRole::Constant),
             ..next
         },
         Kind::Static => Reading {
-            list: Some(Role::Fixed),
+            list: Some(NameRole::Fixed),
             ..next
         },
         Kind::Global => Reading {
-            list: Some(Role::Shared),
+            list: Some(NameRole::Shared),
             ..next
         },
         Kind::SectionClose => Reading { list: None, ..next },
@@ -92,37 +92,37 @@ fn comes_before_label(kind: Kind) -> bool {
 }
 
 /// What a name is here, with this symbol after it.
-fn role_of(reading: Reading, next: Option<Kind>) -> Role {
+fn role_of(reading: Reading, next: Option<Kind>) -> NameRole {
     let Some(before) = reading.before else {
-        return Role::Used;
+        return NameRole::Used;
     };
     if let Some(role) = reading.list {
         return if matches!(before, Kind::SectionOpen | Kind::Semicolon) {
             role
         } else {
-            Role::Used
+            NameRole::Used
         };
     }
     if reading.head {
         return if reading.formals {
-            Role::Formal
+            NameRole::Formal
         } else if next == Some(Kind::Open) {
-            Role::Procedure
+            NameRole::Procedure
         } else {
-            Role::Variable
+            NameRole::Variable
         };
     }
     if before == Kind::For {
-        Role::Counter
+        NameRole::Counter
     } else if next == Some(Kind::Colon) && comes_before_label(before) {
-        Role::Label
+        NameRole::Label
     } else {
-        Role::Used
+        NameRole::Used
     }
 }
 
 /// What each symbol is.
-pub fn roles(alloc: Global, tokens: &[Token]) -> Result<Vec<Role>, AllocError> {
+pub fn roles(alloc: Global, tokens: &[Token]) -> Result<Vec<NameRole>, AllocError> {
     let mut roles = Vec::new(alloc);
     let mut reading = Reading {
         list: None,
@@ -138,7 +138,7 @@ pub fn roles(alloc: Global, tokens: &[Token]) -> Result<Vec<Role>, AllocError> {
         roles.push(if token.kind == Kind::Name {
             role_of(reading, next)
         } else {
-            Role::Used
+            NameRole::Used
         })?;
         reading = behind(reading, token.kind);
     }

@@ -125,13 +125,13 @@ fn steps(scene: &Scene, kind: Kind) -> bool {
 }
 
 /// These words at the first of the two symbols before the refused one.
-fn tell_step(scene: &Scene, words: &str) -> Result<Told, AllocError> {
+fn hint_step(scene: &Scene, words: &str) -> Result<Told, AllocError> {
     let index = scene.at.saturating_sub(2);
     Ok(scene.told(index, scene.sentence().say(words)?))
 }
 
 /// What is reported of signs of other languages.
-pub fn tell_signs(scene: &Scene) -> Result<Option<Told>, AllocError> {
+pub fn hint_signs(scene: &Scene) -> Result<Option<Told>, AllocError> {
     if let Some(says) = pair_at(scene, scene.at) {
         return Ok(Some(scene.here(says)?));
     }
@@ -139,10 +139,10 @@ pub fn tell_signs(scene: &Scene) -> Result<Option<Told>, AllocError> {
         return Ok(Some(scene.here(says)?));
     }
     if steps(scene, Kind::Plus) {
-        return Ok(Some(tell_step(scene, "`++` is no sign; write `X := X + 1`")?));
+        return Ok(Some(hint_step(scene, "`++` is no sign; write `X := X + 1`")?));
     }
     if steps(scene, Kind::Minus) {
-        return Ok(Some(tell_step(scene, "`--` is no sign; write `X := X - 1`")?));
+        return Ok(Some(hint_step(scene, "`--` is no sign; write `X := X - 1`")?));
     }
     Ok(None)
 }

@@ -1,6 +1,6 @@
 //! Commands and declarations that are whole but wrong: names alone, expressions, items, and what is outside procedures.
 
-use crate::brackets::Opened;
+use crate::brackets::OpenSections;
 use crate::commands::starts_operand;
 use crate::scene::Scene;
 use crate::sentence::Told;
@@ -16,7 +16,7 @@ fn is_word(spelling: &[u8]) -> bool {
 }
 
 /// What is reported of a dot that belongs to the name before the refused symbol.
-pub fn tell_dot(scene: &Scene) -> Result<Option<Told>, AllocError> {
+pub fn hint_dot(scene: &Scene) -> Result<Option<Told>, AllocError> {
     let Some(before) = scene.back(1) else {
         return Ok(None);
     };
@@ -33,7 +33,7 @@ pub fn tell_dot(scene: &Scene) -> Result<Option<Told>, AllocError> {
 }
 
 /// What is reported of a variable that is declared outside procedures.
-pub fn tell_outermost(scene: &Scene, opened: &Opened) -> Result<Option<Told>, AllocError> {
+pub fn hint_outermost(scene: &Scene, opened: &OpenSections) -> Result<Option<Told>, AllocError> {
     if !opened.indices.is_empty() {
         return Ok(None);
     }
@@ -48,7 +48,7 @@ pub fn tell_outermost(scene: &Scene, opened: &Opened) -> Result<Option<Told>, Al
         (Some(Kind::Let | Kind::And), Some(Kind::Name), Some(Kind::Comma)) => {
             "outside procedures LET declares procedures alone; `STATIC $( N = E $)` declares a variable, and MANIFEST a constant"
         }
-        _ => return tell_command_outside(scene),
+        _ => return hint_command_outside(scene),
     };
     Ok(Some(scene.here(words)?))
 }
@@ -75,7 +75,7 @@ fn lacks_let(scene: &Scene) -> bool {
 }
 
 /// What is reported of a command that is outside procedures.
-fn tell_command_outside(scene: &Scene) -> Result<Option<Told>, AllocError> {
+fn hint_command_outside(scene: &Scene) -> Result<Option<Told>, AllocError> {
     if !scene.takes(Kind::Let)? || !scene.takes(Kind::Semicolon)? {
         return Ok(None);
     }
@@ -99,7 +99,7 @@ fn tell_command_outside(scene: &Scene) -> Result<Option<Told>, AllocError> {
 }
 
 /// The word that begins the list of items that the refused symbol is in.
-fn list_word(scene: &Scene, opened: &Opened) -> Option<Kind> {
+fn list_word(scene: &Scene, opened: &OpenSections) -> Option<Kind> {
     let open = opened.indices.last().copied()?;
     let kind = scene.kind(open.checked_sub(1)?)?;
     if matches!(kind, Kind::Manifest | Kind::Static | Kind::Global) {
@@ -110,7 +110,7 @@ fn list_word(scene: &Scene, opened: &Opened) -> Option<Kind> {
 }
 
 /// What is reported of the items of MANIFEST, STATIC and GLOBAL.
-pub fn tell_items(scene: &Scene, opened: &Opened) -> Result<Option<Told>, AllocError> {
+pub fn hint_items(scene: &Scene, opened: &OpenSections) -> Result<Option<Told>, AllocError> {
     if matches!(
         scene.before(1),
         Some(Kind::Manifest | Kind::Static | Kind::Global)
@@ -130,7 +130,7 @@ pub fn tell_items(scene: &Scene, opened: &Opened) -> Result<Option<Told>, AllocE
             "at least one item goes between `$(` and `$)`"
         }
         _ if scene.before(1) == Some(Kind::Name) && scene.takes(Kind::Colon)? => {
-            return Ok(Some(tell_item(scene, word)?));
+            return Ok(Some(hint_item(scene, word)?));
         }
         _ => return Ok(None),
     };
@@ -138,7 +138,7 @@ pub fn tell_items(scene: &Scene, opened: &Opened) -> Result<Option<Told>, AllocE
 }
 
 /// What is reported of an item without its number or value.
-fn tell_item(scene: &Scene, word: Kind) -> Result<Told, AllocError> {
+fn hint_item(scene: &Scene, word: Kind) -> Result<Told, AllocError> {
     let before = scene.at.saturating_sub(1);
     let sentence = scene
         .sentence()
@@ -159,7 +159,7 @@ fn tell_item(scene: &Scene, word: Kind) -> Result<Told, AllocError> {
 }
 
 /// What is reported of a reserved word where a name is due.
-pub fn tell_reserved(scene: &Scene) -> Result<Option<Told>, AllocError> {
+pub fn hint_reserved(scene: &Scene) -> Result<Option<Told>, AllocError> {
     let spelling = scene.spelling(scene.at);
     if !is_word(spelling) || scene.refused() == Some(Kind::Name) || !scene.takes(Kind::Name)? {
         return Ok(None);
@@ -200,7 +200,7 @@ fn names_thing(scene: &Scene) -> bool {
 }
 
 /// What is reported of a definition that lacks its parentheses, its value or its body.
-pub fn tell_definition(scene: &Scene) -> Result<Option<Told>, AllocError> {
+pub fn hint_definition(scene: &Scene) -> Result<Option<Told>, AllocError> {
     let is_head = matches!(scene.before(2), Some(Kind::Let | Kind::And))
         && scene.before(1) == Some(Kind::Name);
     if !is_head {
@@ -239,7 +239,7 @@ fn ends_command(scene: &Scene) -> bool {
 }
 
 /// What is reported of an expression in the place of a command, which is no call.
-pub fn tell_expression(scene: &Scene) -> Result<Option<Told>, AllocError> {
+pub fn hint_expression(scene: &Scene) -> Result<Option<Told>, AllocError> {
     if !ends_command(scene) || !scene.takes(Kind::Assign)? && !scene.takes(Kind::Plus)? {
         return Ok(None);
     }
@@ -287,7 +287,7 @@ fn starts_command_word(scene: &Scene, index: usize) -> bool {
 }
 
 /// What is reported of lists of destinations, names and values.
-pub fn tell_counts(scene: &Scene) -> Result<Option<Told>, AllocError> {
+pub fn hint_counts(scene: &Scene) -> Result<Option<Told>, AllocError> {
     if scene.refused() == Some(Kind::Comma) && scene.means(Kind::And)? {
         return Ok(Some(scene.here(
             "a LET has as many values as names; `AND` joins a second declaration, as `LET A = 1 AND B = 2`",
@@ -312,7 +312,7 @@ pub fn tell_counts(scene: &Scene) -> Result<Option<Told>, AllocError> {
 }
 
 /// What is reported of a name or an operand after another.
-pub fn tell_arguments(scene: &Scene) -> Result<Option<Told>, AllocError> {
+pub fn hint_arguments(scene: &Scene) -> Result<Option<Told>, AllocError> {
     let before = scene.at.saturating_sub(1);
     if scene.kind(before) != Some(Kind::Name)
         || !starts_operand(scene)

@@ -1,92 +1,92 @@
 //! What is reported of a symbol that is refused.
 
 use crate::brackets::{
-    Opened, open_sections, tell_end, tell_extra, tell_glued, tell_late, tell_unclosed,
-    tell_wrong_tag,
+    OpenSections, hint_end, hint_extra, hint_glued, hint_late, hint_unclosed, hint_wrong_tag,
+    open_sections,
 };
-use crate::commands::{tell_choice, tell_else, tell_equal, tell_inserted, tell_misused, tell_test};
-use crate::due::{tell_due_here, tell_missing};
-use crate::foreign::tell_foreign;
+use crate::commands::{hint_choice, hint_else, hint_equal, hint_inserted, hint_misused, hint_test};
+use crate::due::{hint_due_here, hint_missing};
+use crate::foreign::hint_foreign;
 use crate::scene::Scene;
 use crate::sentence::Told;
-use crate::signs::tell_signs;
+use crate::signs::hint_signs;
 use crate::statements::{
-    tell_arguments, tell_counts, tell_definition, tell_dot, tell_expression, tell_items,
-    tell_outermost, tell_reserved,
+    hint_arguments, hint_counts, hint_definition, hint_dot, hint_expression, hint_items,
+    hint_outermost, hint_reserved,
 };
 use bk_base::SourceKind;
 use std::alloc::AllocError;
 
 /// What is reported by the spellings around the symbol.
 fn by_spelling(scene: &Scene) -> Result<Option<Told>, AllocError> {
-    if let Some(told) = tell_signs(scene)? {
+    if let Some(told) = hint_signs(scene)? {
         return Ok(Some(told));
     }
-    if let Some(told) = tell_dot(scene)? {
+    if let Some(told) = hint_dot(scene)? {
         return Ok(Some(told));
     }
-    if let Some(told) = tell_glued(scene)? {
+    if let Some(told) = hint_glued(scene)? {
         return Ok(Some(told));
     }
-    tell_foreign(scene)
+    hint_foreign(scene)
 }
 
 /// What is reported by the sections that are open.
-fn by_brackets(scene: &Scene, opened: &Opened) -> Result<Option<Told>, AllocError> {
-    if let Some(told) = tell_end(scene, opened)? {
+fn by_brackets(scene: &Scene, opened: &OpenSections) -> Result<Option<Told>, AllocError> {
+    if let Some(told) = hint_end(scene, opened)? {
         return Ok(Some(told));
     }
-    if let Some(told) = tell_extra(scene, opened)? {
+    if let Some(told) = hint_extra(scene, opened)? {
         return Ok(Some(told));
     }
-    if let Some(told) = tell_late(scene, opened)? {
+    if let Some(told) = hint_late(scene, opened)? {
         return Ok(Some(told));
     }
-    if let Some(told) = tell_outermost(scene, opened)? {
+    if let Some(told) = hint_outermost(scene, opened)? {
         return Ok(Some(told));
     }
-    tell_items(scene, opened)
+    hint_items(scene, opened)
 }
 
 /// What is reported by the declaration that the symbol is in.
 fn by_declaration(scene: &Scene) -> Result<Option<Told>, AllocError> {
-    if let Some(told) = tell_reserved(scene)? {
+    if let Some(told) = hint_reserved(scene)? {
         return Ok(Some(told));
     }
-    if let Some(told) = tell_definition(scene)? {
+    if let Some(told) = hint_definition(scene)? {
         return Ok(Some(told));
     }
-    tell_equal(scene)
+    hint_equal(scene)
 }
 
 /// What is reported by the command that the symbol is in.
 fn by_command(scene: &Scene) -> Result<Option<Told>, AllocError> {
-    if let Some(told) = tell_else(scene)? {
+    if let Some(told) = hint_else(scene)? {
         return Ok(Some(told));
     }
-    if let Some(told) = tell_test(scene)? {
+    if let Some(told) = hint_test(scene)? {
         return Ok(Some(told));
     }
-    if let Some(told) = tell_misused(scene)? {
+    if let Some(told) = hint_misused(scene)? {
         return Ok(Some(told));
     }
-    if let Some(told) = tell_choice(scene)? {
+    if let Some(told) = hint_choice(scene)? {
         return Ok(Some(told));
     }
-    if let Some(told) = tell_inserted(scene)? {
+    if let Some(told) = hint_inserted(scene)? {
         return Ok(Some(told));
     }
-    if let Some(told) = tell_counts(scene)? {
+    if let Some(told) = hint_counts(scene)? {
         return Ok(Some(told));
     }
-    if let Some(told) = tell_expression(scene)? {
+    if let Some(told) = hint_expression(scene)? {
         return Ok(Some(told));
     }
-    tell_missing(scene)
+    hint_missing(scene)
 }
 
 /// What is reported of an unexpected symbol.
-fn tell_unexpected(scene: &Scene) -> Result<Told, AllocError> {
+fn hint_unexpected(scene: &Scene) -> Result<Told, AllocError> {
     let opened = open_sections(scene)?;
     if let Some(told) = by_spelling(scene)? {
         return Ok(told);
@@ -100,27 +100,27 @@ fn tell_unexpected(scene: &Scene) -> Result<Told, AllocError> {
     if let Some(told) = by_command(scene)? {
         return Ok(told);
     }
-    if let Some(told) = tell_arguments(scene)? {
+    if let Some(told) = hint_arguments(scene)? {
         return Ok(told);
     }
     if scene.refused().is_none() {
-        if let Some(told) = tell_unclosed(scene, &opened)? {
+        if let Some(told) = hint_unclosed(scene, &opened)? {
             return Ok(told);
         }
     }
-    tell_due_here(scene)
+    hint_due_here(scene)
 }
 
 /// What is reported of a fault at a symbol.
-pub fn tell_syntax(scene: &Scene, kind: &SourceKind) -> Result<Told, AllocError> {
+pub fn hint_syntax(scene: &Scene, kind: &SourceKind) -> Result<Told, AllocError> {
     match kind {
-        SourceKind::WrongSectionTag => tell_wrong_tag(scene),
+        SourceKind::WrongSectionTag => hint_wrong_tag(scene),
         SourceKind::NestedTooDeeply => scene.here(
             "the tree is more than 200 nodes deep here; a procedure of its own, or SWITCHON for a chain of TESTs, makes it flatter",
         ),
         SourceKind::TooManyNodes => scene.here(
             "the section has more than 65536 nodes here; a `.` and another section split it",
         ),
-        _ => tell_unexpected(scene),
+        _ => hint_unexpected(scene),
     }
 }

@@ -1,12 +1,12 @@
 //! What is reported to a person of a fault.
 
-use crate::bytes::tell_bytes;
+use crate::bytes::hint_bytes;
 use crate::lines::Lines;
-use crate::meanings::tell_meaning;
+use crate::meanings::hint_meaning;
 use crate::page::page;
 use crate::scene::{Scene, refused_at};
 use crate::sentence::Told;
-use crate::syntax::tell_syntax;
+use crate::syntax::hint_syntax;
 use bk_base::{Line, Refused, SourceFault, SourceKind};
 use bk_lex::{Lexed, lex};
 use std::alloc::{AllocError, Global};
@@ -23,7 +23,7 @@ fn is_of_syntax(kind: &SourceKind) -> bool {
 }
 
 /// What is reported of a section that has symbols.
-fn tell_section(
+fn hint_section(
     alloc: Global,
     text: &[u8],
     lines: &Lines,
@@ -50,14 +50,14 @@ fn tell_section(
         },
     };
     if of_syntax {
-        tell_syntax(&scene, &fault.kind)
+        hint_syntax(&scene, &fault.kind)
     } else {
-        tell_meaning(&scene, fault)
+        hint_meaning(&scene, fault)
     }
 }
 
 /// What is reported of a fault.
-fn tell(
+fn hint_at(
     alloc: Global,
     text: &[u8],
     lines: &Lines,
@@ -65,8 +65,8 @@ fn tell(
     fault: &SourceFault,
 ) -> Result<Told, AllocError> {
     match lex(alloc, text, from) {
-        Ok(lexed) => tell_section(alloc, text, lines, &lexed, fault),
-        Err(Refused::Fault(found)) => tell_bytes(alloc, text, lines, &found),
+        Ok(lexed) => hint_section(alloc, text, lines, &lexed, fault),
+        Err(Refused::Fault(found)) => hint_bytes(alloc, text, lines, &found),
         Err(_) => Err(AllocError),
     }
 }
@@ -81,6 +81,6 @@ pub fn hint(
     fault: &SourceFault,
 ) -> Result<Vec<u8>, AllocError> {
     let lines = Lines::new(alloc, text, from)?;
-    let told = tell(alloc, text, &lines, from, fault)?;
+    let told = hint_at(alloc, text, &lines, from, fault)?;
     page(alloc, text, told)
 }

@@ -9,7 +9,7 @@ use Rattle.bk_base.specs.DeviceLaws.{Begins-trans}
 use Rattle.bk_intcode.specs.declared.registers.Registers.{Registers}
 use Rattle.bk_intcode.specs.declared.output.Output.{Output}
 use Rattle.bk_intcode.specs.Output.{Text, output_text}
-use Rattle.bk_intcode.specs.Step.{Goes, Tells, Asks, Ends, step}
+use Rattle.bk_intcode.specs.Step.{Goes, Outputs, Asks, Ends, step}
 use Rattle.bk_intcode.specs.Runs.{Going, Over, next_byte, behind_next, after, run, Told, Exchanged, Follows, Leads, NotAsked, SinceAsk, LeadsToAsk, FlushesFirst, Paused, Finished, Waiting, CutShort, FailedOnTheWay, Broken, Went, Ran, IsOwn, AskFails, CameBy, Answered}
 use Rattle.bk_intcode.specs.RunLaws.{onwards, run-add}
 
@@ -212,7 +212,7 @@ module _ (Holds : List ℕ → Type 0) (store : List ℕ) (r : Registers) where
       by_asking (inr asked) =
           asked_here store' r' old new answered.read is answered.exchanged.took (flushed asked.0 asked.1) asked.1 asked.2
 
-  module _ (what : Output) (store' : List ℕ) (r' : Registers) (is : step store r ≡ Tells what store' r') where
+  module _ (what : Output) (store' : List ℕ) (r' : Registers) (is : step store r ≡ Outputs what store' r') where
     text : Text
     text = output_text store' what
 
@@ -223,10 +223,10 @@ module _ (Holds : List ℕ → Type 0) (store : List ℕ) (r : Registers) where
         ap (λ t. after (run 0) t rest before) is
         ∙ ap (λ w. if w then Going store' r' rest (before ++ text.bytes) else Over StoreLimit rest (before ++ text.bytes)) same
 
-    pub paused_tells : (old new : Told) → (output_text store' what).whole ≡ true → Exchanged old new [] (output_text store' what).bytes
+    pub paused_outputs : (old new : Told) → (output_text store' what).whole ≡ true → Exchanged old new [] (output_text store' what).bytes
         → NotAsked old new [] → Paused Holds 1 store r store' r' old new
     unfolding text
-    paused_tells old new whole exchanged none = record {
+    paused_outputs old new whole exchanged none = record {
       read = [];
       written = (output_text store' what).bytes;
       exchanged = exchanged;
@@ -234,10 +234,10 @@ module _ (Holds : List ℕ → Type 0) (store : List ℕ) (r : Registers) where
       leads = λ rest before follows. told_step true rest before whole;
     }
 
-    pub finished_tells : (old new : Told) → (output_text store' what).whole ≡ false → Exchanged old new [] (output_text store' what).bytes
+    pub finished_outputs : (old new : Told) → (output_text store' what).whole ≡ false → Exchanged old new [] (output_text store' what).bytes
         → NotAsked old new [] → Finished Holds StoreLimit 1 store r old new
     unfolding text
-    finished_tells old new cut exchanged none = record {
+    finished_outputs old new cut exchanged none = record {
       read = [];
       written = (output_text store' what).bytes;
       exchanged = exchanged;
@@ -635,6 +635,6 @@ module _ (Holds : List ℕ → Type 0) (store : List ℕ) (r : Registers) (store
     went_ask_fails BadOperation fails flushed = absurd fails
     went_ask_fails StepLimit fails flushed = absurd fails
 
-  pub went_part : (what : Output) (old new : Told) → step store r ≡ Tells what store' r' → (p : AppendsPart old.taken new.taken (output_text store' what).bytes)
+  pub went_part : (what : Output) (old new : Told) → step store r ≡ Outputs what store' r' → (p : AppendsPart old.taken new.taken (output_text store' what).bytes)
       → Exchanged old new [] p.part → NotAsked old new [] → FailedOnTheWay Holds 1 store r old new
   went_part what old new is p exchanged none = inl (cut_short Holds store r what store' r' is old new p.part p.rest p.whole exchanged none)

@@ -6,12 +6,12 @@ use Rattle.bk_intcode.specs.Output.{output_text}
 use Rattle.bk_intcode.specs.RunLaws.{input_of}
 use Rattle.bk_intcode.specs.Runs.{Standing, Going, Over, next_byte, after, run}
 use Rattle.bk_intcode.specs.ShorterStores.{run_reads}
-use Rattle.bk_intcode.specs.Step.{Turn, Goes, Tells, Asks, Ends, step}
+use Rattle.bk_intcode.specs.Step.{Turn, Goes, Outputs, Asks, Ends, step}
 
 -- whether a run of so many steps asks for a byte where none is left
 abbrev pub meets_end_after : (List ℕ → Registers → List ℕ → Bool) → Turn → List ℕ → Bool
 meets_end_after go (Goes store r) input = go store r input
-meets_end_after go (Tells what store r) input = if (output_text store what).whole then go store r input else false
+meets_end_after go (Outputs what store r) input = if (output_text store what).whole then go store r input else false
 meets_end_after go (Asks store r) [] = true
 meets_end_after go (Asks store r) (b ∷ rest) = go store (record r { a = b }) rest
 meets_end_after go (Ends e) input = false
@@ -44,7 +44,7 @@ depends_after : (n : ℕ) → DependsAt n → (u : Turn) (i o : List ℕ) → me
     → (read : List ℕ) × (i ≡ read ++ input_of (after (run n) u i o)) × ((more : List ℕ) → after (run n) u (read ++ more) o ≡ with_input more (after (run n) u i o))
 unfolding DependsAt
 depends_after n go (Goes s r) i o e = go s r i o e
-depends_after n go (Tells what s r) i o e = by_whole (output_text s what).whole e
+depends_after n go (Outputs what s r) i o e = by_whole (output_text s what).whole e
   where
     telling : Bool → List ℕ → Standing
     telling w j = if w then run n s r j (o ++ (output_text s what).bytes) else Over StoreLimit j (o ++ (output_text s what).bytes)
@@ -77,7 +77,7 @@ nothing_left (x ∷ read) left b rest e h = cc
 leaves_after : (n : ℕ) → LeavesAt n → (u : Turn) (i o : List ℕ) (b : ℕ) (rest : List ℕ) → input_of (after (run n) u i o) ≡ b ∷ rest → meets_end_after (meets_end n) u i ≡ false
 unfolding LeavesAt
 leaves_after n go (Goes s r) i o b rest e = go s r i o b rest e
-leaves_after n go (Tells what s r) i o b rest e = by_whole (output_text s what).whole e
+leaves_after n go (Outputs what s r) i o b rest e = by_whole (output_text s what).whole e
   where
     by_whole : (w : Bool) → input_of (if w then run n s r i (o ++ (output_text s what).bytes) else Over StoreLimit i (o ++ (output_text s what).bytes)) ≡ b ∷ rest
         → (if w then meets_end n s r i else false) ≡ false

@@ -5,7 +5,7 @@ use Rattle.bk_base.specs.declared.run_end.End.{End}
 use Rattle.bk_base.specs.declared.run_end.End.TheVariants.{StoreLimit}
 use Rattle.bk_intcode.specs.declared.registers.Registers.{Registers}
 use Rattle.bk_intcode.specs.Output.{Text, output_text}
-use Rattle.bk_intcode.specs.Step.{Turn, Goes, Tells, Asks, Ends, step}
+use Rattle.bk_intcode.specs.Step.{Turn, Goes, Outputs, Asks, Ends, step}
 use Rattle.bk_intcode.specs.declared.output.Output.{Output}
 use Rattle.bk_intcode.specs.Runs.{Standing, Going, Over, next_byte, behind_next, after, run, output_of, Told, Exchanged, Follows, Leads, FlushesFirst, Paused, Finished, Waiting, CutShort, Broken}
 
@@ -33,7 +33,7 @@ after_on : (k m : ℕ) → AddsAt k m → (turn : Turn) (input written : List �
     → after (run (k + m)) turn input written ≡ onwards m (after (run k) turn input written)
 unfolding AddsAt
 after_on k m more (Goes store r) input written = more store r input written
-after_on k m more (Tells what store r) input written = tells_on k m more (output_text store what) store r input written
+after_on k m more (Outputs what store r) input written = tells_on k m more (output_text store what) store r input written
 after_on k m more (Asks store r) input written = more store (record r { a = next_byte input }) (behind_next input) written
 after_on k m more (Ends e) input written = refl
 
@@ -68,8 +68,8 @@ tells_begins n begins text store r input written = by_whole text.whole
 after_begins : (n : ℕ) → BeginsAt n → (turn : Turn) (input written : List ℕ) → (more : List ℕ) × (output_of (after (run n) turn input written) ≡ written ++ more)
 unfolding BeginsAt
 after_begins n begins (Goes store r) input written = begins store r input written
-after_begins n begins (Tells what store r) input written =
-    behind written (output_text store what).bytes (after (run n) (Tells what store r) input written)
+after_begins n begins (Outputs what store r) input written =
+    behind written (output_text store what).bytes (after (run n) (Outputs what store r) input written)
     (tells_begins n begins (output_text store what) store r input written)
 after_begins n begins (Asks store r) input written = begins store (record r { a = next_byte input }) (behind_next input) written
 after_begins n begins (Ends e) input written = ([], sym (append-nil written))
@@ -113,7 +113,7 @@ behind_shorter (b ∷ rest) = omega arith
 after_shrinks : (n : ℕ) → ShrinksAt n → (turn : Turn) (input written : List ℕ) → length (input_of (after (run n) turn input written)) ≤ length input
 unfolding ShrinksAt
 after_shrinks n shrinks (Goes store r) input written = shrinks store r input written
-after_shrinks n shrinks (Tells what store r) input written = tells_shrinks n shrinks (output_text store what) store r input written
+after_shrinks n shrinks (Outputs what store r) input written = tells_shrinks n shrinks (output_text store what) store r input written
 after_shrinks n shrinks (Asks store r) input written =
     let here = shrinks store (record r { a = next_byte input }) (behind_next input) written in
     let shorter = behind_shorter input in
@@ -167,7 +167,7 @@ module _ (Holds : List ℕ → Type 0) (n : ℕ) (store : List ℕ) (r : Registe
   }
 
   -- a step that writes a text, and the steps after it
-  text_begins : (k m : ℕ) (store' : List ℕ) (r' : Registers) (what : Output) (store'' : List ℕ) (r'' : Registers) → k ≡ suc m → step store' r' ≡ Tells what store'' r''
+  text_begins : (k m : ℕ) (store' : List ℕ) (r' : Registers) (what : Output) (store'' : List ℕ) (r'' : Registers) → k ≡ suc m → step store' r' ≡ Outputs what store'' r''
       → (rest before : List ℕ) → (more : List ℕ) × (output_of (run k store' r' rest before) ≡ (before ++ (output_text store'' what).bytes) ++ more)
   unfolding BeginsAt
   text_begins k m store' r' what store'' r'' one tells rest before =

@@ -23,7 +23,7 @@ use Rattle.bk_intcode.specs.Decoding.{form, form_function, form_is_indirect, for
 use Rattle.bk_intcode.specs.Operations.{operator_word}
 use Rattle.bk_intcode.specs.Output.{byte_of, output_text}
 use Rattle.bk_intcode.specs.Runs.{Standing, Going, Over, next_byte, behind_next, after, run}
-use Rattle.bk_intcode.specs.Step.{Turn, Goes, Tells, Asks, Ends, loaded, stored, byte_stored, addressed, with_local, with_global, pointed, operand, matched, switched, given, called, operated, executed, step}
+use Rattle.bk_intcode.specs.Step.{Turn, Goes, Outputs, Asks, Ends, loaded, stored, byte_stored, addressed, with_local, with_global, pointed, operand, matched, switched, given, called, operated, executed, step}
 
 -- ---- words
 
@@ -201,7 +201,7 @@ operand_words s c p f word are h = operand_from s p f (addressed s c f word) are
 -- the store and the registers of a turn, if it goes on, hold words
 data KeepsWords : Turn → Type 0 where
   goes : (s : List ℕ) (r : Registers) → AreWords s → HoldWords r → KeepsWords (Goes s r)
-  tells : (what : Output) (s : List ℕ) (r : Registers) → AreWords s → HoldWords r → KeepsWords (Tells what s r)
+  tells : (what : Output) (s : List ℕ) (r : Registers) → AreWords s → HoldWords r → KeepsWords (Outputs what s r)
   asks : (s : List ℕ) (r : Registers) → AreWords s → HoldWords r → KeepsWords (Asks s r)
   ends : (e : End) → KeepsWords (Ends e)
 

@@ -7,7 +7,7 @@ use Rattle.bk_base.specs.declared.run_end.End.TheVariants.{Status, DivideByZero,
 use Rattle.bk_intcode.specs.declared.registers.Registers.{Registers}
 use Rattle.bk_intcode.specs.declared.output.Output.{Output}
 use Rattle.bk_intcode.specs.Output.{output_text}
-use Rattle.bk_intcode.specs.Step.{Turn, Goes, Tells, Asks, Ends, step}
+use Rattle.bk_intcode.specs.Step.{Turn, Goes, Outputs, Asks, Ends, step}
 
 -- Where a run is: the machine, the input left and the output so far; or its end.
 pub data Standing : Type 0 where
@@ -26,7 +26,7 @@ behind_next (b ∷ rest) = rest
 -- Where a run goes on from a turn. What a routine wrote before it led outside the store remains.
 abbrev pub after : (List ℕ → Registers → List ℕ → List ℕ → Standing) → Turn → List ℕ → List ℕ → Standing
 after go (Goes store r) input written = go store r input written
-after go (Tells what store r) input written =
+after go (Outputs what store r) input written =
     let text = output_text store what in
     if text.whole then go store r input (written ++ text.bytes) else Over StoreLimit input (written ++ text.bytes)
 after go (Asks store r) input written = go store (record r { a = next_byte input }) (behind_next input) written
@@ -152,7 +152,7 @@ pub record CutShort (Holds : List ℕ → Type 0) (n : ℕ) (store : List ℕ) (
   pub what : Output
   pub store'' : List ℕ
   pub r'' : Registers
-  pub tells : step store' r' ≡ Tells what store'' r''
+  pub tells : step store' r' ≡ Outputs what store'' r''
   pub left : List ℕ
   pub begins : (output_text store'' what).bytes ≡ begun ++ left
 

@@ -23,14 +23,14 @@ use Rattle.bk_intcode.specs.Output.{Text, whole_text, cut_text, text_then, byte_
 use Rattle.bk_base.specs.Format.{capital, is_digit}
 use Rattle.bk_intcode.specs.Runs.{Standing, Going, Over, next_byte, behind_next, after, run, output_of}
 use Rattle.bk_intcode.specs.RunLaws.{run-begins, input_of}
-use Rattle.bk_intcode.specs.Step.{Turn, Goes, Tells, Asks, Ends, stored, byte_stored, addressed, pointed, operand, matched, switched, given, called, operated, executed, step}
+use Rattle.bk_intcode.specs.Step.{Turn, Goes, Outputs, Asks, Ends, stored, byte_stored, addressed, pointed, operand, matched, switched, given, called, operated, executed, step}
 
 -- ---- the input is read from its beginning, and output only grows
 
 suffix_after : (n : ℕ) → ((s : List ℕ) (r : Registers) (i o : List ℕ) → (read : List ℕ) × (i ≡ read ++ input_of (run n s r i o)))
     → (u : Turn) (i o : List ℕ) → (read : List ℕ) × (i ≡ read ++ input_of (after (run n) u i o))
 suffix_after n go (Goes s r) i o = go s r i o
-suffix_after n go (Tells what s r) i o = by_whole (output_text s what).whole
+suffix_after n go (Outputs what s r) i o = by_whole (output_text s what).whole
   where
     by_whole : (w : Bool) → (read : List ℕ) × (i ≡ read ++ input_of (if w then run n s r i (o ++ (output_text s what).bytes) else Over StoreLimit i (o ++ (output_text s what).bytes)))
     by_whole true = go s r i _
@@ -51,7 +51,7 @@ after_reads n u i o = suffix_after n (run_reads n) u i o
 
 after_writes : (n : ℕ) (u : Turn) (i o : List ℕ) → (more : List ℕ) × (output_of (after (run n) u i o) ≡ o ++ more)
 after_writes n (Goes s r) i o = run-begins n s r i o
-after_writes n (Tells what s r) i o = by_whole (output_text s what).whole
+after_writes n (Outputs what s r) i o = by_whole (output_text s what).whole
   where
     by_whole : (w : Bool) → (more : List ℕ) × (output_of (if w then run n s r i (o ++ (output_text s what).bytes) else Over StoreLimit i (o ++ (output_text s what).bytes)) ≡ o ++ more)
     by_whole true = let h = run-begins n s r i (o ++ (output_text s what).bytes) in ((output_text s what).bytes ++ h.0, h.1 ∙ append_assoc o (output_text s what).bytes h.0)
@@ -62,7 +62,7 @@ after_writes n (Ends e) i o = ([], sym (append-nil o))
 module _ (t : List ℕ) where
   abbrev longer : Turn → Turn
   longer (Goes s r) = Goes (s ++ t) r
-  longer (Tells what s r) = Tells what (s ++ t) r
+  longer (Outputs what s r) = Outputs what (s ++ t) r
   longer (Asks s r) = Asks (s ++ t) r
   longer (Ends e) = Ends e
 
@@ -338,8 +338,8 @@ module _ (t : List ℕ) where
         inl (record { count = 1; within = omega arith; input = i; unread = x.0; reads = x.1; part = o; rest = w.0; writes = sym w.1; stops = ap (λ z. after (run 0) z i o) (e ∙ q) })
     turned (Goes s1 r1) v e (inr q) =
         subst (λ z. Stopped (suc n) s r i o (after (run n) z i o) ⊎ IsLonger (run n s1 r1 i o) (after (run n) z i o)) (sym q) (later s1 r1 i o (λ m. ap (λ z. after (run m) z i o) e))
-    turned (Tells what s1 r1) v e (inr q) =
-        subst (λ z. Stopped (suc n) s r i o (after (run n) z i o) ⊎ IsLonger (after (run n) (Tells what s1 r1) i o) (after (run n) z i o)) (sym q)
+    turned (Outputs what s1 r1) v e (inr q) =
+        subst (λ z. Stopped (suc n) s r i o (after (run n) z i o) ⊎ IsLonger (after (run n) (Outputs what s1 r1) i o) (after (run n) z i o)) (sym q)
         (told s1 r1 (output_text s1 what) (output_text (s1 ++ t) what) (text_longer s1 what) (λ m. ap (λ z. after (run m) z i o) e))
     turned (Asks s1 r1) v e (inr q) =
         subst (λ z. Stopped (suc n) s r i o (after (run n) z i o) ⊎ IsLonger (after (run n) (Asks s1 r1) i o) (after (run n) z i o)) (sym q)

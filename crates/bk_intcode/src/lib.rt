@@ -11,12 +11,12 @@ mod machine;
 mod operation;
 mod output;
 mod packing;
+mod put_output;
 mod registers;
 mod run;
 mod segment;
 mod step;
 mod store;
-mod tell;
 
 pub use item::{Function, Item, Operand};
 pub use laws::{

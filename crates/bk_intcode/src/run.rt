@@ -6,9 +6,9 @@ ghost use Rattle.bk_base.specs.Devices.{Begins};
 ghost use Rattle.bk_intcode.specs.Inner.Effects.{byte_or_end};
 ghost use Rattle.bk_intcode.specs.Runs.{HeldBy, Answered, AskFails, Went, BlamesBefore};
 
+use crate::put_output::put_output;
 use crate::registers::Registers;
 use crate::step::{Effect, step};
-use crate::tell::tell;
 use bk_base::{ByteIn, ByteOut, End, word};
 
 /// What the devices answer to a step that asks for a byte. It has two parts at most, which the compiler passes in registers.
@@ -76,7 +76,7 @@ fn turn<I: ByteIn, O: ByteOut>(
     match effect {
         Effect::Goes => None,
         Effect::Ends(end) => Some(end),
-        Effect::Tells(what) => match tell(store, what, out) {
+        Effect::Outputs(what) => match put_output(store, what, out) {
             Ok(true) => None,
             Ok(false) => Some(End::StoreLimit),
             Err(_) => Some(End::WriteFault),

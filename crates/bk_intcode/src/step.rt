@@ -18,7 +18,7 @@ pub enum Effect {
     /// Nothing.
     Goes,
     /// To write this, and to go on if all was written.
-    Tells(Output),
+    Outputs(Output),
     /// To ask for a byte, which goes to A.
     Asks,
     /// To end.
@@ -150,15 +150,15 @@ fn call_routine(store: &mut [u32], r: &mut Registers, routine: Routine) -> Optio
         Routine::Rdch => Effect::Asks,
         Routine::Wrch => {
             let word = argument(store, r, 2)?;
-            Effect::Tells(Output::Piece(Piece::Byte((word % 0x100) as u8)))
+            Effect::Outputs(Output::Piece(Piece::Byte((word % 0x100) as u8)))
         }
-        Routine::Newline => Effect::Tells(Output::Piece(Piece::Byte(10))),
-        Routine::Writes => Effect::Tells(Output::Piece(Piece::String(argument(store, r, 2)?))),
-        Routine::Writen => Effect::Tells(Output::Piece(Piece::Number(argument(store, r, 2)?))),
+        Routine::Newline => Effect::Outputs(Output::Piece(Piece::Byte(10))),
+        Routine::Writes => Effect::Outputs(Output::Piece(Piece::String(argument(store, r, 2)?))),
+        Routine::Writen => Effect::Outputs(Output::Piece(Piece::Number(argument(store, r, 2)?))),
         Routine::Writed => {
             let number = argument(store, r, 2)?;
             let width = argument(store, r, 3)?;
-            Effect::Tells(Output::Piece(Piece::Aligned { number, width }))
+            Effect::Outputs(Output::Piece(Piece::Aligned { number, width }))
         }
         Routine::Getbyte => {
             let address = argument(store, r, 2)?;
@@ -175,7 +175,7 @@ fn call_routine(store: &mut [u32], r: &mut Registers, routine: Routine) -> Optio
         Routine::Writef => {
             let format = argument(store, r, 2)?;
             let arguments = word::sum(r.p, 3);
-            Effect::Tells(Output::Format { format, arguments })
+            Effect::Outputs(Output::Format { format, arguments })
         }
     })
 }

@@ -27,7 +27,7 @@ use Rattle.bk_kit.specs.Sources.{stmts_of_tree, codes_of_trees}
 use Rattle.bk_kit.specs.SourceMeaning as meaning
 use Rattle.bk_kit.specs.SourceMeaning.{meanings_with}
 use Rattle.bk_kit.specs.Telling.{Output}
-use Rattle.bk_kit.specs.SourceCode.{IsCodeOf, TellFrames, InterpretsSources, FramesAreOfSources, FindsNoFault, RunsAs}
+use Rattle.bk_kit.specs.SourceCode.{IsCodeOf, ReportsFrames, InterpretsSources, FramesAreOfSources, FindsNoFault, RunsAs}
 use Rattle.bk_kit.proofs.SameParts.{same_parts}
 use Rattle.bk_kit.proofs.SameParts as same
 use Rattle.bk_kit.proofs.MeaningLemmas.{RunLaws, AreOf, image_within, source_run, too_small, startless}
@@ -70,7 +70,7 @@ whole_segments (p ∷ all) = (p.whole, whole_segments all)
 
 -- ---- frames
 
-frames : (all : List Part) (trees : List Declarations) → TellFrames all → AreOf all trees → trees ≢ [] → greatest_frame (segments all) ≡ meaning.frame_of trees
+frames : (all : List Part) (trees : List Declarations) → ReportsFrames all → AreOf all trees → trees ≢ [] → greatest_frame (segments all) ≡ meaning.frame_of trees
 frames [] [] tell is some = absurd (some refl)
 frames [] (tree ∷ trees) tell is some = absurd (let h : [] ≡ stmts_of_tree tree ∷ codes_of_trees trees = is in cc)
 frames (p ∷ all) [] tell is some = absurd (let h : p.stmts ∷ map (λ (q : Part). q.stmts) all ≡ [] = is in cc)
@@ -161,9 +161,9 @@ module _ (one : SayOneThing) (source code : List ℕ) (is : IsCodeOf source code
 
   -- ---- its sizes
 
-  pub tells_sizes : TellFrames is.parts → (answer : Result (Unit {0}) KitFault) (words : ℕ) (before after : Output) → Reports answer words (Some code) new ended before after
+  pub report_sizes : ReportsFrames is.parts → (answer : Result (Unit {0}) KitFault) (words : ℕ) (before after : Output) → Reports answer words (Some code) new ended before after
       → FindsNoFault answer × OnOk answer (Appends before.taken after.taken (sizes_line (record { image = image is.parts; frame = meaning.frame_of is.has.0 })))
-  tells_sizes tell (Ok done) words before after said =
+  report_sizes tell (Ok done) words before after said =
       let needs = said.1 in
       let e : needs.all ≡ all = read_as needs.all needs.loadable.stands in
       let starts = subst (λ s. any_starts s ≡ true) e needs.loadable.starts in
@@ -174,23 +174,23 @@ module _ (one : SayOneThing) (source code : List ℕ) (is : IsCodeOf source code
       some : (ps : List Part) (trees : List Declarations) → AreOf ps trees → any_starts (segments ps) ≡ true → trees ≢ []
       some [] trees is starts none = cc
       some (p ∷ ps) trees is starts none = let h : p.stmts ∷ map (λ (q : Part). q.stmts) ps ≡ codes_of_trees trees = is in let e : codes_of_trees trees ≡ [] = ap codes_of_trees none in cc
-  tells_sizes tell (Err TooSmall) words before after said = (tt, tt)
-  tells_sizes tell (Err NoStart) words before after said = (tt, tt)
-  tells_sizes tell (Err Read) words before after said = (tt, tt)
-  tells_sizes tell (Err Memory) words before after said = (tt, tt)
-  tells_sizes tell (Err Write) words before after said = (tt, tt)
-  tells_sizes tell (Err (Intcode number f)) words before after said = absurd (not_refused_here number f.item f.kind said.0)
-  tells_sizes tell (Err (Source f)) words before after said = absurd said.0
-  tells_sizes tell (Err (Ocode number f)) words before after said = absurd said.0
+  report_sizes tell (Err TooSmall) words before after said = (tt, tt)
+  report_sizes tell (Err NoStart) words before after said = (tt, tt)
+  report_sizes tell (Err Read) words before after said = (tt, tt)
+  report_sizes tell (Err Memory) words before after said = (tt, tt)
+  report_sizes tell (Err Write) words before after said = (tt, tt)
+  report_sizes tell (Err (Intcode number f)) words before after said = absurd (not_refused_here number f.item f.kind said.0)
+  report_sizes tell (Err (Source f)) words before after said = absurd said.0
+  report_sizes tell (Err (Ocode number f)) words before after said = absurd said.0
 
 pub interprets_sources : RunLaws → SayOneThing → InterpretsSources
 interprets_sources laws one source code is answer steps words new ended before after short most over interpreted = interprets one source code is new ended short over laws steps words most answer before after interpreted
 
 -- The code of a source runs as it does.
-pub runs_as : RunLaws → SayOneThing → (source code : List ℕ) (is : IsCodeOf source code) → TellFrames is.parts → RunsAs source is.has.0 code
+pub runs_as : RunLaws → SayOneThing → (source code : List ℕ) (is : IsCodeOf source code) → ReportsFrames is.parts → RunsAs source is.has.0 code
 runs_as laws one source code is tell = record {
   before_stack = image is.parts;
   within = image_within SEGMENTS is.parts is.has.0 is.has.2;
   interprets = λ answer steps words new ended before after short most over said. interprets one source code is new ended short over laws steps words most answer before after said;
-  sizes = λ answer words new ended before after short over said. tells_sizes one source code is new ended short over tell answer words before after said;
+  sizes = λ answer words new ended before after short over said. report_sizes one source code is new ended short over tell answer words before after said;
 }

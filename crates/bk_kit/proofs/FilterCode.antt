@@ -31,7 +31,7 @@ use Rattle.bk_kit.specs.Generating.{ocode, Generated, IsGenerated, AreGenerated,
 use Rattle.bk_kit.specs.Generating as generating
 use Rattle.bk_kit.specs.SourceSections.{HasTrees, IsRefused}
 use Rattle.bk_kit.specs.Telling.{Output}
-use Rattle.bk_kit.specs.SourceCode.{IsCodeOf, TellFrames, FiltersWriteCode, IsNotRefused, RunsAs, GeneratesAs, OneAfterAnother}
+use Rattle.bk_kit.specs.SourceCode.{IsCodeOf, ReportsFrames, FiltersWriteCode, IsNotRefused, RunsAs, GeneratesAs, OneAfterAnother}
 use Rattle.bk_kit.proofs.AcceptedTrees.{trees_are_accepted}
 use Rattle.bk_kit.proofs.CodeOfSources.{taken_of, runs_as}
 use Rattle.bk_kit.proofs.CompileLemmas.{texts_push}
@@ -99,9 +99,9 @@ same_stmts : (generated : List Generated) (are : AreGenerated generated) → map
 same_stmts [] are = refl
 same_stmts (g ∷ generated) are = ap (λ x. g.stmts ∷ x) (same_stmts generated are.1)
 
-tell_frames : (generated : List Generated) (are : AreGenerated generated) → TellFrames (parts_of generated are)
-tell_frames [] are = tt
-tell_frames (g ∷ generated) are = (are.0.frame, tell_frames generated are.1)
+report_frames : (generated : List Generated) (are : AreGenerated generated) → ReportsFrames (parts_of generated are)
+report_frames [] are = tt
+report_frames (g ∷ generated) are = (are.0.frame, report_frames generated are.1)
 
 -- ---- generating from a text of the source's sections
 
@@ -135,7 +135,7 @@ module _ (one : SayOneThing) (source text : List ℕ) (trees : List Declarations
         by_behind (Some behind) took = fewer text (generating.bytes_of g.delivers.sections) behind took short
 
   pub code_written : (faults : ℕ) (before after : Output) (done : Unit {0}) → Generates (Ok done) (Some text) left ended faults before after
-      → (code : List ℕ) × Appends before.taken after.taken code × ((is : IsCodeOf source code) × TellFrames is.parts × (is.has.0 ≡ trees))
+      → (code : List ℕ) × Appends before.taken after.taken code × ((is : IsCodeOf source code) × ReportsFrames is.parts × (is.has.0 ≡ trees))
   code_written faults before after done g =
       let all = g.delivers.sections in
       let are = g.delivers.generated in
@@ -147,7 +147,7 @@ module _ (one : SayOneThing) (source text : List ℕ) (trees : List Declarations
         subst (λ t. Appends before.taken after.taken t) (ap (λ t. generating.texts_of all ++ t) written.comes.2 ∙ append-nil (generating.texts_of all)) written.takes,
         (
           record { parts = parts_of all are; has = (trees, has, same_stmts all are ∙ same); words = code_words all are ∙ ap (λ s. all_words intcode s) (sym (same_segments all are)) },
-          tell_frames all are,
+          report_frames all are,
           refl,
         ),
       )

@@ -6,7 +6,7 @@ use Rattle.bk_tree.specs.Tree as t
 use Rattle.bk_tree.specs.Tree.{Mention, Expression, Declaration, Declarations, Items, Definitions, Starts}
 use Rattle.bk_scope.specs.declared.bound.Bound.{Bound}
 use Rattle.bk_scope.specs.declared.bound.Bound.TheVariants as b
-use Rattle.bk_scope.specs.declared.place.Place.{Place}
+use Rattle.bk_scope.specs.declared.place.Enclosing.{Enclosing}
 use Rattle.bk_scope.specs.Scope.{Binding, bound_in, bind, bind_all, is_global}
 use Rattle.bk_scope.specs.Constants.{constant_word}
 use Rattle.bk_scope.specs.Places.{kept, deeper}
@@ -75,13 +75,13 @@ fit_all : (xs bs : List Binding) → Fit xs → Fit bs → Fit (bind_all xs bs)
 fit_all [] bs h i = i
 fit_all (x ∷ xs) bs h i = fit_all xs (x ∷ bs) h.1 (h.0, i)
 
-fit_variables : (bs : List Binding) (p : Place) (xs : List Mention) (is : Starts) → Fit (variables_of bs p xs is)
+fit_variables : (bs : List Binding) (p : Enclosing) (xs : List Mention) (is : Starts) → Fit (variables_of bs p xs is)
 fit_variables bs p (x ∷ xs) (t.value e is) = (tt, fit_variables bs (deeper 1 p) xs is)
 fit_variables bs p (x ∷ xs) (t.vector l e is) = (tt, fit_variables bs (deeper (words_of_start bs e + 1) p) xs is)
 fit_variables bs p (x ∷ xs) t.no_starts = tt
 fit_variables bs p [] is = tt
 
-fit_defined : (bs : List Binding) (p : Place) (ds : Definitions) → Fit (variables_in_scope bs p ds)
+fit_defined : (bs : List Binding) (p : Enclosing) (ds : Definitions) → Fit (variables_in_scope bs p ds)
 fit_defined bs p t.no_definitions = tt
 fit_defined bs p (t.define (t.variables l xs is) ds) = fit_both (variables_of bs p xs is) (variables_in_scope bs (place_behind bs p is) ds) (fit_variables bs p xs is) (fit_defined bs (place_behind bs p is) ds)
 fit_defined bs p (t.define (t.routine l x fs c) ds) = fit_defined bs p ds
@@ -100,7 +100,7 @@ fit_globals : (os : List Binding) (is : Items) (bs : List Binding) → Fit bs �
 fit_globals os t.no_items bs h = h
 fit_globals os (t.item l x e is) bs h = fit_globals os is _ (tt, h)
 
-pub fit_one : (bs : List Binding) (p : Place) (s : Spot) (d : Declaration) → Fit bs → RegularDeclaration d → Fit (scope_behind_one bs p s d)
+pub fit_one : (bs : List Binding) (p : Enclosing) (s : Spot) (d : Declaration) → Fit bs → RegularDeclaration d → Fit (scope_behind_one bs p s d)
 fit_one bs p s (t.constants l sort.Manifest is) h r = fit_manifests bs is h r
 fit_one bs p s (t.constants l sort.Static is) h r = fit_statics (s.number + 1) is bs h
 fit_one bs p s (t.constants l sort.Global is) h r = fit_globals bs is bs h
@@ -108,6 +108,6 @@ fit_one bs p s (t.definitions l ds) h r =
     let cs : List Binding = procedures_in_scope (s.number + 1) ds bs in
     fit_all (variables_in_scope cs p ds) cs (fit_defined cs p ds) (fit_procedures (s.number + 1) ds bs h)
 
-pub fit_declared : (bs : List Binding) (p : Place) (s : Spot) (ds : Declarations) → Fit bs → RegularDeclarations ds → Fit (scope_behind bs p s ds)
+pub fit_declared : (bs : List Binding) (p : Enclosing) (s : Spot) (ds : Declarations) → Fit bs → RegularDeclarations ds → Fit (scope_behind bs p s ds)
 fit_declared bs p s t.no_declarations h r = h
 fit_declared bs p s (t.declare d ds) h r = fit_declared (scope_behind_one bs p s d) (place_behind_one bs p s d) (behind_one_declared d s) ds (fit_one bs p s d h r.0) r.1

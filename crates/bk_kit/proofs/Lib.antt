@@ -24,7 +24,7 @@ mod SourceLaws
 mod SameParts
 mod CodeOfSources
 mod FilterCode
-mod TellLemmas
+mod ReportsLemmas
 mod ShowLemmas
 mod TraceLemmas
 mod LineLemmas

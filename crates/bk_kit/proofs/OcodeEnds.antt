@@ -104,8 +104,8 @@ step_in_own : (callables : Callables) (s : State) (own : Placed) (k : ℕ) (rest
 step_in_own callables s own k [] = tt
 step_in_own callables s own k (stmt ∷ rest) = step_by_own callables s own k stmt rest
 
-tells_own : (s : State) (bytes : List ℕ) → OfItself (tells s bytes)
-tells_own s bytes = return_own (record s { output = s.output ++ bytes }) None
+report_own : (s : State) (bytes : List ℕ) → OfItself (tells s bytes)
+report_own s bytes = return_own (record s { output = s.output ++ bytes }) None
 
 read_own : (s : State) (input : List ℕ) → OfItself (read_byte input s)
 read_own s [] = return_own s _
@@ -114,11 +114,11 @@ read_own s (b ∷ rest) = return_own (record s { input = rest }) _
 routine_own : (s : State) (r : Routine) → OfItself (routine_step s r)
 routine_own s Stop = number_own (slot s 2) _ (λ n. not_status n)
 routine_own s Rdch = read_own s s.input
-routine_own s Wrch = number_own (slot s 2) _ (λ b. tells_own s _)
-routine_own s Newline = tells_own s _
-routine_own s Writes = number_own (slot s 2) _ (λ a. some_own (string_at s.frame s.cells a) _ (λ bytes. tells_own s bytes))
-routine_own s Writen = number_own (slot s 2) _ (λ n. tells_own s _)
-routine_own s Writed = number_own (slot s 2) _ (λ n. number_own (slot s 3) _ (λ w. tells_own s _))
+routine_own s Wrch = number_own (slot s 2) _ (λ b. report_own s _)
+routine_own s Newline = report_own s _
+routine_own s Writes = number_own (slot s 2) _ (λ a. some_own (string_at s.frame s.cells a) _ (λ bytes. report_own s bytes))
+routine_own s Writen = number_own (slot s 2) _ (λ n. report_own s _)
+routine_own s Writed = number_own (slot s 2) _ (λ n. number_own (slot s 3) _ (λ w. report_own s _))
 routine_own s Getbyte = number_own (slot s 2) _ (λ a. number_own (slot s 3) _ (λ i. some_own (byte_at s.frame s.cells a i) _ (λ b. return_own s _)))
 routine_own s Putbyte =
     number_own (slot s 2) _ (λ a. number_own (slot s 3) _ (λ i. number_own (slot s 4) _ (λ b.
@@ -126,7 +126,7 @@ routine_own s Putbyte =
     return_own (record s { cells = write s.cells (word_sum a (byte_distance i)) (Held Variable content); written = word_sum a (byte_distance i) ∷ s.written }) None))))
 routine_own s Writef =
     number_own (slot s 2) _ (λ f. some_own (string_at s.frame s.cells f) _ (λ format.
-    some_own (format_bytes (λ a. number_in (slot s a)) (string_at s.frame s.cells) (parts format) 3) _ (λ bytes. tells_own s bytes)))
+    some_own (format_bytes (λ a. number_in (slot s a)) (string_at s.frame s.cells) (parts format) 3) _ (λ bytes. report_own s bytes)))
 
 step_own : (callables : Callables) (s : State) (c : Control) → OfItself (step_from callables s c)
 step_own callables s (Inside own k rest) = step_in_own callables s own k rest

@@ -11,7 +11,7 @@ use Rattle.bk_tree.specs.Tree.{Mention, Expression, Expressions, Action, Actions
 use Rattle.bk_tree.specs.Parts.{line_of, size}
 use Rattle.bk_scope.specs.declared.bound.Bound.{Bound}
 use Rattle.bk_scope.specs.declared.bound.Bound.TheVariants as b
-use Rattle.bk_scope.specs.declared.place.Place.{Place}
+use Rattle.bk_scope.specs.declared.place.Enclosing.{Enclosing}
 use Rattle.bk_scope.specs.declared.role.Role.{Role}
 use Rattle.bk_scope.specs.declared.role.Role.TheVariants.{Value, Truth, Address, Destination}
 use Rattle.bk_scope.specs.Scope.{Binding, bound_in, bind, has_address}
@@ -130,7 +130,7 @@ prefixed_small q.Plus bs s e = no_words
 prefixed_small q.Minus bs s e = no_words
 prefixed_small q.Not bs s e = no_words
 
-depth_small : (r : Role) (p : Place) (o : Option Bound) → Small (depth_named r p o)
+depth_small : (r : Role) (p : Enclosing) (o : Option Bound) → Small (depth_named r p o)
 depth_small (Destination x l) p o = unless_small (has_address o) (record { all = tt })
 depth_small Value p o = record { all = tt }
 depth_small Truth p o = record { all = tt }
@@ -145,7 +145,7 @@ defaulted_small : (m : Option ℕ) (n l : ℕ) → Small (defaulted_at m n l)
 defaulted_small None n l = record { all = tt }
 defaulted_small (Some m) n l = record { all = tt }
 
-single_small : (p : Place) (n l : ℕ) (x : Simple) → Small (single_at p n l x)
+single_small : (p : Enclosing) (n l : ℕ) (x : Simple) → Small (single_at p n l x)
 single_small p n l w.Break = unless_small p.in_loop (record { all = tt })
 single_small p n l w.Loop = unless_small p.in_loop (record { all = tt })
 single_small p n l w.EndCase = unless_small p.in_switch (record { all = tt })
@@ -211,7 +211,7 @@ globals_small m bs k s (t.item l x e is) h r =
     both (both (both (one_of_small m s.place l x) (constant_told bs k (past 1 s) e h r.0)) (at_most_small GLOBAL_NUMBER (s.place + 1) (line_of e) global_out_of_range (constant_word bs e)))
     (globals_small m bs k (behind_constant e (past 1 s)) is h r.1)
 
-pushed_small : (p : Place) (d : ℕ) → Small (pushed p d)
+pushed_small : (p : Enclosing) (d : ℕ) → Small (pushed p d)
 pushed_small p d = record { all = tt }
 
 wrong_small : (n l : ℕ) (x : Wrong) → Small (at n l x)
@@ -220,7 +220,7 @@ wrong_small n l x = record { all = tt }
 -- ---- all forms
 
 mutual
-  told_small : (r : Role) (bs : List Binding) (p : Place) (s : Spot) (e : Expression) → Fit bs → Regular e → Small (told r bs p s e)
+  told_small : (r : Role) (bs : List Binding) (p : Enclosing) (s : Spot) (e : Expression) → Fit bs → Regular e → Small (told r bs p s e)
   told_small r bs p s (t.name l x) h g = both (used_small p.procedure s.place l x (bound_in bs x)) (depth_small r p (bound_in bs x))
   told_small r bs p s (t.number l n) h g = pushed_small p 1
   told_small r bs p s (t.text l x) h g = pushed_small p 1
@@ -239,16 +239,16 @@ mutual
       (pushed_small p 1)
   told_small r bs p s (t.table l es) h g = both (each_constant_told bs p.procedure (past 1 s) es h g) (pushed_small p 1)
 
-  each_small : (n : ℕ) (bs : List Binding) (p : Place) (s : Spot) (es : Expressions) → Fit bs → RegularEach es → Small (told_each n bs p s es)
+  each_small : (n : ℕ) (bs : List Binding) (p : Enclosing) (s : Spot) (es : Expressions) → Fit bs → RegularEach es → Small (told_each n bs p s es)
   each_small n bs p s t.none h g = no_words
   each_small n bs p s (t.more e es) h g = both (told_small Value bs p s e h g.0) (each_small n bs (deeper n p) (behind e s) es h g.1)
 
-  destinations_small : (bs : List Binding) (p : Place) (s : Spot) (es : Expressions) → Fit bs → RegularEach es → Small (told_destinations bs p s es)
+  destinations_small : (bs : List Binding) (p : Enclosing) (s : Spot) (es : Expressions) → Fit bs → RegularEach es → Small (told_destinations bs p s es)
   destinations_small bs p s t.none h g = no_words
   destinations_small bs p s (t.more e es) h g =
       both (both (unless_small (assigned bs e) (wrong_small s.place (line_of e) not_assignable)) (told_small (Destination false (line_of e)) bs p s e h g.0)) (destinations_small bs p (behind e s) es h g.1)
 
-  done_small : (bs : List Binding) (p : Place) (s : Spot) (c : Action) → Fit bs → RegularAction c → Small (told_done bs p s c)
+  done_small : (bs : List Binding) (p : Enclosing) (s : Spot) (c : Action) → Fit bs → RegularAction c → Small (told_done bs p s c)
   done_small bs p s t.empty h g = no_words
   done_small bs p s (t.assign l xs es) h g = both (destinations_small bs (deeper 1 p) s xs h g.1) (each_small 0 bs p (behind_each xs s) es h g.2)
   done_small bs p s (t.call l e es) h g = both (told_small Value bs (deeper (size es + 2) p) s e h g.0) (each_small 1 bs (deeper 2 p) (behind e s) es h g.1)
@@ -280,27 +280,27 @@ mutual
   done_small bs p s (t.repeat l c) h g = done_small bs (looping p) s c h g
   done_small bs p s (t.repeat_while l x c e) h g = both (done_small bs (looping p) s c h g.0) (told_small Truth bs p (behind_done c s) e h g.1)
 
-  actions_small : (bs : List Binding) (p : Place) (s : Spot) (cs : Actions) → Fit bs → RegularActions cs → Small (told_done_each bs p s cs)
+  actions_small : (bs : List Binding) (p : Enclosing) (s : Spot) (cs : Actions) → Fit bs → RegularActions cs → Small (told_done_each bs p s cs)
   actions_small bs p s t.no_actions h g = no_words
   actions_small bs p s (t.also c cs) h g = both (done_small bs p s c h g.0) (actions_small bs p (behind_done c s) cs h g.1)
 
-  declared_small : (bs : List Binding) (p : Place) (s : Spot) (ds : Declarations) → Fit bs → RegularDeclarations ds → Small (told_declared bs p s ds)
+  declared_small : (bs : List Binding) (p : Enclosing) (s : Spot) (ds : Declarations) → Fit bs → RegularDeclarations ds → Small (told_declared bs p s ds)
   declared_small bs p s t.no_declarations h g = no_words
   declared_small bs p s (t.declare d ds) h g =
       both (one_declared_small bs p s d h g.0) (declared_small (scope_behind_one bs p s d) (place_behind_one bs p s d) (behind_one_declared d s) ds (fit_one bs p s d h g.0) g.1)
 
-  one_declared_small : (bs : List Binding) (p : Place) (s : Spot) (d : Declaration) → Fit bs → RegularDeclaration d → Small (told_one_declared bs p s d)
+  one_declared_small : (bs : List Binding) (p : Enclosing) (s : Spot) (d : Declaration) → Fit bs → RegularDeclaration d → Small (told_one_declared bs p s d)
   one_declared_small bs p s (t.constants l sort.Manifest is) h g = manifests_small s.number bs p.procedure (numbered 1 s) is h g
   one_declared_small bs p s (t.constants l sort.Static is) h g = statics_small s.number bs p.procedure (numbered 1 s) is h g
   one_declared_small bs p s (t.constants l sort.Global is) h g = globals_small s.number bs p.procedure (numbered 1 s) is h g
   one_declared_small bs p s (t.definitions l ds) h g =
       defined_small s.number (procedures_in_scope (s.number + 1) ds bs) p (numbered (1 + procedures_in ds) s) ds (fit_procedures (s.number + 1) ds bs h) g
 
-  defined_small : (m : ℕ) (bs : List Binding) (p : Place) (s : Spot) (ds : Definitions) → Fit bs → RegularDefinitions ds → Small (told_defined m bs p s ds)
+  defined_small : (m : ℕ) (bs : List Binding) (p : Enclosing) (s : Spot) (ds : Definitions) → Fit bs → RegularDefinitions ds → Small (told_defined m bs p s ds)
   defined_small m bs p s t.no_definitions h g = no_words
   defined_small m bs p s (t.define d ds) h g = both (one_defined_small m bs p s d h g.0) (defined_small m bs (place_behind_one_defined bs p d) (behind_one_defined d s) ds h g.1)
 
-  one_defined_small : (m : ℕ) (bs : List Binding) (p : Place) (s : Spot) (d : Definition) → Fit bs → RegularDefinition d → Small (told_one_defined m bs p s d)
+  one_defined_small : (m : ℕ) (bs : List Binding) (p : Enclosing) (s : Spot) (d : Definition) → Fit bs → RegularDefinition d → Small (told_one_defined m bs p s d)
   one_defined_small m bs p s (t.routine l x fs c) h g =
       procedure_small m s.number s l x fs (bound_in bs x) _
       (done_small (labels_in_scope s.number (s.number + 2) (labels_of c) (with_formals s.number 2 fs bs)) (labelled (s.number + 1) (called true s.number (length fs))) (onward (1 + length fs) (2 + length (labels_of c)) s) c
@@ -310,7 +310,7 @@ mutual
       (told_small Value (with_formals s.number 2 fs bs) (called false s.number (length fs)) (onward (1 + length fs) 1 s) e (fit_formals s.number 2 fs bs h) g)
   one_defined_small m bs p s (t.variables l xs is) h g = both (each_of_small m s.place xs) (started_small bs p (past (length xs) s) is h g.1)
 
-  started_small : (bs : List Binding) (p : Place) (s : Spot) (is : Starts) → Fit bs → RegularStarts is → Small (told_started bs p s is)
+  started_small : (bs : List Binding) (p : Enclosing) (s : Spot) (is : Starts) → Fit bs → RegularStarts is → Small (told_started bs p s is)
   started_small bs p s t.no_starts h g = no_words
   started_small bs p s (t.value e is) h g = both (told_small Value bs p s e h g.0) (started_small bs (deeper 1 p) (behind e s) is h g.1)
   started_small bs p s (t.vector l e is) h g =

@@ -18,7 +18,7 @@ use Rattle.bk_kit.specs.ReadingSource.{EachSource}
 use Rattle.bk_kit.specs.RunningSource.{NotAssembled}
 use Rattle.bk_kit.specs.SourceSections.{HasTrees}
 use Rattle.bk_kit.specs.Statuses.{fault_status}
-use Rattle.bk_kit.specs.Telling.{Output, TellsLine}
+use Rattle.bk_kit.specs.Telling.{Output, ReportsLine}
 
 -- the source could not be read
 abbrev pub fails_reading : {T : Type 0} → Result T Refusal → Bool
@@ -80,27 +80,27 @@ check_status (Err (n.Text refusal)) = fault_status refusal.fault
 check_status (Err (n.Run stop)) = check_fault_status stop.fault
 
 -- some text was reported, of which no contract says more
-abbrev pub TellsText : Output → Output → Type 0
-TellsText old new = (text : List ℕ) × TellsLine text old new
+abbrev pub ReportsText : Output → Output → Type 0
+ReportsText old new = (text : List ℕ) × ReportsLine text old new
 
 -- What is suspicious in the source is reported after the rest, in a text each; where nothing is, nothing is reported.
-abbrev pub TellsRemarks : List Remark → Output → Output → Type 0
-TellsRemarks [] old new = new ≡ old
-TellsRemarks (r ∷ rs) old new = (mid : Output) × TellsText old mid × TellsRemarks rs mid new
+abbrev pub ReportsRemarks : List Remark → Output → Output → Type 0
+ReportsRemarks [] old new = new ≡ old
+ReportsRemarks (r ∷ rs) old new = (mid : Output) × ReportsText old mid × ReportsRemarks rs mid new
 
 -- The program's own end is reported by its status alone. What went wrong is reported in a text; of a fault of the source the line is reported
 -- first that each call reports it.
-abbrev pub TellsVerdict : Verdict → Output → Output → Type 0
-TellsVerdict (v.Status word) old new = new ≡ old
-TellsVerdict v.NoStart old new = TellsLine (line_of (codes "no START")) old new
-TellsVerdict v.DivideByZero old new = TellsText old new
-TellsVerdict v.Undefined old new = TellsText old new
-TellsVerdict v.Turns old new = TellsText old new
+abbrev pub ReportsVerdict : Verdict → Output → Output → Type 0
+ReportsVerdict (v.Status word) old new = new ≡ old
+ReportsVerdict v.NoStart old new = ReportsLine (line_of (codes "no START")) old new
+ReportsVerdict v.DivideByZero old new = ReportsText old new
+ReportsVerdict v.Undefined old new = ReportsText old new
+ReportsVerdict v.Turns old new = ReportsText old new
 
-abbrev pub TellsCheck : Result Report NotChecked → Output → Output → Type 0
-TellsCheck (Ok report) old new = (mid : Output) × TellsVerdict report.verdict old mid × TellsRemarks report.remarks.items mid new
-TellsCheck (Err (n.Text refusal)) old new = (mid : Output) × TellsLine (line_of (fault_text refusal.fault)) old mid × TellsText mid new
-TellsCheck (Err (n.Run stop)) old new = (mid : Output) × TellsLine (line_of (check_fault_text stop.fault)) old mid × TellsText mid new
+abbrev pub ReportsCheck : Result Report NotChecked → Output → Output → Type 0
+ReportsCheck (Ok report) old new = (mid : Output) × ReportsVerdict report.verdict old mid × ReportsRemarks report.remarks.items mid new
+ReportsCheck (Err (n.Text refusal)) old new = (mid : Output) × ReportsLine (line_of (fault_text refusal.fault)) old mid × ReportsText mid new
+ReportsCheck (Err (n.Run stop)) old new = (mid : Output) × ReportsLine (line_of (check_fault_text stop.fault)) old mid × ReportsText mid new
 
 -- neither input nor output is touched where the source is refused
 abbrev pub Untouched : {I O : Type 0} → NotChecked → I → I → O → O → Type 0

@@ -13,12 +13,12 @@ use Rattle.bk_kit.specs.RunningSource.{ReadsSource, KeepsLimits}
 use Rattle.bk_kit.specs.SourceMeaning.{meanings}
 use Rattle.bk_checker.specs.declared.report.Report.{Report}
 use Rattle.bk_kit.specs.declared.checker.NotChecked.{NotChecked}
-use Rattle.bk_kit.specs.Checking.{fails_check, ChecksSource, check_status, TellsCheck}
+use Rattle.bk_kit.specs.Checking.{fails_check, ChecksSource, check_status, ReportsCheck}
 use Rattle.bk_kit.specs.Showing.{ShowsSource}
 use Rattle.bk_kit.specs.Sizes.{store_words, Reports}
 use Rattle.bk_kit.specs.Statuses.{run_status, run_line, done_status, done_line}
 use Rattle.bk_kit.specs.Telling.{Output, Tells}
-use Rattle.bk_kit.specs.Tracing.{FileRead, Traced, TracedNamed, TellsTrace}
+use Rattle.bk_kit.specs.Tracing.{FileRead, Traced, TracedNamed, ReportsTrace}
 
 -- what the output reports these
 abbrev pub output_of : Streams → Output
@@ -45,7 +45,7 @@ Serves Holds (Run limits name) status file names before after err_before err_aft
 Serves Holds (Check turns name) status file names before after err_before err_after =
     (answer : Result Report NotChecked) × ChecksSource answer turns file.old file.new file.ended before after × Begins before.passed after.passed
     × ReadsSource (fails_check answer) file.old file.new × (file.faults ≡ (if fails_check answer then 1 else 0))
-    × (status ≡ check_status answer) × TellsCheck answer err_before err_after
+    × (status ≡ check_status answer) × ReportsCheck answer err_before err_after
 Serves Holds (Show part name) status file names before after err_before err_after =
     (answer : Result (Unit {0}) KitFault) × ShowsSource answer file.old file.new file.ended file.faults (output_of before) (output_of after)
     × (status ≡ done_status answer) × Tells (done_line answer) err_before err_after
@@ -57,10 +57,10 @@ Serves Holds (Interpret limits name) status file names before after err_before e
     × (status ≡ run_status answer) × Tells (run_line answer) err_before err_after
 Serves Holds (Trace limits name None) status file names before after err_before err_after =
     (answer : Result End KitFault) × Traced Holds answer limits.steps limits.words file.old file.new file.ended before after × Fails answer file.faults
-    × (status ≡ run_status answer) × TellsTrace (run_line answer) err_before err_after
+    × (status ≡ run_status answer) × ReportsTrace (run_line answer) err_before err_after
 Serves Holds (Trace limits name (Some ocode)) status file names before after err_before err_after =
     (answer : Result End KitFault) × TracedNamed Holds answer limits.steps limits.words names file before after
-    × (status ≡ run_status answer) × TellsTrace (run_line answer) err_before err_after
+    × (status ≡ run_status answer) × ReportsTrace (run_line answer) err_before err_after
 Serves Holds (Sizes words name) status file names before after err_before err_after =
     (answer : Result (Unit {0}) KitFault) × Reports answer (store_words words) file.old file.new file.ended (output_of before) (output_of after) × Fails answer file.faults
     × (status ≡ done_status answer) × Tells (done_line answer) err_before err_after

@@ -29,16 +29,16 @@ pub record IsCodeOf (source code : List ℕ) : Type 0 where
   pub words : words_of code ≡ all_words intcode (segments parts)
 
 -- Each segment states the largest depth of its section.
-abbrev pub TellFrames : List Part → Type 0
-TellFrames [] = ⊤
-TellFrames (p ∷ rest) = EndsWithFrame p.items (frame_words p.stmts) × TellFrames rest
+abbrev pub ReportsFrames : List Part → Type 0
+ReportsFrames [] = ⊤
+ReportsFrames (p ∷ rest) = EndsWithFrame p.items (frame_words p.stmts) × ReportsFrames rest
 
 -- generating from this text writes the code of this source, which reports its frames
 abbrev pub WritesCode : List ℕ → List ℕ → Type 0
 WritesCode source text =
     (left : Option (List ℕ)) (ended : Bool) (faults : ℕ) (before after : Output) (done : Unit {0}) → length text < INPUT_BYTES → (IsTrue ended → left ≡ Some [])
     → Generates (Ok done) (Some text) left ended faults before after
-    → (code : List ℕ) × Appends before.taken after.taken code × ((is : IsCodeOf source code) × TellFrames is.parts)
+    → (code : List ℕ) × Appends before.taken after.taken code × ((is : IsCodeOf source code) × ReportsFrames is.parts)
 
 -- The filters, one after the other. Where `compile` is answered Ok, what it wrote is a text; and where `generate_all` is answered Ok on a
 -- device that holds just this text, what it wrote is the code of the source.
@@ -56,7 +56,7 @@ InterpretsSources = (source code : List ℕ) (is : IsCodeOf source code) (answer
 
 -- The largest frame that is reported of code that reports its frames is the number of the source.
 abbrev pub FramesAreOfSources : Type 0
-FramesAreOfSources = (source code : List ℕ) (is : IsCodeOf source code) → TellFrames is.parts → is.has.0 ≢ [] → greatest_frame (segments is.parts) ≡ frame_of is.has.0
+FramesAreOfSources = (source code : List ℕ) (is : IsCodeOf source code) → ReportsFrames is.parts → is.has.0 ≢ [] → greatest_frame (segments is.parts) ≡ frame_of is.has.0
 
 -- ---- one after another
 

@@ -10,7 +10,7 @@ pub record Output : Type 0 where
   pub faults : ℕ
 
 -- The line was put, or a beginning of it, and nothing else. Unless the device failed it was put whole and passed on.
-pub record TellsLine (line : List ℕ) (old new : Output) : Type 0 where
+pub record ReportsLine (line : List ℕ) (old new : Output) : Type 0 where
   pub part : AppendsPart old.taken new.taken line
   pub passes : Begins old.passed new.passed
   pub whole : new.faults ≡ 0 → Appends old.taken new.taken line × (new.passed ≡ new.taken)
@@ -18,4 +18,4 @@ pub record TellsLine (line : List ℕ) (old new : Output) : Type 0 where
 -- The line was reported if there is one, and else nothing was done.
 abbrev pub Tells : Option (List ℕ) → Output → Output → Type 0
 Tells None old new = new ≡ old
-Tells (Some line) old new = TellsLine line old new
+Tells (Some line) old new = ReportsLine line old new

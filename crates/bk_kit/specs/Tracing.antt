@@ -58,7 +58,7 @@ TracedNamed Holds answer steps words names code before after =
     ⊎ RefusesNames answer names code before after
 
 -- Some lines for the steps, of which no contract says more, and then the line of the answer if there is one.
-pub record TellsTrace (line : Option (List ℕ)) (old new : Output) : Type 0 where
+pub record ReportsTrace (line : Option (List ℕ)) (old new : Output) : Type 0 where
   pub mid : Output
   pub grows : Begins old.taken mid.taken
   pub passes : Begins old.passed mid.passed

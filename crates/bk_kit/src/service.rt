@@ -13,7 +13,7 @@ use crate::orders::Order;
 use crate::runner::{interpret, sizes};
 use crate::showing::show_source;
 use crate::source::run_source;
-use crate::status::{tell_check, tell_done, tell_run, tell_text};
+use crate::status::{report_check, report_done, report_run, report_text};
 use crate::tracing::{trace, trace_named};
 use bk_base::{ByteIn, ByteOut};
 use std::alloc::Global;
@@ -44,39 +44,39 @@ pub fn serve<F: ByteIn, N: ByteIn, I: ByteIn, O: ByteOut, E: ByteOut>(
     ensures leaves_input { LeavesInput order.now input.old input.new }
 {
     match order {
-        Order::Compile => tell_done(&compile(alloc, input, out), err),
-        Order::Generate => tell_done(&generate_all(alloc, input, out), err),
+        Order::Compile => report_done(&compile(alloc, input, out), err),
+        Order::Generate => report_done(&generate_all(alloc, input, out), err),
         Order::Run(limits, _) => {
             let answer = run_source(alloc, file, *limits, input, out);
-            tell_run(&answer, err)
+            report_run(&answer, err)
         }
         Order::Check(turns, name) => {
             let answer = check_source(alloc, file, *turns, input, out);
-            tell_check(&answer, name.as_str(), err)
+            report_check(&answer, name.as_str(), err)
         }
         Order::Show(part, _) => {
             let answer = show_source(alloc, file, *part, out);
-            tell_done(&answer, err)
+            report_done(&answer, err)
         }
         Order::ShowInput(part) => {
             let answer = show_source(alloc, input, *part, out);
-            tell_done(&answer, err)
+            report_done(&answer, err)
         }
         Order::Interpret(limits, _) => {
             let answer = interpret(alloc, file, *limits, input, out);
-            tell_run(&answer, err)
+            report_run(&answer, err)
         }
         Order::Trace(limits, _, None) => {
             let answer = trace(alloc, file, *limits, input, out, err);
-            tell_run(&answer, err)
+            report_run(&answer, err)
         }
         Order::Trace(limits, _, Some(_)) => {
             let answer = trace_named(alloc, names, file, *limits, input, out, err);
-            tell_run(&answer, err)
+            report_run(&answer, err)
         }
         Order::Sizes(words, _) => {
             let answer = sizes(alloc, file, *words, out);
-            tell_done(&answer, err)
+            report_done(&answer, err)
         }
     }
 }
@@ -91,7 +91,7 @@ pub fn refuse<E: ByteOut>(fault: &LineFault, err: &mut E) -> u8
 {
     match fault {
         LineFault::Help(_) => 0,
-        LineFault::Bad => tell_text("bad command line", 112, err),
-        LineFault::Memory => tell_text("no memory", 111, err),
+        LineFault::Bad => report_text("bad command line", 112, err),
+        LineFault::Memory => report_text("no memory", 111, err),
     }
 }

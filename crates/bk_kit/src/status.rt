@@ -2,9 +2,9 @@
 ghost use Rattle.std.specs.Prelude.{◌≡◌};
 ghost use Rattle.bk_kit.specs.FaultLine.{fault_text, line_of};
 ghost use Rattle.bk_kit.specs.Statuses.{stop_status, end_status, end_line, fault_status, run_status, run_line, done_status, done_line};
-ghost use Rattle.bk_kit.specs.Telling.{TellsLine, Tells};
+ghost use Rattle.bk_kit.specs.Telling.{ReportsLine, Tells};
 ghost use Rattle.bk_kit.specs.Pieces.{joined};
-ghost use Rattle.bk_kit.specs.Checking.{verdict_status, check_fault_status, check_fault_text, check_status, TellsText, TellsRemarks, TellsVerdict, TellsCheck};
+ghost use Rattle.bk_kit.specs.Checking.{verdict_status, check_fault_status, check_fault_text, check_status, ReportsText, ReportsRemarks, ReportsVerdict, ReportsCheck};
 
 use crate::checker::NotChecked;
 use crate::kit_fault::{KitFault, put_text};
@@ -41,8 +41,8 @@ fn status_of_fault(fault: &KitFault) -> u8
 }
 
 /// Writes a line on the error stream and passes it on. A failure of that stream changes nothing.
-fn tell_line<E: ByteOut>(text: &str, err: &mut E)
-    ensures { TellsLine (line_of text.now)
+fn report_line<E: ByteOut>(text: &str, err: &mut E)
+    ensures { ReportsLine (line_of text.now)
         (record { taken = E.taken err.old; passed = E.passed err.old; faults = E.faults err.old })
         (record { taken = E.taken err.new; passed = E.passed err.new; faults = E.faults err.new }) }
 {
@@ -52,19 +52,19 @@ fn tell_line<E: ByteOut>(text: &str, err: &mut E)
 }
 
 /// Writes a line on the error stream, and answers the status.
-pub fn tell_text<E: ByteOut>(text: &str, status: u8, err: &mut E) -> u8
+pub fn report_text<E: ByteOut>(text: &str, status: u8, err: &mut E) -> u8
     ensures status { result ≡ status }
-    ensures line { TellsLine (line_of text.now)
+    ensures line { ReportsLine (line_of text.now)
         (record { taken = E.taken err.old; passed = E.passed err.old; faults = E.faults err.old })
         (record { taken = E.taken err.new; passed = E.passed err.new; faults = E.faults err.new }) }
 {
-    tell_line(text, err);
+    report_line(text, err);
     status
 }
 
 /// Writes the line of a fault on the error stream and passes it on.
-fn tell_fault_line<E: ByteOut>(fault: &KitFault, err: &mut E)
-    ensures { TellsLine (line_of (fault_text fault.now))
+fn report_fault_line<E: ByteOut>(fault: &KitFault, err: &mut E)
+    ensures { ReportsLine (line_of (fault_text fault.now))
         (record { taken = E.taken err.old; passed = E.passed err.old; faults = E.faults err.old })
         (record { taken = E.taken err.new; passed = E.passed err.new; faults = E.faults err.new }) }
 {
@@ -74,18 +74,18 @@ fn tell_fault_line<E: ByteOut>(fault: &KitFault, err: &mut E)
 }
 
 /// Writes the line of a fault on the error stream, and answers the status.
-fn tell_fault<E: ByteOut>(fault: &KitFault, err: &mut E) -> u8
+fn report_fault<E: ByteOut>(fault: &KitFault, err: &mut E) -> u8
     ensures status { result ≡ fault_status fault.now }
-    ensures line { TellsLine (line_of (fault_text fault.now))
+    ensures line { ReportsLine (line_of (fault_text fault.now))
         (record { taken = E.taken err.old; passed = E.passed err.old; faults = E.faults err.old })
         (record { taken = E.taken err.new; passed = E.passed err.new; faults = E.faults err.new }) }
 {
-    tell_fault_line(fault, err);
+    report_fault_line(fault, err);
     status_of_fault(fault)
 }
 
 /// Writes the line of an end on the error stream if it has one, and answers the status.
-fn tell_end<E: ByteOut>(end: End, err: &mut E) -> u8
+fn report_end<E: ByteOut>(end: End, err: &mut E) -> u8
     ensures status { result ≡ end_status end }
     ensures line { Tells (end_line end)
         (record { taken = E.taken err.old; passed = E.passed err.old; faults = E.faults err.old })
@@ -93,30 +93,30 @@ fn tell_end<E: ByteOut>(end: End, err: &mut E) -> u8
 {
     match end {
         End::Status(number) => status_of_stop(number),
-        End::DivideByZero => tell_text("division by zero", 104, err),
-        End::StoreLimit => tell_text("store limit", 105, err),
-        End::StepLimit => tell_text("step limit", 106, err),
-        End::BadOperation => tell_text("bad operation", 107, err),
-        End::ReadFault => tell_text("read fault", 109, err),
-        End::WriteFault => tell_text("write fault", 110, err),
+        End::DivideByZero => report_text("division by zero", 104, err),
+        End::StoreLimit => report_text("store limit", 105, err),
+        End::StepLimit => report_text("step limit", 106, err),
+        End::BadOperation => report_text("bad operation", 107, err),
+        End::ReadFault => report_text("read fault", 109, err),
+        End::WriteFault => report_text("write fault", 110, err),
     }
 }
 
 /// Writes the line for the answer of a run on the error stream if it has one, and answers the status.
-pub fn tell_run<E: ByteOut>(answer: &Result<End, KitFault>, err: &mut E) -> u8
+pub fn report_run<E: ByteOut>(answer: &Result<End, KitFault>, err: &mut E) -> u8
     ensures status { result ≡ run_status answer.now }
     ensures line { Tells (run_line answer.now)
         (record { taken = E.taken err.old; passed = E.passed err.old; faults = E.faults err.old })
         (record { taken = E.taken err.new; passed = E.passed err.new; faults = E.faults err.new }) }
 {
     match answer {
-        Ok(end) => tell_end(*end, err),
-        Err(fault) => tell_fault(fault, err),
+        Ok(end) => report_end(*end, err),
+        Err(fault) => report_fault(fault, err),
     }
 }
 
 /// Writes the line for the answer of a call that only writes on the error stream if it has one, and answers the status.
-pub fn tell_done<E: ByteOut>(answer: &Result<(), KitFault>, err: &mut E) -> u8
+pub fn report_done<E: ByteOut>(answer: &Result<(), KitFault>, err: &mut E) -> u8
     ensures status { result ≡ done_status answer.now }
     ensures line { Tells (done_line answer.now)
         (record { taken = E.taken err.old; passed = E.passed err.old; faults = E.faults err.old })
@@ -124,13 +124,13 @@ pub fn tell_done<E: ByteOut>(answer: &Result<(), KitFault>, err: &mut E) -> u8
 {
     match answer {
         Ok(()) => 0,
-        Err(fault) => tell_fault(fault, err),
+        Err(fault) => report_fault(fault, err),
     }
 }
 
 /// Writes pieces of text on the error stream and passes them on. A failure of that stream changes nothing.
-fn tell_pieces<E: ByteOut>(pieces: &[&[u8]], err: &mut E)
-    ensures { TellsLine (joined pieces.now)
+fn report_pieces<E: ByteOut>(pieces: &[&[u8]], err: &mut E)
+    ensures { ReportsLine (joined pieces.now)
         (record { taken = E.taken err.old; passed = E.passed err.old; faults = E.faults err.old })
         (record { taken = E.taken err.new; passed = E.passed err.new; faults = E.faults err.new }) }
 {
@@ -141,7 +141,7 @@ fn tell_pieces<E: ByteOut>(pieces: &[&[u8]], err: &mut E)
 
 /// Writes what went wrong in a check: the name of FILE, the number of the line, what kind of thing it is, what it is, and the calls that
 /// were active.
-fn tell_parts<'a, E: ByteOut>(
+fn report_parts<'a, E: ByteOut>(
     file: &'a [u8],
     line: &'a [u8],
     kind: &'a [u8],
@@ -149,21 +149,28 @@ fn tell_parts<'a, E: ByteOut>(
     calls: &'a [u8],
     err: &mut E,
 )
-    ensures { TellsText
+    ensures { ReportsText
         (record { taken = E.taken err.old; passed = E.passed err.old; faults = E.faults err.old })
         (record { taken = E.taken err.new; passed = E.passed err.new; faults = E.faults err.new }) }
 {
-    tell_pieces(&[file, b":", line, b": ", kind, what, b"\n", calls], err)
+    report_pieces(&[file, b":", line, b": ", kind, what, b"\n", calls], err)
 }
 
 /// Writes what there is to say of a line of FILE, and further lines.
-fn tell_at<E: ByteOut>(line: Line, kind: &str, what: &[u8], further: &[u8], file: &str, err: &mut E)
-    ensures { TellsText
+fn report_at<E: ByteOut>(
+    line: Line,
+    kind: &str,
+    what: &[u8],
+    further: &[u8],
+    file: &str,
+    err: &mut E,
+)
+    ensures { ReportsText
         (record { taken = E.taken err.old; passed = E.passed err.old; faults = E.faults err.old })
         (record { taken = E.taken err.new; passed = E.passed err.new; faults = E.faults err.new }) }
 {
     let mut number = Buffer::new();
-    tell_parts(
+    report_parts(
         file.as_bytes(),
         number.format(line.number()).as_bytes(),
         kind.as_bytes(),
@@ -174,25 +181,25 @@ fn tell_at<E: ByteOut>(line: Line, kind: &str, what: &[u8], further: &[u8], file
 }
 
 /// Writes what went wrong in a check.
-fn tell_stop<E: ByteOut>(report: &Report, kind: &str, file: &str, err: &mut E)
-    ensures { TellsText
+fn report_stop<E: ByteOut>(report: &Report, kind: &str, file: &str, err: &mut E)
+    ensures { ReportsText
         (record { taken = E.taken err.old; passed = E.passed err.old; faults = E.faults err.old })
         (record { taken = E.taken err.new; passed = E.passed err.new; faults = E.faults err.new }) }
 {
-    tell_at(report.line, kind, &report.what, &report.calls, file, err)
+    report_at(report.line, kind, &report.what, &report.calls, file, err)
 }
 
 /// Writes what is suspicious in the source, a line for each thing.
-fn tell_remarks<E: ByteOut>(remarks: &[Remark], file: &str, err: &mut E)
-    ensures { TellsRemarks remarks.now
+fn report_remarks<E: ByteOut>(remarks: &[Remark], file: &str, err: &mut E)
+    ensures { ReportsRemarks remarks.now
         (record { taken = E.taken err.old; passed = E.passed err.old; faults = E.faults err.old })
         (record { taken = E.taken err.new; passed = E.passed err.new; faults = E.faults err.new }) }
 {
     match remarks.split_first() {
         None => {}
         Some((first, rest)) => {
-            tell_at(first.line, "suspicious: ", &first.text, &[], file, err);
-            tell_remarks(rest, file, err)
+            report_at(first.line, "suspicious: ", &first.text, &[], file, err);
+            report_remarks(rest, file, err)
         }
     }
 }
@@ -211,31 +218,31 @@ fn status_of_verdict(verdict: Verdict) -> u8
 }
 
 /// Writes what is reported of a verdict on the error stream.
-fn tell_verdict<E: ByteOut>(report: &Report, file: &str, err: &mut E)
-    ensures { TellsVerdict report.now.verdict
+fn report_verdict<E: ByteOut>(report: &Report, file: &str, err: &mut E)
+    ensures { ReportsVerdict report.now.verdict
         (record { taken = E.taken err.old; passed = E.passed err.old; faults = E.faults err.old })
         (record { taken = E.taken err.new; passed = E.passed err.new; faults = E.faults err.new }) }
 {
     match report.verdict {
         Verdict::Status(_) => {}
-        Verdict::NoStart => tell_line("no START", err),
-        Verdict::DivideByZero | Verdict::Turns => tell_stop(report, "", file, err),
-        Verdict::Undefined => tell_stop(report, "undefined: ", file, err),
+        Verdict::NoStart => report_line("no START", err),
+        Verdict::DivideByZero | Verdict::Turns => report_stop(report, "", file, err),
+        Verdict::Undefined => report_stop(report, "undefined: ", file, err),
     }
 }
 
 /// Writes the line for a check that was given up, and answers the status.
-fn tell_check_fault<E: ByteOut>(fault: CheckFault, err: &mut E) -> u8
+fn report_check_fault<E: ByteOut>(fault: CheckFault, err: &mut E) -> u8
     ensures status { result ≡ check_fault_status fault }
-    ensures line { TellsLine (line_of (check_fault_text fault))
+    ensures line { ReportsLine (line_of (check_fault_text fault))
         (record { taken = E.taken err.old; passed = E.passed err.old; faults = E.faults err.old })
         (record { taken = E.taken err.new; passed = E.passed err.new; faults = E.faults err.new }) }
 {
     match fault {
-        CheckFault::Memory => tell_text("no memory", 111, err),
-        CheckFault::TooDeep => tell_text("too deep", 105, err),
-        CheckFault::Read => tell_text("read fault", 109, err),
-        CheckFault::Write => tell_text("write fault", 110, err),
+        CheckFault::Memory => report_text("no memory", 111, err),
+        CheckFault::TooDeep => report_text("too deep", 105, err),
+        CheckFault::Read => report_text("read fault", 109, err),
+        CheckFault::Write => report_text("write fault", 110, err),
     }
 }
 
@@ -248,26 +255,26 @@ fn calls_of(stop: &GivenUp) -> &[u8] {
 }
 
 /// Writes what is reported of the answer of a check on the error stream, and answers the status. `file` is the name of FILE.
-pub fn tell_check<E: ByteOut>(answer: &Result<Report, NotChecked>, file: &str, err: &mut E) -> u8
+pub fn report_check<E: ByteOut>(answer: &Result<Report, NotChecked>, file: &str, err: &mut E) -> u8
     ensures status { result ≡ check_status answer.now }
-    ensures told { TellsCheck answer.now
+    ensures told { ReportsCheck answer.now
         (record { taken = E.taken err.old; passed = E.passed err.old; faults = E.faults err.old })
         (record { taken = E.taken err.new; passed = E.passed err.new; faults = E.faults err.new }) }
 {
     match answer {
         Ok(report) => {
-            tell_verdict(report, file, err);
-            tell_remarks(&report.remarks, file, err);
+            report_verdict(report, file, err);
+            report_remarks(&report.remarks, file, err);
             status_of_verdict(report.verdict)
         }
         Err(NotChecked::Text(refusal)) => {
-            let status = tell_fault(&refusal.fault, err);
-            tell_pieces(&[refusal.hint.as_slice()], err);
+            let status = report_fault(&refusal.fault, err);
+            report_pieces(&[refusal.hint.as_slice()], err);
             status
         }
         Err(NotChecked::Run(stop)) => {
-            let status = tell_check_fault(stop.fault, err);
-            tell_pieces(&[calls_of(stop)], err);
+            let status = report_check_fault(stop.fault, err);
+            report_pieces(&[calls_of(stop)], err);
             status
         }
     }

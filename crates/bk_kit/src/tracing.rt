@@ -16,7 +16,7 @@ use bk_show::{Procedures, Step, put_heading, put_other, put_procedure, put_step}
 use std::alloc::Global;
 
 /// Writes the line above the steps on the error stream, and passes it on. A failure of that stream, or refused memory, changes nothing.
-fn tell_heading<E: ByteOut>(alloc: Global, err: &mut E)
+fn report_heading<E: ByteOut>(alloc: Global, err: &mut E)
     ensures grows { Begins (E.taken err.old) (E.taken err.new) }
     ensures passes { Begins (E.passed err.old) (E.passed err.new) }
 {
@@ -26,7 +26,7 @@ fn tell_heading<E: ByteOut>(alloc: Global, err: &mut E)
 }
 
 /// Writes in the same way that the OCODE is not the one from which the INTCODE was generated.
-fn tell_other<E: ByteOut>(alloc: Global, err: &mut E)
+fn report_other<E: ByteOut>(alloc: Global, err: &mut E)
     ensures grows { Begins (E.taken err.old) (E.taken err.new) }
     ensures passes { Begins (E.passed err.old) (E.passed err.new) }
 {
@@ -36,7 +36,7 @@ fn tell_other<E: ByteOut>(alloc: Global, err: &mut E)
 }
 
 /// Writes the line of a step on the error stream, in the same way, and passes it on.
-fn tell_step<E: ByteOut>(alloc: Global, step: &Step, err: &mut E)
+fn report_step<E: ByteOut>(alloc: Global, step: &Step, err: &mut E)
     ensures grows { Begins (E.taken err.old) (E.taken err.new) }
     ensures passes { Begins (E.passed err.old) (E.passed err.new) }
 {
@@ -47,7 +47,7 @@ fn tell_step<E: ByteOut>(alloc: Global, step: &Step, err: &mut E)
 
 /// Writes the line above the steps of a procedure in the same way, where the code at an address belongs to another procedure than the
 /// steps before it.
-fn tell_procedure<E: ByteOut>(
+fn report_procedure<E: ByteOut>(
     alloc: Global,
     procedures: Option<&Procedures>,
     at: u32,
@@ -111,8 +111,8 @@ fn run_step<I: ByteIn, O: ByteOut, E: ByteOut>(
     if end == End::StepLimit {
         step.after = Some(machine.registers());
     }
-    tell_procedure(alloc, procedures, step.at, current, err);
-    tell_step(alloc, &step, err);
+    report_procedure(alloc, procedures, step.at, current, err);
+    report_step(alloc, &step, err);
     end
 }
 
@@ -170,7 +170,7 @@ fn known_procedures<'p, E: ByteOut>(
     if known.end() == image {
         return Some(known);
     }
-    tell_other(alloc, err);
+    report_other(alloc, err);
     None
 }
 
@@ -192,7 +192,7 @@ fn trace_with<C: ByteIn, I: ByteIn, O: ByteOut, E: ByteOut>(
 {
     let mut machine = load_code(alloc, code, limits.words())?;
     let known = known_procedures(alloc, procedures, machine.sizes().image, err);
-    tell_heading(alloc, err);
+    report_heading(alloc, err);
     Ok(run_steps(alloc, &mut machine, limits.steps(), known, input, out, err))
 }
 

@@ -3,7 +3,7 @@ ghost use Rattle.std.specs.Prelude.{◌≡◌, ℕ, ◌+◌, IfOk};
 ghost use Rattle.bk_tree.specs.Tree.{expression, expressions_in, action, actions_in, declaration, declarations_in, items_in, constants, definition, definitions_in, starts_in};
 ghost use Rattle.bk_meaning.specs.Environment.{objects, objects_of_each, objects_of_action, objects_of_actions, objects_of_declaration, objects_of_declarations, objects_of_definition, objects_of_definitions, objects_of_starts};
 
-use bk_tree::{Command, Decl, Def, Expr, Init, Item, Sort};
+use bk_tree::{Command, ConstItem, Decl, Def, Expr, Init, Sort};
 use std::alloc::AllocError;
 
 /// The sum of two counts. A sum that 64 bits do not hold is refused as memory is.
@@ -150,7 +150,7 @@ pub fn count_starts(starts: &[Init]) -> Result<u64, AllocError>
 
 /// How many a declaration with constants has: a name of STATIC has one.
 #[tactic(auto, using(crate::proofs::Counted::items_counted))]
-fn count_items(sort: Sort, items: &[Item]) -> u64
+fn count_items(sort: Sort, items: &[ConstItem]) -> u64
     ensures { (line : ℕ) → result ≡ objects_of_declaration (constants line sort (items_in items.now)) }
 {
     match sort {

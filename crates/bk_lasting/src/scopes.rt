@@ -11,7 +11,7 @@ use crate::counting::{count, count_command, count_def, count_defs, count_each};
 use crate::env::{Env, GLOBALS_OBJECT, Sense};
 use crate::operators::{infixed, prefixed};
 use bk_base::word;
-use bk_tree::{Command, Decl, Def, Expr, Item, Name, Sort};
+use bk_tree::{Command, ConstItem, Decl, Def, Expr, Name, Sort};
 use std::alloc::{AllocError, Global};
 
 /// The word of a name that means this, if it is a constant's.
@@ -198,11 +198,11 @@ fn sense_of_global(word: Option<u32>) -> Sense
 }
 
 /// The names with those of a MANIFEST.
-fn manifests<'a>(alloc: Global, items: &'a [Item], env: Env<'a>) -> Result<Env<'a>, AllocError>
+fn manifests<'a>(alloc: Global, items: &'a [ConstItem], env: Env<'a>) -> Result<Env<'a>, AllocError>
     ensures { IfOk result (λ after. env_in after ≡ manifests (items_in items.now) (env_in env.entry)) }
 {
     let mut env = env;
-    for Item::Item(_, name, expr) in items {
+    for ConstItem::Item(_, name, expr) in items {
         let sense = sense_of_constant(constant(&env, expr));
         env = env.bind(alloc, name, sense)?;
     }
@@ -210,11 +210,11 @@ fn manifests<'a>(alloc: Global, items: &'a [Item], env: Env<'a>) -> Result<Env<'
 }
 
 /// The names with those of a STATIC.
-fn statics<'a>(alloc: Global, items: &'a [Item], env: Env<'a>) -> Result<Env<'a>, AllocError>
+fn statics<'a>(alloc: Global, items: &'a [ConstItem], env: Env<'a>) -> Result<Env<'a>, AllocError>
     ensures { IfOk result (λ after. env_in after ≡ statics (items_in items.now) (env_in env.entry)) }
 {
     let mut env = env;
-    for Item::Item(_, name, _) in items {
+    for ConstItem::Item(_, name, _) in items {
         let here = env.next;
         env = env.bind(alloc, name, Sense::Cell(here, 0))?.behind(1)?;
     }
@@ -222,12 +222,12 @@ fn statics<'a>(alloc: Global, items: &'a [Item], env: Env<'a>) -> Result<Env<'a>
 }
 
 /// The names with those of a GLOBAL.
-fn globals<'a>(alloc: Global, items: &'a [Item], env: Env<'a>) -> Result<Env<'a>, AllocError>
+fn globals<'a>(alloc: Global, items: &'a [ConstItem], env: Env<'a>) -> Result<Env<'a>, AllocError>
     ensures { IfOk result (λ after. env_in after ≡ globals (env_in env.entry) (items_in items.now) (env_in env.entry)) }
 {
     let outer = env.again()?;
     let mut env = env;
-    for Item::Item(_, name, expr) in items {
+    for ConstItem::Item(_, name, expr) in items {
         let sense = sense_of_global(constant(&outer, expr));
         env = env.bind(alloc, name, sense)?;
     }
@@ -238,7 +238,7 @@ fn globals<'a>(alloc: Global, items: &'a [Item], env: Env<'a>) -> Result<Env<'a>
 pub fn constants<'a>(
     alloc: Global,
     sort: Sort,
-    items: &'a [Item],
+    items: &'a [ConstItem],
     env: Env<'a>,
 ) -> Result<Env<'a>, AllocError>
     ensures { IfOk result (λ after. env_in after ≡ constants_declared sort (items_in items.now) (env_in env.entry)) }

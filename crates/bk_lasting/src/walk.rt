@@ -11,7 +11,7 @@ use crate::scopes::{
     past_def, past_each, within_let,
 };
 use crate::text::text_words;
-use bk_tree::{Command, Decl, Def, Expr, Init, Item, Name, Sort};
+use bk_tree::{Command, ConstItem, Decl, Def, Expr, Init, Name, Sort};
 use std::alloc::{AllocError, Global};
 
 /// Lists one more.
@@ -64,11 +64,11 @@ fn list_statics(
     list: &mut Vec<Lasting>,
     alloc: Global,
     env: &Env,
-    items: &[Item],
+    items: &[ConstItem],
 ) -> Result<(), AllocError>
     ensures { OnOk result (listed list.new ≡ listed list.old ++ static_words (env_in env.now) (items_in items.now)) }
 {
-    for Item::Item(_, _, expr) in items {
+    for ConstItem::Item(_, _, expr) in items {
         let word = constant(env, expr).unwrap_or(0);
         list_one(list, one_word(alloc, word)?)?;
     }
@@ -81,7 +81,7 @@ fn list_items(
     alloc: Global,
     env: &Env,
     sort: Sort,
-    items: &[Item],
+    items: &[ConstItem],
 ) -> Result<(), AllocError>
     ensures { OnOk result (listed list.new ≡ listed list.old ++ of_items (env_in env.now) sort (items_in items.now)) }
 {

@@ -9,8 +9,8 @@ use Rattle.bk_objects.specs.declared.worth.Worth.TheVariants as w
 use Rattle.bk_objects.specs.declared.worth.Cell.{Cell}
 use Rattle.bk_objects.specs.declared.worth.Cell.TheVariants as c
 use Rattle.bk_meaning.specs.Parts.{Target, at, byte_at}
-use Rattle.bk_objects.specs.declared.worth.Place.{Place}
-use Rattle.bk_objects.specs.declared.worth.Place.TheVariants as p
+use Rattle.bk_objects.specs.declared.worth.Location.{Location}
+use Rattle.bk_objects.specs.declared.worth.Location.TheVariants as p
 use Rattle.bk_objects.specs.declared.computed.Computed.{Computed}
 use Rattle.bk_objects.specs.declared.computed.Computed.TheVariants as k
 
@@ -48,6 +48,6 @@ abbrev pub given_by : {E : Type 0} → Result Worth E → Option v.Value
 given_by (Ok x) = Some (value_in x)
 given_by (Err e) = None
 
-abbrev pub place_in : Place → Target
+abbrev pub place_in : Location → Target
 place_in (p.Cell a) = at (value_in a)
 place_in (p.Byte a i) = byte_at (value_in a) (value_in i)

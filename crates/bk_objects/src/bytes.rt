@@ -11,7 +11,7 @@ ghost use Rattle.bk_objects.specs.Views.{value_in, cell_in, place_in};
 use crate::computed::Reason;
 use crate::operators::no_cell;
 use crate::store::Store;
-use crate::worth::{Cell, Place, Worth};
+use crate::worth::{Cell, Location, Worth};
 use bk_base::word;
 
 /// The byte at a place from 0 to 3.
@@ -149,12 +149,12 @@ pub fn write_byte(store: &mut Store, at: Worth, i: Worth, x: Worth) -> Result<()
 }
 
 /// Puts a value in a place. An `Err` says why it is undefined.
-pub fn put(store: &mut Store, place: Place, x: Worth) -> Result<(), Reason>
+pub fn put(store: &mut Store, place: Location, x: Worth) -> Result<(), Reason>
     ensures memory { (w : World) → w.memory ≡ store.old → changes (if is_ok result then Some store.new else None) w ≡ p.store (place_in place) (value_in x) w }
     ensures unchanged { OnErr result (store.new ≡ store.old) }
 {
     match place {
-        Place::Cell(at) => write(store, at, x),
-        Place::Byte(at, i) => write_byte(store, at, i, x),
+        Location::Cell(at) => write(store, at, x),
+        Location::Byte(at, i) => write_byte(store, at, i, x),
     }
 }

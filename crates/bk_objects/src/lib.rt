@@ -15,4 +15,4 @@ pub use computed::{Computed, Reason};
 pub use library::{Effect, perform};
 pub use operators::{calculated, combine, prefixed, read, sum, truth_of};
 pub use store::Store;
-pub use worth::{Cell, Place, Routine, Worth};
+pub use worth::{Cell, Location, Routine, Worth};

@@ -51,7 +51,7 @@ pub enum Cell {
 
 /// Where a value goes.
 #[derive(Clone, Copy, Debug)]
-pub enum Place {
+pub enum Location {
     /// The cell at this address.
     Cell(Worth),
     /// A byte of the words from an address on: the address, and the byte's number.

@@ -5,7 +5,7 @@ use Rattle.std.proofs.lemmas.Cmp.{int_eq_equiv}
 use Rattle.bk_base.specs.Decimal.{spelling}
 use Rattle.bk_ocode.specs.StmtText.{label_word, case_words}
 use Rattle.bk_ocode.specs.StmtRange.{IsLabel, AreCases}
-use Rattle.bk_ocode.specs.BegunStmts.{has_value}
+use Rattle.bk_ocode.specs.PartialStmts.{has_value}
 use Rattle.bk_ocode.specs.declared.stmt.Case.{Case}
 use Rattle.bk_ocode.proofs.Rows.{joined-append}
 

@@ -9,7 +9,7 @@ use Rattle.bk_words.specs.Numerals.{fits-pos}
 use Rattle.bk_ocode.specs.StmtText.{label_word, natural_word, byte_words, case_words, global_words, stmt_words}
 use Rattle.bk_ocode.specs.StmtRange.{IsLabel, IsGlobal, AreBytes, AreCases}
 use Rattle.bk_ocode.specs.FirstFault.{IsStmt, BeginsStmt}
-use Rattle.bk_ocode.specs.BegunStmts.{has_value, owner_words, IsOwner, switch_words, entries_words, begun_words, is_short, IsBegunStmt, AreBegunCases, AreBegunEntries, part_words, IsBegunPart}
+use Rattle.bk_ocode.specs.PartialStmts.{has_value, owner_words, IsOwner, switch_words, entries_words, partial_words, is_short, IsPartialStmt, ArePartialCases, ArePartialEntries, part_words, IsPartialPart}
 use Rattle.bk_ocode.specs.declared.stmt.Case.{Case}
 use Rattle.bk_ocode.specs.declared.stmt.GlobalEntry.{GlobalEntry}
 use Rattle.bk_ocode.specs.declared.stmt.Stmt.{Stmt}
@@ -20,15 +20,15 @@ use Rattle.bk_ocode.specs.Faults.{misplaced}
 use Rattle.bk_ocode.specs.declared.stmt.Variable.TheVariants as variable
 use Rattle.bk_ocode.specs.declared.stmt.Monadic.TheVariants as monadic
 use Rattle.bk_ocode.specs.declared.stmt.Dyadic.TheVariants as dyadic
-use Rattle.bk_ocode.specs.declared.keyword.Kind.TheVariants as kinds
+use Rattle.bk_ocode.specs.declared.keyword.VariableKind.TheVariants as kinds
 use Rattle.bk_ocode.specs.declared.keyword.Keyword.{Keyword}
 use Rattle.bk_ocode.specs.declared.keyword.Keyword.TheVariants as keywords
-use Rattle.bk_ocode.specs.declared.begun.Begun.{Begun}
-use Rattle.bk_ocode.specs.declared.begun.Begun.TheVariants as begun
-use Rattle.bk_ocode.specs.declared.begun.Owner.{Owner}
-use Rattle.bk_ocode.specs.declared.begun.Owner.TheVariants as owners
-use Rattle.bk_ocode.specs.declared.begun.CaseDraft.{CaseDraft}
-use Rattle.bk_ocode.specs.declared.begun.EntryDraft.{EntryDraft}
+use Rattle.bk_ocode.specs.declared.partial.Partial.{Partial}
+use Rattle.bk_ocode.specs.declared.partial.Partial.TheVariants as begun
+use Rattle.bk_ocode.specs.declared.partial.Owner.{Owner}
+use Rattle.bk_ocode.specs.declared.partial.Owner.TheVariants as owners
+use Rattle.bk_ocode.specs.declared.partial.CaseDraft.{CaseDraft}
+use Rattle.bk_ocode.specs.declared.partial.EntryDraft.{EntryDraft}
 use Rattle.bk_ocode.proofs.Rows.{joined-append}
 use Rattle.bk_ocode.proofs.CaseLemmas.{AreCases-push, typed-push}
 
@@ -139,7 +139,7 @@ globals-words entries more e count long =
     ap (λ (m : ℕ). codes "GLOBAL" ∷ natural_word m ∷ global_words (entries ++ e ∷ more)) long
     ∙ ap (λ (w : List (List ℕ)). codes "GLOBAL" ∷ natural_word count ∷ w) (joined-append (λ (d : GlobalEntry). natural_word d.number ∷ label_word d.label ∷ []) entries (e ∷ more))
 
-pub goes_on-number : (draft : EntryDraft) → AreBegunEntries draft → GoesOn (entries_words draft)
+pub goes_on-number : (draft : EntryDraft) → ArePartialEntries draft → GoesOn (entries_words draft)
 goes_on-number draft are =
     let e : GlobalEntry = record { number = 0; label = 1 } in
     let g = globals draft.entries.items draft.count e are.0.entries.in_range (omega arith, (omega arith, omega arith)) are.0.counted are.1 in
@@ -151,7 +151,7 @@ goes_on-number draft are =
       begins = globals-words draft.entries.items g.0 e draft.count g.2;
     }
 
-pub goes_on-global_label : (draft : EntryDraft) (number : ℕ) → AreBegunEntries draft → IsGlobal number → GoesOn (entries_words draft ++ natural_word number ∷ [])
+pub goes_on-global_label : (draft : EntryDraft) (number : ℕ) → ArePartialEntries draft → IsGlobal number → GoesOn (entries_words draft ++ natural_word number ∷ [])
 goes_on-global_label draft number are small =
     let e : GlobalEntry = record { number = number; label = 1 } in
     let g = globals draft.entries.items draft.count e are.0.entries.in_range (small, (omega arith, omega arith)) are.0.counted are.1 in
@@ -270,7 +270,7 @@ with_next default cases count value label are fits low due typed new =
     let same : (cases ++ c ∷ []) ++ g.0 ≡ cases ++ (c ∷ g.0) = append_assoc cases (c ∷ []) g.0 in
     (g.0, ((label, subst AreCases same g.2), subst AreValues same g.3), omega (arith, ap (λ (l : List Case). length l) same, g.1, long, due))
 
-pub goes_on-value : (draft : CaseDraft) → AreBegunCases draft → GoesOn (switch_words draft)
+pub goes_on-value : (draft : CaseDraft) → ArePartialCases draft → GoesOn (switch_words draft)
 goes_on-value draft are =
     let f = free draft.cases.items in
     let c : Case = record { value = pos f.0; label = 1 } in
@@ -283,7 +283,7 @@ goes_on-value draft are =
       begins = switch_words-of draft.default draft.cases.items (c ∷ g.0) draft.count g.2;
     }
 
-pub goes_on-case_label : (draft : CaseDraft) (value : ℤ) → AreBegunCases draft → FitsSigned w32 value → has_value value draft.cases.items ≡ false → GoesOn (switch_words draft ++ spelling value ∷ [])
+pub goes_on-case_label : (draft : CaseDraft) (value : ℤ) → ArePartialCases draft → FitsSigned w32 value → has_value value draft.cases.items ≡ false → GoesOn (switch_words draft ++ spelling value ∷ [])
 goes_on-case_label draft value are fits new =
     let c : Case = record { value = value; label = 1 } in
     let g = with_next draft.default draft.cases.items draft.count value are.0.default are.0.cases are.0.typed are.0.counted are.1 fits new in
@@ -366,7 +366,7 @@ goes_on-short (keywords.JumpIf true) e = record { stmt = stmt.JumpIf true 1; is_
 goes_on-short (keywords.JumpIf false) e = record { stmt = stmt.JumpIf false 1; is_stmt = ((omega arith, omega arith), tt); word = label_word 1; rest = []; begins = refl }
 
 -- each beginning goes on
-pub goes_on : (b : Begun) → IsBegunStmt b → GoesOn (begun_words b)
+pub goes_on : (b : Partial) → IsPartialStmt b → GoesOn (partial_words b)
 goes_on (begun.Short k) is = goes_on-short k is
 goes_on begun.EntryLabel is = record { stmt = stmt.Entry 1 []; is_stmt = bytes_stmt-fits (owners.Entry 1) [] (omega arith, omega arith) (AreBytes-zeros 0) (omega arith); word = label_word 1; rest = natural_word 0 ∷ []; begins = refl }
 goes_on (begun.Length owner) is = goes_on-length owner is
@@ -387,10 +387,10 @@ goes_on begun.GlobalCount is = record { stmt = stmt.Globals []; is_stmt = (recor
 goes_on (begun.GlobalNumber draft) is = goes_on-number draft is
 goes_on (begun.GlobalLabel draft number) is = goes_on-global_label draft number is.0 is.1
 
-abbrev Placed : List Stmt → Option Begun → Type 0
+abbrev Placed : List Stmt → Option Partial → Type 0
 Placed stmts part = (s : Stmt) (rest : List (List ℕ)) → 0 < length (part_words part) → stmt_words s ≡ part_words part ++ rest → misplaced (context_of stmts) s ≡ false
 
-pub begins_part : (stmts : List Stmt) (part : Option Begun) → IsBegunPart part → Placed stmts part → 0 < length (part_words part) → BeginsStmt stmts (part_words part)
+pub begins_part : (stmts : List Stmt) (part : Option Partial) → IsPartialPart part → Placed stmts part → 0 < length (part_words part) → BeginsStmt stmts (part_words part)
 begins_part stmts None is placed some = absurd (omega (arith, some))
 begins_part stmts (Some b) is placed some =
     let g = goes_on b is in
@@ -400,5 +400,5 @@ none_or_some : (l : List (List ℕ)) → (l ≡ []) ⊎ (0 < length l)
 none_or_some [] = inl refl
 none_or_some (x ∷ l) = inr (omega arith)
 
-pub part_goes_on : (stmts : List Stmt) (part : Option Begun) → IsBegunPart part → Placed stmts part → (part_words part ≡ []) ⊎ BeginsStmt stmts (part_words part)
+pub part_goes_on : (stmts : List Stmt) (part : Option Partial) → IsPartialPart part → Placed stmts part → (part_words part ≡ []) ⊎ BeginsStmt stmts (part_words part)
 part_goes_on stmts part is placed = elim (none_or_some (part_words part)) [ inl none ↦ inl none | inr some ↦ inr (begins_part stmts part is placed some) ]

@@ -10,13 +10,13 @@ use Rattle.bk_words.specs.Gathering.{BeginsWord}
 use Rattle.bk_words.specs.Taking.{Reads}
 use Rattle.bk_words.specs.WordLaws.{Reads-stops}
 use Rattle.bk_ocode.specs.SectionText.{section_words}
-use Rattle.bk_ocode.specs.FirstFault.{IsBegun, BeginsStmt, section, nothing, fault}
+use Rattle.bk_ocode.specs.FirstFault.{IsPartial, BeginsStmt, section, nothing, fault}
 use Rattle.bk_ocode.specs.SectionAnswer.{Takes, StopsAtDevice, NoSectionPassed}
 use Rattle.bk_ocode.specs.declared.stmt.Stmt.{Stmt}
 use Rattle.bk_ocode.proofs.OneSaying.{one_saying}
 
 -- the device failed at a word
-pub stops_behind : (old a b : Option (List ℕ)) (e f : Bool) (m : ℕ) (stmts : List Stmt) (part : List (List ℕ)) (given : List ℕ) → IsBegun stmts → Reads old a e m (section_words stmts ++ part) → (AtEnd e m → ⊥) →
+pub stops_behind : (old a b : Option (List ℕ)) (e f : Bool) (m : ℕ) (stmts : List Stmt) (part : List (List ℕ)) (given : List ℕ) → IsPartial stmts → Reads old a e m (section_words stmts ++ part) → (AtEnd e m → ⊥) →
     BeginsWord given → Consumes a b given → length (section_words stmts) + length part ≤ OCODE_WORDS → (part ≡ []) ⊎ BeginsStmt stmts part → Takes old b f (λ taken end. StopsAtDevice taken)
 stops_behind old a b e f m stmts part given begun reads unended begins gives few goes_on =
     let stops = Reads-stops old a b e m (section_words stmts ++ part) given reads unended begins gives in (

@@ -9,19 +9,19 @@ use Rattle.bk_ocode.specs.StmtText.{keyword, argument_words, stmt_words}
 use Rattle.bk_ocode.specs.SectionText.{section_words}
 use Rattle.bk_ocode.specs.Context.{Context, at_start, after, after_all, context_of}
 use Rattle.bk_ocode.specs.Faults.{misplaced, label_not_set, label_set_twice, depths_disagree, slot_above, too_long, fault_in, stmt_fault}
-use Rattle.bk_ocode.specs.FirstFault.{IsBegun, IsStmt, BeginsStmt, FaultOf}
+use Rattle.bk_ocode.specs.FirstFault.{IsPartial, IsStmt, BeginsStmt, FaultOf}
 use Rattle.bk_ocode.specs.SectionAnswer.{Takes, GivesFault, StopsAtWord, Answers}
 use Rattle.std.proofs.lemmas.Bool.{cases_lt}
 use Rattle.bk_base.specs.declared.ocode_fault.OcodeFault.{OcodeFault}
 use Rattle.bk_base.specs.declared.refused.Refused.{Refused}
 use Rattle.bk_base.specs.declared.refused.Refused.TheVariants.{Fault}
-use Rattle.bk_ocode.specs.BegunStmts.{owner_words, begun_words, part_words, BeginNone, refusal}
-use Rattle.bk_ocode.specs.declared.begun.Owner.{Owner}
-use Rattle.bk_ocode.specs.declared.begun.Owner.TheVariants as owners
-use Rattle.bk_ocode.specs.declared.begun.Begun.{Begun}
-use Rattle.bk_ocode.specs.declared.begun.Begun.TheVariants as begun
-use Rattle.bk_ocode.specs.declared.begun.Unfit.{Unfit}
-use Rattle.bk_ocode.specs.declared.begun.Unfit.TheVariants as unfits
+use Rattle.bk_ocode.specs.PartialStmts.{owner_words, partial_words, part_words, BeginNone, refusal}
+use Rattle.bk_ocode.specs.declared.partial.Owner.{Owner}
+use Rattle.bk_ocode.specs.declared.partial.Owner.TheVariants as owners
+use Rattle.bk_ocode.specs.declared.partial.Partial.{Partial}
+use Rattle.bk_ocode.specs.declared.partial.Partial.TheVariants as begun
+use Rattle.bk_ocode.specs.declared.partial.Unfit.{Unfit}
+use Rattle.bk_ocode.specs.declared.partial.Unfit.TheVariants as unfits
 use Rattle.bk_ocode.specs.declared.section.Ocode.{Ocode}
 use Rattle.bk_ocode.proofs.ReadingLemmas.{nothing_left, some_taken}
 use Rattle.bk_ocode.specs.declared.stmt.Stmt.{Stmt}
@@ -67,7 +67,7 @@ taken_some taken end words some (inl p) = absurd (omega (arith, some, ap (λ (l 
 taken_some taken end words some (inr t) = t
 
 -- a fault that is told of these words
-pub told_at : (old b : Option (List ℕ)) (f : Bool) (k number : ℕ) (kind : OcodeKind) (stmts : List Stmt) (part : List (List ℕ)) → IsBegun stmts → number ≡ length stmts + 1 → 0 < length part →
+pub told_at : (old b : Option (List ℕ)) (f : Bool) (k number : ℕ) (kind : OcodeKind) (stmts : List Stmt) (part : List (List ℕ)) → IsPartial stmts → number ≡ length stmts + 1 → 0 < length part →
     Reads old b f k (section_words stmts ++ part) → FaultOf stmts part kind → Takes old b f (λ taken end. GivesFault taken end number kind)
 told_at old b f k number kind stmts part begun place some reads fault = (
   reads.0,
@@ -84,7 +84,7 @@ told_at old b f k number kind stmts part begun place some reads fault = (
 )
 
 -- the fault of a rule
-pub rule_at : (old b : Option (List ℕ)) (f : Bool) (k number : ℕ) (kind : OcodeKind) (stmts : List Stmt) (part : List (List ℕ)) (w : List ℕ) (s : Stmt) → IsBegun stmts → number ≡ length stmts + 1 →
+pub rule_at : (old b : Option (List ℕ)) (f : Bool) (k number : ℕ) (kind : OcodeKind) (stmts : List Stmt) (part : List (List ℕ)) (w : List ℕ) (s : Stmt) → IsPartial stmts → number ≡ length stmts + 1 →
     Reads old b f k ((section_words stmts ++ part) ++ w ∷ []) → IsStmt s → stmt_words s ≡ part ++ w ∷ [] → length (section_words stmts) + length part ≤ OCODE_WORDS → misplaced (context_of stmts) s ≡ false → stmt_fault stmts s ≡ Some kind →
     Takes old b f (λ taken end. GivesFault taken end number kind)
 rule_at old b f k number kind stmts part w s begun place reads fits words few placed is =
@@ -93,14 +93,14 @@ rule_at old b f k number kind stmts part w s begun place reads fits words few pl
     (rule_told stmts s (part ++ w ∷ []) kind fits words (omega (arith, few, length-append (section_words stmts) (part ++ w ∷ []), length-append part (w ∷ []))) (no_rule stmts (context_of stmts) s kind placed is) is)
 
 -- too many words
-pub filled_at : (old b : Option (List ℕ)) (f : Bool) (k number n m : ℕ) (stmts : List Stmt) (part : List (List ℕ)) → IsBegun stmts → number ≡ length stmts + 1 → n ≡ length (section_words stmts) → m ≡ length part →
+pub filled_at : (old b : Option (List ℕ)) (f : Bool) (k number n m : ℕ) (stmts : List Stmt) (part : List (List ℕ)) → IsPartial stmts → number ≡ length stmts + 1 → n ≡ length (section_words stmts) → m ≡ length part →
     n + m ≡ OCODE_WORDS + 1 → 0 < m → (0 < length part → BeginsStmt stmts part) → Reads old b f k (section_words stmts ++ part) → Takes old b f (λ taken end. GivesFault taken end number TooLong)
 filled_at old b f k number n m stmts part begun place all own full some begins reads =
     told_at old b f k number TooLong stmts part begun place (omega (arith, own, some)) reads
     (inr (record { begun = begins (omega (arith, own, some)); past = omega (arith, length-append (section_words stmts) part, all, own, full) }))
 
 -- the text ends
-pub cut_at : (old b : Option (List ℕ)) (f : Bool) (k number : ℕ) (stmts : List Stmt) (part : List (List ℕ)) → IsBegun stmts → number ≡ length stmts + 1 → 0 < length (section_words stmts ++ part) →
+pub cut_at : (old b : Option (List ℕ)) (f : Bool) (k number : ℕ) (stmts : List Stmt) (part : List (List ℕ)) → IsPartial stmts → number ≡ length stmts + 1 → 0 < length (section_words stmts ++ part) →
     length (section_words stmts ++ part) ≤ OCODE_WORDS → (part ≡ []) ⊎ BeginsStmt stmts part → ReadsAll old b f k (section_words stmts ++ part) → Takes old b f (λ taken end. GivesFault taken end number Truncated)
 cut_at old b f k number stmts part begun place some few goes_on reads = (
   reads.0,
@@ -134,27 +134,27 @@ some_of : (owner : Owner) → 0 < length (owner_words owner)
 some_of owners.Text = omega arith
 some_of (owners.Entry label) = omega arith
 
-pub begun_some : (b : Begun) → 0 < length (begun_words b)
-begun_some (begun.Short k) = omega arith
-begun_some begun.EntryLabel = omega arith
-begun_some (begun.Length owner) = some_of owner
-begun_some (begun.Bytes owner bytes count) = owner_some owner _
-begun_some begun.CaseCount = omega arith
-begun_some (begun.Default count) = omega arith
-begun_some (begun.CaseValue draft) = omega arith
-begun_some (begun.CaseLabel draft value) = omega arith
-begun_some begun.GlobalCount = omega arith
-begun_some (begun.GlobalNumber draft) = omega arith
-begun_some (begun.GlobalLabel draft number) = omega arith
+pub partial_some : (b : Partial) → 0 < length (partial_words b)
+partial_some (begun.Short k) = omega arith
+partial_some begun.EntryLabel = omega arith
+partial_some (begun.Length owner) = some_of owner
+partial_some (begun.Bytes owner bytes count) = owner_some owner _
+partial_some begun.CaseCount = omega arith
+partial_some (begun.Default count) = omega arith
+partial_some (begun.CaseValue draft) = omega arith
+partial_some (begun.CaseLabel draft value) = omega arith
+partial_some begun.GlobalCount = omega arith
+partial_some (begun.GlobalNumber draft) = omega arith
+partial_some (begun.GlobalLabel draft number) = omega arith
 
 -- what begins with these words may stand there
-pub placed_more : (c : Context) (part : Option Begun) (next : List (List ℕ)) (w : List ℕ) → next ≡ part_words part ++ w ∷ [] →
+pub placed_more : (c : Context) (part : Option Partial) (next : List (List ℕ)) (w : List ℕ) → next ≡ part_words part ++ w ∷ [] →
     ((s : Stmt) (rest : List (List ℕ)) → 0 < length (part_words part) → stmt_words s ≡ part_words part ++ rest → misplaced c s ≡ false) →
     (part ≡ None → (s : Stmt) → keyword s ≡ w → misplaced c s ≡ false) → (s : Stmt) (rest : List (List ℕ)) → stmt_words s ≡ next ++ rest → misplaced c s ≡ false
 placed_more c None next w is old first s rest words =
     first refl s (let h : keyword s ∷ argument_words s ≡ w ∷ rest = words ∙ ap (λ (l : List (List ℕ)). l ++ rest) is in cc)
 placed_more c (Some b) next w is old first s rest words =
-    old s (w ∷ rest) (begun_some b) (words ∙ ap (λ (l : List (List ℕ)). l ++ rest) is ∙ append_assoc (begun_words b) (w ∷ []) rest)
+    old s (w ∷ rest) (partial_some b) (words ∙ ap (λ (l : List (List ℕ)). l ++ rest) is ∙ append_assoc (partial_words b) (w ∷ []) rest)
 
 after_all-words : (c : Context) (stmts : List Stmt) → (after_all c stmts).words ≡ c.words + length (section_words stmts)
 after_all-words c [] = omega arith
@@ -173,7 +173,7 @@ begins_some stmts part (inl none) some = absurd (omega (arith, some, ap (λ (l :
 begins_some stmts part (inr begins) some = begins
 
 -- memory was refused at a word
-pub stops_at : (old b : Option (List ℕ)) (f : Bool) (k : ℕ) (stmts : List Stmt) (part : List (List ℕ)) (w : List ℕ) → IsBegun stmts →
+pub stops_at : (old b : Option (List ℕ)) (f : Bool) (k : ℕ) (stmts : List Stmt) (part : List (List ℕ)) (w : List ℕ) → IsPartial stmts →
     Reads old b f k ((section_words stmts ++ part) ++ w ∷ []) → length (section_words stmts) + length part ≤ OCODE_WORDS → (part ≡ []) ⊎ BeginsStmt stmts part → Takes old b f StopsAtWord
 stops_at old b f k stmts part w begun reads few goes_on = (
   reads.0,
@@ -191,7 +191,7 @@ stops_at old b f k stmts part w begun reads few goes_on = (
 )
 
 -- a word that does not fit
-pub refused_at : (old b : Option (List ℕ)) (f : Bool) (k count : ℕ) (stmts : List Stmt) (part : Option Begun) (w : List ℕ) (unfit : Unfit) → IsBegun stmts → count ≡ length stmts →
+pub refused_at : (old b : Option (List ℕ)) (f : Bool) (k count : ℕ) (stmts : List Stmt) (part : Option Partial) (w : List ℕ) (unfit : Unfit) → IsPartial stmts → count ≡ length stmts →
     Reads old b f k ((section_words stmts ++ part_words part) ++ w ∷ []) → length (section_words stmts) + length (part_words part) ≤ OCODE_WORDS → (part_words part ≡ []) ⊎ BeginsStmt stmts (part_words part) →
     (unfit ≡ unfits.BadNumber → (0 < length (part_words part)) × BeginNone (part_words part ++ w ∷ [])) →
     (unfit ≡ unfits.BadWord → (part ≡ None) × ((s : Stmt) → keyword s ≡ w → misplaced (context_of stmts) s ≡ true)) → Answers (Err (refusal count unfit)) old b f
@@ -210,11 +210,11 @@ refused_at old b f k count stmts part w unfits.BadNumber begun is reads few begi
     })
 refused_at old b f k count stmts part w unfits.BadWord begun is reads few begins number bad =
     told_at old b f k (count + 1) BadWord stmts (w ∷ []) begun (ap (λ n. n + 1) is) (omega arith)
-    (subst (λ (l : List (List ℕ)). Reads old b f k l) (append_assoc (section_words stmts) (part_words part) (w ∷ []) ∙ ap (λ (p : Option Begun). section_words stmts ++ (part_words p ++ w ∷ [])) (bad refl).0) reads)
+    (subst (λ (l : List (List ℕ)). Reads old b f k l) (append_assoc (section_words stmts) (part_words part) (w ∷ []) ∙ ap (λ (p : Option Partial). section_words stmts ++ (part_words p ++ w ∷ [])) (bad refl).0) reads)
     (record { word = w; first = refl; misplaced = (bad refl).1 })
 
 -- the text ends
-pub end_at : (old b : Option (List ℕ)) (f : Bool) (k count words : ℕ) (stmts : List Stmt) (part : List (List ℕ)) (r : Result (Option Ocode) (Refused OcodeFault)) → IsBegun stmts → count ≡ length stmts → words ≡ length part →
+pub end_at : (old b : Option (List ℕ)) (f : Bool) (k count words : ℕ) (stmts : List Stmt) (part : List (List ℕ)) (r : Result (Option Ocode) (Refused OcodeFault)) → IsPartial stmts → count ≡ length stmts → words ≡ length part →
     (count + words ≡ 0 → r ≡ Ok None) → (0 < count + words → r ≡ Err (Fault (record { statement = count + 1; kind = Truncated }))) →
     length (section_words stmts) + length part ≤ OCODE_WORDS → (part ≡ []) ⊎ BeginsStmt stmts part → ReadsAll old b f k (section_words stmts ++ part) → Answers r old b f
 end_at old b f k count words stmts part r begun is own none some few goes_on reads = elim (cases_lt 0 (count + words)) [

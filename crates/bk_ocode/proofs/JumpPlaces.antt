@@ -9,7 +9,7 @@ use Rattle.bk_ocode.specs.Section.{IsSection}
 use Rattle.bk_ocode.specs.SectionLaws.{IsAmong, JumpFindsItsLabel, ResultFindsItsLabel}
 use Rattle.bk_ocode.specs.declared.standing.Position.{Position}
 use Rattle.bk_ocode.specs.declared.standing.Position.TheVariants as position
-use Rattle.bk_ocode.specs.declared.standing.Role.TheVariants.{Outer, Datum}
+use Rattle.bk_ocode.specs.declared.standing.StmtPlace.TheVariants.{Outer, Datum}
 use Rattle.bk_ocode.specs.declared.standing.Setting.{Setting}
 use Rattle.bk_ocode.specs.declared.standing.Setting.TheVariants as setting
 use Rattle.bk_ocode.specs.declared.standing.LabelUse.{LabelUse}

@@ -6,14 +6,14 @@ use Rattle.bk_ocode.specs.StmtText.{keyword}
 use Rattle.bk_ocode.specs.Places.{role, may_stand}
 use Rattle.bk_ocode.specs.Context.{Context}
 use Rattle.bk_ocode.specs.Faults.{misplaced}
-use Rattle.bk_ocode.specs.declared.standing.Role.{Role}
+use Rattle.bk_ocode.specs.declared.standing.StmtPlace.{StmtPlace}
 use Rattle.bk_ocode.specs.Keywords.{keyword_text, two, three, four, five, six, seven, eight, keywords_of_length, find_keyword, keyword_of_stmt, keyword_role}
 use Rattle.bk_ocode.specs.declared.stmt.Variable.TheVariants as variable
 use Rattle.bk_ocode.specs.declared.stmt.Monadic.TheVariants as monadic
 use Rattle.bk_ocode.specs.declared.stmt.Dyadic.TheVariants as dyadic
 use Rattle.bk_ocode.specs.declared.stmt.Stmt.{Stmt}
 use Rattle.bk_ocode.specs.declared.stmt.Stmt.TheVariants as stmt
-use Rattle.bk_ocode.specs.declared.keyword.Kind.TheVariants as kinds
+use Rattle.bk_ocode.specs.declared.keyword.VariableKind.TheVariants as kinds
 use Rattle.bk_ocode.specs.declared.keyword.Keyword.{Keyword}
 use Rattle.bk_ocode.specs.declared.keyword.Keyword.TheVariants.{Number, True, False, Query, Text, LoadByte, AssignAt, AssignByte, Jump, Label, GiveResult, TakeResult, Stack, Store, Entry, Save, CallFunction, CallRoutine, ReturnItem, Return, EndProcedure, Switch, Finish, DataLabel, DataNumber, DataAddress, Globals, Load, Address, Assign, Monadic, Dyadic, JumpIf}
 
@@ -224,4 +224,4 @@ begins_none word none s is = none (keyword_of_stmt s) (sym (begins_so s) ∙ is)
 pub placed_so : (c : Context) (k : Keyword) (word : List ℕ) (s : Stmt) (b : Bool) → keyword_text k ≡ word → keyword s ≡ word → may_stand c.position (keyword_role k) ≡ b → misplaced c s ≡ not b
 placed_so c k word s b text is stands =
     let same : keyword_of_stmt s ≡ k = same_keyword (keyword_of_stmt s) k (sym (begins_so s) ∙ is ∙ sym text) in
-    ap (λ (r : Role). not (may_stand c.position r)) (stands_so s ∙ ap keyword_role same) ∙ ap not stands
+    ap (λ (r : StmtPlace). not (may_stand c.position r)) (stands_so s ∙ ap keyword_role same) ∙ ap not stands

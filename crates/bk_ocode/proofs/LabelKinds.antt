@@ -12,8 +12,8 @@ use Rattle.bk_ocode.specs.Section.{AreFaultless, IsSection}
 use Rattle.bk_ocode.specs.SectionData.{text_size}
 use Rattle.bk_ocode.specs.SectionLaws.{IsAmong, DataFindsItsLabel, ItemFindsItsLabel, GlobalFindsItsEntry, GlobalStandsLast, TextIsShort}
 use Rattle.bk_ocode.specs.declared.standing.Position.TheVariants as position
-use Rattle.bk_ocode.specs.declared.standing.Role.{Role}
-use Rattle.bk_ocode.specs.declared.standing.Role.TheVariants.{Outer, First, Body, Taker, Last, Datum}
+use Rattle.bk_ocode.specs.declared.standing.StmtPlace.{StmtPlace}
+use Rattle.bk_ocode.specs.declared.standing.StmtPlace.TheVariants.{Outer, First, Body, Taker, Last, Datum}
 use Rattle.bk_ocode.specs.declared.standing.Setting.{Setting}
 use Rattle.bk_ocode.specs.declared.standing.Setting.TheVariants as setting
 use Rattle.bk_ocode.specs.declared.stmt.GlobalEntry.{GlobalEntry}
@@ -172,7 +172,7 @@ item_finds_its_label stmts i l are at =
     ]
 
 -- nothing may stand behind GLOBAL
-no_role : (r : Role) → may_stand position.Ended r ≡ false
+no_role : (r : StmtPlace) → may_stand position.Ended r ≡ false
 no_role Outer = refl
 no_role First = refl
 no_role Body = refl

@@ -9,7 +9,7 @@ use Rattle.bk_ocode.specs.StmtText.{keyword, argument_words, stmt_words, natural
 use Rattle.bk_ocode.specs.StmtRange.{IsLabel, IsVariable, AreCases}
 use Rattle.bk_ocode.specs.FirstFault.{IsStmt}
 use Rattle.bk_ocode.specs.Keywords.{kind_of, keyword_text, keyword_of_stmt}
-use Rattle.bk_ocode.specs.BegunStmts.{has_value, owner_words, begun_words, is_short, IsBegunStmt, NoNatural, NoLabel, NoVariable, NoArgument, IsUnfit, BeginNone}
+use Rattle.bk_ocode.specs.PartialStmts.{has_value, owner_words, partial_words, is_short, IsPartialStmt, NoNatural, NoLabel, NoVariable, NoArgument, IsUnfit, BeginNone}
 use Rattle.bk_ocode.specs.declared.stmt.Variable.{Variable}
 use Rattle.bk_ocode.specs.declared.stmt.Variable.TheVariants as variable
 use Rattle.bk_ocode.specs.declared.stmt.Case.{Case}
@@ -18,10 +18,10 @@ use Rattle.bk_ocode.specs.declared.stmt.Stmt.{Stmt}
 use Rattle.bk_ocode.specs.declared.stmt.Stmt.TheVariants as stmt
 use Rattle.bk_ocode.specs.declared.keyword.Keyword.{Keyword}
 use Rattle.bk_ocode.specs.declared.keyword.Keyword.TheVariants as keywords
-use Rattle.bk_ocode.specs.declared.begun.Begun.{Begun}
-use Rattle.bk_ocode.specs.declared.begun.Begun.TheVariants as begun
-use Rattle.bk_ocode.specs.declared.begun.Owner.{Owner}
-use Rattle.bk_ocode.specs.declared.begun.Owner.TheVariants as owners
+use Rattle.bk_ocode.specs.declared.partial.Partial.{Partial}
+use Rattle.bk_ocode.specs.declared.partial.Partial.TheVariants as begun
+use Rattle.bk_ocode.specs.declared.partial.Owner.{Owner}
+use Rattle.bk_ocode.specs.declared.partial.Owner.TheVariants as owners
 use Rattle.bk_ocode.proofs.KeywordLemmas.{begins_so, same_keyword}
 use Rattle.bk_ocode.proofs.Completions.{bool_cases, or-second}
 use Rattle.bk_ocode.proofs.SameStmts.{first_same, rests_same, natural_same, Each, byte_row, case_row, global_row, IsByte, IsCase, IsEntry, byte_rows, case_rows, global_rows, at_seam, next_row}
@@ -175,7 +175,7 @@ unfit_length (owners.Entry label) w none s rest fits is =
     none (length t.1) (omega arith) own.0.1 (first_same _ _ _ _ (rests_same _ _ _ _ (words_so s (stmt.Entry t.0 t.1) _ t.2 is)))
 
 -- with an unfit word no statement goes on
-pub unfit_none : (b : Begun) (w : List ℕ) → IsBegunStmt b → IsUnfit b w → BeginNone (begun_words b ++ w ∷ [])
+pub unfit_none : (b : Partial) (w : List ℕ) → IsPartialStmt b → IsUnfit b w → BeginNone (partial_words b ++ w ∷ [])
 unfit_none (begun.Short k) w begun none s rest fits is =
     let same : keyword_of_stmt s ≡ k = starts s k _ is in
     no_argument s w rest fits (ap is_short same ∙ begun) (rests_same _ _ _ _ is) (rw (sym same) at none)

@@ -12,7 +12,7 @@ use Rattle.bk_ocode.specs.Places.{role, may_stand}
 use Rattle.bk_ocode.specs.Context.{context_of}
 use Rattle.bk_ocode.specs.Faults.{misplaced, stmt_fault}
 use Rattle.bk_ocode.specs.Section.{AreFaultless, IsSection}
-use Rattle.bk_ocode.specs.FirstFault.{IsStmt, IsBegun, BeginsStmt, IsBadWord, IsBadNumber, BreaksRule, PassesWords, FaultOf, FaultAt, CutAt, section, nothing, fault, Says, SayOneThing}
+use Rattle.bk_ocode.specs.FirstFault.{IsStmt, IsPartial, BeginsStmt, IsBadWord, IsBadNumber, BreaksRule, PassesWords, FaultOf, FaultAt, CutAt, section, nothing, fault, Says, SayOneThing}
 use Rattle.bk_ocode.specs.declared.standing.Position.{Position}
 use Rattle.bk_ocode.specs.declared.standing.Position.TheVariants.{Outside, Ended}
 use Rattle.bk_ocode.specs.declared.stmt.Stmt.{Stmt}
@@ -95,9 +95,9 @@ no_stmt before part rest z t f own is = elim (cases_lt (length f.front) (length 
 ]
 
 -- a word that begins no statement begins none that is begun
-no_begun : (before : List Stmt) (part rest p z : List (List ℕ)) → IsBadWord before part → BeginsStmt before p → 0 < length p → part ++ rest ≡ p ++ z → ⊥
-no_begun before part rest [] z f begun some is = omega (arith, some)
-no_begun before part rest (v ∷ p) z f begun some is =
+no_partial : (before : List Stmt) (part rest p z : List (List ℕ)) → IsBadWord before part → BeginsStmt before p → 0 < length p → part ++ rest ≡ p ++ z → ⊥
+no_partial before part rest [] z f begun some is = omega (arith, some)
+no_partial before part rest (v ∷ p) z f begun some is =
     let first : f.word ≡ v = first_same f.word v rest (p ++ z) (ap (λ (l : List (List ℕ)). l ++ rest) (sym f.first) ∙ is) in
     let begins : keyword begun.stmt ≡ v = first_same (keyword begun.stmt) v (argument_words begun.stmt) (p ++ begun.word ∷ begun.rest) begun.begins in
     let h : true ≡ false = sym (f.misplaced begun.stmt (begins ∙ sym first)) ∙ begun.may_stand in
@@ -162,7 +162,7 @@ part_some before part kind are (past_limit f told) = passes_some before part are
 
 no_word_number : (before : List Stmt) (p x q y : List (List ℕ)) → IsBadWord before p → IsBadNumber before q → p ++ x ≡ q ++ y → ⊥
 no_word_number before p x q y f g is =
-    no_begun before p x g.front (g.word ∷ y) f g.begun g.some (is ∙ ap (λ (l : List (List ℕ)). l ++ y) g.last ∙ append_assoc g.front (g.word ∷ []) y)
+    no_partial before p x g.front (g.word ∷ y) f g.begun g.some (is ∙ ap (λ (l : List (List ℕ)). l ++ y) g.last ∙ append_assoc g.front (g.word ∷ []) y)
 
 no_word_rule : (before : List Stmt) (p x q y : List (List ℕ)) (kind : OcodeKind) → IsBadWord before p → BreaksRule before q kind → BadWord ≢ kind → p ++ x ≡ q ++ y → ⊥
 no_word_rule before p x q y kind f g other is =
@@ -174,7 +174,7 @@ no_word_rule before p x q y kind f g other is =
     told false r is e = absurd (let h : false ≡ true = is in cc)
 
 no_word_passes : (before : List Stmt) (p x q y : List (List ℕ)) → AreFaultless before → IsBadWord before p → PassesWords before q → p ++ x ≡ q ++ y → ⊥
-no_word_passes before p x q y are f g is = no_begun before p x q y f g.begun (passes_some before q are g) is
+no_word_passes before p x q y are f g is = no_partial before p x q y f g.begun (passes_some before q are g) is
 
 no_number_rule : (before : List Stmt) (p x q y : List (List ℕ)) (kind : OcodeKind) → IsBadNumber before p → BreaksRule before q kind → p ++ x ≡ q ++ y → ⊥
 no_number_rule before p x q y kind f g is = no_stmt before p x y g.stmt f g.is_stmt (is ∙ ap (λ (l : List (List ℕ)). l ++ y) g.words)
@@ -225,7 +225,7 @@ kinds_same before p x q y j k are (past_limit f a) (past_limit g b) is = a ∙ s
 -- where a text is cut no fault was before
 no_cut : (before : List Stmt) (part rest p : List (List ℕ)) (kind : OcodeKind) → AreFaultless before → Form before part kind → BeginsStmt before p → length (section_words before ++ p) ≤ OCODE_WORDS → part ++ rest ≡ p → ⊥
 no_cut before part rest p kind are (bad_word f told) b few is =
-    no_begun before part rest p [] f b (omega (arith, ap (λ (l : List (List ℕ)). length l) f.first, ap (λ (l : List (List ℕ)). length l) is, length-append part rest)) (is ∙ sym (append-nil p))
+    no_partial before part rest p [] f b (omega (arith, ap (λ (l : List (List ℕ)). length l) f.first, ap (λ (l : List (List ℕ)). length l) is, length-append part rest)) (is ∙ sym (append-nil p))
 no_cut before part rest p kind are (bad_number f told) b few is =
     f.none b.stmt (rest ++ b.word ∷ b.rest) b.is_stmt (b.begins ∙ ap (λ (l : List (List ℕ)). l ++ b.word ∷ b.rest) (sym is) ∙ append_assoc part rest (b.word ∷ b.rest))
 no_cut before part rest p kind are (broken f other) b few is = no_whole before p rest f.stmt b f.is_stmt (sym is ∙ ap (λ (l : List (List ℕ)). l ++ rest) f.words)
@@ -258,8 +258,8 @@ meet a b x y p q is = elim (cases_lt (length a) (length b)) [
   ]
 ]
 
-each_begun : (stmts : List Stmt) → IsBegun stmts → Each IsStmt stmts
-each_begun stmts begun = each_stmt stmts begun.are_faultless begun.are_typed
+each_partial : (stmts : List Stmt) → IsPartial stmts → Each IsStmt stmts
+each_partial stmts begun = each_stmt stmts begun.are_faultless begun.are_typed
 
 sections_same : (a b : List Stmt) (x y : List (List ℕ)) → IsSection a → AreTyped a → IsSection b → AreTyped b → section_words a ++ x ≡ section_words b ++ y → a ≡ b
 sections_same a b x y p v q w is = elim (meet a b x y (each_stmt a p.are_faultless v) (each_stmt b q.are_faultless w) is) [
@@ -275,11 +275,11 @@ section_some [] rest whole is = let h : Outside ≡ Ended = whole.ended in cc
 section_some (s ∷ stmts) rest whole is =
     omega (arith, ap (λ (l : List (List ℕ)). length l) is, length-append (section_words (s ∷ stmts)) rest, length-append (stmt_words s) (section_words stmts))
 
-section_begun : (a b : List Stmt) → IsBegun a → IsSection b → a ≡ b → ⊥
+section_begun : (a b : List Stmt) → IsPartial a → IsSection b → a ≡ b → ⊥
 section_begun a b begun whole same = begun.goes_on (ap (λ (l : List Stmt). (context_of l).position) same ∙ whole.ended)
 
 section_fault : (stmts : List Stmt) (number : ℕ) (kind : OcodeKind) (words : List (List ℕ)) → Says (section stmts) words → Says (fault number kind) words → ⊥
-section_fault stmts number kind words s (inl f) = elim (meet f.before stmts (f.part ++ f.rest) s.0 (each_begun f.before f.begun) (each_stmt stmts s.1.are_faultless s.2) (sym f.are ∙ s.3)) [
+section_fault stmts number kind words s (inl f) = elim (meet f.before stmts (f.part ++ f.rest) s.0 (each_partial f.before f.begun) (each_stmt stmts s.1.are_faultless s.2) (sym f.are ∙ s.3)) [
   | inl n ↦ clash f.before f.part f.rest _ kind n.0 (form f.before f.part kind f.fault) n.3 (none_behind f.before stmts n.1 n.0 s.1.are_faultless n.2) n.4
   | inr r ↦ elim r [
     | inl n ↦ ended_next stmts n.0 s.1.ended (none_behind stmts f.before n.1 n.0 f.begun.are_faultless n.2)
@@ -288,7 +288,7 @@ section_fault stmts number kind words s (inl f) = elim (meet f.before stmts (f.p
 ]
 section_fault stmts number kind words s (inr p) =
     let f = p.1 in
-    elim (meet f.before stmts f.part s.0 (each_begun f.before f.begun) (each_stmt stmts s.1.are_faultless s.2) (sym f.are ∙ s.3)) [
+    elim (meet f.before stmts f.part s.0 (each_partial f.before f.begun) (each_stmt stmts s.1.are_faultless s.2) (sym f.are ∙ s.3)) [
       | inl n ↦ cut_whole f.before f.part _ n.0 f.goes_on n.3 n.4
       | inr r ↦ elim r [
         | inl n ↦ ended_next stmts n.0 s.1.ended (none_behind stmts f.before n.1 n.0 f.begun.are_faultless n.2)
@@ -308,7 +308,7 @@ nothing_fault number kind words none (inl f) =
 nothing_fault number kind words none (inr p) = omega (arith, p.1.some, ap (λ (l : List (List ℕ)). length l) none)
 
 fault_cut : (m n : ℕ) (j : OcodeKind) (words : List (List ℕ)) → FaultAt words m j → CutAt words n → ⊥
-fault_cut m n j words f g = elim (meet f.before g.before (f.part ++ f.rest) g.part (each_begun f.before f.begun) (each_begun g.before g.begun) (sym f.are ∙ g.are)) [
+fault_cut m n j words f g = elim (meet f.before g.before (f.part ++ f.rest) g.part (each_partial f.before f.begun) (each_partial g.before g.begun) (sym f.are ∙ g.are)) [
   | inl t ↦ clash f.before f.part f.rest _ j t.0 (form f.before f.part j f.fault) t.3 (none_behind f.before g.before t.1 t.0 g.begun.are_faultless t.2) t.4
   | inr r ↦ elim r [
     | inl t ↦ cut_whole g.before g.part _ t.0 g.goes_on t.3 t.4
@@ -326,7 +326,7 @@ fault_cut m n j words f g = elim (meet f.before g.before (f.part ++ f.rest) g.pa
 ]
 
 faults_same : (m n : ℕ) (j k : OcodeKind) (words : List (List ℕ)) → FaultAt words m j → FaultAt words n k → (m ≡ n) × (j ≡ k)
-faults_same m n j k words f g = elim (meet f.before g.before (f.part ++ f.rest) (g.part ++ g.rest) (each_begun f.before f.begun) (each_begun g.before g.begun) (sym f.are ∙ g.are)) [
+faults_same m n j k words f g = elim (meet f.before g.before (f.part ++ f.rest) (g.part ++ g.rest) (each_partial f.before f.begun) (each_partial g.before g.begun) (sym f.are ∙ g.are)) [
   | inl t ↦ absurd (clash f.before f.part f.rest _ j t.0 (form f.before f.part j f.fault) t.3 (none_behind f.before g.before t.1 t.0 g.begun.are_faultless t.2) t.4)
   | inr r ↦ elim r [
     | inl t ↦ absurd (clash g.before g.part g.rest _ k t.0 (form g.before g.part k g.fault) t.3 (none_behind g.before f.before t.1 t.0 f.begun.are_faultless t.2) t.4)
@@ -339,7 +339,7 @@ faults_same m n j k words f g = elim (meet f.before g.before (f.part ++ f.rest) 
 ]
 
 cuts_same : (words : List (List ℕ)) (m n : ℕ) → CutAt words m → CutAt words n → m ≡ n
-cuts_same words m n f g = elim (meet f.before g.before f.part g.part (each_begun f.before f.begun) (each_begun g.before g.begun) (sym f.are ∙ g.are)) [
+cuts_same words m n f g = elim (meet f.before g.before f.part g.part (each_partial f.before f.begun) (each_partial g.before g.begun) (sym f.are ∙ g.are)) [
   | inl t ↦ absurd (cut_whole f.before f.part _ t.0 f.goes_on t.3 t.4)
   | inr r ↦ elim r [
     | inl t ↦ absurd (cut_whole g.before g.part _ t.0 g.goes_on t.3 t.4)

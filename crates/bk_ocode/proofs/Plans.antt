@@ -8,7 +8,7 @@ use Rattle.bk_ocode.specs.declared.standing.JumpDepths.TheVariants as came
 use Rattle.bk_ocode.specs.declared.standing.LabelUse.{LabelUse}
 use Rattle.bk_ocode.specs.declared.standing.Position.{Position}
 use Rattle.bk_ocode.specs.declared.standing.Position.TheVariants as position
-use Rattle.bk_ocode.specs.declared.standing.Role.TheVariants.{Outer, Body, Datum}
+use Rattle.bk_ocode.specs.declared.standing.StmtPlace.TheVariants.{Outer, Body, Datum}
 use Rattle.bk_ocode.specs.declared.standing.Setting.{Setting}
 use Rattle.bk_ocode.specs.declared.standing.Setting.TheVariants as setting
 use Rattle.bk_ocode.specs.declared.stmt.Variable.TheVariants.{Local, Global, Static}

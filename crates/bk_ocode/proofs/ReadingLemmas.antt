@@ -15,7 +15,7 @@ use Rattle.bk_ocode.specs.StmtRange.{InRange, IsTyped, AreTyped}
 use Rattle.bk_ocode.specs.Context.{context_of}
 use Rattle.bk_ocode.specs.Faults.{stmt_fault}
 use Rattle.bk_ocode.specs.Section.{AreFaultless, IsSection}
-use Rattle.bk_ocode.specs.FirstFault.{IsBegun, IsStmt}
+use Rattle.bk_ocode.specs.FirstFault.{IsPartial, IsStmt}
 use Rattle.bk_ocode.specs.SectionAnswer.{Takes, GivesSection, GivesNothing}
 use Rattle.bk_ocode.specs.declared.standing.Position.TheVariants.{Outside, Ended}
 use Rattle.bk_ocode.specs.declared.stmt.Stmt.{Stmt}
@@ -71,8 +71,8 @@ AreFaultless-push stmts s are fits none = record {
 AreTyped-push : (stmts : List Stmt) (s : Stmt) → AreTyped stmts → IsTyped s → AreTyped (stmts ++ s ∷ [])
 AreTyped-push stmts s are fits = λ k t is. elim (at_push stmts s k t is) [ inl p ↦ are k t p.1 | inr p ↦ subst IsTyped p.1 fits ]
 
-pub IsBegun-empty : IsBegun []
-IsBegun-empty = record {
+pub IsPartial-empty : IsPartial []
+IsPartial-empty = record {
   are_faultless = record {
     in_range = λ k t is. absurd (let h : None ≡ Some t = is in cc);
     faultless = λ k t is. absurd (let h : None ≡ Some t = is in cc);
@@ -81,20 +81,20 @@ IsBegun-empty = record {
   goes_on = λ is. let h : Outside ≡ Ended = is in cc;
 }
 
-pub IsBegun-push : (stmts all : List Stmt) (s : Stmt) → all ≡ stmts ++ s ∷ [] → IsBegun stmts → IsStmt s → stmt_fault stmts s ≡ None → (context_of all).position ≢ Ended → IsBegun all
-IsBegun-push stmts all s is begun fits none on = record {
+pub IsPartial-push : (stmts all : List Stmt) (s : Stmt) → all ≡ stmts ++ s ∷ [] → IsPartial stmts → IsStmt s → stmt_fault stmts s ≡ None → (context_of all).position ≢ Ended → IsPartial all
+IsPartial-push stmts all s is begun fits none on = record {
   are_faultless = subst AreFaultless (sym is) (AreFaultless-push stmts s begun.are_faultless fits.0 none);
   are_typed = subst AreTyped (sym is) (AreTyped-push stmts s begun.are_typed fits.1);
   goes_on = on;
 }
 
-pub IsSection-of : (stmts all : List Stmt) (s : Stmt) → all ≡ stmts ++ s ∷ [] → IsBegun stmts → IsStmt s → stmt_fault stmts s ≡ None → (context_of all).position ≡ Ended → IsSection all
+pub IsSection-of : (stmts all : List Stmt) (s : Stmt) → all ≡ stmts ++ s ∷ [] → IsPartial stmts → IsStmt s → stmt_fault stmts s ≡ None → (context_of all).position ≡ Ended → IsSection all
 IsSection-of stmts all s is begun fits none ended = record {
   are_faultless = subst AreFaultless (sym is) (AreFaultless-push stmts s begun.are_faultless fits.0 none);
   ended = ended;
 }
 
-pub AreTyped-of : (stmts all : List Stmt) (s : Stmt) → all ≡ stmts ++ s ∷ [] → IsBegun stmts → IsStmt s → AreTyped all
+pub AreTyped-of : (stmts all : List Stmt) (s : Stmt) → all ≡ stmts ++ s ∷ [] → IsPartial stmts → IsStmt s → AreTyped all
 AreTyped-of stmts all s is begun fits = subst AreTyped (sym is) (AreTyped-push stmts s begun.are_typed fits.1)
 
 -- words that were read end what was taken
@@ -103,7 +103,7 @@ some_taken taken end words w (inl p) = absurd (omega (arith, ap (λ (l : List (L
 some_taken taken end words w (inr t) = t
 
 -- the end of a section
-pub section_here : (old b : Option (List ℕ)) (f : Bool) (k : ℕ) (stmts all : List Stmt) (s : Stmt) (part : List (List ℕ)) (w : List ℕ) → all ≡ stmts ++ s ∷ [] → IsBegun stmts → IsStmt s → stmt_fault stmts s ≡ None →
+pub section_here : (old b : Option (List ℕ)) (f : Bool) (k : ℕ) (stmts all : List Stmt) (s : Stmt) (part : List (List ℕ)) (w : List ℕ) → all ≡ stmts ++ s ∷ [] → IsPartial stmts → IsStmt s → stmt_fault stmts s ≡ None →
     (context_of all).position ≡ Ended → stmt_words s ≡ part ++ w ∷ [] → Reads old b f k ((section_words stmts ++ part) ++ w ∷ []) → Takes old b f (λ taken end. GivesSection taken end all)
 section_here old b f k stmts all s part w is begun fits none ended words reads = (
   reads.0,

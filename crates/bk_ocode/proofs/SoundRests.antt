@@ -16,7 +16,7 @@ use Rattle.bk_ocode.specs.Frames.{HasFrames}
 use Rattle.bk_ocode.specs.SoundRuns.{IsProgram, Stands, IsOwn, IsControl, Sound, SoundStep, StepsAreSound, ResumingIsSound}
 use Rattle.bk_ocode.specs.declared.standing.Position.{Position}
 use Rattle.bk_ocode.specs.declared.standing.Position.TheVariants as position
-use Rattle.bk_ocode.specs.declared.standing.Role.TheVariants.{Body}
+use Rattle.bk_ocode.specs.declared.standing.StmtPlace.TheVariants.{Body}
 use Rattle.bk_ocode.specs.declared.stmt.Variable.TheVariants.{Local, Global, Static}
 use Rattle.bk_ocode.specs.declared.stmt.Stmt.{Stmt}
 use Rattle.bk_ocode.specs.declared.stmt.Stmt.TheVariants.{Number, True, False, Query, Load, Address, Text, Monadic, Dyadic, LoadByte, Assign, AssignAt, AssignByte, Jump, JumpIf, Label, GiveResult, TakeResult, Stack, Store, Entry, Save, CallFunction, CallRoutine, ReturnItem, Return, EndProcedure, Switch, Finish, DataLabel, DataNumber, DataAddress, Globals}

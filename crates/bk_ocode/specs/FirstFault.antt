@@ -17,7 +17,7 @@ abbrev pub IsStmt : Stmt → Type 0
 IsStmt s = InRange s × IsTyped s
 
 -- Statements of a section that goes on: they are without a fault, and none is the end.
-pub record IsBegun (before : List Stmt) : Type 0 where
+pub record IsPartial (before : List Stmt) : Type 0 where
   pub are_faultless : AreFaultless before
   pub are_typed : AreTyped before
   pub goes_on : (context_of before).position ≢ Ended
@@ -75,7 +75,7 @@ FaultOf before part TooLong = BreaksRule before part TooLong ⊎ PassesWords bef
 -- The first words are those of statements without a fault, and then some with this one. Statements count from 1.
 pub record FaultAt (words : List (List ℕ)) (number : ℕ) (kind : OcodeKind) : Type 0 where
   pub before : List Stmt
-  pub begun : IsBegun before
+  pub begun : IsPartial before
   pub part : List (List ℕ)
   pub rest : List (List ℕ)
   pub are : words ≡ section_words before ++ (part ++ rest)
@@ -85,7 +85,7 @@ pub record FaultAt (words : List (List ℕ)) (number : ℕ) (kind : OcodeKind) :
 -- 3: The words are within the limit, those of statements without a fault, and those that begin one or none, and more are due.
 pub record CutAt (words : List (List ℕ)) (number : ℕ) : Type 0 where
   pub before : List Stmt
-  pub begun : IsBegun before
+  pub begun : IsPartial before
   pub part : List (List ℕ)
   pub some : 0 < length words
   pub within : length words ≤ OCODE_WORDS

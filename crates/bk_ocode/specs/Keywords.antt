@@ -2,20 +2,20 @@
 use Rattle.std.specs.Prelude.{ℕ, ◌==◌, nat_eq, Bool, true, false, List, [], ◌∷◌, codes, Option, Some, None, if◌then◌else◌}
 use lib.Pointwise.{pointwise}
 use Rattle.bk_ocode.specs.StmtText.{monadic_keyword, dyadic_keyword, jump_keyword}
-use Rattle.bk_ocode.specs.declared.standing.Role.{Role}
-use Rattle.bk_ocode.specs.declared.standing.Role.TheVariants.{Outer, First, Body, Taker, Last, Datum}
+use Rattle.bk_ocode.specs.declared.standing.StmtPlace.{StmtPlace}
+use Rattle.bk_ocode.specs.declared.standing.StmtPlace.TheVariants.{Outer, First, Body, Taker, Last, Datum}
 use Rattle.bk_ocode.specs.declared.stmt.Variable.{Variable}
 use Rattle.bk_ocode.specs.declared.stmt.Variable.TheVariants.{Local, Global, Static}
 use Rattle.bk_ocode.specs.declared.stmt.Stmt.{Stmt}
 use Rattle.bk_ocode.specs.declared.stmt.Stmt.TheVariants as stmt
 use Rattle.bk_ocode.specs.declared.stmt.Monadic.TheVariants as monadic
 use Rattle.bk_ocode.specs.declared.stmt.Dyadic.TheVariants as dyadic
-use Rattle.bk_ocode.specs.declared.keyword.Kind.{Kind}
-use Rattle.bk_ocode.specs.declared.keyword.Kind.TheVariants as kinds
+use Rattle.bk_ocode.specs.declared.keyword.VariableKind.{VariableKind}
+use Rattle.bk_ocode.specs.declared.keyword.VariableKind.TheVariants as kinds
 use Rattle.bk_ocode.specs.declared.keyword.Keyword.{Keyword}
 use Rattle.bk_ocode.specs.declared.keyword.Keyword.TheVariants.{Number, True, False, Query, Text, LoadByte, AssignAt, AssignByte, Jump, Label, GiveResult, TakeResult, Stack, Store, Entry, Save, CallFunction, CallRoutine, ReturnItem, Return, EndProcedure, Switch, Finish, DataLabel, DataNumber, DataAddress, Globals, Load, Address, Assign, Monadic, Dyadic, JumpIf}
 
-abbrev pub kind_of : Variable → Kind
+abbrev pub kind_of : Variable → VariableKind
 kind_of (Local n) = kinds.Local
 kind_of (Global n) = kinds.Global
 kind_of (Static l) = kinds.Static
@@ -57,17 +57,17 @@ keyword_of_stmt (stmt.DataAddress label) = DataAddress
 keyword_of_stmt (stmt.Globals entries) = Globals
 
 -- its word
-abbrev pub load_text : Kind → List ℕ
+abbrev pub load_text : VariableKind → List ℕ
 load_text kinds.Local = codes "LP"
 load_text kinds.Global = codes "LG"
 load_text kinds.Static = codes "LL"
 
-abbrev pub address_text : Kind → List ℕ
+abbrev pub address_text : VariableKind → List ℕ
 address_text kinds.Local = codes "LLP"
 address_text kinds.Global = codes "LLG"
 address_text kinds.Static = codes "LLL"
 
-abbrev pub store_text : Kind → List ℕ
+abbrev pub store_text : VariableKind → List ℕ
 store_text kinds.Local = codes "SP"
 store_text kinds.Global = codes "SG"
 store_text kinds.Static = codes "SL"
@@ -108,7 +108,7 @@ keyword_text (Dyadic operator) = dyadic_keyword operator
 keyword_text (JumpIf truth) = jump_keyword truth
 
 -- the place that a statement with this keyword may have
-abbrev pub keyword_role : Keyword → Role
+abbrev pub keyword_role : Keyword → StmtPlace
 keyword_role Entry = Outer
 keyword_role DataLabel = Outer
 keyword_role Globals = Outer

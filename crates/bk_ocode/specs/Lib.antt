@@ -30,5 +30,5 @@ pub mod Typing
 pub mod KnownUses
 pub mod Drafts
 pub mod Keywords
-pub mod BegunStmts
+pub mod PartialStmts
 pub mod SectionAnswer

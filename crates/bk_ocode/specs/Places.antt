@@ -2,13 +2,13 @@
 use Rattle.std.specs.Prelude.{Bool, true, false}
 use Rattle.bk_ocode.specs.declared.standing.Position.{Position}
 use Rattle.bk_ocode.specs.declared.standing.Position.TheVariants as position
-use Rattle.bk_ocode.specs.declared.standing.Role.{Role}
-use Rattle.bk_ocode.specs.declared.standing.Role.TheVariants.{Outer, First, Body, Taker, Last, Datum}
+use Rattle.bk_ocode.specs.declared.standing.StmtPlace.{StmtPlace}
+use Rattle.bk_ocode.specs.declared.standing.StmtPlace.TheVariants.{Outer, First, Body, Taker, Last, Datum}
 use Rattle.bk_ocode.specs.declared.stmt.Stmt.{Stmt}
 use Rattle.bk_ocode.specs.declared.stmt.Stmt.TheVariants.{Label, TakeResult, Entry, Save, ReturnItem, Return, EndProcedure, DataLabel, DataNumber, DataAddress, Globals}
 
 -- the place that a statement may have
-abbrev pub role : Stmt → Role
+abbrev pub role : Stmt → StmtPlace
 role (Entry label name) = Outer
 role (DataLabel label) = Outer
 role (Globals entries) = Outer
@@ -19,7 +19,7 @@ role (DataNumber value) = Datum
 role (DataAddress label) = Datum
 role _ = Body
 
-abbrev pub may_stand : Position → Role → Bool
+abbrev pub may_stand : Position → StmtPlace → Bool
 may_stand position.Outside Outer = true
 may_stand position.InData Outer = true
 may_stand position.InData Datum = true

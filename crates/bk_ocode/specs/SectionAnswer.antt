@@ -15,7 +15,7 @@ use Rattle.bk_ocode.specs.SectionText.{section_words, section_text}
 use Rattle.bk_ocode.specs.SectionStmts.{stmts_of}
 use Rattle.bk_ocode.specs.StmtRange.{AreTyped}
 use Rattle.bk_ocode.specs.Section.{IsSection}
-use Rattle.bk_ocode.specs.FirstFault.{IsBegun, BeginsStmt, FaultOf, CutAt, Says, section, nothing, fault}
+use Rattle.bk_ocode.specs.FirstFault.{IsPartial, BeginsStmt, FaultOf, CutAt, Says, section, nothing, fault}
 use Rattle.bk_ocode.specs.declared.section.Ocode.{Ocode}
 use Rattle.bk_ocode.specs.declared.stmt.Stmt.{Stmt}
 
@@ -34,7 +34,7 @@ GivesNothing taken end = (words_of taken ≡ []) × end
 -- The words that were taken are those of statements without a fault, and some of the next with this fault.
 pub record GivesFaultAt (taken : List ℕ) (end : Type 0) (number : ℕ) (kind : OcodeKind) : Type 0 where
   pub before : List Stmt
-  pub begun : IsBegun before
+  pub begun : IsPartial before
   pub part : List (List ℕ)
   pub place : number ≡ length before + 1
   pub are : TakesWords taken end (section_words before ++ part)
@@ -48,7 +48,7 @@ GivesFault taken end number kind = GivesFaultAt taken end number kind ⊎ ((kind
 -- or some that begin the next, within the limit.
 pub record StopsAtWord (taken : List ℕ) (end : Type 0) : Type 0 where
   pub before : List Stmt
-  pub begun : IsBegun before
+  pub begun : IsPartial before
   pub part : List (List ℕ)
   pub goes_on : (part ≡ []) ⊎ BeginsStmt before part
   pub within : length (section_words before ++ part) ≤ OCODE_WORDS
@@ -59,7 +59,7 @@ pub record StopsAtWord (taken : List ℕ) (end : Type 0) : Type 0 where
 -- the blanks that follow them no more was taken than the bytes of one word that did not end.
 pub record StopsAtDevice (taken : List ℕ) : Type 0 where
   pub before : List Stmt
-  pub begun : IsBegun before
+  pub begun : IsPartial before
   pub part : List (List ℕ)
   pub goes_on : (part ≡ []) ⊎ BeginsStmt before part
   pub within : length (section_words before ++ part) ≤ OCODE_WORDS

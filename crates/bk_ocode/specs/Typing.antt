@@ -2,7 +2,7 @@
 -- is, the depth before it and what the plan says of its labels.
 use Rattle.std.specs.Prelude.{◌≡◌, ◌⊎◌, ℕ, ℤ, ◌+◌, ◌-◌, ◌≤◌, ◌==◌, Bool, true, false, cond, Option, Some, None, List, [], ◌∷◌, length, ⊤}
 use Rattle.bk_base.specs.declared.limit.TheConstants.{FRAME_WORDS, OCODE_STATEMENTS, OCODE_WORDS}
-use Rattle.bk_ocode.specs.declared.standing.Role.TheVariants.{Body}
+use Rattle.bk_ocode.specs.declared.standing.StmtPlace.TheVariants.{Body}
 use Rattle.bk_ocode.specs.declared.stmt.GlobalEntry.{GlobalEntry}
 use Rattle.bk_ocode.specs.declared.stmt.Variable.{Variable}
 use Rattle.bk_ocode.specs.declared.stmt.Variable.TheVariants.{Local, Global, Static}

@@ -18,7 +18,7 @@ use crate::depth::depth_behind;
 use crate::label_uses::LabelUses;
 use crate::places::{behind, depth_needed, fits, role_of, set_label};
 use crate::section::Ocode;
-use crate::standing::{Behind, JumpDepths, LabelUse, Position, Role, Setting};
+use crate::standing::{Behind, JumpDepths, LabelUse, Position, Setting, StmtPlace};
 use crate::stmt::{Case, GlobalEntry, Stmt, Variable};
 use bk_base::OcodeKind;
 use bk_base::limit::{FRAME_WORDS, OCODE_STATEMENTS, OCODE_WORDS};
@@ -127,7 +127,7 @@ impl Draft {
     }
 
     /// Whether a statement with this role may follow these.
-    pub(crate) fn is_place_of(&self, role: Role) -> bool
+    pub(crate) fn is_place_of(&self, role: StmtPlace) -> bool
         ensures { result ≡ may_stand self.now.position role }
     {
         fits(self.position, role)

@@ -5,12 +5,12 @@ ghost use Rattle.bk_ocode.specs.declared.keyword.Keyword.TheVariants.{Load, Addr
 ghost use Rattle.bk_ocode.specs.declared.keyword.Keyword.{Keyword};
 
 use crate::arguments::{dyadic_word, monadic_word};
-use crate::standing::Role;
+use crate::standing::StmtPlace;
 use crate::stmt::{Dyadic, Monadic};
 
 /// The kinds of variables.
 #[derive(Clone, Copy, Debug, PartialEq, Eq)]
-pub(crate) enum Kind {
+pub(crate) enum VariableKind {
     /// A slot of the frame.
     Local,
     /// A global.
@@ -77,11 +77,11 @@ pub(crate) enum Keyword {
     /// GLOBAL.
     Globals,
     /// LP, LG, LL.
-    Load(Kind),
+    Load(VariableKind),
     /// LLP, LLG, LLL.
-    Address(Kind),
+    Address(VariableKind),
     /// SP, SG, SL.
-    Assign(Kind),
+    Assign(VariableKind),
     /// RV, NEG, NOT.
     Monadic(Monadic),
     /// MULT to NEQV.
@@ -93,16 +93,16 @@ pub(crate) enum Keyword {
 // Keywords by the length of their words. Those that a text has most come first, since they are tried in turn.
 
 static TWO: [Keyword; 16] = [
-    Keyword::Load(Kind::Local),
+    Keyword::Load(VariableKind::Local),
     Keyword::Number,
-    Keyword::Load(Kind::Global),
-    Keyword::Assign(Kind::Local),
-    Keyword::Load(Kind::Static),
+    Keyword::Load(VariableKind::Global),
+    Keyword::Assign(VariableKind::Local),
+    Keyword::Load(VariableKind::Static),
     Keyword::JumpIf(false),
     Keyword::Monadic(Monadic::Contents),
     Keyword::Dyadic(Dyadic::Equal),
-    Keyword::Assign(Kind::Global),
-    Keyword::Assign(Kind::Static),
+    Keyword::Assign(VariableKind::Global),
+    Keyword::Assign(VariableKind::Static),
     Keyword::JumpIf(true),
     Keyword::Dyadic(Dyadic::Less),
     Keyword::Dyadic(Dyadic::AtMost),
@@ -118,9 +118,9 @@ static THREE: [Keyword; 10] = [
     Keyword::Monadic(Monadic::Negate),
     Keyword::Dyadic(Dyadic::Divide),
     Keyword::Dyadic(Dyadic::Remainder),
-    Keyword::Address(Kind::Local),
-    Keyword::Address(Kind::Static),
-    Keyword::Address(Kind::Global),
+    Keyword::Address(VariableKind::Local),
+    Keyword::Address(VariableKind::Static),
+    Keyword::Address(VariableKind::Global),
     Keyword::Dyadic(Dyadic::Eqv),
 ];
 
@@ -193,35 +193,35 @@ fn of_length(len: usize) -> &'static [Keyword]
 }
 
 /// The first word of a statement that pushes a variable.
-fn load_text(kind: Kind) -> &'static str
+fn load_text(kind: VariableKind) -> &'static str
     ensures { result.now ≡ keyword_text (Load kind) }
 {
     match kind {
-        Kind::Local => "LP",
-        Kind::Global => "LG",
-        Kind::Static => "LL",
+        VariableKind::Local => "LP",
+        VariableKind::Global => "LG",
+        VariableKind::Static => "LL",
     }
 }
 
 /// The first word of a statement that pushes an address.
-fn address_text(kind: Kind) -> &'static str
+fn address_text(kind: VariableKind) -> &'static str
     ensures { result.now ≡ keyword_text (Address kind) }
 {
     match kind {
-        Kind::Local => "LLP",
-        Kind::Global => "LLG",
-        Kind::Static => "LLL",
+        VariableKind::Local => "LLP",
+        VariableKind::Global => "LLG",
+        VariableKind::Static => "LLL",
     }
 }
 
 /// The first word of a statement that stores an item.
-fn store_text(kind: Kind) -> &'static str
+fn store_text(kind: VariableKind) -> &'static str
     ensures { result.now ≡ keyword_text (Assign kind) }
 {
     match kind {
-        Kind::Local => "SP",
-        Kind::Global => "SG",
-        Kind::Static => "SL",
+        VariableKind::Local => "SP",
+        VariableKind::Global => "SG",
+        VariableKind::Static => "SL",
     }
 }
 
@@ -268,16 +268,16 @@ fn text_of(keyword: Keyword) -> &'static str
 }
 
 /// The place that a statement with this first word may have.
-pub(crate) fn place_of(keyword: Keyword) -> Role
+pub(crate) fn place_of(keyword: Keyword) -> StmtPlace
     ensures { result ≡ keyword_role keyword }
 {
     match keyword {
-        Keyword::Entry | Keyword::DataLabel | Keyword::Globals => Role::Outer,
-        Keyword::Save => Role::First,
-        Keyword::TakeResult => Role::Taker,
-        Keyword::EndProcedure => Role::Last,
-        Keyword::DataNumber | Keyword::DataAddress => Role::Datum,
-        _ => Role::Body,
+        Keyword::Entry | Keyword::DataLabel | Keyword::Globals => StmtPlace::Outer,
+        Keyword::Save => StmtPlace::First,
+        Keyword::TakeResult => StmtPlace::Taker,
+        Keyword::EndProcedure => StmtPlace::Last,
+        Keyword::DataNumber | Keyword::DataAddress => StmtPlace::Datum,
+        _ => StmtPlace::Body,
     }
 }
 

@@ -2,7 +2,6 @@
 #![tactic(auto)]
 
 mod arguments;
-mod begun;
 mod byte_string;
 mod case_list;
 mod depth;
@@ -11,6 +10,7 @@ mod global_list;
 mod keyword;
 mod label_uses;
 mod laws;
+mod partial;
 mod places;
 mod printing;
 mod reading;

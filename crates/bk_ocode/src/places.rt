@@ -5,34 +5,34 @@ ghost use Rattle.bk_ocode.specs.Labels.{label_set};
 ghost use Rattle.bk_ocode.specs.Places.{role, may_stand, position_behind};
 ghost use Rattle.bk_ocode.specs.StmtRange.{InRange, IsVariable};
 
-use crate::standing::{Position, Role};
+use crate::standing::{Position, StmtPlace};
 use crate::stmt::{Stmt, Variable};
 
 /// The place that a statement may have.
-pub(crate) fn role_of(stmt: &Stmt) -> Role
+pub(crate) fn role_of(stmt: &Stmt) -> StmtPlace
     ensures { result ≡ role stmt.now }
 {
     match stmt {
-        Stmt::Entry { .. } | Stmt::DataLabel { .. } | Stmt::Globals { .. } => Role::Outer,
-        Stmt::Save { .. } => Role::First,
-        Stmt::TakeResult { .. } => Role::Taker,
-        Stmt::EndProcedure => Role::Last,
-        Stmt::DataNumber { .. } | Stmt::DataAddress { .. } => Role::Datum,
-        _ => Role::Body,
+        Stmt::Entry { .. } | Stmt::DataLabel { .. } | Stmt::Globals { .. } => StmtPlace::Outer,
+        Stmt::Save { .. } => StmtPlace::First,
+        Stmt::TakeResult { .. } => StmtPlace::Taker,
+        Stmt::EndProcedure => StmtPlace::Last,
+        Stmt::DataNumber { .. } | Stmt::DataAddress { .. } => StmtPlace::Datum,
+        _ => StmtPlace::Body,
     }
 }
 
 /// Whether a statement of this kind may be there.
-pub(crate) fn fits(position: Position, role: Role) -> bool
+pub(crate) fn fits(position: Position, role: StmtPlace) -> bool
     ensures { result ≡ may_stand position role }
 {
     match position {
-        Position::Outside => role == Role::Outer,
-        Position::InData => role == Role::Outer || role == Role::Datum,
-        Position::Opened => role == Role::First,
-        Position::BehindLabel(_) => role == Role::Body || role == Role::Taker,
-        Position::BehindReturn => role == Role::Body || role == Role::Last,
-        Position::Inside => role == Role::Body,
+        Position::Outside => role == StmtPlace::Outer,
+        Position::InData => role == StmtPlace::Outer || role == StmtPlace::Datum,
+        Position::Opened => role == StmtPlace::First,
+        Position::BehindLabel(_) => role == StmtPlace::Body || role == StmtPlace::Taker,
+        Position::BehindReturn => role == StmtPlace::Body || role == StmtPlace::Last,
+        Position::Inside => role == StmtPlace::Body,
         Position::Ended => false,
     }
 }

@@ -9,13 +9,13 @@ ghost use Rattle.bk_ocode.specs.StmtText.{keyword};
 ghost use Rattle.bk_ocode.specs.Faults.{misplaced};
 ghost use Rattle.bk_ocode.specs.Drafts.{context_in};
 ghost use Rattle.bk_ocode.specs.declared.stmt.Stmt.{Stmt};
-ghost use Rattle.bk_ocode.specs.declared.begun.Unfit.TheVariants.{BadWord, BadNumber};
+ghost use Rattle.bk_ocode.specs.declared.partial.Unfit.TheVariants.{BadWord, BadNumber};
 ghost use Rattle.bk_ocode.specs.SectionAnswer.{Answers, StandsWhateverFollows, AnswersWords, is_device};
-ghost use Rattle.bk_ocode.specs.BegunStmts.{IsStep, IsBegunPart, part_words, BeginNone, refusal};
+ghost use Rattle.bk_ocode.specs.PartialStmts.{IsStep, IsPartialPart, part_words, BeginNone, refusal};
 
-use crate::begun::{Begun, Step, Unfit, begin, take};
 use crate::draft::Draft;
 use crate::keyword::{keyword_of, place_of};
+use crate::partial::{Partial, Progress, Unfit, begin, take};
 use crate::section::Ocode;
 use bk_base::{ByteIn, OcodeFault, OcodeKind, Refused};
 use bk_words::{Gathered, next_word};
@@ -34,7 +34,7 @@ fn fault_behind(count: usize, kind: OcodeKind) -> Refused<OcodeFault>
 
 /// What the first word of a statement after these begins.
 #[tactic(auto, using(crate::proofs::KeywordLemmas::not_long, crate::proofs::KeywordLemmas::begins_none, crate::proofs::KeywordLemmas::placed_so))]
-fn first_step(draft: &Draft, word: &Gathered) -> Result<Step, Unfit>
+fn first_step(draft: &Draft, word: &Gathered) -> Result<Progress, Unfit>
     ensures step { IfOk result (λ step. (w : List ℕ) → Holds word.now w → IsStep step (w ∷ [])) }
     ensures placed { IfOk result (λ step. (w : List ℕ) → Holds word.now w → (s : Stmt) → keyword s ≡ w → misplaced (context_in draft.now) s ≡ false) }
     ensures bad { IfErr result (λ unfit. (unfit ≡ BadWord) × ((w : List ℕ) → Holds word.now w → (s : Stmt) → keyword s ≡ w → misplaced (context_in draft.now) s ≡ true)) }
@@ -54,11 +54,11 @@ fn first_step(draft: &Draft, word: &Gathered) -> Result<Step, Unfit>
 /// What a word more makes of a statement after these.
 fn step_of(
     draft: &Draft,
-    begun: Option<Begun>,
+    begun: Option<Partial>,
     word: &Gathered,
     alloc: Global,
-) -> Result<Step, Unfit>
-    requires { IsBegunPart begun }
+) -> Result<Progress, Unfit>
+    requires { IsPartialPart begun }
     ensures step { IfOk result (λ step. (w : List ℕ) → Holds word.now w → IsStep step (part_words begun ++ w ∷ [])) }
     ensures placed { IfOk result (λ step. begun ≡ None → (w : List ℕ) → Holds word.now w → (s : Stmt) → keyword s ≡ w → misplaced (context_in draft.now) s ≡ false) }
     ensures bad { IfErr result (λ unfit. unfit ≡ BadWord → (begun ≡ None) × ((w : List ℕ) → Holds word.now w → (s : Stmt) → keyword s ≡ w → misplaced (context_in draft.now) s ≡ true)) }
@@ -123,8 +123,8 @@ fn next_section<I: ByteIn>(
         words += 1;
         match step_of(&draft, begun, &word, alloc) {
             Err(unfit) => return Err(refused(draft.len(), unfit)),
-            Ok(Step::More(more)) => begun = Some(more),
-            Ok(Step::Done(stmt)) => {
+            Ok(Progress::More(more)) => begun = Some(more),
+            Ok(Progress::Done(stmt)) => {
                 if let Some(kind) = draft.fault_of(&stmt, words) {
                     return Err(fault_behind(draft.len(), kind));
                 }

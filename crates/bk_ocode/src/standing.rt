@@ -21,7 +21,7 @@ pub(crate) enum Position {
 
 /// The places that statements may have.
 #[derive(Clone, Copy, Debug, PartialEq, Eq)]
-pub(crate) enum Role {
+pub(crate) enum StmtPlace {
     /// Outside of procedures: ENTRY, DATALAB and GLOBAL.
     Outer,
     /// Right after an ENTRY: SAVE.

@@ -5,7 +5,7 @@ use Rattle.bk_tree.specs.Tree.{Expression, name, number, text, truth, query, par
 use Rattle.bk_tree.specs.Parts.{size}
 use Rattle.bk_scope.specs.declared.bound.Bound.{Bound}
 use Rattle.bk_scope.specs.declared.bound.Bound.TheVariants.{Constant, Global, Static, Variable, Label}
-use Rattle.bk_scope.specs.declared.place.Place.{Place}
+use Rattle.bk_scope.specs.declared.place.Enclosing.{Enclosing}
 use Rattle.bk_scope.specs.declared.role.Role.{Role}
 use Rattle.bk_scope.specs.declared.role.Role.TheVariants.{Value, Truth}
 use Rattle.bk_scope.specs.Scope.{Binding, bound_in}
@@ -37,7 +37,7 @@ usable_late k n l i j x (Some (Global v)) h = record { inside = tt }
 usable_late k n l i j x (Some (Static v)) h = record { inside = tt }
 
 -- WHAT BEGINS WITH NO WRONG NAME: nothing is told at its first symbol
-pub late : (e : Expression) (r : Role) (bs : List Binding) (p : Place) (s : Spot) → begins_wrong bs p.procedure e ≡ false → Spans (s.place + 1) (s.place + symbols e) (told r bs p s e)
+pub late : (e : Expression) (r : Role) (bs : List Binding) (p : Enclosing) (s : Spot) → begins_wrong bs p.procedure e ≡ false → Spans (s.place + 1) (s.place + symbols e) (told r bs p s e)
 late (name l x) r bs p s h = among (usable_late p.procedure s.place l (s.place + 1) (s.place + 1) x (bound_in bs x) h) (depth_spans r (s.place + 1) p (bound_in bs x))
 late (number l n) r bs p s h = record { inside = tt }
 late (text l x) r bs p s h = record { inside = tt }
@@ -74,11 +74,11 @@ in_front {i = i} {f = f} n l a t =
     recount i (behind_it (at_spans n l not_assignable) a (omega arith) (broken n l f) t) (omega arith)
 
 -- what begins with a wrong name hides it
-hidden : (e : Expression) (r : Role) (bs : List Binding) (p : Place) (s : Spot) (l i : ℕ) (f h : Found) → begins_wrong bs p.procedure e ≡ true → Tied (told r bs p s e) i f h → Tied (at s.place l not_assignable ++ told r bs p s e) i f h
+hidden : (e : Expression) (r : Role) (bs : List Binding) (p : Enclosing) (s : Spot) (l i : ℕ) (f h : Found) → begins_wrong bs p.procedure e ≡ true → Tied (told r bs p s e) i f h → Tied (at s.place l not_assignable ++ told r bs p s e) i f h
 hidden e r bs p s l i f h b t = record { first = t.first ∙ ap (else_first f.first) (sym (not_assignable_behind e l r bs p s f.claims b)); claims = t.claims; meanings = t.meanings; words = t.words; next = t.next; deepest = t.deepest }
 
 -- NOT ASSIGNABLE
-pub unassignable_tied : (b : Bool) (e : Expression) (r : Role) (bs : List Binding) (p : Place) (s : Spot) (n l i : ℕ) (f : Found) (g : Found → Found) → Begins b n s.place
+pub unassignable_tied : (b : Bool) (e : Expression) (r : Role) (bs : List Binding) (p : Enclosing) (s : Spot) (n l i : ℕ) (f : Found) (g : Found → Found) → Begins b n s.place
     → ((h : Found) → h.next ≡ s.number → Tied (told r bs p s e) i h (g h)) → f.next ≡ s.number → Tied (at n l not_assignable ++ told r bs p s e) i f (g (unassignable bs p.procedure b l e f))
 unassignable_tied true e r bs p s n l i f g h t a = in_front n l (wider (n + 1) (s.place + symbols e) (inside e r bs p s) (omega (arith, h)) (omega arith)) (t (breaks l not_assignable f) a)
 unassignable_tied false e r bs p s n l i f g h t a =

@@ -4,7 +4,7 @@ use Rattle.bk_tree.specs.declared.tree.Expr.{Expr}
 use Rattle.bk_tree.specs.declared.tree.Decl.{Decl}
 use Rattle.bk_tree.specs.Tree.{Actions, block, expressions_in, declarations_in}
 use Rattle.bk_tree.specs.Parts.{size}
-use Rattle.bk_scope.specs.declared.place.Place.{Place}
+use Rattle.bk_scope.specs.declared.place.Enclosing.{Enclosing}
 use Rattle.bk_scope.specs.Scope.{Binding}
 use Rattle.bk_scope.specs.Found.{Found, takes}
 use Rattle.bk_scope.specs.Places.{labelled}
@@ -16,21 +16,21 @@ pub size_is_length : (xs : List Expr) → size (expressions_in xs) ≡ length xs
 size_is_length [] = refl
 size_is_length (x ∷ xs) = ap (λ n. n + 1) (size_is_length xs) ∙ omega arith
 
-pub block_without_declarations : (s : Stage) (p : Place) (l : ℕ) (ds : List Decl) (cs : Actions) → length ds ≡ 0 → done s.scope p (block l (declarations_in ds) cs) s.found ≡ each_done s.scope p cs s.found
+pub block_without_declarations : (s : Stage) (p : Enclosing) (l : ℕ) (ds : List Decl) (cs : Actions) → length ds ≡ 0 → done s.scope p (block l (declarations_in ds) cs) s.found ≡ each_done s.scope p cs s.found
 block_without_declarations s p l [] cs none = refl
 block_without_declarations s p l (d ∷ ds) cs none = absurd (omega (arith, none))
 
 -- the stage behind a block's labels, where b stands behind its declarations
-abbrev pub stage_in : Place → Actions → AfterDeclarations → Stage
+abbrev pub stage_in : Enclosing → Actions → AfterDeclarations → Stage
 stage_in p cs b = with_labels p.procedure (labels_of_each cs) (record { scope = b.scope; found = takes b.found })
 
-pub block_with_declarations : (s : Stage) (p : Place) (l : ℕ) (ds : List Decl) (cs : Actions) (b : AfterDeclarations) (t : Stage) → 0 < length ds → b ≡ declared s.scope p (declarations_in ds) s.found → t ≡ stage_in p cs b
+pub block_with_declarations : (s : Stage) (p : Enclosing) (l : ℕ) (ds : List Decl) (cs : Actions) (b : AfterDeclarations) (t : Stage) → 0 < length ds → b ≡ declared s.scope p (declarations_in ds) s.found → t ≡ stage_in p cs b
     → done s.scope p (block l (declarations_in ds) cs) s.found ≡ each_done t.scope (labelled b.found.next b.place) cs t.found
 block_with_declarations s p l [] cs b t some eb et = absurd (omega (arith, some))
 block_with_declarations s p l (d ∷ ds) cs b t some eb et = rw et (rw eb refl)
 
 -- the stage behind a block's commands
-abbrev pub block_behind : Place → Actions → AfterDeclarations → Stage
+abbrev pub block_behind : Enclosing → Actions → AfterDeclarations → Stage
 block_behind p cs b =
     let t : Stage = stage_in p cs b in
     record { scope = t.scope; found = each_done t.scope (labelled b.found.next b.place) cs t.found }

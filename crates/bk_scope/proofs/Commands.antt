@@ -7,7 +7,7 @@ use Rattle.bk_tree.specs.Tree.{Mention, Expression, Expressions, Action, Actions
 use Rattle.bk_tree.specs.Parts.{size}
 use Rattle.bk_scope.specs.declared.bound.Bound.{Bound}
 use Rattle.bk_scope.specs.declared.bound.Bound.TheVariants.{Constant, Global, Static, Variable, Label}
-use Rattle.bk_scope.specs.declared.place.Place.{Place}
+use Rattle.bk_scope.specs.declared.place.Enclosing.{Enclosing}
 use Rattle.bk_scope.specs.declared.role.Role.TheVariants.{Value, Truth}
 use Rattle.bk_scope.specs.Scope.{Binding, bound_in, bind}
 use Rattle.bk_scope.specs.Wrong.{Wrong, text_of, case_repeated, default_repeated, dynamic_name, label_not_here, no_loop, no_switchon, no_result_or_return}
@@ -58,7 +58,7 @@ unless_broken : (q : Bool) (n l : ℕ) (v : Wrong) (f : Found) → Tied (unless 
 unless_broken true n l v f = nothing_told f
 unless_broken false n l v f = broken n l f
 
-single_tied : (p : Place) (n l : ℕ) (k : Simple) (f : Found) → Tied (single_at p n l k) 0 f (single p l k f)
+single_tied : (p : Enclosing) (n l : ℕ) (k : Simple) (f : Found) → Tied (single_at p n l k) 0 f (single p l k f)
 single_tied p n l w.Break f = unless_broken p.in_loop n l no_loop f
 single_tied p n l w.Loop f = unless_broken p.in_loop n l no_loop f
 single_tied p n l w.EndCase f = unless_broken p.in_switch n l no_switchon f
@@ -114,7 +114,7 @@ assign_tied l xs es t u bs p s f e fits =
 
 pub routine_call_tied : (l : ℕ) (e : Expression) (es : Expressions) → ETied e → EsTied es → CTied (call l e es)
 routine_call_tied l e es t u bs p s f a fits =
-    let w : Place = deeper (size es + 2) p in
+    let w : Enclosing = deeper (size es + 2) p in
     let g : Found = evaluated Value bs w e f in
     let one : Tied (told Value bs w s e) (numbers e) f g = t Value tt bs w s f a (omega (arith, fits)) in
     behind_it (inside e Value bs w s) (each_inside es 1 bs (deeper 2 p) (behind e s)) (omega arith) one (u 1 bs (deeper 2 p) (behind e s) g (omega (arith, one.next, a)) (omega (arith, fits)))
@@ -181,7 +181,7 @@ for_tied l x a b h c ta tb tc bs p s f e fits =
     behind_it (both head_spans step_spans (omega arith) (omega arith)) (pushed_spans u.place p 4) (omega arith)
     (behind_it head_spans step_spans (omega arith) head (each_constant_tied h bs p.procedure v f2)) (pushed_tied p 4 f3) in
     let same : g.next ≡ u.number = omega (arith, start.next, e) in
-    let q : Place = labelled u.number (looping (deeper 2 p)) in
+    let q : Enclosing = labelled u.number (looping (deeper 2 p)) in
     let xs : List Binding = labels_in_scope p.procedure (u.number + 1) (labels_of c) zs in
     let g' : Found = moved ((g.next + 1) + L) g in
     let i : Spot = numbered (1 + L) u in

@@ -7,7 +7,7 @@ use Rattle.bk_tree.specs.declared.tree.Sort.TheVariants as sort
 use Rattle.bk_tree.specs.Tree.{Mention, Expression, Declaration, Declarations, Items, Definitions, Starts, constants, definitions, no_declarations, declare, no_items, item, no_definitions, define, variables, no_starts, value, vector}
 use Rattle.bk_tree.specs.Parts.{line_of}
 use Rattle.bk_scope.specs.declared.bound.Bound.TheVariants.{Constant, Global, Static}
-use Rattle.bk_scope.specs.declared.place.Place.{Place}
+use Rattle.bk_scope.specs.declared.place.Enclosing.{Enclosing}
 use Rattle.bk_scope.specs.declared.role.Role.TheVariants.{Value}
 use Rattle.bk_scope.specs.Scope.{Binding, bind}
 use Rattle.bk_scope.specs.Wrong.{Wrong, global_out_of_range, vec_out_of_range}
@@ -112,9 +112,9 @@ global_tied (item l x e is) m bs k s cs f =
 
 -- a declaration
 pub record DeclarationTied (d : Declaration) : Type 0 where
-  pub scope : (bs : List Binding) (p : Place) (s : Spot) (f : Found) → f.next ≡ s.number → s.number + numbers_one_declared d < 2 ^ 32 → (one_declared bs p d f).scope ≡ scope_behind_one bs p s d
-  pub place : (bs : List Binding) (p : Place) (s : Spot) (f : Found) → f.next ≡ s.number → s.number + numbers_one_declared d < 2 ^ 32 → (one_declared bs p d f).place ≡ place_behind_one bs p s d
-  pub found : (bs : List Binding) (p : Place) (s : Spot) (f : Found) → f.next ≡ s.number → s.number + numbers_one_declared d < 2 ^ 32 → Tied (told_one_declared bs p s d) (numbers_one_declared d) f (one_declared bs p d f).found
+  pub scope : (bs : List Binding) (p : Enclosing) (s : Spot) (f : Found) → f.next ≡ s.number → s.number + numbers_one_declared d < 2 ^ 32 → (one_declared bs p d f).scope ≡ scope_behind_one bs p s d
+  pub place : (bs : List Binding) (p : Enclosing) (s : Spot) (f : Found) → f.next ≡ s.number → s.number + numbers_one_declared d < 2 ^ 32 → (one_declared bs p d f).place ≡ place_behind_one bs p s d
+  pub found : (bs : List Binding) (p : Enclosing) (s : Spot) (f : Found) → f.next ≡ s.number → s.number + numbers_one_declared d < 2 ^ 32 → Tied (told_one_declared bs p s d) (numbers_one_declared d) f (one_declared bs p d f).found
 
 pub manifest_declared : (l : ℕ) (is : Items) → DeclarationTied (constants l sort.Manifest is)
 manifest_declared l no_items = record { scope = λ bs p s f e fits. refl; place = λ bs p s f e fits. refl; found = λ bs p s f e fits. nothing_told f }
@@ -166,26 +166,26 @@ no_declarations_tied = record { scope = λ bs p s f e fits. refl; place = λ bs 
 
 pub declare_tied : (d : Declaration) (ds : Declarations) → DeclarationTied d → DsTied ds → DsTied (declare d ds)
 declare_tied d ds t u = record { scope = λ bs p s f e fits. (whole bs p s f e fits).1; place = λ bs p s f e fits. (whole bs p s f e fits).2; found = λ bs p s f e fits. (whole bs p s f e fits).0 } where
-  Whole : List Binding → Place → Spot → Found → List Binding → Place → Type 0
+  Whole : List Binding → Enclosing → Spot → Found → List Binding → Enclosing → Type 0
   Whole bs p s f cs z =
       let b : AfterDeclarations = declared cs z ds (one_declared bs p d f).found in
       Tied (told_declared bs p s (declare d ds)) (numbers_declared (declare d ds)) f b.found × (b.scope ≡ scope_behind bs p s (declare d ds)) × (b.place ≡ place_behind_all bs p s (declare d ds))
 
-  whole : (bs : List Binding) (p : Place) (s : Spot) (f : Found) → f.next ≡ s.number → s.number + numbers_declared (declare d ds) < 2 ^ 32 → Whole bs p s f (one_declared bs p d f).scope (one_declared bs p d f).place
+  whole : (bs : List Binding) (p : Enclosing) (s : Spot) (f : Found) → f.next ≡ s.number → s.number + numbers_declared (declare d ds) < 2 ^ 32 → Whole bs p s f (one_declared bs p d f).scope (one_declared bs p d f).place
   whole bs p s f e fits =
       let g : Found = (one_declared bs p d f).found in
       let cs : List Binding = scope_behind_one bs p s d in
-      let z : Place = place_behind_one bs p s d in
+      let z : Enclosing = place_behind_one bs p s d in
       let v : Spot = behind_one_declared d s in
       let one : Tied (told_one_declared bs p s d) (numbers_one_declared d) f g = t.found bs p s f e (omega (arith, fits)) in
       let same : g.next ≡ v.number = omega (arith, one.next, e) in
       let rest : v.number + numbers_declared ds < 2 ^ 32 = omega (arith, fits) in
       let here : Whole bs p s f cs z = (behind_it (one_declared_inside d bs p s) (declared_inside ds cs z v) (omega arith) one (u.found cs z v g same rest), u.scope cs z v g same rest, u.place cs z v g same rest) in
-      subst (λ xs. Whole bs p s f xs (one_declared bs p d f).place) (sym (t.scope bs p s f e (omega (arith, fits)))) (subst (λ (y : Place). Whole bs p s f cs y) (sym (t.place bs p s f e (omega (arith, fits)))) here)
+      subst (λ xs. Whole bs p s f xs (one_declared bs p d f).place) (sym (t.scope bs p s f e (omega (arith, fits)))) (subst (λ (y : Enclosing). Whole bs p s f cs y) (sym (t.place bs p s f e (omega (arith, fits)))) here)
 
 -- what variables begin with
 abbrev pub StartsTied : Starts → Type 0
-StartsTied is = (bs : List Binding) (p : Place) (s : Spot) (f : Found) → f.next ≡ s.number → s.number + numbers_started is < 2 ^ 32 → Tied (told_started bs p s is) (numbers_started is) f (started bs p is f)
+StartsTied is = (bs : List Binding) (p : Enclosing) (s : Spot) (f : Found) → f.next ≡ s.number → s.number + numbers_started is < 2 ^ 32 → Tied (told_started bs p s is) (numbers_started is) f (started bs p is f)
 
 pub no_starts_tied : StartsTied no_starts
 no_starts_tied bs p s f e fits = nothing_told f
@@ -200,7 +200,7 @@ vector_start_tied l e is u bs p s f a fits =
     let w : ℕ = words_of_start bs e in
     let g : Found = bounded VEC_NUMBER (line_of e) vec_out_of_range (constant_word bs e) (constant_found bs p.procedure e f) in
     let v : Spot = behind_constant e s in
-    let q : Place = deeper (w + 1) p in
+    let q : Enclosing = deeper (w + 1) p in
     let xs : List Point = constant bs p.procedure s e ++ at_most VEC_NUMBER s.place (line_of e) vec_out_of_range (constant_word bs e) in
     let xs_spans : Spans s.place v.place xs = bounded_spans VEC_NUMBER vec_out_of_range e bs p.procedure s in
     let one : Tied (xs ++ pushed p (w + 1)) (0 + 0) f (reaches (p.depth + (w + 1)) g) =

@@ -2,50 +2,50 @@
 use Rattle.std.proofs.Common.{◌≡◌, ℕ, ◌<◌, List, [], ◌∷◌, ◌++◌, length, Result, Ok, Err, OnOk, IfOk, refl, arith}
 use Rattle.std.specs.declared.alloc.AllocError.{AllocError}
 use Rattle.bk_tree.specs.declared.tree.Def.{Def}
-use Rattle.bk_tree.specs.declared.tree.Item.{Item}
-use Rattle.bk_tree.specs.declared.tree.Item.TheVariants as i
+use Rattle.bk_tree.specs.declared.tree.ConstItem.{ConstItem}
+use Rattle.bk_tree.specs.declared.tree.ConstItem.TheVariants as i
 use Rattle.bk_tree.specs.declared.tree.Sort.{Sort}
 use Rattle.bk_tree.specs.declared.tree.Sort.TheVariants as s
 use Rattle.bk_tree.specs.Tree.{Mention, constants, definitions, items_in, definitions_in, Starts, no_starts, variables}
-use Rattle.bk_scope.specs.declared.place.Place.{Place}
+use Rattle.bk_scope.specs.declared.place.Enclosing.{Enclosing}
 use Rattle.bk_scope.specs.Scope.{Binding, bind_all}
 use Rattle.bk_scope.specs.Found.{Found, takes}
 use Rattle.bk_scope.specs.Entering.{Stage, with_procedures}
 use Rattle.bk_scope.specs.Names.{AfterDeclarations, Defined, manifests, statics, globals, variables_of, all_listed, started, place_behind, defined, one_declared, one_defined}
 
 -- what stands behind a declaration that leaves the place as it was
-abbrev pub at : Place → Stage → AfterDeclarations
+abbrev pub at : Enclosing → Stage → AfterDeclarations
 at p t = record { scope = t.scope; place = p; found = t.found }
 
 -- no starts make no variables
-pub no_variables : (bs : List Binding) (p : Place) (xs : List Mention) → variables_of bs p xs no_starts ≡ []
+pub no_variables : (bs : List Binding) (p : Enclosing) (xs : List Mention) → variables_of bs p xs no_starts ≡ []
 no_variables bs p [] = refl
 no_variables bs p (x ∷ xs) = refl
 
 -- what stands behind a declaration of nothing
-pub no_items_behind : (bs : List Binding) (p : Place) (f : Found) (l : ℕ) (w : Sort) (xs : List Item) → length xs ≡ 0 → ◌≡◌ {A = AfterDeclarations} (record { scope = bs; place = p; found = f }) (one_declared bs p (constants l w (items_in xs)) f)
+pub no_items_behind : (bs : List Binding) (p : Enclosing) (f : Found) (l : ℕ) (w : Sort) (xs : List ConstItem) → length xs ≡ 0 → ◌≡◌ {A = AfterDeclarations} (record { scope = bs; place = p; found = f }) (one_declared bs p (constants l w (items_in xs)) f)
 no_items_behind bs p f l w [] none = refl
 no_items_behind bs p f l w (x ∷ xs) none = absurd (omega (arith, none))
 
-pub no_definitions_behind : (bs : List Binding) (p : Place) (f : Found) (l : ℕ) (xs : List Def) → length xs ≡ 0 → ◌≡◌ {A = AfterDeclarations} (record { scope = bs; place = p; found = f }) (one_declared bs p (definitions l (definitions_in xs)) f)
+pub no_definitions_behind : (bs : List Binding) (p : Enclosing) (f : Found) (l : ℕ) (xs : List Def) → length xs ≡ 0 → ◌≡◌ {A = AfterDeclarations} (record { scope = bs; place = p; found = f }) (one_declared bs p (definitions l (definitions_in xs)) f)
 no_definitions_behind bs p f l [] none = refl
 no_definitions_behind bs p f l (x ∷ xs) none = absurd (omega (arith, none))
 
 -- what stands behind some items
-pub manifests_behind : (bs : List Binding) (p : Place) (f : Found) (l : ℕ) (xs : List Item) → 0 < length xs → at p (manifests f.next p.procedure (items_in xs) (record { scope = bs; found = takes f })) ≡ one_declared bs p (constants l s.Manifest (items_in xs)) f
+pub manifests_behind : (bs : List Binding) (p : Enclosing) (f : Found) (l : ℕ) (xs : List ConstItem) → 0 < length xs → at p (manifests f.next p.procedure (items_in xs) (record { scope = bs; found = takes f })) ≡ one_declared bs p (constants l s.Manifest (items_in xs)) f
 manifests_behind bs p f l [] some = absurd (omega (arith, some))
 manifests_behind bs p f l ((i.Item m x e) ∷ xs) some = refl
 
-pub statics_behind : (bs : List Binding) (p : Place) (f : Found) (l : ℕ) (xs : List Item) → 0 < length xs → at p (statics bs f.next p.procedure (items_in xs) (record { scope = bs; found = takes f })) ≡ one_declared bs p (constants l s.Static (items_in xs)) f
+pub statics_behind : (bs : List Binding) (p : Enclosing) (f : Found) (l : ℕ) (xs : List ConstItem) → 0 < length xs → at p (statics bs f.next p.procedure (items_in xs) (record { scope = bs; found = takes f })) ≡ one_declared bs p (constants l s.Static (items_in xs)) f
 statics_behind bs p f l [] some = absurd (omega (arith, some))
 statics_behind bs p f l ((i.Item m x e) ∷ xs) some = refl
 
-pub globals_behind : (bs : List Binding) (p : Place) (f : Found) (l : ℕ) (xs : List Item) → 0 < length xs → at p (globals bs f.next p.procedure (items_in xs) (record { scope = bs; found = takes f })) ≡ one_declared bs p (constants l s.Global (items_in xs)) f
+pub globals_behind : (bs : List Binding) (p : Enclosing) (f : Found) (l : ℕ) (xs : List ConstItem) → 0 < length xs → at p (globals bs f.next p.procedure (items_in xs) (record { scope = bs; found = takes f })) ≡ one_declared bs p (constants l s.Global (items_in xs)) f
 globals_behind bs p f l [] some = absurd (omega (arith, some))
 globals_behind bs p f l ((i.Item m x e) ∷ xs) some = refl
 
 -- what stands behind a LET, by what its procedures and its definitions made
-pub let_behind : (bs : List Binding) (p : Place) (f : Found) (l : ℕ) (xs : List Def) (t : Stage) (d : Defined) (cs : List Binding) (q : Place) (g : Found) → 0 < length xs
+pub let_behind : (bs : List Binding) (p : Enclosing) (f : Found) (l : ℕ) (xs : List Def) (t : Stage) (d : Defined) (cs : List Binding) (q : Enclosing) (g : Found) → 0 < length xs
     → t ≡ with_procedures (definitions_in xs) (record { scope = bs; found = takes f })
     → d ≡ defined f.next t.scope (definitions_in xs) (record { fresh = []; place = p; found = t.found })
     → cs ≡ bind_all d.fresh t.scope → q ≡ d.place → g ≡ d.found
@@ -54,7 +54,7 @@ let_behind bs p f l [] t d cs q g some et ed ec eq eg = absurd (omega (arith, so
 let_behind bs p f l (x ∷ xs) t d cs q g some et ed ec eq eg = rw ec (rw eq (rw eg (rw ed (rw et refl))))
 
 -- what stands behind the definition of some variables, by what their names and starts made
-pub variables_behind : (n : ℕ) (bs : List Binding) (d : Defined) (l : ℕ) (xs : List Mention) (is : Starts) (r : Result Place AllocError) (gs : List Binding) (h : Found)
+pub variables_behind : (n : ℕ) (bs : List Binding) (d : Defined) (l : ℕ) (xs : List Mention) (is : Starts) (r : Result Enclosing AllocError) (gs : List Binding) (h : Found)
     (cs : List Binding) (ys : List Mention) (js : Starts) (f : Found)
     → cs ≡ bs → ys ≡ xs → js ≡ is → f ≡ all_listed n xs d.found
     → OnOk r (gs ≡ d.fresh ++ variables_of cs d.place ys js) → OnOk r (h ≡ started cs d.place js f) → IfOk r (λ p. p ≡ place_behind cs d.place js)

@@ -9,7 +9,7 @@ use Rattle.bk_tree.specs.Tree.{Expression, Expressions, Action, name, number, te
 use Rattle.bk_tree.specs.Parts.{line_of}
 use Rattle.bk_scope.specs.declared.bound.Bound.{Bound}
 use Rattle.bk_scope.specs.declared.bound.Bound.TheVariants.{Constant, Global, Static, Variable, Label}
-use Rattle.bk_scope.specs.declared.place.Place.{Place}
+use Rattle.bk_scope.specs.declared.place.Enclosing.{Enclosing}
 use Rattle.bk_scope.specs.declared.role.Role.{Role}
 use Rattle.bk_scope.specs.declared.role.Role.TheVariants.{Value, Truth, Address, Destination}
 use Rattle.bk_scope.specs.Scope.{Binding, bound_in, has_address}
@@ -29,9 +29,9 @@ use Rattle.bk_scope.proofs.Assignable.{Begins, unassignable_tied}
 
 -- an expression where a word is asked for
 pub record WTied (e : Expression) : Type 0 where
-  pub address : (b : Bool) (l : ℕ) (bs : List Binding) (p : Place) (s : Spot) (n : ℕ) (f : Found) → Begins b n s.place → f.next ≡ s.number → s.number + numbers e < 2 ^ 32
+  pub address : (b : Bool) (l : ℕ) (bs : List Binding) (p : Enclosing) (s : Spot) (n : ℕ) (f : Found) → Begins b n s.place → f.next ≡ s.number → s.number + numbers e < 2 ^ 32
       → Tied (unless (addressed bs e) (at n l not_assignable) ++ told (Address b l) bs p s e) (numbers e) f (evaluated (Address b l) bs p e f)
-  pub destination : (b : Bool) (l : ℕ) (bs : List Binding) (p : Place) (s : Spot) (n : ℕ) (f : Found) → Begins b n s.place → f.next ≡ s.number → s.number + numbers e < 2 ^ 32
+  pub destination : (b : Bool) (l : ℕ) (bs : List Binding) (p : Enclosing) (s : Spot) (n : ℕ) (f : Found) → Begins b n s.place → f.next ≡ s.number → s.number + numbers e < 2 ^ 32
       → Tied (unless (assigned bs e) (at n l not_assignable) ++ told (Destination b l) bs p s e) (numbers e) f (evaluated (Destination b l) bs p e f)
 
 pub record ExpressionTied (e : Expression) : Type 0 where
@@ -55,12 +55,12 @@ used_tied k n l x (Some (Constant w)) f = meant (Constant w) f
 used_tied k n l x (Some (Global w)) f = meant (Global w) f
 used_tied k n l x (Some (Static w)) f = meant (Static w) f
 
-name_deep : (l : ℕ) (x : List ℕ) (bs : List Binding) (p : Place) (n : ℕ) (f : Found)
+name_deep : (l : ℕ) (x : List ℕ) (bs : List Binding) (p : Enclosing) (n : ℕ) (f : Found)
     → Tied (used_at p.procedure n l x (bound_in bs x) ++ (depth (p.depth + 1) ∷ [])) 0 f (reaches (p.depth + 1) (used p.procedure l x (bound_in bs x) f))
 name_deep l x bs p n f =
     recount 0 (behind_it (used_spans p.procedure n l x (bound_in bs x)) (pushed_spans (n + 1) p 1) (omega arith) (used_tied p.procedure n l x (bound_in bs x) f) (pushed_tied p 1 (used p.procedure l x (bound_in bs x) f))) (omega arith)
 
-name_set : (l : ℕ) (x : List ℕ) (bs : List Binding) (p : Place) (n : ℕ) (f : Found) → Tied (used_at p.procedure n l x (bound_in bs x) ++ []) 0 f (used p.procedure l x (bound_in bs x) f)
+name_set : (l : ℕ) (x : List ℕ) (bs : List Binding) (p : Enclosing) (n : ℕ) (f : Found) → Tied (used_at p.procedure n l x (bound_in bs x) ++ []) 0 f (used p.procedure l x (bound_in bs x) f)
 name_set l x bs p n f = subst (λ xs. Tied xs 0 f (used p.procedure l x (bound_in bs x) f)) (sym (append-nil (used_at p.procedure n l x (bound_in bs x)))) (used_tied p.procedure n l x (bound_in bs x) f)
 
 name_plain : (l : ℕ) (x : List ℕ) → ETied (name l x)
@@ -69,13 +69,13 @@ name_plain l x Truth h bs p s f e fits = name_deep l x bs p s.place f
 name_plain l x (Address b m) h bs p s f e fits = absurd h
 name_plain l x (Destination b m) h bs p s f e fits = absurd h
 
-name_address : (q : Bool) (b : Bool) (m l : ℕ) (x : List ℕ) (bs : List Binding) (p : Place) (s : Spot) (n : ℕ) (f : Found) → Begins b n s.place → f.next ≡ s.number
+name_address : (q : Bool) (b : Bool) (m l : ℕ) (x : List ℕ) (bs : List Binding) (p : Enclosing) (s : Spot) (n : ℕ) (f : Found) → Begins b n s.place → f.next ≡ s.number
     → Tied (unless q (at n m not_assignable) ++ told (Address b m) bs p s (name l x)) 0 f (reaches (p.depth + 1) (used p.procedure l x (bound_in bs x) (cond q f (unassignable bs p.procedure b m (name l x) f))))
 name_address true b m l x bs p s n f z a = name_deep l x bs p s.place f
 name_address false b m l x bs p s n f z a =
     unassignable_tied b (name l x) (Address b m) bs p s n m 0 f (λ h. reaches (p.depth + 1) (used p.procedure l x (bound_in bs x) h)) z (λ h c. name_deep l x bs p s.place h) a
 
-name_destination : (q : Bool) (b : Bool) (m l : ℕ) (x : List ℕ) (bs : List Binding) (p : Place) (s : Spot) (n : ℕ) (f : Found) → has_address (bound_in bs x) ≡ q → Begins b n s.place → f.next ≡ s.number
+name_destination : (q : Bool) (b : Bool) (m l : ℕ) (x : List ℕ) (bs : List Binding) (p : Enclosing) (s : Spot) (n : ℕ) (f : Found) → has_address (bound_in bs x) ≡ q → Begins b n s.place → f.next ≡ s.number
     → Tied (unless q (at n m not_assignable) ++ told (Destination b m) bs p s (name l x)) 0 f (cond q (used p.procedure l x (bound_in bs x) f) (reaches (p.depth + 1) (used p.procedure l x (bound_in bs x) (unassignable bs p.procedure b m (name l x) f))))
 name_destination true b m l x bs p s n f e z a =
     subst (λ c. Tied (used_at p.procedure s.place l x (bound_in bs x) ++ unless c (depth (p.depth + 1) ∷ [])) 0 f (used p.procedure l x (bound_in bs x) f)) (sym e) (name_set l x bs p s.place f)
@@ -93,7 +93,7 @@ name_tied l x = record {
 }
 
 -- what only takes a word of the frame
-leaf : (e : Expression) (r : Role) → Plain r → (bs : List Binding) (p : Place) (f : Found) → Tied (pushed p 1) 0 f (reaches (p.depth + 1) (without_word r bs p.procedure e f))
+leaf : (e : Expression) (r : Role) → Plain r → (bs : List Binding) (p : Enclosing) (f : Found) → Tied (pushed p 1) 0 f (reaches (p.depth + 1) (without_word r bs p.procedure e f))
 leaf e r h bs p f = subst (λ v. Tied (pushed p 1) 0 f (reaches (p.depth + 1) v)) (sym (without_plain r bs p.procedure e f h)) (pushed_tied p 1 f)
 
 pub number_tied : (l m : ℕ) → ExpressionTied (number l m)
@@ -203,7 +203,7 @@ infix_tied f l m a b t u =
     record { plain = z; word = binary_word f l m a b z }
 
 -- what has no word of its own, whatever the role
-without_tied : (e : Expression) → ETied e → ((b : Bool) (l : ℕ) (bs : List Binding) (p : Place) (s : Spot) (n : ℕ) (f : Found) → Begins b n s.place → f.next ≡ s.number → s.number + numbers e < 2 ^ 32
+without_tied : (e : Expression) → ETied e → ((b : Bool) (l : ℕ) (bs : List Binding) (p : Enclosing) (s : Spot) (n : ℕ) (f : Found) → Begins b n s.place → f.next ≡ s.number → s.number + numbers e < 2 ^ 32
     → Tied (at n l not_assignable ++ told Value bs p s e) (numbers e) f (evaluated Value bs p e (unassignable bs p.procedure b l e f)))
 without_tied e t b l bs p s n f z a fits = unassignable_tied b e Value bs p s n l (numbers e) f (λ h. evaluated Value bs p e h) z (λ h c. t Value tt bs p s h c fits) a
 
@@ -257,7 +257,7 @@ more_tied e es t u n bs p s f a fits =
 
 -- destinations
 abbrev pub DestinationsTied : Expressions → Type 0
-DestinationsTied es = (bs : List Binding) (p : Place) (s : Spot) (f : Found) → f.next ≡ s.number → s.number + numbers_each es < 2 ^ 32 → Tied (told_destinations bs p s es) (numbers_each es) f (destinations bs p es f)
+DestinationsTied es = (bs : List Binding) (p : Enclosing) (s : Spot) (f : Found) → f.next ≡ s.number → s.number + numbers_each es < 2 ^ 32 → Tied (told_destinations bs p s es) (numbers_each es) f (destinations bs p es f)
 
 pub no_destinations_tied : DestinationsTied none
 no_destinations_tied bs p s f e fits = nothing_told f

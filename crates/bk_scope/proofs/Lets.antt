@@ -2,7 +2,7 @@
 use Rattle.std.proofs.Common.{◌≡◌, ℕ, ◌+◌, ◌^◌, ◌<◌, List, [], ◌++◌, refl, sym, ap, ◌∙◌, subst, append_assoc, arith}
 use Rattle.std.proofs.lemmas.List.{append-nil}
 use Rattle.bk_tree.specs.Tree.{Mention, Expression, Action, Definition, Definitions, definitions, routine, function, variables, no_definitions, define}
-use Rattle.bk_scope.specs.declared.place.Place.{Place}
+use Rattle.bk_scope.specs.declared.place.Enclosing.{Enclosing}
 use Rattle.bk_scope.specs.Scope.{Binding, bind_all}
 use Rattle.bk_scope.specs.Found.{Found, takes}
 use Rattle.bk_scope.specs.Entering.{Stage, with_procedures}
@@ -30,33 +30,33 @@ with_procedures_is (define (variables l xs is) ds) bs f fits = with_procedures_i
 procedures_taken : (ds : Definitions) (bs : List Binding) (f : Found) → (f.next + 1) + procedures_in ds < 2 ^ 32 → with_procedures ds (record { scope = bs; found = takes f }) ≡ record { scope = procedures_in_scope (f.next + 1) ds bs; found = moved ((f.next + 1) + procedures_in ds) f }
 procedures_taken ds bs f fits = ap (λ g. with_procedures ds (record { scope = bs; found = g })) (taken f (omega (arith, fits))) ∙ with_procedures_is ds bs (moved (f.next + 1) f) fits
 
-abbrev pub fresh_of : List Binding → Place → Definition → List Binding
+abbrev pub fresh_of : List Binding → Enclosing → Definition → List Binding
 fresh_of bs p (variables l xs is) = variables_of bs p xs is
 fresh_of bs p _ = []
 
-fresh_first : (bs : List Binding) (p : Place) (d : Definition) (ds : Definitions) → variables_in_scope bs p (define d ds) ≡ fresh_of bs p d ++ variables_in_scope bs (place_behind_one_defined bs p d) ds
+fresh_first : (bs : List Binding) (p : Enclosing) (d : Definition) (ds : Definitions) → variables_in_scope bs p (define d ds) ≡ fresh_of bs p d ++ variables_in_scope bs (place_behind_one_defined bs p d) ds
 fresh_first bs p (variables l xs is) ds = refl
 fresh_first bs p (routine l x fs c) ds = refl
 fresh_first bs p (function l x fs e) ds = refl
 
-abbrev pub start : List Binding → Place → Found → Defined
+abbrev pub start : List Binding → Enclosing → Found → Defined
 start zs p f = record { fresh = zs; place = p; found = f }
 
 pub record OneTied (d : Definition) : Type 0 where
-  pub fresh : (m : ℕ) (bs : List Binding) (p : Place) (zs : List Binding) (f : Found) → (one_defined m bs d (start zs p f)).fresh ≡ zs ++ fresh_of bs p d
-  pub place : (m : ℕ) (bs : List Binding) (p : Place) (zs : List Binding) (f : Found) → (one_defined m bs d (start zs p f)).place ≡ place_behind_one_defined bs p d
-  pub found : (m : ℕ) (bs : List Binding) (p : Place) (s : Spot) (zs : List Binding) (f : Found) → f.next ≡ s.number → s.number + numbers_one_defined d < 2 ^ 32 → Tied (told_one_defined m bs p s d) (numbers_one_defined d) f (one_defined m bs d (start zs p f)).found
+  pub fresh : (m : ℕ) (bs : List Binding) (p : Enclosing) (zs : List Binding) (f : Found) → (one_defined m bs d (start zs p f)).fresh ≡ zs ++ fresh_of bs p d
+  pub place : (m : ℕ) (bs : List Binding) (p : Enclosing) (zs : List Binding) (f : Found) → (one_defined m bs d (start zs p f)).place ≡ place_behind_one_defined bs p d
+  pub found : (m : ℕ) (bs : List Binding) (p : Enclosing) (s : Spot) (zs : List Binding) (f : Found) → f.next ≡ s.number → s.number + numbers_one_defined d < 2 ^ 32 → Tied (told_one_defined m bs p s d) (numbers_one_defined d) f (one_defined m bs d (start zs p f)).found
 
 abbrev pub OneInside : Definition → Type 0
-OneInside d = (m : ℕ) (bs : List Binding) (p : Place) (s : Spot) → Spans s.place (s.place + symbols_one_defined d) (told_one_defined m bs p s d)
+OneInside d = (m : ℕ) (bs : List Binding) (p : Enclosing) (s : Spot) → Spans s.place (s.place + symbols_one_defined d) (told_one_defined m bs p s d)
 
 pub record AllTied (ds : Definitions) : Type 0 where
-  pub fresh : (m : ℕ) (bs : List Binding) (p : Place) (zs : List Binding) (f : Found) → (defined m bs ds (start zs p f)).fresh ≡ zs ++ variables_in_scope bs p ds
-  pub place : (m : ℕ) (bs : List Binding) (p : Place) (zs : List Binding) (f : Found) → (defined m bs ds (start zs p f)).place ≡ place_behind_defined bs p ds
-  pub found : (m : ℕ) (bs : List Binding) (p : Place) (s : Spot) (zs : List Binding) (f : Found) → f.next ≡ s.number → s.number + numbers_defined ds < 2 ^ 32 → Tied (told_defined m bs p s ds) (numbers_defined ds) f (defined m bs ds (start zs p f)).found
+  pub fresh : (m : ℕ) (bs : List Binding) (p : Enclosing) (zs : List Binding) (f : Found) → (defined m bs ds (start zs p f)).fresh ≡ zs ++ variables_in_scope bs p ds
+  pub place : (m : ℕ) (bs : List Binding) (p : Enclosing) (zs : List Binding) (f : Found) → (defined m bs ds (start zs p f)).place ≡ place_behind_defined bs p ds
+  pub found : (m : ℕ) (bs : List Binding) (p : Enclosing) (s : Spot) (zs : List Binding) (f : Found) → f.next ≡ s.number → s.number + numbers_defined ds < 2 ^ 32 → Tied (told_defined m bs p s ds) (numbers_defined ds) f (defined m bs ds (start zs p f)).found
 
 abbrev pub AllInside : Definitions → Type 0
-AllInside ds = (m : ℕ) (bs : List Binding) (p : Place) (s : Spot) → Spans s.place (s.place + symbols_defined ds) (told_defined m bs p s ds)
+AllInside ds = (m : ℕ) (bs : List Binding) (p : Enclosing) (s : Spot) → Spans s.place (s.place + symbols_defined ds) (told_defined m bs p s ds)
 
 pub routine_one : (l : ℕ) (x : List ℕ) (fs : List Mention) (c : Action) → CTied c → CInside c → OneTied (routine l x fs c)
 routine_one l x fs c t i = record { fresh = λ m bs p zs f. sym (append-nil zs); place = λ m bs p zs f. refl; found = λ m bs p s zs f e fits. routine_tied m l x fs c t i bs p s (start zs p f) e fits }
@@ -73,23 +73,23 @@ define_tied d ds t i u j = record {
       let r : Defined = one_defined m bs d (start zs p f) in
       u.fresh m bs r.place r.fresh r.found
       ∙ ap (λ ys. ys ++ variables_in_scope bs r.place ds) (t.fresh m bs p zs f)
-      ∙ ap (λ (q : Place). zs ++ fresh_of bs p d ++ variables_in_scope bs q ds) (t.place m bs p zs f)
+      ∙ ap (λ (q : Enclosing). zs ++ fresh_of bs p d ++ variables_in_scope bs q ds) (t.place m bs p zs f)
       ∙ append_assoc zs (fresh_of bs p d) _ ∙ ap (λ ys. zs ++ ys) (sym (fresh_first bs p d ds));
   place = λ m bs p zs f.
       let r : Defined = one_defined m bs d (start zs p f) in
-      u.place m bs r.place r.fresh r.found ∙ ap (λ (q : Place). place_behind_defined bs q ds) (t.place m bs p zs f);
+      u.place m bs r.place r.fresh r.found ∙ ap (λ (q : Enclosing). place_behind_defined bs q ds) (t.place m bs p zs f);
   found = λ m bs p s zs f e fits.
       let r : Defined = one_defined m bs d (start zs p f) in
-      let z : Place = place_behind_one_defined bs p d in
+      let z : Enclosing = place_behind_one_defined bs p d in
       let v : Spot = behind_one_defined d s in
       let one : Tied (told_one_defined m bs p s d) (numbers_one_defined d) f r.found = t.found m bs p s zs f e (omega (arith, fits)) in
       let two : Tied (told_defined m bs z v ds) (numbers_defined ds) r.found (defined m bs ds r).found =
-      subst (λ (q : Place). Tied (told_defined m bs q v ds) (numbers_defined ds) r.found (defined m bs ds r).found) (t.place m bs p zs f) (u.found m bs r.place v r.fresh r.found (omega (arith, one.next, e)) (omega (arith, fits))) in
+      subst (λ (q : Enclosing). Tied (told_defined m bs q v ds) (numbers_defined ds) r.found (defined m bs ds r).found) (t.place m bs p zs f) (u.found m bs r.place v r.fresh r.found (omega (arith, one.next, e)) (omega (arith, fits))) in
       behind_it (i m bs p s) (j m bs z v) (omega arith) one two;
 }
 
 -- A LET: what is told, what comes into scope, and where the frame goes on
-pub let_told : (l : ℕ) (x : Definition) (xs : Definitions) → AllTied (define x xs) → AllInside (define x xs) → (bs : List Binding) (p : Place) (s : Spot) (f : Found) → f.next ≡ s.number → s.number + numbers_one_declared (definitions l (define x xs)) < 2 ^ 32
+pub let_told : (l : ℕ) (x : Definition) (xs : Definitions) → AllTied (define x xs) → AllInside (define x xs) → (bs : List Binding) (p : Enclosing) (s : Spot) (f : Found) → f.next ≡ s.number → s.number + numbers_one_declared (definitions l (define x xs)) < 2 ^ 32
     → Tied (told_one_declared bs p s (definitions l (define x xs))) (numbers_one_declared (definitions l (define x xs))) f (one_declared bs p (definitions l (define x xs)) f).found
     × ((one_declared bs p (definitions l (define x xs)) f).scope ≡ scope_behind_one bs p s (definitions l (define x xs)))
     × ((one_declared bs p (definitions l (define x xs)) f).place ≡ place_behind_one bs p s (definitions l (define x xs)))

@@ -4,7 +4,7 @@ use Rattle.bk_tree.specs.declared.tree.Operator.{Operator}
 use Rattle.bk_tree.specs.declared.tree.Operator.TheVariants as o
 use Rattle.bk_tree.specs.Tree.{Expression, Expressions, Action, binary, apply}
 use Rattle.bk_tree.specs.Parts.{size}
-use Rattle.bk_scope.specs.declared.place.Place.{Place}
+use Rattle.bk_scope.specs.declared.place.Enclosing.{Enclosing}
 use Rattle.bk_scope.specs.declared.role.Role.{Role}
 use Rattle.bk_scope.specs.declared.role.Role.TheVariants.{Value, Truth, Address, Destination}
 use Rattle.bk_scope.specs.Scope.{Binding}
@@ -22,22 +22,22 @@ Plain Truth = Unit {0}
 Plain _ = ⊥
 
 abbrev pub ETied : Expression → Type 0
-ETied e = (r : Role) → Plain r → (bs : List Binding) (p : Place) (s : Spot) (f : Found) → f.next ≡ s.number → s.number + numbers e < 2 ^ 32 → Tied (told r bs p s e) (numbers e) f (evaluated r bs p e f)
+ETied e = (r : Role) → Plain r → (bs : List Binding) (p : Enclosing) (s : Spot) (f : Found) → f.next ≡ s.number → s.number + numbers e < 2 ^ 32 → Tied (told r bs p s e) (numbers e) f (evaluated r bs p e f)
 
 abbrev pub EInside : Expression → Type 0
-EInside e = (r : Role) (bs : List Binding) (p : Place) (s : Spot) → Spans s.place (s.place + symbols e) (told r bs p s e)
+EInside e = (r : Role) (bs : List Binding) (p : Enclosing) (s : Spot) → Spans s.place (s.place + symbols e) (told r bs p s e)
 
 abbrev pub EsTied : Expressions → Type 0
-EsTied es = (n : ℕ) (bs : List Binding) (p : Place) (s : Spot) (f : Found) → f.next ≡ s.number → s.number + numbers_each es < 2 ^ 32 → Tied (told_each n bs p s es) (numbers_each es) f (each_evaluated n bs p es f)
+EsTied es = (n : ℕ) (bs : List Binding) (p : Enclosing) (s : Spot) (f : Found) → f.next ≡ s.number → s.number + numbers_each es < 2 ^ 32 → Tied (told_each n bs p s es) (numbers_each es) f (each_evaluated n bs p es f)
 
 abbrev pub EsInside : Expressions → Type 0
-EsInside es = (n : ℕ) (bs : List Binding) (p : Place) (s : Spot) → Spans s.place (s.place + symbols_each es) (told_each n bs p s es)
+EsInside es = (n : ℕ) (bs : List Binding) (p : Enclosing) (s : Spot) → Spans s.place (s.place + symbols_each es) (told_each n bs p s es)
 
 abbrev pub CTied : Action → Type 0
-CTied c = (bs : List Binding) (p : Place) (s : Spot) (f : Found) → f.next ≡ s.number → s.number + numbers_done c < 2 ^ 32 → Tied (told_done bs p s c) (numbers_done c) f (done bs p c f)
+CTied c = (bs : List Binding) (p : Enclosing) (s : Spot) (f : Found) → f.next ≡ s.number → s.number + numbers_done c < 2 ^ 32 → Tied (told_done bs p s c) (numbers_done c) f (done bs p c f)
 
 abbrev pub CInside : Action → Type 0
-CInside c = (bs : List Binding) (p : Place) (s : Spot) → Spans s.place (s.place + symbols_done c) (told_done bs p s c)
+CInside c = (bs : List Binding) (p : Enclosing) (s : Spot) → Spans s.place (s.place + symbols_done c) (told_done bs p s c)
 
 -- binary
 pub fit_plain : (q : Operator) (r : Role) (bs : List Binding) (k : ℕ) (e : Expression) (f : Found) → Plain r → fit_infix q r bs k e f ≡ f
@@ -65,7 +65,7 @@ pub binary_tied : (l m : ℕ) (q : Operator) (a b : Expression) → ETied a → 
 binary_tied l m q a b ta ia tb ib r h bs p s f e fits =
     let g : Found = evaluated (role_of_operands q r) bs p a f in
     let one : Tied (told (role_of_operands q r) bs p s a) (numbers a) f g = ta (role_of_operands q r) (operands_plain q r h) bs p s f e (omega (arith, fits)) in
-    let z : Place = place_of_second q r p in
+    let z : Enclosing = place_of_second q r p in
     let u : Spot = past 1 (behind a s) in
     let two : Tied (told (role_of_operands q r) bs z u b) (numbers b) g (evaluated (role_of_operands q r) bs z b g) = tb (role_of_operands q r) (operands_plain q r h) bs z u g (omega (arith, one.next, e)) (omega (arith, fits)) in
     subst (λ v. Tied (told r bs p s (binary l q m a b)) (numbers a + numbers b) f (evaluated (role_of_operands q r) bs z b (evaluated (role_of_operands q r) bs p a v)))
@@ -81,7 +81,7 @@ without_plain (Destination b l) bs k e f h = absurd h
 
 pub apply_tied : (l m : ℕ) (a : Expression) (es : Expressions) → ETied a → EInside a → EsTied es → EsInside es → ETied (apply l m a es)
 apply_tied l m a es ta ia tb ib r h bs p s f e fits =
-    let w : Place = deeper (size es + 2) p in
+    let w : Enclosing = deeper (size es + 2) p in
     let g : Found = evaluated Value bs w a f in
     let one : Tied (told Value bs w s a) (numbers a) f g = ta Value tt bs w s f e (omega (arith, fits)) in
     let u : Spot = past 1 (behind a s) in

@@ -6,7 +6,7 @@ use Rattle.bk_base.specs.declared.limit.TheConstants.{FRAME_WORDS}
 use Rattle.bk_tree.specs.Tree.{Mention, Expression, Action, routine, function}
 use Rattle.bk_scope.specs.declared.bound.Bound.{Bound}
 use Rattle.bk_scope.specs.declared.bound.Bound.TheVariants.{Constant, Global, Static, Variable, Label}
-use Rattle.bk_scope.specs.declared.place.Place.{Place}
+use Rattle.bk_scope.specs.declared.place.Enclosing.{Enclosing}
 use Rattle.bk_scope.specs.declared.role.Role.TheVariants.{Value}
 use Rattle.bk_scope.specs.Scope.{Binding, bound_in}
 use Rattle.bk_scope.specs.Wrong.{text_of, declared_twice, frame_too_large, two_procedures}
@@ -232,7 +232,7 @@ headed_next k l x fs y f =
     omega (arith, (each_tied k 0 fs (sets l x y f1)).next, (global_tied 0 l x y f1).next, (named_found y f).3)
 
 -- A FUNCTION
-pub function_tied : (m l : ℕ) (x : List ℕ) (fs : List Mention) (a : Expression) → ETied a → EInside a → (bs : List Binding) (p : Place) (s : Spot) (d : Defined) → d.found.next ≡ s.number → s.number + (1 + numbers a) < 2 ^ 32
+pub function_tied : (m l : ℕ) (x : List ℕ) (fs : List Mention) (a : Expression) → ETied a → EInside a → (bs : List Binding) (p : Enclosing) (s : Spot) (d : Defined) → d.found.next ≡ s.number → s.number + (1 + numbers a) < 2 ^ 32
     → Tied (told_one_defined m bs p s (function l x fs a)) (1 + numbers a) d.found (one_defined m bs (function l x fs a) d).found
 function_tied m l x fs a ta ia bs p s d e fits =
     let f : Found = listed m l x d.found in
@@ -243,13 +243,13 @@ function_tied m l x fs a ta ia bs p s d e fits =
     let k : ℕ = s.number in
     let g : Found = headed k l x fs (bound_in bs x) (takes f) in
     let cs : List Binding = with_formals k 2 fs bs in
-    let q : Place = called false k (length fs) in
+    let q : Enclosing = called false k (length fs) in
     let g_next : g.next ≡ u.number = omega (arith, headed_next k l x fs (bound_in bs x) (takes f), same, fits) in
     subst T (sym same)
     (procedure_tied m k l (symbols a) (numbers a) s x fs (bound_in bs x) (told Value cs q u a) d.found (evaluated Value cs q a g) (omega (arith, e, fits)) (wider _ _ (ia Value cs q u) (omega arith) (omega arith)) (ta Value tt cs q u g g_next (omega (arith, fits))))
 
 -- A ROUTINE
-pub routine_tied : (m l : ℕ) (x : List ℕ) (fs : List Mention) (c : Action) → CTied c → CInside c → (bs : List Binding) (p : Place) (s : Spot) (d : Defined) → d.found.next ≡ s.number → s.number + ((2 + length (labels_of c)) + numbers_done c) < 2 ^ 32
+pub routine_tied : (m l : ℕ) (x : List ℕ) (fs : List Mention) (c : Action) → CTied c → CInside c → (bs : List Binding) (p : Enclosing) (s : Spot) (d : Defined) → d.found.next ≡ s.number → s.number + ((2 + length (labels_of c)) + numbers_done c) < 2 ^ 32
     → Tied (told_one_defined m bs p s (routine l x fs c)) ((2 + length (labels_of c)) + numbers_done c) d.found (one_defined m bs (routine l x fs c) d).found
 routine_tied m l x fs c tc ic bs p s d e fits =
     let f : Found = listed m l x d.found in
@@ -261,7 +261,7 @@ routine_tied m l x fs c tc ic bs p s d e fits =
     let g_next : g.next ≡ k + 1 = omega (arith, headed_next k l x fs (bound_in bs x) (takes f), same, fits) in
     let zs : List Binding = with_formals k 2 fs bs in
     let cs : List Binding = labels_in_scope k (k + 2) (labels_of c) zs in
-    let q : Place = labelled (k + 1) (called true k (length fs)) in
+    let q : Enclosing = labelled (k + 1) (called true k (length fs)) in
     let g' : Found = moved ((g.next + 1) + L) g in
     let body : Tied (told_done cs q u c) (numbers_done c) g' (done cs q c g') = tc cs q u g' (omega (arith, g_next)) (omega (arith, fits)) in
     let all : Tied (told_done cs q u c) ((1 + L) + numbers_done c) g (done cs q c g') = behind_it (no_span u.place) (ic cs q u) (omega arith) (moved_tied (1 + L) g'.next g (omega arith)) body in

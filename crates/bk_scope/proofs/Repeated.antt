@@ -3,7 +3,7 @@ use Rattle.std.proofs.Common.{◌≡◌, ℕ, zero, suc, ◌+◌, ◌≤◌, Boo
 use Rattle.std.proofs.lemmas.Bool.{eq-eqb, false≢true}
 use Rattle.std.proofs.lemmas.List.{append-nil}
 use Rattle.bk_tree.specs.Tree.{Action, Actions, empty, assign, call, goto, for_loop, result, simple, label, case_of, default, when, test, while, switch, block, repeat, repeat_while, no_actions, also, no_declarations, declare}
-use Rattle.bk_scope.specs.declared.place.Place.{Place}
+use Rattle.bk_scope.specs.declared.place.Enclosing.{Enclosing}
 use Rattle.bk_scope.specs.declared.role.Role.TheVariants.{Value, Truth}
 use Rattle.bk_scope.specs.Scope.{Binding, bound_in}
 use Rattle.bk_scope.specs.Wrong.{case_repeated, default_repeated}
@@ -136,11 +136,11 @@ made_default m n l = record {
   one = λ cs h. (omega arith, λ t. not_yet (is_claimed (defaulting m) cs) _ h);
 }
 
-case_head : (m : ℕ) (p : Place) (y : Option ℕ) (n l : ℕ) → p.switch ≡ Some m → Made m (chosen_at p.switch n l y) (word_if_any y) 0
+case_head : (m : ℕ) (p : Enclosing) (y : Option ℕ) (n l : ℕ) → p.switch ≡ Some m → Made m (chosen_at p.switch n l y) (word_if_any y) 0
 case_head m p None n l e = made_none m _
 case_head m p (Some v) n l e = subst (λ z. Made m (chosen_at z n l (Some v)) (v ∷ []) 0) (sym e) (made_case m v n l)
 
-default_head : (m : ℕ) (p : Place) (n l : ℕ) → p.switch ≡ Some m → Made m (defaulted_at p.switch n l) [] 1
+default_head : (m : ℕ) (p : Enclosing) (n l : ℕ) → p.switch ≡ Some m → Made m (defaulted_at p.switch n l) [] 1
 default_head m p n l e = subst (λ z. Made m (defaulted_at z n l) [] 1) (sym e) (made_default m n l)
 
 -- behind something, or in front of it, of which no claim belongs to the SWITCHON
@@ -151,7 +151,7 @@ in_front : {m n : ℕ} {vs : List ℕ} {xs : List Point} (ys : List Point) → M
 in_front {m = m} {n = n} {vs = vs} {xs = xs} ys a = subst (λ i. Made m (xs ++ ys) vs i) (omega arith) (subst (λ us. Made m (xs ++ ys) us (n + 0)) (append-nil vs) (made_both a (made_none m ys)))
 
 mutual
-  made : (c : Action) (m : ℕ) (bs : List Binding) (p : Place) (s : Spot) → p.switch ≡ Some m → Made m (told_done bs p s c) (case_words bs c) (defaults c)
+  made : (c : Action) (m : ℕ) (bs : List Binding) (p : Enclosing) (s : Spot) → p.switch ≡ Some m → Made m (told_done bs p s c) (case_words bs c) (defaults c)
   made empty m bs p s e = made_none m _
   made (assign l xs es) m bs p s e = made_none m _
   made (call l f es) m bs p s e = made_none m _
@@ -174,7 +174,7 @@ mutual
   made (repeat l c) m bs p s e = made c m bs (looping p) s e
   made (repeat_while l b c f) m bs p s e = in_front (told Truth bs p (behind_done c s) f) (made c m bs (looping p) s e)
 
-  made_each : (cs : Actions) (m : ℕ) (bs : List Binding) (p : Place) (s : Spot) → p.switch ≡ Some m → Made m (told_done_each bs p s cs) (case_words_each bs cs) (defaults_each cs)
+  made_each : (cs : Actions) (m : ℕ) (bs : List Binding) (p : Enclosing) (s : Spot) → p.switch ≡ Some m → Made m (told_done_each bs p s cs) (case_words_each bs cs) (defaults_each cs)
   made_each no_actions m bs p s e = made_none m _
   made_each (also c cs) m bs p s e = made_both (made c m bs p s e) (made_each cs m bs p (behind_done c s) e)
 

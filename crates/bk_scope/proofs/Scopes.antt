@@ -3,7 +3,7 @@ use Rattle.std.proofs.Common.{◌≡◌, ℕ, ◌+◌, ◌^◌, ◌<◌, List, [
 use Rattle.std.proofs.lemmas.List.{append-nil}
 use Rattle.bk_tree.specs.Tree.{Expression, Action, Actions, Declaration, Declarations, valof, switch, block, declare}
 use Rattle.bk_scope.specs.declared.bound.Bound.TheVariants.{Label}
-use Rattle.bk_scope.specs.declared.place.Place.{Place}
+use Rattle.bk_scope.specs.declared.place.Enclosing.{Enclosing}
 use Rattle.bk_scope.specs.declared.role.Role.TheVariants.{Value}
 use Rattle.bk_scope.specs.Scope.{Binding, bind}
 use Rattle.bk_scope.specs.Found.{Found, takes, reaches}
@@ -31,10 +31,10 @@ pub no_span : (n : ℕ) → Spans n n []
 no_span n = record { inside = tt }
 
 -- a depth is reached
-pub pushed_tied : (p : Place) (d : ℕ) (f : Found) → Tied (pushed p d) 0 f (reaches (p.depth + d) f)
+pub pushed_tied : (p : Enclosing) (d : ℕ) (f : Found) → Tied (pushed p d) 0 f (reaches (p.depth + d) f)
 pushed_tied p d f = record { first = sym (else_none f.first); claims = refl; meanings = sym (append-nil f.meanings); words = sym (append-nil f.words); next = omega arith; deepest = refl }
 
-pub pushed_spans : (n : ℕ) (p : Place) (d : ℕ) → Spans n n (pushed p d)
+pub pushed_spans : (n : ℕ) (p : Enclosing) (d : ℕ) → Spans n n (pushed p d)
 pushed_spans n p d = record { inside = tt }
 
 -- where a number is taken that is not the last
@@ -61,7 +61,7 @@ pub valof_tied : (l : ℕ) (c : Action) → CTied c → CInside c → ETied (val
 valof_tied l c tc ic r h bs p s f e fits = at_spot (λ u. told r bs p u (valof l c)) here s e where
   here : (n : ℕ) → Tied (told r bs p (record { place = n; number = f.next }) (valof l c)) (numbers (valof l c)) f (evaluated r bs p (valof l c) f)
   here n =
-      let q : Place = labelled f.next (valued p) in
+      let q : Enclosing = labelled f.next (valued p) in
       let u : Spot = onward 1 (1 + length (labels_of c)) (record { place = n; number = f.next }) in
       let g : Found = moved ((f.next + 1) + length (labels_of c)) f in
       let cs : List Binding = labels_in_scope p.procedure (f.next + 1) (labels_of c) bs in
@@ -89,18 +89,18 @@ switch_tied l a c ta ia tc ic bs p s f e fits =
 
 -- a block with declarations
 pub record DsTied (ds : Declarations) : Type 0 where
-  pub scope : (bs : List Binding) (p : Place) (s : Spot) (f : Found) → f.next ≡ s.number → s.number + numbers_declared ds < 2 ^ 32 → (declared bs p ds f).scope ≡ scope_behind bs p s ds
-  pub place : (bs : List Binding) (p : Place) (s : Spot) (f : Found) → f.next ≡ s.number → s.number + numbers_declared ds < 2 ^ 32 → (declared bs p ds f).place ≡ place_behind_all bs p s ds
-  pub found : (bs : List Binding) (p : Place) (s : Spot) (f : Found) → f.next ≡ s.number → s.number + numbers_declared ds < 2 ^ 32 → Tied (told_declared bs p s ds) (numbers_declared ds) f (declared bs p ds f).found
+  pub scope : (bs : List Binding) (p : Enclosing) (s : Spot) (f : Found) → f.next ≡ s.number → s.number + numbers_declared ds < 2 ^ 32 → (declared bs p ds f).scope ≡ scope_behind bs p s ds
+  pub place : (bs : List Binding) (p : Enclosing) (s : Spot) (f : Found) → f.next ≡ s.number → s.number + numbers_declared ds < 2 ^ 32 → (declared bs p ds f).place ≡ place_behind_all bs p s ds
+  pub found : (bs : List Binding) (p : Enclosing) (s : Spot) (f : Found) → f.next ≡ s.number → s.number + numbers_declared ds < 2 ^ 32 → Tied (told_declared bs p s ds) (numbers_declared ds) f (declared bs p ds f).found
 
 abbrev pub DsInside : Declarations → Type 0
-DsInside ds = (bs : List Binding) (p : Place) (s : Spot) → Spans s.place (s.place + symbols_declared ds) (told_declared bs p s ds)
+DsInside ds = (bs : List Binding) (p : Enclosing) (s : Spot) → Spans s.place (s.place + symbols_declared ds) (told_declared bs p s ds)
 
 abbrev pub CsTied : Actions → Type 0
-CsTied cs = (bs : List Binding) (p : Place) (s : Spot) (f : Found) → f.next ≡ s.number → s.number + numbers_done_each cs < 2 ^ 32 → Tied (told_done_each bs p s cs) (numbers_done_each cs) f (each_done bs p cs f)
+CsTied cs = (bs : List Binding) (p : Enclosing) (s : Spot) (f : Found) → f.next ≡ s.number → s.number + numbers_done_each cs < 2 ^ 32 → Tied (told_done_each bs p s cs) (numbers_done_each cs) f (each_done bs p cs f)
 
 abbrev pub CsInside : Actions → Type 0
-CsInside cs = (bs : List Binding) (p : Place) (s : Spot) → Spans s.place (s.place + symbols_done_each cs) (told_done_each bs p s cs)
+CsInside cs = (bs : List Binding) (p : Enclosing) (s : Spot) → Spans s.place (s.place + symbols_done_each cs) (told_done_each bs p s cs)
 
 pub block_tied : (l : ℕ) (d : Declaration) (ds : Declarations) (cs : Actions) → DsTied (declare d ds) → DsInside (declare d ds) → CsTied cs → CsInside cs → CTied (block l (declare d ds) cs)
 block_tied l d ds cs td id tc ic bs p s f e fits =
@@ -108,7 +108,7 @@ block_tied l d ds cs td id tc ic bs p s f e fits =
     let u : Spot = behind_declared (declare d ds) s in
     let one : Tied (told_declared bs p s (declare d ds)) (numbers_declared (declare d ds)) f b.found = td.found bs p s f e (omega (arith, fits)) in
     let same : b.found.next ≡ u.number = omega (arith, one.next, e) in
-    let q : Place = labelled u.number (place_behind_all bs p s (declare d ds)) in
+    let q : Enclosing = labelled u.number (place_behind_all bs p s (declare d ds)) in
     let xs : List Binding = labels_in_scope p.procedure (u.number + 1) (labels_of_each cs) (scope_behind bs p s (declare d ds)) in
     let v : Spot = numbered (1 + length (labels_of_each cs)) u in
     let g : Found = moved ((b.found.next + 1) + length (labels_of_each cs)) b.found in

@@ -17,7 +17,7 @@ use Rattle.bk_tree.specs.Tree.{Mention, Expression, Expressions, Action, Actions
 use Rattle.bk_tree.specs.Parts.{line_of, size}
 use Rattle.bk_scope.specs.declared.bound.Bound.{Bound}
 use Rattle.bk_scope.specs.declared.bound.Bound.TheVariants.{Constant, Global, Static, Variable, Label}
-use Rattle.bk_scope.specs.declared.place.Place.{Place}
+use Rattle.bk_scope.specs.declared.place.Enclosing.{Enclosing}
 use Rattle.bk_scope.specs.declared.role.Role.{Role}
 use Rattle.bk_scope.specs.declared.role.Role.TheVariants.{Value, Truth, Address, Destination}
 use Rattle.bk_scope.specs.Scope.{Binding, bound_in, bind, is_global}
@@ -195,13 +195,13 @@ operands_pushing o.Either (Address b l) = tt
 operands_pushing o.Either (Destination b l) = tt
 operands_pushing _ r = tt
 
-name_pushes : (r : Role) (p : Place) (k : ℕ) (y : Option Bound) → Pushing r → Safe k (depth_named r p y) → 1 ≤ k → p.depth + 1 ≤ FRAME_WORDS
+name_pushes : (r : Role) (p : Enclosing) (k : ℕ) (y : Option Bound) → Pushing r → Safe k (depth_named r p y) → 1 ≤ k → p.depth + 1 ≤ FRAME_WORDS
 name_pushes Value p k y u h t = h.all.0 t
 name_pushes Truth p k y u h t = h.all.0 t
 name_pushes (Address b l) p k y u h t = h.all.0 t
 name_pushes (Destination b l) p k y u h t = absurd u
 
-pub pushes : (e : Expression) (r : Role) (bs : List Binding) (p : Place) (s : Spot) (k : ℕ) → Pushing r → Safe k (told r bs p s e) → 1 ≤ k → p.depth + 1 ≤ FRAME_WORDS
+pub pushes : (e : Expression) (r : Role) (bs : List Binding) (p : Enclosing) (s : Spot) (k : ℕ) → Pushing r → Safe k (told r bs p s e) → 1 ≤ k → p.depth + 1 ≤ FRAME_WORDS
 pushes (name l x) r bs p s k u h t = name_pushes r p k (bound_in bs x) u (in_second (used_at p.procedure s.place l x (bound_in bs x)) (depth_named r p (bound_in bs x)) h) t
 pushes (number l n) r bs p s k u h t = h.all.0 t
 pushes (text l x) r bs p s k u h t = h.all.0 t
@@ -222,7 +222,7 @@ pushes (valof l c) r bs p s k u h t =
 pushes (table l es) r bs p s k u h t = (in_second (each_constant bs p.procedure (past 1 s) es) (pushed p 1) h).all.0 t
 
 -- the second operand, by its place
-second : (f : Operator) (r : Role) (p : Place) (P : Place → Type 0) → P p → P (deeper 1 p) → P (place_of_second f r p)
+second : (f : Operator) (r : Role) (p : Enclosing) (P : Enclosing → Type 0) → P p → P (deeper 1 p) → P (place_of_second f r p)
 second o.Both Truth p P a b = a
 second o.Either Truth p P a b = a
 second o.Both Value p P a b = b
@@ -234,30 +234,30 @@ second o.Either (Destination c l) p P a b = b
 second _ r p P a b = b
 
 -- the procedure is the same behind declarations
-same_behind_starts : (is : Starts) (bs : List Binding) (p : Place) → (place_behind bs p is).procedure ≡ p.procedure
+same_behind_starts : (is : Starts) (bs : List Binding) (p : Enclosing) → (place_behind bs p is).procedure ≡ p.procedure
 same_behind_starts no_starts bs p = refl
 same_behind_starts (value e is) bs p = same_behind_starts is bs (deeper 1 p)
 same_behind_starts (vector l e is) bs p = same_behind_starts is bs (deeper (words_of_start bs e + 1) p)
 
-same_behind_one_defined : (d : Definition) (bs : List Binding) (p : Place) → (place_behind_one_defined bs p d).procedure ≡ p.procedure
+same_behind_one_defined : (d : Definition) (bs : List Binding) (p : Enclosing) → (place_behind_one_defined bs p d).procedure ≡ p.procedure
 same_behind_one_defined (variables l xs is) bs p = same_behind_starts is bs p
 same_behind_one_defined (routine l x fs c) bs p = refl
 same_behind_one_defined (function l x fs e) bs p = refl
 
-same_behind_defined : (ds : Definitions) (bs : List Binding) (p : Place) → (place_behind_defined bs p ds).procedure ≡ p.procedure
+same_behind_defined : (ds : Definitions) (bs : List Binding) (p : Enclosing) → (place_behind_defined bs p ds).procedure ≡ p.procedure
 same_behind_defined no_definitions bs p = refl
 same_behind_defined (define d ds) bs p = same_behind_defined ds bs (place_behind_one_defined bs p d) ∙ same_behind_one_defined d bs p
 
-same_behind_one : (d : Declaration) (bs : List Binding) (p : Place) (s : Spot) → (place_behind_one bs p s d).procedure ≡ p.procedure
+same_behind_one : (d : Declaration) (bs : List Binding) (p : Enclosing) (s : Spot) → (place_behind_one bs p s d).procedure ≡ p.procedure
 same_behind_one (constants l f is) bs p s = refl
 same_behind_one (definitions l ds) bs p s = same_behind_defined ds (procedures_in_scope (s.number + 1) ds bs) p
 
-same_behind_all : (ds : Declarations) (bs : List Binding) (p : Place) (s : Spot) → (place_behind_all bs p s ds).procedure ≡ p.procedure
+same_behind_all : (ds : Declarations) (bs : List Binding) (p : Enclosing) (s : Spot) → (place_behind_all bs p s ds).procedure ≡ p.procedure
 same_behind_all no_declarations bs p s = refl
 same_behind_all (declare d ds) bs p s = same_behind_all ds (scope_behind_one bs p s d) (place_behind_one bs p s d) (behind_one_declared d s) ∙ same_behind_one d bs p s
 
 -- and the frame grows
-grow_starts : (is : Starts) (bs : List Binding) (p : Place) → p.depth ≤ FRAME_WORDS + 1 → (p.depth ≤ (place_behind bs p is).depth) × ((place_behind bs p is).depth ≤ FRAME_WORDS + 1)
+grow_starts : (is : Starts) (bs : List Binding) (p : Enclosing) → p.depth ≤ FRAME_WORDS + 1 → (p.depth ≤ (place_behind bs p is).depth) × ((place_behind bs p is).depth ≤ FRAME_WORDS + 1)
 grow_starts no_starts bs p h = (omega arith, h)
 grow_starts (value e is) bs p h =
     let r : ((deeper 1 p).depth ≤ (place_behind bs (deeper 1 p) is).depth) × ((place_behind bs (deeper 1 p) is).depth ≤ FRAME_WORDS + 1) = grow_starts is bs (deeper 1 p) (omega arith) in
@@ -267,12 +267,12 @@ grow_starts (vector l e is) bs p h =
     let r : ((deeper w p).depth ≤ (place_behind bs (deeper w p) is).depth) × ((place_behind bs (deeper w p) is).depth ≤ FRAME_WORDS + 1) = grow_starts is bs (deeper w p) (omega arith) in
     (omega (arith, h, r.0), r.1)
 
-grow_one_defined : (d : Definition) (bs : List Binding) (p : Place) → p.depth ≤ FRAME_WORDS + 1 → (p.depth ≤ (place_behind_one_defined bs p d).depth) × ((place_behind_one_defined bs p d).depth ≤ FRAME_WORDS + 1)
+grow_one_defined : (d : Definition) (bs : List Binding) (p : Enclosing) → p.depth ≤ FRAME_WORDS + 1 → (p.depth ≤ (place_behind_one_defined bs p d).depth) × ((place_behind_one_defined bs p d).depth ≤ FRAME_WORDS + 1)
 grow_one_defined (variables l xs is) bs p h = grow_starts is bs p h
 grow_one_defined (routine l x fs c) bs p h = (omega arith, h)
 grow_one_defined (function l x fs e) bs p h = (omega arith, h)
 
-grow_defined : (ds : Definitions) (bs : List Binding) (p : Place) → p.depth ≤ FRAME_WORDS + 1 → (p.depth ≤ (place_behind_defined bs p ds).depth) × ((place_behind_defined bs p ds).depth ≤ FRAME_WORDS + 1)
+grow_defined : (ds : Definitions) (bs : List Binding) (p : Enclosing) → p.depth ≤ FRAME_WORDS + 1 → (p.depth ≤ (place_behind_defined bs p ds).depth) × ((place_behind_defined bs p ds).depth ≤ FRAME_WORDS + 1)
 grow_defined no_definitions bs p h = (omega arith, h)
 grow_defined (define d ds) bs p h =
     let a : (p.depth ≤ (place_behind_one_defined bs p d).depth) × ((place_behind_one_defined bs p d).depth ≤ FRAME_WORDS + 1) = grow_one_defined d bs p h in
@@ -280,7 +280,7 @@ grow_defined (define d ds) bs p h =
     (omega (arith, a.0, b.0), b.1)
 
 -- VARIABLES OF A LET
-variables_fit : (is : Starts) (xs : List Mention) (bs : List Binding) (p : Place) (s : Spot) (k n : ℕ) → k < n → p.procedure ≡ k → 2 ≤ p.depth → p.depth ≤ FRAME_WORDS + 1 → Safe k (told_started bs p s is) → Fits k (place_behind bs p is).depth n (variables_of bs p xs is)
+variables_fit : (is : Starts) (xs : List Mention) (bs : List Binding) (p : Enclosing) (s : Spot) (k n : ℕ) → k < n → p.procedure ≡ k → 2 ≤ p.depth → p.depth ≤ FRAME_WORDS + 1 → Safe k (told_started bs p s is) → Fits k (place_behind bs p is).depth n (variables_of bs p xs is)
 variables_fit no_starts [] bs p s k n a e two most h = tt
 variables_fit no_starts (x ∷ xs) bs p s k n a e two most h = tt
 variables_fit (value v is) [] bs p s k n a e two most h = tt
@@ -310,10 +310,10 @@ variables_fit (vector l v is) (x ∷ xs) bs p s k n a e two most h =
       variables_fit is xs bs (deeper (w + 1) p) (behind_constant v s) k n a e (omega (arith, two)) (omega arith) (in_second (ys ++ pushed p (w + 1)) rest h),
     )
 
-let_fits : (ds : Definitions) (m : ℕ) (bs : List Binding) (p : Place) (s : Spot) (k n : ℕ) → k < n → p.procedure ≡ k → 2 ≤ p.depth → p.depth ≤ FRAME_WORDS + 1 → Safe k (told_defined m bs p s ds) → Fits k (place_behind_defined bs p ds).depth n (variables_in_scope bs p ds)
+let_fits : (ds : Definitions) (m : ℕ) (bs : List Binding) (p : Enclosing) (s : Spot) (k n : ℕ) → k < n → p.procedure ≡ k → 2 ≤ p.depth → p.depth ≤ FRAME_WORDS + 1 → Safe k (told_defined m bs p s ds) → Fits k (place_behind_defined bs p ds).depth n (variables_in_scope bs p ds)
 let_fits no_definitions m bs p s k n a e two most h = tt
 let_fits (define (variables l xs is) ds) m bs p s k n a e two most h =
-    let z : Place = place_behind bs p is in
+    let z : Enclosing = place_behind bs p is in
     let v : Spot = behind_one_defined (variables l xs is) s in
     let g : (p.depth ≤ z.depth) × (z.depth ≤ FRAME_WORDS + 1) = grow_starts is bs p most in
     let i : (z.depth ≤ (place_behind_defined bs z ds).depth) × ((place_behind_defined bs z ds).depth ≤ FRAME_WORDS + 1) = grow_defined ds bs z g.1 in
@@ -374,7 +374,7 @@ global_sound (item l x e is) m bs k d n s cs f g h =
     ((z, r.0), r.1)
 
 -- BEHIND A DECLARATION
-behind_one_around : (d : Declaration) (bs : List Binding) (p : Place) (s : Spot) (k n : ℕ) → p.procedure ≡ k → s.number ≤ n → Around bs k p.depth s.number → Safe k (told_one_declared bs p s d) → Around (scope_behind_one bs p s d) k (place_behind_one bs p s d).depth n
+behind_one_around : (d : Declaration) (bs : List Binding) (p : Enclosing) (s : Spot) (k n : ℕ) → p.procedure ≡ k → s.number ≤ n → Around bs k p.depth s.number → Safe k (told_one_declared bs p s d) → Around (scope_behind_one bs p s d) k (place_behind_one bs p s d).depth n
 behind_one_around (constants l sort.Manifest is) bs p s k n e i a h = record {
   fits = (manifest_sound is s.number bs k p.depth n (numbered 1 s) (fits_more k p.depth p.depth s.number n bs (omega arith) i a.fits) (subst (λ j. Safe k (manifest_items s.number bs j (numbered 1 s) is)) e h)).1;
   two = a.two;
@@ -392,7 +392,7 @@ behind_one_around (constants l sort.Global is) bs p s k n e i a h =
     }
 behind_one_around (definitions l ds) bs p s k n e i a h =
     let cs : List Binding = procedures_in_scope (s.number + 1) ds bs in
-    let z : Place = place_behind_defined cs p ds in
+    let z : Enclosing = place_behind_defined cs p ds in
     let g : (p.depth ≤ z.depth) × (z.depth ≤ FRAME_WORDS + 1) = grow_defined ds cs p a.most in
     record {
       fits = all_fit k z.depth n (variables_in_scope cs p ds) cs (let_fits ds s.number cs p (numbered (1 + procedures_in ds) s) k n (omega (arith, a.older, i)) e a.two a.most h)
@@ -402,21 +402,21 @@ behind_one_around (definitions l ds) bs p s k n e i a h =
       older = omega (arith, a.older, i);
     }
 
-behind_all_around : (ds : Declarations) (bs : List Binding) (p : Place) (s : Spot) (k n : ℕ) → p.procedure ≡ k → (behind_declared ds s).number ≤ n → Around bs k p.depth s.number → Safe k (told_declared bs p s ds) → Around (scope_behind bs p s ds) k (place_behind_all bs p s ds).depth n
+behind_all_around : (ds : Declarations) (bs : List Binding) (p : Enclosing) (s : Spot) (k n : ℕ) → p.procedure ≡ k → (behind_declared ds s).number ≤ n → Around bs k p.depth s.number → Safe k (told_declared bs p s ds) → Around (scope_behind bs p s ds) k (place_behind_all bs p s ds).depth n
 behind_all_around no_declarations bs p s k n e i a h = onto n a (omega (arith, i))
 behind_all_around (declare d ds) bs p s k n e i a h =
     let xs : List Point = told_one_declared bs p s d in
     let cs : List Binding = scope_behind_one bs p s d in
-    let z : Place = place_behind_one bs p s d in
+    let z : Enclosing = place_behind_one bs p s d in
     let v : Spot = behind_one_declared d s in
     let ys : List Point = told_declared cs z v ds in
     behind_all_around ds cs z v k n (same_behind_one d bs p s ∙ e) (omega (arith, i)) (behind_one_around d bs p s k v.number e (omega arith) a (in_first xs ys h)) (in_second xs ys h)
 
 -- where a node of another place stands in the same procedure
-same_around : {bs : List Binding} {d n : ℕ} (z p : Place) → z.procedure ≡ p.procedure → Around bs p.procedure d n → Around bs z.procedure d n
+same_around : {bs : List Binding} {d n : ℕ} (z p : Enclosing) → z.procedure ≡ p.procedure → Around bs p.procedure d n → Around bs z.procedure d n
 same_around {bs = bs} {d = d} {n = n} z p e a = subst (λ k. Around bs k d n) (sym e) a
 
-same_safe : {xs : List Point} (z p : Place) → z.procedure ≡ p.procedure → Safe p.procedure xs → Safe z.procedure xs
+same_safe : {xs : List Point} (z p : Enclosing) → z.procedure ≡ p.procedure → Safe p.procedure xs → Safe z.procedure xs
 same_safe {xs = xs} z p e a = subst (λ k. Safe k xs) (sym e) a
 
 prefix_sound : (f : Prefix) (bs : List Binding) (s : Spot) (e : Expression) (k : ℕ) → Safe k (prefixed f bs s e) → PrefixSound f bs e
@@ -426,7 +426,7 @@ prefix_sound q.Plus bs s e k h = tt
 prefix_sound q.Minus bs s e k h = tt
 prefix_sound q.Not bs s e k h = tt
 
-stands : (p : Place) (n l : ℕ) (f : Simple) (k : ℕ) → Safe k (single_at p n l f) → Stands p f
+stands : (p : Enclosing) (n l : ℕ) (f : Simple) (k : ℕ) → Safe k (single_at p n l f) → Stands p f
 stands p n l w.Break k h = unless_true p.in_loop n l no_loop h
 stands p n l w.Loop k h = unless_true p.in_loop n l no_loop h
 stands p n l w.EndCase k h = unless_true p.in_switch n l no_switchon h
@@ -539,7 +539,7 @@ inner_around bs k d s fs body n a h c =
 
 -- EACH NODE
 mutual
-  pub sound : (e : Expression) (r : Role) (bs : List Binding) (p : Place) (s : Spot) → Around bs p.procedure p.depth s.number → Safe p.procedure (told r bs p s e) → Sound r bs p s e
+  pub sound : (e : Expression) (r : Role) (bs : List Binding) (p : Enclosing) (s : Spot) → Around bs p.procedure p.depth s.number → Safe p.procedure (told r bs p s e) → Sound r bs p s e
   sound (name l x) r bs p s a h =
       usable (bound_in bs x) p.procedure p.depth s.number s.place l x (λ z e. bound_fits p.procedure p.depth s.number bs x z a.fits e) (in_first (used_at p.procedure s.place l x (bound_in bs x)) (depth_named r p (bound_in bs x)) h)
   sound (number l n) r bs p s a h = tt
@@ -556,7 +556,7 @@ mutual
       let u : Spot = past 1 (behind c s) in
       let xs : List Point = told t bs p s c in (
         sound c t bs p s a (in_first xs (told t bs (place_of_second f r p) u d) h),
-        second f r p (λ (z : Place). Safe p.procedure (told t bs z u d) → Sound t bs z u d)
+        second f r p (λ (z : Enclosing). Safe p.procedure (told t bs z u d) → Sound t bs z u d)
             (λ i. sound d t bs p u (onto u.number a (omega arith)) i) (λ i. sound d t bs (deeper 1 p) u (below 1 u.number a (omega arith)) i)
             (in_second xs (told t bs (place_of_second f r p) u d) h),
       )
@@ -568,26 +568,26 @@ mutual
       let zs : List Point = told Value bs p v e in
       (sound c Truth bs p s a (in_first xs ys (in_first (xs ++ ys) zs h)), sound d Value bs p u (onto u.number a (omega arith)) (in_second xs ys (in_first (xs ++ ys) zs h)), sound e Value bs p v (onto v.number a (omega arith)) (in_second (xs ++ ys) zs h))
   sound (apply l m e es) r bs p s a h =
-      let q : Place = deeper (size es + 2) p in
+      let q : Enclosing = deeper (size es + 2) p in
       let u : Spot = past 1 (behind e s) in
       let xs : List Point = told Value bs q s e in
       let ys : List Point = told_each 1 bs (deeper 2 p) u es in
       (sound e Value bs q s (below (size es + 2) s.number a (omega arith)) (in_first xs ys h), sound_each es 1 bs (deeper 2 p) u (below 2 u.number a (omega arith)) (in_second xs ys h))
   sound (valof l c) r bs p s a h =
       let cs : List Binding = labels_in_scope p.procedure (s.number + 1) (labels_of c) bs in
-      let q : Place = labelled s.number (valued p) in
+      let q : Enclosing = labelled s.number (valued p) in
       let u : Spot = onward 1 (1 + length (labels_of c)) s in
       sound_done c cs q u (all_go (labels_of c) p.procedure (s.number + 1) bs) (with_labels_around (s.number + 1) (labels_of c) (onto u.number a (omega arith))) (in_first (told_done cs q u c) (pushed p 1) h)
   sound (table l es) r bs p s a h = constants_worded es bs p.procedure p.depth s.number (past 1 s) a.fits (in_first (each_constant bs p.procedure (past 1 s) es) (pushed p 1) h)
 
-  pub sound_each : (es : Expressions) (n : ℕ) (bs : List Binding) (p : Place) (s : Spot) → Around bs p.procedure p.depth s.number → Safe p.procedure (told_each n bs p s es) → SoundEach n bs p s es
+  pub sound_each : (es : Expressions) (n : ℕ) (bs : List Binding) (p : Enclosing) (s : Spot) → Around bs p.procedure p.depth s.number → Safe p.procedure (told_each n bs p s es) → SoundEach n bs p s es
   sound_each none n bs p s a h = tt
   sound_each (more e es) n bs p s a h =
       let xs : List Point = told Value bs p s e in
       let ys : List Point = told_each n bs (deeper n p) (behind e s) es in
       (sound e Value bs p s a (in_first xs ys h), sound_each es n bs (deeper n p) (behind e s) (below n (behind e s).number a (omega arith)) (in_second xs ys h))
 
-  pub sound_destinations : (es : Expressions) (bs : List Binding) (p : Place) (s : Spot) → Around bs p.procedure p.depth s.number → Safe p.procedure (told_destinations bs p s es) → SoundDestinations bs p s es
+  pub sound_destinations : (es : Expressions) (bs : List Binding) (p : Enclosing) (s : Spot) → Around bs p.procedure p.depth s.number → Safe p.procedure (told_destinations bs p s es) → SoundDestinations bs p s es
   sound_destinations none bs p s a h = tt
   sound_destinations (more e es) bs p s a h =
       let xs : List Point = unless (assigned bs e) (at s.place (line_of e) not_assignable) in
@@ -598,14 +598,14 @@ mutual
         sound_destinations es bs p (behind e s) (onto (behind e s).number a (omega arith)) (in_second (xs ++ ys) zs h),
       )
 
-  pub sound_done : (c : Action) (bs : List Binding) (p : Place) (s : Spot) → AllGo p.procedure (labels_of c) bs → Around bs p.procedure p.depth s.number → Safe p.procedure (told_done bs p s c) → SoundDone bs p s c
+  pub sound_done : (c : Action) (bs : List Binding) (p : Enclosing) (s : Spot) → AllGo p.procedure (labels_of c) bs → Around bs p.procedure p.depth s.number → Safe p.procedure (told_done bs p s c) → SoundDone bs p s c
   sound_done empty bs p s g a h = tt
   sound_done (assign l us es) bs p s g a h =
       let xs : List Point = told_destinations bs (deeper 1 p) s us in
       let ys : List Point = told_each 0 bs p (behind_each us s) es in
       (sound_destinations us bs (deeper 1 p) s (below 1 s.number a (omega arith)) (in_first xs ys h), sound_each es 0 bs p (behind_each us s) (onto (behind_each us s).number a (omega arith)) (in_second xs ys h))
   sound_done (call l e es) bs p s g a h =
-      let q : Place = deeper (size es + 2) p in
+      let q : Enclosing = deeper (size es + 2) p in
       let xs : List Point = told Value bs q s e in
       let ys : List Point = told_each 1 bs (deeper 2 p) (behind e s) es in
       (sound e Value bs q s (below (size es + 2) s.number a (omega arith)) (in_first xs ys h), sound_each es 1 bs (deeper 2 p) (behind e s) (below 2 (behind e s).number a (omega arith)) (in_second xs ys h))
@@ -647,7 +647,7 @@ mutual
       let i : Spot = numbered (1 + length (labels_of e)) t in
       let cs : List Binding = bind x.letters (Variable p.procedure p.depth) bs in
       let ds : List Binding = labels_in_scope p.procedure (t.number + 1) (labels_of e) cs in
-      let q : Place = labelled t.number (looping (deeper 2 p)) in
+      let q : Enclosing = labelled t.number (looping (deeper 2 p)) in
       let ws : List Point = told Value bs p s b in
       let xs : List Point = told Value bs (deeper 1 p) u c in
       let ys : List Point = each_constant bs p.procedure v d in
@@ -668,7 +668,7 @@ mutual
       )
   sound_done (switch l e c) bs p s g a h =
       let u : Spot = numbered 1 (behind e s) in
-      let q : Place = switching (behind e s).number p in
+      let q : Enclosing = switching (behind e s).number p in
       let xs : List Point = told Value bs p s e in
       let zs : List Point = told_done bs q u c in
       (sound e Value bs p s a (in_first xs zs h), sound_done c bs q u g (onto u.number a (omega arith)) (in_second xs zs h))
@@ -680,13 +680,13 @@ mutual
   sound_done (block l no_declarations cs) bs p s g a h = sound_done_each cs bs p s g a h
   sound_done (block l (declare d ds) cs) bs p s g a h =
       let u : Spot = behind_declared (declare d ds) s in
-      let z : Place = place_behind_all bs p s (declare d ds) in
+      let z : Enclosing = place_behind_all bs p s (declare d ds) in
       let scope : List Binding = scope_behind bs p s (declare d ds) in
       let es : List Binding = labels_in_scope p.procedure (u.number + 1) (labels_of_each cs) scope in
       let v : Spot = numbered (1 + length (labels_of_each cs)) u in
       let v1 : Spot = behind_one_declared d s in
       let cs1 : List Binding = scope_behind_one bs p s d in
-      let z1 : Place = place_behind_one bs p s d in
+      let z1 : Enclosing = place_behind_one bs p s d in
       let x1 : List Point = told_one_declared bs p s d in
       let y1 : List Point = told_declared cs1 z1 v1 ds in
       let ys : List Point = told_done_each es (labelled u.number z) v cs in
@@ -703,25 +703,25 @@ mutual
       let zs : List Point = told Truth bs p (behind_done c s) e in
       (sound_done c bs (looping p) s g a (in_first xs zs h), sound e Truth bs p (behind_done c s) (onto (behind_done c s).number a (omega arith)) (in_second xs zs h))
 
-  pub sound_done_each : (cs : Actions) (bs : List Binding) (p : Place) (s : Spot) → AllGo p.procedure (labels_of_each cs) bs → Around bs p.procedure p.depth s.number → Safe p.procedure (told_done_each bs p s cs) → SoundDoneEach bs p s cs
+  pub sound_done_each : (cs : Actions) (bs : List Binding) (p : Enclosing) (s : Spot) → AllGo p.procedure (labels_of_each cs) bs → Around bs p.procedure p.depth s.number → Safe p.procedure (told_done_each bs p s cs) → SoundDoneEach bs p s cs
   sound_done_each no_actions bs p s g a h = tt
   sound_done_each (also c cs) bs p s g a h =
       let xs : List Point = told_done bs p s c in
       let zs : List Point = told_done_each bs p (behind_done c s) cs in
       (sound_done c bs p s (go_first p.procedure (labels_of c) (labels_of_each cs) bs g) a (in_first xs zs h), sound_done_each cs bs p (behind_done c s) (go_second p.procedure (labels_of c) (labels_of_each cs) bs g) (onto (behind_done c s).number a (omega arith)) (in_second xs zs h))
 
-  pub sound_declared : (ds : Declarations) (bs : List Binding) (p : Place) (s : Spot) → Around bs p.procedure p.depth s.number → Safe p.procedure (told_declared bs p s ds) → SoundDeclared bs p s ds
+  pub sound_declared : (ds : Declarations) (bs : List Binding) (p : Enclosing) (s : Spot) → Around bs p.procedure p.depth s.number → Safe p.procedure (told_declared bs p s ds) → SoundDeclared bs p s ds
   sound_declared no_declarations bs p s a h = tt
   sound_declared (declare d ds) bs p s a h =
       let v : Spot = behind_one_declared d s in
-      let z : Place = place_behind_one bs p s d in
+      let z : Enclosing = place_behind_one bs p s d in
       let cs : List Binding = scope_behind_one bs p s d in
       let xs : List Point = told_one_declared bs p s d in
       let ys : List Point = told_declared cs z v ds in
       let same : z.procedure ≡ p.procedure = same_behind_one d bs p s in
       (sound_one_declared d bs p s a (in_first xs ys h), sound_declared ds cs z v (same_around z p same (behind_one_around d bs p s p.procedure v.number refl (omega arith) a (in_first xs ys h))) (same_safe z p same (in_second xs ys h)))
 
-  pub sound_one_declared : (d : Declaration) (bs : List Binding) (p : Place) (s : Spot) → Around bs p.procedure p.depth s.number → Safe p.procedure (told_one_declared bs p s d) → SoundOneDeclared bs p s d
+  pub sound_one_declared : (d : Declaration) (bs : List Binding) (p : Enclosing) (s : Spot) → Around bs p.procedure p.depth s.number → Safe p.procedure (told_one_declared bs p s d) → SoundOneDeclared bs p s d
   sound_one_declared (constants l sort.Manifest is) bs p s a h = (manifest_sound is s.number bs p.procedure p.depth s.number (numbered 1 s) a.fits h).0
   sound_one_declared (constants l sort.Static is) bs p s a h = static_sound is s.number bs p.procedure p.depth s.number (numbered 1 s) a.fits h
   sound_one_declared (constants l sort.Global is) bs p s a h = (global_sound is s.number bs p.procedure p.depth s.number (numbered 1 s) bs a.fits a.fits h).0
@@ -730,11 +730,11 @@ mutual
       let cs : List Binding = procedures_in_scope (s.number + 1) ds bs in
       sound_defined ds s.number cs p u (all_callable ds p.procedure p.depth s.number (s.number + 1) bs a.fits) (record { fits = procedures_fit p.procedure p.depth u.number (s.number + 1) ds bs (fits_more p.procedure p.depth p.depth s.number u.number bs (omega arith) (omega arith) a.fits); two = a.two; most = a.most; older = omega (arith, a.older) }) h
 
-  pub sound_defined : (ds : Definitions) (m : ℕ) (bs : List Binding) (p : Place) (s : Spot) → AllCallable ds bs → Around bs p.procedure p.depth s.number → Safe p.procedure (told_defined m bs p s ds) → SoundDefined bs p s ds
+  pub sound_defined : (ds : Definitions) (m : ℕ) (bs : List Binding) (p : Enclosing) (s : Spot) → AllCallable ds bs → Around bs p.procedure p.depth s.number → Safe p.procedure (told_defined m bs p s ds) → SoundDefined bs p s ds
   sound_defined no_definitions m bs p s c a h = tt
   sound_defined (define d ds) m bs p s c a h =
       let v : Spot = behind_one_defined d s in
-      let z : Place = place_behind_one_defined bs p d in
+      let z : Enclosing = place_behind_one_defined bs p d in
       let xs : List Point = told_one_defined m bs p s d in
       let ys : List Point = told_defined m bs z v ds in
       let same : z.procedure ≡ p.procedure = same_behind_one_defined d bs p in
@@ -742,24 +742,24 @@ mutual
       let i : OneCallable d bs × AllCallable ds bs = one_callable d ds bs c in
       (sound_one_defined d m bs p s i.0 a (in_first xs ys h), sound_defined ds m bs z v i.1 (same_around z p same (wider_around z.depth v.number a g.0 g.1 (omega arith))) (same_safe z p same (in_second xs ys h)))
 
-  pub sound_one_defined : (d : Definition) (m : ℕ) (bs : List Binding) (p : Place) (s : Spot) → OneCallable d bs → Around bs p.procedure p.depth s.number → Safe p.procedure (told_one_defined m bs p s d) → SoundOneDefined bs p s d
+  pub sound_one_defined : (d : Definition) (m : ℕ) (bs : List Binding) (p : Enclosing) (s : Spot) → OneCallable d bs → Around bs p.procedure p.depth s.number → Safe p.procedure (told_one_defined m bs p s d) → SoundOneDefined bs p s d
   sound_one_defined (routine l x fs c) m bs p s g a h =
       let cs : List Binding = labels_in_scope s.number (s.number + 2) (labels_of c) (with_formals s.number 2 fs bs) in
-      let q : Place = labelled (s.number + 1) (called true s.number (length fs)) in
+      let q : Enclosing = labelled (s.number + 1) (called true s.number (length fs)) in
       let u : Spot = onward (1 + length fs) (2 + length (labels_of c)) s in
       let body : List Point = told_done cs q u c in
       let r : FrameSound (length fs) body × Safe s.number body = procedure_safe p.procedure m s.number s l x fs (bound_in bs x) body h in
       (g, r.0, sound_done c cs q u (all_go (labels_of c) s.number (s.number + 2) (with_formals s.number 2 fs bs)) (with_labels_around (s.number + 2) (labels_of c) (inner_around bs p.procedure p.depth s fs body u.number a r.0 (omega arith))) r.1)
   sound_one_defined (function l x fs e) m bs p s g a h =
       let cs : List Binding = with_formals s.number 2 fs bs in
-      let q : Place = called false s.number (length fs) in
+      let q : Enclosing = called false s.number (length fs) in
       let u : Spot = onward (1 + length fs) 1 s in
       let body : List Point = told Value cs q u e in
       let r : FrameSound (length fs) body × Safe s.number body = procedure_safe p.procedure m s.number s l x fs (bound_in bs x) body h in
       (g, r.0, sound e Value cs q u (inner_around bs p.procedure p.depth s fs body u.number a r.0 (omega arith)) r.1)
   sound_one_defined (variables l xs is) m bs p s g a h = sound_started is bs p (past (length xs) s) (onto (past (length xs) s).number a (omega arith)) (in_second (each_of m s.place xs) (told_started bs p (past (length xs) s) is) h)
 
-  pub sound_started : (is : Starts) (bs : List Binding) (p : Place) (s : Spot) → Around bs p.procedure p.depth s.number → Safe p.procedure (told_started bs p s is) → SoundStarted bs p s is
+  pub sound_started : (is : Starts) (bs : List Binding) (p : Enclosing) (s : Spot) → Around bs p.procedure p.depth s.number → Safe p.procedure (told_started bs p s is) → SoundStarted bs p s is
   sound_started no_starts bs p s a h = tt
   sound_started (value e is) bs p s a h =
       let xs : List Point = told Value bs p s e in

@@ -6,7 +6,7 @@ use Rattle.bk_tree.specs.Tree.{Expression, name, number, text, truth, query, par
 use Rattle.bk_tree.specs.Parts.{size}
 use Rattle.bk_scope.specs.declared.bound.Bound.{Bound}
 use Rattle.bk_scope.specs.declared.bound.Bound.TheVariants.{Constant, Global, Static, Variable, Label}
-use Rattle.bk_scope.specs.declared.place.Place.{Place}
+use Rattle.bk_scope.specs.declared.place.Enclosing.{Enclosing}
 use Rattle.bk_scope.specs.declared.role.Role.{Role}
 use Rattle.bk_scope.specs.declared.role.Role.TheVariants.{Value, Truth}
 use Rattle.bk_scope.specs.Scope.{Binding, bound_in}
@@ -44,7 +44,7 @@ name_early (Some (Constant w)) k n l x us cs h = absurd (false≢true h)
 name_early (Some (Global w)) k n l x us cs h = absurd (false≢true h)
 name_early (Some (Static w)) k n l x us cs h = absurd (false≢true h)
 
-pub begins_early : (e : Expression) (r : Role) (bs : List Binding) (p : Place) (s : Spot) (cs : List Claim) → begins_wrong bs p.procedure e ≡ true → Early s.place (judged cs (told r bs p s e))
+pub begins_early : (e : Expression) (r : Role) (bs : List Binding) (p : Enclosing) (s : Spot) (cs : List Claim) → begins_wrong bs p.procedure e ≡ true → Early s.place (judged cs (told r bs p s e))
 begins_early (name l x) r bs p s cs h = name_early (bound_in bs x) p.procedure s.place l x (depth_named r p (bound_in bs x)) cs h
 begins_early (binary l q m a b) r bs p s cs h = early_before s.place cs (told (role_of_operands q r) bs p s a) _ (begins_early a (role_of_operands q r) bs p s cs h)
 begins_early (choice l m c a b) r bs p s cs h =
@@ -91,6 +91,6 @@ behind_early n l fs h =
     subst (λ gs. first_told (put f gs) ≡ first_told gs) (sym h.are) (rw (before h.one f (omega (arith, h.early))) refl)
 
 -- WHAT BEGINS WITH A WRONG NAME: that name is told
-pub not_assignable_behind : (e : Expression) (l : ℕ) (r : Role) (bs : List Binding) (p : Place) (s : Spot) (cs : List Claim) → begins_wrong bs p.procedure e ≡ true
+pub not_assignable_behind : (e : Expression) (l : ℕ) (r : Role) (bs : List Binding) (p : Enclosing) (s : Spot) (cs : List Claim) → begins_wrong bs p.procedure e ≡ true
     → first_told (in_order (record { place = s.place; line = l; wrong = not_assignable } ∷ judged cs (told r bs p s e))) ≡ first_told (in_order (judged cs (told r bs p s e)))
 not_assignable_behind e l r bs p s cs h = behind_early s.place l (in_order (judged cs (told r bs p s e))) (order_early s.place (judged cs (told r bs p s e)) (begins_early e r bs p s cs h))

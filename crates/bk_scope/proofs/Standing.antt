@@ -11,7 +11,7 @@ use Rattle.bk_tree.specs.Tree.{Expression, Expressions, Action, Actions, Declara
 use Rattle.bk_tree.specs.Parts.{line_of, size}
 use Rattle.bk_scope.specs.declared.bound.Bound.{Bound}
 use Rattle.bk_scope.specs.declared.bound.Bound.TheVariants.{Constant, Global, Static, Variable, Label}
-use Rattle.bk_scope.specs.declared.place.Place.{Place}
+use Rattle.bk_scope.specs.declared.place.Enclosing.{Enclosing}
 use Rattle.bk_scope.specs.declared.role.Role.{Role}
 use Rattle.bk_scope.specs.declared.role.Role.TheVariants.{Value, Truth, Address, Destination}
 use Rattle.bk_scope.specs.Scope.{Binding, bound_in, bind, has_address}
@@ -76,11 +76,11 @@ gone_spans k n l x (Some (Constant v)) = at_spans n l _
 gone_spans k n l x (Some (Global g)) = at_spans n l _
 gone_spans k n l x (Some (Static m)) = at_spans n l _
 
-unless_depth : (b : Bool) (n d : ℕ) (p : Place) → Spans n n (unless b (pushed p d))
+unless_depth : (b : Bool) (n d : ℕ) (p : Enclosing) → Spans n n (unless b (pushed p d))
 unless_depth true n d p = record { inside = tt }
 unless_depth false n d p = record { inside = tt }
 
-pub depth_spans : (r : Role) (n : ℕ) (p : Place) (y : Option Bound) → Spans n n (depth_named r p y)
+pub depth_spans : (r : Role) (n : ℕ) (p : Enclosing) (y : Option Bound) → Spans n n (depth_named r p y)
 depth_spans (Destination b l) n p y = unless_depth (has_address y) n 1 p
 depth_spans Value n p y = record { inside = tt }
 depth_spans Truth n p y = record { inside = tt }
@@ -106,7 +106,7 @@ pub defaulted_spans : (m : Option ℕ) (n l : ℕ) → Spans n (n + 1) (defaulte
 defaulted_spans None n l = at_spans n l no_switchon
 defaulted_spans (Some m) n l = record { inside = (omega arith, omega arith, tt) }
 
-pub single_spans : (p : Place) (n l : ℕ) (f : Simple) → Spans n (n + 1) (single_at p n l f)
+pub single_spans : (p : Enclosing) (n l : ℕ) (f : Simple) → Spans n (n + 1) (single_at p n l f)
 single_spans p n l w.Break = unless_spans p.in_loop n l no_loop
 single_spans p n l w.Loop = unless_spans p.in_loop n l no_loop
 single_spans p n l w.EndCase = unless_spans p.in_switch n l no_switchon
@@ -138,7 +138,7 @@ global_spans (item l x e is) m bs k s =
 
 -- EACH NODE
 mutual
-  pub inside : (e : Expression) (r : Role) (bs : List Binding) (p : Place) (s : Spot) → Spans s.place (s.place + symbols e) (told r bs p s e)
+  pub inside : (e : Expression) (r : Role) (bs : List Binding) (p : Enclosing) (s : Spot) → Spans s.place (s.place + symbols e) (told r bs p s e)
   inside (name l x) r bs p s = both (used_spans p.procedure s.place l x (bound_in bs x)) (depth_spans r (s.place + 1) p (bound_in bs x)) (omega arith) (omega arith)
   inside (number l n) r bs p s = wider _ _ (pushed_spans s.place p 1) (omega arith) (omega arith)
   inside (text l x) r bs p s = wider _ _ (pushed_spans s.place p 1) (omega arith) (omega arith)
@@ -161,11 +161,11 @@ mutual
   inside (table l es) r bs p s =
       wider _ _ (both (each_constant_spans es bs p.procedure (past 1 s)) (pushed_spans (s.place + 1 + symbols_each es) p 1) (omega arith) (omega arith)) (omega arith) (omega arith)
 
-  pub each_inside : (es : Expressions) (n : ℕ) (bs : List Binding) (p : Place) (s : Spot) → Spans s.place (s.place + symbols_each es) (told_each n bs p s es)
+  pub each_inside : (es : Expressions) (n : ℕ) (bs : List Binding) (p : Enclosing) (s : Spot) → Spans s.place (s.place + symbols_each es) (told_each n bs p s es)
   each_inside none n bs p s = nothing_spans _ _ (omega arith)
   each_inside (more e es) n bs p s = wider _ _ (both (inside e Value bs p s) (each_inside es n bs (deeper n p) (behind e s)) (omega arith) (omega arith)) (omega arith) (omega arith)
 
-  pub destinations_inside : (es : Expressions) (bs : List Binding) (p : Place) (s : Spot) → Spans s.place (s.place + symbols_each es) (told_destinations bs p s es)
+  pub destinations_inside : (es : Expressions) (bs : List Binding) (p : Enclosing) (s : Spot) → Spans s.place (s.place + symbols_each es) (told_destinations bs p s es)
   destinations_inside none bs p s = nothing_spans _ _ (omega arith)
   destinations_inside (more e es) bs p s =
       let one : 1 ≤ symbols e = has_symbol e in
@@ -173,7 +173,7 @@ mutual
       among (among (wider s.place end (unless_spans (assigned bs e) s.place (line_of e) not_assignable) (omega arith) (omega arith)) (wider s.place end (inside e (Destination false (line_of e)) bs p s) (omega arith) (omega arith)))
       (wider s.place end (destinations_inside es bs p (behind e s)) (omega arith) (omega arith))
 
-  pub done_inside : (c : Action) (bs : List Binding) (p : Place) (s : Spot) → Spans s.place (s.place + symbols_done c) (told_done bs p s c)
+  pub done_inside : (c : Action) (bs : List Binding) (p : Enclosing) (s : Spot) → Spans s.place (s.place + symbols_done c) (told_done bs p s c)
   done_inside empty bs p s = nothing_spans _ _ (omega arith)
   done_inside (assign l xs es) bs p s = wider _ _ (both (destinations_inside xs bs (deeper 1 p) s) (each_inside es 0 bs p (behind_each xs s)) (omega arith) (omega arith)) (omega arith) (omega arith)
   done_inside (call l e es) bs p s = wider _ _ (both (inside e Value bs (deeper (size es + 2) p) s) (each_inside es 1 bs (deeper 2 p) (behind e s)) (omega arith) (omega arith)) (omega arith) (omega arith)
@@ -204,26 +204,26 @@ mutual
   done_inside (repeat l c) bs p s = done_inside c bs (looping p) s
   done_inside (repeat_while l b c e) bs p s = wider _ _ (both (done_inside c bs (looping p) s) (inside e Truth bs p (behind_done c s)) (omega arith) (omega arith)) (omega arith) (omega arith)
 
-  pub each_done_inside : (cs : Actions) (bs : List Binding) (p : Place) (s : Spot) → Spans s.place (s.place + symbols_done_each cs) (told_done_each bs p s cs)
+  pub each_done_inside : (cs : Actions) (bs : List Binding) (p : Enclosing) (s : Spot) → Spans s.place (s.place + symbols_done_each cs) (told_done_each bs p s cs)
   each_done_inside no_actions bs p s = nothing_spans _ _ (omega arith)
   each_done_inside (also c cs) bs p s = wider _ _ (both (done_inside c bs p s) (each_done_inside cs bs p (behind_done c s)) (omega arith) (omega arith)) (omega arith) (omega arith)
 
-  pub declared_inside : (ds : Declarations) (bs : List Binding) (p : Place) (s : Spot) → Spans s.place (s.place + symbols_declared ds) (told_declared bs p s ds)
+  pub declared_inside : (ds : Declarations) (bs : List Binding) (p : Enclosing) (s : Spot) → Spans s.place (s.place + symbols_declared ds) (told_declared bs p s ds)
   declared_inside no_declarations bs p s = nothing_spans _ _ (omega arith)
   declared_inside (declare d ds) bs p s =
       wider _ _ (both (one_declared_inside d bs p s) (declared_inside ds (scope_behind_one bs p s d) (place_behind_one bs p s d) (behind_one_declared d s)) (omega arith) (omega arith)) (omega arith) (omega arith)
 
-  pub one_declared_inside : (d : Declaration) (bs : List Binding) (p : Place) (s : Spot) → Spans s.place (s.place + symbols_one_declared d) (told_one_declared bs p s d)
+  pub one_declared_inside : (d : Declaration) (bs : List Binding) (p : Enclosing) (s : Spot) → Spans s.place (s.place + symbols_one_declared d) (told_one_declared bs p s d)
   one_declared_inside (constants l sort.Manifest is) bs p s = wider _ _ (manifest_spans is s.number bs p.procedure (numbered 1 s)) (omega arith) (omega arith)
   one_declared_inside (constants l sort.Static is) bs p s = wider _ _ (static_spans is s.number bs p.procedure (numbered 1 s)) (omega arith) (omega arith)
   one_declared_inside (constants l sort.Global is) bs p s = wider _ _ (global_spans is s.number bs p.procedure (numbered 1 s)) (omega arith) (omega arith)
   one_declared_inside (definitions l ds) bs p s = wider _ _ (defined_inside ds s.number (procedures_in_scope (s.number + 1) ds bs) p (numbered (1 + procedures_in ds) s)) (omega arith) (omega arith)
 
-  pub defined_inside : (ds : Definitions) (m : ℕ) (bs : List Binding) (p : Place) (s : Spot) → Spans s.place (s.place + symbols_defined ds) (told_defined m bs p s ds)
+  pub defined_inside : (ds : Definitions) (m : ℕ) (bs : List Binding) (p : Enclosing) (s : Spot) → Spans s.place (s.place + symbols_defined ds) (told_defined m bs p s ds)
   defined_inside no_definitions m bs p s = nothing_spans _ _ (omega arith)
   defined_inside (define d ds) m bs p s = wider _ _ (both (one_defined_inside d m bs p s) (defined_inside ds m bs (place_behind_one_defined bs p d) (behind_one_defined d s)) (omega arith) (omega arith)) (omega arith) (omega arith)
 
-  pub one_defined_inside : (d : Definition) (m : ℕ) (bs : List Binding) (p : Place) (s : Spot) → Spans s.place (s.place + symbols_one_defined d) (told_one_defined m bs p s d)
+  pub one_defined_inside : (d : Definition) (m : ℕ) (bs : List Binding) (p : Enclosing) (s : Spot) → Spans s.place (s.place + symbols_one_defined d) (told_one_defined m bs p s d)
   one_defined_inside (routine l x fs c) m bs p s =
       let u : Spot = onward (1 + length fs) (2 + length (labels_of c)) s in
       procedure_spans m s.number l (symbols_done c) s x fs (bound_in bs x) _
@@ -234,7 +234,7 @@ mutual
       (wider _ _ (inside e Value (with_formals s.number 2 fs bs) (called false s.number (length fs)) u) (omega arith) (omega arith))
   one_defined_inside (variables l xs is) m bs p s = wider _ _ (both (each_spans m s.place xs) (started_inside is bs p (past (length xs) s)) (omega arith) (omega arith)) (omega arith) (omega arith)
 
-  pub started_inside : (is : Starts) (bs : List Binding) (p : Place) (s : Spot) → Spans s.place (s.place + symbols_started is) (told_started bs p s is)
+  pub started_inside : (is : Starts) (bs : List Binding) (p : Enclosing) (s : Spot) → Spans s.place (s.place + symbols_started is) (told_started bs p s is)
   started_inside no_starts bs p s = nothing_spans _ _ (omega arith)
   started_inside (value e is) bs p s = wider _ _ (both (inside e Value bs p s) (started_inside is bs (deeper 1 p) (behind e s)) (omega arith) (omega arith)) (omega arith) (omega arith)
   started_inside (vector l e is) bs p s =
@@ -244,7 +244,7 @@ mutual
       (wider s.place end (pushed_spans s.place p (words_of_start bs e + 1)) (omega arith) (omega arith)))
       (wider s.place end (started_inside is bs (deeper (words_of_start bs e + 1) p) (behind_constant e s)) (omega arith) (omega arith))
 
-pub destination_inside : (e : Expression) (bs : List Binding) (p : Place) (s : Spot) → Spans s.place (s.place + symbols e) (unless (assigned bs e) (at s.place (line_of e) not_assignable) ++ told (Destination false (line_of e)) bs p s e)
+pub destination_inside : (e : Expression) (bs : List Binding) (p : Enclosing) (s : Spot) → Spans s.place (s.place + symbols e) (unless (assigned bs e) (at s.place (line_of e) not_assignable) ++ told (Destination false (line_of e)) bs p s e)
 destination_inside e bs p s =
     let one : 1 ≤ symbols e = has_symbol e in
     among (wider s.place (s.place + symbols e) (unless_spans (assigned bs e) s.place (line_of e) not_assignable) (omega arith) (omega arith)) (inside e (Destination false (line_of e)) bs p s)

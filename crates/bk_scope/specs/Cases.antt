@@ -2,7 +2,7 @@
 -- inside.
 use Rattle.std.specs.Prelude.{◌≡◌, ℕ, ◌+◌, ◌≤◌, Option, Some, None, List, [], ◌∷◌, ◌++◌}
 use Rattle.bk_tree.specs.Tree.{Expression, Action, Actions, label, case_of, default, when, test, while, switch, block, repeat, repeat_while, no_actions, also, no_declarations}
-use Rattle.bk_scope.specs.declared.place.Place.{Place}
+use Rattle.bk_scope.specs.declared.place.Enclosing.{Enclosing}
 use Rattle.bk_scope.specs.Scope.{Binding}
 use Rattle.bk_scope.specs.Constants.{constant_word}
 use Rattle.bk_scope.specs.Found.{Claim}
@@ -61,4 +61,4 @@ AllDiffer (x ∷ xs) = NoneOf x xs × AllDiffer xs
 
 -- THE CASES OF A SWITCHON DIFFER, where what is reported of it is clean, and there is one DEFAULT at most.
 abbrev pub CasesDiffer : Type 0
-CasesDiffer = (cs : List Claim) (bs : List Binding) (p : Place) (s : Spot) (l : ℕ) (e : Expression) (c : Action) → Clean cs (told_done bs p s (switch l e c)) → AllDiffer (case_words bs c) × (defaults c ≤ 1)
+CasesDiffer = (cs : List Claim) (bs : List Binding) (p : Enclosing) (s : Spot) (l : ℕ) (e : Expression) (c : Action) → Clean cs (told_done bs p s (switch l e c)) → AllDiffer (case_words bs c) × (defaults c ≤ 1)

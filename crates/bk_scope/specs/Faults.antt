@@ -11,7 +11,7 @@ use Rattle.bk_tree.specs.Tree.{Mention, Expression, Expressions, Action, Actions
 use Rattle.bk_tree.specs.Parts.{line_of, size}
 use Rattle.bk_scope.specs.declared.bound.Bound.{Bound}
 use Rattle.bk_scope.specs.declared.bound.Bound.TheVariants.{Constant, Global, Static, Variable, Label}
-use Rattle.bk_scope.specs.declared.place.Place.{Place}
+use Rattle.bk_scope.specs.declared.place.Enclosing.{Enclosing}
 use Rattle.bk_scope.specs.declared.role.Role.{Role}
 use Rattle.bk_scope.specs.declared.role.Role.TheVariants.{Value, Truth, Destination}
 use Rattle.bk_scope.specs.Scope.{Binding, bound_in, bind, has_address}
@@ -111,11 +111,11 @@ prefixed q.Address bs s e = unless (addressed bs e) (at s.place (line_of e) not_
 prefixed _ bs s e = []
 
 -- how deep the frame is at a name: a destination that has an address pushes nothing
-abbrev pub depth_named : Role → Place → Option Bound → List Point
+abbrev pub depth_named : Role → Enclosing → Option Bound → List Point
 depth_named (Destination b l) p y = unless (has_address y) (depth (p.depth + 1) ∷ [])
 depth_named r p y = depth (p.depth + 1) ∷ []
 
-abbrev pub pushed : Place → ℕ → List Point
+abbrev pub pushed : Enclosing → ℕ → List Point
 pushed p d = depth (p.depth + d) ∷ []
 
 -- the word of a CASE
@@ -128,7 +128,7 @@ abbrev pub defaulted_at : Option ℕ → ℕ → ℕ → List Point
 defaulted_at None n l = at n l no_switchon
 defaulted_at (Some m) n l = claiming (defaulting m) n l default_repeated
 
-abbrev pub single_at : Place → ℕ → ℕ → Simple → List Point
+abbrev pub single_at : Enclosing → ℕ → ℕ → Simple → List Point
 single_at p n l w.Break = unless p.in_loop (at n l no_loop)
 single_at p n l w.Loop = unless p.in_loop (at n l no_loop)
 single_at p n l w.EndCase = unless p.in_switch (at n l no_switchon)
@@ -182,7 +182,7 @@ procedure m k s l x fs b body =
     ++ (its_meaning b ++ without_depths (inside_procedure k s l x fs b body)))
 
 abbrev mutual
-  pub told : Role → List Binding → Place → Spot → Expression → List Point
+  pub told : Role → List Binding → Enclosing → Spot → Expression → List Point
   told r bs p s (name l x) = used_at p.procedure s.place l x (bound_in bs x) ++ depth_named r p (bound_in bs x)
   told r bs p s (number l n) = pushed p 1
   told r bs p s (text l x) = pushed p 1
@@ -200,16 +200,16 @@ abbrev mutual
   told r bs p s (table l es) = each_constant bs p.procedure (past 1 s) es ++ pushed p 1
 
   -- each so many words deeper
-  pub told_each : ℕ → List Binding → Place → Spot → Expressions → List Point
+  pub told_each : ℕ → List Binding → Enclosing → Spot → Expressions → List Point
   told_each n bs p s none = []
   told_each n bs p s (more e es) = told Value bs p s e ++ told_each n bs (deeper n p) (behind e s) es
 
-  pub told_destinations : List Binding → Place → Spot → Expressions → List Point
+  pub told_destinations : List Binding → Enclosing → Spot → Expressions → List Point
   told_destinations bs p s none = []
   told_destinations bs p s (more e es) =
       unless (assigned bs e) (at s.place (line_of e) not_assignable) ++ told (Destination false (line_of e)) bs p s e ++ told_destinations bs p (behind e s) es
 
-  pub told_done : List Binding → Place → Spot → Action → List Point
+  pub told_done : List Binding → Enclosing → Spot → Action → List Point
   told_done bs p s empty = []
   told_done bs p s (assign l xs es) = told_destinations bs (deeper 1 p) s xs ++ told_each 0 bs p (behind_each xs s) es
   told_done bs p s (call l e es) = told Value bs (deeper (size es + 2) p) s e ++ told_each 1 bs (deeper 2 p) (behind e s) es
@@ -239,16 +239,16 @@ abbrev mutual
   told_done bs p s (repeat l c) = told_done bs (looping p) s c
   told_done bs p s (repeat_while l b c e) = told_done bs (looping p) s c ++ told Truth bs p (behind_done c s) e
 
-  pub told_done_each : List Binding → Place → Spot → Actions → List Point
+  pub told_done_each : List Binding → Enclosing → Spot → Actions → List Point
   told_done_each bs p s no_actions = []
   told_done_each bs p s (also c cs) = told_done bs p s c ++ told_done_each bs p (behind_done c s) cs
 
-  pub told_declared : List Binding → Place → Spot → Declarations → List Point
+  pub told_declared : List Binding → Enclosing → Spot → Declarations → List Point
   told_declared bs p s no_declarations = []
   told_declared bs p s (declare d ds) =
       told_one_declared bs p s d ++ told_declared (scope_behind_one bs p s d) (place_behind_one bs p s d) (behind_one_declared d s) ds
 
-  pub told_one_declared : List Binding → Place → Spot → Declaration → List Point
+  pub told_one_declared : List Binding → Enclosing → Spot → Declaration → List Point
   told_one_declared bs p s (constants l sort.Manifest is) = manifest_items s.number bs p.procedure (numbered 1 s) is
   told_one_declared bs p s (constants l sort.Static is) = static_items s.number bs p.procedure (numbered 1 s) is
   told_one_declared bs p s (constants l sort.Global is) = global_items s.number bs p.procedure (numbered 1 s) is
@@ -256,11 +256,11 @@ abbrev mutual
       told_defined s.number (procedures_in_scope (s.number + 1) ds bs) p (numbered (1 + procedures_in ds) s) ds
 
   -- the definitions of a LET, which are the list m
-  pub told_defined : ℕ → List Binding → Place → Spot → Definitions → List Point
+  pub told_defined : ℕ → List Binding → Enclosing → Spot → Definitions → List Point
   told_defined m bs p s no_definitions = []
   told_defined m bs p s (define d ds) = told_one_defined m bs p s d ++ told_defined m bs (place_behind_one_defined bs p d) (behind_one_defined d s) ds
 
-  pub told_one_defined : ℕ → List Binding → Place → Spot → Definition → List Point
+  pub told_one_defined : ℕ → List Binding → Enclosing → Spot → Definition → List Point
   told_one_defined m bs p s (routine l x fs c) =
       procedure m s.number s l x fs (bound_in bs x)
       (told_done (labels_in_scope s.number (s.number + 2) (labels_of c) (with_formals s.number 2 fs bs)) (labelled (s.number + 1) (called true s.number (length fs)))
@@ -270,7 +270,7 @@ abbrev mutual
       (told Value (with_formals s.number 2 fs bs) (called false s.number (length fs)) (onward (1 + length fs) 1 s) e)
   told_one_defined m bs p s (variables l xs is) = each_of m s.place xs ++ told_started bs p (past (length xs) s) is
 
-  pub told_started : List Binding → Place → Spot → Starts → List Point
+  pub told_started : List Binding → Enclosing → Spot → Starts → List Point
   told_started bs p s no_starts = []
   told_started bs p s (value e is) = told Value bs p s e ++ told_started bs (deeper 1 p) (behind e s) is
   told_started bs p s (vector l e is) =

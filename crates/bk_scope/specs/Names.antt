@@ -18,7 +18,7 @@ use Rattle.bk_tree.specs.Tree.{Mention, Expression, Expressions, Action, Actions
 use Rattle.bk_tree.specs.Parts.{line_of, size}
 use Rattle.bk_scope.specs.declared.bound.Bound.{Bound}
 use Rattle.bk_scope.specs.declared.bound.Bound.TheVariants.{Constant, Global, Static, Variable, Label}
-use Rattle.bk_scope.specs.declared.place.Place.{Place}
+use Rattle.bk_scope.specs.declared.place.Enclosing.{Enclosing}
 use Rattle.bk_scope.specs.declared.role.Role.{Role}
 use Rattle.bk_scope.specs.declared.role.Role.TheVariants.{Value, Truth, Address, Destination}
 use Rattle.bk_scope.specs.Scope.{Binding, bound_in, bind, bind_all, has_address}
@@ -82,7 +82,7 @@ role_of_operands o.Both Truth = Truth
 role_of_operands o.Either Truth = Truth
 role_of_operands o r = Value
 
-abbrev pub place_of_second : Operator → Role → Place → Place
+abbrev pub place_of_second : Operator → Role → Enclosing → Enclosing
 place_of_second o.Both Truth p = p
 place_of_second o.Either Truth p = p
 place_of_second o r p = deeper 1 p
@@ -110,7 +110,7 @@ fit_infix o.Byte r bs k e f = without_address r bs k e f
 fit_infix o r bs k e f = without_word r bs k e f
 
 -- a name; a value is put into its word without an address
-abbrev pub named : Role → List Binding → Place → ℕ → List ℕ → Option Bound → Found → Found
+abbrev pub named : Role → List Binding → Enclosing → ℕ → List ℕ → Option Bound → Found → Found
 named (Address b l) bs p m x y f = reaches (p.depth + 1) (used p.procedure m x y (cond (has_address y) f (unassignable bs p.procedure b l (name m x) f)))
 named (Destination b l) bs p m x y f = cond (has_address y) (used p.procedure m x y f) (reaches (p.depth + 1) (used p.procedure m x y (unassignable bs p.procedure b l (name m x) f)))
 named r bs p m x y f = reaches (p.depth + 1) (used p.procedure m x y f)
@@ -151,7 +151,7 @@ abbrev pub defaulted : Option ℕ → ℕ → Found → Found
 defaulted None l f = f
 defaulted (Some n) l f = claims_once (defaulting n) l default_repeated f
 
-abbrev pub single : Place → ℕ → Simple → Found → Found
+abbrev pub single : Enclosing → ℕ → Simple → Found → Found
 single p l w.Break f = cond p.in_loop f (breaks l no_loop f)
 single p l w.Loop f = cond p.in_loop f (breaks l no_loop f)
 single p l w.EndCase f = cond p.in_switch f (breaks l no_switchon f)
@@ -177,13 +177,13 @@ words_below bs (value e is) = 0
 words_below bs (vector l e is) = words_of_start bs e
 
 -- the place after them
-abbrev pub place_behind : List Binding → Place → Starts → Place
+abbrev pub place_behind : List Binding → Enclosing → Starts → Enclosing
 place_behind bs p no_starts = p
 place_behind bs p (value e is) = place_behind bs (deeper 1 p) is
 place_behind bs p (vector l e is) = place_behind bs (deeper (words_of_start bs e + 1) p) is
 
 -- the variables of a definition, where their values are: a VEC's is its address, after its words
-abbrev pub variables_of : List Binding → Place → List Mention → Starts → List Binding
+abbrev pub variables_of : List Binding → Enclosing → List Mention → Starts → List Binding
 variables_of bs p (x ∷ xs) (value e is) = record { name = x.letters; bound = Variable p.procedure ((deeper 0 p).depth) } ∷ variables_of bs (deeper 1 p) xs is
 variables_of bs p (x ∷ xs) (vector l e is) =
     record { name = x.letters; bound = Variable p.procedure ((deeper (words_of_start bs e) p).depth) } ∷ variables_of bs (deeper (words_of_start bs e + 1) p) xs is
@@ -229,20 +229,20 @@ globals bs n k (item l x e is) s =
 -- what follows some definitions of a LET: the variables, which come into scope after all of them, the first one first
 pub record Defined : Type 0 where
   pub fresh : List Binding
-  pub place : Place
+  pub place : Enclosing
   pub found : Found
 
 -- what follows a declaration
 pub record AfterDeclarations : Type 0 where
   pub scope : List Binding
-  pub place : Place
+  pub place : Enclosing
   pub found : Found
 
-abbrev at : Place → Stage → AfterDeclarations
+abbrev at : Enclosing → Stage → AfterDeclarations
 at p s = record { scope = s.scope; place = p; found = s.found }
 
 abbrev mutual
-  pub evaluated : Role → List Binding → Place → Expression → Found → Found
+  pub evaluated : Role → List Binding → Enclosing → Expression → Found → Found
   evaluated r bs p (name l x) f = named r bs p l x (bound_in bs x) f
   evaluated r bs p (number l n) f = reaches (p.depth + 1) (without_word r bs p.procedure (number l n) f)
   evaluated r bs p (text l x) f = reaches (p.depth + 1) (without_word r bs p.procedure (text l x) f)
@@ -261,15 +261,15 @@ abbrev mutual
   evaluated r bs p (table l es) f = reaches (p.depth + 1) (constants_found bs p.procedure es (without_word r bs p.procedure (table l es) f))
 
   -- one after another, each so many words deeper: arguments one, the values of an assignment none
-  pub each_evaluated : ℕ → List Binding → Place → Expressions → Found → Found
+  pub each_evaluated : ℕ → List Binding → Enclosing → Expressions → Found → Found
   each_evaluated n bs p none f = f
   each_evaluated n bs p (more e es) f = each_evaluated n bs (deeper n p) es (evaluated Value bs p e f)
 
-  pub destinations : List Binding → Place → Expressions → Found → Found
+  pub destinations : List Binding → Enclosing → Expressions → Found → Found
   destinations bs p none f = f
   destinations bs p (more e es) f = destinations bs p es (evaluated (Destination false (line_of e)) bs p e f)
 
-  pub done : List Binding → Place → Action → Found → Found
+  pub done : List Binding → Enclosing → Action → Found → Found
   done bs p empty f = f
   done bs p (assign l xs es) f = each_evaluated 0 bs p es (destinations bs (deeper 1 p) xs f)
   done bs p (call l e es) f = each_evaluated 1 bs (deeper 2 p) es (evaluated Value bs (deeper (size es + 2) p) e f)
@@ -297,18 +297,18 @@ abbrev mutual
   done bs p (repeat l c) f = done bs (looping p) c f
   done bs p (repeat_while l b c e) f = evaluated Truth bs p e (done bs (looping p) c f)
 
-  pub each_done : List Binding → Place → Actions → Found → Found
+  pub each_done : List Binding → Enclosing → Actions → Found → Found
   each_done bs p no_actions f = f
   each_done bs p (also c cs) f = each_done bs p cs (done bs p c f)
 
-  pub declared : List Binding → Place → Declarations → Found → AfterDeclarations
+  pub declared : List Binding → Enclosing → Declarations → Found → AfterDeclarations
   declared bs p no_declarations f = record { scope = bs; place = p; found = f }
   declared bs p (declare d ds) f =
       let b : AfterDeclarations = one_declared bs p d f in
       declared b.scope b.place ds b.found
 
   -- a declaration of nothing takes no number
-  pub one_declared : List Binding → Place → Declaration → Found → AfterDeclarations
+  pub one_declared : List Binding → Enclosing → Declaration → Found → AfterDeclarations
   one_declared bs p (constants l w no_items) f = at p (record { scope = bs; found = f })
   one_declared bs p (constants l s.Manifest is) f = at p (manifests f.next p.procedure is (record { scope = bs; found = takes f }))
   one_declared bs p (constants l s.Static is) f = at p (statics bs f.next p.procedure is (record { scope = bs; found = takes f }))
@@ -343,7 +343,7 @@ abbrev mutual
         found = started bs d.place is (all_listed n xs d.found);
       }
 
-  pub started : List Binding → Place → Starts → Found → Found
+  pub started : List Binding → Enclosing → Starts → Found → Found
   started bs p no_starts f = f
   started bs p (value e is) f = started bs (deeper 1 p) is (evaluated Value bs p e f)
   started bs p (vector l e is) f =

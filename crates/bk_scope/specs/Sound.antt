@@ -13,7 +13,7 @@ use Rattle.bk_tree.specs.Tree.{Expression, Expressions, Action, Actions, Declara
 use Rattle.bk_tree.specs.Parts.{line_of, size}
 use Rattle.bk_scope.specs.declared.bound.Bound.{Bound}
 use Rattle.bk_scope.specs.declared.bound.Bound.TheVariants.{Constant, Global, Static, Variable, Label}
-use Rattle.bk_scope.specs.declared.place.Place.{Place}
+use Rattle.bk_scope.specs.declared.place.Enclosing.{Enclosing}
 use Rattle.bk_scope.specs.declared.role.Role.{Role}
 use Rattle.bk_scope.specs.declared.role.Role.TheVariants.{Value, Truth, Destination}
 use Rattle.bk_scope.specs.Scope.{Binding, bound_in, bind}
@@ -60,14 +60,14 @@ PrefixSound q.Address bs e = addressed bs e ≡ true
 PrefixSound _ bs e = Unit {0}
 
 -- a command of one word is where it may
-abbrev pub Stands : Place → Simple → Type 0
+abbrev pub Stands : Enclosing → Simple → Type 0
 Stands p w.Break = p.in_loop ≡ true
 Stands p w.Loop = p.in_loop ≡ true
 Stands p w.EndCase = p.in_switch ≡ true
 Stands p w.Return = p.in_routine ≡ true
 Stands p w.Finish = Unit {0}
 
-abbrev pub InSwitch : Place → Type 0
+abbrev pub InSwitch : Enclosing → Type 0
 InSwitch p = (m : ℕ) × (p.switch ≡ Some m)
 
 -- items
@@ -88,7 +88,7 @@ abbrev pub FrameSound : ℕ → List Point → Type 0
 FrameSound formals body = deepest (kept (formals + 2)) body ≤ FRAME_WORDS
 
 abbrev mutual
-  pub Sound : Role → List Binding → Place → Spot → Expression → Type 0
+  pub Sound : Role → List Binding → Enclosing → Spot → Expression → Type 0
   Sound r bs p s (name l x) = Usable p.procedure p.depth (bound_in bs x)
   Sound r bs p s (number l n) = Unit {0}
   Sound r bs p s (text l x) = Unit {0}
@@ -102,15 +102,15 @@ abbrev mutual
   Sound r bs p s (valof l c) = SoundDone (labels_in_scope p.procedure (s.number + 1) (labels_of c) bs) (labelled s.number (valued p)) (onward 1 (1 + length (labels_of c)) s) c
   Sound r bs p s (table l es) = HaveWords bs es
 
-  pub SoundEach : ℕ → List Binding → Place → Spot → Expressions → Type 0
+  pub SoundEach : ℕ → List Binding → Enclosing → Spot → Expressions → Type 0
   SoundEach n bs p s none = Unit {0}
   SoundEach n bs p s (more e es) = Sound Value bs p s e × SoundEach n bs (deeper n p) (behind e s) es
 
-  pub SoundDestinations : List Binding → Place → Spot → Expressions → Type 0
+  pub SoundDestinations : List Binding → Enclosing → Spot → Expressions → Type 0
   SoundDestinations bs p s none = Unit {0}
   SoundDestinations bs p s (more e es) = (assigned bs e ≡ true) × Sound (Destination false (line_of e)) bs p s e × SoundDestinations bs p (behind e s) es
 
-  pub SoundDone : List Binding → Place → Spot → Action → Type 0
+  pub SoundDone : List Binding → Enclosing → Spot → Action → Type 0
   SoundDone bs p s empty = Unit {0}
   SoundDone bs p s (assign l xs es) = SoundDestinations bs (deeper 1 p) s xs × SoundEach 0 bs p (behind_each xs s) es
   SoundDone bs p s (call l e es) = Sound Value bs (deeper (size es + 2) p) s e × SoundEach 1 bs (deeper 2 p) (behind e s) es
@@ -136,38 +136,38 @@ abbrev mutual
   SoundDone bs p s (repeat l c) = SoundDone bs (looping p) s c
   SoundDone bs p s (repeat_while l b c e) = SoundDone bs (looping p) s c × Sound Truth bs p (behind_done c s) e
 
-  pub SoundDoneEach : List Binding → Place → Spot → Actions → Type 0
+  pub SoundDoneEach : List Binding → Enclosing → Spot → Actions → Type 0
   SoundDoneEach bs p s no_actions = Unit {0}
   SoundDoneEach bs p s (also c cs) = SoundDone bs p s c × SoundDoneEach bs p (behind_done c s) cs
 
-  pub SoundDeclared : List Binding → Place → Spot → Declarations → Type 0
+  pub SoundDeclared : List Binding → Enclosing → Spot → Declarations → Type 0
   SoundDeclared bs p s no_declarations = Unit {0}
   SoundDeclared bs p s (declare d ds) = SoundOneDeclared bs p s d × SoundDeclared (scope_behind_one bs p s d) (place_behind_one bs p s d) (behind_one_declared d s) ds
 
-  pub SoundOneDeclared : List Binding → Place → Spot → Declaration → Type 0
+  pub SoundOneDeclared : List Binding → Enclosing → Spot → Declaration → Type 0
   SoundOneDeclared bs p s (constants l sort.Manifest is) = ManifestsSound bs is
   SoundOneDeclared bs p s (constants l sort.Static is) = StaticsSound bs is
   SoundOneDeclared bs p s (constants l sort.Global is) = GlobalsSound bs is
   SoundOneDeclared bs p s (definitions l ds) = SoundDefined (procedures_in_scope (s.number + 1) ds bs) p (numbered (1 + procedures_in ds) s) ds
 
-  pub SoundDefined : List Binding → Place → Spot → Definitions → Type 0
+  pub SoundDefined : List Binding → Enclosing → Spot → Definitions → Type 0
   SoundDefined bs p s no_definitions = Unit {0}
   SoundDefined bs p s (define d ds) = SoundOneDefined bs p s d × SoundDefined bs (place_behind_one_defined bs p d) (behind_one_defined d s) ds
 
-  pub SoundOneDefined : List Binding → Place → Spot → Definition → Type 0
+  pub SoundOneDefined : List Binding → Enclosing → Spot → Definition → Type 0
   SoundOneDefined bs p s (routine l x fs c) =
       let cs : List Binding = labels_in_scope s.number (s.number + 2) (labels_of c) (with_formals s.number 2 fs bs) in
-      let q : Place = labelled (s.number + 1) (called true s.number (length fs)) in
+      let q : Enclosing = labelled (s.number + 1) (called true s.number (length fs)) in
       let u : Spot = onward (1 + length fs) (2 + length (labels_of c)) s in
       Callable (bound_in bs x) × FrameSound (length fs) (told_done cs q u c) × SoundDone cs q u c
   SoundOneDefined bs p s (function l x fs e) =
       let cs : List Binding = with_formals s.number 2 fs bs in
-      let q : Place = called false s.number (length fs) in
+      let q : Enclosing = called false s.number (length fs) in
       let u : Spot = onward (1 + length fs) 1 s in
       Callable (bound_in bs x) × FrameSound (length fs) (told Value cs q u e) × Sound Value cs q u e
   SoundOneDefined bs p s (variables l xs is) = SoundStarted bs p (past (length xs) s) is
 
-  pub SoundStarted : List Binding → Place → Spot → Starts → Type 0
+  pub SoundStarted : List Binding → Enclosing → Spot → Starts → Type 0
   SoundStarted bs p s no_starts = Unit {0}
   SoundStarted bs p s (value e is) = Sound Value bs p s e × SoundStarted bs (deeper 1 p) (behind e s) is
   SoundStarted bs p s (vector l e is) = HasWordUpTo VEC_NUMBER (constant_word bs e) × SoundStarted bs (deeper (words_of_start bs e + 1) p) (behind_constant e s) is

@@ -71,7 +71,7 @@ fn no_constant(line: Line, first: &mut FirstFault) -> Option<u32>
     ensures word { result ≡ None }
     ensures wrong { first_fault first.new ≡ else_first (first_fault first.old) (Some (record { line = line; wrong = not_constant })) }
 {
-    first.tell(line, SourceKind::NotConstant);
+    first.record_first(line, SourceKind::NotConstant);
     None
 }
 
@@ -89,7 +89,7 @@ fn named(
 {
     match bound {
         None => {
-            first.tell_name(alloc, line, Misnaming::NotDeclared, letters)?;
+            first.record_name(alloc, line, Misnaming::NotDeclared, letters)?;
             Ok(None)
         }
         Some(Bound::Constant(word)) => Ok(word),
@@ -97,7 +97,7 @@ fn named(
             if owner == procedure {
                 Ok(no_constant(line, first))
             } else {
-                first.tell_name(alloc, line, Misnaming::Dynamic, letters)?;
+                first.record_name(alloc, line, Misnaming::Dynamic, letters)?;
                 Ok(None)
             }
         }
@@ -146,7 +146,7 @@ fn infixed(
     let x = left?;
     let y = right?;
     if divides(operator) && y == 0 {
-        first.tell(line, SourceKind::ConstantDividedByZero);
+        first.record_first(line, SourceKind::ConstantDividedByZero);
     }
     calculated(operator, x, y)
 }

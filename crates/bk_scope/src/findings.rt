@@ -24,7 +24,7 @@ use std::mem;
 
 /// What was found before a procedure: what is wrong first, and the greatest depth of the frame around.
 #[derive(Drop)]
-pub struct Opened {
+pub struct OuterFindings {
     first: FirstFault,
     deepest: u32,
 }
@@ -90,7 +90,7 @@ impl<'a> Findings<'a> {
     pub fn breaks(&mut self, line: Line, kind: SourceKind)
         ensures { self.new ≡ breaks line (wrong_of kind) self.old }
     {
-        self.first.tell(line, kind);
+        self.first.record_first(line, kind);
     }
 
     /// A name on this line is wrong.
@@ -102,7 +102,7 @@ impl<'a> Findings<'a> {
     ) -> Result<(), AllocError>
         ensures { OnOk result (self.new ≡ breaks line (misnamed misnaming (text_of name.now)) self.old) }
     {
-        self.first.tell_name(self.alloc, line, misnaming, name)
+        self.first.record_name(self.alloc, line, misnaming, name)
     }
 
     /// A name in the list of this number, in which no name occurs twice.
@@ -195,7 +195,7 @@ impl<'a> Findings<'a> {
     }
 
     /// A frame begins, this deep. What is found wrong from here on follows what is wrong with the frame itself.
-    pub fn opens(&mut self, depth: u32) -> Opened
+    pub fn opens(&mut self, depth: u32) -> OuterFindings
         ensures found { self.new ≡ opens depth self.old }
         ensures first { first_fault result.first ≡ self.old.first }
         ensures deepest { result.deepest ≡ self.old.deepest }
@@ -203,16 +203,16 @@ impl<'a> Findings<'a> {
         let first = mem::replace(&mut self.first, FirstFault::new());
         let deepest = self.deepest;
         self.deepest = depth;
-        Opened { first, deepest }
+        OuterFindings { first, deepest }
     }
 
     /// The frame of the procedure whose name is on this line ends.
-    pub fn closes(&mut self, opened: Opened, line: Line)
+    pub fn closes(&mut self, opened: OuterFindings, line: Line)
         ensures { self.new ≡ behind (first_fault opened.first) opened.deepest (frame_wrong line self.old) self.old }
     {
         let inner = mem::replace(&mut self.first, opened.first);
         if self.deepest > FRAME_WORDS {
-            self.first.tell(line, SourceKind::FrameTooLarge);
+            self.first.record_first(line, SourceKind::FrameTooLarge);
         }
         self.first.then(inner);
         self.deepest = opened.deepest;

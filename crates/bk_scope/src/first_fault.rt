@@ -37,7 +37,7 @@ impl FirstFault {
     }
 
     /// Reports a fault of a kind that keeps no name, on this line.
-    pub fn tell(&mut self, line: Line, kind: SourceKind)
+    pub fn record_first(&mut self, line: Line, kind: SourceKind)
         ensures { first_fault self.new ≡ else_first (first_fault self.old) (Some (record { line = line; wrong = wrong_of kind })) }
     {
         if self.fault.is_none() {
@@ -62,7 +62,7 @@ impl FirstFault {
     }
 
     /// Reports what is wrong with a name, on this line.
-    pub fn tell_name(
+    pub fn record_name(
         &mut self,
         alloc: Global,
         line: Line,

@@ -14,9 +14,9 @@ ghost use Rattle.bk_base.specs.declared.limit.TheConstants.{VEC_NUMBER as VecNum
 use crate::bound::Bound;
 use crate::claims::Claim;
 use crate::entering::{enter_formals, list_names};
-use crate::findings::{Findings, Opened};
+use crate::findings::{Findings, OuterFindings};
 use crate::items::line_of;
-use crate::place::{Place, kept_depth};
+use crate::place::{Enclosing, kept_depth};
 use crate::table::Table;
 use crate::walk::Walk;
 use bk_base::limit::VEC_NUMBER;
@@ -53,7 +53,7 @@ pub fn in_switch(findings: &mut Findings, switch: Option<u32>, line: Line)
 #[inline]
 pub fn case<'a>(
     walk: &mut Walk<'a>,
-    place: Place,
+    place: Enclosing,
     line: Line,
     expr: &'a Expr,
 ) -> Result<(), AllocError>
@@ -81,7 +81,7 @@ pub fn default<'a>(
 #[inline]
 pub fn step<'a>(
     walk: &mut Walk<'a>,
-    place: Place,
+    place: Enclosing,
     by: &'a Option<Box<Expr>>,
 ) -> Result<(), AllocError>
     ensures { OnOk result (walk.new ≡ record { scope = walk.old.scope; found = reaches (place.depth + 4) (constants_found walk.old.scope place.procedure (step_in by.now) walk.old.found) }) }
@@ -95,7 +95,7 @@ pub fn step<'a>(
 
 /// A RESULTIS is wrong where it is in no VALOF.
 #[inline]
-pub fn in_valof(findings: &mut Findings, place: Place, line: Line)
+pub fn in_valof(findings: &mut Findings, place: Enclosing, line: Line)
     ensures { findings.new ≡ cond place.in_valof findings.old (breaks line no_result_or_return findings.old) }
 {
     if !place.in_valof {
@@ -139,7 +139,7 @@ pub fn choose_default<'a>(
 }
 
 /// A command of one word.
-pub fn single(findings: &mut Findings, place: Place, line: Line, word: Simple)
+pub fn single(findings: &mut Findings, place: Enclosing, line: Line, word: Simple)
     ensures { findings.new ≡ Single place line word findings.old }
 {
     match word {
@@ -206,7 +206,7 @@ pub fn head<'a>(
     line: Line,
     name: &'a [u8],
     formals: &'a [Name],
-) -> Result<Opened, AllocError>
+) -> Result<OuterFindings, AllocError>
     ensures walk { OnOk result (walk.new ≡ record { scope = walk.old.scope; found = headed list line name.now (map mention formals.now) (bound_in walk.old.scope name.now) walk.old.found }) }
     ensures first { IfOk result (λ opened. first_fault opened.first ≡ walk.old.found.first) }
     ensures deepest { IfOk result (λ opened. opened.deepest ≡ walk.old.found.deepest) }
@@ -226,7 +226,7 @@ pub struct Procedure {
     /// How many bindings are in scope around it.
     mark: usize,
     /// What was found before it.
-    opened: Opened,
+    opened: OuterFindings,
 }
 
 /// A procedure of the list of this number begins: its name is listed there, and its formals come into scope.

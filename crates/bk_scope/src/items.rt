@@ -17,7 +17,7 @@ use crate::table::Table;
 use crate::walk::Walk;
 use bk_base::limit::GLOBAL_NUMBER;
 use bk_base::{Line, SourceKind};
-use bk_tree::{Expr, Item};
+use bk_tree::{ConstItem, Expr};
 use std::alloc::AllocError;
 
 /// Expressions where constants are asked for.
@@ -39,11 +39,11 @@ pub fn manifests<'a>(
     walk: &mut Walk<'a>,
     list: u32,
     procedure: u32,
-    items: &'a [Item],
+    items: &'a [ConstItem],
 ) -> Result<(), AllocError>
     ensures { OnOk result (walk.new ≡ through_manifests list procedure (items_in items.now) walk.old) }
 {
-    for Item::Item(line, name, expr) in items {
+    for ConstItem::Item(line, name, expr) in items {
         walk.findings.lists(list, *line, name)?;
         let word = walk.findings.constant(&walk.table, procedure, expr)?;
         walk.table.bind(name, Bound::Constant(word))?;
@@ -76,7 +76,7 @@ pub fn statics<'a>(
     walk: &mut Walk<'a>,
     list: u32,
     procedure: u32,
-    items: &'a [Item],
+    items: &'a [ConstItem],
 ) -> Result<(), AllocError>
     ensures { OnOk result (walk.new ≡ through_statics walk.old.scope list procedure (items_in items.now) walk.old) }
 {
@@ -89,7 +89,7 @@ pub fn globals<'a>(
     walk: &mut Walk<'a>,
     list: u32,
     procedure: u32,
-    items: &'a [Item],
+    items: &'a [ConstItem],
 ) -> Result<(), AllocError>
     ensures { OnOk result (walk.new ≡ through_globals walk.old.scope list procedure (items_in items.now) walk.old) }
 {
@@ -103,13 +103,13 @@ fn fresh_statics<'a>(
     table: &Table<'a>,
     list: u32,
     procedure: u32,
-    items: &'a [Item],
+    items: &'a [ConstItem],
 ) -> Result<Fresh<'a>, AllocError>
     ensures { IfOk result (λ fresh. (scope : List Binding) →
         through_statics table.now list procedure (items_in items.now) (record { scope = scope; found = findings.old }) ≡ record { scope = bind_all fresh scope; found = findings.new }) }
 {
     let mut fresh = Fresh::new(findings.alloc());
-    for Item::Item(line, name, expr) in items {
+    for ConstItem::Item(line, name, expr) in items {
         let bound = static_of(findings, table, list, procedure, *line, name, expr)?;
         fresh.add(name, bound)?;
     }
@@ -143,13 +143,13 @@ fn fresh_globals<'a>(
     table: &Table<'a>,
     list: u32,
     procedure: u32,
-    items: &'a [Item],
+    items: &'a [ConstItem],
 ) -> Result<Fresh<'a>, AllocError>
     ensures { IfOk result (λ fresh. (scope : List Binding) →
         through_globals table.now list procedure (items_in items.now) (record { scope = scope; found = findings.old }) ≡ record { scope = bind_all fresh scope; found = findings.new }) }
 {
     let mut fresh = Fresh::new(findings.alloc());
-    for Item::Item(line, name, expr) in items {
+    for ConstItem::Item(line, name, expr) in items {
         let bound = named_global(findings, table, list, procedure, *line, name, expr)?;
         fresh.add(name, bound)?;
     }

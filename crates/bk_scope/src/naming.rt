@@ -7,7 +7,7 @@ ghost use Rattle.bk_scope.specs.Names.{used, reached, is_usable as IsUsable, beg
 use crate::bound::Bound;
 use crate::findings::Findings;
 use crate::first_fault::Misnaming;
-use crate::place::Place;
+use crate::place::Enclosing;
 use crate::role::Role;
 use crate::table::Table;
 use bk_base::{Line, SourceKind};
@@ -156,7 +156,7 @@ pub fn name_at<'a>(
     table: &Table<'a>,
     findings: &mut Findings,
     role: &Role,
-    place: Place,
+    place: Enclosing,
     line: Line,
     letters: &'a [u8],
     expr: &'a Expr,

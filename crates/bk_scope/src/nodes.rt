@@ -16,7 +16,7 @@ use crate::heads::{begin, case, default, end, in_valof, label, single, step, vec
 use crate::items::{constants, globals, line_of, manifests, statics};
 use crate::naming::{go_to, name_at, without_word};
 use crate::operands::{fit_infix, fit_prefix, place_of_second, role_of_operand, role_of_operands};
-use crate::place::Place;
+use crate::place::Enclosing;
 use crate::role::Role;
 use crate::walk::Walk;
 use bk_tree::{Command, Decl, Def, Expr, Init, Name, Sort};
@@ -27,7 +27,7 @@ use std::alloc::AllocError;
 pub fn evaluate<'a>(
     walk: &mut Walk<'a>,
     role: &Role,
-    place: Place,
+    place: Enclosing,
     expr: &'a Expr,
 ) -> Result<(), AllocError>
     ensures { OnOk result (walk.new ≡ record { scope = walk.old.scope; found = evaluated role.now walk.old.scope place (expression expr.now) walk.old.found }) }
@@ -110,7 +110,7 @@ pub fn evaluate<'a>(
 fn evaluate_each<'a>(
     walk: &mut Walk<'a>,
     words: usize,
-    place: Place,
+    place: Enclosing,
     exprs: &'a [Expr],
 ) -> Result<(), AllocError>
     ensures { OnOk result (walk.new ≡ record { scope = walk.old.scope; found = each_evaluated words walk.old.scope place (expressions_in exprs.now) walk.old.found }) }
@@ -125,7 +125,7 @@ fn evaluate_each<'a>(
 
 /// The destinations of an assignment.
 #[cycle(nodes)]
-fn set_each<'a>(walk: &mut Walk<'a>, place: Place, exprs: &'a [Expr]) -> Result<(), AllocError>
+fn set_each<'a>(walk: &mut Walk<'a>, place: Enclosing, exprs: &'a [Expr]) -> Result<(), AllocError>
     ensures { OnOk result (walk.new ≡ record { scope = walk.old.scope; found = destinations walk.old.scope place (expressions_in exprs.now) walk.old.found }) }
 {
     for expr in exprs {
@@ -136,7 +136,11 @@ fn set_each<'a>(walk: &mut Walk<'a>, place: Place, exprs: &'a [Expr]) -> Result<
 
 /// A command.
 #[cycle(nodes)]
-pub fn act<'a>(walk: &mut Walk<'a>, place: Place, command: &'a Command) -> Result<(), AllocError>
+pub fn act<'a>(
+    walk: &mut Walk<'a>,
+    place: Enclosing,
+    command: &'a Command,
+) -> Result<(), AllocError>
     ensures { OnOk result (walk.new ≡ record { scope = walk.old.scope; found = done walk.old.scope place (action command.now) walk.old.found }) }
 {
     match command {
@@ -233,7 +237,11 @@ pub fn act<'a>(walk: &mut Walk<'a>, place: Place, command: &'a Command) -> Resul
 /// A command whose labels come into scope, and are left again after it.
 #[cycle(nodes)]
 #[inline]
-fn act_inside<'a>(walk: &mut Walk<'a>, place: Place, command: &'a Command) -> Result<(), AllocError>
+fn act_inside<'a>(
+    walk: &mut Walk<'a>,
+    place: Enclosing,
+    command: &'a Command,
+) -> Result<(), AllocError>
     ensures { let t : Stage = with_labels place.procedure (labels_of (action command.now)) (record { scope = walk.old.scope; found = takes walk.old.found }) in
         OnOk result (walk.new ≡ record { scope = walk.old.scope; found = done t.scope (labelled walk.old.found.next place) (action command.now) t.found }) }
 {
@@ -250,7 +258,7 @@ fn act_inside<'a>(walk: &mut Walk<'a>, place: Place, command: &'a Command) -> Re
 #[inline]
 fn act_for<'a>(
     walk: &mut Walk<'a>,
-    place: Place,
+    place: Enclosing,
     name: &'a Name,
     body: &'a Command,
 ) -> Result<(), AllocError>
@@ -269,7 +277,7 @@ fn act_for<'a>(
 fn act_each_labelled<'a>(
     walk: &mut Walk<'a>,
     procedure: u32,
-    place: Place,
+    place: Enclosing,
     commands: &'a [Command],
 ) -> Result<(), AllocError>
     ensures { let t : Stage = with_labels procedure (labels_of_each (actions_in commands.now)) (record { scope = walk.old.scope; found = takes walk.old.found }) in
@@ -284,7 +292,7 @@ fn act_each_labelled<'a>(
 #[cycle(nodes)]
 fn act_each<'a>(
     walk: &mut Walk<'a>,
-    place: Place,
+    place: Enclosing,
     commands: &'a [Command],
 ) -> Result<(), AllocError>
     ensures { OnOk result (walk.new ≡ record { scope = walk.old.scope; found = each_done walk.old.scope place (actions_in commands.now) walk.old.found }) }
@@ -299,9 +307,9 @@ fn act_each<'a>(
 #[cycle(nodes)]
 pub fn declare_each<'a>(
     walk: &mut Walk<'a>,
-    place: Place,
+    place: Enclosing,
     decls: &'a [Decl],
-) -> Result<Place, AllocError>
+) -> Result<Enclosing, AllocError>
     ensures { IfOk result (λ behind. (record { scope = walk.new.scope; place = behind; found = walk.new.found }) ≡ declared walk.old.scope place (declarations_in decls.now) walk.old.found) }
 {
     let mut behind = place;
@@ -313,7 +321,11 @@ pub fn declare_each<'a>(
 
 /// A declaration, and the place after it.
 #[cycle(nodes)]
-fn declare<'a>(walk: &mut Walk<'a>, place: Place, decl: &'a Decl) -> Result<Place, AllocError>
+fn declare<'a>(
+    walk: &mut Walk<'a>,
+    place: Enclosing,
+    decl: &'a Decl,
+) -> Result<Enclosing, AllocError>
     ensures { IfOk result (λ behind. (record { scope = walk.new.scope; place = behind; found = walk.new.found }) ≡ one_declared walk.old.scope place (declaration decl.now) walk.old.found) }
 {
     match decl {
@@ -348,10 +360,10 @@ fn declare<'a>(walk: &mut Walk<'a>, place: Place, decl: &'a Decl) -> Result<Plac
 fn define_each<'a>(
     walk: &mut Walk<'a>,
     list: u32,
-    place: Place,
+    place: Enclosing,
     defs: &'a [Def],
     fresh: &mut Fresh<'a>,
-) -> Result<Place, AllocError>
+) -> Result<Enclosing, AllocError>
     ensures scope { OnOk result (walk.new.scope ≡ walk.old.scope) }
     ensures found { IfOk result (λ behind. (record { fresh = fresh.new; place = behind; found = walk.new.found }) ≡ defined list walk.old.scope (definitions_in defs.now) (record { fresh = fresh.old; place = place; found = walk.old.found })) }
 {
@@ -367,24 +379,24 @@ fn define_each<'a>(
 fn define<'a>(
     walk: &mut Walk<'a>,
     list: u32,
-    place: Place,
+    place: Enclosing,
     def: &'a Def,
     fresh: &mut Fresh<'a>,
-) -> Result<Place, AllocError>
+) -> Result<Enclosing, AllocError>
     ensures scope { OnOk result (walk.new.scope ≡ walk.old.scope) }
     ensures found { IfOk result (λ behind. (record { fresh = fresh.new; place = behind; found = walk.new.found }) ≡ one_defined list walk.old.scope (definition def.now) (record { fresh = fresh.old; place = place; found = walk.old.found })) }
 {
     match def {
         Def::Routine(line, name, formals, body) => {
             let procedure = begin(walk, list, *line, name, formals)?;
-            let inner = Place::called(true, procedure.number, formals.len());
+            let inner = Enclosing::called(true, procedure.number, formals.len());
             act_inside(walk, inner, body)?;
             end(walk, procedure, *line);
             Ok(place)
         }
         Def::Function(line, name, formals, body) => {
             let procedure = begin(walk, list, *line, name, formals)?;
-            let inner = Place::called(false, procedure.number, formals.len());
+            let inner = Enclosing::called(false, procedure.number, formals.len());
             evaluate(walk, &Role::Value, inner, body)?;
             end(walk, procedure, *line);
             Ok(place)
@@ -400,11 +412,11 @@ fn define<'a>(
 #[cycle(nodes)]
 fn start_each<'a>(
     walk: &mut Walk<'a>,
-    place: Place,
+    place: Enclosing,
     names: &'a [Name],
     starts: &'a [Init],
     fresh: &mut Fresh<'a>,
-) -> Result<Place, AllocError>
+) -> Result<Enclosing, AllocError>
     ensures scope { OnOk result (walk.new.scope ≡ walk.old.scope) }
     ensures found { OnOk result (walk.new.found ≡ started walk.old.scope place (starts_in starts.now) walk.old.found) }
     ensures place { IfOk result (λ behind. behind ≡ place_behind walk.old.scope place (starts_in starts.now)) }
@@ -424,7 +436,11 @@ fn start_each<'a>(
 
 /// What a variable begins with, and how many words are below its value: those of a VEC.
 #[cycle(nodes)]
-fn start_one<'a>(walk: &mut Walk<'a>, place: Place, start: &'a Init) -> Result<usize, AllocError>
+fn start_one<'a>(
+    walk: &mut Walk<'a>,
+    place: Enclosing,
+    start: &'a Init,
+) -> Result<usize, AllocError>
     ensures scope { OnOk result (walk.new.scope ≡ walk.old.scope) }
     ensures found { OnOk result (walk.new.found ≡ started walk.old.scope place (starts_in (start.now ∷ [])) walk.old.found) }
     ensures words { IfOk result (λ words. words ≡ words_below walk.old.scope (starts_in (start.now ∷ []))) }

@@ -6,7 +6,7 @@ ghost use Rattle.bk_scope.specs.Names.{role_of_operand as RoleOfOperand, role_of
 use crate::findings::Findings;
 use crate::items::line_of;
 use crate::naming::{without_address, without_word};
-use crate::place::Place;
+use crate::place::Enclosing;
 use crate::role::Role;
 use crate::table::Table;
 use bk_tree::{Expr, Operator, Prefix};
@@ -33,7 +33,7 @@ pub fn role_of_operands(operator: Operator, role: &Role) -> Role
 }
 
 /// The place of an operator's second operand.
-pub fn place_of_second(operator: Operator, role: &Role, place: Place) -> Place
+pub fn place_of_second(operator: Operator, role: &Role, place: Enclosing) -> Enclosing
     ensures { result ≡ PlaceOfSecond operator role.now place }
 {
     match (operator, role) {

@@ -6,7 +6,7 @@ use bk_base::limit::FRAME_WORDS;
 
 /// What is around a node, besides the declarations in scope.
 #[derive(Clone, Copy)]
-pub struct Place {
+pub struct Enclosing {
     /// The number of the procedure around it, 0 where there is none.
     pub procedure: u32,
     /// How many words of the frame are below it; `FRAME_WORDS` and one for all past the limit.
@@ -36,12 +36,12 @@ pub fn kept_depth(depth: usize) -> u32
     }
 }
 
-impl Place {
+impl Enclosing {
     /// Where a section begins.
-    pub fn outermost() -> Place
+    pub fn outermost() -> Enclosing
         ensures { result ≡ outermost }
     {
-        Place {
+        Enclosing {
             procedure: 0,
             depth: 2,
             labels: 0,
@@ -54,37 +54,37 @@ impl Place {
     }
 
     /// So many words deeper.
-    pub fn deeper(self, words: usize) -> Place
+    pub fn deeper(self, words: usize) -> Enclosing
         ensures { result ≡ deeper words self }
     {
         self.at_depth((self.depth as usize).saturating_add(words))
     }
 
     /// At this depth.
-    pub fn at_depth(self, depth: usize) -> Place
+    pub fn at_depth(self, depth: usize) -> Enclosing
         ensures { result ≡ at_depth depth self }
     {
-        Place {
+        Enclosing {
             depth: kept_depth(depth),
             ..self
         }
     }
 
     /// In a loop.
-    pub fn looping(self) -> Place
+    pub fn looping(self) -> Enclosing
         ensures { result ≡ looping self }
     {
-        Place {
+        Enclosing {
             in_loop: true,
             ..self
         }
     }
 
     /// In the SWITCHON of this number.
-    pub fn switching(self, number: u32) -> Place
+    pub fn switching(self, number: u32) -> Enclosing
         ensures { result ≡ switching number self }
     {
-        Place {
+        Enclosing {
             in_switch: true,
             switch: Some(number),
             ..self
@@ -92,10 +92,10 @@ impl Place {
     }
 
     /// Where the labels have this number; no CASE there belongs to a SWITCHON around it.
-    pub fn labelled(self, number: u32) -> Place
+    pub fn labelled(self, number: u32) -> Enclosing
         ensures { result ≡ labelled number self }
     {
-        Place {
+        Enclosing {
             labels: number,
             switch: None,
             ..self
@@ -103,10 +103,10 @@ impl Place {
     }
 
     /// In a VALOF.
-    pub fn valued(self) -> Place
+    pub fn valued(self) -> Enclosing
         ensures { result ≡ valued self }
     {
-        Place {
+        Enclosing {
             in_valof: true,
             in_loop: false,
             in_switch: false,
@@ -116,10 +116,10 @@ impl Place {
     }
 
     /// In the procedure of this number, a routine or not, with so many formals.
-    pub fn called(in_routine: bool, number: u32, formals: usize) -> Place
+    pub fn called(in_routine: bool, number: u32, formals: usize) -> Enclosing
         ensures { result ≡ called in_routine number formals }
     {
-        Place {
+        Enclosing {
             procedure: number,
             depth: kept_depth(formals.saturating_add(2)),
             labels: 0,

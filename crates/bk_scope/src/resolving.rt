@@ -5,7 +5,7 @@ ghost use Rattle.bk_scope.specs.Resolution.{Resolves};
 
 use crate::findings::{Findings, Known};
 use crate::nodes::declare_each;
-use crate::place::Place;
+use crate::place::Enclosing;
 use crate::section_names::Resolved;
 use crate::table::Table;
 use crate::walk::Walk;
@@ -27,7 +27,7 @@ pub fn resolve(alloc: Global, section: &Section) -> Result<Resolved<'_>, Refused
         table: Table::new(alloc),
         findings: Findings::new(alloc),
     };
-    declare_each(&mut walk, Place::outermost(), section.decls())?;
+    declare_each(&mut walk, Enclosing::outermost(), section.decls())?;
     let Walk { findings, .. } = walk;
     match findings.end() {
         Ok(Known { meanings, words }) => Ok(Resolved::new(section, meanings, words)),

@@ -4,7 +4,7 @@ use crate::spelling::sort_spelling;
 use crate::text::Text;
 use bk_base::Line;
 use bk_scope::{Bound, Resolved};
-use bk_tree::{Command, Decl, Def, Expr, Init, Item, Name, Sort};
+use bk_tree::{Command, ConstItem, Decl, Def, Expr, Init, Name, Sort};
 use std::alloc::{AllocError, Global};
 
 /// The column of the meanings.
@@ -271,8 +271,8 @@ fn put_decl(walk: &mut Walk<'_, '_>, decl: &Decl) -> Result<(), AllocError> {
 }
 
 /// Adds the items of a declaration.
-fn put_items(walk: &mut Walk<'_, '_>, sort: Sort, items: &[Item]) -> Result<(), AllocError> {
-    for Item::Item(line, name, _) in items {
+fn put_items(walk: &mut Walk<'_, '_>, sort: Sort, items: &[ConstItem]) -> Result<(), AllocError> {
+    for ConstItem::Item(line, name, _) in items {
         walk.item(*line, name, sort)?;
     }
     Ok(())

@@ -5,7 +5,7 @@ use crate::spelling::{
 };
 use crate::text::Text;
 use bk_base::Line;
-use bk_tree::{Command, Decl, Def, Expr, Init, Item, Name, Section, Sort};
+use bk_tree::{Command, ConstItem, Decl, Def, Expr, Init, Name, Section, Sort};
 use std::alloc::{AllocError, Global};
 
 /// A tree that is put.
@@ -318,8 +318,8 @@ fn put_decl(walk: &mut Walk<'_>, level: usize, decl: &Decl) -> Result<(), AllocE
 
 /// Adds the items of a declaration, each with its constant.
 #[cycle(nodes)]
-fn put_items(walk: &mut Walk<'_>, level: usize, items: &[Item]) -> Result<(), AllocError> {
-    for Item::Item(line, name, expr) in items {
+fn put_items(walk: &mut Walk<'_>, level: usize, items: &[ConstItem]) -> Result<(), AllocError> {
+    for ConstItem::Item(line, name, expr) in items {
         walk.named(*line, level, "item ", name)?;
         put_expr(walk, below(level), expr)?;
     }

@@ -1,5 +1,5 @@
 -- All forms: what holds of the meanings of the nodes inside holds of each node.
-use Rattle.bk_simulation.proofs.Words.{◌≡◌, ℕ, suc, ◌+◌, ◌-◌, ◌*◌, ◌≤◌, Bool, true, false, List, ◌∷◌, ◌++◌, Some, refl, sym, ◌∙◌, subst, arith, zero, State, from_label, Stmt, Monadic, JumpIf, Stack, CallRoutine, FRAME_WORDS, infix_code, Operator, Expression, Expressions, Action, Actions, option_map, infix_word, divides_by_zero, Value, number, sum, on_numbers, operate_prefix, Environment, constant_in, past, past_each, labelled, Sought, the_label, the_case, the_default, Mode, forwards, seeking, World, ends, divide_by_zero, done, given, with, turn, Exit, going, history, After, Throughout, Meanings, at, fetch, in_order, scope_of, landing, alone, value_of, truth_of, address_in, combined, judged, assigned, act_of, applied, rounds_of, means_with, turn_for, means, no_turns, no_turn_for, Adds, adds, stays, given_after, with_after, each_way_after, either_after}
+use Rattle.bk_simulation.proofs.Words.{◌≡◌, ℕ, suc, ◌+◌, ◌-◌, ◌*◌, ◌≤◌, Bool, true, false, List, ◌∷◌, ◌++◌, Some, refl, sym, ◌∙◌, subst, arith, zero, State, from_label, Stmt, Monadic, JumpIf, Stack, CallRoutine, FRAME_WORDS, infix_code, Operator, Expression, Expressions, Action, Actions, option_map, infix_word, divides_by_zero, Value, number, sum, on_numbers, operate_prefix, Environment, constant_in, past, past_each, labelled, Sought, the_label, the_case, the_default, Mode, forwards, seeking, World, ends, divide_by_zero, done, given, with, turn, Exit, going, history, After, Throughout, Meanings, at, fetch, in_order, scope_of, landing, alone, value_of, truth_of, address_in, combined, judged, assigned, act_of, applied, rounds_of, means_with, turn_for, means, no_turns, no_turn_for, Adds, adds, stays, given_after, with_after, each_evaluation_after, either_after}
 use Rattle.bk_ocode.specs.declared.stmt.Monadic.TheVariants as w
 use Rattle.bk_tree.specs.declared.tree.Operator.TheVariants as o
 use Rattle.bk_tree.specs.declared.tree.Prefix.TheVariants as q
@@ -11,8 +11,8 @@ use Rattle.bk_meaning.specs.Parts.{Target, byte_at}
 use Rattle.bk_meaning.specs.Expressions.{target_of}
 use Rattle.bk_simulation.proofs.Weights.{turns_of, turns_among, turns_in, turns_through}
 use Rattle.bk_simulation.proofs.Laid.{Setting, Stretch, ByTurns, AreFrom, AreStores, AreValues, AreActs, CallAt, count, IsValue, IsJump, IsAddress, IsStore, IsAct, IsLoop, Entered, EnteredAny, EnteredBody}
-use Rattle.bk_simulation.proofs.Frame.{Sit, start, Ready, Account, here, Ran, went, with_ran, turn_behind, ArrivedAt, Has, Out}
-use Rattle.bk_simulation.proofs.Compose.{stay, arrived_more, ran_first, ran_more}
+use Rattle.bk_simulation.proofs.Frame.{Configuration, start, Ready, Account, here, Ran, went, with_ran, turn_behind, CompletedAt, Has, Out}
+use Rattle.bk_simulation.proofs.Compose.{stay, completed_more, ran_first, ran_more}
 use Rattle.bk_simulation.proofs.Simulates.{Simulates, for_value, for_truth, for_act, for_rounds, HasTruth, HasAddress, Destined, word, through, byte, Did, RanDid, for_scope, for_counts}
 use Rattle.bk_simulation.proofs.Operators.{contents_run, minus_run, not_run, plus_run, combined_run, for_two, one_run, two_run, RanValue, name_runs, number_runs, truth_runs, query_runs, text_runs, table_runs, denied_run, straight_run, over_run, choice_run}
 use Rattle.bk_simulation.proofs.ControlSteps.{tested}
@@ -29,7 +29,7 @@ use Rattle.bk_meaning.proofs.MeaningTies.{only_grows}
 -- what scopes add
 pub scope_after : (g : Setting) (m : Meanings) → Simulates g m → (cs : Actions) (mode : Mode) (env : Environment) (v : World) → After (history v) (scope_of m cs mode env v)
 scope_after g m sim cs mode env v =
-    each_way_after (history v) (in_order m cs mode (labelled cs env) v) (λ _ w. done w) (landing cs env (λ x w. m.scope cs (seeking (the_label x)) env w)) ((order_adds g m sim cs mode (labelled cs env)).at v)
+    each_evaluation_after (history v) (in_order m cs mode (labelled cs env) v) (λ _ w. done w) (landing cs env (λ x w. m.scope cs (seeking (the_label x)) env w)) ((order_adds g m sim cs mode (labelled cs env)).at v)
     (λ _. adds _ (λ w1. stays (history w1))) (λ x. landing_adds g m sim cs env x)
 
 pub alone_adds : (g : Setting) (m : Meanings) → Simulates g m → AloneAdds m
@@ -64,33 +64,33 @@ combined_adds o.Differ x y = numbers_add o.Differ x y
 combined_adds _ x y = adds _ (λ v. given_after _ v)
 
 -- a turn less
-ready_ticked : (g : Setting) (z : Sit) (v : World) (n : ℕ) → Ready g z v → Ready g z (record v { turns = n })
+ready_ticked : (g : Setting) (z : Configuration) (v : World) (n : ℕ) → Ready g z v → Ready g z (record v { turns = n })
 ready_ticked g z v n r =
     record { named = r.named; fits = r.fits; low = r.low; high = r.high; deep = r.deep; frames = r.frames; room = r.room; lasts = r.lasts; words = r.words; in_hand = r.in_hand }
 
 -- places within larger accounts
-larger_address : (g : Setting) (s : State) (A B : Account) (z : Sit) (rest : List Stmt) (v : World) (u : Target) (w1 : World) → A.most ≤ B.most → B.least ≤ A.least → HasAddress g s A z rest v u w1 → HasAddress g s B z rest v u w1
-larger_address g s A B z rest v (at a) w1 le ll y = record { arr = arrived_more le ll y.arr; stands = y.stands }
+larger_address : (g : Setting) (s : State) (A B : Account) (z : Configuration) (rest : List Stmt) (v : World) (u : Target) (w1 : World) → A.most ≤ B.most → B.least ≤ A.least → HasAddress g s A z rest v u w1 → HasAddress g s B z rest v u w1
+larger_address g s A B z rest v (at a) w1 le ll y = record { arr = completed_more le ll y.arr; stands = y.stands }
 larger_address g s A B z rest v (byte_at a i) w1 le ll y = tt
 
-larger_store : (g : Setting) (s : State) (A B : Account) (z : Sit) (rest : List Stmt) (v : World) (u : Target) (w1 : World) → A.most ≤ B.most → B.least ≤ A.least → Destined g s A z rest v u w1 → Destined g s B z rest v u w1
-larger_store g s A B z rest v _ _ le ll (word x ob i b w1 a eb ep) = word x ob i b w1 (arrived_more le ll a) eb ep
-larger_store g s A B z rest v _ _ le ll (through a w1 y) = through a w1 (record { arr = arrived_more le ll y.arr; stands = y.stands })
-larger_store g s A B z rest v _ _ le ll (byte a i w1 y sa si) = byte a i w1 (arrived_more le ll y) sa si
+larger_store : (g : Setting) (s : State) (A B : Account) (z : Configuration) (rest : List Stmt) (v : World) (u : Target) (w1 : World) → A.most ≤ B.most → B.least ≤ A.least → Destined g s A z rest v u w1 → Destined g s B z rest v u w1
+larger_store g s A B z rest v _ _ le ll (word x ob i b w1 a eb ep) = word x ob i b w1 (completed_more le ll a) eb ep
+larger_store g s A B z rest v _ _ le ll (through a w1 y) = through a w1 (record { arr = completed_more le ll y.arr; stands = y.stands })
+larger_store g s A B z rest v _ _ le ll (byte a i w1 y sa si) = byte a i w1 (completed_more le ll y) sa si
 
 -- and where a turn less was left
-ticked_address : (g : Setting) (s : State) (B : Account) (z : Sit) (rest : List Stmt) (v : World) (n : ℕ) (u : Target) (w1 : World) → HasAddress g s B z rest (record v { turns = n }) u w1 → HasAddress g s B z rest v u w1
+ticked_address : (g : Setting) (s : State) (B : Account) (z : Configuration) (rest : List Stmt) (v : World) (n : ℕ) (u : Target) (w1 : World) → HasAddress g s B z rest (record v { turns = n }) u w1 → HasAddress g s B z rest v u w1
 ticked_address g s B z rest v n (at a) w1 y = record { arr = y.arr; stands = y.stands }
 ticked_address g s B z rest v n (byte_at a i) w1 y = tt
 
-ticked_store : (g : Setting) (s : State) (B : Account) (z : Sit) (rest : List Stmt) (v : World) (n : ℕ) (u : Target) (w1 : World) → Destined g s B z rest (record v { turns = n }) u w1 → Destined g s B z rest v u w1
+ticked_store : (g : Setting) (s : State) (B : Account) (z : Configuration) (rest : List Stmt) (v : World) (n : ℕ) (u : Target) (w1 : World) → Destined g s B z rest (record v { turns = n }) u w1 → Destined g s B z rest v u w1
 ticked_store g s B z rest v n _ _ (word x ob i b w1 a eb ep) = word x ob i b w1 a eb ep
 ticked_store g s B z rest v n _ _ (through a w1 y) = through a w1 (record { arr = y.arr; stands = y.stands })
 ticked_store g s B z rest v n _ _ (byte a i w1 y sa si) = byte a i w1 y sa si
 
 module _ (g : Setting) (p : Program) (m : Meanings) (procs : Procedures g p) (known : KnowsLibrary g) (sim : Simulates g m) where
   -- ---- values
-  value_of_runs : (B : Account) (e : Expression) (z : Sit) (c rest : List Stmt) (v : World) → 16 * v.turns + 12 ≤ B.most → B.least ≤ suc v.turns - turns_of false e → IsValue g z.scene z.depth z.env e c rest → Ready g z v
+  value_of_runs : (B : Account) (e : Expression) (z : Configuration) (c rest : List Stmt) (v : World) → 16 * v.turns + 12 ≤ B.most → B.least ≤ suc v.turns - turns_of false e → IsValue g z.scene z.depth z.env e c rest → Ready g z v
       → RanValue g (start z c v) B z rest v (value_of p m e z.env v)
   value_of_runs B (t.name l x) z c rest v le ll a r = name_runs g B z c x rest v (omega arith) (omega arith) a r
   value_of_runs B (t.number l n) z c rest v le ll a r = number_runs g B z c n rest v (omega arith) (omega arith) a.0 a.1 r
@@ -98,7 +98,7 @@ module _ (g : Setting) (p : Program) (m : Meanings) (procs : Procedures g p) (kn
   value_of_runs B (t.truth l x) z c rest v le ll a r = truth_runs g B z c x rest v (omega arith) (omega arith) a r
   value_of_runs B (t.query l) z c rest v le ll a r = query_runs g B z c rest v (omega arith) (omega arith) a r
   value_of_runs B (t.parens l e) z c rest v le ll a r =
-      ran_first (omega arith) (omega arith) (λ u w1 y. record { arr = arrived_more (omega arith) (omega arith) y.0.arr; stands = y.0.stands })
+      ran_first (omega arith) (omega arith) (λ u w1 y. record { arr = completed_more (omega arith) (omega arith) y.0.arr; stands = y.0.stands })
       (sim.value e z c rest v a r)
   value_of_runs B (t.unary l q.Address e) z c rest v le ll a r =
       with_ran address_adds
@@ -109,7 +109,7 @@ module _ (g : Setting) (p : Program) (m : Meanings) (procs : Procedures g p) (kn
       address_adds (byte_at a i) = adds _ (λ w1. tt)
 
       addressed : (u : Target) (w1 : World) → HasAddress g (start z c v) (for_value e v) z rest v u w1 → RanValue g (start z c v) B z rest v (address_in u w1)
-      addressed (at u) w1 y = went (record { arr = arrived_more (omega arith) (omega arith) y.arr; stands = y.stands })
+      addressed (at u) w1 y = went (record { arr = completed_more (omega arith) (omega arith) y.arr; stands = y.stands })
       addressed (byte_at u i) w1 y = went tt
   value_of_runs B (t.unary l q.Contents e) z c rest v le ll a r =
       one_run g m sim B e z c (Monadic w.Contents ∷ rest) v _ _ (λ u. adds _ (λ w1. given_after _ w1)) (omega arith) (omega arith) a r (λ u w1 y pos. contents_run g (start z c v) (for_value e v) B z rest v w1 u (omega arith) (omega arith) r.deep y)
@@ -128,7 +128,7 @@ module _ (g : Setting) (p : Program) (m : Meanings) (procs : Procedures g p) (kn
 
   -- ---- truth
   -- of a value
-  plain_truth : (B : Account) (e : Expression) (z : Sit) (u : Bool) (n : ℕ) (to c rest : List Stmt) (v : World) → 16 * v.turns + 13 ≤ B.most → B.least ≤ suc v.turns - turns_of false e → IsValue g z.scene z.depth z.env e c (JumpIf u n ∷ rest)
+  plain_truth : (B : Account) (e : Expression) (z : Configuration) (u : Bool) (n : ℕ) (to c rest : List Stmt) (v : World) → 16 * v.turns + 13 ≤ B.most → B.least ≤ suc v.turns - turns_of false e → IsValue g z.scene z.depth z.env e c (JumpIf u n ∷ rest)
       → from_label z.scene.own.stmts n ≡ Some to → Ready g z v → Ran g (start z c v) B (HasTruth g (start z c v) B z u to rest v) (Out g (start z c v) B z v) (with (value_of p m e z.env v) judged)
   plain_truth B e z u n to c rest v le ll a f r =
       let A : Account = record { most = 16 * v.turns + 12; least = suc v.turns - turns_of false e } in
@@ -136,11 +136,11 @@ module _ (g : Setting) (p : Program) (m : Meanings) (procs : Procedures g p) (kn
       (ran_more (omega arith) (omega arith) (value_of_runs A e z c (JumpIf u n ∷ rest) v (omega arith) (omega arith) a r))
       (λ x w1 y. tested (omega arith) (omega arith) r f y)
 
-  truth_of_runs : (B : Account) (e : Expression) (z : Sit) (u : Bool) (n : ℕ) (to c rest : List Stmt) (v : World) → 16 * v.turns + 13 ≤ B.most → B.least ≤ suc v.turns - turns_of false e → IsJump g z.scene z.depth z.env e u n c rest
+  truth_of_runs : (B : Account) (e : Expression) (z : Configuration) (u : Bool) (n : ℕ) (to c rest : List Stmt) (v : World) → 16 * v.turns + 13 ≤ B.most → B.least ≤ suc v.turns - turns_of false e → IsJump g z.scene z.depth z.env e u n c rest
       → from_label z.scene.own.stmts n ≡ Some to → Ready g z v → Ran g (start z c v) B (HasTruth g (start z c v) B z u to rest v) (Out g (start z c v) B z v) (truth_of p m e z.env v)
   truth_of_runs B (t.parens l e) z u n to c rest v le ll a f r =
       ran_first (omega arith) (omega arith)
-      (λ x w1 y. arrived_more (omega arith) (omega arith) y) (sim.truth e z u n to c rest v a f r)
+      (λ x w1 y. completed_more (omega arith) (omega arith) y) (sim.truth e z u n to c rest v a f r)
   truth_of_runs B (t.unary l q.Not e) z u n to c rest v le ll a f r = denied_run g m sim B e z u n to c rest v (omega arith) (omega arith) a f r
   truth_of_runs B (t.binary l o.Both i x y) z true n to c rest v le ll a f r =
       over_run g m sim B x y z true n a.0 to c a.1 rest v (omega arith) (omega arith) a.2 a.3 a.4 f r
@@ -154,7 +154,7 @@ module _ (g : Setting) (p : Program) (m : Meanings) (procs : Procedures g p) (kn
   truth_of_runs B y z u n to c rest v le ll a f r = plain_truth B y z u n to c rest v le ll a f r
 
   -- ---- places
-  address_of_runs : (B : Account) (e : Expression) (z : Sit) (c rest : List Stmt) (v : World) → 16 * v.turns + 12 ≤ B.most → B.least ≤ suc v.turns - turns_of false e → IsAddress g z.scene z.depth z.env e c rest → Ready g z v
+  address_of_runs : (B : Account) (e : Expression) (z : Configuration) (c rest : List Stmt) (v : World) → 16 * v.turns + 12 ≤ B.most → B.least ≤ suc v.turns - turns_of false e → IsAddress g z.scene z.depth z.env e c rest → Ready g z v
       → RanAddress g (start z c v) B z rest v (target_of m e z.env v)
   address_of_runs B (t.name l x) z c rest v le ll a r = address_runs g B z c x rest v (omega arith) (omega arith) a r
   address_of_runs B (t.parens l e) z c rest v le ll a r =
@@ -165,7 +165,7 @@ module _ (g : Setting) (p : Program) (m : Meanings) (procs : Procedures g p) (kn
   address_of_runs B (t.binary l o.Byte i x y) z c rest v le ll a r = absurd a
   address_of_runs B _ z c rest v le ll a r = went tt
 
-  store_of_runs : (B : Account) (e : Expression) (z : Sit) (c rest : List Stmt) (v : World) → 16 * v.turns + 12 ≤ B.most → B.least ≤ suc v.turns - turns_of false e → IsStore g z.scene z.depth z.env e c rest → Ready g z v
+  store_of_runs : (B : Account) (e : Expression) (z : Configuration) (c rest : List Stmt) (v : World) → 16 * v.turns + 12 ≤ B.most → B.least ≤ suc v.turns - turns_of false e → IsStore g z.scene z.depth z.env e c rest → Ready g z v
       → RanStore g (start z c v) B z rest v (target_of m e z.env v)
   store_of_runs B (t.name l x) z c rest v le ll a r = word_runs g B z c x rest v (omega arith) (omega arith) a r
   store_of_runs B (t.parens l e) z c rest v le ll a r =
@@ -178,31 +178,31 @@ module _ (g : Setting) (p : Program) (m : Meanings) (procs : Procedures g p) (kn
 
   -- ---- commands
   -- commands made of parts, within their account
-  assigned_more : (B : Account) (xs es : Expressions) (z : Sit) (c rest : List Stmt) (v : World) → 16 * v.turns + 16 ≤ B.most → B.least ≤ suc v.turns - (1 + (turns_among false xs + turns_among false es))
+  assigned_more : (B : Account) (xs es : Expressions) (z : Configuration) (c rest : List Stmt) (v : World) → 16 * v.turns + 16 ≤ B.most → B.least ≤ suc v.turns - (1 + (turns_among false xs + turns_among false es))
       → (vs ss : List Stretch) × AreFrom g z.scene z.depth (past_each xs z.env) es vs × AreStores g z.scene (z.depth + 1) z.env xs ss × ByTurns xs es vs ss c rest → Ready g z v → RanDid g (start z c v) B z rest v (assigned m xs z.env es (past_each xs z.env) v)
   assigned_more B xs es z c rest v le ll a r =
       ran_first (omega arith) (omega arith)
-      (λ _ w1 y. arrived_more (omega arith) (omega arith) y)
+      (λ _ w1 y. completed_more (omega arith) (omega arith) y)
       (assigned_run g m sim xs es a.0 a.1 z.env (past_each xs z.env) z c rest v a.2 a.3 a.4 refl refl r)
 
-  call_more : (B : Account) (f : Expression) (es : Expressions) (z : Sit) (c rest : List Stmt) (v : World) → 16 * v.turns + 16 ≤ B.most → B.least ≤ suc v.turns - (1 + (turns_among false es + turns_of false f))
+  call_more : (B : Account) (f : Expression) (es : Expressions) (z : Configuration) (c rest : List Stmt) (v : World) → 16 * v.turns + 16 ≤ B.most → B.least ≤ suc v.turns - (1 + (turns_among false es + turns_of false f))
       → (c1 c2 : List Stmt) × (c ≡ Stack (z.depth + 2) ∷ c1) × AreValues g z.scene (z.depth + 2) (past f z.env) es c1 c2 × IsValue g z.scene (z.depth + 2 + count es) z.env f c2 (CallRoutine z.depth ∷ rest) × CallAt g z.scene (CallRoutine z.depth) rest
       × (z.depth + 2 + count es + 1 ≤ FRAME_WORDS) → Ready g z v → RanDid g (start z c v) B z rest v (with (applied p m f es z.env v) (λ _ w. done w))
   call_more B f es z c rest v le ll a r =
       with_ran (λ _. adds _ (λ w1. stays (history w1)))
       (apply_runs false g p m procs known sim (alone_runs g m sim) (alone_adds g m sim) B f es z c a.0 a.1 rest v (omega arith) (omega arith) a.2 a.3 a.4 a.5 a.6 r) (λ x w1 y. went y)
 
-  order_more : (B : Account) (cs : Actions) (mode : Mode) (z : Sit) (there : Sought → List Stmt) (c rest e : List Stmt) (v : World) → 16 * v.turns + 16 ≤ B.most → B.least ≤ v.turns - turns_through false cs → AreActs g z.scene z.depth z.env cs there c rest
+  order_more : (B : Account) (cs : Actions) (mode : Mode) (z : Configuration) (there : Sought → List Stmt) (c rest e : List Stmt) (v : World) → 16 * v.turns + 16 ≤ B.most → B.least ≤ v.turns - turns_through false cs → AreActs g z.scene z.depth z.env cs there c rest
       → EnteredAny mode z.env cs there c e → Ready g z v → RanDid g (start z e v) B z rest v (in_order m cs mode z.env v)
   order_more B cs mode z there c rest e v le ll a en r =
       ran_first (omega arith) (omega arith)
-      (λ _ w1 y. arrived_more (omega arith) (omega arith) y) (order_run g m sim cs mode z there c rest e v a en r)
+      (λ _ w1 y. completed_more (omega arith) (omega arith) y) (order_run g m sim cs mode z there c rest e v a en r)
 
-  act_of_runs : (B : Account) (x : Action) (mode : Mode) (z : Sit) (there : Sought → List Stmt) (c rest e : List Stmt) (v : World) → 16 * v.turns + 16 ≤ B.most → B.least ≤ suc v.turns - turns_in false x → B.least ≤ v.turns → IsAct g z.scene z.depth z.env x there c rest
+  act_of_runs : (B : Account) (x : Action) (mode : Mode) (z : Configuration) (there : Sought → List Stmt) (c rest e : List Stmt) (v : World) → 16 * v.turns + 16 ≤ B.most → B.least ≤ suc v.turns - turns_in false x → B.least ≤ v.turns → IsAct g z.scene z.depth z.env x there c rest
       → Entered mode z.env x there c e → Ready g z v → RanDid g (start z e v) B z rest v (act_of p m x mode z.env v)
   act_of_runs B (t.empty) forwards z there c rest e v le ll lb a en r =
       subst (λ code. RanDid g (start z code v) B z rest v (act_of p m (t.empty) forwards z.env v)) (sym en)
-      (went (subst (λ y. ArrivedAt g (start z c v) B z y z.depth v v) a (stay g B z c v (omega arith) lb r)))
+      (went (subst (λ y. CompletedAt g (start z c v) B z y z.depth v v) a (stay g B z c v (omega arith) lb r)))
   act_of_runs B (t.assign l xs es) forwards z there c rest e v le ll lb a en r = subst (λ code. RanDid g (start z code v) B z rest v (act_of p m (t.assign l xs es) forwards z.env v)) (sym en) (assigned_more B xs es z c rest v le ll a r)
   act_of_runs B (t.call l f es) forwards z there c rest e v le ll lb a en r = subst (λ code. RanDid g (start z code v) B z rest v (act_of p m (t.call l f es) forwards z.env v)) (sym en) (call_more B f es z c rest v le ll a r)
   act_of_runs B (t.goto l x) forwards z there c rest e v le ll lb a en r = subst (λ code. RanDid g (start z code v) B z rest v (act_of p m (t.goto l x) forwards z.env v)) (sym en) (goto_runs g B z x.letters c rest v (omega arith) (omega arith) a.0 a.1 r)
@@ -236,7 +236,7 @@ module _ (g : Setting) (p : Program) (m : Meanings) (procs : Procedures g p) (kn
   act_of_runs B _ (seeking s) z there c rest e v le ll lb a en r = not_true en.0
 
   -- ---- with their turns
-  value_turn : (e : Expression) (z : Sit) (c rest : List Stmt) (v : World) → IsValue g z.scene z.depth z.env e c rest → Ready g z v
+  value_turn : (e : Expression) (z : Configuration) (c rest : List Stmt) (v : World) → IsValue g z.scene z.depth z.env e c rest → Ready g z v
       → Ran g (start z c v) (for_value e v) (λ u w1. Has g (start z c v) (for_value e v) z rest (z.depth + 1) v u w1 × (1 ≤ v.turns)) (Out g (start z c v) (for_value e v) z v) (turn v (λ w. value_of p m e z.env w))
   value_turn e z c rest v a r =
       turn_behind 0 0 v _ (here _) (omega arith) (omega arith) refl refl (λ n en.
@@ -245,13 +245,13 @@ module _ (g : Setting) (p : Program) (m : Meanings) (procs : Procedures g p) (kn
       ran_first (omega arith) (omega arith)
       (λ u w1 y. (record { arr = y.arr; stands = y.stands }, omega arith)) (value_of_runs B e z c rest v1 (omega arith) (omega arith) a (ready_ticked g z v n r)))
 
-  truth_turn : (e : Expression) (z : Sit) (u : Bool) (n : ℕ) (to c rest : List Stmt) (v : World) → IsJump g z.scene z.depth z.env e u n c rest → from_label z.scene.own.stmts n ≡ Some to → Ready g z v
+  truth_turn : (e : Expression) (z : Configuration) (u : Bool) (n : ℕ) (to c rest : List Stmt) (v : World) → IsJump g z.scene z.depth z.env e u n c rest → from_label z.scene.own.stmts n ≡ Some to → Ready g z v
       → Ran g (start z c v) (for_truth e v) (HasTruth g (start z c v) (for_truth e v) z u to rest v) (Out g (start z c v) (for_truth e v) z v) (turn v (λ w. truth_of p m e z.env w))
   truth_turn e z u n to c rest v a f r =
       turn_behind 0 0 v _ (here _) (omega arith) (omega arith) refl refl (λ k en.
       truth_of_runs (for_truth e v) e z u n to c rest (record v { turns = k }) (omega arith) (omega arith) a f (ready_ticked g z v k r))
 
-  address_turn : (e : Expression) (z : Sit) (c rest : List Stmt) (v : World) → IsAddress g z.scene z.depth z.env e c rest → Ready g z v
+  address_turn : (e : Expression) (z : Configuration) (c rest : List Stmt) (v : World) → IsAddress g z.scene z.depth z.env e c rest → Ready g z v
       → Ran g (start z c v) (for_value e v) (HasAddress g (start z c v) (for_value e v) z rest v) (Out g (start z c v) (for_value e v) z v) (turn v (λ w. target_of m e z.env w))
   address_turn e z c rest v a r =
       turn_behind 0 0 v _ (here _) (omega arith) (omega arith) refl refl (λ n en.
@@ -260,7 +260,7 @@ module _ (g : Setting) (p : Program) (m : Meanings) (procs : Procedures g p) (kn
       ran_first (omega arith) (omega arith)
       (λ u w1 y. ticked_address g (start z c v) B z rest v n u w1 y) (address_of_runs B e z c rest v1 (omega arith) (omega arith) a (ready_ticked g z v n r)))
 
-  store_turn : (e : Expression) (z : Sit) (c rest : List Stmt) (v : World) → IsStore g z.scene z.depth z.env e c rest → Ready g z v
+  store_turn : (e : Expression) (z : Configuration) (c rest : List Stmt) (v : World) → IsStore g z.scene z.depth z.env e c rest → Ready g z v
       → Ran g (start z c v) (for_value e v) (λ u w1. Destined g (start z c v) (for_value e v) z rest v u w1) (Out g (start z c v) (for_value e v) z v) (turn v (λ w. target_of m e z.env w))
   store_turn e z c rest v a r =
       turn_behind 0 0 v _ (here _) (omega arith) (omega arith) refl refl (λ n en.
@@ -269,20 +269,20 @@ module _ (g : Setting) (p : Program) (m : Meanings) (procs : Procedures g p) (kn
       ran_first (omega arith) (omega arith)
       (λ u w1 y. ticked_store g (start z c v) B z rest v n u w1 y) (store_of_runs B e z c rest v1 (omega arith) (omega arith) a (ready_ticked g z v n r)))
 
-  act_turn : (x : Action) (mode : Mode) (z : Sit) (there : Sought → List Stmt) (c rest e : List Stmt) (v : World) → 1 ≤ turns_in false x → IsAct g z.scene z.depth z.env x there c rest → Entered mode z.env x there c e → Ready g z v
+  act_turn : (x : Action) (mode : Mode) (z : Configuration) (there : Sought → List Stmt) (c rest e : List Stmt) (v : World) → 1 ≤ turns_in false x → IsAct g z.scene z.depth z.env x there c rest → Entered mode z.env x there c e → Ready g z v
       → RanDid g (start z e v) (for_act x v) z rest v (turn v (λ w. act_of p m x mode z.env w))
   act_turn x mode z there c rest e v pos a en r =
       turn_behind 0 0 v _ (here _) (omega arith) (omega arith) refl refl (λ n ev.
       act_of_runs (for_act x v) x mode z there c rest e (record v { turns = n }) (omega arith) (omega arith) (omega arith) a en (ready_ticked g z v n r))
 
-  act_run : (x : Action) (mode : Mode) (z : Sit) (there : Sought → List Stmt) (c rest e : List Stmt) (v : World) → IsAct g z.scene z.depth z.env x there c rest → Entered mode z.env x there c e → Ready g z v
+  act_run : (x : Action) (mode : Mode) (z : Configuration) (there : Sought → List Stmt) (c rest e : List Stmt) (v : World) → IsAct g z.scene z.depth z.env x there c rest → Entered mode z.env x there c e → Ready g z v
       → RanDid g (start z e v) (for_act x v) z rest v (turn_for x v (λ w. act_of p m x mode z.env w))
   act_run t.empty forwards z there c rest e v a en r =
       went (subst (λ code. Did g (start z e v) (for_act t.empty v) z code v v) (en ∙ a) (stay g (for_act t.empty v) z e v (omega arith) (omega arith) r))
   act_run t.empty (seeking s) z there c rest e v a en r = not_true en.0
   act_run x mode z there c rest e v a en r = act_turn x mode z there c rest e v (omega arith) a en r
 
-  loop_run : (x : Action) (mode : Mode) (z : Sit) (there : Sought → List Stmt) (body rest e : List Stmt) (v : World) → IsLoop g z.scene z.depth z.env x there body rest → EnteredBody mode z.env x there body e → Ready g z v
+  loop_run : (x : Action) (mode : Mode) (z : Configuration) (there : Sought → List Stmt) (body rest e : List Stmt) (v : World) → IsLoop g z.scene z.depth z.env x there body rest → EnteredBody mode z.env x there body e → Ready g z v
       → RanDid g (start z e v) (for_rounds x v) z rest v (rounds_of m x mode z.env v)
   loop_run (t.while l b i y) mode z there body rest e v a en r = while_rounds g m sim l b i y mode z there body rest e v a en r
   loop_run (t.repeat l y) mode z there body rest e v a en r = repeat_rounds g m sim l y mode z there body rest e v a en r
@@ -306,11 +306,11 @@ module _ (g : Setting) (p : Program) (m : Meanings) (procs : Procedures g p) (kn
 -- ---- With any number of turns each form does what it means.
 
 -- where no turn is left a run goes on from where it is
-still_going : {A : Type 0} {K : A → World → Type 0} {X : Exit → World → Type 0} (g : Setting) (B : Account) (z : Sit) (c : List Stmt) (w : World)
+still_going : {A : Type 0} {K : A → World → Type 0} {X : Exit → World → Type 0} (g : Setting) (B : Account) (z : Configuration) (c : List Stmt) (w : World)
     → B.least ≤ w.turns → Ran g (start z c w) B K X (going w)
 still_going g B z c w le = went (record { to = start z c w; steps = 0; paid = 0; comes = here _; most = omega arith; least = omega arith; wrote = refl; left = refl })
 
-act_without : (g : Setting) (x : Action) (mode : Mode) (z : Sit) (there : Sought → List Stmt) (c rest e : List Stmt) (w : World) → IsAct g z.scene z.depth z.env x there c rest → Entered mode z.env x there c e → Ready g z w
+act_without : (g : Setting) (x : Action) (mode : Mode) (z : Configuration) (there : Sought → List Stmt) (c rest e : List Stmt) (w : World) → IsAct g z.scene z.depth z.env x there c rest → Entered mode z.env x there c e → Ready g z w
     → RanDid g (start z e w) (for_act x w) z rest w (no_turn_for x w)
 act_without g t.empty forwards z there c rest e w a en r =
     went (subst (λ code. Did g (start z e w) (for_act t.empty w) z code w w) (en ∙ a) (stay g (for_act t.empty w) z e w (omega arith) (omega arith) r))

@@ -1,5 +1,5 @@
 -- Calls, for a value or not: the arguments, then the procedure, then its frame or a routine of the library.
-use Rattle.bk_simulation.proofs.Words.{◌≡◌, ℕ, suc, ◌+◌, ◌-◌, ◌*◌, ◌<◌, ◌≤◌, ◌^◌, max, nat_lt, Bool, true, false, List, ◌∷◌, length, Option, Some, None, refl, sym, ap, ◌∙◌, subst, arith, option_map_or, slice_get_within, FRAME_WORDS, Expression, Expressions, Action, Word, Cell, content_of, below, settle, Placed, Callables, Inside, State, slot, can_be_called, Stmt, Stack, Value, procedure, routine, World, Exit, Outcome, gives, undefined, each_way, calling, calls_back, Environment, past, Procedure, procedure_of, history, After, Throughout, forwards, scope_of, alone, Meanings, enter, call, applied, adds, stays, earlier, with_after, each_way_after, closing_after, calling_on}
+use Rattle.bk_simulation.proofs.Words.{◌≡◌, ℕ, suc, ◌+◌, ◌-◌, ◌*◌, ◌<◌, ◌≤◌, ◌^◌, max, nat_lt, Bool, true, false, List, ◌∷◌, length, Option, Some, None, refl, sym, ap, ◌∙◌, subst, arith, option_map_or, slice_get_within, FRAME_WORDS, Expression, Expressions, Action, Word, Cell, content_of, below, settle, Placed, Callables, Inside, State, slot, can_be_called, Stmt, Stack, Value, procedure, routine, World, Exit, Outcome, gives, undefined, each_evaluation, calling, calls_back, Environment, past, Procedure, procedure_of, history, After, Throughout, forwards, scope_of, alone, Meanings, enter, call, applied, adds, stays, earlier, with_after, each_evaluation_after, closing_after, calling_on}
 use Rattle.bk_ocode.specs.OcodeState as ocode
 use Rattle.bk_meaning.specs.Values as value
 use Rattle.bk_meaning.specs.Lasting.{Program}
@@ -14,8 +14,8 @@ use Rattle.bk_simulation.proofs.WrittenCells.{below_like, settle_like}
 use Rattle.bk_simulation.proofs.BytesKept.{moves_bytes}
 use Rattle.bk_simulation.proofs.Weights.{turns_of, turns_among}
 use Rattle.bk_simulation.proofs.Laid.{Setting, CallAt, IsValue, AreValues, count}
-use Rattle.bk_simulation.proofs.Frame.{Sit, start, FewFrames, Ready, Account, one, comes_on, Ran, went, each_way_ran, with_ran, ArrivedAt, there, Out, next, ready_next, by_option}
-use Rattle.bk_simulation.proofs.Compose.{stay, roomy, arrived_step, arrived_on, ran_on}
+use Rattle.bk_simulation.proofs.Frame.{Configuration, start, FewFrames, Ready, Account, one, comes_on, Ran, went, each_evaluation_ran, with_ran, CompletedAt, there, Out, next, ready_next, by_option}
+use Rattle.bk_simulation.proofs.Compose.{stay, roomy, completed_step, completed_on, ran_on}
 use Rattle.bk_simulation.proofs.Simulates.{Simulates, for_values}
 use Rattle.bk_simulation.proofs.Operators.{value_run}
 use Rattle.bk_simulation.proofs.NewFrames.{called_cells, called_like, called_argument, called_frame, called_back, called_links}
@@ -39,7 +39,7 @@ routine_moves false g s own rest d n e r ec ew er el = call_of_routine_moves g.p
 library_after : (r : value.Routine) (vs : List Value) (w : World) → After (history w) (library r vs w)
 library_after r vs w = (ties_add (library r vs) (library r vs) (library_ties r vs)).at w
 
-routine_runs : (of : Bool) (g : Setting) (r : value.Routine) (s : State) (A B : Account) (z : Sit) (rest : List Stmt) (w w1 : World) (vs : List Value) → A.most + 4 ≤ B.most → B.least ≤ A.least
+routine_runs : (of : Bool) (g : Setting) (r : value.Routine) (s : State) (A B : Account) (z : Configuration) (rest : List Stmt) (w w1 : World) (vs : List Value) → A.most + 4 ≤ B.most → B.least ≤ A.least
     → z.depth ≤ FRAME_WORDS → Ready g z w → CallAt g z.scene (call_stmt of z.depth) rest → g.program.callables.routine (g.codes.routine r) ≡ Some (named_there r) → Calling of g s A z rest w vs (routine r) w1
     → Ran g s B (λ v w3. Gave of g s B z rest w v (calls_back w1.calls w3)) AnyExit (library r vs (calling w1))
 routine_runs of g r s A B z rest w w1 vs leB leB' led ready call known ca =
@@ -99,10 +99,10 @@ called_after p m grows alone_after _ vs w = tt
 
 pub call_after : (p : Program) (m : Meanings) → Throughout (λ A w u. After (history w) u) m → AloneAdds m → (v : Value) (vs : List Value) (w : World) → After (history w) (call p m v vs w)
 call_after p m grows alone_after v vs w =
-    each_way_after _ (called p m v vs (calling w)) _ _ (earlier _ _ (called p m v vs (calling w)) (calling_on w) (called_after p m grows alone_after v vs (calling w)))
+    each_evaluation_after _ (called p m v vs (calling w)) _ _ (earlier _ _ (called p m v vs (calling w)) (calling_on w) (called_after p m grows alone_after v vs (calling w)))
     (λ u. adds _ (λ w1. stays (history w1))) (λ x. adds _ (λ w1. tt))
 
-called_runs : (of : Bool) (g : Setting) (p : Program) (m : Meanings) → Procedures g p → KnowsLibrary g → Simulates g m → AloneRuns g m → AloneAdds m → (s : State) (A B : Account) (z : Sit) (rest : List Stmt) (w w1 : World)
+called_runs : (of : Bool) (g : Setting) (p : Program) (m : Meanings) → Procedures g p → KnowsLibrary g → Simulates g m → AloneRuns g m → AloneAdds m → (s : State) (A B : Account) (z : Configuration) (rest : List Stmt) (w w1 : World)
     (vs : List Value) (v : Value) → A.most + 4 ≤ B.most → B.least ≤ A.least → z.depth ≤ FRAME_WORDS → Ready g z w → CallAt g z.scene (call_stmt of z.depth) rest → Calling of g s A z rest w vs v w1
     → Ran g s B (λ v w3. Gave of g s B z rest w v (calls_back w1.calls w3)) AnyExit (called p m v vs (calling w1))
 called_runs of g p m procs known sim alone_runs alone_after s A B z rest w w1 vs (procedure k) le le' led r call ca =
@@ -113,12 +113,12 @@ called_runs of g p m procs known sim alone_runs alone_after s A B z rest w w1 vs
 called_runs of g p m procs known sim alone_runs alone_after s A B z rest w w1 vs _ le le' led r call ca = went tt
 
 back_ran : {g : Setting} {s : State} {B : Account} {K : Value → World → Type 0} {X : Exit → World → Type 0} {o : Outcome Value} (n : ℕ)
-    → Ran g s B (λ v w3. K v (calls_back n w3)) AnyExit o → Ran g s B K X (each_way (λ v after. gives v (calls_back n after)) (λ x w. undefined) o)
-back_ran n q = each_way_ran (λ t. adds _ (λ w. stays (history w))) (λ x. adds _ (λ w. tt)) q (λ v w3 k. went k) (λ x w k. went tt)
+    → Ran g s B (λ v w3. K v (calls_back n w3)) AnyExit o → Ran g s B K X (each_evaluation (λ v after. gives v (calls_back n after)) (λ x w. undefined) o)
+back_ran n q = each_evaluation_ran (λ t. adds _ (λ w. stays (history w))) (λ x. adds _ (λ w. tt)) q (λ v w3 k. went k) (λ x w k. went tt)
 
 -- ---- the arguments, the procedure, the call
 
-pub apply_runs : (of : Bool) (g : Setting) (p : Program) (m : Meanings) → Procedures g p → KnowsLibrary g → Simulates g m → AloneRuns g m → AloneAdds m → (B : Account) (f : Expression) (es : Expressions) (z : Sit)
+pub apply_runs : (of : Bool) (g : Setting) (p : Program) (m : Meanings) → Procedures g p → KnowsLibrary g → Simulates g m → AloneRuns g m → AloneAdds m → (B : Account) (f : Expression) (es : Expressions) (z : Configuration)
     (c c1 c2 rest : List Stmt) (w : World) → 16 * w.turns + 5 ≤ B.most → B.least ≤ w.turns - (turns_among false es + turns_of false f) → c ≡ Stack (z.depth + 2) ∷ c1 → AreValues g z.scene (z.depth + 2) (past f z.env) es c1 c2
     → IsValue g z.scene (z.depth + 2 + count es) z.env f c2 (call_stmt of z.depth ∷ rest) → CallAt g z.scene (call_stmt of z.depth) rest → z.depth + 2 + count es + 1 ≤ FRAME_WORDS → Ready g z w
     → Ran g (start z c w) B (Gave of g (start z c w) B z rest w) (Out g (start z c w) B z w) (applied p m f es z.env w)
@@ -129,7 +129,7 @@ apply_runs of g p m procs known sim alone_runs alone_after B f es z c c1 c2 rest
     let like0 : (a : ℕ) → a < top → Like (cells0 a) (z.cells a) = λ a lt.
     like_on _ _ _ (below_like (z.frame + (z.depth + 2)) (settle (z.frame + z.depth) (z.frame + (z.depth + 2)) z.cells) a (let l : a < z.frame + z.depth = lt in omega arith)) (settle_like (z.frame + z.depth) (z.frame + (z.depth + 2)) z.cells a) in
     let dp = r.deep in
-    let a0 : ArrivedAt g s A z c1 (z.depth + 2) w w = arrived_step (stay g A0 z c w (omega arith) (omega arith) r) cells0 None z.written (omega arith) like0 (stack_moves g.program s z.scene.own c1 z.depth (z.depth + 2) (ap (λ y. Inside z.scene.own z.depth y) ec)) in
+    let a0 : CompletedAt g s A z c1 (z.depth + 2) w w = completed_step (stay g A0 z c w (omega arith) (omega arith) r) cells0 None z.written (omega arith) like0 (stack_moves g.program s z.scene.own c1 z.depth (z.depth + 2) (ap (λ y. Inside z.scene.own z.depth y) ec)) in
     let z0 = next g s A z c1 (z.depth + 2) w w (past f z.env) (z.depth + 2) a0 in
     with_ran {K = λ vs w1. Listed g (start z0 c1 w) (for_values es w) z0 c2 es w vs w1}
     (λ vs. adds _ (λ w1. with_after _ _ _ (sim.grows.value f z.env w1) (λ v. adds _ (λ w2. call_after p m sim.grows alone_after v vs w2))))
@@ -137,13 +137,13 @@ apply_runs of g p m procs known sim alone_runs alone_after B f es z c c1 c2 rest
     (λ vs w1 l.
     let ld = l.is_depth in
     let ll = l.long in
-    let a1 : ArrivedAt g s D z c2 l.depth1 w w1 = arrived_on (omega arith) (omega arith) r (omega arith) a0 l.arr in
+    let a1 : CompletedAt g s D z c2 l.depth1 w w1 = completed_on (omega arith) (omega arith) r (omega arith) a0 l.arr in
     with_ran {K = λ v w2. Calling of g s C z rest w vs v w2} (λ v. adds _ (λ w2. call_after p m sim.grows alone_after v vs w2))
     (ran_on (omega arith) (omega arith) r (omega arith) a1
     (λ v w2 q. record {
       depth1 = l.depth1;
       is_depth = (let x = l.is_depth in let y = l.long in omega arith);
-      arr = arrived_on (omega arith) (omega arith) r (omega arith) a1 q.arr;
+      arr = completed_on (omega arith) (omega arith) r (omega arith) a1 q.arr;
       word = q.stands;
       each = λ i u h.
           let lt : i < length vs = slice_get_within vs i u h in

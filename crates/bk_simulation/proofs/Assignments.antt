@@ -10,8 +10,8 @@ use Rattle.bk_simulation.proofs.Memory.{BaseOf, Like, Stands, Store, Moved, Fits
 use Rattle.bk_simulation.proofs.WrittenCells.{below_like, variable_found, put, write_here, write_at}
 use Rattle.bk_simulation.proofs.Weights.{turns_of, turns_among}
 use Rattle.bk_simulation.proofs.Laid.{Setting, Stretch, ByTurns, AreFrom, AreStores, IsStore, named_word, IsValue}
-use Rattle.bk_simulation.proofs.Frame.{Sit, store, state, start, place_of, Ready, Account, further, went, with_ran, ArrivedAt, store_at, there, Has, next, ready_next, NameAt, Ran, Out, by_option}
-use Rattle.bk_simulation.proofs.Compose.{stay, stepped, arrived_more, arrived_on, ran_on, comes_to, ran_more, above}
+use Rattle.bk_simulation.proofs.Frame.{Configuration, store, state, start, place_of, Ready, Account, further, went, with_ran, CompletedAt, store_at, there, Has, next, ready_next, NameAt, Ran, Out, by_option}
+use Rattle.bk_simulation.proofs.Compose.{stay, stepped, completed_more, completed_on, ran_on, comes_to, ran_more, above}
 use Rattle.bk_simulation.proofs.Simulates.{Simulates, for_value, Destined, word, through, byte, RanDid, HasAddress}
 use Rattle.bk_simulation.proofs.Operators.{one_run, dyadic_topped, Two, for_two, two_run, pushes_item, named_at}
 use Rattle.bk_simulation.proofs.Orders.{ready_at}
@@ -20,10 +20,10 @@ use Rattle.bk_simulation.proofs.OperatorWords.{sum_applied}
 
 -- ---- Addresses, for `@` and as destinations.
 
-abbrev pub RanAddress : Setting → State → Account → Sit → List Stmt → World → Outcome Target → Type 0
+abbrev pub RanAddress : Setting → State → Account → Configuration → List Stmt → World → Outcome Target → Type 0
 RanAddress g s B z rest w o = Ran g s B (HasAddress g s B z rest w) (Out g s B z w) o
 
-abbrev pub RanStore : Setting → State → Account → Sit → List Stmt → World → Outcome Target → Type 0
+abbrev pub RanStore : Setting → State → Account → Configuration → List Stmt → World → Outcome Target → Type 0
 RanStore g s B z rest w o = Ran g s B (λ t w1. Destined g s B z rest w t w1) (Out g s B z w) o
 
 small_offset : (base i : ℕ) → base + i < 2 ^ 32 → i < 2 ^ 32
@@ -33,7 +33,7 @@ small_word : (base i : ℕ) → base + i < 2 ^ 32 → base + i ≡ (base + i) % 
 small_word base i lt = omega arith
 
 -- the address of a name's word
-pub address_runs : (g : Setting) (B : Account) (z : Sit) (c : List Stmt) (x : List ℕ) (rest : List Stmt) (w : World) → 16 * w.turns + 1 ≤ B.most → B.least ≤ w.turns → c ≡ Address (named_word z.scene x) ∷ rest → Ready g z w
+pub address_runs : (g : Setting) (B : Account) (z : Configuration) (c : List Stmt) (x : List ℕ) (rest : List Stmt) (w : World) → 16 * w.turns + 1 ≤ B.most → B.least ≤ w.turns → c ≡ Address (named_word z.scene x) ∷ rest → Ready g z w
     → RanAddress g (start z c w) B z rest w (address_named (sense_of x z.env) w)
 address_runs g B z c x rest w le le' ec r = by_sense (sense_of x z.env) (r.named.each x)
   where
@@ -47,7 +47,7 @@ address_runs g B z c x rest w le le' ec r = by_sense (sense_of x z.env) (r.named
     by_sense _ h = went tt
 
 -- the word of a name as a destination
-pub word_runs : (g : Setting) (B : Account) (z : Sit) (c : List Stmt) (x : List ℕ) (rest : List Stmt) (w : World) → 16 * w.turns ≤ B.most → B.least ≤ w.turns → c ≡ Assign (named_word z.scene x) ∷ rest → Ready g z w
+pub word_runs : (g : Setting) (B : Account) (z : Configuration) (c : List Stmt) (x : List ℕ) (rest : List Stmt) (w : World) → 16 * w.turns ≤ B.most → B.least ≤ w.turns → c ≡ Assign (named_word z.scene x) ∷ rest → Ready g z w
     → RanStore g (start z c w) B z rest w (address_named (sense_of x z.env) w)
 word_runs g B z c x rest w le le' ec r = by_sense (sense_of x z.env) (r.named.each x)
   where
@@ -59,20 +59,20 @@ word_runs g B z c x rest w le le' ec r = by_sense (sense_of x z.env) (r.named.ea
     by_sense _ h = went tt
 
 -- `!E`
-pub contents_address : (g : Setting) (m : Meanings) → Simulates g m → (B : Account) (e : Expression) (z : Sit) (c rest : List Stmt) (w : World) → 16 * w.turns ≤ B.most + 4 → B.least ≤ w.turns - turns_of false e
+pub contents_address : (g : Setting) (m : Meanings) → Simulates g m → (B : Account) (e : Expression) (z : Configuration) (c rest : List Stmt) (w : World) → 16 * w.turns ≤ B.most + 4 → B.least ≤ w.turns - turns_of false e
     → IsValue g z.scene z.depth z.env e c rest → Ready g z w → RanAddress g (start z c w) B z rest w (with (m.value e z.env w) (λ a w. gives (at a) w))
 contents_address g m sim B e z c rest w le le' l r =
     one_run g m sim B e z c rest w _ _ (λ u. adds _ (λ w1. stays (history w1))) le le' l r (λ u w1 q pos.
-    went (record { arr = arrived_more (omega arith) (omega arith) q.arr; stands = q.stands }))
+    went (record { arr = completed_more (omega arith) (omega arith) q.arr; stands = q.stands }))
 
-pub contents_store : (g : Setting) (m : Meanings) → Simulates g m → (B : Account) (e : Expression) (z : Sit) (c rest : List Stmt) (w : World) → 16 * w.turns ≤ B.most + 4 → B.least ≤ w.turns - turns_of false e
+pub contents_store : (g : Setting) (m : Meanings) → Simulates g m → (B : Account) (e : Expression) (z : Configuration) (c rest : List Stmt) (w : World) → 16 * w.turns ≤ B.most + 4 → B.least ≤ w.turns - turns_of false e
     → IsValue g z.scene z.depth z.env e c (AssignAt ∷ rest) → Ready g z w → RanStore g (start z c w) B z rest w (with (m.value e z.env w) (λ a w. gives (at a) w))
 contents_store g m sim B e z c rest w le le' l r =
     one_run g m sim B e z c (AssignAt ∷ rest) w _ _ (λ u. adds _ (λ w1. stays (history w1))) le le' l r (λ u w1 q pos.
-    went (through u w1 (record { arr = arrived_more (omega arith) (omega arith) q.arr; stands = q.stands })))
+    went (through u w1 (record { arr = completed_more (omega arith) (omega arith) q.arr; stands = q.stands })))
 
 -- `E!E`: the sum of two values
-sum_run : (g : Setting) (s : State) (A B : Account) (z : Sit) (rest : List Stmt) (w w1 : World) (u v : Value) (L : Target → World → Type 0) → A.most + 1 ≤ B.most → B.least ≤ A.least → 2 ≤ z.depth
+sum_run : (g : Setting) (s : State) (A B : Account) (z : Configuration) (rest : List Stmt) (w w1 : World) (u v : Value) (L : Target → World → Type 0) → A.most + 1 ≤ B.most → B.least ≤ A.least → 2 ≤ z.depth
     → ((a : Value) → Has g s B z rest (z.depth + 1) w a w1 → L (at a) w1)
     → Two g s A z (Dyadic two.Add ∷ rest) w u v w1 → Ran g s B L (Out g s B z w) (with (given (sum w1.memory u v) w1) (λ a w. gives (at a) w))
 sum_run g s A B z rest w w1 u v L le le' dp gain t =
@@ -85,7 +85,7 @@ sum_adds u v =
     adds (λ w. with (given (sum w.memory u v) w) (λ a w. gives (at a) w))
     (λ w1. with_after (history w1) (given (sum w1.memory u v) w1) (λ a w. gives (at a) w) (given_after (sum w1.memory u v) w1) (λ a. adds (λ w2. gives (at a) w2) (λ w2. stays (history w2))))
 
-pub subscript_address : (g : Setting) (m : Meanings) → Simulates g m → (B : Account) (a b : Expression) (z : Sit) (c c1 rest : List Stmt) (w : World) → 16 * w.turns + 1 ≤ B.most → B.least ≤ w.turns - (turns_of false a + turns_of false b)
+pub subscript_address : (g : Setting) (m : Meanings) → Simulates g m → (B : Account) (a b : Expression) (z : Configuration) (c c1 rest : List Stmt) (w : World) → 16 * w.turns + 1 ≤ B.most → B.least ≤ w.turns - (turns_of false a + turns_of false b)
     → IsValue g z.scene z.depth z.env a c c1 → IsValue g z.scene (z.depth + 1) (past a z.env) b c1 (Dyadic two.Add ∷ rest) → Ready g z w
     → RanAddress g (start z c w) B z rest w (with (m.value a z.env w) (λ x w. with (m.value b (past a z.env) w) (λ y w. with (given (sum w.memory x y) w) (λ a w. gives (at a) w))))
 subscript_address g m sim B a b z c c1 rest w le le' la lb r =
@@ -93,7 +93,7 @@ subscript_address g m sim B a b z c c1 rest w le le' la lb r =
     two_run g m sim B a b z c c1 (Dyadic two.Add ∷ rest) w _ _ sum_adds (omega arith) le' la lb r (λ u v w1 t pos.
     sum_run g (start z c w) (for_two a b w) B z rest w w1 u v _ (omega arith) (omega arith) dp (λ a q. q) t)
 
-pub subscript_store : (g : Setting) (m : Meanings) → Simulates g m → (B : Account) (a b : Expression) (z : Sit) (c c1 rest : List Stmt) (w : World) → 16 * w.turns + 1 ≤ B.most → B.least ≤ w.turns - (turns_of false a + turns_of false b)
+pub subscript_store : (g : Setting) (m : Meanings) → Simulates g m → (B : Account) (a b : Expression) (z : Configuration) (c c1 rest : List Stmt) (w : World) → 16 * w.turns + 1 ≤ B.most → B.least ≤ w.turns - (turns_of false a + turns_of false b)
     → IsValue g z.scene z.depth z.env a c c1 → IsValue g z.scene (z.depth + 1) (past a z.env) b c1 (Dyadic two.Add ∷ AssignAt ∷ rest) → Ready g z w
     → RanStore g (start z c w) B z rest w (with (m.value a z.env w) (λ x w. with (m.value b (past a z.env) w) (λ y w. with (given (sum w.memory x y) w) (λ a w. gives (at a) w))))
 subscript_store g m sim B a b z c c1 rest w le le' la lb r =
@@ -102,26 +102,26 @@ subscript_store g m sim B a b z c c1 rest w le le' la lb r =
     sum_run g (start z c w) (for_two a b w) B z (AssignAt ∷ rest) w w1 u v _ (omega arith) (omega arith) dp (λ a q. through a w1 q) t)
 
 -- `E%E`
-pub byte_store : (g : Setting) (m : Meanings) → Simulates g m → (B : Account) (a b : Expression) (z : Sit) (c c1 rest : List Stmt) (w : World) → 16 * w.turns ≤ B.most + 4 → B.least ≤ w.turns - (turns_of false a + turns_of false b)
+pub byte_store : (g : Setting) (m : Meanings) → Simulates g m → (B : Account) (a b : Expression) (z : Configuration) (c c1 rest : List Stmt) (w : World) → 16 * w.turns ≤ B.most + 4 → B.least ≤ w.turns - (turns_of false a + turns_of false b)
     → IsValue g z.scene z.depth z.env a c c1 → IsValue g z.scene (z.depth + 1) (past a z.env) b c1 (AssignByte ∷ rest) → Ready g z w
     → RanStore g (start z c w) B z rest w (with (m.value a z.env w) (λ x w. with (m.value b (past a z.env) w) (λ y w. gives (byte_at x y) w)))
 byte_store g m sim B a b z c c1 rest w le le' la lb r =
     two_run g m sim B a b z c c1 (AssignByte ∷ rest) w _ _ (λ u v. adds _ (λ w1. stays (history w1))) le le' la lb r (λ u v w1 t pos.
-    went (byte u v w1 (arrived_more (omega arith) (omega arith) t.arr) t.first t.second))
+    went (byte u v w1 (completed_more (omega arith) (omega arith) t.arr) t.first t.second))
 
 -- A word of a living object is stored.
-stored_on : (g : Setting) (s : State) (A : Account) (z : Sit) (c2 rest : List Stmt) (d2 : ℕ) (w w2 : World) (mem1 : Memory) (place : ℕ) (y : Content) (written2 : List ℕ) (r : Ready g z w) (a : ArrivedAt g s A z c2 d2 w w2)
+stored_on : (g : Setting) (s : State) (A : Account) (z : Configuration) (c2 rest : List Stmt) (d2 : ℕ) (w w2 : World) (mem1 : Memory) (place : ℕ) (y : Content) (written2 : List ℕ) (r : Ready g z w) (a : CompletedAt g s A z c2 d2 w w2)
     → Fits g.codes (put (record { bases = a.bases1; mem = w2.memory; cells = a.cells1 }) mem1 place y) (z.frame + z.depth)
     → Moved (z.frame + z.depth) (record { bases = a.bases1; mem = w2.memory; cells = a.cells1 }) (put (record { bases = a.bases1; mem = w2.memory; cells = a.cells1 }) mem1 place y)
     → Moves g.program (there g s A z c2 d2 w w2 a) (state z.scene.own z.depth rest (below (z.frame + z.depth) (write a.cells1 place (Held Variable y))) z.frame None written2 w2)
-    → ArrivedAt g s (further 1 A) z rest z.depth w (remembering mem1 w2)
+    → CompletedAt g s (further 1 A) z rest z.depth w (remembering mem1 w2)
 stored_on g s A z c2 rest d2 w w2 mem1 place y written2 r a f mv e =
     let dp = r.deep in
     let top = z.frame + z.depth in
     let h2 : Store = put (store_at a) mem1 place y in
     let cells2 = below top (write a.cells1 place (Held Variable y)) in
     let like : (x : ℕ) → x < top → Like (cells2 x) (h2.cells x) = λ x lx. below_like top h2.cells x lx in
-    arrived_more (omega arith) (omega arith) (stepped mem1 top (Moved top (store z w)) rest z.depth a cells2 None written2 (λ x v lx ex. mv.links x v (omega arith) ((like x (omega arith)).link v ex)) (fits_above g.codes h2 top cells2 f like)
+    completed_more (omega arith) (omega arith) (stepped mem1 top (Moved top (store z w)) rest z.depth a cells2 None written2 (λ x v lx ex. mv.links x v (omega arith) ((like x (omega arith)).link v ex)) (fits_above g.codes h2 top cells2 f like)
     (moved_on g.codes top top top _ h2 (record h2 { cells = cells2 }) r.fits (omega arith) (moved_on g.codes top top top _ (store_at a) h2 r.fits (omega arith) a.moved mv) (moved_above h2 top cells2 like)) e)
 
 -- a variable is there
@@ -134,8 +134,8 @@ place_is own k c cells frame hand written w (Local n) = refl
 place_is own k c cells frame hand written w _ = refl
 
 -- SP, SG and SL
-pub word_stored : (g : Setting) (s : State) (A B : Account) (z : Sit) (rest : List Stmt) (w w2 : World) (v : Named) (o i b : ℕ) (u : Value) → A.most + 1 ≤ B.most → B.least ≤ A.least → Ready g z w
-    → (a : ArrivedAt g s A z (Assign v ∷ rest) (z.depth + 1) w w2) → BaseOf a.bases1 o b → b + i ≡ place_of z.scene.own z.frame v → Stands g.codes a.bases1 u (content_of (a.cells1 (z.frame + z.depth)))
+pub word_stored : (g : Setting) (s : State) (A B : Account) (z : Configuration) (rest : List Stmt) (w w2 : World) (v : Named) (o i b : ℕ) (u : Value) → A.most + 1 ≤ B.most → B.least ≤ A.least → Ready g z w
+    → (a : CompletedAt g s A z (Assign v ∷ rest) (z.depth + 1) w w2) → BaseOf a.bases1 o b → b + i ≡ place_of z.scene.own z.frame v → Stands g.codes a.bases1 u (content_of (a.cells1 (z.frame + z.depth)))
     → RanDid g s B z rest w (put_value (at (address o i)) u w2)
 word_stored g s A B z rest w w2 v o i b u le le' r a eb ep st =
     by_option (λ y. RanDid g s B z rest w (changes y w2)) (memory.write w2.memory (address o i) u) (λ _. went tt) (λ mem1 e.
@@ -147,12 +147,12 @@ word_stored g s A B z rest w w2 v o i b u le le' r a eb ep st =
     let move = assign_moves g.program here z.scene.own rest z.depth v refl (held_variable v (a.cells1 (named_place here z.scene.own v)) q.content is) in
     let move2 = subst (λ p. Moves g.program here (state z.scene.own z.depth rest (below (z.frame + z.depth) (write a.cells1 p (Held Variable y))) z.frame None (p ∷ a.written1) w2)) same
     (subst (λ k. Moves g.program here (state z.scene.own z.depth rest (below (z.frame + z.depth) (write a.cells1 (named_place here z.scene.own v) (Held k y))) z.frame None (named_place here z.scene.own v ∷ a.written1) w2)) (ap kind_of is) move) in
-    went (arrived_more le le'
+    went (completed_more le le'
     (stored_on g s A z (Assign v ∷ rest) rest (z.depth + 1) w w2 mem1 (b + i) y ((b + i) ∷ a.written1) r a (q.fits y st) (q.moved y (z.frame + z.depth)) move2)))
 
 -- STIND
-through_stored : (g : Setting) (s : State) (A B : Account) (z : Sit) (rest : List Stmt) (w w2 : World) (p u : Value) → A.most + 1 ≤ B.most → B.least ≤ A.least → Ready g z w
-    → (a : ArrivedAt g s A z (AssignAt ∷ rest) (z.depth + 1 + 1) w w2) → Stands g.codes a.bases1 p (content_of (a.cells1 (z.frame + (z.depth + 1)))) → Stands g.codes a.bases1 u (content_of (a.cells1 (z.frame + z.depth)))
+through_stored : (g : Setting) (s : State) (A B : Account) (z : Configuration) (rest : List Stmt) (w w2 : World) (p u : Value) → A.most + 1 ≤ B.most → B.least ≤ A.least → Ready g z w
+    → (a : CompletedAt g s A z (AssignAt ∷ rest) (z.depth + 1 + 1) w w2) → Stands g.codes a.bases1 p (content_of (a.cells1 (z.frame + (z.depth + 1)))) → Stands g.codes a.bases1 u (content_of (a.cells1 (z.frame + z.depth)))
     → RanDid g s B z rest w (put_value (at p) u w2)
 through_stored g s A B z rest w w2 p u le le' r a sp su =
     by_option (λ y. RanDid g s B z rest w (changes y w2)) (memory.write w2.memory p u) (λ _. went tt) (λ mem1 e.
@@ -162,12 +162,12 @@ through_stored g s A B z rest w w2 p u le le' r a sp su =
     let low : q.base + q.offset < z.frame + z.depth = q.cell.low in
     let move = assign_at_moves g.program here z.scene.own rest z.depth (q.base + q.offset) q.cell.content (ap (λ k. Inside z.scene.own k (AssignAt ∷ rest)) (omega arith)) q.word
     (variable_found (z.frame + (z.depth + 2)) (q.base + q.offset) a.cells1 q.cell.content (omega arith) q.cell.there) in
-    went (arrived_more le le'
+    went (completed_more le le'
     (stored_on g s A z (AssignAt ∷ rest) rest (z.depth + 1 + 1) w w2 mem1 (q.base + q.offset) y ((q.base + q.offset) ∷ a.written1) r a (q.cell.fits y su) (q.cell.moved y (z.frame + z.depth)) move)))
 
 -- PUTBYTE
-byte_stored : (g : Setting) (s : State) (A B : Account) (z : Sit) (rest : List Stmt) (w w2 : World) (p k u : Value) → A.most + 1 ≤ B.most → B.least ≤ A.least → Ready g z w
-    → (a : ArrivedAt g s A z (AssignByte ∷ rest) (z.depth + 1 + 1 + 1) w w2) → Stands g.codes a.bases1 p (content_of (a.cells1 (z.frame + (z.depth + 1)))) → Stands g.codes a.bases1 k (content_of (a.cells1 (z.frame + (z.depth + 1 + 1))))
+byte_stored : (g : Setting) (s : State) (A B : Account) (z : Configuration) (rest : List Stmt) (w w2 : World) (p k u : Value) → A.most + 1 ≤ B.most → B.least ≤ A.least → Ready g z w
+    → (a : CompletedAt g s A z (AssignByte ∷ rest) (z.depth + 1 + 1 + 1) w w2) → Stands g.codes a.bases1 p (content_of (a.cells1 (z.frame + (z.depth + 1)))) → Stands g.codes a.bases1 k (content_of (a.cells1 (z.frame + (z.depth + 1 + 1))))
     → Stands g.codes a.bases1 u (content_of (a.cells1 (z.frame + z.depth))) → RanDid g s B z rest w (put_value (byte_at p k) u w2)
 byte_stored g s A B z rest w w2 p k u le le' r a sp sk su =
     let three_deep : (d : ℕ) → d + 1 + 1 + 1 ≡ d + 3 = λ d. omega arith in
@@ -180,7 +180,7 @@ byte_stored g s A B z rest w w2 p k u le le' r a sp sk su =
     let m1 = q.moved (z.frame + z.depth) in
     let move = assign_byte_moves g.program here z.scene.own rest z.depth q.byte q.word q.index q.content (ap (λ k. Inside z.scene.own k (AssignByte ∷ rest)) (three_deep z.depth)) q.is_byte q.is_word
     (ap (λ d. content_of (a.cells1 (z.frame + d))) (sym (two_deep z.depth)) ∙ q.is_index) q.sets in
-    went (arrived_more le le'
+    went (completed_more le le'
     (stored_on g s A z (AssignByte ∷ rest) rest (z.depth + 1 + 1 + 1) w w2 mem1 (word_sum q.word (byte_distance q.index)) q.content ((word_sum q.word (byte_distance q.index)) ∷ a.written1) r a (fits_less g.codes (record { bases = a.bases1; mem = w2.memory; cells = a.cells1 }) _ (z.frame + z.depth) (z.frame + (z.depth + 3)) a.fits m1 q.fits) (q.moved (z.frame + z.depth)) move)))
 
 -- ---- several, one after another
@@ -200,22 +200,22 @@ assigned_adds g m sim t.none (t.more e es) there env = adds _ (λ w. stays (hist
 assigned_adds g m sim (t.more x xs) t.none there env = adds _ (λ w. stays (history w))
 
 -- the value on top goes to its destination
-destined_stored : (g : Setting) (s : State) (A N C D : Account) (z : Sit) (c1 rest : List Stmt) (w w1 w2 : World) (there : Environment) (u : Value) (a : Target) → A.most + N.most ≤ C.most + 16 * w1.turns → C.least ≤ N.least + (A.least - w1.turns) → C.most + 1 ≤ D.most
+destined_stored : (g : Setting) (s : State) (A N C D : Account) (z : Configuration) (c1 rest : List Stmt) (w w1 w2 : World) (there : Environment) (u : Value) (a : Target) → A.most + N.most ≤ C.most + 16 * w1.turns → C.least ≤ N.least + (A.least - w1.turns) → C.most + 1 ≤ D.most
     → D.least ≤ C.least → Ready g z w → (va : Has g s A z c1 (z.depth + 1) w u w1)
     → Destined g (start (next g s A z c1 (z.depth + 1) w w1 there (z.depth + 1) va.arr) c1 w1) N (next g s A z c1 (z.depth + 1) w w1 there (z.depth + 1) va.arr) rest w1 a w2 → RanDid g s D z rest w (put_value a u w2)
 destined_stored g s A N C D z c1 rest w w1 w2 there u _ le1 le2 le3 le4 r va (word v o i b _ x eb ep) =
-    word_stored g s C D z rest w w2 v o i b u le3 le4 r (arrived_on le1 le2 r (omega arith) va.arr x) eb ep
+    word_stored g s C D z rest w w2 v o i b u le3 le4 r (completed_on le1 le2 r (omega arith) va.arr x) eb ep
     (above va x)
 destined_stored g s A N C D z c1 rest w w1 w2 there u _ le1 le2 le3 le4 r va (through p _ x) =
-    through_stored g s C D z rest w w2 p u le3 le4 r (arrived_on le1 le2 r (omega arith) va.arr x.arr) x.stands
+    through_stored g s C D z rest w w2 p u le3 le4 r (completed_on le1 le2 r (omega arith) va.arr x.arr) x.stands
     (above va x.arr)
 destined_stored g s A N C D z c1 rest w w1 w2 there u _ le1 le2 le3 le4 r va (byte p k _ x sp sk) =
-    byte_stored g s C D z rest w w2 p k u le3 le4 r (arrived_on le1 le2 r (omega arith) va.arr x) sp sk
+    byte_stored g s C D z rest w w2 p k u le3 le4 r (completed_on le1 le2 r (omega arith) va.arr x) sp sk
     (above va x)
 
-pub assigned_run : (g : Setting) (m : Meanings) → Simulates g m → (xs es : Expressions) (vs ss : List Stretch) (there env : Environment) (z : Sit) (c rest : List Stmt) (w : World) → AreFrom g z.scene z.depth env es vs → AreStores g z.scene (z.depth + 1) there xs ss
+pub assigned_run : (g : Setting) (m : Meanings) → Simulates g m → (xs es : Expressions) (vs ss : List Stretch) (there env : Environment) (z : Configuration) (c rest : List Stmt) (w : World) → AreFrom g z.scene z.depth env es vs → AreStores g z.scene (z.depth + 1) there xs ss
     → ByTurns xs es vs ss c rest → env.names ≡ z.env.names → there.names ≡ z.env.names → Ready g z w → RanDid g (start z c w) (for_assigned xs es w) z rest w (assigned m xs there es env w)
-assigned_run g m sim t.none t.none vs ss there env z c rest w fv fs bt ee et r = went (subst (λ y. ArrivedAt g (start z c w) (for_assigned t.none t.none w) z y z.depth w w) bt (stay g (for_assigned t.none t.none w) z c w (omega arith) (omega arith) r))
+assigned_run g m sim t.none t.none vs ss there env z c rest w fv fs bt ee et r = went (subst (λ y. CompletedAt g (start z c w) (for_assigned t.none t.none w) z y z.depth w w) bt (stay g (for_assigned t.none t.none w) z c w (omega arith) (omega arith) r))
 assigned_run g m sim (t.more x xs) (t.more e es) (v ∷ vs) (d ∷ ds) there env z c rest w fv fs bt ee et r =
     let B = for_assigned (t.more x xs) (t.more e es) w in
     let s = start z v.from w in

@@ -7,8 +7,8 @@ use Rattle.bk_simulation.proofs.Memory.{Codes, Like, like_on, Store, Grown}
 use Rattle.bk_simulation.proofs.WrittenCells.{below_at, below_like, settle_like, settle_at}
 use Rattle.bk_simulation.proofs.Weights.{turns_one_declared, turns_declared, turns_through}
 use Rattle.bk_simulation.proofs.Laid.{Setting, Scene, NamedIn, Spot, defines_variables, KeepsLabels, IsAct, AreActs, AreDeclared, IsOneDeclared, owning, LeadsTo}
-use Rattle.bk_simulation.proofs.Frame.{some_objects, Sit, store, state, start, Ready, Account, Ran, went, with_ran, OpenArrived, store_at, named_grown}
-use Rattle.bk_simulation.proofs.Compose.{begun, accounted, arrived_more, OpenExited, open_sit, open_ready, open_step, open_on, ran_open, closed_ran}
+use Rattle.bk_simulation.proofs.Frame.{some_objects, Configuration, store, state, start, Ready, Account, Ran, went, with_ran, OpenCompleted, store_at, named_grown}
+use Rattle.bk_simulation.proofs.Compose.{begun, accounted, completed_more, OpenExited, open_configuration, open_ready, open_step, open_on, ran_open, closed_ran}
 use Rattle.bk_simulation.proofs.MadeObjects.{Since, since_refl, since_cells}
 use Rattle.bk_simulation.proofs.ControlSteps.{closes}
 use Rattle.bk_simulation.proofs.Simulates.{Simulates, RanDid}
@@ -17,11 +17,11 @@ use Rattle.bk_simulation.proofs.Lets.{open_lift, Lets, defined_rise, no_spots, l
 use Rattle.bk_simulation.proofs.Renamed.{keeps_both}
 
 -- what a declaration leaves, with what is laid behind it
-pub record Declared (g : Setting) (s : State) (A : Account) (z : Sit) (w : World) (then : Scene → ℕ → Environment → List Stmt → Type 0) (env1 : Environment) (w1 : World) : Type 0 where
+pub record Declared (g : Setting) (s : State) (A : Account) (z : Configuration) (w : World) (then : Scene → ℕ → Environment → List Stmt → Type 0) (env1 : Environment) (w1 : World) : Type 0 where
   pub bs : List Binding
   pub d1 : ℕ
   pub c1 : List Stmt
-  pub arr : OpenArrived g s A z w c1 d1 (z.frame + d1) w1
+  pub arr : OpenCompleted g s A z w c1 d1 (z.frame + d1) w1
   pub deep : z.depth ≤ d1
   pub keeps : KeepsLabels z.scene.bindings bs
   pub named : NamedIn (record z.scene { bindings = bs }) env1 arr.bases1 z.frame
@@ -52,13 +52,13 @@ stored_variables codes h cells frame d1 from [] (p ∷ ps) le at rise = absurd a
 stored_variables codes h cells frame d1 from _ [] le at rise = tt
 
 -- a LET's items are in their words
-pub record Stored (g : Setting) (s : State) (C : Account) (z : Sit) (w : World) (rest : List Stmt) (d1 : ℕ) (ps : List Spot) (bases : List ℕ) (ss : List Start) (w1 : World) : Type 0 where
-  pub arr : OpenArrived g s C z w rest d1 (z.frame + d1) w1
+pub record Stored (g : Setting) (s : State) (C : Account) (z : Configuration) (w : World) (rest : List Stmt) (d1 : ℕ) (ps : List Spot) (bases : List ℕ) (ss : List Start) (w1 : World) : Type 0 where
+  pub arr : OpenCompleted g s C z w rest d1 (z.frame + d1) w1
   pub items : SpotsAt g.codes (store_at arr) z.frame d1 ss ps
   pub vars : AreVariables arr.cells1 z.frame ps
   pub grown : Grown bases arr.bases1
 
-stored : (g : Setting) (s : State) (C : Account) (z : Sit) (w : World) (h : Store) (d : ℕ) (c1 c2 : List Stmt) (d1 : ℕ) (ps : List Spot) (vars : Bool) (ss : List Start) (w1 : World) → Ready g z w → z.depth ≤ d → d ≤ d1 → RisingSpots d ps → c1 ≡ cond vars (StoreStmt ∷ c2) c2
+stored : (g : Setting) (s : State) (C : Account) (z : Configuration) (w : World) (h : Store) (d : ℕ) (c1 c2 : List Stmt) (d1 : ℕ) (ps : List Spot) (vars : Bool) (ss : List Start) (w1 : World) → Ready g z w → z.depth ≤ d → d ≤ d1 → RisingSpots d ps → c1 ≡ cond vars (StoreStmt ∷ c2) c2
     → (vars ≡ false → ps ≡ []) → Lets g s C z w h d c1 d1 ps vars ss w1 → Stored g s C z w c2 d1 ps h.bases ss w1
 stored g s C z w h d c1 c2 d1 ps false ss w1 r le le1 rise ec none k =
     subst (λ y. Stored g s C z w y d1 ps h.bases ss w1) ec
@@ -70,27 +70,27 @@ stored g s C z w h d c1 c2 d1 ps true ss w1 r le le1 rise ec none k =
     let cells2 : ℕ → Cell = below (z.frame + d1) (settle (z.frame + 2) (z.frame + d1) k.arr.cells1) in
     let like : (x : ℕ) → x < z.frame + d1 → Like (cells2 x) (k.arr.cells1 x) = λ x lt. like_on _ _ _ (below_like (z.frame + d1) (settle (z.frame + 2) (z.frame + d1) k.arr.cells1) x lt) (settle_like (z.frame + 2) (z.frame + d1) k.arr.cells1 x) in
     let C1 : Account = record { most = C.most - 1; least = C.least } in
-    let a1 : OpenArrived g s C1 z w c1 d1 (z.frame + d1) w1 = accounted w1.turns k.arr (omega arith) (omega arith) in
+    let a1 : OpenCompleted g s C1 z w c1 d1 (z.frame + d1) w1 = accounted w1.turns k.arr (omega arith) (omega arith) in
     let st : State = state z.scene.own d1 c1 k.arr.cells1 z.frame k.arr.hand1 k.arr.written1 w1 in
     let mv : Moves g.program st (state z.scene.own d1 c2 cells2 z.frame None k.arr.written1 w1) = store_moves g.program st z.scene.own c2 d1 (ap (λ y. Inside z.scene.own d1 y) ec) in
     let h1 : Store = record { bases = k.arr.bases1; mem = w1.memory; cells = k.arr.cells1 } in
     record {
-      arr = arrived_more (omega arith) (omega arith) (open_step r (omega arith) a1 cells2 None k.arr.written1 like mv);
+      arr = completed_more (omega arith) (omega arith) (open_step r (omega arith) a1 cells2 None k.arr.written1 like mv);
       items = spots_carried g.codes h1 (record h1 { cells = cells2 }) z.frame d1 d1 ss ps (omega arith) (since_cells {top = z.frame + d1} h1 like) k.items;
       vars = stored_variables g.codes h1 k.arr.cells1 z.frame d1 d ss ps (omega arith) k.items rise;
       grown = k.since.grown;
     }
 
 -- one declaration
-pub one_declared_run : (g : Setting) (m : Meanings) → Simulates g m → (h : Declaration) (env : Environment) (bs : List Binding) (then : Scene → ℕ → Environment → List Stmt → Type 0) (s : State) (A C B : Account) (z : Sit) (w : World) (c : List Stmt) (d : ℕ) (w1 : World)
+pub one_declared_run : (g : Setting) (m : Meanings) → Simulates g m → (h : Declaration) (env : Environment) (bs : List Binding) (then : Scene → ℕ → Environment → List Stmt → Type 0) (s : State) (A C B : Account) (z : Configuration) (w : World) (c : List Stmt) (d : ℕ) (w1 : World)
     → Ready g z w → z.depth ≤ d → KeepsLabels z.scene.bindings bs → A.most ≤ C.most → C.least ≤ A.least - turns_one_declared false h → C.most ≤ B.most → B.least ≤ C.least → IsOneDeclared g (record z.scene { bindings = bs }) d env h then c
-    → (a : OpenArrived g s A z w c d (z.frame + d) w1) → NamedIn (record z.scene { bindings = bs }) env a.bases1 z.frame
+    → (a : OpenCompleted g s A z w c d (z.frame + d) w1) → NamedIn (record z.scene { bindings = bs }) env a.bases1 z.frame
     → Ran g s B (Declared g s C z w then) (OpenExited g s B z w) (declare m h env w1)
 one_declared_run g m sim (t.constants x q is) env bs then s A C B z w c d w1 r le keeps le1 le2 le3 le4 l a named = went (record {
   bs = l.0;
   d1 = d;
   c1 = c;
-  arr = arrived_more le1 (omega arith) a;
+  arr = completed_more le1 (omega arith) a;
   deep = le;
   keeps = keeps_both z.scene.bindings bs l.0 keeps l.1.0;
   named = l.1.1 a.bases1 z.frame (record { each = λ o b e. a.moved.grown.each o b (r.lasts.each o b e) }) named;
@@ -128,15 +128,15 @@ one_declared_run g m sim (t.definitions x ds) env bs then s A C B z w c d w1 r l
     })))
 
 -- all at the head of a block
-pub all_declared_run : (g : Setting) (m : Meanings) → Simulates g m → (hs : Declarations) (env : Environment) (bs : List Binding) (then : Scene → ℕ → Environment → List Stmt → Type 0) (s : State) (A C B : Account) (z : Sit) (w : World) (c : List Stmt) (d : ℕ) (w1 : World)
+pub all_declared_run : (g : Setting) (m : Meanings) → Simulates g m → (hs : Declarations) (env : Environment) (bs : List Binding) (then : Scene → ℕ → Environment → List Stmt → Type 0) (s : State) (A C B : Account) (z : Configuration) (w : World) (c : List Stmt) (d : ℕ) (w1 : World)
     → Ready g z w → z.depth ≤ d → KeepsLabels z.scene.bindings bs → A.most ≤ C.most → C.least ≤ A.least - turns_declared false hs → C.most ≤ B.most → B.least ≤ C.least → AreDeclared g (record z.scene { bindings = bs }) d env hs then c
-    → (a : OpenArrived g s A z w c d (z.frame + d) w1) → NamedIn (record z.scene { bindings = bs }) env a.bases1 z.frame
+    → (a : OpenCompleted g s A z w c d (z.frame + d) w1) → NamedIn (record z.scene { bindings = bs }) env a.bases1 z.frame
     → Ran g s B (Declared g s C z w then) (OpenExited g s B z w) (declare_all m hs env w1)
 all_declared_run g m sim t.no_declarations env bs then s A C B z w c d w1 r le keeps le1 le2 le3 le4 l a named = went (record {
   bs = bs;
   d1 = d;
   c1 = c;
-  arr = arrived_more le1 (omega arith) a;
+  arr = completed_more le1 (omega arith) a;
   deep = le;
   keeps = keeps;
   named = named;
@@ -150,19 +150,19 @@ all_declared_run g m sim (t.declare h hs) env bs then s A C B z w c d w1 r le ke
     (λ env1 w2 q. all_declared_run g m sim hs env1 q.bs then s D C B z w q.c1 q.d1 w2 r q.deep q.keeps (omega arith) (omega arith) le3 le4 q.laid q.arr q.named)
 
 -- what is laid behind the declarations of a block
-abbrev BehindBlock : Sit → Actions → List Stmt → Setting → Scene → ℕ → Environment → List Stmt → Type 0
+abbrev BehindBlock : Configuration → Actions → List Stmt → Setting → Scene → ℕ → Environment → List Stmt → Type 0
 BehindBlock z cs rest g sc1 d1 env1 c1 =
     (j : ℕ) × (at1 : Sought → List Stmt) × AreActs g (owning j cs sc1) d1 (labelled cs env1) cs at1 c1 (Stack z.depth ∷ rest) × (turns_through false cs ≤ g.pay)
     × ((x : List ℕ) → stands_in_one (the_label x) env1 cs ≡ true → LeadsTo (owning j cs sc1) d1 x (at1 (the_label x)))
 
 -- its commands are done
-pub record Left (g : Setting) (s : State) (B : Account) (z : Sit) (rest : List Stmt) (w w1 : World) : Type 0 where
+pub record Left (g : Setting) (s : State) (B : Account) (z : Configuration) (rest : List Stmt) (w w1 : World) : Type 0 where
   pub d1 : ℕ
   pub more : ℕ
-  pub arr : OpenArrived g s B z w (Stack z.depth ∷ rest) d1 more w1
+  pub arr : OpenCompleted g s B z w (Stack z.depth ∷ rest) d1 more w1
 
 -- A block with declarations. What it made dies at its end.
-pub block_runs : (g : Setting) (m : Meanings) → Simulates g m → ((env : Environment) (w : World) (cs : Actions) → After (history w) (scope_of m cs forwards env w)) → (B : Account) (l : ℕ) (h : Declaration) (hs : Declarations) (cs : Actions) (z : Sit)
+pub block_runs : (g : Setting) (m : Meanings) → Simulates g m → ((env : Environment) (w : World) (cs : Actions) → After (history w) (scope_of m cs forwards env w)) → (B : Account) (l : ℕ) (h : Declaration) (hs : Declarations) (cs : Actions) (z : Configuration)
     (at : Sought → List Stmt) (c rest : List Stmt) (w : World) → 16 * w.turns + 1 ≤ B.most → B.least ≤ w.turns - (turns_declared false (t.declare h hs) + turns_through false cs) → IsAct g z.scene z.depth z.env (t.block l (t.declare h hs) cs) at c rest → Ready g z w
     → RanDid g (start z c w) B z rest w (closing (length w.memory) (with (declare_all m (t.declare h hs) z.env w) (λ env w. scope_of m cs forwards env w)))
 block_runs g m sim scope_after B l h hs cs z at c rest w le le' laid r =
@@ -176,7 +176,7 @@ block_runs g m sim scope_after B l h hs cs z at c rest w le le' laid r =
     (all_declared_run g m sim (t.declare h hs) z.env z.scene.bindings (BehindBlock z cs rest g) s A C B z w c z.depth w r (omega arith) (λ x q. refl) (omega arith) (omega arith) (omega arith) (omega arith) laid
     (begun A (Since (z.frame + z.depth) (store z w)) z.depth c (omega arith) (omega arith) r (since_refl (store z w))) r.named)
     (λ env1 w1 q.
-    let z1 = open_sit g s C z w q.c1 q.d1 (z.frame + q.d1) w1 q.arr q.bs env1 in
+    let z1 = open_configuration g s C z w q.c1 q.d1 (z.frame + q.d1) w1 q.arr q.bs env1 in
     ran_open q.bs env1 (omega arith) (omega arith) r q.deep q.keeps q.arr
     (λ _ w2 k. record { d1 = q.d1; more = z.frame + q.d1; arr = open_on (omega arith) (omega arith) r q.deep q.arr k })
     (scope_runs g m sim cs forwards z1 q.laid.0 q.laid.1 q.c1 (Stack z.depth ∷ rest) q.c1 w1 (q.laid.2, q.laid.3, q.laid.4) refl (open_ready q.arr q.bs env1 q.deep q.named r))))

@@ -3,8 +3,8 @@ use Rattle.bk_simulation.proofs.Words.{◌≡◌, ℕ, ◌+◌, ◌-◌, ◌*◌
 use Rattle.bk_simulation.proofs.Weights.{turns_of, turns_in}
 use Rattle.bk_simulation.proofs.Sought.{same_stands}
 use Rattle.bk_simulation.proofs.Laid.{Setting, LabelAt, IsJump, IsAct, Entered, goal_named, IsLabelHere, IsValue, PlaceOf}
-use Rattle.bk_simulation.proofs.Frame.{Sit, start, Ready, Account, went, with_ran, ArrivedAt, next, ready_next, here, Stopped, Handed, Leads, still}
-use Rattle.bk_simulation.proofs.Compose.{stay, arrived_on, ran_on, ran_more, arrived_more, comes_to, ran_first}
+use Rattle.bk_simulation.proofs.Frame.{Configuration, start, Ready, Account, went, with_ran, CompletedAt, next, ready_next, here, Stopped, Handed, Leads, still}
+use Rattle.bk_simulation.proofs.Compose.{stay, completed_on, ran_on, ran_more, completed_more, comes_to, ran_first}
 use Rattle.bk_simulation.proofs.Simulates.{Simulates, for_truth, where_to, Did, RanDid}
 use Rattle.bk_simulation.proofs.ControlSteps.{landed_on, jumped_on, result_on}
 use Rattle.bk_simulation.proofs.Orders.{by_test, or_second}
@@ -26,52 +26,52 @@ few_left : (x : Exit) → still x ≤ 2
 few_left break = omega arith
 few_left _ = omega arith
 
-pub left_here : {rest : List Stmt} (g : Setting) (B : Account) (z : Sit) (x : Exit) (c : List Stmt) (w : World) → 16 * w.turns + 2 ≤ B.most → B.least ≤ w.turns
+pub left_here : {rest : List Stmt} (g : Setting) (B : Account) (z : Configuration) (x : Exit) (c : List Stmt) (w : World) → 16 * w.turns + 2 ≤ B.most → B.least ≤ w.turns
     → Ready g z w → no_result x → Leads z.scene x c → RanDid g (start z c w) B z rest w (leaves x w)
 left_here g B z x c w le le' r n l = let f = few_left x in
     went (record { control = c; depth1 = z.depth; leads = l; arr = stay g B z c w (omega arith) le' r; later = omega arith; hands = nothing_handed g z.bases x z.hand n })
 
-pub goto_runs : (g : Setting) (B : Account) (z : Sit) (y : List ℕ) (c rest : List Stmt) (w : World) → 16 * w.turns + 2 ≤ B.most → B.least ≤ w.turns → c ≡ go (goal_named z.scene y) z.depth ++ rest → IsLabelHere (bound_in z.scene.bindings y)
+pub goto_runs : (g : Setting) (B : Account) (z : Configuration) (y : List ℕ) (c rest : List Stmt) (w : World) → 16 * w.turns + 2 ≤ B.most → B.least ≤ w.turns → c ≡ go (goal_named z.scene y) z.depth ++ rest → IsLabelHere (bound_in z.scene.bindings y)
     → Ready g z w → RanDid g (start z c w) B z rest w (leaves (goto y) w)
 goto_runs g B z y c rest w le le' ec l r = left_here g B z (goto y) c w le le' r tt ((Stack z.depth ∷ rest, ec), l)
 
-pub break_runs : (g : Setting) (B : Account) (z : Sit) (c rest : List Stmt) (w : World) → 16 * w.turns + 2 ≤ B.most → B.least ≤ w.turns → c ≡ go z.scene.around.leaves z.depth ++ rest → z.scene.exits.loop ≡ true → Ready g z w
+pub break_runs : (g : Setting) (B : Account) (z : Configuration) (c rest : List Stmt) (w : World) → 16 * w.turns + 2 ≤ B.most → B.least ≤ w.turns → c ≡ go z.scene.around.leaves z.depth ++ rest → z.scene.exits.loop ≡ true → Ready g z w
     → RanDid g (start z c w) B z rest w (leaves break w)
 break_runs g B z c rest w le le' ec l r = left_here g B z break c w le le' r tt ((Stack z.depth ∷ rest, ec), l)
 
-pub loop_runs : (g : Setting) (B : Account) (z : Sit) (c rest : List Stmt) (w : World) → 16 * w.turns + 2 ≤ B.most → B.least ≤ w.turns → c ≡ go z.scene.around.goes_on z.depth ++ rest → z.scene.exits.loop ≡ true → Ready g z w
+pub loop_runs : (g : Setting) (B : Account) (z : Configuration) (c rest : List Stmt) (w : World) → 16 * w.turns + 2 ≤ B.most → B.least ≤ w.turns → c ≡ go z.scene.around.goes_on z.depth ++ rest → z.scene.exits.loop ≡ true → Ready g z w
     → RanDid g (start z c w) B z rest w (leaves loop w)
 loop_runs g B z c rest w le le' ec l r = left_here g B z loop c w le le' r tt ((Stack z.depth ∷ rest, ec), l)
 
-pub endcase_runs : (g : Setting) (B : Account) (z : Sit) (c rest : List Stmt) (w : World) → 16 * w.turns + 2 ≤ B.most → B.least ≤ w.turns → c ≡ go z.scene.around.ends_case z.depth ++ rest → z.scene.exits.switch ≡ true → Ready g z w
+pub endcase_runs : (g : Setting) (B : Account) (z : Configuration) (c rest : List Stmt) (w : World) → 16 * w.turns + 2 ≤ B.most → B.least ≤ w.turns → c ≡ go z.scene.around.ends_case z.depth ++ rest → z.scene.exits.switch ≡ true → Ready g z w
     → RanDid g (start z c w) B z rest w (leaves endcase w)
 endcase_runs g B z c rest w le le' ec l r = left_here g B z endcase c w le le' r tt ((Stack z.depth ∷ rest, ec), l)
 
-pub return_runs : (g : Setting) (B : Account) (z : Sit) (c rest : List Stmt) (w : World) → 16 * w.turns + 2 ≤ B.most → B.least ≤ w.turns → c ≡ Return ∷ rest → Ready g z w → RanDid g (start z c w) B z rest w (leaves return w)
+pub return_runs : (g : Setting) (B : Account) (z : Configuration) (c rest : List Stmt) (w : World) → 16 * w.turns + 2 ≤ B.most → B.least ≤ w.turns → c ≡ Return ∷ rest → Ready g z w → RanDid g (start z c w) B z rest w (leaves return w)
 return_runs g B z c rest w le le' ec r = left_here g B z return c w le le' r tt (rest, ec)
 
-pub finish_runs : (g : Setting) (B : Account) (z : Sit) (c rest : List Stmt) (w : World) → 16 * w.turns + 1 ≤ B.most → c ≡ Finish ∷ rest → RanDid g (start z c w) B z rest w (ends (status 0) w)
+pub finish_runs : (g : Setting) (B : Account) (z : Configuration) (c rest : List Stmt) (w : World) → 16 * w.turns + 1 ≤ B.most → c ≡ Finish ∷ rest → RanDid g (start z c w) B z rest w (ends (status 0) w)
 finish_runs g B z c rest w le ec =
     went (subst (λ l. Stopped g (start z l w) B (status 0) w) (sym ec)
     (record { to = start z (Finish ∷ rest) w; steps = 0; paid = 0; comes = here _; most = omega arith; end = Status (pos 0); is_end = refl; stops = finish_step g.program (start z (Finish ∷ rest) w) z.scene.own rest z.depth refl; wrote = refl; left = refl }))
 
 -- RESULTIS
-pub resultis_runs : (g : Setting) (m : Meanings) → Simulates g m → (B : Account) (e : Expression) (z : Sit) (to c rest : List Stmt) (w : World) → 16 * w.turns ≤ B.most → B.least ≤ w.turns - turns_of false e
+pub resultis_runs : (g : Setting) (m : Meanings) → Simulates g m → (B : Account) (e : Expression) (z : Configuration) (to c rest : List Stmt) (w : World) → 16 * w.turns ≤ B.most → B.least ≤ w.turns - turns_of false e
     → IsValue g z.scene z.depth z.env e c (GiveResult z.scene.around.valof ∷ rest) → from_label z.scene.own.stmts z.scene.around.valof ≡ Some to → Ready g z w
     → RanDid g (start z c w) B z rest w (with (m.value e z.env w) (λ v w. leaves (result v) w))
 resultis_runs g m sim B e z to c rest w le le' l f r =
     one_run g m sim B e z c (GiveResult z.scene.around.valof ∷ rest) w _ _ (λ u. adds _ (λ w1. stays (history w1))) (omega arith) le' l r (λ u w1 q pos.
-    let b : ArrivedAt g (start z c w) B z to z.depth w w1 = arrived_more (omega arith) (omega arith) (result_on r f q) in
+    let b : CompletedAt g (start z c w) B z to z.depth w w1 = completed_more (omega arith) (omega arith) (result_on r f q) in
     let bm = b.most in
     went (record { control = to; depth1 = z.depth; leads = f; arr = b; later = omega arith; hands = (content_of (q.arr.cells1 (z.frame + z.depth)), refl, q.stands) }))
 
 -- ---- a place that may be sought, and the command behind it
-behind_place : (g : Setting) (m : Meanings) → Simulates g m → (B : Account) (a : Action) (z : Sit) (n : ℕ) (at1 : Sought → List Stmt) (c1 rest : List Stmt) (w : World) → 16 * w.turns + 1 ≤ B.most → B.least ≤ w.turns - turns_in false a
+behind_place : (g : Setting) (m : Meanings) → Simulates g m → (B : Account) (a : Action) (z : Configuration) (n : ℕ) (at1 : Sought → List Stmt) (c1 rest : List Stmt) (w : World) → 16 * w.turns + 1 ≤ B.most → B.least ≤ w.turns - turns_in false a
     → IsAct g z.scene z.depth z.env a at1 c1 rest → LabelAt g z.scene z.depth n c1 → Ready g z w → RanDid g (start z (Label n ∷ c1) w) B z rest w (m.act a forwards z.env w)
 behind_place g m sim B a z n at1 c1 rest w le le' l ln r =
     let s = start z (Label n ∷ c1) w in
     let A : Account = record { most = 16 * w.turns + 1; least = w.turns } in
-    let ar : ArrivedAt g s A z c1 z.depth w w = landed_on (omega arith) (omega arith) ln (stay g (record { most = 16 * w.turns; least = w.turns }) z (Label n ∷ c1) w (omega arith) (omega arith) r) in
+    let ar : CompletedAt g s A z c1 z.depth w w = landed_on (omega arith) (omega arith) ln (stay g (record { most = 16 * w.turns; least = w.turns }) z (Label n ∷ c1) w (omega arith) (omega arith) r) in
     comes_to (omega arith) (omega arith) r (omega arith) ar
     (sim.act a forwards (next g s A z c1 z.depth w w z.env z.depth ar) at1 c1 rest c1 w l refl (ready_next z.env z.depth ar refl (omega arith) r))
 
@@ -79,7 +79,7 @@ abbrev pub EnteredPlace : Mode → Environment → Sought → Action → (Sought
 EnteredPlace forwards env spot a at c e = e ≡ c
 EnteredPlace (seeking s) env spot a at c e = ((same_place s spot || stands_in s env a) ≡ true) × (e ≡ at s)
 
-pub place_run : (g : Setting) (m : Meanings) → Simulates g m → (B : Account) (spot : Sought) (a : Action) (mode : Mode) (z : Sit) (at : Sought → List Stmt) (c rest e : List Stmt) (w : World) → 16 * w.turns + 1 ≤ B.most → B.least ≤ w.turns - turns_in false a
+pub place_run : (g : Setting) (m : Meanings) → Simulates g m → (B : Account) (spot : Sought) (a : Action) (mode : Mode) (z : Configuration) (at : Sought → List Stmt) (c rest e : List Stmt) (w : World) → 16 * w.turns + 1 ≤ B.most → B.least ≤ w.turns - turns_in false a
     → PlaceOf g z.scene z.depth spot (λ at1 c1. IsAct g z.scene z.depth z.env a at1 c1 rest) at c → EnteredPlace mode z.env spot a at c e → Ready g z w → RanDid g (start z e w) B z rest w (m.act a (at_place spot mode) z.env w)
 place_run g m sim B spot a forwards z at c rest e w le le' l en r =
     subst (λ y. RanDid g (start z y w) B z rest w (m.act a forwards z.env w)) (sym (en ∙ l.3)) (behind_place g m sim B a z l.0 l.2 l.1 rest w le le' l.4 l.5 r)
@@ -90,58 +90,58 @@ place_run g m sim B spot a (seeking s) z at c rest e w le le' l en r =
     (subst (λ y. RanDid g (start z y w) B z rest w (m.act a forwards z.env w)) (sym (en.1 ∙ l.6 s ∙ ap (λ (b : Bool). cond b c (l.2 s)) h ∙ l.3)) (behind_place g m sim B a z l.0 l.2 l.1 rest w le le' l.4 l.5 r)))
     (λ (h : same_place s spot ≡ false).
     subst (λ (b : Bool). RanDid g (start z e w) B z rest w (m.act a (cond b forwards (seeking s)) z.env w)) (sym h)
-    (ran_first (omega arith) (omega arith) (λ _ w1 q. arrived_more (omega arith) (omega arith) q)
+    (ran_first (omega arith) (omega arith) (λ _ w1 q. completed_more (omega arith) (omega arith) q)
     (sim.act a (seeking s) z l.2 l.1 rest e w l.4 (or_second (same_place s spot) (stands_in s z.env a) en.0 h, en.1 ∙ l.6 s ∙ ap (λ (b : Bool). cond b c (l.2 s)) h) r)))
 
 -- a command behind an arrival, and what is done behind it
-pub act_after : (g : Setting) (m : Meanings) → Simulates g m → (s : State) (A C B : Account) (a : Action) (mode : Mode) (z : Sit) (env : Environment) (at : Sought → List Stmt) (c1 e1 mid rest : List Stmt) (w w1 : World)
+pub act_after : (g : Setting) (m : Meanings) → Simulates g m → (s : State) (A C B : Account) (a : Action) (mode : Mode) (z : Configuration) (env : Environment) (at : Sought → List Stmt) (c1 e1 mid rest : List Stmt) (w w1 : World)
     → A.most ≤ C.most → C.least ≤ (w1.turns - turns_in false a) + (A.least - w1.turns) → C.most ≤ B.most → B.least ≤ C.least → env.names ≡ z.env.names → IsAct g z.scene z.depth env a at c1 mid → Entered mode env a at c1 e1 → Ready g z w
-    → ArrivedAt g s A z e1 z.depth w w1 → ((w2 : World) → Did g s C z mid w w2 → Did g s B z rest w w2) → RanDid g s B z rest w (m.act a mode env w1)
+    → CompletedAt g s A z e1 z.depth w w1 → ((w2 : World) → Did g s C z mid w w2 → Did g s B z rest w w2) → RanDid g s B z rest w (m.act a mode env w1)
 act_after g m sim s A C B a mode z env at c1 e1 mid rest w w1 le ll le2 ll2 en l ent r ar fin =
-    ran_on (omega arith) (omega arith) r (omega arith) ar (λ _ w2 q. fin w2 (arrived_on (omega arith) (omega arith) r (omega arith) ar q))
+    ran_on (omega arith) (omega arith) r (omega arith) ar (λ _ w2 q. fin w2 (completed_on (omega arith) (omega arith) r (omega arith) ar q))
     (sim.act a mode (next g s A z e1 z.depth w w1 env z.depth ar) at c1 mid e1 w1 l ent (ready_next env z.depth ar en (omega arith) r))
 
 -- where a condition has the truth that is asked for, it does not jump over
-pub same_way : (b x : Bool) (to rest : List Stmt) → where_to (not b) x to rest ≡ (cond (same_truth b x) rest to)
-same_way true true to rest = refl
-same_way true false to rest = refl
-same_way false true to rest = refl
-same_way false false to rest = refl
+pub same_evaluation : (b x : Bool) (to rest : List Stmt) → where_to (not b) x to rest ≡ (cond (same_truth b x) rest to)
+same_evaluation true true to rest = refl
+same_evaluation true false to rest = refl
+same_evaluation false true to rest = refl
+same_evaluation false false to rest = refl
 
 -- and with the other jump it jumps
-pub jump_way : (b x : Bool) (to rest : List Stmt) → where_to b x to rest ≡ (cond (same_truth b x) to rest)
-jump_way true true to rest = refl
-jump_way true false to rest = refl
-jump_way false true to rest = refl
-jump_way false false to rest = refl
+pub jump_evaluation : (b x : Bool) (to rest : List Stmt) → where_to b x to rest ≡ (cond (same_truth b x) to rest)
+jump_evaluation true true to rest = refl
+jump_evaluation true false to rest = refl
+jump_evaluation false true to rest = refl
+jump_evaluation false false to rest = refl
 
 when_adds : (g : Setting) (m : Meanings) → Simulates g m → (a : Action) (env : Environment) (b x : Bool) → Adds (λ w. either (same_truth b x) (λ w. m.act a forwards env w) done w)
 when_adds g m sim a env b x = adds _ (λ w. either_after (same_truth b x) _ _ (adds _ (λ w1. sim.grows.act a forwards env w1)) (adds _ (λ w1. stays (history w1))) w)
 
-pub when_run : (g : Setting) (m : Meanings) → Simulates g m → (B : Account) (b : Bool) (e : Expression) (a : Action) (z : Sit) (n : ℕ) (at : Sought → List Stmt) (c c1 rest : List Stmt) (w : World) → 16 * w.turns + 2 ≤ B.most
+pub when_run : (g : Setting) (m : Meanings) → Simulates g m → (B : Account) (b : Bool) (e : Expression) (a : Action) (z : Configuration) (n : ℕ) (at : Sought → List Stmt) (c c1 rest : List Stmt) (w : World) → 16 * w.turns + 2 ≤ B.most
     → B.least ≤ w.turns - (turns_of false e + turns_in false a) → IsJump g z.scene z.depth z.env e (not b) n c c1 → IsAct g z.scene z.depth (past e z.env) a at c1 (Label n ∷ rest) → LabelAt g z.scene z.depth n rest → Ready g z w
     → RanDid g (start z c w) B z rest w (where_truth m b e z.env (λ w. m.act a forwards (past e z.env) w) w)
 when_run g m sim B b e a z n at c c1 rest w le le' le_ la ln r =
     let s = start z c w in
     with_ran (λ x. when_adds g m sim a (past e z.env) b x)
     (ran_more (omega arith) (omega arith) (sim.truth e z (not b) n (Label n ∷ rest) c c1 w le_ ln.found r))
-    (λ x w1 q. goes (same_truth b x) w1 (subst (λ y. ArrivedAt g s (for_truth e w) z y z.depth w w1) (same_way b x (Label n ∷ rest) c1) q))
+    (λ x w1 q. goes (same_truth b x) w1 (subst (λ y. CompletedAt g s (for_truth e w) z y z.depth w w1) (same_evaluation b x (Label n ∷ rest) c1) q))
   where
-    goes : (t : Bool) (w1 : World) → ArrivedAt g (start z c w) (for_truth e w) z (cond t c1 (Label n ∷ rest)) z.depth w w1 → RanDid g (start z c w) B z rest w (either t (λ w. m.act a forwards (past e z.env) w) done w1)
+    goes : (t : Bool) (w1 : World) → CompletedAt g (start z c w) (for_truth e w) z (cond t c1 (Label n ∷ rest)) z.depth w w1 → RanDid g (start z c w) B z rest w (either t (λ w. m.act a forwards (past e z.env) w) done w1)
     goes true w1 q = let dp = r.deep in let m0 = q.most in
         act_after g m sim (start z c w) (for_truth e w) (record { most = 16 * w.turns; least = w.turns - (turns_of false e + turns_in false a) }) B a forwards z (past e z.env) at c1 c1 (Label n ∷ rest) rest w w1 (omega arith) (omega arith) (omega arith) (omega arith) refl la refl r q
         (λ w2 y. landed_on (omega arith) (omega arith) ln y)
     goes false w1 q = went (landed_on (omega arith) (omega arith) ln q)
 
 -- a place inside a command is sought
-pub inside_run : (g : Setting) (m : Meanings) → Simulates g m → (B : Account) (a : Action) (s : Sought) (z : Sit) (env : Environment) (at : Sought → List Stmt) (c1 e mid rest : List Stmt) (w : World) → 16 * w.turns + 2 ≤ B.most
+pub inside_run : (g : Setting) (m : Meanings) → Simulates g m → (B : Account) (a : Action) (s : Sought) (z : Configuration) (env : Environment) (at : Sought → List Stmt) (c1 e mid rest : List Stmt) (w : World) → 16 * w.turns + 2 ≤ B.most
     → B.least ≤ w.turns - turns_in false a → env.names ≡ z.env.names → IsAct g z.scene z.depth env a at c1 mid → Entered (seeking s) env a at c1 e → Ready g z w
-    → ((A : Account) (w2 : World) → A.most + 2 ≤ B.most → B.least ≤ A.least → ArrivedAt g (start z e w) A z mid z.depth w w2 → Did g (start z e w) B z rest w w2) → RanDid g (start z e w) B z rest w (m.act a (seeking s) env w)
+    → ((A : Account) (w2 : World) → A.most + 2 ≤ B.most → B.least ≤ A.least → CompletedAt g (start z e w) A z mid z.depth w w2 → Did g (start z e w) B z rest w w2) → RanDid g (start z e w) B z rest w (m.act a (seeking s) env w)
 inside_run g m sim B a s z env at c1 e mid rest w le le' en l ent r fin =
     act_after g m sim (start z e w) (record { most = 16 * w.turns; least = w.turns }) (record { most = 16 * w.turns; least = w.turns - turns_in false a }) B a (seeking s) z env at c1 e mid rest w w (omega arith) (omega arith) (omega arith) (omega arith) en l ent r
     (stay g (record { most = 16 * w.turns; least = w.turns }) z e w (omega arith) (omega arith) r) (λ w2 y. fin (record { most = 16 * w.turns; least = w.turns - turns_in false a }) w2 le le' y)
 
-pub when_sought : (g : Setting) (m : Meanings) → Simulates g m → (B : Account) (e0 : Expression) (a : Action) (s : Sought) (z : Sit) (n : ℕ) (at : Sought → List Stmt) (c1 e rest : List Stmt) (w : World) → 16 * w.turns + 2 ≤ B.most
+pub when_sought : (g : Setting) (m : Meanings) → Simulates g m → (B : Account) (e0 : Expression) (a : Action) (s : Sought) (z : Configuration) (n : ℕ) (at : Sought → List Stmt) (c1 e rest : List Stmt) (w : World) → 16 * w.turns + 2 ≤ B.most
     → B.least ≤ w.turns - turns_in false a → IsAct g z.scene z.depth (past e0 z.env) a at c1 (Label n ∷ rest) → LabelAt g z.scene z.depth n rest → (stands_in s z.env a ≡ true) × (e ≡ at s) → Ready g z w
     → RanDid g (start z e w) B z rest w (m.act a (seeking s) (past e0 z.env) w)
 when_sought g m sim B e0 a s z n at c1 e rest w le le' l ln en r =
@@ -153,7 +153,7 @@ when_sought g m sim B e0 a s z n at c1 e rest w le le' l ln en r =
 test_adds : (g : Setting) (m : Meanings) → Simulates g m → (a b : Action) (u v : Environment) (x : Bool) → Adds (λ w. either x (λ w. m.act a forwards u w) (λ w. m.act b forwards v w) w)
 test_adds g m sim a b u v x = adds _ (λ w. either_after x _ _ (adds _ (λ w1. sim.grows.act a forwards u w1)) (adds _ (λ w1. sim.grows.act b forwards v w1)) w)
 
-pub test_run : (g : Setting) (m : Meanings) → Simulates g m → (B : Account) (e : Expression) (a b : Action) (z : Sit) (n n1 : ℕ) (at1 at2 : Sought → List Stmt) (c c1 c2 rest : List Stmt) (w : World) → 16 * w.turns + 4 ≤ B.most
+pub test_run : (g : Setting) (m : Meanings) → Simulates g m → (B : Account) (e : Expression) (a b : Action) (z : Configuration) (n n1 : ℕ) (at1 at2 : Sought → List Stmt) (c c1 c2 rest : List Stmt) (w : World) → 16 * w.turns + 4 ≤ B.most
     → B.least ≤ w.turns - (turns_of false e + (turns_in false a + turns_in false b)) → IsJump g z.scene z.depth z.env e false n c c1 → IsAct g z.scene z.depth (past e z.env) a at1 c1 (Jump n1 ∷ Label n ∷ c2)
     → IsAct g z.scene z.depth (past_action a (past e z.env)) b at2 c2 (Label n1 ∷ rest) → LabelAt g z.scene z.depth n c2 → LabelAt g z.scene z.depth n1 rest → Ready g z w
     → RanDid g (start z c w) B z rest w (with (m.truth e z.env w) (λ x w. either x (λ w. m.act a forwards (past e z.env) w) (λ w. m.act b forwards (past_action a (past e z.env)) w) w))
@@ -161,19 +161,19 @@ test_run g m sim B e a b z n n1 at1 at2 c c1 c2 rest w le le' le_ la lb l0 l1 r 
     with_ran (λ x. test_adds g m sim a b (past e z.env) (past_action a (past e z.env)) x)
     (ran_more (omega arith) (omega arith) (sim.truth e z false n (Label n ∷ c2) c c1 w le_ l0.found r)) goes
   where
-    goes : (x : Bool) (w1 : World) → ArrivedAt g (start z c w) (for_truth e w) z (where_to false x (Label n ∷ c2) c1) z.depth w w1
+    goes : (x : Bool) (w1 : World) → CompletedAt g (start z c w) (for_truth e w) z (where_to false x (Label n ∷ c2) c1) z.depth w w1
         → RanDid g (start z c w) B z rest w (either x (λ w. m.act a forwards (past e z.env) w) (λ w. m.act b forwards (past_action a (past e z.env)) w) w1)
     goes true w1 q = let dp = r.deep in let m0 = q.most in
         act_after g m sim (start z c w) (for_truth e w) (record { most = 16 * w.turns; least = w.turns - (turns_of false e + turns_in false a) }) B a forwards z (past e z.env) at1 c1 c1 (Jump n1 ∷ Label n ∷ c2) rest w w1 (omega arith) (omega arith) (omega arith) (omega arith) refl la refl r q
         (λ w2 y. jumped_on (omega arith) (omega arith) r.deep l1 y)
     goes false w1 q = let dp = r.deep in
         let A : Account = record { most = 16 * w.turns + 1; least = w.turns - turns_of false e } in
-        let ar : ArrivedAt g (start z c w) A z c2 z.depth w w1 = landed_on (omega arith) (omega arith) l0 q in
+        let ar : CompletedAt g (start z c w) A z c2 z.depth w w1 = landed_on (omega arith) (omega arith) l0 q in
         let m0 = ar.most in
         act_after g m sim (start z c w) A (record { most = 16 * w.turns + 1; least = w.turns - (turns_of false e + turns_in false b) }) B b forwards z (past_action a (past e z.env)) at2 c2 c2 (Label n1 ∷ rest) rest w w1 (omega arith) (omega arith) (omega arith) (omega arith) refl lb refl r ar
         (λ w2 y. landed_on (omega arith) (omega arith) l1 y)
 
-pub test_sought : (g : Setting) (m : Meanings) → Simulates g m → (B : Account) (e0 : Expression) (a b : Action) (s : Sought) (z : Sit) (n n1 : ℕ) (at at1 at2 : Sought → List Stmt) (c1 c2 e rest : List Stmt) (w : World) → 16 * w.turns + 4 ≤ B.most
+pub test_sought : (g : Setting) (m : Meanings) → Simulates g m → (B : Account) (e0 : Expression) (a b : Action) (s : Sought) (z : Configuration) (n n1 : ℕ) (at at1 at2 : Sought → List Stmt) (c1 c2 e rest : List Stmt) (w : World) → 16 * w.turns + 4 ≤ B.most
     → B.least ≤ w.turns - (turns_in false a + turns_in false b) → IsAct g z.scene z.depth (past e0 z.env) a at1 c1 (Jump n1 ∷ Label n ∷ c2) → IsAct g z.scene z.depth (past_action a (past e0 z.env)) b at2 c2 (Label n1 ∷ rest)
     → LabelAt g z.scene z.depth n1 rest → ((s : Sought) → at s ≡ cond (stands_in s z.env a) (at1 s) (at2 s)) → ((stands_in s z.env a || stands_in s z.env b) ≡ true) × (e ≡ at s) → Ready g z w
     → RanDid g (start z e w) B z rest w (either (stands_in s z.env a) (λ w. m.act a (seeking s) (past e0 z.env) w) (λ w. m.act b (seeking s) (past_action a (past e0 z.env)) w) w)

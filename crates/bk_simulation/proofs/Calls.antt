@@ -1,11 +1,11 @@
 -- Calls of procedures: their frame, their body, and back. A procedure is called: into its frame, through its body, and back.
-use Rattle.bk_simulation.proofs.Words.{◌≡◌, ℕ, ◌+◌, ◌-◌, ◌*◌, ◌≤◌, Bool, List, ◌∷◌, length, Option, Some, None, refl, ap, arith, slice_get, suc, ◌<◌, ◌^◌, ◌≢◌, true, false, sym, ◌∙◌, subst, zero, Action, Expression, Expressions, Content, Word, content_of, Temporary, Link, Cell, Held, write, below, Inside, State, Goes, At, in_hand, program_step, Stmt, ReturnItem, Return, Entry, Save, CallFunction, CallRoutine, Value, unset, World, Exit, return, Outcome, gives, each_way, closing, forgetting, Done, calls_back, Environment, past, Body, command, expression, Procedure, procedure_of, history, After, Throughout, forwards, scope_of, alone, Meanings, return_exit, run_body, bind_formals, values, adds, stays, each_way_after, with_after, FRAME_WORDS, max, nat_lt, [], ◌++◌, ⊎_elim, inl, inr, append-nil, option_map_or, nat_tests, slice_get_within, Placed, Routine, Callables, slot, can_be_called, procedure, holds, making, calling, formal_cells, enter, closing_after}
+use Rattle.bk_simulation.proofs.Words.{◌≡◌, ℕ, ◌+◌, ◌-◌, ◌*◌, ◌≤◌, Bool, List, ◌∷◌, length, Option, Some, None, refl, ap, arith, slice_get, suc, ◌<◌, ◌^◌, ◌≢◌, true, false, sym, ◌∙◌, subst, zero, Action, Expression, Expressions, Content, Word, content_of, Temporary, Link, Cell, Held, write, below, Inside, State, Goes, At, in_hand, program_step, Stmt, ReturnItem, Return, Entry, Save, CallFunction, CallRoutine, Value, unset, World, Exit, return, Outcome, gives, each_evaluation, closing, forgetting, Done, calls_back, Environment, past, Body, command, expression, Procedure, procedure_of, history, After, Throughout, forwards, scope_of, alone, Meanings, return_exit, run_body, bind_formals, values, adds, stays, each_evaluation_after, with_after, FRAME_WORDS, max, nat_lt, [], ◌++◌, ⊎_elim, inl, inr, append-nil, option_map_or, nat_tests, slice_get_within, Placed, Routine, Callables, slot, can_be_called, procedure, holds, making, calling, formal_cells, enter, closing_after}
 use Rattle.bk_meaning.specs.Lasting.{Program}
 use Rattle.bk_simulation.proofs.Memory.{Stands, BaseOf, Grown, Like, like_refl, Moved, Fits, moved_on, fits_above, moved_above, Alive, StandsCell, Store, fits_more}
 use Rattle.bk_simulation.proofs.Weights.{turns_of, turns_through}
 use Rattle.bk_simulation.proofs.Laid.{Setting, Scene, IsAlone, IsValue, CallAt, AreValues, count}
-use Rattle.bk_simulation.proofs.Frame.{Sit, start, Ready, Account, Ran, went, each_way_ran, so, ArrivedAt, there, Has, Out, NamedIn, store, state, FewFrames, Comes, comes_on, one, with_ran, next, ready_next, here, go_on, falls_on, ran_from}
-use Rattle.bk_simulation.proofs.Compose.{arrived_more, roomy, links_below, stay, arrived_on, ran_on, ran_more, above}
+use Rattle.bk_simulation.proofs.Frame.{Configuration, start, Ready, Account, Ran, went, each_evaluation_ran, so, CompletedAt, there, Has, Out, NamedIn, store, state, FewFrames, Comes, comes_on, one, with_ran, next, ready_next, here, go_on, falls_on, ran_from}
+use Rattle.bk_simulation.proofs.Compose.{completed_more, roomy, links_below, stay, completed_on, ran_on, ran_more, above}
 use Rattle.bk_simulation.proofs.Simulates.{Simulates, for_scope, RanDid, for_value, for_values}
 use Rattle.bk_simulation.proofs.Operators.{value_run}
 use Rattle.std.specs.Prelude.{drop}
@@ -32,15 +32,15 @@ values_after m grows (t.more e es) env w =
     with_after _ (m.value e env w) _ (grows.value e env w) (λ v. adds _ (λ w1. with_after _ (values m es (past e env) w1) _ (values_after m grows es (past e env) w1) (λ vs. adds _ (λ w2. stays (history w2)))))
 
 -- they stand one above another
-pub record Listed (g : Setting) (s : State) (B : Account) (z : Sit) (c : List Stmt) (es : Expressions) (w : World) (vs : List Value) (w1 : World) : Type 0 where
+pub record Listed (g : Setting) (s : State) (B : Account) (z : Configuration) (c : List Stmt) (es : Expressions) (w : World) (vs : List Value) (w1 : World) : Type 0 where
   pub depth1 : ℕ
   pub is_depth : depth1 ≡ z.depth + count es
   pub long : length vs ≡ count es
-  pub arr : ArrivedAt g s B z c depth1 w w1
+  pub arr : CompletedAt g s B z c depth1 w w1
   pub each : (i : ℕ) (v : Value) → slice_get vs i ≡ Some v → Stands g.codes arr.bases1 v (content_of (arr.cells1 (z.frame + z.depth + i)))
 
 -- the first of them, and those after it
-first_of_list : (g : Setting) (s : State) (A N B : Account) (z : Sit) (c c2 : List Stmt) (e : Expression) (es : Expressions) (w w1 w2 : World) (v : Value) (vs : List Value)
+first_of_list : (g : Setting) (s : State) (A N B : Account) (z : Configuration) (c c2 : List Stmt) (e : Expression) (es : Expressions) (w w1 w2 : World) (v : Value) (vs : List Value)
     → A.most + N.most ≤ B.most + 16 * w1.turns → B.least ≤ N.least + (A.least - w1.turns) → Ready g z w → (a : Has g s A z c (z.depth + 1) w v w1)
     → Listed g (start (next g s A z c (z.depth + 1) w w1 (past e z.env) (z.depth + 1) a.arr) c w1) N (next g s A z c (z.depth + 1) w w1 (past e z.env) (z.depth + 1) a.arr) c2 es w1 vs w2
     → Listed g s B z c2 (t.more e es) w (v ∷ vs) w2
@@ -48,7 +48,7 @@ first_of_list g s A N B z c c2 e es w w1 w2 v vs le1 le2 r a l = record {
   depth1 = l.depth1;
   is_depth = (let x = l.is_depth in omega arith);
   long = (let x = l.long in omega arith);
-  arr = arrived_on le1 le2 r (omega arith) a.arr l.arr;
+  arr = completed_on le1 le2 r (omega arith) a.arr l.arr;
   each = at_index;
 }
   where
@@ -62,14 +62,14 @@ first_of_list g s A N B z c c2 e es w w1 w2 v vs le1 le2 r a l = record {
         let e0 : z.frame + (z.depth + 1) + i ≡ z.frame + z.depth + suc i = omega arith in
         subst (λ x. Stands g.codes l.arr.bases1 u (content_of (l.arr.cells1 x))) e0 (l.each i u h)
 
-pub values_run : (g : Setting) (m : Meanings) → Simulates g m → (es : Expressions) (z : Sit) (c rest : List Stmt) (w : World) → AreValues g z.scene z.depth z.env es c rest → Ready g z w
+pub values_run : (g : Setting) (m : Meanings) → Simulates g m → (es : Expressions) (z : Configuration) (c rest : List Stmt) (w : World) → AreValues g z.scene z.depth z.env es c rest → Ready g z w
     → Ran g (start z c w) (for_values es w) (Listed g (start z c w) (for_values es w) z rest es w) (Out g (start z c w) (for_values es w) z w) (values m es z.env w)
 values_run g m sim t.none z c rest w laid r =
     went (record {
       depth1 = z.depth;
       is_depth = omega arith;
       long = refl;
-      arr = subst (λ x. ArrivedAt g (start z c w) (for_values t.none w) z x z.depth w w) laid (stay g (for_values t.none w) z c w (omega arith) (omega arith) r);
+      arr = subst (λ x. CompletedAt g (start z c w) (for_values t.none w) z x z.depth w w) laid (stay g (for_values t.none w) z c w (omega arith) (omega arith) r);
       each = λ i v h. absurd (let q : None ≡ Some v = h in cc);
     })
 values_run g m sim (t.more e es) z c rest w laid r =
@@ -92,12 +92,12 @@ call_stmt true n = CallFunction n
 call_stmt false n = CallRoutine n
 
 -- what a call comes to
-abbrev pub Gave : Bool → Setting → State → Account → Sit → List Stmt → World → Value → World → Type 0
+abbrev pub Gave : Bool → Setting → State → Account → Configuration → List Stmt → World → Value → World → Type 0
 Gave true g s B z rest w v w3 = Has g s B z rest (z.depth + 1) w v w3
-Gave false g s B z rest w v w3 = ArrivedAt g s B z rest z.depth w w3
+Gave false g s B z rest w v w3 = CompletedAt g s B z rest z.depth w w3
 
 -- The run has come to a step back from the frame at the situation's top, with this result.
-pub record Back (g : Setting) (s : State) (A : Account) (z : Sit) (w : World) (back : ℕ) (result : Option Content) (w3 : World) : Type 0 where
+pub record Back (g : Setting) (s : State) (A : Account) (z : Configuration) (w : World) (back : ℕ) (result : Option Content) (w3 : World) : Type 0 where
   pub from : State
   pub steps : ℕ
   pub paid : ℕ
@@ -129,10 +129,10 @@ links_of : (top frame : ℕ) (old mid new : ℕ → Cell) → suc frame < top �
     → LinksFrom (suc frame) old new
 links_of top frame old mid new lt links like x w le e = links x w (omega arith) ((like x (omega arith)).link w e)
 
-abbrev came_back : {g : Setting} {s : State} {A B : Account} {z : Sit} {c : List Stmt} {d : ℕ} {w w3 : World} {back : ℕ} {result : Option Content} (n : ℕ)
+abbrev came_back : {g : Setting} {s : State} {A B : Account} {z : Configuration} {c : List Stmt} {d : ℕ} {w w3 : World} {back : ℕ} {result : Option Content} (n : ℕ)
     → A.most + 1 ≤ B.most → B.least ≤ A.least → n ≡ w.calls → Ready g z w
     → (q : Back g s A z w back result w3) (new : ℕ → Cell) (written2 : List ℕ) → ((a : ℕ) → a < z.frame + z.depth → Like (new a) (q.cells1 a))
-    → Moves g.program q.from (state z.scene.own d c new z.frame None written2 w3) → ArrivedAt g s B z c d w (calls_back n w3)
+    → Moves g.program q.from (state z.scene.own d c new z.frame None written2 w3) → CompletedAt g s B z c d w (calls_back n w3)
 came_back {g} {z = z} {w = w} n le le' en r q new written2 like m =
     let top = z.frame + z.depth in
     let mq = q.most in
@@ -156,7 +156,7 @@ came_back {g} {z = z} {w = w} n le le' en r q new written2 like m =
       moved = moved_on g.codes top top top _ _ _ r.fits (omega arith) q.moved (moved_above _ top new like);
     }
 
-pub returned_in : (of : Bool) (g : Setting) (s : State) (A B : Account) (z : Sit) (rest : List Stmt) (w w3 : World) (n : ℕ) (v : Value) (result : Option Content) → A.most + 1 ≤ B.most → B.least ≤ A.least → n ≡ w.calls
+pub returned_in : (of : Bool) (g : Setting) (s : State) (A B : Account) (z : Configuration) (rest : List Stmt) (w w3 : World) (n : ℕ) (v : Value) (result : Option Content) → A.most + 1 ≤ B.most → B.least ≤ A.least → n ≡ w.calls
     → Ready g z w → CallAt g z.scene (call_stmt of z.depth) rest → (q : Back g s A z w (z.scene.own.places.call (length rest)) result w3) → Stands g.codes q.bases1 v (in_hand result)
     → Gave of g s B z rest w v (calls_back n w3)
 returned_in true g s A B z rest w w3 n v result le le' en r call q st =
@@ -206,10 +206,10 @@ pub record Procedures (g : Setting) (p : Program) : Type 0 where
   pub each : (n : ℕ) (f : Procedure) → procedure_of p n ≡ Some f → IsProcedure g n f
 
 -- Where a procedure is to be called: its word is on top of the arguments.
-pub record Calling (of : Bool) (g : Setting) (s : State) (A : Account) (z : Sit) (rest : List Stmt) (w : World) (vs : List Value) (v : Value) (w1 : World) : Type 0 where
+pub record Calling (of : Bool) (g : Setting) (s : State) (A : Account) (z : Configuration) (rest : List Stmt) (w : World) (vs : List Value) (v : Value) (w1 : World) : Type 0 where
   pub depth1 : ℕ
   pub is_depth : depth1 ≡ z.depth + 2 + length vs
-  pub arr : ArrivedAt g s A z (call_stmt of z.depth ∷ rest) (depth1 + 1) w w1
+  pub arr : CompletedAt g s A z (call_stmt of z.depth ∷ rest) (depth1 + 1) w w1
   pub word : Stands g.codes arr.bases1 v (content_of (arr.cells1 (z.frame + depth1)))
   pub each : (i : ℕ) (u : Value) → slice_get vs i ≡ Some u → Stands g.codes arr.bases1 u (content_of (arr.cells1 (z.frame + z.depth + 2 + i)))
 
@@ -220,21 +220,21 @@ AnyExit x w = Unit {0}
 -- ---- a body
 
 -- A body is done: the next step is a return with this result.
-pub record Yielded (g : Setting) (s : State) (B : Account) (z : Sit) (w : World) (v : Value) (w1 : World) : Type 0 where
+pub record Yielded (g : Setting) (s : State) (B : Account) (z : Configuration) (w : World) (v : Value) (w1 : World) : Type 0 where
   pub control : List Stmt
   pub depth1 : ℕ
   pub result : Option Content
-  pub arr : ArrivedAt g s B z control depth1 w w1
+  pub arr : CompletedAt g s B z control depth1 w w1
   pub stands : Stands g.codes arr.bases1 v (in_hand result)
   pub leaves : (c p : ℕ) → content_of (arr.cells1 (z.frame + 1)) ≡ Word c → content_of (arr.cells1 (z.frame + 0)) ≡ Word p
       → program_step g.program (there g s B z control depth1 w w1 arr) ≡ Goes (returning (there g s B z control depth1 w w1 arr) result c p)
 
 -- the scope of one command does what it means
 abbrev pub AloneRuns : Setting → Meanings → Type 0
-AloneRuns g m = (x : Action) (z : Sit) (j : ℕ) (c rest : List Stmt) (w : World) → IsAlone g z.scene z.depth z.env x j c rest → Ready g z w
+AloneRuns g m = (x : Action) (z : Configuration) (j : ℕ) (c rest : List Stmt) (w : World) → IsAlone g z.scene z.depth z.env x j c rest → Ready g z w
     → RanDid g (start z c w) (for_scope (alone x) w) z rest w (scope_of m (alone x) forwards z.env w)
 
-returned_by : (g : Setting) (s : State) (B : Account) (z : Sit) (w w1 : World) (control : List Stmt) (depth1 : ℕ) (r : List Stmt) → control ≡ Return ∷ r → ArrivedAt g s B z control depth1 w w1 → Yielded g s B z w unset w1
+returned_by : (g : Setting) (s : State) (B : Account) (z : Configuration) (w w1 : World) (control : List Stmt) (depth1 : ℕ) (r : List Stmt) → control ≡ Return ∷ r → CompletedAt g s B z control depth1 w w1 → Yielded g s B z w unset w1
 returned_by g s B z w w1 control depth1 r e a = record {
   control = control;
   depth1 = depth1;
@@ -244,7 +244,7 @@ returned_by g s B z w w1 control depth1 r e a = record {
   leaves = λ c p e1 e0. return_step g.program (there g s B z control depth1 w w1 a) z.scene.own r depth1 c p (ap (λ y. Inside z.scene.own depth1 y) e) e1 e0;
 }
 
-returned_exit : (g : Setting) (s : State) (B : Account) (z : Sit) (w : World) (x : Exit) (w1 : World) → Out g s B z w x w1 → Ran g s B (Yielded g s B z w) AnyExit (return_exit x w1)
+returned_exit : (g : Setting) (s : State) (B : Account) (z : Configuration) (w : World) (x : Exit) (w1 : World) → Out g s B z w x w1 → Ran g s B (Yielded g s B z w) AnyExit (return_exit x w1)
 returned_exit g s B z w return w1 q = went (returned_by g s B z w w1 q.control q.depth1 q.leads.0 q.leads.1 q.arr)
 returned_exit g s B z w _ w1 q = went tt
 
@@ -252,13 +252,13 @@ exit_after : (y : Exit) (w : World) → After (history w) (return_exit y w)
 exit_after return w = stays (history w)
 exit_after _ w = stays (history w)
 
-returned_ran : (g : Setting) (s : State) (B : Account) (z : Sit) (r : List Stmt) (w : World) (o : Outcome Done) → RanDid g s B z (Return ∷ r) w o
-    → Ran g s B (Yielded g s B z w) AnyExit (each_way (λ _ w. gives unset w) return_exit o)
+returned_ran : (g : Setting) (s : State) (B : Account) (z : Configuration) (r : List Stmt) (w : World) (o : Outcome Done) → RanDid g s B z (Return ∷ r) w o
+    → Ran g s B (Yielded g s B z w) AnyExit (each_evaluation (λ _ w. gives unset w) return_exit o)
 returned_ran g s B z r w o q =
-    each_way_ran (λ _. adds _ (λ w1. stays (history w1))) (λ x. adds _ (λ w1. exit_after x w1)) q
+    each_evaluation_ran (λ _. adds _ (λ w1. stays (history w1))) (λ x. adds _ (λ w1. exit_after x w1)) q
     (λ _ w1 a. went (returned_by g s B z w w1 (Return ∷ r) z.depth r refl a)) (λ x w1 e. returned_exit g s B z w x w1 e)
 
-valued_by : (g : Setting) (s : State) (B : Account) (z : Sit) (r : List Stmt) (w : World) (v : Value) (w1 : World)
+valued_by : (g : Setting) (s : State) (B : Account) (z : Configuration) (r : List Stmt) (w : World) (v : Value) (w1 : World)
     → Has g s B z (ReturnItem ∷ r) (z.depth + 1) w v w1 → Yielded g s B z w v w1
 valued_by g s B z r w v w1 q = record {
   control = ReturnItem ∷ r;
@@ -280,12 +280,12 @@ pub body_small : (g : Setting) (sc : Scene) (d : ℕ) (env : Environment) (b : B
 body_small g sc d env (command x) c laid = laid.2.2
 body_small g sc d env (expression e) c laid = laid.2
 
-pub body_runs : (g : Setting) (m : Meanings) → Simulates g m → AloneRuns g m → (b : Body) (z : Sit) (c : List Stmt) (w : World) → IsBody g z.scene z.depth z.env b c → Ready g z w
+pub body_runs : (g : Setting) (m : Meanings) → Simulates g m → AloneRuns g m → (b : Body) (z : Configuration) (c : List Stmt) (w : World) → IsBody g z.scene z.depth z.env b c → Ready g z w
     → Ran g (start z c w) (for_body b w) (Yielded g (start z c w) (for_body b w) z w) AnyExit (run_body m b z.env w)
 body_runs g m sim alone_runs (command x) z c w laid r =
     returned_ran g (start z c w) (for_body (command x) w) z laid.1 w (scope_of m (alone x) forwards z.env w) (alone_runs x z laid.0 c (Return ∷ laid.1) w laid.2 r)
 body_runs g m sim alone_runs (expression e) z c w laid r =
-    so (omega arith) (omega arith) (λ v w1 q. valued_by g (start z c w) (for_body (expression e) w) z laid.0 w v w1 (record { arr = arrived_more (omega arith) (omega arith) q.arr; stands = q.stands })) (λ x w1 q. tt)
+    so (omega arith) (omega arith) (λ v w1 q. valued_by g (start z c w) (for_body (expression e) w) z laid.0 w v w1 (record { arr = completed_more (omega arith) (omega arith) q.arr; stands = q.stands })) (λ x w1 q. tt)
     (value_run g m sim e z c (ReturnItem ∷ laid.0) w laid.1 r)
 
 -- ---- histories
@@ -293,13 +293,13 @@ body_runs g m sim alone_runs (expression e) z c w laid r =
 pub body_after : (m : Meanings) → Throughout (λ A w u. After (history w) u) m → ((x : Action) (env : Environment) (w : World) → After (history w) (scope_of m (alone x) forwards env w)) → (b : Body) (env : Environment) (w : World)
     → After (history w) (run_body m b env w)
 body_after m grows alone_after (command x) env w =
-    each_way_after _ (scope_of m (alone x) forwards env w) _ return_exit (alone_after x env w) (λ _. adds _ (λ w. stays (history w))) (λ y. adds _ (λ w. exit_after y w))
+    each_evaluation_after _ (scope_of m (alone x) forwards env w) _ return_exit (alone_after x env w) (λ _. adds _ (λ w. stays (history w))) (λ y. adds _ (λ w. exit_after y w))
 body_after m grows alone_after (expression e) env w = grows.value e env w
 
 -- what was made for the call dies
 pub closing_ran : {T : Type 0} {g : Setting} {s : State} {B : Account} {K L : T → World → Type 0} {o : Outcome T} (k : ℕ)
     → ((t : T) (w : World) → K t w → L t (forgetting k w)) → Ran g s B K AnyExit o → Ran g s B L AnyExit (closing k o)
-closing_ran k h q = each_way_ran (λ t. adds _ (λ w. stays (history w))) (λ x. adds _ (λ w. stays (history w))) q (λ t w i. went (h t w i)) (λ x w i. went tt)
+closing_ran k h q = each_evaluation_ran (λ t. adds _ (λ w. stays (history w))) (λ x. adds _ (λ w. stays (history w))) q (λ t w i. went (h t w i)) (λ x w i. went tt)
 
 pub call_too_high : (n : ℕ) (of : Bool) (rest : List Stmt) → IsCallAt n (call_stmt of n ∷ rest)
 call_too_high n true rest = refl
@@ -328,7 +328,7 @@ call_moves false g s own rest section other is_own d n i l name ec ew at el =
     routine_moves g.program s own rest g.first FRAME_WORDS g.well section other is_own d n i l name ec ew at (callable g.program.callables (other.places.label l) (g.well.entries section i l other name is_own at).0) el
 
 -- the situation in a procedure
-abbrev pub in_body : Scene → Environment → ℕ → List ℕ → (ℕ → Cell) → List ℕ → ℕ → Sit
+abbrev pub in_body : Scene → Environment → ℕ → List ℕ → (ℕ → Cell) → List ℕ → ℕ → Configuration
 in_body sc env frame bases cells wr depth = record { scene = sc; env = env; frame = frame; bases = bases; cells = cells; hand = None; written = wr; depth = depth }
 
 -- the words of the links are in no object
@@ -338,7 +338,7 @@ links_free g h top b cells a f le lt o n b1 i l e li z =
     (λ (x : (o ≡ length h.mem) × (n ≡ length cells) × (b1 ≡ b)). let x2 = x.2 in absurd (omega arith)) (lying h b cells o n b1 f.long l e).lies
 
 -- A call: the run falls where the frame would begin too high or too many calls would be active.
-pub call_run : {of : Bool} {g : Setting} {s : State} {A B : Account} {z : Sit} {rest : List Stmt} {w w1 : World} {vs : List Value} {v : Value}
+pub call_run : {of : Bool} {g : Setting} {s : State} {A B : Account} {z : Configuration} {rest : List Stmt} {w w1 : World} {vs : List Value} {v : Value}
     {K : Value → World → Type 0} {o : Outcome Value} → z.depth ≤ FRAME_WORDS → Calling of g s A z rest w vs v w1
     → After (history (calling w1)) o → (nat_lt (2 ^ 31 - 65536) (z.frame + z.depth) ≡ false → max w1.most_calls (w1.calls + 1) ≤ g.cap → Ran g s B K AnyExit o)
     → Ran g s B K AnyExit o
@@ -360,7 +360,7 @@ call_run {of} {g} {s} {A} {B} {z} {rest} {w} {w1} {o = o} led ca after inside =
     (λ (hc : nat_lt g.cap (max w1.most_calls (w1.calls + 1)) ≡ false). inside h (is_at_most _ _ hc)))
 
 pub entered_runs : (of : Bool) (g : Setting) (m : Meanings) → Simulates g m → AloneRuns g m → ((x : Action) (env : Environment) (w : World) → After (history w) (scope_of m (alone x) forwards env w))
-    → (k : ℕ) (f : Procedure) → IsProcedure g k f → (s : State) (A B : Account) (z : Sit) (rest : List Stmt) (w w1 : World) (vs : List Value) → A.most + 4 ≤ B.most → B.least ≤ A.least → z.depth ≤ FRAME_WORDS
+    → (k : ℕ) (f : Procedure) → IsProcedure g k f → (s : State) (A B : Account) (z : Configuration) (rest : List Stmt) (w w1 : World) (vs : List Value) → A.most + 4 ≤ B.most → B.least ≤ A.least → z.depth ≤ FRAME_WORDS
     → Ready g z w → CallAt g z.scene (call_stmt of z.depth) rest → Calling of g s A z rest w vs (procedure k) w1
     → Ran g s B (λ v w3. Gave of g s B z rest w v (calls_back w1.calls w3)) AnyExit (enter m (Some f) vs (calling w1))
 entered_runs of g m sim alone_runs alone_after k f ip s A B z rest w w1 vs leB leB' led r call ca =
@@ -368,7 +368,7 @@ entered_runs of g m sim alone_runs alone_after k f ip s A B z rest w w1 vs leB l
     let wr : List ℕ = (top + 1) ∷ (top ∷ ca.arr.written1) in
     let b : ℕ = top + 2 in
     let w2 : World = making cells (calling w1) in
-    let z1 : Sit = in_body ip.scene env top (ca.arr.bases1 ++ b ∷ []) c3 wr size in
+    let z1 : Configuration = in_body ip.scene env top (ca.arr.bases1 ++ b ∷ []) c3 wr size in
     let after_it : After (history (calling w1)) (enter m (Some f) vs (calling w1)) =
     closing_after _ o (run_body m f.body env w2) (body_after m sim.grows alone_after f.body env w2) in
     let inside : nat_lt (2 ^ 31 - 65536) (z.frame + z.depth) ≡ false → max w1.most_calls (w1.calls + 1) ≤ g.cap → Ran g s B (λ v w3. Gave of g s B z rest w v (calls_back w1.calls w3)) AnyExit (enter m (Some f) vs (calling w1)) = λ h lc.

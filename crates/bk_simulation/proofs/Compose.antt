@@ -7,14 +7,14 @@ use Rattle.bk_simulation.proofs.Memory.{Like, like_on, Stands, Store, Moved, Fit
 use Rattle.bk_simulation.proofs.MadeObjects.{Since, since_on, since_cells, since_moved, closed_moved, closed_fits}
 use Rattle.bk_simulation.proofs.WrittenCells.{pushed_like, pushed_at}
 use Rattle.bk_simulation.proofs.Laid.{Setting, Scene, Exits, IsLabelHere, KeepsLabels}
-use Rattle.bk_simulation.proofs.Frame.{Sit, store, state, start, NamedIn, FewFrames, Ready, Account, further, paying, here, comes_on, one, Ran, went, each_way_ran, ran_from, so, turn_behind, Arrived, ArrivedAt, OpenArrived, store_at, there, Has, GoesTo, Leads, Exited, Out, next}
+use Rattle.bk_simulation.proofs.Frame.{Configuration, store, state, start, NamedIn, FewFrames, Ready, Account, further, paying, here, comes_on, one, Ran, went, each_evaluation_ran, ran_from, so, turn_behind, Completed, CompletedAt, OpenCompleted, store_at, there, Has, GoesTo, Leads, Exited, Out, next}
 
 -- ---- one arrival
 
 -- nothing was done yet
-abbrev pub begun : {g : Setting} {z : Sit} {w : World} (B : Account) (R : Store → Type 0) (d : ℕ) (c : List Stmt) → 16 * w.turns ≤ B.most → B.least ≤ w.turns
+abbrev pub begun : {g : Setting} {z : Configuration} {w : World} (B : Account) (R : Store → Type 0) (d : ℕ) (c : List Stmt) → 16 * w.turns ≤ B.most → B.least ≤ w.turns
     → Ready g z w → R (store z w)
-    → Arrived g (state z.scene.own d c z.cells z.frame z.hand z.written w) B z.scene.own z.frame w.calls (z.frame + z.depth) R c d w
+    → Completed g (state z.scene.own d c z.cells z.frame z.hand z.written w) B z.scene.own z.frame w.calls (z.frame + z.depth) R c d w
 begun {z = z} B R d c le le' r same = record {
   steps = 0;
   paid = 0;
@@ -33,7 +33,7 @@ begun {z = z} B R d c le le' r same = record {
   moved = same;
 }
 
-abbrev pub stay : (g : Setting) (B : Account) (z : Sit) (c : List Stmt) (w : World) → 16 * w.turns ≤ B.most → B.least ≤ w.turns → Ready g z w → ArrivedAt g
+abbrev pub stay : (g : Setting) (B : Account) (z : Configuration) (c : List Stmt) (w : World) → 16 * w.turns ≤ B.most → B.least ≤ w.turns → Ready g z w → CompletedAt g
     (start z c w) B z c z.depth w w
 stay g B z c w le le' r = begun B (Moved (z.frame + z.depth) (store z w)) z.depth c le le' r (moved_refl _ _)
 
@@ -46,13 +46,13 @@ pub links_like : (frame top : ℕ) (old new : ℕ → Cell) → suc frame < top 
 links_like frame top old new lt like x w le e = (like x (omega arith)).link w e
 
 -- the words below the situation's top have the links
-pub links_below : {g : Setting} {z : Sit} {w : World} → Ready g z w → suc z.frame < z.frame + z.depth
+pub links_below : {g : Setting} {z : Configuration} {w : World} → Ready g z w → suc z.frame < z.frame + z.depth
 links_below r = let dp = r.deep in omega arith
 
 module _ {g : Setting} {s : State} {own : Placed} {frame calls top : ℕ} {c : List Stmt} {d : ℕ} {w1 : World} where
   -- in another account, with other turns left
-  abbrev pub accounted : {R : Store → Type 0} {B N : Account} (n : ℕ) (a : Arrived g s B own frame calls top R c d w1) → a.steps + 16 * n ≤ N.most
-      → N.least ≤ n + a.paid → Arrived g s N own frame calls top R c d (record w1 { turns = n })
+  abbrev pub accounted : {R : Store → Type 0} {B N : Account} (n : ℕ) (a : Completed g s B own frame calls top R c d w1) → a.steps + 16 * n ≤ N.most
+      → N.least ≤ n + a.paid → Completed g s N own frame calls top R c d (record w1 { turns = n })
   accounted n a le le' = record {
     steps = a.steps;
     paid = a.paid;
@@ -73,8 +73,8 @@ module _ {g : Setting} {s : State} {own : Placed} {frame calls top : ℕ} {c : L
 
   -- with other objects, which fit below another top
   abbrev pub with_objects : {R : Store → Type 0} {B : Account} (bases2 : List ℕ) (mem2 : Memory) (top2 : ℕ) (R2 : Store → Type 0)
-      (a : Arrived g s B own frame calls top R c d w1) → Fits g.codes (record { bases = bases2; mem = mem2; cells = a.cells1 }) top2
-      → R2 (record { bases = bases2; mem = mem2; cells = a.cells1 }) → Arrived g s B own frame calls top2 R2 c d (remembering mem2 w1)
+      (a : Completed g s B own frame calls top R c d w1) → Fits g.codes (record { bases = bases2; mem = mem2; cells = a.cells1 }) top2
+      → R2 (record { bases = bases2; mem = mem2; cells = a.cells1 }) → Completed g s B own frame calls top2 R2 c d (remembering mem2 w1)
   with_objects bases2 mem2 top2 R2 a fits moved = record {
     steps = a.steps;
     paid = a.paid;
@@ -95,10 +95,10 @@ module _ {g : Setting} {s : State} {own : Placed} {frame calls top : ℕ} {c : L
 
   -- a step further, with what it pays
   abbrev pub stepped : {R : Store → Type 0} {B : Account} (mem2 : Memory) (top2 : ℕ) (R2 : Store → Type 0) (c2 : List Stmt) (d2 : ℕ)
-      (a : Arrived g s B own frame calls top R c d w1) (cells2 : ℕ → Cell) (hand2 : Option Content) (written2 : List ℕ)
+      (a : Completed g s B own frame calls top R c d w1) (cells2 : ℕ → Cell) (hand2 : Option Content) (written2 : List ℕ)
       → LinksFrom (suc frame) a.cells1 cells2 → Fits g.codes (record { bases = a.bases1; mem = mem2; cells = cells2 }) top2 → R2
       (record { bases = a.bases1; mem = mem2; cells = cells2 })
-      → Moves g.program (state own d c a.cells1 frame a.hand1 a.written1 w1) (state own d2 c2 cells2 frame hand2 written2 w1) → Arrived g s
+      → Moves g.program (state own d c a.cells1 frame a.hand1 a.written1 w1) (state own d2 c2 cells2 frame hand2 written2 w1) → Completed g s
       (paying g B) own frame calls top2 R2 c2 d2 (remembering mem2 w1)
   stepped mem2 top2 R2 c2 d2 a cells2 hand2 written2 links fits moved e =
       let m = a.most in
@@ -125,9 +125,9 @@ module _ {g : Setting} {s : State} {own : Placed} {frame calls top : ℕ} {c : L
   -- what follows: it has N for itself, and the two together have B
   abbrev pub behind : {R R1 : Store → Type 0} {A N B : Account} {calls1 top1 d2 : ℕ} {c2 : List Stmt} {w2 : World} (top2 : ℕ) (R2 : Store → Type 0)
       → A.most + N.most ≤ B.most + 16 * w1.turns → B.least ≤ N.least + (A.least - w1.turns) → calls1 ≡ w1.calls
-      → (a : Arrived g s A own frame calls top R c d w1)
-      (b : Arrived g (state own d c a.cells1 frame a.hand1 a.written1 w1) N own frame calls1 top1 R1 c2 d2 w2) → Fits g.codes (store_at b) top2 → R2
-      (store_at b) → Arrived g s B own frame calls top2 R2 c2 d2 w2
+      → (a : Completed g s A own frame calls top R c d w1)
+      (b : Completed g (state own d c a.cells1 frame a.hand1 a.written1 w1) N own frame calls1 top1 R1 c2 d2 w2) → Fits g.codes (store_at b) top2 → R2
+      (store_at b) → Completed g s B own frame calls top2 R2 c2 d2 w2
   behind top2 R2 le1 le2 ec a b fits moved = let m = a.most in let n = b.most in let ml = a.least in let nl = b.least in record {
     steps = a.steps + b.steps;
     paid = a.paid + b.paid;
@@ -147,26 +147,26 @@ module _ {g : Setting} {s : State} {own : Placed} {frame calls top : ℕ} {c : L
   }
 
   -- within a larger account
-  abbrev pub arrived_more : {R : Store → Type 0} {B N : Account} → B.most ≤ N.most → N.least ≤ B.least → Arrived g s B own frame calls top R c d w1
-      → Arrived g s N own frame calls top R c d w1
-  arrived_more le le' a = let m = a.most in let l = a.least in accounted w1.turns a (omega arith) (omega arith)
+  abbrev pub completed_more : {R : Store → Type 0} {B N : Account} → B.most ≤ N.most → N.least ≤ B.least → Completed g s B own frame calls top R c d w1
+      → Completed g s N own frame calls top R c d w1
+  completed_more le le' a = let m = a.most in let l = a.least in accounted w1.turns a (omega arith) (omega arith)
 
   -- a turn is taken there
-  abbrev pub arrived_turn : {R : Store → Type 0} {B N : Account} (n : ℕ) → w1.turns ≡ suc n → B.most ≤ N.most + 16 → N.least ≤ B.least - 1
-      → Arrived g s B own frame calls top R c d w1 → Arrived g s N own frame calls top R c d (record w1 { turns = n })
-  arrived_turn n e le le' a = let m = a.most in let l = a.least in accounted n a (omega arith) (omega arith)
+  abbrev pub completed_turn : {R : Store → Type 0} {B N : Account} (n : ℕ) → w1.turns ≡ suc n → B.most ≤ N.most + 16 → N.least ≤ B.least - 1
+      → Completed g s B own frame calls top R c d w1 → Completed g s N own frame calls top R c d (record w1 { turns = n })
+  completed_turn n e le le' a = let m = a.most in let l = a.least in accounted n a (omega arith) (omega arith)
 
   pub turn_there : {T : Type 0} {R : Store → Type 0} {A B : Account} {K : T → World → Type 0} {X : Exit → World → Type 0} (go : World → Outcome T)
-      → A.most ≤ B.most → B.least ≤ A.least → (a : Arrived g s A own frame calls top R c d w1)
+      → A.most ≤ B.most → B.least ≤ A.least → (a : Completed g s A own frame calls top R c d w1)
       → ((n : ℕ) → w1.turns ≡ suc n → Ran g s B K X (go (record w1 { turns = n }))) → Ran g s B K X (turn w1 go)
   turn_there go le le' a h = let m = a.most in let l = a.least in turn_behind a.steps a.paid w1 go a.comes (omega arith) (omega arith) refl refl h
 
   -- a step that leaves the words below the top as they are, which pays
-  abbrev pub arrived_paid : {h : Store} {B : Account} {c2 : List Stmt} {d2 : ℕ} (a : Arrived g s B own frame calls top (Moved top h) c d w1) (cells2 : ℕ → Cell)
+  abbrev pub completed_paid : {h : Store} {B : Account} {c2 : List Stmt} {d2 : ℕ} (a : Completed g s B own frame calls top (Moved top h) c d w1) (cells2 : ℕ → Cell)
       (hand2 : Option Content) (written2 : List ℕ) → suc frame < top
       → ((x : ℕ) → x < top → Like (cells2 x) (a.cells1 x)) → Moves g.program (state own d c a.cells1 frame a.hand1 a.written1 w1)
-      (state own d2 c2 cells2 frame hand2 written2 w1) → Arrived g s (paying g B) own frame calls top (Moved top h) c2 d2 w1
-  arrived_paid {h} {c2 = c2} {d2 = d2} a cells2 hand2 written2 lt like e =
+      (state own d2 c2 cells2 frame hand2 written2 w1) → Completed g s (paying g B) own frame calls top (Moved top h) c2 d2 w1
+  completed_paid {h} {c2 = c2} {d2 = d2} a cells2 hand2 written2 lt like e =
       let k1 = links_like frame top a.cells1 cells2 lt like in
       let f1 = fits_above g.codes _ top cells2 a.fits like in
       stepped w1.memory top (Moved top h) c2 d2 a cells2 hand2 written2 k1 f1
@@ -178,54 +178,54 @@ module _ {g : Setting} {s : State} {own : Placed} {frame calls top : ℕ} {c : L
       }) e
 
 -- the same, where it need not pay
-abbrev pub arrived_step : {g : Setting} {s : State} {B : Account} {own : Placed} {frame calls top : ℕ} {h : Store} {c c2 : List Stmt} {d d2 : ℕ} {w1 : World}
-    (a : Arrived g s B own frame calls top (Moved top h) c d w1) (cells2 : ℕ → Cell) (hand2 : Option Content)
+abbrev pub completed_step : {g : Setting} {s : State} {B : Account} {own : Placed} {frame calls top : ℕ} {h : Store} {c c2 : List Stmt} {d d2 : ℕ} {w1 : World}
+    (a : Completed g s B own frame calls top (Moved top h) c d w1) (cells2 : ℕ → Cell) (hand2 : Option Content)
     (written2 : List ℕ) → suc frame < top → ((x : ℕ) → x < top → Like (cells2 x) (a.cells1 x)) → Moves g.program
     (state own d c a.cells1 frame a.hand1 a.written1 w1) (state own d2 c2 cells2 frame hand2 written2 w1)
-    → Arrived g s (further 1 B) own frame calls top (Moved top h) c2 d2 w1
-arrived_step a cells2 hand2 written2 lt like e = arrived_more (omega arith) (omega arith) (arrived_paid a cells2 hand2 written2 lt like e)
+    → Completed g s (further 1 B) own frame calls top (Moved top h) c2 d2 w1
+completed_step a cells2 hand2 written2 lt like e = completed_more (omega arith) (omega arith) (completed_paid a cells2 hand2 written2 lt like e)
 
 -- ---- what follows an arrival
 
-abbrev pub arrived_on : {g : Setting} {s : State} {A N B : Account} {z : Sit} {c c2 : List Stmt} {d1 d2 : ℕ} {w w1 w2 : World}
+abbrev pub completed_on : {g : Setting} {s : State} {A N B : Account} {z : Configuration} {c c2 : List Stmt} {d1 d2 : ℕ} {w w1 w2 : World}
     → A.most + N.most ≤ B.most + 16 * w1.turns → B.least ≤ N.least + (A.least - w1.turns) → Ready g z w → z.depth ≤ d1
-    → (a : ArrivedAt g s A z c d1 w w1) → ArrivedAt g (start (next g s A z c d1 w w1 z.env d1 a) c w1) N (next g s A z c d1 w w1 z.env d1 a) c2 d2 w1 w2
-    → ArrivedAt g s B z c2 d2 w w2
-arrived_on {g} {z = z} {d1 = d1} {w = w} le1 le2 r le a b = behind (z.frame + z.depth) (Moved (z.frame + z.depth) (store z w)) le1 le2 refl a b
+    → (a : CompletedAt g s A z c d1 w w1) → CompletedAt g (start (next g s A z c d1 w w1 z.env d1 a) c w1) N (next g s A z c d1 w w1 z.env d1 a) c2 d2 w1 w2
+    → CompletedAt g s B z c2 d2 w w2
+completed_on {g} {z = z} {d1 = d1} {w = w} le1 le2 r le a b = behind (z.frame + z.depth) (Moved (z.frame + z.depth) (store z w)) le1 le2 refl a b
     (fits_less g.codes _ _ (z.frame + z.depth) (z.frame + d1) a.fits (moved_less _ _ (z.frame + z.depth) (z.frame + d1) (omega arith) b.moved) b.fits)
     (moved_on g.codes (z.frame + z.depth) (z.frame + z.depth) (z.frame + d1) _ _ _ r.fits (omega arith) a.moved b.moved)
 
-pub out_on : {g : Setting} {s : State} {A N B : Account} {z : Sit} {c : List Stmt} {d1 : ℕ} {w w1 w2 : World} {x : Exit}
+pub out_on : {g : Setting} {s : State} {A N B : Account} {z : Configuration} {c : List Stmt} {d1 : ℕ} {w w1 w2 : World} {x : Exit}
     → A.most + N.most ≤ B.most + 16 * w1.turns → B.least ≤ N.least + (A.least - w1.turns) → Ready g z w → z.depth ≤ d1
-    → (a : ArrivedAt g s A z c d1 w w1) → Out g (start (next g s A z c d1 w w1 z.env d1 a) c w1) N (next g s A z c d1 w w1 z.env d1 a) w1 x w2
+    → (a : CompletedAt g s A z c d1 w w1) → Out g (start (next g s A z c d1 w w1 z.env d1 a) c w1) N (next g s A z c d1 w w1 z.env d1 a) w1 x w2
     → Out g s B z w x w2
 out_on le1 le2 r le a b = let m = a.most in let l = b.later in
-    record { control = b.control; depth1 = b.depth1; leads = b.leads; arr = arrived_on le1 le2 r le a b.arr; later = omega arith; hands = b.hands }
+    record { control = b.control; depth1 = b.depth1; leads = b.leads; arr = completed_on le1 le2 r le a b.arr; later = omega arith; hands = b.hands }
 
 -- the part of a run that follows an arrival
-pub ran_on : {T : Type 0} {g : Setting} {s : State} {A N B : Account} {z : Sit} {c : List Stmt} {d1 : ℕ} {w w1 : World} {K L : T → World → Type 0}
+pub ran_on : {T : Type 0} {g : Setting} {s : State} {A N B : Account} {z : Configuration} {c : List Stmt} {d1 : ℕ} {w w1 : World} {K L : T → World → Type 0}
     {o : Outcome T} → A.most + N.most ≤ B.most + 16 * w1.turns → B.least ≤ N.least + (A.least - w1.turns)
-    → Ready g z w → z.depth ≤ d1 → (a : ArrivedAt g s A z c d1 w w1) → ((t : T) (w2 : World) → K t w2 → L t w2)
+    → Ready g z w → z.depth ≤ d1 → (a : CompletedAt g s A z c d1 w w1) → ((t : T) (w2 : World) → K t w2 → L t w2)
     → Ran g (start (next g s A z c d1 w w1 z.env d1 a) c w1) N K
     (Out g (start (next g s A z c d1 w w1 z.env d1 a) c w1) N (next g s A z c d1 w w1 z.env d1 a) w1) o → Ran g s B L (Out g s B z w) o
 ran_on le1 le2 r le a h q = let m = a.most in let l = a.least in ran_from a.comes (omega arith) (omega arith) h (λ x w2 k. out_on le1 le2 r le a k) q
 
 -- what follows comes to a place too
-pub comes_to : {T : Type 0} {g : Setting} {s : State} {A N B : Account} {z : Sit} {c : List Stmt} {d1 d2 : ℕ} {w w1 : World} {to : T → List Stmt}
+pub comes_to : {T : Type 0} {g : Setting} {s : State} {A N B : Account} {z : Configuration} {c : List Stmt} {d1 d2 : ℕ} {w w1 : World} {to : T → List Stmt}
     {o : Outcome T} → A.most + N.most ≤ B.most + 16 * w1.turns → B.least ≤ N.least + (A.least - w1.turns)
-    → Ready g z w → z.depth ≤ d1 → (a : ArrivedAt g s A z c d1 w w1)
+    → Ready g z w → z.depth ≤ d1 → (a : CompletedAt g s A z c d1 w w1)
     → Ran g (start (next g s A z c d1 w w1 z.env d1 a) c w1) N
-    (λ t w2. ArrivedAt g (start (next g s A z c d1 w w1 z.env d1 a) c w1) N (next g s A z c d1 w w1 z.env d1 a) (to t) d2 w1 w2)
-    (Out g (start (next g s A z c d1 w w1 z.env d1 a) c w1) N (next g s A z c d1 w w1 z.env d1 a) w1) o → Ran g s B (λ t w2. ArrivedAt g s B z (to t) d2 w w2)
+    (λ t w2. CompletedAt g (start (next g s A z c d1 w w1 z.env d1 a) c w1) N (next g s A z c d1 w w1 z.env d1 a) (to t) d2 w1 w2)
+    (Out g (start (next g s A z c d1 w w1 z.env d1 a) c w1) N (next g s A z c d1 w w1 z.env d1 a) w1) o → Ran g s B (λ t w2. CompletedAt g s B z (to t) d2 w w2)
     (Out g s B z w) o
-comes_to le1 le2 r le a q = ran_on le1 le2 r le a (λ t w2 b. arrived_on le1 le2 r le a b) q
+comes_to le1 le2 r le a q = ran_on le1 le2 r le a (λ t w2 b. completed_on le1 le2 r le a b) q
 
 -- an exit, and the first part of a run, within a larger account
 pub out_more : {g : Setting} {s : State} {N B : Account} {sc : Scene} {frame calls top : ℕ} {R : Store → Type 0} {x : Exit} {w1 : World} → N.most ≤ B.most
     → B.least ≤ N.least
     → Exited g s N sc frame calls top R x w1 → Exited g s B sc frame calls top R x w1
 out_more le le' a =
-    let l = a.later in record { control = a.control; depth1 = a.depth1; leads = a.leads; arr = arrived_more le le' a.arr; later = omega arith; hands = a.hands }
+    let l = a.later in record { control = a.control; depth1 = a.depth1; leads = a.leads; arr = completed_more le le' a.arr; later = omega arith; hands = a.hands }
 
 -- an exit, seen from where other exits are around
 pub outside : {g : Setting} {s : State} {N B : Account} (sc : Scene) {a : Around} {e : Exits} {frame calls top : ℕ} {R : Store → Type 0} {x : Exit} {w1 : World}
@@ -245,8 +245,8 @@ pub ran_more : {T : Type 0} {g : Setting} {s : State} {N B : Account} {sc : Scen
 ran_more le le' q = ran_first le le' (λ t w1 k. k) q
 
 -- An item takes the place of those from the top on.
-pub topped : {g : Setting} {s : State} {A B : Account} {z : Sit} {c rest : List Stmt} {d : ℕ} {w w1 : World} {v : Value} (x : Content) → A.most + 1 ≤ B.most
-    → B.least ≤ A.least → 2 ≤ z.depth → (a : ArrivedAt g s A z c d w w1)
+pub topped : {g : Setting} {s : State} {A B : Account} {z : Configuration} {c rest : List Stmt} {d : ℕ} {w w1 : World} {v : Value} (x : Content) → A.most + 1 ≤ B.most
+    → B.least ≤ A.least → 2 ≤ z.depth → (a : CompletedAt g s A z c d w w1)
     → Stands g.codes a.bases1 v x
     → Moves g.program (there g s A z c d w w1 a)
     (state z.scene.own (z.depth + 1) rest (below (z.frame + (z.depth + 1)) (write a.cells1 (z.frame + z.depth) (Held Temporary x))) z.frame None ((z.frame + z.depth) ∷ a.written1) w1)
@@ -255,14 +255,14 @@ topped {g} {z = z} {v = v} x le le' dp a st e =
     let top = z.frame + z.depth in
     let cells2 = below (z.frame + (z.depth + 1)) (write a.cells1 top (Held Temporary x)) in
     record {
-      arr = arrived_more le le' (arrived_step a cells2 None (top ∷ a.written1) (omega arith) (λ y ly. pushed_like z.frame z.depth a.cells1 (Held Temporary x) y ly) e);
+      arr = completed_more le le' (completed_step a cells2 None (top ∷ a.written1) (omega arith) (λ y ly. pushed_like z.frame z.depth a.cells1 (Held Temporary x) y ly) e);
       stands = subst (λ y. Stands g.codes a.bases1 v (content_of y)) (sym (pushed_at z.frame z.depth a.cells1 (Held Temporary x))) st;
     }
 
 -- the item on top is still there behind what follows above it
-pub above : {g : Setting} {s : State} {A N : Account} {z : Sit} {c c2 : List Stmt} {d2 : ℕ} {w w1 w2 : World} {v : Value}
+pub above : {g : Setting} {s : State} {A N : Account} {z : Configuration} {c c2 : List Stmt} {d2 : ℕ} {w w1 w2 : World} {v : Value}
     (a : Has g s A z c (z.depth + 1) w v w1)
-    (b : ArrivedAt g (start (next g s A z c (z.depth + 1) w w1 z.env (z.depth + 1) a.arr) c w1) N (next g s A z c (z.depth + 1) w w1 z.env (z.depth + 1) a.arr) c2 d2 w1 w2)
+    (b : CompletedAt g (start (next g s A z c (z.depth + 1) w w1 z.env (z.depth + 1) a.arr) c w1) N (next g s A z c (z.depth + 1) w w1 z.env (z.depth + 1) a.arr) c2 d2 w1 w2)
     → Stands g.codes b.bases1 v (content_of (b.cells1 (z.frame + z.depth)))
 above {g} {z = z} {v = v} a b =
     let like = b.moved.kept.as_was (z.frame + z.depth) (omega arith) (λ o n b1 i l e lt. let u = a.arr.fits.below o n b1 l e in omega arith) in
@@ -270,20 +270,20 @@ above {g} {z = z} {v = v} a b =
 
 -- ---- runs during which objects are made that die at the end
 
-pub record OpenExited (g : Setting) (s : State) (B : Account) (z : Sit) (w : World) (x : Exit) (w1 : World) : Type 0 where
+pub record OpenExited (g : Setting) (s : State) (B : Account) (z : Configuration) (w : World) (x : Exit) (w1 : World) : Type 0 where
   pub more : ℕ
   pub is : Exited g s B z.scene z.frame w.calls more (Since (z.frame + z.depth) (store z w)) x w1
 
 -- the situation there, at a depth and with other names in scope
-abbrev pub open_sit : (g : Setting) (s : State) (B : Account) (z : Sit) (w : World) (c : List Stmt) (depth more : ℕ) (w1 : World)
-    → OpenArrived g s B z w c depth more w1 → List Binding → Environment → Sit
-open_sit g s B z w c depth more w1 a bs env =
+abbrev pub open_configuration : (g : Setting) (s : State) (B : Account) (z : Configuration) (w : World) (c : List Stmt) (depth more : ℕ) (w1 : World)
+    → OpenCompleted g s B z w c depth more w1 → List Binding → Environment → Configuration
+open_configuration g s B z w c depth more w1 a bs env =
     record z { scene = record z.scene { bindings = bs }; env = env; bases = a.bases1; cells = a.cells1; hand = a.hand1; written = a.written1; depth = depth }
 
-pub open_ready : {g : Setting} {s : State} {B : Account} {z : Sit} {w : World} {c : List Stmt} {depth : ℕ} {w1 : World}
-    (a : OpenArrived g s B z w c depth (z.frame + depth) w1) (bs : List Binding) (env : Environment)
+pub open_ready : {g : Setting} {s : State} {B : Account} {z : Configuration} {w : World} {c : List Stmt} {depth : ℕ} {w1 : World}
+    (a : OpenCompleted g s B z w c depth (z.frame + depth) w1) (bs : List Binding) (env : Environment)
     → z.depth ≤ depth → NamedIn (record z.scene { bindings = bs }) env a.bases1 z.frame → Ready g z w → Ready g
-    (open_sit g s B z w c depth (z.frame + depth) w1 a bs env) w1
+    (open_configuration g s B z w c depth (z.frame + depth) w1 a bs env) w1
 open_ready {g} {z = z} a bs env le named r = let dp = r.deep in record {
   named = named;
   fits = a.fits;
@@ -299,35 +299,35 @@ open_ready {g} {z = z} a bs env le named r = let dp = r.deep in record {
 
 -- a turn is taken on the way
 abbrev pub open_ticked : {g : Setting} {s : State} {A : Account} {own : Placed} {frame calls top : ℕ} {R : Store → Type 0} {c : List Stmt} {d : ℕ} {w1 : World}
-    (n : ℕ) → w1.turns ≡ suc n → Arrived g s A own frame calls top R c d w1
-    → Arrived g s (record { most = A.most - 16; least = A.least - 1 }) own frame calls top R c d (record w1 { turns = n })
+    (n : ℕ) → w1.turns ≡ suc n → Completed g s A own frame calls top R c d w1
+    → Completed g s (record { most = A.most - 16; least = A.least - 1 }) own frame calls top R c d (record w1 { turns = n })
 open_ticked n q a = let m = a.most in let l = a.least in accounted n a (omega arith) (omega arith)
 
 -- with room for more words
 abbrev pub open_wider : {g : Setting} {s : State} {B : Account} {own : Placed} {frame calls more more1 : ℕ} {R : Store → Type 0} {c : List Stmt} {d : ℕ}
-    {w1 : World} → more ≤ more1 → Arrived g s B own frame calls more R c d w1 → Arrived g s B own frame calls more1 R c d w1
+    {w1 : World} → more ≤ more1 → Completed g s B own frame calls more R c d w1 → Completed g s B own frame calls more1 R c d w1
 open_wider {g} {more = more} {more1 = more1} {R = R} {w1 = w1} le a =
     with_objects a.bases1 w1.memory more1 R a (fits_more g.codes (store_at a) more more1 le a.fits) a.moved
 
 -- a step that leaves the words below a top as they are
-abbrev pub open_step : {g : Setting} {s : State} {B : Account} {z : Sit} {w : World} {c c2 : List Stmt} {d d2 more : ℕ} {w1 : World} → Ready g z w
-    → z.frame + z.depth ≤ more → (a : OpenArrived g s B z w c d more w1)
+abbrev pub open_step : {g : Setting} {s : State} {B : Account} {z : Configuration} {w : World} {c c2 : List Stmt} {d d2 more : ℕ} {w1 : World} → Ready g z w
+    → z.frame + z.depth ≤ more → (a : OpenCompleted g s B z w c d more w1)
     → (cells2 : ℕ → Cell) (hand2 : Option Content) (written2 : List ℕ) → ((x : ℕ) → x < more → Like (cells2 x) (a.cells1 x))
     → Moves g.program (state z.scene.own d c a.cells1 z.frame a.hand1 a.written1 w1) (state z.scene.own d2 c2 cells2 z.frame hand2 written2 w1)
-    → OpenArrived g s (further 1 B) z w c2 d2 more w1
+    → OpenCompleted g s (further 1 B) z w c2 d2 more w1
 open_step {g} {z = z} {w = w} {c2 = c2} {d2 = d2} {more = more} {w1 = w1} r le a cells2 hand2 written2 like e =
     let dp = r.deep in
     let k1 = links_like z.frame more a.cells1 cells2 (omega arith) like in
     let f1 = fits_above g.codes _ more cells2 a.fits like in
     let m1 = since_on (omega arith) a.moved (since_cells {top = more} (store_at a) like) in
-    arrived_more (omega arith) (omega arith) (stepped w1.memory more (Since (z.frame + z.depth) (store z w)) c2 d2 a cells2 hand2 written2 k1 f1 m1 e)
+    completed_more (omega arith) (omega arith) (stepped w1.memory more (Since (z.frame + z.depth) (store z w)) c2 d2 a cells2 hand2 written2 k1 f1 m1 e)
 
 -- What follows in a part of its own.
-abbrev pub open_on : {g : Setting} {s : State} {A N B : Account} {z : Sit} {c c2 : List Stmt} {d1 d2 : ℕ} {w w1 w2 : World}
+abbrev pub open_on : {g : Setting} {s : State} {A N B : Account} {z : Configuration} {c c2 : List Stmt} {d1 d2 : ℕ} {w w1 w2 : World}
     → A.most + N.most ≤ B.most + 16 * w1.turns → B.least ≤ N.least + (A.least - w1.turns) → Ready g z w → z.depth ≤ d1
-    → (a : OpenArrived g s A z w c d1 (z.frame + d1) w1)
-    (b : Arrived g (state z.scene.own d1 c a.cells1 z.frame a.hand1 a.written1 w1) N z.scene.own z.frame w1.calls (z.frame + d1) (Moved (z.frame + d1) (store_at a)) c2 d2 w2)
-    → OpenArrived g s B z w c2 d2 (z.frame + d1) w2
+    → (a : OpenCompleted g s A z w c d1 (z.frame + d1) w1)
+    (b : Completed g (state z.scene.own d1 c a.cells1 z.frame a.hand1 a.written1 w1) N z.scene.own z.frame w1.calls (z.frame + d1) (Moved (z.frame + d1) (store_at a)) c2 d2 w2)
+    → OpenCompleted g s B z w c2 d2 (z.frame + d1) w2
 open_on {z = z} {d1 = d1} {w = w} le1 le2 r le a b =
     behind (z.frame + d1) (Since (z.frame + z.depth) (store z w)) le1 le2 refl a b b.fits
     (since_on (omega arith) a.moved (since_moved a.fits b.fits b.moved))
@@ -339,12 +339,12 @@ leads_outwards sc bs (goto y) c k l = subst (λ b. GoesTo (goal_in sc.targets (m
 leads_outwards sc bs _ c k l = l
 
 -- the part of a run that follows
-pub ran_open : {T : Type 0} {g : Setting} {s : State} {A N B : Account} {z : Sit} {c : List Stmt} {d1 : ℕ} {w w1 : World} (bs : List Binding)
+pub ran_open : {T : Type 0} {g : Setting} {s : State} {A N B : Account} {z : Configuration} {c : List Stmt} {d1 : ℕ} {w w1 : World} (bs : List Binding)
     (env : Environment) {K L : T → World → Type 0} {o : Outcome T} → A.most + N.most ≤ B.most + 16 * w1.turns
     → B.least ≤ N.least + (A.least - w1.turns) → Ready g z w → z.depth ≤ d1 → KeepsLabels z.scene.bindings bs
-    → (a : OpenArrived g s A z w c d1 (z.frame + d1) w1) → ((t : T) (w2 : World) → K t w2 → L t w2)
-    → Ran g (start (open_sit g s A z w c d1 (z.frame + d1) w1 a bs env) c w1) N K
-    (Out g (start (open_sit g s A z w c d1 (z.frame + d1) w1 a bs env) c w1) N (open_sit g s A z w c d1 (z.frame + d1) w1 a bs env) w1) o
+    → (a : OpenCompleted g s A z w c d1 (z.frame + d1) w1) → ((t : T) (w2 : World) → K t w2 → L t w2)
+    → Ran g (start (open_configuration g s A z w c d1 (z.frame + d1) w1 a bs env) c w1) N K
+    (Out g (start (open_configuration g s A z w c d1 (z.frame + d1) w1 a bs env) c w1) N (open_configuration g s A z w c d1 (z.frame + d1) w1 a bs env) w1) o
     → Ran g s B L (OpenExited g s B z w) o
 ran_open {z = z} {d1 = d1} bs env le1 le2 r le k a h q = let m = a.most in let l = a.least in ran_from a.comes (omega arith) (omega arith) h
     (λ x w2 e. let l = e.later in record {
@@ -360,16 +360,16 @@ ran_open {z = z} {d1 = d1} bs env le1 le2 r le k a h q = let m = a.most in let l
     }) q
 
 -- closing: what was made dies
-abbrev pub closed_arrival : {g : Setting} {s : State} {B : Account} {z : Sit} {w : World} {c : List Stmt} {depth more : ℕ} {w1 : World} → Ready g z w
-    → OpenArrived g s B z w c depth more w1
-    → ArrivedAt g s B z c depth w (forgetting (length w.memory) w1)
+abbrev pub closed_arrival : {g : Setting} {s : State} {B : Account} {z : Configuration} {w : World} {c : List Stmt} {depth more : ℕ} {w1 : World} → Ready g z w
+    → OpenCompleted g s B z w c depth more w1
+    → CompletedAt g s B z c depth w (forgetting (length w.memory) w1)
 closed_arrival {g} {z = z} {w = w} {more = more} {w1 = w1} r a =
     let top = z.frame + z.depth in
     with_objects a.bases1 (forgetting (length w.memory) w1).memory top (Moved top (store z w)) a
     (closed_fits g.codes top more (store z w) (store_at a) r.fits a.moved a.fits) (closed_moved a.moved)
 
-pub closed_ran : {T : Type 0} {g : Setting} {s : State} {B : Account} {z : Sit} {w : World} {K L : T → World → Type 0} {o : Outcome T} → Ready g z w
+pub closed_ran : {T : Type 0} {g : Setting} {s : State} {B : Account} {z : Configuration} {w : World} {K L : T → World → Type 0} {o : Outcome T} → Ready g z w
     → ((t : T) (w1 : World) → K t w1 → L t (forgetting (length w.memory) w1))
     → Ran g s B K (OpenExited g s B z w) o → Ran g s B L (Out g s B z w) (closing (length w.memory) o)
-closed_ran r h q = each_way_ran (λ t. adds _ (λ w1. stays (history w1))) (λ x. adds _ (λ w1. stays (history w1))) q (λ t w1 k. went (h t w1 k))
+closed_ran r h q = each_evaluation_ran (λ t. adds _ (λ w1. stays (history w1))) (λ x. adds _ (λ w1. stays (history w1))) q (λ t w1 k. went (h t w1 k))
     (λ x w1 e. went (record { control = e.is.control; depth1 = e.is.depth1; leads = e.is.leads; arr = closed_arrival r e.is.arr; later = e.is.later; hands = e.is.hands }))

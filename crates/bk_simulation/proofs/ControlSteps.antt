@@ -6,8 +6,8 @@ use Rattle.bk_simulation.proofs.Memory.{Like, like_on, Stands, Store, Moved}
 use Rattle.bk_simulation.proofs.WrittenCells.{below_like, settle_like}
 use Rattle.bk_simulation.proofs.OperatorWords.{judged_word}
 use Rattle.bk_simulation.proofs.Laid.{Setting, Scene, LabelAt}
-use Rattle.bk_simulation.proofs.Frame.{Sit, state, Ready, Account, paying, Ran, went, Arrived, ArrivedAt, OpenArrived, there, Has, GoesTo, Exited, Out, still, by_option}
-use Rattle.bk_simulation.proofs.Compose.{accounted, stepped, links_below, arrived_more, arrived_paid, topped, closed_arrival}
+use Rattle.bk_simulation.proofs.Frame.{Configuration, state, Ready, Account, paying, Ran, went, Completed, CompletedAt, OpenCompleted, there, Has, GoesTo, Exited, Out, still, by_option}
+use Rattle.bk_simulation.proofs.Compose.{accounted, stepped, links_below, completed_more, completed_paid, topped, closed_arrival}
 use Rattle.bk_simulation.proofs.Simulates.{where_to, HasTruth}
 
 -- at a LAB: on behind it, which pays
@@ -22,30 +22,30 @@ label_goes g sc d k n rest cells frame hand written w l =
 
 abbrev pub label_on : {g : Setting} {s : State} {B : Account} {sc : Scene} {frame calls top : ℕ} {R : Store → Type 0} {d k n : ℕ} {rest : List Stmt}
     {w1 : World} → LabelAt g sc d n rest
-    → Arrived g s B sc.own frame calls top R (Label n ∷ rest) k w1 → Arrived g s (paying g B) sc.own frame calls top R rest d w1
+    → Completed g s B sc.own frame calls top R (Label n ∷ rest) k w1 → Completed g s (paying g B) sc.own frame calls top R rest d w1
 label_on {g} {sc = sc} {frame = frame} {top = top} {R = R} {d = d} {k = k} {n = n} {rest = rest} {w1 = w1} l a =
     stepped w1.memory top R rest d a a.cells1 a.hand1 a.written1 (λ x v le e. e) a.fits a.moved
     (label_goes g sc d k n rest a.cells1 frame a.hand1 a.written1 w1 l)
 
 pub landed_on : {g : Setting} {s : State} {A B : Account} {sc : Scene} {frame calls top : ℕ} {R : Store → Type 0} {d k n : ℕ} {rest : List Stmt} {w1 : World}
     → A.most + 1 ≤ B.most → B.least ≤ A.least → LabelAt g sc d n rest
-    → Arrived g s A sc.own frame calls top R (Label n ∷ rest) k w1 → Arrived g s B sc.own frame calls top R rest d w1
-landed_on le le' l a = arrived_more (omega arith) (omega arith) (label_on l a)
+    → Completed g s A sc.own frame calls top R (Label n ∷ rest) k w1 → Completed g s B sc.own frame calls top R rest d w1
+landed_on le le' l a = completed_more (omega arith) (omega arith) (label_on l a)
 
 -- a jump
 abbrev pub jump_on : {g : Setting} {s : State} {B : Account} {own : Placed} {frame calls top : ℕ} {h : Store} {k n : ℕ} {to rest : List Stmt} {w1 : World}
     → suc frame < top → top ≤ frame + k → from_label own.stmts n ≡ Some to
-    → Arrived g s B own frame calls top (Moved top h) (Jump n ∷ rest) k w1 → Arrived g s (paying g B) own frame calls top (Moved top h) to k w1
+    → Completed g s B own frame calls top (Moved top h) (Jump n ∷ rest) k w1 → Completed g s (paying g B) own frame calls top (Moved top h) to k w1
 jump_on {g} {own = own} {frame = frame} {k = k} {n = n} {to = to} {rest = rest} {w1 = w1} lt le e a =
-    arrived_paid a (below (frame + k) a.cells1) None a.written1 lt (λ x lx. below_like (frame + k) a.cells1 x (omega arith))
+    completed_paid a (below (frame + k) a.cells1) None a.written1 lt (λ x lx. below_like (frame + k) a.cells1 x (omega arith))
     (jump_moves g.program (state own k (Jump n ∷ rest) a.cells1 frame a.hand1 a.written1 w1) own rest k n to refl e)
 
 -- to a LAB
 pub jumped_on : {g : Setting} {s : State} {A B : Account} {sc : Scene} {frame calls d n : ℕ} {h : Store} {rest behind : List Stmt} {w1 : World}
     → A.most + 2 ≤ B.most → B.least ≤ A.least → 2 ≤ d → LabelAt g sc d n rest
-    → Arrived g s A sc.own frame calls (frame + d) (Moved (frame + d) h) (Jump n ∷ behind) d w1 → Arrived g s B sc.own frame calls (frame + d)
+    → Completed g s A sc.own frame calls (frame + d) (Moved (frame + d) h) (Jump n ∷ behind) d w1 → Completed g s B sc.own frame calls (frame + d)
     (Moved (frame + d) h) rest d w1
-jumped_on le le' dp l a = arrived_more (omega arith) (omega arith) (label_on l (jump_on (omega arith) (omega arith) l.found a))
+jumped_on le le' dp l a = completed_more (omega arith) (omega arith) (label_on l (jump_on (omega arith) (omega arith) l.found a))
 
 -- the depth is set
 pub stacked_like : (frame k n top : ℕ) (cells : ℕ → Cell) → top ≤ frame + n → (x : ℕ) → x < top → Like
@@ -55,30 +55,30 @@ stacked_like frame k n top cells le x lt =
 
 abbrev pub stack_on : {g : Setting} {s : State} {B : Account} {own : Placed} {frame calls top : ℕ} {h : Store} {k n : ℕ} {c rest : List Stmt} {w1 : World}
     → suc frame < top → top ≤ frame + n → c ≡ Stack n ∷ rest
-    → Arrived g s B own frame calls top (Moved top h) c k w1 → Arrived g s (paying g B) own frame calls top (Moved top h) rest n w1
+    → Completed g s B own frame calls top (Moved top h) c k w1 → Completed g s (paying g B) own frame calls top (Moved top h) rest n w1
 stack_on {g} {own = own} {frame = frame} {top = top} {k = k} {n = n} {c = c} {rest = rest} {w1 = w1} lt le e a =
-    arrived_paid a (below (frame + n) (settle (frame + k) (frame + n) a.cells1)) None a.written1 lt (stacked_like frame k n top a.cells1 le)
+    completed_paid a (below (frame + n) (settle (frame + k) (frame + n) a.cells1)) None a.written1 lt (stacked_like frame k n top a.cells1 le)
     (stack_moves g.program (state own k c a.cells1 frame a.hand1 a.written1 w1) own rest k n (ap (λ y. Inside own k y) e))
 
 -- what was made dies, and the frame is as deep as before
-pub closes : {g : Setting} {s : State} {D E : Account} {z : Sit} {w : World} {rest : List Stmt} {d2 more : ℕ} {w2 : World} → D.most + 1 ≤ E.most
-    → E.least ≤ D.least → Ready g z w → OpenArrived g s D z w (Stack z.depth ∷ rest) d2 more w2
-    → ArrivedAt g s E z rest z.depth w (forgetting (length w.memory) w2)
-closes le le' r q = arrived_more (omega arith) (omega arith) (stack_on (links_below r) (omega arith) refl (closed_arrival r q))
+pub closes : {g : Setting} {s : State} {D E : Account} {z : Configuration} {w : World} {rest : List Stmt} {d2 more : ℕ} {w2 : World} → D.most + 1 ≤ E.most
+    → E.least ≤ D.least → Ready g z w → OpenCompleted g s D z w (Stack z.depth ∷ rest) d2 more w2
+    → CompletedAt g s E z rest z.depth w (forgetting (length w.memory) w2)
+closes le le' r q = completed_more (omega arith) (omega arith) (stack_on (links_below r) (omega arith) refl (closed_arrival r q))
 
 -- An exit goes to the LAB to which it leads.
 pub caught_at : {g : Setting} {s : State} {B : Account} {sc : Scene} {frame calls top : ℕ} {h : Store} {x : Exit} {w1 : World}
     (e : Exited g s B sc frame calls top (Moved top h) x w1) (to : Goal) (d : ℕ) (there : List Stmt)
     → still x ≡ 2 → GoesTo to e.control → from_label sc.own.stmts to.label ≡ Some there → to.depth ≡ d → suc frame < top → top ≤ frame + d
-    → Arrived g s (record { most = B.most; least = B.least + g.pay + g.pay }) sc.own frame calls top (Moved top h) there d w1
+    → Completed g s (record { most = B.most; least = B.least + g.pay + g.pay }) sc.own frame calls top (Moved top h) there d w1
 caught_at {g} {s} {B} {sc} {frame} {calls} {top} {h} {x} {w1} e to d there two goes found deep lt le =
     let l = e.later in
     let m = e.arr.least in
-    let a : Arrived g s (record { most = B.most - 2; least = B.least }) sc.own frame calls top (Moved top h) e.control e.depth1 w1 = accounted w1.turns e.arr (omega arith) (omega arith) in
-    arrived_more (omega arith) (omega arith) (jump_on lt le found (stack_on lt le (goes.1 ∙ ap (λ y. Stack y ∷ Jump to.label ∷ goes.0) deep) a))
+    let a : Completed g s (record { most = B.most - 2; least = B.least }) sc.own frame calls top (Moved top h) e.control e.depth1 w1 = accounted w1.turns e.arr (omega arith) (omega arith) in
+    completed_more (omega arith) (omega arith) (jump_on lt le found (stack_on lt le (goes.1 ∙ ap (λ y. Stack y ∷ Jump to.label ∷ goes.0) deep) a))
 
 -- a test of the value on top
-pub tested : {g : Setting} {s : State} {A B : Account} {z : Sit} {u : Bool} {n : ℕ} {to rest : List Stmt} {w w1 : World} {v : Value} → A.most + 1 ≤ B.most
+pub tested : {g : Setting} {s : State} {A B : Account} {z : Configuration} {u : Bool} {n : ℕ} {to rest : List Stmt} {w w1 : World} {v : Value} → A.most + 1 ≤ B.most
     → B.least ≤ A.least → Ready g z w
     → from_label z.scene.own.stmts n ≡ Some to → Has g s A z (JumpIf u n ∷ rest) (z.depth + 1) w v w1 → Ran g s B (HasTruth g s B z u to rest w) (Out g s B z w)
     (judged v w1)
@@ -91,30 +91,30 @@ tested {g} {s} {A} {B} {z} {u} {n} {to} {rest} {w} {w1} {v} le le' r e a =
     here = there g s A z (JumpIf u n ∷ rest) (z.depth + 1) w w1 a.arr
 
     goes : (c2 : List Stmt) → Moves g.program here (state z.scene.own z.depth c2 (below (z.frame + z.depth) a.arr.cells1) z.frame None a.arr.written1 w1)
-        → ArrivedAt g s B z c2 z.depth w w1
+        → CompletedAt g s B z c2 z.depth w w1
     goes c2 m =
-        arrived_more (omega arith) (omega arith)
-        (arrived_paid a.arr (below (z.frame + z.depth) a.arr.cells1) None a.arr.written1 (links_below r) (λ x lx. below_like (z.frame + z.depth) a.arr.cells1 x lx) m)
+        completed_more (omega arith) (omega arith)
+        (completed_paid a.arr (below (z.frame + z.depth) a.arr.cells1) None a.arr.written1 (links_below r) (λ x lx. below_like (z.frame + z.depth) a.arr.cells1 x lx) m)
 
-    lands : (u0 t : Bool) (x : ℕ) → u0 ≡ u → content_of (a.arr.cells1 (z.frame + z.depth)) ≡ Word x → (x == 0) ≡ not t → ArrivedAt g s B z
+    lands : (u0 t : Bool) (x : ℕ) → u0 ≡ u → content_of (a.arr.cells1 (z.frame + z.depth)) ≡ Word x → (x == 0) ≡ not t → CompletedAt g s B z
         (where_to u0 t to rest) z.depth w w1
     lands true false x eu ew et = goes rest (passed_moves g.program here z.scene.own rest z.depth n x u refl ew (et ∙ eu))
     lands false true x eu ew et = goes rest (passed_moves g.program here z.scene.own rest z.depth n x u refl ew (et ∙ eu))
     lands _ _ x eu ew et = goes to (taken_moves g.program here z.scene.own rest z.depth n x u to refl ew (et ∙ ap not eu) e)
 
 -- a result is given
-abbrev pub result_on : {g : Setting} {s : State} {A : Account} {z : Sit} {n : ℕ} {to rest : List Stmt} {w w1 : World} {v : Value} → Ready g z w
+abbrev pub result_on : {g : Setting} {s : State} {A : Account} {z : Configuration} {n : ℕ} {to rest : List Stmt} {w w1 : World} {v : Value} → Ready g z w
     → from_label z.scene.own.stmts n ≡ Some to
-    → (a : Has g s A z (GiveResult n ∷ rest) (z.depth + 1) w v w1) → ArrivedAt g s (paying g A) z to z.depth w w1
+    → (a : Has g s A z (GiveResult n ∷ rest) (z.depth + 1) w v w1) → CompletedAt g s (paying g A) z to z.depth w w1
 result_on {g} {s} {A} {z} {n} {to} {rest} {w} {w1} r e a =
-    arrived_paid a.arr (below (z.frame + z.depth) a.arr.cells1) (Some (content_of (a.arr.cells1 (z.frame + z.depth)))) a.arr.written1 (links_below r)
+    completed_paid a.arr (below (z.frame + z.depth) a.arr.cells1) (Some (content_of (a.arr.cells1 (z.frame + z.depth)))) a.arr.written1 (links_below r)
     (λ x lx. below_like (z.frame + z.depth) a.arr.cells1 x lx)
     (give_result_moves g.program (there g s A z (GiveResult n ∷ rest) (z.depth + 1) w w1 a.arr) z.scene.own rest z.depth n to refl e)
 
 -- and taken up; where none came the item is unset
-pub taken_on : {g : Setting} {s : State} {A B : Account} {z : Sit} {rest : List Stmt} {k : ℕ} {w w1 : World} {v : Value} → A.most + 1 ≤ B.most
+pub taken_on : {g : Setting} {s : State} {A B : Account} {z : Configuration} {rest : List Stmt} {k : ℕ} {w w1 : World} {v : Value} → A.most + 1 ≤ B.most
     → B.least ≤ A.least → Ready g z w
-    → (a : ArrivedAt g s A z (TakeResult z.depth ∷ rest) k w w1) → Stands g.codes a.bases1 v (option_map_or (λ x. x) a.hand1 Unset) → Has g s B z rest
+    → (a : CompletedAt g s A z (TakeResult z.depth ∷ rest) k w w1) → Stands g.codes a.bases1 v (option_map_or (λ x. x) a.hand1 Unset) → Has g s B z rest
     (z.depth + 1) w v w1
 taken_on {g} {s} {A} {z = z} {rest = rest} {k = k} {w = w} {w1 = w1} le le' r a st =
     topped (option_map_or (λ x. x) a.hand1 Unset) le le' r.deep a st

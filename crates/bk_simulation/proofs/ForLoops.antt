@@ -1,5 +1,5 @@
 -- FOR as a command.
-use Rattle.bk_simulation.proofs.Words.{◌≡◌, ◌≢◌, ℕ, zero, suc, ◌+◌, ◌-◌, ◌*◌, ◌<◌, ◌≤◌, ◌^◌, Bool, true, false, cond, List, [], ◌∷◌, ◌++◌, length, Some, None, refl, sym, ap, ◌∙◌, subst, arith, ⊎_elim, not, nat_lt, pos, int_lt, bytes_eq, bytes_eq-Decides, FRAME_WORDS, Bound, Binding, bound_in, bind as bind_bound, Content, Cell, Variable, Held, content_of, below, settle, Word, State, Local, Stmt, Label, Load, JumpIf, Jump, Store as Store_stmt, Stack, Number, Dyadic, Assign, variable, test_of_step, goal, meant, Mention, Expression, Expressions, Action, Value, holds, number, address, Environment, cell, past, World, Outcome, Done, done, given, with, either, making, Exit, break, loop, turn, history, Meanings, fetch, store as put_value, at, Sought, forwards, step_of, for_test, for_rounds_of, for_loop, round_exit, for_step, relation, Adds, adds, with_after, given_after, closing_after, stays, each_way_after, turn_after, changes_after, either_after, scope_of, alone, nat_tests, ints, signed, word_of, from_label, read, operate, judged}
+use Rattle.bk_simulation.proofs.Words.{◌≡◌, ◌≢◌, ℕ, zero, suc, ◌+◌, ◌-◌, ◌*◌, ◌<◌, ◌≤◌, ◌^◌, Bool, true, false, cond, List, [], ◌∷◌, ◌++◌, length, Some, None, refl, sym, ap, ◌∙◌, subst, arith, ⊎_elim, not, nat_lt, pos, int_lt, bytes_eq, bytes_eq-Decides, FRAME_WORDS, Bound, Binding, bound_in, bind as bind_bound, Content, Cell, Variable, Held, content_of, below, settle, Word, State, Local, Stmt, Label, Load, JumpIf, Jump, Store as Store_stmt, Stack, Number, Dyadic, Assign, variable, test_of_step, goal, meant, Mention, Expression, Expressions, Action, Value, holds, number, address, Environment, cell, past, World, Outcome, Done, done, given, with, either, making, Exit, break, loop, turn, history, Meanings, fetch, store as put_value, at, Sought, forwards, step_of, for_test, for_rounds_of, for_loop, round_exit, for_step, relation, Adds, adds, with_after, given_after, closing_after, stays, each_evaluation_after, turn_after, changes_after, either_after, scope_of, alone, nat_tests, ints, signed, word_of, from_label, read, operate, judged}
 use Rattle.std.specs.Prelude.{slice_get}
 use Rattle.bk_scope.specs.declared.bound.Bound.TheVariants as b
 use Rattle.bk_tree.specs.Tree as t
@@ -11,8 +11,8 @@ use Rattle.bk_simulation.proofs.WrittenCells.{below_at, below_like, settle_like,
 use Rattle.bk_simulation.proofs.MadeObjects.{make, make_fits, Since, since_refl, since_on, since_cells, since_made, grown_made, lying, since_moved, get_new}
 use Rattle.bk_simulation.proofs.Weights.{turns_of, turns_in, turns_through}
 use Rattle.bk_simulation.proofs.Laid.{Setting, Scene, in_loop, place_of, IsWord, IsAlone, KeepsLabels, IsLabelHere, LabelAt, IsAct, IsForLoop, behind_body, NameAt}
-use Rattle.bk_simulation.proofs.Frame.{some_objects, Sit, store, state, start, named_grown, Ready, Account, further, went, ran_from, ArrivedAt, OpenArrived, there, next, ready_next, each_way_ran, with_ran, so, Out, Has, by_option}
-use Rattle.bk_simulation.proofs.Compose.{begun, stay, links_like, with_objects, stepped, behind, arrived_more, comes_to, open_sit, open_ready, open_step, open_on, ran_open, closed_ran, arrived_turn, turn_there, ran_more, outside, arrived_on, topped, above}
+use Rattle.bk_simulation.proofs.Frame.{some_objects, Configuration, store, state, start, named_grown, Ready, Account, further, went, ran_from, CompletedAt, OpenCompleted, there, next, ready_next, each_evaluation_ran, with_ran, so, Out, Has, by_option}
+use Rattle.bk_simulation.proofs.Compose.{begun, stay, links_like, with_objects, stepped, behind, completed_more, comes_to, open_configuration, open_ready, open_step, open_on, ran_open, closed_ran, completed_turn, turn_there, ran_more, outside, completed_on, topped, above}
 use Rattle.bk_simulation.proofs.Simulates.{Simulates, Limit, where_to, RanDid, for_scope, for_counts}
 use Rattle.bk_simulation.proofs.ControlSteps.{label_on, landed_on, closes, caught_at, tested}
 use Rattle.bk_simulation.proofs.Orders.{by_test}
@@ -30,18 +30,18 @@ use Rattle.bk_simulation.proofs.Assignments.{word_stored}
 -- ---- The step and the test of a FOR.
 
 -- the limit stands at its place behind each arrival
-pub limit_here : (g : Setting) (s : State) (A : Account) (z : Sit) (c : List Stmt) (k : ℕ) (w w1 : World) (d o : ℕ) (u : Value) → z.depth ≡ d + 2 → Limit g z w d o u → (a : ArrivedAt g s A z c k w w1) → Stands g.codes a.bases1 u (content_of (a.cells1 (z.frame + (d + 1))))
+pub limit_here : (g : Setting) (s : State) (A : Account) (z : Configuration) (c : List Stmt) (k : ℕ) (w w1 : World) (d o : ℕ) (u : Value) → z.depth ≡ d + 2 → Limit g z w d o u → (a : CompletedAt g s A z c k w w1) → Stands g.codes a.bases1 u (content_of (a.cells1 (z.frame + (d + 1))))
 limit_here g s A z c k w w1 d o u ed l a =
     let like = a.moved.kept.as_was (z.frame + (d + 1)) (omega arith) l.free in
     stands_grown g.codes z.bases a.bases1 u _ a.moved.grown (subst (λ y. Stands g.codes z.bases u y) (sym like.content) l.limit)
 
 -- a slot is loaded
-slot_run : (g : Setting) (s : State) (A B : Account) (z : Sit) (q : ℕ) (rest : List Stmt) (w w1 : World) (v : Value) → A.most + 1 ≤ B.most → B.least ≤ A.least → 2 ≤ z.depth → (a : ArrivedAt g s A z (Load (Local q) ∷ rest) z.depth w w1)
+slot_run : (g : Setting) (s : State) (A B : Account) (z : Configuration) (q : ℕ) (rest : List Stmt) (w w1 : World) (v : Value) → A.most + 1 ≤ B.most → B.least ≤ A.least → 2 ≤ z.depth → (a : CompletedAt g s A z (Load (Local q) ∷ rest) z.depth w w1)
     → Stands g.codes a.bases1 v (content_of (a.cells1 (z.frame + q))) → Has g s B z rest (z.depth + 1) w v w1
 slot_run g s A B z q rest w w1 v le le' dp a st =
     topped _ le le' dp a st (load_moves g.program (there g s A z (Load (Local q) ∷ rest) z.depth w w1 a) z.scene.own rest z.depth (Local q) refl)
 
-variable_run : (g : Setting) (s : State) (A B : Account) (z : Sit) (d o : ℕ) (rest : List Stmt) (w w1 : World) → A.most + 1 ≤ B.most → B.least ≤ A.least → 2 ≤ z.depth → BaseOf z.bases o (z.frame + d) → ArrivedAt g s A z (Load (Local d) ∷ rest) z.depth w w1
+variable_run : (g : Setting) (s : State) (A B : Account) (z : Configuration) (d o : ℕ) (rest : List Stmt) (w w1 : World) → A.most + 1 ≤ B.most → B.least ≤ A.least → 2 ≤ z.depth → BaseOf z.bases o (z.frame + d) → CompletedAt g s A z (Load (Local d) ∷ rest) z.depth w w1
     → RanValue g s B z rest w (fetch (address o 0) w1)
 variable_run g s A B z d o rest w w1 le le' dp eb a =
     by_option (λ y. RanValue g s B z rest w (given y w1)) (read w1.memory (address o 0)) (λ _. went tt) (λ v e.
@@ -50,17 +50,17 @@ variable_run g s A B z d o rest w w1 le le' dp eb a =
     went (slot_run g s A B z d rest w w1 v le le' dp a (subst (λ y. Stands g.codes a.bases1 v (content_of (a.cells1 y))) zero (subst (λ y. Stands g.codes a.bases1 v y) (sym (ap content_of f.there)) f.stands))))
 
 -- a second item
-second_item : (g : Setting) (s : State) (A B : Account) (z : Sit) (i : Stmt) (rest : List Stmt) (w w1 : World) (u v : Value) → A.most + 1 ≤ B.most → B.least ≤ A.least → Ready g z w → (a : Has g s A z (i ∷ rest) (z.depth + 1) w u w1)
+second_item : (g : Setting) (s : State) (A B : Account) (z : Configuration) (i : Stmt) (rest : List Stmt) (w w1 : World) (u v : Value) → A.most + 1 ≤ B.most → B.least ≤ A.least → Ready g z w → (a : Has g s A z (i ∷ rest) (z.depth + 1) w u w1)
     → Has g (start (next g s A z (i ∷ rest) (z.depth + 1) w w1 z.env (z.depth + 1) a.arr) (i ∷ rest) w1) (record { most = 16 * w1.turns + 1; least = w1.turns }) (next g s A z (i ∷ rest) (z.depth + 1) w w1 z.env (z.depth + 1) a.arr) rest (z.depth + 1 + 1) w1 v w1
     → Two g s B z rest w u v w1
 second_item g s A B z i rest w w1 u v le le' r a b = let m = a.arr.most in let l = a.arr.least in record {
-  arr = arrived_on (omega arith) (omega arith) r (omega arith) a.arr b.arr;
+  arr = completed_on (omega arith) (omega arith) r (omega arith) a.arr b.arr;
   first = above a b.arr;
   second = b.stands;
 }
 
 -- the step is pushed
-step_pushed : (g : Setting) (s : State) (A B : Account) (z : Sit) (k : ℕ) (rest : List Stmt) (w w1 : World) (u : Value) → A.most + 1 ≤ B.most → B.least ≤ A.least → k < 2 ^ 32 → Ready g z w → Has g s A z (Number (signed k) ∷ rest) (z.depth + 1) w u w1
+step_pushed : (g : Setting) (s : State) (A B : Account) (z : Configuration) (k : ℕ) (rest : List Stmt) (w w1 : World) (u : Value) → A.most + 1 ≤ B.most → B.least ≤ A.least → k < 2 ^ 32 → Ready g z w → Has g s A z (Number (signed k) ∷ rest) (z.depth + 1) w u w1
     → Two g s B z rest w u (number k) w1
 step_pushed g s A B z k rest w w1 u le le' lk r a =
     let z1 = next g s A z (Number (signed k) ∷ rest) (z.depth + 1) w w1 z.env (z.depth + 1) a.arr in
@@ -70,7 +70,7 @@ step_pushed g s A B z k rest w w1 u le le' lk r a =
     (number_moves g.program (start z1 (Number (signed k) ∷ rest) w1) z.scene.own rest (z.depth + 1) (signed k) refl))
 
 -- the limit is pushed
-limit_pushed : (g : Setting) (s : State) (A B : Account) (z : Sit) (d o : ℕ) (v : Value) (rest : List Stmt) (w w1 : World) (u : Value) → A.most + 1 ≤ B.most → B.least ≤ A.least → z.depth ≡ d + 2 → Limit g z w d o v → Ready g z w
+limit_pushed : (g : Setting) (s : State) (A B : Account) (z : Configuration) (d o : ℕ) (v : Value) (rest : List Stmt) (w w1 : World) (u : Value) → A.most + 1 ≤ B.most → B.least ≤ A.least → z.depth ≡ d + 2 → Limit g z w d o v → Ready g z w
     → Has g s A z (Load (Local (d + 1)) ∷ rest) (z.depth + 1) w u w1 → Two g s B z rest w u v w1
 limit_pushed g s A B z d o v rest w w1 u le le' ed l r a =
     let z1 = next g s A z (Load (Local (d + 1)) ∷ rest) (z.depth + 1) w w1 z.env (z.depth + 1) a.arr in
@@ -87,8 +87,8 @@ sum_adds u v = adds _ (λ w. given_after _ w)
 put_adds : (p v : Value) → Adds (put_value (at p) v)
 put_adds p v = adds _ (λ w. changes_after (memory.write w.memory p v) w)
 
-pub step_run : (g : Setting) (s : State) (A B : Account) (z : Sit) (d o k : ℕ) (rest : List Stmt) (w w1 : World) → A.most + 4 ≤ B.most → B.least ≤ A.least → k < 2 ^ 32 → BaseOf z.bases o (z.frame + d) → Ready g z w
-    → ArrivedAt g s A z (Load (Local d) ∷ Number (signed k) ∷ Dyadic two.Add ∷ Assign (Local d) ∷ rest) z.depth w w1 → RanDid g s B z rest w (for_step o k w1)
+pub step_run : (g : Setting) (s : State) (A B : Account) (z : Configuration) (d o k : ℕ) (rest : List Stmt) (w w1 : World) → A.most + 4 ≤ B.most → B.least ≤ A.least → k < 2 ^ 32 → BaseOf z.bases o (z.frame + d) → Ready g z w
+    → CompletedAt g s A z (Load (Local d) ∷ Number (signed k) ∷ Dyadic two.Add ∷ Assign (Local d) ∷ rest) z.depth w w1 → RanDid g s B z rest w (for_step o k w1)
 step_run g s A B z d o k rest w w1 le le' lk eb r a =
     let A1 : Account = record { most = A.most + 1; least = A.least } in
     let A2 : Account = record { most = A.most + 2; least = A.least } in
@@ -115,7 +115,7 @@ same_test k lt = ap (λ (b : Bool). cond b (Dyadic two.AtLeast) (Dyadic two.AtMo
     by_bool true = refl
     by_bool false = refl
 
-related_run : (g : Setting) (s : State) (A B : Account) (z : Sit) (b : Bool) (rest : List Stmt) (w w1 : World) (u v : Value) → A.most + 1 ≤ B.most → B.least ≤ A.least → 2 ≤ z.depth → Two g s A z (Dyadic (cond b two.AtMost two.AtLeast) ∷ rest) w u v w1
+related_run : (g : Setting) (s : State) (A B : Account) (z : Configuration) (b : Bool) (rest : List Stmt) (w w1 : World) (u v : Value) → A.most + 1 ≤ B.most → B.least ≤ A.least → 2 ≤ z.depth → Two g s A z (Dyadic (cond b two.AtMost two.AtLeast) ∷ rest) w u v w1
     → RanValue g s B z rest w (operate (cond b op.AtMost op.AtLeast) u v w1)
 related_run g s A B z true rest w w1 u v le le' dp t =
     dyadic_run g s A B z two.AtMost rest w w1 u v (operate op.AtMost u v w1) le le' dp t (operates g.codes t.arr.bases1 t.arr.cells1 (z.frame + z.depth) w1 t.arr.fits op.AtMost u v _ _ t.first t.second)
@@ -143,16 +143,16 @@ pub step_adds : (o k : ℕ) → Adds (for_step o k)
 step_adds o k = adds (for_step o k) (λ w. with_after (history w) (fetch (address o 0) w) (λ v w. with (operate op.Add v (number k) w) (λ x w. put_value (at (address o 0)) x w)) ((fetch_adds (address o 0)).at w) (λ v. adds _ (λ w1. with_after _ _ _ ((sum_adds v (number k)).at w1) (λ x. put_adds (address o 0) x))))
 
 -- the variable is compared with the limit
-pub test_run : (g : Setting) (s : State) (A B : Account) (z : Sit) (d o k n1 : ℕ) (u : Value) (to rest end : List Stmt) (w w1 : World) (go : World → Outcome Done) → Adds go → A.most + 4 ≤ B.most → B.least ≤ A.least → k < 2 ^ 32 → z.depth ≡ d + 2
-    → Limit g z w d o u → from_label z.scene.own.stmts n1 ≡ Some to → Ready g z w → ArrivedAt g s A z (Load (Local d) ∷ Load (Local (d + 1)) ∷ test_of_step k ∷ JumpIf true n1 ∷ rest) z.depth w w1
-    → ((b : Bool) (w2 : World) → ArrivedAt g s (record { most = A.most + 4; least = A.least }) z (where_to true b to rest) z.depth w w2 → RanDid g s B z end w (either b go done w2)) → RanDid g s B z end w (for_test o u k go w1)
+pub test_run : (g : Setting) (s : State) (A B : Account) (z : Configuration) (d o k n1 : ℕ) (u : Value) (to rest end : List Stmt) (w w1 : World) (go : World → Outcome Done) → Adds go → A.most + 4 ≤ B.most → B.least ≤ A.least → k < 2 ^ 32 → z.depth ≡ d + 2
+    → Limit g z w d o u → from_label z.scene.own.stmts n1 ≡ Some to → Ready g z w → CompletedAt g s A z (Load (Local d) ∷ Load (Local (d + 1)) ∷ test_of_step k ∷ JumpIf true n1 ∷ rest) z.depth w w1
+    → ((b : Bool) (w2 : World) → CompletedAt g s (record { most = A.most + 4; least = A.least }) z (where_to true b to rest) z.depth w w2 → RanDid g s B z end w (either b go done w2)) → RanDid g s B z end w (for_test o u k go w1)
 test_run g s A B z d o k n1 u to rest end w w1 go ad le le' lk ed l e r a fin =
     let A1 : Account = record { most = A.most + 1; least = A.least } in
     let A2 : Account = record { most = A.most + 2; least = A.least } in
     let A3 : Account = record { most = A.most + 3; least = A.least } in
     let A4 : Account = record { most = A.most + 4; least = A.least } in
     let b0 = nat_lt k (2 ^ 31) in
-    let a0 = subst (λ y. ArrivedAt g s A z (Load (Local d) ∷ Load (Local (d + 1)) ∷ y ∷ JumpIf true n1 ∷ rest) z.depth w w1) (same_test k lk) a in
+    let a0 = subst (λ y. CompletedAt g s A z (Load (Local d) ∷ Load (Local (d + 1)) ∷ y ∷ JumpIf true n1 ∷ rest) z.depth w w1) (same_test k lk) a in
     let T = Dyadic (cond b0 two.AtMost two.AtLeast) in
     with_ran (λ v. adds _ (λ w2. with_after _ _ _ ((related_adds b0 v u).at w2) (λ x. adds _ (λ w3. with_after _ _ _ ((judged_adds x).at w3) (λ b. either_adds go ad b)))))
     (ran_more (omega arith) (omega arith) (variable_run g s A A1 z d o (Load (Local (d + 1)) ∷ T ∷ JumpIf true n1 ∷ rest) w w1 (omega arith) (omega arith) r.deep l.base a0))
@@ -166,7 +166,7 @@ test_run g s A B z d o k n1 u to rest end w w1 go ad le le' lk ed l e r a fin =
     (λ b w4 k. fin b w4 k)))
 
 -- the limit in the situation behind an arrival
-pub limit_next : (g : Setting) (s : State) (A : Account) (z : Sit) (c : List Stmt) (w w1 : World) (d o : ℕ) (u : Value) → z.depth ≡ d + 2 → Ready g z w → Limit g z w d o u → (a : ArrivedAt g s A z c z.depth w w1) → Limit g (next g s A z c z.depth w w1 z.env z.depth a) w1 d o u
+pub limit_next : (g : Setting) (s : State) (A : Account) (z : Configuration) (c : List Stmt) (w w1 : World) (d o : ℕ) (u : Value) → z.depth ≡ d + 2 → Ready g z w → Limit g z w d o u → (a : CompletedAt g s A z c z.depth w w1) → Limit g (next g s A z c z.depth w w1 z.env z.depth a) w1 d o u
 limit_next g s A z c w w1 d o u ed r l a = record {
   base = a.moved.grown.each o (z.frame + d) l.base;
   limit = limit_here g s A z c z.depth w w1 d o u ed l a;
@@ -174,9 +174,9 @@ limit_next g s A z c w w1 d o u ed r l a = record {
 }
 
 -- a further round: the LAB of the body pays, and a turn is taken
-further_count : (g : Setting) (m : Meanings) → Simulates g m → (s : State) (A B : Account) (x : Action) (o : ℕ) (u : Value) (k d : ℕ) (z : Sit) (n1 : ℕ) (body rest : List Stmt) (w w1 : World) → A.most + 1 ≤ B.most → A.most ≤ 16 * w.turns + 10
+further_count : (g : Setting) (m : Meanings) → Simulates g m → (s : State) (A B : Account) (x : Action) (o : ℕ) (u : Value) (k d : ℕ) (z : Configuration) (n1 : ℕ) (body rest : List Stmt) (w w1 : World) → A.most + 1 ≤ B.most → A.most ≤ 16 * w.turns + 10
     → 16 * w.turns + 11 ≤ B.most → B.least ≤ w.turns - suc (turns_in false x) → w.turns ≤ A.least + turns_in false x → suc (turns_in false x) ≤ g.pay → z.depth ≡ d + 2 → IsForLoop g z.scene z.depth d k z.env x body rest → Limit g z w d o u
-    → LabelAt g z.scene z.depth n1 body → Ready g z w → ArrivedAt g s A z (Label n1 ∷ body) z.depth w w1 → RanDid g s B z rest w (turn w1 (λ w. m.for_rounds x o u k z.env w))
+    → LabelAt g z.scene z.depth n1 body → Ready g z w → CompletedAt g s A z (Label n1 ∷ body) z.depth w w1 → RanDid g s B z rest w (turn w1 (λ w. m.for_rounds x o u k z.env w))
 further_count g m sim s A B x o u k d z n1 body rest w w1 le0 le1 le ll la lp ed lf lim ln r a =
     let b = label_on ln a in
     let bl = b.least in
@@ -184,15 +184,15 @@ further_count g m sim s A B x o u k d z n1 body rest w w1 le0 le1 le ll la lp ed
     let w2 : World = record w1 { turns = t } in
     let D : Account = record { most = A.most + 1 - 16; least = A.least + g.pay - 1 } in
     let bm = b.most in
-    let ar : ArrivedAt g s D z body z.depth w w2 = arrived_turn t et (omega arith) (omega arith) b in
+    let ar : CompletedAt g s D z body z.depth w w2 = completed_turn t et (omega arith) (omega arith) b in
     let m0 = ar.most in
     comes_to (omega arith) (omega arith) r (omega arith) ar
     (sim.for_rounds x o u k d (next g s D z body z.depth w w2 z.env z.depth ar) body rest w2 ed lf (limit_next g s D z body w w2 d o u ed r lim ar) (ready_next z.env z.depth ar refl (omega arith) r)))
 
-pub for_rounds_run : (g : Setting) (m : Meanings) → Simulates g m → (x : Action) (o : ℕ) (u : Value) (k d : ℕ) (z : Sit) (body rest : List Stmt) (w : World) → z.depth ≡ d + 2 → IsForLoop g z.scene z.depth d k z.env x body rest → Limit g z w d o u
+pub for_rounds_run : (g : Setting) (m : Meanings) → Simulates g m → (x : Action) (o : ℕ) (u : Value) (k d : ℕ) (z : Configuration) (body rest : List Stmt) (w : World) → z.depth ≡ d + 2 → IsForLoop g z.scene z.depth d k z.env x body rest → Limit g z w d o u
     → Ready g z w → RanDid g (start z body w) (for_counts x w) z rest w (for_rounds_of m x o u k z.env w)
 for_rounds_run g m sim x o u k d z body rest w ed lf lim r =
-    each_way_ran (λ _. next_adds) exit_adds
+    each_evaluation_ran (λ _. next_adds) exit_adds
     (so (omega arith) (omega arith) (λ _ w1 q. q) (λ y w1 q. q)
     (scope_runs g m sim (alone x) forwards (looping lf.2 lf.3 z) lf.4 lf.6.0 body (Label lf.2 ∷ behind_body d k lf.0 lf.5) body w (lf.6.1, lf.6.2, lf.6.3) refl (around_ready g (in_loop lf.2 lf.3 z.depth z.scene).around (in_loop lf.2 lf.3 z.depth z.scene).exits z w r)))
     (λ _ w1 q. go (for_scope (alone x) w) w1 (omega arith) (omega arith) q) out
@@ -207,7 +207,7 @@ for_rounds_run g m sim x o u k d z body rest w ed lf lim r =
     exit_adds loop = next_adds
     exit_adds _ = adds _ (λ w1. stays (history w1))
 
-    go : (A : Account) (w1 : World) → A.most ≤ 16 * w.turns → w.turns ≤ A.least + turns_in false x → ArrivedAt g (start z body w) A z (Label lf.2 ∷ behind_body d k lf.0 lf.5) z.depth w w1
+    go : (A : Account) (w1 : World) → A.most ≤ 16 * w.turns → w.turns ≤ A.least + turns_in false x → CompletedAt g (start z body w) A z (Label lf.2 ∷ behind_body d k lf.0 lf.5) z.depth w w1
         → RanDid g (start z body w) (for_counts x w) z rest w (with (for_step o k w1) (λ _ w. for_test o u k (λ w. turn w (λ w. m.for_rounds x o u k z.env w)) w))
     go A w1 lm ll a =
         let s = start z body w in
@@ -219,10 +219,10 @@ for_rounds_run g m sim x o u k d z body rest w ed lf lim r =
         (ran_more (omega arith) (omega arith) (step_run g s A1 A5 z d o k (Label lf.0 ∷ lf.5) w w1 (omega arith) (omega arith) lf.13 lim.base r (landed_on (omega arith) (omega arith) lf.10 a)))
         (λ _ w2 b.
         test_run g s A6 B z d o k lf.1 u (Label lf.1 ∷ body) (Label lf.3 ∷ rest) rest w w2 (λ w. turn w (λ w. m.for_rounds x o u k z.env w)) turn_adds (omega arith) (omega arith) lf.13 ed lim lf.9.found r
-        (subst (λ y. ArrivedAt g s A6 z y z.depth w w2) lf.7 (landed_on (omega arith) (omega arith) lf.8 b)) (fin A lm ll))
+        (subst (λ y. CompletedAt g s A6 z y z.depth w w2) lf.7 (landed_on (omega arith) (omega arith) lf.8 b)) (fin A lm ll))
       where
         fin : (A : Account) → A.most ≤ 16 * w.turns → w.turns ≤ A.least + turns_in false x → (t : Bool) (w3 : World)
-            → ArrivedAt g (start z body w) (record { most = A.most + 6 + 4; least = A.least }) z (where_to true t (Label lf.1 ∷ body) (Label lf.3 ∷ rest)) z.depth w w3
+            → CompletedAt g (start z body w) (record { most = A.most + 6 + 4; least = A.least }) z (where_to true t (Label lf.1 ∷ body) (Label lf.3 ∷ rest)) z.depth w w3
             → RanDid g (start z body w) (for_counts x w) z rest w (either t (λ w. turn w (λ w. m.for_rounds x o u k z.env w)) done w3)
         fin A lm ll true w3 c =
             further_count g m sim (start z body w) (record { most = A.most + 6 + 4; least = A.least }) (for_counts x w) x o u k d z lf.1 body rest w w3 (omega arith) (omega arith) (omega arith) (omega arith) (omega arith) lf.12 ed lf lim lf.9 r c
@@ -241,7 +241,7 @@ for_rounds_run g m sim x o u k d z body rest w ed lf lim r =
 -- what rounds add
 pub rounds_adds : (g : Setting) (m : Meanings) → Simulates g m → (x : Action) (o : ℕ) (u : Value) (k : ℕ) (env : Environment) → Adds (λ w. scope_of m (alone x) forwards env w) → Adds (λ w. for_rounds_of m x o u k env w)
 rounds_adds g m sim x o u k env au =
-    adds _ (λ w. each_way_after (history w) (scope_of m (alone x) forwards env w) (λ _ w. with (for_step o k w) (λ _ w. for_test o u k (λ w. turn w (λ w. m.for_rounds x o u k env w)) w)) (round_exit (λ w. with (for_step o k w) (λ _ w. for_test o u k (λ w. turn w (λ w. m.for_rounds x o u k env w)) w))) (au.at w) (λ _. next_adds) exit_adds)
+    adds _ (λ w. each_evaluation_after (history w) (scope_of m (alone x) forwards env w) (λ _ w. with (for_step o k w) (λ _ w. for_test o u k (λ w. turn w (λ w. m.for_rounds x o u k env w)) w)) (round_exit (λ w. with (for_step o k w) (λ _ w. for_test o u k (λ w. turn w (λ w. m.for_rounds x o u k env w)) w))) (au.at w) (λ _. next_adds) exit_adds)
   where
     next_adds : Adds (λ w. with (for_step o k w) (λ _ w. for_test o u k (λ w. turn w (λ w. m.for_rounds x o u k env w)) w))
     next_adds = adds _ (λ w. with_after (history w) (for_step o k w) (λ _ w. for_test o u k (λ w. turn w (λ w. m.for_rounds x o u k env w)) w) ((step_adds o k).at w) (λ _. test_adds o k u (λ w. turn w (λ w. m.for_rounds x o u k env w))
@@ -252,15 +252,15 @@ rounds_adds g m sim x o u k env au =
     exit_adds _ = adds _ (λ w1. stays (history w1))
 
 -- ---- what follows an arrival in a situation of its own that has not all its items
-abbrev joined : {g : Setting} {s : State} {A N B : Account} {z : Sit} {c c2 : List Stmt} {k d2 : ℕ} {w w1 w2 : World} → A.most + N.most ≤ B.most + 16 * w1.turns
+abbrev joined : {g : Setting} {s : State} {A N B : Account} {z : Configuration} {c c2 : List Stmt} {k d2 : ℕ} {w w1 w2 : World} → A.most + N.most ≤ B.most + 16 * w1.turns
     → B.least ≤ N.least + (A.least - w1.turns) → Ready g z w
-    → (a : ArrivedAt g s A z c k w w1) → ArrivedAt g (there g s A z c k w w1 a) N (next g s A z c k w w1 z.env z.depth a) c2 d2 w1 w2 → ArrivedAt g s B z c2 d2 w w2
+    → (a : CompletedAt g s A z c k w w1) → CompletedAt g (there g s A z c k w w1 a) N (next g s A z c k w w1 z.env z.depth a) c2 d2 w1 w2 → CompletedAt g s B z c2 d2 w w2
 joined {g} {z = z} {w = w} le1 le2 r a x = behind (z.frame + z.depth) (Moved (z.frame + z.depth) (store z w)) le1 le2 refl a x x.fits
     (moved_on g.codes (z.frame + z.depth) (z.frame + z.depth) (z.frame + z.depth) _ _ _ r.fits (omega arith) a.moved x.moved)
 
-joined_ran : {g : Setting} {s : State} {A N B : Account} {z : Sit} {c rest : List Stmt} {k : ℕ} {w w1 : World} {o : Outcome Done}
+joined_ran : {g : Setting} {s : State} {A N B : Account} {z : Configuration} {c rest : List Stmt} {k : ℕ} {w w1 : World} {o : Outcome Done}
     → A.most + N.most ≤ B.most + 16 * w1.turns → B.least ≤ N.least + (A.least - w1.turns) → Ready g z w
-    → (a : ArrivedAt g s A z c k w w1) → RanDid g (there g s A z c k w w1 a) N (next g s A z c k w w1 z.env z.depth a) rest w1 o → RanDid g s B z rest w o
+    → (a : CompletedAt g s A z c k w w1) → RanDid g (there g s A z c k w w1 a) N (next g s A z c k w w1 z.env z.depth a) rest w1 o → RanDid g s B z rest w o
 joined_ran le1 le2 r a q = let m = a.most in let l = a.least in ran_from a.comes (omega arith) (omega arith) (λ _ w2 y. joined le1 le2 r a y)
     (λ x w2 e. let n = e.later in record { control = e.control; depth1 = e.depth1; leads = e.leads; arr = joined le1 le2 r a e.arr; later = omega arith; hands = e.hands }) q
 
@@ -281,20 +281,20 @@ same_label : (g : Setting) (sc : Scene) (bs : List Binding) (d n : ℕ) (rest : 
 same_label g sc bs d n rest l = record { is_own = l.is_own; place = l.place; at = l.at; same_depth = l.same_depth; behind = l.behind; found = l.found }
 
 -- ---- the test and the rounds, with the variable in scope
-first_test : (g : Setting) (m : Meanings) → Simulates g m → (B : Account) (x : Action) (o : ℕ) (u : Value) (k d n1 : ℕ) (z : Sit) (body test end : List Stmt) (n3 : ℕ) (w : World) → 16 * w.turns + 16 ≤ B.most → B.least ≤ w.turns - suc (turns_in false x) → z.depth ≡ d + 2
+first_test : (g : Setting) (m : Meanings) → Simulates g m → (B : Account) (x : Action) (o : ℕ) (u : Value) (k d n1 : ℕ) (z : Configuration) (body test end : List Stmt) (n3 : ℕ) (w : World) → 16 * w.turns + 16 ≤ B.most → B.least ≤ w.turns - suc (turns_in false x) → z.depth ≡ d + 2
     → IsForLoop g z.scene z.depth d k z.env x body end → test ≡ Load (Local d) ∷ Load (Local (d + 1)) ∷ test_of_step k ∷ JumpIf true n1 ∷ Label n3 ∷ end → LabelAt g z.scene z.depth n1 body → LabelAt g z.scene z.depth n3 end → suc (turns_in false x) ≤ g.pay → k < 2 ^ 32
     → Limit g z w d o u → Adds (λ w. for_rounds_of m x o u k z.env w) → Ready g z w → RanDid g (start z test w) B z end w (for_test o u k (λ w. for_rounds_of m x o u k z.env w) w)
 first_test g m sim B x o u k d n1 z body test end n3 w le le' ed lf et l1 l3 few lk lim ad r =
     test_run g (start z test w) (record { most = 16 * w.turns; least = w.turns }) B z d o k n1 u (Label n1 ∷ body) (Label n3 ∷ end) end w w (λ w. for_rounds_of m x o u k z.env w) ad (omega arith) (omega arith) lk ed lim l1.found r
-    (subst (λ y. ArrivedAt g (start z test w) (record { most = 16 * w.turns; least = w.turns }) z y z.depth w w) et (stay g (record { most = 16 * w.turns; least = w.turns }) z test w (omega arith) (omega arith) r)) fin
+    (subst (λ y. CompletedAt g (start z test w) (record { most = 16 * w.turns; least = w.turns }) z y z.depth w w) et (stay g (record { most = 16 * w.turns; least = w.turns }) z test w (omega arith) (omega arith) r)) fin
   where
-    fin : (t : Bool) (w2 : World) → ArrivedAt g (start z test w) (record { most = 16 * w.turns + 4; least = w.turns }) z (where_to true t (Label n1 ∷ body) (Label n3 ∷ end)) z.depth w w2
+    fin : (t : Bool) (w2 : World) → CompletedAt g (start z test w) (record { most = 16 * w.turns + 4; least = w.turns }) z (where_to true t (Label n1 ∷ body) (Label n3 ∷ end)) z.depth w w2
         → RanDid g (start z test w) B z end w (either t (λ w. for_rounds_of m x o u k z.env w) done w2)
     fin false w2 q = went (landed_on (omega arith) (omega arith) l3 q)
     fin true w2 q =
         let s = start z test w in
         let C : Account = record { most = 16 * w.turns + 5; least = w.turns + g.pay } in
-        let ar : ArrivedAt g s C z body z.depth w w2 = arrived_more (omega arith) (omega arith) (label_on l1 q) in
+        let ar : CompletedAt g s C z body z.depth w w2 = completed_more (omega arith) (omega arith) (label_on l1 q) in
         let m0 = ar.most in
         comes_to (omega arith) (omega arith) r (omega arith) ar
         (for_rounds_run g m sim x o u k d (next g s C z body z.depth w w2 z.env z.depth ar) body end w2 ed lf (limit_next g s C z body w w2 d o u ed r lim ar) (ready_next z.env z.depth ar refl (omega arith) r))
@@ -310,9 +310,9 @@ stored_at : (frame k x : ℕ) (cells : ℕ → Cell) → frame + 2 ≤ x → x <
 stored_at frame k x cells le lt = below_at (frame + k) (settle (frame + 2) (frame + k) cells) x lt ∙ settle_at (frame + 2) (frame + k) cells x le lt
 
 -- the variable of a FOR is made where its first value stands
-variable_made : (g : Setting) (z : Sit) (w : World) (c : List Stmt) (u : Value) → (r : Ready g z w) → z.depth + 2 ≤ FRAME_WORDS
+variable_made : (g : Setting) (z : Configuration) (w : World) (c : List Stmt) (u : Value) → (r : Ready g z w) → z.depth + 2 ≤ FRAME_WORDS
     → Stands g.codes z.bases u (content_of (z.cells (z.frame + z.depth)))
-    → OpenArrived g (state z.scene.own (z.depth + 1 + 1) (Store_stmt ∷ c) z.cells z.frame z.hand z.written w) (record { most = 16 * w.turns + 1; least = w.turns }) z w c (z.depth + 1 + 1) (z.frame + (z.depth + 2)) (making (holds u ∷ []) w)
+    → OpenCompleted g (state z.scene.own (z.depth + 1 + 1) (Store_stmt ∷ c) z.cells z.frame z.hand z.written w) (record { most = 16 * w.turns + 1; least = w.turns }) z w c (z.depth + 1 + 1) (z.frame + (z.depth + 2)) (making (holds u ∷ []) w)
 variable_made g z w c u r room st =
     let first_variable : (i : ℕ) → i < 1 → stored_cells z.frame (z.depth + 1 + 1) z.cells (z.frame + z.depth) ≡ Held Variable (content_of (z.cells (z.frame + z.depth)))
     → (y : Content) × (stored_cells z.frame (z.depth + 1 + 1) z.cells (z.frame + z.depth + i) ≡ Held Variable y) = λ i li h.
@@ -329,7 +329,7 @@ variable_made g z w c u r room st =
     let like : (x : ℕ) → x < top → Like (cs x) (z.cells x) = λ x lx. stored_like z.frame k top z.cells (omega arith) x lx in
     let f1 = fits_above g.codes (store z w) top cs r.fits like in
     let here_is = stored_at z.frame k top z.cells (omega arith) (omega arith) in
-    arrived_more (omega arith) (omega arith) (with_objects (z.bases ++ top ∷ []) (making (holds u ∷ []) w).memory (z.frame + (z.depth + 2)) R
+    completed_more (omega arith) (omega arith) (with_objects (z.bases ++ top ∷ []) (making (holds u ∷ []) w).memory (z.frame + (z.depth + 2)) R
     (stepped w.memory top R c k (begun (record { most = 16 * w.turns; least = w.turns }) R k (Store_stmt ∷ c) (omega arith) (omega arith) r (since_refl (store z w))) cs None z.written (links_like z.frame top z.cells cs (omega arith) like) f1
     (since_cells (store z w) like) (store_moves g.program (state z.scene.own k (Store_stmt ∷ c) z.cells z.frame z.hand z.written w) z.scene.own c k refl))
     (fits_more g.codes (make h1 top (holds u ∷ [])) (top + 1) (z.frame + (z.depth + 2)) (omega arith)
@@ -354,14 +354,14 @@ variable_here sc bases frame d o x e lt =
     (frame + d, e, omega arith, zero_off ∙ ap (λ y. place_of sc.own frame (variable sc.targets (meant y))) (sym f), subst (λ y. IsWord y) (sym f) tt)
 
 -- the limit's word is in no object
-limit_free : (g : Setting) (z : Sit) (w : World) (u : Value) → Ready g z w → (o1 n b1 i : ℕ) → Alive (making (holds u ∷ []) w).memory o1 n → BaseOf (z.bases ++ (z.frame + z.depth) ∷ []) o1 b1 → i < n → b1 + i ≢ z.frame + (z.depth + 1)
+limit_free : (g : Setting) (z : Configuration) (w : World) (u : Value) → Ready g z w → (o1 n b1 i : ℕ) → Alive (making (holds u ∷ []) w).memory o1 n → BaseOf (z.bases ++ (z.frame + z.depth) ∷ []) o1 b1 → i < n → b1 + i ≢ z.frame + (z.depth + 1)
 limit_free g z w u r o1 n b1 i li eb lt e = ⊎_elim
     (λ (q : (Alive w.memory o1 n) × (BaseOf z.bases o1 b1)). let le = r.fits.below o1 n b1 q.0 q.1 in absurd (omega arith))
     (λ (q : (o1 ≡ length w.memory) × (n ≡ 1) × (b1 ≡ z.frame + z.depth)). let q1 = q.1 in let q2 = q.2 in absurd (omega arith))
     (lying (store z w) (z.frame + z.depth) (holds u ∷ []) o1 n b1 r.fits.long li eb).lies
 
 -- the whole loop, behind its two values
-for_opened : (g : Setting) (m : Meanings) → Simulates g m → (l : ℕ) (x : Mention) (a y : Expression) (h : Expressions) (c : Action) (z z0 : Sit)
+for_opened : (g : Setting) (m : Meanings) → Simulates g m → (l : ℕ) (x : Mention) (a y : Expression) (h : Expressions) (c : Action) (z z0 : Configuration)
     (there : Sought → List Stmt) (c0 rest : List Stmt) (w : World) (u v : Value) (lx : IsAct g z.scene z.depth z0.env (t.for_loop l x a y h c) there c0 rest)
     → z.env ≡ past y (past a z0.env) → Ready g z w → Stands g.codes z.bases u (content_of (z.cells (z.frame + z.depth)))
     → Stands g.codes z.bases v (content_of (z.cells (z.frame + (z.depth + 1)))) → ((o : ℕ) → Adds (λ w. for_rounds_of m c o v lx.4 (bind x.letters (cell o 0) z.env) w))
@@ -383,14 +383,14 @@ for_opened g m sim l x a y h c z z0 there c0 rest w u v lx ez r su sv ad =
     let A3 : Account = record { most = 16 * w.turns + 3; least = w.turns } in
     let D : Account = record { most = 16 * w.turns + 19; least = w.turns - suc (turns_in false c) } in
     let a0 = variable_made g z w (Jump lx.0 ∷ Label lx.1 ∷ lx.7) u r lx.18 su in
-    let a1 : OpenArrived g s0 (further 1 A0) z w (Label lx.0 ∷ lx.8) (z.depth + 1 + 1) more w1 = open_step r (omega arith) a0 (below (z.frame + (z.depth + 1 + 1)) a0.cells1) None a0.written1
+    let a1 : OpenCompleted g s0 (further 1 A0) z w (Label lx.0 ∷ lx.8) (z.depth + 1 + 1) more w1 = open_step r (omega arith) a0 (below (z.frame + (z.depth + 1 + 1)) a0.cells1) None a0.written1
     (λ x lx. below_like (z.frame + (z.depth + 1 + 1)) a0.cells1 x (omega arith))
     (jump_moves g.program (state z.scene.own (z.depth + 1 + 1) (Jump lx.0 ∷ Label lx.1 ∷ lx.7) a0.cells1 z.frame a0.hand1 a0.written1 w1) z.scene.own (Label lx.1 ∷ lx.7) (z.depth + 1 + 1) lx.0 (Label lx.0 ∷ lx.8) refl lx.14.found) in
-    let a3 : OpenArrived g s0 A3 z w lx.8 d2 more w1 = arrived_more (omega arith) (omega arith) (label_on lx.14 a1) in
+    let a3 : OpenCompleted g s0 A3 z w lx.8 d2 more w1 = completed_more (omega arith) (omega arith) (label_on lx.14 a1) in
     let is_base : BaseOf a3.bases1 o (z.frame + z.depth) = subst (λ n. slice_get (z.bases ++ (z.frame + z.depth) ∷ []) n ≡ Some (z.frame + z.depth)) r.fits.long (get_new z.bases (z.frame + z.depth)) in
     let names = bound_named z.scene z.env a3.bases1 z.frame x.letters (b.Variable z.scene.procedure z.depth) (cell o 0) (variable_here z.scene a3.bases1 z.frame z.depth o x.letters is_base (omega arith))
     (named_grown z.scene z.env z.bases a3.bases1 z.frame (grown_made z.bases (z.frame + z.depth)) r.named) in
-    let z1 = open_sit g s0 A3 z w lx.8 d2 more w1 a3 bs env1 in
+    let z1 = open_configuration g s0 A3 z w lx.8 d2 more w1 a3 bs env1 in
     let r1 = open_ready a3 bs env1 (omega arith) names r in
     let N : Account = record { most = 16 * w.turns + 16; least = w.turns - suc (turns_in false c) } in
     let scope : IsForLoop g z1.scene d2 z.depth lx.4 env1 c lx.7 (Stack z.depth ∷ rest) = (
@@ -417,7 +417,7 @@ for_opened g m sim l x a y h c z z0 there c0 rest w u v lx ez r su sv ad =
       limit = subst (λ k. Stands g.codes a3.bases1 v k) (sym like1) (stands_grown g.codes z.bases a3.bases1 v _ (grown_made z.bases (z.frame + z.depth)) sv);
       free = limit_free g z w u r;
     } in
-    closed_ran {K = λ _ w2. OpenArrived g s0 D z w (Stack z.depth ∷ rest) d2 more w2} r (λ _ w2 q. closes (omega arith) (omega arith) r q)
+    closed_ran {K = λ _ w2. OpenCompleted g s0 D z w (Stack z.depth ∷ rest) d2 more w2} r (λ _ w2 q. closes (omega arith) (omega arith) r q)
     (ran_open bs env1 (omega arith) (omega arith) r (omega arith) (variable_keeps x.letters z.scene.procedure z.depth z.scene.bindings) a3 (λ _ w2 q. open_on (omega arith) (omega arith) r (omega arith) a3 q)
     (first_test g m sim N c o v lx.4 z.depth lx.1 z1 lx.7 lx.8 (Stack z.depth ∷ rest) lx.3 w1 (omega arith) (omega arith) refl scope lx.12 (same_label g z.scene bs d2 lx.1 lx.7 lx.15) (same_label g z.scene bs d2 lx.3 (Stack z.depth ∷ rest) lx.17) lx.19 lx.20 lim (ad o) r1))
 
@@ -427,7 +427,7 @@ loop_adds m x c u v k env ad =
     adds _ (λ w. closing_after (history w) (length w.memory) (for_test (length w.memory) v k (λ q. for_rounds_of m c (length w.memory) v k (bind x (cell (length w.memory) 0) env) q) (making (holds u ∷ []) w))
     ((test_adds (length w.memory) k v (λ y. for_rounds_of m c (length w.memory) v k (bind x (cell (length w.memory) 0) env) y) (ad (length w.memory))).at (making (holds u ∷ []) w)))
 
-pub for_run : (g : Setting) (m : Meanings) → Simulates g m → (B : Account) (l : ℕ) (x : Mention) (a y : Expression) (h : Expressions) (c : Action) (z : Sit)
+pub for_run : (g : Setting) (m : Meanings) → Simulates g m → (B : Account) (l : ℕ) (x : Mention) (a y : Expression) (h : Expressions) (c : Action) (z : Configuration)
     (there : Sought → List Stmt) (c0 rest : List Stmt) (w : World) → 16 * w.turns + 16 ≤ B.most
     → B.least ≤ w.turns - (turns_of false a + (turns_of false y + suc (turns_in false c))) → IsAct g z.scene z.depth z.env (t.for_loop l x a y h c) there c0 rest
     → ((o : ℕ) (v : Value) (k : ℕ) (env : Environment) → Adds (λ w. for_rounds_of m c o v k env w)) → Ready g z w

@@ -1,5 +1,5 @@
 -- The frame of the simulation: where code runs and what it finds, counted runs, arrivals, exits and falls, and how parts compose.
-use Rattle.bk_simulation.proofs.Words.{◌≡◌, ℕ, zero, suc, ◌+◌, ◌-◌, ◌*◌, ◌<◌, ◌≤◌, ◌^◌, Bool, true, false, List, ◌∷◌, ◌++◌, length, Option, None, Some, refl, sym, ap, ◌∙◌, subst, append_assoc, arith, ◌⊎◌, ⊎_elim, inl, inr, slice_get_within, FRAME_WORDS, bound_in, Content, Cell, content_of, Placed, Inside, State, Ends, from_label, program_step, Stmt, Jump, Stack, Return, Goal, Value, Environment, Sense, constant, cell, sense_in, sense_of, World, Exit, break, loop, endcase, goto, result, return, Outcome, gives, leaves, ends, undefined, going, each_way, with, turn, turn_of, history, Grows, After, Adds, adds, stays}
+use Rattle.bk_simulation.proofs.Words.{◌≡◌, ℕ, zero, suc, ◌+◌, ◌-◌, ◌*◌, ◌<◌, ◌≤◌, ◌^◌, Bool, true, false, List, ◌∷◌, ◌++◌, length, Option, None, Some, refl, sym, ap, ◌∙◌, subst, append_assoc, arith, ◌⊎◌, ⊎_elim, inl, inr, slice_get_within, FRAME_WORDS, bound_in, Content, Cell, content_of, Placed, Inside, State, Ends, from_label, program_step, Stmt, Jump, Stack, Return, Goal, Value, Environment, Sense, constant, cell, sense_in, sense_of, World, Exit, break, loop, endcase, goto, result, return, Outcome, gives, leaves, ends, undefined, going, each_evaluation, with, turn, turn_of, history, Grows, After, Adds, adds, stays}
 use Rattle.bk_base.specs.declared.run_end.End.{End}
 use Rattle.bk_meaning.specs.World as world
 use Rattle.bk_simulation.specs.Simulation.{IsTooHigh, end_of}
@@ -21,7 +21,7 @@ by_truth P true h f = h refl
 by_truth P false h f = f refl
 
 -- where a tree's code runs, and what it finds
-pub record Sit : Type 0 where
+pub record Configuration : Type 0 where
   pub scene : Scene
   pub env : Environment
   pub frame : ℕ
@@ -31,7 +31,7 @@ pub record Sit : Type 0 where
   pub written : List ℕ
   pub depth : ℕ
 
-abbrev pub store : Sit → World → Store
+abbrev pub store : Configuration → World → Store
 store z w = record { bases = z.bases; mem = w.memory; cells = z.cells }
 
 -- the state in a section, before these statements
@@ -39,7 +39,7 @@ abbrev pub state : Placed → ℕ → List Stmt → (ℕ → Cell) → ℕ → O
 state own depth c cells frame hand written w =
     record { control = Inside own depth c; cells = cells; frame = frame; hand = hand; input = w.input; output = w.output; written = written }
 
-abbrev pub start : Sit → List Stmt → World → State
+abbrev pub start : Configuration → List Stmt → World → State
 start z c w = state z.scene.own z.depth c z.cells z.frame z.hand z.written w
 
 pub name_grown : (sc : Scene) (bases bases1 : List ℕ) (frame : ℕ) (x : List ℕ) (s : Option Sense) → Grown bases bases1 → NameAt sc bases frame x s
@@ -57,7 +57,7 @@ abbrev pub FewFrames : Setting → (ℕ → Cell) → ℕ → ℕ → Type 0
 FewFrames g cells frame n = AtMostFrames g.program g.first FRAME_WORDS cells frame n
 
 -- what code finds where it runs
-pub record Ready (g : Setting) (z : Sit) (w : World) : Type 0 where
+pub record Ready (g : Setting) (z : Configuration) (w : World) : Type 0 where
   pub named : NamedIn z.scene z.env z.bases z.frame
   pub fits : Fits g.codes (store z w) (z.frame + z.depth)
   pub low : z.frame ≤ 2 ^ 31 - 65536
@@ -70,7 +70,7 @@ pub record Ready (g : Setting) (z : Sit) (w : World) : Type 0 where
   pub in_hand : InHand z.hand
 
 -- the global vector is there, so a new object has another number than 0
-pub some_objects : (g : Setting) (z : Sit) (w : World) → Ready g z w → 0 < length w.memory
+pub some_objects : (g : Setting) (z : Configuration) (w : World) → Ready g z w → 0 < length w.memory
 some_objects g z w r =
     let b : 0 < length z.bases = slice_get_within z.bases 0 16 (r.lasts.each 0 16 g.vector) in
     let l = r.fits.long in
@@ -181,13 +181,13 @@ falls_on g s w undefined f h = tt
 falls_on g s w (going w1) f h = falls_later g s w w1 h f
 
 -- what was given and each exit are gone on with
-pub each_way_ran : {A B : Type 0} {g : Setting} {s : State} {N : Account} {K : A → World → Type 0} {L : B → World → Type 0} {X Y : Exit → World → Type 0}
+pub each_evaluation_ran : {A B : Type 0} {g : Setting} {s : State} {N : Account} {K : A → World → Type 0} {L : B → World → Type 0} {X Y : Exit → World → Type 0}
     {o : Outcome A} {on : A → World → Outcome B} {out : Exit → World → Outcome B}
     → ((a : A) → Adds (on a)) → ((x : Exit) → Adds (out x)) → Ran g s N K X o → ((a : A) (w : World) → K a w → Ran g s N L Y (on a w))
-    → ((x : Exit) (w : World) → X x w → Ran g s N L Y (out x w)) → Ran g s N L Y (each_way on out o)
-each_way_ran {A} {B} {g} {s} {N} {K} {L} {X} {Y} {o} {on} {out} ad ax r h i = by o r.is
+    → ((x : Exit) (w : World) → X x w → Ran g s N L Y (out x w)) → Ran g s N L Y (each_evaluation on out o)
+each_evaluation_ran {A} {B} {g} {s} {N} {K} {L} {X} {Y} {o} {on} {out} ad ax r h i = by o r.is
   where
-    by : (o : Outcome A) → Went g s N K X o ⊎ Falls g s o → Ran g s N L Y (each_way on out o)
+    by : (o : Outcome A) → Went g s N K X o ⊎ Falls g s o → Ran g s N L Y (each_evaluation on out o)
     by (gives a w) (inl k) = h a w k
     by (gives a w) (inr f) = record { is = inr (falls_on g s w (on a w) f ((ad a).at w)) }
     by (leaves x w) (inl k) = i x w k
@@ -198,7 +198,7 @@ each_way_ran {A} {B} {g} {s} {N} {K} {L} {X} {Y} {o} {on} {out} ad ax r h i = by
 pub with_ran : {A B : Type 0} {g : Setting} {s : State} {N : Account} {K : A → World → Type 0} {L : B → World → Type 0} {X : Exit → World → Type 0}
     {o : Outcome A} {go : A → World → Outcome B}
     → ((a : A) → Adds (go a)) → Ran g s N K X o → ((a : A) (w : World) → K a w → Ran g s N L X (go a w)) → Ran g s N L X (with o go)
-with_ran ad r h = each_way_ran ad (λ x. adds _ (λ w. stays (history w))) r h (λ x w q. went q)
+with_ran ad r h = each_evaluation_ran ad (λ x. adds _ (λ w. stays (history w))) r h (λ x w q. went q)
 
 falls_before : (g : Setting) (s t : State) (k p : ℕ) (w : World) → Comes g k p s t → FallsIn g t w → FallsIn g s w
 falls_before g s t k p w c r = ⊎_elim
@@ -250,7 +250,7 @@ turn_behind {A} {g} {s} {to} {B} {K} {X} steps paid w go c le le' e ei h = at_tu
 
 -- The run has come to a place at a depth. Objects lie below the top, and what was there is related so to what is. As many calls are
 -- active as before.
-pub record Arrived (g : Setting) (s : State) (B : Account) (own : Placed) (frame calls top : ℕ) (R : Store → Type 0) (c : List Stmt) (depth : ℕ)
+pub record Completed (g : Setting) (s : State) (B : Account) (own : Placed) (frame calls top : ℕ) (R : Store → Type 0) (c : List Stmt) (depth : ℕ)
     (w1 : World) : Type 0 where
   pub steps : ℕ
   pub paid : ℕ
@@ -269,25 +269,25 @@ pub record Arrived (g : Setting) (s : State) (B : Account) (own : Placed) (frame
   pub moved : R (record { bases = bases1; mem = w1.memory; cells = cells1 })
 
 -- what code at the situation's top may change was changed
-abbrev pub ArrivedAt : Setting → State → Account → Sit → List Stmt → ℕ → World → World → Type 0
-ArrivedAt g s B z c d w w1 = Arrived g s B z.scene.own z.frame w.calls (z.frame + z.depth) (Moved (z.frame + z.depth) (store z w)) c d w1
+abbrev pub CompletedAt : Setting → State → Account → Configuration → List Stmt → ℕ → World → World → Type 0
+CompletedAt g s B z c d w w1 = Completed g s B z.scene.own z.frame w.calls (z.frame + z.depth) (Moved (z.frame + z.depth) (store z w)) c d w1
 
 -- objects may have been made since, at the situation's top or above; there are more words
-abbrev pub OpenArrived : Setting → State → Account → Sit → World → List Stmt → ℕ → ℕ → World → Type 0
-OpenArrived g s B z w c d more w1 = Arrived g s B z.scene.own z.frame w.calls more (Since (z.frame + z.depth) (store z w)) c d w1
+abbrev pub OpenCompleted : Setting → State → Account → Configuration → World → List Stmt → ℕ → ℕ → World → Type 0
+OpenCompleted g s B z w c d more w1 = Completed g s B z.scene.own z.frame w.calls more (Since (z.frame + z.depth) (store z w)) c d w1
 
 -- the store there
 abbrev pub store_at : {g : Setting} {s : State} {B : Account} {own : Placed} {frame calls top : ℕ} {R : Store → Type 0} {c : List Stmt} {d : ℕ} {w1 : World}
-    → Arrived g s B own frame calls top R c d w1 → Store
+    → Completed g s B own frame calls top R c d w1 → Store
 store_at {w1 = w1} a = record { bases = a.bases1; mem = w1.memory; cells = a.cells1 }
 
 -- the state there
-abbrev pub there : (g : Setting) (s : State) (B : Account) (z : Sit) (c : List Stmt) (d : ℕ) (w w1 : World) → ArrivedAt g s B z c d w w1 → State
+abbrev pub there : (g : Setting) (s : State) (B : Account) (z : Configuration) (c : List Stmt) (d : ℕ) (w w1 : World) → CompletedAt g s B z c d w w1 → State
 there g s B z c d w w1 a = state z.scene.own d c a.cells1 z.frame a.hand1 a.written1 w1
 
 -- a value is on top
-pub record Has (g : Setting) (s : State) (B : Account) (z : Sit) (c : List Stmt) (d : ℕ) (w : World) (v : Value) (w1 : World) : Type 0 where
-  pub arr : ArrivedAt g s B z c d w w1
+pub record Has (g : Setting) (s : State) (B : Account) (z : Configuration) (c : List Stmt) (d : ℕ) (w : World) (v : Value) (w1 : World) : Type 0 where
+  pub arr : CompletedAt g s B z c d w w1
   pub stands : Stands g.codes arr.bases1 v (content_of (arr.cells1 (z.frame + z.depth)))
 
 -- Where control is when a command or an expression was left: before the two statements that go to a label, at the LAB with a result in
@@ -318,15 +318,15 @@ pub record Exited (g : Setting) (s : State) (B : Account) (sc : Scene) (frame ca
   pub control : List Stmt
   pub depth1 : ℕ
   pub leads : Leads sc x control
-  pub arr : Arrived g s B sc.own frame calls top R control depth1 w1
+  pub arr : Completed g s B sc.own frame calls top R control depth1 w1
   pub later : arr.steps + 16 * w1.turns + still x ≤ B.most
   pub hands : Handed g arr.bases1 x arr.hand1
 
-abbrev pub Out : Setting → State → Account → Sit → World → Exit → World → Type 0
+abbrev pub Out : Setting → State → Account → Configuration → World → Exit → World → Type 0
 Out g s B z w = Exited g s B z.scene z.frame w.calls (z.frame + z.depth) (Moved (z.frame + z.depth) (store z w))
 
 -- the situation after an arrival, at a depth and with other names' objects behind
-abbrev pub next : (g : Setting) (s : State) (B : Account) (z : Sit) (c : List Stmt) (d : ℕ) (w w1 : World) → Environment → ℕ → ArrivedAt g s B z c d w w1 → Sit
+abbrev pub next : (g : Setting) (s : State) (B : Account) (z : Configuration) (c : List Stmt) (d : ℕ) (w w1 : World) → Environment → ℕ → CompletedAt g s B z c d w w1 → Configuration
 next g s B z c d w w1 env depth a = record z { env = env; bases = a.bases1; cells = a.cells1; hand = a.hand1; written = a.written1; depth = depth }
 
 -- names mean the same where only the number of the next object is another
@@ -335,7 +335,7 @@ pub named_again : {sc : Scene} {env env1 : Environment} {bases : List ℕ} {fram
 named_again {sc} {env} {env1} {bases} {frame} en n = record { each = λ x. subst (λ y. NameAt sc bases frame x (sense_in y x)) (sym en) (n.each x) }
 
 -- with another scene and other names
-pub ready_in : {g : Setting} {z : Sit} {w : World} (sc : Scene) (env : Environment) → NamedIn sc env z.bases z.frame → Ready g z w → Ready g
+pub ready_in : {g : Setting} {z : Configuration} {w : World} (sc : Scene) (env : Environment) → NamedIn sc env z.bases z.frame → Ready g z w → Ready g
     (record z { scene = sc; env = env }) w
 ready_in sc env n r = record {
   named = n;
@@ -350,8 +350,8 @@ ready_in sc env n r = record {
   in_hand = r.in_hand;
 }
 
-pub ready_next : {g : Setting} {s : State} {B : Account} {z : Sit} {c : List Stmt} {d : ℕ} {w w1 : World} (env : Environment) (depth : ℕ)
-    (a : ArrivedAt g s B z c d w w1)
+pub ready_next : {g : Setting} {s : State} {B : Account} {z : Configuration} {c : List Stmt} {d : ℕ} {w w1 : World} (env : Environment) (depth : ℕ)
+    (a : CompletedAt g s B z c d w w1)
     → env.names ≡ z.env.names → z.depth ≤ depth → Ready g z w → Ready g (next g s B z c d w w1 env depth a) w1
 ready_next {g} {s} {B} {z} {c} {d} {w} {w1} env depth a en le r = let dd = r.deep in record {
   named = named_again en (named_grown z.scene z.env z.bases a.bases1 z.frame a.moved.grown r.named);

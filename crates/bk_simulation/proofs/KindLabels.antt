@@ -1,5 +1,5 @@
 -- Words and procedures that last have labels of their own, and stand in the section that sets them.
-use Rattle.bk_simulation.proofs.Words.{◌≡◌, ℕ, ◌+◌, ◌<◌, ◌≤◌, ◌==◌, Bool, true, false, cond, List, [], ◌∷◌, ◌++◌, length, map, Some, refl, sym, ap, subst, arith, slice_get, drop, eqb-true, eq-eqb, ap₂, ◌∙◌, first_bytes, signed, Declarations, Expression, Expressions, Action, Actions, Declaration, Items, Definition, Definitions, Starts, Bound, joined, Placement, Placed, item_words, AreFaultless, Stmt, DataLabel, DataNumber, DataAddress, Entry, Globals, Target, named_tree, term_named, terms_named, condition_named, lvalue_named, lvalues_named, command_named, commands_named, statics_named, declarations_named, declaration_named, definitions_named, definition_named, starts_named, Part, static_item, static_table, label_place, target_of, parts_of_declarations, procedure_code, data_code, word_code, entries_of, scheme, scheme_is_accepted, targets_found, false≢true, map-append, Place, Role, Binding, Spot, Sound, SoundEach, SoundDestinations, SoundDone, SoundDoneEach, SoundDeclared, SoundOneDeclared, SoundDefined, SoundOneDefined, SoundStarted}
+use Rattle.bk_simulation.proofs.Words.{◌≡◌, ℕ, ◌+◌, ◌<◌, ◌≤◌, ◌==◌, Bool, true, false, cond, List, [], ◌∷◌, ◌++◌, length, map, Some, refl, sym, ap, subst, arith, slice_get, drop, eqb-true, eq-eqb, ap₂, ◌∙◌, first_bytes, signed, Declarations, Expression, Expressions, Action, Actions, Declaration, Items, Definition, Definitions, Starts, Bound, joined, Placement, Placed, item_words, AreFaultless, Stmt, DataLabel, DataNumber, DataAddress, Entry, Globals, Target, named_tree, term_named, terms_named, condition_named, lvalue_named, lvalues_named, command_named, commands_named, statics_named, declarations_named, declaration_named, definitions_named, definition_named, starts_named, Part, static_item, static_table, label_place, target_of, parts_of_declarations, procedure_code, data_code, word_code, entries_of, scheme, scheme_is_accepted, targets_found, false≢true, map-append, Enclosing, Role, Binding, Spot, Sound, SoundEach, SoundDestinations, SoundDone, SoundDoneEach, SoundDeclared, SoundOneDeclared, SoundDefined, SoundOneDefined, SoundStarted}
 use Rattle.bk_scope.specs.declared.bound.Bound.TheVariants as b
 use Rattle.bk_ocode.specs.Typing.{sets, times_set}
 use Rattle.bk_trans.specs.Program as term
@@ -40,7 +40,7 @@ same x = (x, x)
 
 mutual
   -- a value, and where its truth is asked for
-  values_forms : (e : Expression) (n : ℕ) (bs : List Binding) (p : Place) (s : Spot) (r : Role) (cs : List Binding) (u : Place) (v : Spot) → Sound r cs u v e
+  values_forms : (e : Expression) (n : ℕ) (bs : List Binding) (p : Enclosing) (s : Spot) (r : Role) (cs : List Binding) (u : Enclosing) (v : Spot) → Sound r cs u v e
       → (map form_of (kinds n (term_named bs p s e)) ≡ forms e) × (map form_of (kinds_if n (condition_named bs p s e)) ≡ forms e)
   values_forms (t.parens l e) n bs p s r cs u v h = ((values_forms e _ _ _ _ _ _ _ _ h).0, (values_forms e _ _ _ _ _ _ _ _ h).1)
   values_forms (t.unary l q.Address e) n bs p s r cs u v h = same (address_forms e _ _ _ _ _ _ _ _ h.0 h.1)
@@ -61,18 +61,18 @@ mutual
   values_forms (t.valof l c) n bs p s r cs u v h = same (act_forms c _ _ _ _ _ _ _ h)
   values_forms _ n bs p s r cs u v h = same refl
 
-  each_forms : (es : Expressions) (n k : ℕ) (bs : List Binding) (p : Place) (s : Spot) (j : ℕ) (cs : List Binding) (u : Place) (v : Spot) → SoundEach j cs u v es → map form_of (kinds_each n (terms_named k bs p s es)) ≡ forms_of_each es
+  each_forms : (es : Expressions) (n k : ℕ) (bs : List Binding) (p : Enclosing) (s : Spot) (j : ℕ) (cs : List Binding) (u : Enclosing) (v : Spot) → SoundEach j cs u v es → map form_of (kinds_each n (terms_named k bs p s es)) ≡ forms_of_each es
   each_forms t.none n k bs p s j cs u v h = refl
   each_forms (t.more e es) n k bs p s j cs u v h = two _ _ _ _ (values_forms e _ _ _ _ _ _ _ _ h.0).0 (each_forms es _ _ _ _ _ _ _ _ _ h.1)
 
-  address_forms : (e : Expression) (n : ℕ) (bs : List Binding) (p : Place) (s : Spot) (r : Role) (cs : List Binding) (u : Place) (v : Spot) → addressed cs e ≡ true → Sound r cs u v e → map form_of (kinds_at n (lvalue_named bs p s e)) ≡ forms e
+  address_forms : (e : Expression) (n : ℕ) (bs : List Binding) (p : Enclosing) (s : Spot) (r : Role) (cs : List Binding) (u : Enclosing) (v : Spot) → addressed cs e ≡ true → Sound r cs u v e → map form_of (kinds_at n (lvalue_named bs p s e)) ≡ forms e
   address_forms (t.name l x) n bs p s r cs u v a h = refl
   address_forms (t.parens l e) n bs p s r cs u v a h = address_forms e _ _ _ _ _ _ _ _ a h
   address_forms (t.unary l q.Contents e) n bs p s r cs u v a h = (values_forms e _ _ _ _ _ _ _ _ h.1).0
   address_forms (t.binary l o.Subscript m x y) n bs p s r cs u v a h = two _ _ _ _ (values_forms x _ _ _ _ _ _ _ _ h.0).0 (values_forms y _ _ _ _ _ _ _ _ h.1).0
   address_forms _ n bs p s r cs u v a h = absurd (false≢true a)
 
-  store_forms : (e : Expression) (n : ℕ) (bs : List Binding) (p : Place) (s : Spot) (r : Role) (cs : List Binding) (u : Place) (v : Spot) → assigned cs e ≡ true → Sound r cs u v e → map form_of (kinds_at n (lvalue_named bs p s e)) ≡ forms e
+  store_forms : (e : Expression) (n : ℕ) (bs : List Binding) (p : Enclosing) (s : Spot) (r : Role) (cs : List Binding) (u : Enclosing) (v : Spot) → assigned cs e ≡ true → Sound r cs u v e → map form_of (kinds_at n (lvalue_named bs p s e)) ≡ forms e
   store_forms (t.name l x) n bs p s r cs u v a h = refl
   store_forms (t.parens l e) n bs p s r cs u v a h = store_forms e _ _ _ _ _ _ _ _ a h
   store_forms (t.unary l q.Contents e) n bs p s r cs u v a h = (values_forms e _ _ _ _ _ _ _ _ h.1).0
@@ -80,11 +80,11 @@ mutual
   store_forms (t.binary l o.Byte m x y) n bs p s r cs u v a h = two _ _ _ _ (values_forms x _ _ _ _ _ _ _ _ h.0).0 (values_forms y _ _ _ _ _ _ _ _ h.1).0
   store_forms _ n bs p s r cs u v a h = absurd (false≢true a)
 
-  stores_forms : (es : Expressions) (n : ℕ) (bs : List Binding) (p : Place) (s : Spot) (cs : List Binding) (u : Place) (v : Spot) → SoundDestinations cs u v es → map form_of (kinds_onto n (lvalues_named bs p s es)) ≡ forms_of_each es
+  stores_forms : (es : Expressions) (n : ℕ) (bs : List Binding) (p : Enclosing) (s : Spot) (cs : List Binding) (u : Enclosing) (v : Spot) → SoundDestinations cs u v es → map form_of (kinds_onto n (lvalues_named bs p s es)) ≡ forms_of_each es
   stores_forms t.none n bs p s cs u v h = refl
   stores_forms (t.more e es) n bs p s cs u v h = two _ _ _ _ (store_forms e _ _ _ _ _ _ _ _ h.0 h.1) (stores_forms es _ _ _ _ _ _ _ h.2)
 
-  act_forms : (c : Action) (n : ℕ) (bs : List Binding) (p : Place) (s : Spot) (cs : List Binding) (u : Place) (v : Spot) → SoundDone cs u v c → map form_of (kinds_in n (command_named bs p s c)) ≡ forms_of_action c
+  act_forms : (c : Action) (n : ℕ) (bs : List Binding) (p : Enclosing) (s : Spot) (cs : List Binding) (u : Enclosing) (v : Spot) → SoundDone cs u v c → map form_of (kinds_in n (command_named bs p s c)) ≡ forms_of_action c
   act_forms (t.assign l xs es) n bs p s cs u v h = two _ _ _ _ (stores_forms xs _ _ _ _ _ _ _ h.0) (each_forms es _ _ _ _ _ _ _ _ _ h.1)
   act_forms (t.call l e es) n bs p s cs u v h = two _ _ _ _ (values_forms e _ _ _ _ _ _ _ _ h.0).0 (each_forms es _ _ _ _ _ _ _ _ _ h.1)
   act_forms (t.label l x c) n bs p s cs u v h = act_forms c _ _ _ _ _ _ _ h.1
@@ -102,29 +102,29 @@ mutual
   act_forms (t.repeat_while l q c e) n bs p s cs u v h = two _ _ _ _ (act_forms c _ _ _ _ _ _ _ h.0) (values_forms e _ _ _ _ _ _ _ _ h.1).1
   act_forms _ n bs p s cs u v h = refl
 
-  acts_forms : (xs : Actions) (n : ℕ) (bs : List Binding) (p : Place) (s : Spot) (cs : List Binding) (u : Place) (v : Spot) → SoundDoneEach cs u v xs → map form_of (kinds_through n (commands_named bs p s xs)) ≡ forms_of_actions xs
+  acts_forms : (xs : Actions) (n : ℕ) (bs : List Binding) (p : Enclosing) (s : Spot) (cs : List Binding) (u : Enclosing) (v : Spot) → SoundDoneEach cs u v xs → map form_of (kinds_through n (commands_named bs p s xs)) ≡ forms_of_actions xs
   acts_forms t.no_actions n bs p s cs u v h = refl
   acts_forms (t.also c xs) n bs p s cs u v h = two _ _ _ _ (act_forms c _ _ _ _ _ _ _ h.0) (acts_forms xs _ _ _ _ _ _ _ h.1)
 
-  pub declared_forms : (xs : Declarations) (n : ℕ) (bs : List Binding) (p : Place) (s : Spot) (cs : List Binding) (u : Place) (v : Spot) → SoundDeclared cs u v xs → map form_of (kinds_of_declarations n (declarations_named bs p s xs)) ≡ forms_of_declarations xs
+  pub declared_forms : (xs : Declarations) (n : ℕ) (bs : List Binding) (p : Enclosing) (s : Spot) (cs : List Binding) (u : Enclosing) (v : Spot) → SoundDeclared cs u v xs → map form_of (kinds_of_declarations n (declarations_named bs p s xs)) ≡ forms_of_declarations xs
   declared_forms t.no_declarations n bs p s cs u v h = refl
   declared_forms (t.declare x xs) n bs p s cs u v h = two _ _ _ _ (one_forms x _ _ _ _ _ _ _ h.0) (declared_forms xs _ _ _ _ _ _ _ h.1)
 
-  one_forms : (x : Declaration) (n : ℕ) (bs : List Binding) (p : Place) (s : Spot) (cs : List Binding) (u : Place) (v : Spot) → SoundOneDeclared cs u v x → map form_of (kinds_of_declaration n (declaration_named bs p s x)) ≡ forms_of_declaration x
+  one_forms : (x : Declaration) (n : ℕ) (bs : List Binding) (p : Enclosing) (s : Spot) (cs : List Binding) (u : Enclosing) (v : Spot) → SoundOneDeclared cs u v x → map form_of (kinds_of_declaration n (declaration_named bs p s x)) ≡ forms_of_declaration x
   one_forms (t.constants l sort.Static is) n bs p s cs u v h = items_forms is _ _ _
   one_forms (t.definitions l ds) n bs p s cs u v h = definitions_forms ds _ _ _ _ _ _ _ h
   one_forms _ n bs p s cs u v h = refl
 
-  definitions_forms : (ds : Definitions) (n : ℕ) (bs : List Binding) (p : Place) (s : Spot) (cs : List Binding) (u : Place) (v : Spot) → SoundDefined cs u v ds → map form_of (kinds_of_definitions n (definitions_named bs p s ds)) ≡ forms_of_definitions ds
+  definitions_forms : (ds : Definitions) (n : ℕ) (bs : List Binding) (p : Enclosing) (s : Spot) (cs : List Binding) (u : Enclosing) (v : Spot) → SoundDefined cs u v ds → map form_of (kinds_of_definitions n (definitions_named bs p s ds)) ≡ forms_of_definitions ds
   definitions_forms t.no_definitions n bs p s cs u v h = refl
   definitions_forms (t.define d ds) n bs p s cs u v h = two _ _ _ _ (definition_forms d _ _ _ _ _ _ _ h.0) (definitions_forms ds _ _ _ _ _ _ _ h.1)
 
-  definition_forms : (d : Definition) (n : ℕ) (bs : List Binding) (p : Place) (s : Spot) (cs : List Binding) (u : Place) (v : Spot) → SoundOneDefined cs u v d → map form_of (kinds_of_definition n (definition_named bs p s d)) ≡ forms_of_definition d
+  definition_forms : (d : Definition) (n : ℕ) (bs : List Binding) (p : Enclosing) (s : Spot) (cs : List Binding) (u : Enclosing) (v : Spot) → SoundOneDefined cs u v d → map form_of (kinds_of_definition n (definition_named bs p s d)) ≡ forms_of_definition d
   definition_forms (t.routine l x fs c) n bs p s cs u v h = ap (λ z. a_procedure ∷ z) (act_forms c _ _ _ _ _ _ _ h.2)
   definition_forms (t.function l x fs e) n bs p s cs u v h = ap (λ z. a_procedure ∷ z) (values_forms e _ _ _ _ _ _ _ _ h.2).0
   definition_forms (t.variables l xs is) n bs p s cs u v h = starts_forms is _ _ _ _ _ _ _ h
 
-  starts_forms : (is : Starts) (n : ℕ) (bs : List Binding) (p : Place) (s : Spot) (cs : List Binding) (u : Place) (v : Spot) → SoundStarted cs u v is → map form_of (kinds_of_starts n (starts_named bs p s is)) ≡ forms_of_starts is
+  starts_forms : (is : Starts) (n : ℕ) (bs : List Binding) (p : Enclosing) (s : Spot) (cs : List Binding) (u : Enclosing) (v : Spot) → SoundStarted cs u v is → map form_of (kinds_of_starts n (starts_named bs p s is)) ≡ forms_of_starts is
   starts_forms t.no_starts n bs p s cs u v h = refl
   starts_forms (t.value e is) n bs p s cs u v h = two _ _ _ _ (values_forms e _ _ _ _ _ _ _ _ h.0).0 (starts_forms is _ _ _ _ _ _ _ h.1)
   starts_forms (t.vector l e is) n bs p s cs u v h = starts_forms is _ _ _ _ _ _ _ h.1
@@ -170,8 +170,8 @@ times_both : (l : ℕ) (xs ys : List ℕ) → times l (xs ++ ys) ≡ times l xs 
 times_both l [] ys = omega arith
 times_both l (x ∷ xs) ys = let h = times_both l xs ys in omega (arith, h)
 
-one_way : (a c : ℕ) → cond (a == c) 1 0 ≤ cond (c == a) 1 0
-one_way a c = picked (a == c) refl
+one_evaluation : (a c : ℕ) → cond (a == c) 1 0 ≤ cond (c == a) 1 0
+one_evaluation a c = picked (a == c) refl
   where
     picked : (q : Bool) → (a == c) ≡ q → cond q 1 0 ≤ cond (c == a) 1 0
     picked true e = let one : ℕ = 1 in let h : cond (c == a) one 0 ≡ one = ap (λ (z : Bool). cond z one 0) (eq-eqb c a (sym (eqb-true a c e))) in omega (arith, h)
@@ -179,7 +179,7 @@ one_way a c = picked (a == c) refl
 
 -- the first statement sets it
 set_first : (l n : ℕ) (rest : List Stmt) → times l (n ∷ []) ≤ sets l (Some n) + times_set l rest
-set_first l n rest = let h = one_way n l in omega (arith, h)
+set_first l n rest = let h = one_evaluation n l in omega (arith, h)
 
 word_times : (l n : ℕ) (y : Bound) → times l (word_label n y) ≤ times_set l (word_code n y)
 word_times l n (b.Static m) = set_first l (n + 1) (DataAddress n ∷ [])
@@ -194,8 +194,8 @@ data_times l (static_table n ws) = set_first l n (map (λ w. DataNumber (signed 
 data_times l (label_place n s x) = omega arith
 
 entry_times : (l : ℕ) (ts : List Target) (x : Part) → times l (part_entry x) ≤ times_set l (procedure_code ts x)
-entry_times l ts (procedure n (term.routine y x m c)) = let h = one_way n l in omega (arith, h)
-entry_times l ts (procedure n (term.function y x m e)) = let h = one_way n l in omega (arith, h)
+entry_times l ts (procedure n (term.routine y x m c)) = let h = one_evaluation n l in omega (arith, h)
+entry_times l ts (procedure n (term.function y x m e)) = let h = one_evaluation n l in omega (arith, h)
 entry_times l ts _ = omega arith
 
 all_times : (l : ℕ) (f : Part → List ℕ) (code : Part → List Stmt) → ((x : Part) → times l (f x) ≤ times_set l (code x)) → (ps : List Part) → times l (joined f ps) ≤ times_set l (joined code ps)

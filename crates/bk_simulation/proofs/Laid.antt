@@ -153,15 +153,15 @@ pub data Aim : Type 0 where
   jumps : (truth : Bool) (label : ℕ) → Aim
 
 -- how an operator is gone through for it
-pub data Way : Type 0 where
-  all_of : (truth : Bool) (label : ℕ) → Way
-  any_of : (truth : Bool) (label : ℕ) → Way
-  plain : Way
+pub data Evaluation : Type 0 where
+  all_of : (truth : Bool) (label : ℕ) → Evaluation
+  any_of : (truth : Bool) (label : ℕ) → Evaluation
+  plain : Evaluation
 
-abbrev pub way_of : Aim → Operator → Way
-way_of (jumps u n) o.Both = all_of u n
-way_of (jumps u n) o.Either = any_of u n
-way_of _ _ = plain
+abbrev pub evaluation_of : Aim → Operator → Evaluation
+evaluation_of (jumps u n) o.Both = all_of u n
+evaluation_of (jumps u n) o.Either = any_of u n
+evaluation_of _ _ = plain
 
 -- what stands behind the value
 abbrev pub ending : Aim → List Stmt → List Stmt
@@ -201,7 +201,7 @@ ByTurns t.none t.none vs ss c rest = c ≡ rest
 ByTurns _ _ vs ss c rest = ⊥
 
 -- two operands; `&` and `|` go on only until the truth is known
-abbrev pub Operands : Setting → Scene → ℕ → Way → Aim → Operator → (Aim → List Stmt → List Stmt → Type 0) → (ℕ → Aim → List Stmt → List Stmt → Type 0) → List Stmt → List Stmt → Type 0
+abbrev pub Operands : Setting → Scene → ℕ → Evaluation → Aim → Operator → (Aim → List Stmt → List Stmt → Type 0) → (ℕ → Aim → List Stmt → List Stmt → Type 0) → List Stmt → List Stmt → Type 0
 Operands g sc d (all_of false n) aim f X Y c rest = (c1 : List Stmt) × X (jumps false n) c c1 × Y d (jumps false n) c1 rest
 Operands g sc d (all_of true n) aim f X Y c rest = (k : ℕ) × (c1 : List Stmt) × X (jumps false k) c c1 × Y d (jumps true n) c1 (Label k ∷ rest) × LabelAt g sc d k rest
 Operands g sc d (any_of true n) aim f X Y c rest = (c1 : List Stmt) × X (jumps true n) c c1 × Y d (jumps true n) c1 rest
@@ -223,7 +223,7 @@ abbrev mutual
   IsCode g sc d env aim (t.unary l q.Minus e) c rest = IsCode g sc d env pushes e c (Monadic w.Negate ∷ ending aim rest)
   IsCode g sc d env pushes (t.unary l q.Not e) c rest = IsCode g sc d env pushes e c (Monadic w.Not ∷ rest)
   IsCode g sc d env (jumps u n) (t.unary l q.Not e) c rest = IsCode g sc d env (jumps (not u) n) e c rest
-  IsCode g sc d env aim (t.binary l f m x y) c rest = Operands g sc d (way_of aim f) aim f (λ ai c0 r0. IsCode g sc d env ai x c0 r0) (λ d0 ai c0 r0. IsCode g sc d0 (past x env) ai y c0 r0) c rest
+  IsCode g sc d env aim (t.binary l f m x y) c rest = Operands g sc d (evaluation_of aim f) aim f (λ ai c0 r0. IsCode g sc d env ai x c0 r0) (λ d0 ai c0 r0. IsCode g sc d0 (past x env) ai y c0 r0) c rest
   IsCode g sc d env aim (t.choice l m e x y) c rest =
       (n n1 : ℕ) × (c1 c2 : List Stmt) × IsCode g sc d env (jumps false n) e c c1 × IsCode g sc d (past e env) pushes x c1 (GiveResult n1 ∷ Label n ∷ c2)
       × IsCode g sc d (past x (past e env)) pushes y c2 (GiveResult n1 ∷ Label n1 ∷ TakeResult d ∷ ending aim rest)

@@ -1,6 +1,6 @@
 -- A FOR is laid where the scheme puts it, where its body is. Each command of an accepted section is laid where the scheme puts it. That VALOFs and blocks
 -- with declarations are is taken here as an argument.
-use Rattle.bk_simulation.proofs.Words.{Placed, Environment, Goal, go, ◌≡◌, ℕ, ◌+◌, ◌<◌, ◌≤◌, ◌^◌, Bool, true, false, List, [], ◌∷◌, ◌++◌, length, Some, cond, refl, sym, ap, ap₂, ◌∙◌, subst, arith, int_lt, pos, signed, Expression, Expressions, Action, Actions, Declaration, Declarations, Place, Binding, bind, labels_of, deeper, labels_in_scope, SoundDone, HaveWords, Spot, next_depth, Local, Stmt, Number, Load, Dyadic, Assign, Jump, JumpIf, Label, Stack, Store, labels, term_named, command_named, worth, step_named, parts, parts_in, value_code, command_code, test_of_step, Named, objects, objects_of_action, cell, foreign, step_of, of_action, in_scope, Mention, Command, not, suc, false≢true, bytes_eq, size, bound_in, constant_word, SoundDoneEach, Sound, from_label, GiveResult, CallRoutine, Switch, Return, Finish, TakeResult, labels_if, labels_onto, labels_in, meant, condition_named, lvalues_named, commands_named, parts_if, parts_onto, parts_through, goal_in, jump_code, through_code, cases, default_in, label_or, valued, objects_of_each, objects_of_actions, constant_in, the_label, the_case, the_default, same_place, stands_in, of_actions, of_expression}
+use Rattle.bk_simulation.proofs.Words.{Placed, Environment, Goal, go, ◌≡◌, ℕ, ◌+◌, ◌<◌, ◌≤◌, ◌^◌, Bool, true, false, List, [], ◌∷◌, ◌++◌, length, Some, cond, refl, sym, ap, ap₂, ◌∙◌, subst, arith, int_lt, pos, signed, Expression, Expressions, Action, Actions, Declaration, Declarations, Enclosing, Binding, bind, labels_of, deeper, labels_in_scope, SoundDone, HaveWords, Spot, next_depth, Local, Stmt, Number, Load, Dyadic, Assign, Jump, JumpIf, Label, Stack, Store, labels, term_named, command_named, worth, step_named, parts, parts_in, value_code, command_code, test_of_step, Named, objects, objects_of_action, cell, foreign, step_of, of_action, in_scope, Mention, Command, not, suc, false≢true, bytes_eq, size, bound_in, constant_word, SoundDoneEach, Sound, from_label, GiveResult, CallRoutine, Switch, Return, Finish, TakeResult, labels_if, labels_onto, labels_in, meant, condition_named, lvalues_named, commands_named, parts_if, parts_onto, parts_through, goal_in, jump_code, through_code, cases, default_in, label_or, valued, objects_of_each, objects_of_actions, constant_in, the_label, the_case, the_default, same_place, stands_in, of_actions, of_expression}
 use Rattle.bk_simulation.specs.Regular.{RegularEach, RegularAction, RegularActions, Regular}
 use Rattle.bk_simulation.proofs.Weights.{turns_in, in_light, turns_through, of_light, turns_of}
 use Rattle.bk_simulation.proofs.Sought.{with_names}
@@ -40,11 +40,11 @@ test_depth d k = test_in d (int_lt (signed k) (pos 0))
 -- where the body of a FOR is laid: what stands around it, and its first label
 pub record ForBody : Type 0 where
   pub scene : Scene
-  pub place : Place
+  pub place : Enclosing
   pub spot : Spot
   pub first : ℕ
 
-abbrev pub body_of : Scene → Place → Spot → ℕ → ℕ → Mention → Expression → Expression → Expressions → Action → ForBody
+abbrev pub body_of : Scene → Enclosing → Spot → ℕ → ℕ → Mention → Expression → Expression → Expressions → Action → ForBody
 body_of sc p s d n x a b0 h c =
     let sb : Spot = spot.behind a s in
     let u : Spot = spot.onward (spot.symbols_each h) 0 (spot.behind b0 sb) in
@@ -59,7 +59,7 @@ body_of sc p s d n x a b0 h c =
 abbrev pub body_named : ForBody → Action → Command
 body_named q c = command_named q.scene.bindings q.place q.spot c
 
-pub for_lies : (pay : ℕ) (valofs : ValofsLie pay) (sc : Scene) (p : Place) (s : Spot) (i l : ℕ) (x : Mention) (a1 b1 : Expression) (h1 : Expressions) (a0 : Action) (d n : ℕ) (c rest : List Stmt) → Doing sc p d
+pub for_lies : (pay : ℕ) (valofs : ValofsLie pay) (sc : Scene) (p : Enclosing) (s : Spot) (i l : ℕ) (x : Mention) (a1 b1 : Expression) (h1 : Expressions) (a0 : Action) (d n : ℕ) (c rest : List Stmt) → Doing sc p d
     → SoundDone sc.bindings p s (t.for_loop l x a1 b1 h1 a0) → RegularAction (t.for_loop l x a1 b1 h1 a0) → turns_in true (t.for_loop l x a1 b1 h1 a0) ≤ pay
     → FoundParts sc.own sc.targets (parts_in d n (command_named sc.bindings p s (t.for_loop l x a1 b1 h1 a0)))
     → c ≡ command_code sc.targets sc.around d n (command_named sc.bindings p s (t.for_loop l x a1 b1 h1 a0)) ++ rest → StandsAt sc.own d c
@@ -71,8 +71,8 @@ pub for_lies : (pay : ℕ) (valofs : ValofsLie pay) (sc : Scene) (p : Place) (s 
 for_lies pay valofs sc p s i l x a1 b1 h1 a0 d n c rest a h r m f k st laid =
     let sb : Spot = spot.behind a1 s in
     let u0 : Spot = spot.onward (spot.symbols_each h1) 0 (spot.behind b1 sb) in
-    let pb : Place = deeper 1 p in
-    let p1 : Place = place.labelled u0.number (place.looping (deeper 2 p)) in
+    let pb : Enclosing = deeper 1 p in
+    let p1 : Enclosing = place.labelled u0.number (place.looping (deeper 2 p)) in
     let s1 : Spot = spot.numbered (1 + length (labels_of a0)) u0 in
     let step : ℕ = step_named sc.bindings h1 in
     let ta = term_named sc.bindings p s a1 in
@@ -167,7 +167,7 @@ gone own d to c rest k st =
     passed own to.depth d (Stack d) rest (passed own to.depth to.depth (Jump to.label) (Stack d ∷ rest) s1 refl) refl
 
 -- a command of one word
-one_word : (pay : ℕ) (sc : Scene) (p : Place) (s : Spot) (i l : ℕ) (x : Simple) (d n : ℕ) (c rest : List Stmt) → StandsAt sc.own d rest
+one_word : (pay : ℕ) (sc : Scene) (p : Enclosing) (s : Spot) (i l : ℕ) (x : Simple) (d n : ℕ) (c rest : List Stmt) → StandsAt sc.own d rest
     → ((g : Setting) (env : Environment) → IsAct g sc d env (t.simple l x) (λ y. rest) c rest) → Done pay sc i (t.simple l x) d n (command_named sc.bindings p s (t.simple l x)) c rest
 one_word pay sc p s i l x d n c rest on f = record {
   at = λ y. rest;
@@ -175,7 +175,7 @@ one_word pay sc p s i l x d n c rest on f = record {
   finds = finds_nothing sc.own sc.targets sc.bindings d _;
 }
 
-pub simple_lies : (pay : ℕ) (sc : Scene) (p : Place) (s : Spot) (i l : ℕ) (x : Simple) (d n : ℕ) (c rest : List Stmt) → Doing sc p d → SoundDone sc.bindings p s (t.simple l x)
+pub simple_lies : (pay : ℕ) (sc : Scene) (p : Enclosing) (s : Spot) (i l : ℕ) (x : Simple) (d n : ℕ) (c rest : List Stmt) → Doing sc p d → SoundDone sc.bindings p s (t.simple l x)
     → c ≡ command_code sc.targets sc.around d n (command_named sc.bindings p s (t.simple l x)) ++ rest → StandsAt sc.own d c → Done pay sc i (t.simple l x) d n (command_named sc.bindings p s (t.simple l x)) c rest
 simple_lies pay sc p s i l simple.Break d n c rest a h k st =
     one_word pay sc p s i l simple.Break d n c rest (gone sc.own d sc.around.leaves c rest k st) (λ g env. (k, a.loop h))
@@ -190,13 +190,13 @@ simple_lies pay sc p s i l simple.Finish d n c rest a h k st =
 
 -- blocks with declarations are laid
 abbrev pub BlocksLie : ℕ → Type 0
-BlocksLie pay = (sc : Scene) (p : Place) (s : Spot) (i l : ℕ) (x : Declaration) (xs : Declarations) (cs : Actions) (d n : ℕ) (c rest : List Stmt) → Doing sc p d → SoundDone sc.bindings p s (t.block l (t.declare x xs) cs)
+BlocksLie pay = (sc : Scene) (p : Enclosing) (s : Spot) (i l : ℕ) (x : Declaration) (xs : Declarations) (cs : Actions) (d n : ℕ) (c rest : List Stmt) → Doing sc p d → SoundDone sc.bindings p s (t.block l (t.declare x xs) cs)
     → RegularAction (t.block l (t.declare x xs) cs) → turns_in true (t.block l (t.declare x xs) cs) ≤ pay → FoundParts sc.own sc.targets (parts_in d n (command_named sc.bindings p s (t.block l (t.declare x xs) cs)))
     → c ≡ command_code sc.targets sc.around d n (command_named sc.bindings p s (t.block l (t.declare x xs) cs)) ++ rest → StandsAt sc.own d c
     → Done pay sc i (t.block l (t.declare x xs) cs) d n (command_named sc.bindings p s (t.block l (t.declare x xs) cs)) c rest
 
 mutual
-  pub laid_act : (pay : ℕ) (valofs : ValofsLie pay) (blocks : BlocksLie pay) (sc : Scene) (p : Place) (s : Spot) (i : ℕ) (x : Action) (d n : ℕ) (c rest : List Stmt) → Doing sc p d → SoundDone sc.bindings p s x → RegularAction x → turns_in true x ≤ pay
+  pub laid_act : (pay : ℕ) (valofs : ValofsLie pay) (blocks : BlocksLie pay) (sc : Scene) (p : Enclosing) (s : Spot) (i : ℕ) (x : Action) (d n : ℕ) (c rest : List Stmt) → Doing sc p d → SoundDone sc.bindings p s x → RegularAction x → turns_in true x ≤ pay
       → FoundParts sc.own sc.targets (parts_in d n (command_named sc.bindings p s x)) → c ≡ command_code sc.targets sc.around d n (command_named sc.bindings p s x) ++ rest → StandsAt sc.own d c
       → Done pay sc i x d n (command_named sc.bindings p s x) c rest
   laid_act pay valofs blocks sc p s i t.empty d n c rest a h r m f k st = record {
@@ -218,7 +218,7 @@ mutual
       }
   laid_act pay valofs blocks sc p s i (t.call l e es) d n c rest a h r m f k st =
       let s1 : Spot = spot.behind e s in
-      let z : Place = deeper (size es + 2) p in
+      let z : Enclosing = deeper (size es + 2) p in
       let g1 = call_lies pay sc p s s1 i (CallRoutine d) e es d n c rest a.around f k st
       (λ c1 c2 b0 f0 k0 st0. laid_each pay valofs sc (deeper 2 p) s1 (i + objects e) es (d + 2) (n + labels (term_named sc.bindings z s e)) c1 c2 b0 h.1 r.1 (omega arith) f0 k0 st0)
       (λ c2 b0 f0 k0 st0. laid_code pay valofs sc z s i pushes e (d + 2 + count es) n c2 (CallRoutine d ∷ rest) b0 h.0 r.0 (omega arith) f0 k0 st0) in
@@ -343,7 +343,7 @@ mutual
       }
   laid_act pay valofs blocks sc p s i (t.while l v e a0) d n c rest a h r m f k st =
       let s1 : Spot = spot.behind e s in
-      let p1 : Place = place.looping p in
+      let p1 : Enclosing = place.looping p in
       let ce = condition_named sc.bindings p s e in
       let inside : Scene = in_loop n (n + 2) d sc in
       let k0 = command_named sc.bindings p1 s1 a0 in
@@ -386,7 +386,7 @@ mutual
       (λ c0 r0 doing f0 k0 st0. laid_act pay valofs blocks b.scene b.place b.spot (i + objects a1 + objects b1) a0 (d + 2) b.first c0 r0 doing h.3 r.3 (omega arith) f0 k0 st0)
   laid_act pay valofs blocks sc p s i (t.switch l e a0) d n c rest a h r m f k st =
       let s1 : Spot = spot.behind e s in
-      let p1 : Place = place.switching s1.number p in
+      let p1 : Enclosing = place.switching s1.number p in
       let s2 : Spot = spot.numbered 1 s1 in
       let te = term_named sc.bindings p s e in
       let inside : Scene = in_switch n d sc in
@@ -443,7 +443,7 @@ mutual
       }
   laid_act pay valofs blocks sc p s i (t.block l (t.declare x xs) cs) d n c rest a h r m f k st = blocks sc p s i l x xs cs d n c rest a h r m f k st
   laid_act pay valofs blocks sc p s i (t.repeat l a0) d n c rest a h r m f k st =
-      let p1 : Place = place.looping p in
+      let p1 : Enclosing = place.looping p in
       let inside : Scene = in_loop n (n + 1) d sc in
       let k0 = command_named sc.bindings p1 s a0 in
       let code = command_code sc.targets inside.around d (n + 2) k0 in
@@ -462,7 +462,7 @@ mutual
         finds = record { labels = fd.labels; chosen = fd.chosen; others = fd.others; default = fd.default; no_default = fd.no_default };
       }
   laid_act pay valofs blocks sc p s i (t.repeat_while l v a0 e) d n c rest a h r m f k st =
-      let p1 : Place = place.looping p in
+      let p1 : Enclosing = place.looping p in
       let inside : Scene = in_loop (n + 1) (n + 2) d sc in
       let k0 = command_named sc.bindings p1 s a0 in
       let s1 : Spot = spot.behind_done a0 s in
@@ -501,7 +501,7 @@ mutual
         finds = record { labels = fd.labels; chosen = fd.chosen; others = fd.others; default = fd.default; no_default = fd.no_default };
       }
 
-  pub laid_acts : (pay : ℕ) (valofs : ValofsLie pay) (blocks : BlocksLie pay) (sc : Scene) (p : Place) (s : Spot) (i : ℕ) (cs : Actions) (d n : ℕ) (c rest : List Stmt) → Doing sc p d → SoundDoneEach sc.bindings p s cs → RegularActions cs → turns_through true cs ≤ pay
+  pub laid_acts : (pay : ℕ) (valofs : ValofsLie pay) (blocks : BlocksLie pay) (sc : Scene) (p : Enclosing) (s : Spot) (i : ℕ) (cs : Actions) (d n : ℕ) (c rest : List Stmt) → Doing sc p d → SoundDoneEach sc.bindings p s cs → RegularActions cs → turns_through true cs ≤ pay
       → FoundParts sc.own sc.targets (parts_through d n (commands_named sc.bindings p s cs)) → c ≡ through_code sc.targets sc.around d n (commands_named sc.bindings p s cs) ++ rest → StandsAt sc.own d c
       → DoneEach pay sc i cs d n (commands_named sc.bindings p s cs) c rest
   laid_acts pay valofs blocks sc p s i t.no_actions d n c rest a h r m f k st = record {
@@ -531,7 +531,7 @@ mutual
 -- ---- A VALOF is laid where the scheme puts it, where lighter forms are.
 
 -- a VALOF, whose body weighs less
-pub valof_lies : (pay : ℕ) (valofs : ValofsLie pay) (blocks : BlocksLie pay) (sc : Scene) (p : Place) (s : Spot) (i : ℕ) (aim : Aim) (l : ℕ) (x : Action) (d n : ℕ) (c rest : List Stmt) → Around sc p d
+pub valof_lies : (pay : ℕ) (valofs : ValofsLie pay) (blocks : BlocksLie pay) (sc : Scene) (p : Enclosing) (s : Spot) (i : ℕ) (aim : Aim) (l : ℕ) (x : Action) (d n : ℕ) (c rest : List Stmt) → Around sc p d
     → Sound (role aim) sc.bindings p s (t.valof l x) → Regular (t.valof l x) → turns_of true (t.valof l x) ≤ suc pay → FoundParts sc.own sc.targets (own_parts sc p s d n aim (t.valof l x))
     → c ≡ coded sc p s d n aim (t.valof l x) ++ rest → StandsAt sc.own d c
     → Lies (home sc pay) i (objects_of_action x) (level aim d) rest (own_kinds sc p s n aim (t.valof l x)) (λ ns. of_expression (with_names ns i) (t.valof l x))
@@ -540,7 +540,7 @@ valof_lies pay valofs blocks sc p s i aim l x d n c rest a h r m f k st =
     let k1 = plain_code sc p s d n aim (t.valof l x) c rest refl k in
     let f1 = plain_parts sc p s d n aim (t.valof l x) refl f in
     let s1 : Spot = spot.onward 1 (1 + length (labels_of x)) s in
-    let p1 : Place = place.labelled s.number (place.valued p) in
+    let p1 : Enclosing = place.labelled s.number (place.valued p) in
     let inside : Scene = in_valof n sc in
     let body : Scene = record inside { bindings = labels_in_scope p.procedure (s.number + 1) (labels_of x) sc.bindings } in
     let kx = command_named body.bindings p1 s1 x in

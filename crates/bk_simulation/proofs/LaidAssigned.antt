@@ -1,6 +1,6 @@
 -- What the static side of commands needs: which exits there are, where labels, CASEs and DEFAULTs are found, and scopes. An assignment is laid where the
 -- scheme puts it: its values, and where they are stored, by turns.
-use Rattle.bk_simulation.proofs.Words.{◌≡◌, ℕ, suc, ◌+◌, ◌<◌, ◌≤◌, ◌^◌, ◌==◌, Bool, true, false, ◌||◌, List, [], ◌∷◌, ◌++◌, length, Option, Some, None, cond, refl, sym, ap, ◌∙◌, subst, arith, append_assoc, append-nil, drop, if◌then◌else◌, eqb-true, eq-eqb, ne_eqb, false≢true, bytes_eq-Decides, bytes_eq, signed, Expressions, Action, Actions, Place, Binding, bound_in, bind, labels_of, labels_of_each, labels_in_scope, GoesTo, Placed, from_label, case_label, Case, Stmt, Label, label_has_one_place, Goal, Target, Command, Commands, meant, worth, target_of_label, goal_in, cases, cases_through, default_in, default_through, first_of, label_or, Named, Sense, label, bind_each, labelled, objects_of_each, objects_of_action, objects_of_actions, Sought, the_label, the_case, the_default, same_place, stands_in, stands_in_one, alone, AllFound, of_each, of_action, of_actions, in_scope, FRAME_WORDS, line_of, size, Destination, deeper, SoundEach, SoundDestinations, Spot, labels, labels_at, term_named, terms_named, lvalue_named, lvalues_named, parts, parts_at, parts_onto, parts_from, value_code, store_code, value_codes, store_codes, by_turns, objects, of_expression}
+use Rattle.bk_simulation.proofs.Words.{◌≡◌, ℕ, suc, ◌+◌, ◌<◌, ◌≤◌, ◌^◌, ◌==◌, Bool, true, false, ◌||◌, List, [], ◌∷◌, ◌++◌, length, Option, Some, None, cond, refl, sym, ap, ◌∙◌, subst, arith, append_assoc, append-nil, drop, if◌then◌else◌, eqb-true, eq-eqb, ne_eqb, false≢true, bytes_eq-Decides, bytes_eq, signed, Expressions, Action, Actions, Enclosing, Binding, bound_in, bind, labels_of, labels_of_each, labels_in_scope, GoesTo, Placed, from_label, case_label, Case, Stmt, Label, label_has_one_place, Goal, Target, Command, Commands, meant, worth, target_of_label, goal_in, cases, cases_through, default_in, default_through, first_of, label_or, Named, Sense, label, bind_each, labelled, objects_of_each, objects_of_action, objects_of_actions, Sought, the_label, the_case, the_default, same_place, stands_in, stands_in_one, alone, AllFound, of_each, of_action, of_actions, in_scope, FRAME_WORDS, line_of, size, Destination, deeper, SoundEach, SoundDestinations, Spot, labels, labels_at, term_named, terms_named, lvalue_named, lvalues_named, parts, parts_at, parts_onto, parts_from, value_code, store_code, value_codes, store_codes, by_turns, objects, of_expression}
 use Rattle.bk_simulation.proofs.Weights.{turns_in, turns_among}
 use Rattle.bk_simulation.proofs.Operators.{same_number}
 use Rattle.bk_simulation.proofs.Sought.{with_names, label_stands}
@@ -18,7 +18,7 @@ use Rattle.bk_tree.specs.Tree as t
 use Rattle.bk_scope.specs.Spots as spot
 
 -- What stands around a command: an expression's, and the exits that there are.
-pub record Doing (sc : Scene) (p : Place) (d : ℕ) : Type 0 where
+pub record Doing (sc : Scene) (p : Enclosing) (d : ℕ) : Type 0 where
   pub around : Around sc p d
   pub loop : p.in_loop ≡ true → sc.exits.loop ≡ true
   pub switch : p.in_switch ≡ true → sc.exits.switch ≡ true
@@ -72,10 +72,10 @@ pub record Turns (pay : ℕ) (sc : Scene) (i j : ℕ) (xs es : Expressions) (d :
   pub stores : Bases (home sc pay) i (objects_of_each xs) stored (λ ns. of_each (with_names ns i) xs) (InNames sc.bindings i (λ g env. AreStores g sc (d + 1) env xs ss))
   pub turns : ByTurns xs es vs ss c rest
 
-pub doing_loop : (sc : Scene) (p : Place) (d n m e : ℕ) → Doing sc p d → Doing (in_loop n m e sc) (place.looping p) d
+pub doing_loop : (sc : Scene) (p : Enclosing) (d n m e : ℕ) → Doing sc p d → Doing (in_loop n m e sc) (place.looping p) d
 doing_loop sc p d n m e a = record { around = record { same = a.around.same; at = a.around.at; words = a.around.words }; loop = λ h. refl; switch = a.switch; valof = a.valof }
 
-pub doing_switch : (sc : Scene) (p : Place) (d n e m : ℕ) → Doing sc p d → Doing (in_switch n e sc) (place.switching m p) d
+pub doing_switch : (sc : Scene) (p : Enclosing) (d n e m : ℕ) → Doing sc p d → Doing (in_switch n e sc) (place.switching m p) d
 doing_switch sc p d n e m a = record { around = record { same = a.around.same; at = a.around.at; words = a.around.words }; loop = a.loop; switch = λ h. refl; valof = a.valof }
 
 -- ---- labels
@@ -111,17 +111,17 @@ same_letters x y e = (bytes_eq-Decides x y).0 e
 
 -- ---- CASEs
 
-same_way : (v w : ℕ) → (w == v) ≡ true → (v == w) ≡ true
-same_way v w e = let h : w ≡ v = eqb-true w v e in eq-eqb v w (sym h)
+same_evaluation : (v w : ℕ) → (w == v) ≡ true → (v == w) ≡ true
+same_evaluation v w e = let h : w ≡ v = eqb-true w v e in eq-eqb v w (sym h)
 
-apart_way : (v w : ℕ) → (w == v) ≡ false → (v == w) ≡ false
-apart_way v w e = ne_eqb v w (λ h. absurd (false≢true (sym e ∙ eq-eqb w v (sym h))))
+apart_evaluation : (v w : ℕ) → (w == v) ≡ false → (v == w) ≡ false
+apart_evaluation v w e = ne_eqb v w (λ h. absurd (false≢true (sym e ∙ eq-eqb w v (sym h))))
 
 pub first_case : (v w l other : ℕ) (more : List Case) → (w == v) ≡ true → v < 2 ^ 32 → case_label (record { value = signed v; label = l } ∷ more) other w ≡ l
-first_case v w l other more e low = ap (λ y. if y == w then l else case_label more other w) (same_number v low) ∙ ap (λ y. if y then l else case_label more other w) (same_way v w e)
+first_case v w l other more e low = ap (λ y. if y == w then l else case_label more other w) (same_number v low) ∙ ap (λ y. if y then l else case_label more other w) (same_evaluation v w e)
 
 pub later_case : (v w l other : ℕ) (more : List Case) → (w == v) ≡ false → v < 2 ^ 32 → case_label (record { value = signed v; label = l } ∷ more) other w ≡ case_label more other w
-later_case v w l other more e low = ap (λ y. if y == w then l else case_label more other w) (same_number v low) ∙ ap (λ y. if y then l else case_label more other w) (apart_way v w e)
+later_case v w l other more e low = ap (λ y. if y == w then l else case_label more other w) (same_number v low) ∙ ap (λ y. if y then l else case_label more other w) (apart_evaluation v w e)
 
 both_false : (q r : Bool) → (q || r) ≡ false → (q ≡ false) × (r ≡ false)
 both_false true r e = absurd (false≢true (sym e))
@@ -256,13 +256,13 @@ alone_lies pay sc i a d n k c rest j q same size done =
     }
 
 -- the values of an assignment, each where it may stand; and where they are stored
-abbrev LaidFroms : ℕ → Scene → Place → Spot → ℕ → Expressions → ℕ → ℕ → Type 0
+abbrev LaidFroms : ℕ → Scene → Enclosing → Spot → ℕ → Expressions → ℕ → ℕ → Type 0
 LaidFroms pay sc v u j t.none d k = Unit {0}
 LaidFroms pay sc v u j (t.more e es) d k =
     ((c c1 : List Stmt) → c ≡ value_code sc.targets d k (term_named sc.bindings v u e) ++ c1 → StandsAt sc.own d c → Lies (home sc pay) j (objects e) (d + 1) c1 (kinds k (term_named sc.bindings v u e)) (λ ns. of_expression (with_names ns j) e) (InNames sc.bindings j (λ g env. IsCode g sc d env pushes e c c1)))
     × LaidFroms pay sc (deeper 0 v) (spot.behind e u) (j + objects e) es d (k + labels (term_named sc.bindings v u e))
 
-abbrev LaidStores : ℕ → Scene → Place → Spot → ℕ → Expressions → ℕ → ℕ → Type 0
+abbrev LaidStores : ℕ → Scene → Enclosing → Spot → ℕ → Expressions → ℕ → ℕ → Type 0
 LaidStores pay sc p s i t.none d n = Unit {0}
 LaidStores pay sc p s i (t.more x xs) d n =
     ((c c1 : List Stmt) → d + 1 ≤ FRAME_WORDS → c ≡ store_code sc.targets (d + 1) n (lvalue_named sc.bindings (deeper 1 p) s x) ++ c1 → StandsAt sc.own (d + 1) c
@@ -270,7 +270,7 @@ LaidStores pay sc p s i (t.more x xs) d n =
     × LaidStores pay sc p (spot.behind x s) (i + objects x) xs d (n + labels_at (lvalue_named sc.bindings (deeper 1 p) s x))
 
 -- an assignment: values and where they are stored, by turns
-pub turns_lie : (pay : ℕ) (sc : Scene) (p v : Place) (s u : Spot) (i j : ℕ) (xs es : Expressions) (d n k : ℕ) (c rest : List Stmt) → size xs ≡ size es → LaidStores pay sc p s i xs d n → LaidFroms pay sc v u j es d k
+pub turns_lie : (pay : ℕ) (sc : Scene) (p v : Enclosing) (s u : Spot) (i j : ℕ) (xs es : Expressions) (d n k : ℕ) (c rest : List Stmt) → size xs ≡ size es → LaidStores pay sc p s i xs d n → LaidFroms pay sc v u j es d k
     → c ≡ by_turns (value_codes sc.targets d k (terms_named 0 sc.bindings v u es)) (store_codes sc.targets (d + 1) n (lvalues_named sc.bindings (deeper 1 p) s xs)) ++ rest → StandsAt sc.own d c
     → Turns pay sc i j xs es d c rest (kinds_onto n (lvalues_named sc.bindings (deeper 1 p) s xs)) (kinds_each k (terms_named 0 sc.bindings v u es))
 turns_lie pay sc p v s u i j t.none t.none d n k c rest same hx he e st =
@@ -299,7 +299,7 @@ turns_lie pay sc p v s u i j (t.more x xs) (t.more e0 es) d n k c rest same hx h
     }
 
 -- the values of an assignment, and where they are stored, each where it may stand
-pub laid_froms : (pay : ℕ) (valofs : ValofsLie pay) (sc : Scene) (v : Place) (u : Spot) (j : ℕ) (es : Expressions) (d k : ℕ) → d ≤ FRAME_WORDS → Around sc v d → SoundEach 0 sc.bindings v u es → RegularEach es → turns_among true es ≤ pay
+pub laid_froms : (pay : ℕ) (valofs : ValofsLie pay) (sc : Scene) (v : Enclosing) (u : Spot) (j : ℕ) (es : Expressions) (d k : ℕ) → d ≤ FRAME_WORDS → Around sc v d → SoundEach 0 sc.bindings v u es → RegularEach es → turns_among true es ≤ pay
     → FoundParts sc.own sc.targets (parts_from d k (terms_named 0 sc.bindings v u es)) → LaidFroms pay sc v u j es d k
 laid_froms pay valofs sc v u j t.none d k low a h r m f = tt
 laid_froms pay valofs sc v u j (t.more e es) d k low a h r m f =
@@ -308,7 +308,7 @@ laid_froms pay valofs sc v u j (t.more e es) d k low a h r m f =
       laid_froms pay valofs sc (deeper 0 v) (spot.behind e u) (j + objects e) es d (k + labels te) low (around_deeper sc v d 0 d (omega arith) low a) h.1 r.1 (omega arith) (found_back sc.own sc.targets (parts d k te) _ f),
     )
 
-pub laid_stores : (pay : ℕ) (valofs : ValofsLie pay) (sc : Scene) (p : Place) (s : Spot) (i : ℕ) (xs : Expressions) (d n : ℕ) → Around sc p d → SoundDestinations sc.bindings (deeper 1 p) s xs → RegularEach xs → turns_among true xs ≤ pay
+pub laid_stores : (pay : ℕ) (valofs : ValofsLie pay) (sc : Scene) (p : Enclosing) (s : Spot) (i : ℕ) (xs : Expressions) (d n : ℕ) → Around sc p d → SoundDestinations sc.bindings (deeper 1 p) s xs → RegularEach xs → turns_among true xs ≤ pay
     → FoundParts sc.own sc.targets (parts_onto (d + 1) n (lvalues_named sc.bindings (deeper 1 p) s xs)) → LaidStores pay sc p s i xs d n
 laid_stores pay valofs sc p s i t.none d n a h r m f = tt
 laid_stores pay valofs sc p s i (t.more x xs) d n a h r m f =

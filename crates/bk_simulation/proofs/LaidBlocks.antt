@@ -1,5 +1,5 @@
 -- Blocks with declarations are laid where the scheme puts them, and so each form is.
-use Rattle.bk_simulation.proofs.Words.{false, ◌≡◌, ℕ, zero, suc, ◌+◌, ◌≤◌, true, List, [], ◌∷◌, ◌++◌, length, refl, sym, ap, ◌∙◌, subst, arith, Actions, Declaration, Declarations, Place, labels_of_each, Binding, labels_in_scope, scope_behind, place_behind_all, SoundDone, Spot, behind_declared, Stmt, Stack, Command, Commands, behind_declarations, labels_of_declarations, command_named, commands_named, declarations_named, parts_in, parts_of_declarations, command_code, through_code, declarations_code, Named, label, bind_each, labelled, objects_of_actions, objects_of_declarations, Sought, the_label, stands_in_one, Lasting, of_action, of_actions, of_declarations, all_declared}
+use Rattle.bk_simulation.proofs.Words.{false, ◌≡◌, ℕ, zero, suc, ◌+◌, ◌≤◌, true, List, [], ◌∷◌, ◌++◌, length, refl, sym, ap, ◌∙◌, subst, arith, Actions, Declaration, Declarations, Enclosing, labels_of_each, Binding, labels_in_scope, scope_behind, place_behind_all, SoundDone, Spot, behind_declared, Stmt, Stack, Command, Commands, behind_declarations, labels_of_declarations, command_named, commands_named, declarations_named, parts_in, parts_of_declarations, command_code, through_code, declarations_code, Named, label, bind_each, labelled, objects_of_actions, objects_of_declarations, Sought, the_label, stands_in_one, Lasting, of_action, of_actions, of_declarations, all_declared}
 use Rattle.bk_tree.specs.Tree as t
 use Rattle.bk_scope.specs.Places as place
 use Rattle.bk_scope.specs.Spots as spot
@@ -49,7 +49,7 @@ InBlock d cs rest g sc1 d1 env1 c1 =
     (j : ℕ) × (at1 : Sought → List Stmt) × AreActs g (owning j cs sc1) d1 (labelled cs env1) cs at1 c1 (Stack d ∷ rest) × (turns_through false cs ≤ g.pay)
     × ((x : List ℕ) → stands_in_one (the_label x) env1 cs ≡ true → LeadsTo (owning j cs sc1) d1 x (at1 (the_label x)))
 
-block_lies : (pay : ℕ) (valofs : ValofsLie pay) (blocks : BlocksLie pay) (sc : Scene) (p : Place) (s : Spot) (i l : ℕ) (x : Declaration) (xs : Declarations) (cs : Actions) (d n : ℕ) (c rest : List Stmt) → Doing sc p d
+block_lies : (pay : ℕ) (valofs : ValofsLie pay) (blocks : BlocksLie pay) (sc : Scene) (p : Enclosing) (s : Spot) (i l : ℕ) (x : Declaration) (xs : Declarations) (cs : Actions) (d n : ℕ) (c rest : List Stmt) → Doing sc p d
     → SoundDone sc.bindings p s (t.block l (t.declare x xs) cs) → RegularAction (t.block l (t.declare x xs) cs) → turns_in true (t.block l (t.declare x xs) cs) ≤ suc pay
     → FoundParts sc.own sc.targets (parts_in d n (command_named sc.bindings p s (t.block l (t.declare x xs) cs)))
     → c ≡ command_code sc.targets sc.around d n (command_named sc.bindings p s (t.block l (t.declare x xs) cs)) ++ rest → StandsAt sc.own d c
@@ -59,13 +59,13 @@ block_lies pay valofs blocks sc p s i l x xs cs d n c rest a h r m f k st =
     let named = declarations_named sc.bindings p s hs in
     let u : Spot = behind_declared hs s in
     let bs : List Binding = scope_behind sc.bindings p s hs in
-    let p1 : Place = place_behind_all sc.bindings p s hs in
+    let p1 : Enclosing = place_behind_all sc.bindings p s hs in
     let d1 : ℕ = behind_declarations d named in
     let n1 : ℕ = n + labels_of_declarations named in
     let i1 : ℕ = i + objects_of_declarations hs in
     let sc1 : Scene = record sc { bindings = bs } in
     let within : Scene = record sc { bindings = labels_in_scope p.procedure (u.number + 1) (labels_of_each cs) bs } in
-    let p2 : Place = place.labelled u.number p1 in
+    let p2 : Enclosing = place.labelled u.number p1 in
     let s2 : Spot = spot.numbered (1 + length (labels_of_each cs)) u in
     let ks = commands_named within.bindings p2 s2 cs in
     let first = declarations_code sc.targets d n named in

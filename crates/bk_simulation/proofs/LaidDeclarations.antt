@@ -1,5 +1,5 @@
 -- Declarations are laid where the scheme puts them, before what is laid in their scope: MANIFEST, STATIC, GLOBAL and LET.
-use Rattle.bk_simulation.proofs.Words.{◌≡◌, ℕ, ◌+◌, ◌<◌, ◌≤◌, Bool, true, false, List, [], ◌∷◌, ◌++◌, cond, refl, sym, ap, ◌∙◌, subst, arith, append_assoc, length, Option, Some, None, le-ltb, suc, ◌^◌, slice_get, Sort, Items, Declaration, Declarations, Definitions, Expression, Starts, Place, Binding, bind_all, bound_in, procedures_in_scope, manifests_in_scope, statics_in_scope, globals_in_scope, place_behind_defined, scope_behind_one, place_behind_one, scope_behind, place_behind_all, labels_in_scope, SoundDeclared, SoundOneDeclared, SoundStarted, SoundDefined, HasWord, StaticsSound, Spot, procedures_in, behind_one_declared, Stmt, Store, Address, Stack, DataLabel, DataNumber, behind_definitions, behind_declaration, behind_declarations, has_variables, behind_starts, labels_of_declaration, labels, labels_of_procedure, labels_of_definition, definitions_named, declaration_named, declarations_named, meant, term_named, worth, starts_named, definition_named, statics_named, parts_of_definitions, parts_of_declaration, parts_of_declarations, parts, parts_of_starts, parts_of_definition, parts_of_items, outermost, definitions_code, declaration_code, declarations_code, value_code, starts_code, goal, goal_of, Around as Surroundings, Named, Environment, bind_procedures, within_let, objects_of_definitions, objects_of_declaration, objects_of_declarations, objects, objects_of_action, objects_of_starts, count, constant_in, Lasting, declared, all_declared, of_items, of_declaration, of_declarations, of_definitions, of_starts, command, expression, words, static_words, VEC_NUMBER, constant_word, labels_of, with_formals, within, words_of_vector, words_of_start, place_behind, deeper, Local, unwrap_or, signed, Placed, item_words, Goal}
+use Rattle.bk_simulation.proofs.Words.{◌≡◌, ℕ, ◌+◌, ◌<◌, ◌≤◌, Bool, true, false, List, [], ◌∷◌, ◌++◌, cond, refl, sym, ap, ◌∙◌, subst, arith, append_assoc, length, Option, Some, None, le-ltb, suc, ◌^◌, slice_get, Sort, Items, Declaration, Declarations, Definitions, Expression, Starts, Enclosing, Binding, bind_all, bound_in, procedures_in_scope, manifests_in_scope, statics_in_scope, globals_in_scope, place_behind_defined, scope_behind_one, place_behind_one, scope_behind, place_behind_all, labels_in_scope, SoundDeclared, SoundOneDeclared, SoundStarted, SoundDefined, HasWord, StaticsSound, Spot, procedures_in, behind_one_declared, Stmt, Store, Address, Stack, DataLabel, DataNumber, behind_definitions, behind_declaration, behind_declarations, has_variables, behind_starts, labels_of_declaration, labels, labels_of_procedure, labels_of_definition, definitions_named, declaration_named, declarations_named, meant, term_named, worth, starts_named, definition_named, statics_named, parts_of_definitions, parts_of_declaration, parts_of_declarations, parts, parts_of_starts, parts_of_definition, parts_of_items, outermost, definitions_code, declaration_code, declarations_code, value_code, starts_code, goal, goal_of, Around as Surroundings, Named, Environment, bind_procedures, within_let, objects_of_definitions, objects_of_declaration, objects_of_declarations, objects, objects_of_action, objects_of_starts, count, constant_in, Lasting, declared, all_declared, of_items, of_declaration, of_declarations, of_definitions, of_starts, command, expression, words, static_words, VEC_NUMBER, constant_word, labels_of, with_formals, within, words_of_vector, words_of_start, place_behind, deeper, Local, unwrap_or, signed, Placed, item_words, Goal}
 use Rattle.bk_tree.specs.declared.tree.Sort.TheVariants as sort
 use Rattle.bk_tree.specs.Tree as t
 use Rattle.bk_scope.specs.Spots as spot
@@ -77,7 +77,7 @@ vector_words : (bs : List Binding) (e : Expression) (k : ℕ) → constant_word 
 vector_words bs e k h low = within_most VEC_NUMBER (constant_word bs e) k h low
 
 -- the values that variables begin with
-pub laid_starts : (pay : ℕ) (valofs : ValofsLie pay) (sc : Scene) (p : Place) (s : Spot) (i : ℕ) (is : Starts) (d n : ℕ) (c rest : List Stmt) → Around sc p d → SoundStarted sc.bindings p s is → RegularStarts is → turns_started true is ≤ pay
+pub laid_starts : (pay : ℕ) (valofs : ValofsLie pay) (sc : Scene) (p : Enclosing) (s : Spot) (i : ℕ) (is : Starts) (d n : ℕ) (c rest : List Stmt) → Around sc p d → SoundStarted sc.bindings p s is → RegularStarts is → turns_started true is ≤ pay
     → FoundParts sc.own sc.targets (parts_of_starts d n (starts_named sc.bindings p s is)) → c ≡ starts_code sc.targets d n (starts_named sc.bindings p s is) ++ rest → StandsAt sc.own d c
     → Lies (home sc pay) i (objects_of_starts is) (behind_starts d (starts_named sc.bindings p s is)) rest (kinds_of_starts n (starts_named sc.bindings p s is)) (λ ns. of_starts (with_names ns i) is)
     (InNames sc.bindings i (λ g env. AreStarts g sc d env is c rest (behind_starts d (starts_named sc.bindings p s is)) (slots_of sc.bindings d is)))
@@ -102,7 +102,7 @@ laid_starts pay valofs sc p s i (t.vector l e is) d n c rest a h r m f k st =
     let is_size : constant_word sc.bindings e ≡ Some size = h.0.1 ∙ ap (λ y. Some (worth y)) (sym h.0.1) in
     let low : size ≤ VEC_NUMBER = subst (λ y. worth y ≤ VEC_NUMBER) (sym h.0.1) h.0.2 in
     let words = vector_words sc.bindings e size is_size low in
-    let p1 : Place = deeper (words_of_start sc.bindings e + 1) p in
+    let p1 : Enclosing = deeper (words_of_start sc.bindings e + 1) p in
     let s1 : Spot = spot.behind_constant e s in
     let others = starts_code sc.targets (d + size + 2) n (starts_named sc.bindings p1 s1 is) in
     let c0 = others ++ rest in
@@ -118,7 +118,7 @@ laid_starts pay valofs sc p s i (t.vector l e is) d n c rest a h r m f k st =
     )
 
 -- the definitions of a LET: values, and procedures that stand elsewhere in the section
-pub laid_defined : (pay : ℕ) (valofs : ValofsLie pay) (blocks : BlocksLie pay) (sc : Scene) (p : Place) (s : Spot) (i : ℕ) (ds : Definitions) (d n : ℕ) (c rest : List Stmt) → Around sc p d → SoundDefined sc.bindings p s ds → RegularDefinitions ds → turns_defined true ds ≤ pay
+pub laid_defined : (pay : ℕ) (valofs : ValofsLie pay) (blocks : BlocksLie pay) (sc : Scene) (p : Enclosing) (s : Spot) (i : ℕ) (ds : Definitions) (d n : ℕ) (c rest : List Stmt) → Around sc p d → SoundDefined sc.bindings p s ds → RegularDefinitions ds → turns_defined true ds ≤ pay
     → FoundParts sc.own sc.targets (parts_of_definitions d n (definitions_named sc.bindings p s ds)) → c ≡ definitions_code sc.targets d n (definitions_named sc.bindings p s ds) ++ rest → StandsAt sc.own d c
     → Lies (home sc pay) i (objects_of_definitions ds) (behind_definitions d (definitions_named sc.bindings p s ds)) rest (kinds_of_definitions n (definitions_named sc.bindings p s ds)) (λ ns. of_definitions (with_names ns i) ds)
     (λ g. WordsBased g.lasting sc.own sc.bindings p s i n ds
@@ -129,7 +129,7 @@ laid_defined pay valofs blocks sc p s i (t.define (t.routine l x fs a0) ds) d n 
     let s1 : Spot = spot.behind_one_defined (t.routine l x fs a0) s in
     let own_found = found_front sc.own sc.targets (parts_of_definition d n one) _ f in
     let code = own_found.0.1 in
-    let p2 : Place = place.labelled (s.number + 1) (place.called true s.number (length fs)) in
+    let p2 : Enclosing = place.labelled (s.number + 1) (place.called true s.number (length fs)) in
     let s2 : Spot = spot.onward (1 + length fs) (2 + length (labels_of a0)) s in
     let inner = with_formals s.number 2 fs sc.bindings in
     let within : Scene = record (scene_of sc.section sc.own sc.targets inner s.number) { bindings = labels_in_scope s.number (s.number + 2) (labels_of a0) inner } in
@@ -144,7 +144,7 @@ laid_defined pay valofs blocks sc p s i (t.define (t.function l x fs e) ds) d n 
     let s1 : Spot = spot.behind_one_defined (t.function l x fs e) s in
     let own_found = found_front sc.own sc.targets (parts_of_definition d n one) _ f in
     let code = own_found.0.1 in
-    let p2 : Place = place.called false s.number (length fs) in
+    let p2 : Enclosing = place.called false s.number (length fs) in
     let s2 : Spot = spot.onward (1 + length fs) 1 s in
     let inner = with_formals s.number 2 fs sc.bindings in
     let within : Scene = scene_of sc.section sc.own sc.targets inner s.number in
@@ -157,7 +157,7 @@ laid_defined pay valofs blocks sc p s i (t.define (t.function l x fs e) ds) d n 
 laid_defined pay valofs blocks sc p s i (t.define (t.variables l xs is) ds) d n c rest a h r m f k st =
     let one = definition_named sc.bindings p s (t.variables l xs is) in
     let named = starts_named sc.bindings p (spot.past (length xs) s) is in
-    let p1 : Place = place_behind sc.bindings p is in
+    let p1 : Enclosing = place_behind sc.bindings p is in
     let s1 : Spot = spot.behind_one_defined (t.variables l xs is) s in
     let d0 = behind_starts d named in
     let n0 = n + labels_of_definition one in
@@ -212,7 +212,7 @@ constants_then pay sc l o is i d many c bs L Then P names own others =
     let w = names g v.0.0 v.0.1 sc.procedure sc.around sc.exits ns u in
     (bs, w.renames, subst (λ j. Then g (record sc { bindings = bs }) d (with_names (declared x (with_names ns i)).names j) c) (sym (next_declared x (with_names ns i))) (v.1 (declared x (with_names ns i)).names w.agree))) both
 
-pub constants_bases : (pay : ℕ) (sc : Scene) (p : Place) (s : Spot) (l : ℕ) (o : Sort) (is : Items) (i d n many : ℕ) (c : List Stmt) {qs : List Kind} (L : List Named → List Lasting) (Then : Later) → HasWords sc.bindings
+pub constants_bases : (pay : ℕ) (sc : Scene) (p : Enclosing) (s : Spot) (l : ℕ) (o : Sort) (is : Items) (i d n many : ℕ) (c : List Stmt) {qs : List Kind} (L : List Named → List Lasting) (Then : Later) → HasWords sc.bindings
     → SoundOneDeclared sc.bindings p s (t.constants l o is) → RegularItems is → FoundParts sc.own sc.targets (parts_of_declaration d n (declaration_named sc.bindings p s (t.constants l o is)))
     → Bases (record (home sc pay) { bindings = scope_behind_one sc.bindings p s (t.constants l o is) }) (i + objects_of_declaration (t.constants l o is)) many qs L
     (LaidLater Then sc (scope_behind_one sc.bindings p s (t.constants l o is)) d (i + objects_of_declaration (t.constants l o is)) c)
@@ -230,7 +230,7 @@ constants_bases pay sc p s l sort.Global is i d n many c L Then w h r f b =
 
 -- ---- LET
 
-variables_here : (bs : List Binding) (p : Place) (s : Spot) (ds : Definitions) → has_variables (definitions_named bs p s ds) ≡ defines_variables ds
+variables_here : (bs : List Binding) (p : Enclosing) (s : Spot) (ds : Definitions) → has_variables (definitions_named bs p s ds) ≡ defines_variables ds
 variables_here bs p s (t.define (t.routine l x fs c) ds) = variables_here bs p (spot.behind_one_defined (t.routine l x fs c) s) ds
 variables_here bs p s (t.define (t.function l x fs e) ds) = variables_here bs p (spot.behind_one_defined (t.function l x fs e) s) ds
 variables_here bs p s _ = refl
@@ -251,22 +251,22 @@ inner sc s ds = record sc { bindings = procedures_in_scope (s.number + 1) ds sc.
 abbrev pub first_defined : Spot → Definitions → Spot
 first_defined s ds = spot.numbered (1 + procedures_in ds) s
 
-abbrev slots_here : Scene → Place → Spot → ℕ → Definitions → List Slot
+abbrev slots_here : Scene → Enclosing → Spot → ℕ → Definitions → List Slot
 slots_here sc p s d ds = spots_in (inner sc s ds).bindings p (first_defined s ds) d ds
 
-abbrev pub depth_here : Scene → Place → Spot → ℕ → Definitions → ℕ
+abbrev pub depth_here : Scene → Enclosing → Spot → ℕ → Definitions → ℕ
 depth_here sc p s d ds = behind_definitions d (definitions_named (inner sc s ds).bindings p (first_defined s ds) ds)
 
-abbrev behind_let : Scene → Place → Spot → ℕ → Definitions → List Stmt → List Stmt
+abbrev behind_let : Scene → Enclosing → Spot → ℕ → Definitions → List Stmt → List Stmt
 behind_let sc p s d ds c = cond (has_variables (definitions_named (inner sc s ds).bindings p (first_defined s ds) ds)) (Store ∷ []) [] ++ c
 
 -- the definitions, and the bases of procedures
-abbrev DefinedHere : Scene → Place → Spot → ℕ → ℕ → ℕ → Definitions → List Stmt → List Stmt → Setting → Type 0
+abbrev DefinedHere : Scene → Enclosing → Spot → ℕ → ℕ → ℕ → Definitions → List Stmt → List Stmt → Setting → Type 0
 DefinedHere sc p s i n d ds c c0 g =
     WordsBased g.lasting sc.own (inner sc s ds).bindings p (first_defined s ds) i n ds
     × InNames (inner sc s ds).bindings i (λ g env. AreDefined g (inner sc s ds) d env ds c c0 (depth_here sc p s d ds) (slots_here sc p s d ds)) g
 
-definitions_lie : (pay : ℕ) (valofs : ValofsLie pay) (blocks : BlocksLie pay) (sc : Scene) (p : Place) (s : Spot) (i l : ℕ) (ds : Definitions) (d n : ℕ) (c c1 : List Stmt) → Around sc p d → SoundOneDeclared sc.bindings p s (t.definitions l ds)
+definitions_lie : (pay : ℕ) (valofs : ValofsLie pay) (blocks : BlocksLie pay) (sc : Scene) (p : Enclosing) (s : Spot) (i l : ℕ) (ds : Definitions) (d n : ℕ) (c c1 : List Stmt) → Around sc p d → SoundOneDeclared sc.bindings p s (t.definitions l ds)
     → RegularDefinitions ds → turns_defined true ds ≤ pay → FoundParts sc.own sc.targets (parts_of_declaration d n (declaration_named sc.bindings p s (t.definitions l ds)))
     → c ≡ declaration_code sc.targets d n (declaration_named sc.bindings p s (t.definitions l ds)) ++ c1 → StandsAt sc.own d c
     → Lies (home (inner sc s ds) pay) i (objects_of_definitions ds) (depth_here sc p s d ds) (behind_let sc p s d ds c1) (kinds_of_definitions n (definitions_named (inner sc s ds).bindings p (first_defined s ds) ds)) (λ ns. of_definitions (with_names ns i) ds) (DefinedHere sc p s i n d ds c (behind_let sc p s d ds c1))
@@ -278,7 +278,7 @@ definitions_lie pay valofs blocks sc p s i l ds d n c c1 a h r m f k st =
     (joined_two (definitions_code sc.targets d n named) (cond (has_variables named) (Store ∷ []) []) c1 c k) st
 
 -- what stands around code behind a LET
-exits_same : (p r : Place) → (r.in_loop ≡ p.in_loop) × (r.in_switch ≡ p.in_switch) × (r.in_valof ≡ p.in_valof) → (sc : Scene) (bs : List Binding) (d e : ℕ) → Doing sc p d → r.procedure ≡ p.procedure → r.depth ≡ e → HasWords bs
+exits_same : (p r : Enclosing) → (r.in_loop ≡ p.in_loop) × (r.in_switch ≡ p.in_switch) × (r.in_valof ≡ p.in_valof) → (sc : Scene) (bs : List Binding) (d e : ℕ) → Doing sc p d → r.procedure ≡ p.procedure → r.depth ≡ e → HasWords bs
     → Doing (record sc { bindings = bs }) r e
 exits_same p r x sc bs d e a same at w = record {
   around = record { same = same ∙ a.around.same; at = at; words = w };
@@ -288,7 +288,7 @@ exits_same p r x sc bs d e a same at w = record {
 }
 
 -- the names of the procedures, in some procedure of the scope
-procedures_mean : (sc : Scene) (p : Place) (s : Spot) (i n d : ℕ) (ds : Definitions) (c c0 : List Stmt) (g : Setting) (k : ℕ) (a : Surroundings) (e : Exits) (ns : List Named) → 0 < i → DefinedHere sc p s i n d ds c c0 g
+procedures_mean : (sc : Scene) (p : Enclosing) (s : Spot) (i n d : ℕ) (ds : Definitions) (c c0 : List Stmt) (g : Setting) (k : ℕ) (a : Surroundings) (e : Exits) (ns : List Named) → 0 < i → DefinedHere sc p s i n d ds c c0 g
     → FoundParts sc.own sc.targets (parts_of_definitions d n (definitions_named (inner sc s ds).bindings p (first_defined s ds) ds)) → Agree ns sc.bindings
     → Agree (bind_procedures ds (with_names ns i)).names (inner sc s ds).bindings × Renames g (elsewhere sc k a e) (with_names ns i) (inner sc s ds).bindings (within_let ds (with_names ns i))
 procedures_mean sc p s i n d ds c c0 g k a e ns some v f u =
@@ -298,7 +298,7 @@ procedures_mean sc p s i n d ds c c0 g k a e ns some v f u =
     (z.agree, (z.keeps, λ bases frame grown r. record { each = (z.means based bases frame grown r).each }))
 
 -- the names behind a LET, before the run
-let_after : (sc : Scene) (p : Place) (s : Spot) (i l d : ℕ) (ds : Definitions) (g : Setting) (k q : ℕ) (ns : List Named) → RegularDefinitions ds → Agree (bind_procedures ds (with_names ns i)).names (inner sc s ds).bindings
+let_after : (sc : Scene) (p : Enclosing) (s : Spot) (i l d : ℕ) (ds : Definitions) (g : Setting) (k q : ℕ) (ns : List Named) → RegularDefinitions ds → Agree (bind_procedures ds (with_names ns i)).names (inner sc s ds).bindings
     → Agree (declared (t.definitions l ds) (with_names ns i)).names (bind_all (from_spots q (slots_here sc p s d ds)) (inner sc s ds).bindings)
     × ((bases : List ℕ) (frame : ℕ) → NamedIn (there_in (home (inner sc s ds) 0) k) (with_names (bind_procedures ds (with_names ns i)).names 0) bases frame
     → NamedIn (there_in (home (record sc { bindings = bind_all (from_spots q (slots_here sc p s d ds)) (inner sc s ds).bindings }) 0) k) (with_names (declared (t.definitions l ds) (with_names ns i)).names 0) bases frame)
@@ -317,7 +317,7 @@ let_after sc p s i l d ds g k q ns r u =
     )
 
 -- a LET, and what is laid behind it
-pub let_bases : (pay : ℕ) (valofs : ValofsLie pay) (blocks : BlocksLie pay) (sc : Scene) (p : Place) (s : Spot) (i l : ℕ) (ds : Definitions) (d n many : ℕ) (c c1 : List Stmt) {qs : List Kind} (L : List Named → List Lasting) (Then : Later) → Around sc p d
+pub let_bases : (pay : ℕ) (valofs : ValofsLie pay) (blocks : BlocksLie pay) (sc : Scene) (p : Enclosing) (s : Spot) (i l : ℕ) (ds : Definitions) (d n many : ℕ) (c c1 : List Stmt) {qs : List Kind} (L : List Named → List Lasting) (Then : Later) → Around sc p d
     → SoundOneDeclared sc.bindings p s (t.definitions l ds) → RegularDefinitions ds → turns_defined true ds ≤ pay → FoundParts sc.own sc.targets (parts_of_declaration d n (declaration_named sc.bindings p s (t.definitions l ds)))
     → c ≡ declaration_code sc.targets d n (declaration_named sc.bindings p s (t.definitions l ds)) ++ c1 → StandsAt sc.own d c
     → Bases (record (home sc pay) { bindings = scope_behind_one sc.bindings p s (t.definitions l ds) }) (i + objects_of_definitions ds) many qs L
@@ -377,7 +377,7 @@ at_code : (pay : ℕ) (sc : Scene) (i : ℕ) (x : Declaration) (d many : ℕ) (c
     → Bases (record (home sc pay) { bindings = bs }) (i + objects_of_declaration x) many qs L (LaidLater Then sc bs d (i + objects_of_declaration x) c)
 at_code pay sc i x d many c c1 bs {qs} L Then k b = subst (λ z. Bases (record (home sc pay) { bindings = bs }) (i + objects_of_declaration x) many qs L (LaidLater Then sc bs d (i + objects_of_declaration x) z)) (sym k) b
 
-pub one_bases : (pay : ℕ) (valofs : ValofsLie pay) (blocks : BlocksLie pay) (sc : Scene) (p : Place) (s : Spot) (i : ℕ) (x : Declaration) (d n many : ℕ) (c c1 : List Stmt) {qs : List Kind} (L : List Named → List Lasting) (Then : Later) → Around sc p d
+pub one_bases : (pay : ℕ) (valofs : ValofsLie pay) (blocks : BlocksLie pay) (sc : Scene) (p : Enclosing) (s : Spot) (i : ℕ) (x : Declaration) (d n many : ℕ) (c c1 : List Stmt) {qs : List Kind} (L : List Named → List Lasting) (Then : Later) → Around sc p d
     → SoundOneDeclared sc.bindings p s x → RegularDeclaration x → turns_one_declared true x ≤ pay → FoundParts sc.own sc.targets (parts_of_declaration d n (declaration_named sc.bindings p s x))
     → c ≡ declaration_code sc.targets d n (declaration_named sc.bindings p s x) ++ c1 → StandsAt sc.own d c
     → Bases (record (home sc pay) { bindings = scope_behind_one sc.bindings p s x }) (i + objects_of_declaration x) many qs L
@@ -392,13 +392,13 @@ one_bases pay valofs blocks sc p s i (t.constants l sort.Global is) d n many c c
 one_bases pay valofs blocks sc p s i (t.definitions l ds) d n many c c1 L Then a h r m f k st b = let_bases pay valofs blocks sc p s i l ds d n many c c1 L Then a h r m f k st b
 
 -- what stands around code behind constants
-pub behind_constants : (sc : Scene) (p : Place) (s : Spot) (l : ℕ) (o : Sort) (is : Items) (d : ℕ) → Doing sc p d → RegularItems is → Doing (record sc { bindings = scope_behind_one sc.bindings p s (t.constants l o is) }) p d
+pub behind_constants : (sc : Scene) (p : Enclosing) (s : Spot) (l : ℕ) (o : Sort) (is : Items) (d : ℕ) → Doing sc p d → RegularItems is → Doing (record sc { bindings = scope_behind_one sc.bindings p s (t.constants l o is) }) p d
 behind_constants sc p s l sort.Manifest is d a r = exits_same p p (refl, refl, refl) sc _ d d a refl a.around.at (words_manifests sc.bindings is a.around.words r)
 behind_constants sc p s l sort.Static is d a r = exits_same p p (refl, refl, refl) sc _ d d a refl a.around.at (words_statics (s.number + 1) is sc.bindings a.around.words)
 behind_constants sc p s l sort.Global is d a r = exits_same p p (refl, refl, refl) sc _ d d a refl a.around.at (words_globals sc.bindings is sc.bindings a.around.words)
 
 -- where code goes on behind it
-pub behind_one : (pay : ℕ) (valofs : ValofsLie pay) (blocks : BlocksLie pay) (sc : Scene) (p : Place) (s : Spot) (x : Declaration) (d n : ℕ) (c c1 : List Stmt) → Doing sc p d → SoundOneDeclared sc.bindings p s x → RegularDeclaration x
+pub behind_one : (pay : ℕ) (valofs : ValofsLie pay) (blocks : BlocksLie pay) (sc : Scene) (p : Enclosing) (s : Spot) (x : Declaration) (d n : ℕ) (c c1 : List Stmt) → Doing sc p d → SoundOneDeclared sc.bindings p s x → RegularDeclaration x
     → turns_one_declared true x ≤ pay → FoundParts sc.own sc.targets (parts_of_declaration d n (declaration_named sc.bindings p s x)) → c ≡ declaration_code sc.targets d n (declaration_named sc.bindings p s x) ++ c1 → StandsAt sc.own d c
     → StandsAt sc.own (behind_declaration d (declaration_named sc.bindings p s x)) c1
     × Doing (record sc { bindings = scope_behind_one sc.bindings p s x }) (place_behind_one sc.bindings p s x) (behind_declaration d (declaration_named sc.bindings p s x))
@@ -418,7 +418,7 @@ behind_one pay valofs blocks sc p s (t.definitions l ds) d n c c1 a h r m f k st
 
 -- ---- declarations in order
 
-pub declared_behind : (pay : ℕ) (valofs : ValofsLie pay) (blocks : BlocksLie pay) (sc : Scene) (p : Place) (s : Spot) (xs : Declarations) (d n : ℕ) (c c1 : List Stmt) → Doing sc p d → SoundDeclared sc.bindings p s xs → RegularDeclarations xs
+pub declared_behind : (pay : ℕ) (valofs : ValofsLie pay) (blocks : BlocksLie pay) (sc : Scene) (p : Enclosing) (s : Spot) (xs : Declarations) (d n : ℕ) (c c1 : List Stmt) → Doing sc p d → SoundDeclared sc.bindings p s xs → RegularDeclarations xs
     → turns_declared true xs ≤ pay → FoundParts sc.own sc.targets (parts_of_declarations d n (declarations_named sc.bindings p s xs)) → c ≡ declarations_code sc.targets d n (declarations_named sc.bindings p s xs) ++ c1 → StandsAt sc.own d c
     → StandsAt sc.own (behind_declarations d (declarations_named sc.bindings p s xs)) c1
     × Doing (record sc { bindings = scope_behind sc.bindings p s xs }) (place_behind_all sc.bindings p s xs) (behind_declarations d (declarations_named sc.bindings p s xs))
@@ -426,14 +426,14 @@ declared_behind pay valofs blocks sc p s t.no_declarations d n c c1 a h r m f k 
 declared_behind pay valofs blocks sc p s (t.declare x xs) d n c c1 a h r m f k st =
     let one = declaration_named sc.bindings p s x in
     let bs = scope_behind_one sc.bindings p s x in
-    let p1 : Place = place_behind_one sc.bindings p s x in
+    let p1 : Enclosing = place_behind_one sc.bindings p s x in
     let s1 : Spot = behind_one_declared x s in
     let more = declarations_code sc.targets (behind_declaration d one) (n + labels_of_declaration one) (declarations_named bs p1 s1 xs) in
     let first = behind_one pay valofs blocks sc p s x d n c (more ++ c1) a h.0 r.0 (omega (arith, m)) (found_front sc.own sc.targets (parts_of_declaration d n one) _ f) (joined_two (declaration_code sc.targets d n one) more c1 c k) st in
     declared_behind pay valofs blocks (record sc { bindings = bs }) p1 s1 xs (behind_declaration d one) (n + labels_of_declaration one) (more ++ c1) c1 first.1 h.1 r.1 (omega (arith, m))
     (found_back sc.own sc.targets (parts_of_declaration d n one) _ f) refl first.0
 
-pub declared_bases : (pay : ℕ) (valofs : ValofsLie pay) (blocks : BlocksLie pay) (sc : Scene) (p : Place) (s : Spot) (i : ℕ) (xs : Declarations) (d n many : ℕ) (c c1 : List Stmt) {qs : List Kind} (L : List Named → List Lasting) (Then : Later) → Doing sc p d
+pub declared_bases : (pay : ℕ) (valofs : ValofsLie pay) (blocks : BlocksLie pay) (sc : Scene) (p : Enclosing) (s : Spot) (i : ℕ) (xs : Declarations) (d n many : ℕ) (c c1 : List Stmt) {qs : List Kind} (L : List Named → List Lasting) (Then : Later) → Doing sc p d
     → SoundDeclared sc.bindings p s xs → RegularDeclarations xs → turns_declared true xs ≤ pay → FoundParts sc.own sc.targets (parts_of_declarations d n (declarations_named sc.bindings p s xs))
     → c ≡ declarations_code sc.targets d n (declarations_named sc.bindings p s xs) ++ c1 → StandsAt sc.own d c
     → Bases (record (home sc pay) { bindings = scope_behind sc.bindings p s xs }) (i + objects_of_declarations xs) many qs L
@@ -449,7 +449,7 @@ declared_bases pay valofs blocks sc p s i (t.declare x xs) d n many c c1 {qs} L 
     let hm : Home = home sc pay in
     let one = declaration_named sc.bindings p s x in
     let bs = scope_behind_one sc.bindings p s x in
-    let p1 : Place = place_behind_one sc.bindings p s x in
+    let p1 : Enclosing = place_behind_one sc.bindings p s x in
     let s1 : Spot = behind_one_declared x s in
     let d1 : ℕ = behind_declaration d one in
     let n1 : ℕ = n + labels_of_declaration one in

@@ -1,6 +1,6 @@
 -- What the static side of each form needs: codes for a value or a jump, what stands around code, and how parts are laid together. A call is laid where the
 -- scheme puts it, where its arguments and what it calls are.
-use Rattle.bk_simulation.proofs.Words.{◌≡◌, ℕ, ◌+◌, ◌<◌, ◌≤◌, ◌^◌, Bool, true, false, ◌||◌, List, [], ◌∷◌, ◌++◌, Option, Some, None, cond, refl, sym, ap, ◌∙◌, subst, arith, append_assoc, bytes_eq, FRAME_WORDS, Operator, Expression, Expressions, Action, Actions, Bound, Place, Role, Truth, Binding, bound_in, named_word, prefix_word, infix_word, constant_word, deeper, Spot, next_depth, Placed, item_words, Stmt, JumpIf, Monadic, Dyadic, LoadByte, Target, term_named, condition_named, Part, target_of, parts, parts_if, push, infix_code, truth_value, value_code, jump_code, procedure_code, data_code, AllFound, Named, Sense, constant, label, Environment, sense_in, word_named, constant_in, Sought, the_label, the_case, the_default, same_place, is_label, stands_in, stands_in_one, Lasting, size, Stack, labels, terms_named, parts_each, each_code, objects, objects_of_each, of_expression, of_each}
+use Rattle.bk_simulation.proofs.Words.{◌≡◌, ℕ, ◌+◌, ◌<◌, ◌≤◌, ◌^◌, Bool, true, false, ◌||◌, List, [], ◌∷◌, ◌++◌, Option, Some, None, cond, refl, sym, ap, ◌∙◌, subst, arith, append_assoc, bytes_eq, FRAME_WORDS, Operator, Expression, Expressions, Action, Actions, Bound, Enclosing, Role, Truth, Binding, bound_in, named_word, prefix_word, infix_word, constant_word, deeper, Spot, next_depth, Placed, item_words, Stmt, JumpIf, Monadic, Dyadic, LoadByte, Target, term_named, condition_named, Part, target_of, parts, parts_if, push, infix_code, truth_value, value_code, jump_code, procedure_code, data_code, AllFound, Named, Sense, constant, label, Environment, sense_in, word_named, constant_in, Sought, the_label, the_case, the_default, same_place, is_label, stands_in, stands_in_one, Lasting, size, Stack, labels, terms_named, parts_each, each_code, objects, objects_of_each, of_expression, of_each}
 use Rattle.std.specs.Option.{option_and_then}
 use Rattle.bk_scope.specs.declared.role.Role.TheVariants.{Value}
 use Rattle.bk_simulation.proofs.Sought.{with_names}
@@ -18,15 +18,15 @@ use Rattle.bk_scope.specs.Spots as spot
 use Rattle.bk_trans.specs.Depths as depths
 
 -- what the scheme gives for a value and for a jump
-abbrev pub coded : Scene → Place → Spot → ℕ → ℕ → Aim → Expression → List Stmt
+abbrev pub coded : Scene → Enclosing → Spot → ℕ → ℕ → Aim → Expression → List Stmt
 coded sc p s d n pushes e = value_code sc.targets d n (term_named sc.bindings p s e)
 coded sc p s d n (jumps u l) e = jump_code sc.targets d n (condition_named sc.bindings p s e) u l
 
-abbrev pub own_parts : Scene → Place → Spot → ℕ → ℕ → Aim → Expression → List Part
+abbrev pub own_parts : Scene → Enclosing → Spot → ℕ → ℕ → Aim → Expression → List Part
 own_parts sc p s d n pushes e = parts d n (term_named sc.bindings p s e)
 own_parts sc p s d n (jumps u l) e = parts_if d n (condition_named sc.bindings p s e)
 
-abbrev pub own_kinds : Scene → Place → Spot → ℕ → Aim → Expression → List Kind
+abbrev pub own_kinds : Scene → Enclosing → Spot → ℕ → Aim → Expression → List Kind
 own_kinds sc p s n pushes e = kinds n (term_named sc.bindings p s e)
 own_kinds sc p s n (jumps u l) e = kinds_if n (condition_named sc.bindings p s e)
 
@@ -72,12 +72,12 @@ abbrev pub HasWords : List Binding → Type 0
 HasWords bs = (x : List ℕ) (v : ℕ) → bound_in bs x ≡ Some (b.Constant (Some v)) → v < 2 ^ 32
 
 -- What stands around an expression: its procedure, its depth, and constants that are words.
-pub record Around (sc : Scene) (p : Place) (d : ℕ) : Type 0 where
+pub record Around (sc : Scene) (p : Enclosing) (d : ℕ) : Type 0 where
   pub same : p.procedure ≡ sc.procedure
   pub at : p.depth ≡ d
   pub words : HasWords sc.bindings
 
-pub around_deeper : (sc : Scene) (p : Place) (d k m : ℕ) → d + k ≡ m → m ≤ FRAME_WORDS → Around sc p d → Around sc (deeper k p) m
+pub around_deeper : (sc : Scene) (p : Enclosing) (d k m : ℕ) → d + k ≡ m → m ≤ FRAME_WORDS → Around sc p d → Around sc (deeper k p) m
 around_deeper sc p d k m e low a =
     let at = a.at in
     record { same = a.same; at = omega (arith, at, e, low); words = a.words }
@@ -146,18 +146,18 @@ stands_agree s ns bs i a c = stands_by s (with_names ns i) (known bs) (λ e. con
 
 -- ---- expressions that have no jumps of their own
 
-pub plain_code : (sc : Scene) (p : Place) (s : Spot) (d n : ℕ) (aim : Aim) (e : Expression) (c rest : List Stmt) → condition_named sc.bindings p s e ≡ term.holds (term_named sc.bindings p s e)
+pub plain_code : (sc : Scene) (p : Enclosing) (s : Spot) (d n : ℕ) (aim : Aim) (e : Expression) (c rest : List Stmt) → condition_named sc.bindings p s e ≡ term.holds (term_named sc.bindings p s e)
     → c ≡ coded sc p s d n aim e ++ rest → c ≡ value_code sc.targets d n (term_named sc.bindings p s e) ++ ending aim rest
 plain_code sc p s d n pushes e c rest h k = k
 plain_code sc p s d n (jumps u l) e c rest h k =
     k ∙ ap (λ x. jump_code sc.targets d n x u l ++ rest) h ∙ append_assoc (value_code sc.targets d n (term_named sc.bindings p s e)) (JumpIf u l ∷ []) rest
 
-pub plain_parts : (sc : Scene) (p : Place) (s : Spot) (d n : ℕ) (aim : Aim) (e : Expression) → condition_named sc.bindings p s e ≡ term.holds (term_named sc.bindings p s e)
+pub plain_parts : (sc : Scene) (p : Enclosing) (s : Spot) (d n : ℕ) (aim : Aim) (e : Expression) → condition_named sc.bindings p s e ≡ term.holds (term_named sc.bindings p s e)
     → FoundParts sc.own sc.targets (own_parts sc p s d n aim e) → FoundParts sc.own sc.targets (parts d n (term_named sc.bindings p s e))
 plain_parts sc p s d n pushes e h f = f
 plain_parts sc p s d n (jumps u l) e h f = subst (λ x. FoundParts sc.own sc.targets (parts_if d n x)) h f
 
-pub plain_kinds : (sc : Scene) (p : Place) (s : Spot) (n : ℕ) (aim : Aim) (e : Expression) → condition_named sc.bindings p s e ≡ term.holds (term_named sc.bindings p s e)
+pub plain_kinds : (sc : Scene) (p : Enclosing) (s : Spot) (n : ℕ) (aim : Aim) (e : Expression) → condition_named sc.bindings p s e ≡ term.holds (term_named sc.bindings p s e)
     → kinds n (term_named sc.bindings p s e) ≡ own_kinds sc p s n aim e
 plain_kinds sc p s n pushes e h = refl
 plain_kinds sc p s n (jumps u l) e h = sym (ap (λ x. kinds_if n x) h)
@@ -171,7 +171,7 @@ pub lies_ended : (h : Home) (next many d : ℕ) (aim : Aim) (rest : List Stmt) {
     → Lies h next many (level aim d) rest ks L P
 lies_ended h next many d aim rest P a = record { on = ended h.own d aim rest a.on; objects_are = a.objects_are }
 
-pub plain_lies : (pay : ℕ) (sc : Scene) (p : Place) (s : Spot) (i d n : ℕ) (aim : Aim) (e : Expression) (many : ℕ) (rest : List Stmt) {L : List Named → List Lasting} (P : Setting → Type 0)
+pub plain_lies : (pay : ℕ) (sc : Scene) (p : Enclosing) (s : Spot) (i d n : ℕ) (aim : Aim) (e : Expression) (many : ℕ) (rest : List Stmt) {L : List Named → List Lasting} (P : Setting → Type 0)
     → condition_named sc.bindings p s e ≡ term.holds (term_named sc.bindings p s e) → Lies (home sc pay) i many (level aim d) rest (kinds n (term_named sc.bindings p s e)) L P
     → Lies (home sc pay) i many (level aim d) rest (own_kinds sc p s n aim e) L P
 plain_lies pay sc p s i d n aim e many rest {L} P h a = subst (λ ks. Lies (home sc pay) i many (level aim d) rest ks L P) (plain_kinds sc p s n aim e h) a
@@ -213,12 +213,12 @@ size_count : (es : Expressions) → size es ≡ count es
 size_count t.none = refl
 size_count (t.more e es) = ap (λ k. k + 1) (size_count es)
 
-count_named : (n : ℕ) (bs : List Binding) (p : Place) (s : Spot) (es : Expressions) → depths.count (terms_named n bs p s es) ≡ count es
+count_named : (n : ℕ) (bs : List Binding) (p : Enclosing) (s : Spot) (es : Expressions) → depths.count (terms_named n bs p s es) ≡ count es
 count_named n bs p s t.none = refl
 count_named n bs p s (t.more e es) = ap (λ k. k + 1) (count_named n bs (deeper n p) (spot.behind e s) es)
 
 -- a call: its arguments and what is called
-pub call_lies : (pay : ℕ) (sc : Scene) (p : Place) (s s1 : Spot) (i : ℕ) (call : Stmt) (e : Expression) (es : Expressions) (d n : ℕ) (c rest : List Stmt) → Around sc p d
+pub call_lies : (pay : ℕ) (sc : Scene) (p : Enclosing) (s s1 : Spot) (i : ℕ) (call : Stmt) (e : Expression) (es : Expressions) (d n : ℕ) (c rest : List Stmt) → Around sc p d
     → FoundParts sc.own sc.targets (parts (d + 2 + depths.count (terms_named 1 sc.bindings (deeper 2 p) s1 es)) n (term_named sc.bindings (deeper (size es + 2) p) s e)
     ++ parts_each (d + 2) (n + labels (term_named sc.bindings (deeper (size es + 2) p) s e)) (terms_named 1 sc.bindings (deeper 2 p) s1 es))
     → c ≡ ((Stack (d + 2) ∷ each_code sc.targets (d + 2) (n + labels (term_named sc.bindings (deeper (size es + 2) p) s e)) (terms_named 1 sc.bindings (deeper 2 p) s1 es))
@@ -232,7 +232,7 @@ pub call_lies : (pay : ℕ) (sc : Scene) (p : Place) (s s1 : Spot) (i : ℕ) (ca
     → Lies (home sc pay) i (objects e + objects_of_each es) (d + 2 + count es + 1) (call ∷ rest) (kinds n (term_named sc.bindings (deeper (size es + 2) p) s e) ++ kinds_each (n + labels (term_named sc.bindings (deeper (size es + 2) p) s e)) (terms_named 1 sc.bindings (deeper 2 p) s1 es)) (λ ns. of_expression (with_names ns i) e ++ of_each (with_names ns (i + objects e)) es) (InNames sc.bindings i (λ g env. (c1 c2 : List Stmt) × (c ≡ Stack (d + 2) ∷ c1)
     × AreValues g sc (d + 2) (with_names env.names (i + objects e)) es c1 c2 × IsCode g sc (d + 2 + count es) env pushes e c2 (call ∷ rest)))
 call_lies pay sc p s s1 i call e es d n c rest a f k st each one =
-    let z : Place = deeper (size es + 2) p in
+    let z : Enclosing = deeper (size es + 2) p in
     let te = term_named sc.bindings z s e in
     let tes = terms_named 1 sc.bindings (deeper 2 p) s1 es in
     let same : depths.count tes ≡ count es = count_named 1 sc.bindings (deeper 2 p) s1 es in

@@ -1,5 +1,5 @@
 -- Procedures are laid where the scheme puts them, where their bodies are: their ENTRY and SAVE, and what their formals are.
-use Rattle.bk_simulation.proofs.Words.{◌≡◌, ℕ, suc, ◌+◌, ◌-◌, ◌<◌, ◌≤◌, ◌^◌, Bool, true, false, List, [], ◌∷◌, ◌++◌, length, Option, Some, None, cond, refl, sym, ap, ap₂, ◌∙◌, subst, arith, slice_get, drop, false≢true, bytes_eq-Decides, bytes_eq, FRAME_WORDS, GLOBAL_NUMBER, first_bytes, Mention, Expression, Action, Bound, Place, Binding, bound_in, bind, labels_of, with_formals, labels_in_scope, Callable, Spot, next_depth, depth_behind, Placed, global_place, Program, IsWellPlaced, item_words, Stmt, Entry, Save, Return, ReturnItem, EndProcedure, DataLabel, DataAddress, Target, labels_of_procedure, meant, term_named, command_named, variable, outermost, value_code, command_code, procedure_code, word_code, Named, Sense, Environment, cell, foreign, bind_each, sense_in, global_named, letters, objects, objects_of_action, Body, command, expression, Lasting, code, of_action, of_expression, in_scope, bind_formals}
+use Rattle.bk_simulation.proofs.Words.{◌≡◌, ℕ, suc, ◌+◌, ◌-◌, ◌<◌, ◌≤◌, ◌^◌, Bool, true, false, List, [], ◌∷◌, ◌++◌, length, Option, Some, None, cond, refl, sym, ap, ap₂, ◌∙◌, subst, arith, slice_get, drop, false≢true, bytes_eq-Decides, bytes_eq, FRAME_WORDS, GLOBAL_NUMBER, first_bytes, Mention, Expression, Action, Bound, Enclosing, Binding, bound_in, bind, labels_of, with_formals, labels_in_scope, Callable, Spot, next_depth, depth_behind, Placed, global_place, Program, IsWellPlaced, item_words, Stmt, Entry, Save, Return, ReturnItem, EndProcedure, DataLabel, DataAddress, Target, labels_of_procedure, meant, term_named, command_named, variable, outermost, value_code, command_code, procedure_code, word_code, Named, Sense, Environment, cell, foreign, bind_each, sense_in, global_named, letters, objects, objects_of_action, Body, command, expression, Lasting, code, of_action, of_expression, in_scope, bind_formals}
 use Rattle.bk_scope.specs.declared.bound.Bound.TheVariants as b
 use Rattle.bk_scope.specs.Places as place
 use Rattle.bk_scope.specs.Places.{kept}
@@ -131,7 +131,7 @@ routine_lies pay section own ts bs s i x fs a d n y c rest words m laid k st =
     let h1 : Home = record { section = section; own = own; targets = ts; bindings = bs; pay = pay } in
     let sc = scene_of section own ts inner s.number in
     let within : Scene = record sc { bindings = labels_in_scope s.number (s.number + 2) (labels_of a) inner } in
-    let p1 : Place = place.labelled (s.number + 1) (place.called true s.number (length fs)) in
+    let p1 : Enclosing = place.labelled (s.number + 1) (place.called true s.number (length fs)) in
     let s1 : Spot = spot.onward (1 + length fs) (2 + length (labels_of a)) s in
     let named = command_named within.bindings p1 s1 a in
     let first = n + labels_of_procedure y in
@@ -165,7 +165,7 @@ function_lies pay section own ts bs s i x fs e d n y c rest words m laid k st =
     let inner = with_formals s.number 2 fs bs in
     let h1 : Home = record { section = section; own = own; targets = ts; bindings = bs; pay = pay } in
     let sc = scene_of section own ts inner s.number in
-    let p1 : Place = place.called false s.number (length fs) in
+    let p1 : Enclosing = place.called false s.number (length fs) in
     let s1 : Spot = spot.onward (1 + length fs) 1 s in
     let first = n + labels_of_procedure y in
     let depth = length fs + 2 in

@@ -1,5 +1,5 @@
 -- What lasts of a section lies where the scheme puts it.
-use Rattle.bk_simulation.proofs.Words.{true, ◌≡◌, ℕ, ◌+◌, ◌≤◌, false, List, [], ◌∷◌, ◌++◌, cond, refl, sym, ap, ◌∙◌, subst, arith, false≢true, Sort, Items, Declaration, Declarations, Definitions, Place, Binding, scope_behind_one, place_behind_one, SoundDeclared, SoundOneDeclared, Spot, behind_one_declared, beginning, joined, Placed, AreFaultless, Stmt, Store, Target, behind_definitions, behind_declaration, has_variables, labels_of_declaration, definitions_named, declaration_named, declarations_named, named_tree, target_of, parts_of_declaration, parts_of_declarations, definitions_code, declaration_code, scheme, scheme_is_accepted, targets_found, objects_of_declaration, objects_of_declarations, declared, of_declaration, of_declarations}
+use Rattle.bk_simulation.proofs.Words.{true, ◌≡◌, ℕ, ◌+◌, ◌≤◌, false, List, [], ◌∷◌, ◌++◌, cond, refl, sym, ap, ◌∙◌, subst, arith, false≢true, Sort, Items, Declaration, Declarations, Definitions, Enclosing, Binding, scope_behind_one, place_behind_one, SoundDeclared, SoundOneDeclared, Spot, behind_one_declared, beginning, joined, Placed, AreFaultless, Stmt, Store, Target, behind_definitions, behind_declaration, has_variables, labels_of_declaration, definitions_named, declaration_named, declarations_named, named_tree, target_of, parts_of_declaration, parts_of_declarations, definitions_code, declaration_code, scheme, scheme_is_accepted, targets_found, objects_of_declaration, objects_of_declarations, declared, of_declaration, of_declarations}
 use Rattle.bk_tree.specs.declared.tree.Sort.TheVariants as sort
 use Rattle.bk_tree.specs.Tree as t
 use Rattle.bk_scope.specs.Places as place
@@ -21,12 +21,12 @@ use Rattle.bk_simulation.proofs.LaidDeclarations.{Later, inner, first_defined, c
 use Rattle.bk_simulation.proofs.LaidBlocks.{valofs_lie, blocks_lie}
 
 -- procedures have no code of their own where they are declared, and leave the frame as it is
-record NoCode (ts : List Target) (bs : List Binding) (p : Place) (s : Spot) (d n : ℕ) (ds : Definitions) : Type 0 where
+record NoCode (ts : List Target) (bs : List Binding) (p : Enclosing) (s : Spot) (d n : ℕ) (ds : Definitions) : Type 0 where
   pub code : definitions_code ts d n (definitions_named bs p s ds) ≡ []
   pub depth : behind_definitions d (definitions_named bs p s ds) ≡ d
   pub variables : has_variables (definitions_named bs p s ds) ≡ false
 
-no_code : (ts : List Target) (bs : List Binding) (p : Place) (s : Spot) (d n : ℕ) (ds : Definitions) → DefineNoVariables ds → NoCode ts bs p s d n ds
+no_code : (ts : List Target) (bs : List Binding) (p : Enclosing) (s : Spot) (d n : ℕ) (ds : Definitions) → DefineNoVariables ds → NoCode ts bs p s d n ds
 no_code ts bs p s d n t.no_definitions h = record { code = refl; depth = refl; variables = refl }
 no_code ts bs p s d n (t.define (t.routine l x fs c) ds) h = let o = no_code ts bs p (spot.behind_one_defined (t.routine l x fs c) s) d _ ds h in record { code = o.code; depth = o.depth; variables = o.variables }
 no_code ts bs p s d n (t.define (t.function l x fs e) ds) h = let o = no_code ts bs p (spot.behind_one_defined (t.function l x fs e) s) d _ ds h in record { code = o.code; depth = o.depth; variables = o.variables }
@@ -44,19 +44,19 @@ outside_both pay sc i x xs P a =
     bases_so (home sc pay) i _ P (λ g. Unit {0}) (λ g y v. tt) (bases_of (home sc pay) i _ _ (λ ns. of_declarations (with_names ns i) (t.declare x xs)) P
     (λ ns. ap (λ z. of_declaration (with_names ns i) x ++ of_declarations (with_names (declared x (with_names ns i)).names z) xs) (sym (next_declared x (with_names ns i)))) a)
 
-constants_depth : (bs : List Binding) (p : Place) (s : Spot) (l : ℕ) (o : Sort) (is : Items) (d : ℕ) → behind_declaration d (declaration_named bs p s (t.constants l o is)) ≡ d
+constants_depth : (bs : List Binding) (p : Enclosing) (s : Spot) (l : ℕ) (o : Sort) (is : Items) (d : ℕ) → behind_declaration d (declaration_named bs p s (t.constants l o is)) ≡ d
 constants_depth bs p s l sort.Manifest is d = refl
 constants_depth bs p s l _ is d = refl
 
 -- the parts behind a declaration that leaves the frame as it is
-behind_found : (sc : Scene) (p : Place) (s : Spot) (x : Declaration) (xs : Declarations) (n : ℕ) → behind_declaration 2 (declaration_named sc.bindings p s x) ≡ 2
+behind_found : (sc : Scene) (p : Enclosing) (s : Spot) (x : Declaration) (xs : Declarations) (n : ℕ) → behind_declaration 2 (declaration_named sc.bindings p s x) ≡ 2
     → FoundParts sc.own sc.targets (parts_of_declarations (behind_declaration 2 (declaration_named sc.bindings p s x)) (n + labels_of_declaration (declaration_named sc.bindings p s x)) (declarations_named (scope_behind_one sc.bindings p s x) (place_behind_one sc.bindings p s x) (behind_one_declared x s) xs))
     → FoundParts sc.own sc.targets (parts_of_declarations 2 (n + labels_of_declaration (declaration_named sc.bindings p s x)) (declarations_named (scope_behind_one sc.bindings p s x) (place_behind_one sc.bindings p s x) (behind_one_declared x s) xs))
 behind_found sc p s x xs n e f =
     subst (λ z. FoundParts sc.own sc.targets (parts_of_declarations z (n + labels_of_declaration (declaration_named sc.bindings p s x)) (declarations_named (scope_behind_one sc.bindings p s x) (place_behind_one sc.bindings p s x) (behind_one_declared x s) xs))) e f
 
 -- a LET of procedures, by a place in the section with this depth
-procedures_lie : (pay : ℕ) (sc : Scene) (p : Place) (s : Spot) (i l : ℕ) (ds : Definitions) (xs : Declarations) (d n : ℕ) (c : List Stmt) {qs : List Kind} → DefineNoVariables ds → Doing sc p d → SoundOneDeclared sc.bindings p s (t.definitions l ds) → RegularDefinitions ds
+procedures_lie : (pay : ℕ) (sc : Scene) (p : Enclosing) (s : Spot) (i l : ℕ) (ds : Definitions) (xs : Declarations) (d n : ℕ) (c : List Stmt) {qs : List Kind} → DefineNoVariables ds → Doing sc p d → SoundOneDeclared sc.bindings p s (t.definitions l ds) → RegularDefinitions ds
     → turns_defined true ds ≤ pay → FoundParts sc.own sc.targets (parts_of_declaration d n (declaration_named sc.bindings p s (t.definitions l ds))) → StandsAt sc.own d c
     → (Doing (record sc { bindings = scope_behind_one sc.bindings p s (t.definitions l ds) }) (place_behind_one sc.bindings p s (t.definitions l ds)) d
     → Bases (home (record sc { bindings = scope_behind_one sc.bindings p s (t.definitions l ds) }) pay) (i + objects_of_declaration (t.definitions l ds)) (objects_of_declarations xs) qs (λ ns. of_declarations (with_names ns (i + objects_of_declaration (t.definitions l ds))) xs) (λ g. Unit {0}))
@@ -74,7 +74,7 @@ procedures_lie pay sc p s i l ds xs d n c only a h r m f st others =
     (bases_so (home (record sc { bindings = bs }) pay) (i + objects_of_declaration x) (objects_of_declarations xs) _ _ (λ g y v ns u. tt) (others doing)))
 
 -- DECLARATIONS OUTSIDE PROCEDURES
-outside_bases : (pay : ℕ) (sc : Scene) (p : Place) (s : Spot) (i : ℕ) (xs : Declarations) (n : ℕ) → DeclareNoVariables xs → Doing sc p 2 → SoundDeclared sc.bindings p s xs → RegularDeclarations xs → turns_declared true xs ≤ pay
+outside_bases : (pay : ℕ) (sc : Scene) (p : Enclosing) (s : Spot) (i : ℕ) (xs : Declarations) (n : ℕ) → DeclareNoVariables xs → Doing sc p 2 → SoundDeclared sc.bindings p s xs → RegularDeclarations xs → turns_declared true xs ≤ pay
     → FoundParts sc.own sc.targets (parts_of_declarations 2 n (declarations_named sc.bindings p s xs)) → Bases (home sc pay) i (objects_of_declarations xs) (kinds_of_declarations n (declarations_named sc.bindings p s xs)) (λ ns. of_declarations (with_names ns i) xs) (λ g. Unit {0})
 outside_bases pay sc p s i t.no_declarations n only a h r m f = no_bases (home sc pay) i _ (λ g y. tt)
 outside_bases pay sc p s i (t.declare (t.constants l o is) xs) n only a h r m f =

@@ -1,6 +1,6 @@
 -- Each expression of an accepted section is laid where the scheme puts it, for a value and for a jump. That VALOFs are is taken here as
 -- an argument.
-use Rattle.bk_simulation.proofs.Words.{Operator, Binding, Environment, Lasting, past, ◌≡◌, ℕ, ◌+◌, ◌≤◌, true, false, not, List, [], ◌∷◌, ◌++◌, length, map, Bool, Some, refl, sym, ◌∙◌, subst, arith, slice_get, false≢true, first_bytes, signed, line_of, size, Expression, Expressions, Action, Place, Role, bound_in, parenthesised, deeper, Sound, SoundEach, HaveWords, Spot, Datum, item_words, Static, Stmt, DataLabel, DataNumber, Number, Query, Address, Text, Monadic, Dyadic, Assign, AssignAt, AssignByte, Label, GiveResult, TakeResult, CallFunction, labels, labels_if, meant, term_named, terms_named, condition_named, lvalue_named, words_named, static_table, parts, parts_each, parts_if, parts_at, push, infix_code, truth_value, value_code, each_code, jump_code, address_code, store_code, variable, data_code, Named, objects, objects_of_each, objects_of_action, of_expression, of_each, constant_words, text_words}
+use Rattle.bk_simulation.proofs.Words.{Operator, Binding, Environment, Lasting, past, ◌≡◌, ℕ, ◌+◌, ◌≤◌, true, false, not, List, [], ◌∷◌, ◌++◌, length, map, Bool, Some, refl, sym, ◌∙◌, subst, arith, slice_get, false≢true, first_bytes, signed, line_of, size, Expression, Expressions, Action, Enclosing, Role, bound_in, parenthesised, deeper, Sound, SoundEach, HaveWords, Spot, Datum, item_words, Static, Stmt, DataLabel, DataNumber, Number, Query, Address, Text, Monadic, Dyadic, Assign, AssignAt, AssignByte, Label, GiveResult, TakeResult, CallFunction, labels, labels_if, meant, term_named, terms_named, condition_named, lvalue_named, words_named, static_table, parts, parts_each, parts_if, parts_at, push, infix_code, truth_value, value_code, each_code, jump_code, address_code, store_code, variable, data_code, Named, objects, objects_of_each, objects_of_action, of_expression, of_each, constant_words, text_words}
 use Rattle.bk_tree.specs.declared.tree.Operator.TheVariants as o
 use Rattle.bk_tree.specs.declared.tree.Prefix.TheVariants as q
 use Rattle.bk_tree.specs.Tree as t
@@ -32,13 +32,13 @@ table_held g sc n l es i ns u words r h f own =
 
 -- expressions that are VALOFs are laid
 abbrev pub ValofsLie : ℕ → Type 0
-ValofsLie pay = (sc : Scene) (p : Place) (s : Spot) (i : ℕ) (aim : Aim) (l : ℕ) (x : Action) (d n : ℕ) (c rest : List Stmt) → Around sc p d → Sound (role aim) sc.bindings p s (t.valof l x) → Regular (t.valof l x)
+ValofsLie pay = (sc : Scene) (p : Enclosing) (s : Spot) (i : ℕ) (aim : Aim) (l : ℕ) (x : Action) (d n : ℕ) (c rest : List Stmt) → Around sc p d → Sound (role aim) sc.bindings p s (t.valof l x) → Regular (t.valof l x)
     → turns_of true (t.valof l x) ≤ pay → FoundParts sc.own sc.targets (own_parts sc p s d n aim (t.valof l x)) → c ≡ coded sc p s d n aim (t.valof l x) ++ rest → StandsAt sc.own d c
     → Lies (home sc pay) i (objects_of_action x) (level aim d) rest (own_kinds sc p s n aim (t.valof l x)) (λ ns. of_expression (with_names ns i) (t.valof l x))
     (InNames sc.bindings i (λ g env. IsCode g sc d env aim (t.valof l x) c rest))
 
 -- the code of an expression is laid from statements on before those
-abbrev CodeLies : ℕ → Scene → Place → Spot → ℕ → Aim → Expression → ℕ → ℕ → List Stmt → List Stmt → Type 0
+abbrev CodeLies : ℕ → Scene → Enclosing → Spot → ℕ → Aim → Expression → ℕ → ℕ → List Stmt → List Stmt → Type 0
 CodeLies pay sc p s i aim e d n c rest = FoundParts sc.own sc.targets (own_parts sc p s d n aim e) → c ≡ coded sc p s d n aim e ++ rest → StandsAt sc.own d c
     → Lies (home sc pay) i (objects e) (level aim d) rest (own_kinds sc p s n aim e) (λ ns. of_expression (with_names ns i) e)
     (InNames sc.bindings i (λ g env. IsCode g sc d env aim e c rest))
@@ -46,14 +46,14 @@ CodeLies pay sc p s i aim e d n c rest = FoundParts sc.own sc.targets (own_parts
 abbrev second : Expression → Spot → Spot
 second x s = spot.past 1 (spot.behind x s)
 
-operands_sound : (f : Operator) (bs : List Binding) (p : Place) (s u : Spot) (x y : Expression)
+operands_sound : (f : Operator) (bs : List Binding) (p : Enclosing) (s u : Spot) (x y : Expression)
     → Sound (role_of_operands f Value) bs p s x × Sound (role_of_operands f Value) bs (place_of_second f Value p) u y
     → Sound Value bs p s x × Sound Value bs (deeper 1 p) u y
 operands_sound o.Both bs p s u x y h = h
 operands_sound _ bs p s u x y h = h
 
 -- two values, one above the other
-two_values : (pay : ℕ) (sc : Scene) (p : Place) (s : Spot) (i : ℕ) (x y : Expression) (d n : ℕ) (c rest : List Stmt) → Around sc p d
+two_values : (pay : ℕ) (sc : Scene) (p : Enclosing) (s : Spot) (i : ℕ) (x y : Expression) (d n : ℕ) (c rest : List Stmt) → Around sc p d
     → FoundParts sc.own sc.targets (own_parts sc p s d n pushes x
     ++ own_parts sc (deeper 1 p) (second x s) (d + 1) (n + labels (term_named sc.bindings p s x)) pushes y)
     → c ≡ coded sc p s d n pushes x ++ (coded sc (deeper 1 p) (second x s) (d + 1) (n + labels (term_named sc.bindings p s x)) pushes y ++ rest)
@@ -75,7 +75,7 @@ two_values pay sc p s i x y d n c rest a f k st on_x on_y =
     }
 
 -- and an operator of theirs
-operator_lies : (pay : ℕ) (sc : Scene) (p : Place) (s : Spot) (i : ℕ) (aim : Aim) (f : Operator) (x y : Expression) (d n : ℕ) (c rest : List Stmt) → Around sc p d
+operator_lies : (pay : ℕ) (sc : Scene) (p : Enclosing) (s : Spot) (i : ℕ) (aim : Aim) (f : Operator) (x y : Expression) (d n : ℕ) (c rest : List Stmt) → Around sc p d
     → FoundParts sc.own sc.targets (own_parts sc p s d n pushes x
     ++ own_parts sc (deeper 1 p) (second x s) (d + 1) (n + labels (term_named sc.bindings p s x)) pushes y)
     → c ≡ (coded sc p s d n pushes x ++ coded sc (deeper 1 p) (second x s) (d + 1) (n + labels (term_named sc.bindings p s x)) pushes y ++ infix_code f)
@@ -93,7 +93,7 @@ operator_lies pay sc p s i aim f x y d n c rest a g k st on_x on_y =
     lies_ended (home sc pay) i _ d aim rest _ (record { on = infix_on sc.own f d tail both.on; objects_are = both.objects_are })
 
 -- two conditions, the second after the first
-two_jumps : (pay : ℕ) (sc : Scene) (p : Place) (s : Spot) (i : ℕ) (x y : Expression) (u v : Bool) (j l d n : ℕ) (c rest : List Stmt)
+two_jumps : (pay : ℕ) (sc : Scene) (p : Enclosing) (s : Spot) (i : ℕ) (x y : Expression) (u v : Bool) (j l d n : ℕ) (c rest : List Stmt)
     → FoundParts sc.own sc.targets (own_parts sc p s d (n + 1) (jumps u j) x
     ++ own_parts sc p (second x s) d (n + 1 + labels_if (condition_named sc.bindings p s x)) (jumps v l) y)
     → c ≡ coded sc p s d (n + 1) (jumps u j) x ++ (coded sc p (second x s) d (n + 1 + labels_if (condition_named sc.bindings p s x)) (jumps v l) y ++ rest)
@@ -123,7 +123,7 @@ labelled_lies sc pay i d n rest P Q a h = record {
 }
 
 mutual
-  pub laid_code : (pay : ℕ) (valofs : ValofsLie pay) (sc : Scene) (p : Place) (s : Spot) (i : ℕ) (aim : Aim) (e : Expression) (d n : ℕ) (c rest : List Stmt) → Around sc p d → Sound (role aim) sc.bindings p s e → Regular e → turns_of true e ≤ pay
+  pub laid_code : (pay : ℕ) (valofs : ValofsLie pay) (sc : Scene) (p : Enclosing) (s : Spot) (i : ℕ) (aim : Aim) (e : Expression) (d n : ℕ) (c rest : List Stmt) → Around sc p d → Sound (role aim) sc.bindings p s e → Regular e → turns_of true e ≤ pay
       → FoundParts sc.own sc.targets (own_parts sc p s d n aim e) → c ≡ coded sc p s d n aim e ++ rest → StandsAt sc.own d c
       → Lies (home sc pay) i (objects e) (level aim d) rest (own_kinds sc p s n aim e) (λ ns. of_expression (with_names ns i) e) (InNames sc.bindings i (λ g env. IsCode g sc d env aim e c rest))
   laid_code pay valofs sc p s i aim (t.name l x) d n c rest a h r m f k st =
@@ -243,7 +243,7 @@ mutual
       let k1 = plain_code sc p s d n aim (t.apply l m0 e es) c rest refl k in
       let f1 = plain_parts sc p s d n aim (t.apply l m0 e es) refl f in
       let s1 : Spot = spot.past 1 (spot.behind e s) in
-      let z : Place = deeper (size es + 2) p in
+      let z : Enclosing = deeper (size es + 2) p in
       let g1 = call_lies pay sc p s s1 i (CallFunction d) e es d n c (ending aim rest) a f1 k1 st
       (λ c1 c2 b0 f0 k0 st0. laid_each pay valofs sc (deeper 2 p) s1 (i + objects e) es (d + 2) (n + labels (term_named sc.bindings z s e)) c1 c2 b0 h.1 r.1 (omega arith) f0 k0 st0)
       (λ c2 b0 f0 k0 st0. laid_code pay valofs sc z s i pushes e (d + 2 + count es) n c2 (CallFunction d ∷ ending aim rest) b0 h.0 r.0 (omega arith) f0 k0 st0) in
@@ -262,7 +262,7 @@ mutual
             (statement_below sc.section sc.own f1.0.2.depth (DataLabel n) items (record { place = sc.own.places.label n; words = item_words sc.own.places items }) f1.0.2.stands refl) (λ g y z ns u. (n, k1, z)) (λ g y z ns u v. (sc.own.places.label n, z, table_held g sc n l es i ns u a.words r h (f1.0.2) y.own));
       })
 
-  pub laid_each : (pay : ℕ) (valofs : ValofsLie pay) (sc : Scene) (p : Place) (s : Spot) (i : ℕ) (es : Expressions) (d n : ℕ) (c rest : List Stmt) → Around sc p d → SoundEach 1 sc.bindings p s es → RegularEach es → turns_among true es ≤ pay
+  pub laid_each : (pay : ℕ) (valofs : ValofsLie pay) (sc : Scene) (p : Enclosing) (s : Spot) (i : ℕ) (es : Expressions) (d n : ℕ) (c rest : List Stmt) → Around sc p d → SoundEach 1 sc.bindings p s es → RegularEach es → turns_among true es ≤ pay
       → FoundParts sc.own sc.targets (parts_each d n (terms_named 1 sc.bindings p s es)) → c ≡ each_code sc.targets d n (terms_named 1 sc.bindings p s es) ++ rest → StandsAt sc.own d c
       → Lies (home sc pay) i (objects_of_each es) (d + count es) rest (kinds_each n (terms_named 1 sc.bindings p s es)) (λ ns. of_each (with_names ns i) es) (InNames sc.bindings i (λ g env. AreValues g sc d env es c rest))
   laid_each pay valofs sc p s i t.none d n c rest a h r m f k st =
@@ -283,7 +283,7 @@ mutual
       }
 
   -- an address
-  pub laid_address : (pay : ℕ) (valofs : ValofsLie pay) (sc : Scene) (p : Place) (s : Spot) (i : ℕ) (z : Role) (e : Expression) (d n : ℕ) (c rest : List Stmt) → Around sc p d → addressed sc.bindings e ≡ true → Sound z sc.bindings p s e → Regular e
+  pub laid_address : (pay : ℕ) (valofs : ValofsLie pay) (sc : Scene) (p : Enclosing) (s : Spot) (i : ℕ) (z : Role) (e : Expression) (d n : ℕ) (c rest : List Stmt) → Around sc p d → addressed sc.bindings e ≡ true → Sound z sc.bindings p s e → Regular e
       → turns_of true e ≤ pay → FoundParts sc.own sc.targets (parts_at d n (lvalue_named sc.bindings p s e)) → c ≡ address_code sc.targets d n (lvalue_named sc.bindings p s e) ++ rest → StandsAt sc.own d c
       → Lies (home sc pay) i (objects e) (d + 1) rest (kinds_at n (lvalue_named sc.bindings p s e)) (λ ns. of_expression (with_names ns i) e) (InNames sc.bindings i (λ g env. IsAddress g sc d env e c rest))
   laid_address pay valofs sc p s i z (t.name l x) d n c rest a y h r m f k st = leaf_lies (home sc pay) i d pushes c rest _ _ k refl st (λ g v ns u. k)
@@ -297,7 +297,7 @@ mutual
   laid_address pay valofs sc p s i z e d n c rest a y h r m f k st = absurd (false≢true y)
 
   -- what is stored
-  pub laid_store : (pay : ℕ) (valofs : ValofsLie pay) (sc : Scene) (p : Place) (s : Spot) (i : ℕ) (z : Role) (e : Expression) (d n : ℕ) (c rest : List Stmt) → Around sc p (d + 1) → assigned sc.bindings e ≡ true → Sound z sc.bindings p s e → Regular e
+  pub laid_store : (pay : ℕ) (valofs : ValofsLie pay) (sc : Scene) (p : Enclosing) (s : Spot) (i : ℕ) (z : Role) (e : Expression) (d n : ℕ) (c rest : List Stmt) → Around sc p (d + 1) → assigned sc.bindings e ≡ true → Sound z sc.bindings p s e → Regular e
       → turns_of true e ≤ pay → FoundParts sc.own sc.targets (parts_at (d + 1) n (lvalue_named sc.bindings p s e)) → c ≡ store_code sc.targets (d + 1) n (lvalue_named sc.bindings p s e) ++ rest → StandsAt sc.own (d + 1) c
       → Lies (home sc pay) i (objects e) d rest (kinds_at n (lvalue_named sc.bindings p s e)) (λ ns. of_expression (with_names ns i) e) (InNames sc.bindings i (λ g env. IsStore g sc (d + 1) env e c rest))
   laid_store pay valofs sc p s i z (t.name l x) d n c rest a y h r m f k st =

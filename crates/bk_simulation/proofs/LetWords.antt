@@ -1,5 +1,5 @@
 -- The words of a LET's procedures: where their code and data are found, each has its place where its number leads.
-use Rattle.bk_simulation.proofs.Words.{◌≡◌, inl, inr, ℕ, ◌+◌, ◌<◌, ◌≤◌, Bool, false, List, Some, cond, sym, ap, ◌∙◌, subst, arith, Definitions, Place, Binding, bound_in, bind, is_global, place_behind, procedure_in_scope, procedures_in_scope, Spot, Placed, Goal, Target, behind_definition, labels_of_definition, labels_of_procedure, meant, definition_named, definitions_named, parts_of_definition, parts_of_definitions, target_of_word, goal, goal_of, AllFound, AmongProcedures, Looked, look_procedure, objects, objects_of_action, objects_of_starts}
+use Rattle.bk_simulation.proofs.Words.{◌≡◌, inl, inr, ℕ, ◌+◌, ◌<◌, ◌≤◌, Bool, false, List, Some, cond, sym, ap, ◌∙◌, subst, arith, Definitions, Enclosing, Binding, bound_in, bind, is_global, place_behind, procedure_in_scope, procedures_in_scope, Spot, Placed, Goal, Target, behind_definition, labels_of_definition, labels_of_procedure, meant, definition_named, definitions_named, parts_of_definition, parts_of_definitions, target_of_word, goal, goal_of, AllFound, AmongProcedures, Looked, look_procedure, objects, objects_of_action, objects_of_starts}
 use Rattle.bk_tree.specs.Tree as t
 use Rattle.bk_scope.specs.declared.bound.Bound.TheVariants as b
 use Rattle.bk_scope.specs.Spots as spot
@@ -9,7 +9,7 @@ use Rattle.bk_simulation.proofs.LastingKinds.{word_base}
 use Rattle.bk_simulation.proofs.Renamed.{itself, AreProcedures}
 
 -- the bases of their objects, where names in scope are these
-abbrev pub WordsBased : List ℕ → Placed → List Binding → Place → Spot → ℕ → ℕ → Definitions → Type 0
+abbrev pub WordsBased : List ℕ → Placed → List Binding → Enclosing → Spot → ℕ → ℕ → Definitions → Type 0
 WordsBased all own bs p s i n t.no_definitions = Unit {0}
 WordsBased all own bs p s i n (t.define (t.routine l x fs c) ds) =
     BaseOf all i (word_base own n (meant (bound_in bs x)))
@@ -33,7 +33,7 @@ record LaterTarget (ts : List Target) (n j : ℕ) : Type 0 where
 later_on : (ts : List Target) (n m j : ℕ) → n ≤ m → LaterTarget ts m j → LaterTarget ts n j
 later_on ts n m j e t = let l = t.later in record { label = t.label; later = omega (arith, l, e); leads = t.leads }
 
-later_target : (own : Placed) (ts : List Target) (bs : List Binding) (p : Place) (s : Spot) (d n j : ℕ) (x : List ℕ) (ds : Definitions) → bound_in bs x ≡ Some (b.Static j) → AmongProcedures x ds
+later_target : (own : Placed) (ts : List Target) (bs : List Binding) (p : Enclosing) (s : Spot) (d n j : ℕ) (x : List ℕ) (ds : Definitions) → bound_in bs x ≡ Some (b.Static j) → AmongProcedures x ds
     → FoundParts own ts (parts_of_definitions d n (definitions_named bs p s ds)) → LaterTarget ts n j
 later_target own ts bs p s d n j x t.no_definitions e h f = elim h [ ]
 later_target own ts bs p s d n j x (t.define (t.routine l y fs c) ds) e (inl same) f =
@@ -70,7 +70,7 @@ one_word all own ts bs bl i n m x ds q (inr h) f later base e =
     let same : m + 1 ≡ l.label = ap (λ (z : Goal). z.label) (sym (own_target ts m h.1 bl x h.2 f) ∙ l.leads) in
     absurd (omega (arith, two, behind, same))
 
-pub procedures_based : (all : List ℕ) (own : Placed) (ts : List Target) (bs bl : List Binding) (p : Place) (s : Spot) (i n m d : ℕ) (ds : Definitions) → procedures_in_scope n ds bs ≡ bl → WordsBased all own bl p s i m ds
+pub procedures_based : (all : List ℕ) (own : Placed) (ts : List Target) (bs bl : List Binding) (p : Enclosing) (s : Spot) (i n m d : ℕ) (ds : Definitions) → procedures_in_scope n ds bs ≡ bl → WordsBased all own bl p s i m ds
     → FoundParts own ts (parts_of_definitions d m (definitions_named bl p s ds)) → AreProcedures all own ts bs i n ds
 procedures_based all own ts bs bl p s i n m d t.no_definitions e w f = tt
 procedures_based all own ts bs bl p s i n m d (t.define (t.routine l x fs c) ds) e w f =

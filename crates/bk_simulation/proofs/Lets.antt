@@ -6,9 +6,9 @@ use Rattle.bk_meaning.specs.Blocks.{Start, paired, starts, let_values, bind_vari
 use Rattle.bk_simulation.proofs.Memory.{Store, BaseOf, Alive, limit, Codes, Stands, StandsCell, Grown, Fits, stands_grown, Like, like_refl, like_on, fits_more}
 use Rattle.bk_simulation.proofs.Weights.{turns_started, turns_defined, turns_of}
 use Rattle.bk_simulation.proofs.Laid.{Setting, Scene, NamedIn, Spot, spots_of, defines_variables, AreStarts, AreDefined, KeepsLabels, variables_bound, AreAt}
-use Rattle.bk_simulation.proofs.Frame.{Sit, Ready, Account, Ran, went, so, with_ran, OpenArrived, store_at, named_grown, state, further, ran_same, Arrived, named_again}
+use Rattle.bk_simulation.proofs.Frame.{Configuration, Ready, Account, Ran, went, so, with_ran, OpenCompleted, store_at, named_grown, state, further, ran_same, Completed, named_again}
 use Rattle.bk_simulation.proofs.Simulates.{Simulates}
-use Rattle.bk_simulation.proofs.Compose.{arrived_more, out_more, turn_there, OpenExited, open_ticked, with_objects, open_sit, open_ready, open_wider, open_step, open_on, ran_open}
+use Rattle.bk_simulation.proofs.Compose.{completed_more, out_more, turn_there, OpenExited, open_ticked, with_objects, open_configuration, open_ready, open_wider, open_step, open_on, ran_open}
 use Rattle.bk_simulation.proofs.MadeObjects.{Since, since_refl, since_on, IsFree, make, make_fits_in, grown_made, lying, since_cells, since_moved, since_made, make_fits, get_new}
 use Rattle.bk_meaning.specs.Values.{Cell as Cell_of}
 use Rattle.std.specs.Prelude.{replicate}
@@ -47,15 +47,15 @@ starts_rise g sc (t.vector x e is) d env c rest d1 slots l =
     (let h = r.0 in omega arith, subst (λ y. Rising d y) (sym l.6) ((let z : d ≤ d + k + 1 = omega arith in z), rising_from (d + k + 2) (suc (d + k + 1)) l.2 (omega arith) r.1))
 
 -- What the values of variables come to.
-pub record Started (g : Setting) (s : State) (B : Account) (z : Sit) (w : World) (h : Store) (d : ℕ) (rest : List Stmt) (d1 : ℕ) (slots : List ℕ) (vs : List Value) (w1 : World) : Type 0 where
-  pub arr : OpenArrived g s B z w rest d1 (z.frame + d1) w1
+pub record Started (g : Setting) (s : State) (B : Account) (z : Configuration) (w : World) (h : Store) (d : ℕ) (rest : List Stmt) (d1 : ℕ) (slots : List ℕ) (vs : List Value) (w1 : World) : Type 0 where
+  pub arr : OpenCompleted g s B z w rest d1 (z.frame + d1) w1
   pub since : Since (z.frame + d) h (store_at arr)
   pub items : ItemsAt g.codes (store_at arr) z.frame d1 vs slots
 
 -- an object is made of words that wait there
 abbrev pub open_make : {g : Setting} {s : State} {A : Account} {own : Placed} {frame calls more top : ℕ} {h : Store} {c : List Stmt} {d : ℕ} {w1 : World}
-    (b : ℕ) (cells : List Cell_of) (more1 : ℕ) → (a : Arrived g s A own frame calls more (Since top h) c d w1) → top ≤ b
-    → Fits g.codes (make (store_at a) b cells) more1 → Arrived g s A own frame calls more1 (Since top h) c d (making cells w1)
+    (b : ℕ) (cells : List Cell_of) (more1 : ℕ) → (a : Completed g s A own frame calls more (Since top h) c d w1) → top ≤ b
+    → Fits g.codes (make (store_at a) b cells) more1 → Completed g s A own frame calls more1 (Since top h) c d (making cells w1)
 open_make {top = top} {h = h} {w1 = w1} b cells more1 a low f =
     with_objects (a.bases1 ++ b ∷ []) (making cells w1).memory more1 (Since top h) a f
     (since_on (omega arith) a.moved (since_made b cells (store_at a) a.fits.long low))
@@ -88,14 +88,14 @@ starts_after m grows (t.vector x e is) env w =
 
 -- ---- a VEC
 
-pub record VecDone (g : Setting) (s : State) (A : Account) (z : Sit) (w : World) (c rest : List Stmt) (d k : ℕ) (w1 : World) (a : OpenArrived g s A z w c d (z.frame + d) w1) : Type 0 where
-  pub arr : OpenArrived g s (record { most = A.most + 2; least = A.least }) z w rest (d + k + 2) (z.frame + (d + k + 2)) (making (vec_cells k) w1)
+pub record VecDone (g : Setting) (s : State) (A : Account) (z : Configuration) (w : World) (c rest : List Stmt) (d k : ℕ) (w1 : World) (a : OpenCompleted g s A z w c d (z.frame + d) w1) : Type 0 where
+  pub arr : OpenCompleted g s (record { most = A.most + 2; least = A.least }) z w rest (d + k + 2) (z.frame + (d + k + 2)) (making (vec_cells k) w1)
   pub since : Since (z.frame + d) (store_at a) (store_at arr)
   pub stands : Stands g.codes arr.bases1 (address (length w1.memory) 0) (content_of (arr.cells1 (z.frame + (d + k + 1))))
   pub free : IsFree (store_at arr) (z.frame + (d + k + 1))
 
-pub vec_done : (g : Setting) (s : State) (A : Account) (z : Sit) (w : World) (c rest : List Stmt) (d k : ℕ) (w1 : World) → Ready g z w → z.depth ≤ d → d + k + 2 ≤ FRAME_WORDS → c ≡ Stack (d + k + 1) ∷ Address (Local d) ∷ rest
-    → (a : OpenArrived g s A z w c d (z.frame + d) w1) → VecDone g s A z w c rest d k w1 a
+pub vec_done : (g : Setting) (s : State) (A : Account) (z : Configuration) (w : World) (c rest : List Stmt) (d k : ℕ) (w1 : World) → Ready g z w → z.depth ≤ d → d + k + 2 ≤ FRAME_WORDS → c ≡ Stack (d + k + 1) ∷ Address (Local d) ∷ rest
+    → (a : OpenCompleted g s A z w c d (z.frame + d) w1) → VecDone g s A z w c rest d k w1 a
 vec_done g s A z w c rest d k w1 r le fw ec a =
     let h1 : Store = store_at a in
     let like2 : (x : ℕ) → x < z.frame + d → Like (cells2 x) (a.cells1 x) = λ x lt.
@@ -110,9 +110,9 @@ vec_done g s A z w c rest d k w1 r le fw ec a =
     let m3 : Moves g.program st2 (state own (d + k + 2) rest cells3 z.frame None ((z.frame + (d + k + 1)) ∷ a.written1) w1) =
     subst (λ y. Moves g.program st2 (state own y rest (below (z.frame + y) (write cells2 (z.frame + (d + k + 1)) (Held Temporary (Word (z.frame + d))))) z.frame None ((z.frame + (d + k + 1)) ∷ a.written1) w1))
     (let q : d + k + 1 + 1 ≡ d + k + 2 = omega arith in q) (address_moves g.program st2 own rest (d + k + 1) (Local d) refl) in
-    let a3 : OpenArrived g s A2 z w rest (d + k + 2) (z.frame + d) w1 =
-    let a2 : OpenArrived g s (further 1 A) z w (Address (Local d) ∷ rest) (d + k + 1) (z.frame + d) w1 = open_step r (omega arith) a cells2 None a.written1 like2 m2 in
-    arrived_more (omega arith) (omega arith)
+    let a3 : OpenCompleted g s A2 z w rest (d + k + 2) (z.frame + d) w1 =
+    let a2 : OpenCompleted g s (further 1 A) z w (Address (Local d) ∷ rest) (d + k + 1) (z.frame + d) w1 = open_step r (omega arith) a cells2 None a.written1 like2 m2 in
+    completed_more (omega arith) (omega arith)
     (open_step r (omega arith) a2 cells3 None ((z.frame + (d + k + 1)) ∷ a.written1) (λ x lt. like_refl _ _ (same3 x (omega arith))) m3) in
     let f3 : Fits g.codes h3 (z.frame + d) = a3.fits in
     let f4 : Fits g.codes (make h3 b (vec_cells k)) (z.frame + (d + k + 2)) =
@@ -120,7 +120,7 @@ vec_done g s A z w c rest d k w1 r le fw ec a =
     fits_more g.codes (make h3 b (vec_cells k)) (b + length (vec_cells k)) (z.frame + (d + k + 2)) (let l = r.low in omega arith)
     (make_fits g.codes h3 (z.frame + d) b (vec_cells k) f3 (let q = r.high in omega arith) (omega arith) (let l : z.frame ≤ 2 ^ 31 - 65536 = r.low in let f : d + k + 2 ≤ FRAME_WORDS = fw in omega arith)
     (λ i x e. subst (λ y. StandsCell g.codes a.bases1 y (content_of (cells3 (b + i)))) (sym (vec_unset k i x e)) tt) (λ i lt. vec_word i (omega arith))) in
-    let a4 : OpenArrived g s A2 z w rest (d + k + 2) (z.frame + (d + k + 2)) (making (vec_cells k) w1) =
+    let a4 : OpenCompleted g s A2 z w rest (d + k + 2) (z.frame + (d + k + 2)) (making (vec_cells k) w1) =
     open_make b (vec_cells k) (z.frame + (d + k + 2)) a3 (omega arith) f4 in
     record {
       arr = a4;
@@ -167,14 +167,14 @@ vec_done g s A z w c rest d k w1 r le fw ec a =
 -- ---- all of them
 
 -- one more is there
-pub record NextItem (g : Setting) (s : State) (A : Account) (z : Sit) (w : World) (h : Store) (d n : ℕ) (rest : List Stmt) (d0 : ℕ) (v : Value) (w1 : World) : Type 0 where
-  pub arr : OpenArrived g s A z w rest d0 (z.frame + d0) w1
+pub record NextItem (g : Setting) (s : State) (A : Account) (z : Configuration) (w : World) (h : Store) (d n : ℕ) (rest : List Stmt) (d0 : ℕ) (v : Value) (w1 : World) : Type 0 where
+  pub arr : OpenCompleted g s A z w rest d0 (z.frame + d0) w1
   pub since : Since (z.frame + d) h (store_at arr)
   pub stands : Stands g.codes arr.bases1 v (content_of (arr.cells1 (z.frame + n)))
   pub free : IsFree (store_at arr) (z.frame + n)
 
 -- and those behind it
-item_before : (g : Setting) (s : State) (A B : Account) (z : Sit) (w : World) (h : Store) (d n : ℕ) (c rest : List Stmt) (d0 d1 : ℕ) (slots : List ℕ) (v : Value) (vs : List Value) (w1 w2 : World) → d ≤ n → n < d0 → d0 ≤ d1
+item_before : (g : Setting) (s : State) (A B : Account) (z : Configuration) (w : World) (h : Store) (d n : ℕ) (c rest : List Stmt) (d0 d1 : ℕ) (slots : List ℕ) (v : Value) (vs : List Value) (w1 w2 : World) → d ≤ n → n < d0 → d0 ≤ d1
     → (i : NextItem g s A z w h d n c d0 v w1) → Started g s B z w (store_at i.arr) d0 rest d1 slots vs w2 → Started g s B z w h d rest d1 (n ∷ slots) (v ∷ vs) w2
 item_before g s A B z w h d n c rest d0 d1 slots v vs w1 w2 le lt le1 i l =
     let h1 = store_at i.arr in
@@ -191,18 +191,18 @@ item_before g s A B z w h d n c rest d0 d1 slots v vs w1 w2 le lt le1 i l =
       );
     }
 
-no_item : (g : Setting) (s : State) (A B : Account) (z : Sit) (w : World) (c rest : List Stmt) (d d1 : ℕ) (slots : List ℕ) (w1 : World) → A.most ≤ B.most → B.least ≤ A.least → c ≡ rest → d1 ≡ d → slots ≡ []
-    → (a : OpenArrived g s A z w c d (z.frame + d) w1) → Started g s B z w (store_at a) d rest d1 slots [] w1
+no_item : (g : Setting) (s : State) (A B : Account) (z : Configuration) (w : World) (c rest : List Stmt) (d d1 : ℕ) (slots : List ℕ) (w1 : World) → A.most ≤ B.most → B.least ≤ A.least → c ≡ rest → d1 ≡ d → slots ≡ []
+    → (a : OpenCompleted g s A z w c d (z.frame + d) w1) → Started g s B z w (store_at a) d rest d1 slots [] w1
 no_item g s A B z w c rest d d1 slots w1 le le' ec ed es a =
     let h = store_at a in
     subst (λ y. Started g s B z w h d y d1 slots [] w1) ec
     (subst (λ y. Started g s B z w h d c y slots [] w1) (sym ed)
     (subst (λ y. Started g s B z w h d c d y [] w1) (sym es)
-    (record { arr = arrived_more le le' a; since = since_refl h; items = tt })))
+    (record { arr = completed_more le le' a; since = since_refl h; items = tt })))
 
-pub starts_run : (g : Setting) (m : Meanings) → Simulates g m → (is : Starts) (env : Environment) (bs : List Binding) (s : State) (A B : Account) (z : Sit) (w : World) (c rest : List Stmt) (d d1 : ℕ) (slots : List ℕ) (w1 : World)
+pub starts_run : (g : Setting) (m : Meanings) → Simulates g m → (is : Starts) (env : Environment) (bs : List Binding) (s : State) (A B : Account) (z : Configuration) (w : World) (c rest : List Stmt) (d d1 : ℕ) (slots : List ℕ) (w1 : World)
     → Ready g z w → z.depth ≤ d → KeepsLabels z.scene.bindings bs → d1 ≤ FRAME_WORDS → A.most ≤ B.most → B.least ≤ A.least - turns_started false is → AreStarts g (record z.scene { bindings = bs }) d env is c rest d1 slots
-    → (a : OpenArrived g s A z w c d (z.frame + d) w1) → NamedIn (record z.scene { bindings = bs }) env a.bases1 z.frame
+    → (a : OpenCompleted g s A z w c d (z.frame + d) w1) → NamedIn (record z.scene { bindings = bs }) env a.bases1 z.frame
     → Ran g s B (Started g s B z w (store_at a) d rest d1 slots) (OpenExited g s B z w) (starts m is env w1)
 starts_run g m sim t.no_starts env bs s A B z w c rest d d1 slots w1 r le keeps few le1 le2 l a named =
     went (no_item g s A B z w c rest d d1 slots w1 le1 (omega arith) l.0 l.1 l.2 a)
@@ -210,7 +210,7 @@ starts_run g m sim (t.value e is) env bs s A B z w c rest d d1 slots w1 r le kee
     let c0 = l.0 in
     let A1 : Account = record { most = A.most; least = A.least - turns_of false e } in
     let h = store_at a in
-    let z1 = open_sit g s A z w c d (z.frame + d) w1 a bs env in
+    let z1 = open_configuration g s A z w c d (z.frame + d) w1 a bs env in
     let rise = (starts_rise g (record z.scene { bindings = bs }) is (d + 1) (past e env) c0 rest d1 l.1 l.3).0 in
     let grows : Throughout (λ A w u. After (history w) u) m = sim.grows in
     with_ran {K = NextItem g s A1 z w h d d c0 (d + 1)}
@@ -243,7 +243,7 @@ starts_run g m sim (t.vector x e is) env bs s A B z w c rest d d1 slots w1 r le 
     let v = vec_done g s A0 z w c c0 d k (record w1 { turns = n }) r le (omega arith) l.4 a1 in
     let big : 16 ≤ A.most = (let q = a.most in omega arith) in
     subst (λ y. Ran g s B (NextItem g s A1 z w h d (d + k + 1) c0 (d + k + 2)) (OpenExited g s B z w) (make_vec y (record w1 { turns = n }))) (sym l.3)
-    (went (record { arr = arrived_more (omega arith) (omega arith) v.arr; since = v.since; stands = v.stands; free = v.free }))))
+    (went (record { arr = completed_more (omega arith) (omega arith) v.arr; since = v.since; stands = v.stands; free = v.free }))))
     (λ v w2 i. with_ran {K = λ vs w3. Started g s B z w h d rest d1 slots (v ∷ vs) w3} (λ vs. adds _ (λ w3. stays (history w3)))
     (ran_same (λ vs w3 q. subst (λ y. Started g s B z w h d rest d1 y (v ∷ vs) w3) (sym l.6) (item_before g s A1 B z w h d (d + k + 1) c0 rest (d + k + 2) d1 l.2 v vs w2 w3 (omega arith) (omega arith) rise i q))
     (starts_run g m sim is env bs s A1 B z w c0 rest (d + k + 2) d1 l.2 w2 r (omega arith) keeps few (omega arith) (omega arith) l.5 i.arr
@@ -317,15 +317,15 @@ spots_left codes h b c frame top (s ∷ ss) (p ∷ ps) long from lt r at =
 spots_left codes h b c frame top _ _ long from lt r at = at
 
 -- the variables are objects
-pub record Bound (g : Setting) (s : State) (A : Account) (z : Sit) (w : World) (c : List Stmt) (d more : ℕ) (w1 : World) (bases : List ℕ) (ss : List Start) (ps : List Spot) (env : Environment) : Type 0 where
+pub record Bound (g : Setting) (s : State) (A : Account) (z : Configuration) (w : World) (c : List Stmt) (d more : ℕ) (w1 : World) (bases : List ℕ) (ss : List Start) (ps : List Spot) (env : Environment) : Type 0 where
   pub world : World
   pub gives_it : bind_variables ss env w1 ≡ gives (variables_bound (length w1.memory) ps env) world
-  pub arr : OpenArrived g s A z w c d more world
+  pub arr : OpenCompleted g s A z w c d more world
   pub at : AreAt arr.bases1 (length w1.memory) z.frame ps
   pub grown : Grown bases arr.bases1
 
-pub bind_run : (ss : List Start) (ps : List Spot) (from : ℕ) (env : Environment) (g : Setting) (s : State) (A : Account) (z : Sit) (w : World) (c : List Stmt) (d top : ℕ) (w1 : World) → 16 ≤ z.frame → z.depth ≤ from → z.frame + top ≤ limit
-    → (a : OpenArrived g s A z w c d (z.frame + top) w1) → SpotsAt g.codes (store_at a) z.frame top ss ps → RisingSpots from ps → AreVariables a.cells1 z.frame ps
+pub bind_run : (ss : List Start) (ps : List Spot) (from : ℕ) (env : Environment) (g : Setting) (s : State) (A : Account) (z : Configuration) (w : World) (c : List Stmt) (d top : ℕ) (w1 : World) → 16 ≤ z.frame → z.depth ≤ from → z.frame + top ≤ limit
+    → (a : OpenCompleted g s A z w c d (z.frame + top) w1) → SpotsAt g.codes (store_at a) z.frame top ss ps → RisingSpots from ps → AreVariables a.cells1 z.frame ps
     → Bound g s A z w c d (z.frame + top) w1 a.bases1 ss ps env
 bind_run [] [] from env g s A z w c d top w1 high le lim a at rise vars = record { world = w1; gives_it = refl; arr = a; at = tt; grown = record { each = λ o b e. e } }
 bind_run (st ∷ ss) (p ∷ ps) from env g s A z w c d top w1 high le lim a at rise vars =
@@ -357,14 +357,14 @@ bind_run (st ∷ ss) (p ∷ ps) from env g s A z w c d top w1 high le lim a at r
 bind_run _ _ from env g s A z w c d top w1 high le lim a at rise vars = absurd at
 
 -- a run in a smaller account
-pub open_lift : {T : Type 0} {g : Setting} {s : State} {A B : Account} {z : Sit} {w : World} {K L : T → World → Type 0} {o : Outcome T} → A.most ≤ B.most
+pub open_lift : {T : Type 0} {g : Setting} {s : State} {A B : Account} {z : Configuration} {w : World} {K L : T → World → Type 0} {o : Outcome T} → A.most ≤ B.most
     → B.least ≤ A.least → ((t : T) (w1 : World) → K t w1 → L t w1)
     → Ran g s A K (OpenExited g s A z w) o → Ran g s B L (OpenExited g s B z w) o
 open_lift le le' h q = so le le' h (λ x w1 e. record { more = e.more; is = out_more le le' e.is }) q
 
 -- the values of a LET
-pub record Lets (g : Setting) (s : State) (B : Account) (z : Sit) (w : World) (h : Store) (d : ℕ) (rest : List Stmt) (d1 : ℕ) (ps : List Spot) (vars : Bool) (ss : List Start) (w1 : World) : Type 0 where
-  pub arr : OpenArrived g s B z w rest d1 (z.frame + d1) w1
+pub record Lets (g : Setting) (s : State) (B : Account) (z : Configuration) (w : World) (h : Store) (d : ℕ) (rest : List Stmt) (d1 : ℕ) (ps : List Spot) (vars : Bool) (ss : List Start) (w1 : World) : Type 0 where
+  pub arr : OpenCompleted g s B z w rest d1 (z.frame + d1) w1
   pub since : Since (z.frame + d) h (store_at arr)
   pub items : SpotsAt g.codes (store_at arr) z.frame d1 ss ps
   -- the turn of the variables leaves a step for STORE
@@ -416,18 +416,18 @@ let_values_after m grows (t.define (t.variables l xs is) ds) env w =
 let_values_after m grows (t.define (t.routine l x fs c) ds) env w = let_values_after m grows ds (past_definition (t.routine l x fs c) env) w
 let_values_after m grows (t.define (t.function l x fs e) ds) env w = let_values_after m grows ds (past_definition (t.function l x fs e) env) w
 
-no_let : (g : Setting) (s : State) (A B : Account) (z : Sit) (w : World) (c rest : List Stmt) (d d1 : ℕ) (ps : List Spot) (w1 : World) → A.most ≤ B.most → B.least ≤ A.least → c ≡ rest → d1 ≡ d → ps ≡ []
-    → (a : OpenArrived g s A z w c d (z.frame + d) w1) → Lets g s B z w (store_at a) d rest d1 ps false [] w1
+no_let : (g : Setting) (s : State) (A B : Account) (z : Configuration) (w : World) (c rest : List Stmt) (d d1 : ℕ) (ps : List Spot) (w1 : World) → A.most ≤ B.most → B.least ≤ A.least → c ≡ rest → d1 ≡ d → ps ≡ []
+    → (a : OpenCompleted g s A z w c d (z.frame + d) w1) → Lets g s B z w (store_at a) d rest d1 ps false [] w1
 no_let g s A B z w c rest d d1 ps w1 le le' ec ed es a =
     let h = store_at a in
     subst (λ y. Lets g s B z w h d y d1 ps false [] w1) ec
     (subst (λ y. Lets g s B z w h d c y ps false [] w1) (sym ed)
     (subst (λ y. Lets g s B z w h d c d y false [] w1) (sym es)
-    (record { arr = arrived_more le le' a; since = since_refl h; items = tt; spare = λ q. absurd (let z : false ≡ true = q in cc) })))
+    (record { arr = completed_more le le' a; since = since_refl h; items = tt; spare = λ q. absurd (let z : false ≡ true = q in cc) })))
 
-pub let_run : (g : Setting) (m : Meanings) → Simulates g m → (ds : Definitions) (env : Environment) (bs : List Binding) (s : State) (A B : Account) (z : Sit) (w : World) (c rest : List Stmt) (d d1 : ℕ) (ps : List Spot) (w1 : World)
+pub let_run : (g : Setting) (m : Meanings) → Simulates g m → (ds : Definitions) (env : Environment) (bs : List Binding) (s : State) (A B : Account) (z : Configuration) (w : World) (c rest : List Stmt) (d d1 : ℕ) (ps : List Spot) (w1 : World)
     → Ready g z w → z.depth ≤ d → KeepsLabels z.scene.bindings bs → d1 ≤ FRAME_WORDS → A.most ≤ B.most → B.least ≤ A.least - turns_defined false ds → AreDefined g (record z.scene { bindings = bs }) d env ds c rest d1 ps
-    → (a : OpenArrived g s A z w c d (z.frame + d) w1) → NamedIn (record z.scene { bindings = bs }) env a.bases1 z.frame
+    → (a : OpenCompleted g s A z w c d (z.frame + d) w1) → NamedIn (record z.scene { bindings = bs }) env a.bases1 z.frame
     → Ran g s B (Lets g s B z w (store_at a) d rest d1 ps (defines_variables ds)) (OpenExited g s B z w) (let_values m ds env w1)
 let_run g m sim t.no_definitions env bs s A B z w c rest d d1 ps w1 r le keeps few le1 le2 l a named =
     went (no_let g s A B z w c rest d d1 ps w1 le1 (omega arith) l.0 l.1 l.2 a)
@@ -463,7 +463,7 @@ let_run g m sim (t.define (t.variables x xs is) ds) env bs s A B z w c rest d d1
     let mk = k.arr.most in
     let h2 = store_at k.arr in
     subst (λ y. Lets g s B z w h d rest d1 y true (paired (letters xs) vs ++ more) w3) (sym l.6) (record {
-      arr = arrived_more (omega arith) (omega arith) k.arr;
+      arr = completed_more (omega arith) (omega arith) k.arr;
       since = since_on (omega arith) q.since k.since;
       items =
           spots_both g.codes h2 z.frame d1 (paired (letters xs) vs) more (spots_of (letters xs) l.2) l.3

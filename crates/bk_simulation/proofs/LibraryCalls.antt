@@ -15,7 +15,7 @@ use Rattle.bk_simulation.proofs.WrittenCells.{untouched}
 use Rattle.bk_simulation.proofs.CellBytes.{AreBytes, read_byte_at, write_byte_at, word_number}
 use Rattle.bk_simulation.proofs.BytesKept.{HasBytes}
 use Rattle.bk_simulation.proofs.Laid.{Setting, CallAt}
-use Rattle.bk_simulation.proofs.Frame.{Sit, store, Ready, Account, Comes, Ran, went, by_option, by_truth}
+use Rattle.bk_simulation.proofs.Frame.{Configuration, store, Ready, Account, Comes, Ran, went, by_option, by_truth}
 use Rattle.bk_simulation.proofs.Calls.{AnyExit, call_stmt, Gave, returned_in}
 use Rattle.bk_base.specs.Format as f
 
@@ -132,7 +132,7 @@ named_there value.putbyte = ocode.Putbyte
 named_there value.writef = ocode.Writef
 
 -- The run has come to a routine, in its frame.
-pub record AtRoutine (g : Setting) (s : State) (A : Account) (z : Sit) (w : World) (vs : List Value) (back e : ℕ) (w1 : World) : Type 0 where
+pub record AtRoutine (g : Setting) (s : State) (A : Account) (z : Configuration) (w : World) (vs : List Value) (back e : ℕ) (w1 : World) : Type 0 where
   pub bases1 : List ℕ
   pub cells1 : ℕ → Cell
   pub written1 : List ℕ
@@ -164,7 +164,7 @@ routine_stepped program s n r none e er =
     ∙ ap (λ y. step_from program.callables s y) e
     ∙ ap (λ y. on_some y (λ routine. routine_step s routine)) er
 
-module _ (of : Bool) (g : Setting) (s : State) (A B : Account) (z : Sit) (rest : List Stmt) (w w1 : World) (vs : List Value) (r : value.Routine) (n : ℕ)
+module _ (of : Bool) (g : Setting) (s : State) (A B : Account) (z : Configuration) (rest : List Stmt) (w w1 : World) (vs : List Value) (r : value.Routine) (n : ℕ)
     (le : A.most + 1 ≤ B.most) (le' : B.least ≤ A.least) (en : n ≡ w.calls) (ready : Ready g z w) (call : CallAt g z.scene (call_stmt of z.depth) rest)
     (known : g.program.callables.routine (g.codes.routine r) ≡ Some (named_there r))
     (at : AtRoutine g s A z w vs (z.scene.own.places.call (length rest)) (g.codes.routine r) w1) where
@@ -238,7 +238,7 @@ low_byte top w i b cells k e = by_variable (variable_at top cells (word_sum w (b
 held_bytes : (cells : ℕ → Cell) → ((a : ℕ) → AreBytes (content_of (cells a))) → (p : ℕ) (k : Content) → cells p ≡ Held Variable k → AreBytes k
 held_bytes cells all p k e = subst (λ c. AreBytes (content_of c)) e (all p)
 
-pub library_runs : (of : Bool) (g : Setting) (s : State) (A B : Account) (z : Sit) (rest : List Stmt) (w w1 : World) (vs : List Value) (r : value.Routine) (n : ℕ) → A.most + 1 ≤ B.most → B.least ≤ A.least → n ≡ w.calls → Ready g z w
+pub library_runs : (of : Bool) (g : Setting) (s : State) (A B : Account) (z : Configuration) (rest : List Stmt) (w w1 : World) (vs : List Value) (r : value.Routine) (n : ℕ) → A.most + 1 ≤ B.most → B.least ≤ A.least → n ≡ w.calls → Ready g z w
     → CallAt g z.scene (call_stmt of z.depth) rest → g.program.callables.routine (g.codes.routine r) ≡ Some (named_there r) → AtRoutine g s A z w vs (z.scene.own.places.call (length rest)) (g.codes.routine r) w1
     → Ran g s B (λ v w3. Gave of g s B z rest w v (calls_back n w3)) AnyExit (library r vs w1)
 library_runs of g s A B z rest w w1 (number k ∷ vs) value.stop n le le' en ready call known at =

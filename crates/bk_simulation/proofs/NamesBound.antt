@@ -46,8 +46,8 @@ absent_both : (y : List ℕ) (xs ys : List (List ℕ)) → Absent y xs → Absen
 absent_both y [] ys a b = b
 absent_both y (x ∷ xs) ys a b = (a.0, absent_both y xs ys a.1 b)
 
-other_way : (x y : List ℕ) → bytes_eq y x ≡ false → bytes_eq x y ≡ false
-other_way x y e = by_test (bytes_eq x y)
+other_evaluation : (x y : List ℕ) → bytes_eq y x ≡ false → bytes_eq x y ≡ false
+other_evaluation x y e = by_test (bytes_eq x y)
     (λ (h : bytes_eq x y ≡ true). not_true (sym e ∙ (bytes_eq-Decides y x).1 (sym ((bytes_eq-Decides x y).0 h))))
     (λ (h : bytes_eq x y ≡ false). h)
 
@@ -62,7 +62,7 @@ or_second_false true b h = not_true (sym h)
 -- a label that does not stand there is none of the scope's
 mutual
   absent_in : (y : List ℕ) (env : Environment) (c : Action) → stands_in (the_label y) env c ≡ false → Absent y (labels_of c)
-  absent_in y env (t.label l x c) h = (other_way x y (or_first_false (bytes_eq y x) (stands_in (the_label y) env c) h), absent_in y env c (or_second_false (bytes_eq y x) (stands_in (the_label y) env c) h))
+  absent_in y env (t.label l x c) h = (other_evaluation x y (or_first_false (bytes_eq y x) (stands_in (the_label y) env c) h), absent_in y env c (or_second_false (bytes_eq y x) (stands_in (the_label y) env c) h))
   absent_in y env (t.case_of l e c) h = absent_in y env c h
   absent_in y env (t.default l c) h = absent_in y env c h
   absent_in y env (t.when l b e c) h = absent_in y env c h

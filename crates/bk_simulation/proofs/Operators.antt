@@ -7,8 +7,8 @@ use Rattle.bk_simulation.proofs.WrittenCells.{read_at, variable_found, read_here
 use Rattle.bk_simulation.proofs.CellBytes.{read_byte_at}
 use Rattle.bk_simulation.proofs.OperatorWords.{operates, sum_applied, negates, inverts, PrefixedAs, OperatedAs}
 use Rattle.bk_simulation.proofs.Laid.{Setting, IsValue, named_word, Scene, LabelAt, IsJump}
-use Rattle.bk_simulation.proofs.Frame.{Sit, Account, there, Has, went, start, Ready, Ran, with_ran, ArrivedAt, Out, next, ready_next, store, state, place_of, IsWord, NameAt, by_option, Arrived}
-use Rattle.bk_simulation.proofs.Compose.{topped, arrived_more, arrived_on, ran_on, ran_first, ran_more, above, stay}
+use Rattle.bk_simulation.proofs.Frame.{Configuration, Account, there, Has, went, start, Ready, Ran, with_ran, CompletedAt, Out, next, ready_next, store, state, place_of, IsWord, NameAt, by_option, Completed}
+use Rattle.bk_simulation.proofs.Compose.{topped, completed_more, completed_on, ran_on, ran_first, ran_more, above, stay}
 use Rattle.bk_simulation.proofs.Weights.{turns_of}
 use Rattle.bk_simulation.proofs.Simulates.{Simulates, for_value, for_truth, where_to, HasTruth}
 use Rattle.std.specs.Int.{w32}
@@ -22,14 +22,14 @@ use Rattle.bk_scope.specs.declared.bound.Bound.TheVariants as b
 
 -- ---- Values without parts: numbers, names, strings, tables, TRUE, FALSE and `?`.
 
-abbrev pub RanValue : Setting → State → Account → Sit → List Stmt → World → Outcome Value → Type 0
+abbrev pub RanValue : Setting → State → Account → Configuration → List Stmt → World → Outcome Value → Type 0
 RanValue g s B z rest w o = Ran g s B (Has g s B z rest (z.depth + 1) w) (Out g s B z w) o
 
 -- a word is pushed
-abbrev with_item : Sit → Content → List Stmt → World → State
+abbrev with_item : Configuration → Content → List Stmt → World → State
 with_item z x rest w = state z.scene.own (z.depth + 1) rest (below (z.frame + (z.depth + 1)) (write z.cells (z.frame + z.depth) (Held Temporary x))) z.frame None ((z.frame + z.depth) ∷ z.written) w
 
-pub pushes_item : (g : Setting) (B : Account) (z : Sit) (c : List Stmt) (i : Stmt) (rest : List Stmt) (w : World) (v : Value) (x : Content) → 16 * w.turns + 1 ≤ B.most → B.least ≤ w.turns → c ≡ i ∷ rest → Ready g z w
+pub pushes_item : (g : Setting) (B : Account) (z : Configuration) (c : List Stmt) (i : Stmt) (rest : List Stmt) (w : World) (v : Value) (x : Content) → 16 * w.turns + 1 ≤ B.most → B.least ≤ w.turns → c ≡ i ∷ rest → Ready g z w
     → Stands g.codes z.bases v x → Moves g.program (start z (i ∷ rest) w) (with_item z x rest w) → Has g (start z c w) B z rest (z.depth + 1) w v w
 pushes_item g B z c i rest w v x le le' ec r st e =
     let A : Account = record { most = 16 * w.turns; least = w.turns } in
@@ -40,20 +40,20 @@ pushes_item g B z c i rest w v x le le' ec r st e =
 pub same_number : (n : ℕ) → n < 2 ^ 32 → word_of (signed n) ≡ n
 same_number n lt = of_z-to_z w32 n lt
 
-pub number_runs : (g : Setting) (B : Account) (z : Sit) (c : List Stmt) (n : ℕ) (rest : List Stmt) (w : World) → 16 * w.turns + 1 ≤ B.most → B.least ≤ w.turns → c ≡ Number (signed n) ∷ rest → n < 2 ^ 32 → Ready g z w
+pub number_runs : (g : Setting) (B : Account) (z : Configuration) (c : List Stmt) (n : ℕ) (rest : List Stmt) (w : World) → 16 * w.turns + 1 ≤ B.most → B.least ≤ w.turns → c ≡ Number (signed n) ∷ rest → n < 2 ^ 32 → Ready g z w
     → RanValue g (start z c w) B z rest w (gives (number n) w)
 number_runs g B z c n rest w le le' ec lt r =
     went (pushes_item g B z c (Number (signed n)) rest w (number n) (Word (word_of (signed n))) le le' ec r (ap Word (same_number n lt))
     (number_moves g.program (start z (Number (signed n) ∷ rest) w) z.scene.own rest z.depth (signed n) refl))
 
-pub truth_runs : (g : Setting) (B : Account) (z : Sit) (c : List Stmt) (t : Bool) (rest : List Stmt) (w : World) → 16 * w.turns + 1 ≤ B.most → B.least ≤ w.turns → c ≡ truth_value t ∷ rest → Ready g z w
+pub truth_runs : (g : Setting) (B : Account) (z : Configuration) (c : List Stmt) (t : Bool) (rest : List Stmt) (w : World) → 16 * w.turns + 1 ≤ B.most → B.least ≤ w.turns → c ≡ truth_value t ∷ rest → Ready g z w
     → RanValue g (start z c w) B z rest w (gives (number (truth_word t)) w)
 truth_runs g B z c true rest w le le' ec r =
     went (pushes_item g B z c True rest w (number (truth_word true)) (Word (truth_word true)) le le' ec r refl (true_moves g.program (start z (True ∷ rest) w) z.scene.own rest z.depth refl))
 truth_runs g B z c false rest w le le' ec r =
     went (pushes_item g B z c False rest w (number (truth_word false)) (Word (truth_word false)) le le' ec r refl (false_moves g.program (start z (False ∷ rest) w) z.scene.own rest z.depth refl))
 
-pub query_runs : (g : Setting) (B : Account) (z : Sit) (c : List Stmt) (rest : List Stmt) (w : World) → 16 * w.turns + 1 ≤ B.most → B.least ≤ w.turns → c ≡ Query ∷ rest → Ready g z w
+pub query_runs : (g : Setting) (B : Account) (z : Configuration) (c : List Stmt) (rest : List Stmt) (w : World) → 16 * w.turns + 1 ≤ B.most → B.least ≤ w.turns → c ≡ Query ∷ rest → Ready g z w
     → RanValue g (start z c w) B z rest w (gives unset w)
 query_runs g B z c rest w le le' ec r =
     went (pushes_item g B z c Query rest w unset Unset le le' ec r tt (query_moves g.program (start z (Query ∷ rest) w) z.scene.own rest z.depth refl))
@@ -68,20 +68,20 @@ lasting_stands g bases o base grown e =
     let zero : base ≡ (base + 0) % 2 ^ 32 = small_base base low in
     (base, grown.each o base e, omega arith, ap Word zero)
 
-pub text_runs : (g : Setting) (B : Account) (z : Sit) (c : List Stmt) (bytes : List ℕ) (rest : List Stmt) (w : World) (o : ℕ) → 16 * w.turns + 1 ≤ B.most → B.least ≤ w.turns → c ≡ Text bytes ∷ rest
+pub text_runs : (g : Setting) (B : Account) (z : Configuration) (c : List Stmt) (bytes : List ℕ) (rest : List Stmt) (w : World) (o : ℕ) → 16 * w.turns + 1 ≤ B.most → B.least ≤ w.turns → c ≡ Text bytes ∷ rest
     → BaseOf g.lasting o (z.scene.own.places.text (length rest)) → Ready g z w → RanValue g (start z c w) B z rest w (gives (address o 0) w)
 text_runs g B z c bytes rest w o le le' ec e r =
     went (pushes_item g B z c (Text bytes) rest w (address o 0) (Word (z.scene.own.places.text (length rest))) le le' ec r (lasting_stands g z.bases o _ r.lasts e)
     (text_moves g.program (start z (Text bytes ∷ rest) w) z.scene.own rest z.depth bytes refl))
 
-pub table_runs : (g : Setting) (B : Account) (z : Sit) (c : List Stmt) (n : ℕ) (rest : List Stmt) (w : World) (o : ℕ) → 16 * w.turns + 1 ≤ B.most → B.least ≤ w.turns → c ≡ Address (Static n) ∷ rest
+pub table_runs : (g : Setting) (B : Account) (z : Configuration) (c : List Stmt) (n : ℕ) (rest : List Stmt) (w : World) (o : ℕ) → 16 * w.turns + 1 ≤ B.most → B.least ≤ w.turns → c ≡ Address (Static n) ∷ rest
     → BaseOf g.lasting o (z.scene.own.places.label n) → Ready g z w → RanValue g (start z c w) B z rest w (gives (address o 0) w)
 table_runs g B z c n rest w o le le' ec e r =
     went (pushes_item g B z c (Address (Static n)) rest w (address o 0) (Word (z.scene.own.places.label n)) le le' ec r (lasting_stands g z.bases o _ r.lasts e)
     (address_moves g.program (start z (Address (Static n) ∷ rest) w) z.scene.own rest z.depth (Static n) refl))
 
 -- the place that a statement names
-pub named_at : (z : Sit) (c : List Stmt) (w : World) (v : Named) → named_place (start z c w) z.scene.own v ≡ place_of z.scene.own z.frame v
+pub named_at : (z : Configuration) (c : List Stmt) (w : World) (v : Named) → named_place (start z c w) z.scene.own v ≡ place_of z.scene.own z.frame v
 named_at z c w (Local n) = refl
 named_at z c w _ = refl
 
@@ -92,7 +92,7 @@ push_word ts (Some (b.Variable k i)) h = refl
 push_word ts _ h = absurd h
 
 -- the word of a name is pushed
-cell_runs : (g : Setting) (B : Account) (z : Sit) (c : List Stmt) (x : List ℕ) (rest : List Stmt) (w : World) (o i base : ℕ) → 16 * w.turns + 1 ≤ B.most → B.least ≤ w.turns → c ≡ Load (named_word z.scene x) ∷ rest → Ready g z w
+cell_runs : (g : Setting) (B : Account) (z : Configuration) (c : List Stmt) (x : List ℕ) (rest : List Stmt) (w : World) (o i base : ℕ) → 16 * w.turns + 1 ≤ B.most → B.least ≤ w.turns → c ≡ Load (named_word z.scene x) ∷ rest → Ready g z w
     → BaseOf z.bases o base → base + i ≡ place_of z.scene.own z.frame (named_word z.scene x) → (y : Option Value) → read w.memory (address o i) ≡ y → RanValue g (start z c w) B z rest w (given y w)
 cell_runs g B z c x rest w o i base le le' ec r eb ep None h = went tt
 cell_runs g B z c x rest w o i base le le' ec r eb ep (Some v) h =
@@ -103,7 +103,7 @@ cell_runs g B z c x rest w o i base le le' ec r eb ep (Some v) h =
     (subst (λ k. Stands g.codes z.bases v k) (sym (ap content_of (here ∙ f.there))) f.stands)
     (load_moves g.program s z.scene.own rest z.depth (named_word z.scene x) refl))
 
-pub name_runs : (g : Setting) (B : Account) (z : Sit) (c : List Stmt) (x : List ℕ) (rest : List Stmt) (w : World) → 16 * w.turns + 1 ≤ B.most → B.least ≤ w.turns → c ≡ push z.scene.targets (meant (bound_in z.scene.bindings x)) ∷ rest
+pub name_runs : (g : Setting) (B : Account) (z : Configuration) (c : List Stmt) (x : List ℕ) (rest : List Stmt) (w : World) → 16 * w.turns + 1 ≤ B.most → B.least ≤ w.turns → c ≡ push z.scene.targets (meant (bound_in z.scene.bindings x)) ∷ rest
     → Ready g z w → RanValue g (start z c w) B z rest w (named (sense_of x z.env) w)
 name_runs g B z c x rest w le le' ec r = by_sense (sense_of x z.env) (r.named.each x)
   where
@@ -115,20 +115,20 @@ name_runs g B z c x rest w le le' ec r = by_sense (sense_of x z.env) (r.named.ea
 
 -- ---- One value and two, and what is done with them.
 
-pub value_run : (g : Setting) (m : Meanings) → Simulates g m → (e : Expression) (z : Sit) (c rest : List Stmt) (w : World) → IsValue g z.scene z.depth z.env e c rest → Ready g z w
+pub value_run : (g : Setting) (m : Meanings) → Simulates g m → (e : Expression) (z : Configuration) (c rest : List Stmt) (w : World) → IsValue g z.scene z.depth z.env e c rest → Ready g z w
     → Ran g (start z c w) (for_value e w) (Has g (start z c w) (for_value e w) z rest (z.depth + 1) w) (Out g (start z c w) (for_value e w) z w) (m.value e z.env w)
 value_run g m sim e z c rest w l r = ran_first (omega arith) (omega arith) (λ t w1 q. q.0) (sim.value e z c rest w l r)
 
 -- One value, and what follows it.
-pub one_run : {T : Type 0} (g : Setting) (m : Meanings) → Simulates g m → (B : Account) (e : Expression) (z : Sit) (c rest : List Stmt) (w : World) (L : T → World → Type 0) (go : Value → World → Outcome T)
+pub one_run : {T : Type 0} (g : Setting) (m : Meanings) → Simulates g m → (B : Account) (e : Expression) (z : Configuration) (c rest : List Stmt) (w : World) (L : T → World → Type 0) (go : Value → World → Outcome T)
     → ((u : Value) → Adds (go u)) → 16 * w.turns ≤ B.most + 4 → B.least ≤ w.turns - turns_of false e → IsValue g z.scene z.depth z.env e c rest → Ready g z w
     → ((u : Value) (w1 : World) → Has g (start z c w) (for_value e w) z rest (z.depth + 1) w u w1 → 1 ≤ w.turns → Ran g (start z c w) B L (Out g (start z c w) B z w) (go u w1))
     → Ran g (start z c w) B L (Out g (start z c w) B z w) (with (m.value e z.env w) go)
 one_run g m sim B e z c rest w L go ad le le' l r h = with_ran ad (ran_more (omega arith) (omega arith) (sim.value e z c rest w l r)) (λ u w1 q. h u w1 q.0 q.1)
 
 -- two values are on top
-pub record Two (g : Setting) (s : State) (A : Account) (z : Sit) (c : List Stmt) (w : World) (u v : Value) (w2 : World) : Type 0 where
-  pub arr : ArrivedAt g s A z c (z.depth + 1 + 1) w w2
+pub record Two (g : Setting) (s : State) (A : Account) (z : Configuration) (c : List Stmt) (w : World) (u v : Value) (w2 : World) : Type 0 where
+  pub arr : CompletedAt g s A z c (z.depth + 1 + 1) w w2
   pub first : Stands g.codes arr.bases1 u (content_of (arr.cells1 (z.frame + z.depth)))
   pub second : Stands g.codes arr.bases1 v (content_of (arr.cells1 (z.frame + (z.depth + 1))))
 
@@ -136,7 +136,7 @@ abbrev pub for_two : Expression → Expression → World → Account
 for_two a b w = record { most = 16 * w.turns - 4; least = w.turns - (turns_of false a + turns_of false b) }
 
 -- Two values, and what follows them.
-pub two_run : {T : Type 0} (g : Setting) (m : Meanings) → Simulates g m → (B : Account) (a b : Expression) (z : Sit) (c c1 rest : List Stmt) (w : World) (L : T → World → Type 0) (go : Value → Value → World → Outcome T)
+pub two_run : {T : Type 0} (g : Setting) (m : Meanings) → Simulates g m → (B : Account) (a b : Expression) (z : Configuration) (c c1 rest : List Stmt) (w : World) (L : T → World → Type 0) (go : Value → Value → World → Outcome T)
     → ((u v : Value) → Adds (go u v)) → 16 * w.turns ≤ B.most + 4 → B.least ≤ w.turns - (turns_of false a + turns_of false b) → IsValue g z.scene z.depth z.env a c c1
     → IsValue g z.scene (z.depth + 1) (past a z.env) b c1 rest → Ready g z w
     → ((u v : Value) (w2 : World) → Two g (start z c w) (for_two a b w) z rest w u v w2 → 1 ≤ w.turns → Ran g (start z c w) B L (Out g (start z c w) B z w) (go u v w2))
@@ -145,12 +145,12 @@ two_run g m sim B a b z c c1 rest w L go ad le le' la lb r h =
     one_run g m sim B a z c c1 w L _ (λ u. adds _ (λ w1. with_after _ _ _ (sim.grows.value b (past a z.env) w1) (λ v. ad u v))) le (omega arith) la r (λ u w1 va pos.
     with_ran {K = λ v w2. Two g (start z c w) (for_two a b w) z rest w u v w2} (λ v. ad u v)
     (ran_on (omega arith) (omega arith) r (omega arith) va.arr
-    (λ v w2 q. record { arr = arrived_on (omega arith) (omega arith) r (omega arith) va.arr q.arr; first = above va q.arr; second = q.stands })
+    (λ v w2 q. record { arr = completed_on (omega arith) (omega arith) r (omega arith) va.arr q.arr; first = above va q.arr; second = q.stands })
     (value_run g m sim b (next g (start z c w) (for_value a w) z c1 (z.depth + 1) w w1 (past a z.env) (z.depth + 1) va.arr) c1 rest w1 lb (ready_next (past a z.env) (z.depth + 1) va.arr refl (omega arith) r)))
     (λ v w2 q. h u v w2 q pos))
 
 -- the contents of an address on top
-pub contents_run : (g : Setting) (s : State) (A B : Account) (z : Sit) (rest : List Stmt) (w w1 : World) (u : Value) → A.most + 1 ≤ B.most → B.least ≤ A.least → 2 ≤ z.depth
+pub contents_run : (g : Setting) (s : State) (A B : Account) (z : Configuration) (rest : List Stmt) (w w1 : World) (u : Value) → A.most + 1 ≤ B.most → B.least ≤ A.least → 2 ≤ z.depth
     → Has g s A z (Monadic m.Contents ∷ rest) (z.depth + 1) w u w1 → RanValue g s B z rest w (fetch u w1)
 contents_run g s A B z rest w w1 u le le' dp a = by_option (λ y. RanValue g s B z rest w (given y w1)) (read w1.memory u) (λ _. went tt) (λ v h.
     let f = read_at g.codes _ (z.frame + z.depth) u v _ a.arr.fits a.stands h in
@@ -161,7 +161,7 @@ contents_run g s A B z rest w w1 u le le' dp a = by_option (λ y. RanValue g s B
     (variable_found (z.frame + (z.depth + 1)) (f.base + f.offset) a.arr.cells1 k (omega arith) f.cell.there))))
 
 -- a sign or NOT
-pub minus_run : (g : Setting) (s : State) (A B : Account) (z : Sit) (rest : List Stmt) (w w1 : World) (u : Value) → A.most + 1 ≤ B.most → B.least ≤ A.least → 2 ≤ z.depth
+pub minus_run : (g : Setting) (s : State) (A B : Account) (z : Configuration) (rest : List Stmt) (w w1 : World) (u : Value) → A.most + 1 ≤ B.most → B.least ≤ A.least → 2 ≤ z.depth
     → Has g s A z (Monadic m.Negate ∷ rest) (z.depth + 1) w u w1 → RanValue g s B z rest w (operate_prefix q.Minus u w1)
 minus_run g s A B z rest w w1 u le le' dp a = by_outcome (operate_prefix q.Minus u w1) (negates g.codes a.arr.bases1 a.arr.cells1 (z.frame + z.depth) w1 a.arr.fits u _ a.stands)
   where
@@ -171,7 +171,7 @@ minus_run g s A B z rest w w1 u le le' dp a = by_outcome (operate_prefix q.Minus
     by_outcome undefined h = went tt
     by_outcome _ h = absurd h
 
-pub not_run : (g : Setting) (s : State) (A B : Account) (z : Sit) (rest : List Stmt) (w w1 : World) (u : Value) → A.most + 1 ≤ B.most → B.least ≤ A.least → 2 ≤ z.depth
+pub not_run : (g : Setting) (s : State) (A B : Account) (z : Configuration) (rest : List Stmt) (w w1 : World) (u : Value) → A.most + 1 ≤ B.most → B.least ≤ A.least → 2 ≤ z.depth
     → Has g s A z (Monadic m.Not ∷ rest) (z.depth + 1) w u w1 → RanValue g s B z rest w (operate_prefix q.Not u w1)
 not_run g s A B z rest w w1 u le le' dp a = by_outcome (operate_prefix q.Not u w1) (inverts g.codes a.arr.bases1 a.arr.cells1 (z.frame + z.depth) w1 a.arr.fits u _ a.stands)
   where
@@ -182,16 +182,16 @@ not_run g s A B z rest w w1 u le le' dp a = by_outcome (operate_prefix q.Not u w
     by_outcome _ h = absurd h
 
 -- `+` before a number has no code
-pub plus_run : (g : Setting) (s : State) (A B : Account) (z : Sit) (rest : List Stmt) (w w1 : World) (u : Value) → A.most ≤ B.most → B.least ≤ A.least
+pub plus_run : (g : Setting) (s : State) (A B : Account) (z : Configuration) (rest : List Stmt) (w w1 : World) (u : Value) → A.most ≤ B.most → B.least ≤ A.least
     → Has g s A z rest (z.depth + 1) w u w1 → RanValue g s B z rest w (operate_prefix q.Plus u w1)
-plus_run g s A B z rest w w1 (number n) le le' a = went (record { arr = arrived_more le le' a.arr; stands = a.stands })
+plus_run g s A B z rest w w1 (number n) le le' a = went (record { arr = completed_more le le' a.arr; stands = a.stands })
 plus_run g s A B z rest w w1 _ le le' a = went tt
 
 -- ---- two operands
-two_on : (z : Sit) (c : List Stmt) → Inside z.scene.own (z.depth + 1 + 1) c ≡ Inside z.scene.own (z.depth + 2) c
+two_on : (z : Configuration) (c : List Stmt) → Inside z.scene.own (z.depth + 1 + 1) c ≡ Inside z.scene.own (z.depth + 2) c
 two_on z c = ap (λ k. Inside z.scene.own k c) (omega arith)
 
-pub dyadic_topped : (g : Setting) (s : State) (A B : Account) (z : Sit) (op : Two_word) (rest : List Stmt) (w w1 : World) (u v r : Value) (x y n : ℕ) → A.most + 1 ≤ B.most → B.least ≤ A.least → 2 ≤ z.depth
+pub dyadic_topped : (g : Setting) (s : State) (A B : Account) (z : Configuration) (op : Two_word) (rest : List Stmt) (w w1 : World) (u v r : Value) (x y n : ℕ) → A.most + 1 ≤ B.most → B.least ≤ A.least → 2 ≤ z.depth
     → (t : Two g s A z (Dyadic op ∷ rest) w u v w1) → content_of (t.arr.cells1 (z.frame + z.depth)) ≡ Word x → content_of (t.arr.cells1 (z.frame + (z.depth + 1))) ≡ Word y → dyadic_word op x y ≡ Some n
     → Stands g.codes t.arr.bases1 r (Word n) → Has g s B z rest (z.depth + 1) w r w1
 dyadic_topped g s A B z op rest w w1 u v r x y n le le' dp t ex ey en st =
@@ -199,7 +199,7 @@ dyadic_topped g s A B z op rest w w1 u v r x y n le le' dp t ex ey en st =
     (dyadic_moves g.program (there g s A z (Dyadic op ∷ rest) (z.depth + 1 + 1) w w1 t.arr) z.scene.own rest z.depth op x y n (two_on z (Dyadic op ∷ rest)) ex ey en)
 
 -- an operator of words
-pub dyadic_run : (g : Setting) (s : State) (A B : Account) (z : Sit) (op : Two_word) (rest : List Stmt) (w w1 : World) (u v : Value) (o : Outcome Value) → A.most + 1 ≤ B.most → B.least ≤ A.least → 2 ≤ z.depth
+pub dyadic_run : (g : Setting) (s : State) (A B : Account) (z : Configuration) (op : Two_word) (rest : List Stmt) (w w1 : World) (u v : Value) (o : Outcome Value) → A.most + 1 ≤ B.most → B.least ≤ A.least → 2 ≤ z.depth
     → (t : Two g s A z (Dyadic op ∷ rest) w u v w1)
     → OperatedAs g.codes t.arr.bases1 t.arr.cells1 (z.frame + z.depth) w1 t.arr.fits op (content_of (t.arr.cells1 (z.frame + z.depth))) (content_of (t.arr.cells1 (z.frame + (z.depth + 1)))) o
     → RanValue g s B z rest w o
@@ -226,7 +226,7 @@ dyadic_run g s A B z op rest w w1 u v undefined le le' dp t h = went tt
 dyadic_run g s A B z op rest w w1 u v _ le le' dp t h = absurd h
 
 -- `!` between two operands: their sum, and its contents
-pub subscript_run : (g : Setting) (s : State) (A B : Account) (z : Sit) (rest : List Stmt) (w w1 : World) (u v : Value) → A.most + 2 ≤ B.most → B.least ≤ A.least → 2 ≤ z.depth
+pub subscript_run : (g : Setting) (s : State) (A B : Account) (z : Configuration) (rest : List Stmt) (w w1 : World) (u v : Value) → A.most + 2 ≤ B.most → B.least ≤ A.least → 2 ≤ z.depth
     → Two g s A z (Dyadic two.Add ∷ Monadic m.Contents ∷ rest) w u v w1 → RanValue g s B z rest w (with (given (sum w1.memory u v) w1) fetch)
 subscript_run g s A B z rest w w1 u v le le' dp t =
     by_option (λ y. RanValue g s B z rest w (with (given y w1) fetch)) (sum w1.memory u v) (λ _. went tt) (λ a h.
@@ -236,7 +236,7 @@ subscript_run g s A B z rest w w1 u v le le' dp t =
     (dyadic_topped g s A N z two.Add (Monadic m.Contents ∷ rest) w w1 u v a p.left p.right p.result (omega arith) (omega arith) dp t p.is_left p.is_right p.applies p.stands))
 
 -- a byte
-pub byte_run : (g : Setting) (s : State) (A B : Account) (z : Sit) (rest : List Stmt) (w w1 : World) (u v : Value) → A.most + 1 ≤ B.most → B.least ≤ A.least → 2 ≤ z.depth
+pub byte_run : (g : Setting) (s : State) (A B : Account) (z : Configuration) (rest : List Stmt) (w w1 : World) (u v : Value) → A.most + 1 ≤ B.most → B.least ≤ A.least → 2 ≤ z.depth
     → Two g s A z (LoadByte ∷ rest) w u v w1 → RanValue g s B z rest w (given (option_map number (read_byte w1.memory u v)) w1)
 byte_run g s A B z rest w w1 u v le le' dp t =
     by_option (λ y. RanValue g s B z rest w (given (option_map number y) w1)) (read_byte w1.memory u v) (λ _. went tt) (λ n h.
@@ -246,7 +246,7 @@ byte_run g s A B z rest w w1 u v le le' dp t =
     (load_byte_moves g.program (there g s A z (LoadByte ∷ rest) (z.depth + 1 + 1) w w1 t.arr) z.scene.own rest z.depth p.word p.index n (two_on z (LoadByte ∷ rest)) p.is_word p.is_index p.reads)))
 
 -- any operator between two operands
-pub combined_run : (g : Setting) (s : State) (A B : Account) (z : Sit) (f : Operator) (rest : List Stmt) (w w1 : World) (u v : Value) → A.most + 2 ≤ B.most → B.least ≤ A.least → 2 ≤ z.depth
+pub combined_run : (g : Setting) (s : State) (A B : Account) (z : Configuration) (f : Operator) (rest : List Stmt) (w w1 : World) (u v : Value) → A.most + 2 ≤ B.most → B.least ≤ A.least → 2 ≤ z.depth
     → Two g s A z (infix_code f ++ rest) w u v w1 → RanValue g s B z rest w (combined f u v w1)
 combined_run g s A B z o.Subscript rest w w1 u v le le' dp t = subscript_run g s A B z rest w w1 u v le le' dp t
 combined_run g s A B z o.Byte rest w w1 u v le le' dp t = byte_run g s A B z rest w w1 u v (omega arith) le' dp t
@@ -262,35 +262,35 @@ where_not false true to rest = refl
 where_not false false to rest = refl
 
 -- NOT
-pub denied_run : (g : Setting) (m : Meanings) → Simulates g m → (B : Account) (e : Expression) (z : Sit) (u : Bool) (n : ℕ) (to c rest : List Stmt) (w : World)
+pub denied_run : (g : Setting) (m : Meanings) → Simulates g m → (B : Account) (e : Expression) (z : Configuration) (u : Bool) (n : ℕ) (to c rest : List Stmt) (w : World)
     → 16 * w.turns ≤ B.most + 3 → B.least ≤ w.turns - turns_of false e
     → IsJump g z.scene z.depth z.env e (not u) n c rest → from_label z.scene.own.stmts n ≡ Some to → Ready g z w
     → Ran g (start z c w) B (HasTruth g (start z c w) B z u to rest w) (Out g (start z c w) B z w) (with (m.truth e z.env w) (λ b w. gives (not b) w))
 denied_run g m sim B e z u n to c rest w le le' l f r =
     with_ran {K = HasTruth g (start z c w) B z (not u) to rest w} (λ b. adds _ (λ w1. stays (history w1)))
-    (ran_first (omega arith) (omega arith) (λ t w1 q. arrived_more (omega arith) (omega arith) q) (sim.truth e z (not u) n to c rest w l f r))
-    (λ t w1 a. went (subst (λ y. ArrivedAt g (start z c w) B z y z.depth w w1) (where_not u t to rest) a))
+    (ran_first (omega arith) (omega arith) (λ t w1 q. completed_more (omega arith) (omega arith) q) (sim.truth e z (not u) n to c rest w l f r))
+    (λ t w1 a. went (subst (λ y. CompletedAt g (start z c w) B z y z.depth w w1) (where_not u t to rest) a))
 
 -- a LAB stands where the test does not jump
 landed : {g : Setting} {s : State} {N B : Account} {sc : Scene} {frame calls top d k : ℕ} {R : Store → Type 0} {rest : List Stmt} {w1 : World} (u t : Bool)
     (to : List Stmt) → N.most + 1 ≤ B.most → B.least ≤ N.least → LabelAt g sc d k rest
-    → Arrived g s N sc.own frame calls top R (where_to u t to (Label k ∷ rest)) d w1 → Arrived g s B sc.own frame calls top R (where_to u t to rest) d w1
+    → Completed g s N sc.own frame calls top R (where_to u t to (Label k ∷ rest)) d w1 → Completed g s B sc.own frame calls top R (where_to u t to rest) d w1
 landed true false to le le' l a = landed_on le le' l a
 landed false true to le le' l a = landed_on le le' l a
-landed _ _ to le le' l a = arrived_more (omega arith) le' a
+landed _ _ to le le' l a = completed_more (omega arith) le' a
 
 -- the second condition, behind an arrival
 abbrev for_second : Expression → Expression → World → Account
 for_second a b w = record { most = 16 * w.turns - 3; least = w.turns - (turns_of false a + turns_of false b) }
 
-second_run : {L : Bool → World → Type 0} (g : Setting) (m : Meanings) → Simulates g m → (s : State) (B : Account) (a b : Expression) (z : Sit) (u : Bool)
+second_run : {L : Bool → World → Type 0} (g : Setting) (m : Meanings) → Simulates g m → (s : State) (B : Account) (a b : Expression) (z : Configuration) (u : Bool)
     (n : ℕ) (to c1 rest : List Stmt) (w w1 : World) → 16 * w.turns ≤ B.most + 3
     → B.least ≤ w.turns - (turns_of false a + turns_of false b) → IsJump g z.scene z.depth (past a z.env) b u n c1 rest → from_label z.scene.own.stmts n ≡ Some to
-    → Ready g z w → ArrivedAt g s (for_truth a w) z c1 z.depth w w1
+    → Ready g z w → CompletedAt g s (for_truth a w) z c1 z.depth w w1
     → ((t : Bool) (w2 : World) → HasTruth g s (for_second a b w) z u to rest w t w2 → L t w2) → Ran g s B L (Out g s B z w) (m.truth b (past a z.env) w1)
 second_run g m sim s B a b z u n to c1 rest w w1 le le' l f r ar fin =
     let m0 = ar.most in
-    ran_on (omega arith) (omega arith) r (omega arith) ar (λ t w2 q. fin t w2 (arrived_on (omega arith) (omega arith) r (omega arith) ar q))
+    ran_on (omega arith) (omega arith) r (omega arith) ar (λ t w2 q. fin t w2 (completed_on (omega arith) (omega arith) r (omega arith) ar q))
     (sim.truth b (next g s (for_truth a w) z c1 z.depth w w1 (past a z.env) z.depth ar) u n to c1 rest w1 l f (ready_next (past a z.env) z.depth ar refl (omega arith) r))
 
 -- the second decides where the first does not have this truth
@@ -303,34 +303,34 @@ decided_adds false go ad x = adds _ (λ w. either_after x _ _ ad (adds _ (λ w1.
 decided_adds true go ad x = adds _ (λ w. either_after x _ _ (adds _ (λ w1. stays (history w1))) ad w)
 
 -- the first condition
-first_run : {L : Bool → World → Type 0} (g : Setting) (m : Meanings) → Simulates g m → (B : Account) (a b : Expression) (z : Sit) (u0 : Bool) (n0 : ℕ)
+first_run : {L : Bool → World → Type 0} (g : Setting) (m : Meanings) → Simulates g m → (B : Account) (a b : Expression) (z : Configuration) (u0 : Bool) (n0 : ℕ)
     (to0 c c1 : List Stmt) (w : World) → 16 * w.turns ≤ B.most + 3 → B.least ≤ w.turns - turns_of false a
     → IsJump g z.scene z.depth z.env a u0 n0 c c1 → from_label z.scene.own.stmts n0 ≡ Some to0 → Ready g z w
-    → ((x : Bool) (w1 : World) → ArrivedAt g (start z c w) (for_truth a w) z (where_to u0 x to0 c1) z.depth w w1 → Ran g (start z c w) B L (Out g (start z c w) B z w) (decided u0 (λ w. m.truth b (past a z.env) w) x w1))
+    → ((x : Bool) (w1 : World) → CompletedAt g (start z c w) (for_truth a w) z (where_to u0 x to0 c1) z.depth w w1 → Ran g (start z c w) B L (Out g (start z c w) B z w) (decided u0 (λ w. m.truth b (past a z.env) w) x w1))
     → Ran g (start z c w) B L (Out g (start z c w) B z w) (with (m.truth a z.env w) (λ x w. decided u0 (λ w. m.truth b (past a z.env) w) x w))
 first_run g m sim B a b z u0 n0 to0 c c1 w le le' l f r h =
     with_ran (λ x. decided_adds u0 _ (adds _ (λ w1. sim.grows.truth b (past a z.env) w1)) x)
     (ran_more (omega arith) (omega arith) (sim.truth a z u0 n0 to0 c c1 w l f r)) h
 
 -- `&` that jumps where it fails, and `|` where it holds: so does each condition
-pub straight_run : (g : Setting) (m : Meanings) → Simulates g m → (B : Account) (a b : Expression) (z : Sit) (u : Bool) (n : ℕ) (to c c1 rest : List Stmt)
+pub straight_run : (g : Setting) (m : Meanings) → Simulates g m → (B : Account) (a b : Expression) (z : Configuration) (u : Bool) (n : ℕ) (to c c1 rest : List Stmt)
     (w : World) → 16 * w.turns ≤ B.most + 3 → B.least ≤ w.turns - (turns_of false a + turns_of false b)
     → IsJump g z.scene z.depth z.env a u n c c1 → IsJump g z.scene z.depth (past a z.env) b u n c1 rest → from_label z.scene.own.stmts n ≡ Some to → Ready g z w
     → Ran g (start z c w) B (HasTruth g (start z c w) B z u to rest w) (Out g (start z c w) B z w)
     (with (m.truth a z.env w) (λ x w. decided u (λ w. m.truth b (past a z.env) w) x w))
 straight_run g m sim B a b z u n to c c1 rest w le le' la lb f r = first_run g m sim B a b z u n to c c1 w le (omega arith) la f r (λ x w1 q. goes u x w1 lb q)
   where
-    goes : (u x : Bool) (w1 : World) → IsJump g z.scene z.depth (past a z.env) b u n c1 rest → ArrivedAt g (start z c w) (for_truth a w) z
+    goes : (u x : Bool) (w1 : World) → IsJump g z.scene z.depth (past a z.env) b u n c1 rest → CompletedAt g (start z c w) (for_truth a w) z
         (where_to u x to c1) z.depth w w1
         → Ran g (start z c w) B (HasTruth g (start z c w) B z u to rest w) (Out g (start z c w) B z w) (decided u (λ w. m.truth b (past a z.env) w) x w1)
     goes true false w1 lb q =
-        second_run g m sim (start z c w) B a b z true n to c1 rest w w1 le le' lb f r q (λ t w2 y. arrived_more (omega arith) (omega arith) y)
+        second_run g m sim (start z c w) B a b z true n to c1 rest w w1 le le' lb f r q (λ t w2 y. completed_more (omega arith) (omega arith) y)
     goes false true w1 lb q =
-        second_run g m sim (start z c w) B a b z false n to c1 rest w w1 le le' lb f r q (λ t w2 y. arrived_more (omega arith) (omega arith) y)
-    goes _ _ w1 lb q = went (arrived_more (omega arith) (omega arith) q)
+        second_run g m sim (start z c w) B a b z false n to c1 rest w w1 le le' lb f r q (λ t w2 y. completed_more (omega arith) (omega arith) y)
+    goes _ _ w1 lb q = went (completed_more (omega arith) (omega arith) q)
 
 -- `&` that jumps where it holds, and `|` where it fails: the first condition jumps over the second
-pub over_run : (g : Setting) (m : Meanings) → Simulates g m → (B : Account) (a b : Expression) (z : Sit) (u : Bool) (n k : ℕ) (to c c1 rest : List Stmt)
+pub over_run : (g : Setting) (m : Meanings) → Simulates g m → (B : Account) (a b : Expression) (z : Configuration) (u : Bool) (n k : ℕ) (to c c1 rest : List Stmt)
     (w : World) → 16 * w.turns + 1 ≤ B.most → B.least ≤ w.turns - (turns_of false a + turns_of false b)
     → IsJump g z.scene z.depth z.env a (not u) k c c1 → IsJump g z.scene z.depth (past a z.env) b u n c1 (Label k ∷ rest) → LabelAt g z.scene z.depth k rest
     → from_label z.scene.own.stmts n ≡ Some to → Ready g z w
@@ -339,7 +339,7 @@ pub over_run : (g : Setting) (m : Meanings) → Simulates g m → (B : Account) 
 over_run g m sim B a b z u n k to c c1 rest w le le' la lb lk f r =
     first_run g m sim B a b z (not u) k (Label k ∷ rest) c c1 w (omega arith) (omega arith) la lk.found r (λ x w1 q. goes u x w1 lb q)
   where
-    goes : (u x : Bool) (w1 : World) → IsJump g z.scene z.depth (past a z.env) b u n c1 (Label k ∷ rest) → ArrivedAt g (start z c w) (for_truth a w) z
+    goes : (u x : Bool) (w1 : World) → IsJump g z.scene z.depth (past a z.env) b u n c1 (Label k ∷ rest) → CompletedAt g (start z c w) (for_truth a w) z
         (where_to (not u) x (Label k ∷ rest) c1) z.depth w w1
         → Ran g (start z c w) B (HasTruth g (start z c w) B z u to rest w) (Out g (start z c w) B z w) (decided (not u) (λ w. m.truth b (past a z.env) w) x w1)
     goes true true w1 lb q =
@@ -351,19 +351,19 @@ over_run g m sim B a b z u n k to c c1 rest w le le' la lb lk f r =
     goes _ _ w1 lb q = went (landed_on (omega arith) (omega arith) lk q)
 
 -- ---- `->`: one of two values, which goes by way of the result in hand
-branch_run : (g : Setting) (m : Meanings) → Simulates g m → (s : State) (A D C : Account) (e : Expression) (z : Sit) (env : Environment) (n : ℕ)
+branch_run : (g : Setting) (m : Meanings) → Simulates g m → (s : State) (A D C : Account) (e : Expression) (z : Configuration) (env : Environment) (n : ℕ)
     (c1 rest behind : List Stmt) (w w1 : World) → A.most ≤ D.most → D.most + 3 ≤ C.most
     → D.least ≤ (w1.turns - turns_of false e) + (A.least - w1.turns) → C.least ≤ D.least → env.names ≡ z.env.names → IsValue g z.scene z.depth env e c1
     (GiveResult n ∷ behind) → LabelAt g z.scene z.depth n (TakeResult z.depth ∷ rest)
-    → Ready g z w → ArrivedAt g s A z c1 z.depth w w1 → Ran g s C (Has g s C z rest (z.depth + 1) w) (Out g s C z w) (m.value e env w1)
+    → Ready g z w → CompletedAt g s A z c1 z.depth w w1 → Ran g s C (Has g s C z rest (z.depth + 1) w) (Out g s C z w) (m.value e env w1)
 branch_run g m sim s A D C e z env n c1 rest behind w w1 le1 le2 ll lc en l ln r ar =
     ran_on (omega arith) (omega arith) r (omega arith) ar
     (λ v w2 q.
-    let x : Has g s D z (GiveResult n ∷ behind) (z.depth + 1) w v w2 = record { arr = arrived_on (omega arith) (omega arith) r (omega arith) ar q.arr; stands = q.stands } in
+    let x : Has g s D z (GiveResult n ∷ behind) (z.depth + 1) w v w2 = record { arr = completed_on (omega arith) (omega arith) r (omega arith) ar q.arr; stands = q.stands } in
     taken_on (omega arith) (omega arith) r (label_on ln (result_on r ln.found x)) q.stands)
     (value_run g m sim e (next g s A z c1 z.depth w w1 env z.depth ar) c1 (GiveResult n ∷ behind) w1 l (ready_next env z.depth ar en (omega arith) r))
 
-pub choice_run : (g : Setting) (m : Meanings) → Simulates g m → (B : Account) (e a b : Expression) (z : Sit) (n n1 : ℕ) (c c1 c2 rest : List Stmt) (w : World)
+pub choice_run : (g : Setting) (m : Meanings) → Simulates g m → (B : Account) (e a b : Expression) (z : Configuration) (n n1 : ℕ) (c c1 c2 rest : List Stmt) (w : World)
     → 16 * w.turns + 12 ≤ B.most
     → B.least ≤ w.turns - (turns_of false e + (turns_of false a + turns_of false b)) → IsJump g z.scene z.depth z.env e false n c c1 → IsValue g z.scene z.depth
     (past e z.env) a c1 (GiveResult n1 ∷ Label n ∷ c2)
@@ -379,7 +379,7 @@ choice_run g m sim B e a b z n n1 c c1 c2 rest w le le' le_ la lb l0 l1 r =
     D : Account
     D = record { most = 16 * w.turns + 1; least = w.turns - (turns_of false e + (turns_of false a + turns_of false b)) }
 
-    goes : (x : Bool) (w1 : World) → ArrivedAt g (start z c w) (for_truth e w) z (where_to false x (Label n ∷ c2) c1) z.depth w w1
+    goes : (x : Bool) (w1 : World) → CompletedAt g (start z c w) (for_truth e w) z (where_to false x (Label n ∷ c2) c1) z.depth w w1
         → Ran g (start z c w) B (Has g (start z c w) B z rest (z.depth + 1) w) (Out g (start z c w) B z w)
         (either x (λ w. m.value a (past e z.env) w) (λ w. m.value b (past a (past e z.env)) w) w1)
     goes true w1 q = let m0 = q.most in

@@ -3,8 +3,8 @@ use Rattle.bk_simulation.proofs.Words.{◌≡◌, Bool, true, false, ◌||◌, c
 use Rattle.bk_tree.specs.Tree as t
 use Rattle.bk_simulation.proofs.Sought.{same_stands_one}
 use Rattle.bk_simulation.proofs.Laid.{Setting, IsAct, AreActs, Entered, EnteredAny}
-use Rattle.bk_simulation.proofs.Frame.{Sit, start, Ready, went, with_ran, next, named_again, ready_in, ready_next}
-use Rattle.bk_simulation.proofs.Compose.{stay, comes_to, ran_first, ran_more, arrived_more}
+use Rattle.bk_simulation.proofs.Frame.{Configuration, start, Ready, went, with_ran, next, named_again, ready_in, ready_next}
+use Rattle.bk_simulation.proofs.Compose.{stay, comes_to, ran_first, ran_more, completed_more}
 use Rattle.bk_simulation.proofs.Simulates.{Simulates, for_act, for_scope, Did, RanDid}
 
 -- a truth is tested, and its case is known
@@ -28,13 +28,13 @@ order_adds g m sim (t.also c cs) (seeking s) env =
     (order_adds g m sim cs (seeking s) (past_action c env)) w)
 
 -- names are as they were where only the number of the next object is another
-pub ready_at : (g : Setting) (z : Sit) (w : World) (env : Environment) → env.names ≡ z.env.names → Ready g z w → Ready g (record z { env = env }) w
+pub ready_at : (g : Setting) (z : Configuration) (w : World) (env : Environment) → env.names ≡ z.env.names → Ready g z w → Ready g (record z { env = env }) w
 ready_at g z w env en r = ready_in z.scene env (named_again en r.named) r
 
 -- the first is done, and then the others
-then_run : (g : Setting) (m : Meanings) → Simulates g m → (a : Action) (mode : Mode) (cs : Actions) (z : Sit) (at1 at2 : Sought → List Stmt) (c c1 rest e : List Stmt) (w : World) → IsAct g z.scene z.depth z.env a at1 c c1
+then_run : (g : Setting) (m : Meanings) → Simulates g m → (a : Action) (mode : Mode) (cs : Actions) (z : Configuration) (at1 at2 : Sought → List Stmt) (c c1 rest e : List Stmt) (w : World) → IsAct g z.scene z.depth z.env a at1 c c1
     → Entered mode z.env a at1 c e → Ready g z w
-    → ((z1 : Sit) (w1 : World) → Ready g z1 w1 → z1.env ≡ past_action a z.env → AreActs g z1.scene z1.depth z1.env cs at2 c1 rest
+    → ((z1 : Configuration) (w1 : World) → Ready g z1 w1 → z1.env ≡ past_action a z.env → AreActs g z1.scene z1.depth z1.env cs at2 c1 rest
     → RanDid g (start z1 c1 w1) (for_scope cs w1) z1 rest w1 (in_order m cs forwards (past_action a z.env) w1))
     → AreActs g z.scene z.depth (past_action a z.env) cs at2 c1 rest
     → RanDid g (start z e w) (for_scope (t.also a cs) w) z rest w
@@ -47,7 +47,7 @@ then_run g m sim a mode cs z at1 at2 c c1 rest e w la en r go lcs =
     (go (next g (start z e w) (for_act a w) z c1 z.depth w w1 (past_action a z.env) z.depth q) w1 (ready_next (past_action a z.env) z.depth q refl (omega arith) r) refl lcs))
 
 -- commands in order
-pub order_run : (g : Setting) (m : Meanings) → Simulates g m → (cs : Actions) (mode : Mode) (z : Sit) (at : Sought → List Stmt) (c rest e : List Stmt) (w : World) → AreActs g z.scene z.depth z.env cs at c rest → EnteredAny mode z.env cs at c e
+pub order_run : (g : Setting) (m : Meanings) → Simulates g m → (cs : Actions) (mode : Mode) (z : Configuration) (at : Sought → List Stmt) (c rest e : List Stmt) (w : World) → AreActs g z.scene z.depth z.env cs at c rest → EnteredAny mode z.env cs at c e
     → Ready g z w → RanDid g (start z e w) (for_scope cs w) z rest w (in_order m cs mode z.env w)
 order_run g m sim t.no_actions mode z at c rest e w l en r = no_acts mode en
   where
@@ -72,6 +72,6 @@ order_run g m sim (t.also a cs) (seeking s) z at c rest e w l en r =
     let z1 = record z { env = past_action a z.env } in
     subst (λ (b : Bool). RanDid g (start z e w) (for_scope (t.also a cs) w) z rest w
     (either b (λ w. with (m.act a (seeking s) z.env w) (λ _ w. in_order m cs forwards (past_action a z.env) w)) (λ w. in_order m cs (seeking s) (past_action a z.env) w) w)) (sym h)
-    (ran_first (omega arith) (omega arith) (λ _ w1 q. arrived_more (omega arith) (omega arith) q)
+    (ran_first (omega arith) (omega arith) (λ _ w1 q. completed_more (omega arith) (omega arith) q)
     (order_run g m sim cs (seeking s) z1 l.2 l.0 rest e w l.4 (same_stands_one s z.env.names (past_action a z.env).next z.env.next cs ∙ or_second (stands_in s z.env a) (stands_in_one s z.env cs) en.0 h, en.1 ∙ l.5 s ∙ ap (λ (b : Bool). cond b (l.1 s) (l.2 s)) h)
     (ready_at g z w (past_action a z.env) refl r))))

@@ -1,6 +1,6 @@
 -- What MANIFEST, STATIC and GLOBAL bring into scope: names that agree, labels that stay, and words that stand where the names say. What a LET brings into
 -- scope: its procedures, and behind it its variables; names that agree, labels that stay, and words that stand where the names say.
-use Rattle.bk_simulation.proofs.Words.{◌≡◌, ℕ, suc, ◌+◌, ◌<◌, ◌≤◌, ◌^◌, Bool, true, false, List, [], ◌∷◌, Option, Some, None, cond, refl, sym, ap, ◌∙◌, subst, arith, nat_lt, bytes_eq, nat_tests, bytes_eq-Decides, GLOBAL_NUMBER, Mention, Expression, Items, Definitions, Starts, Bound, Binding, bound_in, bind, named_word, constant_word, within, manifests_in_scope, statics_in_scope, globals_in_scope, ManifestsSound, GlobalsSound, Placed, Target, meant, goal_of, variable, Named, Environment, Sense, cell, foreign, sense_in, word_named, constant_in, global_named, bind_procedure_as, bind_procedures, objects, objects_of_action, objects_of_starts, sense_of_constant, sense_of_global, letters, manifests, statics, ◌-◌, ◌++◌, length, FRAME_WORDS, VEC_NUMBER, bind_all, is_global, Place, deeper, Spot as ScopeSpot, words_of_vector, words_of_start, variables_of, place_behind, place_behind_defined, variables_in_scope, procedure_in_scope, procedures_in_scope, HasWordUpTo, SoundStarted, SoundDefined, behind_starts, behind_definitions, worth, starts_named, definitions_named, variables_hidden, bind_each}
+use Rattle.bk_simulation.proofs.Words.{◌≡◌, ℕ, suc, ◌+◌, ◌<◌, ◌≤◌, ◌^◌, Bool, true, false, List, [], ◌∷◌, Option, Some, None, cond, refl, sym, ap, ◌∙◌, subst, arith, nat_lt, bytes_eq, nat_tests, bytes_eq-Decides, GLOBAL_NUMBER, Mention, Expression, Items, Definitions, Starts, Bound, Binding, bound_in, bind, named_word, constant_word, within, manifests_in_scope, statics_in_scope, globals_in_scope, ManifestsSound, GlobalsSound, Placed, Target, meant, goal_of, variable, Named, Environment, Sense, cell, foreign, sense_in, word_named, constant_in, global_named, bind_procedure_as, bind_procedures, objects, objects_of_action, objects_of_starts, sense_of_constant, sense_of_global, letters, manifests, statics, ◌-◌, ◌++◌, length, FRAME_WORDS, VEC_NUMBER, bind_all, is_global, Enclosing, deeper, Spot as ScopeSpot, words_of_vector, words_of_start, variables_of, place_behind, place_behind_defined, variables_in_scope, procedure_in_scope, procedures_in_scope, HasWordUpTo, SoundStarted, SoundDefined, behind_starts, behind_definitions, worth, starts_named, definitions_named, variables_hidden, bind_each}
 use Rattle.bk_simulation.specs.Regular.{RegularItems, starts, RegularDefinitions}
 use Rattle.bk_simulation.proofs.Memory.{BaseOf, Grown}
 use Rattle.bk_simulation.proofs.Sought.{with_names}
@@ -355,19 +355,19 @@ VectorsSound bs t.no_starts = Unit {0}
 VectorsSound bs (t.value e is) = VectorsSound bs is
 VectorsSound bs (t.vector l e is) = HasWordUpTo VEC_NUMBER (constant_word bs e) × VectorsSound bs is
 
-pub vectors_sound : (bs : List Binding) (p : Place) (s : ScopeSpot) (is : Starts) → SoundStarted bs p s is → VectorsSound bs is
+pub vectors_sound : (bs : List Binding) (p : Enclosing) (s : ScopeSpot) (is : Starts) → SoundStarted bs p s is → VectorsSound bs is
 vectors_sound bs p s t.no_starts h = tt
 vectors_sound bs p s (t.value e is) h = vectors_sound bs (deeper 1 p) (scope_spot.behind e s) is h.1
 vectors_sound bs p s (t.vector l e is) h = (h.0, vectors_sound bs (deeper (words_of_start bs e + 1) p) (scope_spot.behind_constant e s) is h.1)
 
 -- what one definition of variables binds
-pub record VariablesOf (bs : List Binding) (p : Place) (d : ℕ) (xs : List Mention) (is : Starts) : Type 0 where
+pub record VariablesOf (bs : List Binding) (p : Enclosing) (d : ℕ) (xs : List Mention) (is : Starts) : Type 0 where
   pub are : variables_of bs p xs is ≡ from_spots p.procedure (spots_of (letters xs) (slots_of bs d is))
   pub fit : InFrame (spots_of (letters xs) (slots_of bs d is))
   pub procedure : (place_behind bs p is).procedure ≡ p.procedure
   pub depth : (place_behind bs p is).depth ≡ depth_past bs d is
 
-pub variables_are : (bs : List Binding) (p : Place) (d : ℕ) (xs : List Mention) (is : Starts) → p.depth ≡ d → length xs ≡ starts is → VectorsSound bs is → depth_past bs d is ≤ FRAME_WORDS → VariablesOf bs p d xs is
+pub variables_are : (bs : List Binding) (p : Enclosing) (d : ℕ) (xs : List Mention) (is : Starts) → p.depth ≡ d → length xs ≡ starts is → VectorsSound bs is → depth_past bs d is ≤ FRAME_WORDS → VariablesOf bs p d xs is
 variables_are bs p d [] t.no_starts at few h low = record { are = refl; fit = tt; procedure = refl; depth = at }
 variables_are bs p d (x ∷ xs) (t.value e is) at few h low =
     let grows = depth_grows bs (d + 1) is in
@@ -390,7 +390,7 @@ variables_are bs p d (x ∷ xs) (t.vector l e is) at few h low =
     let here : (deeper (words_of_start bs e) p).depth ≡ d + size + 1 = omega (arith, at, grows, low, words) in
     let in_frame : d + size + 1 ≤ FRAME_WORDS = omega (arith, grows, low) in
     let few1 : length xs ≡ starts is = omega (arith, few) in
-    let p1 : Place = deeper (words_of_start bs e + 1) p in
+    let p1 : Enclosing = deeper (words_of_start bs e + 1) p in
     let more = variables_are bs p1 (d + size + 2) xs is at1 few1 h.1 low in
     record {
       are = ap (λ z. record { name = x.letters; bound = b.Variable p.procedure z } ∷ variables_of bs p1 xs is) here ∙ ap (λ z. record { name = x.letters; bound = b.Variable p.procedure (d + size + 1) } ∷ z) more.are;
@@ -400,20 +400,20 @@ variables_are bs p d (x ∷ xs) (t.vector l e is) at few h low =
     }
 variables_are bs p d _ _ at few h low = absurd (omega (arith, few))
 
-pub past_is : (bs : List Binding) (p : Place) (s : ScopeSpot) (d : ℕ) (is : Starts) → depth_past bs d is ≡ behind_starts d (starts_named bs p s is)
+pub past_is : (bs : List Binding) (p : Enclosing) (s : ScopeSpot) (d : ℕ) (is : Starts) → depth_past bs d is ≡ behind_starts d (starts_named bs p s is)
 past_is bs p s d t.no_starts = refl
 past_is bs p s d (t.value e is) = past_is bs (deeper 1 p) (scope_spot.behind e s) (d + 1) is
 past_is bs p s d (t.vector l e is) = past_is bs (deeper (words_of_start bs e + 1) p) (scope_spot.behind_constant e s) (d + worth (constant_word bs e) + 2) is
 
 -- all variables of a LET
-abbrev pub spots_in : List Binding → Place → ScopeSpot → ℕ → Definitions → List Spot
+abbrev pub spots_in : List Binding → Enclosing → ScopeSpot → ℕ → Definitions → List Spot
 spots_in bs p s d t.no_definitions = []
 spots_in bs p s d (t.define (t.variables l xs is) ds) =
     spots_of (letters xs) (slots_of bs d is) ++ spots_in bs (place_behind bs p is) (scope_spot.behind_one_defined (t.variables l xs is) s) (behind_starts d (starts_named bs p (scope_spot.past (length xs) s) is)) ds
 spots_in bs p s d (t.define (t.routine l x fs c) ds) = spots_in bs p (scope_spot.behind_one_defined (t.routine l x fs c) s) d ds
 spots_in bs p s d (t.define (t.function l x fs e) ds) = spots_in bs p (scope_spot.behind_one_defined (t.function l x fs e) s) d ds
 
-pub definitions_grow : (bs : List Binding) (p : Place) (s : ScopeSpot) (d : ℕ) (ds : Definitions) → d ≤ behind_definitions d (definitions_named bs p s ds)
+pub definitions_grow : (bs : List Binding) (p : Enclosing) (s : ScopeSpot) (d : ℕ) (ds : Definitions) → d ≤ behind_definitions d (definitions_named bs p s ds)
 definitions_grow bs p s d t.no_definitions = omega arith
 definitions_grow bs p s d (t.define (t.routine l x fs c) ds) = definitions_grow bs p (scope_spot.behind_one_defined (t.routine l x fs c) s) d ds
 definitions_grow bs p s d (t.define (t.function l x fs e) ds) = definitions_grow bs p (scope_spot.behind_one_defined (t.function l x fs e) s) d ds
@@ -424,13 +424,13 @@ definitions_grow bs p s d (t.define (t.variables l xs is) ds) =
     let others = definitions_grow bs (place_behind bs p is) (scope_spot.behind_one_defined (t.variables l xs is) s) d1 ds in
     omega (arith, first, same, others)
 
-pub record VariablesIn (bs : List Binding) (p : Place) (s : ScopeSpot) (d : ℕ) (ds : Definitions) : Type 0 where
+pub record VariablesIn (bs : List Binding) (p : Enclosing) (s : ScopeSpot) (d : ℕ) (ds : Definitions) : Type 0 where
   pub are : variables_in_scope bs p ds ≡ from_spots p.procedure (spots_in bs p s d ds)
   pub fit : InFrame (spots_in bs p s d ds)
   pub procedure : (place_behind_defined bs p ds).procedure ≡ p.procedure
   pub depth : (place_behind_defined bs p ds).depth ≡ behind_definitions d (definitions_named bs p s ds)
 
-pub variables_in : (bs : List Binding) (p : Place) (s : ScopeSpot) (d : ℕ) (ds : Definitions) → p.depth ≡ d → SoundDefined bs p s ds → RegularDefinitions ds → behind_definitions d (definitions_named bs p s ds) ≤ FRAME_WORDS → VariablesIn bs p s d ds
+pub variables_in : (bs : List Binding) (p : Enclosing) (s : ScopeSpot) (d : ℕ) (ds : Definitions) → p.depth ≡ d → SoundDefined bs p s ds → RegularDefinitions ds → behind_definitions d (definitions_named bs p s ds) ≤ FRAME_WORDS → VariablesIn bs p s d ds
 variables_in bs p s d t.no_definitions at h r low = record { are = refl; fit = tt; procedure = refl; depth = at }
 variables_in bs p s d (t.define (t.routine l x fs c) ds) at h r low =
     let more = variables_in bs p (scope_spot.behind_one_defined (t.routine l x fs c) s) d ds at h.1 r.1 low in
@@ -441,7 +441,7 @@ variables_in bs p s d (t.define (t.function l x fs e) ds) at h r low =
 variables_in bs p s d (t.define (t.variables l xs is) ds) at h r low =
     let s0 : ScopeSpot = scope_spot.past (length xs) s in
     let s1 : ScopeSpot = scope_spot.behind_one_defined (t.variables l xs is) s in
-    let p1 : Place = place_behind bs p is in
+    let p1 : Enclosing = place_behind bs p is in
     let d1 : ℕ = behind_starts d (starts_named bs p s0 is) in
     let same : depth_past bs d is ≡ d1 = past_is bs p s0 d is in
     let grows : d1 ≤ behind_definitions d1 (definitions_named bs p1 s1 ds) = definitions_grow bs p1 s1 d1 ds in
@@ -466,12 +466,12 @@ foreign_started bs d (x ∷ xs) (t.vector l e is) ps env few =
     let few1 : length xs ≡ starts is = omega (arith, few) in foreign_started bs (d + worth (constant_word bs e) + 2) xs is ps (m.bind x.letters foreign env) few1
 foreign_started bs d _ _ ps env few = absurd (omega (arith, few))
 
-pub hidden_are : (bs : List Binding) (p : Place) (s : ScopeSpot) (d : ℕ) (ds : Definitions) (env : Environment) → RegularDefinitions ds → foreign_spots (spots_in bs p s d ds) env ≡ variables_hidden ds env
+pub hidden_are : (bs : List Binding) (p : Enclosing) (s : ScopeSpot) (d : ℕ) (ds : Definitions) (env : Environment) → RegularDefinitions ds → foreign_spots (spots_in bs p s d ds) env ≡ variables_hidden ds env
 hidden_are bs p s d t.no_definitions env r = refl
 hidden_are bs p s d (t.define (t.routine l x fs c) ds) env r = hidden_are bs p (scope_spot.behind_one_defined (t.routine l x fs c) s) d ds env r.1
 hidden_are bs p s d (t.define (t.function l x fs e) ds) env r = hidden_are bs p (scope_spot.behind_one_defined (t.function l x fs e) s) d ds env r.1
 hidden_are bs p s d (t.define (t.variables l xs is) ds) env r =
-    let p1 : Place = place_behind bs p is in
+    let p1 : Enclosing = place_behind bs p is in
     let s1 : ScopeSpot = scope_spot.behind_one_defined (t.variables l xs is) s in
     let d1 : ℕ = behind_starts d (starts_named bs p (scope_spot.past (length xs) s) is) in
     foreign_started bs d xs is (spots_in bs p1 s1 d1 ds) env r.0.0 ∙ hidden_are bs p1 s1 d1 ds (bind_each (letters xs) foreign env) r.1

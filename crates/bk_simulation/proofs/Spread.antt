@@ -11,7 +11,7 @@ use Rattle.bk_meaning.specs.Lasting.{inside}
 use Rattle.bk_meaning.proofs.Numbers.{expression_counted, each_counted, action_counted, declaration_counted, declarations_counted, definition_counted, starts_counted}
 use Rattle.bk_meaning.proofs.Standing.{bound-next, labelled-next, in_scope-next, declared-next, all_declared-next}
 use Rattle.bk_simulation.specs.Regular.{DefineNoVariables, DeclareNoVariables}
-use Rattle.bk_simulation.proofs.Laid.{Setting, Scene, Aim, pushes, jumps, Way, all_of, any_of, plain, way_of, ending, Operands, in_valof, owning, Spot, Stretch, ByTurns, in_loop, in_switch, in_for as in_for_scene, variables_bound, defines_variables, IsCode, AreValues, IsAddress, IsStore, IsAct, AreActs, AreFrom, AreStores, AreDeclared, IsOneDeclared, AreDefined, AreStarts}
+use Rattle.bk_simulation.proofs.Laid.{Setting, Scene, Aim, pushes, jumps, Evaluation, all_of, any_of, plain, evaluation_of, ending, Operands, in_valof, owning, Spot, Stretch, ByTurns, in_loop, in_switch, in_for as in_for_scene, variables_bound, defines_variables, IsCode, AreValues, IsAddress, IsStore, IsAct, AreActs, AreFrom, AreStores, AreDeclared, IsOneDeclared, AreDefined, AreStarts}
 use Rattle.bk_simulation.proofs.Held.{HeldIn}
 use Rattle.bk_simulation.proofs.Calls.{IsProcedure}
 use Rattle.bk_simulation.proofs.StringCounts.{Form, strings_at, Span, times, in_spans, AreSpread, spread_append, times_both, spans_both, IsSpan, Spread, Same, by_path, same_on, spread_none, spread_top, spread_bottom, spread_both, spread_back, spread_string, spread_words, spread_procedure, spread_as}
@@ -52,7 +52,7 @@ module _ (g : Setting) (own : Placed) where
     pub once : (q : ℕ) → times q keys + times q others + strings_at q rest ≤ strings_at q c + in_spans q spans + in_spans q more
 
   -- two operands
-  operands_spread : (sc : Scene) (d : ℕ) (w : Way) (aim : Aim) (f : Operator) (X : Aim → List Stmt → List Stmt → Type 0)
+  operands_spread : (sc : Scene) (d : ℕ) (w : Evaluation) (aim : Aim) (f : Operator) (X : Aim → List Stmt → List Stmt → Type 0)
       (Y : ℕ → Aim → List Stmt → List Stmt → Type 0) {c rest : List Stmt} {i m n : ℕ} {fs hs : List Form} → Operands g sc d w aim f X Y c rest
       → ((ai : Aim) (c0 r0 : List Stmt) → X ai c0 r0 → Spread g own c0 r0 i m fs)
       → ((d0 : ℕ) (ai : Aim) (c0 r0 : List Stmt) → Y d0 ai c0 r0 → Spread g own c0 r0 (i + m) n hs) → Spread g own c rest i (m + n) (fs ++ hs)
@@ -237,7 +237,7 @@ module _ (g : Setting) (own : Placed) where
     code_spread (t.unary l f e) sc d aim {rest = rest} z at k h = spread_bottom (ending_plain aim rest) (code_spread e sc d pushes z at k h)
     code_spread (t.binary l f m x y) sc d {held = held} aim {i = i} z at k h =
         let hs = held_two i (of_expression held x) _ (expression_counted held x) h in
-        operands_spread sc d (way_of aim f) aim f _ _ k (λ ai c0 r0 u. code_spread x sc d ai z at u hs.0)
+        operands_spread sc d (evaluation_of aim f) aim f _ _ k (λ ai c0 r0 u. code_spread x sc d ai z at u hs.0)
         (λ d0 ai c0 r0 u. code_spread y sc d0 ai (later (objects x) z) at u hs.1)
     code_spread (t.choice l m e x y) sc d {held = held} aim {rest = rest} {i} z at k h =
         let z1 = later (objects e) z in

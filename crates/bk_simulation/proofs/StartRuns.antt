@@ -11,7 +11,7 @@ use Rattle.bk_simulation.proofs.MadeObjects.{make, grown_made, make_fits, get_ne
 use Rattle.bk_simulation.proofs.WrittenCells.{below_at, below_like, settle_like, settle_at}
 use Rattle.bk_simulation.proofs.BytesKept.{HasBytes, AllBytes, moves_bytes}
 use Rattle.bk_simulation.proofs.Laid.{Setting}
-use Rattle.bk_simulation.proofs.Frame.{Sit, state, FewFrames, Ready, Account, Comes, here, go_on, comes_on, one, Ran, ran_from, there, Stopped}
+use Rattle.bk_simulation.proofs.Frame.{Configuration, state, FewFrames, Ready, Account, Comes, here, go_on, comes_on, one, Ran, ran_from, there, Stopped}
 use Rattle.bk_simulation.proofs.Compose.{roomy}
 use Rattle.bk_simulation.proofs.Simulates.{Simulates}
 use Rattle.bk_simulation.proofs.NewFrames.{formals_long, formal_is}
@@ -53,7 +53,7 @@ pub start_runs : (g : Setting) (m : Meanings) → Simulates g m → AloneRuns g 
 start_runs g m sim alone_runs k f ip c0 w0 fs no_calls cap1 B leB leB' =
     let b : ℕ = top + 2 in
     let w2 : World = making cells (calling w0) in
-    let z1 : Sit = in_body ip.scene env top (g.lasting ++ b ∷ []) c3 [] size in
+    let z1 : Configuration = in_body ip.scene env top (g.lasting ++ b ∷ []) c3 [] size in
     let s1 : State = state own 2 (Entry ip.label ip.name ∷ drop (suc ip.place) own.stmts) c0 top None [] w0 in
     let s2 : State = state own 2 (drop (suc ip.place) own.stmts) c0 top None [] w0 in
     let s3 : State = state own size ip.body c3 top None [] w0 in

@@ -11,17 +11,17 @@ use Rattle.bk_lex.specs.declared.token.Kind.{Kind}
 use Rattle.bk_lex.specs.declared.token.Kind.TheVariants as k
 use Rattle.bk_lex.specs.declared.token.Token.{Token}
 use Rattle.bk_lex.specs.Symbol.{Symbol, symbol_of, symbols_of}
-use Rattle.bk_frames.specs.declared.frame.Operand.TheVariants as o
+use Rattle.bk_frames.specs.declared.frame.OpenExpression.TheVariants as o
 use Rattle.bk_frames.specs.declared.frame.Phrase.TheVariants as p
 use Rattle.bk_frames.specs.declared.frame.Member.TheVariants as m
 use Rattle.bk_frames.specs.declared.frame.Clause.TheVariants as c
 use Rattle.bk_frames.specs.declared.frame.Place.TheVariants as a
 use Rattle.bk_frames.specs.declared.frame.Point.TheVariants as t
-use Rattle.bk_frames.specs.declared.frame.Begun.{Begun}
-use Rattle.bk_frames.specs.declared.frame.Begun.TheVariants as b
+use Rattle.bk_frames.specs.declared.frame.Unfinished.{Unfinished}
+use Rattle.bk_frames.specs.declared.frame.Unfinished.TheVariants as b
 use Rattle.bk_frames.specs.declared.frame.Frame.{Frame}
 use Rattle.bk_frames.specs.declared.frames.Frames.{Frames}
-use Rattle.bk_frames.specs.declared.frame.Now.{Now}
+use Rattle.bk_frames.specs.declared.frame.ParserState.{ParserState}
 use Rattle.bk_frames.specs.declared.frame.Stop.{Stop}
 use Rattle.bk_frames.specs.declared.frame.Stop.TheVariants as s
 use Rattle.bk_tree.specs.declared.tree.Decl.{Decl}
@@ -30,11 +30,11 @@ use Rattle.bk_grammar.specs.Spelling.{tag_of}
 use Rattle.bk_grammar.specs.Brackets.{Closing, closed_by, in_front, plain_behind, plain_by, plain}
 use Rattle.bk_grammar.specs.SyntaxFault.{Stands}
 use Rattle.bk_grammar.specs.Machine.{Stack, State, due, in_section, opens, closes, stepped_by, step, whole, going, run}
-use Rattle.bk_frames.specs.Begun.{begun_on}
+use Rattle.bk_frames.specs.Unfinished.{unfinished_on}
 use Rattle.bk_frames.specs.Stacked.{above, stack}
 use Rattle.bk_frames.specs.Frames.{stack_of, state, Steps}
 use Rattle.bk_syntax.specs.SyntaxLaws.{reading}
-use Rattle.bk_syntax.specs.Parsing.{tags, Closes, goes_to, steps, leads, AfterSymbols, answered, reached, why_of, Advances, AnswersAtEnd}
+use Rattle.bk_syntax.specs.Parsing.{tags, Closes, goes_to, steps, leads, AfterSymbols, answered, reached, error_of, Advances, AnswersAtEnd}
 use Rattle.bk_grammar.proofs.Steps.{stepped}
 use Rattle.bk_grammar.proofs.Before.{opens_kind, closes_kind}
 use Rattle.bk_frames.proofs.Stacks.{stack_none}
@@ -153,9 +153,9 @@ steps_more zero t x h = absurd (omega arith)
 steps_more (suc n) t x h = let e : suc n - 1 ≡ n = omega arith in ap (λ (m : ℕ). goes_to (steps m t) (step x t)) (sym e)
 
 -- a symbol is answered by as many steps as it has plain symbols
-pub step_answered : (r : Result Unit Stop) (now : Now) (new : Frames) (xs : List (Bor (List ℕ))) (u : List Symbol) (t : Symbol) (before after : List (List ℕ)) (x : State) (n : ℕ)
+pub step_answered : (r : Result Unit Stop) (now : ParserState) (new : Frames) (xs : List (Bor (List ℕ))) (u : List Symbol) (t : Symbol) (before after : List (List ℕ)) (x : State) (n : ℕ)
     → Steps (stack_of new) (reached r now) (steps n t x) → tags xs ≡ after → ((us : List Symbol) → plain (t ∷ us) before ≡ in_front (replicate n t) (plain us after)) → AfterSymbols u before x
-    → Advances new xs (answered (reached (why_of r) now) t.line) u t
+    → Advances new xs (answered (reached (error_of r) now) t.line) u t
 step_answered (Ok _) now new xs u t before after x n go are h b =
     let y = state (stack_of new) now in
     let P : List (List ℕ) → Type 0 = λ z. AfterSymbols (u ++ t ∷ []) z y in
@@ -163,29 +163,29 @@ step_answered (Ok _) now new xs u t before after x n go are h b =
 step_answered (Err s.Memory) now new xs u t before after x n go are h b = tt
 step_answered (Err s.Unexpected) now new xs u t before after x n go are h b = (refl, unexpected u t before after x n b h go)
 
-last_begun : (st : Stack) (x : Frame) (xs : List Frame) → (y : Begun) × (below : Stack) × (above st (x ∷ xs) ≡ begun_on y below)
-last_begun st x [] = (x.begun, st, refl)
-last_begun st x (y ∷ ys) = last_begun (begun_on x.begun st) y ys
+last_unfinished : (st : Stack) (x : Frame) (xs : List Frame) → (y : Unfinished) × (below : Stack) × (above st (x ∷ xs) ≡ unfinished_on y below)
+last_unfinished st x [] = (x.unfinished, st, refl)
+last_unfinished st x (y ∷ ys) = last_unfinished (unfinished_on x.unfinished st) y ys
 
-begun_more : (x : Begun) (st : Stack) → whole (Some (due (begun_on x st))) ≡ Err []
-begun_more (b.Operand (o.Parens l)) st = refl
-begun_more (b.Operand _) st = refl
-begun_more (b.Phrase p.Start) st = refl
-begun_more (b.Phrase _) st = refl
-begun_more (b.Member (m.Function n fs)) st = refl
-begun_more (b.Member _) st = refl
-begun_more (b.Clause (c.Valof l)) st = refl
-begun_more (b.Clause _) st = refl
-begun_more (b.Place (a.Let l xs)) st = refl
-begun_more (b.Place _) st = refl
-begun_more (b.Point (t.Goto l)) st = refl
-begun_more (b.Point _) st = refl
+unfinished_more : (x : Unfinished) (st : Stack) → whole (Some (due (unfinished_on x st))) ≡ Err []
+unfinished_more (b.OpenExpression (o.Parens l)) st = refl
+unfinished_more (b.OpenExpression _) st = refl
+unfinished_more (b.Phrase p.Start) st = refl
+unfinished_more (b.Phrase _) st = refl
+unfinished_more (b.Member (m.Function n fs)) st = refl
+unfinished_more (b.Member _) st = refl
+unfinished_more (b.Clause (c.Valof l)) st = refl
+unfinished_more (b.Clause _) st = refl
+unfinished_more (b.Place (a.Let l xs)) st = refl
+unfinished_more (b.Place _) st = refl
+unfinished_more (b.Point (t.Goto l)) st = refl
+unfinished_more (b.Point _) st = refl
 
 -- with something begun above the declarations the section is not whole
 pub not_whole : (ds : List Decl) (xs : List Frame) → 0 < length xs → whole (Some (due (stack ds xs))) ≡ Err []
 unfolding stack
 not_whole ds [] h = absurd (omega arith)
-not_whole ds (x ∷ xs) h = let l = last_begun (in_section (declarations_in ds)) x xs in ap (λ z. whole (Some (due z))) l.2 ∙ begun_more l.0 l.1
+not_whole ds (x ∷ xs) h = let l = last_unfinished (in_section (declarations_in ds)) x xs in ap (λ z. whole (Some (due z))) l.2 ∙ unfinished_more l.0 l.1
 
 pub run_end : (x : State) → run [] x ≡ whole (stepped_by x 1 [] k.Semicolon)
 unfolding run
@@ -204,8 +204,8 @@ plain_all ts opens x b = ap (λ z. plain z []) (sym (append-nil ts)) ∙ b.brack
 pub reading_all : (ts : List Symbol) (opens : List (List ℕ)) (x : State) (b : AfterSymbols ts opens x) → reading b.plainly ≡ run [] x
 reading_all ts opens x b = ap reading (sym (append-nil b.plainly)) ∙ reads b []
 
-pub closed : (r : Result Unit Stop) (now : Now) (new : Frames) (xs ys zs : List (Bor (List ℕ))) (u : List Symbol) (t : Symbol) (x : State) (n k : ℕ) → closes t.kind ≡ true → zs ≡ ys → Closes (Some n) t (tag_of t.text) zs
-    → k ≡ length ys - n → xs ≡ take k ys → Steps (stack_of new) (reached r now) (steps n t x) → AfterSymbols u (tags ys) x → Advances new xs (answered (reached (why_of r) now) t.line) u t
+pub closed : (r : Result Unit Stop) (now : ParserState) (new : Frames) (xs ys zs : List (Bor (List ℕ))) (u : List Symbol) (t : Symbol) (x : State) (n k : ℕ) → closes t.kind ≡ true → zs ≡ ys → Closes (Some n) t (tag_of t.text) zs
+    → k ≡ length ys - n → xs ≡ take k ys → Steps (stack_of new) (reached r now) (steps n t x) → AfterSymbols u (tags ys) x → Advances new xs (answered (reached (error_of r) now) t.line) u t
 closed r now new xs ys zs u t x n k holds same h left is go b =
     let P : List (Bor (List ℕ)) → Type 0 = λ z. Closes (Some n) t (tag_of t.text) z in
     let q : closed_by t (tag_of t.text) (tags ys) ≡ Some (record { closings = replicate n t; still = tags (take (length ys - n) ys) }) = subst P same h in

@@ -4,7 +4,7 @@ pub mod Rows
 pub mod Exact
 pub mod Openings
 pub mod Behind
-pub mod Begun
+pub mod Unfinished
 pub mod Told
 pub mod Onward
 pub mod Operands

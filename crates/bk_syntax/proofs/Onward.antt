@@ -11,7 +11,7 @@ use Rattle.bk_grammar.specs.Rows.{begins_command, repeats, assigns, goes}
 use Rattle.bk_grammar.specs.Brackets.{one_more, up_to_tag, closed_by, in_front, plain}
 use Rattle.bk_grammar.specs.Machine.{Stack, State, want, have, begin, did, opens, closes, declared, declared_by, defined_by, stepped_by, run}
 use Rattle.bk_frames.specs.Sizes.{form_of}
-use Rattle.bk_frames.specs.WaysOn.{Next, closing, assigning, listing, going, repeating, operating, Any, AtClosing, AtListing, AtArgument, AtAssignment, Gives, Does, Defines}
+use Rattle.bk_frames.specs.Completing.{Lookahead, closing, assigning, listing, going, repeating, operating, Any, AtClosing, AtListing, AtArgument, AtAssignment, Gives, Does, Defines}
 use Rattle.bk_grammar.proofs.Steps.{Takes, stepped, alike, takes}
 use Rattle.bk_grammar.proofs.SameTags.{one_tag}
 use Rattle.bk_syntax.proofs.Behind.{plain_end, plain_open, plain_other, plain_close}
@@ -20,7 +20,7 @@ use Rattle.bk_grammar.proofs.Fits.{Tagged}
 -- ---- ways on
 
 -- these symbols, which are plain where these sections are open, lead from the state to the end of a section with P
-pub record Way (P : ℕ → ℕ → Type 0) (os : List (List ℕ)) (x : State) : Type 0 where
+pub record Completion (P : ℕ → ℕ → Type 0) (os : List (List ℕ)) (x : State) : Type 0 where
   pub symbols : List Symbol
   pub brackets : plain symbols os ≡ Some symbols
   pub tree : Declarations
@@ -28,7 +28,7 @@ pub record Way (P : ℕ → ℕ → Type 0) (os : List (List ℕ)) (x : State) :
   pub has : P (depth_of_declarations tree) (nodes_of_declarations tree)
 
 -- a symbol of the class: any that nothing takes, and one for each of the others
-abbrev pub IsOf : Next → Kind → Type 0
+abbrev pub IsOf : Lookahead → Kind → Type 0
 IsOf closing t = (begins_command t ≡ false) × (goes 12 t ≡ false) × (repeats t ≡ false) × (assigns t ≡ false)
 IsOf assigning t = t ≡ k.Assign
 IsOf listing t = t ≡ k.Comma
@@ -37,13 +37,13 @@ IsOf repeating t = t ≡ k.Repeat
 IsOf operating t = t ≡ k.Percent
 
 -- the first of the symbols is one; the end is a semicolon
-abbrev pub FirstOf : Next → List Symbol → Type 0
+abbrev pub FirstOf : Lookahead → List Symbol → Type 0
 FirstOf c [] = IsOf c k.Semicolon
 FirstOf c (t ∷ ts) = IsOf c t.kind
 
-pub record WayBy (P : ℕ → ℕ → Type 0) (c : Next) (os : List (List ℕ)) (x : State) : Type 0 where
-  pub way : Way P os x
-  pub first : FirstOf c way.symbols
+pub record CompletionBy (P : ℕ → ℕ → Type 0) (c : Lookahead) (os : List (List ℕ)) (x : State) : Type 0 where
+  pub completion : Completion P os x
+  pub first : FirstOf c completion.symbols
 
 -- the same of what is as deep and as large
 pub sized : (F : ℕ → ℕ → Type 0) (d e n m : ℕ) → d ≡ e → n ≡ m → F d n → F e m
@@ -51,7 +51,7 @@ sized F d e n m p q h = let G : ℕ → Type 0 = λ x. F x n in subst (F e) q (s
 
 -- ---- one symbol before the others
 
-unfoldable pub step_on : {P : ℕ → ℕ → Type 0} (y : Kind) (os : List (List ℕ)) (x z : State) → opens y ≡ false → closes y ≡ false → stepped_by x 1 [] y ≡ Some z → Way P os z → Way P os x
+unfoldable pub step_on : {P : ℕ → ℕ → Type 0} (y : Kind) (os : List (List ℕ)) (x z : State) → opens y ≡ false → closes y ≡ false → stepped_by x 1 [] y ≡ Some z → Completion P os z → Completion P os x
 step_on y os x z o c h e = let t : Symbol = symbol y 1 None [] in record {
   symbols = t ∷ e.symbols;
   brackets = plain_other t e.symbols os o c ∙ ap (in_front (t ∷ [])) e.brackets;
@@ -60,12 +60,12 @@ step_on y os x z o c h e = let t : Symbol = symbol y 1 None [] in record {
   has = e.has;
 }
 
-pub step_by : {P : ℕ → ℕ → Type 0} (n : Next) (y : Kind) (os : List (List ℕ)) (x z : State) → IsOf n y → opens y ≡ false → closes y ≡ false → stepped_by x 1 [] y ≡ Some z → Way P os z → WayBy P n os x
+pub step_by : {P : ℕ → ℕ → Type 0} (n : Lookahead) (y : Kind) (os : List (List ℕ)) (x z : State) → IsOf n y → opens y ≡ false → closes y ≡ false → stepped_by x 1 [] y ≡ Some z → Completion P os z → CompletionBy P n os x
 unfolding step_on
-step_by n y os x z f o c h e = record { way = step_on y os x z o c h e; first = f }
+step_by n y os x z f o c h e = record { completion = step_on y os x z o c h e; first = f }
 
 -- an opening without a tag
-pub open_on : {P : ℕ → ℕ → Type 0} (os : List (List ℕ)) (x z : State) → stepped_by x 1 [] k.SectionOpen ≡ Some z → Way P ([] ∷ os) z → Way P os x
+pub open_on : {P : ℕ → ℕ → Type 0} (os : List (List ℕ)) (x z : State) → stepped_by x 1 [] k.SectionOpen ≡ Some z → Completion P ([] ∷ os) z → Completion P os x
 open_on os x z h e = let t : Symbol = symbol k.SectionOpen 1 None [] in record {
   symbols = t ∷ e.symbols;
   brackets = plain_open t e.symbols os refl ∙ ap (in_front (t ∷ [])) e.brackets;
@@ -79,11 +79,11 @@ closes_one t [] os = refl
 closes_one t (x ∷ xs) os = ap (λ b. cond b (Some (record { closings = t ∷ []; still = os })) (one_more t (up_to_tag t (x ∷ xs) os))) (one_tag (x ∷ xs))
 
 -- a closing with the innermost tag
-pub shut_by : {P : ℕ → ℕ → Type 0} (tag : List ℕ) (os : List (List ℕ)) (x z : State) → Tagged tag → ((l : ℕ) (s : List ℕ) → stepped_by x l s k.SectionClose ≡ Some z) → Way P os z → WayBy P closing (tag ∷ os) x
+pub shut_by : {P : ℕ → ℕ → Type 0} (tag : List ℕ) (os : List (List ℕ)) (x z : State) → Tagged tag → ((l : ℕ) (s : List ℕ) → stepped_by x l s k.SectionClose ≡ Some z) → Completion P os z → CompletionBy P closing (tag ∷ os) x
 shut_by tag os x z has h e =
     let t : Symbol = symbol k.SectionClose 1 None (0 ∷ 0 ∷ has.0) in
     record {
-      way = record {
+      completion = record {
         symbols = t ∷ e.symbols;
         brackets = plain_close t e.symbols (tag ∷ os) (Some (record { closings = t ∷ []; still = os })) refl (ap (λ y. closed_by t y (tag ∷ os)) has.1 ∙ closes_one t tag os)
             ∙ ap (in_front (t ∷ [])) e.brackets;
@@ -95,22 +95,22 @@ shut_by tag os x z has h e =
     }
 
 -- the end
-pub end_way : {P : ℕ → ℕ → Type 0} (os : List (List ℕ)) (x : State) (ds : Declarations) → run [] x ≡ Ok ds → P (depth_of_declarations ds) (nodes_of_declarations ds) → Way P os x
-end_way os x ds r h = record { symbols = []; brackets = plain_end os; tree = ds; runs = r; has = h }
+pub end_completion : {P : ℕ → ℕ → Type 0} (os : List (List ℕ)) (x : State) (ds : Declarations) → run [] x ≡ Ok ds → P (depth_of_declarations ds) (nodes_of_declarations ds) → Completion P os x
+end_completion os x ds r h = record { symbols = []; brackets = plain_end os; tree = ds; runs = r; has = h }
 
-takes_first : (c : Next) (us : List Symbol) (x : State) (f : ℕ → List ℕ → Kind → Option State) → FirstOf c us → ((l : ℕ) (s : List ℕ) (t : Kind) → IsOf c t → stepped_by x l s t ≡ f l s t) → Takes us x f
+takes_first : (c : Lookahead) (us : List Symbol) (x : State) (f : ℕ → List ℕ → Kind → Option State) → FirstOf c us → ((l : ℕ) (s : List ℕ) (t : Kind) → IsOf c t → stepped_by x l s t ≡ f l s t) → Takes us x f
 takes_first c [] x f h g = g 1 [] k.Semicolon h
 takes_first c (t ∷ us) x f h g = g t.line t.text t.kind h
 
 -- the state goes on as another one, wherever a symbol of the class comes
-pub same_by : {P : ℕ → ℕ → Type 0} (c : Next) (os : List (List ℕ)) (x y : State) → ((l : ℕ) (s : List ℕ) (t : Kind) → IsOf c t → stepped_by x l s t ≡ stepped_by y l s t) → WayBy P c os y → WayBy P c os x
+pub same_by : {P : ℕ → ℕ → Type 0} (c : Lookahead) (os : List (List ℕ)) (x y : State) → ((l : ℕ) (s : List ℕ) (t : Kind) → IsOf c t → stepped_by x l s t ≡ stepped_by y l s t) → CompletionBy P c os y → CompletionBy P c os x
 same_by c os x y h e = record {
-  way = record {
-    symbols = e.way.symbols;
-    brackets = e.way.brackets;
-    tree = e.way.tree;
-    runs = alike e.way.symbols x y (stepped_by y) (takes_first c e.way.symbols x (stepped_by y) e.first h) (takes e.way.symbols y) ∙ e.way.runs;
-    has = e.way.has;
+  completion = record {
+    symbols = e.completion.symbols;
+    brackets = e.completion.brackets;
+    tree = e.completion.tree;
+    runs = alike e.completion.symbols x y (stepped_by y) (takes_first c e.completion.symbols x (stepped_by y) e.first h) (takes e.completion.symbols y) ∙ e.completion.runs;
+    has = e.completion.has;
   };
   first = e.first;
 }
@@ -118,17 +118,17 @@ same_by c os x y h e = record {
 -- ---- the classes
 
 -- the expression ends before it
-abbrev pub Ends : Next → Type 0
+abbrev pub Ends : Lookahead → Type 0
 Ends going = ⊥
 Ends operating = ⊥
 Ends _ = Unit {0}
 
 -- the command is not repeated by it
-abbrev pub Leaves : Next → Type 0
+abbrev pub Leaves : Lookahead → Type 0
 Leaves repeating = ⊥
 Leaves _ = Unit {0}
 
-pub ends_expression : (c : Next) → Ends c → (t : Kind) → IsOf c t → goes 12 t ≡ false
+pub ends_expression : (c : Lookahead) → Ends c → (t : Kind) → IsOf c t → goes 12 t ≡ false
 ends_expression closing e t h = h.1
 ends_expression assigning e t h = rw h refl
 ends_expression listing e t h = rw h refl
@@ -136,7 +136,7 @@ ends_expression repeating e t h = rw h refl
 ends_expression going e t h = absurd e
 ends_expression operating e t h = absurd e
 
-pub leaves_command : (c : Next) → Leaves c → (t : Kind) → IsOf c t → repeats t ≡ false
+pub leaves_command : (c : Lookahead) → Leaves c → (t : Kind) → IsOf c t → repeats t ≡ false
 leaves_command closing e t h = h.2
 leaves_command assigning e t h = rw h refl
 leaves_command listing e t h = rw h refl
@@ -146,7 +146,7 @@ leaves_command repeating e t h = absurd e
 
 -- what only some symbols end
 
-pub at_close : {P : ℕ → ℕ → Type 0} {X : Type 0} (os : List (List ℕ)) (x : State) (c : Next) → AtClosing X c → (X → WayBy P closing os x) → WayBy P c os x
+pub at_close : {P : ℕ → ℕ → Type 0} {X : Type 0} (os : List (List ℕ)) (x : State) (c : Lookahead) → AtClosing X c → (X → CompletionBy P closing os x) → CompletionBy P c os x
 at_close os x closing h f = f h
 at_close os x assigning h f = absurd h
 at_close os x listing h f = absurd h
@@ -154,7 +154,7 @@ at_close os x going h f = absurd h
 at_close os x repeating h f = absurd h
 at_close os x operating h f = absurd h
 
-pub at_comma : {P : ℕ → ℕ → Type 0} {X : Type 0} (os : List (List ℕ)) (x : State) (c : Next) → AtListing X c → (X → WayBy P listing os x) → WayBy P c os x
+pub at_comma : {P : ℕ → ℕ → Type 0} {X : Type 0} (os : List (List ℕ)) (x : State) (c : Lookahead) → AtListing X c → (X → CompletionBy P listing os x) → CompletionBy P c os x
 at_comma os x listing h f = f h
 at_comma os x closing h f = absurd h
 at_comma os x assigning h f = absurd h
@@ -162,7 +162,7 @@ at_comma os x going h f = absurd h
 at_comma os x repeating h f = absurd h
 at_comma os x operating h f = absurd h
 
-pub at_argument : {P : ℕ → ℕ → Type 0} {X Y : Type 0} (os : List (List ℕ)) (x : State) (c : Next) → AtArgument X Y c → (X → WayBy P closing os x) → (Y → WayBy P listing os x) → WayBy P c os x
+pub at_argument : {P : ℕ → ℕ → Type 0} {X Y : Type 0} (os : List (List ℕ)) (x : State) (c : Lookahead) → AtArgument X Y c → (X → CompletionBy P closing os x) → (Y → CompletionBy P listing os x) → CompletionBy P c os x
 at_argument os x closing h f g = f h
 at_argument os x listing h f g = g h
 at_argument os x assigning h f g = absurd h
@@ -170,7 +170,7 @@ at_argument os x going h f g = absurd h
 at_argument os x repeating h f g = absurd h
 at_argument os x operating h f g = absurd h
 
-pub at_assignment : {P : ℕ → ℕ → Type 0} {X Y : Type 0} (os : List (List ℕ)) (x : State) (c : Next) → AtAssignment X Y c → (X → WayBy P assigning os x) → (Y → WayBy P listing os x) → WayBy P c os x
+pub at_assignment : {P : ℕ → ℕ → Type 0} {X Y : Type 0} (os : List (List ℕ)) (x : State) (c : Lookahead) → AtAssignment X Y c → (X → CompletionBy P assigning os x) → (Y → CompletionBy P listing os x) → CompletionBy P c os x
 at_assignment os x assigning h f g = f h
 at_assignment os x listing h f g = g h
 at_assignment os x closing h f g = absurd h
@@ -182,34 +182,34 @@ at_assignment os x operating h f g = absurd h
 
 -- an expression, a command, a definition or a declaration that is complete on this stack goes on
 abbrev pub GivesOn : (ℕ → ℕ → Type 0) → List (List ℕ) → Stack → Type 0
-GivesOn P os st = (e : Expression) (c : Next) → Gives P st (form_of e) (depth e) (nodes e) c → WayBy P c os (have st e)
+GivesOn P os st = (e : Expression) (c : Lookahead) → Gives P st (form_of e) (depth e) (nodes e) c → CompletionBy P c os (have st e)
 
 abbrev pub DoesOn : (ℕ → ℕ → Type 0) → List (List ℕ) → Stack → Type 0
-DoesOn P os st = (a : Action) (c : Next) → Does P st (depth_of_action a) (nodes_of_action a) c → WayBy P c os (did st a)
+DoesOn P os st = (a : Action) (c : Lookahead) → Does P st (depth_of_action a) (nodes_of_action a) c → CompletionBy P c os (did st a)
 
 -- a definition ends with a semicolon
-pub record DefinedWay (P : ℕ → ℕ → Type 0) (os : List (List ℕ)) (st : Stack) (d : Definition) : Type 0 where
+pub record DefinedCompletion (P : ℕ → ℕ → Type 0) (os : List (List ℕ)) (st : Stack) (d : Definition) : Type 0 where
   pub next : State
   pub takes : defined_by st d 1 [] k.Semicolon ≡ Some next
-  pub way : Way P os next
+  pub completion : Completion P os next
 
 abbrev pub DefinesOn : (ℕ → ℕ → Type 0) → List (List ℕ) → Stack → Type 0
-DefinesOn P os st = (d : Definition) → Defines P st (depth_of_definition d) (nodes_of_definition d) → DefinedWay P os st d
+DefinesOn P os st = (d : Definition) → Defines P st (depth_of_definition d) (nodes_of_definition d) → DefinedCompletion P os st d
 
 -- a declaration ends with its bracket, or with a semicolon
-pub record DeclaredWay (P : ℕ → ℕ → Type 0) (os : List (List ℕ)) (st : Stack) (d : Declaration) : Type 0 where
+pub record DeclaredCompletion (P : ℕ → ℕ → Type 0) (os : List (List ℕ)) (st : Stack) (d : Declaration) : Type 0 where
   pub next : State
   pub takes : declared st d ≡ Some next
-  pub way : Way P os next
+  pub completion : Completion P os next
   pub behind : State
   pub goes : declared_by st d 1 [] k.Semicolon ≡ Some behind
-  pub rest : Way P os behind
+  pub rest : Completion P os behind
 
-pub given : {P : ℕ → ℕ → Type 0} (os : List (List ℕ)) (st : Stack) (e : Expression) (d n : ℕ) → GivesOn P os st → d ≡ depth e → n ≡ nodes e → Any (Gives P st (form_of e) d n) → Way P os (have st e)
-given {P = P} os st e d n g p q h = (g e h.0 (sized (λ x y. Gives P st (form_of e) x y h.0) d (depth e) n (nodes e) p q h.1)).way
+pub given : {P : ℕ → ℕ → Type 0} (os : List (List ℕ)) (st : Stack) (e : Expression) (d n : ℕ) → GivesOn P os st → d ≡ depth e → n ≡ nodes e → Any (Gives P st (form_of e) d n) → Completion P os (have st e)
+given {P = P} os st e d n g p q h = (g e h.0 (sized (λ x y. Gives P st (form_of e) x y h.0) d (depth e) n (nodes e) p q h.1)).completion
 
-pub done : {P : ℕ → ℕ → Type 0} (os : List (List ℕ)) (st : Stack) (a : Action) (d n : ℕ) → DoesOn P os st → d ≡ depth_of_action a → n ≡ nodes_of_action a → Any (Does P st d n) → Way P os (did st a)
-done {P = P} os st a d n g p q h = (g a h.0 (sized (λ x y. Does P st x y h.0) d (depth_of_action a) n (nodes_of_action a) p q h.1)).way
+pub done : {P : ℕ → ℕ → Type 0} (os : List (List ℕ)) (st : Stack) (a : Action) (d n : ℕ) → DoesOn P os st → d ≡ depth_of_action a → n ≡ nodes_of_action a → Any (Does P st d n) → Completion P os (did st a)
+done {P = P} os st a d n g p q h = (g a h.0 (sized (λ x y. Does P st x y h.0) d (depth_of_action a) n (nodes_of_action a) p q h.1)).completion
 
 -- ---- the least parts
 
@@ -222,10 +222,10 @@ mention_here = record { line = 1; letters = upper_name [] }
 abbrev pub break_here : Action
 break_here = simple 1 w.Break
 
-pub name_on : {P : ℕ → ℕ → Type 0} (os : List (List ℕ)) (st : Stack) → Way P os (have st name_here) → Way P os (want st)
+pub name_on : {P : ℕ → ℕ → Type 0} (os : List (List ℕ)) (st : Stack) → Completion P os (have st name_here) → Completion P os (want st)
 name_on os st e = step_on k.Name os (want st) (have st name_here) refl refl refl e
 
-pub break_on : {P : ℕ → ℕ → Type 0} (os : List (List ℕ)) (st : Stack) → Way P os (did st break_here) → Way P os (begin st)
+pub break_on : {P : ℕ → ℕ → Type 0} (os : List (List ℕ)) (st : Stack) → Completion P os (did st break_here) → Completion P os (begin st)
 break_on os st e = step_on k.Break os (begin st) (did st break_here) refl refl refl e
 
 pub depth_some : (e : Expression) → 1 ≤ depth e

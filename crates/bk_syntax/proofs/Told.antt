@@ -10,14 +10,14 @@ use Rattle.bk_base.specs.declared.refused.Refused.{Refused}
 use Rattle.bk_base.specs.declared.refused.Refused.TheVariants.{Fault, Memory, Device}
 use Rattle.bk_lex.specs.declared.token.Token.{Token}
 use Rattle.bk_lex.specs.Symbol.{Symbol, symbol_of, symbols_of}
-use Rattle.bk_frames.specs.declared.frame.Now.{Now}
+use Rattle.bk_frames.specs.declared.frame.ParserState.{ParserState}
 use Rattle.bk_frames.specs.declared.frames.Frames.{Frames}
-use Rattle.bk_syntax.specs.declared.why.Why.{Why}
-use Rattle.bk_syntax.specs.declared.why.Why.TheVariants as w
+use Rattle.bk_syntax.specs.declared.error.ParseError.{ParseError}
+use Rattle.bk_syntax.specs.declared.error.ParseError.TheVariants as w
 use Rattle.bk_tree.specs.declared.section.Section.{Section}
 use Rattle.bk_tree.specs.Tree.{Declarations}
 use Rattle.bk_tree.specs.Limits.{Within, depth_of_declarations, nodes_of_declarations}
-use Rattle.bk_frames.specs.WaysOn.{Completes}
+use Rattle.bk_frames.specs.Completing.{Completes}
 use Rattle.bk_grammar.specs.Brackets.{plain}
 use Rattle.bk_syntax.specs.SyntaxLaws.{reading, BeginsCompletes, CompletesBegins}
 use Rattle.bk_grammar.specs.Grammar as G
@@ -34,7 +34,7 @@ use Rattle.bk_syntax.proofs.Behind.{reads, plain_all, reading_all}
 use Rattle.bk_frames.proofs.Lowering.{Down, at_most_down, levels_down}
 use Rattle.bk_frames.proofs.Covering.{run_completes}
 use Rattle.bk_grammar.proofs.Complete.{complete}
-use Rattle.bk_syntax.proofs.Begun.{in_front_some, completes_begins_with, behind_begins}
+use Rattle.bk_syntax.proofs.Unfinished.{in_front_some, completes_begins_with, behind_begins}
 
 -- what a section has behind the symbols with which it begins is read from there
 rest_runs : (ts us : List Symbol) (opens : List (List ℕ)) (x : State) (ds : Declarations) → AfterSymbols ts opens x → IsSection ds (ts ++ us) → (rest : List Symbol) × (run rest x ≡ Ok ds)
@@ -71,8 +71,8 @@ limit_stands TooManyNodes u t opens x h b over =
 limit_stands _ u t opens x h b over = absurd h
 
 -- a limit is told where it stands
-limit_told : (why : Why) (new : Frames) (xs : List (Bor (List ℕ))) (u : List Symbol) (t : Symbol) (opens : List (List ℕ)) (x : State) → AfterSymbols (u ++ t ∷ []) opens x → IsPassed why x
-    → Advances new xs (Err (told why t.line)) u t
+limit_told : (error : ParseError) (new : Frames) (xs : List (Bor (List ℕ))) (u : List Symbol) (t : Symbol) (opens : List (List ℕ)) (x : State) → AfterSymbols (u ++ t ∷ []) opens x → IsPassed error x
+    → Advances new xs (Err (told error t.line)) u t
 limit_told w.Memory new xs u t opens x b over = tt
 limit_told w.NestedTooDeeply new xs u t opens x b over = (refl, limit_stands NestedTooDeeply u t opens x tt b over)
 limit_told w.TooManyNodes new xs u t opens x b over = (refl, limit_stands TooManyNodes u t opens x tt b over)
@@ -80,10 +80,10 @@ limit_told w.Unexpected new xs u t opens x b over = absurd over
 limit_told w.WrongSectionTag new xs u t opens x b over = absurd over
 
 -- what is answered where the limits were looked at behind a symbol
-pub limited : (r : Result Unit Why) (after : Now) (new : Frames) (xs : List (Bor (List ℕ))) (u : List Symbol) (t : Symbol) → AfterSymbols (u ++ t ∷ []) (tags xs) (state (stack_of new) after)
-    → IfErr r (λ why. IsPassed why (state (stack_of new) after)) → Advances new xs (answered (reached r after) t.line) u t
+pub limited : (r : Result Unit ParseError) (after : ParserState) (new : Frames) (xs : List (Bor (List ℕ))) (u : List Symbol) (t : Symbol) → AfterSymbols (u ++ t ∷ []) (tags xs) (state (stack_of new) after)
+    → IfErr r (λ error. IsPassed error (state (stack_of new) after)) → Advances new xs (answered (reached r after) t.line) u t
 limited (Ok _) after new xs u t b over = b
-limited (Err why) after new xs u t b over = limit_told why new xs u t (tags xs) (state (stack_of new) after) b over
+limited (Err error) after new xs u t b over = limit_told error new xs u t (tags xs) (state (stack_of new) after) b over
 
 -- a fault that is told at one of the symbols
 pub told_of : (r : Refused SourceFault) (new : Frames) (xs : List (Bor (List ℕ))) (ts : List Token) (i : ℕ) (t : Token) (end : ℕ) (opens : List (List ℕ)) (x : State) → i < length ts → t ≡ get_or ts i t

@@ -1,4 +1,4 @@
--- What the parser has behind some symbols of a section, and what it answers of them all.
+-- The state of the parser after some symbols of a section, and its answer to all of them.
 use Rattle.std.specs.Prelude.{ℕ, zero, suc, ◌≡◌, ◌⊎◌, Option, Some, None, List, [], ◌∷◌, ◌++◌, length, ◌-◌, take, replicate, Result, Ok, Err}
 use Rattle.std.specs.Borrow.{Bor}
 use Rattle.bk_base.specs.declared.source_fault.SourceFault.{SourceFault}
@@ -9,11 +9,11 @@ use Rattle.bk_base.specs.declared.refused.Refused.TheVariants.{Fault, Memory, De
 use Rattle.bk_lex.specs.Symbol.{Symbol}
 use Rattle.bk_lex.specs.Values.{upper_name}
 use Rattle.bk_frames.specs.declared.frames.Frames.{Frames}
-use Rattle.bk_frames.specs.declared.frame.Now.{Now}
+use Rattle.bk_frames.specs.declared.frame.ParserState.{ParserState}
 use Rattle.bk_frames.specs.declared.frame.Stop.{Stop}
 use Rattle.bk_frames.specs.declared.frame.Stop.TheVariants as s
-use Rattle.bk_syntax.specs.declared.why.Why.{Why}
-use Rattle.bk_syntax.specs.declared.why.Why.TheVariants as w
+use Rattle.bk_syntax.specs.declared.error.ParseError.{ParseError}
+use Rattle.bk_syntax.specs.declared.error.ParseError.TheVariants as w
 use Rattle.bk_tree.specs.declared.section.Section.{Section}
 use Rattle.bk_tree.specs.Tree.{Declarations, no_declarations}
 use Rattle.bk_tree.specs.Section.{declarations_of}
@@ -51,7 +51,7 @@ abbrev pub leads : List Symbol → State → Option State
 leads [] x = Some x
 leads (t ∷ ts) x = goes_to (leads ts) (step x t)
 
--- behind these symbols these sections are open, and the machine is in this state
+-- after these symbols these sections are open, and the machine is in this state
 pub record AfterSymbols (ts : List Symbol) (opens : List (List ℕ)) (x : State) : Type 0 where
   pub plainly : List Symbol
   pub brackets : (us : List Symbol) → plain (ts ++ us) [] ≡ in_front plainly (plain us opens)
@@ -62,8 +62,8 @@ IsLimit NestedTooDeeply = Unit {0}
 IsLimit TooManyNodes = Unit {0}
 IsLimit _ = ⊥
 
--- what is told of why symbols are refused, on this line
-abbrev pub told : Why → ℕ → Refused SourceFault
+-- the fault that is reported for an error on this line
+abbrev pub told : ParseError → ℕ → Refused SourceFault
 told w.Memory line = Memory
 told w.Unexpected line = Fault (record { line = line; kind = UnexpectedSymbol })
 told w.WrongSectionTag line = Fault (record { line = line; kind = WrongSectionTag })
@@ -71,30 +71,30 @@ told w.NestedTooDeeply line = Fault (record { line = line; kind = NestedTooDeepl
 told w.TooManyNodes line = Fault (record { line = line; kind = TooManyNodes })
 
 -- what a symbol on this line is answered
-abbrev pub answered : Result Now Why → ℕ → Result Now (Refused SourceFault)
+abbrev pub answered : Result ParserState ParseError → ℕ → Result ParserState (Refused SourceFault)
 answered (Ok now) line = Ok now
-answered (Err why) line = Err (told why line)
+answered (Err error) line = Err (told error line)
 
 -- why a symbol is refused, without its line
-abbrev pub why_of : Result Unit Stop → Result Unit Why
-why_of (Ok x) = Ok x
-why_of (Err s.Memory) = Err w.Memory
-why_of (Err s.Unexpected) = Err w.Unexpected
+abbrev pub error_of : Result Unit Stop → Result Unit ParseError
+error_of (Ok x) = Ok x
+error_of (Err s.Memory) = Err w.Memory
+error_of (Err s.Unexpected) = Err w.Unexpected
 
--- what a symbol is answered, where what stands on the frames then is at its place
-abbrev pub reached : {E : Type 0} → Result Unit E → Now → Result Now E
+-- the answer to a symbol, with the state above the frames in its place
+abbrev pub reached : {E : Type 0} → Result Unit E → ParserState → Result ParserState E
 reached (Ok _) now = Ok now
-reached (Err why) now = Err why
+reached (Err error) now = Err error
 
 -- the limit that a section passes in this state
-abbrev pub IsPassed : Why → State → Type 0
+abbrev pub IsPassed : ParseError → State → Type 0
 IsPassed w.Memory x = Unit {0}
 IsPassed w.NestedTooDeeply x = Passed NestedTooDeeply x
 IsPassed w.TooManyNodes x = Passed TooManyNodes x
 IsPassed _ x = ⊥
 
--- the answer to a further symbol t behind u
-abbrev pub Advances : Frames → List (Bor (List ℕ)) → Result Now (Refused SourceFault) → List Symbol → Symbol → Type 0
+-- the answer to a further symbol t after u
+abbrev pub Advances : Frames → List (Bor (List ℕ)) → Result ParserState (Refused SourceFault) → List Symbol → Symbol → Type 0
 Advances new opens (Ok now) u t = AfterSymbols (u ++ t ∷ []) (tags opens) (state (stack_of new) now)
 Advances new opens (Err (Fault f)) u t = (f.line ≡ t.line) × Stands f.kind u t
 Advances new opens (Err Memory) u t = Unit {0}
@@ -107,7 +107,7 @@ AnswersAtEnd (Err (Fault f)) r end = (r ≡ Err []) × (f.kind ≡ UnexpectedSym
 AnswersAtEnd (Err Memory) r end = Unit {0}
 AnswersAtEnd (Err Device) r end = ⊥
 
--- a fault that is told at a symbol stands there, and at no symbol before it: a section within the limits begins with those
+-- a fault that is reported at a symbol is there, and at no symbol before it: a section within the limits begins with those
 pub record ToldAt (f : SourceFault) (ts : List Symbol) : Type 0 where
   pub before : List Symbol
   pub at : Symbol
@@ -116,7 +116,7 @@ pub record ToldAt (f : SourceFault) (ts : List Symbol) : Type 0 where
   pub line : f.line ≡ at.line
   pub first : First f.kind before at
 
--- a fault that is told at the end, which is on this line: the symbols are no section, and one within the limits begins with
+-- a fault that is reported at the end, which is on this line: the symbols are no section, and one within the limits begins with
 -- them
 pub record ToldAtEnd (f : SourceFault) (ts : List Symbol) (end : ℕ) : Type 0 where
   pub kind : f.kind ≡ UnexpectedSymbol

@@ -7,7 +7,7 @@ use Rattle.bk_tree.specs.Limits.{depth_of_declarations, nodes_of_declarations}
 use Rattle.bk_grammar.specs.Brackets.{plain}
 use Rattle.bk_grammar.specs.SyntaxFault.{IsSection, Begins, Any}
 use Rattle.bk_grammar.specs.Machine.{State, due, in_section, run}
-use Rattle.bk_frames.specs.WaysOn.{Completes}
+use Rattle.bk_frames.specs.Completing.{Completes}
 use Rattle.bk_frames.specs.Bounds.{AtMost}
 use Rattle.bk_syntax.specs.Parsing.{AfterSymbols}
 
@@ -40,7 +40,7 @@ EndFaultStands = (ts rest : List Symbol) → reading ts ≡ Err rest → (ds : D
 abbrev pub GoesOnBegins : Type 0
 GoesOnBegins = (ts ps : List Symbol) → plain ts [] ≡ Some ps → ((t : Symbol) (v : List Symbol) → reading ps ≡ Err (t ∷ v) → ⊥) → Begins Any ts
 
--- Where a section within some bounds begins with the symbols, the state of the machine behind them completes these bounds.
+-- Where a section within some bounds begins with the symbols, the state of the machine after them completes these bounds.
 abbrev pub BeginsCompletes : Type 0
 BeginsCompletes = (ts : List Symbol) (opens : List (List ℕ)) (x : State) (levels most : ℕ) → AfterSymbols ts opens x
     → Begins (λ ds. AtMost levels most (depth_of_declarations ds) (nodes_of_declarations ds)) ts → Completes (AtMost levels most) x

@@ -2,27 +2,27 @@
 ghost use Rattle.std.specs.Prelude.{◌≡◌, ◌+◌, ◌==◌, IfOk, Some, None, Option, false, ℕ};
 ghost use Rattle.bk_tree.specs.Tree.{expression, expressions_in, action, mention, more, none};
 ghost use Rattle.bk_grammar.specs.Rows.{goes, repeats};
-ghost use Rattle.bk_frames.specs.declared.frame.Begun.TheVariants as Begun;
+ghost use Rattle.bk_frames.specs.declared.frame.Unfinished.TheVariants as Unfinished;
 ghost use Rattle.bk_frames.specs.declared.frame.Phrase.TheVariants as p;
 ghost use Rattle.bk_frames.specs.Sizes.{size_of, size_of_action, both_of, node_of};
-ghost use Rattle.bk_frames.specs.Begun.{held_in};
+ghost use Rattle.bk_frames.specs.Unfinished.{held_in};
 ghost use Rattle.bk_tree.specs.Parts.{line_of_action, line_of_first, size};
 ghost use Rattle.bk_grammar.specs.Machine.{Stack, limit, give, finish, again, dests, guarded, behind_sign, take_command, in_start, in_values, in_guard, in_to};
 ghost use Rattle.bk_tree.specs.Parts.{each_then};
-ghost use Rattle.bk_frames.specs.Begun.{phrase_on, clause_on};
+ghost use Rattle.bk_frames.specs.Unfinished.{phrase_on, clause_on};
 ghost use Rattle.bk_frames.specs.Frames.{stack_of, state, given, finished, heads, Steps, Answers, Lowers, Falls};
 ghost use Rattle.bk_syntax.specs.Parsing.{reached};
 
 use crate::definitions::complete_definition;
+use crate::error::refuse;
 use crate::expressions::{due, due_at, line_of, operand, want_in, wants_command, whole};
-use crate::why::refuse;
 use bk_base::Line;
 use bk_frames::frame::{
-    Begun, Clause, Defined, Done, Flow, Now, Phrase, Place, Point, Size, Sized, Stop,
+    Clause, Defined, Done, Flow, ParserState, Phrase, Place, Point, Size, Sized, Stop, Unfinished,
 };
 use bk_frames::frames::Frames;
 use bk_frames::size::{LEAF, NOTHING, both, of_node};
-use bk_frames::top::begun;
+use bk_frames::top::unfinished;
 use bk_grammar::symbols::{
     Guard, Heading, Repetition, assigns, guard_begun, heads_with, is_assign, is_by, is_colon,
     is_comma, is_do, is_or, is_sign, is_to, repetition_begun, simple,
@@ -44,7 +44,7 @@ pub fn did(command: Command, parts: Size) -> Done
     }
 }
 
-/// The line of a command's first symbol; the first for an empty one, which has none and stands in no list.
+/// The line of a command's first symbol. An empty command has none and is in no list: its line is the first.
 fn line_of_command(command: &Command) -> Line
     ensures { result ≡ line_of_action (action command.now) }
 {
@@ -75,7 +75,7 @@ fn headed(
     frames: &mut Frames,
     heading: Heading,
     line: Line,
-) -> Result<Now, AllocError>
+) -> Result<ParserState, AllocError>
     ensures { IfOk result (λ now. state (stack_of frames.new) now ≡ heads (stack_of frames.old) line heading) }
 {
     match heading {
@@ -93,11 +93,16 @@ fn headed(
 
 /// A command is due, and this symbol comes.
 #[tactic(auto, using(bk_frames::proofs::Turns::command_cases))]
-pub fn command(alloc: Global, frames: &mut Frames, now: &mut Now, token: &Token) -> Result<(), Stop>
+pub fn command(
+    alloc: Global,
+    frames: &mut Frames,
+    now: &mut ParserState,
+    token: &Token,
+) -> Result<(), Stop>
     ensures { Steps (stack_of frames.new) (reached result now.new) (take_command (stack_of frames.old) token.now.line token.now.text.now token.now.kind) }
 {
     if let Some(word) = simple(token.kind) {
-        now.set(Now::Did(did(Command::Simple(token.line, word), NOTHING)));
+        now.set(ParserState::Did(did(Command::Simple(token.line, word), NOTHING)));
         return Ok(());
     }
     if let Some(guard) = guard_begun(token.kind) {
@@ -110,7 +115,7 @@ pub fn command(alloc: Global, frames: &mut Frames, now: &mut Now, token: &Token)
             Ok(())
         }
         None => {
-            begun(frames, Begun::Phrase(Phrase::Start), NOTHING)?;
+            unfinished(frames, Unfinished::Phrase(Phrase::Start), NOTHING)?;
             operand(alloc, frames, now, token)
         }
     }
@@ -135,13 +140,13 @@ pub fn guarded(guard: Guard, line: Line, condition: Box<Expr>, command: Box<Comm
 fn further(
     alloc: Global,
     frames: &mut Frames,
-    now: &mut Now,
+    now: &mut ParserState,
     before: Vec<Expr>,
     parts: Size,
     last: Expr,
     token: &Token,
 ) -> Result<Flow, Stop>
-    requires { parts ≡ both_of (held_in (Begun.Phrase (p.Dests before))) (size_of (expression last)) }
+    requires { parts ≡ both_of (held_in (Unfinished.Phrase (p.Dests before))) (size_of (expression last)) }
     ensures answers { Answers frames.new now.new result token.now (λ l x. dests
         (each_then (expressions_in before.items) (more (expression last) none)) (stack_of frames.old)) }
     ensures lowers { Lowers frames.old frames.new result }
@@ -164,7 +169,7 @@ fn further(
 fn started(
     alloc: Global,
     frames: &mut Frames,
-    now: &mut Now,
+    now: &mut ParserState,
     sized: Sized,
     token: &Token,
 ) -> Result<Flow, Stop>
@@ -194,15 +199,19 @@ fn started(
                 command: call(line, callee, items),
                 size,
             };
-            now.set(Now::Did(done));
+            now.set(ParserState::Did(done));
             Ok(Flow::Comes)
         }
         Expr::Name(line, letters) => {
             if !is_colon(token.kind) {
                 return Err(Stop::Unexpected);
             }
-            begun(frames, Begun::Clause(Clause::Label(line, letters)), NOTHING)?;
-            now.set(Now::Maybe);
+            unfinished(
+                frames,
+                Unfinished::Clause(Clause::Label(line, letters)),
+                NOTHING,
+            )?;
+            now.set(ParserState::Maybe);
             Ok(Flow::Taken)
         }
         _ => Err(Stop::Unexpected),
@@ -231,7 +240,7 @@ fn is_last(dests: &[Expr], values: &[Expr]) -> bool
 #[tactic(auto, using(bk_tree::proofs::Trees::one_more, bk_tree::proofs::Trees::more_sizes))]
 fn valued(
     frames: &mut Frames,
-    now: &mut Now,
+    now: &mut ParserState,
     dests: Vec<Expr>,
     values: Vec<Expr>,
     parts: Size,
@@ -239,7 +248,7 @@ fn valued(
     token: &Token,
 ) -> Result<Flow, Stop>
     requires stops { goes 12 token.now.kind ≡ false }
-    requires parts { parts ≡ both_of (held_in (Begun.Phrase (p.Values dests values))) (size_of (expression last)) }
+    requires parts { parts ≡ both_of (held_in (Unfinished.Phrase (p.Values dests values))) (size_of (expression last)) }
     ensures answers { Answers frames.new now.new result token.now (give (in_values (expressions_in dests.items) (expressions_in values.items)
         (stack_of frames.old)) (expression last)) }
     ensures lowers { Lowers frames.old frames.new result }
@@ -249,7 +258,7 @@ fn valued(
     values.push(last)?;
     if complete {
         let line = line_of_list(&dests);
-        now.set(Now::Did(did(assign(line, dests, values), parts)));
+        now.set(ParserState::Did(did(assign(line, dests, values), parts)));
         return Ok(Flow::Comes);
     }
     if !is_comma(token.kind) {
@@ -259,22 +268,22 @@ fn valued(
     Ok(Flow::Taken)
 }
 
-/// What is read behind the sign of a guard: behind that of CASE no command need come.
-fn behind_sign(guard: Guard) -> Now
+/// What is read after the sign of a guard: after that of CASE the command may be missing.
+fn behind_sign(guard: Guard) -> ParserState
     ensures { (st : Stack) → state st result ≡ behind_sign guard st }
 {
     match guard {
-        Guard::Case => Now::Maybe,
-        _ => Now::Begin,
+        Guard::Case => ParserState::Maybe,
+        _ => ParserState::Begin,
     }
 }
 
-/// The expression behind a guard is complete.
+/// The expression after a guard is complete.
 #[inline(never)]
 fn guards(
     alloc: Global,
     frames: &mut Frames,
-    now: &mut Now,
+    now: &mut ParserState,
     guard: Guard,
     line: Line,
     parts: Size,
@@ -290,9 +299,9 @@ fn guards(
         return Err(Stop::Unexpected);
     }
     let condition = Box::new(alloc, condition)?;
-    begun(
+    unfinished(
         frames,
-        Begun::Clause(Clause::Guarded(guard, line, condition)),
+        Unfinished::Clause(Clause::Guarded(guard, line, condition)),
         parts,
     )?;
     now.set(behind_sign(guard));
@@ -305,7 +314,7 @@ fn guards(
 fn limited(
     alloc: Global,
     frames: &mut Frames,
-    now: &mut Now,
+    now: &mut ParserState,
     line: Line,
     name: Name,
     from: Box<Expr>,
@@ -314,7 +323,7 @@ fn limited(
     token: &Token,
 ) -> Result<Flow, Stop>
     requires stops { goes 12 token.now.kind ≡ false }
-    requires parts { parts ≡ both_of (held_in (Begun.Phrase (p.To line name from))) (size_of (expression limit)) }
+    requires parts { parts ≡ both_of (held_in (Unfinished.Phrase (p.To line name from))) (size_of (expression limit)) }
     ensures answers { Answers frames.new now.new result token.now (give (in_to line (mention name) (expression from.value) (stack_of frames.old))
         (expression limit)) }
     ensures lowers { Lowers frames.old frames.new result }
@@ -338,21 +347,21 @@ fn limited(
 pub fn complete_phrase(
     alloc: Global,
     frames: &mut Frames,
-    now: &mut Now,
-    begun: Phrase,
+    now: &mut ParserState,
+    unfinished: Phrase,
     held: Size,
     token: &Token,
 ) -> Result<Flow, Stop>
     requires stops { goes 12 token.now.kind ≡ false }
-    requires held { held ≡ held_in (Begun.Phrase begun) }
-    ensures answers { Answers frames.new now.new result token.now (given (phrase_on begun (stack_of frames.old)) now.old) }
+    requires held { held ≡ held_in (Unfinished.Phrase unfinished) }
+    ensures answers { Answers frames.new now.new result token.now (given (phrase_on unfinished (stack_of frames.old)) now.old) }
     ensures lowers { Lowers frames.old frames.new result }
 {
-    let Now::Have(sized) = mem::replace(now, Now::Due) else {
-        return Err(refuse(begun));
+    let ParserState::Have(sized) = mem::replace(now, ParserState::Due) else {
+        return Err(refuse(unfinished));
     };
     let parts = both(held, sized.size);
-    match begun {
+    match unfinished {
         Phrase::Start => started(alloc, frames, now, sized, token),
         Phrase::Dests(dests) => further(alloc, frames, now, dests, parts, sized.expr, token),
         Phrase::Values(dests, values) => {
@@ -371,14 +380,14 @@ pub fn complete_phrase(
         }
         Phrase::ResultIs(line) => {
             let result = Box::new(alloc, sized.expr)?;
-            now.set(Now::Did(did(Command::ResultIs(line, result), parts)));
+            now.set(ParserState::Did(did(Command::ResultIs(line, result), parts)));
             Ok(Flow::Comes)
         }
         Phrase::RepeatWhile(truth, body) => {
             let line = line_of_command(&body);
             let condition = Box::new(alloc, sized.expr)?;
             let repeat = Command::RepeatWhile(line, truth, body, condition);
-            now.set(Now::Did(did(repeat, parts)));
+            now.set(ParserState::Did(did(repeat, parts)));
             Ok(Flow::Comes)
         }
         Phrase::From(line, name) => {
@@ -410,7 +419,7 @@ pub fn complete_phrase(
 pub fn again(
     alloc: Global,
     frames: &mut Frames,
-    now: &mut Now,
+    now: &mut ParserState,
     done: Done,
     token: &Token,
 ) -> Result<Flow, Stop>
@@ -421,7 +430,7 @@ pub fn again(
     let line = line_of_command(&command);
     let body = Box::new(alloc, command)?;
     let next = match repetition_begun(token.kind) {
-        Some(Repetition::Always) => Now::Did(did(Command::Repeat(line, body), size)),
+        Some(Repetition::Always) => ParserState::Did(did(Command::Repeat(line, body), size)),
         Some(Repetition::While) => want_in(frames, Phrase::RepeatWhile(true, body), size)?,
         Some(Repetition::Until) => want_in(frames, Phrase::RepeatWhile(false, body), size)?,
         None => return Err(Stop::Unexpected),
@@ -436,28 +445,31 @@ pub fn again(
 pub fn complete_clause(
     alloc: Global,
     frames: &mut Frames,
-    now: &mut Now,
-    begun: Clause,
+    now: &mut ParserState,
+    unfinished: Clause,
     held: Size,
     token: &Token,
 ) -> Result<Flow, Stop>
     requires stops { repeats token.now.kind ≡ false }
-    requires held { held ≡ held_in (Begun.Clause begun) }
-    ensures answers { Answers frames.new now.new result token.now (finished (clause_on begun (stack_of frames.old)) now.old) }
+    requires held { held ≡ held_in (Unfinished.Clause unfinished) }
+    ensures answers { Answers frames.new now.new result token.now (finished (clause_on unfinished (stack_of frames.old)) now.old) }
     ensures lowers { Lowers frames.old frames.new result }
 {
-    let Now::Did(done) = mem::replace(now, Now::Due) else {
-        return Err(refuse(begun));
+    let ParserState::Did(done) = mem::replace(now, ParserState::Due) else {
+        return Err(refuse(unfinished));
     };
     let parts = both(held, done.size);
     let body = Box::new(alloc, done.command)?;
-    let next = match begun {
-        Clause::Valof(line) => Now::Have(whole(Expr::Valof(line, body), parts)),
-        Clause::Label(line, letters) => Now::Did(did(Command::Label(line, letters, body), parts)),
+    let next = match unfinished {
+        Clause::Valof(line) => ParserState::Have(whole(Expr::Valof(line, body), parts)),
+        Clause::Label(line, letters) => ParserState::Did(did(
+            Command::Label(line, letters, body),
+            parts,
+        )),
         Clause::Guarded(guard, line, condition) => {
-            Now::Did(did(guarded(guard, line, condition, body), parts))
+            ParserState::Did(did(guarded(guard, line, condition, body), parts))
         }
-        Clause::Default(line) => Now::Did(did(Command::Default(line, body), parts)),
+        Clause::Default(line) => ParserState::Did(did(Command::Default(line, body), parts)),
         Clause::Then(line, condition) => {
             if !is_or(token.kind) {
                 return Err(Stop::Unexpected);
@@ -466,10 +478,10 @@ pub fn complete_clause(
             return Ok(Flow::Taken);
         }
         Clause::Else(line, condition, yes) => {
-            Now::Did(did(Command::Test(line, condition, yes, body), parts))
+            ParserState::Did(did(Command::Test(line, condition, yes, body), parts))
         }
         Clause::For(line, name, from, to, by) => {
-            Now::Did(did(for_loop(line, name, from, to, by, body), parts))
+            ParserState::Did(did(for_loop(line, name, from, to, by, body), parts))
         }
         Clause::Routine(name, formals) => {
             let Name { line, letters } = name;

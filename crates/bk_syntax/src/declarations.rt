@@ -2,40 +2,42 @@
 ghost use Rattle.std.specs.Prelude.{◌≡◌, [], ◌∷◌, IfOk, false, true};
 ghost use Rattle.bk_tree.specs.Tree.{action, actions_in, declaration, declarations_in, items_in, also, no_actions};
 ghost use Rattle.bk_grammar.specs.Rows.{repeats};
-ghost use Rattle.bk_frames.specs.declared.frame.Begun.TheVariants as Begun;
+ghost use Rattle.bk_frames.specs.declared.frame.Unfinished.TheVariants as Unfinished;
 ghost use Rattle.bk_frames.specs.declared.frame.Place.TheVariants as p;
 ghost use Rattle.bk_frames.specs.declared.frame.Point.TheVariants as t;
-ghost use Rattle.bk_frames.specs.Begun.{held_in};
+ghost use Rattle.bk_frames.specs.Unfinished.{held_in};
 ghost use Rattle.bk_frames.specs.Sizes.{size_of_action, size_of_declaration, both_of, kept_size};
 ghost use Rattle.bk_tree.specs.Limits.{depth_of_items, nodes_of_items};
 ghost use Rattle.bk_grammar.specs.Machine.{declared, in_constants, in_commands, in_head, in_section, take_in_block, take_in_section, take_item, take_due};
 ghost use Rattle.bk_tree.specs.Parts.{actions_then, items_then};
-ghost use Rattle.bk_frames.specs.Begun.{place_on, point_on};
-ghost use Rattle.bk_frames.specs.Frames.{stack_of, HasRoomsFor, state, finished, Steps, Answers, Lowers, Declares, declaring};
+ghost use Rattle.bk_frames.specs.Unfinished.{place_on, point_on};
+ghost use Rattle.bk_frames.specs.Frames.{stack_of, HasBudgetsFor, state, finished, Steps, Answers, Lowers, Declares, declaring};
 ghost use Rattle.bk_syntax.specs.Parsing.{reached};
 
 use crate::commands::{command, did};
 use crate::definitions::{
     formal, formal_end, formals, headed, in_let, init, name_of, named, variable, variables,
 };
+use crate::error::refuse;
 use crate::expressions::{due, due_at, due_still, want_for, want_in};
-use crate::why::refuse;
 use bk_base::Line;
-use bk_frames::frame::{Begun, Clause, Flow, Frame, Member, Now, Phrase, Place, Point, Size, Stop};
+use bk_frames::frame::{
+    Clause, Flow, Frame, Member, ParserState, Phrase, Place, Point, Size, Stop, Unfinished,
+};
 use bk_frames::frames::Frames;
 use bk_frames::size::{NOTHING, are_no_items, both};
-use bk_frames::top::{begun, begun_still, pop};
+use bk_frames::top::{pop, unfinished, unfinished_still};
 use bk_grammar::spelling::name;
 use bk_grammar::symbols::{
     Declaring, closes, declares_with, is_colon, is_equal, is_semicolon, opens,
 };
 use bk_lex::Token;
 use bk_tree::make::{block, constants};
-use bk_tree::{Command, Decl, Item, Sort};
+use bk_tree::{Command, ConstItem, Decl, Sort};
 use std::alloc::{AllocError, Global};
 use std::mem;
 
-/// Puts a declaration behind those of the block that was on top.
+/// Puts a declaration after those of the block that was on top.
 #[tactic(auto, using(bk_tree::proofs::Trees::one_more, bk_tree::proofs::Trees::more_sizes))]
 fn declare_in(
     frames: &mut Frames,
@@ -44,7 +46,7 @@ fn declare_in(
     decl: Decl,
     size: Size,
 ) -> Result<(), Stop>
-    requires held { held ≡ held_in (Begun.Place place) }
+    requires held { held ≡ held_in (Unfinished.Place place) }
     requires size { size ≡ size_of_declaration (declaration decl) }
     ensures { Declares (stack_of frames.new) result (declared (place_on place (stack_of frames.old)) (declaration decl)) }
 {
@@ -53,14 +55,14 @@ fn declare_in(
             let mut decls = decls;
             decls.push(decl)?;
             let block = Place::Block(line, false, decls, commands);
-            begun(frames, Begun::Place(block), both(held, size))?;
+            unfinished(frames, Unfinished::Place(block), both(held, size))?;
             Ok(())
         }
         _ => Err(Stop::Unexpected),
     }
 }
 
-/// Puts a declaration behind those of the section or the block on top.
+/// Puts a declaration after those of the section or the block on top.
 #[tactic(auto, using(bk_frames::proofs::Stacks::frames_laws, bk_tree::proofs::Trees::one_more, bk_tree::proofs::Trees::more_sizes))]
 pub fn declare(frames: &mut Frames, decl: Decl, size: Size) -> Result<(), Stop>
     requires { size ≡ size_of_declaration (declaration decl) }
@@ -72,15 +74,15 @@ pub fn declare(frames: &mut Frames, decl: Decl, size: Size) -> Result<(), Stop>
         return Ok(());
     };
     let Frame {
-        begun,
+        unfinished,
         held,
         spare: _,
     } = top;
-    match begun {
-        Begun::Place(place) => declare_in(frames, place, held, decl, size),
-        Begun::Operand(_) => Err(Stop::Unexpected),
-        Begun::Phrase(_) => Err(Stop::Unexpected),
-        Begun::Clause(_) => Err(Stop::Unexpected),
+    match unfinished {
+        Unfinished::Place(place) => declare_in(frames, place, held, decl, size),
+        Unfinished::OpenExpression(_) => Err(Stop::Unexpected),
+        Unfinished::Phrase(_) => Err(Stop::Unexpected),
+        Unfinished::Clause(_) => Err(Stop::Unexpected),
         _ => Err(Stop::Unexpected),
     }
 }
@@ -89,12 +91,12 @@ pub fn declare(frames: &mut Frames, decl: Decl, size: Size) -> Result<(), Stop>
 #[tactic(auto, using(bk_frames::proofs::Turns::constants_cases, bk_tree::proofs::Trees::one_more, bk_tree::proofs::Trees::more_sizes))]
 pub fn constant(
     frames: &mut Frames,
-    now: &mut Now,
+    now: &mut ParserState,
     line: Line,
     sort: Sort,
-    items: Vec<Item>,
+    items: Vec<ConstItem>,
     held: Size,
-    item: Item,
+    item: ConstItem,
     token: &Token,
 ) -> Result<Flow, Stop>
     requires { held ≡ kept_size (depth_of_items (items_then (items_in items.items) (items_in (item ∷ []))))
@@ -114,7 +116,7 @@ pub fn constant(
     }
     match declare(frames, constants(line, sort, items), held) {
         Ok(()) => {
-            now.set(Now::Due);
+            now.set(ParserState::Due);
             Ok(Flow::Taken)
         }
         Err(Stop::Memory) => Err(Stop::Memory),
@@ -129,7 +131,7 @@ fn declaration(
     frames: &mut Frames,
     what: Declaring,
     line: Line,
-) -> Result<Now, AllocError>
+) -> Result<ParserState, AllocError>
     ensures { IfOk result (λ now. state (stack_of frames.new) now ≡ declaring (stack_of frames.old) line what) }
 {
     match what {
@@ -140,12 +142,17 @@ fn declaration(
 
 /// A symbol between the declarations of a section.
 #[tactic(auto, using(bk_frames::proofs::Turns::declaration_cases))]
-fn in_section(alloc: Global, frames: &mut Frames, now: &mut Now, token: &Token) -> Result<(), Stop>
+fn in_section(
+    alloc: Global,
+    frames: &mut Frames,
+    now: &mut ParserState,
+    token: &Token,
+) -> Result<(), Stop>
     requires { stack_of frames.old ≡ in_section (declarations_in frames.old.decls.items) }
     ensures { Steps (stack_of frames.new) (reached result now.new) (take_in_section (declarations_in frames.old.decls.items) token.now.line token.now.kind) }
 {
     if is_semicolon(token.kind) {
-        now.set(Now::Due);
+        now.set(ParserState::Due);
         return Ok(());
     }
     match declares_with(token.kind) {
@@ -172,7 +179,7 @@ fn in_head(commands: &[Command]) -> bool
 fn in_block(
     alloc: Global,
     frames: &mut Frames,
-    now: &mut Now,
+    now: &mut ParserState,
     line: Line,
     free: bool,
     decls: Vec<Decl>,
@@ -180,8 +187,8 @@ fn in_block(
     held: Size,
     token: &Token,
 ) -> Result<(), Stop>
-    requires held { held ≡ held_in (Begun.Place (p.Block line free decls commands)) }
-    requires rooms { HasRoomsFor frames.old (place_on (p.Block line free decls commands) (stack_of frames.old)) }
+    requires held { held ≡ held_in (Unfinished.Place (p.Block line free decls commands)) }
+    requires budgets { HasBudgetsFor frames.old (place_on (p.Block line free decls commands) (stack_of frames.old)) }
     ensures { Steps (stack_of frames.new) (reached result now.new) (take_in_block line free (declarations_in decls.items) (actions_in commands.items)
         (stack_of frames.old) token.now.line token.now.text.now token.now.kind) }
 {
@@ -191,12 +198,12 @@ fn in_block(
         return Ok(());
     }
     if closes(token.kind) {
-        now.set(Now::Did(did(block(line, decls, commands), held)));
+        now.set(ParserState::Did(did(block(line, decls, commands), held)));
         return Ok(());
     }
     let head = in_head(&commands);
     let block = Place::Block(line, free, decls, commands);
-    begun_still(frames, Begun::Place(block), held)?;
+    unfinished_still(frames, Unfinished::Place(block), held)?;
     if head {
         if let Some(what) = declares_with(token.kind) {
             now.set(declaration(alloc, frames, what, token.line)?);
@@ -209,11 +216,11 @@ fn in_block(
     command(alloc, frames, now, token)
 }
 
-/// A command of a block is complete, which the symbol behind it does not repeat.
+/// A command of a block is complete, and the symbol after it does not repeat it.
 #[tactic(auto, using(bk_tree::proofs::Trees::one_more, bk_tree::proofs::Trees::more_sizes))]
 fn in_commands(
     frames: &mut Frames,
-    now: &mut Now,
+    now: &mut ParserState,
     line: Line,
     decls: Vec<Decl>,
     commands: Vec<Command>,
@@ -221,7 +228,7 @@ fn in_commands(
     command: Command,
     token: &Token,
 ) -> Result<Flow, Stop>
-    requires { held ≡ both_of (held_in (Begun.Place (p.Block line true decls commands))) (size_of_action (action command)) }
+    requires { held ≡ both_of (held_in (Unfinished.Place (p.Block line true decls commands))) (size_of_action (action command)) }
     ensures answers { Answers frames.new now.new result token.now (λ l x t. in_commands line (declarations_in decls.items)
         (actions_then (actions_in commands.items) (also (action command) no_actions)) (stack_of frames.old) t) }
     ensures lowers { Lowers frames.old frames.new result }
@@ -235,29 +242,29 @@ fn in_commands(
     }
     if closes(token.kind) {
         let whole = block(line, decls, commands);
-        now.set(Now::Did(did(whole, held)));
+        now.set(ParserState::Did(did(whole, held)));
         return Ok(Flow::Taken);
     }
     Err(Stop::Unexpected)
 }
 
-/// A command is complete at a place, which the symbol behind it does not repeat: in a block.
+/// A command is complete at a place, which is in a block, and the symbol after it does not repeat it.
 pub fn complete_command(
     frames: &mut Frames,
-    now: &mut Now,
-    begun: Place,
+    now: &mut ParserState,
+    unfinished: Place,
     held: Size,
     token: &Token,
 ) -> Result<Flow, Stop>
     requires stops { repeats token.now.kind ≡ false }
-    requires held { held ≡ held_in (Begun.Place begun) }
-    ensures answers { Answers frames.new now.new result token.now (finished (place_on begun (stack_of frames.old)) now.old) }
+    requires held { held ≡ held_in (Unfinished.Place unfinished) }
+    ensures answers { Answers frames.new now.new result token.now (finished (place_on unfinished (stack_of frames.old)) now.old) }
     ensures lowers { Lowers frames.old frames.new result }
 {
-    let Now::Did(done) = mem::replace(now, Now::Due) else {
-        return Err(refuse(begun));
+    let ParserState::Did(done) = mem::replace(now, ParserState::Due) else {
+        return Err(refuse(unfinished));
     };
-    match begun {
+    match unfinished {
         Place::Block(line, _, decls, commands) => {
             in_commands(
                 frames,
@@ -278,13 +285,13 @@ pub fn complete_command(
 fn due_in(
     alloc: Global,
     frames: &mut Frames,
-    now: &mut Now,
+    now: &mut ParserState,
     place: Place,
     held: Size,
     token: &Token,
 ) -> Result<(), Stop>
-    requires held { held ≡ held_in (Begun.Place place) }
-    requires rooms { HasRoomsFor frames.old (place_on place (stack_of frames.old)) }
+    requires held { held ≡ held_in (Unfinished.Place place) }
+    requires budgets { HasBudgetsFor frames.old (place_on place (stack_of frames.old)) }
     ensures { Steps (stack_of frames.new) (reached result now.new) (take_due
         (place_on place (stack_of frames.old)) token.now.line token.now.text.now token.now.kind) }
 {
@@ -309,14 +316,14 @@ fn due_in(
 fn between_items(
     alloc: Global,
     frames: &mut Frames,
-    now: &mut Now,
+    now: &mut ParserState,
     line: Line,
     sort: Sort,
-    items: Vec<Item>,
+    items: Vec<ConstItem>,
     held: Size,
     token: &Token,
 ) -> Result<(), Stop>
-    requires { held ≡ held_in (Begun.Point (t.Items line sort items)) }
+    requires { held ≡ held_in (Unfinished.Point (t.Items line sort items)) }
     ensures { Steps (stack_of frames.new) (reached result now.new) (take_item line sort (items_in items.items)
         (stack_of frames.old) token.now.line token.now.text.now token.now.kind) }
 {
@@ -328,7 +335,7 @@ fn between_items(
         if closes(token.kind) {
             return match declare(frames, constants(line, sort, items), held) {
                 Ok(()) => {
-                    now.set(Now::Due);
+                    now.set(ParserState::Due);
                     Ok(())
                 }
                 Err(Stop::Memory) => Err(Stop::Memory),
@@ -348,12 +355,12 @@ fn between_items(
 fn due_within(
     alloc: Global,
     frames: &mut Frames,
-    now: &mut Now,
+    now: &mut ParserState,
     point: Point,
     held: Size,
     token: &Token,
 ) -> Result<(), Stop>
-    requires { held ≡ held_in (Begun.Point point) }
+    requires { held ≡ held_in (Unfinished.Point point) }
     ensures { Steps (stack_of frames.new) (reached result now.new) (take_due
         (point_on point (stack_of frames.old)) token.now.line token.now.text.now token.now.kind) }
 {
@@ -379,7 +386,7 @@ fn due_within(
             let Some(name) = name_of(alloc, token)? else {
                 return Err(Stop::Unexpected);
             };
-            now.set(Now::Did(did(Command::Goto(line, name), NOTHING)));
+            now.set(ParserState::Did(did(Command::Goto(line, name), NOTHING)));
             Ok(())
         }
         Point::For(line) => {
@@ -400,8 +407,8 @@ fn due_within(
             if !is_colon(token.kind) {
                 return Err(Stop::Unexpected);
             }
-            begun(frames, Begun::Clause(Clause::Default(line)), NOTHING)?;
-            now.set(Now::Maybe);
+            unfinished(frames, Unfinished::Clause(Clause::Default(line)), NOTHING)?;
+            now.set(ParserState::Maybe);
             Ok(())
         }
     }
@@ -412,7 +419,7 @@ fn due_within(
 pub fn at_place(
     alloc: Global,
     frames: &mut Frames,
-    now: &mut Now,
+    now: &mut ParserState,
     token: &Token,
 ) -> Result<(), Stop>
     ensures { Steps (stack_of frames.new) (reached result now.new) (take_due (stack_of frames.old) token.now.line token.now.text.now token.now.kind) }
@@ -421,13 +428,13 @@ pub fn at_place(
         return in_section(alloc, frames, now, token);
     };
     let Frame {
-        begun,
+        unfinished,
         held,
         spare: _,
     } = top;
-    match begun {
-        Begun::Place(place) => due_in(alloc, frames, now, place, held, token),
-        Begun::Point(point) => due_within(alloc, frames, now, point, held, token),
+    match unfinished {
+        Unfinished::Place(place) => due_in(alloc, frames, now, place, held, token),
+        Unfinished::Point(point) => due_within(alloc, frames, now, point, held, token),
         other => Err(refuse(other)),
     }
 }

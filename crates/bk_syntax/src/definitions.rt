@@ -2,33 +2,33 @@
 ghost use Rattle.std.specs.Prelude.{◌≡◌, ◌+◌, ◌==◌, [], ◌∷◌, IfOk, cond, false, map, length};
 ghost use Rattle.bk_tree.specs.Tree.{definition, definitions_in, starts_in, mention, variables};
 ghost use Rattle.bk_grammar.specs.Rows.{goes};
-ghost use Rattle.bk_frames.specs.declared.frame.Begun.TheVariants as Begun;
+ghost use Rattle.bk_frames.specs.declared.frame.Unfinished.TheVariants as Unfinished;
 ghost use Rattle.bk_frames.specs.declared.frame.Place.TheVariants as p;
-ghost use Rattle.bk_frames.specs.Begun.{held_in};
+ghost use Rattle.bk_frames.specs.Unfinished.{held_in};
 ghost use Rattle.bk_frames.specs.Sizes.{both_of, kept_size};
 ghost use Rattle.bk_tree.specs.Limits.{depth_of_starts, nodes_of_starts};
 ghost use Rattle.bk_tree.specs.Parts.{line_of_names, start_count};
 ghost use Rattle.bk_grammar.specs.Machine.{defined_by, in_names, in_formals, headed, in_let, inside, counted, take_due, at_name, at_formals, at_formal, at_variable, at_starts, due};
 ghost use Rattle.bk_tree.specs.Parts.{starts_then};
-ghost use Rattle.bk_frames.specs.Begun.{member_on, place_on};
-ghost use Rattle.bk_frames.specs.Frames.{stack_of, HasRoomsFor, given, Steps, Answers, Lowers, NamedBy, is_let_begun, is_block_begun};
+ghost use Rattle.bk_frames.specs.Unfinished.{member_on, place_on};
+ghost use Rattle.bk_frames.specs.Frames.{stack_of, HasBudgetsFor, given, Steps, Answers, Lowers, NamedBy, is_let_unfinished, is_block_unfinished};
 ghost use Rattle.bk_syntax.specs.Parsing.{reached};
 
 use crate::declarations::{at_place, constant, declare};
+use crate::error::refuse;
 use crate::expressions::{due, due_still, operand, want_for, wants_command};
-use crate::why::refuse;
 use bk_base::Line;
 use bk_frames::frame::{
-    Begun, Clause, Defined, Flow, Frame, Member, Now, Phrase, Place, Size, Stop,
+    Clause, Defined, Flow, Frame, Member, ParserState, Phrase, Place, Size, Stop, Unfinished,
 };
 use bk_frames::frames::Frames;
 use bk_frames::size::{NOTHING, both, of_node};
-use bk_frames::top::{begun, begun_still, pop};
+use bk_frames::top::{pop, unfinished, unfinished_still};
 use bk_grammar::spelling::name;
 use bk_grammar::symbols::{is_and, is_be, is_close, is_comma, is_equal, is_name, is_open, is_vec};
 use bk_lex::Token;
 use bk_tree::make::{self, let_of};
-use bk_tree::{Def, Init, Item, Name};
+use bk_tree::{ConstItem, Def, Init, Name};
 use std::alloc::{AllocError, Global};
 use std::mem;
 
@@ -70,7 +70,7 @@ fn line_of_names(names: &[Name]) -> Line
 pub fn initialised(
     alloc: Global,
     frames: &mut Frames,
-    now: &mut Now,
+    now: &mut ParserState,
     names: Vec<Name>,
     inits: Vec<Init>,
     parts: Size,
@@ -108,27 +108,27 @@ pub fn initialised(
     Ok(Flow::Taken)
 }
 
-/// An expression of a definition or an item is complete, with which the symbol behind it does not go on.
+/// An expression of a definition or an item is complete, and the symbol after it does not go on with it.
 #[inline(never)]
 #[tactic(auto, using(bk_tree::proofs::Trees::more_sizes))]
 pub fn complete_member(
     alloc: Global,
     frames: &mut Frames,
-    now: &mut Now,
-    begun: Member,
+    now: &mut ParserState,
+    unfinished: Member,
     held: Size,
     token: &Token,
 ) -> Result<Flow, Stop>
     requires stops { goes 12 token.now.kind ≡ false }
-    requires held { held ≡ held_in (Begun.Member begun) }
-    ensures answers { Answers frames.new now.new result token.now (given (member_on begun (stack_of frames.old)) now.old) }
+    requires held { held ≡ held_in (Unfinished.Member unfinished) }
+    ensures answers { Answers frames.new now.new result token.now (given (member_on unfinished (stack_of frames.old)) now.old) }
     ensures lowers { Lowers frames.old frames.new result }
 {
-    let Now::Have(sized) = mem::replace(now, Now::Due) else {
-        return Err(refuse(begun));
+    let ParserState::Have(sized) = mem::replace(now, ParserState::Due) else {
+        return Err(refuse(unfinished));
     };
     let parts = both(held, sized.size);
-    match begun {
+    match unfinished {
         Member::Item(line, sort, items, name) => {
             let held = both(held, of_node(sized.size));
             let Name { line: at, letters } = name;
@@ -139,7 +139,7 @@ pub fn complete_member(
                 sort,
                 items,
                 held,
-                Item::Item(at, letters, sized.expr),
+                ConstItem::Item(at, letters, sized.expr),
                 token,
             )
         }
@@ -175,18 +175,18 @@ pub fn complete_member(
     }
 }
 
-/// A definition is complete in what was on top, and a symbol comes behind it.
+/// A definition is complete in the construct that was on top, and a symbol comes after it.
 #[tactic(auto, using(bk_tree::proofs::Trees::one_more, bk_frames::proofs::Turns::declared_then, bk_tree::proofs::Trees::more_sizes))]
 fn define_in(
     alloc: Global,
     frames: &mut Frames,
-    now: &mut Now,
+    now: &mut ParserState,
     place: Place,
     held: Size,
     done: Defined,
     token: &Token,
 ) -> Result<(), Stop>
-    requires { held ≡ held_in (Begun.Place place) }
+    requires { held ≡ held_in (Unfinished.Place place) }
     ensures { Steps (stack_of frames.new) (reached result now.new) (defined_by (place_on place (stack_of frames.old))
         (definition done.def) token.now.line token.now.text.now token.now.kind) }
 {
@@ -209,12 +209,12 @@ fn define_in(
     }
 }
 
-/// A definition is complete, and a symbol comes behind it: AND, or what follows the LET.
+/// A definition is complete, and a symbol comes after it: AND, or what follows the LET.
 #[tactic(auto, using(bk_frames::proofs::Stacks::frames_laws))]
 pub fn complete_definition(
     alloc: Global,
     frames: &mut Frames,
-    now: &mut Now,
+    now: &mut ParserState,
     done: Defined,
     token: &Token,
 ) -> Result<(), Stop>
@@ -225,25 +225,25 @@ pub fn complete_definition(
         return Err(Stop::Unexpected);
     };
     let Frame {
-        begun,
+        unfinished,
         held,
         spare: _,
     } = top;
-    match begun {
-        Begun::Place(place) => define_in(alloc, frames, now, place, held, done, token),
-        Begun::Operand(_) => Err(Stop::Unexpected),
-        Begun::Phrase(_) => Err(Stop::Unexpected),
-        Begun::Clause(_) => Err(Stop::Unexpected),
+    match unfinished {
+        Unfinished::Place(place) => define_in(alloc, frames, now, place, held, done, token),
+        Unfinished::OpenExpression(_) => Err(Stop::Unexpected),
+        Unfinished::Phrase(_) => Err(Stop::Unexpected),
+        Unfinished::Clause(_) => Err(Stop::Unexpected),
         _ => Err(Stop::Unexpected),
     }
 }
 
-/// Behind a name of variables.
+/// After a name of variables.
 #[tactic(auto, using(bk_frames::proofs::Turns::names_cases))]
 pub fn variables(
     alloc: Global,
     frames: &mut Frames,
-    now: &mut Now,
+    now: &mut ParserState,
     names: Vec<Name>,
     token: &Token,
 ) -> Result<(), Stop>
@@ -261,26 +261,26 @@ pub fn variables(
 }
 
 /// Whether it is a LET.
-fn is_let(begun: &Begun) -> bool
-    ensures { result ≡ is_let_begun begun.now }
+fn is_let(unfinished: &Unfinished) -> bool
+    ensures { result ≡ is_let_unfinished unfinished.now }
 {
-    match begun {
-        Begun::Place(Place::Let(_, _)) => true,
+    match unfinished {
+        Unfinished::Place(Place::Let(_, _)) => true,
         _ => false,
     }
 }
 
 /// Whether it is a block.
-fn is_block(begun: &Begun) -> bool
-    ensures { result ≡ is_block_begun begun.now }
+fn is_block(unfinished: &Unfinished) -> bool
+    ensures { result ≡ is_block_unfinished unfinished.now }
 {
-    match begun {
-        Begun::Place(Place::Block(_, _, _, _)) => true,
+    match unfinished {
+        Unfinished::Place(Place::Block(_, _, _, _)) => true,
         _ => false,
     }
 }
 
-/// Whether the LET on top stands in a block.
+/// Whether the LET on top is in a block.
 fn in_a_block(frames: &Frames) -> bool
     ensures { result ≡ inside (stack_of frames.now) }
 {
@@ -290,7 +290,7 @@ fn in_a_block(frames: &Frames) -> bool
     }
     let top = &frames.above[count - 1];
     let below = &frames.above[count - 2];
-    both_of(is_let(&top.begun), is_block(&below.begun))
+    both_of(is_let(&top.unfinished), is_block(&below.unfinished))
 }
 
 /// Whether both hold.
@@ -300,15 +300,15 @@ fn both_of(a: bool, b: bool) -> bool
     a && b
 }
 
-/// Behind the name of a definition. Variables stand in blocks alone.
+/// After the name of a definition. Only blocks have variables.
 pub fn named(
     alloc: Global,
     frames: &mut Frames,
-    now: &mut Now,
+    now: &mut ParserState,
     name: Name,
     token: &Token,
 ) -> Result<(), Stop>
-    requires { HasRoomsFor frames.old (place_on (p.Named name) (stack_of frames.old)) }
+    requires { HasBudgetsFor frames.old (place_on (p.Named name) (stack_of frames.old)) }
     ensures { Steps (stack_of frames.new) (reached result now.new) (take_due
         (at_name (mention name) (stack_of frames.old)) token.now.line token.now.text.now token.now.kind) }
 {
@@ -324,16 +324,16 @@ pub fn named(
     variables(alloc, frames, now, names, token)
 }
 
-/// Behind the parenthesis of a procedure.
+/// After the parenthesis of a procedure.
 #[tactic(auto, using(bk_frames::proofs::Turns::named_cases))]
 pub fn formals(
     alloc: Global,
     frames: &mut Frames,
-    now: &mut Now,
+    now: &mut ParserState,
     name: Name,
     token: &Token,
 ) -> Result<(), Stop>
-    requires { HasRoomsFor frames.old (place_on (p.Formals name) (stack_of frames.old)) }
+    requires { HasBudgetsFor frames.old (place_on (p.Formals name) (stack_of frames.old)) }
     ensures { Steps (stack_of frames.new) (reached result now.new) (take_due
         (at_formals (mention name) (stack_of frames.old)) token.now.line token.now.text.now token.now.kind) }
 {
@@ -357,12 +357,12 @@ pub fn formals(
 pub fn formal(
     alloc: Global,
     frames: &mut Frames,
-    now: &mut Now,
+    now: &mut ParserState,
     name: Name,
     formals: Vec<Name>,
     token: &Token,
 ) -> Result<(), Stop>
-    requires { HasRoomsFor frames.old (place_on (p.Formal name formals) (stack_of frames.old)) }
+    requires { HasBudgetsFor frames.old (place_on (p.Formal name formals) (stack_of frames.old)) }
     ensures { Steps (stack_of frames.new) (reached result now.new) (take_due
         (at_formal (mention name) (map mention formals.items) (stack_of frames.old)) token.now.line token.now.text.now token.now.kind) }
 {
@@ -376,16 +376,16 @@ pub fn formal(
     Ok(())
 }
 
-/// Behind a formal.
+/// After a formal.
 #[tactic(auto, using(bk_frames::proofs::Turns::formals_cases))]
 pub fn formal_end(
     frames: &mut Frames,
-    now: &mut Now,
+    now: &mut ParserState,
     name: Name,
     formals: Vec<Name>,
     token: &Token,
 ) -> Result<(), Stop>
-    requires { HasRoomsFor frames.old (place_on (p.FormalEnd name formals) (stack_of frames.old)) }
+    requires { HasBudgetsFor frames.old (place_on (p.FormalEnd name formals) (stack_of frames.old)) }
     ensures { Steps (stack_of frames.new) (reached result now.new) (in_formals (mention name) (map mention formals.items)
         (stack_of frames.old) token.now.kind) }
 {
@@ -402,11 +402,11 @@ pub fn formal_end(
     Err(Stop::Unexpected)
 }
 
-/// Behind the formals.
+/// After the formals.
 #[tactic(auto, using(bk_frames::proofs::Turns::headed_cases))]
 pub fn headed(
     frames: &mut Frames,
-    now: &mut Now,
+    now: &mut ParserState,
     name: Name,
     formals: Vec<Name>,
     token: &Token,
@@ -429,7 +429,7 @@ pub fn headed(
 pub fn variable(
     alloc: Global,
     frames: &mut Frames,
-    now: &mut Now,
+    now: &mut ParserState,
     names: Vec<Name>,
     token: &Token,
 ) -> Result<(), Stop>
@@ -449,13 +449,13 @@ pub fn variable(
 pub fn init(
     alloc: Global,
     frames: &mut Frames,
-    now: &mut Now,
+    now: &mut ParserState,
     names: Vec<Name>,
     inits: Vec<Init>,
     held: Size,
     token: &Token,
 ) -> Result<(), Stop>
-    requires { held ≡ held_in (Begun.Place (p.Inits names inits)) }
+    requires { held ≡ held_in (Unfinished.Place (p.Inits names inits)) }
     ensures { Steps (stack_of frames.new) (reached result now.new) (take_due
         (at_starts (map mention names.items) (starts_in inits.items) (stack_of frames.old)) token.now.line token.now.text.now token.now.kind) }
 {
@@ -463,7 +463,11 @@ pub fn init(
         now.set(want_for(frames, Member::Vector(token.line, names, inits), held)?);
         return Ok(());
     }
-    begun(frames, Begun::Member(Member::Value(names, inits)), held)?;
+    unfinished(
+        frames,
+        Unfinished::Member(Member::Value(names, inits)),
+        held,
+    )?;
     operand(alloc, frames, now, token)
 }
 
@@ -472,21 +476,21 @@ pub fn init(
 pub fn in_let(
     alloc: Global,
     frames: &mut Frames,
-    now: &mut Now,
+    now: &mut ParserState,
     line: Line,
     defs: Vec<Def>,
     held: Size,
     token: &Token,
 ) -> Result<(), Stop>
-    requires held { held ≡ held_in (Begun.Place (p.Let line defs)) }
-    requires rooms { HasRoomsFor frames.old (place_on (p.Let line defs) (stack_of frames.old)) }
+    requires held { held ≡ held_in (Unfinished.Place (p.Let line defs)) }
+    requires budgets { HasBudgetsFor frames.old (place_on (p.Let line defs) (stack_of frames.old)) }
     ensures { Steps (stack_of frames.new) (reached result now.new) (take_due
         (in_let line (definitions_in defs.items) (stack_of frames.old)) token.now.line token.now.text.now token.now.kind) }
 {
     let Some(name) = name_of(alloc, token)? else {
         return Err(Stop::Unexpected);
     };
-    begun_still(frames, Begun::Place(Place::Let(line, defs)), held)?;
+    unfinished_still(frames, Unfinished::Place(Place::Let(line, defs)), held)?;
     now.set(due(frames, Place::Named(name), NOTHING)?);
     Ok(())
 }

@@ -1,10 +1,10 @@
 //! Reading expressions.
 ghost use Rattle.std.specs.Prelude.{◌≡◌, ◌+◌, IfOk, Some, None, Option, MatchOption, option_map, unwrap_or, nat_lt, IfSome, cond, true, false, ℕ};
 ghost use Rattle.bk_tree.specs.declared.tree.Operator.TheVariants.{Both};
-ghost use Rattle.bk_frames.specs.declared.frame.Begun.TheVariants as Begun;
-ghost use Rattle.bk_frames.specs.declared.frame.Operand.TheVariants as o;
+ghost use Rattle.bk_frames.specs.declared.frame.Unfinished.TheVariants as Unfinished;
+ghost use Rattle.bk_frames.specs.declared.frame.OpenExpression.TheVariants as o;
 ghost use Rattle.bk_frames.specs.Sizes.{IsLeaf, size_of, size_if, both_of, node_of};
-ghost use Rattle.bk_frames.specs.Begun.{held_in};
+ghost use Rattle.bk_frames.specs.Unfinished.{held_in};
 ghost use Rattle.bk_tree.specs.Tree.{Expression, expression, expressions_in, binary};
 ghost use Rattle.bk_grammar.specs.Rows.{leaf, goes};
 ghost use Rattle.bk_frames.specs.Frames.{related};
@@ -12,19 +12,20 @@ ghost use Rattle.bk_frames.specs.Sizes.{are_none};
 ghost use Rattle.bk_grammar.specs.Grammar.{last};
 ghost use Rattle.bk_tree.specs.Parts.{line_of};
 ghost use Rattle.bk_grammar.specs.Machine.{Stack, limit, push, infixed, in_chain, in_args, in_table, bars, no_args, take_operand, give, want, begin, due, have};
-ghost use Rattle.bk_frames.specs.Begun.{begun_on, operand_on, phrase_on, member_on, clause_on, place_on, point_on};
+ghost use Rattle.bk_frames.specs.Unfinished.{unfinished_on, operand_on, phrase_on, member_on, clause_on, place_on, point_on};
 ghost use Rattle.bk_frames.specs.Stacked.{stack};
 ghost use Rattle.bk_syntax.specs.Parsing.{reached};
-ghost use Rattle.bk_frames.specs.Frames.{stack_of, HasRoomsFor, state, given, Steps, Answers, Lowers, Falls};
+ghost use Rattle.bk_frames.specs.Frames.{stack_of, HasBudgetsFor, state, given, Steps, Answers, Lowers, Falls};
 
-use crate::why::refuse;
+use crate::error::refuse;
 use bk_base::Line;
 use bk_frames::frame::{
-    Begun, Clause, Flow, Frame, Member, Now, Operand, Phrase, Place, Point, Size, Sized, Stop,
+    Clause, Flow, Frame, Member, OpenExpression, ParserState, Phrase, Place, Point, Size, Sized,
+    Stop, Unfinished,
 };
 use bk_frames::frames::Frames;
 use bk_frames::size::{LEAF, NOTHING, are_none, both, of_node};
-use bk_frames::top::{begun, begun_still, pop};
+use bk_frames::top::{pop, unfinished, unfinished_still};
 use bk_grammar::spelling::name;
 use bk_grammar::symbols::{
     Opening, goes_on, infix, inner_row, is_arrow, is_both, is_close, is_comma, is_open, opens_with,
@@ -36,75 +37,83 @@ use bk_tree::{Expr, Operator, copy};
 use std::alloc::{AllocError, Global};
 use std::mem;
 
-/// Puts on top an expression that was begun, whose operand is due.
+/// Puts an unfinished expression on top. Its operand is due.
 #[inline(always)]
-pub fn want(frames: &mut Frames, operand: Operand, held: Size) -> Result<Now, AllocError>
-    requires { held ≡ held_in (Begun.Operand operand) }
+pub fn want(
+    frames: &mut Frames,
+    operand: OpenExpression,
+    held: Size,
+) -> Result<ParserState, AllocError>
+    requires { held ≡ held_in (Unfinished.OpenExpression operand) }
     ensures { IfOk result (λ now. state (stack_of frames.new) now ≡ want (operand_on operand (stack_of frames.old))) }
 {
-    begun(frames, Begun::Operand(operand), held)?;
-    Ok(Now::Want)
+    unfinished(frames, Unfinished::OpenExpression(operand), held)?;
+    Ok(ParserState::Want)
 }
 
-/// Puts on top a command or definition that was begun, of which an expression is due.
+/// Puts an unfinished command or definition on top. An expression of it is due.
 #[inline(always)]
-pub fn want_in(frames: &mut Frames, phrase: Phrase, held: Size) -> Result<Now, AllocError>
-    requires { held ≡ held_in (Begun.Phrase phrase) }
+pub fn want_in(frames: &mut Frames, phrase: Phrase, held: Size) -> Result<ParserState, AllocError>
+    requires { held ≡ held_in (Unfinished.Phrase phrase) }
     ensures { IfOk result (λ now. state (stack_of frames.new) now ≡ want (phrase_on phrase (stack_of frames.old))) }
 {
-    begun(frames, Begun::Phrase(phrase), held)?;
-    Ok(Now::Want)
+    unfinished(frames, Unfinished::Phrase(phrase), held)?;
+    Ok(ParserState::Want)
 }
 
-/// Puts on top an item or a definition that was begun, of which an expression is due.
+/// Puts an unfinished item or definition on top. An expression of it is due.
 #[inline(always)]
-pub fn want_for(frames: &mut Frames, member: Member, held: Size) -> Result<Now, AllocError>
-    requires { held ≡ held_in (Begun.Member member) }
+pub fn want_for(frames: &mut Frames, member: Member, held: Size) -> Result<ParserState, AllocError>
+    requires { held ≡ held_in (Unfinished.Member member) }
     ensures { IfOk result (λ now. state (stack_of frames.new) now ≡ want (member_on member (stack_of frames.old))) }
 {
-    begun(frames, Begun::Member(member), held)?;
-    Ok(Now::Want)
+    unfinished(frames, Unfinished::Member(member), held)?;
+    Ok(ParserState::Want)
 }
 
-/// Puts on top what was begun, of which a command is due.
+/// Puts an unfinished construct on top. A command of it is due.
 #[inline(always)]
-pub fn wants_command(frames: &mut Frames, clause: Clause, held: Size) -> Result<Now, AllocError>
-    requires { held ≡ held_in (Begun.Clause clause) }
+pub fn wants_command(
+    frames: &mut Frames,
+    clause: Clause,
+    held: Size,
+) -> Result<ParserState, AllocError>
+    requires { held ≡ held_in (Unfinished.Clause clause) }
     ensures { IfOk result (λ now. state (stack_of frames.new) now ≡ begin (clause_on clause (stack_of frames.old))) }
 {
-    begun(frames, Begun::Clause(clause), held)?;
-    Ok(Now::Begin)
+    unfinished(frames, Unfinished::Clause(clause), held)?;
+    Ok(ParserState::Begin)
 }
 
 /// Puts on top a place of an item or a command, where a symbol is due.
 #[inline(always)]
-pub fn due_at(frames: &mut Frames, point: Point, held: Size) -> Result<Now, AllocError>
-    requires { held ≡ held_in (Begun.Point point) }
+pub fn due_at(frames: &mut Frames, point: Point, held: Size) -> Result<ParserState, AllocError>
+    requires { held ≡ held_in (Unfinished.Point point) }
     ensures { IfOk result (λ now. state (stack_of frames.new) now ≡ due (point_on point (stack_of frames.old))) }
 {
-    begun(frames, Begun::Point(point), held)?;
-    Ok(Now::Due)
+    unfinished(frames, Unfinished::Point(point), held)?;
+    Ok(ParserState::Due)
 }
 
 /// Puts on top a place of a block or a definition, where a symbol is due.
 #[inline(always)]
-pub fn due(frames: &mut Frames, place: Place, held: Size) -> Result<Now, AllocError>
-    requires { held ≡ held_in (Begun.Place place) }
+pub fn due(frames: &mut Frames, place: Place, held: Size) -> Result<ParserState, AllocError>
+    requires { held ≡ held_in (Unfinished.Place place) }
     ensures { IfOk result (λ now. state (stack_of frames.new) now ≡ due (place_on place (stack_of frames.old))) }
 {
-    begun(frames, Begun::Place(place), held)?;
-    Ok(Now::Due)
+    unfinished(frames, Unfinished::Place(place), held)?;
+    Ok(ParserState::Due)
 }
 
-/// Puts on top a place of a block or a definition, where a symbol is due, in place of what had the same rooms there before.
+/// Puts a place of a block or a definition on top, where a symbol is due, in place of a construct that had the same budgets.
 #[inline(always)]
-pub fn due_still(frames: &mut Frames, place: Place, held: Size) -> Result<Now, AllocError>
-    requires held { held ≡ held_in (Begun.Place place) }
-    requires rooms { HasRoomsFor frames.old (place_on place (stack_of frames.old)) }
+pub fn due_still(frames: &mut Frames, place: Place, held: Size) -> Result<ParserState, AllocError>
+    requires held { held ≡ held_in (Unfinished.Place place) }
+    requires budgets { HasBudgetsFor frames.old (place_on place (stack_of frames.old)) }
     ensures { IfOk result (λ now. state (stack_of frames.new) now ≡ due (place_on place (stack_of frames.old))) }
 {
-    begun_still(frames, Begun::Place(place), held)?;
-    Ok(Now::Due)
+    unfinished_still(frames, Unfinished::Place(place), held)?;
+    Ok(ParserState::Due)
 }
 
 /// The line of an expression's first symbol.
@@ -127,23 +136,23 @@ pub fn line_of(expr: &Expr) -> Line
     }
 }
 
-/// The rows that may stand on top of what was begun.
-fn rows_above(begun: &Begun) -> u8
-    ensures { (st : Stack) → result ≡ limit (begun_on begun.now st) }
+/// The rows of operators that an operand of this construct may have.
+fn rows_above(unfinished: &Unfinished) -> u8
+    ensures { (st : Stack) → result ≡ limit (unfinished_on unfinished.now st) }
 {
-    match begun {
-        Begun::Operand(Operand::Unary(_, prefix)) => row_behind(*prefix),
-        Begun::Operand(Operand::Binary(operator, _, _)) => inner_row(*operator),
-        Begun::Operand(Operand::Chain(_, _, _, _)) => 5,
+    match unfinished {
+        Unfinished::OpenExpression(OpenExpression::Unary(_, prefix)) => row_behind(*prefix),
+        Unfinished::OpenExpression(OpenExpression::Binary(operator, _, _)) => inner_row(*operator),
+        Unfinished::OpenExpression(OpenExpression::Chain(_, _, _, _)) => 5,
         _ => 12,
     }
 }
 
-/// Whether the symbol goes on with an expression on top of what was begun.
-pub fn extends(begun: &Begun, kind: Kind) -> bool
-    ensures { (st : Stack) → result ≡ goes (limit (begun_on begun.now st)) kind }
+/// Whether the symbol goes on with an expression that is a part of this construct.
+pub fn extends(unfinished: &Unfinished, kind: Kind) -> bool
+    ensures { (st : Stack) → result ≡ goes (limit (unfinished_on unfinished.now st)) kind }
 {
-    goes_on(rows_above(begun), kind)
+    goes_on(rows_above(unfinished), kind)
 }
 
 /// The right operand of a relation.
@@ -187,14 +196,18 @@ fn go_on_chain(
     copy: Box<Expr>,
     operator: Operator,
     sign: Line,
-) -> Result<Now, AllocError>
+) -> Result<ParserState, AllocError>
     requires { last (expression sized.expr) ≡ Some (expression copy.value) }
     ensures { IfOk result (λ now. state (stack_of frames.new) now ≡ want (in_chain operator sign (expression sized.expr) (expression copy.value)
         (stack_of frames.old))) }
 {
     let held = both(sized.size, of_node(sized.right));
     let whole = Box::new(alloc, sized.expr)?;
-    want(frames, Operand::Chain(operator, sign, whole, copy), held)
+    want(
+        frames,
+        OpenExpression::Chain(operator, sign, whole, copy),
+        held,
+    )
 }
 
 /// The expression goes on with an operator.
@@ -204,7 +217,7 @@ fn go_on_infix(
     sized: Sized,
     operator: Operator,
     sign: Line,
-) -> Result<Now, AllocError>
+) -> Result<ParserState, AllocError>
     ensures { IfOk result (λ now. Some (state (stack_of frames.new) now) ≡ infixed (stack_of frames.old) (expression sized.expr) sign (Some operator)) }
 {
     if relates(operator) {
@@ -215,7 +228,11 @@ fn go_on_infix(
         }
     }
     let left = Box::new(alloc, sized.expr)?;
-    want(frames, Operand::Binary(operator, sign, left), sized.size)
+    want(
+        frames,
+        OpenExpression::Binary(operator, sign, left),
+        sized.size,
+    )
 }
 
 /// The expression goes on with the symbol.
@@ -223,7 +240,7 @@ fn go_on_infix(
 pub fn go_on(
     alloc: Global,
     frames: &mut Frames,
-    now: &mut Now,
+    now: &mut ParserState,
     sized: Sized,
     token: &Token,
 ) -> Result<Flow, Stop>
@@ -236,24 +253,28 @@ pub fn go_on(
     }
     if is_open(token.kind) {
         let callee = Box::new(alloc, sized.expr)?;
-        let args = Operand::Args(token.line, callee, Vec::new(alloc));
+        let args = OpenExpression::Args(token.line, callee, Vec::new(alloc));
         now.set(want(frames, args, sized.size)?);
         return Ok(Flow::Taken);
     }
     if is_arrow(token.kind) {
         let condition = Box::new(alloc, sized.expr)?;
-        now.set(want(frames, Operand::Then(token.line, condition), sized.size)?);
+        now.set(want(
+            frames,
+            OpenExpression::Then(token.line, condition),
+            sized.size,
+        )?);
         return Ok(Flow::Taken);
     }
     Err(Stop::Unexpected)
 }
 
 /// A leaf of the tree.
-fn leaf(expr: Expr) -> Now
+fn leaf(expr: Expr) -> ParserState
     requires { IsLeaf (expression expr) }
     ensures { (st : Stack) → state st result ≡ have st (expression expr) }
 {
-    Now::Have(Sized {
+    ParserState::Have(Sized {
         expr,
         size: LEAF,
         right: NOTHING,
@@ -298,28 +319,28 @@ fn owes(whole: usize, done: usize) -> bool
     whole > done && whole - done > 1
 }
 
-/// Whether a comma is owed behind what is on top of this, if this says it.
+/// Whether a comma has to follow the construct on top of this one, where this one decides it.
 #[tactic(auto, using(bk_tree::proofs::Trees::counts))]
-fn barring(begun: &Begun) -> Option<bool>
-    ensures { (st : Stack) → bars (begun_on begun.now st) ≡ unwrap_or result (bars st) }
+fn barring(unfinished: &Unfinished) -> Option<bool>
+    ensures { (st : Stack) → bars (unfinished_on unfinished.now st) ≡ unwrap_or result (bars st) }
 {
-    match begun {
-        Begun::Operand(Operand::Then(_, _)) => Some(true),
-        Begun::Operand(
-            Operand::Unary(_, _)
-            | Operand::Binary(_, _, _)
-            | Operand::Chain(_, _, _, _)
-            | Operand::Else(_, _, _),
+    match unfinished {
+        Unfinished::OpenExpression(OpenExpression::Then(_, _)) => Some(true),
+        Unfinished::OpenExpression(
+            OpenExpression::Unary(_, _)
+            | OpenExpression::Binary(_, _, _)
+            | OpenExpression::Chain(_, _, _, _)
+            | OpenExpression::Else(_, _, _),
         ) => None,
-        Begun::Phrase(Phrase::Values(dests, values)) => Some(owes(dests.len(), values.len())),
-        Begun::Member(Member::Value(names, inits) | Member::Vector(_, names, inits)) => {
+        Unfinished::Phrase(Phrase::Values(dests, values)) => Some(owes(dests.len(), values.len())),
+        Unfinished::Member(Member::Value(names, inits) | Member::Vector(_, names, inits)) => {
             Some(owes(names.len(), inits.len()))
         }
         _ => Some(false),
     }
 }
 
-/// Whether a comma is owed behind the expression that is read now, so that no TABLE may end it.
+/// Whether a comma has to follow the expression that is read now, so that no TABLE may end it.
 #[tactic(auto, using(bk_frames::proofs::Stacks::stack_none))]
 fn is_barred(frames: &Frames) -> bool
     ensures { result ≡ bars (stack_of frames.now) }
@@ -327,7 +348,7 @@ fn is_barred(frames: &Frames) -> bool
     let mut i = frames.above.len();
     while i > 0 {
         i -= 1;
-        match barring(&frames.above[i].begun) {
+        match barring(&frames.above[i].unfinished) {
             Some(answer) => return answer,
             None => {}
         }
@@ -337,27 +358,27 @@ fn is_barred(frames: &Frames) -> bool
 
 /// A `)` where an argument is due.
 #[tactic(auto, using(bk_frames::proofs::Stacks::frames_laws, bk_frames::proofs::Turns::no_args_cases))]
-fn no_arguments(frames: &mut Frames, now: &mut Now) -> Result<(), Stop>
+fn no_arguments(frames: &mut Frames, now: &mut ParserState) -> Result<(), Stop>
     ensures { Steps (stack_of frames.new) (reached result now.new) (no_args (stack_of frames.old)) }
 {
     let Some(top) = pop(frames) else {
         return Err(Stop::Unexpected);
     };
     let Frame {
-        begun,
+        unfinished,
         held,
         spare: _,
     } = top;
-    let Begun::Operand(operand) = begun else {
+    let Unfinished::OpenExpression(operand) = unfinished else {
         return Err(Stop::Unexpected);
     };
     match operand {
-        Operand::Args(sign, callee, items) => {
+        OpenExpression::Args(sign, callee, items) => {
             if !are_none(&items) {
                 return Err(Stop::Unexpected);
             }
             let apply = apply(line_of(&callee), sign, callee, items);
-            now.set(Now::Have(whole(apply, held)));
+            now.set(ParserState::Have(whole(apply, held)));
             Ok(())
         }
         _ => Err(Stop::Unexpected),
@@ -370,7 +391,7 @@ fn no_arguments(frames: &mut Frames, now: &mut Now) -> Result<(), Stop>
 fn other_operand(
     alloc: Global,
     frames: &mut Frames,
-    now: &mut Now,
+    now: &mut ParserState,
     token: &Token,
 ) -> Result<(), Stop>
     ensures { Steps (stack_of frames.new) (reached result now.new) (take_operand (stack_of frames.old) token.now.line token.now.text.now token.now.kind) }
@@ -380,18 +401,26 @@ fn other_operand(
         return Ok(());
     }
     if let Some(prefix) = prefix(token.kind) {
-        now.set(want(frames, Operand::Unary(token.line, prefix), NOTHING)?);
+        now.set(want(frames, OpenExpression::Unary(token.line, prefix), NOTHING)?);
         return Ok(());
     }
     match opens_with(token.kind) {
-        Some(Opening::Parens) => now.set(want(frames, Operand::Parens(token.line), NOTHING)?),
+        Some(Opening::Parens) => now.set(want(
+            frames,
+            OpenExpression::Parens(token.line),
+            NOTHING,
+        )?),
         Some(Opening::Close) => return no_arguments(frames, now),
         Some(Opening::Valof) => now.set(wants_command(frames, Clause::Valof(token.line), NOTHING)?),
         Some(Opening::Table) => {
             if is_barred(frames) {
                 return Err(Stop::Unexpected);
             }
-            now.set(want(frames, Operand::Table(token.line, Vec::new(alloc)), NOTHING)?);
+            now.set(want(
+                frames,
+                OpenExpression::Table(token.line, Vec::new(alloc)),
+                NOTHING,
+            )?);
         }
         None => return Err(Stop::Unexpected),
     }
@@ -399,7 +428,12 @@ fn other_operand(
 }
 
 /// An operand is due, and this symbol comes.
-pub fn operand(alloc: Global, frames: &mut Frames, now: &mut Now, token: &Token) -> Result<(), Stop>
+pub fn operand(
+    alloc: Global,
+    frames: &mut Frames,
+    now: &mut ParserState,
+    token: &Token,
+) -> Result<(), Stop>
     ensures { Steps (stack_of frames.new) (reached result now.new) (take_operand (stack_of frames.old) token.now.line token.now.text.now token.now.kind) }
 {
     match token.kind {
@@ -414,7 +448,7 @@ pub fn operand(alloc: Global, frames: &mut Frames, now: &mut Now, token: &Token)
 #[tactic(auto, using(bk_tree::proofs::Trees::one_more, bk_tree::proofs::Trees::more_sizes))]
 fn argument(
     frames: &mut Frames,
-    now: &mut Now,
+    now: &mut ParserState,
     sign: Line,
     callee: Box<Expr>,
     items: Vec<Expr>,
@@ -423,7 +457,7 @@ fn argument(
     token: &Token,
 ) -> Result<Flow, Stop>
     requires stops { goes 12 token.now.kind ≡ false }
-    requires parts { parts ≡ both_of (held_in (Begun.Operand (o.Args sign callee items))) (size_of (expression last)) }
+    requires parts { parts ≡ both_of (held_in (Unfinished.OpenExpression (o.Args sign callee items))) (size_of (expression last)) }
     ensures flows { Answers frames.new now.new result token.now (give (in_args sign (expression callee.value) (expressions_in items.items)
         (stack_of frames.old)) (expression last)) }
     ensures lowers { Lowers frames.old frames.new result }
@@ -431,12 +465,12 @@ fn argument(
     let mut items = items;
     items.push(last)?;
     if is_comma(token.kind) {
-        now.set(want(frames, Operand::Args(sign, callee, items), parts)?);
+        now.set(want(frames, OpenExpression::Args(sign, callee, items), parts)?);
         return Ok(Flow::Taken);
     }
     if is_close(token.kind) {
         let apply = apply(line_of(&callee), sign, callee, items);
-        now.set(Now::Have(whole(apply, parts)));
+        now.set(ParserState::Have(whole(apply, parts)));
         return Ok(Flow::Taken);
     }
     Err(Stop::Unexpected)
@@ -447,7 +481,7 @@ fn argument(
 #[tactic(auto, using(bk_tree::proofs::Trees::one_more, bk_tree::proofs::Trees::more_sizes))]
 fn entry(
     frames: &mut Frames,
-    now: &mut Now,
+    now: &mut ParserState,
     line: Line,
     items: Vec<Expr>,
     parts: Size,
@@ -455,17 +489,17 @@ fn entry(
     token: &Token,
 ) -> Result<Flow, Stop>
     requires stops { goes 12 token.now.kind ≡ false }
-    requires parts { parts ≡ both_of (held_in (Begun.Operand (o.Table line items))) (size_of (expression last)) }
+    requires parts { parts ≡ both_of (held_in (Unfinished.OpenExpression (o.Table line items))) (size_of (expression last)) }
     ensures flows { Answers frames.new now.new result token.now (give (in_table line (expressions_in items.items) (stack_of frames.old)) (expression last)) }
     ensures lowers { Lowers frames.old frames.new result }
 {
     let mut items = items;
     items.push(last)?;
     if is_comma(token.kind) {
-        now.set(want(frames, Operand::Table(line, items), parts)?);
+        now.set(want(frames, OpenExpression::Table(line, items), parts)?);
         return Ok(Flow::Taken);
     }
-    now.set(Now::Have(whole(table(line, items), parts)));
+    now.set(ParserState::Have(whole(table(line, items), parts)));
     Ok(Flow::Comes)
 }
 
@@ -498,7 +532,7 @@ fn chained(
     parts: Size,
     right: Sized,
 ) -> Result<Sized, AllocError>
-    requires { parts ≡ held_in (Begun.Operand (o.Chain operator sign before shared)) }
+    requires { parts ≡ held_in (Unfinished.OpenExpression (o.Chain operator sign before shared)) }
     ensures { IfOk result (λ whole. expression whole.expr ≡ binary (line_of (expression before.value)) Both sign (expression before.value)
         (binary (line_of (expression shared.value)) operator sign (expression shared.value) (expression right.expr))) }
 {
@@ -523,33 +557,33 @@ fn chained(
 fn complete_with(
     alloc: Global,
     frames: &mut Frames,
-    now: &mut Now,
-    begun: Operand,
+    now: &mut ParserState,
+    unfinished: OpenExpression,
     held: Size,
     sized: Sized,
     token: &Token,
 ) -> Result<Flow, Stop>
-    requires stops { goes (limit (operand_on begun (stack_of frames.old))) token.now.kind ≡ false }
-    requires held { held ≡ held_in (Begun.Operand begun) }
-    ensures flows { Answers frames.new now.new result token.now (give (operand_on begun (stack_of frames.old)) (expression sized.expr)) }
+    requires stops { goes (limit (operand_on unfinished (stack_of frames.old))) token.now.kind ≡ false }
+    requires held { held ≡ held_in (Unfinished.OpenExpression unfinished) }
+    ensures flows { Answers frames.new now.new result token.now (give (operand_on unfinished (stack_of frames.old)) (expression sized.expr)) }
     ensures lowers { Lowers frames.old frames.new result }
 {
     let parts = both(held, sized.size);
-    match begun {
-        Operand::Parens(line) => {
+    match unfinished {
+        OpenExpression::Parens(line) => {
             if !is_close(token.kind) {
                 return Err(Stop::Unexpected);
             }
             let inner = Box::new(alloc, sized.expr)?;
-            now.set(Now::Have(whole(Expr::Parens(line, inner), parts)));
+            now.set(ParserState::Have(whole(Expr::Parens(line, inner), parts)));
             Ok(Flow::Taken)
         }
-        Operand::Unary(line, prefix) => {
+        OpenExpression::Unary(line, prefix) => {
             let operand = Box::new(alloc, sized.expr)?;
-            now.set(Now::Have(whole(Expr::Unary(line, prefix, operand), parts)));
+            now.set(ParserState::Have(whole(Expr::Unary(line, prefix, operand), parts)));
             Ok(Flow::Comes)
         }
-        Operand::Binary(operator, sign, left) => {
+        OpenExpression::Binary(operator, sign, left) => {
             let line = line_of(&left);
             let shared = shared_size(operator, &sized);
             let right = Box::new(alloc, sized.expr)?;
@@ -558,31 +592,35 @@ fn complete_with(
                 size: of_node(parts),
                 right: shared,
             };
-            now.set(Now::Have(pair));
+            now.set(ParserState::Have(pair));
             Ok(Flow::Comes)
         }
-        Operand::Chain(operator, sign, before, shared) => {
-            now.set(Now::Have(chained(alloc, operator, sign, before, shared, held, sized)?));
+        OpenExpression::Chain(operator, sign, before, shared) => {
+            now.set(ParserState::Have(chained(
+                alloc, operator, sign, before, shared, held, sized,
+            )?));
             Ok(Flow::Comes)
         }
-        Operand::Then(sign, condition) => {
+        OpenExpression::Then(sign, condition) => {
             if !is_comma(token.kind) {
                 return Err(Stop::Unexpected);
             }
             let yes = Box::new(alloc, sized.expr)?;
-            now.set(want(frames, Operand::Else(sign, condition, yes), parts)?);
+            now.set(want(frames, OpenExpression::Else(sign, condition, yes), parts)?);
             Ok(Flow::Taken)
         }
-        Operand::Else(sign, condition, yes) => {
+        OpenExpression::Else(sign, condition, yes) => {
             let line = line_of(&condition);
             let no = Box::new(alloc, sized.expr)?;
-            now.set(Now::Have(whole(Expr::Choice(line, sign, condition, yes, no), parts)));
+            now.set(ParserState::Have(whole(Expr::Choice(line, sign, condition, yes, no), parts)));
             Ok(Flow::Comes)
         }
-        Operand::Args(sign, callee, items) => argument(
+        OpenExpression::Args(sign, callee, items) => argument(
             frames, now, sign, callee, items, parts, sized.expr, token,
         ),
-        Operand::Table(line, items) => entry(frames, now, line, items, parts, sized.expr, token),
+        OpenExpression::Table(line, items) => entry(
+            frames, now, line, items, parts, sized.expr, token,
+        ),
     }
 }
 
@@ -591,18 +629,18 @@ fn complete_with(
 pub fn complete(
     alloc: Global,
     frames: &mut Frames,
-    now: &mut Now,
-    begun: Operand,
+    now: &mut ParserState,
+    unfinished: OpenExpression,
     held: Size,
     token: &Token,
 ) -> Result<Flow, Stop>
-    requires stops { goes (limit (operand_on begun (stack_of frames.old))) token.now.kind ≡ false }
-    requires held { held ≡ held_in (Begun.Operand begun) }
-    ensures flows { Answers frames.new now.new result token.now (given (operand_on begun (stack_of frames.old)) now.old) }
+    requires stops { goes (limit (operand_on unfinished (stack_of frames.old))) token.now.kind ≡ false }
+    requires held { held ≡ held_in (Unfinished.OpenExpression unfinished) }
+    ensures flows { Answers frames.new now.new result token.now (given (operand_on unfinished (stack_of frames.old)) now.old) }
     ensures lowers { Lowers frames.old frames.new result }
 {
-    let Now::Have(sized) = mem::replace(now, Now::Due) else {
-        return Err(refuse(begun));
+    let ParserState::Have(sized) = mem::replace(now, ParserState::Due) else {
+        return Err(refuse(unfinished));
     };
-    complete_with(alloc, frames, now, begun, held, sized, token)
+    complete_with(alloc, frames, now, unfinished, held, sized, token)
 }

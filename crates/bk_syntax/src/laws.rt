@@ -11,12 +11,12 @@ pub fn have_one_tree()
     ensures { HaveOneTree }
 {}
 
-/// A wrong section tag stands, whatever follows.
+/// A wrong section tag stays a fault, whatever follows.
 pub fn tag_fault_stands()
     ensures { TagFaultStands }
 {}
 
-/// An unexpected symbol stands, whatever follows.
+/// An unexpected symbol stays a fault, whatever follows.
 pub fn symbol_fault_stands()
     ensures { SymbolFaultStands }
 {}
@@ -31,12 +31,12 @@ pub fn goes_on_begins()
     ensures { GoesOnBegins }
 {}
 
-/// Where a section within some bounds of depth and nodes begins, the machine behind its beginning has a way on within them.
+/// Where a section within some bounds of depth and nodes begins, the machine after its beginning can complete one within them.
 pub fn begins_completes()
     ensures { BeginsCompletes }
 {}
 
-/// Where the machine behind the beginning of a section has a way on within some bounds of depth and nodes, a section within
+/// Where the machine after the beginning of a section can complete one within some bounds of depth and nodes, a section within
 /// them begins so.
 pub fn completes_begins()
     ensures { CompletesBegins }

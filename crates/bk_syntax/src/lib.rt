@@ -4,10 +4,10 @@
 mod commands;
 mod declarations;
 mod definitions;
+mod error;
 mod expressions;
 mod laws;
 mod parser;
-mod why;
 
 pub use laws::{
     begins_completes, completes_begins, end_fault_stands, goes_on_begins, have_one_tree,

@@ -1,4 +1,4 @@
-//! The parser: one pass over the symbols, with a list of what was begun.
+//! The parser: a pushdown automaton that reads the symbols once, over a stack of unfinished constructs.
 ghost use Rattle.std.specs.Prelude.{◌≡◌, ◌<◌, true, false, Some, [], List, length, IfOk, IfErr, OnOk};
 ghost use Rattle.bk_lex.specs.Symbol.{Symbol, symbol_of, symbols_of};
 ghost use Rattle.bk_lex.specs.Values.{upper_name};
@@ -6,22 +6,22 @@ ghost use Rattle.bk_tree.specs.Tree.{Declarations, declarations_in};
 ghost use Rattle.bk_grammar.specs.Spelling.{tag_of};
 ghost use Rattle.bk_grammar.specs.Rows.{goes};
 ghost use Rattle.bk_grammar.specs.Machine.{limit, opens, closes, give, finish, without, stepped_by, whole, run, due, maybe, in_section};
-ghost use Rattle.bk_frames.specs.Begun.{begun_on, held_in};
+ghost use Rattle.bk_frames.specs.Unfinished.{unfinished_on, held_in};
 ghost use Rattle.bk_frames.specs.Frames.{stack_of, state, given, finished, after, Steps, Answers, Lowers, Falls};
-ghost use Rattle.bk_syntax.specs.Parsing.{tags, Closes, steps, AfterSymbols, why_of, answered, reached, IsPassed, Advances, AnswersAtEnd, Parses, Gives};
+ghost use Rattle.bk_syntax.specs.Parsing.{tags, Closes, steps, AfterSymbols, error_of, answered, reached, IsPassed, Advances, AnswersAtEnd, Parses, Gives};
 ghost use Rattle.bk_tree.specs.Section.{declarations_of};
 ghost use Rattle.bk_grammar.specs.SyntaxFault.{IsSection};
 ghost use Rattle.bk_tree.specs.Limits.{Within};
 ghost use Rattle.bk_frames.specs.Bounds.{Always, Bounded};
-ghost use Rattle.bk_frames.specs.WaysOn.{Completes};
+ghost use Rattle.bk_frames.specs.Completing.{Completes};
 
 use crate::commands::{again, command, complete_clause, complete_phrase, did, guarded};
 use crate::declarations::{at_place, complete_command};
 use crate::definitions::complete_member;
+use crate::error::{ParseError, refuse, told};
 use crate::expressions::{complete, extends, go_on, operand};
-use crate::why::{Why, refuse, told};
 use bk_base::{Line, Refused, SourceFault};
-use bk_frames::frame::{Begun, Clause, Flow, Frame, Now, Size, Stop};
+use bk_frames::frame::{Clause, Flow, Frame, ParserState, Size, Stop, Unfinished};
 use bk_frames::frames::Frames;
 use bk_frames::limits::{is_bounded, is_bounded_in_depth};
 use bk_frames::size::NOTHING;
@@ -33,28 +33,28 @@ use bk_tree::{Command, Section};
 use std::alloc::Global;
 use std::mem;
 
-/// An expression is complete in what was begun, with which the symbol after it does not go on.
+/// An expression is complete in an unfinished construct, and the symbol after it does not go on with it.
 #[inline(always)]
 fn complete_part(
     alloc: Global,
     frames: &mut Frames,
-    now: &mut Now,
-    begun: Begun,
+    now: &mut ParserState,
+    unfinished: Unfinished,
     held: Size,
     token: &Token,
 ) -> Result<Flow, Stop>
-    requires stops { goes (limit (begun_on begun (stack_of frames.old))) token.now.kind ≡ false }
-    requires held { held ≡ held_in begun }
-    ensures answers { Answers frames.new now.new result token.now (given (begun_on begun (stack_of frames.old)) now.old) }
+    requires stops { goes (limit (unfinished_on unfinished (stack_of frames.old))) token.now.kind ≡ false }
+    requires held { held ≡ held_in unfinished }
+    ensures answers { Answers frames.new now.new result token.now (given (unfinished_on unfinished (stack_of frames.old)) now.old) }
     ensures lowers { Lowers frames.old frames.new result }
 {
-    match begun {
-        Begun::Operand(operand) => complete(alloc, frames, now, operand, held, token),
-        Begun::Phrase(phrase) => complete_phrase(alloc, frames, now, phrase, held, token),
-        Begun::Member(member) => complete_member(alloc, frames, now, member, held, token),
-        Begun::Clause(clause) => Err(refuse(clause)),
-        Begun::Place(place) => Err(refuse(place)),
-        Begun::Point(point) => Err(refuse(point)),
+    match unfinished {
+        Unfinished::OpenExpression(operand) => complete(alloc, frames, now, operand, held, token),
+        Unfinished::Phrase(phrase) => complete_phrase(alloc, frames, now, phrase, held, token),
+        Unfinished::Member(member) => complete_member(alloc, frames, now, member, held, token),
+        Unfinished::Clause(clause) => Err(refuse(clause)),
+        Unfinished::Place(place) => Err(refuse(place)),
+        Unfinished::Point(point) => Err(refuse(point)),
     }
 }
 
@@ -63,7 +63,7 @@ fn goes_on_with(frames: &Frames, kind: Kind) -> bool
     ensures { result ≡ goes (limit (stack_of frames.now)) kind }
 {
     match frames.above.last() {
-        Some(top) => extends(&top.begun, kind),
+        Some(top) => extends(&top.unfinished, kind),
         None => goes_on(12, kind),
     }
 }
@@ -73,14 +73,14 @@ fn goes_on_with(frames: &Frames, kind: Kind) -> bool
 fn after_expression(
     alloc: Global,
     frames: &mut Frames,
-    now: &mut Now,
+    now: &mut ParserState,
     token: &Token,
 ) -> Result<Flow, Stop>
     ensures answers { Answers frames.new now.new result token.now (given (stack_of frames.old) now.old) }
     ensures falls { Falls frames.old frames.new result }
 {
     if goes_on_with(frames, token.kind) {
-        let Now::Have(sized) = mem::replace(now, Now::Due) else {
+        let ParserState::Have(sized) = mem::replace(now, ParserState::Due) else {
             return Err(Stop::Unexpected);
         };
         return go_on(alloc, frames, now, sized, token);
@@ -89,11 +89,11 @@ fn after_expression(
         return Err(Stop::Unexpected);
     };
     let Frame {
-        begun,
+        unfinished,
         held,
         spare: _,
     } = top;
-    complete_part(alloc, frames, now, begun, held, token)
+    complete_part(alloc, frames, now, unfinished, held, token)
 }
 
 /// A command is complete so far, and a symbol comes after it.
@@ -101,14 +101,14 @@ fn after_expression(
 fn after_command(
     alloc: Global,
     frames: &mut Frames,
-    now: &mut Now,
+    now: &mut ParserState,
     token: &Token,
 ) -> Result<Flow, Stop>
     ensures answers { Answers frames.new now.new result token.now (finished (stack_of frames.old) now.old) }
     ensures falls { Falls frames.old frames.new result }
 {
     if repeats(token.kind) {
-        let Now::Did(done) = mem::replace(now, Now::Due) else {
+        let ParserState::Did(done) = mem::replace(now, ParserState::Due) else {
             return Err(Stop::Unexpected);
         };
         return again(alloc, frames, now, done, token);
@@ -117,15 +117,15 @@ fn after_command(
         return Err(Stop::Unexpected);
     };
     let Frame {
-        begun,
+        unfinished,
         held,
         spare: _,
     } = top;
-    match begun {
-        Begun::Clause(clause) => complete_clause(alloc, frames, now, clause, held, token),
-        Begun::Place(place) => complete_command(frames, now, place, held, token),
-        Begun::Operand(operand) => Err(refuse(operand)),
-        Begun::Phrase(phrase) => Err(refuse(phrase)),
+    match unfinished {
+        Unfinished::Clause(clause) => complete_clause(alloc, frames, now, clause, held, token),
+        Unfinished::Place(place) => complete_command(frames, now, place, held, token),
+        Unfinished::OpenExpression(operand) => Err(refuse(operand)),
+        Unfinished::Phrase(phrase) => Err(refuse(phrase)),
         other => Err(refuse(other)),
     }
 }
@@ -135,22 +135,29 @@ fn after_command(
 fn after_part(
     alloc: Global,
     frames: &mut Frames,
-    now: &mut Now,
+    now: &mut ParserState,
     token: &Token,
 ) -> Result<Flow, Stop>
     ensures answers { Answers frames.new now.new result token.now (after (stack_of frames.old) now.old) }
     ensures falls { Falls frames.old frames.new result }
 {
     match now {
-        Now::Have(_) => after_expression(alloc, frames, now, token),
-        Now::Did(_) => after_command(alloc, frames, now, token),
-        Now::Want | Now::Begin | Now::Maybe | Now::Due => Ok(Flow::Taken),
+        ParserState::Have(_) => after_expression(alloc, frames, now, token),
+        ParserState::Did(_) => after_command(alloc, frames, now, token),
+        ParserState::Want | ParserState::Begin | ParserState::Maybe | ParserState::Due => Ok(
+            Flow::Taken,
+        ),
     }
 }
 
 /// Takes the symbol after the part that is complete so far, and completes what the symbol completes.
 #[inline(never)]
-fn settle(alloc: Global, frames: &mut Frames, now: &mut Now, token: &Token) -> Result<(), Stop>
+fn settle(
+    alloc: Global,
+    frames: &mut Frames,
+    now: &mut ParserState,
+    token: &Token,
+) -> Result<(), Stop>
     ensures { Steps (stack_of frames.new) (reached result now.new) (after (stack_of frames.old) now.old token.now.line token.now.text.now token.now.kind) }
 {
     loop {
@@ -168,7 +175,7 @@ fn settle(alloc: Global, frames: &mut Frames, now: &mut Now, token: &Token) -> R
 fn without_command(
     alloc: Global,
     frames: &mut Frames,
-    now: &mut Now,
+    now: &mut ParserState,
     token: &Token,
 ) -> Result<Flow, Stop>
     ensures { Answers frames.new now.new result token.now (without (stack_of frames.old)) }
@@ -177,25 +184,25 @@ fn without_command(
         return Err(Stop::Unexpected);
     };
     let Frame {
-        begun,
+        unfinished,
         held,
         spare: _,
     } = top;
-    let Begun::Clause(clause) = begun else {
+    let Unfinished::Clause(clause) = unfinished else {
         return Err(Stop::Unexpected);
     };
     let body = Box::new(alloc, Command::Empty)?;
     match clause {
         Clause::Label(line, letters) => {
-            now.set(Now::Did(did(Command::Label(line, letters, body), held)));
+            now.set(ParserState::Did(did(Command::Label(line, letters, body), held)));
             Ok(Flow::Comes)
         }
         Clause::Guarded(guard, line, condition) => {
-            now.set(Now::Did(did(guarded(guard, line, condition, body), held)));
+            now.set(ParserState::Did(did(guarded(guard, line, condition, body), held)));
             Ok(Flow::Comes)
         }
         Clause::Default(line) => {
-            now.set(Now::Did(did(Command::Default(line, body), held)));
+            now.set(ParserState::Did(did(Command::Default(line, body), held)));
             Ok(Flow::Comes)
         }
         _ => Err(Stop::Unexpected),
@@ -203,7 +210,12 @@ fn without_command(
 }
 
 /// There is no command after a colon, and this symbol, which begins none, is taken.
-fn step_over(alloc: Global, frames: &mut Frames, now: &mut Now, token: &Token) -> Result<(), Stop>
+fn step_over(
+    alloc: Global,
+    frames: &mut Frames,
+    now: &mut ParserState,
+    token: &Token,
+) -> Result<(), Stop>
     ensures { Steps (stack_of frames.new) (reached result now.new) (without (stack_of frames.old) token.now.line token.now.text.now token.now.kind) }
 {
     match without_command(alloc, frames, now, token) {
@@ -215,7 +227,12 @@ fn step_over(alloc: Global, frames: &mut Frames, now: &mut Now, token: &Token) -
 }
 
 /// Takes the symbol where a command may come.
-fn step_maybe(alloc: Global, frames: &mut Frames, now: &mut Now, token: &Token) -> Result<(), Stop>
+fn step_maybe(
+    alloc: Global,
+    frames: &mut Frames,
+    now: &mut ParserState,
+    token: &Token,
+) -> Result<(), Stop>
     ensures { Steps (stack_of frames.new) (reached result now.new) (stepped_by (maybe (stack_of frames.old)) token.now.line token.now.text.now token.now.kind) }
 {
     if starts_command(token.kind) {
@@ -225,16 +242,21 @@ fn step_maybe(alloc: Global, frames: &mut Frames, now: &mut Now, token: &Token) 
 }
 
 /// Takes the next symbol, a section bracket once for each section that it opens or closes.
-fn step(alloc: Global, frames: &mut Frames, now: &mut Now, token: &Token) -> Result<(), Stop>
+fn step(
+    alloc: Global,
+    frames: &mut Frames,
+    now: &mut ParserState,
+    token: &Token,
+) -> Result<(), Stop>
     ensures { Steps (stack_of frames.new) (reached result now.new) (stepped_by
         (state (stack_of frames.old) now.old) token.now.line token.now.text.now token.now.kind) }
 {
     match now {
-        Now::Want => operand(alloc, frames, now, token),
-        Now::Begin => command(alloc, frames, now, token),
-        Now::Maybe => step_maybe(alloc, frames, now, token),
-        Now::Due => at_place(alloc, frames, now, token),
-        Now::Have(_) | Now::Did(_) => settle(alloc, frames, now, token),
+        ParserState::Want => operand(alloc, frames, now, token),
+        ParserState::Begin => command(alloc, frames, now, token),
+        ParserState::Maybe => step_maybe(alloc, frames, now, token),
+        ParserState::Due => at_place(alloc, frames, now, token),
+        ParserState::Have(_) | ParserState::Did(_) => settle(alloc, frames, now, token),
     }
 }
 
@@ -279,13 +301,13 @@ fn closings(opened: &[&[u8]], text: &[u8]) -> Option<usize>
 }
 
 /// Why a symbol is refused, without its line.
-fn why_of(taken: Result<(), Stop>) -> Result<(), Why>
-    ensures { result ≡ why_of taken }
+fn error_of(taken: Result<(), Stop>) -> Result<(), ParseError>
+    ensures { result ≡ error_of taken }
 {
     match taken {
         Ok(()) => Ok(()),
-        Err(Stop::Memory) => Err(Why::Memory),
-        Err(Stop::Unexpected) => Err(Why::Unexpected),
+        Err(Stop::Memory) => Err(ParseError::Memory),
+        Err(Stop::Unexpected) => Err(ParseError::Unexpected),
     }
 }
 
@@ -293,7 +315,7 @@ fn why_of(taken: Result<(), Stop>) -> Result<(), Why>
 fn repeat_step(
     alloc: Global,
     frames: &mut Frames,
-    now: &mut Now,
+    now: &mut ParserState,
     token: &Token,
     times: usize,
 ) -> Result<(), Stop>
@@ -312,18 +334,18 @@ fn repeat_step(
 }
 
 /// Whether a section within the limits begins so, where a section does, or why none does.
-fn limit(frames: &mut Frames, now: &Now) -> Result<(), Why>
+fn limit(frames: &mut Frames, now: &ParserState) -> Result<(), ParseError>
     ensures stack { stack_of frames.new ≡ stack_of frames.old }
     ensures bounded { OnOk result (Completes Always (state (stack_of frames.new) now.now) → Bounded (state (stack_of frames.new) now.now)) }
-    ensures passed { IfErr result (λ why. IsPassed why (state (stack_of frames.new) now.now)) }
+    ensures passed { IfErr result (λ error. IsPassed error (state (stack_of frames.new) now.now)) }
 {
     if is_bounded(frames, now)? {
         return Ok(());
     }
     if is_bounded_in_depth(frames, now)? {
-        return Err(Why::TooManyNodes);
+        return Err(ParseError::TooManyNodes);
     }
-    Err(Why::NestedTooDeeply)
+    Err(ParseError::NestedTooDeeply)
 }
 
 /// A `$)`: it closes sections, each as a `$)` without a tag.
@@ -331,9 +353,9 @@ fn close<'a>(
     alloc: Global,
     frames: &mut Frames,
     opened: &mut Vec<&'a [u8]>,
-    now: &mut Now,
+    now: &mut ParserState,
     token: &Token<'a>,
-) -> Result<(), Why>
+) -> Result<(), ParseError>
     requires { closes token.now.kind ≡ true }
     ensures { (u : List Symbol) → AfterSymbols u (tags opened.old.items) (state (stack_of frames.old) now.old) → Advances frames.new opened.new.items
         (answered (reached result now.new) token.now.line) u (symbol_of token.now) }
@@ -341,9 +363,9 @@ fn close<'a>(
     match closings(opened.as_slice(), token.text) {
         Some(times) => {
             opened.truncate(opened.len().saturating_sub(times));
-            why_of(repeat_step(alloc, frames, now, token, times))
+            error_of(repeat_step(alloc, frames, now, token, times))
         }
-        None => Err(Why::WrongSectionTag),
+        None => Err(ParseError::WrongSectionTag),
     }
 }
 
@@ -352,16 +374,16 @@ fn open_section<'a>(
     alloc: Global,
     frames: &mut Frames,
     opened: &mut Vec<&'a [u8]>,
-    now: &mut Now,
+    now: &mut ParserState,
     token: &Token<'a>,
-) -> Result<(), Why>
+) -> Result<(), ParseError>
     requires { opens token.now.kind ≡ true }
     ensures { (u : List Symbol) → AfterSymbols u (tags opened.old.items) (state (stack_of frames.old) now.old) → Advances frames.new opened.new.items
         (answered (reached result now.new) token.now.line) u (symbol_of token.now) }
 {
     match opened.push(tag(token.text)) {
-        Ok(()) => why_of(repeat_step(alloc, frames, now, token, 1)),
-        Err(_) => Err(Why::Memory),
+        Ok(()) => error_of(repeat_step(alloc, frames, now, token, 1)),
+        Err(_) => Err(ParseError::Memory),
     }
 }
 
@@ -370,9 +392,9 @@ fn take<'a>(
     alloc: Global,
     frames: &mut Frames,
     opened: &mut Vec<&'a [u8]>,
-    now: &mut Now,
+    now: &mut ParserState,
     token: &Token<'a>,
-) -> Result<(), Why>
+) -> Result<(), ParseError>
     ensures { (u : List Symbol) → AfterSymbols u (tags opened.old.items) (state (stack_of frames.old) now.old) → Advances frames.new opened.new.items
         (answered (reached result now.new) token.now.line) u (symbol_of token.now) }
 {
@@ -382,17 +404,17 @@ fn take<'a>(
     if opens(token.kind) {
         return open_section(alloc, frames, opened, now, token);
     }
-    why_of(repeat_step(alloc, frames, now, token, 1))
+    error_of(repeat_step(alloc, frames, now, token, 1))
 }
 
-/// Takes the next symbol, behind which a section within the limits goes on.
+/// Takes the next symbol, after which a section within the limits goes on.
 fn advance<'a>(
     alloc: Global,
     frames: &mut Frames,
     opened: &mut Vec<&'a [u8]>,
-    now: &mut Now,
+    now: &mut ParserState,
     token: &Token<'a>,
-) -> Result<(), Why>
+) -> Result<(), ParseError>
     ensures bounded { OnOk result (Completes Always (state (stack_of frames.new) now.new) → Bounded (state (stack_of frames.new) now.new)) }
     ensures goes { (u : List Symbol) → AfterSymbols u (tags opened.old.items) (state (stack_of frames.old) now.old)
         → Advances frames.new opened.new.items (answered (reached result now.new) token.now.line) u (symbol_of token.now) }
@@ -402,7 +424,7 @@ fn advance<'a>(
 }
 
 /// The section, if it is whole here, where its end is on this line.
-fn whole(frames: Frames, now: Now, end: Line) -> Result<Section, Refused<SourceFault>>
+fn whole(frames: Frames, now: ParserState, end: Line) -> Result<Section, Refused<SourceFault>>
     requires { (ds : Declarations) → state (stack_of frames) now ≡ due (in_section ds) → Within ds }
     ensures { AnswersAtEnd result (whole (Some (state (stack_of frames) now))) end }
 {
@@ -410,17 +432,17 @@ fn whole(frames: Frames, now: Now, end: Line) -> Result<Section, Refused<SourceF
         decls,
         held: _,
         above,
-        rooms: _,
+        budgets: _,
         alloc: _,
     } = frames;
     match now {
-        Now::Due => {
+        ParserState::Due => {
             if above.is_empty() {
                 return Ok(Section::new(decls));
             }
-            Err(told(Why::Unexpected, end))
+            Err(told(ParseError::Unexpected, end))
         }
-        _ => Err(told(Why::Unexpected, end)),
+        _ => Err(told(ParseError::Unexpected, end)),
     }
 }
 
@@ -428,7 +450,7 @@ fn whole(frames: Frames, now: Now, end: Line) -> Result<Section, Refused<SourceF
 fn at_end(
     alloc: Global,
     frames: Frames,
-    now: Now,
+    now: ParserState,
     end: Line,
 ) -> Result<Section, Refused<SourceFault>>
     requires { Bounded (state (stack_of frames) now) }
@@ -445,15 +467,15 @@ fn at_end(
     match step(alloc, &mut frames, &mut now, &last) {
         Ok(()) => whole(frames, now, end),
         Err(Stop::Memory) => Err(Refused::Memory),
-        Err(Stop::Unexpected) => Err(told(Why::Unexpected, end)),
+        Err(Stop::Unexpected) => Err(told(ParseError::Unexpected, end)),
     }
 }
 
-/// The number of frames for which a section has room at first.
+/// The number of frames for which memory is reserved at first.
 const FIRST_FRAMES: usize = 16;
 
-/// The section that these symbols are, the end of which is on line `end`, or the fault that stands at a symbol: the first such
-/// that up to and with it no section within the limits begins.
+/// The section that these symbols are, with its end on line `end`, or the fault at a symbol: the first symbol such
+/// that no section within the limits begins with the symbols up to it.
 pub fn parse(alloc: Global, tokens: &[Token], end: Line) -> Result<Section, Refused<SourceFault>>
     // What is answered is a tree of the symbols, or the first fault: a section within the limits begins with the symbols
     // before it.
@@ -468,14 +490,14 @@ pub fn parse(alloc: Global, tokens: &[Token], end: Line) -> Result<Section, Refu
         decls: Vec::new(alloc),
         held: NOTHING,
         above,
-        rooms: Vec::new(alloc),
+        budgets: Vec::new(alloc),
         alloc,
     };
     let mut opened = Vec::new(alloc);
-    let mut now = Now::Due;
+    let mut now = ParserState::Due;
     for token in tokens {
-        if let Err(why) = advance(alloc, &mut frames, &mut opened, &mut now, token) {
-            return Err(told(why, token.line));
+        if let Err(error) = advance(alloc, &mut frames, &mut opened, &mut now, token) {
+            return Err(told(error, token.line));
         }
     }
     at_end(alloc, frames, now, end)

@@ -6,8 +6,8 @@ use Rattle.bk_ocode.specs.declared.stmt.Variable.TheVariants.{Static}
 use Rattle.bk_ocode.specs.declared.stmt.Dyadic.TheVariants as d
 use Rattle.bk_ocode.specs.declared.stmt.Stmt.TheVariants.{Address, Label}
 use Rattle.bk_trans.specs.declared.aim.Aim.TheVariants as aim
-use Rattle.bk_trans.specs.declared.way.Way.TheVariants as way
-use Rattle.bk_trans.specs.declared.draft.Draft.TheVariants.{Ready}
+use Rattle.bk_trans.specs.declared.evaluation.Evaluation.TheVariants as evaluation
+use Rattle.bk_trans.specs.declared.unresolved.Unresolved.TheVariants.{Ready}
 use Rattle.bk_trans.specs.declared.around.Goal.{Goal}
 use Rattle.bk_trans.specs.declared.around.Around.{Around}
 use Rattle.bk_trans.specs.declared.around.Target.{Target}
@@ -17,7 +17,7 @@ use Rattle.bk_trans.specs.Filling.{Supply, meaning, constant, constants_of, step
 use Rattle.bk_trans.specs.Labels as n
 use Rattle.bk_trans.specs.Parts.{Part, static_item, static_table, label_place, parts_of_items, target_of, target_of_word, target_of_label}
 use Rattle.bk_trans.specs.Scheme.{goal, goal_of, goal_in, variable, push, outermost, valued, looping, switching, go, test_of_step, first_of, label_or, procedure_code, data_code, entries_of, word_code, entry_of}
-use Rattle.bk_trans.specs.Writing.{Writing, after, place_of, word_of, push_of, goto_code, settled_word, settled, with_code, with_choices, no_choices, with_left, takes_labels, past_meaning, puts_label, puts_case, puts_default, puts_table, puts_item, puts_items, way_of, puts_switch, before_body, steps_on, goes_on, outside_of, inside, puts_entry, begins_procedure, ends_procedure}
+use Rattle.bk_trans.specs.Writing.{Writing, after, place_of, word_of, push_of, goto_code, settled_word, settled, with_code, with_choices, no_choices, with_left, takes_labels, past_meaning, puts_label, puts_case, puts_default, puts_table, puts_item, puts_items, evaluation_of, puts_switch, before_body, steps_on, goes_on, outside_of, inside, puts_entry, begins_procedure, ends_procedure}
 use Rattle.bk_trans.proofs.Adds.{Near, near, near_after, near_is, Alike, alike, alike_is, is_alike, alike_both, label_in_words, first_none, At, Adds, nothing, then, put, labelled, renumbered, resumed, unchosen}
 
 -- places that are the same in words
@@ -349,6 +349,6 @@ pub tail_cases : {gs : List Goal} {ts : List Target} {w v : Writing} {c : List S
 tail_cases {gs} {ts} {w} {v} {c} {ps} {ks} {x} a = rw (← append-nil ks) (rw (← first_none x) a)
 
 -- what has no label and no word stays as it is
-pub ways_of_values : (x : Operator) (k : ℕ) → way_of x aim.Value k ≡ way.Plain
+pub ways_of_values : (x : Operator) (k : ℕ) → evaluation_of x aim.Value k ≡ evaluation.Plain
 ways_of_values o.Subscript k = refl
 ways_of_values _ k = refl

@@ -4,8 +4,8 @@ use Rattle.bk_trans.proofs.Words.{◌≡◌, ℕ, ◌+◌, ◌%◌, ◌^◌, Opt
 use Rattle.std.proofs.Math.Nat.{mod-add-mod, mod-mod}
 use Rattle.bk_trans.specs.declared.around.Goal.{Goal}
 use Rattle.bk_trans.specs.declared.around.Target.{Target}
-use Rattle.bk_trans.specs.declared.draft.Draft.{Draft}
-use Rattle.bk_trans.specs.declared.draft.Draft.TheVariants.{Ready}
+use Rattle.bk_trans.specs.declared.unresolved.Unresolved.{Unresolved}
+use Rattle.bk_trans.specs.declared.unresolved.Unresolved.TheVariants.{Ready}
 use Rattle.bk_trans.specs.Alike.{word, case_in_words, entry_in_words, target_in_words, stmt_in_words}
 use Rattle.bk_trans.specs.Filling.{Supply}
 use Rattle.bk_trans.specs.Parts.{Part, target_of}
@@ -116,7 +116,7 @@ settled_ready : (gs : List Goal) (ss : List Stmt) → map (settled gs) (map Read
 settled_ready gs [] = refl
 settled_ready gs (s ∷ ss) = ap (λ l. s ∷ l) (settled_ready gs ss)
 
-pub put_drafts : {gs : List Goal} {ts : List Target} {w v : Writing} {c : List Stmt} {ps : List Part} {ks : List Case} {x : Option ℕ} {g : Supply} {n : ℕ} {rs : List Stmt} (ds : List Draft)
+pub put_drafts : {gs : List Goal} {ts : List Target} {w v : Writing} {c : List Stmt} {ps : List Part} {ks : List Case} {x : Option ℕ} {g : Supply} {n : ℕ} {rs : List Stmt} (ds : List Unresolved)
     → Adds gs ts w c ps ks x g n v → Alike stmt_in_words (map (settled gs) ds) rs → Adds gs ts w (c ++ rs) ps ks x g n (puts_drafts ds v)
 put_drafts {gs} {ts} {w} {v} {c} {ps} {ks} {x} {g} {n} {rs} ds a h = record {
   its_code = is_alike (map-append (settled gs) v.code ds) (alike_is (alike_both a.its_code h) (append_assoc (map (settled gs) w.code) c rs));
@@ -187,7 +187,7 @@ pub recoded : {gs : List Goal} {ts : List Target} {w v : Writing} {c d : List St
 recoded a e = rw (← e) a
 
 -- statements more, and drafts or statements behind them
-pub put_both : {gs : List Goal} {ts : List Target} {w v : Writing} {c : List Stmt} {ps : List Part} {ks : List Case} {x : Option ℕ} {g : Supply} {n : ℕ} {ss rs vs : List Stmt} (ds : List Draft)
+pub put_both : {gs : List Goal} {ts : List Target} {w v : Writing} {c : List Stmt} {ps : List Part} {ks : List Case} {x : Option ℕ} {g : Supply} {n : ℕ} {ss rs vs : List Stmt} (ds : List Unresolved)
     → Adds gs ts w c ps ks x g n v → Alike stmt_in_words ss rs → Alike stmt_in_words (map (settled gs) ds) vs → Adds gs ts w (c ++ (rs ++ vs)) ps ks x g n (puts_drafts ds (puts_all ss v))
 put_both {gs} {ts} {w} {v} {c} {ps} {ks} {x} {g} {n} {ss} {rs} {vs} ds a h i = recoded (put_drafts ds (put a h) i) (append_assoc c rs vs)
 

@@ -5,7 +5,7 @@ use Rattle.bk_trans.specs.declared.aim.Aim.{Aim}
 use Rattle.bk_trans.specs.declared.aim.Aim.TheVariants as aim
 use Rattle.bk_trans.specs.Filling.{step_of}
 use Rattle.bk_trans.specs.Scheme.{looping}
-use Rattle.bk_trans.specs.declared.draft.Draft.{Draft}
+use Rattle.bk_trans.specs.declared.unresolved.Unresolved.{Unresolved}
 use Rattle.bk_trans.specs.declared.around.Around.{Around}
 use Rattle.bk_trans.specs.Writing.{Writing, Reached, reached, after, puts, puts_drafts, puts_all, with_code, takes_labels, past_step, before_body, ends_for, aimed, written, each_written, act_written, each_act_written, acted_apart, declared, one_declared, defined, any_variables, each_acted_apart}
 
@@ -29,7 +29,7 @@ with_variables l ds r t v u made has put =
     ap (reached t) put ∙ ap (λ x. reached x.depth (puts Store x.writing)) made
     ∙ ap (λ z. reached (defined ds r).depth (cond z (puts Store (defined ds r).writing) (defined ds r).writing)) (sym has)
 
-pub apply_written : (s : ℕ) (a : Aim) (l m : ℕ) (e : Expression) (es : Expressions) (w v1 v2 v3 v4 v5 v6 : Writing) (code : List Draft)
+pub apply_written : (s : ℕ) (a : Aim) (l m : ℕ) (e : Expression) (es : Expressions) (w v1 v2 v3 v4 v5 v6 : Writing) (code : List Unresolved)
     → v1 ≡ written (after s (size es + 2)) aim.Value e (with_code [] w) → v2 ≡ with_code w.code v1 → v3 ≡ puts (Stack (after s 2)) v2 → v4 ≡ each_written (after s 2) es v3
     → code ≡ v1.code → v5 ≡ puts_drafts code v4 → v6 ≡ puts (CallFunction s) v5 → written s a (apply l m e es) w ≡ aimed a v6
 apply_written s a l m e es w v1 v2 v3 v4 v5 v6 code e1 e2 e3 e4 e5 e6 e7 = rw e7 (rw e6 (rw e5 (rw e4 (rw e3 (rw e2 (rw e1 refl))))))

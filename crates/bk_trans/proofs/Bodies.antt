@@ -1,5 +1,5 @@
 -- The body of a procedure of a section without faults is good: what each node asks for is there.
-use Rattle.bk_trans.proofs.Words.{arith, ◌≡◌, ℕ, ◌+◌, ◌<◌, ◌≤◌, ◌^◌, Bool, true, false, not, Option, Some, None, List, [], ◌∷◌, ◌++◌, length, refl, sym, ap, subst, ◌∙◌, ⊤, false≢true, le-ltb, FRAME_WORDS, GLOBAL_NUMBER, VEC_NUMBER, OCODE_LABEL, Mention, Expression, Expressions, Action, Actions, Declaration, Declarations, Items, Definition, Definitions, Starts, name, number, text, truth, query, parens, unary, binary, choice, apply, valof, table, none, more, empty, assign, call, goto, label, case_of, default, when, test, while, for_loop, switch, result, simple, block, repeat, repeat_while, no_actions, also, constants, definitions, no_declarations, declare, no_items, item, routine, function, variables, no_definitions, define, no_starts, value, vector, line_of, size, Bound, Constant, Global, Static, Variable, Label, Place, Role, Value, Truth, Address, Destination, not_assignable, no_result_or_return, vec_out_of_range, Binding, bound_in, bind, has_address, constant_word, AllDiffer, deeper, looping, switching, labelled, valued, labels_of, labels_of_each, parenthesised, within, words_of_vector, words_of_start, place_behind, variables_of, Spot, procedures_in, onward, past, numbered, behind, behind_each, behind_done, behind_declared, behind_one_declared, behind_one_defined, behind_constant, symbols_each, Point, at, labels_in_scope, procedures_in_scope, place_behind_one_defined, place_behind_defined, variables_in_scope, manifests_in_scope, globals_in_scope, scope_behind_one, place_behind_one, scope_behind, place_behind_all, unless, its_meaning, its_word, constant, each_constant, at_most, addressed, assigned, prefixed, pushed, chosen_at, defaulted_at, one_of, each_of, told, told_each, told_destinations, told_done, told_done_each, told_declared, told_one_declared, told_defined, told_one_defined, told_started, Usable, GoesTo, HasWord, HasWordUpTo, Sound, SoundEach, SoundDestinations, SoundDone, SoundDoneEach, SoundDeclared, SoundOneDeclared, SoundDefined, SoundOneDefined, SoundStarted, Use}
+use Rattle.bk_trans.proofs.Words.{arith, ◌≡◌, ℕ, ◌+◌, ◌<◌, ◌≤◌, ◌^◌, Bool, true, false, not, Option, Some, None, List, [], ◌∷◌, ◌++◌, length, refl, sym, ap, subst, ◌∙◌, ⊤, false≢true, le-ltb, FRAME_WORDS, GLOBAL_NUMBER, VEC_NUMBER, OCODE_LABEL, Mention, Expression, Expressions, Action, Actions, Declaration, Declarations, Items, Definition, Definitions, Starts, name, number, text, truth, query, parens, unary, binary, choice, apply, valof, table, none, more, empty, assign, call, goto, label, case_of, default, when, test, while, for_loop, switch, result, simple, block, repeat, repeat_while, no_actions, also, constants, definitions, no_declarations, declare, no_items, item, routine, function, variables, no_definitions, define, no_starts, value, vector, line_of, size, Bound, Constant, Global, Static, Variable, Label, Enclosing, Role, Value, Truth, Address, Destination, not_assignable, no_result_or_return, vec_out_of_range, Binding, bound_in, bind, has_address, constant_word, AllDiffer, deeper, looping, switching, labelled, valued, labels_of, labels_of_each, parenthesised, within, words_of_vector, words_of_start, place_behind, variables_of, Spot, procedures_in, onward, past, numbered, behind, behind_each, behind_done, behind_declared, behind_one_declared, behind_one_defined, behind_constant, symbols_each, Point, at, labels_in_scope, procedures_in_scope, place_behind_one_defined, place_behind_defined, variables_in_scope, manifests_in_scope, globals_in_scope, scope_behind_one, place_behind_one, scope_behind, place_behind_all, unless, its_meaning, its_word, constant, each_constant, at_most, addressed, assigned, prefixed, pushed, chosen_at, defaulted_at, one_of, each_of, told, told_each, told_destinations, told_done, told_done_each, told_declared, told_one_declared, told_defined, told_one_defined, told_started, Usable, GoesTo, HasWord, HasWordUpTo, Sound, SoundEach, SoundDestinations, SoundDone, SoundDoneEach, SoundDeclared, SoundOneDeclared, SoundDefined, SoundOneDefined, SoundStarted, Use}
 use Rattle.bk_tree.specs.declared.tree.Operator.TheVariants as o
 use Rattle.bk_tree.specs.declared.tree.Prefix.TheVariants as sign
 use Rattle.bk_tree.specs.declared.tree.Simple.TheVariants as w
@@ -36,12 +36,12 @@ known_more plan ts q k d e (Variable j i) low h = λ same. let g = h same in (g.
 known_more plan ts q k d e (Label j m) low h = h
 
 -- what stands around a node: names in scope, and the frame
-pub record At (plan : ℕ → Use) (ts : List Target) (q : ℕ) (bs : List Binding) (p : Place) (d : ℕ) : Type 0 where
+pub record At (plan : ℕ → Use) (ts : List Target) (q : ℕ) (bs : List Binding) (p : Enclosing) (d : ℕ) : Type 0 where
   pub sees : Sees (Known plan ts q p.procedure d) bs
   pub at : p.depth ≡ d
   pub low : 2 ≤ d
 
-at_deeper : (plan : ℕ → Use) (ts : List Target) (q : ℕ) (bs : List Binding) (p : Place) (d i e : ℕ) → At plan ts q bs p d → d + i ≡ e → e ≤ FRAME_WORDS + 1 → At plan ts q bs (deeper i p) e
+at_deeper : (plan : ℕ → Use) (ts : List Target) (q : ℕ) (bs : List Binding) (p : Enclosing) (d i e : ℕ) → At plan ts q bs p d → d + i ≡ e → e ≤ FRAME_WORDS + 1 → At plan ts q bs (deeper i p) e
 at_deeper plan ts q bs p d i e a same high = record {
   sees = λ y z f. known_more plan ts q p.procedure d e z (omega (arith, same)) (a.sees y z f);
   at = let b = a.at in omega (arith, b, same, high);
@@ -68,16 +68,16 @@ name_held plan ts q k d e (Some (Label j m)) u h f = elim u [ ]
 name_gone : (plan : ℕ → Use) (ts : List Target) (q k d : ℕ) (y : Option Bound) → GoesTo k y → ((z : Bound) → y ≡ Some z → Known plan ts q k d z) → Goes plan ts q (meant y)
 name_gone plan ts q k d y g f = subst (λ (x : Option Bound). Goes plan ts q (meant x)) (sym g.1) (f (Label k g.0) g.1 refl)
 
-count_named : (n : ℕ) (bs : List Binding) (p : Place) (s : Spot) (es : Expressions) → count (terms_named n bs p s es) ≡ size es
+count_named : (n : ℕ) (bs : List Binding) (p : Enclosing) (s : Spot) (es : Expressions) → count (terms_named n bs p s es) ≡ size es
 count_named n bs p s none = refl
 count_named n bs p s (more e es) = ap (λ k. k + 1) (count_named n bs (deeper n p) (behind e s) es)
 
 -- which exits a place has
-abbrev pub exits : Place → Exits
+abbrev pub exits : Enclosing → Exits
 exits p = record { loop = p.in_loop; switch = p.in_switch; valof = p.in_valof }
 
 -- labels come into scope
-pub enter_labels : (plan : ℕ → Use) (ts : List Target) (q k : ℕ) (bs : List Binding) (p r : Place) (s : Spot) (c : Action) (d n m : ℕ) → At plan ts q bs p d → d ≤ FRAME_WORDS → 1 ≤ n
+pub enter_labels : (plan : ℕ → Use) (ts : List Target) (q k : ℕ) (bs : List Binding) (p r : Enclosing) (s : Spot) (c : Action) (d n m : ℕ) → At plan ts q bs p d → d ≤ FRAME_WORDS → 1 ≤ n
     → n + labels_in (command_named (labels_in_scope k m (labels_of c) bs) r s c) ≤ OCODE_LABEL + 1 → PartsRight plan ts (parts_in d n (command_named (labels_in_scope k m (labels_of c) bs) r s c))
     → AllRight plan (marks_in q d n (command_named (labels_in_scope k m (labels_of c) bs) r s c)) → At plan ts q (labels_in_scope k m (labels_of c) bs) p d
 enter_labels plan ts q k bs p r s c d n m a top low high b f = record {
@@ -87,7 +87,7 @@ enter_labels plan ts q k bs p r s c d n m a top low high b f = record {
   low = a.low;
 }
 
-enter_labels_each : (plan : ℕ → Use) (ts : List Target) (q k : ℕ) (bs : List Binding) (p r : Place) (s : Spot) (cs : Actions) (d n m : ℕ) → At plan ts q bs p d → d ≤ FRAME_WORDS → 1 ≤ n
+enter_labels_each : (plan : ℕ → Use) (ts : List Target) (q k : ℕ) (bs : List Binding) (p r : Enclosing) (s : Spot) (cs : Actions) (d n m : ℕ) → At plan ts q bs p d → d ≤ FRAME_WORDS → 1 ≤ n
     → n + labels_through (commands_named (labels_in_scope k m (labels_of_each cs) bs) r s cs) ≤ OCODE_LABEL + 1
     → PartsRight plan ts (parts_through d n (commands_named (labels_in_scope k m (labels_of_each cs) bs) r s cs))
     → AllRight plan (marks_through q d n (commands_named (labels_in_scope k m (labels_of_each cs) bs) r s cs)) → At plan ts q (labels_in_scope k m (labels_of_each cs) bs) p d
@@ -112,7 +112,7 @@ one_word None u = absurd (let n : None ≡ Some u.0 = u.1 in cc)
 one_word (Some v) u = refl
 
 mutual
-  same_words : (bs : List Binding) (p : Place) (s : Spot) (c : Action) → SoundDone bs p s c → chosen.case_words bs c ≡ case_words (command_named bs p s c)
+  same_words : (bs : List Binding) (p : Enclosing) (s : Spot) (c : Action) → SoundDone bs p s c → chosen.case_words bs c ≡ case_words (command_named bs p s c)
   same_words bs p s (label l x c) h = same_words bs p (past 1 s) c h.1
   same_words bs p s (case_of l e c) h =
       ap (λ vs. vs ++ chosen.case_words bs c) (one_word (constant_word bs e) h.1) ∙ ap (λ vs. worth (constant_word bs e) ∷ vs) (same_words bs p (behind_constant e (past 1 s)) c h.2)
@@ -127,13 +127,13 @@ mutual
   same_words bs p s (repeat_while l b c e) h = same_words bs (looping p) s c h.0
   same_words bs p s _ h = refl
 
-  same_words_each : (bs : List Binding) (p : Place) (s : Spot) (cs : Actions) → SoundDoneEach bs p s cs → chosen.case_words_each bs cs ≡ case_words_through (commands_named bs p s cs)
+  same_words_each : (bs : List Binding) (p : Enclosing) (s : Spot) (cs : Actions) → SoundDoneEach bs p s cs → chosen.case_words_each bs cs ≡ case_words_through (commands_named bs p s cs)
   same_words_each bs p s no_actions h = refl
   same_words_each bs p s (also c cs) h =
       ap (λ vs. vs ++ chosen.case_words_each bs cs) (same_words bs p s c h.0) ∙ ap (λ vs. case_words (command_named bs p s c) ++ vs) (same_words_each bs p (behind_done c s) cs h.1)
 
 mutual
-  are_words : (bs : List Binding) (p : Place) (s : Spot) (c : Action) → SoundDone bs p s c → AllFine (told_done bs p s c) → AllWords (case_words (command_named bs p s c))
+  are_words : (bs : List Binding) (p : Enclosing) (s : Spot) (c : Action) → SoundDone bs p s c → AllFine (told_done bs p s c) → AllWords (case_words (command_named bs p s c))
   are_words bs p s (label l x c) h f = are_words bs p (past 1 s) c h.1 (all_back (one_of p.labels s.place l x ++ its_meaning (bound_in bs x)) _ f)
   are_words bs p s (case_of l e c) h f =
       let xs : List Point = chosen_at p.switch s.place l (constant_word bs e) in
@@ -153,37 +153,37 @@ mutual
   are_words bs p s (repeat_while l b c e) h f = are_words bs (looping p) s c h.0 (all_front (told_done bs (looping p) s c) (told Truth bs p (behind_done c s) e) f)
   are_words bs p s _ h f = tt
 
-  are_words_each : (bs : List Binding) (p : Place) (s : Spot) (cs : Actions) → SoundDoneEach bs p s cs → AllFine (told_done_each bs p s cs) → AllWords (case_words_through (commands_named bs p s cs))
+  are_words_each : (bs : List Binding) (p : Enclosing) (s : Spot) (cs : Actions) → SoundDoneEach bs p s cs → AllFine (told_done_each bs p s cs) → AllWords (case_words_through (commands_named bs p s cs))
   are_words_each bs p s no_actions h f = tt
   are_words_each bs p s (also c cs) h f =
       words_both (case_words (command_named bs p s c)) _ (are_words bs p s c h.0 (all_front (told_done bs p s c) _ f)) (are_words_each bs p (behind_done c s) cs h.1 (all_back (told_done bs p s c) _ f))
 
 -- where declarations leave the frame
-abbrev pub Same : Place → Place → Type 0
+abbrev pub Same : Enclosing → Enclosing → Type 0
 Same p r = (r.procedure ≡ p.procedure) × (exits r ≡ exits p)
 
-same_then : (p r z : Place) → Same p r → Same r z → Same p z
+same_then : (p r z : Enclosing) → Same p r → Same r z → Same p z
 same_then p r z h i = (i.0 ∙ h.0, i.1 ∙ h.1)
 
-same_started : (bs : List Binding) (p : Place) (is : Starts) → Same p (place_behind bs p is)
+same_started : (bs : List Binding) (p : Enclosing) (is : Starts) → Same p (place_behind bs p is)
 same_started bs p no_starts = (refl, refl)
 same_started bs p (value e is) = same_started bs (deeper 1 p) is
 same_started bs p (vector l e is) = same_started bs (deeper (words_of_start bs e + 1) p) is
 
-pub same_one_defined : (bs : List Binding) (p : Place) (d : Definition) → Same p (place_behind_one_defined bs p d)
+pub same_one_defined : (bs : List Binding) (p : Enclosing) (d : Definition) → Same p (place_behind_one_defined bs p d)
 same_one_defined bs p (variables l xs is) = same_started bs p is
 same_one_defined bs p (routine l x fs c) = (refl, refl)
 same_one_defined bs p (function l x fs e) = (refl, refl)
 
-pub same_defined : (bs : List Binding) (p : Place) (ds : Definitions) → Same p (place_behind_defined bs p ds)
+pub same_defined : (bs : List Binding) (p : Enclosing) (ds : Definitions) → Same p (place_behind_defined bs p ds)
 same_defined bs p no_definitions = (refl, refl)
 same_defined bs p (define d ds) = same_then p (place_behind_one_defined bs p d) (place_behind_defined bs (place_behind_one_defined bs p d) ds) (same_one_defined bs p d) (same_defined bs (place_behind_one_defined bs p d) ds)
 
-pub same_one_declared : (bs : List Binding) (p : Place) (s : Spot) (d : Declaration) → Same p (place_behind_one bs p s d)
+pub same_one_declared : (bs : List Binding) (p : Enclosing) (s : Spot) (d : Declaration) → Same p (place_behind_one bs p s d)
 same_one_declared bs p s (constants l k is) = (refl, refl)
 same_one_declared bs p s (definitions l ds) = same_defined (procedures_in_scope (s.number + 1) ds bs) p ds
 
-pub same_declared : (bs : List Binding) (p : Place) (s : Spot) (ds : Declarations) → Same p (place_behind_all bs p s ds)
+pub same_declared : (bs : List Binding) (p : Enclosing) (s : Spot) (ds : Declarations) → Same p (place_behind_all bs p s ds)
 same_declared bs p s no_declarations = (refl, refl)
 same_declared bs p s (declare d ds) =
     same_then p (place_behind_one bs p s d) (place_behind_all (scope_behind_one bs p s d) (place_behind_one bs p s d) (behind_one_declared d s) ds) (same_one_declared bs p s d) (same_declared (scope_behind_one bs p s d) (place_behind_one bs p s d) (behind_one_declared d s) ds)
@@ -196,26 +196,26 @@ vector_words (Some v) u =
     rw (le-ltb VEC_NUMBER v low) refl
 
 -- the words of a vector in the frame
-vector_room : (bs : List Binding) (p : Place) (s : Spot) (l : ℕ) (e : Expression) (is : Starts) (d : ℕ) → p.depth ≡ d → HasWordUpTo VEC_NUMBER (constant_word bs e)
+vector_room : (bs : List Binding) (p : Enclosing) (s : Spot) (l : ℕ) (e : Expression) (is : Starts) (d : ℕ) → p.depth ≡ d → HasWordUpTo VEC_NUMBER (constant_word bs e)
     → AllFine (told_started bs p s (vector l e is)) → d + worth (constant_word bs e) + 2 ≤ FRAME_WORDS
 vector_room bs p s l e is d same u f =
     let xs : List Point = constant bs p.procedure s e ++ at_most VEC_NUMBER s.place (line_of e) vec_out_of_range (constant_word bs e) in
     let h = (all_back xs (pushed p (words_of_start bs e + 1)) (all_front (xs ++ pushed p (words_of_start bs e + 1)) _ f)).0 in
     let v = vector_words (constant_word bs e) u in omega (arith, h, v, same)
 
-vector_rest : (bs : List Binding) (p : Place) (s : Spot) (l : ℕ) (e : Expression) (is : Starts) → Fine (told_started bs p s (vector l e is))
+vector_rest : (bs : List Binding) (p : Enclosing) (s : Spot) (l : ℕ) (e : Expression) (is : Starts) → Fine (told_started bs p s (vector l e is))
     → Fine (told_started bs (deeper (words_of_start bs e + 1) p) (behind_constant e s) is)
 vector_rest bs p s l e is f =
     told_back (constant bs p.procedure s e ++ at_most VEC_NUMBER s.place (line_of e) vec_out_of_range (constant_word bs e) ++ pushed p (words_of_start bs e + 1)) _ f
 
-at_vector : (plan : ℕ → Use) (ts : List Target) (q : ℕ) (bs : List Binding) (p : Place) (s : Spot) (l : ℕ) (e : Expression) (is : Starts) (d : ℕ) → At plan ts q bs p d
+at_vector : (plan : ℕ → Use) (ts : List Target) (q : ℕ) (bs : List Binding) (p : Enclosing) (s : Spot) (l : ℕ) (e : Expression) (is : Starts) (d : ℕ) → At plan ts q bs p d
     → HasWordUpTo VEC_NUMBER (constant_word bs e) → AllFine (told_started bs p s (vector l e is)) → At plan ts q bs (deeper (words_of_start bs e + 1) p) (d + worth (constant_word bs e) + 2)
 at_vector plan ts q bs p s l e is d a u f =
     let much = vector_room bs p s l e is d a.at u f in
     let v = vector_words (constant_word bs e) u in
     at_deeper plan ts q bs p d (words_of_start bs e + 1) (d + worth (constant_word bs e) + 2) a (omega (arith, v)) (omega (arith, much))
 
-started_at : (plan : ℕ → Use) (ts : List Target) (q : ℕ) (bs : List Binding) (p : Place) (s : Spot) (is : Starts) (d : ℕ) → At plan ts q bs p d → d ≤ FRAME_WORDS → SoundStarted bs p s is
+started_at : (plan : ℕ → Use) (ts : List Target) (q : ℕ) (bs : List Binding) (p : Enclosing) (s : Spot) (is : Starts) (d : ℕ) → At plan ts q bs p d → d ≤ FRAME_WORDS → SoundStarted bs p s is
     → Fine (told_started bs p s is) → At plan ts q bs (place_behind bs p is) (behind_starts d (starts_named bs p s is)) × (behind_starts d (starts_named bs p s is) ≤ FRAME_WORDS)
 started_at plan ts q bs p s no_starts d a top h f = (a, top)
 started_at plan ts q bs p s (value e is) d a top h f =
@@ -226,7 +226,7 @@ started_at plan ts q bs p s (vector l e is) d a top h f =
     (vector_room bs p s l e is d a.at h.0 f.all) h.1 (vector_rest bs p s l e is f)
 
 -- the variables of a LET, in a frame of depth m
-variables_mean : (plan : ℕ → Use) (ts : List Target) (q k m : ℕ) (bs : List Binding) (p : Place) (s : Spot) (xs : List Mention) (is : Starts) (d : ℕ) → At plan ts q bs p d → d ≤ FRAME_WORDS → SoundStarted bs p s is
+variables_mean : (plan : ℕ → Use) (ts : List Target) (q k m : ℕ) (bs : List Binding) (p : Enclosing) (s : Spot) (xs : List Mention) (is : Starts) (d : ℕ) → At plan ts q bs p d → d ≤ FRAME_WORDS → SoundStarted bs p s is
     → Fine (told_started bs p s is) → behind_starts d (starts_named bs p s is) ≤ m → AllMean (Known plan ts q k m) (variables_of bs p xs is)
 variables_mean plan ts q k m bs p s [] no_starts d a top h f low = tt
 variables_mean plan ts q k m bs p s [] (value e is) d a top h f low = tt
@@ -247,20 +247,20 @@ variables_mean plan ts q k m bs p s (x ∷ xs) (vector l e is) d a top h f low =
       variables_mean plan ts q k m bs (deeper (words_of_start bs e + 1) p) (behind_constant e s) xs is (d + v + 2) (at_vector plan ts q bs p s l e is d a h.0 f.all) much h.1 (vector_rest bs p s l e is f) low,
     )
 
-one_defined_at : (plan : ℕ → Use) (ts : List Target) (q m : ℕ) (bs : List Binding) (p : Place) (s : Spot) (x : Definition) (d : ℕ) → At plan ts q bs p d → d ≤ FRAME_WORDS → SoundOneDefined bs p s x
+one_defined_at : (plan : ℕ → Use) (ts : List Target) (q m : ℕ) (bs : List Binding) (p : Enclosing) (s : Spot) (x : Definition) (d : ℕ) → At plan ts q bs p d → d ≤ FRAME_WORDS → SoundOneDefined bs p s x
     → Fine (told_one_defined m bs p s x) → At plan ts q bs (place_behind_one_defined bs p x) (behind_definition d (definition_named bs p s x)) × (behind_definition d (definition_named bs p s x) ≤ FRAME_WORDS)
 one_defined_at plan ts q m bs p s (routine l x fs c) d a top h f = (a, top)
 one_defined_at plan ts q m bs p s (function l x fs e) d a top h f = (a, top)
 one_defined_at plan ts q m bs p s (variables l xs is) d a top h f = started_at plan ts q bs p (past (length xs) s) is d a top h (told_back (each_of m s.place xs) _ f)
 
-defined_at : (plan : ℕ → Use) (ts : List Target) (q m : ℕ) (bs : List Binding) (p : Place) (s : Spot) (ds : Definitions) (d : ℕ) → At plan ts q bs p d → d ≤ FRAME_WORDS → SoundDefined bs p s ds
+defined_at : (plan : ℕ → Use) (ts : List Target) (q m : ℕ) (bs : List Binding) (p : Enclosing) (s : Spot) (ds : Definitions) (d : ℕ) → At plan ts q bs p d → d ≤ FRAME_WORDS → SoundDefined bs p s ds
     → Fine (told_defined m bs p s ds) → At plan ts q bs (place_behind_defined bs p ds) (behind_definitions d (definitions_named bs p s ds)) × (behind_definitions d (definitions_named bs p s ds) ≤ FRAME_WORDS)
 defined_at plan ts q m bs p s no_definitions d a top h f = (a, top)
 defined_at plan ts q m bs p s (define x ds) d a top h f =
     let one = one_defined_at plan ts q m bs p s x d a top h.0 (told_front (told_one_defined m bs p s x) _ f) in
     defined_at plan ts q m bs (place_behind_one_defined bs p x) (behind_one_defined x s) ds _ one.0 one.1 h.1 (told_back (told_one_defined m bs p s x) _ f)
 
-all_variables : (plan : ℕ → Use) (ts : List Target) (q k j m : ℕ) (bs : List Binding) (p : Place) (s : Spot) (ds : Definitions) (d : ℕ) → At plan ts q bs p d → d ≤ FRAME_WORDS → SoundDefined bs p s ds
+all_variables : (plan : ℕ → Use) (ts : List Target) (q k j m : ℕ) (bs : List Binding) (p : Enclosing) (s : Spot) (ds : Definitions) (d : ℕ) → At plan ts q bs p d → d ≤ FRAME_WORDS → SoundDefined bs p s ds
     → Fine (told_defined j bs p s ds) → behind_definitions d (definitions_named bs p s ds) ≤ m → AllMean (Known plan ts q k m) (variables_in_scope bs p ds)
 all_variables plan ts q k j m bs p s no_definitions d a top h f low = tt
 all_variables plan ts q k j m bs p s (define (routine l x fs c) ds) d a top h f low =
@@ -289,7 +289,7 @@ at_globals P bs (item l x e is) cs c h =
     at_globals P bs is (bind x (Global (within GLOBAL_NUMBER (constant_word bs e))) cs) c (sees_bind P x (Global (within GLOBAL_NUMBER (constant_word bs e))) cs (c (within GLOBAL_NUMBER (constant_word bs e))) h)
 
 -- the procedures of a LET come into scope
-at_procedures : (plan : ℕ → Use) (ts : List Target) (q : ℕ) (bs : List Binding) (p : Place) (s v : Spot) (ds : Definitions) (d n : ℕ) → At plan ts q bs p d
+at_procedures : (plan : ℕ → Use) (ts : List Target) (q : ℕ) (bs : List Binding) (p : Enclosing) (s v : Spot) (ds : Definitions) (d n : ℕ) → At plan ts q bs p d
     → n + labels_of_definitions (definitions_named (procedures_in_scope (s.number + 1) ds bs) p v ds) ≤ OCODE_LABEL + 1
     → PartsRight plan ts (parts_of_definitions d n (definitions_named (procedures_in_scope (s.number + 1) ds bs) p v ds)) → At plan ts q (procedures_in_scope (s.number + 1) ds bs) p d
 at_procedures plan ts q bs p s v ds d n a high b =
@@ -300,7 +300,7 @@ at_procedures plan ts q bs p s v ds d n a high b =
       low = a.low;
     }
 
-one_declared_at : (plan : ℕ → Use) (ts : List Target) (q : ℕ) (bs : List Binding) (p : Place) (s : Spot) (x : Declaration) (d n : ℕ) → At plan ts q bs p d → d ≤ FRAME_WORDS → 1 ≤ n
+one_declared_at : (plan : ℕ → Use) (ts : List Target) (q : ℕ) (bs : List Binding) (p : Enclosing) (s : Spot) (x : Declaration) (d n : ℕ) → At plan ts q bs p d → d ≤ FRAME_WORDS → 1 ≤ n
     → n + labels_of_declaration (declaration_named bs p s x) ≤ OCODE_LABEL + 1 → SoundOneDeclared bs p s x → Fine (told_one_declared bs p s x) → PartsRight plan ts (parts_of_declaration d n (declaration_named bs p s x))
     → At plan ts q (scope_behind_one bs p s x) (place_behind_one bs p s x) (behind_declaration d (declaration_named bs p s x)) × (behind_declaration d (declaration_named bs p s x) ≤ FRAME_WORDS)
 one_declared_at plan ts q bs p s (constants l sort.Manifest is) d n a top low high h f b =
@@ -324,7 +324,7 @@ one_declared_at plan ts q bs p s (definitions l ds) d n a top low high h f b =
       whole.1,
     )
 
-declared_at : (plan : ℕ → Use) (ts : List Target) (q : ℕ) (bs : List Binding) (p : Place) (s : Spot) (xs : Declarations) (d n : ℕ) → At plan ts q bs p d → d ≤ FRAME_WORDS → 1 ≤ n
+declared_at : (plan : ℕ → Use) (ts : List Target) (q : ℕ) (bs : List Binding) (p : Enclosing) (s : Spot) (xs : Declarations) (d n : ℕ) → At plan ts q bs p d → d ≤ FRAME_WORDS → 1 ≤ n
     → n + labels_of_declarations (declarations_named bs p s xs) ≤ OCODE_LABEL + 1 → SoundDeclared bs p s xs → Fine (told_declared bs p s xs) → PartsRight plan ts (parts_of_declarations d n (declarations_named bs p s xs))
     → At plan ts q (scope_behind bs p s xs) (place_behind_all bs p s xs) (behind_declarations d (declarations_named bs p s xs)) × (behind_declarations d (declarations_named bs p s xs) ≤ FRAME_WORDS)
 declared_at plan ts q bs p s no_declarations d n a top low high h f b = (a, top)
@@ -334,7 +334,7 @@ declared_at plan ts q bs p s (declare x xs) d n a top low high h f b =
     declared_at plan ts q (scope_behind_one bs p s x) (place_behind_one bs p s x) (behind_one_declared x s) xs (behind_declaration d y) (n + labels_of_declaration y) one.0 one.1 (omega (arith, low)) (omega (arith, high)) h.1
     (told_back (told_one_declared bs p s x) _ f) (parts_back plan ts (parts_of_declaration d n y) _ b)
 
-room_at : (plan : ℕ → Use) (ts : List Target) (q : ℕ) (bs : List Binding) (p : Place) (d : ℕ) → At plan ts q bs p d → p.depth + 1 ≤ FRAME_WORDS → d + 1 ≤ FRAME_WORDS
+room_at : (plan : ℕ → Use) (ts : List Target) (q : ℕ) (bs : List Binding) (p : Enclosing) (d : ℕ) → At plan ts q bs p d → p.depth + 1 ≤ FRAME_WORDS → d + 1 ≤ FRAME_WORDS
 room_at plan ts q bs p d a h = let same = a.at in omega (arith, same, h)
 
 -- parts one behind the other
@@ -351,7 +351,7 @@ three_good plan ts A B C xs ys zs ps qs us ms ns os one two three f b r =
     (h.0, h.1, three (told_back (xs ++ ys) zs f) (parts_back plan ts (ps ++ qs) us b) (right_back plan (ms ++ ns) os r))
 
 -- the depth of an operand, by what is told of it
-at_operand : (plan : ℕ → Use) (ts : List Target) (q : ℕ) (bs : List Binding) (p : Place) (u : Spot) (e : Expression) (d i k : ℕ) → At plan ts q bs p d → d + i ≡ k → Fine (told Value bs (deeper i p) u e)
+at_operand : (plan : ℕ → Use) (ts : List Target) (q : ℕ) (bs : List Binding) (p : Enclosing) (u : Spot) (e : Expression) (d i k : ℕ) → At plan ts q bs p d → d + i ≡ k → Fine (told Value bs (deeper i p) u e)
     → At plan ts q bs (deeper i p) k
 at_operand plan ts q bs p u e d i k a same f =
     let much = told_room Value bs (deeper i p) u e tt f.all in let at = a.at in at_deeper plan ts q bs p d i k a same (omega (arith, much, at, same))
@@ -371,7 +371,7 @@ values_good plan ts q d n j (t.onto x xs) y ys one others r =
 
 -- EACH NODE of a procedure
 mutual
-  pub good_term : (plan : ℕ → Use) (ts : List Target) (q : ℕ) (bs : List Binding) (p : Place) (s : Spot) (e : Expression) (d n : ℕ) → At plan ts q bs p d → 1 ≤ n → n + labels (term_named bs p s e) ≤ OCODE_LABEL + 1
+  pub good_term : (plan : ℕ → Use) (ts : List Target) (q : ℕ) (bs : List Binding) (p : Enclosing) (s : Spot) (e : Expression) (d n : ℕ) → At plan ts q bs p d → 1 ≤ n → n + labels (term_named bs p s e) ≤ OCODE_LABEL + 1
       → Sound Value bs p s e → Fine (told Value bs p s e) → PartsRight plan ts (parts d n (term_named bs p s e)) → AllRight plan (marks q d n (term_named bs p s e)) → Good plan ts q d (term_named bs p s e)
   good_term plan ts q bs p s (name l x) d n a low high h f b r =
       (name_pushed plan ts q p.procedure d p.depth (bound_in bs x) h (a.sees x), room_at plan ts q bs p d a (told_room Value bs p s (name l x) tt f.all))
@@ -398,7 +398,7 @@ mutual
       (λ i w m. good_term plan ts q bs p v y d (j + labels g) a (omega (arith, low)) (omega (arith, high)) h.2 i w m) f b r.1.1
   good_term plan ts q bs p s (apply l m e es) d n a low high h f b r =
       let u : Spot = (past 1 (behind e s)) in
-      let z : Place = deeper (size es + 2) p in
+      let z : Enclosing = deeper (size es + 2) p in
       let v = term_named bs z s e in
       let vs = terms_named 1 bs (deeper 2 p) u es in
       let k = d + 2 + count vs in
@@ -413,7 +413,7 @@ mutual
       )
   good_term plan ts q bs p s (valof l c) d n a low high h f b r =
       let cs = labels_in_scope p.procedure (s.number + 1) (labels_of c) bs in
-      let g : Place = labelled s.number (valued p) in
+      let g : Enclosing = labelled s.number (valued p) in
       let u : Spot = onward 1 (1 + length (labels_of c)) s in
       let much = room_at plan ts q bs p d a (all_back (told_done cs g u c) (pushed p 1) f.all).0 in
       let inner : At plan ts q bs g d = record { sees = a.sees; at = a.at; low = a.low } in
@@ -438,7 +438,7 @@ mutual
       two_good plan ts _ _ (told Value bs p s x) _ (parts d n g) _ (marks q d n g) _ (λ i w k. good_term plan ts q bs p s x d n a low (omega (arith, high)) h.0 i w k)
       (λ i w k. good_term plan ts q bs (deeper 1 p) u y (d + 1) (n + labels g) (at_operand plan ts q bs p u y d 1 (d + 1) a refl i) (omega (arith, low)) (omega (arith, high)) h.1 i w k) f b r
 
-  good_each : (plan : ℕ → Use) (ts : List Target) (q : ℕ) (bs : List Binding) (p : Place) (s : Spot) (es : Expressions) (d n : ℕ) → At plan ts q bs p d → 1 ≤ n
+  good_each : (plan : ℕ → Use) (ts : List Target) (q : ℕ) (bs : List Binding) (p : Enclosing) (s : Spot) (es : Expressions) (d n : ℕ) → At plan ts q bs p d → 1 ≤ n
       → n + labels_each (terms_named 1 bs p s es) ≤ OCODE_LABEL + 1 → SoundEach 1 bs p s es → Fine (told_each 1 bs p s es) → PartsRight plan ts (parts_each d n (terms_named 1 bs p s es))
       → AllRight plan (marks_each q d n (terms_named 1 bs p s es)) → GoodEach plan ts q d (terms_named 1 bs p s es)
   good_each plan ts q bs p s none d n a low high h f b r = tt
@@ -449,7 +449,7 @@ mutual
       two_good plan ts _ _ xs _ (parts d n v) _ (marks q d n v) _ (λ i w k. good_term plan ts q bs p s e d n a low (omega (arith, high)) h.0 i w k)
       (λ i w k. good_each plan ts q bs (deeper 1 p) (behind e s) es (d + 1) (n + labels v) (at_deeper plan ts q bs p d 1 (d + 1) a refl (omega (arith, much))) (omega (arith, low)) (omega (arith, high)) h.1 i w k) f b r
 
-  good_if : (plan : ℕ → Use) (ts : List Target) (q : ℕ) (bs : List Binding) (p : Place) (s : Spot) (e : Expression) (d n : ℕ) (z : Bool) → At plan ts q bs p d → 1 ≤ n
+  good_if : (plan : ℕ → Use) (ts : List Target) (q : ℕ) (bs : List Binding) (p : Enclosing) (s : Spot) (e : Expression) (d n : ℕ) (z : Bool) → At plan ts q bs p d → 1 ≤ n
       → n + labels_if (condition_named bs p s e) ≤ OCODE_LABEL + 1 → Sound Truth bs p s e → Fine (told Truth bs p s e) → PartsRight plan ts (parts_if d n (condition_named bs p s e))
       → AllRight plan (marks_if q d n (condition_named bs p s e) z) → GoodIf plan ts q d (condition_named bs p s e)
   good_if plan ts q bs p s (name l x) d n z a low high h f b r =
@@ -477,7 +477,7 @@ mutual
       (λ i w m. good_term plan ts q bs p v y d (j + labels g) a (omega (arith, low)) (omega (arith, high)) h.2 i w m) f b r.1.1
   good_if plan ts q bs p s (apply l m e es) d n z a low high h f b r =
       let u : Spot = (past 1 (behind e s)) in
-      let z : Place = deeper (size es + 2) p in
+      let z : Enclosing = deeper (size es + 2) p in
       let v = term_named bs z s e in
       let vs = terms_named 1 bs (deeper 2 p) u es in
       let k = d + 2 + count vs in
@@ -492,7 +492,7 @@ mutual
       )
   good_if plan ts q bs p s (valof l c) d n z a low high h f b r =
       let cs = labels_in_scope p.procedure (s.number + 1) (labels_of c) bs in
-      let g : Place = labelled s.number (valued p) in
+      let g : Enclosing = labelled s.number (valued p) in
       let u : Spot = onward 1 (1 + length (labels_of c)) s in
       let much = room_at plan ts q bs p d a (all_back (told_done cs g u c) (pushed p 1) f.all).0 in
       let inner : At plan ts q bs g d = record { sees = a.sees; at = a.at; low = a.low } in
@@ -522,7 +522,7 @@ mutual
       (λ i w k. good_term plan ts q bs (deeper 1 p) u e (d + 1) (n + labels g) (at_operand plan ts q bs p u e d 1 (d + 1) a refl i) (omega (arith, low)) (omega (arith, high)) h.1 i w k) f b r
 
   -- what is asked for its address
-  good_at : (plan : ℕ → Use) (ts : List Target) (q : ℕ) (bs : List Binding) (p : Place) (s : Spot) (g : Role) (e : Expression) (d n : ℕ) → At plan ts q bs p d → 1 ≤ n
+  good_at : (plan : ℕ → Use) (ts : List Target) (q : ℕ) (bs : List Binding) (p : Enclosing) (s : Spot) (g : Role) (e : Expression) (d n : ℕ) → At plan ts q bs p d → 1 ≤ n
       → n + labels_at (lvalue_named bs p s e) ≤ OCODE_LABEL + 1 → addressed bs e ≡ true → Sound g bs p s e → Fine (told g bs p s e) → PartsRight plan ts (parts_at d n (lvalue_named bs p s e))
       → AllRight plan (marks_at q d n (lvalue_named bs p s e)) → GoodAt plan ts q d (lvalue_named bs p s e)
   good_at plan ts q bs p s g (name l x) d n a low high i h f b r = name_held plan ts q p.procedure d p.depth (bound_in bs x) h i (a.sees x)
@@ -536,7 +536,7 @@ mutual
   good_at plan ts q bs p s g e d n a low high i h f b r = absurd (false≢true i)
 
   -- what is stored into, with a value above
-  good_onto : (plan : ℕ → Use) (ts : List Target) (q : ℕ) (bs : List Binding) (p : Place) (s : Spot) (g : Role) (e : Expression) (d n : ℕ) → At plan ts q bs p d → d + 1 ≤ FRAME_WORDS → 1 ≤ n
+  good_onto : (plan : ℕ → Use) (ts : List Target) (q : ℕ) (bs : List Binding) (p : Enclosing) (s : Spot) (g : Role) (e : Expression) (d n : ℕ) → At plan ts q bs p d → d + 1 ≤ FRAME_WORDS → 1 ≤ n
       → n + labels_at (lvalue_named bs (deeper 1 p) s e) ≤ OCODE_LABEL + 1 → assigned bs e ≡ true → Sound g bs (deeper 1 p) s e → Fine (told g bs (deeper 1 p) s e)
       → PartsRight plan ts (parts_at (d + 1) n (lvalue_named bs (deeper 1 p) s e)) → AllRight plan (marks_onto q (d + 1) n (lvalue_named bs (deeper 1 p) s e))
       → GoodOnto plan ts q d (lvalue_named bs (deeper 1 p) s e)
@@ -545,14 +545,14 @@ mutual
   good_onto plan ts q bs p s g (unary l sign.Contents e) d n a top low high i h f b r =
       good_term plan ts q bs (deeper 1 p) (past 1 s) e (d + 1) n (at_deeper plan ts q bs p d 1 (d + 1) a refl (omega (arith, top))) low high h.1 f b r
   good_onto plan ts q bs p s g (binary l o.Subscript m x y) d n a top low high i h f b r =
-      let z : Place = deeper 1 p in
+      let z : Enclosing = deeper 1 p in
       let above = at_deeper plan ts q bs p d 1 (d + 1) a refl (omega (arith, top)) in
       let u : Spot = past 1 (behind x s) in
       let v = term_named bs z s x in
       two_good plan ts _ _ (told Value bs z s x) _ (parts (d + 1) n v) _ (marks q (d + 1) n v) _ (λ j w k. good_term plan ts q bs z s x (d + 1) n above low (omega (arith, high)) h.0 j w k)
       (λ j w k. good_term plan ts q bs (deeper 1 z) u y (d + 1 + 1) (n + labels v) (at_operand plan ts q bs z u y (d + 1) 1 (d + 1 + 1) above refl j) (omega (arith, low)) (omega (arith, high)) h.1 j w k) f b r
   good_onto plan ts q bs p s g (binary l o.Byte m x y) d n a top low high i h f b r =
-      let z : Place = deeper 1 p in
+      let z : Enclosing = deeper 1 p in
       let above = at_deeper plan ts q bs p d 1 (d + 1) a refl (omega (arith, top)) in
       let u : Spot = past 1 (behind x s) in
       let v = term_named bs z s x in
@@ -561,7 +561,7 @@ mutual
   good_onto plan ts q bs p s g e d n a top low high i h f b r = absurd (false≢true i)
 
   -- an assignment: values and destinations by turns
-  good_from : (plan : ℕ → Use) (ts : List Target) (q : ℕ) (bs : List Binding) (p : Place) (s : Spot) (es : Expressions) (d n m : ℕ) (xs : t.Lvalues) → At plan ts q bs p d → 1 ≤ n
+  good_from : (plan : ℕ → Use) (ts : List Target) (q : ℕ) (bs : List Binding) (p : Enclosing) (s : Spot) (es : Expressions) (d n m : ℕ) (xs : t.Lvalues) → At plan ts q bs p d → 1 ≤ n
       → n + labels_each (terms_named 0 bs p s es) ≤ OCODE_LABEL + 1 → SoundEach 0 bs p s es → Fine (told_each 0 bs p s es) → PartsRight plan ts (parts_from d n (terms_named 0 bs p s es))
       → AllRight plan (marks_by_turns (marks_from q d n (terms_named 0 bs p s es)) (marks_all_onto q (d + 1) m xs)) → GoodFrom plan ts q d (terms_named 0 bs p s es) xs
   good_from plan ts q bs p s none d n m xs a low high h f b r = tt
@@ -575,14 +575,14 @@ mutual
             (told_back (told Value bs p s e) _ f) (parts_back plan ts (parts d n v) _ b) (right_back plan front _ r),
       )
 
-  good_all_onto : (plan : ℕ → Use) (ts : List Target) (q : ℕ) (bs : List Binding) (p : Place) (s : Spot) (xs : Expressions) (d n m : ℕ) (es : t.Terms) → At plan ts q bs p d → d + 1 ≤ FRAME_WORDS → 1 ≤ n
+  good_all_onto : (plan : ℕ → Use) (ts : List Target) (q : ℕ) (bs : List Binding) (p : Enclosing) (s : Spot) (xs : Expressions) (d n m : ℕ) (es : t.Terms) → At plan ts q bs p d → d + 1 ≤ FRAME_WORDS → 1 ≤ n
       → n + labels_onto (lvalues_named bs (deeper 1 p) s xs) ≤ OCODE_LABEL + 1 → SoundDestinations bs (deeper 1 p) s xs → Fine (told_destinations bs (deeper 1 p) s xs)
       → PartsRight plan ts (parts_onto (d + 1) n (lvalues_named bs (deeper 1 p) s xs))
       → AllRight plan (marks_by_turns (marks_from q d m es) (marks_all_onto q (d + 1) n (lvalues_named bs (deeper 1 p) s xs))) → GoodAllOnto plan ts q d (lvalues_named bs (deeper 1 p) s xs) es
   good_all_onto plan ts q bs p s none d n m es a top low high h f b r = tt
   good_all_onto plan ts q bs p s (more x xs) d n m t.none a top low high h f b r = tt
   good_all_onto plan ts q bs p s (more x xs) d n m (t.more e es) a top low high h f b r =
-      let z : Place = deeper 1 p in
+      let z : Enclosing = deeper 1 p in
       let v = lvalue_named bs z s x in
       let us : List Point = unless (assigned bs x) (at s.place (line_of x) not_assignable) in
       let vs : List Point = told (Destination false (line_of x)) bs z s x in
@@ -594,13 +594,13 @@ mutual
       )
 
   -- a command
-  pub good_in : (plan : ℕ → Use) (ts : List Target) (q : ℕ) (bs : List Binding) (p : Place) (s : Spot) (c : Action) (d n : ℕ) → At plan ts q bs p d → d ≤ FRAME_WORDS → 1 ≤ n
+  pub good_in : (plan : ℕ → Use) (ts : List Target) (q : ℕ) (bs : List Binding) (p : Enclosing) (s : Spot) (c : Action) (d n : ℕ) → At plan ts q bs p d → d ≤ FRAME_WORDS → 1 ≤ n
       → n + labels_in (command_named bs p s c) ≤ OCODE_LABEL + 1 → SoundDone bs p s c → Fine (told_done bs p s c) → PartsRight plan ts (parts_in d n (command_named bs p s c))
       → AllRight plan (marks_in q d n (command_named bs p s c)) → GoodIn plan ts q (exits p) d (command_named bs p s c)
   good_in plan ts q bs p s empty d n a top low high h f b r = tt
   good_in plan ts q bs p s (assign l xs none) d n a top low high h f b r = (no_values plan ts q d (lvalues_named bs (deeper 1 p) s xs), tt)
   good_in plan ts q bs p s (assign l xs (more e es)) d n a top low high h f b r =
-      let z : Place = deeper 1 p in
+      let z : Enclosing = deeper 1 p in
       let u : Spot = behind_each xs s in
       let v = lvalues_named bs z s xs in
       let j = n + labels_onto v in
@@ -618,7 +618,7 @@ mutual
       )
   good_in plan ts q bs p s (call l e es) d n a top low high h f b r =
       let u : Spot = behind e s in
-      let z : Place = deeper (size es + 2) p in
+      let z : Enclosing = deeper (size es + 2) p in
       let v = term_named bs z s e in
       let vs = terms_named 1 bs (deeper 2 p) u es in
       let k = d + 2 + count vs in
@@ -663,7 +663,7 @@ mutual
       )
   good_in plan ts q bs p s (for_loop l x e y k c) d n a top low high h f b r =
       let u : Spot = onward (symbols_each k) 0 (behind y (behind e s)) in
-      let g : Place = labelled u.number (looping (deeper 2 p)) in
+      let g : Enclosing = labelled u.number (looping (deeper 2 p)) in
       let cs = bind x.letters (Variable p.procedure p.depth) bs in
       let ds = labels_in_scope p.procedure (u.number + 1) (labels_of c) cs in
       let i : Spot = numbered (1 + length (labels_of c)) u in
@@ -697,7 +697,7 @@ mutual
         good_in plan ts q ds g i c (d + 2) (j + labels w) entered (omega (arith, much, at)) (omega (arith, low)) (omega (arith, high)) h.3 (told_back (start ++ limit ++ steps ++ pushed p 4) body f) owns jumps,
       )
   good_in plan ts q bs p s (switch l e c) d n a top low high h f b r =
-      let g : Place = switching (behind e s).number p in
+      let g : Enclosing = switching (behind e s).number p in
       let u : Spot = numbered 1 (behind e s) in
       let v = term_named bs p s e in
       let inner : At plan ts q bs g d = record { sees = a.sees; at = a.at; low = a.low } in
@@ -717,8 +717,8 @@ mutual
       good_through plan ts q bs p s cs d n a top low (omega (arith, high)) h f (subst (λ (m : ℕ). PartsRight plan ts (parts_through d m (commands_named bs p s cs))) (no_more n) b) r
   good_in plan ts q bs p s (block l (declare x xs) cs) d n a top low high h f b r =
       let u : Spot = behind_declared (declare x xs) s in
-      let g : Place = place_behind_all bs p s (declare x xs) in
-      let z : Place = labelled u.number g in
+      let g : Enclosing = place_behind_all bs p s (declare x xs) in
+      let z : Enclosing = labelled u.number g in
       let es = scope_behind bs p s (declare x xs) in
       let ds = labels_in_scope p.procedure (u.number + 1) (labels_of_each cs) es in
       let i : Spot = numbered (1 + length (labels_of_each cs)) u in
@@ -756,7 +756,7 @@ mutual
       (λ i w k. good_if plan ts q bs p (behind_done c s) e d (n + 3 + labels_in g) z a (omega (arith, low)) (omega (arith, high)) h.1 i w k) f b r.1.1.1
   good_in plan ts q bs p s _ d n a top low high h f b r = tt
 
-  good_through : (plan : ℕ → Use) (ts : List Target) (q : ℕ) (bs : List Binding) (p : Place) (s : Spot) (cs : Actions) (d n : ℕ) → At plan ts q bs p d → d ≤ FRAME_WORDS → 1 ≤ n
+  good_through : (plan : ℕ → Use) (ts : List Target) (q : ℕ) (bs : List Binding) (p : Enclosing) (s : Spot) (cs : Actions) (d n : ℕ) → At plan ts q bs p d → d ≤ FRAME_WORDS → 1 ≤ n
       → n + labels_through (commands_named bs p s cs) ≤ OCODE_LABEL + 1 → SoundDoneEach bs p s cs → Fine (told_done_each bs p s cs) → PartsRight plan ts (parts_through d n (commands_named bs p s cs))
       → AllRight plan (marks_through q d n (commands_named bs p s cs)) → GoodThrough plan ts q (exits p) d (commands_named bs p s cs)
   good_through plan ts q bs p s no_actions d n a top low high h f b r = tt
@@ -765,7 +765,7 @@ mutual
       two_good plan ts _ _ (told_done bs p s c) _ (parts_in d n g) _ (marks_in q d n g) _ (λ i w k. good_in plan ts q bs p s c d n a top low (omega (arith, high)) h.0 i w k)
       (λ i w k. good_through plan ts q bs p (behind_done c s) cs d (n + labels_in g) a top (omega (arith, low)) (omega (arith, high)) h.1 i w k) f b r
 
-  good_declared : (plan : ℕ → Use) (ts : List Target) (q : ℕ) (bs : List Binding) (p : Place) (s : Spot) (xs : Declarations) (d n : ℕ) → At plan ts q bs p d → d ≤ FRAME_WORDS → 1 ≤ n
+  good_declared : (plan : ℕ → Use) (ts : List Target) (q : ℕ) (bs : List Binding) (p : Enclosing) (s : Spot) (xs : Declarations) (d n : ℕ) → At plan ts q bs p d → d ≤ FRAME_WORDS → 1 ≤ n
       → n + labels_of_declarations (declarations_named bs p s xs) ≤ OCODE_LABEL + 1 → SoundDeclared bs p s xs → Fine (told_declared bs p s xs) → PartsRight plan ts (parts_of_declarations d n (declarations_named bs p s xs))
       → AllRight plan (marks_of_declarations q d n (declarations_named bs p s xs)) → GoodDeclared plan ts q d (declarations_named bs p s xs)
   good_declared plan ts q bs p s no_declarations d n a top low high h f b r = tt
@@ -779,7 +779,7 @@ mutual
             (told_back (told_one_declared bs p s x) _ f) (parts_back plan ts (parts_of_declaration d n y) _ b) (right_back plan (marks_of_declaration q d n y) _ r),
       )
 
-  good_one_declared : (plan : ℕ → Use) (ts : List Target) (q : ℕ) (bs : List Binding) (p : Place) (s : Spot) (x : Declaration) (d n : ℕ) → At plan ts q bs p d → d ≤ FRAME_WORDS → 1 ≤ n
+  good_one_declared : (plan : ℕ → Use) (ts : List Target) (q : ℕ) (bs : List Binding) (p : Enclosing) (s : Spot) (x : Declaration) (d n : ℕ) → At plan ts q bs p d → d ≤ FRAME_WORDS → 1 ≤ n
       → n + labels_of_declaration (declaration_named bs p s x) ≤ OCODE_LABEL + 1 → SoundOneDeclared bs p s x → Fine (told_one_declared bs p s x) → PartsRight plan ts (parts_of_declaration d n (declaration_named bs p s x))
       → AllRight plan (marks_of_declaration q d n (declaration_named bs p s x)) → GoodOneDeclared plan ts q d (declaration_named bs p s x)
   good_one_declared plan ts q bs p s (constants l sort.Manifest is) d n a top low high h f b r = tt
@@ -788,7 +788,7 @@ mutual
       good_defined plan ts q s.number (procedures_in_scope (s.number + 1) ds bs) p v ds d n (at_procedures plan ts q bs p s v ds d n a high b) top low high h f b r
   good_one_declared plan ts q bs p s _ d n a top low high h f b r = tt
 
-  good_defined : (plan : ℕ → Use) (ts : List Target) (q m : ℕ) (bs : List Binding) (p : Place) (s : Spot) (ds : Definitions) (d n : ℕ) → At plan ts q bs p d → d ≤ FRAME_WORDS → 1 ≤ n
+  good_defined : (plan : ℕ → Use) (ts : List Target) (q m : ℕ) (bs : List Binding) (p : Enclosing) (s : Spot) (ds : Definitions) (d n : ℕ) → At plan ts q bs p d → d ≤ FRAME_WORDS → 1 ≤ n
       → n + labels_of_definitions (definitions_named bs p s ds) ≤ OCODE_LABEL + 1 → SoundDefined bs p s ds → Fine (told_defined m bs p s ds) → PartsRight plan ts (parts_of_definitions d n (definitions_named bs p s ds))
       → AllRight plan (marks_of_definitions q d n (definitions_named bs p s ds)) → GoodDefined plan ts q d (definitions_named bs p s ds)
   good_defined plan ts q m bs p s no_definitions d n a top low high h f b r = tt
@@ -801,7 +801,7 @@ mutual
             (told_back (told_one_defined m bs p s x) _ f) (parts_back plan ts (parts_of_definition d n y) _ b) (right_back plan (marks_of_definition q d n y) _ r),
       )
 
-  good_one_defined : (plan : ℕ → Use) (ts : List Target) (q m : ℕ) (bs : List Binding) (p : Place) (s : Spot) (x : Definition) (d n : ℕ) → At plan ts q bs p d → d ≤ FRAME_WORDS → 1 ≤ n
+  good_one_defined : (plan : ℕ → Use) (ts : List Target) (q m : ℕ) (bs : List Binding) (p : Enclosing) (s : Spot) (x : Definition) (d n : ℕ) → At plan ts q bs p d → d ≤ FRAME_WORDS → 1 ≤ n
       → n + labels_of_definition (definition_named bs p s x) ≤ OCODE_LABEL + 1 → SoundOneDefined bs p s x → Fine (told_one_defined m bs p s x) → PartsRight plan ts (parts_of_definition d n (definition_named bs p s x))
       → AllRight plan (marks_of_definition q d n (definition_named bs p s x)) → GoodOneDefined plan ts q d (definition_named bs p s x)
   good_one_defined plan ts q m bs p s (variables l xs is) d n a top low high h f b r =
@@ -809,7 +809,7 @@ mutual
   good_one_defined plan ts q m bs p s (routine l x fs c) d n a top low high h f b r = tt
   good_one_defined plan ts q m bs p s (function l x fs e) d n a top low high h f b r = tt
 
-  good_started : (plan : ℕ → Use) (ts : List Target) (q : ℕ) (bs : List Binding) (p : Place) (s : Spot) (is : Starts) (d n : ℕ) → At plan ts q bs p d → d ≤ FRAME_WORDS → 1 ≤ n
+  good_started : (plan : ℕ → Use) (ts : List Target) (q : ℕ) (bs : List Binding) (p : Enclosing) (s : Spot) (is : Starts) (d n : ℕ) → At plan ts q bs p d → d ≤ FRAME_WORDS → 1 ≤ n
       → n + labels_of_starts (starts_named bs p s is) ≤ OCODE_LABEL + 1 → SoundStarted bs p s is → Fine (told_started bs p s is) → PartsRight plan ts (parts_of_starts d n (starts_named bs p s is))
       → AllRight plan (marks_of_starts q d n (starts_named bs p s is)) → GoodStarted plan ts q d (starts_named bs p s is)
   good_started plan ts q bs p s no_starts d n a top low high h f b r = tt

@@ -1,6 +1,6 @@
 -- Filling gives the named tree: of a node that is sound, going on from what is told of it takes just the meanings and the words that
 -- stand there, and gives its named tree.
-use Rattle.bk_trans.proofs.Words.{◌≡◌, ℕ, ◌+◌, ◌==◌, Bool, true, false, cond, Option, Some, None, List, [], ◌∷◌, ◌++◌, length, refl, sym, ap, ◌∙◌, false≢true, Mention, Expression, Expressions, Action, Actions, Declaration, Declarations, Items, Definition, Definitions, Starts, name, number, parens, unary, binary, choice, apply, valof, table, none, more, empty, assign, call, goto, label, case_of, default, when, test, while, for_loop, switch, result, simple, block, repeat, repeat_while, no_actions, also, constants, definitions, no_declarations, declare, no_items, item, routine, function, variables, no_definitions, define, no_starts, value, vector, line_of, size, GLOBAL_NUMBER, VEC_NUMBER, Bound, Constant, Global, Static, Variable, Label, Place, Role, Value, Truth, Address, Destination, Wrong, dynamic_name, label_not_here, not_assignable, no_result_or_return, global_out_of_range, vec_out_of_range, text_of, Binding, bound_in, bind, has_address, constant_word, kept, deeper, looping, switching, labelled, valued, called, outermost, labels_of, labels_of_each, with_formals, parenthesised, words_of_start, Spot, procedures_in, onward, past, numbered, behind, behind_each, behind_done, behind_declared, behind_one_declared, behind_one_defined, behind_constant, symbols_each, beginning, Point, meaning, word, depth, wrong, claim, at, deepest, without_depths, meanings_of, words_of, labels_in_scope, procedures_in_scope, place_behind_one_defined, scope_behind_one, place_behind_one, scope_behind, place_behind_all, unless, used_at, gone_to, its_word, constant, each_constant, at_most, addressed, assigned, prefixed, depth_named, pushed, chosen_at, defaulted_at, single_at, each_of, manifest_items, static_items, global_items, its_meaning, its_global, its_frame, inside_procedure, procedure, told, told_each, told_destinations, told_done, told_done_each, told_declared, told_one_declared, told_defined, told_one_defined, told_started, told_of, meanings, words, Usable, GoesTo, Callable, HaveWords, ManifestsSound, StaticsSound, GlobalsSound, Sound, SoundEach, SoundDestinations, SoundDone, SoundDoneEach, SoundDeclared, SoundOneDeclared, SoundDefined, SoundOneDefined, SoundStarted, SoundSection}
+use Rattle.bk_trans.proofs.Words.{◌≡◌, ℕ, ◌+◌, ◌==◌, Bool, true, false, cond, Option, Some, None, List, [], ◌∷◌, ◌++◌, length, refl, sym, ap, ◌∙◌, false≢true, Mention, Expression, Expressions, Action, Actions, Declaration, Declarations, Items, Definition, Definitions, Starts, name, number, parens, unary, binary, choice, apply, valof, table, none, more, empty, assign, call, goto, label, case_of, default, when, test, while, for_loop, switch, result, simple, block, repeat, repeat_while, no_actions, also, constants, definitions, no_declarations, declare, no_items, item, routine, function, variables, no_definitions, define, no_starts, value, vector, line_of, size, GLOBAL_NUMBER, VEC_NUMBER, Bound, Constant, Global, Static, Variable, Label, Enclosing, Role, Value, Truth, Address, Destination, Wrong, dynamic_name, label_not_here, not_assignable, no_result_or_return, global_out_of_range, vec_out_of_range, text_of, Binding, bound_in, bind, has_address, constant_word, kept, deeper, looping, switching, labelled, valued, called, outermost, labels_of, labels_of_each, with_formals, parenthesised, words_of_start, Spot, procedures_in, onward, past, numbered, behind, behind_each, behind_done, behind_declared, behind_one_declared, behind_one_defined, behind_constant, symbols_each, beginning, Point, meaning, word, depth, wrong, claim, at, deepest, without_depths, meanings_of, words_of, labels_in_scope, procedures_in_scope, place_behind_one_defined, scope_behind_one, place_behind_one, scope_behind, place_behind_all, unless, used_at, gone_to, its_word, constant, each_constant, at_most, addressed, assigned, prefixed, depth_named, pushed, chosen_at, defaulted_at, single_at, each_of, manifest_items, static_items, global_items, its_meaning, its_global, its_frame, inside_procedure, procedure, told, told_each, told_destinations, told_done, told_done_each, told_declared, told_one_declared, told_defined, told_one_defined, told_started, told_of, meanings, words, Usable, GoesTo, Callable, HaveWords, ManifestsSound, StaticsSound, GlobalsSound, Sound, SoundEach, SoundDestinations, SoundDone, SoundDoneEach, SoundDeclared, SoundOneDeclared, SoundDefined, SoundOneDefined, SoundStarted, SoundSection}
 use Rattle.std.proofs.lemmas.Bool.{eq-eqb}
 use Rattle.bk_tree.specs.declared.tree.Operator.TheVariants as o
 use Rattle.bk_tree.specs.declared.tree.Prefix.TheVariants as q
@@ -71,7 +71,7 @@ quiet_depth : (x : Bool) (d : ℕ) → Quiet (unless x (depth d ∷ []))
 quiet_depth true d g = refl
 quiet_depth false d g = refl
 
-quiet_depth_named : (r : Role) (p : Place) (y : Option Bound) → Quiet (depth_named r p y)
+quiet_depth_named : (r : Role) (p : Enclosing) (y : Option Bound) → Quiet (depth_named r p y)
 quiet_depth_named Value p y g = refl
 quiet_depth_named (Destination x l) p y g = quiet_depth (has_address y) (p.depth + 1) g
 quiet_depth_named _ p y g = refl
@@ -89,7 +89,7 @@ quiet_defaulted : (a : Option ℕ) (n l : ℕ) → Quiet (defaulted_at a n l)
 quiet_defaulted None n l g = refl
 quiet_defaulted (Some m) n l g = refl
 
-quiet_single : (p : Place) (n l : ℕ) (x : Simple) → Quiet (single_at p n l x)
+quiet_single : (p : Enclosing) (n l : ℕ) (x : Simple) → Quiet (single_at p n l x)
 quiet_single p n l w.Break g = quiet_unless p.in_loop n l _ g
 quiet_single p n l w.Loop g = quiet_unless p.in_loop n l _ g
 quiet_single p n l w.EndCase g = quiet_unless p.in_switch n l _ g
@@ -131,7 +131,7 @@ used_filled k d n l x (Some (Variable j i)) g h =
     ap (λ c. f.meaning (given (cond c (meaning (Variable j i) ∷ []) (at n l (dynamic_name (text_of x)))) g)) (same j k h.0)
 used_filled k d n l x (Some (Label j i)) g h = elim h [ ]
 
-named_filled : (r : Role) (p : Place) (d n l : ℕ) (x : List ℕ) (y : Option Bound) (g : Supply)
+named_filled : (r : Role) (p : Enclosing) (d n l : ℕ) (x : List ℕ) (y : Option Bound) (g : Supply)
     → Usable p.procedure d y → f.meaning (given (used_at p.procedure n l x y ++ depth_named r p y) g) ≡ filled (meant y) g
 named_filled r p d n l x y g h =
     ap f.meaning (skip_last (used_at p.procedure n l x y) (depth_named r p y) g (quiet_depth_named r p y)) ∙ used_filled p.procedure d n l x y g h
@@ -220,7 +220,7 @@ no_truth : {A : Type 0} → false ≡ true → A
 no_truth h = absurd (false≢true h)
 
 mutual
-  term_filled : (bs : List Binding) (p : Place) (s : Spot) (e : Expression) (g : Supply) → Sound Value bs p s e → f.term e
+  term_filled : (bs : List Binding) (p : Enclosing) (s : Spot) (e : Expression) (g : Supply) → Sound Value bs p s e → f.term e
       (given (told Value bs p s e) g) ≡ filled (term_named bs p s e) g
   term_filled bs p s (name l x) g h = ap (f.one t.named) (named_filled Value p p.depth s.place l x (bound_in bs x) g h)
   term_filled bs p s (number l n) g h = refl
@@ -261,7 +261,7 @@ mutual
       (term_filled bs (deeper 1 p) (past 1 (behind a s)) b g h.1)
   term_filled bs p s _ g h = refl
 
-  condition_filled : (bs : List Binding) (p : Place) (s : Spot) (e : Expression) (g : Supply) → Sound Truth bs p s e → f.condition e
+  condition_filled : (bs : List Binding) (p : Enclosing) (s : Spot) (e : Expression) (g : Supply) → Sound Truth bs p s e → f.condition e
       (given (told Truth bs p s e) g) ≡ filled (condition_named bs p s e) g
   condition_filled bs p s (name l x) g h = ap (f.one t.holds) (ap (f.one t.named) (named_filled Truth p p.depth s.place l x (bound_in bs x) g h))
   condition_filled bs p s (number l n) g h = refl
@@ -301,7 +301,7 @@ mutual
       (term_filled bs (deeper 1 p) (past 1 (behind a s)) b g h.1))
   condition_filled bs p s _ g h = refl
 
-  lvalue_filled : (bs : List Binding) (p : Place) (s : Spot) (r : Role) (e : Expression) (g : Supply) → assigned bs e ≡ true → Sound r bs p s e →
+  lvalue_filled : (bs : List Binding) (p : Enclosing) (s : Spot) (r : Role) (e : Expression) (g : Supply) → assigned bs e ≡ true → Sound r bs p s e →
       f.lvalue e (given (told r bs p s e) g) ≡ filled (lvalue_named bs p s e) g
   lvalue_filled bs p s r (name l x) g i h = ap (f.one t.word) (named_filled r p p.depth s.place l x (bound_in bs x) g h)
   lvalue_filled bs p s r (parens l e) g i h = ap (f.one t.inside) (lvalue_filled bs p (past 1 s) (parenthesised r) e g i h)
@@ -316,7 +316,7 @@ mutual
       (term_filled bs (deeper 1 p) (past 1 (behind a s)) b g h.1)
   lvalue_filled bs p s r e g i h = no_truth i
 
-  lvalues_filled : (bs : List Binding) (p : Place) (s : Spot) (es : Expressions) (g : Supply) → SoundDestinations bs p s es → f.lvalues es
+  lvalues_filled : (bs : List Binding) (p : Enclosing) (s : Spot) (es : Expressions) (g : Supply) → SoundDestinations bs p s es → f.lvalues es
       (given (told_destinations bs p s es) g) ≡ filled (lvalues_named bs p s es) g
   lvalues_filled bs p s none g h = refl
   lvalues_filled bs p s (more e es) g h = ap (λ v. f.two t.onto (f.lvalue e v) (f.lvalues es)) (both
@@ -327,13 +327,13 @@ mutual
       (Destination false (line_of e)) e (given (told_destinations bs p (behind e s) es) g) h.0 h.1) ∙ ap (f.one (t.onto (lvalue_named bs p s e)))
       (lvalues_filled bs p (behind e s) es g h.2)
 
-  terms_filled : (n : ℕ) (bs : List Binding) (p : Place) (s : Spot) (es : Expressions) (g : Supply) → SoundEach n bs p s es → f.terms es
+  terms_filled : (n : ℕ) (bs : List Binding) (p : Enclosing) (s : Spot) (es : Expressions) (g : Supply) → SoundEach n bs p s es → f.terms es
       (given (told_each n bs p s es) g) ≡ filled (terms_named n bs p s es) g
   terms_filled n bs p s none g h = refl
   terms_filled n bs p s (more e es) g h = two_parts t.more (f.term e) (f.terms es) (told Value bs p s e) (told_each n bs (deeper n p) (behind e s) es)
       _ _ g (term_filled bs p s e (given (told_each n bs (deeper n p) (behind e s) es) g) h.0) (terms_filled n bs (deeper n p) (behind e s) es g h.1)
 
-  command_filled : (bs : List Binding) (p : Place) (s : Spot) (c : Action) (g : Supply) → SoundDone bs p s c → f.command c
+  command_filled : (bs : List Binding) (p : Enclosing) (s : Spot) (c : Action) (g : Supply) → SoundDone bs p s c → f.command c
       (given (told_done bs p s c) g) ≡ filled (command_named bs p s c) g
   command_filled bs p s empty g h = refl
   command_filled bs p s (assign l xs es) g h = two_parts t.assign (f.lvalues xs) (f.terms es) (told_destinations bs (deeper 1 p) s xs)
@@ -404,14 +404,14 @@ mutual
       (told Truth bs p (behind_done c s) e) _ _ g (command_filled bs (looping p) s c (given (told Truth bs p (behind_done c s) e) g) h.0)
       (condition_filled bs p (behind_done c s) e g h.1)
 
-  commands_filled : (bs : List Binding) (p : Place) (s : Spot) (cs : Actions) (g : Supply) → SoundDoneEach bs p s cs → f.commands cs
+  commands_filled : (bs : List Binding) (p : Enclosing) (s : Spot) (cs : Actions) (g : Supply) → SoundDoneEach bs p s cs → f.commands cs
       (given (told_done_each bs p s cs) g) ≡ filled (commands_named bs p s cs) g
   commands_filled bs p s no_actions g h = refl
   commands_filled bs p s (also c cs) g h = two_parts t.also (f.command c) (f.commands cs) (told_done bs p s c)
       (told_done_each bs p (behind_done c s) cs) _ _ g (command_filled bs p s c (given (told_done_each bs p (behind_done c s) cs) g) h.0)
       (commands_filled bs p (behind_done c s) cs g h.1)
 
-  declarations_filled : (bs : List Binding) (p : Place) (s : Spot) (ds : Declarations) (g : Supply) → SoundDeclared bs p s ds → f.all_declared ds
+  declarations_filled : (bs : List Binding) (p : Enclosing) (s : Spot) (ds : Declarations) (g : Supply) → SoundDeclared bs p s ds → f.all_declared ds
       (given (told_declared bs p s ds) g) ≡ filled (declarations_named bs p s ds) g
   declarations_filled bs p s no_declarations g h = refl
   declarations_filled bs p s (declare d ds) g h = two_parts t.declare (f.declared d) (f.all_declared ds) (told_one_declared bs p s d)
@@ -419,7 +419,7 @@ mutual
       (declaration_filled bs p s d (given (told_declared (scope_behind_one bs p s d) (place_behind_one bs p s d) (behind_one_declared d s) ds) g) h.0)
       (declarations_filled (scope_behind_one bs p s d) (place_behind_one bs p s d) (behind_one_declared d s) ds g h.1)
 
-  declaration_filled : (bs : List Binding) (p : Place) (s : Spot) (d : Declaration) (g : Supply) → SoundOneDeclared bs p s d → f.declared d
+  declaration_filled : (bs : List Binding) (p : Enclosing) (s : Spot) (d : Declaration) (g : Supply) → SoundOneDeclared bs p s d → f.declared d
       (given (told_one_declared bs p s d) g) ≡ filled (declaration_named bs p s d) g
   declaration_filled bs p s (constants l sort.Manifest is) g h = ap (f.one t.statics) (manifests_filled s.number p.procedure bs (numbered 1 s) is g h)
   declaration_filled bs p s (constants l sort.Static is) g h = ap (f.one t.statics) (statics_filled s.number p.procedure bs (numbered 1 s) is g h)
@@ -427,7 +427,7 @@ mutual
   declaration_filled bs p s (definitions l ds) g h = ap (f.one t.lets)
       (definitions_filled s.number (procedures_in_scope (s.number + 1) ds bs) p (numbered (1 + procedures_in ds) s) ds g h)
 
-  definitions_filled : (m : ℕ) (bs : List Binding) (p : Place) (s : Spot) (ds : Definitions) (g : Supply) → SoundDefined bs p s ds → f.all_defined ds
+  definitions_filled : (m : ℕ) (bs : List Binding) (p : Enclosing) (s : Spot) (ds : Definitions) (g : Supply) → SoundDefined bs p s ds → f.all_defined ds
       (given (told_defined m bs p s ds) g) ≡ filled (definitions_named bs p s ds) g
   definitions_filled m bs p s no_definitions g h = refl
   definitions_filled m bs p s (define d ds) g h = two_parts t.define (f.defined d) (f.all_defined ds) (told_one_defined m bs p s d)
@@ -435,7 +435,7 @@ mutual
       (definition_filled m bs p s d (given (told_defined m bs (place_behind_one_defined bs p d) (behind_one_defined d s) ds) g) h.0)
       (definitions_filled m bs (place_behind_one_defined bs p d) (behind_one_defined d s) ds g h.1)
 
-  definition_filled : (m : ℕ) (bs : List Binding) (p : Place) (s : Spot) (d : Definition) (g : Supply) → SoundOneDefined bs p s d → f.defined d
+  definition_filled : (m : ℕ) (bs : List Binding) (p : Enclosing) (s : Spot) (d : Definition) (g : Supply) → SoundOneDefined bs p s d → f.defined d
       (given (told_one_defined m bs p s d) g) ≡ filled (definition_named bs p s d) g
   definition_filled m bs p s (routine l x fs c) g h =
       let body : List Point = told_done (labels_in_scope s.number (s.number + 2) (labels_of c) (with_formals s.number 2 fs bs))
@@ -455,7 +455,7 @@ mutual
       ap (λ v. f.one t.variables (f.starts is v)) (skip (each_of m s.place xs) (told_started bs p (past (length xs) s) is) g (quiet_names m s.place xs))
       ∙ ap (f.one t.variables) (starts_filled bs p (past (length xs) s) is g h)
 
-  starts_filled : (bs : List Binding) (p : Place) (s : Spot) (is : Starts) (g : Supply) → SoundStarted bs p s is → f.starts is
+  starts_filled : (bs : List Binding) (p : Enclosing) (s : Spot) (is : Starts) (g : Supply) → SoundStarted bs p s is → f.starts is
       (given (told_started bs p s is) g) ≡ filled (starts_named bs p s is) g
   starts_filled bs p s no_starts g h = refl
   starts_filled bs p s (value e is) g h = two_parts t.value (f.term e) (f.starts is) (told Value bs p s e)

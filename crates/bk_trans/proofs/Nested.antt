@@ -1,6 +1,6 @@
 -- Each part of a section without faults that stands by itself is good: its procedures, wherever they are nested, its items of STATIC and
 -- its tables.
-use Rattle.bk_trans.proofs.Words.{arith, ◌≡◌, ℕ, ◌+◌, ◌<◌, ◌≤◌, ◌^◌, max, true, false, cond, Option, Some, None, List, [], ◌∷◌, ◌++◌, length, refl, sym, ap, subst, ◌∙◌, ⊤, false≢true, FRAME_WORDS, VEC_NUMBER, OCODE_LABEL, Mention, Expression, Expressions, Action, Actions, Declaration, Declarations, Definition, Definitions, Starts, name, parens, unary, binary, choice, apply, valof, table, none, more, empty, assign, call, label, case_of, default, when, test, while, for_loop, switch, result, block, repeat, repeat_while, no_actions, also, constants, definitions, no_declarations, declare, routine, function, variables, no_definitions, define, no_starts, value, vector, line_of, size, Bound, Constant, Global, Static, Variable, Label, Place, Role, Value, Truth, Address, Destination, not_assignable, no_result_or_return, vec_out_of_range, Binding, bound_in, bind, constant_word, kept, deeper, looping, switching, labelled, valued, called, outermost, labels_of, labels_of_each, with_formals, parenthesised, words_of_start, place_behind, variables_of, Spot, procedures_in, onward, past, numbered, behind, behind_each, behind_done, behind_declared, behind_one_declared, behind_one_defined, behind_constant, symbols_each, beginning, Claim, is_claimed, Point, meaning, word, depth, wrong, claim, claimed, judged, deepest, without_depths, at, labels_in_scope, procedures_in_scope, place_behind_one_defined, variables_in_scope, scope_behind_one, place_behind_one, scope_behind, place_behind_all, unless, its_meaning, its_global, its_frame, inside_procedure, constant, each_constant, at_most, addressed, assigned, prefixed, pushed, chosen_at, defaulted_at, one_of, each_of, told, told_each, told_destinations, told_done, told_done_each, told_declared, told_one_declared, told_defined, told_one_defined, told_started, Callable, FrameSound, Sound, SoundEach, SoundDestinations, SoundDone, SoundDoneEach, SoundDeclared, SoundOneDeclared, SoundDefined, SoundOneDefined, SoundStarted, Use}
+use Rattle.bk_trans.proofs.Words.{arith, ◌≡◌, ℕ, ◌+◌, ◌<◌, ◌≤◌, ◌^◌, max, true, false, cond, Option, Some, None, List, [], ◌∷◌, ◌++◌, length, refl, sym, ap, subst, ◌∙◌, ⊤, false≢true, FRAME_WORDS, VEC_NUMBER, OCODE_LABEL, Mention, Expression, Expressions, Action, Actions, Declaration, Declarations, Definition, Definitions, Starts, name, parens, unary, binary, choice, apply, valof, table, none, more, empty, assign, call, label, case_of, default, when, test, while, for_loop, switch, result, block, repeat, repeat_while, no_actions, also, constants, definitions, no_declarations, declare, routine, function, variables, no_definitions, define, no_starts, value, vector, line_of, size, Bound, Constant, Global, Static, Variable, Label, Enclosing, Role, Value, Truth, Address, Destination, not_assignable, no_result_or_return, vec_out_of_range, Binding, bound_in, bind, constant_word, kept, deeper, looping, switching, labelled, valued, called, outermost, labels_of, labels_of_each, with_formals, parenthesised, words_of_start, place_behind, variables_of, Spot, procedures_in, onward, past, numbered, behind, behind_each, behind_done, behind_declared, behind_one_declared, behind_one_defined, behind_constant, symbols_each, beginning, Claim, is_claimed, Point, meaning, word, depth, wrong, claim, claimed, judged, deepest, without_depths, at, labels_in_scope, procedures_in_scope, place_behind_one_defined, variables_in_scope, scope_behind_one, place_behind_one, scope_behind, place_behind_all, unless, its_meaning, its_global, its_frame, inside_procedure, constant, each_constant, at_most, addressed, assigned, prefixed, pushed, chosen_at, defaulted_at, one_of, each_of, told, told_each, told_destinations, told_done, told_done_each, told_declared, told_one_declared, told_defined, told_one_defined, told_started, Callable, FrameSound, Sound, SoundEach, SoundDestinations, SoundDone, SoundDoneEach, SoundDeclared, SoundOneDeclared, SoundDefined, SoundOneDefined, SoundStarted, Use}
 use Rattle.bk_tree.specs.declared.tree.Operator.TheVariants as o
 use Rattle.bk_tree.specs.declared.tree.Prefix.TheVariants as sign
 use Rattle.bk_tree.specs.declared.tree.Sort.TheVariants as sort
@@ -124,7 +124,7 @@ formals_out plan ts k d n [] bs low h = h
 formals_out plan ts k d n (x ∷ fs) bs low h = formals_out plan ts k (kept (d + 1)) n fs (bind x.letters (Variable k d) bs) low (sees_bind (Outside plan ts n) x.letters (Variable k d) bs low h)
 
 -- behind declarations
-variables_out : (plan : ℕ → Use) (ts : List Target) (n : ℕ) (bs : List Binding) (p : Place) (xs : List Mention) (is : Starts) → p.procedure < n → AllMean (Outside plan ts n) (variables_of bs p xs is)
+variables_out : (plan : ℕ → Use) (ts : List Target) (n : ℕ) (bs : List Binding) (p : Enclosing) (xs : List Mention) (is : Starts) → p.procedure < n → AllMean (Outside plan ts n) (variables_of bs p xs is)
 variables_out plan ts n bs p [] no_starts low = tt
 variables_out plan ts n bs p [] (value e is) low = tt
 variables_out plan ts n bs p [] (vector l e is) low = tt
@@ -132,7 +132,7 @@ variables_out plan ts n bs p (x ∷ xs) no_starts low = tt
 variables_out plan ts n bs p (x ∷ xs) (value e is) low = (low, variables_out plan ts n bs (deeper 1 p) xs is low)
 variables_out plan ts n bs p (x ∷ xs) (vector l e is) low = (low, variables_out plan ts n bs (deeper (words_of_start bs e + 1) p) xs is low)
 
-all_variables_out : (plan : ℕ → Use) (ts : List Target) (n : ℕ) (bs : List Binding) (p : Place) (ds : Definitions) → p.procedure < n → AllMean (Outside plan ts n) (variables_in_scope bs p ds)
+all_variables_out : (plan : ℕ → Use) (ts : List Target) (n : ℕ) (bs : List Binding) (p : Enclosing) (ds : Definitions) → p.procedure < n → AllMean (Outside plan ts n) (variables_in_scope bs p ds)
 all_variables_out plan ts n bs p no_definitions low = tt
 all_variables_out plan ts n bs p (define (routine l x fs c) ds) low = all_variables_out plan ts n bs p ds low
 all_variables_out plan ts n bs p (define (function l x fs e) ds) low = all_variables_out plan ts n bs p ds low
@@ -140,14 +140,14 @@ all_variables_out plan ts n bs p (define (variables l xs is) ds) low =
     let same = (same_one_defined bs p (variables l xs is)).0 in
     mean_both (Outside plan ts n) (variables_of bs p xs is) _ (variables_out plan ts n bs p xs is low) (all_variables_out plan ts n bs (place_behind bs p is) ds (omega (arith, same, low)))
 
-procedures_out : (plan : ℕ → Use) (ts : List Target) (bs : List Binding) (p : Place) (k : ℕ) (s v : Spot) (ds : Definitions) (d n m : ℕ) → Out plan ts bs k m
+procedures_out : (plan : ℕ → Use) (ts : List Target) (bs : List Binding) (p : Enclosing) (k : ℕ) (s v : Spot) (ds : Definitions) (d n m : ℕ) → Out plan ts bs k m
     → n + labels_of_definitions (definitions_named (procedures_in_scope (s.number + 1) ds bs) p v ds) ≤ OCODE_LABEL + 1
     → PartsRight plan ts (parts_of_definitions d n (definitions_named (procedures_in_scope (s.number + 1) ds bs) p v ds)) → Out plan ts (procedures_in_scope (s.number + 1) ds bs) k m
 procedures_out plan ts bs p k s v ds d n m a high b =
     let cs = procedures_in_scope (s.number + 1) ds bs in
     record { sees = sees_procedures (Outside plan ts m) (s.number + 1) ds bs a.sees (λ y i among e. procedure_found plan ts i y cs p v ds d n e high among b); older = a.older }
 
-one_declared_out : (plan : ℕ → Use) (ts : List Target) (bs : List Binding) (p : Place) (s : Spot) (x : Declaration) (d n : ℕ) → Out plan ts bs p.procedure s.number → 1 ≤ n
+one_declared_out : (plan : ℕ → Use) (ts : List Target) (bs : List Binding) (p : Enclosing) (s : Spot) (x : Declaration) (d n : ℕ) → Out plan ts bs p.procedure s.number → 1 ≤ n
     → n + labels_of_declaration (declaration_named bs p s x) ≤ OCODE_LABEL + 1 → PartsRight plan ts (parts_of_declaration d n (declaration_named bs p s x))
     → Out plan ts (scope_behind_one bs p s x) (place_behind_one bs p s x).procedure (behind_one_declared x s).number
 one_declared_out plan ts bs p s (constants l sort.Manifest is) d n a low high b =
@@ -167,7 +167,7 @@ one_declared_out plan ts bs p s (definitions l ds) d n a low high b =
       older = omega (arith, same, old);
     }) (omega arith)
 
-declared_out : (plan : ℕ → Use) (ts : List Target) (bs : List Binding) (p : Place) (s : Spot) (xs : Declarations) (d n : ℕ) → Out plan ts bs p.procedure s.number → 1 ≤ n
+declared_out : (plan : ℕ → Use) (ts : List Target) (bs : List Binding) (p : Enclosing) (s : Spot) (xs : Declarations) (d n : ℕ) → Out plan ts bs p.procedure s.number → 1 ≤ n
     → n + labels_of_declarations (declarations_named bs p s xs) ≤ OCODE_LABEL + 1 → PartsRight plan ts (parts_of_declarations d n (declarations_named bs p s xs))
     → Out plan ts (scope_behind bs p s xs) (place_behind_all bs p s xs).procedure (behind_declared xs s).number
 declared_out plan ts bs p s no_declarations d n a low high b = onto _ a (omega arith)
@@ -198,7 +198,7 @@ items_good plan ts n (k ∷ ks) low high = ((low, omega (arith, high)), items_go
 frame_low : (formals : ℕ) (body : List Point) → FrameSound formals body → formals + 2 ≤ FRAME_WORDS
 frame_low formals body h = let g = grows body (kept (formals + 2)) in omega (arith, g, h)
 
-inside : (plan : ℕ → Use) (ts : List Target) (q : ℕ) (bs : List Binding) (p z : Place) (k formals n : ℕ) (fs : List Mention) → Out plan ts bs k n → length fs ≡ formals → z.procedure ≡ n → z.depth ≡ kept (formals + 2)
+inside : (plan : ℕ → Use) (ts : List Target) (q : ℕ) (bs : List Binding) (p z : Enclosing) (k formals n : ℕ) (fs : List Mention) → Out plan ts bs k n → length fs ≡ formals → z.procedure ≡ n → z.depth ≡ kept (formals + 2)
     → formals + 2 ≤ FRAME_WORDS → At plan ts q (with_formals n 2 fs bs) z (formals + 2)
 inside plan ts q bs p z k formals n fs a size same deep high = record {
   sees = subst (λ (j : ℕ). Sees (Known plan ts q j (formals + 2)) (with_formals n 2 fs bs)) (sym same)
@@ -207,11 +207,11 @@ inside plan ts q bs p z k formals n fs a size same deep high = record {
   low = omega arith;
 }
 
-routine_good : (plan : ℕ → Use) (ts : List Target) (m : ℕ) (bs : List Binding) (p : Place) (s : Spot) (l : ℕ) (x : List ℕ) (fs : List Mention) (c : Action) (d n : ℕ) → Out plan ts bs p.procedure s.number → 1 ≤ n
+routine_good : (plan : ℕ → Use) (ts : List Target) (m : ℕ) (bs : List Binding) (p : Enclosing) (s : Spot) (l : ℕ) (x : List ℕ) (fs : List Mention) (c : Action) (d n : ℕ) → Out plan ts bs p.procedure s.number → 1 ≤ n
     → n + labels_of_definition (definition_named bs p s (routine l x fs c)) ≤ OCODE_LABEL + 1 → SoundOneDefined bs p s (routine l x fs c) → Quiet (told_one_defined m bs p s (routine l x fs c))
     → PartsRight plan ts (parts_of_definition d n (definition_named bs p s (routine l x fs c))) → GoodPart plan ts (procedure n (definition_named bs p s (routine l x fs c)))
 routine_good plan ts m bs p s l x fs c d n a low high h f b =
-    let z : Place = labelled (s.number + 1) (called true s.number (length fs)) in
+    let z : Enclosing = labelled (s.number + 1) (called true s.number (length fs)) in
     let u : Spot = onward (1 + length fs) (2 + length (labels_of c)) s in
     let es = with_formals s.number 2 fs bs in
     let cs = labels_in_scope s.number (s.number + 2) (labels_of c) es in
@@ -233,11 +233,11 @@ routine_good plan ts m bs p s l x fs c d n a low high h f b =
       tables_right plan ts _ owns,
     )
 
-function_good : (plan : ℕ → Use) (ts : List Target) (m : ℕ) (bs : List Binding) (p : Place) (s : Spot) (l : ℕ) (x : List ℕ) (fs : List Mention) (e : Expression) (d n : ℕ) → Out plan ts bs p.procedure s.number → 1 ≤ n
+function_good : (plan : ℕ → Use) (ts : List Target) (m : ℕ) (bs : List Binding) (p : Enclosing) (s : Spot) (l : ℕ) (x : List ℕ) (fs : List Mention) (e : Expression) (d n : ℕ) → Out plan ts bs p.procedure s.number → 1 ≤ n
     → n + labels_of_definition (definition_named bs p s (function l x fs e)) ≤ OCODE_LABEL + 1 → SoundOneDefined bs p s (function l x fs e) → Quiet (told_one_defined m bs p s (function l x fs e))
     → PartsRight plan ts (parts_of_definition d n (definition_named bs p s (function l x fs e))) → GoodPart plan ts (procedure n (definition_named bs p s (function l x fs e)))
 function_good plan ts m bs p s l x fs e d n a low high h f b =
-    let z : Place = called false s.number (length fs) in
+    let z : Enclosing = called false s.number (length fs) in
     let u : Spot = onward (1 + length fs) 1 s in
     let cs = with_formals s.number 2 fs bs in
     let v = meant (bound_in bs x) in
@@ -264,7 +264,7 @@ nest_two plan ts xs ys ps qs one two f b = good_both plan ts ps qs (one (told_fr
 
 -- EACH NODE, with what is nested in it
 mutual
-  nest_term : (plan : ℕ → Use) (ts : List Target) (bs : List Binding) (p : Place) (s : Spot) (e : Expression) (d n : ℕ) → Out plan ts bs p.procedure s.number → 1 ≤ n
+  nest_term : (plan : ℕ → Use) (ts : List Target) (bs : List Binding) (p : Enclosing) (s : Spot) (e : Expression) (d n : ℕ) → Out plan ts bs p.procedure s.number → 1 ≤ n
       → n + labels (term_named bs p s e) ≤ OCODE_LABEL + 1 → Sound Value bs p s e → Quiet (told Value bs p s e) → PartsRight plan ts (parts d n (term_named bs p s e)) → AllGood plan ts (parts d n (term_named bs p s e))
   nest_term plan ts bs p s (name l x) d n a low high h f b = tt
   nest_term plan ts bs p s (unary l sign.Address e) d n a low high h f b = nest_at plan ts bs p (past 1 s) (Address false (line_of e)) e d n (onto _ a (omega arith)) low high h.0 h.1 (told_back (prefixed sign.Address bs (past 1 s) e) _ f) b
@@ -283,14 +283,14 @@ mutual
       (λ i w. nest_term plan ts bs p v y d (j + labels g) (onto _ a (omega arith)) (omega (arith, low)) (omega (arith, high)) h.2 i w) f b
   nest_term plan ts bs p s (apply l m e es) d n a low high h f b =
       let u : Spot = (past 1 (behind e s)) in
-      let z : Place = deeper (size es + 2) p in
+      let z : Enclosing = deeper (size es + 2) p in
       let v = term_named bs z s e in
       let vs = terms_named 1 bs (deeper 2 p) u es in
       nest_two plan ts (told Value bs z s e) _ (parts (d + 2 + count vs) n v) _ (λ i w. nest_term plan ts bs z s e (d + 2 + count vs) n a low (omega (arith, high)) h.0 i w)
       (λ i w. nest_each plan ts bs (deeper 2 p) u es (d + 2) (n + labels v) (onto _ a (omega arith)) (omega (arith, low)) (omega (arith, high)) h.1 i w) f b
   nest_term plan ts bs p s (valof l c) d n a low high h f b =
       let cs = labels_in_scope p.procedure (s.number + 1) (labels_of c) bs in
-      let g : Place = labelled s.number (valued p) in
+      let g : Enclosing = labelled s.number (valued p) in
       let u : Spot = onward 1 (1 + length (labels_of c)) s in
       let old = a.older in
       nest_in plan ts cs g u c d (n + 1) (labels_out plan ts p.procedure p.procedure (s.number + 1) (labels_of c) bs u.number (omega (arith, old)) (onto u.number a (omega arith))) (omega (arith, low)) (omega (arith, high)) h
@@ -315,7 +315,7 @@ mutual
       (λ i w. nest_term plan ts bs (deeper 1 p) u y (d + 1) (n + labels g) (onto _ a (omega arith)) (omega (arith, low)) (omega (arith, high)) h.1 i w) f b
   nest_term plan ts bs p s _ d n a low high h f b = tt
 
-  nest_if : (plan : ℕ → Use) (ts : List Target) (bs : List Binding) (p : Place) (s : Spot) (e : Expression) (d n : ℕ) → Out plan ts bs p.procedure s.number → 1 ≤ n
+  nest_if : (plan : ℕ → Use) (ts : List Target) (bs : List Binding) (p : Enclosing) (s : Spot) (e : Expression) (d n : ℕ) → Out plan ts bs p.procedure s.number → 1 ≤ n
       → n + labels_if (condition_named bs p s e) ≤ OCODE_LABEL + 1 → Sound Truth bs p s e → Quiet (told Truth bs p s e) → PartsRight plan ts (parts_if d n (condition_named bs p s e)) → AllGood plan ts (parts_if d n (condition_named bs p s e))
   nest_if plan ts bs p s (name l x) d n a low high h f b = tt
   nest_if plan ts bs p s (unary l sign.Address e) d n a low high h f b = nest_at plan ts bs p (past 1 s) (Address false (line_of e)) e d n (onto _ a (omega arith)) low high h.0 h.1 (told_back (prefixed sign.Address bs (past 1 s) e) _ f) b
@@ -334,14 +334,14 @@ mutual
       (λ i w. nest_term plan ts bs p v y d (j + labels g) (onto _ a (omega arith)) (omega (arith, low)) (omega (arith, high)) h.2 i w) f b
   nest_if plan ts bs p s (apply l m e es) d n a low high h f b =
       let u : Spot = (past 1 (behind e s)) in
-      let z : Place = deeper (size es + 2) p in
+      let z : Enclosing = deeper (size es + 2) p in
       let v = term_named bs z s e in
       let vs = terms_named 1 bs (deeper 2 p) u es in
       nest_two plan ts (told Value bs z s e) _ (parts (d + 2 + count vs) n v) _ (λ i w. nest_term plan ts bs z s e (d + 2 + count vs) n a low (omega (arith, high)) h.0 i w)
       (λ i w. nest_each plan ts bs (deeper 2 p) u es (d + 2) (n + labels v) (onto _ a (omega arith)) (omega (arith, low)) (omega (arith, high)) h.1 i w) f b
   nest_if plan ts bs p s (valof l c) d n a low high h f b =
       let cs = labels_in_scope p.procedure (s.number + 1) (labels_of c) bs in
-      let g : Place = labelled s.number (valued p) in
+      let g : Enclosing = labelled s.number (valued p) in
       let u : Spot = onward 1 (1 + length (labels_of c)) s in
       let old = a.older in
       nest_in plan ts cs g u c d (n + 1) (labels_out plan ts p.procedure p.procedure (s.number + 1) (labels_of c) bs u.number (omega (arith, old)) (onto u.number a (omega arith))) (omega (arith, low)) (omega (arith, high)) h
@@ -366,7 +366,7 @@ mutual
       (λ i w. nest_term plan ts bs (deeper 1 p) u y (d + 1) (n + labels g) (onto _ a (omega arith)) (omega (arith, low)) (omega (arith, high)) h.1 i w) f b
   nest_if plan ts bs p s _ d n a low high h f b = tt
 
-  nest_each : (plan : ℕ → Use) (ts : List Target) (bs : List Binding) (p : Place) (s : Spot) (es : Expressions) (d n : ℕ) → Out plan ts bs p.procedure s.number → 1 ≤ n
+  nest_each : (plan : ℕ → Use) (ts : List Target) (bs : List Binding) (p : Enclosing) (s : Spot) (es : Expressions) (d n : ℕ) → Out plan ts bs p.procedure s.number → 1 ≤ n
       → n + labels_each (terms_named 1 bs p s es) ≤ OCODE_LABEL + 1 → SoundEach 1 bs p s es → Quiet (told_each 1 bs p s es) → PartsRight plan ts (parts_each d n (terms_named 1 bs p s es)) → AllGood plan ts (parts_each d n (terms_named 1 bs p s es))
   nest_each plan ts bs p s none d n a low high h f b = tt
   nest_each plan ts bs p s (more e es) d n a low high h f b =
@@ -374,7 +374,7 @@ mutual
       nest_two plan ts (told Value bs p s e) _ (parts d n v) _ (λ i w. nest_term plan ts bs p s e d n a low (omega (arith, high)) h.0 i w)
       (λ i w. nest_each plan ts bs (deeper 1 p) (behind e s) es (d + 1) (n + labels v) (onto _ a (omega arith)) (omega (arith, low)) (omega (arith, high)) h.1 i w) f b
 
-  nest_from : (plan : ℕ → Use) (ts : List Target) (bs : List Binding) (p : Place) (s : Spot) (es : Expressions) (d n : ℕ) → Out plan ts bs p.procedure s.number → 1 ≤ n
+  nest_from : (plan : ℕ → Use) (ts : List Target) (bs : List Binding) (p : Enclosing) (s : Spot) (es : Expressions) (d n : ℕ) → Out plan ts bs p.procedure s.number → 1 ≤ n
       → n + labels_each (terms_named 0 bs p s es) ≤ OCODE_LABEL + 1 → SoundEach 0 bs p s es → Quiet (told_each 0 bs p s es) → PartsRight plan ts (parts_from d n (terms_named 0 bs p s es)) → AllGood plan ts (parts_from d n (terms_named 0 bs p s es))
   nest_from plan ts bs p s none d n a low high h f b = tt
   nest_from plan ts bs p s (more e es) d n a low high h f b =
@@ -383,7 +383,7 @@ mutual
       (λ i w. nest_from plan ts bs (deeper 0 p) (behind e s) es d (n + labels v) (onto _ a (omega arith)) (omega (arith, low)) (omega (arith, high)) h.1 i w) f b
 
   -- what has an address, or may be stored into
-  nest_at : (plan : ℕ → Use) (ts : List Target) (bs : List Binding) (p : Place) (s : Spot) (g : Role) (e : Expression) (d n : ℕ) → Out plan ts bs p.procedure s.number → 1 ≤ n
+  nest_at : (plan : ℕ → Use) (ts : List Target) (bs : List Binding) (p : Enclosing) (s : Spot) (g : Role) (e : Expression) (d n : ℕ) → Out plan ts bs p.procedure s.number → 1 ≤ n
       → n + labels_at (lvalue_named bs p s e) ≤ OCODE_LABEL + 1 → addressed bs e ≡ true → Sound g bs p s e → Quiet (told g bs p s e) → PartsRight plan ts (parts_at d n (lvalue_named bs p s e))
       → AllGood plan ts (parts_at d n (lvalue_named bs p s e))
   nest_at plan ts bs p s g (name l x) d n a low high i h f b = tt
@@ -396,7 +396,7 @@ mutual
       (λ j w. nest_term plan ts bs (deeper 1 p) u y (d + 1) (n + labels v) (onto _ a (omega arith)) (omega (arith, low)) (omega (arith, high)) h.1 j w) f b
   nest_at plan ts bs p s g e d n a low high i h f b = absurd (false≢true i)
 
-  nest_onto : (plan : ℕ → Use) (ts : List Target) (bs : List Binding) (p : Place) (s : Spot) (g : Role) (e : Expression) (d n : ℕ) → Out plan ts bs p.procedure s.number → 1 ≤ n
+  nest_onto : (plan : ℕ → Use) (ts : List Target) (bs : List Binding) (p : Enclosing) (s : Spot) (g : Role) (e : Expression) (d n : ℕ) → Out plan ts bs p.procedure s.number → 1 ≤ n
       → n + labels_at (lvalue_named bs p s e) ≤ OCODE_LABEL + 1 → assigned bs e ≡ true → Sound g bs p s e → Quiet (told g bs p s e) → PartsRight plan ts (parts_at d n (lvalue_named bs p s e))
       → AllGood plan ts (parts_at d n (lvalue_named bs p s e))
   nest_onto plan ts bs p s g (name l x) d n a low high i h f b = tt
@@ -414,7 +414,7 @@ mutual
       (λ j w. nest_term plan ts bs (deeper 1 p) u y (d + 1) (n + labels v) (onto _ a (omega arith)) (omega (arith, low)) (omega (arith, high)) h.1 j w) f b
   nest_onto plan ts bs p s g e d n a low high i h f b = absurd (false≢true i)
 
-  nest_all_onto : (plan : ℕ → Use) (ts : List Target) (bs : List Binding) (p : Place) (s : Spot) (xs : Expressions) (d n : ℕ) → Out plan ts bs p.procedure s.number → 1 ≤ n
+  nest_all_onto : (plan : ℕ → Use) (ts : List Target) (bs : List Binding) (p : Enclosing) (s : Spot) (xs : Expressions) (d n : ℕ) → Out plan ts bs p.procedure s.number → 1 ≤ n
       → n + labels_onto (lvalues_named bs p s xs) ≤ OCODE_LABEL + 1 → SoundDestinations bs p s xs → Quiet (told_destinations bs p s xs) → PartsRight plan ts (parts_onto d n (lvalues_named bs p s xs)) → AllGood plan ts (parts_onto d n (lvalues_named bs p s xs))
   nest_all_onto plan ts bs p s none d n a low high h f b = tt
   nest_all_onto plan ts bs p s (more x xs) d n a low high h f b =
@@ -424,7 +424,7 @@ mutual
       (λ i w. nest_onto plan ts bs p s (Destination false (line_of x)) x d n a low (omega (arith, high)) h.0 h.1 (told_back us _ i) w)
       (λ i w. nest_all_onto plan ts bs p (behind x s) xs d (n + labels_at v) (onto _ a (omega arith)) (omega (arith, low)) (omega (arith, high)) h.2 i w) f b
 
-  nest_in : (plan : ℕ → Use) (ts : List Target) (bs : List Binding) (p : Place) (s : Spot) (c : Action) (d n : ℕ) → Out plan ts bs p.procedure s.number → 1 ≤ n
+  nest_in : (plan : ℕ → Use) (ts : List Target) (bs : List Binding) (p : Enclosing) (s : Spot) (c : Action) (d n : ℕ) → Out plan ts bs p.procedure s.number → 1 ≤ n
       → n + labels_in (command_named bs p s c) ≤ OCODE_LABEL + 1 → SoundDone bs p s c → Quiet (told_done bs p s c) → PartsRight plan ts (parts_in d n (command_named bs p s c)) → AllGood plan ts (parts_in d n (command_named bs p s c))
   nest_in plan ts bs p s empty d n a low high h f b = tt
   nest_in plan ts bs p s (assign l xs es) d n a low high h f b =
@@ -433,7 +433,7 @@ mutual
       (λ i w. nest_from plan ts bs p (behind_each xs s) es d (n + labels_onto v) (onto _ a (omega arith)) (omega (arith, low)) (omega (arith, high)) h.1 i w) f b
   nest_in plan ts bs p s (call l e es) d n a low high h f b =
       let u : Spot = behind e s in
-      let z : Place = deeper (size es + 2) p in
+      let z : Enclosing = deeper (size es + 2) p in
       let v = term_named bs z s e in
       let vs = terms_named 1 bs (deeper 2 p) u es in
       nest_two plan ts (told Value bs z s e) _ (parts (d + 2 + count vs) n v) _ (λ i w. nest_term plan ts bs z s e (d + 2 + count vs) n a low (omega (arith, high)) h.0 i w)
@@ -463,7 +463,7 @@ mutual
       (λ i w. nest_in plan ts bs (looping p) (behind e s) c d (n + 3 + labels_if v) (onto _ a (omega arith)) (omega (arith, low)) (omega (arith, high)) h.1 i w) f b
   nest_in plan ts bs p s (for_loop l x e y k c) d n a low high h f b =
       let u : Spot = onward (symbols_each k) 0 (behind y (behind e s)) in
-      let g : Place = labelled u.number (looping (deeper 2 p)) in
+      let g : Enclosing = labelled u.number (looping (deeper 2 p)) in
       let cs = bind x.letters (Variable p.procedure p.depth) bs in
       let ds = labels_in_scope p.procedure (u.number + 1) (labels_of c) cs in
       let i : Spot = numbered (1 + length (labels_of c)) u in
@@ -495,7 +495,7 @@ mutual
       (nest_through plan ts bs p s cs d n a low (omega (arith, high)) h f (subst (λ (m : ℕ). PartsRight plan ts (parts_through d m (commands_named bs p s cs))) (no_more n) b))
   nest_in plan ts bs p s (block l (declare x xs) cs) d n a low high h f b =
       let u : Spot = behind_declared (declare x xs) s in
-      let g : Place = place_behind_all bs p s (declare x xs) in
+      let g : Enclosing = place_behind_all bs p s (declare x xs) in
       let es = scope_behind bs p s (declare x xs) in
       let i : Spot = numbered (1 + length (labels_of_each cs)) u in
       let y = declarations_named bs p s (declare x xs) in
@@ -521,7 +521,7 @@ mutual
       (λ i w. nest_if plan ts bs p (behind_done c s) e d (n + 3 + labels_in g) (onto _ a (omega arith)) (omega (arith, low)) (omega (arith, high)) h.1 i w) f b
   nest_in plan ts bs p s _ d n a low high h f b = tt
 
-  nest_through : (plan : ℕ → Use) (ts : List Target) (bs : List Binding) (p : Place) (s : Spot) (cs : Actions) (d n : ℕ) → Out plan ts bs p.procedure s.number → 1 ≤ n
+  nest_through : (plan : ℕ → Use) (ts : List Target) (bs : List Binding) (p : Enclosing) (s : Spot) (cs : Actions) (d n : ℕ) → Out plan ts bs p.procedure s.number → 1 ≤ n
       → n + labels_through (commands_named bs p s cs) ≤ OCODE_LABEL + 1 → SoundDoneEach bs p s cs → Quiet (told_done_each bs p s cs) → PartsRight plan ts (parts_through d n (commands_named bs p s cs)) → AllGood plan ts (parts_through d n (commands_named bs p s cs))
   nest_through plan ts bs p s no_actions d n a low high h f b = tt
   nest_through plan ts bs p s (also c cs) d n a low high h f b =
@@ -529,7 +529,7 @@ mutual
       nest_two plan ts (told_done bs p s c) _ (parts_in d n g) _ (λ i w. nest_in plan ts bs p s c d n a low (omega (arith, high)) h.0 i w)
       (λ i w. nest_through plan ts bs p (behind_done c s) cs d (n + labels_in g) (onto _ a (omega arith)) (omega (arith, low)) (omega (arith, high)) h.1 i w) f b
 
-  nest_declared : (plan : ℕ → Use) (ts : List Target) (bs : List Binding) (p : Place) (s : Spot) (xs : Declarations) (d n : ℕ) → Out plan ts bs p.procedure s.number → 1 ≤ n
+  nest_declared : (plan : ℕ → Use) (ts : List Target) (bs : List Binding) (p : Enclosing) (s : Spot) (xs : Declarations) (d n : ℕ) → Out plan ts bs p.procedure s.number → 1 ≤ n
       → n + labels_of_declarations (declarations_named bs p s xs) ≤ OCODE_LABEL + 1 → SoundDeclared bs p s xs → Quiet (told_declared bs p s xs) → PartsRight plan ts (parts_of_declarations d n (declarations_named bs p s xs)) → AllGood plan ts (parts_of_declarations d n (declarations_named bs p s xs))
   nest_declared plan ts bs p s no_declarations d n a low high h f b = tt
   nest_declared plan ts bs p s (declare x xs) d n a low high h f b =
@@ -539,7 +539,7 @@ mutual
       (λ f b. nest_declared plan ts (scope_behind_one bs p s x) (place_behind_one bs p s x) (behind_one_declared x s) xs (behind_declaration d v) (n + labels_of_declaration v) one (omega (arith, low)) (omega (arith, high)) h.1 f b)
       f b
 
-  nest_one_declared : (plan : ℕ → Use) (ts : List Target) (bs : List Binding) (p : Place) (s : Spot) (x : Declaration) (d n : ℕ) → Out plan ts bs p.procedure s.number → 1 ≤ n
+  nest_one_declared : (plan : ℕ → Use) (ts : List Target) (bs : List Binding) (p : Enclosing) (s : Spot) (x : Declaration) (d n : ℕ) → Out plan ts bs p.procedure s.number → 1 ≤ n
       → n + labels_of_declaration (declaration_named bs p s x) ≤ OCODE_LABEL + 1 → SoundOneDeclared bs p s x → Quiet (told_one_declared bs p s x) → PartsRight plan ts (parts_of_declaration d n (declaration_named bs p s x)) → AllGood plan ts (parts_of_declaration d n (declaration_named bs p s x))
   nest_one_declared plan ts bs p s (constants l sort.Manifest is) d n a low high h f b = tt
   nest_one_declared plan ts bs p s (constants l sort.Static is) d n a low high h f b = items_good plan ts n (statics_named bs (numbered 1 s) is) low high
@@ -548,7 +548,7 @@ mutual
       let v : Spot = numbered (1 + procedures_in ds) s in
       nest_defined plan ts s.number (procedures_in_scope (s.number + 1) ds bs) p v ds d n (procedures_out plan ts bs p p.procedure s v ds d n v.number (onto v.number a (omega arith)) high b) low high h f b
 
-  nest_defined : (plan : ℕ → Use) (ts : List Target) (m : ℕ) (bs : List Binding) (p : Place) (s : Spot) (ds : Definitions) (d n : ℕ) → Out plan ts bs p.procedure s.number → 1 ≤ n
+  nest_defined : (plan : ℕ → Use) (ts : List Target) (m : ℕ) (bs : List Binding) (p : Enclosing) (s : Spot) (ds : Definitions) (d n : ℕ) → Out plan ts bs p.procedure s.number → 1 ≤ n
       → n + labels_of_definitions (definitions_named bs p s ds) ≤ OCODE_LABEL + 1 → SoundDefined bs p s ds → Quiet (told_defined m bs p s ds) → PartsRight plan ts (parts_of_definitions d n (definitions_named bs p s ds)) → AllGood plan ts (parts_of_definitions d n (definitions_named bs p s ds))
   nest_defined plan ts m bs p s no_definitions d n a low high h f b = tt
   nest_defined plan ts m bs p s (define x ds) d n a low high h f b =
@@ -559,12 +559,12 @@ mutual
       nest_two plan ts (told_one_defined m bs p s x) _ (parts_of_definition d n y) _ (λ f b. nest_one_defined plan ts m bs p s x d n a low (omega (arith, high)) h.0 f b)
       (λ f b. nest_defined plan ts m bs (place_behind_one_defined bs p x) (behind_one_defined x s) ds (behind_definition d y) (n + labels_of_definition y) moved (omega (arith, low)) (omega (arith, high)) h.1 f b) f b
 
-  nest_one_defined : (plan : ℕ → Use) (ts : List Target) (m : ℕ) (bs : List Binding) (p : Place) (s : Spot) (x : Definition) (d n : ℕ) → Out plan ts bs p.procedure s.number → 1 ≤ n
+  nest_one_defined : (plan : ℕ → Use) (ts : List Target) (m : ℕ) (bs : List Binding) (p : Enclosing) (s : Spot) (x : Definition) (d n : ℕ) → Out plan ts bs p.procedure s.number → 1 ≤ n
       → n + labels_of_definition (definition_named bs p s x) ≤ OCODE_LABEL + 1 → SoundOneDefined bs p s x → Quiet (told_one_defined m bs p s x) → PartsRight plan ts (parts_of_definition d n (definition_named bs p s x)) → AllGood plan ts (parts_of_definition d n (definition_named bs p s x))
   nest_one_defined plan ts m bs p s (variables l xs is) d n a low high h f b =
       nest_started plan ts bs p (past (length xs) s) is d n (onto _ a (omega arith)) low high h (told_back (each_of m s.place xs) _ f) b
   nest_one_defined plan ts m bs p s (routine l x fs c) d n a low high h f b =
-      let z : Place = labelled (s.number + 1) (called true s.number (length fs)) in
+      let z : Enclosing = labelled (s.number + 1) (called true s.number (length fs)) in
       let u : Spot = onward (1 + length fs) (2 + length (labels_of c)) s in
       let es = with_formals s.number 2 fs bs in
       let cs = labels_in_scope s.number (s.number + 2) (labels_of c) es in
@@ -577,7 +577,7 @@ mutual
             (body_quiet m s.number s l x fs (bound_in bs x) (told_done cs z u c) f) b.1,
       )
   nest_one_defined plan ts m bs p s (function l x fs e) d n a low high h f b =
-      let z : Place = called false s.number (length fs) in
+      let z : Enclosing = called false s.number (length fs) in
       let u : Spot = onward (1 + length fs) 1 s in
       let cs = with_formals s.number 2 fs bs in
       let v = meant (bound_in bs x) in
@@ -589,7 +589,7 @@ mutual
             (body_quiet m s.number s l x fs (bound_in bs x) (told Value cs z u e) f) b.1,
       )
 
-  nest_started : (plan : ℕ → Use) (ts : List Target) (bs : List Binding) (p : Place) (s : Spot) (is : Starts) (d n : ℕ) → Out plan ts bs p.procedure s.number → 1 ≤ n
+  nest_started : (plan : ℕ → Use) (ts : List Target) (bs : List Binding) (p : Enclosing) (s : Spot) (is : Starts) (d n : ℕ) → Out plan ts bs p.procedure s.number → 1 ≤ n
       → n + labels_of_starts (starts_named bs p s is) ≤ OCODE_LABEL + 1 → SoundStarted bs p s is → Quiet (told_started bs p s is) → PartsRight plan ts (parts_of_starts d n (starts_named bs p s is)) → AllGood plan ts (parts_of_starts d n (starts_named bs p s is))
   nest_started plan ts bs p s no_starts d n a low high h f b = tt
   nest_started plan ts bs p s (value e is) d n a low high h f b =

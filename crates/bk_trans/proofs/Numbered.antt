@@ -1,6 +1,6 @@
 -- Each number has one target at most: labels have numbers of their own where they come into scope, and so have the procedures of a LET
 -- and the items of STATIC; in one list no name stands twice.
-use Rattle.bk_trans.proofs.Words.{arith, ◌≡◌, inl, inr, ℕ, ◌+◌, ◌≤◌, Bool, true, false, cond, Option, Some, None, List, [], ◌∷◌, ◌++◌, length, refl, sym, ap, subst, ◌∙◌, ⊤, VEC_NUMBER, Expression, Expressions, Action, Actions, Declaration, Declarations, Items, Definition, Definitions, Starts, name, parens, unary, binary, choice, apply, valof, none, more, empty, assign, call, label, case_of, default, when, test, while, for_loop, switch, result, block, repeat, repeat_while, no_actions, also, constants, definitions, no_declarations, declare, no_items, item, routine, function, variables, no_definitions, define, no_starts, value, vector, line_of, size, Bound, Global, Static, Variable, Label, Place, Role, Value, Truth, Address, Destination, not_assignable, no_result_or_return, vec_out_of_range, Binding, bound_in, bind, constant_word, deeper, looping, switching, labelled, valued, called, outermost, labels_of, labels_of_each, with_formals, parenthesised, words_of_start, Spot, procedures_in, onward, past, behind, behind_each, behind_done, behind_declared, behind_one_declared, behind_one_defined, behind_constant, symbols_each, beginning, Claim, is_claimed, Point, meaning, word, depth, wrong, claim, claimed, judged, at, labels_in_scope, procedures_in_scope, place_behind_one_defined, scope_behind_one, place_behind_one, scope_behind, place_behind_all, unless, its_meaning, constant, each_constant, at_most, assigned, prefixed, pushed, chosen_at, defaulted_at, one_of, each_of, told, told_each, told_destinations, told_done, told_done_each, told_declared, told_one_declared, told_defined, told_one_defined, told_started, naming, same_claim, Fault, is_global, numbers, numbers_each, numbers_done, numbers_done_each, numbers_declared, numbers_one_declared, numbers_items, numbers_defined, numbers_one_defined, numbers_started, procedure_in_scope, eqb-true, eq-eqb, ◌==◌, joined, sets}
+use Rattle.bk_trans.proofs.Words.{arith, ◌≡◌, inl, inr, ℕ, ◌+◌, ◌≤◌, Bool, true, false, cond, Option, Some, None, List, [], ◌∷◌, ◌++◌, length, refl, sym, ap, subst, ◌∙◌, ⊤, VEC_NUMBER, Expression, Expressions, Action, Actions, Declaration, Declarations, Items, Definition, Definitions, Starts, name, parens, unary, binary, choice, apply, valof, none, more, empty, assign, call, label, case_of, default, when, test, while, for_loop, switch, result, block, repeat, repeat_while, no_actions, also, constants, definitions, no_declarations, declare, no_items, item, routine, function, variables, no_definitions, define, no_starts, value, vector, line_of, size, Bound, Global, Static, Variable, Label, Enclosing, Role, Value, Truth, Address, Destination, not_assignable, no_result_or_return, vec_out_of_range, Binding, bound_in, bind, constant_word, deeper, looping, switching, labelled, valued, called, outermost, labels_of, labels_of_each, with_formals, parenthesised, words_of_start, Spot, procedures_in, onward, past, behind, behind_each, behind_done, behind_declared, behind_one_declared, behind_one_defined, behind_constant, symbols_each, beginning, Claim, is_claimed, Point, meaning, word, depth, wrong, claim, claimed, judged, at, labels_in_scope, procedures_in_scope, place_behind_one_defined, scope_behind_one, place_behind_one, scope_behind, place_behind_all, unless, its_meaning, constant, each_constant, at_most, assigned, prefixed, pushed, chosen_at, defaulted_at, one_of, each_of, told, told_each, told_destinations, told_done, told_done_each, told_declared, told_one_declared, told_defined, told_one_defined, told_started, naming, same_claim, Fault, is_global, numbers, numbers_each, numbers_done, numbers_done_each, numbers_declared, numbers_one_declared, numbers_items, numbers_defined, numbers_one_defined, numbers_started, procedure_in_scope, eqb-true, eq-eqb, ◌==◌, joined, sets}
 use Rattle.bk_tree.specs.declared.tree.Operator.TheVariants as o
 use Rattle.bk_tree.specs.declared.tree.Prefix.TheVariants as sign
 use Rattle.bk_tree.specs.declared.tree.Sort.TheVariants as sort
@@ -149,7 +149,7 @@ distinct_names k (x ∷ xs) h =
 
 -- the labels of some commands are claimed by them
 mutual
-  labels_claimed : (y : List ℕ) (bs : List Binding) (p : Place) (s : Spot) (c : Action) → name_times p.labels y (labels_of c) ≤ times_claimed p.labels y (told_done bs p s c)
+  labels_claimed : (y : List ℕ) (bs : List Binding) (p : Enclosing) (s : Spot) (c : Action) → name_times p.labels y (labels_of c) ≤ times_claimed p.labels y (told_done bs p s c)
   labels_claimed y bs p s (label l x c) = let h = labels_claimed y bs p (past 1 s) c in simp (claimed_both) (omega (arith, h))
   labels_claimed y bs p s (case_of l e c) = let h = labels_claimed y bs p (behind_constant e (past 1 s)) c in simp (claimed_both) (omega (arith, h))
   labels_claimed y bs p s (default l c) = let h = labels_claimed y bs p (past 1 s) c in simp (claimed_both) (omega (arith, h))
@@ -164,16 +164,16 @@ mutual
   labels_claimed y bs p s (repeat_while l b c e) = let h = labels_claimed y bs (looping p) s c in simp (claimed_both) (omega (arith, h))
   labels_claimed y bs p s _ = omega arith
 
-  labels_claimed_each : (y : List ℕ) (bs : List Binding) (p : Place) (s : Spot) (cs : Actions) → name_times p.labels y (labels_of_each cs) ≤ times_claimed p.labels y (told_done_each bs p s cs)
+  labels_claimed_each : (y : List ℕ) (bs : List Binding) (p : Enclosing) (s : Spot) (cs : Actions) → name_times p.labels y (labels_of_each cs) ≤ times_claimed p.labels y (told_done_each bs p s cs)
   labels_claimed_each y bs p s no_actions = omega arith
   labels_claimed_each y bs p s (also c cs) =
       let h = labels_claimed y bs p s c in let i = labels_claimed_each y bs p (behind_done c s) cs in simp (claimed_both, names_both) (omega (arith, h, i))
 
-labels_distinct : (bs : List Binding) (p : Place) (s : Spot) (c : Action) → Quiet (told_done bs p s c) → Distinct (labels_of c)
+labels_distinct : (bs : List Binding) (p : Enclosing) (s : Spot) (c : Action) → Quiet (told_done bs p s c) → Distinct (labels_of c)
 labels_distinct bs p s c f =
     distinct_names p.labels (labels_of c) (λ y. let h = labels_claimed y bs p s c in let i = claimed_at_most_once p.labels y (told_done bs p s c) f.claims f.clean in omega (arith, h, i))
 
-labels_distinct_each : (bs : List Binding) (p : Place) (s : Spot) (cs : Actions) → Quiet (told_done_each bs p s cs) → Distinct (labels_of_each cs)
+labels_distinct_each : (bs : List Binding) (p : Enclosing) (s : Spot) (cs : Actions) → Quiet (told_done_each bs p s cs) → Distinct (labels_of_each cs)
 labels_distinct_each bs p s cs f =
     distinct_names p.labels (labels_of_each cs) (λ y. let h = labels_claimed_each y bs p s cs in let i = claimed_at_most_once p.labels y (told_done_each bs p s cs) f.claims f.clean in omega (arith, h, i))
 
@@ -184,14 +184,14 @@ procedure_names (define (routine l x fs c) ds) = x ∷ procedure_names ds
 procedure_names (define (function l x fs e) ds) = x ∷ procedure_names ds
 procedure_names (define (variables l xs is) ds) = procedure_names ds
 
-procedures_claimed : (m : ℕ) (y : List ℕ) (bs : List Binding) (p : Place) (s : Spot) (ds : Definitions) → name_times m y (procedure_names ds) ≤ times_claimed m y (told_defined m bs p s ds)
+procedures_claimed : (m : ℕ) (y : List ℕ) (bs : List Binding) (p : Enclosing) (s : Spot) (ds : Definitions) → name_times m y (procedure_names ds) ≤ times_claimed m y (told_defined m bs p s ds)
 procedures_claimed m y bs p s no_definitions = omega arith
 procedures_claimed m y bs p s (define (routine l x fs c) ds) = let h = procedures_claimed m y bs p (behind_one_defined (routine l x fs c) s) ds in simp (claimed_both) (omega (arith, h))
 procedures_claimed m y bs p s (define (function l x fs e) ds) = let h = procedures_claimed m y bs p (behind_one_defined (function l x fs e) s) ds in simp (claimed_both) (omega (arith, h))
 procedures_claimed m y bs p s (define (variables l xs is) ds) =
     let h = procedures_claimed m y bs (place_behind_one_defined bs p (variables l xs is)) (behind_one_defined (variables l xs is) s) ds in simp (claimed_both) (omega (arith, h))
 
-procedures_distinct : (m : ℕ) (bs : List Binding) (p : Place) (s : Spot) (ds : Definitions) → Quiet (told_defined m bs p s ds) → Distinct (procedure_names ds)
+procedures_distinct : (m : ℕ) (bs : List Binding) (p : Enclosing) (s : Spot) (ds : Definitions) → Quiet (told_defined m bs p s ds) → Distinct (procedure_names ds)
 procedures_distinct m bs p s ds f =
     distinct_names m (procedure_names ds) (λ y. let h = procedures_claimed m y bs p s ds in let i = claimed_at_most_once m y (told_defined m bs p s ds) f.claims f.clean in omega (arith, h, i))
 
@@ -285,14 +285,14 @@ items_numbered m bs s (item l x e is) n =
     let h = items_numbered m bs (spots.numbered 1 (behind_constant e (past 1 s))) is (n + 1) in let o = own m s.number in omega (arith, h, o)
 
 -- a LET of nothing takes no number, and has no parts
-count_let : (m : ℕ) (bs : List Binding) (p : Place) (s : Spot) (l : ℕ) (ds : Definitions) (d n : ℕ) → parts_numbered m (parts_of_declaration d n (declaration_named bs p s (definitions l ds))) + beyond m (s.number + ((1 + procedures_in ds) + numbers_defined ds)) ≤ beyond m s.number
+count_let : (m : ℕ) (bs : List Binding) (p : Enclosing) (s : Spot) (l : ℕ) (ds : Definitions) (d n : ℕ) → parts_numbered m (parts_of_declaration d n (declaration_named bs p s (definitions l ds))) + beyond m (s.number + ((1 + procedures_in ds) + numbers_defined ds)) ≤ beyond m s.number
     → parts_numbered m (parts_of_declaration d n (declaration_named bs p s (definitions l ds))) + beyond m (s.number + numbers_one_declared (definitions l ds)) ≤ beyond m s.number
 count_let m bs p s l no_definitions d n h = omega arith
 count_let m bs p s l (define x xs) d n h = h
 
 -- EACH NODE: the numbers of its targets are those of labels around, and others from its own place on, each once
 mutual
-  count_term : (m : ℕ) (bs : List Binding) (p : Place) (s : Spot) (e : Expression) (d n : ℕ) → Quiet (told Value bs p s e) → parts_numbered m (parts d n (term_named bs p s e)) + beyond m (s.number + numbers e) ≤ beyond m s.number
+  count_term : (m : ℕ) (bs : List Binding) (p : Enclosing) (s : Spot) (e : Expression) (d n : ℕ) → Quiet (told Value bs p s e) → parts_numbered m (parts d n (term_named bs p s e)) + beyond m (s.number + numbers e) ≤ beyond m s.number
   count_term m bs p s (name l x) d n f = omega arith
   count_term m bs p s (unary l sign.Address e) d n f = let h = count_at m bs p (past 1 s) (Address false (line_of e)) e d n (told_back (prefixed sign.Address bs (past 1 s) e) _ f) in omega (arith, h)
   count_term m bs p s (unary l sign.Contents e) d n f = let h = count_term m bs p (past 1 s) e d n f in omega (arith, h)
@@ -309,14 +309,14 @@ mutual
       simp (numbered_both) (omega (arith, h, i, q))
   count_term m bs p s (apply l k e es) d n f =
       let u : Spot = (past 1 (behind e s)) in
-      let z : Place = deeper (size es + 2) p in
+      let z : Enclosing = deeper (size es + 2) p in
       let v = term_named bs z s e in
       let vs = terms_named 1 bs (deeper 2 p) u es in
       let h = count_term m bs z s e (d + 2 + count vs) n (told_front (told Value bs z s e) _ f) in
       let i = count_each m bs (deeper 2 p) u es (d + 2) (n + labels v) (told_back (told Value bs z s e) _ f) in simp (numbered_both) (omega (arith, h, i))
   count_term m bs p s (valof l c) d n f =
       let cs = labels_in_scope p.procedure (s.number + 1) (labels_of c) bs in
-      let g : Place = labelled s.number (valued p) in
+      let g : Enclosing = labelled s.number (valued p) in
       let u : Spot = onward 1 (1 + length (labels_of c)) s in
       let body = told_front (told_done cs g u c) (pushed p 1) f in
       let h = count_in m cs g u c d (n + 1) body in
@@ -337,7 +337,7 @@ mutual
       let i = count_term m bs (deeper 1 p) u y (d + 1) (n + labels (term_named bs p s x)) (told_back (told Value bs p s x) _ f) in simp (numbered_both) (omega (arith, h, i))
   count_term m bs p s _ d n f = omega arith
 
-  count_if : (m : ℕ) (bs : List Binding) (p : Place) (s : Spot) (e : Expression) (d n : ℕ) → Quiet (told Truth bs p s e) → parts_numbered m (parts_if d n (condition_named bs p s e)) + beyond m (s.number + numbers e) ≤ beyond m s.number
+  count_if : (m : ℕ) (bs : List Binding) (p : Enclosing) (s : Spot) (e : Expression) (d n : ℕ) → Quiet (told Truth bs p s e) → parts_numbered m (parts_if d n (condition_named bs p s e)) + beyond m (s.number + numbers e) ≤ beyond m s.number
   count_if m bs p s (name l x) d n f = omega arith
   count_if m bs p s (unary l sign.Address e) d n f = let h = count_at m bs p (past 1 s) (Address false (line_of e)) e d n (told_back (prefixed sign.Address bs (past 1 s) e) _ f) in omega (arith, h)
   count_if m bs p s (unary l sign.Contents e) d n f = let h = count_term m bs p (past 1 s) e d n f in omega (arith, h)
@@ -354,14 +354,14 @@ mutual
       simp (numbered_both) (omega (arith, h, i, q))
   count_if m bs p s (apply l k e es) d n f =
       let u : Spot = (past 1 (behind e s)) in
-      let z : Place = deeper (size es + 2) p in
+      let z : Enclosing = deeper (size es + 2) p in
       let v = term_named bs z s e in
       let vs = terms_named 1 bs (deeper 2 p) u es in
       let h = count_term m bs z s e (d + 2 + count vs) n (told_front (told Value bs z s e) _ f) in
       let i = count_each m bs (deeper 2 p) u es (d + 2) (n + labels v) (told_back (told Value bs z s e) _ f) in simp (numbered_both) (omega (arith, h, i))
   count_if m bs p s (valof l c) d n f =
       let cs = labels_in_scope p.procedure (s.number + 1) (labels_of c) bs in
-      let g : Place = labelled s.number (valued p) in
+      let g : Enclosing = labelled s.number (valued p) in
       let u : Spot = onward 1 (1 + length (labels_of c)) s in
       let body = told_front (told_done cs g u c) (pushed p 1) f in
       let h = count_in m cs g u c d (n + 1) body in
@@ -382,19 +382,19 @@ mutual
       let i = count_term m bs (deeper 1 p) u y (d + 1) (n + labels (term_named bs p s x)) (told_back (told Value bs p s x) _ f) in simp (numbered_both) (omega (arith, h, i))
   count_if m bs p s _ d n f = omega arith
 
-  count_each : (m : ℕ) (bs : List Binding) (p : Place) (s : Spot) (es : Expressions) (d n : ℕ) → Quiet (told_each 1 bs p s es) → parts_numbered m (parts_each d n (terms_named 1 bs p s es)) + beyond m (s.number + numbers_each es) ≤ beyond m s.number
+  count_each : (m : ℕ) (bs : List Binding) (p : Enclosing) (s : Spot) (es : Expressions) (d n : ℕ) → Quiet (told_each 1 bs p s es) → parts_numbered m (parts_each d n (terms_named 1 bs p s es)) + beyond m (s.number + numbers_each es) ≤ beyond m s.number
   count_each m bs p s none d n f = omega arith
   count_each m bs p s (more e es) d n f =
       let h = count_term m bs p s e d n (told_front (told Value bs p s e) _ f) in
       let i = count_each m bs (deeper 1 p) (behind e s) es (d + 1) (n + labels (term_named bs p s e)) (told_back (told Value bs p s e) _ f) in simp (numbered_both) (omega (arith, h, i))
 
-  count_from : (m : ℕ) (bs : List Binding) (p : Place) (s : Spot) (es : Expressions) (d n : ℕ) → Quiet (told_each 0 bs p s es) → parts_numbered m (parts_from d n (terms_named 0 bs p s es)) + beyond m (s.number + numbers_each es) ≤ beyond m s.number
+  count_from : (m : ℕ) (bs : List Binding) (p : Enclosing) (s : Spot) (es : Expressions) (d n : ℕ) → Quiet (told_each 0 bs p s es) → parts_numbered m (parts_from d n (terms_named 0 bs p s es)) + beyond m (s.number + numbers_each es) ≤ beyond m s.number
   count_from m bs p s none d n f = omega arith
   count_from m bs p s (more e es) d n f =
       let h = count_term m bs p s e d n (told_front (told Value bs p s e) _ f) in
       let i = count_from m bs (deeper 0 p) (behind e s) es d (n + labels (term_named bs p s e)) (told_back (told Value bs p s e) _ f) in simp (numbered_both) (omega (arith, h, i))
 
-  count_at : (m : ℕ) (bs : List Binding) (p : Place) (s : Spot) (g : Role) (e : Expression) (d n : ℕ) → Quiet (told g bs p s e) → parts_numbered m (parts_at d n (lvalue_named bs p s e)) + beyond m (s.number + numbers e) ≤ beyond m s.number
+  count_at : (m : ℕ) (bs : List Binding) (p : Enclosing) (s : Spot) (g : Role) (e : Expression) (d n : ℕ) → Quiet (told g bs p s e) → parts_numbered m (parts_at d n (lvalue_named bs p s e)) + beyond m (s.number + numbers e) ≤ beyond m s.number
   count_at m bs p s g (name l x) d n f = omega arith
   count_at m bs p s g (parens l e) d n f = let h = count_at m bs p (past 1 s) (parenthesised g) e d n f in omega (arith, h)
   count_at m bs p s g (unary l sign.Contents e) d n f = let h = count_term m bs p (past 1 s) e d n f in omega (arith, h)
@@ -408,7 +408,7 @@ mutual
       let i = count_term m bs (deeper 1 p) u y (d + 1) (n + labels (term_named bs p s x)) (told_back (told Value bs p s x) _ f) in simp (numbered_both) (omega (arith, h, i))
   count_at m bs p s g e d n f = omega arith
 
-  count_onto : (m : ℕ) (bs : List Binding) (p : Place) (s : Spot) (xs : Expressions) (d n : ℕ) → Quiet (told_destinations bs p s xs) → parts_numbered m (parts_onto d n (lvalues_named bs p s xs)) + beyond m (s.number + numbers_each xs) ≤ beyond m s.number
+  count_onto : (m : ℕ) (bs : List Binding) (p : Enclosing) (s : Spot) (xs : Expressions) (d n : ℕ) → Quiet (told_destinations bs p s xs) → parts_numbered m (parts_onto d n (lvalues_named bs p s xs)) + beyond m (s.number + numbers_each xs) ≤ beyond m s.number
   count_onto m bs p s none d n f = omega arith
   count_onto m bs p s (more x xs) d n f =
       let us : List Point = unless (assigned bs x) (at s.place (line_of x) not_assignable) in
@@ -416,7 +416,7 @@ mutual
       let h = count_at m bs p s (Destination false (line_of x)) x d n (told_back us vs (told_front (us ++ vs) _ f)) in
       let i = count_onto m bs p (behind x s) xs d (n + labels_at (lvalue_named bs p s x)) (told_back (us ++ vs) _ f) in simp (numbered_both) (omega (arith, h, i))
 
-  count_in : (m : ℕ) (bs : List Binding) (p : Place) (s : Spot) (c : Action) (d n : ℕ) → Quiet (told_done bs p s c) → parts_numbered m (parts_in d n (command_named bs p s c)) + beyond m (s.number + numbers_done c) ≤ beyond m s.number + own_labels m bs (labels_of c)
+  count_in : (m : ℕ) (bs : List Binding) (p : Enclosing) (s : Spot) (c : Action) (d n : ℕ) → Quiet (told_done bs p s c) → parts_numbered m (parts_in d n (command_named bs p s c)) + beyond m (s.number + numbers_done c) ≤ beyond m s.number + own_labels m bs (labels_of c)
   count_in m bs p s empty d n f = omega arith
   count_in m bs p s (assign l xs es) d n f =
       let v = lvalues_named bs (deeper 1 p) s xs in
@@ -424,7 +424,7 @@ mutual
       let i = count_from m bs p (behind_each xs s) es d (n + labels_onto v) (told_back (told_destinations bs (deeper 1 p) s xs) _ f) in simp (numbered_both) (omega (arith, h, i))
   count_in m bs p s (call l e es) d n f =
       let u : Spot = behind e s in
-      let z : Place = deeper (size es + 2) p in
+      let z : Enclosing = deeper (size es + 2) p in
       let v = term_named bs z s e in
       let vs = terms_named 1 bs (deeper 2 p) u es in
       let h = count_term m bs z s e (d + 2 + count vs) n (told_front (told Value bs z s e) _ f) in
@@ -450,7 +450,7 @@ mutual
       let i = count_in m bs (looping p) (behind e s) c d (n + 3 + labels_if (condition_named bs p s e)) (told_back (told Truth bs p s e) _ f) in simp (numbered_both) (omega (arith, h, i))
   count_in m bs p s (for_loop l x e y k c) d n f =
       let u : Spot = onward (symbols_each k) 0 (behind y (behind e s)) in
-      let g : Place = labelled u.number (looping (deeper 2 p)) in
+      let g : Enclosing = labelled u.number (looping (deeper 2 p)) in
       let cs = bind x.letters (Variable p.procedure p.depth) bs in
       let ds = labels_in_scope p.procedure (u.number + 1) (labels_of c) cs in
       let i : Spot = spots.numbered (1 + length (labels_of c)) u in
@@ -472,7 +472,7 @@ mutual
       let h = count_through m bs p s cs d n f in let e = ap (λ (k : ℕ). parts_numbered m (parts_through d k (commands_named bs p s cs))) (no_more n) in omega (arith, h, e)
   count_in m bs p s (block l (declare x xs) cs) d n f =
       let u : Spot = behind_declared (declare x xs) s in
-      let g : Place = labelled u.number (place_behind_all bs p s (declare x xs)) in
+      let g : Enclosing = labelled u.number (place_behind_all bs p s (declare x xs)) in
       let es = scope_behind bs p s (declare x xs) in
       let ds = labels_in_scope p.procedure (u.number + 1) (labels_of_each cs) es in
       let i : Spot = spots.numbered (1 + length (labels_of_each cs)) u in
@@ -490,13 +490,13 @@ mutual
       let i = count_if m bs p (behind_done c s) e d (n + 3 + labels_in (command_named bs (looping p) s c)) (told_back (told_done bs (looping p) s c) _ f) in simp (numbered_both) (omega (arith, h, i))
   count_in m bs p s _ d n f = omega arith
 
-  count_through : (m : ℕ) (bs : List Binding) (p : Place) (s : Spot) (cs : Actions) (d n : ℕ) → Quiet (told_done_each bs p s cs) → parts_numbered m (parts_through d n (commands_named bs p s cs)) + beyond m (s.number + numbers_done_each cs) ≤ beyond m s.number + own_labels m bs (labels_of_each cs)
+  count_through : (m : ℕ) (bs : List Binding) (p : Enclosing) (s : Spot) (cs : Actions) (d n : ℕ) → Quiet (told_done_each bs p s cs) → parts_numbered m (parts_through d n (commands_named bs p s cs)) + beyond m (s.number + numbers_done_each cs) ≤ beyond m s.number + own_labels m bs (labels_of_each cs)
   count_through m bs p s no_actions d n f = omega arith
   count_through m bs p s (also c cs) d n f =
       let h = count_in m bs p s c d n (told_front (told_done bs p s c) _ f) in
       let i = count_through m bs p (behind_done c s) cs d (n + labels_in (command_named bs p s c)) (told_back (told_done bs p s c) _ f) in simp (numbered_both, own_both) (omega (arith, h, i))
 
-  count_declared : (m : ℕ) (bs : List Binding) (p : Place) (s : Spot) (xs : Declarations) (d n : ℕ) → Quiet (told_declared bs p s xs) → parts_numbered m (parts_of_declarations d n (declarations_named bs p s xs)) + beyond m (s.number + numbers_declared xs) ≤ beyond m s.number
+  count_declared : (m : ℕ) (bs : List Binding) (p : Enclosing) (s : Spot) (xs : Declarations) (d n : ℕ) → Quiet (told_declared bs p s xs) → parts_numbered m (parts_of_declarations d n (declarations_named bs p s xs)) + beyond m (s.number + numbers_declared xs) ≤ beyond m s.number
   count_declared m bs p s no_declarations d n f = omega arith
   count_declared m bs p s (declare x xs) d n f =
       let v = declaration_named bs p s x in
@@ -504,7 +504,7 @@ mutual
       let i = count_declared m (scope_behind_one bs p s x) (place_behind_one bs p s x) (behind_one_declared x s) xs (behind_declaration d v) (n + labels_of_declaration v) (told_back (told_one_declared bs p s x) _ f) in
       simp (numbered_both) (omega (arith, h, i))
 
-  count_one_declared : (m : ℕ) (bs : List Binding) (p : Place) (s : Spot) (x : Declaration) (d n : ℕ) → Quiet (told_one_declared bs p s x) → parts_numbered m (parts_of_declaration d n (declaration_named bs p s x)) + beyond m (s.number + numbers_one_declared x) ≤ beyond m s.number
+  count_one_declared : (m : ℕ) (bs : List Binding) (p : Enclosing) (s : Spot) (x : Declaration) (d n : ℕ) → Quiet (told_one_declared bs p s x) → parts_numbered m (parts_of_declaration d n (declaration_named bs p s x)) + beyond m (s.number + numbers_one_declared x) ≤ beyond m s.number
   count_one_declared m bs p s (constants l sort.Manifest is) d n f = omega arith
   count_one_declared m bs p s (constants l sort.Static (item i x e is)) d n f = let h = items_numbered m bs (spots.numbered 1 s) (item i x e is) n in omega (arith, h)
   count_one_declared m bs p s (definitions l ds) d n f =
@@ -514,7 +514,7 @@ mutual
       let i = procedures_numbered m (s.number + 1) ds bs (procedures_distinct s.number cs p v ds f) in count_let m bs p s l ds d n (omega (arith, h, i))
   count_one_declared m bs p s _ d n f = omega arith
 
-  count_defined : (m : ℕ) (k : ℕ) (bs : List Binding) (p : Place) (s : Spot) (ds : Definitions) (d n : ℕ) → Quiet (told_defined k bs p s ds) → parts_numbered m (parts_of_definitions d n (definitions_named bs p s ds)) + beyond m (s.number + numbers_defined ds) ≤ beyond m s.number + own_procedures m bs ds
+  count_defined : (m : ℕ) (k : ℕ) (bs : List Binding) (p : Enclosing) (s : Spot) (ds : Definitions) (d n : ℕ) → Quiet (told_defined k bs p s ds) → parts_numbered m (parts_of_definitions d n (definitions_named bs p s ds)) + beyond m (s.number + numbers_defined ds) ≤ beyond m s.number + own_procedures m bs ds
   count_defined m k bs p s no_definitions d n f = omega arith
   count_defined m k bs p s (define (routine l x fs c) ds) d n f =
       let z : Definition = (routine l x fs c) in
@@ -535,10 +535,10 @@ mutual
       let i = count_defined m k bs (place_behind_one_defined bs p z) (behind_one_defined z s) ds (behind_definition d y) (n + labels_of_definition y) (told_back (told_one_defined k bs p s z) _ f) in
       simp (numbered_both) (omega (arith, h, i))
 
-  count_one_defined : (m : ℕ) (k : ℕ) (bs : List Binding) (p : Place) (s : Spot) (x : Definition) (d n : ℕ) → Quiet (told_one_defined k bs p s x) → parts_numbered m (parts_of_definition d n (definition_named bs p s x)) + beyond m (s.number + numbers_one_defined x) ≤ beyond m s.number + own_procedures m bs (define x no_definitions)
+  count_one_defined : (m : ℕ) (k : ℕ) (bs : List Binding) (p : Enclosing) (s : Spot) (x : Definition) (d n : ℕ) → Quiet (told_one_defined k bs p s x) → parts_numbered m (parts_of_definition d n (definition_named bs p s x)) + beyond m (s.number + numbers_one_defined x) ≤ beyond m s.number + own_procedures m bs (define x no_definitions)
   count_one_defined m k bs p s (variables l xs is) d n f = let h = count_started m bs p (past (length xs) s) is d n (told_back (each_of k s.place xs) _ f) in omega (arith, h)
   count_one_defined m k bs p s (routine l x fs c) d n f =
-      let z : Place = labelled (s.number + 1) (called true s.number (length fs)) in
+      let z : Enclosing = labelled (s.number + 1) (called true s.number (length fs)) in
       let u : Spot = onward (1 + length fs) (2 + length (labels_of c)) s in
       let es = with_formals s.number 2 fs bs in
       let cs = labels_in_scope s.number (s.number + 2) (labels_of c) es in
@@ -547,14 +547,14 @@ mutual
       let i = labels_numbered m s.number (s.number + 2) (labels_of c) es (labels_distinct cs z u c body) in
       let j = word_target m (n + 1) (bound_in bs x) in omega (arith, h, i, j)
   count_one_defined m k bs p s (function l x fs e) d n f =
-      let z : Place = called false s.number (length fs) in
+      let z : Enclosing = called false s.number (length fs) in
       let u : Spot = onward (1 + length fs) 1 s in
       let cs = with_formals s.number 2 fs bs in
       let body = body_quiet k s.number s l x fs (bound_in bs x) (told Value cs z u e) f in
       let h = count_term m cs z u e (length fs + 2) (n + labels_of_procedure (meant (bound_in bs x))) body in
       let j = word_target m (n + 1) (bound_in bs x) in omega (arith, h, j)
 
-  count_started : (m : ℕ) (bs : List Binding) (p : Place) (s : Spot) (is : Starts) (d n : ℕ) → Quiet (told_started bs p s is) → parts_numbered m (parts_of_starts d n (starts_named bs p s is)) + beyond m (s.number + numbers_started is) ≤ beyond m s.number
+  count_started : (m : ℕ) (bs : List Binding) (p : Enclosing) (s : Spot) (is : Starts) (d n : ℕ) → Quiet (told_started bs p s is) → parts_numbered m (parts_of_starts d n (starts_named bs p s is)) + beyond m (s.number + numbers_started is) ≤ beyond m s.number
   count_started m bs p s no_starts d n f = omega arith
   count_started m bs p s (value e is) d n f =
       let h = count_term m bs p s e d n (told_front (told Value bs p s e) _ f) in

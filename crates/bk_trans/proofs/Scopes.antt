@@ -1,6 +1,6 @@
 -- What names in scope mean at a place of a section without faults, and that a label and a static word that are in scope have a
 -- target in their plan.
-use Rattle.bk_trans.proofs.Words.{arith, ◌≡◌, ◌⊎◌, inl, inr, ℕ, ◌+◌, ◌≤◌, Bool, true, false, cond, Option, Some, None, List, [], ◌∷◌, ◌++◌, length, refl, sym, ap, subst, ◌∙◌, ⊤, OCODE_LABEL, Action, Actions, Items, Definitions, label, case_of, default, when, test, while, switch, block, repeat, repeat_while, no_actions, also, no_declarations, declare, no_items, item, routine, function, variables, no_definitions, define, Bound, Static, Label, Place, Binding, bound_in, bind, bind_all, is_global, looping, switching, labels_of, labels_of_each, Spot, past, numbered, behind, behind_done, behind_constant, behind_one_defined, labels_in_scope, procedure_in_scope, procedures_in_scope, statics_in_scope, place_behind_one_defined, IsLabel, IsDepth, Use}
+use Rattle.bk_trans.proofs.Words.{arith, ◌≡◌, ◌⊎◌, inl, inr, ℕ, ◌+◌, ◌≤◌, Bool, true, false, cond, Option, Some, None, List, [], ◌∷◌, ◌++◌, length, refl, sym, ap, subst, ◌∙◌, ⊤, OCODE_LABEL, Action, Actions, Items, Definitions, label, case_of, default, when, test, while, switch, block, repeat, repeat_while, no_actions, also, no_declarations, declare, no_items, item, routine, function, variables, no_definitions, define, Bound, Static, Label, Enclosing, Binding, bound_in, bind, bind_all, is_global, looping, switching, labels_of, labels_of_each, Spot, past, numbered, behind, behind_done, behind_constant, behind_one_defined, labels_in_scope, procedure_in_scope, procedures_in_scope, statics_in_scope, place_behind_one_defined, IsLabel, IsDepth, Use}
 use Rattle.std.specs.Str.{bytes_eq}
 use Rattle.std.proofs.lemmas.Slice.Eq.{bytes_eq-Decides}
 use Rattle.bk_ocode.specs.Typing as typing
@@ -157,7 +157,7 @@ place_found plan ts q k d n i b e r is low deep =
     subst (λ (g : Goal). IsGoal plan q g) (sym h.0.0) (is, low, deep)
 
 mutual
-  pub label_found : (plan : ℕ → Use) (ts : List Target) (q k i : ℕ) (y : List ℕ) (bs : List Binding) (p : Place) (s : Spot) (c : Action) (d n : ℕ) → bound_in bs y ≡ Some (Label k i) → IsDepth d
+  pub label_found : (plan : ℕ → Use) (ts : List Target) (q k i : ℕ) (y : List ℕ) (bs : List Binding) (p : Enclosing) (s : Spot) (c : Action) (d n : ℕ) → bound_in bs y ≡ Some (Label k i) → IsDepth d
       → 1 ≤ n → n + labels_in (command_named bs p s c) ≤ OCODE_LABEL + 1 → Among y (labels_of c) → PartsRight plan ts (parts_in d n (command_named bs p s c))
       → AllRight plan (marks_in q d n (command_named bs p s c)) → IsGoal plan q (goal_of ts i)
   label_found plan ts q k i y bs p s (label l x c) d n e deep low high (inl same) a r =
@@ -204,7 +204,7 @@ mutual
       (right_front plan (marks_in q d (n + 3) body) _ r.1.1.1)
   label_found plan ts q k i y bs p s _ d n e deep low high among a r = elim among [ ]
 
-  pub label_found_through : (plan : ℕ → Use) (ts : List Target) (q k i : ℕ) (y : List ℕ) (bs : List Binding) (p : Place) (s : Spot) (cs : Actions) (d n : ℕ) → bound_in bs y ≡ Some (Label k i) → IsDepth d
+  pub label_found_through : (plan : ℕ → Use) (ts : List Target) (q k i : ℕ) (y : List ℕ) (bs : List Binding) (p : Enclosing) (s : Spot) (cs : Actions) (d n : ℕ) → bound_in bs y ≡ Some (Label k i) → IsDepth d
       → 1 ≤ n → n + labels_through (commands_named bs p s cs) ≤ OCODE_LABEL + 1 → Among y (labels_of_each cs) → PartsRight plan ts (parts_through d n (commands_named bs p s cs))
       → AllRight plan (marks_through q d n (commands_named bs p s cs)) → IsGoal plan q (goal_of ts i)
   label_found_through plan ts q k i y bs p s no_actions d n e deep low high among a r = elim among [ ]
@@ -226,7 +226,7 @@ word_found plan ts n i b ms e a r high =
     let top : n + 2 ≤ OCODE_LABEL + 1 = subst (λ (x : Bound). n + labels_of_procedure x ≤ OCODE_LABEL + 1) e high in
     subst (λ (x : Goal). IsWord plan x.label) (sym h.0) (g.0, (omega arith, omega (arith, top)))
 
-pub procedure_found : (plan : ℕ → Use) (ts : List Target) (i : ℕ) (y : List ℕ) (bs : List Binding) (p : Place) (s : Spot) (ds : Definitions) (d n : ℕ) → bound_in bs y ≡ Some (Static i)
+pub procedure_found : (plan : ℕ → Use) (ts : List Target) (i : ℕ) (y : List ℕ) (bs : List Binding) (p : Enclosing) (s : Spot) (ds : Definitions) (d n : ℕ) → bound_in bs y ≡ Some (Static i)
     → n + labels_of_definitions (definitions_named bs p s ds) ≤ OCODE_LABEL + 1 → AmongProcedures y ds → PartsRight plan ts (parts_of_definitions d n (definitions_named bs p s ds))
     → IsWord plan ((goal_of ts i).label)
 procedure_found plan ts i y bs p s no_definitions d n e high among a = elim among [ ]

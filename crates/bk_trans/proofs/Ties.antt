@@ -8,7 +8,7 @@ use Rattle.bk_tree.specs.declared.tree.Sort.TheVariants as sort
 use Rattle.bk_ocode.specs.declared.stmt.Dyadic.TheVariants as d
 use Rattle.bk_ocode.specs.declared.stmt.Stmt.TheVariants.{Address, Label}
 use Rattle.bk_trans.specs.declared.aim.Aim.TheVariants as aim
-use Rattle.bk_trans.specs.declared.draft.Draft.{Draft}
+use Rattle.bk_trans.specs.declared.unresolved.Unresolved.{Unresolved}
 use Rattle.bk_trans.specs.declared.around.Goal.{Goal}
 use Rattle.bk_trans.specs.declared.around.Around.{Around}
 use Rattle.bk_trans.specs.declared.around.Target.{Target}
@@ -179,7 +179,7 @@ module _ (gs : List Goal) (ts : List Target) (placed : Placed gs ts) where
   acted_aside c tc x y s t v g k na ns at = tc x y s t (with_choices no_choices (with_code [] v)) g k na ns (record { left = at.left; next = at.next })
 
   -- destinations, written aside
-  abbrev Same_codes : List (List Draft) → List (List Stmt) → Type 0
+  abbrev Same_codes : List (List Unresolved) → List (List Stmt) → Type 0
   Same_codes ds ss = map (map stmt_in_words) (map (map (settled gs)) ds) ≡ map (map stmt_in_words) ss
 
   record Stores (w : Writing) (before : List (List Stmt)) (codes : List (List Stmt)) (ps : List Part) (g : Supply) (k : ℕ) (r : Stored) : Type 0 where
@@ -192,7 +192,7 @@ module _ (gs : List Goal) (ts : List Target) (placed : Placed gs ts) where
 
   -- values, with destinations behind them
   abbrev Sets_each : Expressions → Type 0
-  Sets_each es = (s t : ℕ) (w : Writing) (xs : List (List Draft)) (ys : List (List Stmt)) (g : Supply) (k : ℕ) → Near s t → At w g k → Same_codes xs ys
+  Sets_each es = (s t : ℕ) (w : Writing) (xs : List (List Unresolved)) (ys : List (List Stmt)) (g : Supply) (k : ℕ) → Near s t → At w g k → Same_codes xs ys
       → Adds gs ts w (by_turns (value_codes ts t k (f.terms es g).part) ys) (parts_from t k (f.terms es g).part) [] None (f.terms es g).left (k + n.labels_each (f.terms es g).part) (values_written s es xs w)
 
   -- declarations, and the depth behind them
@@ -225,10 +225,10 @@ module _ (gs : List Goal) (ts : List Target) (placed : Placed gs ts) where
       → Declares r.writing (starts_code ts t k (f.starts is g).part) (parts_of_starts t k (f.starts is g).part) (depths.behind_starts t (f.starts is g).part) (f.starts is g).left
       (k + n.labels_of_starts (f.starts is g).part) (started is r)
 
-  heads_are : (x : List Draft) (y : List Stmt) (xs : List (List Draft)) (ys : List (List Stmt)) → Same_codes (x ∷ xs) (y ∷ ys) → map stmt_in_words (map (settled gs) x) ≡ map stmt_in_words y
+  heads_are : (x : List Unresolved) (y : List Stmt) (xs : List (List Unresolved)) (ys : List (List Stmt)) → Same_codes (x ∷ xs) (y ∷ ys) → map stmt_in_words (map (settled gs) x) ≡ map stmt_in_words y
   heads_are x y xs ys h = cc
 
-  tails_are : (x : List Draft) (y : List Stmt) (xs : List (List Draft)) (ys : List (List Stmt)) → Same_codes (x ∷ xs) (y ∷ ys) → Same_codes xs ys
+  tails_are : (x : List Unresolved) (y : List Stmt) (xs : List (List Unresolved)) (ys : List (List Stmt)) → Same_codes (x ∷ xs) (y ∷ ys) → Same_codes xs ys
   tails_are x y xs ys h = cc
 
   no_turns : (xs : List (List Stmt)) → by_turns xs [] ≡ []

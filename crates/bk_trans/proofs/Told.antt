@@ -1,5 +1,5 @@
 -- What is told of a part of a section without faults: no depth is past the limit, each word is one, and no claim was made before.
-use Rattle.bk_trans.proofs.Words.{arith, ◌+◌, ◌<◌, ◌≤◌, ◌^◌, Option, List, [], ◌∷◌, ◌++◌, length, ⊤, FRAME_WORDS, Operator, Prefix, Expression, name, number, parens, unary, binary, choice, apply, valof, table, size, Bound, Place, Role, Value, Truth, Address, Destination, Binding, bound_in, Claim, deeper, valued, labelled, parenthesised, role_of_operand, role_of_operands, place_of_second, labels_of, labels_in_scope, Spot, onward, past, behind, Point, meaning, word, depth, claims_behind, used_at, depth_named, prefixed, pushed, each_constant, told, told_each, told_done}
+use Rattle.bk_trans.proofs.Words.{arith, ◌+◌, ◌<◌, ◌≤◌, ◌^◌, Option, List, [], ◌∷◌, ◌++◌, length, ⊤, FRAME_WORDS, Operator, Prefix, Expression, name, number, parens, unary, binary, choice, apply, valof, table, size, Bound, Enclosing, Role, Value, Truth, Address, Destination, Binding, bound_in, Claim, deeper, valued, labelled, parenthesised, role_of_operand, role_of_operands, place_of_second, labels_of, labels_in_scope, Spot, onward, past, behind, Point, meaning, word, depth, claims_behind, used_at, depth_named, prefixed, pushed, each_constant, told, told_each, told_done}
 use Rattle.bk_tree.specs.declared.tree.Operator.TheVariants as o
 use Rattle.bk_tree.specs.declared.tree.Prefix.TheVariants as q
 use Rattle.bk_scope.specs.Laws.{Clean}
@@ -73,13 +73,13 @@ operands_push o.Both Truth = tt
 operands_push o.Either Truth = tt
 operands_push f r = tt
 
-named_room : (r : Role) (p : Place) (y : Option Bound) → Pushing r → AllFine (depth_named r p y) → p.depth + 1 ≤ FRAME_WORDS
+named_room : (r : Role) (p : Enclosing) (y : Option Bound) → Pushing r → AllFine (depth_named r p y) → p.depth + 1 ≤ FRAME_WORDS
 named_room Value p y i h = h.0
 named_room (Destination x l) p y i h = elim i [ ]
 named_room _ p y i h = h.0
 
 -- the frame has room for what is pushed
-pub told_room : (r : Role) (bs : List Binding) (p : Place) (s : Spot) (e : Expression) → Pushing r → AllFine (told r bs p s e) → p.depth + 1 ≤ FRAME_WORDS
+pub told_room : (r : Role) (bs : List Binding) (p : Enclosing) (s : Spot) (e : Expression) → Pushing r → AllFine (told r bs p s e) → p.depth + 1 ≤ FRAME_WORDS
 told_room r bs p s (name l x) i h = named_room r p (bound_in bs x) i (all_back (used_at p.procedure s.place l x (bound_in bs x)) _ h)
 told_room r bs p s (number l n) i h = h.0
 told_room r bs p s (parens l e) i h = told_room (parenthesised r) bs p (past 1 s) e (within_pushes r i) h

@@ -25,7 +25,7 @@ pub use Rattle.bk_scope.specs.Spots.{Spot, beginning, behind, behind_constant, b
 pub use Rattle.bk_scope.specs.Wrong.{Wrong, dynamic_name, global_out_of_range, label_not_here, no_result_or_return, not_assignable, text_of, vec_out_of_range}
 pub use Rattle.bk_scope.specs.declared.bound.Bound.{Bound}
 pub use Rattle.bk_scope.specs.declared.bound.Bound.TheVariants.{Constant, Global, Label, Static, Variable}
-pub use Rattle.bk_scope.specs.declared.place.Place.{Place}
+pub use Rattle.bk_scope.specs.declared.place.Enclosing.{Enclosing}
 pub use Rattle.bk_scope.specs.declared.role.Role.{Role}
 pub use Rattle.bk_scope.specs.declared.role.Role.TheVariants.{Address, Destination, Truth, Value}
 pub use Rattle.bk_ocode.specs.Lists.{joined}

@@ -9,7 +9,7 @@ use Rattle.bk_tree.specs.Tree.{Expression, Expressions, Action, Actions, Declara
 use Rattle.bk_tree.specs.Parts.{size}
 use Rattle.bk_scope.specs.declared.bound.Bound.{Bound}
 use Rattle.bk_scope.specs.declared.bound.Bound.TheVariants.{Constant, Static, Variable}
-use Rattle.bk_scope.specs.declared.place.Place.{Place}
+use Rattle.bk_scope.specs.declared.place.Enclosing.{Enclosing}
 use Rattle.bk_scope.specs.Scope.{Binding, bound_in, bind}
 use Rattle.bk_scope.specs.Constants.{constant_word}
 use Rattle.bk_scope.specs.Places.{deeper, looping, switching, labelled, valued, called, outermost}
@@ -45,7 +45,7 @@ statics_named bs s (item l x e is) =
     record { bound = Static s.number; word = worth (constant_word bs e) } ∷ statics_named bs (numbered 1 (behind_constant e (past 1 s))) is
 
 abbrev mutual
-  pub term_named : List Binding → Place → Spot → Expression → Term
+  pub term_named : List Binding → Enclosing → Spot → Expression → Term
   term_named bs p s (name l x) = t.named (meant (bound_in bs x))
   term_named bs p s (number l n) = t.number n
   term_named bs p s (text l x) = t.text x
@@ -63,12 +63,12 @@ abbrev mutual
   term_named bs p s (table l es) = t.table (words_named bs es)
 
   -- each so many words deeper
-  pub terms_named : ℕ → List Binding → Place → Spot → Expressions → Terms
+  pub terms_named : ℕ → List Binding → Enclosing → Spot → Expressions → Terms
   terms_named n bs p s none = t.none
   terms_named n bs p s (more e es) = t.more (term_named bs p s e) (terms_named n bs (deeper n p) (behind e s) es)
 
   -- `&`, `|` and NOT work on truth here, and leave nothing on the frame
-  pub condition_named : List Binding → Place → Spot → Expression → Condition
+  pub condition_named : List Binding → Enclosing → Spot → Expression → Condition
   condition_named bs p s (parens l e) = t.within (condition_named bs p (past 1 s) e)
   condition_named bs p s (unary l q.Not e) = t.fails (condition_named bs p (past 1 s) e)
   condition_named bs p s (binary l o.Both m a b) = t.both (condition_named bs p s a) (condition_named bs p (past 1 (behind a s)) b)
@@ -89,7 +89,7 @@ abbrev mutual
       t.holds (t.valof (command_named (labels_in_scope p.procedure (s.number + 1) (labels_of c) bs) (labelled s.number (valued p)) (onward 1 (1 + length (labels_of c)) s) c))
   condition_named bs p s (table l es) = t.holds (t.table (words_named bs es))
 
-  pub lvalue_named : List Binding → Place → Spot → Expression → Lvalue
+  pub lvalue_named : List Binding → Enclosing → Spot → Expression → Lvalue
   lvalue_named bs p s (name l x) = t.word (meant (bound_in bs x))
   lvalue_named bs p s (parens l e) = t.inside (lvalue_named bs p (past 1 s) e)
   lvalue_named bs p s (unary l q.Contents e) = t.contents (term_named bs p (past 1 s) e)
@@ -97,11 +97,11 @@ abbrev mutual
   lvalue_named bs p s (binary l o.Byte m a b) = t.byte (term_named bs p s a) (term_named bs (deeper 1 p) (past 1 (behind a s)) b)
   lvalue_named bs p s _ = t.nowhere
 
-  pub lvalues_named : List Binding → Place → Spot → Expressions → Lvalues
+  pub lvalues_named : List Binding → Enclosing → Spot → Expressions → Lvalues
   lvalues_named bs p s none = t.no_lvalues
   lvalues_named bs p s (more e es) = t.onto (lvalue_named bs p s e) (lvalues_named bs p (behind e s) es)
 
-  pub command_named : List Binding → Place → Spot → Action → Command
+  pub command_named : List Binding → Enclosing → Spot → Action → Command
   command_named bs p s empty = t.empty
   command_named bs p s (assign l xs es) = t.assign (lvalues_named bs (deeper 1 p) s xs) (terms_named 0 bs p (behind_each xs s) es)
   command_named bs p s (call l e es) = t.call (term_named bs (deeper (size es + 2) p) s e) (terms_named 1 bs (deeper 2 p) (behind e s) es)
@@ -130,26 +130,26 @@ abbrev mutual
   command_named bs p s (repeat l c) = t.repeat (command_named bs (looping p) s c)
   command_named bs p s (repeat_while l b c e) = t.repeat_while b (command_named bs (looping p) s c) (condition_named bs p (behind_done c s) e)
 
-  pub commands_named : List Binding → Place → Spot → Actions → Commands
+  pub commands_named : List Binding → Enclosing → Spot → Actions → Commands
   commands_named bs p s no_actions = t.no_commands
   commands_named bs p s (also c cs) = t.also (command_named bs p s c) (commands_named bs p (behind_done c s) cs)
 
-  pub declarations_named : List Binding → Place → Spot → Declarations → t.Declarations
+  pub declarations_named : List Binding → Enclosing → Spot → Declarations → t.Declarations
   declarations_named bs p s no_declarations = t.no_declarations
   declarations_named bs p s (declare d ds) =
       t.declare (declaration_named bs p s d) (declarations_named (scope_behind_one bs p s d) (place_behind_one bs p s d) (behind_one_declared d s) ds)
 
-  pub declaration_named : List Binding → Place → Spot → Declaration → t.Declaration
+  pub declaration_named : List Binding → Enclosing → Spot → Declaration → t.Declaration
   declaration_named bs p s (constants l sort.Manifest is) = t.statics []
   declaration_named bs p s (constants l sort.Static is) = t.statics (statics_named bs (numbered 1 s) is)
   declaration_named bs p s (constants l sort.Global is) = t.statics []
   declaration_named bs p s (definitions l ds) = t.lets (definitions_named (procedures_in_scope (s.number + 1) ds bs) p (numbered (1 + procedures_in ds) s) ds)
 
-  pub definitions_named : List Binding → Place → Spot → Definitions → t.Definitions
+  pub definitions_named : List Binding → Enclosing → Spot → Definitions → t.Definitions
   definitions_named bs p s no_definitions = t.no_definitions
   definitions_named bs p s (define d ds) = t.define (definition_named bs p s d) (definitions_named bs (place_behind_one_defined bs p d) (behind_one_defined d s) ds)
 
-  pub definition_named : List Binding → Place → Spot → Definition → t.Definition
+  pub definition_named : List Binding → Enclosing → Spot → Definition → t.Definition
   definition_named bs p s (routine l x fs c) =
       t.routine (meant (bound_in bs x)) x (length fs)
       (command_named (labels_in_scope s.number (s.number + 2) (labels_of c) (with_formals s.number 2 fs bs)) (labelled (s.number + 1) (called true s.number (length fs)))
@@ -158,7 +158,7 @@ abbrev mutual
       t.function (meant (bound_in bs x)) x (length fs) (term_named (with_formals s.number 2 fs bs) (called false s.number (length fs)) (onward (1 + length fs) 1 s) e)
   definition_named bs p s (variables l xs is) = t.variables (starts_named bs p (past (length xs) s) is)
 
-  pub starts_named : List Binding → Place → Spot → Starts → t.Starts
+  pub starts_named : List Binding → Enclosing → Spot → Starts → t.Starts
   starts_named bs p s no_starts = t.no_starts
   starts_named bs p s (value e is) = t.value (term_named bs p s e) (starts_named bs (deeper 1 p) (behind e s) is)
   starts_named bs p s (vector l e is) = t.vector (worth (constant_word bs e)) (starts_named bs (deeper (words_of_start bs e + 1) p) (behind_constant e s) is)

@@ -29,13 +29,13 @@ use Rattle.bk_ocode.specs.declared.stmt.Stmt.{Stmt}
 use Rattle.bk_ocode.specs.declared.stmt.Stmt.TheVariants.{Number, Query, Load, Address, Text, Monadic, Dyadic, Assign, AssignAt, AssignByte, Jump, JumpIf, Label, GiveResult, TakeResult, Stack, Store, Entry, Save, CallFunction, CallRoutine, ReturnItem, Return, EndProcedure, Switch, Finish, DataLabel, DataNumber, DataAddress, Globals}
 use Rattle.bk_trans.specs.declared.aim.Aim.{Aim}
 use Rattle.bk_trans.specs.declared.aim.Aim.TheVariants as aim
-use Rattle.bk_trans.specs.declared.way.Way.{Way}
-use Rattle.bk_trans.specs.declared.way.Way.TheVariants as way
-use Rattle.bk_trans.specs.declared.way.Access.{Access}
-use Rattle.bk_trans.specs.declared.way.Access.TheVariants as access
-use Rattle.bk_trans.specs.declared.draft.Draft.{Draft}
-use Rattle.bk_trans.specs.declared.draft.Draft.TheVariants as draft
-use Rattle.bk_trans.specs.declared.draft.Draft.TheVariants.{Ready}
+use Rattle.bk_trans.specs.declared.evaluation.Evaluation.{Evaluation}
+use Rattle.bk_trans.specs.declared.evaluation.Evaluation.TheVariants as evaluation
+use Rattle.bk_trans.specs.declared.evaluation.Access.{Access}
+use Rattle.bk_trans.specs.declared.evaluation.Access.TheVariants as access
+use Rattle.bk_trans.specs.declared.unresolved.Unresolved.{Unresolved}
+use Rattle.bk_trans.specs.declared.unresolved.Unresolved.TheVariants as draft
+use Rattle.bk_trans.specs.declared.unresolved.Unresolved.TheVariants.{Ready}
 use Rattle.bk_trans.specs.declared.around.Goal.{Goal}
 use Rattle.bk_trans.specs.declared.around.Around.{Around}
 use Rattle.bk_trans.specs.declared.around.Target.{Target}
@@ -47,7 +47,7 @@ use Rattle.bk_trans.specs.Scheme.{goal, goal_of, outermost, valued, looping, swi
 -- what is by itself in the code: the procedures inside the one that is written, data, the globals that procedures set, and
 -- where declarations went
 pub record Apart : Type 0 where
-  pub procedures : List Draft
+  pub procedures : List Unresolved
   pub data_words : List Stmt
   pub entries : List GlobalEntry
   pub targets : List Target
@@ -58,7 +58,7 @@ pub record Choices : Type 0 where
   pub default_label : Option ℕ
 
 pub record Writing : Type 0 where
-  pub code : List Draft
+  pub code : List Unresolved
   pub apart : Apart
   pub choices : Choices
   pub left : Supply
@@ -80,13 +80,13 @@ word_of (b.Variable k d) = Local d
 word_of _ = Local 0
 
 -- pushes what a name means
-abbrev pub push_of : Bound → Draft
+abbrev pub push_of : Bound → Unresolved
 push_of (b.Constant (Some w)) = Ready (Number (signed w))
 push_of (b.Constant None) = Ready (Number (pos 0))
 push_of x = draft.Load (word_of x)
 
 -- a GOTO to a name, from the depth s
-abbrev pub goto_code : ℕ → Bound → List Draft
+abbrev pub goto_code : ℕ → Bound → List Unresolved
 goto_code s (b.Label k m) = draft.Stack m ∷ draft.Jump m ∷ Ready (Stack s) ∷ []
 goto_code s _ = map Ready (go (goal 0 0) s)
 
@@ -95,7 +95,7 @@ abbrev pub settled_word : List Goal → Variable → Variable
 settled_word gs (Static m) = Static ((place_of gs m).label)
 settled_word gs x = x
 
-abbrev pub settled : List Goal → Draft → Stmt
+abbrev pub settled : List Goal → Unresolved → Stmt
 settled gs (Ready s) = s
 settled gs (draft.Load x) = Load (settled_word gs x)
 settled gs (draft.Address x) = Address (settled_word gs x)
@@ -104,7 +104,7 @@ settled gs (draft.Stack m) = Stack ((place_of gs m).depth)
 settled gs (draft.Jump m) = Jump ((place_of gs m).label)
 
 -- drafts and statements more
-abbrev pub puts_drafts : List Draft → Writing → Writing
+abbrev pub puts_drafts : List Unresolved → Writing → Writing
 puts_drafts ds w = record { code = w.code ++ ds; apart = w.apart; choices = w.choices; left = w.left; next = w.next }
 
 abbrev pub puts_all : List Stmt → Writing → Writing
@@ -114,7 +114,7 @@ abbrev pub puts : Stmt → Writing → Writing
 puts s w = puts_all (s ∷ []) w
 
 -- other drafts in their place
-abbrev pub with_code : List Draft → Writing → Writing
+abbrev pub with_code : List Unresolved → Writing → Writing
 with_code ss w = record { code = ss; apart = w.apart; choices = w.choices; left = w.left; next = w.next }
 
 abbrev pub with_choices : Choices → Writing → Writing
@@ -159,30 +159,30 @@ puts_goto s w = puts_drafts (goto_code s (meaning w.left).part) (past_meaning w)
 
 -- how the operands of an operator are gone through: for their values, or both for a jump, with a label of its own after them
 -- or not
-abbrev pub way_of : Operator → Aim → ℕ → Way
-way_of o.Both (aim.Jump true k) n = way.Short (aim.Jump false n) (aim.Jump true k) true
-way_of o.Both (aim.Jump false k) n = way.Short (aim.Jump false k) (aim.Jump false k) false
-way_of o.Either (aim.Jump true k) n = way.Short (aim.Jump true k) (aim.Jump true k) false
-way_of o.Either (aim.Jump false k) n = way.Short (aim.Jump true n) (aim.Jump false k) true
-way_of _ a n = way.Plain
+abbrev pub evaluation_of : Operator → Aim → ℕ → Evaluation
+evaluation_of o.Both (aim.Jump true k) n = evaluation.Short (aim.Jump false n) (aim.Jump true k) true
+evaluation_of o.Both (aim.Jump false k) n = evaluation.Short (aim.Jump false k) (aim.Jump false k) false
+evaluation_of o.Either (aim.Jump true k) n = evaluation.Short (aim.Jump true k) (aim.Jump true k) false
+evaluation_of o.Either (aim.Jump false k) n = evaluation.Short (aim.Jump true n) (aim.Jump false k) true
+evaluation_of _ a n = evaluation.Plain
 
-abbrev pub first_aim : Way → Aim
-first_aim way.Plain = aim.Value
-first_aim (way.Short x y own) = x
+abbrev pub first_aim : Evaluation → Aim
+first_aim evaluation.Plain = aim.Value
+first_aim (evaluation.Short x y own) = x
 
-abbrev pub second_aim : Way → Aim
-second_aim way.Plain = aim.Value
-second_aim (way.Short x y own) = y
+abbrev pub second_aim : Evaluation → Aim
+second_aim evaluation.Plain = aim.Value
+second_aim (evaluation.Short x y own) = y
 
-abbrev pub by_way : Way → Writing → Writing → Writing
-by_way way.Plain x y = x
-by_way (way.Short a b own) x y = y
+abbrev pub by_evaluation : Evaluation → Writing → Writing → Writing
+by_evaluation evaluation.Plain x y = x
+by_evaluation (evaluation.Short a b own) x y = y
 
 -- the label of its own is set
-abbrev pub ends_way : Way → ℕ → Writing → Writing
-ends_way way.Plain n w = w
-ends_way (way.Short x y true) n w = puts (Label n) w
-ends_way (way.Short x y false) n w = w
+abbrev pub ends_evaluation : Evaluation → ℕ → Writing → Writing
+ends_evaluation evaluation.Plain n w = w
+ends_evaluation (evaluation.Short x y true) n w = puts (Label n) w
+ends_evaluation (evaluation.Short x y false) n w = w
 
 -- the aim of the operand of NOT, and the NOT of a value
 abbrev pub negated : Aim → Aim
@@ -280,14 +280,14 @@ abbrev pub ends_for : ℕ → ℕ → ℕ → Writing → Writing
 ends_for n s k w = puts_all (goes_on n s k) (puts_all (steps_on n s k) w)
 
 -- a SWITCHON: its body was written aside with its choices, after these statements, in these choices
-abbrev pub puts_switch : ℕ → List Draft → Choices → Writing → Writing
+abbrev pub puts_switch : ℕ → List Unresolved → Choices → Writing → Writing
 puts_switch n before around body =
     record { code = before ++ Ready (Switch (label_or n body.choices.default_label) body.choices.cases) ∷ body.code ++ Ready (Label n) ∷ []; apart = body.apart; choices = around; left = body.left; next = body.next }
 
 -- what is written around a procedure
 pub record Outside : Type 0 where
-  pub code : List Draft
-  pub procedures : List Draft
+  pub code : List Unresolved
+  pub procedures : List Unresolved
   pub choices : Choices
 
 abbrev pub outside_of : Writing → Outside
@@ -330,7 +330,7 @@ any_variables (define _ ds) = any_variables ds
 
 -- destinations that were written, and what is after them
 pub record Stored : Type 0 where
-  pub codes : List (List Draft)
+  pub codes : List (List Unresolved)
   pub writing : Writing
 
 -- declarations that were written, and the depth after them
@@ -353,9 +353,9 @@ abbrev mutual
   written s a (unary l q.Not e) w = puts_not a (written s (negated a) e w)
   written s a (unary l f e) w = aimed a (puts_all (prefix_code f) (written s aim.Value e w))
   written s a (binary l f m x y) w =
-      let t : Way = way_of f a w.next in
-      by_way t (aimed a (puts_all (infix_code f) (written (after s 1) aim.Value y (written s aim.Value x w))))
-      (ends_way t w.next (written s (second_aim t) y (written s (first_aim t) x (takes_labels 1 w))))
+      let t : Evaluation = evaluation_of f a w.next in
+      by_evaluation t (aimed a (puts_all (infix_code f) (written (after s 1) aim.Value y (written s aim.Value x w))))
+      (ends_evaluation t w.next (written s (second_aim t) y (written s (first_aim t) x (takes_labels 1 w))))
   written s a (choice l m c x y) w =
       let n : ℕ = w.next in
       aimed a (puts_all (ends_choice (after n 1) s) (written s aim.Value y (puts_all (begins_other n (after n 1)) (written s aim.Value x (written s (aim.Jump false n) c (takes_labels 2 w))))))
@@ -394,7 +394,7 @@ abbrev mutual
       stores_written s es (record { codes = r.codes ++ one.code ∷ []; writing = with_code r.writing.code one })
 
   -- values, and after each its destination; where there is none, the value is left out
-  pub values_written : ℕ → Expressions → List (List Draft) → Writing → Writing
+  pub values_written : ℕ → Expressions → List (List Unresolved) → Writing → Writing
   values_written s none codes w = w
   values_written s (more e es) [] w = values_written s es [] (with_code w.code (written s aim.Value e (with_code [] w)))
   values_written s (more e es) (c ∷ cs) w = values_written s es cs (puts_drafts c (written s aim.Value e w))

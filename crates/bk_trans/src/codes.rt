@@ -2,7 +2,7 @@
 ghost use Rattle.std.specs.Prelude.{◌≡◌, ◌++◌, ◌∷◌, [], OnOk};
 ghost use Rattle.bk_trans.specs.Codes.{TakesFirst};
 
-use crate::draft::Draft;
+use crate::unresolved::Unresolved;
 use std::alloc::{AllocError, Global};
 use std::collections::VecDeque;
 use std::marker::Model;
@@ -10,12 +10,12 @@ use std::marker::Model;
 /// Stretches of code, which contracts see as the list of their drafts.
 #[derive(Drop)]
 pub struct Codes {
-    codes: VecDeque<Vec<Draft>>,
+    codes: VecDeque<Vec<Unresolved>>,
 }
 
 impl Model for Codes {
     ghost use Rattle.std.specs.Prelude.{List, map};
-    ghost use Rattle.bk_trans.specs.declared.draft.Draft.{Draft as Drafted};
+    ghost use Rattle.bk_trans.specs.declared.unresolved.Unresolved.{Unresolved as Drafted};
 
     ghost Value = { List (List Drafted) };
 
@@ -33,7 +33,7 @@ impl Codes {
     }
 
     /// One more.
-    pub fn push(&mut self, code: Vec<Draft>) -> Result<(), AllocError>
+    pub fn push(&mut self, code: Vec<Unresolved>) -> Result<(), AllocError>
         ensures { OnOk result (self.new ≡ self.old ++ code.items ∷ []) }
     {
         self.codes.push_back(code)?;
@@ -41,7 +41,7 @@ impl Codes {
     }
 
     /// Takes the first.
-    pub fn take_first(&mut self) -> Option<Vec<Draft>>
+    pub fn take_first(&mut self) -> Option<Vec<Unresolved>>
         ensures { TakesFirst result self.old self.new }
     {
         self.codes.pop_front()

@@ -6,16 +6,16 @@ ghost use Rattle.bk_ocode.specs.declared.stmt.Stmt.TheVariants.{DataNumber};
 ghost use Rattle.bk_trans.specs.Filling.{constants_of, step_of as StepOf};
 ghost use Rattle.bk_trans.specs.Writing.{puts_table, puts_items, puts_item, past_items, past_step};
 
-use crate::given::Given;
+use crate::remaining::Remaining;
 use crate::writer::Writing;
 use bk_ocode::{Stmt, Variable};
-use bk_tree::{Expr, Item};
+use bk_tree::{ConstItem, Expr};
 use std::alloc::AllocError;
 
 /// The words of constants, as data.
 fn put_words(
     data_words: &mut Vec<Stmt>,
-    left: &mut Given<'_>,
+    left: &mut Remaining<'_>,
     exprs: &[Expr],
 ) -> Result<(), AllocError>
     ensures words { OnOk result (data_words.new.items ≡ data_words.old.items ++ map (λ x. DataNumber (signed x)) (constants_of (expressions_in exprs.now) left.old).part) }
@@ -58,7 +58,7 @@ impl<'a> Writing<'a> {
     }
 
     /// The items of STATIC.
-    pub fn put_items(&mut self, items: &[Item]) -> Result<(), AllocError>
+    pub fn put_items(&mut self, items: &[ConstItem]) -> Result<(), AllocError>
         ensures { OnOk result (self.new ≡ puts_items (items_in items.now) self.old) }
     {
         for _item in items {
@@ -68,7 +68,7 @@ impl<'a> Writing<'a> {
     }
 
     /// The items of MANIFEST and GLOBAL, which leave nothing.
-    pub fn pass_items(&mut self, items: &[Item])
+    pub fn pass_items(&mut self, items: &[ConstItem])
         ensures { self.new ≡ past_items (items_in items.now) self.old }
     {
         for _item in items {

@@ -4,18 +4,18 @@
 mod aim;
 mod around;
 mod codes;
-mod draft;
+mod evaluation;
 mod fitting;
-mod given;
 mod items;
 mod laws;
 mod nodes;
 mod pieces;
 mod places;
+mod remaining;
 mod short;
 mod statements;
 mod translating;
-mod way;
+mod unresolved;
 mod writer;
 
 pub use laws::{

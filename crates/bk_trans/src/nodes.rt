@@ -6,10 +6,10 @@ ghost use Rattle.bk_trans.specs.Writing.{written, each_written, address_written,
 use crate::aim::Aim;
 use crate::around::Around;
 use crate::codes::Codes;
-use crate::draft::Draft;
+use crate::evaluation::{Access, Evaluation, access_by, evaluation_through};
 use crate::short::first_bytes;
 use crate::statements::{after, truth_value, word_of};
-use crate::way::{Access, Way, access_by, way_through};
+use crate::unresolved::Unresolved;
 use crate::writer::Writing;
 use bk_ocode::{Dyadic, Stmt, Variable};
 use bk_tree::{Command, Decl, Def, Expr, Init, Prefix, Sort};
@@ -60,14 +60,14 @@ pub fn value(out: &mut Writing<'_>, depth: u32, aim: Aim, expr: &Expr) -> Result
             out.serve(aim)
         }
         Expr::Binary(_, operator, _, left, right) => {
-            match way_through(*operator, aim, out.next) {
-                Way::Plain => {
+            match evaluation_through(*operator, aim, out.next) {
+                Evaluation::Plain => {
                     value(out, depth, Aim::Value, left)?;
                     value(out, after(depth, 1), Aim::Value, right)?;
                     out.put_operator(*operator)?;
                     out.serve(aim)
                 }
-                Way::Short(first, second, sets) => {
+                Evaluation::Short(first, second, sets) => {
                     let label = out.labels(1);
                     value(out, depth, first, left)?;
                     value(out, depth, second, right)?;
@@ -136,7 +136,7 @@ fn address(out: &mut Writing<'_>, depth: u32, expr: &Expr) -> Result<(), AllocEr
     match expr {
         Expr::Name(_, _) => {
             let bound = out.meaning();
-            out.put_draft(Draft::Address(word_of(bound)))
+            out.put_draft(Unresolved::Address(word_of(bound)))
         }
         Expr::Parens(_, inside) => address(out, depth, inside),
         Expr::Unary(_, Prefix::Contents, operand) => { value(out, depth, Aim::Value, operand) }
@@ -170,7 +170,7 @@ fn store(out: &mut Writing<'_>, depth: u32, expr: &Expr) -> Result<(), AllocErro
     match expr {
         Expr::Name(_, _) => {
             let bound = out.meaning();
-            out.put_draft(Draft::Assign(word_of(bound)))
+            out.put_draft(Unresolved::Assign(word_of(bound)))
         }
         Expr::Parens(_, inside) => store(out, depth, inside),
         Expr::Unary(_, Prefix::Contents, operand) => {

@@ -6,9 +6,9 @@ ghost use Rattle.bk_ocode.specs.declared.stmt.Stmt.TheVariants.{DataLabel, DataA
 ghost use Rattle.bk_trans.specs.Labels.{labels_of_procedure};
 
 use crate::around::{Around, Target};
-use crate::draft::Draft;
 use crate::short::first_bytes;
 use crate::statements::{after, test_of_step};
+use crate::unresolved::Unresolved;
 use crate::writer::{Choices, FIRST_STMTS, Writing};
 use bk_ocode::{Case, Dyadic, GlobalEntry, Stmt, Variable};
 use bk_scope::Bound;
@@ -20,8 +20,8 @@ use std::mem;
 /// What is written around a procedure.
 #[derive(Drop)]
 pub struct Outside {
-    code: Vec<Draft>,
-    procedures: Vec<Draft>,
+    code: Vec<Unresolved>,
+    procedures: Vec<Unresolved>,
     choices: Choices,
 }
 
@@ -110,7 +110,7 @@ impl<'a> Writing<'a> {
     pub fn end_switch(
         &mut self,
         label: u32,
-        before: Vec<Draft>,
+        before: Vec<Unresolved>,
         around: Choices,
     ) -> Result<(), AllocError>
         ensures { OnOk result (self.new ≡ puts_switch label before.items around self.old) }
@@ -202,8 +202,8 @@ impl<'a> Writing<'a> {
         let _made = self.return_to_switch(choices);
         let mut inner = mem::replace(&mut self.procedures, procedures);
         self.procedures.append(&mut own)?;
-        self.procedures.push(Draft::Ready(last))?;
-        self.procedures.push(Draft::Ready(Stmt::EndProcedure))?;
+        self.procedures.push(Unresolved::Ready(last))?;
+        self.procedures.push(Unresolved::Ready(Stmt::EndProcedure))?;
         self.procedures.append(&mut inner)?;
         if self.code.is_empty() {
             // What is written next has the room of the body.

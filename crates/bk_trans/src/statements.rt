@@ -3,9 +3,9 @@ ghost use Rattle.std.specs.Prelude.{◌≡◌, ◌++◌, ◌∷◌, [], map, OnO
 ghost use Rattle.bk_trans.specs.Scheme.{prefix_code, infix_code, truth_value as TruthValue, test_of_step as TestOfStep, label_or as LabelOr};
 ghost use Rattle.bk_trans.specs.Writing.{after as After, word_of as WordOf, push_of as PushOf};
 ghost use Rattle.bk_ocode.specs.declared.stmt.Stmt.TheVariants as stmts;
-ghost use Rattle.bk_trans.specs.declared.draft.Draft.TheVariants.{Ready};
+ghost use Rattle.bk_trans.specs.declared.unresolved.Unresolved.TheVariants.{Ready};
 
-use crate::draft::Draft;
+use crate::unresolved::Unresolved;
 use bk_ocode::{Dyadic, Monadic, Stmt, Variable};
 use bk_scope::Bound;
 use bk_tree::{Operator, Prefix};
@@ -31,15 +31,15 @@ pub fn word_of(bound: Bound) -> Variable
 }
 
 /// What pushes what a name means.
-pub fn push_of(bound: Bound) -> Draft
+pub fn push_of(bound: Bound) -> Unresolved
     ensures { result ≡ PushOf bound }
 {
     match bound {
-        Bound::Constant(Some(word)) => Draft::Ready(Stmt::Number {
+        Bound::Constant(Some(word)) => Unresolved::Ready(Stmt::Number {
             value: word.cast_signed(),
         }),
-        Bound::Constant(None) => Draft::Ready(Stmt::Number { value: 0 }),
-        other => Draft::Load(word_of(other)),
+        Bound::Constant(None) => Unresolved::Ready(Stmt::Number { value: 0 }),
+        other => Unresolved::Load(word_of(other)),
     }
 }
 
@@ -73,15 +73,15 @@ pub fn label_or(label: u32, default: Option<u32>) -> u32
 }
 
 /// One statement more.
-pub fn put(code: &mut Vec<Draft>, stmt: Stmt) -> Result<(), AllocError>
+pub fn put(code: &mut Vec<Unresolved>, stmt: Stmt) -> Result<(), AllocError>
     ensures { OnOk result (code.new.items ≡ code.old.items ++ Ready stmt ∷ []) }
 {
-    code.push(Draft::Ready(stmt))?;
+    code.push(Unresolved::Ready(stmt))?;
     Ok(())
 }
 
 /// What a prefix does with the top item.
-pub fn put_prefix(code: &mut Vec<Draft>, prefix: Prefix) -> Result<(), AllocError>
+pub fn put_prefix(code: &mut Vec<Unresolved>, prefix: Prefix) -> Result<(), AllocError>
     ensures { OnOk result (code.new.items ≡ code.old.items ++ map Ready (prefix_code prefix)) }
 {
     match prefix {
@@ -108,14 +108,14 @@ pub fn put_prefix(code: &mut Vec<Draft>, prefix: Prefix) -> Result<(), AllocErro
 }
 
 /// An operator on the two top items.
-fn put_dyadic(code: &mut Vec<Draft>, operator: Dyadic) -> Result<(), AllocError>
+fn put_dyadic(code: &mut Vec<Unresolved>, operator: Dyadic) -> Result<(), AllocError>
     ensures { OnOk result (code.new.items ≡ code.old.items ++ Ready (stmts.Dyadic operator) ∷ []) }
 {
     put(code, Stmt::Dyadic { operator })
 }
 
 /// What an operator does with the two top items.
-pub fn put_infix(code: &mut Vec<Draft>, operator: Operator) -> Result<(), AllocError>
+pub fn put_infix(code: &mut Vec<Unresolved>, operator: Operator) -> Result<(), AllocError>
     ensures { OnOk result (code.new.items ≡ code.old.items ++ map Ready (infix_code operator)) }
 {
     match operator {

@@ -8,11 +8,11 @@ ghost use Rattle.bk_trans.specs.Scheme.{scheme};
 ghost use Rattle.bk_trans.specs.Writing.{AreWritten, starting, ending};
 
 use crate::around::Goal;
-use crate::draft::settle;
 use crate::fitting::{stmts_fit, words_fit};
-use crate::given::Given;
 use crate::nodes::declare_each;
 use crate::places::places_of;
+use crate::remaining::Remaining;
+use crate::unresolved::settle;
 use crate::writer::{FIRST_STMTS, Writing};
 use bk_ocode::{GlobalList, Ocode, Stmt};
 use bk_scope::{Bound, Resolved};
@@ -21,7 +21,7 @@ use std::alloc::{AllocError, Global};
 
 impl<'a> Writing<'a> {
     /// Nothing yet.
-    pub fn new(alloc: Global, left: Given<'a>) -> Writing<'a>
+    pub fn new(alloc: Global, left: Remaining<'a>) -> Writing<'a>
         ensures { result ≡ starting left.entry }
     {
         Writing {
@@ -67,7 +67,7 @@ fn write<'a>(
 ) -> Result<Vec<Stmt>, AllocError>
     ensures { IfOk result (λ stmts. AreWritten (declarations_in decls.now) (record { meanings = meanings.now; words = words.now }) stmts.items) }
 {
-    let mut out = Writing::new(alloc, Given::new(meanings, words));
+    let mut out = Writing::new(alloc, Remaining::new(meanings, words));
     out.procedures.reserve(FIRST_STMTS)?;
     let _depth = declare_each(&mut out, 2, decls)?;
     let goals = places_of(alloc, &out.targets)?;

@@ -7,9 +7,9 @@ ghost use Rattle.bk_trans.specs.Writing.{puts, puts_all, puts_drafts, puts_name,
 
 use crate::aim::Aim;
 use crate::around::{Goal, Target};
-use crate::draft::Draft;
-use crate::given::Given;
+use crate::remaining::Remaining;
 use crate::statements::{after, label_or, push_of, put_infix, put_prefix};
+use crate::unresolved::Unresolved;
 use bk_ocode::{Case, CaseList, GlobalEntry, Monadic, Stmt};
 use bk_scope::Bound;
 use bk_tree::{Operator, Prefix};
@@ -24,14 +24,14 @@ pub const FIRST_STMTS: usize = 32;
 #[derive(Drop)]
 pub struct Writing<'a> {
     pub alloc: Global,
-    pub code: Vec<Draft>,
-    pub procedures: Vec<Draft>,
+    pub code: Vec<Unresolved>,
+    pub procedures: Vec<Unresolved>,
     pub data_words: Vec<Stmt>,
     pub entries: Vec<GlobalEntry>,
     pub targets: Vec<Target>,
     pub cases: Vec<Case>,
     pub default_label: Option<u32>,
-    pub left: Given<'a>,
+    pub left: Remaining<'a>,
     pub next: u32,
 }
 
@@ -82,14 +82,14 @@ impl Choices {
 
 impl<'a> Writing<'a> {
     /// Drafts more.
-    pub fn put_all(&mut self, mut code: Vec<Draft>) -> Result<(), AllocError>
+    pub fn put_all(&mut self, mut code: Vec<Unresolved>) -> Result<(), AllocError>
         ensures { OnOk result (self.new ≡ puts_drafts code.items self.old) }
     {
         self.code.append(&mut code)
     }
 
     /// One draft more.
-    pub fn put_draft(&mut self, draft: Draft) -> Result<(), AllocError>
+    pub fn put_draft(&mut self, draft: Unresolved) -> Result<(), AllocError>
         ensures { OnOk result (self.new ≡ puts_drafts (draft ∷ []) self.old) }
     {
         self.code.push(draft)?;
@@ -100,7 +100,7 @@ impl<'a> Writing<'a> {
     pub fn put(&mut self, stmt: Stmt) -> Result<(), AllocError>
         ensures { OnOk result (self.new ≡ puts stmt self.old) }
     {
-        self.put_draft(Draft::Ready(stmt))
+        self.put_draft(Unresolved::Ready(stmt))
     }
 
     /// What a name means is pushed.
@@ -162,8 +162,8 @@ impl<'a> Writing<'a> {
     {
         match self.meaning() {
             Bound::Label(_, number) => {
-                self.put_draft(Draft::Stack(number))?;
-                self.put_draft(Draft::Jump(number))?;
+                self.put_draft(Unresolved::Stack(number))?;
+                self.put_draft(Unresolved::Jump(number))?;
                 self.put(Stmt::Stack { depth })
             }
             _ => self.go(Goal::new(0, 0), depth),
@@ -197,7 +197,7 @@ impl<'a> Writing<'a> {
     }
 
     /// What was written is set aside; what follows is written by itself. Where nothing was written, the room for it stays.
-    pub fn aside(&mut self) -> Vec<Draft>
+    pub fn aside(&mut self) -> Vec<Unresolved>
         ensures code { result.items ≡ self.old.code }
         ensures aside { self.new ≡ with_code [] self.old }
     {
@@ -208,7 +208,7 @@ impl<'a> Writing<'a> {
     }
 
     /// One goes on after what was set aside; what was written by itself.
-    pub fn resume(&mut self, code: Vec<Draft>) -> Vec<Draft>
+    pub fn resume(&mut self, code: Vec<Unresolved>) -> Vec<Unresolved>
         ensures code { result.items ≡ self.old.code }
         ensures resumed { self.new ≡ with_code code.items self.old }
     {

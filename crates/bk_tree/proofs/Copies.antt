@@ -4,7 +4,7 @@ use Rattle.std.proofs.lemmas.List.{take_more}
 use Rattle.bk_tree.specs.declared.tree.Expr.{Expr}
 use Rattle.bk_tree.specs.declared.tree.Command.{Command}
 use Rattle.bk_tree.specs.declared.tree.Decl.{Decl}
-use Rattle.bk_tree.specs.declared.tree.Item.{Item}
+use Rattle.bk_tree.specs.declared.tree.ConstItem.{ConstItem}
 use Rattle.bk_tree.specs.declared.tree.Def.{Def}
 use Rattle.bk_tree.specs.declared.tree.Init.{Init}
 use Rattle.bk_tree.specs.Tree.{none, more, no_actions, also, no_declarations, declare, no_definitions, define, expression, expressions_in, action, actions_in, declaration, declarations_in, items_in, definition, definitions_in, starts_in}
@@ -25,7 +25,7 @@ actions_next xs ys i x y lt is so_far same = next actions_in (λ b z. actions_th
 pub declarations_next : (xs ys : List Decl) (i : ℕ) (x y : Decl) → i < length xs → x ≡ get_or xs i x → declarations_in ys ≡ declarations_in (take i xs) → declaration y ≡ declaration x → declarations_in (ys ++ y ∷ []) ≡ declarations_in (take (i + 1) xs)
 declarations_next xs ys i x y lt is so_far same = next declarations_in (λ b z. declarations_then b (declare (declaration z) no_declarations)) declarations_push xs ys i x y lt is so_far (λ b. ap (λ e. declarations_then b (declare e no_declarations)) same)
 
-pub items_next : (xs ys : List Item) (i : ℕ) (x y : Item) → i < length xs → x ≡ get_or xs i x → items_in ys ≡ items_in (take i xs) → items_in (y ∷ []) ≡ items_in (x ∷ []) → items_in (ys ++ y ∷ []) ≡ items_in (take (i + 1) xs)
+pub items_next : (xs ys : List ConstItem) (i : ℕ) (x y : ConstItem) → i < length xs → x ≡ get_or xs i x → items_in ys ≡ items_in (take i xs) → items_in (y ∷ []) ≡ items_in (x ∷ []) → items_in (ys ++ y ∷ []) ≡ items_in (take (i + 1) xs)
 items_next xs ys i x y lt is so_far same = next items_in (λ b z. items_then b (items_in (z ∷ []))) items_push xs ys i x y lt is so_far (λ b. ap (items_then b) same)
 
 pub definitions_next : (xs ys : List Def) (i : ℕ) (x y : Def) → i < length xs → x ≡ get_or xs i x → definitions_in ys ≡ definitions_in (take i xs) → definition y ≡ definition x → definitions_in (ys ++ y ∷ []) ≡ definitions_in (take (i + 1) xs)

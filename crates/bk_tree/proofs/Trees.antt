@@ -9,16 +9,16 @@ use Rattle.bk_tree.specs.declared.tree.Command.TheVariants as c
 use Rattle.bk_tree.specs.declared.tree.Decl.{Decl}
 use Rattle.bk_tree.specs.declared.tree.Command.{Row_of-Decl, end_of-Decl, more_of-Decl, items-the_row-Decl, items_hidden-the_row-Decl-1}
 use Rattle.bk_tree.specs.declared.tree.Decl.TheVariants as d
-use Rattle.bk_tree.specs.declared.tree.Item.{Item}
-use Rattle.bk_tree.specs.declared.tree.Decl.{Row_of-Item, end_of-Item, more_of-Item, items-the_row-Item, items_hidden-the_row-Item-3}
-use Rattle.bk_tree.specs.declared.tree.Item.TheVariants as i
+use Rattle.bk_tree.specs.declared.tree.ConstItem.{ConstItem}
+use Rattle.bk_tree.specs.declared.tree.Decl.{Row_of-ConstItem, end_of-ConstItem, more_of-ConstItem, items-the_row-ConstItem, items_hidden-the_row-ConstItem-3}
+use Rattle.bk_tree.specs.declared.tree.ConstItem.TheVariants as i
 use Rattle.bk_tree.specs.declared.tree.Def.{Def}
 use Rattle.bk_tree.specs.declared.tree.Decl.{Row_of-Def, end_of-Def, more_of-Def, items-the_row-Def, items_hidden-the_row-Def-4}
 use Rattle.bk_tree.specs.declared.tree.Def.TheVariants as f
 use Rattle.bk_tree.specs.declared.tree.Init.{Init}
 use Rattle.bk_tree.specs.declared.tree.Def.{Row_of-Init, end_of-Init, more_of-Init, items-the_row-Init, items_hidden-the_row-Init-5}
 use Rattle.bk_tree.specs.declared.tree.Init.TheVariants as b
-use Rattle.bk_tree.specs.declared.tree.Command.TheBlock.{hidden-the_row-Expr-0, hidden-the_row-Decl-1, hidden-the_row-Command-2, hidden-the_row-Item-3, hidden-the_row-Def-4, hidden-the_row-Init-5}
+use Rattle.bk_tree.specs.declared.tree.Command.TheBlock.{hidden-the_row-Expr-0, hidden-the_row-Decl-1, hidden-the_row-Command-2, hidden-the_row-ConstItem-3, hidden-the_row-Def-4, hidden-the_row-Init-5}
 use Rattle.bk_tree.specs.Tree.{Expression, Expressions, Action, Actions, Declaration, Declarations, Items, Definition, Definitions, Starts, no_items, no_starts, apply, table, none, more, assign, call, for_loop, block, no_actions, also, constants, definitions, no_declarations, declare, item, variables, no_definitions, define, value, vector, mention, expression, expressions, action, actions, declaration, declarations, items, definition, definitions_of, starts, expressions_in, step_in, actions_in, declarations_in, items_in, definitions_in, starts_in}
 use Rattle.bk_tree.specs.Parts.{each_then, actions_then, declarations_then, items_then, definitions_then, starts_then}
 use Rattle.bk_tree.specs.Parts.{size, start_count}
@@ -38,9 +38,9 @@ declarations_row : (n : _) (row : Row_of-Decl n) → declarations row ≡ declar
 declarations_row n end_of-Decl = refl
 declarations_row n (more_of-Decl x xs) = ap (declare (declaration x)) (declarations_row _ xs)
 
-items_row : (n : _) (row : Row_of-Item n) → items row ≡ items_in (items-the_row-Item n row)
-items_row n end_of-Item = refl
-items_row n (more_of-Item (i.Item l x y) xs) = ap (item l x.items (expression y)) (items_row _ xs)
+items_row : (n : _) (row : Row_of-ConstItem n) → items row ≡ items_in (items-the_row-ConstItem n row)
+items_row n end_of-ConstItem = refl
+items_row n (more_of-ConstItem (i.Item l x y) xs) = ap (item l x.items (expression y)) (items_row _ xs)
 
 definitions_row : (n : _) (row : Row_of-Def n) → definitions_of row ≡ definitions_in (items-the_row-Def n row)
 definitions_row n end_of-Def = refl
@@ -60,8 +60,8 @@ actions_all xs = actions_row _ (hidden-the_row-Command-2 xs) ∙ ap actions_in (
 declarations_all : (xs : Vec Decl Global) → declarations (hidden-the_row-Decl-1 xs) ≡ declarations_in xs.items
 declarations_all xs = declarations_row _ (hidden-the_row-Decl-1 xs) ∙ ap declarations_in (items_hidden-the_row-Decl-1 xs)
 
-items_all : (xs : Vec Item Global) → items (hidden-the_row-Item-3 xs) ≡ items_in xs.items
-items_all xs = items_row _ (hidden-the_row-Item-3 xs) ∙ ap items_in (items_hidden-the_row-Item-3 xs)
+items_all : (xs : Vec ConstItem Global) → items (hidden-the_row-ConstItem-3 xs) ≡ items_in xs.items
+items_all xs = items_row _ (hidden-the_row-ConstItem-3 xs) ∙ ap items_in (items_hidden-the_row-ConstItem-3 xs)
 
 definitions_all : (xs : Vec Def Global) → definitions_of (hidden-the_row-Def-4 xs) ≡ definitions_in xs.items
 definitions_all xs = definitions_row _ (hidden-the_row-Def-4 xs) ∙ ap definitions_in (items_hidden-the_row-Def-4 xs)
@@ -90,7 +90,7 @@ For_is l x y z (Some h) a = refl
 pub Block_is : (l : ℕ) (ds : Vec Decl Global) (cs : Vec Command Global) → action (c.Block l ds cs) ≡ block l (declarations_in ds.items) (actions_in cs.items)
 Block_is l ds cs = ap (λ z. block l z (actions (hidden-the_row-Command-2 cs))) (declarations_all ds) ∙ ap (block l (declarations_in ds.items)) (actions_all cs)
 
-pub Constants_is : (l : ℕ) (s : Sort) (xs : Vec Item Global) → declaration (d.Constants l s xs) ≡ constants l s (items_in xs.items)
+pub Constants_is : (l : ℕ) (s : Sort) (xs : Vec ConstItem Global) → declaration (d.Constants l s xs) ≡ constants l s (items_in xs.items)
 Constants_is l s xs = ap (constants l s) (items_all xs)
 
 pub Let_is : (l : ℕ) (xs : Vec Def Global) → declaration (d.Let l xs) ≡ definitions l (definitions_in xs.items)
@@ -113,7 +113,7 @@ pub declarations_push : (xs : List Decl) (x : Decl) → declarations_in (xs ++ x
 declarations_push [] x = refl
 declarations_push (y ∷ xs) x = ap (declare (declaration y)) (declarations_push xs x)
 
-pub items_push : (xs : List Item) (x : Item) → items_in (xs ++ x ∷ []) ≡ items_then (items_in xs) (items_in (x ∷ []))
+pub items_push : (xs : List ConstItem) (x : ConstItem) → items_in (xs ++ x ∷ []) ≡ items_then (items_in xs) (items_in (x ∷ []))
 items_push [] x = refl
 items_push ((i.Item l n y) ∷ xs) x = ap (item l n.items (expression y)) (items_push xs x)
 

@@ -11,10 +11,10 @@ use Rattle.bk_tree.specs.declared.tree.Expr.{Expr, Row_of-Expr, end_of-Expr, mor
 use Rattle.bk_tree.specs.declared.tree.Expr.TheVariants as e
 use Rattle.bk_tree.specs.declared.tree.Command.{Command, Row_of-Command, end_of-Command, more_of-Command, Row_of-Decl, end_of-Decl, more_of-Decl, Held-Command-For-4, None', Some'}
 use Rattle.bk_tree.specs.declared.tree.Command.TheVariants as c
-use Rattle.bk_tree.specs.declared.tree.Decl.{Decl, Row_of-Item, end_of-Item, more_of-Item, Row_of-Def, end_of-Def, more_of-Def}
+use Rattle.bk_tree.specs.declared.tree.Decl.{Decl, Row_of-ConstItem, end_of-ConstItem, more_of-ConstItem, Row_of-Def, end_of-Def, more_of-Def}
 use Rattle.bk_tree.specs.declared.tree.Decl.TheVariants as d
-use Rattle.bk_tree.specs.declared.tree.Item.{Item}
-use Rattle.bk_tree.specs.declared.tree.Item.TheVariants as i
+use Rattle.bk_tree.specs.declared.tree.ConstItem.{ConstItem}
+use Rattle.bk_tree.specs.declared.tree.ConstItem.TheVariants as i
 use Rattle.bk_tree.specs.declared.tree.Def.{Def, Row_of-Init, end_of-Init, more_of-Init}
 use Rattle.bk_tree.specs.declared.tree.Def.TheVariants as f
 use Rattle.bk_tree.specs.declared.tree.Init.{Init}
@@ -155,9 +155,9 @@ abbrev mutual
   declaration (d.Constants' l s p is) = constants l s (items is)
   declaration (d.Let' l p ds) = definitions l (definitions_of ds)
 
-  pub items : {m : _} → Row_of-Item m → Items
-  items end_of-Item = no_items
-  items (more_of-Item (i.Item l x y) is) = item l x.items (expression y) (items is)
+  pub items : {m : _} → Row_of-ConstItem m → Items
+  items end_of-ConstItem = no_items
+  items (more_of-ConstItem (i.Item l x y) is) = item l x.items (expression y) (items is)
 
   pub definitions_of : {m : _} → Row_of-Def m → Definitions
   definitions_of end_of-Def = no_definitions
@@ -190,7 +190,7 @@ abbrev pub declarations_in : List Decl → Declarations
 declarations_in [] = no_declarations
 declarations_in (d ∷ ds) = declare (declaration d) (declarations_in ds)
 
-abbrev pub items_in : List Item → Items
+abbrev pub items_in : List ConstItem → Items
 items_in [] = no_items
 items_in ((i.Item l x y) ∷ is) = item l x.items (expression y) (items_in is)
 

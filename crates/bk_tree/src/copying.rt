@@ -3,7 +3,7 @@ ghost use Rattle.std.specs.Prelude.{◌≡◌, [], ◌∷◌, IfOk, map};
 ghost use Rattle.bk_tree.specs.Tree.{expression, expressions_in, action, actions_in, declaration, declarations_in, items_in, definition, definitions_in, starts_in, mention};
 
 use crate::make::{apply, assign, block, call, constants, for_loop, let_of, table, variables};
-use crate::tree::{Command, Decl, Def, Expr, Init, Item, Name};
+use crate::tree::{Command, ConstItem, Decl, Def, Expr, Init, Name};
 use std::alloc::{AllocError, Global};
 
 /// A copy of letters or of bytes.
@@ -255,14 +255,14 @@ fn copy_declarations(alloc: Global, decls: &[Decl]) -> Result<Vec<Decl>, AllocEr
 
 /// A copy of an item.
 #[cycle(copy)]
-fn copy_item(alloc: Global, item: &Item) -> Result<Item, AllocError>
+fn copy_item(alloc: Global, item: &ConstItem) -> Result<ConstItem, AllocError>
     ensures { IfOk result (λ copy. items_in (copy ∷ []) ≡ items_in (item.now ∷ [])) }
 {
     match item {
-        Item::Item(line, letters, expr) => {
+        ConstItem::Item(line, letters, expr) => {
             let letters = letters.clone()?;
             let expr = copy(alloc, expr)?;
-            Ok(Item::Item(*line, letters, expr))
+            Ok(ConstItem::Item(*line, letters, expr))
         }
     }
 }
@@ -270,7 +270,7 @@ fn copy_item(alloc: Global, item: &Item) -> Result<Item, AllocError>
 /// A copy of items.
 #[cycle(copy)]
 #[tactic(auto, using(crate::proofs::Copies::items_next))]
-fn copy_items(alloc: Global, items: &[Item]) -> Result<Vec<Item>, AllocError>
+fn copy_items(alloc: Global, items: &[ConstItem]) -> Result<Vec<ConstItem>, AllocError>
     ensures { IfOk result (λ copies. items_in copies.items ≡ items_in items.now) }
 {
     let mut copies = Vec::with_capacity(alloc, items.len())?;

@@ -8,4 +8,4 @@ mod tree;
 
 pub use copying::copy;
 pub use section::Section;
-pub use tree::{Command, Decl, Def, Expr, Init, Item, Name, Operator, Prefix, Simple, Sort};
+pub use tree::{Command, ConstItem, Decl, Def, Expr, Init, Name, Operator, Prefix, Simple, Sort};

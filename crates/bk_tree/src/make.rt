@@ -2,7 +2,7 @@
 ghost use Rattle.std.specs.Prelude.{◌≡◌, Option, map};
 ghost use Rattle.bk_tree.specs.Tree.{expression, expressions_in, step_in, action, actions_in, declaration, declarations_in, items_in, definition, definitions_in, starts_in, mention, apply, table, assign, call, for_loop, block, constants, definitions, variables};
 
-use crate::tree::{Command, Decl, Def, Expr, Init, Item, Name, Sort};
+use crate::tree::{Command, ConstItem, Decl, Def, Expr, Init, Name, Sort};
 use bk_base::Line;
 
 /// A call, as an expression.
@@ -55,7 +55,7 @@ pub fn block(line: Line, decls: Vec<Decl>, commands: Vec<Command>) -> Command
 }
 
 /// A declaration with constants.
-pub fn constants(line: Line, sort: Sort, items: Vec<Item>) -> Decl
+pub fn constants(line: Line, sort: Sort, items: Vec<ConstItem>) -> Decl
     ensures { declaration result ≡ constants line sort (items_in items.items) }
 {
     Decl::Constants(line, sort, items)

@@ -173,7 +173,7 @@ pub enum Command {
 #[cycle(tree)]
 pub enum Decl {
     /// `MANIFEST`, `STATIC` or `GLOBAL` with its items.
-    Constants(Line, Sort, Vec<Item>),
+    Constants(Line, Sort, Vec<ConstItem>),
     /// `LET` with its definitions.
     Let(Line, Vec<Def>),
 }
@@ -181,7 +181,7 @@ pub enum Decl {
 /// A name with a constant: `name = E`.
 #[derive(Drop)]
 #[cycle(tree)]
-pub enum Item {
+pub enum ConstItem {
     Item(Line, Vec<u8>, Expr),
 }
 

@@ -127,7 +127,7 @@ fn next_step(machine: &Machine, number: u64) -> Step {
 }
 
 /// Writes the line of the next step where there is one, and answers how many bytes it has.
-fn tell_next(alloc: Global, machine: &Machine, end: End, steps: u64, line: &mut [u8]) -> usize
+fn report_next(alloc: Global, machine: &Machine, end: End, steps: u64, line: &mut [u8]) -> usize
     ensures len { length line.new ≡ length line.old }
 {
     let mut text = Kept::new(alloc, line.len());
@@ -174,7 +174,7 @@ pub extern "C" fn bk_step<'a>(
     let registers = machine.registers();
     *standing = Standing {
         output: copy_front(output.bytes(), out),
-        line: tell_next(alloc, &machine, end, steps, line),
+        line: report_next(alloc, &machine, end, steps, line),
         words: copy_words(&machine, words, store),
         c: registers.c,
         p: registers.p,

@@ -3,7 +3,7 @@ use Rattle.std.specs.Prelude.{ℕ, List, Option, Some, None, Result, Ok, Err, �
 use Rattle.bk_base.specs.declared.run_end.End.{End}
 use Rattle.bk_base.specs.declared.run_end.End.TheVariants.{StoreLimit, ReadFault, WriteFault}
 use Rattle.bk_intcode.specs.Runs.{IsOwn}
-use Rattle.bk_intcode.specs.Step.{Turn, Goes, Tells, Asks, Ends}
+use Rattle.bk_intcode.specs.Step.{Turn, Goes, Outputs, Asks, Ends}
 use Rattle.bk_intcode.specs.declared.run.Answer.{Answer}
 use Rattle.bk_intcode.specs.declared.run.Answer.TheVariants as answer
 use Rattle.bk_intcode.specs.declared.registers.Registers.{Registers}
@@ -13,7 +13,7 @@ use Rattle.bk_intcode.specs.declared.step.Effect.TheVariants as effect
 abbrev pub turn_of : Option Effect → List ℕ → Registers → Turn
 turn_of None store r = Ends StoreLimit
 turn_of (Some effect.Goes) store r = Goes store r
-turn_of (Some (effect.Tells what)) store r = Tells what store r
+turn_of (Some (effect.Outputs what)) store r = Outputs what store r
 turn_of (Some effect.Asks) store r = Asks store r
 turn_of (Some (effect.Ends e)) store r = Ends e
 
@@ -21,7 +21,7 @@ turn_of (Some (effect.Ends e)) store r = Ends e
 abbrev pub OwnEnd : Option Effect → Type 0
 OwnEnd None = ⊤
 OwnEnd (Some effect.Goes) = ⊤
-OwnEnd (Some (effect.Tells what)) = ⊤
+OwnEnd (Some (effect.Outputs what)) = ⊤
 OwnEnd (Some effect.Asks) = ⊤
 OwnEnd (Some (effect.Ends e)) = IsOwn e
 

@@ -1,5 +1,5 @@
 use Rattle.std.proofs.Common.{◌≡◌, List, ap, sym, ◌∙◌}
-use Rattle.bk_tree.specs.declared.tree.Item.{Item}
+use Rattle.bk_tree.specs.declared.tree.ConstItem.{ConstItem}
 use Rattle.bk_tree.specs.declared.tree.Def.{Def}
 use Rattle.bk_tree.specs.Tree as t
 use Rattle.bk_tree.specs.Tree.{Declaration, declaration, declarations_in, actions_in, items_in, definitions_in}
@@ -15,7 +15,7 @@ returns-in-Constants c =
     let e : declaration c.args.first.now ≡ t.constants c.in-Constants.field-0 c.in-Constants.sort (items_in c.in-Constants.items.items) = ap declaration c.in-Constants.is ∙ Constants_is c.in-Constants.field-0 c.in-Constants.sort c.in-Constants.items in
     meets_at c.declare_constants.result _ (λ b. world c.declare_constants.new.m b) _ _ c.in-Constants.field-0
     (λ p b. ap (λ (d : Declaration). resumed p c.args.m.now.frames.items (tag done_tag (declared_then p (t.declare d (declarations_in c.args.rest.now)) (actions_in c.args.commands.now) (env_in c.args.env) (world c.args.m.now b))))
-    (ap (λ (xs : List Item). t.constants c.in-Constants.field-0 c.in-Constants.sort (items_in xs)) c.deref.ensures.value ∙ sym e)) c.declare_constants.ensures
+    (ap (λ (xs : List ConstItem). t.constants c.in-Constants.field-0 c.in-Constants.sort (items_in xs)) c.deref.ensures.value ∙ sym e)) c.declare_constants.ensures
 
 pub returns-in-Let : goal.returns-in-Let
 returns-in-Let c =

@@ -7,7 +7,7 @@ use Rattle.bk_meaning.specs.Seeking.{Mode}
 use Rattle.bk_meaning.specs.Commands.{act_of}
 use Rattle.bk_meaning.specs.Lasting.{Program}
 use Rattle.bk_check.specs.declared.frame.Next.{Next}
-use Rattle.bk_check.specs.declared.frame.Frame.{Frame}
+use Rattle.bk_check.specs.declared.frame.Continuation.{Continuation}
 use Rattle.bk_meaning.specs.Full.{full}
 use Rattle.bk_check.specs.Views.{mode_in}
 use Rattle.bk_lasting.specs.Views.{env_in}
@@ -17,7 +17,7 @@ use Rattle.bk_check.proofs.Resuming.{meets, meets_at}
 use Rattle.bk_check.proofs.commands.act_inside.Goals as goal
 
 -- a step that comes to this in each mode
-in_mode : {E : Type 0} (r : Result Next E) (fs : List Frame) (there : Bytes → World) (u : Program → Bytes → ℕ → Mode → Outcome Given) (mode : Mode) → IfOk r (λ next. (p : Program) (b : Bytes) (l : ℕ) (mode : Mode) → Comes p fs next (there b) (u p b l mode)) → IfOk r (λ next. (p : Program) (b : Bytes) (l : ℕ) → Comes p fs next (there b) (u p b l mode))
+in_mode : {E : Type 0} (r : Result Next E) (fs : List Continuation) (there : Bytes → World) (u : Program → Bytes → ℕ → Mode → Outcome Given) (mode : Mode) → IfOk r (λ next. (p : Program) (b : Bytes) (l : ℕ) (mode : Mode) → Comes p fs next (there b) (u p b l mode)) → IfOk r (λ next. (p : Program) (b : Bytes) (l : ℕ) → Comes p fs next (there b) (u p b l mode))
 in_mode (Ok next) fs there u mode h = λ p b l. h p b l mode
 in_mode (Err x) fs there u mode h = h
 

@@ -3,7 +3,7 @@ use Rattle.bk_base.specs.declared.run_end.End.TheVariants.{StoreLimit, ReadFault
 use Rattle.bk_intcode.specs.Inner.Effects.{turn_of, byte_or_end}
 use Rattle.bk_intcode.specs.declared.run.Answer.{Answer}
 use Rattle.bk_intcode.specs.declared.run.Answer.TheVariants as answer
-use Rattle.bk_intcode.proofs.RunSteps.{finished_ends, paused_goes, paused_asks, paused_tells, finished_tells, went_part, exchanged_took, went_own, went_ask_fails}
+use Rattle.bk_intcode.proofs.RunSteps.{finished_ends, paused_goes, paused_asks, paused_outputs, finished_outputs, went_part, exchanged_took, went_own, went_ask_fails}
 use Rattle.bk_intcode.proofs.run.turn.Goals as goal
 
 pub returns-in_default-clause-went : goal.returns-in_default-clause-went
@@ -21,17 +21,17 @@ returns-in-Ends-clause-went g c =
 
 pub returns-in-Ok-true-clause-went : goal.returns-in-Ok-true-clause-went
 returns-in-Ok-true-clause-went g c =
-    paused_tells _ _ _ c.in-Tells.what _ _ (c.in-Some.ensures.turn ∙ ap (λ e. turn_of (Some e) c.step.new.store c.step.new.r) c.in-Tells.is)
+    paused_outputs _ _ _ c.in-Outputs.what _ _ (c.in-Some.ensures.turn ∙ ap (λ e. turn_of (Some e) c.step.new.store c.step.new.r) c.in-Outputs.is)
     _ _ (sym c.in-Ok-true.ensures.text.0 ∙ c.in-Ok-true.field-0-test) (exchanged_took _ _ _ _ _ _ _ _ c.in-Ok-true.ensures.text.1) (refl, refl)
 
 pub returns-in-Ok-false-clause-went : goal.returns-in-Ok-false-clause-went
 returns-in-Ok-false-clause-went g c =
-    finished_tells _ _ _ c.in-Tells.what _ _ (c.in-Some.ensures.turn ∙ ap (λ e. turn_of (Some e) c.step.new.store c.step.new.r) c.in-Tells.is)
+    finished_outputs _ _ _ c.in-Outputs.what _ _ (c.in-Some.ensures.turn ∙ ap (λ e. turn_of (Some e) c.step.new.store c.step.new.r) c.in-Outputs.is)
     _ _ (sym c.in-Ok-false.ensures.text.0 ∙ c.in-Ok-false.field-0-test) (exchanged_took _ _ _ _ _ _ _ _ c.in-Ok-false.ensures.text.1) (refl, refl)
 
 pub returns-in-Err-clause-went : goal.returns-in-Err-clause-went
 returns-in-Err-clause-went g c =
-    went_part _ _ _ _ _ c.in-Tells.what _ _ (c.in-Some.ensures.turn ∙ ap (λ e. turn_of (Some e) c.step.new.store c.step.new.r) c.in-Tells.is)
+    went_part _ _ _ _ _ c.in-Outputs.what _ _ (c.in-Some.ensures.turn ∙ ap (λ e. turn_of (Some e) c.step.new.store c.step.new.r) c.in-Outputs.is)
     c.in-Err.ensures.text (exchanged_took _ _ _ _ _ _ _ _ c.in-Err.ensures.text.appends) (refl, refl)
 
 read_is_no_write : (a : Answer) → a ≡ answer.ReadFault → byte_or_end a ≢ Err WriteFault

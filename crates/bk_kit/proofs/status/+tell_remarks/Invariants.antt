@@ -1,5 +1,5 @@
 use Rattle.std.proofs.Common.{length}
-use Rattle.bk_kit.proofs.status.+tell_remarks.Given as goal
+use Rattle.bk_kit.proofs.status.+report_remarks.Given as goal
 
-abbrev pub decreases-tell_remarks : goal.decreases-tell_remarks
-decreases-tell_remarks g l = length l.remarks.now
+abbrev pub decreases-report_remarks : goal.decreases-report_remarks
+decreases-report_remarks g l = length l.remarks.now

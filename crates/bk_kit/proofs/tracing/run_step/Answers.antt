@@ -3,6 +3,6 @@ use Rattle.bk_kit.proofs.tracing.run_step.Goals as goal
 
 pub returns-clause-told : goal.returns-clause-told
 returns-clause-told g c = (
-  Begins-trans _ _ _ c.tell_procedure.ensures.grows c.tell_step.ensures.grows,
-  Begins-trans _ _ _ c.tell_procedure.ensures.passes c.tell_step.ensures.passes,
+  Begins-trans _ _ _ c.report_procedure.ensures.grows c.report_step.ensures.grows,
+  Begins-trans _ _ _ c.report_procedure.ensures.passes c.report_step.ensures.passes,
 )

@@ -21,6 +21,6 @@ returns-clause-traced g c =
 
 pub returns-clause-told : goal.returns-clause-told
 returns-clause-told g c = (
-  Begins-trans _ _ _ c.known_procedures-known.ensures.grows (Begins-trans _ _ _ c.tell_heading.ensures.grows c.run_steps.ensures.told.0),
-  Begins-trans _ _ _ c.known_procedures-known.ensures.passes (Begins-trans _ _ _ c.tell_heading.ensures.passes c.run_steps.ensures.told.1),
+  Begins-trans _ _ _ c.known_procedures-known.ensures.grows (Begins-trans _ _ _ c.report_heading.ensures.grows c.run_steps.ensures.told.0),
+  Begins-trans _ _ _ c.known_procedures-known.ensures.passes (Begins-trans _ _ _ c.report_heading.ensures.passes c.run_steps.ensures.told.1),
 )

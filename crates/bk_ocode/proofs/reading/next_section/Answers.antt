@@ -5,14 +5,14 @@ use Rattle.bk_base.specs.declared.refused.Refused.{Refused}
 use Rattle.bk_ocode.specs.SectionText.{section_words}
 use Rattle.bk_ocode.specs.Context.{Context, context_of}
 use Rattle.bk_ocode.specs.Faults.{misplaced, stmt_fault}
-use Rattle.bk_ocode.specs.BegunStmts.{part_words}
+use Rattle.bk_ocode.specs.PartialStmts.{part_words}
 use Rattle.bk_ocode.specs.SectionAnswer.{Takes, GivesSection, Answers}
 use Rattle.bk_ocode.specs.declared.standing.Position.TheVariants.{Ended}
 use Rattle.bk_ocode.specs.declared.stmt.Stmt.{Stmt}
 use Rattle.bk_ocode.proofs.Completions.{begins_part, part_goes_on}
 use Rattle.bk_ocode.proofs.CutSections.{stops_behind}
 use Rattle.bk_ocode.proofs.FaultLemmas.{stops_at, placed_more, refused_at, rule_at, filled_at, end_at, words_tally, words_within}
-use Rattle.bk_ocode.proofs.ReadingLemmas.{word_read, all_read, grows, Reads-more, Reads-whole, one_longer, section_here, IsSection-of, AreTyped-of, IsBegun-push, few_more}
+use Rattle.bk_ocode.proofs.ReadingLemmas.{word_read, all_read, grows, Reads-more, Reads-whole, one_longer, section_here, IsSection-of, AreTyped-of, IsPartial-push, few_more}
 use Rattle.bk_ocode.proofs.reading.next_section.Goals as goal
 
 pub returns-in_default-clause-answers : goal.returns-in_default-clause-answers
@@ -156,7 +156,7 @@ loop-alloc-preserved g c =
     record {
       read = Reads-whole _ _ _ c.next_word.new.taken stmts all c.in-Ok-Done.stmt part r.0 c.in-Ok-add.ensures.added step.1 r.2;
       draft = c.in-Ok-add.ensures.draft;
-      begun = IsBegun-push stmts all c.in-Ok-Done.stmt c.in-Ok-add.ensures.added v.begun step.0 none on;
+      begun = IsPartial-push stmts all c.in-Ok-Done.stmt c.in-Ok-add.ensures.added v.begun step.0 none on;
       part = tt;
       placed = λ s rest some begins. absurd (omega (arith, some));
       counted = refl;

@@ -7,17 +7,17 @@ use Rattle.bk_ocode.specs.Context.{context_of}
 use Rattle.bk_ocode.specs.Faults.{misplaced}
 use Rattle.bk_ocode.specs.declared.stmt.Stmt.{Stmt}
 use Rattle.bk_ocode.specs.SectionText.{section_words}
-use Rattle.bk_ocode.specs.FirstFault.{IsBegun}
+use Rattle.bk_ocode.specs.FirstFault.{IsPartial}
 use Rattle.bk_ocode.specs.Drafts.{IsDraft}
-use Rattle.bk_ocode.specs.BegunStmts.{IsBegunPart, part_words}
+use Rattle.bk_ocode.specs.PartialStmts.{IsPartialPart, part_words}
 use Rattle.bk_ocode.proofs.reading.next_section.Given as goal
 
 abbrev pub invariant-loop-alloc : goal.invariant-loop-alloc
 invariant-loop-alloc g l = record {
   read : Reads (g.I.ByteIn.left l.initial.input) (g.I.ByteIn.left l.input) (g.I.ByteIn.ended l.input) l.taken (section_words l.draft.stmts.items ++ part_words l.begun);
   draft : IsDraft l.draft;
-  begun : IsBegun l.draft.stmts.items;
-  part : IsBegunPart l.begun;
+  begun : IsPartial l.draft.stmts.items;
+  part : IsPartialPart l.begun;
   placed : (s : Stmt) (rest : List (List ℕ)) → 0 < length (part_words l.begun) → stmt_words s ≡ part_words l.begun ++ rest → misplaced (context_of l.draft.stmts.items) s ≡ false;
   counted : l.words ≡ length (part_words l.begun);
   low : l.draft.words + l.words ≤ OCODE_WORDS + 1;

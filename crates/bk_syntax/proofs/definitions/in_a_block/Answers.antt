@@ -1,5 +1,5 @@
 use Rattle.std.proofs.Common.{false, cond, sym, ap, ◌∙◌, arith}
-use Rattle.bk_frames.specs.Frames.{is_let_begun}
+use Rattle.bk_frames.specs.Frames.{is_let_unfinished}
 use Rattle.bk_frames.proofs.Insides.{inside_short, inside_at}
 use Rattle.bk_syntax.proofs.definitions.in_a_block.Goals as goal
 
@@ -9,5 +9,5 @@ returns-then-count-lt2 c = sym (inside_short c.args.frames.now.decls.items c.arg
 pub returns : goal.returns
 returns c =
     c.both_of.ensures ∙ ap (λ b. cond b c.is_block.result false) c.is_let.ensures
-    ∙ ap (λ b. cond (is_let_begun c.index-top.result.now.begun) b false) c.is_block.ensures
+    ∙ ap (λ b. cond (is_let_unfinished c.index-top.result.now.unfinished) b false) c.is_block.ensures
     ∙ sym (inside_at c.args.frames.now.decls.items c.args.frames.now.above.items c.len-count.result c.index-top.result.now c.index-below.result.now (omega arith) (omega arith) c.index-top.ensures c.index-below.ensures)

@@ -5,7 +5,7 @@ use Rattle.bk_grammar.specs.Grammar.{last}
 use Rattle.bk_tree.specs.Parts.{line_of}
 use Rattle.bk_frames.specs.Sizes.{size_if}
 use Rattle.bk_grammar.specs.Machine.{limit, give}
-use Rattle.bk_frames.specs.Begun.{operand_on}
+use Rattle.bk_frames.specs.Unfinished.{operand_on}
 use Rattle.bk_frames.specs.Frames.{stack_of, after}
 use Rattle.bk_frames.proofs.Turns.{unary_done, binary_done}
 use Rattle.bk_syntax.proofs.expressions.complete_with.Goals as goal

@@ -1,4 +1,4 @@
-use Rattle.bk_syntax.proofs.Begun.{goes_on_begins}
+use Rattle.bk_syntax.proofs.Unfinished.{goes_on_begins}
 use Rattle.bk_syntax.proofs.laws.goes_on_begins.Goals as goal
 
 pub returns : goal.returns

@@ -1,6 +1,6 @@
 use Rattle.std.proofs.Common.{Result, refl, sym, subst, arith}
 use Rattle.bk_lex.specs.Symbol.{symbol_of}
-use Rattle.bk_syntax.specs.declared.why.Why.{Why}
+use Rattle.bk_syntax.specs.declared.error.ParseError.{ParseError}
 use Rattle.bk_frames.specs.Frames.{stack_of, state}
 use Rattle.bk_syntax.specs.Parsing.{answered, reached, Advances}
 use Rattle.bk_syntax.proofs.Behind.{closed, not_closed}
@@ -9,8 +9,8 @@ use Rattle.bk_syntax.proofs.parser.close.Goals as goal
 pub returns-in-Some : goal.returns-in-Some
 returns-in-Some c = λ u b.
     let t = symbol_of c.args.token.now in
-    let P : Result Unit Why → Type 0 = λ r. Advances c.repeat_step.new.frames c.truncate.new.self.items (answered (reached r c.repeat_step.new.now) t.line) u t in
-    subst P (sym c.why_of.ensures) (closed c.repeat_step.result c.repeat_step.new.now c.repeat_step.new.frames c.truncate.new.self.items c.args.opened.now.items c.as_slice.result.now u t (state (stack_of c.args.frames.now) c.args.now.now)
+    let P : Result Unit ParseError → Type 0 = λ r. Advances c.repeat_step.new.frames c.truncate.new.self.items (answered (reached r c.repeat_step.new.now) t.line) u t in
+    subst P (sym c.error_of.ensures) (closed c.repeat_step.result c.repeat_step.new.now c.repeat_step.new.frames c.truncate.new.self.items c.args.opened.now.items c.as_slice.result.now u t (state (stack_of c.args.frames.now) c.args.now.now)
     c.in-Some.times c.saturating_sub.result c.requires c.as_slice.ensures.value (c.in-Some.ensures t) (omega arith) c.truncate.ensures.items c.repeat_step.ensures b)
 
 pub returns-in-None : goal.returns-in-None

@@ -1,7 +1,7 @@
 use Rattle.std.proofs.Common.{sym, ap, ◌∙◌}
 use Rattle.bk_grammar.specs.Rows.{goes}
 use Rattle.bk_grammar.specs.Machine.{limit}
-use Rattle.bk_frames.specs.Begun.{begun_on}
+use Rattle.bk_frames.specs.Unfinished.{unfinished_on}
 use Rattle.bk_frames.specs.Frames.{stack_of}
 use Rattle.bk_frames.proofs.Insides.{limit_phrase, limit_member}
 use Rattle.bk_syntax.proofs.parser.complete_part.Goals as goal
@@ -9,16 +9,16 @@ use Rattle.bk_syntax.proofs.parser.complete_part.Goals as goal
 pub complete-requires-clause-stops : goal.complete-requires-clause-stops
 complete-requires-clause-stops c =
     let st = stack_of c.args.frames.now in
-    sym (ap (λ b. goes (limit (begun_on b st)) c.args.token.now.kind) c.in-Operand.is) ∙ c.requires.stops
+    sym (ap (λ b. goes (limit (unfinished_on b st)) c.args.token.now.kind) c.in-OpenExpression.is) ∙ c.requires.stops
 
 pub complete_phrase-requires-clause-stops : goal.complete_phrase-requires-clause-stops
 complete_phrase-requires-clause-stops c =
     let st = stack_of c.args.frames.now in
     ap (λ n. goes n c.args.token.now.kind) (sym (limit_phrase c.in-Phrase.phrase st))
-    ∙ sym (ap (λ b. goes (limit (begun_on b st)) c.args.token.now.kind) c.in-Phrase.is) ∙ c.requires.stops
+    ∙ sym (ap (λ b. goes (limit (unfinished_on b st)) c.args.token.now.kind) c.in-Phrase.is) ∙ c.requires.stops
 
 pub complete_member-requires-clause-stops : goal.complete_member-requires-clause-stops
 complete_member-requires-clause-stops c =
     let st = stack_of c.args.frames.now in
     ap (λ n. goes n c.args.token.now.kind) (sym (limit_member c.in-Member.member st))
-    ∙ sym (ap (λ b. goes (limit (begun_on b st)) c.args.token.now.kind) c.in-Member.is) ∙ c.requires.stops
+    ∙ sym (ap (λ b. goes (limit (unfinished_on b st)) c.args.token.now.kind) c.in-Member.is) ∙ c.requires.stops

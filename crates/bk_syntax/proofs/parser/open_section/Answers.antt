@@ -1,6 +1,6 @@
 use Rattle.std.proofs.Common.{List, ◌∷◌, ℕ, Result, sym, ap, subst, ◌∙◌}
 use Rattle.bk_lex.specs.Symbol.{symbol_of}
-use Rattle.bk_syntax.specs.declared.why.Why.{Why}
+use Rattle.bk_syntax.specs.declared.error.ParseError.{ParseError}
 use Rattle.bk_grammar.specs.Spelling.{tag_of}
 use Rattle.bk_frames.specs.Frames.{stack_of, state}
 use Rattle.bk_syntax.specs.Parsing.{tags, answered, reached, Advances}
@@ -12,7 +12,7 @@ pub returns-in-Ok : goal.returns-in-Ok
 returns-in-Ok c = λ u b.
     let t = symbol_of c.args.token.now in
     let before = tags c.args.opened.now.items in
-    let P : Result Unit Why → Type 0 = λ r. Advances c.repeat_step.new.frames c.push.new.self.items (answered (reached r c.repeat_step.new.now) t.line) u t in
+    let P : Result Unit ParseError → Type 0 = λ r. Advances c.repeat_step.new.frames c.push.new.self.items (answered (reached r c.repeat_step.new.now) t.line) u t in
     let more = ap tags c.in-Ok.ensures.items ∙ tags_push c.args.opened.now.items c.tag.result ∙ ap (λ (z : List ℕ). z ∷ before) c.tag.ensures in
-    subst P (sym c.why_of.ensures) (step_answered c.repeat_step.result c.repeat_step.new.now c.repeat_step.new.frames c.push.new.self.items u t before (tag_of t.text ∷ before) (state (stack_of c.args.frames.now) c.args.now.now)
+    subst P (sym c.error_of.ensures) (step_answered c.repeat_step.result c.repeat_step.new.now c.repeat_step.new.frames c.push.new.self.items u t before (tag_of t.text ∷ before) (state (stack_of c.args.frames.now) c.args.now.now)
     1 c.repeat_step.ensures more (λ us. plain_open t us before c.requires) b)

@@ -29,7 +29,7 @@ pub returns-in-Err : goal.returns-in-Err
 returns-in-Err c =
     let ts = c.args.tokens.now in
     let i = c.loop-token.token-index in
-    let r = told c.in-Err.why c.token-item.result.line in
+    let r = told c.in-Err.error c.token-item.result.line in
     let p = told_of r c.advance.new.frames c.advance.new.opened.items ts i c.token-item.result c.args.end
     (tags c.loop-token.opened.items) (state (stack_of c.loop-token.frames) c.loop-token.now) c.loop-token-test.true c.token-item.is c.loop-token.invariant.0 c.loop-token.invariant.1
     (c.in-Err.ensures.goes (symbols_of (take i ts)) c.loop-token.invariant.0) in

@@ -1,6 +1,6 @@
 use Rattle.std.proofs.Common.{Result, refl, sym, subst, ◌∙◌}
 use Rattle.bk_lex.specs.Symbol.{symbol_of}
-use Rattle.bk_syntax.specs.declared.why.Why.{Why}
+use Rattle.bk_syntax.specs.declared.error.ParseError.{ParseError}
 use Rattle.bk_frames.specs.Frames.{stack_of, state}
 use Rattle.bk_syntax.specs.Parsing.{tags, answered, reached, Advances}
 use Rattle.bk_syntax.proofs.Behind.{step_answered, plain_other}
@@ -10,6 +10,6 @@ pub returns : goal.returns
 returns c = λ u b.
     let t = symbol_of c.args.token.now in
     let before = tags c.args.opened.now.items in
-    let P : Result Unit Why → Type 0 = λ r. Advances c.repeat_step.new.frames c.args.opened.now.items (answered (reached r c.repeat_step.new.now) t.line) u t in
-    subst P (sym c.why_of.ensures) (step_answered c.repeat_step.result c.repeat_step.new.now c.repeat_step.new.frames c.args.opened.now.items u t before before (state (stack_of c.args.frames.now) c.args.now.now)
+    let P : Result Unit ParseError → Type 0 = λ r. Advances c.repeat_step.new.frames c.args.opened.now.items (answered (reached r c.repeat_step.new.now) t.line) u t in
+    subst P (sym c.error_of.ensures) (step_answered c.repeat_step.result c.repeat_step.new.now c.repeat_step.new.frames c.args.opened.now.items u t before before (state (stack_of c.args.frames.now) c.args.now.now)
     1 c.repeat_step.ensures refl (λ us. plain_other t us before (sym c.opens.ensures ∙ c.if-opens.false) (sym c.closes.ensures ∙ c.if-closes.false)) b)

@@ -1,0 +1,9 @@
+use Rattle.std.proofs.Common.{refl, subst}
+use Rattle.bk_meaning.specs.Values.{Value}
+use Rattle.bk_meaning.specs.World.{Outcome}
+use Rattle.bk_check.specs.Worlds.{world}
+use Rattle.bk_check.specs.Resume.{tag, a_value, Comes, resumed}
+use Rattle.bk_check.proofs.machine.Evaluator.fetched.Goals as goal
+
+pub returns : goal.returns
+returns c = λ p b. subst (λ (u : Outcome Value). Comes p c.args.self.now.frames.items c.came.result (world c.args.self.now b) (resumed p c.args.self.now.frames.items (tag a_value u))) (c.read.ensures (world c.args.self.now b) refl) (c.came.ensures p c.args.self.now b)

@@ -1,0 +1,23 @@
+use Rattle.std.proofs.Common.{◌-◌, ap, sym, ◌∙◌}
+use Rattle.bk_tree.specs.Tree.{expression}
+use Rattle.bk_meaning.specs.Values.{Value}
+use Rattle.bk_meaning.specs.World.{World, Outcome, with}
+use Rattle.bk_meaning.specs.Environment.{Environment, past}
+use Rattle.bk_meaning.specs.Expressions.{combined}
+use Rattle.bk_meaning.specs.Full.{full}
+use Rattle.bk_objects.specs.Views.{value_in}
+use Rattle.bk_lasting.specs.Views.{env_in}
+use Rattle.bk_check.specs.Worlds.{world}
+use Rattle.bk_check.specs.Resume.{tag, a_value, resumed}
+use Rattle.bk_check.proofs.Resuming.{meets, past_none}
+use Rattle.bk_check.proofs.machine.Evaluator.operands.Goals as goal
+
+pub returns-in-Some : goal.returns-in-Some
+returns-in-Some c =
+    let a = expression c.args.a.now in
+    let e = expression c.args.b.now in
+    let env = env_in c.args.env in
+    meets c.second.result _ (λ b. world c.second.new.self b) _ _
+    (λ p b.
+    ap (λ (there : Environment). resumed p c.args.self.now.frames.items (tag a_value (with ((full p).value e there (record (world c.args.self.now b) { turns = c.args.self.now.turns - 1 })) (combined c.args.operator (value_in c.in-Some.x))))) (sym (past_none a env c.in-Some.ensures.lasting))
+    ∙ ap (λ (u : Outcome Value). resumed p c.args.self.now.frames.items (tag a_value (with u (λ (x : Value) (w : World). with ((full p).value e (past a env) w) (combined c.args.operator x))))) (sym (c.in-Some.ensures.value p b))) c.second.ensures

@@ -1,0 +1,23 @@
+use Rattle.std.proofs.Common.{◌≡◌, ◌<◌, ap, sym, ◌∙◌, arith}
+use Rattle.bk_meaning.specs.Parts.{Target}
+use Rattle.bk_tree.specs.Tree.{expression}
+use Rattle.bk_meaning.specs.World.{World, Outcome}
+use Rattle.bk_meaning.specs.Expressions.{target_of}
+use Rattle.bk_meaning.specs.Full.{full}
+use Rattle.bk_lasting.specs.Views.{env_in}
+use Rattle.bk_check.specs.Worlds.{world}
+use Rattle.bk_check.specs.Resume.{tag, a_target, resumed}
+use Rattle.bk_check.proofs.Resuming.{meets}
+use Rattle.bk_meaning.proofs.NoDepth.{full_target, turn_left, turn_none}
+use Rattle.bk_check.proofs.machine.Evaluator.target.Goals as goal
+
+pub returns : goal.returns
+returns c =
+    let lt : 0 < c.args.self.now.turns = grind arith in
+    meets c.target_inside.result _ (λ b. world c.target_inside.new.self b) _ _
+    (λ p b. ap (λ (u : Outcome Target). resumed p c.args.self.now.frames.items (tag a_target u)) (turn_left (world c.args.self.now b) (λ (w : World). target_of (full p) (expression c.args.expr.now) (env_in c.args.env) w) lt ∙ sym (full_target p (expression c.args.expr.now) (env_in c.args.env) (world c.args.self.now b)))) c.target_inside.ensures
+
+pub returns-then-self-eq0 : goal.returns-then-self-eq0
+returns-then-self-eq0 c =
+    let none : c.args.self.now.turns ≡ 0 = grind arith in
+    λ p b. ap (λ (u : Outcome Target). resumed p c.args.self.now.frames.items (tag a_target u)) (turn_none (world c.args.self.now b) (λ (w : World). target_of (full p) (expression c.args.expr.now) (env_in c.args.env) w) none ∙ sym (full_target p (expression c.args.expr.now) (env_in c.args.env) (world c.args.self.now b)))

@@ -1,0 +1,23 @@
+use Rattle.std.proofs.Common.{◌≡◌, ◌<◌, ap, sym, ◌∙◌, arith}
+use Rattle.bk_meaning.specs.Values.{Value}
+use Rattle.bk_tree.specs.Tree.{expression}
+use Rattle.bk_meaning.specs.World.{World, Outcome}
+use Rattle.bk_meaning.specs.Expressions.{value_of}
+use Rattle.bk_meaning.specs.Full.{full}
+use Rattle.bk_lasting.specs.Views.{env_in}
+use Rattle.bk_check.specs.Worlds.{world}
+use Rattle.bk_check.specs.Resume.{tag, a_value, resumed}
+use Rattle.bk_check.proofs.Resuming.{meets}
+use Rattle.bk_meaning.proofs.NoDepth.{full_value, turn_left, turn_none}
+use Rattle.bk_check.proofs.machine.Evaluator.value.Goals as goal
+
+pub returns : goal.returns
+returns c =
+    let lt : 0 < c.args.self.now.turns = grind arith in
+    meets c.value_inside.result _ (λ b. world c.value_inside.new.self b) _ _
+    (λ p b. ap (λ (u : Outcome Value). resumed p c.args.self.now.frames.items (tag a_value u)) (turn_left (world c.args.self.now b) (λ (w : World). value_of p (full p) (expression c.args.expr.now) (env_in c.args.env) w) lt ∙ sym (full_value p (expression c.args.expr.now) (env_in c.args.env) (world c.args.self.now b)))) c.value_inside.ensures
+
+pub returns-then-self-eq0 : goal.returns-then-self-eq0
+returns-then-self-eq0 c =
+    let none : c.args.self.now.turns ≡ 0 = grind arith in
+    λ p b. ap (λ (u : Outcome Value). resumed p c.args.self.now.frames.items (tag a_value u)) (turn_none (world c.args.self.now b) (λ (w : World). value_of p (full p) (expression c.args.expr.now) (env_in c.args.env) w) none ∙ sym (full_value p (expression c.args.expr.now) (env_in c.args.env) (world c.args.self.now b)))

@@ -1,0 +1,7 @@
+use Rattle.std.proofs.Common.{◌≡◌, drop, ℕ}
+use Rattle.bk_frames.specs.Sizes.{kept_size}
+use Rattle.bk_frames.specs.Budgets.{counted, has_budget}
+use Rattle.bk_frames.proofs.budgets.has_budget.Given as goal
+
+abbrev pub invariant-loop-budget : goal.invariant-loop-budget
+invariant-loop-budget l = (d n : ℕ) → l.part ≡ kept_size d n → has_budget (drop l.budget-index l.budgets) l.category d (counted l.counts n) ≡ has_budget l.budgets l.category d (counted l.counts n)

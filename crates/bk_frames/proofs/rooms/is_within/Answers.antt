@@ -1,6 +1,0 @@
-use Rattle.std.proofs.Common.{arith}
-use Rattle.bk_frames.proofs.Roomy.{within_by}
-use Rattle.bk_frames.proofs.rooms.is_within.Goals as goal
-
-pub returns : goal.returns
-returns c e = within_by c.args.inner.now c.args.outer.now (cc) (cc) (omega arith) (omega arith)

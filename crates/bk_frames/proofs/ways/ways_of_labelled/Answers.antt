@@ -1,5 +1,0 @@
-use Rattle.std.proofs.Common.{◌+◌, refl}
-use Rattle.bk_frames.proofs.ways.ways_of_labelled.Goals as goal
-
-pub returns : goal.returns
-returns c d n p = (c.node.ensures d n 0 p refl, c.beside.ensures d n (d + 1) 1 p (c.level_more.ensures d n p))

@@ -1,0 +1,31 @@
+use Rattle.std.proofs.Common.{◌≡◌, ◌+◌, ◌++◌, ◌∷◌, [], ℕ, List, length, length-append, arith, ap, subst, codes, w32}
+use Rattle.std.proofs.lemmas.Int.{to_z-of_z}
+use Rattle.bk_ocode.specs.StmtText.{natural_word, label_word}
+use Rattle.bk_ocode.specs.PartialStmts.{IsStep}
+use Rattle.bk_ocode.specs.declared.stmt.Case.{Case}
+use Rattle.bk_ocode.proofs.CaseLemmas.{values-push, AreCases-push, typed-push, case_words-push}
+use Rattle.bk_ocode.proofs.begun.with_case_label.Goals as goal
+
+pub cases_step-requires : goal.cases_step-requires
+cases_step-requires c =
+    let cases = c.args.draft.cases.items in
+    let all = c.push.new.self.items in
+    let one : Case = record { value = c.args.value; label = c.in-Some.label } in
+    let is : all ≡ cases ++ one ∷ [] = rw (to_z-of_z w32 c.args.value c.requires.1) at c.in-Ok-push.ensures.items in
+    let long : length all ≡ length cases + 1 = omega (arith, ap (λ (l : List Case). length l) is, length-append cases (one ∷ [])) in
+    let begun = c.requires.0.0 in
+    record {
+      default = begun.default;
+      cases = AreCases-push cases all one is begun.cases c.in-Some.ensures.found.0 c.requires.2 (omega (arith, long, c.requires.0.1, begun.counted));
+      typed = typed-push cases all one is begun.typed c.requires.1;
+      values = λ value. values-push value cases all one _ _ is (begun.values value) (rw (to_z-of_z w32 c.args.value c.requires.1) at (c.in-Ok.ensures.updates.0 value));
+      counted = begun.counted;
+      due = omega (arith, long, c.requires.0.1);
+    }
+
+pub returns-in-Ok-push-clause-step : goal.returns-in-Ok-push-clause-step
+returns-in-Ok-push-clause-step c = λ word held.
+    let cases = c.args.draft.cases.items in
+    let one : Case = record { value = c.args.value; label = c.in-Some.label } in
+    let front : List (List ℕ) → List (List ℕ) = λ (w : List (List ℕ)). codes "SWITCHON" ∷ natural_word c.args.draft.count ∷ label_word c.args.draft.default ∷ w in
+    subst (λ (w : List (List ℕ)). IsStep c.cases_step.result w) (ap front (case_words-push cases c.push.new.self.items one word (rw (to_z-of_z w32 c.args.value c.requires.1) at c.in-Ok-push.ensures.items) (c.in-Some.ensures.found.1 word held))) c.cases_step.ensures
